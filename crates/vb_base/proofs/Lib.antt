@@ -1,0 +1,5 @@
+pub mod Place
+pub mod RowLaws
+pub mod Numbers
+pub mod Fronts
+pub mod NameLaws

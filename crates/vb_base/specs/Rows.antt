@@ -1,0 +1,9 @@
+-- The longest row of bytes of one kind at the front of a text, and what is behind it.
+use Rattle.std.specs.Prelude.{ℕ, Bool, List, take, drop}
+use Rattle.std.specs.List.{prefix_len}
+
+abbrev pub front : (ℕ → Bool) → List ℕ → List ℕ
+front p bytes = take (prefix_len p bytes) bytes
+
+abbrev pub behind : (ℕ → Bool) → List ℕ → List ℕ
+behind p bytes = drop (prefix_len p bytes) bytes
