@@ -1,0 +1,5 @@
+pub mod FaultLaws
+mod NamedFiles
+mod Rows
+pub mod ShelfLaws
+pub mod SinkLaws

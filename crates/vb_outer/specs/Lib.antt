@@ -1,0 +1,7 @@
+pub mod Calls
+pub mod Faults
+pub mod MemShelf
+pub mod MemSink
+pub mod Place
+pub mod Shelf
+pub mod Sink
