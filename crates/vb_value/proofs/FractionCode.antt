@@ -1,0 +1,33 @@
+-- What the code of fractions computes, by the definitions.
+use Rattle.std.proofs.Common.{◌≡◌, ℕ, ◌/◌, ◌^◌, ◌<◌, refl, ap, ◌∙◌, arith, ℤ, pos, unsigned_abs, ◌&&◌, Ok, FitsSigned, to_z, of_z}
+use Rattle.std.specs.Int.{w128}
+use Rattle.std.specs.Int.RustNames.{int_div}
+use Rattle.std.proofs.lemmas.Int.{ints, quot_is, quot_fits, to_z-of_z, to_z_pos}
+use Rattle.vb_value.specs.Bound.{IsWithin, is_within, value_if}
+use Rattle.vb_value.specs.Gcd.{gcd}
+use Rattle.vb_value.specs.Fraction.{Fraction, reduced}
+use Rattle.vb_value.proofs.BoundLaws.{read_back, fits_from_ok, ok_from_fits, and_four}
+
+-- the machine's quotient by a positive number is the quotient
+pub code_quotient : (n : ℤ) (g : ℕ) → FitsSigned w128 n → 0 < g → g < 2 ^ 127 → to_z w128 (of_z w128 (int_div (to_z w128 (of_z w128 n)) (to_z w128 g))) ≡ int_div n (pos g)
+code_quotient n g fits positive small =
+    quot_is w128 n (pos g) fits (record { sfits = small }) (quot_fits w128 n (pos g) fits (omega (arith, ints)))
+
+pub quotient_fits : (n : ℤ) (g : ℕ) → FitsSigned w128 n → 0 < g → g < 2 ^ 127 → FitsSigned w128 (int_div (to_z w128 (of_z w128 n)) (to_z w128 g))
+quotient_fits n g fits positive small =
+    rw (to_z-of_z w128 n fits, to_z_pos w128 g small) (quot_fits w128 n (pos g) fits (omega (arith, ints)))
+
+-- two numbers divided by their greatest common divisor are the fraction in lowest terms
+pub reduced_is : (n : ℤ) (d g : ℕ) → g ≡ gcd (unsigned_abs n) d → let f : Fraction = record { num = int_div n (pos g); den = d / g } in f ≡ reduced n d
+unfolding reduced
+reduced_is n d g e = ap (λ (g : ℕ). let f : Fraction = record { num = int_div n (pos g); den = d / g } in f) e
+
+-- two numerators over one denominator, combined and reduced: Over exactly where one of the four numbers does not fit
+pub combined_answer : (op : ℤ → ℤ → ℤ) (x y : ℤ) (d : ℕ) (left right num : ℤ) (den : ℕ) (f : Fraction) → Ok left ≡ value_if (is_within x) x → IsWithin left → Ok right ≡ value_if (is_within y) y → IsWithin right → Ok den ≡ value_if (is_within (pos d)) d → Ok num ≡ value_if (is_within (op (to_z w128 (of_z w128 left)) (to_z w128 (of_z w128 right)))) (op (to_z w128 (of_z w128 left)) (to_z w128 (of_z w128 right))) → IsWithin num → f ≡ reduced (to_z w128 (of_z w128 num)) den → Ok f ≡ value_if (is_within x && (is_within y && (is_within (pos d) && is_within (op x y)))) (reduced (op x y) d)
+combined_answer op x y d left right num den f is_left in_left is_right in_right is_den is_num in_num is_f =
+    let l = fits_from_ok (is_within x) x left is_left in
+    let r = fits_from_ok (is_within y) y right is_right in
+    let b = fits_from_ok (is_within (pos d)) d den is_den in
+    let same : op (to_z w128 (of_z w128 left)) (to_z w128 (of_z w128 right)) ≡ op x y = rw (read_back left in_left, read_back right in_right, l.1, r.1) refl in
+    let n = fits_from_ok (is_within (op x y)) (op x y) num (rw same at is_num) in
+    ok_from_fits _ _ _ (and_four _ _ _ _ l.0 r.0 b.0 n.0) (is_f ∙ ap (λ z. reduced z den) (read_back num in_num ∙ n.1) ∙ ap (reduced (op x y)) b.1)

@@ -1,0 +1,12 @@
+pub mod BoundLaws
+pub mod GcdLaws
+pub mod IntLaws
+pub mod EuclidLaws
+pub mod FractionCode
+pub mod FractionLaws
+pub mod ContentLaws
+pub mod OperationLaws
+pub mod OrderLaws
+pub mod KeyLaws
+pub mod RepresentableLaws
+pub mod Rows

@@ -1,0 +1,19 @@
+-- The bound of a run: every number has magnitude at most MAX, which is 2 ^ 127 - 1.
+use Rattle.std.specs.Prelude.{◌^◌, ◌<◌, ℤ, Bool, true, false, nat_lt, unsigned_abs, Result, Ok, Err}
+use Rattle.vb_value.specs.declared.numbers.Over.{Over}
+
+-- the magnitude of a whole number is at most MAX
+abbrev pub IsWithin : ℤ → Type 0
+IsWithin z = unsigned_abs z < 2 ^ 127
+
+-- the same as a test
+abbrev pub is_within : ℤ → Bool
+is_within z = nat_lt (unsigned_abs z) (2 ^ 127)
+
+abbrev pub over : Over
+over = record {}
+
+-- the answer of an operation: its value where its numbers fit, and else Over
+abbrev pub value_if : {T : Type 0} → Bool → T → Result T Over
+value_if true x = Ok x
+value_if false x = Err over

@@ -1,0 +1,34 @@
+-- What an instance of a predicate contains, as a finite tree: nothing, the value of a place, or what the two sides of a
+-- conjunction contain. The rules of contents are this project's own.
+use Rattle.std.specs.Prelude.{⊤, ℕ, ◌+◌, ◌≤◌, Bool, true, false, ◌&&◌}
+use Rattle.vb_value.specs.declared.values.Value.{Value}
+use Rattle.vb_value.specs.Value.{value_eq, IsWithinValue}
+
+pub data Content : Type 0 where
+  Unit : Content
+  Leaf : Value → Content
+  Pair : Content → Content → Content
+
+-- a pair is one node more than its parts together
+abbrev pub nodes : Content → ℕ
+nodes Unit = 1
+nodes (Leaf v) = 1
+nodes (Pair a b) = 1 + (nodes a + nodes b)
+
+-- equality of contents, as a test
+abbrev pub same_content : Content → Content → Bool
+same_content Unit Unit = true
+same_content (Leaf v) (Leaf w) = value_eq v w
+same_content (Pair a b) (Pair c d) = same_content a c && same_content b d
+same_content _ _ = false
+
+-- every value at a leaf
+abbrev pub AllValues : (Value → Type 0) → Content → Type 0
+AllValues P Unit = ⊤
+AllValues P (Leaf v) = P v
+AllValues P (Pair a b) = AllValues P a × AllValues P b
+
+-- at most 4,096 nodes, and the numbers are within the bound
+pub record IsWithinContent (c : Content) : Type 0 where
+  pub small : nodes c ≤ 4096
+  pub values : AllValues IsWithinValue c

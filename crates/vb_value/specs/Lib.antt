@@ -1,0 +1,11 @@
+pub mod Bound
+pub mod Gcd
+pub mod Fraction
+pub mod Euclid
+pub mod Value
+pub mod Layout
+pub mod Key
+pub mod Content
+pub mod View
+pub mod KeyOrder
+pub mod Equality

@@ -1,0 +1,48 @@
+-- What is said of values.
+use Rattle.std.specs.Prelude.{⊤, pos, Bool, false, ◌&&◌, ◌==◌}
+use Rattle.std.specs.Bool.{beq}
+use Rattle.std.specs.Ordering.{int_eq}
+use Rattle.vb_value.specs.Fraction.{Fraction, IsReduced, IsWithinFraction, whole}
+use Rattle.vb_value.specs.Bound.{IsWithin}
+use Rattle.vb_value.specs.declared.values.Ty.{Ty}
+use Rattle.vb_value.specs.declared.values.Ty.TheVariants as ty
+use Rattle.vb_value.specs.declared.values.Value.{Value}
+use Rattle.vb_value.specs.declared.values.Value.TheVariants.{Int, Bool as Truth, Ref, Perm}
+
+-- fractions in lowest terms are compared by their two numbers
+abbrev pub fraction_eq : Fraction → Fraction → Bool
+fraction_eq p q = int_eq p.num q.num && (p.den == q.den)
+
+abbrev pub value_eq : Value → Value → Bool
+value_eq (Int a) (Int b) = int_eq a b
+value_eq (Truth a) (Truth b) = beq a b
+value_eq (Ref a) (Ref b) = a == b
+value_eq (Perm a) (Perm b) = fraction_eq a b
+value_eq _ _ = false
+
+-- its numbers are within the bound
+abbrev pub IsWithinValue : Value → Type 0
+IsWithinValue (Int a) = IsWithin a
+IsWithinValue (Truth a) = ⊤
+IsWithinValue (Ref a) = ⊤
+IsWithinValue (Perm a) = IsWithinFraction a
+
+-- a fraction is in lowest terms, as it is in each value of the program
+abbrev pub IsReducedValue : Value → Type 0
+IsReducedValue (Int a) = ⊤
+IsReducedValue (Truth a) = ⊤
+IsReducedValue (Ref a) = ⊤
+IsReducedValue (Perm a) = IsReduced a
+
+abbrev pub type_of : Value → Ty
+type_of (Int a) = ty.Int
+type_of (Truth a) = ty.Bool
+type_of (Ref a) = ty.Ref
+type_of (Perm a) = ty.Perm
+
+-- the value of a place or variable that was never given one: 0, false, null or none
+abbrev pub default_of : Ty → Value
+default_of ty.Int = Int (pos 0)
+default_of ty.Bool = Truth false
+default_of ty.Ref = Ref 0
+default_of ty.Perm = Perm (whole (pos 0))

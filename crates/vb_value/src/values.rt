@@ -1,0 +1,39 @@
+//! Types and values.
+
+use crate::fractions::Frac;
+use std::marker::Model;
+
+/// The types of values.
+#[derive(Clone, Copy, Debug, PartialEq, Eq)]
+pub enum Ty {
+    Int,
+    Bool,
+    Ref,
+    Perm,
+}
+
+/// A whole number, a truth value, a reference or a fraction. The reference null is 0.
+#[derive(Clone, Copy, Debug, PartialEq, Eq)]
+pub enum Value {
+    Int(i128),
+    Bool(bool),
+    Ref(u64),
+    Perm(Frac),
+}
+
+/// What a state has places for, seen as lists: the types of the fields, and of the arguments of each
+/// predicate.
+#[derive(Debug, Drop)]
+pub struct Layout {
+    pub fields: Vec<Ty>,
+    pub keys: Vec<Vec<Ty>>,
+}
+
+impl Model for Layout {
+    ghost use Rattle.std.specs.Prelude.{map};
+    ghost use Rattle.vb_value.specs.Layout.{Layout as Plain};
+
+    ghost Value = { Plain };
+
+    ghost view = { λ l. record { fields = l.fields.items; keys = map (λ v. v.items) l.keys.items } };
+}
