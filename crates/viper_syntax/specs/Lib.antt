@@ -1,0 +1,12 @@
+pub mod Term
+pub mod Stmt
+pub mod Decl
+pub mod View
+pub mod Spelling
+pub mod Piece
+pub mod Place
+pub mod Cut
+pub mod Longest
+pub mod Step
+pub mod Limit
+pub mod Lexed

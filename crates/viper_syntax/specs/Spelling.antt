@@ -1,0 +1,131 @@
+-- How words and signs are spelled, and the bytes that blanks, names and numbers are made of.
+use Rattle.std.specs.Prelude.{ℕ, ◌+◌, ◌*◌, ◌-◌, Bool, ◌==◌, ◌||◌, ◌&&◌, nat_le, List, [], ◌∷◌, codes}
+use Rattle.viper_syntax.specs.declared.tokens.RefusedWord.{RefusedWord}
+use Rattle.viper_syntax.specs.declared.tokens.RefusedWord.TheVariants as r
+use Rattle.viper_syntax.specs.declared.tokens.Word.{Word}
+use Rattle.viper_syntax.specs.declared.tokens.Word.TheVariants as w
+use Rattle.viper_syntax.specs.declared.tokens.Sign.{Sign}
+use Rattle.viper_syntax.specs.declared.tokens.Sign.TheVariants as s
+
+-- the bytes of a word
+abbrev pub word_text : Word → List ℕ
+word_text w.Field = codes "field"
+word_text w.Predicate = codes "predicate"
+word_text w.Method = codes "method"
+word_text w.Returns = codes "returns"
+word_text w.Requires = codes "requires"
+word_text w.Ensures = codes "ensures"
+word_text w.Invariant = codes "invariant"
+word_text w.Var = codes "var"
+word_text w.New = codes "new"
+word_text w.If = codes "if"
+word_text w.Elseif = codes "elseif"
+word_text w.Else = codes "else"
+word_text w.While = codes "while"
+word_text w.Inhale = codes "inhale"
+word_text w.Exhale = codes "exhale"
+word_text w.Assert = codes "assert"
+word_text w.Assume = codes "assume"
+word_text w.Fold = codes "fold"
+word_text w.Unfold = codes "unfold"
+word_text w.Unfolding = codes "unfolding"
+word_text w.In = codes "in"
+word_text w.Acc = codes "acc"
+word_text w.Old = codes "old"
+word_text w.Null = codes "null"
+word_text w.True = codes "true"
+word_text w.False = codes "false"
+word_text w.Write = codes "write"
+word_text w.None = codes "none"
+word_text w.Wildcard = codes "wildcard"
+word_text w.Int = codes "Int"
+word_text w.Bool = codes "Bool"
+word_text w.Ref = codes "Ref"
+word_text w.Perm = codes "Perm"
+
+-- the bytes of a sign
+abbrev pub sign_text : Sign → List ℕ
+sign_text s.OpenParen = codes "("
+sign_text s.CloseParen = codes ")"
+sign_text s.OpenBrace = codes "{"
+sign_text s.CloseBrace = codes "}"
+sign_text s.OpenBracket = codes "["
+sign_text s.CloseBracket = codes "]"
+sign_text s.Comma = codes ","
+sign_text s.Semicolon = codes ";"
+sign_text s.Dot = codes "."
+sign_text s.Colon = codes ":"
+sign_text s.Assign = codes ":="
+sign_text s.Question = codes "?"
+sign_text s.Iff = codes "<==>"
+sign_text s.Implies = codes "==>"
+sign_text s.Or = codes "||"
+sign_text s.And = codes "&&"
+sign_text s.Equal = codes "=="
+sign_text s.NotEqual = codes "!="
+sign_text s.AtMost = codes "<="
+sign_text s.AtLeast = codes ">="
+sign_text s.Less = codes "<"
+sign_text s.Greater = codes ">"
+sign_text s.Plus = codes "+"
+sign_text s.Minus = codes "-"
+sign_text s.Star = codes "*"
+sign_text s.Slash = codes "/"
+sign_text s.Backslash = codes "\\"
+sign_text s.Percent = codes "%"
+sign_text s.Not = codes "!"
+
+-- the bytes of a word of Viper that this subset refuses
+abbrev pub refused_text : RefusedWord → List ℕ
+refused_text r.Function = codes "function"
+refused_text r.Domain = codes "domain"
+refused_text r.Axiom = codes "axiom"
+refused_text r.Unique = codes "unique"
+refused_text r.Import = codes "import"
+refused_text r.Define = codes "define"
+refused_text r.Label = codes "label"
+refused_text r.Goto = codes "goto"
+refused_text r.Forall = codes "forall"
+refused_text r.Exists = codes "exists"
+refused_text r.Forperm = codes "forperm"
+refused_text r.Let = codes "let"
+refused_text r.Perm = codes "perm"
+refused_text r.Epsilon = codes "epsilon"
+refused_text r.Seq = codes "Seq"
+refused_text r.Set = codes "Set"
+refused_text r.Multiset = codes "Multiset"
+refused_text r.Map = codes "Map"
+refused_text r.Rational = codes "Rational"
+refused_text r.Package = codes "package"
+refused_text r.Apply = codes "apply"
+refused_text r.Applying = codes "applying"
+refused_text r.Refute = codes "refute"
+refused_text r.Decreases = codes "decreases"
+
+abbrev pub refused_words : List RefusedWord
+refused_words =
+    r.Function ∷ r.Domain ∷ r.Axiom ∷ r.Unique ∷ r.Import ∷ r.Define ∷ r.Label ∷ r.Goto ∷ r.Forall ∷ r.Exists ∷ r.Forperm ∷ r.Let ∷
+    r.Perm ∷ r.Epsilon ∷ r.Seq ∷ r.Set ∷ r.Multiset ∷ r.Map ∷ r.Rational ∷ r.Package ∷ r.Apply ∷ r.Applying ∷ r.Refute ∷ r.Decreases ∷ []
+
+-- a tab, the end of a line, a carriage return, a space
+abbrev pub is_blank : ℕ → Bool
+is_blank b = b == 9 || b == 10 || b == 13 || b == 32
+
+-- a letter, `_` or `$`
+abbrev pub is_name_start : ℕ → Bool
+is_name_start b = (nat_le 97 b && nat_le b 122) || (nat_le 65 b && nat_le b 90) || b == 95 || b == 36
+
+abbrev pub is_digit : ℕ → Bool
+is_digit b = nat_le 48 b && nat_le b 57
+
+-- these, a digit, or `'`
+abbrev pub is_name_byte : ℕ → Bool
+is_name_byte b = is_name_start b || is_digit b || b == 39
+
+-- the number that a row of digits spells: what was read before is worth ten times as much at each further digit
+abbrev pub decimal_from : ℕ → List ℕ → ℕ
+decimal_from n [] = n
+decimal_from n (d ∷ ds) = decimal_from (n * 10 + (d - 48)) ds
+
+abbrev pub decimal : List ℕ → ℕ
+decimal ds = decimal_from 0 ds

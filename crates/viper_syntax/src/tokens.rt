@@ -1,0 +1,191 @@
+// The tokens of Viper, and the faults of a text that has no tokens.
+ghost use Rattle.std.specs.Prelude.{◌≡◌};
+ghost use Rattle.viper_syntax.specs.declared.tokens.LexFault.TheVariants.{Memory};
+
+use std::alloc::{AllocError, AllocFailed};
+use vb_base::{Ident, Pos};
+
+/// A token with the place of its first byte.
+#[derive(Debug, PartialEq, Eq, Drop)]
+pub struct Token {
+    pub tok: Tok,
+    pub pos: Pos,
+}
+
+/// What a token is.
+#[derive(Debug, PartialEq, Eq, Drop)]
+pub enum Tok {
+    /// A letter, `_` or `$`, then any of these, digits and `'`; none of the words, and no refused word.
+    Name(Ident),
+    /// The value of a row of digits, from 0 to 2^127 - 1.
+    Number(i128),
+    Word(Word),
+    Sign(Sign),
+}
+
+/// The words: what has the form of a name and is none. Each is spelled as its variant, in the case that the
+/// language has (`Int` to `Perm` begin with a capital, all others are small letters).
+#[derive(Clone, Copy, Debug, PartialEq, Eq)]
+pub enum Word {
+    Field,
+    Predicate,
+    Method,
+    Returns,
+    Requires,
+    Ensures,
+    Invariant,
+    Var,
+    New,
+    If,
+    Elseif,
+    Else,
+    While,
+    Inhale,
+    Exhale,
+    Assert,
+    Assume,
+    Fold,
+    Unfold,
+    Unfolding,
+    In,
+    Acc,
+    Old,
+    Null,
+    True,
+    False,
+    Write,
+    None,
+    Wildcard,
+    Int,
+    Bool,
+    Ref,
+    Perm,
+}
+
+/// The words of Viper that this subset refuses. In a text without faults no name is one.
+#[derive(Clone, Copy, Debug, PartialEq, Eq)]
+pub enum RefusedWord {
+    Function,
+    Domain,
+    Axiom,
+    Unique,
+    Import,
+    Define,
+    Label,
+    Goto,
+    Forall,
+    Exists,
+    Forperm,
+    Let,
+    Perm,
+    Epsilon,
+    Seq,
+    Set,
+    Multiset,
+    Map,
+    Rational,
+    Package,
+    Apply,
+    Applying,
+    Refute,
+    Decreases,
+}
+
+/// The signs.
+#[derive(Clone, Copy, Debug, PartialEq, Eq)]
+pub enum Sign {
+    /// `(`
+    OpenParen,
+    /// `)`
+    CloseParen,
+    /// `{`
+    OpenBrace,
+    /// `}`
+    CloseBrace,
+    /// `[`
+    OpenBracket,
+    /// `]`
+    CloseBracket,
+    /// `,`
+    Comma,
+    /// `;`
+    Semicolon,
+    /// `.`
+    Dot,
+    /// `:`
+    Colon,
+    /// `:=`
+    Assign,
+    /// `?`
+    Question,
+    /// `<==>`
+    Iff,
+    /// `==>`
+    Implies,
+    /// `||`
+    Or,
+    /// `&&`
+    And,
+    /// `==`
+    Equal,
+    /// `!=`
+    NotEqual,
+    /// `<=`
+    AtMost,
+    /// `>=`
+    AtLeast,
+    /// `<`
+    Less,
+    /// `>`
+    Greater,
+    /// `+`
+    Plus,
+    /// `-`
+    Minus,
+    /// `*`
+    Star,
+    /// `/`
+    Slash,
+    /// `\`
+    Backslash,
+    /// `%`
+    Percent,
+    /// `!`
+    Not,
+}
+
+/// Why a text has no tokens. The first three come at the first place where the cut of the bytes meets one; then
+/// the next three are tried in their order over the whole list of tokens.
+#[derive(Clone, Copy, Debug, PartialEq, Eq)]
+pub enum LexFault {
+    /// A byte at which no token, blank or comment begins.
+    BadByte(Pos),
+    /// A `/*` with no later `*/`.
+    OpenComment(Pos),
+    /// A number above 2^127 - 1, at its first digit.
+    BigLiteral(Pos),
+    /// The `{` that is the 129th unclosed one.
+    Braces(Pos),
+    /// The 1,025th token of a group, the tokens between two dividers.
+    LongGroup(Pos),
+    /// The first word that is Viper's and none of this subset.
+    Unsupported(Pos),
+    /// Memory was refused.
+    Memory,
+}
+
+impl From<AllocError> for LexFault {
+    ghost from_gives = { λ _ e. e ≡ Memory };
+
+    fn from(_: AllocError) -> LexFault {
+        LexFault::Memory
+    }
+}
+
+impl<T: Drop> From<AllocFailed<T>> for LexFault {
+    ghost from_gives = { λ _ e. e ≡ Memory };
+
+    fn from(_: AllocFailed<T>) -> LexFault {
+        LexFault::Memory
+    }
+}
