@@ -1,0 +1,34 @@
+-- Two small programs, whose failures are laws.
+use Rattle.std.specs.Prelude.{pos, [], ◌∷◌, codes}
+use Rattle.vb_base.specs.declared.labels.Label.{Label}
+use Rattle.vb_base.specs.declared.labels.Kind.TheVariants as kind
+use Rattle.vb_base.specs.declared.places.Pos.{Pos}
+use Rattle.viper_core.specs.declared.trees.Op.TheVariants.{Eq, Lt}
+use Rattle.viper_core.specs.Tree.{Expr, Var, Int, Bin, Fact, Assert, Method, Program}
+
+-- `method m(x: Int) { assert E }`, where all stands at one place
+abbrev pub method_asserting : Expr → Pos → Method
+method_asserting e at = record {
+  name = codes "m";
+  at = at;
+  name_at = at;
+  names = codes "x" ∷ [];
+  turn = at;
+  stmts = Assert at (Fact e at) ∷ [];
+}
+
+-- the program of this method alone
+abbrev pub asserting : Expr → Pos → Program
+asserting e at = method_asserting e at ∷ []
+
+-- `x == x`
+abbrev pub equals_itself : Pos → Expr
+equals_itself at = Bin Eq (Var 0) (Var 0) at
+
+-- `x < 3`
+abbrev pub is_below_3 : Pos → Expr
+is_below_3 at = Bin Lt (Var 0) (Int (pos 3)) at
+
+-- the label of an assert that is false
+abbrev pub is_false : Pos → Label
+is_false place = record { at = place; part = place; kind = kind.Fact }
