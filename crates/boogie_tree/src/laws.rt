@@ -1,0 +1,9 @@
+// Laws of the definitions, each the contract of a function with nothing to do.
+ghost use Rattle.std.specs.Prelude.{◌≡◌, List, ℕ};
+ghost use Rattle.boogie_tree.specs.Tree as t;
+ghost use Rattle.boogie_tree.specs.Grammar.{BSpells};
+
+/// No bytes spell two programs.
+pub fn one_program()
+    ensures { (bytes : List ℕ) (a : t.BProgram) (b : t.BProgram) → BSpells bytes a → BSpells bytes b → a ≡ b }
+{}
