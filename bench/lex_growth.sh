@@ -1,0 +1,34 @@
+#!/usr/bin/env bash
+# How the time to cut a text grows with its length: blanks, one comment, and tokens of one byte each with a blank behind.
+# Each line has the kind of text, its bytes, and the least of five times in milliseconds, the start of the process included.
+set -eu
+top=$(dirname "$(readlink -f "$0")")/..
+folder=$(mktemp -d)
+trap 'rm -r "$folder"' EXIT
+
+write_text() { # KIND BYTES
+    case $1 in
+        blanks) head -c "$2" /dev/zero | tr '\0' ' ' ;;
+        comment) printf '/*'; head -c "$(($2 - 4))" /dev/zero | tr '\0' 'x'; printf '*/' ;;
+        tokens) yes '; ' | tr -d '\n' | head -c "$2" || true ;;
+    esac >"$folder/text.vpr"
+}
+
+least_of_five() {
+    least=
+    for _ in 1 2 3 4 5; do
+        begin=$(date +%s%N)
+        "$top/remduska" translate "$folder/text.vpr" >/dev/null 2>&1 || true
+        took=$((($(date +%s%N) - begin) / 1000))
+        if [ -z "$least" ] || [ "$took" -lt "$least" ]; then least=$took; fi
+    done
+    printf '%d.%d' "$((least / 1000))" "$((least % 1000 / 100))"
+}
+
+printf '%-8s %9s %9s\n' text bytes ms
+for kind in blanks comment tokens; do
+    for bytes in 131072 262144 524288 1048576; do
+        write_text "$kind" "$bytes"
+        printf '%-8s %9d %9s\n' "$kind" "$bytes" "$(least_of_five)"
+    done
+done

@@ -1,0 +1,73 @@
+-- The code of a method's statements ends as the statements do.
+use Rattle.std.proofs.Common.{◌≡◌, ◌<◌, ℕ, ℤ, Bool as Truth, true, false, if◌then◌else◌, List, [], ◌∷◌, map, slice_get, Some, refl, ap}
+use Rattle.vb_base.specs.declared.labels.Label.{Label}
+use Rattle.viper_core.specs.declared.trees.Op.{Op}
+use Rattle.viper_core.specs.declared.trees.Op.TheVariants.{Eq, Ne, Lt, Le, Gt, Ge}
+use Rattle.viper_core.specs.Tree as vt
+use Rattle.viper_core.specs.Formed as f
+use Rattle.viper_core.specs.Meaning as v
+use Rattle.boogie_tree.specs.Tree as bt
+use Rattle.boogie_tree.specs.Meaning as b
+use Rattle.vb_tool.specs.Encoded.{op_code, expr_code, stmt_code}
+use Rattle.vb_tool.proofs.Coupled.{scalar_of, IsCoupled}
+
+-- each variable has an Int
+pub record HasInts (variables : ℕ) (store : List v.Value) : Type 0 where
+  pub ints : (x : ℕ) → x < variables → (n : ℤ) × (slice_get store x ≡ Some (v.Int n))
+
+-- an expression and its code have this value
+record HaveValue (e : vt.Expr) (store : List v.Value) (env : List b.BScalar) (value : v.Value) : Type 0 where
+  viper : v.value e store ≡ v.Is value
+  boogie : b.bvalue (expr_code e) env ≡ b.Is (scalar_of value)
+
+int_alike : {n : ℕ} {store : List v.Value} {env : List b.BScalar} {e : vt.Expr} → HasInts n store → IsCoupled store env → f.IsInt n e → (k : ℤ) × HaveValue e store env (v.Int k)
+int_alike ints coupled (f.variable {x = x} h) =
+    let there = ints.ints x h in
+    (there.0, record { viper = rw there.1 refl; boogie = rw (coupled.same x (v.Int there.0) there.1) refl })
+int_alike ints coupled (f.literal {n = k} h) = (_, record { viper = refl; boogie = refl })
+
+compares_alike : (o : Op) (x y : ℤ) → b.compares (op_code o) x y ≡ v.compares o x y
+compares_alike Eq x y = refl
+compares_alike Ne x y = refl
+compares_alike Lt x y = refl
+compares_alike Le x y = refl
+compares_alike Gt x y = refl
+compares_alike Ge x y = refl
+
+bool_alike : {n : ℕ} {store : List v.Value} {env : List b.BScalar} {e : vt.Expr} → HasInts n store → IsCoupled store env → f.IsBool n e → (t : Truth) × HaveValue e store env (v.Bool t)
+bool_alike ints coupled (f.comparison {o = o} h k) =
+    let x = int_alike ints coupled h in
+    let y = int_alike ints coupled k in (
+      v.compares o x.0 y.0,
+      record {
+        viper = rw (x.1.viper, y.1.viper) refl;
+        boogie = rw (x.1.boogie, y.1.boogie) (ap (λ t. b.Is (b.Bool t)) (compares_alike o x.0 y.0));
+      },
+    )
+
+-- statements end as their code does, which takes no choice and changes nothing
+pub data Alike (env : List b.BScalar) (choices : List b.BChoice) : v.Outcome → b.BEnd → Type 0 where
+  done : Alike env choices v.Done (b.Done env choices)
+  failed : {l : Label} → Alike env choices (v.Failed l) (b.Failed l choices)
+
+then_alike : {env : List b.BScalar} {choices : List b.BChoice} {o next : v.Outcome} {e : b.BEnd} (go : List b.BScalar → List b.BChoice → b.BEnd) →
+    Alike env choices o e → Alike env choices next (go env choices) → Alike env choices (v.then_run o next) (b.then_run e go)
+then_alike go done h = h
+then_alike go failed h = failed
+
+branch_alike : (env : List b.BScalar) (choices : List b.BChoice) (t : Truth) (l : Label) →
+    Alike env choices (if t then v.Done else v.Failed l) (if t then b.Done env choices else b.Failed l choices)
+branch_alike env choices true l = done
+branch_alike env choices false l = failed
+
+stmt_alike : {n : ℕ} {store : List v.Value} {env : List b.BScalar} {s : vt.Stmt} (choices : List b.BChoice) → HasInts n store → IsCoupled store env → f.IsStmt n s →
+    Alike env choices (v.run_stmt s store) (b.brun_stmt (stmt_code s) env choices)
+stmt_alike {env = env} choices ints coupled (f.assert_ h) =
+    let t = bool_alike ints coupled h in
+    rw (t.1.viper, t.1.boogie) (branch_alike env choices t.0 _)
+
+pub stmts_alike : {n : ℕ} {store : List v.Value} {env : List b.BScalar} (ss : List vt.Stmt) (choices : List b.BChoice) → HasInts n store → IsCoupled store env → f.AreStmts n ss →
+    Alike env choices (v.run ss store) (b.brun (bt.stmts (map stmt_code ss)) env choices)
+stmts_alike [] choices ints coupled h = done
+stmts_alike (s ∷ ss) choices ints coupled h =
+    then_alike (λ env' rest. b.brun (bt.stmts (map stmt_code ss)) env' rest) (stmt_alike choices ints coupled h.0) (stmts_alike ss choices ints coupled h.1)

@@ -1,0 +1,10 @@
+pub mod Coupled
+pub mod Alike
+pub mod Exact
+pub mod Pieces
+pub mod Spelled
+pub mod Nesting
+pub mod Translation
+pub mod FirstFormLaws
+pub mod CallLaws
+pub mod MaskLaws

@@ -1,0 +1,28 @@
+-- The trouble that a fault of a part is.
+use Rattle.vb_outer.specs.declared.fault.FileFault.{FileFault}
+use Rattle.vb_outer.specs.declared.fault.FileFault.TheVariants as file
+use Rattle.viper_syntax.specs.declared.tokens.LexFault.{LexFault}
+use Rattle.viper_syntax.specs.declared.tokens.LexFault.TheVariants as lex
+use Rattle.vb_tool.specs.declared.reader.Unread.{Unread}
+use Rattle.vb_tool.specs.declared.reader.Unread.TheVariants as unread
+use Rattle.vb_tool.specs.declared.status.Refusal.TheVariants as refusal
+use Rattle.vb_tool.specs.declared.trouble.Trouble.{Trouble}
+use Rattle.vb_tool.specs.declared.trouble.Trouble.TheVariants.{Memory, Read, Refused}
+
+abbrev pub trouble_of_file : FileFault → Trouble
+trouble_of_file file.Memory = Memory
+trouble_of_file file.Failed = Read
+trouble_of_file file.Long = Refused refusal.Size
+
+abbrev pub trouble_of_lex : LexFault → Trouble
+trouble_of_lex (lex.BadByte at) = Refused (refusal.Lex (lex.BadByte at))
+trouble_of_lex (lex.OpenComment at) = Refused (refusal.Lex (lex.OpenComment at))
+trouble_of_lex (lex.BigLiteral at) = Refused (refusal.Lex (lex.BigLiteral at))
+trouble_of_lex (lex.Braces at) = Refused (refusal.Lex (lex.Braces at))
+trouble_of_lex (lex.LongGroup at) = Refused (refusal.Lex (lex.LongGroup at))
+trouble_of_lex (lex.Unsupported at) = Refused (refusal.Lex (lex.Unsupported at))
+trouble_of_lex lex.Memory = Memory
+
+abbrev pub trouble_of_unread : Unread → Trouble
+trouble_of_unread unread.Memory = Memory
+trouble_of_unread unread.Other = Refused refusal.NotYet

@@ -1,0 +1,53 @@
+-- What is written for a method: its procedure.
+use Rattle.std.specs.Prelude.{◌++◌, ℕ, false, List, map, codes}
+use Rattle.vb_base.specs.declared.labels.Kind.TheVariants as kind
+use Rattle.viper_core.specs.declared.trees.Op.{Op}
+use Rattle.viper_core.specs.declared.trees.Op.TheVariants as v_op
+use Rattle.boogie_tree.specs.declared.trees.BOp.{BOp}
+use Rattle.boogie_tree.specs.declared.trees.BOp.TheVariants as b_op
+use Rattle.boogie_tree.specs.declared.trees.BBase.TheVariants as base
+use Rattle.boogie_tree.specs.declared.trees.Local.{Local}
+use Rattle.viper_core.specs.Tree as v
+use Rattle.boogie_tree.specs.Tree as b
+
+-- the procedure of the method m is `M$m`
+abbrev pub procedure_name : List ℕ → List ℕ
+procedure_name name = codes "M$" ++ name
+
+-- the local of the variable x is `v$x`
+abbrev pub local_name : List ℕ → List ℕ
+local_name name = codes "v$" ++ name
+
+abbrev pub local_of : List ℕ → Local
+local_of name = record { name = local_name name; ty = base.Int }
+
+-- The locals that an opening sets stand first among the locals of the procedure: one for each parameter, in order.
+abbrev pub front_locals : v.Method → List Local
+front_locals m = map local_of m.names
+
+abbrev pub op_code : Op → BOp
+op_code v_op.Eq = b_op.Eq
+op_code v_op.Ne = b_op.Ne
+op_code v_op.Lt = b_op.Lt
+op_code v_op.Le = b_op.Le
+op_code v_op.Gt = b_op.Gt
+op_code v_op.Ge = b_op.Ge
+
+abbrev pub expr_code : v.Expr → b.BExpr
+expr_code (v.Var x) = b.Var x
+expr_code (v.Int n) = b.Int n
+expr_code (v.Bin o x y at) = b.Bin (op_code o) (expr_code x) (expr_code y)
+
+-- an assert asserts its expression under the label of its failure
+abbrev pub stmt_code : v.Stmt → b.BStmt
+stmt_code (v.Assert at (v.Fact e start)) = b.Assert (record { at = at; part = start; kind = kind.Fact }) (expr_code e)
+
+-- the body, or the postcondition's own check, which goes no further
+abbrev pub branch_code : v.Method → b.BStmt
+branch_code m = b.Either (b.stmts (map stmt_code m.stmts)) (b.first (b.Assume (b.Bool false)) b.skip)
+
+abbrev pub method_code : v.Method → b.Proc
+method_code m = record { name = procedure_name m.name; locals = front_locals m; body = b.first (branch_code m) b.skip }
+
+abbrev pub program_code : v.Program → b.BProgram
+program_code program = map method_code program

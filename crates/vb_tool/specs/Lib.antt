@@ -1,0 +1,9 @@
+pub mod Encoded
+pub mod Printed
+pub mod Status
+pub mod Translates
+pub mod FirstForm
+pub mod FirstFormRead
+pub mod Converted
+pub mod Call
+pub mod Parts

@@ -1,0 +1,37 @@
+-- The numbers of statuses, and the lines that go to the error stream.
+use Rattle.std.specs.Prelude.{◌++◌, ℕ, List, [], codes}
+use Rattle.vb_base.specs.Labels.{place_text}
+use Rattle.viper_syntax.specs.declared.tokens.LexFault.TheVariants.{BadByte, OpenComment, BigLiteral, Braces, LongGroup, Unsupported, Memory}
+use Rattle.vb_tool.specs.declared.status.Refusal.{Refusal}
+use Rattle.vb_tool.specs.declared.status.Refusal.TheVariants.{Size, Lex, NotYet}
+use Rattle.vb_tool.specs.declared.status.Status.{Status}
+use Rattle.vb_tool.specs.declared.status.Status.TheVariants.{Done, Refused, Usage, ReadFault, WriteFault, NoMemory}
+
+abbrev pub number_of : Status → ℕ
+number_of Done = 0
+number_of (Refused r) = 1
+number_of Usage = 2
+number_of ReadFault = 3
+number_of WriteFault = 4
+number_of NoMemory = 5
+
+-- a refusal's word, and the place of what is refused
+abbrev pub refusal_text : Refusal → List ℕ
+refusal_text Size = codes "size"
+refusal_text (Lex (BadByte at)) = codes "bad-byte " ++ place_text at
+refusal_text (Lex (OpenComment at)) = codes "open-comment " ++ place_text at
+refusal_text (Lex (BigLiteral at)) = codes "big-literal " ++ place_text at
+refusal_text (Lex (Braces at)) = codes "braces " ++ place_text at
+refusal_text (Lex (LongGroup at)) = codes "long-group " ++ place_text at
+refusal_text (Lex (Unsupported at)) = codes "unsupported " ++ place_text at
+refusal_text (Lex Memory) = codes "memory"
+refusal_text NotYet = codes "not-yet"
+
+-- one line, or nothing where the status writes none
+abbrev pub line_of : Status → List ℕ
+line_of Done = []
+line_of (Refused r) = codes "error: " ++ refusal_text r ++ codes "\n"
+line_of Usage = codes "usage: translate FILE\n"
+line_of ReadFault = codes "error: read\n"
+line_of WriteFault = []
+line_of NoMemory = []

@@ -1,0 +1,96 @@
+// How a call of the tool ends, and the line that it then writes to the error stream.
+ghost use Rattle.std.specs.Prelude.{◌≡◌, IfOk, Some};
+ghost use Rattle.std.specs.String.{string_bytes};
+ghost use Rattle.vb_tool.specs.Status.{line_of};
+
+use std::alloc::{AllocError, Global};
+use std::fmt;
+use viper_syntax::LexFault;
+
+/// Why a file is not translated. The refusals are tried in this order.
+#[derive(Clone, Copy, Debug, PartialEq, Eq)]
+pub enum Refusal {
+    /// The file has more than 1,048,576 bytes.
+    Size,
+    /// The file has no tokens: a byte, a comment, a number, a bracket or a word is wrong at a place.
+    Lex(LexFault),
+    /// Its tokens are not those of a file of the first form, which is all that is translated today.
+    NotYet,
+}
+
+/// How a call ends. The status that the process ends with is its number.
+#[derive(Clone, Copy, Debug, PartialEq, Eq)]
+pub enum Status {
+    /// The command did its work.
+    Done,
+    /// The file is refused.
+    Refused(Refusal),
+    /// The words are none of the forms of a command.
+    Usage,
+    /// The shelf failed, or has no file of that name.
+    ReadFault,
+    /// The sink of the output or of the errors failed.
+    WriteFault,
+    /// Memory was refused.
+    NoMemory,
+}
+
+impl Status {
+    ghost use Rattle.vb_tool.specs.Status.{number_of};
+
+    /// The status of the process.
+    pub fn number(self) -> u8
+        ensures { result ≡ number_of self }
+    {
+        match self {
+            Status::Done => 0,
+            Status::Refused(_) => 1,
+            Status::Usage => 2,
+            Status::ReadFault => 3,
+            Status::WriteFault => 4,
+            Status::NoMemory => 5,
+        }
+    }
+}
+
+impl fmt::Display for Refusal {
+    ghost use Rattle.vb_tool.specs.Status.{refusal_text};
+
+    ghost output = { λ r. Some (refusal_text r) };
+
+    fn fmt<W: fmt::Write>(&self, f: &mut fmt::Formatter<W>) -> fmt::Result {
+        match self {
+            Refusal::Size => f.write_str("size"),
+            Refusal::Lex(LexFault::BadByte(at)) => write!(f, "bad-byte {at}"),
+            Refusal::Lex(LexFault::OpenComment(at)) => write!(f, "open-comment {at}"),
+            Refusal::Lex(LexFault::BigLiteral(at)) => write!(f, "big-literal {at}"),
+            Refusal::Lex(LexFault::Braces(at)) => write!(f, "braces {at}"),
+            Refusal::Lex(LexFault::LongGroup(at)) => write!(f, "long-group {at}"),
+            Refusal::Lex(LexFault::Unsupported(at)) => write!(f, "unsupported {at}"),
+            Refusal::Lex(LexFault::Memory) => f.write_str("memory"),
+            Refusal::NotYet => f.write_str("not-yet"),
+        }
+    }
+}
+
+impl fmt::Display for Status {
+    ghost use Rattle.vb_tool.specs.Status.{line_of};
+
+    ghost output = { λ s. Some (line_of s) };
+
+    fn fmt<W: fmt::Write>(&self, f: &mut fmt::Formatter<W>) -> fmt::Result {
+        match self {
+            Status::Refused(refusal) => writeln!(f, "error: {refusal}"),
+            Status::Usage => f.write_str("usage: translate FILE\n"),
+            Status::ReadFault => f.write_str("error: read\n"),
+            Status::Done | Status::WriteFault | Status::NoMemory => Ok(()),
+        }
+    }
+}
+
+/// The line that a call with this status writes to the error stream; nothing, where it writes none.
+pub fn line(alloc: Global, status: Status) -> Result<String, AllocError>
+    ensures { IfOk result (λ text. string_bytes text ≡ line_of status) }
+{
+    format!(in alloc; "{status}")
+}

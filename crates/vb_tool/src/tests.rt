@@ -1,0 +1,238 @@
+//! Whole calls of the tool, over shelves and sinks in memory.
+ghost use Rattle.std.specs.Prelude.{◌≤◌};
+
+use crate::command::tool;
+use crate::status::Status;
+use boogie_tree::PRELUDE;
+use sparse::Sparse;
+use std::alloc::{AllocError, Global};
+use std::test::Fail;
+use vb_outer::{MemFile, MemShelf, MemSink};
+use vb_value::{Frac, Key, KeyPart};
+
+/// A shelf with one file, `file.vpr`.
+fn shelf_with(alloc: Global, text: &[u8], failing: &[u64]) -> Result<MemShelf, AllocError> {
+    let file = MemFile {
+        name: b"file.vpr".to_vec(alloc)?,
+        bytes: text.to_vec(alloc)?,
+    };
+    let files = vec![in alloc; file]?;
+    Ok(MemShelf::make(files, failing.to_vec(alloc)?, 4096))
+}
+
+fn words_of(alloc: Global, words: &[&str]) -> Result<Vec<String>, AllocError> {
+    let mut all = Vec::new(alloc);
+    for word in words {
+        all.push(word.to_string(alloc)?)?;
+    }
+    Ok(all)
+}
+
+/// The status of `translate` on a file with this text, and what stands in the output and in the errors.
+fn translated(alloc: Global, text: &[u8]) -> Result<(u8, Vec<u8>, Vec<u8>), Fail> {
+    let words = words_of(alloc, &["translate", "file.vpr"])?;
+    let mut shelf = shelf_with(alloc, text, &[])?;
+    let mut out = MemSink::make(alloc, Vec::new(alloc), 4096)?;
+    let mut err = MemSink::make(alloc, Vec::new(alloc), 4096)?;
+    let status = tool(alloc, &words, &mut shelf, &mut out, &mut err);
+    Ok((
+        status.number(),
+        out.written().to_vec(alloc)?,
+        err.written().to_vec(alloc)?,
+    ))
+}
+
+/// `method m(p100: Int, p101: Int, ..) { assert 0 < 1 }` with so many parameters, and so 4 * count + 9 tokens.
+fn with_parameters(alloc: Global, count: u32) -> Result<Vec<u8>, AllocError> {
+    let mut text = b"method m(p100: Int".to_vec(alloc)?;
+    for i in 1..count {
+        text.extend_from_slice(format!(in alloc;
+            ", p{}: Int",
+            100_u64 + u64::from(i)
+        )?.as_bytes())?;
+    }
+    text.extend_from_slice(b") { assert 0 < 1 }")?;
+    Ok(text)
+}
+
+#[test]
+fn a_file_of_the_first_form_is_translated(rt: HostRuntime) -> Result<(), Fail> {
+    let alloc = rt.alloc();
+    let rows: [(&[u8], &[u8]); 7] = [
+        (b"", b""),
+        (b" // nothing\n", b""),
+        (
+            b"method m(x: Int) { assert x < 3 }",
+            b"procedure M$m() {\nvar v$x: int;\nif (*) {\nassert {:msg \"1:20 1:27 false\"} (v$x < 3);\n} else {\nassume false;\n}\n}\n",
+        ),
+        (
+            b"method m(x: Int) { assert x == x }",
+            b"procedure M$m() {\nvar v$x: int;\nif (*) {\nassert {:msg \"1:20 1:27 false\"} (v$x == v$x);\n} else {\nassume false;\n}\n}\n",
+        ),
+        (
+            b"method m()\n{ assert 0 >= /* MAX */ 170141183460469231731687303715884105727 }",
+            b"procedure M$m() {\nif (*) {\nassert {:msg \"2:3 2:10 false\"} (0 >= 170141183460469231731687303715884105727);\n} else {\nassume false;\n}\n}\n",
+        ),
+        (
+            b"method $a'(b'': Int, $: Int) { assert b'' != $ }",
+            b"procedure M$$a'() {\nvar v$b'': int;\nvar v$$: int;\nif (*) {\nassert {:msg \"1:32 1:39 false\"} (v$b'' != v$$);\n} else {\nassume false;\n}\n}\n",
+        ),
+        (
+            b"method procedure(havoc: Int, real: Int) { assert havoc <= real }",
+            b"procedure M$procedure() {\nvar v$havoc: int;\nvar v$real: int;\nif (*) {\nassert {:msg \"1:43 1:50 false\"} (v$havoc <= v$real);\n} else {\nassume false;\n}\n}\n",
+        ),
+    ];
+    for (text, procedure) in rows {
+        let (status, out, err) = translated(alloc, text)?;
+        assert_eq!(rt; status, 0);
+        assert_eq!(rt; out.as_slice().strip_prefix(PRELUDE), Some(procedure));
+        assert_eq!(rt; err.len(), 0);
+    }
+    Ok(())
+}
+
+#[test]
+fn another_file_is_refused_by_one_line(rt: HostRuntime) -> Result<(), Fail> {
+    let alloc = rt.alloc();
+    let rows: [(&[u8], &[u8]); 12] = [
+        (b"method m() { assert true }", b"error: not-yet\n"),
+        (
+            b"method m(x: Int, x: Int) { assert x < 3 }",
+            b"error: not-yet\n",
+        ),
+        (b"method method() { assert 1 < 2 }", b"error: not-yet\n"),
+        (b"method m() { assert x < 3 }", b"error: not-yet\n"),
+        (b"method m(x: Int,) { assert x < 3 }", b"error: not-yet\n"),
+        (
+            b"method m() { assert 1 < 2 } method n() { assert 1 < 2 }",
+            b"error: not-yet\n",
+        ),
+        (
+            b"method m() { assert 0 < 170141183460469231731687303715884105728 }",
+            b"error: big-literal 1:25\n",
+        ),
+        (b"method m() { assert 0 < 1 } #", b"error: bad-byte 1:29\n"),
+        (b"\n /*/", b"error: open-comment 2:2\n"),
+        (b"domain D {}", b"error: unsupported 1:1\n"),
+        // The place of a fault in the cut comes before that of a word.
+        (b"domain D {}\n@", b"error: bad-byte 2:1\n"),
+        (b"assert", b"error: not-yet\n"),
+    ];
+    for (text, line) in rows {
+        let (status, out, err) = translated(alloc, text)?;
+        assert_eq!(rt; status, 1);
+        assert_eq!(rt; out.len(), 0);
+        assert_eq!(rt; err.as_slice(), line);
+    }
+    Ok(())
+}
+
+#[test]
+fn long_files_are_refused_from_the_first_byte_or_token_too_many(
+    rt: HostRuntime,
+) -> Result<(), Fail> {
+    let alloc = rt.alloc();
+    let braces = vec![in alloc; b'{'; 129]?;
+    let group = vec![in alloc; b'+'; 1025]?;
+    let blanks = vec![in alloc; b' '; 1_048_576]?;
+    let more_blanks = vec![in alloc; b' '; 1_048_577]?;
+    let most_tokens = with_parameters(alloc, 247)?;
+    let too_many_tokens = with_parameters(alloc, 248)?;
+    let rows: [(&Vec<u8>, u8, &[u8]); 6] = [
+        (&braces, 1, b"error: braces 1:129\n"),
+        (&group, 1, b"error: long-group 1:1025\n"),
+        (&blanks, 0, b""),
+        (&more_blanks, 1, b"error: size\n"),
+        (&most_tokens, 0, b""),
+        (&too_many_tokens, 1, b"error: not-yet\n"),
+    ];
+    for (text, number, line) in rows {
+        let (status, _, err) = translated(alloc, text)?;
+        assert_eq!(rt; status, number);
+        assert_eq!(rt; err.as_slice(), line);
+    }
+    Ok(())
+}
+
+#[test]
+fn words_that_are_no_command_get_the_usage(rt: HostRuntime) -> Result<(), Fail> {
+    let alloc = rt.alloc();
+    let rows: [&[&str]; 5] = [
+        &[],
+        &["translate"],
+        &["Translate", "file.vpr"],
+        &["translate", "file.vpr", "file.vpr"],
+        &["check", "file.vpr"],
+    ];
+    for words in rows {
+        let words = words_of(alloc, words)?;
+        let mut shelf = shelf_with(alloc, b"", &[])?;
+        let mut out = MemSink::make(alloc, Vec::new(alloc), 9)?;
+        let mut err = MemSink::make(alloc, Vec::new(alloc), 9)?;
+        assert_eq!(rt;
+            tool(alloc, &words, &mut shelf, &mut out, &mut err),
+            Status::Usage
+        );
+        assert_eq!(rt; err.written(), b"usage: translate FILE\n".as_slice());
+        assert_eq!(rt; out.written().len(), 0);
+    }
+    Ok(())
+}
+
+#[test]
+fn a_device_that_fails_is_reported(rt: HostRuntime) -> Result<(), Fail> {
+    let alloc = rt.alloc();
+    // The name; the failing calls of the shelf, of the output and of the errors; the status; what stands in both sinks.
+    let rows: [(&str, &[u64], &[u64], &[u64], u8, usize, &[u8]); 6] = [
+        ("other.vpr", &[], &[], &[], 3, 0, b"error: read\n"),
+        ("file.vpr", &[1], &[], &[], 3, 0, b"error: read\n"),
+        ("file.vpr", &[2], &[], &[], 3, 0, b"error: read\n"),
+        ("file.vpr", &[], &[1], &[], 4, 0, b""),
+        ("file.vpr", &[], &[3], &[], 4, 32, b""),
+        ("other.vpr", &[], &[], &[1], 4, 0, b""),
+    ];
+    for (name, failing_reads, failing_writes, failing_lines, number, count, line) in rows {
+        assert!(rt; count <= 32);
+        let words = words_of(alloc, &["translate", name])?;
+        let mut shelf = shelf_with(alloc, b"", failing_reads)?;
+        let mut out = MemSink::make(alloc, failing_writes.to_vec(alloc)?, 16)?;
+        let mut err = MemSink::make(alloc, failing_lines.to_vec(alloc)?, 16)?;
+        let status = tool(alloc, &words, &mut shelf, &mut out, &mut err);
+        assert_eq!(rt; status.number(), number);
+        assert_eq!(rt; out.written(), &PRELUDE[..count]);
+        assert_eq!(rt; err.written(), line);
+    }
+    Ok(())
+}
+
+/// A mask of instances, after one with these arguments is held in this amount.
+fn held(mask: &mut Sparse<Key, Frac>, arguments: Key, amount: Frac) -> Result<(), sparse::Memory> {
+    mask.set(arguments, amount)
+}
+
+fn copied(mask: &Sparse<Key, Frac>) -> Result<Sparse<Key, Frac>, sparse::Memory> {
+    mask.copy()
+}
+
+#[test]
+fn a_mask_is_a_map_from_keys_to_fractions(rt: HostRuntime) -> Result<(), Fail> {
+    let alloc = rt.alloc();
+    let none = Frac::make(0, 1).expect(&rt, "0 is a fraction");
+    let half = Frac::make(1, 2).expect(&rt, "1/2 is a fraction");
+    let one = Key {
+        parts: vec![in alloc; KeyPart::Int(1), KeyPart::Bool(true)]?,
+    };
+    let two = Key {
+        parts: vec![in alloc; KeyPart::Int(2)]?,
+    };
+    let mut mask = Sparse::make(alloc, none)?;
+    held(&mut mask, two.clone()?, half)?;
+    held(&mut mask, one.clone()?, half)?;
+    let kept = copied(&mask)?;
+    held(&mut mask, two.clone()?, none)?;
+    assert!(rt; *mask.get(&one) == half && *mask.get(&two) == none);
+    assert!(rt; *kept.get(&one) == half && *kept.get(&two) == half);
+    assert_eq!(rt; (mask.len(), kept.len()), (1, 2));
+    assert!(rt; *kept.key_at(0) == one);
+    Ok(())
+}

@@ -1,0 +1,62 @@
+// Why no translation was made.
+ghost use Rattle.std.specs.Prelude.{◌≡◌};
+ghost use Rattle.vb_tool.specs.declared.trouble.Trouble.TheVariants as trouble;
+ghost use Rattle.vb_tool.specs.declared.status.Refusal.TheVariants as refusal;
+ghost use Rattle.vb_tool.specs.Converted.{trouble_of_file, trouble_of_lex, trouble_of_unread};
+
+use crate::reader::Unread;
+use crate::status::Refusal;
+use vb_base::Memory;
+use vb_outer::FileFault;
+use viper_syntax::LexFault;
+
+/// Why a named file gave no text.
+#[derive(Clone, Copy, Debug, PartialEq, Eq)]
+pub enum Trouble {
+    Memory,
+    /// It could not be read.
+    Read,
+    Refused(Refusal),
+}
+
+impl From<Memory> for Trouble {
+    ghost from_gives = { λ _ e. e ≡ trouble.Memory };
+
+    fn from(_: Memory) -> Trouble {
+        Trouble::Memory
+    }
+}
+
+impl From<FileFault> for Trouble {
+    ghost from_gives = { λ fault e. e ≡ trouble_of_file fault };
+
+    fn from(fault: FileFault) -> Trouble {
+        match fault {
+            FileFault::Memory => Trouble::Memory,
+            FileFault::Failed => Trouble::Read,
+            FileFault::Long => Trouble::Refused(Refusal::Size),
+        }
+    }
+}
+
+impl From<LexFault> for Trouble {
+    ghost from_gives = { λ fault e. e ≡ trouble_of_lex fault };
+
+    fn from(fault: LexFault) -> Trouble {
+        match fault {
+            LexFault::Memory => Trouble::Memory,
+            _ => Trouble::Refused(Refusal::Lex(fault)),
+        }
+    }
+}
+
+impl From<Unread> for Trouble {
+    ghost from_gives = { λ fault e. e ≡ trouble_of_unread fault };
+
+    fn from(fault: Unread) -> Trouble {
+        match fault {
+            Unread::Memory => Trouble::Memory,
+            Unread::Other => Trouble::Refused(Refusal::NotYet),
+        }
+    }
+}
