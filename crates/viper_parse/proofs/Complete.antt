@@ -1,0 +1,800 @@
+-- Every derivation is read: where a rule has alternatives, the next token tells which of them was derived.
+use Rattle.std.proofs.Common.{◌≡◌, refl, sym, ap, subst, ◌∙◌, ℕ, zero, suc, ◌≤◌, ◌<◌, ◌-◌, Bool, true, false, cond, List, [], ◌∷◌, ◌++◌, Option, Some, None, nat_eq, nat_lt, if◌then◌else◌, IsTrue, append_assoc, arith, ◌⊎◌, inl, inr}
+use Rattle.std.proofs.lemmas.List.{append-nil}
+use Rattle.std.proofs.lemmas.Bool.{eqb-true, eq-eqb}
+use Rattle.std.proofs.lemmas.Bool.Decides.{nat_tests}
+use Rattle.vb_base.specs.declared.places.Pos.{Pos}
+use Rattle.viper_syntax.specs.declared.tokens.Token.{Token}
+use Rattle.viper_syntax.specs.declared.tokens.Tok.{Tok}
+use Rattle.viper_syntax.specs.declared.tokens.Tok.TheVariants as tok
+use Rattle.viper_syntax.specs.declared.tokens.Word.{Word}
+use Rattle.viper_syntax.specs.declared.tokens.Word.TheVariants as word
+use Rattle.viper_syntax.specs.declared.tokens.Sign.{Sign}
+use Rattle.viper_syntax.specs.declared.tokens.Sign.TheVariants as sign
+use Rattle.viper_syntax.specs.Decl as d
+use Rattle.viper_syntax.specs.Term.{Term}
+use Rattle.viper_syntax.specs.declared.stmts.Named.{Named}
+use Rattle.viper_syntax.specs.declared.stmts.Formal.{Formal}
+use Rattle.viper_syntax.specs.Stmt as s
+use Rattle.viper_parse.specs.declared.parts.Shape.{Shape}
+use Rattle.viper_parse.specs.declared.parts.Shape.TheVariants as shape
+use Rattle.viper_parse.specs.declared.parts.WordClass.{WordClass}
+use Rattle.viper_parse.specs.declared.parts.WordClass.TheVariants as class
+use Rattle.viper_parse.specs.Tests as v
+use Rattle.viper_parse.specs.Tests.{Kind, Value, Part, Test, this, a_name, a_number, one_of, a_negation, an_operator, Passes, Starts, is_type, is_constant, is_check, is_clause, is_negation, belongs, level_of}
+use Rattle.viper_parse.specs.Grammar as g
+use Rattle.viper_parse.specs.Grammar.{Symbol, Rule, give, need, when, read, rule}
+use Rattle.viper_parse.specs.Spells as plain
+use Rattle.viper_parse.specs.Spells.{Derives}
+use Rattle.viper_parse.specs.Greedy.{IsNot, Reads, given, needed, taken, passed, called}
+use Rattle.viper_parse.proofs.Codes.{code, word_code, sign_code, among, apart, within, codes, class_codes, first_codes, empty, ext_codes, tail_list, reach, sign_reach, bound, Ext}
+
+-- lists of numbers
+
+cond_map : (b p q : Bool) → (p ≡ true → q ≡ true) → cond b true p ≡ true → cond b true q ≡ true
+cond_map true p q f h = refl
+cond_map false p q f h = f h
+
+cond_or : (b q : Bool) → q ≡ true → cond b true q ≡ true
+cond_or true q h = refl
+cond_or false q h = h
+
+among_append_l : (n : ℕ) (l m : List ℕ) → among n l ≡ true → among n (l ++ m) ≡ true
+among_append_l n [] m h = cc
+among_append_l n (x ∷ l) m h = cond_map (nat_eq n x) (among n l) (among n (l ++ m)) (among_append_l n l m) h
+
+among_append_r : (n : ℕ) (l m : List ℕ) → among n m ≡ true → among n (l ++ m) ≡ true
+among_append_r n [] m h = h
+among_append_r n (x ∷ l) m h = cond_or (nat_eq n x) (among n (l ++ m)) (among_append_r n l m h)
+
+among_at : (n x : ℕ) (m : List ℕ) → nat_eq n x ≡ true → among x m ≡ true → among n m ≡ true
+among_at n x m e h = subst (λ k. among k m ≡ true) (sym (eqb-true n x e)) h
+
+within_step : (n x : ℕ) (l m : List ℕ) (b c : Bool) → nat_eq n x ≡ b → among x m ≡ c → cond c (within l m) false ≡ true → cond b true (among n l) ≡ true →
+    (within l m ≡ true → among n l ≡ true → among n m ≡ true) → among n m ≡ true
+within_step n x l m true true e f w h ih = among_at n x m e f
+within_step n x l m false true e f w h ih = ih w h
+within_step n x l m true false e f w h ih = cc
+within_step n x l m false false e f w h ih = cc
+
+within_right : (n : ℕ) (l m : List ℕ) → within l m ≡ true → among n l ≡ true → among n m ≡ true
+within_right n [] m w h = cc
+within_right n (x ∷ l) m w h = within_step n x l m (nat_eq n x) (among x m) refl refl w h (within_right n l m)
+
+apart_step : (n x : ℕ) (l m : List ℕ) (b c : Bool) → nat_eq n x ≡ b → among x m ≡ c → cond c false (apart l m) ≡ true → cond b true (among n l) ≡ true →
+    among n m ≡ true → (apart l m ≡ true → among n l ≡ true → ⊥) → ⊥
+apart_step n x l m b true e f w h i ih = cc
+apart_step n x l m true false e f w h i ih = let g : among x m ≡ true = among_at x n m (eq-eqb x n (sym (eqb-true n x e))) i in cc
+apart_step n x l m false false e f w h i ih = ih w h
+
+apart_right : (n : ℕ) (l m : List ℕ) → apart l m ≡ true → among n l ≡ true → among n m ≡ true → ⊥
+apart_right n [] m w h i = cc
+apart_right n (x ∷ l) m w h i = apart_step n x l m (nat_eq n x) (among x m) refl refl w h i (λ w' h'. apart_right n l m w' h' i)
+
+-- the tokens that pass a test are among its codes
+
+type_codes : (w : Word) → IsTrue (is_type w) → among (word_code w) (class_codes class.Type) ≡ true
+type_codes word.Int h = refl
+type_codes word.Bool h = refl
+type_codes word.Ref h = refl
+type_codes word.Perm h = refl
+type_codes _ h = cc
+
+constant_codes : (w : Word) → IsTrue (is_constant w) → among (word_code w) (class_codes class.Constant) ≡ true
+constant_codes word.True h = refl
+constant_codes word.False h = refl
+constant_codes word.Null h = refl
+constant_codes word.Write h = refl
+constant_codes word.None h = refl
+constant_codes word.Wildcard h = refl
+constant_codes _ h = cc
+
+check_codes : (w : Word) → IsTrue (is_check w) → among (word_code w) (class_codes class.Check) ≡ true
+check_codes word.Inhale h = refl
+check_codes word.Exhale h = refl
+check_codes word.Assert h = refl
+check_codes word.Assume h = refl
+check_codes _ h = cc
+
+clause_codes : (w : Word) → IsTrue (is_clause w) → among (word_code w) (class_codes class.Clause) ≡ true
+clause_codes word.Requires h = refl
+clause_codes word.Ensures h = refl
+clause_codes _ h = cc
+
+word_codes : (c : WordClass) (w : Word) → IsTrue (belongs c w) → among (word_code w) (class_codes c) ≡ true
+word_codes class.Type w h = type_codes w h
+word_codes class.Constant w h = constant_codes w h
+word_codes class.Check w h = check_codes w h
+word_codes class.Clause w h = clause_codes w h
+
+negation_codes : (o : Sign) → IsTrue (is_negation o) → among (sign_code o) (codes a_negation) ≡ true
+negation_codes sign.Not h = refl
+negation_codes sign.Minus h = refl
+negation_codes _ h = cc
+
+operator_codes : (o : Sign) (n : ℕ) → level_of o ≡ n → 1 ≤ n → among (sign_code o) (codes (an_operator n)) ≡ true
+operator_codes sign.Iff n e h = refl
+operator_codes sign.Implies n e h = refl
+operator_codes sign.Or n e h = refl
+operator_codes sign.And n e h = refl
+operator_codes sign.Equal n e h = refl
+operator_codes sign.NotEqual n e h = refl
+operator_codes sign.AtMost n e h = refl
+operator_codes sign.AtLeast n e h = refl
+operator_codes sign.Less n e h = refl
+operator_codes sign.Greater n e h = refl
+operator_codes sign.Plus n e h = refl
+operator_codes sign.Minus n e h = refl
+operator_codes sign.Star n e h = refl
+operator_codes sign.Slash n e h = refl
+operator_codes sign.Backslash n e h = refl
+operator_codes sign.Percent n e h = refl
+operator_codes _ n e h = absurd (omega arith)
+
+code_at : (k : Token) (x : Tok) (l : List ℕ) → k.tok ≡ x → among (code x) l ≡ true → among (code k.tok) l ≡ true
+code_at k x l e h = subst (λ t. among (code t) l ≡ true) (sym e) h
+
+cond_or_l : (b q : Bool) → b ≡ true → cond b true q ≡ true
+cond_or_l b q h = subst (λ z. cond z true q ≡ true) (sym h) refl
+
+passes_codes : {b : Bool} {r : Kind} (c : Test b r) (k : Token) (v : Value r) → Passes c k v → among (code k.tok) (codes c) ≡ true
+passes_codes (this x) k v p = code_at k x (code x ∷ []) p.0 (cond_or_l (nat_eq (code x) (code x)) false (eq-eqb (code x) (code x) refl))
+passes_codes a_name k v p = code_at k (tok.Name v.name) (1 ∷ []) p.0 refl
+passes_codes a_number k v p = code_at k (tok.Number v.0) (2 ∷ []) p.0 refl
+passes_codes (one_of c) k v p = code_at k (tok.Word v.0) (class_codes c) p.0 (word_codes c v.0 p.2)
+passes_codes a_negation k v p = code_at k (tok.Sign v.0) (codes a_negation) p.0 (negation_codes v.0 p.2)
+passes_codes (an_operator n) k v p = code_at k (tok.Sign v.0) (codes (an_operator n)) p.0 (operator_codes v.0 n p.2 p.3)
+
+-- with which tokens a rule begins, and what it spells where it is empty
+
+abbrev from : {A : Type 0} → Option A → (A → List ℕ) → List ℕ
+from None f = []
+from (Some y) f = f y
+
+abbrev then_ends : {A B : Type 0} → Option A → (A → Option B) → Option B
+then_ends None f = None
+then_ends (Some y) f = f y
+
+abbrev begins : {s : Kind} → Rule s → List ℕ
+begins (give x) = []
+begins (need c go) = codes c
+begins (when c go other) = codes c ++ begins other
+begins (read a go) = first_codes a ++ from (empty a) (λ y. begins (go y))
+
+abbrev ends : {s : Kind} → Rule s → Option (Value s)
+ends (give x) = Some x
+ends (need c go) = None
+ends (when c go other) = ends other
+ends (read a go) = then_ends (empty a) (λ y. ends (go y))
+
+begins_cond : {s : Kind} (b : Bool) (x y : Rule s) (l : List ℕ) → within (begins x) l ≡ true → within (begins y) l ≡ true → within (begins (cond b x y)) l ≡ true
+begins_cond true x y l h i = h
+begins_cond false x y l h i = i
+
+ends_unless : (b : Bool) (p : Part) (y : Rule v.part) → ends y ≡ Some p → ends (cond b (give p) y) ≡ Some p
+ends_unless true p y h = refl
+ends_unless false p y h = h
+
+cond_both : (b : Bool) → b ≡ true → cond (cond b true false) true false ≡ true
+cond_both true h = refl
+cond_both false h = cc
+
+self_code : (o : Sign) → within (codes (g.the_sign o) ++ []) (sign_code o ∷ []) ≡ true
+self_code o = cond_both (nat_eq (sign_code o) (sign_code o)) (eq-eqb (sign_code o) (sign_code o) refl)
+
+first_ok : {s : Kind} (a : Symbol s) → within (begins (rule a)) (first_codes a) ≡ true
+first_ok (g.Program ds) = refl
+first_ok (g.Predicate at) = refl
+first_ok (g.Method at) = refl
+first_ok g.Returns = refl
+first_ok (g.Clauses cs) = refl
+first_ok g.Body = refl
+first_ok g.Formals = refl
+first_ok (g.MoreFormals xs) = refl
+first_ok g.FormalOf = refl
+first_ok g.Block = refl
+first_ok (g.Stmts ss) = refl
+first_ok g.Stmt = refl
+first_ok (g.Variable at) = refl
+first_ok (g.AfterName x) = refl
+first_ok (g.Arm at) = refl
+first_ok (g.Arms bs) = refl
+first_ok (g.While at) = refl
+first_ok (g.Invariants is) = refl
+first_ok g.Rhs = refl
+first_ok (g.New at) = refl
+first_ok (g.Separated o xs) = self_code o
+first_ok g.Semicolons = refl
+first_ok g.InstanceOf = refl
+first_ok g.CallOf = refl
+first_ok g.Arguments = refl
+first_ok (g.MoreArguments es) = refl
+first_ok g.Amount = refl
+first_ok g.Group = refl
+first_ok g.Term = refl
+first_ok (g.Level zero) = refl
+first_ok (g.Level (suc n)) = refl
+first_ok (g.Chain n p) = begins_cond (g.is_open p.shape) _ _ (first_codes (g.Chain n p)) refl refl
+first_ok g.Unary = refl
+first_ok (g.Fields p) = refl
+first_ok g.First = refl
+
+empty_ok : {s : Kind} (a : Symbol s) → ends (rule a) ≡ empty a
+empty_ok (g.Program ds) = refl
+empty_ok (g.Predicate at) = refl
+empty_ok (g.Method at) = refl
+empty_ok g.Returns = refl
+empty_ok (g.Clauses cs) = refl
+empty_ok g.Body = refl
+empty_ok g.Formals = refl
+empty_ok (g.MoreFormals xs) = refl
+empty_ok g.FormalOf = refl
+empty_ok g.Block = refl
+empty_ok (g.Stmts ss) = refl
+empty_ok g.Stmt = refl
+empty_ok (g.Variable at) = refl
+empty_ok (g.AfterName x) = refl
+empty_ok (g.Arm at) = refl
+empty_ok (g.Arms bs) = refl
+empty_ok (g.While at) = refl
+empty_ok (g.Invariants is) = refl
+empty_ok g.Rhs = refl
+empty_ok (g.New at) = refl
+empty_ok (g.Separated o xs) = refl
+empty_ok g.Semicolons = refl
+empty_ok g.InstanceOf = refl
+empty_ok g.CallOf = refl
+empty_ok g.Arguments = refl
+empty_ok (g.MoreArguments es) = refl
+empty_ok g.Amount = refl
+empty_ok g.Group = refl
+empty_ok g.Term = refl
+empty_ok (g.Level zero) = refl
+empty_ok (g.Level (suc n)) = refl
+empty_ok (g.Chain n p) = ends_unless (g.is_open p.shape) p _ refl
+empty_ok g.Unary = refl
+empty_ok (g.Fields p) = refl
+empty_ok g.First = refl
+
+no_token : {A : Type 0} {b : Bool} {r : Kind} {c : Test b r} {ts us : List Token} {v : Value r} → Starts c ts v us → ts ≡ [] → A
+no_token q e = let x : [] ≡ q.token ∷ _ = sym e ∙ q.is in absurd (cc)
+
+ends_right : {s : Kind} {a : Rule s} {ts : List Token} {x : Value s} → Derives s a ts x → ts ≡ [] → ends a ≡ Some x
+ends_right plain.given e = refl
+ends_right (plain.needed q d) e = no_token q e
+ends_right (plain.taken q d) e = no_token q e
+ends_right (plain.passed d) e = ends_right d e
+ends_right (plain.called {a = a} {go = go} {ts = []} {us = us} {y = y} d d') e =
+    let h : empty a ≡ Some y = sym (empty_ok a) ∙ ends_right d refl in
+    ap (λ o. then_ends o (λ z. ends (go z))) h ∙ ends_right d' e
+ends_right (plain.called {ts = k ∷ ts} d d') e = absurd (cc)
+
+first_passes : {b : Bool} {r : Kind} (c : Test b r) {ts vs : List Token} (v : Value r) → Starts c ts v vs → (k : Token) (us : List Token) → ts ≡ k ∷ us → among (code k.tok) (codes c) ≡ true
+first_passes c v q k us e = let same : q.token ≡ k = cc in passes_codes c k v (subst (λ j. Passes c j v) same q.passes)
+
+begins_right : {s : Kind} {a : Rule s} {ts : List Token} {x : Value s} → Derives s a ts x → (k : Token) (us : List Token) → ts ≡ k ∷ us → among (code k.tok) (begins a) ≡ true
+begins_right plain.given k us e = absurd (cc)
+begins_right (plain.needed {c = c} {v = v} q d) k us e = first_passes c v q k us e
+begins_right (plain.taken {c = c} {other = other} {v = v} q d) k us e = among_append_l (code k.tok) (codes c) (begins other) (first_passes c v q k us e)
+begins_right (plain.passed {c = c} {other = other} d) k us e = among_append_r (code k.tok) (codes c) (begins other) (begins_right d k us e)
+begins_right (plain.called {a = a} {go = go} {ts = []} {us = us'} {y = y} d d') k us e =
+    let h : empty a ≡ Some y = sym (empty_ok a) ∙ ends_right d refl in
+    let i : among (code k.tok) (from (empty a) (λ z. begins (go z))) ≡ true =
+    subst (λ o. among (code k.tok) (from o (λ z. begins (go z))) ≡ true) (sym h) (begins_right d' k us e) in
+    among_append_r (code k.tok) (first_codes a) (from (empty a) (λ z. begins (go z))) i
+begins_right (plain.called {a = a} {go = go} {ts = k' ∷ ts} d d') k us e =
+    let same : k' ≡ k = cc in
+    let h : among (code k'.tok) (first_codes a) ≡ true = within_right (code k'.tok) (begins (rule a)) (first_codes a) (first_ok a) (begins_right d k' ts refl) in
+    among_append_l (code k.tok) (first_codes a) (from (empty a) (λ z. begins (go z))) (subst (λ j. among (code j.tok) (first_codes a) ≡ true) same h)
+
+-- the rule tells by the next token how to read on, where E are the tokens that could go on with what it spells
+
+record Apart {b : Bool} {r s : Kind} (c : Test b r) (other : Rule s) : Type 0 where
+  none : (k : Token) (us : List Token) (v : Value r) (x : Value s) → Passes c k v → Derives s other (k ∷ us) x → ⊥
+
+record AtEnd {b : Bool} {r s : Kind} (E : Value s → Token → Type 0) (c : Test b r) (other : Rule s) : Type 0 where
+  ext : (k : Token) (v : Value r) (x : Value s) → Passes c k v → Derives s other [] x → E x k
+
+record Follows {r s : Kind} (a : Symbol r) (go : Value r → Rule s) : Type 0 where
+  none : (y : Value r) (k : Token) (us : List Token) (x : Value s) → Derives s (go y) (k ∷ us) x → Ext a y k → ⊥
+
+record EndsAs {r s : Kind} (E : Value s → Token → Type 0) (a : Symbol r) (go : Value r → Rule s) : Type 0 where
+  ext : (y : Value r) (x : Value s) (k : Token) → Derives s (go y) [] x → Ext a y k → E x k
+
+data Good (s : Kind) (E : Value s → Token → Type 0) : Rule s → Type 0 where
+  good_give : {x : Value s} → Good s E (give x)
+  good_need : {r : Kind} {c : Test true r} {go : Value r → Rule s} → ((v : Value r) → Good s E (go v)) → Good s E (need c go)
+  good_when : {b : Bool} {r : Kind} {c : Test b r} {go : Value r → Rule s} {other : Rule s} →
+      Apart c other → AtEnd E c other → ((v : Value r) → Good s E (go v)) → Good s E other → Good s E (when c go other)
+  good_read : {r : Kind} {a : Symbol r} {go : Value r → Rule s} → Follows a go → EndsAs E a go → ((y : Value r) → Good s E (go y)) → Good s E (read a go)
+
+-- where the tokens that could go on are listed
+
+abbrev Listed : (s : Kind) → (Value s → List ℕ) → Value s → Token → Type 0
+Listed s l x k = among (code k.tok) (l x) ≡ true
+
+abbrev end_ok : {A : Type 0} → Option A → List ℕ → (A → List ℕ) → Bool
+end_ok None m l = true
+end_ok (Some x) m l = within m (l x)
+
+data Tells (s : Kind) (l : Value s → List ℕ) : Rule s → Type 0 where
+  te : {x : Value s} → Tells s l (give x)
+  tn : {r : Kind} {c : Test true r} {go : Value r → Rule s} → ((v : Value r) → Tells s l (go v)) → Tells s l (need c go)
+  tw : {b : Bool} {r : Kind} {c : Test b r} {go : Value r → Rule s} {other : Rule s} →
+      cond (apart (codes c) (begins other)) (end_ok (ends other) (codes c) l) false ≡ true → ((v : Value r) → Tells s l (go v)) → Tells s l other → Tells s l (when c go other)
+  tr : {r : Kind} {a : Symbol r} {go : Value r → Rule s} →
+      ((y : Value r) (k : Token) → Ext a y k → among (code k.tok) (ext_codes a y) ≡ true) →
+      ((y : Value r) → cond (apart (begins (go y)) (ext_codes a y)) (end_ok (ends (go y)) (ext_codes a y) l) false ≡ true) →
+      ((y : Value r) → Tells s l (go y)) → Tells s l (read a go)
+
+end_right : {A : Type 0} (o : Option A) (m : List ℕ) (l : A → List ℕ) (x : A) (n : ℕ) → end_ok o m l ≡ true → o ≡ Some x → among n m ≡ true → among n (l x) ≡ true
+end_right o m l x n h e i = within_right n m (l x) (subst (λ z. end_ok z m l ≡ true) e h) i
+
+both : (b c : Bool) → cond b c false ≡ true → (b ≡ true) × (c ≡ true)
+both true c h = (refl, h)
+both false c h = cc
+
+tells_good : {s : Kind} (l : Value s → List ℕ) {a : Rule s} → Tells s l a → Good s (Listed s l) a
+tells_good l te = good_give
+tells_good l (tn f) = good_need (λ v. tells_good l (f v))
+tells_good l (tw {c = c} {other = other} h f g) =
+    let e = both (apart (codes c) (begins other)) (end_ok (ends other) (codes c) l) h in
+    good_when
+    (record { none = λ k us v x q d. apart_right (code k.tok) (codes c) (begins other) e.0 (passes_codes c k v q) (begins_right d k us refl) })
+    (record { ext = λ k v x q d. end_right (ends other) (codes c) l x (code k.tok) e.1 (ends_right d refl) (passes_codes c k v q) })
+    (λ v. tells_good l (f v)) (tells_good l g)
+tells_good l (tr {a = a} {go = go} e h f) = good_read
+    (record {
+      none = λ y k us x d i. apart_right (code k.tok) (begins (go y)) (ext_codes a y)
+          (both (apart (begins (go y)) (ext_codes a y)) (end_ok (ends (go y)) (ext_codes a y) l) (h y)).0 (begins_right d k us refl) (e y k i);
+    })
+    (record {
+      ext = λ y x k d i. end_right (ends (go y)) (ext_codes a y) l x (code k.tok)
+          (both (apart (begins (go y)) (ext_codes a y)) (end_ok (ends (go y)) (ext_codes a y) l) (h y)).1 (ends_right d refl) (e y k i);
+    })
+    (λ y. tells_good l (f y))
+
+-- terms by level: what a token goes on with is looser than the term, or the term ends with an `unfolding`
+
+le_then : (a b c : ℕ) → a ≤ b → b ≤ c → a ≤ c
+le_then a b c h i = omega arith
+
+eq_le : (t n b : ℕ) → t ≡ n → b ≡ n → t ≤ b
+eq_le t n b e f = omega arith
+
+not_below : (n m t b : ℕ) → t ≡ n → b ≡ m → t ≤ b → m < n → ⊥
+not_below n m t b e f h i = omega arith
+
+bound_is : (n : ℕ) (b : Bool) → false ≡ b → cond b 9 n ≡ n
+bound_is n true e = cc
+bound_is n false e = refl
+
+bound_more : (m n : ℕ) (b : Bool) → m ≤ n → cond b 9 m ≤ cond b 9 n
+bound_more m n true h = omega arith
+bound_more m n false h = h
+
+given_empty : {s : Kind} {x y : Value s} {k : Token} {us ts : List Token} → Derives s (give x) ts y → ts ≡ k ∷ us → ⊥
+given_empty plain.given e = cc
+
+no_give : {s : Kind} {x y : Value s} {k : Token} {us : List Token} → Derives s (give x) (k ∷ us) y → ⊥
+no_give d = given_empty d refl
+
+give_is : {s : Kind} {x y : Value s} {ts : List Token} → Derives s (give x) ts y → y ≡ x
+give_is plain.given = refl
+
+given_after : {s : Kind} (a : Symbol s) {ts us : List Token} {x y : Value s} → Derives s (rule a) ts y → Derives s (give y) us x → Derives s (rule a) (ts ++ us) x
+given_after {s = s} a {ts = ts} {x = x} d plain.given = subst (λ l. Derives s (rule a) l x) (sym (append-nil ts)) d
+
+read_give : {s : Kind} {a : Symbol s} {ts : List Token} {x : Value s} → Derives s (read a give) ts x → Derives s (rule a) ts x
+read_give (plain.called {a = a} d d') = given_after a d d'
+
+-- which operators go on with a chain
+op_reach : (o : Sign) (n : ℕ) → level_of o ≡ n → 1 ≤ n → sign_reach o ≡ n
+op_reach sign.Iff n e h = e
+op_reach sign.Implies n e h = e
+op_reach sign.Or n e h = e
+op_reach sign.And n e h = e
+op_reach sign.Equal n e h = e
+op_reach sign.NotEqual n e h = e
+op_reach sign.AtMost n e h = e
+op_reach sign.AtLeast n e h = e
+op_reach sign.Less n e h = e
+op_reach sign.Greater n e h = e
+op_reach sign.Plus n e h = e
+op_reach sign.Minus n e h = e
+op_reach sign.Star n e h = e
+op_reach sign.Slash n e h = e
+op_reach sign.Backslash n e h = e
+op_reach sign.Percent n e h = e
+op_reach _ n e h = absurd (omega arith)
+
+pass_reach : (n : ℕ) (k : Token) (o : Value v.a_sign) → Passes (an_operator n) k o → reach k.tok ≡ n
+pass_reach n k o q = ap reach q.0 ∙ op_reach o.0 n q.2 q.3
+
+chain_begins_at : (n : ℕ) (p : Part) (b : Bool) (further : Value v.a_sign → Rule v.part) {ts : List Token} {x : Part} →
+    Derives v.part (cond b (give p) (when (an_operator n) further (give p))) ts x → (k : Token) (us : List Token) → ts ≡ k ∷ us → (false ≡ b) × (reach k.tok ≡ n) × (1 ≤ n)
+chain_begins_at n p true _ d k us e = absurd (given_empty d e)
+chain_begins_at n p false _ (plain.taken {v = o} q d) k us e =
+    let same : q.token ≡ k = cc in
+    (refl, pass_reach n k o (subst (λ j. Passes (an_operator n) j o) same q.passes), q.passes.3)
+chain_begins_at n p false _ (plain.passed d) k us e = absurd (given_empty d e)
+
+chain_begins : (n : ℕ) (p : Part) {x : Part} (k : Token) (us : List Token) → Derives v.part (rule (g.Chain n p)) (k ∷ us) x → (false ≡ g.is_open p.shape) × (reach k.tok ≡ n) × (1 ≤ n)
+chain_begins n p k us d = chain_begins_at n p (g.is_open p.shape) _ d k us refl
+
+chain_ends : (n : ℕ) (p : Part) (x : Part) → Derives v.part (rule (g.Chain n p)) [] x → x ≡ p
+chain_ends n p x d =
+    let h : Some p ≡ Some x = sym (empty_ok (g.Chain n p)) ∙ ends_right d refl in
+    cc
+
+word_tail : (w : Word) → among (word_code w) (58 ∷ 50 ∷ tail_list) ≡ true → ⊥
+word_tail word.Field h = cc
+word_tail _ h = cc
+
+sign_tail : (o : Sign) → among (sign_code o) (58 ∷ 50 ∷ tail_list) ≡ true → sign_reach o ≤ 9
+sign_tail sign.Question h = omega arith
+sign_tail sign.Dot h = omega arith
+sign_tail sign.OpenParen h = omega arith
+sign_tail sign.Iff h = omega arith
+sign_tail sign.Implies h = omega arith
+sign_tail sign.Or h = omega arith
+sign_tail sign.And h = omega arith
+sign_tail sign.Equal h = omega arith
+sign_tail sign.NotEqual h = omega arith
+sign_tail sign.AtMost h = omega arith
+sign_tail sign.AtLeast h = omega arith
+sign_tail sign.Less h = omega arith
+sign_tail sign.Greater h = omega arith
+sign_tail sign.Plus h = omega arith
+sign_tail sign.Minus h = omega arith
+sign_tail sign.Star h = omega arith
+sign_tail sign.Slash h = omega arith
+sign_tail sign.Backslash h = omega arith
+sign_tail sign.Percent h = omega arith
+sign_tail _ h = cc
+
+reach_tail : (t : Tok) → among (code t) (58 ∷ 50 ∷ tail_list) ≡ true → reach t ≤ 9
+reach_tail (tok.Name x) h = cc
+reach_tail (tok.Number n) h = cc
+reach_tail (tok.Word w) h = absurd (word_tail w h)
+reach_tail (tok.Sign o) h = sign_tail o h
+
+word_dot : (w : Word) → among (word_code w) (58 ∷ 50 ∷ []) ≡ true → ⊥
+word_dot word.Field h = cc
+word_dot _ h = cc
+
+sign_dot : (o : Sign) → among (sign_code o) (58 ∷ 50 ∷ []) ≡ true → sign_reach o ≤ 0
+sign_dot sign.Dot h = omega arith
+sign_dot sign.OpenParen h = omega arith
+sign_dot _ h = cc
+
+reach_dot : (t : Tok) → among (code t) (58 ∷ 50 ∷ []) ≡ true → reach t ≤ 0
+reach_dot (tok.Name x) h = cc
+reach_dot (tok.Number n) h = cc
+reach_dot (tok.Word w) h = absurd (word_dot w h)
+reach_dot (tok.Sign o) h = sign_dot o h
+
+unary_reach_at : (b : Bool) (t : Tok) → among (code t) (58 ∷ 50 ∷ cond b tail_list []) ≡ true → reach t ≤ cond b 9 0
+unary_reach_at true t h = reach_tail t h
+unary_reach_at false t h = reach_dot t h
+
+unary_reach : (p : Part) (t : Tok) → among (code t) (ext_codes g.Unary p) ≡ true → reach t ≤ bound 0 p
+unary_reach p t h = unary_reach_at (g.is_open p.shape) t h
+
+tail_sign : (o : Sign) → sign_reach o ≤ 9 → among (sign_code o) tail_list ≡ true
+tail_sign sign.Question h = refl
+tail_sign sign.Dot h = refl
+tail_sign sign.OpenParen h = refl
+tail_sign sign.Iff h = refl
+tail_sign sign.Implies h = refl
+tail_sign sign.Or h = refl
+tail_sign sign.And h = refl
+tail_sign sign.Equal h = refl
+tail_sign sign.NotEqual h = refl
+tail_sign sign.AtMost h = refl
+tail_sign sign.AtLeast h = refl
+tail_sign sign.Less h = refl
+tail_sign sign.Greater h = refl
+tail_sign sign.Plus h = refl
+tail_sign sign.Minus h = refl
+tail_sign sign.Star h = refl
+tail_sign sign.Slash h = refl
+tail_sign sign.Backslash h = refl
+tail_sign sign.Percent h = refl
+tail_sign _ h = absurd (omega arith)
+
+tail_reach : (t : Tok) → reach t ≤ 9 → among (code t) tail_list ≡ true
+tail_reach (tok.Sign o) h = tail_sign o h
+tail_reach (tok.Name x) h = absurd (omega arith)
+tail_reach (tok.Number n) h = absurd (omega arith)
+tail_reach (tok.Word w) h = absurd (omega arith)
+
+good_level : (n : ℕ) → Good v.part (Ext (g.Level n)) (rule (g.Level n))
+good_level zero = good_read
+    (record { none = λ y k us x d e. no_give d })
+    (record { ext = λ y x k d e. subst (λ z. reach k.tok ≤ bound 0 z) (sym (give_is d)) (unary_reach y k.tok e) })
+    (λ y. good_give)
+good_level (suc n) = good_read
+    (record {
+      none = λ y k us x d e.
+          let c = chain_begins (suc n) y k us (read_give d) in
+          let b : cond (g.is_open y.shape) 9 n ≡ n = bound_is n (g.is_open y.shape) c.0 in
+          not_below (suc n) n (reach k.tok) (cond (g.is_open y.shape) 9 n) c.1 b e (omega arith);
+    })
+    (record {
+      ext = λ y x k d e.
+          let is : x ≡ y = chain_ends (suc n) y x (read_give d) in
+          let more : cond (g.is_open y.shape) 9 n ≤ cond (g.is_open y.shape) 9 (suc n) = bound_more n (suc n) (g.is_open y.shape) (omega arith) in
+          subst (λ z. reach k.tok ≤ bound (suc n) z) (sym is) (le_then _ _ _ e more);
+    })
+    (λ y. good_read
+    (record { none = λ z k us x d e. no_give d })
+    (record { ext = λ z x k d e. subst (λ u. reach k.tok ≤ bound (suc n) u) (sym (give_is d)) e })
+    (λ z. good_give))
+
+ending_open : (h : Shape) → g.is_open (g.ending h) ≡ g.is_open h
+ending_open shape.Call = refl
+ending_open shape.Open = refl
+ending_open shape.Plain = refl
+
+-- the right side of an operator, and what may follow it
+next_begins : (n : ℕ) (q : Part) (b : Bool) → {x : Part} (k : Token) (us : List Token) →
+    Derives v.part (if b then read (g.Chain n q) give else give q) (k ∷ us) x → (true ≡ b) × (false ≡ g.is_open q.shape) × (reach k.tok ≡ n) × (1 ≤ n)
+next_begins n q true k us d = let c = chain_begins n q k us (read_give d) in (refl, c.0, c.1, c.2)
+next_begins n q false k us d = absurd (no_give d)
+
+next_ends : (n : ℕ) (q : Part) (b : Bool) (x : Part) → Derives v.part (if b then read (g.Chain n q) give else give q) [] x → x ≡ q
+next_ends n q true x d = chain_ends n q x (read_give d)
+next_ends n q false x d = give_is d
+
+below_repeats : (n : ℕ) → 1 ≤ n → true ≡ g.repeats n → g.right_level n < n
+below_repeats n h e = grind (arith, nat_tests)
+
+at_most : (n : ℕ) → g.right_level n ≤ n
+at_most n = grind (arith, nat_tests)
+
+good_next : (n : ℕ) (b : Bool) (q : Part) (E : Part → Token → Type 0) → ((z : Part) (k : Token) → reach k.tok ≤ bound n z → E z k) →
+    Good v.part E (if b then read (g.Chain n q) give else give q)
+good_next n true q E h = good_read
+    (record { none = λ z k us x d e. no_give d })
+    (record { ext = λ z x k d e. subst (λ u. E u k) (sym (give_is d)) (h z k e) })
+    (λ z. good_give)
+good_next n false q E h = good_give
+
+right_follows : (n : ℕ) (p : Part) (o : Value v.a_sign) (q : Part) (k : Token) (us : List Token) (x : Part) →
+    Derives v.part (if g.repeats n then read (g.Chain n (g.binary p o q)) give else give (g.binary p o q)) (k ∷ us) x → reach k.tok ≤ bound (g.right_level n) q → ⊥
+right_follows n p o q k us x d e =
+    let c = next_begins n (g.binary p o q) (g.repeats n) k us d in
+    let b : cond (g.is_open q.shape) 9 (g.right_level n) ≡ g.right_level n = bound_is (g.right_level n) (g.is_open q.shape) (c.1 ∙ ending_open q.shape) in
+    let low : g.right_level n < n = below_repeats n c.3 c.0 in
+    not_below n (g.right_level n) (reach k.tok) (cond (g.is_open q.shape) 9 (g.right_level n)) c.2 b e low
+
+right_ends : (n : ℕ) (p : Part) (o : Value v.a_sign) (q : Part) (x : Part) (k : Token) →
+    Derives v.part (if g.repeats n then read (g.Chain n (g.binary p o q)) give else give (g.binary p o q)) [] x → reach k.tok ≤ bound (g.right_level n) q → reach k.tok ≤ bound n x
+right_ends n p o q x k d e =
+    let is : x ≡ g.binary p o q = next_ends n (g.binary p o q) (g.repeats n) x d in
+    let more : cond (g.is_open q.shape) 9 (g.right_level n) ≤ cond (g.is_open q.shape) 9 n = bound_more (g.right_level n) n (g.is_open q.shape) (at_most n) in
+    let low : reach k.tok ≤ cond (g.is_open q.shape) 9 n = le_then _ _ _ e more in
+    let same : reach k.tok ≤ cond (g.is_open (g.ending q.shape)) 9 n = subst (λ b. reach k.tok ≤ cond b 9 n) (sym (ending_open q.shape)) low in
+    subst (λ z. reach k.tok ≤ bound n z) (sym is) same
+
+good_chain_at : (n : ℕ) (p : Part) (b : Bool) → b ≡ g.is_open p.shape → Good v.part (Ext (g.Chain n p)) (cond b (give p) (when (an_operator n) (λ o. read (g.Level (g.right_level n)) (λ q.
+    if g.repeats n then read (g.Chain n (g.binary p o q)) give else give (g.binary p o q))) (give p)))
+good_chain_at n p true eq = good_give
+good_chain_at n p false eq = good_when
+    (record { none = λ k us o x q d. no_give d })
+    (record {
+      ext = λ k o x q d.
+          let c : reach k.tok ≡ n = pass_reach n k o q in
+          let b : cond (g.is_open p.shape) 9 n ≡ n = bound_is n (g.is_open p.shape) eq in
+          subst (λ z. reach k.tok ≤ bound n z) (sym (give_is d)) (eq_le _ _ _ c b);
+    })
+    (λ o. good_read
+    (record { none = λ q k us x d e. right_follows n p o q k us x d e })
+    (record { ext = λ q x k d e. right_ends n p o q x k d e })
+    (λ q. good_next n (g.repeats n) (g.binary p o q) (Ext (g.Chain n p)) (λ z k e. e)))
+    good_give
+
+good_chain : (n : ℕ) (p : Part) → Good v.part (Ext (g.Chain n p)) (rule (g.Chain n p))
+good_chain n p = good_chain_at n p (g.is_open p.shape) refl
+
+-- the term of a choice
+choice_begins : (p : Part) (b : Bool) (further : Pos → Rule v.part) {ts : List Token} {x : Part} →
+    Derives v.part (cond b (give p) (when (g.the_sign sign.Question) further (give p))) ts x → (k : Token) (us : List Token) → ts ≡ k ∷ us → (false ≡ b) × (reach k.tok ≡ 9)
+choice_begins p true _ d k us e = absurd (given_empty d e)
+choice_begins p false _ (plain.taken q d) k us e = let same : q.token ≡ k = cc in (refl, subst (λ j. reach j.tok ≡ 9) same (ap reach q.passes.0))
+choice_begins p false _ (plain.passed d) k us e = absurd (given_empty d e)
+
+good_cond : {s : Kind} (E : Value s → Token → Type 0) (b : Bool) {x y : Rule s} → Good s E x → Good s E y → Good s E (cond b x y)
+good_cond E true h i = h
+good_cond E false h i = i
+
+bound_top : (b : Bool) → cond b 9 8 ≤ 9
+bound_top true = omega arith
+bound_top false = omega arith
+
+good_term : Good v.part (Ext g.Term) (rule g.Term)
+good_term = good_read
+    (record {
+      none = λ y k us x d e.
+          let c = choice_begins y (g.is_open y.shape) _ d k us refl in
+          not_below 9 8 (reach k.tok) (cond (g.is_open y.shape) 9 8) c.1 (bound_is 8 (g.is_open y.shape) c.0) e (omega arith);
+    })
+    (record { ext = λ y x k d e. tail_reach k.tok (le_then _ _ _ e (bound_top (g.is_open y.shape))) })
+    (λ y. good_cond (Ext g.Term) (g.is_open y.shape) good_give (tells_good (ext_codes g.Term)
+    (tw refl (λ at. tr (λ z k h. h) (λ z. refl) (λ z. tn (λ _. tr (λ u k h. h) (λ u. refl) (λ u. te)))) te)))
+
+-- every symbol
+within_unary : (b e : Bool) → e ≡ b → cond (apart [] (58 ∷ 50 ∷ cond b tail_list [])) (within (58 ∷ 50 ∷ cond b tail_list []) (58 ∷ 50 ∷ cond e tail_list [])) false ≡ true
+within_unary true e h = subst (λ z. within (58 ∷ 50 ∷ tail_list) (58 ∷ 50 ∷ cond z tail_list []) ≡ true) (sym h) refl
+within_unary false e h = subst (λ z. within (58 ∷ 50 ∷ []) (58 ∷ 50 ∷ cond z tail_list []) ≡ true) (sym h) refl
+
+separated_ok : (b : Bool) → b ≡ true → cond (cond b true false) true false ≡ true
+separated_ok true h = refl
+separated_ok false h = cc
+
+separated_more : (b : Bool) → b ≡ true → cond (cond b true false) true false ≡ true
+separated_more b h = separated_ok b h
+
+tells_Program : (ds : List d.Decl) → Tells _ (ext_codes (g.Program ds)) (rule (g.Program ds))
+tells_Program ds = tw refl (λ at. tr (λ z k h. h) (λ z. refl) (λ x. tr (λ z k h. h) (λ z. refl) (λ _. tr (λ z k h. h) (λ z. refl) (λ z. te)))) (tw refl (λ at. tr (λ z k h. h) (λ z. refl) (λ x. tr (λ z k h. h) (λ z. refl) (λ z. te))) (tw refl (λ at. tr (λ z k h. h) (λ z. refl) (λ x. tr (λ z k h. h) (λ z. refl) (λ z. te))) te))
+
+tells_Predicate : (at : Pos) → Tells _ (ext_codes (g.Predicate at)) (rule (g.Predicate at))
+tells_Predicate at = tn (λ x. tn (λ _. tr (λ z k h. h) (λ z. refl) (λ xs. tw refl (λ _. tr (λ z k h. h) (λ z. refl) (λ u. tn (λ _. te))) te)))
+
+tells_Method : (at : Pos) → Tells _ (ext_codes (g.Method at)) (rule (g.Method at))
+tells_Method at = tn (λ x. tn (λ _. tr (λ z k h. h) (λ z. refl) (λ xs. tr (λ z k h. h) (λ z. refl) (λ ys. tr (λ z k h. h) (λ z. refl) (λ cs. tr (λ z k h. h) (λ z. refl) (λ b. te))))))
+
+tells_Returns : Tells _ (ext_codes g.Returns) (rule g.Returns)
+tells_Returns = tw refl (λ _. tn (λ _. tr (λ z k h. h) (λ z. refl) (λ z. te))) te
+
+tells_Clauses : (cs : List d.SClause) → Tells _ (ext_codes (g.Clauses cs)) (rule (g.Clauses cs))
+tells_Clauses cs = tw refl (λ x. tr (λ z k h. h) (λ z. refl) (λ u. tr (λ z k h. h) (λ z. refl) (λ _. tr (λ z k h. h) (λ z. refl) (λ z. te)))) te
+
+tells_Body : Tells _ (ext_codes g.Body) (rule g.Body)
+tells_Body = tw refl (λ at. tr (λ z k h. h) (λ z. refl) (λ z. te)) te
+
+tells_Formals : Tells _ (ext_codes g.Formals) (rule g.Formals)
+tells_Formals = tw refl (λ _. te) (tr (λ z k h. h) (λ z. refl) (λ x. tr (λ z k h. h) (λ z. refl) (λ z. te)))
+
+tells_MoreFormals : (xs : List Formal) → Tells _ (ext_codes (g.MoreFormals xs)) (rule (g.MoreFormals xs))
+tells_MoreFormals xs = tw refl (λ _. tr (λ z k h. h) (λ z. refl) (λ x. tr (λ z k h. h) (λ z. refl) (λ z. te))) (tn (λ _. te))
+
+tells_FormalOf : Tells _ (ext_codes g.FormalOf) (rule g.FormalOf)
+tells_FormalOf = tn (λ x. tn (λ _. tn (λ z. te)))
+
+tells_Block : Tells _ (ext_codes g.Block) (rule g.Block)
+tells_Block = tn (λ at. tr (λ z k h. h) (λ z. refl) (λ z. te))
+
+tells_Stmts : (ss : List s.SStmt) → Tells _ (ext_codes (g.Stmts ss)) (rule (g.Stmts ss))
+tells_Stmts ss = tw refl (λ _. te) (tr (λ z k h. h) (λ z. refl) (λ a. tr (λ z k h. h) (λ z. refl) (λ _. tr (λ z k h. h) (λ z. refl) (λ z. te))))
+
+tells_Stmt : Tells _ (ext_codes g.Stmt) (rule g.Stmt)
+tells_Stmt = tw refl (λ at. tr (λ z k h. h) (λ z. refl) (λ z. te)) (tw refl (λ x. tr (λ z k h. h) (λ z. refl) (λ u. te)) (tw refl (λ at. tr (λ z k h. h) (λ z. refl) (λ i. te)) (tw refl (λ at. tr (λ z k h. h) (λ z. refl) (λ i. te)) (tw refl (λ at. tr (λ z k h. h) (λ z. refl) (λ a. tr (λ z k h. h) (λ z. refl) (λ z. te))) (tw refl (λ at. tr (λ z k h. h) (λ z. refl) (λ z. te)) (tn (λ x. tr (λ z k h. h) (λ z. refl) (λ z. te))))))))
+
+tells_Variable : (at : Pos) → Tells _ (ext_codes (g.Variable at)) (rule (g.Variable at))
+tells_Variable at = tr (λ z k h. h) (λ z. refl) (λ x. tw refl (λ _. tr (λ z k h. h) (λ z. refl) (λ z. te)) te)
+
+tells_AfterName : (x : Named) → Tells _ (ext_codes (g.AfterName x)) (rule (g.AfterName x))
+tells_AfterName x = tw refl (λ _. tr (λ z k h. h) (λ z. refl) (λ z. te)) (tw refl (λ _. tn (λ y. tr (λ z k h. h) (λ z. refl) (λ xs. tn (λ _. tr (λ z k h. h) (λ z. refl) (λ z. te))))) (tr (λ z k h. h) (λ z. refl) (λ xs. tn (λ _. tr (λ z k h. h) (λ z. refl) (λ z. te)))))
+
+tells_Arm : (at : Pos) → Tells _ (ext_codes (g.Arm at)) (rule (g.Arm at))
+tells_Arm at = tr (λ z k h. h) (λ z. refl) (λ u. tr (λ z k h. h) (λ z. refl) (λ z. te))
+
+tells_Arms : (bs : List s.SArm) → Tells _ (ext_codes (g.Arms bs)) (rule (g.Arms bs))
+tells_Arms bs = tw refl (λ at. tr (λ z k h. h) (λ z. refl) (λ a. tr (λ z k h. h) (λ z. refl) (λ z. te))) (tw refl (λ _. tr (λ z k h. h) (λ z. refl) (λ z. te)) te)
+
+tells_While : (at : Pos) → Tells _ (ext_codes (g.While at)) (rule (g.While at))
+tells_While at = tr (λ z k h. h) (λ z. refl) (λ u. tr (λ z k h. h) (λ z. refl) (λ is. tr (λ z k h. h) (λ z. refl) (λ z. te)))
+
+tells_Invariants : (is : List Term) → Tells _ (ext_codes (g.Invariants is)) (rule (g.Invariants is))
+tells_Invariants is = tw refl (λ _. tr (λ z k h. h) (λ z. refl) (λ u. tr (λ z k h. h) (λ z. refl) (λ _. tr (λ z k h. h) (λ z. refl) (λ z. te)))) te
+
+tells_Rhs : Tells _ (ext_codes g.Rhs) (rule g.Rhs)
+tells_Rhs = tw refl (λ at. tr (λ z k h. h) (λ z. refl) (λ z. te)) (tr (λ z k h. h) (λ z. refl) (λ z. te))
+
+tells_New : (at : Pos) → Tells _ (ext_codes (g.New at)) (rule (g.New at))
+tells_New at = tn (λ _. tw refl (λ _. te) (tw refl (λ _. tn (λ _. te)) (tn (λ x. tr (λ z k h. h) (λ z. refl) (λ xs. tn (λ _. te))))))
+
+tells_Semicolons : Tells _ (ext_codes g.Semicolons) (rule g.Semicolons)
+tells_Semicolons = tw refl (λ _. tr (λ z k h. h) (λ z. refl) (λ z. te)) te
+
+tells_InstanceOf : Tells _ (ext_codes g.InstanceOf) (rule g.InstanceOf)
+tells_InstanceOf = tw refl (λ _. tn (λ _. tr (λ z k h. h) (λ z. refl) (λ x. tr (λ z k h. h) (λ z. refl) (λ z. te)))) (tr (λ z k h. h) (λ z. refl) (λ z. te))
+
+tells_CallOf : Tells _ (ext_codes g.CallOf) (rule g.CallOf)
+tells_CallOf = tn (λ x. tn (λ _. tr (λ z k h. h) (λ z. refl) (λ z. te)))
+
+tells_Arguments : Tells _ (ext_codes g.Arguments) (rule g.Arguments)
+tells_Arguments = tw refl (λ _. te) (tr (λ z k h. h) (λ z. refl) (λ u. tr (λ z k h. h) (λ z. refl) (λ z. te)))
+
+tells_MoreArguments : (es : List Term) → Tells _ (ext_codes (g.MoreArguments es)) (rule (g.MoreArguments es))
+tells_MoreArguments es = tw refl (λ _. tr (λ z k h. h) (λ z. refl) (λ u. tr (λ z k h. h) (λ z. refl) (λ z. te))) (tn (λ _. te))
+
+tells_Amount : Tells _ (ext_codes g.Amount) (rule g.Amount)
+tells_Amount = tw refl (λ _. tr (λ z k h. h) (λ z. refl) (λ u. tn (λ _. te))) (tn (λ _. te))
+
+tells_Group : Tells _ (ext_codes g.Group) (rule g.Group)
+tells_Group = tn (λ _. tr (λ z k h. h) (λ z. refl) (λ u. tn (λ _. te)))
+
+tells_Fields : (p : Part) → Tells _ (ext_codes (g.Fields p)) (rule (g.Fields p))
+tells_Fields p = tw refl (λ _. tn (λ x. tr (λ z k h. h) (λ z. refl) (λ z. te))) te
+
+tells_First : Tells _ (ext_codes g.First) (rule g.First)
+tells_First = tw refl (λ x. tw refl (λ _. tr (λ z k h. h) (λ z. refl) (λ z. te)) te) (tw refl (λ z. te) (tw refl (λ z. te) (tw refl (λ at. tr (λ z k h. h) (λ z. refl) (λ u. te)) (tw refl (λ at. tn (λ _. tr (λ z k h. h) (λ z. refl) (λ u. tr (λ z k h. h) (λ z. refl) (λ z. te)))) (tr (λ z k h. h) (λ z. refl) (λ z. te))))))
+
+tells_Unary : Tells _ (ext_codes g.Unary) (rule g.Unary)
+tells_Unary = tw refl (λ o. tr (λ z k h. h) (λ z. within_unary (g.is_open z.shape) (g.is_open (g.ending z.shape)) (ending_open z.shape)) (λ u. te)) (tw refl (λ at. tr (λ z k h. h) (λ z. refl) (λ i. tn (λ _. tr (λ z k h. h) (λ z. refl) (λ u. te)))) (tr (λ z k h. h) (λ z. refl) (λ u. tr (λ z k h. h) (λ z. refl) (λ z. te))))
+
+tells_Separated : (o : Sign) (xs : List Named) → Tells _ (ext_codes (g.Separated o xs)) (rule (g.Separated o xs))
+tells_Separated o xs = tw (separated_ok (nat_eq (sign_code o) (sign_code o)) (eq-eqb (sign_code o) (sign_code o) refl)) (λ _. tn (λ x. tr (λ z k h. h) (λ z. separated_more (nat_eq (sign_code o) (sign_code o)) (eq-eqb (sign_code o) (sign_code o) refl)) (λ z. te))) te
+
+good : {s : Kind} (a : Symbol s) → Good s (Ext a) (rule a)
+good (g.Program ds) = tells_good (ext_codes (g.Program ds)) (tells_Program ds)
+good (g.Predicate at) = tells_good (ext_codes (g.Predicate at)) (tells_Predicate at)
+good (g.Method at) = tells_good (ext_codes (g.Method at)) (tells_Method at)
+good g.Returns = tells_good (ext_codes g.Returns) (tells_Returns)
+good (g.Clauses cs) = tells_good (ext_codes (g.Clauses cs)) (tells_Clauses cs)
+good g.Body = tells_good (ext_codes g.Body) (tells_Body)
+good g.Formals = tells_good (ext_codes g.Formals) (tells_Formals)
+good (g.MoreFormals xs) = tells_good (ext_codes (g.MoreFormals xs)) (tells_MoreFormals xs)
+good g.FormalOf = tells_good (ext_codes g.FormalOf) (tells_FormalOf)
+good g.Block = tells_good (ext_codes g.Block) (tells_Block)
+good (g.Stmts ss) = tells_good (ext_codes (g.Stmts ss)) (tells_Stmts ss)
+good g.Stmt = tells_good (ext_codes g.Stmt) (tells_Stmt)
+good (g.Variable at) = tells_good (ext_codes (g.Variable at)) (tells_Variable at)
+good (g.AfterName x) = tells_good (ext_codes (g.AfterName x)) (tells_AfterName x)
+good (g.Arm at) = tells_good (ext_codes (g.Arm at)) (tells_Arm at)
+good (g.Arms bs) = tells_good (ext_codes (g.Arms bs)) (tells_Arms bs)
+good (g.While at) = tells_good (ext_codes (g.While at)) (tells_While at)
+good (g.Invariants is) = tells_good (ext_codes (g.Invariants is)) (tells_Invariants is)
+good g.Rhs = tells_good (ext_codes g.Rhs) (tells_Rhs)
+good (g.New at) = tells_good (ext_codes (g.New at)) (tells_New at)
+good (g.Separated o xs) = tells_good (ext_codes (g.Separated o xs)) (tells_Separated o xs)
+good g.Semicolons = tells_good (ext_codes g.Semicolons) (tells_Semicolons)
+good g.InstanceOf = tells_good (ext_codes g.InstanceOf) (tells_InstanceOf)
+good g.CallOf = tells_good (ext_codes g.CallOf) (tells_CallOf)
+good g.Arguments = tells_good (ext_codes g.Arguments) (tells_Arguments)
+good (g.MoreArguments es) = tells_good (ext_codes (g.MoreArguments es)) (tells_MoreArguments es)
+good g.Amount = tells_good (ext_codes g.Amount) (tells_Amount)
+good g.Group = tells_good (ext_codes g.Group) (tells_Group)
+good g.Term = good_term
+good (g.Level n) = good_level n
+good (g.Chain n p) = good_chain n p
+good g.Unary = tells_good (ext_codes g.Unary) (tells_Unary)
+good (g.Fields p) = tells_good (ext_codes (g.Fields p)) (tells_Fields p)
+good g.First = tells_good (ext_codes g.First) (tells_First)
+
+-- what follows does not go on with what was spelled
+record Free (s : Kind) (E : Value s → Token → Type 0) (x : Value s) (us : List Token) : Type 0 where
+  none : (k : Token) (vs : List Token) → us ≡ k ∷ vs → E x k → ⊥
+
+starts_on : {b : Bool} {r : Kind} {c : Test b r} {ts us : List Token} {v : Value r} (q : Starts c ts v us) (vs : List Token) → Starts c (ts ++ vs) v (us ++ vs)
+starts_on q vs = record { token = q.token; is = ap (λ l. l ++ vs) q.is; passes = q.passes }
+
+not_next : {b : Bool} {r s : Kind} {c : Test b r} {other : Rule s} (E : Value s → Token → Type 0) → Apart c other → AtEnd E c other →
+    (ts : List Token) {x : Value s} → Derives s other ts x → (us : List Token) → Free s E x us → IsNot c (ts ++ us)
+not_next E a e [] {x = x} d us f = record { none = λ v vs q. f.none q.token vs q.is (e.ext q.token v x q.passes d) }
+not_next {c = c} E a e (k ∷ ts) {x = x} d us f =
+    record { none = λ v vs q. let same : q.token ≡ k = cc in a.none k ts v x (subst (λ j. Passes c j v) same q.passes) d }
+
+free_after : {r s : Kind} {a : Symbol r} {go : Value r → Rule s} (E : Value s → Token → Type 0) → Follows a go → EndsAs E a go →
+    (y : Value r) (ts : List Token) {x : Value s} → Derives s (go y) ts x → (us : List Token) → Free s E x us → Free r (Ext a) y (ts ++ us)
+free_after E fo en y [] {x = x} d us f = record { none = λ k vs is e. f.none k vs is (en.ext y x k d e) }
+free_after {a = a} E fo en y (j ∷ ts) {x = x} d us f =
+    record { none = λ k vs is e. let same : k ≡ j = cc in fo.none y j ts x d (subst (λ z. Ext a y z) same e) }
+
+reads_all : {s : Kind} {a : Rule s} (E : Value s → Token → Type 0) → Good s E a → {ts : List Token} {x : Value s} → Derives s a ts x → (us : List Token) → Free s E x us → Reads s a (ts ++ us) x us
+reads_all E good_give plain.given us f = given
+reads_all E (good_need h) (plain.needed {v = v} q d) us f = needed (starts_on q us) (reads_all E (h v) d us f)
+reads_all E (good_when a e h i) (plain.taken {v = v} q d) us f = taken (starts_on q us) (reads_all E (h v) d us f)
+reads_all E (good_when a e h i) (plain.passed {ts = ts} d) us f = passed (not_next E a e ts d us f) (reads_all E i d us f)
+reads_all {s = s} E (good_read {a = a} {go = go} fo en h) (plain.called {ts = ts} {us = ts'} {y = y} {x = x} d d') us f =
+    let i = reads_all (Ext a) (good a) d (ts' ++ us) (free_after E fo en y ts' d' us f) in
+    let j = reads_all E (h y) d' us f in
+    subst (λ l. Reads s (read a go) l x us) (sym (append_assoc ts ts' us)) (called i j)
+
+pub complete : {ts : List Token} {ds : List d.Decl} → Derives v.decls (rule (g.Program [])) ts ds → Reads v.decls (rule (g.Program [])) ts ds []
+complete {ts = ts} {ds = ds} h =
+    let i = reads_all (Ext (g.Program [])) (good (g.Program [])) h [] (record { none = λ k vs e x. absurd (cc) }) in
+    subst (λ l. Reads v.decls (rule (g.Program [])) l ds []) (append-nil ts) i

@@ -1,0 +1,143 @@
+-- What a function answers at each of its exits, from how far it has read.
+use Rattle.std.proofs.Common.{◌≡◌, refl, sym, ap, subst, ◌∙◌, Bool, true, false, List, ℕ, zero, suc, ◌+◌, ◌≤◌, add-one, arith, Result, Ok, Err, Bor, cond, if◌then◌else◌, ◌<◌, ◌⊎◌, inl, inr, Option, Some, None, MatchOption, [], ◌∷◌, ◌++◌, map}
+use Rattle.std.proofs.Math.Nat.{eq-or-lt_of_le}
+use Rattle.std.proofs.lemmas.List.{map-append}
+use Rattle.std.specs.Result.{IsErrAnd}
+use Rattle.std.proofs.lemmas.Result.{err_from_is_err_and}
+use Rattle.viper_syntax.specs.declared.tokens.Token.{Token}
+use Rattle.viper_parse.specs.declared.parts.Stop.{Stop}
+use Rattle.viper_parse.specs.declared.parts.Stop.TheVariants as stop
+use Rattle.viper_parse.specs.Tests as v
+use Rattle.viper_parse.specs.Tests.{Kind, Value, Part, Test, Starts}
+use Rattle.viper_parse.specs.Grammar as g
+use Rattle.viper_parse.specs.Grammar.{Symbol, Rule, give, need, when, read, rule}
+use Rattle.viper_parse.specs.Greedy.{IsNot, Reads, given, needed, taken, passed, called, Fails, Goes, Refuses, Parses, Misses}
+use Rattle.viper_parse.proofs.Reading.{fails_in, fails_called, whole, wrong_token, wrong_part}
+
+-- an error at a `?`
+
+refuses_as : {r s : Kind} {b : Rule r} {a : Rule s} {us ts : List Token} (w : Stop) →
+    ((z : List Token) → Fails b us z → Fails a ts z) → Refuses b us w → Refuses a ts w
+refuses_as stop.Memory f h = tt
+refuses_as (stop.Before r) f h = f r.now h
+
+misses_as : {b : Bool} {r s : Kind} {c : Test b r} {a : Rule s} {us ts : List Token} (w : Stop) → (IsNot c us → Fails a ts us) → Misses c us w → Refuses a ts w
+misses_as stop.Memory f h = tt
+misses_as {a = a} {ts = ts} (stop.Before r) f h = subst (λ z. Fails a ts z) (sym h.1) (f h.0)
+
+at_error : {s : Kind} {R : Type 0} (view : R → Value s) (a : Rule s) (ts : List Token) (w : Stop) (res : Result (R × Bor (List Token)) Stop) →
+    IsErrAnd res (λ x. x ≡ w) → Refuses a ts w → Parses view a ts res
+at_error view a ts w res e h =
+    let y = err_from_is_err_and res e in
+    subst (λ o. Parses view a ts o) (sym y.1) (subst (λ x. Refuses a ts x) (sym y.2) h)
+
+pub error_as : {r s : Kind} {R : Type 0} (view : R → Value s) {b : Rule r} {a : Rule s} {us ts : List Token} (w : Stop)
+    (res : Result (R × Bor (List Token)) Stop) → IsErrAnd res (λ x. x ≡ w) →
+    ((z : List Token) → Fails b us z → Fails a ts z) → Refuses b us w → Parses view a ts res
+error_as view {a = a} {ts = ts} w res e f h = at_error view a ts w res e (refuses_as w f h)
+
+pub part_error : {r s : Kind} {R : Type 0} (view : R → Value s) {b : Symbol r} {go : Value r → Rule s} {a : Rule s} {us ts : List Token} (w : Stop)
+    (res : Result (R × Bor (List Token)) Stop) → IsErrAnd res (λ x. x ≡ w) → Goes a ts (read b go) us → Refuses (rule b) us w → Parses view a ts res
+part_error view {a = a} {ts = ts} w res e g h = at_error view a ts w res e (refuses_as w (λ z f. wrong_part f g) h)
+
+pub token_error : {r s : Kind} {R : Type 0} (view : R → Value s) {c : Test true r} {go : Value r → Rule s} {a : Rule s} {us ts : List Token} (w : Stop)
+    (res : Result (R × Bor (List Token)) Stop) → IsErrAnd res (λ x. x ≡ w) → Goes a ts (need c go) us → Misses c us w → Parses view a ts res
+token_error view {a = a} {ts = ts} w res e g h = at_error view a ts w res e (misses_as w (λ n. wrong_token n g) h)
+
+-- the last call of a function
+
+pub tail : {s : Kind} {a : Rule s} {b : Symbol s} {ts us : List Token} → Goes a ts (read b give) us → Goes a ts (rule b) us
+tail g = record { reads = λ x vs h. g.reads x vs (called h given); fails = λ r f. g.fails r (fails_in f) }
+
+pub pass_on : {s : Kind} {R : Type 0} (view : R → Value s) {b a : Rule s} {us ts : List Token} (res : Result (R × Bor (List Token)) Stop) →
+    Goes a ts b us → Parses view b us res → Parses view a ts res
+pass_on view (Ok r) g h = g.reads _ _ h
+pass_on view (Err stop.Memory) g h = tt
+pass_on view (Err (stop.Before r)) g h = g.fails _ h
+
+-- what was built is what the rule gives
+
+pub whole_as : {s : Kind} {a : Rule s} {ts us : List Token} {x y : Value s} → Goes a ts (give y) us → x ≡ y → Reads s a ts x us
+whole_as {s = s} {a = a} {ts = ts} {us = us} g e = subst (λ z. Reads s a ts z us) (sym e) (whole g)
+
+pub goes_at : {s : Kind} (r : Kind) (f : Value r → Rule s) {a : Rule s} {ts us : List Token} {x y : Value r} → x ≡ y → Goes a ts (f y) us → Goes a ts (f x) us
+goes_at r f {a = a} {ts = ts} {us = us} e g = subst (λ z. Goes a ts (f z) us) (sym e) g
+
+-- terms that end with an `unfolding`, and those that do not
+
+pub stays : (p : Part) (further : Rule v.part) {ts : List Token} → true ≡ g.is_open p.shape → Reads v.part (g.unless_open p further) ts p ts
+stays p further {ts = ts} e = subst (λ b. Reads v.part (cond b (give p) further) ts p ts) e given
+
+pub goes_further : (p : Part) {further a : Rule v.part} {ts us : List Token} → false ≡ g.is_open p.shape → Goes a ts (g.unless_open p further) us → Goes a ts further us
+goes_further p {further = further} {a = a} {ts = ts} {us = us} e g = subst (λ b. Goes a ts (cond b (give p) further) us) (sym e) g
+
+by_openness : (p : Part) (b : Bool) {further : Rule v.part} {ts : List Token} → Reads v.part further ts p ts → Reads v.part (cond b (give p) further) ts p ts
+by_openness p true h = given
+by_openness p false h = h
+
+pub reads_no_further : (p : Part) {further : Rule v.part} {ts : List Token} → Reads v.part further ts p ts → Reads v.part (g.unless_open p further) ts p ts
+reads_no_further p h = by_openness p (g.is_open p.shape) h
+
+pub once : {s : Kind} (b : Bool) (x : Rule s) {y a : Rule s} {ts us : List Token} → false ≡ b → Goes a ts (if b then x else y) us → Goes a ts y us
+once b x {y = y} {a = a} {ts = ts} {us = us} e g = subst (λ c. Goes a ts (if c then x else y) us) (sym e) g
+
+pub again : {s : Kind} (b : Bool) {x : Rule s} (y : Rule s) {a : Rule s} {ts us : List Token} → true ≡ b → Goes a ts (if b then x else y) us → Goes a ts x us
+again b {x = x} y {a = a} {ts = ts} {us = us} e g = subst (λ c. Goes a ts (if c then x else y) us) (sym e) g
+
+-- levels
+
+pub level_longer : (m : ℕ) {p q : Part} {ts us vs : List Token} → Reads v.part (rule (g.Level m)) ts p us → Reads v.part (rule (g.Chain (m + 1) p)) us q vs →
+    Reads v.part (rule (g.Level (m + 1))) ts q vs
+level_longer m {p = p} {q = q} {ts = ts} {us = us} {vs = vs} h i =
+    let i' : Reads v.part (rule (g.Chain (suc m) p)) us q vs = rw add-one at i in
+    let all : Reads v.part (rule (g.Level (suc m))) ts q vs = called h (called i' given) in
+    rw add-one all
+
+chain_fails : (m : ℕ) {p : Part} {ts us z : List Token} → Reads v.part (rule (g.Level m)) ts p us → Fails (rule (g.Chain (m + 1) p)) us z → Fails (rule (g.Level (suc m))) ts z
+chain_fails m {p = p} {us = us} {z = z} h f = let f' : Fails (rule (g.Chain (suc m) p)) us z = rw add-one at f in fails_called h (fails_in f')
+
+-- where a tighter level goes wrong, a looser one does
+pub level_fails : (m n : ℕ) {ts z : List Token} → m ≤ n → Fails (rule (g.Level m)) ts z → Fails (rule (g.Level n)) ts z
+level_fails m zero {ts = ts} {z = z} h f = let e : m ≡ zero = omega arith in subst (λ k. Fails (rule (g.Level k)) ts z) e f
+level_fails m (suc n) {ts = ts} {z = z} h f =
+    elim (eq-or-lt_of_le h) [
+      | inl e ↦ subst (λ k. Fails (rule (g.Level k)) ts z) e f
+      | inr k ↦ let below : m ≤ n = omega arith in fails_in (level_fails m n below f)
+    ]
+
+pub longer_fails : (m n : ℕ) {p : Part} {ts us z : List Token} → m < n → Reads v.part (rule (g.Level m)) ts p us → Fails (rule (g.Chain (m + 1) p)) us z → Fails (rule (g.Level n)) ts z
+longer_fails m n lt h f = level_fails (suc m) n (omega arith) (chain_fails m h f)
+
+pub operator_goes : (n : ℕ) (p : Part) (ts : List Token) (r : Option (Value v.a_sign × Bor (List Token))) → false ≡ g.is_open p.shape →
+    MatchOption r (IsNot (v.an_operator n) ts) (λ q. Starts (v.an_operator n) ts q.0 q.1.now) →
+    MatchOption r (Reads v.part (rule (g.Chain n p)) ts p ts) (λ q. (g.is_open p.shape ≡ false) × Starts (v.an_operator n) ts q.0 q.1.now)
+operator_goes n p ts None e h = reads_no_further p (passed h given)
+operator_goes n p ts (Some q) e h = (sym e, h)
+
+pub level_at : {m n : ℕ} {p : Part} {ts us : List Token} → m ≡ n → Reads v.part (rule (g.Level m)) ts p us → Reads v.part (rule (g.Level n)) ts p us
+level_at {p = p} {ts = ts} {us = us} e h = subst (λ k. Reads v.part (rule (g.Level k)) ts p us) e h
+
+pub level_refuses_at : (m n : ℕ) (us : List Token) (w : Stop) → m ≡ n → Refuses (rule (g.Level m)) us w → Refuses (rule (g.Level n)) us w
+level_refuses_at m n us w e h = subst (λ k. Refuses (rule (g.Level k)) us w) e h
+
+-- a list with one more item
+
+pub pushed_first : {A B : Type 0} (f : A → B) {all new : List A} {x : A} {y : B} → all ≡ [] → new ≡ all ++ (x ∷ []) → f x ≡ y → map f new ≡ y ∷ []
+pushed_first f {x = x} none is same = ap (map f) (is ∙ ap (λ l. l ++ (x ∷ [])) none) ∙ ap (λ z. z ∷ []) same
+
+pub pushed_more : {A B : Type 0} (f : A → B) (all : List A) {new : List A} {x : A} {y : B} → new ≡ all ++ (x ∷ []) → f x ≡ y → map f new ≡ map f all ++ (y ∷ [])
+pushed_more f all {x = x} is same = ap (map f) is ∙ map-append f all (x ∷ []) ∙ ap (λ z. map f all ++ (z ∷ [])) same
+
+-- a symbol with an equal list
+
+pub symbol_at : {A : Type 0} {r : Kind} (f : A → Symbol r) {x y : A} {z : Value r} {ts us : List Token} → x ≡ y → Reads r (rule (f x)) ts z us → Reads r (rule (f y)) ts z us
+symbol_at {r = r} f {z = z} {ts = ts} {us = us} e h = subst (λ k. Reads r (rule (f k)) ts z us) e h
+
+pub symbol_refuses_at : {A : Type 0} {r : Kind} (f : A → Symbol r) (x y : A) (us : List Token) (w : Stop) → x ≡ y → Refuses (rule (f x)) us w → Refuses (rule (f y)) us w
+symbol_refuses_at f x y us w e h = subst (λ k. Refuses (rule (f k)) us w) e h
+
+pub goes_by : {A : Type 0} {s : Kind} (f : A → Rule s) {a : Rule s} {ts us : List Token} {x y : A} → x ≡ y → Goes a ts (f y) us → Goes a ts (f x) us
+goes_by f {a = a} {ts = ts} {us = us} e g = subst (λ z. Goes a ts (f z) us) (sym e) g
+
+pub goes_then : {s : Kind} {a b c : Rule s} {ts us vs : List Token} → Goes a ts b us → Goes b us c vs → Goes a ts c vs
+goes_then g h = record { reads = λ x ws i. g.reads x ws (h.reads x ws i); fails = λ r f. g.fails r (h.fails r f) }

@@ -1,0 +1,41 @@
+use Rattle.std.proofs.Common.{◌≡◌, refl, sym, ap, ◌∙◌, ◌<◌, ◌≤◌, length, false, true, map, List, [], ◌∷◌, ◌++◌, arith}
+use Rattle.viper_syntax.specs.Stmt as s
+use Rattle.viper_syntax.specs.Decl as d
+use Rattle.viper_syntax.specs.View.{term_of, call_of, stmt_of, arm_of, block_of, rhs_of, clause_of, decl_of}
+use Rattle.viper_syntax.specs.declared.tokens.Sign.TheVariants as sign
+use Rattle.viper_parse.specs.Tests as v
+use Rattle.viper_parse.specs.Grammar as g
+use Rattle.viper_parse.specs.View.{part_of, instance_of, arguments_of, names_of, stmts_in, formals_of, clauses_of, body_of, decls_of}
+use Rattle.viper_parse.proofs.Reading.{start, by_need, by_token, by_other, by_part, whole}
+use Rattle.viper_parse.proofs.Steps.{part_error, token_error, tail, pass_on, whole_as, goes_at, goes_by, goes_then, pushed_first, pushed_more, symbol_at, symbol_refuses_at}
+use Rattle.viper_parse.proofs.decls.declaration.Goals as goal
+use Rattle.viper_parse.proofs.Reading.{wrong_part}
+use Rattle.viper_parse.proofs.Whole.{declares_error}
+
+pub returns-in_err-declared-clause-reads : goal.returns-in_err-declared-clause-reads
+returns-in_err-declared-clause-reads c =
+    declares_error _ _ _ c.from_residual.ensures.1 (λ ds z f. wrong_part f (by_token c.in-Some.ensures.eats (start (g.rule (g.Program ds)) c.args.tokens.now))) c.in_err-declared.ensures.reads
+
+pub returns-in-Some-clause-reads : goal.returns-in-Some-clause-reads
+returns-in-Some-clause-reads c =
+    λ ds. tail (by_part c.semicolons-rest.ensures.reads (by_part c.in_ok-declared.ensures.reads (by_token c.in-Some.ensures.eats (start (g.rule (g.Program ds)) c.args.tokens.now))))
+
+pub returns-in_err-whole-clause-reads : goal.returns-in_err-whole-clause-reads
+returns-in_err-whole-clause-reads c =
+    declares_error _ _ _ c.from_residual-in_err-whole.ensures.1 (λ ds z f. wrong_part f (by_token c.in-Some-eat_word.ensures.eats (by_other c.in_default.ensures.eats (start (g.rule (g.Program ds)) c.args.tokens.now)))) c.in_err-whole.ensures.reads
+
+pub returns-in-Some-eat_word-clause-reads : goal.returns-in-Some-eat_word-clause-reads
+returns-in-Some-eat_word-clause-reads c =
+    λ ds. tail (by_part c.in_ok-whole.ensures.reads (by_token c.in-Some-eat_word.ensures.eats (by_other c.in_default.ensures.eats (start (g.rule (g.Program ds)) c.args.tokens.now))))
+
+pub returns-in_err-whole-2-clause-reads : goal.returns-in_err-whole-2-clause-reads
+returns-in_err-whole-2-clause-reads c =
+    declares_error _ _ _ c.from_residual-in_err-whole-2.ensures.1 (λ ds z f. wrong_part f (by_token c.in-Some-eat_word-2.ensures.eats (by_other c.in_default-eat_word.ensures.eats (by_other c.in_default.ensures.eats (start (g.rule (g.Program ds)) c.args.tokens.now))))) c.in_err-whole-2.ensures.reads
+
+pub returns-in-Some-eat_word-2-clause-reads : goal.returns-in-Some-eat_word-2-clause-reads
+returns-in-Some-eat_word-2-clause-reads c =
+    λ ds. tail (by_part c.in_ok-whole-2.ensures.reads (by_token c.in-Some-eat_word-2.ensures.eats (by_other c.in_default-eat_word.ensures.eats (by_other c.in_default.ensures.eats (start (g.rule (g.Program ds)) c.args.tokens.now)))))
+
+pub returns-clause-reads : goal.returns-clause-reads
+returns-clause-reads c =
+    λ ds. whole (by_other c.in_default-eat_word-2.ensures.eats (by_other c.in_default-eat_word.ensures.eats (by_other c.in_default.ensures.eats (start (g.rule (g.Program ds)) c.args.tokens.now))))

@@ -1,0 +1,139 @@
+use Rattle.std.proofs.Common.{◌≡◌, refl, sym, ap, ◌∙◌, ◌<◌, ◌≤◌, length, false, true, map, List, [], ◌∷◌, ◌++◌, arith}
+use Rattle.viper_syntax.specs.Stmt as s
+use Rattle.viper_syntax.specs.Decl as d
+use Rattle.viper_syntax.specs.View.{term_of, call_of, stmt_of, arm_of, block_of, rhs_of, clause_of, decl_of}
+use Rattle.viper_syntax.specs.declared.tokens.Sign.TheVariants as sign
+use Rattle.viper_parse.specs.Tests as v
+use Rattle.viper_parse.specs.Grammar as g
+use Rattle.viper_parse.specs.View.{part_of, instance_of, arguments_of, names_of, stmts_in, formals_of, clauses_of, body_of, decls_of}
+use Rattle.viper_parse.proofs.Reading.{start, by_need, by_token, by_other, by_part, whole}
+use Rattle.viper_parse.proofs.Steps.{part_error, token_error, tail, pass_on, whole_as, goes_at, goes_by, goes_then, pushed_first, pushed_more, symbol_at, symbol_refuses_at}
+use Rattle.viper_parse.proofs.stmts.+stmts.Goals as goal
+
+pub statement-returns-in-Some-clause-reads : goal.statement-returns-in-Some-clause-reads
+statement-returns-in-Some-clause-reads t c =
+    pass_on stmt_of _ (tail (by_token c.in-Some.ensures.eats (start (g.rule g.Stmt) c.args.tokens.now))) c.variable.ensures.reads
+
+pub statement-returns-in_err-part-clause-reads : goal.statement-returns-in_err-part-clause-reads
+statement-returns-in_err-part-clause-reads t c =
+    part_error stmt_of _ _ c.from_residual.ensures.1 (by_token c.in-Some-eat_one_of.ensures.eats (by_other c.in_default.ensures.eats (start (g.rule g.Stmt) c.args.tokens.now))) c.in_err-part.ensures.reads
+
+pub statement-returns-in-Some-eat_one_of-clause-reads : goal.statement-returns-in-Some-eat_one_of-clause-reads
+statement-returns-in-Some-eat_one_of-clause-reads t c =
+    whole_as (by_part c.in_ok-part.ensures.reads (by_token c.in-Some-eat_one_of.ensures.eats (by_other c.in_default.ensures.eats (start (g.rule g.Stmt) c.args.tokens.now)))) (ap (λ e. s.Check c.in-Some-eat_one_of.check.0 c.in-Some-eat_one_of.check.1 e) (ap term_of c.into_inner.ensures))
+
+pub statement-returns-in_err-held-clause-reads : goal.statement-returns-in_err-held-clause-reads
+statement-returns-in_err-held-clause-reads t c =
+    part_error stmt_of _ _ c.from_residual-in_err-held.ensures.1 (by_token c.in-Some-eat_word.ensures.eats (by_other c.in_default-eat_one_of.ensures.eats (by_other c.in_default.ensures.eats (start (g.rule g.Stmt) c.args.tokens.now)))) c.in_err-held.ensures.reads
+
+pub statement-returns-in-Some-eat_word-clause-reads : goal.statement-returns-in-Some-eat_word-clause-reads
+statement-returns-in-Some-eat_word-clause-reads t c =
+    whole_as (by_part c.in_ok-held.ensures.reads (by_token c.in-Some-eat_word.ensures.eats (by_other c.in_default-eat_one_of.ensures.eats (by_other c.in_default.ensures.eats (start (g.rule g.Stmt) c.args.tokens.now))))) (ap s.Fold c.fold.ensures)
+
+pub statement-returns-in_err-held-2-clause-reads : goal.statement-returns-in_err-held-2-clause-reads
+statement-returns-in_err-held-2-clause-reads t c =
+    part_error stmt_of _ _ c.from_residual-in_err-held-2.ensures.1 (by_token c.in-Some-eat_word-2.ensures.eats (by_other c.in_default-eat_word.ensures.eats (by_other c.in_default-eat_one_of.ensures.eats (by_other c.in_default.ensures.eats (start (g.rule g.Stmt) c.args.tokens.now))))) c.in_err-held-2.ensures.reads
+
+pub statement-returns-in-Some-eat_word-2-clause-reads : goal.statement-returns-in-Some-eat_word-2-clause-reads
+statement-returns-in-Some-eat_word-2-clause-reads t c =
+    whole_as (by_part c.in_ok-held-2.ensures.reads (by_token c.in-Some-eat_word-2.ensures.eats (by_other c.in_default-eat_word.ensures.eats (by_other c.in_default-eat_one_of.ensures.eats (by_other c.in_default.ensures.eats (start (g.rule g.Stmt) c.args.tokens.now)))))) (ap s.Unfold c.fold-in-Some-eat_word-2.ensures)
+
+pub statement-returns-in-Some-eat_word-3-clause-reads : goal.statement-returns-in-Some-eat_word-3-clause-reads
+statement-returns-in-Some-eat_word-3-clause-reads t c =
+    pass_on stmt_of _ (by_token c.in-Some-eat_word-3.ensures.eats (by_other c.in_default-eat_word-2.ensures.eats (by_other c.in_default-eat_word.ensures.eats (by_other c.in_default-eat_one_of.ensures.eats (by_other c.in_default.ensures.eats (start (g.rule g.Stmt) c.args.tokens.now)))))) c.branches.ensures.reads
+
+pub statement-returns-in-Some-eat_word-4-clause-reads : goal.statement-returns-in-Some-eat_word-4-clause-reads
+statement-returns-in-Some-eat_word-4-clause-reads t c =
+    pass_on stmt_of _ (tail (by_token c.in-Some-eat_word-4.ensures.eats (by_other c.in_default-eat_word-3.ensures.eats (by_other c.in_default-eat_word-2.ensures.eats (by_other c.in_default-eat_word.ensures.eats (by_other c.in_default-eat_one_of.ensures.eats (by_other c.in_default.ensures.eats (start (g.rule g.Stmt) c.args.tokens.now)))))))) c.repeated.ensures.reads
+
+pub statement-returns-in_err-named-clause-reads : goal.statement-returns-in_err-named-clause-reads
+statement-returns-in_err-named-clause-reads t c =
+    token_error stmt_of _ _ c.from_residual-in_err-named.ensures.1 (by_other c.in_default-eat_word-4.ensures.eats (by_other c.in_default-eat_word-3.ensures.eats (by_other c.in_default-eat_word-2.ensures.eats (by_other c.in_default-eat_word.ensures.eats (by_other c.in_default-eat_one_of.ensures.eats (by_other c.in_default.ensures.eats (start (g.rule g.Stmt) c.args.tokens.now))))))) c.in_err-named.ensures.takes
+
+pub statement-returns-clause-reads : goal.statement-returns-clause-reads
+statement-returns-clause-reads t c =
+    pass_on stmt_of _ (tail (by_need c.in_ok-named.ensures.takes (by_other c.in_default-eat_word-4.ensures.eats (by_other c.in_default-eat_word-3.ensures.eats (by_other c.in_default-eat_word-2.ensures.eats (by_other c.in_default-eat_word.ensures.eats (by_other c.in_default-eat_one_of.ensures.eats (by_other c.in_default.ensures.eats (start (g.rule g.Stmt) c.args.tokens.now))))))))) c.after_name.ensures.reads
+
+pub arm-returns-in_err-condition-clause-reads : goal.arm-returns-in_err-condition-clause-reads
+arm-returns-in_err-condition-clause-reads t c =
+    part_error arm_of _ _ c.from_residual.ensures.1 (start (g.rule (g.Arm c.args.at)) c.args.tokens.now) c.in_err-condition.ensures.reads
+
+pub arm-returns-in_err-body-clause-reads : goal.arm-returns-in_err-body-clause-reads
+arm-returns-in_err-body-clause-reads t c =
+    part_error arm_of _ _ c.from_residual-in_err-body.ensures.1 (by_part c.in_ok-condition.ensures.reads (start (g.rule (g.Arm c.args.at)) c.args.tokens.now)) c.in_err-body.ensures.reads
+
+pub arm-returns-clause-reads : goal.arm-returns-clause-reads
+arm-returns-clause-reads t c =
+    whole_as (by_part c.in_ok-body.ensures.reads (by_part c.in_ok-condition.ensures.reads (start (g.rule (g.Arm c.args.at)) c.args.tokens.now))) (ap (λ e. s.arm c.args.at e (block_of c.in_ok-body.body)) (ap term_of c.into_inner.ensures))
+
+pub branches-returns-in_err-first-clause-reads : goal.branches-returns-in_err-first-clause-reads
+branches-returns-in_err-first-clause-reads t c =
+    part_error stmt_of _ _ c.from_residual.ensures.1 (start (g.branches c.args.at) c.args.tokens.now) c.in_err-first.ensures.reads
+
+pub branches-loop-place-init : goal.branches-loop-place-init
+branches-loop-place-init t c =
+    record { shorter = c.in_ok-first.ensures.shorter; goes = goes_by (λ bs. g.rule (g.Arms bs)) (pushed_first arm_of c.new.ensures.items c.in_ok-all.ensures refl) (tail (by_part c.in_ok-first.ensures.reads (start (g.branches c.args.at) c.args.tokens.now))) }
+
+pub branches-returns-in_err-next-clause-reads : goal.branches-returns-in_err-next-clause-reads
+branches-returns-in_err-next-clause-reads t c =
+    part_error stmt_of _ _ c.from_residual-in_err-next.ensures.1 (by_token c.in-Some.ensures.eats (c.loop-place.invariant.goes)) c.in_err-next.ensures.reads
+
+pub branches-loop-place-preserved : goal.branches-loop-place-preserved
+branches-loop-place-preserved t c =
+    record { shorter = omega (arith, c.in-Some.ensures.shorter, c.in_ok-next.ensures.shorter); goes = goes_by (λ bs. g.rule (g.Arms bs)) (pushed_more arm_of _ c.in_ok-all-2.ensures refl) (tail (by_part c.in_ok-next.ensures.reads (by_token c.in-Some.ensures.eats (c.loop-place.invariant.goes)))) }
+
+pub branches-returns-in_default-eat_word-clause-reads : goal.branches-returns-in_default-eat_word-clause-reads
+branches-returns-in_default-eat_word-clause-reads t c =
+    whole_as (by_other c.in_default-eat_word.ensures.eats (by_other c.in_default.ensures.eats (c.loop-place.invariant.goes))) c.conditional.ensures
+
+pub branches-returns-in_err-last-clause-reads : goal.branches-returns-in_err-last-clause-reads
+branches-returns-in_err-last-clause-reads t c =
+    part_error stmt_of _ _ c.from_residual-in_err-last.ensures.1 (by_token c.in-Some-eat_word.ensures.eats (by_other c.in_default.ensures.eats (c.loop-place.invariant.goes))) c.in_err-last.ensures.reads
+
+pub branches-returns-clause-reads : goal.branches-returns-clause-reads
+branches-returns-clause-reads t c =
+    whole_as (by_part c.in_ok-last.ensures.reads (by_token c.in-Some-eat_word.ensures.eats (by_other c.in_default.ensures.eats (c.loop-place.invariant.goes)))) c.conditional-2.ensures
+
+pub repeated-returns-in_err-condition-clause-reads : goal.repeated-returns-in_err-condition-clause-reads
+repeated-returns-in_err-condition-clause-reads t c =
+    part_error stmt_of _ _ c.from_residual.ensures.1 (start (g.rule (g.While c.args.at)) c.args.tokens.now) c.in_err-condition.ensures.reads
+
+pub repeated-returns-in_err-conditions-clause-reads : goal.repeated-returns-in_err-conditions-clause-reads
+repeated-returns-in_err-conditions-clause-reads t c =
+    part_error stmt_of _ _ c.from_residual-in_err-conditions.ensures.1 (by_part c.in_ok-condition.ensures.reads (start (g.rule (g.While c.args.at)) c.args.tokens.now)) c.in_err-conditions.ensures.reads
+
+pub repeated-returns-in_err-body-clause-reads : goal.repeated-returns-in_err-body-clause-reads
+repeated-returns-in_err-body-clause-reads t c =
+    part_error stmt_of _ _ c.from_residual-in_err-body.ensures.1 (by_part c.in_ok-conditions.ensures.reads (by_part c.in_ok-condition.ensures.reads (start (g.rule (g.While c.args.at)) c.args.tokens.now))) c.in_err-body.ensures.reads
+
+pub repeated-returns-clause-reads : goal.repeated-returns-clause-reads
+repeated-returns-clause-reads t c =
+    whole_as (by_part c.in_ok-body.ensures.reads (by_part c.in_ok-conditions.ensures.reads (by_part c.in_ok-condition.ensures.reads (start (g.rule (g.While c.args.at)) c.args.tokens.now)))) c.iteration.ensures
+
+pub block-returns-in_err-at-clause-reads : goal.block-returns-in_err-at-clause-reads
+block-returns-in_err-at-clause-reads t c =
+    token_error block_of _ _ c.from_residual.ensures.1 (start (g.rule g.Block) c.args.tokens.now) c.in_err-at.ensures.takes
+
+pub block-returns-in_err-stmts-clause-reads : goal.block-returns-in_err-stmts-clause-reads
+block-returns-in_err-stmts-clause-reads t c =
+    part_error block_of _ _ c.from_residual-in_err-stmts.ensures.1 (by_need c.in_ok-at.ensures.takes (start (g.rule g.Block) c.args.tokens.now)) c.in_err-stmts.ensures.reads
+
+pub block-returns-clause-reads : goal.block-returns-clause-reads
+block-returns-clause-reads t c =
+    whole_as (by_part c.in_ok-stmts.ensures.reads (by_need c.in_ok-at.ensures.takes (start (g.rule g.Block) c.args.tokens.now))) c.braced.ensures
+
+pub statements-each-init : goal.statements-each-init
+statements-each-init t c =
+    record { shorter = omega arith; goes = goes_at v.stmts (λ ss. g.rule (g.Stmts ss)) (ap (map stmt_of) c.new-all.ensures.items) (start (g.rule (g.Stmts [])) c.args.tokens.now) }
+
+pub statements-returns-in-Some-clause-reads : goal.statements-returns-in-Some-clause-reads
+statements-returns-in-Some-clause-reads t c =
+    whole (by_token c.in-Some.ensures.eats (c.each.invariant.goes))
+
+pub statements-returns-in_err-next-clause-reads : goal.statements-returns-in_err-next-clause-reads
+statements-returns-in_err-next-clause-reads t c =
+    part_error stmts_in _ _ c.from_residual.ensures.1 (by_other c.in_default.ensures.eats (c.each.invariant.goes)) c.in_err-next.ensures.reads
+
+pub statements-each-preserved : goal.statements-each-preserved
+statements-each-preserved t c =
+    record { shorter = omega (arith, c.in_ok-next.ensures.shorter, c.semicolons-rest.ensures.shorter); goes = goes_at v.stmts (λ ss. g.rule (g.Stmts ss)) (pushed_more stmt_of _ c.in_ok-all.ensures refl) (tail (by_part c.semicolons-rest.ensures.reads (by_part c.in_ok-next.ensures.reads (by_other c.in_default.ensures.eats (c.each.invariant.goes))))) }

@@ -1,0 +1,27 @@
+use Rattle.std.proofs.Common.{◌≡◌, refl, sym, ap, ◌∙◌, ◌<◌, ◌≤◌, length, false, true, map, List, [], ◌∷◌, ◌++◌, arith}
+use Rattle.viper_syntax.specs.Stmt as s
+use Rattle.viper_syntax.specs.Decl as d
+use Rattle.viper_syntax.specs.View.{term_of, call_of, stmt_of, arm_of, block_of, rhs_of, clause_of, decl_of}
+use Rattle.viper_syntax.specs.declared.tokens.Sign.TheVariants as sign
+use Rattle.viper_parse.specs.Tests as v
+use Rattle.viper_parse.specs.Grammar as g
+use Rattle.viper_parse.specs.View.{part_of, instance_of, arguments_of, names_of, stmts_in, formals_of, clauses_of, body_of, decls_of}
+use Rattle.viper_parse.proofs.Reading.{start, by_need, by_token, by_other, by_part, whole}
+use Rattle.viper_parse.proofs.Steps.{part_error, token_error, tail, pass_on, whole_as, goes_at, goes_by, goes_then, pushed_first, pushed_more, symbol_at, symbol_refuses_at}
+use Rattle.viper_parse.proofs.stmts.invariants.Goals as goal
+
+pub loop-after-init : goal.loop-after-init
+loop-after-init c =
+    record { shorter = omega arith; goes = goes_at v.arguments (λ is. g.rule (g.Invariants is)) (ap (map term_of) c.new-all.ensures.items) (start (g.rule (g.Invariants [])) c.args.tokens.now) }
+
+pub returns-in_err-part-clause-reads : goal.returns-in_err-part-clause-reads
+returns-in_err-part-clause-reads c =
+    part_error arguments_of _ _ c.from_residual.ensures.1 (by_token c.in-Some.ensures.eats (c.loop-after.invariant.goes)) c.in_err-part.ensures.reads
+
+pub loop-after-preserved : goal.loop-after-preserved
+loop-after-preserved c =
+    record { shorter = omega (arith, c.in-Some.ensures.shorter, c.in_ok-part.ensures.shorter, c.semicolons-after.ensures.shorter); goes = goes_at v.arguments (λ is. g.rule (g.Invariants is)) (pushed_more term_of _ c.in_ok-all.ensures (ap term_of c.into_inner.ensures)) (tail (by_part c.semicolons-after.ensures.reads (by_part c.in_ok-part.ensures.reads (by_token c.in-Some.ensures.eats (c.loop-after.invariant.goes))))) }
+
+pub returns-clause-reads : goal.returns-clause-reads
+returns-clause-reads c =
+    whole (by_other c.in_default.ensures.eats (c.loop-after.invariant.goes))

@@ -1,0 +1,27 @@
+use Rattle.std.proofs.Common.{◌≡◌, refl, sym, ap, ◌∙◌, ◌<◌, ◌≤◌, length, false, true, map, List, [], ◌∷◌, ◌++◌, arith}
+use Rattle.viper_syntax.specs.Stmt as s
+use Rattle.viper_syntax.specs.Decl as d
+use Rattle.viper_syntax.specs.View.{term_of, call_of, stmt_of, arm_of, block_of, rhs_of, clause_of, decl_of}
+use Rattle.viper_syntax.specs.declared.tokens.Sign.TheVariants as sign
+use Rattle.viper_parse.specs.Tests as v
+use Rattle.viper_parse.specs.Grammar as g
+use Rattle.viper_parse.specs.View.{part_of, instance_of, arguments_of, names_of, stmts_in, formals_of, clauses_of, body_of, decls_of}
+use Rattle.viper_parse.proofs.Reading.{start, by_need, by_token, by_other, by_part, whole}
+use Rattle.viper_parse.proofs.Steps.{part_error, token_error, tail, pass_on, whole_as, goes_at, goes_by, goes_then, pushed_first, pushed_more, symbol_at, symbol_refuses_at}
+use Rattle.viper_parse.proofs.stmts.listed.Goals as goal
+
+pub returns-in_err-named-clause-reads : goal.returns-in_err-named-clause-reads
+returns-in_err-named-clause-reads c =
+    token_error rhs_of _ _ c.from_residual.ensures.1 (start (g.fields_of c.args.at) c.args.tokens.now) c.in_err-named.ensures.takes
+
+pub returns-in_err-fields-clause-reads : goal.returns-in_err-fields-clause-reads
+returns-in_err-fields-clause-reads c =
+    part_error rhs_of _ _ c.from_residual-in_err-fields.ensures.1 (by_need c.in_ok-named.ensures.takes (start (g.fields_of c.args.at) c.args.tokens.now)) (symbol_refuses_at (λ xs. g.Separated sign.Comma xs) _ _ _ _ (c.in_ok-first.ensures ∙ ap (λ l. l ++ (c.in_ok-named.named ∷ [])) c.new.ensures.items) c.in_err-fields.ensures.reads)
+
+pub returns-in_err-closed-clause-reads : goal.returns-in_err-closed-clause-reads
+returns-in_err-closed-clause-reads c =
+    token_error rhs_of _ _ c.from_residual-in_err-closed.ensures.1 (by_part (symbol_at (λ xs. g.Separated sign.Comma xs) (c.in_ok-first.ensures ∙ ap (λ l. l ++ (c.in_ok-named.named ∷ [])) c.new.ensures.items) c.in_ok-fields.ensures.reads) (by_need c.in_ok-named.ensures.takes (start (g.fields_of c.args.at) c.args.tokens.now))) c.in_err-closed.ensures.takes
+
+pub returns-clause-reads : goal.returns-clause-reads
+returns-clause-reads c =
+    whole_as (by_need c.in_ok-closed.ensures.takes (by_part (symbol_at (λ xs. g.Separated sign.Comma xs) (c.in_ok-first.ensures ∙ ap (λ l. l ++ (c.in_ok-named.named ∷ [])) c.new.ensures.items) c.in_ok-fields.ensures.reads) (by_need c.in_ok-named.ensures.takes (start (g.fields_of c.args.at) c.args.tokens.now)))) c.created.ensures

@@ -1,0 +1,26 @@
+use Rattle.std.proofs.Common.{◌≡◌, refl, sym, ap, ◌∙◌, ◌<◌, ◌≤◌, length, false, map, List, [], ◌∷◌, ◌++◌, arith, if◌then◌else◌}
+use Rattle.viper_syntax.specs.View.{term_of, amount_of, call_of}
+use Rattle.viper_parse.specs.Tests as v
+use Rattle.viper_parse.specs.Grammar as g
+use Rattle.viper_parse.specs.Grammar.{give}
+use Rattle.viper_parse.specs.Greedy.{called, given}
+use Rattle.viper_parse.specs.View.{part_of, instance_of, arguments_of}
+use Rattle.viper_parse.proofs.Reading.{fails_in, start, by_need, by_token, by_other, by_part, whole}
+use Rattle.viper_parse.proofs.Steps.{error_as, part_error, token_error, tail, pass_on, whole_as, goes_at, stays, goes_further, reads_no_further, once, again, level_longer, level_fails, longer_fails}
+use Rattle.viper_parse.proofs.terms.fields.Goals as goal
+
+pub loop-after-init : goal.loop-after-init
+loop-after-init c =
+    record { shorter = omega arith; goes = start (g.rule (g.Fields (part_of c.args.first))) c.args.tokens.now }
+
+pub returns-in_err-named-clause-reads : goal.returns-in_err-named-clause-reads
+returns-in_err-named-clause-reads c =
+    token_error part_of _ _ c.from_residual.ensures.1 (by_token c.in-Some.ensures.eats c.loop-after.invariant.goes) c.in_err-named.ensures.takes
+
+pub loop-after-preserved : goal.loop-after-preserved
+loop-after-preserved c =
+    record { shorter = omega (arith, c.in-Some.ensures.shorter, c.in_ok-named.ensures.shorter); goes = goes_at v.part (λ p. g.rule (g.Fields p)) c.in_ok-part.ensures (tail (by_need c.in_ok-named.ensures.takes (by_token c.in-Some.ensures.eats c.loop-after.invariant.goes))) }
+
+pub returns-clause-reads : goal.returns-clause-reads
+returns-clause-reads c =
+    whole (by_other c.in_default.ensures.eats c.loop-after.invariant.goes)

@@ -1,0 +1,41 @@
+-- What `parse` answers.
+use Rattle.std.specs.Prelude.{◌≡◌, ℕ, zero, suc, List, [], ◌∷◌, Result, Ok, Err}
+use Rattle.vb_base.specs.declared.places.Pos.{Pos}
+use Rattle.viper_syntax.specs.declared.tokens.Token.{Token}
+use Rattle.viper_syntax.specs.declared.decls.SourceProgram.{SourceProgram}
+use Rattle.viper_syntax.specs.Decl as d
+use Rattle.viper_syntax.specs.View.{program_of}
+use Rattle.viper_parse.specs.Spells.{Spells}
+use Rattle.viper_parse.specs.Place.{IsPlace}
+use Rattle.viper_parse.specs.declared.parts.Stop.{Stop}
+use Rattle.viper_parse.specs.declared.parts.Stop.TheVariants as stop
+use Rattle.viper_parse.specs.declared.program.ParseFault.{ParseFault}
+use Rattle.viper_parse.specs.declared.program.ParseFault.TheVariants as fault
+
+-- the tokens spell some program
+abbrev pub IsProgram : List Token → Type 0
+IsProgram ts = (p : d.SourceProgram) × Spells ts p
+
+-- the place of the token of this number, or the end where the tokens have no such token
+abbrev pub place_at : List Token → ℕ → Pos → Pos
+place_at [] i end = end
+place_at (k ∷ ts) zero end = k.pos
+place_at (k ∷ ts) (suc i) end = place_at ts i end
+
+-- the answer is this program, unless memory was refused
+abbrev pub Gives : Result SourceProgram ParseFault → d.SourceProgram → Type 0
+Gives (Ok p) tree = program_of p ≡ tree
+Gives (Err fault.Memory) tree = Unit {0}
+Gives (Err (fault.Syntax at)) tree = ⊥
+
+-- a syntax error has the place of the first token such that the tokens through it begin no program, or the end where
+-- all of them begin one
+abbrev pub Refuses : Result SourceProgram ParseFault → List Token → Pos → Type 0
+Refuses (Ok p) ts end = Unit {0}
+Refuses (Err fault.Memory) ts end = Unit {0}
+Refuses (Err (fault.Syntax at)) ts end = (i : ℕ) × IsPlace IsProgram ts i × (at ≡ place_at ts i end)
+
+-- the fault that a stop is
+abbrev pub fault_of : Stop → Pos → ParseFault
+fault_of stop.Memory end = fault.Memory
+fault_of (stop.Before r) end = fault.Syntax (place_at r.now zero end)

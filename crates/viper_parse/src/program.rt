@@ -1,0 +1,67 @@
+// A program from its tokens.
+ghost use Rattle.std.specs.Prelude.{◌≡◌, ℕ, List, IfOk};
+ghost use Rattle.viper_syntax.specs.Decl as d;
+ghost use Rattle.viper_syntax.specs.View.{program_of};
+ghost use Rattle.viper_parse.specs.Answers.{Gives, Refuses, place_at, fault_of};
+ghost use Rattle.viper_parse.specs.Spells.{Spells};
+
+use crate::decls::declarations;
+use crate::parts::Stop;
+use std::alloc::Global;
+use vb_base::Pos;
+use viper_syntax::{SourceProgram, Token};
+
+/// Why tokens are no program.
+#[derive(Clone, Copy, Debug, PartialEq, Eq)]
+pub enum ParseFault {
+    /// Memory was refused.
+    Memory,
+    /// The place of the first token such that the tokens through it begin no program, or the end where all of them
+    /// begin one.
+    Syntax(Pos),
+}
+
+/// The program that the tokens of a file spell; `end` is the place past the file's last byte. It is the one tree
+/// that the grammar has for them, and a `Syntax` comes exactly where it has none.
+pub fn parse(alloc: Global, tokens: &Vec<Token>, end: Pos) -> Result<SourceProgram, ParseFault>
+    ensures found { IfOk result (λ p. Spells tokens.now.items (program_of p)) }
+    ensures only { (p : d.SourceProgram) → Spells tokens.now.items p → Gives result p }
+    ensures place { Refuses result tokens.now.items end }
+{
+    parse_slice(alloc, tokens.as_slice(), end)
+}
+
+fn parse_slice(alloc: Global, tokens: &[Token], end: Pos) -> Result<SourceProgram, ParseFault>
+    ensures found { IfOk result (λ p. Spells tokens.now (program_of p)) }
+    ensures only { (p : d.SourceProgram) → Spells tokens.now p → Gives result p }
+    ensures place { Refuses result tokens.now end }
+{
+    match declarations(alloc, tokens) {
+        Ok(decls) => Ok(SourceProgram { decls }),
+        Err(stop) => Err(fault(stop, end)),
+    }
+}
+
+fn fault(stop: Stop<'_>, end: Pos) -> ParseFault
+    ensures { result ≡ fault_of stop.entry end }
+{
+    match stop {
+        Stop::Memory => ParseFault::Memory,
+        Stop::Before(rest) => ParseFault::Syntax(place_of(rest, end)),
+    }
+}
+
+/// The place of the next token, or the end.
+fn place_of(tokens: &[Token], end: Pos) -> Pos
+    ensures { result ≡ place_at tokens.now 0 end }
+{
+    match tokens.first() {
+        Some(token) => token.pos,
+        None => end,
+    }
+}
+
+/// A list of tokens spells at most one program.
+pub fn one_tree()
+    ensures { (ts : List Token) (p q : d.SourceProgram) → Spells ts p → Spells ts q → p ≡ q }
+{}
