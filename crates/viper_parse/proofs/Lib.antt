@@ -5,4 +5,5 @@ pub mod Steps
 pub mod Whole
 pub mod Codes
 pub mod Complete
+pub mod Shallow
 pub mod Parsed

@@ -10,3 +10,6 @@ mod terms;
 mod tokens;
 
 pub use program::{ParseFault, one_tree, parse};
+
+#[cfg(test)]
+mod tests;

@@ -1,0 +1,431 @@
+-- A term is nested no deeper than its tokens are many, and they stand in a row without a divider.
+use Rattle.std.proofs.Common.{◌≡◌, refl, sym, ap, subst, ◌∙◌, ℕ, zero, suc, ◌+◌, ◌≤◌, max, Bool, true, false, cond, List, [], ◌∷◌, ◌++◌, Option, Some, None, length, append_assoc, arith, if◌then◌else◌, IsTrue}
+use Rattle.std.proofs.lemmas.List.{append-nil, length-append}
+use Rattle.vb_base.specs.declared.places.Pos.{Pos}
+use Rattle.viper_syntax.specs.declared.tokens.Token.{Token}
+use Rattle.viper_syntax.specs.declared.tokens.Word.{Word}
+use Rattle.viper_syntax.specs.declared.tokens.Word.TheVariants as word
+use Rattle.viper_syntax.specs.declared.tokens.Sign.{Sign}
+use Rattle.viper_syntax.specs.declared.tokens.Sign.TheVariants as sign
+use Rattle.viper_syntax.specs.Term as t
+use Rattle.viper_syntax.specs.Stmt as s
+use Rattle.viper_syntax.specs.Decl as d
+use Rattle.viper_parse.specs.declared.parts.Shape.{Shape}
+use Rattle.viper_parse.specs.declared.parts.Shape.TheVariants as shape
+use Rattle.viper_parse.specs.Tests as v
+use Rattle.viper_parse.specs.Tests.{Kind, Value, Part, Test, this, a_name, a_number, one_of, a_negation, an_operator, Passes, Starts, is_constant, is_negation, level_of}
+use Rattle.viper_parse.specs.Grammar as g
+use Rattle.viper_parse.specs.Grammar.{Symbol, Rule, give, need, when, read, rule}
+use Rattle.viper_parse.specs.Spells.{Derives, given, needed, taken, passed, called}
+use Rattle.viper_parse.specs.Depth.{depth, amount_depth, terms_depth, amount_terms, rhs_terms, option_terms, stmt_terms, block_terms, arm_terms, else_terms, stmts_terms, arms_terms, clauses_terms, decl_terms, decls_terms, divides, divides_word, divides_sign, IsRow, HasShortRows, AllShallow}
+
+-- depths of lists
+
+abbrev deepest : List t.Term → ℕ
+deepest [] = 0
+deepest (a ∷ rest) = max (depth a) (deepest rest)
+
+terms_deepest : (es : List t.Term) → terms_depth (t.terms es) ≡ deepest es
+terms_deepest [] = refl
+terms_deepest (a ∷ rest) = ap (λ n. max (depth a) n) (terms_deepest rest)
+
+deepest_more : (es : List t.Term) (a : t.Term) → deepest (es ++ (a ∷ [])) ≤ deepest es + depth a
+deepest_more [] a = omega arith
+deepest_more (b ∷ rest) a = let h : deepest (rest ++ (a ∷ [])) ≤ deepest rest + depth a = deepest_more rest a in omega arith
+
+abbrev weight : (s : Kind) → Value s → ℕ
+weight v.part p = depth p.tree
+weight v.arguments es = deepest es
+weight v.amount m = amount_depth m
+weight v.call c = deepest c.args
+weight v.instance i = deepest i.call.args + amount_depth i.amount
+weight _ x = 0
+
+-- what a symbol of a list of terms has so far
+abbrev held : {s : Kind} → Symbol s → ℕ
+held (g.Chain n p) = depth p.tree
+held (g.Fields p) = depth p.tree
+held (g.MoreArguments es) = deepest es
+held _ = 0
+
+-- the symbols of terms
+abbrev Low : {s : Kind} → Symbol s → Type 0
+Low g.InstanceOf = Unit {0}
+Low g.CallOf = Unit {0}
+Low g.Arguments = Unit {0}
+Low (g.MoreArguments es) = Unit {0}
+Low g.Amount = Unit {0}
+Low g.Group = Unit {0}
+Low g.Term = Unit {0}
+Low (g.Level n) = Unit {0}
+Low (g.Chain n p) = Unit {0}
+Low g.Unary = Unit {0}
+Low (g.Fields p) = Unit {0}
+Low g.First = Unit {0}
+Low _ = ⊥
+
+abbrev Inside : {b : Bool} {r : Kind} → Test b r → Type 0
+Inside {r = r} c = (k : Token) (x : Value r) → Passes c k x → divides k.tok ≡ false
+
+data Costs (s : Kind) : ℕ → Rule s → Type 0 where
+  cg : {n : ℕ} {x : Value s} → weight s x ≤ n → Costs s n (give x)
+  cn : {n : ℕ} {r : Kind} {c : Test true r} {go : Value r → Rule s} → Inside c → ((x : Value r) → Costs s (n + 1) (go x)) → Costs s n (need c go)
+  cw : {n : ℕ} {b : Bool} {r : Kind} {c : Test b r} {go : Value r → Rule s} {other : Rule s} →
+      Inside c → ((x : Value r) → Costs s (n + 1) (go x)) → Costs s n other → Costs s n (when c go other)
+  cr : {n : ℕ} {r : Kind} {a : Symbol r} {go : Value r → Rule s} →
+      Low a → ((y : Value r) (m : ℕ) → weight r y ≤ held a + m → Costs s (n + m) (go y)) → Costs s n (read a go)
+
+costs_cond : {s : Kind} {n : ℕ} (b : Bool) {x y : Rule s} → Costs s n x → Costs s n y → Costs s n (cond b x y)
+costs_cond true h i = h
+costs_cond false h i = i
+
+costs_if : {s : Kind} {n : ℕ} (b : Bool) {x y : Rule s} → Costs s n x → Costs s n y → Costs s n (if b then x else y)
+costs_if true h i = h
+costs_if false h i = i
+
+constant_inside : (w : Word) → IsTrue (is_constant w) → divides_word w ≡ false
+constant_inside word.True h = refl
+constant_inside word.False h = refl
+constant_inside word.Null h = refl
+constant_inside word.Write h = refl
+constant_inside word.None h = refl
+constant_inside word.Wildcard h = refl
+constant_inside _ h = cc
+
+negation_inside : (o : Sign) → IsTrue (is_negation o) → divides_sign o ≡ false
+negation_inside sign.Not h = refl
+negation_inside sign.Minus h = refl
+negation_inside _ h = cc
+
+operator_inside : (o : Sign) (n : ℕ) → level_of o ≡ n → 1 ≤ n → divides_sign o ≡ false
+operator_inside sign.Iff n e h = refl
+operator_inside sign.Implies n e h = refl
+operator_inside sign.Or n e h = refl
+operator_inside sign.And n e h = refl
+operator_inside sign.Equal n e h = refl
+operator_inside sign.NotEqual n e h = refl
+operator_inside sign.AtMost n e h = refl
+operator_inside sign.AtLeast n e h = refl
+operator_inside sign.Less n e h = refl
+operator_inside sign.Greater n e h = refl
+operator_inside sign.Plus n e h = refl
+operator_inside sign.Minus n e h = refl
+operator_inside sign.Star n e h = refl
+operator_inside sign.Slash n e h = refl
+operator_inside sign.Backslash n e h = refl
+operator_inside sign.Percent n e h = refl
+operator_inside _ n e h = absurd (omega arith)
+
+called_depth : (es : List t.Term) (m : ℕ) → deepest es ≤ 0 + m → 1 + terms_depth (t.terms es) ≤ 0 + 1 + 1 + m
+called_depth es m h = let e : terms_depth (t.terms es) ≡ deepest es = terms_deepest es in omega arith
+
+opened_depth : (i : v.Instance) (p : Part) (m m' : ℕ) → deepest i.call.args + amount_depth i.amount ≤ 0 + m → depth p.tree ≤ 0 + m' →
+    1 + max (terms_depth (t.terms i.call.args)) (max (amount_depth i.amount) (depth p.tree)) ≤ 0 + 1 + m + 1 + m'
+opened_depth i p m m' h h' = let e : terms_depth (t.terms i.call.args) ≡ deepest i.call.args = terms_deepest i.call.args in omega arith
+
+more_depth : (es : List t.Term) (a : t.Term) (m m' w : ℕ) → depth a ≤ 0 + m → w ≤ deepest (es ++ (a ∷ [])) + m' → w ≤ deepest es + 1 + m + m'
+more_depth es a m m' w h h' = let e : deepest (es ++ (a ∷ [])) ≤ deepest es + depth a = deepest_more es a in omega arith
+
+low_costs : {s : Kind} (a : Symbol s) → Low a → Costs s (held a) (rule a)
+low_costs g.Term l = cr tt (λ p m h. costs_cond (g.is_open p.shape) (cg (omega arith))
+    (cw (λ k x q. ap divides q.0) (λ at. cr tt (λ q m' h'. cn (λ k x q. ap divides q.0) (λ _. cr tt (λ r m'' h''. (cg (omega arith)))))) (cg (omega arith))))
+low_costs (g.Level zero) l = cr tt (λ p m h. (cg (omega arith)))
+low_costs (g.Level (suc n)) l = cr tt (λ p m h. cr tt (λ q m' h'. (cg (omega arith))))
+low_costs (g.Chain n p) l = costs_cond (g.is_open p.shape) (cg (omega arith))
+    (cw (λ k o q. ap divides q.0 ∙ operator_inside o.0 n q.2 q.3) (λ o. cr tt (λ q m h. costs_if (g.repeats n) (cr tt (λ r m' h'. (cg (omega arith)))) (cg (omega arith)))) (cg (omega arith)))
+low_costs g.Unary l =
+    cw (λ k o q. ap divides q.0 ∙ negation_inside o.0 q.2) (λ o. cr tt (λ p m h. (cg (omega arith))))
+    (cw (λ k x q. ap divides q.0) (λ at. cr tt (λ i m h. cn (λ k x q. ap divides q.0) (λ _. cr tt (λ p m' h'. cg (opened_depth i p m m' h h')))))
+    (cr tt (λ p m h. cr tt (λ q m' h'. (cg (omega arith))))))
+low_costs (g.Fields p) l = cw (λ k x q. ap divides q.0) (λ _. cn (λ k x q. ap divides q.0) (λ f. cr tt (λ q m h. (cg (omega arith))))) (cg (omega arith))
+low_costs g.First l =
+    cw (λ k x q. ap divides q.0) (λ x. cw (λ k x q. ap divides q.0) (λ _. cr tt (λ es m h. cg (called_depth es m h))) (cg (omega arith)))
+    (cw (λ k x q. ap divides q.0) (λ n. (cg (omega arith)))
+    (cw (λ k w q. ap divides q.0 ∙ constant_inside w.0 q.2) (λ w. (cg (omega arith)))
+    (cw (λ k x q. ap divides q.0) (λ at. cr tt (λ p m h. (cg (omega arith))))
+    (cw (λ k x q. ap divides q.0) (λ at. cn (λ k x q. ap divides q.0) (λ _. cr tt (λ p m h. cr tt (λ a m' h'. (cg (omega arith))))))
+    (cr tt (λ p m h. (cg (omega arith))))))))
+low_costs g.Group l = cn (λ k x q. ap divides q.0) (λ _. cr tt (λ p m h. cn (λ k x q. ap divides q.0) (λ _. (cg (omega arith)))))
+low_costs g.Amount l = cw (λ k x q. ap divides q.0) (λ _. cr tt (λ p m h. cn (λ k x q. ap divides q.0) (λ _. (cg (omega arith))))) (cn (λ k x q. ap divides q.0) (λ _. (cg (omega arith))))
+low_costs g.Arguments l = cw (λ k x q. ap divides q.0) (λ _. (cg (omega arith))) (cr tt (λ p m h. cr tt (λ es m' h'. (cg (omega arith)))))
+low_costs (g.MoreArguments es) l =
+    cw (λ k x q. ap divides q.0) (λ _. cr tt (λ p m h. cr tt (λ all m' h'. cg (more_depth es p.tree m m' (deepest all) h h')))) (cn (λ k x q. ap divides q.0) (λ _. (cg (omega arith))))
+low_costs g.CallOf l = cn (λ k x q. ap divides q.0) (λ x. cn (λ k x q. ap divides q.0) (λ _. cr tt (λ es m h. (cg (omega arith)))))
+low_costs g.InstanceOf l = cw (λ k x q. ap divides q.0) (λ _. cn (λ k x q. ap divides q.0) (λ _. cr tt (λ x m h. cr tt (λ a m' h'. (cg (omega arith)))))) (cr tt (λ x m h. (cg (omega arith))))
+low_costs (g.Program ds) l = absurd l
+low_costs (g.Predicate at) l = absurd l
+low_costs (g.Method at) l = absurd l
+low_costs g.Returns l = absurd l
+low_costs (g.Clauses cs) l = absurd l
+low_costs g.Body l = absurd l
+low_costs g.Formals l = absurd l
+low_costs (g.MoreFormals xs) l = absurd l
+low_costs g.FormalOf l = absurd l
+low_costs g.Block l = absurd l
+low_costs (g.Stmts ss) l = absurd l
+low_costs g.Stmt l = absurd l
+low_costs (g.Variable at) l = absurd l
+low_costs (g.AfterName x) l = absurd l
+low_costs (g.Arm at) l = absurd l
+low_costs (g.Arms bs) l = absurd l
+low_costs (g.While at) l = absurd l
+low_costs (g.Invariants is) l = absurd l
+low_costs g.Rhs l = absurd l
+low_costs (g.New at) l = absurd l
+low_costs (g.Separated o xs) l = absurd l
+low_costs g.Semicolons l = absurd l
+
+row_append : (ts us : List Token) → IsRow ts → IsRow us → IsRow (ts ++ us)
+row_append [] us h i = i
+row_append (k ∷ ts) us h i = (h.0, row_append ts us h.1 i)
+
+record Bounded (s : Kind) (n : ℕ) (ts : List Token) (x : Value s) : Type 0 where
+  small : weight s x ≤ n + length ts
+  row : IsRow ts
+
+one_longer : (n w : ℕ) (ts us : List Token) (k : Token) → ts ≡ k ∷ us → w ≤ n + 1 + length us → w ≤ n + length ts
+one_longer n w ts us k e h = let l : length ts ≡ length (k ∷ us) = ap length e in omega arith
+
+longer_by : (n w : ℕ) (ts us : List Token) → w ≤ n + length ts + length us → w ≤ n + length (ts ++ us)
+longer_by n w ts us h = let l : length (ts ++ us) ≡ length ts + length us = length-append ts us in omega arith
+
+bounded : {s : Kind} {a : Rule s} {n : ℕ} {ts : List Token} {x : Value s} → Costs s n a → Derives s a ts x → Bounded s n ts x
+bounded (cg h) given = record { small = omega arith; row = tt }
+bounded {s = s} {n = n} {ts = ts} {x = x} (cn i f) (needed {us = us} {v = y} q d) =
+    let e = bounded (f y) d in
+    record { small = one_longer n (weight s x) ts us q.token q.is e.small; row = subst IsRow (sym q.is) (i q.token y q.passes, e.row) }
+bounded {s = s} {n = n} {ts = ts} {x = x} (cw i f o) (taken {us = us} {v = y} q d) =
+    let e = bounded (f y) d in
+    record { small = one_longer n (weight s x) ts us q.token q.is e.small; row = subst IsRow (sym q.is) (i q.token y q.passes, e.row) }
+bounded (cw i f o) (passed d) = bounded o d
+bounded {s = s} {n = n} {x = x} (cr {a = a} l f) (called {ts = ts} {us = us} {y = y} d d') =
+    let e = bounded (low_costs a l) d in
+    let e' = bounded (f y (length ts) e.small) d' in
+    record { small = longer_by n (weight s x) ts us e'.small; row = row_append ts us e.row e'.row }
+
+-- the terms of what is built
+
+abbrev terms_in : (s : Kind) → Value s → List t.Term
+terms_in v.part p = p.tree ∷ []
+terms_in v.arguments es = es
+terms_in v.amount m = amount_terms m
+terms_in v.call c = c.args
+terms_in v.instance i = i.call.args ++ amount_terms i.amount
+terms_in v.rhs r = rhs_terms r
+terms_in v.stmt a = stmt_terms a
+terms_in v.stmts ss = stmts_terms (s.stmts ss)
+terms_in v.block b = block_terms b
+terms_in v.arm b = arm_terms b
+terms_in v.clauses cs = clauses_terms cs
+terms_in v.body b = option_terms block_terms b
+terms_in v.decl x = decl_terms x
+terms_in v.decls ds = decls_terms ds
+terms_in _ x = []
+
+abbrev held_terms : {s : Kind} → Symbol s → List t.Term
+held_terms (g.Program ds) = decls_terms ds
+held_terms (g.Clauses cs) = clauses_terms cs
+held_terms (g.Stmts ss) = stmts_terms (s.stmts ss)
+held_terms (g.Arms bs) = arms_terms (s.arms bs)
+held_terms (g.Invariants is) = is
+held_terms _ = []
+
+-- the symbols of statements and declarations
+abbrev High : {s : Kind} → Symbol s → Type 0
+High g.InstanceOf = ⊥
+High g.CallOf = ⊥
+High g.Arguments = ⊥
+High (g.MoreArguments es) = ⊥
+High g.Amount = ⊥
+High g.Group = ⊥
+High g.Term = ⊥
+High (g.Level n) = ⊥
+High (g.Chain n p) = ⊥
+High g.Unary = ⊥
+High (g.Fields p) = ⊥
+High g.First = ⊥
+High _ = Unit {0}
+
+-- the kinds of terms
+abbrev IsLow : Kind → Type 0
+IsLow v.part = Unit {0}
+IsLow v.arguments = Unit {0}
+IsLow v.call = Unit {0}
+IsLow v.instance = Unit {0}
+IsLow _ = ⊥
+
+all_append : (n : ℕ) (l m : List t.Term) → AllShallow n l → AllShallow n m → AllShallow n (l ++ m)
+all_append n [] m h i = i
+all_append n (a ∷ l) m h i = (h.0, all_append n l m h.1 i)
+
+all_front : (n : ℕ) (l m : List t.Term) → AllShallow n (l ++ m) → AllShallow n l
+all_front n [] m h = tt
+all_front n (a ∷ l) m h = (h.0, all_front n l m h.1)
+
+all_back : (n : ℕ) (l m : List t.Term) → AllShallow n (l ++ m) → AllShallow n m
+all_back n [] m h = h
+all_back n (a ∷ l) m h = all_back n l m h.1
+
+deepest_all : (n : ℕ) (es : List t.Term) → deepest es ≤ n → AllShallow n es
+deepest_all n [] h = tt
+deepest_all n (a ∷ rest) h = (omega arith, deepest_all n rest (omega arith))
+
+amount_all : (n : ℕ) (m : t.Amount) → amount_depth m ≤ n → AllShallow n (amount_terms m)
+amount_all n t.omitted h = tt
+amount_all n (t.given a) h = (h, tt)
+
+low_all : (n : ℕ) (s : Kind) (x : Value s) → IsLow s → weight s x ≤ n → AllShallow n (terms_in s x)
+low_all n v.part p l h = (h, tt)
+low_all n v.arguments es l h = deepest_all n es h
+low_all n v.call c l h = deepest_all n c.args h
+low_all n v.instance i l h = all_append n i.call.args (amount_terms i.amount) (deepest_all n i.call.args (omega arith)) (amount_all n i.amount (omega arith))
+low_all n v.nothing x l h = absurd l
+low_all n v.place x l h = absurd l
+low_all n v.name x l h = absurd l
+low_all n v.number x l h = absurd l
+low_all n v.a_word x l h = absurd l
+low_all n v.a_sign x l h = absurd l
+low_all n v.amount x l h = absurd l
+low_all n v.names x l h = absurd l
+low_all n v.formal x l h = absurd l
+low_all n v.formals x l h = absurd l
+low_all n v.rhs x l h = absurd l
+low_all n v.stmt x l h = absurd l
+low_all n v.stmts x l h = absurd l
+low_all n v.block x l h = absurd l
+low_all n v.arm x l h = absurd l
+low_all n v.clauses x l h = absurd l
+low_all n v.body x l h = absurd l
+low_all n v.decl x l h = absurd l
+low_all n v.decls x l h = absurd l
+
+stmts_more : (n : ℕ) (ss : List s.SStmt) (a : s.SStmt) → AllShallow n (stmts_terms (s.stmts ss)) → AllShallow n (stmt_terms a) → AllShallow n (stmts_terms (s.stmts (ss ++ (a ∷ []))))
+stmts_more n [] a h i = all_append n (stmt_terms a) [] i tt
+stmts_more n (b ∷ ss) a h i =
+    all_append n (stmt_terms b) _ (all_front n (stmt_terms b) (stmts_terms (s.stmts ss)) h) (stmts_more n ss a (all_back n (stmt_terms b) (stmts_terms (s.stmts ss)) h) i)
+
+arms_more : (n : ℕ) (bs : List s.SArm) (a : s.SArm) → AllShallow n (arms_terms (s.arms bs)) → AllShallow n (arm_terms a) → AllShallow n (arms_terms (s.arms (bs ++ (a ∷ []))))
+arms_more n [] a h i = all_append n (arm_terms a) [] i tt
+arms_more n (b ∷ bs) a h i =
+    all_append n (arm_terms b) _ (all_front n (arm_terms b) (arms_terms (s.arms bs)) h) (arms_more n bs a (all_back n (arm_terms b) (arms_terms (s.arms bs)) h) i)
+
+decls_more : (n : ℕ) (ds : List d.Decl) (x : d.Decl) → AllShallow n (decls_terms ds) → AllShallow n (decl_terms x) → AllShallow n (decls_terms (ds ++ (x ∷ [])))
+decls_more n [] x h i = all_append n (decl_terms x) [] i tt
+decls_more n (y ∷ ds) x h i =
+    all_append n (decl_terms y) _ (all_front n (decl_terms y) (decls_terms ds) h) (decls_more n ds x (all_back n (decl_terms y) (decls_terms ds) h) i)
+
+clauses_more : (n : ℕ) (cs : List d.SClause) (x : d.SClause) → AllShallow n (clauses_terms cs) → depth x.term ≤ n → AllShallow n (clauses_terms (cs ++ (x ∷ [])))
+clauses_more n [] x h i = (i, tt)
+clauses_more n (y ∷ cs) x h i = (h.0, clauses_more n cs x h.1 i)
+
+data Keeps (n : ℕ) (s : Kind) : Rule s → Type 0 where
+  kg : {x : Value s} → AllShallow n (terms_in s x) → Keeps n s (give x)
+  kn : {r : Kind} {c : Test true r} {go : Value r → Rule s} → ((x : Value r) → Keeps n s (go x)) → Keeps n s (need c go)
+  kw : {b : Bool} {r : Kind} {c : Test b r} {go : Value r → Rule s} {other : Rule s} → ((x : Value r) → Keeps n s (go x)) → Keeps n s other → Keeps n s (when c go other)
+  kl : {r : Kind} {a : Symbol r} {go : Value r → Rule s} → Low a → IsLow r → held a ≡ 0 → ((y : Value r) → AllShallow n (terms_in r y) → Keeps n s (go y)) → Keeps n s (read a go)
+  kh : {r : Kind} {a : Symbol r} {go : Value r → Rule s} → High a → AllShallow n (held_terms a) → ((y : Value r) → AllShallow n (terms_in r y) → Keeps n s (go y)) → Keeps n s (read a go)
+
+-- the arguments of a call are no deeper than the call
+listed_all : (n : ℕ) (es : t.Terms) → terms_depth es ≤ n → AllShallow n (g.listed es)
+listed_all n t.none h = tt
+listed_all n (t.more a rest) h = (omega arith, listed_all n rest (omega arith))
+
+rhs_from_all : (n : ℕ) (h : Shape) (a : t.Term) → depth a ≤ n → AllShallow n (rhs_terms (g.rhs_from h a))
+rhs_from_all n shape.Call (t.Inst x es at) i = listed_all n es (omega arith)
+rhs_from_all n shape.Call (t.Name x at) i = (i, tt)
+rhs_from_all n shape.Call (t.Number z at) i = (i, tt)
+rhs_from_all n shape.Call (t.Constant w at) i = (i, tt)
+rhs_from_all n shape.Call (t.Unary o a at) i = (i, tt)
+rhs_from_all n shape.Call (t.Binary o a b at) i = (i, tt)
+rhs_from_all n shape.Call (t.Choose a b e at) i = (i, tt)
+rhs_from_all n shape.Call (t.Field a f at) i = (i, tt)
+rhs_from_all n shape.Call (t.Old a at) i = (i, tt)
+rhs_from_all n shape.Call (t.Acc a m at) i = (i, tt)
+rhs_from_all n shape.Call (t.Unfolding x es m a at name_at) i = (i, tt)
+rhs_from_all n shape.Open a i = (i, tt)
+rhs_from_all n shape.Plain a i = (i, tt)
+
+rhs_all : (n : ℕ) (p : Part) → AllShallow n (p.tree ∷ []) → AllShallow n (rhs_terms (g.rhs_of p))
+rhs_all n p h = rhs_from_all n p.shape p.tree h.0
+
+high_keeps : (n : ℕ) {s : Kind} (a : Symbol s) → High a → AllShallow n (held_terms a) → Keeps n s (rule a)
+high_keeps n (g.Program ds) l h =
+    kw (λ at. kh tt tt (λ x i. kh tt tt (λ _ j. kh tt (decls_more n ds (d.Field x) h tt) (λ z k. kg k))))
+    (kw (λ at. kh tt tt (λ x i. kh tt (decls_more n ds x h i) (λ z k. kg k)))
+    (kw (λ at. kh tt tt (λ x i. kh tt (decls_more n ds x h i) (λ z k. kg k))) (kg h)))
+high_keeps n (g.Predicate at) l h = kn (λ x. kn (λ _. kh tt tt (λ xs i. kw (λ _. kl tt tt refl (λ p j. kn (λ _. kg j))) (kg tt))))
+high_keeps n (g.Method at) l h = kn (λ x. kn (λ _. kh tt tt (λ xs i. kh tt tt (λ ys j. kh tt tt (λ cs k. kh tt tt (λ b m. kg (all_append n (clauses_terms cs) (option_terms block_terms b) k m)))))))
+high_keeps n g.Returns l h = kw (λ _. kn (λ _. kh tt tt (λ z i. kg i))) (kg tt)
+high_keeps n (g.Clauses cs) l h = kw (λ w. kl tt tt refl (λ p i. kh tt tt (λ _ j. kh tt (clauses_more n cs (record { word = w.0; term = p.tree }) h i.0) (λ z k. kg k)))) (kg h)
+high_keeps n g.Body l h = kw (λ at. kh tt tt (λ ss i. kg i)) (kg tt)
+high_keeps n g.Formals l h = kw (λ _. kg tt) (kh tt tt (λ x i. kh tt tt (λ z j. kg j)))
+high_keeps n (g.MoreFormals xs) l h = kw (λ _. kh tt tt (λ x i. kh tt tt (λ z j. kg j))) (kn (λ _. kg tt))
+high_keeps n g.FormalOf l h = kn (λ x. kn (λ _. kn (λ w. kg tt)))
+high_keeps n g.Block l h = kn (λ at. kh tt tt (λ ss i. kg i))
+high_keeps n (g.Stmts ss) l h = kw (λ _. kg h) (kh tt tt (λ a i. kh tt tt (λ _ j. kh tt (stmts_more n ss a h i) (λ z k. kg k))))
+high_keeps n g.Stmt l h =
+    kw (λ at. kh tt tt (λ z i. kg i)) (kw (λ w. kl tt tt refl (λ p i. kg i)) (kw (λ at. kl tt tt refl (λ x i. kg i)) (kw (λ at. kl tt tt refl (λ x i. kg i))
+    (kw (λ at. kh tt tt (λ a i. kh tt (all_append n (arm_terms a) [] i tt) (λ z j. kg j))) (kw (λ at. kh tt tt (λ z i. kg i)) (kn (λ x. kh tt tt (λ z i. kg i))))))))
+high_keeps n (g.Variable at) l h = kh tt tt (λ x i. kw (λ _. kh tt tt (λ r j. kg j)) (kg tt))
+high_keeps n (g.AfterName x) l h =
+    kw (λ _. kl tt tt refl (λ es i. kg i)) (kw (λ _. kn (λ y. kh tt tt (λ xs i. kn (λ _. kl tt tt refl (λ z j. kg j))))) (kh tt tt (λ xs i. kn (λ _. kh tt tt (λ r j. kg j)))))
+high_keeps n (g.Arm at) l h = kl tt tt refl (λ p i. kh tt tt (λ b j. kg (i.0, j)))
+high_keeps n (g.Arms bs) l h =
+    kw (λ at. kh tt tt (λ a i. kh tt (arms_more n bs a h i) (λ z j. kg j)))
+    (kw (λ _. kh tt tt (λ b i. kg (all_append n (arms_terms (s.arms bs)) (block_terms b) h i))) (kg (all_append n (arms_terms (s.arms bs)) [] h tt)))
+high_keeps n (g.While at) l h = kl tt tt refl (λ p i. kh tt tt (λ is j. kh tt tt (λ b k. kg (all_append n (p.tree ∷ is) (block_terms b) (i.0, j) k))))
+high_keeps n (g.Invariants is) l h = kw (λ _. kl tt tt refl (λ p i. kh tt tt (λ _ j. kh tt (all_append n is (p.tree ∷ []) h i) (λ z k. kg k)))) (kg h)
+high_keeps n g.Rhs l h = kw (λ at. kh tt tt (λ z i. kg i)) (kl tt tt refl (λ p i. kg (rhs_all n p i)))
+high_keeps n (g.New at) l h = kn (λ _. kw (λ _. kg tt) (kw (λ _. kn (λ _. kg tt)) (kn (λ x. kh tt tt (λ xs i. kn (λ _. kg tt))))))
+high_keeps n (g.Separated o xs) l h = kw (λ _. kn (λ x. kh tt tt (λ z i. kg i))) (kg tt)
+high_keeps n g.Semicolons l h = kw (λ _. kh tt tt (λ z i. kg tt)) (kg tt)
+high_keeps m g.InstanceOf l h = absurd l
+high_keeps m g.CallOf l h = absurd l
+high_keeps m g.Arguments l h = absurd l
+high_keeps m (g.MoreArguments es) l h = absurd l
+high_keeps m g.Amount l h = absurd l
+high_keeps m g.Group l h = absurd l
+high_keeps m g.Term l h = absurd l
+high_keeps m (g.Level n) l h = absurd l
+high_keeps m (g.Chain n p) l h = absurd l
+high_keeps m g.Unary l h = absurd l
+high_keeps m (g.Fields p) l h = absurd l
+high_keeps m g.First l h = absurd l
+
+short_front : (n : ℕ) (ts us : List Token) → HasShortRows n (ts ++ us) → HasShortRows n ts
+short_front n ts us h = record {
+  short = λ before row after e r.
+      h.short before row (after ++ us) (ap (λ l. l ++ us) e ∙ append_assoc before (row ++ after) us ∙ ap (λ l. before ++ l) (append_assoc row after us)) r;
+}
+
+short_back : (n : ℕ) (ts us : List Token) → HasShortRows n (ts ++ us) → HasShortRows n us
+short_back n ts us h = record {
+  short = λ before row after e r.
+      h.short (ts ++ before) row after (ap (λ l. ts ++ l) e ∙ sym (append_assoc ts before (row ++ after))) r;
+}
+
+short_rest : (n : ℕ) (ts us : List Token) (k : Token) → ts ≡ k ∷ us → HasShortRows n ts → HasShortRows n us
+short_rest n ts us k e h = short_back n (k ∷ []) us (subst (λ l. HasShortRows n l) e h)
+
+row_short : (n : ℕ) (ts : List Token) → HasShortRows n ts → IsRow ts → length ts ≤ n
+row_short n ts h r = h.short [] ts [] (sym (append-nil ts)) r
+
+low_weight : (w h l n : ℕ) → h ≡ 0 → w ≤ h + l → l ≤ n → w ≤ n
+low_weight w h l n e i j = omega arith
+
+shallow : {n : ℕ} {s : Kind} {a : Rule s} {ts : List Token} {x : Value s} → Keeps n s a → Derives s a ts x → HasShortRows n ts → AllShallow n (terms_in s x)
+shallow (kg h) given r = h
+shallow {n = n} {ts = ts} (kn f) (needed {us = us} {v = y} q d) r = shallow (f y) d (short_rest n ts us q.token q.is r)
+shallow {n = n} {ts = ts} (kw f o) (taken {us = us} {v = y} q d) r = shallow (f y) d (short_rest n ts us q.token q.is r)
+shallow (kw f o) (passed d) r = shallow o d r
+shallow {n = n} (kl {r = k} {a = a} l low e f) (called {ts = ts} {us = us} {y = y} d d') r =
+    let b = bounded (low_costs a l) d in
+    let m : length ts ≤ n = row_short n ts (short_front n ts us r) b.row in
+    let w : weight k y ≤ n = low_weight (weight k y) (held a) (length ts) n e b.small m in
+    shallow (f y (low_all n k y low w)) d' (short_back n ts us r)
+shallow {n = n} (kh {a = a} l h f) (called {ts = ts} {us = us} {y = y} d d') r =
+    shallow (f y (shallow (high_keeps n a l h) d (short_front n ts us r))) d' (short_back n ts us r)
+
+-- no term of a program is nested deeper than its longest row of tokens without a divider
+pub all_shallow : {n : ℕ} {ts : List Token} {ds : List d.Decl} → Derives v.decls (rule (g.Program [])) ts ds → HasShortRows n ts → AllShallow n (decls_terms ds)
+all_shallow {n = n} h r = shallow (high_keeps n (g.Program []) tt tt) h r
