@@ -1,11 +1,11 @@
 -- The code of a method's statements ends as the statements do.
 use Rattle.std.proofs.Common.{◌≡◌, ◌<◌, ℕ, ℤ, Bool as Truth, true, false, if◌then◌else◌, List, [], ◌∷◌, map, slice_get, Some, refl, ap}
 use Rattle.vb_base.specs.declared.labels.Label.{Label}
-use Rattle.viper_core.specs.declared.trees.Op.{Op}
-use Rattle.viper_core.specs.declared.trees.Op.TheVariants.{Eq, Ne, Lt, Le, Gt, Ge}
-use Rattle.viper_core.specs.Tree as vt
-use Rattle.viper_core.specs.Formed as f
-use Rattle.viper_core.specs.Meaning as v
+use Rattle.vb_tool.specs.declared.straight.Op.{Op}
+use Rattle.vb_tool.specs.declared.straight.Op.TheVariants.{Eq, Ne, Lt, Le, Gt, Ge}
+use Rattle.vb_tool.specs.Tree as vt
+use Rattle.vb_tool.specs.Formed as f
+use Rattle.vb_tool.specs.Meaning as v
 use Rattle.boogie_tree.specs.Tree as bt
 use Rattle.boogie_tree.specs.Meaning as b
 use Rattle.vb_tool.specs.Encoded.{op_code, expr_code, stmt_code}

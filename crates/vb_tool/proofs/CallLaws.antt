@@ -15,8 +15,8 @@ use Rattle.viper_syntax.specs.declared.tokens.Tok.TheVariants as k
 use Rattle.viper_syntax.specs.declared.tokens.Token.{Token}
 use Rattle.viper_syntax.specs.Lexed.{IsLexed, HasFault, IsProper, IsWellFormed}
 use Rattle.viper_syntax.specs.Step.{UnlessMemory}
-use Rattle.viper_core.specs.Tree as v
-use Rattle.viper_core.specs.Formed.{IsFormed}
+use Rattle.vb_tool.specs.Tree as v
+use Rattle.vb_tool.specs.Formed.{IsFormed}
 use Rattle.vb_tool.specs.Call.{IsRefusal, size, lex as bad_lex, not_yet, Names, IsCause, usage, read, refused, EndsAs, as_expected, no_memory, read_fault, write_fault, OutAfter, ErrAfter, Causes}
 use Rattle.vb_tool.specs.Converted.{trouble_of_file, trouble_of_lex, trouble_of_unread}
 use Rattle.vb_tool.specs.Encoded.{program_code}

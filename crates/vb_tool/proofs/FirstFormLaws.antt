@@ -14,9 +14,9 @@ use Rattle.viper_syntax.specs.declared.tokens.Tok.TheVariants as k
 use Rattle.viper_syntax.specs.declared.tokens.Word.TheVariants as word
 use Rattle.viper_syntax.specs.declared.tokens.Sign.{Sign}
 use Rattle.viper_syntax.specs.declared.tokens.Sign.TheVariants as sign
-use Rattle.viper_core.specs.declared.trees.Op.{Op}
-use Rattle.viper_core.specs.Tree as v
-use Rattle.viper_core.specs.Formed as form
+use Rattle.vb_tool.specs.declared.straight.Op.{Op}
+use Rattle.vb_tool.specs.Tree as v
+use Rattle.vb_tool.specs.Formed as form
 use Rattle.vb_tool.specs.FirstForm.{IsComparison, equal, unequal, less, at_most, greater, at_least, IsItem, parameter, number, AreFormals, last, more, AreParameters, none, some, IsHeader, IsBody, IsMethod, IsFirstForm, empty, method}
 use Rattle.vb_tool.specs.FirstFormRead.{Reads, Refuses, Gives, IsFact, tokens_of, StartsWithFormal, IsPlain}
 use Rattle.vb_tool.specs.declared.reader.Unread.{Unread}

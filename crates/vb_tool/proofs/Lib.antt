@@ -1,3 +1,4 @@
+pub mod ExampleLaws
 pub mod Coupled
 pub mod Alike
 pub mod Exact

@@ -8,10 +8,10 @@ use Rattle.std.proofs.lemmas.Bool.{and_parts, and_from, or_left}
 use Rattle.vb_base.specs.Names.{is_name, is_name_start, is_name_byte, NamesDiffer}
 use Rattle.boogie_tree.specs.declared.trees.BBase.TheVariants as base
 use Rattle.boogie_tree.specs.declared.trees.Local.{Local}
-use Rattle.viper_core.specs.declared.trees.Op.{Op}
-use Rattle.viper_core.specs.declared.trees.Op.TheVariants.{Eq, Ne, Lt, Le, Gt, Ge}
-use Rattle.viper_core.specs.Tree as v
-use Rattle.viper_core.specs.Formed as f
+use Rattle.vb_tool.specs.declared.straight.Op.{Op}
+use Rattle.vb_tool.specs.declared.straight.Op.TheVariants.{Eq, Ne, Lt, Le, Gt, Ge}
+use Rattle.vb_tool.specs.Tree as v
+use Rattle.vb_tool.specs.Formed as f
 use Rattle.boogie_tree.specs.Tree as b
 use Rattle.boogie_tree.specs.Types as ty
 use Rattle.boogie_tree.proofs.OneProgram.{one_program}

@@ -6,7 +6,7 @@ use Rattle.vb_outer.specs.Sink.{Appends, AppendsPrefix}
 use Rattle.viper_syntax.specs.declared.tokens.LexFault.{LexFault}
 use Rattle.viper_syntax.specs.declared.tokens.Token.{Token}
 use Rattle.viper_syntax.specs.Lexed.{IsLexed, HasFault}
-use Rattle.viper_core.specs.Tree as v
+use Rattle.vb_tool.specs.Tree as v
 use Rattle.vb_tool.specs.FirstForm.{IsFirstForm}
 use Rattle.vb_tool.specs.Status.{line_of}
 use Rattle.vb_tool.specs.Translates.{Translates}

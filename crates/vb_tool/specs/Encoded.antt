@@ -1,13 +1,13 @@
 -- What is written for a method: its procedure.
 use Rattle.std.specs.Prelude.{◌++◌, ℕ, false, List, map, codes}
 use Rattle.vb_base.specs.declared.labels.Kind.TheVariants as kind
-use Rattle.viper_core.specs.declared.trees.Op.{Op}
-use Rattle.viper_core.specs.declared.trees.Op.TheVariants as v_op
+use Rattle.vb_tool.specs.declared.straight.Op.{Op}
+use Rattle.vb_tool.specs.declared.straight.Op.TheVariants as v_op
 use Rattle.boogie_tree.specs.declared.trees.BOp.{BOp}
 use Rattle.boogie_tree.specs.declared.trees.BOp.TheVariants as b_op
 use Rattle.boogie_tree.specs.declared.trees.BBase.TheVariants as base
 use Rattle.boogie_tree.specs.declared.trees.Local.{Local}
-use Rattle.viper_core.specs.Tree as v
+use Rattle.vb_tool.specs.Tree as v
 use Rattle.boogie_tree.specs.Tree as b
 
 -- the procedure of the method m is `M$m`

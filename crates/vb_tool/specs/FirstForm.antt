@@ -7,9 +7,9 @@ use Rattle.viper_syntax.specs.declared.tokens.Tok.{Tok}
 use Rattle.viper_syntax.specs.declared.tokens.Tok.TheVariants as k
 use Rattle.viper_syntax.specs.declared.tokens.Word.TheVariants as word
 use Rattle.viper_syntax.specs.declared.tokens.Sign.TheVariants as sign
-use Rattle.viper_core.specs.declared.trees.Op.{Op}
-use Rattle.viper_core.specs.declared.trees.Op.TheVariants as op
-use Rattle.viper_core.specs.Tree as v
+use Rattle.vb_tool.specs.declared.straight.Op.{Op}
+use Rattle.vb_tool.specs.declared.straight.Op.TheVariants as op
+use Rattle.vb_tool.specs.Tree as v
 
 -- a comparison's sign
 pub data IsComparison : Tok → Op → Type 0 where

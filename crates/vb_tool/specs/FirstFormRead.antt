@@ -8,11 +8,11 @@ use Rattle.viper_syntax.specs.declared.tokens.Tok.{Tok}
 use Rattle.viper_syntax.specs.declared.tokens.Tok.TheVariants as k
 use Rattle.viper_syntax.specs.declared.tokens.Word.TheVariants as word
 use Rattle.viper_syntax.specs.declared.tokens.Sign.TheVariants as sign
-use Rattle.viper_core.specs.declared.trees.Op.{Op}
-use Rattle.viper_core.specs.declared.trees.Program.{Program}
-use Rattle.viper_core.specs.declared.trees.Body.{Body}
-use Rattle.viper_core.specs.Tree as v
-use Rattle.viper_core.specs.View.{stmt_of, program_of}
+use Rattle.vb_tool.specs.declared.straight.Op.{Op}
+use Rattle.vb_tool.specs.declared.straight.Program.{Program}
+use Rattle.vb_tool.specs.declared.straight.Body.{Body}
+use Rattle.vb_tool.specs.Tree as v
+use Rattle.vb_tool.specs.View.{stmt_of, program_of}
 use Rattle.vb_tool.specs.FirstForm.{IsComparison, IsItem}
 use Rattle.vb_tool.specs.declared.reader.Front.{Front}
 use Rattle.vb_tool.specs.declared.reader.Unread.{Unread}

@@ -1,3 +1,8 @@
+pub mod Tree
+pub mod View
+pub mod Formed
+pub mod Meaning
+pub mod Examples
 pub mod Encoded
 pub mod Printed
 pub mod Status

@@ -2,8 +2,8 @@
 use Rattle.std.specs.Prelude.{◌≡◌, ◌≤◌, ◌++◌, ◌↔◌, ℕ, List, map, slice_get, Some}
 use Rattle.vb_base.specs.declared.labels.Label.{Label}
 use Rattle.boogie_tree.specs.declared.trees.Local.{Local}
-use Rattle.viper_core.specs.Tree as v
-use Rattle.viper_core.specs.Meaning.{ViperFails}
+use Rattle.vb_tool.specs.Tree as v
+use Rattle.vb_tool.specs.Meaning.{ViperFails}
 use Rattle.boogie_tree.specs.Tree as b
 use Rattle.boogie_tree.specs.Grammar.{BSpells, most_open}
 use Rattle.boogie_tree.specs.Types.{IsTyped}

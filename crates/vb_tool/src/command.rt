@@ -4,7 +4,7 @@ ghost use Rattle.std.specs.String.{string_bytes};
 ghost use Rattle.vb_outer.specs.Faults.{Rose};
 ghost use Rattle.vb_outer.specs.Shelf.{IsMissing, IsFile};
 ghost use Rattle.vb_outer.specs.Sink.{Appends, AppendsPrefix};
-ghost use Rattle.viper_core.specs.Tree as v;
+ghost use Rattle.vb_tool.specs.Tree as v;
 ghost use Rattle.vb_tool.specs.Status.{line_of};
 ghost use Rattle.vb_tool.specs.Call.{Accepts, IsRefusal, Names, IsNoCommand, Unreadable, NamedFile, IsCause, Translation, EndsAs, OutAfter, ErrAfter, Causes};
 ghost use Rattle.vb_tool.specs.Parts.{Reports, Delivers, TranslationOf, GivesRefusal, GivesText};

@@ -1,15 +1,15 @@
 // From a program of Viper to one of Boogie.
 ghost use Rattle.std.specs.Prelude.{◌≡◌, ◌++◌, false, map, IfOk};
-ghost use Rattle.viper_core.specs.View as v;
+ghost use Rattle.vb_tool.specs.View as v;
 ghost use Rattle.boogie_tree.specs.View as b;
 ghost use Rattle.boogie_tree.specs.Tree as boogie;
 ghost use Rattle.vb_tool.specs.Encoded.{expr_code, stmt_code, method_code, program_code};
 ghost use Rattle.vb_tool.specs.Encoded as code;
 
+use crate::straight::{Assertion, Expr, Method, Op, Program, Stmt};
 use boogie_tree::{BBase, BExpr, BOp, BProgram, BStmt, Local, Proc};
 use std::alloc::Global;
 use vb_base::{Ident, Kind, Label, Memory};
-use viper_core::{Assertion, Expr, Method, Op, Program, Stmt};
 
 /// The Boogie program of a program: a procedure for each method, in order.
 pub fn encode(alloc: Global, program: &Program) -> Result<BProgram, Memory>

@@ -5,9 +5,11 @@
 
 mod command;
 mod encoder;
+mod laws;
 mod printer;
 mod reader;
 mod status;
+mod straight;
 #[cfg(test)]
 mod tests;
 mod trouble;

@@ -2,16 +2,16 @@
 ghost use Rattle.std.specs.Prelude.{◌≡◌, ◌↔◌, ◌≤◌, ◌∷◌, List, map, length, IsTrue, MatchOption, IfOk};
 ghost use Rattle.vb_base.specs.Names.{NamesDiffer};
 ghost use Rattle.viper_syntax.specs.declared.tokens.Tok as Tokens;
-ghost use Rattle.viper_core.specs.Tree as v;
-ghost use Rattle.viper_core.specs.View.{expr_of, assertion_of, method_of, program_of};
-ghost use Rattle.viper_core.specs.declared.trees.Op.{Op as Operator};
+ghost use Rattle.vb_tool.specs.Tree as v;
+ghost use Rattle.vb_tool.specs.View.{expr_of, assertion_of, method_of, program_of};
+ghost use Rattle.vb_tool.specs.declared.straight.Op.{Op as Operator};
 ghost use Rattle.vb_tool.specs.FirstForm.{IsComparison, IsItem, AreFormals, AreParameters, IsHeader, IsBody, IsMethod, IsFirstForm};
 ghost use Rattle.vb_tool.specs.FirstFormRead.{Reads, Gives, StartsWithFormal, IsFact, tokens_of, front_of, formal_of, body_of};
 ghost use Rattle.vb_tool.specs.declared.reader.Unread.TheVariants as unread;
 
+use crate::straight::{Assertion, Body, Expr, Method, Op, Program, Stmt};
 use std::alloc::{AllocError, AllocFailed, Global};
 use vb_base::{Ident, Memory, Pos};
-use viper_core::{Assertion, Body, Expr, Method, Op, Program, Stmt};
 use viper_syntax::{Sign, Tok, Token, Word};
 
 /// The most tokens of a file of the first form.

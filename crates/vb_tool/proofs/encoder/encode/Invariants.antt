@@ -1,5 +1,5 @@
 use Rattle.std.proofs.Common.{◌≡◌, map, take}
-use Rattle.viper_core.specs.View as v
+use Rattle.vb_tool.specs.View as v
 use Rattle.boogie_tree.specs.View as b
 use Rattle.vb_tool.specs.Encoded.{method_code}
 use Rattle.vb_tool.proofs.encoder.encode.Given as goal

@@ -1,6 +1,6 @@
 use Rattle.std.proofs.Common.{map, ap}
 use Rattle.std.proofs.lemmas.Result.{err_from_is_err_and}
-use Rattle.viper_core.specs.View.{stmt_of}
+use Rattle.vb_tool.specs.View.{stmt_of}
 use Rattle.vb_tool.specs.FirstForm.{IsBody}
 use Rattle.vb_tool.proofs.FirstFormLaws.{seven_items, is_body, fact_in, refused_for}
 use Rattle.vb_tool.proofs.reader.body.Goals as goal

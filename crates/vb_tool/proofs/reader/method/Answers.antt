@@ -2,7 +2,7 @@ use Rattle.std.proofs.Common.{◌∙◌, length, map, sym, ap, subst, arith}
 use Rattle.std.proofs.lemmas.Bool.{false≢true}
 use Rattle.std.proofs.lemmas.Result.{err_from_is_err_and}
 use Rattle.vb_base.specs.Names.{NamesDiffer}
-use Rattle.viper_core.specs.View.{stmt_of}
+use Rattle.vb_tool.specs.View.{stmt_of}
 use Rattle.vb_tool.specs.FirstForm.{IsBody, IsMethod}
 use Rattle.vb_tool.proofs.FirstFormLaws.{is_cut, parts_of, same_names, fewer_names, refused_for}
 use Rattle.vb_tool.proofs.reader.method.Goals as goal

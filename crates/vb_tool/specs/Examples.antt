@@ -3,8 +3,8 @@ use Rattle.std.specs.Prelude.{pos, [], ◌∷◌, codes}
 use Rattle.vb_base.specs.declared.labels.Label.{Label}
 use Rattle.vb_base.specs.declared.labels.Kind.TheVariants as kind
 use Rattle.vb_base.specs.declared.places.Pos.{Pos}
-use Rattle.viper_core.specs.declared.trees.Op.TheVariants.{Eq, Lt}
-use Rattle.viper_core.specs.Tree.{Expr, Var, Int, Bin, Fact, Assert, Method, Program}
+use Rattle.vb_tool.specs.declared.straight.Op.TheVariants.{Eq, Lt}
+use Rattle.vb_tool.specs.Tree.{Expr, Var, Int, Bin, Fact, Assert, Method, Program}
 
 -- `method m(x: Int) { assert E }`, where all stands at one place
 abbrev pub method_asserting : Expr → Pos → Method

@@ -1,4 +1,5 @@
-// The trees. A variable's number is its place in the list of the method's parameters, from 0 on.
+// Straight programs: methods that only assert. Names are resolved: a variable's number is its place in the list of the
+// method's parameters, from 0 on.
 
 use vb_base::{Ident, Pos};
 

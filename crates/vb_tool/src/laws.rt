@@ -2,8 +2,8 @@
 ghost use Rattle.std.specs.Prelude.{ℕ};
 ghost use Rattle.vb_base.specs.declared.labels.Label.{Label};
 ghost use Rattle.vb_base.specs.declared.places.Pos.{Pos};
-ghost use Rattle.viper_core.specs.Meaning.{ViperFails};
-ghost use Rattle.viper_core.specs.Examples.{asserting, equals_itself, is_below_3, is_false};
+ghost use Rattle.vb_tool.specs.Meaning.{ViperFails};
+ghost use Rattle.vb_tool.specs.Examples.{asserting, equals_itself, is_below_3, is_false};
 
 /// No run of `method m(x: Int) { assert x == x }` fails.
 pub fn what_equals_itself_never_fails()

@@ -3,8 +3,8 @@ use Rattle.std.specs.Prelude.{ℕ, pos, ◌<◌, ◌≤◌, ◌^◌, ◌-◌, Li
 use Rattle.std.specs.List.{list_all}
 use Rattle.vb_base.specs.declared.places.Pos.{Pos}
 use Rattle.vb_base.specs.Names.{is_name, NamesDiffer}
-use Rattle.viper_core.specs.declared.trees.Op.{Op}
-use Rattle.viper_core.specs.Tree.{Expr, Var, Int, Bin, Fact, Stmt, Assert, Method, Program}
+use Rattle.vb_tool.specs.declared.straight.Op.{Op}
+use Rattle.vb_tool.specs.Tree.{Expr, Var, Int, Bin, Fact, Stmt, Assert, Method, Program}
 
 -- an expression of type Int, where so many variables are in scope, all of them Ints
 pub data IsInt (variables : ℕ) : Expr → Type 0 where

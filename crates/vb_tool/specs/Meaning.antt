@@ -4,9 +4,9 @@ use Rattle.std.specs.Ordering.{int_cmp, is_lt, is_le, is_eq, is_gt, is_ge}
 use Rattle.vb_base.specs.declared.labels.Label.{Label}
 use Rattle.vb_base.specs.declared.labels.Kind.TheVariants as kind
 use Rattle.vb_base.specs.declared.places.Pos.{Pos}
-use Rattle.viper_core.specs.declared.trees.Op.{Op}
-use Rattle.viper_core.specs.declared.trees.Op.TheVariants.{Eq, Ne, Lt, Le, Gt, Ge}
-use Rattle.viper_core.specs.Tree as t
+use Rattle.vb_tool.specs.declared.straight.Op.{Op}
+use Rattle.vb_tool.specs.declared.straight.Op.TheVariants.{Eq, Ne, Lt, Le, Gt, Ge}
+use Rattle.vb_tool.specs.Tree as t
 
 -- a value
 pub data Value : Type 0 where

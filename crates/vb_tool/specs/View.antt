@@ -1,13 +1,13 @@
 -- What a contract sees of a tree of the program.
 use Rattle.std.specs.Prelude.{map}
-use Rattle.viper_core.specs.Tree as t
-use Rattle.viper_core.specs.declared.trees.Expr as e
-use Rattle.viper_core.specs.declared.trees.Assertion.TheVariants as a
-use Rattle.viper_core.specs.declared.trees.Stmt.TheVariants as s
-use Rattle.viper_core.specs.declared.trees.Assertion.{Assertion as A}
-use Rattle.viper_core.specs.declared.trees.Stmt.{Stmt as S}
-use Rattle.viper_core.specs.declared.trees.Method as m
-use Rattle.viper_core.specs.declared.trees.Program as p
+use Rattle.vb_tool.specs.Tree as t
+use Rattle.vb_tool.specs.declared.straight.Expr as e
+use Rattle.vb_tool.specs.declared.straight.Assertion.TheVariants as a
+use Rattle.vb_tool.specs.declared.straight.Stmt.TheVariants as s
+use Rattle.vb_tool.specs.declared.straight.Assertion.{Assertion as A}
+use Rattle.vb_tool.specs.declared.straight.Stmt.{Stmt as S}
+use Rattle.vb_tool.specs.declared.straight.Method as m
+use Rattle.vb_tool.specs.declared.straight.Program as p
 
 abbrev pub expr_of : e.Expr → t.Expr
 expr_of (e.Var x) = t.Var x

@@ -4,9 +4,9 @@ use Rattle.std.specs.declared.cmp.Ordering.TheVariants.{Equal}
 use Rattle.std.specs.Cmp.{int_cmp_is}
 use Rattle.vb_base.specs.declared.labels.Label.{Label}
 use Rattle.vb_base.specs.declared.places.Pos.{Pos}
-use Rattle.viper_core.specs.Tree as t
-use Rattle.viper_core.specs.Meaning.{Value, Int, Choice, Branch, Took, Memo, Done, Failed, IsOpening, ViperFails, unit_run, run}
-use Rattle.viper_core.specs.Examples.{asserting, method_asserting, equals_itself, is_below_3, is_false}
+use Rattle.vb_tool.specs.Tree as t
+use Rattle.vb_tool.specs.Meaning.{Value, Int, Choice, Branch, Took, Memo, Done, Failed, IsOpening, ViperFails, unit_run, run}
+use Rattle.vb_tool.specs.Examples.{asserting, method_asserting, equals_itself, is_below_3, is_false}
 
 -- the body is done at each number
 at_number : (at : Pos) (n : ℤ) → run (t.Assert at (t.Fact (equals_itself at) at) ∷ []) (Int n ∷ []) ≡ Done

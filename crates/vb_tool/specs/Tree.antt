@@ -1,7 +1,7 @@
 -- The trees as plain data: without boxes, and with lists for vectors.
 use Rattle.std.specs.Prelude.{ℕ, ℤ, List}
 use Rattle.vb_base.specs.declared.places.Pos.{Pos}
-use Rattle.viper_core.specs.declared.trees.Op.{Op}
+use Rattle.vb_tool.specs.declared.straight.Op.{Op}
 
 pub data Expr : Type 0 where
   Var : ℕ → Expr

@@ -1,5 +1,0 @@
-use Rattle.viper_core.proofs.ExampleLaws.{never_fails}
-use Rattle.viper_core.proofs.laws.what_equals_itself_never_fails.Goals as goal
-
-pub returns : goal.returns
-returns c = never_fails
