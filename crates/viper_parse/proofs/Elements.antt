@@ -1,5 +1,5 @@
 -- Each test has a token that passes it, and each symbol spells something.
-use Rattle.std.proofs.Common.{◌≡◌, refl, ◌≤◌, ◌<◌, ◌^◌, ℕ, zero, suc, pos, Bool, true, false, List, [], ◌∷◌, ◌++◌, nat_lt, cond, IsTrue, if◌then◌else◌, arith}
+use Rattle.std.proofs.Common.{refl, ℕ, zero, suc, pos, Bool, true, false, List, [], ◌∷◌, ◌++◌, cond, IsTrue, arith}
 use Rattle.vb_base.specs.declared.places.Pos.{Pos}
 use Rattle.viper_syntax.specs.declared.tokens.Token.{Token}
 use Rattle.viper_syntax.specs.declared.tokens.Tok.TheVariants as tok
@@ -8,7 +8,6 @@ use Rattle.viper_syntax.specs.declared.tokens.Word.TheVariants as word
 use Rattle.viper_parse.specs.declared.parts.WordClass.{WordClass}
 use Rattle.viper_parse.specs.declared.parts.WordClass.TheVariants as class
 use Rattle.viper_syntax.specs.declared.tokens.Sign.TheVariants as sign
-use Rattle.viper_syntax.specs.Stmt as s
 use Rattle.viper_syntax.specs.Decl as d
 use Rattle.viper_parse.specs.Tests as v
 use Rattle.viper_parse.specs.Tests.{Kind, Value, Part, Test, this, a_name, a_number, one_of, a_negation, an_operator, belongs, Passes, Starts}

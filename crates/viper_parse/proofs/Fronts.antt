@@ -1,7 +1,6 @@
 -- Lists with the same front, and tokens that begin a list.
-use Rattle.std.proofs.Common.{◌≡◌, refl, sym, ap, subst, ◌∙◌, Bool, true, List, [], ◌∷◌, ◌++◌, append_assoc}
+use Rattle.std.proofs.Common.{◌≡◌, subst, Bool, List, [], ◌∷◌, ◌++◌}
 use Rattle.viper_syntax.specs.declared.stmts.Named.{Named}
-use Rattle.vb_base.specs.declared.places.Pos.{Pos}
 use Rattle.viper_syntax.specs.declared.tokens.Token.{Token}
 use Rattle.viper_parse.specs.Tests.{Kind, Value, Test, this, a_name, a_number, one_of, a_negation, an_operator, Passes, Starts}
 use Rattle.viper_parse.specs.Greedy.{IsNot, Front, here, step, SameFirst, token, end}

@@ -7,3 +7,4 @@ pub mod Codes
 pub mod Complete
 pub mod Shallow
 pub mod Parsed
+pub mod Places

@@ -1,18 +1,15 @@
 -- What `parse` answers, from how the declarations were read.
-use Rattle.std.proofs.Common.{◌≡◌, refl, sym, ap, subst, ◌∙◌, ℕ, zero, suc, ◌-◌, List, [], ◌∷◌, ◌++◌, length, Result, Ok, Err, Vec, map, arith}
-use Rattle.std.specs.declared.alloc.Global.{Global}
-use Rattle.std.proofs.lemmas.List.{append-nil, length-append}
+use Rattle.std.proofs.Common.{◌≡◌, refl, sym, ap, subst, ◌∙◌, zero, ◌-◌, List, [], ◌∷◌, ◌++◌, length, Err}
+use Rattle.std.proofs.lemmas.List.{append-nil}
 use Rattle.vb_base.specs.declared.places.Pos.{Pos}
 use Rattle.viper_syntax.specs.declared.tokens.Token.{Token}
 use Rattle.viper_syntax.specs.Decl as d
 use Rattle.viper_parse.specs.declared.parts.Stop.{Stop}
 use Rattle.viper_parse.specs.declared.parts.Stop.TheVariants as stop
-use Rattle.viper_parse.specs.declared.program.ParseFault.{ParseFault}
 use Rattle.viper_parse.specs.Tests as v
 use Rattle.viper_parse.specs.Grammar as g
 use Rattle.viper_parse.specs.Grammar.{rule}
 use Rattle.viper_parse.specs.Spells.{Derives, Spells}
-use Rattle.viper_parse.specs.Place.{IsPlace}
 use Rattle.viper_parse.specs.Greedy.{Reads, SameFirst, token, end}
 use Rattle.viper_parse.specs.Whole.{FailsWhole, RefusesWhole}
 use Rattle.viper_parse.specs.Answers.{IsProgram, place_at, Gives, Refuses, fault_of}

@@ -5,9 +5,9 @@ use Rattle.viper_parse.specs.Tests.{Kind, Value, Test, Passes, Starts}
 use Rattle.viper_parse.specs.Grammar.{Symbol, Rule, give, need, when, read, rule}
 use Rattle.viper_parse.specs.Spells as plain
 use Rattle.viper_parse.specs.Spells.{Derives}
-use Rattle.viper_parse.specs.Greedy.{IsNot, Reads, given, needed, taken, passed, called, Front, here, step, SameFirst, token, end, Stuck, Opens, Fails, Goes}
-use Rattle.viper_parse.proofs.Fronts.{front_then, front_first, front_append, front_after, one_start, start_same, isnot_same}
-use Rattle.viper_parse.proofs.Elements.{Element, element}
+use Rattle.viper_parse.specs.Greedy.{IsNot, Reads, given, needed, taken, passed, called, Front, here, step, SameFirst, Fails, Goes}
+use Rattle.viper_parse.proofs.Fronts.{front_then, front_first, front_append, front_after, one_start, isnot_same}
+use Rattle.viper_parse.proofs.Elements.{element}
 
 -- the same tokens are read in one way
 reads_at : {s : Kind} (r : Kind) (go : Value r → Rule s) {v w : Value r} {us ws vs : List Token} {x : Value s} →

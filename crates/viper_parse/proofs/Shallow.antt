@@ -1,7 +1,6 @@
 -- A term is nested no deeper than its tokens are many, and they stand in a row without a divider.
-use Rattle.std.proofs.Common.{◌≡◌, refl, sym, ap, subst, ◌∙◌, ℕ, zero, suc, ◌+◌, ◌≤◌, max, Bool, true, false, cond, List, [], ◌∷◌, ◌++◌, Option, Some, None, length, append_assoc, arith, if◌then◌else◌, IsTrue}
+use Rattle.std.proofs.Common.{◌≡◌, refl, sym, ap, subst, ◌∙◌, ℕ, zero, suc, ◌+◌, ◌≤◌, max, Bool, true, false, cond, List, [], ◌∷◌, ◌++◌, length, append_assoc, arith, if◌then◌else◌, IsTrue}
 use Rattle.std.proofs.lemmas.List.{append-nil, length-append}
-use Rattle.vb_base.specs.declared.places.Pos.{Pos}
 use Rattle.viper_syntax.specs.declared.tokens.Token.{Token}
 use Rattle.viper_syntax.specs.declared.tokens.Word.{Word}
 use Rattle.viper_syntax.specs.declared.tokens.Word.TheVariants as word
@@ -17,7 +16,7 @@ use Rattle.viper_parse.specs.Tests.{Kind, Value, Part, Test, this, a_name, a_num
 use Rattle.viper_parse.specs.Grammar as g
 use Rattle.viper_parse.specs.Grammar.{Symbol, Rule, give, need, when, read, rule}
 use Rattle.viper_parse.specs.Spells.{Derives, given, needed, taken, passed, called}
-use Rattle.viper_parse.specs.Depth.{depth, amount_depth, terms_depth, amount_terms, rhs_terms, option_terms, stmt_terms, block_terms, arm_terms, else_terms, stmts_terms, arms_terms, clauses_terms, decl_terms, decls_terms, divides, divides_word, divides_sign, IsRow, HasShortRows, AllShallow}
+use Rattle.viper_parse.specs.Depth.{depth, amount_depth, terms_depth, amount_terms, rhs_terms, option_terms, stmt_terms, block_terms, arm_terms, stmts_terms, arms_terms, clauses_terms, decl_terms, decls_terms, divides, divides_word, divides_sign, IsRow, HasShortRows, AllShallow}
 
 -- depths of lists
 

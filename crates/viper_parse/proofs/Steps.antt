@@ -1,5 +1,5 @@
 -- What a function answers at each of its exits, from how far it has read.
-use Rattle.std.proofs.Common.{◌≡◌, refl, sym, ap, subst, ◌∙◌, Bool, true, false, List, ℕ, zero, suc, ◌+◌, ◌≤◌, add-one, arith, Result, Ok, Err, Bor, cond, if◌then◌else◌, ◌<◌, ◌⊎◌, inl, inr, Option, Some, None, MatchOption, [], ◌∷◌, ◌++◌, map}
+use Rattle.std.proofs.Common.{◌≡◌, sym, ap, subst, ◌∙◌, Bool, true, false, List, ℕ, zero, suc, ◌+◌, ◌≤◌, add-one, arith, Result, Ok, Err, Bor, cond, if◌then◌else◌, ◌<◌, inl, inr, Option, Some, None, MatchOption, [], ◌∷◌, ◌++◌, map}
 use Rattle.std.proofs.Math.Nat.{eq-or-lt_of_le}
 use Rattle.std.proofs.lemmas.List.{map-append}
 use Rattle.std.specs.Result.{IsErrAnd}
@@ -11,7 +11,7 @@ use Rattle.viper_parse.specs.Tests as v
 use Rattle.viper_parse.specs.Tests.{Kind, Value, Part, Test, Starts}
 use Rattle.viper_parse.specs.Grammar as g
 use Rattle.viper_parse.specs.Grammar.{Symbol, Rule, give, need, when, read, rule}
-use Rattle.viper_parse.specs.Greedy.{IsNot, Reads, given, needed, taken, passed, called, Fails, Goes, Refuses, Parses, Misses}
+use Rattle.viper_parse.specs.Greedy.{IsNot, Reads, given, passed, called, Fails, Goes, Refuses, Parses, Misses}
 use Rattle.viper_parse.proofs.Reading.{fails_in, fails_called, whole, wrong_token, wrong_part}
 
 -- an error at a `?`

@@ -1,5 +1,5 @@
 -- Programs: what is read up to the end of the tokens, and the place of a refusal.
-use Rattle.std.proofs.Common.{◌≡◌, refl, sym, ap, subst, ◌∙◌, ◌<◌, ◌≤◌, ◌+◌, ◌-◌, ℕ, List, [], ◌∷◌, ◌++◌, length, take, drop, map, Result, Ok, Err, Option, Some, None, Bor, arith, append_assoc, true, false, ◌==◌}
+use Rattle.std.proofs.Common.{◌≡◌, refl, sym, ap, subst, ◌∙◌, ◌<◌, ◌+◌, ◌-◌, List, [], ◌∷◌, ◌++◌, length, take, Result, Option, Bor, arith, append_assoc, true, false, ◌==◌}
 use Rattle.std.proofs.lemmas.Bool.{eqb-true}
 use Rattle.std.proofs.lemmas.List.{append-nil, length-append}
 use Rattle.std.proofs.Math.Seq.{take-append_seam, take-append-add}
@@ -8,7 +8,6 @@ use Rattle.std.proofs.lemmas.Result.{err_from_is_err_and}
 use Rattle.viper_syntax.specs.declared.tokens.Token.{Token}
 use Rattle.viper_syntax.specs.declared.decls.Decl.{Decl}
 use Rattle.viper_syntax.specs.Decl as d
-use Rattle.viper_syntax.specs.View.{decl_of}
 use Rattle.viper_parse.specs.declared.parts.Stop.{Stop}
 use Rattle.viper_parse.specs.declared.parts.Stop.TheVariants as stop
 use Rattle.viper_parse.specs.Tests as v
@@ -17,10 +16,10 @@ use Rattle.viper_parse.specs.Grammar as g
 use Rattle.viper_parse.specs.Grammar.{Symbol, Rule, give, read, rule}
 use Rattle.viper_parse.specs.Spells.{Derives}
 use Rattle.viper_parse.specs.Place.{Begins, IsPlace}
-use Rattle.viper_parse.specs.Greedy.{Reads, Front, here, step, SameFirst, token, end, Stuck, Opens, Fails, Goes, Refuses}
-use Rattle.viper_parse.specs.Whole.{Declares, DeclareFails, StuckWhole, FailsWhole, RefusesWhole, ReadsWhole}
+use Rattle.viper_parse.specs.Greedy.{Reads, Front, here, step, SameFirst, token, Fails, Goes, Refuses}
+use Rattle.viper_parse.specs.Whole.{Declares, DeclareFails, FailsWhole, RefusesWhole, ReadsWhole}
 use Rattle.viper_parse.proofs.Fronts.{front_append}
-use Rattle.viper_parse.proofs.Reading.{derivation, one_reading, move, wrong_part}
+use Rattle.viper_parse.proofs.Reading.{derivation, one_reading, move}
 
 -- an error at a `?` of `declaration`
 

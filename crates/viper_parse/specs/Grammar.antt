@@ -2,9 +2,8 @@
 -- symbols, with alternatives, and at its end it says what tree was spelled. A symbol of a list carries what the list
 -- has so far. The notation in front of each rule is that of the Viper tutorial: `[x]` is x or nothing, and `{x}` is x
 -- any number of times.
-use Rattle.std.specs.Prelude.{◌≡◌, ℕ, zero, suc, ◌-◌, Bool, true, false, List, [], ◌∷◌, ◌++◌, Some, None, nat_lt, cond, if◌then◌else◌}
+use Rattle.std.specs.Prelude.{ℕ, zero, suc, ◌-◌, Bool, true, false, List, [], ◌∷◌, ◌++◌, Some, None, nat_lt, cond, if◌then◌else◌}
 use Rattle.vb_base.specs.declared.places.Pos.{Pos}
-use Rattle.viper_syntax.specs.declared.tokens.Tok.{Tok}
 use Rattle.viper_syntax.specs.declared.tokens.Tok.TheVariants as tok
 use Rattle.viper_syntax.specs.declared.tokens.Word.{Word}
 use Rattle.viper_syntax.specs.declared.tokens.Word.TheVariants as word

@@ -1,5 +1,5 @@
 -- The place of a refusal, for any kind of token and for whatever lists of them count as texts.
-use Rattle.std.specs.Prelude.{◌≡◌, ℕ, ◌+◌, ◌<◌, ◌≤◌, List, ◌++◌, length, take}
+use Rattle.std.specs.Prelude.{ℕ, ◌+◌, ◌<◌, ◌≤◌, List, ◌++◌, length, take}
 
 -- some text begins with these tokens
 abbrev pub Begins : {T : Type 0} → (List T → Type 0) → List T → Type 0

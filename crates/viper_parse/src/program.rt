@@ -2,8 +2,9 @@
 ghost use Rattle.std.specs.Prelude.{◌≡◌, ℕ, List, IfOk};
 ghost use Rattle.viper_syntax.specs.Decl as d;
 ghost use Rattle.viper_syntax.specs.View.{program_of};
-ghost use Rattle.viper_parse.specs.Answers.{Gives, Refuses, place_at, fault_of};
+ghost use Rattle.viper_parse.specs.Answers.{IsProgram, Gives, Refuses, place_at, fault_of};
 ghost use Rattle.viper_parse.specs.Depth.{HasShortRows, AllShallow, decls_terms};
+ghost use Rattle.viper_parse.specs.Place.{IsPlace};
 ghost use Rattle.viper_parse.specs.Spells.{Spells};
 
 use crate::decls::declarations;
@@ -68,4 +69,9 @@ fn place_of(tokens: &[Token], end: Pos) -> Pos
 /// A list of tokens spells at most one program.
 pub fn one_tree()
     ensures { (ts : List Token) (p q : d.SourceProgram) → Spells ts p → Spells ts q → p ≡ q }
+{}
+
+/// A list of tokens goes wrong at one place at most.
+pub fn one_place()
+    ensures { (ts : List Token) (i j : ℕ) → IsPlace IsProgram ts i → IsPlace IsProgram ts j → i ≡ j }
 {}

@@ -1,5 +1,5 @@
-use Rattle.std.proofs.Common.{◌≤◌, ◌<◌, ◌+◌, ◌*◌, length, map, []}
-use Rattle.viper_syntax.specs.View.{term_of, stmt_of, arm_of, clause_of, decl_of}
+use Rattle.std.proofs.Common.{◌≤◌, length, map, []}
+use Rattle.viper_syntax.specs.View.{decl_of}
 use Rattle.viper_parse.specs.Grammar as g
 use Rattle.viper_parse.specs.Greedy.{Goes}
 use Rattle.viper_parse.proofs.decls.declarations.Given as goal

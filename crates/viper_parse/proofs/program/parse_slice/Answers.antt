@@ -1,5 +1,4 @@
 use Rattle.std.proofs.Common.{sym, subst, Err}
-use Rattle.viper_syntax.specs.View.{program_of}
 use Rattle.viper_parse.specs.Answers.{Gives, Refuses}
 use Rattle.viper_parse.proofs.Parsed.{spelled, only_one, refuses_only, refuses_there}
 use Rattle.viper_parse.proofs.Shallow.{all_shallow}

@@ -1,5 +1,4 @@
-use Rattle.std.proofs.Common.{◌≤◌, ◌<◌, ◌+◌, ◌*◌, length, map, []}
-use Rattle.viper_syntax.specs.View.{term_of, stmt_of, arm_of, clause_of, decl_of}
+use Rattle.std.proofs.Common.{◌≤◌, length}
 use Rattle.viper_parse.specs.Grammar as g
 use Rattle.viper_parse.specs.Greedy.{Goes}
 use Rattle.viper_parse.proofs.stmts.more_names.Given as goal

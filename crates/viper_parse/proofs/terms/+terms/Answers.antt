@@ -1,4 +1,4 @@
-use Rattle.std.proofs.Common.{◌≡◌, refl, sym, ap, ◌∙◌, ◌<◌, ◌≤◌, length, false, map, List, [], ◌∷◌, ◌++◌, arith, if◌then◌else◌}
+use Rattle.std.proofs.Common.{◌≡◌, sym, ap, ◌∙◌, map, arith}
 use Rattle.viper_syntax.specs.View.{term_of, amount_of, call_of}
 use Rattle.std.proofs.lemmas.Int.{to_z-of_z}
 use mir.Val.{to_z, of_z}
@@ -10,7 +10,7 @@ use Rattle.viper_parse.specs.Grammar.{give}
 use Rattle.viper_parse.specs.Greedy.{called, given}
 use Rattle.viper_parse.specs.View.{part_of, instance_of, arguments_of}
 use Rattle.viper_parse.proofs.Reading.{fails_in, start, by_need, by_token, by_other, by_part, whole}
-use Rattle.viper_parse.proofs.Steps.{error_as, part_error, token_error, tail, pass_on, whole_as, goes_at, stays, goes_further, reads_no_further, once, again, level_longer, level_fails, longer_fails, level_at, level_refuses_at, pushed_first, pushed_more}
+use Rattle.viper_parse.proofs.Steps.{error_as, part_error, token_error, tail, pass_on, whole_as, goes_at, stays, goes_further, once, again, level_longer, level_fails, longer_fails, level_at, level_refuses_at, pushed_first, pushed_more}
 use Rattle.viper_parse.proofs.terms.+terms.Goals as goal
 
 pub term-returns-in_err-part-clause-reads : goal.term-returns-in_err-part-clause-reads

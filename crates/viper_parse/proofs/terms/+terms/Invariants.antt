@@ -1,4 +1,4 @@
-use Rattle.std.proofs.Common.{◌≡◌, ℕ, ◌+◌, ◌*◌, ◌≤◌, ◌<◌, length, map, List, [], ◌∷◌, ◌++◌}
+use Rattle.std.proofs.Common.{◌+◌, ◌*◌, ◌≤◌, ◌<◌, length, map}
 use Rattle.viper_syntax.specs.View.{term_of}
 use Rattle.viper_parse.specs.Grammar as g
 use Rattle.viper_parse.specs.Greedy.{Goes, Reads}

@@ -1,12 +1,10 @@
-use Rattle.std.proofs.Common.{◌≡◌, refl, sym, ap, ◌∙◌, ◌<◌, ◌≤◌, length, false, map, List, [], ◌∷◌, ◌++◌, arith, if◌then◌else◌}
-use Rattle.viper_syntax.specs.View.{term_of, amount_of, call_of}
+use Rattle.std.proofs.Common.{arith}
 use Rattle.viper_parse.specs.Tests as v
 use Rattle.viper_parse.specs.Grammar as g
 use Rattle.viper_parse.specs.Grammar.{give}
-use Rattle.viper_parse.specs.Greedy.{called, given}
-use Rattle.viper_parse.specs.View.{part_of, instance_of, arguments_of}
-use Rattle.viper_parse.proofs.Reading.{fails_in, start, by_need, by_token, by_other, by_part, whole}
-use Rattle.viper_parse.proofs.Steps.{error_as, part_error, token_error, tail, pass_on, whole_as, goes_at, stays, goes_further, reads_no_further, once, again, level_longer, level_fails, longer_fails}
+use Rattle.viper_parse.specs.View.{part_of}
+use Rattle.viper_parse.proofs.Reading.{start, by_need, by_token, by_other, whole}
+use Rattle.viper_parse.proofs.Steps.{token_error, tail, goes_at}
 use Rattle.viper_parse.proofs.terms.fields.Goals as goal
 
 pub loop-after-init : goal.loop-after-init

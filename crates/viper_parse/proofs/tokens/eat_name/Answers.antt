@@ -1,4 +1,4 @@
-use Rattle.std.proofs.Common.{◌≡◌, ◌∙◌, refl, sym, ap}
+use Rattle.std.proofs.Common.{◌∙◌, refl, sym, ap}
 use Rattle.viper_syntax.specs.declared.tokens.Tok.TheVariants as tok
 use Rattle.viper_parse.proofs.tokens.eat_name.Goals as goal
 
