@@ -7,5 +7,6 @@ pub mod Spelled
 pub mod Nesting
 pub mod Translation
 pub mod FirstFormLaws
+pub mod FormSpells
 pub mod CallLaws
 pub mod MaskLaws

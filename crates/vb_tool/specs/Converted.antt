@@ -3,6 +3,8 @@ use Rattle.vb_outer.specs.declared.fault.FileFault.{FileFault}
 use Rattle.vb_outer.specs.declared.fault.FileFault.TheVariants as file
 use Rattle.viper_syntax.specs.declared.tokens.LexFault.{LexFault}
 use Rattle.viper_syntax.specs.declared.tokens.LexFault.TheVariants as lex
+use Rattle.viper_parse.specs.declared.program.ParseFault.{ParseFault}
+use Rattle.viper_parse.specs.declared.program.ParseFault.TheVariants as parse
 use Rattle.vb_tool.specs.declared.reader.Unread.{Unread}
 use Rattle.vb_tool.specs.declared.reader.Unread.TheVariants as unread
 use Rattle.vb_tool.specs.declared.status.Refusal.TheVariants as refusal
@@ -22,6 +24,10 @@ trouble_of_lex (lex.Braces at) = Refused (refusal.Lex (lex.Braces at))
 trouble_of_lex (lex.LongGroup at) = Refused (refusal.Lex (lex.LongGroup at))
 trouble_of_lex (lex.Unsupported at) = Refused (refusal.Lex (lex.Unsupported at))
 trouble_of_lex lex.Memory = Memory
+
+abbrev pub trouble_of_parse : ParseFault → Trouble
+trouble_of_parse parse.Memory = Memory
+trouble_of_parse (parse.Syntax at) = Refused (refusal.Syntax at)
 
 abbrev pub trouble_of_unread : Unread → Trouble
 trouble_of_unread unread.Memory = Memory

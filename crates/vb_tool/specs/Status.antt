@@ -3,7 +3,7 @@ use Rattle.std.specs.Prelude.{◌++◌, ℕ, List, [], codes}
 use Rattle.vb_base.specs.Labels.{place_text}
 use Rattle.viper_syntax.specs.declared.tokens.LexFault.TheVariants.{BadByte, OpenComment, BigLiteral, Braces, LongGroup, Unsupported, Memory}
 use Rattle.vb_tool.specs.declared.status.Refusal.{Refusal}
-use Rattle.vb_tool.specs.declared.status.Refusal.TheVariants.{Size, Lex, NotYet}
+use Rattle.vb_tool.specs.declared.status.Refusal.TheVariants.{Size, Lex, Syntax, NotYet}
 use Rattle.vb_tool.specs.declared.status.Status.{Status}
 use Rattle.vb_tool.specs.declared.status.Status.TheVariants.{Done, Refused, Usage, ReadFault, WriteFault, NoMemory}
 
@@ -25,6 +25,7 @@ refusal_text (Lex (Braces at)) = codes "braces " ++ place_text at
 refusal_text (Lex (LongGroup at)) = codes "long-group " ++ place_text at
 refusal_text (Lex (Unsupported at)) = codes "unsupported " ++ place_text at
 refusal_text (Lex Memory) = codes "memory"
+refusal_text (Syntax at) = codes "syntax " ++ place_text at
 refusal_text NotYet = codes "not-yet"
 
 -- one line, or nothing where the status writes none

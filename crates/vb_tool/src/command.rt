@@ -17,7 +17,8 @@ use crate::status::{Refusal, Status, line};
 use crate::trouble::Trouble;
 use std::alloc::Global;
 use vb_outer::{Shelf, Sink, read_file, write_all};
-use viper_syntax::lex;
+use viper_parse::parse;
+use viper_syntax::{lex, place_after};
 
 /// A Viper file has at most so many bytes.
 pub const MAX_FILE: usize = 1_048_576;
@@ -101,6 +102,8 @@ fn translated(alloc: Global, bytes: &[u8]) -> Result<Vec<u8>, Trouble>
     ensures accepted { (program : v.Program) → Accepts bytes.now program → GivesText result }
 {
     let tokens = lex(alloc, bytes)?;
+    // The first form is read from the tokens: what counts here is that they spell a program.
+    parse(alloc, &tokens, place_after(bytes))?;
     let program = first_form(alloc, &tokens)?;
     let boogie = encode(alloc, &program)?;
     Ok(print(alloc, &boogie)?)

@@ -5,6 +5,7 @@ ghost use Rattle.vb_tool.specs.Status.{line_of};
 
 use std::alloc::{AllocError, Global};
 use std::fmt;
+use vb_base::Pos;
 use viper_syntax::LexFault;
 
 /// Why a file is not translated. The refusals are tried in this order.
@@ -14,7 +15,10 @@ pub enum Refusal {
     Size,
     /// The file has no tokens: a byte, a comment, a number, a bracket or a word is wrong at a place.
     Lex(LexFault),
-    /// Its tokens are not those of a file of the first form, which is all that is translated today.
+    /// Its tokens spell no program. The place is that of the first token with which they begin none, or the end of the
+    /// file where all of them begin one.
+    Syntax(Pos),
+    /// Its tokens spell a program, but none of the first form, which is all that is translated today.
     NotYet,
 }
 
@@ -68,6 +72,7 @@ impl fmt::Display for Refusal {
             Refusal::Lex(LexFault::LongGroup(at)) => write!(f, "long-group {at}"),
             Refusal::Lex(LexFault::Unsupported(at)) => write!(f, "unsupported {at}"),
             Refusal::Lex(LexFault::Memory) => f.write_str("memory"),
+            Refusal::Syntax(at) => write!(f, "syntax {at}"),
             Refusal::NotYet => f.write_str("not-yet"),
         }
     }

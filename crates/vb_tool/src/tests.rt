@@ -55,6 +55,14 @@ fn with_parameters(alloc: Global, count: u32) -> Result<Vec<u8>, AllocError> {
     Ok(text)
 }
 
+/// `method m() { assert !!..!true }` with so many signs, and so a group of count + 1 tokens from column 21 on.
+fn with_negations(alloc: Global, count: usize) -> Result<Vec<u8>, AllocError> {
+    let mut text = b"method m() { assert ".to_vec(alloc)?;
+    text.extend_from_slice(&vec![in alloc; b'!'; count]?)?;
+    text.extend_from_slice(b"true }")?;
+    Ok(text)
+}
+
 #[test]
 fn a_file_of_the_first_form_is_translated(rt: HostRuntime) -> Result<(), Fail> {
     let alloc = rt.alloc();
@@ -94,15 +102,21 @@ fn a_file_of_the_first_form_is_translated(rt: HostRuntime) -> Result<(), Fail> {
 #[test]
 fn another_file_is_refused_by_one_line(rt: HostRuntime) -> Result<(), Fail> {
     let alloc = rt.alloc();
-    let rows: [(&[u8], &[u8]); 12] = [
+    let rows: [(&[u8], &[u8]); 15] = [
         (b"method m() { assert true }", b"error: not-yet\n"),
+        (b"field f: Int", b"error: not-yet\n"),
         (
             b"method m(x: Int, x: Int) { assert x < 3 }",
             b"error: not-yet\n",
         ),
-        (b"method method() { assert 1 < 2 }", b"error: not-yet\n"),
+        (b"method method() { assert 1 < 2 }", b"error: syntax 1:8\n"),
         (b"method m() { assert x < 3 }", b"error: not-yet\n"),
-        (b"method m(x: Int,) { assert x < 3 }", b"error: not-yet\n"),
+        (
+            b"method m(x: Int,) { assert x < 3 }",
+            b"error: syntax 1:17\n",
+        ),
+        // All of the tokens begin a program, and the text ends.
+        (b"method m() { assert true", b"error: syntax 1:25\n"),
         (
             b"method m() { assert 1 < 2 } method n() { assert 1 < 2 }",
             b"error: not-yet\n",
@@ -116,7 +130,12 @@ fn another_file_is_refused_by_one_line(rt: HostRuntime) -> Result<(), Fail> {
         (b"domain D {}", b"error: unsupported 1:1\n"),
         // The place of a fault in the cut comes before that of a word.
         (b"domain D {}\n@", b"error: bad-byte 2:1\n"),
-        (b"assert", b"error: not-yet\n"),
+        (b"assert", b"error: syntax 1:1\n"),
+        // A refused word comes before what is wrong with the tokens.
+        (
+            b"method m() { assert forall }}",
+            b"error: unsupported 1:21\n",
+        ),
     ];
     for (text, line) in rows {
         let (status, out, err) = translated(alloc, text)?;
@@ -132,15 +151,19 @@ fn long_files_are_refused_from_the_first_byte_or_token_too_many(
     rt: HostRuntime,
 ) -> Result<(), Fail> {
     let alloc = rt.alloc();
-    let braces = vec![in alloc; b'{'; 129]?;
-    let group = vec![in alloc; b'+'; 1025]?;
+    let most_braces = vec![in alloc; b'{'; 128]?;
+    let too_many_braces = vec![in alloc; b'{'; 129]?;
+    let longest_group = with_negations(alloc, 1023)?;
+    let too_long_group = with_negations(alloc, 1024)?;
     let blanks = vec![in alloc; b' '; 1_048_576]?;
     let more_blanks = vec![in alloc; b' '; 1_048_577]?;
     let most_tokens = with_parameters(alloc, 247)?;
     let too_many_tokens = with_parameters(alloc, 248)?;
-    let rows: [(&Vec<u8>, u8, &[u8]); 6] = [
-        (&braces, 1, b"error: braces 1:129\n"),
-        (&group, 1, b"error: long-group 1:1025\n"),
+    let rows: [(&Vec<u8>, u8, &[u8]); 8] = [
+        (&most_braces, 1, b"error: syntax 1:1\n"),
+        (&too_many_braces, 1, b"error: braces 1:129\n"),
+        (&longest_group, 1, b"error: not-yet\n"),
+        (&too_long_group, 1, b"error: long-group 1:1045\n"),
         (&blanks, 0, b""),
         (&more_blanks, 1, b"error: size\n"),
         (&most_tokens, 0, b""),

@@ -2,12 +2,13 @@
 ghost use Rattle.std.specs.Prelude.{◌≡◌};
 ghost use Rattle.vb_tool.specs.declared.trouble.Trouble.TheVariants as trouble;
 ghost use Rattle.vb_tool.specs.declared.status.Refusal.TheVariants as refusal;
-ghost use Rattle.vb_tool.specs.Converted.{trouble_of_file, trouble_of_lex, trouble_of_unread};
+ghost use Rattle.vb_tool.specs.Converted.{trouble_of_file, trouble_of_lex, trouble_of_parse, trouble_of_unread};
 
 use crate::reader::Unread;
 use crate::status::Refusal;
 use vb_base::Memory;
 use vb_outer::FileFault;
+use viper_parse::ParseFault;
 use viper_syntax::LexFault;
 
 /// Why a named file gave no text.
@@ -46,6 +47,17 @@ impl From<LexFault> for Trouble {
         match fault {
             LexFault::Memory => Trouble::Memory,
             _ => Trouble::Refused(Refusal::Lex(fault)),
+        }
+    }
+}
+
+impl From<ParseFault> for Trouble {
+    ghost from_gives = { λ fault e. e ≡ trouble_of_parse fault };
+
+    fn from(fault: ParseFault) -> Trouble {
+        match fault {
+            ParseFault::Memory => Trouble::Memory,
+            ParseFault::Syntax(at) => Trouble::Refused(Refusal::Syntax(at)),
         }
     }
 }
