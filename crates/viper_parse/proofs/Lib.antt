@@ -8,3 +8,6 @@ pub mod Complete
 pub mod Shallow
 pub mod Parsed
 pub mod Places
+pub mod Leaves
+pub mod Counted
+pub mod GoodLaws

@@ -6,6 +6,7 @@ use Rattle.viper_syntax.specs.declared.tokens.Word.{Word}
 use Rattle.viper_syntax.specs.declared.tokens.Word.TheVariants as word
 use Rattle.viper_syntax.specs.declared.tokens.Sign.{Sign}
 use Rattle.viper_syntax.specs.declared.tokens.Sign.TheVariants as sign
+use Rattle.viper_syntax.specs.declared.stmts.Named.{Named}
 use Rattle.viper_syntax.specs.Term as t
 use Rattle.viper_syntax.specs.Stmt as s
 use Rattle.viper_syntax.specs.Decl as d
@@ -16,7 +17,9 @@ use Rattle.viper_parse.specs.Tests.{Kind, Value, Part, Test, this, a_name, a_num
 use Rattle.viper_parse.specs.Grammar as g
 use Rattle.viper_parse.specs.Grammar.{Symbol, Rule, give, need, when, read, rule}
 use Rattle.viper_parse.specs.Spells.{Derives, given, needed, taken, passed, called}
-use Rattle.viper_parse.specs.Depth.{depth, amount_depth, terms_depth, amount_terms, rhs_terms, option_terms, stmt_terms, block_terms, arm_terms, stmts_terms, arms_terms, clauses_terms, decl_terms, decls_terms, divides, divides_word, divides_sign, IsRow, HasShortRows, AllShallow}
+use Rattle.viper_syntax.specs.Good.{depth, amount_depth, terms_depth, amount_terms, rhs_terms, with_fields, target_terms, option_terms, stmt_terms, block_terms, arm_terms, stmts_terms, arms_terms, clauses_terms, decl_terms, decls_terms}
+use Rattle.viper_syntax.specs.Limit.{is_divider, is_dividing_word, is_dividing_sign}
+use Rattle.viper_parse.specs.Row.{IsRow, HasShortRows, AllShallow}
 
 -- depths of lists
 
@@ -38,6 +41,8 @@ weight v.arguments es = deepest es
 weight v.amount m = amount_depth m
 weight v.call c = deepest c.args
 weight v.instance i = deepest i.call.args + amount_depth i.amount
+-- each further name is two tokens
+weight v.names xs = length xs + length xs
 weight _ x = 0
 
 -- what a symbol of a list of terms has so far
@@ -45,9 +50,10 @@ abbrev held : {s : Kind} → Symbol s → ℕ
 held (g.Chain n p) = depth p.tree
 held (g.Fields p) = depth p.tree
 held (g.MoreArguments es) = deepest es
+held (g.Separated o xs) = length xs + length xs
 held _ = 0
 
--- the symbols of terms
+-- the symbols of terms, and of names in a row
 abbrev Low : {s : Kind} → Symbol s → Type 0
 Low g.InstanceOf = Unit {0}
 Low g.CallOf = Unit {0}
@@ -61,10 +67,11 @@ Low (g.Chain n p) = Unit {0}
 Low g.Unary = Unit {0}
 Low (g.Fields p) = Unit {0}
 Low g.First = Unit {0}
+Low (g.Separated o xs) = is_dividing_sign o ≡ false
 Low _ = ⊥
 
 abbrev Inside : {b : Bool} {r : Kind} → Test b r → Type 0
-Inside {r = r} c = (k : Token) (x : Value r) → Passes c k x → divides k.tok ≡ false
+Inside {r = r} c = (k : Token) (x : Value r) → Passes c k x → is_divider k.tok ≡ false
 
 data Costs (s : Kind) : ℕ → Rule s → Type 0 where
   cg : {n : ℕ} {x : Value s} → weight s x ≤ n → Costs s n (give x)
@@ -82,7 +89,7 @@ costs_if : {s : Kind} {n : ℕ} (b : Bool) {x y : Rule s} → Costs s n x → Co
 costs_if true h i = h
 costs_if false h i = i
 
-constant_inside : (w : Word) → IsTrue (is_constant w) → divides_word w ≡ false
+constant_inside : (w : Word) → IsTrue (is_constant w) → is_dividing_word w ≡ false
 constant_inside word.True h = refl
 constant_inside word.False h = refl
 constant_inside word.Null h = refl
@@ -91,12 +98,12 @@ constant_inside word.None h = refl
 constant_inside word.Wildcard h = refl
 constant_inside _ h = cc
 
-negation_inside : (o : Sign) → IsTrue (is_negation o) → divides_sign o ≡ false
+negation_inside : (o : Sign) → IsTrue (is_negation o) → is_dividing_sign o ≡ false
 negation_inside sign.Not h = refl
 negation_inside sign.Minus h = refl
 negation_inside _ h = cc
 
-operator_inside : (o : Sign) (n : ℕ) → level_of o ≡ n → 1 ≤ n → divides_sign o ≡ false
+operator_inside : (o : Sign) (n : ℕ) → level_of o ≡ n → 1 ≤ n → is_dividing_sign o ≡ false
 operator_inside sign.Iff n e h = refl
 operator_inside sign.Implies n e h = refl
 operator_inside sign.Or n e h = refl
@@ -127,30 +134,30 @@ more_depth es a m m' w h h' = let e : deepest (es ++ (a ∷ [])) ≤ deepest es 
 
 low_costs : {s : Kind} (a : Symbol s) → Low a → Costs s (held a) (rule a)
 low_costs g.Term l = cr tt (λ p m h. costs_cond (g.is_open p.shape) (cg (omega arith))
-    (cw (λ k x q. ap divides q.0) (λ at. cr tt (λ q m' h'. cn (λ k x q. ap divides q.0) (λ _. cr tt (λ r m'' h''. (cg (omega arith)))))) (cg (omega arith))))
+    (cw (λ k x q. ap is_divider q.0) (λ at. cr tt (λ q m' h'. cn (λ k x q. ap is_divider q.0) (λ _. cr tt (λ r m'' h''. (cg (omega arith)))))) (cg (omega arith))))
 low_costs (g.Level zero) l = cr tt (λ p m h. (cg (omega arith)))
 low_costs (g.Level (suc n)) l = cr tt (λ p m h. cr tt (λ q m' h'. (cg (omega arith))))
 low_costs (g.Chain n p) l = costs_cond (g.is_open p.shape) (cg (omega arith))
-    (cw (λ k o q. ap divides q.0 ∙ operator_inside o.0 n q.2 q.3) (λ o. cr tt (λ q m h. costs_if (g.repeats n) (cr tt (λ r m' h'. (cg (omega arith)))) (cg (omega arith)))) (cg (omega arith)))
+    (cw (λ k o q. ap is_divider q.0 ∙ operator_inside o.0 n q.2 q.3) (λ o. cr tt (λ q m h. costs_if (g.repeats n) (cr tt (λ r m' h'. (cg (omega arith)))) (cg (omega arith)))) (cg (omega arith)))
 low_costs g.Unary l =
-    cw (λ k o q. ap divides q.0 ∙ negation_inside o.0 q.2) (λ o. cr tt (λ p m h. (cg (omega arith))))
-    (cw (λ k x q. ap divides q.0) (λ at. cr tt (λ i m h. cn (λ k x q. ap divides q.0) (λ _. cr tt (λ p m' h'. cg (opened_depth i p m m' h h')))))
+    cw (λ k o q. ap is_divider q.0 ∙ negation_inside o.0 q.2) (λ o. cr tt (λ p m h. (cg (omega arith))))
+    (cw (λ k x q. ap is_divider q.0) (λ at. cr tt (λ i m h. cn (λ k x q. ap is_divider q.0) (λ _. cr tt (λ p m' h'. cg (opened_depth i p m m' h h')))))
     (cr tt (λ p m h. cr tt (λ q m' h'. (cg (omega arith))))))
-low_costs (g.Fields p) l = cw (λ k x q. ap divides q.0) (λ _. cn (λ k x q. ap divides q.0) (λ f. cr tt (λ q m h. (cg (omega arith))))) (cg (omega arith))
+low_costs (g.Fields p) l = cw (λ k x q. ap is_divider q.0) (λ _. cn (λ k x q. ap is_divider q.0) (λ f. cr tt (λ q m h. (cg (omega arith))))) (cg (omega arith))
 low_costs g.First l =
-    cw (λ k x q. ap divides q.0) (λ x. cw (λ k x q. ap divides q.0) (λ _. cr tt (λ es m h. cg (called_depth es m h))) (cg (omega arith)))
-    (cw (λ k x q. ap divides q.0) (λ n. (cg (omega arith)))
-    (cw (λ k w q. ap divides q.0 ∙ constant_inside w.0 q.2) (λ w. (cg (omega arith)))
-    (cw (λ k x q. ap divides q.0) (λ at. cr tt (λ p m h. (cg (omega arith))))
-    (cw (λ k x q. ap divides q.0) (λ at. cn (λ k x q. ap divides q.0) (λ _. cr tt (λ p m h. cr tt (λ a m' h'. (cg (omega arith))))))
+    cw (λ k x q. ap is_divider q.0) (λ x. cw (λ k x q. ap is_divider q.0) (λ _. cr tt (λ es m h. cg (called_depth es m h))) (cg (omega arith)))
+    (cw (λ k x q. ap is_divider q.0) (λ n. (cg (omega arith)))
+    (cw (λ k w q. ap is_divider q.0 ∙ constant_inside w.0 q.2) (λ w. (cg (omega arith)))
+    (cw (λ k x q. ap is_divider q.0) (λ at. cr tt (λ p m h. (cg (omega arith))))
+    (cw (λ k x q. ap is_divider q.0) (λ at. cn (λ k x q. ap is_divider q.0) (λ _. cr tt (λ p m h. cr tt (λ a m' h'. (cg (omega arith))))))
     (cr tt (λ p m h. (cg (omega arith))))))))
-low_costs g.Group l = cn (λ k x q. ap divides q.0) (λ _. cr tt (λ p m h. cn (λ k x q. ap divides q.0) (λ _. (cg (omega arith)))))
-low_costs g.Amount l = cw (λ k x q. ap divides q.0) (λ _. cr tt (λ p m h. cn (λ k x q. ap divides q.0) (λ _. (cg (omega arith))))) (cn (λ k x q. ap divides q.0) (λ _. (cg (omega arith))))
-low_costs g.Arguments l = cw (λ k x q. ap divides q.0) (λ _. (cg (omega arith))) (cr tt (λ p m h. cr tt (λ es m' h'. (cg (omega arith)))))
+low_costs g.Group l = cn (λ k x q. ap is_divider q.0) (λ _. cr tt (λ p m h. cn (λ k x q. ap is_divider q.0) (λ _. (cg (omega arith)))))
+low_costs g.Amount l = cw (λ k x q. ap is_divider q.0) (λ _. cr tt (λ p m h. cn (λ k x q. ap is_divider q.0) (λ _. (cg (omega arith))))) (cn (λ k x q. ap is_divider q.0) (λ _. (cg (omega arith))))
+low_costs g.Arguments l = cw (λ k x q. ap is_divider q.0) (λ _. (cg (omega arith))) (cr tt (λ p m h. cr tt (λ es m' h'. (cg (omega arith)))))
 low_costs (g.MoreArguments es) l =
-    cw (λ k x q. ap divides q.0) (λ _. cr tt (λ p m h. cr tt (λ all m' h'. cg (more_depth es p.tree m m' (deepest all) h h')))) (cn (λ k x q. ap divides q.0) (λ _. (cg (omega arith))))
-low_costs g.CallOf l = cn (λ k x q. ap divides q.0) (λ x. cn (λ k x q. ap divides q.0) (λ _. cr tt (λ es m h. (cg (omega arith)))))
-low_costs g.InstanceOf l = cw (λ k x q. ap divides q.0) (λ _. cn (λ k x q. ap divides q.0) (λ _. cr tt (λ x m h. cr tt (λ a m' h'. (cg (omega arith)))))) (cr tt (λ x m h. (cg (omega arith))))
+    cw (λ k x q. ap is_divider q.0) (λ _. cr tt (λ p m h. cr tt (λ all m' h'. cg (more_depth es p.tree m m' (deepest all) h h')))) (cn (λ k x q. ap is_divider q.0) (λ _. (cg (omega arith))))
+low_costs g.CallOf l = cn (λ k x q. ap is_divider q.0) (λ x. cn (λ k x q. ap is_divider q.0) (λ _. cr tt (λ es m h. (cg (omega arith)))))
+low_costs g.InstanceOf l = cw (λ k x q. ap is_divider q.0) (λ _. cn (λ k x q. ap is_divider q.0) (λ _. cr tt (λ x m h. cr tt (λ a m' h'. (cg (omega arith)))))) (cr tt (λ x m h. (cg (omega arith))))
 low_costs (g.Program ds) l = absurd l
 low_costs (g.Predicate at) l = absurd l
 low_costs (g.Method at) l = absurd l
@@ -171,7 +178,8 @@ low_costs (g.While at) l = absurd l
 low_costs (g.Invariants is) l = absurd l
 low_costs g.Rhs l = absurd l
 low_costs (g.New at) l = absurd l
-low_costs (g.Separated o xs) l = absurd l
+low_costs (g.Separated o xs) l =
+    cw (λ k x q. ap is_divider q.0 ∙ l) (λ _. cn (λ k x q. ap is_divider q.0) (λ x. cr l (λ z m h. let e = length-append xs (x ∷ []) in cg (omega arith)))) (cg (omega arith))
 low_costs g.Semicolons l = absurd l
 
 row_append : (ts us : List Token) → IsRow ts → IsRow us → IsRow (ts ++ us)
@@ -322,6 +330,7 @@ data Keeps (n : ℕ) (s : Kind) : Rule s → Type 0 where
   kn : {r : Kind} {c : Test true r} {go : Value r → Rule s} → ((x : Value r) → Keeps n s (go x)) → Keeps n s (need c go)
   kw : {b : Bool} {r : Kind} {c : Test b r} {go : Value r → Rule s} {other : Rule s} → ((x : Value r) → Keeps n s (go x)) → Keeps n s other → Keeps n s (when c go other)
   kl : {r : Kind} {a : Symbol r} {go : Value r → Rule s} → Low a → IsLow r → held a ≡ 0 → ((y : Value r) → AllShallow n (terms_in r y) → Keeps n s (go y)) → Keeps n s (read a go)
+  ks : {x : Named} {go : List Named → Rule s} → ((xs : List Named) → length xs + length xs ≤ 2 + n → Keeps n s (go xs)) → Keeps n s (read (g.Separated sign.Dot (x ∷ [])) go)
   kh : {r : Kind} {a : Symbol r} {go : Value r → Rule s} → High a → AllShallow n (held_terms a) → ((y : Value r) → AllShallow n (terms_in r y) → Keeps n s (go y)) → Keeps n s (read a go)
 
 -- the arguments of a call are no deeper than the call
@@ -344,52 +353,61 @@ rhs_from_all n shape.Call (t.Unfolding x es m a at name_at) i = (i, tt)
 rhs_from_all n shape.Open a i = (i, tt)
 rhs_from_all n shape.Plain a i = (i, tt)
 
+-- a target is as deep as it has names
+with_fields_depth : (a : t.Term) (fs : List Named) → depth (with_fields a fs) ≡ depth a + length fs
+with_fields_depth a [] = omega arith
+with_fields_depth a (f ∷ fs) = let e = with_fields_depth (t.Field a f.name f.pos) fs in omega arith
+
+target_all : (n : ℕ) (xs : List Named) → 1 ≤ n → length xs + length xs ≤ 2 + n → AllShallow n (target_terms xs)
+target_all n [] p h = tt
+target_all n (x ∷ fs) p h = (let e = with_fields_depth (t.Name x.name x.pos) fs in omega arith, tt)
+
 rhs_all : (n : ℕ) (p : Part) → AllShallow n (p.tree ∷ []) → AllShallow n (rhs_terms (g.rhs_of p))
 rhs_all n p h = rhs_from_all n p.shape p.tree h.0
 
-high_keeps : (n : ℕ) {s : Kind} (a : Symbol s) → High a → AllShallow n (held_terms a) → Keeps n s (rule a)
-high_keeps n (g.Program ds) l h =
+high_keeps : (n : ℕ) → 1 ≤ n → {s : Kind} (a : Symbol s) → High a → AllShallow n (held_terms a) → Keeps n s (rule a)
+high_keeps n some (g.Program ds) l h =
     kw (λ at. kh tt tt (λ x i. kh tt tt (λ _ j. kh tt (decls_more n ds (d.Field x) h tt) (λ z k. kg k))))
     (kw (λ at. kh tt tt (λ x i. kh tt (decls_more n ds x h i) (λ z k. kg k)))
     (kw (λ at. kh tt tt (λ x i. kh tt (decls_more n ds x h i) (λ z k. kg k))) (kg h)))
-high_keeps n (g.Predicate at) l h = kn (λ x. kn (λ _. kh tt tt (λ xs i. kw (λ _. kl tt tt refl (λ p j. kn (λ _. kg j))) (kg tt))))
-high_keeps n (g.Method at) l h = kn (λ x. kn (λ _. kh tt tt (λ xs i. kh tt tt (λ ys j. kh tt tt (λ cs k. kh tt tt (λ b m. kg (all_append n (clauses_terms cs) (option_terms block_terms b) k m)))))))
-high_keeps n g.Returns l h = kw (λ _. kn (λ _. kh tt tt (λ z i. kg i))) (kg tt)
-high_keeps n (g.Clauses cs) l h = kw (λ w. kl tt tt refl (λ p i. kh tt tt (λ _ j. kh tt (clauses_more n cs (record { word = w.0; term = p.tree }) h i.0) (λ z k. kg k)))) (kg h)
-high_keeps n g.Body l h = kw (λ at. kh tt tt (λ ss i. kg i)) (kg tt)
-high_keeps n g.Formals l h = kw (λ _. kg tt) (kh tt tt (λ x i. kh tt tt (λ z j. kg j)))
-high_keeps n (g.MoreFormals xs) l h = kw (λ _. kh tt tt (λ x i. kh tt tt (λ z j. kg j))) (kn (λ _. kg tt))
-high_keeps n g.FormalOf l h = kn (λ x. kn (λ _. kn (λ w. kg tt)))
-high_keeps n g.Block l h = kn (λ at. kh tt tt (λ ss i. kg i))
-high_keeps n (g.Stmts ss) l h = kw (λ _. kg h) (kh tt tt (λ a i. kh tt tt (λ _ j. kh tt (stmts_more n ss a h i) (λ z k. kg k))))
-high_keeps n g.Stmt l h =
+high_keeps n some (g.Predicate at) l h = kn (λ x. kn (λ _. kh tt tt (λ xs i. kw (λ _. kl tt tt refl (λ p j. kn (λ _. kg j))) (kg tt))))
+high_keeps n some (g.Method at) l h = kn (λ x. kn (λ _. kh tt tt (λ xs i. kh tt tt (λ ys j. kh tt tt (λ cs k. kh tt tt (λ b m. kg (all_append n (clauses_terms cs) (option_terms block_terms b) k m)))))))
+high_keeps n some g.Returns l h = kw (λ _. kn (λ _. kh tt tt (λ z i. kg i))) (kg tt)
+high_keeps n some (g.Clauses cs) l h = kw (λ w. kl tt tt refl (λ p i. kh tt tt (λ _ j. kh tt (clauses_more n cs (record { word = w.0; term = p.tree }) h i.0) (λ z k. kg k)))) (kg h)
+high_keeps n some g.Body l h = kw (λ at. kh tt tt (λ ss i. kg i)) (kg tt)
+high_keeps n some g.Formals l h = kw (λ _. kg tt) (kh tt tt (λ x i. kh tt tt (λ z j. kg j)))
+high_keeps n some (g.MoreFormals xs) l h = kw (λ _. kh tt tt (λ x i. kh tt tt (λ z j. kg j))) (kn (λ _. kg tt))
+high_keeps n some g.FormalOf l h = kn (λ x. kn (λ _. kn (λ w. kg tt)))
+high_keeps n some g.Block l h = kn (λ at. kh tt tt (λ ss i. kg i))
+high_keeps n some (g.Stmts ss) l h = kw (λ _. kg h) (kh tt tt (λ a i. kh tt tt (λ _ j. kh tt (stmts_more n ss a h i) (λ z k. kg k))))
+high_keeps n some g.Stmt l h =
     kw (λ at. kh tt tt (λ z i. kg i)) (kw (λ w. kl tt tt refl (λ p i. kg i)) (kw (λ at. kl tt tt refl (λ x i. kg i)) (kw (λ at. kl tt tt refl (λ x i. kg i))
     (kw (λ at. kh tt tt (λ a i. kh tt (all_append n (arm_terms a) [] i tt) (λ z j. kg j))) (kw (λ at. kh tt tt (λ z i. kg i)) (kn (λ x. kh tt tt (λ z i. kg i))))))))
-high_keeps n (g.Variable at) l h = kh tt tt (λ x i. kw (λ _. kh tt tt (λ r j. kg j)) (kg tt))
-high_keeps n (g.AfterName x) l h =
-    kw (λ _. kl tt tt refl (λ es i. kg i)) (kw (λ _. kn (λ y. kh tt tt (λ xs i. kn (λ _. kl tt tt refl (λ z j. kg j))))) (kh tt tt (λ xs i. kn (λ _. kh tt tt (λ r j. kg j)))))
-high_keeps n (g.Arm at) l h = kl tt tt refl (λ p i. kh tt tt (λ b j. kg (i.0, j)))
-high_keeps n (g.Arms bs) l h =
+high_keeps n some (g.Variable at) l h = kh tt tt (λ x i. kw (λ _. kh tt tt (λ r j. kg j)) (kg tt))
+high_keeps n some (g.AfterName x) l h =
+    kw (λ _. kl tt tt refl (λ es i. kg i)) (kw (λ _. kn (λ y. kh tt tt (λ xs i. kn (λ _. kl tt tt refl (λ z j. kg j))))) (ks (λ xs i. kn (λ _. kh tt tt (λ r j. kg (all_append n (target_terms xs) (rhs_terms r) (target_all n xs some i) j))))))
+high_keeps n some (g.Arm at) l h = kl tt tt refl (λ p i. kh tt tt (λ b j. kg (i.0, j)))
+high_keeps n some (g.Arms bs) l h =
     kw (λ at. kh tt tt (λ a i. kh tt (arms_more n bs a h i) (λ z j. kg j)))
     (kw (λ _. kh tt tt (λ b i. kg (all_append n (arms_terms (s.arms bs)) (block_terms b) h i))) (kg (all_append n (arms_terms (s.arms bs)) [] h tt)))
-high_keeps n (g.While at) l h = kl tt tt refl (λ p i. kh tt tt (λ is j. kh tt tt (λ b k. kg (all_append n (p.tree ∷ is) (block_terms b) (i.0, j) k))))
-high_keeps n (g.Invariants is) l h = kw (λ _. kl tt tt refl (λ p i. kh tt tt (λ _ j. kh tt (all_append n is (p.tree ∷ []) h i) (λ z k. kg k)))) (kg h)
-high_keeps n g.Rhs l h = kw (λ at. kh tt tt (λ z i. kg i)) (kl tt tt refl (λ p i. kg (rhs_all n p i)))
-high_keeps n (g.New at) l h = kn (λ _. kw (λ _. kg tt) (kw (λ _. kn (λ _. kg tt)) (kn (λ x. kh tt tt (λ xs i. kn (λ _. kg tt))))))
-high_keeps n (g.Separated o xs) l h = kw (λ _. kn (λ x. kh tt tt (λ z i. kg i))) (kg tt)
-high_keeps n g.Semicolons l h = kw (λ _. kh tt tt (λ z i. kg tt)) (kg tt)
-high_keeps m g.InstanceOf l h = absurd l
-high_keeps m g.CallOf l h = absurd l
-high_keeps m g.Arguments l h = absurd l
-high_keeps m (g.MoreArguments es) l h = absurd l
-high_keeps m g.Amount l h = absurd l
-high_keeps m g.Group l h = absurd l
-high_keeps m g.Term l h = absurd l
-high_keeps m (g.Level n) l h = absurd l
-high_keeps m (g.Chain n p) l h = absurd l
-high_keeps m g.Unary l h = absurd l
-high_keeps m (g.Fields p) l h = absurd l
-high_keeps m g.First l h = absurd l
+high_keeps n some (g.While at) l h = kl tt tt refl (λ p i. kh tt tt (λ is j. kh tt tt (λ b k. kg (all_append n (p.tree ∷ is) (block_terms b) (i.0, j) k))))
+high_keeps n some (g.Invariants is) l h = kw (λ _. kl tt tt refl (λ p i. kh tt tt (λ _ j. kh tt (all_append n is (p.tree ∷ []) h i) (λ z k. kg k)))) (kg h)
+high_keeps n some g.Rhs l h = kw (λ at. kh tt tt (λ z i. kg i)) (kl tt tt refl (λ p i. kg (rhs_all n p i)))
+high_keeps n some (g.New at) l h = kn (λ _. kw (λ _. kg tt) (kw (λ _. kn (λ _. kg tt)) (kn (λ x. kh tt tt (λ xs i. kn (λ _. kg tt))))))
+high_keeps n some (g.Separated o xs) l h = kw (λ _. kn (λ x. kh tt tt (λ z i. kg i))) (kg tt)
+high_keeps n some g.Semicolons l h = kw (λ _. kh tt tt (λ z i. kg tt)) (kg tt)
+high_keeps m some g.InstanceOf l h = absurd l
+high_keeps m some g.CallOf l h = absurd l
+high_keeps m some g.Arguments l h = absurd l
+high_keeps m some (g.MoreArguments es) l h = absurd l
+high_keeps m some g.Amount l h = absurd l
+high_keeps m some g.Group l h = absurd l
+high_keeps m some g.Term l h = absurd l
+high_keeps m some (g.Level n) l h = absurd l
+high_keeps m some (g.Chain n p) l h = absurd l
+high_keeps m some g.Unary l h = absurd l
+high_keeps m some (g.Fields p) l h = absurd l
+high_keeps m some g.First l h = absurd l
 
 short_front : (n : ℕ) (ts us : List Token) → HasShortRows n (ts ++ us) → HasShortRows n ts
 short_front n ts us h = record {
@@ -412,19 +430,24 @@ row_short n ts h r = h.short [] ts [] (sym (append-nil ts)) r
 low_weight : (w h l n : ℕ) → h ≡ 0 → w ≤ h + l → l ≤ n → w ≤ n
 low_weight w h l n e i j = omega arith
 
-shallow : {n : ℕ} {s : Kind} {a : Rule s} {ts : List Token} {x : Value s} → Keeps n s a → Derives s a ts x → HasShortRows n ts → AllShallow n (terms_in s x)
-shallow (kg h) given r = h
-shallow {n = n} {ts = ts} (kn f) (needed {us = us} {v = y} q d) r = shallow (f y) d (short_rest n ts us q.token q.is r)
-shallow {n = n} {ts = ts} (kw f o) (taken {us = us} {v = y} q d) r = shallow (f y) d (short_rest n ts us q.token q.is r)
-shallow (kw f o) (passed d) r = shallow o d r
-shallow {n = n} (kl {r = k} {a = a} l low e f) (called {ts = ts} {us = us} {y = y} d d') r =
+shallow : {n : ℕ} {s : Kind} {a : Rule s} {ts : List Token} {x : Value s} → 1 ≤ n → Keeps n s a → Derives s a ts x → HasShortRows n ts → AllShallow n (terms_in s x)
+shallow p (kg h) given r = h
+shallow {n = n} {ts = ts} p (kn f) (needed {us = us} {v = y} q d) r = shallow p (f y) d (short_rest n ts us q.token q.is r)
+shallow {n = n} {ts = ts} p (kw f o) (taken {us = us} {v = y} q d) r = shallow p (f y) d (short_rest n ts us q.token q.is r)
+shallow p (kw f o) (passed d) r = shallow p o d r
+shallow {n = n} p (kl {r = k} {a = a} l low e f) (called {ts = ts} {us = us} {y = y} d d') r =
     let b = bounded (low_costs a l) d in
     let m : length ts ≤ n = row_short n ts (short_front n ts us r) b.row in
     let w : weight k y ≤ n = low_weight (weight k y) (held a) (length ts) n e b.small m in
-    shallow (f y (low_all n k y low w)) d' (short_back n ts us r)
-shallow {n = n} (kh {a = a} l h f) (called {ts = ts} {us = us} {y = y} d d') r =
-    shallow (f y (shallow (high_keeps n a l h) d (short_front n ts us r))) d' (short_back n ts us r)
+    shallow p (f y (low_all n k y low w)) d' (short_back n ts us r)
+shallow {n = n} p (ks {x = x} f) (called {ts = ts} {us = us} {y = y} d d') r =
+    let b = bounded (low_costs (g.Separated sign.Dot (x ∷ [])) refl) d in
+    let m : length ts ≤ n = row_short n ts (short_front n ts us r) b.row in
+    let few = b.small in
+    shallow p (f y (omega arith)) d' (short_back n ts us r)
+shallow {n = n} p (kh {a = a} l h f) (called {ts = ts} {us = us} {y = y} d d') r =
+    shallow p (f y (shallow p (high_keeps n p a l h) d (short_front n ts us r))) d' (short_back n ts us r)
 
 -- no term of a program is nested deeper than its longest row of tokens without a divider
-pub all_shallow : {n : ℕ} {ts : List Token} {ds : List d.Decl} → Derives v.decls (rule (g.Program [])) ts ds → HasShortRows n ts → AllShallow n (decls_terms ds)
-all_shallow {n = n} h r = shallow (high_keeps n (g.Program []) tt tt) h r
+pub all_shallow : {n : ℕ} {ts : List Token} {ds : List d.Decl} → 1 ≤ n → Derives v.decls (rule (g.Program [])) ts ds → HasShortRows n ts → AllShallow n (decls_terms ds)
+all_shallow {n = n} p h r = shallow p (high_keeps n p (g.Program []) tt tt) h r

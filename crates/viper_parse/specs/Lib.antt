@@ -6,4 +6,4 @@ pub mod Greedy
 pub mod View
 pub mod Whole
 pub mod Answers
-pub mod Depth
+pub mod Row

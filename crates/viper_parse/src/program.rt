@@ -1,9 +1,10 @@
 // A program from its tokens.
-ghost use Rattle.std.specs.Prelude.{◌≡◌, ℕ, List, IfOk};
+ghost use Rattle.std.specs.Prelude.{◌≡◌, ◌<◌, ◌^◌, ℕ, List, length, IfOk};
 ghost use Rattle.viper_syntax.specs.Decl as d;
 ghost use Rattle.viper_syntax.specs.View.{program_of};
+ghost use Rattle.viper_syntax.specs.Good.{IsGoodSource};
+ghost use Rattle.viper_syntax.specs.Lexed.{IsWellFormed};
 ghost use Rattle.viper_parse.specs.Answers.{IsProgram, Gives, Refuses, place_at, fault_of};
-ghost use Rattle.viper_parse.specs.Depth.{HasShortRows, AllShallow, decls_terms};
 ghost use Rattle.viper_parse.specs.Place.{IsPlace};
 ghost use Rattle.viper_parse.specs.Spells.{Spells};
 
@@ -24,13 +25,14 @@ pub enum ParseFault {
 }
 
 /// The program that the tokens of a file spell; `end` is the place past the file's last byte. It is the one tree
-/// that the grammar has for them, and a `Syntax` comes exactly where it has none. No term of it is nested deeper than
-/// the longest row of tokens without a divider, which has at most 1,024 in the tokens of a file.
+/// that the grammar has for them, and a `Syntax` comes exactly where it has none. Where the tokens are those of a
+/// successful `lex`, no term of it is nested deeper than 1,024, its names are names, and its literals are within the
+/// bound.
 pub fn parse(alloc: Global, tokens: &Vec<Token>, end: Pos) -> Result<SourceProgram, ParseFault>
     ensures found { IfOk result (λ p. Spells tokens.now.items (program_of p)) }
     ensures only { (p : d.SourceProgram) → Spells tokens.now.items p → Gives result p }
     ensures place { Refuses result tokens.now.items end }
-    ensures shallow { (n : ℕ) → HasShortRows n tokens.now.items → IfOk result (λ p. AllShallow n (decls_terms (program_of p).decls)) }
+    ensures good { IsWellFormed tokens.now.items → length tokens.now.items < 2 ^ 32 → IfOk result (λ p. IsGoodSource (program_of p)) }
 {
     parse_slice(alloc, tokens.as_slice(), end)
 }
@@ -39,7 +41,7 @@ fn parse_slice(alloc: Global, tokens: &[Token], end: Pos) -> Result<SourceProgra
     ensures found { IfOk result (λ p. Spells tokens.now (program_of p)) }
     ensures only { (p : d.SourceProgram) → Spells tokens.now p → Gives result p }
     ensures place { Refuses result tokens.now end }
-    ensures shallow { (n : ℕ) → HasShortRows n tokens.now → IfOk result (λ p. AllShallow n (decls_terms (program_of p).decls)) }
+    ensures good { IsWellFormed tokens.now → length tokens.now < 2 ^ 32 → IfOk result (λ p. IsGoodSource (program_of p)) }
 {
     match declarations(alloc, tokens) {
         Ok(decls) => Ok(SourceProgram { decls }),

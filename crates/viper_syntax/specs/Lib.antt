@@ -10,3 +10,4 @@ pub mod Longest
 pub mod Step
 pub mod Limit
 pub mod Lexed
+pub mod Good

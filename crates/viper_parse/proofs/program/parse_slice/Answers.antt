@@ -1,7 +1,7 @@
 use Rattle.std.proofs.Common.{sym, subst, Err}
 use Rattle.viper_parse.specs.Answers.{Gives, Refuses}
 use Rattle.viper_parse.proofs.Parsed.{spelled, only_one, refuses_only, refuses_there}
-use Rattle.viper_parse.proofs.Shallow.{all_shallow}
+use Rattle.viper_parse.proofs.GoodLaws.{good}
 use Rattle.viper_parse.proofs.program.parse_slice.Goals as goal
 
 pub returns-in-Ok-clause-found : goal.returns-in-Ok-clause-found
@@ -16,5 +16,5 @@ returns-in-Err-clause-only c = λ p h. subst (λ f. Gives (Err f) p) (sym c.faul
 pub returns-in-Err-clause-place : goal.returns-in-Err-clause-place
 returns-in-Err-clause-place c = subst (λ f. Refuses (Err f) c.args.tokens.now c.args.end) (sym c.fault.ensures) (refuses_there _ c.args.end _ c.in-Err.ensures)
 
-pub returns-in-Ok-clause-shallow : goal.returns-in-Ok-clause-shallow
-returns-in-Ok-clause-shallow c = λ n r. all_shallow (spelled c.in-Ok.ensures) r
+pub returns-in-Ok-clause-good : goal.returns-in-Ok-clause-good
+returns-in-Ok-clause-good c = λ w few. good w few (spelled c.in-Ok.ensures)

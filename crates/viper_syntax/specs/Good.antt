@@ -1,0 +1,182 @@
+-- What the parser promises of a source tree, and the checker asks: terms are not nested too deep, names are names, literals
+-- are within the bound, and no number of names is too large.
+use Rattle.std.specs.Prelude.{◌≤◌, ◌<◌, ◌^◌, ◌+◌, ◌≤ℤ◌, ℕ, ℤ, pos, max, ⊤, List, [], ◌∷◌, ◌++◌, Option, Some, None, All, IsTrue, length, map, unsigned_abs}
+use Rattle.vb_base.specs.Names.{is_name}
+use Rattle.viper_syntax.specs.declared.stmts.Named.{Named}
+use Rattle.viper_syntax.specs.declared.stmts.Formal.{Formal}
+use Rattle.viper_syntax.specs.Term as t
+use Rattle.viper_syntax.specs.Stmt as s
+use Rattle.viper_syntax.specs.Decl as d
+
+-- how deep a term is nested
+
+abbrev mutual
+  pub depth : t.Term → ℕ
+  depth (t.Name x at) = 1
+  depth (t.Number n at) = 1
+  depth (t.Constant w at) = 1
+  depth (t.Unary o a at) = 1 + depth a
+  depth (t.Binary o a b at) = 1 + max (depth a) (depth b)
+  depth (t.Choose a b c at) = 1 + max (depth a) (max (depth b) (depth c))
+  depth (t.Field a f at) = 1 + depth a
+  depth (t.Old a at) = 1 + depth a
+  depth (t.Acc a m at) = 1 + max (depth a) (amount_depth m)
+  depth (t.Inst x es at) = 1 + terms_depth es
+  depth (t.Unfolding x es m a at name_at) = 1 + max (terms_depth es) (max (amount_depth m) (depth a))
+
+  pub amount_depth : t.Amount → ℕ
+  amount_depth t.omitted = 0
+  amount_depth (t.given a) = depth a
+
+  pub terms_depth : t.Terms → ℕ
+  terms_depth t.none = 0
+  terms_depth (t.more a rest) = max (depth a) (terms_depth rest)
+
+-- the terms of a program, in order
+
+abbrev pub amount_terms : t.Amount → List t.Term
+amount_terms t.omitted = []
+amount_terms (t.given a) = a ∷ []
+
+abbrev pub rhs_terms : s.SRhs → List t.Term
+rhs_terms (s.CallRhs c) = c.args
+rhs_terms (s.NewRhs n) = []
+rhs_terms (s.TermRhs a) = a ∷ []
+
+-- the target of an assignment is a term: `x.f.g` is a field of a field of `x`
+abbrev pub with_fields : t.Term → List Named → t.Term
+with_fields a [] = a
+with_fields a (f ∷ fs) = with_fields (t.Field a f.name f.pos) fs
+
+abbrev pub target_terms : List Named → List t.Term
+target_terms [] = []
+target_terms (x ∷ fs) = with_fields (t.Name x.name x.pos) fs ∷ []
+
+abbrev pub option_terms : {A : Type 0} → (A → List t.Term) → Option A → List t.Term
+option_terms f None = []
+option_terms f (Some x) = f x
+
+abbrev mutual
+  pub stmt_terms : s.SStmt → List t.Term
+  stmt_terms (s.Var at x init) = option_terms rhs_terms init
+  stmt_terms (s.Assign xs e) = target_terms xs ++ rhs_terms e
+  stmt_terms (s.CallTo xs c) = c.args
+  stmt_terms (s.Call c) = c.args
+  stmt_terms (s.Check w at a) = a ∷ []
+  stmt_terms (s.Fold f) = f.call.args ++ amount_terms f.amount
+  stmt_terms (s.Unfold f) = f.call.args ++ amount_terms f.amount
+  stmt_terms (s.If bs other) = arms_terms bs ++ else_terms other
+  stmt_terms (s.While at a is b) = (a ∷ is) ++ block_terms b
+
+  pub block_terms : s.SBlock → List t.Term
+  block_terms (s.block at ss) = stmts_terms ss
+
+  pub arm_terms : s.SArm → List t.Term
+  arm_terms (s.arm at a b) = a ∷ block_terms b
+
+  pub else_terms : s.SElse → List t.Term
+  else_terms s.no_else = []
+  else_terms (s.else_block b) = block_terms b
+
+  pub stmts_terms : s.SStmts → List t.Term
+  stmts_terms s.no_stmts = []
+  stmts_terms (s.more_stmts a rest) = stmt_terms a ++ stmts_terms rest
+
+  pub arms_terms : s.SArms → List t.Term
+  arms_terms s.no_arms = []
+  arms_terms (s.more_arms a rest) = arm_terms a ++ arms_terms rest
+
+abbrev pub clauses_terms : List d.SClause → List t.Term
+clauses_terms [] = []
+clauses_terms (c ∷ cs) = c.term ∷ clauses_terms cs
+
+abbrev pub decl_terms : d.Decl → List t.Term
+decl_terms (d.Field x) = []
+decl_terms (d.Predicate at x xs body) = option_terms (λ a. a ∷ []) body
+decl_terms (d.Method m) = clauses_terms m.clauses ++ option_terms block_terms m.body
+
+abbrev pub decls_terms : List d.Decl → List t.Term
+decls_terms [] = []
+decls_terms (x ∷ rest) = decl_terms x ++ decls_terms rest
+
+-- a literal is from 0 to 2^127 - 1
+abbrev pub IsLiteral : ℤ → Type 0
+IsLiteral n = (pos 0 ≤ℤ n) × (unsigned_abs n < 2 ^ 127)
+
+-- every literal of a term
+abbrev mutual
+  pub HasLiterals : t.Term → Type 0
+  HasLiterals (t.Name x at) = ⊤
+  HasLiterals (t.Number n at) = IsLiteral n
+  HasLiterals (t.Constant w at) = ⊤
+  HasLiterals (t.Unary o a at) = HasLiterals a
+  HasLiterals (t.Binary o a b at) = HasLiterals a × HasLiterals b
+  HasLiterals (t.Choose a b c at) = HasLiterals a × HasLiterals b × HasLiterals c
+  HasLiterals (t.Field a f at) = HasLiterals a
+  HasLiterals (t.Old a at) = HasLiterals a
+  HasLiterals (t.Acc a m at) = HasLiterals a × AmountHasLiterals m
+  HasLiterals (t.Inst x es at) = HaveLiterals es
+  HasLiterals (t.Unfolding x es m a at name_at) = HaveLiterals es × AmountHasLiterals m × HasLiterals a
+
+  pub AmountHasLiterals : t.Amount → Type 0
+  AmountHasLiterals t.omitted = ⊤
+  AmountHasLiterals (t.given a) = HasLiterals a
+
+  pub HaveLiterals : t.Terms → Type 0
+  HaveLiterals t.none = ⊤
+  HaveLiterals (t.more a rest) = HasLiterals a × HaveLiterals rest
+
+-- the names that a program declares, in order
+
+abbrev pub formal_names : List Formal → List (List ℕ)
+formal_names xs = map (λ (x : Formal). x.name.name) xs
+
+abbrev mutual
+  pub stmt_names : s.SStmt → List (List ℕ)
+  stmt_names (s.Var at x init) = x.name.name ∷ []
+  stmt_names (s.Assign xs e) = []
+  stmt_names (s.CallTo xs c) = []
+  stmt_names (s.Call c) = []
+  stmt_names (s.Check w at a) = []
+  stmt_names (s.Fold f) = []
+  stmt_names (s.Unfold f) = []
+  stmt_names (s.If bs other) = arms_names bs ++ else_names other
+  stmt_names (s.While at a is b) = block_names b
+
+  pub block_names : s.SBlock → List (List ℕ)
+  block_names (s.block at ss) = stmts_names ss
+
+  pub arm_names : s.SArm → List (List ℕ)
+  arm_names (s.arm at a b) = block_names b
+
+  pub else_names : s.SElse → List (List ℕ)
+  else_names s.no_else = []
+  else_names (s.else_block b) = block_names b
+
+  pub stmts_names : s.SStmts → List (List ℕ)
+  stmts_names s.no_stmts = []
+  stmts_names (s.more_stmts a rest) = stmt_names a ++ stmts_names rest
+
+  pub arms_names : s.SArms → List (List ℕ)
+  arms_names s.no_arms = []
+  arms_names (s.more_arms a rest) = arm_names a ++ arms_names rest
+
+abbrev pub body_names : Option s.SBlock → List (List ℕ)
+body_names None = []
+body_names (Some b) = block_names b
+
+abbrev pub decl_names : d.Decl → List (List ℕ)
+decl_names (d.Field x) = x.name.name ∷ []
+decl_names (d.Predicate at x xs body) = x.name ∷ formal_names xs
+decl_names (d.Method m) = m.name.name ∷ (formal_names m.params ++ (formal_names m.returns ++ body_names m.body))
+
+abbrev pub decls_names : List d.Decl → List (List ℕ)
+decls_names [] = []
+decls_names (x ∷ rest) = decl_names x ++ decls_names rest
+
+-- what the parser promises
+pub record IsGoodSource (source : d.SourceProgram) : Type 0 where
+  pub shallow : All (λ a. depth a ≤ 1024) (decls_terms source.decls)
+  pub literals : All HasLiterals (decls_terms source.decls)
+  pub names : All (λ x. IsTrue (is_name x)) (decls_names source.decls)
+  pub few : length (decls_names source.decls) < 2 ^ 32
