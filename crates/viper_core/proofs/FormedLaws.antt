@@ -1,0 +1,26 @@
+-- What a formed program keeps, said of one of its parts.
+use Rattle.std.proofs.Common.{◌≡◌, ℕ, List, Option, Some, All, IfSome, slice_get, subst}
+use Rattle.std.proofs.lemmas.Option.{slice_get_within, get_or_from_slice_get}
+use Rattle.viper_core.specs.Expr as t
+use Rattle.viper_core.specs.Program.{Program, Predicate, Method, Body}
+use Rattle.viper_core.specs.Typing.{IsAssertion}
+use Rattle.viper_core.specs.Formed.{predicate_context, IsPredicate, IsMethod, IsBody, IsTypedProgram}
+
+at_item : {X : Type 0} (P : X → Type 0) (xs : List X) → All P xs → (k : ℕ) (x : X) → slice_get xs k ≡ Some x → P x
+at_item P xs all k x is = subst P (get_or_from_slice_get xs k x x is) (all k x (slice_get_within xs k x is))
+
+at_some : {X : Type 0} (P : X → Type 0) (o : Option X) → IfSome o P → (x : X) → o ≡ Some x → P x
+at_some {X} P o held x is = let Q : Option X → Type 0 = λ p. IfSome p P in subst Q is held
+
+pub predicate_of_typed : (p : Program) → IsTypedProgram p → (k : ℕ) (d : Predicate) → slice_get p.predicates k ≡ Some d → IsPredicate p d
+predicate_of_typed p h = at_item (IsPredicate p) p.predicates h.predicates
+
+pub method_of_typed : (p : Program) → IsTypedProgram p → (k : ℕ) (m : Method) → slice_get p.methods k ≡ Some m → IsMethod p m
+method_of_typed p h = at_item (IsMethod p) p.methods h.methods
+
+pub predicate_body_of_typed : (p : Program) → IsTypedProgram p → (k : ℕ) (d : Predicate) (a : t.Assertion) → slice_get p.predicates k ≡ Some d → d.body ≡ Some a → IsAssertion (predicate_context p d) a
+predicate_body_of_typed p h k d a exists has_body =
+    at_some (IsAssertion (predicate_context p d)) d.body (predicate_of_typed p h k d exists).body a has_body
+
+pub method_body_of_typed : (p : Program) → IsTypedProgram p → (k : ℕ) (m : Method) (b : Body) → slice_get p.methods k ≡ Some m → m.body ≡ Some b → IsBody p m b
+method_body_of_typed p h k m b exists has_body = at_some (IsBody p m) m.body (method_of_typed p h k m exists).body b has_body

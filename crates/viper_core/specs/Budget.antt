@@ -1,0 +1,6 @@
+-- A budget that is spent on costs.
+use Rattle.std.specs.Prelude.{ℕ, ◌-◌, ◌≤◌, Option, SomeIff}
+
+-- what is left, or nothing exactly where the cost is more than the budget
+abbrev pub Leaves : Option ℕ → ℕ → ℕ → Type 0
+Leaves result budget cost = SomeIff result (cost ≤ budget) (budget - cost)

@@ -1,0 +1,11 @@
+pub mod Expr
+pub mod Stmt
+pub mod Program
+pub mod View
+pub mod Size
+pub mod Weight
+pub mod Depth
+pub mod Scope
+pub mod Typing
+pub mod Formed
+pub mod Budget

@@ -1,0 +1,21 @@
+//! Viper programs as typed trees: names are resolved, variables are numbered, and each expression has one type.
+//!
+//! `specs/` has the plain data that contracts see, which programs are formed, and what a program weighs.
+#![tactic(auto)]
+
+mod copies;
+mod exprs;
+pub mod laws;
+mod programs;
+mod sizes;
+mod stmts;
+mod types;
+mod weights;
+
+pub use exprs::{Amt, Assertion, Expr, Op, Opened};
+pub use programs::{Body, Method, Predicate, Program, Unit};
+pub use stmts::{FoldStmt, Loop, Stmt};
+pub use weights::{MAX_WEIGHT, weight};
+
+#[cfg(test)]
+mod tests;
