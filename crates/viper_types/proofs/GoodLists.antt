@@ -1,0 +1,31 @@
+-- What holds of each of some terms, of those of a part.
+use Rattle.std.proofs.Common.{◌≤◌, List, [], ◌∷◌, ◌++◌, All, length, refl, subst, arith}
+use Rattle.std.proofs.lemmas.List.{take_at, drop_at}
+use Rattle.std.proofs.lemmas.List.Elements.{All-take, All-drop, All-head, All-tail}
+use Rattle.viper_syntax.specs.Term as t
+use Rattle.viper_syntax.specs.Good.{depth, terms_depth, amount_depth, amount_terms, HasLiterals, HaveLiterals, AmountHasLiterals}
+
+pub all_left : {X : Type 0} (P : X → Type 0) (xs ys : List X) → All P (xs ++ ys) → All P xs
+all_left P xs ys h = subst (λ zs. All P zs) (take_at xs ys (length xs) refl) (All-take P (length xs) (xs ++ ys) h)
+
+pub all_right : {X : Type 0} (P : X → Type 0) (xs ys : List X) → All P (xs ++ ys) → All P ys
+all_right P xs ys h = subst (λ zs. All P zs) (drop_at xs ys (length xs) refl) (All-drop P (length xs) (xs ++ ys) h)
+
+abbrev pub IsShallow : t.Term → Type 0
+IsShallow a = depth a ≤ 1024
+
+pub have_literals : (args : List t.Term) → All HasLiterals args → HaveLiterals (t.terms args)
+have_literals [] h = tt
+have_literals (a ∷ rest) h = (All-head HasLiterals a rest h, have_literals rest (All-tail HasLiterals a rest h))
+
+pub amount_has_literals : (m : t.Amount) → All HasLiterals (amount_terms m) → AmountHasLiterals m
+amount_has_literals t.omitted h = tt
+amount_has_literals (t.given a) h = All-head HasLiterals a [] h
+
+pub terms_are_shallow : (args : List t.Term) → All IsShallow args → terms_depth (t.terms args) ≤ 1024
+terms_are_shallow [] h = omega arith
+terms_are_shallow (a ∷ rest) h = omega (arith, All-head IsShallow a rest h, terms_are_shallow rest (All-tail IsShallow a rest h))
+
+pub amount_is_shallow : (m : t.Amount) → All IsShallow (amount_terms m) → amount_depth m ≤ 1024
+amount_is_shallow t.omitted h = omega arith
+amount_is_shallow (t.given a) h = All-head IsShallow a [] h

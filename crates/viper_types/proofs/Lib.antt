@@ -1,0 +1,41 @@
+pub mod Steps
+mod Unfoldings
+mod Listing
+mod Turns
+mod TargetLaws
+mod CallLaws
+mod PlaceLaws
+mod Nesting
+mod StmtLaws
+mod DeclLaws
+pub mod Follows
+pub mod TermWalk
+pub mod Tells
+pub mod TermSound
+pub mod TermFinds
+pub mod AssertionLaws
+pub mod StmtFollows
+pub mod StmtSound
+pub mod StmtFinds
+pub mod ProgramFollows
+pub mod BodyLaws
+pub mod ProgramFinds
+pub mod ProgramSound
+pub mod ProgramLaws
+pub mod TermTypes
+pub mod TermDepth
+pub mod GoodLists
+pub mod Rising
+pub mod Scopes
+pub mod StmtParts
+pub mod SameTargets
+pub mod StmtTypes
+pub mod StmtDepth
+pub mod NamesApart
+pub mod FormalScopes
+pub mod PredicateFormed
+pub mod MethodFormed
+pub mod Assembled
+pub mod WorldLaws
+pub mod FormedProgram
+mod CheckLaws

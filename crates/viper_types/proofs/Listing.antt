@@ -1,0 +1,44 @@
+-- What is listed so far, as the code sees it.
+use Rattle.std.proofs.Common.{◌≡◌, ◌∙◌, refl, ap, ℕ, ◌==◌, ◌||◌, Bool, true, false, cond, not, if◌then◌else◌, List, [], ◌∷◌, ◌++◌, map}
+use Rattle.std.specs.Bool.{OnTrue}
+use Rattle.std.specs.List.{list_any}
+use Rattle.indexmap.specs.IndexSet.{insert_key}
+use Rattle.vb_value.specs.declared.values.Ty.TheVariants as ty
+use Rattle.viper_core.specs.Typing.{same_type}
+use Rattle.viper_types.specs.declared.context.Variable.{Variable}
+use Rattle.viper_types.specs.Typing.{Scope}
+use Rattle.viper_types.specs.Stepping.{Target, is_target, is_listed, numbers_in, ref_variables}
+
+either : (b c : Bool) → (b || c) ≡ cond b true c
+either true c = refl
+either false c = refl
+
+-- a number is listed where some element is equal to it
+pub any-is_listed : (n : ℕ) (ms : List ℕ) → list_any (λ m. n == m) ms ≡ is_listed n ms
+any-is_listed n [] = refl
+any-is_listed n (m ∷ ms) = either (n == m) (list_any (λ k. n == k) ms) ∙ ap (cond (n == m) true) (any-is_listed n ms)
+
+-- a number that is new goes last
+pub pushed : (n : ℕ) (ms ks : List ℕ) (added : Bool) → added ≡ not (list_any (λ m. n == m) ms) → ks ≡ insert_key ◌==◌ ms n → OnTrue added (ks ≡ ms ++ n ∷ [])
+pushed n ms ks added is e = by (list_any (λ m. n == m) ms) is e
+  where
+    by : (b : Bool) → added ≡ not b → ks ≡ (if b then ms else ms ++ n ∷ []) → OnTrue added (ks ≡ ms ++ n ∷ [])
+    by true h k = rw h tt
+    by false h k = rw h k
+
+pub is_listed-numbers : (n : ℕ) (vs : List Target) → is_listed n (numbers_in vs) ≡ is_target n vs
+is_listed-numbers n [] = refl
+is_listed-numbers n (v ∷ vs) = ap (cond (n == v.number) true) (is_listed-numbers n vs)
+
+pub numbers_in-push : (vs : List Target) (v : Target) → numbers_in (vs ++ v ∷ []) ≡ numbers_in vs ++ v.number ∷ []
+numbers_in-push [] v = refl
+numbers_in-push (w ∷ ws) v = ap (λ ns. w.number ∷ ns) (numbers_in-push ws v)
+
+-- the Ref variables among those that are left
+abbrev pub refs_among : List Variable → List ℕ
+refs_among [] = []
+refs_among (v ∷ vs) = cond (same_type v.ty ty.Ref) (v.number ∷ refs_among vs) (refs_among vs)
+
+pub refs_among-values : (sc : Scope) → refs_among (map (λ e. e.1) sc) ≡ ref_variables sc
+refs_among-values [] = refl
+refs_among-values (e ∷ es) = ap (λ ns. cond (same_type e.1.ty ty.Ref) (e.1.number ∷ ns) ns) (refs_among-values es)

@@ -1,0 +1,172 @@
+-- The targets of a loop are the visible variables that its body assigns.
+use Rattle.std.proofs.Common.{◌≡◌, ◌∙◌, inl, inr, ◌==◌, ◌||◌, ◌&&◌, ℕ, ◌+◌, ◌<◌, ◌≤◌, Bool, true, false, cond, List, [], ◌∷◌, Contains, refl, sym, ap, arith}
+use Rattle.std.specs.BTreeSet.{insert_key}
+use Rattle.std.specs.Cmp.{nat_cmp_is}
+use Rattle.std.specs.List.{filter}
+use Rattle.std.specs.Ordering.{nat_cmp, match_ordering}
+use Rattle.std.specs.declared.cmp.Ordering.TheVariants as ordering
+use Rattle.std.proofs.lemmas.Bool.{cases_lt, cases_order, eqb-true, eq-eqb, ne_eqb, lt-ltb, le-ltb}
+use Rattle.std.proofs.lemmas.List.Folds.{list_any_at}
+use Rattle.std.proofs.lemmas.Map.Views.{any-filter_same}
+use Rattle.viper_core.specs.Scope as cs
+use Rattle.viper_core.specs.Scope.{assigns, some_assigns, loop_targets, stmts_scope, after_block}
+use Rattle.viper_core.specs.Stmt as c
+use Rattle.viper_core.specs.Typing as g
+use Rattle.viper_core.proofs.ScopeLaws.{some_old_or_new, fresh-scope_after, fresh-stmts_scope}
+use Rattle.viper_types.specs.Target.{with_target, with_targets, targets_of_stmt, targets_from, targets}
+use Rattle.viper_types.proofs.Rising.{Rising, has, rising_filter, has_above, same_rising}
+
+-- ---- one more number in ascending numbers
+
+first_of_two : (k z : ℕ) (zs : List ℕ) → k < z → insert_key nat_cmp (z ∷ zs) k ≡ k ∷ z ∷ zs
+first_of_two k z zs lt = ap (λ o. match_ordering o (k ∷ z ∷ zs) (z ∷ zs) (z ∷ insert_key nat_cmp zs k)) (sym (nat_cmp_is k z ordering.Less lt))
+
+there_already : (k z : ℕ) (zs : List ℕ) → k ≡ z → insert_key nat_cmp (z ∷ zs) k ≡ z ∷ zs
+there_already k z zs is = ap (λ o. match_ordering o (k ∷ z ∷ zs) (z ∷ zs) (z ∷ insert_key nat_cmp zs k)) (sym (nat_cmp_is k z ordering.Equal is))
+
+further_on : (k z : ℕ) (zs : List ℕ) → z < k → insert_key nat_cmp (z ∷ zs) k ≡ z ∷ insert_key nat_cmp zs k
+further_on k z zs gt = ap (λ o. match_ordering o (k ∷ z ∷ zs) (z ∷ zs) (z ∷ insert_key nat_cmp zs k)) (sym (nat_cmp_is k z ordering.Greater gt))
+
+or_turned : (a b d : Bool) → (a || (b || d)) ≡ (b || (a || d))
+or_turned true true d = refl
+or_turned true false d = refl
+or_turned false true d = refl
+or_turned false false d = refl
+
+or_twice : (a d : Bool) → (a || d) ≡ (a || (a || d))
+or_twice true d = refl
+or_twice false d = refl
+
+or_moved : (a b d : Bool) → (b || (a || d)) ≡ ((a || b) || d)
+or_moved true true d = refl
+or_moved true false d = refl
+or_moved false true d = refl
+or_moved false false d = refl
+
+or_nothing : (a : Bool) → (a || false) ≡ a
+or_nothing true = refl
+or_nothing false = refl
+
+has_insert : (k : ℕ) (zs : List ℕ) (x : ℕ) → has (insert_key nat_cmp zs k) x ≡ (k == x || has zs x)
+has_insert k [] x = refl
+has_insert k (z ∷ zs) x =
+    elim (cases_order k z) [
+      | inl is ↦ ap (λ ns. has ns x) (there_already k z zs is) ∙ or_twice (z == x) (has zs x) ∙ ap (λ n. n == x || (z == x || has zs x)) (sym is)
+      | inr (inl lt) ↦ ap (λ ns. has ns x) (first_of_two k z zs lt)
+      | inr (inr gt) ↦
+          ap (λ ns. has ns x) (further_on k z zs gt) ∙ ap (λ b. z == x || b) (has_insert k zs x) ∙ or_turned (z == x) (k == x) (has zs x)
+    ]
+
+rising_insert : (low high k : ℕ) (zs : List ℕ) → Rising low high zs → low ≤ k → k < high → Rising low high (insert_key nat_cmp zs k)
+rising_insert low high k [] h le lt = (le, omega (arith, lt))
+rising_insert low high k (z ∷ zs) h le lt =
+    elim (cases_order k z) [
+      | inl is ↦ rw (there_already k z zs is) h
+      | inr (inl less) ↦ rw (first_of_two k z zs less) (le, (omega (arith, less), h.1))
+      | inr (inr gt) ↦ rw (further_on k z zs gt) (h.0, rising_insert (z + 1) high k zs h.1 (omega (arith, gt)) lt)
+    ]
+
+-- ---- what is listed
+
+has_target : (below x z : ℕ) (so_far : List ℕ) → z < below → has (with_target below so_far x) z ≡ (x == z || has so_far z)
+has_target below x z so_far lt =
+    elim (cases_lt x below) [
+      | inl less ↦ ap (λ b. has (cond b (insert_key nat_cmp so_far x) so_far) z) (lt-ltb x below less) ∙ has_insert x so_far z
+      | inr le ↦
+          ap (λ b. has (cond b (insert_key nat_cmp so_far x) so_far) z) (le-ltb x below le) ∙
+          ap (λ b. b || has so_far z) (sym (ne_eqb x z (λ is. omega (arith, is, le, lt))))
+    ]
+
+has_targets : (below z : ℕ) → z < below → (xs so_far : List ℕ) → has (with_targets below so_far xs) z ≡ (has xs z || has so_far z)
+has_targets below z lt [] so_far = refl
+has_targets below z lt (x ∷ xs) so_far =
+    has_targets below z lt xs (with_target below so_far x) ∙ ap (λ b. has xs z || b) (has_target below x z so_far lt) ∙ or_moved (x == z) (has xs z) (has so_far z)
+
+-- a list has what is in it
+contained : (xs : List ℕ) (x : ℕ) → Contains xs x → has xs x ≡ true
+contained xs x h = list_any_at (λ y. y == x) xs h.0 x h.1 (eq-eqb _ x h.2)
+
+has_filter : (p : ℕ → Bool) (xs : List ℕ) (z : ℕ) → has (filter p xs) z ≡ (p z && has xs z)
+has_filter p xs z = any-filter_same (λ y. y == z) p (p z) (λ k i. ap p (eqb-true k z i)) xs
+
+visible_or_not : (a b : Bool) → (a ≡ true → b ≡ true) → (a && b) ≡ a
+visible_or_not true b h = h refl
+visible_or_not false b h = refl
+
+-- the listed targets of a typed loop are what it assigns of what was there before
+listed : {m : g.Frame} {sc : cs.Scope} {body : c.Stmts} (below z : ℕ) → g.AreStmts m sc body → below ≤ sc.fresh → z < below →
+    has (loop_targets sc body) z ≡ some_assigns z body
+listed {m} {sc} {body} below z h le lt =
+    has_filter (λ x. some_assigns x body) sc.visible z ∙ visible_or_not (some_assigns z body) (has sc.visible z)
+    (λ is. elim (some_old_or_new z h is) [ inl old ↦ contained sc.visible z old | inr new ↦ absurd (omega (arith, new, le, lt)) ])
+
+mutual
+  stmt_targets : {m : g.Frame} (below z : ℕ) → z < below → {sc : cs.Scope} {a : c.Stmt} (so_far : List ℕ) → g.IsStmt m sc a → below ≤ sc.fresh →
+      has (targets_of_stmt below so_far a) z ≡ (assigns z a || has so_far z)
+  stmt_targets below z lt so_far (g.assigns {x = x} target h) le = has_target below x z so_far lt
+  stmt_targets below z lt so_far (g.creates {x = x} into fields refs) le = has_target below x z so_far lt
+  stmt_targets below z lt so_far (g.calls {xs = xs} callee exists args into) le = has_targets below z lt xs so_far
+  stmt_targets below z lt {sc = sc} so_far (g.branches {then_block = a} {else_block = b} h first second) le =
+      stmts_targets below z lt (targets_from below so_far a) second (omega (arith, le, fresh-stmts_scope sc a)) ∙
+      ap (λ o. some_assigns z b || o) (stmts_targets below z lt so_far first le) ∙ or_moved (some_assigns z a) (some_assigns z b) (has so_far z)
+  stmt_targets below z lt {sc = sc} so_far (g.loops {body = body} {targets = ts} guard invariants inside is) le =
+      has_targets below z lt ts so_far ∙ ap (λ o. o || has so_far z) (ap (λ ns. has ns z) is ∙ listed below z inside le lt)
+  stmt_targets below z lt so_far (g.declares is typed) le = refl
+  stmt_targets below z lt so_far (g.initial is typed h) le = refl
+  stmt_targets below z lt so_far (g.writes h field d) le = refl
+  stmt_targets below z lt so_far (g.inhales h) le = refl
+  stmt_targets below z lt so_far (g.exhales h) le = refl
+  stmt_targets below z lt so_far (g.asserts h) le = refl
+  stmt_targets below z lt so_far (g.folds h) le = refl
+  stmt_targets below z lt so_far (g.unfolds h) le = refl
+
+  stmts_targets : {m : g.Frame} (below z : ℕ) → z < below → {sc : cs.Scope} {ss : c.Stmts} (so_far : List ℕ) → g.AreStmts m sc ss → below ≤ sc.fresh →
+      has (targets_from below so_far ss) z ≡ (some_assigns z ss || has so_far z)
+  stmts_targets below z lt so_far g.ends le = refl
+  stmts_targets below z lt {sc = sc} so_far (g.goes_on {a = a} {rest = rest} first more) le =
+      stmts_targets below z lt (targets_of_stmt below so_far a) more (omega (arith, le, fresh-scope_after sc a)) ∙
+      ap (λ o. some_assigns z rest || o) (stmt_targets below z lt so_far first le) ∙ or_moved (assigns z a) (some_assigns z rest) (has so_far z)
+
+-- ---- they ascend
+
+rising_target : (below : ℕ) (so_far : List ℕ) (x : ℕ) → Rising 0 below so_far → Rising 0 below (with_target below so_far x)
+rising_target below so_far x h =
+    elim (cases_lt x below) [
+      | inl less ↦ rw (lt-ltb x below less) (rising_insert 0 below x so_far h (omega arith) less)
+      | inr le ↦ rw (le-ltb x below le) h
+    ]
+
+rising_targets : (below : ℕ) (xs so_far : List ℕ) → Rising 0 below so_far → Rising 0 below (with_targets below so_far xs)
+rising_targets below [] so_far h = h
+rising_targets below (x ∷ xs) so_far h = rising_targets below xs (with_target below so_far x) (rising_target below so_far x h)
+
+mutual
+  rising_stmt : (below : ℕ) (a : c.Stmt) (so_far : List ℕ) → Rising 0 below so_far → Rising 0 below (targets_of_stmt below so_far a)
+  rising_stmt below (c.Var at x init) so_far h = h
+  rising_stmt below (c.Assign at x a) so_far h = rising_target below so_far x h
+  rising_stmt below (c.Write at a f f_at b) so_far h = h
+  rising_stmt below (c.New at x fields refs) so_far h = rising_target below so_far x h
+  rising_stmt below (c.Call at xs m args) so_far h = rising_targets below xs so_far h
+  rising_stmt below (c.Inhale at a) so_far h = h
+  rising_stmt below (c.Exhale at a) so_far h = h
+  rising_stmt below (c.Assert at a) so_far h = h
+  rising_stmt below (c.Fold f) so_far h = h
+  rising_stmt below (c.Unfold f) so_far h = h
+  rising_stmt below (c.If at a b d) so_far h = rising_stmts below d (targets_from below so_far b) (rising_stmts below b so_far h)
+  rising_stmt below (c.While (c.loop at a is b turn ts)) so_far h = rising_targets below ts so_far h
+
+  rising_stmts : (below : ℕ) (ss : c.Stmts) (so_far : List ℕ) → Rising 0 below so_far → Rising 0 below (targets_from below so_far ss)
+  rising_stmts below c.skip so_far h = h
+  rising_stmts below (c.next a rest) so_far h = rising_stmts below rest (targets_of_stmt below so_far a) (rising_stmt below a so_far h)
+
+pub same_targets : {m : g.Frame} (sc : cs.Scope) (body : c.Stmts) → g.AreStmts m sc body → Rising 0 sc.fresh sc.visible →
+    targets sc.fresh body ≡ loop_targets sc body
+same_targets sc body h rising =
+    let all : Rising 0 sc.fresh (targets sc.fresh body) = rising_stmts sc.fresh body [] (omega arith) in
+    let seen : Rising 0 sc.fresh (loop_targets sc body) = rising_filter (λ x. some_assigns x body) 0 sc.fresh sc.visible rising in
+    same_rising 0 sc.fresh (targets sc.fresh body) (loop_targets sc body) all seen (λ z.
+    elim (cases_lt z sc.fresh) [
+      | inl lt ↦
+          stmts_targets sc.fresh z lt [] h (omega arith) ∙ or_nothing (some_assigns z body) ∙ sym (listed sc.fresh z h (omega arith) lt)
+      | inr le ↦ has_above 0 sc.fresh (targets sc.fresh body) z all le ∙ sym (has_above 0 sc.fresh (loop_targets sc body) z seen le)
+    ])

@@ -1,0 +1,248 @@
+-- The parts of a statement over numbered variables: its targets, a call, a creation, a place, the instance of a fold.
+use Rattle.std.proofs.Common.{◌≡◌, ◌≢◌, ◌∙◌, ◌==◌, ℕ, zero, suc, ◌+◌, ◌<◌, Bool, true, false, if◌then◌else◌, Option, Some, None, List, [], ◌∷◌, ◌++◌, All, AllPairs, Contains, length, slice_get, get_or, is_some, refl, sym, ap, subst, arith}
+use Rattle.std.specs.List.{filter, range_with_len}
+use Rattle.std.proofs.lemmas.Bool.{ne_eqb, eq-eqb}
+use Rattle.std.proofs.lemmas.List.Elements.{All-cons, All-nil, All-push, All-contains}
+use Rattle.std.proofs.lemmas.List.FromFn.{length-range_with_len, get_or-range_with_len}
+use Rattle.std.proofs.lemmas.List.Quantifiers.{all_pairs_push}
+use Rattle.std.proofs.lemmas.Option.{slice_get_within}
+use Rattle.vb_value.specs.declared.values.Ty.{Ty}
+use Rattle.vb_value.specs.declared.values.Ty.TheVariants as ty
+use Rattle.viper_core.specs.Expr as e
+use Rattle.viper_core.specs.Program as p
+use Rattle.viper_core.specs.Scope as cs
+use Rattle.viper_core.specs.Stmt as c
+use Rattle.viper_core.specs.Typing as g
+use Rattle.viper_core.specs.Typing.{HasType, HaveTypes, same_type}
+use Rattle.viper_syntax.specs.Term as t
+use Rattle.viper_syntax.specs.Stmt as s
+use Rattle.viper_syntax.specs.declared.stmts.Named.{Named}
+use Rattle.viper_types.specs.Context.{World, Context, field_at}
+use Rattle.viper_syntax.specs.Good.{HasLiterals, amount_terms}
+use Rattle.viper_types.specs.Typing.{Scope, Located}
+use Rattle.viper_types.specs.Frame.{Frame}
+use Rattle.viper_types.specs.Stepping.{Target, is_target, numbers_in, is_listed, ref_variables}
+use Rattle.viper_types.specs.Stepped as r
+use Rattle.viper_types.proofs.TermTypes.{Describes, Resolves, has_type, have_types, permission_has_type}
+use Rattle.viper_types.proofs.GoodLists.{all_left, all_right, have_literals, amount_has_literals}
+use Rattle.viper_types.proofs.Rising.{Rising, rising_bounds}
+use Rattle.viper_types.proofs.Scopes.{Extends, numbers, core_scope, AreVariables, IsSound, found, resolves}
+
+-- a frame over names, within a method of the program
+pub record Stands (k : Context) (m : g.Frame) (fr : Frame) : Type 0 where
+  pub declarations : Describes k.world k.bodies m.program
+  pub sound : IsSound m.params fr
+  pub extends : Extends fr.vars m.vars
+
+pub names_in : {k : Context} {m : g.Frame} {fr : Frame} → Stands k m fr → Resolves k fr.scope (g.inside m (core_scope fr))
+names_in {k} {m} {fr} z = resolves k m fr z.declarations z.sound z.extends
+
+-- ---- targets
+
+pub target_is : {k : Context} {m : g.Frame} {fr : Frame} {x : Named} {v : Target} → Stands k m fr → r.IsTarget fr.scope x v →
+    g.IsTarget m (core_scope fr) v.number v.ty
+target_is {m = m} {fr = fr} {x = x} z (r.target {v = v} i free) =
+    let is = found m.params fr.vars fr.scope x.name v z.sound.variables i in
+    record { visible = is.0; no_parameter = is.1.no_parameter free; typed = z.extends.at v.number v.ty is.1.typed }
+
+abbrev pub types_in : List Target → List Ty
+types_in [] = []
+types_in (v ∷ vs) = v.ty ∷ types_in vs
+
+pub takes : {vs : List Target} {us : List Ty} → r.TakeReturns vs us → types_in vs ≡ us
+takes r.no_returns = refl
+takes (r.one_return {v = v} h) = ap (λ us. v.ty ∷ us) (takes h)
+
+numbers_in_push : (vs : List Target) (v : Target) → numbers_in (vs ++ v ∷ []) ≡ numbers_in vs ++ v.number ∷ []
+numbers_in_push [] v = refl
+numbers_in_push (w ∷ vs) v = ap (λ ns. w.number ∷ ns) (numbers_in_push vs v)
+
+listed_wrong : (a b : Bool) → a ≡ true → (if a then true else b) ≡ false → ⊥
+listed_wrong true b is h = absurd (cc)
+listed_wrong false b is h = absurd (cc)
+
+first_listed : (n m : ℕ) (b : Bool) → (if n == m then true else b) ≡ false → n ≡ m → ⊥
+first_listed n m b h is = let same : (n == m) ≡ true = eq-eqb n m is in listed_wrong (n == m) b same h
+
+later_listed : (a b : Bool) → (if a then true else b) ≡ false → b ≡ false
+later_listed true b h = absurd (cc)
+later_listed false b h = h
+
+not_listed : (n : ℕ) (ms : List ℕ) → is_listed n ms ≡ false → (i d : ℕ) → i < length ms → get_or ms i d ≢ n
+not_listed n [] h i d lt = λ is. omega (arith, lt)
+not_listed n (m ∷ ms) h zero d lt = λ is. first_listed n m (is_listed n ms) h (sym is)
+not_listed n (m ∷ ms) h (suc i) d lt = not_listed n ms (later_listed (n == m) (is_listed n ms) h) i d (omega (arith, lt))
+
+is_target_listed : (n : ℕ) (vs : List Target) → is_target n vs ≡ is_listed n (numbers_in vs)
+is_target_listed n [] = refl
+is_target_listed n (v ∷ vs) = ap (λ b. if n == v.number then true else b) (is_target_listed n vs)
+
+differ_push : (n : ℕ) (ns : List ℕ) → AllPairs (λ x y. x ≢ y) ns → is_listed n ns ≡ false → AllPairs (λ x y. x ≢ y) (ns ++ n ∷ [])
+differ_push n ns h new = all_pairs_push (λ x y. x ≢ y) ns n h (λ i d lt. not_listed n ns new i d lt)
+
+differ_none : AllPairs {X = ℕ} (λ x y. x ≢ y) []
+differ_none i j d lt lt' = absurd (omega (arith, lt'))
+
+pub record Takes (m : g.Frame) (sc : cs.Scope) (vs : List Target) : Type 0 where
+  pub targets : g.AreTargets m sc (numbers_in vs) (types_in vs)
+  pub differ : AllPairs (λ x y. x ≢ y) (numbers_in vs)
+
+takes_push : (m : g.Frame) (sc : cs.Scope) (vs : List Target) (v : Target) → g.AreTargets m sc (numbers_in vs) (types_in vs) →
+    g.IsTarget m sc v.number v.ty →
+    g.AreTargets m sc (numbers_in (vs ++ v ∷ [])) (types_in (vs ++ v ∷ []))
+takes_push m sc [] v h i = g.also i g.nothing
+takes_push m sc (w ∷ vs) v (g.also j h) i = g.also j (takes_push m sc vs v h i)
+
+pub targets_are : {k : Context} {m : g.Frame} {fr : Frame} {before : List Target} {xs : List Named} {vs : List Target} → Stands k m fr →
+    r.AreTargets fr.scope before xs vs → Takes m (core_scope fr) before →
+    Takes m (core_scope fr) vs
+targets_are z r.no_more h = h
+targets_are {m = m} {fr = fr} z (r.one_more {before = before} {v = v} i new rest) h =
+    targets_are z rest (record {
+      targets = takes_push m (core_scope fr) before v h.targets (target_is z i);
+      differ =
+          subst (λ ns. AllPairs (λ x y. x ≢ y) ns) (sym (numbers_in_push before v))
+          (differ_push v.number (numbers_in before) h.differ (sym (is_target_listed v.number before) ∙ new));
+    })
+
+pub no_targets : {m : g.Frame} {sc : cs.Scope} → Takes m sc []
+no_targets = record { targets = g.nothing; differ = differ_none }
+
+one_differs : (n : ℕ) → AllPairs (λ x y. x ≢ y) (n ∷ [])
+one_differs n i j d lt lt' = absurd (omega (arith, lt, lt'))
+
+pub one_target : {m : g.Frame} {sc : cs.Scope} (v : Target) → g.IsTarget m sc v.number v.ty → Takes m sc (v ∷ [])
+one_target v i = record { targets = g.also i g.nothing; differ = one_differs v.number }
+
+pub received : {m : g.Frame} {sc : cs.Scope} {vs : List Target} → Takes m sc vs → g.Receive m sc (numbers_in vs) (types_in vs)
+received h = g.assigned h.targets h.differ
+
+-- ---- the scope after targets
+
+rising_all : (low high : ℕ) (xs : List ℕ) → Rising low high xs → All (λ x. x < high) xs
+rising_all low high [] h = All-nil (λ x. x < high)
+rising_all low high (x ∷ xs) h =
+    All-cons (λ y. y < high) x xs (omega (arith, rising_bounds (x + 1) high xs h.1)) (rising_all (x + 1) high xs h.1)
+
+pub visible_below : (params : ℕ) (fr : Frame) (x : ℕ) → IsSound params fr → Contains (numbers fr.scope) x → x < length fr.vars
+visible_below params fr x h seen =
+    All-contains (λ y. y < length fr.vars) (numbers fr.scope) x (rising_all 0 (length fr.vars) (numbers fr.scope) h.rising) seen
+
+pub stays : (params : ℕ) (fr : Frame) (x : ℕ) → IsSound params fr → Contains (numbers fr.scope) x → cs.after_target (core_scope fr) x ≡ core_scope fr
+stays params fr x h seen =
+    let other : (x == length fr.vars) ≡ false = ne_eqb x (length fr.vars) (λ is. omega (arith, is, visible_below params fr x h seen)) in
+    rw other refl
+
+pub all_stay : {m : g.Frame} (params : ℕ) (fr : Frame) {xs : List ℕ} {us : List Ty} → IsSound params fr → g.AreTargets m (core_scope fr) xs us →
+    cs.after_targets (core_scope fr) xs ≡ core_scope fr
+all_stay params fr h g.nothing = refl
+all_stay params fr h (g.also {x = x} {xs = xs} i rest) =
+    ap (λ sc. cs.after_targets sc xs) (stays params fr x h i.visible) ∙ all_stay params fr h rest
+
+pub declares : (sc : cs.Scope) (x : ℕ) → x ≡ sc.fresh → cs.after_target sc x ≡ cs.declared sc
+declares sc x is = let same : (x == sc.fresh) ≡ true = eq-eqb x sc.fresh is in rw same refl
+
+-- ---- calls
+
+pub call_is : {k : Context} {m : g.Frame} {fr : Frame} {at : _} {vs : List Target} {call : s.SCall} {x : c.Stmt} → Stands k m fr →
+    r.IsCall k fr.scope at vs call x → All HasLiterals call.args → g.Receive m (core_scope fr) (numbers_in vs) (types_in vs) →
+    g.IsStmt m (core_scope fr) x
+call_is {m = m} {fr = fr} {vs = vs} {call = call} z (r.call_of {n = n} {m = types} {es = es} i args into) l taken =
+    let callee = z.declarations.method call.name.name n types i in
+    g.calls callee.method callee.there
+    (subst (λ us. HaveTypes (g.inside m (core_scope fr)) es us) (sym callee.params) (have_types (names_in z) args (have_literals call.args l)))
+    (subst (λ us. g.Receive m (core_scope fr) (numbers_in vs) us) (takes into ∙ sym callee.returns) taken)
+
+pub call_scope : {k : Context} {sc : Scope} {at : _} {vs : List Target} {call : s.SCall} {x : c.Stmt} (outer : cs.Scope) → r.IsCall k sc at vs call x →
+    cs.scope_after outer x ≡ cs.after_targets outer (numbers_in vs)
+call_scope outer (r.call_of i args into) = refl
+
+-- ---- creations
+
+numbered_field : (w : World) (bodies : _) (q : p.Program) (f : List ℕ) (n : ℕ) (u : Ty) → Describes w bodies q → field_at w f ≡ Some (n, u) → n < length q.fields
+numbered_field w bodies q f n u z i = omega (arith, slice_get_within q.layout.fields n u (z.field f n u i), z.layout_fields)
+
+fields_are : (k : Context) {q : p.Program} {before : List ℕ} {fs : List Named} {ns : List ℕ} → Describes k.world k.bodies q →
+    r.AreFields k.world before fs ns → g.AreFields q before →
+    g.AreFields q ns
+fields_are k z r.no_fields h = h
+fields_are k {q = q} z (r.one_field {before = before} {f = f} {n = n} {u = u} i new rest) h =
+    fields_are k z rest (record {
+      exist = All-push (λ x. x < length q.fields) before n h.exist (numbered_field k.world k.bodies q f.name n u z i);
+      differ = differ_push n before h.differ new;
+    })
+
+all_fields : (q : p.Program) (n : ℕ) → n ≡ length q.fields → g.AreFields q (range_with_len 0 n)
+all_fields q n is = record {
+  exist = λ i d lt.
+      let lt' : i < n = omega (arith, lt, length-range_with_len 0 n) in
+      let at : get_or (range_with_len 0 n) i d ≡ 0 + i = get_or-range_with_len 0 n i d lt' in
+      omega (arith, at, lt', is);
+  differ = λ i j d lt lt' same.
+      let le : j < n = omega (arith, lt', length-range_with_len 0 n) in
+      let one : get_or (range_with_len 0 n) i d ≡ 0 + i = get_or-range_with_len 0 n i d (omega (arith, lt, le)) in
+      let two : get_or (range_with_len 0 n) j d ≡ 0 + j = get_or-range_with_len 0 n j d le in
+      omega (arith, lt, one, two, same);
+}
+
+chosen : (k : Context) {q : p.Program} {new : s.SNew} {ns : List ℕ} → Describes k.world k.bodies q → r.ChoosesFields k.world new ns → g.AreFields q ns
+chosen k {q = q} z (r.every i) = all_fields q (length k.world.fields) z.world_fields
+chosen k z (r.named i h) = fields_are k z h (record { exist = All-nil (λ x. x < _); differ = differ_none })
+
+is_ref_type : (u : Ty) → cs.is_ref (Some u) ≡ same_type u ty.Ref
+is_ref_type ty.Int = refl
+is_ref_type ty.Bool = refl
+is_ref_type ty.Ref = refl
+is_ref_type ty.Perm = refl
+
+same_refs : (params : ℕ) (vars all : List Ty) (sc : Scope) → AreVariables params vars sc → Extends vars all →
+    ref_variables sc ≡ filter (λ x. cs.is_ref (slice_get all x)) (numbers sc)
+same_refs params vars all [] h more = refl
+same_refs params vars all (x ∷ xs) h more =
+    let test : cs.is_ref (slice_get all x.1.number) ≡ same_type x.1.ty ty.Ref = ap cs.is_ref (more.at x.1.number x.1.ty h.0.typed) ∙ is_ref_type x.1.ty in
+    rw (test, same_refs params vars all xs h.1 more) refl
+
+pub new_is : {k : Context} {m : g.Frame} {fr : Frame} {at : _} {n : ℕ} {new : s.SNew} {x : c.Stmt} → Stands k m fr →
+    r.IsNew k.world fr.scope at n new x → g.Receive m (core_scope fr) (n ∷ []) (ty.Ref ∷ []) →
+    g.IsStmt m (core_scope fr) x
+new_is {k} {m} {fr} z (r.new_of h) taken =
+    g.creates taken (chosen k z.declarations h) (same_refs m.params fr.vars m.vars fr.scope z.sound.variables z.extends)
+
+pub new_scope : {w : World} {sc : Scope} {at : _} {n : ℕ} {new : s.SNew} {x : c.Stmt} (outer : cs.Scope) → r.IsNew w sc at n new x →
+    cs.scope_after outer x ≡ cs.after_target outer n
+new_scope outer (r.new_of h) = refl
+
+-- ---- places
+
+pub record IsPlaceOf (c : g.Context) (l : Located) : Type 0 where
+  pub receiver : HasType c l.receiver ty.Ref
+  pub field : slice_get c.program.layout.fields l.field ≡ Some l.ty
+
+pub place_is : {k : Context} {sc : Scope} {c : g.Context} {a : t.Term} {fs : List Named} {l : Located} → Resolves k sc c → r.IsPlace k sc a fs l →
+    HasLiterals a →
+    IsPlaceOf c l
+place_is z (r.of_field {f = f} {n = n} {u = u} h i) l = record { receiver = has_type z h l; field = z.declarations.field f.name n u i }
+place_is z (r.of_further h) l = place_is z h l
+
+-- ---- instances
+
+some_body : (b : Option e.Assertion) → is_some b ≡ true → (body : e.Assertion) × (b ≡ Some body)
+some_body (Some body) h = (body, refl)
+some_body None h = absurd (cc)
+
+pub fold_is : {k : Context} {sc : Scope} {ctx : g.Context} {f : s.SFold} {x : c.FoldStmt} → Resolves k sc ctx → r.IsFold k sc f x →
+    All HasLiterals (f.call.args ++ amount_terms f.amount) →
+    g.IsFold ctx x
+fold_is {ctx = ctx} {f = f} z (r.fold_of {n = n} {p = s} {es = es} i has_body args m) l =
+    let d = z.declarations.predicate f.call.name.name n s i in
+    let body = some_body d.predicate.body (sym d.has_body ∙ has_body) in
+    record {
+      predicate = d.predicate;
+      body = body.0;
+      exists = d.there;
+      has_body = body.1;
+      args =
+          subst (λ us. HaveTypes ctx es us) (sym d.params)
+          (have_types z args (have_literals f.call.args (all_left HasLiterals f.call.args (amount_terms f.amount) l)));
+      amount = permission_has_type z m (amount_has_literals f.amount (all_right HasLiterals f.call.args (amount_terms f.amount) l));
+    }

@@ -1,0 +1,153 @@
+-- How a function of the code answers what is judged: the value, or the first broken rule, or the want of memory.
+use Rattle.std.specs.Prelude.{◌≡◌, ℕ, Bool, Result, Ok, Err, Option, Some, None, List, map}
+use Rattle.std.proofs.Common.{Bor}
+use Rattle.std.specs.declared.vec.Vec.{Vec}
+use Rattle.std.specs.declared.alloc.Global.{Global}
+use Rattle.std.specs.Option.{option_map}
+use Rattle.vb_value.specs.declared.values.Ty.{Ty}
+use Rattle.viper_core.specs.Expr as e
+use Rattle.viper_core.specs.Stmt as c
+use Rattle.viper_core.specs.Program as p
+use Rattle.viper_core.specs.View.{expr_of, exprs_of, assertion_of, assertions_of, stmt_of, stmts_of, predicate_of, method_of}
+use Rattle.viper_core.specs.declared.exprs.Expr.{Expr}
+use Rattle.viper_core.specs.declared.stmts.Stmt.{Stmt}
+use Rattle.viper_core.specs.declared.exprs.Assertion.{Assertion}
+use Rattle.viper_core.specs.declared.stmts.Stmt.{Stmt}
+use Rattle.viper_syntax.specs.Term as t
+use Rattle.viper_syntax.specs.Stmt as st
+use Rattle.viper_syntax.specs.View.{term_of, rhs_of}
+use Rattle.viper_syntax.specs.declared.stmts.SRhs.{SRhs}
+use Rattle.viper_syntax.specs.declared.terms.Term as term
+use Rattle.viper_types.specs.declared.context.PredicateSignature.{PredicateSignature}
+use Rattle.viper_types.specs.declared.context.MethodTypes.{MethodTypes}
+use Rattle.viper_types.specs.declared.context.World as world
+use Rattle.viper_types.specs.declared.context.Context as context
+use Rattle.viper_types.specs.declared.faults.TypeFault.{TypeFault}
+use Rattle.viper_types.specs.declared.faults.TypeFault.TheVariants.{Memory, Rule, Weight}
+use Rattle.viper_types.specs.declared.context.FieldPlace.{FieldPlace}
+use Rattle.viper_types.specs.declared.declarations.Declared.{Declared}
+use Rattle.viper_types.specs.declared.declarations.Declared.TheVariants as declared
+use Rattle.viper_types.specs.declared.declarations.Parts.{Parts}
+use Rattle.viper_types.specs.declared.frames.Frame as frame
+use Rattle.viper_types.specs.declared.frames.Target as target
+use Rattle.viper_types.specs.declared.statements.TypedArm.{TypedArm}
+use Rattle.viper_types.specs.Typing.{Typing, Located}
+use Rattle.viper_types.specs.Outcome.{Judged, Found, Broken}
+use Rattle.viper_types.specs.Context.{Signature, MethodSignature, World, Context}
+use Rattle.viper_types.specs.Frame.{Frame}
+use Rattle.viper_types.specs.Stepping.{Target, Branch}
+use Rattle.viper_types.specs.Declaring as j
+
+abbrev pub Refuses : {X : Type 0} → Judged X → TypeFault → Type 0
+Refuses j Memory = Unit {0}
+Refuses j (Rule p n) = j ≡ Broken p n
+Refuses j (Weight w) = ⊥
+
+-- `seen` is what a contract sees of the value
+abbrev pub Answers : {X Y : Type 0} → (Y → X) → Judged X → Result Y TypeFault → Type 0
+Answers seen j (Ok y) = j ≡ Found (seen y)
+Answers seen j (Err f) = Refuses j f
+
+-- views
+
+abbrev pub typing_of : Expr × Ty → e.Expr × Ty
+typing_of x = (expr_of x.0, x.1)
+
+abbrev pub signature_of : PredicateSignature → Signature
+signature_of s = record { params = s.params.items; has_body = s.has_body }
+
+abbrev pub method_signature_of : MethodTypes → MethodSignature
+method_signature_of s = record { params = s.params.items; returns = s.returns.items }
+
+abbrev pub typings_of : Vec (Expr × Ty) Global → List Typing
+typings_of v = map typing_of v.items
+
+abbrev pub argument_exprs_of : Vec Expr Global → e.Exprs
+argument_exprs_of v = exprs_of v.items
+
+-- an optional term behind a reference, as an amount
+abbrev pub lent_amount_of : Option (Bor term.Term) → t.Amount
+lent_amount_of None = t.omitted
+lent_amount_of (Some a) = t.given (term_of a.now)
+
+abbrev pub place_of : FieldPlace → Located
+place_of l = record { receiver = expr_of l.receiver; field = l.field; ty = l.ty }
+
+abbrev pub numbered_signature_of : ℕ × Bor PredicateSignature → ℕ × Signature
+numbered_signature_of s = (s.0, signature_of s.1.now)
+
+abbrev pub numbered_method_of : ℕ × Bor MethodTypes → ℕ × MethodSignature
+numbered_method_of s = (s.0, method_signature_of s.1.now)
+
+abbrev pub world_of : world.World → World
+world_of w = record {
+  roles = w.roles;
+  fields = w.fields.items;
+  predicates = map signature_of w.predicates.items;
+  methods = map method_signature_of w.methods.items;
+}
+
+abbrev pub context_of : context.Context → Context
+context_of c = record {
+  world = world_of c.world.now;
+  bodies = map (option_map assertion_of) c.bodies.now;
+  part = c.part;
+}
+
+abbrev pub frame_of : frame.Frame → Frame
+frame_of f = record { vars = f.vars.items; scope = f.scope }
+
+abbrev pub target_of : target.Target → Target
+target_of v = record { number = v.number; ty = v.ty; at = v.at }
+
+abbrev pub targets_of : Vec target.Target Global → List Target
+targets_of v = map target_of v.items
+
+abbrev pub numbers_of : Vec ℕ Global → List ℕ
+numbers_of v = v.items
+
+-- an optional right side behind a reference
+abbrev pub lent_rhs_of : Option (Bor SRhs) → Option st.SRhs
+lent_rhs_of None = None
+lent_rhs_of (Some a) = Some (rhs_of a.now)
+
+abbrev pub block_stmts_of : Vec Stmt Global → c.Stmts
+block_stmts_of v = stmts_of v.items
+
+abbrev pub stmt_list_of : Vec Stmt Global → List c.Stmt
+stmt_list_of v = map stmt_of v.items
+
+abbrev pub branch_of : TypedArm → Branch
+branch_of b = record { at = b.at; condition = expr_of b.condition; body = stmts_of b.body.items }
+
+abbrev pub branches_of : Vec TypedArm Global → List Branch
+branches_of v = map branch_of v.items
+
+-- the guard and the invariants of a loop
+abbrev pub loop_terms_of : Expr × Vec Assertion Global → e.Expr × List e.Assertion
+loop_terms_of x = (expr_of x.0, assertions_of x.1.items)
+
+-- the bodies of the predicates
+abbrev pub optional_bodies_of : List (Option Assertion) → List (Option e.Assertion)
+optional_bodies_of = map (option_map assertion_of)
+
+abbrev pub clause_typing_of : Bool × Assertion → Bool × e.Assertion
+clause_typing_of x = (x.0, assertion_of x.1)
+
+abbrev pub clause_typings_of : Vec (Bool × Assertion) Global → List (Bool × e.Assertion)
+clause_typings_of v = map clause_typing_of v.items
+
+abbrev pub declared_of : Declared → j.Declared
+declared_of (declared.Field x u) = j.FieldOf x u
+declared_of (declared.Predicate q) = j.PredicateOf (predicate_of q)
+declared_of (declared.Method m) = j.MethodOf (method_of m)
+
+-- the program of the declarations so far
+abbrev pub parts_of : Parts → p.Program
+parts_of g = record {
+  fields = g.fields.items;
+  layout = record { fields = g.types.items; keys = map (λ v. v.items) g.keys.items };
+  predicates = map predicate_of g.predicates.items;
+  methods = map method_of g.methods.items;
+  units = g.units.items;
+}

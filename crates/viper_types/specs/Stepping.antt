@@ -1,0 +1,227 @@
+-- The typing of statements up to the first broken rule: what the code computes.
+use Rattle.std.specs.Prelude.{ℕ, ◌+◌, ◌==◌, Bool, true, false, not, nat_le, Option, Some, None, List, [], ◌∷◌, ◌++◌, length, is_some, if◌then◌else◌}
+use Rattle.std.specs.List.{range_with_len}
+use Rattle.vb_base.specs.declared.places.Pos.{Pos}
+use Rattle.vb_value.specs.declared.values.Ty.{Ty}
+use Rattle.vb_value.specs.declared.values.Ty.TheVariants as ty
+use Rattle.viper_core.specs.Expr as e
+use Rattle.viper_core.specs.Stmt as c
+use Rattle.viper_syntax.specs.Term as t
+use Rattle.viper_syntax.specs.Stmt as s
+use Rattle.viper_syntax.specs.declared.stmts.Named.{Named}
+use Rattle.viper_syntax.specs.declared.stmts.Formal.{Formal}
+use Rattle.viper_syntax.specs.declared.tokens.Word.{Word}
+use Rattle.viper_syntax.specs.declared.tokens.Word.TheVariants as word
+use Rattle.viper_types.specs.Outcome.{Judged, Found, Broken, then_typed, known, obeys, clear_of, then_more}
+use Rattle.viper_types.specs.Context.{World, Context, find, field_at, method_at, nowhere}
+use Rattle.viper_core.specs.Typing.{same_type}
+use Rattle.viper_types.specs.Typing.{Scope, Typing, Located, start, typing, typing_all, permission, expected, arguments, asserting, located, as_many, misfit, exprs_in, with_body}
+use Rattle.viper_types.specs.Frame.{Frame, type_of, declared_type, declared_in_arms, declared_in_arm, frame_after, with_hidden}
+use Rattle.viper_types.specs.Target.{targets}
+
+-- a variable that takes a value, and the place of its name
+pub record Target : Type 0 where
+  pub number : ℕ
+  pub ty : Ty
+  pub at : Pos
+
+-- the variable that a declaration makes
+abbrev pub fresh : Frame → Formal → Judged Target
+fresh fr f =
+    obeys (not (is_some (find fr.scope f.name.name))) f.name.pos 2 (obeys (is_some (type_of f.ty)) f.name.pos 3
+    (Found (record { number = length fr.vars; ty = declared_type f; at = f.name.pos })))
+
+-- a visible variable that is no parameter
+abbrev pub target : Scope → Named → Judged Target
+target sc x = known (find sc x.name) x.pos 1 (λ v. obeys (not v.is_parameter) x.pos 8 (Found (record { number = v.number; ty = v.ty; at = x.pos })))
+
+-- the same, of type Ref
+abbrev pub ref_target : Scope → Named → Judged Target
+ref_target sc x =
+    known (find sc x.name) x.pos 1 (λ v. obeys (same_type v.ty ty.Ref) x.pos 3 (obeys (not v.is_parameter) x.pos 8 (Found (record { number = v.number; ty = v.ty; at = x.pos }))))
+
+abbrev pub is_target : ℕ → List Target → Bool
+is_target n [] = false
+is_target n (v ∷ vs) = if n == v.number then true else is_target n vs
+
+-- the targets of a call, none of them twice
+abbrev pub call_targets : Scope → List Target → List Named → Judged (List Target)
+call_targets sc so_far [] = Found so_far
+call_targets sc so_far (x ∷ xs) = then_typed (target sc x) (λ v. obeys (not (is_target v.number so_far)) x.pos 11 (call_targets sc (so_far ++ v ∷ []) xs))
+
+-- the name of the first target that is not of its return's type
+abbrev pub mistarget : List Target → List Ty → Option Pos
+mistarget [] us = None
+mistarget (v ∷ vs) [] = None
+mistarget (v ∷ vs) (u ∷ us) = if same_type v.ty u then mistarget vs us else Some v.at
+
+abbrev pub numbers_in : List Target → List ℕ
+numbers_in [] = []
+numbers_in (v ∷ vs) = v.number ∷ numbers_in vs
+
+-- a call of a method with typed arguments
+abbrev pub called : Pos → List Target → s.SCall → ℕ → List Ty → List Ty → List Typing → Judged c.Stmt
+called at vs call m params returns xs =
+    obeys (as_many xs params) call.name.pos 9 (obeys (as_many vs returns) call.name.pos 10 (clear_of (mistarget vs returns) 3 (
+    clear_of (misfit (t.terms call.args) xs params) 3 (Found (c.Call at (numbers_in vs) m (exprs_in xs))))))
+
+abbrev pub calling : Context → Scope → Pos → List Target → s.SCall → Judged c.Stmt
+calling k sc at vs call =
+    known (method_at k.world call.name.name) call.name.pos 1 (λ m. then_typed (typing_all k sc (t.terms call.args)) (λ xs.
+    called at vs call m.0 m.1.params m.1.returns xs))
+
+-- a call whose target is a field, which no call may have
+abbrev pub calling_into_field : Context → Scope → s.SCall → Judged c.Stmt
+calling_into_field k sc call =
+    known (method_at k.world call.name.name) call.name.pos 1 (λ m. then_typed (typing_all k sc (t.terms call.args)) (λ xs.
+    obeys (as_many xs m.1.params) call.name.pos 9 (Broken call.name.pos 10)))
+
+abbrev pub is_listed : ℕ → List ℕ → Bool
+is_listed n [] = false
+is_listed n (m ∷ ms) = if n == m then true else is_listed n ms
+
+-- the fields of a `new`, none of them twice
+abbrev pub new_fields : World → List ℕ → List Named → Judged (List ℕ)
+new_fields w so_far [] = Found so_far
+new_fields w so_far (f ∷ fs) = known (field_at w f.name) f.pos 1 (λ n. obeys (not (is_listed n.0 so_far)) f.pos 14 (new_fields w (so_far ++ n.0 ∷ []) fs))
+
+-- the Ref variables in scope
+abbrev pub ref_variables : Scope → List ℕ
+ref_variables [] = []
+ref_variables (x ∷ xs) = if same_type x.1.ty ty.Ref then x.1.number ∷ ref_variables xs else ref_variables xs
+
+-- the listed fields, or all of them
+abbrev pub chosen_fields : World → s.SNew → Judged (List ℕ)
+chosen_fields w new = if new.every then Found (range_with_len 0 (length w.fields)) else new_fields w [] new.fields
+
+abbrev pub creating : World → Scope → Pos → ℕ → s.SNew → Judged c.Stmt
+creating w sc at n new = then_typed (chosen_fields w new) (λ fs. Found (c.New at n fs (ref_variables sc)))
+
+-- the place `x.f.g` of a typed `x`
+abbrev pub dotted : World → Typing → List Named → Judged Located
+dotted w x [] = Broken nowhere 3
+dotted w x (f ∷ []) = located w f.name f.pos x
+dotted w x (f ∷ g ∷ gs) = then_typed (located w f.name f.pos x) (λ l. dotted w (e.Field l.receiver l.field f.pos, l.ty) (g ∷ gs))
+
+abbrev pub target_place : Context → Scope → Named → List Named → Judged Located
+target_place k sc x fs = then_typed (typing k sc (t.Name x.name x.pos)) (λ y. dotted k.world y fs)
+
+-- the place of the last name
+abbrev pub last_place : Named → List Named → Pos
+last_place x [] = x.pos
+last_place x (f ∷ fs) = last_place f fs
+
+-- `var x: T := ..`
+abbrev pub declaring : Context → Frame → Pos → Formal → Target → Option s.SRhs → Judged c.Stmt
+declaring k fr at f v None = Found (c.Var at v.number None)
+declaring k fr at f v (Some (s.TermRhs a)) = then_typed (expected k fr.scope v.ty a) (λ x. Found (c.Var at v.number (Some x)))
+declaring k fr at f v (Some (s.CallRhs call)) = calling k fr.scope at (v ∷ []) call
+declaring k fr at f v (Some (s.NewRhs new)) = obeys (same_type v.ty ty.Ref) v.at 3 (creating k.world fr.scope at v.number new)
+
+-- `x := ..`
+abbrev pub assigning : Context → Scope → Named → s.SRhs → Judged c.Stmt
+assigning k sc x (s.TermRhs a) = then_typed (target sc x) (λ v. then_typed (expected k sc v.ty a) (λ y. Found (c.Assign x.pos v.number y)))
+assigning k sc x (s.CallRhs call) = then_typed (target sc x) (λ v. calling k sc x.pos (v ∷ []) call)
+assigning k sc x (s.NewRhs new) = then_typed (ref_target sc x) (λ v. creating k.world sc x.pos v.number new)
+
+-- `x.f := ..`
+abbrev pub writing : Context → Scope → Named → List Named → s.SRhs → Judged c.Stmt
+writing k sc x fs (s.TermRhs a) = then_typed (target_place k sc x fs) (λ l. then_typed (expected k sc l.ty a) (λ y. Found (c.Write x.pos l.receiver l.field (last_place x fs) y)))
+writing k sc x fs (s.CallRhs call) = then_typed (target_place k sc x fs) (λ l. calling_into_field k sc call)
+writing k sc x fs (s.NewRhs new) = then_typed (target_place k sc x fs) (λ l. Broken new.at 10)
+
+abbrev pub setting : Context → Scope → List Named → s.SRhs → Judged c.Stmt
+setting k sc [] rhs = Broken nowhere 3
+setting k sc (x ∷ []) rhs = assigning k sc x rhs
+setting k sc (x ∷ f ∷ fs) rhs = writing k sc x (f ∷ fs) rhs
+
+-- the place of the first of some names
+abbrev pub first_place : List Named → Pos
+first_place [] = nowhere
+first_place (x ∷ xs) = x.pos
+
+-- `inhale`, `exhale`, `assert` and `assume`
+abbrev pub checking : Context → Scope → Word → Pos → t.Term → Judged c.Stmt
+checking k sc word.Inhale at a = then_typed (asserting k sc a) (λ x. Found (c.Inhale at x))
+checking k sc word.Exhale at a = then_typed (asserting k sc a) (λ x. Found (c.Exhale at x))
+checking k sc word.Assert at a = then_typed (asserting k sc a) (λ x. Found (c.Assert at x))
+checking k sc word.Assume at a = then_typed (expected k sc ty.Bool a) (λ x. Found (c.Inhale at (e.Fact x (start a))))
+checking k sc _ at a = Broken at 3
+
+-- the instance of a `fold` or `unfold`
+abbrev pub folding : Context → Scope → s.SFold → Judged c.FoldStmt
+folding k sc f =
+    then_typed (with_body k.world f.call.name.name f.call.name.pos) (λ p.
+    then_typed (arguments k sc (t.terms f.call.args) p.1.params f.call.name.pos) (λ es. then_typed (permission k sc f.amount) (λ m.
+    Found (record { at = f.at; predicate = p.0; args = es; amount = m; place = f.call.name.pos }))))
+
+-- assertions in order
+abbrev pub asserting_all : Context → Scope → List t.Term → Judged (List e.Assertion)
+asserting_all k sc [] = Found []
+asserting_all k sc (a ∷ rest) = then_more (asserting k sc a) (asserting_all k sc rest)
+
+-- an arm of an `if`, typed
+pub record Branch : Type 0 where
+  pub at : Pos
+  pub condition : e.Expr
+  pub body : c.Stmts
+
+-- a statement alone in a block, and else this block
+abbrev pub alone : Option c.Stmt → c.Stmts → c.Stmts
+alone None other = other
+alone (Some a) other = c.next a c.skip
+
+-- an `if` for all arms, each further one alone in the second block of the one before
+abbrev pub nested : List Branch → c.Stmts → Option c.Stmt
+nested [] other = None
+nested (b ∷ bs) other = Some (c.If b.at b.condition b.body (alone (nested bs other) other))
+
+abbrev pub as_block : List c.Stmt → Judged c.Stmts
+as_block xs = Found (c.stmts xs)
+
+abbrev pub arm_count : s.SArms → ℕ
+arm_count s.no_arms = 0
+arm_count (s.more_arms a rest) = arm_count rest + 1
+
+-- the place of the `{` of a block
+abbrev pub opening_of : s.SBlock → Pos
+opening_of (s.block at ss) = at
+
+abbrev mutual
+  -- a statement in a block of this depth
+  pub stepping : Context → ℕ → Frame → s.SStmt → Judged c.Stmt
+  stepping k d fr (s.Var at f rhs) = then_typed (fresh fr f) (λ v. declaring k fr at f v rhs)
+  stepping k d fr (s.Assign xs rhs) = setting k fr.scope xs rhs
+  stepping k d fr (s.CallTo xs call) = then_typed (call_targets fr.scope [] xs) (λ vs. calling k fr.scope (first_place xs) vs call)
+  stepping k d fr (s.Call call) = calling k fr.scope call.name.pos [] call
+  stepping k d fr (s.Check w at a) = checking k fr.scope w at a
+  stepping k d fr (s.Fold f) = then_typed (folding k fr.scope f) (λ x. Found (c.Fold x))
+  stepping k d fr (s.Unfold f) = then_typed (folding k fr.scope f) (λ x. Found (c.Unfold x))
+  stepping k d fr (s.If arms other) =
+      then_typed (branches k (d + 1) fr arms) (λ bs. then_typed (otherwise k (d + arm_count arms) (with_hidden fr (declared_in_arms arms)) other) (λ ss.
+      known (nested bs ss) nowhere 3 Found))
+  stepping k d fr (s.While at a is b) =
+      then_typed (expected k fr.scope ty.Bool a) (λ x. then_typed (asserting_all k fr.scope is) (λ xs. then_typed (blocking k (d + 1) fr b) (λ ss.
+      Found (c.While (c.loop at x xs ss (opening_of b) (targets (length fr.vars) ss))))))
+
+  -- a block of this depth
+  pub blocking : Context → ℕ → Frame → s.SBlock → Judged c.Stmts
+  blocking k d fr (s.block at ss) = obeys (nat_le d 128) at 15 (then_typed (stepping_all k d fr ss) as_block)
+
+  -- the statements of a block of this depth
+  pub stepping_all : Context → ℕ → Frame → s.SStmts → Judged (List c.Stmt)
+  stepping_all k d fr s.no_stmts = Found []
+  stepping_all k d fr (s.more_stmts a rest) = then_more (stepping k d fr a) (stepping_all k d (frame_after fr a) rest)
+
+  -- the arms of an `if`, the block of the first having this depth and each further one being deeper by one
+  pub branches : Context → ℕ → Frame → s.SArms → Judged (List Branch)
+  branches k d fr s.no_arms = Found []
+  branches k d fr (s.more_arms a rest) = then_more (branch k d fr a) (branches k (d + 1) (with_hidden fr (declared_in_arm a)) rest)
+
+  pub branch : Context → ℕ → Frame → s.SArm → Judged Branch
+  branch k d fr (s.arm at a b) = then_typed (expected k fr.scope ty.Bool a) (λ x. then_typed (blocking k d fr b) (λ ss. Found (record { at = at; condition = x; body = ss })))
+
+  -- the `else` of an `if`, or no statements
+  pub otherwise : Context → ℕ → Frame → s.SElse → Judged c.Stmts
+  otherwise k d fr s.no_else = Found c.skip
+  otherwise k d fr (s.else_block b) = blocking k d fr b

@@ -1,0 +1,147 @@
+// The typing of assertions: what a term is, or the first rule that it breaks.
+ghost use Rattle.std.specs.Prelude.{◌≡◌, map};
+ghost use Rattle.viper_core.specs.View.{amt_of, assertion_of, assertions_of};
+ghost use Rattle.viper_syntax.specs.View.{term_of, terms_of};
+ghost use Rattle.viper_types.specs.Answers.{Answers, lent_amount_of, context_of};
+ghost use Rattle.viper_types.specs.Stepping.{asserting_all};
+ghost use Rattle.viper_types.specs.Typing as j;
+
+use crate::context::{Context, Scope};
+use crate::expressions::{allows_permission_forms, arguments, expected, place, start, write};
+use crate::faults::TypeFault;
+use std::alloc::Global;
+use vb_base::{Ident, Pos};
+use vb_value::Ty;
+use viper_core::{Amt, Assertion};
+use viper_syntax::{Sign, Term, Word};
+
+/// The amount of an accessibility predicate.
+fn amount(
+    alloc: Global,
+    context: &Context,
+    scope: &Scope,
+    amount: Option<&Term>,
+) -> Result<Amt, TypeFault>
+    ensures { Answers amt_of (j.amount (context_of context.now) scope.now (lent_amount_of amount.entry)) result }
+{
+    match amount {
+        None => Ok(Amt::Is(write())),
+        Some(Term::Constant(Word::Wildcard, at)) => {
+            if !allows_permission_forms(context.part) {
+                return Err(TypeFault::Rule(*at, 6));
+            }
+            Ok(Amt::Wildcard)
+        }
+        Some(term) => Ok(Amt::Is(expected(alloc, context, scope, Ty::Perm, term)?)),
+    }
+}
+
+/// An instance of a predicate, at its name.
+fn instance(
+    alloc: Global,
+    context: &Context,
+    scope: &Scope,
+    name: &Ident,
+    args: &[Term],
+    share: Option<&Term>,
+    at: Pos,
+) -> Result<Assertion, TypeFault>
+    ensures { Answers assertion_of (j.instance (context_of context.now) scope.now name.now (terms_of args.now) (lent_amount_of share.entry) at) result }
+{
+    let Some((predicate, signature)) = context.world.predicate(name) else {
+        return Err(TypeFault::Rule(at, 1));
+    };
+    let args = arguments(alloc, context, scope, args, &signature.params, at)?;
+    let share = amount(alloc, context, scope, share)?;
+    Ok(Assertion::Inst(predicate, args, share, at))
+}
+
+/// An accessibility predicate of what stands in it.
+fn access(
+    alloc: Global,
+    context: &Context,
+    scope: &Scope,
+    term: &Term,
+    share: Option<&Term>,
+    at: Pos,
+) -> Result<Assertion, TypeFault>
+    ensures { Answers assertion_of (j.access (context_of context.now) scope.now (term_of term.now) (lent_amount_of share.entry) at) result }
+{
+    match term {
+        Term::Field(a, name, name_at) => {
+            let found = place(alloc, context, scope, a, name, *name_at)?;
+            let share = amount(alloc, context, scope, share)?;
+            Ok(Assertion::Acc(found.receiver, found.field, share, *name_at))
+        }
+        Term::Inst(name, args, name_at) => {
+            instance(alloc, context, scope, name, args, share, *name_at)
+        }
+        _ => Err(TypeFault::Rule(at, 12)),
+    }
+}
+
+/// An expression as an assertion.
+fn fact(
+    alloc: Global,
+    context: &Context,
+    scope: &Scope,
+    term: &Term,
+) -> Result<Assertion, TypeFault>
+    ensures { Answers assertion_of (j.fact (context_of context.now) scope.now (term_of term.now)) result }
+{
+    let e = expected(alloc, context, scope, Ty::Bool, term)?;
+    Ok(Assertion::Fact(e, start(term)))
+}
+
+/// A term as an assertion.
+pub(crate) fn assertion(
+    alloc: Global,
+    context: &Context,
+    scope: &Scope,
+    term: &Term,
+) -> Result<Assertion, TypeFault>
+    ensures { Answers assertion_of (j.asserting (context_of context.now) scope.now (term_of term.now)) result }
+{
+    match term {
+        Term::Binary(Sign::And, a, b, _) => {
+            let left = assertion(alloc, context, scope, a)?;
+            let right = assertion(alloc, context, scope, b)?;
+            let left = Box::new(alloc, left)?;
+            let right = Box::new(alloc, right)?;
+            Ok(Assertion::And(left, right))
+        }
+        Term::Binary(Sign::Implies, a, b, _) => {
+            let condition = expected(alloc, context, scope, Ty::Bool, a)?;
+            let implied = assertion(alloc, context, scope, b)?;
+            Ok(Assertion::Implies(condition, Box::new(alloc, implied)?))
+        }
+        Term::Choose(a, b, c, _) => {
+            let condition = expected(alloc, context, scope, Ty::Bool, a)?;
+            let first = assertion(alloc, context, scope, b)?;
+            let second = assertion(alloc, context, scope, c)?;
+            let first = Box::new(alloc, first)?;
+            let second = Box::new(alloc, second)?;
+            Ok(Assertion::Choose(condition, first, second))
+        }
+        Term::Acc(a, share, at) => access(alloc, context, scope, a, share.as_deref(), *at),
+        Term::Inst(name, args, at) => instance(alloc, context, scope, name, args, None, *at),
+        _ => fact(alloc, context, scope, term),
+    }
+}
+
+/// Terms as assertions, in order.
+pub(crate) fn assertions(
+    alloc: Global,
+    context: &Context,
+    scope: &Scope,
+    terms: &[Term],
+) -> Result<Vec<Assertion>, TypeFault>
+    ensures { Answers (λ v. assertions_of v.items) (asserting_all (context_of context.now) scope.now (map term_of terms.now)) result }
+{
+    let mut typed = Vec::with_capacity(alloc, terms.len())?;
+    for term in terms {
+        let next = assertion(alloc, context, scope, term)?;
+        typed.push(next)?;
+    }
+    Ok(typed)
+}

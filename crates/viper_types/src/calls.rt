@@ -1,0 +1,120 @@
+// Calls of methods.
+ghost use Rattle.std.specs.Prelude.{◌≡◌, map};
+ghost use Rattle.viper_core.specs.View.{stmt_of};
+ghost use Rattle.viper_syntax.specs.Term as t;
+ghost use Rattle.viper_syntax.specs.View.{call_of};
+ghost use Rattle.viper_types.specs.Answers.{Answers, argument_exprs_of, context_of, target_of, typing_of, typings_of};
+ghost use Rattle.viper_types.specs.Stepping as s;
+ghost use Rattle.viper_types.specs.Typing as j;
+
+use crate::assigned::{mistarget, numbers_in};
+use crate::context::{Context, MethodTypes, Scope};
+use crate::expressions::{arguments, as_many, exprs_in, misfit, typings};
+use crate::faults::TypeFault;
+use crate::frames::Target;
+use std::alloc::Global;
+use vb_base::Pos;
+use vb_value::Ty;
+use viper_core::{Expr, Stmt};
+use viper_syntax::SCall;
+
+/// The arguments of a call, with their types.
+fn typed_arguments(
+    alloc: Global,
+    context: &Context,
+    scope: &Scope,
+    call: &SCall,
+) -> Result<Vec<(Expr, Ty)>, TypeFault>
+    ensures { Answers typings_of (j.typing_all (context_of context.now) scope.now (t.terms (call_of call.now).args)) result }
+{
+    typings(alloc, context, scope, &call.args)
+}
+
+/// The start of the first argument of a call that is not of its parameter's type.
+fn first_misfit(call: &SCall, typed: &[(Expr, Ty)], params: &[Ty]) -> Option<Pos>
+    ensures { result ≡ j.misfit (t.terms (call_of call.now).args) (map typing_of typed.now) params.now }
+{
+    misfit(&call.args, typed, params)
+}
+
+/// A call of the method of this number with typed arguments.
+#[tactic(auto, using(crate::proofs::CallLaws::as_many_map))]
+fn called(
+    alloc: Global,
+    at: Pos,
+    targets: &[Target],
+    call: &SCall,
+    number: u32,
+    method: &MethodTypes,
+    typed: Vec<(Expr, Ty)>,
+) -> Result<Stmt, TypeFault>
+    ensures { Answers stmt_of (s.called at (map target_of targets.now) (call_of call.now) number method.now.params.items method.now.returns.items (typings_of typed)) result }
+{
+    let name_at = call.name.pos;
+    if !as_many(&typed, &method.params) {
+        return Err(TypeFault::Rule(name_at, 9));
+    }
+    if !as_many(targets, &method.returns) {
+        return Err(TypeFault::Rule(name_at, 10));
+    }
+    if let Some(place) = mistarget(targets, &method.returns) {
+        return Err(TypeFault::Rule(place, 3));
+    }
+    if let Some(place) = first_misfit(call, &typed, &method.params) {
+        return Err(TypeFault::Rule(place, 3));
+    }
+    let numbers = numbers_in(alloc, targets)?;
+    Ok(Stmt::Call(at, numbers, number, exprs_in(alloc, typed)?))
+}
+
+/// A call into these targets.
+pub fn calling(
+    alloc: Global,
+    context: &Context,
+    scope: &Scope,
+    at: Pos,
+    targets: &[Target],
+    call: &SCall,
+) -> Result<Stmt, TypeFault>
+    ensures { Answers stmt_of (s.calling (context_of context.now) scope.now at (map target_of targets.now) (call_of call.now)) result }
+{
+    let Some((number, method)) = context.world.method(&call.name.name) else {
+        return Err(TypeFault::Rule(call.name.pos, 1));
+    };
+    let typed = typed_arguments(alloc, context, scope, call)?;
+    called(alloc, at, targets, call, number, method, typed)
+}
+
+/// The arguments of an instance, at its name.
+pub fn call_arguments(
+    alloc: Global,
+    context: &Context,
+    scope: &Scope,
+    call: &SCall,
+    params: &[Ty],
+) -> Result<Vec<Expr>, TypeFault>
+    ensures { Answers argument_exprs_of (j.arguments (context_of context.now) scope.now (t.terms (call_of call.now).args) params.now call.now.name.pos) result }
+{
+    arguments(alloc, context, scope, &call.args, params, call.name.pos)
+}
+
+/// A call whose target is a field, which no call may have: the first rule that it breaks.
+#[tactic(auto, using(crate::proofs::CallLaws::as_many_map))]
+pub fn calling_into_field(
+    alloc: Global,
+    context: &Context,
+    scope: &Scope,
+    call: &SCall,
+) -> Result<Stmt, TypeFault>
+    ensures { Answers stmt_of (s.calling_into_field (context_of context.now) scope.now (call_of call.now)) result }
+{
+    let name_at = call.name.pos;
+    let Some((_, method)) = context.world.method(&call.name.name) else {
+        return Err(TypeFault::Rule(name_at, 1));
+    };
+    let typed = typed_arguments(alloc, context, scope, call)?;
+    if !as_many(&typed, &method.params) {
+        return Err(TypeFault::Rule(name_at, 9));
+    }
+    Err(TypeFault::Rule(name_at, 10))
+}

@@ -1,0 +1,148 @@
+// The typing of declarations in order.
+ghost use Rattle.std.specs.Prelude.{◌≡◌, OnOk, map};
+ghost use Rattle.viper_core.specs.View as core;
+ghost use Rattle.viper_syntax.specs.View.{decl_of};
+ghost use Rattle.viper_types.specs.Answers.{Answers, declared_of, optional_bodies_of, parts_of, world_of};
+ghost use Rattle.viper_types.specs.Declaring as j;
+ghost use Rattle.viper_types.specs.Outcome.{Found, then_typed};
+
+use crate::context::World;
+use crate::faults::TypeFault;
+use crate::frames::type_of;
+use crate::methods::method;
+use crate::predicates::predicate;
+use crate::world::next_number;
+use std::alloc::Global;
+use vb_base::{Ident, Memory};
+use vb_value::{Layout, Ty};
+use viper_core::{Assertion, Method, Predicate, Program, Unit};
+use viper_syntax::{Decl, Formal};
+
+/// A typed declaration.
+#[derive(Drop)]
+pub enum Declared {
+    Field(Ident, Ty),
+    Predicate(Predicate),
+    Method(Method),
+}
+
+/// What the declarations so far are.
+#[derive(Drop)]
+pub struct Parts {
+    fields: Vec<Ident>,
+    types: Vec<Ty>,
+    keys: Vec<Vec<Ty>>,
+    predicates: Vec<Predicate>,
+    methods: Vec<Method>,
+    units: Vec<Unit>,
+}
+
+/// A field.
+fn field(alloc: Global, formal: &Formal) -> Result<Declared, TypeFault>
+    ensures { Answers declared_of (j.field_typing formal.now) result }
+{
+    let Some(ty) = type_of(formal.ty) else {
+        return Err(TypeFault::Rule(formal.name.pos, 3));
+    };
+    Ok(Declared::Field(formal.name.name.copy(alloc)?, ty))
+}
+
+/// A declaration.
+fn declaration(
+    alloc: Global,
+    world: &World,
+    bodies: &[Option<Assertion>],
+    decl: &Decl,
+) -> Result<Declared, TypeFault>
+    ensures { Answers declared_of (j.decl_typing (world_of world.now) (optional_bodies_of bodies.now) (decl_of decl.now)) result }
+{
+    match decl {
+        Decl::Field(formal) => field(alloc, formal),
+        Decl::Predicate(at, name, params, body) => {
+            let predicate = predicate(alloc, world, *at, name, params, body)?;
+            Ok(Declared::Predicate(predicate))
+        }
+        Decl::Method(source) => Ok(Declared::Method(method(alloc, world, bodies, source)?)),
+    }
+}
+
+impl Parts {
+    /// No declarations.
+    fn new(alloc: Global) -> Parts
+        ensures { parts_of result ≡ j.no_program }
+    {
+        Parts {
+            fields: Vec::new(alloc),
+            types: Vec::new(alloc),
+            keys: Vec::new(alloc),
+            predicates: Vec::new(alloc),
+            methods: Vec::new(alloc),
+            units: Vec::new(alloc),
+        }
+    }
+
+    /// Adds a predicate. One with a body is a unit.
+    fn add_predicate(&mut self, alloc: Global, predicate: Predicate) -> Result<(), Memory>
+        ensures { OnOk result (parts_of self.new ≡ j.with_declared (parts_of self.old) (j.PredicateOf (core.predicate_of predicate))) }
+    {
+        let number = next_number(self.predicates.len())?;
+        if predicate.body.is_some() {
+            self.units.push(Unit::Predicate(number))?;
+        }
+        self.keys.push(predicate.params.as_slice().to_vec(alloc)?)?;
+        self.predicates.push(predicate)?;
+        Ok(())
+    }
+
+    /// Adds a declaration.
+    fn add(&mut self, alloc: Global, declared: Declared) -> Result<(), Memory>
+        ensures { OnOk result (parts_of self.new ≡ j.with_declared (parts_of self.old) (declared_of declared)) }
+    {
+        match declared {
+            Declared::Field(name, ty) => {
+                self.fields.push(name)?;
+                self.types.push(ty)?;
+            }
+            Declared::Predicate(predicate) => self.add_predicate(alloc, predicate)?,
+            Declared::Method(method) => {
+                let number = next_number(self.methods.len())?;
+                self.units.push(Unit::Method(number))?;
+                self.methods.push(method)?;
+            }
+        }
+        Ok(())
+    }
+
+    /// The program of all declarations.
+    pub fn program(self) -> Program
+        ensures { core.program_of result ≡ parts_of self }
+    {
+        Program {
+            fields: self.fields,
+            layout: Layout {
+                fields: self.types,
+                keys: self.keys,
+            },
+            predicates: self.predicates,
+            methods: self.methods,
+            units: self.units,
+        }
+    }
+}
+
+/// Declarations in order.
+pub fn declarations(
+    alloc: Global,
+    world: &World,
+    bodies: &[Option<Assertion>],
+    decls: &[Decl],
+) -> Result<Parts, TypeFault>
+    ensures { Answers parts_of (then_typed (j.decls_typing (world_of world.now) (optional_bodies_of bodies.now) (map decl_of decls.now)) (λ xs. Found (j.assembled j.no_program xs))) result }
+{
+    let mut parts = Parts::new(alloc);
+    for decl in decls {
+        let declared = declaration(alloc, world, bodies, decl)?;
+        parts.add(alloc, declared)?;
+    }
+    Ok(parts)
+}

@@ -1,0 +1,498 @@
+// The typing of expressions: what a term is, or the first rule that it breaks.
+ghost use Rattle.std.specs.Prelude.{◌≡◌, map, pos};
+ghost use Rattle.std.specs.Option.{option_map};
+ghost use Rattle.viper_core.specs.Expr as e;
+ghost use Rattle.viper_core.specs.View.{expr_of, exprs_of, assertion_of};
+ghost use Rattle.viper_syntax.specs.View.{term_of, terms_of, amount_of};
+ghost use Rattle.viper_types.specs.Answers.{Answers, typing_of, typings_of, argument_exprs_of, place_of, lent_amount_of, numbered_signature_of, world_of, context_of};
+ghost use Rattle.viper_types.specs.Context as c;
+ghost use Rattle.viper_types.specs.Operators as o;
+ghost use Rattle.viper_types.specs.Outcome.{known, Found};
+ghost use Rattle.viper_types.specs.Typing as j;
+ghost use Rattle.vb_value.specs.Fraction.{whole};
+ghost use Rattle.viper_syntax.specs.Term as t;
+
+use crate::context::{Context, FieldPlace, Part, PredicateSignature, Scope, World};
+use crate::faults::TypeFault;
+use std::alloc::Global;
+use vb_base::{Ident, Pos};
+use vb_value::{Frac, Ty};
+use viper_core::{Assertion, Expr, Op, Opened};
+use viper_syntax::{Sign, Term, Word};
+
+/// The first place of a text: the place of what no text spells.
+pub(crate) fn nowhere() -> Pos
+    ensures { result ≡ c.nowhere }
+{
+    Pos { line: 1, col: 1 }
+}
+
+/// The leftmost token of a term, parentheses not counted.
+pub(crate) fn start(term: &Term) -> Pos
+    ensures { result ≡ j.start (term_of term.now) }
+{
+    match term {
+        Term::Name(_, at)
+        | Term::Number(_, at)
+        | Term::Constant(_, at)
+        | Term::Unary(_, _, at)
+        | Term::Old(_, at)
+        | Term::Acc(_, _, at)
+        | Term::Inst(_, _, at)
+        | Term::Unfolding(_, _, _, _, at, _) => *at,
+        Term::Binary(_, a, _, _) | Term::Choose(a, _, _, _) | Term::Field(a, _, _) => start(a),
+    }
+}
+
+/// The operator of a binary sign.
+fn operator(sign: Sign) -> Option<Op>
+    ensures { result ≡ o.operator sign }
+{
+    Some(match sign {
+        Sign::Iff => Op::Iff,
+        Sign::Implies => Op::Implies,
+        Sign::Or => Op::Or,
+        Sign::And => Op::And,
+        Sign::Equal => Op::Eq,
+        Sign::NotEqual => Op::Ne,
+        Sign::Less => Op::Lt,
+        Sign::AtMost => Op::Le,
+        Sign::Greater => Op::Gt,
+        Sign::AtLeast => Op::Ge,
+        Sign::Plus => Op::Add,
+        Sign::Minus => Op::Sub,
+        Sign::Star => Op::Mul,
+        Sign::Slash => Op::Divide,
+        Sign::Backslash => Op::IntDiv,
+        Sign::Percent => Op::IntMod,
+        _ => return None,
+    })
+}
+
+/// The permission `none`.
+fn none() -> Expr
+    ensures { expr_of result ≡ e.Part (whole (pos 0)) }
+{
+    match Frac::make(0, 1) {
+        Some(amount) => Expr::Part(amount),
+        None => unreachable!(),
+    }
+}
+
+/// The permission `write`, for which an amount that is left out stands.
+pub(crate) fn write() -> Expr
+    ensures { expr_of result ≡ j.write }
+{
+    match Frac::make(1, 1) {
+        Some(amount) => Expr::Part(amount),
+        None => unreachable!(),
+    }
+}
+
+/// The literals that are words. `wildcard` is an amount and no expression.
+fn literal(word: Word) -> Option<(Expr, Ty)>
+    ensures { option_map typing_of result ≡ o.literal word }
+{
+    match word {
+        Word::True => Some((Expr::Bool(true), Ty::Bool)),
+        Word::False => Some((Expr::Bool(false), Ty::Bool)),
+        Word::Null => Some((Expr::Null, Ty::Ref)),
+        Word::Write => Some((write(), Ty::Perm)),
+        Word::None => Some((none(), Ty::Perm)),
+        _ => None,
+    }
+}
+
+fn constant(word: Word, at: Pos) -> Result<(Expr, Ty), TypeFault>
+    ensures { Answers typing_of (j.constant word at) result }
+{
+    if matches!(word, Word::Wildcard) {
+        return Err(TypeFault::Rule(at, 6));
+    }
+    match literal(word) {
+        Some(typed) => Ok(typed),
+        None => Err(TypeFault::Rule(at, 3)),
+    }
+}
+
+fn variable(scope: &Scope, name: &Ident, at: Pos) -> Result<(Expr, Ty), TypeFault>
+    ensures { Answers typing_of (known (c.find scope.now name.now) at 1 (λ v. Found (e.Var v.number, v.ty))) result }
+{
+    match scope.find(name) {
+        Some(variable) => Ok((Expr::Var(variable.number), variable.ty)),
+        None => Err(TypeFault::Rule(at, 1)),
+    }
+}
+
+fn unary(alloc: Global, sign: Sign, operand: (Expr, Ty), at: Pos) -> Result<(Expr, Ty), TypeFault>
+    ensures { Answers typing_of (j.unary sign (typing_of operand) at) result }
+{
+    let (operand, ty) = operand;
+    match sign {
+        Sign::Minus if matches!(ty, Ty::Int | Ty::Perm) => {
+            Ok((Expr::Neg(Box::new(alloc, operand)?), ty))
+        }
+        Sign::Not if matches!(ty, Ty::Bool) => Ok((Expr::Not(Box::new(alloc, operand)?), Ty::Bool)),
+        _ => Err(TypeFault::Rule(at, 3)),
+    }
+}
+
+fn applied(
+    alloc: Global,
+    sign: Sign,
+    left: (Expr, Ty),
+    right: (Expr, Ty),
+    at: Pos,
+) -> Result<(Expr, Ty), TypeFault>
+    ensures { Answers typing_of (j.applied sign (typing_of left) (typing_of right) at) result }
+{
+    let (left, left_ty) = left;
+    let (right, right_ty) = right;
+    let Some(op) = operator(sign) else {
+        return Err(TypeFault::Rule(at, 3));
+    };
+    let Some(ty) = op.value_type(left_ty, right_ty) else {
+        return Err(TypeFault::Rule(at, 3));
+    };
+    let left = Box::new(alloc, left)?;
+    let right = Box::new(alloc, right)?;
+    Ok((Expr::Bin(op, left, right, at), ty))
+}
+
+fn chosen(
+    alloc: Global,
+    condition: (Expr, Ty),
+    first: (Expr, Ty),
+    second: (Expr, Ty),
+    at: Pos,
+) -> Result<(Expr, Ty), TypeFault>
+    ensures { Answers typing_of (j.chosen (typing_of condition) (typing_of first) (typing_of second) at) result }
+{
+    let (condition, condition_ty) = condition;
+    let (first, ty) = first;
+    let (second, second_ty) = second;
+    if condition_ty != Ty::Bool || ty != second_ty {
+        return Err(TypeFault::Rule(at, 3));
+    }
+    let condition = Box::new(alloc, condition)?;
+    let first = Box::new(alloc, first)?;
+    let second = Box::new(alloc, second)?;
+    Ok((Expr::Choose(condition, first, second), ty))
+}
+
+/// A field of a typed receiver.
+pub(crate) fn located(
+    world: &World,
+    name: &Ident,
+    at: Pos,
+    receiver: (Expr, Ty),
+) -> Result<FieldPlace, TypeFault>
+    ensures { Answers place_of (j.located (world_of world.now) name.now at (typing_of receiver)) result }
+{
+    let (receiver, receiver_ty) = receiver;
+    let Some((field, ty)) = world.field(name) else {
+        return Err(TypeFault::Rule(at, 1));
+    };
+    if receiver_ty != Ty::Ref {
+        return Err(TypeFault::Rule(at, 3));
+    }
+    Ok(FieldPlace {
+        receiver,
+        field,
+        ty,
+    })
+}
+
+/// A field, read at the place of its name.
+pub(crate) fn field(alloc: Global, place: FieldPlace, at: Pos) -> Result<(Expr, Ty), TypeFault>
+    ensures { Answers typing_of (Found (e.Field (expr_of place.receiver) place.field at, place.ty)) result }
+{
+    let receiver = Box::new(alloc, place.receiver)?;
+    Ok((Expr::Field(receiver, place.field, at), place.ty))
+}
+
+/// Whether there are as many of one as of the other.
+pub(crate) fn as_many<X, Y>(xs: &[X], ys: &[Y]) -> bool
+    ensures { result ≡ j.as_many xs.now ys.now }
+{
+    xs.len() == ys.len()
+}
+
+/// The start of the first argument that is not of its parameter's type.
+pub(crate) fn misfit(args: &[Term], typed: &[(Expr, Ty)], params: &[Ty]) -> Option<Pos>
+    ensures { result ≡ j.misfit (terms_of args.now) (map typing_of typed.now) params.now }
+{
+    for (i, arg) in args.iter().enumerate() {
+        if typed.get(i)?.1 != *params.get(i)? {
+            return Some(start(arg));
+        }
+    }
+    None
+}
+
+/// The expressions of typed arguments.
+pub(crate) fn exprs_in(alloc: Global, typed: Vec<(Expr, Ty)>) -> Result<Vec<Expr>, TypeFault>
+    ensures { Answers argument_exprs_of (Found (j.exprs_in (typings_of typed))) result }
+{
+    Ok(typed.into_iter().map(|(e, _)| e).collect(alloc)?)
+}
+
+/// Typed arguments for these parameters.
+fn fitted(
+    alloc: Global,
+    args: &[Term],
+    typed: Vec<(Expr, Ty)>,
+    params: &[Ty],
+    at: Pos,
+) -> Result<Vec<Expr>, TypeFault>
+    ensures { Answers argument_exprs_of (j.fitted (terms_of args.now) params.now at (typings_of typed)) result }
+{
+    if !as_many(&typed, params) {
+        return Err(TypeFault::Rule(at, 9));
+    }
+    if let Some(place) = misfit(args, &typed, params) {
+        return Err(TypeFault::Rule(place, 3));
+    }
+    exprs_in(alloc, typed)
+}
+
+/// A typed term that must have this type.
+fn of_type(ty: Ty, term: &Term, typed: (Expr, Ty)) -> Result<Expr, TypeFault>
+    ensures { Answers expr_of (j.of_type ty (term_of term.now) (typing_of typed)) result }
+{
+    let (e, found) = typed;
+    if found != ty {
+        return Err(TypeFault::Rule(start(term), 3));
+    }
+    Ok(e)
+}
+
+/// The predicate of a name, which must have a body.
+pub(crate) fn with_body<'a>(
+    world: &'a World,
+    name: &Ident,
+    at: Pos,
+) -> Result<(u32, &'a PredicateSignature), TypeFault>
+    ensures { Answers numbered_signature_of (j.with_body (world_of world.now) name.now at) result }
+{
+    let Some((predicate, signature)) = world.predicate(name) else {
+        return Err(TypeFault::Rule(at, 1));
+    };
+    if !signature.has_body {
+        return Err(TypeFault::Rule(at, 7));
+    }
+    Ok((predicate, signature))
+}
+
+/// Whether `wildcard` and `unfolding` may stand here.
+pub(crate) fn allows_permission_forms(part: Part) -> bool
+    ensures { result ≡ c.allows_permission_forms part }
+{
+    !matches!(part, Part::Body)
+}
+
+/// The predicate of an `unfolding`, tried on arrival.
+fn opening<'a>(
+    context: &Context<'a>,
+    name: &Ident,
+    at: Pos,
+    name_at: Pos,
+) -> Result<(u32, &'a PredicateSignature), TypeFault>
+    ensures { Answers numbered_signature_of (j.opening (context_of context.now) name.now at name_at) result }
+{
+    if !allows_permission_forms(context.part) {
+        return Err(TypeFault::Rule(at, 16));
+    }
+    with_body(context.world, name, name_at)
+}
+
+/// A copy of the body of a predicate, and `true` in place of one that breaks a rule.
+fn body_at(
+    alloc: Global,
+    bodies: &[Option<Assertion>],
+    predicate: u32,
+) -> Result<Assertion, TypeFault>
+    ensures { Answers assertion_of (Found (c.body_at (map (option_map assertion_of) bodies.now) predicate)) result }
+{
+    match bodies.get(predicate as usize) {
+        Some(Some(body)) => Ok(body.copy(alloc)?),
+        _ => Ok(Assertion::Fact(Expr::Bool(true), nowhere())),
+    }
+}
+
+/// An `unfolding`, once its parts are typed.
+fn opened(
+    alloc: Global,
+    context: &Context,
+    predicate: u32,
+    args: Vec<Expr>,
+    amount: Expr,
+    inner: (Expr, Ty),
+    place: Pos,
+) -> Result<(Expr, Ty), TypeFault>
+    ensures { Answers typing_of (Found (j.opened_typing (context_of context.now) predicate (exprs_of args.items) (expr_of amount) (typing_of inner) place)) result }
+{
+    let (inner, ty) = inner;
+    let body = body_at(alloc, context.bodies, predicate)?;
+    let opened = Opened {
+        predicate,
+        args,
+        amount,
+        body,
+        inner,
+        place,
+    };
+    Ok((Expr::Unfolding(Box::new(alloc, opened)?), ty))
+}
+
+/// A term as an expression, with its type.
+#[cycle(expressions)]
+pub(crate) fn typing(
+    alloc: Global,
+    context: &Context,
+    scope: &Scope,
+    term: &Term,
+) -> Result<(Expr, Ty), TypeFault>
+    ensures { Answers typing_of (j.typing (context_of context.now) scope.now (term_of term.now)) result }
+{
+    match term {
+        Term::Name(name, at) => variable(scope, name, *at),
+        Term::Number(n, _) => Ok((Expr::Int(*n), Ty::Int)),
+        Term::Constant(word, at) => constant(*word, *at),
+        Term::Unary(sign, a, at) => unary(alloc, *sign, typing(alloc, context, scope, a)?, *at),
+        Term::Binary(sign, a, b, at) => {
+            let left = typing(alloc, context, scope, a)?;
+            let right = typing(alloc, context, scope, b)?;
+            applied(alloc, *sign, left, right, *at)
+        }
+        Term::Choose(a, b, c, at) => {
+            let condition = typing(alloc, context, scope, a)?;
+            let first = typing(alloc, context, scope, b)?;
+            let second = typing(alloc, context, scope, c)?;
+            chosen(alloc, condition, first, second, *at)
+        }
+        Term::Field(a, name, at) => field(alloc, place(alloc, context, scope, a, name, *at)?, *at),
+        Term::Old(a, at) => old(alloc, context, scope, a, *at),
+        Term::Acc(_, _, at) | Term::Inst(_, _, at) => Err(TypeFault::Rule(*at, 4)),
+        Term::Unfolding(name, args, amount, a, at, name_at) => {
+            let (predicate, signature) = opening(context, name, *at, *name_at)?;
+            let args = arguments(alloc, context, scope, args, &signature.params, *name_at)?;
+            let amount = held_permission(alloc, context, scope, amount)?;
+            let inner = typing(alloc, context, scope, a)?;
+            opened(alloc, context, predicate, args, amount, inner, *name_at)
+        }
+    }
+}
+
+#[cycle(expressions)]
+fn old(
+    alloc: Global,
+    context: &Context,
+    scope: &Scope,
+    term: &Term,
+    at: Pos,
+) -> Result<(Expr, Ty), TypeFault>
+    ensures { Answers typing_of (j.typing (context_of context.now) scope.now (t.Old (term_of term.now) at)) result }
+{
+    if !matches!(context.part, Part::Elsewhere) {
+        return Err(TypeFault::Rule(at, 5));
+    }
+    let (e, ty) = typing(alloc, context, scope, term)?;
+    Ok((Expr::Old(Box::new(alloc, e)?), ty))
+}
+
+/// Terms as expressions, with their types.
+#[cycle(expressions)]
+pub(crate) fn typings(
+    alloc: Global,
+    context: &Context,
+    scope: &Scope,
+    terms: &[Term],
+) -> Result<Vec<(Expr, Ty)>, TypeFault>
+    ensures { Answers typings_of (j.typing_all (context_of context.now) scope.now (terms_of terms.now)) result }
+{
+    let mut typed = Vec::with_capacity(alloc, terms.len())?;
+    for term in terms {
+        let next = typing(alloc, context, scope, term)?;
+        typed.push(next)?;
+    }
+    Ok(typed)
+}
+
+/// Arguments for these parameters, at this place.
+#[cycle(expressions)]
+pub(crate) fn arguments(
+    alloc: Global,
+    context: &Context,
+    scope: &Scope,
+    args: &[Term],
+    params: &[Ty],
+    at: Pos,
+) -> Result<Vec<Expr>, TypeFault>
+    ensures { Answers argument_exprs_of (j.arguments (context_of context.now) scope.now (terms_of args.now) params.now at) result }
+{
+    let typed = typings(alloc, context, scope, args)?;
+    fitted(alloc, args, typed, params, at)
+}
+
+/// An expression of this type.
+#[cycle(expressions)]
+pub(crate) fn expected(
+    alloc: Global,
+    context: &Context,
+    scope: &Scope,
+    ty: Ty,
+    term: &Term,
+) -> Result<Expr, TypeFault>
+    ensures { Answers expr_of (j.expected (context_of context.now) scope.now ty (term_of term.now)) result }
+{
+    let typed = typing(alloc, context, scope, term)?;
+    of_type(ty, term, typed)
+}
+
+/// The amount of an `unfolding`.
+#[cycle(expressions)]
+fn held_permission(
+    alloc: Global,
+    context: &Context,
+    scope: &Scope,
+    amount: &Option<Box<Term>>,
+) -> Result<Expr, TypeFault>
+    ensures { Answers expr_of (j.permission (context_of context.now) scope.now (amount_of amount.now)) result }
+{
+    match amount {
+        Some(term) => expected(alloc, context, scope, Ty::Perm, term),
+        None => Ok(write()),
+    }
+}
+
+/// A field of a term.
+#[cycle(expressions)]
+pub(crate) fn place(
+    alloc: Global,
+    context: &Context,
+    scope: &Scope,
+    term: &Term,
+    name: &Ident,
+    at: Pos,
+) -> Result<FieldPlace, TypeFault>
+    ensures { Answers place_of (j.place (context_of context.now) scope.now (term_of term.now) name.now at) result }
+{
+    let receiver = typing(alloc, context, scope, term)?;
+    located(context.world, name, at, receiver)
+}
+
+/// The amount of a `fold` or `unfold`.
+pub(crate) fn permission(
+    alloc: Global,
+    context: &Context,
+    scope: &Scope,
+    amount: Option<&Term>,
+) -> Result<Expr, TypeFault>
+    ensures { Answers expr_of (j.permission (context_of context.now) scope.now (lent_amount_of amount.entry)) result }
+{
+    match amount {
+        Some(term) => expected(alloc, context, scope, Ty::Perm, term),
+        None => Ok(write()),
+    }
+}

@@ -1,0 +1,63 @@
+// Formals: the parameters and returns of predicates and methods.
+ghost use Rattle.std.specs.Prelude.{◌≡◌, ◌++◌, OnOk, map};
+ghost use Rattle.viper_types.specs.Answers.{Answers, frame_of};
+ghost use Rattle.viper_types.specs.Declaring as j;
+ghost use Rattle.viper_types.specs.Frame as f;
+ghost use Rattle.viper_types.specs.Outcome.{Found};
+
+use crate::faults::TypeFault;
+use crate::frames::{Frame, type_of};
+use std::alloc::Global;
+use vb_base::{Ident, Memory};
+use vb_value::Ty;
+use viper_syntax::Formal;
+
+/// Adds a formal, which is a Perm only where that is allowed.
+fn formal(
+    alloc: Global,
+    frame: &mut Frame,
+    allows_perm: bool,
+    is_parameter: bool,
+    formal: &Formal,
+) -> Result<(), TypeFault>
+    ensures { Answers (λ _. frame_of frame.new) (j.formal allows_perm (frame_of frame.old) formal.now (Found (f.with_variable (frame_of frame.old) formal.now.name.name (f.declared_type formal.now) is_parameter))) result }
+{
+    let at = formal.name.pos;
+    if frame.scope.find(&formal.name.name).is_some() {
+        return Err(TypeFault::Rule(at, 2));
+    }
+    let Some(ty) = type_of(formal.ty) else {
+        return Err(TypeFault::Rule(at, 3));
+    };
+    if !allows_perm && ty == Ty::Perm {
+        return Err(TypeFault::Rule(at, 13));
+    }
+    frame.declare(alloc, &formal.name.name, ty, is_parameter)?;
+    Ok(())
+}
+
+/// Adds formals in order, as parameters or as returns. They are Perms only where that is allowed.
+pub fn formals(
+    alloc: Global,
+    frame: &mut Frame,
+    allows_perm: bool,
+    is_parameter: bool,
+    formals: &[Formal],
+) -> Result<(), TypeFault>
+    ensures { Answers (λ _. frame_of frame.new) (j.formals allows_perm is_parameter (frame_of frame.old) formals.now) result }
+{
+    for next in formals {
+        formal(alloc, frame, allows_perm, is_parameter, next)?;
+    }
+    Ok(())
+}
+
+/// Adds the names of formals in order.
+pub fn add_names(alloc: Global, names: &mut Vec<Ident>, formals: &[Formal]) -> Result<(), Memory>
+    ensures { OnOk result (names.new.items ≡ names.old.items ++ map j.name_of formals.now) }
+{
+    for formal in formals {
+        names.push(formal.name.name.copy(alloc)?)?;
+    }
+    Ok(())
+}

@@ -1,0 +1,109 @@
+// The variables of a method while its statements are typed.
+ghost use Rattle.std.specs.Prelude.{◌≡◌, IfOk, None, OnOk, length};
+ghost use Rattle.viper_types.specs.Answers.{Answers, frame_of, target_of};
+ghost use Rattle.viper_types.specs.Context.{find};
+ghost use Rattle.viper_types.specs.Declaring.{no_frame};
+ghost use Rattle.viper_types.specs.Frame as f;
+ghost use Rattle.viper_types.specs.Stepping as s;
+
+use crate::context::{Scope, Variable};
+use crate::faults::TypeFault;
+use crate::names::Names;
+use std::alloc::Global;
+use vb_base::{Ident, Memory, Pos};
+use vb_value::Ty;
+use viper_syntax::{Formal, Word};
+
+/// The variables of a method so far.
+#[derive(Drop)]
+pub struct Frame {
+    /// The types of all variables, by their numbers.
+    pub vars: Vec<Ty>,
+    /// Those that are visible.
+    pub scope: Scope,
+}
+
+/// A variable that takes a value, and the place of its name.
+#[derive(Clone, Copy, Debug, PartialEq, Eq)]
+pub struct Target {
+    pub number: u32,
+    pub ty: Ty,
+    pub at: Pos,
+}
+
+/// The type of a word.
+pub fn type_of(word: Word) -> Option<Ty>
+    ensures { result ≡ f.type_of word }
+{
+    match word {
+        Word::Int => Some(Ty::Int),
+        Word::Bool => Some(Ty::Bool),
+        Word::Ref => Some(Ty::Ref),
+        Word::Perm => Some(Ty::Perm),
+        _ => None,
+    }
+}
+
+/// The type of a formal, and Int where its word is no type.
+pub fn declared_type(formal: &Formal) -> Ty
+    ensures { result ≡ f.declared_type formal.now }
+{
+    type_of(formal.ty).unwrap_or(Ty::Int)
+}
+
+impl Frame {
+    /// No variables.
+    pub fn new(alloc: Global) -> Frame
+        ensures { frame_of result ≡ no_frame }
+    {
+        Frame {
+            vars: Vec::new(alloc),
+            scope: Names::new(alloc),
+        }
+    }
+
+    /// Adds a variable of a new name, which has the next number.
+    pub fn declare(
+        &mut self,
+        alloc: Global,
+        name: &Ident,
+        ty: Ty,
+        is_parameter: bool,
+    ) -> Result<(), Memory>
+        requires { find self.old.scope name.now ≡ None }
+        ensures { OnOk result (frame_of self.new ≡ f.with_variable (frame_of self.old) name.now ty is_parameter) }
+    {
+        let number = self.next_number()?;
+        self.vars.push(ty)?;
+        let variable = Variable {
+            number,
+            ty,
+            is_parameter,
+        };
+        self.scope.declare(alloc, name, variable)
+    }
+
+    /// The number of the next variable. With 2^32 variables there is none left.
+    pub fn next_number(&self) -> Result<u32, Memory>
+        ensures { IfOk result (λ n. n ≡ length self.now.vars.items) }
+    {
+        u32::try_from(self.vars.len()).map_err(|_| Memory)
+    }
+
+    /// The variable that a declaration makes.
+    pub fn fresh(&self, formal: &Formal) -> Result<Target, TypeFault>
+        ensures answers { Answers target_of (s.fresh (frame_of self.now) formal.now) result }
+        ensures typed { IfOk result (λ v. v.ty ≡ f.declared_type formal.now) }
+        ensures is_new { OnOk result (find self.now.scope formal.now.name.name ≡ None) }
+    {
+        let at = formal.name.pos;
+        if self.scope.find(&formal.name.name).is_some() {
+            return Err(TypeFault::Rule(at, 2));
+        }
+        let Some(ty) = type_of(formal.ty) else {
+            return Err(TypeFault::Rule(at, 3));
+        };
+        let number = self.next_number()?;
+        Ok(Target { number, ty, at })
+    }
+}

@@ -1,0 +1,49 @@
+//! Laws of the definitions, each as the contract of a function that does nothing.
+
+ghost use Rattle.std.specs.Prelude.{◌≡◌, ◌↔◌, ℕ, []};
+ghost use Rattle.vb_value.specs.declared.values.Ty.{Ty};
+ghost use Rattle.viper_core.specs.Expr as e;
+ghost use Rattle.viper_core.specs.Formed.{IsTypedProgram};
+ghost use Rattle.viper_core.specs.Program as p;
+ghost use Rattle.viper_core.specs.Stmt as c;
+ghost use Rattle.viper_syntax.specs.Decl as d;
+ghost use Rattle.viper_syntax.specs.Stmt as s;
+ghost use Rattle.viper_syntax.specs.Term as t;
+ghost use Rattle.viper_types.specs.Context.{Context};
+ghost use Rattle.viper_types.specs.Frame.{Frame};
+ghost use Rattle.viper_syntax.specs.Good.{IsGoodSource};
+ghost use Rattle.viper_types.specs.Outcome.{faults_of};
+ghost use Rattle.viper_types.specs.Program.{IsProgram};
+ghost use Rattle.viper_types.specs.ProgramWalk.{walk_program};
+ghost use Rattle.viper_types.specs.Stepped.{Stepped};
+ghost use Rattle.viper_types.specs.Typed.{Typed, Asserts};
+ghost use Rattle.viper_types.specs.Typing.{Scope};
+
+/// A term is at most one expression, of at most one type, and at most one assertion.
+pub fn one_expression()
+    ensures expression { (k : Context) (sc : Scope) (a : t.Term) (x : e.Expr) (y : e.Expr) (u : Ty) (v : Ty) → Typed k sc a x u
+        → Typed k sc a y v → (x ≡ y) × (u ≡ v) }
+    ensures assertion { (k : Context) (sc : Scope) (a : t.Term) (x : e.Assertion) (y : e.Assertion) → Asserts k sc a x
+        → Asserts k sc a y → x ≡ y }
+{}
+
+/// A statement is at most one statement of the core.
+pub fn one_statement()
+    ensures { (k : Context) (d : ℕ) (fr : Frame) (a : s.SStmt) (x : c.Stmt) (y : c.Stmt) → Stepped k d fr a x → Stepped k d fr a y
+        → x ≡ y }
+{}
+
+/// A file is at most one program.
+pub fn one_program()
+    ensures { (source : d.SourceProgram) (q : p.Program) (r : p.Program) → IsProgram source q → IsProgram source r → q ≡ r }
+{}
+
+/// A file is a program exactly if it breaks no rule.
+pub fn typed_without_faults()
+    ensures { (source : d.SourceProgram) → (faults_of (walk_program source) ≡ []) ↔ ((q : p.Program) × IsProgram source q) }
+{}
+
+/// The program that a file is, is formed, but for its weight.
+pub fn a_typed_program_is_formed()
+    ensures { (source : d.SourceProgram) (q : p.Program) → IsGoodSource source → IsProgram source q → IsTypedProgram q }
+{}

@@ -1,0 +1,28 @@
+//! The typing of Viper: the one typed program that a tree is, or the first rule that it breaks.
+//!
+//! `specs/` has the typing judgement, the walk over all broken rules, and the functions that the code computes.
+#![tactic(auto)]
+
+mod assertions;
+mod assigned;
+mod calls;
+mod context;
+mod creations;
+mod declarations;
+mod expressions;
+mod faults;
+mod formals;
+mod frames;
+pub mod laws;
+mod listed;
+mod methods;
+mod names;
+mod predicates;
+mod program;
+mod simple;
+mod statements;
+mod targets;
+mod world;
+
+pub use faults::TypeFault;
+pub use program::check;

@@ -1,0 +1,169 @@
+// The typing of methods.
+ghost use Rattle.std.specs.Prelude.{◌≡◌, ◌++◌, IfOk, OnOk, false, map, true};
+ghost use Rattle.std.specs.Option.{option_map};
+ghost use Rattle.viper_core.specs.View as core;
+ghost use Rattle.viper_syntax.specs.View.{block_of, clause_of, method_of, term_of};
+ghost use Rattle.viper_types.specs.Answers.{Answers, clause_typing_of, clause_typings_of, context_of, frame_of, optional_bodies_of, world_of};
+ghost use Rattle.viper_types.specs.Declaring as j;
+
+use crate::assertions::assertion;
+use crate::context::{Context, Part, Scope, World};
+use crate::expressions::start;
+use crate::faults::TypeFault;
+use crate::formals::{add_names, formals};
+use crate::frames::Frame;
+use crate::statements::blocking;
+use crate::world::next_number;
+use std::alloc::Global;
+use vb_base::Memory;
+use viper_core::{Assertion, Body, Method};
+use viper_syntax::{SBlock, SClause, SMethod, Word};
+
+/// A clause, with whether it is a precondition, which sees the parameters alone.
+fn clause(
+    alloc: Global,
+    world: &World,
+    bodies: &[Option<Assertion>],
+    params: &Scope,
+    all: &Scope,
+    clause: &SClause,
+) -> Result<(bool, Assertion), TypeFault>
+    ensures { Answers clause_typing_of (j.clause_of (world_of world.now) (optional_bodies_of bodies.now) params.now all.now clause.now.word (term_of clause.now.term)) result }
+{
+    let term = &clause.term;
+    match clause.word {
+        Word::Requires => {
+            let part = Part::Precondition;
+            let context = Context {
+                world,
+                bodies,
+                part,
+            };
+            Ok((true, assertion(alloc, &context, params, term)?))
+        }
+        Word::Ensures => {
+            let part = Part::Elsewhere;
+            let context = Context {
+                world,
+                bodies,
+                part,
+            };
+            Ok((false, assertion(alloc, &context, all, term)?))
+        }
+        _ => Err(TypeFault::Rule(start(term), 3)),
+    }
+}
+
+/// Clauses in order, each with whether it is a precondition.
+fn clauses(
+    alloc: Global,
+    world: &World,
+    bodies: &[Option<Assertion>],
+    params: &Scope,
+    all: &Scope,
+    clauses: &[SClause],
+) -> Result<Vec<(bool, Assertion)>, TypeFault>
+    ensures { Answers clause_typings_of (j.clauses (world_of world.now) (optional_bodies_of bodies.now) params.now all.now (map clause_of clauses.now)) result }
+{
+    let mut typed = Vec::with_capacity(alloc, clauses.len())?;
+    for next in clauses {
+        let condition = clause(alloc, world, bodies, params, all, next)?;
+        typed.push(condition)?;
+    }
+    Ok(typed)
+}
+
+/// The preconditions and the postconditions.
+#[derive(Drop)]
+struct Conditions {
+    before: Vec<Assertion>,
+    after: Vec<Assertion>,
+}
+
+/// The preconditions and the postconditions among clauses, each in order.
+fn split_clauses(alloc: Global, clauses: Vec<(bool, Assertion)>) -> Result<Conditions, Memory>
+    ensures before { IfOk result (λ v. core.assertions_of v.before.items ≡ j.conditions true (clause_typings_of clauses)) }
+    ensures after { IfOk result (λ v. core.assertions_of v.after.items ≡ j.conditions false (clause_typings_of clauses)) }
+{
+    let mut before = Vec::new(alloc);
+    let mut after = Vec::new(alloc);
+    for (is_precondition, condition) in clauses {
+        if is_precondition {
+            before.push(condition)?;
+        } else {
+            after.push(condition)?;
+        }
+    }
+    Ok(Conditions { before, after })
+}
+
+/// The body of a method, if it has one.
+fn method_body(
+    alloc: Global,
+    context: &Context,
+    frame: &mut Frame,
+    block: &Option<SBlock>,
+) -> Result<Option<Body>, TypeFault>
+    ensures after { OnOk result (frame.new.vars.items ≡ frame.old.vars.items ++ j.locals (option_map block_of block.now)) }
+    ensures answers { Answers (option_map core.body_of) (j.method_body (context_of context.now) (frame_of frame.old) (option_map block_of block.now)) result }
+{
+    match block {
+        Some(block) => {
+            let stmts = blocking(alloc, context, 1, frame, block)?;
+            let turn = block.at;
+            Ok(Some(Body { turn, stmts }))
+        }
+        None => Ok(None),
+    }
+}
+
+/// A method. The parameters stand also in a scope of their own, which its preconditions see.
+pub fn method(
+    alloc: Global,
+    world: &World,
+    bodies: &[Option<Assertion>],
+    method: &SMethod,
+) -> Result<Method, TypeFault>
+    ensures { Answers core.method_of (j.method_typing (world_of world.now) (optional_bodies_of bodies.now) (method_of method.now)) result }
+{
+    let mut params = Frame::new(alloc);
+    formals(alloc, &mut params, true, true, &method.params)?;
+    let mut frame = Frame::new(alloc);
+    formals(alloc, &mut frame, true, true, &method.params)?;
+    formals(alloc, &mut frame, true, false, &method.returns)?;
+    let clauses = clauses(
+        alloc,
+        world,
+        bodies,
+        &params.scope,
+        &frame.scope,
+        &method.clauses,
+    )?;
+    let conditions = split_clauses(alloc, clauses)?;
+    let part = Part::Elsewhere;
+    let body = method_body(
+        alloc,
+        &Context {
+            world,
+            bodies,
+            part,
+        },
+        &mut frame,
+        &method.body,
+    )?;
+    let mut names = Vec::new(alloc);
+    add_names(alloc, &mut names, &method.params)?;
+    add_names(alloc, &mut names, &method.returns)?;
+    Ok(Method {
+        name: method.name.name.copy(alloc)?,
+        at: method.at,
+        name_at: method.name.pos,
+        names,
+        params: next_number(method.params.len())?,
+        returns: next_number(method.returns.len())?,
+        vars: frame.vars,
+        preconditions: conditions.before,
+        postconditions: conditions.after,
+        body,
+    })
+}

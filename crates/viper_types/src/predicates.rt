@@ -1,0 +1,93 @@
+// The typing of predicates.
+ghost use Rattle.std.specs.Prelude.{◌≡◌, IfOk, map};
+ghost use Rattle.std.specs.Option.{option_map};
+ghost use Rattle.viper_core.specs.Program as p;
+ghost use Rattle.viper_core.specs.View as core;
+ghost use Rattle.viper_syntax.specs.View.{decl_of, term_of};
+ghost use Rattle.viper_types.specs.Answers.{Answers, optional_bodies_of, world_of};
+ghost use Rattle.viper_types.specs.Declaring as j;
+ghost use Rattle.viper_types.specs.Outcome.{Judged};
+
+use crate::assertions::assertion;
+use crate::context::{Context, Part, Scope, World};
+use crate::faults::TypeFault;
+use crate::formals::{add_names, formals};
+use crate::frames::Frame;
+use crate::world::types_in;
+use std::alloc::Global;
+use vb_base::{Memory, Pos};
+use viper_core::{Assertion, Predicate};
+use viper_syntax::{Decl, Formal, Named, Term};
+
+/// The body of a predicate. It sees no bodies, since it holds no `unfolding`.
+fn predicate_body(
+    alloc: Global,
+    world: &World,
+    scope: &Scope,
+    body: &Option<Term>,
+) -> Result<Option<Assertion>, TypeFault>
+    ensures { Answers (option_map core.assertion_of) (j.predicate_body (world_of world.now) scope.now (option_map term_of body.now)) result }
+{
+    let context = Context {
+        world,
+        bodies: &[],
+        part: Part::Body,
+    };
+    match body {
+        Some(term) => Ok(Some(assertion(alloc, &context, scope, term)?)),
+        None => Ok(None),
+    }
+}
+
+/// A predicate.
+pub fn predicate(
+    alloc: Global,
+    world: &World,
+    at: Pos,
+    name: &Named,
+    params: &[Formal],
+    body: &Option<Term>,
+) -> Result<Predicate, TypeFault>
+    ensures { Answers core.predicate_of (j.predicate_typing (world_of world.now) at name.now params.now (option_map term_of body.now)) result }
+{
+    let mut frame = Frame::new(alloc);
+    formals(alloc, &mut frame, false, true, params)?;
+    let body = predicate_body(alloc, world, &frame.scope, body)?;
+    let mut names = Vec::with_capacity(alloc, params.len())?;
+    add_names(alloc, &mut names, params)?;
+    Ok(Predicate {
+        name: name.name.copy(alloc)?,
+        at,
+        names,
+        params: types_in(alloc, params)?,
+        body,
+    })
+}
+
+/// The body of a typed predicate, and none where it breaks a rule.
+fn found_body(typed: Result<Predicate, TypeFault>) -> Result<Option<Assertion>, Memory>
+    ensures { (judged : Judged p.Predicate) → Answers core.predicate_of judged typed → IfOk result (λ body. option_map core.assertion_of body ≡ j.found_body judged) }
+{
+    match typed {
+        Ok(predicate) => Ok(predicate.body),
+        Err(TypeFault::Rule(_, _)) => Ok(None),
+        Err(_) => Err(Memory),
+    }
+}
+
+/// The bodies of the predicates in order, and none where one breaks a rule.
+pub fn bodies_of(
+    alloc: Global,
+    world: &World,
+    decls: &[Decl],
+) -> Result<Vec<Option<Assertion>>, Memory>
+    ensures { IfOk result (λ v. optional_bodies_of v.items ≡ j.bodies_of (world_of world.now) (map decl_of decls.now)) }
+{
+    let mut bodies = Vec::new(alloc);
+    for decl in decls {
+        if let Decl::Predicate(at, name, params, body) = decl {
+            bodies.push(found_body(predicate(alloc, world, *at, name, params, body))?)?;
+        }
+    }
+    Ok(bodies)
+}
