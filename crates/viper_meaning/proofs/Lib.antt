@@ -1,0 +1,3 @@
+pub mod BoundLaws
+pub mod ResultLaws
+pub mod KeptLaws

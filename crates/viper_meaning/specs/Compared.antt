@@ -1,0 +1,10 @@
+-- What the bound changes: an end that is not Over is the end without it.
+use Rattle.std.specs.Prelude.{List}
+use Rattle.vb_base.specs.declared.places.Pos.{Pos}
+use Rattle.viper_state.specs.Event.{Event}
+use Rattle.viper_meaning.specs.Ends.{Evaluated, ends, Over}
+
+-- with the bound it is the same, or it is Over
+pub data IsBoundedBy {X : Type 0} : Evaluated X → Evaluated X → Type 0 where
+  same : {e : Evaluated X} → IsBoundedBy e e
+  over : {events : List Event} {at : Pos} {e : Evaluated X} → IsBoundedBy (ends events (Over at)) e

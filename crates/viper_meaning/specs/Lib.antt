@@ -1,0 +1,7 @@
+pub mod Ends
+pub mod Operators
+pub mod Places
+pub mod Value
+pub mod Compared
+pub mod Literals
+pub mod Kept

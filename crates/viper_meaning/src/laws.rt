@@ -1,0 +1,30 @@
+//! Laws of the definitions, each as the contract of a function that does nothing.
+
+ghost use Rattle.std.specs.Prelude.{List};
+ghost use Rattle.vb_value.specs.Content.{Content, IsWithinContent};
+ghost use Rattle.vb_value.specs.Fraction.{Fraction};
+ghost use Rattle.vb_value.specs.Value.{IsWithinValue};
+ghost use Rattle.viper_core.specs.Expr as t;
+ghost use Rattle.viper_state.specs.State.{State};
+ghost use Rattle.viper_state.specs.Run.{Scene};
+ghost use Rattle.viper_state.specs.Within.{IsWithinState, IsWithinScene};
+ghost use Rattle.viper_meaning.specs.Ends.{Unbounded, Bounded};
+ghost use Rattle.viper_meaning.specs.Value.{value, opened};
+ghost use Rattle.viper_meaning.specs.Compared.{IsBoundedBy};
+ghost use Rattle.viper_meaning.specs.Literals.{IsWithinExpr, IsWithinAssertion};
+ghost use Rattle.viper_meaning.specs.Kept.{Keeps};
+
+/// What is computed within the bound and is not Over is what is computed without it, with the same events.
+pub fn the_bound_changes_nothing_else()
+    ensures value { (e : t.Expr) (s : State) (sc : Scene) → IsBoundedBy (value Bounded e s sc) (value Unbounded e s sc) }
+    ensures opened { (a : t.Assertion) (c : Content) (s : State) (sc : Scene) (k : Fraction)
+        → IsBoundedBy (opened Bounded a c s sc k) (opened Unbounded a c s sc k) }
+{}
+
+/// What is computed within the bound from what is within it is within it, and so is every event on the way.
+pub fn what_is_within_stays_within()
+    ensures value { (e : t.Expr) (s : State) (sc : Scene) → IsWithinExpr e → IsWithinState s → IsWithinScene sc
+        → Keeps IsWithinValue (value Bounded e s sc) }
+    ensures opened { (a : t.Assertion) (c : Content) (s : State) (sc : Scene) (k : Fraction) → IsWithinAssertion a
+        → IsWithinContent c → IsWithinState s → IsWithinScene sc → Keeps IsWithinState (opened Bounded a c s sc k) }
+{}

@@ -1,0 +1,6 @@
+//! The meaning of Viper: the value of an expression in a state, and how the body of a predicate is opened.
+//!
+//! The definitions stand in `specs/`; this crate has no running code but the laws about them.
+#![tactic(auto)]
+
+pub mod laws;

@@ -1,0 +1,127 @@
+-- The maps of a state are kept exactly: to change one, or to copy it, is to do so with its plain data.
+use Rattle.std.proofs.Common.{◌≡◌, ℕ, Bool, List, [], ◌∷◌, Some, Result, Ok, Err, IfOk, OnOk, slice_get, slice_set, map, refl, sym, ap, ◌∙◌, subst}
+use Rattle.std.specs.List.{AllZip}
+use Rattle.std.specs.Option.{option_map}
+use Rattle.std.proofs.lemmas.List.{map-set}
+use Rattle.std.proofs.lemmas.Option.{slice_get-map}
+use Rattle.std.specs.Ordering.{nat_cmp, on}
+use Rattle.std.specs.declared.cmp.Ordering.{Ordering}
+use Rattle.std.proofs.lemmas.Cmp.{nat_cmp_total}
+use Rattle.std.proofs.lemmas.Map.Lookups.{exact_unsigned}
+use Rattle.sparse.specs.Map.{Map, get, set, IsSame, ClonesAreEqual}
+use Rattle.sparse.specs.Meaning.{IsExact}
+use Rattle.sparse.proofs.MapLaws.{map_from_same}
+use Rattle.sparse.proofs.MeaningLaws.{get-meaning_of, meaning_of-same, meaning_of-set, IsMeaning-on, IsMeaning-itself, ClonesAreEqual-from_meaning}
+use Rattle.vb_value.specs.Fraction.{Fraction}
+use Rattle.vb_value.specs.Content.{same_content}
+use Rattle.vb_value.specs.View.{content_of}
+use Rattle.vb_value.specs.Value.{value_eq, fraction_eq}
+use Rattle.vb_value.specs.Key.{key_cmp}
+use Rattle.vb_value.specs.KeyOrder.{key_cmp_total}
+use Rattle.vb_value.specs.Equality.{Decides-value_eq, Decides-fraction_eq, Decides-same_content}
+use Rattle.vb_value.proofs.KeyLaws.{same_from_key_cmp}
+use Rattle.vb_value.specs.declared.contents.Content.{Content}
+use Rattle.vb_value.specs.declared.values.Value.{Value}
+use Rattle.vb_value.specs.declared.values.Value.TheVariants.{Int, Bool as Truth, Ref, Perm}
+use Rattle.vb_value.specs.contracts.values.ValuePartialEq.TheImpl as values
+use Rattle.vb_value.specs.contracts.fractions.FracPartialEq.TheImpl as fractions
+use Rattle.viper_state.specs.State.{Key, found_at, changed_at}
+use Rattle.viper_state.specs.View.{contents_of}
+
+-- the derived tests of equality are those of the definitions
+fractions_alike : (p q : Fraction) → fractions.ghosts.eq p q ≡ fraction_eq p q
+fractions_alike p q = refl
+
+values_alike : (v w : Value) → values.ghosts.eq v w ≡ value_eq v w
+values_alike (Int a) (Int b) = refl
+values_alike (Truth a) (Truth b) = refl
+values_alike (Ref a) (Ref b) = refl
+values_alike (Perm a) (Perm b) = refl
+values_alike _ _ = refl
+
+pub value_test : values.ghosts.eq ≡ value_eq
+value_test = λ i v w. values_alike v w i
+
+pub fraction_test : fractions.ghosts.eq ≡ fraction_eq
+fraction_test = λ i p q. fractions_alike p q i
+
+-- keys and values are told apart exactly
+pub exact_values : IsExact nat_cmp value_eq
+exact_values = record { total = nat_cmp_total; keys = exact_unsigned; values = Decides-value_eq }
+
+pub exact_masks : IsExact nat_cmp fraction_eq
+exact_masks = record { total = nat_cmp_total; keys = exact_unsigned; values = Decides-fraction_eq }
+
+pub exact_amounts : IsExact key_cmp fraction_eq
+exact_amounts = record { total = key_cmp_total; keys = same_from_key_cmp; values = Decides-fraction_eq }
+
+pub exact_contents : IsExact key_cmp same_content
+exact_contents = record { total = key_cmp_total; keys = same_from_key_cmp; values = Decides-same_content }
+
+-- what `set` leaves is the change of what was there
+pub changes : {K V : Type 0} {cmp : K → K → Ordering} {eq same : V → V → Bool} → eq ≡ same → IsExact cmp same → (m n : Map K V) (k : K) (v : V) →
+    IsSame cmp eq (set cmp eq m k v) n → n ≡ set cmp same m k v
+changes {cmp = cmp} {same = same} is exact m n k v =
+    subst (λ q. IsSame cmp q (set cmp q m k v) n → n ≡ set cmp same m k v) (sym is) (λ h. sym (map_from_same exact (set cmp same m k v) n h))
+
+-- a copy is equal
+pub copies : {K V : Type 0} {cmp : K → K → Ordering} {eq same : V → V → Bool} → eq ≡ same → IsExact cmp same → (m n : Map K V) → IsSame cmp eq m n → n ≡ m
+copies {cmp = cmp} is exact m n = subst (λ q. IsSame cmp q m n → n ≡ m) (sym is) (λ h. sym (map_from_same exact m n h))
+
+-- the maps after one of them changed
+pub changed_is : {K V : Type 0} {cmp : K → K → Ordering} {eq same : V → V → Bool} → eq ≡ same → IsExact cmp same → (maps : List (Map K V)) (n : ℕ) (m after : Map K V) (k : K) (v : V) →
+    slice_get maps n ≡ Some m → IsSame cmp eq (set cmp eq m k v) after → slice_set maps n after ≡ changed_at cmp same maps n k v
+changed_is is exact maps n m after k v there h = rw there (ap (λ x. slice_set maps n x) (changes is exact m after k v h))
+
+-- the same of contents, which are compared as trees
+pub contents_set : (m after : Map Key Content) (k : Key) (c : Content) → IsSame key_cmp (on content_of same_content) (set key_cmp (on content_of same_content) m k c) after →
+    contents_of after ≡ set key_cmp same_content (contents_of m) k (content_of c)
+contents_set m after k c h = meaning_of-set (IsMeaning-on (λ k. k) content_of key_cmp same_content) exact_contents m after k c h
+
+-- copies of maps are equal, and so are those of contents
+pub all_copies : {K V : Type 0} {cmp : K → K → Ordering} {eq same : V → V → Bool} → eq ≡ same → IsExact cmp same → (ms ns : List (Map K V)) → AllZip (IsSame cmp eq) ms ns → ns ≡ ms
+all_copies is exact [] [] h = refl
+all_copies is exact [] (n ∷ ns) h = absurd h
+all_copies is exact (m ∷ ms) [] h = absurd h
+all_copies is exact (m ∷ ms) (n ∷ ns) h =
+    let first = copies is exact m n h.0 in
+    let rest = all_copies is exact ms ns h.1 in
+    λ i. first i ∷ rest i
+
+pub contents_copied : (ms ns : List (Map Key Content)) → AllZip (IsSame key_cmp (on content_of same_content)) ms ns → map contents_of ns ≡ map contents_of ms
+contents_copied [] [] h = refl
+contents_copied [] (n ∷ ns) h = absurd h
+contents_copied (m ∷ ms) [] h = absurd h
+contents_copied (m ∷ ms) (n ∷ ns) h =
+    let first = sym (meaning_of-same (IsMeaning-on (λ k. k) content_of key_cmp same_content) exact_contents m n h.0) in
+    let rest = contents_copied ms ns h.1 in
+    λ i. first i ∷ rest i
+
+-- so the contents of all predicates change as their trees do
+pub contents_changed : (maps : List (Map Key Content)) (n : ℕ) (m after : Map Key Content) (k : Key) (c : Content) → slice_get maps n ≡ Some m →
+    IsSame key_cmp (on content_of same_content) (set key_cmp (on content_of same_content) m k c) after →
+    map contents_of (slice_set maps n after) ≡ changed_at key_cmp same_content (map contents_of maps) n k (content_of c)
+contents_changed maps n m after k c there h =
+    let found : slice_get (map contents_of maps) n ≡ Some (contents_of m) = slice_get-map contents_of maps n ∙ ap (option_map contents_of) there in
+    map-set contents_of maps n after ∙ rw found (ap (λ x. slice_set (map contents_of maps) n x) (contents_set m after k c h))
+
+-- what an instance contains
+pub content_read : (maps : List (Map Key Content)) (n : ℕ) (m : Map Key Content) (k : Key) → slice_get maps n ≡ Some m →
+    Some (content_of (get key_cmp m k)) ≡ found_at key_cmp (map contents_of maps) n k
+content_read maps n m k there =
+    let found : slice_get (map contents_of maps) n ≡ Some (contents_of m) = slice_get-map contents_of maps n ∙ ap (option_map contents_of) there in
+    rw found (ap Some (sym (get-meaning_of (IsMeaning-on (λ k. k) content_of key_cmp same_content) m k)))
+
+-- clones of keys and contents are equal
+pub contents_cloned : {kc : Key → Key → Type 0} {vc : Content → Content → Type 0} → ((k q : Key) → kc k q → q ≡ k) → ((v w : Content) → vc v w → content_of w ≡ content_of v) →
+    ClonesAreEqual key_cmp (on content_of same_content) kc vc
+contents_cloned keys values = ClonesAreEqual-from_meaning (IsMeaning-on (λ k. k) content_of key_cmp same_content) exact_contents keys values
+
+pub amounts_cloned : {kc : Key → Key → Type 0} {vc : Fraction → Fraction → Type 0} → ((k q : Key) → kc k q → q ≡ k) → ((v w : Fraction) → vc v w → w ≡ v) →
+    ClonesAreEqual key_cmp fractions.ghosts.eq kc vc
+amounts_cloned keys values = ClonesAreEqual-from_meaning (IsMeaning-itself key_cmp _) (subst (λ t. IsExact key_cmp t) (sym fraction_test) exact_amounts) keys values
+
+-- an answer that was handed on
+pub handed : {S T : Type 0} {P Q : Type 0} (a : Result (Unit {0}) S) (b : Result (Unit {0}) T) → IfOk b (λ x. a ≡ Ok x) → OnOk a P → (P → Q) → OnOk b Q
+handed {P = P} a (Ok x) is h go = go (subst (λ r. OnOk r P) is h)
+handed a (Err e) is h go = tt
