@@ -8,7 +8,7 @@ use Rattle.vb_base.specs.Names.{NamesDiffer}
 use Rattle.vb_base.proofs.NameLaws.{place_of_name}
 use Rattle.vb_base.specs.declared.labels.Label.{Label}
 use Rattle.boogie_tree.specs.declared.trees.BOp.{BOp}
-use Rattle.boogie_tree.specs.declared.trees.BOp.TheVariants.{Eq, Ne, Lt, Le, Gt, Ge}
+use Rattle.boogie_tree.specs.declared.trees.BOp.TheVariants.{Eq, Ne, Lt, Le, Gt, Ge, Add, Sub}
 use Rattle.boogie_tree.specs.declared.trees.BBase.TheVariants as base
 use Rattle.boogie_tree.specs.declared.trees.Local.{Local}
 use Rattle.boogie_tree.specs.Text.{Tok, Name, Number, Text, Sign, Cut, prelude}
@@ -81,7 +81,8 @@ name_is_free y h k e = both_ways _ (subst (λ z. is_reserved z ≡ false) e h) k
 operator_at : List ℕ → BOp
 operator_at s =
     if pointwise ◌==◌ s (codes "==") then Eq else (if pointwise ◌==◌ s (codes "!=") then Ne else (if pointwise ◌==◌ s (codes "<") then Lt else
-    (if pointwise ◌==◌ s (codes "<=") then Le else (if pointwise ◌==◌ s (codes ">") then Gt else Ge))))
+    (if pointwise ◌==◌ s (codes "<=") then Le else (if pointwise ◌==◌ s (codes ">") then Gt else (if pointwise ◌==◌ s (codes ">=") then Ge else
+    (if pointwise ◌==◌ s (codes "+") then Add else Sub))))))
 
 operator_at-sign_of : (o : BOp) → operator_at (sign_of o) ≡ o
 unfolding operator_at
@@ -91,6 +92,8 @@ operator_at-sign_of Lt = refl
 operator_at-sign_of Le = refl
 operator_at-sign_of Gt = refl
 operator_at-sign_of Ge = refl
+operator_at-sign_of Add = refl
+operator_at-sign_of Sub = refl
 
 one_operator : (o q : BOp) → sign_of o ≡ sign_of q → o ≡ q
 one_operator o q h = sym (operator_at-sign_of o) ∙ (ap operator_at h ∙ operator_at-sign_of q)

@@ -6,7 +6,7 @@ use Rattle.vb_base.specs.Names.{NamesDiffer}
 use Rattle.vb_base.specs.declared.labels.Label.{Label}
 use Rattle.vb_base.specs.declared.names.Ident.{Ident}
 use Rattle.boogie_tree.specs.declared.trees.BOp.{BOp}
-use Rattle.boogie_tree.specs.declared.trees.BOp.TheVariants.{Eq, Ne, Lt, Le, Gt, Ge}
+use Rattle.boogie_tree.specs.declared.trees.BOp.TheVariants.{Eq, Ne, Lt, Le, Gt, Ge, Add, Sub}
 use Rattle.boogie_tree.specs.declared.trees.BBase.TheVariants as base
 use Rattle.boogie_tree.specs.declared.trees.Local.{Local}
 use Rattle.boogie_tree.specs.Text.{Tok, Name, Number, Text, Sign, Cut, prelude}
@@ -30,6 +30,8 @@ sign_of Lt = codes "<"
 sign_of Le = codes "<="
 sign_of Gt = codes ">"
 sign_of Ge = codes ">="
+sign_of Add = codes "+"
+sign_of Sub = codes "-"
 
 -- bexpr = name | number | "true" | "false" | "(" bexpr bop bexpr ")"
 pub data SpellsExpr (locals : List Local) : List Tok → t.BExpr → Type 0 where

@@ -1,11 +1,11 @@
 -- What a Boogie procedure does (Leino, This is Boogie 2, sections 8 and 9): it knows variables and choices, and nothing of Viper.
-use Rattle.std.specs.Prelude.{◌≡◌, ℕ, ℤ, Bool as Truth, true, false, not, List, [], ◌∷◌, ⊤, Option, Some, None, slice_get, if◌then◌else◌}
+use Rattle.std.specs.Prelude.{◌≡◌, ℕ, ℤ, ◌+ℤ◌, ◌-ℤ◌, Bool as Truth, true, false, not, List, [], ◌∷◌, ⊤, Option, Some, None, slice_get, if◌then◌else◌}
 use Rattle.std.specs.Ordering.{int_cmp, is_lt, is_le, is_eq, is_gt, is_ge}
 use Rattle.vb_base.specs.declared.labels.Label.{Label}
 use Rattle.boogie_tree.specs.declared.trees.BBase.{BBase}
 use Rattle.boogie_tree.specs.declared.trees.BBase.TheVariants as base
 use Rattle.boogie_tree.specs.declared.trees.BOp.{BOp}
-use Rattle.boogie_tree.specs.declared.trees.BOp.TheVariants.{Eq, Ne, Lt, Le, Gt, Ge}
+use Rattle.boogie_tree.specs.declared.trees.BOp.TheVariants.{Eq, Ne, Lt, Le, Gt, Ge, Add, Sub}
 use Rattle.boogie_tree.specs.declared.trees.Local.{Local}
 use Rattle.boogie_tree.specs.Tree as t
 
@@ -36,14 +36,16 @@ abbrev pub found : Option BScalar → BValue
 found (Some v) = Is v
 found None = WrongValue
 
--- whether the comparison holds
-abbrev pub compares : BOp → ℤ → ℤ → Truth
-compares Eq x y = is_eq (int_cmp x y)
-compares Ne x y = not (is_eq (int_cmp x y))
-compares Lt x y = is_lt (int_cmp x y)
-compares Le x y = is_le (int_cmp x y)
-compares Gt x y = is_gt (int_cmp x y)
-compares Ge x y = is_ge (int_cmp x y)
+-- whether a comparison of two ints holds, or their sum or difference, which has no bound
+abbrev pub apply_ints : BOp → ℤ → ℤ → BScalar
+apply_ints Eq x y = Bool (is_eq (int_cmp x y))
+apply_ints Ne x y = Bool (not (is_eq (int_cmp x y)))
+apply_ints Lt x y = Bool (is_lt (int_cmp x y))
+apply_ints Le x y = Bool (is_le (int_cmp x y))
+apply_ints Gt x y = Bool (is_gt (int_cmp x y))
+apply_ints Ge x y = Bool (is_ge (int_cmp x y))
+apply_ints Add x y = Int (x +ℤ y)
+apply_ints Sub x y = Int (x -ℤ y)
 
 abbrev pub same_truth : Truth → Truth → Truth
 same_truth true b = b
@@ -56,9 +58,11 @@ apply_truths Lt a b = WrongValue
 apply_truths Le a b = WrongValue
 apply_truths Gt a b = WrongValue
 apply_truths Ge a b = WrongValue
+apply_truths Add a b = WrongValue
+apply_truths Sub a b = WrongValue
 
 abbrev pub apply : BOp → BScalar → BScalar → BValue
-apply o (Int x) (Int y) = Is (Bool (compares o x y))
+apply o (Int x) (Int y) = Is (apply_ints o x y)
 apply o (Bool a) (Bool b) = apply_truths o a b
 apply o (Int x) (Bool b) = WrongValue
 apply o (Bool a) (Int y) = WrongValue

@@ -38,7 +38,7 @@ is_unquoted b = not (b == 34)
 
 -- the signs, longer ones first
 abbrev pub signs : List (List ℕ)
-signs = codes "==" ∷ codes "!=" ∷ codes "<=" ∷ codes ">=" ∷ codes "<" ∷ codes ">" ∷ codes "*" ∷ codes ":" ∷ codes ";" ∷ codes "(" ∷ codes ")" ∷ codes "{" ∷ codes "}" ∷ []
+signs = codes "==" ∷ codes "!=" ∷ codes "<=" ∷ codes ">=" ∷ codes "<" ∷ codes ">" ∷ codes "+" ∷ codes "-" ∷ codes "*" ∷ codes ":" ∷ codes ";" ∷ codes "(" ∷ codes ")" ∷ codes "{" ∷ codes "}" ∷ []
 
 -- the longest sign with which the bytes begin
 abbrev pub sign_at : List ℕ → Option (List ℕ)

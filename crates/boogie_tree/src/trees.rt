@@ -9,7 +9,7 @@ pub enum BBase {
     Bool,
 }
 
-/// A binary operator on two ints; its value is a bool.
+/// A binary operator: a comparison, whose value is a bool, or a sum or difference of two ints.
 #[derive(Clone, Copy, Debug, PartialEq, Eq)]
 pub enum BOp {
     Eq,
@@ -18,6 +18,8 @@ pub enum BOp {
     Le,
     Gt,
     Ge,
+    Add,
+    Sub,
 }
 
 /// An expression.

@@ -1,8 +1,9 @@
 -- The code of a method's statements ends as the statements do.
-use Rattle.std.proofs.Common.{◌≡◌, ◌<◌, ℕ, ℤ, Bool as Truth, true, false, if◌then◌else◌, List, [], ◌∷◌, map, slice_get, Some, refl, ap}
+use Rattle.std.proofs.Common.{◌≡◌, ◌<◌, ℕ, ℤ, Bool as Truth, true, false, if◌then◌else◌, List, [], ◌∷◌, map, slice_get, Some, refl, ap, subst}
 use Rattle.vb_base.specs.declared.labels.Label.{Label}
+use Rattle.vb_base.specs.declared.places.Pos.{Pos}
 use Rattle.vb_tool.specs.declared.straight.Op.{Op}
-use Rattle.vb_tool.specs.declared.straight.Op.TheVariants.{Eq, Ne, Lt, Le, Gt, Ge}
+use Rattle.vb_tool.specs.declared.straight.Op.TheVariants.{Eq, Ne, Lt, Le, Gt, Ge, Add, Sub}
 use Rattle.vb_tool.specs.Tree as vt
 use Rattle.vb_tool.specs.Formed as f
 use Rattle.vb_tool.specs.Meaning as v
@@ -20,30 +21,53 @@ record HaveValue (e : vt.Expr) (store : List v.Value) (env : List b.BScalar) (va
   viper : v.value e store ≡ v.Is value
   boogie : b.bvalue (expr_code e) env ≡ b.Is (scalar_of value)
 
+-- an operator and its code, at two Ints
+applied_alike : (o : Op) (x y : ℤ) → b.apply_ints (op_code o) x y ≡ scalar_of (v.apply_ints o x y)
+applied_alike Eq x y = refl
+applied_alike Ne x y = refl
+applied_alike Lt x y = refl
+applied_alike Le x y = refl
+applied_alike Gt x y = refl
+applied_alike Ge x y = refl
+applied_alike Add x y = refl
+applied_alike Sub x y = refl
+
+binary_alike : {store : List v.Value} {env : List b.BScalar} {c d : vt.Expr} {x y : ℤ} (o : Op) (at : Pos) → HaveValue c store env (v.Int x) → HaveValue d store env (v.Int y) →
+    HaveValue (vt.Bin o c d at) store env (v.apply_ints o x y)
+binary_alike {x = x} {y = y} o at left right = record {
+  viper = rw (left.viper, right.viper) refl;
+  boogie = rw (left.boogie, right.boogie) (ap b.Is (applied_alike o x y));
+}
+
 int_alike : {n : ℕ} {store : List v.Value} {env : List b.BScalar} {e : vt.Expr} → HasInts n store → IsCoupled store env → f.IsInt n e → (k : ℤ) × HaveValue e store env (v.Int k)
 int_alike ints coupled (f.variable {x = x} h) =
     let there = ints.ints x h in
     (there.0, record { viper = rw there.1 refl; boogie = rw (coupled.same x (v.Int there.0) there.1) refl })
 int_alike ints coupled (f.literal {n = k} h) = (_, record { viper = refl; boogie = refl })
+int_alike ints coupled (f.sum {at = at} h k) =
+    let x = int_alike ints coupled h in
+    let y = int_alike ints coupled k in
+    (_, binary_alike Add at x.1 y.1)
+int_alike ints coupled (f.difference {at = at} h k) =
+    let x = int_alike ints coupled h in
+    let y = int_alike ints coupled k in
+    (_, binary_alike Sub at x.1 y.1)
 
-compares_alike : (o : Op) (x y : ℤ) → b.compares (op_code o) x y ≡ v.compares o x y
-compares_alike Eq x y = refl
-compares_alike Ne x y = refl
-compares_alike Lt x y = refl
-compares_alike Le x y = refl
-compares_alike Gt x y = refl
-compares_alike Ge x y = refl
+-- the value of a comparison is a Bool
+compared : {o : Op} (x y : ℤ) → f.IsComparison o → (t : Truth) × (v.apply_ints o x y ≡ v.Bool t)
+compared x y f.equal = (_, refl)
+compared x y f.unequal = (_, refl)
+compared x y f.less = (_, refl)
+compared x y f.at_most = (_, refl)
+compared x y f.greater = (_, refl)
+compared x y f.at_least = (_, refl)
 
 bool_alike : {n : ℕ} {store : List v.Value} {env : List b.BScalar} {e : vt.Expr} → HasInts n store → IsCoupled store env → f.IsBool n e → (t : Truth) × HaveValue e store env (v.Bool t)
-bool_alike ints coupled (f.comparison {o = o} h k) =
+bool_alike {store = store} {env = env} {e = e} ints coupled (f.comparison {o = o} {at = at} compares h k) =
     let x = int_alike ints coupled h in
-    let y = int_alike ints coupled k in (
-      v.compares o x.0 y.0,
-      record {
-        viper = rw (x.1.viper, y.1.viper) refl;
-        boogie = rw (x.1.boogie, y.1.boogie) (ap (λ t. b.Is (b.Bool t)) (compares_alike o x.0 y.0));
-      },
-    )
+    let y = int_alike ints coupled k in
+    let t = compared x.0 y.0 compares in
+    (t.0, subst (HaveValue e store env) t.1 (binary_alike o at x.1 y.1))
 
 -- statements end as their code does, which takes no choice and changes nothing
 pub data Alike (env : List b.BScalar) (choices : List b.BChoice) : v.Outcome → b.BEnd → Type 0 where
@@ -62,7 +86,7 @@ branch_alike env choices false l = failed
 
 stmt_alike : {n : ℕ} {store : List v.Value} {env : List b.BScalar} {s : vt.Stmt} (choices : List b.BChoice) → HasInts n store → IsCoupled store env → f.IsStmt n s →
     Alike env choices (v.run_stmt s store) (b.brun_stmt (stmt_code s) env choices)
-stmt_alike {env = env} choices ints coupled (f.assert_ h) =
+stmt_alike {env = env} choices ints coupled (f.assert_ h within) =
     let t = bool_alike ints coupled h in
     rw (t.1.viper, t.1.boogie) (branch_alike env choices t.0 _)
 

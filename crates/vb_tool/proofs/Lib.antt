@@ -6,7 +6,7 @@ pub mod Pieces
 pub mod Spelled
 pub mod Nesting
 pub mod Translation
-pub mod FirstFormLaws
-pub mod FormSpells
+pub mod OtherForms
+pub mod StraightLaws
+pub mod Verdicts
 pub mod CallLaws
-pub mod MaskLaws

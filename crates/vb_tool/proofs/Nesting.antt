@@ -2,7 +2,7 @@
 use Rattle.std.proofs.Common.{◌≡◌, ◌≤◌, ◌-◌, ◌+◌, ℕ, List, [], ◌∷◌, ◌++◌, max, codes, refl, sym, subst, arith, append_assoc, append-nil}
 use Rattle.vb_base.specs.declared.labels.Label.{Label}
 use Rattle.boogie_tree.specs.declared.trees.BOp.{BOp}
-use Rattle.boogie_tree.specs.declared.trees.BOp.TheVariants.{Eq, Ne, Lt, Le, Gt, Ge}
+use Rattle.boogie_tree.specs.declared.trees.BOp.TheVariants.{Eq, Ne, Lt, Le, Gt, Ge, Add, Sub}
 use Rattle.boogie_tree.specs.declared.trees.Local.{Local}
 use Rattle.boogie_tree.specs.Tree.{BExpr, Var, Int, Bool, Bin, BStmt, BStmts, Assume, Assert, Either, skip, first, Proc}
 use Rattle.boogie_tree.specs.Text.{Tok, Name, Text, Sign}
@@ -40,6 +40,8 @@ operator_plain Lt n = refl
 operator_plain Le n = refl
 operator_plain Gt n = refl
 operator_plain Ge n = refl
+operator_plain Add n = refl
+operator_plain Sub n = refl
 
 -- a bracket opens, and what is behind it closes it
 opened : (n bound : ℕ) (rest : List Tok) → n ≤ bound → most_open (n + 1) rest ≤ bound → max n (most_open (n + 1) rest) ≤ bound

@@ -16,7 +16,7 @@ use Rattle.vb_base.specs.Names.{is_name_start, is_name_byte, is_name}
 use Rattle.vb_base.specs.Rows.{front}
 use Rattle.vb_base.proofs.RowLaws.{front-append, behind-append}
 use Rattle.boogie_tree.specs.declared.trees.BOp.{BOp}
-use Rattle.boogie_tree.specs.declared.trees.BOp.TheVariants.{Eq, Ne, Lt, Le, Gt, Ge}
+use Rattle.boogie_tree.specs.declared.trees.BOp.TheVariants.{Eq, Ne, Lt, Le, Gt, Ge, Add, Sub}
 use Rattle.boogie_tree.specs.Text.{Tok, Name, Number, Text, Sign, Class, Letter, Digit, class_of, is_blank, is_unquoted, max_literal, Piece, blank, name, number, text, sign, Cut, piece}
 use Rattle.boogie_tree.specs.Grammar.{sign_of}
 
@@ -67,6 +67,8 @@ operator_cut Lt h = piece (sign refl) h
 operator_cut Le h = piece (sign refl) h
 operator_cut Gt h = piece (sign refl) h
 operator_cut Ge h = piece (sign refl) h
+operator_cut Add h = piece (sign refl) h
+operator_cut Sub h = piece (sign refl) h
 
 pub open_cut : {rest : List ℕ} {ts : List Tok} → Cut rest ts → Cut (40 ∷ rest) (Sign (codes "(") ∷ ts)
 open_cut h = piece (sign refl) h

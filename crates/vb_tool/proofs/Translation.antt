@@ -1,5 +1,5 @@
 -- What is written for a program is a translation of it.
-use Rattle.std.proofs.Common.{◌≡◌, ◌∙◌, ◌≤◌, ◌<◌, ◌++◌, ℕ, zero, suc, true, List, [], ◌∷◌, map, length, Some, slice_get, codes, refl, sym, ap, subst, arith, append-nil}
+use Rattle.std.proofs.Common.{◌≡◌, ◌∙◌, ◌≤◌, ◌<◌, ◌+◌, ◌++◌, ℕ, zero, suc, true, List, [], ◌∷◌, map, length, Some, slice_get, codes, refl, sym, ap, subst, arith, append-nil}
 use Rattle.std.specs.List.{list_all}
 use Rattle.std.specs.Option.{option_map}
 use Rattle.std.proofs.lemmas.List.{get_or-map, length-map}
@@ -9,7 +9,6 @@ use Rattle.vb_base.specs.Names.{is_name, is_name_start, is_name_byte, NamesDiffe
 use Rattle.boogie_tree.specs.declared.trees.BBase.TheVariants as base
 use Rattle.boogie_tree.specs.declared.trees.Local.{Local}
 use Rattle.vb_tool.specs.declared.straight.Op.{Op}
-use Rattle.vb_tool.specs.declared.straight.Op.TheVariants.{Eq, Ne, Lt, Le, Gt, Ge}
 use Rattle.vb_tool.specs.Tree as v
 use Rattle.vb_tool.specs.Formed as f
 use Rattle.boogie_tree.specs.Tree as b
@@ -47,12 +46,17 @@ local_there (name ∷ names) (suc x) h = local_there names x (omega (arith, h))
 int_written : (names : List (List ℕ)) {e : v.Expr} → f.IsInt (length names) e → w.IsWritten (map local_of names) (expr_code e)
 int_written names (f.variable {x = x} h) = w.var (local_there names x h).1
 int_written names (f.literal h) = w.int h
+int_written names (f.sum h k) = w.binary (int_written names h) (int_written names k)
+int_written names (f.difference h k) = w.binary (int_written names h) (int_written names k)
 
 bool_written : (names : List (List ℕ)) {e : v.Expr} → f.IsBool (length names) e → w.IsWritten (map local_of names) (expr_code e)
-bool_written names (f.comparison h k) = w.binary (int_written names h) (int_written names k)
+bool_written names (f.comparison compares h k) = w.binary (int_written names h) (int_written names k)
 
 expression : {variables : ℕ} {e : v.Expr} {at start : _} → f.IsStmt variables (v.Assert at (v.Fact e start)) → f.IsBool variables e
-expression (f.assert_ h) = h
+expression (f.assert_ h within) = h
+
+nested : {variables : ℕ} {e : v.Expr} {at start : _} → f.IsStmt variables (v.Assert at (v.Fact e start)) → f.depth e ≤ 1024
+nested (f.assert_ h within) = within
 
 stmts_written : (names : List (List ℕ)) (ss : List v.Stmt) → f.AreStmts (length names) ss → w.WrittenStmts (map local_of names) (b.stmts (map stmt_code ss))
 stmts_written names [] h = w.none
@@ -62,32 +66,33 @@ int_typed : (names : List (List ℕ)) {e : v.Expr} → f.IsInt (length names) e 
 int_typed names (f.variable {x = x} h) =
     let there = local_there names x h in subst (λ t. ty.HasType (map local_of names) (b.Var x) t) there.2 (ty.var there.1)
 int_typed names (f.literal h) = ty.int
+int_typed names (f.sum h k) = ty.binary ty.sum (int_typed names h) (int_typed names k)
+int_typed names (f.difference h k) = ty.binary ty.difference (int_typed names h) (int_typed names k)
 
-takes_ints : (o : Op) → ty.Takes (op_code o) base.Int
-takes_ints Eq = ty.equal
-takes_ints Ne = ty.unequal
-takes_ints Lt = ty.less
-takes_ints Le = ty.at_most
-takes_ints Gt = ty.greater
-takes_ints Ge = ty.at_least
+compares_ints : {o : Op} → f.IsComparison o → ty.Takes (op_code o) base.Int base.Bool
+compares_ints f.equal = ty.equal
+compares_ints f.unequal = ty.unequal
+compares_ints f.less = ty.less
+compares_ints f.at_most = ty.at_most
+compares_ints f.greater = ty.greater
+compares_ints f.at_least = ty.at_least
 
 bool_typed : (names : List (List ℕ)) {e : v.Expr} → f.IsBool (length names) e → ty.HasType (map local_of names) (expr_code e) base.Bool
-bool_typed names (f.comparison {o = o} h k) = ty.binary (takes_ints o) (int_typed names h) (int_typed names k)
+bool_typed names (f.comparison compares h k) = ty.binary (compares_ints compares) (int_typed names h) (int_typed names k)
 
 stmts_typed : (names : List (List ℕ)) (ss : List v.Stmt) → f.AreStmts (length names) ss → ty.TypedStmts (map local_of names) (b.stmts (map stmt_code ss))
 stmts_typed names [] h = ty.none
 stmts_typed names (v.Assert at (v.Fact e start) ∷ ss) h = ty.more (ty.assert_ (bool_typed names (expression h.0))) (stmts_typed names ss h.1)
 
-int_flat : {variables : ℕ} {e : v.Expr} → f.IsInt variables e → n.expr_depth (expr_code e) ≡ 0
-int_flat (f.variable h) = refl
-int_flat (f.literal h) = refl
+-- an expression opens a bracket at each operator
+same_depth : (e : v.Expr) → f.depth e ≡ 1 + n.expr_depth (expr_code e)
+same_depth (v.Var x) = refl
+same_depth (v.Int k) = refl
+same_depth (v.Bin o a c at) = omega (arith, same_depth a, same_depth c)
 
-bool_flat : {variables : ℕ} {e : v.Expr} → f.IsBool variables e → n.expr_depth (expr_code e) ≤ 1
-bool_flat (f.comparison h k) = omega (arith, int_flat h, int_flat k)
-
-stmts_flat : (variables : ℕ) (ss : List v.Stmt) → f.AreStmts variables ss → n.stmts_depth (b.stmts (map stmt_code ss)) ≤ 1
-stmts_flat variables [] h = omega arith
-stmts_flat variables (v.Assert at (v.Fact e start) ∷ ss) h = omega (arith, bool_flat (expression h.0), stmts_flat variables ss h.1)
+stmts_nested : (variables : ℕ) (ss : List v.Stmt) → f.AreStmts variables ss → n.stmts_depth (b.stmts (map stmt_code ss)) ≤ 1023
+stmts_nested variables [] h = omega arith
+stmts_nested variables (v.Assert at (v.Fact e start) ∷ ss) h = omega (arith, same_depth e, nested h.0, stmts_nested variables ss h.1)
 
 same_rest : {x y : ℕ} {xs ys : List ℕ} → x ∷ xs ≡ y ∷ ys → xs ≡ ys
 same_rest h = cc
@@ -132,10 +137,10 @@ methods_typed [] h = tt
 methods_typed (m ∷ ms) h =
     (ty.more (ty.either (stmts_typed m.names m.stmts h.0.stmts) (ty.more (ty.assume_ ty.bool) ty.none)) ty.none, methods_typed ms h.1)
 
-methods_flat : (ms : List v.Method) → f.AreMethods ms → n.AllWithin 2048 (program_code ms)
-methods_flat [] h = n.none
-methods_flat (m ∷ ms) h =
-    let flat = stmts_flat (length m.names) m.stmts h.0.stmts in n.more (omega (arith, flat)) (methods_flat ms h.1)
+methods_nested : (ms : List v.Method) → f.AreMethods ms → n.AllWithin 2048 (program_code ms)
+methods_nested [] h = n.none
+methods_nested (m ∷ ms) h =
+    let within = stmts_nested (length m.names) m.stmts h.0.stmts in n.more (omega (arith, within)) (methods_nested ms h.1)
 
 procedure_names : (ms : List v.Method) → map (λ (p : b.Proc). p.name) (program_code ms) ≡ map (λ (m : v.Method). procedure_name m.name) ms
 procedure_names ms = map-map (λ (p : b.Proc). p.name) method_code ms
@@ -156,7 +161,7 @@ translates program formed =
       boogie = program_code program;
       spelled = spelled;
       only = λ other h. one_program h spelled;
-      brackets = n.most_open-procs spelled.procedures (methods_flat program formed.methods);
+      brackets = n.most_open-procs spelled.procedures (methods_nested program formed.methods);
       typed = methods_typed program formed.methods;
       procedures = procedure_names program;
       front = has_front program;

@@ -1,44 +1,15 @@
 -- What a call of the tool does: when each status comes, and what stands in the sinks afterwards.
-use Rattle.std.specs.Prelude.{◌≡◌, ◌⊎◌, ◌<◌, ◌≤◌, ℕ, List, [], ◌∷◌, length, Option, codes}
-use Rattle.vb_base.specs.declared.places.Pos.{Pos}
+use Rattle.std.specs.Prelude.{◌≡◌, ◌⊎◌, ℕ, List, [], ◌∷◌, Option, codes}
 use Rattle.vb_outer.specs.Faults.{Rose}
 use Rattle.vb_outer.specs.Shelf.{Files, IsMissing, IsFile}
 use Rattle.vb_outer.specs.Sink.{Appends, AppendsPrefix}
-use Rattle.viper_syntax.specs.declared.tokens.LexFault.{LexFault}
-use Rattle.viper_syntax.specs.declared.tokens.Token.{Token}
-use Rattle.viper_syntax.specs.Lexed.{IsLexed, HasFault}
-use Rattle.viper_syntax.specs.Place.{IsPlaceAfter}
-use Rattle.viper_parse.specs.Answers.{IsProgram, place_at}
-use Rattle.viper_parse.specs.Place.{IsPlace}
 use Rattle.vb_tool.specs.Tree as v
-use Rattle.vb_tool.specs.FirstForm.{IsFirstForm}
+use Rattle.vb_tool.specs.Accepted.{Accepts, IsRefusal}
 use Rattle.vb_tool.specs.Status.{line_of}
 use Rattle.vb_tool.specs.Translates.{Translates}
 use Rattle.vb_tool.specs.declared.status.Refusal.{Refusal}
-use Rattle.vb_tool.specs.declared.status.Refusal.TheVariants.{Size, Lex, Syntax, NotYet}
 use Rattle.vb_tool.specs.declared.status.Status.{Status}
 use Rattle.vb_tool.specs.declared.status.Status.TheVariants.{Done, Refused, Usage, ReadFault, WriteFault, NoMemory}
-
--- a file has at most 1,048,576 bytes
-abbrev pub max_file : ℕ
-max_file = 1048576
-
--- the bytes are the text of this program
-pub record Accepts (bytes : List ℕ) (program : v.Program) : Type 0 where
-  pub small : length bytes ≤ max_file
-  pub tokens : List Token
-  pub lexed : IsLexed bytes tokens
-  pub first_form : IsFirstForm tokens program
-
--- The bytes are refused, for the first of these reasons that stands.
-pub data IsRefusal (bytes : List ℕ) : Refusal → Type 0 where
-  size : max_file < length bytes → IsRefusal bytes Size
-  lex : {fault : LexFault} → length bytes ≤ max_file → HasFault bytes fault → IsRefusal bytes (Lex fault)
-  -- the place is that of the first token with which the tokens begin no program, or the end where all of them begin one
-  syntax : {tokens : List Token} {i : ℕ} {end : Pos} → length bytes ≤ max_file → IsLexed bytes tokens → (IsProgram tokens → ⊥) →
-      IsPlace IsProgram tokens i → IsPlaceAfter bytes end → IsRefusal bytes (Syntax (place_at tokens i end))
-  not_yet : {tokens : List Token} → length bytes ≤ max_file → IsLexed bytes tokens → IsProgram tokens →
-      ((program : v.Program) → IsFirstForm tokens program → ⊥) → IsRefusal bytes NotYet
 
 -- the words are `translate` and the name of a file
 pub record Names (words : List (List ℕ)) (name : List ℕ) : Type 0 where

@@ -5,8 +5,8 @@ use Rattle.viper_syntax.specs.declared.tokens.LexFault.{LexFault}
 use Rattle.viper_syntax.specs.declared.tokens.LexFault.TheVariants as lex
 use Rattle.viper_parse.specs.declared.program.ParseFault.{ParseFault}
 use Rattle.viper_parse.specs.declared.program.ParseFault.TheVariants as parse
-use Rattle.vb_tool.specs.declared.reader.Unread.{Unread}
-use Rattle.vb_tool.specs.declared.reader.Unread.TheVariants as unread
+use Rattle.viper_types.specs.declared.faults.TypeFault.{TypeFault}
+use Rattle.viper_types.specs.declared.faults.TypeFault.TheVariants as typed
 use Rattle.vb_tool.specs.declared.status.Refusal.TheVariants as refusal
 use Rattle.vb_tool.specs.declared.trouble.Trouble.{Trouble}
 use Rattle.vb_tool.specs.declared.trouble.Trouble.TheVariants.{Memory, Read, Refused}
@@ -29,6 +29,7 @@ abbrev pub trouble_of_parse : ParseFault → Trouble
 trouble_of_parse parse.Memory = Memory
 trouble_of_parse (parse.Syntax at) = Refused (refusal.Syntax at)
 
-abbrev pub trouble_of_unread : Unread → Trouble
-trouble_of_unread unread.Memory = Memory
-trouble_of_unread unread.Other = Refused refusal.NotYet
+abbrev pub trouble_of_types : TypeFault → Trouble
+trouble_of_types typed.Memory = Memory
+trouble_of_types (typed.Rule at n) = Refused (refusal.Rule at n)
+trouble_of_types (typed.Weight n) = Refused (refusal.Weight n)

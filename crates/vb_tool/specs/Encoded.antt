@@ -32,6 +32,8 @@ op_code v_op.Lt = b_op.Lt
 op_code v_op.Le = b_op.Le
 op_code v_op.Gt = b_op.Gt
 op_code v_op.Ge = b_op.Ge
+op_code v_op.Add = b_op.Add
+op_code v_op.Sub = b_op.Sub
 
 abbrev pub expr_code : v.Expr → b.BExpr
 expr_code (v.Var x) = b.Var x

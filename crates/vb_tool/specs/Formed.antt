@@ -1,22 +1,40 @@
--- Which trees are programs: types and names are right.
-use Rattle.std.specs.Prelude.{ℕ, pos, ◌<◌, ◌≤◌, ◌^◌, ◌-◌, List, [], ◌∷◌, ⊤, length, map, IsTrue}
+-- Which trees are programs: types and names are right, and expressions are not too deep.
+use Rattle.std.specs.Prelude.{ℕ, pos, ◌+◌, ◌<◌, ◌≤◌, ◌^◌, ◌-◌, max, List, [], ◌∷◌, ⊤, length, map, IsTrue}
 use Rattle.std.specs.List.{list_all}
 use Rattle.vb_base.specs.declared.places.Pos.{Pos}
 use Rattle.vb_base.specs.Names.{is_name, NamesDiffer}
 use Rattle.vb_tool.specs.declared.straight.Op.{Op}
+use Rattle.vb_tool.specs.declared.straight.Op.TheVariants.{Eq, Ne, Lt, Le, Gt, Ge, Add, Sub}
 use Rattle.vb_tool.specs.Tree.{Expr, Var, Int, Bin, Fact, Stmt, Assert, Method, Program}
 
 -- an expression of type Int, where so many variables are in scope, all of them Ints
 pub data IsInt (variables : ℕ) : Expr → Type 0 where
   variable : {x : ℕ} → x < variables → IsInt variables (Var x)
   literal : {n : ℕ} → n ≤ 2 ^ 127 - 1 → IsInt variables (Int (pos n))
+  sum : {a b : Expr} {at : Pos} → IsInt variables a → IsInt variables b → IsInt variables (Bin Add a b at)
+  difference : {a b : Expr} {at : Pos} → IsInt variables a → IsInt variables b → IsInt variables (Bin Sub a b at)
+
+-- the operators that compare
+pub data IsComparison : Op → Type 0 where
+  equal : IsComparison Eq
+  unequal : IsComparison Ne
+  less : IsComparison Lt
+  at_most : IsComparison Le
+  greater : IsComparison Gt
+  at_least : IsComparison Ge
 
 -- an expression of type Bool
 pub data IsBool (variables : ℕ) : Expr → Type 0 where
-  comparison : {o : Op} {a b : Expr} {at : Pos} → IsInt variables a → IsInt variables b → IsBool variables (Bin o a b at)
+  comparison : {o : Op} {a b : Expr} {at : Pos} → IsComparison o → IsInt variables a → IsInt variables b → IsBool variables (Bin o a b at)
+
+-- how deep an expression is nested
+abbrev pub depth : Expr → ℕ
+depth (Var x) = 1
+depth (Int n) = 1
+depth (Bin o a b at) = 1 + max (depth a) (depth b)
 
 pub data IsStmt (variables : ℕ) : Stmt → Type 0 where
-  assert_ : {e : Expr} {at start : Pos} → IsBool variables e → IsStmt variables (Assert at (Fact e start))
+  assert_ : {e : Expr} {at start : Pos} → IsBool variables e → depth e ≤ 1024 → IsStmt variables (Assert at (Fact e start))
 
 abbrev pub AreStmts : ℕ → List Stmt → Type 0
 AreStmts variables [] = ⊤

@@ -2,13 +2,13 @@ pub mod Tree
 pub mod View
 pub mod Formed
 pub mod Meaning
+pub mod Straight
 pub mod Examples
 pub mod Encoded
 pub mod Printed
 pub mod Status
 pub mod Translates
-pub mod FirstForm
-pub mod FirstFormRead
 pub mod Converted
+pub mod Accepted
 pub mod Call
 pub mod Parts

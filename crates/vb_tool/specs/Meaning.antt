@@ -1,11 +1,11 @@
 -- What a method does, and at which labels it can fail (Mueller, Schwerhoff, Summers, VMCAI 2016; Parthasarathy and others, PLDI 2024).
-use Rattle.std.specs.Prelude.{◌≡◌, ℕ, ℤ, Bool as Truth, not, List, [], ◌∷◌, Option, Some, None, slice_get, length, if◌then◌else◌}
+use Rattle.std.specs.Prelude.{◌≡◌, ℕ, ℤ, ◌+ℤ◌, ◌-ℤ◌, Bool as Truth, not, List, [], ◌∷◌, Option, Some, None, slice_get, length, if◌then◌else◌}
 use Rattle.std.specs.Ordering.{int_cmp, is_lt, is_le, is_eq, is_gt, is_ge}
 use Rattle.vb_base.specs.declared.labels.Label.{Label}
 use Rattle.vb_base.specs.declared.labels.Kind.TheVariants as kind
 use Rattle.vb_base.specs.declared.places.Pos.{Pos}
 use Rattle.vb_tool.specs.declared.straight.Op.{Op}
-use Rattle.vb_tool.specs.declared.straight.Op.TheVariants.{Eq, Ne, Lt, Le, Gt, Ge}
+use Rattle.vb_tool.specs.declared.straight.Op.TheVariants.{Eq, Ne, Lt, Le, Gt, Ge, Add, Sub}
 use Rattle.vb_tool.specs.Tree as t
 
 -- a value
@@ -33,17 +33,19 @@ pub data Outcome : Type 0 where
   Blocked : Outcome
   Short : Outcome
 
--- whether the comparison holds
-abbrev pub compares : Op → ℤ → ℤ → Truth
-compares Eq x y = is_eq (int_cmp x y)
-compares Ne x y = not (is_eq (int_cmp x y))
-compares Lt x y = is_lt (int_cmp x y)
-compares Le x y = is_le (int_cmp x y)
-compares Gt x y = is_gt (int_cmp x y)
-compares Ge x y = is_ge (int_cmp x y)
+-- whether a comparison of two Ints holds, or their sum or difference, which has no bound
+abbrev pub apply_ints : Op → ℤ → ℤ → Value
+apply_ints Eq x y = Bool (is_eq (int_cmp x y))
+apply_ints Ne x y = Bool (not (is_eq (int_cmp x y)))
+apply_ints Lt x y = Bool (is_lt (int_cmp x y))
+apply_ints Le x y = Bool (is_le (int_cmp x y))
+apply_ints Gt x y = Bool (is_gt (int_cmp x y))
+apply_ints Ge x y = Bool (is_ge (int_cmp x y))
+apply_ints Add x y = Int (x +ℤ y)
+apply_ints Sub x y = Int (x -ℤ y)
 
 abbrev pub apply : Op → Value → Value → Evaluated
-apply o (Int x) (Int y) = Is (Bool (compares o x y))
+apply o (Int x) (Int y) = Is (apply_ints o x y)
 apply o (Int x) (Bool b) = Blocks
 apply o (Bool a) v = Blocks
 

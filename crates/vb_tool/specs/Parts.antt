@@ -4,7 +4,7 @@ use Rattle.std.specs.declared.alloc.Global.{Global}
 use Rattle.vb_outer.specs.Faults.{Rose}
 use Rattle.vb_outer.specs.Sink.{Appends, AppendsPrefix}
 use Rattle.vb_tool.specs.Tree as v
-use Rattle.vb_tool.specs.Call.{Accepts}
+use Rattle.vb_tool.specs.Accepted.{Accepts}
 use Rattle.vb_tool.specs.Status.{line_of}
 use Rattle.vb_tool.specs.Translates.{Translates}
 use Rattle.vb_tool.specs.declared.status.Refusal.{Refusal}

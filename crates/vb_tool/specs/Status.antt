@@ -1,9 +1,10 @@
 -- The numbers of statuses, and the lines that go to the error stream.
 use Rattle.std.specs.Prelude.{◌++◌, ℕ, List, [], codes}
+use Rattle.std.specs.Fmt.{decimal}
 use Rattle.vb_base.specs.Labels.{place_text}
 use Rattle.viper_syntax.specs.declared.tokens.LexFault.TheVariants.{BadByte, OpenComment, BigLiteral, Braces, LongGroup, Unsupported, Memory}
 use Rattle.vb_tool.specs.declared.status.Refusal.{Refusal}
-use Rattle.vb_tool.specs.declared.status.Refusal.TheVariants.{Size, Lex, Syntax, NotYet}
+use Rattle.vb_tool.specs.declared.status.Refusal.TheVariants.{Size, Lex, Syntax, Rule, Weight, NotYet}
 use Rattle.vb_tool.specs.declared.status.Status.{Status}
 use Rattle.vb_tool.specs.declared.status.Status.TheVariants.{Done, Refused, Usage, ReadFault, WriteFault, NoMemory}
 
@@ -26,6 +27,8 @@ refusal_text (Lex (LongGroup at)) = codes "long-group " ++ place_text at
 refusal_text (Lex (Unsupported at)) = codes "unsupported " ++ place_text at
 refusal_text (Lex Memory) = codes "memory"
 refusal_text (Syntax at) = codes "syntax " ++ place_text at
+refusal_text (Rule at n) = codes "type " ++ place_text at ++ codes " rule " ++ decimal n
+refusal_text (Weight n) = codes "weight " ++ decimal n
 refusal_text NotYet = codes "not-yet"
 
 -- one line, or nothing where the status writes none

@@ -6,19 +6,21 @@ ghost use Rattle.vb_outer.specs.Shelf.{IsMissing, IsFile};
 ghost use Rattle.vb_outer.specs.Sink.{Appends, AppendsPrefix};
 ghost use Rattle.vb_tool.specs.Tree as v;
 ghost use Rattle.vb_tool.specs.Status.{line_of};
-ghost use Rattle.vb_tool.specs.Call.{Accepts, IsRefusal, Names, IsNoCommand, Unreadable, NamedFile, IsCause, Translation, EndsAs, OutAfter, ErrAfter, Causes};
+ghost use Rattle.vb_tool.specs.Accepted.{Accepts, IsRefusal};
+ghost use Rattle.vb_tool.specs.Call.{Names, IsNoCommand, Unreadable, NamedFile, IsCause, Translation, EndsAs, OutAfter, ErrAfter, Causes};
 ghost use Rattle.vb_tool.specs.Parts.{Reports, Delivers, TranslationOf, GivesRefusal, GivesText};
 ghost use Rattle.vb_tool.specs.Translates.{Translates};
 
 use crate::encoder::encode;
 use crate::printer::print;
-use crate::reader::first_form;
 use crate::status::{Refusal, Status, line};
+use crate::straight_program::straight_program;
 use crate::trouble::Trouble;
 use std::alloc::Global;
 use vb_outer::{Shelf, Sink, read_file, write_all};
 use viper_parse::parse;
 use viper_syntax::{lex, place_after};
+use viper_types::check;
 
 /// A Viper file has at most so many bytes.
 pub const MAX_FILE: usize = 1_048_576;
@@ -92,7 +94,7 @@ fn translation<H: Shelf>(alloc: Global, shelf: &mut H, name: &str) -> Result<Vec
     translated(alloc, &bytes)
 }
 
-/// The translation of a file's bytes.
+/// The translation of a file's bytes. Bytes have one answer, so what is answered where they are refused or accepted follows.
 fn translated(alloc: Global, bytes: &[u8]) -> Result<Vec<u8>, Trouble>
     requires { length bytes.now ≤ 1048576 }
     ensures text { IfOk result (λ text. TranslationOf bytes.now text.items) }
@@ -101,10 +103,22 @@ fn translated(alloc: Global, bytes: &[u8]) -> Result<Vec<u8>, Trouble>
     ensures refused { (r : Refusal) → IsRefusal bytes.now r → GivesRefusal r result }
     ensures accepted { (program : v.Program) → Accepts bytes.now program → GivesText result }
 {
+    stages(alloc, bytes)
+}
+
+/// The stages of a translation, each of which may refuse the file.
+fn stages(alloc: Global, bytes: &[u8]) -> Result<Vec<u8>, Trouble>
+    requires { length bytes.now ≤ 1048576 }
+    ensures text { IfOk result (λ text. TranslationOf bytes.now text.items) }
+    ensures refusal { (r : Refusal) → IsErrOf result (Trouble.Refused r) → IsRefusal bytes.now r }
+    ensures read { IsErrOf result Trouble.Read → ⊥ }
+{
     let tokens = lex(alloc, bytes)?;
-    // The first form is read from the tokens: what counts here is that they spell a program.
-    parse(alloc, &tokens, place_after(bytes))?;
-    let program = first_form(alloc, &tokens)?;
+    let source = parse(alloc, &tokens, place_after(bytes))?;
+    let typed = check(alloc, &source)?;
+    let Some(program) = straight_program(alloc, &typed)? else {
+        return Err(Trouble::Refused(Refusal::NotYet));
+    };
     let boogie = encode(alloc, &program)?;
     Ok(print(alloc, &boogie)?)
 }

@@ -113,5 +113,7 @@ fn operator(op: Op) -> BOp
         Op::Le => BOp::Le,
         Op::Gt => BOp::Gt,
         Op::Ge => BOp::Ge,
+        Op::Add => BOp::Add,
+        Op::Sub => BOp::Sub,
     }
 }

@@ -7,12 +7,18 @@ mod command;
 mod encoder;
 mod laws;
 mod printer;
-mod reader;
+#[cfg(test)]
+mod rule_tests;
 mod status;
 mod straight;
+mod straight_program;
+#[cfg(test)]
+mod straight_tests;
 #[cfg(test)]
 mod tests;
 mod trouble;
+#[cfg(test)]
+mod weight_tests;
 
 use command::tool;
 use status::Status;

@@ -134,6 +134,8 @@ fn operator_text(op: BOp) -> &'static [u8]
         BOp::Le => b"<=",
         BOp::Gt => b">",
         BOp::Ge => b">=",
+        BOp::Add => b"+",
+        BOp::Sub => b"-",
     }
 }
 

@@ -18,7 +18,11 @@ pub enum Refusal {
     /// Its tokens spell no program. The place is that of the first token with which they begin none, or the end of the
     /// file where all of them begin one.
     Syntax(Pos),
-    /// Its tokens spell a program, but none of the first form, which is all that is translated today.
+    /// Its program breaks the rule of this number at this place, and none before it.
+    Rule(Pos, u32),
+    /// Its program is well-typed and weighs more than 100,000; the weight is told as 100,001.
+    Weight(u64),
+    /// Its program is accepted, and has a form that is not translated yet.
     NotYet,
 }
 
@@ -73,6 +77,8 @@ impl fmt::Display for Refusal {
             Refusal::Lex(LexFault::Unsupported(at)) => write!(f, "unsupported {at}"),
             Refusal::Lex(LexFault::Memory) => f.write_str("memory"),
             Refusal::Syntax(at) => write!(f, "syntax {at}"),
+            Refusal::Rule(at, rule) => write!(f, "type {at} rule {rule}"),
+            Refusal::Weight(weight) => write!(f, "weight {weight}"),
             Refusal::NotYet => f.write_str("not-yet"),
         }
     }

@@ -3,7 +3,7 @@
 
 use vb_base::{Ident, Pos};
 
-/// A binary operator on two Ints; its value is a Bool.
+/// A binary operator on two Ints: a comparison, whose value is a Bool, or a sum or difference.
 #[derive(Clone, Copy, Debug, PartialEq, Eq)]
 pub enum Op {
     Eq,
@@ -12,6 +12,8 @@ pub enum Op {
     Le,
     Gt,
     Ge,
+    Add,
+    Sub,
 }
 
 /// An expression.

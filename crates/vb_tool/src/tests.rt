@@ -4,11 +4,9 @@ ghost use Rattle.std.specs.Prelude.{◌≤◌};
 use crate::command::tool;
 use crate::status::Status;
 use boogie_tree::PRELUDE;
-use sparse::Sparse;
 use std::alloc::{AllocError, Global};
 use std::test::Fail;
 use vb_outer::{MemFile, MemShelf, MemSink};
-use vb_value::{Frac, Key, KeyPart};
 
 /// A shelf with one file, `file.vpr`.
 fn shelf_with(alloc: Global, text: &[u8], failing: &[u64]) -> Result<MemShelf, AllocError> {
@@ -29,7 +27,7 @@ fn words_of(alloc: Global, words: &[&str]) -> Result<Vec<String>, AllocError> {
 }
 
 /// The status of `translate` on a file with this text, and what stands in the output and in the errors.
-fn translated(alloc: Global, text: &[u8]) -> Result<(u8, Vec<u8>, Vec<u8>), Fail> {
+pub(crate) fn translated(alloc: Global, text: &[u8]) -> Result<(u8, Vec<u8>, Vec<u8>), Fail> {
     let words = words_of(alloc, &["translate", "file.vpr"])?;
     let mut shelf = shelf_with(alloc, text, &[])?;
     let mut out = MemSink::make(alloc, Vec::new(alloc), 4096)?;
@@ -42,16 +40,13 @@ fn translated(alloc: Global, text: &[u8]) -> Result<(u8, Vec<u8>, Vec<u8>), Fail
     ))
 }
 
-/// `method m(p100: Int, p101: Int, ..) { assert 0 < 1 }` with so many parameters, and so 4 * count + 9 tokens.
-fn with_parameters(alloc: Global, count: u32) -> Result<Vec<u8>, AllocError> {
-    let mut text = b"method m(p100: Int".to_vec(alloc)?;
-    for i in 1..count {
-        text.extend_from_slice(format!(in alloc;
-            ", p{}: Int",
-            100_u64 + u64::from(i)
-        )?.as_bytes())?;
+/// `method m() {`, so many lines `assert true`, and `}`. Each line weighs 2, and the method 1.
+fn with_asserts(alloc: Global, count: usize) -> Result<Vec<u8>, AllocError> {
+    let mut text = b"method m() {\n".to_vec(alloc)?;
+    for _ in 0..count {
+        text.extend_from_slice(b"assert true\n")?;
     }
-    text.extend_from_slice(b") { assert 0 < 1 }")?;
+    text.push(b'}')?;
     Ok(text)
 }
 
@@ -64,9 +59,9 @@ fn with_negations(alloc: Global, count: usize) -> Result<Vec<u8>, AllocError> {
 }
 
 #[test]
-fn a_file_of_the_first_form_is_translated(rt: HostRuntime) -> Result<(), Fail> {
+fn a_straight_program_is_translated(rt: HostRuntime) -> Result<(), Fail> {
     let alloc = rt.alloc();
-    let rows: [(&[u8], &[u8]); 7] = [
+    let rows: [(&[u8], &[u8]); 8] = [
         (b"", b""),
         (b" // nothing\n", b""),
         (
@@ -86,6 +81,10 @@ fn a_file_of_the_first_form_is_translated(rt: HostRuntime) -> Result<(), Fail> {
             b"procedure M$$a'() {\nvar v$b'': int;\nvar v$$: int;\nif (*) {\nassert {:msg \"1:32 1:39 false\"} (v$b'' != v$$);\n} else {\nassume false;\n}\n}\n",
         ),
         (
+            b"method m(x: Int, y: Int) { assert x + 1 - y < 3; assert 0 == x - (y - 2) } method n() { }",
+            b"procedure M$m() {\nvar v$x: int;\nvar v$y: int;\nif (*) {\nassert {:msg \"1:28 1:35 false\"} (((v$x + 1) - v$y) < 3);\nassert {:msg \"1:50 1:57 false\"} (0 == (v$x - (v$y - 2)));\n} else {\nassume false;\n}\n}\nprocedure M$n() {\nif (*) {\n} else {\nassume false;\n}\n}\n",
+        ),
+        (
             b"method procedure(havoc: Int, real: Int) { assert havoc <= real }",
             b"procedure M$procedure() {\nvar v$havoc: int;\nvar v$real: int;\nif (*) {\nassert {:msg \"1:43 1:50 false\"} (v$havoc <= v$real);\n} else {\nassume false;\n}\n}\n",
         ),
@@ -102,15 +101,16 @@ fn a_file_of_the_first_form_is_translated(rt: HostRuntime) -> Result<(), Fail> {
 #[test]
 fn another_file_is_refused_by_one_line(rt: HostRuntime) -> Result<(), Fail> {
     let alloc = rt.alloc();
-    let rows: [(&[u8], &[u8]); 15] = [
+    let rows: [(&[u8], &[u8]); 16] = [
         (b"method m() { assert true }", b"error: not-yet\n"),
         (b"field f: Int", b"error: not-yet\n"),
         (
             b"method m(x: Int, x: Int) { assert x < 3 }",
-            b"error: not-yet\n",
+            b"error: type 1:18 rule 2\n",
         ),
         (b"method method() { assert 1 < 2 }", b"error: syntax 1:8\n"),
-        (b"method m() { assert x < 3 }", b"error: not-yet\n"),
+        (b"method m() { assert x < 3 }", b"error: type 1:21 rule 1\n"),
+        (b"method m(x: Int) { x := 1 }", b"error: type 1:20 rule 8\n"),
         (
             b"method m(x: Int,) { assert x < 3 }",
             b"error: syntax 1:17\n",
@@ -118,8 +118,8 @@ fn another_file_is_refused_by_one_line(rt: HostRuntime) -> Result<(), Fail> {
         // All of the tokens begin a program, and the text ends.
         (b"method m() { assert true", b"error: syntax 1:25\n"),
         (
-            b"method m() { assert 1 < 2 } method n() { assert 1 < 2 }",
-            b"error: not-yet\n",
+            b"method m() { assert 1 < 2 } method m() { assert 1 < 2 }",
+            b"error: type 1:36 rule 2\n",
         ),
         (
             b"method m() { assert 0 < 170141183460469231731687303715884105728 }",
@@ -147,7 +147,7 @@ fn another_file_is_refused_by_one_line(rt: HostRuntime) -> Result<(), Fail> {
 }
 
 #[test]
-fn long_files_are_refused_from_the_first_byte_or_token_too_many(
+fn long_files_are_refused_from_the_first_byte_or_node_too_many(
     rt: HostRuntime,
 ) -> Result<(), Fail> {
     let alloc = rt.alloc();
@@ -157,8 +157,8 @@ fn long_files_are_refused_from_the_first_byte_or_token_too_many(
     let too_long_group = with_negations(alloc, 1024)?;
     let blanks = vec![in alloc; b' '; 1_048_576]?;
     let more_blanks = vec![in alloc; b' '; 1_048_577]?;
-    let most_tokens = with_parameters(alloc, 247)?;
-    let too_many_tokens = with_parameters(alloc, 248)?;
+    let heaviest = with_asserts(alloc, 49_999)?;
+    let too_heavy = with_asserts(alloc, 50_000)?;
     let rows: [(&Vec<u8>, u8, &[u8]); 8] = [
         (&most_braces, 1, b"error: syntax 1:1\n"),
         (&too_many_braces, 1, b"error: braces 1:129\n"),
@@ -166,8 +166,8 @@ fn long_files_are_refused_from_the_first_byte_or_token_too_many(
         (&too_long_group, 1, b"error: long-group 1:1045\n"),
         (&blanks, 0, b""),
         (&more_blanks, 1, b"error: size\n"),
-        (&most_tokens, 0, b""),
-        (&too_many_tokens, 1, b"error: not-yet\n"),
+        (&heaviest, 1, b"error: not-yet\n"),
+        (&too_heavy, 1, b"error: weight 100001\n"),
     ];
     for (text, number, line) in rows {
         let (status, _, err) = translated(alloc, text)?;
@@ -225,37 +225,5 @@ fn a_device_that_fails_is_reported(rt: HostRuntime) -> Result<(), Fail> {
         assert_eq!(rt; out.written(), &PRELUDE[..count]);
         assert_eq!(rt; err.written(), line);
     }
-    Ok(())
-}
-
-/// A mask of instances, after one with these arguments is held in this amount.
-fn held(mask: &mut Sparse<Key, Frac>, arguments: Key, amount: Frac) -> Result<(), sparse::Memory> {
-    mask.set(arguments, amount)
-}
-
-fn copied(mask: &Sparse<Key, Frac>) -> Result<Sparse<Key, Frac>, sparse::Memory> {
-    mask.copy()
-}
-
-#[test]
-fn a_mask_is_a_map_from_keys_to_fractions(rt: HostRuntime) -> Result<(), Fail> {
-    let alloc = rt.alloc();
-    let none = Frac::make(0, 1).expect(&rt, "0 is a fraction");
-    let half = Frac::make(1, 2).expect(&rt, "1/2 is a fraction");
-    let one = Key {
-        parts: vec![in alloc; KeyPart::Int(1), KeyPart::Bool(true)]?,
-    };
-    let two = Key {
-        parts: vec![in alloc; KeyPart::Int(2)]?,
-    };
-    let mut mask = Sparse::make(alloc, none)?;
-    held(&mut mask, two.clone()?, half)?;
-    held(&mut mask, one.clone()?, half)?;
-    let kept = copied(&mask)?;
-    held(&mut mask, two.clone()?, none)?;
-    assert!(rt; *mask.get(&one) == half && *mask.get(&two) == none);
-    assert!(rt; *kept.get(&one) == half && *kept.get(&two) == half);
-    assert_eq!(rt; (mask.len(), kept.len()), (1, 2));
-    assert!(rt; *kept.key_at(0) == one);
     Ok(())
 }

@@ -2,14 +2,14 @@
 ghost use Rattle.std.specs.Prelude.{◌≡◌};
 ghost use Rattle.vb_tool.specs.declared.trouble.Trouble.TheVariants as trouble;
 ghost use Rattle.vb_tool.specs.declared.status.Refusal.TheVariants as refusal;
-ghost use Rattle.vb_tool.specs.Converted.{trouble_of_file, trouble_of_lex, trouble_of_parse, trouble_of_unread};
+ghost use Rattle.vb_tool.specs.Converted.{trouble_of_file, trouble_of_lex, trouble_of_parse, trouble_of_types};
 
-use crate::reader::Unread;
 use crate::status::Refusal;
 use vb_base::Memory;
 use vb_outer::FileFault;
 use viper_parse::ParseFault;
 use viper_syntax::LexFault;
+use viper_types::TypeFault;
 
 /// Why a named file gave no text.
 #[derive(Clone, Copy, Debug, PartialEq, Eq)]
@@ -62,13 +62,14 @@ impl From<ParseFault> for Trouble {
     }
 }
 
-impl From<Unread> for Trouble {
-    ghost from_gives = { λ fault e. e ≡ trouble_of_unread fault };
+impl From<TypeFault> for Trouble {
+    ghost from_gives = { λ fault e. e ≡ trouble_of_types fault };
 
-    fn from(fault: Unread) -> Trouble {
+    fn from(fault: TypeFault) -> Trouble {
         match fault {
-            Unread::Memory => Trouble::Memory,
-            Unread::Other => Trouble::Refused(Refusal::NotYet),
+            TypeFault::Memory => Trouble::Memory,
+            TypeFault::Rule(at, rule) => Trouble::Refused(Refusal::Rule(at, rule)),
+            TypeFault::Weight(weight) => Trouble::Refused(Refusal::Weight(weight)),
         }
     }
 }

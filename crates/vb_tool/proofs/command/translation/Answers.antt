@@ -1,6 +1,6 @@
 use Rattle.std.proofs.Common.{◌≡◌, ap, sym, ◌∙◌, subst, Err}
 use Rattle.std.proofs.lemmas.Result.{err_from_is_err_and}
-use Rattle.vb_tool.specs.Call.{Accepts}
+use Rattle.vb_tool.specs.Accepted.{Accepts}
 use Rattle.vb_tool.proofs.CallLaws.{file_refusal, one_file, error_is}
 use Rattle.vb_tool.proofs.command.translation.Goals as goal
 

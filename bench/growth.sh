@@ -1,0 +1,38 @@
+#!/usr/bin/env bash
+# How the time of `translate` grows with the length of the file: blanks, one comment, tokens of one byte each with a blank
+# behind, which are refused at the first; fields with names of their own; a method of variables; and a method of asserts.
+# Each line has the kind of text, its bytes, and the least of five times in milliseconds, the start of the process included.
+set -eu
+top=$(dirname "$(readlink -f "$0")")/..
+folder=$(mktemp -d)
+trap 'rm -r "$folder"' EXIT
+
+write_text() { # KIND BYTES
+    case $1 in
+        blanks) head -c "$2" /dev/zero | tr '\0' ' ' ;;
+        comment) printf '/*'; head -c "$(($2 - 4))" /dev/zero | tr '\0' 'x'; printf '*/' ;;
+        tokens) yes '; ' | tr -d '\n' | head -c "$2" || true ;;
+        fields) seq -f 'field f%.0f: Int' "$(($2 / 18))" ;;
+        asserts) printf 'method m() {\n'; yes 'assert true' | head -c "$((($2 - 16) / 12 * 12))" || true; printf '}' ;;
+        variables) printf 'method m() {\n'; seq -f 'var v%.0f: Int' "$(($2 / 16))"; printf '}' ;;
+    esac >"$folder/text.vpr"
+}
+
+least_of_five() {
+    least=
+    for _ in 1 2 3 4 5; do
+        begin=$(date +%s%N)
+        "$top/remduska" translate "$folder/text.vpr" >/dev/null 2>&1 || true
+        took=$((($(date +%s%N) - begin) / 1000))
+        if [ -z "$least" ] || [ "$took" -lt "$least" ]; then least=$took; fi
+    done
+    printf '%d.%d' "$((least / 1000))" "$((least % 1000 / 100))"
+}
+
+printf '%-9s %9s %9s\n' text bytes ms
+for kind in blanks comment tokens fields variables asserts; do
+    for bytes in 131072 262144 524288 1048576; do
+        write_text "$kind" "$bytes"
+        printf '%-9s %9d %9s\n' "$kind" "$(wc -c <"$folder/text.vpr")" "$(least_of_five)"
+    done
+done

@@ -1,0 +1,186 @@
+-- Bytes are a program, or are refused for one reason.
+use Rattle.std.proofs.Common.{◌≡◌, ◌∙◌, ◌<◌, ◌≤◌, ◌-◌, ◌^◌, ℕ, List, [], ◌∷◌, length, Some, None, Result, Ok, Err, Vec, IfOk, refl, sym, ap, subst, arith}
+use Rattle.std.specs.declared.alloc.Global.{Global}
+use Rattle.std.proofs.lemmas.List.{length-drop}
+use Rattle.vb_base.specs.declared.places.Pos.{Pos}
+use Rattle.vb_base.proofs.Place.{same_pos}
+use Rattle.viper_syntax.specs.declared.tokens.LexFault.{LexFault}
+use Rattle.viper_syntax.specs.declared.tokens.LexFault.TheVariants as lex
+use Rattle.viper_syntax.specs.declared.tokens.Token.{Token}
+use Rattle.viper_syntax.specs.Decl as d
+use Rattle.viper_syntax.specs.Piece.{Skipped, Unclosed, Taken}
+use Rattle.viper_syntax.specs.Cut.{IsCut, end, piece}
+use Rattle.viper_syntax.specs.Lexed.{IsLexed, HasFault}
+use Rattle.viper_syntax.specs.Place.{IsPlaceAfter}
+use Rattle.viper_syntax.specs.Step.{UnlessMemory}
+use Rattle.viper_syntax.proofs.CutLaws.{longest_some}
+use Rattle.viper_syntax.proofs.LexLaws.{one_lexed, one_fault, lexed_or_faulty}
+use Rattle.viper_parse.specs.Answers.{IsProgram as Spelled, place_at, Gives as GivesTree, Refuses}
+use Rattle.viper_parse.specs.Place.{IsPlace}
+use Rattle.viper_parse.specs.Spells.{Spells}
+use Rattle.viper_parse.specs.declared.program.ParseFault.{ParseFault}
+use Rattle.viper_parse.specs.declared.program.ParseFault.TheVariants as parse
+use Rattle.viper_parse.proofs.Parsed.{one_program as one_spelled}
+use Rattle.viper_parse.proofs.Places.{one_place}
+use Rattle.viper_core.specs.Program as p
+use Rattle.viper_core.specs.Weight.{weight}
+use Rattle.viper_types.specs.Checked.{Stops}
+use Rattle.viper_types.specs.Outcome.{faults_of}
+use Rattle.viper_types.specs.Program.{IsProgram}
+use Rattle.viper_types.specs.ProgramWalk.{walk_program}
+use Rattle.viper_types.specs.declared.faults.TypeFault.{TypeFault}
+use Rattle.viper_types.specs.declared.faults.TypeFault.TheVariants as typed
+use Rattle.viper_types.proofs.ProgramFinds.{one_program_of}
+use Rattle.viper_types.proofs.ProgramLaws.{typed_exactly_without_faults}
+use Rattle.vb_tool.specs.Tree as v
+use Rattle.vb_tool.specs.Accepted.{IsAccepted, Accepts, IsTreeRefusal, rule, heavy, not_yet, IsTokenRefusal, syntax, of_tree, IsRefusal, size, lex as bad_lex, of_tokens}
+use Rattle.vb_tool.specs.Converted.{trouble_of_lex, trouble_of_parse, trouble_of_types}
+use Rattle.vb_tool.specs.Parts.{TranslationOf, GivesRefusal, GivesText}
+use Rattle.vb_tool.specs.Straight.{straight_of}
+use Rattle.vb_tool.specs.declared.status.Refusal.{Refusal}
+use Rattle.vb_tool.specs.declared.status.Refusal.TheVariants as refusal
+use Rattle.vb_tool.specs.declared.trouble.Trouble.{Trouble}
+use Rattle.vb_tool.specs.declared.trouble.Trouble.TheVariants as trouble
+
+-- ---- each reason excludes every other
+
+-- the refusal for the first of some broken rules
+abbrev for_first : List (Pos × ℕ) → Refusal
+for_first [] = refusal.NotYet
+for_first (f ∷ fs) = refusal.Rule f.0 f.1
+
+no_faults : {source : d.SourceProgram} {q : p.Program} → IsProgram source q → faults_of (walk_program source) ≡ []
+no_faults {source} {q} h = (typed_exactly_without_faults source).1 (q, h)
+
+not_faulty : {X : Type 0} {x : X} {xs ys : List X} → ys ≡ x ∷ xs → ys ≡ [] → ⊥
+not_faulty e f = let same = sym e ∙ f in absurd (cc)
+
+not_both : {source : d.SourceProgram} {q r : p.Program} → IsProgram source q → IsProgram source r → 100000 < weight q → weight r ≤ 100000 → ⊥
+not_both h i above below = omega (arith, above, below, ap weight (one_program_of h i))
+
+one_tree_refusal : {source : d.SourceProgram} {r q : Refusal} → IsTreeRefusal source r → IsTreeRefusal source q → r ≡ q
+one_tree_refusal (rule e) (rule f) = ap for_first (sym e ∙ f)
+one_tree_refusal (rule e) (heavy h above) = absurd (not_faulty e (no_faults h))
+one_tree_refusal (rule e) (not_yet h below other) = absurd (not_faulty e (no_faults h))
+one_tree_refusal (heavy h above) (rule e) = absurd (not_faulty e (no_faults h))
+one_tree_refusal (heavy h above) (heavy i also) = refl
+one_tree_refusal (heavy h above) (not_yet i below other) = absurd (not_both h i above below)
+one_tree_refusal (not_yet h below other) (rule e) = absurd (not_faulty e (no_faults h))
+one_tree_refusal (not_yet h below other) (heavy i above) = absurd (not_both i h above below)
+one_tree_refusal (not_yet h below other) (not_yet i also another) = refl
+
+same_end : {bytes : List ℕ} {a b : Pos} → IsPlaceAfter bytes a → IsPlaceAfter bytes b → a ≡ b
+same_end {a = a} {b = b} h i = same_pos a b (h.line ∙ sym i.line) (h.col ∙ sym i.col)
+
+same_place : (ts : List Token) (i j : ℕ) (a b : Pos) → IsPlace Spelled ts i → IsPlace Spelled ts j → a ≡ b → place_at ts i a ≡ place_at ts j b
+same_place ts i j a b h k same = ap (λ n. place_at ts n a) (one_place Spelled ts i j h k) ∙ ap (place_at ts j) same
+
+one_token_refusal : {bytes : List ℕ} {tokens : List Token} {r q : Refusal} → IsTokenRefusal bytes tokens r → IsTokenRefusal bytes tokens q → r ≡ q
+one_token_refusal {tokens = ts} (syntax {i = i} {end = a} none h after) (syntax {i = j} {end = b} also k last) =
+    ap (λ at. refusal.Syntax at) (same_place ts i j a b h k (same_end after last))
+one_token_refusal (syntax none h after) (of_tree spelled is) = absurd (none (_, spelled))
+one_token_refusal (of_tree spelled is) (syntax none h after) = absurd (none (_, spelled))
+one_token_refusal {tokens = ts} {q = q} (of_tree {source = s} spelled is) (of_tree {source = t} also other) =
+    one_tree_refusal is (subst (λ x. IsTreeRefusal x q) (one_spelled ts t s also spelled) other)
+
+-- bytes are refused for one reason
+pub one_refusal : {bytes : List ℕ} {r q : Refusal} → IsRefusal bytes r → IsRefusal bytes q → r ≡ q
+one_refusal (size above) (size also) = refl
+one_refusal (size above) (bad_lex small is) = absurd (omega (arith, above, small))
+one_refusal (size above) (of_tokens small lexed is) = absurd (omega (arith, above, small))
+one_refusal (bad_lex small is) (size above) = absurd (omega (arith, above, small))
+one_refusal {bytes} (bad_lex {fault = e} small is) (bad_lex {fault = f} also other) = ap (λ x. refusal.Lex x) (one_fault bytes e f is other)
+one_refusal {bytes} (bad_lex {fault = e} small is) (of_tokens {tokens = ts} also lexed other) = absurd (lexed_or_faulty bytes ts e lexed is)
+one_refusal (of_tokens small lexed is) (size above) = absurd (omega (arith, above, small))
+one_refusal {bytes} (of_tokens {tokens = ts} small lexed is) (bad_lex {fault = e} also other) = absurd (lexed_or_faulty bytes ts e lexed other)
+one_refusal {bytes} {r} {q} (of_tokens {tokens = ts} small lexed is) (of_tokens {tokens = us} also cut other) =
+    one_token_refusal is (subst (λ x. IsTokenRefusal bytes x q) (one_lexed bytes us ts cut lexed) other)
+
+accepted_tree : {source : d.SourceProgram} {q : p.Program} {program : v.Program} {r : Refusal} → IsProgram source q → weight q ≤ 100000 → straight_of q ≡ Some program → IsTreeRefusal source r → ⊥
+accepted_tree h below is (rule e) = not_faulty e (no_faults h)
+accepted_tree h below is (heavy i above) = not_both i h above below
+accepted_tree {program = program} h below is (not_yet i also other) = let same : Some program ≡ None = sym is ∙ ap straight_of (one_program_of h i) ∙ other in absurd (cc)
+
+accepted_tokens : {bytes : List ℕ} {tokens : List Token} {source : d.SourceProgram} {q : p.Program} {program : v.Program} {r : Refusal} → Spells tokens source → IsProgram source q → weight q ≤ 100000 →
+    straight_of q ≡ Some program → IsTokenRefusal bytes tokens r → ⊥
+accepted_tokens spelled h below is (syntax none place after) = none (_, spelled)
+accepted_tokens {tokens = ts} {source = s} {r = r} spelled h below is (of_tree {source = t} also other) =
+    accepted_tree h below is (subst (λ x. IsTreeRefusal x r) (one_spelled ts t s also spelled) other)
+
+-- and not refused where they are a program that is translated
+pub accepted_not_refused : {bytes : List ℕ} {program : v.Program} {r : Refusal} → Accepts bytes program → IsRefusal bytes r → ⊥
+accepted_not_refused h (size above) = omega (arith, above, h.accepted.small)
+accepted_not_refused {bytes} h (bad_lex {fault = e} small is) = lexed_or_faulty bytes h.accepted.tokens e h.accepted.lexed is
+accepted_not_refused {bytes} {r = r} h (of_tokens {tokens = ts} small lexed is) =
+    let a = h.accepted in
+    accepted_tokens a.spelled a.is_typed a.light h.straight (subst (λ x. IsTokenRefusal bytes x r) (one_lexed bytes ts a.tokens lexed a.lexed) is)
+
+-- bytes are one typed program at most
+pub one_accepted : {bytes : List ℕ} {q r : p.Program} → IsAccepted bytes q → IsAccepted bytes r → q ≡ r
+one_accepted {bytes} {r = r} h i =
+    let tokens = one_lexed bytes i.tokens h.tokens i.lexed h.lexed in
+    let source = one_spelled h.tokens i.source h.source (subst (λ ts. Spells ts i.source) tokens i.spelled) h.spelled in
+    one_program_of h.is_typed (subst (λ s. IsProgram s r) source i.is_typed)
+
+-- so one direction of an answer gives the other
+
+module _ (bytes : List ℕ) where
+  pub refused_by_one : (result : Result (Vec ℕ Global) Trouble) → IfOk result (λ t. TranslationOf bytes t.items) → ((r : Refusal) → result ≡ Err (trouble.Refused r) → IsRefusal bytes r) →
+      (r : Refusal) → IsRefusal bytes r → GivesRefusal r result
+  refused_by_one (Ok t) text why r is = accepted_not_refused text.accepted is
+  refused_by_one (Err trouble.Memory) text why r is = tt
+  refused_by_one (Err trouble.Read) text why r is = tt
+  refused_by_one (Err (trouble.Refused q)) text why r is = one_refusal (why q refl) is
+
+  pub accepted_by_one : (result : Result (Vec ℕ Global) Trouble) → ((r : Refusal) → result ≡ Err (trouble.Refused r) → IsRefusal bytes r) →
+      (program : v.Program) → Accepts bytes program → GivesText result
+  accepted_by_one (Ok t) why program is = tt
+  accepted_by_one (Err trouble.Memory) why program is = tt
+  accepted_by_one (Err trouble.Read) why program is = tt
+  accepted_by_one (Err (trouble.Refused q)) why program is = accepted_not_refused is (why q refl)
+
+-- ---- the refusal of each stage
+
+pub lex_refusal : (bytes : List ℕ) (fault : LexFault) (r : Refusal) → length bytes ≤ 1048576 → UnlessMemory (HasFault bytes) fault → trouble_of_lex fault ≡ trouble.Refused r → IsRefusal bytes r
+lex_refusal bytes (lex.BadByte at) r small is is_r = let same : refusal.Lex (lex.BadByte at) ≡ r = cc in subst (IsRefusal bytes) same (bad_lex small is)
+lex_refusal bytes (lex.OpenComment at) r small is is_r = let same : refusal.Lex (lex.OpenComment at) ≡ r = cc in subst (IsRefusal bytes) same (bad_lex small is)
+lex_refusal bytes (lex.BigLiteral at) r small is is_r = let same : refusal.Lex (lex.BigLiteral at) ≡ r = cc in subst (IsRefusal bytes) same (bad_lex small is)
+lex_refusal bytes (lex.Braces at) r small is is_r = let same : refusal.Lex (lex.Braces at) ≡ r = cc in subst (IsRefusal bytes) same (bad_lex small is)
+lex_refusal bytes (lex.LongGroup at) r small is is_r = let same : refusal.Lex (lex.LongGroup at) ≡ r = cc in subst (IsRefusal bytes) same (bad_lex small is)
+lex_refusal bytes (lex.Unsupported at) r small is is_r = let same : refusal.Lex (lex.Unsupported at) ≡ r = cc in subst (IsRefusal bytes) same (bad_lex small is)
+lex_refusal bytes lex.Memory r small is is_r = absurd (cc)
+
+pub parse_refusal : (bytes : List ℕ) (tokens : List Token) (last : Pos) (fault : ParseFault) (r : Refusal) → length bytes ≤ 1048576 → IsLexed bytes tokens → IsPlaceAfter bytes last →
+    ((q : d.SourceProgram) → Spells tokens q → GivesTree (Err fault) q) → Refuses (Err fault) tokens last → trouble_of_parse fault ≡ trouble.Refused r → IsRefusal bytes r
+parse_refusal bytes tokens last parse.Memory r small lexed after only there is_r = absurd (cc)
+parse_refusal bytes tokens last (parse.Syntax at) r small lexed after only there is_r =
+    let same : refusal.Syntax (place_at tokens there.0 last) ≡ r = ap (λ x. refusal.Syntax x) (sym there.2) ∙ cc in
+    subst (IsRefusal bytes) same (of_tokens small lexed (syntax (λ x. only x.0 x.1) there.1 after))
+
+pub type_refusal : (bytes : List ℕ) (tokens : List Token) (source : d.SourceProgram) (fault : TypeFault) (r : Refusal) → length bytes ≤ 1048576 → IsLexed bytes tokens → Spells tokens source →
+    Stops source fault → trouble_of_types fault ≡ trouble.Refused r → IsRefusal bytes r
+type_refusal bytes tokens source typed.Memory r small lexed spelled why is_r = absurd (cc)
+type_refusal bytes tokens source (typed.Rule at n) r small lexed spelled why is_r =
+    let same : refusal.Rule at n ≡ r = cc in
+    subst (IsRefusal bytes) same (of_tokens small lexed (of_tree spelled (rule why.1)))
+type_refusal bytes tokens source (typed.Weight n) r small lexed spelled why is_r =
+    let same : refusal.Weight 100001 ≡ r = ap (λ x. refusal.Weight x) (sym why.2) ∙ cc in
+    subst (IsRefusal bytes) same (of_tokens small lexed (of_tree spelled (heavy why.1 why.3)))
+
+pub form_refusal : (bytes : List ℕ) (tokens : List Token) (source : d.SourceProgram) (q : p.Program) (r : Refusal) → length bytes ≤ 1048576 → IsLexed bytes tokens → Spells tokens source → IsProgram source q →
+    weight q ≤ 100000 → straight_of q ≡ None → trouble.Refused refusal.NotYet ≡ trouble.Refused r → IsRefusal bytes r
+form_refusal bytes tokens source q r small lexed spelled is below other is_r =
+    let same : refusal.NotYet ≡ r = cc in
+    subst (IsRefusal bytes) same (of_tokens small lexed (of_tree spelled (not_yet is below other)))
+
+-- ---- a text has no more tokens than bytes
+
+tokens_few : {before rest : List ℕ} {ts : List Token} → IsCut before rest ts → length ts ≤ length rest
+tokens_few end = omega arith
+tokens_few (piece {rest = rest} {n = n} {p = Skipped} l s at c) = let h = tokens_few c in let k = length-drop n rest in omega arith
+tokens_few (piece {p = Unclosed} l s at c) = absurd s
+tokens_few (piece {rest = rest} {n = n} {p = Taken x} l s at c) =
+    let h = tokens_few c in let k = length-drop n rest in let some = longest_some l in let within = l.within in omega arith
+
+pub few_tokens : {bytes : List ℕ} {ts : List Token} → length bytes ≤ 1048576 → IsLexed bytes ts → length ts < 2 ^ 32
+few_tokens small lexed = let h = tokens_few lexed.cut in omega (arith, h, small)
