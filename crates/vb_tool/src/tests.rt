@@ -61,7 +61,7 @@ fn with_negations(alloc: Global, count: usize) -> Result<Vec<u8>, AllocError> {
 #[test]
 fn a_straight_program_is_translated(rt: HostRuntime) -> Result<(), Fail> {
     let alloc = rt.alloc();
-    let rows: [(&[u8], &[u8]); 8] = [
+    let rows: [(&[u8], &[u8]); 9] = [
         (b"", b""),
         (b" // nothing\n", b""),
         (
@@ -85,6 +85,10 @@ fn a_straight_program_is_translated(rt: HostRuntime) -> Result<(), Fail> {
             b"procedure M$m() {\nvar v$x: int;\nvar v$y: int;\nif (*) {\nassert {:msg \"1:28 1:35 false\"} (((v$x + 1) - v$y) < 3);\nassert {:msg \"1:50 1:57 false\"} (0 == (v$x - (v$y - 2)));\n} else {\nassume false;\n}\n}\nprocedure M$n() {\nif (*) {\n} else {\nassume false;\n}\n}\n",
         ),
         (
+            b"method m(x: Int) { assert x + 170141183460469231731687303715884105727 > 0 }",
+            b"procedure M$m() {\nvar v$x: int;\nif (*) {\nassert {:msg \"1:20 1:27 false\"} ((v$x + 170141183460469231731687303715884105727) > 0);\n} else {\nassume false;\n}\n}\n",
+        ),
+        (
             b"method procedure(havoc: Int, real: Int) { assert havoc <= real }",
             b"procedure M$procedure() {\nvar v$havoc: int;\nvar v$real: int;\nif (*) {\nassert {:msg \"1:43 1:50 false\"} (v$havoc <= v$real);\n} else {\nassume false;\n}\n}\n",
         ),
@@ -101,7 +105,7 @@ fn a_straight_program_is_translated(rt: HostRuntime) -> Result<(), Fail> {
 #[test]
 fn another_file_is_refused_by_one_line(rt: HostRuntime) -> Result<(), Fail> {
     let alloc = rt.alloc();
-    let rows: [(&[u8], &[u8]); 16] = [
+    let rows: [(&[u8], &[u8]); 35] = [
         (b"method m() { assert true }", b"error: not-yet\n"),
         (b"field f: Int", b"error: not-yet\n"),
         (
@@ -115,8 +119,34 @@ fn another_file_is_refused_by_one_line(rt: HostRuntime) -> Result<(), Fail> {
             b"method m(x: Int,) { assert x < 3 }",
             b"error: syntax 1:17\n",
         ),
+        (b"method m() { assert x + }", b"error: syntax 1:25\n"),
+        (b"field f Int", b"error: syntax 1:9\n"),
+        (b"method m() requires x == 1 y", b"error: syntax 1:28\n"),
         // All of the tokens begin a program, and the text ends.
         (b"method m() { assert true", b"error: syntax 1:25\n"),
+        // A file that is cut after each of its first twelve tokens. After the seventh it is a method without a body.
+        (b"method", b"error: syntax 1:7\n"),
+        (b"method m", b"error: syntax 1:9\n"),
+        (b"method m(", b"error: syntax 1:10\n"),
+        (b"method m(x", b"error: syntax 1:11\n"),
+        (b"method m(x:", b"error: syntax 1:12\n"),
+        (b"method m(x: Int", b"error: syntax 1:16\n"),
+        (b"method m(x: Int)", b"error: not-yet\n"),
+        (b"method m(x: Int) {", b"error: syntax 1:19\n"),
+        (b"method m(x: Int) { assert", b"error: syntax 1:26\n"),
+        (b"method m(x: Int) { assert x", b"error: syntax 1:28\n"),
+        (b"method m(x: Int) { assert x <", b"error: syntax 1:30\n"),
+        (b"method m(x: Int) { assert x < 3", b"error: syntax 1:32\n"),
+        (b"field f: Int field f: Int", b"error: type 1:20 rule 2\n"),
+        (b"method m() { assert 1 }", b"error: type 1:21 rule 3\n"),
+        (
+            b"method m(x: Ref) { fold P(x) }",
+            b"error: type 1:25 rule 1\n",
+        ),
+        (
+            b"method m(x: Int) { assert x + 170141183460469231731687303715884105728 > 0 }",
+            b"error: big-literal 1:31\n",
+        ),
         (
             b"method m() { assert 1 < 2 } method m() { assert 1 < 2 }",
             b"error: type 1:36 rule 2\n",
