@@ -114,7 +114,7 @@ leaf_kept (Leaf v) h g = g v h.values
 leaf_kept tree.Unit h g = blocks_kept
 leaf_kept (Pair c d) h g = blocks_kept
 
-pair_kept : {X : Type 0} {P : X → Type 0} (c : Content) {go : Content → Content → Evaluated X} → IsWithinContent c → ((x y : Content) → IsWithinContent x → IsWithinContent y → Keeps P (go x y)) → Keeps P (with_pair c go)
+pub pair_kept : {X : Type 0} {P : X → Type 0} (c : Content) {go : Content → Content → Evaluated X} → IsWithinContent c → ((x y : Content) → IsWithinContent x → IsWithinContent y → Keeps P (go x y)) → Keeps P (with_pair c go)
 pair_kept (Pair x y) h g =
     let left = left_within x y h in
     let right = right_within x y h in
@@ -249,11 +249,11 @@ front_within (Some x) (Some xs) h g = All-cons IsWithinPart x xs h g
 front_within (Some x) None h g = tt
 front_within None xs h g = tt
 
-key_within : (vs : List Value) → All IsWithinValue vs → IfSome (key_of vs) IsWithinKey
+pub key_within : (vs : List Value) → All IsWithinValue vs → IfSome (key_of vs) IsWithinKey
 key_within [] h = All-nil IsWithinPart
 key_within (v ∷ vs) h = front_within (key_part v) (key_of vs) (part_within v (All-head IsWithinValue v vs h)) (key_within vs (All-tail IsWithinValue v vs h))
 
-taken_kept : (sc : Scene) (s : State) (p : ℕ) (key : Key) (q : Fraction) (at : Pos) → IsWithinState s → IsWithinKey key → Keeps IsWithinState (taken Bounded sc s p key q at)
+pub taken_kept : (sc : Scene) (s : State) (p : ℕ) (key : Key) (q : Fraction) (at : Pos) → IsWithinState s → IsWithinKey key → Keeps IsWithinState (taken Bounded sc s p key q at)
 taken_kept sc s p key q at h k =
     unless_kept (not (is_positive q)) (fails_kept sc at kind.Amount) (found_kept (amount_at s p key) (amount_at_within s p key h) (λ held i.
     then_kept (tested_kept (fits_order held q) at (is_lt (order held q))) (λ less u. unless_kept less (fails_kept sc at kind.Perm) (
@@ -315,7 +315,7 @@ mutual
       then_kept (taken_kept sc s p key q at h k) (λ less l. found_kept (content_at s p key) (content_at_within s p key h) (λ c m.
       then_kept (opened_kept body c less sc q w.2 m l g) (λ copy n. value_kept inner copy sc w.3 n g)))))))
 
-  values_kept : (es : t.Exprs) (s : State) (sc : Scene) → AreWithinExprs es → IsWithinState s → IsWithinScene sc → Keeps (All IsWithinValue) (values Bounded es s sc)
+  pub values_kept : (es : t.Exprs) (s : State) (sc : Scene) → AreWithinExprs es → IsWithinState s → IsWithinScene sc → Keeps (All IsWithinValue) (values Bounded es s sc)
   values_kept t.none s sc w h g = is_kept (All-nil IsWithinValue)
   values_kept (t.more a rest) s sc w h g = then_kept (value_kept a s sc w.0 h g) (λ v p. then_kept (values_kept rest s sc w.1 h g) (λ vs q. is_kept (All-cons IsWithinValue v vs p q)))
 

@@ -1,3 +1,4 @@
 pub mod BoundLaws
 pub mod ResultLaws
 pub mod KeptLaws
+pub mod PlainLaws

@@ -16,6 +16,13 @@ pub data End (X : Type 0) : Type 0 where
 pub data Evaluated (X : Type 0) : Type 0 where
   ends : List Event → End X → Evaluated X
 
+abbrev pub events_of : {X : Type 0} → Evaluated X → List Event
+events_of (ends events end) = events
+
+-- the end without what is recorded on the way
+abbrev pub the_end : {X : Type 0} → Evaluated X → End X
+the_end (ends events end) = end
+
 -- With no bound a number may be of any size, and a content too. Within the bound a number has magnitude at most 2^127 - 1,
 -- and a content at most 4,096 nodes; what leaves it is Over.
 pub data Bound : Type 0 where

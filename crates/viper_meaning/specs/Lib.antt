@@ -4,4 +4,5 @@ pub mod Places
 pub mod Value
 pub mod Compared
 pub mod Literals
+pub mod Plain
 pub mod Kept

@@ -1,6 +1,6 @@
 //! Laws of the definitions, each as the contract of a function that does nothing.
 
-ghost use Rattle.std.specs.Prelude.{List};
+ghost use Rattle.std.specs.Prelude.{◌≡◌, List, []};
 ghost use Rattle.vb_value.specs.Content.{Content, IsWithinContent};
 ghost use Rattle.vb_value.specs.Fraction.{Fraction};
 ghost use Rattle.vb_value.specs.Value.{IsWithinValue};
@@ -8,11 +8,12 @@ ghost use Rattle.viper_core.specs.Expr as t;
 ghost use Rattle.viper_state.specs.State.{State};
 ghost use Rattle.viper_state.specs.Run.{Scene};
 ghost use Rattle.viper_state.specs.Within.{IsWithinState, IsWithinScene};
-ghost use Rattle.viper_meaning.specs.Ends.{Unbounded, Bounded};
+ghost use Rattle.viper_meaning.specs.Ends.{Bound, Unbounded, Bounded, events_of};
 ghost use Rattle.viper_meaning.specs.Value.{value, opened};
 ghost use Rattle.viper_meaning.specs.Compared.{IsBoundedBy};
 ghost use Rattle.viper_meaning.specs.Literals.{IsWithinExpr, IsWithinAssertion};
 ghost use Rattle.viper_meaning.specs.Kept.{Keeps};
+ghost use Rattle.viper_meaning.specs.Plain.{OpensNothing};
 
 /// What is computed within the bound and is not Over is what is computed without it, with the same events.
 pub fn the_bound_changes_nothing_else()
@@ -27,4 +28,9 @@ pub fn what_is_within_stays_within()
         → Keeps IsWithinValue (value Bounded e s sc) }
     ensures opened { (a : t.Assertion) (c : Content) (s : State) (sc : Scene) (k : Fraction) → IsWithinAssertion a
         → IsWithinContent c → IsWithinState s → IsWithinScene sc → Keeps IsWithinState (opened Bounded a c s sc k) }
+{}
+
+/// Only an `unfolding` records events.
+pub fn only_unfolding_records()
+    ensures { (b : Bound) (e : t.Expr) (s : State) (sc : Scene) → OpensNothing e → events_of (value b e s sc) ≡ [] }
 {}
