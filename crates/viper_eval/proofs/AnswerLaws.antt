@@ -1,0 +1,276 @@
+-- The ways to go on with an answer, one lemma for each.
+use Rattle.std.proofs.Common.{◌≡◌, refl, sym, ap, ◌∙◌, subst, Bool, true, false, Option, Some, None, List, [], ◌∷◌, ◌++◌, append_assoc, Result, Ok, Err, IsErrAnd, ℕ, if◌then◌else◌}
+use Rattle.std.specs.Option.{ok_or, option_map}
+use Rattle.std.proofs.lemmas.List.{append-nil}
+use Rattle.std.proofs.lemmas.Result.{err_from_is_err_and}
+use Rattle.vb_value.specs.Content.{Content, Leaf, Pair}
+use Rattle.vb_value.specs.Content as tree
+use Rattle.vb_value.specs.Fraction.{Fraction}
+use Rattle.vb_value.specs.declared.values.Value.{Value}
+use Rattle.vb_value.specs.declared.values.Value.TheVariants.{Int, Bool as Truth, Ref, Perm}
+use Rattle.vb_base.specs.declared.places.Pos.{Pos}
+use Rattle.viper_state.specs.Event.{Event}
+use Rattle.viper_state.specs.Event as event
+use Rattle.viper_meaning.specs.Ends.{Evaluated, End, ends, Is, Fails, Blocked, Over, is, after, then_with, with_found, unless, recorded, fitting, Bounded}
+use Rattle.viper_meaning.specs.Operators.{with_truth, with_perm}
+use Rattle.viper_meaning.specs.Places.{with_ref, with_unit, with_leaf, with_pair}
+use Rattle.viper_eval.specs.Answers.{Answers, no_memory, goes, stops, stopped}
+use Rattle.viper_eval.specs.Steps.{halves}
+use Rattle.viper_eval.specs.declared.answers.Stop.{Stop}
+use Rattle.viper_eval.specs.declared.answers.Stop.TheVariants as stop
+use Rattle.viper_eval.specs.declared.answers.Halt.{Halt}
+use Rattle.viper_eval.specs.declared.answers.Halt.TheVariants as halt
+
+abbrev stopping : {X : Type 0} → Stop → Evaluated X
+stopping w = ends [] (stopped w)
+
+-- ---- events
+
+pub after_after : {X : Type 0} (b m : List Event) (e : Evaluated X) → after b (after m e) ≡ after (b ++ m) e
+after_after b m (ends events end) = ap (λ es. ends es end) (sym (append_assoc b m events))
+
+after_none : {X : Type 0} (b : List Event) (end : End X) → after b (ends [] end) ≡ ends b end
+after_none b end = ap (λ es. ends es end) (append-nil b)
+
+pub nothing_first : {X : Type 0} (e : Evaluated X) → after [] e ≡ e
+nothing_first (ends events end) = refl
+
+pub then_after : {X Y : Type 0} (b m : List Event) (e : Evaluated X) (x : X) (go : X → Evaluated Y) → after b e ≡ ends m (Is x) → after b (then_with e go) ≡ after m (go x)
+then_after b m (ends events (Is y)) x go h =
+    let front : b ++ events ≡ m = cc in
+    let value : y ≡ x = cc in
+    after_after b events (go y) ∙ ap (λ es. after es (go y)) front ∙ ap (λ z. after m (go z)) value
+then_after b m (ends events (Fails l)) x go h = cc
+then_after b m (ends events Blocked) x go h = cc
+then_after b m (ends events (Over at)) x go h = cc
+
+then_stopped : {X Y : Type 0} (b s : List Event) (e : Evaluated X) (w : Stop) (go : X → Evaluated Y) → after b e ≡ ends s (stopped w) → after b (then_with e go) ≡ ends s (stopped w)
+then_stopped b s (ends events (Is y)) (stop.Fails l) go h = cc
+then_stopped b s (ends events (Is y)) stop.Blocked go h = cc
+then_stopped b s (ends events (Is y)) (stop.Over at) go h = cc
+then_stopped b s (ends events (Fails k)) (stop.Fails l) go h = cc
+then_stopped b s (ends events (Fails k)) stop.Blocked go h = cc
+then_stopped b s (ends events (Fails k)) (stop.Over at) go h = cc
+then_stopped b s (ends events Blocked) (stop.Fails l) go h = cc
+then_stopped b s (ends events Blocked) stop.Blocked go h = cc
+then_stopped b s (ends events Blocked) (stop.Over at) go h = cc
+then_stopped b s (ends events (Over p)) (stop.Fails l) go h = cc
+then_stopped b s (ends events (Over p)) stop.Blocked go h = cc
+then_stopped b s (ends events (Over p)) (stop.Over at) go h = cc
+
+-- ---- what an answer says
+
+pub the_value : {X Y : Type 0} {v : X → Y} {b s : List Event} {e : Evaluated Y} {x : X} → Answers v b e s (Ok x) → after b e ≡ ends s (Is (v x))
+the_value (goes h) = h
+
+pub answers_at : {X Y : Type 0} {v : X → Y} {b c s : List Event} {e f : Evaluated Y} {r : Result X Halt} → after b e ≡ after c f → Answers v c f s r → Answers v b e s r
+answers_at same no_memory = no_memory
+answers_at same (goes h) = goes (same ∙ h)
+answers_at same (stops h) = stops (same ∙ h)
+
+-- an answer that a `?` hands on
+pub passed : {X Y : Type 0} {v : X → Y} {b s : List Event} {e : Evaluated Y} (r : Result X Halt) (w : Halt) → IsErrAnd r (λ h. h ≡ w) → Answers v b e s (Err w) → Answers v b e s r
+passed {v = v} {b = b} {s = s} {e = e} r w given h =
+    let p = err_from_is_err_and r given in
+    subst (λ q. Answers v b e s q) (sym (p.1 ∙ ap Err p.2)) h
+
+-- ---- going on
+
+pub goes_then : {X Y Z W : Type 0} {v : X → Y} {u : Z → W} {b m s : List Event} {e : Evaluated Y} (go : Y → Evaluated W) {x : X} {r : Result Z Halt} →
+    Answers v b e m (Ok x) → Answers u m (go (v x)) s r → Answers u b (then_with e go) s r
+goes_then {b = b} {m = m} {e = e} go (goes h) = answers_at (then_after b m e _ go h)
+
+pub stops_then : {X Y Z W : Type 0} {v : X → Y} {u : Z → W} {b s : List Event} {e : Evaluated Y} (go : Y → Evaluated W) {w : Halt} → Answers v b e s (Err w) → Answers u b (then_with e go) s (Err w)
+stops_then go no_memory = no_memory
+stops_then {b = b} {s = s} {e = e} go (stops {w = w} h) = stops (then_stopped b s e w go h)
+
+pub same_answers : {X Y : Type 0} {v : X → Y} {b s : List Event} {e f : Evaluated Y} {r : Result X Halt} → e ≡ f → Answers v b f s r → Answers v b e s r
+same_answers {b = b} same = answers_at (ap (after b) same)
+
+pub recorded_then : {X Y : Type 0} {v : X → Y} {b m s : List Event} (event : Event) {e : Evaluated Y} {r : Result X Halt} → m ≡ b ++ event ∷ [] → Answers v m e s r → Answers v b (recorded event e) s r
+recorded_then {b = b} event {e = e} same = answers_at (after_after b (event ∷ []) e ∙ ap (λ es. after es e) (sym same))
+
+-- the same of steps that record nothing
+
+pub ends_with : {X Z : Type 0} {u : Z → X} {b : List Event} {e : Evaluated X} (z : Z) → is (u z) ≡ e → Answers u b e b (Ok z)
+ends_with {u = u} {b = b} z h = goes (ap (after b) (sym h) ∙ after_none b (Is (u z)))
+
+pub ends_is : {X Z : Type 0} {u : Z → X} {b : List Event} (y : X) (z : Z) → u z ≡ y → Answers u b (is y) b (Ok z)
+ends_is y z h = ends_with z (ap is h)
+
+pub stops_with : {Z W : Type 0} {u : Z → W} {b : List Event} {e : Evaluated W} (w : Stop) → ends [] (stopped w) ≡ e → Answers u b e b (Err (halt.Stops w))
+stops_with {b = b} w h = stops (ap (after b) (sym h) ∙ after_none b (stopped w))
+
+pub calm_then : {X Z W : Type 0} {u : Z → W} {b s : List Event} {e : Evaluated X} (go : X → Evaluated W) {x : X} {r : Result Z Halt} → is x ≡ e → Answers u b (go x) s r → Answers u b (then_with e go) s r
+calm_then {b = b} go {x = x} h = answers_at (ap (λ f. after b (then_with f go)) (sym h) ∙ ap (after b) (nothing_first (go x)))
+
+stopping_then : {X Y : Type 0} (w : Stop) (go : X → Evaluated Y) → ends [] (stopped w) ≡ then_with (stopping w) go
+stopping_then (stop.Fails l) go = refl
+stopping_then stop.Blocked go = refl
+stopping_then (stop.Over at) go = refl
+
+pub calm_stop : {X Z W : Type 0} {u : Z → W} {b : List Event} {e : Evaluated X} (go : X → Evaluated W) (w : Stop) → stopping {X = X} w ≡ e → Answers u b (then_with e go) b (Err (halt.Stops w))
+calm_stop {X = X} {b = b} go w h = answers_at (ap (λ f. after b (then_with f go)) (sym h)) (stops_with w (stopping_then w go))
+
+-- tests
+
+pub unless_not : {X Y : Type 0} {v : X → Y} {b s : List Event} (t : Bool) (i e : Evaluated Y) {r : Result X Halt} → t ≡ false → Answers v b e s r → Answers v b (unless t i e) s r
+unless_not {v = v} {b = b} {s = s} t i e {r = r} same h = subst (λ a. Answers v b (unless a i e) s r) (sym same) h
+
+pub unless_so : {X Y : Type 0} {v : X → Y} {b s : List Event} (t : Bool) (i e : Evaluated Y) {r : Result X Halt} → t ≡ true → Answers v b i s r → Answers v b (unless t i e) s r
+unless_so {v = v} {b = b} {s = s} t i e {r = r} same h = subst (λ a. Answers v b (unless a i e) s r) (sym same) h
+
+pub if_so : {X Y : Type 0} {v : X → Y} {b s : List Event} (t : Bool) (i e : Evaluated Y) {r : Result X Halt} → t ≡ true → Answers v b i s r → Answers v b (if t then i else e) s r
+if_so {v = v} {b = b} {s = s} t i e {r = r} same h = subst (λ a. Answers v b (if a then i else e) s r) (sym same) h
+
+pub if_not : {X Y : Type 0} {v : X → Y} {b s : List Event} (t : Bool) (i e : Evaluated Y) {r : Result X Halt} → t ≡ false → Answers v b e s r → Answers v b (if t then i else e) s r
+if_not {v = v} {b = b} {s = s} t i e {r = r} same h = subst (λ a. Answers v b (if a then i else e) s r) (sym same) h
+
+-- what there is
+
+found_value : {X : Type 0} (o : Option X) (w : Stop) (x : X) → Ok x ≡ ok_or o w → o ≡ Some x
+found_value (Some y) w x h = cc
+found_value None w x h = cc
+
+found_stop : {X : Type 0} (o : Option X) (w y : Stop) → Err y ≡ ok_or o w → (o ≡ None) × (y ≡ w)
+found_stop (Some x) w y h = cc
+found_stop None w y h = (refl, cc)
+
+pub found_then : {X Z W : Type 0} {u : Z → W} {b s : List Event} (o f : Option X) (w : Stop) (go : X → Evaluated W) (x : X) {r : Result Z Halt} → f ≡ o → Ok x ≡ ok_or f w → Answers u b (go x) s r → Answers u b (with_found o go) s r
+found_then {u = u} {b = b} {s = s} o f w go x {r = r} same there h = subst (λ p. Answers u b (with_found p go) s r) (sym (found_value f w x there) ∙ same) h
+
+pub found_stops : {X Z W : Type 0} {u : Z → W} {b : List Event} (o f : Option X) (go : X → Evaluated W) (y : Stop) → f ≡ o → Err y ≡ ok_or f stop.Blocked → Answers u b (with_found o go) b (Err (halt.Stops y))
+found_stops {u = u} {b = b} o f go y same there =
+    let gone = found_stop f stop.Blocked y there in
+    stops_with y (rw (gone.1, sym same ∙ gone.0) refl)
+
+-- the same of what is found through a view
+pub found_as : {Q X Z W : Type 0} {u : Z → W} {b s : List Event} (o : Option X) (view : Q → X) (p : Option Q) (q : Q) (go : X → Evaluated W) {r : Result Z Halt} →
+    option_map view p ≡ o → p ≡ Some q → Answers u b (go (view q)) s r → Answers u b (with_found o go) s r
+found_as {u = u} {b = b} {s = s} o view p q go {r = r} same there h =
+    subst (λ x. Answers u b (with_found x go) s r) (ap (option_map view) (sym there) ∙ same) h
+
+pub found_as_stops : {Q X Z W : Type 0} {u : Z → W} {b : List Event} (o : Option X) (view : Q → X) (p : Option Q) (go : X → Evaluated W) (y : Stop) →
+    option_map view p ≡ o → Err y ≡ ok_or p stop.Blocked → Answers u b (with_found o go) b (Err (halt.Stops y))
+found_as_stops {u = u} {b = b} o view p go y same there =
+    let gone = found_stop p stop.Blocked y there in
+    stops_with y (rw (gone.1, sym same ∙ ap (option_map view) gone.0) refl)
+
+pub found_first : {X Y Z : Type 0} (o : Option X) (f : X → Evaluated Y) (go : Y → Evaluated Z) → with_found o (λ x. then_with (f x) go) ≡ then_with (with_found o f) go
+found_first (Some x) f go = refl
+found_first None f go = refl
+
+-- values and contents of one kind
+
+pub truth_way : {X : Type 0} (v : Value) (go : Bool → Evaluated X) → with_truth v go ≡ then_with (with_truth v is) go
+truth_way (Truth b) go = sym (nothing_first (go b))
+truth_way (Int n) go = refl
+truth_way (Ref r) go = refl
+truth_way (Perm q) go = refl
+
+pub perm_way : {X : Type 0} (v : Value) (go : Fraction → Evaluated X) → with_perm v go ≡ then_with (with_perm v is) go
+perm_way (Perm q) go = sym (nothing_first (go q))
+perm_way (Int n) go = refl
+perm_way (Truth b) go = refl
+perm_way (Ref r) go = refl
+
+pub ref_way : {X : Type 0} (v : Value) (go : ℕ → Evaluated X) → with_ref v go ≡ then_with (with_ref v is) go
+ref_way (Ref r) go = sym (nothing_first (go r))
+ref_way (Int n) go = refl
+ref_way (Truth b) go = refl
+ref_way (Perm q) go = refl
+
+pub found_way : {X Y : Type 0} (o : Option X) (go : X → Evaluated Y) → with_found o go ≡ then_with (with_found o is) go
+found_way (Some x) go = sym (nothing_first (go x))
+found_way None go = refl
+
+pub leaf_way : {X : Type 0} (c : Content) (go : Value → Evaluated X) → with_leaf c go ≡ then_with (with_leaf c is) go
+leaf_way (Leaf v) go = sym (nothing_first (go v))
+leaf_way tree.Unit go = refl
+leaf_way (Pair x y) go = refl
+
+pub unit_way : {X : Type 0} (c : Content) (go : Evaluated X) → with_unit c go ≡ then_with (with_unit c (is (tt {0}))) (λ n. go)
+unit_way tree.Unit go = sym (nothing_first go)
+unit_way (Leaf v) go = refl
+unit_way (Pair x y) go = refl
+
+pub pair_way : {X : Type 0} (c : Content) (go : Content → Content → Evaluated X) → with_pair c go ≡ then_with (halves c) (λ p. go p.0 p.1)
+pair_way (Pair x y) go = refl
+pair_way tree.Unit go = refl
+pair_way (Leaf v) go = refl
+
+pub then_same : {X Y : Type 0} (e : Evaluated X) (f g : X → Evaluated Y) → ((x : X) → f x ≡ g x) → then_with e f ≡ then_with e g
+then_same e f g h = λ i. then_with e (λ x. h x i)
+
+pub then_is : {X : Type 0} (e : Evaluated X) → then_with e (λ x. is x) ≡ e
+then_is (ends events (Is x)) = ap (λ es. ends es (Is x)) (append-nil events)
+then_is (ends events (Fails l)) = refl
+then_is (ends events Blocked) = refl
+then_is (ends events (Over at)) = refl
+
+after_then : {X Y : Type 0} (es : List Event) (e : Evaluated X) (go : X → Evaluated Y) → then_with (after es e) go ≡ after es (then_with e go)
+after_then es (ends events (Is x)) go = sym (after_after es events (go x))
+after_then es (ends events (Fails l)) go = refl
+after_then es (ends events Blocked) go = refl
+after_then es (ends events (Over at)) go = refl
+
+pub then_then : {X Y Z : Type 0} (e : Evaluated X) (f : X → Evaluated Y) (go : Y → Evaluated Z) → then_with (then_with e f) go ≡ then_with e (λ x. then_with (f x) go)
+then_then (ends events (Is x)) f go = after_then events (f x) go
+then_then (ends events (Fails l)) f go = refl
+then_then (ends events Blocked) f go = refl
+then_then (ends events (Over at)) f go = refl
+
+-- the same, where the value of one kind is asked for first
+
+module _ {W : Type 0} (e : Evaluated Value) where
+  truth_first : (go : Bool → Evaluated W) → then_with e (λ v. with_truth v go) ≡ then_with (then_with e (λ v. with_truth v is)) go
+  truth_first go = then_same e _ _ (λ v. truth_way v go) ∙ sym (then_then e (λ v. with_truth v is) go)
+
+  perm_first : (go : Fraction → Evaluated W) → then_with e (λ v. with_perm v go) ≡ then_with (then_with e (λ v. with_perm v is)) go
+  perm_first go = then_same e _ _ (λ v. perm_way v go) ∙ sym (then_then e (λ v. with_perm v is) go)
+
+  ref_first : (go : ℕ → Evaluated W) → then_with e (λ v. with_ref v go) ≡ then_with (then_with e (λ v. with_ref v is)) go
+  ref_first go = then_same e _ _ (λ v. ref_way v go) ∙ sym (then_then e (λ v. with_ref v is) go)
+
+module _ {Z W : Type 0} {u : Z → W} {b n : List Event} (e : Evaluated Value) where
+  pub truth_goes : (go : Bool → Evaluated W) {m : List Event} {x : Bool} {r : Result Z Halt} → Answers (λ x. x) b (then_with e (λ v. with_truth v is)) m (Ok x) → Answers u m (go x) n r → Answers u b (then_with e (λ v. with_truth v go)) n r
+  truth_goes go h k = same_answers (truth_first e go) (goes_then go h k)
+
+  pub truth_stops : (go : Bool → Evaluated W) {w : Halt} → Answers {X = Bool} (λ x. x) b (then_with e (λ v. with_truth v is)) n (Err w) → Answers u b (then_with e (λ v. with_truth v go)) n (Err w)
+  truth_stops go h = same_answers (truth_first e go) (stops_then go h)
+
+  pub perm_goes : (go : Fraction → Evaluated W) {m : List Event} {x : Fraction} {r : Result Z Halt} → Answers (λ x. x) b (then_with e (λ v. with_perm v is)) m (Ok x) → Answers u m (go x) n r → Answers u b (then_with e (λ v. with_perm v go)) n r
+  perm_goes go h k = same_answers (perm_first e go) (goes_then go h k)
+
+  pub perm_stops : (go : Fraction → Evaluated W) {w : Halt} → Answers {X = Fraction} (λ x. x) b (then_with e (λ v. with_perm v is)) n (Err w) → Answers u b (then_with e (λ v. with_perm v go)) n (Err w)
+  perm_stops go h = same_answers (perm_first e go) (stops_then go h)
+
+  pub ref_goes : (go : ℕ → Evaluated W) {m : List Event} {x : ℕ} {r : Result Z Halt} → Answers (λ x. x) b (then_with e (λ v. with_ref v is)) m (Ok x) → Answers u m (go x) n r → Answers u b (then_with e (λ v. with_ref v go)) n r
+  ref_goes go h k = same_answers (ref_first e go) (goes_then go h k)
+
+  pub ref_stops : (go : ℕ → Evaluated W) {w : Halt} → Answers {X = ℕ} (λ x. x) b (then_with e (λ v. with_ref v is)) n (Err w) → Answers u b (then_with e (λ v. with_ref v go)) n (Err w)
+  ref_stops go h = same_answers (ref_first e go) (stops_then go h)
+
+-- a number that fits, and a test of it
+
+pub tested_value : {X Y : Type 0} (fits : Bool) (at : Pos) (x y : X) (test : X → Y) → is y ≡ fitting Bounded fits at x → is (test y) ≡ fitting Bounded fits at (test x)
+tested_value true at x y test h = let same : y ≡ x = cc in ap (λ z. is (test z)) same
+tested_value false at x y test h = cc
+
+pub tested_stop : {X Y : Type 0} (fits : Bool) (at : Pos) (x : X) (w : Stop) (test : X → Y) → stopping {X = X} w ≡ fitting Bounded fits at x → stopping {X = Y} w ≡ fitting Bounded fits at (test x)
+tested_stop true at x (stop.Fails l) test h = cc
+tested_stop true at x stop.Blocked test h = cc
+tested_stop true at x (stop.Over p) test h = cc
+tested_stop false at x (stop.Fails l) test h = cc
+tested_stop false at x stop.Blocked test h = cc
+tested_stop false at x (stop.Over p) test h = let same : p ≡ at = cc in ap (λ z. ends [] (Over z)) same
+
+-- a step that records nothing, behind what was recorded
+pub calmly : {X Y : Type 0} {v : X → Y} {e : Evaluated Y} (b : List Event) {r : Result X Halt} → Answers v [] e [] r → Answers v b e b r
+calmly b no_memory = no_memory
+calmly {e = e} b (goes {x = x} h) = goes (ap (after b) (sym (nothing_first e) ∙ h) ∙ after_none b _)
+calmly {e = e} b (stops {w = w} h) = stops (ap (after b) (sym (nothing_first e) ∙ h) ∙ after_none b _)
+
+-- the parts of a content, after they were recorded
+pub split_goes : {X : Type 0} {v : X → Content × Content} {before since : List Event} (x : X) (a b c : Content) → c ≡ Pair a b → since ≡ before ++ event.Split a b ∷ [] → v x ≡ (a, b) → Answers v before (halves c) since (Ok x)
+split_goes {before = before} x a b c is events parts = goes (ap (λ d. after before (halves d)) is ∙ (λ i. ends (sym events i) (Is (sym parts i))))

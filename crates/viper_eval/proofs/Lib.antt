@@ -1,0 +1,9 @@
+pub mod NumberLaws
+pub mod AnswerLaws
+pub mod PlaceLaws
+pub mod NodeLaws
+pub mod OperatorLaws
+pub mod WithinLaws
+pub mod ArgumentLaws
+pub mod ExpressionLaws
+pub mod BodyLaws

@@ -1,0 +1,84 @@
+// How evaluations end.
+ghost use Rattle.viper_eval.specs.declared.answers.Halt.TheVariants as halt;
+ghost use Rattle.std.specs.Prelude.{◌≡◌};
+
+use std::alloc::{AllocError, AllocFailed};
+use vb_base::{Label, Memory, Pos};
+use vb_value::Value;
+
+/// How the evaluation of an expression ends.
+#[derive(Clone, Copy, Debug, PartialEq, Eq)]
+pub enum Evaluated {
+    Is(Value),
+    Fails(Label),
+    /// An assumption does not hold.
+    Blocked,
+    /// A number left its bound, at this place.
+    Over(Pos),
+}
+
+/// How it ends to produce an assertion from a content.
+#[derive(Clone, Copy, Debug, PartialEq, Eq)]
+pub enum Opening1 {
+    Goes,
+    Fails(Label),
+    /// An assumption does not hold.
+    Blocked,
+    /// A number left its bound, at this place.
+    Over(Pos),
+}
+
+/// An end without a value.
+#[derive(Clone, Copy, Debug, PartialEq, Eq)]
+pub(crate) enum Stop {
+    Fails(Label),
+    Blocked,
+    Over(Pos),
+}
+
+/// Why there is no value.
+#[derive(Clone, Copy, Debug, PartialEq, Eq)]
+pub(crate) enum Halt {
+    Memory,
+    Stops(Stop),
+}
+
+impl From<Stop> for Halt {
+    ghost from_gives = { λ stop e. e ≡ halt.Stops stop };
+
+    fn from(stop: Stop) -> Halt {
+        Halt::Stops(stop)
+    }
+}
+
+impl From<Memory> for Halt {
+    ghost from_gives = { λ _ e. e ≡ halt.Memory };
+
+    fn from(_: Memory) -> Halt {
+        Halt::Memory
+    }
+}
+
+impl From<vb_value::Memory> for Halt {
+    ghost from_gives = { λ _ e. e ≡ halt.Memory };
+
+    fn from(_: vb_value::Memory) -> Halt {
+        Halt::Memory
+    }
+}
+
+impl From<AllocError> for Halt {
+    ghost from_gives = { λ _ e. e ≡ halt.Memory };
+
+    fn from(_: AllocError) -> Halt {
+        Halt::Memory
+    }
+}
+
+impl<T: Drop> From<AllocFailed<T>> for Halt {
+    ghost from_gives = { λ _ e. e ≡ halt.Memory };
+
+    fn from(_: AllocFailed<T>) -> Halt {
+        Halt::Memory
+    }
+}

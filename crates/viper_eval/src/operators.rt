@@ -1,0 +1,325 @@
+// The values of operators.
+ghost use Rattle.std.specs.Prelude.{◌≡◌, ℤ, Bool, pos, neg_ℤ, not};
+ghost use Rattle.std.specs.Ordering.{int_eq};
+ghost use Rattle.std.specs.Int.{int_div_euclid, int_rem_euclid};
+ghost use Rattle.vb_value.specs.Bound.{IsWithin, value_if};
+ghost use Rattle.vb_value.specs.Fraction.{whole, IsWithinFraction, product};
+ghost use Rattle.vb_value.specs.Value.{IsWithinValue};
+ghost use Rattle.viper_state.specs.View.{scene_of};
+ghost use Rattle.viper_meaning.specs.Ends as m;
+ghost use Rattle.viper_meaning.specs.Ends.{Bounded, fitting};
+ghost use Rattle.viper_meaning.specs.Operators as o;
+ghost use Rattle.viper_meaning.specs.Places as places;
+ghost use Rattle.viper_eval.specs.Answers.{ended, compares};
+ghost use Rattle.viper_eval.specs.Lazy.{settled, combined};
+ghost use Rattle.viper_eval.specs.Steps.{assumed};
+
+use crate::answers::Stop;
+use std::cmp::Ordering;
+use vb_base::{Kind, Label, Pos};
+use vb_value::{Frac, Over, Value, int_add, int_div, int_mod, int_mul, int_sub};
+use viper_core::Op;
+use viper_state::Scene;
+
+/// A failure in the step that is running.
+pub(crate) fn failure(scene: &Scene, part: Pos, kind: Kind) -> Stop
+    ensures { result ≡ Stop.Fails (record { at = scene.now.at; part = part; kind = kind }) }
+{
+    Stop::Fails(Label {
+        at: scene.at,
+        part,
+        kind,
+    })
+}
+
+/// The number, where it fits.
+pub(crate) fn fitted<T>(answer: Result<T, Over>, at: Pos) -> Result<T, Stop>
+    ensures { (fits : Bool) (x : T) → answer ≡ value_if fits x → ended result ≡ fitting Bounded fits at x }
+{
+    match answer {
+        Ok(number) => Ok(number),
+        Err(_) => Err(Stop::Over(at)),
+    }
+}
+
+pub(crate) fn truth(value: Value) -> Result<bool, Stop>
+    ensures { ended result ≡ o.with_truth value m.is }
+{
+    match value {
+        Value::Bool(truth) => Ok(truth),
+        _ => Err(Stop::Blocked),
+    }
+}
+
+/// An assumption, without which a run goes no further.
+pub(crate) fn assumed(holds: bool) -> Result<(), Stop>
+    ensures { ended result ≡ assumed holds }
+{
+    if holds { Ok(()) } else { Err(Stop::Blocked) }
+}
+
+pub(crate) fn permission(value: Value) -> Result<Frac, Stop>
+    ensures { ended result ≡ o.with_perm value m.is }
+{
+    match value {
+        Value::Perm(amount) => Ok(amount),
+        _ => Err(Stop::Blocked),
+    }
+}
+
+pub(crate) fn reference(value: Value) -> Result<u64, Stop>
+    ensures { ended result ≡ places.with_ref value m.is }
+{
+    match value {
+        Value::Ref(reference) => Ok(reference),
+        _ => Err(Stop::Blocked),
+    }
+}
+
+fn is_zero(number: i128) -> bool
+    ensures { result ≡ int_eq number (pos 0) }
+{
+    number == 0
+}
+
+/// A whole number as a fraction.
+fn fraction(number: i128) -> Frac
+    requires { IsWithin number }
+    ensures { result ≡ whole number }
+{
+    Frac::make(number, 1).unwrap()
+}
+
+fn opposite(amount: Frac) -> Frac
+    ensures { result ≡ record { num = neg_ℤ amount.num; den = amount.den } }
+{
+    Frac::make(-Frac::num(amount), Frac::den(amount)).unwrap()
+}
+
+pub(crate) fn negative(value: Value) -> Result<Value, Stop>
+    requires { IsWithinValue value }
+    ensures { ended result ≡ o.negative value }
+{
+    match value {
+        Value::Int(number) => Ok(Value::Int(-number)),
+        Value::Perm(amount) => Ok(Value::Perm(opposite(amount))),
+        _ => Err(Stop::Blocked),
+    }
+}
+
+pub(crate) fn negation(value: Value) -> Result<Value, Stop>
+    ensures { ended result ≡ o.negation value }
+{
+    Ok(Value::Bool(!truth(value)?))
+}
+
+fn sum(left: Value, right: Value, at: Pos) -> Result<Value, Stop>
+    ensures { ended result ≡ o.sum_of Bounded left right at }
+{
+    match left {
+        Value::Int(x) => match right {
+            Value::Int(y) => Ok(Value::Int(fitted(int_add(x, y), at)?)),
+            _ => Err(Stop::Blocked),
+        },
+        Value::Perm(p) => match right {
+            Value::Perm(q) => Ok(Value::Perm(fitted(Frac::add(p, q), at)?)),
+            _ => Err(Stop::Blocked),
+        },
+        _ => Err(Stop::Blocked),
+    }
+}
+
+fn difference(left: Value, right: Value, at: Pos) -> Result<Value, Stop>
+    ensures { ended result ≡ o.difference_of Bounded left right at }
+{
+    match left {
+        Value::Int(x) => match right {
+            Value::Int(y) => Ok(Value::Int(fitted(int_sub(x, y), at)?)),
+            _ => Err(Stop::Blocked),
+        },
+        Value::Perm(p) => match right {
+            Value::Perm(q) => Ok(Value::Perm(fitted(Frac::sub(p, q), at)?)),
+            _ => Err(Stop::Blocked),
+        },
+        _ => Err(Stop::Blocked),
+    }
+}
+
+fn fraction_product(p: Frac, q: Frac, at: Pos) -> Result<Value, Stop>
+    ensures { ended result ≡ o.fraction_product Bounded p q at }
+{
+    Ok(Value::Perm(fitted(Frac::mul(p, q), at)?))
+}
+
+/// A product. An Int `n` counts as `n/1` beside a Perm.
+fn product(left: Value, right: Value, at: Pos) -> Result<Value, Stop>
+    requires left_within { IsWithinValue left }
+    requires right_within { IsWithinValue right }
+    ensures { ended result ≡ o.product_of Bounded left right at }
+{
+    match left {
+        Value::Int(x) => match right {
+            Value::Int(y) => Ok(Value::Int(fitted(int_mul(x, y), at)?)),
+            Value::Perm(q) => fraction_product(fraction(x), q, at),
+            _ => Err(Stop::Blocked),
+        },
+        Value::Perm(p) => match right {
+            Value::Int(y) => fraction_product(p, fraction(y), at),
+            Value::Perm(q) => fraction_product(p, q, at),
+            _ => Err(Stop::Blocked),
+        },
+        _ => Err(Stop::Blocked),
+    }
+}
+
+fn same_truth(left: Value, right: Value) -> Result<Value, Stop>
+    ensures { ended result ≡ o.same_truth left right }
+{
+    match (left, right) {
+        (Value::Bool(a), Value::Bool(b)) => Ok(Value::Bool(a == b)),
+        _ => Err(Stop::Blocked),
+    }
+}
+
+/// The order of two Ints or two Perms.
+fn ordered(left: Value, right: Value, at: Pos) -> Result<Ordering, Stop>
+    ensures { (test : Ordering → Bool) → compares test result ≡ o.compared Bounded test left right at }
+{
+    match left {
+        Value::Int(x) => match right {
+            Value::Int(y) => Ok(x.cmp(&y)),
+            _ => Err(Stop::Blocked),
+        },
+        Value::Perm(p) => match right {
+            Value::Perm(q) => fitted(Frac::cmp(p, q), at),
+            _ => Err(Stop::Blocked),
+        },
+        _ => Err(Stop::Blocked),
+    }
+}
+
+/// `/` by a whole number.
+fn divided(scene: &Scene, amount: Frac, number: i128, at: Pos) -> Result<Value, Stop>
+    requires { IsWithin number }
+    ensures { ended result ≡ o.fraction_by Bounded (scene_of scene.now) amount number at }
+{
+    if is_zero(number) {
+        return Err(failure(scene, at, Kind::Div));
+    }
+    Ok(Value::Perm(fitted(Frac::div_int(amount, number), at)?))
+}
+
+fn quotient(scene: &Scene, left: Value, right: Value, at: Pos) -> Result<Value, Stop>
+    requires left_within { IsWithinValue left }
+    requires right_within { IsWithinValue right }
+    ensures { ended result ≡ o.quotient_of Bounded (scene_of scene.now) left right at }
+{
+    let Value::Int(number) = right else {
+        return Err(Stop::Blocked);
+    };
+    match left {
+        Value::Int(x) => divided(scene, fraction(x), number, at),
+        Value::Perm(p) => divided(scene, p, number, at),
+        _ => Err(Stop::Blocked),
+    }
+}
+
+/// `\\`
+fn int_quotient(scene: &Scene, left: Value, right: Value, at: Pos) -> Result<Value, Stop>
+    requires left_within { IsWithinValue left }
+    requires right_within { IsWithinValue right }
+    ensures { ended result ≡ o.euclidean (scene_of scene.now) int_div_euclid left right at }
+{
+    match left {
+        Value::Int(x) => match right {
+            Value::Int(d) => {
+                if is_zero(d) {
+                    return Err(failure(scene, at, Kind::Div));
+                }
+                Ok(Value::Int(int_div(x, d)))
+            }
+            _ => Err(Stop::Blocked),
+        },
+        _ => Err(Stop::Blocked),
+    }
+}
+
+/// `%`
+fn int_remainder(scene: &Scene, left: Value, right: Value, at: Pos) -> Result<Value, Stop>
+    requires left_within { IsWithinValue left }
+    requires right_within { IsWithinValue right }
+    ensures { ended result ≡ o.euclidean (scene_of scene.now) int_rem_euclid left right at }
+{
+    match left {
+        Value::Int(x) => match right {
+            Value::Int(d) => {
+                if is_zero(d) {
+                    return Err(failure(scene, at, Kind::Div));
+                }
+                Ok(Value::Int(int_mod(x, d)))
+            }
+            _ => Err(Stop::Blocked),
+        },
+        _ => Err(Stop::Blocked),
+    }
+}
+
+/// An operator that looks at both sides.
+pub(crate) fn apply(
+    scene: &Scene,
+    op: Op,
+    left: Value,
+    right: Value,
+    at: Pos,
+) -> Result<Value, Stop>
+    requires left_within { IsWithinValue left }
+    requires right_within { IsWithinValue right }
+    ensures { ended result ≡ o.apply Bounded (scene_of scene.now) op left right at }
+{
+    match op {
+        Op::Iff => same_truth(left, right),
+        Op::Implies | Op::Or | Op::And => Err(Stop::Blocked),
+        Op::Eq => Ok(Value::Bool(left == right)),
+        Op::Ne => Ok(Value::Bool(left != right)),
+        Op::Lt => Ok(Value::Bool(ordered(left, right, at)?.is_lt())),
+        Op::Le => Ok(Value::Bool(ordered(left, right, at)?.is_le())),
+        Op::Gt => Ok(Value::Bool(ordered(left, right, at)?.is_gt())),
+        Op::Ge => Ok(Value::Bool(ordered(left, right, at)?.is_ge())),
+        Op::Add => sum(left, right, at),
+        Op::Sub => difference(left, right, at),
+        Op::Mul => product(left, right, at),
+        Op::Divide => quotient(scene, left, right, at),
+        Op::IntDiv => int_quotient(scene, left, right, at),
+        Op::IntMod => int_remainder(scene, left, right, at),
+    }
+}
+
+/// The value of a lazy operator, where the left side alone tells it.
+pub(crate) fn settled(op: Op, left: Value) -> Result<Option<bool>, Stop>
+    ensures { ended result ≡ settled op left }
+{
+    match op {
+        Op::And => Ok(if truth(left)? { None } else { Some(false) }),
+        Op::Or => Ok(if truth(left)? { Some(true) } else { None }),
+        Op::Implies => Ok(if truth(left)? { None } else { Some(true) }),
+        _ => Ok(None),
+    }
+}
+
+/// The value of an operator whose left side leaves it open: for a lazy one that of the right side.
+pub(crate) fn combined(
+    scene: &Scene,
+    op: Op,
+    left: Value,
+    right: Value,
+    at: Pos,
+) -> Result<Value, Stop>
+    requires left_within { IsWithinValue left }
+    requires right_within { IsWithinValue right }
+    ensures { ended result ≡ combined (scene_of scene.now) op left right at }
+{
+    match op {
+        Op::Implies | Op::Or | Op::And => Ok(right),
+        _ => apply(scene, op, left, right, at),
+    }
+}
