@@ -53,9 +53,9 @@ fn opening(answer: Result<(), Halt>) -> Result<Opening1, Memory>
 
 /// The value of an expression in the state `now`, or how it ends without one.
 ///
-/// Numbers have magnitude at most 2^127 - 1; what would leave this bound ends `Over`, at the operator. The events that the
-/// expression records, two kinds at each `unfolding`, are appended to the feed. No choice is taken. A state is copied only
-/// to read an `unfolding` in the copy.
+/// Numbers have magnitude at most 2^127 - 1; what would leave this bound ends `Over`, at the operator, or at the name of the
+/// field or predicate whose permission it is. The events that an `unfolding` records are appended to the feed. No choice is
+/// taken. A state is copied only to read an `unfolding` in the copy.
 ///
 /// `Memory` where there is no memory; what was then appended is a part of the work.
 ///
