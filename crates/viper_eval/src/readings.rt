@@ -208,15 +208,8 @@ fn unfold(
 {
     let args = evaluate_all(alloc, &opened.args, now, scene, feed)?;
     let amount = permission_of(alloc, &opened.amount, now, scene, feed)?;
-    unfold_at(
-        alloc,
-        opened,
-        key_of(alloc, &args)?,
-        amount,
-        now,
-        scene,
-        feed,
-    )
+    let key = key_of(alloc, &args)?;
+    unfold_at(alloc, opened, key, amount, now, scene, feed)
 }
 
 /// The same once the values of the arguments and the amount are known.
@@ -276,15 +269,9 @@ pub(crate) fn open(
         Assertion::Acc(e, field, amount, at) => {
             let receiver = reference_of(alloc, e, state, scene, feed)?;
             let amount = amount_of(alloc, amount, state, scene, feed)?;
+            let place = Place::of(*field, receiver);
             let share = Share::of(amount, scale, *at);
-            fill_place(
-                scene,
-                state,
-                Place::of(*field, receiver),
-                share,
-                content,
-                feed,
-            )
+            fill_place(scene, state, place, share, content, feed)
         }
         Assertion::Inst(predicate, args, amount, at) => {
             let args = evaluate_all(alloc, args, state, scene, feed)?;

@@ -257,16 +257,16 @@ unfold-returns-in_err-amount-clause-answers _ c =
     passed _ _ c.from_residual-in_err-amount.ensures.1 (expression.unfold_amount_stops (λ vs. vs.items) (state_of c.args.now.now) (scene_of c.args.scene.now)
     (opened_is c.args.opened.now c.deref.ensures.value) c.in_ok-args.ensures.answers c.in_err-amount.ensures.answers)
 
-pub unfold-returns-in_err-key_of-clause-answers : goal.unfold-returns-in_err-key_of-clause-answers
-unfold-returns-in_err-key_of-clause-answers _ c =
-    passed _ _ c.from_residual-in_err-key_of.ensures.1 (expression.unfold_key_stops (λ vs. vs.items) (state_of c.args.now.now) (scene_of c.args.scene.now)
+pub unfold-returns-in_err-key-clause-answers : goal.unfold-returns-in_err-key-clause-answers
+unfold-returns-in_err-key-clause-answers _ c =
+    passed _ _ c.from_residual-in_err-key.ensures.1 (expression.unfold_key_stops (λ vs. vs.items) (state_of c.args.now.now) (scene_of c.args.scene.now)
     (opened_is c.args.opened.now c.deref.ensures.value) c.in_ok-args.ensures.answers c.in_ok-amount.ensures.answers
-    (same_answers (ap (λ vs. with_found (key_of vs) is) (sym c.deref-2.ensures.value)) c.in_err-key_of.ensures))
+    (same_answers (ap (λ vs. with_found (key_of vs) is) (sym c.deref-2.ensures.value)) c.in_err-key.ensures))
 
 pub unfold-returns-clause-answers : goal.unfold-returns-clause-answers
 unfold-returns-clause-answers _ c =
     expression.unfold_goes (λ vs. vs.items) (state_of c.args.now.now) (scene_of c.args.scene.now) (opened_is c.args.opened.now c.deref.ensures.value)
-    c.in_ok-args.ensures.answers c.in_ok-amount.ensures.answers (same_answers (ap (λ vs. with_found (key_of vs) is) (sym c.deref-2.ensures.value)) c.in_ok-key_of.ensures)
+    c.in_ok-args.ensures.answers c.in_ok-amount.ensures.answers (same_answers (ap (λ vs. with_found (key_of vs) is) (sym c.deref-2.ensures.value)) c.in_ok-key.ensures)
     c.unfold_at.ensures.answers
 
 pub unfold-unfold_at-requires : goal.unfold-unfold_at-requires
@@ -278,7 +278,7 @@ unfold-unfold_at-requires _ c = (
       key_is_within c.in_ok-args.args.items
           (values_within (λ vs. vs.items) (exprs_of c.deref.result.now) (state_of c.args.now.now) (scene_of c.args.scene.now)
           (subst (λ es. AreWithinExprs (exprs_of es)) (sym c.deref.ensures.value) c.requires.opened_within.0) c.requires.now_within c.requires.scene_within
-          c.in_ok-args.ensures.answers) (same_answers (ap (λ vs. with_found (key_of vs) is) (sym c.deref-2.ensures.value)) c.in_ok-key_of.ensures),
+          c.in_ok-args.ensures.answers) (same_answers (ap (λ vs. with_found (key_of vs) is) (sym c.deref-2.ensures.value)) c.in_ok-key.ensures),
       (c.requires.now_within, c.requires.scene_within),
     ),
   ),
@@ -387,7 +387,7 @@ pub open-returns-in_ok-amount-in-Acc-clause-answers : goal.open-returns-in_ok-am
 open-returns-in_ok-amount-in-Acc-clause-answers _ c =
     body.place_goes (content_of c.args.content.now) (state_of c.args.state.now) (scene_of c.args.scene.now) c.args.scale (ap assertion_of c.in-Acc.is)
     c.in_ok-receiver-in-Acc.ensures.answers c.in_ok-amount-in-Acc.ensures.answers
-    (placed_at (scene_of c.args.scene.now) (content_of c.args.content.now) (state_of c.args.state.now) c.of.ensures c.of-share.ensures c.fill_place.ensures.answers)
+    (placed_at (scene_of c.args.scene.now) (content_of c.args.content.now) (state_of c.args.state.now) c.of-place.ensures c.of-share.ensures c.fill_place.ensures.answers)
 
 pub open-evaluate_all-requires : goal.open-evaluate_all-requires
 open-evaluate_all-requires _ c = (
