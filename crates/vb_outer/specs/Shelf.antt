@@ -52,9 +52,9 @@ abbrev pub GrowsBy : Option (List ℕ) → Option (List ℕ) → List ℕ → Li
 GrowsBy before now front whole n = (bytes : List ℕ) × (length bytes ≡ n) × Takes before now bytes × (whole ≡ front ++ bytes)
 
 -- what a read does to what is left: at `Ok(n)` the first n bytes of the buffer were the next ones, and n is 0
--- only at the end or where the buffer has no room; at `Err` nothing was taken
+-- only at the end or where the buffer has no room; at `Err` some bytes may have been taken, as many as the buffer has room for
 abbrev pub Reads : {E : Type 0} → Option (List ℕ) → Option (List ℕ) → Result ℕ E → List ℕ → Type 0
-Reads before now result buf = MatchResult result (λ n. Takes before now (take n buf) × (n ≡ 0 → 0 < length buf → IsAtEnd now)) (λ _. now ≡ before)
+Reads before now result buf = MatchResult result (λ n. Takes before now (take n buf) × (n ≡ 0 → 0 < length buf → IsAtEnd now)) (λ _. TakesAtMost before now (length buf))
 
 -- where the shelf tells its files, at most so many first bytes of the file of that name were taken
 abbrev pub TakesOfFile : Option Files → List ℕ → Option (List ℕ) → ℕ → Type 0

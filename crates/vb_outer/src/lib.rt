@@ -19,6 +19,3 @@ pub use mem_sink::MemSink;
 pub use shelf::{Shelf, closed_gives_nothing, read_file};
 pub use sink::{Sink, write_all, written_in_turn};
 pub use standard::StdSink;
-
-#[cfg(test)]
-mod tests;

@@ -34,7 +34,8 @@ pub trait Shelf {
         ensures same { files self.new ≡ files self.old };
 
     /// Reads the next bytes of the begun file into the front of the buffer, and answers how many: none in a buffer
-    /// that has room is the end of the file. A call that fails has taken nothing.
+    /// that has room is the end of the file. A call that fails may have taken bytes, at most as many as the buffer has
+    /// room for.
     fn read(&mut self, buf: &mut [u8]) -> Result<usize, Failed>
         ensures bound { IfOk result (λ count. count ≤ length buf.new) }
         ensures bytes { Reads (left self.old) (left self.new) result buf.new }
