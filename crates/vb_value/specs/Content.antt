@@ -2,7 +2,8 @@
 -- conjunction contain. The rules of contents are this project's own.
 use Rattle.std.specs.Prelude.{⊤, ℕ, ◌+◌, ◌≤◌, Bool, true, false, ◌&&◌}
 use Rattle.vb_value.specs.declared.values.Value.{Value}
-use Rattle.vb_value.specs.Value.{value_eq, IsWithinValue}
+use Rattle.vb_value.specs.Bound.{Bound, IfBounded}
+use Rattle.vb_value.specs.Value.{value_eq, IsWithinValue, IsProperValue}
 
 pub data Content : Type 0 where
   Unit : Content
@@ -32,3 +33,8 @@ AllValues P (Pair a b) = AllValues P a × AllValues P b
 pub record IsWithinContent (c : Content) : Type 0 where
   pub small : nodes c ≤ 4096
   pub values : AllValues IsWithinValue c
+
+-- the same by a bound: the fractions are in lowest terms, and where there is a bound the nodes and the numbers are within it
+pub record IsProperContent (b : Bound) (c : Content) : Type 0 where
+  pub small : IfBounded b (nodes c ≤ 4096)
+  pub values : AllValues (IsProperValue b) c

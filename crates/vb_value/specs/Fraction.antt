@@ -1,10 +1,10 @@
 -- Fractions as reduced pairs (Viper tutorial, "Permissions": permission amounts are the rational numbers).
 -- Whole numbers have no limit here: sum, difference, product, quotient and order are those of cross products, and a
 -- `fits_` test names the products that an operation makes.
-use Rattle.std.specs.Prelude.{◌≡◌, ℕ, suc, ◌*◌, ◌/◌, ◌<◌, ℤ, pos, negsuc, neg_ℤ, ◌+ℤ◌, ◌-ℤ◌, ◌*ℤ◌, Bool, not, ◌&&◌, int_div, unsigned_abs}
-use Rattle.std.specs.Ordering.{int_cmp, int_eq}
+use Rattle.std.specs.Prelude.{◌≡◌, ℕ, zero, suc, ◌*◌, ◌/◌, ◌<◌, ℤ, pos, negsuc, neg_ℤ, ◌+ℤ◌, ◌-ℤ◌, ◌*ℤ◌, Bool, true, false, not, ◌&&◌, int_div, unsigned_abs}
+use Rattle.std.specs.Ordering.{int_cmp, int_eq, is_gt}
 use Rattle.std.specs.declared.cmp.Ordering.{Ordering}
-use Rattle.vb_value.specs.Bound.{IsWithin, is_within}
+use Rattle.vb_value.specs.Bound.{Bound, IfBounded, IsWithin, is_within}
 use Rattle.vb_value.specs.Gcd.{gcd}
 
 -- `num / den`
@@ -27,6 +27,11 @@ pub record IsRepresentable (q : Fraction) : Type 0 where
   pub reduced : IsReduced q
   pub within : IsWithinFraction q
 
+-- a fraction in lowest terms, which is within the bound where there is one
+pub record IsProperFraction (b : Bound) (q : Fraction) : Type 0 where
+  pub reduced : IsReduced q
+  pub within : IfBounded b (IsWithinFraction q)
+
 -- the fraction `n / d` in lowest terms, where d is positive
 unfoldable pub reduced : ℤ → ℕ → Fraction
 reduced n d = let g = gcd (unsigned_abs n) d in record { num = int_div n (pos g); den = d / g }
@@ -39,6 +44,40 @@ ratio n (negsuc d) = reduced (neg_ℤ n) (suc d)
 -- a whole number
 abbrev pub whole : ℤ → Fraction
 whole n = record { num = n; den = 1 }
+
+-- ---- amounts of permission
+
+-- no permission
+abbrev pub none : Fraction
+none = whole (pos 0)
+
+-- the whole permission
+abbrev pub write : Fraction
+write = whole (pos 1)
+
+abbrev pub is_below_zero : ℤ → Bool
+is_below_zero (pos n) = false
+is_below_zero (negsuc n) = true
+
+abbrev pub is_above_zero : ℤ → Bool
+is_above_zero (pos zero) = false
+is_above_zero (pos (suc n)) = true
+is_above_zero (negsuc n) = false
+
+-- the sign of an amount. To compare one with 0 is never Over.
+
+abbrev pub is_negative : Fraction → Bool
+is_negative q = is_below_zero q.num
+
+abbrev pub is_positive : Fraction → Bool
+is_positive q = is_above_zero q.num
+
+abbrev pub is_none : Fraction → Bool
+is_none q = int_eq q.num (pos 0)
+
+-- more than the whole permission. To compare an amount with 1 is never Over.
+abbrev pub is_above_one : Fraction → Bool
+is_above_one q = is_gt (int_cmp q.num (pos q.den))
 
 -- ---- the operations
 

@@ -1,7 +1,7 @@
 -- The order of keys.
 use Rattle.std.specs.Prelude.{⊤, List}
 use Rattle.std.specs.List.{All}
-use Rattle.vb_value.specs.Bound.{IsWithin}
+use Rattle.vb_value.specs.Bound.{Bound, IfBounded, IsWithin}
 use Rattle.std.specs.Ordering.{int_cmp, nat_cmp, bool_cmp}
 use Rattle.std.specs.Cmp.Lexicographic.{slice_cmp}
 use Rattle.std.specs.declared.cmp.Ordering.{Ordering}
@@ -33,3 +33,12 @@ IsWithinPart (Ref a) = ⊤
 
 abbrev pub IsWithinKey : List KeyPart → Type 0
 IsWithinKey = All IsWithinPart
+
+-- the same by a bound
+abbrev pub IsProperPart : Bound → KeyPart → Type 0
+IsProperPart b (Int a) = IfBounded b (IsWithin a)
+IsProperPart b (Bool a) = ⊤
+IsProperPart b (Ref a) = ⊤
+
+abbrev pub IsProperKey : Bound → List KeyPart → Type 0
+IsProperKey b = All (IsProperPart b)

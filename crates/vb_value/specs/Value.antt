@@ -1,9 +1,9 @@
 -- What is said of values.
-use Rattle.std.specs.Prelude.{⊤, pos, Bool, false, ◌&&◌, ◌==◌}
+use Rattle.std.specs.Prelude.{⊤, pos, Bool, true, false, ◌&&◌, ◌==◌}
 use Rattle.std.specs.Bool.{beq}
 use Rattle.std.specs.Ordering.{int_eq}
-use Rattle.vb_value.specs.Fraction.{Fraction, IsReduced, IsWithinFraction, whole}
-use Rattle.vb_value.specs.Bound.{IsWithin}
+use Rattle.vb_value.specs.Fraction.{Fraction, IsReduced, IsWithinFraction, IsProperFraction, none}
+use Rattle.vb_value.specs.Bound.{Bound, IfBounded, IsWithin}
 use Rattle.vb_value.specs.declared.values.Ty.{Ty}
 use Rattle.vb_value.specs.declared.values.Ty.TheVariants as ty
 use Rattle.vb_value.specs.declared.values.Value.{Value}
@@ -34,6 +34,20 @@ IsReducedValue (Truth a) = ⊤
 IsReducedValue (Ref a) = ⊤
 IsReducedValue (Perm a) = IsReduced a
 
+-- its fractions are in lowest terms, and its numbers are within the bound where there is one
+abbrev pub IsProperValue : Bound → Value → Type 0
+IsProperValue b (Int a) = IfBounded b (IsWithin a)
+IsProperValue b (Truth a) = ⊤
+IsProperValue b (Ref a) = ⊤
+IsProperValue b (Perm a) = IsProperFraction b a
+
+abbrev pub same_type : Ty → Ty → Bool
+same_type ty.Int ty.Int = true
+same_type ty.Bool ty.Bool = true
+same_type ty.Ref ty.Ref = true
+same_type ty.Perm ty.Perm = true
+same_type _ _ = false
+
 abbrev pub type_of : Value → Ty
 type_of (Int a) = ty.Int
 type_of (Truth a) = ty.Bool
@@ -45,4 +59,4 @@ abbrev pub default_of : Ty → Value
 default_of ty.Int = Int (pos 0)
 default_of ty.Bool = Truth false
 default_of ty.Ref = Ref 0
-default_of ty.Perm = Perm (whole (pos 0))
+default_of ty.Perm = Perm none

@@ -3,7 +3,7 @@
 ghost use Rattle.std.specs.Prelude.{◌≡◌, ◌≢◌, ◌^◌, ◌<◌, ◌*◌, pos, ◌*ℤ◌, IfOk, None, Some, if◌then◌else◌};
 ghost use Rattle.vb_value.specs.Bound.{IsWithin, is_within, value_if};
 ghost use Rattle.vb_value.specs.Gcd.{gcd};
-ghost use Rattle.vb_value.specs.Fraction.{reduced, ratio, sum, difference, product, quotient, quotient_by, order, IsRepresentable, fits_ratio, fits_sum, fits_difference, fits_product, fits_quotient, fits_quotient_by, fits_order};
+ghost use Rattle.vb_value.specs.Fraction.{reduced, ratio, sum, difference, product, quotient, quotient_by, order, none, write, is_negative, is_positive, is_none, is_above_one, IsRepresentable, fits_ratio, fits_sum, fits_difference, fits_product, fits_quotient, fits_quotient_by, fits_order};
 
 use crate::numbers::{Over, int_add, int_mul, int_sub};
 use std::cmp::Ordering;
@@ -101,6 +101,48 @@ impl Frac {
         ensures representable { IsRepresentable a }
     {
         a.den as i128
+    }
+
+    /// No permission: 0.
+    pub fn none() -> Frac
+        ensures { result ≡ none }
+    {
+        Frac { num: 0, den: 1 }
+    }
+
+    /// The whole permission: 1.
+    pub fn write() -> Frac
+        ensures { result ≡ write }
+    {
+        Frac { num: 1, den: 1 }
+    }
+
+    /// Whether it is below 0.
+    pub fn is_negative(a: Frac) -> bool
+        ensures { result ≡ is_negative a }
+    {
+        a.num < 0
+    }
+
+    /// Whether it is above 0.
+    pub fn is_positive(a: Frac) -> bool
+        ensures { result ≡ is_positive a }
+    {
+        a.num > 0
+    }
+
+    /// Whether it is 0.
+    pub fn is_none(a: Frac) -> bool
+        ensures { result ≡ is_none a }
+    {
+        a.num == 0
+    }
+
+    /// Whether it is above 1.
+    pub fn is_above_one(a: Frac) -> bool
+        ensures { result ≡ is_above_one a }
+    {
+        Frac::num(a) > Frac::den(a)
     }
 
     /// `num / den`. `None` exactly where `den` is 0 or a number is the least `i128`.

@@ -1,5 +1,8 @@
 //! Types and values.
 
+ghost use Rattle.std.specs.Prelude.{◌≡◌};
+ghost use Rattle.vb_value.specs.Value.{type_of, default_of};
+
 use crate::fractions::Frac;
 use std::marker::Model;
 
@@ -19,6 +22,32 @@ pub enum Value {
     Bool(bool),
     Ref(u64),
     Perm(Frac),
+}
+
+impl Value {
+    /// The type of the value.
+    pub fn ty(&self) -> Ty
+        ensures { result ≡ type_of self.now }
+    {
+        match self {
+            Value::Int(_) => Ty::Int,
+            Value::Bool(_) => Ty::Bool,
+            Value::Ref(_) => Ty::Ref,
+            Value::Perm(_) => Ty::Perm,
+        }
+    }
+
+    /// The value of a place or variable that was never given one: 0, false, null or none.
+    pub fn default_of(ty: Ty) -> Value
+        ensures { result ≡ default_of ty }
+    {
+        match ty {
+            Ty::Int => Value::Int(0),
+            Ty::Bool => Value::Bool(false),
+            Ty::Ref => Value::Ref(0),
+            Ty::Perm => Value::Perm(Frac::none()),
+        }
+    }
 }
 
 /// What a state has places for, seen as lists: the types of the fields, and of the arguments of each
