@@ -293,7 +293,8 @@ module _ {K V : Type 0} {cmp : K → K → Ordering} {eq : V → V → Bool} (x 
       let es : m.entries ≡ n.entries = entries-alike m.entries n.entries a.entries in
       λ i. record { default = z i; entries = es i }
 
-  given-is : (z v : V) (b : Bool) → eq v z ≡ b → cond b z v ≡ v
+  -- the value that `set` gives is the one that it was given
+  pub given-is : (z v : V) (b : Bool) → eq v z ≡ b → cond b z v ≡ v
   given-is z v true e = sym ((x.values v z).0 e)
   given-is z v false e = refl
 
@@ -331,7 +332,7 @@ module _ {K V : Type 0} {cmp : K → K → Ordering} {eq : V → V → Bool} (x 
   reduced_by = IsReduced-set x.total
 
   -- the values after a change, where the keys are told apart: the new one at the key, and elsewhere those from before
-  get-set_is : (m : Map K V) (r : IsReduced cmp eq m) (k q : K) (v : V) → get cmp (set cmp eq m k v) q ≡ cond (is_at (cmp q) k) v (get cmp m q)
+  pub get-set_is : (m : Map K V) (r : IsReduced cmp eq m) (k q : K) (v : V) → get cmp (set cmp eq m k v) q ≡ cond (is_at (cmp q) k) v (get cmp m q)
   get-set_is m r k q v = get-set x.total m r k v q ∙ ap (λ w. cond (is_at (cmp q) k) w (get cmp m q)) (given-is m.default v (eq v m.default) refl)
 
   cond-twice : (b : Bool) (w v y : V) → cond b w (cond b v y) ≡ cond b w y

@@ -103,6 +103,14 @@ impl<K: Ord + Clone, V: Eq + Clone> Sparse<K, V> {
         })
     }
 
+    /// The value of every key that has no other.
+    pub fn default(&self) -> &V
+        ensures value { result.now ≡ self.now.default }
+        ensures reduced { IsReduced K.cmp V.eq self.now }
+    {
+        &self.zero
+    }
+
     /// The value at a key.
     pub fn get(&self, key: &K) -> &V
         ensures value { result.now ≡ get K.cmp self.now key.now }
