@@ -5,6 +5,8 @@ pub mod View
 pub mod Size
 pub mod Weight
 pub mod Depth
+pub mod Literals
+pub mod Plain
 pub mod Scope
 pub mod Typing
 pub mod Formed

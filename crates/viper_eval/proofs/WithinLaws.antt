@@ -19,7 +19,7 @@ use Rattle.viper_meaning.specs.Places.{key_of, taken}
 use Rattle.viper_meaning.specs.Value.{value, values, opened}
 use Rattle.viper_meaning.specs.Kept as kept
 use Rattle.viper_meaning.specs.Kept.{Keeps}
-use Rattle.viper_meaning.specs.Literals.{IsWithinExpr, AreWithinExprs, IsWithinAssertion}
+use Rattle.viper_core.specs.Literals.{IsWithinExpr, AreWithinExprs, IsWithinAssertion}
 use Rattle.viper_meaning.proofs.ResultLaws.{content_at_within}
 use Rattle.viper_meaning.proofs.KeptLaws.{is_kept, pair_kept, key_within, taken_kept, value_kept, values_kept, opened_kept}
 use Rattle.viper_eval.specs.Answers.{Answers}

@@ -9,8 +9,8 @@ ghost use Rattle.viper_state.specs.View.{scene_of, state_of, feed_of};
 ghost use Rattle.viper_state.specs.Within.{IsWithinState, IsWithinScene};
 ghost use Rattle.viper_meaning.specs.Ends as m;
 ghost use Rattle.viper_meaning.specs.Ends.{Bounded, the_end};
-ghost use Rattle.viper_meaning.specs.Literals.{IsWithinExpr, IsWithinAssertion};
-ghost use Rattle.viper_meaning.specs.Plain.{OpensNothing};
+ghost use Rattle.viper_core.specs.Literals.{IsWithinExpr, IsWithinAssertion};
+ghost use Rattle.viper_core.specs.Plain.{OpensNothing};
 ghost use Rattle.viper_meaning.specs.Value.{value, opened};
 ghost use Rattle.viper_eval.specs.Answers.{Answers, end_of, goes_with};
 

@@ -7,7 +7,7 @@ ghost use Rattle.viper_core.specs.View.{expr_of, exprs_of, opened_of, amt_of, as
 ghost use Rattle.viper_state.specs.View.{scene_of, state_of, feed_of};
 ghost use Rattle.viper_state.specs.Within.{IsWithinState, IsWithinScene};
 ghost use Rattle.viper_meaning.specs.Ends.{Bounded, is, then_with, with_found};
-ghost use Rattle.viper_meaning.specs.Literals.{IsWithinExpr, IsWithinOpened, AreWithinExprs, IsWithinAmount, IsWithinAssertion};
+ghost use Rattle.viper_core.specs.Literals.{IsWithinExpr, IsWithinOpened, AreWithinExprs, IsWithinAmount, IsWithinAssertion};
 ghost use Rattle.viper_meaning.specs.Operators.{with_truth, with_perm};
 ghost use Rattle.viper_meaning.specs.Places.{with_ref};
 ghost use Rattle.viper_meaning.specs.Value as m;

@@ -12,7 +12,7 @@ ghost use Rattle.viper_core.specs.View.{expr_of, exprs_of, assertion_of};
 ghost use Rattle.viper_state.specs.State.{none};
 ghost use Rattle.viper_state.specs.View.{scene_of, state_of};
 ghost use Rattle.viper_state.specs.Within.{IsWithinState, IsWithinScene};
-ghost use Rattle.viper_meaning.specs.Literals.{IsWithinExpr, AreWithinExprs, IsWithinAssertion};
+ghost use Rattle.viper_core.specs.Literals.{IsWithinExpr, AreWithinExprs, IsWithinAssertion};
 
 use super::*;
 use sparse::Sparse;

@@ -34,7 +34,7 @@ use Rattle.viper_meaning.specs.Places.{with_ref, is_negative, is_positive, is_no
 use Rattle.viper_meaning.specs.Value.{value, unfolded, values, amount_of, opened}
 use Rattle.viper_meaning.specs.Kept as kept
 use Rattle.viper_meaning.specs.Kept.{Keeps}
-use Rattle.viper_meaning.specs.Literals.{IsWithinExpr, IsWithinOpened, AreWithinExprs, IsWithinAmount, IsWithinAssertion}
+use Rattle.viper_core.specs.Literals.{IsWithinExpr, IsWithinOpened, AreWithinExprs, IsWithinAmount, IsWithinAssertion}
 use Rattle.viper_meaning.proofs.ResultLaws.{negative_within, whole_within, sum_within, difference_within, product_within, quotient_within, div_within, mod_within, left_within, right_within, item_within, value_at_within, mask_at_within, content_at_within, amount_at_within, with_value_within, with_mask_within, with_content_within, with_amount_within}
 
 -- one lemma for each way to go on

@@ -16,7 +16,7 @@ use Rattle.viper_meaning.specs.Ends.{End, Evaluated, ends, Is, Fails, Blocked, O
 use Rattle.viper_meaning.specs.Operators.{with_truth, sum_of, difference_of, product_of, quotient_of, fraction_by, euclidean, compared, same_truth, apply, binary, negative}
 use Rattle.viper_meaning.specs.Places.{with_ref, is_none, read_field}
 use Rattle.viper_meaning.specs.Value.{value}
-use Rattle.viper_meaning.specs.Plain.{OpensNothing}
+use Rattle.viper_core.specs.Plain.{OpensNothing}
 
 -- it records no events
 data IsQuiet {X : Type 0} : Evaluated X → Type 0 where

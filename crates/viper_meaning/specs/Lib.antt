@@ -3,6 +3,4 @@ pub mod Operators
 pub mod Places
 pub mod Value
 pub mod Compared
-pub mod Literals
-pub mod Plain
 pub mod Kept

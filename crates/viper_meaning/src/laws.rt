@@ -11,9 +11,9 @@ ghost use Rattle.viper_state.specs.Within.{IsWithinState, IsWithinScene};
 ghost use Rattle.viper_meaning.specs.Ends.{Bound, Unbounded, Bounded, events_of};
 ghost use Rattle.viper_meaning.specs.Value.{value, opened};
 ghost use Rattle.viper_meaning.specs.Compared.{IsBoundedBy};
-ghost use Rattle.viper_meaning.specs.Literals.{IsWithinExpr, IsWithinAssertion};
+ghost use Rattle.viper_core.specs.Literals.{IsWithinExpr, IsWithinAssertion};
 ghost use Rattle.viper_meaning.specs.Kept.{Keeps};
-ghost use Rattle.viper_meaning.specs.Plain.{OpensNothing};
+ghost use Rattle.viper_core.specs.Plain.{OpensNothing};
 
 /// What is computed within the bound and is not Over is what is computed without it, with the same events.
 pub fn the_bound_changes_nothing_else()

@@ -10,7 +10,7 @@ use Rattle.viper_meaning.specs.Ends.{Bounded, is, then_with, with_found}
 use Rattle.viper_meaning.specs.Operators.{with_truth, with_perm}
 use Rattle.viper_meaning.specs.Places.{with_ref, key_of}
 use Rattle.viper_meaning.specs.Value.{amount_of}
-use Rattle.viper_meaning.specs.Literals.{IsWithinExpr, AreWithinExprs, IsWithinAssertion}
+use Rattle.viper_core.specs.Literals.{IsWithinExpr, AreWithinExprs, IsWithinAssertion}
 use Rattle.viper_eval.specs.Answers.{no_memory}
 use Rattle.viper_eval.proofs.AnswerLaws.{passed, same_answers, goes_then, stops_then, calmly, ends_with, stops_with}
 use Rattle.viper_eval.proofs.WithinLaws.{value_within, values_within, opened_within, halves_within, key_is_within, taken_within, content_is_within, argument_within}

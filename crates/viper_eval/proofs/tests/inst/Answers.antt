@@ -2,7 +2,7 @@ use Rattle.std.proofs.Common.{sym, subst, rules}
 use Rattle.vb_base.specs.declared.places.Pos.{Pos}
 use Rattle.viper_core.specs.declared.exprs.Amt as amt
 use Rattle.viper_core.proofs.ViewLaws.{assertion_of-Inst}
-use Rattle.viper_meaning.specs.Literals.{IsWithinAssertion}
+use Rattle.viper_core.specs.Literals.{IsWithinAssertion}
 use Rattle.viper_eval.proofs.tests.inst.Goals as goal
 
 -- the place does not matter here

@@ -2,7 +2,7 @@ use Rattle.std.proofs.Common.{sym, subst}
 use Rattle.viper_core.specs.View.{opened_of}
 use Rattle.viper_core.specs.declared.exprs.Opened.{Opened}
 use Rattle.viper_core.proofs.ViewLaws.{expr_of-Unfolding}
-use Rattle.viper_meaning.specs.Literals.{IsWithinExpr, IsWithinOpened}
+use Rattle.viper_core.specs.Literals.{IsWithinExpr, IsWithinOpened}
 use Rattle.viper_eval.proofs.tests.unfolding.Goals as goal
 
 pub returns : goal.returns
