@@ -22,3 +22,7 @@ pub record Scene : Type 0 where
   pub store : List Value
   pub old : state.State
   pub at : Pos
+
+-- the scene of a body or of clauses, whose variables have these values. The old state and the step stay.
+abbrev pub with_variables : List Value → Scene → Scene
+with_variables vs sc = record sc { store = vs }
