@@ -1,4 +1,5 @@
 pub mod Place
+pub mod PlaceLaws
 pub mod RowLaws
 pub mod Numbers
 pub mod Fronts

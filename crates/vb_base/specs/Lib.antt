@@ -1,4 +1,5 @@
 pub mod Labels
 pub mod Names
+pub mod Place
 pub mod Reading
 pub mod Rows
