@@ -3,7 +3,8 @@
 use Rattle.std.specs.Prelude.{◌≡◌, ◌≢◌, ◌<◌, ◌≤◌, ◌≤ℤ◌, ◌⊎◌, ℕ, ℤ, pos, Bool as Truth, true, false, ◌&&◌, List, [], ◌∷◌, Option, None, Some, slice_get, All, AllPairs, Contains, length, take, drop, IsTrue, if◌then◌else◌}
 use Rattle.vb_base.specs.declared.places.Pos.{Pos}
 use Rattle.vb_value.specs.Bound.{IsWithin}
-use Rattle.vb_value.specs.Fraction.{Fraction, whole}
+use Rattle.vb_value.specs.Fraction.{Fraction, none, write}
+use Rattle.vb_value.specs.Value.{same_type}
 use Rattle.vb_value.specs.declared.values.Ty.{Ty}
 use Rattle.vb_value.specs.declared.values.Ty.TheVariants as ty
 use Rattle.viper_core.specs.declared.exprs.Op.{Op}
@@ -14,13 +15,6 @@ use Rattle.viper_core.specs.Program.{Program, Predicate, Method}
 use Rattle.viper_core.specs.Scope.{Scope, scope_after, stmts_scope, after_block, refs_in, loop_targets}
 
 -- ---- operators
-
-abbrev pub same_type : Ty → Ty → Truth
-same_type ty.Int ty.Int = true
-same_type ty.Bool ty.Bool = true
-same_type ty.Ref ty.Ref = true
-same_type ty.Perm ty.Perm = true
-same_type _ _ = false
 
 -- the types that can be added and ordered
 abbrev pub is_number : Ty → Truth
@@ -63,7 +57,7 @@ IsLiteral n = (pos 0 ≤ℤ n) × IsWithin n
 
 -- a literal permission is `none` or `write`
 abbrev pub IsLiteralPart : Fraction → Type 0
-IsLiteralPart q = (q ≡ whole (pos 0)) ⊎ (q ≡ whole (pos 1))
+IsLiteralPart q = (q ≡ none) ⊎ (q ≡ write)
 
 -- where an expression or assertion stands
 pub data Site : Type 0 where

@@ -5,8 +5,7 @@ use Rattle.std.proofs.lemmas.List.{append-nil}
 use Rattle.vb_base.specs.declared.places.Pos.{Pos}
 use Rattle.vb_value.specs.Content.{Content}
 use Rattle.vb_value.specs.Fraction.{Fraction}
-use Rattle.vb_value.specs.Value.{type_of}
-use Rattle.viper_core.specs.Typing.{same_type}
+use Rattle.vb_value.specs.Value.{type_of, same_type}
 use Rattle.vb_value.specs.declared.keys.KeyPart.{KeyPart}
 use Rattle.vb_value.specs.declared.values.Value.{Value}
 use Rattle.viper_state.specs.State.{Key, State, content_at, value_at, with_amount}

@@ -2,9 +2,8 @@
 ghost use Rattle.std.specs.Prelude.{◌≡◌, [], pos};
 ghost use Rattle.std.specs.Ordering.{int_eq};
 ghost use Rattle.vb_value.specs.Content as tree;
-ghost use Rattle.vb_value.specs.Value.{type_of, value_eq};
+ghost use Rattle.vb_value.specs.Value.{type_of, value_eq, same_type};
 ghost use Rattle.vb_value.specs.View.{content_of};
-ghost use Rattle.viper_core.specs.Typing.{same_type};
 ghost use Rattle.viper_state.specs.Event as event;
 ghost use Rattle.viper_state.specs.View.{scene_of, state_of, feed_of, event_of};
 ghost use Rattle.viper_meaning.specs.Ends as m;

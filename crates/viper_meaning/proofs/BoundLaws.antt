@@ -7,8 +7,7 @@ use Rattle.vb_value.specs.Content.{Content, Unit, Leaf, Pair}
 use Rattle.vb_base.specs.declared.labels.Kind.TheVariants as kind
 use Rattle.vb_value.specs.Bound.{is_within}
 use Rattle.vb_value.specs.Fraction.{Fraction, whole, sum, difference, product, quotient_by, order, fits_sum, fits_difference, fits_product, fits_quotient_by, fits_order}
-use Rattle.vb_value.specs.Value.{type_of}
-use Rattle.viper_core.specs.Typing.{same_type}
+use Rattle.vb_value.specs.Value.{type_of, same_type}
 use Rattle.vb_value.specs.declared.values.Value.{Value}
 use Rattle.vb_value.specs.declared.values.Value.TheVariants.{Int, Bool as Truth, Ref, Perm}
 use Rattle.viper_core.specs.Expr as t

@@ -14,12 +14,11 @@ use Rattle.vb_value.specs.Content.{Content, Leaf, Pair, IsWithinContent, same_co
 use Rattle.vb_value.specs.Content as tree
 use Rattle.vb_value.specs.Fraction.{Fraction, IsWithinFraction, whole, sum, difference, product, quotient_by, order, fits_sum, fits_difference, fits_product, fits_quotient_by, fits_order}
 use Rattle.vb_value.specs.Key.{IsWithinKey, IsWithinPart}
-use Rattle.vb_value.specs.Value.{type_of, value_eq, IsWithinValue}
+use Rattle.vb_value.specs.Value.{type_of, value_eq, IsWithinValue, same_type}
 use Rattle.vb_value.specs.declared.keys.KeyPart.{KeyPart}
 use Rattle.vb_value.specs.declared.values.Value.{Value}
 use Rattle.vb_value.specs.declared.values.Value.TheVariants.{Int, Bool as Truth, Ref, Perm}
 use Rattle.vb_value.proofs.RepresentableLaws.{within_from}
-use Rattle.viper_core.specs.Typing.{same_type}
 use Rattle.viper_core.specs.Expr as t
 use Rattle.viper_core.specs.declared.exprs.Op.{Op}
 use Rattle.viper_core.specs.declared.exprs.Op.TheVariants as op

@@ -5,12 +5,11 @@ use Rattle.vb_base.specs.declared.labels.Kind.TheVariants as kind
 use Rattle.vb_base.specs.declared.places.Pos.{Pos}
 use Rattle.vb_value.specs.Content.{Content, Unit, Leaf, Pair, same_content}
 use Rattle.vb_value.specs.Fraction.{Fraction, sum, difference, product, order, fits_sum, fits_difference, fits_product, fits_order}
-use Rattle.vb_value.specs.Value.{value_eq, type_of}
+use Rattle.vb_value.specs.Value.{value_eq, type_of, same_type}
 use Rattle.vb_value.specs.declared.keys.KeyPart.{KeyPart}
 use Rattle.vb_value.specs.declared.keys.KeyPart.TheVariants as part
 use Rattle.vb_value.specs.declared.values.Value.{Value}
 use Rattle.vb_value.specs.declared.values.Value.TheVariants.{Int, Bool, Ref, Perm}
-use Rattle.viper_core.specs.Typing.{same_type}
 use Rattle.viper_state.specs.State.{Key, State, value_at, mask_at, content_at, amount_at, with_value, with_mask, with_content, with_amount}
 use Rattle.viper_state.specs.Event as event
 use Rattle.viper_state.specs.Run.{Scene}

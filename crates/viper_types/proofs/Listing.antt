@@ -3,8 +3,8 @@ use Rattle.std.proofs.Common.{◌≡◌, ◌∙◌, refl, ap, ℕ, ◌==◌, ◌
 use Rattle.std.specs.Bool.{OnTrue}
 use Rattle.std.specs.List.{list_any}
 use Rattle.indexmap.specs.IndexSet.{insert_key}
+use Rattle.vb_value.specs.Value.{same_type}
 use Rattle.vb_value.specs.declared.values.Ty.TheVariants as ty
-use Rattle.viper_core.specs.Typing.{same_type}
 use Rattle.viper_types.specs.declared.context.Variable.{Variable}
 use Rattle.viper_types.specs.Typing.{Scope}
 use Rattle.viper_types.specs.Stepping.{Target, is_target, is_listed, numbers_in, ref_variables}

@@ -1,9 +1,9 @@
 -- The walk over all broken rules of a file follows the typing of the file, declaration by declaration.
 use Rattle.std.proofs.Common.{Bool, true, false, not, ◌||◌, Option, Some, None, List, [], ◌∷◌, is_some}
 use Rattle.vb_base.specs.declared.places.Pos.{Pos}
+use Rattle.vb_value.specs.Value.{same_type}
 use Rattle.vb_value.specs.declared.values.Ty.TheVariants as ty
 use Rattle.viper_core.specs.Expr as e
-use Rattle.viper_core.specs.Typing.{same_type}
 use Rattle.viper_syntax.specs.Term as t
 use Rattle.viper_syntax.specs.Stmt as s
 use Rattle.viper_syntax.specs.Decl as d

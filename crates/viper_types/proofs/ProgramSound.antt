@@ -1,10 +1,10 @@
 -- What the typing of a file finds, the file is.
 use Rattle.std.proofs.Common.{◌≡◌, Bool, true, false, not, ◌||◌, Option, Some, None, List, [], ◌∷◌, is_some, refl, subst}
 use Rattle.vb_base.specs.declared.places.Pos.{Pos}
+use Rattle.vb_value.specs.Value.{same_type}
 use Rattle.vb_value.specs.declared.values.Ty.TheVariants as ty
 use Rattle.viper_core.specs.Expr as e
 use Rattle.viper_core.specs.Program as p
-use Rattle.viper_core.specs.Typing.{same_type}
 use Rattle.viper_syntax.specs.Term as t
 use Rattle.viper_syntax.specs.Stmt as s
 use Rattle.viper_syntax.specs.Decl as d

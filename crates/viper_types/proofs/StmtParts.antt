@@ -6,6 +6,7 @@ use Rattle.std.proofs.lemmas.List.Elements.{All-cons, All-nil, All-push, All-con
 use Rattle.std.proofs.lemmas.List.FromFn.{length-range_with_len, get_or-range_with_len}
 use Rattle.std.proofs.lemmas.List.Quantifiers.{all_pairs_push}
 use Rattle.std.proofs.lemmas.Option.{slice_get_within}
+use Rattle.vb_value.specs.Value.{same_type}
 use Rattle.vb_value.specs.declared.values.Ty.{Ty}
 use Rattle.vb_value.specs.declared.values.Ty.TheVariants as ty
 use Rattle.viper_core.specs.Expr as e
@@ -13,7 +14,7 @@ use Rattle.viper_core.specs.Program as p
 use Rattle.viper_core.specs.Scope as cs
 use Rattle.viper_core.specs.Stmt as c
 use Rattle.viper_core.specs.Typing as g
-use Rattle.viper_core.specs.Typing.{HasType, HaveTypes, same_type}
+use Rattle.viper_core.specs.Typing.{HasType, HaveTypes}
 use Rattle.viper_syntax.specs.Term as t
 use Rattle.viper_syntax.specs.Stmt as s
 use Rattle.viper_syntax.specs.declared.stmts.Named.{Named}

@@ -2,11 +2,11 @@
 use Rattle.std.proofs.Common.{◌≡◌, ℕ, ◌+◌, ◌++◌, true, not, Option, Some, None, List, [], ◌∷◌, nat_le, is_some, refl, subst}
 use Rattle.std.proofs.lemmas.Bool.{not-true}
 use Rattle.vb_base.specs.declared.places.Pos.{Pos}
+use Rattle.vb_value.specs.Value.{same_type}
 use Rattle.vb_value.specs.declared.values.Ty.{Ty}
 use Rattle.vb_value.specs.declared.values.Ty.TheVariants as ty
 use Rattle.viper_core.specs.Expr as e
 use Rattle.viper_core.specs.Stmt as c
-use Rattle.viper_core.specs.Typing.{same_type}
 use Rattle.viper_syntax.specs.Term as t
 use Rattle.viper_syntax.specs.Stmt as s
 use Rattle.viper_syntax.specs.declared.stmts.Named.{Named}

@@ -1,9 +1,9 @@
 -- What a typing that finds something tells of it. Each way to go on keeps this.
 use Rattle.std.proofs.Common.{◌≡◌, ◌∙◌, ℕ, Bool, true, false, Option, Some, None, if◌then◌else◌, refl, sym, is_some, not, subst}
 use Rattle.vb_base.specs.declared.places.Pos.{Pos}
+use Rattle.vb_value.specs.Value.{same_type}
 use Rattle.vb_value.specs.declared.values.Ty.{Ty}
 use Rattle.vb_value.specs.declared.values.Ty.TheVariants as ty
-use Rattle.viper_core.specs.Typing.{same_type}
 use Rattle.viper_types.specs.Outcome.{Judged, Found, Broken, then_typed, known, obeys, clear_of}
 
 pub data Tells {X : Type 0} (P : X → Type 0) : Judged X → Type 0 where

@@ -1,6 +1,7 @@
 -- The typing of declarations and programs up to the first broken rule: what the code computes.
 use Rattle.std.specs.Prelude.{ℕ, Bool, true, false, not, ◌||◌, Option, Some, None, List, [], ◌∷◌, ◌++◌, length, map, is_some, if◌then◌else◌}
 use Rattle.vb_base.specs.declared.places.Pos.{Pos}
+use Rattle.vb_value.specs.Value.{same_type}
 use Rattle.vb_value.specs.declared.values.Ty.{Ty}
 use Rattle.vb_value.specs.declared.values.Ty.TheVariants as ty
 use Rattle.viper_core.specs.Expr as e
@@ -19,7 +20,6 @@ use Rattle.viper_types.specs.declared.context.Part.TheVariants as part
 use Rattle.viper_types.specs.declared.context.Role.TheVariants as role
 use Rattle.viper_types.specs.Outcome.{Judged, Found, Broken, then_typed, obeys, then_more}
 use Rattle.viper_types.specs.Context.{World, Context, find}
-use Rattle.viper_core.specs.Typing.{same_type}
 use Rattle.viper_types.specs.Typing.{Scope, start, asserting}
 use Rattle.viper_types.specs.Frame.{Frame, type_of, declared_type, with_variable, declared_in_block}
 use Rattle.viper_types.specs.Stepping.{blocking, opening_of}

@@ -1,6 +1,7 @@
 -- The typing of programs (Viper tutorial, "The structure of Viper programs"): which typed program a file is.
 use Rattle.std.specs.Prelude.{◌≡◌, Bool, true, false, not, ◌||◌, Option, Some, None, List, [], ◌∷◌, ◌++◌, length, map}
 use Rattle.vb_base.specs.declared.places.Pos.{Pos}
+use Rattle.vb_value.specs.Value.{same_type}
 use Rattle.vb_value.specs.declared.values.Ty.{Ty}
 use Rattle.vb_value.specs.declared.values.Ty.TheVariants as ty
 use Rattle.viper_core.specs.Expr as e
@@ -14,7 +15,6 @@ use Rattle.viper_syntax.specs.declared.stmts.Formal.{Formal}
 use Rattle.viper_syntax.specs.declared.tokens.Word.TheVariants as word
 use Rattle.viper_types.specs.declared.context.Part.TheVariants as part
 use Rattle.viper_types.specs.Context.{World, Context, find}
-use Rattle.viper_core.specs.Typing.{same_type}
 use Rattle.viper_types.specs.Typing.{Scope}
 use Rattle.viper_types.specs.Typed.{Asserts}
 use Rattle.viper_types.specs.Frame.{Frame, type_of, declared_type, with_variable}

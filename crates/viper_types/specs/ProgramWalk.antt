@@ -13,8 +13,8 @@ use Rattle.viper_syntax.specs.declared.tokens.Word.TheVariants as word
 use Rattle.viper_types.specs.declared.context.Part.TheVariants as part
 use Rattle.viper_types.specs.Outcome.{Found, Broken, Walked, onward, both, once, tested, and_more}
 use Rattle.viper_types.specs.Context.{World, Context, find}
+use Rattle.vb_value.specs.Value.{same_type}
 use Rattle.vb_value.specs.declared.values.Ty.TheVariants as ty
-use Rattle.viper_core.specs.Typing.{same_type}
 use Rattle.viper_types.specs.Typing.{Scope, start}
 use Rattle.viper_types.specs.Walk.{walk_assertion}
 use Rattle.viper_types.specs.Frame.{Frame, type_of, declared_type, with_variable}

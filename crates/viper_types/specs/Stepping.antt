@@ -2,6 +2,7 @@
 use Rattle.std.specs.Prelude.{ℕ, ◌+◌, ◌==◌, Bool, true, false, not, nat_le, Option, Some, None, List, [], ◌∷◌, ◌++◌, length, is_some, if◌then◌else◌}
 use Rattle.std.specs.List.{range_with_len}
 use Rattle.vb_base.specs.declared.places.Pos.{Pos}
+use Rattle.vb_value.specs.Value.{same_type}
 use Rattle.vb_value.specs.declared.values.Ty.{Ty}
 use Rattle.vb_value.specs.declared.values.Ty.TheVariants as ty
 use Rattle.viper_core.specs.Expr as e
@@ -14,7 +15,6 @@ use Rattle.viper_syntax.specs.declared.tokens.Word.{Word}
 use Rattle.viper_syntax.specs.declared.tokens.Word.TheVariants as word
 use Rattle.viper_types.specs.Outcome.{Judged, Found, Broken, then_typed, known, obeys, clear_of, then_more}
 use Rattle.viper_types.specs.Context.{World, Context, find, field_at, method_at, nowhere}
-use Rattle.viper_core.specs.Typing.{same_type}
 use Rattle.viper_types.specs.Typing.{Scope, Typing, Located, start, typing, typing_all, permission, expected, arguments, asserting, located, as_many, misfit, exprs_in, with_body}
 use Rattle.viper_types.specs.Frame.{Frame, type_of, declared_type, declared_in_arms, declared_in_arm, frame_after, with_hidden}
 use Rattle.viper_types.specs.Target.{targets}

@@ -3,6 +3,7 @@
 -- declared with a fault is declared all the same.
 use Rattle.std.specs.Prelude.{ℕ, ◌+◌, nat_le, Option, Some, None, List, [], ◌∷◌, length}
 use Rattle.vb_base.specs.declared.places.Pos.{Pos}
+use Rattle.vb_value.specs.Value.{same_type}
 use Rattle.vb_value.specs.declared.values.Ty.TheVariants as ty
 use Rattle.viper_core.specs.Expr as e
 use Rattle.viper_core.specs.Stmt as c
@@ -13,7 +14,6 @@ use Rattle.viper_syntax.specs.declared.tokens.Word.{Word}
 use Rattle.viper_syntax.specs.declared.tokens.Word.TheVariants as word
 use Rattle.viper_types.specs.Outcome.{Found, Broken, obeys, known, Walked, onward, both, together, once, entered, looked_up, and_more}
 use Rattle.viper_types.specs.Context.{Context, method_at, nowhere}
-use Rattle.viper_core.specs.Typing.{same_type}
 use Rattle.viper_types.specs.Typing.{Scope, Located, start, as_many, with_body}
 use Rattle.viper_types.specs.Walk.{walk, walk_all, walk_expected, walk_arguments, walk_permission, walk_assertion}
 use Rattle.viper_types.specs.Frame.{Frame, declared_in_arms, declared_in_arm, frame_after, with_hidden}

@@ -2,6 +2,7 @@
 -- and the list of all broken rules in `Walk`; both are tied to this function by laws.
 use Rattle.std.specs.Prelude.{ℕ, Bool, true, false, if◌then◌else◌, pos, Option, Some, None, List, [], ◌∷◌}
 use Rattle.vb_base.specs.declared.places.Pos.{Pos}
+use Rattle.vb_value.specs.Value.{same_type}
 use Rattle.vb_value.specs.declared.values.Ty.{Ty}
 use Rattle.vb_value.specs.declared.values.Ty.TheVariants as ty
 use Rattle.vb_value.specs.Fraction.{whole}
@@ -13,7 +14,7 @@ use Rattle.viper_syntax.specs.declared.tokens.Word.{Word}
 use Rattle.viper_types.specs.declared.context.Variable.{Variable}
 use Rattle.viper_types.specs.Outcome.{Judged, Found, Broken, then_typed, known, obeys, clear_of, then_more}
 use Rattle.viper_types.specs.Context.{World, Context, Signature, find, field_at, predicate_at, allows_old, allows_permission_forms, body_at}
-use Rattle.viper_core.specs.Typing.{same_type, value_type, is_number}
+use Rattle.viper_core.specs.Typing.{value_type, is_number}
 use Rattle.viper_types.specs.Operators.{operator, literal, is_wildcard_word}
 
 -- the variables that a term sees, with their names
