@@ -1,11 +1,12 @@
 -- Maps with a default: every key has a value, and all but finitely many keys have the default. So are
 -- the total heaps and masks of a Viper state (Parthasarathy et al., Towards Trustworthy Automated
 -- Program Verifiers, PLDI 2024), and the maps of Boogie (Leino, This is Boogie 2).
-use Rattle.std.specs.Prelude.{◌≡◌, Bool, true, false, List, [], if◌then◌else◌, All, unwrap_or, refl}
-use Rattle.std.specs.List.{AllZip}
+use Rattle.std.specs.Prelude.{◌≡◌, Bool, true, false, not, ◌&&◌, List, [], ◌∷◌, if◌then◌else◌, All, unwrap_or, refl}
+use Rattle.std.specs.List.{AllZip, list_all}
 use Rattle.std.specs.List.Sorted.{IsStrictlySortedBy}
 use Rattle.std.specs.Map.{keys_of, values_of, lookup, remove_entry}
 use Rattle.std.specs.BTreeMap.{insert_entry, is_at}
+use Rattle.std.specs.Ordering.{is_lt}
 use Rattle.std.specs.Coded.{Coded, code_by, coded×, coded_list}
 use Rattle.std.specs.declared.cmp.Ordering.{Ordering}
 use Rattle.std.specs.declared.cmp.Ordering.TheVariants.{Equal}
@@ -46,6 +47,15 @@ module _ {K V : Type 0} where
 pub record IsReduced {K V : Type 0} (cmp : K → K → Ordering) (eq : V → V → Bool) (m : Map K V) : Type 0 where
   pub ascending : IsStrictlySortedBy cmp (keys m)
   pub no_default : All (λ v. eq v m.default ≡ false) (values m)
+
+-- each key is below those after it
+abbrev pub is_ascending : {K : Type 0} → (K → K → Ordering) → List K → Bool
+is_ascending cmp [] = true
+is_ascending cmp (k ∷ ks) = list_all (λ q. is_lt (cmp k q)) ks && is_ascending cmp ks
+
+-- the same as `IsReduced`, as a test
+abbrev pub is_reduced : {K V : Type 0} → (K → K → Ordering) → (V → V → Bool) → Map K V → Bool
+is_reduced cmp eq m = is_ascending cmp (keys m) && list_all (λ v. not (eq v m.default)) (values m)
 
 -- two maps that the order of the keys and the equality of the values do not tell apart
 pub record IsSame {K V : Type 0} (cmp : K → K → Ordering) (eq : V → V → Bool) (m n : Map K V) : Type 0 where

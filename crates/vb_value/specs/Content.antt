@@ -3,7 +3,7 @@
 use Rattle.std.specs.Prelude.{⊤, ℕ, ◌+◌, ◌≤◌, Bool, true, false, ◌&&◌}
 use Rattle.vb_value.specs.declared.values.Value.{Value}
 use Rattle.vb_value.specs.Bound.{Bound, IfBounded}
-use Rattle.vb_value.specs.Value.{value_eq, IsWithinValue, IsProperValue}
+use Rattle.vb_value.specs.Value.{value_eq, IsReducedValue, IsWithinValue, IsProperValue}
 
 pub data Content : Type 0 where
   Unit : Content
@@ -28,6 +28,16 @@ abbrev pub AllValues : (Value → Type 0) → Content → Type 0
 AllValues P Unit = ⊤
 AllValues P (Leaf v) = P v
 AllValues P (Pair a b) = AllValues P a × AllValues P b
+
+-- the same of a test
+abbrev pub all_values : (Value → Bool) → Content → Bool
+all_values test Unit = true
+all_values test (Leaf v) = test v
+all_values test (Pair a b) = all_values test a && all_values test b
+
+-- the fractions at its leaves are in lowest terms
+abbrev pub IsReducedContent : Content → Type 0
+IsReducedContent = AllValues IsReducedValue
 
 -- at most 4,096 nodes, and the numbers are within the bound
 pub record IsWithinContent (c : Content) : Type 0 where

@@ -1,7 +1,7 @@
 -- Fractions as reduced pairs (Viper tutorial, "Permissions": permission amounts are the rational numbers).
 -- Whole numbers have no limit here: sum, difference, product, quotient and order are those of cross products, and a
 -- `fits_` test names the products that an operation makes.
-use Rattle.std.specs.Prelude.{◌≡◌, ℕ, zero, suc, ◌*◌, ◌/◌, ◌<◌, ℤ, pos, negsuc, neg_ℤ, ◌+ℤ◌, ◌-ℤ◌, ◌*ℤ◌, Bool, true, false, not, ◌&&◌, int_div, unsigned_abs}
+use Rattle.std.specs.Prelude.{◌≡◌, ℕ, zero, suc, ◌*◌, ◌/◌, ◌<◌, ◌==◌, nat_lt, ℤ, pos, negsuc, neg_ℤ, ◌+ℤ◌, ◌-ℤ◌, ◌*ℤ◌, Bool, true, false, not, ◌&&◌, int_div, unsigned_abs}
 use Rattle.std.specs.Ordering.{int_cmp, int_eq, is_gt}
 use Rattle.std.specs.declared.cmp.Ordering.{Ordering}
 use Rattle.vb_value.specs.Bound.{Bound, IfBounded, IsWithin, is_within}
@@ -16,6 +16,10 @@ pub record Fraction : Type 0 where
 pub record IsReduced (q : Fraction) : Type 0 where
   pub positive : 0 < q.den
   pub coprime : gcd (unsigned_abs q.num) q.den ≡ 1
+
+-- the same as a test
+abbrev pub is_reduced : Fraction → Bool
+is_reduced q = nat_lt 0 q.den && (gcd (unsigned_abs q.num) q.den == 1)
 
 -- neither number is beyond MAX in magnitude
 pub record IsWithinFraction (q : Fraction) : Type 0 where

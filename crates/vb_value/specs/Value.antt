@@ -2,7 +2,7 @@
 use Rattle.std.specs.Prelude.{⊤, pos, Bool, true, false, ◌&&◌, ◌==◌}
 use Rattle.std.specs.Bool.{beq}
 use Rattle.std.specs.Ordering.{int_eq}
-use Rattle.vb_value.specs.Fraction.{Fraction, IsReduced, IsWithinFraction, IsProperFraction, none}
+use Rattle.vb_value.specs.Fraction.{Fraction, IsReduced, is_reduced, IsWithinFraction, IsProperFraction, none}
 use Rattle.vb_value.specs.Bound.{Bound, IfBounded, IsWithin}
 use Rattle.vb_value.specs.declared.values.Ty.{Ty}
 use Rattle.vb_value.specs.declared.values.Ty.TheVariants as ty
@@ -33,6 +33,13 @@ IsReducedValue (Int a) = ⊤
 IsReducedValue (Truth a) = ⊤
 IsReducedValue (Ref a) = ⊤
 IsReducedValue (Perm a) = IsReduced a
+
+-- the same as a test
+abbrev pub is_reduced_value : Value → Bool
+is_reduced_value (Int a) = true
+is_reduced_value (Truth a) = true
+is_reduced_value (Ref a) = true
+is_reduced_value (Perm a) = is_reduced a
 
 -- its fractions are in lowest terms, and its numbers are within the bound where there is one
 abbrev pub IsProperValue : Bound → Value → Type 0

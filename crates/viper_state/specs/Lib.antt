@@ -5,3 +5,4 @@ pub mod Run
 pub mod View
 pub mod Fits
 pub mod Within
+pub mod FitsTest
