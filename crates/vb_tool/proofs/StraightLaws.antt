@@ -19,6 +19,7 @@ use Rattle.viper_core.specs.Program as p
 use Rattle.viper_core.specs.Scope.{Scope, scope_after, stmts_scope}
 use Rattle.viper_core.specs.Stmt as s
 use Rattle.viper_core.specs.Typing as ty
+use Rattle.viper_core.proofs.FormedLaws.{names_have_form}
 use Rattle.vb_tool.specs.declared.straight.Op.{Op}
 use Rattle.vb_tool.specs.declared.straight.Op.TheVariants.{Add, Sub}
 use Rattle.vb_tool.specs.Formed as f
@@ -242,7 +243,7 @@ method_formed program m q h named is =
     let many = as_many program m parts.body parts.stmts h (no_returns m there.0) parts.body_is parts.stmts_are in
     let whole : f.IsMethod (method_with m parts.body.turn parts.stmts) = record {
       name = named;
-      names = list_all-from_AllPass is_name m.names h.names.names;
+      names = list_all-from_AllPass is_name m.names (names_have_form m.names h.names);
       names_differ = h.names.differ;
       stmts = subst (λ n. f.AreStmts n parts.stmts) many formed;
     } in
@@ -298,6 +299,6 @@ straight_formed program q h is =
     let are_names : typed.AreNames (map core_name program.methods) = subst typed.AreNames names h.names in
     record {
       methods = methods_formed program program.methods q (recursion_from_All _ program.methods h.methods)
-          (each_named program.methods (list_all-from_AllPass is_name (map core_name program.methods) are_names.names)) there.1;
+          (each_named program.methods (list_all-from_AllPass is_name (map core_name program.methods) (names_have_form (map core_name program.methods) are_names))) there.1;
       names_differ = subst NamesDiffer (sym (same_names program.methods q there.1)) are_names.differ;
     }

@@ -1,16 +1,22 @@
 -- What a formed program keeps, said of one of its parts.
-use Rattle.std.proofs.Common.{◌≡◌, ℕ, List, Option, Some, All, IfSome, slice_get, subst}
+use Rattle.std.proofs.Common.{◌≡◌, ℕ, List, Option, Some, All, IfSome, IsTrue, not, slice_get, get_or, subst}
+use Rattle.std.proofs.lemmas.Bool.{and_parts}
 use Rattle.std.proofs.lemmas.Option.{slice_get_within, get_or_from_slice_get}
+use Rattle.vb_base.specs.Names.{is_name, is_word}
 use Rattle.viper_core.specs.Expr as t
 use Rattle.viper_core.specs.Program.{Program, Predicate, Method, Body}
 use Rattle.viper_core.specs.Typing.{IsAssertion}
-use Rattle.viper_core.specs.Formed.{predicate_context, IsPredicate, IsMethod, IsBody, IsTypedProgram}
+use Rattle.viper_core.specs.Formed.{predicate_context, IsPredicate, IsMethod, IsBody, AreNames, IsTypedProgram}
 
 at_item : {X : Type 0} (P : X → Type 0) (xs : List X) → All P xs → (k : ℕ) (x : X) → slice_get xs k ≡ Some x → P x
 at_item P xs all k x is = subst P (get_or_from_slice_get xs k x x is) (all k x (slice_get_within xs k x is))
 
 at_some : {X : Type 0} (P : X → Type 0) (o : Option X) → IfSome o P → (x : X) → o ≡ Some x → P x
 at_some {X} P o held x is = let Q : Option X → Type 0 = λ p. IfSome p P in subst Q is held
+
+-- a name has the form of one
+pub names_have_form : (xs : List (List ℕ)) → AreNames xs → All (λ x. IsTrue (is_name x)) xs
+names_have_form xs h k x within = let name = get_or xs k x in (and_parts (is_name name) (not (is_word name)) (h.names k x within)).0
 
 pub predicate_of_typed : (p : Program) → IsTypedProgram p → (k : ℕ) (d : Predicate) → slice_get p.predicates k ≡ Some d → IsPredicate p d
 predicate_of_typed p h = at_item (IsPredicate p) p.predicates h.predicates

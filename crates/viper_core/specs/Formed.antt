@@ -1,7 +1,7 @@
 -- Which trees are programs: what a program keeps that was read and checked.
 use Rattle.std.specs.Prelude.{◌≡◌, ◌≢◌, ◌<◌, ◌≤◌, ◌^◌, ◌+◌, ℕ, max, List, [], ◌∷◌, ◌++◌, Option, None, Some, is_some, All, IfSome, IsTrue, length, map, if◌then◌else◌}
 use Rattle.std.specs.List.{range_with_len}
-use Rattle.vb_base.specs.Names.{is_name, NamesDiffer}
+use Rattle.vb_base.specs.Names.{is_viper_name, NamesDiffer}
 use Rattle.vb_value.specs.declared.values.Ty.TheVariants as ty
 use Rattle.viper_core.specs.declared.programs.Unit as u
 use Rattle.viper_core.specs.declared.programs.Unit.TheVariants as unit
@@ -15,9 +15,9 @@ use Rattle.viper_core.specs.Weight.{weight}
 abbrev pub below : ℕ → List ℕ
 below n = range_with_len 0 n
 
--- these are names, and no two of them are the same
+-- these are names of Viper, and no two of them are the same
 pub record AreNames (xs : List (List ℕ)) : Type 0 where
-  pub names : All (λ x. IsTrue (is_name x)) xs
+  pub names : All (λ x. IsTrue (is_viper_name x)) xs
   pub differ : NamesDiffer xs
 
 -- ---- predicates

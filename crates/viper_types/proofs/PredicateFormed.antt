@@ -3,7 +3,7 @@ use Rattle.std.proofs.Common.{◌≡◌, ◌≢◌, ◌∙◌, ℕ, ◌<◌, ◌
 use Rattle.std.specs.Option.{IfSome}
 use Rattle.std.proofs.lemmas.List.{length-map}
 use Rattle.std.proofs.lemmas.List.Elements.{All-from_recursion, All-head, All-tail}
-use Rattle.vb_base.specs.Names.{is_name, NamesDiffer}
+use Rattle.vb_base.specs.Names.{is_viper_name, NamesDiffer}
 use Rattle.vb_base.specs.declared.places.Pos.{Pos}
 use Rattle.vb_value.specs.declared.values.Ty.TheVariants as ty
 use Rattle.viper_core.specs.Depth.{assertion_depth}
@@ -30,7 +30,7 @@ use Rattle.viper_types.proofs.NamesApart.{Apart, differ_from_apart, formals_apar
 use Rattle.viper_types.proofs.FormalScopes.{formals_vars, formals_numbers, formals_are_variables, formals_no_perm, names_resolve, extends_itself}
 
 abbrev pub IsName : List ℕ → Type 0
-IsName x = IsTrue (is_name x)
+IsName x = IsTrue (is_viper_name x)
 
 -- what the parser promises, of one declaration
 pub record IsGoodDecl (a : d.Decl) : Type 0 where
