@@ -10,4 +10,5 @@ pub mod Plain
 pub mod Scope
 pub mod Typing
 pub mod Formed
+pub mod Part
 pub mod Budget

@@ -1,0 +1,81 @@
+-- The parts of a formed program, which calls are given: each stands in a context of the program, is typed there, and is
+-- nested no deeper than the program is.
+use Rattle.std.specs.Prelude.{◌<◌, ◌≤◌, ◌^◌, ℕ, List, Contains, IsTrue, length}
+use Rattle.vb_value.specs.declared.values.Ty.{Ty}
+use Rattle.viper_core.specs.Depth.{depth, depths, amt_depth, assertion_depth, stmt_depth, stmts_depth, blocks_of, block_depth}
+use Rattle.viper_core.specs.Expr as t
+use Rattle.viper_core.specs.Formed.{IsFormed}
+use Rattle.viper_core.specs.Scope.{Scope, scope_after, stmts_scope}
+use Rattle.viper_core.specs.Stmt as s
+use Rattle.viper_core.specs.Typing.{Site, allows_old, is_outside_predicates, Context, HasType, HaveTypes, Opens, IsAmount, IsAssertion, Frame, IsStmt, AreStmts}
+
+-- ---- expressions and assertions
+
+-- a context of a formed program: a visible variable is one of the variables, so that a store of them has its value
+pub record IsContext (c : Context) : Type 0 where
+  pub program : IsFormed c.program
+  pub visible : (x : ℕ) → Contains c.visible x → x < length c.vars
+  pub few : length c.vars < 2 ^ 32
+
+pub record IsPartExpr (c : Context) (a : t.Expr) (u : Ty) : Type 0 where
+  pub context : IsContext c
+  pub typed : HasType c a u
+  pub nested : depth a ≤ 1024
+
+-- arguments
+pub record ArePartExprs (c : Context) (args : t.Exprs) (us : List Ty) : Type 0 where
+  pub context : IsContext c
+  pub typed : HaveTypes c args us
+  pub nested : depths args ≤ 1024
+
+-- what an `unfolding` looks into
+pub record IsPartOpened (c : Context) (o : t.Opened) (u : Ty) : Type 0 where
+  pub context : IsContext c
+  pub typed : Opens c o u
+  pub nested : depth (t.Unfolding o) ≤ 1024
+
+pub record IsPartAmount (c : Context) (m : t.Amt) : Type 0 where
+  pub context : IsContext c
+  pub typed : IsAmount c m
+  pub nested : amt_depth m ≤ 1024
+
+pub record IsPartAssertion (c : Context) (a : t.Assertion) : Type 0 where
+  pub context : IsContext c
+  pub typed : IsAssertion c a
+  pub nested : assertion_depth a ≤ 1024
+
+-- ---- statements
+
+-- a scope in the body of a method of a formed program: what is visible was numbered, the parameters first
+pub record IsFrame (m : Frame) (sc : Scope) : Type 0 where
+  pub program : IsFormed m.program
+  pub params : m.params ≤ sc.fresh
+  pub visible : (x : ℕ) → Contains sc.visible x → x < sc.fresh
+  pub few : length m.vars < 2 ^ 32
+
+-- a statement that begins in this scope, and numbers no more variables than there are
+pub record IsPartStmt (m : Frame) (sc : Scope) (a : s.Stmt) : Type 0 where
+  pub frame : IsFrame m sc
+  pub typed : IsStmt m sc a
+  pub numbered : (scope_after sc a).fresh ≤ length m.vars
+  pub nested : stmt_depth a ≤ 1024
+  pub blocks : blocks_of a < 128
+
+-- the statements of a block
+pub record ArePartStmts (m : Frame) (sc : Scope) (block : s.Stmts) : Type 0 where
+  pub frame : IsFrame m sc
+  pub typed : AreStmts m sc block
+  pub numbered : (stmts_scope sc block).fresh ≤ length m.vars
+  pub nested : stmts_depth block ≤ 1024
+  pub blocks : block_depth block ≤ 128
+
+-- ---- more may be said in one context than in another
+
+-- where at least these variables are visible, and where as much may be said
+pub record IsWider (c : Context) (visible : List ℕ) (site : Site) : Type 0 where
+  pub sees : (x : ℕ) → Contains c.visible x → Contains visible x
+  pub old : IsTrue (allows_old c.site) → IsTrue (allows_old site)
+  pub outside : IsTrue (is_outside_predicates c.site) → IsTrue (is_outside_predicates site)
+
+abbrev pub widened : Context → List ℕ → Site → Context
+widened c visible site = record { program = c.program; vars = c.vars; visible = visible; site = site }
