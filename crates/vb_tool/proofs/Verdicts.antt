@@ -1,27 +1,22 @@
 -- Bytes are a program, or are refused for one reason.
 use Rattle.std.proofs.Common.{◌≡◌, ◌∙◌, ◌<◌, ◌≤◌, ◌-◌, ◌^◌, ℕ, List, [], ◌∷◌, length, Some, None, Result, Ok, Err, Vec, IfOk, refl, sym, ap, subst, arith}
 use Rattle.std.specs.declared.alloc.Global.{Global}
-use Rattle.std.proofs.lemmas.List.{length-drop}
 use Rattle.vb_base.specs.declared.places.Pos.{Pos}
+use Rattle.vb_base.specs.Place.{IsPlaceAfter, IsPlace}
 use Rattle.vb_base.proofs.Place.{same_pos}
+use Rattle.vb_base.proofs.PlaceLaws.{one_place}
 use Rattle.viper_syntax.specs.declared.tokens.LexFault.{LexFault}
 use Rattle.viper_syntax.specs.declared.tokens.LexFault.TheVariants as lex
 use Rattle.viper_syntax.specs.declared.tokens.Token.{Token}
 use Rattle.viper_syntax.specs.Decl as d
-use Rattle.viper_syntax.specs.Piece.{Skipped, Unclosed, Taken}
-use Rattle.viper_syntax.specs.Cut.{IsCut, end, piece}
 use Rattle.viper_syntax.specs.Lexed.{IsLexed, HasFault}
-use Rattle.viper_syntax.specs.Place.{IsPlaceAfter}
 use Rattle.viper_syntax.specs.Step.{UnlessMemory}
-use Rattle.viper_syntax.proofs.CutLaws.{longest_some}
 use Rattle.viper_syntax.proofs.LexLaws.{one_lexed, one_fault, lexed_or_faulty}
 use Rattle.viper_parse.specs.Answers.{IsProgram as Spelled, place_at, Gives as GivesTree, Refuses}
-use Rattle.viper_parse.specs.Place.{IsPlace}
 use Rattle.viper_parse.specs.Spells.{Spells}
-use Rattle.viper_parse.specs.declared.program.ParseFault.{ParseFault}
-use Rattle.viper_parse.specs.declared.program.ParseFault.TheVariants as parse
+use Rattle.viper_syntax.specs.declared.faults.ParseFault.{ParseFault}
+use Rattle.viper_syntax.specs.declared.faults.ParseFault.TheVariants as parse
 use Rattle.viper_parse.proofs.Parsed.{one_program as one_spelled}
-use Rattle.viper_parse.proofs.Places.{one_place}
 use Rattle.viper_core.specs.Program as p
 use Rattle.viper_core.specs.Weight.{weight}
 use Rattle.viper_types.specs.Checked.{Stops}
@@ -172,15 +167,3 @@ pub form_refusal : (bytes : List ℕ) (tokens : List Token) (source : d.SourcePr
 form_refusal bytes tokens source q r small lexed spelled is below other is_r =
     let same : refusal.NotYet ≡ r = cc in
     subst (IsRefusal bytes) same (of_tokens small lexed (of_tree spelled (not_yet is below other)))
-
--- ---- a text has no more tokens than bytes
-
-tokens_few : {before rest : List ℕ} {ts : List Token} → IsCut before rest ts → length ts ≤ length rest
-tokens_few end = omega arith
-tokens_few (piece {rest = rest} {n = n} {p = Skipped} l s at c) = let h = tokens_few c in let k = length-drop n rest in omega arith
-tokens_few (piece {p = Unclosed} l s at c) = absurd s
-tokens_few (piece {rest = rest} {n = n} {p = Taken x} l s at c) =
-    let h = tokens_few c in let k = length-drop n rest in let some = longest_some l in let within = l.within in omega arith
-
-pub few_tokens : {bytes : List ℕ} {ts : List Token} → length bytes ≤ 1048576 → IsLexed bytes ts → length ts < 2 ^ 32
-few_tokens small lexed = let h = tokens_few lexed.cut in omega (arith, h, small)

@@ -6,9 +6,8 @@ use Rattle.viper_syntax.specs.declared.tokens.LexFault.{LexFault}
 use Rattle.viper_syntax.specs.declared.tokens.Token.{Token}
 use Rattle.viper_syntax.specs.Decl as d
 use Rattle.viper_syntax.specs.Lexed.{IsLexed, HasFault}
-use Rattle.viper_syntax.specs.Place.{IsPlaceAfter}
+use Rattle.vb_base.specs.Place.{IsPlaceAfter, IsPlace}
 use Rattle.viper_parse.specs.Answers.{IsProgram as Spelled, place_at}
-use Rattle.viper_parse.specs.Place.{IsPlace}
 use Rattle.viper_parse.specs.Spells.{Spells}
 use Rattle.viper_core.specs.Program as p
 use Rattle.viper_core.specs.Weight.{weight}

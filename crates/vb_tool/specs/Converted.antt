@@ -3,8 +3,8 @@ use Rattle.vb_outer.specs.declared.fault.FileFault.{FileFault}
 use Rattle.vb_outer.specs.declared.fault.FileFault.TheVariants as file
 use Rattle.viper_syntax.specs.declared.tokens.LexFault.{LexFault}
 use Rattle.viper_syntax.specs.declared.tokens.LexFault.TheVariants as lex
-use Rattle.viper_parse.specs.declared.program.ParseFault.{ParseFault}
-use Rattle.viper_parse.specs.declared.program.ParseFault.TheVariants as parse
+use Rattle.viper_syntax.specs.declared.faults.ParseFault.{ParseFault}
+use Rattle.viper_syntax.specs.declared.faults.ParseFault.TheVariants as parse
 use Rattle.viper_types.specs.declared.faults.TypeFault.{TypeFault}
 use Rattle.viper_types.specs.declared.faults.TypeFault.TheVariants as typed
 use Rattle.vb_tool.specs.declared.status.Refusal.TheVariants as refusal

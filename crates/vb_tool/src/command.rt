@@ -18,8 +18,9 @@ use crate::straight_program::straight_program;
 use crate::trouble::Trouble;
 use std::alloc::Global;
 use vb_outer::{Shelf, Sink, read_file, write_all};
+use vb_base::place_after;
 use viper_parse::parse;
-use viper_syntax::{lex, place_after};
+use viper_syntax::lex;
 use viper_types::check;
 
 /// A Viper file has at most so many bytes.

@@ -7,8 +7,7 @@ ghost use Rattle.vb_tool.specs.Converted.{trouble_of_file, trouble_of_lex, troub
 use crate::status::Refusal;
 use vb_base::Memory;
 use vb_outer::FileFault;
-use viper_parse::ParseFault;
-use viper_syntax::LexFault;
+use viper_syntax::{LexFault, ParseFault};
 use viper_types::TypeFault;
 
 /// Why a named file gave no text.

@@ -5,8 +5,9 @@ use std::alloc::Global;
 use std::process::Abort;
 use std::test::Fail;
 use viper_core::weight;
+use vb_base::place_after;
 use viper_parse::parse;
-use viper_syntax::{lex, place_after};
+use viper_syntax::lex;
 use viper_types::check;
 
 /// Linked lists as predicates. The base is 5; cell counts 13, list 22, make 72, push 77, head 100 and fill 71.

@@ -2,7 +2,7 @@
 use Rattle.std.proofs.Common.{◌≡◌, refl, sym, ap, subst, ◌∙◌, ℕ, ℤ, pos, negsuc, suc, ◌+◌, ◌-◌, ◌≤◌, ◌<◌, ◌^◌, ◌≤ℤ◌, false, cond, not, List, [], ◌∷◌, ◌++◌, take, length, slice_get, Some, arith, unsigned_abs, IsTrue, append_assoc}
 use Rattle.std.proofs.lemmas.Int.{ints}
 use Rattle.std.proofs.lemmas.List.{append-nil, reverse-append}
-use Rattle.std.proofs.lemmas.Bool.{and_from}
+use Rattle.std.proofs.lemmas.Bool.{and_parts}
 use Rattle.std.proofs.Math.Seq.{take-append_seam}
 use Rattle.std.specs.List.{All, suffix_len, prefix_len}
 use Rattle.std.proofs.lemmas.List.Elements.{All-nil, All-cons}
@@ -39,8 +39,7 @@ literal (pos n) most above below = omega (arith, ints, below)
 literal (negsuc n) most above below = absurd (omega (arith, ints, above))
 
 right : (x : Tok) → IsProper x → IsRight Named x
-right (k.Name []) h = absurd h.form
-right (k.Name (b ∷ bs)) h = and_from _ _ h.form.0 h.form.1
+right (k.Name x) h = (and_parts _ _ h).0
 right (k.Number i) h = (h.0, let below = literal i (2 ^ 127 - 1) h.0 h.1 in omega arith)
 right (k.Word w) h = tt
 right (k.Sign o) h = tt
@@ -73,12 +72,12 @@ short_rows ts h = record {
 }
 
 -- a program of such tokens
-pub good : {ts : List Token} {p : d.SourceProgram} → IsWellFormed ts → length ts < 2 ^ 32 → Spells ts p → IsGoodSource p
-good {ts} {p} w few h =
+pub good : {ts : List Token} {p : d.SourceProgram} → IsWellFormed ts → Spells ts p → IsGoodSource p
+good {ts} {p} w h =
     let leaves = all_hold Named h (all_right ts w.proper) in
     record {
-      shallow = all_shallow_is 1024 _ (all_shallow (omega arith) h (short_rows ts w.limits));
+      shallow = all_shallow_is 1024 _ (all_shallow (omega (arith, w.few)) h (short_rows ts w.limits));
       literals = all_each HasLiterals _ leaves.0;
       names = all_each Named _ leaves.1;
-      few = omega (arith, all_counted h);
+      few = omega (arith, w.few, all_counted h);
     }

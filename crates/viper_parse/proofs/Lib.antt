@@ -7,7 +7,6 @@ pub mod Codes
 pub mod Complete
 pub mod Shallow
 pub mod Parsed
-pub mod Places
 pub mod Leaves
 pub mod Counted
 pub mod GoodLaws

@@ -15,7 +15,7 @@ use Rattle.viper_parse.specs.Tests.{Kind, Value}
 use Rattle.viper_parse.specs.Grammar as g
 use Rattle.viper_parse.specs.Grammar.{Symbol, Rule, give, read, rule}
 use Rattle.viper_parse.specs.Spells.{Derives}
-use Rattle.viper_parse.specs.Place.{Begins, IsPlace}
+use Rattle.vb_base.specs.Place.{Begins, IsPlace}
 use Rattle.viper_parse.specs.Greedy.{Reads, Front, here, step, SameFirst, token, Fails, Goes, Refuses}
 use Rattle.viper_parse.specs.Whole.{Declares, DeclareFails, FailsWhole, RefusesWhole, ReadsWhole}
 use Rattle.viper_parse.proofs.Fronts.{front_append}

@@ -6,11 +6,11 @@ use Rattle.viper_syntax.specs.declared.decls.SourceProgram.{SourceProgram}
 use Rattle.viper_syntax.specs.Decl as d
 use Rattle.viper_syntax.specs.View.{program_of}
 use Rattle.viper_parse.specs.Spells.{Spells}
-use Rattle.viper_parse.specs.Place.{IsPlace}
+use Rattle.vb_base.specs.Place.{IsPlace}
 use Rattle.viper_parse.specs.declared.parts.Stop.{Stop}
 use Rattle.viper_parse.specs.declared.parts.Stop.TheVariants as stop
-use Rattle.viper_parse.specs.declared.program.ParseFault.{ParseFault}
-use Rattle.viper_parse.specs.declared.program.ParseFault.TheVariants as fault
+use Rattle.viper_syntax.specs.declared.faults.ParseFault.{ParseFault}
+use Rattle.viper_syntax.specs.declared.faults.ParseFault.TheVariants as fault
 
 -- the tokens spell some program
 abbrev pub IsProgram : List Token → Type 0

@@ -1,7 +1,6 @@
 pub mod Tests
 pub mod Grammar
 pub mod Spells
-pub mod Place
 pub mod Greedy
 pub mod View
 pub mod Whole

@@ -1,28 +1,18 @@
 // A program from its tokens.
-ghost use Rattle.std.specs.Prelude.{◌≡◌, ◌<◌, ◌^◌, ℕ, List, length, IfOk};
+ghost use Rattle.std.specs.Prelude.{◌≡◌, ℕ, List, IfOk};
+ghost use Rattle.vb_base.specs.Place.{IsPlace};
 ghost use Rattle.viper_syntax.specs.Decl as d;
 ghost use Rattle.viper_syntax.specs.View.{program_of};
 ghost use Rattle.viper_syntax.specs.Good.{IsGoodSource};
 ghost use Rattle.viper_syntax.specs.Lexed.{IsWellFormed};
 ghost use Rattle.viper_parse.specs.Answers.{IsProgram, Gives, Refuses, place_at, fault_of};
-ghost use Rattle.viper_parse.specs.Place.{IsPlace};
 ghost use Rattle.viper_parse.specs.Spells.{Spells};
 
 use crate::decls::declarations;
 use crate::parts::Stop;
 use std::alloc::Global;
 use vb_base::Pos;
-use viper_syntax::{SourceProgram, Token};
-
-/// Why tokens are no program.
-#[derive(Clone, Copy, Debug, PartialEq, Eq)]
-pub enum ParseFault {
-    /// Memory was refused.
-    Memory,
-    /// The place of the first token such that the tokens through it begin no program, or the end where all of them
-    /// begin one.
-    Syntax(Pos),
-}
+use viper_syntax::{ParseFault, SourceProgram, Token};
 
 /// The program that the tokens of a file spell; `end` is the place past the file's last byte. It is the one tree
 /// that the grammar has for them, and a `Syntax` comes exactly where it has none. Where the tokens are those of a
@@ -32,7 +22,7 @@ pub fn parse(alloc: Global, tokens: &Vec<Token>, end: Pos) -> Result<SourceProgr
     ensures found { IfOk result (λ p. Spells tokens.now.items (program_of p)) }
     ensures only { (p : d.SourceProgram) → Spells tokens.now.items p → Gives result p }
     ensures place { Refuses result tokens.now.items end }
-    ensures good { IsWellFormed tokens.now.items → length tokens.now.items < 2 ^ 32 → IfOk result (λ p. IsGoodSource (program_of p)) }
+    ensures good { IsWellFormed tokens.now.items → IfOk result (λ p. IsGoodSource (program_of p)) }
 {
     parse_slice(alloc, tokens.as_slice(), end)
 }
@@ -41,7 +31,7 @@ fn parse_slice(alloc: Global, tokens: &[Token], end: Pos) -> Result<SourceProgra
     ensures found { IfOk result (λ p. Spells tokens.now (program_of p)) }
     ensures only { (p : d.SourceProgram) → Spells tokens.now p → Gives result p }
     ensures place { Refuses result tokens.now end }
-    ensures good { IsWellFormed tokens.now → length tokens.now < 2 ^ 32 → IfOk result (λ p. IsGoodSource (program_of p)) }
+    ensures good { IsWellFormed tokens.now → IfOk result (λ p. IsGoodSource (program_of p)) }
 {
     match declarations(alloc, tokens) {
         Ok(decls) => Ok(SourceProgram { decls }),

@@ -2,7 +2,7 @@
 // is a number, capital letters are words and signs stand for themselves or for the longer sign that they begin. The
 // place of a token is line 1 and its column; `[` and `]` are parentheses that take no column, so that trees with and
 // without them may be compared.
-use crate::{ParseFault, parse};
+use crate::parse;
 use std::alloc::{AllocError, Global};
 use std::process::Abort;
 use std::test::Fail;

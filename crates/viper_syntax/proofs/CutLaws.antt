@@ -1,26 +1,18 @@
 -- The cut as a loop goes through it, and that a text has at most one.
-use Rattle.std.proofs.Common.{◌≡◌, ◌∙◌, ℕ, ◌+◌, ◌<◌, ◌≤◌, not, refl, ap, sym, subst, arith, List, [], ◌∷◌, ◌++◌, length, take, drop, suc, zero, Option, Some, None}
-use Rattle.std.specs.Prelude.{◌==◌}
+use Rattle.std.proofs.Common.{◌≡◌, ◌∙◌, ℕ, ◌+◌, ◌<◌, ◌≤◌, refl, ap, sym, subst, arith, List, [], ◌∷◌, ◌++◌, length, take, drop, suc, zero, Option, Some, None}
 use Rattle.std.proofs.lemmas.List.{append_assoc, take-append-drop, append-nil, length-append}
-use Rattle.std.proofs.lemmas.List.Sums.{count_by-le-length, suffix_len-le-length}
 use Rattle.vb_base.specs.declared.places.Pos.{Pos}
+use Rattle.vb_base.specs.Place.{IsPlaceAfter, line_after, col_after}
 use Rattle.vb_base.proofs.Place.{same_pos}
+use Rattle.vb_base.proofs.PlaceLaws.{line_after-le, col_after-le}
 use Rattle.viper_syntax.specs.declared.tokens.LexFault.{LexFault}
 use Rattle.viper_syntax.specs.declared.tokens.LexFault.TheVariants as f
 use Rattle.viper_syntax.specs.declared.tokens.Tok.{Tok}
 use Rattle.viper_syntax.specs.declared.tokens.Token.{Token}
 use Rattle.viper_syntax.specs.Piece.{Piece, Skipped, Taken, IsLongest}
-use Rattle.viper_syntax.specs.Place.{IsPlaceAfter, line_after, col_after}
 use Rattle.viper_syntax.specs.Cut.{IsSound, tokens_at, IsCut, end, piece, IsFaultHere, Meets, here, later}
 use Rattle.viper_syntax.specs.Step.{piece_of, UnlessMemory}
 use Rattle.viper_syntax.proofs.PieceLaws.{piece_not_empty}
-
--- places are no further than the bytes before them
-pub line_after-le : (bs : List ℕ) → line_after bs ≤ length bs + 1
-line_after-le bs = omega (arith, count_by-le-length (λ b. b == 10) bs)
-
-pub col_after-le : (bs : List ℕ) → col_after bs ≤ length bs + 1
-col_after-le bs = omega (arith, suffix_len-le-length (λ b. not (b == 10)) bs)
 
 -- the cut of a text has come to this rest, at this place, with these tokens
 pub record IsReached (bytes rest : List ℕ) (line col : ℕ) (ts : List Token) : Type 0 where

@@ -3,22 +3,26 @@ use Rattle.std.proofs.Common.{◌≡◌, ◌∙◌, ◌≢◌, ℕ, pos, ◌+◌
 use Rattle.std.specs.Prelude.{◌⊎◌, ◌==◌, ◌≤ℤ◌, slice_get}
 use Rattle.std.specs.List.{list_any}
 use Rattle.std.specs.Str.{bytes_eq}
-use Rattle.std.proofs.lemmas.List.{append_assoc, append-nil, length-append, length-take-le, take_at}
+use Rattle.std.proofs.lemmas.List.{append_assoc, append-nil, length-append, length-take-le, length-drop, take_at}
+use Rattle.std.proofs.lemmas.Bool.{and_from}
 use Rattle.std.proofs.lemmas.Int.{ints}
 use Rattle.vb_base.specs.declared.places.Pos.{Pos}
+use Rattle.vb_base.specs.Names.{is_name, is_word}
+use Rattle.vb_base.specs.Place.{IsPlaceAfter, IsBefore}
+use Rattle.vb_base.proofs.PlaceLaws.{suffix_len_push, place_before}
 use Rattle.viper_syntax.specs.declared.tokens.Word.{Word}
 use Rattle.viper_syntax.specs.declared.tokens.Tok.{Tok}
 use Rattle.viper_syntax.specs.declared.tokens.Tok.TheVariants as k
 use Rattle.viper_syntax.specs.declared.tokens.Token.{Token}
 use Rattle.viper_syntax.specs.Spelling.{word_text, refused_text, refused_words, decimal}
-use Rattle.viper_syntax.specs.Piece.{IsNameForm, IsToken, word, name, number, sign, Skipped, Unclosed, Taken, IsPiece, comment, token}
-use Rattle.viper_syntax.specs.Place.{IsPlaceAfter, line_after, col_after, IsBefore}
-use Rattle.viper_syntax.specs.Cut.{MAX, IsSmall, IsCut, end, piece}
+use Rattle.viper_syntax.specs.Piece.{Piece, IsToken, word, name, number, sign, Skipped, Unclosed, Taken, IsPiece, comment, token}
+use Rattle.viper_syntax.specs.Cut.{MAX, IsSmall, tokens_at, IsCut, end, piece}
 use Rattle.viper_syntax.specs.Limit.{StaysWithin, KeepsLimits, IsUndivided, in_group, is_divider, refused, is_refused}
 use Rattle.viper_syntax.specs.Lexed.{IsLexed, IsProper, IsWellFormed}
 use Rattle.viper_syntax.proofs.LimitLaws.{refused_more, refused_found}
-use Rattle.viper_syntax.proofs.PlaceLaws.{line_after_push, col_after_push, suffix_len_push}
+
 use Rattle.viper_syntax.proofs.CutLaws.{longest_some}
+use Rattle.viper_syntax.proofs.WordLaws.{no_word}
 
 false_true : false ≡ true → ⊥
 false_true e = cc
@@ -28,7 +32,7 @@ same_token e = cc
 
 -- what a token of the cut is, with no regard to refused words
 abbrev IsCutTok : Tok → Type 0
-IsCutTok (k.Name x) = IsNameForm x × ((w : Word) → x ≢ word_text w)
+IsCutTok (k.Name x) = (is_name x ≡ true) × ((w : Word) → x ≢ word_text w)
 IsCutTok (k.Number n) = (pos 0 ≤ℤ n) × (n ≤ℤ MAX)
 IsCutTok (k.Word w) = Unit {0}
 IsCutTok (k.Sign s) = Unit {0}
@@ -62,43 +66,13 @@ none_refused ts i t h here is =
     omega (arith, more, one, h (i + 1))
 
 proper : (t : Tok) → IsCutTok t → (is_refused t ≡ true → ⊥) → IsProper t
-proper (k.Name x) h none = record {
-  form = h.0;
-  no_word = h.1;
-  no_refused_word = λ w e. none (ap (λ us. list_any (λ v. bytes_eq us (refused_text v)) refused_words) e ∙ refused_found w);
-}
+proper (k.Name x) h none =
+    and_from _ _ h.0 (ap not (no_word x h.1 (λ w e. none (ap (λ us. list_any (λ v. bytes_eq us (refused_text v)) refused_words) e ∙ refused_found w))))
 proper (k.Number n) h none = h
 proper (k.Word w) h none = tt
 proper (k.Sign s) h none = tt
 
 -- places
-
-abbrev IsBelow : ℕ → ℕ → ℕ → ℕ → Type 0
-IsBelow l c m d = (l < m) ⊎ ((l ≡ m) × (c < d))
-
-below_trans : {l c m d n e : ℕ} → IsBelow l c m d → IsBelow m d n e → IsBelow l c n e
-below_trans (inl h) (inl g) = inl (omega arith)
-below_trans (inl h) (inr g) = inl (omega arith)
-below_trans (inr h) (inl g) = inl (omega arith)
-below_trans (inr h) (inr g) = inr (omega arith, omega arith)
-
-one_byte_below : (bs : List ℕ) (b : ℕ) → IsBelow (line_after bs) (col_after bs) (line_after (bs ++ b ∷ [])) (col_after (bs ++ b ∷ []))
-one_byte_below bs b = by_case (b == 10) (line_after_push bs b) (col_after_push bs b) where
-  by_case : (t : Bool) → line_after (bs ++ b ∷ []) ≡ line_after bs + cond t 1 0 → col_after (bs ++ b ∷ []) ≡ cond t 1 (col_after bs + 1) →
-      IsBelow (line_after bs) (col_after bs) (line_after (bs ++ b ∷ [])) (col_after (bs ++ b ∷ []))
-  by_case true l c = inl (omega (arith, l))
-  by_case false l c = inr (omega (arith, l), omega (arith, c))
-
-bytes_below : (bs : List ℕ) (b : ℕ) (us : List ℕ) →
-    IsBelow (line_after bs) (col_after bs) (line_after (bs ++ b ∷ us)) (col_after (bs ++ b ∷ us))
-bytes_below bs b [] = one_byte_below bs b
-bytes_below bs b (u ∷ us) =
-    subst (λ vs. IsBelow (line_after bs) (col_after bs) (line_after vs) (col_after vs)) (append_assoc bs (b ∷ []) (u ∷ us))
-    (below_trans (one_byte_below bs b) (bytes_below (bs ++ b ∷ []) u us))
-
-place_before : (bs us : List ℕ) (p q : Pos) → 0 < length us → IsPlaceAfter bs p → IsPlaceAfter (bs ++ us) q → IsBefore p q
-place_before bs [] p q some h g = absurd (omega arith)
-place_before bs (u ∷ us) p q some h g = rw (h.line, h.col, g.line, g.col) (bytes_below bs u us)
 
 -- each token stands at a place of the text
 cut_place : (before rest : List ℕ) (ts : List Token) → IsCut before rest ts → (i : ℕ) (t : Token) → slice_get ts i ≡ Some t →
@@ -129,8 +103,22 @@ cut_order before rest ts (piece {n = n} {p = Taken x} {at = at} {ts = us} l s pl
 cut_order before rest ts (piece {n = n} {p = Taken x} {ts = us} l s pl c) (suc i) (suc j) t u lt h g =
     cut_order (before ++ take n rest) (drop n rest) us c i j t u (omega arith) h g
 
-pub well_formed : (bytes : List ℕ) (ts : List Token) → IsLexed bytes ts → IsWellFormed ts
-well_formed bytes ts h = record {
+at_most_one : (at : Pos) (p : Piece) → length (tokens_at at p) ≤ 1
+at_most_one at Skipped = omega arith
+at_most_one at Unclosed = omega arith
+at_most_one at (Taken t) = omega arith
+
+-- no more tokens than bytes
+cut_short : (before rest : List ℕ) (ts : List Token) → IsCut before rest ts → length ts ≤ length rest
+cut_short before rest ts end = omega arith
+cut_short before rest _ (piece {n = n} {p = p} {at = at} {ts = us} l s pl c) =
+    let some = longest_some l in
+    let fewer = cut_short (before ++ take n rest) (drop n rest) us c in
+    omega (arith, some, fewer, length-append (tokens_at at p) us, at_most_one at p, length-drop n rest, l.within)
+
+pub well_formed : (bytes : List ℕ) (ts : List Token) → length bytes ≤ 1048576 → IsLexed bytes ts → IsWellFormed ts
+well_formed bytes ts most h = record {
+  few = omega (arith, most, cut_short [] bytes ts h.cut);
   proper = λ i t here. proper t.tok (cut_toks [] bytes ts h.cut i t here) (none_refused ts i t h.limits.supported here);
   limits = h.limits;
   in_order = cut_order [] bytes ts h.cut;

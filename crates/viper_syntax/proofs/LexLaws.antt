@@ -4,14 +4,14 @@ use Rattle.std.specs.Prelude.{◌⊎◌, ◌≤ℤ◌, ◌<ℤ◌, slice_get}
 use Rattle.std.proofs.lemmas.Bool.{cases_lt}
 use Rattle.std.proofs.lemmas.Int.{ints}
 use Rattle.vb_base.specs.declared.places.Pos.{Pos}
-use Rattle.vb_base.proofs.Place.{same_pos}
+use Rattle.vb_base.specs.Place.{IsPlaceAfter}
+use Rattle.vb_base.proofs.PlaceLaws.{one_place_after}
 use Rattle.viper_syntax.specs.declared.tokens.LexFault.{LexFault}
 use Rattle.viper_syntax.specs.declared.tokens.LexFault.TheVariants as f
 use Rattle.viper_syntax.specs.declared.tokens.Tok.{Tok}
 use Rattle.viper_syntax.specs.declared.tokens.Tok.TheVariants as k
 use Rattle.viper_syntax.specs.declared.tokens.Token.{Token}
 use Rattle.viper_syntax.specs.Piece.{Piece, Unclosed, Taken, IsPiece, IsLongest}
-use Rattle.viper_syntax.specs.Place.{IsPlaceAfter}
 use Rattle.viper_syntax.specs.Cut.{MAX, IsSound, tokens_at, IsCut, end, piece, IsFaultHere, bad_byte, open_comment, big_literal, Meets, here, later}
 use Rattle.viper_syntax.specs.Limit.{StaysWithin, IsFirstAbove, KeepsLimits, BreaksLimit, deep_brace, long_group, refused_word, unclosed, in_group, refused}
 use Rattle.viper_syntax.specs.Step.{UnlessMemory}
@@ -25,9 +25,6 @@ one_longest bs m n p q h g =
     let same : m ≡ n = omega (arith, g.longest m p h.within h.piece, h.longest n q g.within g.piece) in
     (same, one_piece (take n bs) p q (subst (λ i. IsPiece (take i bs) p) same h.piece) g.piece)
 
-one_place : (before : List ℕ) (p q : Pos) → IsPlaceAfter before p → IsPlaceAfter before q → p ≡ q
-one_place before p q h g = same_pos p q (h.line ∙ sym g.line) (h.col ∙ sym g.col)
-
 nothing_longest : (n : ℕ) (p : Piece) → IsLongest [] n p → ⊥
 nothing_longest zero p h = piece_not_empty p h.piece
 nothing_longest (suc n) p h = piece_not_empty p h.piece
@@ -39,7 +36,7 @@ one_cut before rest ts us (piece {n = n} {p = p} h s pl c) end = absurd (nothing
 one_cut before rest _ _ (piece {n = m} {p = p} {at = a} {ts = ts} h s pl c) (piece {n = n} {p = q} {at = b} {ts = us} g s' pl' d) =
     let same = one_longest rest m n p q h g in
     let d' = subst (λ i. IsCut (before ++ take i rest) (drop i rest) us) (sym same.0) d in
-    ap (λ x. tokens_at x p ++ ts) (one_place before a b pl pl') ∙ ap (λ x. tokens_at b x ++ ts) same.1 ∙
+    ap (λ x. tokens_at x p ++ ts) (one_place_after before a b pl pl') ∙ ap (λ x. tokens_at b x ++ ts) same.1 ∙
     ap (λ x. tokens_at b q ++ x) (one_cut (before ++ take m rest) (drop m rest) ts us c d')
 
 -- faults
@@ -84,7 +81,7 @@ one_fault_here rest at e g (big_literal {n = n} {v = v} h big) (big_literal {n =
 
 pub one_meeting : (before rest : List ℕ) (e g : LexFault) → Meets before rest e → Meets before rest g → e ≡ g
 one_meeting before rest e g (here {at = a} pl h) (here {at = b} pl' h') =
-    one_fault_here rest b e g (subst (λ x. IsFaultHere rest x e) (one_place before a b pl pl') h) h'
+    one_fault_here rest b e g (subst (λ x. IsFaultHere rest x e) (one_place_after before a b pl pl') h) h'
 one_meeting before rest e g (here {at = a} pl h) (later {n = n} {p = p} l s m) = absurd (fault_not_sound rest a e n p l s h)
 one_meeting before rest e g (later {n = n} {p = p} l s m) (here {at = a} pl h) = absurd (fault_not_sound rest a g n p l s h)
 one_meeting before rest e g (later {n = n} {p = p} l s d) (later {n = m} {p = q} l' s' d') =

@@ -1,8 +1,8 @@
 pub mod ViewLaws
 mod LimitLaws
 mod Rows
-mod PlaceLaws
 mod PieceLaws
+mod WordLaws
 mod LongestLaws
 pub mod CutLaws
 pub mod LexLaws

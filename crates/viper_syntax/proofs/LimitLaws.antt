@@ -12,7 +12,7 @@ use Rattle.viper_syntax.specs.declared.tokens.RefusedWord.TheVariants as r
 use Rattle.viper_syntax.specs.declared.tokens.Token.{Token}
 use Rattle.viper_syntax.specs.Spelling.{refused_text, refused_words}
 use Rattle.viper_syntax.specs.Limit.{unclosed, unclosed_with, in_group, refused, is_divider, is_refused, StaysWithin}
-use Rattle.viper_syntax.proofs.PlaceLaws.{suffix_len_push}
+use Rattle.vb_base.proofs.PlaceLaws.{suffix_len_push}
 
 -- what a loop reads at an index is the element there
 pub item_at : {X : Type 0} (xs : List X) (i : ℕ) (x : X) → i < length xs → x ≡ get_or xs i x → slice_get xs i ≡ Some x
@@ -51,7 +51,7 @@ one_more_front f limit ts i h here n le = by_case (cases_lt i n) where
   by_case (inl past) = let e : i + 1 ≡ n = omega arith in subst (λ k. f (take k ts) ≤ limit) e here
   by_case (inr below) = h n below
 
-false_from_not : (b : Bool) → (b ≡ true → ⊥) → b ≡ false
+pub false_from_not : (b : Bool) → (b ≡ true → ⊥) → b ≡ false
 false_from_not true h = absurd (h refl)
 false_from_not false h = refl
 

@@ -1,18 +1,20 @@
 -- The longest piece with which bytes begin, by their first bytes.
 use Rattle.std.proofs.Common.{◌≡◌, ◌∙◌, ◌≢◌, ℕ, ◌+◌, ◌-◌, ◌*◌, ◌<◌, ◌≤◌, Bool, true, false, cond, not, refl, ap, sym, subst, arith, inl, inr, List, [], ◌∷◌, ◌++◌, length, take, drop, get_or, Some, None, suc, zero, pos}
 use Rattle.std.specs.Prelude.{slice_get, IsTrue, ◌⊎◌, ◌==◌, ◌&&◌, find, nat_eq, nat_le}
+use Rattle.std.specs.Char.{is_ascii_digit}
 use Rattle.std.specs.List.{list_all, prefix_len, starts_with}
 use Rattle.std.specs.Str.{bytes_eq}
-use Rattle.std.proofs.lemmas.Bool.{cases_lt}
+use Rattle.std.proofs.lemmas.Bool.{cases_lt, and_from, and_parts}
 use Rattle.std.proofs.lemmas.Bool.Decides.{nat_tests}
 use Rattle.std.proofs.lemmas.List.{drop_more, length-take, length-take-le, take_all, append_assoc, length-append}
 use Rattle.std.proofs.lemmas.List.Sums.{prefix_len-le-length}
 use Rattle.std.proofs.lemmas.Slice.Eq.{bytes_eq-Decides}
+use Rattle.vb_base.specs.Names.{is_name, is_name_start, is_name_byte}
 use Rattle.viper_syntax.specs.declared.tokens.Sign.{Sign}
 use Rattle.viper_syntax.specs.declared.tokens.Tok.{Tok}
 use Rattle.viper_syntax.specs.declared.tokens.Tok.TheVariants as k
-use Rattle.viper_syntax.specs.Spelling.{sign_text, is_blank, is_name_start, is_name_byte, is_digit, decimal, decimal_from}
-use Rattle.viper_syntax.specs.Piece.{IsNameForm, IsDigits, IsToken, number, sign, Piece, Skipped, Unclosed, Taken, line, closed, unclosed, IsPiece, blank, comment, token, HasNoClose, ClosesAt, IsLongest, BeginsNoPiece}
+use Rattle.viper_syntax.specs.Spelling.{sign_text, is_blank, decimal, decimal_from}
+use Rattle.viper_syntax.specs.Piece.{IsDigits, IsToken, number, sign, Piece, Skipped, Unclosed, Taken, line, closed, unclosed, IsPiece, blank, comment, token, HasNoClose, ClosesAt, IsLongest, BeginsNoPiece}
 use Rattle.viper_syntax.specs.Longest.{signs, longest_sign}
 use Rattle.viper_syntax.specs.Step.{BeginsWith, IsSignOnly, IsFirstClose}
 use Rattle.viper_syntax.proofs.LimitLaws.{take_through}
@@ -64,17 +66,17 @@ blank_longest (b ∷ bs) h = record { within = omega arith; piece = blank b refl
 start_is_byte : (b : ℕ) → is_name_start b ≡ true → is_name_byte b ≡ true
 start_is_byte b h = rw h refl
 
-pub name_form_of_front : (bs : List ℕ) → BeginsWith is_name_start bs → IsNameForm (take (prefix_len is_name_byte bs) bs)
+pub name_form_of_front : (bs : List ℕ) → BeginsWith is_name_start bs → is_name (take (prefix_len is_name_byte bs) bs) ≡ true
 name_form_of_front [] h = absurd h
-name_form_of_front (b ∷ bs) h = rw (start_is_byte b h, one_more (prefix_len is_name_byte bs)) (h, longest_front_passes is_name_byte bs)
+name_form_of_front (b ∷ bs) h = rw (start_is_byte b h, one_more (prefix_len is_name_byte bs)) (and_from _ _ h (longest_front_passes is_name_byte bs))
 
 pub name_longest : (bs : List ℕ) (t : Tok) → BeginsWith is_name_start bs → IsToken (take (prefix_len is_name_byte bs) bs) t →
     IsLongest bs (prefix_len is_name_byte bs) (Taken t)
 name_longest [] t h is = absurd h
 name_longest (b ∷ bs) t h is =
     record { within = prefix_len-le-length is_name_byte (b ∷ bs); piece = token is; longest = longest } where
-      form_passes : (us : List ℕ) → IsNameForm (b ∷ us) → list_all is_name_byte (b ∷ us) ≡ true
-      form_passes us form = rw (start_is_byte b form.0) form.1
+      form_passes : (us : List ℕ) → is_name (b ∷ us) ≡ true → list_all is_name_byte (b ∷ us) ≡ true
+      form_passes us form = let parts = and_parts (is_name_start b) (list_all is_name_byte us) form in and_from _ _ (start_is_byte b parts.0) parts.1
 
       longest : (m : ℕ) (q : Piece) → m ≤ length (b ∷ bs) → IsPiece (take m (b ∷ bs)) q → m ≤ prefix_len is_name_byte (b ∷ bs)
       longest zero q le piece = absurd (piece_not_empty q piece)
@@ -84,29 +86,29 @@ name_longest (b ∷ bs) t h is =
 
 -- numbers
 
-digits_from : (us : List ℕ) → list_all is_digit us ≡ true → 0 < length us → IsDigits us
+digits_from : (us : List ℕ) → list_all is_ascii_digit us ≡ true → 0 < length us → IsDigits us
 digits_from [] h long = absurd (omega arith)
 digits_from (b ∷ us) h long = h
 
-pub number_longest : (bs : List ℕ) → BeginsWith is_digit bs →
-    IsLongest bs (prefix_len is_digit bs) (Taken (k.Number (pos (decimal (take (prefix_len is_digit bs) bs)))))
+pub number_longest : (bs : List ℕ) → BeginsWith is_ascii_digit bs →
+    IsLongest bs (prefix_len is_ascii_digit bs) (Taken (k.Number (pos (decimal (take (prefix_len is_ascii_digit bs) bs)))))
 number_longest [] h = absurd h
 number_longest (b ∷ bs) h =
-    record { within = within; piece = token (number (digits_from _ (longest_front_passes is_digit (b ∷ bs)) long)); longest = longest } where
-      within : prefix_len is_digit (b ∷ bs) ≤ length (b ∷ bs)
-      within = prefix_len-le-length is_digit (b ∷ bs)
+    record { within = within; piece = token (number (digits_from _ (longest_front_passes is_ascii_digit (b ∷ bs)) long)); longest = longest } where
+      within : prefix_len is_ascii_digit (b ∷ bs) ≤ length (b ∷ bs)
+      within = prefix_len-le-length is_ascii_digit (b ∷ bs)
 
-      some : prefix_len is_digit (b ∷ bs) ≡ 1 + prefix_len is_digit bs
+      some : prefix_len is_ascii_digit (b ∷ bs) ≡ 1 + prefix_len is_ascii_digit bs
       some = rw h refl
 
-      long : 0 < length (take (prefix_len is_digit (b ∷ bs)) (b ∷ bs))
-      long = omega (arith, some, length-take-le (prefix_len is_digit (b ∷ bs)) (b ∷ bs) within)
+      long : 0 < length (take (prefix_len is_ascii_digit (b ∷ bs)) (b ∷ bs))
+      long = omega (arith, some, length-take-le (prefix_len is_ascii_digit (b ∷ bs)) (b ∷ bs) within)
 
-      longest : (m : ℕ) (q : Piece) → m ≤ length (b ∷ bs) → IsPiece (take m (b ∷ bs)) q → m ≤ prefix_len is_digit (b ∷ bs)
+      longest : (m : ℕ) (q : Piece) → m ≤ length (b ∷ bs) → IsPiece (take m (b ∷ bs)) q → m ≤ prefix_len is_ascii_digit (b ∷ bs)
       longest zero q le piece = absurd (piece_not_empty q piece)
       longest (suc m) q le piece =
           let kind = subst (λ c. Kind c (b ∷ take m bs) q) (digit_class b h) (kind_of b (take m bs) q piece) in
-          front_passes is_digit (suc m) (b ∷ bs) le kind.0
+          front_passes is_ascii_digit (suc m) (b ∷ bs) le kind.0
 
 -- elements of fronts
 
@@ -383,7 +385,7 @@ begins_from_first p [] long h = absurd (omega arith)
 begins_from_first p (b ∷ bs) long h = h
 
 pub sign_from_first : (bs : List ℕ) → 0 < length bs → is_blank (get_or bs 0 0) ≡ false → is_name_start (get_or bs 0 0) ≡ false →
-    is_digit (get_or bs 0 0) ≡ false → (get_or bs 0 0 ≡ 47 → (get_or bs 1 0 ≢ 47) × (get_or bs 1 0 ≢ 42)) → IsSignOnly bs
+    is_ascii_digit (get_or bs 0 0) ≡ false → (get_or bs 0 0 ≡ 47 → (get_or bs 1 0 ≢ 47) × (get_or bs 1 0 ≢ 42)) → IsSignOnly bs
 sign_from_first [] long no_blank no_start no_digit slash = absurd (omega arith)
 sign_from_first (b ∷ bs) long no_blank no_start no_digit slash =
     (no_blank, no_start, no_digit, λ e. (λ f. (slash e).0 (second bs 47 f), λ f. (slash e).1 (second bs 42 f))) where

@@ -1,17 +1,19 @@
 -- What a piece can be by its first byte, and that bytes are at most one piece.
 use Rattle.std.proofs.Common.{◌≡◌, ◌∙◌, ◌≢◌, ℕ, Bool, true, false, cond, refl, ap, sym, subst, arith, inl, inr, List, [], ◌∷◌, ◌++◌, length, drop, Some, None, suc, add-one, pos}
 use Rattle.std.specs.Prelude.{slice_get, ◌⊎◌, ◌&&◌, find, nat_eq, nat_lt}
+use Rattle.std.specs.Char.{is_ascii_digit}
 use Rattle.std.specs.List.{list_all}
 use Rattle.std.specs.Str.{bytes_eq}
 use Rattle.std.proofs.lemmas.Bool.Decides.{nat_tests}
+use Rattle.vb_base.specs.Names.{is_name, is_name_start, is_name_byte}
 use Rattle.viper_syntax.specs.declared.tokens.Sign.{Sign}
 use Rattle.viper_syntax.specs.declared.tokens.Sign.TheVariants as s
 use Rattle.viper_syntax.specs.declared.tokens.Word.{Word}
 use Rattle.viper_syntax.specs.declared.tokens.Word.TheVariants as w
 use Rattle.viper_syntax.specs.declared.tokens.Tok.{Tok}
 use Rattle.viper_syntax.specs.declared.tokens.Tok.TheVariants as k
-use Rattle.viper_syntax.specs.Spelling.{word_text, sign_text, is_blank, is_name_start, is_digit, decimal}
-use Rattle.viper_syntax.specs.Piece.{IsNameForm, IsDigits, IsToken, word, name, number, sign, Piece, Skipped, Taken, IsComment, line, closed, unclosed, IsPiece, blank, comment, token, HasNoClose, ClosesAt}
+use Rattle.viper_syntax.specs.Spelling.{word_text, sign_text, is_blank, decimal}
+use Rattle.viper_syntax.specs.Piece.{IsDigits, IsToken, word, name, number, sign, Piece, Skipped, Taken, IsComment, line, closed, unclosed, IsPiece, blank, comment, token, HasNoClose, ClosesAt}
 use Rattle.viper_syntax.specs.Longest.{signs}
 
 -- first bytes
@@ -23,7 +25,7 @@ pub data Class : Type 0 where
   Other : Class
 
 abbrev pub class : ℕ → Class
-class b = cond (is_blank b) Blank (cond (is_name_start b) Letter (cond (is_digit b) Digit Other))
+class b = cond (is_blank b) Blank (cond (is_name_start b) Letter (cond (is_ascii_digit b) Digit Other))
 
 abbrev head_of : List ℕ → ℕ
 head_of [] = 0
@@ -37,9 +39,9 @@ sign_class : (v : Sign) → class (head_of (sign_text v)) ≡ Other
 sign_class s.OpenParen = refl
 sign_class _ = refl
 
-word_form : (v : Word) → IsNameForm (word_text v)
-word_form w.Field = (refl, refl)
-word_form _ = (refl, refl)
+word_form : (v : Word) → is_name (word_text v) ≡ true
+word_form w.Field = refl
+word_form _ = refl
 
 pub blank_class : (b : ℕ) → is_blank b ≡ true → class b ≡ Blank
 blank_class b h = rw h refl
@@ -47,16 +49,16 @@ blank_class b h = rw h refl
 not_blank_from_start : (b : ℕ) → is_name_start b ≡ true → is_blank b ≡ false
 not_blank_from_start b h = grind (arith, nat_tests)
 
-not_blank_from_digit : (b : ℕ) → is_digit b ≡ true → is_blank b ≡ false
+not_blank_from_digit : (b : ℕ) → is_ascii_digit b ≡ true → is_blank b ≡ false
 not_blank_from_digit b h = grind (arith, nat_tests)
 
-not_start_from_digit : (b : ℕ) → is_digit b ≡ true → is_name_start b ≡ false
+not_start_from_digit : (b : ℕ) → is_ascii_digit b ≡ true → is_name_start b ≡ false
 not_start_from_digit b h = grind (arith, nat_tests)
 
 pub start_class : (b : ℕ) → is_name_start b ≡ true → class b ≡ Letter
 start_class b h = rw (not_blank_from_start b h, h) refl
 
-pub digit_class : (b : ℕ) → is_digit b ≡ true → class b ≡ Digit
+pub digit_class : (b : ℕ) → is_ascii_digit b ≡ true → class b ≡ Digit
 digit_class b h = rw (not_blank_from_digit b h, not_start_from_digit b h, h) refl
 
 -- what a piece is that begins with a byte of a class
@@ -67,20 +69,21 @@ pub data IsNamed (bs : List ℕ) : Piece → Type 0 where
 
 abbrev pub Kind : Class → List ℕ → Piece → Type 0
 Kind Blank bs p = (length bs ≡ 1) × (p ≡ Skipped)
-Kind Letter bs p = IsNameForm bs × IsNamed bs p
+Kind Letter bs p = (is_name bs ≡ true) × IsNamed bs p
 Kind Digit bs p = IsDigits bs × (p ≡ Taken (k.Number (pos (decimal bs))))
 Kind Other bs p = IsComment bs p ⊎ ((v : Sign) × (bs ≡ sign_text v) × (p ≡ Taken (k.Sign v)))
 
+left_true : (p q : Bool) → (p && q) ≡ true → p ≡ true
+left_true true q h = refl
+left_true false q h = cc
+
 kind_of_token : (b : ℕ) (bs : List ℕ) (t : Tok) → IsToken (b ∷ bs) t → Kind (class b) (b ∷ bs) (Taken t)
 kind_of_token b bs t (word v e) =
-    rw (ap (λ us. class (head_of us)) e ∙ word_class v) (subst IsNameForm (sym e) (word_form v), word_named v e)
-kind_of_token b bs t (name h no_word) = rw (start_class b h.0) (h, name_named no_word)
+    rw (ap (λ us. class (head_of us)) e ∙ word_class v) (ap is_name e ∙ word_form v, word_named v e)
+kind_of_token b bs t (name h no_word) = rw (start_class b (left_true _ _ h)) (h, name_named no_word)
 kind_of_token b bs t (number h) = rw (digit_class b (first_digit b bs h)) (h, refl) where
-  first_digit : (b : ℕ) (bs : List ℕ) → IsDigits (b ∷ bs) → is_digit b ≡ true
-  first_digit b bs h = left_true (is_digit b) (list_all is_digit bs) h where
-    left_true : (p q : Bool) → (p && q) ≡ true → p ≡ true
-    left_true true q h = refl
-    left_true false q h = cc
+  first_digit : (b : ℕ) (bs : List ℕ) → IsDigits (b ∷ bs) → is_ascii_digit b ≡ true
+  first_digit b bs h = left_true (is_ascii_digit b) (list_all is_ascii_digit bs) h
 kind_of_token b bs t (sign v e) = rw (ap (λ us. class (head_of us)) e ∙ sign_class v) (inr (v, e, refl))
 
 comment_first : (b : ℕ) (bs : List ℕ) (p : Piece) → IsComment (b ∷ bs) p → b ≡ 47
@@ -106,8 +109,8 @@ piece_not_empty p (blank c e h) = cc
 piece_not_empty p (comment (line text e h)) = cc
 piece_not_empty p (comment (closed text e h)) = cc
 piece_not_empty p (comment (unclosed text e h)) = cc
-piece_not_empty p (token (word v e)) = subst IsNameForm (sym e) (word_form v)
-piece_not_empty p (token (name h no_word)) = h
+piece_not_empty p (token (word v e)) = false_true (ap is_name e ∙ word_form v)
+piece_not_empty p (token (name h no_word)) = false_true h
 piece_not_empty p (token (number h)) = h
 piece_not_empty p (token (sign v e)) = false_true (ap (λ us. nat_lt 0 (length us)) e ∙ sign_long v)
 
@@ -116,14 +119,13 @@ some_none e = cc
 
 -- one text is at most one piece
 
-words : List Word
+abbrev pub words : List Word
 words =
     w.Field ∷ w.Predicate ∷ w.Method ∷ w.Returns ∷ w.Requires ∷ w.Ensures ∷ w.Invariant ∷ w.Var ∷ w.New ∷ w.If ∷
     w.Elseif ∷ w.Else ∷ w.While ∷ w.Inhale ∷ w.Exhale ∷ w.Assert ∷ w.Assume ∷ w.Fold ∷ w.Unfold ∷ w.Unfolding ∷ w.In ∷
     w.Acc ∷ w.Old ∷ w.Null ∷ w.True ∷ w.False ∷ w.Write ∷ w.None ∷ w.Wildcard ∷ w.Int ∷ w.Bool ∷ w.Ref ∷ w.Perm ∷ []
 
-word_found : (v : Word) → find (λ u. bytes_eq (word_text v) (word_text u)) words ≡ Some v
-unfolding words
+pub word_found : (v : Word) → find (λ u. bytes_eq (word_text v) (word_text u)) words ≡ Some v
 word_found w.Field = refl
 word_found _ = refl
 

@@ -8,21 +8,7 @@ use Rattle.viper_syntax.specs.declared.tokens.Tok.{Tok}
 use Rattle.viper_syntax.specs.declared.tokens.Tok.TheVariants as k
 use Rattle.viper_syntax.specs.declared.tokens.Token.{Token}
 use Rattle.viper_syntax.specs.Spelling.{decimal}
-use Rattle.viper_syntax.specs.Place.{line_after, col_after}
 use Rattle.viper_syntax.specs.Limit.{unclosed, in_group, refused}
-
--- a line ends at the byte 10, and at no byte 13
-first_line : line_after [] ≡ 1
-first_line = refl
-
-first_col : col_after [] ≡ 1
-first_col = refl
-
-third_line : line_after (97 ∷ 10 ∷ 13 ∷ 98 ∷ 10 ∷ 32 ∷ 99 ∷ []) ≡ 3
-third_line = refl
-
-third_col : col_after (97 ∷ 10 ∷ 13 ∷ 98 ∷ 10 ∷ 32 ∷ 99 ∷ []) ≡ 3
-third_col = refl
 
 -- leading zeros do not count
 seven : decimal (codes "007") ≡ 7

@@ -1,13 +1,13 @@
 -- The cut of a text into pieces, each the longest with which the rest of the text begins.
 use Rattle.std.specs.Prelude.{◌≢◌, ℕ, ℤ, pos, ◌-◌, ◌^◌, ◌≤ℤ◌, ◌<ℤ◌, List, [], ◌∷◌, ◌++◌, take, drop}
 use Rattle.vb_base.specs.declared.places.Pos.{Pos}
+use Rattle.vb_base.specs.Place.{IsPlaceAfter}
 use Rattle.viper_syntax.specs.declared.tokens.LexFault.{LexFault}
 use Rattle.viper_syntax.specs.declared.tokens.LexFault.TheVariants as f
 use Rattle.viper_syntax.specs.declared.tokens.Tok.{Tok}
 use Rattle.viper_syntax.specs.declared.tokens.Tok.TheVariants as k
 use Rattle.viper_syntax.specs.declared.tokens.Token.{Token}
 use Rattle.viper_syntax.specs.Piece.{Piece, Skipped, Unclosed, Taken, IsLongest, BeginsNoPiece}
-use Rattle.viper_syntax.specs.Place.{IsPlaceAfter}
 
 -- the largest number that a text may have
 abbrev pub MAX : ℤ

@@ -1,7 +1,7 @@
 -- What the parser promises of a source tree, and the checker asks: terms are not nested too deep, names are names, literals
 -- are within the bound, and no number of names is too large.
 use Rattle.std.specs.Prelude.{◌≤◌, ◌<◌, ◌^◌, ◌+◌, ◌≤ℤ◌, ℕ, ℤ, pos, max, ⊤, List, [], ◌∷◌, ◌++◌, Option, Some, None, All, IsTrue, length, map, unsigned_abs}
-use Rattle.vb_base.specs.Names.{is_name}
+use Rattle.vb_base.specs.Names.{is_name, is_viper_name}
 use Rattle.viper_syntax.specs.declared.stmts.Named.{Named}
 use Rattle.viper_syntax.specs.declared.stmts.Formal.{Formal}
 use Rattle.viper_syntax.specs.Term as t
@@ -173,6 +173,97 @@ decl_names (d.Method m) = m.name.name ∷ (formal_names m.params ++ (formal_name
 abbrev pub decls_names : List d.Decl → List (List ℕ)
 decls_names [] = []
 decls_names (x ∷ rest) = decl_names x ++ decls_names rest
+
+-- the bytes are a name of Viper
+abbrev pub IsName : List ℕ → Type 0
+IsName x = IsTrue (is_viper_name x)
+
+-- every name in a term is one
+abbrev mutual
+  pub HasNames : t.Term → Type 0
+  HasNames (t.Name x at) = IsName x
+  HasNames (t.Number n at) = ⊤
+  HasNames (t.Constant w at) = ⊤
+  HasNames (t.Unary o a at) = HasNames a
+  HasNames (t.Binary o a b at) = HasNames a × HasNames b
+  HasNames (t.Choose a b c at) = HasNames a × HasNames b × HasNames c
+  HasNames (t.Field a f at) = HasNames a × IsName f
+  HasNames (t.Old a at) = HasNames a
+  HasNames (t.Acc a m at) = HasNames a × AmountHasNames m
+  HasNames (t.Inst x es at) = IsName x × HaveNames es
+  HasNames (t.Unfolding x es m a at name_at) = IsName x × HaveNames es × AmountHasNames m × HasNames a
+
+  pub AmountHasNames : t.Amount → Type 0
+  AmountHasNames t.omitted = ⊤
+  AmountHasNames (t.given a) = HasNames a
+
+  pub HaveNames : t.Terms → Type 0
+  HaveNames t.none = ⊤
+  HaveNames (t.more a rest) = HasNames a × HaveNames rest
+
+-- the names that a program uses outside of its terms, in order: those of calls with their targets, of instances that are
+-- folded and unfolded, of the fields of a new object
+
+abbrev pub names_of : List Named → List (List ℕ)
+names_of xs = map (λ (x : Named). x.name) xs
+
+abbrev pub rhs_uses : s.SRhs → List (List ℕ)
+rhs_uses (s.CallRhs c) = c.name.name ∷ []
+rhs_uses (s.NewRhs n) = names_of n.fields
+rhs_uses (s.TermRhs a) = []
+
+abbrev pub initial_uses : Option s.SRhs → List (List ℕ)
+initial_uses None = []
+initial_uses (Some e) = rhs_uses e
+
+abbrev mutual
+  pub stmt_uses : s.SStmt → List (List ℕ)
+  stmt_uses (s.Var at x init) = initial_uses init
+  stmt_uses (s.Assign xs e) = rhs_uses e
+  stmt_uses (s.CallTo xs c) = names_of xs ++ c.name.name ∷ []
+  stmt_uses (s.Call c) = c.name.name ∷ []
+  stmt_uses (s.Check w at a) = []
+  stmt_uses (s.Fold f) = f.call.name.name ∷ []
+  stmt_uses (s.Unfold f) = f.call.name.name ∷ []
+  stmt_uses (s.If bs other) = arms_uses bs ++ else_uses other
+  stmt_uses (s.While at a is b) = block_uses b
+
+  pub block_uses : s.SBlock → List (List ℕ)
+  block_uses (s.block at ss) = stmts_uses ss
+
+  pub arm_uses : s.SArm → List (List ℕ)
+  arm_uses (s.arm at a b) = block_uses b
+
+  pub else_uses : s.SElse → List (List ℕ)
+  else_uses s.no_else = []
+  else_uses (s.else_block b) = block_uses b
+
+  pub stmts_uses : s.SStmts → List (List ℕ)
+  stmts_uses s.no_stmts = []
+  stmts_uses (s.more_stmts a rest) = stmt_uses a ++ stmts_uses rest
+
+  pub arms_uses : s.SArms → List (List ℕ)
+  arms_uses s.no_arms = []
+  arms_uses (s.more_arms a rest) = arm_uses a ++ arms_uses rest
+
+abbrev pub body_uses : Option s.SBlock → List (List ℕ)
+body_uses None = []
+body_uses (Some b) = block_uses b
+
+abbrev pub decl_uses : d.Decl → List (List ℕ)
+decl_uses (d.Field x) = []
+decl_uses (d.Predicate at x xs body) = []
+decl_uses (d.Method m) = body_uses m.body
+
+abbrev pub decls_uses : List d.Decl → List (List ℕ)
+decls_uses [] = []
+decls_uses (x ∷ rest) = decl_uses x ++ decls_uses rest
+
+-- every name of a program is a name of Viper: those that it declares, those in its terms, those that it uses elsewhere
+pub record HasViperNames (source : d.SourceProgram) : Type 0 where
+  pub declared : All IsName (decls_names source.decls)
+  pub in_terms : All HasNames (decls_terms source.decls)
+  pub used : All IsName (decls_uses source.decls)
 
 -- what the parser promises
 pub record IsGoodSource (source : d.SourceProgram) : Type 0 where

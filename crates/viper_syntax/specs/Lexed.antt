@@ -1,16 +1,13 @@
 -- What a text is as a list of tokens, or why it is none.
-use Rattle.std.specs.Prelude.{◌≡◌, ◌≢◌, ℕ, ◌<◌, pos, ◌≤ℤ◌, ◌⊎◌, Result, Ok, Err, List, [], slice_get, Some, Vec}
+use Rattle.std.specs.Prelude.{◌≡◌, ℕ, ◌<◌, ◌^◌, pos, ◌≤ℤ◌, ◌⊎◌, IsTrue, Result, Ok, Err, List, [], length, slice_get, Some, Vec}
 use Rattle.std.specs.declared.alloc.Global.{Global}
+use Rattle.vb_base.specs.Names.{is_viper_name}
+use Rattle.vb_base.specs.Place.{IsBefore}
 use Rattle.viper_syntax.specs.declared.tokens.LexFault.{LexFault}
 use Rattle.viper_syntax.specs.declared.tokens.LexFault.TheVariants as f
-use Rattle.viper_syntax.specs.declared.tokens.RefusedWord.{RefusedWord}
-use Rattle.viper_syntax.specs.declared.tokens.Word.{Word}
 use Rattle.viper_syntax.specs.declared.tokens.Tok.{Tok}
 use Rattle.viper_syntax.specs.declared.tokens.Tok.TheVariants as k
 use Rattle.viper_syntax.specs.declared.tokens.Token.{Token}
-use Rattle.viper_syntax.specs.Spelling.{word_text, refused_text}
-use Rattle.viper_syntax.specs.Piece.{IsNameForm}
-use Rattle.viper_syntax.specs.Place.{IsBefore}
 use Rattle.viper_syntax.specs.Cut.{IsCut, Meets, MAX}
 use Rattle.viper_syntax.specs.Limit.{KeepsLimits, BreaksLimit}
 
@@ -24,21 +21,16 @@ pub data HasFault (bytes : List ℕ) : LexFault → Type 0 where
   in_cut : {fault : LexFault} → Meets [] bytes fault → HasFault bytes fault
   in_limits : {ts : List Token} {fault : LexFault} → IsCut [] bytes ts → BreaksLimit ts fault → HasFault bytes fault
 
--- a name has the form of one, and is neither a word nor a refused word
-pub record IsName (x : List ℕ) : Type 0 where
-  pub form : IsNameForm x
-  pub no_word : (w : Word) → x ≢ word_text w
-  pub no_refused_word : (w : RefusedWord) → x ≢ refused_text w
-
--- a name is one, and a number is from 0 to MAX
+-- a name is one and no word, and a number is from 0 to MAX
 abbrev pub IsProper : Tok → Type 0
-IsProper (k.Name x) = IsName x
+IsProper (k.Name x) = IsTrue (is_viper_name x)
 IsProper (k.Number n) = (pos 0 ≤ℤ n) × (n ≤ℤ MAX)
 IsProper (k.Word w) = Unit {0}
 IsProper (k.Sign s) = Unit {0}
 
 -- what a parser may rely on
 pub record IsWellFormed (ts : List Token) : Type 0 where
+  pub few : length ts < 2 ^ 32
   pub proper : (i : ℕ) (t : Token) → slice_get ts i ≡ Some t → IsProper t.tok
   pub limits : KeepsLimits ts
   pub in_order : (i j : ℕ) (t u : Token) → i < j → slice_get ts i ≡ Some t → slice_get ts j ≡ Some u → IsBefore t.pos u.pos

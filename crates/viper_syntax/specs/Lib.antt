@@ -4,7 +4,6 @@ pub mod Decl
 pub mod View
 pub mod Spelling
 pub mod Piece
-pub mod Place
 pub mod Cut
 pub mod Longest
 pub mod Step

@@ -1,27 +1,24 @@
 -- The pieces that a text of Viper is made of: tokens, blanks and comments. (The Viper tutorial; both forms of comment
 -- are those of C.)
 use Rattle.std.specs.Prelude.{◌≡◌, ◌≢◌, ℕ, ◌+◌, ◌≤◌, pos, IsTrue, List, [], ◌∷◌, ◌++◌, length, take, slice_get, Some, ◌==◌, not, codes}
+use Rattle.std.specs.Char.{is_ascii_digit}
 use Rattle.std.specs.List.{list_all}
+use Rattle.vb_base.specs.Names.{is_name}
 use Rattle.viper_syntax.specs.declared.tokens.Sign.{Sign}
 use Rattle.viper_syntax.specs.declared.tokens.Word.{Word}
-use Rattle.viper_syntax.specs.Spelling.{word_text, sign_text, is_blank, is_name_start, is_name_byte, is_digit, decimal}
+use Rattle.viper_syntax.specs.Spelling.{word_text, sign_text, is_blank, decimal}
 use Rattle.viper_syntax.specs.declared.tokens.Tok.{Tok}
 use Rattle.viper_syntax.specs.declared.tokens.Tok.TheVariants as k
-
--- a letter, `_` or `$`, and then any of these, digits and `'`
-abbrev pub IsNameForm : List ℕ → Type 0
-IsNameForm [] = ⊥
-IsNameForm (b ∷ bs) = IsTrue (is_name_start b) × IsTrue (list_all is_name_byte bs)
 
 -- at least one digit, and digits only
 abbrev pub IsDigits : List ℕ → Type 0
 IsDigits [] = ⊥
-IsDigits (b ∷ bs) = IsTrue (list_all is_digit (b ∷ bs))
+IsDigits (b ∷ bs) = IsTrue (list_all is_ascii_digit (b ∷ bs))
 
 -- these bytes spell this token
 pub data IsToken (bs : List ℕ) : Tok → Type 0 where
   word : (w : Word) → bs ≡ word_text w → IsToken bs (k.Word w)
-  name : IsNameForm bs → ((w : Word) → bs ≢ word_text w) → IsToken bs (k.Name bs)
+  name : IsTrue (is_name bs) → ((w : Word) → bs ≢ word_text w) → IsToken bs (k.Name bs)
   number : IsDigits bs → IsToken bs (k.Number (pos (decimal bs)))
   sign : (s : Sign) → bs ≡ sign_text s → IsToken bs (k.Sign s)
 

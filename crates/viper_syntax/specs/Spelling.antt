@@ -1,5 +1,5 @@
--- How words and signs are spelled, and the bytes that blanks, names and numbers are made of.
-use Rattle.std.specs.Prelude.{ℕ, ◌+◌, ◌*◌, ◌-◌, Bool, ◌==◌, ◌||◌, ◌&&◌, nat_le, List, [], ◌∷◌, codes}
+-- How words and signs are spelled, and what blanks and numbers are made of.
+use Rattle.std.specs.Prelude.{ℕ, ◌+◌, ◌*◌, ◌-◌, Bool, ◌==◌, ◌||◌, List, [], ◌∷◌, codes}
 use Rattle.viper_syntax.specs.declared.tokens.RefusedWord.{RefusedWord}
 use Rattle.viper_syntax.specs.declared.tokens.RefusedWord.TheVariants as r
 use Rattle.viper_syntax.specs.declared.tokens.Word.{Word}
@@ -110,17 +110,6 @@ refused_words =
 -- a tab, the end of a line, a carriage return, a space
 abbrev pub is_blank : ℕ → Bool
 is_blank b = b == 9 || b == 10 || b == 13 || b == 32
-
--- a letter, `_` or `$`
-abbrev pub is_name_start : ℕ → Bool
-is_name_start b = (nat_le 97 b && nat_le b 122) || (nat_le 65 b && nat_le b 90) || b == 95 || b == 36
-
-abbrev pub is_digit : ℕ → Bool
-is_digit b = nat_le 48 b && nat_le b 57
-
--- these, a digit, or `'`
-abbrev pub is_name_byte : ℕ → Bool
-is_name_byte b = is_name_start b || is_digit b || b == 39
 
 -- the number that a row of digits spells: what was read before is worth ten times as much at each further digit
 abbrev pub decimal_from : ℕ → List ℕ → ℕ

@@ -1,10 +1,12 @@
 -- One step of the cut: what code makes of the text that is left.
 use Rattle.std.specs.Prelude.{◌≡◌, ◌≢◌, ℕ, ◌<◌, Bool, false, IsTrue, List, [], ◌∷◌, slice_get, Option, Some, None, Result, Ok, Err}
+use Rattle.std.specs.Char.{is_ascii_digit}
 use Rattle.vb_base.specs.declared.places.Pos.{Pos}
+use Rattle.vb_base.specs.Names.{is_name_start}
 use Rattle.viper_syntax.specs.declared.tokens.LexFault.{LexFault}
 use Rattle.viper_syntax.specs.declared.tokens.LexFault.TheVariants as f
 use Rattle.viper_syntax.specs.declared.tokens.Tok.{Tok}
-use Rattle.viper_syntax.specs.Spelling.{is_blank, is_name_start, is_digit}
+use Rattle.viper_syntax.specs.Spelling.{is_blank}
 use Rattle.viper_syntax.specs.Piece.{Piece, Skipped, Taken, IsLongest, ClosesAt}
 use Rattle.viper_syntax.specs.Cut.{IsSound, IsFaultHere}
 
@@ -17,7 +19,7 @@ BeginsWith p (b ∷ bs) = IsTrue (p b)
 abbrev pub IsSignOnly : List ℕ → Type 0
 IsSignOnly [] = ⊥
 IsSignOnly (b ∷ bs) =
-    (is_blank b ≡ false) × (is_name_start b ≡ false) × (is_digit b ≡ false) ×
+    (is_blank b ≡ false) × (is_name_start b ≡ false) × (is_ascii_digit b ≡ false) ×
     (b ≡ 47 → (slice_get bs 0 ≢ Some 47) × (slice_get bs 0 ≢ Some 42))
 
 -- the first `*/` stands at this index

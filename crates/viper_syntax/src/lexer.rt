@@ -8,10 +8,9 @@ ghost use Rattle.viper_syntax.specs.Lexed.{IsLexed, HasFault, IsWellFormed, Give
 
 use crate::limits::broken_limit;
 use crate::pieces::piece;
-use crate::places::advance;
 use crate::{LexFault, Token};
 use std::alloc::Global;
-use vb_base::Pos;
+use vb_base::{Pos, advance};
 
 /// The tokens of a text of at most 1,048,576 bytes.
 ///

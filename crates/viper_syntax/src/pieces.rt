@@ -1,8 +1,10 @@
 // The longest piece with which a text begins.
 ghost use Rattle.std.specs.Prelude.{◌≡◌, ◌≤◌, ◌<◌, ◌^◌, ◌==◌, not, pos, ℕ, IsTrue, IfOk, MatchOption, List, length, slice_index};
+ghost use Rattle.std.specs.Char.{is_ascii_digit};
 ghost use Rattle.std.specs.List.{prefix_len, list_all};
 ghost use Rattle.viper_syntax.specs.declared.tokens.Tok.TheVariants as k;
-ghost use Rattle.viper_syntax.specs.Spelling.{is_blank, is_name_start, is_name_byte, is_digit, decimal};
+ghost use Rattle.vb_base.specs.Names.{is_name_start, is_name_byte};
+ghost use Rattle.viper_syntax.specs.Spelling.{is_blank, decimal};
 ghost use Rattle.viper_syntax.specs.Piece.{Taken, HasNoClose, IsLongest};
 ghost use Rattle.viper_syntax.specs.Step.{BeginsWith, IsFirstClose, IsSignOnly, IsStep};
 
@@ -52,7 +54,7 @@ fn name(alloc: Global, text: &[u8]) -> Result<(Tok, usize), AllocError>
 
 /// The number with which a text begins.
 fn number(text: &[u8], at: Pos) -> Result<(Option<Tok>, usize), LexFault>
-    requires { BeginsWith is_digit text.now }
+    requires { BeginsWith is_ascii_digit text.now }
     ensures { IsStep text.now at result }
 {
     let len = digits_len(text);
@@ -94,7 +96,7 @@ fn name_len(text: &[u8]) -> usize
 
 /// How many bytes from the first on are digits.
 fn digits_len(text: &[u8]) -> usize
-    ensures { result ≡ prefix_len is_digit text.now }
+    ensures { result ≡ prefix_len is_ascii_digit text.now }
 {
     text.iter().take_while(|b| b.is_ascii_digit()).count()
 }
@@ -143,7 +145,7 @@ fn is_name_byte(byte: u8) -> bool
 
 /// The number that digits spell, unless it is above 2^127 - 1.
 fn decimal(digits: &[u8]) -> Option<i128>
-    requires { IsTrue (list_all is_digit digits.now) }
+    requires { IsTrue (list_all is_ascii_digit digits.now) }
     ensures { MatchOption result (2 ^ 127 ≤ decimal digits.now) (λ n. (n ≡ pos (decimal digits.now)) × (decimal digits.now < 2 ^ 127)) }
 {
     let mut value: u128 = 0;

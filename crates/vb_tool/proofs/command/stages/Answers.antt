@@ -9,7 +9,7 @@ use Rattle.vb_tool.specs.View as v
 use Rattle.vb_tool.proofs.CallLaws.{error_is}
 use Rattle.vb_tool.proofs.StraightLaws.{straight_formed}
 use Rattle.vb_tool.proofs.Translation.{translates}
-use Rattle.vb_tool.proofs.Verdicts.{lex_refusal, parse_refusal, type_refusal, form_refusal, few_tokens}
+use Rattle.vb_tool.proofs.Verdicts.{lex_refusal, parse_refusal, type_refusal, form_refusal}
 use Rattle.vb_tool.proofs.command.stages.Goals as goal
 
 pub returns-in_err-tokens-clause-refusal : goal.returns-in_err-tokens-clause-refusal
@@ -39,7 +39,7 @@ pub returns-clause-text : goal.returns-clause-text
 returns-clause-text c =
     let lexed = c.in_ok-tokens.ensures.tokens in
     let straight = sym c.in_ok-program.ensures ∙ ap (option_map v.program_of) c.in-Some.is in
-    let formed = c.in_ok-typed.ensures.formed (c.in_ok-source.ensures.good c.in_ok-tokens.ensures.well_formed (few_tokens c.requires lexed)) in
+    let formed = c.in_ok-typed.ensures.formed (c.in_ok-source.ensures.good c.in_ok-tokens.ensures.well_formed) in
     let written = c.in_ok-print.ensures ∙ ap program_text c.in_ok-boogie.ensures in
     record {
       program = v.program_of c.in-Some.program;

@@ -1,5 +1,5 @@
 use Rattle.viper_parse.specs.Answers.{IsProgram}
-use Rattle.viper_parse.proofs.Places.{one_place}
+use Rattle.vb_base.proofs.PlaceLaws.{one_place}
 use Rattle.viper_parse.proofs.program.one_place.Goals as goal
 
 pub returns : goal.returns

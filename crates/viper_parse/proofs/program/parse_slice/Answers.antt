@@ -17,4 +17,4 @@ pub returns-in-Err-clause-place : goal.returns-in-Err-clause-place
 returns-in-Err-clause-place c = subst (λ f. Refuses (Err f) c.args.tokens.now c.args.end) (sym c.fault.ensures) (refuses_there _ c.args.end _ c.in-Err.ensures)
 
 pub returns-in-Ok-clause-good : goal.returns-in-Ok-clause-good
-returns-in-Ok-clause-good c = λ w few. good w few (spelled c.in-Ok.ensures)
+returns-in-Ok-clause-good c = λ w. good w (spelled c.in-Ok.ensures)

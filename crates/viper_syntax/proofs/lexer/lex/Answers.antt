@@ -39,4 +39,4 @@ returns-in-None-clause-only_fault c g h =
 
 pub returns-in-None-clause-well_formed : goal.returns-in-None-clause-well_formed
 returns-in-None-clause-well_formed c =
-    well_formed c.args.bytes.now _ (lexed_in_limits _ _ _ c.in_ok-tokens.ensures c.deref.ensures.value c.in-None.ensures)
+    well_formed c.args.bytes.now _ c.requires (lexed_in_limits _ _ _ c.in_ok-tokens.ensures c.deref.ensures.value c.in-None.ensures)

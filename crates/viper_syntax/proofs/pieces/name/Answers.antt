@@ -1,9 +1,10 @@
 use Rattle.std.proofs.Common.{◌≡◌, ◌≢◌, take, ℕ, List}
 use Rattle.std.specs.List.{prefix_len}
+use Rattle.vb_base.specs.Names.{is_name_start, is_name_byte}
 use Rattle.viper_syntax.specs.declared.tokens.Tok.{Tok}
 use Rattle.viper_syntax.specs.declared.tokens.Tok.TheVariants as k
 use Rattle.viper_syntax.specs.declared.tokens.Word.{Word}
-use Rattle.viper_syntax.specs.Spelling.{word_text, is_name_start, is_name_byte}
+use Rattle.viper_syntax.specs.Spelling.{word_text}
 use Rattle.viper_syntax.specs.Piece.{word, name, IsLongest, Taken}
 use Rattle.viper_syntax.specs.Step.{BeginsWith}
 use Rattle.viper_syntax.proofs.LongestLaws.{name_longest, name_form_of_front}
