@@ -1,0 +1,6 @@
+//! Tests of public calls, for what no clause says: each call once with values worked out by hand, and printed forms. A
+//! table is one string, a row a line.
+#![tactic(auto)]
+
+#[cfg(test)]
+mod numbers;
