@@ -151,7 +151,7 @@ abbrev from : {A : Type 0} → Option A → (A → List ℕ) → List ℕ
 from None f = []
 from (Some y) f = f y
 
-abbrev then_ends : {A B : Type 0} → Option A → (A → Option B) → Option B
+abbrev pub then_ends : {A B : Type 0} → Option A → (A → Option B) → Option B
 then_ends None f = None
 then_ends (Some y) f = f y
 
@@ -161,7 +161,7 @@ begins (need c go) = codes c
 begins (when c go other) = codes c ++ begins other
 begins (read a go) = first_codes a ++ from (empty a) (λ y. begins (go y))
 
-abbrev ends : {s : Kind} → Rule s → Option (Value s)
+abbrev pub ends : {s : Kind} → Rule s → Option (Value s)
 ends (give x) = Some x
 ends (need c go) = None
 ends (when c go other) = ends other
@@ -219,7 +219,7 @@ first_ok g.Unary = refl
 first_ok (g.Fields p) = refl
 first_ok g.First = refl
 
-empty_ok : {s : Kind} (a : Symbol s) → ends (rule a) ≡ empty a
+pub empty_ok : {s : Kind} (a : Symbol s) → ends (rule a) ≡ empty a
 empty_ok (g.Program ds) = refl
 empty_ok (g.Predicate at) = refl
 empty_ok (g.Method at) = refl
@@ -259,7 +259,7 @@ empty_ok g.First = refl
 no_token : {A : Type 0} {b : Bool} {r : Kind} {c : Test b r} {ts us : List Token} {v : Value r} → Starts c ts v us → ts ≡ [] → A
 no_token q e = let x : [] ≡ q.token ∷ _ = sym e ∙ q.is in absurd (cc)
 
-ends_right : {s : Kind} {a : Rule s} {ts : List Token} {x : Value s} → Derives s a ts x → ts ≡ [] → ends a ≡ Some x
+pub ends_right : {s : Kind} {a : Rule s} {ts : List Token} {x : Value s} → Derives s a ts x → ts ≡ [] → ends a ≡ Some x
 ends_right plain.given e = refl
 ends_right (plain.needed q d) e = no_token q e
 ends_right (plain.taken q d) e = no_token q e

@@ -6,6 +6,7 @@ pub mod Whole
 pub mod Codes
 pub mod Complete
 pub mod Shallow
+pub mod Answered
 pub mod Parsed
 pub mod Leaves
 pub mod Counted

@@ -1,7 +1,8 @@
 -- What `parse` answers, from how the declarations were read.
-use Rattle.std.proofs.Common.{◌≡◌, refl, sym, ap, subst, ◌∙◌, zero, ◌-◌, List, [], ◌∷◌, ◌++◌, length, Err}
+use Rattle.std.proofs.Common.{◌≡◌, refl, sym, ap, subst, ◌∙◌, ℕ, zero, ◌-◌, ◌⊎◌, inl, inr, List, [], ◌∷◌, ◌++◌, length, Err}
 use Rattle.std.proofs.lemmas.List.{append-nil}
 use Rattle.vb_base.specs.declared.places.Pos.{Pos}
+use Rattle.vb_base.specs.Place.{IsPlace}
 use Rattle.viper_syntax.specs.declared.tokens.Token.{Token}
 use Rattle.viper_syntax.specs.Decl as d
 use Rattle.viper_parse.specs.declared.parts.Stop.{Stop}
@@ -13,9 +14,10 @@ use Rattle.viper_parse.specs.Spells.{Derives, Spells}
 use Rattle.viper_parse.specs.Greedy.{Reads, SameFirst, token, end}
 use Rattle.viper_parse.specs.Whole.{FailsWhole, RefusesWhole}
 use Rattle.viper_parse.specs.Answers.{IsProgram, place_at, Gives, Refuses, fault_of}
-use Rattle.viper_parse.proofs.Reading.{derivation, one_reading}
-use Rattle.viper_parse.proofs.Whole.{split, place_of, count}
+use Rattle.viper_parse.proofs.Reading.{derivation, one_reading, start}
+use Rattle.viper_parse.proofs.Whole.{split, place_of, count, left_over, whole_fails}
 use Rattle.viper_parse.proofs.Complete.{complete}
+use Rattle.viper_parse.proofs.Answered.{Answer, reads, goes_wrong, answered}
 
 program_is : (p q : d.SourceProgram) → p.decls ≡ q.decls → p ≡ q
 program_is p q e = λ t. record { decls = e t }
@@ -61,3 +63,16 @@ refuses_there ts last (stop.Before r) h =
     let At : List Token → Type 0 = λ l. place_at l (length l - length r.now) last ≡ place_at r.now zero last in
     let there : At (q.front ++ r.now) = ap (λ n. place_at (q.front ++ r.now) n last) (count q.front r.now) ∙ next_place q.front r.now last in
     (i, place_of IsProgram (λ l h. (h.0.decls, complete h.1)) (λ l ds h. (record { decls = ds }, h)) ts r.now h, sym (subst At (sym q.left) there))
+
+-- each list of tokens spells a program, or has a place where it goes wrong
+
+place_for : {ts : List Token} (r : List Token) → FailsWhole ts r → (i : ℕ) × IsPlace IsProgram ts i
+place_for {ts = ts} r f = (length ts - length r, place_of IsProgram (λ l h. (h.0.decls, complete h.1)) (λ l ds h. (record_of ds, h)) ts r f)
+
+by_answer : {ts : List Token} → Answer v.decls (rule (g.Program [])) ts → IsProgram ts ⊎ ((i : ℕ) × IsPlace IsProgram ts i)
+by_answer (reads ds [] h) = inl (record_of ds, spelled h)
+by_answer (reads ds (k ∷ us) h) = inr (place_for (k ∷ us) (left_over h k us refl))
+by_answer {ts = ts} (goes_wrong r f) = inr (place_for r (whole_fails {ds = []} (start (rule (g.Program [])) ts) f))
+
+pub has_answer : (ts : List Token) → IsProgram ts ⊎ ((i : ℕ) × IsPlace IsProgram ts i)
+has_answer ts = by_answer (answered (g.Program []) ts)

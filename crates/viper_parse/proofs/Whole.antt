@@ -37,7 +37,7 @@ declares_error ts w res e f h =
 
 -- a declaration goes wrong, and so does the program
 
-whole_fails : {ts us z : List Token} {ds : List d.Decl} → Goes (rule (g.Program [])) ts (rule (g.Program ds)) us → Fails (rule (g.Program ds)) us z → FailsWhole ts z
+pub whole_fails : {ts us z : List Token} {ds : List d.Decl} → Goes (rule (g.Program [])) ts (rule (g.Program ds)) us → Fails (rule (g.Program ds)) us z → FailsWhole ts z
 whole_fails g f =
     let h = g.fails _ f in
     record {

@@ -9,7 +9,7 @@ mod stmts;
 mod terms;
 mod tokens;
 
-pub use program::{one_place, one_tree, parse};
+pub use program::{has_answer, one_place, one_tree, parse};
 
 #[cfg(test)]
 mod tests;

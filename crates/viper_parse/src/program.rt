@@ -1,5 +1,5 @@
 // A program from its tokens.
-ghost use Rattle.std.specs.Prelude.{◌≡◌, ℕ, List, IfOk};
+ghost use Rattle.std.specs.Prelude.{◌≡◌, ◌⊎◌, ℕ, List, IfOk};
 ghost use Rattle.vb_base.specs.Place.{IsPlace};
 ghost use Rattle.viper_syntax.specs.Decl as d;
 ghost use Rattle.viper_syntax.specs.View.{program_of};
@@ -66,4 +66,9 @@ pub fn one_tree()
 /// A list of tokens goes wrong at one place at most.
 pub fn one_place()
     ensures { (ts : List Token) (i j : ℕ) → IsPlace IsProgram ts i → IsPlace IsProgram ts j → i ≡ j }
+{}
+
+/// Each list of tokens spells a program or goes wrong at a place.
+pub fn has_answer()
+    ensures { (ts : List Token) → IsProgram ts ⊎ ((i : ℕ) × IsPlace IsProgram ts i) }
 {}

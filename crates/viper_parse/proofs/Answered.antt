@@ -1,0 +1,323 @@
+-- Each list of tokens is read, or goes wrong somewhere: by the number of its tokens, and then by the rank of the symbol.
+use Rattle.std.proofs.Common.{◌≡◌, refl, sym, ap, subst, ◌∙◌, ℕ, ℤ, pos, negsuc, zero, suc, ◌+◌, ◌-◌, ◌<◌, ◌≤◌, ◌⊎◌, inl, inr, Bool, true, false, cond, List, [], ◌∷◌, length, Some, None, slice_get, arith}
+use Rattle.std.proofs.lemmas.Bool.{cases_order}
+use Rattle.std.proofs.lemmas.List.{length-append}
+use Rattle.viper_syntax.specs.declared.tokens.Token.{Token}
+use Rattle.viper_syntax.specs.declared.tokens.Tok.{Tok}
+use Rattle.viper_syntax.specs.declared.tokens.Tok.TheVariants as tok
+use Rattle.viper_syntax.specs.declared.tokens.Word.{Word}
+use Rattle.viper_syntax.specs.declared.tokens.Word.TheVariants as word
+use Rattle.viper_syntax.specs.declared.tokens.Sign.{Sign}
+use Rattle.viper_syntax.specs.declared.tokens.Sign.TheVariants as sign
+use Rattle.viper_parse.specs.declared.parts.WordClass.{WordClass}
+use Rattle.viper_parse.specs.Tests.{Kind, Value, Test, this, a_name, a_number, one_of, a_negation, an_operator, Passes, Starts, belongs, is_negation, level_of}
+use Rattle.viper_parse.specs.Grammar as g
+use Rattle.viper_parse.specs.Grammar.{Symbol, Rule, give, need, when, read, rule}
+use Rattle.viper_parse.specs.Spells.{Derives}
+use Rattle.viper_parse.specs.Greedy.{IsNot, Reads, given, needed, taken, passed, called, Fails}
+use Rattle.viper_parse.proofs.Reading.{derivation, fails_needed, fails_taken, fails_passed, fails_called, fails_in, fails_here}
+use Rattle.viper_parse.proofs.Codes.{word_code, sign_code, empty}
+use Rattle.viper_parse.proofs.Complete.{ends_right, empty_ok}
+
+-- whether two tokens are the same
+
+abbrev Decided : Type 0 → Type 0
+Decided A = A ⊎ (A → ⊥)
+
+same_number : (m n : ℕ) → Decided (m ≡ n)
+same_number m n = elim (cases_order m n) [
+  | inl e ↦ inl e
+  | inr (inl lt) ↦ inr (λ e. omega (arith, lt, e))
+  | inr (inr lt) ↦ inr (λ e. omega (arith, lt, e))
+]
+
+decided_by : {A B : Type 0} → (A → B) → (B → A) → Decided A → Decided B
+decided_by f g (inl a) = inl (f a)
+decided_by f g (inr n) = inr (λ b. n (g b))
+
+cons_is : {x y : ℕ} {xs ys : List ℕ} → x ≡ y → xs ≡ ys → x ∷ xs ≡ y ∷ ys
+cons_is e f = cc
+
+same_cons : {x y : ℕ} {xs ys : List ℕ} → Decided (x ≡ y) → Decided (xs ≡ ys) → Decided (x ∷ xs ≡ y ∷ ys)
+same_cons (inl e) (inl f) = inl (cons_is e f)
+same_cons (inr n) d = inr (λ e. n (cc))
+same_cons d (inr n) = inr (λ e. n (cc))
+
+same_bytes : (xs ys : List ℕ) → Decided (xs ≡ ys)
+same_bytes [] [] = inl refl
+same_bytes (x ∷ xs) (y ∷ ys) = same_cons (same_number x y) (same_bytes xs ys)
+same_bytes [] (y ∷ ys) = inr (λ e. cc)
+same_bytes (x ∷ xs) [] = inr (λ e. cc)
+
+same_integer : (i j : ℤ) → Decided (i ≡ j)
+same_integer (pos m) (pos n) = decided_by (λ e. ap pos e) (λ e. cc) (same_number m n)
+same_integer (negsuc m) (negsuc n) = decided_by (λ e. ap negsuc e) (λ e. cc) (same_number m n)
+same_integer (pos m) (negsuc n) = inr (λ e. cc)
+same_integer (negsuc m) (pos n) = inr (λ e. cc)
+
+-- the words and the signs in the order of their codes
+
+abbrev words : List Word
+words =
+    word.Field ∷ word.Predicate ∷ word.Method ∷ word.Returns ∷ word.Requires ∷ word.Ensures ∷ word.Invariant ∷ word.Var ∷
+    word.New ∷ word.If ∷ word.Elseif ∷ word.Else ∷ word.While ∷ word.Inhale ∷ word.Exhale ∷ word.Assert ∷ word.Assume ∷
+    word.Fold ∷ word.Unfold ∷ word.Unfolding ∷ word.In ∷ word.Acc ∷ word.Old ∷ word.Null ∷ word.True ∷ word.False ∷
+    word.Write ∷ word.None ∷ word.Wildcard ∷ word.Int ∷ word.Bool ∷ word.Ref ∷ word.Perm ∷ []
+
+abbrev signs : List Sign
+signs =
+    sign.OpenParen ∷ sign.CloseParen ∷ sign.OpenBrace ∷ sign.CloseBrace ∷ sign.OpenBracket ∷ sign.CloseBracket ∷ sign.Comma ∷
+    sign.Semicolon ∷ sign.Dot ∷ sign.Colon ∷ sign.Assign ∷ sign.Question ∷ sign.Iff ∷ sign.Implies ∷ sign.Or ∷ sign.And ∷
+    sign.Equal ∷ sign.NotEqual ∷ sign.AtMost ∷ sign.AtLeast ∷ sign.Less ∷ sign.Greater ∷ sign.Plus ∷ sign.Minus ∷ sign.Star ∷
+    sign.Slash ∷ sign.Backslash ∷ sign.Percent ∷ sign.Not ∷ []
+
+word_there : (w : Word) → slice_get words (word_code w - 10) ≡ Some w
+word_there word.Field = refl
+word_there _ = refl
+
+sign_there : (o : Sign) → slice_get signs (sign_code o - 50) ≡ Some o
+sign_there sign.OpenParen = refl
+sign_there _ = refl
+
+some_is : {A : Type 0} {x y : A} → Some x ≡ Some y → x ≡ y
+some_is e = cc
+
+one_word : (a b : Word) → word_code a ≡ word_code b → a ≡ b
+one_word a b e = some_is (sym (word_there a) ∙ ap (λ n. slice_get words (n - 10)) e ∙ word_there b)
+
+one_sign : (a b : Sign) → sign_code a ≡ sign_code b → a ≡ b
+one_sign a b e = some_is (sym (sign_there a) ∙ ap (λ n. slice_get signs (n - 50)) e ∙ sign_there b)
+
+same_tok : (a b : Tok) → Decided (a ≡ b)
+same_tok (tok.Name x) (tok.Name y) = decided_by (λ e. ap tok.Name e) (λ e. cc) (same_bytes x y)
+same_tok (tok.Number i) (tok.Number j) = decided_by (λ e. ap tok.Number e) (λ e. cc) (same_integer i j)
+same_tok (tok.Word a) (tok.Word b) = decided_by (λ e. ap tok.Word (one_word a b e)) (λ e. let same : a ≡ b = cc in ap word_code same) (same_number (word_code a) (word_code b))
+same_tok (tok.Sign a) (tok.Sign b) = decided_by (λ e. ap tok.Sign (one_sign a b e)) (λ e. let same : a ≡ b = cc in ap sign_code same) (same_number (sign_code a) (sign_code b))
+same_tok _ _ = inr (λ e. cc)
+
+-- whether a token passes a test
+
+data Tried {b : Bool} {r : Kind} (c : Test b r) (k : Token) : Type 0 where
+  right : (v : Value r) → Passes c k v → Tried c k
+  wrong : ((v : Value r) → Passes c k v → ⊥) → Tried c k
+
+try_this : (x : Tok) (k : Token) → Decided (k.tok ≡ x) → Tried (this x) k
+try_this x k (inl e) = right k.pos (e, refl)
+try_this x k (inr n) = wrong (λ v p. n p.0)
+
+try_name : (k : Token) (t : Tok) → k.tok ≡ t → Tried a_name k
+try_name k (tok.Name x) e = right (record { name = x; pos = k.pos }) (e, refl)
+try_name k _ e = wrong (λ v p. cc)
+
+try_number : (k : Token) (t : Tok) → k.tok ≡ t → Tried a_number k
+try_number k (tok.Number n) e = right (n, k.pos) (e, refl)
+try_number k _ e = wrong (λ v p. cc)
+
+not_both : (b : Bool) → b ≡ false → b ≡ true → ⊥
+not_both b e f = cc
+
+try_member : (c : WordClass) (k : Token) (w : Word) (b : Bool) → k.tok ≡ tok.Word w → belongs c w ≡ b → Tried (one_of c) k
+try_member c k w true e h = right (w, k.pos) (e, refl, h)
+try_member c k w false e h = wrong (λ v p. let same : v.0 ≡ w = cc in not_both (belongs c w) h (subst (λ u. belongs c u ≡ true) same p.2))
+
+try_word : (c : WordClass) (k : Token) (t : Tok) → k.tok ≡ t → Tried (one_of c) k
+try_word c k (tok.Word w) e = try_member c k w (belongs c w) e refl
+try_word c k _ e = wrong (λ v p. cc)
+
+try_minus : (k : Token) (o : Sign) (b : Bool) → k.tok ≡ tok.Sign o → is_negation o ≡ b → Tried a_negation k
+try_minus k o true e h = right (o, k.pos) (e, refl, h)
+try_minus k o false e h = wrong (λ v p. let same : v.0 ≡ o = cc in not_both (is_negation o) h (subst (λ u. is_negation u ≡ true) same p.2))
+
+try_negation : (k : Token) (t : Tok) → k.tok ≡ t → Tried a_negation k
+try_negation k (tok.Sign o) e = try_minus k o (is_negation o) e refl
+try_negation k _ e = wrong (λ v p. cc)
+
+try_level : (n : ℕ) (k : Token) (o : Sign) → k.tok ≡ tok.Sign o → Decided (level_of o ≡ n) → Tried (an_operator n) k
+try_level zero k o e d = wrong (λ v p. omega (arith, p.3))
+try_level (suc n) k o e (inl h) = right (o, k.pos) (e, refl, h, omega arith)
+try_level (suc n) k o e (inr h) = wrong (λ v p. let same : v.0 ≡ o = cc in h (subst (λ u. level_of u ≡ suc n) same p.2))
+
+try_operator : (n : ℕ) (k : Token) (t : Tok) → k.tok ≡ t → Tried (an_operator n) k
+try_operator n k (tok.Sign o) e = try_level n k o e (same_number (level_of o) n)
+try_operator n k _ e = wrong (λ v p. cc)
+
+try_token : {b : Bool} {r : Kind} (c : Test b r) (k : Token) → Tried c k
+try_token (this x) k = try_this x k (same_tok k.tok x)
+try_token a_name k = try_name k k.tok refl
+try_token a_number k = try_number k k.tok refl
+try_token (one_of c) k = try_word c k k.tok refl
+try_token a_negation k = try_negation k k.tok refl
+try_token (an_operator n) k = try_operator n k k.tok refl
+
+-- whether a list of tokens begins with one that passes
+
+data Next {b : Bool} {r : Kind} (c : Test b r) (ts : List Token) : Type 0 where
+  is_next : (v : Value r) (us : List Token) → Starts c ts v us → Next c ts
+  is_not : IsNot c ts → Next c ts
+
+next_is : {b : Bool} {r : Kind} {c : Test b r} {k : Token} (ts : List Token) → Tried c k → Next c (k ∷ ts)
+next_is {k = k} ts (right v p) = is_next v ts (record { token = k; is = refl; passes = p })
+next_is {c = c} {k = k} ts (wrong n) = is_not (record { none = λ v us q. let same : q.token ≡ k = cc (q.is) in n v (subst (λ j. Passes c j v) same q.passes) })
+
+next : {b : Bool} {r : Kind} (c : Test b r) (ts : List Token) → Next c ts
+next c [] = is_not (record { none = λ v us q. absurd (cc (q.is)) })
+next c (k ∷ ts) = next_is ts (try_token c k)
+
+-- a rule reads the tokens, or goes wrong somewhere
+
+pub data Answer (s : Kind) (a : Rule s) (ts : List Token) : Type 0 where
+  reads : (x : Value s) (us : List Token) → Reads s a ts x us → Answer s a ts
+  goes_wrong : (r : List Token) → Fails a ts r → Answer s a ts
+
+start_shorter : {b : Bool} {r : Kind} {c : Test b r} {ts us : List Token} {v : Value r} → Starts c ts v us → length us < length ts
+start_shorter {ts = ts} {us = us} q = let e : length ts ≡ length (q.token ∷ us) = ap length q.is in omega arith
+
+needed_as : {r s : Kind} {c : Test true r} {go : Value r → Rule s} {ts us : List Token} {v : Value r} → Starts c ts v us → Answer s (go v) us → Answer s (need c go) ts
+needed_as p (reads x vs h) = reads x vs (needed p h)
+needed_as p (goes_wrong z f) = goes_wrong z (fails_needed p f)
+
+taken_as : {b : Bool} {r s : Kind} {c : Test b r} {go : Value r → Rule s} {other : Rule s} {ts us : List Token} {v : Value r} →
+    Starts c ts v us → Answer s (go v) us → Answer s (when c go other) ts
+taken_as p (reads x vs h) = reads x vs (taken p h)
+taken_as p (goes_wrong z f) = goes_wrong z (fails_taken p f)
+
+passed_as : {b : Bool} {r s : Kind} {c : Test b r} {go : Value r → Rule s} {other : Rule s} {ts : List Token} → IsNot c ts → Answer s other ts → Answer s (when c go other) ts
+passed_as n (reads x vs h) = reads x vs (passed n h)
+passed_as n (goes_wrong z f) = goes_wrong z (fails_passed n f)
+
+called_as : {r s : Kind} {a : Symbol r} {go : Value r → Rule s} {ts us : List Token} {y : Value r} → Reads r (rule a) ts y us → Answer s (go y) us → Answer s (read a go) ts
+called_as p (reads x vs h) = reads x vs (called p h)
+called_as p (goes_wrong z f) = goes_wrong z (fails_called p f)
+
+at_need : {r s : Kind} {c : Test true r} {go : Value r → Rule s} {ts : List Token} → Next c ts →
+    ((v : Value r) (us : List Token) → length us < length ts → Answer s (go v) us) → Answer s (need c go) ts
+at_need (is_next v us p) f = needed_as p (f v us (start_shorter p))
+at_need (is_not n) f = goes_wrong _ (fails_here n)
+
+at_when : {b : Bool} {r s : Kind} {c : Test b r} {go : Value r → Rule s} {other : Rule s} {ts : List Token} → Next c ts →
+    ((v : Value r) (us : List Token) → length us < length ts → Answer s (go v) us) → Answer s other ts → Answer s (when c go other) ts
+at_when (is_next v us p) f o = taken_as p (f v us (start_shorter p))
+at_when (is_not n) f o = passed_as n o
+
+at_read : {r s : Kind} {a : Symbol r} {go : Value r → Rule s} {ts : List Token} → Answer r (rule a) ts →
+    ((y : Value r) (us : List Token) → Reads r (rule a) ts y us → Answer s (go y) us) → Answer s (read a go) ts
+at_read (reads y us h) f = called_as h (f y us h)
+at_read (goes_wrong z w) f = goes_wrong z (fails_in w)
+
+-- what is left after a rule is no more than there was, and less where the rule spells nothing empty
+
+no_longer : {s : Kind} {a : Rule s} {ts us : List Token} {x : Value s} → Reads s a ts x us → length us ≤ length ts
+no_longer {ts = ts} {us = us} h =
+    let d = derivation h in
+    let e : length ts ≡ length d.front + length us = ap length d.is ∙ length-append d.front us in
+    omega arith
+
+front_some : {s : Kind} (a : Symbol s) {x : Value s} (f : List Token) → empty a ≡ None → Derives s (rule a) f x → 1 ≤ length f
+front_some a {x = x} [] e d = let h : None ≡ Some x = sym e ∙ sym (empty_ok a) ∙ ends_right d refl in absurd (cc)
+front_some a (k ∷ f) e d = omega arith
+
+shorter : {s : Kind} (a : Symbol s) {ts us : List Token} {x : Value s} → empty a ≡ None → Reads s (rule a) ts x us → length us < length ts
+shorter a {ts = ts} {us = us} n h =
+    let d = derivation h in
+    let some : 1 ≤ length d.front = front_some a d.front n d.derives in
+    let e : length ts ≡ length d.front + length us = ap length d.is ∙ length-append d.front us in
+    omega arith
+
+-- before a token is read, a symbol reads symbols of lower rank alone
+
+abbrev rank : {s : Kind} → Symbol s → ℕ
+rank g.Rhs = 13
+rank g.Arguments = 13
+rank g.Term = 12
+rank (g.Level n) = n + 3
+rank g.Unary = 2
+rank g.First = 1
+rank g.Formals = 1
+rank (g.Stmts ss) = 1
+rank (g.Variable at) = 1
+rank (g.AfterName x) = 1
+rank (g.Arm at) = 1
+rank (g.While at) = 1
+rank g.InstanceOf = 1
+rank _ = 0
+
+data Falls (n : ℕ) (s : Kind) : Rule s → Type 0 where
+  fg : {x : Value s} → Falls n s (give x)
+  fn : {r : Kind} {c : Test true r} {go : Value r → Rule s} → Falls n s (need c go)
+  fw : {b : Bool} {r : Kind} {c : Test b r} {go : Value r → Rule s} {other : Rule s} → Falls n s other → Falls n s (when c go other)
+  fr : {r : Kind} {a : Symbol r} {go : Value r → Rule s} → rank a < n → ((y : Value r) → Falls n s (go y)) → Falls n s (read a go)
+  -- what this symbol spells has a token
+  ft : {r : Kind} {a : Symbol r} {go : Value r → Rule s} → rank a < n → empty a ≡ None → Falls n s (read a go)
+
+falls_cond : {n : ℕ} {s : Kind} (b : Bool) {x y : Rule s} → Falls n s x → Falls n s y → Falls n s (cond b x y)
+falls_cond true h i = h
+falls_cond false h i = i
+
+falls : {s : Kind} (a : Symbol s) → Falls (rank a) s (rule a)
+falls (g.Program ds) = fw (fw (fw fg))
+falls (g.Predicate at) = fn
+falls (g.Method at) = fn
+falls g.Returns = fw fg
+falls (g.Clauses cs) = fw fg
+falls g.Body = fw fg
+falls g.Formals = fw (fr (omega arith) (λ x. fr (omega arith) (λ z. fg)))
+falls (g.MoreFormals xs) = fw fn
+falls g.FormalOf = fn
+falls g.Block = fn
+falls (g.Stmts ss) = fw (ft (omega arith) refl)
+falls g.Stmt = fw (fw (fw (fw (fw (fw fn)))))
+falls (g.Variable at) = fr (omega arith) (λ x. fw fg)
+falls (g.AfterName x) = fw (fw (fr (omega arith) (λ xs. fn)))
+falls (g.Arm at) = fr (omega arith) (λ p. fr (omega arith) (λ b. fg))
+falls (g.Arms bs) = fw (fw fg)
+falls (g.While at) = fr (omega arith) (λ p. fr (omega arith) (λ is. fr (omega arith) (λ b. fg)))
+falls (g.Invariants is) = fw fg
+falls g.Rhs = fw (fr (omega arith) (λ p. fg))
+falls (g.New at) = fn
+falls (g.Separated o xs) = fw fg
+falls g.Semicolons = fw fg
+falls g.InstanceOf = fw (fr (omega arith) (λ c. fg))
+falls g.CallOf = fn
+falls g.Arguments = fw (fr (omega arith) (λ p. fr (omega arith) (λ z. fg)))
+falls (g.MoreArguments es) = fw fn
+falls g.Amount = fw fn
+falls g.Group = fn
+falls g.Term = fr (omega arith) (λ p. falls_cond (g.is_open p.shape) fg (fw fg))
+falls (g.Level zero) = fr (omega arith) (λ p. fg)
+falls (g.Level (suc n)) = fr (omega arith) (λ p. fr (omega arith) (λ q. fg))
+falls (g.Chain n p) = falls_cond (g.is_open p.shape) fg (fw fg)
+falls g.Unary = fw (fw (fr (omega arith) (λ p. fr (omega arith) (λ q. fg))))
+falls (g.Fields p) = fw fg
+falls g.First = fw (fw (fw (fw (fw (fr (omega arith) (λ p. fg))))))
+
+-- each rule has an answer for fewer than n tokens, if each symbol has
+
+any_rule : (n : ℕ) → ((r : Kind) (b : Symbol r) (us : List Token) → length us < n → Answer r (rule b) us) →
+    {s : Kind} (a : Rule s) (ts : List Token) → length ts < n → Answer s a ts
+any_rule n h (give x) ts lt = reads _ _ given
+any_rule n h (need c go) ts lt = at_need (next c ts) (λ v us k. any_rule n h (go v) us (omega arith))
+any_rule n h (when c go other) ts lt = at_when (next c ts) (λ v us k. any_rule n h (go v) us (omega arith)) (any_rule n h other ts lt)
+any_rule n h (read a go) ts lt = at_read (h _ a ts lt) (λ y us i. let k = no_longer i in any_rule n h (go y) us (omega arith))
+
+-- of n tokens too, where it reads symbols of lower rank at first
+
+low_rule : (n m : ℕ) → ((r : Kind) (b : Symbol r) (us : List Token) → length us < n → Answer r (rule b) us) →
+    ((r : Kind) (b : Symbol r) (us : List Token) → rank b < m → length us < suc n → Answer r (rule b) us) →
+    {s : Kind} {a : Rule s} → Falls m s a → (ts : List Token) → length ts < suc n → Answer s a ts
+low_rule n m h low fg ts lt = reads _ _ given
+low_rule n m h low (fn {c = c} {go = go}) ts lt = at_need (next c ts) (λ v us k. any_rule n h (go v) us (omega arith))
+low_rule n m h low (fw {c = c} {go = go} f) ts lt = at_when (next c ts) (λ v us k. any_rule n h (go v) us (omega arith)) (low_rule n m h low f ts lt)
+low_rule n m h low (fr {a = a} l f) ts lt = at_read (low _ a ts l lt) (λ y us i. let k = no_longer i in low_rule n m h low (f y) us (omega arith))
+low_rule n m h low (ft {a = a} {go = go} l e) ts lt = at_read (low _ a ts l lt) (λ y us i. let k = shorter a e i in any_rule n h (go y) us (omega arith))
+
+by_rank : (n : ℕ) → ((r : Kind) (b : Symbol r) (us : List Token) → length us < n → Answer r (rule b) us) →
+    (m : ℕ) (s : Kind) (a : Symbol s) (ts : List Token) → rank a < m → length ts < suc n → Answer s (rule a) ts
+by_rank n h zero s a ts k lt = absurd (omega arith)
+by_rank n h (suc m) s a ts k lt = low_rule n (rank a) h (λ r b us j i. by_rank n h m r b us (omega arith) i) (falls a) ts lt
+
+by_length : (n : ℕ) (s : Kind) (a : Symbol s) (ts : List Token) → length ts < n → Answer s (rule a) ts
+by_length zero s a ts lt = absurd (omega arith)
+by_length (suc n) s a ts lt = by_rank n (λ r b us i. by_length n r b us i) (suc (rank a)) s a ts (omega arith) lt
+
+pub answered : {s : Kind} (a : Symbol s) (ts : List Token) → Answer s (rule a) ts
+answered a ts = by_length (suc (length ts)) _ a ts (omega arith)
