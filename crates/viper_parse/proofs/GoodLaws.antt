@@ -1,5 +1,5 @@
 -- The tree of well-formed tokens keeps what the checker asks.
-use Rattle.std.proofs.Common.{◌≡◌, refl, sym, ap, subst, ◌∙◌, ℕ, ℤ, pos, negsuc, suc, ◌+◌, ◌-◌, ◌≤◌, ◌<◌, ◌^◌, ◌≤ℤ◌, false, cond, not, List, [], ◌∷◌, ◌++◌, take, length, slice_get, Some, arith, unsigned_abs, IsTrue, append_assoc}
+use Rattle.std.proofs.Common.{◌≡◌, refl, sym, ap, subst, ◌∙◌, ℕ, ℤ, pos, negsuc, suc, ◌+◌, ◌-◌, ◌≤◌, ◌^◌, ◌≤ℤ◌, false, cond, not, List, [], ◌∷◌, ◌++◌, take, length, slice_get, Some, arith, unsigned_abs, IsTrue, append_assoc}
 use Rattle.std.proofs.lemmas.Int.{ints}
 use Rattle.std.proofs.lemmas.List.{append-nil, reverse-append}
 use Rattle.std.proofs.lemmas.Bool.{and_parts}
