@@ -1,32 +1,14 @@
 //! `remduska translate FILE` writes the Boogie program of a Viper file to the standard output.
 //!
-//! What a call does is the contract of `command::tool`; this file only connects it to the process.
+//! What a call does is the contract of `vb_tool::tool`; this file only connects it to the process.
 #![tactic(auto)]
 
-mod command;
-mod encoder;
-mod laws;
-mod printer;
-#[cfg(test)]
-mod rule_tests;
-mod status;
-mod straight;
-mod straight_program;
-#[cfg(test)]
-mod straight_tests;
-#[cfg(test)]
-mod tests;
-mod trouble;
-#[cfg(test)]
-mod weight_tests;
-
-use command::tool;
-use status::Status;
 use std::env;
 use std::io::ErrorKind;
 use std::process::ExitCode;
 use vb_base::Memory;
 use vb_outer::{DiskShelf, StdSink};
+use vb_tool::{Status, tool};
 
 fn main(rt: HostRuntime) -> ExitCode {
     let status = match words(&rt) {

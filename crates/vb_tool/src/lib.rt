@@ -1,0 +1,16 @@
+//! The tool: what a command does, from its words to what it writes and how it ends.
+//!
+//! What a call does is the contract of `tool`. A program connects it to its files and streams.
+#![tactic(auto)]
+
+mod command;
+mod encoder;
+pub mod laws;
+mod printer;
+mod status;
+mod straight;
+mod straight_program;
+mod trouble;
+
+pub use command::{MAX_FILE, tool};
+pub use status::{Refusal, Status};
