@@ -3,6 +3,7 @@ use Rattle.std.specs.Prelude.{Bool, true, false, Option, Some, None, List, [], �
 use Rattle.vb_base.specs.declared.labels.Label.{Label}
 use Rattle.vb_base.specs.declared.labels.Kind.{Kind}
 use Rattle.vb_base.specs.declared.places.Pos.{Pos}
+use Rattle.vb_value.specs.Bound.{Bound, Unbounded, Bounded}
 use Rattle.viper_state.specs.Event.{Event}
 use Rattle.viper_state.specs.Run.{Scene}
 
@@ -22,12 +23,6 @@ events_of (ends events end) = events
 -- the end without what is recorded on the way
 abbrev pub the_end : {X : Type 0} → Evaluated X → End X
 the_end (ends events end) = end
-
--- With no bound a number may be of any size, and a content too. Within the bound a number has magnitude at most 2^127 - 1,
--- and a content at most 4,096 nodes; what leaves it is Over.
-pub data Bound : Type 0 where
-  Unbounded : Bound
-  Bounded : Bound
 
 abbrev pub is : {X : Type 0} → X → Evaluated X
 is x = ends [] (Is x)
@@ -51,10 +46,10 @@ then_with (ends events (Fails l)) go = ends events (Fails l)
 then_with (ends events Blocked) go = ends events Blocked
 then_with (ends events (Over at)) go = ends events (Over at)
 
--- goes on with what there is. In a typed program there always is.
-abbrev pub with_found : {X Y : Type 0} → Option X → (X → Evaluated Y) → Evaluated Y
-with_found (Some x) go = go x
-with_found None go = blocks
+-- what there is. In a typed program there always is.
+abbrev pub found : {X : Type 0} → Option X → Evaluated X
+found (Some x) = is x
+found None = blocks
 
 -- goes on where the test holds, or ends
 abbrev pub unless : {X : Type 0} → Bool → Evaluated X → Evaluated X → Evaluated X
