@@ -1,75 +1,74 @@
 -- The literals of expressions and assertions, in a run with a bound or without one.
-use Rattle.std.specs.Prelude.{⊤}
+use Rattle.std.specs.Prelude.{⊤, ℤ}
 use Rattle.vb_value.specs.Bound.{Bound, IfBounded, IsWithin}
-use Rattle.vb_value.specs.Fraction.{IsWithinFraction, IsProperFraction}
+use Rattle.vb_value.specs.Fraction.{Fraction, IsWithinFraction, IsProperFraction}
 use Rattle.viper_core.specs.Expr as t
 
--- each literal permission is in lowest terms, and each number is within the bound where there is one
+-- each number and each permission that is a literal has its property
 abbrev mutual
-  pub IsProperExpr : Bound → t.Expr → Type 0
-  IsProperExpr b (t.Var x) = ⊤
-  IsProperExpr b (t.Int n) = IfBounded b (IsWithin n)
-  IsProperExpr b (t.Bool c) = ⊤
-  IsProperExpr b t.Null = ⊤
-  IsProperExpr b (t.Part q) = IsProperFraction b q
-  IsProperExpr b (t.Neg a) = IsProperExpr b a
-  IsProperExpr b (t.Not a) = IsProperExpr b a
-  IsProperExpr b (t.Bin o a c at) = IsProperExpr b a × IsProperExpr b c
-  IsProperExpr b (t.Choose a c d) = IsProperExpr b a × IsProperExpr b c × IsProperExpr b d
-  IsProperExpr b (t.Field a field at) = IsProperExpr b a
-  IsProperExpr b (t.Old a) = IsProperExpr b a
-  IsProperExpr b (t.Unfolding o) = IsProperOpened b o
+  pub AllLiterals : (ℤ → Type 0) → (Fraction → Type 0) → t.Expr → Type 0
+  AllLiterals I F (t.Var x) = ⊤
+  AllLiterals I F (t.Int n) = I n
+  AllLiterals I F (t.Bool b) = ⊤
+  AllLiterals I F t.Null = ⊤
+  AllLiterals I F (t.Part q) = F q
+  AllLiterals I F (t.Neg a) = AllLiterals I F a
+  AllLiterals I F (t.Not a) = AllLiterals I F a
+  AllLiterals I F (t.Bin o a c at) = AllLiterals I F a × AllLiterals I F c
+  AllLiterals I F (t.Choose a c d) = AllLiterals I F a × AllLiterals I F c × AllLiterals I F d
+  AllLiterals I F (t.Field a field at) = AllLiterals I F a
+  AllLiterals I F (t.Old a) = AllLiterals I F a
+  AllLiterals I F (t.Unfolding o) = AllOpenedLiterals I F o
 
-  pub IsProperOpened : Bound → t.Opened → Type 0
-  IsProperOpened b (t.opened p args amount body inner at) = AreProperExprs b args × IsProperExpr b amount × IsProperAssertion b body × IsProperExpr b inner
+  pub AllOpenedLiterals : (ℤ → Type 0) → (Fraction → Type 0) → t.Opened → Type 0
+  AllOpenedLiterals I F (t.opened p args amount body inner at) = AllExprsLiterals I F args × AllLiterals I F amount × AllAssertionLiterals I F body × AllLiterals I F inner
 
-  pub AreProperExprs : Bound → t.Exprs → Type 0
-  AreProperExprs b t.none = ⊤
-  AreProperExprs b (t.more a rest) = IsProperExpr b a × AreProperExprs b rest
+  pub AllExprsLiterals : (ℤ → Type 0) → (Fraction → Type 0) → t.Exprs → Type 0
+  AllExprsLiterals I F t.none = ⊤
+  AllExprsLiterals I F (t.more a rest) = AllLiterals I F a × AllExprsLiterals I F rest
 
-  pub IsProperAmount : Bound → t.Amt → Type 0
-  IsProperAmount b (t.Is a) = IsProperExpr b a
-  IsProperAmount b t.Wildcard = ⊤
+  pub AllAmountLiterals : (ℤ → Type 0) → (Fraction → Type 0) → t.Amt → Type 0
+  AllAmountLiterals I F (t.Is a) = AllLiterals I F a
+  AllAmountLiterals I F t.Wildcard = ⊤
 
-  pub IsProperAssertion : Bound → t.Assertion → Type 0
-  IsProperAssertion b (t.Fact a at) = IsProperExpr b a
-  IsProperAssertion b (t.Acc a field m at) = IsProperExpr b a × IsProperAmount b m
-  IsProperAssertion b (t.Inst p args m at) = AreProperExprs b args × IsProperAmount b m
-  IsProperAssertion b (t.And a c) = IsProperAssertion b a × IsProperAssertion b c
-  IsProperAssertion b (t.Implies a c) = IsProperExpr b a × IsProperAssertion b c
-  IsProperAssertion b (t.ChooseAssertion a c d) = IsProperExpr b a × IsProperAssertion b c × IsProperAssertion b d
+  pub AllAssertionLiterals : (ℤ → Type 0) → (Fraction → Type 0) → t.Assertion → Type 0
+  AllAssertionLiterals I F (t.Fact a at) = AllLiterals I F a
+  AllAssertionLiterals I F (t.Acc a field m at) = AllLiterals I F a × AllAmountLiterals I F m
+  AllAssertionLiterals I F (t.Inst p args m at) = AllExprsLiterals I F args × AllAmountLiterals I F m
+  AllAssertionLiterals I F (t.And a c) = AllAssertionLiterals I F a × AllAssertionLiterals I F c
+  AllAssertionLiterals I F (t.Implies a c) = AllLiterals I F a × AllAssertionLiterals I F c
+  AllAssertionLiterals I F (t.ChooseAssertion a c d) = AllLiterals I F a × AllAssertionLiterals I F c × AllAssertionLiterals I F d
 
--- each literal is within the bound
-abbrev mutual
-  pub IsWithinExpr : t.Expr → Type 0
-  IsWithinExpr (t.Var x) = ⊤
-  IsWithinExpr (t.Int n) = IsWithin n
-  IsWithinExpr (t.Bool b) = ⊤
-  IsWithinExpr t.Null = ⊤
-  IsWithinExpr (t.Part q) = IsWithinFraction q
-  IsWithinExpr (t.Neg a) = IsWithinExpr a
-  IsWithinExpr (t.Not a) = IsWithinExpr a
-  IsWithinExpr (t.Bin o a b at) = IsWithinExpr a × IsWithinExpr b
-  IsWithinExpr (t.Choose a b c) = IsWithinExpr a × IsWithinExpr b × IsWithinExpr c
-  IsWithinExpr (t.Field a field at) = IsWithinExpr a
-  IsWithinExpr (t.Old a) = IsWithinExpr a
-  IsWithinExpr (t.Unfolding o) = IsWithinOpened o
+-- ---- each literal permission is in lowest terms, and each number is within the bound where there is one
 
-  pub IsWithinOpened : t.Opened → Type 0
-  IsWithinOpened (t.opened p args amount body inner at) = AreWithinExprs args × IsWithinExpr amount × IsWithinAssertion body × IsWithinExpr inner
+abbrev pub IsProperExpr : Bound → t.Expr → Type 0
+IsProperExpr b = AllLiterals (λ n. IfBounded b (IsWithin n)) (IsProperFraction b)
 
-  pub AreWithinExprs : t.Exprs → Type 0
-  AreWithinExprs t.none = ⊤
-  AreWithinExprs (t.more a rest) = IsWithinExpr a × AreWithinExprs rest
+abbrev pub IsProperOpened : Bound → t.Opened → Type 0
+IsProperOpened b = AllOpenedLiterals (λ n. IfBounded b (IsWithin n)) (IsProperFraction b)
 
-  pub IsWithinAmount : t.Amt → Type 0
-  IsWithinAmount (t.Is a) = IsWithinExpr a
-  IsWithinAmount t.Wildcard = ⊤
+abbrev pub AreProperExprs : Bound → t.Exprs → Type 0
+AreProperExprs b = AllExprsLiterals (λ n. IfBounded b (IsWithin n)) (IsProperFraction b)
 
-  pub IsWithinAssertion : t.Assertion → Type 0
-  IsWithinAssertion (t.Fact a at) = IsWithinExpr a
-  IsWithinAssertion (t.Acc a field m at) = IsWithinExpr a × IsWithinAmount m
-  IsWithinAssertion (t.Inst p args m at) = AreWithinExprs args × IsWithinAmount m
-  IsWithinAssertion (t.And a b) = IsWithinAssertion a × IsWithinAssertion b
-  IsWithinAssertion (t.Implies a b) = IsWithinExpr a × IsWithinAssertion b
-  IsWithinAssertion (t.ChooseAssertion a b c) = IsWithinExpr a × IsWithinAssertion b × IsWithinAssertion c
+abbrev pub IsProperAmount : Bound → t.Amt → Type 0
+IsProperAmount b = AllAmountLiterals (λ n. IfBounded b (IsWithin n)) (IsProperFraction b)
+
+abbrev pub IsProperAssertion : Bound → t.Assertion → Type 0
+IsProperAssertion b = AllAssertionLiterals (λ n. IfBounded b (IsWithin n)) (IsProperFraction b)
+
+-- ---- each literal is within the bound
+
+abbrev pub IsWithinExpr : t.Expr → Type 0
+IsWithinExpr = AllLiterals IsWithin IsWithinFraction
+
+abbrev pub IsWithinOpened : t.Opened → Type 0
+IsWithinOpened = AllOpenedLiterals IsWithin IsWithinFraction
+
+abbrev pub AreWithinExprs : t.Exprs → Type 0
+AreWithinExprs = AllExprsLiterals IsWithin IsWithinFraction
+
+abbrev pub IsWithinAmount : t.Amt → Type 0
+IsWithinAmount = AllAmountLiterals IsWithin IsWithinFraction
+
+abbrev pub IsWithinAssertion : t.Assertion → Type 0
+IsWithinAssertion = AllAssertionLiterals IsWithin IsWithinFraction
