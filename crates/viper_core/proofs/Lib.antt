@@ -7,3 +7,9 @@ pub mod TypingLaws
 pub mod ScopeLaws
 pub mod WeightLaws
 pub mod FormedLaws
+pub mod BodyLaws
+pub mod LiteralLaws
+pub mod WiderLaws
+pub mod UnitLaws
+pub mod PartLaws
+pub mod StmtParts

@@ -1,5 +1,5 @@
 -- Laws of scopes.
-use Rattle.std.proofs.Common.{◌≤◌, ◌==◌, ◌||◌, ◌⊎◌, inl, inr, ℕ, Bool, true, false, List, [], ◌∷◌, Contains, IsTrue, if◌then◌else◌, refl, subst, arith}
+use Rattle.std.proofs.Common.{◌<◌, ◌≤◌, ◌==◌, ◌||◌, ◌⊎◌, inl, inr, ℕ, Bool, true, false, List, [], ◌∷◌, Contains, IsTrue, if◌then◌else◌, refl, subst, arith}
 use Rattle.std.proofs.lemmas.List.Elements.{Contains-push_cases}
 use Rattle.std.proofs.lemmas.Bool.{eqb-true}
 use Rattle.std.specs.List.{list_any}
@@ -130,3 +130,40 @@ mutual
   some_old_or_new {m} {sc} x (s.goes_on {a = a} {rest = rest} first more) is =
       either (assigns x a) (some_assigns x rest) (assigned_old_or_new x first)
       (λ in_rest. earlier sc a (some_old_or_new x more in_rest)) is
+
+-- ---- what is visible was numbered
+
+abbrev pub AreNumbered : Scope → Type 0
+AreNumbered sc = (x : ℕ) → Contains sc.visible x → x < sc.fresh
+
+numbered-declared : (sc : Scope) → AreNumbered sc → AreNumbered (declared sc)
+numbered-declared sc h x seen =
+    elim (Contains-push_cases sc.visible sc.fresh x seen) [ inl old ↦ omega (arith, h x old) | inr is ↦ omega (arith, is) ]
+
+numbered-after_target : (sc : Scope) (y : ℕ) → AreNumbered sc → AreNumbered (after_target sc y)
+numbered-after_target sc y h =
+    elim (y == sc.fresh) as (λ b. AreNumbered (if b then declared sc else sc)) [ true ↦ numbered-declared sc h | false ↦ h ]
+
+numbered-after_targets : (sc : Scope) (ys : List ℕ) → AreNumbered sc → AreNumbered (after_targets sc ys)
+numbered-after_targets sc [] h = h
+numbered-after_targets sc (y ∷ ys) h = numbered-after_targets (after_target sc y) ys (numbered-after_target sc y h)
+
+pub numbered-after_block : (sc inner : Scope) → sc.fresh ≤ inner.fresh → AreNumbered sc → AreNumbered (after_block sc inner)
+numbered-after_block sc inner le h x seen = omega (arith, le, h x seen)
+
+pub numbered-scope_after : (sc : Scope) (s : Stmt) → AreNumbered sc → AreNumbered (scope_after sc s)
+numbered-scope_after sc (Var at y init) h = numbered-declared sc h
+numbered-scope_after sc (New at y fields refs) h = numbered-after_target sc y h
+numbered-scope_after sc (Call at ys m args) h = numbered-after_targets sc ys h
+numbered-scope_after sc (If at e a b) h =
+    let middle = after_block sc (stmts_scope sc a) in
+    let le : sc.fresh ≤ (stmts_scope middle b).fresh = omega (arith, fresh-stmts_scope sc a, fresh-stmts_scope middle b) in
+    numbered-after_block sc (stmts_scope middle b) le h
+numbered-scope_after sc (While (loop at e is body turn targets)) h = numbered-after_block sc (stmts_scope sc body) (fresh-stmts_scope sc body) h
+numbered-scope_after sc (Assign at y e) h = h
+numbered-scope_after sc (Write at e f place d) h = h
+numbered-scope_after sc (Inhale at a) h = h
+numbered-scope_after sc (Exhale at a) h = h
+numbered-scope_after sc (Assert at a) h = h
+numbered-scope_after sc (Fold f) h = h
+numbered-scope_after sc (Unfold f) h = h

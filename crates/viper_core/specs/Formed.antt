@@ -1,10 +1,11 @@
 -- Which trees are programs: what a program keeps that was read and checked.
-use Rattle.std.specs.Prelude.{◌≡◌, ◌≢◌, ◌<◌, ◌≤◌, ◌^◌, ◌+◌, ℕ, max, List, [], ◌∷◌, ◌++◌, Option, None, Some, is_some, All, IfSome, IsTrue, length, map, if◌then◌else◌}
+use Rattle.std.specs.Prelude.{◌≡◌, ◌≢◌, ◌<◌, ◌≤◌, ◌^◌, ◌+◌, ℕ, max, List, [], ◌∷◌, ◌++◌, Option, None, Some, is_some, slice_get, All, IfSome, IsTrue, length, map, if◌then◌else◌}
 use Rattle.std.specs.List.{range_with_len}
 use Rattle.vb_base.specs.Names.{is_viper_name, NamesDiffer}
 use Rattle.vb_value.specs.declared.values.Ty.TheVariants as ty
 use Rattle.viper_core.specs.declared.programs.Unit as u
 use Rattle.viper_core.specs.declared.programs.Unit.TheVariants as unit
+use Rattle.viper_core.specs.Expr.{Assertion}
 use Rattle.viper_core.specs.Program.{Program, Predicate, Method, Body}
 use Rattle.viper_core.specs.Scope.{Scope, stmts_scope}
 use Rattle.viper_core.specs.Depth.{assertion_depth, assertion_depths, stmts_depth, block_depth}
@@ -93,6 +94,13 @@ predicates_among (unit.Predicate n ∷ units) = n ∷ predicates_among units
 abbrev pub with_body_from : ℕ → List Predicate → List ℕ
 with_body_from n [] = []
 with_body_from n (d ∷ ds) = if is_some d.body then n ∷ with_body_from (n + 1) ds else with_body_from (n + 1) ds
+
+-- there is a predicate of this number, and it has a body
+pub record HasBodyAt (ds : List Predicate) (n : ℕ) : Type 0 where
+  pub predicate : Predicate
+  pub body : Assertion
+  pub exists : slice_get ds n ≡ Some predicate
+  pub has_body : predicate.body ≡ Some body
 
 -- each method and each predicate with a body is a unit, and each kind stands in its order
 pub record HasUnits (p : Program) : Type 0 where

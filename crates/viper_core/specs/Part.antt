@@ -1,10 +1,12 @@
 -- The parts of a formed program, which calls are given: each stands in a context of the program, is typed there, and is
 -- nested no deeper than the program is.
-use Rattle.std.specs.Prelude.{◌<◌, ◌≤◌, ◌^◌, ℕ, List, Contains, IsTrue, length}
+use Rattle.std.specs.Prelude.{◌≡◌, ◌<◌, ◌≤◌, ◌^◌, ℕ, List, Some, slice_get, Contains, IsTrue, length}
 use Rattle.vb_value.specs.declared.values.Ty.{Ty}
+use Rattle.vb_value.specs.declared.values.Ty.TheVariants as ty
 use Rattle.viper_core.specs.Depth.{depth, depths, amt_depth, assertion_depth, stmt_depth, stmts_depth, blocks_of, block_depth}
 use Rattle.viper_core.specs.Expr as t
-use Rattle.viper_core.specs.Formed.{IsFormed}
+use Rattle.viper_core.specs.Formed.{predicate_context, IsFormed}
+use Rattle.viper_core.specs.Program.{Predicate}
 use Rattle.viper_core.specs.Scope.{Scope, scope_after, stmts_scope}
 use Rattle.viper_core.specs.Stmt as s
 use Rattle.viper_core.specs.Typing.{Site, allows_old, is_outside_predicates, Context, HasType, HaveTypes, Opens, IsAmount, IsAssertion, Frame, IsStmt, AreStmts}
@@ -43,6 +45,26 @@ pub record IsPartAssertion (c : Context) (a : t.Assertion) : Type 0 where
   pub context : IsContext c
   pub typed : IsAssertion c a
   pub nested : assertion_depth a ≤ 1024
+
+-- the parts of what an `unfolding` looks into: the body stands in the context of its predicate
+pub record OpensParts (c : Context) (k : ℕ) (es : t.Exprs) (m : t.Expr) (a : t.Assertion) (e : t.Expr) (u : Ty) : Type 0 where
+  pub predicate : Predicate
+  pub exists : slice_get c.program.predicates k ≡ Some predicate
+  pub has_body : predicate.body ≡ Some a
+  pub arguments : ArePartExprs c es predicate.params
+  pub amount : IsPartExpr c m ty.Perm
+  pub body : IsPartAssertion (predicate_context c.program predicate) a
+  pub inner : IsPartExpr c e u
+
+-- the parts of the instance of a `fold` or `unfold`: the body stands in the context of its predicate
+pub record FoldParts (c : Context) (f : s.FoldStmt) : Type 0 where
+  pub predicate : Predicate
+  pub body : t.Assertion
+  pub exists : slice_get c.program.predicates f.predicate ≡ Some predicate
+  pub has_body : predicate.body ≡ Some body
+  pub arguments : ArePartExprs c f.args predicate.params
+  pub amount : IsPartExpr c f.amount ty.Perm
+  pub opened : IsPartAssertion (predicate_context c.program predicate) body
 
 -- ---- statements
 
