@@ -1,6 +1,6 @@
 -- The laws of maps with a default.
-use Rattle.std.proofs.Common.{◌≡◌, ◌≢◌, ℕ, zero, suc, slice_get, Bool, true, false, cond, List, [], ◌∷◌, refl, sym, ap, ◌∙◌, unwrap_or, All, Contains, IsSome, IfSome}
-use Rattle.std.specs.List.{AllByRecursion, AllZip}
+use Rattle.std.proofs.Common.{◌≡◌, ◌≢◌, ℕ, zero, suc, slice_get, Bool, true, false, not, ◌&&◌, cond, List, [], ◌∷◌, refl, sym, ap, ◌∙◌, unwrap_or, All, Contains, IsSome, IfSome}
+use Rattle.std.specs.List.{AllByRecursion, AllZip, list_all}
 use Rattle.std.specs.List.Sorted.{IsStrictlySortedBy}
 use Rattle.std.specs.Map.{keys_of, values_of, lookup, remove_entry}
 use Rattle.std.specs.BTreeMap.{insert_entry, is_at}
@@ -8,7 +8,7 @@ use Rattle.std.specs.Cmp.{IsTotalOrder, IsEquivalence, unsigned_Decides}
 use Rattle.std.specs.Cmp.Lexicographic.{slice_cmp, pointwise}
 use Rattle.std.specs.Prelude.{nat_eq}
 use Rattle.std.proofs.lemmas.Slice.Eq.{slice_eq-Decides}
-use Rattle.std.specs.Ordering.{is_eq, nat_cmp, eq_by_cmp, match_ordering}
+use Rattle.std.specs.Ordering.{is_eq, is_lt, nat_cmp, eq_by_cmp, match_ordering}
 use Rattle.std.specs.declared.cmp.Ordering.{Ordering}
 use Rattle.std.specs.declared.cmp.Ordering.TheVariants.{Less, Equal, Greater}
 use Rattle.std.specs.declared.option.Option.{Option}
@@ -18,10 +18,12 @@ use Rattle.std.proofs.lemmas.Cmp.{nat_cmp_total, nat_list_cmp_total, alike_right
 use Rattle.std.proofs.lemmas.Map.{lookup-remove_entry, lookup-none}
 use Rattle.std.proofs.lemmas.Map.Keys.{IsDistinct-from_sorted, sorted_tail}
 use Rattle.std.proofs.lemmas.Map.Entries.{lookup_from_place, lookup_head, lookup_tail, none_past_head, none_below_head}
-use Rattle.std.proofs.lemmas.Map.Views.{All-values-insert_entry, All-map-remove_entry, IfSome-lookup_from_All, Contains-keys_from_lookup, IsSome-lookup_from_Contains}
+use Rattle.std.proofs.lemmas.Map.Views.{All-values-insert_entry, All-keys-insert_entry, All-map-remove_entry, IfSome-lookup_from_All, Contains-keys_from_lookup, IsSome-lookup_from_Contains}
 use Rattle.std.proofs.lemmas.List.Elements.{All-nil, All-cons, All-head, All-tail}
 use Rattle.std.proofs.lemmas.Bool.{true≢false, false_from_ne_true}
-use Rattle.sparse.specs.Map.{Map, empty, keys, get, set, IsReduced, IsSame, ClonesAreEqual}
+use Rattle.std.proofs.lemmas.Bool.Decides.{Decides-and, Decides-by_and}
+use Rattle.std.specs.Bool.{Decides}
+use Rattle.sparse.specs.Map.{Map, empty, keys, values, get, set, IsReduced, is_ascending, is_reduced, IsSame, ClonesAreEqual}
 use Rattle.sparse.specs.Meaning.{IsExact}
 use Rattle.sparse.proofs.Places.{turned}
 
@@ -179,6 +181,33 @@ module _ {K V : Type 0} {cmp : K → K → Ordering} (o : IsTotalOrder cmp) {eq 
       let entry : (v : V) × (slice_get m.entries i ≡ Some (k, v)) = entry_of_key m.entries i k h in
       let found : lookup (eq_by_cmp cmp k) m.entries ≡ Some entry.0 = lookup_from_place (eq_by_cmp_equiv o) m.entries i k entry.0 (IsDistinct-from_sorted cmp (keys m) r.ascending) entry.1 in
       entry.1 ∙ ap (λ v. Some (k, v)) (sym (ap (λ t. unwrap_or t m.default) found))
+
+-- ---- what holds of each key and value
+
+module _ {K V : Type 0} (cmp : K → K → Ordering) where
+  value_or : (P : V → Type 0) (o : Option V) (z : V) → IfSome o P → P z → P (unwrap_or o z)
+  value_or P None z p q = q
+  value_or P (Some v) z p q = p
+
+  -- what holds of the default and of each other value holds of the value at each key
+  pub get-All : (P : V → Type 0) (m : Map K V) (k : K) → P m.default → All P (values m) → P (get cmp m k)
+  get-All P m k z h = value_or P (lookup (is_at (cmp k)) m.entries) m.default (IfSome-lookup_from_All P (is_at (cmp k)) m.entries h) z
+
+  module _ (eq : V → V → Bool) (m : Map K V) (k : K) (v : V) where
+    All-values-by : (P : V → Type 0) (b : Bool) → All P (values m) → P v → All P (values_of (cond b (remove_entry (is_at (cmp k)) m.entries) (insert_entry cmp m.entries k v)))
+    All-values-by P true h p = All-map-remove_entry (is_at (cmp k)) (λ e. e.1) P m.entries h
+    All-values-by P false h p = All-values-insert_entry cmp k v P m.entries h p
+
+    -- what holds of each value, or of each key, holds of each after a change to one of which it holds
+    pub All-values-set : (P : V → Type 0) → All P (values m) → P v → All P (values (set cmp eq m k v))
+    All-values-set P h p = All-values-by P (eq v m.default) h p
+
+    All-keys-by : (P : K → Type 0) (b : Bool) → All P (keys m) → P k → All P (keys_of (cond b (remove_entry (is_at (cmp k)) m.entries) (insert_entry cmp m.entries k v)))
+    All-keys-by P true h p = All-map-remove_entry (is_at (cmp k)) (λ e. e.0) P m.entries h
+    All-keys-by P false h p = All-keys-insert_entry cmp k v P m.entries h p
+
+    pub All-keys-set : (P : K → Type 0) → All P (keys m) → P k → All P (keys (set cmp eq m k v))
+    All-keys-set P h p = All-keys-by P (eq v m.default) h p
 
 -- ---- maps that are the same
 
@@ -390,6 +419,35 @@ module _ {K V : Type 0} {cmp : K → K → Ordering} {eq : V → V → Bool} (x 
   -- the default leaves no entry
   pub set-default : (m : Map K V) → IsReduced cmp eq m → (k : K) → Contains (keys (set cmp eq m k m.default)) k → ⊥
   set-default m r k c = get-key (set cmp eq m k m.default) (reduced_by m r k m.default) k c (get-set_same m r k m.default)
+
+-- ---- the test of a reduced map
+
+Decides-less : (r : Ordering) → Decides (is_lt r) (r ≡ Less)
+Decides-less Less = (λ e. refl, λ e. refl)
+Decides-less Equal = (λ e. cc, λ e. cc)
+Decides-less Greater = (λ e. cc, λ e. cc)
+
+Decides-false : (b : Bool) → Decides (not b) (b ≡ false)
+Decides-false true = (λ e. cc, λ e. cc)
+Decides-false false = (λ e. refl, λ e. refl)
+
+pub Decides-list_all : {X : Type 0} (test : X → Bool) (P : X → Type 0) → ((x : X) → Decides (test x) (P x)) → (xs : List X) → Decides (list_all test xs) (All P xs)
+Decides-list_all test P each xs = Decides-by_and test P (list_all test) each refl (λ x ys. refl) xs
+
+module _ {K V : Type 0} (cmp : K → K → Ordering) (eq : V → V → Bool) where
+  all_below : (k : K) (ks : List K) → Decides (list_all (λ q. is_lt (cmp k q)) ks) (AllByRecursion (λ q. cmp k q ≡ Less) ks)
+  all_below k [] = (λ e. tt, λ h. refl)
+  all_below k (q ∷ ks) = Decides-and (is_lt (cmp k q)) (list_all (λ q. is_lt (cmp k q)) ks) (Decides-less (cmp k q)) (all_below k ks)
+
+  Decides-is_ascending : (ks : List K) → Decides (is_ascending cmp ks) (IsStrictlySortedBy cmp ks)
+  unfolding IsStrictlySortedBy
+  Decides-is_ascending [] = (λ e. tt, λ h. refl)
+  Decides-is_ascending (k ∷ ks) = Decides-and (list_all (λ q. is_lt (cmp k q)) ks) (is_ascending cmp ks) (all_below k ks) (Decides-is_ascending ks)
+
+  pub Decides-is_reduced : (m : Map K V) → Decides (is_reduced cmp eq m) (IsReduced cmp eq m)
+  Decides-is_reduced m =
+      let d = Decides-and (is_ascending cmp (keys m)) (list_all (λ v. not (eq v m.default)) (values m)) (Decides-is_ascending (keys m)) (Decides-list_all (λ v. not (eq v m.default)) (λ v. eq v m.default ≡ false) (λ v. Decides-false (eq v m.default)) (values m)) in
+      (λ e. record { ascending = (d.0 e).0; no_default = (d.0 e).1 }, λ r. d.1 (r.ascending, r.no_default))
 
 -- numbers as keys and as values
 pub IsExact-unsigned : IsExact nat_cmp nat_eq

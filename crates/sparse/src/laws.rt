@@ -1,8 +1,9 @@
 //! The laws of maps with a default, as contracts of functions that do nothing.
 ghost use Rattle.std.specs.Prelude.{◌≡◌, ◌≢◌, ◌↔◌, ℕ, Bool, Contains, map, slice_get};
+ghost use Rattle.std.specs.Bool.{Decides};
 ghost use Rattle.std.specs.Cmp.{IsTotalOrder, IsEquivalence};
 ghost use Rattle.std.specs.declared.cmp.Ordering.{Ordering};
-ghost use Rattle.sparse.specs.Map.{Map, empty, keys, get, set, IsReduced, IsSame};
+ghost use Rattle.sparse.specs.Map.{Map, empty, keys, get, set, IsReduced, is_reduced, IsSame};
 ghost use Rattle.sparse.specs.Meaning.{IsExact, IsMeaning, meaning_of};
 
 /// After a change the key has the new value.
@@ -79,6 +80,12 @@ pub fn stays_reduced<K, V>()
     ensures same { (cmp : K → K → Ordering) (eq : V → V → Bool) → IsTotalOrder cmp → IsEquivalence eq →
         (m n : Map K V) → IsSame cmp eq m n → IsReduced cmp eq m →
         IsReduced cmp eq n }
+{}
+
+/// Whether a map is written in its one way can be tested.
+pub fn the_test_of_reduced_maps_is_exact<K, V>()
+    ensures { (cmp : K → K → Ordering) (eq : V → V → Bool) (m : Map K V) →
+        Decides (is_reduced cmp eq m) (IsReduced cmp eq m) }
 {}
 
 /// Maps that are not told apart are equal, where the order and the equality tell all keys and values apart.
