@@ -9,4 +9,8 @@ pub mod OperationLaws
 pub mod OrderLaws
 pub mod KeyLaws
 pub mod RepresentableLaws
+pub mod ReducedLaws
+pub mod QuotientLaws
+pub mod SignLaws
+pub mod ProperLaws
 pub mod Rows

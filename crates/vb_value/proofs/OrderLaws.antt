@@ -1,14 +1,15 @@
 -- Laws of the order of fractions with positive denominators.
-use Rattle.std.proofs.Common.{◌≡◌, ℕ, ◌+◌, ◌*◌, ◌<◌, refl, sym, ap, ◌∙◌, subst, arith, ℤ, pos, ◌+ℤ◌, ◌*ℤ◌, ◌<ℤ◌}
+use Rattle.std.proofs.Common.{◌≡◌, true, ℕ, zero, suc, ◌+◌, ◌*◌, ◌<◌, refl, sym, ap, ◌∙◌, subst, arith, ℤ, pos, negsuc, ◌+ℤ◌, ◌*ℤ◌, ◌<ℤ◌}
 use Rattle.std.specs.Ordering.{int_cmp, is_eq, MatchOrdering, ordering_reverse}
 use Rattle.std.specs.declared.cmp.Ordering.TheVariants.{Less, Equal, Greater}
 use Rattle.std.proofs.lemmas.Int.{ints}
 use Rattle.std.proofs.lemmas.Cmp.{int_ranked, int_cmp_total, tied_itself, by_ranked}
 use Rattle.std.proofs.lemmas.Bool.Decides.{Decides-int_eq}
+use Rattle.std.proofs.Math.IntN.{*ℤ_comm}
 use Rattle.std.proofs.Math.Nat.{mul-lt-mul_of_pos_right, mul-pos}
 use borrow.Author.Differences.{up, down}
-use Rattle.vb_value.specs.Fraction.{Fraction, IsReduced, order, sum}
-use Rattle.vb_value.proofs.IntLaws.{*ℤ_assoc, +ℤ-*ℤ}
+use Rattle.vb_value.specs.Fraction.{Fraction, IsReduced, order, sum, product, is_above_zero, is_positive}
+use Rattle.vb_value.proofs.IntLaws.{*ℤ_assoc, *ℤ_swap, +ℤ-*ℤ}
 use Rattle.vb_value.proofs.FractionLaws.{same_from_cross}
 use Rattle.vb_value.proofs.OperationLaws.{IsRatio, IsRatio-reduced}
 
@@ -88,3 +89,19 @@ order-sum p q r in_p in_q in_r =
 
     right : (q.num *ℤ pos r.den +ℤ r.num *ℤ pos q.den) *ℤ pos (p.den * r.den) ≡ (q.num *ℤ pos p.den) *ℤ pos (r.den * r.den) +ℤ r.num *ℤ pos (p.den * q.den * r.den)
     right = simp (+ℤ-*ℤ, *ℤ_assoc) (omega (arith, ints))
+
+positive_is : (z : ℤ) → is_above_zero z ≡ true → (n : ℕ) × (z ≡ pos (suc n))
+positive_is (pos zero) e = cc
+positive_is (pos (suc n)) e = (n, refl)
+positive_is (negsuc n) e = cc
+
+-- nor does a positive factor
+pub order-product : (k p q : Fraction) → 0 < k.den → 0 < p.den → 0 < q.den → is_positive k ≡ true → order (product k p) (product k q) ≡ order p q
+order-product k p q in_k in_p in_q positive =
+    let factor = positive_is k.num positive in
+    let size = suc factor.0 * k.den in
+    order_from (IsRatio-reduced _ _ (mul-pos in_k in_p)) (IsRatio-reduced _ _ (mul-pos in_k in_q)) ∙ ap (λ z. int_cmp z ((k.num *ℤ q.num) *ℤ pos (k.den * p.den))) (side factor.0 p.num q.den factor.1) ∙ ap (int_cmp ((p.num *ℤ pos q.den) *ℤ pos size)) (side factor.0 q.num p.den factor.1) ∙ int_cmp-scale (p.num *ℤ pos q.den) (q.num *ℤ pos p.den) size (mul-pos (omega arith) in_k)
+  where
+    side : (n : ℕ) (x : ℤ) (d : ℕ) → k.num ≡ pos (suc n) → (k.num *ℤ x) *ℤ pos (k.den * d) ≡ (x *ℤ pos d) *ℤ pos (suc n * k.den)
+    side n x d e =
+        ap (λ z. (z *ℤ x) *ℤ pos (k.den * d)) e ∙ *ℤ_swap (pos (suc n)) x (pos k.den) (pos d) ∙ *ℤ_comm (pos (suc n * k.den)) (x *ℤ pos d)

@@ -1,11 +1,11 @@
 //! Laws of the definitions, each as the contract of a function that does nothing.
 
-ghost use Rattle.std.specs.Prelude.{◌≡◌, ◌↔◌, ℕ, ℤ, pos, ◌*ℤ◌, ◌<◌, List, true};
+ghost use Rattle.std.specs.Prelude.{◌≡◌, ◌≢◌, ◌↔◌, ℕ, ℤ, pos, ◌*ℤ◌, ◌<◌, List, true};
 ghost use Rattle.std.specs.Int.{IsGcd};
 ghost use Rattle.std.specs.Ordering.{ordering_reverse};
 ghost use Rattle.vb_value.specs.Gcd.{gcd};
 ghost use Rattle.vb_value.specs.Euclid.{IsEuclidean};
-ghost use Rattle.vb_value.specs.Fraction.{Fraction, IsReduced, reduced, whole, sum, difference, product, order};
+ghost use Rattle.vb_value.specs.Fraction.{Fraction, IsReduced, reduced, whole, sum, difference, product, quotient, order, is_positive};
 ghost use Rattle.vb_value.specs.View.{content_of};
 ghost use Rattle.vb_value.specs.declared.values.Value.{Value};
 ghost use Rattle.vb_value.specs.declared.keys.KeyPart.{KeyPart};
@@ -48,11 +48,16 @@ pub fn arithmetic_is_that_of_the_rationals()
     ensures product_associates { (p : Fraction) (q : Fraction) (r : Fraction) → IsReduced p → IsReduced q
         → IsReduced r → product (product p q) r ≡ product p (product q r) }
     ensures one_is_neutral { (p : Fraction) → IsReduced p → product (whole (pos 1)) p ≡ p }
+    ensures difference_is_undone { (p : Fraction) (q : Fraction) → IsReduced p → IsReduced q
+        → sum (difference p q) q ≡ p }
+    ensures product_commutes { (p : Fraction) (q : Fraction) → product p q ≡ product q p }
+    ensures quotient_is_undone { (p : Fraction) (q : Fraction) → IsReduced p → IsReduced q → q.num ≢ pos 0
+        → product (quotient p q) q ≡ p }
     ensures product_distributes { (r : Fraction) (p : Fraction) (q : Fraction) → IsReduced r → IsReduced p
         → IsReduced q → product r (sum p q) ≡ sum (product r p) (product r q) }
 {}
 
-/// The order of fractions in lowest terms is total, and to add the same on both sides keeps it.
+/// The order of fractions in lowest terms is total, and to add the same on both sides keeps it, as does a positive factor.
 pub fn order_is_that_of_the_rationals()
     ensures turns { (p : Fraction) (q : Fraction) → order p q ≡ ordering_reverse (order q p) }
     ensures tells { (p : Fraction) (q : Fraction) → IsReduced p → IsReduced q → order p q ≡ Ordering.Equal → p ≡ q }
@@ -60,6 +65,8 @@ pub fn order_is_that_of_the_rationals()
         → order p q ≡ Ordering.Less → order q r ≡ Ordering.Less → order p r ≡ Ordering.Less }
     ensures sums { (p : Fraction) (q : Fraction) (r : Fraction) → IsReduced p → IsReduced q → IsReduced r
         → order (sum p r) (sum q r) ≡ order p q }
+    ensures products { (k : Fraction) (p : Fraction) (q : Fraction) → IsReduced k → IsReduced p → IsReduced q
+        → is_positive k ≡ true → order (product k p) (product k q) ≡ order p q }
 {}
 
 /// `==` tells fractions, values and contents apart exactly.

@@ -1,4 +1,5 @@
-use Rattle.vb_value.proofs.OperationLaws.{sum_comm, sum_assoc, sum-zero, difference-sum, product_assoc, product-one, product-sum}
+use Rattle.vb_value.proofs.OperationLaws.{sum_comm, sum_assoc, sum-zero, difference-sum, sum-difference, product_comm, product_assoc, product-one, product-sum}
+use Rattle.vb_value.proofs.QuotientLaws.{product-quotient}
 use Rattle.vb_value.proofs.laws.arithmetic_is_that_of_the_rationals.Goals as goal
 
 pub returns-clause-sum_commutes : goal.returns-clause-sum_commutes
@@ -21,3 +22,12 @@ returns-clause-one_is_neutral c = product-one
 
 pub returns-clause-product_distributes : goal.returns-clause-product_distributes
 returns-clause-product_distributes c = λ r p q x y z. product-sum r p q x.positive y.positive z.positive
+
+pub returns-clause-difference_is_undone : goal.returns-clause-difference_is_undone
+returns-clause-difference_is_undone c = λ p q x y. sum-difference p q x y.positive
+
+pub returns-clause-product_commutes : goal.returns-clause-product_commutes
+returns-clause-product_commutes c = product_comm
+
+pub returns-clause-quotient_is_undone : goal.returns-clause-quotient_is_undone
+returns-clause-quotient_is_undone c = λ p q x y nonzero. product-quotient p q x y.positive nonzero

@@ -1,0 +1,53 @@
+-- Laws of the signs of amounts: what is added, multiplied, or taken where enough is there, is not negative.
+use Rattle.std.proofs.Common.{◌≡◌, ℕ, ◌*◌, refl, sym, ap, ◌∙◌, arith, ℤ, pos, negsuc, ◌+ℤ◌, ◌-ℤ◌, ◌*ℤ◌, ◌≤ℤ◌, true, false}
+use Rattle.std.proofs.lemmas.Int.{ints}
+use Rattle.std.proofs.lemmas.Cmp.{int_ranked, by_ranked}
+use Rattle.std.specs.Ordering.{int_cmp, is_lt}
+use Rattle.vb_value.specs.Fraction.{Fraction, reduced, sum, difference, product, order, is_below_zero, is_above_zero, is_negative, is_positive}
+
+not_below : (z : ℤ) → pos 0 ≤ℤ z → is_below_zero z ≡ false
+not_below (pos n) h = refl
+not_below (negsuc n) h = absurd (omega (arith, ints))
+
+not_below-factor : (z : ℤ) (n : ℕ) → is_below_zero z ≡ false → is_below_zero (z *ℤ pos n) ≡ false
+not_below-factor (pos m) n e = refl
+not_below-factor (negsuc m) n e = cc
+
+not_below-sum : (x y : ℤ) → is_below_zero x ≡ false → is_below_zero y ≡ false → is_below_zero (x +ℤ y) ≡ false
+not_below-sum (pos m) (pos n) e f = refl
+not_below-sum (pos m) (negsuc n) e f = cc
+not_below-sum (negsuc m) y e f = cc
+
+not_below-product : (x y : ℤ) → is_below_zero x ≡ false → is_below_zero y ≡ false → is_below_zero (x *ℤ y) ≡ false
+not_below-product (pos m) (pos n) e f = refl
+not_below-product (pos m) (negsuc n) e f = cc
+not_below-product (negsuc m) y e f = cc
+
+not_less : (x y : ℤ) → is_lt (int_cmp x y) ≡ false → y ≤ℤ x
+not_less x y e =
+    by_ranked _ _ _ (int_cmp x y) (int_ranked x y (int_cmp x y) refl) (λ less h. let f : true ≡ false = ap is_lt (sym less) ∙ e in cc) (λ equal h. omega (arith, ints)) (λ greater h. omega (arith, ints))
+
+-- lowest terms keep the sign
+not_below-reduced : (n : ℤ) (d : ℕ) → is_below_zero n ≡ false → is_negative (reduced n d) ≡ false
+unfolding reduced
+not_below-reduced (pos n) d e = refl
+not_below-reduced (negsuc n) d e = cc
+
+pub sum_not_negative : (p q : Fraction) → is_negative p ≡ false → is_negative q ≡ false → is_negative (sum p q) ≡ false
+sum_not_negative p q e f =
+    not_below-reduced (p.num *ℤ pos q.den +ℤ q.num *ℤ pos p.den) (p.den * q.den) (not_below-sum (p.num *ℤ pos q.den) (q.num *ℤ pos p.den) (not_below-factor p.num q.den e) (not_below-factor q.num p.den f))
+
+pub product_not_negative : (p q : Fraction) → is_negative p ≡ false → is_negative q ≡ false → is_negative (product p q) ≡ false
+product_not_negative p q e f = not_below-reduced (p.num *ℤ q.num) (p.den * q.den) (not_below-product p.num q.num e f)
+
+pub difference_not_negative : (p q : Fraction) → is_lt (order p q) ≡ false → is_negative (difference p q) ≡ false
+difference_not_negative p q e =
+    let enough = not_less (p.num *ℤ pos q.den) (q.num *ℤ pos p.den) e in
+    not_below-reduced (p.num *ℤ pos q.den -ℤ q.num *ℤ pos p.den) (p.den * q.den) (not_below (p.num *ℤ pos q.den -ℤ q.num *ℤ pos p.den) (omega (arith, ints, enough)))
+
+above_not_below : (z : ℤ) → is_above_zero z ≡ true → is_below_zero z ≡ false
+above_not_below (pos n) e = refl
+above_not_below (negsuc n) e = cc
+
+pub positive_not_negative : (q : Fraction) → is_positive q ≡ true → is_negative q ≡ false
+positive_not_negative q e = above_not_below q.num e
