@@ -1,5 +1,5 @@
 -- The form of a name, in Viper and in Boogie, and the words of Viper.
-use Rattle.std.specs.Prelude.{◌≢◌, ℕ, Bool, false, List, [], ◌∷◌, ◌==◌, ◌&&◌, ◌||◌, not, codes, AllPairs}
+use Rattle.std.specs.Prelude.{◌≢◌, ℕ, Bool, false, List, [], ◌∷◌, ◌++◌, ◌==◌, ◌&&◌, ◌||◌, not, codes, AllPairs}
 use Rattle.std.specs.Char.{is_ascii_digit}
 use Rattle.std.specs.Int.{is_in_range}
 use Rattle.std.specs.List.{list_all, list_any}
@@ -18,21 +18,26 @@ abbrev pub is_name : List ℕ → Bool
 is_name [] = false
 is_name (b ∷ bytes) = is_name_start b && list_all is_name_byte bytes
 
--- what has the form of a name in Viper and is none: its words, those that are refused last
+-- the words of this subset of Viper
 abbrev pub words : List (List ℕ)
 words =
     codes "field" ∷ codes "predicate" ∷ codes "method" ∷ codes "returns" ∷ codes "requires" ∷ codes "ensures" ∷
     codes "invariant" ∷ codes "var" ∷ codes "new" ∷ codes "if" ∷ codes "elseif" ∷ codes "else" ∷ codes "while" ∷
     codes "inhale" ∷ codes "exhale" ∷ codes "assert" ∷ codes "assume" ∷ codes "fold" ∷ codes "unfold" ∷
     codes "unfolding" ∷ codes "in" ∷ codes "acc" ∷ codes "old" ∷ codes "null" ∷ codes "true" ∷ codes "false" ∷
-    codes "write" ∷ codes "none" ∷ codes "wildcard" ∷ codes "Int" ∷ codes "Bool" ∷ codes "Ref" ∷ codes "Perm" ∷
+    codes "write" ∷ codes "none" ∷ codes "wildcard" ∷ codes "Int" ∷ codes "Bool" ∷ codes "Ref" ∷ codes "Perm" ∷ []
+
+-- the words of Viper that this subset refuses
+abbrev pub refused_words : List (List ℕ)
+refused_words =
     codes "function" ∷ codes "domain" ∷ codes "axiom" ∷ codes "unique" ∷ codes "import" ∷ codes "define" ∷
     codes "label" ∷ codes "goto" ∷ codes "forall" ∷ codes "exists" ∷ codes "forperm" ∷ codes "let" ∷ codes "perm" ∷
     codes "epsilon" ∷ codes "Seq" ∷ codes "Set" ∷ codes "Multiset" ∷ codes "Map" ∷ codes "Rational" ∷
     codes "package" ∷ codes "apply" ∷ codes "applying" ∷ codes "refute" ∷ codes "decreases" ∷ []
 
+-- what has the form of a name in Viper and is none
 unfoldable pub is_word : List ℕ → Bool
-is_word bytes = list_any (bytes_eq bytes) words
+is_word bytes = list_any (bytes_eq bytes) (words ++ refused_words)
 
 -- a name of Viper has the form of one, and is no word
 abbrev pub is_viper_name : List ℕ → Bool

@@ -1,8 +1,6 @@
 -- What the tokens of a text are like: names are names, numbers are within MAX, places go on as in the text.
 use Rattle.std.proofs.Common.{◌≡◌, ◌∙◌, ◌≢◌, ℕ, pos, ◌+◌, ◌<◌, ◌≤◌, Bool, true, false, not, cond, refl, ap, sym, subst, arith, inl, inr, List, [], ◌∷◌, ◌++◌, length, take, drop, suc, zero, Some}
 use Rattle.std.specs.Prelude.{◌⊎◌, ◌==◌, ◌≤ℤ◌, slice_get}
-use Rattle.std.specs.List.{list_any}
-use Rattle.std.specs.Str.{bytes_eq}
 use Rattle.std.proofs.lemmas.List.{append_assoc, append-nil, length-append, length-take-le, length-drop, take_at}
 use Rattle.std.proofs.lemmas.Bool.{and_from}
 use Rattle.std.proofs.lemmas.Int.{ints}
@@ -14,12 +12,12 @@ use Rattle.viper_syntax.specs.declared.tokens.Word.{Word}
 use Rattle.viper_syntax.specs.declared.tokens.Tok.{Tok}
 use Rattle.viper_syntax.specs.declared.tokens.Tok.TheVariants as k
 use Rattle.viper_syntax.specs.declared.tokens.Token.{Token}
-use Rattle.viper_syntax.specs.Spelling.{word_text, refused_text, refused_words, decimal}
+use Rattle.viper_syntax.specs.Spelling.{word_text, decimal}
 use Rattle.viper_syntax.specs.Piece.{Piece, IsToken, word, name, number, sign, Skipped, Unclosed, Taken, IsPiece, comment, token}
 use Rattle.viper_syntax.specs.Cut.{MAX, IsSmall, tokens_at, IsCut, end, piece}
 use Rattle.viper_syntax.specs.Limit.{StaysWithin, KeepsLimits, IsUndivided, in_group, is_divider, refused, is_refused}
 use Rattle.viper_syntax.specs.Lexed.{IsLexed, IsProper, IsWellFormed}
-use Rattle.viper_syntax.proofs.LimitLaws.{refused_more, refused_found}
+use Rattle.viper_syntax.proofs.LimitLaws.{refused_more}
 
 use Rattle.viper_syntax.proofs.CutLaws.{longest_some}
 use Rattle.viper_syntax.proofs.WordLaws.{no_word}
@@ -67,7 +65,7 @@ none_refused ts i t h here is =
 
 proper : (t : Tok) → IsCutTok t → (is_refused t ≡ true → ⊥) → IsProper t
 proper (k.Name x) h none =
-    and_from _ _ h.0 (ap not (no_word x h.1 (λ w e. none (ap (λ us. list_any (λ v. bytes_eq us (refused_text v)) refused_words) e ∙ refused_found w))))
+    and_from _ _ h.0 (ap not (no_word x h.1 none))
 proper (k.Number n) h none = h
 proper (k.Word w) h none = tt
 proper (k.Sign s) h none = tt

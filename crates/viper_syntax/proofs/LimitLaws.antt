@@ -1,16 +1,10 @@
 -- How the counts of a list of tokens go on with one more token, and the first token above a limit.
 use Rattle.std.proofs.Common.{◌≡◌, ◌∙◌, ◌≢◌, ℕ, ◌+◌, ◌<◌, ◌≤◌, Bool, true, false, cond, not, refl, ap, sym, subst, arith, inl, inr, List, [], ◌∷◌, ◌++◌, length, take, get_or, Option, Some, None, suc, zero, add-one}
 use Rattle.std.specs.Prelude.{slice_get, MatchOption, is_some, ◌⊎◌}
-use Rattle.std.specs.List.{list_any}
-use Rattle.std.specs.Str.{bytes_eq}
 use Rattle.std.proofs.lemmas.Bool.{cases_lt}
-use Rattle.std.proofs.lemmas.Slice.Eq.{bytes_eq-Decides}
 use Rattle.std.proofs.lemmas.List.{take_all}
 use Rattle.std.proofs.lemmas.List.Sums.{sum_by_push, fold_push}
-use Rattle.viper_syntax.specs.declared.tokens.RefusedWord.{RefusedWord}
-use Rattle.viper_syntax.specs.declared.tokens.RefusedWord.TheVariants as r
 use Rattle.viper_syntax.specs.declared.tokens.Token.{Token}
-use Rattle.viper_syntax.specs.Spelling.{refused_text, refused_words}
 use Rattle.viper_syntax.specs.Limit.{unclosed, unclosed_with, in_group, refused, is_divider, is_refused, StaysWithin}
 use Rattle.vb_base.proofs.PlaceLaws.{suffix_len_push}
 
@@ -50,21 +44,3 @@ one_more_front f limit ts i h here n le = by_case (cases_lt i n) where
   by_case : (i < n) ⊎ (n ≤ i) → f (take n ts) ≤ limit
   by_case (inl past) = let e : i + 1 ≡ n = omega arith in subst (λ k. f (take k ts) ≤ limit) e here
   by_case (inr below) = h n below
-
-pub false_from_not : (b : Bool) → (b ≡ true → ⊥) → b ≡ false
-false_from_not true h = absurd (h refl)
-false_from_not false h = refl
-
--- each refused word is found among them
-pub refused_found : (w : RefusedWord) → list_any (λ v. bytes_eq (refused_text w) (refused_text v)) refused_words ≡ true
-refused_found r.Function = refl
-refused_found _ = refl
-
-none_found : (x : List ℕ) (vs : List RefusedWord) → ((w : RefusedWord) → x ≢ refused_text w) → list_any (λ v. bytes_eq x (refused_text v)) vs ≡ false
-none_found x [] h = refl
-none_found x (v ∷ vs) h = rw (false_from_not (bytes_eq x (refused_text v)) (λ e. h v ((bytes_eq-Decides x (refused_text v)).0 e))) (none_found x vs h)
-
--- what the look-up of a refused word says
-pub refused_from_lookup : (x : List ℕ) (o : Option RefusedWord) → MatchOption o ((w : RefusedWord) → x ≢ refused_text w) (λ w. x ≡ refused_text w) → is_some o ≡ list_any (λ v. bytes_eq x (refused_text v)) refused_words
-refused_from_lookup x None h = sym (none_found x refused_words h)
-refused_from_lookup x (Some w) e = rw e (sym (refused_found w))

@@ -3,6 +3,7 @@ use Rattle.std.specs.Prelude.{◌≡◌, ℕ, ◌+◌, ◌-◌, ◌<◌, ◌≤�
 use Rattle.std.specs.List.{suffix_len, list_any}
 use Rattle.std.specs.Str.{bytes_eq}
 use Rattle.vb_base.specs.declared.places.Pos.{Pos}
+use Rattle.vb_base.specs.Names.{refused_words}
 use Rattle.viper_syntax.specs.declared.tokens.LexFault.{LexFault}
 use Rattle.viper_syntax.specs.declared.tokens.LexFault.TheVariants as f
 use Rattle.viper_syntax.specs.declared.tokens.Sign.{Sign}
@@ -12,7 +13,6 @@ use Rattle.viper_syntax.specs.declared.tokens.Word.TheVariants as w
 use Rattle.viper_syntax.specs.declared.tokens.Tok.{Tok}
 use Rattle.viper_syntax.specs.declared.tokens.Tok.TheVariants as k
 use Rattle.viper_syntax.specs.declared.tokens.Token.{Token}
-use Rattle.viper_syntax.specs.Spelling.{refused_text, refused_words}
 
 -- how many `{` are unclosed after a further token: a `}` closes the last unclosed one, and nothing where there is none
 abbrev pub unclosed_with : ℕ → Tok → ℕ
@@ -65,7 +65,7 @@ in_group ts = suffix_len (λ t. not (is_divider t.tok)) ts
 
 -- a name that is a refused word
 abbrev pub is_refused : Tok → Bool
-is_refused (k.Name x) = list_any (λ w. bytes_eq x (refused_text w)) refused_words
+is_refused (k.Name x) = list_any (bytes_eq x) refused_words
 is_refused (k.Number n) = false
 is_refused (k.Word w) = false
 is_refused (k.Sign s) = false

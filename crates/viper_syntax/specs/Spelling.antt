@@ -1,7 +1,5 @@
 -- How words and signs are spelled, and what blanks and numbers are made of.
 use Rattle.std.specs.Prelude.{ℕ, ◌+◌, ◌*◌, ◌-◌, Bool, ◌==◌, ◌||◌, List, [], ◌∷◌, codes}
-use Rattle.viper_syntax.specs.declared.tokens.RefusedWord.{RefusedWord}
-use Rattle.viper_syntax.specs.declared.tokens.RefusedWord.TheVariants as r
 use Rattle.viper_syntax.specs.declared.tokens.Word.{Word}
 use Rattle.viper_syntax.specs.declared.tokens.Word.TheVariants as w
 use Rattle.viper_syntax.specs.declared.tokens.Sign.{Sign}
@@ -74,38 +72,6 @@ sign_text s.Slash = codes "/"
 sign_text s.Backslash = codes "\\"
 sign_text s.Percent = codes "%"
 sign_text s.Not = codes "!"
-
--- the bytes of a word of Viper that this subset refuses
-abbrev pub refused_text : RefusedWord → List ℕ
-refused_text r.Function = codes "function"
-refused_text r.Domain = codes "domain"
-refused_text r.Axiom = codes "axiom"
-refused_text r.Unique = codes "unique"
-refused_text r.Import = codes "import"
-refused_text r.Define = codes "define"
-refused_text r.Label = codes "label"
-refused_text r.Goto = codes "goto"
-refused_text r.Forall = codes "forall"
-refused_text r.Exists = codes "exists"
-refused_text r.Forperm = codes "forperm"
-refused_text r.Let = codes "let"
-refused_text r.Perm = codes "perm"
-refused_text r.Epsilon = codes "epsilon"
-refused_text r.Seq = codes "Seq"
-refused_text r.Set = codes "Set"
-refused_text r.Multiset = codes "Multiset"
-refused_text r.Map = codes "Map"
-refused_text r.Rational = codes "Rational"
-refused_text r.Package = codes "package"
-refused_text r.Apply = codes "apply"
-refused_text r.Applying = codes "applying"
-refused_text r.Refute = codes "refute"
-refused_text r.Decreases = codes "decreases"
-
-abbrev pub refused_words : List RefusedWord
-refused_words =
-    r.Function ∷ r.Domain ∷ r.Axiom ∷ r.Unique ∷ r.Import ∷ r.Define ∷ r.Label ∷ r.Goto ∷ r.Forall ∷ r.Exists ∷ r.Forperm ∷ r.Let ∷
-    r.Perm ∷ r.Epsilon ∷ r.Seq ∷ r.Set ∷ r.Multiset ∷ r.Map ∷ r.Rational ∷ r.Package ∷ r.Apply ∷ r.Applying ∷ r.Refute ∷ r.Decreases ∷ []
 
 -- a tab, the end of a line, a carriage return, a space
 abbrev pub is_blank : ℕ → Bool

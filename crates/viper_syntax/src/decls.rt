@@ -3,14 +3,14 @@ use crate::{Formal, Named, SBlock, Term, Word};
 use vb_base::Pos;
 
 /// `requires a` or `ensures a`
-#[derive(Debug, PartialEq, Eq, Drop)]
+#[derive(Drop)]
 pub struct SClause {
     pub word: Word,
     pub term: Term,
 }
 
 /// A method.
-#[derive(Debug, PartialEq, Eq, Drop)]
+#[derive(Drop)]
 pub struct SMethod {
     pub at: Pos,
     pub name: Named,
@@ -21,7 +21,7 @@ pub struct SMethod {
 }
 
 /// A declaration.
-#[derive(Debug, PartialEq, Eq, Drop)]
+#[derive(Drop)]
 pub enum Decl {
     /// `field f: Int`
     Field(Formal),
@@ -31,7 +31,7 @@ pub enum Decl {
 }
 
 /// A file: its declarations in order.
-#[derive(Debug, PartialEq, Eq, Drop)]
+#[derive(Drop)]
 pub struct SourceProgram {
     pub decls: Vec<Decl>,
 }

@@ -21,4 +21,4 @@ pub use laws::{one_answer, one_cut, short_groups};
 pub use lexer::lex;
 pub use stmts::{Formal, Named, SArm, SBlock, SCall, SFold, SNew, SRhs, SStmt};
 pub use terms::Term;
-pub use tokens::{LexFault, RefusedWord, Sign, Tok, Token, Word};
+pub use tokens::{LexFault, Sign, Tok, Token, Word};

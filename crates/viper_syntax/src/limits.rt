@@ -2,7 +2,7 @@
 ghost use Rattle.std.specs.Prelude.{◌≡◌, MatchOption, ◌<◌, ◌^◌, length};
 ghost use Rattle.viper_syntax.specs.Limit.{KeepsLimits, BreaksLimit, StaysWithin, IsFirstAbove, unclosed, unclosed_with, in_group, refused, is_divider, is_refused};
 
-use crate::words::refused_word_of;
+use crate::words::is_refused_word;
 use crate::{LexFault, Sign, Tok, Token, Word};
 use vb_base::Pos;
 
@@ -120,7 +120,7 @@ fn is_refused(tok: &Tok) -> bool
     ensures { result ≡ is_refused tok.now }
 {
     match tok {
-        Tok::Name(name) => refused_word_of(&name.bytes).is_some(),
+        Tok::Name(name) => is_refused_word(&name.bytes),
         _ => false,
     }
 }

@@ -3,28 +3,28 @@ use crate::{Term, Word};
 use vb_base::{Ident, Pos};
 
 /// A name and its place.
-#[derive(Debug, PartialEq, Eq, Drop)]
+#[derive(Drop)]
 pub struct Named {
     pub name: Ident,
     pub pos: Pos,
 }
 
 /// `x: Int`. The type is one of the words `Int`, `Bool`, `Ref` and `Perm`.
-#[derive(Debug, PartialEq, Eq, Drop)]
+#[derive(Drop)]
 pub struct Formal {
     pub name: Named,
     pub ty: Word,
 }
 
 /// `m(a, b)`
-#[derive(Debug, PartialEq, Eq, Drop)]
+#[derive(Drop)]
 pub struct SCall {
     pub name: Named,
     pub args: Vec<Term>,
 }
 
 /// `new(f, g)`, or `new(*)`, where `every` is true.
-#[derive(Debug, PartialEq, Eq, Drop)]
+#[derive(Drop)]
 pub struct SNew {
     pub at: Pos,
     pub every: bool,
@@ -32,7 +32,7 @@ pub struct SNew {
 }
 
 /// What is assigned. A right side that is wholly a call is read as a method call and only so.
-#[derive(Debug, PartialEq, Eq, Drop)]
+#[derive(Drop)]
 pub enum SRhs {
     Call(SCall),
     New(SNew),
@@ -40,7 +40,7 @@ pub enum SRhs {
 }
 
 /// The instance of a `fold` or `unfold`, with its amount, if any.
-#[derive(Debug, PartialEq, Eq, Drop)]
+#[derive(Drop)]
 pub struct SFold {
     pub at: Pos,
     pub call: SCall,
@@ -49,7 +49,7 @@ pub struct SFold {
 
 /// A block. Its place is the `{`.
 #[cycle(stmts)]
-#[derive(Debug, PartialEq, Eq, Drop)]
+#[derive(Drop)]
 pub struct SBlock {
     pub at: Pos,
     pub stmts: Vec<SStmt>,
@@ -57,7 +57,7 @@ pub struct SBlock {
 
 /// One condition of an `if` with its block. Its place is the word `if` or `elseif`.
 #[cycle(stmts)]
-#[derive(Debug, PartialEq, Eq, Drop)]
+#[derive(Drop)]
 pub struct SArm {
     pub at: Pos,
     pub condition: Term,
@@ -66,7 +66,7 @@ pub struct SArm {
 
 /// A statement.
 #[cycle(stmts)]
-#[derive(Debug, PartialEq, Eq, Drop)]
+#[derive(Drop)]
 pub enum SStmt {
     /// `var x: Int` or `var x: Int := a`
     Var(Pos, Formal, Option<SRhs>),

@@ -6,7 +6,7 @@ use vb_base::{Ident, Pos};
 ///
 /// The place of a node is its operator for a binary term, the `?` for a choice, the field's name for a field
 /// read, and else its first token.
-#[derive(Debug, PartialEq, Eq, Drop)]
+#[derive(Drop)]
 pub enum Term {
     /// `x`
     Name(Ident, Pos),

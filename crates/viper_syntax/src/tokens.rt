@@ -6,14 +6,14 @@ use std::alloc::{AllocError, AllocFailed};
 use vb_base::{Ident, Pos};
 
 /// A token with the place of its first byte.
-#[derive(Debug, PartialEq, Eq, Drop)]
+#[derive(Drop)]
 pub struct Token {
     pub tok: Tok,
     pub pos: Pos,
 }
 
 /// What a token is.
-#[derive(Debug, PartialEq, Eq, Drop)]
+#[derive(Drop)]
 pub enum Tok {
     /// A letter, `_` or `$`, then any of these, digits and `'`; none of the words, and no refused word.
     Name(Ident),
@@ -60,35 +60,6 @@ pub enum Word {
     Bool,
     Ref,
     Perm,
-}
-
-/// The words of Viper that this subset refuses. In a text without faults no name is one.
-#[derive(Clone, Copy, Debug, PartialEq, Eq)]
-pub enum RefusedWord {
-    Function,
-    Domain,
-    Axiom,
-    Unique,
-    Import,
-    Define,
-    Label,
-    Goto,
-    Forall,
-    Exists,
-    Forperm,
-    Let,
-    Perm,
-    Epsilon,
-    Seq,
-    Set,
-    Multiset,
-    Map,
-    Rational,
-    Package,
-    Apply,
-    Applying,
-    Refute,
-    Decreases,
 }
 
 /// The signs.

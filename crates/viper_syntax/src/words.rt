@@ -1,82 +1,144 @@
 // The words of Viper, by their bytes.
-ghost use Rattle.std.specs.Prelude.{◌≡◌, ◌≢◌, MatchOption};
-ghost use Rattle.viper_syntax.specs.declared.tokens.RefusedWord.{RefusedWord};
+ghost use Rattle.std.specs.Prelude.{◌≡◌, ◌≢◌, MatchOption, find};
+ghost use Rattle.std.specs.List.{list_any};
+ghost use Rattle.std.specs.Str.{bytes_eq};
+ghost use Rattle.vb_base.specs.Names.{refused_words};
 ghost use Rattle.viper_syntax.specs.declared.tokens.Word.{Word};
-ghost use Rattle.viper_syntax.specs.Spelling.{refused_text, word_text};
+ghost use Rattle.viper_syntax.specs.Spelling.{word_text};
 
-use crate::{RefusedWord, Word};
+use crate::Word;
+
+const WORDS: [Word; 33] = [
+    Word::Field,
+    Word::Predicate,
+    Word::Method,
+    Word::Returns,
+    Word::Requires,
+    Word::Ensures,
+    Word::Invariant,
+    Word::Var,
+    Word::New,
+    Word::If,
+    Word::Elseif,
+    Word::Else,
+    Word::While,
+    Word::Inhale,
+    Word::Exhale,
+    Word::Assert,
+    Word::Assume,
+    Word::Fold,
+    Word::Unfold,
+    Word::Unfolding,
+    Word::In,
+    Word::Acc,
+    Word::Old,
+    Word::Null,
+    Word::True,
+    Word::False,
+    Word::Write,
+    Word::None,
+    Word::Wildcard,
+    Word::Int,
+    Word::Bool,
+    Word::Ref,
+    Word::Perm,
+];
+
+const REFUSED_WORDS: [&[u8]; 24] = [
+    b"function",
+    b"domain",
+    b"axiom",
+    b"unique",
+    b"import",
+    b"define",
+    b"label",
+    b"goto",
+    b"forall",
+    b"exists",
+    b"forperm",
+    b"let",
+    b"perm",
+    b"epsilon",
+    b"Seq",
+    b"Set",
+    b"Multiset",
+    b"Map",
+    b"Rational",
+    b"package",
+    b"apply",
+    b"applying",
+    b"refute",
+    b"decreases",
+];
+
+/// The bytes of a word.
+fn word_text(word: Word) -> &'static [u8]
+    ensures { result.now ≡ word_text word }
+{
+    match word {
+        Word::Field => b"field",
+        Word::Predicate => b"predicate",
+        Word::Method => b"method",
+        Word::Returns => b"returns",
+        Word::Requires => b"requires",
+        Word::Ensures => b"ensures",
+        Word::Invariant => b"invariant",
+        Word::Var => b"var",
+        Word::New => b"new",
+        Word::If => b"if",
+        Word::Elseif => b"elseif",
+        Word::Else => b"else",
+        Word::While => b"while",
+        Word::Inhale => b"inhale",
+        Word::Exhale => b"exhale",
+        Word::Assert => b"assert",
+        Word::Assume => b"assume",
+        Word::Fold => b"fold",
+        Word::Unfold => b"unfold",
+        Word::Unfolding => b"unfolding",
+        Word::In => b"in",
+        Word::Acc => b"acc",
+        Word::Old => b"old",
+        Word::Null => b"null",
+        Word::True => b"true",
+        Word::False => b"false",
+        Word::Write => b"write",
+        Word::None => b"none",
+        Word::Wildcard => b"wildcard",
+        Word::Int => b"Int",
+        Word::Bool => b"Bool",
+        Word::Ref => b"Ref",
+        Word::Perm => b"Perm",
+    }
+}
 
 /// The word with these bytes, if any.
 pub(crate) fn word_of(name: &[u8]) -> Option<Word>
     ensures { MatchOption result ((w : Word) → name.now ≢ word_text w) (λ w. name.now ≡ word_text w) }
 {
-    Some(match name {
-        b"field" => Word::Field,
-        b"predicate" => Word::Predicate,
-        b"method" => Word::Method,
-        b"returns" => Word::Returns,
-        b"requires" => Word::Requires,
-        b"ensures" => Word::Ensures,
-        b"invariant" => Word::Invariant,
-        b"var" => Word::Var,
-        b"new" => Word::New,
-        b"if" => Word::If,
-        b"elseif" => Word::Elseif,
-        b"else" => Word::Else,
-        b"while" => Word::While,
-        b"inhale" => Word::Inhale,
-        b"exhale" => Word::Exhale,
-        b"assert" => Word::Assert,
-        b"assume" => Word::Assume,
-        b"fold" => Word::Fold,
-        b"unfold" => Word::Unfold,
-        b"unfolding" => Word::Unfolding,
-        b"in" => Word::In,
-        b"acc" => Word::Acc,
-        b"old" => Word::Old,
-        b"null" => Word::Null,
-        b"true" => Word::True,
-        b"false" => Word::False,
-        b"write" => Word::Write,
-        b"none" => Word::None,
-        b"wildcard" => Word::Wildcard,
-        b"Int" => Word::Int,
-        b"Bool" => Word::Bool,
-        b"Ref" => Word::Ref,
-        b"Perm" => Word::Perm,
-        _ => return None,
-    })
+    word_among(&WORDS, name)
 }
 
-/// The refused word with these bytes, if any.
-pub(crate) fn refused_word_of(name: &[u8]) -> Option<RefusedWord>
-    ensures { MatchOption result ((w : RefusedWord) → name.now ≢ refused_text w) (λ w. name.now ≡ refused_text w) }
+/// Whether these bytes are a refused word.
+pub(crate) fn is_refused_word(name: &[u8]) -> bool
+    ensures { result ≡ list_any (bytes_eq name.now) refused_words }
 {
-    Some(match name {
-        b"function" => RefusedWord::Function,
-        b"domain" => RefusedWord::Domain,
-        b"axiom" => RefusedWord::Axiom,
-        b"unique" => RefusedWord::Unique,
-        b"import" => RefusedWord::Import,
-        b"define" => RefusedWord::Define,
-        b"label" => RefusedWord::Label,
-        b"goto" => RefusedWord::Goto,
-        b"forall" => RefusedWord::Forall,
-        b"exists" => RefusedWord::Exists,
-        b"forperm" => RefusedWord::Forperm,
-        b"let" => RefusedWord::Let,
-        b"perm" => RefusedWord::Perm,
-        b"epsilon" => RefusedWord::Epsilon,
-        b"Seq" => RefusedWord::Seq,
-        b"Set" => RefusedWord::Set,
-        b"Multiset" => RefusedWord::Multiset,
-        b"Map" => RefusedWord::Map,
-        b"Rational" => RefusedWord::Rational,
-        b"package" => RefusedWord::Package,
-        b"apply" => RefusedWord::Apply,
-        b"applying" => RefusedWord::Applying,
-        b"refute" => RefusedWord::Refute,
-        b"decreases" => RefusedWord::Decreases,
-        _ => return None,
-    })
+    is_among(&REFUSED_WORDS, name)
+}
+
+/// Whether these bytes are one of the words.
+fn is_among(words: &[&[u8]], name: &[u8]) -> bool
+    ensures { result ≡ list_any (λ w. bytes_eq name.now w.now) words.now }
+{
+    words.iter().any(|word| name == *word)
+}
+
+/// The first of these words that has these bytes.
+fn word_among(words: &[Word], name: &[u8]) -> Option<Word>
+    ensures { result ≡ find (λ w. bytes_eq name.now (word_text w)) words.now }
+{
+    words
+        .iter()
+        .copied()
+        .find(|word| name == word_text(*word))
 }
