@@ -12,6 +12,3 @@ pub use names::{Ident, Memory};
 pub use owned::{boxed, boxed_pair, kept};
 pub use places::Pos;
 pub use texts::{advance, place_after};
-
-#[cfg(test)]
-mod tests;

@@ -3,4 +3,6 @@
 #![tactic(auto)]
 
 #[cfg(test)]
+mod labels;
+#[cfg(test)]
 mod numbers;

@@ -18,21 +18,21 @@ pub enum Shape {
 }
 
 /// A term as it is written.
-#[derive(Debug, Drop)]
+#[derive(Drop)]
 pub struct Part {
     pub shape: Shape,
     pub term: Box<Term>,
 }
 
 /// A call with its amount, if any, as `fold`, `unfold` and `unfolding` take it.
-#[derive(Debug, Drop)]
+#[derive(Drop)]
 pub struct Instance {
     pub call: SCall,
     pub amount: Option<Box<Term>>,
 }
 
 /// Why nothing was read.
-#[derive(Debug, Drop)]
+#[derive(Drop)]
 pub enum Stop<'a> {
     /// Memory was refused.
     Memory,

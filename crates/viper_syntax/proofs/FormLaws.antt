@@ -18,7 +18,6 @@ use Rattle.viper_syntax.specs.Cut.{MAX, IsSmall, tokens_at, IsCut, end, piece}
 use Rattle.viper_syntax.specs.Limit.{StaysWithin, KeepsLimits, IsUndivided, in_group, is_divider, refused, is_refused}
 use Rattle.viper_syntax.specs.Lexed.{IsLexed, IsProper, IsWellFormed}
 use Rattle.viper_syntax.proofs.LimitLaws.{refused_more}
-
 use Rattle.viper_syntax.proofs.CutLaws.{longest_some}
 use Rattle.viper_syntax.proofs.WordLaws.{no_word}
 

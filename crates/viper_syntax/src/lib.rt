@@ -10,8 +10,6 @@ mod pieces;
 mod signs;
 mod stmts;
 mod terms;
-#[cfg(test)]
-mod tests;
 mod tokens;
 mod words;
 

@@ -137,8 +137,5 @@ fn is_among(words: &[&[u8]], name: &[u8]) -> bool
 fn word_among(words: &[Word], name: &[u8]) -> Option<Word>
     ensures { result ≡ find (λ w. bytes_eq name.now (word_text w)) words.now }
 {
-    words
-        .iter()
-        .copied()
-        .find(|word| name == word_text(*word))
+    words.iter().copied().find(|word| name == word_text(*word))
 }
