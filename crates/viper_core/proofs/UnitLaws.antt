@@ -53,9 +53,9 @@ predicate_among (unit.Method n ∷ units) (suc i) k is = predicate_among units i
 
 body_first : (d : Predicate) (ds : List Predicate) → is_some d.body ≡ true → HasBodyAt (d ∷ ds) 0
 body_first d ds h = body_of d.body refl h where
-    body_of : (o : Option t.Assertion) → d.body ≡ o → is_some o ≡ true → HasBodyAt (d ∷ ds) 0
-    body_of None is h = absurd (cc)
-    body_of (Some a) is h = record { predicate = d; body = a; exists = refl; has_body = is }
+  body_of : (o : Option t.Assertion) → d.body ≡ o → is_some o ≡ true → HasBodyAt (d ∷ ds) 0
+  body_of None is h = absurd (cc)
+  body_of (Some a) is h = record { predicate = d; body = a; exists = refl; has_body = is }
 
 body_next : (d : Predicate) (ds : List Predicate) (k : ℕ) → HasBodyAt ds k → HasBodyAt (d ∷ ds) (suc k)
 body_next d ds k h = record { predicate = h.predicate; body = h.body; exists = h.exists; has_body = h.has_body }

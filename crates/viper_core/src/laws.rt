@@ -1,13 +1,20 @@
 //! Laws of the definitions, each as the contract of a function that does nothing.
 
-ghost use Rattle.std.specs.Prelude.{◌≡◌, ◌≤◌, ◌<◌, ◌⊎◌, ℕ, Some, Contains, IsTrue, slice_get};
+ghost use Rattle.std.specs.Prelude.{◌≡◌, ◌≤◌, ◌<◌, ◌⊎◌, ℕ, List, Some, All, Contains, IsTrue, slice_get};
+ghost use Rattle.vb_base.specs.declared.places.Pos.{Pos};
+ghost use Rattle.vb_value.specs.Bound.{Bound};
 ghost use Rattle.vb_value.specs.declared.values.Ty.{Ty};
+ghost use Rattle.vb_value.specs.declared.values.Ty.TheVariants as ty;
+ghost use Rattle.viper_core.specs.declared.programs.Unit.TheVariants as unit;
 ghost use Rattle.viper_core.specs.Expr as t;
-ghost use Rattle.viper_core.specs.Formed.{IsTypedProgram, predicate_context};
+ghost use Rattle.viper_core.specs.Formed.{IsTypedProgram, IsFormed, HasBodyAt, predicate_context, precondition_context, postcondition_context, method_frame, method_scope};
+ghost use Rattle.viper_core.specs.Literals.{IsProperExpr, IsProperAssertion, IsWithinExpr, IsWithinAssertion};
+ghost use Rattle.viper_core.specs.Part.{IsPartExpr, IsPartAssertion, IsPartStmt, ArePartStmts, OpensParts, FoldParts, IsWider, widened};
+ghost use Rattle.viper_core.specs.Plain.{AssertionOpensNothing, AssertionHasNoOld};
 ghost use Rattle.viper_core.specs.Program as p;
-ghost use Rattle.viper_core.specs.Scope.{Scope, some_assigns, stmts_scope};
-ghost use Rattle.viper_core.specs.Stmt.{Stmts};
-ghost use Rattle.viper_core.specs.Typing.{Context, Frame, HasType, IsAssertion, AreStmts};
+ghost use Rattle.viper_core.specs.Scope.{Scope, after_block, scope_after, some_assigns, stmts_scope};
+ghost use Rattle.viper_core.specs.Stmt as s;
+ghost use Rattle.viper_core.specs.Typing.{Site, Context, Frame, inside, HasType, IsAssertion, AreStmts};
 ghost use Rattle.viper_core.specs.Weight.{weight, told_weight, predicate_weight, method_weight};
 
 /// An expression has at most one type.
@@ -31,13 +38,81 @@ pub fn a_part_weighs_no_more()
 
 /// Variables are numbered upward, and what statements assign was visible before them or is declared by them.
 pub fn assigned_variables_are_visible_or_new()
-    ensures upward { (sc : Scope) (ss : Stmts) → sc.fresh ≤ (stmts_scope sc ss).fresh }
-    ensures assigned { (m : Frame) (sc : Scope) (ss : Stmts) (x : ℕ) → AreStmts m sc ss → IsTrue (some_assigns x ss)
+    ensures upward { (sc : Scope) (ss : s.Stmts) → sc.fresh ≤ (stmts_scope sc ss).fresh }
+    ensures assigned { (m : Frame) (sc : Scope) (ss : s.Stmts) (x : ℕ) → AreStmts m sc ss → IsTrue (some_assigns x ss)
         → Contains sc.visible x ⊎ (sc.fresh ≤ x) }
 {}
 
-/// The body of a predicate is an assertion over the predicate's parameters alone.
-pub fn a_predicate_body_sees_its_parameters()
-    ensures { (q : p.Program) (k : ℕ) (d : p.Predicate) (a : t.Assertion) → IsTypedProgram q
-        → slice_get q.predicates k ≡ Some d → d.body ≡ Some a → IsAssertion (predicate_context q d) a }
+/// What is typed is typed wherever at least as many variables are visible and as much may be said.
+pub fn more_may_be_visible()
+    ensures expr { (c : Context) (e : t.Expr) (u : Ty) (visible : List ℕ) (site : Site) → IsWider c visible site
+        → HasType c e u → HasType (widened c visible site) e u }
+    ensures assertion { (c : Context) (a : t.Assertion) (visible : List ℕ) (site : Site) → IsWider c visible site
+        → IsAssertion c a → IsAssertion (widened c visible site) a }
+{}
+
+/// The unit of a number is a method or a predicate with a body.
+pub fn a_unit_is_declared()
+    ensures method { (q : p.Program) (i : ℕ) (k : ℕ) → IsTypedProgram q → slice_get q.units i ≡ Some (unit.Method k)
+        → (m : p.Method) × (slice_get q.methods k ≡ Some m) }
+    ensures predicate { (q : p.Program) (i : ℕ) (k : ℕ) → IsTypedProgram q
+        → slice_get q.units i ≡ Some (unit.Predicate k) → HasBodyAt q.predicates k }
+{}
+
+/// The bodies of predicates have neither `unfolding` nor `old`, and preconditions have no `old`.
+pub fn bodies_are_plain()
+    ensures opens_nothing { (q : p.Program) (d : p.Predicate) (a : t.Assertion) → IsAssertion (predicate_context q d) a
+        → AssertionOpensNothing a }
+    ensures has_no_old { (q : p.Program) (d : p.Predicate) (a : t.Assertion) → IsAssertion (predicate_context q d) a
+        → AssertionHasNoOld a }
+    ensures precondition { (q : p.Program) (m : p.Method) (a : t.Assertion) → IsTypedProgram q
+        → IsAssertion (precondition_context q m) a → AssertionHasNoOld a }
+{}
+
+/// Literals of a typed program are within the bound, and its literal permissions in lowest terms.
+pub fn a_typed_literal_is_proper()
+    ensures expr { (b : Bound) (c : Context) (e : t.Expr) (u : Ty) → IsTypedProgram c.program → HasType c e u
+        → IsProperExpr b e }
+    ensures assertion { (b : Bound) (c : Context) (a : t.Assertion) → IsTypedProgram c.program → IsAssertion c a
+        → IsProperAssertion b a }
+    ensures expr_within { (c : Context) (e : t.Expr) (u : Ty) → IsTypedProgram c.program → HasType c e u
+        → IsWithinExpr e }
+    ensures assertion_within { (c : Context) (a : t.Assertion) → IsTypedProgram c.program → IsAssertion c a
+        → IsWithinAssertion a }
+{}
+
+/// The body of a predicate, the clauses of a method and the statements of its body are parts of their program. A body
+/// sees the parameters of its predicate alone.
+pub fn a_program_has_parts()
+    ensures body { (q : p.Program) (k : ℕ) (d : p.Predicate) (a : t.Assertion) → IsFormed q
+        → slice_get q.predicates k ≡ Some d → d.body ≡ Some a → IsPartAssertion (predicate_context q d) a }
+    ensures preconditions { (q : p.Program) (k : ℕ) (m : p.Method) → IsFormed q → slice_get q.methods k ≡ Some m
+        → All (IsPartAssertion (precondition_context q m)) m.preconditions }
+    ensures postconditions { (q : p.Program) (k : ℕ) (m : p.Method) → IsFormed q → slice_get q.methods k ≡ Some m
+        → All (IsPartAssertion (postcondition_context q m)) m.postconditions }
+    ensures stmts { (q : p.Program) (k : ℕ) (m : p.Method) (b : p.Body) → IsFormed q → slice_get q.methods k ≡ Some m
+        → m.body ≡ Some b → ArePartStmts (method_frame q m) (method_scope m) b.stmts }
+{}
+
+/// What a part opens is the body of its predicate, and a part of the program too.
+pub fn an_opened_body_is_a_part()
+    ensures unfolding { (c : Context) (k : ℕ) (es : t.Exprs) (m : t.Expr) (a : t.Assertion) (e : t.Expr) (at : Pos)
+        (u : Ty) → IsPartExpr c (t.Unfolding (t.opened k es m a e at)) u → OpensParts c k es m a e u }
+    ensures fold { (m : Frame) (sc : Scope) (f : s.FoldStmt) → IsPartStmt m sc (s.Fold f) → FoldParts (inside m sc) f }
+    ensures unfold { (m : Frame) (sc : Scope) (f : s.FoldStmt) → IsPartStmt m sc (s.Unfold f)
+        → FoldParts (inside m sc) f }
+{}
+
+/// The statements in a part are parts, each in the scope in which it begins.
+pub fn statements_have_parts()
+    ensures first { (m : Frame) (sc : Scope) (a : s.Stmt) (rest : s.Stmts) → ArePartStmts m sc (s.next a rest)
+        → IsPartStmt m sc a }
+    ensures rest { (m : Frame) (sc : Scope) (a : s.Stmt) (rest : s.Stmts) → ArePartStmts m sc (s.next a rest)
+        → ArePartStmts m (scope_after sc a) rest }
+    ensures branches { (m : Frame) (sc : Scope) (at : Pos) (e : t.Expr) (a : s.Stmts) (b : s.Stmts)
+        → IsPartStmt m sc (s.If at e a b) → IsPartExpr (inside m sc) e ty.Bool × ArePartStmts m sc a
+        × ArePartStmts m (after_block sc (stmts_scope sc a)) b }
+    ensures turns { (m : Frame) (sc : Scope) (at : Pos) (e : t.Expr) (is : List t.Assertion) (body : s.Stmts)
+        (turn : Pos) (targets : List ℕ) → IsPartStmt m sc (s.While (s.loop at e is body turn targets))
+        → IsPartExpr (inside m sc) e ty.Bool × All (IsPartAssertion (inside m sc)) is × ArePartStmts m sc body }
 {}
