@@ -1,1 +1,5 @@
 pub mod MapLaws
+pub mod Paired
+pub mod FitsLaws
+pub mod EachLaws
+pub mod FitsTestLaws

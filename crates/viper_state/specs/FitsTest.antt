@@ -2,7 +2,6 @@
 use Rattle.std.specs.Prelude.{ℕ, Bool, true, false, ◌&&◌, List, [], ◌∷◌}
 use Rattle.std.specs.List.{list_all}
 use Rattle.std.specs.Ordering.{nat_cmp}
-use Rattle.std.specs.declared.cmp.Ordering.{Ordering}
 use Rattle.sparse.specs.Map.{Map, keys, values, is_reduced}
 use Rattle.vb_value.specs.Content as content
 use Rattle.vb_value.specs.Content.{all_values, same_content}
