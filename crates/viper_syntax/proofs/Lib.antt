@@ -7,3 +7,4 @@ mod LongestLaws
 pub mod CutLaws
 pub mod LexLaws
 pub mod FormLaws
+pub mod AnswerLaws

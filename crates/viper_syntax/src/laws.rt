@@ -1,5 +1,5 @@
 // The laws of the cut, each as the contract of a function with an empty body.
-ghost use Rattle.std.specs.Prelude.{◌≡◌, ℕ, ◌≤◌, Bool, false, List, ◌++◌, [], length, slice_get, Some};
+ghost use Rattle.std.specs.Prelude.{◌≡◌, ◌⊎◌, ℕ, ◌≤◌, Bool, false, List, ◌++◌, [], length, slice_get, Some};
 ghost use Rattle.viper_syntax.specs.declared.tokens.LexFault.{LexFault};
 ghost use Rattle.viper_syntax.specs.declared.tokens.Token.{Token};
 ghost use Rattle.viper_syntax.specs.Cut.{IsCut, Meets};
@@ -21,4 +21,10 @@ pub fn one_answer()
 /// A row of tokens without a divider has at most 1,024 tokens, wherever it stands.
 pub fn short_groups()
     ensures { (front row back : List Token) → KeepsLimits (front ++ row ++ back) → IsUndivided row → length row ≤ 1024 }
+{}
+
+/// A text of at most 1,048,576 bytes is a list of tokens, or has a first fault.
+pub fn some_answer()
+    ensures { (bytes : List ℕ) → length bytes ≤ 1048576 →
+        ((ts : List Token) × IsLexed bytes ts) ⊎ ((fault : LexFault) × HasFault bytes fault) }
 {}

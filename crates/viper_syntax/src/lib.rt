@@ -15,7 +15,7 @@ mod words;
 
 pub use decls::{Decl, SClause, SMethod, SourceProgram};
 pub use faults::ParseFault;
-pub use laws::{one_answer, one_cut, short_groups};
+pub use laws::{one_answer, one_cut, short_groups, some_answer};
 pub use lexer::lex;
 pub use stmts::{Formal, Named, SArm, SBlock, SCall, SFold, SNew, SRhs, SStmt};
 pub use terms::Term;
