@@ -3,3 +3,4 @@ pub mod Paired
 pub mod FitsLaws
 pub mod EachLaws
 pub mod FitsTestLaws
+pub mod ProperLaws

@@ -4,6 +4,7 @@
 #![tactic(auto)]
 
 mod copies;
+pub mod laws;
 mod places;
 mod runs;
 mod states;
