@@ -9,7 +9,7 @@ use Rattle.viper_syntax.specs.declared.stmts.Formal.{Formal}
 use Rattle.viper_syntax.specs.Term as t
 use Rattle.viper_syntax.specs.Stmt as s
 use Rattle.viper_syntax.specs.Decl as d
-use Rattle.viper_syntax.specs.Good.{amount_terms, rhs_terms, with_fields, target_terms, option_terms, stmt_terms, block_terms, arm_terms, stmts_terms, arms_terms, clauses_terms, decl_terms, decls_terms, IsLiteral, HasLiterals, AmountHasLiterals, HaveLiterals, formal_names, stmt_names, block_names, arm_names, stmts_names, arms_names, body_names, decl_names, decls_names}
+use Rattle.viper_syntax.specs.Good.{amount_terms, rhs_terms, with_fields, target_terms, option_terms, stmt_terms, block_terms, arm_terms, stmts_terms, arms_terms, clauses_terms, decl_terms, decls_terms, IsLiteral, HasLiterals, AmountHasLiterals, HaveLiterals, formal_names, stmt_names, block_names, arm_names, stmts_names, arms_names, body_names, decl_names, decls_names, IsName, HasNames, AmountHasNames, HaveNames, names_of, rhs_uses, stmt_uses, block_uses, arm_uses, stmts_uses, arms_uses, body_uses, decl_uses, decls_uses}
 use Rattle.viper_parse.specs.declared.parts.Shape.{Shape}
 use Rattle.viper_parse.specs.declared.parts.Shape.TheVariants as shape
 use Rattle.viper_parse.specs.Tests as v
@@ -23,50 +23,72 @@ abbrev pub Each : {X : Type 0} → (X → Type 0) → List X → Type 0
 Each P [] = Unit {0}
 Each P (x ∷ xs) = P x × Each P xs
 
-each_append : {X : Type 0} (P : X → Type 0) (xs ys : List X) → Each P xs → Each P ys → Each P (xs ++ ys)
+pub each_append : {X : Type 0} (P : X → Type 0) (xs ys : List X) → Each P xs → Each P ys → Each P (xs ++ ys)
 each_append P [] ys h i = i
 each_append P (x ∷ xs) ys h i = (h.0, each_append P xs ys h.1 i)
 
-each_by : {X : Type 0} (P : X → Type 0) {xs ys : List X} → ys ≡ xs → Each P xs → Each P ys
+pub each_by : {X : Type 0} (P : X → Type 0) {xs ys : List X} → ys ≡ xs → Each P xs → Each P ys
 each_by P e h = subst (λ l. Each P l) (sym e) h
+
+front : {X : Type 0} (P : X → Type 0) (xs ys : List X) → Each P (xs ++ ys) → Each P xs
+front P [] ys h = tt
+front P (x ∷ xs) ys h = (h.0, front P xs ys h.1)
+
+back : {X : Type 0} (P : X → Type 0) (xs ys : List X) → Each P (xs ++ ys) → Each P ys
+back P [] ys h = h
+back P (x ∷ xs) ys h = back P xs ys h.1
+
+each_map : {X : Type 0} {P Q : X → Type 0} → ((x : X) → P x → Q x) → (xs : List X) → Each P xs → Each Q xs
+each_map f [] h = tt
+each_map f (x ∷ xs) h = (f x h.0, each_map f xs h.1)
 
 -- what lists hold after one more
 
-decls_terms_more : (ds : List d.Decl) (x : d.Decl) → decls_terms (ds ++ x ∷ []) ≡ decls_terms ds ++ decl_terms x
-decls_terms_more [] x = append-nil (decl_terms x)
-decls_terms_more (y ∷ ds) x = ap (λ l. decl_terms y ++ l) (decls_terms_more ds x) ∙ sym (append_assoc (decl_terms y) (decls_terms ds) (decl_terms x))
+more_of : {A X : Type 0} (f : List A → List X) (one : A → List X) → f [] ≡ [] → ((y : A) (ys : List A) → f (y ∷ ys) ≡ one y ++ f ys) →
+    (ys : List A) (x : A) → f (ys ++ x ∷ []) ≡ f ys ++ one x
+more_of f one none step [] x = step x [] ∙ ap (λ l. one x ++ l) none ∙ append-nil (one x) ∙ ap (λ l. l ++ one x) (sym none)
+more_of f one none step (y ∷ ys) x =
+    step y (ys ++ x ∷ []) ∙ ap (λ l. one y ++ l) (more_of f one none step ys x) ∙ sym (append_assoc (one y) (f ys) (one x)) ∙ ap (λ l. l ++ one x) (sym (step y ys))
+
+pub decls_terms_more : (ds : List d.Decl) (x : d.Decl) → decls_terms (ds ++ x ∷ []) ≡ decls_terms ds ++ decl_terms x
+decls_terms_more = more_of decls_terms decl_terms refl (λ y ys. refl)
 
 pub decls_names_more : (ds : List d.Decl) (x : d.Decl) → decls_names (ds ++ x ∷ []) ≡ decls_names ds ++ decl_names x
-decls_names_more [] x = append-nil (decl_names x)
-decls_names_more (y ∷ ds) x = ap (λ l. decl_names y ++ l) (decls_names_more ds x) ∙ sym (append_assoc (decl_names y) (decls_names ds) (decl_names x))
+decls_names_more = more_of decls_names decl_names refl (λ y ys. refl)
 
-stmts_terms_more : (ss : List s.SStmt) (a : s.SStmt) → stmts_terms (s.stmts (ss ++ a ∷ [])) ≡ stmts_terms (s.stmts ss) ++ stmt_terms a
-stmts_terms_more [] a = append-nil (stmt_terms a)
-stmts_terms_more (b ∷ ss) a = ap (λ l. stmt_terms b ++ l) (stmts_terms_more ss a) ∙ sym (append_assoc (stmt_terms b) (stmts_terms (s.stmts ss)) (stmt_terms a))
+decls_uses_more : (ds : List d.Decl) (x : d.Decl) → decls_uses (ds ++ x ∷ []) ≡ decls_uses ds ++ decl_uses x
+decls_uses_more = more_of decls_uses decl_uses refl (λ y ys. refl)
+
+pub stmts_terms_more : (ss : List s.SStmt) (a : s.SStmt) → stmts_terms (s.stmts (ss ++ a ∷ [])) ≡ stmts_terms (s.stmts ss) ++ stmt_terms a
+stmts_terms_more = more_of (λ ss. stmts_terms (s.stmts ss)) stmt_terms refl (λ b ss. refl)
 
 pub stmts_names_more : (ss : List s.SStmt) (a : s.SStmt) → stmts_names (s.stmts (ss ++ a ∷ [])) ≡ stmts_names (s.stmts ss) ++ stmt_names a
-stmts_names_more [] a = append-nil (stmt_names a)
-stmts_names_more (b ∷ ss) a = ap (λ l. stmt_names b ++ l) (stmts_names_more ss a) ∙ sym (append_assoc (stmt_names b) (stmts_names (s.stmts ss)) (stmt_names a))
+stmts_names_more = more_of (λ ss. stmts_names (s.stmts ss)) stmt_names refl (λ b ss. refl)
 
-arms_terms_more : (bs : List s.SArm) (a : s.SArm) → arms_terms (s.arms (bs ++ a ∷ [])) ≡ arms_terms (s.arms bs) ++ arm_terms a
-arms_terms_more [] a = append-nil (arm_terms a)
-arms_terms_more (b ∷ bs) a = ap (λ l. arm_terms b ++ l) (arms_terms_more bs a) ∙ sym (append_assoc (arm_terms b) (arms_terms (s.arms bs)) (arm_terms a))
+stmts_uses_more : (ss : List s.SStmt) (a : s.SStmt) → stmts_uses (s.stmts (ss ++ a ∷ [])) ≡ stmts_uses (s.stmts ss) ++ stmt_uses a
+stmts_uses_more = more_of (λ ss. stmts_uses (s.stmts ss)) stmt_uses refl (λ b ss. refl)
+
+pub arms_terms_more : (bs : List s.SArm) (a : s.SArm) → arms_terms (s.arms (bs ++ a ∷ [])) ≡ arms_terms (s.arms bs) ++ arm_terms a
+arms_terms_more = more_of (λ bs. arms_terms (s.arms bs)) arm_terms refl (λ b bs. refl)
 
 pub arms_names_more : (bs : List s.SArm) (a : s.SArm) → arms_names (s.arms (bs ++ a ∷ [])) ≡ arms_names (s.arms bs) ++ arm_names a
-arms_names_more [] a = append-nil (arm_names a)
-arms_names_more (b ∷ bs) a = ap (λ l. arm_names b ++ l) (arms_names_more bs a) ∙ sym (append_assoc (arm_names b) (arms_names (s.arms bs)) (arm_names a))
+arms_names_more = more_of (λ bs. arms_names (s.arms bs)) arm_names refl (λ b bs. refl)
 
-clauses_more : (cs : List d.SClause) (x : d.SClause) → clauses_terms (cs ++ x ∷ []) ≡ clauses_terms cs ++ x.term ∷ []
-clauses_more [] x = refl
-clauses_more (y ∷ cs) x = ap (λ l. y.term ∷ l) (clauses_more cs x)
+arms_uses_more : (bs : List s.SArm) (a : s.SArm) → arms_uses (s.arms (bs ++ a ∷ [])) ≡ arms_uses (s.arms bs) ++ arm_uses a
+arms_uses_more = more_of (λ bs. arms_uses (s.arms bs)) arm_uses refl (λ b bs. refl)
+
+pub clauses_more : (cs : List d.SClause) (x : d.SClause) → clauses_terms (cs ++ x ∷ []) ≡ clauses_terms cs ++ x.term ∷ []
+clauses_more = more_of clauses_terms (λ c. c.term ∷ []) refl (λ y ys. refl)
 
 pub formals_more : (xs : List Formal) (x : Formal) → formal_names (xs ++ x ∷ []) ≡ formal_names xs ++ x.name.name ∷ []
-formals_more [] x = refl
-formals_more (y ∷ xs) x = ap (λ l. y.name.name ∷ l) (formals_more xs x)
+formals_more = more_of formal_names (λ f. f.name.name ∷ []) refl (λ y ys. refl)
 
--- the terms and the declared names of what is built, and of what a symbol has so far
+names_more : (xs : List Named) (x : Named) → names_of (xs ++ x ∷ []) ≡ names_of xs ++ x.name ∷ []
+names_more = more_of names_of (λ x. x.name ∷ []) refl (λ y ys. refl)
 
-abbrev terms_in : (s : Kind) → Value s → List t.Term
+-- the terms, the declared names and the names used elsewhere, of what is built and of what a symbol has so far
+
+abbrev pub terms_in : (s : Kind) → Value s → List t.Term
 terms_in v.number n = t.Number n.0 n.1 ∷ []
 terms_in v.part p = p.tree ∷ []
 terms_in v.arguments es = es
@@ -84,7 +106,7 @@ terms_in v.decl x = decl_terms x
 terms_in v.decls ds = decls_terms ds
 terms_in _ x = []
 
-abbrev held_terms : {s : Kind} → Symbol s → List t.Term
+abbrev pub held_terms : {s : Kind} → Symbol s → List t.Term
 held_terms (g.Program ds) = decls_terms ds
 held_terms (g.Clauses cs) = clauses_terms cs
 held_terms (g.Stmts ss) = stmts_terms (s.stmts ss)
@@ -115,182 +137,288 @@ held_names (g.Arms bs) = arms_names (s.arms bs)
 held_names (g.MoreFormals xs) = formal_names xs
 held_names _ = []
 
+abbrev uses_in : (s : Kind) → Value s → List (List ℕ)
+uses_in v.call c = c.name.name ∷ []
+uses_in v.instance i = i.call.name.name ∷ []
+uses_in v.names xs = names_of xs
+uses_in v.rhs r = rhs_uses r
+uses_in v.stmt a = stmt_uses a
+uses_in v.stmts ss = stmts_uses (s.stmts ss)
+uses_in v.block b = block_uses b
+uses_in v.arm b = arm_uses b
+uses_in v.body b = body_uses b
+uses_in v.decl x = decl_uses x
+uses_in v.decls ds = decls_uses ds
+uses_in _ x = []
+
+abbrev held_uses : {s : Kind} → Symbol s → List (List ℕ)
+held_uses (g.Program ds) = decls_uses ds
+held_uses (g.Stmts ss) = stmts_uses (s.stmts ss)
+held_uses (g.Arms bs) = arms_uses (s.arms bs)
+held_uses (g.Separated o xs) = names_of xs
+held_uses (g.AfterName x) = x.name ∷ []
+held_uses _ = []
+
+-- every name of a term is one, and every literal
+
+abbrev mutual
+  HasLeaves : t.Term → Type 0
+  HasLeaves (t.Name x at) = IsName x
+  HasLeaves (t.Number n at) = IsLiteral n
+  HasLeaves (t.Constant w at) = Unit {0}
+  HasLeaves (t.Unary o a at) = HasLeaves a
+  HasLeaves (t.Binary o a b at) = HasLeaves a × HasLeaves b
+  HasLeaves (t.Choose a b c at) = HasLeaves a × HasLeaves b × HasLeaves c
+  HasLeaves (t.Field a f at) = HasLeaves a × IsName f
+  HasLeaves (t.Old a at) = HasLeaves a
+  HasLeaves (t.Acc a m at) = HasLeaves a × AmountHasLeaves m
+  HasLeaves (t.Inst x es at) = IsName x × HaveLeaves es
+  HasLeaves (t.Unfolding x es m a at name_at) = IsName x × HaveLeaves es × AmountHasLeaves m × HasLeaves a
+
+  AmountHasLeaves : t.Amount → Type 0
+  AmountHasLeaves t.omitted = Unit {0}
+  AmountHasLeaves (t.given a) = HasLeaves a
+
+  HaveLeaves : t.Terms → Type 0
+  HaveLeaves t.none = Unit {0}
+  HaveLeaves (t.more a rest) = HasLeaves a × HaveLeaves rest
+
+mutual
+  term_literals : (a : t.Term) → HasLeaves a → HasLiterals a
+  term_literals (t.Name x at) h = tt
+  term_literals (t.Number n at) h = h
+  term_literals (t.Constant w at) h = tt
+  term_literals (t.Unary o a at) h = term_literals a h
+  term_literals (t.Binary o a b at) h = (term_literals a h.0, term_literals b h.1)
+  term_literals (t.Choose a b c at) h = (term_literals a h.0, term_literals b h.1, term_literals c h.2)
+  term_literals (t.Field a f at) h = term_literals a h.0
+  term_literals (t.Old a at) h = term_literals a h
+  term_literals (t.Acc a m at) h = (term_literals a h.0, amount_literals m h.1)
+  term_literals (t.Inst x es at) h = all_literals es h.1
+  term_literals (t.Unfolding x es m a at name_at) h = (all_literals es h.1, amount_literals m h.2, term_literals a h.3)
+
+  amount_literals : (m : t.Amount) → AmountHasLeaves m → AmountHasLiterals m
+  amount_literals t.omitted h = tt
+  amount_literals (t.given a) h = term_literals a h
+
+  all_literals : (es : t.Terms) → HaveLeaves es → HaveLiterals es
+  all_literals t.none h = tt
+  all_literals (t.more a rest) h = (term_literals a h.0, all_literals rest h.1)
+
+mutual
+  term_names : (a : t.Term) → HasLeaves a → HasNames a
+  term_names (t.Name x at) h = h
+  term_names (t.Number n at) h = tt
+  term_names (t.Constant w at) h = tt
+  term_names (t.Unary o a at) h = term_names a h
+  term_names (t.Binary o a b at) h = (term_names a h.0, term_names b h.1)
+  term_names (t.Choose a b c at) h = (term_names a h.0, term_names b h.1, term_names c h.2)
+  term_names (t.Field a f at) h = (term_names a h.0, h.1)
+  term_names (t.Old a at) h = term_names a h
+  term_names (t.Acc a m at) h = (term_names a h.0, amount_names m h.1)
+  term_names (t.Inst x es at) h = (h.0, all_names es h.1)
+  term_names (t.Unfolding x es m a at name_at) h = (h.0, all_names es h.1, amount_names m h.2, term_names a h.3)
+
+  amount_names : (m : t.Amount) → AmountHasLeaves m → AmountHasNames m
+  amount_names t.omitted h = tt
+  amount_names (t.given a) h = term_names a h
+
+  all_names : (es : t.Terms) → HaveLeaves es → HaveNames es
+  all_names t.none h = tt
+  all_names (t.more a rest) h = (term_names a h.0, all_names rest h.1)
+
 -- arguments as a list
 
-each_terms : (es : List t.Term) → Each HasLiterals es → HaveLiterals (t.terms es)
+each_terms : (es : List t.Term) → Each HasLeaves es → HaveLeaves (t.terms es)
 each_terms [] h = tt
 each_terms (a ∷ rest) h = (h.0, each_terms rest h.1)
 
-listed_each : (es : t.Terms) → HaveLiterals es → Each HasLiterals (g.listed es)
+listed_each : (es : t.Terms) → HaveLeaves es → Each HasLeaves (g.listed es)
 listed_each t.none h = tt
 listed_each (t.more a rest) h = (h.0, listed_each rest h.1)
 
-amount_is : (m : t.Amount) → Each HasLiterals (amount_terms m) → AmountHasLiterals m
+amount_is : (m : t.Amount) → Each HasLeaves (amount_terms m) → AmountHasLeaves m
 amount_is t.omitted h = tt
 amount_is (t.given a) h = h.0
 
-front : {X : Type 0} (P : X → Type 0) (xs ys : List X) → Each P (xs ++ ys) → Each P xs
-front P [] ys h = tt
-front P (x ∷ xs) ys h = (h.0, front P xs ys h.1)
+rhs_each : (h : Shape) (a : t.Term) → HasLeaves a → Each HasLeaves (rhs_terms (g.rhs_from h a))
+rhs_each shape.Call (t.Inst x es at) i = listed_each es i.1
+rhs_each _ _ i = (i, tt)
 
-back : {X : Type 0} (P : X → Type 0) (xs ys : List X) → Each P (xs ++ ys) → Each P ys
-back P [] ys h = h
-back P (x ∷ xs) ys h = back P xs ys h.1
+rhs_used : (h : Shape) (a : t.Term) → HasLeaves a → Each IsName (rhs_uses (g.rhs_from h a))
+rhs_used shape.Call (t.Inst x es at) i = (i.0, tt)
+rhs_used _ _ i = tt
 
-rhs_each : (h : Shape) (a : t.Term) → HasLiterals a → Each HasLiterals (rhs_terms (g.rhs_from h a))
-rhs_each shape.Call (t.Inst x es at) i = listed_each es i
-rhs_each shape.Call (t.Name x at) i = (i, tt)
-rhs_each shape.Call (t.Number z at) i = (i, tt)
-rhs_each shape.Call (t.Constant w at) i = (i, tt)
-rhs_each shape.Call (t.Unary o a at) i = (i, tt)
-rhs_each shape.Call (t.Binary o a b at) i = (i, tt)
-rhs_each shape.Call (t.Choose a b e at) i = (i, tt)
-rhs_each shape.Call (t.Field a f at) i = (i, tt)
-rhs_each shape.Call (t.Old a at) i = (i, tt)
-rhs_each shape.Call (t.Acc a m at) i = (i, tt)
-rhs_each shape.Call (t.Unfolding x es m a at name_at) i = (i, tt)
-rhs_each shape.Open a i = (i, tt)
-rhs_each shape.Plain a i = (i, tt)
+with_fields_leaves : (a : t.Term) (fs : List Named) → HasLeaves a → Each IsName (names_of fs) → HasLeaves (with_fields a fs)
+with_fields_leaves a [] h i = h
+with_fields_leaves a (f ∷ fs) h i = with_fields_leaves (t.Field a f.name f.pos) fs (h, i.0) i.1
 
-with_fields_literals : (a : t.Term) (fs : List Named) → HasLiterals a → HasLiterals (with_fields a fs)
-with_fields_literals a [] h = h
-with_fields_literals a (f ∷ fs) h = with_fields_literals (t.Field a f.name f.pos) fs h
+target_each : (xs : List Named) → Each IsName (names_of xs) → Each HasLeaves (target_terms xs)
+target_each [] h = tt
+target_each (x ∷ fs) h = (with_fields_leaves (t.Name x.name x.pos) fs h.0 h.1, tt)
 
-target_each : (xs : List Named) → Each HasLiterals (target_terms xs)
-target_each [] = tt
-target_each (x ∷ fs) = (with_fields_literals (t.Name x.name x.pos) fs tt, tt)
+-- a token whose name or number is right
+abbrev pub IsRight : Tok → Type 0
+IsRight (k.Name x) = IsName x
+IsRight (k.Number n) = IsLiteral n
+IsRight (k.Word w) = Unit {0}
+IsRight (k.Sign o) = Unit {0}
 
-module _ (P : List ℕ → Type 0) where
-  -- a token whose name or number is right
-  abbrev pub IsRight : Tok → Type 0
-  IsRight (k.Name x) = P x
-  IsRight (k.Number n) = IsLiteral n
-  IsRight (k.Word w) = Unit {0}
-  IsRight (k.Sign o) = Unit {0}
+record Holds (s : Kind) (x : Value s) : Type 0 where
+  terms : Each HasLeaves (terms_in s x)
+  names : Each IsName (names_in s x)
+  uses : Each IsName (uses_in s x)
 
-  record Holds (s : Kind) (x : Value s) : Type 0 where
-    terms : Each HasLiterals (terms_in s x)
-    names : Each P (names_in s x)
+record Held {s : Kind} (a : Symbol s) : Type 0 where
+  terms : Each HasLeaves (held_terms a)
+  names : Each IsName (held_names a)
+  uses : Each IsName (held_uses a)
 
-  record Held {s : Kind} (a : Symbol s) : Type 0 where
-    terms : Each HasLiterals (held_terms a)
-    names : Each P (held_names a)
+holding : {s : Kind} {x : Value s} → Each HasLeaves (terms_in s x) → Each IsName (names_in s x) → Each IsName (uses_in s x) → Holds s x
+holding h i j = record { terms = h; names = i; uses = j }
 
-  nothing : {s : Kind} {x : Value s} → Each HasLiterals (terms_in s x) → Each P (names_in s x) → Holds s x
-  nothing h i = record { terms = h; names = i }
+having : {s : Kind} {a : Symbol s} → Each HasLeaves (held_terms a) → Each IsName (held_names a) → Each IsName (held_uses a) → Held a
+having h i j = record { terms = h; names = i; uses = j }
 
-  data Makes (s : Kind) : Rule s → Type 0 where
-    mg : {x : Value s} → Holds s x → Makes s (give x)
-    mn : {r : Kind} {c : Test true r} {go : Value r → Rule s} → ((x : Value r) → Holds r x → Makes s (go x)) → Makes s (need c go)
-    mw : {b : Bool} {r : Kind} {c : Test b r} {go : Value r → Rule s} {other : Rule s} → ((x : Value r) → Holds r x → Makes s (go x)) → Makes s other → Makes s (when c go other)
-    mr : {r : Kind} {a : Symbol r} {go : Value r → Rule s} → Held a → ((y : Value r) → Holds r y → Makes s (go y)) → Makes s (read a go)
+data Makes (s : Kind) : Rule s → Type 0 where
+  mg : {x : Value s} → Holds s x → Makes s (give x)
+  mn : {r : Kind} {c : Test true r} {go : Value r → Rule s} → ((x : Value r) → Holds r x → Makes s (go x)) → Makes s (need c go)
+  mw : {b : Bool} {r : Kind} {c : Test b r} {go : Value r → Rule s} {other : Rule s} → ((x : Value r) → Holds r x → Makes s (go x)) → Makes s other → Makes s (when c go other)
+  mr : {r : Kind} {a : Symbol r} {go : Value r → Rule s} → Held a → ((y : Value r) → Holds r y → Makes s (go y)) → Makes s (read a go)
 
-  makes_cond : {s : Kind} (b : Bool) {x y : Rule s} → Makes s x → Makes s y → Makes s (cond b x y)
-  makes_cond true h i = h
-  makes_cond false h i = i
+makes_cond : {s : Kind} (b : Bool) {x y : Rule s} → Makes s x → Makes s y → Makes s (cond b x y)
+makes_cond true h i = h
+makes_cond false h i = i
 
-  makes_if : {s : Kind} (b : Bool) {x y : Rule s} → Makes s x → Makes s y → Makes s (if b then x else y)
-  makes_if true h i = h
-  makes_if false h i = i
+makes_if : {s : Kind} (b : Bool) {x y : Rule s} → Makes s x → Makes s y → Makes s (if b then x else y)
+makes_if true h i = h
+makes_if false h i = i
 
-  none : {s : Kind} {a : Symbol s} → Each HasLiterals (held_terms a) → Each P (held_names a) → Held a
-  none h i = record { terms = h; names = i }
+-- lists with one more
 
-  -- what is built as a part, and hands on what it has
-  same : {s : Kind} {x : Value s} → Holds s x → Makes s (give x)
-  same h = mg h
+more_decls : (ds : List d.Decl) (x : d.Decl) → Held (g.Program ds) → Holds v.decl x → Held (g.Program (ds ++ x ∷ []))
+more_decls ds x h i = having
+    (each_by HasLeaves (decls_terms_more ds x) (each_append HasLeaves _ _ h.terms i.terms))
+    (each_by IsName (decls_names_more ds x) (each_append IsName _ _ h.names i.names))
+    (each_by IsName (decls_uses_more ds x) (each_append IsName _ _ h.uses i.uses))
 
-  makes : {s : Kind} (a : Symbol s) → Held a → Makes s (rule a)
-  makes (g.Program ds) h =
-      mw (λ at _. mr (none tt tt) (λ x i. mr (none tt tt) (λ _ j. mr (none (each_by HasLiterals (decls_terms_more ds (d.Field x)) (each_append HasLiterals _ _ h.terms tt)) (each_by P (decls_names_more ds (d.Field x)) (each_append P _ _ h.names (i.names)))) (λ z l. mg l))))
-      (mw (λ at _. mr (none tt tt) (λ x i. mr (none (each_by HasLiterals (decls_terms_more ds x) (each_append HasLiterals _ _ h.terms i.terms)) (each_by P (decls_names_more ds x) (each_append P _ _ h.names i.names))) (λ z l. mg l)))
-      (mw (λ at _. mr (none tt tt) (λ x i. mr (none (each_by HasLiterals (decls_terms_more ds x) (each_append HasLiterals _ _ h.terms i.terms)) (each_by P (decls_names_more ds x) (each_append P _ _ h.names i.names))) (λ z l. mg l)))
-      (mg (nothing h.terms h.names))))
-  makes (g.Predicate at) h =
-      mn (λ x n. mn (λ _ _. mr (none tt tt) (λ xs i. mw (λ _ _. mr (none tt tt) (λ p j. mn (λ _ _. mg (nothing j.terms (n.names.0, i.names))))) (mg (nothing tt (n.names.0, i.names))))))
-  makes (g.Method at) h =
-      mn (λ x n. mn (λ _ _. mr (none tt tt) (λ xs i. mr (none tt tt) (λ ys j. mr (none tt tt) (λ cs l. mr (none tt tt) (λ b m.
-      mg (nothing (each_append HasLiterals (clauses_terms cs) (option_terms block_terms b) l.terms m.terms)
-      (n.names.0, each_append P (formal_names xs) _ i.names (each_append P (formal_names ys) _ j.names m.names)))))))))
-  makes g.Returns h = mw (λ _ _. mn (λ _ _. mr (none tt tt) (λ z i. mg i))) (mg (nothing tt tt))
-  makes (g.Clauses cs) h =
-      mw (λ w _. mr (none tt tt) (λ p i. mr (none tt tt) (λ _ _. mr (none (each_by HasLiterals (clauses_more cs (record { word = w.0; term = p.tree })) (each_append HasLiterals _ _ h.terms i.terms)) tt) (λ z l. mg l)))) (mg (nothing h.terms tt))
-  makes g.Body h = mw (λ at _. mr (none tt tt) (λ ss i. mg (nothing i.terms i.names))) (mg (nothing tt tt))
-  makes g.Formals h = mw (λ _ _. mg (nothing tt tt)) (mr (none tt tt) (λ x i. mr (none tt i.names) (λ z j. mg j)))
-  makes (g.MoreFormals xs) h =
-      mw (λ _ _. mr (none tt tt) (λ x i. mr (none tt (each_by P (formals_more xs x) (each_append P _ _ h.names i.names))) (λ z j. mg j))) (mn (λ _ _. mg (nothing tt h.names)))
-  makes g.FormalOf h = mn (λ x n. mn (λ _ _. mn (λ w _. mg (nothing tt n.names))))
-  makes g.Block h = mn (λ at _. mr (none tt tt) (λ ss i. mg (nothing i.terms i.names)))
-  makes (g.Stmts ss) h =
-      mw (λ _ _. mg (nothing h.terms h.names))
-      (mr (none tt tt) (λ a i. mr (none tt tt) (λ _ _. mr (none (each_by HasLiterals (stmts_terms_more ss a) (each_append HasLiterals _ _ h.terms i.terms)) (each_by P (stmts_names_more ss a) (each_append P _ _ h.names i.names))) (λ z l. mg l))))
-  makes g.Stmt h =
-      mw (λ at _. mr (none tt tt) (λ z i. mg i)) (mw (λ w _. mr (none tt tt) (λ p i. mg (nothing i.terms tt))) (mw (λ at _. mr (none tt tt) (λ x i. mg (nothing i.terms tt))) (mw (λ at _. mr (none tt tt) (λ x i. mg (nothing i.terms tt)))
-      (mw (λ at _. mr (none tt tt) (λ a i. mr (none (each_append HasLiterals (arm_terms a) [] i.terms tt) (each_append P (arm_names a) [] i.names tt)) (λ z j. mg j))) (mw (λ at _. mr (none tt tt) (λ z i. mg i)) (mn (λ x n. mr (none tt tt) (λ z i. mg i))))))))
-  makes (g.Variable at) h = mr (none tt tt) (λ x i. mw (λ _ _. mr (none tt tt) (λ r j. mg (nothing j.terms i.names))) (mg (nothing tt i.names)))
-  makes (g.AfterName x) h =
-      mw (λ _ _. mr (none tt tt) (λ es i. mg (nothing i.terms tt)))
-      (mw (λ _ _. mn (λ y n. mr (none tt tt) (λ xs i. mn (λ _ _. mr (none tt tt) (λ z j. mg (nothing j.terms tt)))))) (mr (none tt tt) (λ xs i. mn (λ _ _. mr (none tt tt) (λ r j. mg (nothing (each_append HasLiterals (target_terms xs) (rhs_terms r) (target_each xs) j.terms) tt))))))
-  makes (g.Arm at) h = mr (none tt tt) (λ p i. mr (none tt tt) (λ b j. mg (nothing (i.terms.0, j.terms) j.names)))
-  makes (g.Arms bs) h =
-      mw (λ at _. mr (none tt tt) (λ a i. mr (none (each_by HasLiterals (arms_terms_more bs a) (each_append HasLiterals _ _ h.terms i.terms)) (each_by P (arms_names_more bs a) (each_append P _ _ h.names i.names))) (λ z j. mg j)))
-      (mw (λ _ _. mr (none tt tt) (λ b i. mg (nothing (each_append HasLiterals _ _ h.terms i.terms) (each_append P _ _ h.names i.names)))) (mg (nothing (each_append HasLiterals _ [] h.terms tt) (each_append P _ [] h.names tt))))
-  makes (g.While at) h = mr (none tt tt) (λ p i. mr (none tt tt) (λ is j. mr (none tt tt) (λ b l. mg (nothing (each_append HasLiterals (p.tree ∷ is) (block_terms b) (i.terms.0, j.terms) l.terms) l.names))))
-  makes (g.Invariants is) h = mw (λ _ _. mr (none tt tt) (λ p i. mr (none tt tt) (λ _ _. mr (none (each_append HasLiterals is (p.tree ∷ []) h.terms i.terms) tt) (λ z l. mg l)))) (mg (nothing h.terms tt))
-  makes g.Rhs h = mw (λ at _. mr (none tt tt) (λ z i. mg i)) (mr (none tt tt) (λ p i. mg (nothing (rhs_each p.shape p.tree i.terms.0) tt)))
-  makes (g.New at) h =
-      mn (λ _ _. mw (λ _ _. mg (nothing tt tt)) (mw (λ _ _. mn (λ _ _. mg (nothing tt tt))) (mn (λ x n. mr (none tt tt) (λ xs i. mn (λ _ _. mg (nothing tt tt)))))))
-  makes (g.Separated o xs) h = mw (λ _ _. mn (λ x n. mr (none tt tt) (λ z i. mg i))) (mg (nothing tt tt))
-  makes g.Semicolons h = mw (λ _ _. mr (none tt tt) (λ z i. mg i)) (mg (nothing tt tt))
-  makes g.InstanceOf h =
-      mw (λ _ _. mn (λ _ _. mr (none tt tt) (λ c i. mr (none tt tt) (λ m j. mg (nothing (each_append HasLiterals c.args (amount_terms m) i.terms j.terms) tt)))))
-      (mr (none tt tt) (λ c i. mg (nothing (each_append HasLiterals c.args [] i.terms tt) tt)))
-  makes g.CallOf h = mn (λ x n. mn (λ _ _. mr (none tt tt) (λ es i. mg (nothing i.terms tt))))
-  makes g.Arguments h = mw (λ _ _. mg (nothing tt tt)) (mr (none tt tt) (λ p i. mr (none i.terms tt) (λ es j. mg j)))
-  makes (g.MoreArguments es) h = mw (λ _ _. mr (none tt tt) (λ p i. mr (none (each_append HasLiterals es (p.tree ∷ []) h.terms i.terms) tt) (λ all j. mg j))) (mn (λ _ _. mg (nothing h.terms tt)))
-  makes g.Group h = mn (λ _ _. mr (none tt tt) (λ p i. mn (λ _ _. mg i)))
-  makes g.Amount h = mw (λ _ _. mr (none tt tt) (λ p i. mn (λ _ _. mg (nothing i.terms tt)))) (mn (λ _ _. mg (nothing tt tt)))
-  makes g.Term h =
-      mr (none tt tt) (λ p i. makes_cond (g.is_open p.shape) (mg i)
-      (mw (λ at _. mr (none tt tt) (λ q j. mn (λ _ _. mr (none tt tt) (λ r l. mg (nothing ((i.terms.0, j.terms.0, l.terms.0), tt) tt))))) (mg i)))
-  makes (g.Level zero) h = mr (none tt tt) (λ p i. mg i)
-  makes (g.Level (suc n)) h = mr (none tt tt) (λ p i. mr (none i.terms tt) (λ q j. mg j))
-  makes (g.Chain n p) h =
-      makes_cond (g.is_open p.shape) (mg (nothing h.terms tt))
-      (mw (λ o _. mr (none tt tt) (λ q i. makes_if (g.repeats n) (mr (none ((h.terms.0, i.terms.0), tt) tt) (λ r j. mg j)) (mg (nothing ((h.terms.0, i.terms.0), tt) tt)))) (mg (nothing h.terms tt)))
-  makes g.Unary h =
-      mw (λ o _. mr (none tt tt) (λ p i. mg (nothing i.terms tt)))
-      (mw (λ at _. mr (none tt tt) (λ i j. mn (λ _ _. mr (none tt tt) (λ p l.
-      mg (nothing ((each_terms i.call.args (front HasLiterals i.call.args (amount_terms i.amount) j.terms), amount_is i.amount (back HasLiterals i.call.args (amount_terms i.amount) j.terms), l.terms.0), tt) tt)))))
-      (mr (none tt tt) (λ p i. mr (none i.terms tt) (λ q j. mg j))))
-  makes (g.Fields p) h = mw (λ _ _. mn (λ f n. mr (none h.terms tt) (λ q i. mg i))) (mg (nothing h.terms tt))
-  makes g.First h =
-      mw (λ x n. mw (λ _ _. mr (none tt tt) (λ es i. mg (nothing (each_terms es i.terms, tt) tt))) (mg (nothing (tt, tt) tt)))
-      (mw (λ n i. mg (nothing i.terms tt))
-      (mw (λ w _. mg (nothing (tt, tt) tt))
-      (mw (λ at _. mr (none tt tt) (λ p i. mg (nothing i.terms tt)))
-      (mw (λ at _. mn (λ _ _. mr (none tt tt) (λ p i. mr (none tt tt) (λ m j. mg (nothing ((i.terms.0, amount_is m j.terms), tt) tt)))))
-      (mr (none tt tt) (λ p i. mg (nothing i.terms tt)))))))
+more_stmts : (ss : List s.SStmt) (a : s.SStmt) → Held (g.Stmts ss) → Holds v.stmt a → Held (g.Stmts (ss ++ a ∷ []))
+more_stmts ss a h i = having
+    (each_by HasLeaves (stmts_terms_more ss a) (each_append HasLeaves _ _ h.terms i.terms))
+    (each_by IsName (stmts_names_more ss a) (each_append IsName _ _ h.names i.names))
+    (each_by IsName (stmts_uses_more ss a) (each_append IsName _ _ h.uses i.uses))
 
-  -- what is taken from a token
-  token_holds : {b : Bool} {r : Kind} (c : Test b r) (token : Token) (x : Value r) → Passes c token x → IsRight token.tok → Holds r x
-  token_holds (this y) token x q h = nothing tt tt
-  token_holds a_name token x q h = nothing tt (subst IsRight q.0 h, tt)
-  token_holds a_number token x q h = nothing (subst IsRight q.0 h, tt) tt
-  token_holds (one_of y) token x q h = nothing tt tt
-  token_holds a_negation token x q h = nothing tt tt
-  token_holds (an_operator n) token x q h = nothing tt tt
+more_arms : (bs : List s.SArm) (a : s.SArm) → Held (g.Arms bs) → Holds v.arm a → Held (g.Arms (bs ++ a ∷ []))
+more_arms bs a h i = having
+    (each_by HasLeaves (arms_terms_more bs a) (each_append HasLeaves _ _ h.terms i.terms))
+    (each_by IsName (arms_names_more bs a) (each_append IsName _ _ h.names i.names))
+    (each_by IsName (arms_uses_more bs a) (each_append IsName _ _ h.uses i.uses))
 
-  abbrev pub rights : List Token → Type 0
-  rights ts = Each (λ (token : Token). IsRight token.tok) ts
+makes : {s : Kind} (a : Symbol s) → Held a → Makes s (rule a)
+makes (g.Program ds) h =
+    mw (λ at _. mr (having tt tt tt) (λ x i. mr (having tt tt tt) (λ _ _. mr (more_decls ds (d.Field x) h (holding tt i.names tt)) (λ z l. mg l))))
+    (mw (λ at _. mr (having tt tt tt) (λ x i. mr (more_decls ds x h i) (λ z l. mg l)))
+    (mw (λ at _. mr (having tt tt tt) (λ x i. mr (more_decls ds x h i) (λ z l. mg l)))
+    (mg (holding h.terms h.names h.uses))))
+makes (g.Predicate at) h =
+    mn (λ x n. mn (λ _ _. mr (having tt tt tt) (λ xs i. mw (λ _ _. mr (having tt tt tt) (λ p j. mn (λ _ _. mg (holding j.terms (n.names.0, i.names) tt)))) (mg (holding tt (n.names.0, i.names) tt)))))
+makes (g.Method at) h =
+    mn (λ x n. mn (λ _ _. mr (having tt tt tt) (λ xs i. mr (having tt tt tt) (λ ys j. mr (having tt tt tt) (λ cs l. mr (having tt tt tt) (λ b m.
+    mg (holding (each_append HasLeaves (clauses_terms cs) (option_terms block_terms b) l.terms m.terms)
+    (n.names.0, each_append IsName (formal_names xs) _ i.names (each_append IsName (formal_names ys) _ j.names m.names)) m.uses)))))))
+makes g.Returns h = mw (λ _ _. mn (λ _ _. mr (having tt tt tt) (λ z i. mg i))) (mg (holding tt tt tt))
+makes (g.Clauses cs) h =
+    mw (λ w _. mr (having tt tt tt) (λ p i. mr (having tt tt tt) (λ _ _. mr (having (each_by HasLeaves (clauses_more cs (record { word = w.0; term = p.tree })) (each_append HasLeaves _ _ h.terms i.terms)) tt tt) (λ z l. mg l))))
+    (mg (holding h.terms tt tt))
+makes g.Body h = mw (λ at _. mr (having tt tt tt) (λ ss i. mg (holding i.terms i.names i.uses))) (mg (holding tt tt tt))
+makes g.Formals h = mw (λ _ _. mg (holding tt tt tt)) (mr (having tt tt tt) (λ x i. mr (having tt i.names tt) (λ z j. mg j)))
+makes (g.MoreFormals xs) h =
+    mw (λ _ _. mr (having tt tt tt) (λ x i. mr (having tt (each_by IsName (formals_more xs x) (each_append IsName _ _ h.names i.names)) tt) (λ z j. mg j))) (mn (λ _ _. mg (holding tt h.names tt)))
+makes g.FormalOf h = mn (λ x n. mn (λ _ _. mn (λ w _. mg (holding tt n.names tt))))
+makes g.Block h = mn (λ at _. mr (having tt tt tt) (λ ss i. mg (holding i.terms i.names i.uses)))
+makes (g.Stmts ss) h = mw (λ _ _. mg (holding h.terms h.names h.uses)) (mr (having tt tt tt) (λ a i. mr (having tt tt tt) (λ _ _. mr (more_stmts ss a h i) (λ z l. mg l))))
+makes g.Stmt h =
+    mw (λ at _. mr (having tt tt tt) (λ z i. mg i)) (mw (λ w _. mr (having tt tt tt) (λ p i. mg (holding i.terms tt tt)))
+    (mw (λ at _. mr (having tt tt tt) (λ x i. mg (holding i.terms tt i.uses))) (mw (λ at _. mr (having tt tt tt) (λ x i. mg (holding i.terms tt i.uses)))
+    (mw (λ at _. mr (having tt tt tt) (λ a i. mr (more_arms [] a (having tt tt tt) i) (λ z j. mg j))) (mw (λ at _. mr (having tt tt tt) (λ z i. mg i)) (mn (λ x n. mr (having tt tt n.names) (λ z i. mg i))))))))
+makes (g.Variable at) h = mr (having tt tt tt) (λ x i. mw (λ _ _. mr (having tt tt tt) (λ r j. mg (holding j.terms i.names j.uses))) (mg (holding tt i.names tt)))
+makes (g.AfterName x) h =
+    mw (λ _ _. mr (having tt tt tt) (λ es i. mg (holding i.terms tt h.uses)))
+    (mw (λ _ _. mn (λ y n. mr (having tt tt (h.uses.0, n.names)) (λ xs i. mn (λ _ _. mr (having tt tt tt) (λ z j. mg (holding j.terms tt (each_append IsName (names_of xs) _ i.uses j.uses)))))))
+    (mr (having tt tt h.uses) (λ xs i. mn (λ _ _. mr (having tt tt tt) (λ r j. mg (holding (each_append HasLeaves (target_terms xs) (rhs_terms r) (target_each xs i.uses) j.terms) tt j.uses))))))
+makes (g.Arm at) h = mr (having tt tt tt) (λ p i. mr (having tt tt tt) (λ b j. mg (holding (i.terms.0, j.terms) j.names j.uses)))
+makes (g.Arms bs) h =
+    mw (λ at _. mr (having tt tt tt) (λ a i. mr (more_arms bs a h i) (λ z j. mg j)))
+    (mw (λ _ _. mr (having tt tt tt) (λ b i. mg (holding (each_append HasLeaves _ _ h.terms i.terms) (each_append IsName _ _ h.names i.names) (each_append IsName _ _ h.uses i.uses))))
+    (mg (holding (each_append HasLeaves _ [] h.terms tt) (each_append IsName _ [] h.names tt) (each_append IsName _ [] h.uses tt))))
+makes (g.While at) h =
+    mr (having tt tt tt) (λ p i. mr (having tt tt tt) (λ is j. mr (having tt tt tt) (λ b l. mg (holding (each_append HasLeaves (p.tree ∷ is) (block_terms b) (i.terms.0, j.terms) l.terms) l.names l.uses))))
+makes (g.Invariants is) h =
+    mw (λ _ _. mr (having tt tt tt) (λ p i. mr (having tt tt tt) (λ _ _. mr (having (each_append HasLeaves is (p.tree ∷ []) h.terms i.terms) tt tt) (λ z l. mg l)))) (mg (holding h.terms tt tt))
+makes g.Rhs h = mw (λ at _. mr (having tt tt tt) (λ z i. mg i)) (mr (having tt tt tt) (λ p i. mg (holding (rhs_each p.shape p.tree i.terms.0) tt (rhs_used p.shape p.tree i.terms.0))))
+makes (g.New at) h =
+    mn (λ _ _. mw (λ _ _. mg (holding tt tt tt)) (mw (λ _ _. mn (λ _ _. mg (holding tt tt tt))) (mn (λ x n. mr (having tt tt n.names) (λ xs i. mn (λ _ _. mg (holding tt tt i.uses)))))))
+makes (g.Separated o xs) h =
+    mw (λ _ _. mn (λ x n. mr (having tt tt (each_by IsName (names_more xs x) (each_append IsName _ _ h.uses n.names))) (λ z i. mg i))) (mg (holding tt tt h.uses))
+makes g.Semicolons h = mw (λ _ _. mr (having tt tt tt) (λ z i. mg i)) (mg (holding tt tt tt))
+makes g.InstanceOf h =
+    mw (λ _ _. mn (λ _ _. mr (having tt tt tt) (λ c i. mr (having tt tt tt) (λ m j. mg (holding (each_append HasLeaves c.args (amount_terms m) i.terms j.terms) tt i.uses)))))
+    (mr (having tt tt tt) (λ c i. mg (holding (each_append HasLeaves c.args [] i.terms tt) tt i.uses)))
+makes g.CallOf h = mn (λ x n. mn (λ _ _. mr (having tt tt tt) (λ es i. mg (holding i.terms tt n.names))))
+makes g.Arguments h = mw (λ _ _. mg (holding tt tt tt)) (mr (having tt tt tt) (λ p i. mr (having i.terms tt tt) (λ es j. mg j)))
+makes (g.MoreArguments es) h =
+    mw (λ _ _. mr (having tt tt tt) (λ p i. mr (having (each_append HasLeaves es (p.tree ∷ []) h.terms i.terms) tt tt) (λ all j. mg j))) (mn (λ _ _. mg (holding h.terms tt tt)))
+makes g.Group h = mn (λ _ _. mr (having tt tt tt) (λ p i. mn (λ _ _. mg i)))
+makes g.Amount h = mw (λ _ _. mr (having tt tt tt) (λ p i. mn (λ _ _. mg (holding i.terms tt tt)))) (mn (λ _ _. mg (holding tt tt tt)))
+makes g.Term h =
+    mr (having tt tt tt) (λ p i. makes_cond (g.is_open p.shape) (mg i)
+    (mw (λ at _. mr (having tt tt tt) (λ q j. mn (λ _ _. mr (having tt tt tt) (λ r l. mg (holding ((i.terms.0, j.terms.0, l.terms.0), tt) tt tt))))) (mg i)))
+makes (g.Level zero) h = mr (having tt tt tt) (λ p i. mg i)
+makes (g.Level (suc n)) h = mr (having tt tt tt) (λ p i. mr (having i.terms tt tt) (λ q j. mg j))
+makes (g.Chain n p) h =
+    makes_cond (g.is_open p.shape) (mg (holding h.terms tt tt))
+    (mw (λ o _. mr (having tt tt tt) (λ q i. makes_if (g.repeats n) (mr (having ((h.terms.0, i.terms.0), tt) tt tt) (λ r j. mg j)) (mg (holding ((h.terms.0, i.terms.0), tt) tt tt)))) (mg (holding h.terms tt tt)))
+makes g.Unary h =
+    mw (λ o _. mr (having tt tt tt) (λ p i. mg (holding i.terms tt tt)))
+    (mw (λ at _. mr (having tt tt tt) (λ i j. mn (λ _ _. mr (having tt tt tt) (λ p l.
+    mg (holding ((j.uses.0, each_terms i.call.args (front HasLeaves i.call.args (amount_terms i.amount) j.terms), amount_is i.amount (back HasLeaves i.call.args (amount_terms i.amount) j.terms), l.terms.0), tt) tt tt)))))
+    (mr (having tt tt tt) (λ p i. mr (having i.terms tt tt) (λ q j. mg j))))
+makes (g.Fields p) h = mw (λ _ _. mn (λ f n. mr (having ((h.terms.0, n.names.0), tt) tt tt) (λ q i. mg i))) (mg (holding h.terms tt tt))
+makes g.First h =
+    mw (λ x n. mw (λ _ _. mr (having tt tt tt) (λ es i. mg (holding ((n.names.0, each_terms es i.terms), tt) tt tt))) (mg (holding (n.names.0, tt) tt tt)))
+    (mw (λ n i. mg (holding i.terms tt tt))
+    (mw (λ w _. mg (holding (tt, tt) tt tt))
+    (mw (λ at _. mr (having tt tt tt) (λ p i. mg (holding i.terms tt tt)))
+    (mw (λ at _. mn (λ _ _. mr (having tt tt tt) (λ p i. mr (having tt tt tt) (λ m j. mg (holding ((i.terms.0, amount_is m j.terms), tt) tt tt)))))
+    (mr (having tt tt tt) (λ p i. mg (holding i.terms tt tt)))))))
 
-  holds : {s : Kind} {a : Rule s} {ts : List Token} {x : Value s} → Makes s a → Derives s a ts x → rights ts → Holds s x
-  holds (mg h) given r = h
-  holds (mn {c = c} f) (needed {us = us} {v = y} q d) r = let h = subst rights q.is r in holds (f y (token_holds c q.token y q.passes h.0)) d h.1
-  holds (mw {c = c} f o) (taken {us = us} {v = y} q d) r = let h = subst rights q.is r in holds (f y (token_holds c q.token y q.passes h.0)) d h.1
-  holds (mw f o) (passed d) r = holds o d r
-  holds (mr {a = a} h f) (called {ts = ts} {us = us} {y = y} d e) r = holds (f y (holds (makes a h) d (front (λ (token : Token). IsRight token.tok) ts us r))) e (back (λ (token : Token). IsRight token.tok) ts us r)
+-- what is taken from a token
+token_holds : {b : Bool} {r : Kind} (c : Test b r) (token : Token) (x : Value r) → Passes c token x → IsRight token.tok → Holds r x
+token_holds (this y) token x q h = holding tt tt tt
+token_holds a_name token x q h = holding tt (subst IsRight q.0 h, tt) tt
+token_holds a_number token x q h = holding (subst IsRight q.0 h, tt) tt tt
+token_holds (one_of y) token x q h = holding tt tt tt
+token_holds a_negation token x q h = holding tt tt tt
+token_holds (an_operator n) token x q h = holding tt tt tt
 
-  -- the literals and names of a program are those of its tokens
-  pub all_hold : {ts : List Token} {ds : List d.Decl} → Derives v.decls (rule (g.Program [])) ts ds → rights ts → Each HasLiterals (decls_terms ds) × Each P (decls_names ds)
-  all_hold {ds = ds} h r = let all = holds (makes (g.Program []) (none tt tt)) h r in (all.terms, all.names)
+abbrev pub rights : List Token → Type 0
+rights ts = Each (λ (token : Token). IsRight token.tok) ts
+
+holds : {s : Kind} {a : Rule s} {ts : List Token} {x : Value s} → Makes s a → Derives s a ts x → rights ts → Holds s x
+holds (mg h) given r = h
+holds (mn {c = c} f) (needed {us = us} {v = y} q d) r = let h = subst rights q.is r in holds (f y (token_holds c q.token y q.passes h.0)) d h.1
+holds (mw {c = c} f o) (taken {us = us} {v = y} q d) r = let h = subst rights q.is r in holds (f y (token_holds c q.token y q.passes h.0)) d h.1
+holds (mw f o) (passed d) r = holds o d r
+holds (mr {a = a} h f) (called {ts = ts} {us = us} {y = y} d e) r = holds (f y (holds (makes a h) d (front (λ (token : Token). IsRight token.tok) ts us r))) e (back (λ (token : Token). IsRight token.tok) ts us r)
+
+pub record HasRightLeaves (ds : List d.Decl) : Type 0 where
+  pub literals : Each HasLiterals (decls_terms ds)
+  pub declared : Each IsName (decls_names ds)
+  pub in_terms : Each HasNames (decls_terms ds)
+  pub used : Each IsName (decls_uses ds)
+
+-- the literals and names of a program are those of its tokens
+pub all_hold : {ts : List Token} {ds : List d.Decl} → Derives v.decls (rule (g.Program [])) ts ds → rights ts → HasRightLeaves ds
+all_hold {ds = ds} h r =
+    let all = holds (makes (g.Program []) (having tt tt tt)) h r in
+    record { literals = each_map term_literals (decls_terms ds) all.terms; declared = all.names; in_terms = each_map term_names (decls_terms ds) all.terms; used = all.uses }

@@ -5,9 +5,9 @@ pub mod Steps
 pub mod Whole
 pub mod Codes
 pub mod Complete
-pub mod Shallow
 pub mod Answered
 pub mod Parsed
 pub mod Leaves
+pub mod Shallow
 pub mod Counted
 pub mod GoodLaws

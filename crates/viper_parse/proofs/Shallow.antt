@@ -1,6 +1,7 @@
 -- A term is nested no deeper than its tokens are many, and they stand in a row without a divider.
 use Rattle.std.proofs.Common.{◌≡◌, refl, sym, ap, subst, ◌∙◌, ℕ, zero, suc, ◌+◌, ◌≤◌, max, Bool, true, false, cond, List, [], ◌∷◌, ◌++◌, length, append_assoc, arith, if◌then◌else◌, IsTrue}
 use Rattle.std.proofs.lemmas.List.{append-nil, length-append}
+use Rattle.std.proofs.lemmas.Option.{slice_get_within}
 use Rattle.viper_syntax.specs.declared.tokens.Token.{Token}
 use Rattle.viper_syntax.specs.declared.tokens.Word.{Word}
 use Rattle.viper_syntax.specs.declared.tokens.Word.TheVariants as word
@@ -17,9 +18,17 @@ use Rattle.viper_parse.specs.Tests.{Kind, Value, Part, Test, this, a_name, a_num
 use Rattle.viper_parse.specs.Grammar as g
 use Rattle.viper_parse.specs.Grammar.{Symbol, Rule, give, need, when, read, rule}
 use Rattle.viper_parse.specs.Spells.{Derives, given, needed, taken, passed, called}
-use Rattle.viper_syntax.specs.Good.{depth, amount_depth, terms_depth, amount_terms, rhs_terms, with_fields, target_terms, option_terms, stmt_terms, block_terms, arm_terms, stmts_terms, arms_terms, clauses_terms, decl_terms, decls_terms}
-use Rattle.viper_syntax.specs.Limit.{is_divider, is_dividing_word, is_dividing_sign}
-use Rattle.viper_parse.specs.Row.{IsRow, HasShortRows, AllShallow}
+use Rattle.viper_syntax.specs.Good.{depth, amount_depth, terms_depth, amount_terms, rhs_terms, with_fields, target_terms, option_terms, block_terms, arm_terms, arms_terms, clauses_terms, decls_terms}
+use Rattle.viper_syntax.specs.Limit.{is_divider, is_dividing_word, is_dividing_sign, IsUndivided}
+use Rattle.viper_parse.proofs.Leaves.{Each, each_append, each_by, terms_in, held_terms, decls_terms_more, stmts_terms_more, arms_terms_more, clauses_more}
+
+-- tokens without a divider among them, wherever they stand, are at most n
+pub record HasShortRows (n : ℕ) (ts : List Token) : Type 0 where
+  pub short : (before row after : List Token) → ts ≡ before ++ (row ++ after) → IsUndivided row → length row ≤ n
+
+-- each of these terms is nested at most n deep
+abbrev pub AllShallow : ℕ → List t.Term → Type 0
+AllShallow n es = Each (λ a. depth a ≤ n) es
 
 -- depths of lists
 
@@ -182,13 +191,18 @@ low_costs (g.Separated o xs) l =
     cw (λ k x q. ap is_divider q.0 ∙ l) (λ _. cn (λ k x q. ap is_divider q.0) (λ x. cr l (λ z m h. let e = length-append xs (x ∷ []) in cg (omega arith)))) (cg (omega arith))
 low_costs g.Semicolons l = absurd l
 
-row_append : (ts us : List Token) → IsRow ts → IsRow us → IsRow (ts ++ us)
-row_append [] us h i = i
-row_append (k ∷ ts) us h i = (h.0, row_append ts us h.1 i)
+-- a token that stands in a row
+abbrev InRow : Token → Type 0
+InRow k = is_divider k.tok ≡ false
+
+undivided : (ts : List Token) → Each InRow ts → IsUndivided ts
+undivided [] h i k e = absurd (omega (arith, slice_get_within [] i k e))
+undivided (j ∷ ts) h zero k e = let same : j ≡ k = cc in subst InRow same h.0
+undivided (j ∷ ts) h (suc i) k e = undivided ts h.1 i k e
 
 record Bounded (s : Kind) (n : ℕ) (ts : List Token) (x : Value s) : Type 0 where
   small : weight s x ≤ n + length ts
-  row : IsRow ts
+  row : Each InRow ts
 
 one_longer : (n w : ℕ) (ts us : List Token) (k : Token) → ts ≡ k ∷ us → w ≤ n + 1 + length us → w ≤ n + length ts
 one_longer n w ts us k e h = let l : length ts ≡ length (k ∷ us) = ap length e in omega arith
@@ -200,42 +214,17 @@ bounded : {s : Kind} {a : Rule s} {n : ℕ} {ts : List Token} {x : Value s} → 
 bounded (cg h) given = record { small = omega arith; row = tt }
 bounded {s = s} {n = n} {ts = ts} {x = x} (cn i f) (needed {us = us} {v = y} q d) =
     let e = bounded (f y) d in
-    record { small = one_longer n (weight s x) ts us q.token q.is e.small; row = subst IsRow (sym q.is) (i q.token y q.passes, e.row) }
+    record { small = one_longer n (weight s x) ts us q.token q.is e.small; row = subst (Each InRow) (sym q.is) (i q.token y q.passes, e.row) }
 bounded {s = s} {n = n} {ts = ts} {x = x} (cw i f o) (taken {us = us} {v = y} q d) =
     let e = bounded (f y) d in
-    record { small = one_longer n (weight s x) ts us q.token q.is e.small; row = subst IsRow (sym q.is) (i q.token y q.passes, e.row) }
+    record { small = one_longer n (weight s x) ts us q.token q.is e.small; row = subst (Each InRow) (sym q.is) (i q.token y q.passes, e.row) }
 bounded (cw i f o) (passed d) = bounded o d
 bounded {s = s} {n = n} {x = x} (cr {a = a} l f) (called {ts = ts} {us = us} {y = y} d d') =
     let e = bounded (low_costs a l) d in
     let e' = bounded (f y (length ts) e.small) d' in
-    record { small = longer_by n (weight s x) ts us e'.small; row = row_append ts us e.row e'.row }
+    record { small = longer_by n (weight s x) ts us e'.small; row = each_append InRow ts us e.row e'.row }
 
 -- the terms of what is built
-
-abbrev terms_in : (s : Kind) → Value s → List t.Term
-terms_in v.part p = p.tree ∷ []
-terms_in v.arguments es = es
-terms_in v.amount m = amount_terms m
-terms_in v.call c = c.args
-terms_in v.instance i = i.call.args ++ amount_terms i.amount
-terms_in v.rhs r = rhs_terms r
-terms_in v.stmt a = stmt_terms a
-terms_in v.stmts ss = stmts_terms (s.stmts ss)
-terms_in v.block b = block_terms b
-terms_in v.arm b = arm_terms b
-terms_in v.clauses cs = clauses_terms cs
-terms_in v.body b = option_terms block_terms b
-terms_in v.decl x = decl_terms x
-terms_in v.decls ds = decls_terms ds
-terms_in _ x = []
-
-abbrev held_terms : {s : Kind} → Symbol s → List t.Term
-held_terms (g.Program ds) = decls_terms ds
-held_terms (g.Clauses cs) = clauses_terms cs
-held_terms (g.Stmts ss) = stmts_terms (s.stmts ss)
-held_terms (g.Arms bs) = arms_terms (s.arms bs)
-held_terms (g.Invariants is) = is
-held_terms _ = []
 
 -- the symbols of statements and declarations
 abbrev High : {s : Kind} → Symbol s → Type 0
@@ -262,16 +251,7 @@ IsLow v.instance = Unit {0}
 IsLow _ = ⊥
 
 all_append : (n : ℕ) (l m : List t.Term) → AllShallow n l → AllShallow n m → AllShallow n (l ++ m)
-all_append n [] m h i = i
-all_append n (a ∷ l) m h i = (h.0, all_append n l m h.1 i)
-
-all_front : (n : ℕ) (l m : List t.Term) → AllShallow n (l ++ m) → AllShallow n l
-all_front n [] m h = tt
-all_front n (a ∷ l) m h = (h.0, all_front n l m h.1)
-
-all_back : (n : ℕ) (l m : List t.Term) → AllShallow n (l ++ m) → AllShallow n m
-all_back n [] m h = h
-all_back n (a ∷ l) m h = all_back n l m h.1
+all_append n l m h i = each_append (λ a. depth a ≤ n) l m h i
 
 deepest_all : (n : ℕ) (es : List t.Term) → deepest es ≤ n → AllShallow n es
 deepest_all n [] h = tt
@@ -306,24 +286,9 @@ low_all n v.body x l h = absurd l
 low_all n v.decl x l h = absurd l
 low_all n v.decls x l h = absurd l
 
-stmts_more : (n : ℕ) (ss : List s.SStmt) (a : s.SStmt) → AllShallow n (stmts_terms (s.stmts ss)) → AllShallow n (stmt_terms a) → AllShallow n (stmts_terms (s.stmts (ss ++ (a ∷ []))))
-stmts_more n [] a h i = all_append n (stmt_terms a) [] i tt
-stmts_more n (b ∷ ss) a h i =
-    all_append n (stmt_terms b) _ (all_front n (stmt_terms b) (stmts_terms (s.stmts ss)) h) (stmts_more n ss a (all_back n (stmt_terms b) (stmts_terms (s.stmts ss)) h) i)
-
-arms_more : (n : ℕ) (bs : List s.SArm) (a : s.SArm) → AllShallow n (arms_terms (s.arms bs)) → AllShallow n (arm_terms a) → AllShallow n (arms_terms (s.arms (bs ++ (a ∷ []))))
-arms_more n [] a h i = all_append n (arm_terms a) [] i tt
-arms_more n (b ∷ bs) a h i =
-    all_append n (arm_terms b) _ (all_front n (arm_terms b) (arms_terms (s.arms bs)) h) (arms_more n bs a (all_back n (arm_terms b) (arms_terms (s.arms bs)) h) i)
-
-decls_more : (n : ℕ) (ds : List d.Decl) (x : d.Decl) → AllShallow n (decls_terms ds) → AllShallow n (decl_terms x) → AllShallow n (decls_terms (ds ++ (x ∷ [])))
-decls_more n [] x h i = all_append n (decl_terms x) [] i tt
-decls_more n (y ∷ ds) x h i =
-    all_append n (decl_terms y) _ (all_front n (decl_terms y) (decls_terms ds) h) (decls_more n ds x (all_back n (decl_terms y) (decls_terms ds) h) i)
-
-clauses_more : (n : ℕ) (cs : List d.SClause) (x : d.SClause) → AllShallow n (clauses_terms cs) → depth x.term ≤ n → AllShallow n (clauses_terms (cs ++ (x ∷ [])))
-clauses_more n [] x h i = (i, tt)
-clauses_more n (y ∷ cs) x h i = (h.0, clauses_more n cs x h.1 i)
+-- lists with one more
+more : (n : ℕ) {all : List t.Term} (l m : List t.Term) → all ≡ l ++ m → AllShallow n l → AllShallow n m → AllShallow n all
+more n l m e h i = each_by (λ a. depth a ≤ n) e (all_append n l m h i)
 
 data Keeps (n : ℕ) (s : Kind) : Rule s → Type 0 where
   kg : {x : Value s} → AllShallow n (terms_in s x) → Keeps n s (give x)
@@ -340,18 +305,7 @@ listed_all n (t.more a rest) h = (omega arith, listed_all n rest (omega arith))
 
 rhs_from_all : (n : ℕ) (h : Shape) (a : t.Term) → depth a ≤ n → AllShallow n (rhs_terms (g.rhs_from h a))
 rhs_from_all n shape.Call (t.Inst x es at) i = listed_all n es (omega arith)
-rhs_from_all n shape.Call (t.Name x at) i = (i, tt)
-rhs_from_all n shape.Call (t.Number z at) i = (i, tt)
-rhs_from_all n shape.Call (t.Constant w at) i = (i, tt)
-rhs_from_all n shape.Call (t.Unary o a at) i = (i, tt)
-rhs_from_all n shape.Call (t.Binary o a b at) i = (i, tt)
-rhs_from_all n shape.Call (t.Choose a b e at) i = (i, tt)
-rhs_from_all n shape.Call (t.Field a f at) i = (i, tt)
-rhs_from_all n shape.Call (t.Old a at) i = (i, tt)
-rhs_from_all n shape.Call (t.Acc a m at) i = (i, tt)
-rhs_from_all n shape.Call (t.Unfolding x es m a at name_at) i = (i, tt)
-rhs_from_all n shape.Open a i = (i, tt)
-rhs_from_all n shape.Plain a i = (i, tt)
+rhs_from_all n _ _ i = (i, tt)
 
 -- a target is as deep as it has names
 with_fields_depth : (a : t.Term) (fs : List Named) → depth (with_fields a fs) ≡ depth a + length fs
@@ -367,19 +321,19 @@ rhs_all n p h = rhs_from_all n p.shape p.tree h.0
 
 high_keeps : (n : ℕ) → 1 ≤ n → {s : Kind} (a : Symbol s) → High a → AllShallow n (held_terms a) → Keeps n s (rule a)
 high_keeps n some (g.Program ds) l h =
-    kw (λ at. kh tt tt (λ x i. kh tt tt (λ _ j. kh tt (decls_more n ds (d.Field x) h tt) (λ z k. kg k))))
-    (kw (λ at. kh tt tt (λ x i. kh tt (decls_more n ds x h i) (λ z k. kg k)))
-    (kw (λ at. kh tt tt (λ x i. kh tt (decls_more n ds x h i) (λ z k. kg k))) (kg h)))
+    kw (λ at. kh tt tt (λ x i. kh tt tt (λ _ j. kh tt (more n _ _ (decls_terms_more ds (d.Field x)) h tt) (λ z k. kg k))))
+    (kw (λ at. kh tt tt (λ x i. kh tt (more n _ _ (decls_terms_more ds x) h i) (λ z k. kg k)))
+    (kw (λ at. kh tt tt (λ x i. kh tt (more n _ _ (decls_terms_more ds x) h i) (λ z k. kg k))) (kg h)))
 high_keeps n some (g.Predicate at) l h = kn (λ x. kn (λ _. kh tt tt (λ xs i. kw (λ _. kl tt tt refl (λ p j. kn (λ _. kg j))) (kg tt))))
 high_keeps n some (g.Method at) l h = kn (λ x. kn (λ _. kh tt tt (λ xs i. kh tt tt (λ ys j. kh tt tt (λ cs k. kh tt tt (λ b m. kg (all_append n (clauses_terms cs) (option_terms block_terms b) k m)))))))
 high_keeps n some g.Returns l h = kw (λ _. kn (λ _. kh tt tt (λ z i. kg i))) (kg tt)
-high_keeps n some (g.Clauses cs) l h = kw (λ w. kl tt tt refl (λ p i. kh tt tt (λ _ j. kh tt (clauses_more n cs (record { word = w.0; term = p.tree }) h i.0) (λ z k. kg k)))) (kg h)
+high_keeps n some (g.Clauses cs) l h = kw (λ w. kl tt tt refl (λ p i. kh tt tt (λ _ j. kh tt (more n _ _ (clauses_more cs (record { word = w.0; term = p.tree })) h i) (λ z k. kg k)))) (kg h)
 high_keeps n some g.Body l h = kw (λ at. kh tt tt (λ ss i. kg i)) (kg tt)
 high_keeps n some g.Formals l h = kw (λ _. kg tt) (kh tt tt (λ x i. kh tt tt (λ z j. kg j)))
 high_keeps n some (g.MoreFormals xs) l h = kw (λ _. kh tt tt (λ x i. kh tt tt (λ z j. kg j))) (kn (λ _. kg tt))
 high_keeps n some g.FormalOf l h = kn (λ x. kn (λ _. kn (λ w. kg tt)))
 high_keeps n some g.Block l h = kn (λ at. kh tt tt (λ ss i. kg i))
-high_keeps n some (g.Stmts ss) l h = kw (λ _. kg h) (kh tt tt (λ a i. kh tt tt (λ _ j. kh tt (stmts_more n ss a h i) (λ z k. kg k))))
+high_keeps n some (g.Stmts ss) l h = kw (λ _. kg h) (kh tt tt (λ a i. kh tt tt (λ _ j. kh tt (more n _ _ (stmts_terms_more ss a) h i) (λ z k. kg k))))
 high_keeps n some g.Stmt l h =
     kw (λ at. kh tt tt (λ z i. kg i)) (kw (λ w. kl tt tt refl (λ p i. kg i)) (kw (λ at. kl tt tt refl (λ x i. kg i)) (kw (λ at. kl tt tt refl (λ x i. kg i))
     (kw (λ at. kh tt tt (λ a i. kh tt (all_append n (arm_terms a) [] i tt) (λ z j. kg j))) (kw (λ at. kh tt tt (λ z i. kg i)) (kn (λ x. kh tt tt (λ z i. kg i))))))))
@@ -388,7 +342,7 @@ high_keeps n some (g.AfterName x) l h =
     kw (λ _. kl tt tt refl (λ es i. kg i)) (kw (λ _. kn (λ y. kh tt tt (λ xs i. kn (λ _. kl tt tt refl (λ z j. kg j))))) (ks (λ xs i. kn (λ _. kh tt tt (λ r j. kg (all_append n (target_terms xs) (rhs_terms r) (target_all n xs some i) j))))))
 high_keeps n some (g.Arm at) l h = kl tt tt refl (λ p i. kh tt tt (λ b j. kg (i.0, j)))
 high_keeps n some (g.Arms bs) l h =
-    kw (λ at. kh tt tt (λ a i. kh tt (arms_more n bs a h i) (λ z j. kg j)))
+    kw (λ at. kh tt tt (λ a i. kh tt (more n _ _ (arms_terms_more bs a) h i) (λ z j. kg j)))
     (kw (λ _. kh tt tt (λ b i. kg (all_append n (arms_terms (s.arms bs)) (block_terms b) h i))) (kg (all_append n (arms_terms (s.arms bs)) [] h tt)))
 high_keeps n some (g.While at) l h = kl tt tt refl (λ p i. kh tt tt (λ is j. kh tt tt (λ b k. kg (all_append n (p.tree ∷ is) (block_terms b) (i.0, j) k))))
 high_keeps n some (g.Invariants is) l h = kw (λ _. kl tt tt refl (λ p i. kh tt tt (λ _ j. kh tt (all_append n is (p.tree ∷ []) h i) (λ z k. kg k)))) (kg h)
@@ -424,8 +378,8 @@ short_back n ts us h = record {
 short_rest : (n : ℕ) (ts us : List Token) (k : Token) → ts ≡ k ∷ us → HasShortRows n ts → HasShortRows n us
 short_rest n ts us k e h = short_back n (k ∷ []) us (subst (λ l. HasShortRows n l) e h)
 
-row_short : (n : ℕ) (ts : List Token) → HasShortRows n ts → IsRow ts → length ts ≤ n
-row_short n ts h r = h.short [] ts [] (sym (append-nil ts)) r
+row_short : (n : ℕ) (ts : List Token) → HasShortRows n ts → Each InRow ts → length ts ≤ n
+row_short n ts h r = h.short [] ts [] (sym (append-nil ts)) (undivided ts r)
 
 low_weight : (w h l n : ℕ) → h ≡ 0 → w ≤ h + l → l ≤ n → w ≤ n
 low_weight w h l n e i j = omega arith

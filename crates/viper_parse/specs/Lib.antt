@@ -5,4 +5,3 @@ pub mod Greedy
 pub mod View
 pub mod Whole
 pub mod Answers
-pub mod Row
