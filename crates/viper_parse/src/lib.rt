@@ -10,6 +10,3 @@ mod terms;
 mod tokens;
 
 pub use program::{has_answer, one_place, one_tree, parse};
-
-#[cfg(test)]
-mod tests;

@@ -160,4 +160,4 @@ assembled_is_formed {w} {xs} ds good few named declared =
 pub typed_program_is_formed : {source : d.SourceProgram} {q : p.Program} → IsGoodSource source → IsProgram source q → IsTypedProgram q
 typed_program_is_formed {source} good (program_of named declared) =
     let ds = source.decls in
-    assembled_is_formed ds (good_decls ds good.shallow good.literals good.names good.few) good.few named declared
+    assembled_is_formed ds (good_decls ds good.shallow good.literals good.names.declared good.few) good.few named declared
