@@ -1,20 +1,17 @@
 -- Properties of fractions, values, keys and contents that operations keep: to be within the bound, and to be proper.
-use Rattle.std.proofs.Common.{◌≡◌, ◌≢◌, refl, subst, sym, arith, ℕ, zero, suc, ◌*◌, ◌<◌, ℤ, pos, negsuc, neg_ℤ, ◌*ℤ◌, Bool, true, Option, Some, None, List, [], ◌∷◌, All, IfSome}
-use Rattle.std.proofs.Math.Nat.{mul-pos}
-use Rattle.std.proofs.lemmas.Int.{ints}
+use Rattle.std.proofs.Common.{◌≡◌, ◌≢◌, arith, ℕ, ℤ, pos, neg_ℤ, Bool, true, Option, Some, None, List, [], ◌∷◌, All, IfSome}
 use Rattle.std.proofs.lemmas.List.Elements.{All-nil, All-cons, All-head, All-tail}
 use Rattle.std.specs.Int.{int_div_euclid, int_rem_euclid}
-use Rattle.std.specs.Prelude.{⊤, unsigned_abs}
+use Rattle.std.specs.Prelude.{⊤}
 use Rattle.vb_value.specs.Bound.{Bound, Unbounded, Bounded, IfBounded, is_within}
 use Rattle.vb_value.specs.Content.{Content, Leaf, Pair, IsWithinContent, IsProperContent}
-use Rattle.vb_value.specs.Fraction.{Fraction, IsReduced, IsWithinFraction, IsProperFraction, ratio, whole, sum, difference, product, quotient_by, fits_sum, fits_difference, fits_product, fits_quotient_by}
-use Rattle.vb_value.specs.Gcd.{gcd}
+use Rattle.vb_value.specs.Fraction.{Fraction, IsReduced, IsWithinFraction, IsProperFraction, whole, sum, difference, product, quotient_by, fits_sum, fits_difference, fits_product, fits_quotient_by}
 use Rattle.vb_value.specs.Key.{IsWithinPart, IsWithinKey, IsProperPart, IsProperKey}
 use Rattle.vb_value.specs.Value.{IsWithinValue, IsProperValue}
 use Rattle.vb_value.specs.declared.keys.KeyPart.{KeyPart}
 use Rattle.vb_value.specs.declared.values.Value.{Value}
 use Rattle.vb_value.specs.declared.values.Value.TheVariants.{Int, Bool as Truth, Ref, Perm}
-use Rattle.vb_value.proofs.FractionLaws.{IsReduced-reduced, IsReduced-whole}
+use Rattle.vb_value.proofs.ProperLaws.{IsReduced-sum, IsReduced-difference, IsReduced-product, proper_whole, proper_negative, proper_quotient_by}
 use Rattle.vb_value.proofs.RepresentableLaws.{within_from}
 use Rattle.viper_state.specs.State.{Key}
 use Rattle.viper_meaning.specs.Places.{key_part, in_front, key_of}
@@ -92,35 +89,6 @@ if_bounded : {P Q : Type 0} (b : Bound) → (P → Q) → IfBounded b P → IfBo
 if_bounded Unbounded f h = tt
 if_bounded Bounded f h = f h
 
-if_both : {P Q R : Type 0} (b : Bound) → (P → Q → R) → IfBounded b P → IfBounded b Q → IfBounded b R
-if_both Unbounded f h g = tt
-if_both Bounded f h g = f h g
-
--- the denominators of sums and products are positive
-dens : (p q : Fraction) → IsReduced p → IsReduced q → 0 < p.den * q.den
-dens p q h g = mul-pos h.positive g.positive
-
-abs_negative : (n : ℤ) → unsigned_abs (neg_ℤ n) ≡ unsigned_abs n
-abs_negative (pos zero) = refl
-abs_negative (pos (suc n)) = refl
-abs_negative (negsuc n) = refl
-
-pub negative_reduced : (q : Fraction) → IsReduced q → IsReduced (record { num = neg_ℤ q.num; den = q.den })
-negative_reduced q h = record { positive = h.positive; coprime = subst (λ a. gcd a q.den ≡ 1) (sym (abs_negative q.num)) h.coprime }
-
-ratio_reduced : (n d : ℤ) → d ≢ pos 0 → IsReduced (ratio n d)
-ratio_reduced n (pos zero) z = absurd (z refl)
-ratio_reduced n (pos (suc d)) z = IsReduced-reduced n (suc d) (omega arith)
-ratio_reduced n (negsuc d) z = IsReduced-reduced (neg_ℤ n) (suc d) (omega arith)
-
-product_nonzero : (d : ℕ) (n : ℤ) → 0 < d → n ≢ pos 0 → pos d *ℤ n ≢ pos 0
-product_nonzero d (pos zero) h z e = z refl
-product_nonzero d (pos (suc m)) h z e = omega (arith, ints)
-product_nonzero d (negsuc m) h z e = omega (arith, ints)
-
-pub quotient_reduced : (p : Fraction) (n : ℤ) → IsReduced p → n ≢ pos 0 → IsReduced (quotient_by p n)
-quotient_reduced p n h z = ratio_reduced p.num (pos p.den *ℤ n) (product_nonzero p.den n h.positive z)
-
 part_proper : (b : Bound) (v : Value) → IsProperValue b v → IfSome (key_part v) (IsProperPart b)
 part_proper b (Int n) h = h
 part_proper b (Truth x) h = tt
@@ -143,14 +111,14 @@ proper_closed b = record {
   asked = λ q h. h.reduced;
   of_perm = λ q h. h;
   negative = λ n h. if_bounded b (negative_within n) h;
-  negative_perm = λ q h. record { reduced = negative_reduced q h.reduced; within = if_bounded b (λ w. record { num = negative_within q.num w.num; den = w.den }) h.within };
+  negative_perm = proper_negative b;
   div = λ x d h g n. if_bounded b (div_within x d) h;
   rem = λ x d h g n. if_bounded b (λ w. mod_within x d w n) g;
-  whole = λ n h. record { reduced = IsReduced-whole n; within = if_bounded b (whole_within n) h };
-  sum = λ p q h g fits. record { reduced = IsReduced-reduced _ _ (dens p q h g); within = if_bounded b (sum_within p q) fits };
-  difference = λ p q h g fits. record { reduced = IsReduced-reduced _ _ (dens p q h g); within = if_bounded b (difference_within p q) fits };
-  product = λ p q h g fits. record { reduced = IsReduced-reduced _ _ (dens p q h g); within = if_bounded b (product_within p q) fits };
-  quotient = λ p n h z fits. record { reduced = quotient_reduced p n h.reduced z; within = if_both b (quotient_within p n) h.within fits };
+  whole = proper_whole b;
+  sum = λ p q h g fits. record { reduced = IsReduced-sum p q h g; within = if_bounded b (sum_within p q) fits };
+  difference = λ p q h g fits. record { reduced = IsReduced-difference p q h g; within = if_bounded b (difference_within p q) fits };
+  product = λ p q h g fits. record { reduced = IsReduced-product p q h g; within = if_bounded b (product_within p q) fits };
+  quotient = proper_quotient_by b;
   key = key_has (IsProperValue b) (IsProperPart b) (part_proper b);
   leaf = λ v h. h.values;
   left = λ c d h. fewer_left c d b h;

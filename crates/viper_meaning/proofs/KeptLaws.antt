@@ -5,7 +5,6 @@ use Rattle.std.proofs.lemmas.Bool.Decides.{Decides-int_eq}
 use Rattle.std.proofs.lemmas.List.Elements.{All-nil, All-cons, All-append}
 use Rattle.std.specs.Int.{int_div_euclid, int_rem_euclid}
 use Rattle.std.specs.Ordering.{int_eq, is_lt, is_le, is_gt, is_ge}
-use Rattle.std.specs.Prelude.{⊤}
 use Rattle.std.specs.declared.cmp.Ordering.{Ordering}
 use Rattle.vb_base.specs.declared.labels.Kind.{Kind}
 use Rattle.vb_base.specs.declared.labels.Kind.TheVariants as kind
@@ -25,14 +24,15 @@ use Rattle.viper_state.specs.Event.{Event}
 use Rattle.viper_state.specs.Event as event
 use Rattle.viper_state.specs.Run.{Scene, with_variables}
 use Rattle.viper_state.specs.Within.{AllOfEvent, AllOfState, AllOfScene}
+use Rattle.viper_state.proofs.EachLaws.{value_has, mask_has, content_has, amount_has, with_value_has, with_mask_has, with_content_has, with_amount_has}
+use Rattle.viper_state.proofs.Paired.{All-found}
 use Rattle.viper_meaning.specs.Ends.{Evaluated, is, fails, blocks, after, then_with, found, unless, recorded, fitting}
 use Rattle.viper_meaning.specs.Operators.{Class, Lazy, Division, Plain, class_of, truth_of, perm_of, ref_of, sum_of, difference_of, product_of, fraction_product, compared, same_truth, fraction_by, quotient_of, euclidean, plain, divided, settled, settled_or, in_class, negative, negation}
 use Rattle.viper_meaning.specs.Places.{read_field, key_of, taken, unit_of, leaf_of, pair_of, leaf_for, added, written, contained, fill_leaf, fill_place, fill_held, fill_instance}
 use Rattle.viper_meaning.specs.Value.{as_truth, as_perm, as_ref, as_key, value, unfolded, values, amount_of, opened}
 use Rattle.viper_meaning.specs.Kept as kept
-use Rattle.viper_meaning.specs.Kept.{Keeps}
+use Rattle.viper_meaning.specs.Kept.{IsAny, Keeps}
 use Rattle.viper_meaning.proofs.ClosedLaws.{IsClosed}
-use Rattle.viper_meaning.proofs.StateLaws.{item_has, value_at_has, mask_at_has, content_at_has, amount_at_has, with_value_has, with_mask_has, with_content_has, with_amount_has}
 
 -- one lemma for each way to go on
 
@@ -76,10 +76,6 @@ pub fitting_kept : {X : Type 0} {E : Event → Type 0} {P : X → Type 0} (b : B
 fitting_kept Unbounded fits at x p = is_kept (p tt)
 fitting_kept Bounded true at x p = is_kept (p refl)
 fitting_kept {E = E} Bounded false at x p = kept.over (All-nil E)
-
--- nothing is said of the value
-abbrev pub IsAny : {X : Type 0} → X → Type 0
-IsAny x = ⊤
 
 any_kept : {X : Type 0} {E : Event → Type 0} (x : X) → Keeps E IsAny (is x)
 any_kept x = is_kept tt
@@ -242,15 +238,15 @@ module _ (b : Bound) (F S : Fraction → Type 0) (V : Value → Type 0) (K : Key
 
   read_kept : (sc : Scene) (s : State) (f : ℕ) (at : Pos) (r : ℕ) → AllOfState F V K C s → HasKept V (read_field sc s f at r)
   read_kept sc s f at r h =
-      unless_kept (r == 0) (fails_kept sc at kind.Null) (then_kept (found_kept (mask_at s f r) (mask_at_has F V K C s f r h)) (λ held p.
-      unless_kept (is_none held) (fails_kept sc at kind.Perm) (found_kept (value_at s f r) (value_at_has F V K C s f r h))))
+      unless_kept (r == 0) (fails_kept sc at kind.Null) (then_kept (found_kept (mask_at s f r) (mask_has h f r)) (λ held p.
+      unless_kept (is_none held) (fails_kept sc at kind.Perm) (found_kept (value_at s f r) (value_has h f r))))
 
   pub taken_kept : (sc : Scene) (s : State) (p : ℕ) (key : Key) (q : Fraction) (at : Pos) → S q → AllOfState F V K C s → K key → HasKept (AllOfState F V K C) (taken b sc s p key q at)
   taken_kept sc s p key q at f h k =
-      unless_kept (not (is_positive q)) (fails_kept sc at kind.Amount) (then_kept (found_kept (amount_at s p key) (amount_at_has F V K C s p key h)) (λ held i.
+      unless_kept (not (is_positive q)) (fails_kept sc at kind.Amount) (then_kept (found_kept (amount_at s p key) (amount_has h p key)) (λ held i.
       then_kept (fitting_kept {P = IsAny} b (fits_order held q) at (is_lt (order held q)) (λ fits. tt)) (λ less u. unless_kept less (fails_kept sc at kind.Perm) (
       then_kept (fitting_kept {P = F} b (fits_difference held q) at (difference held q) (closed.difference held q (closed.asked held i) f)) (λ left j.
-      is_kept (with_amount_has F V K C s p key left h k j))))))
+      is_kept (with_amount_has h p key left k j))))))
 
   added_kept : (held k q : Fraction) (at : Pos) → F held → S k → S q → HasKept F (added b held k q at)
   added_kept held k q at h f g =
@@ -263,13 +259,13 @@ module _ (b : Bound) (F S : Fraction → Type 0) (V : Value → Type 0) (K : Key
 
   written_kept : (s : State) (f r : ℕ) (v : Value) (held : Fraction) → AllOfState F V K C s → V v → HasKept (AllOfState F V K C) (written s f r v held)
   written_kept s f r v held h i =
-      if_kept (is_none held) (is_kept (with_value_has F V K C s f r v h i))
+      if_kept (is_none held) (is_kept (with_value_has h f r v i))
       (then_kept (found_kept {P = IsAny} (value_at s f r) (any_found (value_at s f r))) (λ old o. unless_kept (not (value_eq v old)) blocks_kept (is_kept h)))
 
   fill_leaf_kept : (k : Fraction) (f r : ℕ) (q : Fraction) (v : Value) (at : Pos) (s : State) → S k → S q → V v → AllOfState F V K C s → HasKept (AllOfState F V K C) (fill_leaf b k f r q v at s)
   fill_leaf_kept k f r q v at s i j l h =
-      then_kept (found_kept (mask_at s f r) (mask_at_has F V K C s f r h)) (λ held m. then_kept (written_kept s f r v held h l) (λ t u. then_kept (added_kept held k q at m i j) (λ all a.
-      unless_kept (is_above_one all) blocks_kept (is_kept (with_mask_has F V K C t f r all u a)))))
+      then_kept (found_kept (mask_at s f r) (mask_has h f r)) (λ held m. then_kept (written_kept s f r v held h l) (λ t u. then_kept (added_kept held k q at m i j) (λ all a.
+      unless_kept (is_above_one all) blocks_kept (is_kept (with_mask_has u f r all a)))))
 
   -- nothing is filled where the amount is none
   nothing_kept : (c : Content) (s : State) → AllOfState F V K C s → HasKept (AllOfState F V K C) (then_with (unit_of c) (λ u. is s))
@@ -281,13 +277,13 @@ module _ (b : Bound) (F S : Fraction → Type 0) (V : Value → Type 0) (K : Key
 
   contained_kept : (s : State) (p : ℕ) (key : Key) (c : Content) (held : Fraction) → AllOfState F V K C s → K key → C c → HasKept (AllOfState F V K C) (contained s p key c held)
   contained_kept s p key c held h k i =
-      if_kept (is_none held) (is_kept (with_content_has F V K C s p key c h k i))
+      if_kept (is_none held) (is_kept (with_content_has h p key c k i))
       (then_kept (found_kept {P = IsAny} (content_at s p key) (any_found (content_at s p key))) (λ old o. unless_kept (not (same_content c old)) blocks_kept (is_kept h)))
 
   fill_held_kept : (k : Fraction) (p : ℕ) (key : Key) (q : Fraction) (c : Content) (at : Pos) (s : State) → S k → K key → S q → C c → AllOfState F V K C s → HasKept (AllOfState F V K C) (fill_held b k p key q c at s)
   fill_held_kept k p key q c at s i j l m h =
-      then_kept (found_kept (amount_at s p key) (amount_at_has F V K C s p key h)) (λ held n. then_kept (contained_kept s p key c held h j m) (λ t u. then_kept (added_kept held k q at n i l) (λ all a.
-      is_kept (with_amount_has F V K C t p key all u j a))))
+      then_kept (found_kept (amount_at s p key) (amount_has h p key)) (λ held n. then_kept (contained_kept s p key c held h j m) (λ t u. then_kept (added_kept held k q at n i l) (λ all a.
+      is_kept (with_amount_has u p key all j a))))
 
   fill_instance_kept : (sc : Scene) (k : Fraction) (p : ℕ) (key : Key) (q : Fraction) (c : Content) (at : Pos) (s : State) → S k → K key → S q → C c → AllOfState F V K C s →
       HasKept (AllOfState F V K C) (fill_instance b sc k p key q c at s)
@@ -302,7 +298,7 @@ module _ (b : Bound) (F S : Fraction → Type 0) (V : Value → Type 0) (K : Key
 
   mutual
     pub value_kept : (e : t.Expr) (s : State) (sc : Scene) → AllLiterals (IsInt V) F e → AllOfState F V K C s → AllOfScene F V K C sc → HasKept V (value b e s sc)
-    value_kept (t.Var x) s sc w h g = found_kept (slice_get sc.store x) (item_has V sc.store x g.store)
+    value_kept (t.Var x) s sc w h g = found_kept (slice_get sc.store x) (All-found V sc.store x g.store)
     value_kept (t.Int n) s sc w h g = is_kept w
     value_kept (t.Bool a) s sc w h g = truth_is a
     value_kept t.Null s sc w h g = is_kept (closed.ref 0)
@@ -318,7 +314,7 @@ module _ (b : Bound) (F S : Fraction → Type 0) (V : Value → Type 0) (K : Key
     unfolded_kept : (o : t.Opened) (s : State) (sc : Scene) → AllOpenedLiterals (IsInt V) F o → AllOfState F V K C s → AllOfScene F V K C sc → HasKept V (unfolded b o s sc)
     unfolded_kept (t.opened p args amount body inner at) s sc w h g =
         then_kept (values_kept args s sc w.0 h g) (λ vs i. then_kept (perm_kept (value_kept amount s sc w.1 h g)) (λ q j. then_kept (found_kept (key_of vs) (closed.key vs i)) (λ key k.
-        then_kept (taken_kept sc s p key q at (closed.asked q j) h k) (λ less l. then_kept (found_kept (content_at s p key) (content_at_has F V K C s p key h)) (λ c m.
+        then_kept (taken_kept sc s p key q at (closed.asked q j) h k) (λ less l. then_kept (found_kept (content_at s p key) (content_has h p key)) (λ c m.
         then_kept (opened_kept body c less (with_variables vs sc) q w.2 m l (variables_have vs sc i g) (closed.asked q j)) (λ copy n. value_kept inner copy sc w.3 n g))))))
 
     pub values_kept : (es : t.Exprs) (s : State) (sc : Scene) → AllExprsLiterals (IsInt V) F es → AllOfState F V K C s → AllOfScene F V K C sc → HasKept (All V) (values b es s sc)

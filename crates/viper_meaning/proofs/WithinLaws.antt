@@ -13,12 +13,12 @@ use Rattle.viper_core.specs.Literals.{IsWithinExpr, AreWithinExprs, IsWithinAmou
 use Rattle.viper_state.specs.State.{Key, State, content_at}
 use Rattle.viper_state.specs.Run.{Scene}
 use Rattle.viper_state.specs.Within.{IsWithinEvent, IsWithinState, IsWithinScene}
+use Rattle.viper_state.proofs.EachLaws.{content_has}
 use Rattle.viper_meaning.specs.Kept.{Keeps}
 use Rattle.viper_meaning.specs.Places.{key_of, taken, pair_of}
 use Rattle.viper_meaning.specs.Value.{value, values, amount_of, opened}
 use Rattle.viper_meaning.proofs.ClosedLaws.{within_closed}
 use Rattle.viper_meaning.proofs.KeptLaws as kept
-use Rattle.viper_meaning.proofs.StateLaws.{content_at_has}
 
 pub value_within : (e : t.Expr) (s : State) (sc : Scene) → IsWithinExpr e → IsWithinState s → IsWithinScene sc → Keeps IsWithinEvent IsWithinValue (value Bounded e s sc)
 value_within = kept.value_kept Bounded IsWithinFraction (λ q. ⊤) IsWithinValue IsWithinKey IsWithinContent within_closed
@@ -43,4 +43,4 @@ pub key_within : (vs : List Value) → All IsWithinValue vs → IfSome (key_of v
 key_within = within_closed.key
 
 pub content_at_within : (s : State) (p : ℕ) (key : Key) → IsWithinState s → IfSome (content_at s p key) IsWithinContent
-content_at_within = content_at_has IsWithinFraction IsWithinValue IsWithinKey IsWithinContent
+content_at_within s p key h = content_has h p key

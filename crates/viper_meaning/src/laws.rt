@@ -1,20 +1,22 @@
 //! Laws of the definitions, each as the contract of a function that does nothing.
 
-ghost use Rattle.std.specs.Prelude.{◌≡◌, List, []};
+ghost use Rattle.std.specs.Prelude.{◌≡◌, ℕ, true, List, []};
+ghost use Rattle.vb_base.specs.declared.places.Pos.{Pos};
 ghost use Rattle.vb_value.specs.Bound.{Bound, Unbounded, Bounded};
 ghost use Rattle.vb_value.specs.Content.{Content, IsWithinContent, IsProperContent};
-ghost use Rattle.vb_value.specs.Fraction.{Fraction, IsReduced};
+ghost use Rattle.vb_value.specs.Fraction.{Fraction, IsReduced, is_positive};
 ghost use Rattle.vb_value.specs.Value.{IsWithinValue, IsProperValue};
 ghost use Rattle.viper_core.specs.Expr as t;
-ghost use Rattle.viper_state.specs.State.{State};
-ghost use Rattle.viper_state.specs.Run.{Scene};
-ghost use Rattle.viper_state.specs.Within.{IsWithinState, IsWithinScene, IsWithinEvent, IsProperState, IsProperScene, IsProperEvent};
+ghost use Rattle.viper_state.specs.State.{State, Key};
+ghost use Rattle.viper_state.specs.Run.{Scene, with_old};
+ghost use Rattle.viper_state.specs.Within.{IsWithinState, IsWithinScene, IsWithinEvent, IsProperState, IsProperScene, IsProperEvent, IsNonnegative};
 ghost use Rattle.viper_meaning.specs.Ends.{events_of};
+ghost use Rattle.viper_meaning.specs.Places.{taken};
 ghost use Rattle.viper_meaning.specs.Value.{value, opened};
 ghost use Rattle.viper_meaning.specs.Compared.{IsBoundedBy, IsNotOver};
 ghost use Rattle.viper_core.specs.Literals.{IsWithinExpr, IsWithinAssertion, IsProperExpr, IsProperAssertion};
-ghost use Rattle.viper_meaning.specs.Kept.{Keeps};
-ghost use Rattle.viper_core.specs.Plain.{OpensNothing};
+ghost use Rattle.viper_meaning.specs.Kept.{IsAny, Keeps};
+ghost use Rattle.viper_core.specs.Plain.{OpensNothing, HasNoOld, AssertionHasNoOld};
 
 /// What is computed within the bound and is not Over is what is computed without it, with the same events. Without a bound
 /// nothing is Over.
@@ -48,4 +50,20 @@ pub fn what_is_proper_stays_proper()
 /// Only an `unfolding` records events.
 pub fn only_unfolding_records()
     ensures { (b : Bound) (e : t.Expr) (s : State) (sc : Scene) → OpensNothing e → events_of (value b e s sc) ≡ [] }
+{}
+
+/// Only `old` looks at the old state: without it an expression or a body has the same value whatever the old state is.
+pub fn old_alone_looks_at_the_old_state()
+    ensures value { (b : Bound) (e : t.Expr) (s : State) (sc : Scene) (old : State) → HasNoOld e
+        → value b e s (with_old old sc) ≡ value b e s sc }
+    ensures opened { (b : Bound) (a : t.Assertion) (c : Content) (s : State) (sc : Scene) (k : Fraction) (old : State)
+        → AssertionHasNoOld a → opened b a c s (with_old old sc) k ≡ opened b a c s sc k }
+{}
+
+/// No permission becomes negative where so much of an instance is taken, or a body is produced by a positive scale.
+pub fn no_permission_becomes_negative()
+    ensures taken { (b : Bound) (sc : Scene) (s : State) (p : ℕ) (key : Key) (q : Fraction) (at : Pos) → IsNonnegative s
+        → Keeps IsAny IsNonnegative (taken b sc s p key q at) }
+    ensures opened { (b : Bound) (a : t.Assertion) (c : Content) (s : State) (sc : Scene) (k : Fraction)
+        → is_positive k ≡ true → IsNonnegative s → Keeps IsAny IsNonnegative (opened b a c s sc k) }
 {}

@@ -26,3 +26,7 @@ pub record Scene : Type 0 where
 -- the scene of a body or of clauses, whose variables have these values. The old state and the step stay.
 abbrev pub with_variables : List Value → Scene → Scene
 with_variables vs sc = record sc { store = vs }
+
+-- the scene with another old state
+abbrev pub with_old : state.State → Scene → Scene
+with_old s sc = record sc { old = s }
