@@ -7,12 +7,12 @@ use Rattle.viper_core.specs.Expr as t
 use Rattle.viper_core.specs.Stmt as s
 use Rattle.viper_core.specs.Program.{Program, Predicate}
 use Rattle.viper_core.specs.Size.{size, assertion_size}
-use Rattle.viper_core.specs.Weight.{base_of, predicate_weight, method_weight, weight, told_weight}
+use Rattle.viper_core.specs.Weight.{base_of, stmt_weight, predicate_weight, method_weight, weight, told_weight}
 use Rattle.viper_core.specs.Scope.{scope_after, refs_in, loop_targets}
 use Rattle.viper_core.specs.Depth.{depth, assertion_depth, block_depth}
 use Rattle.viper_core.specs.Typing.{value_type}
 use Rattle.viper_core.specs.Formed.{method_scope, with_body_from}
-use Rattle.viper_core.proofs.Worked.{at, one, all, cell_body, list_body, cell, list, make, push, head, fill, turns, worked}
+use Rattle.viper_core.proofs.Worked.{at, one, all, val, instance, cell_body, list_body, cell, list, make, push, head, fill, turns, worked}
 
 -- ---- weights
 
@@ -83,6 +83,47 @@ left_out = refl
 
 wildcard_is_a_node : assertion_size 5 (t.Inst 0 t.none t.Wildcard at) ≡ 2
 wildcard_is_a_node = refl
+
+-- the least part of that program counts 3, its predicate's body 3, and the clause of its method 3
+
+declared : stmt_weight peek (s.Var at 1 None) ≡ 3
+declared = refl
+
+declared_with_value : stmt_weight peek (s.Var at 1 (Some t.Null)) ≡ 4
+declared_with_value = refl
+
+assigned : stmt_weight peek (s.Assign at 1 (val (t.Var 0))) ≡ 5
+assigned = refl
+
+written : stmt_weight peek (s.Write at (t.Var 0) 0 at (t.Int (pos 7))) ≡ 5
+written = refl
+
+created : stmt_weight peek (s.New at 1 (0 ∷ []) (0 ∷ 1 ∷ [])) ≡ 6
+created = refl
+
+called : stmt_weight peek (s.Call at [] 0 (one t.Null)) ≡ 7
+called = refl
+
+inhaled : stmt_weight peek (s.Inhale at cell_body) ≡ 11
+inhaled = refl
+
+exhaled : stmt_weight peek (s.Exhale at cell_body) ≡ 11
+exhaled = refl
+
+asserted : stmt_weight peek (s.Assert at (t.Fact peeked at)) ≡ 15
+asserted = refl
+
+folded : stmt_weight peek (s.Fold (instance 0 0)) ≡ 8
+folded = refl
+
+unfolded : stmt_weight peek (s.Unfold (instance 0 0)) ≡ 8
+unfolded = refl
+
+branched : stmt_weight peek (s.If at (t.Bool true) (s.stmts (s.Var at 1 None ∷ [])) (s.stmts (s.Assign at 1 t.Null ∷ []))) ≡ 11
+branched = refl
+
+repeated : stmt_weight peek (s.While (s.loop at (t.Bool true) (cell_body ∷ []) (s.stmts (s.Assign at 1 t.Null ∷ [])) at (1 ∷ []))) ≡ 17
+repeated = refl
 
 -- ---- scopes
 
@@ -160,3 +201,21 @@ not_ordered = refl
 
 compared : value_type op.Eq ty.Ref ty.Ref ≡ Some ty.Bool
 compared = refl
+
+joined : value_type op.Implies ty.Bool ty.Bool ≡ Some ty.Bool
+joined = refl
+
+not_joined : value_type op.And ty.Bool ty.Int ≡ None
+not_joined = refl
+
+not_compared : value_type op.Ne ty.Int ty.Perm ≡ None
+not_compared = refl
+
+ordered : value_type op.Lt ty.Perm ty.Perm ≡ Some ty.Bool
+ordered = refl
+
+taken : value_type op.Sub ty.Perm ty.Perm ≡ Some ty.Perm
+taken = refl
+
+remainder : value_type op.IntMod ty.Int ty.Int ≡ Some ty.Int
+remainder = refl

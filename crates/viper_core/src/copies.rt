@@ -4,7 +4,7 @@ ghost use Rattle.viper_core.specs.View.{expr_of, exprs_of, opened_of, amt_of, as
 
 use crate::{Amt, Assertion, Expr, Opened};
 use std::alloc::Global;
-use vb_base::Memory;
+use vb_base::{Memory, boxed};
 
 impl Expr {
     /// The same expression again.
@@ -18,28 +18,29 @@ impl Expr {
             Expr::Bool(b) => Ok(Expr::Bool(*b)),
             Expr::Null => Ok(Expr::Null),
             Expr::Part(q) => Ok(Expr::Part(*q)),
-            Expr::Neg(a) => Ok(Expr::Neg(boxed(alloc, a)?)),
-            Expr::Not(a) => Ok(Expr::Not(boxed(alloc, a)?)),
-            Expr::Bin(op, a, b, at) => Ok(Expr::Bin(*op, boxed(alloc, a)?, boxed(alloc, b)?, *at)),
-            Expr::Choose(a, b, c) => Ok(Expr::Choose(
-                boxed(alloc, a)?,
-                boxed(alloc, b)?,
-                boxed(alloc, c)?,
-            )),
-            Expr::Field(a, field, at) => Ok(Expr::Field(boxed(alloc, a)?, *field, *at)),
-            Expr::Old(a) => Ok(Expr::Old(boxed(alloc, a)?)),
-            Expr::Unfolding(opened) => {
-                Ok(Expr::Unfolding(Box::new(alloc, opened.copy(alloc)?)?))
+            Expr::Neg(a) => Ok(Expr::Neg(boxed_expr(alloc, a)?)),
+            Expr::Not(a) => Ok(Expr::Not(boxed_expr(alloc, a)?)),
+            Expr::Bin(op, a, b, at) => {
+                let (a, b) = both(boxed_expr(alloc, a), boxed_expr(alloc, b))?;
+                Ok(Expr::Bin(*op, a, b, *at))
             }
+            Expr::Choose(a, b, c) => {
+                let sides = both(boxed_expr(alloc, b), boxed_expr(alloc, c));
+                let (a, (b, c)) = both(boxed_expr(alloc, a), sides)?;
+                Ok(Expr::Choose(a, b, c))
+            }
+            Expr::Field(a, field, at) => Ok(Expr::Field(boxed_expr(alloc, a)?, *field, *at)),
+            Expr::Old(a) => Ok(Expr::Old(boxed_expr(alloc, a)?)),
+            Expr::Unfolding(opened) => Ok(Expr::Unfolding(boxed(alloc, opened.copy(alloc)?)?)),
         }
     }
 }
 
 #[cycle(copies)]
-fn boxed(alloc: Global, e: &Expr) -> Result<Box<Expr>, Memory>
+fn boxed_expr(alloc: Global, e: &Expr) -> Result<Box<Expr>, Memory>
     ensures { IfOk result (λ b. expr_of b.value ≡ expr_of e.now) }
 {
-    Ok(Box::new(alloc, e.copy(alloc)?)?)
+    boxed(alloc, e.copy(alloc)?)
 }
 
 #[cycle(copies)]
@@ -59,12 +60,15 @@ impl Opened {
     pub fn copy(&self, alloc: Global) -> Result<Opened, Memory>
         ensures { IfOk result (λ o. opened_of o ≡ opened_of self.now) }
     {
+        let instance = both(copies(alloc, &self.args), self.amount.copy(alloc));
+        let terms = both(self.body.copy(alloc), self.inner.copy(alloc));
+        let ((args, amount), (body, inner)) = both(instance, terms)?;
         Ok(Opened {
             predicate: self.predicate,
-            args: copies(alloc, &self.args)?,
-            amount: self.amount.copy(alloc)?,
-            body: self.body.copy(alloc)?,
-            inner: self.inner.copy(alloc)?,
+            args,
+            amount,
+            body,
+            inner,
             place: self.place,
         })
     }
@@ -91,31 +95,27 @@ impl Assertion {
     {
         match self {
             Assertion::Fact(e, at) => Ok(Assertion::Fact(e.copy(alloc)?, *at)),
-            Assertion::Acc(e, field, amount, at) => Ok(Assertion::Acc(
-                e.copy(alloc)?,
-                *field,
-                amount.copy(alloc)?,
-                *at,
-            )),
-            Assertion::Inst(predicate, args, amount, at) => Ok(Assertion::Inst(
-                *predicate,
-                copies(alloc, args)?,
-                amount.copy(alloc)?,
-                *at,
-            )),
-            Assertion::And(a, b) => Ok(Assertion::And(
-                boxed_assertion(alloc, a)?,
-                boxed_assertion(alloc, b)?,
-            )),
-            Assertion::Implies(e, a) => Ok(Assertion::Implies(
-                e.copy(alloc)?,
-                boxed_assertion(alloc, a)?,
-            )),
-            Assertion::Choose(e, a, b) => Ok(Assertion::Choose(
-                e.copy(alloc)?,
-                boxed_assertion(alloc, a)?,
-                boxed_assertion(alloc, b)?,
-            )),
+            Assertion::Acc(e, field, amount, at) => {
+                let (e, amount) = both(e.copy(alloc), amount.copy(alloc))?;
+                Ok(Assertion::Acc(e, *field, amount, *at))
+            }
+            Assertion::Inst(predicate, args, amount, at) => {
+                let (args, amount) = both(copies(alloc, args), amount.copy(alloc))?;
+                Ok(Assertion::Inst(*predicate, args, amount, *at))
+            }
+            Assertion::And(a, b) => {
+                let (a, b) = both(boxed_assertion(alloc, a), boxed_assertion(alloc, b))?;
+                Ok(Assertion::And(a, b))
+            }
+            Assertion::Implies(e, a) => {
+                let (e, a) = both(e.copy(alloc), boxed_assertion(alloc, a))?;
+                Ok(Assertion::Implies(e, a))
+            }
+            Assertion::Choose(e, a, b) => {
+                let sides = both(boxed_assertion(alloc, a), boxed_assertion(alloc, b));
+                let (e, (a, b)) = both(e.copy(alloc), sides)?;
+                Ok(Assertion::Choose(e, a, b))
+            }
         }
     }
 }
@@ -124,5 +124,18 @@ impl Assertion {
 fn boxed_assertion(alloc: Global, a: &Assertion) -> Result<Box<Assertion>, Memory>
     ensures { IfOk result (λ b. assertion_of b.value ≡ assertion_of a.now) }
 {
-    Ok(Box::new(alloc, a.copy(alloc)?)?)
+    boxed(alloc, a.copy(alloc)?)
+}
+
+/// Both values, or the error of the first that failed. Each is dropped here, where nothing is known of its type.
+fn both<A: Drop, B: Drop>(
+    first: Result<A, Memory>,
+    second: Result<B, Memory>,
+) -> Result<(A, B), Memory>
+    ensures { IfOk result (λ r. (first ≡ Ok r.0) × (second ≡ Ok r.1)) }
+{
+    match (first, second) {
+        (Ok(first), Ok(second)) => Ok((first, second)),
+        (Err(error), _) | (_, Err(error)) => Err(error),
+    }
 }

@@ -41,7 +41,7 @@ pub enum Op {
 
 /// An expression.
 #[cycle(trees)]
-#[derive(Debug, PartialEq, Eq, Drop)]
+#[derive(Drop)]
 pub enum Expr {
     /// The variable of this number.
     Var(u32),
@@ -70,7 +70,7 @@ pub enum Expr {
 
 /// An instance that is unfolded for one expression.
 #[cycle(trees)]
-#[derive(Debug, PartialEq, Eq, Drop)]
+#[derive(Drop)]
 pub struct Opened {
     pub predicate: u32,
     pub args: Vec<Expr>,
@@ -85,7 +85,7 @@ pub struct Opened {
 
 /// The amount of an accessibility predicate. One that was left out is `write`.
 #[cycle(trees)]
-#[derive(Debug, PartialEq, Eq, Drop)]
+#[derive(Drop)]
 pub enum Amt {
     Is(Expr),
     Wildcard,
@@ -93,7 +93,7 @@ pub enum Amt {
 
 /// An assertion.
 #[cycle(trees)]
-#[derive(Debug, PartialEq, Eq, Drop)]
+#[derive(Drop)]
 pub enum Assertion {
     /// The expression is true. The place is that of its leftmost token, parentheses not counted.
     Fact(Expr, Pos),

@@ -16,6 +16,3 @@ pub use exprs::{Amt, Assertion, Expr, Op, Opened};
 pub use programs::{Body, Method, Predicate, Program, Unit};
 pub use stmts::{FoldStmt, Loop, Stmt};
 pub use weights::{MAX_WEIGHT, weight};
-
-#[cfg(test)]
-mod tests;

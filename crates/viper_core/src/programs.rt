@@ -4,7 +4,7 @@ use vb_base::{Ident, Pos};
 use vb_value::{Layout, Ty};
 
 /// A predicate.
-#[derive(Debug, PartialEq, Eq, Drop)]
+#[derive(Drop)]
 pub struct Predicate {
     pub name: Ident,
     /// The place of the word `predicate`.
@@ -17,7 +17,7 @@ pub struct Predicate {
 }
 
 /// A method. Its variables are numbered: parameters, returns, then locals in the order of their declarations.
-#[derive(Debug, PartialEq, Eq, Drop)]
+#[derive(Drop)]
 pub struct Method {
     pub name: Ident,
     /// The place of the word `method`.
@@ -40,7 +40,7 @@ pub struct Method {
 }
 
 /// The body of a method.
-#[derive(Debug, PartialEq, Eq, Drop)]
+#[derive(Drop)]
 pub struct Body {
     /// The place of its `{`.
     pub turn: Pos,
@@ -55,7 +55,7 @@ pub enum Unit {
 }
 
 /// A program.
-#[derive(Debug, Drop)]
+#[derive(Drop)]
 pub struct Program {
     /// The names of the fields.
     pub fields: Vec<Ident>,

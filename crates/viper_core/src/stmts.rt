@@ -3,7 +3,7 @@ use crate::{Assertion, Expr};
 use vb_base::Pos;
 
 /// The instance of a `fold` or `unfold`.
-#[derive(Debug, PartialEq, Eq, Drop)]
+#[derive(Drop)]
 pub struct FoldStmt {
     pub at: Pos,
     pub predicate: u32,
@@ -18,7 +18,7 @@ pub struct FoldStmt {
 ///
 /// A `var` whose right side is a call or a `new` is that `Call` or `New`, which then declares its target.
 #[cycle(blocks)]
-#[derive(Debug, PartialEq, Eq, Drop)]
+#[derive(Drop)]
 pub enum Stmt {
     /// `var x: T` or `var x: T := a`, with the number of the variable
     Var(Pos, u32, Option<Expr>),
@@ -43,7 +43,7 @@ pub enum Stmt {
 
 /// A loop.
 #[cycle(blocks)]
-#[derive(Debug, PartialEq, Eq, Drop)]
+#[derive(Drop)]
 pub struct Loop {
     pub at: Pos,
     pub guard: Expr,
