@@ -6,3 +6,5 @@ pub mod WithinLaws
 pub mod PlainLaws
 pub mod OldLaws
 pub mod SignLaws
+pub mod RunLaws
+pub mod RunBoundLaws

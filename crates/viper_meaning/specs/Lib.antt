@@ -4,3 +4,9 @@ pub mod Places
 pub mod Value
 pub mod Compared
 pub mod Kept
+pub mod Run
+pub mod Resource
+pub mod Assertions
+pub mod Forgotten
+pub mod ComparedRuns
+pub mod Sat

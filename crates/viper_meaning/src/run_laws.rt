@@ -1,0 +1,45 @@
+//! Laws of runs, each as the contract of a function that does nothing.
+
+ghost use Rattle.std.specs.Prelude.{◌≡◌, ◌++◌, List, false};
+ghost use Rattle.vb_value.specs.Bound.{Unbounded, Bounded};
+ghost use Rattle.vb_value.specs.Fraction.{Fraction};
+ghost use Rattle.vb_value.specs.Layout.{Layout};
+ghost use Rattle.viper_core.specs.Expr as t;
+ghost use Rattle.viper_state.specs.Choice.{Choice};
+ghost use Rattle.viper_state.specs.State.{State};
+ghost use Rattle.viper_state.specs.Run.{Scene};
+ghost use Rattle.viper_meaning.specs.Run.{Run, on, then_do, then_ran, is_short, with_more};
+ghost use Rattle.viper_meaning.specs.ComparedRuns.{is_over};
+ghost use Rattle.viper_meaning.specs.Assertions.{produce, consume};
+ghost use Rattle.viper_meaning.specs.Forgotten.{forget};
+
+/// A run after a run is the first on the choices, and then the second on those that it left.
+pub fn a_run_goes_on_with_what_is_left()
+    ensures { (first : Run State) (second : State → Run State) (choices : List Choice)
+        → on (then_do first second) choices ≡ then_ran (on first choices) (λ s. on (second s)) }
+{}
+
+/// Choices that are left over do not change the end of a run.
+pub fn choices_left_over_change_nothing()
+    ensures { (r : Run State) (choices more : List Choice) → is_short (on r choices) ≡ false
+        → on r (choices ++ more) ≡ with_more more (on r choices) }
+{}
+
+/// A run within the bound that is not Over is the run without it, with the same events, end and choices left.
+pub fn the_bound_changes_nothing_else_of_a_run()
+    ensures produce { (a : t.Assertion) (sc : Scene) (k : Fraction) (s : State) (choices : List Choice)
+        → is_over (on (produce Bounded a sc k s) choices) ≡ false
+        → on (produce Bounded a sc k s) choices ≡ on (produce Unbounded a sc k s) choices }
+    ensures consume { (a : t.Assertion) (start : State) (sc : Scene) (k : Fraction) (left : State) (choices : List Choice)
+        → is_over (on (consume Bounded a start sc k left) choices) ≡ false
+        → on (consume Bounded a start sc k left) choices ≡ on (consume Unbounded a start sc k left) choices }
+{}
+
+/// Without a bound nothing is Over.
+pub fn no_run_is_over_without_a_bound()
+    ensures produce { (a : t.Assertion) (sc : Scene) (k : Fraction) (s : State) (choices : List Choice)
+        → is_over (on (produce Unbounded a sc k s) choices) ≡ false }
+    ensures consume { (a : t.Assertion) (start : State) (sc : Scene) (k : Fraction) (left : State) (choices : List Choice)
+        → is_over (on (consume Unbounded a start sc k left) choices) ≡ false }
+    ensures forget { (layout : Layout) (s : State) (choices : List Choice) → is_over (on (forget layout s) choices) ≡ false }
+{}
