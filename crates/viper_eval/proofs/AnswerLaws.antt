@@ -1,21 +1,17 @@
 -- The ways to go on with an answer, one lemma for each.
-use Rattle.std.proofs.Common.{◌≡◌, refl, sym, ap, ◌∙◌, subst, Bool, true, false, Option, Some, None, List, [], ◌∷◌, ◌++◌, append_assoc, Result, Ok, Err, IsErrAnd, ℕ, if◌then◌else◌}
-use Rattle.std.specs.Option.{ok_or, option_map}
+use Rattle.std.proofs.Common.{◌≡◌, refl, sym, ap, ◌∙◌, subst, Bool, true, false, Option, Some, None, List, [], ◌∷◌, ◌++◌, append_assoc, Result, Ok, Err, IsErrAnd, not, if◌then◌else◌}
+use Rattle.std.specs.Option.{option_map}
 use Rattle.std.proofs.lemmas.List.{append-nil}
 use Rattle.std.proofs.lemmas.Result.{err_from_is_err_and}
-use Rattle.vb_value.specs.Content.{Content, Leaf, Pair}
-use Rattle.vb_value.specs.Content as tree
-use Rattle.vb_value.specs.Fraction.{Fraction}
-use Rattle.vb_value.specs.declared.values.Value.{Value}
-use Rattle.vb_value.specs.declared.values.Value.TheVariants.{Int, Bool as Truth, Ref, Perm}
 use Rattle.vb_base.specs.declared.places.Pos.{Pos}
+use Rattle.vb_value.specs.Bound.{Bounded}
+use Rattle.vb_value.specs.Content.{Content, Pair}
 use Rattle.viper_state.specs.Event.{Event}
 use Rattle.viper_state.specs.Event as event
-use Rattle.viper_meaning.specs.Ends.{Evaluated, End, ends, Is, Fails, Blocked, Over, is, after, then_with, with_found, unless, recorded, fitting, Bounded}
-use Rattle.viper_meaning.specs.Operators.{with_truth, with_perm}
-use Rattle.viper_meaning.specs.Places.{with_ref, with_unit, with_leaf, with_pair}
+use Rattle.viper_meaning.specs.Ends.{Evaluated, End, ends, Is, Fails, Blocked, Over, is, blocks, after, then_with, found, unless, recorded, fitting}
+use Rattle.viper_meaning.specs.Places.{pair_of}
 use Rattle.viper_eval.specs.Answers.{Answers, no_memory, goes, stops, stopped}
-use Rattle.viper_eval.specs.Steps.{halves}
+use Rattle.viper_eval.specs.Steps.{assumed}
 use Rattle.viper_eval.specs.declared.answers.Stop.{Stop}
 use Rattle.viper_eval.specs.declared.answers.Stop.TheVariants as stop
 use Rattle.viper_eval.specs.declared.answers.Halt.{Halt}
@@ -126,78 +122,21 @@ if_so {v = v} {b = b} {s = s} t i e {r = r} same h = subst (λ a. Answers v b (i
 pub if_not : {X Y : Type 0} {v : X → Y} {b s : List Event} (t : Bool) (i e : Evaluated Y) {r : Result X Halt} → t ≡ false → Answers v b e s r → Answers v b (if t then i else e) s r
 if_not {v = v} {b = b} {s = s} t i e {r = r} same h = subst (λ a. Answers v b (if a then i else e) s r) (sym same) h
 
--- what there is
+-- what is found through a view
 
-found_value : {X : Type 0} (o : Option X) (w : Stop) (x : X) → Ok x ≡ ok_or o w → o ≡ Some x
-found_value (Some y) w x h = cc
-found_value None w x h = cc
+pub found_as : {Q X : Type 0} (view : Q → X) (o : Option Q) (q : Q) → is q ≡ found o → is (view q) ≡ found (option_map view o)
+found_as view (Some y) q h = let same : q ≡ y = cc in ap (λ z. is (view z)) same
+found_as view None q h = cc
 
-found_stop : {X : Type 0} (o : Option X) (w y : Stop) → Err y ≡ ok_or o w → (o ≡ None) × (y ≡ w)
-found_stop (Some x) w y h = cc
-found_stop None w y h = (refl, cc)
+pub found_as_stops : {Q X : Type 0} (view : Q → X) (o : Option Q) (w : Stop) → stopping {X = Q} w ≡ found o → stopping {X = X} w ≡ found (option_map view o)
+found_as_stops view (Some y) (stop.Fails l) h = cc
+found_as_stops view (Some y) stop.Blocked h = cc
+found_as_stops view (Some y) (stop.Over at) h = cc
+found_as_stops view None (stop.Fails l) h = cc
+found_as_stops view None stop.Blocked h = refl
+found_as_stops view None (stop.Over at) h = cc
 
-pub found_then : {X Z W : Type 0} {u : Z → W} {b s : List Event} (o f : Option X) (w : Stop) (go : X → Evaluated W) (x : X) {r : Result Z Halt} → f ≡ o → Ok x ≡ ok_or f w → Answers u b (go x) s r → Answers u b (with_found o go) s r
-found_then {u = u} {b = b} {s = s} o f w go x {r = r} same there h = subst (λ p. Answers u b (with_found p go) s r) (sym (found_value f w x there) ∙ same) h
-
-pub found_stops : {X Z W : Type 0} {u : Z → W} {b : List Event} (o f : Option X) (go : X → Evaluated W) (y : Stop) → f ≡ o → Err y ≡ ok_or f stop.Blocked → Answers u b (with_found o go) b (Err (halt.Stops y))
-found_stops {u = u} {b = b} o f go y same there =
-    let gone = found_stop f stop.Blocked y there in
-    stops_with y (rw (gone.1, sym same ∙ gone.0) refl)
-
--- the same of what is found through a view
-pub found_as : {Q X Z W : Type 0} {u : Z → W} {b s : List Event} (o : Option X) (view : Q → X) (p : Option Q) (q : Q) (go : X → Evaluated W) {r : Result Z Halt} →
-    option_map view p ≡ o → p ≡ Some q → Answers u b (go (view q)) s r → Answers u b (with_found o go) s r
-found_as {u = u} {b = b} {s = s} o view p q go {r = r} same there h =
-    subst (λ x. Answers u b (with_found x go) s r) (ap (option_map view) (sym there) ∙ same) h
-
-pub found_as_stops : {Q X Z W : Type 0} {u : Z → W} {b : List Event} (o : Option X) (view : Q → X) (p : Option Q) (go : X → Evaluated W) (y : Stop) →
-    option_map view p ≡ o → Err y ≡ ok_or p stop.Blocked → Answers u b (with_found o go) b (Err (halt.Stops y))
-found_as_stops {u = u} {b = b} o view p go y same there =
-    let gone = found_stop p stop.Blocked y there in
-    stops_with y (rw (gone.1, sym same ∙ ap (option_map view) gone.0) refl)
-
-pub found_first : {X Y Z : Type 0} (o : Option X) (f : X → Evaluated Y) (go : Y → Evaluated Z) → with_found o (λ x. then_with (f x) go) ≡ then_with (with_found o f) go
-found_first (Some x) f go = refl
-found_first None f go = refl
-
--- values and contents of one kind
-
-pub truth_way : {X : Type 0} (v : Value) (go : Bool → Evaluated X) → with_truth v go ≡ then_with (with_truth v is) go
-truth_way (Truth b) go = sym (nothing_first (go b))
-truth_way (Int n) go = refl
-truth_way (Ref r) go = refl
-truth_way (Perm q) go = refl
-
-pub perm_way : {X : Type 0} (v : Value) (go : Fraction → Evaluated X) → with_perm v go ≡ then_with (with_perm v is) go
-perm_way (Perm q) go = sym (nothing_first (go q))
-perm_way (Int n) go = refl
-perm_way (Truth b) go = refl
-perm_way (Ref r) go = refl
-
-pub ref_way : {X : Type 0} (v : Value) (go : ℕ → Evaluated X) → with_ref v go ≡ then_with (with_ref v is) go
-ref_way (Ref r) go = sym (nothing_first (go r))
-ref_way (Int n) go = refl
-ref_way (Truth b) go = refl
-ref_way (Perm q) go = refl
-
-pub found_way : {X Y : Type 0} (o : Option X) (go : X → Evaluated Y) → with_found o go ≡ then_with (with_found o is) go
-found_way (Some x) go = sym (nothing_first (go x))
-found_way None go = refl
-
-pub leaf_way : {X : Type 0} (c : Content) (go : Value → Evaluated X) → with_leaf c go ≡ then_with (with_leaf c is) go
-leaf_way (Leaf v) go = sym (nothing_first (go v))
-leaf_way tree.Unit go = refl
-leaf_way (Pair x y) go = refl
-
-pub unit_way : {X : Type 0} (c : Content) (go : Evaluated X) → with_unit c go ≡ then_with (with_unit c (is (tt {0}))) (λ n. go)
-unit_way tree.Unit go = sym (nothing_first go)
-unit_way (Leaf v) go = refl
-unit_way (Pair x y) go = refl
-
-pub pair_way : {X : Type 0} (c : Content) (go : Content → Content → Evaluated X) → with_pair c go ≡ then_with (halves c) (λ p. go p.0 p.1)
-pair_way (Pair x y) go = refl
-pair_way tree.Unit go = refl
-pair_way (Leaf v) go = refl
+-- ---- ways to go on
 
 pub then_same : {X Y : Type 0} (e : Evaluated X) (f g : X → Evaluated Y) → ((x : X) → f x ≡ g x) → then_with e f ≡ then_with e g
 then_same e f g h = λ i. then_with e (λ x. h x i)
@@ -220,36 +159,13 @@ then_then (ends events (Fails l)) f go = refl
 then_then (ends events Blocked) f go = refl
 then_then (ends events (Over at)) f go = refl
 
--- the same, where the value of one kind is asked for first
+-- an answer with no events, and what goes on from it
 
-module _ {W : Type 0} (e : Evaluated Value) where
-  truth_first : (go : Bool → Evaluated W) → then_with e (λ v. with_truth v go) ≡ then_with (then_with e (λ v. with_truth v is)) go
-  truth_first go = then_same e _ _ (λ v. truth_way v go) ∙ sym (then_then e (λ v. with_truth v is) go)
+pub from_value : {X Y : Type 0} {e : Evaluated X} (go : X → Evaluated Y) {x : X} → is x ≡ e → go x ≡ then_with e go
+from_value go {x = x} h = sym (nothing_first (go x)) ∙ ap (λ f. then_with f go) h
 
-  perm_first : (go : Fraction → Evaluated W) → then_with e (λ v. with_perm v go) ≡ then_with (then_with e (λ v. with_perm v is)) go
-  perm_first go = then_same e _ _ (λ v. perm_way v go) ∙ sym (then_then e (λ v. with_perm v is) go)
-
-  ref_first : (go : ℕ → Evaluated W) → then_with e (λ v. with_ref v go) ≡ then_with (then_with e (λ v. with_ref v is)) go
-  ref_first go = then_same e _ _ (λ v. ref_way v go) ∙ sym (then_then e (λ v. with_ref v is) go)
-
-module _ {Z W : Type 0} {u : Z → W} {b n : List Event} (e : Evaluated Value) where
-  pub truth_goes : (go : Bool → Evaluated W) {m : List Event} {x : Bool} {r : Result Z Halt} → Answers (λ x. x) b (then_with e (λ v. with_truth v is)) m (Ok x) → Answers u m (go x) n r → Answers u b (then_with e (λ v. with_truth v go)) n r
-  truth_goes go h k = same_answers (truth_first e go) (goes_then go h k)
-
-  pub truth_stops : (go : Bool → Evaluated W) {w : Halt} → Answers {X = Bool} (λ x. x) b (then_with e (λ v. with_truth v is)) n (Err w) → Answers u b (then_with e (λ v. with_truth v go)) n (Err w)
-  truth_stops go h = same_answers (truth_first e go) (stops_then go h)
-
-  pub perm_goes : (go : Fraction → Evaluated W) {m : List Event} {x : Fraction} {r : Result Z Halt} → Answers (λ x. x) b (then_with e (λ v. with_perm v is)) m (Ok x) → Answers u m (go x) n r → Answers u b (then_with e (λ v. with_perm v go)) n r
-  perm_goes go h k = same_answers (perm_first e go) (goes_then go h k)
-
-  pub perm_stops : (go : Fraction → Evaluated W) {w : Halt} → Answers {X = Fraction} (λ x. x) b (then_with e (λ v. with_perm v is)) n (Err w) → Answers u b (then_with e (λ v. with_perm v go)) n (Err w)
-  perm_stops go h = same_answers (perm_first e go) (stops_then go h)
-
-  pub ref_goes : (go : ℕ → Evaluated W) {m : List Event} {x : ℕ} {r : Result Z Halt} → Answers (λ x. x) b (then_with e (λ v. with_ref v is)) m (Ok x) → Answers u m (go x) n r → Answers u b (then_with e (λ v. with_ref v go)) n r
-  ref_goes go h k = same_answers (ref_first e go) (goes_then go h k)
-
-  pub ref_stops : (go : ℕ → Evaluated W) {w : Halt} → Answers {X = ℕ} (λ x. x) b (then_with e (λ v. with_ref v is)) n (Err w) → Answers u b (then_with e (λ v. with_ref v go)) n (Err w)
-  ref_stops go h = same_answers (ref_first e go) (stops_then go h)
+pub from_stop : {X Y : Type 0} {e : Evaluated X} (go : X → Evaluated Y) (w : Stop) → stopping {X = X} w ≡ e → stopping {X = Y} w ≡ then_with e go
+from_stop go w h = stopping_then w go ∙ ap (λ f. then_with f go) h
 
 -- a number that fits, and a test of it
 
@@ -272,5 +188,27 @@ calmly {e = e} b (goes {x = x} h) = goes (ap (after b) (sym (nothing_first e) �
 calmly {e = e} b (stops {w = w} h) = stops (ap (after b) (sym (nothing_first e) ∙ h) ∙ after_none b _)
 
 -- the parts of a content, after they were recorded
-pub split_goes : {X : Type 0} {v : X → Content × Content} {before since : List Event} (x : X) (a b c : Content) → c ≡ Pair a b → since ≡ before ++ event.Split a b ∷ [] → v x ≡ (a, b) → Answers v before (halves c) since (Ok x)
-split_goes {before = before} x a b c is events parts = goes (ap (λ d. after before (halves d)) is ∙ (λ i. ends (sym events i) (Is (sym parts i))))
+pub split_goes : {X : Type 0} {v : X → Content × Content} {before since : List Event} (x : X) (a b c : Content) → c ≡ Pair a b → since ≡ before ++ event.Split a b ∷ [] → v x ≡ (a, b) → Answers v before (pair_of c) since (Ok x)
+split_goes {before = before} x a b c is events parts = goes (ap (λ d. after before (pair_of d)) is ∙ (λ i. ends (sym events i) (Is (sym parts i))))
+
+-- ---- assumptions
+
+pub assumed_holds : (t : Bool) (x : Unit {0}) → is x ≡ assumed t → t ≡ true
+assumed_holds true x h = refl
+assumed_holds false x h = cc
+
+pub assumed_fails : (t : Bool) (w : Stop) → stopping w ≡ assumed t → (t ≡ false) × (w ≡ stop.Blocked)
+assumed_fails true (stop.Fails l) h = cc
+assumed_fails true stop.Blocked h = cc
+assumed_fails true (stop.Over at) h = cc
+assumed_fails false (stop.Fails l) h = cc
+assumed_fails false stop.Blocked h = (refl, refl)
+assumed_fails false (stop.Over at) h = cc
+
+-- the same as a test of what blocks
+
+pub unless_holds : {Y Z : Type 0} {v : Z → Y} {b : List Event} (t : Bool) (e : Evaluated Y) (x : Unit {0}) {r : Result Z Halt} → is x ≡ assumed t → Answers v b e b r → Answers v b (unless (not t) blocks e) b r
+unless_holds t e x holds h = unless_not (not t) blocks e (ap not (assumed_holds t x holds)) h
+
+pub unless_fails : {Y Z : Type 0} {v : Z → Y} {b : List Event} (t : Bool) (e : Evaluated Y) (w : Stop) → stopping w ≡ assumed t → Answers v b (unless (not t) blocks e) b (Err (halt.Stops w))
+unless_fails t e w fails = let no = assumed_fails t w fails in unless_so (not t) blocks e (ap not no.0) (stops_with w (ap stopping no.1))

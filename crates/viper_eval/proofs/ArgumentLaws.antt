@@ -9,7 +9,8 @@ use Rattle.viper_core.specs.declared.exprs.Expr as expr
 use Rattle.viper_state.specs.State.{State}
 use Rattle.viper_state.specs.Event.{Event}
 use Rattle.viper_state.specs.Run.{Scene}
-use Rattle.viper_meaning.specs.Ends.{Evaluated, ends, Is, Bounded, is, after, then_with}
+use Rattle.vb_value.specs.Bound.{Bounded}
+use Rattle.viper_meaning.specs.Ends.{Evaluated, ends, Is, is, after, then_with}
 use Rattle.viper_meaning.specs.Value.{value, values}
 use Rattle.viper_eval.specs.Answers.{Answers, goes}
 use Rattle.viper_eval.specs.declared.answers.Halt.{Halt}

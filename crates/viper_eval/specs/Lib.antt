@@ -1,3 +1,4 @@
 pub mod Answers
 pub mod Lazy
 pub mod Steps
+pub mod View

@@ -30,15 +30,18 @@ pub enum Opening1 {
 
 /// An end without a value.
 #[derive(Clone, Copy, Debug, PartialEq, Eq)]
-pub(crate) enum Stop {
+pub enum Stop {
     Fails(Label),
+    /// An assumption does not hold.
     Blocked,
+    /// A number left its bound, at this place.
     Over(Pos),
 }
 
 /// Why there is no value.
 #[derive(Clone, Copy, Debug, PartialEq, Eq)]
-pub(crate) enum Halt {
+pub enum Halt {
+    /// There was no memory.
     Memory,
     Stops(Stop),
 }

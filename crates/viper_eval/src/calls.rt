@@ -1,5 +1,6 @@
 // The calls that other crates make.
 ghost use Rattle.std.specs.Prelude.{◌≡◌, [], List, IfOk};
+ghost use Rattle.vb_value.specs.Bound.{Bounded};
 ghost use Rattle.vb_value.specs.Content.{IsWithinContent};
 ghost use Rattle.vb_value.specs.View.{content_of};
 ghost use Rattle.viper_core.specs.View.{expr_of, assertion_of};
@@ -8,7 +9,7 @@ ghost use Rattle.viper_state.specs.State as tree;
 ghost use Rattle.viper_state.specs.View.{scene_of, state_of, feed_of};
 ghost use Rattle.viper_state.specs.Within.{IsWithinState, IsWithinScene};
 ghost use Rattle.viper_meaning.specs.Ends as m;
-ghost use Rattle.viper_meaning.specs.Ends.{Bounded, the_end};
+ghost use Rattle.viper_meaning.specs.Ends.{the_end};
 ghost use Rattle.viper_core.specs.Literals.{IsWithinExpr, IsWithinAssertion};
 ghost use Rattle.viper_core.specs.Plain.{OpensNothing};
 ghost use Rattle.viper_meaning.specs.Value.{value, opened};
@@ -16,6 +17,7 @@ ghost use Rattle.viper_eval.specs.Answers.{Answers, end_of, goes_with};
 
 use crate::answers::{Evaluated, Halt, Opening1, Stop};
 use crate::readings::{evaluate, open};
+use crate::scenes::SceneRef;
 use std::alloc::Global;
 use vb_base::Memory;
 use vb_value::{Content, Frac, Value};
@@ -74,7 +76,7 @@ pub fn eval_open(
         (value Bounded (expr_of e.now) (state_of now.now) (scene_of scene.now)) ≡ m.ends (feed_of feed.new).events (end_of v)) }
     ensures no_choice { (feed_of feed.new).left ≡ (feed_of feed.old).left }
 {
-    evaluated(evaluate(alloc, e, now, scene, feed))
+    evaluated(evaluate(alloc, e, now, SceneRef::of(scene), feed))
 }
 
 /// The same without the events. An expression without `unfolding` records none.
@@ -120,5 +122,5 @@ pub fn open_body(
         ≡ m.ends (feed_of feed.new).events (goes_with (state_of state.new) o)) }
     ensures no_choice { (feed_of feed.new).left ≡ (feed_of feed.old).left }
 {
-    opening(open(alloc, body, content, state, scene, scale, feed))
+    opening(open(alloc, body, content, state, SceneRef::of(scene), scale, feed))
 }

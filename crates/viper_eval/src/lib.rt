@@ -6,9 +6,11 @@ mod calls;
 mod operators;
 mod places;
 mod readings;
+mod scenes;
 
-pub use answers::{Evaluated, Opening1};
+pub use answers::{Evaluated, Halt, Opening1, Stop};
 pub use calls::{eval, eval_open, open_body};
-
-#[cfg(test)]
-mod tests;
+pub use operators::{assumed, failure, fitted};
+pub use places::key_of;
+pub use readings::{evaluate, evaluate_all, permission_of, reference_of, truth_of};
+pub use scenes::SceneRef;

@@ -1,29 +1,29 @@
 // The values of operators.
-ghost use Rattle.std.specs.Prelude.{◌≡◌, ℤ, Bool, pos, neg_ℤ, not};
+ghost use Rattle.std.specs.Prelude.{◌≡◌, ℤ, Bool, Option, pos, neg_ℤ, not};
 ghost use Rattle.std.specs.Ordering.{int_eq};
 ghost use Rattle.std.specs.Int.{int_div_euclid, int_rem_euclid};
 ghost use Rattle.vb_value.specs.Bound.{IsWithin, value_if};
 ghost use Rattle.vb_value.specs.Fraction.{whole, IsWithinFraction, product};
 ghost use Rattle.vb_value.specs.Value.{IsWithinValue};
-ghost use Rattle.viper_state.specs.View.{scene_of};
-ghost use Rattle.viper_meaning.specs.Ends as m;
-ghost use Rattle.viper_meaning.specs.Ends.{Bounded, fitting};
+ghost use Rattle.vb_value.specs.Bound.{Bounded};
+ghost use Rattle.viper_meaning.specs.Ends.{found, fitting};
 ghost use Rattle.viper_meaning.specs.Operators as o;
-ghost use Rattle.viper_meaning.specs.Places as places;
 ghost use Rattle.viper_eval.specs.Answers.{ended, compares};
-ghost use Rattle.viper_eval.specs.Lazy.{settled, combined};
+ghost use Rattle.viper_meaning.specs.Operators.{class_of};
+ghost use Rattle.viper_eval.specs.Lazy.{settled_by, combined};
 ghost use Rattle.viper_eval.specs.Steps.{assumed};
+ghost use Rattle.viper_eval.specs.View.{lent};
 
 use crate::answers::Stop;
+use crate::scenes::SceneRef;
 use std::cmp::Ordering;
 use vb_base::{Kind, Label, Pos};
 use vb_value::{Frac, Over, Value, int_add, int_div, int_mod, int_mul, int_sub};
 use viper_core::Op;
-use viper_state::Scene;
 
-/// A failure in the step that is running.
-pub(crate) fn failure(scene: &Scene, part: Pos, kind: Kind) -> Stop
-    ensures { result ≡ Stop.Fails (record { at = scene.now.at; part = part; kind = kind }) }
+/// A failure of this kind in the step that is running, for the part at this place.
+pub fn failure(scene: SceneRef, part: Pos, kind: Kind) -> Stop
+    ensures { result ≡ Stop.Fails (record { at = scene.entry.at; part = part; kind = kind }) }
 {
     Stop::Fails(Label {
         at: scene.at,
@@ -32,8 +32,8 @@ pub(crate) fn failure(scene: &Scene, part: Pos, kind: Kind) -> Stop
     })
 }
 
-/// The number, where it fits.
-pub(crate) fn fitted<T>(answer: Result<T, Over>, at: Pos) -> Result<T, Stop>
+/// The number, where its computation fits, or an end at this place.
+pub fn fitted<T>(answer: Result<T, Over>, at: Pos) -> Result<T, Stop>
     ensures { (fits : Bool) (x : T) → answer ≡ value_if fits x → ended result ≡ fitting Bounded fits at x }
 {
     match answer {
@@ -42,8 +42,19 @@ pub(crate) fn fitted<T>(answer: Result<T, Over>, at: Pos) -> Result<T, Stop>
     }
 }
 
+/// What there is, which in a typed program is never nothing.
+pub(crate) fn found<T>(there: Option<T>) -> Result<T, Stop>
+    ensures { ended result ≡ found there }
+{
+    match there {
+        Some(found) => Ok(found),
+        None => Err(Stop::Blocked),
+    }
+}
+
+/// The value of a Bool.
 pub(crate) fn truth(value: Value) -> Result<bool, Stop>
-    ensures { ended result ≡ o.with_truth value m.is }
+    ensures { ended result ≡ o.truth_of value }
 {
     match value {
         Value::Bool(truth) => Ok(truth),
@@ -51,15 +62,16 @@ pub(crate) fn truth(value: Value) -> Result<bool, Stop>
     }
 }
 
-/// An assumption, without which a run goes no further.
-pub(crate) fn assumed(holds: bool) -> Result<(), Stop>
+/// Goes on where an assumption holds, and else is blocked.
+pub fn assumed(holds: bool) -> Result<(), Stop>
     ensures { ended result ≡ assumed holds }
 {
     if holds { Ok(()) } else { Err(Stop::Blocked) }
 }
 
+/// The value of a Perm.
 pub(crate) fn permission(value: Value) -> Result<Frac, Stop>
-    ensures { ended result ≡ o.with_perm value m.is }
+    ensures { ended result ≡ o.perm_of value }
 {
     match value {
         Value::Perm(amount) => Ok(amount),
@@ -67,8 +79,9 @@ pub(crate) fn permission(value: Value) -> Result<Frac, Stop>
     }
 }
 
+/// The value of a Ref.
 pub(crate) fn reference(value: Value) -> Result<u64, Stop>
-    ensures { ended result ≡ places.with_ref value m.is }
+    ensures { ended result ≡ o.ref_of value }
 {
     match value {
         Value::Ref(reference) => Ok(reference),
@@ -199,9 +212,9 @@ fn ordered(left: Value, right: Value, at: Pos) -> Result<Ordering, Stop>
 }
 
 /// `/` by a whole number.
-fn divided(scene: &Scene, amount: Frac, number: i128, at: Pos) -> Result<Value, Stop>
+fn divided_by(scene: SceneRef, amount: Frac, number: i128, at: Pos) -> Result<Value, Stop>
     requires { IsWithin number }
-    ensures { ended result ≡ o.fraction_by Bounded (scene_of scene.now) amount number at }
+    ensures { ended result ≡ o.fraction_by Bounded (lent scene.entry) amount number at }
 {
     if is_zero(number) {
         return Err(failure(scene, at, Kind::Div));
@@ -209,26 +222,26 @@ fn divided(scene: &Scene, amount: Frac, number: i128, at: Pos) -> Result<Value, 
     Ok(Value::Perm(fitted(Frac::div_int(amount, number), at)?))
 }
 
-fn quotient(scene: &Scene, left: Value, right: Value, at: Pos) -> Result<Value, Stop>
+fn quotient(scene: SceneRef, left: Value, right: Value, at: Pos) -> Result<Value, Stop>
     requires left_within { IsWithinValue left }
     requires right_within { IsWithinValue right }
-    ensures { ended result ≡ o.quotient_of Bounded (scene_of scene.now) left right at }
+    ensures { ended result ≡ o.quotient_of Bounded (lent scene.entry) left right at }
 {
     let Value::Int(number) = right else {
         return Err(Stop::Blocked);
     };
     match left {
-        Value::Int(x) => divided(scene, fraction(x), number, at),
-        Value::Perm(p) => divided(scene, p, number, at),
+        Value::Int(x) => divided_by(scene, fraction(x), number, at),
+        Value::Perm(p) => divided_by(scene, p, number, at),
         _ => Err(Stop::Blocked),
     }
 }
 
 /// `\\`
-fn int_quotient(scene: &Scene, left: Value, right: Value, at: Pos) -> Result<Value, Stop>
+fn int_quotient(scene: SceneRef, left: Value, right: Value, at: Pos) -> Result<Value, Stop>
     requires left_within { IsWithinValue left }
     requires right_within { IsWithinValue right }
-    ensures { ended result ≡ o.euclidean (scene_of scene.now) int_div_euclid left right at }
+    ensures { ended result ≡ o.euclidean (lent scene.entry) int_div_euclid left right at }
 {
     match left {
         Value::Int(x) => match right {
@@ -245,10 +258,10 @@ fn int_quotient(scene: &Scene, left: Value, right: Value, at: Pos) -> Result<Val
 }
 
 /// `%`
-fn int_remainder(scene: &Scene, left: Value, right: Value, at: Pos) -> Result<Value, Stop>
+fn int_remainder(scene: SceneRef, left: Value, right: Value, at: Pos) -> Result<Value, Stop>
     requires left_within { IsWithinValue left }
     requires right_within { IsWithinValue right }
-    ensures { ended result ≡ o.euclidean (scene_of scene.now) int_rem_euclid left right at }
+    ensures { ended result ≡ o.euclidean (lent scene.entry) int_rem_euclid left right at }
 {
     match left {
         Value::Int(x) => match right {
@@ -264,21 +277,14 @@ fn int_remainder(scene: &Scene, left: Value, right: Value, at: Pos) -> Result<Va
     }
 }
 
-/// An operator that looks at both sides.
-pub(crate) fn apply(
-    scene: &Scene,
-    op: Op,
-    left: Value,
-    right: Value,
-    at: Pos,
-) -> Result<Value, Stop>
+/// The value of an operator that looks at both sides and never fails.
+fn plain(op: Op, left: Value, right: Value, at: Pos) -> Result<Value, Stop>
     requires left_within { IsWithinValue left }
     requires right_within { IsWithinValue right }
-    ensures { ended result ≡ o.apply Bounded (scene_of scene.now) op left right at }
+    ensures { ended result ≡ o.plain Bounded op left right at }
 {
     match op {
         Op::Iff => same_truth(left, right),
-        Op::Implies | Op::Or | Op::And => Err(Stop::Blocked),
         Op::Eq => Ok(Value::Bool(left == right)),
         Op::Ne => Ok(Value::Bool(left != right)),
         Op::Lt => Ok(Value::Bool(ordered(left, right, at)?.is_lt())),
@@ -288,15 +294,34 @@ pub(crate) fn apply(
         Op::Add => sum(left, right, at),
         Op::Sub => difference(left, right, at),
         Op::Mul => product(left, right, at),
-        Op::Divide => quotient(scene, left, right, at),
-        Op::IntDiv => int_quotient(scene, left, right, at),
-        Op::IntMod => int_remainder(scene, left, right, at),
+        Op::Implies | Op::Or | Op::And => Err(Stop::Blocked),
+        Op::Divide | Op::IntDiv | Op::IntMod => Err(Stop::Blocked),
     }
 }
 
-/// The value of a lazy operator, where the left side alone tells it.
+/// The value of a division.
+fn divided(
+    scene: SceneRef,
+    op: Op,
+    left: Value,
+    right: Value,
+    at: Pos,
+) -> Result<Value, Stop>
+    requires left_within { IsWithinValue left }
+    requires right_within { IsWithinValue right }
+    ensures { ended result ≡ o.divided Bounded (lent scene.entry) op left right at }
+{
+    match op {
+        Op::Divide => quotient(scene, left, right, at),
+        Op::IntDiv => int_quotient(scene, left, right, at),
+        Op::IntMod => int_remainder(scene, left, right, at),
+        _ => Err(Stop::Blocked),
+    }
+}
+
+/// What the left side alone tells of the value.
 pub(crate) fn settled(op: Op, left: Value) -> Result<Option<bool>, Stop>
-    ensures { ended result ≡ settled op left }
+    ensures { ended result ≡ settled_by (class_of op) op left }
 {
     match op {
         Op::And => Ok(if truth(left)? { None } else { Some(false) }),
@@ -306,9 +331,9 @@ pub(crate) fn settled(op: Op, left: Value) -> Result<Option<bool>, Stop>
     }
 }
 
-/// The value of an operator whose left side leaves it open: for a lazy one that of the right side.
+/// The value where the left side leaves it open: of a lazy operator that of the right side.
 pub(crate) fn combined(
-    scene: &Scene,
+    scene: SceneRef,
     op: Op,
     left: Value,
     right: Value,
@@ -316,10 +341,11 @@ pub(crate) fn combined(
 ) -> Result<Value, Stop>
     requires left_within { IsWithinValue left }
     requires right_within { IsWithinValue right }
-    ensures { ended result ≡ combined (scene_of scene.now) op left right at }
+    ensures { ended result ≡ combined (class_of op) (lent scene.entry) op left right at }
 {
     match op {
         Op::Implies | Op::Or | Op::And => Ok(right),
-        _ => apply(scene, op, left, right, at),
+        Op::Divide | Op::IntDiv | Op::IntMod => divided(scene, op, left, right, at),
+        _ => plain(op, left, right, at),
     }
 }

@@ -1,70 +1,46 @@
 // Reading a place, taking from an instance, and filling both from a content.
-ghost use Rattle.std.specs.Prelude.{◌≡◌, [], pos};
-ghost use Rattle.std.specs.Ordering.{int_eq};
+ghost use Rattle.std.specs.Prelude.{◌≡◌, []};
+ghost use Rattle.vb_value.specs.Bound.{Bounded};
 ghost use Rattle.vb_value.specs.Content as tree;
 ghost use Rattle.vb_value.specs.Value.{type_of, value_eq, same_type};
 ghost use Rattle.vb_value.specs.View.{content_of};
 ghost use Rattle.viper_state.specs.Event as event;
-ghost use Rattle.viper_state.specs.View.{scene_of, state_of, feed_of, event_of};
-ghost use Rattle.viper_meaning.specs.Ends as m;
-ghost use Rattle.viper_meaning.specs.Ends.{Bounded};
+ghost use Rattle.viper_state.specs.View.{state_of, feed_of, event_of};
+ghost use Rattle.viper_meaning.specs.Ends.{found};
 ghost use Rattle.viper_meaning.specs.Places as p;
 ghost use Rattle.viper_eval.specs.Answers.{ended, Answers};
-ghost use Rattle.viper_eval.specs.Steps.{place_filled, instance_filled, halves};
+ghost use Rattle.viper_eval.specs.View.{lent};
 
 use crate::answers::{Halt, Stop};
-use crate::operators::{failure, fitted};
+use crate::operators::{assumed, failure, fitted, found};
+use crate::scenes::SceneRef;
 use std::alloc::Global;
 use vb_base::{Kind, Pos};
 use vb_value::{Content, Frac, Key, KeyPart, Value};
-use viper_state::{Event, Feed, Scene, State};
-
-fn is_negative(amount: Frac) -> bool
-    ensures { result ≡ p.is_negative amount }
-{
-    Frac::num(amount) < 0
-}
-
-fn is_positive(amount: Frac) -> bool
-    ensures { result ≡ p.is_positive amount }
-{
-    Frac::num(amount) > 0
-}
-
-fn is_none(amount: Frac) -> bool
-    ensures { result ≡ p.is_none amount }
-{
-    Frac::num(amount) == 0
-}
-
-fn is_above_one(amount: Frac) -> bool
-    ensures { result ≡ p.is_above_one amount }
-{
-    Frac::num(amount) > Frac::den(amount)
-}
+use viper_state::{Event, Feed, State};
 
 /// The value of a field.
 pub(crate) fn read_field(
-    scene: &Scene,
+    scene: SceneRef,
     now: &State,
     field: u32,
     at: Pos,
     reference: u64,
 ) -> Result<Value, Stop>
-    ensures { ended result ≡ p.read_field (scene_of scene.now) (state_of now.now) field at reference }
+    ensures { ended result ≡ p.read_field (lent scene.entry) (state_of now.now) field at reference }
 {
     if reference == 0 {
         return Err(failure(scene, at, Kind::Null));
     }
-    let held = now.mask_at(field, reference).ok_or(Stop::Blocked)?;
-    if is_none(held) {
+    let held = found(now.mask_at(field, reference))?;
+    if Frac::is_none(held) {
         return Err(failure(scene, at, Kind::Perm));
     }
-    now.value_at(field, reference).ok_or(Stop::Blocked)
+    found(now.value_at(field, reference))
 }
 
 fn key_part(value: Value) -> Result<KeyPart, Stop>
-    ensures { ended result ≡ m.with_found (p.key_part value) m.is }
+    ensures { ended result ≡ found (p.key_part value) }
 {
     match value {
         Value::Int(number) => Ok(KeyPart::Int(number)),
@@ -83,7 +59,7 @@ fn added(held: Frac, scale: Frac, amount: Frac, at: Pos) -> Result<Frac, Stop>
 }
 
 fn leaf(content: &Content) -> Result<Value, Stop>
-    ensures { ended result ≡ p.with_leaf (content_of content.now) m.is }
+    ensures { ended result ≡ p.leaf_of (content_of content.now) }
 {
     match content {
         Content::Leaf(value) => Ok(*value),
@@ -93,7 +69,7 @@ fn leaf(content: &Content) -> Result<Value, Stop>
 
 /// Nothing is filled from the content of nothing.
 pub(crate) fn unit(content: &Content) -> Result<(), Stop>
-    ensures { ended result ≡ p.with_unit (content_of content.now) (m.is tt) }
+    ensures { ended result ≡ p.unit_of (content_of content.now) }
 {
     match content {
         Content::Unit => Ok(()),
@@ -101,35 +77,18 @@ pub(crate) fn unit(content: &Content) -> Result<(), Stop>
     }
 }
 
-fn has_type_of(value: &Value, other: &Value) -> bool
-    ensures { result ≡ same_type (type_of value.now) (type_of other.now) }
-{
-    match value {
-        Value::Int(_) => matches!(other, Value::Int(_)),
-        Value::Bool(_) => matches!(other, Value::Bool(_)),
-        Value::Ref(_) => matches!(other, Value::Ref(_)),
-        Value::Perm(_) => matches!(other, Value::Perm(_)),
-    }
-}
-
-fn is_same(value: &Value, other: &Value) -> bool
-    ensures { result ≡ value_eq value.now other.now }
-{
-    *value == *other
-}
-
 /// A field of a reference.
 #[derive(Clone, Copy)]
 pub(crate) struct Place {
     pub(crate) field: u32,
-    pub(crate) at: u64,
+    pub(crate) reference: u64,
 }
 
 impl Place {
-    pub(crate) fn of(field: u32, at: u64) -> Place
-        ensures { result ≡ record { field = field; at = at } }
+    pub(crate) fn of(field: u32, reference: u64) -> Place
+        ensures { result ≡ record { field = field; reference = reference } }
     {
-        Place { field, at }
+        Place { field, reference }
     }
 }
 
@@ -165,8 +124,8 @@ impl Share {
 }
 
 /// The arguments of an instance.
-pub(crate) fn key_of(alloc: Global, values: &[Value]) -> Result<Key, Halt>
-    ensures { Answers (λ key. key) [] (m.with_found (p.key_of values.now) m.is) [] result }
+pub fn key_of(alloc: Global, values: &[Value]) -> Result<Key, Halt>
+    ensures { Answers (λ key. key) [] (found (p.key_of values.now)) [] result }
 {
     let mut parts = Vec::with_capacity(alloc, values.len())?;
     for value in values {
@@ -177,21 +136,19 @@ pub(crate) fn key_of(alloc: Global, values: &[Value]) -> Result<Key, Halt>
 
 /// Takes so much of an instance.
 pub(crate) fn take(
-    scene: &Scene,
+    scene: SceneRef,
     state: &mut State,
     instance: Instance,
     amount: Frac,
     at: Pos,
 ) -> Result<(), Halt>
     ensures { Answers (λ _. state_of state.new) []
-        (p.taken Bounded (scene_of scene.now) (state_of state.old) instance.predicate instance.key amount at) [] result }
+        (p.taken Bounded (lent scene.entry) (state_of state.old) instance.predicate instance.key amount at) [] result }
 {
-    if !is_positive(amount) {
+    if !Frac::is_positive(amount) {
         return Err(Halt::Stops(failure(scene, at, Kind::Amount)));
     }
-    let held = state
-        .amount_at(instance.predicate, &instance.key)
-        .ok_or(Stop::Blocked)?;
+    let held = found(state.amount_at(instance.predicate, &instance.key))?;
     if fitted(Frac::cmp(held, amount), at)?.is_lt() {
         return Err(Halt::Stops(failure(scene, at, Kind::Perm)));
     }
@@ -200,47 +157,67 @@ pub(crate) fn take(
     Ok(())
 }
 
-/// A place takes the value where there was no permission. Else it must have it.
-fn write(
-    state: &mut State,
-    place: Place,
-    value: &Value,
-    old: &Value,
-    held: Frac,
-) -> Result<(), Halt>
-    ensures { Answers (λ _. state_of state.new) []
-        (p.written (state_of state.old) place.field place.at value.now old.now held) [] result }
+fn is_same(value: &Value, other: &Value) -> bool
+    ensures { result ≡ value_eq value.now other.now }
 {
-    if !is_none(held) {
-        return if is_same(value, old) {
-            Ok(())
-        } else {
-            Err(Halt::Stops(Stop::Blocked))
-        };
+    *value == *other
+}
+
+/// A place takes the value where there was no permission. Else it must have it.
+fn write(state: &mut State, place: Place, value: Value, held: Frac) -> Result<(), Halt>
+    ensures { Answers (λ _. state_of state.new) []
+        (p.written (state_of state.old) place.field place.reference value held) [] result }
+{
+    if Frac::is_none(held) {
+        state.set_value(place.field, place.reference, value)?;
+        return Ok(());
     }
-    state.set_value(place.field, place.at, *value)?;
-    Ok(())
+    let old = found(state.value_at(place.field, place.reference))?;
+    Ok(assumed(is_same(&value, &old))?)
 }
 
 /// A place takes the value, and so much more of it is held.
-fn hold(
-    state: &mut State,
-    place: Place,
-    share: Share,
-    value: &Value,
-    old: &Value,
-) -> Result<(), Halt>
+fn fill_leaf(state: &mut State, place: Place, share: Share, value: Value) -> Result<(), Halt>
     ensures { Answers (λ _. state_of state.new) []
-        (place_filled share.scale place.field place.at share.amount share.at value.now old.now (state_of state.old)) [] result }
+        (p.fill_leaf Bounded share.scale place.field place.reference share.amount value share.at (state_of state.old)) [] result }
 {
-    let held = state.mask_at(place.field, place.at).ok_or(Stop::Blocked)?;
-    write(state, place, value, old, held)?;
+    let held = found(state.mask_at(place.field, place.reference))?;
+    write(state, place, value, held)?;
     let all = added(held, share.scale, share.amount, share.at)?;
-    if is_above_one(all) {
+    if Frac::is_above_one(all) {
         return Err(Halt::Stops(Stop::Blocked));
     }
-    state.set_mask(place.field, place.at, all)?;
+    state.set_mask(place.field, place.reference, all)?;
     Ok(())
+}
+
+fn has_type_of(value: &Value, other: &Value) -> bool
+    ensures { result ≡ same_type (type_of value.now) (type_of other.now) }
+{
+    value.ty() == other.ty()
+}
+
+/// The value that a place takes from a content, which is recorded.
+fn leaf_for(
+    state: &State,
+    place: Place,
+    content: &Content,
+    feed: &mut Feed,
+) -> Result<Value, Halt>
+    ensures answers { Answers (λ v. v) (feed_of feed.old).events
+        (p.leaf_for (state_of state.now) place.field place.reference (content_of content.now)) (feed_of feed.new).events result }
+    ensures left { (feed_of feed.new).left ≡ (feed_of feed.old).left }
+{
+    if place.reference == 0 {
+        return Err(Halt::Stops(Stop::Blocked));
+    }
+    let value = leaf(content)?;
+    let old = found(state.value_at(place.field, place.reference))?;
+    if !has_type_of(&value, &old) {
+        return Err(Halt::Stops(Stop::Blocked));
+    }
+    feed.record(leaf_event(&value))?;
+    Ok(value)
 }
 
 fn leaf_event(value: &Value) -> Event
@@ -249,34 +226,9 @@ fn leaf_event(value: &Value) -> Event
     Event::Leaf(*value)
 }
 
-/// Fills a place by an amount that is positive.
-fn fill_some(
-    state: &mut State,
-    place: Place,
-    share: Share,
-    content: &Content,
-    feed: &mut Feed,
-) -> Result<(), Halt>
-    ensures answers { Answers (λ _. state_of state.new) (feed_of feed.old).events
-        (p.fill_some Bounded share.scale place.field place.at share.amount (content_of content.now) share.at (state_of state.old))
-        (feed_of feed.new).events result }
-    ensures left { (feed_of feed.new).left ≡ (feed_of feed.old).left }
-{
-    if place.at == 0 {
-        return Err(Halt::Stops(Stop::Blocked));
-    }
-    let value = leaf(content)?;
-    let old = state.value_at(place.field, place.at).ok_or(Stop::Blocked)?;
-    if !has_type_of(&value, &old) {
-        return Err(Halt::Stops(Stop::Blocked));
-    }
-    feed.record(leaf_event(&value))?;
-    hold(state, place, share, &value, &old)
-}
-
 /// Fills a place from a content.
 pub(crate) fn fill_place(
-    scene: &Scene,
+    scene: SceneRef,
     state: &mut State,
     place: Place,
     share: Share,
@@ -284,17 +236,18 @@ pub(crate) fn fill_place(
     feed: &mut Feed,
 ) -> Result<(), Halt>
     ensures answers { Answers (λ _. state_of state.new) (feed_of feed.old).events
-        (p.fill_place Bounded (scene_of scene.now) share.scale place.field place.at share.amount (content_of content.now) share.at (state_of state.old))
+        (p.fill_place Bounded (lent scene.entry) share.scale place.field place.reference share.amount (content_of content.now) share.at (state_of state.old))
         (feed_of feed.new).events result }
     ensures left { (feed_of feed.new).left ≡ (feed_of feed.old).left }
 {
-    if is_negative(share.amount) {
+    if Frac::is_negative(share.amount) {
         return Err(Halt::Stops(failure(scene, share.at, Kind::Negative)));
     }
-    if is_none(share.amount) {
+    if Frac::is_none(share.amount) {
         return Ok(unit(content)?);
     }
-    fill_some(state, place, share, content, feed)
+    let value = leaf_for(state, place, content, feed)?;
+    fill_leaf(state, place, share, value)
 }
 
 /// An instance takes the content where none was held. Else it must have it.
@@ -306,24 +259,15 @@ fn contain(
     held: Frac,
 ) -> Result<(), Halt>
     ensures { Answers (λ _. state_of state.new) []
-        (instance_filled instance.now.predicate instance.now.key (content_of content.now) held (state_of state.old)) [] result }
+        (p.contained (state_of state.old) instance.now.predicate instance.now.key (content_of content.now) held) [] result }
 {
-    let old = state
-        .content_at(instance.predicate, &instance.key)
-        .ok_or(Stop::Blocked)?;
-    if !is_none(held) {
-        return if content.same(old) {
-            Ok(())
-        } else {
-            Err(Halt::Stops(Stop::Blocked))
-        };
+    if Frac::is_none(held) {
+        let key = instance.key.clone()?;
+        state.set_content(instance.predicate, key, content.copy(alloc)?)?;
+        return Ok(());
     }
-    state.set_content(
-        instance.predicate,
-        instance.key.clone()?,
-        content.copy(alloc)?,
-    )?;
-    Ok(())
+    let old = found(state.content_at(instance.predicate, &instance.key))?;
+    Ok(assumed(content.same(old))?)
 }
 
 /// Fills an instance by an amount that is positive.
@@ -337,9 +281,7 @@ fn fill_held(
     ensures { Answers (λ _. state_of state.new) []
         (p.fill_held Bounded share.scale instance.predicate instance.key share.amount (content_of content.now) share.at (state_of state.old)) [] result }
 {
-    let held = state
-        .amount_at(instance.predicate, &instance.key)
-        .ok_or(Stop::Blocked)?;
+    let held = found(state.amount_at(instance.predicate, &instance.key))?;
     contain(alloc, state, &instance, content, held)?;
     let all = added(held, share.scale, share.amount, share.at)?;
     state.set_amount(instance.predicate, instance.key, all)?;
@@ -349,19 +291,19 @@ fn fill_held(
 /// Fills an instance from a content.
 pub(crate) fn fill_instance(
     alloc: Global,
-    scene: &Scene,
+    scene: SceneRef,
     state: &mut State,
     instance: Instance,
     share: Share,
     content: &Content,
 ) -> Result<(), Halt>
     ensures { Answers (λ _. state_of state.new) []
-        (p.fill_instance Bounded (scene_of scene.now) share.scale instance.predicate instance.key share.amount (content_of content.now) share.at (state_of state.old)) [] result }
+        (p.fill_instance Bounded (lent scene.entry) share.scale instance.predicate instance.key share.amount (content_of content.now) share.at (state_of state.old)) [] result }
 {
-    if is_negative(share.amount) {
+    if Frac::is_negative(share.amount) {
         return Err(Halt::Stops(failure(scene, share.at, Kind::Negative)));
     }
-    if is_none(share.amount) {
+    if Frac::is_none(share.amount) {
         return Ok(unit(content)?);
     }
     fill_held(alloc, state, instance, share, content)
@@ -374,7 +316,7 @@ pub(crate) fn split<'a>(
     feed: &mut Feed,
 ) -> Result<(&'a Content, &'a Content), Halt>
     ensures answers { Answers {Y = tree.Content × tree.Content} (λ parts. (content_of parts.0.now, content_of parts.1.now))
-        (feed_of feed.old).events (halves (content_of content.now)) (feed_of feed.new).events result }
+        (feed_of feed.old).events (p.pair_of (content_of content.now)) (feed_of feed.new).events result }
     ensures left { (feed_of feed.new).left ≡ (feed_of feed.old).left }
 {
     match content {

@@ -1,55 +1,53 @@
 // The value of an expression, and how the body of a predicate is opened.
-ghost use Rattle.std.specs.Prelude.{◌≡◌, slice_get};
+ghost use Rattle.std.specs.Prelude.{◌≡◌, slice_get, All};
+ghost use Rattle.vb_value.specs.Bound.{Bounded};
 ghost use Rattle.vb_value.specs.Content.{IsWithinContent};
-ghost use Rattle.vb_value.specs.Key.{IsWithinKey};
+ghost use Rattle.vb_value.specs.Value.{IsWithinValue};
 ghost use Rattle.vb_value.specs.View.{content_of};
 ghost use Rattle.viper_core.specs.View.{expr_of, exprs_of, opened_of, amt_of, assertion_of};
-ghost use Rattle.viper_state.specs.View.{scene_of, state_of, feed_of};
+ghost use Rattle.viper_state.specs.View.{state_of, feed_of};
 ghost use Rattle.viper_state.specs.Within.{IsWithinState, IsWithinScene};
-ghost use Rattle.viper_meaning.specs.Ends.{Bounded, is, then_with, with_found};
+ghost use Rattle.viper_meaning.specs.Ends.{found};
 ghost use Rattle.viper_core.specs.Literals.{IsWithinExpr, IsWithinOpened, AreWithinExprs, IsWithinAmount, IsWithinAssertion};
-ghost use Rattle.viper_meaning.specs.Operators.{with_truth, with_perm};
-ghost use Rattle.viper_meaning.specs.Places.{with_ref};
 ghost use Rattle.viper_meaning.specs.Value as m;
 ghost use Rattle.viper_eval.specs.Answers.{Answers, ended};
 ghost use Rattle.viper_eval.specs.Steps.{unfolded_at};
+ghost use Rattle.viper_eval.specs.View.{lent};
 
 use crate::answers::{Halt, Stop};
 use crate::operators::{
-    assumed, combined, negation, negative, permission, reference, settled, truth,
+    assumed, combined, found, negation, negative, permission, reference, settled, truth,
 };
 use crate::places::{
     Instance, Place, Share, fill_instance, fill_place, key_of, read_field, split, take, unit,
 };
+use crate::scenes::SceneRef;
 use std::alloc::Global;
 use vb_value::{Content, Frac, Key, Value};
 use viper_core::{Amt, Assertion, Expr, Opened};
-use viper_state::{Feed, Scene, State, copy_state};
+use viper_state::{Feed, State, copy_state};
 
 /// The value of a variable.
-fn variable(scene: &Scene, number: u32) -> Result<Value, Stop>
-    ensures { ended result ≡ with_found (slice_get (scene_of scene.now).store number) is }
+fn variable(scene: SceneRef, number: u32) -> Result<Value, Stop>
+    ensures { ended result ≡ found (slice_get (lent scene.entry).store number) }
 {
-    match scene.store.get(number as usize) {
-        Some(value) => Ok(*value),
-        None => Err(Stop::Blocked),
-    }
+    found(scene.store.get(number as usize).copied())
 }
 
 /// The value of an expression.
 #[cycle(readings)]
-pub(crate) fn evaluate(
+pub fn evaluate(
     alloc: Global,
     e: &Expr,
     now: &State,
-    scene: &Scene,
+    scene: SceneRef,
     feed: &mut Feed,
 ) -> Result<Value, Halt>
     requires e_within { IsWithinExpr (expr_of e.now) }
     requires now_within { IsWithinState (state_of now.now) }
-    requires scene_within { IsWithinScene (scene_of scene.now) }
+    requires scene_within { IsWithinScene (lent scene) }
     ensures answers { Answers (λ v. v) (feed_of feed.old).events
-        (m.value Bounded (expr_of e.now) (state_of now.now) (scene_of scene.now)) (feed_of feed.new).events result }
+        (m.value Bounded (expr_of e.now) (state_of now.now) (lent scene.entry)) (feed_of feed.new).events result }
     ensures left { (feed_of feed.new).left ≡ (feed_of feed.old).left }
 {
     match e {
@@ -79,25 +77,25 @@ pub(crate) fn evaluate(
             let receiver = reference_of(alloc, a, now, scene, feed)?;
             Ok(read_field(scene, now, *field, *at, receiver)?)
         }
-        Expr::Old(a) => evaluate(alloc, a, &scene.old, scene, feed),
+        Expr::Old(a) => evaluate(alloc, a, scene.old, scene, feed),
         Expr::Unfolding(opened) => unfold(alloc, opened, now, scene, feed),
     }
 }
 
 /// The value of an expression that is a Bool.
 #[cycle(readings)]
-fn truth_of(
+pub fn truth_of(
     alloc: Global,
     e: &Expr,
     now: &State,
-    scene: &Scene,
+    scene: SceneRef,
     feed: &mut Feed,
 ) -> Result<bool, Halt>
     requires e_within { IsWithinExpr (expr_of e.now) }
     requires now_within { IsWithinState (state_of now.now) }
-    requires scene_within { IsWithinScene (scene_of scene.now) }
+    requires scene_within { IsWithinScene (lent scene) }
     ensures answers { Answers (λ b. b) (feed_of feed.old).events
-        (then_with (m.value Bounded (expr_of e.now) (state_of now.now) (scene_of scene.now)) (λ v. with_truth v is))
+        (m.truth_in Bounded (expr_of e.now) (state_of now.now) (lent scene.entry))
         (feed_of feed.new).events result }
     ensures left { (feed_of feed.new).left ≡ (feed_of feed.old).left }
 {
@@ -106,18 +104,18 @@ fn truth_of(
 
 /// The value of an expression that is a Ref.
 #[cycle(readings)]
-fn reference_of(
+pub fn reference_of(
     alloc: Global,
     e: &Expr,
     now: &State,
-    scene: &Scene,
+    scene: SceneRef,
     feed: &mut Feed,
 ) -> Result<u64, Halt>
     requires e_within { IsWithinExpr (expr_of e.now) }
     requires now_within { IsWithinState (state_of now.now) }
-    requires scene_within { IsWithinScene (scene_of scene.now) }
+    requires scene_within { IsWithinScene (lent scene) }
     ensures answers { Answers (λ r. r) (feed_of feed.old).events
-        (then_with (m.value Bounded (expr_of e.now) (state_of now.now) (scene_of scene.now)) (λ v. with_ref v is))
+        (m.ref_in Bounded (expr_of e.now) (state_of now.now) (lent scene.entry))
         (feed_of feed.new).events result }
     ensures left { (feed_of feed.new).left ≡ (feed_of feed.old).left }
 {
@@ -126,18 +124,18 @@ fn reference_of(
 
 /// The value of an expression that is a Perm.
 #[cycle(readings)]
-fn permission_of(
+pub fn permission_of(
     alloc: Global,
     e: &Expr,
     now: &State,
-    scene: &Scene,
+    scene: SceneRef,
     feed: &mut Feed,
 ) -> Result<Frac, Halt>
     requires e_within { IsWithinExpr (expr_of e.now) }
     requires now_within { IsWithinState (state_of now.now) }
-    requires scene_within { IsWithinScene (scene_of scene.now) }
+    requires scene_within { IsWithinScene (lent scene) }
     ensures answers { Answers (λ q. q) (feed_of feed.old).events
-        (then_with (m.value Bounded (expr_of e.now) (state_of now.now) (scene_of scene.now)) (λ v. with_perm v is))
+        (m.perm_in Bounded (expr_of e.now) (state_of now.now) (lent scene.entry))
         (feed_of feed.new).events result }
     ensures left { (feed_of feed.new).left ≡ (feed_of feed.old).left }
 {
@@ -150,14 +148,14 @@ fn amount_of(
     alloc: Global,
     amount: &Amt,
     now: &State,
-    scene: &Scene,
+    scene: SceneRef,
     feed: &mut Feed,
 ) -> Result<Frac, Halt>
     requires amount_within { IsWithinAmount (amt_of amount.now) }
     requires now_within { IsWithinState (state_of now.now) }
-    requires scene_within { IsWithinScene (scene_of scene.now) }
+    requires scene_within { IsWithinScene (lent scene) }
     ensures answers { Answers (λ q. q) (feed_of feed.old).events
-        (then_with (m.amount_of Bounded (amt_of amount.now) (state_of now.now) (scene_of scene.now)) (λ v. with_perm v is))
+        (m.amount_of Bounded (amt_of amount.now) (state_of now.now) (lent scene.entry))
         (feed_of feed.new).events result }
     ensures left { (feed_of feed.new).left ≡ (feed_of feed.old).left }
 {
@@ -169,18 +167,18 @@ fn amount_of(
 
 /// The values of arguments, from left to right.
 #[cycle(readings)]
-fn evaluate_all(
+pub fn evaluate_all(
     alloc: Global,
     es: &[Expr],
     now: &State,
-    scene: &Scene,
+    scene: SceneRef,
     feed: &mut Feed,
 ) -> Result<Vec<Value>, Halt>
     requires es_within { AreWithinExprs (exprs_of es.now) }
     requires now_within { IsWithinState (state_of now.now) }
-    requires scene_within { IsWithinScene (scene_of scene.now) }
+    requires scene_within { IsWithinScene (lent scene) }
     ensures answers { Answers (λ v. v.items) (feed_of feed.old).events
-        (m.values Bounded (exprs_of es.now) (state_of now.now) (scene_of scene.now)) (feed_of feed.new).events result }
+        (m.values Bounded (exprs_of es.now) (state_of now.now) (lent scene.entry)) (feed_of feed.new).events result }
     ensures left { (feed_of feed.new).left ≡ (feed_of feed.old).left }
 {
     let mut values = Vec::with_capacity(alloc, es.len())?;
@@ -190,54 +188,75 @@ fn evaluate_all(
     Ok(values)
 }
 
+/// The arguments of an instance.
+#[cycle(readings)]
+fn key_in(
+    alloc: Global,
+    args: &[Expr],
+    now: &State,
+    scene: SceneRef,
+    feed: &mut Feed,
+) -> Result<Key, Halt>
+    requires args_within { AreWithinExprs (exprs_of args.now) }
+    requires now_within { IsWithinState (state_of now.now) }
+    requires scene_within { IsWithinScene (lent scene) }
+    ensures answers { Answers (λ key. key) (feed_of feed.old).events
+        (m.key_in Bounded (exprs_of args.now) (state_of now.now) (lent scene.entry)) (feed_of feed.new).events result }
+    ensures left { (feed_of feed.new).left ≡ (feed_of feed.old).left }
+{
+    let values = evaluate_all(alloc, args, now, scene, feed)?;
+    key_of(alloc, &values)
+}
+
 /// The value of an expression in a copy of the state in which an instance is unfolded.
 #[cycle(readings)]
 fn unfold(
     alloc: Global,
     opened: &Opened,
     now: &State,
-    scene: &Scene,
+    scene: SceneRef,
     feed: &mut Feed,
 ) -> Result<Value, Halt>
     requires opened_within { IsWithinOpened (opened_of opened.now) }
     requires now_within { IsWithinState (state_of now.now) }
-    requires scene_within { IsWithinScene (scene_of scene.now) }
+    requires scene_within { IsWithinScene (lent scene) }
     ensures answers { Answers (λ v. v) (feed_of feed.old).events
-        (m.unfolded Bounded (opened_of opened.now) (state_of now.now) (scene_of scene.now)) (feed_of feed.new).events result }
+        (m.unfolded Bounded (opened_of opened.now) (state_of now.now) (lent scene.entry)) (feed_of feed.new).events result }
     ensures left { (feed_of feed.new).left ≡ (feed_of feed.old).left }
 {
     let args = evaluate_all(alloc, &opened.args, now, scene, feed)?;
     let amount = permission_of(alloc, &opened.amount, now, scene, feed)?;
-    let key = key_of(alloc, &args)?;
-    unfold_at(alloc, opened, key, amount, now, scene, feed)
+    unfold_at(alloc, opened, &args, amount, now, scene, feed)
 }
 
-/// The same once the values of the arguments and the amount are known.
+/// The same once the values of the arguments and the amount are known. The arguments are the variables of the body.
 #[cycle(readings)]
 fn unfold_at(
     alloc: Global,
     opened: &Opened,
-    key: Key,
+    args: &[Value],
     amount: Frac,
     now: &State,
-    scene: &Scene,
+    scene: SceneRef,
     feed: &mut Feed,
 ) -> Result<Value, Halt>
     requires opened_within { IsWithinOpened (opened_of opened.now) }
-    requires key_within { IsWithinKey key }
+    requires args_within { All IsWithinValue args.now }
     requires now_within { IsWithinState (state_of now.now) }
-    requires scene_within { IsWithinScene (scene_of scene.now) }
+    requires scene_within { IsWithinScene (lent scene) }
     ensures answers { Answers (λ v. v) (feed_of feed.old).events
-        (unfolded_at (opened_of opened.now) key amount (state_of now.now) (scene_of scene.now))
+        (unfolded_at (opened_of opened.now) args.now amount (state_of now.now) (lent scene.entry))
         (feed_of feed.new).events result }
     ensures left { (feed_of feed.new).left ≡ (feed_of feed.old).left }
 {
+    let key = key_of(alloc, args)?;
     let content = now.content_at(opened.predicate, &key);
     let mut copy = copy_state(alloc, now)?;
     let instance = Instance::of(opened.predicate, key);
     take(scene, &mut copy, instance, amount, opened.place)?;
-    let content = content.ok_or(Stop::Blocked)?;
-    open(alloc, &opened.body, content, &mut copy, scene, amount, feed)?;
+    let content = found(content)?;
+    let inside = scene.with_variables(args);
+    open(alloc, &opened.body, content, &mut copy, inside, amount, feed)?;
     evaluate(alloc, &opened.inner, &copy, scene, feed)
 }
 
@@ -248,16 +267,16 @@ pub(crate) fn open(
     body: &Assertion,
     content: &Content,
     state: &mut State,
-    scene: &Scene,
+    scene: SceneRef,
     scale: Frac,
     feed: &mut Feed,
 ) -> Result<(), Halt>
     requires body_within { IsWithinAssertion (assertion_of body.now) }
     requires content_within { IsWithinContent (content_of content.now) }
     requires state_within { IsWithinState (state_of state.old) }
-    requires scene_within { IsWithinScene (scene_of scene.now) }
+    requires scene_within { IsWithinScene (lent scene) }
     ensures answers { Answers (λ _. state_of state.new) (feed_of feed.old).events
-        (m.opened Bounded (assertion_of body.now) (content_of content.now) (state_of state.old) (scene_of scene.now) scale)
+        (m.opened Bounded (assertion_of body.now) (content_of content.now) (state_of state.old) (lent scene.entry) scale)
         (feed_of feed.new).events result }
     ensures left { (feed_of feed.new).left ≡ (feed_of feed.old).left }
 {
@@ -274,9 +293,9 @@ pub(crate) fn open(
             fill_place(scene, state, place, share, content, feed)
         }
         Assertion::Inst(predicate, args, amount, at) => {
-            let args = evaluate_all(alloc, args, state, scene, feed)?;
+            let key = key_in(alloc, args, state, scene, feed)?;
             let amount = amount_of(alloc, amount, state, scene, feed)?;
-            let instance = Instance::of(*predicate, key_of(alloc, &args)?);
+            let instance = Instance::of(*predicate, key);
             let share = Share::of(amount, scale, *at);
             fill_instance(alloc, scene, state, instance, share, content)
         }

@@ -3,7 +3,7 @@ use Rattle.vb_value.specs.View.{content_of}
 use Rattle.viper_state.specs.Event as event
 use Rattle.viper_state.specs.View.{event_of}
 use Rattle.viper_eval.proofs.AnswerLaws.{passed, split_goes, stops_with}
-use Rattle.viper_eval.specs.Steps.{halves}
+use Rattle.viper_meaning.specs.Places.{pair_of}
 use Rattle.viper_eval.specs.Answers.{no_memory}
 use Rattle.viper_eval.proofs.places.split.Goals as goal
 
@@ -27,6 +27,6 @@ returns-in_ok-record-in-Pair-clause-answers c =
 pub returns-in-Unit-clause-answers : goal.returns-in-Unit-clause-answers
 returns-in-Unit-clause-answers c =
     elim c.in-Unit.is [
-      | inl e ↦ stops_with _ (ap (λ d. halves (content_of d)) (sym e))
-      | inr p ↦ stops_with _ (ap (λ d. halves (content_of d)) (sym p.1))
+      | inl e ↦ stops_with _ (ap (λ d. pair_of (content_of d)) (sym e))
+      | inr p ↦ stops_with _ (ap (λ d. pair_of (content_of d)) (sym p.1))
     ]

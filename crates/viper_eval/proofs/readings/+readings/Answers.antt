@@ -1,19 +1,25 @@
 -- Each exit of a reading, by the steps that led to it.
-use Rattle.std.proofs.Common.{rules, refl, sym, ap, ◌∙◌, subst}
+use Rattle.std.proofs.Common.{rules, refl, sym, ap, ◌∙◌, subst, All}
+use Rattle.vb_value.specs.Bound.{Bounded}
+use Rattle.vb_value.specs.Value.{IsWithinValue}
 use Rattle.vb_value.specs.View.{content_of}
 use Rattle.vb_value.specs.declared.values.Value.TheVariants as variant
 use Rattle.vb_value.proofs.BoundLaws.{read_back}
-use Rattle.viper_core.specs.View.{expr_of, exprs_of, amt_of, assertion_of}
-use Rattle.viper_core.specs.declared.exprs.Expr.{the_lemmas}
-use Rattle.viper_state.specs.View.{state_of, scene_of}
-use Rattle.viper_meaning.specs.Ends.{Bounded, is, then_with, with_found}
-use Rattle.viper_meaning.specs.Operators.{with_truth, with_perm}
-use Rattle.viper_meaning.specs.Places.{with_ref, key_of}
-use Rattle.viper_meaning.specs.Value.{amount_of}
 use Rattle.viper_core.specs.Literals.{IsWithinExpr, AreWithinExprs, IsWithinAssertion}
+use Rattle.viper_core.specs.View.{expr_of, exprs_of, amt_of, assertion_of, opened_of}
+use Rattle.viper_core.specs.declared.exprs.Expr.{the_lemmas}
+use Rattle.viper_state.specs.State.{State}
+use Rattle.viper_state.specs.View.{state_of}
+use Rattle.viper_state.specs.Within.{IsWithinScene}
+use Rattle.viper_meaning.specs.Ends.{is, found}
+use Rattle.viper_meaning.specs.Operators.{truth_of, perm_of, ref_of}
+use Rattle.viper_meaning.specs.Places.{key_of}
+use Rattle.viper_meaning.specs.Value.{amount_of, opened}
 use Rattle.viper_eval.specs.Answers.{no_memory}
-use Rattle.viper_eval.proofs.AnswerLaws.{passed, same_answers, goes_then, stops_then, calmly, ends_with, stops_with}
-use Rattle.viper_eval.proofs.WithinLaws.{value_within, values_within, opened_within, halves_within, key_is_within, taken_within, content_is_within, argument_within}
+use Rattle.viper_eval.specs.Steps.{unfolded_at}
+use Rattle.viper_eval.specs.View.{lent}
+use Rattle.viper_eval.proofs.AnswerLaws.{passed, same_answers, goes_then, stops_then, calmly, ends_with, stops_with, found_as, found_as_stops}
+use Rattle.viper_eval.proofs.WithinLaws.{value_within, values_within, opened_within, halves_within, key_is_within, taken_within, scene_within, content_is_within, argument_within}
 use Rattle.viper_eval.proofs.ArgumentLaws.{argument_goes, argument_stops, arguments_end}
 use Rattle.viper_eval.proofs.NodeLaws.{neg_is, not_is, bin_is, choose_is, field_is, unfolding_is, opened_is, inst_is, and_is, implies_is, choice_is}
 use Rattle.viper_eval.proofs.PlaceLaws.{taken_at, placed_at, filled_at}
@@ -23,141 +29,141 @@ use Rattle.viper_eval.proofs.readings.+readings.Goals as goal
 
 pub evaluate-returns-in_err-variable-in-Var-clause-answers : goal.evaluate-returns-in_err-variable-in-Var-clause-answers
 evaluate-returns-in_err-variable-in-Var-clause-answers _ c =
-    passed _ _ c.from_residual.ensures.1 (expression.of_expr (state_of c.args.now.now) (scene_of c.args.scene.now) _ (ap expr_of c.in-Var.is)
+    passed _ _ c.from_residual.ensures.1 (expression.of_expr (state_of c.args.now.now) (lent c.args.scene) _ (ap expr_of c.in-Var.is)
     (stops_with _ c.in_err-variable-in-Var.ensures))
 
 pub evaluate-returns-in_ok-variable-in-Var-clause-answers : goal.evaluate-returns-in_ok-variable-in-Var-clause-answers
 evaluate-returns-in_ok-variable-in-Var-clause-answers _ c =
-    expression.of_expr (state_of c.args.now.now) (scene_of c.args.scene.now) _ (ap expr_of c.in-Var.is) (ends_with _ c.in_ok-variable-in-Var.ensures)
+    expression.of_expr (state_of c.args.now.now) (lent c.args.scene) _ (ap expr_of c.in-Var.is) (ends_with _ c.in_ok-variable-in-Var.ensures)
 
 pub evaluate-returns-in-Int-clause-answers : goal.evaluate-returns-in-Int-clause-answers
 evaluate-returns-in-Int-clause-answers _ c =
-    expression.of_expr (state_of c.args.now.now) (scene_of c.args.scene.now) _ (ap expr_of c.in-Int.is)
+    expression.of_expr (state_of c.args.now.now) (lent c.args.scene) _ (ap expr_of c.in-Int.is)
     (ends_with _ (ap (λ n. is (variant.Int n)) (read_back c.in-Int.number (subst IsWithinExpr (ap expr_of c.in-Int.is) c.requires.e_within))))
 
 pub evaluate-returns-in-Bool-clause-answers : goal.evaluate-returns-in-Bool-clause-answers
 evaluate-returns-in-Bool-clause-answers _ c =
-    expression.of_expr (state_of c.args.now.now) (scene_of c.args.scene.now) _ (ap expr_of c.in-Bool.is) (ends_with _ refl)
+    expression.of_expr (state_of c.args.now.now) (lent c.args.scene) _ (ap expr_of c.in-Bool.is) (ends_with _ refl)
 
 pub evaluate-returns-in-Null-clause-answers : goal.evaluate-returns-in-Null-clause-answers
 evaluate-returns-in-Null-clause-answers _ c =
-    expression.of_expr (state_of c.args.now.now) (scene_of c.args.scene.now) _ (ap expr_of c.in-Null.is) (ends_with _ refl)
+    expression.of_expr (state_of c.args.now.now) (lent c.args.scene) _ (ap expr_of c.in-Null.is) (ends_with _ refl)
 
 pub evaluate-returns-in-Part-clause-answers : goal.evaluate-returns-in-Part-clause-answers
 evaluate-returns-in-Part-clause-answers _ c =
-    expression.of_expr (state_of c.args.now.now) (scene_of c.args.scene.now) _ (ap expr_of c.in-Part.is) (ends_with _ refl)
+    expression.of_expr (state_of c.args.now.now) (lent c.args.scene) _ (ap expr_of c.in-Part.is) (ends_with _ refl)
 
 pub evaluate-returns-in_err-evaluate-in-Neg-clause-answers : goal.evaluate-returns-in_err-evaluate-in-Neg-clause-answers
 evaluate-returns-in_err-evaluate-in-Neg-clause-answers _ c =
-    passed _ _ c.from_residual-in_err-evaluate-in-Neg.ensures.1 (expression.neg_stops (state_of c.args.now.now) (scene_of c.args.scene.now)
+    passed _ _ c.from_residual-in_err-evaluate-in-Neg.ensures.1 (expression.neg_stops (state_of c.args.now.now) (lent c.args.scene)
     (neg_is c.in-Neg.is c.deref.ensures) c.in_err-evaluate-in-Neg.ensures.answers)
 
 pub evaluate-negative-requires : goal.evaluate-negative-requires
 evaluate-negative-requires _ c =
-    value_within (expr_of c.deref.result.now) (state_of c.args.now.now) (scene_of c.args.scene.now)
+    value_within (expr_of c.deref.result.now) (state_of c.args.now.now) (lent c.args.scene)
     (subst IsWithinExpr (neg_is c.in-Neg.is c.deref.ensures) c.requires.e_within) c.requires.now_within c.requires.scene_within c.in_ok-evaluate-in-Neg.ensures.answers
 
 pub evaluate-returns-in_err-negative-in-Neg-clause-answers : goal.evaluate-returns-in_err-negative-in-Neg-clause-answers
 evaluate-returns-in_err-negative-in-Neg-clause-answers _ c =
-    passed _ _ c.from_residual-in_err-negative-in-Neg.ensures.1 (expression.neg_goes (state_of c.args.now.now) (scene_of c.args.scene.now)
+    passed _ _ c.from_residual-in_err-negative-in-Neg.ensures.1 (expression.neg_goes (state_of c.args.now.now) (lent c.args.scene)
     (neg_is c.in-Neg.is c.deref.ensures) c.in_ok-evaluate-in-Neg.ensures.answers (stops_with _ c.in_err-negative-in-Neg.ensures))
 
 pub evaluate-returns-in_ok-negative-in-Neg-clause-answers : goal.evaluate-returns-in_ok-negative-in-Neg-clause-answers
 evaluate-returns-in_ok-negative-in-Neg-clause-answers _ c =
-    expression.neg_goes (state_of c.args.now.now) (scene_of c.args.scene.now) (neg_is c.in-Neg.is c.deref.ensures) c.in_ok-evaluate-in-Neg.ensures.answers
+    expression.neg_goes (state_of c.args.now.now) (lent c.args.scene) (neg_is c.in-Neg.is c.deref.ensures) c.in_ok-evaluate-in-Neg.ensures.answers
     (ends_with _ c.in_ok-negative-in-Neg.ensures)
 
 pub evaluate-returns-in_err-evaluate-in-Not-clause-answers : goal.evaluate-returns-in_err-evaluate-in-Not-clause-answers
 evaluate-returns-in_err-evaluate-in-Not-clause-answers _ c =
-    passed _ _ c.from_residual-in_err-evaluate-in-Not.ensures.1 (expression.not_stops (state_of c.args.now.now) (scene_of c.args.scene.now)
+    passed _ _ c.from_residual-in_err-evaluate-in-Not.ensures.1 (expression.not_stops (state_of c.args.now.now) (lent c.args.scene)
     (not_is c.in-Not.is c.deref-in-Not.ensures) c.in_err-evaluate-in-Not.ensures.answers)
 
 pub evaluate-returns-in_err-negation-in-Not-clause-answers : goal.evaluate-returns-in_err-negation-in-Not-clause-answers
 evaluate-returns-in_err-negation-in-Not-clause-answers _ c =
-    passed _ _ c.from_residual-in_err-negation-in-Not.ensures.1 (expression.not_goes (state_of c.args.now.now) (scene_of c.args.scene.now)
+    passed _ _ c.from_residual-in_err-negation-in-Not.ensures.1 (expression.not_goes (state_of c.args.now.now) (lent c.args.scene)
     (not_is c.in-Not.is c.deref-in-Not.ensures) c.in_ok-evaluate-in-Not.ensures.answers (stops_with _ c.in_err-negation-in-Not.ensures))
 
 pub evaluate-returns-in_ok-negation-in-Not-clause-answers : goal.evaluate-returns-in_ok-negation-in-Not-clause-answers
 evaluate-returns-in_ok-negation-in-Not-clause-answers _ c =
-    expression.not_goes (state_of c.args.now.now) (scene_of c.args.scene.now) (not_is c.in-Not.is c.deref-in-Not.ensures) c.in_ok-evaluate-in-Not.ensures.answers
+    expression.not_goes (state_of c.args.now.now) (lent c.args.scene) (not_is c.in-Not.is c.deref-in-Not.ensures) c.in_ok-evaluate-in-Not.ensures.answers
     (ends_with _ c.in_ok-negation-in-Not.ensures)
 
 pub evaluate-returns-in_err-left-in-Bin-clause-answers : goal.evaluate-returns-in_err-left-in-Bin-clause-answers
 evaluate-returns-in_err-left-in-Bin-clause-answers _ c =
-    passed _ _ c.from_residual-in_err-left-in-Bin.ensures.1 (expression.left_stops (state_of c.args.now.now) (scene_of c.args.scene.now)
+    passed _ _ c.from_residual-in_err-left-in-Bin.ensures.1 (expression.left_stops (state_of c.args.now.now) (lent c.args.scene)
     (bin_is c.in-Bin.is c.deref-in-Bin.ensures refl) c.in_err-left-in-Bin.ensures.answers)
 
 pub evaluate-returns-in_err-answer-in-Bin-clause-answers : goal.evaluate-returns-in_err-answer-in-Bin-clause-answers
 evaluate-returns-in_err-answer-in-Bin-clause-answers _ c =
-    passed _ _ c.from_residual-in_err-answer-in-Bin.ensures.1 (expression.settling_stops (state_of c.args.now.now) (scene_of c.args.scene.now)
+    passed _ _ c.from_residual-in_err-answer-in-Bin.ensures.1 (expression.settling_stops (state_of c.args.now.now) (lent c.args.scene)
     (bin_is c.in-Bin.is c.deref-in-Bin.ensures refl) c.in_ok-left-in-Bin.ensures.answers c.in_err-answer-in-Bin.ensures)
 
 pub evaluate-returns-in-Some-clause-answers : goal.evaluate-returns-in-Some-clause-answers
 evaluate-returns-in-Some-clause-answers _ c =
-    expression.left_settles (state_of c.args.now.now) (scene_of c.args.scene.now) (bin_is c.in-Bin.is c.deref-in-Bin.ensures refl) c.in_ok-left-in-Bin.ensures.answers
+    expression.left_settles (state_of c.args.now.now) (lent c.args.scene) (bin_is c.in-Bin.is c.deref-in-Bin.ensures refl) c.in_ok-left-in-Bin.ensures.answers
     (sym (ap is c.in-Some.is) ∙ c.in_ok-answer-in-Bin.ensures)
 
 pub evaluate-returns-in_err-right-in-Bin-clause-answers : goal.evaluate-returns-in_err-right-in-Bin-clause-answers
 evaluate-returns-in_err-right-in-Bin-clause-answers _ c =
-    passed _ _ c.from_residual-in_err-right-in-Bin.ensures.1 (expression.right_stops (state_of c.args.now.now) (scene_of c.args.scene.now)
+    passed _ _ c.from_residual-in_err-right-in-Bin.ensures.1 (expression.right_stops (state_of c.args.now.now) (lent c.args.scene)
     (bin_is c.in-Bin.is c.deref-in-Bin.ensures c.deref-in-Bin-2.ensures) c.in_ok-left-in-Bin.ensures.answers (sym (ap is c.in_default.is) ∙ c.in_ok-answer-in-Bin.ensures)
     c.in_err-right-in-Bin.ensures.answers)
 
 pub evaluate-returns-in_err-combined-in-Bin-clause-answers : goal.evaluate-returns-in_err-combined-in-Bin-clause-answers
 evaluate-returns-in_err-combined-in-Bin-clause-answers _ c =
-    passed _ _ c.from_residual-in_err-combined-in-Bin.ensures.1 (expression.both_go (state_of c.args.now.now) (scene_of c.args.scene.now)
+    passed _ _ c.from_residual-in_err-combined-in-Bin.ensures.1 (expression.both_go (state_of c.args.now.now) (lent c.args.scene)
     (bin_is c.in-Bin.is c.deref-in-Bin.ensures c.deref-in-Bin-2.ensures) c.in_ok-left-in-Bin.ensures.answers (sym (ap is c.in_default.is) ∙ c.in_ok-answer-in-Bin.ensures)
     c.in_ok-right-in-Bin.ensures.answers (stops_with _ c.in_err-combined-in-Bin.ensures))
 
 pub evaluate-returns-in_ok-combined-in-Bin-clause-answers : goal.evaluate-returns-in_ok-combined-in-Bin-clause-answers
 evaluate-returns-in_ok-combined-in-Bin-clause-answers _ c =
-    expression.both_go (state_of c.args.now.now) (scene_of c.args.scene.now) (bin_is c.in-Bin.is c.deref-in-Bin.ensures c.deref-in-Bin-2.ensures)
+    expression.both_go (state_of c.args.now.now) (lent c.args.scene) (bin_is c.in-Bin.is c.deref-in-Bin.ensures c.deref-in-Bin-2.ensures)
     c.in_ok-left-in-Bin.ensures.answers (sym (ap is c.in_default.is) ∙ c.in_ok-answer-in-Bin.ensures) c.in_ok-right-in-Bin.ensures.answers
     (ends_with _ c.in_ok-combined-in-Bin.ensures)
 
 pub evaluate-combined-requires-clause-left_within : goal.evaluate-combined-requires-clause-left_within
 evaluate-combined-requires-clause-left_within _ c =
-    value_within (expr_of c.deref-in-Bin.result.now) (state_of c.args.now.now) (scene_of c.args.scene.now)
+    value_within (expr_of c.deref-in-Bin.result.now) (state_of c.args.now.now) (lent c.args.scene)
     (subst IsWithinExpr (bin_is c.in-Bin.is c.deref-in-Bin.ensures c.deref-in-Bin-2.ensures) c.requires.e_within).0 c.requires.now_within c.requires.scene_within
     c.in_ok-left-in-Bin.ensures.answers
 
 pub evaluate-combined-requires-clause-right_within : goal.evaluate-combined-requires-clause-right_within
 evaluate-combined-requires-clause-right_within _ c =
-    value_within (expr_of c.deref-in-Bin-2.result.now) (state_of c.args.now.now) (scene_of c.args.scene.now)
+    value_within (expr_of c.deref-in-Bin-2.result.now) (state_of c.args.now.now) (lent c.args.scene)
     (subst IsWithinExpr (bin_is c.in-Bin.is c.deref-in-Bin.ensures c.deref-in-Bin-2.ensures) c.requires.e_within).1 c.requires.now_within c.requires.scene_within
     c.in_ok-right-in-Bin.ensures.answers
 
 pub evaluate-returns-in_err-truth_of-in-Choose-clause-answers : goal.evaluate-returns-in_err-truth_of-in-Choose-clause-answers
 evaluate-returns-in_err-truth_of-in-Choose-clause-answers _ c =
     passed _ _ c.from_residual-in_err-truth_of-in-Choose.ensures.1
-    (expression.choose_stops (state_of c.args.now.now) (scene_of c.args.scene.now) (choose_is c.in-Choose.is c.deref-in-Choose.ensures refl refl)
+    (expression.choose_stops (state_of c.args.now.now) (lent c.args.scene) (choose_is c.in-Choose.is c.deref-in-Choose.ensures refl refl)
     c.in_err-truth_of-in-Choose.ensures.answers)
 
 pub evaluate-returns-then-branch-clause-answers : goal.evaluate-returns-then-branch-clause-answers
 evaluate-returns-then-branch-clause-answers _ c =
-    expression.choose_so (state_of c.args.now.now) (scene_of c.args.scene.now) (choose_is c.in-Choose.is c.deref-in-Choose.ensures c.deref-then-branch.ensures refl)
+    expression.choose_so (state_of c.args.now.now) (lent c.args.scene) (choose_is c.in-Choose.is c.deref-in-Choose.ensures c.deref-then-branch.ensures refl)
     c.in_ok-truth_of-in-Choose.ensures.answers c.if-branch.true c.evaluate-then-branch.ensures.answers
 
 pub evaluate-returns-else-branch-clause-answers : goal.evaluate-returns-else-branch-clause-answers
 evaluate-returns-else-branch-clause-answers _ c =
-    expression.choose_not (state_of c.args.now.now) (scene_of c.args.scene.now) (choose_is c.in-Choose.is c.deref-in-Choose.ensures refl c.deref-else-branch.ensures)
+    expression.choose_not (state_of c.args.now.now) (lent c.args.scene) (choose_is c.in-Choose.is c.deref-in-Choose.ensures refl c.deref-else-branch.ensures)
     c.in_ok-truth_of-in-Choose.ensures.answers c.if-branch.false c.evaluate-else-branch.ensures.answers
 
 pub evaluate-returns-in_err-receiver-in-Field-clause-answers : goal.evaluate-returns-in_err-receiver-in-Field-clause-answers
 evaluate-returns-in_err-receiver-in-Field-clause-answers _ c =
     passed _ _ c.from_residual-in_err-receiver-in-Field.ensures.1
-    (expression.field_stops (state_of c.args.now.now) (scene_of c.args.scene.now) (field_is c.in-Field.is c.deref-in-Field.ensures)
+    (expression.field_stops (state_of c.args.now.now) (lent c.args.scene) (field_is c.in-Field.is c.deref-in-Field.ensures)
     c.in_err-receiver-in-Field.ensures.answers)
 
 pub evaluate-returns-in_err-read_field-in-Field-clause-answers : goal.evaluate-returns-in_err-read_field-in-Field-clause-answers
 evaluate-returns-in_err-read_field-in-Field-clause-answers _ c =
     passed _ _ c.from_residual-in_err-read_field-in-Field.ensures.1
-    (expression.field_goes (state_of c.args.now.now) (scene_of c.args.scene.now) (field_is c.in-Field.is c.deref-in-Field.ensures) c.in_ok-receiver-in-Field.ensures.answers
+    (expression.field_goes (state_of c.args.now.now) (lent c.args.scene) (field_is c.in-Field.is c.deref-in-Field.ensures) c.in_ok-receiver-in-Field.ensures.answers
     (stops_with _ c.in_err-read_field-in-Field.ensures))
 
 pub evaluate-returns-in_ok-read_field-in-Field-clause-answers : goal.evaluate-returns-in_ok-read_field-in-Field-clause-answers
 evaluate-returns-in_ok-read_field-in-Field-clause-answers _ c =
-    expression.field_goes (state_of c.args.now.now) (scene_of c.args.scene.now) (field_is c.in-Field.is c.deref-in-Field.ensures) c.in_ok-receiver-in-Field.ensures.answers
+    expression.field_goes (state_of c.args.now.now) (lent c.args.scene) (field_is c.in-Field.is c.deref-in-Field.ensures) c.in_ok-receiver-in-Field.ensures.answers
     (ends_with _ c.in_ok-read_field-in-Field.ensures)
 
 pub evaluate-unfold-requires : goal.evaluate-unfold-requires
@@ -171,47 +177,47 @@ evaluate-unfold-requires _ c = (
 
 pub evaluate-returns-in-Unfolding-clause-answers : goal.evaluate-returns-in-Unfolding-clause-answers
 evaluate-returns-in-Unfolding-clause-answers _ c =
-    expression.of_expr (state_of c.args.now.now) (scene_of c.args.scene.now) _ (unfolding_is c.in-Unfolding.is c.deref-in-Unfolding.ensures) c.unfold.ensures.answers
+    expression.of_expr (state_of c.args.now.now) (lent c.args.scene) _ (unfolding_is c.in-Unfolding.is c.deref-in-Unfolding.ensures) c.unfold.ensures.answers
 
 pub truth_of-returns-in_err-evaluate-clause-answers : goal.truth_of-returns-in_err-evaluate-clause-answers
 truth_of-returns-in_err-evaluate-clause-answers _ c =
-    passed _ _ c.from_residual.ensures.1 (stops_then (λ v. with_truth v is) c.in_err-evaluate.ensures.answers)
+    passed _ _ c.from_residual.ensures.1 (stops_then truth_of c.in_err-evaluate.ensures.answers)
 
 pub truth_of-returns-in_err-truth-clause-answers : goal.truth_of-returns-in_err-truth-clause-answers
 truth_of-returns-in_err-truth-clause-answers _ c =
-    passed _ _ c.from_residual-in_err-truth.ensures.1 (goes_then (λ v. with_truth v is) c.in_ok-evaluate.ensures.answers (stops_with _ c.in_err-truth.ensures))
+    passed _ _ c.from_residual-in_err-truth.ensures.1 (goes_then truth_of c.in_ok-evaluate.ensures.answers (stops_with _ c.in_err-truth.ensures))
 
 pub truth_of-returns-clause-answers : goal.truth_of-returns-clause-answers
 truth_of-returns-clause-answers _ c =
-    goes_then (λ v. with_truth v is) c.in_ok-evaluate.ensures.answers (ends_with _ c.in_ok-truth.ensures)
+    goes_then truth_of c.in_ok-evaluate.ensures.answers (ends_with _ c.in_ok-truth.ensures)
 
 pub reference_of-returns-in_err-evaluate-clause-answers : goal.reference_of-returns-in_err-evaluate-clause-answers
 reference_of-returns-in_err-evaluate-clause-answers _ c =
-    passed _ _ c.from_residual.ensures.1 (stops_then (λ v. with_ref v is) c.in_err-evaluate.ensures.answers)
+    passed _ _ c.from_residual.ensures.1 (stops_then ref_of c.in_err-evaluate.ensures.answers)
 
 pub reference_of-returns-in_err-reference-clause-answers : goal.reference_of-returns-in_err-reference-clause-answers
 reference_of-returns-in_err-reference-clause-answers _ c =
-    passed _ _ c.from_residual-in_err-reference.ensures.1 (goes_then (λ v. with_ref v is) c.in_ok-evaluate.ensures.answers (stops_with _ c.in_err-reference.ensures))
+    passed _ _ c.from_residual-in_err-reference.ensures.1 (goes_then ref_of c.in_ok-evaluate.ensures.answers (stops_with _ c.in_err-reference.ensures))
 
 pub reference_of-returns-clause-answers : goal.reference_of-returns-clause-answers
 reference_of-returns-clause-answers _ c =
-    goes_then (λ v. with_ref v is) c.in_ok-evaluate.ensures.answers (ends_with _ c.in_ok-reference.ensures)
+    goes_then ref_of c.in_ok-evaluate.ensures.answers (ends_with _ c.in_ok-reference.ensures)
 
 pub permission_of-returns-in_err-evaluate-clause-answers : goal.permission_of-returns-in_err-evaluate-clause-answers
 permission_of-returns-in_err-evaluate-clause-answers _ c =
-    passed _ _ c.from_residual.ensures.1 (stops_then (λ v. with_perm v is) c.in_err-evaluate.ensures.answers)
+    passed _ _ c.from_residual.ensures.1 (stops_then perm_of c.in_err-evaluate.ensures.answers)
 
 pub permission_of-returns-in_err-permission-clause-answers : goal.permission_of-returns-in_err-permission-clause-answers
 permission_of-returns-in_err-permission-clause-answers _ c =
-    passed _ _ c.from_residual-in_err-permission.ensures.1 (goes_then (λ v. with_perm v is) c.in_ok-evaluate.ensures.answers (stops_with _ c.in_err-permission.ensures))
+    passed _ _ c.from_residual-in_err-permission.ensures.1 (goes_then perm_of c.in_ok-evaluate.ensures.answers (stops_with _ c.in_err-permission.ensures))
 
 pub permission_of-returns-clause-answers : goal.permission_of-returns-clause-answers
 permission_of-returns-clause-answers _ c =
-    goes_then (λ v. with_perm v is) c.in_ok-evaluate.ensures.answers (ends_with _ c.in_ok-permission.ensures)
+    goes_then perm_of c.in_ok-evaluate.ensures.answers (ends_with _ c.in_ok-permission.ensures)
 
 pub amount_of-returns-in-Wildcard-clause-answers : goal.amount_of-returns-in-Wildcard-clause-answers
 amount_of-returns-in-Wildcard-clause-answers _ c =
-    same_answers (ap (λ m. then_with (amount_of Bounded (amt_of m) (state_of c.args.now.now) (scene_of c.args.scene.now)) (λ v. with_perm v is)) c.in-Wildcard.is)
+    same_answers (ap (λ m. amount_of Bounded (amt_of m) (state_of c.args.now.now) (lent c.args.scene)) c.in-Wildcard.is)
     (stops_with _ refl)
 
 pub evaluate_all-returns-in_err-values-clause-answers : goal.evaluate_all-returns-in_err-values-clause-answers
@@ -234,40 +240,44 @@ evaluate_all-evaluate-requires _ c = (
 
 pub evaluate_all-returns-in_err-evaluate-clause-answers : goal.evaluate_all-returns-in_err-evaluate-clause-answers
 evaluate_all-returns-in_err-evaluate-clause-answers _ c =
-    passed _ _ c.from_residual-in_err-evaluate.ensures.1 (argument_stops c.args.es.now c.loop-e.e-index (state_of c.args.now.now) (scene_of c.args.scene.now) (λ v. v.items)
+    passed _ _ c.from_residual-in_err-evaluate.ensures.1 (argument_stops c.args.es.now c.loop-e.e-index (state_of c.args.now.now) (lent c.args.scene) (λ v. v.items)
     c.e-item.result c.loop-e.values.items _ _ _ _ _ c.loop-e-test.true c.e-item.is c.loop-e.invariant.answers c.in_err-evaluate.ensures.answers)
 
 pub evaluate_all-loop-e-preserved : goal.evaluate_all-loop-e-preserved
 evaluate_all-loop-e-preserved _ c =
-    let next = argument_goes c.args.es.now c.loop-e.e-index (state_of c.args.now.now) (scene_of c.args.scene.now) c.e-item.result c.loop-e.values.items _ _ _ _ _ _ c.loop-e-test.true c.e-item.is c.in_ok-push.ensures.items c.loop-e.invariant.answers c.in_ok-evaluate.ensures.answers in
+    let next = argument_goes c.args.es.now c.loop-e.e-index (state_of c.args.now.now) (lent c.args.scene) c.e-item.result c.loop-e.values.items _ _ _ _ _ _ c.loop-e-test.true c.e-item.is c.in_ok-push.ensures.items c.loop-e.invariant.answers c.in_ok-evaluate.ensures.answers in
     record { answers = next; left = cc }
 
 pub evaluate_all-returns-clause-answers : goal.evaluate_all-returns-clause-answers
 evaluate_all-returns-clause-answers _ c =
-    arguments_end c.args.es.now c.loop-e.e-index (state_of c.args.now.now) (scene_of c.args.scene.now) (λ v. v.items) c.loop-e.values _ _ _ c.loop-e-test.false
+    arguments_end c.args.es.now c.loop-e.e-index (state_of c.args.now.now) (lent c.args.scene) (λ v. v.items) c.loop-e.values _ _ _ c.loop-e-test.false
     c.loop-e.auto.e-index-end c.loop-e.invariant.answers
+
+pub key_in-returns-in_err-values-clause-answers : goal.key_in-returns-in_err-values-clause-answers
+key_in-returns-in_err-values-clause-answers _ c =
+    passed _ _ c.from_residual.ensures.1 (stops_then (λ vs. found (key_of vs)) c.in_err-values.ensures.answers)
+
+pub key_in-returns-clause-answers : goal.key_in-returns-clause-answers
+key_in-returns-clause-answers _ c =
+    goes_then (λ vs. found (key_of vs)) c.in_ok-values.ensures.answers
+    (calmly _ (same_answers (ap (λ vs. found (key_of vs)) (sym c.deref.ensures.value)) c.key_of.ensures))
 
 pub unfold-returns-in_err-args-clause-answers : goal.unfold-returns-in_err-args-clause-answers
 unfold-returns-in_err-args-clause-answers _ c =
-    passed _ _ c.from_residual.ensures.1 (expression.unfold_args_stop (λ vs. vs.items) (state_of c.args.now.now) (scene_of c.args.scene.now)
+    passed _ _ c.from_residual.ensures.1 (expression.unfold_args_stop (λ vs. vs.items) (state_of c.args.now.now) (lent c.args.scene)
     (opened_is c.args.opened.now c.deref.ensures.value) c.in_err-args.ensures.answers)
 
 pub unfold-returns-in_err-amount-clause-answers : goal.unfold-returns-in_err-amount-clause-answers
 unfold-returns-in_err-amount-clause-answers _ c =
-    passed _ _ c.from_residual-in_err-amount.ensures.1 (expression.unfold_amount_stops (λ vs. vs.items) (state_of c.args.now.now) (scene_of c.args.scene.now)
+    passed _ _ c.from_residual-in_err-amount.ensures.1 (expression.unfold_amount_stops (λ vs. vs.items) (state_of c.args.now.now) (lent c.args.scene)
     (opened_is c.args.opened.now c.deref.ensures.value) c.in_ok-args.ensures.answers c.in_err-amount.ensures.answers)
-
-pub unfold-returns-in_err-key-clause-answers : goal.unfold-returns-in_err-key-clause-answers
-unfold-returns-in_err-key-clause-answers _ c =
-    passed _ _ c.from_residual-in_err-key.ensures.1 (expression.unfold_key_stops (λ vs. vs.items) (state_of c.args.now.now) (scene_of c.args.scene.now)
-    (opened_is c.args.opened.now c.deref.ensures.value) c.in_ok-args.ensures.answers c.in_ok-amount.ensures.answers
-    (same_answers (ap (λ vs. with_found (key_of vs) is) (sym c.deref-2.ensures.value)) c.in_err-key.ensures))
 
 pub unfold-returns-clause-answers : goal.unfold-returns-clause-answers
 unfold-returns-clause-answers _ c =
-    expression.unfold_goes (λ vs. vs.items) (state_of c.args.now.now) (scene_of c.args.scene.now) (opened_is c.args.opened.now c.deref.ensures.value)
-    c.in_ok-args.ensures.answers c.in_ok-amount.ensures.answers (same_answers (ap (λ vs. with_found (key_of vs) is) (sym c.deref-2.ensures.value)) c.in_ok-key.ensures)
-    c.unfold_at.ensures.answers
+    expression.unfold_goes (λ vs. vs.items) (state_of c.args.now.now) (lent c.args.scene) (opened_is c.args.opened.now c.deref.ensures.value)
+    c.in_ok-args.ensures.answers c.in_ok-amount.ensures.answers
+    (same_answers (ap (λ vs. unfolded_at (opened_of c.args.opened.now) vs c.in_ok-amount.amount (state_of c.args.now.now) (lent c.args.scene)) (sym c.deref-2.ensures.value))
+    c.unfold_at.ensures.answers)
 
 pub unfold-unfold_at-requires : goal.unfold-unfold_at-requires
 unfold-unfold_at-requires _ c = (
@@ -275,44 +285,53 @@ unfold-unfold_at-requires _ c = (
   (
     c.requires.opened_within,
     (
-      key_is_within c.in_ok-args.args.items
-          (values_within (λ vs. vs.items) (exprs_of c.deref.result.now) (state_of c.args.now.now) (scene_of c.args.scene.now)
+      subst (All IsWithinValue) (sym c.deref-2.ensures.value)
+          (values_within (λ vs. vs.items) (exprs_of c.deref.result.now) (state_of c.args.now.now) (lent c.args.scene)
           (subst (λ es. AreWithinExprs (exprs_of es)) (sym c.deref.ensures.value) c.requires.opened_within.0) c.requires.now_within c.requires.scene_within
-          c.in_ok-args.ensures.answers) (same_answers (ap (λ vs. with_found (key_of vs) is) (sym c.deref-2.ensures.value)) c.in_ok-key.ensures),
+          c.in_ok-args.ensures.answers),
       (c.requires.now_within, c.requires.scene_within),
     ),
   ),
 )
 
+pub unfold_at-returns-in_err-key-clause-answers : goal.unfold_at-returns-in_err-key-clause-answers
+unfold_at-returns-in_err-key-clause-answers _ c =
+    passed _ _ c.from_residual.ensures.1 (expression.key_stops (λ (s : State). s) (state_of c.args.now.now) (lent c.args.scene) c.args.args.now c.args.amount
+    (opened_is c.args.opened.now refl) c.in_err-key.ensures)
+
 pub unfold_at-returns-in_err-copy-clause-answers : goal.unfold_at-returns-in_err-copy-clause-answers
 unfold_at-returns-in_err-copy-clause-answers _ c =
-    passed _ _ c.from_residual.ensures.1 no_memory
+    passed _ _ c.from_residual-in_err-copy.ensures.1 no_memory
 
 pub unfold_at-returns-in_err-take-clause-answers : goal.unfold_at-returns-in_err-take-clause-answers
 unfold_at-returns-in_err-take-clause-answers _ c =
-    passed _ _ c.from_residual-in_err-take.ensures.1 (expression.take_stops (λ _. state_of c.take.new.state) (state_of c.args.now.now) (scene_of c.args.scene.now) c.args.key
-    c.args.amount (opened_is c.args.opened.now refl) (taken_at (scene_of c.args.scene.now) c.args.amount c.args.opened.now.place c.in_ok-copy.ensures c.of-instance.ensures
-    c.in_err-take.ensures))
+    passed _ _ c.from_residual-in_err-take.ensures.1 (expression.take_stops (λ _. state_of c.take.new.state) (state_of c.args.now.now) (lent c.args.scene) c.args.args.now
+    c.args.amount (opened_is c.args.opened.now refl) c.in_ok-key.ensures
+    (taken_at (lent c.args.scene) c.args.amount c.args.opened.now.place c.in_ok-copy.ensures c.of-instance.ensures c.in_err-take.ensures))
 
 pub unfold_at-returns-in_err-content-clause-answers : goal.unfold_at-returns-in_err-content-clause-answers
 unfold_at-returns-in_err-content-clause-answers _ c =
-    passed _ _ c.from_residual-in_err-content.ensures.1 (expression.content_stops (λ _. state_of c.take.new.state) (state_of c.args.now.now) (scene_of c.args.scene.now)
-    c.args.key c.args.amount (opened_is c.args.opened.now refl) (λ d. content_of d.now) _
-    (taken_at (scene_of c.args.scene.now) c.args.amount c.args.opened.now.place c.in_ok-copy.ensures c.of-instance.ensures c.in_ok-take.ensures) c.content_at-content.ensures
-    c.in_err-content.ensures.value)
+    passed _ _ c.from_residual-in_err-content.ensures.1 (expression.content_stops (λ _. state_of c.take.new.state) (state_of c.args.now.now) (lent c.args.scene)
+    c.args.args.now c.args.amount (opened_is c.args.opened.now refl) c.in_ok-key.ensures
+    (taken_at (lent c.args.scene) c.args.amount c.args.opened.now.place c.in_ok-copy.ensures c.of-instance.ensures c.in_ok-take.ensures)
+    (found_as_stops (λ d. content_of d.now) _ _ c.in_err-content.ensures ∙ ap found c.content_at-content.ensures))
 
 pub unfold_at-returns-in_err-open-clause-answers : goal.unfold_at-returns-in_err-open-clause-answers
 unfold_at-returns-in_err-open-clause-answers _ c =
-    passed _ _ c.from_residual-in_err-open.ensures.1 (expression.open_stops (λ _. state_of c.take.new.state) (state_of c.args.now.now) (scene_of c.args.scene.now) c.args.key
-    c.args.amount (opened_is c.args.opened.now refl) (λ d. content_of d.now) _ _
-    (taken_at (scene_of c.args.scene.now) c.args.amount c.args.opened.now.place c.in_ok-copy.ensures c.of-instance.ensures c.in_ok-take.ensures) c.content_at-content.ensures
-    c.in_ok-content.ensures.ok_part c.in_err-open.ensures.answers)
+    passed _ _ c.from_residual-in_err-open.ensures.1 (expression.open_stops (λ _. state_of c.take.new.state) (state_of c.args.now.now) (lent c.args.scene) c.args.args.now
+    c.args.amount (opened_is c.args.opened.now refl) c.in_ok-key.ensures
+    (taken_at (lent c.args.scene) c.args.amount c.args.opened.now.place c.in_ok-copy.ensures c.of-instance.ensures c.in_ok-take.ensures)
+    (found_as (λ d. content_of d.now) _ _ c.in_ok-content.ensures ∙ ap found c.content_at-content.ensures)
+    (same_answers (ap (λ inside. opened Bounded (assertion_of c.args.opened.now.body) (content_of c.in_ok-content.content.now) (state_of c.take.new.state) inside c.args.amount)
+    (sym c.with_variables-inside.ensures)) c.in_err-open.ensures.answers))
 
 pub unfold_at-returns-clause-answers : goal.unfold_at-returns-clause-answers
 unfold_at-returns-clause-answers _ c =
-    expression.inner_goes (λ _. state_of c.take.new.state) (state_of c.args.now.now) (scene_of c.args.scene.now) c.args.key c.args.amount (opened_is c.args.opened.now refl)
-    (λ d. content_of d.now) _ _ (taken_at (scene_of c.args.scene.now) c.args.amount c.args.opened.now.place c.in_ok-copy.ensures c.of-instance.ensures c.in_ok-take.ensures)
-    c.content_at-content.ensures c.in_ok-content.ensures.ok_part c.in_ok-open.ensures.answers c.evaluate.ensures.answers
+    expression.inner_goes (λ _. state_of c.take.new.state) (state_of c.args.now.now) (lent c.args.scene) c.args.args.now c.args.amount (opened_is c.args.opened.now refl)
+    c.in_ok-key.ensures (taken_at (lent c.args.scene) c.args.amount c.args.opened.now.place c.in_ok-copy.ensures c.of-instance.ensures c.in_ok-take.ensures)
+    (found_as (λ d. content_of d.now) _ _ c.in_ok-content.ensures ∙ ap found c.content_at-content.ensures)
+    (same_answers (ap (λ inside. opened Bounded (assertion_of c.args.opened.now.body) (content_of c.in_ok-content.content.now) (state_of c.take.new.state) inside c.args.amount)
+    (sym c.with_variables-inside.ensures)) c.in_ok-open.ensures.answers) c.evaluate.ensures.answers
 
 pub unfold_at-open-requires : goal.unfold_at-open-requires
 unfold_at-open-requires _ c = (
@@ -320,13 +339,13 @@ unfold_at-open-requires _ c = (
   (
     c.requires.opened_within.2,
     (
-      (content_is_within (λ d. content_of d.now) (state_of c.args.now.now) c.args.opened.now.predicate c.args.key _
-          c.in_ok-content.content c.requires.now_within c.content_at-content.ensures c.in_ok-content.ensures.ok_part),
+      content_is_within (state_of c.args.now.now) c.args.opened.now.predicate c.in_ok-key.key c.requires.now_within
+          (found_as (λ d. content_of d.now) _ _ c.in_ok-content.ensures ∙ ap found c.content_at-content.ensures),
       (
-        (taken_within (λ _. state_of c.take.new.state) (scene_of c.args.scene.now) (state_of c.args.now.now) c.args.opened.now.predicate c.args.key c.args.amount
-            c.args.opened.now.place c.requires.now_within c.requires.key_within
-            (taken_at (scene_of c.args.scene.now) c.args.amount c.args.opened.now.place c.in_ok-copy.ensures c.of-instance.ensures c.in_ok-take.ensures)),
-        c.requires.scene_within,
+        taken_within (λ _. state_of c.take.new.state) (lent c.args.scene) (state_of c.args.now.now) c.args.opened.now.predicate c.in_ok-key.key c.args.amount
+            c.args.opened.now.place c.requires.now_within (key_is_within c.args.args.now c.requires.args_within c.in_ok-key.ensures)
+            (taken_at (lent c.args.scene) c.args.amount c.args.opened.now.place c.in_ok-copy.ensures c.of-instance.ensures c.in_ok-take.ensures),
+        subst IsWithinScene (sym c.with_variables-inside.ensures) (scene_within c.args.args.now (lent c.args.scene) c.requires.args_within c.requires.scene_within),
       ),
     ),
   ),
@@ -339,12 +358,13 @@ unfold_at-evaluate-requires _ c = (
     c.requires.opened_within.3,
     (
       opened_within (λ _. state_of c.open.new.state) (assertion_of c.args.opened.now.body)
-          (content_of c.in_ok-content.content.now) (state_of c.take.new.state) (scene_of c.args.scene.now) c.args.amount c.requires.opened_within.2
-          (content_is_within (λ d. content_of d.now) (state_of c.args.now.now) c.args.opened.now.predicate c.args.key _ c.in_ok-content.content c.requires.now_within
-          c.content_at-content.ensures c.in_ok-content.ensures.ok_part)
-          (taken_within (λ _. state_of c.take.new.state) (scene_of c.args.scene.now) (state_of c.args.now.now) c.args.opened.now.predicate c.args.key c.args.amount
-          c.args.opened.now.place c.requires.now_within c.requires.key_within
-          (taken_at (scene_of c.args.scene.now) c.args.amount c.args.opened.now.place c.in_ok-copy.ensures c.of-instance.ensures c.in_ok-take.ensures)) c.requires.scene_within
+          (content_of c.in_ok-content.content.now) (state_of c.take.new.state) (lent c.with_variables-inside.result) c.args.amount c.requires.opened_within.2
+          (content_is_within (state_of c.args.now.now) c.args.opened.now.predicate c.in_ok-key.key c.requires.now_within
+          (found_as (λ d. content_of d.now) _ _ c.in_ok-content.ensures ∙ ap found c.content_at-content.ensures))
+          (taken_within (λ _. state_of c.take.new.state) (lent c.args.scene) (state_of c.args.now.now) c.args.opened.now.predicate c.in_ok-key.key c.args.amount
+          c.args.opened.now.place c.requires.now_within (key_is_within c.args.args.now c.requires.args_within c.in_ok-key.ensures)
+          (taken_at (lent c.args.scene) c.args.amount c.args.opened.now.place c.in_ok-copy.ensures c.of-instance.ensures c.in_ok-take.ensures))
+          (subst IsWithinScene (sym c.with_variables-inside.ensures) (scene_within c.args.args.now (lent c.args.scene) c.requires.args_within c.requires.scene_within))
           c.in_ok-open.ensures.answers,
       c.requires.scene_within,
     ),
@@ -353,44 +373,44 @@ unfold_at-evaluate-requires _ c = (
 
 pub open-returns-in_err-truth_of-in-Fact-clause-answers : goal.open-returns-in_err-truth_of-in-Fact-clause-answers
 open-returns-in_err-truth_of-in-Fact-clause-answers _ c =
-    passed _ _ c.from_residual.ensures.1 (body.fact_stops (content_of c.args.content.now) (state_of c.args.state.now) (scene_of c.args.scene.now) c.args.scale
+    passed _ _ c.from_residual.ensures.1 (body.fact_stops (content_of c.args.content.now) (state_of c.args.state.now) (lent c.args.scene) c.args.scale
     (ap assertion_of c.in-Fact.is) c.in_err-truth_of-in-Fact.ensures.answers)
 
 pub open-returns-in_err-assumed-in-Fact-clause-answers : goal.open-returns-in_err-assumed-in-Fact-clause-answers
 open-returns-in_err-assumed-in-Fact-clause-answers _ c =
-    passed _ _ c.from_residual-in_err-assumed-in-Fact.ensures.1 (body.fact_fails (content_of c.args.content.now) (state_of c.args.state.now) (scene_of c.args.scene.now)
+    passed _ _ c.from_residual-in_err-assumed-in-Fact.ensures.1 (body.fact_fails (content_of c.args.content.now) (state_of c.args.state.now) (lent c.args.scene)
     c.args.scale (ap assertion_of c.in-Fact.is) c.in_ok-truth_of-in-Fact.ensures.answers c.in_err-assumed-in-Fact.ensures)
 
 pub open-returns-in_err-unit-in-Fact-clause-answers : goal.open-returns-in_err-unit-in-Fact-clause-answers
 open-returns-in_err-unit-in-Fact-clause-answers _ c =
-    passed _ _ c.from_residual-in_err-unit-in-Fact.ensures.1 (body.fact_goes (content_of c.args.content.now) (state_of c.args.state.now) (scene_of c.args.scene.now)
+    passed _ _ c.from_residual-in_err-unit-in-Fact.ensures.1 (body.fact_goes (content_of c.args.content.now) (state_of c.args.state.now) (lent c.args.scene)
     c.args.scale (ap assertion_of c.in-Fact.is) c.in_ok-truth_of-in-Fact.ensures.answers c.in_ok-assumed-in-Fact.ensures
     (body.unit_stops (content_of c.args.content.now) (state_of c.args.state.now) _ c.in_err-unit-in-Fact.ensures))
 
 pub open-returns-in_ok-unit-in-Fact-clause-answers : goal.open-returns-in_ok-unit-in-Fact-clause-answers
 open-returns-in_ok-unit-in-Fact-clause-answers _ c =
-    body.fact_goes (content_of c.args.content.now) (state_of c.args.state.now) (scene_of c.args.scene.now) c.args.scale (ap assertion_of c.in-Fact.is)
+    body.fact_goes (content_of c.args.content.now) (state_of c.args.state.now) (lent c.args.scene) c.args.scale (ap assertion_of c.in-Fact.is)
     c.in_ok-truth_of-in-Fact.ensures.answers c.in_ok-assumed-in-Fact.ensures
     (body.unit_goes (content_of c.args.content.now) (state_of c.args.state.now) _ _ c.in_ok-unit-in-Fact.ensures refl)
 
 pub open-returns-in_err-receiver-in-Acc-clause-answers : goal.open-returns-in_err-receiver-in-Acc-clause-answers
 open-returns-in_err-receiver-in-Acc-clause-answers _ c =
-    passed _ _ c.from_residual-in_err-receiver-in-Acc.ensures.1 (body.receiver_stops (content_of c.args.content.now) (state_of c.args.state.now) (scene_of c.args.scene.now)
+    passed _ _ c.from_residual-in_err-receiver-in-Acc.ensures.1 (body.receiver_stops (content_of c.args.content.now) (state_of c.args.state.now) (lent c.args.scene)
     c.args.scale (ap assertion_of c.in-Acc.is) c.in_err-receiver-in-Acc.ensures.answers)
 
 pub open-returns-in_err-amount-in-Acc-clause-answers : goal.open-returns-in_err-amount-in-Acc-clause-answers
 open-returns-in_err-amount-in-Acc-clause-answers _ c =
-    passed _ _ c.from_residual-in_err-amount-in-Acc.ensures.1 (body.amount_stops (content_of c.args.content.now) (state_of c.args.state.now) (scene_of c.args.scene.now)
+    passed _ _ c.from_residual-in_err-amount-in-Acc.ensures.1 (body.amount_stops (content_of c.args.content.now) (state_of c.args.state.now) (lent c.args.scene)
     c.args.scale (ap assertion_of c.in-Acc.is) c.in_ok-receiver-in-Acc.ensures.answers c.in_err-amount-in-Acc.ensures.answers)
 
 pub open-returns-in_ok-amount-in-Acc-clause-answers : goal.open-returns-in_ok-amount-in-Acc-clause-answers
 open-returns-in_ok-amount-in-Acc-clause-answers _ c =
-    body.place_goes (content_of c.args.content.now) (state_of c.args.state.now) (scene_of c.args.scene.now) c.args.scale (ap assertion_of c.in-Acc.is)
+    body.place_goes (content_of c.args.content.now) (state_of c.args.state.now) (lent c.args.scene) c.args.scale (ap assertion_of c.in-Acc.is)
     c.in_ok-receiver-in-Acc.ensures.answers c.in_ok-amount-in-Acc.ensures.answers
-    (placed_at (scene_of c.args.scene.now) (content_of c.args.content.now) (state_of c.args.state.now) c.of-place.ensures c.of-share.ensures c.fill_place.ensures.answers)
+    (placed_at (lent c.args.scene) (content_of c.args.content.now) (state_of c.args.state.now) c.of-place.ensures c.of-share.ensures c.fill_place.ensures.answers)
 
-pub open-evaluate_all-requires : goal.open-evaluate_all-requires
-open-evaluate_all-requires _ c = (
+pub open-key_in-requires : goal.open-key_in-requires
+open-key_in-requires _ c = (
   search (rules, the_lemmas),
   (
     (subst IsWithinAssertion (inst_is c.in-Inst.args c.in-Inst.is c.deref.ensures.value) c.requires.body_within).0,
@@ -398,35 +418,27 @@ open-evaluate_all-requires _ c = (
   ),
 )
 
-pub open-returns-in_err-args-in-Inst-clause-answers : goal.open-returns-in_err-args-in-Inst-clause-answers
-open-returns-in_err-args-in-Inst-clause-answers _ c =
-    passed _ _ c.from_residual-in_err-args-in-Inst.ensures.1 (body.args_stop (λ vs. vs.items) (content_of c.args.content.now) (state_of c.args.state.now)
-    (scene_of c.args.scene.now) c.args.scale (inst_is c.in-Inst.args c.in-Inst.is c.deref.ensures.value) c.in_err-args-in-Inst.ensures.answers)
+pub open-returns-in_err-key-in-Inst-clause-answers : goal.open-returns-in_err-key-in-Inst-clause-answers
+open-returns-in_err-key-in-Inst-clause-answers _ c =
+    passed _ _ c.from_residual-in_err-key-in-Inst.ensures.1 (body.key_stops (content_of c.args.content.now) (state_of c.args.state.now) (lent c.args.scene)
+    c.args.scale (inst_is c.in-Inst.args c.in-Inst.is c.deref.ensures.value) c.in_err-key-in-Inst.ensures.answers)
 
 pub open-returns-in_err-amount-in-Inst-clause-answers : goal.open-returns-in_err-amount-in-Inst-clause-answers
 open-returns-in_err-amount-in-Inst-clause-answers _ c =
-    passed _ _ c.from_residual-in_err-amount-in-Inst.ensures.1 (body.share_stops (λ vs. vs.items) (content_of c.args.content.now) (state_of c.args.state.now)
-    (scene_of c.args.scene.now) c.args.scale (inst_is c.in-Inst.args c.in-Inst.is c.deref.ensures.value) c.in_ok-args-in-Inst.ensures.answers
-    c.in_err-amount-in-Inst.ensures.answers)
+    passed _ _ c.from_residual-in_err-amount-in-Inst.ensures.1 (body.share_stops (content_of c.args.content.now) (state_of c.args.state.now) (lent c.args.scene)
+    c.args.scale (inst_is c.in-Inst.args c.in-Inst.is c.deref.ensures.value) c.in_ok-key-in-Inst.ensures.answers c.in_err-amount-in-Inst.ensures.answers)
 
-pub open-returns-in_err-key_of-in-Inst-clause-answers : goal.open-returns-in_err-key_of-in-Inst-clause-answers
-open-returns-in_err-key_of-in-Inst-clause-answers _ c =
-    passed _ _ c.from_residual-in_err-key_of-in-Inst.ensures.1 (body.key_stops (λ vs. vs.items) (content_of c.args.content.now) (state_of c.args.state.now)
-    (scene_of c.args.scene.now) c.args.scale (inst_is c.in-Inst.args c.in-Inst.is c.deref.ensures.value) c.in_ok-args-in-Inst.ensures.answers
-    c.in_ok-amount-in-Inst.ensures.answers (same_answers (ap (λ vs. with_found (key_of vs) is) (sym c.deref-in-Inst.ensures.value)) c.in_err-key_of-in-Inst.ensures))
-
-pub open-returns-in_ok-key_of-in-Inst-clause-answers : goal.open-returns-in_ok-key_of-in-Inst-clause-answers
-open-returns-in_ok-key_of-in-Inst-clause-answers _ c =
-    body.instance_goes (λ vs. vs.items) (content_of c.args.content.now) (state_of c.args.state.now) (scene_of c.args.scene.now) c.args.scale
-    (inst_is c.in-Inst.args c.in-Inst.is c.deref.ensures.value) c.in_ok-args-in-Inst.ensures.answers c.in_ok-amount-in-Inst.ensures.answers
-    (same_answers (ap (λ vs. with_found (key_of vs) is) (sym c.deref-in-Inst.ensures.value)) c.in_ok-key_of-in-Inst.ensures)
-    (filled_at (scene_of c.args.scene.now) (content_of c.args.content.now) (state_of c.args.state.now) c.of-instance.ensures c.of-share-in-Inst.ensures
+pub open-returns-in_ok-amount-in-Inst-clause-answers : goal.open-returns-in_ok-amount-in-Inst-clause-answers
+open-returns-in_ok-amount-in-Inst-clause-answers _ c =
+    body.instance_goes (content_of c.args.content.now) (state_of c.args.state.now) (lent c.args.scene) c.args.scale
+    (inst_is c.in-Inst.args c.in-Inst.is c.deref.ensures.value) c.in_ok-key-in-Inst.ensures.answers c.in_ok-amount-in-Inst.ensures.answers
+    (filled_at (lent c.args.scene) (content_of c.args.content.now) (state_of c.args.state.now) c.of-instance.ensures c.of-share-in-Inst.ensures
     (calmly _ c.fill_instance.ensures))
 
 pub open-returns-in_err-left-in-And-clause-answers : goal.open-returns-in_err-left-in-And-clause-answers
 open-returns-in_err-left-in-And-clause-answers _ c =
     passed _ _ c.from_residual-in_err-left-in-And.ensures.1 (body.pair_stops (λ p. (content_of p.0.now, content_of p.1.now)) (content_of c.args.content.now)
-    (state_of c.args.state.now) (scene_of c.args.scene.now) c.args.scale (ap assertion_of c.in-And.is) c.in_err-left-in-And.ensures.answers)
+    (state_of c.args.state.now) (lent c.args.scene) c.args.scale (ap assertion_of c.in-And.is) c.in_err-left-in-And.ensures.answers)
 
 pub open-open-requires : goal.open-open-requires
 open-open-requires _ c = (
@@ -443,7 +455,7 @@ open-open-requires _ c = (
 pub open-returns-in_err-open-in-And-clause-answers : goal.open-returns-in_err-open-in-And-clause-answers
 open-returns-in_err-open-in-And-clause-answers _ c =
     passed _ _ c.from_residual-in_err-open-in-And.ensures.1 (body.first_stops (λ p. (content_of p.0.now, content_of p.1.now)) (content_of c.args.content.now)
-    (state_of c.args.state.now) (scene_of c.args.scene.now) c.args.scale (and_is c.in-And.is c.deref-in-And.ensures refl) c.in_ok-left-in-And.ensures.answers
+    (state_of c.args.state.now) (lent c.args.scene) c.args.scale (and_is c.in-And.is c.deref-in-And.ensures refl) c.in_ok-left-in-And.ensures.answers
     c.in_err-open-in-And.ensures.answers)
 
 pub open-open-requires-in-And : goal.open-open-requires-in-And
@@ -455,7 +467,7 @@ open-open-requires-in-And _ c = (
       (halves_within (λ p. (content_of p.0.now, content_of p.1.now)) (content_of c.args.content.now) c.requires.content_within c.in_ok-left-in-And.ensures.answers).1,
       (
         opened_within (λ _. state_of c.open.new.state) (assertion_of c.deref-in-And.result.now) (content_of c.in_ok-left-in-And.left.now) (state_of c.args.state.now)
-            (scene_of c.args.scene.now) c.args.scale (subst IsWithinAssertion (and_is c.in-And.is c.deref-in-And.ensures c.deref-in-And-2.ensures) c.requires.body_within).0
+            (lent c.args.scene) c.args.scale (subst IsWithinAssertion (and_is c.in-And.is c.deref-in-And.ensures c.deref-in-And-2.ensures) c.requires.body_within).0
             (halves_within (λ p. (content_of p.0.now, content_of p.1.now)) (content_of c.args.content.now) c.requires.content_within c.in_ok-left-in-And.ensures.answers).0
             c.requires.state_within c.requires.scene_within c.in_ok-open-in-And.ensures.answers,
         c.requires.scene_within,
@@ -466,44 +478,44 @@ open-open-requires-in-And _ c = (
 
 pub open-returns-in_ok-open-in-And-clause-answers : goal.open-returns-in_ok-open-in-And-clause-answers
 open-returns-in_ok-open-in-And-clause-answers _ c =
-    body.both_go (λ p. (content_of p.0.now, content_of p.1.now)) (content_of c.args.content.now) (state_of c.args.state.now) (scene_of c.args.scene.now) c.args.scale
+    body.both_go (λ p. (content_of p.0.now, content_of p.1.now)) (content_of c.args.content.now) (state_of c.args.state.now) (lent c.args.scene) c.args.scale
     (and_is c.in-And.is c.deref-in-And.ensures c.deref-in-And-2.ensures) c.in_ok-left-in-And.ensures.answers c.in_ok-open-in-And.ensures.answers c.open-in-And.ensures.answers
 
 pub open-returns-in_err-truth_of-in-Implies-clause-answers : goal.open-returns-in_err-truth_of-in-Implies-clause-answers
 open-returns-in_err-truth_of-in-Implies-clause-answers _ c =
     passed _ _ c.from_residual-in_err-truth_of-in-Implies.ensures.1
-    (body.implies_stops (content_of c.args.content.now) (state_of c.args.state.now) (scene_of c.args.scene.now) c.args.scale (ap assertion_of c.in-Implies.is)
+    (body.implies_stops (content_of c.args.content.now) (state_of c.args.state.now) (lent c.args.scene) c.args.scale (ap assertion_of c.in-Implies.is)
     c.in_err-truth_of-in-Implies.ensures.answers)
 
 pub open-returns-then-branch-clause-answers : goal.open-returns-then-branch-clause-answers
 open-returns-then-branch-clause-answers _ c =
-    body.implies_so (content_of c.args.content.now) (state_of c.args.state.now) (scene_of c.args.scene.now) c.args.scale
+    body.implies_so (content_of c.args.content.now) (state_of c.args.state.now) (lent c.args.scene) c.args.scale
     (implies_is c.in-Implies.is c.deref-then-branch.ensures) c.in_ok-truth_of-in-Implies.ensures.answers c.if-branch.true c.open-then-branch.ensures.answers
 
 pub open-returns-in_err-unit-in-Implies-clause-answers : goal.open-returns-in_err-unit-in-Implies-clause-answers
 open-returns-in_err-unit-in-Implies-clause-answers _ c =
-    passed _ _ c.from_residual-in_err-unit-in-Implies.ensures.1 (body.implies_not (content_of c.args.content.now) (state_of c.args.state.now) (scene_of c.args.scene.now)
+    passed _ _ c.from_residual-in_err-unit-in-Implies.ensures.1 (body.implies_not (content_of c.args.content.now) (state_of c.args.state.now) (lent c.args.scene)
     c.args.scale (ap assertion_of c.in-Implies.is) c.in_ok-truth_of-in-Implies.ensures.answers c.if-branch.false
     (body.unit_stops (content_of c.args.content.now) (state_of c.args.state.now) _ c.in_err-unit-in-Implies.ensures))
 
 pub open-returns-in_ok-unit-in-Implies-clause-answers : goal.open-returns-in_ok-unit-in-Implies-clause-answers
 open-returns-in_ok-unit-in-Implies-clause-answers _ c =
-    body.implies_not (content_of c.args.content.now) (state_of c.args.state.now) (scene_of c.args.scene.now) c.args.scale (ap assertion_of c.in-Implies.is)
+    body.implies_not (content_of c.args.content.now) (state_of c.args.state.now) (lent c.args.scene) c.args.scale (ap assertion_of c.in-Implies.is)
     c.in_ok-truth_of-in-Implies.ensures.answers c.if-branch.false
     (body.unit_goes (content_of c.args.content.now) (state_of c.args.state.now) _ _ c.in_ok-unit-in-Implies.ensures refl)
 
 pub open-returns-in_err-truth_of-in-Choose-clause-answers : goal.open-returns-in_err-truth_of-in-Choose-clause-answers
 open-returns-in_err-truth_of-in-Choose-clause-answers _ c =
     passed _ _ c.from_residual-in_err-truth_of-in-Choose.ensures.1
-    (body.choose_stops (content_of c.args.content.now) (state_of c.args.state.now) (scene_of c.args.scene.now) c.args.scale (ap assertion_of c.in-Choose.is)
+    (body.choose_stops (content_of c.args.content.now) (state_of c.args.state.now) (lent c.args.scene) c.args.scale (ap assertion_of c.in-Choose.is)
     c.in_err-truth_of-in-Choose.ensures.answers)
 
 pub open-returns-then-branch-2-clause-answers : goal.open-returns-then-branch-2-clause-answers
 open-returns-then-branch-2-clause-answers _ c =
-    body.choose_so (content_of c.args.content.now) (state_of c.args.state.now) (scene_of c.args.scene.now) c.args.scale
+    body.choose_so (content_of c.args.content.now) (state_of c.args.state.now) (lent c.args.scene) c.args.scale
     (choice_is c.in-Choose.is c.deref-then-branch-2.ensures refl) c.in_ok-truth_of-in-Choose.ensures.answers c.if-branch-2.true c.open-then-branch-2.ensures.answers
 
 pub open-returns-else-branch-2-clause-answers : goal.open-returns-else-branch-2-clause-answers
 open-returns-else-branch-2-clause-answers _ c =
-    body.choose_not (content_of c.args.content.now) (state_of c.args.state.now) (scene_of c.args.scene.now) c.args.scale
+    body.choose_not (content_of c.args.content.now) (state_of c.args.state.now) (lent c.args.scene) c.args.scale
     (choice_is c.in-Choose.is refl c.deref-else-branch-2.ensures) c.in_ok-truth_of-in-Choose.ensures.answers c.if-branch-2.false c.open-else-branch-2.ensures.answers
