@@ -1,6 +1,6 @@
 -- Laws of scopes.
 use Rattle.std.proofs.Common.{◌<◌, ◌≤◌, ◌==◌, ◌||◌, ◌⊎◌, inl, inr, ℕ, Bool, true, false, List, [], ◌∷◌, Contains, IsTrue, if◌then◌else◌, refl, subst, arith}
-use Rattle.std.proofs.lemmas.List.Elements.{Contains-push_cases}
+use Rattle.std.proofs.lemmas.List.Elements.{Contains-append_left, Contains-push_cases}
 use Rattle.std.proofs.lemmas.Bool.{eqb-true}
 use Rattle.std.specs.List.{list_any}
 use Rattle.vb_value.specs.declared.values.Ty.{Ty}
@@ -167,3 +167,34 @@ numbered-scope_after sc (Exhale at a) h = h
 numbered-scope_after sc (Assert at a) h = h
 numbered-scope_after sc (Fold f) h = h
 numbered-scope_after sc (Unfold f) h = h
+
+-- ---- what is visible stays so to the end of its block
+
+later-declared : (sc : Scope) (x : ℕ) → Contains sc.visible x → Contains (declared sc).visible x
+later-declared sc x seen = Contains-append_left sc.visible (sc.fresh ∷ []) x seen
+
+later-after_target : (sc : Scope) (y x : ℕ) → Contains sc.visible x → Contains (after_target sc y).visible x
+later-after_target sc y x seen =
+    elim (y == sc.fresh) as (λ b. Contains (if b then declared sc else sc).visible x) [ true ↦ later-declared sc x seen | false ↦ seen ]
+
+later-after_targets : (sc : Scope) (ys : List ℕ) (x : ℕ) → Contains sc.visible x → Contains (after_targets sc ys).visible x
+later-after_targets sc [] x seen = seen
+later-after_targets sc (y ∷ ys) x seen = later-after_targets (after_target sc y) ys x (later-after_target sc y x seen)
+
+pub later-scope_after : (sc : Scope) (s : Stmt) (x : ℕ) → Contains sc.visible x → Contains (scope_after sc s).visible x
+later-scope_after sc (Var at y init) x seen = later-declared sc x seen
+later-scope_after sc (New at y fields refs) x seen = later-after_target sc y x seen
+later-scope_after sc (Call at ys m args) x seen = later-after_targets sc ys x seen
+later-scope_after sc (If at e a b) x seen = seen
+later-scope_after sc (While (loop at e is body turn targets)) x seen = seen
+later-scope_after sc (Assign at y e) x seen = seen
+later-scope_after sc (Write at e f place d) x seen = seen
+later-scope_after sc (Inhale at a) x seen = seen
+later-scope_after sc (Exhale at a) x seen = seen
+later-scope_after sc (Assert at a) x seen = seen
+later-scope_after sc (Fold f) x seen = seen
+later-scope_after sc (Unfold f) x seen = seen
+
+pub later-stmts_scope : (sc : Scope) (ss : Stmts) (x : ℕ) → Contains sc.visible x → Contains (stmts_scope sc ss).visible x
+later-stmts_scope sc skip x seen = seen
+later-stmts_scope sc (next s ss) x seen = later-stmts_scope (scope_after sc s) ss x (later-scope_after sc s x seen)

@@ -14,6 +14,9 @@ below-lt n x (k, within, is) =
     let small : k < n = omega (arith, within, len) in
     omega (arith, small, is, get_or-range_with_len 0 n k x small)
 
+pub lt-below : (n x : ℕ) → x < n → Contains (below n) x
+lt-below n x small = (x, omega (arith, small, length-range_with_len 0 n), omega (arith, get_or-range_with_len 0 n x x small))
+
 contains_next : {X : Type 0} (x y : X) (xs : List X) → Contains xs y → Contains (x ∷ xs) y
 contains_next x y xs (k, within, is) = (suc k, omega (arith, within), is)
 

@@ -1,10 +1,12 @@
 -- What is typed in one context is typed in each in which more may be said.
-use Rattle.std.proofs.Common.{List, ℕ}
+use Rattle.std.proofs.Common.{List, ℕ, Contains, refl}
 use Rattle.vb_value.specs.declared.values.Ty.{Ty}
 use Rattle.viper_core.specs.Expr as t
-use Rattle.viper_core.specs.Part.{IsWider, widened}
+use Rattle.viper_core.specs.Formed.{below, precondition_context}
+use Rattle.viper_core.specs.Part.{IsContext, IsPartExpr, IsPartAssertion, IsWider, widened}
+use Rattle.viper_core.specs.Program.{Program, Method}
 use Rattle.viper_core.specs.Stmt as s
-use Rattle.viper_core.specs.Typing.{Site, Context, HasType, variable, literal, truth, null, part, negative, negation, binary, choice, field, old, unfolded, Opens, opens, HaveTypes, nothing, also, IsAmount, amount, wildcard, IsAssertion, fact, access, instance, both, implied, chosen, IsFold}
+use Rattle.viper_core.specs.Typing.{Site, Elsewhere, Context, HasType, variable, literal, truth, null, part, negative, negation, binary, choice, field, old, unfolded, Opens, opens, HaveTypes, nothing, also, IsAmount, amount, wildcard, IsAssertion, fact, access, instance, both, implied, chosen, IsFold}
 
 mutual
   pub typed_wider : {c : Context} {e : t.Expr} {u : Ty} {visible : List ℕ} {site : Site} → IsWider c visible site → HasType c e u → HasType (widened c visible site) e u
@@ -49,3 +51,15 @@ fold_wider w h = record {
   args = all_typed_wider w h.args;
   amount = typed_wider w h.amount;
 }
+
+-- ---- parts
+
+pub part_wider : {c : Context} {e : t.Expr} {u : Ty} {visible : List ℕ} {site : Site} → IsWider c visible site → IsContext (widened c visible site) → IsPartExpr c e u → IsPartExpr (widened c visible site) e u
+part_wider w z h = record { context = z; typed = typed_wider w h.typed; nested = h.nested }
+
+pub assertion_part_wider : {c : Context} {a : t.Assertion} {visible : List ℕ} {site : Site} → IsWider c visible site → IsContext (widened c visible site) → IsPartAssertion c a → IsPartAssertion (widened c visible site) a
+assertion_part_wider w z h = record { context = z; typed = assertion_wider w h.typed; nested = h.nested }
+
+-- what a precondition says may be said wherever the parameters are visible
+pub precondition_wider : (p : Program) (m : Method) (visible : List ℕ) → ((x : ℕ) → Contains (below m.params) x → Contains visible x) → IsWider (precondition_context p m) visible Elsewhere
+precondition_wider p m visible sees = record { sees = sees; old = λ h. refl; outside = λ h. h }

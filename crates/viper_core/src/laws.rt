@@ -5,16 +5,17 @@ ghost use Rattle.vb_base.specs.declared.places.Pos.{Pos};
 ghost use Rattle.vb_value.specs.Bound.{Bound};
 ghost use Rattle.vb_value.specs.declared.values.Ty.{Ty};
 ghost use Rattle.vb_value.specs.declared.values.Ty.TheVariants as ty;
+ghost use Rattle.viper_core.specs.declared.exprs.Op.{Op};
 ghost use Rattle.viper_core.specs.declared.programs.Unit.TheVariants as unit;
 ghost use Rattle.viper_core.specs.Expr as t;
 ghost use Rattle.viper_core.specs.Formed.{IsTypedProgram, IsFormed, HasBodyAt, predicate_context, precondition_context, postcondition_context, method_frame, method_scope};
 ghost use Rattle.viper_core.specs.Literals.{IsProperExpr, IsProperAssertion, IsWithinExpr, IsWithinAssertion};
-ghost use Rattle.viper_core.specs.Part.{IsPartExpr, IsPartAssertion, IsPartStmt, ArePartStmts, OpensParts, FoldParts, IsWider, widened};
+ghost use Rattle.viper_core.specs.Part.{IsPartExpr, ArePartExprs, IsPartAmount, IsPartAssertion, IsPartStmt, ArePartStmts, OpensParts, FoldParts, IsWider, widened};
 ghost use Rattle.viper_core.specs.Plain.{AssertionOpensNothing, AssertionHasNoOld};
 ghost use Rattle.viper_core.specs.Program as p;
 ghost use Rattle.viper_core.specs.Scope.{Scope, after_block, scope_after, some_assigns, stmts_scope};
 ghost use Rattle.viper_core.specs.Stmt as s;
-ghost use Rattle.viper_core.specs.Typing.{Site, Context, Frame, inside, HasType, IsAssertion, AreStmts};
+ghost use Rattle.viper_core.specs.Typing.{Site, Context, Frame, inside, value_type, HasType, IsAssertion, AreStmts};
 ghost use Rattle.viper_core.specs.Weight.{weight, told_weight, predicate_weight, method_weight};
 
 /// An expression has at most one type.
@@ -43,8 +44,10 @@ pub fn assigned_variables_are_visible_or_new()
         → Contains sc.visible x ⊎ (sc.fresh ≤ x) }
 {}
 
-/// What is typed is typed wherever at least as many variables are visible and as much may be said.
+/// What is typed is typed wherever at least as many variables are visible and as much may be said, and what is visible
+/// stays so to the end of its block.
 pub fn more_may_be_visible()
+    ensures later { (sc : Scope) (ss : s.Stmts) (x : ℕ) → Contains sc.visible x → Contains (stmts_scope sc ss).visible x }
     ensures expr { (c : Context) (e : t.Expr) (u : Ty) (visible : List ℕ) (site : Site) → IsWider c visible site
         → HasType c e u → HasType (widened c visible site) e u }
     ensures assertion { (c : Context) (a : t.Assertion) (visible : List ℕ) (site : Site) → IsWider c visible site
@@ -115,4 +118,36 @@ pub fn statements_have_parts()
     ensures turns { (m : Frame) (sc : Scope) (at : Pos) (e : t.Expr) (is : List t.Assertion) (body : s.Stmts)
         (turn : Pos) (targets : List ℕ) → IsPartStmt m sc (s.While (s.loop at e is body turn targets))
         → IsPartExpr (inside m sc) e ty.Bool × All (IsPartAssertion (inside m sc)) is × ArePartStmts m sc body }
+{}
+
+/// The operands in a part are parts, of the types that its form asks for.
+pub fn expressions_have_parts()
+    ensures negative { (c : Context) (a : t.Expr) (u : Ty) → IsPartExpr c (t.Neg a) u → IsPartExpr c a u }
+    ensures negation { (c : Context) (a : t.Expr) (u : Ty) → IsPartExpr c (t.Not a) u → IsPartExpr c a ty.Bool }
+    ensures binary { (c : Context) (o : Op) (a : t.Expr) (b : t.Expr) (at : Pos) (u : Ty)
+        → IsPartExpr c (t.Bin o a b at) u
+        → (left : Ty) × (right : Ty) × IsPartExpr c a left × IsPartExpr c b right × (value_type o left right ≡ Some u) }
+    ensures choice { (c : Context) (a : t.Expr) (b : t.Expr) (d : t.Expr) (u : Ty) → IsPartExpr c (t.Choose a b d) u
+        → IsPartExpr c a ty.Bool × IsPartExpr c b u × IsPartExpr c d u }
+    ensures field { (c : Context) (a : t.Expr) (f : ℕ) (at : Pos) (u : Ty) → IsPartExpr c (t.Field a f at) u
+        → IsPartExpr c a ty.Ref }
+    ensures old { (c : Context) (a : t.Expr) (u : Ty) → IsPartExpr c (t.Old a) u → IsPartExpr c a u }
+{}
+
+/// The parts of an assertion are parts.
+pub fn assertions_have_parts()
+    ensures fact { (c : Context) (e : t.Expr) (at : Pos) → IsPartAssertion c (t.Fact e at) → IsPartExpr c e ty.Bool }
+    ensures access { (c : Context) (e : t.Expr) (f : ℕ) (m : t.Amt) (at : Pos) → IsPartAssertion c (t.Acc e f m at)
+        → IsPartExpr c e ty.Ref × IsPartAmount c m }
+    ensures instance { (c : Context) (k : ℕ) (es : t.Exprs) (m : t.Amt) (at : Pos)
+        → IsPartAssertion c (t.Inst k es m at)
+        → (d : p.Predicate) × (slice_get c.program.predicates k ≡ Some d) × ArePartExprs c es d.params × IsPartAmount c m }
+    ensures both { (c : Context) (a : t.Assertion) (b : t.Assertion) → IsPartAssertion c (t.And a b)
+        → IsPartAssertion c a × IsPartAssertion c b }
+    ensures implied { (c : Context) (e : t.Expr) (a : t.Assertion) → IsPartAssertion c (t.Implies e a)
+        → IsPartExpr c e ty.Bool × IsPartAssertion c a }
+    ensures chosen { (c : Context) (e : t.Expr) (a : t.Assertion) (b : t.Assertion)
+        → IsPartAssertion c (t.ChooseAssertion e a b)
+        → IsPartExpr c e ty.Bool × IsPartAssertion c a × IsPartAssertion c b }
+    ensures amount { (c : Context) (e : t.Expr) → IsPartAmount c (t.Is e) → IsPartExpr c e ty.Perm }
 {}
