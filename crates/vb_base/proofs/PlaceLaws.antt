@@ -34,16 +34,15 @@ one_place_after before p q h g = same_pos p q (h.line ∙ sym g.line) (h.col ∙
 
 -- after at most so many bytes is a place
 pub some_place_after : (before : List ℕ) → length before ≤ 1048576 → (at : Pos) × IsPlaceAfter before at
-some_place_after before most =
-    (
-      record {
-        line = line_after before;
-        col = col_after before;
-        line_in_range = (omega arith, omega (arith, most, line_after-le before));
-        col_in_range = (omega arith, omega (arith, most, col_after-le before));
-      },
-      record { line = refl; col = refl },
-    )
+some_place_after before most = (
+  record {
+    line = line_after before;
+    col = col_after before;
+    line_in_range = (omega arith, omega (arith, most, line_after-le before));
+    col_in_range = (omega arith, omega (arith, most, col_after-le before));
+  },
+  record { line = refl; col = refl },
+)
 
 -- a place after more bytes stands behind
 

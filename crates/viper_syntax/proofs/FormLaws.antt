@@ -1,11 +1,11 @@
 -- What the tokens of a text are like: names are names, numbers are within MAX, places go on as in the text.
-use Rattle.std.proofs.Common.{◌≡◌, ◌∙◌, ◌≢◌, ℕ, pos, ◌+◌, ◌<◌, ◌≤◌, Bool, true, false, not, cond, refl, ap, sym, subst, arith, inl, inr, List, [], ◌∷◌, ◌++◌, length, take, drop, suc, zero, Some}
-use Rattle.std.specs.Prelude.{◌⊎◌, ◌==◌, ◌≤ℤ◌, slice_get}
+use Rattle.std.proofs.Common.{◌≡◌, ◌≢◌, ℕ, pos, ◌+◌, ◌<◌, ◌≤◌, true, false, not, cond, refl, ap, sym, subst, arith, List, [], ◌∷◌, ◌++◌, length, take, drop, suc, zero, Some}
+use Rattle.std.specs.Prelude.{◌≤ℤ◌, slice_get}
 use Rattle.std.proofs.lemmas.List.{append_assoc, append-nil, length-append, length-take-le, length-drop, take_at}
 use Rattle.std.proofs.lemmas.Bool.{and_from}
 use Rattle.std.proofs.lemmas.Int.{ints}
 use Rattle.vb_base.specs.declared.places.Pos.{Pos}
-use Rattle.vb_base.specs.Names.{is_name, is_word}
+use Rattle.vb_base.specs.Names.{is_name}
 use Rattle.vb_base.specs.Place.{IsPlaceAfter, IsBefore}
 use Rattle.vb_base.proofs.PlaceLaws.{suffix_len_push, place_before}
 use Rattle.viper_syntax.specs.declared.tokens.Word.{Word}

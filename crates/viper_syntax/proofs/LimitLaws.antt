@@ -1,6 +1,6 @@
 -- How the counts of a list of tokens go on with one more token, and the first token above a limit.
-use Rattle.std.proofs.Common.{◌≡◌, ◌∙◌, ◌≢◌, ℕ, ◌+◌, ◌<◌, ◌≤◌, Bool, true, false, cond, not, refl, ap, sym, subst, arith, inl, inr, List, [], ◌∷◌, ◌++◌, length, take, get_or, Option, Some, None, suc, zero, add-one}
-use Rattle.std.specs.Prelude.{slice_get, MatchOption, is_some, ◌⊎◌}
+use Rattle.std.proofs.Common.{◌≡◌, ◌∙◌, ℕ, ◌+◌, ◌<◌, ◌≤◌, Bool, true, false, cond, not, refl, ap, sym, subst, arith, inl, inr, List, [], ◌∷◌, ◌++◌, length, take, get_or, Some, suc, zero, add-one}
+use Rattle.std.specs.Prelude.{slice_get, ◌⊎◌}
 use Rattle.std.proofs.lemmas.Bool.{cases_lt}
 use Rattle.std.proofs.lemmas.List.{take_all}
 use Rattle.std.proofs.lemmas.List.Sums.{sum_by_push, fold_push}

@@ -5,7 +5,7 @@ use Rattle.std.specs.Char.{is_ascii_digit}
 use Rattle.std.specs.List.{list_all}
 use Rattle.std.specs.Str.{bytes_eq}
 use Rattle.std.proofs.lemmas.Bool.Decides.{nat_tests}
-use Rattle.vb_base.specs.Names.{is_name, is_name_start, is_name_byte}
+use Rattle.vb_base.specs.Names.{is_name, is_name_start}
 use Rattle.viper_syntax.specs.declared.tokens.Sign.{Sign}
 use Rattle.viper_syntax.specs.declared.tokens.Sign.TheVariants as s
 use Rattle.viper_syntax.specs.declared.tokens.Word.{Word}
