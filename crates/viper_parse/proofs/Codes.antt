@@ -1,6 +1,6 @@
 -- A means of proof: with which tokens each symbol begins, and which could go on with what it spelled. No token is
 -- among both where one symbol follows another, so the next token always tells how to read on.
-use Rattle.std.proofs.Common.{◌≡◌, ℕ, Bool, true, false, List, [], ◌∷◌, Option, Some, None, nat_eq, cond, ◌≤◌}
+use Rattle.std.proofs.Common.{◌≡◌, ℕ, Bool, true, false, List, [], ◌∷◌, ◌++◌, map, Option, Some, None, nat_eq, cond, ◌≤◌}
 use Rattle.viper_syntax.specs.declared.tokens.Token.{Token}
 use Rattle.viper_syntax.specs.declared.tokens.Tok.{Tok}
 use Rattle.viper_syntax.specs.declared.tokens.Tok.TheVariants as tok
@@ -101,57 +101,92 @@ abbrev pub within : List ℕ → List ℕ → Bool
 within [] ns = true
 within (m ∷ rest) ns = cond (among m ns) (within rest ns) false
 
+-- the codes of words and of signs
+abbrev pub words : List Word → List ℕ
+words ws = map word_code ws
+
+abbrev pub signs : List Sign → List ℕ
+signs os = map sign_code os
+
+-- the codes of a name and of a number
+abbrev pub names : List ℕ
+names = 1 ∷ []
+
+abbrev pub numbers : List ℕ
+numbers = 2 ∷ []
+
 -- the tokens that may pass a test
 abbrev pub class_codes : WordClass → List ℕ
-class_codes class.Type = 39 ∷ 40 ∷ 41 ∷ 42 ∷ []
-class_codes class.Constant = 34 ∷ 35 ∷ 33 ∷ 36 ∷ 37 ∷ 38 ∷ []
-class_codes class.Check = 23 ∷ 24 ∷ 25 ∷ 26 ∷ []
-class_codes class.Clause = 14 ∷ 15 ∷ []
+class_codes class.Type = words (word.Int ∷ word.Bool ∷ word.Ref ∷ word.Perm ∷ [])
+class_codes class.Constant = words (word.True ∷ word.False ∷ word.Null ∷ word.Write ∷ word.None ∷ word.Wildcard ∷ [])
+class_codes class.Check = words (word.Inhale ∷ word.Exhale ∷ word.Assert ∷ word.Assume ∷ [])
+class_codes class.Clause = words (word.Requires ∷ word.Ensures ∷ [])
+
+abbrev pub negations : List ℕ
+negations = signs (sign.Not ∷ sign.Minus ∷ [])
+
+abbrev pub operators : List ℕ
+operators = signs (
+    sign.Iff ∷ sign.Implies ∷ sign.Or ∷ sign.And ∷ sign.Equal ∷ sign.NotEqual ∷ sign.AtMost ∷ sign.AtLeast ∷ sign.Less ∷
+    sign.Greater ∷ sign.Plus ∷ sign.Minus ∷ sign.Star ∷ sign.Slash ∷ sign.Backslash ∷ sign.Percent ∷ [])
 
 abbrev pub codes : {b : Bool} {r : Kind} → Test b r → List ℕ
 codes (this x) = code x ∷ []
-codes a_name = 1 ∷ []
-codes a_number = 2 ∷ []
+codes a_name = names
+codes a_number = numbers
 codes (one_of c) = class_codes c
-codes a_negation = 78 ∷ 73 ∷ []
-codes (an_operator n) = 62 ∷ 63 ∷ 64 ∷ 65 ∷ 66 ∷ 67 ∷ 68 ∷ 69 ∷ 70 ∷ 71 ∷ 72 ∷ 73 ∷ 74 ∷ 75 ∷ 76 ∷ 77 ∷ []
+codes a_negation = negations
+codes (an_operator n) = operators
+
+-- the tokens with which declarations, statements and terms begin
+abbrev pub decl_starts : List ℕ
+decl_starts = words (word.Field ∷ word.Predicate ∷ word.Method ∷ [])
+
+abbrev pub statement_starts : List ℕ
+statement_starts = words (word.Var ∷ []) ++ (class_codes class.Check ++ (words (word.Fold ∷ word.Unfold ∷ word.If ∷ word.While ∷ []) ++ names))
+
+abbrev pub first_starts : List ℕ
+first_starts = names ++ (numbers ++ (class_codes class.Constant ++ (words (word.Old ∷ word.Acc ∷ []) ++ signs (sign.OpenParen ∷ []))))
+
+abbrev pub term_starts : List ℕ
+term_starts = negations ++ (words (word.Unfolding ∷ []) ++ first_starts)
 
 -- the tokens with which a symbol begins, where it is not empty
 abbrev pub first_codes : {s : Kind} → Symbol s → List ℕ
-first_codes (g.Program ds) = 10 ∷ 11 ∷ 12 ∷ []
-first_codes (g.Predicate at) = 1 ∷ []
-first_codes (g.Method at) = 1 ∷ []
-first_codes g.Returns = 13 ∷ []
-first_codes (g.Clauses cs) = 14 ∷ 15 ∷ []
-first_codes g.Body = 52 ∷ []
-first_codes g.Formals = 51 ∷ 1 ∷ []
-first_codes (g.MoreFormals xs) = 56 ∷ 51 ∷ []
-first_codes g.FormalOf = 1 ∷ []
-first_codes g.Block = 52 ∷ []
-first_codes (g.Stmts ss) = 53 ∷ 17 ∷ 23 ∷ 24 ∷ 25 ∷ 26 ∷ 27 ∷ 28 ∷ 19 ∷ 22 ∷ 1 ∷ []
-first_codes g.Stmt = 17 ∷ 23 ∷ 24 ∷ 25 ∷ 26 ∷ 27 ∷ 28 ∷ 19 ∷ 22 ∷ 1 ∷ []
-first_codes (g.Variable at) = 1 ∷ []
-first_codes (g.AfterName x) = 50 ∷ 56 ∷ 58 ∷ 60 ∷ []
-first_codes (g.Arm at) = 50 ∷ []
-first_codes (g.Arms bs) = 20 ∷ 21 ∷ []
-first_codes (g.While at) = 50 ∷ []
-first_codes (g.Invariants is) = 16 ∷ []
-first_codes g.Rhs = 18 ∷ 78 ∷ 73 ∷ 29 ∷ 1 ∷ 2 ∷ 34 ∷ 35 ∷ 33 ∷ 36 ∷ 37 ∷ 38 ∷ 32 ∷ 31 ∷ 50 ∷ []
-first_codes (g.New at) = 50 ∷ []
-first_codes (g.Separated o xs) = sign_code o ∷ []
-first_codes g.Semicolons = 57 ∷ []
-first_codes g.InstanceOf = 31 ∷ 1 ∷ []
-first_codes g.CallOf = 1 ∷ []
-first_codes g.Arguments = 51 ∷ 78 ∷ 73 ∷ 29 ∷ 1 ∷ 2 ∷ 34 ∷ 35 ∷ 33 ∷ 36 ∷ 37 ∷ 38 ∷ 32 ∷ 31 ∷ 50 ∷ []
-first_codes (g.MoreArguments es) = 56 ∷ 51 ∷ []
-first_codes g.Amount = 56 ∷ 51 ∷ []
-first_codes g.Group = 50 ∷ []
-first_codes g.Term = 78 ∷ 73 ∷ 29 ∷ 1 ∷ 2 ∷ 34 ∷ 35 ∷ 33 ∷ 36 ∷ 37 ∷ 38 ∷ 32 ∷ 31 ∷ 50 ∷ []
-first_codes (g.Level n) = 78 ∷ 73 ∷ 29 ∷ 1 ∷ 2 ∷ 34 ∷ 35 ∷ 33 ∷ 36 ∷ 37 ∷ 38 ∷ 32 ∷ 31 ∷ 50 ∷ []
-first_codes (g.Chain n p) = 62 ∷ 63 ∷ 64 ∷ 65 ∷ 66 ∷ 67 ∷ 68 ∷ 69 ∷ 70 ∷ 71 ∷ 72 ∷ 73 ∷ 74 ∷ 75 ∷ 76 ∷ 77 ∷ []
-first_codes g.Unary = 78 ∷ 73 ∷ 29 ∷ 1 ∷ 2 ∷ 34 ∷ 35 ∷ 33 ∷ 36 ∷ 37 ∷ 38 ∷ 32 ∷ 31 ∷ 50 ∷ []
-first_codes (g.Fields p) = 58 ∷ []
-first_codes g.First = 1 ∷ 2 ∷ 34 ∷ 35 ∷ 33 ∷ 36 ∷ 37 ∷ 38 ∷ 32 ∷ 31 ∷ 50 ∷ []
+first_codes (g.Program ds) = decl_starts
+first_codes (g.Predicate at) = names
+first_codes (g.Method at) = names
+first_codes g.Returns = words (word.Returns ∷ [])
+first_codes (g.Clauses cs) = class_codes class.Clause
+first_codes g.Body = signs (sign.OpenBrace ∷ [])
+first_codes g.Formals = signs (sign.CloseParen ∷ []) ++ names
+first_codes (g.MoreFormals xs) = signs (sign.Comma ∷ sign.CloseParen ∷ [])
+first_codes g.FormalOf = names
+first_codes g.Block = signs (sign.OpenBrace ∷ [])
+first_codes (g.Statements ss) = signs (sign.CloseBrace ∷ []) ++ statement_starts
+first_codes g.Statement = statement_starts
+first_codes (g.Variable at) = names
+first_codes (g.AfterName x) = signs (sign.OpenParen ∷ sign.Comma ∷ sign.Dot ∷ sign.Assign ∷ [])
+first_codes (g.Arm at) = signs (sign.OpenParen ∷ [])
+first_codes (g.Arms bs) = words (word.Elseif ∷ word.Else ∷ [])
+first_codes (g.WhileLoop at) = signs (sign.OpenParen ∷ [])
+first_codes (g.Invariants is) = words (word.Invariant ∷ [])
+first_codes g.Rhs = words (word.New ∷ []) ++ term_starts
+first_codes (g.Creation at) = signs (sign.OpenParen ∷ [])
+first_codes (g.Separated o xs) = signs (o ∷ [])
+first_codes g.Semicolons = signs (sign.Semicolon ∷ [])
+first_codes g.InstanceOf = words (word.Acc ∷ []) ++ names
+first_codes g.CallOf = names
+first_codes g.Arguments = signs (sign.CloseParen ∷ []) ++ term_starts
+first_codes (g.MoreArguments es) = signs (sign.Comma ∷ sign.CloseParen ∷ [])
+first_codes g.Amount = signs (sign.Comma ∷ sign.CloseParen ∷ [])
+first_codes g.Group = signs (sign.OpenParen ∷ [])
+first_codes g.Term = term_starts
+first_codes (g.Level n) = term_starts
+first_codes (g.Chain n p) = operators
+first_codes g.Unary = term_starts
+first_codes (g.Fields p) = signs (sign.Dot ∷ [])
+first_codes g.First = first_starts
 
 -- what a symbol spells where it is empty
 abbrev pub empty : {s : Kind} → Symbol s → Option (Value s)
@@ -165,16 +200,16 @@ empty g.Formals = None
 empty (g.MoreFormals xs) = None
 empty g.FormalOf = None
 empty g.Block = None
-empty (g.Stmts ss) = None
-empty g.Stmt = None
+empty (g.Statements ss) = None
+empty g.Statement = None
 empty (g.Variable at) = None
 empty (g.AfterName x) = None
 empty (g.Arm at) = None
 empty (g.Arms bs) = Some (s.If (s.arms bs) s.no_else)
-empty (g.While at) = None
+empty (g.WhileLoop at) = None
 empty (g.Invariants is) = Some is
 empty g.Rhs = None
-empty (g.New at) = None
+empty (g.Creation at) = None
 empty (g.Separated o xs) = Some xs
 empty g.Semicolons = Some tt
 empty g.InstanceOf = None
@@ -190,46 +225,37 @@ empty g.Unary = None
 empty (g.Fields p) = Some p
 empty g.First = None
 
--- the tokens that may go on with a term
-abbrev pub tail_list : List ℕ
-tail_list = 61 ∷ 58 ∷ 50 ∷ 62 ∷ 63 ∷ 64 ∷ 65 ∷ 66 ∷ 67 ∷ 68 ∷ 69 ∷ 70 ∷ 71 ∷ 72 ∷ 73 ∷ 74 ∷ 75 ∷ 76 ∷ 77 ∷ []
+-- the tokens that may go on with a name, with a term, and with the clauses of a method
+abbrev pub name_tail : List ℕ
+name_tail = signs (sign.Dot ∷ sign.OpenParen ∷ [])
+
+abbrev pub term_tail : List ℕ
+term_tail = signs (sign.Question ∷ []) ++ (name_tail ++ operators)
+
+abbrev pub method_tail : List ℕ
+method_tail = words (word.Returns ∷ []) ++ (class_codes class.Clause ++ (signs (sign.Semicolon ∷ sign.OpenBrace ∷ []) ++ term_tail))
 
 -- the tokens that could go on with what a symbol spelled
 abbrev pub ext_codes : {s : Kind} → Symbol s → Value s → List ℕ
-ext_codes (g.Program ds) y = 10 ∷ 11 ∷ 12 ∷ 13 ∷ 14 ∷ 15 ∷ 57 ∷ 52 ∷ 61 ∷ 58 ∷ 50 ∷ 62 ∷ 63 ∷ 64 ∷ 65 ∷ 66 ∷ 67 ∷ 68 ∷ 69 ∷ 70 ∷ 71 ∷ 72 ∷ 73 ∷ 74 ∷ 75 ∷ 76 ∷ 77 ∷ []
-ext_codes (g.Predicate at) y = 52 ∷ []
-ext_codes (g.Method at) y = 13 ∷ 14 ∷ 15 ∷ 57 ∷ 52 ∷ 61 ∷ 58 ∷ 50 ∷ 62 ∷ 63 ∷ 64 ∷ 65 ∷ 66 ∷ 67 ∷ 68 ∷ 69 ∷ 70 ∷ 71 ∷ 72 ∷ 73 ∷ 74 ∷ 75 ∷ 76 ∷ 77 ∷ []
-ext_codes g.Returns y = 13 ∷ []
-ext_codes (g.Clauses cs) y = 14 ∷ 15 ∷ 57 ∷ 61 ∷ 58 ∷ 50 ∷ 62 ∷ 63 ∷ 64 ∷ 65 ∷ 66 ∷ 67 ∷ 68 ∷ 69 ∷ 70 ∷ 71 ∷ 72 ∷ 73 ∷ 74 ∷ 75 ∷ 76 ∷ 77 ∷ []
-ext_codes g.Body y = 52 ∷ []
-ext_codes g.Formals y = []
-ext_codes (g.MoreFormals xs) y = []
-ext_codes g.FormalOf y = []
-ext_codes g.Block y = []
-ext_codes (g.Stmts ss) y = []
-ext_codes g.Stmt y = 21 ∷ 20 ∷ 60 ∷ 61 ∷ 58 ∷ 50 ∷ 62 ∷ 63 ∷ 64 ∷ 65 ∷ 66 ∷ 67 ∷ 68 ∷ 69 ∷ 70 ∷ 71 ∷ 72 ∷ 73 ∷ 74 ∷ 75 ∷ 76 ∷ 77 ∷ []
-ext_codes (g.Variable at) y = 60 ∷ 61 ∷ 58 ∷ 50 ∷ 62 ∷ 63 ∷ 64 ∷ 65 ∷ 66 ∷ 67 ∷ 68 ∷ 69 ∷ 70 ∷ 71 ∷ 72 ∷ 73 ∷ 74 ∷ 75 ∷ 76 ∷ 77 ∷ []
-ext_codes (g.AfterName x) y = 61 ∷ 58 ∷ 50 ∷ 62 ∷ 63 ∷ 64 ∷ 65 ∷ 66 ∷ 67 ∷ 68 ∷ 69 ∷ 70 ∷ 71 ∷ 72 ∷ 73 ∷ 74 ∷ 75 ∷ 76 ∷ 77 ∷ []
-ext_codes (g.Arm at) y = []
-ext_codes (g.Arms bs) y = 20 ∷ 21 ∷ []
-ext_codes (g.While at) y = []
-ext_codes (g.Invariants is) y = 16 ∷ 57 ∷ 61 ∷ 58 ∷ 50 ∷ 62 ∷ 63 ∷ 64 ∷ 65 ∷ 66 ∷ 67 ∷ 68 ∷ 69 ∷ 70 ∷ 71 ∷ 72 ∷ 73 ∷ 74 ∷ 75 ∷ 76 ∷ 77 ∷ []
-ext_codes g.Rhs y = 61 ∷ 58 ∷ 50 ∷ 62 ∷ 63 ∷ 64 ∷ 65 ∷ 66 ∷ 67 ∷ 68 ∷ 69 ∷ 70 ∷ 71 ∷ 72 ∷ 73 ∷ 74 ∷ 75 ∷ 76 ∷ 77 ∷ []
-ext_codes (g.New at) y = []
-ext_codes g.Semicolons y = 57 ∷ []
-ext_codes g.InstanceOf y = []
-ext_codes g.CallOf y = []
-ext_codes g.Arguments y = []
-ext_codes (g.MoreArguments es) y = []
-ext_codes g.Amount y = []
-ext_codes g.Group y = []
-ext_codes g.Term y = 61 ∷ 58 ∷ 50 ∷ 62 ∷ 63 ∷ 64 ∷ 65 ∷ 66 ∷ 67 ∷ 68 ∷ 69 ∷ 70 ∷ 71 ∷ 72 ∷ 73 ∷ 74 ∷ 75 ∷ 76 ∷ 77 ∷ []
-ext_codes g.First y = 50 ∷ []
-ext_codes (g.Separated o xs) y = sign_code o ∷ []
-ext_codes (g.Fields p) y = 58 ∷ 50 ∷ []
-ext_codes g.Unary y = 58 ∷ 50 ∷ cond (g.is_open y.shape) tail_list []
-ext_codes (g.Level n) y = []
-ext_codes (g.Chain n p) y = []
+ext_codes (g.Program ds) y = decl_starts ++ method_tail
+ext_codes (g.Predicate at) y = signs (sign.OpenBrace ∷ [])
+ext_codes (g.Method at) y = method_tail
+ext_codes g.Returns y = words (word.Returns ∷ [])
+ext_codes (g.Clauses cs) y = class_codes class.Clause ++ (signs (sign.Semicolon ∷ []) ++ term_tail)
+ext_codes g.Body y = signs (sign.OpenBrace ∷ [])
+ext_codes g.Statement y = words (word.Else ∷ word.Elseif ∷ []) ++ (signs (sign.Assign ∷ []) ++ term_tail)
+ext_codes (g.Variable at) y = signs (sign.Assign ∷ []) ++ term_tail
+ext_codes (g.AfterName x) y = term_tail
+ext_codes (g.Arms bs) y = words (word.Elseif ∷ word.Else ∷ [])
+ext_codes (g.Invariants is) y = words (word.Invariant ∷ []) ++ (signs (sign.Semicolon ∷ []) ++ term_tail)
+ext_codes g.Rhs y = term_tail
+ext_codes g.Semicolons y = signs (sign.Semicolon ∷ [])
+ext_codes g.Term y = term_tail
+ext_codes g.First y = signs (sign.OpenParen ∷ [])
+ext_codes (g.Separated o xs) y = signs (o ∷ [])
+ext_codes (g.Fields p) y = name_tail
+ext_codes g.Unary y = name_tail ++ cond (g.is_open y.shape) term_tail []
+ext_codes _ y = []
 
 -- how loose what a token goes on with is: a field or a call 0, an operator its level, a choice 9, every other token 10
 abbrev pub sign_reach : Sign → ℕ
@@ -261,38 +287,8 @@ reach _ = 10
 abbrev pub bound : ℕ → v.Part → ℕ
 bound n p = cond (g.is_open p.shape) 9 n
 
+-- what goes on with what a symbol spelled: of terms by level, what is no looser
 abbrev pub Ext : {s : Kind} → Symbol s → Value s → Token → Type 0
 Ext (g.Level n) p k = reach k.tok ≤ bound n p
 Ext (g.Chain n p) q k = reach k.tok ≤ bound n q
-Ext (g.Program ds) y k = among (code k.tok) (ext_codes (g.Program ds) y) ≡ true
-Ext (g.Predicate at) y k = among (code k.tok) (ext_codes (g.Predicate at) y) ≡ true
-Ext (g.Method at) y k = among (code k.tok) (ext_codes (g.Method at) y) ≡ true
-Ext g.Returns y k = among (code k.tok) (ext_codes g.Returns y) ≡ true
-Ext (g.Clauses cs) y k = among (code k.tok) (ext_codes (g.Clauses cs) y) ≡ true
-Ext g.Body y k = among (code k.tok) (ext_codes g.Body y) ≡ true
-Ext g.Formals y k = among (code k.tok) (ext_codes g.Formals y) ≡ true
-Ext (g.MoreFormals xs) y k = among (code k.tok) (ext_codes (g.MoreFormals xs) y) ≡ true
-Ext g.FormalOf y k = among (code k.tok) (ext_codes g.FormalOf y) ≡ true
-Ext g.Block y k = among (code k.tok) (ext_codes g.Block y) ≡ true
-Ext (g.Stmts ss) y k = among (code k.tok) (ext_codes (g.Stmts ss) y) ≡ true
-Ext g.Stmt y k = among (code k.tok) (ext_codes g.Stmt y) ≡ true
-Ext (g.Variable at) y k = among (code k.tok) (ext_codes (g.Variable at) y) ≡ true
-Ext (g.AfterName x) y k = among (code k.tok) (ext_codes (g.AfterName x) y) ≡ true
-Ext (g.Arm at) y k = among (code k.tok) (ext_codes (g.Arm at) y) ≡ true
-Ext (g.Arms bs) y k = among (code k.tok) (ext_codes (g.Arms bs) y) ≡ true
-Ext (g.While at) y k = among (code k.tok) (ext_codes (g.While at) y) ≡ true
-Ext (g.Invariants is) y k = among (code k.tok) (ext_codes (g.Invariants is) y) ≡ true
-Ext g.Rhs y k = among (code k.tok) (ext_codes g.Rhs y) ≡ true
-Ext (g.New at) y k = among (code k.tok) (ext_codes (g.New at) y) ≡ true
-Ext g.Semicolons y k = among (code k.tok) (ext_codes g.Semicolons y) ≡ true
-Ext g.InstanceOf y k = among (code k.tok) (ext_codes g.InstanceOf y) ≡ true
-Ext g.CallOf y k = among (code k.tok) (ext_codes g.CallOf y) ≡ true
-Ext g.Arguments y k = among (code k.tok) (ext_codes g.Arguments y) ≡ true
-Ext (g.MoreArguments es) y k = among (code k.tok) (ext_codes (g.MoreArguments es) y) ≡ true
-Ext g.Amount y k = among (code k.tok) (ext_codes g.Amount y) ≡ true
-Ext g.Group y k = among (code k.tok) (ext_codes g.Group y) ≡ true
-Ext g.Term y k = among (code k.tok) (ext_codes g.Term y) ≡ true
-Ext g.First y k = among (code k.tok) (ext_codes g.First y) ≡ true
-Ext (g.Separated o xs) y k = among (code k.tok) (ext_codes (g.Separated o xs) y) ≡ true
-Ext (g.Fields p) y k = among (code k.tok) (ext_codes (g.Fields p) y) ≡ true
-Ext g.Unary y k = among (code k.tok) (ext_codes g.Unary y) ≡ true
+Ext a y k = among (code k.tok) (ext_codes a y) ≡ true

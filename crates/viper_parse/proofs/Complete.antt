@@ -27,7 +27,7 @@ use Rattle.viper_parse.specs.Grammar.{Symbol, Rule, give, need, when, read, rule
 use Rattle.viper_parse.specs.Spells as plain
 use Rattle.viper_parse.specs.Spells.{Derives}
 use Rattle.viper_parse.specs.Greedy.{IsNot, Reads, given, needed, taken, passed, called}
-use Rattle.viper_parse.proofs.Codes.{code, word_code, sign_code, among, apart, within, codes, class_codes, first_codes, empty, ext_codes, tail_list, reach, sign_reach, bound, Ext}
+use Rattle.viper_parse.proofs.Codes.{code, word_code, sign_code, among, apart, within, codes, class_codes, first_codes, empty, ext_codes, name_tail, term_tail, reach, sign_reach, bound, Ext}
 
 -- lists of numbers
 
@@ -139,8 +139,8 @@ cond_or_l b q h = subst (λ z. cond z true q ≡ true) (sym h) refl
 
 passes_codes : {b : Bool} {r : Kind} (c : Test b r) (k : Token) (v : Value r) → Passes c k v → among (code k.tok) (codes c) ≡ true
 passes_codes (this x) k v p = code_at k x (code x ∷ []) p.0 (cond_or_l (nat_eq (code x) (code x)) false (eq-eqb (code x) (code x) refl))
-passes_codes a_name k v p = code_at k (tok.Name v.name) (1 ∷ []) p.0 refl
-passes_codes a_number k v p = code_at k (tok.Number v.0) (2 ∷ []) p.0 refl
+passes_codes a_name k v p = code_at k (tok.Name v.name) (codes a_name) p.0 refl
+passes_codes a_number k v p = code_at k (tok.Number v.0) (codes a_number) p.0 refl
 passes_codes (one_of c) k v p = code_at k (tok.Word v.0) (class_codes c) p.0 (word_codes c v.0 p.2)
 passes_codes a_negation k v p = code_at k (tok.Sign v.0) (codes a_negation) p.0 (negation_codes v.0 p.2)
 passes_codes (an_operator n) k v p = code_at k (tok.Sign v.0) (codes (an_operator n)) p.0 (operator_codes v.0 n p.2 p.3)
@@ -193,16 +193,16 @@ first_ok g.Formals = refl
 first_ok (g.MoreFormals xs) = refl
 first_ok g.FormalOf = refl
 first_ok g.Block = refl
-first_ok (g.Stmts ss) = refl
-first_ok g.Stmt = refl
+first_ok (g.Statements ss) = refl
+first_ok g.Statement = refl
 first_ok (g.Variable at) = refl
 first_ok (g.AfterName x) = refl
 first_ok (g.Arm at) = refl
 first_ok (g.Arms bs) = refl
-first_ok (g.While at) = refl
+first_ok (g.WhileLoop at) = refl
 first_ok (g.Invariants is) = refl
 first_ok g.Rhs = refl
-first_ok (g.New at) = refl
+first_ok (g.Creation at) = refl
 first_ok (g.Separated o xs) = self_code o
 first_ok g.Semicolons = refl
 first_ok g.InstanceOf = refl
@@ -230,16 +230,16 @@ empty_ok g.Formals = refl
 empty_ok (g.MoreFormals xs) = refl
 empty_ok g.FormalOf = refl
 empty_ok g.Block = refl
-empty_ok (g.Stmts ss) = refl
-empty_ok g.Stmt = refl
+empty_ok (g.Statements ss) = refl
+empty_ok g.Statement = refl
 empty_ok (g.Variable at) = refl
 empty_ok (g.AfterName x) = refl
 empty_ok (g.Arm at) = refl
 empty_ok (g.Arms bs) = refl
-empty_ok (g.While at) = refl
+empty_ok (g.WhileLoop at) = refl
 empty_ok (g.Invariants is) = refl
 empty_ok g.Rhs = refl
-empty_ok (g.New at) = refl
+empty_ok (g.Creation at) = refl
 empty_ok (g.Separated o xs) = refl
 empty_ok g.Semicolons = refl
 empty_ok g.InstanceOf = refl
@@ -427,11 +427,11 @@ chain_ends n p x d =
     let h : Some p ≡ Some x = sym (empty_ok (g.Chain n p)) ∙ ends_right d refl in
     cc
 
-word_tail : (w : Word) → among (word_code w) (58 ∷ 50 ∷ tail_list) ≡ true → ⊥
+word_tail : (w : Word) → among (word_code w) (name_tail ++ term_tail) ≡ true → ⊥
 word_tail word.Field h = cc
 word_tail _ h = cc
 
-sign_tail : (o : Sign) → among (sign_code o) (58 ∷ 50 ∷ tail_list) ≡ true → sign_reach o ≤ 9
+sign_tail : (o : Sign) → among (sign_code o) (name_tail ++ term_tail) ≡ true → sign_reach o ≤ 9
 sign_tail sign.Question h = omega arith
 sign_tail sign.Dot h = omega arith
 sign_tail sign.OpenParen h = omega arith
@@ -453,35 +453,35 @@ sign_tail sign.Backslash h = omega arith
 sign_tail sign.Percent h = omega arith
 sign_tail _ h = cc
 
-reach_tail : (t : Tok) → among (code t) (58 ∷ 50 ∷ tail_list) ≡ true → reach t ≤ 9
+reach_tail : (t : Tok) → among (code t) (name_tail ++ term_tail) ≡ true → reach t ≤ 9
 reach_tail (tok.Name x) h = cc
 reach_tail (tok.Number n) h = cc
 reach_tail (tok.Word w) h = absurd (word_tail w h)
 reach_tail (tok.Sign o) h = sign_tail o h
 
-word_dot : (w : Word) → among (word_code w) (58 ∷ 50 ∷ []) ≡ true → ⊥
+word_dot : (w : Word) → among (word_code w) name_tail ≡ true → ⊥
 word_dot word.Field h = cc
 word_dot _ h = cc
 
-sign_dot : (o : Sign) → among (sign_code o) (58 ∷ 50 ∷ []) ≡ true → sign_reach o ≤ 0
+sign_dot : (o : Sign) → among (sign_code o) name_tail ≡ true → sign_reach o ≤ 0
 sign_dot sign.Dot h = omega arith
 sign_dot sign.OpenParen h = omega arith
 sign_dot _ h = cc
 
-reach_dot : (t : Tok) → among (code t) (58 ∷ 50 ∷ []) ≡ true → reach t ≤ 0
+reach_dot : (t : Tok) → among (code t) name_tail ≡ true → reach t ≤ 0
 reach_dot (tok.Name x) h = cc
 reach_dot (tok.Number n) h = cc
 reach_dot (tok.Word w) h = absurd (word_dot w h)
 reach_dot (tok.Sign o) h = sign_dot o h
 
-unary_reach_at : (b : Bool) (t : Tok) → among (code t) (58 ∷ 50 ∷ cond b tail_list []) ≡ true → reach t ≤ cond b 9 0
+unary_reach_at : (b : Bool) (t : Tok) → among (code t) (name_tail ++ cond b term_tail []) ≡ true → reach t ≤ cond b 9 0
 unary_reach_at true t h = reach_tail t h
 unary_reach_at false t h = reach_dot t h
 
 unary_reach : (p : Part) (t : Tok) → among (code t) (ext_codes g.Unary p) ≡ true → reach t ≤ bound 0 p
 unary_reach p t h = unary_reach_at (g.is_open p.shape) t h
 
-tail_sign : (o : Sign) → sign_reach o ≤ 9 → among (sign_code o) tail_list ≡ true
+tail_sign : (o : Sign) → sign_reach o ≤ 9 → among (sign_code o) term_tail ≡ true
 tail_sign sign.Question h = refl
 tail_sign sign.Dot h = refl
 tail_sign sign.OpenParen h = refl
@@ -503,7 +503,7 @@ tail_sign sign.Backslash h = refl
 tail_sign sign.Percent h = refl
 tail_sign _ h = absurd (omega arith)
 
-tail_reach : (t : Tok) → reach t ≤ 9 → among (code t) tail_list ≡ true
+tail_reach : (t : Tok) → reach t ≤ 9 → among (code t) term_tail ≡ true
 tail_reach (tok.Sign o) h = tail_sign o h
 tail_reach (tok.Name x) h = absurd (omega arith)
 tail_reach (tok.Number n) h = absurd (omega arith)
@@ -625,9 +625,9 @@ good_term = good_read
     (tw refl (λ at. tr (λ z k h. h) (λ z. refl) (λ z. tn (λ _. tr (λ u k h. h) (λ u. refl) (λ u. te)))) te)))
 
 -- every symbol
-within_unary : (b e : Bool) → e ≡ b → cond (apart [] (58 ∷ 50 ∷ cond b tail_list [])) (within (58 ∷ 50 ∷ cond b tail_list []) (58 ∷ 50 ∷ cond e tail_list [])) false ≡ true
-within_unary true e h = subst (λ z. within (58 ∷ 50 ∷ tail_list) (58 ∷ 50 ∷ cond z tail_list []) ≡ true) (sym h) refl
-within_unary false e h = subst (λ z. within (58 ∷ 50 ∷ []) (58 ∷ 50 ∷ cond z tail_list []) ≡ true) (sym h) refl
+within_unary : (b e : Bool) → e ≡ b → cond (apart [] (name_tail ++ cond b term_tail [])) (within (name_tail ++ cond b term_tail []) (name_tail ++ cond e term_tail [])) false ≡ true
+within_unary true e h = subst (λ z. within (name_tail ++ term_tail) (name_tail ++ cond z term_tail []) ≡ true) (sym h) refl
+within_unary false e h = subst (λ z. within name_tail (name_tail ++ cond z term_tail []) ≡ true) (sym h) refl
 
 separated_ok : (b : Bool) → b ≡ true → cond (cond b true false) true false ≡ true
 separated_ok true h = refl
@@ -666,11 +666,11 @@ tells_FormalOf = tn (λ x. tn (λ _. tn (λ z. te)))
 tells_Block : Tells _ (ext_codes g.Block) (rule g.Block)
 tells_Block = tn (λ at. tr (λ z k h. h) (λ z. refl) (λ z. te))
 
-tells_Stmts : (ss : List s.SStmt) → Tells _ (ext_codes (g.Stmts ss)) (rule (g.Stmts ss))
-tells_Stmts ss = tw refl (λ _. te) (tr (λ z k h. h) (λ z. refl) (λ a. tr (λ z k h. h) (λ z. refl) (λ _. tr (λ z k h. h) (λ z. refl) (λ z. te))))
+tells_Statements : (ss : List s.SStmt) → Tells _ (ext_codes (g.Statements ss)) (rule (g.Statements ss))
+tells_Statements ss = tw refl (λ _. te) (tr (λ z k h. h) (λ z. refl) (λ a. tr (λ z k h. h) (λ z. refl) (λ _. tr (λ z k h. h) (λ z. refl) (λ z. te))))
 
-tells_Stmt : Tells _ (ext_codes g.Stmt) (rule g.Stmt)
-tells_Stmt = tw refl (λ at. tr (λ z k h. h) (λ z. refl) (λ z. te)) (tw refl (λ x. tr (λ z k h. h) (λ z. refl) (λ u. te)) (tw refl (λ at. tr (λ z k h. h) (λ z. refl) (λ i. te)) (tw refl (λ at. tr (λ z k h. h) (λ z. refl) (λ i. te)) (tw refl (λ at. tr (λ z k h. h) (λ z. refl) (λ a. tr (λ z k h. h) (λ z. refl) (λ z. te))) (tw refl (λ at. tr (λ z k h. h) (λ z. refl) (λ z. te)) (tn (λ x. tr (λ z k h. h) (λ z. refl) (λ z. te))))))))
+tells_Statement : Tells _ (ext_codes g.Statement) (rule g.Statement)
+tells_Statement = tw refl (λ at. tr (λ z k h. h) (λ z. refl) (λ z. te)) (tw refl (λ x. tr (λ z k h. h) (λ z. refl) (λ u. te)) (tw refl (λ at. tr (λ z k h. h) (λ z. refl) (λ i. te)) (tw refl (λ at. tr (λ z k h. h) (λ z. refl) (λ i. te)) (tw refl (λ at. tr (λ z k h. h) (λ z. refl) (λ a. tr (λ z k h. h) (λ z. refl) (λ z. te))) (tw refl (λ at. tr (λ z k h. h) (λ z. refl) (λ z. te)) (tn (λ x. tr (λ z k h. h) (λ z. refl) (λ z. te))))))))
 
 tells_Variable : (at : Pos) → Tells _ (ext_codes (g.Variable at)) (rule (g.Variable at))
 tells_Variable at = tr (λ z k h. h) (λ z. refl) (λ x. tw refl (λ _. tr (λ z k h. h) (λ z. refl) (λ z. te)) te)
@@ -684,8 +684,8 @@ tells_Arm at = tr (λ z k h. h) (λ z. refl) (λ u. tr (λ z k h. h) (λ z. refl
 tells_Arms : (bs : List s.SArm) → Tells _ (ext_codes (g.Arms bs)) (rule (g.Arms bs))
 tells_Arms bs = tw refl (λ at. tr (λ z k h. h) (λ z. refl) (λ a. tr (λ z k h. h) (λ z. refl) (λ z. te))) (tw refl (λ _. tr (λ z k h. h) (λ z. refl) (λ z. te)) te)
 
-tells_While : (at : Pos) → Tells _ (ext_codes (g.While at)) (rule (g.While at))
-tells_While at = tr (λ z k h. h) (λ z. refl) (λ u. tr (λ z k h. h) (λ z. refl) (λ is. tr (λ z k h. h) (λ z. refl) (λ z. te)))
+tells_WhileLoop : (at : Pos) → Tells _ (ext_codes (g.WhileLoop at)) (rule (g.WhileLoop at))
+tells_WhileLoop at = tr (λ z k h. h) (λ z. refl) (λ u. tr (λ z k h. h) (λ z. refl) (λ is. tr (λ z k h. h) (λ z. refl) (λ z. te)))
 
 tells_Invariants : (is : List Term) → Tells _ (ext_codes (g.Invariants is)) (rule (g.Invariants is))
 tells_Invariants is = tw refl (λ _. tr (λ z k h. h) (λ z. refl) (λ u. tr (λ z k h. h) (λ z. refl) (λ _. tr (λ z k h. h) (λ z. refl) (λ z. te)))) te
@@ -693,8 +693,8 @@ tells_Invariants is = tw refl (λ _. tr (λ z k h. h) (λ z. refl) (λ u. tr (λ
 tells_Rhs : Tells _ (ext_codes g.Rhs) (rule g.Rhs)
 tells_Rhs = tw refl (λ at. tr (λ z k h. h) (λ z. refl) (λ z. te)) (tr (λ z k h. h) (λ z. refl) (λ z. te))
 
-tells_New : (at : Pos) → Tells _ (ext_codes (g.New at)) (rule (g.New at))
-tells_New at = tn (λ _. tw refl (λ _. te) (tw refl (λ _. tn (λ _. te)) (tn (λ x. tr (λ z k h. h) (λ z. refl) (λ xs. tn (λ _. te))))))
+tells_Creation : (at : Pos) → Tells _ (ext_codes (g.Creation at)) (rule (g.Creation at))
+tells_Creation at = tn (λ _. tw refl (λ _. te) (tw refl (λ _. tn (λ _. te)) (tn (λ x. tr (λ z k h. h) (λ z. refl) (λ xs. tn (λ _. te))))))
 
 tells_Semicolons : Tells _ (ext_codes g.Semicolons) (rule g.Semicolons)
 tells_Semicolons = tw refl (λ _. tr (λ z k h. h) (λ z. refl) (λ z. te)) te
@@ -740,16 +740,16 @@ good g.Formals = tells_good (ext_codes g.Formals) (tells_Formals)
 good (g.MoreFormals xs) = tells_good (ext_codes (g.MoreFormals xs)) (tells_MoreFormals xs)
 good g.FormalOf = tells_good (ext_codes g.FormalOf) (tells_FormalOf)
 good g.Block = tells_good (ext_codes g.Block) (tells_Block)
-good (g.Stmts ss) = tells_good (ext_codes (g.Stmts ss)) (tells_Stmts ss)
-good g.Stmt = tells_good (ext_codes g.Stmt) (tells_Stmt)
+good (g.Statements ss) = tells_good (ext_codes (g.Statements ss)) (tells_Statements ss)
+good g.Statement = tells_good (ext_codes g.Statement) (tells_Statement)
 good (g.Variable at) = tells_good (ext_codes (g.Variable at)) (tells_Variable at)
 good (g.AfterName x) = tells_good (ext_codes (g.AfterName x)) (tells_AfterName x)
 good (g.Arm at) = tells_good (ext_codes (g.Arm at)) (tells_Arm at)
 good (g.Arms bs) = tells_good (ext_codes (g.Arms bs)) (tells_Arms bs)
-good (g.While at) = tells_good (ext_codes (g.While at)) (tells_While at)
+good (g.WhileLoop at) = tells_good (ext_codes (g.WhileLoop at)) (tells_WhileLoop at)
 good (g.Invariants is) = tells_good (ext_codes (g.Invariants is)) (tells_Invariants is)
 good g.Rhs = tells_good (ext_codes g.Rhs) (tells_Rhs)
-good (g.New at) = tells_good (ext_codes (g.New at)) (tells_New at)
+good (g.Creation at) = tells_good (ext_codes (g.Creation at)) (tells_Creation at)
 good (g.Separated o xs) = tells_good (ext_codes (g.Separated o xs)) (tells_Separated o xs)
 good g.Semicolons = tells_good (ext_codes g.Semicolons) (tells_Semicolons)
 good g.InstanceOf = tells_good (ext_codes g.InstanceOf) (tells_InstanceOf)

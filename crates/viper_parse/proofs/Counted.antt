@@ -48,10 +48,10 @@ counts (g.MoreFormals xs) =
     cw (λ _. cr (λ x m h. cr (λ z m' h'. let e = both _ (formal_names xs) _ (formals_more xs x) in cg (omega arith)))) (cn (λ _. cg (omega arith)))
 counts g.FormalOf = cn (λ x. cn (λ _. cn (λ w. cg (omega arith))))
 counts g.Block = cn (λ at. cr (λ ss m h. cg (omega arith)))
-counts (g.Stmts ss) =
+counts (g.Statements ss) =
     cw (λ _. cg (omega arith))
     (cr (λ a m h. cr (λ _ m' h'. cr (λ z m'' h''. let e = both _ (stmts_names (s.stmts ss)) _ (stmts_names_more ss a) in cg (omega arith)))))
-counts g.Stmt =
+counts g.Statement =
     cw (λ at. cr (λ z m h. cg (omega arith))) (cw (λ w. cr (λ p m h. cg (omega arith))) (cw (λ at. cr (λ x m h. cg (omega arith))) (cw (λ at. cr (λ x m h. cg (omega arith)))
     (cw (λ at. cr (λ a m h. cr (λ z m' h'. let e = length-append (arm_names a) [] in cg (omega arith)))) (cw (λ at. cr (λ z m h. cg (omega arith))) (cn (λ x. cr (λ z m h. cg (omega arith)))))))))
 counts (g.Variable at) = cr (λ x m h. cw (λ _. cr (λ r m' h'. cg (omega arith))) (cg (omega arith)))
@@ -62,10 +62,10 @@ counts (g.Arm at) = cr (λ p m h. cr (λ b m' h'. cg (omega arith)))
 counts (g.Arms bs) =
     cw (λ at. cr (λ a m h. cr (λ z m' h'. let e = both _ (arms_names (s.arms bs)) _ (arms_names_more bs a) in cg (omega arith))))
     (cw (λ _. cr (λ b m h. let e = length-append (arms_names (s.arms bs)) (block_names b) in cg (omega arith))) (let e = length-append (arms_names (s.arms bs)) [] in cg (omega arith)))
-counts (g.While at) = cr (λ p m h. cr (λ is m' h'. cr (λ b m'' h''. cg (omega arith))))
+counts (g.WhileLoop at) = cr (λ p m h. cr (λ is m' h'. cr (λ b m'' h''. cg (omega arith))))
 counts (g.Invariants is) = cw (λ _. cr (λ p m h. cr (λ _ m' h'. cr (λ z m'' h''. cg (omega arith))))) (cg (omega arith))
 counts g.Rhs = cw (λ at. cr (λ z m h. cg (omega arith))) (cr (λ p m h. cg (omega arith)))
-counts (g.New at) = cn (λ _. cw (λ _. cg (omega arith)) (cw (λ _. cn (λ _. cg (omega arith))) (cn (λ x. cr (λ xs m h. cn (λ _. cg (omega arith)))))))
+counts (g.Creation at) = cn (λ _. cw (λ _. cg (omega arith)) (cw (λ _. cn (λ _. cg (omega arith))) (cn (λ x. cr (λ xs m h. cn (λ _. cg (omega arith)))))))
 counts (g.Separated o xs) = cw (λ _. cn (λ x. cr (λ z m h. cg (omega arith)))) (cg (omega arith))
 counts g.Semicolons = cw (λ _. cr (λ z m h. cg (omega arith))) (cg (omega arith))
 counts g.InstanceOf = cw (λ _. cn (λ _. cr (λ c m h. cr (λ a m' h'. cg (omega arith))))) (cr (λ c m h. cg (omega arith)))

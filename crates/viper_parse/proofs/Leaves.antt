@@ -109,7 +109,7 @@ terms_in _ x = []
 abbrev pub held_terms : {s : Kind} → Symbol s → List t.Term
 held_terms (g.Program ds) = decls_terms ds
 held_terms (g.Clauses cs) = clauses_terms cs
-held_terms (g.Stmts ss) = stmts_terms (s.stmts ss)
+held_terms (g.Statements ss) = stmts_terms (s.stmts ss)
 held_terms (g.Arms bs) = arms_terms (s.arms bs)
 held_terms (g.Invariants is) = is
 held_terms (g.Chain n p) = p.tree ∷ []
@@ -132,7 +132,7 @@ names_in _ x = []
 
 abbrev pub held_names : {s : Kind} → Symbol s → List (List ℕ)
 held_names (g.Program ds) = decls_names ds
-held_names (g.Stmts ss) = stmts_names (s.stmts ss)
+held_names (g.Statements ss) = stmts_names (s.stmts ss)
 held_names (g.Arms bs) = arms_names (s.arms bs)
 held_names (g.MoreFormals xs) = formal_names xs
 held_names _ = []
@@ -153,7 +153,7 @@ uses_in _ x = []
 
 abbrev held_uses : {s : Kind} → Symbol s → List (List ℕ)
 held_uses (g.Program ds) = decls_uses ds
-held_uses (g.Stmts ss) = stmts_uses (s.stmts ss)
+held_uses (g.Statements ss) = stmts_uses (s.stmts ss)
 held_uses (g.Arms bs) = arms_uses (s.arms bs)
 held_uses (g.Separated o xs) = names_of xs
 held_uses (g.AfterName x) = x.name ∷ []
@@ -302,7 +302,7 @@ more_decls ds x h i = having
     (each_by IsName (decls_names_more ds x) (each_append IsName _ _ h.names i.names))
     (each_by IsName (decls_uses_more ds x) (each_append IsName _ _ h.uses i.uses))
 
-more_stmts : (ss : List s.SStmt) (a : s.SStmt) → Held (g.Stmts ss) → Holds v.stmt a → Held (g.Stmts (ss ++ a ∷ []))
+more_stmts : (ss : List s.SStmt) (a : s.SStmt) → Held (g.Statements ss) → Holds v.stmt a → Held (g.Statements (ss ++ a ∷ []))
 more_stmts ss a h i = having
     (each_by HasLeaves (stmts_terms_more ss a) (each_append HasLeaves _ _ h.terms i.terms))
     (each_by IsName (stmts_names_more ss a) (each_append IsName _ _ h.names i.names))
@@ -336,8 +336,8 @@ makes (g.MoreFormals xs) h =
     mw (λ _ _. mr (having tt tt tt) (λ x i. mr (having tt (each_by IsName (formals_more xs x) (each_append IsName _ _ h.names i.names)) tt) (λ z j. mg j))) (mn (λ _ _. mg (holding tt h.names tt)))
 makes g.FormalOf h = mn (λ x n. mn (λ _ _. mn (λ w _. mg (holding tt n.names tt))))
 makes g.Block h = mn (λ at _. mr (having tt tt tt) (λ ss i. mg (holding i.terms i.names i.uses)))
-makes (g.Stmts ss) h = mw (λ _ _. mg (holding h.terms h.names h.uses)) (mr (having tt tt tt) (λ a i. mr (having tt tt tt) (λ _ _. mr (more_stmts ss a h i) (λ z l. mg l))))
-makes g.Stmt h =
+makes (g.Statements ss) h = mw (λ _ _. mg (holding h.terms h.names h.uses)) (mr (having tt tt tt) (λ a i. mr (having tt tt tt) (λ _ _. mr (more_stmts ss a h i) (λ z l. mg l))))
+makes g.Statement h =
     mw (λ at _. mr (having tt tt tt) (λ z i. mg i)) (mw (λ w _. mr (having tt tt tt) (λ p i. mg (holding i.terms tt tt)))
     (mw (λ at _. mr (having tt tt tt) (λ x i. mg (holding i.terms tt i.uses))) (mw (λ at _. mr (having tt tt tt) (λ x i. mg (holding i.terms tt i.uses)))
     (mw (λ at _. mr (having tt tt tt) (λ a i. mr (more_arms [] a (having tt tt tt) i) (λ z j. mg j))) (mw (λ at _. mr (having tt tt tt) (λ z i. mg i)) (mn (λ x n. mr (having tt tt n.names) (λ z i. mg i))))))))
@@ -351,12 +351,12 @@ makes (g.Arms bs) h =
     mw (λ at _. mr (having tt tt tt) (λ a i. mr (more_arms bs a h i) (λ z j. mg j)))
     (mw (λ _ _. mr (having tt tt tt) (λ b i. mg (holding (each_append HasLeaves _ _ h.terms i.terms) (each_append IsName _ _ h.names i.names) (each_append IsName _ _ h.uses i.uses))))
     (mg (holding (each_append HasLeaves _ [] h.terms tt) (each_append IsName _ [] h.names tt) (each_append IsName _ [] h.uses tt))))
-makes (g.While at) h =
+makes (g.WhileLoop at) h =
     mr (having tt tt tt) (λ p i. mr (having tt tt tt) (λ is j. mr (having tt tt tt) (λ b l. mg (holding (each_append HasLeaves (p.tree ∷ is) (block_terms b) (i.terms.0, j.terms) l.terms) l.names l.uses))))
 makes (g.Invariants is) h =
     mw (λ _ _. mr (having tt tt tt) (λ p i. mr (having tt tt tt) (λ _ _. mr (having (each_append HasLeaves is (p.tree ∷ []) h.terms i.terms) tt tt) (λ z l. mg l)))) (mg (holding h.terms tt tt))
 makes g.Rhs h = mw (λ at _. mr (having tt tt tt) (λ z i. mg i)) (mr (having tt tt tt) (λ p i. mg (holding (rhs_each p.shape p.tree i.terms.0) tt (rhs_used p.shape p.tree i.terms.0))))
-makes (g.New at) h =
+makes (g.Creation at) h =
     mn (λ _ _. mw (λ _ _. mg (holding tt tt tt)) (mw (λ _ _. mn (λ _ _. mg (holding tt tt tt))) (mn (λ x n. mr (having tt tt n.names) (λ xs i. mn (λ _ _. mg (holding tt tt i.uses)))))))
 makes (g.Separated o xs) h =
     mw (λ _ _. mn (λ x n. mr (having tt tt (each_by IsName (names_more xs x) (each_append IsName _ _ h.uses n.names))) (λ z i. mg i))) (mg (holding tt tt h.uses))

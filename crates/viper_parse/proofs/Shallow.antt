@@ -177,16 +177,16 @@ low_costs g.Formals l = absurd l
 low_costs (g.MoreFormals xs) l = absurd l
 low_costs g.FormalOf l = absurd l
 low_costs g.Block l = absurd l
-low_costs (g.Stmts ss) l = absurd l
-low_costs g.Stmt l = absurd l
+low_costs (g.Statements ss) l = absurd l
+low_costs g.Statement l = absurd l
 low_costs (g.Variable at) l = absurd l
 low_costs (g.AfterName x) l = absurd l
 low_costs (g.Arm at) l = absurd l
 low_costs (g.Arms bs) l = absurd l
-low_costs (g.While at) l = absurd l
+low_costs (g.WhileLoop at) l = absurd l
 low_costs (g.Invariants is) l = absurd l
 low_costs g.Rhs l = absurd l
-low_costs (g.New at) l = absurd l
+low_costs (g.Creation at) l = absurd l
 low_costs (g.Separated o xs) l =
     cw (λ k x q. ap is_divider q.0 ∙ l) (λ _. cn (λ k x q. ap is_divider q.0) (λ x. cr l (λ z m h. let e = length-append xs (x ∷ []) in cg (omega arith)))) (cg (omega arith))
 low_costs g.Semicolons l = absurd l
@@ -333,8 +333,8 @@ high_keeps n some g.Formals l h = kw (λ _. kg tt) (kh tt tt (λ x i. kh tt tt (
 high_keeps n some (g.MoreFormals xs) l h = kw (λ _. kh tt tt (λ x i. kh tt tt (λ z j. kg j))) (kn (λ _. kg tt))
 high_keeps n some g.FormalOf l h = kn (λ x. kn (λ _. kn (λ w. kg tt)))
 high_keeps n some g.Block l h = kn (λ at. kh tt tt (λ ss i. kg i))
-high_keeps n some (g.Stmts ss) l h = kw (λ _. kg h) (kh tt tt (λ a i. kh tt tt (λ _ j. kh tt (more n _ _ (stmts_terms_more ss a) h i) (λ z k. kg k))))
-high_keeps n some g.Stmt l h =
+high_keeps n some (g.Statements ss) l h = kw (λ _. kg h) (kh tt tt (λ a i. kh tt tt (λ _ j. kh tt (more n _ _ (stmts_terms_more ss a) h i) (λ z k. kg k))))
+high_keeps n some g.Statement l h =
     kw (λ at. kh tt tt (λ z i. kg i)) (kw (λ w. kl tt tt refl (λ p i. kg i)) (kw (λ at. kl tt tt refl (λ x i. kg i)) (kw (λ at. kl tt tt refl (λ x i. kg i))
     (kw (λ at. kh tt tt (λ a i. kh tt (all_append n (arm_terms a) [] i tt) (λ z j. kg j))) (kw (λ at. kh tt tt (λ z i. kg i)) (kn (λ x. kh tt tt (λ z i. kg i))))))))
 high_keeps n some (g.Variable at) l h = kh tt tt (λ x i. kw (λ _. kh tt tt (λ r j. kg j)) (kg tt))
@@ -344,10 +344,10 @@ high_keeps n some (g.Arm at) l h = kl tt tt refl (λ p i. kh tt tt (λ b j. kg (
 high_keeps n some (g.Arms bs) l h =
     kw (λ at. kh tt tt (λ a i. kh tt (more n _ _ (arms_terms_more bs a) h i) (λ z j. kg j)))
     (kw (λ _. kh tt tt (λ b i. kg (all_append n (arms_terms (s.arms bs)) (block_terms b) h i))) (kg (all_append n (arms_terms (s.arms bs)) [] h tt)))
-high_keeps n some (g.While at) l h = kl tt tt refl (λ p i. kh tt tt (λ is j. kh tt tt (λ b k. kg (all_append n (p.tree ∷ is) (block_terms b) (i.0, j) k))))
+high_keeps n some (g.WhileLoop at) l h = kl tt tt refl (λ p i. kh tt tt (λ is j. kh tt tt (λ b k. kg (all_append n (p.tree ∷ is) (block_terms b) (i.0, j) k))))
 high_keeps n some (g.Invariants is) l h = kw (λ _. kl tt tt refl (λ p i. kh tt tt (λ _ j. kh tt (all_append n is (p.tree ∷ []) h i) (λ z k. kg k)))) (kg h)
 high_keeps n some g.Rhs l h = kw (λ at. kh tt tt (λ z i. kg i)) (kl tt tt refl (λ p i. kg (rhs_all n p i)))
-high_keeps n some (g.New at) l h = kn (λ _. kw (λ _. kg tt) (kw (λ _. kn (λ _. kg tt)) (kn (λ x. kh tt tt (λ xs i. kn (λ _. kg tt))))))
+high_keeps n some (g.Creation at) l h = kn (λ _. kw (λ _. kg tt) (kw (λ _. kn (λ _. kg tt)) (kn (λ x. kh tt tt (λ xs i. kn (λ _. kg tt))))))
 high_keeps n some (g.Separated o xs) l h = kw (λ _. kn (λ x. kh tt tt (λ z i. kg i))) (kg tt)
 high_keeps n some g.Semicolons l h = kw (λ _. kh tt tt (λ z i. kg tt)) (kg tt)
 high_keeps m some g.InstanceOf l h = absurd l

@@ -31,16 +31,16 @@ pub data Symbol : Kind → Type 0 where
   MoreFormals : List Formal → Symbol v.formals
   FormalOf : Symbol v.formal
   Block : Symbol v.block
-  Stmts : List s.SStmt → Symbol v.stmts
-  Stmt : Symbol v.stmt
+  Statements : List s.SStmt → Symbol v.stmts
+  Statement : Symbol v.stmt
   Variable : Pos → Symbol v.stmt
   AfterName : Named → Symbol v.stmt
   Arm : Pos → Symbol v.arm
   Arms : List s.SArm → Symbol v.stmt
-  While : Pos → Symbol v.stmt
+  WhileLoop : Pos → Symbol v.stmt
   Invariants : List t.Term → Symbol v.arguments
   Rhs : Symbol v.rhs
-  New : Pos → Symbol v.rhs
+  Creation : Pos → Symbol v.rhs
   Separated : Sign → List Named → Symbol v.names
   Semicolons : Symbol v.nothing
   InstanceOf : Symbol v.instance
@@ -155,13 +155,13 @@ abbrev pub branches : Pos → Rule v.stmt
 branches at = read (Arm at) (λ a. read (Arms (a ∷ [])) give)
 
 -- name { "," name } ":=" call, after a name and ","
-abbrev pub targets_of : Named → Rule v.stmt
-targets_of x = need a_name (λ y. read (Separated sign.Comma (x ∷ y ∷ [])) (λ xs. need (the_sign sign.Assign) (λ _.
+abbrev pub targets : Named → Rule v.stmt
+targets x = need a_name (λ y. read (Separated sign.Comma (x ∷ y ∷ [])) (λ xs. need (the_sign sign.Assign) (λ _.
     read CallOf (λ c. give (s.CallTo xs c)))))
 
 -- name { "," name } ")", after "new" "("
-abbrev pub fields_of : Pos → Rule v.rhs
-fields_of at = need a_name (λ x. read (Separated sign.Comma (x ∷ [])) (λ xs. need (the_sign sign.CloseParen) (λ _.
+abbrev pub new_fields : Pos → Rule v.rhs
+new_fields at = need a_name (λ x. read (Separated sign.Comma (x ∷ [])) (λ xs. need (the_sign sign.CloseParen) (λ _.
     give (s.NewRhs (record { at = at; every = false; fields = xs })))))
 
 abbrev pub rule : {s : Kind} → Symbol s → Rule s
@@ -190,7 +190,7 @@ rule (Clauses cs) =
     read (Clauses (cs ++ (record { word = w.0; term = p.tree } ∷ []))) give)))
     (give cs)
 rule Body =
-    when (the_sign sign.OpenBrace) (λ at. read (Stmts []) (λ ss. give (Some (s.block at (s.stmts ss)))))
+    when (the_sign sign.OpenBrace) (λ at. read (Statements []) (λ ss. give (Some (s.block at (s.stmts ss)))))
     (give None)
 -- [formals] ")", where formals = name ":" type { "," name ":" type }
 rule Formals =
@@ -201,18 +201,18 @@ rule (MoreFormals xs) =
     (need (the_sign sign.CloseParen) (λ _. give xs))
 rule FormalOf =
     need a_name (λ x. need (the_sign sign.Colon) (λ _. need (one_of class.Type) (λ w. give (record { name = x; ty = w.0 }))))
--- block = "{" { stmt {";"} } "}"
-rule Block = need (the_sign sign.OpenBrace) (λ at. read (Stmts []) (λ ss. give (s.block at (s.stmts ss))))
-rule (Stmts ss) =
+-- block = "{" { statement {";"} } "}"
+rule Block = need (the_sign sign.OpenBrace) (λ at. read (Statements []) (λ ss. give (s.block at (s.stmts ss))))
+rule (Statements ss) =
     when (the_sign sign.CloseBrace) (λ _. give ss)
-    (read Stmt (λ a. read Semicolons (λ _. read (Stmts (ss ++ (a ∷ []))) give)))
-rule Stmt =
+    (read Statement (λ a. read Semicolons (λ _. read (Statements (ss ++ (a ∷ []))) give)))
+rule Statement =
     when (the_word word.Var) (λ at. read (Variable at) give)
     (when (one_of class.Check) (λ w. read Term (λ p. give (s.Check w.0 w.1 p.tree)))
     (when (the_word word.Fold) (λ at. read InstanceOf (λ i. give (s.Fold (record { at = at; call = i.call; amount = i.amount }))))
     (when (the_word word.Unfold) (λ at. read InstanceOf (λ i. give (s.Unfold (record { at = at; call = i.call; amount = i.amount }))))
     (when (the_word word.If) branches
-    (when (the_word word.While) (λ at. read (While at) give)
+    (when (the_word word.While) (λ at. read (WhileLoop at) give)
     (need a_name (λ x. read (AfterName x) give)))))))
 -- "var" name ":" type [ ":=" rhs ]
 rule (Variable at) =
@@ -222,7 +222,7 @@ rule (Variable at) =
 -- call | name "," name { "," name } ":=" call | name { "." name } ":=" rhs
 rule (AfterName x) =
     when (the_sign sign.OpenParen) (λ _. read Arguments (λ es. give (s.Call (record { name = x; args = es }))))
-    (when (the_sign sign.Comma) (λ _. targets_of x)
+    (when (the_sign sign.Comma) (λ _. targets x)
     (read (Separated sign.Dot (x ∷ [])) (λ xs. need (the_sign sign.Assign) (λ _. read Rhs (λ r. give (s.Assign xs r))))))
 -- "if" "(" term ")" block { "elseif" "(" term ")" block } [ "else" block ]
 rule (Arm at) =
@@ -232,21 +232,21 @@ rule (Arms bs) =
     (when (the_word word.Else) (λ _. read Block (λ b. give (s.If (s.arms bs) (s.else_block b))))
     (give (s.If (s.arms bs) s.no_else)))
 -- "while" "(" term ")" { "invariant" term {";"} } block
-rule (While at) =
+rule (WhileLoop at) =
     read Group (λ p. read (Invariants []) (λ is. read Block (λ b. give (s.While at p.tree is b))))
 rule (Invariants is) =
     when (the_word word.Invariant) (λ _. read Term (λ p. read Semicolons (λ _. read (Invariants (is ++ (p.tree ∷ []))) give)))
     (give is)
 -- rhs = call | "new" "(" [ "*" | name { "," name } ] ")" | term
 rule Rhs =
-    when (the_word word.New) (λ at. read (New at) give)
+    when (the_word word.New) (λ at. read (Creation at) give)
     (read Term (λ p. give (rhs_of p)))
-rule (New at) =
+rule (Creation at) =
     need (the_sign sign.OpenParen) (λ _.
     when (the_sign sign.CloseParen) (λ _. give (s.NewRhs (record { at = at; every = false; fields = [] })))
     (when (the_sign sign.Star) (λ _. need (the_sign sign.CloseParen) (λ _.
     give (s.NewRhs (record { at = at; every = true; fields = [] }))))
-    (fields_of at)))
+    (new_fields at)))
 rule (Separated o xs) =
     when (the_sign o) (λ _. need a_name (λ x. read (Separated o (xs ++ (x ∷ []))) give))
     (give xs)

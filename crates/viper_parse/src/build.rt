@@ -111,7 +111,7 @@ pub fn binary(
 }
 
 /// `a ? b : c`
-pub fn choice(
+pub fn chosen(
     alloc: Global,
     condition: Part,
     first: Part,
@@ -156,14 +156,14 @@ pub fn old(alloc: Global, inner: Part, at: Pos) -> Result<Part, AllocError>
     part(alloc, Shape::Plain, Term::Old(inner.term, at))
 }
 
-fn access_term(place: Box<Term>, amount: Option<Box<Term>>, at: Pos) -> Term
+fn accessed_term(place: Box<Term>, amount: Option<Box<Term>>, at: Pos) -> Term
     ensures { term_of result ≡ t.Acc (term_of place.value) (amount_of amount) at }
 {
     Term::Acc(place, amount, at)
 }
 
 /// `acc(a)` or `acc(a, amount)`
-pub fn access(
+pub fn accessed(
     alloc: Global,
     place: Part,
     amount: Option<Box<Term>>,
@@ -171,7 +171,7 @@ pub fn access(
 ) -> Result<Part, AllocError>
     ensures { IfOk result (λ p. part_of p ≡ g.plain (t.Acc (term_of place.term.value) (amount_of amount) at)) }
 {
-    part(alloc, Shape::Plain, access_term(place.term, amount, at))
+    part(alloc, Shape::Plain, accessed_term(place.term, amount, at))
 }
 
 fn unfolding_term(call: SCall, amount: Option<Box<Term>>, inner: Box<Term>, at: Pos) -> Term

@@ -29,7 +29,7 @@ pub fn semicolons<'a>(tokens: &'a [Token]) -> &'a [Token]
 }
 
 /// `{ separator name }` after these names.
-fn more_names<'a>(
+fn separated<'a>(
     alloc: Global,
     separator: Sign,
     first: Vec<Named>,
@@ -80,7 +80,7 @@ fn rhs<'a>(alloc: Global, tokens: &'a [Token]) -> Read<'a, SRhs>
 /// `"(" [ "*" | name { "," name } ] ")"` after `new`.
 fn creation<'a>(alloc: Global, at: Pos, tokens: &'a [Token]) -> Read<'a, SRhs>
     ensures shorter { IfOk result (λ r. length r.1.now < length tokens.now) }
-    ensures reads { Parses rhs_of (g.rule (g.New at)) tokens.now result }
+    ensures reads { Parses rhs_of (g.rule (g.Creation at)) tokens.now result }
 {
     let (_, rest) = sign(Sign::OpenParen, tokens)?;
     if let Some((_, closed)) = eat_sign(Sign::CloseParen, rest) {
@@ -90,17 +90,17 @@ fn creation<'a>(alloc: Global, at: Pos, tokens: &'a [Token]) -> Read<'a, SRhs>
         let (_, closed) = sign(Sign::CloseParen, starred)?;
         return Ok((created(at, true, Vec::new(alloc)), closed));
     }
-    listed(alloc, at, rest)
+    new_fields(alloc, at, rest)
 }
 
 /// `name { "," name } ")"`
-fn listed<'a>(alloc: Global, at: Pos, tokens: &'a [Token]) -> Read<'a, SRhs>
+fn new_fields<'a>(alloc: Global, at: Pos, tokens: &'a [Token]) -> Read<'a, SRhs>
     ensures shorter { IfOk result (λ r. length r.1.now < length tokens.now) }
-    ensures reads { Parses rhs_of (g.fields_of at) tokens.now result }
+    ensures reads { Parses rhs_of (g.new_fields at) tokens.now result }
 {
     let (named, rest) = name(alloc, tokens)?;
     let first = pushed(Vec::new(alloc), named)?;
-    let (fields, after) = more_names(alloc, Sign::Comma, first, rest)?;
+    let (fields, after) = separated(alloc, Sign::Comma, first, rest)?;
     let (_, closed) = sign(Sign::CloseParen, after)?;
     Ok((created(at, false, fields), closed))
 }
@@ -137,7 +137,7 @@ fn after_name<'a>(alloc: Global, named: Named, tokens: &'a [Token]) -> Read<'a, 
         return targets(alloc, named, rest);
     }
     let first = pushed(Vec::new(alloc), named)?;
-    let (path, rest) = more_names(alloc, Sign::Dot, first, tokens)?;
+    let (path, rest) = separated(alloc, Sign::Dot, first, tokens)?;
     let (_, after) = sign(Sign::Assign, rest)?;
     let (value, rest) = rhs(alloc, after)?;
     Ok((SStmt::Assign(path, value), rest))
@@ -146,12 +146,12 @@ fn after_name<'a>(alloc: Global, named: Named, tokens: &'a [Token]) -> Read<'a, 
 /// `name { "," name } ":=" call` after a first target and a comma.
 fn targets<'a>(alloc: Global, first: Named, tokens: &'a [Token]) -> Read<'a, SStmt>
     ensures shorter { IfOk result (λ r. length r.1.now < length tokens.now) }
-    ensures reads { Parses stmt_of (g.targets_of first) tokens.now result }
+    ensures reads { Parses stmt_of (g.targets first) tokens.now result }
 {
     let (second, rest) = name(alloc, tokens)?;
     let one = pushed(Vec::new(alloc), first)?;
     let two = pushed(one, second)?;
-    let (names, after) = more_names(alloc, Sign::Comma, two, rest)?;
+    let (names, after) = separated(alloc, Sign::Comma, two, rest)?;
     let (_, after) = sign(Sign::Assign, after)?;
     let (called, rest) = call(alloc, after)?;
     Ok((SStmt::CallTo(names, called), rest))
@@ -161,7 +161,7 @@ fn targets<'a>(alloc: Global, first: Named, tokens: &'a [Token]) -> Read<'a, SSt
 #[cycle(stmts)]
 fn statement<'a>(alloc: Global, tokens: &'a [Token]) -> Read<'a, SStmt>
     ensures shorter { IfOk result (λ r. length r.1.now < length tokens.now) }
-    ensures reads { Parses stmt_of (g.rule g.Stmt) tokens.now result }
+    ensures reads { Parses stmt_of (g.rule g.Statement) tokens.now result }
 {
     if let Some((at, rest)) = eat_word(Word::Var, tokens) {
         return variable(alloc, at, rest);
@@ -185,7 +185,7 @@ fn statement<'a>(alloc: Global, tokens: &'a [Token]) -> Read<'a, SStmt>
         return branches(alloc, at, rest);
     }
     if let Some((at, rest)) = eat_word(Word::While, tokens) {
-        return repeated(alloc, at, rest);
+        return while_loop(alloc, at, rest);
     }
     let (named, rest) = name(alloc, tokens)?;
     after_name(alloc, named, rest)
@@ -257,9 +257,9 @@ fn conditional(all: Vec<SArm>, last: Option<SBlock>) -> SStmt
 
 /// What follows `while`.
 #[cycle(stmts)]
-fn repeated<'a>(alloc: Global, at: Pos, tokens: &'a [Token]) -> Read<'a, SStmt>
+fn while_loop<'a>(alloc: Global, at: Pos, tokens: &'a [Token]) -> Read<'a, SStmt>
     ensures shorter { IfOk result (λ r. length r.1.now < length tokens.now) }
-    ensures reads { Parses stmt_of (g.rule (g.While at)) tokens.now result }
+    ensures reads { Parses stmt_of (g.rule (g.WhileLoop at)) tokens.now result }
 {
     let (condition, rest) = group(alloc, tokens)?;
     let (conditions, rest) = invariants(alloc, rest)?;
@@ -311,7 +311,7 @@ pub fn braced(at: Pos, stmts: Vec<SStmt>) -> SBlock
 #[cycle(stmts)]
 pub fn statements<'a>(alloc: Global, tokens: &'a [Token]) -> Read<'a, Vec<SStmt>>
     ensures shorter { IfOk result (λ r. length r.1.now < length tokens.now) }
-    ensures reads { Parses stmts_in (g.rule (g.Stmts [])) tokens.now result }
+    ensures reads { Parses stmts_in (g.rule (g.Statements [])) tokens.now result }
 {
     let mut all = Vec::new(alloc);
     let mut rest = tokens;

@@ -7,7 +7,7 @@ ghost use Rattle.viper_parse.specs.Tests.{Starts, an_operator};
 ghost use Rattle.viper_parse.specs.View.{part_of, instance_of, arguments_of};
 
 use crate::build::{
-    access, applied, binary, called, choice, constant, field, number, old, unfolding, variable,
+    accessed, applied, binary, called, chosen, constant, field, number, old, unfolding, variable,
 };
 use crate::parts::{Instance, Part, Shape, WordClass, pushed};
 use crate::tokens::{
@@ -25,12 +25,12 @@ pub fn term<'a>(alloc: Global, tokens: &'a [Token]) -> Read<'a, Part>
     ensures reads { Parses part_of (g.rule g.Term) tokens.now result }
 {
     let (part, rest) = level(alloc, 8, tokens)?;
-    further(alloc, part, rest)
+    choice(alloc, part, rest)
 }
 
 /// `[ "?" term ":" term ]` after a term of the loosest level.
 #[cycle(terms)]
-fn further<'a>(alloc: Global, condition: Part, tokens: &'a [Token]) -> Read<'a, Part>
+fn choice<'a>(alloc: Global, condition: Part, tokens: &'a [Token]) -> Read<'a, Part>
     ensures shorter { IfOk result (λ r. length r.1.now ≤ length tokens.now) }
     ensures reads { Parses part_of (g.choice (part_of condition)) tokens.now result }
 {
@@ -43,7 +43,7 @@ fn further<'a>(alloc: Global, condition: Part, tokens: &'a [Token]) -> Read<'a, 
     let (first, rest) = term(alloc, rest)?;
     let (_, after) = sign(Sign::Colon, rest)?;
     let (second, rest) = term(alloc, after)?;
-    let whole = choice(alloc, condition, first, second, at)?;
+    let whole = chosen(alloc, condition, first, second, at)?;
     Ok((whole, rest))
 }
 
@@ -178,7 +178,7 @@ fn first<'a>(alloc: Global, tokens: &'a [Token]) -> Read<'a, Part>
         return Ok((part, rest));
     }
     if let Some((at, rest)) = eat_word(Word::Acc, tokens) {
-        return permission(alloc, at, rest);
+        return access(alloc, at, rest);
     }
     let (inner, rest) = group(alloc, tokens)?;
     let part = Part {
@@ -205,14 +205,14 @@ fn name_or_call<'a>(alloc: Global, named: Named, tokens: &'a [Token]) -> Read<'a
 
 /// `"(" term [ "," term ] ")"` after `acc`.
 #[cycle(terms)]
-fn permission<'a>(alloc: Global, at: Pos, tokens: &'a [Token]) -> Read<'a, Part>
+fn access<'a>(alloc: Global, at: Pos, tokens: &'a [Token]) -> Read<'a, Part>
     ensures shorter { IfOk result (λ r. length r.1.now < length tokens.now) }
     ensures reads { Parses part_of (g.access at) tokens.now result }
 {
     let (_, rest) = sign(Sign::OpenParen, tokens)?;
     let (place, rest) = term(alloc, rest)?;
     let (held, rest) = amount(alloc, rest)?;
-    let whole = access(alloc, place, held, at)?;
+    let whole = accessed(alloc, place, held, at)?;
     Ok((whole, rest))
 }
 

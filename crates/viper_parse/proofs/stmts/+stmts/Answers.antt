@@ -10,47 +10,47 @@ use Rattle.viper_parse.proofs.stmts.+stmts.Goals as goal
 
 pub statement-returns-in-Some-clause-reads : goal.statement-returns-in-Some-clause-reads
 statement-returns-in-Some-clause-reads t c =
-    pass_on stmt_of _ (tail (by_token c.in-Some.ensures.eats (start (g.rule g.Stmt) c.args.tokens.now))) c.variable.ensures.reads
+    pass_on stmt_of _ (tail (by_token c.in-Some.ensures.eats (start (g.rule g.Statement) c.args.tokens.now))) c.variable.ensures.reads
 
 pub statement-returns-in_err-part-clause-reads : goal.statement-returns-in_err-part-clause-reads
 statement-returns-in_err-part-clause-reads t c =
-    part_error stmt_of _ _ c.from_residual.ensures.1 (by_token c.in-Some-eat_one_of.ensures.eats (by_other c.in_default.ensures.eats (start (g.rule g.Stmt) c.args.tokens.now))) c.in_err-part.ensures.reads
+    part_error stmt_of _ _ c.from_residual.ensures.1 (by_token c.in-Some-eat_one_of.ensures.eats (by_other c.in_default.ensures.eats (start (g.rule g.Statement) c.args.tokens.now))) c.in_err-part.ensures.reads
 
 pub statement-returns-in-Some-eat_one_of-clause-reads : goal.statement-returns-in-Some-eat_one_of-clause-reads
 statement-returns-in-Some-eat_one_of-clause-reads t c =
-    whole_as (by_part c.in_ok-part.ensures.reads (by_token c.in-Some-eat_one_of.ensures.eats (by_other c.in_default.ensures.eats (start (g.rule g.Stmt) c.args.tokens.now)))) (ap (λ e. s.Check c.in-Some-eat_one_of.check.0 c.in-Some-eat_one_of.check.1 e) (ap term_of c.into_inner.ensures))
+    whole_as (by_part c.in_ok-part.ensures.reads (by_token c.in-Some-eat_one_of.ensures.eats (by_other c.in_default.ensures.eats (start (g.rule g.Statement) c.args.tokens.now)))) (ap (λ e. s.Check c.in-Some-eat_one_of.check.0 c.in-Some-eat_one_of.check.1 e) (ap term_of c.into_inner.ensures))
 
 pub statement-returns-in_err-held-clause-reads : goal.statement-returns-in_err-held-clause-reads
 statement-returns-in_err-held-clause-reads t c =
-    part_error stmt_of _ _ c.from_residual-in_err-held.ensures.1 (by_token c.in-Some-eat_word.ensures.eats (by_other c.in_default-eat_one_of.ensures.eats (by_other c.in_default.ensures.eats (start (g.rule g.Stmt) c.args.tokens.now)))) c.in_err-held.ensures.reads
+    part_error stmt_of _ _ c.from_residual-in_err-held.ensures.1 (by_token c.in-Some-eat_word.ensures.eats (by_other c.in_default-eat_one_of.ensures.eats (by_other c.in_default.ensures.eats (start (g.rule g.Statement) c.args.tokens.now)))) c.in_err-held.ensures.reads
 
 pub statement-returns-in-Some-eat_word-clause-reads : goal.statement-returns-in-Some-eat_word-clause-reads
 statement-returns-in-Some-eat_word-clause-reads t c =
-    whole_as (by_part c.in_ok-held.ensures.reads (by_token c.in-Some-eat_word.ensures.eats (by_other c.in_default-eat_one_of.ensures.eats (by_other c.in_default.ensures.eats (start (g.rule g.Stmt) c.args.tokens.now))))) (ap s.Fold c.fold.ensures)
+    whole_as (by_part c.in_ok-held.ensures.reads (by_token c.in-Some-eat_word.ensures.eats (by_other c.in_default-eat_one_of.ensures.eats (by_other c.in_default.ensures.eats (start (g.rule g.Statement) c.args.tokens.now))))) (ap s.Fold c.fold.ensures)
 
 pub statement-returns-in_err-held-2-clause-reads : goal.statement-returns-in_err-held-2-clause-reads
 statement-returns-in_err-held-2-clause-reads t c =
-    part_error stmt_of _ _ c.from_residual-in_err-held-2.ensures.1 (by_token c.in-Some-eat_word-2.ensures.eats (by_other c.in_default-eat_word.ensures.eats (by_other c.in_default-eat_one_of.ensures.eats (by_other c.in_default.ensures.eats (start (g.rule g.Stmt) c.args.tokens.now))))) c.in_err-held-2.ensures.reads
+    part_error stmt_of _ _ c.from_residual-in_err-held-2.ensures.1 (by_token c.in-Some-eat_word-2.ensures.eats (by_other c.in_default-eat_word.ensures.eats (by_other c.in_default-eat_one_of.ensures.eats (by_other c.in_default.ensures.eats (start (g.rule g.Statement) c.args.tokens.now))))) c.in_err-held-2.ensures.reads
 
 pub statement-returns-in-Some-eat_word-2-clause-reads : goal.statement-returns-in-Some-eat_word-2-clause-reads
 statement-returns-in-Some-eat_word-2-clause-reads t c =
-    whole_as (by_part c.in_ok-held-2.ensures.reads (by_token c.in-Some-eat_word-2.ensures.eats (by_other c.in_default-eat_word.ensures.eats (by_other c.in_default-eat_one_of.ensures.eats (by_other c.in_default.ensures.eats (start (g.rule g.Stmt) c.args.tokens.now)))))) (ap s.Unfold c.fold-in-Some-eat_word-2.ensures)
+    whole_as (by_part c.in_ok-held-2.ensures.reads (by_token c.in-Some-eat_word-2.ensures.eats (by_other c.in_default-eat_word.ensures.eats (by_other c.in_default-eat_one_of.ensures.eats (by_other c.in_default.ensures.eats (start (g.rule g.Statement) c.args.tokens.now)))))) (ap s.Unfold c.fold-in-Some-eat_word-2.ensures)
 
 pub statement-returns-in-Some-eat_word-3-clause-reads : goal.statement-returns-in-Some-eat_word-3-clause-reads
 statement-returns-in-Some-eat_word-3-clause-reads t c =
-    pass_on stmt_of _ (by_token c.in-Some-eat_word-3.ensures.eats (by_other c.in_default-eat_word-2.ensures.eats (by_other c.in_default-eat_word.ensures.eats (by_other c.in_default-eat_one_of.ensures.eats (by_other c.in_default.ensures.eats (start (g.rule g.Stmt) c.args.tokens.now)))))) c.branches.ensures.reads
+    pass_on stmt_of _ (by_token c.in-Some-eat_word-3.ensures.eats (by_other c.in_default-eat_word-2.ensures.eats (by_other c.in_default-eat_word.ensures.eats (by_other c.in_default-eat_one_of.ensures.eats (by_other c.in_default.ensures.eats (start (g.rule g.Statement) c.args.tokens.now)))))) c.branches.ensures.reads
 
 pub statement-returns-in-Some-eat_word-4-clause-reads : goal.statement-returns-in-Some-eat_word-4-clause-reads
 statement-returns-in-Some-eat_word-4-clause-reads t c =
-    pass_on stmt_of _ (tail (by_token c.in-Some-eat_word-4.ensures.eats (by_other c.in_default-eat_word-3.ensures.eats (by_other c.in_default-eat_word-2.ensures.eats (by_other c.in_default-eat_word.ensures.eats (by_other c.in_default-eat_one_of.ensures.eats (by_other c.in_default.ensures.eats (start (g.rule g.Stmt) c.args.tokens.now)))))))) c.repeated.ensures.reads
+    pass_on stmt_of _ (tail (by_token c.in-Some-eat_word-4.ensures.eats (by_other c.in_default-eat_word-3.ensures.eats (by_other c.in_default-eat_word-2.ensures.eats (by_other c.in_default-eat_word.ensures.eats (by_other c.in_default-eat_one_of.ensures.eats (by_other c.in_default.ensures.eats (start (g.rule g.Statement) c.args.tokens.now)))))))) c.while_loop.ensures.reads
 
 pub statement-returns-in_err-named-clause-reads : goal.statement-returns-in_err-named-clause-reads
 statement-returns-in_err-named-clause-reads t c =
-    token_error stmt_of _ _ c.from_residual-in_err-named.ensures.1 (by_other c.in_default-eat_word-4.ensures.eats (by_other c.in_default-eat_word-3.ensures.eats (by_other c.in_default-eat_word-2.ensures.eats (by_other c.in_default-eat_word.ensures.eats (by_other c.in_default-eat_one_of.ensures.eats (by_other c.in_default.ensures.eats (start (g.rule g.Stmt) c.args.tokens.now))))))) c.in_err-named.ensures.takes
+    token_error stmt_of _ _ c.from_residual-in_err-named.ensures.1 (by_other c.in_default-eat_word-4.ensures.eats (by_other c.in_default-eat_word-3.ensures.eats (by_other c.in_default-eat_word-2.ensures.eats (by_other c.in_default-eat_word.ensures.eats (by_other c.in_default-eat_one_of.ensures.eats (by_other c.in_default.ensures.eats (start (g.rule g.Statement) c.args.tokens.now))))))) c.in_err-named.ensures.takes
 
 pub statement-returns-clause-reads : goal.statement-returns-clause-reads
 statement-returns-clause-reads t c =
-    pass_on stmt_of _ (tail (by_need c.in_ok-named.ensures.takes (by_other c.in_default-eat_word-4.ensures.eats (by_other c.in_default-eat_word-3.ensures.eats (by_other c.in_default-eat_word-2.ensures.eats (by_other c.in_default-eat_word.ensures.eats (by_other c.in_default-eat_one_of.ensures.eats (by_other c.in_default.ensures.eats (start (g.rule g.Stmt) c.args.tokens.now))))))))) c.after_name.ensures.reads
+    pass_on stmt_of _ (tail (by_need c.in_ok-named.ensures.takes (by_other c.in_default-eat_word-4.ensures.eats (by_other c.in_default-eat_word-3.ensures.eats (by_other c.in_default-eat_word-2.ensures.eats (by_other c.in_default-eat_word.ensures.eats (by_other c.in_default-eat_one_of.ensures.eats (by_other c.in_default.ensures.eats (start (g.rule g.Statement) c.args.tokens.now))))))))) c.after_name.ensures.reads
 
 pub arm-returns-in_err-condition-clause-reads : goal.arm-returns-in_err-condition-clause-reads
 arm-returns-in_err-condition-clause-reads t c =
@@ -92,21 +92,21 @@ pub branches-returns-clause-reads : goal.branches-returns-clause-reads
 branches-returns-clause-reads t c =
     whole_as (by_part c.in_ok-last.ensures.reads (by_token c.in-Some-eat_word.ensures.eats (by_other c.in_default.ensures.eats (c.loop-place.invariant.goes)))) c.conditional-2.ensures
 
-pub repeated-returns-in_err-condition-clause-reads : goal.repeated-returns-in_err-condition-clause-reads
-repeated-returns-in_err-condition-clause-reads t c =
-    part_error stmt_of _ _ c.from_residual.ensures.1 (start (g.rule (g.While c.args.at)) c.args.tokens.now) c.in_err-condition.ensures.reads
+pub while_loop-returns-in_err-condition-clause-reads : goal.while_loop-returns-in_err-condition-clause-reads
+while_loop-returns-in_err-condition-clause-reads t c =
+    part_error stmt_of _ _ c.from_residual.ensures.1 (start (g.rule (g.WhileLoop c.args.at)) c.args.tokens.now) c.in_err-condition.ensures.reads
 
-pub repeated-returns-in_err-conditions-clause-reads : goal.repeated-returns-in_err-conditions-clause-reads
-repeated-returns-in_err-conditions-clause-reads t c =
-    part_error stmt_of _ _ c.from_residual-in_err-conditions.ensures.1 (by_part c.in_ok-condition.ensures.reads (start (g.rule (g.While c.args.at)) c.args.tokens.now)) c.in_err-conditions.ensures.reads
+pub while_loop-returns-in_err-conditions-clause-reads : goal.while_loop-returns-in_err-conditions-clause-reads
+while_loop-returns-in_err-conditions-clause-reads t c =
+    part_error stmt_of _ _ c.from_residual-in_err-conditions.ensures.1 (by_part c.in_ok-condition.ensures.reads (start (g.rule (g.WhileLoop c.args.at)) c.args.tokens.now)) c.in_err-conditions.ensures.reads
 
-pub repeated-returns-in_err-body-clause-reads : goal.repeated-returns-in_err-body-clause-reads
-repeated-returns-in_err-body-clause-reads t c =
-    part_error stmt_of _ _ c.from_residual-in_err-body.ensures.1 (by_part c.in_ok-conditions.ensures.reads (by_part c.in_ok-condition.ensures.reads (start (g.rule (g.While c.args.at)) c.args.tokens.now))) c.in_err-body.ensures.reads
+pub while_loop-returns-in_err-body-clause-reads : goal.while_loop-returns-in_err-body-clause-reads
+while_loop-returns-in_err-body-clause-reads t c =
+    part_error stmt_of _ _ c.from_residual-in_err-body.ensures.1 (by_part c.in_ok-conditions.ensures.reads (by_part c.in_ok-condition.ensures.reads (start (g.rule (g.WhileLoop c.args.at)) c.args.tokens.now))) c.in_err-body.ensures.reads
 
-pub repeated-returns-clause-reads : goal.repeated-returns-clause-reads
-repeated-returns-clause-reads t c =
-    whole_as (by_part c.in_ok-body.ensures.reads (by_part c.in_ok-conditions.ensures.reads (by_part c.in_ok-condition.ensures.reads (start (g.rule (g.While c.args.at)) c.args.tokens.now)))) c.iteration.ensures
+pub while_loop-returns-clause-reads : goal.while_loop-returns-clause-reads
+while_loop-returns-clause-reads t c =
+    whole_as (by_part c.in_ok-body.ensures.reads (by_part c.in_ok-conditions.ensures.reads (by_part c.in_ok-condition.ensures.reads (start (g.rule (g.WhileLoop c.args.at)) c.args.tokens.now)))) c.iteration.ensures
 
 pub block-returns-in_err-at-clause-reads : goal.block-returns-in_err-at-clause-reads
 block-returns-in_err-at-clause-reads t c =
@@ -122,7 +122,7 @@ block-returns-clause-reads t c =
 
 pub statements-each-init : goal.statements-each-init
 statements-each-init t c =
-    record { shorter = omega arith; goes = goes_at v.stmts (λ ss. g.rule (g.Stmts ss)) (ap (map stmt_of) c.new-all.ensures.items) (start (g.rule (g.Stmts [])) c.args.tokens.now) }
+    record { shorter = omega arith; goes = goes_at v.stmts (λ ss. g.rule (g.Statements ss)) (ap (map stmt_of) c.new-all.ensures.items) (start (g.rule (g.Statements [])) c.args.tokens.now) }
 
 pub statements-returns-in-Some-clause-reads : goal.statements-returns-in-Some-clause-reads
 statements-returns-in-Some-clause-reads t c =
@@ -134,4 +134,4 @@ statements-returns-in_err-next-clause-reads t c =
 
 pub statements-each-preserved : goal.statements-each-preserved
 statements-each-preserved t c =
-    record { shorter = omega (arith, c.in_ok-next.ensures.shorter, c.semicolons-rest.ensures.shorter); goes = goes_at v.stmts (λ ss. g.rule (g.Stmts ss)) (pushed_more stmt_of _ c.in_ok-all.ensures refl) (tail (by_part c.semicolons-rest.ensures.reads (by_part c.in_ok-next.ensures.reads (by_other c.in_default.ensures.eats (c.each.invariant.goes))))) }
+    record { shorter = omega (arith, c.in_ok-next.ensures.shorter, c.semicolons-rest.ensures.shorter); goes = goes_at v.stmts (λ ss. g.rule (g.Statements ss)) (pushed_more stmt_of _ c.in_ok-all.ensures refl) (tail (by_part c.semicolons-rest.ensures.reads (by_part c.in_ok-next.ensures.reads (by_other c.in_default.ensures.eats (c.each.invariant.goes))))) }

@@ -16,8 +16,8 @@ decreases-arm l = 8 * length l.tokens.now + 2
 abbrev pub decreases-branches : goal.decreases-branches
 decreases-branches l = 8 * length l.tokens.now + 3
 
-abbrev pub decreases-repeated : goal.decreases-repeated
-decreases-repeated l = 8 * length l.tokens.now + 2
+abbrev pub decreases-while_loop : goal.decreases-while_loop
+decreases-while_loop l = 8 * length l.tokens.now + 2
 
 abbrev pub decreases-block : goal.decreases-block
 decreases-block l = 8 * length l.tokens.now + 1
@@ -34,7 +34,7 @@ decreases-branches-loop-place l = length l.rest
 abbrev pub invariant-statements-each : goal.invariant-statements-each
 invariant-statements-each l = record {
   shorter : length l.rest ≤ length l.tokens;
-  goes : Goes (g.rule (g.Stmts [])) l.tokens (g.rule (g.Stmts (map stmt_of l.all.items))) l.rest;
+  goes : Goes (g.rule (g.Statements [])) l.tokens (g.rule (g.Statements (map stmt_of l.all.items))) l.rest;
 }
 
 abbrev pub decreases-statements-each : goal.decreases-statements-each

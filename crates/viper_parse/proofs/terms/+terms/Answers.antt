@@ -19,30 +19,30 @@ term-returns-in_err-part-clause-reads t c =
 
 pub term-returns-clause-reads : goal.term-returns-clause-reads
 term-returns-clause-reads t c =
-    pass_on part_of _ (by_part c.in_ok-part.ensures.reads (start (g.rule g.Term) c.args.tokens.now)) c.further.ensures.reads
+    pass_on part_of _ (by_part c.in_ok-part.ensures.reads (start (g.rule g.Term) c.args.tokens.now)) c.choice.ensures.reads
 
-pub further-returns-then-is_open-clause-reads : goal.further-returns-then-is_open-clause-reads
-further-returns-then-is_open-clause-reads t c =
+pub choice-returns-then-is_open-clause-reads : goal.choice-returns-then-is_open-clause-reads
+choice-returns-then-is_open-clause-reads t c =
     stays (part_of c.args.condition) _ c.if-is_open.ensures
 
-pub further-returns-in_default-clause-reads : goal.further-returns-in_default-clause-reads
-further-returns-in_default-clause-reads t c =
+pub choice-returns-in_default-clause-reads : goal.choice-returns-in_default-clause-reads
+choice-returns-in_default-clause-reads t c =
     whole (by_other c.in_default.ensures.eats (goes_further (part_of c.args.condition) c.if-is_open.ensures (start (g.choice (part_of c.args.condition)) c.args.tokens.now)))
 
-pub further-returns-in_err-first-clause-reads : goal.further-returns-in_err-first-clause-reads
-further-returns-in_err-first-clause-reads t c =
+pub choice-returns-in_err-first-clause-reads : goal.choice-returns-in_err-first-clause-reads
+choice-returns-in_err-first-clause-reads t c =
     part_error part_of _ _ c.from_residual.ensures.1 (by_token c.in-Some.ensures.eats (goes_further (part_of c.args.condition) c.if-is_open.ensures (start (g.choice (part_of c.args.condition)) c.args.tokens.now))) c.in_err-first.ensures.reads
 
-pub further-returns-in_err-after-clause-reads : goal.further-returns-in_err-after-clause-reads
-further-returns-in_err-after-clause-reads t c =
+pub choice-returns-in_err-after-clause-reads : goal.choice-returns-in_err-after-clause-reads
+choice-returns-in_err-after-clause-reads t c =
     token_error part_of _ _ c.from_residual-in_err-after.ensures.1 (by_part c.in_ok-first.ensures.reads (by_token c.in-Some.ensures.eats (goes_further (part_of c.args.condition) c.if-is_open.ensures (start (g.choice (part_of c.args.condition)) c.args.tokens.now)))) c.in_err-after.ensures.takes
 
-pub further-returns-in_err-second-clause-reads : goal.further-returns-in_err-second-clause-reads
-further-returns-in_err-second-clause-reads t c =
+pub choice-returns-in_err-second-clause-reads : goal.choice-returns-in_err-second-clause-reads
+choice-returns-in_err-second-clause-reads t c =
     part_error part_of _ _ c.from_residual-in_err-second.ensures.1 (by_need c.in_ok-after.ensures.takes (by_part c.in_ok-first.ensures.reads (by_token c.in-Some.ensures.eats (goes_further (part_of c.args.condition) c.if-is_open.ensures (start (g.choice (part_of c.args.condition)) c.args.tokens.now))))) c.in_err-second.ensures.reads
 
-pub further-returns-clause-reads : goal.further-returns-clause-reads
-further-returns-clause-reads t c =
+pub choice-returns-clause-reads : goal.choice-returns-clause-reads
+choice-returns-clause-reads t c =
     whole_as (by_part c.in_ok-second.ensures.reads (by_need c.in_ok-after.ensures.takes (by_part c.in_ok-first.ensures.reads (by_token c.in-Some.ensures.eats (goes_further (part_of c.args.condition) c.if-is_open.ensures (start (g.choice (part_of c.args.condition)) c.args.tokens.now)))))) c.in_ok-whole.ensures
 
 pub level-returns-in_err-part-clause-reads : goal.level-returns-in_err-part-clause-reads
@@ -146,7 +146,7 @@ first-returns-in-Some-eat_word-clause-reads t c =
 
 pub first-returns-in-Some-eat_word-2-clause-reads : goal.first-returns-in-Some-eat_word-2-clause-reads
 first-returns-in-Some-eat_word-2-clause-reads t c =
-    pass_on part_of _ (by_token c.in-Some-eat_word-2.ensures.eats (by_other c.in_default-eat_word.ensures.eats (by_other c.in_default-eat_one_of.ensures.eats (by_other c.in_default-eat_number.ensures.eats (by_other (rw c.in_default.is at c.in_ok-named.ensures.eats) (start (g.rule g.First) c.args.tokens.now)))))) c.permission.ensures.reads
+    pass_on part_of _ (by_token c.in-Some-eat_word-2.ensures.eats (by_other c.in_default-eat_word.ensures.eats (by_other c.in_default-eat_one_of.ensures.eats (by_other c.in_default-eat_number.ensures.eats (by_other (rw c.in_default.is at c.in_ok-named.ensures.eats) (start (g.rule g.First) c.args.tokens.now)))))) c.access.ensures.reads
 
 pub first-returns-in_err-inner-2-clause-reads : goal.first-returns-in_err-inner-2-clause-reads
 first-returns-in_err-inner-2-clause-reads t c =
@@ -168,20 +168,20 @@ pub name_or_call-returns-clause-reads : goal.name_or_call-returns-clause-reads
 name_or_call-returns-clause-reads t c =
     whole_as (by_part c.in_ok-args.ensures.reads (by_token c.in-Some.ensures.eats (start (g.name_or_call c.args.named) c.args.tokens.now))) c.in_ok-part-2.ensures
 
-pub permission-returns-in_err-rest-clause-reads : goal.permission-returns-in_err-rest-clause-reads
-permission-returns-in_err-rest-clause-reads t c =
+pub access-returns-in_err-rest-clause-reads : goal.access-returns-in_err-rest-clause-reads
+access-returns-in_err-rest-clause-reads t c =
     token_error part_of _ _ c.from_residual.ensures.1 (start (g.access c.args.at) c.args.tokens.now) c.in_err-rest.ensures.takes
 
-pub permission-returns-in_err-place-clause-reads : goal.permission-returns-in_err-place-clause-reads
-permission-returns-in_err-place-clause-reads t c =
+pub access-returns-in_err-place-clause-reads : goal.access-returns-in_err-place-clause-reads
+access-returns-in_err-place-clause-reads t c =
     part_error part_of _ _ c.from_residual-in_err-place.ensures.1 (by_need c.in_ok-rest.ensures.takes (start (g.access c.args.at) c.args.tokens.now)) c.in_err-place.ensures.reads
 
-pub permission-returns-in_err-held-clause-reads : goal.permission-returns-in_err-held-clause-reads
-permission-returns-in_err-held-clause-reads t c =
+pub access-returns-in_err-held-clause-reads : goal.access-returns-in_err-held-clause-reads
+access-returns-in_err-held-clause-reads t c =
     part_error part_of _ _ c.from_residual-in_err-held.ensures.1 (by_part c.in_ok-place.ensures.reads (by_need c.in_ok-rest.ensures.takes (start (g.access c.args.at) c.args.tokens.now))) c.in_err-held.ensures.reads
 
-pub permission-returns-clause-reads : goal.permission-returns-clause-reads
-permission-returns-clause-reads t c =
+pub access-returns-clause-reads : goal.access-returns-clause-reads
+access-returns-clause-reads t c =
     whole_as (by_part c.in_ok-held.ensures.reads (by_part c.in_ok-place.ensures.reads (by_need c.in_ok-rest.ensures.takes (start (g.access c.args.at) c.args.tokens.now)))) c.in_ok-whole.ensures
 
 pub group-returns-in_err-rest-clause-reads : goal.group-returns-in_err-rest-clause-reads

@@ -20,8 +20,8 @@ decreases-first l = 16 * length l.tokens.now + 10
 abbrev pub decreases-group : goal.decreases-group
 decreases-group l = 16 * length l.tokens.now + 9
 
-abbrev pub decreases-further : goal.decreases-further
-decreases-further l = 16 * length l.tokens.now
+abbrev pub decreases-choice : goal.decreases-choice
+decreases-choice l = 16 * length l.tokens.now
 
 abbrev pub decreases-chain : goal.decreases-chain
 decreases-chain l = 16 * length l.tokens.now
@@ -32,8 +32,8 @@ decreases-opening l = 16 * length l.tokens.now + 8
 abbrev pub decreases-name_or_call : goal.decreases-name_or_call
 decreases-name_or_call l = 16 * length l.tokens.now
 
-abbrev pub decreases-permission : goal.decreases-permission
-decreases-permission l = 16 * length l.tokens.now
+abbrev pub decreases-access : goal.decreases-access
+decreases-access l = 16 * length l.tokens.now
 
 abbrev pub decreases-amount : goal.decreases-amount
 decreases-amount l = 16 * length l.tokens.now

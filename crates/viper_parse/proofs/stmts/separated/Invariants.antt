@@ -1,7 +1,7 @@
 use Rattle.std.proofs.Common.{◌≤◌, length}
 use Rattle.viper_parse.specs.Grammar as g
 use Rattle.viper_parse.specs.Greedy.{Goes}
-use Rattle.viper_parse.proofs.stmts.more_names.Given as goal
+use Rattle.viper_parse.proofs.stmts.separated.Given as goal
 
 abbrev pub invariant-loop-after : goal.invariant-loop-after
 invariant-loop-after l = record {
