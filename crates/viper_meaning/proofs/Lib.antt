@@ -6,5 +6,6 @@ pub mod WithinLaws
 pub mod PlainLaws
 pub mod OldLaws
 pub mod SignLaws
+pub mod TypedLaws
 pub mod RunLaws
 pub mod RunBoundLaws

@@ -1,5 +1,5 @@
 -- How evaluating ends, and the ways to go on. The events are those that are recorded on the way, in order.
-use Rattle.std.specs.Prelude.{Bool, true, false, Option, Some, None, List, [], ◌∷◌, ◌++◌}
+use Rattle.std.specs.Prelude.{⊤, Bool, true, false, Option, Some, None, List, [], ◌∷◌, ◌++◌}
 use Rattle.vb_base.specs.declared.labels.Label.{Label}
 use Rattle.vb_base.specs.declared.labels.Kind.{Kind}
 use Rattle.vb_base.specs.declared.places.Pos.{Pos}
@@ -65,3 +65,10 @@ abbrev pub fitting : {X : Type 0} → Bound → Bool → Pos → X → Evaluated
 fitting Unbounded fits at x = is x
 fitting Bounded true at x = is x
 fitting Bounded false at x = ends [] (Over at)
+
+-- nothing blocks it
+abbrev pub IsNotBlocked : {X : Type 0} → Evaluated X → Type 0
+IsNotBlocked (ends events (Is x)) = ⊤
+IsNotBlocked (ends events (Fails l)) = ⊤
+IsNotBlocked (ends events Blocked) = ⊥
+IsNotBlocked (ends events (Over at)) = ⊤

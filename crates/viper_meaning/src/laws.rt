@@ -3,17 +3,21 @@
 ghost use Rattle.std.specs.Prelude.{◌≡◌, ℕ, true, List, []};
 ghost use Rattle.vb_base.specs.declared.places.Pos.{Pos};
 ghost use Rattle.vb_value.specs.Bound.{Bound, Unbounded, Bounded};
-ghost use Rattle.vb_value.specs.Content.{Content, IsWithinContent, IsProperContent};
+ghost use Rattle.vb_value.specs.Content.{Content, IsWithinContent, IsProperContent, IsReducedContent};
 ghost use Rattle.vb_value.specs.Fraction.{Fraction, IsReduced, is_positive};
 ghost use Rattle.vb_value.specs.Value.{IsWithinValue, IsProperValue};
+ghost use Rattle.vb_value.specs.declared.values.Ty.{Ty};
 ghost use Rattle.viper_core.specs.Expr as t;
 ghost use Rattle.viper_state.specs.State.{State, Key};
+ghost use Rattle.viper_state.specs.Fits.{FitsValue, FitsState, FitsScene, FitsEvent};
 ghost use Rattle.viper_state.specs.Run.{Scene, with_old};
 ghost use Rattle.viper_state.specs.Within.{IsWithinState, IsWithinScene, IsWithinEvent, IsProperState, IsProperScene, IsProperEvent, IsNonnegative};
-ghost use Rattle.viper_meaning.specs.Ends.{events_of};
+ghost use Rattle.viper_meaning.specs.Ends.{events_of, IsNotBlocked};
 ghost use Rattle.viper_meaning.specs.Places.{taken};
 ghost use Rattle.viper_meaning.specs.Value.{value, opened};
-ghost use Rattle.viper_meaning.specs.Compared.{IsBoundedBy, IsNotOver};
+ghost use Rattle.viper_meaning.specs.Compared.{IsNotOver, IsBoundedBy};
+ghost use Rattle.viper_core.specs.Formed.{IsFormed};
+ghost use Rattle.viper_core.specs.Typing.{Context, HasType, IsAssertion};
 ghost use Rattle.viper_core.specs.Literals.{IsWithinExpr, IsWithinAssertion, IsProperExpr, IsProperAssertion};
 ghost use Rattle.viper_meaning.specs.Kept.{IsAny, Keeps};
 ghost use Rattle.viper_core.specs.Plain.{OpensNothing, HasNoOld, AssertionHasNoOld};
@@ -66,4 +70,19 @@ pub fn no_permission_becomes_negative()
         → Keeps IsAny IsNonnegative (taken b sc s p key q at) }
     ensures opened { (b : Bound) (a : t.Assertion) (c : Content) (s : State) (sc : Scene) (k : Fraction)
         → is_positive k ≡ true → IsNonnegative s → Keeps IsAny IsNonnegative (opened b a c s sc k) }
+{}
+
+/// A typed expression meets no fallback for untyped ones: from a state and a scene that fit the program its value is of its
+/// type, and without `unfolding` it never blocks. A typed body makes of a state that fits one that fits.
+pub fn typed_expressions_meet_no_fallback()
+    ensures value { (b : Bound) (c : Context) (e : t.Expr) (u : Ty) (s : State) (sc : Scene) → IsFormed c.program
+        → HasType c e u → FitsState c.program.layout s → FitsScene c.program.layout c.vars sc
+        → Keeps (FitsEvent c.program.layout) (FitsValue u) (value b e s sc) }
+    ensures never_blocked { (b : Bound) (c : Context) (e : t.Expr) (u : Ty) (s : State) (sc : Scene) → IsFormed c.program
+        → HasType c e u → OpensNothing e → FitsState c.program.layout s → FitsScene c.program.layout c.vars sc
+        → IsNotBlocked (value b e s sc) }
+    ensures opened { (b : Bound) (c : Context) (a : t.Assertion) (d : Content) (s : State) (sc : Scene) (k : Fraction)
+        → IsFormed c.program → IsAssertion c a → IsReducedContent d → FitsState c.program.layout s
+        → FitsScene c.program.layout c.vars sc → IsReduced k
+        → Keeps (FitsEvent c.program.layout) (FitsState c.program.layout) (opened b a d s sc k) }
 {}
