@@ -4,7 +4,7 @@ ghost use Rattle.viper_core.specs.View.{expr_of, exprs_of, opened_of, amt_of, as
 
 use crate::{Amt, Assertion, Expr, Opened};
 use std::alloc::Global;
-use vb_base::{Memory, boxed};
+use vb_base::Memory;
 
 impl Expr {
     /// The same expression again.
@@ -18,29 +18,29 @@ impl Expr {
             Expr::Bool(b) => Ok(Expr::Bool(*b)),
             Expr::Null => Ok(Expr::Null),
             Expr::Part(q) => Ok(Expr::Part(*q)),
-            Expr::Neg(a) => Ok(Expr::Neg(boxed_expr(alloc, a)?)),
-            Expr::Not(a) => Ok(Expr::Not(boxed_expr(alloc, a)?)),
-            Expr::Bin(op, a, b, at) => {
-                let (a, b) = both(boxed_expr(alloc, a), boxed_expr(alloc, b))?;
-                Ok(Expr::Bin(*op, a, b, *at))
-            }
-            Expr::Choose(a, b, c) => {
-                let sides = both(boxed_expr(alloc, b), boxed_expr(alloc, c));
-                let (a, (b, c)) = both(boxed_expr(alloc, a), sides)?;
-                Ok(Expr::Choose(a, b, c))
-            }
-            Expr::Field(a, field, at) => Ok(Expr::Field(boxed_expr(alloc, a)?, *field, *at)),
-            Expr::Old(a) => Ok(Expr::Old(boxed_expr(alloc, a)?)),
-            Expr::Unfolding(opened) => Ok(Expr::Unfolding(boxed(alloc, opened.copy(alloc)?)?)),
+            Expr::Neg(a) => Ok(Expr::Neg(boxed(alloc, a)?)),
+            Expr::Not(a) => Ok(Expr::Not(boxed(alloc, a)?)),
+            Expr::Bin(op, a, b, at) => Ok(Expr::Bin(*op, boxed(alloc, a)?, boxed(alloc, b)?, *at)),
+            Expr::Choose(a, b, c) => Ok(Expr::Choose(
+                boxed(alloc, a)?,
+                boxed(alloc, b)?,
+                boxed(alloc, c)?,
+            )),
+            Expr::Field(a, field, at) => Ok(Expr::Field(boxed(alloc, a)?, *field, *at)),
+            Expr::Old(a) => Ok(Expr::Old(boxed(alloc, a)?)),
+            Expr::Unfolding(opened) => Ok(Expr::Unfolding(vb_base::boxed(
+                alloc,
+                opened.copy(alloc)?,
+            )?)),
         }
     }
 }
 
 #[cycle(copies)]
-fn boxed_expr(alloc: Global, e: &Expr) -> Result<Box<Expr>, Memory>
+fn boxed(alloc: Global, e: &Expr) -> Result<Box<Expr>, Memory>
     ensures { IfOk result (λ b. expr_of b.value ≡ expr_of e.now) }
 {
-    boxed(alloc, e.copy(alloc)?)
+    vb_base::boxed(alloc, e.copy(alloc)?)
 }
 
 #[cycle(copies)]
@@ -103,10 +103,10 @@ impl Assertion {
                 let (args, amount) = both(copies(alloc, args), amount.copy(alloc))?;
                 Ok(Assertion::Inst(*predicate, args, amount, *at))
             }
-            Assertion::And(a, b) => {
-                let (a, b) = both(boxed_assertion(alloc, a), boxed_assertion(alloc, b))?;
-                Ok(Assertion::And(a, b))
-            }
+            Assertion::And(a, b) => Ok(Assertion::And(
+                boxed_assertion(alloc, a)?,
+                boxed_assertion(alloc, b)?,
+            )),
             Assertion::Implies(e, a) => {
                 let (e, a) = both(e.copy(alloc), boxed_assertion(alloc, a))?;
                 Ok(Assertion::Implies(e, a))
@@ -124,7 +124,7 @@ impl Assertion {
 fn boxed_assertion(alloc: Global, a: &Assertion) -> Result<Box<Assertion>, Memory>
     ensures { IfOk result (λ b. assertion_of b.value ≡ assertion_of a.now) }
 {
-    boxed(alloc, a.copy(alloc)?)
+    vb_base::boxed(alloc, a.copy(alloc)?)
 }
 
 /// Both values, or the error of the first that failed. Each is dropped here, where nothing is known of its type.
