@@ -4,7 +4,9 @@ pub mod ClosedLaws
 pub mod KeptLaws
 pub mod WithinLaws
 pub mod PlainLaws
+pub mod SceneLaws
 pub mod OldLaws
+pub mod VariableLaws
 pub mod SignLaws
 pub mod TypedLaws
 pub mod RunLaws

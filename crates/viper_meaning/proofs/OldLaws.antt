@@ -14,34 +14,12 @@ use Rattle.viper_core.specs.declared.exprs.Op.TheVariants as op
 use Rattle.viper_state.specs.State.{State, content_at}
 use Rattle.viper_state.specs.Run.{Scene, with_variables, with_old}
 use Rattle.viper_meaning.specs.Ends.{Evaluated, is, blocks, then_with, found}
-use Rattle.viper_meaning.specs.Operators.{Class, Lazy, Division, Plain, class_of, quotient_of, euclidean, divided, in_class, negative, negation}
+use Rattle.viper_meaning.specs.Operators.{class_of, negative, negation}
 use Rattle.viper_meaning.specs.Places.{read_field, key_of, taken, unit_of, pair_of, fill_place, fill_instance}
+use Rattle.viper_meaning.proofs.SceneLaws.{in_class_same}
 use Rattle.viper_meaning.specs.Value.{as_truth, as_perm, as_ref, as_key, value, unfolded, values, amount_of, opened}
 
 module _ (b : Bound) (o : State) where
-  quotient_same : (sc : Scene) (v w : Value) (at : Pos) → quotient_of b (with_old o sc) v w at ≡ quotient_of b sc v w at
-  quotient_same sc (Int x) (Int n) at = refl
-  quotient_same sc (Perm p) (Int n) at = refl
-  quotient_same sc (Int x) _ at = refl
-  quotient_same sc (Perm p) _ at = refl
-  quotient_same sc _ _ at = refl
-
-  euclidean_same : (sc : Scene) (f : ℤ → ℤ → ℤ) (v w : Value) (at : Pos) → euclidean (with_old o sc) f v w at ≡ euclidean sc f v w at
-  euclidean_same sc f (Int x) (Int d) at = refl
-  euclidean_same sc f (Int x) _ at = refl
-  euclidean_same sc f _ _ at = refl
-
-  divided_same : (sc : Scene) (p : Op) (v w : Value) (at : Pos) → divided b (with_old o sc) p v w at ≡ divided b sc p v w at
-  divided_same sc op.Divide v w at = quotient_same sc v w at
-  divided_same sc op.IntDiv v w at = euclidean_same sc int_div_euclid v w at
-  divided_same sc op.IntMod v w at = euclidean_same sc int_rem_euclid v w at
-  divided_same sc _ v w at = refl
-
-  in_class_same : (c : Class) (sc : Scene) (p : Op) {l m r q : Evaluated Value} (at : Pos) → l ≡ m → r ≡ q → in_class c b (with_old o sc) p l r at ≡ in_class c b sc p m q at
-  in_class_same Lazy sc p at h g = λ i. in_class Lazy b sc p (h i) (g i) at
-  in_class_same Division sc p at h g = λ i. then_with (h i) (λ v. then_with (g i) (λ w. divided_same sc p v w at i))
-  in_class_same Plain sc p at h g = λ i. in_class Plain b sc p (h i) (g i) at
-
   mutual
     pub value_same : (e : t.Expr) (s : State) (sc : Scene) → HasNoOld e → value b e s (with_old o sc) ≡ value b e s sc
     value_same (t.Var x) s sc h = refl
@@ -51,7 +29,7 @@ module _ (b : Bound) (o : State) where
     value_same (t.Part q) s sc h = refl
     value_same (t.Neg a) s sc h = λ i. then_with (value_same a s sc h i) negative
     value_same (t.Not a) s sc h = λ i. then_with (value_same a s sc h i) negation
-    value_same (t.Bin p x y at) s sc h = in_class_same (class_of p) sc p at (value_same x s sc h.0) (value_same y s sc h.1)
+    value_same (t.Bin p x y at) s sc h = in_class_same b sc.store o (class_of p) sc p at (value_same x s sc h.0) (value_same y s sc h.1)
     value_same (t.Choose a x y) s sc h = λ i. then_with (as_truth (value_same a s sc h.0 i)) (λ holds. if holds then value_same x s sc h.1 i else value_same y s sc h.2 i)
     value_same (t.Field a f at) s sc h = λ i. then_with (as_ref (value_same a s sc h i)) (read_field sc s f at)
     value_same (t.Old a) s sc h = absurd h

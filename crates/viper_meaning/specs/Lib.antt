@@ -2,6 +2,7 @@ pub mod Ends
 pub mod Operators
 pub mod Places
 pub mod Value
+pub mod Variables
 pub mod Compared
 pub mod Kept
 pub mod Run

@@ -7,14 +7,16 @@ ghost use Rattle.vb_value.specs.Content.{Content, IsWithinContent, IsProperConte
 ghost use Rattle.vb_value.specs.Fraction.{Fraction, IsReduced, is_positive};
 ghost use Rattle.vb_value.specs.Value.{IsWithinValue, IsProperValue};
 ghost use Rattle.vb_value.specs.declared.values.Ty.{Ty};
+ghost use Rattle.vb_value.specs.declared.values.Value.{Value};
 ghost use Rattle.viper_core.specs.Expr as t;
 ghost use Rattle.viper_state.specs.State.{State, Key};
 ghost use Rattle.viper_state.specs.Fits.{FitsValue, FitsState, FitsScene, FitsEvent};
-ghost use Rattle.viper_state.specs.Run.{Scene, with_old};
+ghost use Rattle.viper_state.specs.Run.{Scene, with_variables, with_old};
 ghost use Rattle.viper_state.specs.Within.{IsWithinState, IsWithinScene, IsWithinEvent, IsProperState, IsProperScene, IsProperEvent, IsNonnegative};
 ghost use Rattle.viper_meaning.specs.Ends.{events_of, IsNotBlocked};
 ghost use Rattle.viper_meaning.specs.Places.{taken};
 ghost use Rattle.viper_meaning.specs.Value.{value, opened};
+ghost use Rattle.viper_meaning.specs.Variables.{AgreeOn};
 ghost use Rattle.viper_meaning.specs.Compared.{IsNotOver, IsBoundedBy};
 ghost use Rattle.viper_core.specs.Formed.{IsFormed};
 ghost use Rattle.viper_core.specs.Typing.{Context, HasType, IsAssertion};
@@ -62,6 +64,12 @@ pub fn old_alone_looks_at_the_old_state()
         → value b e s (with_old old sc) ≡ value b e s sc }
     ensures opened { (b : Bound) (a : t.Assertion) (c : Content) (s : State) (sc : Scene) (k : Fraction) (old : State)
         → AssertionHasNoOld a → opened b a c s (with_old old sc) k ≡ opened b a c s sc k }
+{}
+
+/// An expression looks at no variables but its own: those of the body of an `unfolding` are the arguments.
+pub fn an_expression_looks_at_its_own_variables()
+    ensures { (b : Bound) (e : t.Expr) (s : State) (sc : Scene) (vs : List Value) → AgreeOn vs sc.store e
+        → value b e s (with_variables vs sc) ≡ value b e s sc }
 {}
 
 /// No permission becomes negative where so much of an instance is taken, or a body is produced by a positive scale.
