@@ -8,10 +8,10 @@ use Rattle.std.specs.Ordering.{nat_cmp, on}
 use Rattle.std.specs.declared.cmp.Ordering.{Ordering}
 use Rattle.std.proofs.lemmas.Cmp.{nat_cmp_total}
 use Rattle.std.proofs.lemmas.Map.Lookups.{exact_unsigned}
-use Rattle.sparse.specs.Map.{Map, get, set, IsSame, ClonesAreEqual}
+use Rattle.sparse.specs.Map.{Map, get, set, IsReduced, IsSame, ClonesAreEqual}
 use Rattle.sparse.specs.Meaning.{IsExact}
 use Rattle.sparse.proofs.MapLaws.{map_from_same}
-use Rattle.sparse.proofs.MeaningLaws.{get-meaning_of, meaning_of-same, meaning_of-set, IsMeaning-on, IsMeaning-itself, ClonesAreEqual-from_meaning}
+use Rattle.sparse.proofs.MeaningLaws.{IsReduced-meaning_of, get-meaning_of, meaning_of-same, meaning_of-set, IsMeaning-on, IsMeaning-itself, ClonesAreEqual-from_meaning}
 use Rattle.vb_value.specs.Fraction.{Fraction}
 use Rattle.vb_value.specs.Content.{same_content}
 use Rattle.vb_value.specs.View.{content_of}
@@ -122,6 +122,17 @@ pub amounts_cloned : {kc : Key → Key → Type 0} {vc : Fraction → Fraction �
 amounts_cloned keys values = ClonesAreEqual-from_meaning (IsMeaning-itself key_cmp _) (subst (λ t. IsExact key_cmp t) (sym fraction_test) exact_amounts) keys values
 
 -- an answer that was handed on
-pub handed : {S T : Type 0} {P Q : Type 0} (a : Result (Unit {0}) S) (b : Result (Unit {0}) T) → IfOk b (λ x. a ≡ Ok x) → OnOk a P → (P → Q) → OnOk b Q
+pub handed : {E F X : Type 0} {P Q : Type 0} (a : Result (Unit {0}) E) (b : Result X F) → IfOk b (λ x. a ≡ Ok tt) → OnOk a P → (P → Q) → OnOk b Q
 handed {P = P} a (Ok x) is h go = go (subst (λ r. OnOk r P) is h)
 handed a (Err e) is h go = tt
+
+-- ---- a map of the program that is reduced is so as plain data
+
+pub values_reduced : (m : Map ℕ Value) → IsReduced nat_cmp values.ghosts.eq m → IsReduced nat_cmp value_eq m
+values_reduced m r = subst (λ t. IsReduced nat_cmp t m) value_test r
+
+pub fractions_reduced : {K : Type 0} {cmp : K → K → Ordering} (m : Map K Fraction) → IsReduced cmp fractions.ghosts.eq m → IsReduced cmp fraction_eq m
+fractions_reduced {cmp = cmp} m r = subst (λ t. IsReduced cmp t m) fraction_test r
+
+pub contents_reduced : (m : Map Key Content) → IsReduced key_cmp (on content_of same_content) m → IsReduced key_cmp same_content (contents_of m)
+contents_reduced m r = IsReduced-meaning_of (IsMeaning-on (λ k. k) content_of key_cmp same_content) m r

@@ -1,12 +1,12 @@
 -- The states of a Viper program: total heaps with masks (Parthasarathy, Dardinier, Bonneau, Mueller, Summers, "Towards
 -- Trustworthy Automated Program Verifiers", PLDI 2024). A place is a field of a reference, an instance a predicate with its
 -- arguments. What an instance contains is kept as a tree.
-use Rattle.std.specs.Prelude.{ℕ, Bool, List, length, replicate, slice_get, slice_set, Option, Some, None, pos}
+use Rattle.std.specs.Prelude.{ℕ, Bool, List, length, replicate, slice_get, slice_set, Option, Some, None}
 use Rattle.std.specs.Option.{option_map}
 use Rattle.std.specs.Ordering.{nat_cmp}
 use Rattle.std.specs.declared.cmp.Ordering.{Ordering}
 use Rattle.sparse.specs.Map.{Map, empty, get, set}
-use Rattle.vb_value.specs.Fraction.{Fraction, whole}
+use Rattle.vb_value.specs.Fraction.{Fraction, none}
 use Rattle.vb_value.specs.Content.{Content, same_content}
 use Rattle.vb_value.specs.Key.{key_cmp}
 use Rattle.vb_value.specs.Layout.{Layout}
@@ -29,10 +29,6 @@ pub record State : Type 0 where
   pub content : List (Map Key Content)
   pub mask : List (Map ℕ Fraction)
   pub amount : List (Map Key Fraction)
-
--- no permission
-abbrev pub none : Fraction
-none = whole (pos 0)
 
 -- the state with this heap and these contents, in which nothing is held
 abbrev pub empty_state : Layout → Memo → State

@@ -1,7 +1,8 @@
 // Copies, and states in which nothing is held.
-ghost use Rattle.std.specs.Prelude.{◌≡◌, IfOk, replicate, pos};
+ghost use Rattle.std.specs.Prelude.{◌≡◌, IfOk, replicate};
 ghost use Rattle.std.specs.List.{AllZip};
 ghost use Rattle.sparse.specs.Map.{empty, ClonesAreEqual, IsSame};
+ghost use Rattle.vb_value.specs.Fraction.{none};
 ghost use Rattle.viper_state.specs.State as s;
 ghost use Rattle.viper_state.specs.View.{memo_of, state_of};
 
@@ -66,17 +67,11 @@ fn empty_maps<K: Ord + Clone + Drop>(
     alloc: Global,
     count: usize,
 ) -> Result<Vec<Sparse<K, Frac>>, Memory>
-    ensures { IfOk result (λ maps. maps.items ≡ replicate count (empty s.none)) }
+    ensures { IfOk result (λ maps. maps.items ≡ replicate count (empty none)) }
 {
     let mut maps = Vec::with_capacity(alloc, count)?;
     for _ in 0..count {
-        maps.push(grown(Sparse::make(alloc, no_permission()))?)?;
+        maps.push(grown(Sparse::make(alloc, Frac::none()))?)?;
     }
     Ok(maps)
-}
-
-fn no_permission() -> Frac
-    ensures { result ≡ s.none }
-{
-    Frac::make(0, 1).unwrap()
 }

@@ -21,7 +21,7 @@ pub returns-then-is_none : goal.returns-then-is_none
 returns-then-is_none c =
     let s = state_of c.args.state.now in
     let p = c.args.instance.now.predicate in
-    if_so _ _ _ (sym c.if-is_none.ensures) (ends_is _ _ (c.in_ok-set_content.ensures ∙ ap (λ k. with_content s p k (content_of c.in_ok-copy.field-0)) c.in_ok-key.ensures.cases
+    if_so _ _ _ (sym c.if-is_none.ensures) (ends_is _ _ (c.in_ok-set_content.ensures.changed ∙ ap (λ k. with_content s p k (content_of c.in_ok-copy.field-0)) c.in_ok-key.ensures.cases
     ∙ ap (λ d. with_content s p c.args.instance.now.key d) c.in_ok-copy.ensures))
 
 pub returns-in_err-old : goal.returns-in_err-old

@@ -22,4 +22,4 @@ returns-in_err-set_amount c = passed _ _ c.from_residual-in_err-set_amount.ensur
 pub returns : goal.returns
 returns c =
     calm_then _ (c.in_ok-held.ensures ∙ ap found c.amount_at.ensures) (goes_then _ c.in_ok-contain.ensures
-    (calm_then _ c.in_ok-all.ensures (ends_is _ _ c.in_ok-set_amount.ensures)))
+    (calm_then _ c.in_ok-all.ensures (ends_is _ _ c.in_ok-set_amount.ensures.changed)))

@@ -27,4 +27,4 @@ returns-in_err-set_mask c = passed _ _ c.from_residual-in_err-set_mask.ensures.1
 pub returns : goal.returns
 returns c =
     calm_then _ (c.in_ok-held.ensures ∙ ap found c.mask_at.ensures) (goes_then _ c.in_ok-write.ensures
-    (calm_then _ c.in_ok-all.ensures (unless_not _ _ _ (sym c.if-is_above_one.ensures) (ends_is _ _ c.in_ok-set_mask.ensures))))
+    (calm_then _ c.in_ok-all.ensures (unless_not _ _ _ (sym c.if-is_above_one.ensures) (ends_is _ _ c.in_ok-set_mask.ensures.changed))))

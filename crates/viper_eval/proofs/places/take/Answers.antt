@@ -24,7 +24,7 @@ pub returns : goal.returns
 returns c =
     unless_not _ _ _ (sym (ap not c.if-not-is_positive.ensures)) (calm_then _ (c.in_ok-held.ensures ∙ ap found c.amount_at.ensures)
     (calm_then _ (tested_value _ _ _ _ is_lt (c.in_ok-fitted.ensures _ _ c.cmp.ensures)) (unless_not _ _ _ (sym c.if-is_lt.ensures)
-    (calm_then _ (c.in_ok-left.ensures _ _ c.sub.ensures) (ends_is _ _ c.in_ok-set_amount.ensures)))))
+    (calm_then _ (c.in_ok-left.ensures _ _ c.sub.ensures) (ends_is _ _ c.in_ok-set_amount.ensures.changed)))))
 
 pub returns-then-is_lt : goal.returns-then-is_lt
 returns-then-is_lt c =

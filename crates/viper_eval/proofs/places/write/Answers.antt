@@ -9,7 +9,7 @@ pub returns-in_err-set_value : goal.returns-in_err-set_value
 returns-in_err-set_value c = passed _ _ c.from_residual.ensures.1 no_memory
 
 pub returns-then-is_none : goal.returns-then-is_none
-returns-then-is_none c = if_so _ _ _ (sym c.if-is_none.ensures) (ends_is _ _ c.in_ok-set_value.ensures)
+returns-then-is_none c = if_so _ _ _ (sym c.if-is_none.ensures) (ends_is _ _ c.in_ok-set_value.ensures.changed)
 
 pub returns-in_err-old : goal.returns-in_err-old
 returns-in_err-old c =

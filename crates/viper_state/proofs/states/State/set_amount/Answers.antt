@@ -7,10 +7,10 @@ use Rattle.viper_state.proofs.states.State.set_amount.Goals as goal
 pub set-requires : goal.set-requires
 set-requires c = amounts_cloned (λ k q h. h) (λ v w h. h)
 
-pub returns-in-Some : goal.returns-in-Some
-returns-in-Some c =
+pub returns-in-Some-clause-changed : goal.returns-in-Some-clause-changed
+returns-in-Some-clause-changed c =
     let item = c.in-Some.ensures.item in
     let there = slice_get_read c.args.self.now.amount.items _ c.args.predicate c.in-Some.amounts.now refl item.3.0 item.1 in
-    handed c.set.result c.grown.result c.grown.ensures c.set.ensures.changed (λ h.
+    handed c.set.result c.placed.result c.placed.ensures.done c.set.ensures.changed (λ h.
     ap (λ maps. record { heap = (state_of c.args.self.now).heap; content = (state_of c.args.self.now).content; mask = (state_of c.args.self.now).mask; amount = maps })
     (changed_is fraction_test exact_amounts c.args.self.now.amount.items c.args.predicate c.in-Some.amounts.now c.set.new.self c.args.key c.args.amount there h))
