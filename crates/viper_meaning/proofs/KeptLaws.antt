@@ -248,7 +248,7 @@ module _ (b : Bound) (F S : Fraction → Type 0) (V : Value → Type 0) (K : Key
       then_kept (fitting_kept {P = F} b (fits_difference held q) at (difference held q) (closed.difference held q (closed.asked held i) f)) (λ left j.
       is_kept (with_amount_has h p key left k j))))))
 
-  added_kept : (held k q : Fraction) (at : Pos) → F held → S k → S q → HasKept F (added b held k q at)
+  pub added_kept : (held k q : Fraction) (at : Pos) → F held → S k → S q → HasKept F (added b held k q at)
   added_kept held k q at h f g =
       then_kept (fitting_kept {P = F} b (fits_product k q) at (product k q) (closed.product k q f g)) (λ more i. fitting_kept b (fits_sum held more) at (sum held more) (closed.sum held more (closed.asked held h) (closed.asked more i)))
 

@@ -11,3 +11,4 @@ pub mod SignLaws
 pub mod TypedLaws
 pub mod RunLaws
 pub mod RunBoundLaws
+pub mod RunKeptLaws

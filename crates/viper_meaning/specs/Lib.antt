@@ -11,3 +11,4 @@ pub mod Assertions
 pub mod Forgotten
 pub mod ComparedRuns
 pub mod Sat
+pub mod KeptRuns
