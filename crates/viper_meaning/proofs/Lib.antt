@@ -12,3 +12,6 @@ pub mod TypedLaws
 pub mod RunLaws
 pub mod RunBoundLaws
 pub mod RunKeptLaws
+pub mod ForgetLaws
+pub mod RunWithinLaws
+pub mod RunSignLaws

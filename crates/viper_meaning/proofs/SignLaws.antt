@@ -23,22 +23,22 @@ use Rattle.viper_meaning.specs.Kept as kept
 use Rattle.viper_meaning.specs.Kept.{IsAny, Keeps}
 use Rattle.viper_meaning.proofs.KeptLaws.{is_kept, fails_kept, blocks_kept, then_kept, found_kept, unless_kept, if_kept, fitting_kept}
 
-any_events : (es : List Event) → All IsAny es
+pub any_events : (es : List Event) → All IsAny es
 any_events [] = All-nil IsAny
 any_events (e ∷ es) = All-cons IsAny e es tt (any_events es)
 
-any_value : {X : Type 0} (e : Evaluated X) → Keeps IsAny IsAny e
+pub any_value : {X : Type 0} (e : Evaluated X) → Keeps IsAny IsAny e
 any_value (ends es (Is x)) = kept.value (any_events es) tt
 any_value (ends es (Fails l)) = kept.failure (any_events es)
 any_value (ends es Blocked) = kept.blocked (any_events es)
 any_value (ends es (Over at)) = kept.over (any_events es)
 
 -- goes on with whatever it is
-after_any : {X Y : Type 0} {P : Y → Type 0} (e : Evaluated X) {go : X → Evaluated Y} → ((x : X) → Keeps IsAny P (go x)) → Keeps IsAny P (then_with e go)
+pub after_any : {X Y : Type 0} {P : Y → Type 0} (e : Evaluated X) {go : X → Evaluated Y} → ((x : X) → Keeps IsAny P (go x)) → Keeps IsAny P (then_with e go)
 after_any e g = then_kept (any_value e) (λ x u. g x)
 
 -- goes on where the test does not hold
-where_not : {X : Type 0} {P : X → Type 0} (b c : Bool) {i e : Evaluated X} → b ≡ c → Keeps IsAny P i → (b ≡ false → Keeps IsAny P e) → Keeps IsAny P (unless c i e)
+pub where_not : {X : Type 0} {P : X → Type 0} (b c : Bool) {i e : Evaluated X} → b ≡ c → Keeps IsAny P i → (b ≡ false → Keeps IsAny P e) → Keeps IsAny P (unless c i e)
 where_not b true same h g = h
 where_not b false same h g = g same
 
@@ -52,7 +52,7 @@ taken_sign b sc s p key q at h =
     then_kept (fitting_kept {P = IsNotNegative} b (fits_difference held q) at (difference held q) (λ fits. difference_not_negative held q enough)) (λ left j.
     is_kept (with_amount_nonnegative h p key left j))))))
 
-added_sign : (b : Bound) (held k q : Fraction) (at : Pos) → IsNotNegative held → IsNotNegative k → IsNotNegative q → Keeps IsAny IsNotNegative (added b held k q at)
+pub added_sign : (b : Bound) (held k q : Fraction) (at : Pos) → IsNotNegative held → IsNotNegative k → IsNotNegative q → Keeps IsAny IsNotNegative (added b held k q at)
 added_sign b held k q at h i j =
     then_kept (fitting_kept {P = IsNotNegative} b (fits_product k q) at (product k q) (λ fits. product_not_negative k q i j)) (λ more l.
     fitting_kept b (fits_sum held more) at (sum held more) (λ fits. sum_not_negative held more h l))

@@ -1,15 +1,19 @@
 //! Laws of runs, each as the contract of a function that does nothing.
 
 ghost use Rattle.std.specs.Prelude.{◌≡◌, ◌++◌, List, false};
-ghost use Rattle.vb_value.specs.Bound.{Unbounded, Bounded};
-ghost use Rattle.vb_value.specs.Fraction.{Fraction};
+ghost use Rattle.vb_value.specs.Bound.{Bound, Unbounded, Bounded};
+ghost use Rattle.vb_value.specs.Fraction.{Fraction, IsReduced, is_negative};
 ghost use Rattle.vb_value.specs.Layout.{Layout};
 ghost use Rattle.viper_core.specs.Expr as t;
+ghost use Rattle.viper_core.specs.Literals.{IsWithinAssertion, IsProperAssertion};
 ghost use Rattle.viper_state.specs.Choice.{Choice};
 ghost use Rattle.viper_state.specs.State.{State};
 ghost use Rattle.viper_state.specs.Run.{Scene};
+ghost use Rattle.viper_state.specs.Within.{IsWithinState, IsWithinScene, IsWithinChoice, IsWithinEvent, IsProperState, IsProperScene, IsProperChoice, IsProperEvent, IsNonnegative};
 ghost use Rattle.viper_meaning.specs.Run.{Run, on, then_do, then_ran, is_short, with_more};
 ghost use Rattle.viper_meaning.specs.ComparedRuns.{is_over};
+ghost use Rattle.viper_meaning.specs.Kept.{IsAny};
+ghost use Rattle.viper_meaning.specs.KeptRuns.{KeepsRun};
 ghost use Rattle.viper_meaning.specs.Assertions.{produce, consume};
 ghost use Rattle.viper_meaning.specs.Forgotten.{forget};
 
@@ -42,4 +46,35 @@ pub fn no_run_is_over_without_a_bound()
     ensures consume { (a : t.Assertion) (start : State) (sc : Scene) (k : Fraction) (left : State) (choices : List Choice)
         → is_over (on (consume Unbounded a start sc k left) choices) ≡ false }
     ensures forget { (layout : Layout) (s : State) (choices : List Choice) → is_over (on (forget layout s) choices) ≡ false }
+{}
+
+/// A run within the bound that is given only choices within it leaves what is within it, and so is every event on the way.
+pub fn a_run_stays_within_the_bound()
+    ensures produce { (a : t.Assertion) (sc : Scene) (k : Fraction) (s : State) → IsWithinAssertion a → IsWithinState s
+        → IsWithinScene sc → KeepsRun IsWithinEvent IsWithinChoice IsWithinState (produce Bounded a sc k s) }
+    ensures consume { (a : t.Assertion) (start : State) (sc : Scene) (k : Fraction) (left : State) → IsWithinAssertion a
+        → IsWithinState start → IsWithinState left → IsWithinScene sc
+        → KeepsRun IsWithinEvent IsWithinChoice IsWithinState (consume Bounded a start sc k left) }
+    ensures forget { (layout : Layout) (s : State) → IsWithinState s
+        → KeepsRun IsWithinEvent IsWithinChoice IsWithinState (forget layout s) }
+{}
+
+/// A run from what is proper that is given only proper choices leaves what is proper, with the bound and without it.
+pub fn a_run_stays_proper()
+    ensures produce { (b : Bound) (a : t.Assertion) (sc : Scene) (k : Fraction) (s : State) → IsProperAssertion b a
+        → IsProperState b s → IsProperScene b sc → IsReduced k
+        → KeepsRun (IsProperEvent b) (IsProperChoice b) (IsProperState b) (produce b a sc k s) }
+    ensures consume { (b : Bound) (a : t.Assertion) (start : State) (sc : Scene) (k : Fraction) (left : State)
+        → IsProperAssertion b a → IsProperState b start → IsProperState b left → IsProperScene b sc → IsReduced k
+        → KeepsRun (IsProperEvent b) (IsProperChoice b) (IsProperState b) (consume b a start sc k left) }
+    ensures forget { (b : Bound) (layout : Layout) (s : State) → IsProperState b s
+        → KeepsRun (IsProperEvent b) (IsProperChoice b) (IsProperState b) (forget layout s) }
+{}
+
+/// No run makes a permission negative, whatever is chosen.
+pub fn no_run_makes_a_permission_negative()
+    ensures produce { (b : Bound) (a : t.Assertion) (sc : Scene) (k : Fraction) (s : State) → is_negative k ≡ false
+        → IsNonnegative s → KeepsRun IsAny IsAny IsNonnegative (produce b a sc k s) }
+    ensures consume { (b : Bound) (a : t.Assertion) (start : State) (sc : Scene) (k : Fraction) (left : State)
+        → IsNonnegative left → KeepsRun IsAny IsAny IsNonnegative (consume b a start sc k left) }
 {}
