@@ -74,5 +74,5 @@ by_answer (reads ds [] h) = inl (record_of ds, spelled h)
 by_answer (reads ds (k ∷ us) h) = inr (place_for (k ∷ us) (left_over h k us refl))
 by_answer {ts = ts} (goes_wrong r f) = inr (place_for r (whole_fails {ds = []} (start (rule (g.Program [])) ts) f))
 
-pub has_answer : (ts : List Token) → IsProgram ts ⊎ ((i : ℕ) × IsPlace IsProgram ts i)
-has_answer ts = by_answer (answered (g.Program []) ts)
+pub some_answer : (ts : List Token) → IsProgram ts ⊎ ((i : ℕ) × IsPlace IsProgram ts i)
+some_answer ts = by_answer (answered (g.Program []) ts)

@@ -9,4 +9,4 @@ mod stmts;
 mod terms;
 mod tokens;
 
-pub use program::{has_answer, one_place, one_tree, parse};
+pub use program::{one_place, one_tree, parse, some_answer};

@@ -7,7 +7,7 @@ use vb_base::Memory;
 use viper_syntax::{SCall, Term, Token};
 
 /// What a term is by its tokens.
-#[derive(Clone, Copy, Debug, PartialEq, Eq)]
+#[derive(Clone, Copy)]
 pub enum Shape {
     /// Wholly a call.
     Call,
@@ -65,7 +65,7 @@ impl From<Memory> for Stop<'_> {
 }
 
 /// Words that stand for one another in the grammar.
-#[derive(Clone, Copy, Debug, PartialEq, Eq)]
+#[derive(Clone, Copy)]
 pub enum WordClass {
     /// `Int`, `Bool`, `Ref` and `Perm`
     Type,

@@ -16,8 +16,8 @@ use viper_syntax::{ParseFault, SourceProgram, Token};
 
 /// The program that the tokens of a file spell; `end` is the place past the file's last byte. It is the one tree
 /// that the grammar has for them, and a `Syntax` comes exactly where it has none. Where the tokens are those of a
-/// successful `lex`, no term of it is nested deeper than 1,024, its names are names, and its literals are within the
-/// bound.
+/// successful `lex`, no term of it is nested deeper than 1,024, each of its names is a name and no word, and its
+/// literals are within the bound.
 pub fn parse(alloc: Global, tokens: &Vec<Token>, end: Pos) -> Result<SourceProgram, ParseFault>
     ensures found { IfOk result (λ p. Spells tokens.now.items (program_of p)) }
     ensures only { (p : d.SourceProgram) → Spells tokens.now.items p → Gives result p }
@@ -69,6 +69,6 @@ pub fn one_place()
 {}
 
 /// Each list of tokens spells a program or goes wrong at a place.
-pub fn has_answer()
+pub fn some_answer()
     ensures { (ts : List Token) → IsProgram ts ⊎ ((i : ℕ) × IsPlace IsProgram ts i) }
 {}
