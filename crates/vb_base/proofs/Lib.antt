@@ -4,3 +4,4 @@ pub mod RowLaws
 pub mod Numbers
 pub mod Fronts
 pub mod NameLaws
+pub mod Lookups

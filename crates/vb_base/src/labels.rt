@@ -1,6 +1,6 @@
 // The labels of failures, and their text.
-ghost use Rattle.std.specs.Prelude.{◌≡◌, ◌↔◌, ◌∷◌, ℕ, List, IsTrue, IfOk, MatchOption, Some};
-ghost use Rattle.std.specs.Str.{all_ascii_digits};
+ghost use Rattle.std.specs.Prelude.{◌≡◌, ◌↔◌, ◌∷◌, ℕ, List, IsTrue, IfOk, MatchOption, Some, find};
+ghost use Rattle.std.specs.Str.{all_ascii_digits, bytes_eq};
 ghost use Rattle.vb_base.specs.Labels.{kind_text, place_text, text_of, Spells};
 ghost use Rattle.vb_base.specs.Reading.{digit_count, IsNumber, StartsWithNumber, StartsWithPlace, StartsWithByte};
 
@@ -33,6 +33,29 @@ pub struct Label {
     pub kind: Kind,
 }
 
+const KINDS: [Kind; 6] = [
+    Kind::Null,
+    Kind::Perm,
+    Kind::Fact,
+    Kind::Div,
+    Kind::Negative,
+    Kind::Amount,
+];
+
+/// The word of a kind in the text of a label.
+fn kind_word(kind: Kind) -> &'static str
+    ensures { result.now ≡ kind_text kind }
+{
+    match kind {
+        Kind::Null => "null",
+        Kind::Perm => "perm",
+        Kind::Fact => "false",
+        Kind::Div => "div",
+        Kind::Negative => "negative",
+        Kind::Amount => "amount",
+    }
+}
+
 impl fmt::Display for Pos {
     ghost output = { λ p. Some (place_text p) };
 
@@ -47,14 +70,7 @@ impl fmt::Display for Kind {
     ghost output = { λ k. Some (kind_text k) };
 
     fn fmt<W: fmt::Write>(&self, f: &mut fmt::Formatter<W>) -> fmt::Result {
-        f.write_str(match self {
-            Kind::Null => "null",
-            Kind::Perm => "perm",
-            Kind::Fact => "false",
-            Kind::Div => "div",
-            Kind::Negative => "negative",
-            Kind::Amount => "amount",
-        })
+        f.write_str(kind_word(*self))
     }
 }
 
@@ -99,15 +115,17 @@ pub fn read_label(bytes: &[u8]) -> Option<Label>
 fn read_kind(bytes: &[u8]) -> Option<Kind>
     ensures { MatchOption result ((k : Kind) → bytes.now ≡ kind_text k → ⊥) (λ k. bytes.now ≡ kind_text k) }
 {
-    match bytes {
-        b"null" => Some(Kind::Null),
-        b"perm" => Some(Kind::Perm),
-        b"false" => Some(Kind::Fact),
-        b"div" => Some(Kind::Div),
-        b"negative" => Some(Kind::Negative),
-        b"amount" => Some(Kind::Amount),
-        _ => None,
-    }
+    kind_among(&KINDS, bytes)
+}
+
+/// The first of these kinds that has these bytes.
+fn kind_among(kinds: &[Kind], bytes: &[u8]) -> Option<Kind>
+    ensures { result ≡ find (λ k. bytes_eq bytes.now (kind_text k)) kinds.now }
+{
+    kinds
+        .iter()
+        .copied()
+        .find(|kind| bytes == kind_word(*kind).as_bytes())
 }
 
 fn read_place(bytes: &[u8]) -> Option<(Pos, &[u8])>

@@ -27,7 +27,7 @@ use Rattle.viper_syntax.specs.Limit.{StaysWithin, IsFirstAbove, KeepsLimits, Bre
 use Rattle.viper_syntax.specs.Lexed.{IsLexed, HasFault, in_cut, in_limits}
 use Rattle.viper_syntax.proofs.LimitLaws.{stays_from_fronts, one_more_front}
 use Rattle.viper_syntax.proofs.PieceLaws.{words}
-use Rattle.viper_syntax.proofs.WordLaws.{looked_up}
+use Rattle.viper_syntax.proofs.WordLaws.{word_looked_up}
 use Rattle.viper_syntax.proofs.LongestLaws.{blank_longest, name_longest, name_form_of_front, number_longest, line_at, closed_at, unclosed_at, sign_longest, no_piece, sign_from_first}
 use Rattle.viper_syntax.proofs.CutLaws.{longest_some}
 
@@ -86,7 +86,7 @@ abbrev Stops : List ℕ → Pos → Type 0
 Stops rest at = (fault : LexFault) × IsFaultHere rest at fault
 
 name_token : (x : List ℕ) → is_name x ≡ true → (t : Tok) × IsToken x t × IsSmall t
-name_token x form = by_case (find (λ u. bytes_eq x (word_text u)) words) (looked_up x (find (λ u. bytes_eq x (word_text u)) words) refl) where
+name_token x form = by_case (find (λ u. bytes_eq x (word_text u)) words) (word_looked_up x (find (λ u. bytes_eq x (word_text u)) words) refl) where
   by_case : (o : Option Word) → MatchOption o ((w : Word) → x ≢ word_text w) (λ w. x ≡ word_text w) → (t : Tok) × IsToken x t × IsSmall t
   by_case (Some w) e = (k.Word w, word w e, tt)
   by_case None h = (k.Name x, name form h, tt)

@@ -1,5 +1,5 @@
-use Rattle.viper_syntax.proofs.WordLaws.{looked_up}
+use Rattle.viper_syntax.proofs.WordLaws.{word_looked_up}
 use Rattle.viper_syntax.proofs.words.word_of.Goals as goal
 
 pub returns : goal.returns
-returns c = looked_up c.args.name.now c.word_among.result c.word_among.ensures
+returns c = word_looked_up c.args.name.now c.word_among.result c.word_among.ensures
