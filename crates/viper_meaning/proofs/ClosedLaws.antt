@@ -1,4 +1,5 @@
--- Properties of fractions, values, keys and contents that operations keep: to be within the bound, and to be proper.
+-- Properties of fractions, values, keys and contents that operations keep: to be anything, to be within the bound, and to be
+-- proper.
 use Rattle.std.proofs.Common.{◌≡◌, ◌≢◌, arith, ℕ, ℤ, pos, neg_ℤ, Bool, true, Option, Some, None, List, [], ◌∷◌, All, IfSome}
 use Rattle.std.proofs.lemmas.List.Elements.{All-nil, All-cons, All-head, All-tail}
 use Rattle.std.specs.Int.{int_div_euclid, int_rem_euclid}
@@ -15,6 +16,7 @@ use Rattle.vb_value.proofs.ProperLaws.{IsReduced-sum, IsReduced-difference, IsRe
 use Rattle.vb_value.proofs.RepresentableLaws.{within_from}
 use Rattle.viper_state.specs.State.{Key}
 use Rattle.viper_meaning.specs.Places.{key_part, in_front, key_of}
+use Rattle.viper_meaning.specs.Kept.{IsAny}
 use Rattle.viper_meaning.proofs.ResultLaws.{negative_within, whole_within, sum_within, difference_within, product_within, quotient_within, div_within, mod_within, left_within, right_within}
 
 -- S is what the operations ask of fractions
@@ -39,6 +41,35 @@ pub record IsClosed (b : Bound) (F S : Fraction → Type 0) (V : Value → Type 
   pub leaf : (v : Value) → C (Leaf v) → V v
   pub left : (c d : Content) → C (Pair c d) → C c
   pub right : (c d : Content) → C (Pair c d) → C d
+
+-- ---- anything
+
+pub any_found : {X : Type 0} (o : Option X) → IfSome o IsAny
+any_found (Some x) = tt
+any_found None = tt
+
+pub any_closed : (b : Bound) → IsClosed b IsAny IsAny IsAny IsAny IsAny
+any_closed b = record {
+  int = λ n h. tt;
+  truth = λ x. tt;
+  ref = λ r. tt;
+  perm = λ q h. tt;
+  asked = λ q h. tt;
+  of_perm = λ q h. tt;
+  negative = λ n h. tt;
+  negative_perm = λ q h. tt;
+  div = λ x d h g z. tt;
+  rem = λ x d h g z. tt;
+  whole = λ n h. tt;
+  sum = λ p q h g fits. tt;
+  difference = λ p q h g fits. tt;
+  product = λ p q h g fits. tt;
+  quotient = λ p n h z fits. tt;
+  key = λ vs h. any_found (key_of vs);
+  leaf = λ v h. tt;
+  left = λ c d h. tt;
+  right = λ c d h. tt;
+}
 
 -- ---- keys
 

@@ -32,7 +32,7 @@ use Rattle.viper_meaning.specs.Places.{read_field, key_of, taken, unit_of, leaf_
 use Rattle.viper_meaning.specs.Value.{as_truth, as_perm, as_ref, as_key, value, unfolded, values, amount_of, opened}
 use Rattle.viper_meaning.specs.Kept as kept
 use Rattle.viper_meaning.specs.Kept.{IsAny, Keeps}
-use Rattle.viper_meaning.proofs.ClosedLaws.{IsClosed}
+use Rattle.viper_meaning.proofs.ClosedLaws.{IsClosed, any_found}
 
 -- one lemma for each way to go on
 
@@ -77,7 +77,7 @@ fitting_kept Unbounded fits at x p = is_kept (p tt)
 fitting_kept Bounded true at x p = is_kept (p refl)
 fitting_kept {E = E} Bounded false at x p = kept.over (All-nil E)
 
-any_kept : {X : Type 0} {E : Event → Type 0} (x : X) → Keeps E IsAny (is x)
+pub any_kept : {X : Type 0} {E : Event → Type 0} (x : X) → Keeps E IsAny (is x)
 any_kept x = is_kept tt
 
 truth_of_kept : {E : Event → Type 0} (v : Value) → Keeps E IsAny (truth_of v)
@@ -92,154 +92,155 @@ unit_kept : {E : Event → Type 0} (c : Content) → Keeps E IsAny (unit_of c)
 unit_kept Unit = any_kept tt
 unit_kept _ = blocks_kept
 
-any_found : {X : Type 0} (o : Option X) → IfSome o IsAny
-any_found (Some x) = tt
-any_found None = tt
-
 abbrev pub IsInt : (Value → Type 0) → ℤ → Type 0
 IsInt V n = V (Int n)
 
 module _ (b : Bound) (F S : Fraction → Type 0) (V : Value → Type 0) (K : Key → Type 0) (C : Content → Type 0) (closed : IsClosed b F S V K C) where
+  asked : (q : Fraction) → V (Perm q) → S q
+  asked q h = closed.asked q (closed.of_perm q h)
+
+  -- without events
+
+  module _ {E : Event → Type 0} where
+    perm_of_kept : (v : Value) → V v → Keeps E F (perm_of v)
+    perm_of_kept (Perm q) h = is_kept (closed.of_perm q h)
+    perm_of_kept _ h = blocks_kept
+
+    pub truth_kept : {e : Evaluated Value} → Keeps E V e → Keeps E IsAny (as_truth e)
+    truth_kept h = then_kept h (λ v p. truth_of_kept v)
+
+    pub perm_kept : {e : Evaluated Value} → Keeps E V e → Keeps E F (as_perm e)
+    perm_kept h = then_kept h perm_of_kept
+
+    pub ref_kept : {e : Evaluated Value} → Keeps E V e → Keeps E IsAny (as_ref e)
+    ref_kept h = then_kept h (λ v p. ref_of_kept v)
+
+    pub key_kept : {e : Evaluated (List Value)} → Keeps E (All V) e → Keeps E K (as_key e)
+    key_kept h = then_kept h (λ vs p. found_kept (key_of vs) (closed.key vs p))
+
+    leaf_of_kept : (c : Content) → C c → Keeps E V (leaf_of c)
+    leaf_of_kept (Leaf v) h = is_kept (closed.leaf v h)
+    leaf_of_kept _ h = blocks_kept
+
+    -- operators
+
+    truth_is : (x : Bool) → Keeps E V (is (Truth x))
+    truth_is x = is_kept (closed.truth x)
+
+    sum_kept : (v w : Value) (at : Pos) → V v → V w → Keeps E V (sum_of b v w at)
+    sum_kept (Int x) (Int y) at h g = fitting_kept b (is_within (x +ℤ y)) at (Int (x +ℤ y)) (closed.int (x +ℤ y))
+    sum_kept (Perm p) (Perm q) at h g = fitting_kept b (fits_sum p q) at (Perm (sum p q)) (λ fits. closed.perm _ (closed.sum p q (asked p h) (asked q g) fits))
+    sum_kept (Int x) _ at h g = blocks_kept
+    sum_kept (Perm p) _ at h g = blocks_kept
+    sum_kept _ _ at h g = blocks_kept
+
+    difference_kept : (v w : Value) (at : Pos) → V v → V w → Keeps E V (difference_of b v w at)
+    difference_kept (Int x) (Int y) at h g = fitting_kept b (is_within (x -ℤ y)) at (Int (x -ℤ y)) (closed.int (x -ℤ y))
+    difference_kept (Perm p) (Perm q) at h g =
+        fitting_kept b (fits_difference p q) at (Perm (difference p q)) (λ fits. closed.perm _ (closed.difference p q (asked p h) (asked q g) fits))
+    difference_kept (Int x) _ at h g = blocks_kept
+    difference_kept (Perm p) _ at h g = blocks_kept
+    difference_kept _ _ at h g = blocks_kept
+
+    fraction_product_kept : (p q : Fraction) (at : Pos) → S p → S q → Keeps E V (fraction_product b p q at)
+    fraction_product_kept p q at h g = fitting_kept b (fits_product p q) at (Perm (product p q)) (λ fits. closed.perm _ (closed.product p q h g fits))
+
+    product_kept : (v w : Value) (at : Pos) → V v → V w → Keeps E V (product_of b v w at)
+    product_kept (Int x) (Int y) at h g = fitting_kept b (is_within (x *ℤ y)) at (Int (x *ℤ y)) (closed.int (x *ℤ y))
+    product_kept (Int x) (Perm q) at h g = fraction_product_kept (whole x) q at (closed.asked _ (closed.whole x h)) (asked q g)
+    product_kept (Perm p) (Int y) at h g = fraction_product_kept p (whole y) at (asked p h) (closed.asked _ (closed.whole y g))
+    product_kept (Perm p) (Perm q) at h g = fraction_product_kept p q at (asked p h) (asked q g)
+    product_kept (Int x) _ at h g = blocks_kept
+    product_kept (Perm p) _ at h g = blocks_kept
+    product_kept _ _ at h g = blocks_kept
+
+    compared_kept : (test : Ordering → Bool) (v w : Value) (at : Pos) → Keeps E V (compared b test v w at)
+    compared_kept test (Int x) (Int y) at = truth_is _
+    compared_kept test (Perm p) (Perm q) at = fitting_kept b (fits_order p q) at (Truth (test (order p q))) (λ h. closed.truth _)
+    compared_kept test (Int x) _ at = blocks_kept
+    compared_kept test (Perm p) _ at = blocks_kept
+    compared_kept test _ _ at = blocks_kept
+
+    same_truth_kept : (v w : Value) → Keeps E V (same_truth v w)
+    same_truth_kept (Truth x) (Truth y) = truth_is _
+    same_truth_kept (Truth x) _ = blocks_kept
+    same_truth_kept _ _ = blocks_kept
+
+    -- a divisor that is not 0
+    divided_kept : (sc : Scene) (at : Pos) (d : ℤ) (zero : Bool) {e : Evaluated Value} → int_eq d (pos 0) ≡ zero → (d ≢ pos 0 → Keeps E V e) → Keeps E V (unless zero (fails sc at kind.Div) e)
+    divided_kept sc at d true e g = fails_kept sc at kind.Div
+    divided_kept sc at d false e g = g (λ z. absurd (true≢false (sym ((Decides-int_eq d (pos 0)).1 z) ∙ e)))
+
+    fraction_by_kept : (sc : Scene) (p : Fraction) (n : ℤ) (at : Pos) → F p → Keeps E V (fraction_by b sc p n at)
+    fraction_by_kept sc p n at h =
+        divided_kept sc at n (int_eq n (pos 0)) refl (λ z. fitting_kept b (fits_quotient_by p n) at (Perm (quotient_by p n)) (λ fits. closed.perm _ (closed.quotient p n h z fits)))
+
+    quotient_kept : (sc : Scene) (v w : Value) (at : Pos) → V v → Keeps E V (quotient_of b sc v w at)
+    quotient_kept sc (Int x) (Int n) at h = fraction_by_kept sc (whole x) n at (closed.whole x h)
+    quotient_kept sc (Perm p) (Int n) at h = fraction_by_kept sc p n at (closed.of_perm p h)
+    quotient_kept sc (Int x) _ at h = blocks_kept
+    quotient_kept sc (Perm p) _ at h = blocks_kept
+    quotient_kept sc _ _ at h = blocks_kept
+
+    euclidean_kept : (sc : Scene) (f : ℤ → ℤ → ℤ) (v w : Value) (at : Pos) → ((x d : ℤ) → V (Int x) → V (Int d) → d ≢ pos 0 → V (Int (f x d))) → V v → V w → Keeps E V (euclidean sc f v w at)
+    euclidean_kept sc f (Int x) (Int d) at g h i = divided_kept sc at d (int_eq d (pos 0)) refl (λ z. is_kept (g x d h i z))
+    euclidean_kept sc f (Int x) _ at g h i = blocks_kept
+    euclidean_kept sc f _ _ at g h i = blocks_kept
+
+    plain_kept : (o : Op) (v w : Value) (at : Pos) → V v → V w → Keeps E V (plain b o v w at)
+    plain_kept op.Iff v w at h g = same_truth_kept v w
+    plain_kept op.Eq v w at h g = truth_is _
+    plain_kept op.Ne v w at h g = truth_is _
+    plain_kept op.Lt v w at h g = compared_kept is_lt v w at
+    plain_kept op.Le v w at h g = compared_kept is_le v w at
+    plain_kept op.Gt v w at h g = compared_kept is_gt v w at
+    plain_kept op.Ge v w at h g = compared_kept is_ge v w at
+    plain_kept op.Add v w at h g = sum_kept v w at h g
+    plain_kept op.Sub v w at h g = difference_kept v w at h g
+    plain_kept op.Mul v w at h g = product_kept v w at h g
+    plain_kept _ v w at h g = blocks_kept
+
+    division_kept : (sc : Scene) (o : Op) (v w : Value) (at : Pos) → V v → V w → Keeps E V (divided b sc o v w at)
+    division_kept sc op.Divide v w at h g = quotient_kept sc v w at h
+    division_kept sc op.IntDiv v w at h g = euclidean_kept sc int_div_euclid v w at closed.div h g
+    division_kept sc op.IntMod v w at h g = euclidean_kept sc int_rem_euclid v w at closed.rem h g
+    division_kept sc _ v w at h g = blocks_kept
+
+    settled_kept : (o : Option Bool) {e : Evaluated Value} → Keeps E V e → Keeps E V (settled_or o e)
+    settled_kept (Some c) h = truth_is c
+    settled_kept None h = h
+
+    pub in_class_kept : (c : Class) (sc : Scene) (o : Op) {l r : Evaluated Value} (at : Pos) → Keeps E V l → Keeps E V r → Keeps E V (in_class c b sc o l r at)
+    in_class_kept Lazy sc o at h g = then_kept h (λ v p. then_kept (truth_of_kept v) (λ c u. settled_kept (settled o c) g))
+    in_class_kept Division sc o at h g = then_kept h (λ v p. then_kept g (λ w q. division_kept sc o v w at p q))
+    in_class_kept Plain sc o at h g = then_kept h (λ v p. then_kept g (λ w q. plain_kept o v w at p q))
+
+    pub negative_kept : (v : Value) → V v → Keeps E V (negative v)
+    negative_kept (Int n) h = is_kept (closed.negative n h)
+    negative_kept (Perm q) h = is_kept (closed.perm _ (closed.negative_perm q (closed.of_perm q h)))
+    negative_kept _ h = blocks_kept
+
+    pub negation_kept : (v : Value) → Keeps E V (negation v)
+    negation_kept v = then_kept (truth_of_kept v) (λ c u. truth_is _)
+
+    -- places and instances
+
+    read_kept : (sc : Scene) (s : State) (f : ℕ) (at : Pos) (r : ℕ) → AllOfState F V K C s → Keeps E V (read_field sc s f at r)
+    read_kept sc s f at r h =
+        unless_kept (r == 0) (fails_kept sc at kind.Null) (then_kept (found_kept (mask_at s f r) (mask_has h f r)) (λ held p.
+        unless_kept (is_none held) (fails_kept sc at kind.Perm) (found_kept (value_at s f r) (value_has h f r))))
+
+  -- taking, and filling from a content
+
   -- an evaluation with such events
   abbrev pub HasKept : {X : Type 0} → (X → Type 0) → Evaluated X → Type 0
   HasKept P e = Keeps (AllOfEvent F V K C) P e
-
-  perm_of_kept : (v : Value) → V v → HasKept F (perm_of v)
-  perm_of_kept (Perm q) h = is_kept (closed.of_perm q h)
-  perm_of_kept _ h = blocks_kept
-
-  pub truth_kept : {e : Evaluated Value} → HasKept V e → HasKept IsAny (as_truth e)
-  truth_kept h = then_kept h (λ v p. truth_of_kept v)
-
-  pub perm_kept : {e : Evaluated Value} → HasKept V e → HasKept F (as_perm e)
-  perm_kept h = then_kept h perm_of_kept
-
-  pub ref_kept : {e : Evaluated Value} → HasKept V e → HasKept IsAny (as_ref e)
-  ref_kept h = then_kept h (λ v p. ref_of_kept v)
-
-  pub key_kept : {e : Evaluated (List Value)} → HasKept (All V) e → HasKept K (as_key e)
-  key_kept h = then_kept h (λ vs p. found_kept (key_of vs) (closed.key vs p))
-
-  leaf_of_kept : (c : Content) → C c → HasKept V (leaf_of c)
-  leaf_of_kept (Leaf v) h = is_kept (closed.leaf v h)
-  leaf_of_kept _ h = blocks_kept
 
   pub pair_kept : (c : Content) → C c → HasKept (λ p. C p.0 × C p.1) (pair_of c)
   pair_kept (Pair x y) h =
       let parts : C x × C y = (closed.left x y h, closed.right x y h) in
       recorded_kept (event.Split x y) parts (is_kept parts)
   pair_kept _ h = blocks_kept
-
-  -- operators
-
-  asked : (q : Fraction) → V (Perm q) → S q
-  asked q h = closed.asked q (closed.of_perm q h)
-
-  truth_is : (x : Bool) → HasKept V (is (Truth x))
-  truth_is x = is_kept (closed.truth x)
-
-  sum_kept : (v w : Value) (at : Pos) → V v → V w → HasKept V (sum_of b v w at)
-  sum_kept (Int x) (Int y) at h g = fitting_kept b (is_within (x +ℤ y)) at (Int (x +ℤ y)) (closed.int (x +ℤ y))
-  sum_kept (Perm p) (Perm q) at h g = fitting_kept b (fits_sum p q) at (Perm (sum p q)) (λ fits. closed.perm _ (closed.sum p q (asked p h) (asked q g) fits))
-  sum_kept (Int x) _ at h g = blocks_kept
-  sum_kept (Perm p) _ at h g = blocks_kept
-  sum_kept _ _ at h g = blocks_kept
-
-  difference_kept : (v w : Value) (at : Pos) → V v → V w → HasKept V (difference_of b v w at)
-  difference_kept (Int x) (Int y) at h g = fitting_kept b (is_within (x -ℤ y)) at (Int (x -ℤ y)) (closed.int (x -ℤ y))
-  difference_kept (Perm p) (Perm q) at h g =
-      fitting_kept b (fits_difference p q) at (Perm (difference p q)) (λ fits. closed.perm _ (closed.difference p q (asked p h) (asked q g) fits))
-  difference_kept (Int x) _ at h g = blocks_kept
-  difference_kept (Perm p) _ at h g = blocks_kept
-  difference_kept _ _ at h g = blocks_kept
-
-  fraction_product_kept : (p q : Fraction) (at : Pos) → S p → S q → HasKept V (fraction_product b p q at)
-  fraction_product_kept p q at h g = fitting_kept b (fits_product p q) at (Perm (product p q)) (λ fits. closed.perm _ (closed.product p q h g fits))
-
-  product_kept : (v w : Value) (at : Pos) → V v → V w → HasKept V (product_of b v w at)
-  product_kept (Int x) (Int y) at h g = fitting_kept b (is_within (x *ℤ y)) at (Int (x *ℤ y)) (closed.int (x *ℤ y))
-  product_kept (Int x) (Perm q) at h g = fraction_product_kept (whole x) q at (closed.asked _ (closed.whole x h)) (asked q g)
-  product_kept (Perm p) (Int y) at h g = fraction_product_kept p (whole y) at (asked p h) (closed.asked _ (closed.whole y g))
-  product_kept (Perm p) (Perm q) at h g = fraction_product_kept p q at (asked p h) (asked q g)
-  product_kept (Int x) _ at h g = blocks_kept
-  product_kept (Perm p) _ at h g = blocks_kept
-  product_kept _ _ at h g = blocks_kept
-
-  compared_kept : (test : Ordering → Bool) (v w : Value) (at : Pos) → HasKept V (compared b test v w at)
-  compared_kept test (Int x) (Int y) at = truth_is _
-  compared_kept test (Perm p) (Perm q) at = fitting_kept b (fits_order p q) at (Truth (test (order p q))) (λ h. closed.truth _)
-  compared_kept test (Int x) _ at = blocks_kept
-  compared_kept test (Perm p) _ at = blocks_kept
-  compared_kept test _ _ at = blocks_kept
-
-  same_truth_kept : (v w : Value) → HasKept V (same_truth v w)
-  same_truth_kept (Truth x) (Truth y) = truth_is _
-  same_truth_kept (Truth x) _ = blocks_kept
-  same_truth_kept _ _ = blocks_kept
-
-  -- a divisor that is not 0
-  divided_kept : (sc : Scene) (at : Pos) (d : ℤ) (zero : Bool) {e : Evaluated Value} → int_eq d (pos 0) ≡ zero → (d ≢ pos 0 → HasKept V e) → HasKept V (unless zero (fails sc at kind.Div) e)
-  divided_kept sc at d true e g = fails_kept sc at kind.Div
-  divided_kept sc at d false e g = g (λ z. absurd (true≢false (sym ((Decides-int_eq d (pos 0)).1 z) ∙ e)))
-
-  fraction_by_kept : (sc : Scene) (p : Fraction) (n : ℤ) (at : Pos) → F p → HasKept V (fraction_by b sc p n at)
-  fraction_by_kept sc p n at h =
-      divided_kept sc at n (int_eq n (pos 0)) refl (λ z. fitting_kept b (fits_quotient_by p n) at (Perm (quotient_by p n)) (λ fits. closed.perm _ (closed.quotient p n h z fits)))
-
-  quotient_kept : (sc : Scene) (v w : Value) (at : Pos) → V v → HasKept V (quotient_of b sc v w at)
-  quotient_kept sc (Int x) (Int n) at h = fraction_by_kept sc (whole x) n at (closed.whole x h)
-  quotient_kept sc (Perm p) (Int n) at h = fraction_by_kept sc p n at (closed.of_perm p h)
-  quotient_kept sc (Int x) _ at h = blocks_kept
-  quotient_kept sc (Perm p) _ at h = blocks_kept
-  quotient_kept sc _ _ at h = blocks_kept
-
-  euclidean_kept : (sc : Scene) (f : ℤ → ℤ → ℤ) (v w : Value) (at : Pos) → ((x d : ℤ) → V (Int x) → V (Int d) → d ≢ pos 0 → V (Int (f x d))) → V v → V w → HasKept V (euclidean sc f v w at)
-  euclidean_kept sc f (Int x) (Int d) at g h i = divided_kept sc at d (int_eq d (pos 0)) refl (λ z. is_kept (g x d h i z))
-  euclidean_kept sc f (Int x) _ at g h i = blocks_kept
-  euclidean_kept sc f _ _ at g h i = blocks_kept
-
-  plain_kept : (o : Op) (v w : Value) (at : Pos) → V v → V w → HasKept V (plain b o v w at)
-  plain_kept op.Iff v w at h g = same_truth_kept v w
-  plain_kept op.Eq v w at h g = truth_is _
-  plain_kept op.Ne v w at h g = truth_is _
-  plain_kept op.Lt v w at h g = compared_kept is_lt v w at
-  plain_kept op.Le v w at h g = compared_kept is_le v w at
-  plain_kept op.Gt v w at h g = compared_kept is_gt v w at
-  plain_kept op.Ge v w at h g = compared_kept is_ge v w at
-  plain_kept op.Add v w at h g = sum_kept v w at h g
-  plain_kept op.Sub v w at h g = difference_kept v w at h g
-  plain_kept op.Mul v w at h g = product_kept v w at h g
-  plain_kept _ v w at h g = blocks_kept
-
-  division_kept : (sc : Scene) (o : Op) (v w : Value) (at : Pos) → V v → V w → HasKept V (divided b sc o v w at)
-  division_kept sc op.Divide v w at h g = quotient_kept sc v w at h
-  division_kept sc op.IntDiv v w at h g = euclidean_kept sc int_div_euclid v w at closed.div h g
-  division_kept sc op.IntMod v w at h g = euclidean_kept sc int_rem_euclid v w at closed.rem h g
-  division_kept sc _ v w at h g = blocks_kept
-
-  settled_kept : (o : Option Bool) {e : Evaluated Value} → HasKept V e → HasKept V (settled_or o e)
-  settled_kept (Some c) h = truth_is c
-  settled_kept None h = h
-
-  in_class_kept : (c : Class) (sc : Scene) (o : Op) {l r : Evaluated Value} (at : Pos) → HasKept V l → HasKept V r → HasKept V (in_class c b sc o l r at)
-  in_class_kept Lazy sc o at h g = then_kept h (λ v p. then_kept (truth_of_kept v) (λ c u. settled_kept (settled o c) g))
-  in_class_kept Division sc o at h g = then_kept h (λ v p. then_kept g (λ w q. division_kept sc o v w at p q))
-  in_class_kept Plain sc o at h g = then_kept h (λ v p. then_kept g (λ w q. plain_kept o v w at p q))
-
-  negative_kept : (v : Value) → V v → HasKept V (negative v)
-  negative_kept (Int n) h = is_kept (closed.negative n h)
-  negative_kept (Perm q) h = is_kept (closed.perm _ (closed.negative_perm q (closed.of_perm q h)))
-  negative_kept _ h = blocks_kept
-
-  negation_kept : (v : Value) → HasKept V (negation v)
-  negation_kept v = then_kept (truth_of_kept v) (λ c u. truth_is _)
-
-  -- places and instances
-
-  read_kept : (sc : Scene) (s : State) (f : ℕ) (at : Pos) (r : ℕ) → AllOfState F V K C s → HasKept V (read_field sc s f at r)
-  read_kept sc s f at r h =
-      unless_kept (r == 0) (fails_kept sc at kind.Null) (then_kept (found_kept (mask_at s f r) (mask_has h f r)) (λ held p.
-      unless_kept (is_none held) (fails_kept sc at kind.Perm) (found_kept (value_at s f r) (value_has h f r))))
 
   pub taken_kept : (sc : Scene) (s : State) (p : ℕ) (key : Key) (q : Fraction) (at : Pos) → S q → AllOfState F V K C s → K key → HasKept (AllOfState F V K C) (taken b sc s p key q at)
   taken_kept sc s p key q at f h k =

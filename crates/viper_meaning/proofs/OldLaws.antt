@@ -1,19 +1,13 @@
 -- Only `old` looks at the old state.
-use Rattle.std.proofs.Common.{◌≡◌, refl, ℤ, ◌∷◌, if◌then◌else◌}
-use Rattle.std.specs.Int.{int_div_euclid, int_rem_euclid}
-use Rattle.vb_base.specs.declared.places.Pos.{Pos}
+use Rattle.std.proofs.Common.{◌≡◌, refl, ◌∷◌, if◌then◌else◌}
 use Rattle.vb_value.specs.Bound.{Bound}
 use Rattle.vb_value.specs.Content.{Content}
 use Rattle.vb_value.specs.Fraction.{Fraction}
-use Rattle.vb_value.specs.declared.values.Value.{Value}
-use Rattle.vb_value.specs.declared.values.Value.TheVariants.{Int, Perm}
 use Rattle.viper_core.specs.Expr as t
 use Rattle.viper_core.specs.Plain.{HasNoOld, OpenedHasNoOld, HaveNoOld, AmountHasNoOld, AssertionHasNoOld}
-use Rattle.viper_core.specs.declared.exprs.Op.{Op}
-use Rattle.viper_core.specs.declared.exprs.Op.TheVariants as op
 use Rattle.viper_state.specs.State.{State, content_at}
 use Rattle.viper_state.specs.Run.{Scene, with_variables, with_old}
-use Rattle.viper_meaning.specs.Ends.{Evaluated, is, blocks, then_with, found}
+use Rattle.viper_meaning.specs.Ends.{is, blocks, then_with, found}
 use Rattle.viper_meaning.specs.Operators.{class_of, negative, negation}
 use Rattle.viper_meaning.specs.Places.{read_field, key_of, taken, unit_of, pair_of, fill_place, fill_instance}
 use Rattle.viper_meaning.proofs.SceneLaws.{in_class_same}
