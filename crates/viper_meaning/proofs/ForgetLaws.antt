@@ -1,5 +1,5 @@
 -- What is forgotten, place by place, and what forgetting keeps.
-use Rattle.std.proofs.Common.{◌≡◌, refl, ℕ, Bool, true, false, Option, Some, None, List, [], ◌∷◌, All, IfSome, if◌then◌else◌}
+use Rattle.std.proofs.Common.{Bool, true, false, Some, None, List, [], ◌∷◌, All, IfSome, if◌then◌else◌}
 use Rattle.std.proofs.lemmas.List.Elements.{All-nil, All-cons, All-head, All-tail}
 use Rattle.std.specs.Ordering.{nat_cmp}
 use Rattle.std.specs.declared.cmp.Ordering.{Ordering}
@@ -18,7 +18,6 @@ use Rattle.viper_state.specs.State.{Key, Memo, State}
 use Rattle.viper_state.specs.Within.{HasValues, HasEntries, AllOfMemo, AllOfState, AllOfChoice, AllOfEvent}
 use Rattle.viper_state.proofs.EachLaws.{get_has, set_has_values, set_has_entries}
 use Rattle.viper_meaning.specs.KeptRuns.{KeepsRun, at_end}
-use Rattle.viper_meaning.specs.Run.{noting, goes}
 use Rattle.viper_meaning.specs.Forgotten.{kept_at, forgotten_maps, forgotten, with_memo, memo_in, forget}
 use Rattle.viper_meaning.proofs.KeptLaws.{is_kept}
 use Rattle.viper_meaning.proofs.RunKeptLaws.{before_kept, taking_kept}

@@ -18,7 +18,7 @@ use Rattle.viper_meaning.specs.Ends.{Evaluated, ends, fails, blocks, is}
 use Rattle.viper_meaning.specs.Compared as e
 use Rattle.viper_meaning.specs.Compared.{IsNotOver, IsBoundedBy}
 use Rattle.viper_meaning.specs.ComparedRuns.{IsNeverOver, IsBoundedRun, at_end, over, later, is_over}
-use Rattle.viper_meaning.specs.Resource.{Resource, Place, Instance, held_at, is_null, is_too_much}
+use Rattle.viper_meaning.specs.Resource.{Resource, held_at, is_null, is_too_much}
 use Rattle.viper_meaning.specs.Run as run
 use Rattle.viper_meaning.specs.Run.{Run, ended, takes, goes, before, noting, evaluating, then_do, given, taking, amount_in, taking_amount, Ran, ran, since, on}
 use Rattle.viper_meaning.specs.Assertions.{place_in, instance_in, more_held, given_to, some_given_to, produce_amount, produce, rest_of, taken_from, something_held, some_taken_from, consume_amount, consume}

@@ -1,5 +1,5 @@
 -- What operations keep is kept by producing and consuming, in states and events.
-use Rattle.std.proofs.Common.{◌≡◌, refl, ℕ, Bool, true, false, not, Option, Some, None, List, [], ◌∷◌, All, IfSome, if◌then◌else◌}
+use Rattle.std.proofs.Common.{ℕ, Bool, true, false, not, Option, Some, None, List, [], ◌∷◌, All, IfSome, if◌then◌else◌}
 use Rattle.std.specs.Prelude.{⊤}
 use Rattle.std.proofs.lemmas.List.Elements.{All-nil, All-cons, All-append}
 use Rattle.std.specs.Ordering.{is_lt}
@@ -19,13 +19,12 @@ use Rattle.viper_state.specs.State.{State, Key}
 use Rattle.viper_state.specs.Run.{Scene}
 use Rattle.viper_state.specs.Within.{AllOfChoice, AllOfEvent, AllOfState, AllOfScene}
 use Rattle.viper_state.proofs.EachLaws.{mask_has, amount_has, with_mask_has, with_amount_has}
-use Rattle.viper_meaning.specs.Ends as m
-use Rattle.viper_meaning.specs.Ends.{Evaluated, ends, is, fails, blocks}
+use Rattle.viper_meaning.specs.Ends.{Evaluated}
 use Rattle.viper_meaning.specs.Kept as kept
 use Rattle.viper_meaning.specs.Kept.{IsAny, Keeps}
 use Rattle.viper_meaning.specs.KeptRuns.{KeepsRun, at_end, later}
 use Rattle.viper_meaning.specs.Resource.{Resource, Place, Instance, held_at, with_held, is_null, is_too_much}
-use Rattle.viper_meaning.specs.Run.{Run, ended, takes, goes, before, noting, evaluating, then_do, given, taking, amount_in, taking_amount}
+use Rattle.viper_meaning.specs.Run.{Run, before, evaluating, then_do, given, taking, amount_in, taking_amount}
 use Rattle.viper_meaning.specs.Assertions.{place_in, instance_in, more_held, given_to, some_given_to, produce_amount, produce, rest_of, taken_from, something_held, some_taken_from, consume_amount, consume}
 use Rattle.viper_meaning.specs.Value.{truth_in, perm_in}
 use Rattle.viper_meaning.proofs.ClosedLaws.{IsClosed}

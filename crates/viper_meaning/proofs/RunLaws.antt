@@ -1,11 +1,11 @@
 -- Laws of all runs: a run after a run, and choices that are left over.
-use Rattle.std.proofs.Common.{◌≡◌, refl, sym, ap, ◌∙◌, Bool, true, false, Option, Some, None, List, [], ◌∷◌, ◌++◌, append_assoc}
+use Rattle.std.proofs.Common.{◌≡◌, refl, sym, ap, ◌∙◌, false, List, [], ◌∷◌, ◌++◌, append_assoc}
 use Rattle.std.proofs.lemmas.Bool.{true≢false}
 use Rattle.viper_state.specs.Choice.{Choice}
 use Rattle.viper_state.specs.Event.{Event}
 use Rattle.viper_meaning.specs.Ends as m
 use Rattle.viper_meaning.specs.Ends.{Evaluated, ends}
-use Rattle.viper_meaning.specs.Run.{Run, ended, takes, before, evaluating, then_do, Step, Goes, Fails, Blocked, Short, Over, Ran, ran, leaving, since, on, then_ran, is_short, with_more}
+use Rattle.viper_meaning.specs.Run.{Run, ended, takes, before, evaluating, then_do, Goes, Fails, Blocked, Short, Over, Ran, ran, leaving, since, on, then_ran, is_short, with_more}
 
 pub since-since : {X : Type 0} (es fs : List Event) (r : Ran X) → since es (since fs r) ≡ since (es ++ fs) r
 since-since es fs (ran gs step left) = ap (λ events. ran events step left) (sym (append_assoc es fs gs))

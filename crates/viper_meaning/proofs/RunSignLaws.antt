@@ -1,6 +1,5 @@
 -- No run makes a permission negative.
-use Rattle.std.proofs.Common.{◌≡◌, refl, sym, ap, ◌∙◌, ℕ, Bool, true, false, not, Option, Some, None, List, [], ◌∷◌, All, IfSome, if◌then◌else◌}
-use Rattle.std.proofs.lemmas.List.Elements.{All-nil}
+use Rattle.std.proofs.Common.{◌≡◌, refl, sym, ap, ◌∙◌, Bool, true, false, not, Option, Some, None, [], ◌∷◌, IfSome}
 use Rattle.std.proofs.lemmas.Bool.{true≢false}
 use Rattle.std.specs.Ordering.{is_lt, ordering_reverse}
 use Rattle.std.specs.declared.cmp.Ordering.{Ordering}
@@ -8,22 +7,21 @@ use Rattle.std.specs.declared.cmp.Ordering.TheVariants.{Less, Equal, Greater}
 use Rattle.vb_base.specs.declared.labels.Kind.TheVariants as kind
 use Rattle.vb_base.specs.declared.places.Pos.{Pos}
 use Rattle.vb_value.specs.Bound.{Bound}
-use Rattle.vb_value.specs.Fraction.{Fraction, is_negative, is_positive, is_none, product, difference, order, fits_product, fits_difference, fits_order}
+use Rattle.vb_value.specs.Fraction.{Fraction, is_negative, is_positive, is_none, difference, order, fits_difference, fits_order}
 use Rattle.vb_value.proofs.OrderLaws.{order_antisymm}
 use Rattle.vb_value.proofs.SignLaws.{difference_not_negative, positive_not_negative}
 use Rattle.viper_core.specs.Expr as t
-use Rattle.viper_state.specs.Choice.{Choice}
 use Rattle.viper_state.specs.Event.{Event}
 use Rattle.viper_state.specs.Event as event
 use Rattle.viper_state.specs.State.{State}
 use Rattle.viper_state.specs.Run.{Scene}
 use Rattle.viper_state.specs.Within.{IsNotNegative, IsNonnegative}
 use Rattle.viper_state.proofs.EachLaws.{mask_not_negative, amount_not_negative, with_mask_nonnegative, with_amount_nonnegative}
-use Rattle.viper_meaning.specs.Ends.{Evaluated, is, then_with, found, unless}
+use Rattle.viper_meaning.specs.Ends.{Evaluated, found, unless}
 use Rattle.viper_meaning.specs.Kept.{IsAny, Keeps}
-use Rattle.viper_meaning.specs.KeptRuns.{KeepsRun, at_end, later}
+use Rattle.viper_meaning.specs.KeptRuns.{KeepsRun, at_end}
 use Rattle.viper_meaning.specs.Resource.{Resource, Place, Instance, held_at, with_held, is_null, is_too_much}
-use Rattle.viper_meaning.specs.Run.{Run, ended, taking_amount, amount_in, evaluating, then_do}
+use Rattle.viper_meaning.specs.Run.{Run, taking_amount, amount_in, evaluating}
 use Rattle.viper_meaning.specs.Assertions.{place_in, instance_in, more_held, given_to, some_given_to, produce_amount, produce, rest_of, taken_from, something_held, some_taken_from, consume_amount, consume}
 use Rattle.viper_meaning.specs.Value.{truth_in, perm_in}
 use Rattle.viper_meaning.proofs.KeptLaws.{is_kept, fails_kept, blocks_kept, then_kept, found_kept, unless_kept, if_kept, fitting_kept}

@@ -1,6 +1,6 @@
 -- What it means to produce and to consume an assertion (Mueller, Schwerhoff, Summers, "Viper: A Verification Infrastructure
 -- for Permission-Based Reasoning", VMCAI 2016: inhale and exhale). Amounts are multiplied by a scale, which is 1 outside `fold`.
-use Rattle.std.specs.Prelude.{ℕ, Bool, not, if◌then◌else◌}
+use Rattle.std.specs.Prelude.{ℕ, not, if◌then◌else◌}
 use Rattle.std.specs.Ordering.{is_lt}
 use Rattle.vb_base.specs.declared.labels.Kind.TheVariants as kind
 use Rattle.vb_base.specs.declared.places.Pos.{Pos}

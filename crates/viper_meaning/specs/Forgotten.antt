@@ -1,7 +1,7 @@
 -- What is forgotten of a state: the value of each place to which no permission is held, and what each instance contains of
 -- which nothing is held. A heap and contents that are taken as a choice say what stands there from then on. That a run may
 -- forget them so is this project's own rule.
-use Rattle.std.specs.Prelude.{◌≡◌, ℕ, Bool, Option, Some, None, List, [], ◌∷◌, if◌then◌else◌}
+use Rattle.std.specs.Prelude.{Bool, Option, Some, None, List, [], ◌∷◌, if◌then◌else◌}
 use Rattle.std.specs.Ordering.{nat_cmp}
 use Rattle.std.specs.declared.cmp.Ordering.{Ordering}
 use Rattle.sparse.specs.Map.{Map, get, set, keys}

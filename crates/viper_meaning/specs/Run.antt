@@ -1,7 +1,7 @@
 -- Runs: what takes choices from outside. A run is a tree. It ends as an evaluation does; or it records events, takes the next
 -- choice, and goes on as that one says. So a definition by runs says at which point a choice is taken, and for what, and
 -- nothing of lists of choices.
-use Rattle.std.specs.Prelude.{Bool, true, false, Option, Some, None, List, [], ◌∷◌, ◌++◌, if◌then◌else◌}
+use Rattle.std.specs.Prelude.{Bool, true, false, Option, Some, None, List, [], ◌∷◌, ◌++◌}
 use Rattle.vb_base.specs.declared.labels.Label.{Label}
 use Rattle.vb_base.specs.declared.places.Pos.{Pos}
 use Rattle.vb_value.specs.Fraction.{Fraction}

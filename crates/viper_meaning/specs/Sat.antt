@@ -2,7 +2,7 @@
 -- Mueller, Summers, "Towards Trustworthy Automated Program Verifiers", PLDI 2024): every expression that counts has a value
 -- there, every fact is true, and what is held of a place or an instance is the sum of what the accessibility predicates that
 -- count denote for it. Numbers have no bound here.
-use Rattle.std.specs.Prelude.{◌≡◌, ℕ, Bool, true, false, ◌==◌, ◌&&◌, Option, Some, None, is_some, List, [], ◌∷◌, ◌++◌, if◌then◌else◌}
+use Rattle.std.specs.Prelude.{◌≡◌, ℕ, Bool, true, false, ◌==◌, ◌&&◌, Some, is_some, List, [], ◌∷◌, ◌++◌, if◌then◌else◌}
 use Rattle.std.specs.Ordering.{is_eq}
 use Rattle.vb_base.specs.declared.places.Pos.{Pos}
 use Rattle.vb_value.specs.Bound.{Unbounded}
