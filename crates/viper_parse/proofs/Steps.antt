@@ -141,3 +141,9 @@ goes_by f {a = a} {ts = ts} {us = us} e g = subst (λ z. Goes a ts (f z) us) (sy
 
 pub goes_then : {s : Kind} {a b c : Rule s} {ts us vs : List Token} → Goes a ts b us → Goes b us c vs → Goes a ts c vs
 goes_then g h = record { reads = λ x ws i. g.reads x ws (h.reads x ws i); fails = λ r f. g.fails r (h.fails r f) }
+
+-- a rule with an equal list
+
+pub parses_at : {A R : Type 0} {s : Kind} (view : R → Value s) (f : A → Rule s) {x y : A} (ts : List Token) (res : Result (R × Bor (List Token)) Stop) →
+    x ≡ y → Parses view (f x) ts res → Parses view (f y) ts res
+parses_at view f ts res e h = subst (λ z. Parses view (f z) ts res) e h

@@ -10,7 +10,7 @@ use crate::build::assigned;
 use crate::parts::{Instance, Part, WordClass, pushed};
 use crate::terms::{arguments, call, group, instance, term};
 use crate::tokens::{Read, eat_one_of, eat_sign, eat_word, name, one_of, sign};
-use std::alloc::Global;
+use std::alloc::{AllocFailed, Global};
 use vb_base::Pos;
 use viper_syntax::{
     Formal, Named, SArm, SBlock, SCall, SFold, SNew, SRhs, SStmt, Sign, Term, Token, Word,
@@ -46,6 +46,20 @@ fn separated<'a>(
         rest = after;
     }
     Ok((names, rest))
+}
+
+/// `{ separator name }` after this name.
+fn names<'a>(
+    alloc: Global,
+    separator: Sign,
+    first: Named,
+    tokens: &'a [Token],
+) -> Read<'a, Vec<Named>>
+    ensures shorter { IfOk result (λ r. length r.1.now ≤ length tokens.now) }
+    ensures reads { Parses names_of (g.rule (g.Separated separator (first ∷ []))) tokens.now result }
+{
+    let one = pushed(Vec::new(alloc), first)?;
+    separated(alloc, separator, one, tokens)
 }
 
 /// `name ":" type`
@@ -99,8 +113,7 @@ fn new_fields<'a>(alloc: Global, at: Pos, tokens: &'a [Token]) -> Read<'a, SRhs>
     ensures reads { Parses rhs_of (g.new_fields at) tokens.now result }
 {
     let (named, rest) = name(alloc, tokens)?;
-    let first = pushed(Vec::new(alloc), named)?;
-    let (fields, after) = separated(alloc, Sign::Comma, first, rest)?;
+    let (fields, after) = names(alloc, Sign::Comma, named, rest)?;
     let (_, closed) = sign(Sign::CloseParen, after)?;
     Ok((created(at, false, fields), closed))
 }
@@ -136,11 +149,17 @@ fn after_name<'a>(alloc: Global, named: Named, tokens: &'a [Token]) -> Read<'a, 
     if let Some((_, rest)) = eat_sign(Sign::Comma, tokens) {
         return targets(alloc, named, rest);
     }
-    let first = pushed(Vec::new(alloc), named)?;
-    let (path, rest) = separated(alloc, Sign::Dot, first, tokens)?;
+    let (path, rest) = names(alloc, Sign::Dot, named, tokens)?;
     let (_, after) = sign(Sign::Assign, rest)?;
     let (value, rest) = rhs(alloc, after)?;
     Ok((SStmt::Assign(path, value), rest))
+}
+
+fn pair(alloc: Global, first: Named, second: Named) -> Result<Vec<Named>, AllocFailed<Named>>
+    ensures { IfOk result (λ v. v.items ≡ first ∷ second ∷ []) }
+{
+    let one = pushed(Vec::new(alloc), first)?;
+    pushed(one, second)
 }
 
 /// `name { "," name } ":=" call` after a first target and a comma.
@@ -149,12 +168,11 @@ fn targets<'a>(alloc: Global, first: Named, tokens: &'a [Token]) -> Read<'a, SSt
     ensures reads { Parses stmt_of (g.targets first) tokens.now result }
 {
     let (second, rest) = name(alloc, tokens)?;
-    let one = pushed(Vec::new(alloc), first)?;
-    let two = pushed(one, second)?;
-    let (names, after) = separated(alloc, Sign::Comma, two, rest)?;
+    let two = pair(alloc, first, second)?;
+    let (all, after) = separated(alloc, Sign::Comma, two, rest)?;
     let (_, after) = sign(Sign::Assign, after)?;
     let (called, rest) = call(alloc, after)?;
-    Ok((SStmt::CallTo(names, called), rest))
+    Ok((SStmt::CallTo(all, called), rest))
 }
 
 /// A statement.

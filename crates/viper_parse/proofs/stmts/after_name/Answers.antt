@@ -1,9 +1,7 @@
-use Rattle.std.proofs.Common.{ap, ◌∙◌, [], ◌∷◌, ◌++◌}
 use Rattle.viper_syntax.specs.View.{stmt_of}
-use Rattle.viper_syntax.specs.declared.tokens.Sign.TheVariants as sign
 use Rattle.viper_parse.specs.Grammar as g
 use Rattle.viper_parse.proofs.Reading.{start, by_need, by_token, by_other, by_part, whole}
-use Rattle.viper_parse.proofs.Steps.{part_error, token_error, pass_on, symbol_at, symbol_refuses_at}
+use Rattle.viper_parse.proofs.Steps.{part_error, token_error, pass_on}
 use Rattle.viper_parse.proofs.stmts.after_name.Goals as goal
 
 pub returns-in_err-args-clause-reads : goal.returns-in_err-args-clause-reads
@@ -20,16 +18,16 @@ returns-in-Some-eat_sign-clause-reads c =
 
 pub returns-in_err-path-clause-reads : goal.returns-in_err-path-clause-reads
 returns-in_err-path-clause-reads c =
-    part_error stmt_of _ _ c.from_residual-in_err-path.ensures.1 (by_other c.in_default-eat_sign.ensures.eats (by_other c.in_default.ensures.eats (start (g.rule (g.AfterName c.args.named)) c.args.tokens.now))) (symbol_refuses_at (λ xs. g.Separated sign.Dot xs) _ _ _ _ (c.in_ok-first.ensures ∙ ap (λ l. l ++ (c.args.named ∷ [])) c.new.ensures.items) c.in_err-path.ensures.reads)
+    part_error stmt_of _ _ c.from_residual-in_err-path.ensures.1 (by_other c.in_default-eat_sign.ensures.eats (by_other c.in_default.ensures.eats (start (g.rule (g.AfterName c.args.named)) c.args.tokens.now))) c.in_err-path.ensures.reads
 
 pub returns-in_err-after-clause-reads : goal.returns-in_err-after-clause-reads
 returns-in_err-after-clause-reads c =
-    token_error stmt_of _ _ c.from_residual-in_err-after.ensures.1 (by_part (symbol_at (λ xs. g.Separated sign.Dot xs) (c.in_ok-first.ensures ∙ ap (λ l. l ++ (c.args.named ∷ [])) c.new.ensures.items) c.in_ok-path.ensures.reads) (by_other c.in_default-eat_sign.ensures.eats (by_other c.in_default.ensures.eats (start (g.rule (g.AfterName c.args.named)) c.args.tokens.now)))) c.in_err-after.ensures.takes
+    token_error stmt_of _ _ c.from_residual-in_err-after.ensures.1 (by_part c.in_ok-path.ensures.reads (by_other c.in_default-eat_sign.ensures.eats (by_other c.in_default.ensures.eats (start (g.rule (g.AfterName c.args.named)) c.args.tokens.now)))) c.in_err-after.ensures.takes
 
 pub returns-in_err-value-clause-reads : goal.returns-in_err-value-clause-reads
 returns-in_err-value-clause-reads c =
-    part_error stmt_of _ _ c.from_residual-in_err-value.ensures.1 (by_need c.in_ok-after.ensures.takes (by_part (symbol_at (λ xs. g.Separated sign.Dot xs) (c.in_ok-first.ensures ∙ ap (λ l. l ++ (c.args.named ∷ [])) c.new.ensures.items) c.in_ok-path.ensures.reads) (by_other c.in_default-eat_sign.ensures.eats (by_other c.in_default.ensures.eats (start (g.rule (g.AfterName c.args.named)) c.args.tokens.now))))) c.in_err-value.ensures.reads
+    part_error stmt_of _ _ c.from_residual-in_err-value.ensures.1 (by_need c.in_ok-after.ensures.takes (by_part c.in_ok-path.ensures.reads (by_other c.in_default-eat_sign.ensures.eats (by_other c.in_default.ensures.eats (start (g.rule (g.AfterName c.args.named)) c.args.tokens.now))))) c.in_err-value.ensures.reads
 
 pub returns-clause-reads : goal.returns-clause-reads
 returns-clause-reads c =
-    whole (by_part c.in_ok-value.ensures.reads (by_need c.in_ok-after.ensures.takes (by_part (symbol_at (λ xs. g.Separated sign.Dot xs) (c.in_ok-first.ensures ∙ ap (λ l. l ++ (c.args.named ∷ [])) c.new.ensures.items) c.in_ok-path.ensures.reads) (by_other c.in_default-eat_sign.ensures.eats (by_other c.in_default.ensures.eats (start (g.rule (g.AfterName c.args.named)) c.args.tokens.now))))))
+    whole (by_part c.in_ok-value.ensures.reads (by_need c.in_ok-after.ensures.takes (by_part c.in_ok-path.ensures.reads (by_other c.in_default-eat_sign.ensures.eats (by_other c.in_default.ensures.eats (start (g.rule (g.AfterName c.args.named)) c.args.tokens.now))))))

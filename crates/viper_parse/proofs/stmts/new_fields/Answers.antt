@@ -1,9 +1,7 @@
-use Rattle.std.proofs.Common.{ap, ◌∙◌, [], ◌∷◌, ◌++◌}
 use Rattle.viper_syntax.specs.View.{rhs_of}
-use Rattle.viper_syntax.specs.declared.tokens.Sign.TheVariants as sign
 use Rattle.viper_parse.specs.Grammar as g
 use Rattle.viper_parse.proofs.Reading.{start, by_need, by_part}
-use Rattle.viper_parse.proofs.Steps.{part_error, token_error, whole_as, symbol_at, symbol_refuses_at}
+use Rattle.viper_parse.proofs.Steps.{part_error, token_error, whole_as}
 use Rattle.viper_parse.proofs.stmts.new_fields.Goals as goal
 
 pub returns-in_err-named-clause-reads : goal.returns-in_err-named-clause-reads
@@ -12,12 +10,12 @@ returns-in_err-named-clause-reads c =
 
 pub returns-in_err-fields-clause-reads : goal.returns-in_err-fields-clause-reads
 returns-in_err-fields-clause-reads c =
-    part_error rhs_of _ _ c.from_residual-in_err-fields.ensures.1 (by_need c.in_ok-named.ensures.takes (start (g.new_fields c.args.at) c.args.tokens.now)) (symbol_refuses_at (λ xs. g.Separated sign.Comma xs) _ _ _ _ (c.in_ok-first.ensures ∙ ap (λ l. l ++ (c.in_ok-named.named ∷ [])) c.new.ensures.items) c.in_err-fields.ensures.reads)
+    part_error rhs_of _ _ c.from_residual-in_err-fields.ensures.1 (by_need c.in_ok-named.ensures.takes (start (g.new_fields c.args.at) c.args.tokens.now)) c.in_err-fields.ensures.reads
 
 pub returns-in_err-closed-clause-reads : goal.returns-in_err-closed-clause-reads
 returns-in_err-closed-clause-reads c =
-    token_error rhs_of _ _ c.from_residual-in_err-closed.ensures.1 (by_part (symbol_at (λ xs. g.Separated sign.Comma xs) (c.in_ok-first.ensures ∙ ap (λ l. l ++ (c.in_ok-named.named ∷ [])) c.new.ensures.items) c.in_ok-fields.ensures.reads) (by_need c.in_ok-named.ensures.takes (start (g.new_fields c.args.at) c.args.tokens.now))) c.in_err-closed.ensures.takes
+    token_error rhs_of _ _ c.from_residual-in_err-closed.ensures.1 (by_part c.in_ok-fields.ensures.reads (by_need c.in_ok-named.ensures.takes (start (g.new_fields c.args.at) c.args.tokens.now))) c.in_err-closed.ensures.takes
 
 pub returns-clause-reads : goal.returns-clause-reads
 returns-clause-reads c =
-    whole_as (by_need c.in_ok-closed.ensures.takes (by_part (symbol_at (λ xs. g.Separated sign.Comma xs) (c.in_ok-first.ensures ∙ ap (λ l. l ++ (c.in_ok-named.named ∷ [])) c.new.ensures.items) c.in_ok-fields.ensures.reads) (by_need c.in_ok-named.ensures.takes (start (g.new_fields c.args.at) c.args.tokens.now)))) c.created.ensures
+    whole_as (by_need c.in_ok-closed.ensures.takes (by_part c.in_ok-fields.ensures.reads (by_need c.in_ok-named.ensures.takes (start (g.new_fields c.args.at) c.args.tokens.now)))) c.created.ensures
