@@ -4,17 +4,13 @@ use Rattle.std.specs.List.{AllByRecursion, AllZip, list_all}
 use Rattle.std.specs.List.Sorted.{IsStrictlySortedBy}
 use Rattle.std.specs.Map.{keys_of, values_of, lookup, remove_entry}
 use Rattle.std.specs.BTreeMap.{insert_entry, is_at}
-use Rattle.std.specs.Cmp.{IsTotalOrder, IsEquivalence, unsigned_Decides}
-use Rattle.std.specs.Cmp.Lexicographic.{slice_cmp, pointwise}
-use Rattle.std.specs.Prelude.{nat_eq}
-use Rattle.std.proofs.lemmas.Slice.Eq.{slice_eq-Decides}
-use Rattle.std.specs.Ordering.{is_eq, is_lt, nat_cmp, eq_by_cmp, match_ordering}
+use Rattle.std.specs.Cmp.{IsTotalOrder, IsEquivalence}
+use Rattle.std.specs.Ordering.{is_eq, is_lt, eq_by_cmp, match_ordering}
 use Rattle.std.specs.declared.cmp.Ordering.{Ordering}
 use Rattle.std.specs.declared.cmp.Ordering.TheVariants.{Less, Equal, Greater}
 use Rattle.std.specs.declared.option.Option.{Option}
 use Rattle.std.specs.declared.option.Option.TheVariants.{Some, None}
-use Rattle.std.proofs.lemmas.Map.Lookups.{exact_unsigned, exact_bytes}
-use Rattle.std.proofs.lemmas.Cmp.{nat_cmp_total, nat_list_cmp_total, alike_right, tied_itself, eq_by_cmp_equiv}
+use Rattle.std.proofs.lemmas.Cmp.{alike_right, tied_itself, eq_by_cmp_equiv}
 use Rattle.std.proofs.lemmas.Map.{lookup-remove_entry, lookup-none}
 use Rattle.std.proofs.lemmas.Map.Keys.{IsDistinct-from_sorted, sorted_tail}
 use Rattle.std.proofs.lemmas.Map.Entries.{lookup_from_place, lookup_head, lookup_tail, none_past_head, none_below_head}
@@ -448,11 +444,3 @@ module _ {K V : Type 0} (cmp : K → K → Ordering) (eq : V → V → Bool) whe
   Decides-is_reduced m =
       let d = Decides-and (is_ascending cmp (keys m)) (list_all (λ v. not (eq v m.default)) (values m)) (Decides-is_ascending (keys m)) (Decides-list_all (λ v. not (eq v m.default)) (λ v. eq v m.default ≡ false) (λ v. Decides-false (eq v m.default)) (values m)) in
       (λ e. record { ascending = (d.0 e).0; no_default = (d.0 e).1 }, λ r. d.1 (r.ascending, r.no_default))
-
--- numbers as keys and as values
-pub IsExact-unsigned : IsExact nat_cmp nat_eq
-IsExact-unsigned = record { total = nat_cmp_total; keys = exact_unsigned; values = unsigned_Decides }
-
--- and lists of numbers
-pub IsExact-number_lists : IsExact (slice_cmp nat_cmp) (pointwise nat_eq)
-IsExact-number_lists = record { total = nat_list_cmp_total; keys = exact_bytes; values = λ v w. slice_eq-Decides unsigned_Decides v w (pointwise nat_eq v w) refl }

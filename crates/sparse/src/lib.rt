@@ -7,8 +7,6 @@ ghost use Rattle.std.specs.List.Sorted.{IsStrictlySortedBy, IsBinarySearchResult
 ghost use Rattle.std.specs.Map.{keys_of, remove_entry};
 
 pub mod laws;
-#[cfg(test)]
-mod tests;
 
 use std::alloc::{AllocError, AllocFailed, Global};
 use std::marker::Model;

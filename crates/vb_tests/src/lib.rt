@@ -7,4 +7,10 @@ mod devices;
 #[cfg(test)]
 mod labels;
 #[cfg(test)]
+mod maps;
+#[cfg(test)]
 mod numbers;
+#[cfg(test)]
+mod states;
+#[cfg(test)]
+mod values;

@@ -76,7 +76,7 @@ const SIGNS: &str = "\
 MAX/-1 negative";
 
 /// A whole number. `MAX` is the greatest, and `LEAST` the one below the least.
-fn number(text: &str) -> Result<i128, Fail> {
+pub(crate) fn number(text: &str) -> Result<i128, Fail> {
     match text.as_bytes() {
         b"MAX" => Ok(MAX),
         b"-MAX" => Ok(-MAX),
@@ -86,7 +86,7 @@ fn number(text: &str) -> Result<i128, Fail> {
 }
 
 /// Two parts of a text, before and after what stands between them.
-fn parts<'a>(text: &'a str, between: &str) -> Result<(&'a str, &'a str), Fail> {
+pub(crate) fn parts<'a>(text: &'a str, between: &str) -> Result<(&'a str, &'a str), Fail> {
     Ok(text.split_once(between).ok_or("one part")?)
 }
 
@@ -123,18 +123,18 @@ fn whole_row(row: &str) -> Result<bool, Fail> {
     Ok(got == answer(want)?)
 }
 
-fn pair(text: &str) -> Result<(i128, i128), Fail> {
+pub(crate) fn pair(text: &str) -> Result<(i128, i128), Fail> {
     let (num, den) = parts(text, "/")?;
     Ok((number(num)?, number(den)?))
 }
 
-fn fraction(text: &str) -> Result<Frac, Fail> {
+pub(crate) fn fraction(text: &str) -> Result<Frac, Fail> {
     let (num, den) = pair(text)?;
     Ok(Frac::make(num, den).ok_or("no fraction")?)
 }
 
 /// Whether a fraction has the two numbers that it should have.
-fn is_made(made: Option<Frac>, want: &str) -> Result<bool, Fail> {
+pub(crate) fn is_made(made: Option<Frac>, want: &str) -> Result<bool, Fail> {
     Ok(match made {
         Some(made) => (Frac::num(made), Frac::den(made)) == pair(want)?,
         None => want == "none" || want == "Over",

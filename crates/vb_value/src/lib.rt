@@ -16,6 +16,3 @@ pub use fractions::Frac;
 pub use keys::{Key, KeyPart};
 pub use numbers::{MAX, Over, int_add, int_div, int_mod, int_mul, int_sub};
 pub use values::{Layout, Ty, Value};
-
-#[cfg(test)]
-mod tests;

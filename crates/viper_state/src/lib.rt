@@ -12,6 +12,3 @@ mod states;
 pub use copies::{copy_memo, copy_state, empty_state};
 pub use runs::{Choice, Event, Feed, Opening, Outcome, Scene};
 pub use states::{Memo, State};
-
-#[cfg(test)]
-mod tests;

@@ -39,7 +39,12 @@ impl State {
     }
 
     /// Gives a field at a reference a value. None, and nothing changes, where no field has that number.
-    pub fn set_value(&mut self, field: u32, reference: u64, value: Value) -> Result<Option<()>, Memory>
+    pub fn set_value(
+        &mut self,
+        field: u32,
+        reference: u64,
+        value: Value,
+    ) -> Result<Option<()>, Memory>
         ensures found { IfOk result (λ known. known ≡ option_map (λ _. tt) (s.value_at (state_of self.old) field reference)) }
         ensures changed { OnOk result (state_of self.new ≡ s.with_value (state_of self.old) field reference value) }
     {
@@ -50,7 +55,12 @@ impl State {
     }
 
     /// Sets the permission to a field at a reference. None, and nothing changes, where no field has that number.
-    pub fn set_mask(&mut self, field: u32, reference: u64, permission: Frac) -> Result<Option<()>, Memory>
+    pub fn set_mask(
+        &mut self,
+        field: u32,
+        reference: u64,
+        permission: Frac,
+    ) -> Result<Option<()>, Memory>
         ensures found { IfOk result (λ known. known ≡ option_map (λ _. tt) (s.mask_at (state_of self.old) field reference)) }
         ensures changed { OnOk result (state_of self.new ≡ s.with_mask (state_of self.old) field reference permission) }
     {
@@ -61,7 +71,12 @@ impl State {
     }
 
     /// Sets how much of an instance is held. None, and nothing changes, where no predicate has that number.
-    pub fn set_amount(&mut self, predicate: u32, key: Key, amount: Frac) -> Result<Option<()>, Memory>
+    pub fn set_amount(
+        &mut self,
+        predicate: u32,
+        key: Key,
+        amount: Frac,
+    ) -> Result<Option<()>, Memory>
         ensures found { IfOk result (λ known. known ≡ option_map (λ _. tt) (s.amount_at (state_of self.old) predicate key)) }
         ensures changed { OnOk result (state_of self.new ≡ s.with_amount (state_of self.old) predicate key amount) }
     {
@@ -72,7 +87,12 @@ impl State {
     }
 
     /// Gives an instance a content. None, and nothing changes, where no predicate has that number.
-    pub fn set_content(&mut self, predicate: u32, key: Key, content: Content) -> Result<Option<()>, Memory>
+    pub fn set_content(
+        &mut self,
+        predicate: u32,
+        key: Key,
+        content: Content,
+    ) -> Result<Option<()>, Memory>
         ensures found { IfOk result (λ known. known ≡ option_map (λ _. tt) (s.content_at (state_of self.old) predicate key)) }
         ensures changed { OnOk result (state_of self.new ≡ s.with_content (state_of self.old) predicate key (content_of content)) }
     {
