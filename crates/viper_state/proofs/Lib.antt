@@ -4,3 +4,4 @@ pub mod FitsLaws
 pub mod EachLaws
 pub mod FitsTestLaws
 pub mod ProperLaws
+pub mod Rows
