@@ -19,14 +19,14 @@ use Rattle.viper_syntax.specs.declared.faults.ParseFault.TheVariants as parse
 use Rattle.viper_parse.proofs.Parsed.{one_program as one_spelled}
 use Rattle.viper_core.specs.Program as p
 use Rattle.viper_core.specs.Weight.{weight}
-use Rattle.viper_types.specs.Checked.{Stops}
-use Rattle.viper_types.specs.Outcome.{faults_of}
+use Rattle.viper_types.specs.Checked.{IsRefused}
+use Rattle.viper_types.specs.Outcome.{Judged, Found, Broken}
+use Rattle.viper_types.specs.Declaring.{program_typing}
 use Rattle.viper_types.specs.Program.{IsProgram}
-use Rattle.viper_types.specs.ProgramWalk.{walk_program}
 use Rattle.viper_types.specs.declared.faults.TypeFault.{TypeFault}
 use Rattle.viper_types.specs.declared.faults.TypeFault.TheVariants as typed
 use Rattle.viper_types.proofs.ProgramFinds.{one_program_of}
-use Rattle.viper_types.proofs.ProgramLaws.{typed_exactly_without_faults}
+use Rattle.viper_types.proofs.ProgramLaws.{broken_is_no_program}
 use Rattle.vb_tool.specs.Tree as v
 use Rattle.vb_tool.specs.Accepted.{IsAccepted, Accepts, IsTreeRefusal, rule, heavy, not_yet, IsTokenRefusal, syntax, of_tree, IsRefusal, size, lex as bad_lex, of_tokens}
 use Rattle.vb_tool.specs.Converted.{trouble_of_lex, trouble_of_parse, trouble_of_types}
@@ -39,28 +39,22 @@ use Rattle.vb_tool.specs.declared.trouble.Trouble.TheVariants as trouble
 
 -- ---- each reason excludes every other
 
--- the refusal for the first of some broken rules
-abbrev for_first : List (Pos × ℕ) → Refusal
-for_first [] = refusal.NotYet
-for_first (f ∷ fs) = refusal.Rule f.0 f.1
-
-no_faults : {source : d.SourceProgram} {q : p.Program} → IsProgram source q → faults_of (walk_program source) ≡ []
-no_faults {source} {q} h = (typed_exactly_without_faults source).1 (q, h)
-
-not_faulty : {X : Type 0} {x : X} {xs ys : List X} → ys ≡ x ∷ xs → ys ≡ [] → ⊥
-not_faulty e f = let same = sym e ∙ f in absurd (cc)
+-- the refusal for a broken rule
+abbrev for_rule : Judged p.Program → Refusal
+for_rule (Found q) = refusal.NotYet
+for_rule (Broken at n) = refusal.Rule at n
 
 not_both : {source : d.SourceProgram} {q r : p.Program} → IsProgram source q → IsProgram source r → 100000 < weight q → weight r ≤ 100000 → ⊥
 not_both h i above below = omega (arith, above, below, ap weight (one_program_of h i))
 
 one_tree_refusal : {source : d.SourceProgram} {r q : Refusal} → IsTreeRefusal source r → IsTreeRefusal source q → r ≡ q
-one_tree_refusal (rule e) (rule f) = ap for_first (sym e ∙ f)
-one_tree_refusal (rule e) (heavy h above) = absurd (not_faulty e (no_faults h))
-one_tree_refusal (rule e) (not_yet h below other) = absurd (not_faulty e (no_faults h))
-one_tree_refusal (heavy h above) (rule e) = absurd (not_faulty e (no_faults h))
+one_tree_refusal (rule e) (rule f) = ap for_rule (sym e ∙ f)
+one_tree_refusal (rule e) (heavy h above) = absurd (broken_is_no_program e _ h)
+one_tree_refusal (rule e) (not_yet h below other) = absurd (broken_is_no_program e _ h)
+one_tree_refusal (heavy h above) (rule e) = absurd (broken_is_no_program e _ h)
 one_tree_refusal (heavy h above) (heavy i also) = refl
 one_tree_refusal (heavy h above) (not_yet i below other) = absurd (not_both h i above below)
-one_tree_refusal (not_yet h below other) (rule e) = absurd (not_faulty e (no_faults h))
+one_tree_refusal (not_yet h below other) (rule e) = absurd (broken_is_no_program e _ h)
 one_tree_refusal (not_yet h below other) (heavy i above) = absurd (not_both i h above below)
 one_tree_refusal (not_yet h below other) (not_yet i also another) = refl
 
@@ -92,7 +86,7 @@ one_refusal {bytes} {r} {q} (of_tokens {tokens = ts} small lexed is) (of_tokens 
     one_token_refusal is (subst (λ x. IsTokenRefusal bytes x q) (one_lexed bytes us ts cut lexed) other)
 
 accepted_tree : {source : d.SourceProgram} {q : p.Program} {program : v.Program} {r : Refusal} → IsProgram source q → weight q ≤ 100000 → straight_of q ≡ Some program → IsTreeRefusal source r → ⊥
-accepted_tree h below is (rule e) = not_faulty e (no_faults h)
+accepted_tree h below is (rule e) = broken_is_no_program e _ h
 accepted_tree h below is (heavy i above) = not_both i h above below
 accepted_tree {program = program} h below is (not_yet i also other) = let same : Some program ≡ None = sym is ∙ ap straight_of (one_program_of h i) ∙ other in absurd (cc)
 
@@ -153,14 +147,14 @@ parse_refusal bytes tokens last (parse.Syntax at) r small lexed after only there
     subst (IsRefusal bytes) same (of_tokens small lexed (syntax (λ x. only x.0 x.1) there.1 after))
 
 pub type_refusal : (bytes : List ℕ) (tokens : List Token) (source : d.SourceProgram) (fault : TypeFault) (r : Refusal) → length bytes ≤ 1048576 → IsLexed bytes tokens → Spells tokens source →
-    Stops source fault → trouble_of_types fault ≡ trouble.Refused r → IsRefusal bytes r
+    IsRefused source fault → trouble_of_types fault ≡ trouble.Refused r → IsRefusal bytes r
 type_refusal bytes tokens source typed.Memory r small lexed spelled why is_r = absurd (cc)
 type_refusal bytes tokens source (typed.Rule at n) r small lexed spelled why is_r =
     let same : refusal.Rule at n ≡ r = cc in
-    subst (IsRefusal bytes) same (of_tokens small lexed (of_tree spelled (rule why.1)))
+    subst (IsRefusal bytes) same (of_tokens small lexed (of_tree spelled (rule why)))
 type_refusal bytes tokens source (typed.Weight n) r small lexed spelled why is_r =
-    let same : refusal.Weight 100001 ≡ r = ap (λ x. refusal.Weight x) (sym why.2) ∙ cc in
-    subst (IsRefusal bytes) same (of_tokens small lexed (of_tree spelled (heavy why.1 why.3)))
+    let same : refusal.Weight 100001 ≡ r = ap (λ x. refusal.Weight x) (sym why.0) ∙ cc in
+    subst (IsRefusal bytes) same (of_tokens small lexed (of_tree spelled (heavy why.1.1 why.1.2)))
 
 pub form_refusal : (bytes : List ℕ) (tokens : List Token) (source : d.SourceProgram) (q : p.Program) (r : Refusal) → length bytes ≤ 1048576 → IsLexed bytes tokens → Spells tokens source → IsProgram source q →
     weight q ≤ 100000 → straight_of q ≡ None → trouble.Refused refusal.NotYet ≡ trouble.Refused r → IsRefusal bytes r

@@ -1,6 +1,6 @@
 -- Which program the bytes of a file are, and why they are refused. Each step goes on from the one before: bytes are cut into
 -- tokens, tokens spell a tree, a tree is a typed program, and a program is one that is translated.
-use Rattle.std.specs.Prelude.{◌≡◌, ◌<◌, ◌≤◌, ℕ, List, ◌∷◌, length, Some, None}
+use Rattle.std.specs.Prelude.{◌≡◌, ◌<◌, ◌≤◌, ℕ, List, length, Some, None}
 use Rattle.vb_base.specs.declared.places.Pos.{Pos}
 use Rattle.viper_syntax.specs.declared.tokens.LexFault.{LexFault}
 use Rattle.viper_syntax.specs.declared.tokens.Token.{Token}
@@ -11,9 +11,9 @@ use Rattle.viper_parse.specs.Answers.{IsProgram as Spelled, place_at}
 use Rattle.viper_parse.specs.Spells.{Spells}
 use Rattle.viper_core.specs.Program as p
 use Rattle.viper_core.specs.Weight.{weight}
-use Rattle.viper_types.specs.Outcome.{faults_of}
+use Rattle.viper_types.specs.Outcome.{Broken}
+use Rattle.viper_types.specs.Declaring.{program_typing}
 use Rattle.viper_types.specs.Program.{IsProgram}
-use Rattle.viper_types.specs.ProgramWalk.{walk_program}
 use Rattle.vb_tool.specs.Tree as v
 use Rattle.vb_tool.specs.Straight.{straight_of}
 use Rattle.vb_tool.specs.declared.status.Refusal.{Refusal}
@@ -45,7 +45,7 @@ pub record Accepts (bytes : List ℕ) (program : v.Program) : Type 0 where
 
 -- a tree is refused for the first rule that it breaks, for its weight, or since it has a form that is not translated yet
 pub data IsTreeRefusal (source : d.SourceProgram) : Refusal → Type 0 where
-  rule : {at : Pos} {n : ℕ} {rest : List (Pos × ℕ)} → faults_of (walk_program source) ≡ (at, n) ∷ rest → IsTreeRefusal source (Rule at n)
+  rule : {at : Pos} {n : ℕ} → program_typing source ≡ Broken at n → IsTreeRefusal source (Rule at n)
   heavy : {typed : p.Program} → IsProgram source typed → max_weight < weight typed → IsTreeRefusal source (Weight 100001)
   not_yet : {typed : p.Program} → IsProgram source typed → weight typed ≤ max_weight → straight_of typed ≡ None → IsTreeRefusal source NotYet
 

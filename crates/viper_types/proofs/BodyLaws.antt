@@ -10,6 +10,7 @@ use Rattle.viper_types.specs.Frame.{declared_type}
 use Rattle.viper_types.specs.Declaring.{no_world, with_decl, body_context, context_in}
 use Rattle.viper_types.specs.Program.{AreNamed, no_names, one_name}
 use Rattle.viper_types.proofs.TermSound.{HasBodies}
+use Rattle.viper_types.proofs.TermTypes.{same_some}
 
 -- the signatures of the predicates, in order
 abbrev pub signatures : List d.Decl → List Signature
@@ -34,9 +35,6 @@ pub data Bodied : List Signature → List (Option e.Assertion) → Type 0 where
   one_body : {s : Signature} {b : Option e.Assertion} {ss : List Signature} {bs : List (Option e.Assertion)} → s.has_body ≡ is_some b →
       Bodied ss bs → Bodied (s ∷ ss) (b ∷ bs)
 
-same_some : {X : Type 0} {x y : X} → Some x ≡ Some y → x ≡ y
-same_some h = cc
-
 some_body : (b : Option e.Assertion) → is_some b ≡ true → (body : e.Assertion) × (b ≡ Some body)
 some_body (Some body) h = (body, refl)
 some_body None h = absurd (cc)
@@ -53,7 +51,7 @@ body_there (one_body {s = s} {b = b} h g) zero r i k = first_body s r b h (same_
 body_there (one_body h g) (suc n) r i k = body_there g n r i k
 
 -- the signature of a predicate stands at its number
-numbered_is : {X : Type 0} (m n : ℕ) (x : X) (o : Option X) → numbered m o ≡ Some (n, x) → (m ≡ n) × (o ≡ Some x)
+pub numbered_is : {X : Type 0} (m n : ℕ) (x : X) (o : Option X) → numbered m o ≡ Some (n, x) → (m ≡ n) × (o ≡ Some x)
 numbered_is m n x None h = absurd (cc)
 numbered_is m n x (Some y) h = let same = same_some h in (ap (λ z. z.0) same, ap (λ z. Some z.1) same)
 

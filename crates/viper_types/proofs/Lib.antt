@@ -1,6 +1,8 @@
 pub mod Steps
 mod Unfoldings
 mod Listing
+mod Differ
+mod Loops
 mod Turns
 mod TargetLaws
 mod CallLaws
@@ -8,16 +10,12 @@ mod PlaceLaws
 mod Nesting
 mod StmtLaws
 mod DeclLaws
-pub mod Follows
-pub mod TermWalk
 pub mod Tells
 pub mod TermSound
 pub mod TermFinds
 pub mod AssertionLaws
-pub mod StmtFollows
 pub mod StmtSound
 pub mod StmtFinds
-pub mod ProgramFollows
 pub mod BodyLaws
 pub mod ProgramFinds
 pub mod ProgramSound

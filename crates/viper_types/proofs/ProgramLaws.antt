@@ -1,15 +1,12 @@
--- A file is a program exactly if it breaks no rule, and what the typing of the file answers tells which.
-use Rattle.std.proofs.Common.{◌≡◌, ◌∙◌, ◌↔◌, ℕ, List, [], ◌∷◌, sym}
+-- A file is a program, or its walk tells the first broken rule, and never both.
+use Rattle.std.proofs.Common.{◌≡◌, ◌∙◌, ◌⊎◌, inl, inr, ℕ, sym, ap, refl}
 use Rattle.vb_base.specs.declared.places.Pos.{Pos}
 use Rattle.viper_core.specs.Program as p
 use Rattle.viper_syntax.specs.Decl as d
-use Rattle.viper_types.specs.Outcome.{Found, Broken, faults_of}
+use Rattle.viper_types.specs.Outcome.{Judged, Found, Broken}
 use Rattle.viper_types.specs.Declaring.{program_typing}
 use Rattle.viper_types.specs.Program.{IsProgram}
-use Rattle.viper_types.specs.ProgramWalk.{walk_program}
-use Rattle.viper_types.proofs.Follows.{clean_finds, found_is_clean, broken_is_first}
 use Rattle.viper_types.proofs.Tells.{told}
-use Rattle.viper_types.proofs.ProgramFollows.{walk_program_follows}
 use Rattle.viper_types.proofs.ProgramSound.{program_told}
 use Rattle.viper_types.proofs.ProgramFinds.{program_finds}
 
@@ -17,12 +14,7 @@ use Rattle.viper_types.proofs.ProgramFinds.{program_finds}
 pub found_program : (source : d.SourceProgram) {q : p.Program} → program_typing source ≡ Found q → IsProgram source q
 found_program source h = told (program_told source) h
 
--- a broken rule is the first of all
-pub first_fault : (source : d.SourceProgram) {at : Pos} {r : ℕ} → program_typing source ≡ Broken at r →
-    (rest : List (Pos × ℕ)) × (faults_of (walk_program source) ≡ (at, r) ∷ rest)
-first_fault source h = broken_is_first (walk_program_follows source) h
-
-found_or_broken : {X : Type 0} {x : X} {at : Pos} {r : ℕ} → Found x ≡ Broken at r → ⊥
+pub found_or_broken : {X : Type 0} {x : X} {at : Pos} {r : ℕ} → Found x ≡ Broken at r → ⊥
 found_or_broken h = cc
 
 -- where a rule is broken, the file is no program
@@ -30,6 +22,24 @@ pub broken_is_no_program : {source : d.SourceProgram} {at : Pos} {r : ℕ} → p
     IsProgram source q → ⊥
 broken_is_no_program h q g = found_or_broken (sym (program_finds g) ∙ h)
 
-pub typed_exactly_without_faults : (source : d.SourceProgram) → (faults_of (walk_program source) ≡ []) ↔ ((q : p.Program) × IsProgram source q)
-typed_exactly_without_faults source =
-    (λ h. let found = clean_finds (walk_program_follows source) h in (found.0, found_program source found.1), λ g. found_is_clean (walk_program_follows source) (program_finds g.1))
+abbrev told_rule : {X : Type 0} → Judged X → Pos × ℕ → Pos × ℕ
+told_rule (Found x) other = other
+told_rule (Broken at n) other = (at, n)
+
+-- one rule is the first
+pub one_broken_rule : (source : d.SourceProgram) {at place : Pos} {r n : ℕ} → program_typing source ≡ Broken at r → program_typing source ≡ Broken place n →
+    (at ≡ place) × (r ≡ n)
+one_broken_rule source {at} {place} {r} {n} h g =
+    let same : ◌≡◌ {A = Pos × ℕ} (at, r) (place, n) = ap (λ j. told_rule j (at, r)) (sym h ∙ g) in
+    (ap (λ x. x.0) same, ap (λ x. x.1) same)
+
+found_or_told : {X : Type 0} (j : Judged X) → ((x : X) × (j ≡ Found x)) ⊎ ((at : Pos) × (n : ℕ) × (j ≡ Broken at n))
+found_or_told (Found x) = inl (x, refl)
+found_or_told (Broken at n) = inr (at, n, refl)
+
+pub typed_or_broken : (source : d.SourceProgram) → ((q : p.Program) × IsProgram source q) ⊎ ((at : Pos) × (n : ℕ) × (program_typing source ≡ Broken at n))
+typed_or_broken source =
+    elim (found_or_told (program_typing source)) [
+      | inl found ↦ inl (found.0, found_program source found.1)
+      | inr told ↦ inr told
+    ]

@@ -1,20 +1,21 @@
--- The targets of a loop are the visible variables that its body assigns.
-use Rattle.std.proofs.Common.{◌≡◌, ◌∙◌, inl, inr, ◌==◌, ◌||◌, ◌&&◌, ℕ, ◌+◌, ◌<◌, ◌≤◌, Bool, true, false, cond, List, [], ◌∷◌, Contains, refl, sym, ap, arith}
+-- The targets of a loop are those that are gathered from its body, and the visible variables that the body assigns.
+use Rattle.std.proofs.Common.{◌≡◌, ◌∙◌, inl, inr, ◌==◌, ◌||◌, ◌&&◌, ℕ, zero, suc, ◌+◌, ◌<◌, ◌≤◌, Bool, true, false, cond, List, [], ◌∷◌, Contains, refl, sym, ap, subst, arith}
 use Rattle.std.specs.BTreeSet.{insert_key}
 use Rattle.std.specs.Cmp.{nat_cmp_is}
-use Rattle.std.specs.List.{filter}
+use Rattle.std.specs.List.{filter, range_with_len}
 use Rattle.std.specs.Ordering.{nat_cmp, match_ordering}
 use Rattle.std.specs.declared.cmp.Ordering.TheVariants as ordering
 use Rattle.std.proofs.lemmas.Bool.{cases_lt, cases_order, eqb-true, eq-eqb, ne_eqb, lt-ltb, le-ltb}
 use Rattle.std.proofs.lemmas.List.Folds.{list_any_at}
 use Rattle.std.proofs.lemmas.Map.Views.{any-filter_same}
 use Rattle.viper_core.specs.Scope as cs
-use Rattle.viper_core.specs.Scope.{assigns, some_assigns, loop_targets, stmts_scope, after_block}
+use Rattle.viper_core.specs.Scope.{assigns, some_assigns, loop_targets}
 use Rattle.viper_core.specs.Stmt as c
 use Rattle.viper_core.specs.Typing as g
-use Rattle.viper_core.proofs.ScopeLaws.{some_old_or_new, fresh-scope_after, fresh-stmts_scope}
-use Rattle.viper_types.specs.Target.{with_target, with_targets, targets_of_stmt, targets_from, targets}
-use Rattle.viper_types.proofs.Rising.{Rising, has, rising_filter, has_above, same_rising}
+use Rattle.viper_core.proofs.ScopeLaws.{some_old_or_new}
+use Rattle.viper_types.specs.Target.{with_target, with_targets, targets_of_stmt, targets_from, gathered, targets}
+use Rattle.viper_types.proofs.Loops.{ListLoops, plain, branches, turns, LoopsIn, no_loops, more_loops}
+use Rattle.viper_types.proofs.Rising.{Rising, has, rising_filter, rising_lower, has_above, has_below, same_rising}
 
 -- ---- one more number in ascending numbers
 
@@ -46,6 +47,14 @@ or_moved false false d = refl
 or_nothing : (a : Bool) → (a || false) ≡ a
 or_nothing true = refl
 or_nothing false = refl
+
+or_true : (a : Bool) → (a || true) ≡ true
+or_true true = refl
+or_true false = refl
+
+and_true : (a : Bool) → (a && true) ≡ a
+and_true true = refl
+and_true false = refl
 
 has_insert : (k : ℕ) (zs : List ℕ) (x : ℕ) → has (insert_key nat_cmp zs k) x ≡ (k == x || has zs x)
 has_insert k [] x = refl
@@ -100,32 +109,58 @@ listed {m} {sc} {body} below z h le lt =
     has_filter (λ x. some_assigns x body) sc.visible z ∙ visible_or_not (some_assigns z body) (has sc.visible z)
     (λ is. elim (some_old_or_new z h is) [ inl old ↦ contained sc.visible z old | inr new ↦ absurd (omega (arith, new, le, lt)) ])
 
-mutual
-  stmt_targets : {m : g.Frame} (below z : ℕ) → z < below → {sc : cs.Scope} {a : c.Stmt} (so_far : List ℕ) → g.IsStmt m sc a → below ≤ sc.fresh →
-      has (targets_of_stmt below so_far a) z ≡ (assigns z a || has so_far z)
-  stmt_targets below z lt so_far (g.assigns {x = x} target h) le = has_target below x z so_far lt
-  stmt_targets below z lt so_far (g.creates {x = x} into fields refs) le = has_target below x z so_far lt
-  stmt_targets below z lt so_far (g.calls {xs = xs} callee exists args into) le = has_targets below z lt xs so_far
-  stmt_targets below z lt {sc = sc} so_far (g.branches {then_block = a} {else_block = b} h first second) le =
-      stmts_targets below z lt (targets_from below so_far a) second (omega (arith, le, fresh-stmts_scope sc a)) ∙
-      ap (λ o. some_assigns z b || o) (stmts_targets below z lt so_far first le) ∙ or_moved (some_assigns z a) (some_assigns z b) (has so_far z)
-  stmt_targets below z lt {sc = sc} so_far (g.loops {body = body} {targets = ts} guard invariants inside is) le =
-      has_targets below z lt ts so_far ∙ ap (λ o. o || has so_far z) (ap (λ ns. has ns z) is ∙ listed below z inside le lt)
-  stmt_targets below z lt so_far (g.declares is typed) le = refl
-  stmt_targets below z lt so_far (g.initial is typed h) le = refl
-  stmt_targets below z lt so_far (g.writes h field d) le = refl
-  stmt_targets below z lt so_far (g.inhales h) le = refl
-  stmt_targets below z lt so_far (g.exhales h) le = refl
-  stmt_targets below z lt so_far (g.asserts h) le = refl
-  stmt_targets below z lt so_far (g.folds h) le = refl
-  stmt_targets below z lt so_far (g.unfolds h) le = refl
+-- ---- the variables below a number
 
-  stmts_targets : {m : g.Frame} (below z : ℕ) → z < below → {sc : cs.Scope} {ss : c.Stmts} (so_far : List ℕ) → g.AreStmts m sc ss → below ≤ sc.fresh →
+rising_range : (low high n : ℕ) → low + n ≡ high → Rising low high (range_with_len low n)
+rising_range low high zero is = omega (arith, is)
+rising_range low high (suc n) is = (omega arith, rising_range (low + 1) high n (omega (arith, is)))
+
+has_range : (low n z : ℕ) → low ≤ z → z < low + n → has (range_with_len low n) z ≡ true
+has_range low zero z le lt = absurd (omega (arith, le, lt))
+has_range low (suc n) z le lt =
+    elim (cases_lt low z) [
+      | inl above ↦ ap (λ b. low == z || b) (has_range (low + 1) n z (omega (arith, above)) (omega (arith, lt))) ∙ or_true (low == z)
+      | inr same ↦ ap (λ b. b || has (range_with_len (low + 1) n) z) (eq-eqb low z (omega (arith, le, same)))
+    ]
+
+rising_targets_of : (count : ℕ) (body : c.Stmts) → Rising 0 count (targets count body)
+rising_targets_of count body = rising_filter (λ x. some_assigns x body) 0 count (range_with_len 0 count) (rising_range 0 count count (omega arith))
+
+-- a target is what the body assigns
+has_target_of : (count z : ℕ) (body : c.Stmts) → z < count → has (targets count body) z ≡ some_assigns z body
+has_target_of count z body lt =
+    has_filter (λ x. some_assigns x body) (range_with_len 0 count) z ∙ ap (λ b. some_assigns z body && b) (has_range 0 count z (omega arith) (omega (arith, lt))) ∙
+    and_true (some_assigns z body)
+
+-- ---- what is gathered
+
+mutual
+  stmt_targets : (below z : ℕ) → z < below → {a : c.Stmt} (so_far : List ℕ) → ListLoops below a →
+      has (targets_of_stmt below so_far a) z ≡ (assigns z a || has so_far z)
+  stmt_targets below z lt {a = c.Var at x init} so_far h = refl
+  stmt_targets below z lt {a = c.Assign at x e} so_far h = has_target below x z so_far lt
+  stmt_targets below z lt {a = c.Write at e f f_at d} so_far h = refl
+  stmt_targets below z lt {a = c.New at x fields refs} so_far h = has_target below x z so_far lt
+  stmt_targets below z lt {a = c.Call at xs m args} so_far h = has_targets below z lt xs so_far
+  stmt_targets below z lt {a = c.Inhale at e} so_far h = refl
+  stmt_targets below z lt {a = c.Exhale at e} so_far h = refl
+  stmt_targets below z lt {a = c.Assert at e} so_far h = refl
+  stmt_targets below z lt {a = c.Fold f} so_far h = refl
+  stmt_targets below z lt {a = c.Unfold f} so_far h = refl
+  stmt_targets below z lt {a = c.If at e a b} so_far (plain is) = absurd (cc)
+  stmt_targets below z lt {a = c.While w} so_far (plain is) = absurd (cc)
+  stmt_targets below z lt so_far (branches {a = a} {b = b} first second) =
+      stmts_targets below z lt (targets_from below so_far a) second ∙
+      ap (λ o. some_assigns z b || o) (stmts_targets below z lt so_far first) ∙ or_moved (some_assigns z a) (some_assigns z b) (has so_far z)
+  stmt_targets below z lt so_far (turns {body = body} {ts = ts} count le is) =
+      has_targets below z lt ts so_far ∙ ap (λ o. o || has so_far z) (ap (λ ns. has ns z) is ∙ has_target_of count z body (omega (arith, lt, le)))
+
+  stmts_targets : (below z : ℕ) → z < below → {ss : c.Stmts} (so_far : List ℕ) → LoopsIn below ss →
       has (targets_from below so_far ss) z ≡ (some_assigns z ss || has so_far z)
-  stmts_targets below z lt so_far g.ends le = refl
-  stmts_targets below z lt {sc = sc} so_far (g.goes_on {a = a} {rest = rest} first more) le =
-      stmts_targets below z lt (targets_of_stmt below so_far a) more (omega (arith, le, fresh-scope_after sc a)) ∙
-      ap (λ o. some_assigns z rest || o) (stmt_targets below z lt so_far first le) ∙ or_moved (assigns z a) (some_assigns z rest) (has so_far z)
+  stmts_targets below z lt so_far no_loops = refl
+  stmts_targets below z lt so_far (more_loops {a = a} {rest = rest} first more) =
+      stmts_targets below z lt (targets_of_stmt below so_far a) more ∙
+      ap (λ o. some_assigns z rest || o) (stmt_targets below z lt so_far first) ∙ or_moved (assigns z a) (some_assigns z rest) (has so_far z)
 
 -- ---- they ascend
 
@@ -159,14 +194,24 @@ mutual
   rising_stmts below c.skip so_far h = h
   rising_stmts below (c.next a rest) so_far h = rising_stmts below rest (targets_of_stmt below so_far a) (rising_stmt below a so_far h)
 
+pub gathered_targets : (below : ℕ) (body : c.Stmts) → LoopsIn below body → gathered below body ≡ targets below body
+gathered_targets below body h =
+    let all : Rising 0 below (gathered below body) = rising_stmts below body [] (omega arith) in
+    let those : Rising 0 below (targets below body) = rising_targets_of below body in
+    same_rising 0 below (gathered below body) (targets below body) all those (λ z.
+    elim (cases_lt z below) [
+      | inl lt ↦ stmts_targets below z lt [] h ∙ or_nothing (some_assigns z body) ∙ sym (has_target_of below z body lt)
+      | inr le ↦ has_above 0 below (gathered below body) z all le ∙ sym (has_above 0 below (targets below body) z those le)
+    ])
+
+-- what a typed body assigns is visible where it was declared before
 pub same_targets : {m : g.Frame} (sc : cs.Scope) (body : c.Stmts) → g.AreStmts m sc body → Rising 0 sc.fresh sc.visible →
     targets sc.fresh body ≡ loop_targets sc body
 same_targets sc body h rising =
-    let all : Rising 0 sc.fresh (targets sc.fresh body) = rising_stmts sc.fresh body [] (omega arith) in
+    let all : Rising 0 sc.fresh (targets sc.fresh body) = rising_targets_of sc.fresh body in
     let seen : Rising 0 sc.fresh (loop_targets sc body) = rising_filter (λ x. some_assigns x body) 0 sc.fresh sc.visible rising in
     same_rising 0 sc.fresh (targets sc.fresh body) (loop_targets sc body) all seen (λ z.
     elim (cases_lt z sc.fresh) [
-      | inl lt ↦
-          stmts_targets sc.fresh z lt [] h (omega arith) ∙ or_nothing (some_assigns z body) ∙ sym (listed sc.fresh z h (omega arith) lt)
+      | inl lt ↦ has_target_of sc.fresh z body lt ∙ sym (listed sc.fresh z h (omega arith) lt)
       | inr le ↦ has_above 0 sc.fresh (targets sc.fresh body) z all le ∙ sym (has_above 0 sc.fresh (loop_targets sc body) z seen le)
     ])

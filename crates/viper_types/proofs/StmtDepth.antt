@@ -120,7 +120,7 @@ mutual
   pub step_nests : {k : Context} {d : ℕ} {fr : Frame} {a : s.SStmt} {x : c.Stmt} → Stepped k d fr a x → d ≤ 128 → All IsShallow (stmt_terms a) → Nests d x
   step_nests {d = d} (r.var new h) le l = in_block d le (declaration_is_flat h l)
   step_nests {d = d} (r.assign h) le l = in_block d le (assignment_is_flat h l)
-  step_nests {d = d} (r.call_to into h) le l = in_block d le (call_is_flat h l)
+  step_nests {d = d} (r.call_to into differ h) le l = in_block d le (call_is_flat h l)
   step_nests {d = d} (r.call h) le l = in_block d le (call_is_flat h l)
   step_nests {d = d} (r.check {a = a} h) le l = in_block d le (check_is_flat h (All-head IsShallow a [] l))
   step_nests (r.folded h) le l = record { shallow = fold_is_shallow h l; nested = omega (arith, le) }

@@ -1,5 +1,6 @@
 -- What a statement is, its typing finds.
-use Rattle.std.proofs.Common.{◌≡◌, ◌∙◌, ℕ, true, Option, None, List, ◌∷◌, refl, sym}
+use Rattle.std.proofs.Common.{◌≡◌, ◌∙◌, ℕ, true, Option, None, List, [], ◌∷◌, ◌++◌, refl, sym, ap, subst, append_assoc}
+use Rattle.std.proofs.lemmas.List.{append-nil}
 use Rattle.vb_base.specs.declared.places.Pos.{Pos}
 use Rattle.vb_value.specs.declared.values.Ty.{Ty}
 use Rattle.vb_value.specs.declared.values.Ty.TheVariants as ty
@@ -15,12 +16,13 @@ use Rattle.viper_types.specs.Context.{World, Context}
 use Rattle.viper_types.specs.Typing.{Scope, Located, as_many, located, typing}
 use Rattle.viper_types.specs.Frame.{Frame}
 use Rattle.viper_types.specs.Stepping as j
-use Rattle.viper_types.specs.Stepping.{Target, Branch, mistarget, stepping, blocking, stepping_all, branches, branch, otherwise}
+use Rattle.viper_types.specs.Stepping.{Target, Branch, numbers_in, mistarget, stepping, blocking, stepping_all, branches, branch, otherwise}
 use Rattle.viper_types.specs.Stepped
 use Rattle.viper_types.specs.Stepped.{IsFresh, IsTarget, AreTargets, no_more, one_more, TakeReturns, no_returns, one_return, IsCall, call_of, AreFields, no_fields, one_field, ChoosesFields, every, named, IsNew, new_of, IsPlace, of_field, of_further, Declares, any_value, Sets, Checks, inhale, exhale, asserted, assume, IsFold, fold_of, AssertsAll, no_assertions, one_assertion, var, assign, call_to, check, folded, unfolded, if_arms, while, Blocked, block, SteppedAll, no_steps, one_step, Branches, no_branches, one_branch, IsBranch, branch_of, Otherwise, no_block, else_of}
 use Rattle.viper_types.proofs.Tells.{type_is_same, one_found}
 use Rattle.viper_types.proofs.TermFinds.{typing_finds, typing_all_finds, permission_finds, typings_are_as_many, typings_fit, exprs_in_typings, expected_finds, arguments_finds}
 use Rattle.viper_types.proofs.AssertionLaws.{asserting_finds}
+use Rattle.viper_types.proofs.Differ.{Differ, new_among, new_target_among}
 
 -- variables
 
@@ -33,10 +35,13 @@ target_finds (Stepped.target i k) = rw (i, k) refl
 ref_target_finds : {sc : Scope} {x : Named} {v : Target} → IsTarget sc x v → v.ty ≡ ty.Ref → j.ref_target sc x ≡ Found v
 ref_target_finds (Stepped.target i k) is = rw (i, k, is) refl
 
-call_targets_find : {sc : Scope} {before : List Target} {xs : List Named} {vs : List Target} → AreTargets sc before xs vs →
-    j.call_targets sc before xs ≡ Found vs
-call_targets_find no_more = refl
-call_targets_find (one_more h i g) = rw (target_finds h, i) (call_targets_find g)
+call_targets_find : {sc : Scope} {xs : List Named} {vs : List Target} (before : List Target) → AreTargets sc xs vs → Differ (numbers_in (before ++ vs)) →
+    j.call_targets sc before xs ≡ Found (before ++ vs)
+call_targets_find before no_more d = ap (λ vs. Found vs) (sym (append-nil before))
+call_targets_find before (one_more {v = v} {vs = vs} h g) d =
+    let moved : (before ++ v ∷ []) ++ vs ≡ before ++ v ∷ vs = append_assoc before (v ∷ []) vs in
+    rw (target_finds h, new_target_among before v vs d)
+    (call_targets_find (before ++ v ∷ []) g (subst (λ ws. Differ (numbers_in ws)) (sym moved) d) ∙ ap (λ ws. Found ws) moved)
 
 -- calls
 
@@ -55,13 +60,16 @@ calling_finds (call_of i h g) =
 
 -- creations
 
-new_fields_find : {w : World} {before : List ℕ} {fs : List Named} {ns : List ℕ} → AreFields w before fs ns → j.new_fields w before fs ≡ Found ns
-new_fields_find no_fields = refl
-new_fields_find (one_field i k g) = rw (i, k) (new_fields_find g)
+new_fields_find : {w : World} {fs : List Named} {ns : List ℕ} (before : List ℕ) → AreFields w fs ns → Differ (before ++ ns) →
+    j.new_fields w before fs ≡ Found (before ++ ns)
+new_fields_find before no_fields d = ap (λ ns. Found ns) (sym (append-nil before))
+new_fields_find before (one_field {n = n} {ns = ns} i g) d =
+    let moved : (before ++ n ∷ []) ++ ns ≡ before ++ n ∷ ns = append_assoc before (n ∷ []) ns in
+    rw (i, new_among before n ns d) (new_fields_find (before ++ n ∷ []) g (subst (λ ms. Differ ms) (sym moved) d) ∙ ap (λ ms. Found ms) moved)
 
 chosen_fields_find : {w : World} {new : s.SNew} {ns : List ℕ} → ChoosesFields w new ns → j.chosen_fields w new ≡ Found ns
 chosen_fields_find (every i) = rw i refl
-chosen_fields_find (named i h) = rw i (new_fields_find h)
+chosen_fields_find (named i h d) = rw i (new_fields_find [] h d)
 
 creating_finds : {w : World} {sc : Scope} {at : Pos} {n : ℕ} {new : s.SNew} {x : c.Stmt} → IsNew w sc at n new x → j.creating w sc at n new ≡ Found x
 creating_finds (new_of h) = rw (chosen_fields_find h) refl
@@ -88,12 +96,12 @@ target_place_finds : {k : Context} {sc : Scope} {x : Named} {fs : List Named} {l
     j.target_place k sc x fs ≡ Found l
 target_place_finds h = place_finds h
 
-declaring_finds : {k : Context} (fr : Frame) {at : Pos} (f : Formal) {v : Target} {rhs : Option s.SRhs} {x : c.Stmt} →
-    Declares k fr.scope at v rhs x → j.declaring k fr at f v rhs ≡ Found x
-declaring_finds fr f any_value = refl
-declaring_finds fr f (Stepped.Declares.value h) = rw (expected_finds h) refl
-declaring_finds fr f (Stepped.Declares.returned h) = calling_finds h
-declaring_finds fr f (Stepped.Declares.created i h) = rw i (creating_finds h)
+declaring_finds : {k : Context} (fr : Frame) {at : Pos} {v : Target} {rhs : Option s.SRhs} {x : c.Stmt} →
+    Declares k fr.scope at v rhs x → j.declaring k fr at v rhs ≡ Found x
+declaring_finds fr any_value = refl
+declaring_finds fr (Stepped.Declares.value h) = rw (expected_finds h) refl
+declaring_finds fr (Stepped.Declares.returned h) = calling_finds h
+declaring_finds fr (Stepped.Declares.created i h) = rw i (creating_finds h)
 
 setting_finds : {k : Context} {sc : Scope} {xs : List Named} {rhs : s.SRhs} {x : c.Stmt} → Sets k sc xs rhs x → j.setting k sc xs rhs ≡ Found x
 setting_finds (Stepped.Sets.variable h g) = rw (target_finds h, expected_finds g) refl
@@ -119,9 +127,9 @@ asserting_all_finds (one_assertion h g) = rw (asserting_finds h, asserting_all_f
 
 mutual
   pub stepping_finds : {k : Context} {d : ℕ} {fr : Frame} {a : s.SStmt} {x : c.Stmt} → Stepped.Stepped k d fr a x → stepping k d fr a ≡ Found x
-  stepping_finds (var {fr = fr} {f = f} h g) = rw (fresh_finds h) (declaring_finds fr f g)
+  stepping_finds (var {fr = fr} h g) = rw (fresh_finds h) (declaring_finds fr g)
   stepping_finds (assign h) = setting_finds h
-  stepping_finds (call_to h g) = rw (call_targets_find h) (calling_finds g)
+  stepping_finds (call_to h d g) = rw (call_targets_find [] h d) (calling_finds g)
   stepping_finds (Stepped.call h) = calling_finds h
   stepping_finds (check h) = checking_finds h
   stepping_finds (folded h) = rw (folding_finds h) refl

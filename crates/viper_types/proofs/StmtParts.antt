@@ -2,9 +2,8 @@
 use Rattle.std.proofs.Common.{◌≡◌, ◌≢◌, ◌∙◌, ◌==◌, ℕ, zero, suc, ◌+◌, ◌<◌, Bool, true, false, if◌then◌else◌, Option, Some, None, List, [], ◌∷◌, ◌++◌, All, AllPairs, Contains, length, slice_get, get_or, is_some, refl, sym, ap, subst, arith}
 use Rattle.std.specs.List.{filter, range_with_len}
 use Rattle.std.proofs.lemmas.Bool.{ne_eqb, eq-eqb}
-use Rattle.std.proofs.lemmas.List.Elements.{All-cons, All-nil, All-push, All-contains}
+use Rattle.std.proofs.lemmas.List.Elements.{All-cons, All-nil, All-contains}
 use Rattle.std.proofs.lemmas.List.FromFn.{length-range_with_len, get_or-range_with_len}
-use Rattle.std.proofs.lemmas.List.Quantifiers.{all_pairs_push}
 use Rattle.std.proofs.lemmas.Option.{slice_get_within}
 use Rattle.vb_value.specs.Value.{same_type}
 use Rattle.vb_value.specs.declared.values.Ty.{Ty}
@@ -22,10 +21,11 @@ use Rattle.viper_types.specs.Context.{World, Context, field_at}
 use Rattle.viper_syntax.specs.Good.{HasLiterals, amount_terms}
 use Rattle.viper_types.specs.Typing.{Scope, Located}
 use Rattle.viper_types.specs.Frame.{Frame}
-use Rattle.viper_types.specs.Stepping.{Target, is_target, numbers_in, is_listed, ref_variables}
+use Rattle.viper_types.specs.Stepping.{Target, numbers_in, ref_variables}
 use Rattle.viper_types.specs.Stepped as r
 use Rattle.viper_types.proofs.TermTypes.{Describes, Resolves, has_type, have_types, permission_has_type}
 use Rattle.viper_types.proofs.GoodLists.{all_left, all_right, have_literals, amount_has_literals}
+use Rattle.viper_types.proofs.Differ.{differ_none, one_differs}
 use Rattle.viper_types.proofs.Rising.{Rising, rising_bounds}
 use Rattle.viper_types.proofs.Scopes.{Extends, numbers, core_scope, AreVariables, IsSound, found, resolves}
 
@@ -54,63 +54,22 @@ pub takes : {vs : List Target} {us : List Ty} → r.TakeReturns vs us → types_
 takes r.no_returns = refl
 takes (r.one_return {v = v} h) = ap (λ us. v.ty ∷ us) (takes h)
 
-numbers_in_push : (vs : List Target) (v : Target) → numbers_in (vs ++ v ∷ []) ≡ numbers_in vs ++ v.number ∷ []
-numbers_in_push [] v = refl
-numbers_in_push (w ∷ vs) v = ap (λ ns. w.number ∷ ns) (numbers_in_push vs v)
-
-listed_wrong : (a b : Bool) → a ≡ true → (if a then true else b) ≡ false → ⊥
-listed_wrong true b is h = absurd (cc)
-listed_wrong false b is h = absurd (cc)
-
-first_listed : (n m : ℕ) (b : Bool) → (if n == m then true else b) ≡ false → n ≡ m → ⊥
-first_listed n m b h is = let same : (n == m) ≡ true = eq-eqb n m is in listed_wrong (n == m) b same h
-
-later_listed : (a b : Bool) → (if a then true else b) ≡ false → b ≡ false
-later_listed true b h = absurd (cc)
-later_listed false b h = h
-
-not_listed : (n : ℕ) (ms : List ℕ) → is_listed n ms ≡ false → (i d : ℕ) → i < length ms → get_or ms i d ≢ n
-not_listed n [] h i d lt = λ is. omega (arith, lt)
-not_listed n (m ∷ ms) h zero d lt = λ is. first_listed n m (is_listed n ms) h (sym is)
-not_listed n (m ∷ ms) h (suc i) d lt = not_listed n ms (later_listed (n == m) (is_listed n ms) h) i d (omega (arith, lt))
-
-is_target_listed : (n : ℕ) (vs : List Target) → is_target n vs ≡ is_listed n (numbers_in vs)
-is_target_listed n [] = refl
-is_target_listed n (v ∷ vs) = ap (λ b. if n == v.number then true else b) (is_target_listed n vs)
-
-differ_push : (n : ℕ) (ns : List ℕ) → AllPairs (λ x y. x ≢ y) ns → is_listed n ns ≡ false → AllPairs (λ x y. x ≢ y) (ns ++ n ∷ [])
-differ_push n ns h new = all_pairs_push (λ x y. x ≢ y) ns n h (λ i d lt. not_listed n ns new i d lt)
-
-differ_none : AllPairs {X = ℕ} (λ x y. x ≢ y) []
-differ_none i j d lt lt' = absurd (omega (arith, lt'))
-
 pub record Takes (m : g.Frame) (sc : cs.Scope) (vs : List Target) : Type 0 where
   pub targets : g.AreTargets m sc (numbers_in vs) (types_in vs)
   pub differ : AllPairs (λ x y. x ≢ y) (numbers_in vs)
 
-takes_push : (m : g.Frame) (sc : cs.Scope) (vs : List Target) (v : Target) → g.AreTargets m sc (numbers_in vs) (types_in vs) →
-    g.IsTarget m sc v.number v.ty →
-    g.AreTargets m sc (numbers_in (vs ++ v ∷ [])) (types_in (vs ++ v ∷ []))
-takes_push m sc [] v h i = g.also i g.nothing
-takes_push m sc (w ∷ vs) v (g.also j h) i = g.also j (takes_push m sc vs v h i)
+targets_are : {k : Context} {m : g.Frame} {fr : Frame} {xs : List Named} {vs : List Target} → Stands k m fr → r.AreTargets fr.scope xs vs →
+    g.AreTargets m (core_scope fr) (numbers_in vs) (types_in vs)
+targets_are z r.no_more = g.nothing
+targets_are z (r.one_more h hs) = g.also (target_is z h) (targets_are z hs)
 
-pub targets_are : {k : Context} {m : g.Frame} {fr : Frame} {before : List Target} {xs : List Named} {vs : List Target} → Stands k m fr →
-    r.AreTargets fr.scope before xs vs → Takes m (core_scope fr) before →
+pub take_targets : {k : Context} {m : g.Frame} {fr : Frame} {xs : List Named} {vs : List Target} → Stands k m fr → r.AreTargets fr.scope xs vs →
+    AllPairs (λ x y. x ≢ y) (numbers_in vs) →
     Takes m (core_scope fr) vs
-targets_are z r.no_more h = h
-targets_are {m = m} {fr = fr} z (r.one_more {before = before} {v = v} i new rest) h =
-    targets_are z rest (record {
-      targets = takes_push m (core_scope fr) before v h.targets (target_is z i);
-      differ =
-          subst (λ ns. AllPairs (λ x y. x ≢ y) ns) (sym (numbers_in_push before v))
-          (differ_push v.number (numbers_in before) h.differ (sym (is_target_listed v.number before) ∙ new));
-    })
+take_targets z h d = record { targets = targets_are z h; differ = d }
 
 pub no_targets : {m : g.Frame} {sc : cs.Scope} → Takes m sc []
 no_targets = record { targets = g.nothing; differ = differ_none }
-
-one_differs : (n : ℕ) → AllPairs (λ x y. x ≢ y) (n ∷ [])
-one_differs n i j d lt lt' = absurd (omega (arith, lt, lt'))
 
 pub one_target : {m : g.Frame} {sc : cs.Scope} (v : Target) → g.IsTarget m sc v.number v.ty → Takes m sc (v ∷ [])
 one_target v i = record { targets = g.also i g.nothing; differ = one_differs v.number }
@@ -163,15 +122,11 @@ call_scope outer (r.call_of i args into) = refl
 numbered_field : (w : World) (bodies : _) (q : p.Program) (f : List ℕ) (n : ℕ) (u : Ty) → Describes w bodies q → field_at w f ≡ Some (n, u) → n < length q.fields
 numbered_field w bodies q f n u z i = omega (arith, slice_get_within q.layout.fields n u (z.field f n u i), z.layout_fields)
 
-fields_are : (k : Context) {q : p.Program} {before : List ℕ} {fs : List Named} {ns : List ℕ} → Describes k.world k.bodies q →
-    r.AreFields k.world before fs ns → g.AreFields q before →
-    g.AreFields q ns
-fields_are k z r.no_fields h = h
-fields_are k {q = q} z (r.one_field {before = before} {f = f} {n = n} {u = u} i new rest) h =
-    fields_are k z rest (record {
-      exist = All-push (λ x. x < length q.fields) before n h.exist (numbered_field k.world k.bodies q f.name n u z i);
-      differ = differ_push n before h.differ new;
-    })
+fields_exist : (k : Context) {q : p.Program} {fs : List Named} {ns : List ℕ} → Describes k.world k.bodies q → r.AreFields k.world fs ns →
+    All (λ x. x < length q.fields) ns
+fields_exist k {q = q} z r.no_fields = All-nil (λ x. x < length q.fields)
+fields_exist k {q = q} z (r.one_field {f = f} {n = n} {u = u} {ns = ns} i h) =
+    All-cons (λ x. x < length q.fields) n ns (numbered_field k.world k.bodies q f.name n u z i) (fields_exist k z h)
 
 all_fields : (q : p.Program) (n : ℕ) → n ≡ length q.fields → g.AreFields q (range_with_len 0 n)
 all_fields q n is = record {
@@ -188,7 +143,7 @@ all_fields q n is = record {
 
 chosen : (k : Context) {q : p.Program} {new : s.SNew} {ns : List ℕ} → Describes k.world k.bodies q → r.ChoosesFields k.world new ns → g.AreFields q ns
 chosen k {q = q} z (r.every i) = all_fields q (length k.world.fields) z.world_fields
-chosen k z (r.named i h) = fields_are k z h (record { exist = All-nil (λ x. x < _); differ = differ_none })
+chosen k z (r.named i h d) = record { exist = fields_exist k z h; differ = d }
 
 is_ref_type : (u : Ty) → cs.is_ref (Some u) ≡ same_type u ty.Ref
 is_ref_type ty.Int = refl

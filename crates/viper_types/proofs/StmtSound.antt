@@ -1,5 +1,6 @@
 -- What the typing of a statement finds, the statement is.
-use Rattle.std.proofs.Common.{◌≡◌, ℕ, ◌+◌, ◌++◌, true, not, Option, Some, None, List, [], ◌∷◌, nat_le, is_some, refl, subst}
+use Rattle.std.proofs.Common.{◌≡◌, ◌∙◌, ℕ, ◌+◌, ◌++◌, true, not, Option, Some, None, List, [], ◌∷◌, nat_le, is_some, refl, sym, subst, append_assoc}
+use Rattle.std.proofs.lemmas.List.{append-nil}
 use Rattle.std.proofs.lemmas.Bool.{not-true}
 use Rattle.vb_base.specs.declared.places.Pos.{Pos}
 use Rattle.vb_value.specs.Value.{same_type}
@@ -19,12 +20,13 @@ use Rattle.viper_types.specs.Typed as r
 use Rattle.viper_types.specs.Typed.{Typed}
 use Rattle.viper_types.specs.Frame.{Frame, type_of, or_int, declared_in_arms, declared_in_arm, frame_after, with_hidden}
 use Rattle.viper_types.specs.Stepping as j
-use Rattle.viper_types.specs.Stepping.{Target, is_target, is_listed, mistarget, nested, arm_count, stepping, blocking, stepping_all, branches, branch, otherwise}
+use Rattle.viper_types.specs.Stepping.{Target, is_target, is_listed, numbers_in, mistarget, nested, arm_count, stepping, blocking, stepping_all, branches, branch, otherwise}
 use Rattle.viper_types.specs.Stepped
 use Rattle.viper_types.specs.Stepped.{IsFresh, IsTarget, AreTargets, no_more, one_more, TakeReturns, no_returns, one_return, IsCall, call_of, AreFields, no_fields, one_field, ChoosesFields, every, named, IsNew, new_of, IsPlace, of_field, of_further, Declares, any_value, Sets, Checks, inhale, exhale, asserted, assume, IsFold, fold_of, AssertsAll, no_assertions, one_assertion, var, assign, call_to, check, folded, unfolded, if_arms, while, Blocked, block, SteppedAll, no_steps, one_step, Branches, no_branches, one_branch, IsBranch, branch_of, Otherwise, no_block, else_of}
 use Rattle.viper_types.proofs.Tells.{Tells, tells, broken, tell_then, tell_so, tell_known, tell_obeys, tell_clear, tell_if, same_types, none_is, if_none}
 use Rattle.viper_types.proofs.TermSound.{HasBodies, typing_told, typing_all_told, permission_told, expected_told, arguments_told, located_told, with_body_told, fits}
 use Rattle.viper_types.proofs.AssertionLaws.{asserting_told}
+use Rattle.viper_types.proofs.Differ.{Differ, differ_none, differ_push, differ_target}
 
 -- variables
 
@@ -50,11 +52,26 @@ ref_target_told sc x =
     tell_known (find sc x.name) x.pos 1 (λ v i. tell_obeys (same_type v.ty ty.Ref) x.pos 3 (λ l. tell_obeys (not v.is_parameter) x.pos 8 (λ k.
     tells (record { target = Stepped.target i (not-true _ k); typed = same_types v.ty ty.Ref l }))))
 
-call_targets_told : (sc : Scope) (before : List Target) (xs : List Named) → Tells (AreTargets sc before xs) (j.call_targets sc before xs)
-call_targets_told sc before [] = tells no_more
-call_targets_told sc before (x ∷ xs) =
+-- targets after those that stand before
+record TargetsAfter (sc : Scope) (before : List Target) (xs : List Named) (all : List Target) : Type 0 where
+  pub those : List Target
+  pub are : all ≡ before ++ those
+  pub targets : AreTargets sc xs those
+  pub differ : Differ (numbers_in all)
+
+call_targets_told : (sc : Scope) (before : List Target) (xs : List Named) → Differ (numbers_in before) → Tells (TargetsAfter sc before xs) (j.call_targets sc before xs)
+call_targets_told sc before [] d = tells (record { those = []; are = sym (append-nil before); targets = no_more; differ = d })
+call_targets_told sc before (x ∷ xs) d =
     tell_then (target_told sc x) (λ v h. tell_obeys (not (is_target v.number before)) x.pos 11 (λ i.
-    tell_so (call_targets_told sc (before ++ v ∷ []) xs) (λ vs g. one_more h (not-true _ i) g)))
+    tell_so (call_targets_told sc (before ++ v ∷ []) xs (differ_target before v d (not-true _ i))) (λ all g. record {
+      those = v ∷ g.those;
+      are = g.are ∙ append_assoc before (v ∷ []) g.those;
+      targets = one_more h g.targets;
+      differ = g.differ;
+    })))
+
+all_targets : {sc : Scope} {xs : List Named} {vs : List Target} → TargetsAfter sc [] xs vs → AreTargets sc xs vs
+all_targets {sc} {xs} h = subst (λ ws. AreTargets sc xs ws) (sym h.are) h.targets
 
 -- calls
 
@@ -83,14 +100,30 @@ calling_into_field_told k b sc call =
 
 -- creations
 
-new_fields_told : (w : World) (before : List ℕ) (fs : List Named) → Tells (AreFields w before fs) (j.new_fields w before fs)
-new_fields_told w before [] = tells no_fields
-new_fields_told w before (f ∷ fs) =
+-- fields after those that stand before
+record FieldsAfter (w : World) (before : List ℕ) (fs : List Named) (all : List ℕ) : Type 0 where
+  pub those : List ℕ
+  pub are : all ≡ before ++ those
+  pub fields : AreFields w fs those
+  pub differ : Differ all
+
+new_fields_told : (w : World) (before : List ℕ) (fs : List Named) → Differ before → Tells (FieldsAfter w before fs) (j.new_fields w before fs)
+new_fields_told w before [] d = tells (record { those = []; are = sym (append-nil before); fields = no_fields; differ = d })
+new_fields_told w before (f ∷ fs) d =
     tell_known (field_at w f.name) f.pos 1 (λ n i. tell_obeys (not (is_listed n.0 before)) f.pos 14 (λ k.
-    tell_so (new_fields_told w (before ++ n.0 ∷ []) fs) (λ ns g. one_field {u = n.1} i (not-true _ k) g)))
+    tell_so (new_fields_told w (before ++ n.0 ∷ []) fs (differ_push n.0 before d (not-true _ k))) (λ all g. record {
+      those = n.0 ∷ g.those;
+      are = g.are ∙ append_assoc before (n.0 ∷ []) g.those;
+      fields = one_field {u = n.1} i g.fields;
+      differ = g.differ;
+    })))
+
+all_fields : {w : World} {fs : List Named} {ns : List ℕ} → FieldsAfter w [] fs ns → AreFields w fs ns
+all_fields {w} {fs} h = subst (λ ms. AreFields w fs ms) (sym h.are) h.fields
 
 chosen_fields_told : (w : World) (new : s.SNew) → Tells (ChoosesFields w new) (j.chosen_fields w new)
-chosen_fields_told w new = tell_if new.every (λ i. tells (every i)) (λ i. tell_so (new_fields_told w [] new.fields) (λ ns h. named i h))
+chosen_fields_told w new =
+    tell_if new.every (λ i. tells (every i)) (λ i. tell_so (new_fields_told w [] new.fields differ_none) (λ ns h. named i (all_fields h) h.differ))
 
 creating_told : (w : World) (sc : Scope) (at : Pos) (n : ℕ) (new : s.SNew) → Tells (IsNew w sc at n new) (j.creating w sc at n new)
 creating_told w sc at n new = tell_then (chosen_fields_told w new) (λ fs h. tells (new_of h))
@@ -109,12 +142,12 @@ target_place_told : (k : Context) → HasBodies k → (sc : Scope) (x : Named) (
     Tells (IsPlace k sc (t.Name x.name x.pos) fs) (j.target_place k sc x fs)
 target_place_told k b sc x fs = tell_then (typing_told k b sc (t.Name x.name x.pos)) (λ y h. dotted_told k sc (t.Name x.name x.pos) y fs h)
 
-declaring_told : (k : Context) → HasBodies k → (fr : Frame) (at : Pos) (f : Formal) (v : Target) (rhs : Option s.SRhs) →
-    Tells (Declares k fr.scope at v rhs) (j.declaring k fr at f v rhs)
-declaring_told k b fr at f v None = tells any_value
-declaring_told k b fr at f v (Some (s.TermRhs a)) = tell_then (expected_told k b fr.scope v.ty a) (λ x h. tells (Stepped.Declares.value h))
-declaring_told k b fr at f v (Some (s.CallRhs call)) = tell_so (calling_told k b fr.scope at (v ∷ []) call) (λ x h. Stepped.Declares.returned h)
-declaring_told k b fr at f v (Some (s.NewRhs new)) =
+declaring_told : (k : Context) → HasBodies k → (fr : Frame) (at : Pos) (v : Target) (rhs : Option s.SRhs) →
+    Tells (Declares k fr.scope at v rhs) (j.declaring k fr at v rhs)
+declaring_told k b fr at v None = tells any_value
+declaring_told k b fr at v (Some (s.TermRhs a)) = tell_then (expected_told k b fr.scope v.ty a) (λ x h. tells (Stepped.Declares.value h))
+declaring_told k b fr at v (Some (s.CallRhs call)) = tell_so (calling_told k b fr.scope at (v ∷ []) call) (λ x h. Stepped.Declares.returned h)
+declaring_told k b fr at v (Some (s.NewRhs new)) =
     tell_obeys (same_type v.ty ty.Ref) v.at 3 (λ i. tell_so (creating_told k.world fr.scope at v.number new) (λ x h. Stepped.Declares.created (same_types v.ty ty.Ref i) h))
 
 setting_told : (k : Context) → HasBodies k → (sc : Scope) (xs : List Named) (rhs : s.SRhs) → Tells (Sets k sc xs rhs) (j.setting k sc xs rhs)
@@ -152,10 +185,10 @@ asserting_all_told k b sc (a ∷ rest) =
 
 mutual
   pub stepping_told : (k : Context) → HasBodies k → (d : ℕ) (fr : Frame) (a : s.SStmt) → Tells (Stepped.Stepped k d fr a) (stepping k d fr a)
-  stepping_told k b d fr (s.Var at f rhs) = tell_then (fresh_told fr f) (λ v h. tell_so (declaring_told k b fr at f v rhs) (λ x g. var h g))
+  stepping_told k b d fr (s.Var at f rhs) = tell_then (fresh_told fr f) (λ v h. tell_so (declaring_told k b fr at v rhs) (λ x g. var h g))
   stepping_told k b d fr (s.Assign xs rhs) = tell_so (setting_told k b fr.scope xs rhs) (λ x h. assign h)
   stepping_told k b d fr (s.CallTo xs a) =
-      tell_then (call_targets_told fr.scope [] xs) (λ vs h. tell_so (calling_told k b fr.scope _ vs a) (λ x g. call_to h g))
+      tell_then (call_targets_told fr.scope [] xs differ_none) (λ vs h. tell_so (calling_told k b fr.scope _ vs a) (λ x g. call_to (all_targets h) h.differ g))
   stepping_told k b d fr (s.Call a) = tell_so (calling_told k b fr.scope a.name.pos [] a) (λ x h. Stepped.call h)
   stepping_told k b d fr (s.Check w at a) = tell_so (checking_told k b fr.scope w at a) (λ x h. check h)
   stepping_told k b d fr (s.Fold f) = tell_then (folding_told k b fr.scope f) (λ x h. tells (folded h))

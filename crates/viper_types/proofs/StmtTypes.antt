@@ -25,7 +25,7 @@ use Rattle.viper_types.specs.Stepped.{Stepped, Blocked, SteppedAll, Branches, Ot
 use Rattle.viper_types.proofs.TermTypes.{same_some, Describes, Resolves, has_type, is_assertion}
 use Rattle.viper_types.proofs.GoodLists.{all_left, all_right}
 use Rattle.viper_types.proofs.Scopes.{Extends, extends_less, slice_get_at, numbers, core_scope, IsSound, sound_after, sound_hidden, declared_scope, hidden_scope, vars_after, same_scope}
-use Rattle.viper_types.proofs.StmtParts.{Stands, names_in, target_is, targets_are, no_targets, one_target, received, stays, all_stay, declares, call_is, call_scope, new_is, new_scope, place_is, fold_is}
+use Rattle.viper_types.proofs.StmtParts.{Stands, Takes, names_in, target_is, take_targets, no_targets, one_target, received, stays, all_stay, declares, call_is, call_scope, new_is, new_scope, place_is, fold_is}
 use Rattle.viper_types.proofs.SameTargets.{same_targets}
 
 -- a statement between two scopes
@@ -91,11 +91,10 @@ assignment_goes z (r.Sets.field {a = a} h h') l =
     let place = place_is (names_in z) h tt in
     record { stmt = g.writes place.receiver place.field (has_type (names_in z) h' (All-head HasLiterals a [] l)); scope = refl }
 
-targets_go : {k : Context} {m : g.Frame} {fr : Frame} {at : Pos} {vs : List Target} {xs : List Named} {call : s.SCall} {x : c.Stmt} → Stands k m fr →
-    r.AreTargets fr.scope [] xs vs → r.IsCall k fr.scope at vs call x → All HasLiterals call.args →
+targets_go : {k : Context} {m : g.Frame} {fr : Frame} {at : Pos} {vs : List Target} {call : s.SCall} {x : c.Stmt} → Stands k m fr →
+    Takes m (core_scope fr) vs → r.IsCall k fr.scope at vs call x → All HasLiterals call.args →
     Goes m (core_scope fr) (core_scope fr) x
-targets_go {m = m} {fr = fr} z into h l =
-    let taken = targets_are z into no_targets in
+targets_go {m = m} {fr = fr} z taken h l =
     record { stmt = call_is z h l (received taken); scope = call_scope (core_scope fr) h ∙ all_stay m.params fr z.sound taken.targets }
 
 check_goes : {k : Context} {m : g.Frame} {fr : Frame} {at : Pos} {a : t.Term} {w : Word} {x : c.Stmt} → Stands k m fr → r.Checks k fr.scope at a w x →
@@ -162,8 +161,8 @@ mutual
   steps {m = m} z {fr = fr} (r.var {f = f} {x = x} new h) sound more l =
       subst (λ sc. Goes m (core_scope fr) sc x) (sym (declared_scope fr f.name.name (declared_type f) _)) (var_goes (standing _ z sound more) more new h l)
   steps z (r.assign {xs = xs} {rhs = rhs} h) sound more l = assignment_goes (standing _ z sound more) h (all_right HasLiterals (target_terms xs) (rhs_terms rhs) l)
-  steps z (r.call_to into h) sound more l = targets_go (standing _ z sound more) into h l
-  steps z (r.call h) sound more l = targets_go (standing _ z sound more) r.no_more h l
+  steps z (r.call_to into differ h) sound more l = let stands = standing _ z sound more in targets_go stands (take_targets stands into differ) h l
+  steps z (r.call h) sound more l = targets_go (standing _ z sound more) no_targets h l
   steps z (r.check {a = a} h) sound more l = check_goes (standing _ z sound more) h (All-head HasLiterals a [] l)
   steps z (r.folded h) sound more l = record { stmt = g.folds (fold_is (names_in (standing _ z sound more)) h l); scope = refl }
   steps z (r.unfolded h) sound more l = record { stmt = g.unfolds (fold_is (names_in (standing _ z sound more)) h l); scope = refl }

@@ -18,6 +18,7 @@ use Rattle.viper_types.specs.Declaring.{Declared, locals}
 use Rattle.viper_types.specs.Program as r
 use Rattle.viper_types.specs.Program.{AreNamed, no_names, one_name, IsPredicateBody, IsPredicate, predicate_of, IsMethod, method_of, AreDeclared, no_decls, one_decl}
 use Rattle.viper_types.proofs.TermTypes.{same_some, HasPredicate, HasMethod, Describes}
+use Rattle.viper_types.proofs.BodyLaws.{numbered_is}
 use Rattle.viper_types.proofs.FormalScopes.{formals_vars}
 use Rattle.viper_types.proofs.StmtTypes.{type_is}
 use Rattle.viper_types.proofs.Assembled.{field_types, predicates_in, methods_in, body_in}
@@ -88,12 +89,8 @@ world_methods {w = w} (one_name i more) (one_decl {xs = xs} (r.method {q = q} h)
 
 -- ---- what stands at a number
 
-numbered_at : {X : Type 0} (m n : ℕ) (x : X) (o : Option X) → numbered m o ≡ Some (n, x) → (m ≡ n) × (o ≡ Some x)
-numbered_at m n x None h = absurd (cc)
-numbered_at m n x (Some y) h = let same = same_some h in (ap (λ z. z.0) same, ap (λ z. Some z.1) same)
-
 listed_at : {X : Type 0} (xs : List X) (m n : ℕ) (x : X) → numbered m (slice_get xs m) ≡ Some (n, x) → slice_get xs n ≡ Some x
-listed_at xs m n x h = let is = numbered_at m n x (slice_get xs m) h in subst (λ k. slice_get xs k ≡ Some x) is.0 is.1
+listed_at xs m n x h = let is = numbered_is m n x (slice_get xs m) h in subst (λ k. slice_get xs k ≡ Some x) is.0 is.1
 
 field_there : (us : List Ty) (o : Option Role) (n : ℕ) (u : Ty) → field_in us o ≡ Some (n, u) → slice_get us n ≡ Some u
 field_there us None n u h = absurd (cc)

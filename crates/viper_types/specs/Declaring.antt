@@ -1,4 +1,6 @@
--- The typing of declarations and programs up to the first broken rule: what the code computes.
+-- The walk through a file: what it is, or the first rule that it breaks. First the names of the shared space are gone through,
+-- and then the declarations from first to last, each from left to right. Which program a file is, without any order, is said by
+-- the judgement in `Program`.
 use Rattle.std.specs.Prelude.{ℕ, Bool, true, false, not, ◌||◌, Option, Some, None, List, [], ◌∷◌, ◌++◌, length, map, is_some, if◌then◌else◌}
 use Rattle.vb_base.specs.declared.places.Pos.{Pos}
 use Rattle.vb_value.specs.Value.{same_type}
@@ -54,7 +56,7 @@ with_decls w (a ∷ rest) = with_decls (with_decl w a) rest
 abbrev pub is_new : World → d.Decl → Bool
 is_new w a = not (is_some (find w.roles (decl_name a).name))
 
--- all names of the shared space are different
+-- all names of the shared space are different (rule 2)
 abbrev pub naming : World → List d.Decl → Judged World
 naming w [] = Found w
 naming w (a ∷ rest) = obeys (is_new w a) (decl_name a).pos 2 (naming (with_decl w a) rest)
@@ -64,7 +66,7 @@ naming w (a ∷ rest) = obeys (is_new w a) (decl_name a).pos 2 (naming (with_dec
 abbrev pub no_frame : Frame
 no_frame = record { vars = []; scope = [] }
 
--- a formal, which is a Perm only where that is allowed
+-- a formal: its name is new (2), its word is a type (3), and it is a Perm only where that is allowed (13)
 abbrev pub formal : Bool → Frame → Formal → Judged Frame → Judged Frame
 formal allows_perm fr f go =
     obeys (not (is_some (find fr.scope f.name.name))) f.name.pos 2 (obeys (is_some (type_of f.ty)) f.name.pos 3 (
@@ -193,7 +195,7 @@ abbrev pub assembled : p.Program → List Declared → p.Program
 assembled g [] = g
 assembled g (x ∷ xs) = assembled (with_declared g x) xs
 
--- a file
+-- a file is this program, or breaks this rule first
 abbrev pub program_typing : d.SourceProgram → Judged p.Program
 program_typing source =
     then_typed (naming no_world source.decls) (λ w. then_typed (decls_typing w (bodies_of w source.decls) source.decls) (λ xs.

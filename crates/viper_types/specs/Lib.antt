@@ -3,14 +3,11 @@ pub mod Context
 pub mod Operators
 pub mod Typing
 pub mod Typed
-pub mod Walk
 pub mod Answers
 pub mod Frame
 pub mod Target
 pub mod Stepping
 pub mod Stepped
-pub mod StmtWalk
 pub mod Declaring
 pub mod Program
-pub mod ProgramWalk
 pub mod Checked

@@ -1,6 +1,6 @@
 -- The typing of statements (Viper tutorial, "Statements"): which statement of the core a statement is, in a block of which
 -- depth, among which variables.
-use Rattle.std.specs.Prelude.{◌≡◌, ℕ, ◌+◌, true, false, nat_le, Option, Some, None, List, [], ◌∷◌, ◌++◌, length}
+use Rattle.std.specs.Prelude.{◌≡◌, ◌≢◌, ℕ, ◌+◌, true, false, nat_le, Option, Some, None, List, [], ◌∷◌, AllPairs, length}
 use Rattle.std.specs.List.{range_with_len}
 use Rattle.vb_base.specs.declared.places.Pos.{Pos}
 use Rattle.vb_value.specs.declared.values.Ty.{Ty}
@@ -19,7 +19,7 @@ use Rattle.viper_types.specs.Typing.{Scope, Located, start}
 use Rattle.viper_types.specs.Typed.{Typed, TypedAll, Permission, Asserts}
 use Rattle.viper_types.specs.Frame.{Frame, type_of, declared_in_arms, declared_in_arm, frame_after, with_hidden}
 use Rattle.viper_types.specs.Target.{targets}
-use Rattle.viper_types.specs.Stepping.{Target, is_target, numbers_in, is_listed, ref_variables, last_place, first_place, Branch, nested, arm_count, opening_of}
+use Rattle.viper_types.specs.Stepping.{Target, numbers_in, ref_variables, last_place, first_place, Branch, nested, arm_count, opening_of}
 
 -- a new variable: its name is not visible yet
 pub data IsFresh (fr : Frame) (f : Formal) : Target → Type 0 where
@@ -29,11 +29,10 @@ pub data IsFresh (fr : Frame) (f : Formal) : Target → Type 0 where
 pub data IsTarget (sc : Scope) (x : Named) : Target → Type 0 where
   target : {v : Variable} → find sc x.name ≡ Some v → v.is_parameter ≡ false → IsTarget sc x (record { number = v.number; ty = v.ty; at = x.pos })
 
--- such variables, none of them twice, after those that stand before
-pub data AreTargets (sc : Scope) : List Target → List Named → List Target → Type 0 where
-  no_more : {before : List Target} → AreTargets sc before [] before
-  one_more : {before : List Target} {x : Named} {xs : List Named} {v : Target} {vs : List Target} →
-      IsTarget sc x v → is_target v.number before ≡ false → AreTargets sc (before ++ v ∷ []) xs vs → AreTargets sc before (x ∷ xs) vs
+-- such variables
+pub data AreTargets (sc : Scope) : List Named → List Target → Type 0 where
+  no_more : AreTargets sc [] []
+  one_more : {x : Named} {xs : List Named} {v : Target} {vs : List Target} → IsTarget sc x v → AreTargets sc xs vs → AreTargets sc (x ∷ xs) (v ∷ vs)
 
 -- targets for the returns of a method
 pub data TakeReturns : List Target → List Ty → Type 0 where
@@ -45,16 +44,15 @@ pub data IsCall (k : Context) (sc : Scope) (at : Pos) (vs : List Target) (call :
   call_of : {n : ℕ} {m : MethodSignature} {es : e.Exprs} → method_at k.world call.name.name ≡ Some (n, m) → TypedAll k sc (t.terms call.args) es m.params →
       TakeReturns vs m.returns → IsCall k sc at vs call (c.Call at (numbers_in vs) n es)
 
--- named fields, none of them twice, after those that stand before
-pub data AreFields (w : World) : List ℕ → List Named → List ℕ → Type 0 where
-  no_fields : {before : List ℕ} → AreFields w before [] before
-  one_field : {before : List ℕ} {f : Named} {fs : List Named} {n : ℕ} {u : Ty} {ns : List ℕ} →
-      field_at w f.name ≡ Some (n, u) → is_listed n before ≡ false → AreFields w (before ++ n ∷ []) fs ns → AreFields w before (f ∷ fs) ns
+-- named fields
+pub data AreFields (w : World) : List Named → List ℕ → Type 0 where
+  no_fields : AreFields w [] []
+  one_field : {f : Named} {fs : List Named} {n : ℕ} {u : Ty} {ns : List ℕ} → field_at w f.name ≡ Some (n, u) → AreFields w fs ns → AreFields w (f ∷ fs) (n ∷ ns)
 
--- the fields of a `new`: those that it names, or with `*` all
+-- the fields of a `new`: those that it names, no two of which are the same, or with `*` all
 pub data ChoosesFields (w : World) (new : s.SNew) : List ℕ → Type 0 where
   every : new.every ≡ true → ChoosesFields w new (range_with_len 0 (length w.fields))
-  named : {ns : List ℕ} → new.every ≡ false → AreFields w [] new.fields ns → ChoosesFields w new ns
+  named : {ns : List ℕ} → new.every ≡ false → AreFields w new.fields ns → AllPairs (λ x y. x ≢ y) ns → ChoosesFields w new ns
 
 -- a creation of an object
 pub data IsNew (w : World) (sc : Scope) (at : Pos) (n : ℕ) (new : s.SNew) : c.Stmt → Type 0 where
@@ -105,7 +103,7 @@ mutual
         IsFresh fr f v → Declares k fr.scope at v rhs x → Stepped k d fr (s.Var at f rhs) x
     assign : {d : ℕ} {fr : Frame} {xs : List Named} {rhs : s.SRhs} {x : c.Stmt} → Sets k fr.scope xs rhs x → Stepped k d fr (s.Assign xs rhs) x
     call_to : {d : ℕ} {fr : Frame} {xs : List Named} {vs : List Target} {call : s.SCall} {x : c.Stmt} →
-        AreTargets fr.scope [] xs vs → IsCall k fr.scope (first_place xs) vs call x → Stepped k d fr (s.CallTo xs call) x
+        AreTargets fr.scope xs vs → AllPairs (λ x y. x ≢ y) (numbers_in vs) → IsCall k fr.scope (first_place xs) vs call x → Stepped k d fr (s.CallTo xs call) x
     call : {d : ℕ} {fr : Frame} {call : s.SCall} {x : c.Stmt} → IsCall k fr.scope call.name.pos [] call x → Stepped k d fr (s.Call call) x
     check : {d : ℕ} {fr : Frame} {w : Word} {at : Pos} {a : t.Term} {x : c.Stmt} → Checks k fr.scope at a w x → Stepped k d fr (s.Check w at a) x
     folded : {d : ℕ} {fr : Frame} {f : s.SFold} {x : c.FoldStmt} → IsFold k fr.scope f x → Stepped k d fr (s.Fold f) (c.Fold x)

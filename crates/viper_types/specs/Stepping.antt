@@ -1,4 +1,7 @@
--- The typing of statements up to the first broken rule: what the code computes.
+-- The walk through statements: what a statement is, or the first rule that it breaks. In a call the targets come first, then
+-- the method's name (rule 1), the arguments, their number (9), the number of targets (10), the types of the targets and then
+-- those of the arguments (3). In a `new` the target comes first, then the fields in order. A `var` tries the rules 2 and 3 on
+-- its name, before what it is given. Which statement it is, without any order, is said by the judgement in `Stepped`.
 use Rattle.std.specs.Prelude.{ℕ, ◌+◌, ◌==◌, Bool, true, false, not, nat_le, Option, Some, None, List, [], ◌∷◌, ◌++◌, length, is_some, if◌then◌else◌}
 use Rattle.std.specs.List.{range_with_len}
 use Rattle.vb_base.specs.declared.places.Pos.{Pos}
@@ -25,17 +28,17 @@ pub record Target : Type 0 where
   pub ty : Ty
   pub at : Pos
 
--- the variable that a declaration makes
+-- the variable that a declaration makes: a name that is visible breaks rule 2, a word that is no type rule 3
 abbrev pub fresh : Frame → Formal → Judged Target
 fresh fr f =
     obeys (not (is_some (find fr.scope f.name.name))) f.name.pos 2 (obeys (is_some (type_of f.ty)) f.name.pos 3
     (Found (record { number = length fr.vars; ty = declared_type f; at = f.name.pos })))
 
--- a visible variable that is no parameter
+-- a visible variable (rule 1) that is no parameter (8)
 abbrev pub target : Scope → Named → Judged Target
 target sc x = known (find sc x.name) x.pos 1 (λ v. obeys (not v.is_parameter) x.pos 8 (Found (record { number = v.number; ty = v.ty; at = x.pos })))
 
--- the same, of type Ref
+-- the same, of type Ref (3)
 abbrev pub ref_target : Scope → Named → Judged Target
 ref_target sc x =
     known (find sc x.name) x.pos 1 (λ v. obeys (same_type v.ty ty.Ref) x.pos 3 (obeys (not v.is_parameter) x.pos 8 (Found (record { number = v.number; ty = v.ty; at = x.pos }))))
@@ -44,7 +47,7 @@ abbrev pub is_target : ℕ → List Target → Bool
 is_target n [] = false
 is_target n (v ∷ vs) = if n == v.number then true else is_target n vs
 
--- the targets of a call, none of them twice
+-- the targets of a call, in order, none of them twice (11)
 abbrev pub call_targets : Scope → List Target → List Named → Judged (List Target)
 call_targets sc so_far [] = Found so_far
 call_targets sc so_far (x ∷ xs) = then_typed (target sc x) (λ v. obeys (not (is_target v.number so_far)) x.pos 11 (call_targets sc (so_far ++ v ∷ []) xs))
@@ -70,7 +73,7 @@ calling k sc at vs call =
     known (method_at k.world call.name.name) call.name.pos 1 (λ m. then_typed (typing_all k sc (t.terms call.args)) (λ xs.
     called at vs call m.0 m.1.params m.1.returns xs))
 
--- a call whose target is a field, which no call may have
+-- a call whose target is a field, which no call may have (10)
 abbrev pub calling_into_field : Context → Scope → s.SCall → Judged c.Stmt
 calling_into_field k sc call =
     known (method_at k.world call.name.name) call.name.pos 1 (λ m. then_typed (typing_all k sc (t.terms call.args)) (λ xs.
@@ -80,7 +83,7 @@ abbrev pub is_listed : ℕ → List ℕ → Bool
 is_listed n [] = false
 is_listed n (m ∷ ms) = if n == m then true else is_listed n ms
 
--- the fields of a `new`, none of them twice
+-- the fields of a `new`, in order, each known (1) and none of them twice (14)
 abbrev pub new_fields : World → List ℕ → List Named → Judged (List ℕ)
 new_fields w so_far [] = Found so_far
 new_fields w so_far (f ∷ fs) = known (field_at w f.name) f.pos 1 (λ n. obeys (not (is_listed n.0 so_far)) f.pos 14 (new_fields w (so_far ++ n.0 ∷ []) fs))
@@ -112,11 +115,11 @@ last_place x [] = x.pos
 last_place x (f ∷ fs) = last_place f fs
 
 -- `var x: T := ..`
-abbrev pub declaring : Context → Frame → Pos → Formal → Target → Option s.SRhs → Judged c.Stmt
-declaring k fr at f v None = Found (c.Var at v.number None)
-declaring k fr at f v (Some (s.TermRhs a)) = then_typed (expected k fr.scope v.ty a) (λ x. Found (c.Var at v.number (Some x)))
-declaring k fr at f v (Some (s.CallRhs call)) = calling k fr.scope at (v ∷ []) call
-declaring k fr at f v (Some (s.NewRhs new)) = obeys (same_type v.ty ty.Ref) v.at 3 (creating k.world fr.scope at v.number new)
+abbrev pub declaring : Context → Frame → Pos → Target → Option s.SRhs → Judged c.Stmt
+declaring k fr at v None = Found (c.Var at v.number None)
+declaring k fr at v (Some (s.TermRhs a)) = then_typed (expected k fr.scope v.ty a) (λ x. Found (c.Var at v.number (Some x)))
+declaring k fr at v (Some (s.CallRhs call)) = calling k fr.scope at (v ∷ []) call
+declaring k fr at v (Some (s.NewRhs new)) = obeys (same_type v.ty ty.Ref) v.at 3 (creating k.world fr.scope at v.number new)
 
 -- `x := ..`
 abbrev pub assigning : Context → Scope → Named → s.SRhs → Judged c.Stmt
@@ -190,7 +193,7 @@ opening_of (s.block at ss) = at
 abbrev mutual
   -- a statement in a block of this depth
   pub stepping : Context → ℕ → Frame → s.SStmt → Judged c.Stmt
-  stepping k d fr (s.Var at f rhs) = then_typed (fresh fr f) (λ v. declaring k fr at f v rhs)
+  stepping k d fr (s.Var at f rhs) = then_typed (fresh fr f) (λ v. declaring k fr at v rhs)
   stepping k d fr (s.Assign xs rhs) = setting k fr.scope xs rhs
   stepping k d fr (s.CallTo xs call) = then_typed (call_targets fr.scope [] xs) (λ vs. calling k fr.scope (first_place xs) vs call)
   stepping k d fr (s.Call call) = calling k fr.scope call.name.pos [] call
@@ -204,7 +207,7 @@ abbrev mutual
       then_typed (expected k fr.scope ty.Bool a) (λ x. then_typed (asserting_all k fr.scope is) (λ xs. then_typed (blocking k (d + 1) fr b) (λ ss.
       Found (c.While (c.loop at x xs ss (opening_of b) (targets (length fr.vars) ss))))))
 
-  -- a block of this depth
+  -- a block of this depth, which is at most 128 (15)
   pub blocking : Context → ℕ → Frame → s.SBlock → Judged c.Stmts
   blocking k d fr (s.block at ss) = obeys (nat_le d 128) at 15 (then_typed (stepping_all k d fr ss) as_block)
 

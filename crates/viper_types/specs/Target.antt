@@ -1,8 +1,14 @@
--- The targets of a loop: the variables declared outside it that its body assigns, in ascending order.
-use Rattle.std.specs.Prelude.{ℕ, List, [], ◌∷◌, nat_lt, if◌then◌else◌}
+-- The targets of a loop, and how they are gathered from a body in which each loop lists its own.
+use Rattle.std.specs.Prelude.{ℕ, List, [], ◌∷◌, nat_lt, filter, if◌then◌else◌}
 use Rattle.std.specs.Ordering.{nat_cmp}
 use Rattle.std.specs.BTreeSet.{insert_key}
+use Rattle.std.specs.List.{range_with_len}
+use Rattle.viper_core.specs.Scope.{some_assigns}
 use Rattle.viper_core.specs.Stmt as s
+
+-- the variables that the body of a loop assigns and that are declared before it, where there are so many, in ascending order
+abbrev pub targets : ℕ → s.Stmts → List ℕ
+targets count body = filter (λ x. some_assigns x body) (range_with_len 0 count)
 
 -- one more target, where it is a variable below this number
 abbrev pub with_target : ℕ → List ℕ → ℕ → List ℕ
@@ -35,6 +41,6 @@ abbrev mutual
   targets_from below so_far s.skip = so_far
   targets_from below so_far (s.next a rest) = targets_from below (targets_of_stmt below so_far a) rest
 
--- the targets of a loop in front of which there are so many variables
-abbrev pub targets : ℕ → s.Stmts → List ℕ
-targets below body = targets_from below [] body
+-- what a body assigns below this number
+abbrev pub gathered : ℕ → s.Stmts → List ℕ
+gathered below body = targets_from below [] body

@@ -1,5 +1,6 @@
--- The typing of terms up to the first broken rule: what the code computes. The judgement that a reader wants is in `Typed`,
--- and the list of all broken rules in `Walk`; both are tied to this function by laws.
+-- The walk through terms: what a term is, or the first rule that it breaks. The parts of a term come before the term itself,
+-- from left to right; only the rules 4, 5, 6, 12 and 16 are tried on arrival, before the parts. At one node the rules are tried
+-- by number. Which expression a term is, without any order, is said by the judgement in `Typed`.
 use Rattle.std.specs.Prelude.{ℕ, Bool, true, false, if◌then◌else◌, pos, Option, Some, None, List, [], ◌∷◌}
 use Rattle.vb_base.specs.declared.places.Pos.{Pos}
 use Rattle.vb_value.specs.Value.{same_type}

@@ -1,6 +1,7 @@
 //! Laws of the definitions, each as the contract of a function that does nothing.
 
-ghost use Rattle.std.specs.Prelude.{◌≡◌, ◌↔◌, ℕ, []};
+ghost use Rattle.std.specs.Prelude.{◌≡◌, ◌⊎◌, ℕ};
+ghost use Rattle.vb_base.specs.declared.places.Pos.{Pos};
 ghost use Rattle.vb_value.specs.declared.values.Ty.{Ty};
 ghost use Rattle.viper_core.specs.Expr as e;
 ghost use Rattle.viper_core.specs.Formed.{IsTypedProgram};
@@ -12,9 +13,9 @@ ghost use Rattle.viper_syntax.specs.Term as t;
 ghost use Rattle.viper_types.specs.Context.{Context};
 ghost use Rattle.viper_types.specs.Frame.{Frame};
 ghost use Rattle.viper_syntax.specs.Good.{IsGoodSource};
-ghost use Rattle.viper_types.specs.Outcome.{faults_of};
+ghost use Rattle.viper_types.specs.Declaring.{program_typing};
+ghost use Rattle.viper_types.specs.Outcome.{Broken};
 ghost use Rattle.viper_types.specs.Program.{IsProgram};
-ghost use Rattle.viper_types.specs.ProgramWalk.{walk_program};
 ghost use Rattle.viper_types.specs.Stepped.{Stepped};
 ghost use Rattle.viper_types.specs.Typed.{Typed, Asserts};
 ghost use Rattle.viper_types.specs.Typing.{Scope};
@@ -38,9 +39,10 @@ pub fn one_program()
     ensures { (source : d.SourceProgram) (q : p.Program) (r : p.Program) → IsProgram source q → IsProgram source r → q ≡ r }
 {}
 
-/// A file is a program exactly if it breaks no rule.
-pub fn typed_without_faults()
-    ensures { (source : d.SourceProgram) → (faults_of (walk_program source) ≡ []) ↔ ((q : p.Program) × IsProgram source q) }
+/// A file is a program, or its walk tells a broken rule, and never both.
+pub fn typed_or_broken()
+    ensures either { (source : d.SourceProgram) → ((q : p.Program) × IsProgram source q) ⊎ ((at : Pos) × (n : ℕ) × (program_typing source ≡ Broken at n)) }
+    ensures not_both { (source : d.SourceProgram) (q : p.Program) (at : Pos) (n : ℕ) → IsProgram source q → program_typing source ≡ Broken at n → ⊥ }
 {}
 
 /// The program that a file is, is formed, but for its weight.

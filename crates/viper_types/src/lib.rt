@@ -1,6 +1,6 @@
 //! The typing of Viper: the one typed program that a tree is, or the first rule that it breaks.
 //!
-//! `specs/` has the typing judgement, the walk over all broken rules, and the functions that the code computes.
+//! `specs/` has the typing judgement, and the walk that tells the first broken rule. Laws tie them.
 #![tactic(auto)]
 
 mod assertions;

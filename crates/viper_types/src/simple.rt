@@ -2,7 +2,6 @@
 ghost use Rattle.std.specs.Prelude.{◌≡◌, OnOk, false};
 ghost use Rattle.viper_core.specs.Expr as e;
 ghost use Rattle.viper_core.specs.View.{expr_of, fold_of as core_fold_of, stmt_of};
-ghost use Rattle.viper_syntax.specs.declared.stmts.Formal.{Formal};
 ghost use Rattle.viper_syntax.specs.View.{fold_of, rhs_of, term_of};
 ghost use Rattle.viper_types.specs.Answers.{Answers, context_of, frame_of, place_of, target_of, typing_of, world_of, lent_rhs_of};
 ghost use Rattle.viper_types.specs.Frame as f;
@@ -97,7 +96,7 @@ pub fn declaring(
     target: Target,
     rhs: Option<&SRhs>,
 ) -> Result<Stmt, TypeFault>
-    ensures { (f : Formal) → Answers stmt_of (s.declaring (context_of context.now) (frame_of frame.now) at f (target_of target) (lent_rhs_of rhs.entry)) result }
+    ensures { Answers stmt_of (s.declaring (context_of context.now) (frame_of frame.now) at (target_of target) (lent_rhs_of rhs.entry)) result }
 {
     let scope = &frame.scope;
     match rhs {
@@ -128,7 +127,7 @@ pub fn variable(
     rhs: Option<&SRhs>,
 ) -> Result<Stmt, TypeFault>
     ensures after { OnOk result (frame_of frame.new ≡ f.with_variable (frame_of frame.old) formal.now.name.name (f.declared_type formal.now) false) }
-    ensures answers { Answers stmt_of (then_typed (s.fresh (frame_of frame.old) formal.now) (λ v. s.declaring (context_of context.now) (frame_of frame.old) at formal.now v (lent_rhs_of rhs.entry))) result }
+    ensures answers { Answers stmt_of (then_typed (s.fresh (frame_of frame.old) formal.now) (λ v. s.declaring (context_of context.now) (frame_of frame.old) at v (lent_rhs_of rhs.entry))) result }
 {
     let target = frame.fresh(formal)?;
     let stmt = declaring(alloc, context, frame, at, target, rhs)?;

@@ -10,7 +10,7 @@ use viper_core::Stmt;
 
 /// The variables below this number that the statements assign, in ascending order.
 pub(crate) fn targets(alloc: Global, below: u32, body: &[Stmt]) -> Result<Vec<u32>, Memory>
-    ensures { IfOk result (λ v. v.items ≡ t.targets below (stmts_of body.now)) }
+    ensures { IfOk result (λ v. v.items ≡ t.gathered below (stmts_of body.now)) }
 {
     let mut found = BTreeSet::new(alloc);
     add_from(&mut found, below, body)?;

@@ -27,7 +27,7 @@ pub returns-in_err-typed-clause-refusal : goal.returns-in_err-typed-clause-refus
 returns-in_err-typed-clause-refusal c r is_r =
     let p = err_from_is_err_and c.from_residual-in_err-typed.result c.from_residual-in_err-typed.ensures.1 in
     type_refusal c.args.bytes.now c.in_ok-tokens.tokens.items (tree.program_of c.in_ok-source.source) c.in_err-typed.field-0.0 r c.requires
-    c.in_ok-tokens.ensures.tokens c.in_ok-source.ensures.found c.in_err-typed.ensures.first (sym p.2 ∙ error_is p.1 is_r)
+    c.in_ok-tokens.ensures.tokens c.in_ok-source.ensures.found c.in_err-typed.ensures.refused (sym p.2 ∙ error_is p.1 is_r)
 
 pub returns-in_default-clause-refusal : goal.returns-in_default-clause-refusal
 returns-in_default-clause-refusal c r is_r =

@@ -1,5 +1,5 @@
 -- The variants that hold blocks.
-use Rattle.std.proofs.Common.{◌∙◌, ap, sym, ℕ, List, length, map}
+use Rattle.std.proofs.Common.{◌∙◌, ap, sym, ℕ, ◌+◌, List, length, map}
 use Rattle.viper_core.specs.Stmt as plain
 use Rattle.viper_core.specs.View as core
 use Rattle.viper_core.proofs.ViewLaws.{stmts_of-map}
@@ -11,7 +11,10 @@ use Rattle.viper_types.specs.Context.{nowhere}
 use Rattle.viper_types.specs.Frame.{frame_after, declared_in_arms, declared_in_else, with_hidden}
 use Rattle.viper_types.specs.Outcome.{Found, known, then_typed}
 use Rattle.viper_types.specs.Stepping.{nested, stepping, stepping_all}
-use Rattle.viper_types.specs.Target.{targets}
+use Rattle.viper_types.specs.Target.{gathered, targets}
+use Rattle.viper_types.proofs.Loops.{block_loops}
+use Rattle.viper_types.proofs.SameTargets.{gathered_targets}
+use Rattle.viper_types.proofs.Tells.{told}
 use Rattle.viper_types.proofs.Steps.{at_error, refuses_along, answers_along, failed}
 use Rattle.viper_types.proofs.StmtLaws.{on_ok, on_ok_too, arm_count-length, hidden_twice, if_arms_refused, if_arms, loop_typed, block_typed}
 use Rattle.viper_types.proofs.statements.+statements.Goals as goal
@@ -29,7 +32,9 @@ iteration-returns-clause-answers t c =
     let before = length c.args.frame.now.vars.items in
     let body = core.stmts_of c.in_ok-stmts.stmts.items in
     let turns = λ (ss : plain.Stmts) (vs : List ℕ). plain.While (plain.loop c.args.at (core.expr_of c.args.terms.0) (core.assertions_of c.args.terms.1.items) ss c.args.body.now.at vs) in
-    let assigned = ap (λ n. targets n body) (sym c.in_ok-below.ensures) ∙ ap (λ ss. targets c.in_ok-below.below (core.stmts_of ss)) (sym c.deref.ensures.value) ∙ sym c.in_ok-targets.ensures in
+    let loops = told (block_loops (context_of c.args.context.now) (c.args.depth + 1) (frame_of c.args.frame.now) (block_of c.args.body.now)) c.in_ok-stmts.ensures.answers in
+    let assigned = sym (gathered_targets before body loops) ∙ ap (λ n. gathered n body) (sym c.in_ok-below.ensures) ∙
+    ap (λ ss. gathered c.in_ok-below.below (core.stmts_of ss)) (sym c.deref.ensures.value) ∙ sym c.in_ok-targets.ensures in
     ap (λ j. then_typed j (λ ss. Found (turns ss (targets before ss)))) c.in_ok-stmts.ensures.answers ∙
     ap (λ vs. Found (turns body vs)) assigned ∙ ap Found (sym c.loop_statement.ensures)
 
