@@ -1,3 +1,4 @@
 pub mod Cuts
 pub mod OneProgram
+pub mod TypedRuns
 pub mod ViewLaws

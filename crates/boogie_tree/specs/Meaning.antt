@@ -131,3 +131,8 @@ pub record BoogieFails (program : t.BProgram) (name : List ℕ) (label : Label) 
   pub choices : List BChoice
   pub left : List BChoice
   pub fails : brun procedure.body environment choices ≡ Failed label left
+
+-- no run of a procedure, from any values of its locals and by any choices, is Wrong
+abbrev pub NeverWrong : t.BProgram → Type 0
+NeverWrong program = (number : ℕ) (procedure : t.Proc) (environment : List BScalar) (choices : List BChoice) →
+    slice_get program number ≡ Some procedure → IsEnvironment procedure.locals environment → brun procedure.body environment choices ≡ Wrong → ⊥

@@ -7,6 +7,6 @@ mod laws;
 mod prelude;
 mod trees;
 
-pub use laws::one_program;
+pub use laws::{one_program, typed_runs_are_never_wrong};
 pub use prelude::PRELUDE;
 pub use trees::{BBase, BExpr, BOp, BProgram, BStmt, Local, Proc};
