@@ -2,7 +2,6 @@
 use Rattle.std.proofs.Common.{◌≡◌, refl, sym, ap, subst, ◌∙◌, ℕ, zero, ◌-◌, ◌⊎◌, inl, inr, List, [], ◌∷◌, ◌++◌, length, Err}
 use Rattle.std.proofs.lemmas.List.{append-nil}
 use Rattle.vb_base.specs.declared.places.Pos.{Pos}
-use Rattle.vb_base.specs.Place.{IsPlace}
 use Rattle.viper_syntax.specs.declared.tokens.Token.{Token}
 use Rattle.viper_syntax.specs.Decl as d
 use Rattle.viper_parse.specs.declared.parts.Stop.{Stop}
@@ -13,7 +12,7 @@ use Rattle.viper_parse.specs.Grammar.{rule}
 use Rattle.viper_parse.specs.Spells.{Derives, Spells}
 use Rattle.viper_parse.specs.Greedy.{Reads, SameFirst, token, end}
 use Rattle.viper_parse.specs.Whole.{FailsWhole, RefusesWhole}
-use Rattle.viper_parse.specs.Answers.{IsProgram, place_at, Gives, Refuses, fault_of}
+use Rattle.viper_parse.specs.Answers.{IsProgram, GoesWrong, place_at, Gives, Refuses, fault_of}
 use Rattle.viper_parse.proofs.Reading.{derivation, one_reading, start}
 use Rattle.viper_parse.proofs.Whole.{split, place_of, count, left_over, whole_fails}
 use Rattle.viper_parse.proofs.Complete.{complete}
@@ -64,15 +63,19 @@ refuses_there ts last (stop.Before r) h =
     let there : At (q.front ++ r.now) = ap (λ n. place_at (q.front ++ r.now) n last) (count q.front r.now) ∙ next_place q.front r.now last in
     (i, place_of IsProgram (λ l h. (h.0.decls, complete h.1)) (λ l ds h. (record { decls = ds }, h)) ts r.now h, sym (subst At (sym q.left) there))
 
--- each list of tokens spells a program, or has a place where it goes wrong
+-- each list of tokens spells a program, or spells none and has a place where it goes wrong
 
-place_for : {ts : List Token} (r : List Token) → FailsWhole ts r → (i : ℕ) × IsPlace IsProgram ts i
-place_for {ts = ts} r f = (length ts - length r, place_of IsProgram (λ l h. (h.0.decls, complete h.1)) (λ l ds h. (record_of ds, h)) ts r f)
+goes_wrong_there : {ts : List Token} (r : List Token) → FailsWhole ts r → GoesWrong ts
+goes_wrong_there {ts = ts} r f = record {
+  none = λ p. none_spelled f p.0 p.1;
+  at = length ts - length r;
+  place = place_of IsProgram (λ l h. (h.0.decls, complete h.1)) (λ l ds h. (record_of ds, h)) ts r f;
+}
 
-by_answer : {ts : List Token} → Answer v.decls (rule (g.Program [])) ts → IsProgram ts ⊎ ((i : ℕ) × IsPlace IsProgram ts i)
+by_answer : {ts : List Token} → Answer v.decls (rule (g.Program [])) ts → IsProgram ts ⊎ GoesWrong ts
 by_answer (reads ds [] h) = inl (record_of ds, spelled h)
-by_answer (reads ds (k ∷ us) h) = inr (place_for (k ∷ us) (left_over h k us refl))
-by_answer {ts = ts} (goes_wrong r f) = inr (place_for r (whole_fails {ds = []} (start (rule (g.Program [])) ts) f))
+by_answer (reads ds (k ∷ us) h) = inr (goes_wrong_there (k ∷ us) (left_over h k us refl))
+by_answer {ts = ts} (goes_wrong r f) = inr (goes_wrong_there r (whole_fails {ds = []} (start (rule (g.Program [])) ts) f))
 
-pub some_answer : (ts : List Token) → IsProgram ts ⊎ ((i : ℕ) × IsPlace IsProgram ts i)
+pub some_answer : (ts : List Token) → IsProgram ts ⊎ GoesWrong ts
 some_answer ts = by_answer (answered (g.Program []) ts)

@@ -16,6 +16,12 @@ use Rattle.viper_syntax.specs.declared.faults.ParseFault.TheVariants as fault
 abbrev pub IsProgram : List Token → Type 0
 IsProgram ts = (p : d.SourceProgram) × Spells ts p
 
+-- the tokens spell no program; the number of the first one with which they begin none, or that of all tokens
+pub record GoesWrong (ts : List Token) : Type 0 where
+  pub none : IsProgram ts → ⊥
+  pub at : ℕ
+  pub place : IsPlace IsProgram ts at
+
 -- the place of the token of this number, or the end where the tokens have no such token
 abbrev pub place_at : List Token → ℕ → Pos → Pos
 place_at [] i end = end

@@ -5,7 +5,7 @@ ghost use Rattle.viper_syntax.specs.Decl as d;
 ghost use Rattle.viper_syntax.specs.View.{program_of};
 ghost use Rattle.viper_syntax.specs.Good.{IsGoodSource};
 ghost use Rattle.viper_syntax.specs.Lexed.{IsWellFormed};
-ghost use Rattle.viper_parse.specs.Answers.{IsProgram, Gives, Refuses, place_at, fault_of};
+ghost use Rattle.viper_parse.specs.Answers.{IsProgram, GoesWrong, Gives, Refuses, place_at, fault_of};
 ghost use Rattle.viper_parse.specs.Spells.{Spells};
 
 use crate::decls::declarations;
@@ -68,7 +68,7 @@ pub fn one_place()
     ensures { (ts : List Token) (i j : ℕ) → IsPlace IsProgram ts i → IsPlace IsProgram ts j → i ≡ j }
 {}
 
-/// Each list of tokens spells a program or goes wrong at a place.
+/// Each list of tokens spells a program, or spells none and goes wrong at a place.
 pub fn some_answer()
-    ensures { (ts : List Token) → IsProgram ts ⊎ ((i : ℕ) × IsPlace IsProgram ts i) }
+    ensures { (ts : List Token) → IsProgram ts ⊎ GoesWrong ts }
 {}
