@@ -1,5 +1,5 @@
 -- What the parts of a call, one after the other, make of it.
-use Rattle.std.proofs.Common.{◌≡◌, ◌⊎◌, inl, inr, ◌∙◌, ◌<◌, ℕ, List, [], ◌∷◌, length, Option, Some, None, Result, Err, refl, sym, subst}
+use Rattle.std.proofs.Common.{◌≡◌, ◌⊎◌, inl, inr, ◌∙◌, ◌<◌, ℕ, List, [], ◌∷◌, length, Option, Some, None, Result, Ok, Err, refl, sym, subst}
 use Rattle.vb_outer.specs.Faults.{Rose}
 use Rattle.vb_outer.specs.Shelf.{Files, IsFile, IsWhole, IsLonger}
 use Rattle.vb_outer.specs.Sink.{Appends}
@@ -113,3 +113,10 @@ gives_refused r q t is gives = subst (λ u. GivesRefusal r (Err u)) is gives
 
 pub gives_no_text : (q : Refusal) (t : Trouble) → t ≡ trouble.Refused q → GivesText (Err t) → ⊥
 gives_no_text q t is gives = subst (λ u. GivesText (Err u)) is gives
+
+-- a file is not missing where it gave a text, or was refused
+pub text_is_no_fault : {T : Type 0} (text : T) → Ok text ≡ Err trouble.Read → ⊥
+text_is_no_fault text same = absurd (cc)
+
+pub refusal_is_no_fault : {T : Type 0} (q : Refusal) (t : Trouble) → t ≡ trouble.Refused q → ◌≡◌ {A = Result T Trouble} (Err t) (Err trouble.Read) → ⊥
+refusal_is_no_fault q t is same = let fault : t ≡ trouble.Read = cc in absurd (cc)

@@ -10,3 +10,4 @@ pub mod OtherForms
 pub mod StraightLaws
 pub mod Verdicts
 pub mod CallLaws
+pub mod ViperLaws

@@ -26,20 +26,20 @@ use Rattle.vb_tool.specs.Formed as f
 use Rattle.vb_tool.specs.Straight.{side_operator, comparison_operator, binary_of, side_of, comparison_of, fact_of, assert_of, straight_stmt, one_more, straight_stmts, has_plain_header, with_stmts, with_body, straight_method, straight_methods, straight_of}
 use Rattle.vb_tool.specs.Tree as v
 
-same_some : {X : Type 0} {x y : X} → Some x ≡ Some y → x ≡ y
+pub same_some : {X : Type 0} {x y : X} → Some x ≡ Some y → x ≡ y
 same_some h = cc
 
 -- an operator and its two sides were there
-record Built (o : Option Op) (a b : Option v.Expr) (at : Pos) (whole : v.Expr) : Type 0 where
-  op : Op
-  left : v.Expr
-  right : v.Expr
-  op_is : o ≡ Some op
-  left_is : a ≡ Some left
-  right_is : b ≡ Some right
-  whole_is : v.Bin op left right at ≡ whole
+pub record Built (o : Option Op) (a b : Option v.Expr) (at : Pos) (whole : v.Expr) : Type 0 where
+  pub op : Op
+  pub left : v.Expr
+  pub right : v.Expr
+  pub op_is : o ≡ Some op
+  pub left_is : a ≡ Some left
+  pub right_is : b ≡ Some right
+  pub whole_is : v.Bin op left right at ≡ whole
 
-built : (o : Option Op) (a b : Option v.Expr) (at : Pos) (whole : v.Expr) → binary_of o a b at ≡ Some whole → Built o a b at whole
+pub built : (o : Option Op) (a b : Option v.Expr) (at : Pos) (whole : v.Expr) → binary_of o a b at ≡ Some whole → Built o a b at whole
 built (Some o) (Some a) (Some b) at whole is =
     record { op = o; left = a; right = b; op_is = refl; left_is = refl; right_is = refl; whole_is = same_some is }
 built (Some o) (Some a) None at whole is = absurd (cc)

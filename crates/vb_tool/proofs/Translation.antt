@@ -14,6 +14,7 @@ use Rattle.vb_tool.specs.Formed as f
 use Rattle.boogie_tree.specs.Tree as b
 use Rattle.boogie_tree.specs.Types as ty
 use Rattle.boogie_tree.proofs.OneProgram.{one_program}
+use Rattle.boogie_tree.proofs.TypedRuns.{never_wrong}
 use Rattle.vb_tool.specs.Encoded.{procedure_name, local_name, local_of, front_locals, op_code, expr_code, stmt_code, method_code, program_code}
 use Rattle.vb_tool.specs.Printed.{program_text}
 use Rattle.vb_tool.specs.Translates.{HasFront, Translates}
@@ -163,6 +164,7 @@ translates program formed =
       only = λ other h. one_program h spelled;
       brackets = n.most_open-procs spelled.procedures (methods_nested program formed.methods);
       typed = methods_typed program formed.methods;
+      never_wrong = never_wrong (program_code program) (methods_typed program formed.methods);
       procedures = procedure_names program;
       front = has_front program;
       exact = exact program formed;

@@ -1,34 +1,36 @@
 -- Bytes are a program, or are refused for one reason.
-use Rattle.std.proofs.Common.{◌≡◌, ◌∙◌, ◌<◌, ◌≤◌, ◌-◌, ◌^◌, ℕ, List, [], ◌∷◌, length, Some, None, Result, Ok, Err, Vec, IfOk, refl, sym, ap, subst, arith}
+use Rattle.std.proofs.Common.{◌≡◌, ◌∙◌, ◌⊎◌, inl, inr, ◌<◌, ◌≤◌, ◌-◌, ◌^◌, ℕ, List, [], ◌∷◌, length, Option, Some, None, Result, Ok, Err, Vec, IfOk, refl, sym, ap, subst, arith}
+use Rattle.std.proofs.lemmas.Bool.{cases_lt}
 use Rattle.std.specs.declared.alloc.Global.{Global}
 use Rattle.vb_base.specs.declared.places.Pos.{Pos}
 use Rattle.vb_base.specs.Place.{IsPlaceAfter, IsPlace}
 use Rattle.vb_base.proofs.Place.{same_pos}
-use Rattle.vb_base.proofs.PlaceLaws.{one_place}
+use Rattle.vb_base.proofs.PlaceLaws.{one_place, some_place_after}
 use Rattle.viper_syntax.specs.declared.tokens.LexFault.{LexFault}
 use Rattle.viper_syntax.specs.declared.tokens.LexFault.TheVariants as lex
 use Rattle.viper_syntax.specs.declared.tokens.Token.{Token}
 use Rattle.viper_syntax.specs.Decl as d
 use Rattle.viper_syntax.specs.Lexed.{IsLexed, HasFault}
 use Rattle.viper_syntax.specs.Step.{UnlessMemory}
+use Rattle.viper_syntax.proofs.AnswerLaws.{some_answer as some_cut}
 use Rattle.viper_syntax.proofs.LexLaws.{one_lexed, one_fault, lexed_or_faulty}
-use Rattle.viper_parse.specs.Answers.{IsProgram as Spelled, place_at, Gives as GivesTree, Refuses}
+use Rattle.viper_parse.specs.Answers.{IsProgram as Spelled, GoesWrong, place_at, Gives as GivesTree, Refuses}
 use Rattle.viper_parse.specs.Spells.{Spells}
 use Rattle.viper_syntax.specs.declared.faults.ParseFault.{ParseFault}
 use Rattle.viper_syntax.specs.declared.faults.ParseFault.TheVariants as parse
-use Rattle.viper_parse.proofs.Parsed.{one_program as one_spelled}
+use Rattle.viper_parse.proofs.Parsed.{one_program as one_spelled, some_answer}
 use Rattle.viper_core.specs.Program as p
 use Rattle.viper_core.specs.Weight.{weight}
 use Rattle.viper_types.specs.Checked.{IsRefused}
-use Rattle.viper_types.specs.Outcome.{Judged, Found, Broken}
 use Rattle.viper_types.specs.Declaring.{program_typing}
+use Rattle.viper_types.specs.Outcome.{Judged, Found, Broken}
 use Rattle.viper_types.specs.Program.{IsProgram}
 use Rattle.viper_types.specs.declared.faults.TypeFault.{TypeFault}
 use Rattle.viper_types.specs.declared.faults.TypeFault.TheVariants as typed
 use Rattle.viper_types.proofs.ProgramFinds.{one_program_of}
-use Rattle.viper_types.proofs.ProgramLaws.{broken_is_no_program}
+use Rattle.viper_types.proofs.ProgramLaws.{broken_is_no_program, typed_or_broken}
 use Rattle.vb_tool.specs.Tree as v
-use Rattle.vb_tool.specs.Accepted.{IsAccepted, Accepts, IsTreeRefusal, rule, heavy, not_yet, IsTokenRefusal, syntax, of_tree, IsRefusal, size, lex as bad_lex, of_tokens}
+use Rattle.vb_tool.specs.Accepted.{IsAccepted, Accepts, IsTreeRefusal, rule, heavy, not_yet, IsTokenRefusal, syntax, of_tree, IsRefusal, size, lex as bad_lex, of_tokens, HasOneAnswer, is_accepted, is_refused}
 use Rattle.vb_tool.specs.Converted.{trouble_of_lex, trouble_of_parse, trouble_of_types}
 use Rattle.vb_tool.specs.Parts.{TranslationOf, GivesRefusal, GivesText}
 use Rattle.vb_tool.specs.Straight.{straight_of}
@@ -154,10 +156,62 @@ type_refusal bytes tokens source (typed.Rule at n) r small lexed spelled why is_
     subst (IsRefusal bytes) same (of_tokens small lexed (of_tree spelled (rule why)))
 type_refusal bytes tokens source (typed.Weight n) r small lexed spelled why is_r =
     let same : refusal.Weight 100001 ≡ r = ap (λ x. refusal.Weight x) (sym why.0) ∙ cc in
-    subst (IsRefusal bytes) same (of_tokens small lexed (of_tree spelled (heavy why.1.1 why.1.2)))
+    let (program, is, above) = why.1 in
+    subst (IsRefusal bytes) same (of_tokens small lexed (of_tree spelled (heavy is above)))
 
 pub form_refusal : (bytes : List ℕ) (tokens : List Token) (source : d.SourceProgram) (q : p.Program) (r : Refusal) → length bytes ≤ 1048576 → IsLexed bytes tokens → Spells tokens source → IsProgram source q →
     weight q ≤ 100000 → straight_of q ≡ None → trouble.Refused refusal.NotYet ≡ trouble.Refused r → IsRefusal bytes r
 form_refusal bytes tokens source q r small lexed spelled is below other is_r =
     let same : refusal.NotYet ≡ r = cc in
     subst (IsRefusal bytes) same (of_tokens small lexed (of_tree spelled (not_yet is below other)))
+
+-- ---- each text has an answer
+
+same_some : {X : Type 0} {x y : X} → Some x ≡ Some y → x ≡ y
+same_some h = cc
+
+one_translated : {bytes : List ℕ} {a b : v.Program} → Accepts bytes a → Accepts bytes b → a ≡ b
+one_translated h i = same_some (sym h.straight ∙ ap straight_of (one_accepted h.accepted i.accepted) ∙ i.straight)
+
+accepted_once : {bytes : List ℕ} {program : v.Program} → Accepts bytes program → HasOneAnswer bytes
+accepted_once h = is_accepted h (λ other i. one_translated i h) (λ r is. accepted_not_refused h is)
+
+refused_once : {bytes : List ℕ} {r : Refusal} → IsRefusal bytes r → HasOneAnswer bytes
+refused_once h = is_refused h (λ other is. one_refusal is h) (λ program accepts. accepted_not_refused accepts h)
+
+-- Each stage goes on, or refuses.
+module _ (bytes : List ℕ) (small : length bytes ≤ 1048576) where
+  of_form : (tokens : List Token) (source : d.SourceProgram) (q : p.Program) → IsLexed bytes tokens → Spells tokens source → IsProgram source q → weight q ≤ 100000 →
+      (o : Option v.Program) → straight_of q ≡ o → HasOneAnswer bytes
+  of_form tokens source q lexed spelled is light (Some program) straight = accepted_once (record {
+    typed = q;
+    accepted = record { small = small; tokens = tokens; lexed = lexed; source = source; spelled = spelled; is_typed = is; light = light };
+    straight = straight;
+  })
+  of_form tokens source q lexed spelled is light None other = refused_once (of_tokens small lexed (of_tree spelled (not_yet is light other)))
+
+  of_weight : (tokens : List Token) (source : d.SourceProgram) (q : p.Program) → IsLexed bytes tokens → Spells tokens source → IsProgram source q →
+      (100000 < weight q) ⊎ (weight q ≤ 100000) → HasOneAnswer bytes
+  of_weight tokens source q lexed spelled is (inl above) = refused_once (of_tokens small lexed (of_tree spelled (heavy is above)))
+  of_weight tokens source q lexed spelled is (inr light) = of_form tokens source q lexed spelled is light (straight_of q) refl
+
+  of_types : (tokens : List Token) (source : d.SourceProgram) → IsLexed bytes tokens → Spells tokens source →
+      ((q : p.Program) × IsProgram source q) ⊎ ((at : Pos) × (n : ℕ) × (program_typing source ≡ Broken at n)) → HasOneAnswer bytes
+  of_types tokens source lexed spelled (inl typed) = of_weight tokens source typed.0 lexed spelled typed.1 (cases_lt 100000 (weight typed.0))
+  of_types tokens source lexed spelled (inr broken) = refused_once (of_tokens small lexed (of_tree spelled (rule broken.2)))
+
+  of_spelling : (tokens : List Token) → IsLexed bytes tokens → Spelled tokens ⊎ GoesWrong tokens → HasOneAnswer bytes
+  of_spelling tokens lexed (inl tree) = of_types tokens tree.0 lexed tree.1 (typed_or_broken tree.0)
+  of_spelling tokens lexed (inr wrong) =
+      let last = some_place_after bytes small in refused_once (of_tokens small lexed (syntax {end = last.0} wrong.none wrong.place last.1))
+
+  of_cut : ((ts : List Token) × IsLexed bytes ts) ⊎ ((fault : LexFault) × HasFault bytes fault) → HasOneAnswer bytes
+  of_cut (inl cut) = of_spelling cut.0 cut.1 (some_answer cut.0)
+  of_cut (inr fault) = refused_once (bad_lex small fault.1)
+
+of_size : (bytes : List ℕ) → (1048576 < length bytes) ⊎ (length bytes ≤ 1048576) → HasOneAnswer bytes
+of_size bytes (inl above) = refused_once (size above)
+of_size bytes (inr small) = of_cut bytes small (some_cut bytes small)
+
+pub one_answer : (bytes : List ℕ) → HasOneAnswer bytes
+one_answer bytes = of_size bytes (cases_lt 1048576 (length bytes))

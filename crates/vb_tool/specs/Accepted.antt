@@ -11,8 +11,8 @@ use Rattle.viper_parse.specs.Answers.{IsProgram as Spelled, place_at}
 use Rattle.viper_parse.specs.Spells.{Spells}
 use Rattle.viper_core.specs.Program as p
 use Rattle.viper_core.specs.Weight.{weight}
-use Rattle.viper_types.specs.Outcome.{Broken}
 use Rattle.viper_types.specs.Declaring.{program_typing}
+use Rattle.viper_types.specs.Outcome.{Broken}
 use Rattle.viper_types.specs.Program.{IsProgram}
 use Rattle.vb_tool.specs.Tree as v
 use Rattle.vb_tool.specs.Straight.{straight_of}
@@ -60,3 +60,10 @@ pub data IsRefusal (bytes : List ℕ) : Refusal → Type 0 where
   size : max_file < length bytes → IsRefusal bytes Size
   lex : {fault : LexFault} → length bytes ≤ max_file → HasFault bytes fault → IsRefusal bytes (Lex fault)
   of_tokens : {tokens : List Token} {r : Refusal} → length bytes ≤ max_file → IsLexed bytes tokens → IsTokenRefusal bytes tokens r → IsRefusal bytes r
+
+-- the bytes are accepted for exactly one program, or refused for exactly one reason, and never both
+pub data HasOneAnswer (bytes : List ℕ) : Type 0 where
+  is_accepted : {program : v.Program} → Accepts bytes program →
+      ((other : v.Program) → Accepts bytes other → other ≡ program) → ((r : Refusal) → IsRefusal bytes r → ⊥) → HasOneAnswer bytes
+  is_refused : {r : Refusal} → IsRefusal bytes r → ((other : Refusal) → IsRefusal bytes other → other ≡ r) →
+      ((program : v.Program) → Accepts bytes program → ⊥) → HasOneAnswer bytes

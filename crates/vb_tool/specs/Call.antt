@@ -19,10 +19,11 @@ pub record Names (words : List (List ℕ)) (name : List ℕ) : Type 0 where
 pub record IsNoCommand (words : List (List ℕ)) : Type 0 where
   pub names_none : (name : List ℕ) → Names words name → ⊥
 
--- the words name a file, and where the shelf tells its files, P holds of its bytes
+-- the words name a file that is not missing, and where the shelf tells its files, P holds of its bytes
 pub record NamedFile (words : List (List ℕ)) (files : Option Files) (P : List ℕ → Type 0) : Type 0 where
   pub name : List ℕ
   pub named : Names words name
+  pub there : IsMissing files name → ⊥
   pub told : (bytes : List ℕ) → IsFile files name bytes → P bytes
 
 -- the words name a file, which the shelf has not or failed to read

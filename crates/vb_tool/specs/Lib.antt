@@ -12,3 +12,4 @@ pub mod Converted
 pub mod Accepted
 pub mod Call
 pub mod Parts
+pub mod Viper

@@ -7,7 +7,7 @@ use Rattle.vb_tool.specs.Meaning.{ViperFails}
 use Rattle.boogie_tree.specs.Tree as b
 use Rattle.boogie_tree.specs.Grammar.{BSpells, most_open}
 use Rattle.boogie_tree.specs.Types.{IsTyped}
-use Rattle.boogie_tree.specs.Meaning.{BoogieFails}
+use Rattle.boogie_tree.specs.Meaning.{BoogieFails, NeverWrong}
 use Rattle.vb_tool.specs.Encoded.{procedure_name, front_locals}
 
 -- the locals that the opening of the unit sets are the first of its procedure, in their order
@@ -22,8 +22,9 @@ pub record Translates (program : v.Program) (bytes : List ℕ) : Type 0 where
   pub only : (other : b.BProgram) → BSpells bytes other → other ≡ boogie
   -- at most 2,048 brackets are open at once
   pub brackets : most_open 0 spelled.tokens ≤ 2048
-  -- it is well-typed
+  -- it is well-typed, and no run of it is Wrong
   pub typed : IsTyped boogie
+  pub never_wrong : NeverWrong boogie
   -- it has the procedure of each unit, in the order of the units, and no other
   pub procedures : map (λ (p : b.Proc). p.name) boogie ≡ map (λ (m : v.Method). procedure_name m.name) program
   -- whose first locals are those that the unit's opening sets

@@ -107,7 +107,7 @@ fn translated(alloc: Global, bytes: &[u8]) -> Result<Vec<u8>, Trouble>
     stages(alloc, bytes)
 }
 
-/// The stages of a translation, each of which may refuse the file.
+/// The stages of a translation, each of which may refuse the file. What a stage leaves over is given up before the next.
 fn stages(alloc: Global, bytes: &[u8]) -> Result<Vec<u8>, Trouble>
     requires { length bytes.now ≤ 1048576 }
     ensures text { IfOk result (λ text. TranslationOf bytes.now text.items) }
@@ -116,7 +116,9 @@ fn stages(alloc: Global, bytes: &[u8]) -> Result<Vec<u8>, Trouble>
 {
     let tokens = lex(alloc, bytes)?;
     let source = parse(alloc, &tokens, place_after(bytes))?;
+    drop(tokens);
     let typed = check(alloc, &source)?;
+    drop(source);
     let Some(program) = straight_program(alloc, &typed)? else {
         return Err(Trouble::Refused(Refusal::NotYet));
     };

@@ -1,7 +1,7 @@
 use Rattle.std.proofs.Common.{ap, subst, Err}
 use Rattle.vb_outer.specs.Shelf.{IsFile}
 use Rattle.vb_tool.specs.Call.{usage, read, refused, no_memory}
-use Rattle.vb_tool.proofs.CallLaws.{same_name, ends_as_reported, ends_as_read, ends_as_delivered, reported_cause, reported_err, delivered_cause, delivered_out, delivered_err, refused_once, gives_refused, gives_no_text}
+use Rattle.vb_tool.proofs.CallLaws.{same_name, ends_as_reported, ends_as_read, ends_as_delivered, reported_cause, reported_err, delivered_cause, delivered_out, delivered_err, refused_once, gives_refused, gives_no_text, text_is_no_fault, refusal_is_no_fault}
 use Rattle.vb_tool.proofs.command.tool.Goals as goal
 
 pub returns-in_default-clause-causes : goal.returns-in_default-clause-causes
@@ -25,7 +25,7 @@ returns-in-Ok-clause-out g c =
     delivered_out _ c.deliver.ensures (rw c.deref.ensures.value (record {
       program = program;
       translates = translates;
-      accepted = record { name = c.in-Some.name.now; named = c.in-Some.ensures; told = accepts };
+      accepted = record { name = c.in-Some.name.now; named = c.in-Some.ensures; there = λ missing. text_is_no_fault _ (c.in-Ok.ensures.missing missing); told = accepts };
     }))
 
 pub returns-in-Ok-clause-err : goal.returns-in-Ok-clause-err
@@ -56,7 +56,7 @@ returns-in-Err-Read-clause-err g c =
 
 pub returns-in-Err-Refused-clause-causes : goal.returns-in-Err-Refused-clause-causes
 returns-in-Err-Refused-clause-causes g c =
-    reported_cause _ c.report-in-Err-Refused.ensures (refused (record { name = c.in-Some.name.now; named = c.in-Some.ensures; told = λ bytes is. c.in-Err-Refused.ensures.refusal c.in-Err-Refused.refusal (ap (λ e. Err e) c.in-Err-Refused.field-0-is) bytes is }))
+    reported_cause _ c.report-in-Err-Refused.ensures (refused (record { name = c.in-Some.name.now; named = c.in-Some.ensures; there = λ missing. refusal_is_no_fault c.in-Err-Refused.refusal c.in-Err-Refused.field-0 c.in-Err-Refused.field-0-is (c.in-Err-Refused.ensures.missing missing); told = λ bytes is. c.in-Err-Refused.ensures.refusal c.in-Err-Refused.refusal (ap (λ e. Err e) c.in-Err-Refused.field-0-is) bytes is }))
 
 pub returns-in-Err-Refused-clause-refused : goal.returns-in-Err-Refused-clause-refused
 returns-in-Err-Refused-clause-refused g c name bytes r named is is_refused =
@@ -70,4 +70,4 @@ returns-in-Err-Refused-clause-accepted g c name bytes program named is accepts =
 
 pub returns-in-Err-Refused-clause-err : goal.returns-in-Err-Refused-clause-err
 returns-in-Err-Refused-clause-err g c =
-    reported_err c.report-in-Err-Refused.ensures (refused (record { name = c.in-Some.name.now; named = c.in-Some.ensures; told = λ bytes is. c.in-Err-Refused.ensures.refusal c.in-Err-Refused.refusal (ap (λ e. Err e) c.in-Err-Refused.field-0-is) bytes is }))
+    reported_err c.report-in-Err-Refused.ensures (refused (record { name = c.in-Some.name.now; named = c.in-Some.ensures; there = λ missing. refusal_is_no_fault c.in-Err-Refused.refusal c.in-Err-Refused.field-0 c.in-Err-Refused.field-0-is (c.in-Err-Refused.ensures.missing missing); told = λ bytes is. c.in-Err-Refused.ensures.refusal c.in-Err-Refused.refusal (ap (λ e. Err e) c.in-Err-Refused.field-0-is) bytes is }))
