@@ -15,3 +15,6 @@ pub mod RunKeptLaws
 pub mod ForgetLaws
 pub mod RunWithinLaws
 pub mod RunSignLaws
+pub mod PartLaws
+pub mod HeldLaws
+pub mod AgreeLaws
