@@ -1,5 +1,5 @@
 -- How an evaluation with less permission and one with more compare.
-use Rattle.std.proofs.Common.{◌≡◌, refl, sym, ap, ◌∙◌, subst, ℕ, ◌==◌, Bool, true, false, Option, Some, None, List, [], ◌∷◌, slice_get, if◌then◌else◌}
+use Rattle.std.proofs.Common.{◌≡◌, refl, sym, ap, ◌∙◌, subst, ℕ, ◌==◌, Bool, true, false, Option, Some, None, List, [], slice_get, if◌then◌else◌}
 use Rattle.vb_base.specs.declared.labels.Kind.TheVariants as kind
 use Rattle.vb_base.specs.declared.labels.Label.{Label}
 use Rattle.vb_base.specs.declared.places.Pos.{Pos}
@@ -10,15 +10,15 @@ use Rattle.viper_core.specs.Expr as t
 use Rattle.viper_core.specs.Plain.{OpensNothing, OpenNothing}
 use Rattle.viper_core.specs.declared.exprs.Op.{Op}
 use Rattle.viper_state.specs.Event.{Event}
-use Rattle.viper_state.specs.State.{State, Key, mask_at, value_at}
+use Rattle.viper_state.specs.State.{State, mask_at, value_at}
 use Rattle.viper_state.specs.Run.{Scene}
-use Rattle.viper_meaning.specs.Ends.{Evaluated, ends, Is, Fails, Blocked, Over, is, fails, blocks, after, then_with, found, unless}
+use Rattle.viper_meaning.specs.Ends.{Evaluated, ends, Is, Fails, Blocked, Over, is, fails, after, then_with, found, unless}
 use Rattle.viper_meaning.specs.Assertions.{place_in, instance_in}
 use Rattle.viper_meaning.specs.Operators.{Class, Lazy, Division, Plain, class_of, truth_of, perm_of, ref_of, plain, divided, settled, settled_or, in_class, negative, negation}
 use Rattle.viper_meaning.specs.Places.{read_field, key_of}
 use Rattle.viper_meaning.specs.Resource.{Resource, Place, Instance}
 use Rattle.viper_meaning.specs.Sat.{Has}
-use Rattle.viper_meaning.specs.Value.{value, values, as_truth, as_perm, as_ref, as_key, truth_in, perm_in}
+use Rattle.viper_meaning.specs.Value.{value, values, truth_in, perm_in}
 use Rattle.viper_meaning.proofs.HeldLaws.{Near, HeldPart}
 use Rattle.viper_meaning.proofs.PartLaws.{part_some}
 

@@ -1,5 +1,5 @@
 -- What is held: reading after setting, states that are whole, and states of which one holds a part of what the other holds.
-use Rattle.std.proofs.Common.{◌≡◌, ◌≢◌, ◌⊎◌, inl, inr, refl, sym, ap, ◌∙◌, subst, ℕ, zero, suc, ◌==◌, Bool, true, false, ◌&&◌, Option, Some, None, is_some, IfSome, List, All, length, replicate, slice_get, if◌then◌else◌}
+use Rattle.std.proofs.Common.{◌≡◌, inl, inr, refl, sym, ap, ◌∙◌, subst, ℕ, zero, suc, ◌==◌, Bool, true, false, ◌&&◌, Option, Some, None, is_some, IfSome, List, All, length, replicate, slice_get, if◌then◌else◌}
 use Rattle.std.specs.Prelude.{⊤}
 use Rattle.std.specs.Bool.{Decides}
 use Rattle.std.specs.Option.{option_map}
@@ -9,18 +9,17 @@ use Rattle.std.specs.declared.cmp.Ordering.TheVariants.{Less, Equal, Greater}
 use Rattle.std.proofs.lemmas.Bool.{true≢false}
 use Rattle.std.proofs.lemmas.Bool.Decides.{Decides-eqb}
 use Rattle.std.proofs.lemmas.List.Elements.{All-nil, All-cons}
-use Rattle.sparse.specs.Map.{Map, empty, get, IsReduced, set}
+use Rattle.sparse.specs.Map.{Map, empty, get, IsReduced}
 use Rattle.sparse.specs.Meaning.{IsExact}
 use Rattle.sparse.proofs.MapLaws.{IsReduced-empty, IsReduced-set}
 use Rattle.vb_value.specs.Bound.{Unbounded}
-use Rattle.vb_value.specs.Fraction.{Fraction, none, is_none, sum, IsProperFraction}
-use Rattle.vb_value.specs.Key.{key_cmp, IsProperKey}
-use Rattle.vb_value.specs.Content.{IsProperContent}
+use Rattle.vb_value.specs.Fraction.{Fraction, none, sum, IsProperFraction}
+use Rattle.vb_value.specs.Key.{key_cmp}
 use Rattle.vb_value.specs.Layout.{Layout}
-use Rattle.vb_value.specs.Value.{fraction_eq, IsProperValue}
+use Rattle.vb_value.specs.Value.{fraction_eq}
 use Rattle.vb_value.proofs.KeyLaws.{same_from_key_cmp, key_cmp_self}
 use Rattle.vb_value.proofs.ReducedLaws.{proper_fraction, proper_key}
-use Rattle.viper_state.specs.State.{Key, Memo, State, empty_state, found_at, value_at, content_at, changed, changed_at}
+use Rattle.viper_state.specs.State.{Key, Memo, State, empty_state, found_at, value_at, content_at, changed_at}
 use Rattle.viper_state.specs.Within.{IsProperMemo, IsProperState, IsNonnegative, IsNotNegative}
 use Rattle.viper_state.proofs.EachLaws.{mask_has, amount_has, mask_not_negative, amount_not_negative, with_mask_has, with_amount_has, with_mask_nonnegative, with_amount_nonnegative, empty_state_has, empty_state_nonnegative}
 use Rattle.viper_state.proofs.MapLaws.{exact_masks, exact_amounts}

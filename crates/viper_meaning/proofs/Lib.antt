@@ -18,3 +18,5 @@ pub mod RunSignLaws
 pub mod PartLaws
 pub mod HeldLaws
 pub mod AgreeLaws
+pub mod EveryLaws
+pub mod SatProduceLaws

@@ -5,3 +5,4 @@
 
 pub mod laws;
 pub mod run_laws;
+pub mod sat_laws;
