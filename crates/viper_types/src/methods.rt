@@ -1,5 +1,5 @@
 // The typing of methods.
-ghost use Rattle.std.specs.Prelude.{◌≡◌, ◌++◌, IfOk, OnOk, false, map, true};
+ghost use Rattle.std.specs.Prelude.{◌≡◌, ◌++◌, IfOk, OnOk, false, length, map, true};
 ghost use Rattle.std.specs.Option.{option_map};
 ghost use Rattle.viper_core.specs.View as core;
 ghost use Rattle.viper_syntax.specs.View.{block_of, clause_of, method_of, term_of};
@@ -15,7 +15,7 @@ use crate::frames::Frame;
 use crate::statements::blocking;
 use crate::world::next_number;
 use std::alloc::Global;
-use vb_base::Memory;
+use vb_base::{Ident, Memory};
 use viper_core::{Assertion, Body, Method};
 use viper_syntax::{SBlock, SClause, SMethod, Word};
 
@@ -117,6 +117,36 @@ fn method_body(
     }
 }
 
+/// What a method is called, and the names and numbers of its formals.
+#[derive(Drop)]
+struct Heading {
+    name: Ident,
+    names: Vec<Ident>,
+    params: u32,
+    returns: u32,
+}
+
+/// The heading of a method, copied.
+fn heading_of(alloc: Global, method: &SMethod) -> Result<Heading, Memory>
+    ensures name { IfOk result (λ h. h.name ≡ method.now.name.name) }
+    ensures names { IfOk result (λ h. h.names.items ≡ map j.name_of method.now.params.items ++ map j.name_of method.now.returns.items) }
+    ensures params { IfOk result (λ h. h.params ≡ length method.now.params.items) }
+    ensures returns { IfOk result (λ h. h.returns ≡ length method.now.returns.items) }
+{
+    let params = next_number(method.params.len())?;
+    let returns = next_number(method.returns.len())?;
+    let mut names = Vec::new(alloc);
+    add_names(alloc, &mut names, &method.params)?;
+    add_names(alloc, &mut names, &method.returns)?;
+    let name = method.name.name.copy(alloc)?;
+    Ok(Heading {
+        name,
+        names,
+        params,
+        returns,
+    })
+}
+
 /// A method. The parameters stand also in a scope of their own, which its preconditions see.
 pub fn method(
     alloc: Global,
@@ -126,6 +156,7 @@ pub fn method(
 ) -> Result<Method, TypeFault>
     ensures { Answers core.method_of (j.method_typing (world_of world.now) (optional_bodies_of bodies.now) (method_of method.now)) result }
 {
+    let heading = heading_of(alloc, method)?;
     let mut params = Frame::new(alloc);
     formals(alloc, &mut params, true, true, &method.params)?;
     let mut frame = Frame::new(alloc);
@@ -151,16 +182,13 @@ pub fn method(
         &mut frame,
         &method.body,
     )?;
-    let mut names = Vec::new(alloc);
-    add_names(alloc, &mut names, &method.params)?;
-    add_names(alloc, &mut names, &method.returns)?;
     Ok(Method {
-        name: method.name.name.copy(alloc)?,
+        name: heading.name,
         at: method.at,
         name_at: method.name.pos,
-        names,
-        params: next_number(method.params.len())?,
-        returns: next_number(method.returns.len())?,
+        names: heading.names,
+        params: heading.params,
+        returns: heading.returns,
         vars: frame.vars,
         preconditions: conditions.before,
         postconditions: conditions.after,

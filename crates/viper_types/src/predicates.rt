@@ -6,6 +6,7 @@ ghost use Rattle.viper_core.specs.View as core;
 ghost use Rattle.viper_syntax.specs.View.{decl_of, term_of};
 ghost use Rattle.viper_types.specs.Answers.{Answers, optional_bodies_of, world_of};
 ghost use Rattle.viper_types.specs.Declaring as j;
+ghost use Rattle.viper_types.specs.Frame as f;
 ghost use Rattle.viper_types.specs.Outcome.{Judged};
 
 use crate::assertions::assertion;
@@ -15,7 +16,8 @@ use crate::formals::{add_names, formals};
 use crate::frames::Frame;
 use crate::world::types_in;
 use std::alloc::Global;
-use vb_base::{Memory, Pos};
+use vb_base::{Ident, Memory, Pos};
+use vb_value::Ty;
 use viper_core::{Assertion, Predicate};
 use viper_syntax::{Decl, Formal, Named, Term};
 
@@ -39,6 +41,31 @@ fn predicate_body(
     }
 }
 
+/// What a predicate is called, and the names and types of its parameters.
+#[derive(Drop)]
+struct Heading {
+    name: Ident,
+    names: Vec<Ident>,
+    params: Vec<Ty>,
+}
+
+/// The heading of a predicate, copied.
+fn heading_of(alloc: Global, name: &Ident, params: &[Formal]) -> Result<Heading, Memory>
+    ensures name { IfOk result (λ h. h.name ≡ name.now) }
+    ensures names { IfOk result (λ h. h.names.items ≡ map j.name_of params.now) }
+    ensures params { IfOk result (λ h. h.params.items ≡ map f.declared_type params.now) }
+{
+    let mut names = Vec::with_capacity(alloc, params.len())?;
+    add_names(alloc, &mut names, params)?;
+    let name = name.copy(alloc)?;
+    let params = types_in(alloc, params)?;
+    Ok(Heading {
+        name,
+        names,
+        params,
+    })
+}
+
 /// A predicate.
 pub fn predicate(
     alloc: Global,
@@ -50,16 +77,15 @@ pub fn predicate(
 ) -> Result<Predicate, TypeFault>
     ensures { Answers core.predicate_of (j.predicate_typing (world_of world.now) at name.now params.now (option_map term_of body.now)) result }
 {
+    let heading = heading_of(alloc, &name.name, params)?;
     let mut frame = Frame::new(alloc);
     formals(alloc, &mut frame, false, true, params)?;
     let body = predicate_body(alloc, world, &frame.scope, body)?;
-    let mut names = Vec::with_capacity(alloc, params.len())?;
-    add_names(alloc, &mut names, params)?;
     Ok(Predicate {
-        name: name.name.copy(alloc)?,
+        name: heading.name,
         at,
-        names,
-        params: types_in(alloc, params)?,
+        names: heading.names,
+        params: heading.params,
         body,
     })
 }
