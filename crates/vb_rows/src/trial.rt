@@ -1,0 +1,108 @@
+// Runs a row, and tells where it ends otherwise than it says.
+ghost use Rattle.std.specs.Prelude.{◌≡◌, map, IsTrue, is_some};
+ghost use Rattle.vb_outer.specs.MemShelf.{file_named, names_differ};
+ghost use Rattle.vb_outer.specs.Place.{held};
+
+use crate::fault::Fault;
+use crate::row::{Call, End, Row};
+use std::alloc::Global;
+use std::io;
+use vb_outer::{MemFile, MemShelf, MemSink};
+use vb_tool::tool;
+
+/// How a call ended: its status, and what stands in the sinks.
+#[derive(Drop)]
+struct Ended {
+    status: u8,
+    out: MemSink,
+    err: MemSink,
+}
+
+/// Runs a row, and prints what came where it ends otherwise than it says.
+pub fn ends_as_said(rt: &impl Print, alloc: Global, row: Row) -> io::Result<bool> {
+    let Row { name, call, end } = row;
+    match end_of(alloc, call) {
+        Ok(ended) => told(rt, name.as_str(), &end, &ended),
+        Err(fault) => {
+            println!(rt; "{name}: {fault}")?;
+            Ok(false)
+        }
+    }
+}
+
+fn end_of(alloc: Global, call: Call) -> Result<Ended, Fault> {
+    let Call {
+        words,
+        files,
+        shelf,
+        out,
+        err,
+    } = call;
+    if !are_named_apart(&files) {
+        return Err(Fault::Files);
+    }
+    let mut shelf = MemShelf::make(files, shelf.failing, shelf.most.max(1));
+    let mut out = MemSink::make(alloc, out.failing, out.most.max(1))?;
+    let mut err = MemSink::make(alloc, err.failing, err.most.max(1))?;
+    let status = tool(alloc, &words, &mut shelf, &mut out, &mut err).number();
+    Ok(Ended { status, out, err })
+}
+
+/// Whether no two files have one name.
+fn are_named_apart(files: &[MemFile]) -> bool
+    ensures { result ≡ names_differ (map held files.now) }
+{
+    match files {
+        [] => true,
+        [first, rest @ ..] => !has_name(rest, &first.name) && are_named_apart(rest),
+    }
+}
+
+/// Whether a file has this name.
+fn has_name(files: &[MemFile], name: &[u8]) -> bool
+    ensures { result ≡ is_some (file_named (map held files.now) name.now) }
+{
+    match files {
+        [] => false,
+        [first, rest @ ..] => first.name.as_slice() == name || has_name(rest, name),
+    }
+}
+
+/// Prints each part that differs, and what came.
+fn told(rt: &impl Print, name: &str, end: &End, ended: &Ended) -> io::Result<bool> {
+    let mut as_said = true;
+    if end.status != Some(ended.status) {
+        println!(rt; "{name}: the status is {}", ended.status)?;
+        as_said = false;
+    }
+    if end.err.as_slice() != ended.err.written() {
+        println!(rt; "{name}: on err stands {}", shown(ended.err.written()))?;
+        as_said = false;
+    }
+    if !is_out_as_said(end, ended.out.written()) {
+        println!(rt; "{name}: on out stands {}", shown(ended.out.written()))?;
+        as_said = false;
+    }
+    Ok(as_said)
+}
+
+fn is_out_as_said(end: &End, out: &[u8]) -> bool {
+    let is_begun = if end.is_whole {
+        out == end.out.as_slice()
+    } else {
+        out.starts_with(&end.out)
+    };
+    is_begun
+        && end.has.iter().all(|line| has_line(out, line.as_bytes()))
+        && !end.lacks.iter().any(|line| has_line(out, line.as_bytes()))
+}
+
+fn has_line(text: &[u8], line: &[u8]) -> bool {
+    text.split(|byte| *byte == b'\n').any(|each| each == line)
+}
+
+/// The first lines of a text.
+fn shown(text: &[u8]) -> &str {
+    let most = text.len().min(4_000);
+    str::from_utf8(&text[..most]).unwrap_or("bytes that are no text")
+}
