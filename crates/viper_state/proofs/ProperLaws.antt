@@ -1,5 +1,5 @@
 -- What fits is proper without a bound, and under the bound where it is within it.
-use Rattle.std.proofs.Common.{ℕ, Bool, List, All, subst, sym}
+use Rattle.std.proofs.Common.{ℕ, pos, Bool, List, All, subst, sym, arith}
 use Rattle.std.specs.List.{AllZip}
 use Rattle.std.specs.declared.cmp.Ordering.{Ordering}
 use Rattle.std.proofs.lemmas.List.Elements.{All-weaker}
@@ -12,13 +12,15 @@ use Rattle.vb_value.specs.Layout.{Layout}
 use Rattle.vb_value.specs.Value.{IsProperValue, default_of}
 use Rattle.vb_value.specs.declared.values.Ty.{Ty}
 use Rattle.vb_value.specs.declared.values.Value.{Value}
+use Rattle.vb_value.proofs.ProperLaws.{proper_whole}
 use Rattle.vb_value.proofs.ReducedLaws.{IsReduced-none, proper_fraction, proper_value, proper_content, proper_key, bounded_fraction, bounded_value, bounded_content, bounded_key, within_fraction, within_value, within_content, within_key}
-use Rattle.viper_state.specs.State.{Key, Memo, State}
+use Rattle.viper_state.specs.State.{Key, Memo, State, empty_state}
 use Rattle.viper_state.specs.Choice as choice
 use Rattle.viper_state.specs.Event as event
-use Rattle.viper_state.specs.Run.{Opening, Scene}
-use Rattle.viper_state.specs.Fits.{FitsMap, FitsValue, FitsHeap, FitsMask, FitsContents, FitsAmounts, FitsMemo, FitsState, FitsScene, FitsOpening, FitsChoice, FitsEvent}
-use Rattle.viper_state.specs.Within.{HasValues, HasEntries, AllOfMemo, AllOfState, AllOfScene, AllOfOpening, AllOfChoice, AllOfEvent, IsWithinMemo, IsWithinState, IsWithinScene, IsWithinOpening, IsWithinChoice, IsWithinEvent, IsProperMemo, IsProperState, IsProperScene, IsProperOpening, IsProperChoice, IsProperEvent}
+use Rattle.viper_state.specs.Run.{Opening, Scene, Feed}
+use Rattle.viper_state.specs.Fits.{FitsMap, FitsValue, FitsHeap, FitsMask, FitsContents, FitsAmounts, FitsMemo, FitsState, FitsScene, FitsOpening, FitsChoice, FitsEvent, FitsFeed}
+use Rattle.viper_state.specs.Within.{HasValues, HasEntries, AllOfMemo, AllOfState, AllOfScene, AllOfOpening, AllOfChoice, AllOfEvent, IsWithinMemo, IsWithinState, IsWithinScene, IsWithinOpening, IsWithinChoice, IsWithinEvent, IsWithinFeed, IsProperMemo, IsProperState, IsProperScene, IsProperOpening, IsProperChoice, IsProperEvent, IsProperFeed}
+use Rattle.viper_state.proofs.EachLaws.{empty_state_has}
 use Rattle.viper_state.proofs.FitsLaws.{FitsValue-default}
 use Rattle.viper_state.proofs.Paired.{All-both, All-paired}
 
@@ -129,6 +131,12 @@ event_proper l (event.Whole m) h = memo_proper l m h
 event_proper l (event.Split a b) h = (proper_content a h.0, proper_content b h.1)
 event_proper l (event.Leaf v) h = proper_value v h
 
+pub feed_proper : (l : Layout) (f : Feed) → FitsFeed l f → IsProperFeed Unbounded f
+feed_proper l f h = record {
+  left = All-weaker (FitsChoice l) (IsProperChoice Unbounded) (choice_proper l) f.left h.left;
+  events = All-weaker (FitsEvent l) (IsProperEvent Unbounded) (event_proper l) f.events h.events;
+}
+
 -- ---- and under the bound, where it is within it
 
 pub bounded_memo : (m : Memo) → IsProperMemo Unbounded m → IsWithinMemo m → IsProperMemo Bounded m
@@ -149,6 +157,12 @@ bounded_choice = both_choice bounded_fraction bounded_value bounded_key bounded_
 pub bounded_event : (e : event.Event) → IsProperEvent Unbounded e → IsWithinEvent e → IsProperEvent Bounded e
 bounded_event = both_event bounded_fraction bounded_value bounded_key bounded_content
 
+pub bounded_feed : (f : Feed) → IsProperFeed Unbounded f → IsWithinFeed f → IsProperFeed Bounded f
+bounded_feed f p w = record {
+  left = All-both (IsProperChoice Unbounded) IsWithinChoice (IsProperChoice Bounded) bounded_choice f.left p.left w.left;
+  events = All-both (IsProperEvent Unbounded) IsWithinEvent (IsProperEvent Bounded) bounded_event f.events p.events w.events;
+}
+
 -- ---- and what is proper under the bound is within it
 
 pub within_memo : (m : Memo) → IsProperMemo Bounded m → IsWithinMemo m
@@ -162,11 +176,29 @@ pub within_scene : (sc : Scene) → IsProperScene Bounded sc → IsWithinScene s
 within_scene sc p =
     both_scene (λ q a b. within_fraction q a) (λ v a b. within_value v a) (λ k a b. within_key k a) (λ c a b. within_content c a) sc p p
 
+pub within_opening : (o : Opening) → IsProperOpening Bounded o → IsWithinOpening o
+within_opening o p = both_opening (λ v a b. within_value v a) (λ k a b. within_key k a) (λ c a b. within_content c a) o p p
+
+pub within_choice : (c : choice.Choice) → IsProperChoice Bounded c → IsWithinChoice c
+within_choice c p =
+    both_choice (λ q a b. within_fraction q a) (λ v a b. within_value v a) (λ k a b. within_key k a) (λ c a b. within_content c a) c p p
+
 pub within_event : (e : event.Event) → IsProperEvent Bounded e → IsWithinEvent e
 within_event e p =
     both_event (λ q a b. within_fraction q a) (λ v a b. within_value v a) (λ k a b. within_key k a) (λ c a b. within_content c a) e p p
 
--- what fits and is within the bound, where there is one, is proper
+pub within_feed : (f : Feed) → IsProperFeed Bounded f → IsWithinFeed f
+within_feed f p = record {
+  left = All-weaker (IsProperChoice Bounded) IsWithinChoice within_choice f.left p.left;
+  events = All-weaker (IsProperEvent Bounded) IsWithinEvent within_event f.events p.events;
+}
+
+-- ---- what fits and is within the bound, where there is one, is proper
+
+pub memo_proper_by : (b : Bound) (l : Layout) (m : Memo) → FitsMemo l m → IfBounded b (IsWithinMemo m) → IsProperMemo b m
+memo_proper_by Unbounded l m h w = memo_proper l m h
+memo_proper_by Bounded l m h w = bounded_memo m (memo_proper l m h) w
+
 pub state_proper_by : (b : Bound) (l : Layout) (s : State) → FitsState l s → IfBounded b (IsWithinState s) → IsProperState b s
 state_proper_by Unbounded l s h w = state_proper l s h
 state_proper_by Bounded l s h w = bounded_state s (state_proper l s h) w
@@ -174,3 +206,28 @@ state_proper_by Bounded l s h w = bounded_state s (state_proper l s h) w
 pub scene_proper_by : (b : Bound) (l : Layout) (us : List Ty) (sc : Scene) → FitsScene l us sc → IfBounded b (IsWithinScene sc) → IsProperScene b sc
 scene_proper_by Unbounded l us sc h w = scene_proper l us sc h
 scene_proper_by Bounded l us sc h w = bounded_scene sc (scene_proper l us sc h) w
+
+pub opening_proper_by : (b : Bound) (l : Layout) (us : List Ty) (o : Opening) → FitsOpening l us o → IfBounded b (IsWithinOpening o) → IsProperOpening b o
+opening_proper_by Unbounded l us o h w = opening_proper l us o h
+opening_proper_by Bounded l us o h w = bounded_opening o (opening_proper l us o h) w
+
+pub choice_proper_by : (b : Bound) (l : Layout) (c : choice.Choice) → FitsChoice l c → IfBounded b (IsWithinChoice c) → IsProperChoice b c
+choice_proper_by Unbounded l c h w = choice_proper l c h
+choice_proper_by Bounded l c h w = bounded_choice c (choice_proper l c h) w
+
+pub event_proper_by : (b : Bound) (l : Layout) (e : event.Event) → FitsEvent l e → IfBounded b (IsWithinEvent e) → IsProperEvent b e
+event_proper_by Unbounded l e h w = event_proper l e h
+event_proper_by Bounded l e h w = bounded_event e (event_proper l e h) w
+
+pub feed_proper_by : (b : Bound) (l : Layout) (f : Feed) → FitsFeed l f → IfBounded b (IsWithinFeed f) → IsProperFeed b f
+feed_proper_by Unbounded l f h w = feed_proper l f h
+feed_proper_by Bounded l f h w = bounded_feed f (feed_proper l f h) w
+
+-- ---- where nothing is held
+
+none_proper : (b : Bound) → IsProperFraction b none
+none_proper Unbounded = proper_whole Unbounded (pos 0) tt
+none_proper Bounded = proper_whole Bounded (pos 0) (omega arith)
+
+pub empty_state_proper : (b : Bound) (l : Layout) (m : Memo) → IsProperMemo b m → IsProperState b (empty_state l m)
+empty_state_proper b l m h = empty_state_has l m h (none_proper b)

@@ -2,7 +2,7 @@
 
 ghost use Rattle.std.specs.Prelude.{◌≡◌, ◌≢◌, ◌⊎◌, ℕ, Some, List, slice_get, false};
 ghost use Rattle.std.specs.Bool.{Decides};
-ghost use Rattle.vb_value.specs.Bound.{Bound, IfBounded};
+ghost use Rattle.vb_value.specs.Bound.{Bound, Bounded, IfBounded};
 ghost use Rattle.vb_value.specs.Content.{Content, IsReducedContent, IsProperContent};
 ghost use Rattle.vb_value.specs.Fraction.{Fraction, IsReduced, IsProperFraction, is_negative};
 ghost use Rattle.vb_value.specs.Key.{IsProperKey};
@@ -11,10 +11,12 @@ ghost use Rattle.vb_value.specs.Value.{IsProperValue};
 ghost use Rattle.vb_value.specs.declared.values.Ty.{Ty};
 ghost use Rattle.vb_value.specs.declared.values.Value.{Value};
 ghost use Rattle.viper_state.specs.State.{Key, Memo, State, empty_state, value_at, mask_at, content_at, amount_at, with_value, with_mask, with_content, with_amount};
-ghost use Rattle.viper_state.specs.Run.{Scene};
-ghost use Rattle.viper_state.specs.Fits.{FitsKey, FitsValue, FitsMemo, FitsState, FitsScene};
+ghost use Rattle.viper_state.specs.Run.{Opening, Scene, Feed};
+ghost use Rattle.viper_state.specs.Choice as choice;
+ghost use Rattle.viper_state.specs.Event as event;
+ghost use Rattle.viper_state.specs.Fits.{FitsKey, FitsValue, FitsMemo, FitsState, FitsScene, FitsOpening, FitsChoice, FitsEvent, FitsFeed};
 ghost use Rattle.viper_state.specs.FitsTest.{fits_memo};
-ghost use Rattle.viper_state.specs.Within.{IsWithinState, IsWithinScene, IsProperState, IsProperScene, IsNonnegative};
+ghost use Rattle.viper_state.specs.Within.{IsWithinMemo, IsWithinState, IsWithinScene, IsWithinOpening, IsWithinChoice, IsWithinEvent, IsWithinFeed, IsProperMemo, IsProperState, IsProperScene, IsProperOpening, IsProperChoice, IsProperEvent, IsProperFeed, IsNonnegative};
 
 /// A state keeps fitting where a value of the field's type is set, or at arguments of the predicate's types a content or an
 /// amount, in lowest terms. From a heap and contents that fit begins a state that fits.
@@ -67,7 +69,8 @@ pub fn what_was_not_set_stays()
         → (p ≢ o) ⊎ (k ≢ j) → amount_at (with_amount s p k q) o j ≡ amount_at s o j }
 {}
 
-/// A state stays proper where what is proper is set, with a bound and without one.
+/// A state stays proper where what is proper is set, with a bound and without one. From a heap and contents that are proper
+/// begins a state that is proper.
 pub fn changes_keep_what_is_proper()
     ensures value { (b : Bound) (s : State) (f r : ℕ) (v : Value) → IsProperState b s
         → IsProperValue b v → IsProperState b (with_value s f r v) }
@@ -77,6 +80,7 @@ pub fn changes_keep_what_is_proper()
         → IsProperKey b k → IsProperContent b c → IsProperState b (with_content s p k c) }
     ensures amount { (b : Bound) (s : State) (p : ℕ) (k : Key) (q : Fraction) → IsProperState b s
         → IsProperKey b k → IsProperFraction b q → IsProperState b (with_amount s p k q) }
+    ensures start { (b : Bound) (l : Layout) (m : Memo) → IsProperMemo b m → IsProperState b (empty_state l m) }
 {}
 
 /// What fits is proper, under the bound where it is within it.
@@ -85,6 +89,27 @@ pub fn what_fits_is_proper()
         → IsProperState b s }
     ensures scenes { (b : Bound) (l : Layout) (us : List Ty) (sc : Scene) → FitsScene l us sc
         → IfBounded b (IsWithinScene sc) → IsProperScene b sc }
+    ensures memos { (b : Bound) (l : Layout) (m : Memo) → FitsMemo l m → IfBounded b (IsWithinMemo m)
+        → IsProperMemo b m }
+    ensures openings { (b : Bound) (l : Layout) (us : List Ty) (o : Opening) → FitsOpening l us o
+        → IfBounded b (IsWithinOpening o) → IsProperOpening b o }
+    ensures choices { (b : Bound) (l : Layout) (c : choice.Choice) → FitsChoice l c → IfBounded b (IsWithinChoice c)
+        → IsProperChoice b c }
+    ensures events { (b : Bound) (l : Layout) (e : event.Event) → FitsEvent l e → IfBounded b (IsWithinEvent e)
+        → IsProperEvent b e }
+    ensures feeds { (b : Bound) (l : Layout) (f : Feed) → FitsFeed l f → IfBounded b (IsWithinFeed f)
+        → IsProperFeed b f }
+{}
+
+/// What is proper under the bound is within it.
+pub fn what_is_proper_is_within()
+    ensures states { (s : State) → IsProperState Bounded s → IsWithinState s }
+    ensures scenes { (sc : Scene) → IsProperScene Bounded sc → IsWithinScene sc }
+    ensures memos { (m : Memo) → IsProperMemo Bounded m → IsWithinMemo m }
+    ensures openings { (o : Opening) → IsProperOpening Bounded o → IsWithinOpening o }
+    ensures choices { (c : choice.Choice) → IsProperChoice Bounded c → IsWithinChoice c }
+    ensures events { (e : event.Event) → IsProperEvent Bounded e → IsWithinEvent e }
+    ensures feeds { (f : Feed) → IsProperFeed Bounded f → IsWithinFeed f }
 {}
 
 /// No mask and no amount becomes negative by a change that sets none.
