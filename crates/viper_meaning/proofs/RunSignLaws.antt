@@ -8,6 +8,7 @@ use Rattle.vb_base.specs.declared.labels.Kind.TheVariants as kind
 use Rattle.vb_base.specs.declared.places.Pos.{Pos}
 use Rattle.vb_value.specs.Bound.{Bound}
 use Rattle.vb_value.specs.Fraction.{Fraction, is_negative, is_positive, is_none, difference, order, fits_difference, fits_order}
+use Rattle.vb_value.specs.Layout.{Layout}
 use Rattle.vb_value.proofs.OrderLaws.{order_antisymm}
 use Rattle.vb_value.proofs.SignLaws.{difference_not_negative, positive_not_negative}
 use Rattle.viper_core.specs.Expr as t
@@ -23,6 +24,7 @@ use Rattle.viper_meaning.specs.KeptRuns.{KeepsRun, at_end}
 use Rattle.viper_meaning.specs.Resource.{Resource, Place, Instance, held_at, with_held, is_null, is_too_much}
 use Rattle.viper_meaning.specs.Run.{Run, taking_amount, amount_in, evaluating}
 use Rattle.viper_meaning.specs.Assertions.{place_in, instance_in, more_held, given_to, some_given_to, produce_amount, produce, rest_of, taken_from, something_held, some_taken_from, consume_amount, consume}
+use Rattle.viper_meaning.specs.Forgotten.{memo_in, forgotten, forget}
 use Rattle.viper_meaning.specs.Value.{truth_in, perm_in}
 use Rattle.viper_meaning.proofs.KeptLaws.{is_kept, fails_kept, blocks_kept, then_kept, found_kept, unless_kept, if_kept, fitting_kept}
 use Rattle.viper_meaning.proofs.SignLaws.{any_events, any_value, after_any, where_not, added_sign}
@@ -35,12 +37,12 @@ SignKept r = KeepsRun IsAny IsAny IsNonnegative r
 then_any : {X : Type 0} (e : Evaluated X) {go : X → Run State} → ((x : X) → SignKept (go x)) → SignKept (evaluating e go)
 then_any e g = evaluating_kept (any_value e) (λ x u. g x)
 
+any_choice : {X : Type 0} (o : Option X) → IfSome o IsAny
+any_choice (Some x) = tt
+any_choice None = tt
+
 chosen_any : {go : Fraction → Run State} → ((q : Fraction) → SignKept (go q)) → SignKept (taking_amount go)
-chosen_any g = taking_kept {Q = IsAny} amount_in (λ c u. any_amount (amount_in c)) (λ q u. before_kept (event.Wild q ∷ []) (any_events (event.Wild q ∷ [])) (g q))
-  where
-    any_amount : (o : Option Fraction) → IfSome o IsAny
-    any_amount (Some q) = tt
-    any_amount None = tt
+chosen_any g = taking_kept {Q = IsAny} amount_in (λ c u. any_choice (amount_in c)) (λ q u. before_kept (event.Wild q ∷ []) (any_events (event.Wild q ∷ [])) (g q))
 
 held_sign : {s : State} → IsNonnegative s → (x : Resource) → IfSome (held_at s x) IsNotNegative
 held_sign h (Place f r) = mask_not_negative h f r
@@ -114,3 +116,8 @@ consume_sign b (t.Inst p args m at) start sc k left h = then_any (instance_in b 
 consume_sign b (t.And x y) start sc k left h = then_do_kept (consume_sign b x start sc k left h) (λ u j. consume_sign b y start sc k u j)
 consume_sign b (t.Implies e x) start sc k left h = then_any (truth_in b e start sc) (λ holds. if_run_kept holds (consume_sign b x start sc k left h) (at_end (is_kept h)))
 consume_sign b (t.ChooseAssertion e x y) start sc k left h = then_any (truth_in b e start sc) (λ holds. if_run_kept holds (consume_sign b x start sc k left h) (consume_sign b y start sc k left h))
+
+-- forgetting changes no mask and no amount
+pub forget_sign : (layout : Layout) (s : State) → IsNonnegative s → SignKept (forget layout s)
+forget_sign layout s h = taking_kept {Q = IsAny} (memo_in layout) (λ c u. any_choice (memo_in layout c)) (λ m u.
+    before_kept (event.Whole (forgotten s m) ∷ []) (any_events (event.Whole (forgotten s m) ∷ [])) (at_end (is_kept (record { mask = h.mask; amount = h.amount }))))

@@ -77,4 +77,5 @@ pub fn no_run_makes_a_permission_negative()
         → IsNonnegative s → KeepsRun IsAny IsAny IsNonnegative (produce b a sc k s) }
     ensures consume { (b : Bound) (a : t.Assertion) (start : State) (sc : Scene) (k : Fraction) (left : State)
         → IsNonnegative left → KeepsRun IsAny IsAny IsNonnegative (consume b a start sc k left) }
+    ensures forget { (layout : Layout) (s : State) → IsNonnegative s → KeepsRun IsAny IsAny IsNonnegative (forget layout s) }
 {}
