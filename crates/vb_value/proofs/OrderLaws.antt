@@ -25,7 +25,7 @@ is_less x y h =
 is_equal : (x y : ℤ) → x ≡ y → int_cmp x y ≡ Equal
 is_equal x y e = ap (int_cmp x) (sym e) ∙ tied_itself int_cmp_total x
 
-is_greater : (x y : ℤ) → y <ℤ x → int_cmp x y ≡ Greater
+pub is_greater : (x y : ℤ) → y <ℤ x → int_cmp x y ≡ Greater
 is_greater x y h = int_cmp_total.antisymm x y ∙ ap ordering_reverse (is_less y x h)
 
 -- two pairs of numbers that lie alike

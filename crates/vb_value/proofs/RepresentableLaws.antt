@@ -1,11 +1,11 @@
 -- An operation whose products fit keeps the bound, and some operations always fit.
-use Rattle.std.proofs.Common.{◌≡◌, ℕ, ◌*◌, ◌<◌, ◌^◌, refl, sym, subst, ◌∙◌, arith, ℤ, pos, negsuc, neg_ℤ, ◌+ℤ◌, ◌-ℤ◌, ◌*ℤ◌, unsigned_abs, Bool, true, false, ◌&&◌, ◌≢◌}
+use Rattle.std.proofs.Common.{◌≡◌, ℕ, ◌*◌, ◌<◌, ◌^◌, refl, sym, ap, subst, ◌∙◌, arith, ℤ, pos, negsuc, neg_ℤ, ◌+ℤ◌, ◌-ℤ◌, ◌*ℤ◌, unsigned_abs, Bool, true, false, ◌&&◌, ◌≢◌}
 use Rattle.std.proofs.lemmas.Int.{ints}
 use Rattle.std.proofs.Math.Nat.{mul-pos}
 use Rattle.std.proofs.Math.IntN.{*ℤ_comm}
 use borrow.Author.Tests.{ltb-true, lt-ltb}
 use Rattle.vb_value.specs.Bound.{IsWithin, is_within}
-use Rattle.vb_value.specs.Fraction.{Fraction, IsWithinFraction, IsRepresentable, ratio, whole, sum, difference, product, quotient, quotient_by, fits_sum, fits_difference, fits_product, fits_quotient, fits_quotient_by, fits_order}
+use Rattle.vb_value.specs.Fraction.{Fraction, IsWithinFraction, IsRepresentable, ratio, whole, none, write, sum, difference, product, quotient, quotient_by, fits_sum, fits_difference, fits_product, fits_quotient, fits_quotient_by, fits_order}
 use Rattle.vb_value.proofs.IntLaws.{*ℤ_one, one-*ℤ, *ℤ_nonzero}
 use Rattle.vb_value.proofs.FractionLaws.{IsRepresentable-reduced}
 
@@ -62,16 +62,22 @@ IsRepresentable-quotient_by p n in_p num nonzero fits =
 
 -- ---- what always fits
 
--- a comparison with 0 or with 1
-pub fits_order-zero : (q : Fraction) → IsWithinFraction q → fits_order q (whole (pos 0)) ≡ true
-fits_order-zero q h =
+-- a comparison with none or with write
+pub fits_order-none : (q : Fraction) → IsWithinFraction q → fits_order q none ≡ true
+fits_order-none q h =
     both_true _ _ (is_within_from (q.num *ℤ pos 1) (subst IsWithin (sym (*ℤ_one q.num)) h.num)) (is_within_from (pos 0 *ℤ pos q.den) (omega arith))
 
-pub fits_order-one : (q : Fraction) → IsWithinFraction q → fits_order q (whole (pos 1)) ≡ true
-fits_order-one q h =
+pub fits_order-write : (q : Fraction) → IsWithinFraction q → fits_order q write ≡ true
+fits_order-write q h =
     both_true _ _ (is_within_from (q.num *ℤ pos 1) (subst IsWithin (sym (*ℤ_one q.num)) h.num)) (is_within_from (pos 1 *ℤ pos q.den) (omega (arith, h.den)))
 
--- a product with 1
-pub fits_product-one : (q : Fraction) → IsWithinFraction q → fits_product (whole (pos 1)) q ≡ true
-fits_product-one q h =
+-- a product with write
+pub fits_product-write : (q : Fraction) → IsWithinFraction q → fits_product write q ≡ true
+fits_product-write q h =
     both_true _ _ (is_within_from (pos 1 *ℤ q.num) (subst IsWithin (sym (one-*ℤ q.num)) h.num)) (is_within_from (pos (1 * q.den)) (omega (arith, h.den)))
+
+-- a quotient by a whole number fits where that by its fraction does
+pub fits_quotient-whole : (p : Fraction) (n : ℤ) → IsWithinFraction p → fits_quotient_by p n ≡ fits_quotient p (whole n)
+fits_quotient-whole p n h =
+    let one : is_within (p.num *ℤ pos 1) ≡ true = is_within_from (p.num *ℤ pos 1) (subst IsWithin (sym (*ℤ_one p.num)) h.num) in
+    ap is_within (*ℤ_comm (pos p.den) n) ∙ sym (ap (λ t. t && is_within (n *ℤ pos p.den)) one)

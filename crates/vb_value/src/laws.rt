@@ -2,10 +2,10 @@
 
 ghost use Rattle.std.specs.Prelude.{◌≡◌, ◌≢◌, ◌↔◌, ℕ, ℤ, pos, ◌*ℤ◌, ◌<◌, List, true};
 ghost use Rattle.std.specs.Int.{IsGcd};
-ghost use Rattle.std.specs.Ordering.{ordering_reverse};
+ghost use Rattle.std.specs.Ordering.{ordering_reverse, is_lt, is_eq, is_gt};
 ghost use Rattle.vb_value.specs.Gcd.{gcd};
 ghost use Rattle.vb_value.specs.Euclid.{IsEuclidean};
-ghost use Rattle.vb_value.specs.Fraction.{Fraction, IsReduced, reduced, whole, sum, difference, product, quotient, order, is_positive};
+ghost use Rattle.vb_value.specs.Fraction.{Fraction, IsReduced, IsWithinFraction, reduced, whole, none, write, sum, difference, product, quotient, quotient_by, order, is_negative, is_positive, is_none, is_above_one, fits_product, fits_quotient, fits_quotient_by, fits_order};
 ghost use Rattle.vb_value.specs.View.{content_of};
 ghost use Rattle.vb_value.specs.declared.values.Value.{Value};
 ghost use Rattle.vb_value.specs.declared.keys.KeyPart.{KeyPart};
@@ -67,6 +67,28 @@ pub fn order_is_that_of_the_rationals()
         → order (sum p r) (sum q r) ≡ order p q }
     ensures products { (k : Fraction) (p : Fraction) (q : Fraction) → IsReduced k → IsReduced p → IsReduced q
         → is_positive k ≡ true → order (product k p) (product k q) ≡ order p q }
+{}
+
+/// To compare an amount with none or with write is never over, and tells its sign and whether it is above write.
+pub fn comparing_with_none_or_write_is_never_over()
+    ensures fits_none { (q : Fraction) → IsWithinFraction q → fits_order q none ≡ true }
+    ensures fits_write { (q : Fraction) → IsWithinFraction q → fits_order q write ≡ true }
+    ensures negative { (q : Fraction) → is_negative q ≡ is_lt (order q none) }
+    ensures positive { (q : Fraction) → is_positive q ≡ is_gt (order q none) }
+    ensures none { (q : Fraction) → is_none q ≡ is_eq (order q none) }
+    ensures above_one { (q : Fraction) → is_above_one q ≡ is_gt (order q write) }
+{}
+
+/// To multiply an amount by write is never over.
+pub fn multiplying_by_write_is_never_over()
+    ensures { (q : Fraction) → IsWithinFraction q → fits_product write q ≡ true }
+{}
+
+/// To divide by a whole number is to divide by it as a fraction, and is over exactly where that is.
+pub fn dividing_by_a_number_is_dividing_by_its_fraction()
+    ensures value { (p : Fraction) (n : ℤ) → quotient_by p n ≡ quotient p (whole n) }
+    ensures fits { (p : Fraction) (n : ℤ) → IsWithinFraction p
+        → fits_quotient_by p n ≡ fits_quotient p (whole n) }
 {}
 
 /// `==` tells fractions, values and contents apart exactly.
