@@ -13,6 +13,7 @@ pub mod RunLaws
 pub mod RunBoundLaws
 pub mod RunKeptLaws
 pub mod ForgetLaws
+pub mod ForgottenLaws
 pub mod RunWithinLaws
 pub mod RunSignLaws
 pub mod PartLaws

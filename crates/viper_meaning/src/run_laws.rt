@@ -1,13 +1,14 @@
 //! Laws of runs, each as the contract of a function that does nothing.
 
-ghost use Rattle.std.specs.Prelude.{◌≡◌, ◌++◌, List, false};
+ghost use Rattle.std.specs.Prelude.{◌≡◌, ℕ, ◌++◌, List, Some, false, if◌then◌else◌};
 ghost use Rattle.vb_value.specs.Bound.{Bound, Unbounded, Bounded};
-ghost use Rattle.vb_value.specs.Fraction.{Fraction, IsReduced, is_negative};
+ghost use Rattle.vb_value.specs.Fraction.{Fraction, IsReduced, is_negative, is_none};
 ghost use Rattle.vb_value.specs.Layout.{Layout};
 ghost use Rattle.viper_core.specs.Expr as t;
 ghost use Rattle.viper_core.specs.Literals.{IsWithinAssertion, IsProperAssertion};
 ghost use Rattle.viper_state.specs.Choice.{Choice};
-ghost use Rattle.viper_state.specs.State.{State};
+ghost use Rattle.viper_state.specs.Fits.{FitsMemo, FitsState};
+ghost use Rattle.viper_state.specs.State.{Key, Memo, State, value_at, mask_at, content_at, amount_at};
 ghost use Rattle.viper_state.specs.Run.{Scene};
 ghost use Rattle.viper_state.specs.Within.{IsWithinState, IsWithinScene, IsWithinChoice, IsWithinEvent, IsProperState, IsProperScene, IsProperChoice, IsProperEvent, IsNonnegative};
 ghost use Rattle.viper_meaning.specs.Run.{Run, on, then_do, then_ran, is_short, with_more};
@@ -15,7 +16,7 @@ ghost use Rattle.viper_meaning.specs.ComparedRuns.{is_over};
 ghost use Rattle.viper_meaning.specs.Kept.{IsAny};
 ghost use Rattle.viper_meaning.specs.KeptRuns.{KeepsRun};
 ghost use Rattle.viper_meaning.specs.Assertions.{produce, consume};
-ghost use Rattle.viper_meaning.specs.Forgotten.{forget};
+ghost use Rattle.viper_meaning.specs.Forgotten.{forget, forgotten, with_memo};
 
 /// A run after a run is the first on the choices, and then the second on those that it left.
 pub fn a_run_goes_on_with_what_is_left()
@@ -78,4 +79,17 @@ pub fn no_run_makes_a_permission_negative()
     ensures consume { (b : Bound) (a : t.Assertion) (start : State) (sc : Scene) (k : Fraction) (left : State)
         → IsNonnegative left → KeepsRun IsAny IsAny IsNonnegative (consume b a start sc k left) }
     ensures forget { (layout : Layout) (s : State) → IsNonnegative s → KeepsRun IsAny IsAny IsNonnegative (forget layout s) }
+{}
+
+/// What forgetting leaves: a place to which nothing is held has the value that was taken from outside, and any other its own.
+/// So it is with what instances contain.
+pub fn what_is_not_held_is_forgotten()
+    ensures value { (l : Layout) (s : State) (m : Memo) (field r : ℕ) (q : Fraction) → FitsState l s → FitsMemo l m
+        → mask_at s field r ≡ Some q
+        → value_at (with_memo s (forgotten s m)) field r
+            ≡ (if is_none q then value_at (with_memo s m) field r else value_at s field r) }
+    ensures content { (l : Layout) (s : State) (m : Memo) (p : ℕ) (key : Key) (q : Fraction) → FitsState l s → FitsMemo l m
+        → amount_at s p key ≡ Some q
+        → content_at (with_memo s (forgotten s m)) p key
+            ≡ (if is_none q then content_at (with_memo s m) p key else content_at s p key) }
 {}

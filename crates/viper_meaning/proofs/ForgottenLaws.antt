@@ -1,0 +1,104 @@
+-- What forgetting leaves: where nothing is held the new heap and contents, and elsewhere the state's own.
+use Rattle.std.proofs.Common.{◌≡◌, ◌≢◌, ◌⊎◌, ⊎_elim, arith, inl, inr, refl, sym, ap, subst, ◌∙◌, ℕ, zero, suc, Bool, true, false, Some, List, [], ◌∷◌, Contains, if◌then◌else◌}
+use Rattle.std.proofs.lemmas.Bool.{true≢false}
+use Rattle.std.proofs.lemmas.List.Elements.{Contains-append_right}
+use Rattle.std.proofs.lemmas.Map.Made.{Contains-tail}
+use Rattle.std.specs.List.{AllZip}
+use Rattle.std.specs.declared.cmp.Ordering.{Ordering}
+use Rattle.std.specs.declared.cmp.Ordering.TheVariants.{Less, Equal, Greater}
+use Rattle.std.proofs.lemmas.Cmp.{tied_itself}
+use Rattle.sparse.specs.Map as map
+use Rattle.sparse.specs.Map.{Map, get, set, keys}
+use Rattle.sparse.specs.Meaning.{IsExact}
+use Rattle.sparse.proofs.MapLaws.{IsReduced-set, get-set_same, get-set_other, Contains-keys, get-key}
+use Rattle.vb_value.specs.Fraction.{Fraction, IsReduced, is_none, none}
+use Rattle.vb_value.specs.Layout.{Layout}
+use Rattle.vb_value.specs.Value.{fraction_eq}
+use Rattle.vb_value.proofs.ReducedLaws.{IsReduced-none}
+use Rattle.viper_state.specs.State.{Key, Memo, State, found_at, value_at, mask_at, content_at, amount_at}
+use Rattle.viper_state.specs.Fits.{FitsMap, FitsKey, IsReference, FitsHeap, FitsContents, FitsMemo, FitsState}
+use Rattle.viper_state.proofs.FitsLaws.{FitsMap-get}
+use Rattle.viper_state.proofs.MapLaws.{exact_values, exact_masks, exact_contents, exact_amounts}
+use Rattle.viper_meaning.specs.Forgotten.{kept_at, forgotten_maps, forgotten, with_memo}
+use Rattle.viper_meaning.proofs.PartLaws.{is_none_itself}
+
+-- ---- one map
+
+module _ {K V : Type 0} {cmp : K → K → Ordering} {eq : V → V → Bool} (x : IsExact cmp eq) where
+  same_by : (k q : K) (o : Ordering) → cmp q k ≡ o → (k ≡ q) ⊎ (k ≢ q)
+  same_by k q Equal e = inl (sym (x.keys q k e))
+  same_by k q Less e = inr (λ same. let itself = tied_itself x.total q in cc)
+  same_by k q Greater e = inr (λ same. let itself = tied_itself x.total q in cc)
+
+  same_or_apart : (k q : K) → (k ≡ q) ⊎ (k ≢ q)
+  same_or_apart k q = same_by k q (cmp q k) refl
+
+  -- the first key has its own value
+  module _ (new own : Map K V) (k q : K) (r : map.IsReduced cmp eq new) where
+    own_here : k ≡ q → get cmp (set cmp eq new k (get cmp own k)) q ≡ get cmp own q
+    own_here same = subst (λ j. get cmp (set cmp eq new k (get cmp own k)) j ≡ get cmp own j) same (get-set_same x new r k (get cmp own k))
+
+    own_still : (k ≡ q) ⊎ (k ≢ q) → get cmp new q ≡ get cmp own q → get cmp (set cmp eq new k (get cmp own k)) q ≡ get cmp own q
+    own_still (inl same) h = own_here same
+    own_still (inr apart) h = get-set_other x new r k q (get cmp own k) apart ∙ h
+
+    next_reduced : map.IsReduced cmp eq (set cmp eq new k (get cmp own k))
+    next_reduced = IsReduced-set x.total new r k (get cmp own k)
+
+  -- a value that is the own one stays so
+  own_stays : (new own : Map K V) (ks : List K) (q : K) → map.IsReduced cmp eq new → get cmp new q ≡ get cmp own q → get cmp (kept_at cmp eq new own ks) q ≡ get cmp own q
+  own_stays new own [] q r h = h
+  own_stays new own (k ∷ ks) q r h = own_stays (set cmp eq new k (get cmp own k)) own ks q (next_reduced new own k q r) (own_still new own k q r (same_or_apart k q) h)
+
+  -- each of the keys has the own value
+  own_at : (new own : Map K V) (ks : List K) (q : K) → map.IsReduced cmp eq new → Contains ks q → get cmp (kept_at cmp eq new own ks) q ≡ get cmp own q
+  own_at new own [] q r c = let below = c.1 in absurd (omega arith)
+  own_at new own (k ∷ ks) q r c =
+      let next = set cmp eq new k (get cmp own k) in
+      let reduced = next_reduced new own k q r in
+      ⊎_elim (λ same. own_stays next own ks q reduced (own_here new own k q r same)) (λ apart. own_at next own ks q reduced (Contains-tail k ks q apart c)) (same_or_apart k q)
+
+  -- and any other key the new one
+  new_at : (new own : Map K V) (ks : List K) (q : K) → map.IsReduced cmp eq new → (Contains ks q → ⊥) → get cmp (kept_at cmp eq new own ks) q ≡ get cmp new q
+  new_at new own [] q r n = refl
+  new_at new own (k ∷ ks) q r n =
+      let next = set cmp eq new k (get cmp own k) in
+      ⊎_elim (λ same. absurd (n (0, omega arith, same)))
+      (λ apart. new_at next own ks q (next_reduced new own k q r) (λ c. n (Contains-append_right (k ∷ []) ks q c)) ∙ get-set_other x new r k q (get cmp own k) apart)
+      (same_or_apart k q)
+
+  -- ---- by what is held
+
+  module _ (y : IsExact cmp fraction_eq) {P : K → Type 0} (new own : Map K V) (held : Map K Fraction) (q : K) (r : map.IsReduced cmp eq new) (fits : FitsMap cmp fraction_eq none P IsReduced held) where
+    left_by : (p : Fraction) → get cmp held q ≡ p → (b : Bool) → is_none p ≡ b → Some (get cmp (kept_at cmp eq new own (keys held)) q) ≡ (if b then Some (get cmp new q) else Some (get cmp own q))
+    left_by p e true f =
+        let nothing : get cmp held q ≡ held.default = e ∙ is_none_itself p (subst IsReduced e (FitsMap-get y.total held q fits IsReduced-none)) f ∙ sym fits.default in
+        ap Some (new_at new own (keys held) q r (λ c. get-key y held fits.reduced q c nothing))
+    left_by p e false f =
+        ap Some (own_at new own (keys held) q r (Contains-keys y held fits.reduced q (λ d. true≢false (ap is_none (sym (d ∙ fits.default) ∙ e) ∙ f))))
+
+-- ---- all maps
+
+module _ {K V U : Type 0} {cmp : K → K → Ordering} {eq : V → V → Bool} (x : IsExact cmp eq) (y : IsExact cmp fraction_eq) (P : U → K → Type 0) (R : U → Map K V → Type 0) (reduced : (u : U) (m : Map K V) → R u m → map.IsReduced cmp eq m) where
+  abbrev IsHeld : U → Map K Fraction → Type 0
+  IsHeld u m = FitsMap cmp fraction_eq none (P u) IsReduced m
+
+  left_at : (us : List U) (news owns : List (Map K V)) (helds : List (Map K Fraction)) (n : ℕ) (k : K) (q : Fraction) → AllZip R us news → AllZip R us owns → AllZip IsHeld us helds → found_at cmp helds n k ≡ Some q →
+      found_at cmp (forgotten_maps cmp eq news owns helds) n k ≡ (if is_none q then found_at cmp news n k else found_at cmp owns n k)
+  left_at us news owns [] n k q f g h e = cc
+  left_at [] news owns (m ∷ helds) n k q f g h e = absurd h
+  left_at (u ∷ us) [] owns (m ∷ helds) n k q f g h e = absurd f
+  left_at (u ∷ us) (a ∷ news) [] (m ∷ helds) n k q f g h e = absurd g
+  left_at (u ∷ us) (a ∷ news) (o ∷ owns) (m ∷ helds) zero k q f g h e =
+      let held : get cmp m k ≡ q = cc in
+      left_by x y a o m k (reduced u a f.0) h.0 q held (is_none q) refl
+  left_at (u ∷ us) (a ∷ news) (o ∷ owns) (m ∷ helds) (suc n) k q f g h e = left_at us news owns helds n k q f.1 g.1 h.1 e
+
+-- ---- states
+
+module _ (l : Layout) (s : State) (m : Memo) (h : FitsState l s) (g : FitsMemo l m) where
+  pub value_left : (f r : ℕ) (q : Fraction) → mask_at s f r ≡ Some q → value_at (with_memo s (forgotten s m)) f r ≡ (if is_none q then value_at (with_memo s m) f r else value_at s f r)
+  value_left f r q e = left_at exact_values exact_masks (λ u. IsReference) FitsHeap (λ u n i. i.reduced) l.fields m.heap s.heap s.mask f r q g.heap h.heap h.mask e
+
+  pub content_left : (p : ℕ) (k : Key) (q : Fraction) → amount_at s p k ≡ Some q → content_at (with_memo s (forgotten s m)) p k ≡ (if is_none q then content_at (with_memo s m) p k else content_at s p k)
+  content_left p k q e = left_at exact_contents exact_amounts FitsKey FitsContents (λ us n i. i.reduced) l.keys m.content s.content s.amount p k q g.content h.content h.amount e
