@@ -13,3 +13,4 @@ pub mod WiderLaws
 pub mod UnitLaws
 pub mod PartLaws
 pub mod StmtParts
+pub mod CutLaws

@@ -139,11 +139,14 @@ choose_parts {c} {a} {b} {d} {u} h =
     let second : IsPartExpr c d u = record { context = h.context; typed = typed.2; nested = omega (arith, h.nested) } in
     (condition, first, second)
 
-field_typed : {c : Context} {a : t.Expr} {f : ℕ} {at : Pos} {u : Ty} → HasType c (t.Field a f at) u → HasType c a ty.Ref
-field_typed (field h is) = h
+field_typed : {c : Context} {a : t.Expr} {f : ℕ} {at : Pos} {u : Ty} → HasType c (t.Field a f at) u → (slice_get c.program.layout.fields f ≡ Some u) × HasType c a ty.Ref
+field_typed (field h is) = (is, h)
 
-pub field_part : {c : Context} {a : t.Expr} {f : ℕ} {at : Pos} {u : Ty} → IsPartExpr c (t.Field a f at) u → IsPartExpr c a ty.Ref
-field_part h = record { context = h.context; typed = field_typed h.typed; nested = omega (arith, h.nested) }
+pub field_part : {c : Context} {a : t.Expr} {f : ℕ} {at : Pos} {u : Ty} → IsPartExpr c (t.Field a f at) u → (slice_get c.program.layout.fields f ≡ Some u) × IsPartExpr c a ty.Ref
+field_part {c} {a} {f} {at} {u} h =
+    let typed = field_typed h.typed in
+    let receiver : IsPartExpr c a ty.Ref = record { context = h.context; typed = typed.1; nested = omega (arith, h.nested) } in
+    (typed.0, receiver)
 
 old_typed : {c : Context} {a : t.Expr} {u : Ty} → HasType c (t.Old a) u → HasType c a u
 old_typed (old z h) = h
@@ -213,15 +216,17 @@ fact_typed (fact h) = h
 pub fact_part : {c : Context} {e : t.Expr} {at : Pos} → IsPartAssertion c (t.Fact e at) → IsPartExpr c e ty.Bool
 fact_part h = record { context = h.context; typed = fact_typed h.typed; nested = h.nested }
 
-acc_typed : {c : Context} {e : t.Expr} {f : ℕ} {m : t.Amt} {at : Pos} → IsAssertion c (t.Acc e f m at) → HasType c e ty.Ref × IsAmount c m
-acc_typed (access h is m) = (h, m)
+acc_typed : {c : Context} {e : t.Expr} {f : ℕ} {m : t.Amt} {at : Pos} → IsAssertion c (t.Acc e f m at) →
+    (u : Ty) × (slice_get c.program.layout.fields f ≡ Some u) × HasType c e ty.Ref × IsAmount c m
+acc_typed (access {u = u} h is m) = (u, is, h, m)
 
-pub acc_parts : {c : Context} {e : t.Expr} {f : ℕ} {m : t.Amt} {at : Pos} → IsPartAssertion c (t.Acc e f m at) → IsPartExpr c e ty.Ref × IsPartAmount c m
+pub acc_parts : {c : Context} {e : t.Expr} {f : ℕ} {m : t.Amt} {at : Pos} → IsPartAssertion c (t.Acc e f m at) →
+    (u : Ty) × (slice_get c.program.layout.fields f ≡ Some u) × IsPartExpr c e ty.Ref × IsPartAmount c m
 acc_parts {c} {e} {f} {m} {at} h =
     let typed = acc_typed h.typed in
-    let receiver : IsPartExpr c e ty.Ref = record { context = h.context; typed = typed.0; nested = omega (arith, h.nested) } in
-    let amount : IsPartAmount c m = record { context = h.context; typed = typed.1; nested = omega (arith, h.nested) } in
-    (receiver, amount)
+    let receiver : IsPartExpr c e ty.Ref = record { context = h.context; typed = typed.2; nested = omega (arith, h.nested) } in
+    let amount : IsPartAmount c m = record { context = h.context; typed = typed.3; nested = omega (arith, h.nested) } in
+    (typed.0, typed.1, receiver, amount)
 
 inst_typed : {c : Context} {k : ℕ} {es : t.Exprs} {m : t.Amt} {at : Pos} → IsAssertion c (t.Inst k es m at) →
     (d : Predicate) × (slice_get c.program.predicates k ≡ Some d) × HaveTypes c es d.params × IsAmount c m

@@ -1,5 +1,5 @@
 -- From the statements of a formed program to their parts.
-use Rattle.std.proofs.Common.{◌≡◌, ◌≤◌, ℕ, List, Some, All, slice_get, length, arith}
+use Rattle.std.proofs.Common.{◌≡◌, ◌≤◌, ◌⊎◌, inl, inr, ℕ, List, [], ◌∷◌, None, Some, All, slice_get, length, arith}
 use Rattle.vb_base.specs.declared.places.Pos.{Pos}
 use Rattle.vb_value.specs.declared.values.Ty.{Ty}
 use Rattle.vb_value.specs.declared.values.Ty.TheVariants as ty
@@ -7,9 +7,9 @@ use Rattle.viper_core.specs.Depth.{fold_depth}
 use Rattle.viper_core.specs.Expr as t
 use Rattle.viper_core.specs.Part.{IsContext, IsPartExpr, ArePartExprs, IsPartAssertion, FoldParts, IsFrame, IsPartStmt, ArePartStmts}
 use Rattle.viper_core.specs.Program.{Method}
-use Rattle.viper_core.specs.Scope.{Scope, after_block, scope_after, stmts_scope}
+use Rattle.viper_core.specs.Scope.{Scope, after_block, scope_after, stmts_scope, refs_in, loop_targets}
 use Rattle.viper_core.specs.Stmt as s
-use Rattle.viper_core.specs.Typing.{Context, HasType, HaveTypes, IsAssertion, Frame, inside, params_of, IsFold, IsStmt, initial, assigns, writes, calls, inhales, exhales, asserts, folds, unfolds, branches, loops, AreStmts, goes_on}
+use Rattle.viper_core.specs.Typing.{Context, HasType, HaveTypes, IsAssertion, Frame, inside, IsTarget, also, Receive, assigned, declared, AreFields, params_of, returns_of, IsFold, IsStmt, declares, initial, assigns, writes, creates, calls, inhales, exhales, asserts, folds, unfolds, branches, loops, AreStmts, goes_on}
 use Rattle.viper_core.proofs.PartLaws.{body_part, clauses_parts, depth-amount}
 use Rattle.viper_core.proofs.ScopeLaws.{fresh-scope_after, fresh-stmts_scope, numbered-after_block, numbered-scope_after}
 
@@ -104,6 +104,12 @@ invariants_typed (loops h i j k) = i
 body_typed : {m : Frame} {sc : Scope} {at turn : Pos} {e : t.Expr} {is : List t.Assertion} {body : s.Stmts} {targets : List ℕ} → IsStmt m sc (s.While (s.loop at e is body turn targets)) → AreStmts m sc body
 body_typed (loops h i j k) = j
 
+targets_listed : {m : Frame} {sc : Scope} {at turn : Pos} {e : t.Expr} {is : List t.Assertion} {body : s.Stmts} {targets : List ℕ} → IsStmt m sc (s.While (s.loop at e is body turn targets)) → targets ≡ loop_targets sc body
+targets_listed (loops h i j k) = k
+
+pub turn_targets : {m : Frame} {sc : Scope} {at turn : Pos} {e : t.Expr} {is : List t.Assertion} {body : s.Stmts} {targets : List ℕ} → IsPartStmt m sc (s.While (s.loop at e is body turn targets)) → targets ≡ loop_targets sc body
+turn_targets h = targets_listed h.typed
+
 pub guard_part : {m : Frame} {sc : Scope} {at turn : Pos} {e : t.Expr} {is : List t.Assertion} {body : s.Stmts} {targets : List ℕ} → IsPartStmt m sc (s.While (s.loop at e is body turn targets)) →
     IsPartExpr (inside m sc) e ty.Bool
 guard_part h = record { context = stmt_context h; typed = guard_typed h.typed; nested = omega (arith, h.nested) }
@@ -123,19 +129,27 @@ turn_part h = record {
 
 -- ---- other statements
 
-initial_typed : {m : Frame} {sc : Scope} {at : Pos} {x : ℕ} {e : t.Expr} → IsStmt m sc (s.Var at x (Some e)) → (u : Ty) × (slice_get m.vars x ≡ Some u) × HasType (inside m sc) e u
-initial_typed (initial {u = u} is found h) = (u, found, h)
+declared_typed : {m : Frame} {sc : Scope} {at : Pos} {x : ℕ} → IsStmt m sc (s.Var at x None) → (u : Ty) × (x ≡ sc.fresh) × (slice_get m.vars x ≡ Some u)
+declared_typed (declares {u = u} is found) = (u, is, found)
 
-pub initial_part : {m : Frame} {sc : Scope} {at : Pos} {x : ℕ} {e : t.Expr} → IsPartStmt m sc (s.Var at x (Some e)) → (u : Ty) × (slice_get m.vars x ≡ Some u) × IsPartExpr (inside m sc) e u
+pub declared_part : {m : Frame} {sc : Scope} {at : Pos} {x : ℕ} → IsPartStmt m sc (s.Var at x None) → (u : Ty) × (x ≡ sc.fresh) × (slice_get m.vars x ≡ Some u)
+declared_part h = declared_typed h.typed
+
+initial_typed : {m : Frame} {sc : Scope} {at : Pos} {x : ℕ} {e : t.Expr} → IsStmt m sc (s.Var at x (Some e)) →
+    (u : Ty) × (x ≡ sc.fresh) × (slice_get m.vars x ≡ Some u) × HasType (inside m sc) e u
+initial_typed (initial {u = u} is found h) = (u, is, found, h)
+
+pub initial_part : {m : Frame} {sc : Scope} {at : Pos} {x : ℕ} {e : t.Expr} → IsPartStmt m sc (s.Var at x (Some e)) →
+    (u : Ty) × (x ≡ sc.fresh) × (slice_get m.vars x ≡ Some u) × IsPartExpr (inside m sc) e u
 initial_part {m} {sc} {at} {x} {e} h =
     let typed = initial_typed h.typed in
-    let part : IsPartExpr (inside m sc) e typed.0 = record { context = stmt_context h; typed = typed.2; nested = h.nested } in
-    (typed.0, typed.1, part)
+    let part : IsPartExpr (inside m sc) e typed.0 = record { context = stmt_context h; typed = typed.3; nested = h.nested } in
+    (typed.0, typed.1, typed.2, part)
 
-assigned_typed : {m : Frame} {sc : Scope} {at : Pos} {x : ℕ} {e : t.Expr} → IsStmt m sc (s.Assign at x e) → (u : Ty) × (slice_get m.vars x ≡ Some u) × HasType (inside m sc) e u
-assigned_typed (assigns {u = u} target h) = (u, target.typed, h)
+assigned_typed : {m : Frame} {sc : Scope} {at : Pos} {x : ℕ} {e : t.Expr} → IsStmt m sc (s.Assign at x e) → (u : Ty) × IsTarget m sc x u × HasType (inside m sc) e u
+assigned_typed (assigns {u = u} target h) = (u, target, h)
 
-pub assigned_part : {m : Frame} {sc : Scope} {at : Pos} {x : ℕ} {e : t.Expr} → IsPartStmt m sc (s.Assign at x e) → (u : Ty) × (slice_get m.vars x ≡ Some u) × IsPartExpr (inside m sc) e u
+pub assigned_part : {m : Frame} {sc : Scope} {at : Pos} {x : ℕ} {e : t.Expr} → IsPartStmt m sc (s.Assign at x e) → (u : Ty) × IsTarget m sc x u × IsPartExpr (inside m sc) e u
 assigned_part {m} {sc} {at} {x} {e} h =
     let typed = assigned_typed h.typed in
     let part : IsPartExpr (inside m sc) e typed.0 = record { context = stmt_context h; typed = typed.2; nested = h.nested } in
@@ -153,16 +167,32 @@ written_parts {m} {sc} {at} {place} {a} {b} {f} h =
     let value : IsPartExpr (inside m sc) b typed.0 = record { context = stmt_context h; typed = typed.3; nested = omega (arith, h.nested) } in
     (typed.0, typed.1, receiver, value)
 
+-- what receives one value is a variable of its type that may be assigned, or the next one
+one_received : {m : Frame} {sc : Scope} {x : ℕ} {u : Ty} → Receive m sc (x ∷ []) (u ∷ []) → (slice_get m.vars x ≡ Some u) × (IsTarget m sc x u ⊎ (x ≡ sc.fresh))
+one_received (assigned (also target rest) differ) = (target.typed, inl target)
+one_received (declared is found) = (found, inr is)
+
+created_typed : {m : Frame} {sc : Scope} {at : Pos} {x : ℕ} {fields refs : List ℕ} → IsStmt m sc (s.New at x fields refs) →
+    Receive m sc (x ∷ []) (ty.Ref ∷ []) × AreFields m.program fields × (refs ≡ refs_in m.vars sc)
+created_typed (creates into fields is) = (into, fields, is)
+
+pub created_part : {m : Frame} {sc : Scope} {at : Pos} {x : ℕ} {fields refs : List ℕ} → IsPartStmt m sc (s.New at x fields refs) →
+    (slice_get m.vars x ≡ Some ty.Ref) × (IsTarget m sc x ty.Ref ⊎ (x ≡ sc.fresh)) × AreFields m.program fields × (refs ≡ refs_in m.vars sc)
+created_part h =
+    let typed = created_typed h.typed in
+    let target = one_received typed.0 in
+    (target.0, target.1, typed.1, typed.2)
+
 called_typed : {m : Frame} {sc : Scope} {at : Pos} {xs : List ℕ} {k : ℕ} {es : t.Exprs} → IsStmt m sc (s.Call at xs k es) →
-    (callee : Method) × (slice_get m.program.methods k ≡ Some callee) × HaveTypes (inside m sc) es (params_of callee)
-called_typed (calls callee exists args into) = (callee, exists, args)
+    (callee : Method) × (slice_get m.program.methods k ≡ Some callee) × HaveTypes (inside m sc) es (params_of callee) × Receive m sc xs (returns_of callee)
+called_typed (calls callee exists args into) = (callee, exists, args, into)
 
 pub called_parts : {m : Frame} {sc : Scope} {at : Pos} {xs : List ℕ} {k : ℕ} {es : t.Exprs} → IsPartStmt m sc (s.Call at xs k es) →
-    (callee : Method) × (slice_get m.program.methods k ≡ Some callee) × ArePartExprs (inside m sc) es (params_of callee)
+    (callee : Method) × (slice_get m.program.methods k ≡ Some callee) × ArePartExprs (inside m sc) es (params_of callee) × Receive m sc xs (returns_of callee)
 called_parts {m} {sc} {at} {xs} {k} {es} h =
     let typed = called_typed h.typed in
     let arguments : ArePartExprs (inside m sc) es (params_of typed.0) = record { context = stmt_context h; typed = typed.2; nested = h.nested } in
-    (typed.0, typed.1, arguments)
+    (typed.0, typed.1, arguments, typed.3)
 
 inhaled_typed : {m : Frame} {sc : Scope} {at : Pos} {a : t.Assertion} → IsStmt m sc (s.Inhale at a) → IsAssertion (inside m sc) a
 inhaled_typed (inhales h) = h

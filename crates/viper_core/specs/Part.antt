@@ -1,6 +1,6 @@
 -- The parts of a formed program, which calls are given: each stands in a context of the program, is typed there, and is
 -- nested no deeper than the program is.
-use Rattle.std.specs.Prelude.{◌≡◌, ◌<◌, ◌≤◌, ◌^◌, ℕ, List, Some, slice_get, Contains, IsTrue, length}
+use Rattle.std.specs.Prelude.{◌≡◌, ◌<◌, ◌≤◌, ◌^◌, ℕ, List, Some, slice_get, Contains, IsTrue, length, take}
 use Rattle.vb_value.specs.declared.values.Ty.{Ty}
 use Rattle.vb_value.specs.declared.values.Ty.TheVariants as ty
 use Rattle.viper_core.specs.Depth.{depth, depths, amt_depth, assertion_depth, stmt_depth, stmts_depth, blocks_of, block_depth}
@@ -101,3 +101,13 @@ pub record IsWider (c : Context) (visible : List ℕ) (site : Site) : Type 0 whe
 
 abbrev pub widened : Context → List ℕ → Site → Context
 widened c visible site = record { program = c.program; vars = c.vars; visible = visible; site = site }
+
+-- ---- the first variables of a context
+
+-- where only variables below this number are visible
+abbrev pub SeesBelow : Context → ℕ → Type 0
+SeesBelow c n = (x : ℕ) → Contains c.visible x → x < n
+
+-- with so many of its variables, the first
+abbrev pub cut : Context → ℕ → Context
+cut c n = record { program = c.program; vars = take n c.vars; visible = c.visible; site = c.site }

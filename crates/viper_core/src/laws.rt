@@ -1,6 +1,6 @@
 //! Laws of the definitions, each as the contract of a function that does nothing.
 
-ghost use Rattle.std.specs.Prelude.{◌≡◌, ◌≤◌, ◌<◌, ◌⊎◌, ℕ, List, Some, All, Contains, IsTrue, slice_get};
+ghost use Rattle.std.specs.Prelude.{◌≡◌, ◌≤◌, ◌<◌, ◌+◌, ◌⊎◌, ℕ, List, ◌∷◌, None, Some, All, Contains, IsTrue, slice_get};
 ghost use Rattle.vb_base.specs.declared.places.Pos.{Pos};
 ghost use Rattle.vb_value.specs.Bound.{Bound};
 ghost use Rattle.vb_value.specs.declared.values.Ty.{Ty};
@@ -10,12 +10,12 @@ ghost use Rattle.viper_core.specs.declared.programs.Unit.TheVariants as unit;
 ghost use Rattle.viper_core.specs.Expr as t;
 ghost use Rattle.viper_core.specs.Formed.{IsTypedProgram, IsFormed, HasBodyAt, predicate_context, precondition_context, postcondition_context, method_frame, method_scope};
 ghost use Rattle.viper_core.specs.Literals.{IsProperExpr, IsProperAssertion, IsWithinExpr, IsWithinAssertion};
-ghost use Rattle.viper_core.specs.Part.{IsPartExpr, ArePartExprs, IsPartAmount, IsPartAssertion, IsPartStmt, ArePartStmts, OpensParts, FoldParts, IsWider, widened};
+ghost use Rattle.viper_core.specs.Part.{IsContext, IsPartExpr, ArePartExprs, IsPartAmount, IsPartAssertion, IsPartStmt, ArePartStmts, OpensParts, FoldParts, IsWider, widened, SeesBelow, cut};
 ghost use Rattle.viper_core.specs.Plain.{AssertionOpensNothing, AssertionHasNoOld};
 ghost use Rattle.viper_core.specs.Program as p;
-ghost use Rattle.viper_core.specs.Scope.{Scope, after_block, scope_after, some_assigns, stmts_scope};
+ghost use Rattle.viper_core.specs.Scope.{Scope, after_block, scope_after, some_assigns, stmts_scope, refs_in, loop_targets};
 ghost use Rattle.viper_core.specs.Stmt as s;
-ghost use Rattle.viper_core.specs.Typing.{Site, Context, Frame, inside, value_type, HasType, IsAssertion, AreStmts};
+ghost use Rattle.viper_core.specs.Typing.{Site, Context, Frame, inside, value_type, HasType, HaveTypes, Opens, IsAmount, IsAssertion, IsTarget, Receive, AreFields, params_of, returns_of, AreStmts};
 ghost use Rattle.viper_core.specs.Weight.{weight, told_weight, predicate_weight, method_weight};
 
 /// An expression has at most one type.
@@ -97,6 +97,23 @@ pub fn a_program_has_parts()
         → m.body ≡ Some b → ArePartStmts (method_frame q m) (method_scope m) b.stmts }
 {}
 
+/// What is typed where only the first variables are visible is typed among these alone. So a clause of a method is a part
+/// in the variables that a call gives it: the parameters before the call, and the returns too after it.
+pub fn the_first_variables_suffice()
+    ensures context { (c : Context) (n : ℕ) → SeesBelow c n → IsContext c → IsContext (cut c n) }
+    ensures expr { (c : Context) (n : ℕ) (e : t.Expr) (u : Ty) → SeesBelow c n → HasType c e u → HasType (cut c n) e u }
+    ensures arguments { (c : Context) (n : ℕ) (es : t.Exprs) (us : List Ty) → SeesBelow c n → HaveTypes c es us
+        → HaveTypes (cut c n) es us }
+    ensures opened { (c : Context) (n : ℕ) (o : t.Opened) (u : Ty) → SeesBelow c n → Opens c o u → Opens (cut c n) o u }
+    ensures amount { (c : Context) (n : ℕ) (m : t.Amt) → SeesBelow c n → IsAmount c m → IsAmount (cut c n) m }
+    ensures assertion { (c : Context) (n : ℕ) (a : t.Assertion) → SeesBelow c n → IsAssertion c a
+        → IsAssertion (cut c n) a }
+    ensures preconditions { (q : p.Program) (k : ℕ) (m : p.Method) → IsFormed q → slice_get q.methods k ≡ Some m
+        → All (IsPartAssertion (cut (precondition_context q m) m.params)) m.preconditions }
+    ensures postconditions { (q : p.Program) (k : ℕ) (m : p.Method) → IsFormed q → slice_get q.methods k ≡ Some m
+        → All (IsPartAssertion (cut (postcondition_context q m) (m.params + m.returns))) m.postconditions }
+{}
+
 /// What a part opens is the body of its predicate, and a part of the program too.
 pub fn an_opened_body_is_a_part()
     ensures unfolding { (c : Context) (k : ℕ) (es : t.Exprs) (m : t.Expr) (a : t.Assertion) (e : t.Expr) (at : Pos)
@@ -106,7 +123,8 @@ pub fn an_opened_body_is_a_part()
         → FoldParts (inside m sc) f }
 {}
 
-/// The statements in a part are parts, each in the scope in which it begins.
+/// The statements in a part are parts, each in the scope in which it begins, and so is what a statement says. Its targets
+/// are variables of the method, of the types of their values. `an_opened_body_is_a_part` speaks of `fold` and `unfold`.
 pub fn statements_have_parts()
     ensures first { (m : Frame) (sc : Scope) (a : s.Stmt) (rest : s.Stmts) → ArePartStmts m sc (s.next a rest)
         → IsPartStmt m sc a }
@@ -117,7 +135,32 @@ pub fn statements_have_parts()
         × ArePartStmts m (after_block sc (stmts_scope sc a)) b }
     ensures turns { (m : Frame) (sc : Scope) (at : Pos) (e : t.Expr) (is : List t.Assertion) (body : s.Stmts)
         (turn : Pos) (targets : List ℕ) → IsPartStmt m sc (s.While (s.loop at e is body turn targets))
-        → IsPartExpr (inside m sc) e ty.Bool × All (IsPartAssertion (inside m sc)) is × ArePartStmts m sc body }
+        → IsPartExpr (inside m sc) e ty.Bool × All (IsPartAssertion (inside m sc)) is × ArePartStmts m sc body
+        × (targets ≡ loop_targets sc body) }
+    ensures declared { (m : Frame) (sc : Scope) (at : Pos) (x : ℕ) → IsPartStmt m sc (s.Var at x None)
+        → (u : Ty) × (x ≡ sc.fresh) × (slice_get m.vars x ≡ Some u) }
+    ensures initial { (m : Frame) (sc : Scope) (at : Pos) (x : ℕ) (e : t.Expr) → IsPartStmt m sc (s.Var at x (Some e))
+        → (u : Ty) × (x ≡ sc.fresh) × (slice_get m.vars x ≡ Some u) × IsPartExpr (inside m sc) e u }
+    ensures assigned { (m : Frame) (sc : Scope) (at : Pos) (x : ℕ) (e : t.Expr) → IsPartStmt m sc (s.Assign at x e)
+        → (u : Ty) × IsTarget m sc x u × IsPartExpr (inside m sc) e u }
+    ensures written { (m : Frame) (sc : Scope) (at : Pos) (e : t.Expr) (f : ℕ) (place : Pos) (d : t.Expr)
+        → IsPartStmt m sc (s.Write at e f place d)
+        → (u : Ty) × (slice_get m.program.layout.fields f ≡ Some u) × IsPartExpr (inside m sc) e ty.Ref
+        × IsPartExpr (inside m sc) d u }
+    ensures created { (m : Frame) (sc : Scope) (at : Pos) (x : ℕ) (fields : List ℕ) (refs : List ℕ)
+        → IsPartStmt m sc (s.New at x fields refs)
+        → (slice_get m.vars x ≡ Some ty.Ref) × (IsTarget m sc x ty.Ref ⊎ (x ≡ sc.fresh)) × AreFields m.program fields
+        × (refs ≡ refs_in m.vars sc) }
+    ensures called { (m : Frame) (sc : Scope) (at : Pos) (xs : List ℕ) (k : ℕ) (es : t.Exprs)
+        → IsPartStmt m sc (s.Call at xs k es)
+        → (callee : p.Method) × (slice_get m.program.methods k ≡ Some callee)
+        × ArePartExprs (inside m sc) es (params_of callee) × Receive m sc xs (returns_of callee) }
+    ensures inhaled { (m : Frame) (sc : Scope) (at : Pos) (a : t.Assertion) → IsPartStmt m sc (s.Inhale at a)
+        → IsPartAssertion (inside m sc) a }
+    ensures exhaled { (m : Frame) (sc : Scope) (at : Pos) (a : t.Assertion) → IsPartStmt m sc (s.Exhale at a)
+        → IsPartAssertion (inside m sc) a }
+    ensures asserted { (m : Frame) (sc : Scope) (at : Pos) (a : t.Assertion) → IsPartStmt m sc (s.Assert at a)
+        → IsPartAssertion (inside m sc) a }
 {}
 
 /// The operands in a part are parts, of the types that its form asks for.
@@ -130,15 +173,17 @@ pub fn expressions_have_parts()
     ensures choice { (c : Context) (a : t.Expr) (b : t.Expr) (d : t.Expr) (u : Ty) → IsPartExpr c (t.Choose a b d) u
         → IsPartExpr c a ty.Bool × IsPartExpr c b u × IsPartExpr c d u }
     ensures field { (c : Context) (a : t.Expr) (f : ℕ) (at : Pos) (u : Ty) → IsPartExpr c (t.Field a f at) u
-        → IsPartExpr c a ty.Ref }
+        → (slice_get c.program.layout.fields f ≡ Some u) × IsPartExpr c a ty.Ref }
     ensures old { (c : Context) (a : t.Expr) (u : Ty) → IsPartExpr c (t.Old a) u → IsPartExpr c a u }
+    ensures arguments { (c : Context) (a : t.Expr) (rest : t.Exprs) (u : Ty) (us : List Ty)
+        → ArePartExprs c (t.more a rest) (u ∷ us) → IsPartExpr c a u × ArePartExprs c rest us }
 {}
 
 /// The parts of an assertion are parts.
 pub fn assertions_have_parts()
     ensures fact { (c : Context) (e : t.Expr) (at : Pos) → IsPartAssertion c (t.Fact e at) → IsPartExpr c e ty.Bool }
     ensures access { (c : Context) (e : t.Expr) (f : ℕ) (m : t.Amt) (at : Pos) → IsPartAssertion c (t.Acc e f m at)
-        → IsPartExpr c e ty.Ref × IsPartAmount c m }
+        → (u : Ty) × (slice_get c.program.layout.fields f ≡ Some u) × IsPartExpr c e ty.Ref × IsPartAmount c m }
     ensures instance { (c : Context) (k : ℕ) (es : t.Exprs) (m : t.Amt) (at : Pos)
         → IsPartAssertion c (t.Inst k es m at)
         → (d : p.Predicate) × (slice_get c.program.predicates k ≡ Some d) × ArePartExprs c es d.params × IsPartAmount c m }

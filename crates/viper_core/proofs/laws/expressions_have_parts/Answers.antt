@@ -1,4 +1,4 @@
-use Rattle.viper_core.proofs.PartLaws.{neg_part, not_part, bin_parts, choose_parts, field_part, old_part}
+use Rattle.viper_core.proofs.PartLaws.{neg_part, not_part, bin_parts, choose_parts, field_part, old_part, more_parts}
 use Rattle.viper_core.proofs.laws.expressions_have_parts.Goals as goal
 
 pub returns-clause-negative : goal.returns-clause-negative
@@ -18,3 +18,6 @@ returns-clause-field _ c a f at u = field_part
 
 pub returns-clause-old : goal.returns-clause-old
 returns-clause-old _ c a u = old_part
+
+pub returns-clause-arguments : goal.returns-clause-arguments
+returns-clause-arguments _ c a rest u us = more_parts
