@@ -19,7 +19,7 @@ use Rattle.vb_value.specs.Layout.{Layout}
 use Rattle.vb_value.specs.Value.{fraction_eq}
 use Rattle.vb_value.proofs.KeyLaws.{same_from_key_cmp, key_cmp_self}
 use Rattle.vb_value.proofs.ReducedLaws.{proper_fraction, proper_key}
-use Rattle.viper_state.specs.State.{Key, Memo, State, empty_state, found_at, value_at, content_at, changed_at}
+use Rattle.viper_state.specs.State.{Key, Memo, State, empty_state, found_at, value_at, content_at, changed, changed_at}
 use Rattle.viper_state.specs.Within.{IsProperMemo, IsProperState, IsNonnegative, IsNotNegative}
 use Rattle.viper_state.proofs.EachLaws.{mask_has, amount_has, mask_not_negative, amount_not_negative, with_mask_has, with_amount_has, with_mask_nonnegative, with_amount_nonnegative, empty_state_has, empty_state_nonnegative}
 use Rattle.viper_state.proofs.MapLaws.{exact_masks, exact_amounts}
@@ -54,46 +54,52 @@ option_same : {X : Type 0} (o : Option X) → option_map (λ x. x) o ≡ o
 option_same (Some x) = refl
 option_same None = refl
 
-module _ {K : Type 0} {cmp : K → K → Ordering} (x : IsExact cmp fraction_eq) (maps : List (Map K Fraction)) (each : All (IsHeld cmp) maps) (n : ℕ) (k : K) (old new : Fraction) (there : found_at cmp maps n k ≡ Some old) where
-  reduced_map : IfSome (slice_get maps n) (IsReduced cmp fraction_eq)
-  reduced_map = weaker (slice_get maps n) (All-found (IsHeld cmp) maps n each)
-    where
-      weaker : (o : Option (Map K Fraction)) → IfSome o (IsHeld cmp) → IfSome o (IsReduced cmp fraction_eq)
-      weaker (Some m) h = h.reduced
-      weaker None h = tt
+module _ {K V : Type 0} {cmp : K → K → Ordering} {eq : V → V → Bool} (x : IsExact cmp eq) (maps : List (Map K V)) (n : ℕ) (reduced_map : IfSome (slice_get maps n) (IsReduced cmp eq)) (k : K) (new : V) where
+  same_by : (o : Option (Map K V)) → slice_get maps n ≡ o → IfSome o (IsReduced cmp eq) → found_at cmp (changed_at cmp eq maps n k new) n k ≡ option_map (λ h. new) (found_at cmp maps n k)
+  same_by (Some m) e h = found_same x maps n k new m e h ∙ sym (ap (option_map (λ h. new)) (ap (option_map (λ l. get cmp l k)) e))
+  same_by None e h = ap (λ o. found_at cmp (changed cmp eq maps n k new o) n k) e ∙ ap (option_map (λ l. get cmp l k)) e ∙ sym (ap (option_map (λ h. new)) (ap (option_map (λ l. get cmp l k)) e))
 
-  same_by : (o : Option (Map K Fraction)) → slice_get maps n ≡ o → IfSome o (IsReduced cmp fraction_eq) → option_map (λ m. get cmp m k) o ≡ Some old → found_at cmp (changed_at cmp fraction_eq maps n k new) n k ≡ Some new
-  same_by (Some m) e h f = found_same x maps n k new m e h
-  same_by None e h f = cc
-
-  set_read : (g : ℕ) (q : K) (a b : Bool) → Decides a (g ≡ n) → Decides b (q ≡ k) →
-      found_at cmp (changed_at cmp fraction_eq maps n k new) g q ≡ option_map (λ h. if a && b then new else h) (found_at cmp maps g q)
+  -- the value at every place, after one was set
+  pub set_read : (g : ℕ) (q : K) (a b : Bool) → Decides a (g ≡ n) → Decides b (q ≡ k) → found_at cmp (changed_at cmp eq maps n k new) g q ≡ option_map (λ h. if a && b then new else h) (found_at cmp maps g q)
   set_read g q true true d e =
       let at = d.0 refl in
       let key = e.0 refl in
-      ap (λ i. found_at cmp (changed_at cmp fraction_eq maps n k new) i q) at ∙ ap (λ i. found_at cmp (changed_at cmp fraction_eq maps n k new) n i) key ∙
-      same_by (slice_get maps n) refl reduced_map there ∙
-      sym (ap (option_map (λ h. new)) (ap (λ i. found_at cmp maps i q) at ∙ ap (λ i. found_at cmp maps n i) key ∙ there))
-  set_read g q true false d e =
-      found_elsewhere x maps n g k q new reduced_map (inr (λ same. true≢false (sym (e.1 (sym same))))) ∙ sym (option_same (found_at cmp maps g q))
-  set_read g q false b d e =
-      found_elsewhere x maps n g k q new reduced_map (inl (λ same. true≢false (sym (d.1 (sym same))))) ∙ sym (option_same (found_at cmp maps g q))
+      ap (λ i. found_at cmp (changed_at cmp eq maps n k new) i q) at ∙ ap (λ i. found_at cmp (changed_at cmp eq maps n k new) n i) key ∙ same_by (slice_get maps n) refl reduced_map ∙
+      sym (ap (option_map (λ h. new)) (ap (λ i. found_at cmp maps i q) at ∙ ap (λ i. found_at cmp maps n i) key))
+  set_read g q true false d e = found_elsewhere x maps n g k q new reduced_map (inr (λ same. true≢false (sym (e.1 (sym same))))) ∙ sym (option_same (found_at cmp maps g q))
+  set_read g q false b d e = found_elsewhere x maps n g k q new reduced_map (inl (λ same. true≢false (sym (d.1 (sym same))))) ∙ sym (option_same (found_at cmp maps g q))
+
+  -- nothing changes where the value was there
+  pub set_nothing : found_at cmp maps n k ≡ Some new → (g : ℕ) (q : K) (a b : Bool) → Decides a (g ≡ n) → Decides b (q ≡ k) → found_at cmp (changed_at cmp eq maps n k new) g q ≡ found_at cmp maps g q
+  set_nothing there g q true true d e =
+      let at = d.0 refl in
+      let key = e.0 refl in
+      let here : found_at cmp maps g q ≡ Some new = ap (λ i. found_at cmp maps i q) at ∙ ap (λ i. found_at cmp maps n i) key ∙ there in
+      set_read g q true true d e ∙ ap (option_map (λ h. new)) here ∙ sym here
+  set_nothing there g q true false d e = set_read g q true false d e ∙ option_same (found_at cmp maps g q)
+  set_nothing there g q false b d e = set_read g q false b d e ∙ option_same (found_at cmp maps g q)
+
+reduced_held : {K : Type 0} {cmp : K → K → Ordering} (maps : List (Map K Fraction)) (n : ℕ) → All (IsHeld cmp) maps → IfSome (slice_get maps n) (IsReduced cmp fraction_eq)
+reduced_held {K} {cmp} maps n each = weaker (slice_get maps n) (All-found (IsHeld cmp) maps n each)
+  where
+    weaker : (o : Option (Map K Fraction)) → IfSome o (IsHeld cmp) → IfSome o (IsReduced cmp fraction_eq)
+    weaker (Some m) h = h.reduced
+    weaker None h = tt
 
 equal_keys : (o : Ordering) → is_eq o ≡ true → o ≡ Equal
 equal_keys Less e = cc
 equal_keys Equal e = refl
 equal_keys Greater e = cc
 
-Decides-key : (k l : Key) → Decides (is_eq (key_cmp k l)) (k ≡ l)
+pub Decides-key : (k l : Key) → Decides (is_eq (key_cmp k l)) (k ≡ l)
 Decides-key k l = (λ e. same_from_key_cmp k l (equal_keys (key_cmp k l) e), λ e. ap is_eq (ap (key_cmp k) (sym e) ∙ key_cmp_self k))
 
 -- the old and the new amounts of every resource
-pub held_with : {s : State} → IsWhole s → (x : Resource) (old new : Fraction) → held_at s x ≡ Some old → (y : Resource) → held_at (with_held s x new) y ≡ option_map (λ h. if is_same y x then new else h) (held_at s y)
-held_with {s} h (Place f r) old new e (Place g q) = set_read exact_masks s.mask h.mask f r old new e g q (g == f) (q == r) (Decides-eqb g f) (Decides-eqb q r)
-held_with {s} h (Place f r) old new e (Instance p k) = sym (option_same (held_at s (Instance p k)))
-held_with {s} h (Instance p k) old new e (Place g q) = sym (option_same (held_at s (Place g q)))
-held_with {s} h (Instance p k) old new e (Instance o l) =
-    set_read exact_amounts s.amount h.amount p k old new e o l (o == p) (is_eq (key_cmp l k)) (Decides-eqb o p) (Decides-key l k)
+pub held_with : {s : State} → IsWhole s → (x : Resource) (new : Fraction) (y : Resource) → held_at (with_held s x new) y ≡ option_map (λ h. if is_same y x then new else h) (held_at s y)
+held_with {s} h (Place f r) new (Place g q) = set_read exact_masks s.mask f (reduced_held s.mask f h.mask) r new g q (g == f) (q == r) (Decides-eqb g f) (Decides-eqb q r)
+held_with {s} h (Place f r) new (Instance p k) = sym (option_same (held_at s (Instance p k)))
+held_with {s} h (Instance p k) new (Place g q) = sym (option_same (held_at s (Place g q)))
+held_with {s} h (Instance p k) new (Instance o l) = set_read exact_amounts s.amount p (reduced_held s.amount p h.amount) k new o l (o == p) (is_eq (key_cmp l k)) (Decides-eqb o p) (Decides-key l k)
 
 -- ---- states stay whole
 
@@ -208,11 +214,11 @@ same_resource (Instance p k) (Instance o l) e = both (p == o) (is_eq (key_cmp k 
 same_resource (Place f r) (Instance p k) e = cc
 same_resource (Instance p k) (Place f r) e = cc
 
-with_held_values : (s : State) (x : Resource) (q : Fraction) (f r : ℕ) → value_at (with_held s x q) f r ≡ value_at s f r
+pub with_held_values : (s : State) (x : Resource) (q : Fraction) (f r : ℕ) → value_at (with_held s x q) f r ≡ value_at s f r
 with_held_values s (Place g y) q f r = refl
 with_held_values s (Instance p k) q f r = refl
 
-with_held_contents : (s : State) (x : Resource) (q : Fraction) (p : ℕ) (k : Key) → content_at (with_held s x q) p k ≡ content_at s p k
+pub with_held_contents : (s : State) (x : Resource) (q : Fraction) (p : ℕ) (k : Key) → content_at (with_held s x q) p k ≡ content_at s p k
 with_held_contents s (Place g y) q p k = refl
 with_held_contents s (Instance o l) q p k = refl
 
@@ -221,5 +227,5 @@ pub near_grown : {s : State} → IsWhole s → (x : Resource) (held q : Fraction
 near_grown {s} h x held q e a = record {
   values = λ f r. sym (with_held_values s x (sum held q) f r);
   contents = λ p k. sym (with_held_contents s x (sum held q) p k);
-  held = λ y. subst (HeldPart (held_at s y)) (sym (held_with h x held (sum held q) e y)) (grown_part (held_at s y) (is_same y x) held q (held_amount h y) (λ same. ap (held_at s) (same_resource y x same) ∙ e) a);
+  held = λ y. subst (HeldPart (held_at s y)) (sym (held_with h x (sum held q) y)) (grown_part (held_at s y) (is_same y x) held q (held_amount h y) (λ same. ap (held_at s) (same_resource y x same) ∙ e) a);
 }

@@ -253,7 +253,7 @@ module _ (b : Bound) (F S : Fraction → Type 0) (V : Value → Type 0) (K : Key
   added_kept held k q at h f g =
       then_kept (fitting_kept {P = F} b (fits_product k q) at (product k q) (closed.product k q f g)) (λ more i. fitting_kept b (fits_sum held more) at (sum held more) (closed.sum held more (closed.asked held h) (closed.asked more i)))
 
-  leaf_for_kept : (s : State) (f r : ℕ) (c : Content) → C c → HasKept V (leaf_for s f r c)
+  pub leaf_for_kept : (s : State) (f r : ℕ) (c : Content) → C c → HasKept V (leaf_for s f r c)
   leaf_for_kept s f r c i =
       unless_kept (r == 0) blocks_kept (then_kept (leaf_of_kept c i) (λ v j. then_kept (found_kept {P = IsAny} (value_at s f r) (any_found (value_at s f r))) (λ old o.
       unless_kept (not (same_type (type_of v) (type_of old))) blocks_kept (recorded_kept (event.Leaf v) j (is_kept j)))))

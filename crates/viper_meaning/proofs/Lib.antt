@@ -21,3 +21,5 @@ pub mod HeldLaws
 pub mod AgreeLaws
 pub mod EveryLaws
 pub mod SatProduceLaws
+pub mod NearLaws
+pub mod OpenedLaws

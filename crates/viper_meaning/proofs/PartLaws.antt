@@ -1,15 +1,20 @@
 -- Amounts of permission, and what is a part of an amount: so much and some amount more.
-use Rattle.std.proofs.Common.{◌≡◌, refl, sym, ap, ◌∙◌, subst, ℕ, zero, suc, ◌+◌, ◌*◌, ◌<◌, arith, ℤ, pos, negsuc, ◌+ℤ◌, ◌*ℤ◌, true, false}
+use Rattle.std.proofs.Common.{◌≡◌, refl, sym, ap, ◌∙◌, subst, ℕ, zero, suc, ◌+◌, ◌*◌, ◌<◌, arith, ℤ, pos, negsuc, ◌+ℤ◌, ◌*ℤ◌, ◌≤ℤ◌, true, false}
 use Rattle.std.proofs.lemmas.Bool.{true≢false, false_from_ne_true}
 use Rattle.std.proofs.lemmas.Bool.Decides.{Decides-int_eq}
 use Rattle.std.proofs.lemmas.Int.{ints}
 use Rattle.std.proofs.Math.Nat.{mul-pos}
-use Rattle.std.specs.Ordering.{int_eq}
-use Rattle.vb_value.specs.Fraction.{Fraction, IsReduced, reduced, none, sum, is_below_zero, is_above_zero, is_negative, is_positive, is_none}
+use Rattle.std.proofs.lemmas.Cmp.{int_ranked, int_cmp_total, by_ranked}
+use Rattle.std.specs.Ordering.{int_eq, int_cmp, is_lt, is_gt, ordering_reverse}
+use Rattle.std.specs.declared.cmp.Ordering.{Ordering}
+use Rattle.std.specs.declared.cmp.Ordering.TheVariants.{Less, Equal, Greater}
+use Rattle.vb_value.specs.Fraction.{Fraction, IsReduced, reduced, none, write, sum, difference, product, order, is_above_one, is_below_zero, is_above_zero, is_negative, is_positive, is_none}
 use Rattle.vb_value.proofs.FractionLaws.{IsReduced-whole, reduced-ratio, IsReduced-reduced, same_from_cross}
-use Rattle.vb_value.proofs.OperationLaws.{sum_comm, sum_assoc, sum-zero}
-use Rattle.vb_value.proofs.ProperLaws.{IsReduced-sum}
-use Rattle.vb_value.proofs.SignLaws.{sum_not_negative}
+use Rattle.vb_value.proofs.OperationLaws.{sum_comm, sum_assoc, sum-zero, difference-sum, sum-difference}
+use Rattle.vb_value.proofs.OrderLaws.{order-sum}
+use Rattle.vb_value.proofs.IntLaws.{*ℤ_one, one-*ℤ}
+use Rattle.vb_value.proofs.ProperLaws.{IsReduced-sum, IsReduced-difference, IsReduced-product}
+use Rattle.vb_value.proofs.SignLaws.{sum_not_negative, product_not_negative, difference_not_negative}
 
 -- a fraction in lowest terms that is not negative
 pub record IsAmount (q : Fraction) : Type 0 where
@@ -114,3 +119,70 @@ pub part_some : {p q : Fraction} → IsPartOf p q → is_none p ≡ false → is
 part_some {p} {q} h e =
     some_from_positive q (subst (λ z. is_positive z ≡ true) (sym h.all)
     (sum_positive p h.rest (positive_from_some p h.part.not_negative e) h.more.not_negative h.part.reduced h.more.reduced))
+
+-- ---- parts and the order
+
+not_less : (x y : ℤ) → y ≤ℤ x → is_lt (int_cmp x y) ≡ false
+not_less x y h =
+    by_ranked _ _ _ (int_cmp x y) (int_ranked x y (int_cmp x y) refl) (λ e less. absurd (omega (arith, ints))) (λ e same. ap is_lt e) (λ e more. ap is_lt e)
+
+not_below_none : (z : ℤ) (d : ℕ) → is_below_zero z ≡ false → is_lt (int_cmp (z *ℤ pos 1) (pos 0 *ℤ pos d)) ≡ false
+not_below_none (pos n) d e = not_less (pos n *ℤ pos 1) (pos 0 *ℤ pos d) (omega (arith, ints))
+not_below_none (negsuc n) d e = cc
+
+pub enough_from_part : {p q : Fraction} → IsPartOf p q → is_lt (order q p) ≡ false
+enough_from_part {p} {q} h =
+    let turned : order (sum p h.rest) p ≡ order h.rest none =
+        ap (order (sum p h.rest)) (sym (sum-zero p h.part.reduced) ∙ sum_comm p none) ∙ ap (λ z. order z (sum none p)) (sum_comm p h.rest) ∙
+        order-sum h.rest none p h.more.reduced.positive amount_none.reduced.positive h.part.reduced.positive in
+    ap is_lt (ap (λ z. order z p) h.all ∙ turned) ∙ not_below_none h.rest.num h.rest.den h.more.not_negative
+
+pub part_from_enough : {p q : Fraction} → IsAmount p → IsAmount q → is_lt (order q p) ≡ false → IsPartOf p q
+part_from_enough {p} {q} h g e = record {
+  part = h;
+  rest = difference q p;
+  more = record { reduced = IsReduced-difference q p g.reduced h.reduced; not_negative = difference_not_negative q p e };
+  all = sym (sum-difference q p g.reduced h.reduced.positive) ∙ sum_comm (difference q p) p;
+}
+
+-- where a part is enough, so is the whole
+pub part_enough : {p q : Fraction} (r : Fraction) → IsPartOf p q → IsAmount r → is_lt (order p r) ≡ false → is_lt (order q r) ≡ false
+part_enough r h g e = enough_from_part (part_trans (part_from_enough g h.part e) h)
+
+-- to take the same keeps parts
+pub part_taken : {p q : Fraction} (r : Fraction) → IsPartOf p q → IsAmount r → is_lt (order p r) ≡ false → IsPartOf (difference p r) (difference q r)
+part_taken {p} {q} r h g e =
+    let left = difference p r in
+    let amount_left : IsAmount left = record { reduced = IsReduced-difference p r h.part.reduced g.reduced; not_negative = difference_not_negative p r e } in
+    let positive = amount_left.reduced.positive in
+    record {
+      part = amount_left;
+      rest = h.rest;
+      more = h.more;
+      all =
+          ap (λ z. difference z r) (h.all ∙ ap (λ z. sum z h.rest) (sym (sum-difference p r h.part.reduced g.reduced.positive)) ∙
+          sum_assoc left r h.rest positive g.reduced.positive h.more.reduced.positive ∙ ap (sum left) (sum_comm r h.rest) ∙
+          sym (sum_assoc left h.rest r positive h.more.reduced.positive g.reduced.positive)) ∙
+          difference-sum (sum left h.rest) r (IsReduced-sum left h.rest amount_left.reduced h.more.reduced) g.reduced.positive;
+    }
+
+turned_less : (o : Ordering) → is_lt (ordering_reverse o) ≡ is_gt o
+turned_less Less = refl
+turned_less Equal = refl
+turned_less Greater = refl
+
+above_by_order : (q : Fraction) → is_above_one q ≡ is_lt (order write q)
+above_by_order q =
+    sym (turned_less (int_cmp q.num (pos q.den))) ∙ ap is_lt (sym (int_cmp_total.antisymm (pos q.den) q.num) ∙
+    ap (λ z. int_cmp z q.num) (sym (one-*ℤ (pos q.den))) ∙ ap (int_cmp (pos 1 *ℤ pos q.den)) (sym (*ℤ_one q.num)))
+
+amount_write : IsAmount write
+amount_write = record { reduced = IsReduced-whole (pos 1); not_negative = refl }
+
+-- where the whole is not above 1, no part is
+pub part_not_above : {p q : Fraction} → IsPartOf p q → is_above_one q ≡ false → is_above_one p ≡ false
+part_not_above {p} {q} h e =
+    above_by_order p ∙ enough_from_part (part_trans h (part_from_enough (whole_amount h) amount_write (sym (above_by_order q) ∙ e)))
+
+pub amount_product : {p q : Fraction} → IsAmount p → IsAmount q → IsAmount (product p q)
+amount_product {p} {q} h g = record { reduced = IsReduced-product p q h.reduced g.reduced; not_negative = product_not_negative p q h.not_negative g.not_negative }

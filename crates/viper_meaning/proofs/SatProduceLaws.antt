@@ -107,7 +107,7 @@ record More (x : Resource) (q : Fraction) (s : State) (taken : List Choice) (u :
 
 module _ {s : State} (h : IsWhole s) (capped : IsCapped s) (x : Resource) (at : Pos) (q : Fraction) (is_amount : IsAmount q) where
   grown_with : (held : Fraction) → held_at s x ≡ Some held → Grown s (with_held s x (sum held q)) (record { of = x; amount = q } ∷ [])
-  grown_with held e y = held_with h x held (sum held q) e y ∙ at_resource (held_at s y) (is_same y x) (λ same. ap (held_at s) (same_resource y x same) ∙ e)
+  grown_with held e y = held_with h x (sum held q) y ∙ at_resource (held_at s y) (is_same y x) (λ same. ap (held_at s) (same_resource y x same) ∙ e)
     where
       at_resource : (o : Option Fraction) (b : Bool) → (b ≡ true → o ≡ Some held) → option_map (λ p. if b then sum held q else p) o ≡ option_map (λ p. if b then sum p q else p) o
       at_resource None b g = refl
@@ -118,7 +118,7 @@ module _ {s : State} (h : IsWhole s) (capped : IsCapped s) (x : Resource) (at : 
           ap (λ z. Some (sum z q)) same
 
   capped_with : (held : Fraction) → held_at s x ≡ Some held → is_too_much x (sum held q) ≡ false → IsCapped (with_held s x (sum held q))
-  capped_with held e small = record { at_most_one = λ y p g. at_resource y (held_at s y) p (is_same y x) refl (same_resource y x) (capped.at_most_one y) (sym (held_with h x held (sum held q) e y) ∙ g) }
+  capped_with held e small = record { at_most_one = λ y p g. at_resource y (held_at s y) p (is_same y x) refl (same_resource y x) (capped.at_most_one y) (sym (held_with h x (sum held q) y) ∙ g) }
     where
       at_resource : (y : Resource) (o : Option Fraction) (p : Fraction) (b : Bool) → is_same y x ≡ b → (is_same y x ≡ true → y ≡ x) → ((p : Fraction) → o ≡ Some p → is_too_much y p ≡ false) → option_map (λ z. if b then sum held q else z) o ≡ Some p → is_too_much y p ≡ false
       at_resource y None p b same equal before g = cc
