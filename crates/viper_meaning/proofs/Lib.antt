@@ -23,3 +23,4 @@ pub mod EveryLaws
 pub mod SatProduceLaws
 pub mod NearLaws
 pub mod OpenedLaws
+pub mod ArriveLaws

@@ -36,7 +36,7 @@ pub record Close (s w : State) : Type 0 where
 
 -- ---- one state
 
-full_with_held : {s : State} → IsFull s → (x : Resource) (q : Fraction) → IsAmount q → IsFull (with_held s x q)
+pub full_with_held : {s : State} → IsFull s → (x : Resource) (q : Fraction) → IsAmount q → IsFull (with_held s x q)
 full_with_held h (Place f r) q a = record { whole = with_held_whole h.whole (Place f r) q a; heap = h.heap; content = h.content }
 full_with_held h (Instance p k) q a = record { whole = with_held_whole h.whole (Instance p k) q a; heap = h.heap; content = h.content }
 

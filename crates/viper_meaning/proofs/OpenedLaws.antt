@@ -206,7 +206,7 @@ mutual
       then_proper (IsProperContent Unbounded) (content_same p key h) (content_proper {E = AllOfEvent (IsProperFraction Unbounded) (IsProperValue Unbounded) (IsProperKey Unbounded) (IsProperContent Unbounded)} p key h.less) (λ c in_c.
       then_agrees (opened_close body c less more (with_variables vs sc) q i.2 in_c close.0 (record { store = in_vs; old = g.old }) (amount_is q in_q.reduced close.1)) (λ copy other near. value_close inner copy other sc i.3 near g))))))
 
-  values_close : (es : t.Exprs) (s w : State) (sc : Scene) → AreProperExprs Unbounded es → Close s w → IsProperScene Unbounded sc → AreClose IsSame (values Unbounded es s sc) (values Unbounded es w sc)
+  pub values_close : (es : t.Exprs) (s w : State) (sc : Scene) → AreProperExprs Unbounded es → Close s w → IsProperScene Unbounded sc → AreClose IsSame (values Unbounded es s sc) (values Unbounded es w sc)
   values_close t.none s w sc i h g = is_agrees refl
   values_close (t.more e es) s w sc i h g = then_same (value_close e s w sc i.0 h g) (λ v. then_same (values_close es s w sc i.1 h g) (λ vs. is_agrees refl))
 

@@ -2,7 +2,7 @@
 -- Mueller, Summers, "Towards Trustworthy Automated Program Verifiers", PLDI 2024): every expression that counts has a value
 -- there, every fact is true, and what is held of a place or an instance is the sum of what the accessibility predicates that
 -- count denote for it. Numbers have no bound here.
-use Rattle.std.specs.Prelude.{◌≡◌, ℕ, Bool, true, false, ◌==◌, ◌&&◌, Some, is_some, List, [], ◌∷◌, ◌++◌, if◌then◌else◌}
+use Rattle.std.specs.Prelude.{⊤, ◌≡◌, ℕ, Bool, true, false, ◌==◌, ◌&&◌, Some, is_some, List, [], ◌∷◌, ◌++◌, if◌then◌else◌}
 use Rattle.std.specs.Ordering.{is_eq}
 use Rattle.vb_base.specs.declared.places.Pos.{Pos}
 use Rattle.vb_value.specs.Bound.{Unbounded}
@@ -10,10 +10,12 @@ use Rattle.vb_value.specs.Fraction.{Fraction, sum, none, is_negative, is_positiv
 use Rattle.vb_value.specs.Key.{key_cmp}
 use Rattle.viper_core.specs.Expr as t
 use Rattle.viper_state.specs.State.{State}
+use Rattle.viper_state.specs.Choice.{Choice}
 use Rattle.viper_state.specs.Run.{Scene}
 use Rattle.viper_meaning.specs.Ends.{Evaluated, Is, the_end}
 use Rattle.viper_meaning.specs.Resource.{Resource, Place, Instance, held_at, is_null, is_too_much}
 use Rattle.viper_meaning.specs.Assertions.{place_in, instance_in}
+use Rattle.viper_meaning.specs.Run.{Ran, ran, Goes, Fails, Blocked, Short, Over}
 use Rattle.viper_meaning.specs.Value.{truth_in, perm_in}
 
 -- it has this value
@@ -76,3 +78,11 @@ pub record Sat (a : t.Assertion) (s : State) (sc : Scene) (amounts : List Fracti
   pub denoted : Denotes s sc a amounts shares
   pub held : (x : Resource) (q : Fraction) → held_at s x ≡ Some q → q ≡ total x shares
   pub at_most_one : (x : Resource) (q : Fraction) → held_at s x ≡ Some q → is_too_much x q ≡ false
+
+-- It never blocks and lacks no choice, and where it goes on, what it reaches has the property and these choices are left.
+abbrev pub Arrives : {X : Type 0} → (X → Type 0) → List Choice → Ran X → Type 0
+Arrives P left (ran events (Goes x) rest) = P x × (rest ≡ left)
+Arrives P left (ran events (Fails l) rest) = ⊤
+Arrives P left (ran events Blocked rest) = ⊥
+Arrives P left (ran events Short rest) = ⊥
+Arrives P left (ran events (Over at) rest) = ⊤
