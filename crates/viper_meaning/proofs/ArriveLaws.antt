@@ -1,5 +1,5 @@
 -- Producing an assertion reaches the state that satisfies it, or fails.
-use Rattle.std.proofs.Common.{◌≡◌, refl, sym, ap, ◌∙◌, subst, ℕ, zero, suc, ◌==◌, Bool, true, false, not, ◌&&◌, Option, Some, None, is_some, IfSome, List, [], ◌∷◌, ◌++◌, map, All, slice_get, append_assoc, if◌then◌else◌}
+use Rattle.std.proofs.Common.{◌≡◌, refl, sym, ap, ◌∙◌, subst, ℕ, suc, ◌==◌, Bool, true, false, not, ◌&&◌, Option, Some, None, is_some, List, [], ◌∷◌, ◌++◌, map, All, append_assoc, if◌then◌else◌}
 use Rattle.std.proofs.lemmas.Bool.{true≢false}
 use Rattle.std.proofs.lemmas.Bool.Decides.{Decides-eqb}
 use Rattle.std.proofs.lemmas.List.Elements.{All-nil, All-cons, All-head, All-tail, All-append}
@@ -23,23 +23,23 @@ use Rattle.viper_state.specs.Choice as choice
 use Rattle.viper_state.specs.Choice.{Choice}
 use Rattle.viper_state.specs.Event as event
 use Rattle.viper_state.specs.Event.{Event}
-use Rattle.viper_state.specs.State.{State, Key, found_at, value_at, content_at}
+use Rattle.viper_state.specs.State.{State, found_at}
 use Rattle.viper_state.specs.Run.{Scene}
 use Rattle.viper_state.specs.Within.{IsProperScene}
 use Rattle.viper_state.proofs.MapLaws.{exact_masks, exact_amounts}
-use Rattle.viper_meaning.specs.Assertions.{place_in, instance_in, more_held, given_to, some_given_to, produce_amount, produce}
+use Rattle.viper_meaning.specs.Assertions.{more_held, given_to, some_given_to, produce_amount, produce}
 use Rattle.viper_meaning.specs.Ends as m
 use Rattle.viper_meaning.specs.Ends.{Evaluated, ends, is, fails, blocks, after, then_with, found, unless}
 use Rattle.viper_meaning.specs.Operators.{truth_of, perm_of, ref_of}
 use Rattle.viper_meaning.specs.Places.{added, key_of}
 use Rattle.viper_meaning.specs.Resource.{Resource, Place, Instance, held_at, with_held, is_null, is_too_much}
-use Rattle.viper_meaning.specs.Run.{Run, ended, goes, before, evaluating, then_do, taking_amount, Goes, Fails, Blocked, Short, Over, Ran, ran, leaving, since, on, then_ran}
+use Rattle.viper_meaning.specs.Run.{Run, goes, before, evaluating, then_do, Goes, Fails, Blocked, Short, Over, Ran, ran, leaving, since, on, then_ran}
 use Rattle.viper_meaning.specs.Sat as sat
 use Rattle.viper_meaning.specs.Sat.{Has, Share, is_same, total_from, CanBeHeld, DenotesAmount, Denotes, Arrives}
 use Rattle.viper_meaning.specs.Value.{truth_in, perm_in}
 use Rattle.viper_meaning.proofs.AgreeLaws.{Agrees, failed, over, both, blocked, lost, IsSame, then_alike}
 use Rattle.viper_meaning.proofs.EveryLaws.{kept_value}
-use Rattle.viper_meaning.proofs.HeldLaws.{IsHeld, IsWhole, HeldPart, Near, held_amount, held_with, same_resource, Decides-key}
+use Rattle.viper_meaning.proofs.HeldLaws.{IsHeld, HeldPart, held_amount, held_with, option_same, same_resource, Decides-key}
 use Rattle.viper_meaning.proofs.NearLaws.{IsFull, Close, full_with_held}
 use Rattle.viper_meaning.proofs.OpenedLaws.{value_close, values_close, perm_proper}
 use Rattle.viper_meaning.proofs.PartLaws.{IsAmount, IsPartOf, part_self, part_sum, part_trans, amount_sum, part_not_above, is_none_itself, positive_from_some}
@@ -277,7 +277,7 @@ module _ (u : State) (full : IsFull u) (capped : (x : Resource) (q : Fraction) �
     amounts_of_share (sat.something {q = q} sign holdable) i h =
         All-cons IsAmountShare _ [] (record { reduced = All-head IsReduced q [] h; not_negative = positive_not_negative q sign }) (All-nil IsAmountShare)
 
-    amounts_of : {a : t.Assertion} {qs : List Fraction} {xs : List Share} → Denotes u sc a qs xs → IsProperAssertion Unbounded a → All IsReduced qs → All IsAmountShare xs
+    pub amounts_of : {a : t.Assertion} {qs : List Fraction} {xs : List Share} → Denotes u sc a qs xs → IsProperAssertion Unbounded a → All IsReduced qs → All IsAmountShare xs
     amounts_of (sat.fact has) i h = All-nil IsAmountShare
     amounts_of (sat.place has d) i h = amounts_of_share d i.1 h
     amounts_of (sat.instance has d) i h = amounts_of_share d i.1 h
@@ -339,14 +339,10 @@ module _ {K : Type 0} {cmp : K → K → Ordering} (x : IsExact cmp fraction_eq)
       let rest : ms ≡ ns = same_maps ms ns (All-tail (IsHeld cmp) m ms h) (All-tail (IsHeld cmp) n ns g) (λ i k. e (suc i) k) in
       ap (λ z. z ∷ ms) one ∙ ap (λ zs. n ∷ zs) rest
 
-option_all : {X : Type 0} (o : Option X) → option_map (λ z. z) o ≡ o
-option_all (Some z) = refl
-option_all None = refl
-
 pub before_end : {u t : State} → IsFull u → Before u t [] → t ≡ u
 before_end {u} {t} full b =
-    let mask : t.mask ≡ u.mask = same_maps exact_masks 0 t.mask u.mask b.full.whole.mask full.whole.mask (λ n k. sym (b.grown (Place n k) ∙ option_all (held_at t (Place n k)))) in
-    let amount : t.amount ≡ u.amount = same_maps exact_amounts [] t.amount u.amount b.full.whole.amount full.whole.amount (λ n k. sym (b.grown (Instance n k) ∙ option_all (held_at t (Instance n k)))) in
+    let mask : t.mask ≡ u.mask = same_maps exact_masks 0 t.mask u.mask b.full.whole.mask full.whole.mask (λ n k. sym (b.grown (Place n k) ∙ option_same (held_at t (Place n k)))) in
+    let amount : t.amount ≡ u.amount = same_maps exact_amounts [] t.amount u.amount b.full.whole.amount full.whole.amount (λ n k. sym (b.grown (Instance n k) ∙ option_same (held_at t (Instance n k)))) in
     λ i. record { heap = b.heap i; content = b.content i; mask = mask i; amount = amount i }
 
 pub arrives_at : {X : Type 0} (P Q : X → Type 0) (left : List Choice) → ((x : X) → P x → Q x) → (r : Ran X) → Arrives P left r → Arrives Q left r

@@ -50,7 +50,7 @@ held_amount h (Instance p key) q e = record { reduced = (if_some (IsProperFracti
 
 -- ---- reading after setting
 
-option_same : {X : Type 0} (o : Option X) → option_map (λ x. x) o ≡ o
+pub option_same : {X : Type 0} (o : Option X) → option_map (λ x. x) o ≡ o
 option_same (Some x) = refl
 option_same None = refl
 

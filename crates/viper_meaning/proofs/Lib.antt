@@ -24,3 +24,4 @@ pub mod SatProduceLaws
 pub mod NearLaws
 pub mod OpenedLaws
 pub mod ArriveLaws
+pub mod SatLaws

@@ -1,10 +1,9 @@
 -- Two states, of which one holds a part of what the other holds, stay so where the same is set in both.
-use Rattle.std.proofs.Common.{◌≡◌, refl, sym, ap, ◌∙◌, subst, ℕ, ◌==◌, Bool, true, false, not, ◌&&◌, Option, Some, None, IfSome, List, All, slice_get, if◌then◌else◌}
+use Rattle.std.proofs.Common.{◌≡◌, sym, ap, ◌∙◌, subst, ℕ, ◌==◌, Bool, true, false, ◌&&◌, Option, Some, None, All, if◌then◌else◌}
 use Rattle.std.proofs.lemmas.Bool.Decides.{Decides-eqb}
-use Rattle.std.specs.Bool.{Decides}
 use Rattle.std.specs.Option.{option_map}
 use Rattle.std.specs.Ordering.{nat_cmp, is_eq}
-use Rattle.sparse.specs.Map.{Map, IsReduced}
+use Rattle.sparse.specs.Map.{IsReduced}
 use Rattle.sparse.proofs.MapLaws.{IsReduced-set}
 use Rattle.vb_value.specs.Bound.{Unbounded}
 use Rattle.vb_value.specs.Content.{Content, same_content, IsProperContent}
@@ -19,7 +18,7 @@ use Rattle.viper_state.proofs.MapLaws.{exact_values, exact_contents}
 use Rattle.viper_state.proofs.Paired.{All-found, All-changed}
 use Rattle.viper_meaning.specs.Resource.{Resource, Place, Instance, held_at, with_held}
 use Rattle.viper_meaning.specs.Sat.{is_same}
-use Rattle.viper_meaning.proofs.HeldLaws.{IsWhole, HeldPart, Near, held_with, with_held_whole, set_read, set_nothing, Decides-key, with_held_values, with_held_contents, near_trans}
+use Rattle.viper_meaning.proofs.HeldLaws.{IsWhole, HeldPart, Near, held_with, with_held_whole, set_read, set_nothing, Decides-key, with_held_values, with_held_contents}
 use Rattle.viper_meaning.proofs.PartLaws.{IsAmount, IsPartOf, whole_amount}
 
 -- whole, and the heap and the contents are written in one way only

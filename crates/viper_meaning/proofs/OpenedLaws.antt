@@ -1,36 +1,34 @@
 -- Where less is held, an expression fails or has the value that it has where more is held, unless it blocks there.
-use Rattle.std.proofs.Common.{◌≡◌, refl, sym, ap, ◌∙◌, subst, ℕ, ◌==◌, Bool, true, false, not, Option, Some, None, IfSome, List, [], ◌∷◌, All, slice_get, if◌then◌else◌}
+use Rattle.std.proofs.Common.{◌≡◌, refl, sym, ap, subst, ℕ, ◌==◌, Bool, true, false, not, Option, Some, None, [], All, slice_get, if◌then◌else◌}
 use Rattle.std.specs.Bool.{Decides}
 use Rattle.std.specs.Ordering.{is_lt}
-use Rattle.vb_base.specs.declared.labels.Kind.TheVariants as kind
 use Rattle.vb_base.specs.declared.places.Pos.{Pos}
 use Rattle.vb_value.specs.Bound.{Unbounded}
 use Rattle.vb_value.specs.Content.{Content, same_content, IsProperContent}
-use Rattle.vb_value.specs.Fraction.{Fraction, IsReduced, IsProperFraction, is_negative, is_positive, is_none, is_above_one, sum, difference, product, order, fits_sum, fits_difference, fits_product, fits_order}
+use Rattle.vb_value.specs.Fraction.{Fraction, IsReduced, IsProperFraction, is_negative, is_positive, is_none, is_above_one, difference, product, order}
 use Rattle.vb_value.specs.Key.{IsProperKey}
 use Rattle.vb_value.specs.Value.{value_eq, type_of, same_type, IsProperValue}
 use Rattle.vb_value.specs.declared.values.Value.{Value}
-use Rattle.vb_value.proofs.ReducedLaws.{proper_key}
 use Rattle.vb_value.proofs.SignLaws.{positive_not_negative}
 use Rattle.viper_core.specs.Expr as t
 use Rattle.viper_core.specs.Literals.{IsProperExpr, IsProperOpened, AreProperExprs, IsProperAmount, IsProperAssertion}
 use Rattle.viper_state.specs.Event as event
 use Rattle.viper_state.specs.Event.{Event}
-use Rattle.viper_state.specs.State.{State, Key, value_at, mask_at, content_at, amount_at, with_value, with_mask, with_content, with_amount}
+use Rattle.viper_state.specs.State.{State, Key, value_at, mask_at, content_at, amount_at, with_value, with_content}
 use Rattle.viper_state.specs.Run.{Scene, with_variables}
 use Rattle.viper_state.specs.Within.{AllOfEvent, IsProperScene}
 use Rattle.viper_state.proofs.EachLaws.{content_has}
 use Rattle.viper_state.proofs.MapLaws.{exact_values, exact_contents}
-use Rattle.viper_meaning.specs.Ends.{Evaluated, ends, Is, Fails, Blocked, Over, is, fails, blocks, then_with, found, unless, recorded, fitting}
+use Rattle.viper_meaning.specs.Ends.{Evaluated, is, blocks, then_with, found, unless, recorded}
 use Rattle.viper_meaning.specs.Kept as kept
 use Rattle.viper_meaning.specs.Kept.{Keeps}
 use Rattle.viper_meaning.specs.Operators.{class_of, truth_of, perm_of, ref_of, negative, negation}
-use Rattle.viper_meaning.specs.Places.{key_of, taken, unit_of, leaf_of, pair_of, leaf_for, added, written, contained, fill_leaf, fill_some, fill_place, fill_held, fill_instance}
-use Rattle.viper_meaning.specs.Resource.{Resource, Place, Instance, held_at}
-use Rattle.viper_meaning.specs.Value.{as_truth, as_perm, as_ref, as_key, value, unfolded, values, amount_of, opened}
-use Rattle.viper_meaning.proofs.AgreeLaws.{Agrees, failed, over, both, blocked, lost, IsSame, agrees_self, is_agrees, after_agrees, then_agrees, then_same, then_alike, if_agrees, unless_agrees, read_agrees, class_agrees}
+use Rattle.viper_meaning.specs.Places.{key_of, taken, unit_of, leaf_of, pair_of, leaf_for, added, fill_leaf, fill_place, fill_held, fill_instance}
+use Rattle.viper_meaning.specs.Resource.{Place, Instance}
+use Rattle.viper_meaning.specs.Value.{as_perm, value, unfolded, values, amount_of, opened}
+use Rattle.viper_meaning.proofs.AgreeLaws.{Agrees, failed, over, both, blocked, lost, IsSame, agrees_self, is_agrees, after_agrees, then_agrees, then_same, then_alike, if_agrees, read_agrees, class_agrees}
 use Rattle.viper_meaning.proofs.ClosedLaws.{proper_closed}
-use Rattle.viper_meaning.proofs.HeldLaws.{HeldPart, Near, if_some}
+use Rattle.viper_meaning.proofs.HeldLaws.{HeldPart}
 use Rattle.viper_meaning.proofs.KeptLaws as k
 use Rattle.viper_meaning.proofs.NearLaws.{IsFull, Close, close_held, close_value, close_value_there, close_content, close_content_there}
 use Rattle.viper_meaning.proofs.PartLaws.{IsAmount, IsPartOf, part_added, part_some, part_enough, part_taken, part_not_above, amount_product}

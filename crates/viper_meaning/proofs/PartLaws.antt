@@ -133,8 +133,8 @@ not_below_none (negsuc n) d e = cc
 pub enough_from_part : {p q : Fraction} → IsPartOf p q → is_lt (order q p) ≡ false
 enough_from_part {p} {q} h =
     let turned : order (sum p h.rest) p ≡ order h.rest none =
-        ap (order (sum p h.rest)) (sym (sum-zero p h.part.reduced) ∙ sum_comm p none) ∙ ap (λ z. order z (sum none p)) (sum_comm p h.rest) ∙
-        order-sum h.rest none p h.more.reduced.positive amount_none.reduced.positive h.part.reduced.positive in
+    ap (order (sum p h.rest)) (sym (sum-zero p h.part.reduced) ∙ sum_comm p none) ∙ ap (λ z. order z (sum none p)) (sum_comm p h.rest) ∙
+    order-sum h.rest none p h.more.reduced.positive amount_none.reduced.positive h.part.reduced.positive in
     ap is_lt (ap (λ z. order z p) h.all ∙ turned) ∙ not_below_none h.rest.num h.rest.den h.more.not_negative
 
 pub part_from_enough : {p q : Fraction} → IsAmount p → IsAmount q → is_lt (order q p) ≡ false → IsPartOf p q

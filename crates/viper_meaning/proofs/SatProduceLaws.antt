@@ -33,7 +33,7 @@ use Rattle.viper_meaning.specs.Value.{truth_in, perm_in}
 use Rattle.viper_meaning.proofs.AgreeLaws.{truth_stays, perm_stays, place_stays, instance_stays}
 use Rattle.viper_meaning.proofs.ClosedLaws.{proper_closed}
 use Rattle.viper_meaning.proofs.EveryLaws.{Every, kept_value, every_is, every_blocks, every_fails, every_evaluating, every_then_with, every_then_do, every_found, every_unless, every_where, every_if, every_if_ended, every_amount, every_weaker, every_on}
-use Rattle.viper_meaning.proofs.HeldLaws.{IsWhole, Near, held_amount, held_with, with_held_whole, near_self, near_trans, near_grown, part_there, empty_whole, empty_holds_none, same_resource}
+use Rattle.viper_meaning.proofs.HeldLaws.{IsWhole, Near, held_amount, held_with, with_held_whole, near_self, near_trans, near_grown, part_there, empty_whole, empty_holds_none, option_same, same_resource}
 use Rattle.viper_meaning.proofs.KeptLaws as k
 use Rattle.viper_meaning.proofs.PartLaws.{IsAmount, is_none_itself, amount_sum, some_from_positive}
 use Rattle.viper_meaning.proofs.RunBoundLaws.{small_run, produce_bounded}
@@ -62,11 +62,7 @@ option_alike f g h (Some x) = ap Some (h x)
 option_alike f g h None = refl
 
 grown_none : (s : State) → Grown s s []
-grown_none s x = by_option (held_at s x)
-  where
-    by_option : (o : Option Fraction) → o ≡ option_map (λ h. h) o
-    by_option (Some q) = refl
-    by_option None = refl
+grown_none s x = sym (option_same (held_at s x))
 
 pub grown_append : (s t u : State) (xs ys : List Share) → Grown s t xs → Grown t u ys → Grown s u (xs ++ ys)
 grown_append s t u xs ys h g x =

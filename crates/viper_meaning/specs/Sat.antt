@@ -9,7 +9,7 @@ use Rattle.vb_value.specs.Bound.{Unbounded}
 use Rattle.vb_value.specs.Fraction.{Fraction, sum, none, is_negative, is_positive}
 use Rattle.vb_value.specs.Key.{key_cmp}
 use Rattle.viper_core.specs.Expr as t
-use Rattle.viper_state.specs.State.{State}
+use Rattle.viper_state.specs.State.{State, Memo}
 use Rattle.viper_state.specs.Choice.{Choice}
 use Rattle.viper_state.specs.Run.{Scene}
 use Rattle.viper_meaning.specs.Ends.{Evaluated, Is, the_end}
@@ -78,6 +78,10 @@ pub record Sat (a : t.Assertion) (s : State) (sc : Scene) (amounts : List Fracti
   pub denoted : Denotes s sc a amounts shares
   pub held : (x : Resource) (q : Fraction) → held_at s x ≡ Some q → q ≡ total x shares
   pub at_most_one : (x : Resource) (q : Fraction) → held_at s x ≡ Some q → is_too_much x q ≡ false
+
+-- its heap and contents
+abbrev pub memo_of_state : State → Memo
+memo_of_state s = record { heap = s.heap; content = s.content }
 
 -- It never blocks and lacks no choice, and where it goes on, what it reaches has the property and these choices are left.
 abbrev pub Arrives : {X : Type 0} → (X → Type 0) → List Choice → Ran X → Type 0
