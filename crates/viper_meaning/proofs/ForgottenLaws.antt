@@ -1,9 +1,11 @@
 -- What forgetting leaves: where nothing is held the new heap and contents, and elsewhere the state's own.
-use Rattle.std.proofs.Common.{◌≡◌, ◌≢◌, ◌⊎◌, ⊎_elim, arith, inl, inr, refl, sym, ap, subst, ◌∙◌, ℕ, zero, suc, Bool, true, false, Some, List, [], ◌∷◌, Contains, if◌then◌else◌}
+use Rattle.std.proofs.Common.{◌≡◌, ◌≢◌, ◌⊎◌, ⊎_elim, arith, inl, inr, refl, sym, ap, subst, ◌∙◌, ℕ, zero, suc, Bool, true, false, Some, None, IfSome, All, List, [], ◌∷◌, Contains, if◌then◌else◌}
 use Rattle.std.proofs.lemmas.Bool.{true≢false}
-use Rattle.std.proofs.lemmas.List.Elements.{Contains-append_right}
+use Rattle.std.proofs.lemmas.List.Elements.{All-nil, All-cons, All-head, All-tail, Contains-append_right}
 use Rattle.std.proofs.lemmas.Map.Made.{Contains-tail}
+use Rattle.std.specs.Cmp.{IsTotalOrder}
 use Rattle.std.specs.List.{AllZip}
+use Rattle.std.specs.Ordering.{nat_cmp}
 use Rattle.std.specs.declared.cmp.Ordering.{Ordering}
 use Rattle.std.specs.declared.cmp.Ordering.TheVariants.{Less, Equal, Greater}
 use Rattle.std.proofs.lemmas.Cmp.{tied_itself}
@@ -11,16 +13,25 @@ use Rattle.sparse.specs.Map as map
 use Rattle.sparse.specs.Map.{Map, get, set, keys}
 use Rattle.sparse.specs.Meaning.{IsExact}
 use Rattle.sparse.proofs.MapLaws.{IsReduced-set, get-set_same, get-set_other, Contains-keys, get-key}
+use Rattle.vb_value.specs.Content.{same_content}
+use Rattle.vb_value.specs.Key.{key_cmp}
 use Rattle.vb_value.specs.Fraction.{Fraction, IsReduced, is_none, none}
 use Rattle.vb_value.specs.Layout.{Layout}
-use Rattle.vb_value.specs.Value.{fraction_eq}
+use Rattle.vb_value.specs.Value.{value_eq, fraction_eq}
 use Rattle.vb_value.proofs.ReducedLaws.{IsReduced-none}
+use Rattle.viper_state.specs.Choice as choice
+use Rattle.viper_state.specs.Choice.{Choice}
+use Rattle.viper_state.specs.Event as event
+use Rattle.viper_state.specs.FitsTest.{fits_memo}
 use Rattle.viper_state.specs.State.{Key, Memo, State, found_at, value_at, mask_at, content_at, amount_at}
-use Rattle.viper_state.specs.Fits.{FitsMap, FitsKey, IsReference, FitsHeap, FitsContents, FitsMemo, FitsState}
-use Rattle.viper_state.proofs.FitsLaws.{FitsMap-get}
+use Rattle.viper_state.specs.Fits.{FitsMap, FitsKey, IsReference, FitsHeap, FitsMask, FitsContents, FitsAmounts, FitsMemo, FitsState, FitsChoice, FitsEvent}
+use Rattle.viper_state.proofs.FitsLaws.{FitsMap-set, FitsMap-get, FitsValue-default}
 use Rattle.viper_state.proofs.MapLaws.{exact_values, exact_masks, exact_contents, exact_amounts}
-use Rattle.viper_meaning.specs.Forgotten.{kept_at, forgotten_maps, forgotten, with_memo}
+use Rattle.viper_meaning.specs.Forgotten.{kept_at, forgotten_maps, forgotten, with_memo, memo_in, forget}
+use Rattle.viper_meaning.specs.KeptRuns.{KeepsRun, at_end}
+use Rattle.viper_meaning.proofs.KeptLaws.{is_kept}
 use Rattle.viper_meaning.proofs.PartLaws.{is_none_itself}
+use Rattle.viper_meaning.proofs.RunKeptLaws.{before_kept, taking_kept}
 
 -- ---- one map
 
@@ -93,6 +104,43 @@ module _ {K V U : Type 0} {cmp : K → K → Ordering} {eq : V → V → Bool} (
       let held : get cmp m k ≡ q = cc in
       left_by x y a o m k (reduced u a f.0) h.0 q held (is_none q) refl
   left_at (u ∷ us) (a ∷ news) (o ∷ owns) (m ∷ helds) (suc n) k q f g h e = left_at us news owns helds n k q f.1 g.1 h.1 e
+
+-- ---- what fits
+
+module _ {K V : Type 0} {cmp : K → K → Ordering} (o : IsTotalOrder cmp) {eq : V → V → Bool} {d : V} {P : K → Type 0} {Q : V → Type 0} (q : Q d) where
+  kept_fits : (new own : Map K V) (ks : List K) → FitsMap cmp eq d P Q new → FitsMap cmp eq d P Q own → All P ks → FitsMap cmp eq d P Q (kept_at cmp eq new own ks)
+  kept_fits new own [] h g a = h
+  kept_fits new own (k ∷ ks) h g a =
+      kept_fits (set cmp eq new k (get cmp own k)) own ks (FitsMap-set o new k (get cmp own k) h (All-head P k ks a) (FitsMap-get o own k g q)) g (All-tail P k ks a)
+
+module _ {K V U : Type 0} (cmp : K → K → Ordering) (eq : V → V → Bool) (R : U → Map K V → Type 0) (H : U → Map K Fraction → Type 0) (go : (u : U) (new own : Map K V) (held : Map K Fraction) → R u new → R u own → H u held → R u (kept_at cmp eq new own (keys held))) where
+  maps_fit : (us : List U) (news owns : List (Map K V)) (helds : List (Map K Fraction)) → AllZip R us news → AllZip R us owns → AllZip H us helds → AllZip R us (forgotten_maps cmp eq news owns helds)
+  maps_fit [] [] owns helds f g h = tt
+  maps_fit [] (a ∷ news) owns helds f g h = absurd f
+  maps_fit (u ∷ us) [] owns helds f g h = absurd f
+  maps_fit (u ∷ us) (a ∷ news) [] helds f g h = absurd g
+  maps_fit (u ∷ us) (a ∷ news) (o ∷ owns) [] f g h = absurd h
+  maps_fit (u ∷ us) (a ∷ news) (o ∷ owns) (m ∷ helds) f g h = (go u a o m f.0 g.0 h.0, maps_fit us news owns helds f.1 g.1 h.1)
+
+forgotten_fits : (l : Layout) (s : State) (m : Memo) → FitsState l s → FitsMemo l m → FitsMemo l (forgotten s m)
+forgotten_fits l s m h g = record {
+  heap = maps_fit nat_cmp value_eq FitsHeap FitsMask (λ u new own held i j k. kept_fits exact_values.total (FitsValue-default u) new own (keys held) i j k.keys) l.fields m.heap s.heap s.mask g.heap h.heap h.mask;
+  content = maps_fit key_cmp same_content FitsContents FitsAmounts (λ us new own held i j k. kept_fits exact_contents.total tt new own (keys held) i j k.keys) l.keys m.content s.content s.amount g.content h.content h.amount;
+}
+
+memo_in_fits : (l : Layout) (c : Choice) → FitsChoice l c → IfSome (memo_in l c) (FitsMemo l)
+memo_in_fits l (choice.Filled m) h = where_so (fits_memo l m) h
+  where
+    where_so : (b : Bool) → FitsMemo l m → IfSome (if b then Some m else None) (FitsMemo l)
+    where_so true h = h
+    where_so false h = tt
+memo_in_fits l _ h = tt
+
+pub forget_fits : (l : Layout) (s : State) → FitsState l s → KeepsRun (FitsEvent l) (FitsChoice l) (FitsState l) (forget l s)
+forget_fits l s h = taking_kept (memo_in l) (memo_in_fits l) (λ m g.
+    let after = forgotten_fits l s m h g in
+    before_kept (event.Whole (forgotten s m) ∷ []) (All-cons (FitsEvent l) (event.Whole (forgotten s m)) [] after (All-nil (FitsEvent l)))
+    (at_end (is_kept (record { heap = after.heap; content = after.content; mask = h.mask; amount = h.amount }))))
 
 -- ---- states
 

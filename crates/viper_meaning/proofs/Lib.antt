@@ -16,6 +16,7 @@ pub mod ForgetLaws
 pub mod ForgottenLaws
 pub mod RunWithinLaws
 pub mod RunSignLaws
+pub mod RunFitsLaws
 pub mod PartLaws
 pub mod HeldLaws
 pub mod AgreeLaws

@@ -53,7 +53,7 @@ pub data Comes {X : Type 0} (E : Event → Type 0) (B : Type 0) (P : X → Type 
   blocked : {events : List Event} → All E events → B → Comes E B P (ends events Blocked)
   over : {events : List Event} {at : Pos} → All E events → Comes E B P (ends events (Over at))
 
-keeps : {X : Type 0} {E : Event → Type 0} {B : Type 0} {P : X → Type 0} {e : Evaluated X} → Comes E B P e → Keeps E P e
+pub keeps : {X : Type 0} {E : Event → Type 0} {B : Type 0} {P : X → Type 0} {e : Evaluated X} → Comes E B P e → Keeps E P e
 keeps (with_value h p) = kept.value h p
 keeps (failure h) = kept.failure h
 keeps (blocked h b) = kept.blocked h
@@ -162,13 +162,13 @@ module _ {E : Event → Type 0} {B : Type 0} where
   ref_of_typed (Ref r) h = is_typed tt
   ref_of_typed _ h = cc
 
-  truth_typed : {e : Evaluated Value} → Comes E B (FitsValue ty.Bool) e → Comes E B IsAny (as_truth e)
+  pub truth_typed : {e : Evaluated Value} → Comes E B (FitsValue ty.Bool) e → Comes E B IsAny (as_truth e)
   truth_typed h = then_typed h (λ v p. truth_of_typed v p.typed)
 
-  perm_typed : {e : Evaluated Value} → Comes E B (FitsValue ty.Perm) e → Comes E B IsReduced (as_perm e)
+  pub perm_typed : {e : Evaluated Value} → Comes E B (FitsValue ty.Perm) e → Comes E B IsReduced (as_perm e)
   perm_typed h = then_typed h perm_of_typed
 
-  ref_typed : {e : Evaluated Value} → Comes E B (FitsValue ty.Ref) e → Comes E B IsAny (as_ref e)
+  pub ref_typed : {e : Evaluated Value} → Comes E B (FitsValue ty.Ref) e → Comes E B IsAny (as_ref e)
   ref_typed h = then_typed h (λ v p. ref_of_typed v p.typed)
 
   -- ---- operators
@@ -278,7 +278,7 @@ in_front_fits u us (Some x) (Some xs) h g = (h, g)
 in_front_fits u us (Some x) None h g = tt
 in_front_fits u us None p h g = tt
 
-key_fits : (us : List Ty) (vs : List Value) → FitsStore us vs → IfSome (key_of vs) (FitsKey us)
+pub key_fits : (us : List Ty) (vs : List Value) → FitsStore us vs → IfSome (key_of vs) (FitsKey us)
 key_fits [] [] h = tt
 key_fits [] (v ∷ vs) h = absurd h
 key_fits (u ∷ us) [] h = absurd h
@@ -290,7 +290,7 @@ mapped_at f (y ∷ xs) zero x e = let same : y ≡ x = cc in ap (λ z. Some (f z
 mapped_at f (y ∷ xs) (suc n) x e = mapped_at f xs n x e
 
 -- the types of the arguments of a predicate, in the layout of its program
-keys_at : (c : Context) → IsFormed c.program → (p : ℕ) (d : Predicate) → slice_get c.program.predicates p ≡ Some d → slice_get c.program.layout.keys p ≡ Some d.params
+pub keys_at : (c : Context) → IsFormed c.program → (p : ℕ) (d : Predicate) → slice_get c.program.predicates p ≡ Some d → slice_get c.program.layout.keys p ≡ Some d.params
 keys_at c formed p d e = ap (λ ks. slice_get ks p) formed.typed.layout.keys ∙ mapped_at (λ (x : Predicate). x.params) c.program.predicates p d e
 
 part_reduced : (q : Fraction) → IsLiteralPart q → IsReduced q
@@ -316,7 +316,7 @@ module _ (l : Layout) {B : Type 0} where
       then_typed (fitting_typed {P = IsReduced} b (fits_difference held q) at (difference held q) (IsReduced-difference held q j i)) (λ left m.
       is_typed (with_amount_fits h p us key left e k m))))))
 
-  added_typed : (b : Bound) (held k q : Fraction) (at : Pos) → IsReduced held → IsReduced k → IsReduced q → Comes (FitsEvent l) B IsReduced (added b held k q at)
+  pub added_typed : (b : Bound) (held k q : Fraction) (at : Pos) → IsReduced held → IsReduced k → IsReduced q → Comes (FitsEvent l) B IsReduced (added b held k q at)
   added_typed b held k q at h i j =
       then_typed (fitting_typed {P = IsReduced} b (fits_product k q) at (product k q) (IsReduced-product k q i j)) (λ more m. fitting_typed b (fits_sum held more) at (sum held more) (IsReduced-sum held more h m))
 

@@ -5,9 +5,11 @@ ghost use Rattle.vb_value.specs.Bound.{Bound, Unbounded, Bounded};
 ghost use Rattle.vb_value.specs.Fraction.{Fraction, IsReduced, is_negative, is_none};
 ghost use Rattle.vb_value.specs.Layout.{Layout};
 ghost use Rattle.viper_core.specs.Expr as t;
+ghost use Rattle.viper_core.specs.Formed.{IsFormed};
 ghost use Rattle.viper_core.specs.Literals.{IsWithinAssertion, IsProperAssertion};
+ghost use Rattle.viper_core.specs.Typing.{Context, IsAssertion};
 ghost use Rattle.viper_state.specs.Choice.{Choice};
-ghost use Rattle.viper_state.specs.Fits.{FitsMemo, FitsState};
+ghost use Rattle.viper_state.specs.Fits.{FitsMemo, FitsState, FitsScene, FitsChoice, FitsEvent};
 ghost use Rattle.viper_state.specs.State.{Key, Memo, State, value_at, mask_at, content_at, amount_at};
 ghost use Rattle.viper_state.specs.Run.{Scene};
 ghost use Rattle.viper_state.specs.Within.{IsWithinState, IsWithinScene, IsWithinChoice, IsWithinEvent, IsProperState, IsProperScene, IsProperChoice, IsProperEvent, IsNonnegative};
@@ -92,4 +94,19 @@ pub fn what_is_not_held_is_forgotten()
         → amount_at s p key ≡ Some q
         → content_at (with_memo s (forgotten s m)) p key
             ≡ (if is_none q then content_at (with_memo s m) p key else content_at s p key) }
+{}
+
+/// A run from what fits the program goes to what fits it, where it is given only choices that fit.
+pub fn what_fits_goes_to_what_fits()
+    ensures produce { (b : Bound) (c : Context) (a : t.Assertion) (sc : Scene) (k : Fraction) (s : State)
+        → IsFormed c.program → IsAssertion c a → FitsState c.program.layout s → FitsScene c.program.layout c.vars sc
+        → IsReduced k
+        → KeepsRun (FitsEvent c.program.layout) (FitsChoice c.program.layout) (FitsState c.program.layout) (produce b a sc k s) }
+    ensures consume { (b : Bound) (c : Context) (a : t.Assertion) (start : State) (sc : Scene) (k : Fraction) (left : State)
+        → IsFormed c.program → IsAssertion c a → FitsState c.program.layout start → FitsState c.program.layout left
+        → FitsScene c.program.layout c.vars sc → IsReduced k
+        → KeepsRun (FitsEvent c.program.layout) (FitsChoice c.program.layout) (FitsState c.program.layout)
+            (consume b a start sc k left) }
+    ensures forget { (l : Layout) (s : State) → FitsState l s
+        → KeepsRun (FitsEvent l) (FitsChoice l) (FitsState l) (forget l s) }
 {}
