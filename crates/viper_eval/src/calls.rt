@@ -122,5 +122,13 @@ pub fn open_body(
         ≡ m.ends (feed_of feed.new).events (goes_with (state_of state.new) o)) }
     ensures no_choice { (feed_of feed.new).left ≡ (feed_of feed.old).left }
 {
-    opening(open(alloc, body, content, state, SceneRef::of(scene), scale, feed))
+    opening(open(
+        alloc,
+        body,
+        content,
+        state,
+        SceneRef::of(scene),
+        scale,
+        feed,
+    ))
 }

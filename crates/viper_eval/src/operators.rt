@@ -300,13 +300,7 @@ fn plain(op: Op, left: Value, right: Value, at: Pos) -> Result<Value, Stop>
 }
 
 /// The value of a division.
-fn divided(
-    scene: SceneRef,
-    op: Op,
-    left: Value,
-    right: Value,
-    at: Pos,
-) -> Result<Value, Stop>
+fn divided(scene: SceneRef, op: Op, left: Value, right: Value, at: Pos) -> Result<Value, Stop>
     requires left_within { IsWithinValue left }
     requires right_within { IsWithinValue right }
     ensures { ended result ≡ o.divided Bounded (lent scene.entry) op left right at }

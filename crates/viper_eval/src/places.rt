@@ -198,12 +198,7 @@ fn has_type_of(value: &Value, other: &Value) -> bool
 }
 
 /// The value that a place takes from a content, which is recorded.
-fn leaf_for(
-    state: &State,
-    place: Place,
-    content: &Content,
-    feed: &mut Feed,
-) -> Result<Value, Halt>
+fn leaf_for(state: &State, place: Place, content: &Content, feed: &mut Feed) -> Result<Value, Halt>
     ensures answers { Answers (λ v. v) (feed_of feed.old).events
         (p.leaf_for (state_of state.now) place.field place.reference (content_of content.now)) (feed_of feed.new).events result }
     ensures left { (feed_of feed.new).left ≡ (feed_of feed.old).left }

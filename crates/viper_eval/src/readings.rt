@@ -256,7 +256,15 @@ fn unfold_at(
     take(scene, &mut copy, instance, amount, opened.place)?;
     let content = found(content)?;
     let inside = scene.with_variables(args);
-    open(alloc, &opened.body, content, &mut copy, inside, amount, feed)?;
+    open(
+        alloc,
+        &opened.body,
+        content,
+        &mut copy,
+        inside,
+        amount,
+        feed,
+    )?;
     evaluate(alloc, &opened.inner, &copy, scene, feed)
 }
 

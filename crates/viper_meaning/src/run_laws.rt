@@ -89,11 +89,11 @@ pub fn what_is_not_held_is_forgotten()
     ensures value { (l : Layout) (s : State) (m : Memo) (field r : ℕ) (q : Fraction) → FitsState l s → FitsMemo l m
         → mask_at s field r ≡ Some q
         → value_at (with_memo s (forgotten s m)) field r
-            ≡ (if is_none q then value_at (with_memo s m) field r else value_at s field r) }
+        ≡ (if is_none q then value_at (with_memo s m) field r else value_at s field r) }
     ensures content { (l : Layout) (s : State) (m : Memo) (p : ℕ) (key : Key) (q : Fraction) → FitsState l s → FitsMemo l m
         → amount_at s p key ≡ Some q
         → content_at (with_memo s (forgotten s m)) p key
-            ≡ (if is_none q then content_at (with_memo s m) p key else content_at s p key) }
+        ≡ (if is_none q then content_at (with_memo s m) p key else content_at s p key) }
 {}
 
 /// A run from what fits the program goes to what fits it, where it is given only choices that fit.
@@ -106,7 +106,7 @@ pub fn what_fits_goes_to_what_fits()
         → IsFormed c.program → IsAssertion c a → FitsState c.program.layout start → FitsState c.program.layout left
         → FitsScene c.program.layout c.vars sc → IsReduced k
         → KeepsRun (FitsEvent c.program.layout) (FitsChoice c.program.layout) (FitsState c.program.layout)
-            (consume b a start sc k left) }
+        (consume b a start sc k left) }
     ensures forget { (l : Layout) (s : State) → FitsState l s
         → KeepsRun (FitsEvent l) (FitsChoice l) (FitsState l) (forget l s) }
 {}
