@@ -17,6 +17,8 @@ pub mod ForgottenLaws
 pub mod RunWithinLaws
 pub mod RunSignLaws
 pub mod RunFitsLaws
+pub mod RunOldLaws
+pub mod RunVariableLaws
 pub mod PartLaws
 pub mod HeldLaws
 pub mod AgreeLaws

@@ -31,6 +31,6 @@ module _ (b : Bound) (ws : List Value) where
         then_with (taken b sc s p key q at) (λ less. then_with (found (content_at s p key)) (λ c.
         then_with (opened b body c less (with_variables vs sc) q) (λ copy. value_agrees inner copy sc h.2 i))))))
 
-    values_agree : (es : t.Exprs) (s : State) (sc : Scene) → AgreeOnAll ws sc.store es → values b es s (with_variables ws sc) ≡ values b es s sc
+    pub values_agree : (es : t.Exprs) (s : State) (sc : Scene) → AgreeOnAll ws sc.store es → values b es s (with_variables ws sc) ≡ values b es s sc
     values_agree t.none s sc h = refl
     values_agree (t.more a rest) s sc h = λ i. then_with (value_agrees a s sc h.0 i) (λ v. then_with (values_agree rest s sc h.1 i) (λ vs. is (v ∷ vs)))

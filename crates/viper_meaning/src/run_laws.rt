@@ -4,20 +4,23 @@ ghost use Rattle.std.specs.Prelude.{◌≡◌, ℕ, ◌++◌, List, Some, false,
 ghost use Rattle.vb_value.specs.Bound.{Bound, Unbounded, Bounded};
 ghost use Rattle.vb_value.specs.Fraction.{Fraction, IsReduced, is_negative, is_none};
 ghost use Rattle.vb_value.specs.Layout.{Layout};
+ghost use Rattle.vb_value.specs.declared.values.Value.{Value};
 ghost use Rattle.viper_core.specs.Expr as t;
 ghost use Rattle.viper_core.specs.Formed.{IsFormed};
 ghost use Rattle.viper_core.specs.Literals.{IsWithinAssertion, IsProperAssertion};
+ghost use Rattle.viper_core.specs.Plain.{AssertionHasNoOld};
 ghost use Rattle.viper_core.specs.Typing.{Context, IsAssertion};
 ghost use Rattle.viper_state.specs.Choice.{Choice};
 ghost use Rattle.viper_state.specs.Fits.{FitsMemo, FitsState, FitsScene, FitsChoice, FitsEvent};
 ghost use Rattle.viper_state.specs.State.{Key, Memo, State, value_at, mask_at, content_at, amount_at};
-ghost use Rattle.viper_state.specs.Run.{Scene};
+ghost use Rattle.viper_state.specs.Run.{Scene, with_variables, with_old};
 ghost use Rattle.viper_state.specs.Within.{IsWithinState, IsWithinScene, IsWithinChoice, IsWithinEvent, IsProperState, IsProperScene, IsProperChoice, IsProperEvent, IsNonnegative};
 ghost use Rattle.viper_meaning.specs.Run.{Run, on, then_do, then_ran, is_short, with_more};
 ghost use Rattle.viper_meaning.specs.ComparedRuns.{is_over};
 ghost use Rattle.viper_meaning.specs.Kept.{IsAny};
 ghost use Rattle.viper_meaning.specs.KeptRuns.{KeepsRun};
 ghost use Rattle.viper_meaning.specs.Assertions.{produce, consume};
+ghost use Rattle.viper_meaning.specs.Variables.{AgreeOnAssertion};
 ghost use Rattle.viper_meaning.specs.Forgotten.{forget, forgotten, with_memo};
 
 /// A run after a run is the first on the choices, and then the second on those that it left.
@@ -109,4 +112,20 @@ pub fn what_fits_goes_to_what_fits()
         (consume b a start sc k left) }
     ensures forget { (l : Layout) (s : State) → FitsState l s
         → KeepsRun (FitsEvent l) (FitsChoice l) (FitsState l) (forget l s) }
+{}
+
+/// Only `old` looks at the old state: a run of an assertion without it does the same whatever the old state is.
+pub fn old_alone_looks_at_the_old_state_of_a_run()
+    ensures produce { (b : Bound) (a : t.Assertion) (sc : Scene) (k : Fraction) (s old : State) → AssertionHasNoOld a
+        → produce b a (with_old old sc) k s ≡ produce b a sc k s }
+    ensures consume { (b : Bound) (a : t.Assertion) (start : State) (sc : Scene) (k : Fraction) (left old : State)
+        → AssertionHasNoOld a → consume b a start (with_old old sc) k left ≡ consume b a start sc k left }
+{}
+
+/// A run of an assertion looks at no variables but those of the assertion.
+pub fn an_assertion_looks_at_its_own_variables()
+    ensures produce { (b : Bound) (a : t.Assertion) (sc : Scene) (k : Fraction) (s : State) (vs : List Value)
+        → AgreeOnAssertion vs sc.store a → produce b a (with_variables vs sc) k s ≡ produce b a sc k s }
+    ensures consume { (b : Bound) (a : t.Assertion) (start : State) (sc : Scene) (k : Fraction) (left : State) (vs : List Value)
+        → AgreeOnAssertion vs sc.store a → consume b a start (with_variables vs sc) k left ≡ consume b a start sc k left }
 {}
