@@ -17,7 +17,7 @@ use Rattle.viper_meaning.specs.Ends as m
 use Rattle.viper_meaning.specs.Ends.{Evaluated, ends, fails, blocks, is}
 use Rattle.viper_meaning.specs.Compared as e
 use Rattle.viper_meaning.specs.Compared.{IsNotOver, IsBoundedBy}
-use Rattle.viper_meaning.specs.ComparedRuns.{IsNeverOver, IsBoundedRun, at_end, over, later, is_over}
+use Rattle.viper_meaning.specs.ComparedRuns.{is_over}
 use Rattle.viper_meaning.specs.Resource.{Resource, held_at, is_null, is_too_much}
 use Rattle.viper_meaning.specs.Run as run
 use Rattle.viper_meaning.specs.Run.{Run, ended, takes, goes, before, noting, evaluating, then_do, given, taking, amount_in, taking_amount, Ran, ran, since, on}
@@ -25,7 +25,20 @@ use Rattle.viper_meaning.specs.Assertions.{place_in, instance_in, more_held, giv
 use Rattle.viper_meaning.specs.Forgotten.{forgotten, with_memo, memo_in, forget}
 use Rattle.viper_meaning.proofs.BoundLaws.{after_not_over, goes_not_over, then_bounded, unless_bounded, if_bounded, found_bounded, fits, is_bounded, fails_bounded, blocks_bounded, truth_bounded, perm_bounded, ref_bounded, key_bounded, added_bounded, value_bounded, values_bounded}
 
--- one lemma for each way to go on
+-- ---- what the bound changes of a run
+
+-- whatever is chosen
+abbrev pub IsNeverOver : {X : Type 0} → Run X → Type 0
+IsNeverOver (ended e) = IsNotOver e
+IsNeverOver (takes events next) = (c : Choice) → IsNeverOver (next c)
+
+-- with the bound it is the same, or it is Over at some point
+pub data IsBoundedRun {X : Type 0} : Run X → Run X → Type 0 where
+  at_end : {e f : Evaluated X} → IsBoundedBy e f → IsBoundedRun (ended e) (ended f)
+  over : {events : List Event} {at : Pos} {r : Run X} → IsNeverOver r → IsBoundedRun (ended (ends events (m.Over at))) r
+  later : {events : List Event} {next to : Choice → Run X} → ((c : Choice) → IsBoundedRun (next c) (to c)) → IsBoundedRun (takes events next) (takes events to)
+
+-- ---- one lemma for each way to go on
 
 before_never_over : {X : Type 0} (es : List Event) (r : Run X) → IsNeverOver r → IsNeverOver (before es r)
 before_never_over es (ended e) h = after_not_over es e h
