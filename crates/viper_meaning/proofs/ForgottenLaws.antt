@@ -24,8 +24,9 @@ use Rattle.viper_state.specs.Choice.{Choice}
 use Rattle.viper_state.specs.Event as event
 use Rattle.viper_state.specs.FitsTest.{fits_memo}
 use Rattle.viper_state.specs.State.{Key, Memo, State, found_at, value_at, mask_at, content_at, amount_at}
-use Rattle.viper_state.specs.Fits.{FitsMap, FitsKey, IsReference, FitsHeap, FitsMask, FitsContents, FitsAmounts, FitsMemo, FitsState, FitsChoice, FitsEvent}
+use Rattle.viper_state.specs.Fits.{FitsMap, FitsKey, IsReference, FitsHeap, FitsMask, FitsContents, FitsAmounts, FitsMemo, FitsState, FitsEvent}
 use Rattle.viper_state.proofs.FitsLaws.{FitsMap-set, FitsMap-get, FitsValue-default}
+use Rattle.viper_state.proofs.FitsTestLaws.{Decides-fits_memo}
 use Rattle.viper_state.proofs.MapLaws.{exact_values, exact_masks, exact_contents, exact_amounts}
 use Rattle.viper_meaning.specs.Forgotten.{kept_at, forgotten_maps, forgotten, with_memo, memo_in, forget}
 use Rattle.viper_meaning.specs.KeptRuns.{KeepsRun, at_end}
@@ -128,16 +129,17 @@ forgotten_fits l s m h g = record {
   content = maps_fit key_cmp same_content FitsContents FitsAmounts (λ us new own held i j k. kept_fits exact_contents.total tt new own (keys held) i j k.keys) l.keys m.content s.content s.amount g.content h.content h.amount;
 }
 
-memo_in_fits : (l : Layout) (c : Choice) → FitsChoice l c → IfSome (memo_in l c) (FitsMemo l)
-memo_in_fits l (choice.Filled m) h = where_so (fits_memo l m) h
+-- a choice that does not fit is none
+memo_in_fits : (l : Layout) (c : Choice) → IfSome (memo_in l c) (FitsMemo l)
+memo_in_fits l (choice.Filled m) = where_so (fits_memo l m) refl
   where
-    where_so : (b : Bool) → FitsMemo l m → IfSome (if b then Some m else None) (FitsMemo l)
-    where_so true h = h
-    where_so false h = tt
-memo_in_fits l _ h = tt
+    where_so : (b : Bool) → fits_memo l m ≡ b → IfSome (if b then Some m else None) (FitsMemo l)
+    where_so true e = (Decides-fits_memo l m).0 e
+    where_so false e = tt
+memo_in_fits l _ = tt
 
-pub forget_fits : (l : Layout) (s : State) → FitsState l s → KeepsRun (FitsEvent l) (FitsChoice l) (FitsState l) (forget l s)
-forget_fits l s h = taking_kept (memo_in l) (memo_in_fits l) (λ m g.
+pub forget_fits : {C : Choice → Type 0} (l : Layout) (s : State) → FitsState l s → KeepsRun (FitsEvent l) C (FitsState l) (forget l s)
+forget_fits l s h = taking_kept (memo_in l) (λ c any. memo_in_fits l c) (λ m g.
     let after = forgotten_fits l s m h g in
     before_kept (event.Whole (forgotten s m) ∷ []) (All-cons (FitsEvent l) (event.Whole (forgotten s m)) [] after (All-nil (FitsEvent l)))
     (at_end (is_kept (record { heap = after.heap; content = after.content; mask = h.mask; amount = h.amount }))))

@@ -99,7 +99,8 @@ pub fn what_is_not_held_is_forgotten()
         ≡ (if is_none q then content_at (with_memo s m) p key else content_at s p key) }
 {}
 
-/// A run from what fits the program goes to what fits it, where it is given only choices that fit.
+/// A run from what fits the program goes to what fits it, where it is given only choices that fit. Forgetting does so whatever
+/// is chosen.
 pub fn what_fits_goes_to_what_fits()
     ensures produce { (b : Bound) (c : Context) (a : t.Assertion) (sc : Scene) (k : Fraction) (s : State)
         → IsFormed c.program → IsAssertion c a → FitsState c.program.layout s → FitsScene c.program.layout c.vars sc
@@ -111,7 +112,7 @@ pub fn what_fits_goes_to_what_fits()
         → KeepsRun (FitsEvent c.program.layout) (FitsChoice c.program.layout) (FitsState c.program.layout)
         (consume b a start sc k left) }
     ensures forget { (l : Layout) (s : State) → FitsState l s
-        → KeepsRun (FitsEvent l) (FitsChoice l) (FitsState l) (forget l s) }
+        → KeepsRun (FitsEvent l) IsAny (FitsState l) (forget l s) }
 {}
 
 /// Only `old` looks at the old state: a run of an assertion without it does the same whatever the old state is.

@@ -9,4 +9,4 @@ pub returns-clause-consume : goal.returns-clause-consume
 returns-clause-consume c b d a start sc k left formed i f h g o = consume_fits b d formed a start sc k left i f h g o
 
 pub returns-clause-forget : goal.returns-clause-forget
-returns-clause-forget c = forget_fits
+returns-clause-forget c l s h = forget_fits l s h
