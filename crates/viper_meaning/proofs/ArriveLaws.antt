@@ -1,6 +1,7 @@
 -- Producing an assertion reaches the state that satisfies it, or fails.
 use Rattle.std.proofs.Common.{◌≡◌, refl, sym, ap, ◌∙◌, subst, ℕ, suc, ◌==◌, Bool, true, false, not, ◌&&◌, Option, Some, None, is_some, List, [], ◌∷◌, ◌++◌, map, All, append_assoc, if◌then◌else◌}
 use Rattle.std.proofs.lemmas.Bool.{true≢false}
+use Rattle.std.proofs.lemmas.List.{map-append}
 use Rattle.std.proofs.lemmas.Bool.Decides.{Decides-eqb}
 use Rattle.std.proofs.lemmas.List.Elements.{All-nil, All-cons, All-head, All-tail, All-append}
 use Rattle.std.specs.Option.{option_map}
@@ -43,7 +44,6 @@ use Rattle.viper_meaning.proofs.HeldLaws.{IsHeld, HeldPart, held_amount, held_wi
 use Rattle.viper_meaning.proofs.NearLaws.{IsFull, Close, full_with_held}
 use Rattle.viper_meaning.proofs.OpenedLaws.{value_close, values_close, perm_proper}
 use Rattle.viper_meaning.proofs.PartLaws.{IsAmount, IsPartOf, part_self, part_sum, part_trans, amount_sum, part_not_above, is_none_itself, positive_from_some}
-use Rattle.viper_meaning.proofs.SatProduceLaws.{map_append}
 use Rattle.viper_meaning.proofs.RunLaws.{on-before, on-then}
 
 -- ---- one lemma for each way to go on
@@ -311,7 +311,7 @@ module _ (u : State) (full : IsFull u) (capped : (x : Resource) (q : Fraction) �
         (then_alike (λ key. is (Instance p key)) (then_alike (λ vs. found (key_of vs)) (values_close args s u sc i.0 (before_close full b) in_sc))) has (arrives_amount at d i.1 h s more left b)
     arrives (sat.both {a = x} {b = y} {ps = ps} {qs = qs} {xs = xs} {ys = ys} d g) i h s more left b =
         let mid = map choice.Amount qs ++ left in
-        let choices : map choice.Amount ps ++ mid ≡ map choice.Amount (ps ++ qs) ++ left = sym (ap (λ cs. cs ++ left) (map_append choice.Amount ps qs) ∙ append_assoc (map choice.Amount ps) (map choice.Amount qs) left) in
+        let choices : map choice.Amount ps ++ mid ≡ map choice.Amount (ps ++ qs) ++ left = sym (ap (λ cs. cs ++ left) (map-append choice.Amount ps qs) ∙ append_assoc (map choice.Amount ps) (map choice.Amount qs) left) in
         subst (λ cs. Arrives (λ t. Before u t more) left (on (produce Unbounded (t.And x y) sc write s) cs)) choices
         (arrives_then (λ t. Before u t (ys ++ more)) (λ t. Before u t more) (map choice.Amount ps ++ mid) mid left (produce Unbounded x sc write s) (produce Unbounded y sc write)
         (arrives d i.0 (All-left IsReduced ps qs h) s (ys ++ more) mid (subst (Before u s) (append_assoc xs ys more) b))

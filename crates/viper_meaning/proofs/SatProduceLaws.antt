@@ -1,6 +1,7 @@
 -- What producing an assertion without `unfolding` reaches satisfies it.
 use Rattle.std.proofs.Common.{◌≡◌, refl, sym, ap, ◌∙◌, subst, Bool, true, false, Option, Some, None, List, [], ◌∷◌, ◌++◌, map, All, if◌then◌else◌}
 use Rattle.std.proofs.lemmas.Bool.{true≢false}
+use Rattle.std.proofs.lemmas.List.{map-append}
 use Rattle.std.specs.Option.{option_map}
 use Rattle.vb_base.specs.declared.labels.Kind.TheVariants as kind
 use Rattle.vb_base.specs.declared.places.Pos.{Pos}
@@ -71,7 +72,8 @@ grown_append s t u xs ys h g x =
 
 -- ---- what producing reaches
 
-pub record Produced (a : t.Assertion) (s : State) (sc : Scene) (taken : List Choice) (u : State) : Type 0 where
+-- a state that is reached by some amounts, and what is denoted in it and wherever more is held
+pub record Reaches (D : State → List Fraction → List Share → Type 0) (s : State) (taken : List Choice) (u : State) : Type 0 where
   pub amounts : List Fraction
   pub chosen : taken ≡ map choice.Amount amounts
   pub shares : List Share
@@ -79,18 +81,15 @@ pub record Produced (a : t.Assertion) (s : State) (sc : Scene) (taken : List Cho
   pub capped : IsCapped u
   pub near : Near s u
   pub grown : Grown s u shares
-  pub denoted : (w : State) → Near u w → Denotes w sc a amounts shares
+  pub denoted : (w : State) → Near u w → D w amounts shares
 
--- what an amount for one resource reaches
-pub record Given (m : t.Amt) (x : Resource) (s : State) (sc : Scene) (taken : List Choice) (u : State) : Type 0 where
-  pub amounts : List Fraction
-  pub chosen : taken ≡ map choice.Amount amounts
-  pub shares : List Share
-  pub whole : IsWhole u
-  pub capped : IsCapped u
-  pub near : Near s u
-  pub grown : Grown s u shares
-  pub denoted : (w : State) → Near u w → DenotesAmount w sc x m amounts shares
+-- by an assertion
+abbrev pub Produced : t.Assertion → State → Scene → List Choice → State → Type 0
+Produced a s sc = Reaches (λ w. Denotes w sc a) s
+
+-- by an amount of a resource
+abbrev pub Given : t.Amt → Resource → State → Scene → List Choice → State → Type 0
+Given m x s sc = Reaches (λ w. DenotesAmount w sc x m) s
 
 -- so much more is held
 record More (x : Resource) (q : Fraction) (s : State) (taken : List Choice) (u : State) : Type 0 where
@@ -217,10 +216,6 @@ module _ (sc : Scene) (in_sc : IsProperScene Unbounded sc) {s : State} (h : IsWh
 
 -- ---- assertions
 
-pub map_append : {X Y : Type 0} (f : X → Y) (xs ys : List X) → map f (xs ++ ys) ≡ map f xs ++ map f ys
-map_append f [] ys = refl
-map_append f (x ∷ xs) ys = ap (λ zs. f x ∷ zs) (map_append f xs ys)
-
 -- nothing is denoted
 denotes_nothing : {a : t.Assertion} {s : State} {sc : Scene} → IsWhole s → IsCapped s → ((w : State) → Near s w → Denotes w sc a [] []) → Produced a s sc [] s
 denotes_nothing {s = s} h capped denoted = record { amounts = []; chosen = refl; shares = []; whole = h; capped = capped; near = near_self h; grown = grown_none s; denoted = denoted }
@@ -228,7 +223,7 @@ denotes_nothing {s = s} h capped denoted = record { amounts = []; chosen = refl;
 denotes_both : {a b : t.Assertion} {s u v : State} {sc : Scene} (cs ds : List Choice) → Produced a s sc cs u → Produced b u sc ds v → Produced (t.And a b) s sc (cs ++ ds) v
 denotes_both {s = s} {u = u} {v = v} cs ds p q = record {
   amounts = p.amounts ++ q.amounts;
-  chosen = ap (λ x. x ++ ds) p.chosen ∙ ap (λ x. map choice.Amount p.amounts ++ x) q.chosen ∙ sym (map_append choice.Amount p.amounts q.amounts);
+  chosen = ap (λ x. x ++ ds) p.chosen ∙ ap (λ x. map choice.Amount p.amounts ++ x) q.chosen ∙ sym (map-append choice.Amount p.amounts q.amounts);
   shares = p.shares ++ q.shares;
   whole = q.whole;
   capped = q.capped;
@@ -237,22 +232,9 @@ denotes_both {s = s} {u = u} {v = v} cs ds p q = record {
   denoted = λ w g. sat.both (p.denoted w (near_trans q.near g)) (q.denoted w g);
 }
 
--- what is denoted by another assertion
-denotes_as : {a b : t.Assertion} {s u : State} {sc : Scene} {cs : List Choice} → ((w : State) (qs : List Fraction) (xs : List Share) → Near s w → Denotes w sc a qs xs → Denotes w sc b qs xs) → Produced a s sc cs u → Produced b s sc cs u
+-- what else is denoted
+denotes_as : {D E : State → List Fraction → List Share → Type 0} {s u : State} {cs : List Choice} → ((w : State) (qs : List Fraction) (xs : List Share) → Near s w → D w qs xs → E w qs xs) → Reaches D s cs u → Reaches E s cs u
 denotes_as go p = record {
-  amounts = p.amounts;
-  chosen = p.chosen;
-  shares = p.shares;
-  whole = p.whole;
-  capped = p.capped;
-  near = p.near;
-  grown = p.grown;
-  denoted = λ w g. go w p.amounts p.shares (near_trans p.near g) (p.denoted w g);
-}
-
-denotes_amount : {a : t.Assertion} {m : t.Amt} {x : Resource} {s u : State} {sc : Scene} {cs : List Choice} →
-    ((w : State) (qs : List Fraction) (xs : List Share) → Near s w → DenotesAmount w sc x m qs xs → Denotes w sc a qs xs) → Given m x s sc cs u → Produced a s sc cs u
-denotes_amount go p = record {
   amounts = p.amounts;
   chosen = p.chosen;
   shares = p.shares;
@@ -276,12 +258,12 @@ module _ (sc : Scene) (in_sc : IsProperScene Unbounded sc) where
   every_produced (t.Acc e f m at) o i s h c =
       let P = Produced (t.Acc e f m at) s sc in
       every_evaluating P (place_in Unbounded e f s sc) (produce_amount Unbounded m sc write at s) (λ x has.
-      every_weaker (Given m x s sc) P (λ cs u p. denotes_amount (λ w qs xs g d. sat.place (place_stays sc g e f x o.0 has) d) p) (produce_amount Unbounded m sc write at s x)
+      every_weaker (Given m x s sc) P (λ cs u p. denotes_as (λ w qs xs g d. sat.place (place_stays sc g e f x o.0 has) d) p) (produce_amount Unbounded m sc write at s x)
       (every_given sc in_sc h c x at m o.1 i.1))
   every_produced (t.Inst p args m at) o i s h c =
       let P = Produced (t.Inst p args m at) s sc in
       every_evaluating P (instance_in Unbounded p args s sc) (produce_amount Unbounded m sc write at s) (λ x has.
-      every_weaker (Given m x s sc) P (λ cs u q. denotes_amount (λ w qs xs g d. sat.instance (instance_stays sc g p args x o.0 has) d) q) (produce_amount Unbounded m sc write at s x)
+      every_weaker (Given m x s sc) P (λ cs u q. denotes_as (λ w qs xs g d. sat.instance (instance_stays sc g p args x o.0 has) d) q) (produce_amount Unbounded m sc write at s x)
       (every_given sc in_sc h c x at m o.1 i.1))
   every_produced (t.And x y) o i s h c =
       let P = Produced (t.And x y) s sc in
