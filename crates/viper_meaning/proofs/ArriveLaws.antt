@@ -26,7 +26,7 @@ use Rattle.viper_state.specs.Event as event
 use Rattle.viper_state.specs.Event.{Event}
 use Rattle.viper_state.specs.State.{State, found_at}
 use Rattle.viper_state.specs.Run.{Scene}
-use Rattle.viper_state.specs.Within.{IsProperScene}
+use Rattle.viper_state.specs.Within.{IsProperState, IsProperScene}
 use Rattle.viper_state.proofs.MapLaws.{exact_masks, exact_amounts}
 use Rattle.viper_meaning.specs.Assertions.{more_held, given_to, some_given_to, produce_amount, produce}
 use Rattle.viper_meaning.specs.Ends as m
@@ -42,8 +42,9 @@ use Rattle.viper_meaning.proofs.AgreeLaws.{Agrees, failed, over, both, blocked, 
 use Rattle.viper_meaning.proofs.EveryLaws.{kept_value}
 use Rattle.viper_meaning.proofs.HeldLaws.{IsHeld, HeldPart, held_amount, held_with, option_same, same_resource, Decides-key}
 use Rattle.viper_meaning.proofs.NearLaws.{IsFull, Close, full_with_held}
-use Rattle.viper_meaning.proofs.OpenedLaws.{value_close, values_close, perm_proper}
-use Rattle.viper_meaning.proofs.PartLaws.{IsAmount, IsPartOf, part_self, part_sum, part_trans, amount_sum, part_not_above, is_none_itself, positive_from_some}
+use Rattle.viper_meaning.proofs.OpenedLaws.{value_close, values_close}
+use Rattle.viper_meaning.proofs.ReadLaws.{perm_proper}
+use Rattle.viper_meaning.proofs.PartLaws.{IsAmount, IsPartOf, amount_none, whole_amount, part_self, part_sum, part_trans, amount_sum, part_not_above, is_none_itself, positive_from_some}
 use Rattle.viper_meaning.proofs.RunLaws.{on-before, on-then}
 
 -- ---- one lemma for each way to go on
@@ -215,6 +216,30 @@ All-right : {X : Type 0} (P : X → Type 0) (xs ys : List X) → All P (xs ++ ys
 All-right P [] ys h = h
 All-right P (x ∷ xs) ys h = All-right P xs ys (All-tail P x (xs ++ ys) h)
 
+-- the amounts of what is denoted
+module _ (u : State) (proper : IsProperState Unbounded u) (sc : Scene) (in_sc : IsProperScene Unbounded sc) where
+  reduced_there : (e : t.Expr) → IsProperExpr Unbounded e → (q : Fraction) → Has q (perm_in Unbounded e u sc) → IsReduced q
+  reduced_there e i q has = (kept_value {P = IsProperFraction Unbounded} (perm_proper e u sc i proper in_sc) has).reduced
+
+  amounts_of_share : {x : Resource} {m : t.Amt} {qs : List Fraction} {xs : List Share} → DenotesAmount u sc x m qs xs → IsProperAmount Unbounded m → All IsReduced qs → All IsAmountShare xs
+  amounts_of_share (sat.exactly {e = e} {q = q} has sign holdable) i h = All-cons IsAmountShare _ [] (record { reduced = reduced_there e i q has; not_negative = sign }) (All-nil IsAmountShare)
+  amounts_of_share (sat.something {q = q} sign holdable) i h =
+      All-cons IsAmountShare _ [] (record { reduced = All-head IsReduced q [] h; not_negative = positive_not_negative q sign }) (All-nil IsAmountShare)
+
+  pub amounts_of : {a : t.Assertion} {qs : List Fraction} {xs : List Share} → Denotes u sc a qs xs → IsProperAssertion Unbounded a → All IsReduced qs → All IsAmountShare xs
+  amounts_of (sat.fact has) i h = All-nil IsAmountShare
+  amounts_of (sat.place has d) i h = amounts_of_share d i.1 h
+  amounts_of (sat.instance has d) i h = amounts_of_share d i.1 h
+  amounts_of (sat.both {ps = ps} {qs = qs} {xs = xs} {ys = ys} d g) i h = All-append IsAmountShare xs ys (amounts_of d i.0 (All-left IsReduced ps qs h)) (amounts_of g i.1 (All-right IsReduced ps qs h))
+  amounts_of (sat.counts has d) i h = amounts_of d i.1 h
+  amounts_of (sat.does_not_count has) i h = All-nil IsAmountShare
+  amounts_of (sat.first has d) i h = amounts_of d i.1 h
+  amounts_of (sat.second has d) i h = amounts_of d i.2 h
+
+-- what is held where it is satisfied is an amount
+pub total_amount : (x : Resource) (xs : List Share) → All IsAmountShare xs → IsAmount (total_from x none xs)
+total_amount x xs h = whole_amount (part_total x none xs amount_none h)
+
 -- ---- the state that is reached
 
 module _ (u : State) (full : IsFull u) (capped : (x : Resource) (q : Fraction) → held_at u x ≡ Some q → is_too_much x q ≡ false) where
@@ -269,29 +294,11 @@ module _ (u : State) (full : IsFull u) (capped : (x : Resource) (q : Fraction) �
       positive false e = absurd (true≢false (sym e))
 
   module _ (sc : Scene) (in_sc : IsProperScene Unbounded sc) where
-    reduced_there : (e : t.Expr) → IsProperExpr Unbounded e → (q : Fraction) → Has q (perm_in Unbounded e u sc) → IsReduced q
-    reduced_there e i q has = (kept_value {P = IsProperFraction Unbounded} (perm_proper e u sc i full in_sc) has).reduced
-
-    amounts_of_share : {x : Resource} {m : t.Amt} {qs : List Fraction} {xs : List Share} → DenotesAmount u sc x m qs xs → IsProperAmount Unbounded m → All IsReduced qs → All IsAmountShare xs
-    amounts_of_share (sat.exactly {e = e} {q = q} has sign holdable) i h = All-cons IsAmountShare _ [] (record { reduced = reduced_there e i q has; not_negative = sign }) (All-nil IsAmountShare)
-    amounts_of_share (sat.something {q = q} sign holdable) i h =
-        All-cons IsAmountShare _ [] (record { reduced = All-head IsReduced q [] h; not_negative = positive_not_negative q sign }) (All-nil IsAmountShare)
-
-    pub amounts_of : {a : t.Assertion} {qs : List Fraction} {xs : List Share} → Denotes u sc a qs xs → IsProperAssertion Unbounded a → All IsReduced qs → All IsAmountShare xs
-    amounts_of (sat.fact has) i h = All-nil IsAmountShare
-    amounts_of (sat.place has d) i h = amounts_of_share d i.1 h
-    amounts_of (sat.instance has d) i h = amounts_of_share d i.1 h
-    amounts_of (sat.both {ps = ps} {qs = qs} {xs = xs} {ys = ys} d g) i h = All-append IsAmountShare xs ys (amounts_of d i.0 (All-left IsReduced ps qs h)) (amounts_of g i.1 (All-right IsReduced ps qs h))
-    amounts_of (sat.counts has d) i h = amounts_of d i.1 h
-    amounts_of (sat.does_not_count has) i h = All-nil IsAmountShare
-    amounts_of (sat.first has d) i h = amounts_of d i.1 h
-    amounts_of (sat.second has d) i h = amounts_of d i.2 h
-
     arrives_amount : {x : Resource} {m : t.Amt} {qs : List Fraction} {xs : List Share} (at : Pos) → DenotesAmount u sc x m qs xs → IsProperAmount Unbounded m → All IsReduced qs →
         (s : State) (more : List Share) (left : List Choice) → Before u s (xs ++ more) → Arrives (λ t. Before u t more) left (on (produce_amount Unbounded m sc write at s x) (map choice.Amount qs ++ left))
     arrives_amount {x} at (sat.exactly {e = e} {q = q} has sign holdable) i h s more left b =
         arrives_then_with (λ t. Before u t more) left left q (given_to Unbounded sc write x at s) (then_alike perm_of (value_close e s u sc i (before_close full b) in_sc)) has
-        (arrives_given sc x at q more left (reduced_there e i q has) sign holdable b)
+        (arrives_given sc x at q more left (reduced_there u full.whole.proper sc in_sc e i q has) sign holdable b)
     arrives_amount {x} at (sat.something {q = q} sign holdable) i h s more left b =
         arrives_since (λ t. Before u t more) left [] _ (arrives_after (λ t. Before u t more) left left (event.Wild q ∷ []) (some_given_to Unbounded write x at s q)
         (arrives_chosen x at q more left (All-head IsReduced q [] h) sign holdable b))

@@ -24,6 +24,7 @@ pub mod HeldLaws
 pub mod AgreeLaws
 pub mod EveryLaws
 pub mod SatProduceLaws
+pub mod ReadLaws
 pub mod NearLaws
 pub mod OpenedLaws
 pub mod ArriveLaws

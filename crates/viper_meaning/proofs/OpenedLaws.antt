@@ -31,6 +31,7 @@ use Rattle.viper_meaning.proofs.ClosedLaws.{proper_closed}
 use Rattle.viper_meaning.proofs.HeldLaws.{HeldPart}
 use Rattle.viper_meaning.proofs.KeptLaws as k
 use Rattle.viper_meaning.proofs.NearLaws.{IsFull, Close, close_held, close_value, close_value_there, close_content, close_content_there}
+use Rattle.viper_meaning.proofs.ReadLaws.{values_proper, perm_proper, amount_proper, parts_proper}
 use Rattle.viper_meaning.proofs.PartLaws.{IsAmount, IsPartOf, part_added, part_some, part_enough, part_taken, part_not_above, amount_product}
 
 abbrev AreClose : {X Y : Type 0} → (X → Y → Type 0) → Evaluated X → Evaluated Y → Type 0
@@ -150,25 +151,6 @@ fill_instance_close : {s w : State} (sc : Scene) (scale : Fraction) (p : ℕ) (k
 fill_instance_close sc scale p key q c at i j proper h =
     where_not (is_negative q) failed (λ sign. if_agrees (is_none q) (nothing_close c h) (fill_held_close scale p key q c at i (record { reduced = j; not_negative = sign }) proper h))
 
--- ---- what is proper
-
-abbrev IsProperAny : {X : Type 0} → (X → Type 0) → Evaluated X → Type 0
-IsProperAny P e = Keeps (AllOfEvent (IsProperFraction Unbounded) (IsProperValue Unbounded) (IsProperKey Unbounded) (IsProperContent Unbounded)) P e
-
-values_proper : (es : t.Exprs) (s : State) (sc : Scene) → AreProperExprs Unbounded es → IsFull s → IsProperScene Unbounded sc → IsProperAny (All (IsProperValue Unbounded)) (values Unbounded es s sc)
-values_proper es s sc i h g = k.values_kept Unbounded (IsProperFraction Unbounded) IsReduced (IsProperValue Unbounded) (IsProperKey Unbounded) (IsProperContent Unbounded) (proper_closed Unbounded) es s sc i h.whole.proper g
-
-pub perm_proper : (e : t.Expr) (s : State) (sc : Scene) → IsProperExpr Unbounded e → IsFull s → IsProperScene Unbounded sc → IsProperAny (IsProperFraction Unbounded) (as_perm (value Unbounded e s sc))
-perm_proper e s sc i h g =
-    k.perm_kept Unbounded (IsProperFraction Unbounded) IsReduced (IsProperValue Unbounded) (IsProperKey Unbounded) (IsProperContent Unbounded) (proper_closed Unbounded)
-    (k.value_kept Unbounded (IsProperFraction Unbounded) IsReduced (IsProperValue Unbounded) (IsProperKey Unbounded) (IsProperContent Unbounded) (proper_closed Unbounded) e s sc i h.whole.proper g)
-
-amount_proper : (m : t.Amt) (s : State) (sc : Scene) → IsProperAmount Unbounded m → IsFull s → IsProperScene Unbounded sc → IsProperAny (IsProperFraction Unbounded) (amount_of Unbounded m s sc)
-amount_proper m s sc i h g = k.amount_kept Unbounded (IsProperFraction Unbounded) IsReduced (IsProperValue Unbounded) (IsProperKey Unbounded) (IsProperContent Unbounded) (proper_closed Unbounded) m s sc i h.whole.proper g
-
-parts_proper : (c : Content) → IsProperContent Unbounded c → IsProperAny (λ p. IsProperContent Unbounded p.0 × IsProperContent Unbounded p.1) (pair_of c)
-parts_proper c i = k.pair_kept Unbounded (IsProperFraction Unbounded) IsReduced (IsProperValue Unbounded) (IsProperKey Unbounded) (IsProperContent Unbounded) (proper_closed Unbounded) c i
-
 -- ---- expressions and bodies
 
 amount_is : (q : Fraction) → IsReduced q → is_positive q ≡ true → IsAmount q
@@ -197,8 +179,8 @@ mutual
 
   unfolded_close : (o : t.Opened) (s w : State) (sc : Scene) → IsProperOpened Unbounded o → Close s w → IsProperScene Unbounded sc → AreClose IsSame (unfolded Unbounded o s sc) (unfolded Unbounded o w sc)
   unfolded_close (t.opened p args amount body inner at) s w sc i h g =
-      then_proper (All (IsProperValue Unbounded)) (values_close args s w sc i.0 h g) (values_proper args s sc i.0 h.less g) (λ vs in_vs.
-      then_proper (IsProperFraction Unbounded) (then_alike perm_of (value_close amount s w sc i.1 h g)) (perm_proper amount s sc i.1 h.less g) (λ q in_q.
+      then_proper (All (IsProperValue Unbounded)) (values_close args s w sc i.0 h g) (values_proper args s sc i.0 h.less.whole.proper g) (λ vs in_vs.
+      then_proper (IsProperFraction Unbounded) (then_alike perm_of (value_close amount s w sc i.1 h g)) (perm_proper amount s sc i.1 h.less.whole.proper g) (λ q in_q.
       then_same (agrees_self (found (key_of vs))) (λ key.
       then_agrees (taken_close sc p key q at in_q.reduced h) (λ less more close.
       then_proper (IsProperContent Unbounded) (content_same p key h) (content_proper {E = AllOfEvent (IsProperFraction Unbounded) (IsProperValue Unbounded) (IsProperKey Unbounded) (IsProperContent Unbounded)} p key h.less) (λ c in_c.
@@ -216,10 +198,10 @@ mutual
       AreClose Close (opened Unbounded a c s sc scale) (opened Unbounded a c w sc scale)
   opened_close (t.Fact a at) c s w sc scale i j h g l = then_same (then_alike truth_of (value_close a s w sc i h g)) (λ holds. if_agrees holds (nothing_close c h) blocked)
   opened_close (t.Acc a f m at) c s w sc scale i j h g l =
-      then_same (then_alike ref_of (value_close a s w sc i.0 h g)) (λ r. then_proper (IsProperFraction Unbounded) (amount_close m s w sc i.1 h g) (amount_proper m s sc i.1 h.less g) (λ q in_q.
+      then_same (then_alike ref_of (value_close a s w sc i.0 h g)) (λ r. then_proper (IsProperFraction Unbounded) (amount_close m s w sc i.1 h g) (amount_proper m s sc i.1 h.less.whole.proper g) (λ q in_q.
       fill_place_close sc scale f r q c at l in_q.reduced j h))
   opened_close (t.Inst p args m at) c s w sc scale i j h g l =
-      then_same (then_alike (λ vs. found (key_of vs)) (values_close args s w sc i.0 h g)) (λ key. then_proper (IsProperFraction Unbounded) (amount_close m s w sc i.1 h g) (amount_proper m s sc i.1 h.less g) (λ q in_q.
+      then_same (then_alike (λ vs. found (key_of vs)) (values_close args s w sc i.0 h g)) (λ key. then_proper (IsProperFraction Unbounded) (amount_close m s w sc i.1 h g) (amount_proper m s sc i.1 h.less.whole.proper g) (λ q in_q.
       fill_instance_close sc scale p key q c at l in_q.reduced j h))
   opened_close (t.And x y) c s w sc scale i j h g l =
       then_proper (λ p. IsProperContent Unbounded p.0 × IsProperContent Unbounded p.1) (agrees_self (pair_of c)) (parts_proper c j) (λ parts in_parts.

@@ -88,7 +88,7 @@ satisfied_is_reached l a sc u qs left i in_sc fits sign reduced s =
       heap = refl;
       content = refl;
       grown = starts l u fits s.shares s.held;
-      amounts = amounts_of u full s.at_most_one sc in_sc s.denoted i reduced;
+      amounts = amounts_of u (state_proper l u fits) sc in_sc s.denoted i reduced;
     } in
     arrives_at (λ t. Before u t []) (λ t. t ≡ u) left (λ t. before_end full) (on (produce Unbounded a sc write start) (map choice.Amount qs ++ left))
     (arrives u full s.at_most_one sc in_sc s.denoted i reduced start [] left (subst (Before u start) (sym (append-nil s.shares)) first))

@@ -36,6 +36,7 @@ use Rattle.viper_meaning.proofs.ClosedLaws.{proper_closed}
 use Rattle.viper_meaning.proofs.EveryLaws.{Every, kept_value, every_is, every_blocks, every_fails, every_evaluating, every_then_with, every_then_do, every_found, every_unless, every_where, every_if, every_if_ended, every_amount, every_weaker, every_on}
 use Rattle.viper_meaning.proofs.HeldLaws.{IsWhole, Near, held_amount, held_with, with_held_whole, near_self, near_trans, near_grown, part_there, empty_whole, empty_holds_none, option_same, same_resource}
 use Rattle.viper_meaning.proofs.KeptLaws as k
+use Rattle.viper_meaning.proofs.ReadLaws.{perm_proper}
 use Rattle.viper_meaning.proofs.PartLaws.{IsAmount, is_none_itself, amount_sum, some_from_positive}
 use Rattle.viper_meaning.proofs.RunBoundLaws.{small_run, produce_bounded}
 use Rattle.vb_value.proofs.SignLaws.{positive_not_negative}
@@ -156,13 +157,8 @@ grown_nothing {s} h x q e y = by_option (held_at s y) (is_same y x) (held_amount
     by_option (Some p) true g = ap Some (sym (ap (sum p) e ∙ sum-zero p (g p refl).reduced))
 
 module _ (sc : Scene) (in_sc : IsProperScene Unbounded sc) {s : State} (h : IsWhole s) (capped : IsCapped s) (x : Resource) (at : Pos) where
-  perm_proper : (e : t.Expr) → IsProperExpr Unbounded e → (q : Fraction) → Has q (perm_in Unbounded e s sc) → IsReduced q
-  perm_proper e i q has = (kept_value {P = IsProperFraction Unbounded} kept_perm has).reduced
-    where
-      kept_perm : Keeps (AllOfEvent (IsProperFraction Unbounded) (IsProperValue Unbounded) (IsProperKey Unbounded) (IsProperContent Unbounded)) (IsProperFraction Unbounded) (perm_in Unbounded e s sc)
-      kept_perm =
-          k.perm_kept Unbounded (IsProperFraction Unbounded) IsReduced (IsProperValue Unbounded) (IsProperKey Unbounded) (IsProperContent Unbounded) (proper_closed Unbounded)
-          (k.value_kept Unbounded (IsProperFraction Unbounded) IsReduced (IsProperValue Unbounded) (IsProperKey Unbounded) (IsProperContent Unbounded) (proper_closed Unbounded) e s sc i h.proper in_sc)
+  reduced_read : (e : t.Expr) → IsProperExpr Unbounded e → (q : Fraction) → Has q (perm_in Unbounded e s sc) → IsReduced q
+  reduced_read e i q has = (kept_value {P = IsProperFraction Unbounded} (perm_proper e s sc i h.proper in_sc) has).reduced
 
   exactly_some : (e : t.Expr) → OpensNothing e → (q : Fraction) → Has q (perm_in Unbounded e s sc) → is_negative q ≡ false → (cs : List Choice) (u : State) → More x q s cs u → Given (t.Is e) x s sc cs u
   exactly_some e opens q has sign cs u m = record {
@@ -205,9 +201,9 @@ module _ (sc : Scene) (in_sc : IsProperScene Unbounded sc) {s : State} (h : IsWh
       every_then_with (Given (t.Is e) x s sc) (perm_in Unbounded e s sc) (given_to Unbounded sc write x at s) (λ q has.
       every_unless (Given (t.Is e) x s sc) (is_negative q) (fails sc at kind.Negative) (if is_none q then is s else more_held Unbounded write x at s q) (every_fails (Given (t.Is e) x s sc) sc at kind.Negative) (λ sign.
       every_if_ended (Given (t.Is e) x s sc) (is_none q) (is s) (more_held Unbounded write x at s q)
-      (λ nothing. every_is (Given (t.Is e) x s sc) s (exactly_none e opens q has sign nothing (perm_proper e i q has)))
+      (λ nothing. every_is (Given (t.Is e) x s sc) s (exactly_none e opens q has sign nothing (reduced_read e i q has)))
       (λ some. every_weaker (More x q s) (Given (t.Is e) x s sc) (exactly_some e opens q has sign) (ended (more_held Unbounded write x at s q))
-      (every_more h capped x at q (record { reduced = perm_proper e i q has; not_negative = sign })))))
+      (every_more h capped x at q (record { reduced = reduced_read e i q has; not_negative = sign })))))
   every_given t.Wildcard opens i =
       every_amount (Given t.Wildcard x s sc) (λ q. ended (some_given_to Unbounded write x at s q)) (λ q proper.
       every_where (λ cs u. Given t.Wildcard x s sc (choice.Amount q ∷ cs) u) (is_positive q) blocks (more_held Unbounded write x at s q) (every_blocks (λ cs u. Given t.Wildcard x s sc (choice.Amount q ∷ cs) u)) (λ sign.
