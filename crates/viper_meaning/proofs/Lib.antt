@@ -28,4 +28,5 @@ pub mod ReadLaws
 pub mod NearLaws
 pub mod OpenedLaws
 pub mod ArriveLaws
+pub mod HeldSignLaws
 pub mod SatLaws

@@ -25,7 +25,7 @@ use Rattle.viper_meaning.specs.Kept.{Keeps}
 use Rattle.viper_meaning.specs.Operators.{class_of, truth_of, perm_of, ref_of, negative, negation}
 use Rattle.viper_meaning.specs.Places.{key_of, taken, unit_of, leaf_of, pair_of, leaf_for, added, fill_leaf, fill_place, fill_held, fill_instance}
 use Rattle.viper_meaning.specs.Resource.{Place, Instance}
-use Rattle.viper_meaning.specs.Value.{as_perm, value, unfolded, values, amount_of, opened}
+use Rattle.viper_meaning.specs.Value.{value, unfolded, values, amount_of, opened}
 use Rattle.viper_meaning.proofs.AgreeLaws.{Agrees, failed, over, both, blocked, lost, IsSame, agrees_self, is_agrees, after_agrees, then_agrees, then_same, then_alike, if_agrees, read_agrees, class_agrees}
 use Rattle.viper_meaning.proofs.ClosedLaws.{proper_closed}
 use Rattle.viper_meaning.proofs.HeldLaws.{HeldPart}

@@ -17,7 +17,7 @@ use Rattle.viper_state.specs.Choice.{Choice}
 use Rattle.viper_state.specs.Fits.{FitsHeap, FitsContents, FitsMask, FitsAmounts, FitsState}
 use Rattle.viper_state.specs.State.{State, empty_state}
 use Rattle.viper_state.specs.Run.{Scene}
-use Rattle.viper_state.specs.Within.{IsProperScene, IsNonnegative}
+use Rattle.viper_state.specs.Within.{IsProperScene, IsNotNegative}
 use Rattle.viper_state.proofs.FitsLaws.{empty_state_fits, memo_fits, mask_found, amount_found, field_of_mask, predicate_of_amount}
 use Rattle.viper_state.proofs.Paired.{All-paired}
 use Rattle.viper_state.proofs.ProperLaws.{memo_proper, state_proper}
@@ -26,8 +26,9 @@ use Rattle.viper_meaning.specs.ComparedRuns.{is_over}
 use Rattle.viper_meaning.specs.Resource.{Resource, Place, Instance, held_at}
 use Rattle.viper_meaning.specs.Run.{Goes, Fails, Blocked, Short, Over, Ran, ran, on}
 use Rattle.viper_meaning.specs.Sat.{Share, total, total_from, Sat, Arrives, memo_of_state}
-use Rattle.viper_meaning.proofs.ArriveLaws.{Before, arrives, arrives_at, before_end, amounts_of}
+use Rattle.viper_meaning.proofs.ArriveLaws.{Before, IsAmountShare, amounts_of, total_amount, arrives, arrives_at, before_end}
 use Rattle.viper_meaning.proofs.HeldLaws.{IsHeld, empty_whole, empty_holds_none}
+use Rattle.viper_meaning.proofs.HeldSignLaws.{nonnegative_from_held}
 use Rattle.viper_meaning.proofs.NearLaws.{IsFull}
 use Rattle.viper_meaning.proofs.RunBoundLaws.{small_run, produce_bounded}
 
@@ -37,13 +38,20 @@ reduced_heap l s h = All-paired FitsHeap (IsReduced nat_cmp value_eq) (λ u m i.
 reduced_content : (l : Layout) (s : State) → FitsState l s → All (IsReduced key_cmp same_content) s.content
 reduced_content l s h = All-paired FitsContents (IsReduced key_cmp same_content) (λ us m i. i.reduced) l.keys s.content h.content
 
-full_state : (l : Layout) (s : State) → FitsState l s → IsNonnegative s → IsFull s
-full_state l s h sign = record {
+held_masks : (l : Layout) (s : State) → FitsState l s → All (IsHeld nat_cmp) s.mask
+held_masks l s h = All-paired FitsMask (IsHeld nat_cmp) (λ u m i. record { default = i.default; reduced = i.reduced }) l.fields s.mask h.mask
+
+held_amounts : (l : Layout) (s : State) → FitsState l s → All (IsHeld key_cmp) s.amount
+held_amounts l s h = All-paired FitsAmounts (IsHeld key_cmp) (λ us m i. record { default = i.default; reduced = i.reduced }) l.keys s.amount h.amount
+
+-- a state in which a sum of amounts is held of each resource
+full_state : (l : Layout) (s : State) (shares : List Share) → FitsState l s → All IsAmountShare shares → ((x : Resource) (q : Fraction) → held_at s x ≡ Some q → q ≡ total x shares) → IsFull s
+full_state l s shares h amounts held = record {
   whole = record {
     proper = state_proper l s h;
-    nonnegative = sign;
-    mask = All-paired FitsMask (IsHeld nat_cmp) (λ u m i. record { default = i.default; reduced = i.reduced }) l.fields s.mask h.mask;
-    amount = All-paired FitsAmounts (IsHeld key_cmp) (λ us m i. record { default = i.default; reduced = i.reduced }) l.keys s.amount h.amount;
+    nonnegative = nonnegative_from_held s (held_masks l s h) (held_amounts l s h) (λ x q e. subst IsNotNegative (sym (held x q e)) (total_amount x shares amounts).not_negative);
+    mask = held_masks l s h;
+    amount = held_amounts l s h;
   };
   heap = reduced_heap l s h;
   content = reduced_content l s h;
@@ -78,17 +86,18 @@ module _ (l : Layout) (u : State) (fits : FitsState l u) where
           let there = held_there in_start fits x z g in
           let no : None ≡ Some there.0 = sym e ∙ there.1 in cc
 
-pub satisfied_is_reached : (l : Layout) (a : t.Assertion) (sc : Scene) (u : State) (qs : List Fraction) (left : List Choice) → IsProperAssertion Unbounded a → IsProperScene Unbounded sc → FitsState l u → IsNonnegative u →
+pub satisfied_is_reached : (l : Layout) (a : t.Assertion) (sc : Scene) (u : State) (qs : List Fraction) (left : List Choice) → IsProperAssertion Unbounded a → IsProperScene Unbounded sc → FitsState l u →
     All fraction.IsReduced qs → Sat a u sc qs → Arrives (λ s. s ≡ u) left (on (produce Unbounded a sc write (empty_state l (memo_of_state u))) (map choice.Amount qs ++ left))
-satisfied_is_reached l a sc u qs left i in_sc fits sign reduced s =
-    let full = full_state l u fits sign in
+satisfied_is_reached l a sc u qs left i in_sc fits reduced s =
+    let amounts = amounts_of u (state_proper l u fits) sc in_sc s.denoted i reduced in
+    let full = full_state l u s.shares fits amounts s.held in
     let start = empty_state l (memo_of_state u) in
     let first : Before u start s.shares = record {
       full = record { whole = empty_whole l (memo_of_state u) (memo_proper l (memo_of_state u) (memo_fits l u fits)); heap = reduced_heap l u fits; content = reduced_content l u fits };
       heap = refl;
       content = refl;
       grown = starts l u fits s.shares s.held;
-      amounts = amounts_of u (state_proper l u fits) sc in_sc s.denoted i reduced;
+      amounts = amounts;
     } in
     arrives_at (λ t. Before u t []) (λ t. t ≡ u) left (λ t. before_end full) (on (produce Unbounded a sc write start) (map choice.Amount qs ++ left))
     (arrives u full s.at_most_one sc in_sc s.denoted i reduced start [] left (subst (Before u start) (sym (append-nil s.shares)) first))
@@ -101,10 +110,10 @@ bounded_arrives P left (ran es Blocked rest) v h g = subst (Arrives P left) (sym
 bounded_arrives P left (ran es Short rest) v h g = subst (Arrives P left) (sym (h refl)) g
 bounded_arrives P left (ran es (Over at) rest) v h g = tt
 
-pub bounded_is_reached : (l : Layout) (a : t.Assertion) (sc : Scene) (u : State) (qs : List Fraction) (left : List Choice) → IsProperAssertion Unbounded a → IsProperScene Unbounded sc → FitsState l u → IsNonnegative u →
+pub bounded_is_reached : (l : Layout) (a : t.Assertion) (sc : Scene) (u : State) (qs : List Fraction) (left : List Choice) → IsProperAssertion Unbounded a → IsProperScene Unbounded sc → FitsState l u →
     All fraction.IsReduced qs → Sat a u sc qs → Arrives (λ s. s ≡ u) left (on (produce Bounded a sc write (empty_state l (memo_of_state u))) (map choice.Amount qs ++ left))
-bounded_is_reached l a sc u qs left i in_sc fits sign reduced s =
+bounded_is_reached l a sc u qs left i in_sc fits reduced s =
     let choices = map choice.Amount qs ++ left in
     let start = empty_state l (memo_of_state u) in
     bounded_arrives (λ t. t ≡ u) left (on (produce Bounded a sc write start) choices) (on (produce Unbounded a sc write start) choices) (small_run (produce_bounded a sc write start) choices)
-    (satisfied_is_reached l a sc u qs left i in_sc fits sign reduced s)
+    (satisfied_is_reached l a sc u qs left i in_sc fits reduced s)

@@ -6,11 +6,8 @@ use Rattle.std.specs.Option.{option_map}
 use Rattle.vb_base.specs.declared.labels.Kind.TheVariants as kind
 use Rattle.vb_base.specs.declared.places.Pos.{Pos}
 use Rattle.vb_value.specs.Bound.{Unbounded, Bounded}
-use Rattle.vb_value.specs.Content.{IsProperContent}
 use Rattle.vb_value.specs.Fraction.{Fraction, IsReduced, IsProperFraction, none, write, sum, product, is_negative, is_positive, is_none}
-use Rattle.vb_value.specs.Key.{IsProperKey}
 use Rattle.vb_value.specs.Layout.{Layout}
-use Rattle.vb_value.specs.Value.{IsProperValue}
 use Rattle.vb_value.proofs.OperationLaws.{product-one, sum-zero}
 use Rattle.viper_core.specs.Expr as t
 use Rattle.viper_core.specs.Literals.{IsProperExpr, IsProperAmount, IsProperAssertion}
@@ -20,10 +17,9 @@ use Rattle.viper_state.specs.Choice.{Choice}
 use Rattle.viper_state.specs.Event.{Event}
 use Rattle.viper_state.specs.State.{State, Memo, empty_state}
 use Rattle.viper_state.specs.Run.{Scene}
-use Rattle.viper_state.specs.Within.{AllOfEvent, IsProperMemo, IsProperScene, IsProperChoice}
+use Rattle.viper_state.specs.Within.{IsProperMemo, IsProperScene, IsProperChoice}
 use Rattle.viper_meaning.specs.Assertions.{place_in, instance_in, more_held, given_to, some_given_to, produce_amount, produce}
 use Rattle.viper_meaning.specs.Ends.{Evaluated, is, fails, blocks, unless}
-use Rattle.viper_meaning.specs.Kept.{Keeps}
 use Rattle.viper_meaning.specs.Places.{added}
 use Rattle.viper_meaning.specs.ComparedRuns.{is_over}
 use Rattle.viper_meaning.specs.Resource.{Resource, Place, Instance, held_at, with_held, is_null, is_too_much}
@@ -32,10 +28,8 @@ use Rattle.viper_meaning.specs.Sat as sat
 use Rattle.viper_meaning.specs.Sat.{Has, Share, is_same, total, total_from, CanBeHeld, DenotesAmount, Denotes, Sat}
 use Rattle.viper_meaning.specs.Value.{truth_in, perm_in}
 use Rattle.viper_meaning.proofs.AgreeLaws.{truth_stays, perm_stays, place_stays, instance_stays}
-use Rattle.viper_meaning.proofs.ClosedLaws.{proper_closed}
 use Rattle.viper_meaning.proofs.EveryLaws.{Every, kept_value, every_is, every_blocks, every_fails, every_evaluating, every_then_with, every_then_do, every_found, every_unless, every_where, every_if, every_if_ended, every_amount, every_weaker, every_on}
 use Rattle.viper_meaning.proofs.HeldLaws.{IsWhole, Near, held_amount, held_with, with_held_whole, near_self, near_trans, near_grown, part_there, empty_whole, empty_holds_none, option_same, same_resource}
-use Rattle.viper_meaning.proofs.KeptLaws as k
 use Rattle.viper_meaning.proofs.ReadLaws.{perm_proper}
 use Rattle.viper_meaning.proofs.PartLaws.{IsAmount, is_none_itself, amount_sum, some_from_positive}
 use Rattle.viper_meaning.proofs.RunBoundLaws.{small_run, produce_bounded}

@@ -14,7 +14,7 @@ ghost use Rattle.viper_state.specs.Event.{Event};
 ghost use Rattle.viper_state.specs.Fits.{FitsState};
 ghost use Rattle.viper_state.specs.State.{State, Memo, empty_state};
 ghost use Rattle.viper_state.specs.Run.{Scene};
-ghost use Rattle.viper_state.specs.Within.{IsProperMemo, IsProperScene, IsProperChoice, IsNonnegative};
+ghost use Rattle.viper_state.specs.Within.{IsProperMemo, IsProperScene, IsProperChoice};
 ghost use Rattle.viper_meaning.specs.Run.{Goes, ran, on};
 ghost use Rattle.viper_meaning.specs.Assertions.{produce};
 ghost use Rattle.viper_meaning.specs.Sat.{Sat, Arrives, memo_of_state};
@@ -39,11 +39,11 @@ pub fn what_is_produced_satisfies()
 /// exactly the state that satisfies it, and leaves the other choices. It may fail, as the order of its parts says.
 pub fn what_satisfies_is_reached()
     ensures unbounded { (l : Layout) (a : t.Assertion) (sc : Scene) (u : State) (qs : List Fraction) (left : List Choice)
-        → IsProperAssertion Unbounded a → IsProperScene Unbounded sc → FitsState l u → IsNonnegative u → All IsReduced qs
+        → IsProperAssertion Unbounded a → IsProperScene Unbounded sc → FitsState l u → All IsReduced qs
         → Sat a u sc qs
         → Arrives (λ s. s ≡ u) left (on (produce Unbounded a sc write (empty_state l (memo_of_state u))) (map choice.Amount qs ++ left)) }
     ensures bounded { (l : Layout) (a : t.Assertion) (sc : Scene) (u : State) (qs : List Fraction) (left : List Choice)
-        → IsProperAssertion Unbounded a → IsProperScene Unbounded sc → FitsState l u → IsNonnegative u → All IsReduced qs
+        → IsProperAssertion Unbounded a → IsProperScene Unbounded sc → FitsState l u → All IsReduced qs
         → Sat a u sc qs
         → Arrives (λ s. s ≡ u) left (on (produce Bounded a sc write (empty_state l (memo_of_state u))) (map choice.Amount qs ++ left)) }
 {}
