@@ -10,7 +10,7 @@ mod scenes;
 
 pub use answers::{Evaluated, Halt, Opening1, Stop};
 pub use calls::{eval, eval_open, open_body};
-pub use operators::{assumed, failure, fitted};
-pub use places::key_of;
-pub use readings::{evaluate, evaluate_all, permission_of, reference_of, truth_of};
+pub use operators::{assumed, failure, fitted, found};
+pub use places::{added, key_of};
+pub use readings::{evaluate, evaluate_all, key_in, permission_of, reference_of, truth_of};
 pub use scenes::SceneRef;

@@ -43,7 +43,7 @@ pub fn fitted<T>(answer: Result<T, Over>, at: Pos) -> Result<T, Stop>
 }
 
 /// What there is, which in a typed program is never nothing.
-pub(crate) fn found<T>(there: Option<T>) -> Result<T, Stop>
+pub fn found<T>(there: Option<T>) -> Result<T, Stop>
     ensures { ended result ≡ found there }
 {
     match there {

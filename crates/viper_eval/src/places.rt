@@ -51,7 +51,7 @@ fn key_part(value: Value) -> Result<KeyPart, Stop>
 }
 
 /// What is held after so much was added.
-fn added(held: Frac, scale: Frac, amount: Frac, at: Pos) -> Result<Frac, Stop>
+pub fn added(held: Frac, scale: Frac, amount: Frac, at: Pos) -> Result<Frac, Stop>
     ensures { ended result ≡ p.added Bounded held scale amount at }
 {
     let more = fitted(Frac::mul(scale, amount), at)?;

@@ -190,7 +190,7 @@ pub fn evaluate_all(
 
 /// The arguments of an instance.
 #[cycle(readings)]
-fn key_in(
+pub fn key_in(
     alloc: Global,
     args: &[Expr],
     now: &State,

@@ -18,7 +18,7 @@ on-before es (ended (ends fs (m.Over at))) choices = refl
 on-before es (takes fs next) [] = refl
 on-before es (takes fs next) (c ∷ choices) = sym (since-since es fs (on (next c) choices))
 
-then-since : {X Y : Type 0} (es : List Event) (r : Ran X) (go : X → List Choice → Ran Y) → then_ran (since es r) go ≡ since es (then_ran r go)
+pub then-since : {X Y : Type 0} (es : List Event) (r : Ran X) (go : X → List Choice → Ran Y) → then_ran (since es r) go ≡ since es (then_ran r go)
 then-since es (ran fs (Goes x) left) go = sym (since-since es fs (go x left))
 then-since es (ran fs (Fails l) left) go = refl
 then-since es (ran fs Blocked left) go = refl

@@ -1,0 +1,3 @@
+pub mod DoesLaws
+pub mod FormLaws
+pub mod AssertionLaws

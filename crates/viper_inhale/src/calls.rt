@@ -1,0 +1,93 @@
+// The calls that other crates make.
+ghost use Rattle.std.specs.Prelude.{◌≡◌, IfOk, true};
+ghost use Rattle.vb_value.specs.Bound.{Bounded};
+ghost use Rattle.vb_value.specs.Fraction.{is_positive};
+ghost use Rattle.viper_core.specs.Literals.{IsWithinAssertion};
+ghost use Rattle.viper_core.specs.View.{assertion_of};
+ghost use Rattle.viper_state.specs.Run.{Feed as Fed};
+ghost use Rattle.viper_state.specs.State as tree;
+ghost use Rattle.viper_state.specs.View.{scene_of, state_of, feed_of};
+ghost use Rattle.viper_state.specs.Within.{IsWithinState, IsWithinScene, IsWithinFeed};
+ghost use Rattle.viper_meaning.specs.Run as run;
+ghost use Rattle.viper_meaning.specs.Assertions as m;
+ghost use Rattle.viper_inhale.specs.Answers.{Does, run_of, step_of};
+
+use crate::answers::{Halt, Step, Stop};
+use crate::{consuming, producing};
+use std::alloc::Global;
+use vb_base::Memory;
+use vb_value::Frac;
+use viper_core::Assertion;
+use viper_eval::SceneRef;
+use viper_state::{Feed, Scene, State};
+
+/// How a step ended, if not for want of memory.
+fn step(answer: Result<(), Halt>) -> Result<Step, Memory>
+    ensures { (f g : Fed) (r : run.Run tree.State) (s : tree.State) → Does (λ _. s) f r g answer
+        → IfOk result (λ step. run_of r f ≡ run.ran g.events (step_of s step) g.left) }
+{
+    match answer {
+        Ok(()) => Ok(Step::Goes),
+        Err(Halt::Stops(Stop::Fails(label))) => Ok(Step::Fails(label)),
+        Err(Halt::Stops(Stop::Blocked)) => Ok(Step::Blocked),
+        Err(Halt::Stops(Stop::Short)) => Ok(Step::Short),
+        Err(Halt::Stops(Stop::Over(at))) => Ok(Step::Over(at)),
+        Err(Halt::Memory) => Err(Memory),
+    }
+}
+
+/// Consumes an assertion: each expression is read in the state `start`, and permission is taken from `left`, each amount that
+/// is written times `scale`.
+///
+/// `Goes` leaves the state that is left. After another end, and after `Memory`, `left` holds some part of the work. The
+/// events and the choices that are left are exact after each `Step`.
+///
+/// Source: Mueller, Schwerhoff, Summers, VMCAI 2016 (exhale).
+pub fn consume(
+    alloc: Global,
+    a: &Assertion,
+    start: &State,
+    left: &mut State,
+    scene: &Scene,
+    scale: Frac,
+    feed: &mut Feed,
+) -> Result<Step, Memory>
+    requires a_within { IsWithinAssertion (assertion_of a.now) }
+    requires start_within { IsWithinState (state_of start.now) }
+    requires scene_within { IsWithinScene (scene_of scene.now) }
+    requires scale_positive { is_positive scale ≡ true }
+    ensures step { IfOk result (λ step. run_of
+        (m.consume Bounded (assertion_of a.now) (state_of start.now) (scene_of scene.now) scale (state_of left.old)) (feed_of feed.old)
+        ≡ run.ran (feed_of feed.new).events (step_of (state_of left.new) step) (feed_of feed.new).left) }
+{
+    let scene = SceneRef::of(scene);
+    step(consuming::consume(alloc, a, start, scene, scale, left, feed))
+}
+
+/// Produces an assertion: each expression is read in the state that the earlier parts have made, and permission is added, each
+/// amount times `scale`.
+///
+/// `Goes` leaves the state that was made. After another end, and after `Memory`, `state` holds some part of the work. The
+/// events and the choices that are left are exact after each `Step`.
+///
+/// Source: Mueller, Schwerhoff, Summers, VMCAI 2016 (inhale).
+pub fn produce(
+    alloc: Global,
+    a: &Assertion,
+    state: &mut State,
+    scene: &Scene,
+    scale: Frac,
+    feed: &mut Feed,
+) -> Result<Step, Memory>
+    requires a_within { IsWithinAssertion (assertion_of a.now) }
+    requires state_within { IsWithinState (state_of state.old) }
+    requires scene_within { IsWithinScene (scene_of scene.now) }
+    requires feed_within { IsWithinFeed (feed_of feed.old) }
+    requires scale_positive { is_positive scale ≡ true }
+    ensures step { IfOk result (λ step. run_of
+        (m.produce Bounded (assertion_of a.now) (scene_of scene.now) scale (state_of state.old)) (feed_of feed.old)
+        ≡ run.ran (feed_of feed.new).events (step_of (state_of state.new) step) (feed_of feed.new).left) }
+{
+    let scene = SceneRef::of(scene);
+    step(producing::produce(alloc, a, scene, scale, state, feed))
+}
