@@ -1,4 +1,5 @@
 pub mod Steps
+mod Kept
 mod Unfoldings
 mod Listing
 mod Differ

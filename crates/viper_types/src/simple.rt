@@ -19,7 +19,7 @@ use crate::faults::TypeFault;
 use crate::frames::{Frame, Target};
 use std::alloc::Global;
 use std::slice;
-use vb_base::Pos;
+use vb_base::{Pos, kept};
 use vb_value::Ty;
 use viper_core::{Assertion, Expr, FoldStmt, Stmt};
 use viper_syntax::{Formal, Named, SFold, SRhs, Term, Word};
@@ -131,7 +131,8 @@ pub fn variable(
 {
     let target = frame.fresh(formal)?;
     let stmt = declaring(alloc, context, frame, at, target, rhs)?;
-    frame.declare(alloc, &formal.name.name, target.ty, false)?;
+    let declared = frame.declare(alloc, &formal.name.name, target.ty, false);
+    let ((), stmt) = kept(declared, stmt)?;
     Ok(stmt)
 }
 

@@ -1,8 +1,9 @@
-use Rattle.std.proofs.Common.{◌∙◌, ap}
+use Rattle.std.proofs.Common.{◌∙◌, ap, sym}
 use Rattle.viper_core.specs.View.{stmt_of}
 use Rattle.viper_types.specs.Answers.{context_of, frame_of, lent_rhs_of}
-use Rattle.viper_types.specs.Outcome.{then_typed}
+use Rattle.viper_types.specs.Outcome.{Found, then_typed}
 use Rattle.viper_types.specs.Stepping.{Target, declaring}
+use Rattle.viper_types.proofs.Kept.{kept_value}
 use Rattle.viper_types.proofs.Steps.{at_error, refuses_along}
 use Rattle.viper_types.proofs.simple.variable.Goals as goal
 
@@ -15,4 +16,4 @@ returns-in_err-stmt-clause-answers c =
 pub returns-clause-answers : goal.returns-clause-answers
 returns-clause-answers c =
     let go = λ (v : Target). declaring (context_of c.args.context.now) (frame_of c.args.frame.now) c.args.at v (lent_rhs_of c.args.rhs) in
-    ap (λ j. then_typed j go) c.in_ok-target.ensures.answers ∙ c.in_ok-stmt.ensures
+    ap (λ j. then_typed j go) c.in_ok-target.ensures.answers ∙ c.in_ok-stmt.ensures ∙ ap Found (ap stmt_of (sym (kept_value c.declare-declared.result c.in_ok-stmt-2.ensures)))
