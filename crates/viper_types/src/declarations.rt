@@ -1,5 +1,5 @@
 // The typing of declarations in order.
-ghost use Rattle.std.specs.Prelude.{◌≡◌, OnOk, map};
+ghost use Rattle.std.specs.Prelude.{◌≡◌, ◌++◌, ◌∷◌, [], OnOk, length, map};
 ghost use Rattle.viper_core.specs.View as core;
 ghost use Rattle.viper_syntax.specs.View.{decl_of};
 ghost use Rattle.viper_types.specs.Answers.{Answers, declared_of, optional_bodies_of, parts_of, world_of};
@@ -81,15 +81,25 @@ impl Parts {
         }
     }
 
-    /// Adds a predicate. One with a body is a unit.
-    fn add_predicate(&mut self, alloc: Global, predicate: Predicate) -> Result<(), Memory>
-        ensures { OnOk result (parts_of self.new ≡ j.with_declared (parts_of self.old) (j.PredicateOf (core.predicate_of predicate))) }
+    /// Adds what a predicate makes of its parameters, and a unit where it has a body.
+    fn announce(&mut self, alloc: Global, predicate: &Predicate) -> Result<(), Memory>
+        ensures keys { OnOk result (map (λ v. v.items) self.new.keys.items ≡ map (λ v. v.items) self.old.keys.items ++ (core.predicate_of predicate.now).params ∷ []) }
+        ensures units { OnOk result (self.new.units.items ≡ self.old.units.items ++ j.predicate_units (core.predicate_of predicate.now) (length self.old.predicates.items)) }
+        ensures rest { OnOk result (self.new ≡ record self.old { keys = self.new.keys; units = self.new.units }) }
     {
         let number = next_number(self.predicates.len())?;
         if predicate.body.is_some() {
             self.units.push(Unit::Predicate(number))?;
         }
         self.keys.push(predicate.params.as_slice().to_vec(alloc)?)?;
+        Ok(())
+    }
+
+    /// Adds a predicate. One with a body is a unit.
+    fn add_predicate(&mut self, alloc: Global, predicate: Predicate) -> Result<(), Memory>
+        ensures { OnOk result (parts_of self.new ≡ j.with_declared (parts_of self.old) (j.PredicateOf (core.predicate_of predicate))) }
+    {
+        self.announce(alloc, &predicate)?;
         self.predicates.push(predicate)?;
         Ok(())
     }
