@@ -10,7 +10,7 @@ use crate::context::{Context, Scope};
 use crate::expressions::{allows_permission_forms, arguments, expected, place, start, write};
 use crate::faults::TypeFault;
 use std::alloc::Global;
-use vb_base::{Ident, Pos};
+use vb_base::{Ident, Pos, boxed, kept};
 use vb_value::Ty;
 use viper_core::{Amt, Assertion};
 use viper_syntax::{Sign, Term, Word};
@@ -93,7 +93,21 @@ fn fact(
     Ok(Assertion::Fact(e, start(term)))
 }
 
+/// A term as an assertion, in a box.
+#[cycle(assertion)]
+fn boxed_assertion(
+    alloc: Global,
+    context: &Context,
+    scope: &Scope,
+    term: &Term,
+) -> Result<Box<Assertion>, TypeFault>
+    ensures { Answers (λ a. assertion_of a.value) (j.asserting (context_of context.now) scope.now (term_of term.now)) result }
+{
+    Ok(boxed(alloc, assertion(alloc, context, scope, term)?)?)
+}
+
 /// A term as an assertion.
+#[cycle(assertion)]
 pub(crate) fn assertion(
     alloc: Global,
     context: &Context,
@@ -104,23 +118,22 @@ pub(crate) fn assertion(
 {
     match term {
         Term::Binary(Sign::And, a, b, _) => {
-            let left = assertion(alloc, context, scope, a)?;
-            let right = assertion(alloc, context, scope, b)?;
-            let left = Box::new(alloc, left)?;
-            let right = Box::new(alloc, right)?;
+            let left = boxed_assertion(alloc, context, scope, a)?;
+            let right = boxed_assertion(alloc, context, scope, b)?;
             Ok(Assertion::And(left, right))
         }
         Term::Binary(Sign::Implies, a, b, _) => {
             let condition = expected(alloc, context, scope, Ty::Bool, a)?;
-            let implied = assertion(alloc, context, scope, b)?;
-            Ok(Assertion::Implies(condition, Box::new(alloc, implied)?))
+            let implied = boxed_assertion(alloc, context, scope, b);
+            let (implied, condition) = kept(implied, condition)?;
+            Ok(Assertion::Implies(condition, implied))
         }
         Term::Choose(a, b, c, _) => {
             let condition = expected(alloc, context, scope, Ty::Bool, a)?;
-            let first = assertion(alloc, context, scope, b)?;
-            let second = assertion(alloc, context, scope, c)?;
-            let first = Box::new(alloc, first)?;
-            let second = Box::new(alloc, second)?;
+            let first = boxed_assertion(alloc, context, scope, b);
+            let (first, condition) = kept(first, condition)?;
+            let second = boxed_assertion(alloc, context, scope, c);
+            let (second, (first, condition)) = kept(second, (first, condition))?;
             Ok(Assertion::Choose(condition, first, second))
         }
         Term::Acc(a, share, at) => access(alloc, context, scope, a, share.as_deref(), *at),

@@ -8,8 +8,8 @@ use Rattle.viper_types.specs.Typing.{asserting, instance}
 use Rattle.viper_types.proofs.Steps.{answers_along}
 use Rattle.viper_types.proofs.assertions.+assertion.Goals as goal
 
-pub returns-in-Inst : goal.returns-in-Inst
-returns-in-Inst t c =
+pub assertion-returns-in-Inst : goal.assertion-returns-in-Inst
+assertion-returns-in-Inst t c =
     answers_along assertion_of c.instance.result
     (ap (asserting (context_of c.args.context.now) c.args.scope.now) (ap term_of c.in-Inst.is ∙ term_of-Inst c.in-Inst.name c.in-Inst.args c.in-Inst.at) ∙
     ap (λ xs. instance (context_of c.args.context.now) c.args.scope.now c.in-Inst.name (terms_of xs) tree.omitted c.in-Inst.at) (sym c.deref-in-Inst.ensures.value))
