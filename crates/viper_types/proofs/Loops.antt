@@ -1,6 +1,5 @@
 -- What the typing of statements finds has, in each loop, the targets of the loop.
-use Rattle.std.proofs.Common.{◌≡◌, ℕ, ◌+◌, ◌++◌, ◌≤◌, Bool, true, false, Option, Some, None, List, [], ◌∷◌, nat_le, is_some, length, refl, subst, arith, length-append}
-use Rattle.std.proofs.lemmas.List.{length_push}
+use Rattle.std.proofs.Common.{◌≡◌, ℕ, ◌+◌, ◌++◌, ◌≤◌, Bool, true, false, Option, Some, None, List, [], ◌∷◌, nat_le, length, refl, subst, arith, length-append}
 use Rattle.vb_base.specs.declared.places.Pos.{Pos}
 use Rattle.vb_value.specs.Value.{same_type}
 use Rattle.vb_value.specs.declared.values.Ty.{Ty}
@@ -10,17 +9,16 @@ use Rattle.viper_core.specs.Stmt as c
 use Rattle.viper_syntax.specs.Term as t
 use Rattle.viper_syntax.specs.Stmt as s
 use Rattle.viper_syntax.specs.declared.stmts.Named.{Named}
-use Rattle.viper_syntax.specs.declared.stmts.Formal.{Formal}
 use Rattle.viper_syntax.specs.declared.tokens.Word.{Word}
 use Rattle.viper_syntax.specs.declared.tokens.Word.TheVariants as word
 use Rattle.viper_types.specs.Outcome.{Judged, Found, Broken}
-use Rattle.viper_types.specs.Context.{World, Context, find, method_at, nowhere}
-use Rattle.viper_types.specs.Typing.{Scope, Typing, as_many, misfit, typing_all, expected, asserting}
+use Rattle.viper_types.specs.Context.{World, Context, method_at, nowhere}
+use Rattle.viper_types.specs.Typing.{Scope, as_many, misfit, typing_all, expected, asserting}
 use Rattle.viper_types.specs.Frame.{Frame, declared_type, declared_in_arms, declared_in_block, declared_in_else, declared_in_arm, frame_after, with_hidden}
 use Rattle.viper_types.specs.Target.{targets}
 use Rattle.viper_types.specs.Stepping as j
 use Rattle.viper_types.specs.Stepping.{Target, Branch, mistarget, alone, nested, arm_count, chosen_fields, target_place, asserting_all, stepping, blocking, stepping_all, otherwise}
-use Rattle.viper_types.proofs.Tells.{Tells, tells, broken, tell_then, tell_so, tell_known, tell_obeys, tell_clear}
+use Rattle.viper_types.proofs.Tells.{Tells, tells, broken, tell_then, tell_known, tell_obeys, tell_clear}
 
 abbrev pub is_plain : c.Stmt → Bool
 is_plain (c.If at a b d) = false

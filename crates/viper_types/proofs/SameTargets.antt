@@ -1,5 +1,5 @@
 -- The targets of a loop are those that are gathered from its body, and the visible variables that the body assigns.
-use Rattle.std.proofs.Common.{◌≡◌, ◌∙◌, inl, inr, ◌==◌, ◌||◌, ◌&&◌, ℕ, zero, suc, ◌+◌, ◌<◌, ◌≤◌, Bool, true, false, cond, List, [], ◌∷◌, Contains, refl, sym, ap, subst, arith}
+use Rattle.std.proofs.Common.{◌≡◌, ◌∙◌, inl, inr, ◌==◌, ◌||◌, ◌&&◌, ℕ, zero, suc, ◌+◌, ◌<◌, ◌≤◌, Bool, true, false, cond, List, [], ◌∷◌, Contains, refl, sym, ap, arith}
 use Rattle.std.specs.BTreeSet.{insert_key}
 use Rattle.std.specs.Cmp.{nat_cmp_is}
 use Rattle.std.specs.List.{filter, range_with_len}
@@ -15,7 +15,7 @@ use Rattle.viper_core.specs.Typing as g
 use Rattle.viper_core.proofs.ScopeLaws.{some_old_or_new}
 use Rattle.viper_types.specs.Target.{with_target, with_targets, targets_of_stmt, targets_from, gathered, targets}
 use Rattle.viper_types.proofs.Loops.{ListLoops, plain, branches, turns, LoopsIn, no_loops, more_loops}
-use Rattle.viper_types.proofs.Rising.{Rising, has, rising_filter, rising_lower, has_above, has_below, same_rising}
+use Rattle.viper_types.proofs.Rising.{Rising, has, rising_filter, has_above, same_rising}
 
 -- ---- one more number in ascending numbers
 
