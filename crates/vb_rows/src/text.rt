@@ -11,6 +11,7 @@ pub struct Text {
 }
 
 impl Text {
+    /// A text with no line.
     pub fn new(alloc: Global) -> Text {
         Text {
             bytes: Vec::new(alloc),
@@ -18,6 +19,7 @@ impl Text {
         }
     }
 
+    /// The bytes of the text.
     pub fn into_bytes(self) -> Vec<u8> {
         let Text { bytes, begun: _ } = self;
         bytes
