@@ -1,0 +1,228 @@
+// How the bodies of predicates are opened: each row is a body over `x` and `z`, the content, the scale, the values of `x` and
+// `z`, the state, what is other in the state afterwards, the end and the events. A place in line 2 is a column of the body.
+ghost use Rattle.viper_core.specs.Literals.{IsWithinAssertion};
+ghost use Rattle.viper_core.specs.View.{assertion_of};
+ghost use Rattle.viper_state.specs.View.{state_of};
+ghost use Rattle.viper_state.specs.Within.{IsWithinState};
+
+use crate::files::{last_body, program};
+use crate::states::{same_state, scene, state_of};
+use crate::told::{feed, opened, with_events};
+use crate::words::{content, fraction, parts};
+use std::alloc::Global;
+use std::test::Fail;
+use viper_core::Assertion;
+use viper_eval::{Opening1, open_body};
+use viper_state::{Feed, State};
+
+/// What stands before the body.
+const START: &str =
+    "field f: Int field g: Ref predicate P(x: Ref) predicate Q(n: Int, x: Ref) predicate R(x: Ref, z: Ref) {";
+
+/// A place is made of a value of its type.
+const PLACES: &str = "\
+acc(x.f) ; true ; 1/1 ; #1 #0 ;  ;  ; blocked
+acc(x.f) ; 3&_ ; 1/1 ; #1 #0 ;  ;  ; blocked
+acc(x.f) ; _ ; 1/1 ; #1 #0 ;  ;  ; blocked
+acc(x.f) ; _ ; 1/1 ; #0 #0 ;  ;  ; blocked
+acc(x.f) ; 3 ; 1/1 ; #0 #0 ;  ;  ; blocked
+acc(x.f) ; 3 ; 1/1 ; #1 #0 ; #1.f=7 ; #1.f=3 #1.f:1/1 ; goes ; 3
+acc(x.g) ; 3 ; 1/1 ; #1 #0 ;  ;  ; blocked
+acc(x.g) ; #3 ; 1/1 ; #1 #0 ; #1.f=7 #1.f:1/2 ; #1.g=#3 #1.g:1/1 ; goes ; #3
+acc(z.f) ; 3 ; 1/1 ; #1 #2 ;  ; #2.f=3 #2.f:1/1 ; goes ; 3
+acc(x.f, -(-1/2)) ; 3 ; 1/1 ; #1 #0 ;  ; #1.f=3 #1.f:1/2 ; goes ; 3";
+
+/// Amounts are tested before the content.
+const SIGNS: &str = "\
+acc(x.f, -1/2) ; 3 ; 1/1 ; #0 #0 ;  ;  ; 9:1 2:7 negative
+acc(P(x), -1/2) ; 3 ; 1/1 ; #0 #0 ;  ;  ; 9:1 2:5 negative
+acc(x.f, -1/2) ; _ ; 1/1 ; #0 #0 ;  ;  ; 9:1 2:7 negative
+acc(x.f, 0/2) ; 3 ; 1/1 ; #0 #0 ;  ;  ; blocked
+acc(P(x), 0/2) ; 3 ; 1/1 ; #0 #0 ;  ;  ; blocked
+acc(x.f, 0/2) ; _ ; 1/1 ; #0 #0 ;  ;  ; goes
+acc(x.f, -1/2) ; 3 ; 1/1 ; #1 #0 ;  ;  ; 9:1 2:7 negative
+acc(P(x), -1/2) ; 3 ; 1/1 ; #1 #0 ;  ;  ; 9:1 2:5 negative
+acc(x.f, -1/2) ; _ ; 1/1 ; #1 #0 ;  ;  ; 9:1 2:7 negative
+acc(x.f, 0/2) ; 3 ; 1/1 ; #1 #0 ;  ;  ; blocked
+acc(P(x), 0/2) ; 3 ; 1/1 ; #1 #0 ;  ;  ; blocked
+acc(x.f, 0/2) ; _ ; 1/1 ; #1 #0 ;  ;  ; goes
+acc(P(x), none) ; _ ; 1/1 ; #1 #0 ; P(#1)=3 P(#1):1/1 ;  ; goes";
+
+/// Expressions come before the content, but not before that of a conjunction.
+const EARLY: &str = "\
+acc(x.f, 1/0) ; _&_ ; 1/1 ; #1 #0 ;  ;  ; 9:1 2:11 div
+acc(P(x), 1/0) ; _&_ ; 1/1 ; #1 #0 ;  ;  ; 9:1 2:12 div
+acc(P(null.g), 1/0) ; _&_ ; 1/1 ; #1 #0 ;  ;  ; 9:1 2:12 null
+null.f == 1 ; _&_ ; 1/1 ; #1 #0 ;  ;  ; 9:1 2:6 null
+null.f == 1 && true ; _ ; 1/1 ; #1 #0 ;  ;  ; blocked
+null.f == 1 && true ; _&_ ; 1/1 ; #1 #0 ;  ;  ; 9:1 2:6 null ; (_&_)";
+
+/// A conjunction hands on the parts of a pair, and its right side reads what the left made.
+const PAIRS: &str = "\
+acc(x.f) && x.f > 0 ; _ ; 1/1 ; #1 #0 ;  ;  ; blocked
+acc(x.f) && x.f > 0 ; 3 ; 1/1 ; #1 #0 ;  ;  ; blocked
+acc(x.f) && x.f > 0 ; 3&4 ; 1/1 ; #1 #0 ;  ;  ; blocked ; (3&4) 3
+acc(x.f) && x.f > 0 ; 0&_ ; 1/1 ; #1 #0 ;  ;  ; blocked ; (0&_) 0
+acc(x.f) && x.f > 0 ; 3&_ ; 1/2 ; #1 #0 ;  ; #1.f=3 #1.f:1/2 ; goes ; (3&_) 3
+x.f > 0 && acc(x.f) ; _&3 ; 1/1 ; #1 #0 ;  ;  ; 9:1 2:3 perm ; (_&3)
+acc(x.g) && acc(x.g.f) ; #2&5 ; 1/1 ; #1 #0 ;  ; #1.g=#2 #1.g:1/1 #2.f=5 #2.f:1/1 ; goes ; (#2&5) #2 5
+acc(x.f) && acc(z.f) ; 3&5 ; 1/1 ; #2 #1 ;  ; #2.f=3 #2.f:1/1 #1.f=5 #1.f:1/1 ; goes ; (3&5) 3 5
+acc(x.f) && acc(z.f) && x.f < z.f ; 3&5&_ ; 1/1 ; #2 #1 ;  ; #2.f=3 #2.f:1/1 #1.f=5 #1.f:1/1 ; goes ; (3&(5&_)) 3 (5&_) 5
+acc(x.f) && acc(z.f) ; 3&3 ; 1/1 ; #1 #1 ;  ;  ; blocked ; (3&3) 3 3
+acc(x.f, 1/2) && acc(z.f, 1/2) ; 3&3 ; 1/1 ; #1 #1 ;  ; #1.f=3 #1.f:1/1 ; goes ; (3&3) 3 3
+acc(x.f, 1/2) && acc(z.f, 1/2) ; 3&4 ; 1/1 ; #1 #1 ;  ;  ; blocked ; (3&4) 3 4";
+
+/// A place that is held keeps its value, and is held at most whole.
+const HELD: &str = "\
+acc(x.f, 1/2) ; 3 ; 1/1 ; #1 #0 ; #1.f=3 #1.f:1/2 ; #1.f:1/1 ; goes ; 3
+acc(x.f, 1/2) ; 3 ; 1/2 ; #1 #0 ; #1.f=3 #1.f:1/2 ; #1.f:3/4 ; goes ; 3
+acc(x.f, 1/2) ; 3 ; 3/2 ; #1 #0 ; #1.f=3 #1.f:1/2 ;  ; blocked ; 3
+acc(x.f, 1/2) ; 3 ; 1/1 ; #1 #0 ; #1.f=4 #1.f:1/2 ;  ; blocked ; 3";
+
+/// The scale multiplies each amount.
+const SCALES: &str = "\
+acc(x.f, 1/2) && acc(P(x), 3/1) ; 3&5 ; 1/2 ; #1 #0 ;  ; #1.f=3 #1.f:1/4 P(#1)=5 P(#1):3/2 ; goes ; (3&5) 3
+acc(x.f) && acc(z.g, 2/3) ; 3&#4 ; 3/4 ; #1 #2 ;  ; #1.f=3 #1.f:3/4 #2.g=#4 #2.g:1/2 ; goes ; (3&#4) 3 #4";
+
+/// An instance takes any content, or has it.
+const INSTANCES: &str = "\
+P(x) ; 3 ; 1/1 ; #1 #0 ; P(#1)=4 ; P(#1)=3 P(#1):1/1 ; goes
+P(x) ; 3 ; 1/1 ; #1 #0 ; P(#1)=3 P(#1):1/1 ; P(#1):2/1 ; goes
+P(x) ; 3 ; 1/1 ; #1 #0 ; P(#1)=4 P(#1):1/1 ;  ; blocked
+P(x) ; true&#7&_ ; 1/1 ; #1 #0 ;  ; P(#1)=true&#7&_ P(#1):1/1 ; goes
+P(x) ; _ ; 1/1 ; #0 #0 ;  ; P(#0):1/1 ; goes
+Q(4, z) ; 3 ; 1/1 ; #1 #2 ; Q(4,#1)=9 Q(4,#1):1/1 P(#2)=8 ; Q(4,#2)=3 Q(4,#2):1/1 ; goes
+P(x) && Q(4, x) ; 3&5 ; 1/1 ; #1 #2 ;  ; P(#1)=3 P(#1):1/1 Q(4,#1)=5 Q(4,#1):1/1 ; goes ; (3&5)
+P(x) && P(z) ; 3&5 ; 1/1 ; #1 #1 ;  ;  ; blocked ; (3&5)
+P(x) && P(z) ; 3&3 ; 1/1 ; #1 #1 ;  ; P(#1)=3 P(#1):2/1 ; goes ; (3&3)";
+
+/// The side that counts gets the content.
+const SIDES: &str = "\
+true ==> acc(x.f) ; 3 ; 1/1 ; #1 #0 ;  ; #1.f=3 #1.f:1/1 ; goes ; 3
+true ==> acc(x.f) ; _ ; 1/1 ; #1 #0 ;  ;  ; blocked
+false ==> acc(x.f) ; 3 ; 1/1 ; #1 #0 ;  ;  ; blocked
+false ==> acc(x.f) ; _ ; 1/1 ; #1 #0 ;  ;  ; goes
+null.f == 1 ==> acc(x.f) ; _ ; 1/1 ; #1 #0 ;  ;  ; 9:1 2:6 null
+true ? acc(x.f) : P(x) ; 3 ; 1/1 ; #1 #0 ;  ; #1.f=3 #1.f:1/1 ; goes ; 3
+false ? acc(x.f) : P(x) ; 3 ; 1/1 ; #1 #0 ;  ; P(#1)=3 P(#1):1/1 ; goes
+x == z ? acc(x.f) : acc(z.f) ; 3 ; 1/1 ; #1 #2 ;  ; #2.f=3 #2.f:1/1 ; goes ; 3
+null.f == 1 ? acc(x.f) : P(x) ; 3 ; 1/1 ; #1 #0 ;  ;  ; 9:1 2:6 null";
+
+/// A fact holds and contains nothing.
+const FACTS: &str = "\
+true ; _ ; 1/1 ; #1 #0 ;  ;  ; goes
+true ; 3 ; 1/1 ; #1 #0 ;  ;  ; blocked
+false ; _ ; 1/1 ; #1 #0 ;  ;  ; blocked
+false ; 3 ; 1/1 ; #1 #0 ;  ;  ; blocked
+x != z ; _ ; 1/1 ; #1 #0 ;  ;  ; goes";
+
+/// Amounts are added after the content is tested. In the first row the product leaves the bound, in the second the sum.
+const LATE: &str = "\
+acc(x.f, 1/2) ; 3 ; 1/MAX ; #1 #0 ; #1.f=3 ;  ; over 2:7 ; 3
+acc(x.f, 1/2) ; 3 ; 1/1 ; #1 #0 ; #1.f=3 #1.f:1/MAX ;  ; over 2:7 ; 3
+acc(x.f, 1/2) ; 3 ; 1/1 ; #1 #0 ; #1.f=4 #1.f:1/MAX ;  ; blocked ; 3
+acc(P(x), 1/2) ; 3 ; 1/1 ; #1 #0 ; P(#1)=3 P(#1):1/MAX ;  ; over 2:5
+acc(P(x), 1/2) ; 3 ; 1/1 ; #1 #0 ; P(#1)=4 P(#1):1/MAX ;  ; blocked";
+
+/// The columns of a row.
+#[derive(Clone, Copy)]
+struct Row<'a> {
+    body: &'a str,
+    content: &'a str,
+    scale: &'a str,
+    variables: &'a str,
+    before: &'a str,
+    other: &'a str,
+    want: &'a str,
+}
+
+fn columns(row: &str) -> Result<Row<'_>, Fail> {
+    let (body, rest) = parts(row, " ; ")?;
+    let (content, rest) = parts(rest, " ; ")?;
+    let (scale, rest) = parts(rest, " ; ")?;
+    let (variables, rest) = parts(rest, " ; ")?;
+    let (before, rest) = parts(rest, " ; ")?;
+    let (other, want) = parts(rest, " ; ")?;
+    Ok(Row {
+        body,
+        content,
+        scale,
+        variables,
+        before,
+        other,
+        want,
+    })
+}
+
+/// Whether a state is what it was before but for what is other.
+fn is_changed(alloc: Global, state: &State, row: &Row) -> Result<bool, Fail> {
+    let (before, other) = (row.before, row.other);
+    let words = format!(in alloc; "{before} {other}")?;
+    Ok(same_state(state, &state_of(alloc, words.as_str())?))
+}
+
+/// How a body is opened.
+fn ending(
+    alloc: Global,
+    body: &Assertion,
+    row: &Row,
+    state: &mut State,
+    feed: &mut Feed,
+) -> Result<Opening1, Fail>
+    requires body_within { IsWithinAssertion (assertion_of body.now) }
+    requires state_within { IsWithinState (state_of state.old) }
+{
+    let scale = fraction(row.scale)?;
+    let content = content(alloc, row.content)?;
+    let scene = scene(alloc, row.variables, "")?;
+    Ok(open_body(alloc, body, &content, state, &scene, scale, feed)?)
+}
+
+/// How a body is opened, and what is recorded. Where the opening goes on, the state is as it should be.
+fn told(alloc: Global, body: &Assertion, row: &Row) -> Result<String, Fail>
+    requires { IsWithinAssertion (assertion_of body.now) }
+{
+    let mut state = state_of(alloc, row.before)?;
+    let mut feed = feed(alloc)?;
+    let end = ending(alloc, body, row, &mut state, &mut feed)?;
+    if end == Opening1::Goes && !is_changed(alloc, &state, row)? {
+        return Ok("another state".to_string(alloc)?);
+    }
+    with_events(alloc, opened(alloc, end)?, &feed)
+}
+
+/// What came of a row, where the row says otherwise.
+fn wrong_row(alloc: Global, row: &str) -> Result<Option<String>, Fail> {
+    let row = columns(row)?;
+    let program = program(alloc, START, row.body)?;
+    let body = last_body(&program).ok_or("no body")?;
+    let got = told(alloc, body, &row)?;
+    Ok(if got.as_str() == row.want {
+        None
+    } else {
+        Some(got)
+    })
+}
+
+/// The wrong rows of the tables, each with what came.
+fn wrong(alloc: Global, tables: &[&str]) -> Result<String, Fail> {
+    let mut text = "".to_string(alloc)?;
+    for table in tables {
+        for row in table.lines() {
+            if let Some(got) = wrong_row(alloc, row)? {
+                text.push_str(format!(in alloc; "{row}: {got}\n")?.as_str())?;
+            }
+        }
+    }
+    Ok(text)
+}
+
+/// Each end, each event and each state is what its row says.
+#[test]
+fn bodies_are_opened_as_the_tables_say(rt: HostRuntime) -> Result<(), Fail> {
+    let tables = [
+        PLACES, SIGNS, EARLY, PAIRS, HELD, SCALES, INSTANCES, SIDES, FACTS, LATE,
+    ];
+    assert_eq!(rt; wrong(rt.alloc(), &tables)?.as_str(), "");
+    Ok(())
+}

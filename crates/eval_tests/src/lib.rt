@@ -1,0 +1,16 @@
+//! Tests of the evaluation of expressions and of the opening of predicates: whole small files, read from tables whose ends
+//! are worked out by hand. A table is one string, a row a line.
+#![tactic(auto)]
+
+#[cfg(test)]
+mod bodies;
+#[cfg(test)]
+mod expressions;
+#[cfg(test)]
+mod files;
+#[cfg(test)]
+mod states;
+#[cfg(test)]
+mod told;
+#[cfg(test)]
+mod words;
