@@ -1,3 +1,4 @@
 pub mod DoesLaws
 pub mod FormLaws
 pub mod AssertionLaws
+pub mod ForgettingLaws

@@ -73,3 +73,27 @@ impl From<Memory> for Halt {
         Halt::Memory
     }
 }
+
+impl From<sparse::Memory> for Halt {
+    ghost from_gives = { λ _ e. e ≡ halt.Memory };
+
+    fn from(_: sparse::Memory) -> Halt {
+        Halt::Memory
+    }
+}
+
+impl From<vb_value::Memory> for Halt {
+    ghost from_gives = { λ _ e. e ≡ halt.Memory };
+
+    fn from(_: vb_value::Memory) -> Halt {
+        Halt::Memory
+    }
+}
+
+impl From<std::alloc::AllocError> for Halt {
+    ghost from_gives = { λ _ e. e ≡ halt.Memory };
+
+    fn from(_: std::alloc::AllocError) -> Halt {
+        Halt::Memory
+    }
+}

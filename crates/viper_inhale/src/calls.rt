@@ -1,19 +1,22 @@
 // The calls that other crates make.
-ghost use Rattle.std.specs.Prelude.{◌≡◌, IfOk, true};
+ghost use Rattle.std.specs.Prelude.{◌≡◌, All, IfOk, true};
 ghost use Rattle.vb_value.specs.Bound.{Bounded};
 ghost use Rattle.vb_value.specs.Fraction.{is_positive};
+ghost use Rattle.vb_value.specs.Layout.{Layout};
 ghost use Rattle.viper_core.specs.Literals.{IsWithinAssertion};
 ghost use Rattle.viper_core.specs.View.{assertion_of};
+ghost use Rattle.viper_state.specs.Fits.{FitsChoice, FitsState};
 ghost use Rattle.viper_state.specs.Run.{Feed as Fed};
 ghost use Rattle.viper_state.specs.State as tree;
 ghost use Rattle.viper_state.specs.View.{scene_of, state_of, feed_of};
 ghost use Rattle.viper_state.specs.Within.{IsWithinState, IsWithinScene, IsWithinFeed};
 ghost use Rattle.viper_meaning.specs.Run as run;
 ghost use Rattle.viper_meaning.specs.Assertions as m;
+ghost use Rattle.viper_meaning.specs.Forgotten as forgotten;
 ghost use Rattle.viper_inhale.specs.Answers.{Does, run_of, step_of};
 
 use crate::answers::{Halt, Step, Stop};
-use crate::{consuming, producing};
+use crate::{consuming, forgetting, producing};
 use std::alloc::Global;
 use vb_base::Memory;
 use vb_value::Frac;
@@ -90,4 +93,17 @@ pub fn produce(
 {
     let scene = SceneRef::of(scene);
     step(producing::produce(alloc, a, scene, scale, state, feed))
+}
+
+/// Forgets the value of each place to which nothing is held, and what each instance contains of which nothing is held. The
+/// next choice, a heap and contents, says what stands there from then on; what is held keeps its value.
+///
+/// `Goes` leaves the state after forgetting. The events and the choices that are left are exact after each `Step`, where the
+/// state and the choices fit one layout.
+pub fn forget(alloc: Global, state: &mut State, feed: &mut Feed) -> Result<Step, Memory>
+    ensures step { (l : Layout) → FitsState l (state_of state.old) → All (FitsChoice l) (feed_of feed.old).left → IfOk result (λ step. run_of
+        (forgotten.forget l (state_of state.old)) (feed_of feed.old)
+        ≡ run.ran (feed_of feed.new).events (step_of (state_of state.new) step) (feed_of feed.new).left) }
+{
+    step(forgetting::forget(alloc, state, feed))
 }

@@ -1,12 +1,13 @@
-//! Producing and consuming assertions, as `viper_meaning` defines them.
+//! Producing and consuming assertions, and forgetting what is not held, as `viper_meaning` defines them.
 #![tactic(auto)]
 
 mod answers;
 mod calls;
 mod choices;
 mod consuming;
+mod forgetting;
 mod producing;
 mod resources;
 
 pub use answers::{Halt, Step, Stop};
-pub use calls::{consume, produce};
+pub use calls::{consume, forget, produce};

@@ -1,0 +1,141 @@
+// Forgetting: where nothing is held, the heap and contents of a choice take the place of the state's own.
+ghost use Rattle.std.specs.Prelude.{◌≡◌, All, IfErr, OnOk, length, map};
+ghost use Rattle.std.specs.Ordering.{nat_cmp};
+ghost use Rattle.std.specs.Option.{option_map};
+ghost use Rattle.sparse.specs.Map.{keys};
+ghost use Rattle.vb_value.specs.Content.{same_content};
+ghost use Rattle.vb_value.specs.Key.{key_cmp};
+ghost use Rattle.vb_value.specs.Value.{value_eq};
+ghost use Rattle.viper_state.specs.Fits.{FitsMemo, FitsState, FitsChoice};
+ghost use Rattle.viper_state.specs.View.{contents_of, memo_of, choice_of, state_of, feed_of};
+ghost use Rattle.vb_value.specs.Layout.{Layout};
+ghost use Rattle.viper_meaning.specs.Forgotten.{kept_at, forgotten_maps, forgotten, with_memo};
+ghost use Rattle.viper_meaning.specs.Forgotten as m;
+ghost use Rattle.viper_meaning.specs.Run as run;
+ghost use Rattle.viper_state.specs.Event as event;
+ghost use Rattle.viper_inhale.specs.Answers.{Does};
+ghost use Rattle.viper_inhale.specs.View.{filled_in};
+ghost use Rattle.viper_inhale.specs.declared.answers.Halt.TheVariants as halt;
+
+use crate::answers::{Halt, Stop};
+use sparse::Sparse;
+use std::alloc::Global;
+use vb_value::{Content, Frac, Key, Value};
+use viper_state::{Choice, Event, Feed, Memo, State, copy_memo};
+
+/// Gives a new heap of a field the own value at each reference to which something is held.
+fn keep_values(
+    new: &mut Sparse<u64, Value>,
+    own: &Sparse<u64, Value>,
+    held: &Sparse<u64, Frac>,
+) -> Result<(), Halt>
+    ensures kept { OnOk result (new.new ≡ kept_at nat_cmp value_eq new.old own.now (keys held.now)) }
+    ensures memory { IfErr result (λ h. h ≡ halt.Memory) }
+{
+    for i in 0..held.len() {
+        let reference = held.key_at(i);
+        new.set(*reference, *own.get(reference))?;
+    }
+    Ok(())
+}
+
+/// Gives new contents of a predicate the own content of each instance of which something is held.
+fn keep_contents(
+    alloc: Global,
+    new: &mut Sparse<Key, Content>,
+    own: &Sparse<Key, Content>,
+    held: &Sparse<Key, Frac>,
+) -> Result<(), Halt>
+    ensures kept { OnOk result (contents_of new.new ≡ kept_at key_cmp same_content (contents_of new.old) (contents_of own.now) (keys held.now)) }
+    ensures memory { IfErr result (λ h. h ≡ halt.Memory) }
+{
+    for i in 0..held.len() {
+        let key = held.key_at(i);
+        let content = own.get(key).copy(alloc)?;
+        new.set(key.clone()?, content)?;
+    }
+    Ok(())
+}
+
+/// The same for the heaps of all fields.
+fn keep_heap(
+    news: &mut Vec<Sparse<u64, Value>>,
+    owns: &[Sparse<u64, Value>],
+    helds: &[Sparse<u64, Frac>],
+) -> Result<(), Halt>
+    ensures kept { length owns.now ≡ length news.old.items → length helds.now ≡ length news.old.items
+        → OnOk result (news.new.items ≡ forgotten_maps nat_cmp value_eq news.old.items owns.now helds.now) }
+    ensures memory { IfErr result (λ h. h ≡ halt.Memory) }
+{
+    for field in 0..news.len().min(owns.len()).min(helds.len()) {
+        keep_values(&mut news[field], &owns[field], &helds[field])?;
+    }
+    Ok(())
+}
+
+/// The same for the contents of all predicates.
+fn keep_all_contents(
+    alloc: Global,
+    news: &mut Vec<Sparse<Key, Content>>,
+    owns: &[Sparse<Key, Content>],
+    helds: &[Sparse<Key, Frac>],
+) -> Result<(), Halt>
+    ensures kept { length owns.now ≡ length news.old.items → length helds.now ≡ length news.old.items
+        → OnOk result (map contents_of news.new.items
+        ≡ forgotten_maps key_cmp same_content (map contents_of news.old.items) (map contents_of owns.now) helds.now) }
+    ensures memory { IfErr result (λ h. h ≡ halt.Memory) }
+{
+    for predicate in 0..news.len().min(owns.len()).min(helds.len()) {
+        keep_contents(
+            alloc,
+            &mut news[predicate],
+            &owns[predicate],
+            &helds[predicate],
+        )?;
+    }
+    Ok(())
+}
+
+/// The heap and contents that a choice is, if it is some.
+fn memo_in(choice: Choice) -> Option<Memo>
+    ensures { option_map memo_of result ≡ filled_in (choice_of choice) }
+{
+    match choice {
+        Choice::Memo(memo) => Some(memo),
+        _ => None,
+    }
+}
+
+/// Forgets by a heap and contents, and records what stands from then on.
+fn forget_by(alloc: Global, memo: Memo, state: &mut State, feed: &mut Feed) -> Result<(), Halt>
+    ensures { (l : Layout) → FitsState l (state_of state.old) → FitsMemo l (memo_of memo)
+        → Does (λ _. state_of state.new) (feed_of feed.old)
+        (run.noting (event.Whole (forgotten (state_of state.old) (memo_of memo))) (run.goes (with_memo (state_of state.old) (forgotten (state_of state.old) (memo_of memo)))))
+        (feed_of feed.new) result }
+{
+    let Memo {
+        mut heap,
+        mut content,
+    } = memo;
+    keep_heap(&mut heap, &state.heap, &state.mask)?;
+    keep_all_contents(alloc, &mut content, &state.content, &state.amount)?;
+    let memo = Memo { heap, content };
+    feed.record(Event::Whole(copy_memo(alloc, &memo)?))?;
+    state.heap = memo.heap;
+    state.content = memo.content;
+    Ok(())
+}
+
+/// Forgets what is not held, by the next choice, which has to be a heap and contents.
+pub(crate) fn forget(alloc: Global, state: &mut State, feed: &mut Feed) -> Result<(), Halt>
+    ensures { (l : Layout) → FitsState l (state_of state.old) → All (FitsChoice l) (feed_of feed.old).left
+        → Does (λ _. state_of state.new) (feed_of feed.old) (m.forget l (state_of state.old)) (feed_of feed.new) result }
+{
+    match feed.take() {
+        Some(choice) => match memo_in(choice) {
+            Some(memo) => forget_by(alloc, memo, state, feed),
+            None => Err(Halt::Stops(Stop::Blocked)),
+        },
+        None => Err(Halt::Stops(Stop::Short)),
+    }
+}
