@@ -6,7 +6,7 @@ ghost use Rattle.viper_state.specs.View.{state_of};
 ghost use Rattle.viper_state.specs.Within.{IsWithinState};
 
 use crate::files::{last_body, program};
-use crate::states::{same_state, scene, state_of};
+use crate::states::{is_changed, scene, state_of};
 use crate::told::{feed, opened, with_events};
 use crate::words::{content, fraction, parts};
 use std::alloc::Global;
@@ -154,13 +154,6 @@ fn columns(row: &str) -> Result<Row<'_>, Fail> {
     })
 }
 
-/// Whether a state is what it was before but for what is other.
-fn is_changed(alloc: Global, state: &State, row: &Row) -> Result<bool, Fail> {
-    let (before, other) = (row.before, row.other);
-    let words = format!(in alloc; "{before} {other}")?;
-    Ok(same_state(state, &state_of(alloc, words.as_str())?))
-}
-
 /// How a body is opened.
 fn ending(
     alloc: Global,
@@ -185,7 +178,7 @@ fn told(alloc: Global, body: &Assertion, row: &Row) -> Result<String, Fail>
     let mut state = state_of(alloc, row.before)?;
     let mut feed = feed(alloc)?;
     let end = ending(alloc, body, row, &mut state, &mut feed)?;
-    if end == Opening1::Goes && !is_changed(alloc, &state, row)? {
+    if end == Opening1::Goes && !is_changed(alloc, &state, row.before, row.other)? {
         return Ok("another state".to_string(alloc)?);
     }
     with_events(alloc, opened(alloc, end)?, &feed)

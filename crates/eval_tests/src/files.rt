@@ -53,3 +53,16 @@ pub fn last_body(program: &Program) -> Option<&Assertion>
     let last = program.predicates.len().checked_sub(1)?;
     program.predicates.get(last)?.body.as_ref()
 }
+
+/// What the first statement of the first method inhales.
+pub fn inhaled(program: &Program) -> Option<&Assertion>
+    requires { IsFormed (program_of program.now) }
+    ensures { IfSome result (λ a. IsWithinAssertion (assertion_of a.now)) }
+{
+    let method = program.methods.get(0)?;
+    let body = method.body.as_ref()?;
+    match body.stmts.get(0)? {
+        Stmt::Inhale(_, assertion) => Some(assertion),
+        _ => None,
+    }
+}

@@ -1,7 +1,9 @@
-//! Tests of the evaluation of expressions and of the opening of predicates: whole small files, read from tables whose ends
-//! are worked out by hand. A table is one string, a row a line.
+//! Tests of the evaluation of expressions, of the opening of predicates, and of producing, consuming and forgetting: whole
+//! small files, read from tables whose ends are worked out by hand. A table is one string, a row a line.
 #![tactic(auto)]
 
+#[cfg(test)]
+mod assertions;
 #[cfg(test)]
 mod bodies;
 #[cfg(test)]

@@ -177,9 +177,15 @@ fn same_maps<K: Ord + Clone, V: Eq + Clone>(
 }
 
 /// Whether two states are equal, place by place.
-pub fn same_state(state: &State, other: &State) -> bool {
+fn same_state(state: &State, other: &State) -> bool {
     same_maps(&state.heap, &other.heap)
         && same_maps(&state.content, &other.content)
         && same_maps(&state.mask, &other.mask)
         && same_maps(&state.amount, &other.amount)
+}
+
+/// Whether a state is what it was before but for what is other.
+pub fn is_changed(alloc: Global, state: &State, before: &str, other: &str) -> Result<bool, Fail> {
+    let words = format!(in alloc; "{before} {other}")?;
+    Ok(same_state(state, &state_of(alloc, words.as_str())?))
 }

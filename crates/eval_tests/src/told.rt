@@ -3,7 +3,14 @@ use std::alloc::Global;
 use std::test::Fail;
 use vb_value::{Content, Frac, Value};
 use viper_eval::{Evaluated, Opening1};
+use viper_inhale::Step;
 use viper_state::{Choice, Event, Feed};
+
+/// `1/2`.
+fn fraction(alloc: Global, amount: Frac) -> Result<String, Fail> {
+    let (num, den) = (Frac::num(amount), Frac::den(amount));
+    Ok(format!(in alloc; "{num}/{den}")?)
+}
 
 /// `7`, `true`, `#1` or `1/2`.
 fn value(alloc: Global, value: Value) -> Result<String, Fail> {
@@ -11,10 +18,7 @@ fn value(alloc: Global, value: Value) -> Result<String, Fail> {
         Value::Int(number) => format!(in alloc; "{number}")?,
         Value::Bool(truth) => format!(in alloc; "{truth}")?,
         Value::Ref(reference) => format!(in alloc; "#{reference}")?,
-        Value::Perm(amount) => {
-            let (num, den) = (Frac::num(amount), Frac::den(amount));
-            format!(in alloc; "{num}/{den}")?
-        }
+        Value::Perm(amount) => fraction(alloc, amount)?,
     })
 }
 
@@ -31,7 +35,7 @@ fn content(alloc: Global, tree: &Content) -> Result<String, Fail> {
     })
 }
 
-/// A pair that was opened, or the value of a place that was.
+/// A pair that was opened, the value of a place that was, or what was chosen.
 fn event(alloc: Global, event: &Event) -> Result<String, Fail> {
     Ok(match event {
         Event::Split(left, right) => {
@@ -40,6 +44,8 @@ fn event(alloc: Global, event: &Event) -> Result<String, Fail> {
             format!(in alloc; "({left}&{right})")?
         }
         Event::Leaf(leaf) => value(alloc, *leaf)?,
+        Event::Wild(amount) => fraction(alloc, *amount)?,
+        Event::Whole(_) => "memo".to_string(alloc)?,
         Event::Branch(truth) => format!(in alloc; "branch {truth}")?,
         _ => "another event".to_string(alloc)?,
     })
@@ -61,17 +67,28 @@ fn is_kept(feed: &Feed) -> bool {
         && matches!(feed.events.get(0), Some(Event::Branch(false)))
 }
 
-/// An end and what was recorded after the first event, with a `;` before it. No choice is taken.
-pub fn with_events(alloc: Global, end: String, feed: &Feed) -> Result<String, Fail> {
-    if !is_kept(feed) {
-        return Ok("another feed".to_string(alloc)?);
-    }
+/// An end and what was recorded after the first event, with a `;` before it.
+fn recorded(alloc: Global, end: String, feed: &Feed) -> Result<String, Fail> {
     let mut text = end;
     for i in 1..feed.events.len() {
         text.push_str(if i == 1 { " ; " } else { " " })?;
         text.push_str(event(alloc, &feed.events[i])?.as_str())?;
     }
     Ok(text)
+}
+
+/// An end and what was recorded. No choice is taken.
+pub fn with_events(alloc: Global, end: String, feed: &Feed) -> Result<String, Fail> {
+    if !is_kept(feed) {
+        return Ok("another feed".to_string(alloc)?);
+    }
+    recorded(alloc, end, feed)
+}
+
+/// An end, how many choices are left, and what was recorded.
+pub fn with_choices(alloc: Global, end: String, feed: &Feed) -> Result<String, Fail> {
+    let left = feed.choices.len().saturating_sub(feed.next);
+    recorded(alloc, format!(in alloc; "{end}, {left} left")?, feed)
 }
 
 /// How an evaluation ended.
@@ -91,5 +108,16 @@ pub fn opened(alloc: Global, end: Opening1) -> Result<String, Fail> {
         Opening1::Fails(label) => format!(in alloc; "{label}")?,
         Opening1::Blocked => "blocked".to_string(alloc)?,
         Opening1::Over(at) => format!(in alloc; "over {at}")?,
+    })
+}
+
+/// How a step of a run ended.
+pub fn stepped(alloc: Global, end: Step) -> Result<String, Fail> {
+    Ok(match end {
+        Step::Goes => "goes".to_string(alloc)?,
+        Step::Fails(label) => format!(in alloc; "{label}")?,
+        Step::Blocked => "blocked".to_string(alloc)?,
+        Step::Short => "short".to_string(alloc)?,
+        Step::Over(at) => format!(in alloc; "over {at}")?,
     })
 }
