@@ -28,11 +28,13 @@ fn number(text: &str) -> Result<i128, Fail>
     Ok(int_add(number, 0)?)
 }
 
+/// A reference, as in `#1`.
 pub fn reference(text: &str) -> Result<u64, Fail> {
     let number = text.strip_prefix("#").ok_or("no reference")?;
     Ok(number.parse::<u64>().ok().ok_or("no reference")?)
 }
 
+/// A fraction, as in `1/2`.
 pub fn fraction(text: &str) -> Result<Frac, Fail>
     ensures { IfOk result IsWithinFraction }
 {
