@@ -1,7 +1,6 @@
 -- Each list of tokens is read, or goes wrong somewhere: by the number of its tokens, and then by the rank of the symbol.
-use Rattle.std.proofs.Common.{◌≡◌, refl, sym, ap, subst, ◌∙◌, ℕ, ℤ, pos, negsuc, zero, suc, ◌+◌, ◌-◌, ◌<◌, ◌≤◌, ◌⊎◌, inl, inr, Bool, true, false, cond, List, [], ◌∷◌, length, Some, None, slice_get, arith}
+use Rattle.std.proofs.Common.{◌≡◌, refl, sym, ap, subst, ◌∙◌, ℕ, ℤ, pos, negsuc, zero, suc, ◌+◌, ◌-◌, ◌⊎◌, inl, inr, Bool, true, false, List, [], ◌∷◌, Some, slice_get, arith}
 use Rattle.std.proofs.lemmas.Bool.{cases_order}
-use Rattle.std.proofs.lemmas.List.{length-append}
 use Rattle.viper_syntax.specs.declared.tokens.Token.{Token}
 use Rattle.viper_syntax.specs.declared.tokens.Tok.{Tok}
 use Rattle.viper_syntax.specs.declared.tokens.Tok.TheVariants as tok
@@ -10,14 +9,15 @@ use Rattle.viper_syntax.specs.declared.tokens.Word.TheVariants as word
 use Rattle.viper_syntax.specs.declared.tokens.Sign.{Sign}
 use Rattle.viper_syntax.specs.declared.tokens.Sign.TheVariants as sign
 use Rattle.viper_parse.specs.declared.parts.WordClass.{WordClass}
-use Rattle.viper_parse.specs.Tests.{Kind, Value, Test, this, a_name, a_number, one_of, a_negation, an_operator, Passes, Starts, belongs, is_negation, level_of}
+use Rattle.viper_parse.specs.Tests.{Kind, Test, this, a_name, a_number, one_of, a_negation, an_operator, belongs, is_negation, level_of}
 use Rattle.viper_parse.specs.Grammar as g
-use Rattle.viper_parse.specs.Grammar.{Symbol, Rule, give, need, when, read, rule}
-use Rattle.viper_parse.specs.Spells.{Derives}
-use Rattle.viper_parse.specs.Greedy.{IsNot, Reads, given, needed, taken, passed, called, Fails}
-use Rattle.viper_parse.proofs.Reading.{derivation, fails_needed, fails_taken, fails_passed, fails_called, fails_in, fails_here}
+use Rattle.viper_parse.specs.Grammar.{Symbol, Rule, rule, viper, rules}
+use Rattle.grammar.specs.Whole.{IsSpelled, GoesWrong}
+use Rattle.grammar.proofs.Answered as grammar
+use Rattle.grammar.proofs.Answered.{right, wrong, fg, fn, fw, fr, ft}
 use Rattle.viper_parse.proofs.Codes.{word_code, sign_code, empty}
-use Rattle.viper_parse.proofs.Complete.{ends_right, empty_ok}
+use Rattle.viper_parse.proofs.Elements.{laws}
+use Rattle.viper_parse.proofs.Complete.{empty_right, complete}
 
 -- whether two tokens are the same
 
@@ -97,9 +97,8 @@ same_tok _ _ = inr (λ e. cc)
 
 -- whether a token passes a test
 
-data Tried {b : Bool} {r : Kind} (c : Test b r) (k : Token) : Type 0 where
-  right : (v : Value r) → Passes c k v → Tried c k
-  wrong : ((v : Value r) → Passes c k v → ⊥) → Tried c k
+abbrev Tried : {b : Bool} {r : Kind} → Test b r → Token → Type 0
+Tried c k = grammar.Tried viper c k
 
 try_this : (x : Tok) (k : Token) → Decided (k.tok ≡ x) → Tried (this x) k
 try_this x k (inl e) = right k.pos (e, refl)
@@ -149,80 +148,6 @@ try_token (one_of c) k = try_word c k k.tok refl
 try_token a_negation k = try_negation k k.tok refl
 try_token (an_operator n) k = try_operator n k k.tok refl
 
--- whether a list of tokens begins with one that passes
-
-data Next {b : Bool} {r : Kind} (c : Test b r) (ts : List Token) : Type 0 where
-  is_next : (v : Value r) (us : List Token) → Starts c ts v us → Next c ts
-  is_not : IsNot c ts → Next c ts
-
-next_is : {b : Bool} {r : Kind} {c : Test b r} {k : Token} (ts : List Token) → Tried c k → Next c (k ∷ ts)
-next_is {k = k} ts (right v p) = is_next v ts (record { token = k; is = refl; passes = p })
-next_is {c = c} {k = k} ts (wrong n) = is_not (record { none = λ v us q. let same : q.token ≡ k = cc (q.is) in n v (subst (λ j. Passes c j v) same q.passes) })
-
-next : {b : Bool} {r : Kind} (c : Test b r) (ts : List Token) → Next c ts
-next c [] = is_not (record { none = λ v us q. absurd (cc (q.is)) })
-next c (k ∷ ts) = next_is ts (try_token c k)
-
--- a rule reads the tokens, or goes wrong somewhere
-
-pub data Answer (s : Kind) (a : Rule s) (ts : List Token) : Type 0 where
-  reads : (x : Value s) (us : List Token) → Reads s a ts x us → Answer s a ts
-  goes_wrong : (r : List Token) → Fails a ts r → Answer s a ts
-
-start_shorter : {b : Bool} {r : Kind} {c : Test b r} {ts us : List Token} {v : Value r} → Starts c ts v us → length us < length ts
-start_shorter {ts = ts} {us = us} q = let e : length ts ≡ length (q.token ∷ us) = ap length q.is in omega arith
-
-needed_as : {r s : Kind} {c : Test true r} {go : Value r → Rule s} {ts us : List Token} {v : Value r} → Starts c ts v us → Answer s (go v) us → Answer s (need c go) ts
-needed_as p (reads x vs h) = reads x vs (needed p h)
-needed_as p (goes_wrong z f) = goes_wrong z (fails_needed p f)
-
-taken_as : {b : Bool} {r s : Kind} {c : Test b r} {go : Value r → Rule s} {other : Rule s} {ts us : List Token} {v : Value r} →
-    Starts c ts v us → Answer s (go v) us → Answer s (when c go other) ts
-taken_as p (reads x vs h) = reads x vs (taken p h)
-taken_as p (goes_wrong z f) = goes_wrong z (fails_taken p f)
-
-passed_as : {b : Bool} {r s : Kind} {c : Test b r} {go : Value r → Rule s} {other : Rule s} {ts : List Token} → IsNot c ts → Answer s other ts → Answer s (when c go other) ts
-passed_as n (reads x vs h) = reads x vs (passed n h)
-passed_as n (goes_wrong z f) = goes_wrong z (fails_passed n f)
-
-called_as : {r s : Kind} {a : Symbol r} {go : Value r → Rule s} {ts us : List Token} {y : Value r} → Reads r (rule a) ts y us → Answer s (go y) us → Answer s (read a go) ts
-called_as p (reads x vs h) = reads x vs (called p h)
-called_as p (goes_wrong z f) = goes_wrong z (fails_called p f)
-
-at_need : {r s : Kind} {c : Test true r} {go : Value r → Rule s} {ts : List Token} → Next c ts →
-    ((v : Value r) (us : List Token) → length us < length ts → Answer s (go v) us) → Answer s (need c go) ts
-at_need (is_next v us p) f = needed_as p (f v us (start_shorter p))
-at_need (is_not n) f = goes_wrong _ (fails_here n)
-
-at_when : {b : Bool} {r s : Kind} {c : Test b r} {go : Value r → Rule s} {other : Rule s} {ts : List Token} → Next c ts →
-    ((v : Value r) (us : List Token) → length us < length ts → Answer s (go v) us) → Answer s other ts → Answer s (when c go other) ts
-at_when (is_next v us p) f o = taken_as p (f v us (start_shorter p))
-at_when (is_not n) f o = passed_as n o
-
-at_read : {r s : Kind} {a : Symbol r} {go : Value r → Rule s} {ts : List Token} → Answer r (rule a) ts →
-    ((y : Value r) (us : List Token) → Reads r (rule a) ts y us → Answer s (go y) us) → Answer s (read a go) ts
-at_read (reads y us h) f = called_as h (f y us h)
-at_read (goes_wrong z w) f = goes_wrong z (fails_in w)
-
--- what is left after a rule is no more than there was, and less where the rule spells nothing empty
-
-no_longer : {s : Kind} {a : Rule s} {ts us : List Token} {x : Value s} → Reads s a ts x us → length us ≤ length ts
-no_longer {ts = ts} {us = us} h =
-    let d = derivation h in
-    let e : length ts ≡ length d.front + length us = ap length d.is ∙ length-append d.front us in
-    omega arith
-
-front_some : {s : Kind} (a : Symbol s) {x : Value s} (f : List Token) → empty a ≡ None → Derives s (rule a) f x → 1 ≤ length f
-front_some a {x = x} [] e d = let h : None ≡ Some x = sym e ∙ sym (empty_ok a) ∙ ends_right d refl in absurd (cc)
-front_some a (k ∷ f) e d = omega arith
-
-shorter : {s : Kind} (a : Symbol s) {ts us : List Token} {x : Value s} → empty a ≡ None → Reads s (rule a) ts x us → length us < length ts
-shorter a {ts = ts} {us = us} n h =
-    let d = derivation h in
-    let some : 1 ≤ length d.front = front_some a d.front n d.derives in
-    let e : length ts ≡ length d.front + length us = ap length d.is ∙ length-append d.front us in
-    omega arith
-
 -- before a token is read, a symbol reads symbols of lower rank alone
 
 abbrev rank : {s : Kind} → Symbol s → ℕ
@@ -241,17 +166,11 @@ rank (g.WhileLoop at) = 1
 rank g.InstanceOf = 1
 rank _ = 0
 
-data Falls (n : ℕ) (s : Kind) : Rule s → Type 0 where
-  fg : {x : Value s} → Falls n s (give x)
-  fn : {r : Kind} {c : Test true r} {go : Value r → Rule s} → Falls n s (need c go)
-  fw : {b : Bool} {r : Kind} {c : Test b r} {go : Value r → Rule s} {other : Rule s} → Falls n s other → Falls n s (when c go other)
-  fr : {r : Kind} {a : Symbol r} {go : Value r → Rule s} → rank a < n → ((y : Value r) → Falls n s (go y)) → Falls n s (read a go)
-  -- what this symbol spells has a token
-  ft : {r : Kind} {a : Symbol r} {go : Value r → Rule s} → rank a < n → empty a ≡ None → Falls n s (read a go)
+abbrev ranks : grammar.Ranks viper
+ranks = record { empty = λ s a. empty a; rank = λ s a. rank a }
 
-falls_cond : {n : ℕ} {s : Kind} (b : Bool) {x y : Rule s} → Falls n s x → Falls n s y → Falls n s (cond b x y)
-falls_cond true h i = h
-falls_cond false h i = i
+abbrev Falls : ℕ → (s : Kind) → Rule s → Type 0
+Falls n s a = grammar.Falls ranks n s a
 
 falls : {s : Kind} (a : Symbol s) → Falls (rank a) s (rule a)
 falls (g.Program ds) = fw (fw (fw fg))
@@ -282,42 +201,19 @@ falls g.Arguments = fw (fr (omega arith) (λ p. fr (omega arith) (λ z. fg)))
 falls (g.MoreArguments es) = fw fn
 falls g.Amount = fw fn
 falls g.Group = fn
-falls g.Term = fr (omega arith) (λ p. falls_cond (g.is_open p.shape) fg (fw fg))
+falls g.Term = fr (omega arith) (λ p. grammar.falls_cond (g.is_open p.shape) fg (fw fg))
 falls (g.Level zero) = fr (omega arith) (λ p. fg)
 falls (g.Level (suc n)) = fr (omega arith) (λ p. fr (omega arith) (λ q. fg))
-falls (g.Chain n p) = falls_cond (g.is_open p.shape) fg (fw fg)
+falls (g.Chain n p) = grammar.falls_cond (g.is_open p.shape) fg (fw fg)
 falls g.Unary = fw (fw (fr (omega arith) (λ p. fr (omega arith) (λ q. fg))))
 falls (g.Fields p) = fw fg
 falls g.First = fw (fw (fw (fw (fw (fr (omega arith) (λ p. fg))))))
 
--- each rule has an answer for fewer than n tokens, if each symbol has
-
-any_rule : (n : ℕ) → ((r : Kind) (b : Symbol r) (us : List Token) → length us < n → Answer r (rule b) us) →
-    {s : Kind} (a : Rule s) (ts : List Token) → length ts < n → Answer s a ts
-any_rule n h (give x) ts lt = reads _ _ given
-any_rule n h (need c go) ts lt = at_need (next c ts) (λ v us k. any_rule n h (go v) us (omega arith))
-any_rule n h (when c go other) ts lt = at_when (next c ts) (λ v us k. any_rule n h (go v) us (omega arith)) (any_rule n h other ts lt)
-any_rule n h (read a go) ts lt = at_read (h _ a ts lt) (λ y us i. let k = no_longer i in any_rule n h (go y) us (omega arith))
-
--- of n tokens too, where it reads symbols of lower rank at first
-
-low_rule : (n m : ℕ) → ((r : Kind) (b : Symbol r) (us : List Token) → length us < n → Answer r (rule b) us) →
-    ((r : Kind) (b : Symbol r) (us : List Token) → rank b < m → length us < suc n → Answer r (rule b) us) →
-    {s : Kind} {a : Rule s} → Falls m s a → (ts : List Token) → length ts < suc n → Answer s a ts
-low_rule n m h low fg ts lt = reads _ _ given
-low_rule n m h low (fn {c = c} {go = go}) ts lt = at_need (next c ts) (λ v us k. any_rule n h (go v) us (omega arith))
-low_rule n m h low (fw {c = c} {go = go} f) ts lt = at_when (next c ts) (λ v us k. any_rule n h (go v) us (omega arith)) (low_rule n m h low f ts lt)
-low_rule n m h low (fr {a = a} l f) ts lt = at_read (low _ a ts l lt) (λ y us i. let k = no_longer i in low_rule n m h low (f y) us (omega arith))
-low_rule n m h low (ft {a = a} {go = go} l e) ts lt = at_read (low _ a ts l lt) (λ y us i. let k = shorter a e i in any_rule n h (go y) us (omega arith))
-
-by_rank : (n : ℕ) → ((r : Kind) (b : Symbol r) (us : List Token) → length us < n → Answer r (rule b) us) →
-    (m : ℕ) (s : Kind) (a : Symbol s) (ts : List Token) → rank a < m → length ts < suc n → Answer s (rule a) ts
-by_rank n h zero s a ts k lt = absurd (omega arith)
-by_rank n h (suc m) s a ts k lt = low_rule n (rank a) h (λ r b us j i. by_rank n h m r b us (omega arith) i) (falls a) ts lt
-
-by_length : (n : ℕ) (s : Kind) (a : Symbol s) (ts : List Token) → length ts < n → Answer s (rule a) ts
-by_length zero s a ts lt = absurd (omega arith)
-by_length (suc n) s a ts lt = by_rank n (λ r b us i. by_length n r b us i) (suc (rank a)) s a ts (omega arith) lt
-
-pub answered : {s : Kind} (a : Symbol s) (ts : List Token) → Answer s (rule a) ts
-answered a ts = by_length (suc (length ts)) _ a ts (omega arith)
+pub answered : (ts : List Token) → IsSpelled rules (rule (g.Program [])) ts ⊎ GoesWrong rules (rule (g.Program [])) ts
+answered ts = grammar.some_answer rules laws ranks
+    (record {
+      try_token = λ b r c k. try_token c k;
+      empty_right = λ s a x d. empty_right a x d;
+      falls = λ s a. falls a;
+    })
+    (g.Program []) (λ us ds d. complete d) ts

@@ -1,6 +1,8 @@
 -- A means of proof: with which tokens each symbol begins, and which could go on with what it spelled. No token is
 -- among both where one symbol follows another, so the next token always tells how to read on.
-use Rattle.std.proofs.Common.{◌≡◌, ℕ, Bool, true, false, List, [], ◌∷◌, ◌++◌, map, Option, Some, None, nat_eq, cond, ◌≤◌}
+use Rattle.std.proofs.Common.{◌≡◌, ℕ, Bool, true, List, [], ◌∷◌, ◌++◌, map, Option, Some, None, cond, ◌≤◌}
+use Rattle.grammar.proofs.Sets.{among}
+use Rattle.grammar.proofs.Complete.{Table}
 use Rattle.viper_syntax.specs.declared.tokens.Token.{Token}
 use Rattle.viper_syntax.specs.declared.tokens.Tok.{Tok}
 use Rattle.viper_syntax.specs.declared.tokens.Tok.TheVariants as tok
@@ -14,7 +16,7 @@ use Rattle.viper_syntax.specs.Stmt as s
 use Rattle.viper_parse.specs.Tests as v
 use Rattle.viper_parse.specs.Tests.{Kind, Value, Test, this, a_name, a_number, one_of, a_negation, an_operator, Passes}
 use Rattle.viper_parse.specs.Grammar as g
-use Rattle.viper_parse.specs.Grammar.{Symbol, Rule, give, need, when, read, rule}
+use Rattle.viper_parse.specs.Grammar.{Symbol, viper}
 
 -- a number for each token, names and numbers alike
 abbrev pub word_code : Word → ℕ
@@ -88,18 +90,6 @@ code (tok.Name x) = 1
 code (tok.Number n) = 2
 code (tok.Word w) = word_code w
 code (tok.Sign o) = sign_code o
-
-abbrev pub among : ℕ → List ℕ → Bool
-among n [] = false
-among n (m ∷ rest) = cond (nat_eq n m) true (among n rest)
-
-abbrev pub apart : List ℕ → List ℕ → Bool
-apart [] ns = true
-apart (m ∷ rest) ns = cond (among m ns) false (apart rest ns)
-
-abbrev pub within : List ℕ → List ℕ → Bool
-within [] ns = true
-within (m ∷ rest) ns = cond (among m ns) (within rest ns) false
 
 -- the codes of words and of signs
 abbrev pub words : List Word → List ℕ
@@ -292,3 +282,13 @@ abbrev pub Ext : {s : Kind} → Symbol s → Value s → Token → Type 0
 Ext (g.Level n) p k = reach k.tok ≤ bound n p
 Ext (g.Chain n p) q k = reach k.tok ≤ bound n q
 Ext a y k = among (code k.tok) (ext_codes a y) ≡ true
+
+abbrev pub table : Table viper
+table = record {
+  code = λ k. code k.tok;
+  codes = λ b r c. codes c;
+  first_codes = λ s a. first_codes a;
+  empty = λ s a. empty a;
+  Ext = λ s a y k. Ext a y k;
+  ext_codes = λ s a y. ext_codes a y;
+}

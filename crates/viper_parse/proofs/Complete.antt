@@ -1,7 +1,7 @@
 -- Every derivation is read: where a rule has alternatives, the next token tells which of them was derived.
-use Rattle.std.proofs.Common.{◌≡◌, refl, sym, ap, subst, ◌∙◌, ℕ, zero, suc, ◌≤◌, ◌<◌, Bool, true, false, cond, List, [], ◌∷◌, ◌++◌, Option, Some, None, nat_eq, if◌then◌else◌, IsTrue, append_assoc, arith}
+use Rattle.std.proofs.Common.{◌≡◌, refl, sym, ap, subst, ◌∙◌, ℕ, zero, suc, ◌≤◌, ◌<◌, Bool, true, false, cond, List, [], ◌∷◌, ◌++◌, Option, Some, nat_eq, if◌then◌else◌, IsTrue, arith}
 use Rattle.std.proofs.lemmas.List.{append-nil}
-use Rattle.std.proofs.lemmas.Bool.{eqb-true, eq-eqb}
+use Rattle.std.proofs.lemmas.Bool.{eq-eqb}
 use Rattle.std.proofs.lemmas.Bool.Decides.{nat_tests}
 use Rattle.vb_base.specs.declared.places.Pos.{Pos}
 use Rattle.viper_syntax.specs.declared.tokens.Token.{Token}
@@ -21,55 +21,16 @@ use Rattle.viper_parse.specs.declared.parts.Shape.TheVariants as shape
 use Rattle.viper_parse.specs.declared.parts.WordClass.{WordClass}
 use Rattle.viper_parse.specs.declared.parts.WordClass.TheVariants as class
 use Rattle.viper_parse.specs.Tests as v
-use Rattle.viper_parse.specs.Tests.{Kind, Value, Part, Test, this, a_name, a_number, one_of, a_negation, an_operator, Passes, Starts, is_type, is_constant, is_check, is_clause, is_negation, belongs, level_of}
+use Rattle.viper_parse.specs.Tests.{Kind, Value, Part, Test, this, a_name, a_number, one_of, a_negation, an_operator, Passes, is_type, is_constant, is_check, is_clause, is_negation, belongs, level_of}
 use Rattle.viper_parse.specs.Grammar as g
-use Rattle.viper_parse.specs.Grammar.{Symbol, Rule, give, need, when, read, rule}
+use Rattle.viper_parse.specs.Grammar.{Symbol, Rule, give, need, when, read, rule, rules}
 use Rattle.viper_parse.specs.Spells as plain
 use Rattle.viper_parse.specs.Spells.{Derives}
-use Rattle.viper_parse.specs.Greedy.{IsNot, Reads, given, needed, taken, passed, called}
-use Rattle.viper_parse.proofs.Codes.{code, word_code, sign_code, among, apart, within, codes, class_codes, first_codes, empty, ext_codes, name_tail, term_tail, reach, sign_reach, bound, Ext}
-
--- lists of numbers
-
-cond_map : (b p q : Bool) → (p ≡ true → q ≡ true) → cond b true p ≡ true → cond b true q ≡ true
-cond_map true p q f h = refl
-cond_map false p q f h = f h
-
-cond_or : (b q : Bool) → q ≡ true → cond b true q ≡ true
-cond_or true q h = refl
-cond_or false q h = h
-
-among_append_l : (n : ℕ) (l m : List ℕ) → among n l ≡ true → among n (l ++ m) ≡ true
-among_append_l n [] m h = cc
-among_append_l n (x ∷ l) m h = cond_map (nat_eq n x) (among n l) (among n (l ++ m)) (among_append_l n l m) h
-
-among_append_r : (n : ℕ) (l m : List ℕ) → among n m ≡ true → among n (l ++ m) ≡ true
-among_append_r n [] m h = h
-among_append_r n (x ∷ l) m h = cond_or (nat_eq n x) (among n (l ++ m)) (among_append_r n l m h)
-
-among_at : (n x : ℕ) (m : List ℕ) → nat_eq n x ≡ true → among x m ≡ true → among n m ≡ true
-among_at n x m e h = subst (λ k. among k m ≡ true) (sym (eqb-true n x e)) h
-
-within_step : (n x : ℕ) (l m : List ℕ) (b c : Bool) → nat_eq n x ≡ b → among x m ≡ c → cond c (within l m) false ≡ true → cond b true (among n l) ≡ true →
-    (within l m ≡ true → among n l ≡ true → among n m ≡ true) → among n m ≡ true
-within_step n x l m true true e f w h ih = among_at n x m e f
-within_step n x l m false true e f w h ih = ih w h
-within_step n x l m true false e f w h ih = cc
-within_step n x l m false false e f w h ih = cc
-
-within_right : (n : ℕ) (l m : List ℕ) → within l m ≡ true → among n l ≡ true → among n m ≡ true
-within_right n [] m w h = cc
-within_right n (x ∷ l) m w h = within_step n x l m (nat_eq n x) (among x m) refl refl w h (within_right n l m)
-
-apart_step : (n x : ℕ) (l m : List ℕ) (b c : Bool) → nat_eq n x ≡ b → among x m ≡ c → cond c false (apart l m) ≡ true → cond b true (among n l) ≡ true →
-    among n m ≡ true → (apart l m ≡ true → among n l ≡ true → ⊥) → ⊥
-apart_step n x l m b true e f w h i ih = cc
-apart_step n x l m true false e f w h i ih = let g : among x m ≡ true = among_at x n m (eq-eqb x n (sym (eqb-true n x e))) i in cc
-apart_step n x l m false false e f w h i ih = ih w h
-
-apart_right : (n : ℕ) (l m : List ℕ) → apart l m ≡ true → among n l ≡ true → among n m ≡ true → ⊥
-apart_right n [] m w h i = cc
-apart_right n (x ∷ l) m w h i = apart_step n x l m (nat_eq n x) (among x m) refl refl w h i (λ w' h'. apart_right n l m w' h' i)
+use Rattle.viper_parse.specs.Greedy.{Reads}
+use Rattle.grammar.proofs.Sets.{among, apart, within}
+use Rattle.grammar.proofs.Complete as grammar
+use Rattle.grammar.proofs.Complete.{good_give, good_need, good_when, good_read, te, tn, tw, tr}
+use Rattle.viper_parse.proofs.Codes.{code, word_code, sign_code, codes, class_codes, first_codes, empty, ext_codes, name_tail, term_tail, reach, sign_reach, bound, Ext, table}
 
 -- the tokens that pass a test are among its codes
 
@@ -147,29 +108,11 @@ passes_codes (an_operator n) k v p = code_at k (tok.Sign v.0) (codes (an_operato
 
 -- with which tokens a rule begins, and what it spells where it is empty
 
-abbrev from : {A : Type 0} → Option A → (A → List ℕ) → List ℕ
-from None f = []
-from (Some y) f = f y
-
-abbrev pub then_ends : {A B : Type 0} → Option A → (A → Option B) → Option B
-then_ends None f = None
-then_ends (Some y) f = f y
-
 abbrev begins : {s : Kind} → Rule s → List ℕ
-begins (give x) = []
-begins (need c go) = codes c
-begins (when c go other) = codes c ++ begins other
-begins (read a go) = first_codes a ++ from (empty a) (λ y. begins (go y))
+begins a = grammar.begins table a
 
-abbrev pub ends : {s : Kind} → Rule s → Option (Value s)
-ends (give x) = Some x
-ends (need c go) = None
-ends (when c go other) = ends other
-ends (read a go) = then_ends (empty a) (λ y. ends (go y))
-
-begins_cond : {s : Kind} (b : Bool) (x y : Rule s) (l : List ℕ) → within (begins x) l ≡ true → within (begins y) l ≡ true → within (begins (cond b x y)) l ≡ true
-begins_cond true x y l h i = h
-begins_cond false x y l h i = i
+abbrev ends : {s : Kind} → Rule s → Option (Value s)
+ends a = grammar.ends table a
 
 ends_unless : (b : Bool) (p : Part) (y : Rule v.part) → ends y ≡ Some p → ends (cond b (give p) y) ≡ Some p
 ends_unless true p y h = refl
@@ -214,12 +157,12 @@ first_ok g.Group = refl
 first_ok g.Term = refl
 first_ok (g.Level zero) = refl
 first_ok (g.Level (suc n)) = refl
-first_ok (g.Chain n p) = begins_cond (g.is_open p.shape) _ _ (first_codes (g.Chain n p)) refl refl
+first_ok (g.Chain n p) = grammar.begins_cond table (g.is_open p.shape) _ _ (first_codes (g.Chain n p)) refl refl
 first_ok g.Unary = refl
 first_ok (g.Fields p) = refl
 first_ok g.First = refl
 
-pub empty_ok : {s : Kind} (a : Symbol s) → ends (rule a) ≡ empty a
+empty_ok : {s : Kind} (a : Symbol s) → ends (rule a) ≡ empty a
 empty_ok (g.Program ds) = refl
 empty_ok (g.Predicate at) = refl
 empty_ok (g.Method at) = refl
@@ -256,103 +199,29 @@ empty_ok g.Unary = refl
 empty_ok (g.Fields p) = refl
 empty_ok g.First = refl
 
-no_token : {A : Type 0} {b : Bool} {r : Kind} {c : Test b r} {ts us : List Token} {v : Value r} → Starts c ts v us → ts ≡ [] → A
-no_token q e = let x : [] ≡ q.token ∷ _ = sym e ∙ q.is in absurd (cc)
+pub right : grammar.IsRightTable rules table
+right = record {
+  passes_codes = λ b r c k v p. passes_codes c k v p;
+  first_ok = λ s a. first_ok a;
+  empty_ok = λ s a. empty_ok a;
+}
 
-pub ends_right : {s : Kind} {a : Rule s} {ts : List Token} {x : Value s} → Derives s a ts x → ts ≡ [] → ends a ≡ Some x
-ends_right plain.given e = refl
-ends_right (plain.needed q d) e = no_token q e
-ends_right (plain.taken q d) e = no_token q e
-ends_right (plain.passed d) e = ends_right d e
-ends_right (plain.called {a = a} {go = go} {ts = []} {us = us} {y = y} d d') e =
-    let h : empty a ≡ Some y = sym (empty_ok a) ∙ ends_right d refl in
-    ap (λ o. then_ends o (λ z. ends (go z))) h ∙ ends_right d' e
-ends_right (plain.called {ts = k ∷ ts} d d') e = absurd (cc)
+ends_right : {s : Kind} {a : Rule s} {ts : List Token} {x : Value s} → Derives s a ts x → ts ≡ [] → ends a ≡ Some x
+ends_right d e = grammar.ends_right rules table right d e
 
-first_passes : {b : Bool} {r : Kind} (c : Test b r) {ts vs : List Token} (v : Value r) → Starts c ts v vs → (k : Token) (us : List Token) → ts ≡ k ∷ us → among (code k.tok) (codes c) ≡ true
-first_passes c v q k us e = let same : q.token ≡ k = cc in passes_codes c k v (subst (λ j. Passes c j v) same q.passes)
+pub empty_right : {s : Kind} (a : Symbol s) (x : Value s) → Derives s (rule a) [] x → empty a ≡ Some x
+empty_right a x d = sym (empty_ok a) ∙ ends_right d refl
 
-begins_right : {s : Kind} {a : Rule s} {ts : List Token} {x : Value s} → Derives s a ts x → (k : Token) (us : List Token) → ts ≡ k ∷ us → among (code k.tok) (begins a) ≡ true
-begins_right plain.given k us e = absurd (cc)
-begins_right (plain.needed {c = c} {v = v} q d) k us e = first_passes c v q k us e
-begins_right (plain.taken {c = c} {other = other} {v = v} q d) k us e = among_append_l (code k.tok) (codes c) (begins other) (first_passes c v q k us e)
-begins_right (plain.passed {c = c} {other = other} d) k us e = among_append_r (code k.tok) (codes c) (begins other) (begins_right d k us e)
-begins_right (plain.called {a = a} {go = go} {ts = []} {us = us'} {y = y} d d') k us e =
-    let h : empty a ≡ Some y = sym (empty_ok a) ∙ ends_right d refl in
-    let i : among (code k.tok) (from (empty a) (λ z. begins (go z))) ≡ true =
-    subst (λ o. among (code k.tok) (from o (λ z. begins (go z))) ≡ true) (sym h) (begins_right d' k us e) in
-    among_append_r (code k.tok) (first_codes a) (from (empty a) (λ z. begins (go z))) i
-begins_right (plain.called {a = a} {go = go} {ts = k' ∷ ts} d d') k us e =
-    let same : k' ≡ k = cc in
-    let h : among (code k'.tok) (first_codes a) ≡ true = within_right (code k'.tok) (begins (rule a)) (first_codes a) (first_ok a) (begins_right d k' ts refl) in
-    among_append_l (code k.tok) (first_codes a) (from (empty a) (λ z. begins (go z))) (subst (λ j. among (code j.tok) (first_codes a) ≡ true) same h)
+-- the next token tells how to read on
 
--- the rule tells by the next token how to read on, where E are the tokens that could go on with what it spells
+abbrev Good : (s : Kind) → (Value s → Token → Type 0) → Rule s → Type 0
+Good s E a = grammar.Good rules table s E a
 
-record Apart {b : Bool} {r s : Kind} (c : Test b r) (other : Rule s) : Type 0 where
-  none : (k : Token) (us : List Token) (v : Value r) (x : Value s) → Passes c k v → Derives s other (k ∷ us) x → ⊥
+abbrev Tells : (s : Kind) → (Value s → List ℕ) → Rule s → Type 0
+Tells s l a = grammar.Tells table s l a
 
-record AtEnd {b : Bool} {r s : Kind} (E : Value s → Token → Type 0) (c : Test b r) (other : Rule s) : Type 0 where
-  ext : (k : Token) (v : Value r) (x : Value s) → Passes c k v → Derives s other [] x → E x k
-
-record Follows {r s : Kind} (a : Symbol r) (go : Value r → Rule s) : Type 0 where
-  none : (y : Value r) (k : Token) (us : List Token) (x : Value s) → Derives s (go y) (k ∷ us) x → Ext a y k → ⊥
-
-record EndsAs {r s : Kind} (E : Value s → Token → Type 0) (a : Symbol r) (go : Value r → Rule s) : Type 0 where
-  ext : (y : Value r) (x : Value s) (k : Token) → Derives s (go y) [] x → Ext a y k → E x k
-
-data Good (s : Kind) (E : Value s → Token → Type 0) : Rule s → Type 0 where
-  good_give : {x : Value s} → Good s E (give x)
-  good_need : {r : Kind} {c : Test true r} {go : Value r → Rule s} → ((v : Value r) → Good s E (go v)) → Good s E (need c go)
-  good_when : {b : Bool} {r : Kind} {c : Test b r} {go : Value r → Rule s} {other : Rule s} →
-      Apart c other → AtEnd E c other → ((v : Value r) → Good s E (go v)) → Good s E other → Good s E (when c go other)
-  good_read : {r : Kind} {a : Symbol r} {go : Value r → Rule s} → Follows a go → EndsAs E a go → ((y : Value r) → Good s E (go y)) → Good s E (read a go)
-
--- where the tokens that could go on are listed
-
-abbrev Listed : (s : Kind) → (Value s → List ℕ) → Value s → Token → Type 0
-Listed s l x k = among (code k.tok) (l x) ≡ true
-
-abbrev end_ok : {A : Type 0} → Option A → List ℕ → (A → List ℕ) → Bool
-end_ok None m l = true
-end_ok (Some x) m l = within m (l x)
-
-data Tells (s : Kind) (l : Value s → List ℕ) : Rule s → Type 0 where
-  te : {x : Value s} → Tells s l (give x)
-  tn : {r : Kind} {c : Test true r} {go : Value r → Rule s} → ((v : Value r) → Tells s l (go v)) → Tells s l (need c go)
-  tw : {b : Bool} {r : Kind} {c : Test b r} {go : Value r → Rule s} {other : Rule s} →
-      cond (apart (codes c) (begins other)) (end_ok (ends other) (codes c) l) false ≡ true → ((v : Value r) → Tells s l (go v)) → Tells s l other → Tells s l (when c go other)
-  tr : {r : Kind} {a : Symbol r} {go : Value r → Rule s} →
-      ((y : Value r) (k : Token) → Ext a y k → among (code k.tok) (ext_codes a y) ≡ true) →
-      ((y : Value r) → cond (apart (begins (go y)) (ext_codes a y)) (end_ok (ends (go y)) (ext_codes a y) l) false ≡ true) →
-      ((y : Value r) → Tells s l (go y)) → Tells s l (read a go)
-
-end_right : {A : Type 0} (o : Option A) (m : List ℕ) (l : A → List ℕ) (x : A) (n : ℕ) → end_ok o m l ≡ true → o ≡ Some x → among n m ≡ true → among n (l x) ≡ true
-end_right o m l x n h e i = within_right n m (l x) (subst (λ z. end_ok z m l ≡ true) e h) i
-
-both : (b c : Bool) → cond b c false ≡ true → (b ≡ true) × (c ≡ true)
-both true c h = (refl, h)
-both false c h = cc
-
-tells_good : {s : Kind} (l : Value s → List ℕ) {a : Rule s} → Tells s l a → Good s (Listed s l) a
-tells_good l te = good_give
-tells_good l (tn f) = good_need (λ v. tells_good l (f v))
-tells_good l (tw {c = c} {other = other} h f g) =
-    let e = both (apart (codes c) (begins other)) (end_ok (ends other) (codes c) l) h in
-    good_when
-    (record { none = λ k us v x q d. apart_right (code k.tok) (codes c) (begins other) e.0 (passes_codes c k v q) (begins_right d k us refl) })
-    (record { ext = λ k v x q d. end_right (ends other) (codes c) l x (code k.tok) e.1 (ends_right d refl) (passes_codes c k v q) })
-    (λ v. tells_good l (f v)) (tells_good l g)
-tells_good l (tr {a = a} {go = go} e h f) = good_read
-    (record {
-      none = λ y k us x d i. apart_right (code k.tok) (begins (go y)) (ext_codes a y)
-          (both (apart (begins (go y)) (ext_codes a y)) (end_ok (ends (go y)) (ext_codes a y) l) (h y)).0 (begins_right d k us refl) (e y k i);
-    })
-    (record {
-      ext = λ y x k d i. end_right (ends (go y)) (ext_codes a y) l x (code k.tok)
-          (both (apart (begins (go y)) (ext_codes a y)) (end_ok (ends (go y)) (ext_codes a y) l) (h y)).1 (ends_right d refl) (e y k i);
-    })
-    (λ y. tells_good l (f y))
+tells_good : {s : Kind} (l : Value s → List ℕ) {a : Rule s} → Tells s l a → Good s (λ x k. among (code k.tok) (l x) ≡ true) a
+tells_good l t = grammar.tells_good rules table right l t
 
 -- terms by level: what a token goes on with is looser than the term, or the term ends with an `unfolding`
 
@@ -765,36 +634,5 @@ good g.Unary = tells_good (ext_codes g.Unary) (tells_Unary)
 good (g.Fields p) = tells_good (ext_codes (g.Fields p)) (tells_Fields p)
 good g.First = tells_good (ext_codes g.First) (tells_First)
 
--- what follows does not go on with what was spelled
-record Free (s : Kind) (E : Value s → Token → Type 0) (x : Value s) (us : List Token) : Type 0 where
-  none : (k : Token) (vs : List Token) → us ≡ k ∷ vs → E x k → ⊥
-
-starts_on : {b : Bool} {r : Kind} {c : Test b r} {ts us : List Token} {v : Value r} (q : Starts c ts v us) (vs : List Token) → Starts c (ts ++ vs) v (us ++ vs)
-starts_on q vs = record { token = q.token; is = ap (λ l. l ++ vs) q.is; passes = q.passes }
-
-not_next : {b : Bool} {r s : Kind} {c : Test b r} {other : Rule s} (E : Value s → Token → Type 0) → Apart c other → AtEnd E c other →
-    (ts : List Token) {x : Value s} → Derives s other ts x → (us : List Token) → Free s E x us → IsNot c (ts ++ us)
-not_next E a e [] {x = x} d us f = record { none = λ v vs q. f.none q.token vs q.is (e.ext q.token v x q.passes d) }
-not_next {c = c} E a e (k ∷ ts) {x = x} d us f =
-    record { none = λ v vs q. let same : q.token ≡ k = cc in a.none k ts v x (subst (λ j. Passes c j v) same q.passes) d }
-
-free_after : {r s : Kind} {a : Symbol r} {go : Value r → Rule s} (E : Value s → Token → Type 0) → Follows a go → EndsAs E a go →
-    (y : Value r) (ts : List Token) {x : Value s} → Derives s (go y) ts x → (us : List Token) → Free s E x us → Free r (Ext a) y (ts ++ us)
-free_after E fo en y [] {x = x} d us f = record { none = λ k vs is e. f.none k vs is (en.ext y x k d e) }
-free_after {a = a} E fo en y (j ∷ ts) {x = x} d us f =
-    record { none = λ k vs is e. let same : k ≡ j = cc in fo.none y j ts x d (subst (λ z. Ext a y z) same e) }
-
-reads_all : {s : Kind} {a : Rule s} (E : Value s → Token → Type 0) → Good s E a → {ts : List Token} {x : Value s} → Derives s a ts x → (us : List Token) → Free s E x us → Reads s a (ts ++ us) x us
-reads_all E good_give plain.given us f = given
-reads_all E (good_need h) (plain.needed {v = v} q d) us f = needed (starts_on q us) (reads_all E (h v) d us f)
-reads_all E (good_when a e h i) (plain.taken {v = v} q d) us f = taken (starts_on q us) (reads_all E (h v) d us f)
-reads_all E (good_when a e h i) (plain.passed {ts = ts} d) us f = passed (not_next E a e ts d us f) (reads_all E i d us f)
-reads_all {s = s} E (good_read {a = a} {go = go} fo en h) (plain.called {ts = ts} {us = ts'} {y = y} {x = x} d d') us f =
-    let i = reads_all (Ext a) (good a) d (ts' ++ us) (free_after E fo en y ts' d' us f) in
-    let j = reads_all E (h y) d' us f in
-    subst (λ l. Reads s (read a go) l x us) (sym (append_assoc ts ts' us)) (called i j)
-
 pub complete : {ts : List Token} {ds : List d.Decl} → Derives v.decls (rule (g.Program [])) ts ds → Reads v.decls (rule (g.Program [])) ts ds []
-complete {ts = ts} {ds = ds} h =
-    let i = reads_all (Ext (g.Program [])) (good (g.Program [])) h [] (record { none = λ k vs e x. absurd (cc) }) in
-    subst (λ l. Reads v.decls (rule (g.Program [])) l ds []) (append-nil ts) i
+complete h = grammar.complete rules table (λ s a. good a) (g.Program []) h

@@ -1,5 +1,5 @@
--- Each test has a token that passes it, and each symbol spells something.
-use Rattle.std.proofs.Common.{refl, ℕ, zero, suc, pos, Bool, true, false, List, [], ◌∷◌, ◌++◌, cond, IsTrue, arith}
+-- Each test has a token that passes it, in one way, and each symbol spells something.
+use Rattle.std.proofs.Common.{◌≡◌, refl, ℕ, zero, suc, pos, Bool, true, List, [], IsTrue, arith}
 use Rattle.vb_base.specs.declared.places.Pos.{Pos}
 use Rattle.viper_syntax.specs.declared.tokens.Token.{Token}
 use Rattle.viper_syntax.specs.declared.tokens.Tok.TheVariants as tok
@@ -8,31 +8,28 @@ use Rattle.viper_syntax.specs.declared.tokens.Word.TheVariants as word
 use Rattle.viper_parse.specs.declared.parts.WordClass.{WordClass}
 use Rattle.viper_parse.specs.declared.parts.WordClass.TheVariants as class
 use Rattle.viper_syntax.specs.declared.tokens.Sign.TheVariants as sign
+use Rattle.viper_syntax.specs.declared.stmts.Named.{Named}
 use Rattle.viper_syntax.specs.Decl as d
 use Rattle.viper_parse.specs.Tests as v
-use Rattle.viper_parse.specs.Tests.{Kind, Value, Part, Test, this, a_name, a_number, one_of, a_negation, an_operator, belongs, Passes, Starts}
+use Rattle.viper_parse.specs.Tests.{Kind, Value, Part, Test, this, a_name, a_number, one_of, a_negation, an_operator, belongs, Passes}
 use Rattle.viper_parse.specs.Grammar as g
-use Rattle.viper_parse.specs.Grammar.{Symbol, Rule, give, need, when, read, rule}
-use Rattle.viper_parse.specs.Spells.{Derives, given, needed, taken, passed, called}
+use Rattle.viper_parse.specs.Grammar.{Symbol, Rule, give, need, when, read, rule, viper, rules}
+use Rattle.grammar.proofs.Laws as grammar
+use Rattle.grammar.proofs.Laws.{Example}
 
 some_place : Pos
 some_place = record { line = 1; col = 1; line_in_range = (omega arith, omega arith); col_in_range = (omega arith, omega arith) }
 
-pub record Example {r : Kind} (c : Test true r) : Type 0 where
-  pub token : Token
-  pub value : Value r
-  pub passes : Passes c token value
-
-a_word : (c : WordClass) (w : Word) → IsTrue (belongs c w) → Example (one_of c)
+a_word : (c : WordClass) (w : Word) → IsTrue (belongs c w) → Example viper (one_of c)
 a_word c w h = record { token = record { tok = tok.Word w; pos = some_place }; value = (w, some_place); passes = (refl, refl, h) }
 
-word_of : (c : WordClass) → Example (one_of c)
+word_of : (c : WordClass) → Example viper (one_of c)
 word_of class.Type = a_word class.Type word.Int refl
 word_of class.Constant = a_word class.Constant word.Null refl
 word_of class.Check = a_word class.Check word.Assert refl
 word_of class.Clause = a_word class.Clause word.Ensures refl
 
-pub example : {r : Kind} (c : Test true r) → Example c
+example : {r : Kind} (c : Test true r) → Example viper c
 example (this x) = record { token = record { tok = x; pos = some_place }; value = some_place; passes = (refl, refl) }
 example a_name = record { token = record { tok = tok.Name []; pos = some_place }; value = record { name = []; pos = some_place }; passes = (refl, refl) }
 example a_number = record { token = record { tok = tok.Number (pos 0); pos = some_place }; value = (pos 0, some_place); passes = (refl, refl) }
@@ -40,38 +37,26 @@ example (one_of c) = word_of c
 example a_negation = record { token = record { tok = tok.Sign sign.Not; pos = some_place }; value = (sign.Not, some_place); passes = (refl, refl, refl) }
 
 -- a rule spells something
-pub record Element {s : Kind} (a : Rule s) : Type 0 where
-  pub tokens : List Token
-  pub tree : Value s
-  pub derives : Derives s a tokens tree
+abbrev Element : {s : Kind} → Rule s → Type 0
+Element a = grammar.Element rules a
 
 el_give : {s : Kind} {x : Value s} → Element (give x)
-el_give {x = x} = record { tokens = []; tree = x; derives = given }
+el_give = grammar.el_give rules
 
 el_need : {r s : Kind} {c : Test true r} {go : Value r → Rule s} → ((v : Value r) → Element (go v)) → Element (need c go)
-el_need {c = c} f =
-    let k = example c in
-    let e = f k.value in
-    record { tokens = k.token ∷ e.tokens; tree = e.tree; derives = needed (record { token = k.token; is = refl; passes = k.passes }) e.derives }
+el_need {c = c} f = grammar.el_need rules (example c) f
 
 el_taken : {r s : Kind} {c : Test true r} {go : Value r → Rule s} {other : Rule s} → ((v : Value r) → Element (go v)) → Element (when c go other)
-el_taken {c = c} f =
-    let k = example c in
-    let e = f k.value in
-    record { tokens = k.token ∷ e.tokens; tree = e.tree; derives = taken (record { token = k.token; is = refl; passes = k.passes }) e.derives }
+el_taken {c = c} f = let k = example c in grammar.el_taken rules k.token k.value k.passes (f k.value)
 
 el_other : {b : Bool} {r s : Kind} {c : Test b r} {go : Value r → Rule s} {other : Rule s} → Element other → Element (when c go other)
-el_other e = record { tokens = e.tokens; tree = e.tree; derives = passed e.derives }
+el_other e = grammar.el_other rules e
 
 el_read : {r s : Kind} {a : Symbol r} {go : Value r → Rule s} → Element (rule a) → ((y : Value r) → Element (go y)) → Element (read a go)
-el_read e f = let h = f e.tree in record { tokens = e.tokens ++ h.tokens; tree = h.tree; derives = called e.derives h.derives }
-
-el_cond : {s : Kind} (b : Bool) {x y : Rule s} → Element x → Element y → Element (cond b x y)
-el_cond true e f = e
-el_cond false e f = f
+el_read e f = grammar.el_read rules e f
 
 el_unless : (p : Part) {further : Rule v.part} → Element further → Element (g.unless_open p further)
-el_unless p e = el_cond (g.is_open p.shape) el_give e
+el_unless p e = grammar.el_cond rules (g.is_open p.shape) el_give e
 
 -- terms: a name is one
 el_first : Element (rule g.First)
@@ -131,7 +116,7 @@ el_body : Element (rule g.Body)
 el_body = el_other el_give
 
 -- each symbol
-pub element_of : {s : Kind} (a : Symbol s) → Element (rule a)
+element_of : {s : Kind} (a : Symbol s) → Element (rule a)
 element_of (g.Program ds) = el_other (el_other (el_other el_give))
 element_of (g.Predicate at) = el_need (λ x. el_need (λ _. el_read el_formals (λ xs. el_other el_give)))
 element_of (g.Method at) =
@@ -168,8 +153,24 @@ element_of g.Unary = el_unary
 element_of (g.Fields p) = el_fields p
 element_of g.First = el_first
 
-pub element : {s : Kind} (a : Rule s) → Element a
-element (give x) = el_give
-element (need c go) = el_need (λ v. element (go v))
-element (when c go other) = el_other (element other)
-element (read a go) = el_read (element_of a) (λ y. element (go y))
+-- a token passes a test in one way
+pair_is : {A B : Type 0} (p q : A × B) → p.0 ≡ q.0 → p.1 ≡ q.1 → p ≡ q
+pair_is p q e f = λ t. (e t, f t)
+
+named_is : (v w : Named) → v.name ≡ w.name → v.pos ≡ w.pos → v ≡ w
+named_is v w e f = λ t. record { name = e t; pos = f t }
+
+one_value : {b : Bool} {r : Kind} (c : Test b r) (k : Token) (v w : Value r) → Passes c k v → Passes c k w → v ≡ w
+one_value (this x) k v w p q = cc
+one_value a_name k v w p q = named_is v w (cc) (cc)
+one_value a_number k v w p q = pair_is v w (cc) (cc)
+one_value (one_of c) k v w p q = pair_is v w (cc) (cc)
+one_value a_negation k v w p q = pair_is v w (cc) (cc)
+one_value (an_operator n) k v w p q = pair_is v w (cc) (cc)
+
+pub laws : grammar.Laws rules
+laws = record {
+  one_value = λ b r c k v w p q. one_value c k v w p q;
+  example = λ r c. example c;
+  element_of = λ s a. element_of a;
+}

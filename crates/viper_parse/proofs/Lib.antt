@@ -1,4 +1,3 @@
-pub mod Fronts
 pub mod Elements
 pub mod Reading
 pub mod Steps

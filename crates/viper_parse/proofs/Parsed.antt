@@ -1,22 +1,26 @@
 -- What `parse` answers, from how the declarations were read.
-use Rattle.std.proofs.Common.{◌≡◌, refl, sym, ap, subst, ◌∙◌, ℕ, zero, ◌-◌, ◌⊎◌, inl, inr, List, [], ◌∷◌, ◌++◌, length, Err}
+use Rattle.std.proofs.Common.{◌≡◌, refl, sym, ap, subst, ◌∙◌, zero, ◌-◌, ◌⊎◌, inl, inr, List, [], ◌∷◌, ◌++◌, length, Err}
 use Rattle.std.proofs.lemmas.List.{append-nil}
 use Rattle.vb_base.specs.declared.places.Pos.{Pos}
 use Rattle.viper_syntax.specs.declared.tokens.Token.{Token}
 use Rattle.viper_syntax.specs.Decl as d
-use Rattle.viper_parse.specs.declared.parts.Stop.{Stop}
-use Rattle.viper_parse.specs.declared.parts.Stop.TheVariants as stop
+use Rattle.vb_base.specs.Place.{IsPlace}
+use Rattle.grammar.specs.declared.stop.Stop.{Stop}
+use Rattle.grammar.specs.declared.stop.Stop.TheVariants as stop
+use Rattle.grammar.specs.Whole as text
+use Rattle.grammar.specs.Whole.{IsSpelled}
+use Rattle.grammar.proofs.Whole as grammar
+use Rattle.grammar.proofs.Whole.{split, count}
 use Rattle.viper_parse.specs.Tests as v
 use Rattle.viper_parse.specs.Grammar as g
-use Rattle.viper_parse.specs.Grammar.{rule}
+use Rattle.viper_parse.specs.Grammar.{rule, rules}
 use Rattle.viper_parse.specs.Spells.{Derives, Spells}
-use Rattle.viper_parse.specs.Greedy.{Reads, SameFirst, token, end}
+use Rattle.viper_parse.specs.Greedy.{Reads}
 use Rattle.viper_parse.specs.Whole.{FailsWhole, RefusesWhole}
 use Rattle.viper_parse.specs.Answers.{IsProgram, GoesWrong, place_at, Gives, Refuses, fault_of}
-use Rattle.viper_parse.proofs.Reading.{derivation, one_reading, start}
-use Rattle.viper_parse.proofs.Whole.{split, place_of, count, left_over, whole_fails}
+use Rattle.viper_parse.proofs.Reading.{derivation, one_reading}
 use Rattle.viper_parse.proofs.Complete.{complete}
-use Rattle.viper_parse.proofs.Answered.{Answer, reads, goes_wrong, answered}
+use Rattle.viper_parse.proofs.Answered.{answered}
 
 program_is : (p q : d.SourceProgram) → p.decls ≡ q.decls → p ≡ q
 program_is p q e = λ t. record { decls = e t }
@@ -35,47 +39,51 @@ only_one ds p h s = program_is (record_of ds) p (one_reading h (complete s)).0
 pub one_program : (ts : List Token) (p q : d.SourceProgram) → Spells ts p → Spells ts q → p ≡ q
 one_program ts p q a b = program_is p q (one_reading (complete a) (complete b)).0
 
-same_self : (r : List Token) → SameFirst r r
-same_self [] = end
-same_self (k ∷ r) = token
+read_as : (ts : List Token) → IsProgram ts → (ds : List d.Decl) × Reads v.decls (rule (g.Program [])) ts ds []
+read_as ts h = (h.0.decls, complete h.1)
 
-none_spelled : {ts r : List Token} → FailsWhole ts r → (p : d.SourceProgram) → Spells ts p → ⊥
-none_spelled {ts = ts} {r = r} f p h =
-    let s = f.stuck r (same_self r) in
-    let q = split s.front in
-    let all_is : ts ≡ s.all = q.left ∙ sym q.right in
-    s.none p.decls (subst (λ l. Reads v.decls (rule (g.Program [])) l p.decls []) all_is (complete h))
+derived_as : (ts : List Token) (ds : List d.Decl) → Derives v.decls (rule (g.Program [])) ts ds → IsProgram ts
+derived_as ts ds h = (record_of ds, h)
+
+none_spelled : (ts r : List Token) → FailsWhole ts r → IsProgram ts → ⊥
+none_spelled ts r f h = grammar.none_spelled rules (rule (g.Program [])) IsProgram read_as derived_as ts r f h
+
+place_of : (ts r : List Token) → FailsWhole ts r → IsPlace IsProgram ts (length ts - length r)
+place_of ts r f = grammar.place_of rules (rule (g.Program [])) IsProgram read_as derived_as ts r f
 
 next_place : (f r : List Token) (last : Pos) → place_at (f ++ r) (length f) last ≡ place_at r zero last
 next_place [] r last = refl
 next_place (k ∷ f) r last = next_place f r last
 
-pub refuses_only : (ts : List Token) (last : Pos) (w : Stop) → RefusesWhole ts w → (p : d.SourceProgram) → Spells ts p → Gives (Err (fault_of w last)) p
+pub refuses_only : (ts : List Token) (last : Pos) (w : Stop Token) → RefusesWhole ts w → (p : d.SourceProgram) → Spells ts p → Gives (Err (fault_of w last)) p
 refuses_only ts last stop.Memory h p s = tt
-refuses_only ts last (stop.Before r) h p s = none_spelled h p s
+refuses_only ts last (stop.Before r) h p s = none_spelled ts r.now h (p, s)
 
-pub refuses_there : (ts : List Token) (last : Pos) (w : Stop) → RefusesWhole ts w → Refuses (Err (fault_of w last)) ts last
+pub refuses_there : (ts : List Token) (last : Pos) (w : Stop Token) → RefusesWhole ts w → Refuses (Err (fault_of w last)) ts last
 refuses_there ts last stop.Memory h = tt
 refuses_there ts last (stop.Before r) h =
     let q = split h.opens.front in
     let i = length ts - length r.now in
     let At : List Token → Type 0 = λ l. place_at l (length l - length r.now) last ≡ place_at r.now zero last in
     let there : At (q.front ++ r.now) = ap (λ n. place_at (q.front ++ r.now) n last) (count q.front r.now) ∙ next_place q.front r.now last in
-    (i, place_of IsProgram (λ l h. (h.0.decls, complete h.1)) (λ l ds h. (record { decls = ds }, h)) ts r.now h, sym (subst At (sym q.left) there))
+    (i, place_of ts r.now h, sym (subst At (sym q.left) there))
 
 -- each list of tokens spells a program, or spells none and has a place where it goes wrong
 
-goes_wrong_there : {ts : List Token} (r : List Token) → FailsWhole ts r → GoesWrong ts
-goes_wrong_there {ts = ts} r f = record {
-  none = λ p. none_spelled f p.0 p.1;
-  at = length ts - length r;
-  place = place_of IsProgram (λ l h. (h.0.decls, complete h.1)) (λ l ds h. (record_of ds, h)) ts r f;
+wrong_there : {ts : List Token} → text.GoesWrong rules (rule (g.Program [])) ts → GoesWrong ts
+wrong_there w = record {
+  none = λ p. w.none (p.0.decls, p.1);
+  at = w.at;
+  place = record {
+    within = w.place.within;
+    before = let b = w.place.before in (b.0, derived_as _ b.1.0 b.1.1);
+    after = λ lt b. w.place.after lt (b.0, (b.1.0.decls, b.1.1));
+  };
 }
 
-by_answer : {ts : List Token} → Answer v.decls (rule (g.Program [])) ts → IsProgram ts ⊎ GoesWrong ts
-by_answer (reads ds [] h) = inl (record_of ds, spelled h)
-by_answer (reads ds (k ∷ us) h) = inr (goes_wrong_there (k ∷ us) (left_over h k us refl))
-by_answer {ts = ts} (goes_wrong r f) = inr (goes_wrong_there r (whole_fails {ds = []} (start (rule (g.Program [])) ts) f))
+by_answer : {ts : List Token} → IsSpelled rules (rule (g.Program [])) ts ⊎ text.GoesWrong rules (rule (g.Program [])) ts → IsProgram ts ⊎ GoesWrong ts
+by_answer {ts = ts} (inl h) = inl (derived_as ts h.0 h.1)
+by_answer (inr w) = inr (wrong_there w)
 
 pub some_answer : (ts : List Token) → IsProgram ts ⊎ GoesWrong ts
-some_answer ts = by_answer (answered (g.Program []) ts)
+some_answer ts = by_answer (answered ts)

@@ -1,67 +1,50 @@
 -- What a function answers at each of its exits, from how far it has read.
-use Rattle.std.proofs.Common.{◌≡◌, sym, ap, subst, ◌∙◌, Bool, true, false, List, ℕ, zero, suc, ◌+◌, ◌≤◌, add-one, arith, Result, Ok, Err, Bor, cond, if◌then◌else◌, ◌<◌, inl, inr, Option, Some, None, MatchOption, [], ◌∷◌, ◌++◌, map}
+use Rattle.std.proofs.Common.{◌≡◌, sym, ap, subst, ◌∙◌, Bool, true, false, List, ℕ, zero, suc, ◌+◌, ◌≤◌, add-one, arith, Result, Bor, cond, if◌then◌else◌, ◌<◌, inl, inr, Option, Some, None, MatchOption, [], ◌∷◌, ◌++◌, map}
 use Rattle.std.proofs.Math.Nat.{eq-or-lt_of_le}
 use Rattle.std.proofs.lemmas.List.{map-append}
 use Rattle.std.specs.Result.{IsErrAnd}
-use Rattle.std.proofs.lemmas.Result.{err_from_is_err_and}
 use Rattle.viper_syntax.specs.declared.tokens.Token.{Token}
-use Rattle.viper_parse.specs.declared.parts.Stop.{Stop}
-use Rattle.viper_parse.specs.declared.parts.Stop.TheVariants as stop
+use Rattle.grammar.specs.declared.stop.Stop.{Stop}
+use Rattle.grammar.proofs.Steps as grammar
 use Rattle.viper_parse.specs.Tests as v
-use Rattle.viper_parse.specs.Tests.{Kind, Value, Part, Test, Starts}
+use Rattle.viper_parse.specs.Tests.{Kind, Value, Part, Test}
 use Rattle.viper_parse.specs.Grammar as g
-use Rattle.viper_parse.specs.Grammar.{Symbol, Rule, give, need, when, read, rule}
+use Rattle.viper_parse.specs.Grammar.{Symbol, Rule, give, need, when, read, rule, rules, Starts}
 use Rattle.viper_parse.specs.Greedy.{IsNot, Reads, given, passed, called, Fails, Goes, Refuses, Parses, Misses}
-use Rattle.viper_parse.proofs.Reading.{fails_in, fails_called, whole, wrong_token, wrong_part}
+use Rattle.viper_parse.proofs.Reading.{fails_in, fails_called}
+use Rattle.viper_parse.proofs.Elements.{laws}
 
 -- an error at a `?`
 
-refuses_as : {r s : Kind} {b : Rule r} {a : Rule s} {us ts : List Token} (w : Stop) →
-    ((z : List Token) → Fails b us z → Fails a ts z) → Refuses b us w → Refuses a ts w
-refuses_as stop.Memory f h = tt
-refuses_as (stop.Before r) f h = f r.now h
-
-misses_as : {b : Bool} {r s : Kind} {c : Test b r} {a : Rule s} {us ts : List Token} (w : Stop) → (IsNot c us → Fails a ts us) → Misses c us w → Refuses a ts w
-misses_as stop.Memory f h = tt
-misses_as {a = a} {ts = ts} (stop.Before r) f h = subst (λ z. Fails a ts z) (sym h.1) (f h.0)
-
-at_error : {s : Kind} {R : Type 0} (view : R → Value s) (a : Rule s) (ts : List Token) (w : Stop) (res : Result (R × Bor (List Token)) Stop) →
-    IsErrAnd res (λ x. x ≡ w) → Refuses a ts w → Parses view a ts res
-at_error view a ts w res e h =
-    let y = err_from_is_err_and res e in
-    subst (λ o. Parses view a ts o) (sym y.1) (subst (λ x. Refuses a ts x) (sym y.2) h)
-
-pub error_as : {r s : Kind} {R : Type 0} (view : R → Value s) {b : Rule r} {a : Rule s} {us ts : List Token} (w : Stop)
-    (res : Result (R × Bor (List Token)) Stop) → IsErrAnd res (λ x. x ≡ w) →
+pub error_as : {r s : Kind} {R : Type 0} (view : R → Value s) {b : Rule r} {a : Rule s} {us ts : List Token} (w : Stop Token)
+    (res : Result (R × Bor (List Token)) (Stop Token)) → IsErrAnd res (λ x. x ≡ w) →
     ((z : List Token) → Fails b us z → Fails a ts z) → Refuses b us w → Parses view a ts res
-error_as view {a = a} {ts = ts} w res e f h = at_error view a ts w res e (refuses_as w f h)
+error_as view w res e f h = grammar.error_as rules laws view w res e f h
 
-pub part_error : {r s : Kind} {R : Type 0} (view : R → Value s) {b : Symbol r} {go : Value r → Rule s} {a : Rule s} {us ts : List Token} (w : Stop)
-    (res : Result (R × Bor (List Token)) Stop) → IsErrAnd res (λ x. x ≡ w) → Goes a ts (read b go) us → Refuses (rule b) us w → Parses view a ts res
-part_error view {a = a} {ts = ts} w res e g h = at_error view a ts w res e (refuses_as w (λ z f. wrong_part f g) h)
+pub part_error : {r s : Kind} {R : Type 0} (view : R → Value s) {b : Symbol r} {go : Value r → Rule s} {a : Rule s} {us ts : List Token} (w : Stop Token)
+    (res : Result (R × Bor (List Token)) (Stop Token)) → IsErrAnd res (λ x. x ≡ w) → Goes a ts (read b go) us → Refuses (rule b) us w → Parses view a ts res
+part_error view w res e g h = grammar.part_error rules laws view w res e g h
 
-pub token_error : {r s : Kind} {R : Type 0} (view : R → Value s) {c : Test true r} {go : Value r → Rule s} {a : Rule s} {us ts : List Token} (w : Stop)
-    (res : Result (R × Bor (List Token)) Stop) → IsErrAnd res (λ x. x ≡ w) → Goes a ts (need c go) us → Misses c us w → Parses view a ts res
-token_error view {a = a} {ts = ts} w res e g h = at_error view a ts w res e (misses_as w (λ n. wrong_token n g) h)
+pub token_error : {r s : Kind} {R : Type 0} (view : R → Value s) {c : Test true r} {go : Value r → Rule s} {a : Rule s} {us ts : List Token} (w : Stop Token)
+    (res : Result (R × Bor (List Token)) (Stop Token)) → IsErrAnd res (λ x. x ≡ w) → Goes a ts (need c go) us → Misses c us w → Parses view a ts res
+token_error view w res e g h = grammar.token_error rules laws view w res e g h
 
 -- the last call of a function
 
 pub tail : {s : Kind} {a : Rule s} {b : Symbol s} {ts us : List Token} → Goes a ts (read b give) us → Goes a ts (rule b) us
-tail g = record { reads = λ x vs h. g.reads x vs (called h given); fails = λ r f. g.fails r (fails_in f) }
+tail g = grammar.tail rules laws g
 
-pub pass_on : {s : Kind} {R : Type 0} (view : R → Value s) {b a : Rule s} {us ts : List Token} (res : Result (R × Bor (List Token)) Stop) →
+pub pass_on : {s : Kind} {R : Type 0} (view : R → Value s) {b a : Rule s} {us ts : List Token} (res : Result (R × Bor (List Token)) (Stop Token)) →
     Goes a ts b us → Parses view b us res → Parses view a ts res
-pass_on view (Ok r) g h = g.reads _ _ h
-pass_on view (Err stop.Memory) g h = tt
-pass_on view (Err (stop.Before r)) g h = g.fails _ h
+pass_on view res g h = grammar.pass_on rules laws view res g h
 
 -- what was built is what the rule gives
 
 pub whole_as : {s : Kind} {a : Rule s} {ts us : List Token} {x y : Value s} → Goes a ts (give y) us → x ≡ y → Reads s a ts x us
-whole_as {s = s} {a = a} {ts = ts} {us = us} g e = subst (λ z. Reads s a ts z us) (sym e) (whole g)
+whole_as g e = grammar.whole_as rules laws g e
 
 pub goes_at : {s : Kind} (r : Kind) (f : Value r → Rule s) {a : Rule s} {ts us : List Token} {x y : Value r} → x ≡ y → Goes a ts (f y) us → Goes a ts (f x) us
-goes_at r f {a = a} {ts = ts} {us = us} e g = subst (λ z. Goes a ts (f z) us) (sym e) g
+goes_at r f e g = grammar.goes_at rules laws r f e g
 
 -- terms that end with an `unfolding`, and those that do not
 
@@ -79,10 +62,10 @@ pub reads_no_further : (p : Part) {further : Rule v.part} {ts : List Token} → 
 reads_no_further p h = by_openness p (g.is_open p.shape) h
 
 pub once : {s : Kind} (b : Bool) (x : Rule s) {y a : Rule s} {ts us : List Token} → false ≡ b → Goes a ts (if b then x else y) us → Goes a ts y us
-once b x {y = y} {a = a} {ts = ts} {us = us} e g = subst (λ c. Goes a ts (if c then x else y) us) (sym e) g
+once b x e g = grammar.once rules laws b x e g
 
 pub again : {s : Kind} (b : Bool) {x : Rule s} (y : Rule s) {a : Rule s} {ts us : List Token} → true ≡ b → Goes a ts (if b then x else y) us → Goes a ts x us
-again b {x = x} y {a = a} {ts = ts} {us = us} e g = subst (λ c. Goes a ts (if c then x else y) us) (sym e) g
+again b y e g = grammar.again rules laws b y e g
 
 -- levels
 
@@ -117,7 +100,7 @@ operator_goes n p ts (Some q) e h = (sym e, h)
 pub level_at : {m n : ℕ} {p : Part} {ts us : List Token} → m ≡ n → Reads v.part (rule (g.Level m)) ts p us → Reads v.part (rule (g.Level n)) ts p us
 level_at {p = p} {ts = ts} {us = us} e h = subst (λ k. Reads v.part (rule (g.Level k)) ts p us) e h
 
-pub level_refuses_at : (m n : ℕ) (us : List Token) (w : Stop) → m ≡ n → Refuses (rule (g.Level m)) us w → Refuses (rule (g.Level n)) us w
+pub level_refuses_at : (m n : ℕ) (us : List Token) (w : Stop Token) → m ≡ n → Refuses (rule (g.Level m)) us w → Refuses (rule (g.Level n)) us w
 level_refuses_at m n us w e h = subst (λ k. Refuses (rule (g.Level k)) us w) e h
 
 -- a list with one more item
@@ -131,19 +114,19 @@ pushed_more f all {x = x} is same = ap (map f) is ∙ map-append f all (x ∷ []
 -- a symbol with an equal list
 
 pub symbol_at : {A : Type 0} {r : Kind} (f : A → Symbol r) {x y : A} {z : Value r} {ts us : List Token} → x ≡ y → Reads r (rule (f x)) ts z us → Reads r (rule (f y)) ts z us
-symbol_at {r = r} f {z = z} {ts = ts} {us = us} e h = subst (λ k. Reads r (rule (f k)) ts z us) e h
+symbol_at f e h = grammar.symbol_at rules laws f e h
 
-pub symbol_refuses_at : {A : Type 0} {r : Kind} (f : A → Symbol r) (x y : A) (us : List Token) (w : Stop) → x ≡ y → Refuses (rule (f x)) us w → Refuses (rule (f y)) us w
-symbol_refuses_at f x y us w e h = subst (λ k. Refuses (rule (f k)) us w) e h
+pub symbol_refuses_at : {A : Type 0} {r : Kind} (f : A → Symbol r) (x y : A) (us : List Token) (w : Stop Token) → x ≡ y → Refuses (rule (f x)) us w → Refuses (rule (f y)) us w
+symbol_refuses_at f x y us w e h = grammar.symbol_refuses_at rules laws f x y us w e h
 
 pub goes_by : {A : Type 0} {s : Kind} (f : A → Rule s) {a : Rule s} {ts us : List Token} {x y : A} → x ≡ y → Goes a ts (f y) us → Goes a ts (f x) us
-goes_by f {a = a} {ts = ts} {us = us} e g = subst (λ z. Goes a ts (f z) us) (sym e) g
+goes_by f e g = grammar.goes_by rules laws f e g
 
 pub goes_then : {s : Kind} {a b c : Rule s} {ts us vs : List Token} → Goes a ts b us → Goes b us c vs → Goes a ts c vs
-goes_then g h = record { reads = λ x ws i. g.reads x ws (h.reads x ws i); fails = λ r f. g.fails r (h.fails r f) }
+goes_then g h = grammar.goes_then rules laws g h
 
 -- a rule with an equal list
 
-pub parses_at : {A R : Type 0} {s : Kind} (view : R → Value s) (f : A → Rule s) {x y : A} (ts : List Token) (res : Result (R × Bor (List Token)) Stop) →
+pub parses_at : {A R : Type 0} {s : Kind} (view : R → Value s) (f : A → Rule s) {x y : A} (ts : List Token) (res : Result (R × Bor (List Token)) (Stop Token)) →
     x ≡ y → Parses view (f x) ts res → Parses view (f y) ts res
-parses_at view f ts res e h = subst (λ z. Parses view (f z) ts res) e h
+parses_at view f ts res e h = grammar.parses_at rules laws view f ts res e h

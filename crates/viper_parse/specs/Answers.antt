@@ -7,8 +7,8 @@ use Rattle.viper_syntax.specs.Decl as d
 use Rattle.viper_syntax.specs.View.{program_of}
 use Rattle.viper_parse.specs.Spells.{Spells}
 use Rattle.vb_base.specs.Place.{IsPlace}
-use Rattle.viper_parse.specs.declared.parts.Stop.{Stop}
-use Rattle.viper_parse.specs.declared.parts.Stop.TheVariants as stop
+use Rattle.grammar.specs.declared.stop.Stop.{Stop}
+use Rattle.grammar.specs.declared.stop.Stop.TheVariants as stop
 use Rattle.viper_syntax.specs.declared.faults.ParseFault.{ParseFault}
 use Rattle.viper_syntax.specs.declared.faults.ParseFault.TheVariants as fault
 
@@ -42,6 +42,6 @@ Refuses (Err fault.Memory) ts end = Unit {0}
 Refuses (Err (fault.Syntax at)) ts end = (i : ℕ) × IsPlace IsProgram ts i × (at ≡ place_at ts i end)
 
 -- the fault that a stop is
-abbrev pub fault_of : Stop → Pos → ParseFault
+abbrev pub fault_of : Stop Token → Pos → ParseFault
 fault_of stop.Memory end = fault.Memory
 fault_of (stop.Before r) end = fault.Syntax (place_at r.now zero end)

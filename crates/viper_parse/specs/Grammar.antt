@@ -1,9 +1,12 @@
--- The grammar of Viper. `Symbol` names what can be spelled, and `rule` says how each is: a rule is a row of tokens and
--- symbols, with alternatives, and at its end it says what tree was spelled. A symbol of a list carries what the list
+-- The grammar of Viper. `Symbol` names what can be spelled, and `rule` says how each is, and what tree was spelled. A symbol of a list carries what the list
 -- has so far. The notation in front of each rule is that of the Viper tutorial: `[x]` is x or nothing, and `{x}` is x
 -- any number of times.
 use Rattle.std.specs.Prelude.{ℕ, zero, suc, ◌-◌, Bool, true, false, List, [], ◌∷◌, ◌++◌, Some, None, nat_lt, cond, if◌then◌else◌}
+use Rattle.grammar.specs.Rules as grammar
+use Rattle.grammar.specs.Rules.{Alphabet, Rules}
+pub use Rattle.grammar.specs.Rules.{give, need, when, read}
 use Rattle.vb_base.specs.declared.places.Pos.{Pos}
+use Rattle.viper_syntax.specs.declared.tokens.Token.{Token}
 use Rattle.viper_syntax.specs.declared.tokens.Tok.TheVariants as tok
 use Rattle.viper_syntax.specs.declared.tokens.Word.{Word}
 use Rattle.viper_syntax.specs.declared.tokens.Word.TheVariants as word
@@ -18,7 +21,7 @@ use Rattle.viper_parse.specs.declared.parts.Shape.{Shape}
 use Rattle.viper_parse.specs.declared.parts.Shape.TheVariants as shape
 use Rattle.viper_parse.specs.declared.parts.WordClass.TheVariants as class
 use Rattle.viper_parse.specs.Tests as v
-use Rattle.viper_parse.specs.Tests.{Part, Instance, Kind, Value, Test, this, a_name, a_number, one_of, a_negation, an_operator}
+use Rattle.viper_parse.specs.Tests.{Part, Instance, Kind, Value, Test, Passes, this, a_name, a_number, one_of, a_negation, an_operator}
 
 pub data Symbol : Kind → Type 0 where
   Program : List d.Decl → Symbol v.decls
@@ -56,15 +59,23 @@ pub data Symbol : Kind → Type 0 where
   Fields : Part → Symbol v.part
   First : Symbol v.part
 
-pub data Rule : Kind → Type 0 where
-  -- nothing more: this is spelled
-  give : {s : Kind} → Value s → Rule s
-  -- a token that passes the test, and then the rule that follows it
-  need : {r s : Kind} → Test true r → (Value r → Rule s) → Rule s
-  -- either a token that passes the test and the first rule, or the second rule
-  when : {b : Bool} {r s : Kind} → Test b r → (Value r → Rule s) → Rule s → Rule s
-  -- what the symbol spells, and then the rule that follows it
-  read : {r s : Kind} → Symbol r → (Value r → Rule s) → Rule s
+-- what the grammar is made of
+abbrev pub viper : Alphabet
+viper = record {
+  Token = Token;
+  Kind = Kind;
+  Value = Value;
+  Test = Test;
+  Passes = λ b r c k v. Passes c k v;
+  Symbol = Symbol;
+}
+
+abbrev pub Rule : Kind → Type 0
+Rule s = grammar.Rule viper s
+
+-- a list of tokens begins with one that passes, of which this is taken, and these follow it
+abbrev pub Starts : {b : Bool} {r : Kind} → Test b r → List Token → Value r → List Token → Type 0
+Starts c ts v us = grammar.Starts viper c ts v us
 
 -- a word and a sign as tokens
 abbrev pub the_word : Word → Test true v.place
@@ -298,3 +309,6 @@ rule First =
     (when (the_word word.Old) (λ at. read Group (λ p. give (plain (t.Old p.tree at))))
     (when (the_word word.Acc) access
     (read Group (λ p. give (plain p.tree)))))))
+
+abbrev pub rules : Rules viper
+rules = λ s a. rule a

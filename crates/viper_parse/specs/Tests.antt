@@ -1,5 +1,5 @@
 -- What the grammar builds, and what it asks of a single token.
-use Rattle.std.specs.Prelude.{◌≡◌, ℕ, ℤ, Bool, true, false, List, ◌∷◌, Option, IsTrue, ◌≤◌}
+use Rattle.std.specs.Prelude.{◌≡◌, ℕ, ℤ, Bool, true, false, List, Option, IsTrue, ◌≤◌}
 use Rattle.vb_base.specs.declared.places.Pos.{Pos}
 use Rattle.viper_syntax.specs.declared.tokens.Token.{Token}
 use Rattle.viper_syntax.specs.declared.tokens.Tok.{Tok}
@@ -159,9 +159,3 @@ Passes a_number k n = (k.tok ≡ tok.Number n.0) × (k.pos ≡ n.1)
 Passes (one_of c) k w = (k.tok ≡ tok.Word w.0) × (k.pos ≡ w.1) × IsTrue (belongs c w.0)
 Passes a_negation k o = (k.tok ≡ tok.Sign o.0) × (k.pos ≡ o.1) × IsTrue (is_negation o.0)
 Passes (an_operator n) k o = (k.tok ≡ tok.Sign o.0) × (k.pos ≡ o.1) × (level_of o.0 ≡ n) × (1 ≤ n)
-
--- a list of tokens begins with one that passes, of which this is taken, and these follow it
-pub record Starts {b : Bool} {r : Kind} (c : Test b r) (ts : List Token) (v : Value r) (us : List Token) : Type 0 where
-  pub token : Token
-  pub is : ts ≡ token ∷ us
-  pub passes : Passes c token v

@@ -7,11 +7,11 @@ use Rattle.viper_syntax.specs.declared.tokens.Token.{Token}
 use Rattle.viper_syntax.specs.declared.decls.Decl.{Decl}
 use Rattle.viper_syntax.specs.Decl as d
 use Rattle.viper_syntax.specs.View.{decl_of}
-use Rattle.viper_parse.specs.Tests as v
-use Rattle.viper_parse.specs.Grammar.{rule, Program}
-use Rattle.viper_parse.specs.Greedy.{Reads, Front, SameFirst, Opens, Fails, Goes}
-use Rattle.viper_parse.specs.declared.parts.Stop.{Stop}
-use Rattle.viper_parse.specs.declared.parts.Stop.TheVariants as stop
+use Rattle.grammar.specs.Whole as grammar
+use Rattle.viper_parse.specs.Grammar.{rule, Program, rules}
+use Rattle.viper_parse.specs.Greedy.{Reads, Fails, Goes}
+use Rattle.grammar.specs.declared.stop.Stop.{Stop}
+use Rattle.grammar.specs.declared.stop.Stop.TheVariants as stop
 
 -- one declaration is read, after any that were read before
 abbrev pub DeclaresNone : List Token → Type 0
@@ -20,7 +20,7 @@ DeclaresNone ts = (ds : List d.Decl) → Reads _ (rule (Program ds)) ts ds ts
 abbrev pub DeclaresOne : List Token → d.Decl → List Token → Type 0
 DeclaresOne ts x us = (ds : List d.Decl) → Goes (rule (Program ds)) ts (rule (Program (ds ++ (x ∷ [])))) us
 
-abbrev pub DeclareFails : List Token → Stop → Type 0
+abbrev pub DeclareFails : List Token → Stop Token → Type 0
 DeclareFails ts stop.Memory = Unit {0}
 DeclareFails ts (stop.Before r) = (ds : List d.Decl) → Fails (rule (Program ds)) ts r.now
 
@@ -28,25 +28,17 @@ abbrev pub DeclaresNext : List Token → Option (Decl × Bor (List Token)) → T
 DeclaresNext ts None = DeclaresNone ts
 DeclaresNext ts (Some p) = DeclaresOne ts (decl_of p.0) p.1.now
 
-abbrev pub Declares : List Token → Result (Option (Decl × Bor (List Token))) Stop → Type 0
+abbrev pub Declares : List Token → Result (Option (Decl × Bor (List Token))) (Stop Token) → Type 0
 Declares ts (Ok o) = DeclaresNext ts o
 Declares ts (Err e) = DeclareFails ts e
 
--- with z in the place of r no program is read up to the end
-pub record StuckWhole (r z ts : List Token) : Type 0 where
-  pub all : List Token
-  pub front : Front r z ts all
-  pub none : (ds : List d.Decl) → Reads v.decls (rule (Program [])) all ds [] → ⊥
-
 -- just in front of r a program goes wrong
-pub record FailsWhole (ts r : List Token) : Type 0 where
-  pub stuck : (z : List Token) → SameFirst r z → StuckWhole r z ts
-  pub opens : Opens (rule (Program [])) r ts
+abbrev pub FailsWhole : List Token → List Token → Type 0
+FailsWhole ts r = grammar.FailsWhole rules (rule (Program [])) ts r
 
-abbrev pub RefusesWhole : List Token → Stop → Type 0
-RefusesWhole ts stop.Memory = Unit {0}
-RefusesWhole ts (stop.Before r) = FailsWhole ts r.now
+abbrev pub RefusesWhole : List Token → Stop Token → Type 0
+RefusesWhole ts e = grammar.RefusesWhole rules (rule (Program [])) ts e
 
-abbrev pub ReadsWhole : List Token → Result (Vec Decl Global) Stop → Type 0
+abbrev pub ReadsWhole : List Token → Result (Vec Decl Global) (Stop Token) → Type 0
 ReadsWhole ts (Ok ds) = Reads _ (rule (Program [])) ts (map decl_of ds.items) []
 ReadsWhole ts (Err e) = RefusesWhole ts e

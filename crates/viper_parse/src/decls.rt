@@ -8,10 +8,11 @@ ghost use Rattle.viper_parse.specs.Greedy.{Parses};
 ghost use Rattle.viper_parse.specs.View.{formals_of, clauses_of, body_of};
 ghost use Rattle.viper_parse.specs.Whole.{Declares, ReadsWhole};
 
-use crate::parts::{Stop, WordClass, pushed};
+use crate::parts::{WordClass, pushed};
 use crate::stmts::{braced, formal, semicolons, statements};
 use crate::terms::term;
 use crate::tokens::{Read, eat_one_of, eat_sign, eat_word, name, sign};
+use grammar::Stop;
 use std::alloc::Global;
 use vb_base::Pos;
 use viper_syntax::{Decl, Formal, Named, SBlock, SClause, SMethod, Sign, Token, Word};
@@ -128,7 +129,7 @@ fn method<'a>(alloc: Global, at: Pos, tokens: &'a [Token]) -> Read<'a, Decl>
 fn declaration<'a>(
     alloc: Global,
     tokens: &'a [Token],
-) -> Result<Option<(Decl, &'a [Token])>, Stop<'a>>
+) -> Result<Option<(Decl, &'a [Token])>, Stop<'a, Token>>
     ensures shorter { IfOk result (λ r. IfSome r (λ p. length p.1.now < length tokens.now)) }
     ensures reads { Declares tokens.now result }
 {
@@ -149,7 +150,7 @@ fn declaration<'a>(
 }
 
 /// The declarations of a program, up to the end of the tokens.
-pub fn declarations<'a>(alloc: Global, tokens: &'a [Token]) -> Result<Vec<Decl>, Stop<'a>>
+pub fn declarations<'a>(alloc: Global, tokens: &'a [Token]) -> Result<Vec<Decl>, Stop<'a, Token>>
     ensures { ReadsWhole tokens.now result }
 {
     let mut all = Vec::new(alloc);

@@ -1,10 +1,8 @@
 // A term as it is written.
 ghost use Rattle.std.specs.Prelude.{◌≡◌, [], ◌∷◌, ◌++◌, IfOk};
-ghost use Rattle.viper_parse.specs.declared.parts.Stop.TheVariants as stop;
 
-use std::alloc::{AllocError, AllocFailed};
-use vb_base::Memory;
-use viper_syntax::{SCall, Term, Token};
+use std::alloc::AllocFailed;
+use viper_syntax::{SCall, Term};
 
 /// What a term is by its tokens.
 #[derive(Clone, Copy)]
@@ -29,39 +27,6 @@ pub struct Part {
 pub struct Instance {
     pub call: SCall,
     pub amount: Option<Box<Term>>,
-}
-
-/// Why nothing was read.
-#[derive(Drop)]
-pub enum Stop<'a> {
-    /// Memory was refused.
-    Memory,
-    /// What stands in front of these tokens begins a text, but not with the first of them.
-    Before(&'a [Token]),
-}
-
-impl From<AllocError> for Stop<'_> {
-    ghost from_gives = { λ _ e. e ≡ stop.Memory };
-
-    fn from(_: AllocError) -> Self {
-        Stop::Memory
-    }
-}
-
-impl<T: Drop> From<AllocFailed<T>> for Stop<'_> {
-    ghost from_gives = { λ _ e. e ≡ stop.Memory };
-
-    fn from(_: AllocFailed<T>) -> Self {
-        Stop::Memory
-    }
-}
-
-impl From<Memory> for Stop<'_> {
-    ghost from_gives = { λ _ e. e ≡ stop.Memory };
-
-    fn from(_: Memory) -> Self {
-        Stop::Memory
-    }
 }
 
 /// Words that stand for one another in the grammar.

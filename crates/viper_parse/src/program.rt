@@ -9,7 +9,7 @@ ghost use Rattle.viper_parse.specs.Answers.{IsProgram, GoesWrong, Gives, Refuses
 ghost use Rattle.viper_parse.specs.Spells.{Spells};
 
 use crate::decls::declarations;
-use crate::parts::Stop;
+use grammar::Stop;
 use std::alloc::Global;
 use vb_base::Pos;
 use viper_syntax::{ParseFault, SourceProgram, Token};
@@ -39,7 +39,7 @@ fn parse_slice(alloc: Global, tokens: &[Token], end: Pos) -> Result<SourceProgra
     }
 }
 
-fn fault(stop: Stop<'_>, end: Pos) -> ParseFault
+fn fault(stop: Stop<'_, Token>, end: Pos) -> ParseFault
     ensures { result ≡ fault_of stop.entry end }
 {
     match stop {

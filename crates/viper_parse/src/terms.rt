@@ -2,8 +2,9 @@
 ghost use Rattle.std.specs.Prelude.{◌≡◌, ◌<◌, ◌≤◌, ℕ, length, false, IfOk, IfSome, MatchOption, map};
 ghost use Rattle.viper_syntax.specs.View.{term_of, amount_of, call_of};
 ghost use Rattle.viper_parse.specs.Grammar as g;
+ghost use Rattle.viper_parse.specs.Grammar.{Starts};
 ghost use Rattle.viper_parse.specs.Greedy.{Parses, Reads};
-ghost use Rattle.viper_parse.specs.Tests.{Starts, an_operator};
+ghost use Rattle.viper_parse.specs.Tests.{an_operator};
 ghost use Rattle.viper_parse.specs.View.{part_of, instance_of, arguments_of};
 
 use crate::build::{

@@ -1,16 +1,17 @@
 // One token at a time: whether the next one is of a kind, and what it holds.
 ghost use Rattle.std.specs.Prelude.{◌≡◌, ◌<◌, ◌≤◌, length, IfOk, IfSome, MatchOption, IsTrue, ◌↔◌, ℕ};
-ghost use Rattle.viper_parse.specs.Grammar.{the_word, the_sign};
+ghost use Rattle.viper_parse.specs.Grammar.{the_word, the_sign, Starts};
 ghost use Rattle.viper_parse.specs.Greedy.{IsNot, Takes};
-ghost use Rattle.viper_parse.specs.Tests.{Starts, a_name, a_number, one_of, a_negation, an_operator, level_of, is_negation, belongs};
+ghost use Rattle.viper_parse.specs.Tests.{a_name, a_number, one_of, a_negation, an_operator, level_of, is_negation, belongs};
 
-use crate::parts::{Stop, WordClass};
+use crate::parts::WordClass;
+use grammar::Stop;
 use std::alloc::Global;
 use vb_base::{Memory, Pos};
 use viper_syntax::{Named, Sign, Tok, Token, Word};
 
 /// What was read, and the tokens that are left.
-pub type Read<'a, T> = Result<(T, &'a [Token]), Stop<'a>>;
+pub type Read<'a, T> = grammar::Read<'a, Token, T>;
 
 fn same_sign(a: Sign, b: Sign) -> bool
     ensures { IsTrue result ↔ (a ≡ b) }

@@ -1,0 +1,4 @@
+pub mod Rules
+pub mod Spells
+pub mod Greedy
+pub mod Whole
