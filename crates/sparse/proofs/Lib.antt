@@ -1,4 +1,5 @@
-pub mod Places
+pub mod Splits
+pub mod Changes
 pub mod MapLaws
 pub mod MeaningLaws
 pub mod Rows

@@ -1,5 +1,5 @@
 -- The laws of maps with a default.
-use Rattle.std.proofs.Common.{◌≡◌, ◌≢◌, ℕ, zero, suc, slice_get, Bool, true, false, not, ◌&&◌, cond, List, [], ◌∷◌, refl, sym, ap, ◌∙◌, unwrap_or, All, Contains, IsSome, IfSome}
+use Rattle.std.proofs.Common.{◌≡◌, ◌≢◌, ℕ, zero, suc, slice_get, Bool, true, false, not, cond, List, [], ◌∷◌, refl, sym, ap, ◌∙◌, unwrap_or, All, Contains, IsSome, IfSome}
 use Rattle.std.specs.List.{AllByRecursion, AllZip, list_all}
 use Rattle.std.specs.List.Sorted.{IsStrictlySortedBy}
 use Rattle.std.specs.Map.{keys_of, values_of, lookup, remove_entry}
@@ -21,7 +21,8 @@ use Rattle.std.proofs.lemmas.Bool.Decides.{Decides-and, Decides-by_and}
 use Rattle.std.specs.Bool.{Decides}
 use Rattle.sparse.specs.Map.{Map, empty, keys, values, get, set, IsReduced, is_ascending, is_reduced, IsSame, ClonesAreEqual}
 use Rattle.sparse.specs.Meaning.{IsExact}
-use Rattle.sparse.proofs.Places.{turned}
+use Rattle.sparse.specs.Tree.{put_entry}
+use Rattle.sparse.proofs.Splits.{turned}
 
 -- ---- the entries
 
@@ -218,15 +219,19 @@ module _ {K V : Type 0} {cmp : K → K → Ordering} (o : IsTotalOrder cmp) {eq 
   pub IsSame-equal : (m n : Map K V) → m ≡ n → IsSame cmp eq m n
   IsSame-equal m n e = rw e (IsSame-refl n)
 
-  -- the clones of a map's parts are the parts of the same map
-  clones-alike : {kc : K → K → Type 0} {vc : V → V → Type 0} (c : ClonesAreEqual cmp eq kc vc) (es fs : List (K × V)) → AllZip (λ p q. kc p.0 q.0 × vc p.1 q.1) es fs → AllZip (λ p q. (cmp p.0 q.0 ≡ Equal) × (eq p.1 q.1 ≡ true)) es fs
-  clones-alike c [] [] a = tt
-  clones-alike c [] (f ∷ fs) a = a
-  clones-alike c (e ∷ es) [] a = a
-  clones-alike c (e ∷ es) (f ∷ fs) a = ((c.keys e.0 f.0 a.0.0, c.values e.1 f.1 a.0.1), clones-alike c es fs a.1)
+  module _ (k : K) (v : V) where
+    put-match : (e : K × V) (es fs gs : List (K × V)) (r : Ordering) → cmp k e.0 ≡ r → AllZip (λ p q. (cmp p.0 q.0 ≡ Equal) × (eq p.1 q.1 ≡ true)) fs gs → AllZip (λ p q. (cmp p.0 q.0 ≡ Equal) × (eq p.1 q.1 ≡ true)) (match_ordering r ((k, v) ∷ e ∷ es) ((e.0, v) ∷ es) (e ∷ fs)) (match_ordering r ((k, v) ∷ e ∷ es) ((k, v) ∷ es) (e ∷ gs))
+    put-match e es fs gs Less h a = alike ((k, v) ∷ e ∷ es)
+    put-match e es fs gs Equal h a = ((turned o k e.0 Equal h, equiv.refl v), alike es)
+    put-match e es fs gs Greater h a = ((tied_itself o e.0, equiv.refl e.1), a)
 
-  pub IsSame-clones : {kc : K → K → Type 0} {vc : V → V → Type 0} (c : ClonesAreEqual cmp eq kc vc) (m n : Map K V) → vc m.default n.default → AllZip (λ p q. kc p.0 q.0 × vc p.1 q.1) m.entries n.entries → IsSame cmp eq m n
-  IsSame-clones c m n z a = record { default = c.values m.default n.default z; entries = clones-alike c m.entries n.entries a }
+    put-alike : (es : List (K × V)) → AllZip (λ p q. (cmp p.0 q.0 ≡ Equal) × (eq p.1 q.1 ≡ true)) (insert_entry cmp es k v) (put_entry cmp es (k, v))
+    put-alike [] = alike ((k, v) ∷ [])
+    put-alike (e ∷ es) = put-match e es (insert_entry cmp es k v) (put_entry cmp es (k, v)) (cmp k e.0) refl (put-alike es)
+
+  -- a clone of the default makes the same map
+  pub IsSame-default : {kc : K → K → Type 0} {vc : V → V → Type 0} (c : ClonesAreEqual cmp eq kc vc) {z w : V} (es : List (K × V)) → vc z w → IsSame cmp eq (record { default = z; entries = es }) (record { default = w; entries = es })
+  IsSame-default c {z} {w} es h = record { default = c.values z w h; entries = alike es }
 
   below-alike : (k q : K) (es fs : List (K × V)) → cmp k q ≡ Equal → AllZip (λ p q. (cmp p.0 q.0 ≡ Equal) × (eq p.1 q.1 ≡ true)) es fs → AllByRecursion (λ y. cmp k y ≡ Less) (keys_of es) → AllByRecursion (λ y. cmp q y ≡ Less) (keys_of fs)
   below-alike k q [] [] t a b = tt
@@ -255,6 +260,17 @@ module _ {K V : Type 0} {cmp : K → K → Ordering} (o : IsTotalOrder cmp) {eq 
     ascending = ascending-alike m.entries n.entries a.entries r.ascending;
     no_default = no_default-alike m.default n.default m.entries n.entries a.default a.entries r.no_default;
   }
+
+  -- the entries of a map after a change: an entry that is put there takes its key along
+  module _ (z : V) (es fs : List (K × V)) (k : K) (v : V) where
+    pub taken-is_set : eq v z ≡ true → fs ≡ remove_entry (is_at (cmp k)) es → IsSame cmp eq (set cmp eq (record { default = z; entries = es }) k v) (record { default = z; entries = fs })
+    taken-is_set e h = rw (e, h) (IsSame-refl (record { default = z; entries = remove_entry (is_at (cmp k)) es }))
+
+    pub put-is_set : eq v z ≡ false → fs ≡ put_entry cmp es (k, v) → IsSame cmp eq (set cmp eq (record { default = z; entries = es }) k v) (record { default = z; entries = fs })
+    put-is_set e h = rw (e, h) (record { default = equiv.refl z; entries = put-alike k v es })
+
+    pub IsReduced-is_set : IsReduced cmp eq (record { default = z; entries = es }) → IsSame cmp eq (set cmp eq (record { default = z; entries = es }) k v) (record { default = z; entries = fs }) → IsReduced cmp eq (record { default = z; entries = fs })
+    IsReduced-is_set r a = IsReduced-IsSame (set cmp eq (record { default = z; entries = es }) k v) (record { default = z; entries = fs }) a (IsReduced-set o (record { default = z; entries = es }) r k v)
 
 -- ---- entries with equal look-ups
 

@@ -2,14 +2,14 @@
 #![tactic(auto)]
 
 ghost use Rattle.std.specs.Prelude.{◌≡◌, ◌<◌, length, slice_get, IfOk, OnOk, OnErr};
-ghost use Rattle.std.specs.BTreeMap.{insert_entry, is_at};
-ghost use Rattle.std.specs.List.Sorted.{IsStrictlySortedBy, IsBinarySearchResult, IsSearchInRange};
-ghost use Rattle.std.specs.Map.{keys_of, remove_entry};
 
 pub mod laws;
+mod tree;
 
 use std::alloc::{AllocError, AllocFailed, Global};
 use std::marker::Model;
+use std::rc::Rc;
+use tree::Tree;
 
 /// There was no memory.
 #[derive(Clone, Copy, Debug, PartialEq, Eq)]
@@ -30,61 +30,30 @@ impl<T: Drop> From<AllocFailed<T>> for Memory {
 /// A map with a default. Contracts see it as a `Map` of `specs/Map.antt`: the default, and the keys that
 /// have another value in ascending order, each with its value.
 ///
+/// The entries are kept as a balanced tree, whose parts are shared with copies: a copy takes no time, and a
+/// change of one key makes the nodes on its path anew and leaves every other map as it is.
+///
 /// Keys are told apart by their order and values by their equality, so a change and a copy are stated up
 /// to those (`IsSame`). Where the order and the equality are exact, or are those of what keys and values
 /// mean (`specs/Meaning.antt`), maps that are the same are equal, and so are their meanings (`laws`).
 #[derive(Debug, Drop)]
 pub struct Sparse<K: Ord + Clone, V: Eq + Clone> {
+    alloc: Global,
     zero: V,
-    entries: Vec<(K, V)>,
+    root: Tree<K, V>,
 }
 
 impl<K: Ord + Clone, V: Eq + Clone> Model for Sparse<K, V> {
     ghost use Rattle.sparse.specs.Map.{Map, map_code, IsReduced};
+    ghost use Rattle.sparse.specs.Tree.{plain_of, entries, IsBalanced};
 
     ghost Value = { Map K V };
 
     ghost coded = { map_code K.code V.code };
 
-    ghost view = { λ a. record { default = a.zero; entries = a.entries.items } };
+    ghost view = { λ a. record { default = a.zero; entries = entries (plain_of a.root) } };
 
-    ghost invariant = { λ a. IsReduced K.cmp V.eq (record { default = a.zero; entries = a.entries.items }) };
-}
-
-/// Where the entry of a key stands, or else where it would keep the keys in order.
-fn place_of<K: Ord, V>(entries: &[(K, V)], key: &K) -> Result<usize, usize>
-    ensures bound { IsSearchInRange result (length entries.now) }
-    ensures place { IsBinarySearchResult (λ e. K.cmp e.0 key.now) entries.now result }
-{
-    entries.binary_search_by(|entry| entry.0.cmp(key))
-}
-
-/// Takes away the entry of a key, if there is one.
-fn take_out<K: Ord + Drop, V: Drop>(entries: &mut Vec<(K, V)>, key: &K)
-    requires { IsStrictlySortedBy K.cmp (keys_of entries.old.items) }
-    ensures { entries.new.items ≡ remove_entry (is_at (K.cmp key.now)) entries.old.items }
-{
-    if let Ok(index) = place_of(entries.as_slice(), key) {
-        entries.remove(index);
-    }
-}
-
-/// Gives the entry of a key a value, and makes it where there is none.
-fn put<K: Ord + Drop, V: Drop>(entries: &mut Vec<(K, V)>, key: K, value: V) -> Result<(), Memory>
-    requires { IsStrictlySortedBy K.cmp (keys_of entries.old.items) }
-    ensures ok { OnOk result (entries.new.items ≡ insert_entry K.cmp entries.old.items key value) }
-    ensures err { OnErr result (entries.new.items ≡ entries.old.items) }
-{
-    match place_of(entries.as_slice(), &key) {
-        Ok(index) => {
-            entries[index].1 = value;
-            Ok(())
-        }
-        Err(index) => {
-            entries.insert(index, (key, value))?;
-            Ok(())
-        }
-    }
+    ghost invariant = { λ a. IsReduced K.cmp V.eq (record { default = a.zero; entries = entries (plain_of a.root) }) × IsBalanced (plain_of a.root) };
 }
 
 impl<K: Ord + Clone, V: Eq + Clone> Sparse<K, V> {
@@ -96,8 +65,9 @@ impl<K: Ord + Clone, V: Eq + Clone> Sparse<K, V> {
         ensures reduced { IfOk result (IsReduced K.cmp V.eq) }
     {
         Ok(Sparse {
+            alloc,
             zero,
-            entries: Vec::new(alloc),
+            root: Tree::Leaf,
         })
     }
 
@@ -114,10 +84,7 @@ impl<K: Ord + Clone, V: Eq + Clone> Sparse<K, V> {
         ensures value { result.now ≡ get K.cmp self.now key.now }
         ensures reduced { IsReduced K.cmp V.eq self.now }
     {
-        match place_of(self.entries.as_slice(), key) {
-            Ok(index) => &self.entries[index].1,
-            Err(_) => &self.zero,
-        }
+        self.root.get_or(key, &self.zero)
     }
 
     /// Gives a key a value. A key that is given the default has no entry afterwards. Where there is no
@@ -130,14 +97,15 @@ impl<K: Ord + Clone, V: Eq + Clone> Sparse<K, V> {
         ensures reduced { IsReduced K.cmp V.eq self.new }
     {
         if value == self.zero {
-            take_out(&mut self.entries, &key);
+            self.root = self.root.without(self.alloc, &key)?;
             return Ok(());
         }
-        put(&mut self.entries, key, value)?;
+        let entry = Rc::new(self.alloc, (key, value))?;
+        self.root = self.root.with(self.alloc, &entry)?;
         Ok(())
     }
 
-    /// An equal map.
+    /// An equal map, which shares its entries.
     pub fn copy(&self) -> Result<Sparse<K, V>, Memory>
         requires { ClonesAreEqual K.cmp V.eq K.is_clone V.is_clone }
         ensures same { IfOk result (IsSame K.cmp V.eq self.now) }
@@ -145,8 +113,9 @@ impl<K: Ord + Clone, V: Eq + Clone> Sparse<K, V> {
         ensures copy_reduced { IfOk result (IsReduced K.cmp V.eq) }
     {
         Ok(Sparse {
+            alloc: self.alloc,
             zero: self.zero.clone()?,
-            entries: self.entries.clone()?,
+            root: self.root.share()?,
         })
     }
 
@@ -155,7 +124,7 @@ impl<K: Ord + Clone, V: Eq + Clone> Sparse<K, V> {
         ensures len { result ≡ length (keys self.now) }
         ensures reduced { IsReduced K.cmp V.eq self.now }
     {
-        self.entries.len()
+        self.root.size()
     }
 
     /// The key at an index, from 0, among those that have another value than the default, in ascending
@@ -165,6 +134,6 @@ impl<K: Ord + Clone, V: Eq + Clone> Sparse<K, V> {
         ensures key { slice_get (keys self.now) i ≡ Some result.now }
         ensures reduced { IsReduced K.cmp V.eq self.now }
     {
-        &self.entries[i].0
+        self.root.key_at(i)
     }
 }
