@@ -5,6 +5,8 @@
 #[cfg(test)]
 mod devices;
 #[cfg(test)]
+mod generated;
+#[cfg(test)]
 mod labels;
 #[cfg(test)]
 mod maps;
