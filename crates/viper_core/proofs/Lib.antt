@@ -1,5 +1,5 @@
 pub mod ViewLaws
-mod BudgetLaws
+pub mod BudgetLaws
 mod Worked
 mod WorkedTyped
 mod Rows

@@ -14,5 +14,6 @@ mod weights;
 
 pub use exprs::{Amt, Assertion, Expr, Op, Opened};
 pub use programs::{Body, Method, Predicate, Program, Unit};
+pub use sizes::{spend, spend_assertion};
 pub use stmts::{FoldStmt, Loop, Stmt};
 pub use weights::{MAX_WEIGHT, weight};

@@ -7,8 +7,8 @@ ghost use Rattle.viper_core.specs.Expr as t;
 
 use crate::{Amt, Assertion, Expr, Opened};
 
-/// The budget less a cost.
-pub(crate) fn spend(budget: u64, cost: u64) -> Option<u64>
+/// The budget less a cost, or None where the cost is more.
+pub fn spend(budget: u64, cost: u64) -> Option<u64>
     ensures { Leaves result budget cost }
 {
     budget.checked_sub(cost)
@@ -69,8 +69,9 @@ fn spend_amount(budget: u64, base: u64, amount: &Amt) -> Option<u64>
     }
 }
 
+/// The budget less the size of an assertion, where each part of the program counts at least `base`.
 #[cycle(sizes)]
-pub(crate) fn spend_assertion(budget: u64, base: u64, a: &Assertion) -> Option<u64>
+pub fn spend_assertion(budget: u64, base: u64, a: &Assertion) -> Option<u64>
     ensures { Leaves result budget (assertion_size base (assertion_of a.now)) }
 {
     match a {

@@ -1,22 +1,28 @@
 -- What the check of a file answers, once its typing and its weight are known.
 use Rattle.std.specs.Result.{IsErrAnd}
 use Rattle.std.proofs.lemmas.Result.{err_from_is_err_and}
-use Rattle.std.proofs.Common.{◌≡◌, ◌∙◌, ℕ, ◌<◌, ◌≤◌, Result, Ok, Err, subst, sym, arith}
+use Rattle.std.proofs.Common.{◌≡◌, ◌∙◌, ℕ, ◌<◌, ◌≤◌, true, false, Option, Some, None, is_none, List, [], Result, Ok, Err, refl, ap, subst, sym, arith}
 use Rattle.vb_base.specs.declared.places.Pos.{Pos}
+use Rattle.viper_core.specs.Budget.{Leaves}
+use Rattle.viper_core.specs.Expr.{Assertion}
 use Rattle.viper_core.specs.Formed.{IsFormed}
 use Rattle.viper_core.specs.Program as p
 use Rattle.viper_core.specs.View.{program_of}
 use Rattle.viper_core.specs.Weight.{weight, told_weight}
 use Rattle.viper_core.specs.declared.programs.Program.{Program}
-use Rattle.viper_syntax.specs.Decl.{SourceProgram}
+use Rattle.viper_syntax.specs.Decl.{Decl, SourceProgram}
 use Rattle.viper_types.specs.declared.faults.TypeFault.{TypeFault}
 use Rattle.viper_types.specs.declared.faults.TypeFault.TheVariants.{Memory, Rule, Weight}
 use Rattle.viper_types.specs.Answers.{Refuses}
-use Rattle.viper_types.specs.Checked.{Gives, Tells, IsRefused}
-use Rattle.viper_types.specs.Declaring.{program_typing}
+use Rattle.viper_types.specs.Checked.{Gives, Tells, IsRefused, Overweighs}
+use Rattle.viper_types.specs.Context.{World}
+use Rattle.viper_types.specs.Copied.{copied_by_decls}
+use Rattle.viper_types.specs.Declaring.{naming, no_world, decls_typing, bodies_of, assembled, no_program, program_typing}
 use Rattle.viper_syntax.specs.Good.{IsGoodSource}
-use Rattle.viper_types.specs.Outcome.{Found, Broken}
+use Rattle.viper_types.specs.Outcome.{Judged, Found, Broken, then_typed}
 use Rattle.viper_types.specs.Program.{IsProgram}
+use Rattle.viper_types.proofs.CopiedProgram.{copied_weighs}
+use Rattle.viper_types.proofs.Lean.{Ends, both, same, decls_ends}
 use Rattle.viper_types.proofs.FormedProgram.{typed_program_is_formed}
 use Rattle.viper_types.proofs.ProgramFinds.{program_finds}
 use Rattle.viper_types.proofs.ProgramLaws.{found_program, found_or_broken, broken_is_no_program, one_broken_rule}
@@ -43,18 +49,18 @@ gives_heavy source r n found is h q g =
     let same = one_found found (program_finds g) in
     (told_heavy r n is h, subst (λ x. 100000 < weight x) same (heavy r n is h))
 
-pub gives_refused : (source : SourceProgram) (f : TypeFault) → Refuses (program_typing source) f → (q : p.Program) → IsProgram source q → Gives (Err f) q
+pub gives_refused : (source : SourceProgram) (f : TypeFault) → IsRefused source f → (q : p.Program) → IsProgram source q → Gives (Err f) q
 gives_refused source Memory h q g = tt
 gives_refused source (Rule at r) h q g = broken_is_no_program h q g
-gives_refused source (Weight n) h q g = absurd h
+gives_refused source (Weight n) h q g = (h.0, subst (λ r. 100000 < weight r) (one_found (program_finds h.1.1) (program_finds g)) h.1.2)
 
 pub tells_no_found : (source : SourceProgram) (q : p.Program) → program_typing source ≡ Found q → (at : Pos) (n : ℕ) → program_typing source ≡ Broken at n → ⊥
 tells_no_found source q found at n h = found_or_broken (sym found ∙ h)
 
-pub tells_refused : (source : SourceProgram) (f : TypeFault) → Refuses (program_typing source) f → (at : Pos) (n : ℕ) → program_typing source ≡ Broken at n → Tells (Err f) at n
+pub tells_refused : (source : SourceProgram) (f : TypeFault) → IsRefused source f → (at : Pos) (n : ℕ) → program_typing source ≡ Broken at n → Tells (Err f) at n
 tells_refused source Memory h at n g = tt
 tells_refused source (Rule place r) h at n g = one_broken_rule source h g
-tells_refused source (Weight w) h at n g = absurd h
+tells_refused source (Weight w) h at n g = broken_is_no_program g h.1.0 h.1.1
 
 -- what is true of a fault is true of the answer that tells it
 pub at_fault : (P : Result Program TypeFault → Type 0) (f : TypeFault) (result : Result Program TypeFault) → IsErrAnd result (λ g. g ≡ f) → P (Err f) → P result
@@ -68,6 +74,52 @@ pub is_refused : (source : SourceProgram) (f : TypeFault) → Refuses (program_t
 is_refused source Memory h = tt
 is_refused source (Rule at r) h = h
 is_refused source (Weight n) h = absurd h
+
+-- ---- a file that copies too much
+
+-- the walk of a file whose names are different
+named_typing : (source : SourceProgram) (w : World) → naming no_world source.decls ≡ Found w →
+    program_typing source ≡ then_typed (decls_typing true w (bodies_of w source.decls) source.decls) (λ xs. Found (assembled no_program xs))
+named_typing source w i =
+    ap (λ j. then_typed j (λ v. then_typed (decls_typing true v (bodies_of v source.decls) source.decls) (λ xs. Found (assembled no_program xs)))) i
+
+ends_broken : {X Y V : Type 0} {R : X → Y → Type 0} {i : Judged X} {j : Judged Y} (go : X → V) (on : Y → V) {at : Pos} {n : ℕ} → Ends R i j →
+    then_typed j (λ y. Found (on y)) ≡ Broken at n → then_typed i (λ x. Found (go x)) ≡ Broken at n
+ends_broken go on (both h) is = absurd (cc)
+ends_broken go on same is = is
+
+ends_found : {X Y V : Type 0} {R : X → Y → Type 0} {i : Judged X} {j : Judged Y} (on : Y → V) {z : V} → Ends R i j →
+    then_typed j (λ y. Found (on y)) ≡ Found z → (x : X) × (i ≡ Found x)
+ends_found on (both {x = x} h) is = (x, refl)
+ends_found on same is = absurd (cc)
+
+pub heavy_refused : (source : SourceProgram) (w : World) (f : TypeFault) → naming no_world source.decls ≡ Found w →
+    100000 < copied_by_decls w (bodies_of w source.decls) source.decls →
+    Overweighs (then_typed (decls_typing false w [] source.decls) (λ xs. Found (assembled no_program xs))) f →
+    IsRefused source f
+heavy_refused source w Memory i much h = tt
+heavy_refused source w (Rule at n) i much h = named_typing source w i ∙ ends_broken (assembled no_program) (assembled no_program) (decls_ends w (bodies_of w source.decls) source.decls) h
+heavy_refused source w (Weight n) i much h =
+    let found = ends_found (assembled no_program) (decls_ends w (bodies_of w source.decls) source.decls) h.1.1 in
+    let q = assembled no_program found.0 in
+    let typed = named_typing source w i ∙ ap (λ j. then_typed j (λ xs. Found (assembled no_program xs))) found.1 in
+    let over : 100000 < weight q = omega (arith, much, copied_weighs source w found.0 i found.1) in (h.0, (q, found_program source typed, over))
+
+none_left : (left : Option ℕ) (n : ℕ) → is_none left ≡ true → Leaves left 100000 n → 100000 < n
+none_left None n i h = h
+none_left (Some x) n i h = absurd (cc)
+
+-- the same, as the code has its parts
+pub heavy_told : (source : SourceProgram) (w : World) (f : TypeFault) (bodies : List (Option Assertion)) (left : Option ℕ) (named bodied counted walked : List Decl) →
+    named ≡ source.decls → bodied ≡ source.decls → counted ≡ source.decls → walked ≡ source.decls →
+    naming no_world named ≡ Found w → bodies ≡ bodies_of w bodied → Leaves left 100000 (copied_by_decls w bodies counted) → is_none left ≡ true →
+    Overweighs (then_typed (decls_typing false w [] walked) (λ xs. Found (assembled no_program xs))) f →
+    IsRefused source f
+heavy_told source w f bodies left named bodied counted walked n b k l i are spent none h =
+    let same = ap (λ ds. copied_by_decls w bodies ds) k ∙ ap (λ bs. copied_by_decls w bs source.decls) (are ∙ ap (bodies_of w) b) in
+    let over = none_left left (copied_by_decls w bodies counted) none spent in
+    heavy_refused source w f (ap (naming no_world) (sym n) ∙ i) (subst (λ m. 100000 < m) same over)
+    (subst (λ ds. Overweighs (then_typed (decls_typing false w [] ds) (λ xs. Found (assembled no_program xs))) f) l h)
 
 pub formed_found : (source : SourceProgram) (q : p.Program) (n : ℕ) → program_typing source ≡ Found q → n ≡ told_weight q → n ≤ 100000 → IsGoodSource source → IsFormed q
 formed_found source q n found is h good = record { typed = typed_program_is_formed good (found_program source found); light = light q n is h }

@@ -117,7 +117,7 @@ methods_are_formed {w} {bodies} q z (one_decl (r.method h) hs) good = (method_is
 
 -- ---- programs
 
-described : {w : World} {ds : List d.Decl} {xs : List Declared} → AreNamed no_world ds w → AreDeclared w (bodies_in xs) ds xs →
+pub described : {w : World} {ds : List d.Decl} {xs : List Declared} → AreNamed no_world ds w → AreDeclared w (bodies_in xs) ds xs →
     Describes w (bodies_in xs) (assembled no_program xs)
 described {w} {ds} {xs} named declared =
     let q = assembled no_program xs in

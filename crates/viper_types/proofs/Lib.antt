@@ -37,4 +37,8 @@ pub mod MethodFormed
 pub mod Assembled
 pub mod WorldLaws
 pub mod FormedProgram
+mod Lean
+mod CopiedTerms
+mod CopiedStmts
+mod CopiedProgram
 mod CheckLaws

@@ -60,10 +60,10 @@ module _ (n : ℕ) where
       tell_obeys (as_many xs m.1.params) call.name.pos 9 (λ i1. tell_obeys (as_many vs m.1.returns) call.name.pos 10 (λ i2.
       tell_clear (mistarget vs m.1.returns) 3 (λ i3. tell_clear (misfit (t.terms call.args) xs m.1.params) 3 (λ i4. tells (plain refl)))))))
 
-  creates : (w : World) (sc : Scope) (at : Pos) (x : ℕ) (new : s.SNew) → Tells (ListLoops n) (j.creating w sc at x new)
-  creates w sc at x new = tell_then (anything (chosen_fields w new)) (λ fs h. tells (plain refl))
+  creates : (w : World) (sc : Scope) (at : Pos) (x : ℕ) (new : s.SNew) → Tells (ListLoops n) (j.creating true w sc at x new)
+  creates w sc at x new = tell_then (anything (chosen_fields true w new)) (λ fs h. tells (plain refl))
 
-  declares : (k : Context) (fr : Frame) (at : Pos) (v : Target) (rhs : Option s.SRhs) → Tells (ListLoops n) (j.declaring k fr at v rhs)
+  declares : (k : Context) (fr : Frame) (at : Pos) (v : Target) (rhs : Option s.SRhs) → Tells (ListLoops n) (j.declaring true k fr at v rhs)
   declares k fr at v None = tells (plain refl)
   declares k fr at v (Some (s.TermRhs a)) = tell_then (anything (expected k fr.scope v.ty a)) (λ x h. tells (plain refl))
   declares k fr at v (Some (s.CallRhs call)) = calls k fr.scope at (v ∷ []) call
@@ -74,7 +74,7 @@ module _ (n : ℕ) where
       tell_known (method_at k.world call.name.name) call.name.pos 1 (λ m i. tell_then (anything (typing_all k sc (t.terms call.args))) (λ xs h.
       tell_obeys (as_many xs m.1.params) call.name.pos 9 (λ i1. broken)))
 
-  sets : (k : Context) (sc : Scope) (xs : List Named) (rhs : s.SRhs) → Tells (ListLoops n) (j.setting k sc xs rhs)
+  sets : (k : Context) (sc : Scope) (xs : List Named) (rhs : s.SRhs) → Tells (ListLoops n) (j.setting true k sc xs rhs)
   sets k sc [] rhs = broken
   sets k sc (x ∷ []) (s.TermRhs a) = tell_then (anything (j.target sc x)) (λ v h. tell_then (anything (expected k sc v.ty a)) (λ y g. tells (plain refl)))
   sets k sc (x ∷ []) (s.CallRhs call) = tell_then (anything (j.target sc x)) (λ v h. calls k sc x.pos (v ∷ []) call)
@@ -129,7 +129,7 @@ vars_stay fr (s.If arms other) = more_vars fr (declared_in_arms arms ++ declared
 vars_stay fr (s.While at a is b) = more_vars fr (declared_in_block b)
 
 mutual
-  stmt_loops : (k : Context) (d : ℕ) (fr : Frame) (a : s.SStmt) → Tells (ListLoops (length fr.vars)) (stepping k d fr a)
+  stmt_loops : (k : Context) (d : ℕ) (fr : Frame) (a : s.SStmt) → Tells (ListLoops (length fr.vars)) (stepping true k d fr a)
   stmt_loops k d fr (s.Var at f rhs) = tell_then (anything (j.fresh fr f)) (λ v h. declares (length fr.vars) k fr at v rhs)
   stmt_loops k d fr (s.Assign xs rhs) = sets (length fr.vars) k fr.scope xs rhs
   stmt_loops k d fr (s.CallTo xs a) = tell_then (anything (j.call_targets fr.scope [] xs)) (λ vs h. calls (length fr.vars) k fr.scope _ vs a)
@@ -142,25 +142,25 @@ mutual
       tell_known (nested bs ss) nowhere 3 (λ x i. tells (nested_loops ss h (lower_all (more_vars fr (declared_in_arms arms)) g) x i))))
   stmt_loops k d fr (s.While at a is body) =
       tell_then (anything (expected k fr.scope ty.Bool a)) (λ x h. tell_then (anything (asserting_all k fr.scope is)) (λ xs g.
-      tell_then (anything (blocking k (d + 1) fr body)) (λ ss i. tells (turns (length fr.vars) (omega arith) refl))))
+      tell_then (anything (blocking true k (d + 1) fr body)) (λ ss i. tells (turns (length fr.vars) (omega arith) refl))))
 
-  pub block_loops : (k : Context) (d : ℕ) (fr : Frame) (a : s.SBlock) → Tells (LoopsIn (length fr.vars)) (blocking k d fr a)
+  pub block_loops : (k : Context) (d : ℕ) (fr : Frame) (a : s.SBlock) → Tells (LoopsIn (length fr.vars)) (blocking true k d fr a)
   block_loops k d fr (s.block at ss) = tell_obeys (nat_le d 128) at 15 (λ i. tell_then (all_loops k d fr ss) (λ xs h. tells h))
 
-  all_loops : (k : Context) (d : ℕ) (fr : Frame) (ss : s.SStmts) → Tells (λ xs. LoopsIn (length fr.vars) (c.stmts xs)) (stepping_all k d fr ss)
+  all_loops : (k : Context) (d : ℕ) (fr : Frame) (ss : s.SStmts) → Tells (λ xs. LoopsIn (length fr.vars) (c.stmts xs)) (stepping_all true k d fr ss)
   all_loops k d fr s.no_stmts = tells no_loops
   all_loops k d fr (s.more_stmts a rest) =
       tell_then (stmt_loops k d fr a) (λ x h. tell_then (all_loops k d (frame_after fr a) rest) (λ xs g. tells (more_loops h (lower_all (vars_stay fr a) g))))
 
-  branches_loops : (k : Context) (d : ℕ) (fr : Frame) (arms : s.SArms) → Tells (BranchLoops (length fr.vars)) (j.branches k d fr arms)
+  branches_loops : (k : Context) (d : ℕ) (fr : Frame) (arms : s.SArms) → Tells (BranchLoops (length fr.vars)) (j.branches true k d fr arms)
   branches_loops k d fr s.no_arms = tells no_arms
   branches_loops k d fr (s.more_arms a rest) =
       tell_then (branch_loops k d fr a) (λ x h. tell_then (branches_loops k (d + 1) (with_hidden fr (declared_in_arm a)) rest) (λ xs g.
       tells (more_arms h (lower_arms (more_vars fr (declared_in_arm a)) g))))
 
-  branch_loops : (k : Context) (d : ℕ) (fr : Frame) (a : s.SArm) → Tells (λ b. LoopsIn (length fr.vars) b.body) (j.branch k d fr a)
+  branch_loops : (k : Context) (d : ℕ) (fr : Frame) (a : s.SArm) → Tells (λ b. LoopsIn (length fr.vars) b.body) (j.branch true k d fr a)
   branch_loops k d fr (s.arm at a body) = tell_then (anything (expected k fr.scope ty.Bool a)) (λ x h. tell_then (block_loops k d fr body) (λ ss g. tells g))
 
-  else_loops : (k : Context) (d : ℕ) (fr : Frame) (o : s.SElse) → Tells (LoopsIn (length fr.vars)) (otherwise k d fr o)
+  else_loops : (k : Context) (d : ℕ) (fr : Frame) (o : s.SElse) → Tells (LoopsIn (length fr.vars)) (otherwise true k d fr o)
   else_loops k d fr s.no_else = tells no_loops
   else_loops k d fr (s.else_block body) = block_loops k d fr body

@@ -1,5 +1,5 @@
 -- What a file is, its typing finds.
-use Rattle.std.proofs.Common.{◌≡◌, Bool, Option, List, refl}
+use Rattle.std.proofs.Common.{true, ◌≡◌, Bool, Option, List, refl}
 use Rattle.vb_base.specs.declared.places.Pos.{Pos}
 use Rattle.viper_core.specs.Expr as e
 use Rattle.viper_core.specs.Program as p
@@ -56,24 +56,24 @@ clauses_find no_clauses = refl
 clauses_find (one_clause h g) = rw (clause_finds h, clauses_find g) refl
 
 method_body_finds : {k : Context} {fr : Frame} {body : Option s.SBlock} {x : Option p.Body} → IsMethodBody k fr body x →
-    j.method_body k fr body ≡ Found x
+    j.method_body true k fr body ≡ Found x
 method_body_finds no_block = refl
 method_body_finds (block_of h) = rw (blocking_finds h) refl
 
 method_finds : {w : World} {bodies : List (Option e.Assertion)} {m : d.SMethod} {x : p.Method} → IsMethod w bodies m x →
-    j.method_typing w bodies m ≡ Found x
+    j.method_typing true w bodies m ≡ Found x
 method_finds (method_of h g i k) = rw (formals_find h, formals_find g, clauses_find i, method_body_finds k) refl
 
 -- programs
 
 decl_finds : {w : World} {bodies : List (Option e.Assertion)} {a : d.Decl} {x : Declared} → IsDeclared w bodies a x →
-    j.decl_typing w bodies a ≡ Found x
+    j.decl_typing true w bodies a ≡ Found x
 decl_finds (r.field i) = rw i refl
 decl_finds (r.predicate h) = rw (predicate_finds h) refl
 decl_finds (r.method h) = rw (method_finds h) refl
 
 decls_find : {w : World} {bodies : List (Option e.Assertion)} {ds : List d.Decl} {xs : List Declared} → AreDeclared w bodies ds xs →
-    decls_typing w bodies ds ≡ Found xs
+    decls_typing true w bodies ds ≡ Found xs
 decls_find no_decls = refl
 decls_find (one_decl h g) = rw (decl_finds h, decls_find g) refl
 

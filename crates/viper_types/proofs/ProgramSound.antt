@@ -29,7 +29,7 @@ use Rattle.viper_types.proofs.StmtSound.{is_type, blocking_told}
 use Rattle.viper_types.proofs.ProgramFinds.{bodies_found}
 use Rattle.viper_types.proofs.BodyLaws.{signatures, Bodied, no_bodies, one_body, has_bodies, body_has_none}
 
-naming_told : (w : World) (ds : List d.Decl) → Tells (AreNamed w ds) (naming w ds)
+pub naming_told : (w : World) (ds : List d.Decl) → Tells (AreNamed w ds) (naming w ds)
 naming_told w [] = tells no_names
 naming_told w (a ∷ rest) =
     tell_obeys (is_new w a) (decl_name a).pos 2 (λ i. tell_so (naming_told (with_decl w a) rest) (λ v h. one_name (none_is _ i) h))
@@ -74,13 +74,13 @@ predicate_first (Broken at r) h g = broken
 
 -- where all declarations are typed, the bodies of the predicates are there
 bodies_told : (w : World) (bodies : List (Option e.Assertion)) (ds : List d.Decl) →
-    Tells (λ xs. Bodied (signatures ds) (bodies_of w ds)) (decls_typing w bodies ds)
+    Tells (λ xs. Bodied (signatures ds) (bodies_of w ds)) (decls_typing true w bodies ds)
 bodies_told w bodies [] = tells no_bodies
 bodies_told w bodies (d.Field f ∷ rest) = tell_then (tell_itself (j.field_typing f)) (λ x i. tell_then (bodies_told w bodies rest) (λ xs h. tells h))
 bodies_told w bodies (d.Predicate at x params body ∷ rest) =
     predicate_first (predicate_typing w at x params body) (λ q i. has_body_of (told (predicate_told w at x params body) i)) (bodies_told w bodies rest)
 bodies_told w bodies (d.Method m ∷ rest) =
-    tell_then (tell_itself (j.decl_typing w bodies (d.Method m))) (λ x i. tell_then (bodies_told w bodies rest) (λ xs h. tells h))
+    tell_then (tell_itself (j.decl_typing true w bodies (d.Method m))) (λ x i. tell_then (bodies_told w bodies rest) (λ xs h. tells h))
 
 -- methods
 
@@ -100,12 +100,12 @@ clauses_told w bodies b params all [] = tells no_clauses
 clauses_told w bodies b params all (a ∷ rest) =
     tell_then (clause_told w bodies b params all a.word a.term) (λ x h. tell_then (clauses_told w bodies b params all rest) (λ xs g. tells (one_clause h g)))
 
-method_body_told : (k : Context) → HasBodies k → (fr : Frame) (body : Option s.SBlock) → Tells (IsMethodBody k fr body) (j.method_body k fr body)
+method_body_told : (k : Context) → HasBodies k → (fr : Frame) (body : Option s.SBlock) → Tells (IsMethodBody k fr body) (j.method_body true k fr body)
 method_body_told k b fr None = tells no_block
 method_body_told k b fr (Some body) = tell_then (blocking_told k b 1 fr body) (λ ss h. tells (block_of h))
 
 method_told : (w : World) (bodies : List (Option e.Assertion)) → ((u : Part) → HasBodies (context_in w bodies u)) → (m : d.SMethod) →
-    Tells (IsMethod w bodies m) (j.method_typing w bodies m)
+    Tells (IsMethod w bodies m) (j.method_typing true w bodies m)
 method_told w bodies b m =
     tell_then (formals_told true true no_frame m.params) (λ ps h. tell_then (formals_told true false ps m.returns) (λ fr g.
     tell_then (clauses_told w bodies b ps.scope fr.scope m.clauses) (λ cs i. tell_then (method_body_told (context_in w bodies part.Elsewhere) (b part.Elsewhere) fr m.body) (λ y k.
@@ -114,18 +114,18 @@ method_told w bodies b m =
 -- programs
 
 decl_told : (w : World) (bodies : List (Option e.Assertion)) → ((u : Part) → HasBodies (context_in w bodies u)) → (a : d.Decl) →
-    Tells (IsDeclared w bodies a) (j.decl_typing w bodies a)
+    Tells (IsDeclared w bodies a) (j.decl_typing true w bodies a)
 decl_told w bodies b (d.Field f) = tell_obeys (is_some (type_of f.ty)) f.name.pos 3 (λ i. tells (r.field (is_type _ i)))
 decl_told w bodies b (d.Predicate at x params body) = tell_then (predicate_told w at x params body) (λ q h. tells (r.predicate h))
 decl_told w bodies b (d.Method m) = tell_then (method_told w bodies b m) (λ q h. tells (r.method h))
 
 decls_told : (w : World) (bodies : List (Option e.Assertion)) → ((u : Part) → HasBodies (context_in w bodies u)) → (ds : List d.Decl) →
-    Tells (AreDeclared w bodies ds) (decls_typing w bodies ds)
+    Tells (AreDeclared w bodies ds) (decls_typing true w bodies ds)
 decls_told w bodies b [] = tells no_decls
 decls_told w bodies b (a ∷ rest) = tell_then (decl_told w bodies b a) (λ x h. tell_then (decls_told w bodies b rest) (λ xs g. tells (one_decl h g)))
 
-declared_program : (source : d.SourceProgram) (w : World) (xs : List Declared) → AreNamed no_world source.decls w →
-    decls_typing w (bodies_of w source.decls) source.decls ≡ Found xs →
+pub declared_program : (source : d.SourceProgram) (w : World) (xs : List Declared) → AreNamed no_world source.decls w →
+    decls_typing true w (bodies_of w source.decls) source.decls ≡ Found xs →
     AreDeclared w (bodies_in xs) source.decls xs
 declared_program source w xs h i =
     let bodied = told (bodies_told w (bodies_of w source.decls) source.decls) i in
@@ -134,5 +134,5 @@ declared_program source w xs h i =
 
 pub program_told : (source : d.SourceProgram) → Tells (IsProgram source) (program_typing source)
 program_told source =
-    tell_then (naming_told no_world source.decls) (λ w h. tell_then (tell_itself (decls_typing w (bodies_of w source.decls) source.decls)) (λ xs i.
+    tell_then (naming_told no_world source.decls) (λ w h. tell_then (tell_itself (decls_typing true w (bodies_of w source.decls) source.decls)) (λ xs i.
     tells (program_of h (declared_program source w xs h i))))

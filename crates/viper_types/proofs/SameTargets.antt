@@ -1,5 +1,5 @@
 -- The targets of a loop are those that are gathered from its body, and the visible variables that the body assigns.
-use Rattle.std.proofs.Common.{◌≡◌, ◌∙◌, inl, inr, ◌==◌, ◌||◌, ◌&&◌, ℕ, zero, suc, ◌+◌, ◌<◌, ◌≤◌, Bool, true, false, cond, List, [], ◌∷◌, Contains, refl, sym, ap, arith}
+use Rattle.std.proofs.Common.{◌≡◌, ◌∙◌, inl, inr, ◌==◌, ◌||◌, ◌&&◌, ℕ, zero, suc, ◌+◌, ◌<◌, ◌≤◌, Bool, true, false, cond, List, [], ◌∷◌, Contains, length, refl, sym, ap, arith}
 use Rattle.std.specs.BTreeSet.{insert_key}
 use Rattle.std.specs.Cmp.{nat_cmp_is}
 use Rattle.std.specs.List.{filter, range_with_len}
@@ -13,8 +13,14 @@ use Rattle.viper_core.specs.Scope.{assigns, some_assigns, loop_targets}
 use Rattle.viper_core.specs.Stmt as c
 use Rattle.viper_core.specs.Typing as g
 use Rattle.viper_core.proofs.ScopeLaws.{some_old_or_new}
+use Rattle.viper_syntax.specs.Stmt as s
+use Rattle.viper_types.specs.Context.{Context}
+use Rattle.viper_types.specs.Frame.{Frame}
+use Rattle.viper_types.specs.Outcome.{Found}
+use Rattle.viper_types.specs.Stepping.{blocking, listed as listed_only}
 use Rattle.viper_types.specs.Target.{with_target, with_targets, targets_of_stmt, targets_from, gathered, targets}
-use Rattle.viper_types.proofs.Loops.{ListLoops, plain, branches, turns, LoopsIn, no_loops, more_loops}
+use Rattle.viper_types.proofs.Loops.{ListLoops, plain, branches, turns, LoopsIn, no_loops, more_loops, block_loops}
+use Rattle.viper_types.proofs.Tells.{told}
 use Rattle.viper_types.proofs.Rising.{Rising, has, rising_filter, has_above, same_rising}
 
 -- ---- one more number in ascending numbers
@@ -215,3 +221,9 @@ same_targets sc body h rising =
       | inl lt ↦ has_target_of sc.fresh z body lt ∙ sym (listed sc.fresh z h (omega arith) lt)
       | inr le ↦ has_above 0 sc.fresh (targets sc.fresh body) z all le ∙ sym (has_above 0 sc.fresh (loop_targets sc body) z seen le)
     ])
+
+-- the list of a loop, as it is gathered
+pub listed_targets : (lists : Bool) (k : Context) (d : ℕ) (fr : Frame) (b : s.SBlock) (ss : c.Stmts) → blocking lists k d fr b ≡ Found ss →
+    listed_only lists (gathered (length fr.vars) ss) ≡ listed_only lists (targets (length fr.vars) ss)
+listed_targets true k d fr b ss h = gathered_targets (length fr.vars) ss (told (block_loops k d fr b) h)
+listed_targets false k d fr b ss h = refl

@@ -67,11 +67,11 @@ new_fields_find before (one_field {n = n} {ns = ns} i g) d =
     let moved : (before ++ n ∷ []) ++ ns ≡ before ++ n ∷ ns = append_assoc before (n ∷ []) ns in
     rw (i, new_among before n ns d) (new_fields_find (before ++ n ∷ []) g (subst (λ ms. Differ ms) (sym moved) d) ∙ ap (λ ms. Found ms) moved)
 
-chosen_fields_find : {w : World} {new : s.SNew} {ns : List ℕ} → ChoosesFields w new ns → j.chosen_fields w new ≡ Found ns
+chosen_fields_find : {w : World} {new : s.SNew} {ns : List ℕ} → ChoosesFields w new ns → j.chosen_fields true w new ≡ Found ns
 chosen_fields_find (every i) = rw i refl
 chosen_fields_find (named i h d) = rw i (new_fields_find [] h d)
 
-creating_finds : {w : World} {sc : Scope} {at : Pos} {n : ℕ} {new : s.SNew} {x : c.Stmt} → IsNew w sc at n new x → j.creating w sc at n new ≡ Found x
+creating_finds : {w : World} {sc : Scope} {at : Pos} {n : ℕ} {new : s.SNew} {x : c.Stmt} → IsNew w sc at n new x → j.creating true w sc at n new ≡ Found x
 creating_finds (new_of h) = rw (chosen_fields_find h) refl
 
 -- assignments
@@ -97,13 +97,13 @@ target_place_finds : {k : Context} {sc : Scope} {x : Named} {fs : List Named} {l
 target_place_finds h = place_finds h
 
 declaring_finds : {k : Context} (fr : Frame) {at : Pos} {v : Target} {rhs : Option s.SRhs} {x : c.Stmt} →
-    Declares k fr.scope at v rhs x → j.declaring k fr at v rhs ≡ Found x
+    Declares k fr.scope at v rhs x → j.declaring true k fr at v rhs ≡ Found x
 declaring_finds fr any_value = refl
 declaring_finds fr (Stepped.Declares.value h) = rw (expected_finds h) refl
 declaring_finds fr (Stepped.Declares.returned h) = calling_finds h
 declaring_finds fr (Stepped.Declares.created i h) = rw i (creating_finds h)
 
-setting_finds : {k : Context} {sc : Scope} {xs : List Named} {rhs : s.SRhs} {x : c.Stmt} → Sets k sc xs rhs x → j.setting k sc xs rhs ≡ Found x
+setting_finds : {k : Context} {sc : Scope} {xs : List Named} {rhs : s.SRhs} {x : c.Stmt} → Sets k sc xs rhs x → j.setting true k sc xs rhs ≡ Found x
 setting_finds (Stepped.Sets.variable h g) = rw (target_finds h, expected_finds g) refl
 setting_finds (Stepped.Sets.returned h g) = rw (target_finds h) (calling_finds g)
 setting_finds (Stepped.Sets.created h i g) = rw (ref_target_finds h i) (creating_finds g)
@@ -126,7 +126,7 @@ asserting_all_finds no_assertions = refl
 asserting_all_finds (one_assertion h g) = rw (asserting_finds h, asserting_all_finds g) refl
 
 mutual
-  pub stepping_finds : {k : Context} {d : ℕ} {fr : Frame} {a : s.SStmt} {x : c.Stmt} → Stepped.Stepped k d fr a x → stepping k d fr a ≡ Found x
+  pub stepping_finds : {k : Context} {d : ℕ} {fr : Frame} {a : s.SStmt} {x : c.Stmt} → Stepped.Stepped k d fr a x → stepping true k d fr a ≡ Found x
   stepping_finds (var {fr = fr} h g) = rw (fresh_finds h) (declaring_finds fr g)
   stepping_finds (assign h) = setting_finds h
   stepping_finds (call_to h d g) = rw (call_targets_find [] h d) (calling_finds g)
@@ -137,23 +137,23 @@ mutual
   stepping_finds (if_arms h g i) = rw (branches_find h, otherwise_finds g, i) refl
   stepping_finds (while h g i) = rw (expected_finds h, asserting_all_finds g, blocking_finds i) refl
 
-  pub blocking_finds : {k : Context} {d : ℕ} {fr : Frame} {b : s.SBlock} {ss : c.Stmts} → Blocked k d fr b ss → blocking k d fr b ≡ Found ss
+  pub blocking_finds : {k : Context} {d : ℕ} {fr : Frame} {b : s.SBlock} {ss : c.Stmts} → Blocked k d fr b ss → blocking true k d fr b ≡ Found ss
   blocking_finds (block i h) = rw (i, stepping_all_finds h) refl
 
   pub stepping_all_finds : {k : Context} {d : ℕ} {fr : Frame} {ss : s.SStmts} {xs : List c.Stmt} → SteppedAll k d fr ss xs →
-      stepping_all k d fr ss ≡ Found xs
+      stepping_all true k d fr ss ≡ Found xs
   stepping_all_finds no_steps = refl
   stepping_all_finds (one_step h g) = rw (stepping_finds h, stepping_all_finds g) refl
 
   pub branches_find : {k : Context} {d : ℕ} {fr : Frame} {arms : s.SArms} {bs : List Branch} → Branches k d fr arms bs →
-      branches k d fr arms ≡ Found bs
+      branches true k d fr arms ≡ Found bs
   branches_find no_branches = refl
   branches_find (one_branch h g) = rw (branch_finds h, branches_find g) refl
 
-  pub branch_finds : {k : Context} {d : ℕ} {fr : Frame} {a : s.SArm} {b : Branch} → IsBranch k d fr a b → branch k d fr a ≡ Found b
+  pub branch_finds : {k : Context} {d : ℕ} {fr : Frame} {a : s.SArm} {b : Branch} → IsBranch k d fr a b → branch true k d fr a ≡ Found b
   branch_finds (branch_of h g) = rw (expected_finds h, blocking_finds g) refl
 
-  pub otherwise_finds : {k : Context} {d : ℕ} {fr : Frame} {o : s.SElse} {ss : c.Stmts} → Otherwise k d fr o ss → otherwise k d fr o ≡ Found ss
+  pub otherwise_finds : {k : Context} {d : ℕ} {fr : Frame} {o : s.SElse} {ss : c.Stmts} → Otherwise k d fr o ss → otherwise true k d fr o ≡ Found ss
   otherwise_finds no_block = refl
   otherwise_finds (else_of h) = blocking_finds h
 

@@ -1,5 +1,5 @@
 -- Statements with blocks, by what their parts are.
-use Rattle.std.proofs.Common.{◌≡◌, ◌∙◌, ap, sym, refl, ℕ, ◌+◌, ◌≤◌, ◌++◌, leb, true, List, [], ◌∷◌, Result, Ok, Err, OnOk, length, append_assoc, rules, arith}
+use Rattle.std.proofs.Common.{◌≡◌, ◌∙◌, ap, sym, refl, ℕ, ◌+◌, ◌≤◌, ◌++◌, leb, Bool, true, List, [], ◌∷◌, Result, Ok, Err, OnOk, length, append_assoc, rules, arith}
 use Rattle.std.proofs.lemmas.Bool.Decides.{nat_tests}
 use Rattle.vb_base.specs.declared.places.Pos.{Pos}
 use Rattle.vb_value.specs.declared.values.Ty.{Ty}
@@ -17,7 +17,7 @@ use Rattle.viper_types.specs.Frame.{Frame, declared_in_arms, with_hidden}
 use Rattle.viper_types.specs.Outcome.{Judged, Found, Broken, then_typed, known, obeys}
 use Rattle.viper_types.specs.Typing.{expected}
 use Rattle.viper_types.specs.Target.{targets}
-use Rattle.viper_types.specs.Stepping.{Branch, nested, arm_count, opening_of, as_block, asserting_all, stepping, blocking, stepping_all, branches, otherwise}
+use Rattle.viper_types.specs.Stepping.{Branch, listed, nested, arm_count, opening_of, as_block, asserting_all, stepping, blocking, stepping_all, branches, otherwise}
 use Rattle.viper_types.proofs.Steps.{failed, found_same}
 
 pub on_ok : {X E P : Type 0} (r : Result X E) → P → OnOk r P
@@ -37,17 +37,17 @@ arm_count-length (a ∷ rest) = omega (arith, arm_count-length rest)
 pub hidden_twice : (fr : Frame) (us vs : List Ty) → with_hidden (with_hidden fr us) vs ≡ with_hidden fr (us ++ vs)
 hidden_twice fr us vs = ap (λ ws. record { vars = ws; scope = fr.scope }) (append_assoc fr.vars us vs)
 
-pub if_arms_refused : (k : Context) (d : ℕ) (fr : Frame) (arms : s.SArms) (other : s.SElse) (f : TypeFault) → Refuses (branches k (d + 1) fr arms) f → Refuses (stepping k d fr (s.If arms other)) f
-if_arms_refused k d fr arms other f h = failed f (branches k (d + 1) fr arms) _ h
+pub if_arms_refused : (lists : Bool) (k : Context) (d : ℕ) (fr : Frame) (arms : s.SArms) (other : s.SElse) (f : TypeFault) → Refuses (branches lists k (d + 1) fr arms) f → Refuses (stepping lists k d fr (s.If arms other)) f
+if_arms_refused lists k d fr arms other f h = failed f (branches lists k (d + 1) fr arms) _ h
 
 -- once the arms are typed
-pub if_arms : (k : Context) (d : ℕ) (fr : Frame) (arms : s.SArms) (other : s.SElse) (bs : List Branch) (n : ℕ) (gr : Frame) → branches k (d + 1) fr arms ≡ Found bs →
+pub if_arms : (lists : Bool) (k : Context) (d : ℕ) (fr : Frame) (arms : s.SArms) (other : s.SElse) (bs : List Branch) (n : ℕ) (gr : Frame) → branches lists k (d + 1) fr arms ≡ Found bs →
     n ≡ arm_count arms → gr ≡ with_hidden fr (declared_in_arms arms) →
-    stepping k d fr (s.If arms other) ≡ then_typed (otherwise k (d + n) gr other) (λ ss. known (nested bs ss) nowhere 3 Found)
-if_arms k d fr arms other bs n gr h is after =
-    ap (λ j. then_typed j (λ cs. then_typed (otherwise k (d + arm_count arms) (with_hidden fr (declared_in_arms arms)) other) (λ ss. known (nested cs ss) nowhere 3 Found))) h ∙
-    ap (λ m. then_typed (otherwise k (d + m) (with_hidden fr (declared_in_arms arms)) other) (λ ss. known (nested bs ss) nowhere 3 Found)) (sym is) ∙
-    ap (λ hr. then_typed (otherwise k (d + n) hr other) (λ ss. known (nested bs ss) nowhere 3 Found)) (sym after)
+    stepping lists k d fr (s.If arms other) ≡ then_typed (otherwise lists k (d + n) gr other) (λ ss. known (nested bs ss) nowhere 3 Found)
+if_arms lists k d fr arms other bs n gr h is after =
+    ap (λ j. then_typed j (λ cs. then_typed (otherwise lists k (d + arm_count arms) (with_hidden fr (declared_in_arms arms)) other) (λ ss. known (nested cs ss) nowhere 3 Found))) h ∙
+    ap (λ m. then_typed (otherwise lists k (d + m) (with_hidden fr (declared_in_arms arms)) other) (λ ss. known (nested bs ss) nowhere 3 Found)) (sym is) ∙
+    ap (λ hr. then_typed (otherwise lists k (d + n) hr other) (λ ss. known (nested bs ss) nowhere 3 Found)) (sym after)
 
 -- ---- a loop
 
@@ -58,16 +58,16 @@ pair_found (Found x) (Found y) p go h = ap (λ q. go q.0 q.1) (found_same h)
 pair_found (Found x) (Broken at r) p go h = absurd (cc)
 pair_found (Broken at r) js p go h = absurd (cc)
 
-pub loop_typed : (k : Context) (d : ℕ) (fr : Frame) (at : Pos) (a : t.Term) (is : List t.Term) (b : s.SBlock) (p : e.Expr × List e.Assertion) →
+pub loop_typed : (lists : Bool) (k : Context) (d : ℕ) (fr : Frame) (at : Pos) (a : t.Term) (is : List t.Term) (b : s.SBlock) (p : e.Expr × List e.Assertion) →
     then_typed (expected k fr.scope ty.Bool a) (λ x. then_typed (asserting_all k fr.scope is) (λ xs. Found (x, xs))) ≡ Found p →
-    stepping k d fr (s.While at a is b) ≡ then_typed (blocking k (d + 1) fr b) (λ ss. Found (c.While (c.loop at p.0 p.1 ss (opening_of b) (targets (length fr.vars) ss))))
-loop_typed k d fr at a is b p h =
+    stepping lists k d fr (s.While at a is b) ≡ then_typed (blocking lists k (d + 1) fr b) (λ ss. Found (c.While (c.loop at p.0 p.1 ss (opening_of b) (listed lists (targets (length fr.vars) ss)))))
+loop_typed lists k d fr at a is b p h =
     pair_found (expected k fr.scope ty.Bool a) (asserting_all k fr.scope is) p
-    (λ x xs. then_typed (blocking k (d + 1) fr b) (λ ss. Found (c.While (c.loop at x xs ss (opening_of b) (targets (length fr.vars) ss))))) h
+    (λ x xs. then_typed (blocking lists k (d + 1) fr b) (λ ss. Found (c.While (c.loop at x xs ss (opening_of b) (listed lists (targets (length fr.vars) ss)))))) h
 
 -- ---- a block
 
-pub block_typed : (k : Context) (d : ℕ) (fr : Frame) (at : Pos) (ss : s.SStmts) (xs : List c.Stmt) → d ≤ 128 → stepping_all k d fr ss ≡ Found xs → blocking k d fr (s.block at ss) ≡ Found (c.stmts xs)
-block_typed k d fr at ss xs le h =
+pub block_typed : (lists : Bool) (k : Context) (d : ℕ) (fr : Frame) (at : Pos) (ss : s.SStmts) (xs : List c.Stmt) → d ≤ 128 → stepping_all lists k d fr ss ≡ Found xs → blocking lists k d fr (s.block at ss) ≡ Found (c.stmts xs)
+block_typed lists k d fr at ss xs le h =
     let shallow : leb d 128 ≡ true = search (rules, nat_tests) in
-    ap (λ b. obeys b at 15 (then_typed (stepping_all k d fr ss) as_block)) shallow ∙ ap (λ j. then_typed j as_block) h
+    ap (λ b. obeys b at 15 (then_typed (stepping_all lists k d fr ss) as_block)) shallow ∙ ap (λ j. then_typed j as_block) h

@@ -121,11 +121,11 @@ new_fields_told w before (f ∷ fs) d =
 all_fields : {w : World} {fs : List Named} {ns : List ℕ} → FieldsAfter w [] fs ns → AreFields w fs ns
 all_fields {w} {fs} h = subst (λ ms. AreFields w fs ms) (sym h.are) h.fields
 
-chosen_fields_told : (w : World) (new : s.SNew) → Tells (ChoosesFields w new) (j.chosen_fields w new)
+chosen_fields_told : (w : World) (new : s.SNew) → Tells (ChoosesFields w new) (j.chosen_fields true w new)
 chosen_fields_told w new =
     tell_if new.every (λ i. tells (every i)) (λ i. tell_so (new_fields_told w [] new.fields differ_none) (λ ns h. named i (all_fields h) h.differ))
 
-creating_told : (w : World) (sc : Scope) (at : Pos) (n : ℕ) (new : s.SNew) → Tells (IsNew w sc at n new) (j.creating w sc at n new)
+creating_told : (w : World) (sc : Scope) (at : Pos) (n : ℕ) (new : s.SNew) → Tells (IsNew w sc at n new) (j.creating true w sc at n new)
 creating_told w sc at n new = tell_then (chosen_fields_told w new) (λ fs h. tells (new_of h))
 
 -- assignments
@@ -143,14 +143,14 @@ target_place_told : (k : Context) → HasBodies k → (sc : Scope) (x : Named) (
 target_place_told k b sc x fs = tell_then (typing_told k b sc (t.Name x.name x.pos)) (λ y h. dotted_told k sc (t.Name x.name x.pos) y fs h)
 
 declaring_told : (k : Context) → HasBodies k → (fr : Frame) (at : Pos) (v : Target) (rhs : Option s.SRhs) →
-    Tells (Declares k fr.scope at v rhs) (j.declaring k fr at v rhs)
+    Tells (Declares k fr.scope at v rhs) (j.declaring true k fr at v rhs)
 declaring_told k b fr at v None = tells any_value
 declaring_told k b fr at v (Some (s.TermRhs a)) = tell_then (expected_told k b fr.scope v.ty a) (λ x h. tells (Stepped.Declares.value h))
 declaring_told k b fr at v (Some (s.CallRhs call)) = tell_so (calling_told k b fr.scope at (v ∷ []) call) (λ x h. Stepped.Declares.returned h)
 declaring_told k b fr at v (Some (s.NewRhs new)) =
     tell_obeys (same_type v.ty ty.Ref) v.at 3 (λ i. tell_so (creating_told k.world fr.scope at v.number new) (λ x h. Stepped.Declares.created (same_types v.ty ty.Ref i) h))
 
-setting_told : (k : Context) → HasBodies k → (sc : Scope) (xs : List Named) (rhs : s.SRhs) → Tells (Sets k sc xs rhs) (j.setting k sc xs rhs)
+setting_told : (k : Context) → HasBodies k → (sc : Scope) (xs : List Named) (rhs : s.SRhs) → Tells (Sets k sc xs rhs) (j.setting true k sc xs rhs)
 setting_told k b sc [] rhs = broken
 setting_told k b sc (x ∷ []) (s.TermRhs a) =
     tell_then (target_told sc x) (λ v h. tell_then (expected_told k b sc v.ty a) (λ y g. tells (Stepped.Sets.variable h g)))
@@ -184,7 +184,7 @@ asserting_all_told k b sc (a ∷ rest) =
     tell_then (asserting_told k b sc a) (λ x h. tell_then (asserting_all_told k b sc rest) (λ xs g. tells (one_assertion h g)))
 
 mutual
-  pub stepping_told : (k : Context) → HasBodies k → (d : ℕ) (fr : Frame) (a : s.SStmt) → Tells (Stepped.Stepped k d fr a) (stepping k d fr a)
+  pub stepping_told : (k : Context) → HasBodies k → (d : ℕ) (fr : Frame) (a : s.SStmt) → Tells (Stepped.Stepped k d fr a) (stepping true k d fr a)
   stepping_told k b d fr (s.Var at f rhs) = tell_then (fresh_told fr f) (λ v h. tell_so (declaring_told k b fr at v rhs) (λ x g. var h g))
   stepping_told k b d fr (s.Assign xs rhs) = tell_so (setting_told k b fr.scope xs rhs) (λ x h. assign h)
   stepping_told k b d fr (s.CallTo xs a) =
@@ -200,24 +200,24 @@ mutual
       tell_then (expected_told k b fr.scope ty.Bool a) (λ x h. tell_then (asserting_all_told k b fr.scope is) (λ xs g. tell_then (blocking_told k b (d + 1) fr body) (λ ss i.
       tells (while h g i))))
 
-  pub blocking_told : (k : Context) → HasBodies k → (d : ℕ) (fr : Frame) (a : s.SBlock) → Tells (Blocked k d fr a) (blocking k d fr a)
+  pub blocking_told : (k : Context) → HasBodies k → (d : ℕ) (fr : Frame) (a : s.SBlock) → Tells (Blocked k d fr a) (blocking true k d fr a)
   blocking_told k b d fr (s.block at ss) =
       tell_obeys (nat_le d 128) at 15 (λ i. tell_then (stepping_all_told k b d fr ss) (λ xs h. tells (block i h)))
 
-  pub stepping_all_told : (k : Context) → HasBodies k → (d : ℕ) (fr : Frame) (ss : s.SStmts) → Tells (SteppedAll k d fr ss) (stepping_all k d fr ss)
+  pub stepping_all_told : (k : Context) → HasBodies k → (d : ℕ) (fr : Frame) (ss : s.SStmts) → Tells (SteppedAll k d fr ss) (stepping_all true k d fr ss)
   stepping_all_told k b d fr s.no_stmts = tells no_steps
   stepping_all_told k b d fr (s.more_stmts a rest) =
       tell_then (stepping_told k b d fr a) (λ x h. tell_then (stepping_all_told k b d (frame_after fr a) rest) (λ xs g. tells (one_step h g)))
 
-  pub branches_told : (k : Context) → HasBodies k → (d : ℕ) (fr : Frame) (arms : s.SArms) → Tells (Branches k d fr arms) (branches k d fr arms)
+  pub branches_told : (k : Context) → HasBodies k → (d : ℕ) (fr : Frame) (arms : s.SArms) → Tells (Branches k d fr arms) (branches true k d fr arms)
   branches_told k b d fr s.no_arms = tells no_branches
   branches_told k b d fr (s.more_arms a rest) =
       tell_then (branch_told k b d fr a) (λ x h. tell_then (branches_told k b (d + 1) (with_hidden fr (declared_in_arm a)) rest) (λ xs g. tells (one_branch h g)))
 
-  pub branch_told : (k : Context) → HasBodies k → (d : ℕ) (fr : Frame) (a : s.SArm) → Tells (IsBranch k d fr a) (branch k d fr a)
+  pub branch_told : (k : Context) → HasBodies k → (d : ℕ) (fr : Frame) (a : s.SArm) → Tells (IsBranch k d fr a) (branch true k d fr a)
   branch_told k b d fr (s.arm at a body) =
       tell_then (expected_told k b fr.scope ty.Bool a) (λ x h. tell_then (blocking_told k b d fr body) (λ ss g. tells (branch_of h g)))
 
-  pub otherwise_told : (k : Context) → HasBodies k → (d : ℕ) (fr : Frame) (o : s.SElse) → Tells (Otherwise k d fr o) (otherwise k d fr o)
+  pub otherwise_told : (k : Context) → HasBodies k → (d : ℕ) (fr : Frame) (o : s.SElse) → Tells (Otherwise k d fr o) (otherwise true k d fr o)
   otherwise_told k b d fr s.no_else = tells no_block
   otherwise_told k b d fr (s.else_block body) = tell_so (blocking_told k b d fr body) (λ ss h. else_of h)

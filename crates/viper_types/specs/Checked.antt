@@ -8,7 +8,7 @@ use Rattle.viper_core.specs.declared.programs.Program.{Program}
 use Rattle.viper_syntax.specs.Decl.{SourceProgram}
 use Rattle.viper_types.specs.declared.faults.TypeFault.{TypeFault}
 use Rattle.viper_types.specs.declared.faults.TypeFault.TheVariants.{Memory, Rule, Weight}
-use Rattle.viper_types.specs.Outcome.{Broken}
+use Rattle.viper_types.specs.Outcome.{Judged, Found, Broken}
 use Rattle.viper_types.specs.Declaring.{program_typing}
 use Rattle.viper_types.specs.Program.{IsProgram}
 
@@ -31,3 +31,9 @@ abbrev pub IsRefused : SourceProgram → TypeFault → Type 0
 IsRefused source Memory = Unit {0}
 IsRefused source (Rule at n) = program_typing source ≡ Broken at n
 IsRefused source (Weight w) = (w ≡ 100001) × ((q : p.Program) × IsProgram source q × (100000 < weight q))
+
+-- how a lean walk is answered where what is copied is too much: by the broken rule, or where it finds something by the weight
+abbrev pub Overweighs : {X : Type 0} → Judged X → TypeFault → Type 0
+Overweighs j Memory = Unit {0}
+Overweighs j (Rule at n) = j ≡ Broken at n
+Overweighs {X} j (Weight w) = (w ≡ 100001) × ((x : X) × (j ≡ Found x))

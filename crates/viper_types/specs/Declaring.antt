@@ -116,18 +116,18 @@ conditions before [] = []
 conditions true (a ∷ rest) = if a.0 then a.1 ∷ conditions true rest else conditions true rest
 conditions false (a ∷ rest) = if a.0 then conditions false rest else a.1 ∷ conditions false rest
 
-abbrev pub method_body : Context → Frame → Option s.SBlock → Judged (Option p.Body)
-method_body k fr None = Found None
-method_body k fr (Some b) = then_typed (blocking k 1 fr b) (λ ss. Found (Some (record { turn = opening_of b; stmts = ss })))
+abbrev pub method_body : Bool → Context → Frame → Option s.SBlock → Judged (Option p.Body)
+method_body lists k fr None = Found None
+method_body lists k fr (Some b) = then_typed (blocking lists k 1 fr b) (λ ss. Found (Some (record { turn = opening_of b; stmts = ss })))
 
 abbrev pub locals : Option s.SBlock → List Ty
 locals None = []
 locals (Some b) = declared_in_block b
 
-abbrev pub method_typing : World → List (Option e.Assertion) → d.SMethod → Judged p.Method
-method_typing w bodies m =
+abbrev pub method_typing : Bool → World → List (Option e.Assertion) → d.SMethod → Judged p.Method
+method_typing lists w bodies m =
     then_typed (formals true true no_frame m.params) (λ ps. then_typed (formals true false ps m.returns) (λ fr.
-    then_typed (clauses w bodies ps.scope fr.scope m.clauses) (λ cs. then_typed (method_body (context_in w bodies part.Elsewhere) fr m.body) (λ b.
+    then_typed (clauses w bodies ps.scope fr.scope m.clauses) (λ cs. then_typed (method_body lists (context_in w bodies part.Elsewhere) fr m.body) (λ b.
     Found (record {
       name = m.name.name;
       at = m.at;
@@ -152,14 +152,14 @@ pub data Declared : Type 0 where
 abbrev pub field_typing : Formal → Judged Declared
 field_typing f = obeys (is_some (type_of f.ty)) f.name.pos 3 (Found (FieldOf f.name.name (declared_type f)))
 
-abbrev pub decl_typing : World → List (Option e.Assertion) → d.Decl → Judged Declared
-decl_typing w bodies (d.Field f) = field_typing f
-decl_typing w bodies (d.Predicate at x params body) = then_typed (predicate_typing w at x params body) (λ q. Found (PredicateOf q))
-decl_typing w bodies (d.Method m) = then_typed (method_typing w bodies m) (λ q. Found (MethodOf q))
+abbrev pub decl_typing : Bool → World → List (Option e.Assertion) → d.Decl → Judged Declared
+decl_typing lists w bodies (d.Field f) = field_typing f
+decl_typing lists w bodies (d.Predicate at x params body) = then_typed (predicate_typing w at x params body) (λ q. Found (PredicateOf q))
+decl_typing lists w bodies (d.Method m) = then_typed (method_typing lists w bodies m) (λ q. Found (MethodOf q))
 
-abbrev pub decls_typing : World → List (Option e.Assertion) → List d.Decl → Judged (List Declared)
-decls_typing w bodies [] = Found []
-decls_typing w bodies (a ∷ rest) = then_more (decl_typing w bodies a) (decls_typing w bodies rest)
+abbrev pub decls_typing : Bool → World → List (Option e.Assertion) → List d.Decl → Judged (List Declared)
+decls_typing lists w bodies [] = Found []
+decls_typing lists w bodies (a ∷ rest) = then_more (decl_typing lists w bodies a) (decls_typing lists w bodies rest)
 
 -- the body of a predicate, and none where it breaks a rule
 abbrev pub found_body : Judged p.Predicate → Option e.Assertion
@@ -198,5 +198,5 @@ assembled g (x ∷ xs) = assembled (with_declared g x) xs
 -- a file is this program, or breaks this rule first
 abbrev pub program_typing : d.SourceProgram → Judged p.Program
 program_typing source =
-    then_typed (naming no_world source.decls) (λ w. then_typed (decls_typing w (bodies_of w source.decls) source.decls) (λ xs.
+    then_typed (naming no_world source.decls) (λ w. then_typed (decls_typing true w (bodies_of w source.decls) source.decls) (λ xs.
     Found (assembled no_program xs)))

@@ -8,6 +8,7 @@ pub mod Frame
 pub mod Target
 pub mod Stepping
 pub mod Stepped
+pub mod Copied
 pub mod Declaring
 pub mod Program
 pub mod Checked

@@ -2,6 +2,7 @@
 -- the method's name (rule 1), the arguments, their number (9), the number of targets (10), the types of the targets and then
 -- those of the arguments (3). In a `new` the target comes first, then the fields in order. A `var` tries the rules 2 and 3 on
 -- its name, before what it is given. Which statement it is, without any order, is said by the judgement in `Stepped`.
+-- `lists` says whether the lists of `new` and of loops are made. A lean walk makes none: it tells the same broken rule.
 use Rattle.std.specs.Prelude.{ℕ, ◌+◌, ◌==◌, Bool, true, false, not, nat_le, Option, Some, None, List, [], ◌∷◌, ◌++◌, length, is_some, if◌then◌else◌}
 use Rattle.std.specs.List.{range_with_len}
 use Rattle.vb_base.specs.declared.places.Pos.{Pos}
@@ -93,12 +94,17 @@ abbrev pub ref_variables : Scope → List ℕ
 ref_variables [] = []
 ref_variables (x ∷ xs) = if same_type x.1.ty ty.Ref then x.1.number ∷ ref_variables xs else ref_variables xs
 
--- the listed fields, or all of them
-abbrev pub chosen_fields : World → s.SNew → Judged (List ℕ)
-chosen_fields w new = if new.every then Found (range_with_len 0 (length w.fields)) else new_fields w [] new.fields
+-- a list, which a lean walk leaves empty
+abbrev pub listed : Bool → List ℕ → List ℕ
+listed true ns = ns
+listed false ns = []
 
-abbrev pub creating : World → Scope → Pos → ℕ → s.SNew → Judged c.Stmt
-creating w sc at n new = then_typed (chosen_fields w new) (λ fs. Found (c.New at n fs (ref_variables sc)))
+-- the listed fields, or all of them
+abbrev pub chosen_fields : Bool → World → s.SNew → Judged (List ℕ)
+chosen_fields lists w new = if new.every then Found (listed lists (range_with_len 0 (length w.fields))) else new_fields w [] new.fields
+
+abbrev pub creating : Bool → World → Scope → Pos → ℕ → s.SNew → Judged c.Stmt
+creating lists w sc at n new = then_typed (chosen_fields lists w new) (λ fs. Found (c.New at n fs (listed lists (ref_variables sc))))
 
 -- the place `x.f.g` of a typed `x`
 abbrev pub dotted : World → Typing → List Named → Judged Located
@@ -115,17 +121,17 @@ last_place x [] = x.pos
 last_place x (f ∷ fs) = last_place f fs
 
 -- `var x: T := ..`
-abbrev pub declaring : Context → Frame → Pos → Target → Option s.SRhs → Judged c.Stmt
-declaring k fr at v None = Found (c.Var at v.number None)
-declaring k fr at v (Some (s.TermRhs a)) = then_typed (expected k fr.scope v.ty a) (λ x. Found (c.Var at v.number (Some x)))
-declaring k fr at v (Some (s.CallRhs call)) = calling k fr.scope at (v ∷ []) call
-declaring k fr at v (Some (s.NewRhs new)) = obeys (same_type v.ty ty.Ref) v.at 3 (creating k.world fr.scope at v.number new)
+abbrev pub declaring : Bool → Context → Frame → Pos → Target → Option s.SRhs → Judged c.Stmt
+declaring lists k fr at v None = Found (c.Var at v.number None)
+declaring lists k fr at v (Some (s.TermRhs a)) = then_typed (expected k fr.scope v.ty a) (λ x. Found (c.Var at v.number (Some x)))
+declaring lists k fr at v (Some (s.CallRhs call)) = calling k fr.scope at (v ∷ []) call
+declaring lists k fr at v (Some (s.NewRhs new)) = obeys (same_type v.ty ty.Ref) v.at 3 (creating lists k.world fr.scope at v.number new)
 
 -- `x := ..`
-abbrev pub assigning : Context → Scope → Named → s.SRhs → Judged c.Stmt
-assigning k sc x (s.TermRhs a) = then_typed (target sc x) (λ v. then_typed (expected k sc v.ty a) (λ y. Found (c.Assign x.pos v.number y)))
-assigning k sc x (s.CallRhs call) = then_typed (target sc x) (λ v. calling k sc x.pos (v ∷ []) call)
-assigning k sc x (s.NewRhs new) = then_typed (ref_target sc x) (λ v. creating k.world sc x.pos v.number new)
+abbrev pub assigning : Bool → Context → Scope → Named → s.SRhs → Judged c.Stmt
+assigning lists k sc x (s.TermRhs a) = then_typed (target sc x) (λ v. then_typed (expected k sc v.ty a) (λ y. Found (c.Assign x.pos v.number y)))
+assigning lists k sc x (s.CallRhs call) = then_typed (target sc x) (λ v. calling k sc x.pos (v ∷ []) call)
+assigning lists k sc x (s.NewRhs new) = then_typed (ref_target sc x) (λ v. creating lists k.world sc x.pos v.number new)
 
 -- `x.f := ..`
 abbrev pub writing : Context → Scope → Named → List Named → s.SRhs → Judged c.Stmt
@@ -133,10 +139,10 @@ writing k sc x fs (s.TermRhs a) = then_typed (target_place k sc x fs) (λ l. the
 writing k sc x fs (s.CallRhs call) = then_typed (target_place k sc x fs) (λ l. calling_into_field k sc call)
 writing k sc x fs (s.NewRhs new) = then_typed (target_place k sc x fs) (λ l. Broken new.at 10)
 
-abbrev pub setting : Context → Scope → List Named → s.SRhs → Judged c.Stmt
-setting k sc [] rhs = Broken nowhere 3
-setting k sc (x ∷ []) rhs = assigning k sc x rhs
-setting k sc (x ∷ f ∷ fs) rhs = writing k sc x (f ∷ fs) rhs
+abbrev pub setting : Bool → Context → Scope → List Named → s.SRhs → Judged c.Stmt
+setting lists k sc [] rhs = Broken nowhere 3
+setting lists k sc (x ∷ []) rhs = assigning lists k sc x rhs
+setting lists k sc (x ∷ f ∷ fs) rhs = writing k sc x (f ∷ fs) rhs
 
 -- the place of the first of some names
 abbrev pub first_place : List Named → Pos
@@ -192,39 +198,39 @@ opening_of (s.block at ss) = at
 
 abbrev mutual
   -- a statement in a block of this depth
-  pub stepping : Context → ℕ → Frame → s.SStmt → Judged c.Stmt
-  stepping k d fr (s.Var at f rhs) = then_typed (fresh fr f) (λ v. declaring k fr at v rhs)
-  stepping k d fr (s.Assign xs rhs) = setting k fr.scope xs rhs
-  stepping k d fr (s.CallTo xs call) = then_typed (call_targets fr.scope [] xs) (λ vs. calling k fr.scope (first_place xs) vs call)
-  stepping k d fr (s.Call call) = calling k fr.scope call.name.pos [] call
-  stepping k d fr (s.Check w at a) = checking k fr.scope w at a
-  stepping k d fr (s.Fold f) = then_typed (folding k fr.scope f) (λ x. Found (c.Fold x))
-  stepping k d fr (s.Unfold f) = then_typed (folding k fr.scope f) (λ x. Found (c.Unfold x))
-  stepping k d fr (s.If arms other) =
-      then_typed (branches k (d + 1) fr arms) (λ bs. then_typed (otherwise k (d + arm_count arms) (with_hidden fr (declared_in_arms arms)) other) (λ ss.
+  pub stepping : Bool → Context → ℕ → Frame → s.SStmt → Judged c.Stmt
+  stepping lists k d fr (s.Var at f rhs) = then_typed (fresh fr f) (λ v. declaring lists k fr at v rhs)
+  stepping lists k d fr (s.Assign xs rhs) = setting lists k fr.scope xs rhs
+  stepping lists k d fr (s.CallTo xs call) = then_typed (call_targets fr.scope [] xs) (λ vs. calling k fr.scope (first_place xs) vs call)
+  stepping lists k d fr (s.Call call) = calling k fr.scope call.name.pos [] call
+  stepping lists k d fr (s.Check w at a) = checking k fr.scope w at a
+  stepping lists k d fr (s.Fold f) = then_typed (folding k fr.scope f) (λ x. Found (c.Fold x))
+  stepping lists k d fr (s.Unfold f) = then_typed (folding k fr.scope f) (λ x. Found (c.Unfold x))
+  stepping lists k d fr (s.If arms other) =
+      then_typed (branches lists k (d + 1) fr arms) (λ bs. then_typed (otherwise lists k (d + arm_count arms) (with_hidden fr (declared_in_arms arms)) other) (λ ss.
       known (nested bs ss) nowhere 3 Found))
-  stepping k d fr (s.While at a is b) =
-      then_typed (expected k fr.scope ty.Bool a) (λ x. then_typed (asserting_all k fr.scope is) (λ xs. then_typed (blocking k (d + 1) fr b) (λ ss.
-      Found (c.While (c.loop at x xs ss (opening_of b) (targets (length fr.vars) ss))))))
+  stepping lists k d fr (s.While at a is b) =
+      then_typed (expected k fr.scope ty.Bool a) (λ x. then_typed (asserting_all k fr.scope is) (λ xs. then_typed (blocking lists k (d + 1) fr b) (λ ss.
+      Found (c.While (c.loop at x xs ss (opening_of b) (listed lists (targets (length fr.vars) ss)))))))
 
   -- a block of this depth, which is at most 128 (15)
-  pub blocking : Context → ℕ → Frame → s.SBlock → Judged c.Stmts
-  blocking k d fr (s.block at ss) = obeys (nat_le d 128) at 15 (then_typed (stepping_all k d fr ss) as_block)
+  pub blocking : Bool → Context → ℕ → Frame → s.SBlock → Judged c.Stmts
+  blocking lists k d fr (s.block at ss) = obeys (nat_le d 128) at 15 (then_typed (stepping_all lists k d fr ss) as_block)
 
   -- the statements of a block of this depth
-  pub stepping_all : Context → ℕ → Frame → s.SStmts → Judged (List c.Stmt)
-  stepping_all k d fr s.no_stmts = Found []
-  stepping_all k d fr (s.more_stmts a rest) = then_more (stepping k d fr a) (stepping_all k d (frame_after fr a) rest)
+  pub stepping_all : Bool → Context → ℕ → Frame → s.SStmts → Judged (List c.Stmt)
+  stepping_all lists k d fr s.no_stmts = Found []
+  stepping_all lists k d fr (s.more_stmts a rest) = then_more (stepping lists k d fr a) (stepping_all lists k d (frame_after fr a) rest)
 
   -- the arms of an `if`, the block of the first having this depth and each further one being deeper by one
-  pub branches : Context → ℕ → Frame → s.SArms → Judged (List Branch)
-  branches k d fr s.no_arms = Found []
-  branches k d fr (s.more_arms a rest) = then_more (branch k d fr a) (branches k (d + 1) (with_hidden fr (declared_in_arm a)) rest)
+  pub branches : Bool → Context → ℕ → Frame → s.SArms → Judged (List Branch)
+  branches lists k d fr s.no_arms = Found []
+  branches lists k d fr (s.more_arms a rest) = then_more (branch lists k d fr a) (branches lists k (d + 1) (with_hidden fr (declared_in_arm a)) rest)
 
-  pub branch : Context → ℕ → Frame → s.SArm → Judged Branch
-  branch k d fr (s.arm at a b) = then_typed (expected k fr.scope ty.Bool a) (λ x. then_typed (blocking k d fr b) (λ ss. Found (record { at = at; condition = x; body = ss })))
+  pub branch : Bool → Context → ℕ → Frame → s.SArm → Judged Branch
+  branch lists k d fr (s.arm at a b) = then_typed (expected k fr.scope ty.Bool a) (λ x. then_typed (blocking lists k d fr b) (λ ss. Found (record { at = at; condition = x; body = ss })))
 
   -- the `else` of an `if`, or no statements
-  pub otherwise : Context → ℕ → Frame → s.SElse → Judged c.Stmts
-  otherwise k d fr s.no_else = Found c.skip
-  otherwise k d fr (s.else_block b) = blocking k d fr b
+  pub otherwise : Bool → Context → ℕ → Frame → s.SElse → Judged c.Stmts
+  otherwise lists k d fr s.no_else = Found c.skip
+  otherwise lists k d fr (s.else_block b) = blocking lists k d fr b

@@ -6,9 +6,10 @@ ghost use Rattle.viper_types.specs.Answers.{Answers, lent_amount_of, context_of}
 ghost use Rattle.viper_types.specs.Stepping.{asserting_all};
 ghost use Rattle.viper_types.specs.Typing as j;
 
-use crate::context::{Context, Scope};
+use crate::context::Context;
 use crate::expressions::{allows_permission_forms, arguments, expected, place, start, write};
 use crate::faults::TypeFault;
+use crate::scope::Scope;
 use std::alloc::Global;
 use vb_base::{Ident, Pos, boxed, kept};
 use vb_value::Ty;

@@ -4,10 +4,11 @@ ghost use Rattle.viper_types.specs.Answers.{Answers, target_of, targets_of};
 ghost use Rattle.viper_types.specs.Outcome.{Found, obeys};
 ghost use Rattle.viper_types.specs.Stepping as s;
 
-use crate::context::{Scope, Variable};
+use crate::context::Variable;
 use crate::faults::TypeFault;
 use crate::frames::Target;
 use crate::listed::list_new;
+use crate::scope::Scope;
 use indexmap::IndexSet;
 use std::alloc::Global;
 use vb_base::{Memory, Pos};

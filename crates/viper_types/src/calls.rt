@@ -8,10 +8,11 @@ ghost use Rattle.viper_types.specs.Stepping as s;
 ghost use Rattle.viper_types.specs.Typing as j;
 
 use crate::assigned::{mistarget, numbers_in};
-use crate::context::{Context, MethodTypes, Scope};
+use crate::context::{Context, MethodTypes};
 use crate::expressions::{arguments, as_many, exprs_in, misfit, typings};
 use crate::faults::TypeFault;
 use crate::frames::Target;
+use crate::scope::Scope;
 use std::alloc::Global;
 use vb_base::Pos;
 use vb_value::Ty;

@@ -36,9 +36,6 @@ pub struct Variable {
     pub is_parameter: bool,
 }
 
-/// The variables that a term sees.
-pub type Scope = Names<Variable>;
-
 /// A predicate's parameters, and whether it has a body.
 #[derive(Drop)]
 pub struct PredicateSignature {
@@ -70,12 +67,14 @@ pub struct FieldPlace {
     pub ty: Ty,
 }
 
-/// What stays the same in a part of a unit: the declarations, the typed bodies of the predicates, and the part.
+/// What stays the same in a part of a unit: the declarations, the typed bodies of the predicates, the part, and whether the
+/// lists of `new` and of loops are made.
 #[derive(Clone, Copy)]
 pub struct Context<'a> {
     pub world: &'a World,
     pub bodies: &'a [Option<Assertion>],
     pub part: Part,
+    pub lists: bool,
 }
 
 impl World {

@@ -6,13 +6,13 @@ ghost use Rattle.viper_syntax.specs.View.{new_of};
 ghost use Rattle.viper_types.specs.Answers.{Answers, world_of, numbers_of};
 ghost use Rattle.viper_types.specs.Stepping as s;
 
-use crate::context::{Scope, World};
+use crate::context::{Context, World};
 use crate::faults::TypeFault;
 use crate::listed::list_new;
+use crate::scope::Scope;
 use indexmap::IndexSet;
 use std::alloc::Global;
 use vb_base::{Memory, Pos};
-use vb_value::Ty;
 use viper_core::Stmt;
 use viper_syntax::{Named, SNew};
 
@@ -42,34 +42,46 @@ fn all_fields(alloc: Global, world: &World) -> Result<Vec<u32>, Memory>
     Ok((0..count).collect(alloc)?)
 }
 
-/// The Ref variables in scope.
-fn ref_variables(alloc: Global, scope: &Scope) -> Result<Vec<u32>, Memory>
-    ensures { IfOk result (λ v. v.items ≡ s.ref_variables scope.now) }
+/// The fields of a `new`.
+fn chosen_fields(
+    alloc: Global,
+    lists: bool,
+    world: &World,
+    new: &SNew,
+) -> Result<Vec<u32>, TypeFault>
+    ensures { Answers numbers_of (s.chosen_fields lists (world_of world.now) (new_of new.now)) result }
 {
-    let mut numbers = Vec::new(alloc);
-    for variable in scope.values() {
-        if variable.ty == Ty::Ref {
-            numbers.push(variable.number)?;
-        }
+    if !new.every {
+        return new_fields(alloc, world, &new.fields);
     }
-    Ok(numbers)
+    if !lists {
+        return Ok(Vec::new(alloc));
+    }
+    Ok(all_fields(alloc, world)?)
+}
+
+/// The Ref variables in scope.
+fn ref_variables(alloc: Global, lists: bool, scope: &Scope) -> Result<Vec<u32>, Memory>
+    ensures { IfOk result (λ v. v.items ≡ s.listed lists (s.ref_variables scope.now)) }
+{
+    if !lists {
+        return Ok(Vec::new(alloc));
+    }
+    Ok(scope.ref_variables().to_vec(alloc)?)
 }
 
 /// The creation of an object, into the variable of this number.
 pub fn creating(
     alloc: Global,
-    world: &World,
+    context: &Context,
     scope: &Scope,
     at: Pos,
     target: u32,
     new: &SNew,
 ) -> Result<Stmt, TypeFault>
-    ensures { Answers stmt_of (s.creating (world_of world.now) scope.now at target (new_of new.now)) result }
+    ensures { Answers stmt_of (s.creating context.now.lists (world_of context.now.world.now) scope.now at target (new_of new.now)) result }
 {
-    let fields = if new.every {
-        all_fields(alloc, world)?
-    } else {
-        new_fields(alloc, world, &new.fields)?
-    };
-    Ok(Stmt::New(at, target, fields, ref_variables(alloc, scope)?))
+    let fields = chosen_fields(alloc, context.lists, context.world, new)?;
+    let refs = ref_variables(alloc, context.lists, scope)?;
+    Ok(Stmt::New(at, target, fields, refs))
 }

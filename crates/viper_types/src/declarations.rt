@@ -52,9 +52,10 @@ fn declaration(
     alloc: Global,
     world: &World,
     bodies: &[Option<Assertion>],
+    lists: bool,
     decl: &Decl,
 ) -> Result<Declared, TypeFault>
-    ensures { Answers declared_of (j.decl_typing (world_of world.now) (optional_bodies_of bodies.now) (decl_of decl.now)) result }
+    ensures { Answers declared_of (j.decl_typing lists (world_of world.now) (optional_bodies_of bodies.now) (decl_of decl.now)) result }
 {
     match decl {
         Decl::Field(formal) => field(alloc, formal),
@@ -62,7 +63,10 @@ fn declaration(
             let predicate = predicate(alloc, world, *at, name, params, body)?;
             Ok(Declared::Predicate(predicate))
         }
-        Decl::Method(source) => Ok(Declared::Method(method(alloc, world, bodies, source)?)),
+        Decl::Method(source) => {
+            let method = method(alloc, world, bodies, lists, source)?;
+            Ok(Declared::Method(method))
+        }
     }
 }
 
@@ -140,18 +144,19 @@ impl Parts {
     }
 }
 
-/// Declarations in order.
+/// Declarations in order. Without `lists` those of `new` and of loops are left empty.
 pub fn declarations(
     alloc: Global,
     world: &World,
     bodies: &[Option<Assertion>],
+    lists: bool,
     decls: &[Decl],
 ) -> Result<Parts, TypeFault>
-    ensures { Answers parts_of (then_typed (j.decls_typing (world_of world.now) (optional_bodies_of bodies.now) (map decl_of decls.now)) (λ xs. Found (j.assembled j.no_program xs))) result }
+    ensures { Answers parts_of (then_typed (j.decls_typing lists (world_of world.now) (optional_bodies_of bodies.now) (map decl_of decls.now)) (λ xs. Found (j.assembled j.no_program xs))) result }
 {
     let mut parts = Parts::new(alloc);
     for decl in decls {
-        let declared = declaration(alloc, world, bodies, decl)?;
+        let declared = declaration(alloc, world, bodies, lists, decl)?;
         parts.add(alloc, declared)?;
     }
     Ok(parts)

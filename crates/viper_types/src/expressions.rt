@@ -12,8 +12,9 @@ ghost use Rattle.viper_types.specs.Typing as j;
 ghost use Rattle.vb_value.specs.Fraction.{whole};
 ghost use Rattle.viper_syntax.specs.Term as t;
 
-use crate::context::{Context, FieldPlace, Part, PredicateSignature, Scope, World};
+use crate::context::{Context, FieldPlace, Part, PredicateSignature, World};
 use crate::faults::TypeFault;
+use crate::scope::Scope;
 use std::alloc::Global;
 use vb_base::{Ident, Pos};
 use vb_value::{Frac, Ty};

@@ -6,9 +6,9 @@ ghost use Rattle.viper_types.specs.Declaring.{no_frame};
 ghost use Rattle.viper_types.specs.Frame as f;
 ghost use Rattle.viper_types.specs.Stepping as s;
 
-use crate::context::{Scope, Variable};
+use crate::context::Variable;
 use crate::faults::TypeFault;
-use crate::names::Names;
+use crate::scope::Scope;
 use std::alloc::Global;
 use vb_base::{Ident, Memory, Pos};
 use vb_value::Ty;
@@ -58,7 +58,7 @@ impl Frame {
     {
         Frame {
             vars: Vec::new(alloc),
-            scope: Names::new(alloc),
+            scope: Scope::new(alloc),
         }
     }
 

@@ -7,11 +7,12 @@ ghost use Rattle.viper_types.specs.Answers.{Answers, clause_typing_of, clause_ty
 ghost use Rattle.viper_types.specs.Declaring as j;
 
 use crate::assertions::assertion;
-use crate::context::{Context, Part, Scope, World};
+use crate::context::{Context, Part, World};
 use crate::expressions::start;
 use crate::faults::TypeFault;
 use crate::formals::{add_names, formals};
 use crate::frames::Frame;
+use crate::scope::Scope;
 use crate::statements::blocking;
 use crate::world::next_number;
 use std::alloc::Global;
@@ -38,6 +39,7 @@ fn clause(
                 world,
                 bodies,
                 part,
+                lists: false,
             };
             Ok((true, assertion(alloc, &context, params, term)?))
         }
@@ -47,6 +49,7 @@ fn clause(
                 world,
                 bodies,
                 part,
+                lists: false,
             };
             Ok((false, assertion(alloc, &context, all, term)?))
         }
@@ -105,7 +108,7 @@ fn method_body(
     block: &Option<SBlock>,
 ) -> Result<Option<Body>, TypeFault>
     ensures after { OnOk result (frame.new.vars.items ≡ frame.old.vars.items ++ j.locals (option_map block_of block.now)) }
-    ensures answers { Answers (option_map core.body_of) (j.method_body (context_of context.now) (frame_of frame.old) (option_map block_of block.now)) result }
+    ensures answers { Answers (option_map core.body_of) (j.method_body context.now.lists (context_of context.now) (frame_of frame.old) (option_map block_of block.now)) result }
 {
     match block {
         Some(block) => {
@@ -152,9 +155,10 @@ pub fn method(
     alloc: Global,
     world: &World,
     bodies: &[Option<Assertion>],
+    lists: bool,
     method: &SMethod,
 ) -> Result<Method, TypeFault>
-    ensures { Answers core.method_of (j.method_typing (world_of world.now) (optional_bodies_of bodies.now) (method_of method.now)) result }
+    ensures { Answers core.method_of (j.method_typing lists (world_of world.now) (optional_bodies_of bodies.now) (method_of method.now)) result }
 {
     let heading = heading_of(alloc, method)?;
     let mut params = Frame::new(alloc);
@@ -178,6 +182,7 @@ pub fn method(
             world,
             bodies,
             part,
+            lists,
         },
         &mut frame,
         &method.body,

@@ -1,10 +1,8 @@
 // What names stand for.
-ghost use Rattle.std.specs.Prelude.{◌≡◌, ◌++◌, ◌∷◌, [], ℕ, List, None, take, length, map, OnOk, OnErr};
-ghost use Rattle.std.specs.Map.Iter.{ShowsInOrder, deref};
+ghost use Rattle.std.specs.Prelude.{◌≡◌, ◌++◌, ◌∷◌, [], ℕ, List, None, take, length, OnOk, OnErr};
 ghost use Rattle.viper_types.specs.Context.{find};
 
 use indexmap::IndexMap;
-use indexmap::map::Values;
 use std::alloc::Global;
 use std::marker::Model;
 use vb_base::{Ident, Memory};
@@ -47,18 +45,11 @@ impl<V: Copy + Drop> Names<V> {
         self.entries.get(name).copied()
     }
 
-    /// What the names stand for, in order.
-    pub fn values(&self) -> Values<'_, Ident, V>
-        ensures rest { result ≡ map (λ e. e.1) self.now }
-        ensures runs { ShowsInOrder (deref {X = V}) }
-    {
-        self.entries.values()
-    }
-
     /// A name that stood for nothing stands for this value.
     pub fn declare(&mut self, alloc: Global, name: &Ident, value: V) -> Result<(), Memory>
         requires { find self.old name.now ≡ None }
         ensures ok { OnOk result (self.new ≡ self.old ++ (name.now, value) ∷ []) }
+        ensures err { OnErr result (self.new ≡ self.old) }
     {
         self.entries.insert(name.copy(alloc)?, value)?;
         Ok(())

@@ -10,10 +10,11 @@ ghost use Rattle.viper_types.specs.Frame as f;
 ghost use Rattle.viper_types.specs.Outcome.{Judged};
 
 use crate::assertions::assertion;
-use crate::context::{Context, Part, Scope, World};
+use crate::context::{Context, Part, World};
 use crate::faults::TypeFault;
 use crate::formals::{add_names, formals};
 use crate::frames::Frame;
+use crate::scope::Scope;
 use crate::world::types_in;
 use std::alloc::Global;
 use vb_base::{Ident, Memory, Pos};
@@ -34,6 +35,7 @@ fn predicate_body(
         world,
         bodies: &[],
         part: Part::Body,
+        lists: false,
     };
     match body {
         Some(term) => Ok(Some(assertion(alloc, &context, scope, term)?)),

@@ -1,33 +1,51 @@
 // The typing of a file.
-ghost use Rattle.std.specs.Prelude.{◌≡◌, ◌≤◌, ℕ, IfErr, IfOk};
+ghost use Rattle.std.specs.Prelude.{◌≡◌, ◌≤◌, ℕ, IfErr, IfOk, [], false, map};
 ghost use Rattle.vb_base.specs.declared.places.Pos.{Pos};
 ghost use Rattle.viper_core.specs.Formed.{IsFormed};
 ghost use Rattle.viper_core.specs.Program as p;
 ghost use Rattle.viper_core.specs.View as core;
 ghost use Rattle.viper_core.specs.Weight.{weight};
-ghost use Rattle.viper_syntax.specs.View.{program_of as source_of};
-ghost use Rattle.viper_types.specs.Answers.{Answers};
-ghost use Rattle.viper_types.specs.Checked.{Gives, IsRefused, Tells};
+ghost use Rattle.viper_syntax.specs.View.{decl_of, program_of as source_of};
+ghost use Rattle.viper_types.specs.Answers.{world_of};
+ghost use Rattle.viper_types.specs.Checked.{Gives, IsRefused, Overweighs, Tells};
 ghost use Rattle.viper_types.specs.Declaring as j;
 ghost use Rattle.viper_syntax.specs.Good.{IsGoodSource};
-ghost use Rattle.viper_types.specs.Outcome.{Broken};
+ghost use Rattle.viper_types.specs.Outcome.{Broken, Found, then_typed};
 ghost use Rattle.viper_types.specs.Program.{IsProgram};
 
+use crate::context::World;
+use crate::copied::spend_decls;
 use crate::declarations::declarations;
 use crate::faults::TypeFault;
 use crate::predicates::bodies_of;
 use crate::world::naming;
 use std::alloc::Global;
 use viper_core::{MAX_WEIGHT, Program, weight};
-use viper_syntax::SourceProgram;
+use viper_syntax::{Decl, SourceProgram};
 
-/// The program that a file is, or the first rule that it breaks.
+/// Why a file is refused that copies more than a program may weigh: for the first rule that it breaks, or else for its weight.
+///
+/// Nothing is copied to find that out.
+fn heavy_fault(alloc: Global, world: &World, decls: &[Decl]) -> TypeFault
+    ensures { Overweighs (then_typed (j.decls_typing false (world_of world.now) [] (map decl_of decls.now)) (λ xs. Found (j.assembled j.no_program xs))) result }
+{
+    match declarations(alloc, world, &[], false, decls) {
+        Ok(_) => TypeFault::Weight(MAX_WEIGHT + 1),
+        Err(fault) => fault,
+    }
+}
+
+/// The program that a file is; or the first rule that it breaks, or its weight, where what it copies tells that.
 fn typed(alloc: Global, source: &SourceProgram) -> Result<Program, TypeFault>
-    ensures { Answers core.program_of (j.program_typing (source_of source.now)) result }
+    ensures found { IfOk result (λ q. j.program_typing (source_of source.now) ≡ Found (core.program_of q)) }
+    ensures refused { IfErr result (λ f. IsRefused (source_of source.now) f) }
 {
     let world = naming(alloc, &source.decls)?;
     let bodies = bodies_of(alloc, &world, &source.decls)?;
-    let parts = declarations(alloc, &world, &bodies, &source.decls)?;
+    if spend_decls(MAX_WEIGHT, &world, &bodies, &source.decls).is_none() {
+        return Err(heavy_fault(alloc, &world, &source.decls));
+    }
+    let parts = declarations(alloc, &world, &bodies, true, &source.decls)?;
     Ok(parts.program())
 }
 

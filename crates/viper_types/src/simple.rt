@@ -12,11 +12,12 @@ ghost use Rattle.viper_types.specs.Typing as j;
 use crate::assertions::assertion;
 use crate::assigned::{ref_target, target};
 use crate::calls::{call_arguments, calling, calling_into_field};
-use crate::context::{Context, FieldPlace, Scope, World};
+use crate::context::{Context, FieldPlace, World};
 use crate::creations::creating;
 use crate::expressions::{expected, located, nowhere, permission, start, with_body};
 use crate::faults::TypeFault;
 use crate::frames::{Frame, Target};
+use crate::scope::Scope;
 use std::alloc::Global;
 use std::slice;
 use vb_base::{Pos, kept};
@@ -96,7 +97,7 @@ pub fn declaring(
     target: Target,
     rhs: Option<&SRhs>,
 ) -> Result<Stmt, TypeFault>
-    ensures { Answers stmt_of (s.declaring (context_of context.now) (frame_of frame.now) at (target_of target) (lent_rhs_of rhs.entry)) result }
+    ensures { Answers stmt_of (s.declaring context.now.lists (context_of context.now) (frame_of frame.now) at (target_of target) (lent_rhs_of rhs.entry)) result }
 {
     let scope = &frame.scope;
     match rhs {
@@ -112,7 +113,7 @@ pub fn declaring(
             if target.ty != Ty::Ref {
                 return Err(TypeFault::Rule(target.at, 3));
             }
-            creating(alloc, context.world, scope, at, target.number, new)
+            creating(alloc, context, scope, at, target.number, new)
         }
     }
 }
@@ -127,7 +128,7 @@ pub fn variable(
     rhs: Option<&SRhs>,
 ) -> Result<Stmt, TypeFault>
     ensures after { OnOk result (frame_of frame.new ≡ f.with_variable (frame_of frame.old) formal.now.name.name (f.declared_type formal.now) false) }
-    ensures answers { Answers stmt_of (then_typed (s.fresh (frame_of frame.old) formal.now) (λ v. s.declaring (context_of context.now) (frame_of frame.old) at v (lent_rhs_of rhs.entry))) result }
+    ensures answers { Answers stmt_of (then_typed (s.fresh (frame_of frame.old) formal.now) (λ v. s.declaring context.now.lists (context_of context.now) (frame_of frame.old) at v (lent_rhs_of rhs.entry))) result }
 {
     let target = frame.fresh(formal)?;
     let stmt = declaring(alloc, context, frame, at, target, rhs)?;
@@ -144,7 +145,7 @@ fn assigning(
     x: &Named,
     rhs: &SRhs,
 ) -> Result<Stmt, TypeFault>
-    ensures { Answers stmt_of (s.assigning (context_of context.now) scope.now x.now (rhs_of rhs.now)) result }
+    ensures { Answers stmt_of (s.assigning context.now.lists (context_of context.now) scope.now x.now (rhs_of rhs.now)) result }
 {
     match rhs {
         SRhs::Term(term) => {
@@ -158,7 +159,7 @@ fn assigning(
         }
         SRhs::New(new) => {
             let target = ref_target(scope, x)?;
-            creating(alloc, context.world, scope, x.pos, target.number, new)
+            creating(alloc, context, scope, x.pos, target.number, new)
         }
     }
 }
@@ -194,7 +195,7 @@ pub fn setting(
     names: &[Named],
     rhs: &SRhs,
 ) -> Result<Stmt, TypeFault>
-    ensures { Answers stmt_of (s.setting (context_of context.now) scope.now names.now (rhs_of rhs.now)) result }
+    ensures { Answers stmt_of (s.setting context.now.lists (context_of context.now) scope.now names.now (rhs_of rhs.now)) result }
 {
     match names {
         [] => Err(TypeFault::Rule(nowhere(), 3)),

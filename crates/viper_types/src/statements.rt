@@ -15,10 +15,11 @@ ghost use Rattle.vb_value.specs.declared.values.Ty.TheVariants as ty;
 use crate::assertions::assertions;
 use crate::assigned::call_targets;
 use crate::calls::calling;
-use crate::context::{Context, Scope};
+use crate::context::Context;
 use crate::expressions::{expected, nowhere};
 use crate::faults::TypeFault;
 use crate::frames::Frame;
+use crate::scope::Scope;
 use crate::simple::{checking, folding, setting, variable};
 use crate::targets::targets;
 use std::alloc::Global;
@@ -87,7 +88,7 @@ fn stepping(
 ) -> Result<Stmt, TypeFault>
     requires { depth ≤ 128 }
     ensures after { OnOk result (frame_of frame.new ≡ f.frame_after (frame_of frame.old) (stmt_of stmt.now)) }
-    ensures answers { Answers core.stmt_of (s.stepping (context_of context.now) depth (frame_of frame.old) (stmt_of stmt.now)) result }
+    ensures answers { Answers core.stmt_of (s.stepping context.now.lists (context_of context.now) depth (frame_of frame.old) (stmt_of stmt.now)) result }
 {
     match stmt {
         SStmt::Var(at, formal, rhs) => {
@@ -144,13 +145,13 @@ fn iteration(
 ) -> Result<Stmt, TypeFault>
     requires { depth ≤ 128 }
     ensures after { OnOk result (frame_of frame.new ≡ f.with_hidden (frame_of frame.old) (f.declared_in_block (block_of body.now))) }
-    ensures answers { Answers core.stmt_of (then_typed (s.blocking (context_of context.now) (depth + 1) (frame_of frame.old) (block_of body.now)) (λ ss.
-        Found (c.While (c.loop at (core.expr_of terms.0) (core.assertions_of terms.1.items) ss body.now.at (v.targets (length frame.old.vars.items) ss))))) result }
+    ensures answers { Answers core.stmt_of (then_typed (s.blocking context.now.lists (context_of context.now) (depth + 1) (frame_of frame.old) (block_of body.now)) (λ ss.
+        Found (c.While (c.loop at (core.expr_of terms.0) (core.assertions_of terms.1.items) ss body.now.at (s.listed context.now.lists (v.targets (length frame.old.vars.items) ss)))))) result }
 {
     let (guard, invariants) = terms;
     let below = frame.next_number()?;
     let stmts = blocking(alloc, context, depth + 1, frame, body)?;
-    let targets = targets(alloc, below, &stmts)?;
+    let targets = targets(alloc, context.lists, below, &stmts)?;
     Ok(loop_statement(Loop {
         at,
         guard,
@@ -172,12 +173,12 @@ pub fn blocking(
 ) -> Result<Vec<Stmt>, TypeFault>
     ensures shallow { OnOk result (depth ≤ 128) }
     ensures after { OnOk result (frame_of frame.new ≡ f.with_hidden (frame_of frame.old) (f.declared_in_block (block_of block.now))) }
-    ensures answers { Answers block_stmts_of (s.blocking (context_of context.now) depth (frame_of frame.old) (block_of block.now)) result }
+    ensures answers { Answers block_stmts_of (s.blocking context.now.lists (context_of context.now) depth (frame_of frame.old) (block_of block.now)) result }
 {
     if depth > MAX_DEPTH {
         return Err(TypeFault::Rule(block.at, 15));
     }
-    let visible = frame.scope.len();
+    let visible = frame.scope.extent();
     let stmts = stepping_all(alloc, context, depth, frame, &block.stmts)?;
     frame.scope.truncate(visible);
     Ok(stmts)
@@ -195,7 +196,7 @@ fn stepping_all(
     requires { depth ≤ 128 }
     ensures vars { OnOk result (frame.new.vars.items ≡ frame.old.vars.items ++ f.declared_in (stmts_of stmts.now)) }
     ensures visible { OnOk result (take (length frame.old.scope) frame.new.scope ≡ frame.old.scope) }
-    ensures answers { Answers stmt_list_of (s.stepping_all (context_of context.now) depth (frame_of frame.old) (stmts_of stmts.now)) result }
+    ensures answers { Answers stmt_list_of (s.stepping_all context.now.lists (context_of context.now) depth (frame_of frame.old) (stmts_of stmts.now)) result }
 {
     let mut typed = Vec::with_capacity(alloc, stmts.len())?;
     for stmt in stmts {
@@ -217,7 +218,7 @@ fn branches(
     requires { depth ≤ 129 }
     ensures shallow { OnOk result (depth + length arms.now ≤ 129) }
     ensures after { OnOk result (frame_of frame.new ≡ f.with_hidden (frame_of frame.old) (f.declared_in_arms (arms_of arms.now))) }
-    ensures answers { Answers branches_of (s.branches (context_of context.now) depth (frame_of frame.old) (arms_of arms.now)) result }
+    ensures answers { Answers branches_of (s.branches context.now.lists (context_of context.now) depth (frame_of frame.old) (arms_of arms.now)) result }
 {
     let mut typed = Vec::with_capacity(alloc, arms.len())?;
     for (i, arm) in arms.iter().enumerate() {
@@ -237,7 +238,7 @@ fn branch(
 ) -> Result<TypedArm, TypeFault>
     ensures shallow { OnOk result (depth ≤ 128) }
     ensures after { OnOk result (frame_of frame.new ≡ f.with_hidden (frame_of frame.old) (f.declared_in_arm (arm_of arm.now))) }
-    ensures answers { Answers branch_of (s.branch (context_of context.now) depth (frame_of frame.old) (arm_of arm.now)) result }
+    ensures answers { Answers branch_of (s.branch context.now.lists (context_of context.now) depth (frame_of frame.old) (arm_of arm.now)) result }
 {
     let condition = expected(alloc, context, &frame.scope, Ty::Bool, &arm.condition)?;
     let body = blocking(alloc, context, depth, frame, &arm.block)?;
@@ -258,7 +259,7 @@ fn otherwise(
     other: &Option<SBlock>,
 ) -> Result<Vec<Stmt>, TypeFault>
     ensures after { OnOk result (frame_of frame.new ≡ f.with_hidden (frame_of frame.old) (f.declared_in_else (else_of other.now))) }
-    ensures answers { Answers block_stmts_of (s.otherwise (context_of context.now) depth (frame_of frame.old) (else_of other.now)) result }
+    ensures answers { Answers block_stmts_of (s.otherwise context.now.lists (context_of context.now) depth (frame_of frame.old) (else_of other.now)) result }
 {
     match other {
         Some(block) => blocking(alloc, context, depth, frame, block),

@@ -1,6 +1,7 @@
 // The targets of loops.
 ghost use Rattle.std.specs.Prelude.{◌≡◌, IfOk, OnOk};
 ghost use Rattle.viper_core.specs.View.{stmt_of, stmts_of};
+ghost use Rattle.viper_types.specs.Stepping.{listed};
 ghost use Rattle.viper_types.specs.Target as t;
 
 use std::alloc::Global;
@@ -8,12 +9,19 @@ use std::collections::BTreeSet;
 use vb_base::Memory;
 use viper_core::Stmt;
 
-/// The variables below this number that the statements assign, in ascending order.
-pub(crate) fn targets(alloc: Global, below: u32, body: &[Stmt]) -> Result<Vec<u32>, Memory>
-    ensures { IfOk result (λ v. v.items ≡ t.gathered below (stmts_of body.now)) }
+/// The variables below this number that the statements assign, in ascending order. Without `lists` there are none.
+pub(crate) fn targets(
+    alloc: Global,
+    lists: bool,
+    below: u32,
+    body: &[Stmt],
+) -> Result<Vec<u32>, Memory>
+    ensures { IfOk result (λ v. v.items ≡ listed lists (t.gathered below (stmts_of body.now))) }
 {
     let mut found = BTreeSet::new(alloc);
-    add_from(&mut found, below, body)?;
+    if lists {
+        add_from(&mut found, below, body)?;
+    }
     Ok(found.into_iter().collect(alloc)?)
 }
 

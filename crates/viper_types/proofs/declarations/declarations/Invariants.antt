@@ -8,5 +8,5 @@ use Rattle.viper_types.proofs.declarations.declarations.Given as goal
 
 abbrev pub invariant-loop-decl : goal.invariant-loop-decl
 invariant-loop-decl l =
-    onto (world_of l.world) (optional_bodies_of l.bodies) (parts_of l.parts) (map decl_of (drop l.decl-index l.decls)) ≡
-    onto (world_of l.world) (optional_bodies_of l.bodies) no_program (map decl_of l.decls)
+    onto l.lists (world_of l.world) (optional_bodies_of l.bodies) (parts_of l.parts) (map decl_of (drop l.decl-index l.decls)) ≡
+    onto l.lists (world_of l.world) (optional_bodies_of l.bodies) no_program (map decl_of l.decls)

@@ -10,11 +10,9 @@ use Rattle.viper_types.specs.Answers.{context_of, frame_of, branches_of, loop_te
 use Rattle.viper_types.specs.Context.{nowhere}
 use Rattle.viper_types.specs.Frame.{frame_after, declared_in_arms, declared_in_else, with_hidden}
 use Rattle.viper_types.specs.Outcome.{Found, known, then_typed}
-use Rattle.viper_types.specs.Stepping.{nested, stepping, stepping_all}
+use Rattle.viper_types.specs.Stepping.{nested, listed, stepping, stepping_all}
 use Rattle.viper_types.specs.Target.{gathered, targets}
-use Rattle.viper_types.proofs.Loops.{block_loops}
-use Rattle.viper_types.proofs.SameTargets.{gathered_targets}
-use Rattle.viper_types.proofs.Tells.{told}
+use Rattle.viper_types.proofs.SameTargets.{listed_targets}
 use Rattle.viper_types.proofs.Steps.{at_error, refuses_along, answers_along, failed}
 use Rattle.viper_types.proofs.StmtLaws.{on_ok, on_ok_too, arm_count-length, hidden_twice, if_arms_refused, if_arms, loop_typed, block_typed}
 use Rattle.viper_types.proofs.statements.+statements.Goals as goal
@@ -23,19 +21,20 @@ pub blocking-returns-clause-answers : goal.blocking-returns-clause-answers
 blocking-returns-clause-answers t c =
     let k = context_of c.args.context.now in
     let fr = frame_of c.args.frame.now in
-    block_typed k c.args.depth fr c.args.block.now.at (stmts_of c.args.block.now.stmts.items) _ c.if-depth-gt-MAX_DEPTH.false
-    (ap (λ ss. stepping_all k c.args.depth fr (stmts_of ss)) (sym c.deref.ensures.value) ∙ c.in_ok-stmts.ensures.answers) ∙
+    block_typed c.args.context.now.lists k c.args.depth fr c.args.block.now.at (stmts_of c.args.block.now.stmts.items) _ c.if-depth-gt-MAX_DEPTH.false
+    (ap (λ ss. stepping_all c.args.context.now.lists k c.args.depth fr (stmts_of ss)) (sym c.deref.ensures.value) ∙ c.in_ok-stmts.ensures.answers) ∙
     ap Found (sym (stmts_of-map c.in_ok-stmts.stmts.items))
 
 pub iteration-returns-clause-answers : goal.iteration-returns-clause-answers
 iteration-returns-clause-answers t c =
+    let lists = c.args.context.now.lists in
     let before = length c.args.frame.now.vars.items in
     let body = core.stmts_of c.in_ok-stmts.stmts.items in
     let turns = λ (ss : plain.Stmts) (vs : List ℕ). plain.While (plain.loop c.args.at (core.expr_of c.args.terms.0) (core.assertions_of c.args.terms.1.items) ss c.args.body.now.at vs) in
-    let loops = told (block_loops (context_of c.args.context.now) (c.args.depth + 1) (frame_of c.args.frame.now) (block_of c.args.body.now)) c.in_ok-stmts.ensures.answers in
-    let assigned = sym (gathered_targets before body loops) ∙ ap (λ n. gathered n body) (sym c.in_ok-below.ensures) ∙
-    ap (λ ss. gathered c.in_ok-below.below (core.stmts_of ss)) (sym c.deref.ensures.value) ∙ sym c.in_ok-targets.ensures in
-    ap (λ j. then_typed j (λ ss. Found (turns ss (targets before ss)))) c.in_ok-stmts.ensures.answers ∙
+    let assigned = sym (listed_targets lists (context_of c.args.context.now) (c.args.depth + 1) (frame_of c.args.frame.now) (block_of c.args.body.now) body c.in_ok-stmts.ensures.answers) ∙
+    ap (λ n. listed lists (gathered n body)) (sym c.in_ok-below.ensures) ∙
+    ap (λ ss. listed lists (gathered c.in_ok-below.below (core.stmts_of ss))) (sym c.deref.ensures.value) ∙ sym c.in_ok-targets.ensures in
+    ap (λ j. then_typed j (λ ss. Found (turns ss (listed lists (targets before ss))))) c.in_ok-stmts.ensures.answers ∙
     ap (λ vs. Found (turns body vs)) assigned ∙ ap Found (sym c.loop_statement.ensures)
 
 pub stepping-returns-in_err-branches-in-If-clause-answers : goal.stepping-returns-in_err-branches-in-If-clause-answers
@@ -45,8 +44,8 @@ stepping-returns-in_err-branches-in-If-clause-answers t c =
     let other = else_of c.in-If.other in
     let is = ap stmt_of c.in-If.is ∙ stmt_of-If c.in-If.arms c.in-If.other ∙ ap (λ arms. s.If (arms_of arms) other) (sym c.deref-in-If.ensures.value) in
     at_error core.stmt_of _ c.in_err-branches-in-If.field-0.0 c.from_residual-in_err-branches-in-If.result c.from_residual-in_err-branches-in-If.ensures.1
-    (refuses_along c.in_err-branches-in-If.field-0.0 (ap (stepping k c.args.depth fr) is)
-    (if_arms_refused k c.args.depth fr (arms_of c.deref-in-If.result.now) other c.in_err-branches-in-If.field-0.0 c.in_err-branches-in-If.ensures.answers))
+    (refuses_along c.in_err-branches-in-If.field-0.0 (ap (stepping c.args.context.now.lists k c.args.depth fr) is)
+    (if_arms_refused c.args.context.now.lists k c.args.depth fr (arms_of c.deref-in-If.result.now) other c.in_err-branches-in-If.field-0.0 c.in_err-branches-in-If.ensures.answers))
 
 pub stepping-returns-in_err-other-in-If-clause-answers : goal.stepping-returns-in_err-other-in-If-clause-answers
 stepping-returns-in_err-other-in-If-clause-answers t c =
@@ -57,8 +56,8 @@ stepping-returns-in_err-other-in-If-clause-answers t c =
     let many = c.len.ensures ∙ sym c.deref-in-If.ensures.len ∙ sym (arm_count-length c.deref-in-If.result.now) in
     at_error core.stmt_of _ c.in_err-other-in-If.field-0.0 c.from_residual-in_err-other-in-If.result c.from_residual-in_err-other-in-If.ensures.1
     (refuses_along c.in_err-other-in-If.field-0.0
-    (ap (stepping k c.args.depth fr) is ∙
-    if_arms k c.args.depth fr (arms_of c.deref-in-If.result.now) other (branches_of c.in_ok-branches-in-If.branches) c.len.result (frame_of c.branches.new.frame)
+    (ap (stepping c.args.context.now.lists k c.args.depth fr) is ∙
+    if_arms c.args.context.now.lists k c.args.depth fr (arms_of c.deref-in-If.result.now) other (branches_of c.in_ok-branches-in-If.branches) c.len.result (frame_of c.branches.new.frame)
     c.in_ok-branches-in-If.ensures.answers many c.in_ok-branches-in-If.ensures.after)
     (failed c.in_err-other-in-If.field-0.0 _ _ c.in_err-other-in-If.ensures.answers))
 
@@ -80,8 +79,8 @@ stepping-returns-in_ok-other-in-If-clause-answers t c =
     let is = ap stmt_of c.in-If.is ∙ stmt_of-If c.in-If.arms c.in-If.other ∙ ap (λ arms. s.If (arms_of arms) other) (sym c.deref-in-If.ensures.value) in
     let many = c.len.ensures ∙ sym c.deref-in-If.ensures.len ∙ sym (arm_count-length c.deref-in-If.result.now) in
     answers_along core.stmt_of c.nested.result
-    (ap (stepping k c.args.depth fr) is ∙
-    if_arms k c.args.depth fr (arms_of c.deref-in-If.result.now) other (branches_of c.in_ok-branches-in-If.branches) c.len.result (frame_of c.branches.new.frame)
+    (ap (stepping c.args.context.now.lists k c.args.depth fr) is ∙
+    if_arms c.args.context.now.lists k c.args.depth fr (arms_of c.deref-in-If.result.now) other (branches_of c.in_ok-branches-in-If.branches) c.len.result (frame_of c.branches.new.frame)
     c.in_ok-branches-in-If.ensures.answers many c.in_ok-branches-in-If.ensures.after ∙
     ap (λ j. then_typed j (λ ss. known (nested (branches_of c.in_ok-branches-in-If.branches) ss) nowhere 3 Found)) c.in_ok-other-in-If.ensures.answers)
     c.nested.ensures
@@ -99,6 +98,6 @@ stepping-returns-in_ok-terms-in-While-clause-answers t c =
     let is = ap stmt_of c.in-While.is ∙ stmt_of-While c.in-While.at c.in-While.guard c.in-While.invariants c.in-While.body ∙
     ap (λ ts. s.While c.in-While.at guard (map term_of ts) (block_of c.in-While.body)) (sym c.deref-in-While.ensures.value) in
     answers_along core.stmt_of c.iteration.result
-    (ap (stepping k c.args.depth fr) is ∙
-    loop_typed k c.args.depth fr c.in-While.at guard (map term_of c.deref-in-While.result.now) (block_of c.in-While.body) (loop_terms_of c.in_ok-terms-in-While.terms) c.in_ok-terms-in-While.ensures)
+    (ap (stepping c.args.context.now.lists k c.args.depth fr) is ∙
+    loop_typed c.args.context.now.lists k c.args.depth fr c.in-While.at guard (map term_of c.deref-in-While.result.now) (block_of c.in-While.body) (loop_terms_of c.in_ok-terms-in-While.terms) c.in_ok-terms-in-While.ensures)
     c.iteration.ensures.answers

@@ -12,14 +12,14 @@ invariant-branches-loop-i l = record {
   shallow : l.depth + l.i ≤ 129;
   vars : l.frame.vars.items ++ declared_in_arms (arms_of (drop l.i l.arms)) ≡ l.initial.frame.vars.items ++ declared_in_arms (arms_of l.arms);
   scope : l.frame.scope ≡ l.initial.frame.scope;
-  rest : prefixed (branches_of l.typed) (s.branches (context_of l.context) (l.depth + l.i) (frame_of l.frame) (arms_of (drop l.i l.arms))) ≡
-      s.branches (context_of l.context) l.depth (frame_of l.initial.frame) (arms_of l.arms);
+  rest : prefixed (branches_of l.typed) (s.branches l.context.lists (context_of l.context) (l.depth + l.i) (frame_of l.frame) (arms_of (drop l.i l.arms))) ≡
+      s.branches l.context.lists (context_of l.context) l.depth (frame_of l.initial.frame) (arms_of l.arms);
 }
 
 abbrev pub invariant-stepping_all-loop-stmt : goal.invariant-stepping_all-loop-stmt
 invariant-stepping_all-loop-stmt l = record {
   vars : l.frame.vars.items ++ declared_in (stmts_of (drop l.stmt-index l.stmts)) ≡ l.initial.frame.vars.items ++ declared_in (stmts_of l.stmts);
   visible : take (length l.initial.frame.scope) l.frame.scope ≡ l.initial.frame.scope;
-  rest : prefixed (stmt_list_of l.typed) (s.stepping_all (context_of l.context) l.depth (frame_of l.frame) (stmts_of (drop l.stmt-index l.stmts))) ≡
-      s.stepping_all (context_of l.context) l.depth (frame_of l.initial.frame) (stmts_of l.stmts);
+  rest : prefixed (stmt_list_of l.typed) (s.stepping_all l.context.lists (context_of l.context) l.depth (frame_of l.frame) (stmts_of (drop l.stmt-index l.stmts))) ≡
+      s.stepping_all l.context.lists (context_of l.context) l.depth (frame_of l.initial.frame) (stmts_of l.stmts);
 }

@@ -14,4 +14,5 @@ entered m now after name copy value view absent copied inserted =
 pub returns : goal.returns
 returns g c = record {
   ok = entered c.self.inside.entries c.args.self.now c.insert.new.self.entries c.args.name.now c.in_ok-copy.field-0 c.args.value c.self.view_is c.requires c.in_ok-copy.ensures c.in_ok-insert.ensures.entries;
+  err = tt;
 }
