@@ -5,3 +5,4 @@ pub mod EachLaws
 pub mod FitsTestLaws
 pub mod ProperLaws
 pub mod Rows
+pub mod ShapeLaws

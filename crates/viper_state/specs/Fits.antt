@@ -1,6 +1,6 @@
 -- What fits a program: there is one map for each field and each predicate, and every key and value is of its type. Each map
 -- is a finite map with a default, which is written in one way only, and each fraction is in lowest terms.
-use Rattle.std.specs.Prelude.{⊤, ◌≡◌, ℕ, Bool, List, All}
+use Rattle.std.specs.Prelude.{⊤, ◌≡◌, ℕ, Bool, List, All, length}
 use Rattle.std.specs.List.{AllZip}
 use Rattle.std.specs.Ordering.{nat_cmp}
 use Rattle.std.specs.declared.cmp.Ordering.{Ordering}
@@ -117,3 +117,16 @@ FitsEvent layout (event.Leaf v) = IsReducedValue v
 pub record FitsFeed (layout : Layout) (f : Feed) : Type 0 where
   pub left : All (FitsChoice layout) f.left
   pub events : All (FitsEvent layout) f.events
+
+-- ---- as many maps as the program needs, whatever they hold
+
+pub record HasMaps (layout : Layout) (s : State) : Type 0 where
+  pub heap : length s.heap ≡ length layout.fields
+  pub content : length s.content ≡ length layout.keys
+  pub mask : length s.mask ≡ length layout.fields
+  pub amount : length s.amount ≡ length layout.keys
+
+-- the same of a heap and contents
+pub record MemoHasMaps (layout : Layout) (m : Memo) : Type 0 where
+  pub heap : length m.heap ≡ length layout.fields
+  pub content : length m.content ≡ length layout.keys
