@@ -64,7 +64,7 @@ module _ (F : Fraction → Type 0) (V : Value → Type 0) (K : Key → Type 0) (
     content = maps_entries key_cmp same_content m.content s.content s.amount g.content h.content h.amount;
   }
 
-  memo_in_has : (layout : Layout) (c : Choice) → AllOfChoice F V K C c → IfSome (memo_in layout c) (AllOfMemo V K C)
+  pub memo_in_has : (layout : Layout) (c : Choice) → AllOfChoice F V K C c → IfSome (memo_in layout c) (AllOfMemo V K C)
   memo_in_has layout (choice.Filled m) h = where_so (fits_memo layout m) h
     where
       where_so : (b : Bool) → AllOfMemo V K C m → IfSome (if b then Some m else None) (AllOfMemo V K C)

@@ -281,7 +281,7 @@ module _ (b : Bound) (F S : Fraction → Type 0) (V : Value → Type 0) (K : Key
       if_kept (is_none held) (is_kept (with_content_has h p key c k i))
       (then_kept (found_kept {P = IsAny} (content_at s p key) (any_found (content_at s p key))) (λ old o. unless_kept (not (same_content c old)) blocks_kept (is_kept h)))
 
-  fill_held_kept : (k : Fraction) (p : ℕ) (key : Key) (q : Fraction) (c : Content) (at : Pos) (s : State) → S k → K key → S q → C c → AllOfState F V K C s → HasKept (AllOfState F V K C) (fill_held b k p key q c at s)
+  pub fill_held_kept : (k : Fraction) (p : ℕ) (key : Key) (q : Fraction) (c : Content) (at : Pos) (s : State) → S k → K key → S q → C c → AllOfState F V K C s → HasKept (AllOfState F V K C) (fill_held b k p key q c at s)
   fill_held_kept k p key q c at s i j l m h =
       then_kept (found_kept (amount_at s p key) (amount_has h p key)) (λ held n. then_kept (contained_kept s p key c held h j m) (λ t u. then_kept (added_kept held k q at n i l) (λ all a.
       is_kept (with_amount_has u p key all j a))))
@@ -294,7 +294,7 @@ module _ (b : Bound) (F S : Fraction → Type 0) (V : Value → Type 0) (K : Key
   -- expressions and bodies
 
   -- the scene of a body keeps it too
-  variables_have : (vs : List Value) (sc : Scene) → All V vs → AllOfScene F V K C sc → AllOfScene F V K C (with_variables vs sc)
+  pub variables_have : (vs : List Value) (sc : Scene) → All V vs → AllOfScene F V K C sc → AllOfScene F V K C (with_variables vs sc)
   variables_have vs sc h g = record { store = h; old = g.old }
 
   mutual

@@ -30,3 +30,13 @@ pub mod OpenedLaws
 pub mod ArriveLaws
 pub mod HeldSignLaws
 pub mod SatLaws
+pub mod StatementKeptLaws
+pub mod FormedLiterals
+pub mod StateKeptLaws
+pub mod ShapeLaws
+pub mod ContentLaws
+pub mod StatementBoundLaws
+pub mod StatementSignLaws
+pub mod StatementFitsLaws
+pub mod FreshLaws
+pub mod InverseLaws

@@ -125,10 +125,10 @@ never_over (takes es next) (c ∷ choices) h = over_since es (on (next c) choice
 
 -- amounts
 
-place_bounded : (e : t.Expr) (f : ℕ) (s : State) (sc : Scene) → IsBoundedBy (place_in Bounded e f s sc) (place_in Unbounded e f s sc)
+pub place_bounded : (e : t.Expr) (f : ℕ) (s : State) (sc : Scene) → IsBoundedBy (place_in Bounded e f s sc) (place_in Unbounded e f s sc)
 place_bounded e f s sc = then_bounded (ref_bounded (value_bounded e s sc)) (λ r. is_bounded)
 
-instance_bounded : (p : ℕ) (args : t.Exprs) (s : State) (sc : Scene) → IsBoundedBy (instance_in Bounded p args s sc) (instance_in Unbounded p args s sc)
+pub instance_bounded : (p : ℕ) (args : t.Exprs) (s : State) (sc : Scene) → IsBoundedBy (instance_in Bounded p args s sc) (instance_in Unbounded p args s sc)
 instance_bounded p args s sc = then_bounded (key_bounded (values_bounded args s sc)) (λ key. is_bounded)
 
 more_held_bounded : (k : Fraction) (x : Resource) (at : Pos) (s : State) (q : Fraction) → IsBoundedBy (more_held Bounded k x at s q) (more_held Unbounded k x at s q)

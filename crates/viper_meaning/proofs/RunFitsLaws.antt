@@ -115,17 +115,17 @@ module _ (b : Bound) (c : Context) (formed : IsFormed c.program) where
   abbrev RunGoes : Run State → Type 0
   RunGoes r = KeepsRun (FitsEvent c.program.layout) (FitsChoice c.program.layout) (FitsState c.program.layout) r
 
-  truth_fits : (e : t.Expr) (s : State) (sc : Scene) → HasType c e ty.Bool → StateFits s → SceneFits sc → HasFit IsAny (truth_in b e s sc)
+  pub truth_fits : (e : t.Expr) (s : State) (sc : Scene) → HasType c e ty.Bool → StateFits s → SceneFits sc → HasFit IsAny (truth_in b e s sc)
   truth_fits e s sc i h g = keeps (truth_typed (value_typed b {B = ⊤} c formed e ty.Bool s sc i (inl tt) h g))
 
-  perm_fits : (e : t.Expr) (s : State) (sc : Scene) → HasType c e ty.Perm → StateFits s → SceneFits sc → HasFit IsReduced (perm_in b e s sc)
+  pub perm_fits : (e : t.Expr) (s : State) (sc : Scene) → HasType c e ty.Perm → StateFits s → SceneFits sc → HasFit IsReduced (perm_in b e s sc)
   perm_fits e s sc i h g = keeps (perm_typed (value_typed b {B = ⊤} c formed e ty.Perm s sc i (inl tt) h g))
 
-  place_fits : (e : t.Expr) (f : ℕ) (u : Ty) (s : State) (sc : Scene) → HasType c e ty.Ref → slice_get c.program.layout.fields f ≡ Some u → StateFits s → SceneFits sc →
+  pub place_fits : (e : t.Expr) (f : ℕ) (u : Ty) (s : State) (sc : Scene) → HasType c e ty.Ref → slice_get c.program.layout.fields f ≡ Some u → StateFits s → SceneFits sc →
       HasFit (ResourceFits c.program.layout) (place_in b e f s sc)
   place_fits e f u s sc i there h g = then_kept (keeps (ref_typed (value_typed b {B = ⊤} c formed e ty.Ref s sc i (inl tt) h g))) (λ r o. is_kept (u, there))
 
-  instance_fits : (p : ℕ) (d : Predicate) (args : t.Exprs) (s : State) (sc : Scene) → slice_get c.program.predicates p ≡ Some d → HaveTypes c args d.params → StateFits s → SceneFits sc →
+  pub instance_fits : (p : ℕ) (d : Predicate) (args : t.Exprs) (s : State) (sc : Scene) → slice_get c.program.predicates p ≡ Some d → HaveTypes c args d.params → StateFits s → SceneFits sc →
       HasFit (ResourceFits c.program.layout) (instance_in b p args s sc)
   instance_fits p d args s sc there i h g =
       then_kept (then_kept (keeps (values_typed b {B = ⊤} c formed args d.params s sc i tt h g)) (λ vs v. found_kept (key_of vs) (key_fits d.params vs v))) (λ key k. is_kept (d.params, (keys_at c formed p d there, k)))

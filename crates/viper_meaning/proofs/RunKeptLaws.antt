@@ -73,7 +73,7 @@ module _ (b : Bound) (F S : Fraction → Type 0) (V : Value → Type 0) (K : Key
   abbrev RunKept : {X : Type 0} → (X → Type 0) → Run X → Type 0
   RunKept P r = KeepsRun (AllOfEvent F V K C) (AllOfChoice F V K C) P r
 
-  held_has : {s : State} → AllOfState F V K C s → (x : Resource) → IfSome (held_at s x) F
+  pub held_has : {s : State} → AllOfState F V K C s → (x : Resource) → IfSome (held_at s x) F
   held_has h (Place f r) = mask_has h f r
   held_has h (Instance p key) = amount_has h p key
 
@@ -81,16 +81,16 @@ module _ (b : Bound) (F S : Fraction → Type 0) (V : Value → Type 0) (K : Key
   with_held_has h (Place f r) q i j = with_mask_has h f r q j
   with_held_has h (Instance p key) q i j = with_amount_has h p key q i j
 
-  place_kept : (e : t.Expr) (f : ℕ) (s : State) (sc : Scene) → AllLiterals (IsInt V) F e → AllOfState F V K C s → AllOfScene F V K C sc → HasKept (ResourceHas K) (place_in b e f s sc)
+  pub place_kept : (e : t.Expr) (f : ℕ) (s : State) (sc : Scene) → AllLiterals (IsInt V) F e → AllOfState F V K C s → AllOfScene F V K C sc → HasKept (ResourceHas K) (place_in b e f s sc)
   place_kept e f s sc w h g = then_kept (k.ref_kept b F S V K C closed (k.value_kept b F S V K C closed e s sc w h g)) (λ r u. is_kept tt)
 
-  instance_kept : (p : ℕ) (args : t.Exprs) (s : State) (sc : Scene) → AllExprsLiterals (IsInt V) F args → AllOfState F V K C s → AllOfScene F V K C sc → HasKept (ResourceHas K) (instance_in b p args s sc)
+  pub instance_kept : (p : ℕ) (args : t.Exprs) (s : State) (sc : Scene) → AllExprsLiterals (IsInt V) F args → AllOfState F V K C s → AllOfScene F V K C sc → HasKept (ResourceHas K) (instance_in b p args s sc)
   instance_kept p args s sc w h g = then_kept (k.key_kept b F S V K C closed (k.values_kept b F S V K C closed args s sc w h g)) (λ key i. is_kept i)
 
-  truth_in_kept : (e : t.Expr) (s : State) (sc : Scene) → AllLiterals (IsInt V) F e → AllOfState F V K C s → AllOfScene F V K C sc → HasKept IsAny (truth_in b e s sc)
+  pub truth_in_kept : (e : t.Expr) (s : State) (sc : Scene) → AllLiterals (IsInt V) F e → AllOfState F V K C s → AllOfScene F V K C sc → HasKept IsAny (truth_in b e s sc)
   truth_in_kept e s sc w h g = k.truth_kept b F S V K C closed (k.value_kept b F S V K C closed e s sc w h g)
 
-  perm_in_kept : (e : t.Expr) (s : State) (sc : Scene) → AllLiterals (IsInt V) F e → AllOfState F V K C s → AllOfScene F V K C sc → HasKept F (perm_in b e s sc)
+  pub perm_in_kept : (e : t.Expr) (s : State) (sc : Scene) → AllLiterals (IsInt V) F e → AllOfState F V K C s → AllOfScene F V K C sc → HasKept F (perm_in b e s sc)
   perm_in_kept e s sc w h g = k.perm_kept b F S V K C closed (k.value_kept b F S V K C closed e s sc w h g)
 
   -- an amount that was chosen

@@ -53,7 +53,7 @@ with_held_sign h (Place f r) q i = with_mask_nonnegative h f r q i
 with_held_sign h (Instance p key) q i = with_amount_nonnegative h p key q i
 
 -- goes on where the test holds
-where_so : {X : Type 0} {P : X → Type 0} (b : Bool) {i e : Evaluated X} → Keeps IsAny P i → (b ≡ true → Keeps IsAny P e) → Keeps IsAny P (unless (not b) i e)
+pub where_so : {X : Type 0} {P : X → Type 0} (b : Bool) {i e : Evaluated X} → Keeps IsAny P i → (b ≡ true → Keeps IsAny P e) → Keeps IsAny P (unless (not b) i e)
 where_so true h g = g refl
 where_so false h g = h
 

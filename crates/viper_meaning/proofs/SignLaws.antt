@@ -75,7 +75,7 @@ fill_place_sign b sc k f r q c at s i h =
     where_not (is_negative q) (is_negative q) refl (fails_kept sc at kind.Negative) (λ j.
     if_kept (is_none q) (nothing_sign c s h) (after_any (leaf_for s f r c) (λ v. fill_leaf_sign b k f r q v at s i j h)))
 
-contained_sign : (s : State) (p : ℕ) (key : Key) (c : Content) (held : Fraction) → IsNonnegative s → Keeps IsAny IsNonnegative (contained s p key c held)
+pub contained_sign : (s : State) (p : ℕ) (key : Key) (c : Content) (held : Fraction) → IsNonnegative s → Keeps IsAny IsNonnegative (contained s p key c held)
 contained_sign s p key c held h =
     if_kept (is_none held) (is_kept (with_content_nonnegative h p key c))
     (after_any (found (content_at s p key)) (λ old. unless_kept (not (same_content c old)) blocks_kept (is_kept h)))

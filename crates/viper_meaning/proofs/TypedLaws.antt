@@ -309,7 +309,7 @@ module _ (l : Layout) {B : Type 0} where
       unless_typed (r == 0) (fails_typed sc at kind.Null) (then_typed (there_typed (mask_at s f r) (mask_found h f r u e)) (λ held p.
       unless_typed (is_none held) (fails_typed sc at kind.Perm) (there_typed (value_at s f r) (value_found h f r u e))))
 
-  taken_typed : (b : Bound) (sc : Scene) (s : State) (p : ℕ) (us : List Ty) (key : Key) (q : Fraction) (at : Pos) → slice_get l.keys p ≡ Some us → FitsKey us key → IsReduced q → FitsState l s → Makes l B (taken b sc s p key q at)
+  pub taken_typed : (b : Bound) (sc : Scene) (s : State) (p : ℕ) (us : List Ty) (key : Key) (q : Fraction) (at : Pos) → slice_get l.keys p ≡ Some us → FitsKey us key → IsReduced q → FitsState l s → Makes l B (taken b sc s p key q at)
   taken_typed b sc s p us key q at e k i h =
       unless_typed (not (is_positive q)) (fails_typed sc at kind.Amount) (then_typed (there_typed (amount_at s p key) (amount_found h p key us e)) (λ held j.
       then_typed (fitting_typed {P = IsAny} b (fits_order held q) at (is_lt (order held q)) tt) (λ less u. unless_typed less (fails_typed sc at kind.Perm) (
@@ -358,7 +358,7 @@ module _ (l : Layout) {B : Type 0} where
         then_typed (there_typed (mask_at s f r) (mask_found h f r u e)) (λ held o. then_typed (written_typed s f r v held e n h) (λ t w. then_typed (added_typed b held k q at o i j) (λ all a.
         unless_typed (is_above_one all) (blocks_typed blocks_here) (is_typed (with_mask_fits w f r all a))))))))
 
-    contained_typed : (s : State) (p : ℕ) (us : List Ty) (key : Key) (c : Content) (held : Fraction) → slice_get l.keys p ≡ Some us → FitsKey us key → IsReducedContent c → FitsState l s → Makes l B (contained s p key c held)
+    pub contained_typed : (s : State) (p : ℕ) (us : List Ty) (key : Key) (c : Content) (held : Fraction) → slice_get l.keys p ≡ Some us → FitsKey us key → IsReducedContent c → FitsState l s → Makes l B (contained s p key c held)
     contained_typed s p us key c held e k i h =
         if_typed (is_none held) (is_typed (with_content_fits h p us key c e k i))
         (then_typed (there_typed (content_at s p key) (content_found h p key us e)) (λ old o. unless_typed (not (same_content c old)) (blocks_typed blocks_here) (is_typed h)))
@@ -426,7 +426,7 @@ module _ (b : Bound) {B : Type 0} where
     values_typed c formed (t.more a rest) us s sc (also {u = u} {us = vs} i j) m h g =
         then_typed (value_typed c formed a u s sc i (inl m) h g) (λ v p. then_typed (values_typed c formed rest vs s sc j m h g) (λ vs q. is_typed (p, q)))
 
-    amount_typed : (c : Context) → IsFormed c.program → (n : t.Amt) (s : State) (sc : Scene) → IsAmount c n → B → FitsState c.program.layout s → FitsScene c.program.layout c.vars sc →
+    pub amount_typed : (c : Context) → IsFormed c.program → (n : t.Amt) (s : State) (sc : Scene) → IsAmount c n → B → FitsState c.program.layout s → FitsScene c.program.layout c.vars sc →
         Comes (FitsEvent c.program.layout) B IsReduced (amount_of b n s sc)
     amount_typed c formed (t.Is a) s sc (exact i) m h g = perm_typed (value_typed c formed a ty.Perm s sc i (inl m) h g)
     amount_typed c formed t.Wildcard s sc i m h g = blocks_typed m

@@ -12,3 +12,11 @@ pub mod Forgotten
 pub mod ComparedRuns
 pub mod Sat
 pub mod KeptRuns
+pub mod Contents
+pub mod Statements
+pub mod Units
+pub mod StatementLiterals
+pub mod Configurations
+pub mod Written
+pub mod Fresh
+pub mod Produced

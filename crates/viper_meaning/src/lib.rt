@@ -6,3 +6,4 @@
 pub mod laws;
 pub mod run_laws;
 pub mod sat_laws;
+pub mod statement_laws;
