@@ -1,0 +1,3 @@
+pub mod MeasuredLaws
+pub mod ContentLaws
+pub mod FoldLaws
