@@ -2,3 +2,4 @@ pub mod Cuts
 pub mod OneProgram
 pub mod TypedRuns
 pub mod ViewLaws
+pub mod WholeLaws

@@ -1,5 +1,5 @@
 -- From an environment of its locals a typed expression has a value of its type, so no typed run is Wrong.
-use Rattle.std.proofs.Common.{◌≡◌, ◌∙◌, ℕ, zero, suc, Bool as Truth, true, false, if◌then◌else◌, List, [], ◌∷◌, Some, slice_get, refl, sym, ap, subst}
+use Rattle.std.proofs.Common.{◌≡◌, ℕ, zero, suc, Bool as Truth, true, false, if◌then◌else◌, List, [], ◌∷◌, Some, slice_get, refl, subst}
 use Rattle.vb_base.specs.declared.labels.Label.{Label}
 use Rattle.boogie_tree.specs.declared.trees.BBase.{BBase}
 use Rattle.boogie_tree.specs.declared.trees.BBase.TheVariants as base

@@ -4,3 +4,9 @@ pub mod Text
 pub mod Grammar
 pub mod Types
 pub mod Meaning
+pub mod Expr
+pub mod Stmt
+pub mod Program
+pub mod Value
+pub mod Whole
+pub mod Equality
