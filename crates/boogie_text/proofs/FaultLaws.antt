@@ -1,0 +1,109 @@
+-- Bytes are refused in one way at most, and not where they spell a program whose brackets are not too deep.
+use Rattle.std.proofs.Common.{◌≡◌, ◌∙◌, refl, sym, ap, subst, ℕ, ◌+◌, inl, inr, arith, List, ◌∷◌, ◌++◌, Some, take, drop}
+use Rattle.std.specs.Prelude.{slice_get}
+use Rattle.std.proofs.lemmas.Bool.{cases_order}
+use Rattle.vb_base.specs.declared.places.Pos.{Pos}
+use Rattle.vb_base.specs.Place.{IsPlace, IsPlaceAfter}
+use Rattle.vb_base.proofs.PlaceLaws.{one_place_after, one_place}
+use Rattle.boogie_tree.specs.Program.{BProgram}
+use Rattle.boogie_tree.specs.Text.{prelude}
+use Rattle.boogie_text.specs.declared.faults.BoogieFault.{BoogieFault}
+use Rattle.boogie_text.specs.declared.faults.BoogieFault.TheVariants as fault
+use Rattle.boogie_text.specs.declared.tokens.BToken.{BToken}
+use Rattle.boogie_text.specs.Cut.{IsCut, piece}
+use Rattle.boogie_text.specs.Depth.{IsShallow, IsTooDeep}
+use Rattle.boogie_text.specs.Spells.{BSpells, IsProgram}
+use Rattle.boogie_text.specs.Faults.{Differs, ended, other, later, Stops, place_at, IsFault, no_prelude, no_token, too_deep, no_program}
+use Rattle.boogie_text.specs.Faults as s
+use Rattle.boogie_text.proofs.CutLaws.{one_piece, one_cut}
+use Rattle.boogie_text.proofs.Parsed.{append-same_front}
+
+one_difference : {xs ys s t : List ℕ} → Differs xs ys s → Differs xs ys t → s ≡ t
+one_difference ended ended = refl
+one_difference (other n) (other m) = refl
+one_difference (other n) (later e d) = absurd (n e)
+one_difference (later e d) (other n) = absurd (n e)
+one_difference (later {a = a} e d) (later f g) = ap (λ l. a ∷ l) (one_difference d g)
+
+same_head : {x y : ℕ} {xs ys : List ℕ} → x ∷ xs ≡ y ∷ ys → x ≡ y
+same_head h = cc
+
+same_tail : {x y : ℕ} {xs ys : List ℕ} → x ∷ xs ≡ y ∷ ys → xs ≡ ys
+same_tail h = cc
+
+not_begun : {xs ys s : List ℕ} → Differs xs ys s → (rest : List ℕ) → xs ≡ ys ++ rest → ⊥
+not_begun ended rest e = cc
+not_begun (other n) rest e = n (same_head e)
+not_begun (later f d) rest e = not_begun d rest (same_tail e)
+
+one_stop : {before rest : List ℕ} {p q : Pos} → Stops before rest p → Stops before rest q → p ≡ q
+one_stop (s.here {before = before} {at = p} n a) (s.here {at = q} m b) = one_place_after before p q a b
+one_stop (s.here n a) (s.later p h) = absurd (n _ _ p)
+one_stop (s.later p h) (s.here n a) = absurd (n _ _ p)
+one_stop (s.later {before = before} {bytes = bytes} {b = b} p h) (s.later {at = q} r k) =
+    let At : ℕ → Type 0 = λ n. Stops (before ++ take n (b ∷ bytes)) (drop n (b ∷ bytes)) q in
+    one_stop h (subst At (sym (one_piece p r).1) k)
+
+never_both : {before rest : List ℕ} {at : Pos} {ts : List BToken} → Stops before rest at → IsCut before rest ts → ⊥
+never_both (s.here n a) (piece p b h) = n _ _ p
+never_both (s.later {before = before} {bytes = bytes} {b = b} p h) (piece {tokens = ts} r a k) =
+    let At : ℕ → Type 0 = λ n. IsCut (before ++ take n (b ∷ bytes)) (drop n (b ∷ bytes)) ts in
+    never_both h (subst At (sym (one_piece p r).1) k)
+
+not_shallow : {ts : List BToken} {at : Pos} → IsTooDeep ts at → IsShallow ts → ⊥
+not_shallow d h = let l = h (d.index + 1) in let a = d.above in omega arith
+
+same_token : {k j : BToken} → Some k ≡ Some j → k ≡ j
+same_token e = cc
+
+one_index : {ts : List BToken} {p q : Pos} (d : IsTooDeep ts p) (e : IsTooDeep ts q) → d.index ≡ e.index
+one_index d e = elim (cases_order d.index e.index) [
+  | inl same ↦ same
+  | inr (inl lt) ↦ absurd (let l = e.before (d.index + 1) (omega arith) in let a = d.above in omega arith)
+  | inr (inr lt) ↦ absurd (let l = d.before (e.index + 1) (omega arith) in let a = e.above in omega arith)
+]
+
+one_depth : {ts : List BToken} {p q : Pos} → IsTooDeep ts p → IsTooDeep ts q → p ≡ q
+one_depth {ts = ts} d e =
+    let same = same_token (sym d.here ∙ ap (slice_get ts) (one_index d e) ∙ e.here) in
+    sym d.place ∙ ap (λ k. k.pos) same ∙ e.place
+
+-- the same tokens
+
+cut_as : {bytes rest left : List ℕ} {ts us : List BToken} → bytes ≡ prelude ++ rest → bytes ≡ prelude ++ left → IsCut prelude rest ts → IsCut prelude left us → us ≡ ts
+cut_as {rest = rest} {left = left} {us = us} e f h k =
+    let same : left ≡ rest = append-same_front prelude (sym f ∙ e) in
+    sym (one_cut h (subst (λ r. IsCut prelude r us) same k))
+
+stop_as : {bytes rest left : List ℕ} {at : Pos} → bytes ≡ prelude ++ rest → bytes ≡ prelude ++ left → Stops prelude left at → Stops prelude rest at
+stop_as {at = at} e f h = subst (λ r. Stops prelude r at) (append-same_front prelude (sym f ∙ e)) h
+
+pub one_fault : (bytes : List ℕ) (f g : BoogieFault) → IsFault bytes f → IsFault bytes g → f ≡ g
+one_fault bytes _ _ (no_prelude {at = p} d a) (no_prelude {at = q} e b) =
+    ap fault.Prelude (one_place_after _ p q a (subst (λ l. IsPlaceAfter l q) (sym (one_difference d e)) b))
+one_fault bytes _ _ (no_prelude d a) (no_token e h) = absurd (not_begun d _ e)
+one_fault bytes _ _ (no_prelude d a) (too_deep e h i) = absurd (not_begun d _ e)
+one_fault bytes _ _ (no_prelude d a) (no_program e h i n j k) = absurd (not_begun d _ e)
+one_fault bytes _ _ (no_token e h) (no_prelude d a) = absurd (not_begun d _ e)
+one_fault bytes _ _ (no_token e h) (no_token f k) = ap fault.Syntax (one_stop h (stop_as e f k))
+one_fault bytes _ _ (no_token e h) (too_deep f k i) = absurd (never_both (stop_as f e h) k)
+one_fault bytes _ _ (no_token e h) (no_program f k i n j l) = absurd (never_both (stop_as f e h) k)
+one_fault bytes _ _ (too_deep e h i) (no_prelude d a) = absurd (not_begun d _ e)
+one_fault bytes _ _ (too_deep e h i) (no_token f k) = absurd (never_both (stop_as e f k) h)
+one_fault bytes _ _ (too_deep e h i) (too_deep {at = q} f k j) = ap fault.Deep (one_depth i (subst (λ ts. IsTooDeep ts q) (cut_as e f h k) j))
+one_fault bytes _ _ (too_deep e h i) (no_program f k j n l m) = absurd (not_shallow i (subst IsShallow (cut_as e f h k) j))
+one_fault bytes _ _ (no_program e h i n j k) (no_prelude d a) = absurd (not_begun d _ e)
+one_fault bytes _ _ (no_program e h i n j k) (no_token f l) = absurd (never_both (stop_as e f l) h)
+one_fault bytes _ _ (no_program e h i n j k) (too_deep {at = q} f l m) = absurd (not_shallow (subst (λ ts. IsTooDeep ts q) (cut_as e f h l) m) i)
+one_fault bytes _ _ (no_program {ts = ts} {i = x} {end = p} e h i n j k) (no_program {ts = us} {i = y} {end = q} f l m o u w) =
+    let same = cut_as e f h l in
+    let number : y ≡ x = one_place IsProgram ts y x (subst (λ z. IsPlace IsProgram z y) same u) j in
+    let last : q ≡ p = one_place_after bytes q p w k in
+    ap fault.Syntax (sym (ap (λ z. place_at z y q) same ∙ ap (λ z. place_at ts z q) number ∙ ap (λ z. place_at ts x z) last))
+
+-- what spells a program and is not too deep is not refused
+pub not_refused : (bytes : List ℕ) (f : BoogieFault) (b : BProgram) (h : BSpells bytes b) → IsShallow h.tokens → IsFault bytes f → ⊥
+not_refused bytes _ b h shallow (no_prelude d a) = not_begun d h.rest h.text
+not_refused bytes _ b h shallow (no_token e k) = never_both (stop_as h.text e k) h.cut
+not_refused bytes _ b h shallow (too_deep {at = q} e k i) = not_shallow (subst (λ ts. IsTooDeep ts q) (cut_as h.text e h.cut k) i) shallow
+not_refused bytes _ b h shallow (no_program e k i n j l) = n (subst IsProgram (sym (cut_as h.text e h.cut k)) (b, h.spells))

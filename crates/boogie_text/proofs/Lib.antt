@@ -1,0 +1,9 @@
+pub mod CutLaws
+pub mod NameLaws
+pub mod Elements
+pub mod Codes
+pub mod Complete
+pub mod Parsed
+pub mod Answered
+pub mod DepthLaws
+pub mod FaultLaws

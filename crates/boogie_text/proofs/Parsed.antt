@@ -1,0 +1,33 @@
+-- Bytes spell one program at most.
+use Rattle.std.proofs.Common.{◌≡◌, ◌∙◌, ℕ, List, ◌∷◌, [], ◌++◌, sym, subst}
+use Rattle.grammar.proofs.Reading.{one_reading}
+use Rattle.boogie_tree.specs.Program.{BProgram}
+use Rattle.boogie_tree.specs.Text.{prelude}
+use Rattle.boogie_text.specs.declared.tokens.BToken.{BToken}
+use Rattle.boogie_text.specs.Cut.{IsCut}
+use Rattle.boogie_text.specs.Grammar as g
+use Rattle.boogie_text.specs.Grammar.{rules}
+use Rattle.boogie_text.specs.Spells.{Spells, BSpells}
+use Rattle.boogie_text.proofs.CutLaws.{one_cut}
+use Rattle.boogie_text.proofs.Elements.{laws}
+use Rattle.boogie_text.proofs.Complete.{complete}
+
+program_is : (p q : BProgram) → p.procs ≡ q.procs → p ≡ q
+program_is p q e = λ t. record { procs = e t }
+
+pub one_tree : (ts : List BToken) (p q : BProgram) → Spells ts p → Spells ts q → p ≡ q
+one_tree ts p q a b = program_is p q (one_reading rules laws (complete (g.Program []) a) (complete (g.Program []) b)).0
+
+same_rest : {x : ℕ} {ys zs : List ℕ} → x ∷ ys ≡ x ∷ zs → ys ≡ zs
+same_rest h = cc
+
+pub append-same_front : (xs : List ℕ) {ys zs : List ℕ} → xs ++ ys ≡ xs ++ zs → ys ≡ zs
+append-same_front [] h = h
+append-same_front (x ∷ xs) h = append-same_front xs (same_rest h)
+
+pub one_program : (bytes : List ℕ) (a b : BProgram) → BSpells bytes a → BSpells bytes b → a ≡ b
+one_program bytes a b p q =
+    let rest : q.rest ≡ p.rest = append-same_front prelude (sym q.text ∙ p.text) in
+    let cut : IsCut prelude p.rest q.tokens = subst (λ r. IsCut prelude r q.tokens) rest q.cut in
+    let tokens : q.tokens ≡ p.tokens = sym (one_cut p.cut cut) in
+    one_tree p.tokens a b p.spells (subst (λ ts. Spells ts b) tokens q.spells)

@@ -1,0 +1,39 @@
+// Laws of the text, each the contract of a function with nothing to do.
+ghost use Rattle.std.specs.Prelude.{◌≡◌, ◌⊎◌, List, ℕ};
+ghost use Rattle.vb_base.specs.Place.{IsPlace};
+ghost use Rattle.boogie_tree.specs.Program as p;
+ghost use Rattle.boogie_text.specs.declared.tokens.BToken.{BToken};
+ghost use Rattle.boogie_text.specs.declared.faults.BoogieFault.{BoogieFault};
+ghost use Rattle.boogie_text.specs.Depth.{IsShallow};
+ghost use Rattle.boogie_text.specs.Faults.{IsFault};
+ghost use Rattle.boogie_text.specs.Spells.{Spells, BSpells, IsProgram, GoesWrong};
+
+/// No bytes spell two programs.
+pub fn one_program()
+    ensures { (bytes : List ℕ) (a : p.BProgram) (b : p.BProgram) → BSpells bytes a → BSpells bytes b → a ≡ b }
+{}
+
+/// A list of tokens spells at most one program.
+pub fn one_tree()
+    ensures { (ts : List BToken) (a : p.BProgram) (b : p.BProgram) → Spells ts a → Spells ts b → a ≡ b }
+{}
+
+/// A list of tokens goes wrong at one place at most.
+pub fn one_place()
+    ensures { (ts : List BToken) (i j : ℕ) → IsPlace IsProgram ts i → IsPlace IsProgram ts j → i ≡ j }
+{}
+
+/// Each list of tokens spells a program, or spells none and goes wrong at a place.
+pub fn some_answer()
+    ensures { (ts : List BToken) → IsProgram ts ⊎ GoesWrong ts }
+{}
+
+/// Bytes are refused in one way at most.
+pub fn one_fault()
+    ensures { (bytes : List ℕ) (f g : BoogieFault) → IsFault bytes f → IsFault bytes g → f ≡ g }
+{}
+
+/// Bytes that spell a program whose brackets are not too deep are not refused.
+pub fn not_refused()
+    ensures { (bytes : List ℕ) (f : BoogieFault) (b : p.BProgram) (h : BSpells bytes b) → IsShallow h.tokens → IsFault bytes f → ⊥ }
+{}
