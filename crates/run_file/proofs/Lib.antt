@@ -1,0 +1,16 @@
+pub mod WordLaws
+pub mod NumberLaws
+pub mod ValueLaws
+pub mod TypeLaws
+pub mod ContentLaws
+pub mod NameTables
+pub mod MemoLaws
+pub mod ReadLaws
+pub mod LineLaws
+pub mod NamedLaws
+pub mod RunLaws
+pub mod FileLaws
+pub mod ScopeLaws
+pub mod OneRun
+pub mod PrintLaws
+pub mod SpelledLaws

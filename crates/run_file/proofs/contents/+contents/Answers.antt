@@ -1,0 +1,23 @@
+use Rattle.std.proofs.Common.{◌≡◌, ◌∙◌, ◌+◌, sym, ap, arith, true, ℕ, List, ◌∷◌, []}
+use Rattle.std.specs.Prelude.{codes}
+use Rattle.std.specs.Str.{bytes_eq}
+use Rattle.std.proofs.lemmas.Slice.Eq.{bytes_eq-Decides}
+use Rattle.run_file.proofs.ContentLaws.{unit_found, no_second_content, pair_found}
+use Rattle.run_file.proofs.contents.+contents.Goals as goal
+
+pub content-returns-then-eq : goal.content-returns-then-eq
+content-returns-then-eq t c =
+    let same : bytes_eq c.in-Some.word.now c.as_slice.result.now ≡ true = sym c.eq.ensures ∙ c.if-eq.true in
+    let named = (bytes_eq-Decides c.in-Some.word.now (codes "unit")).0 (rw c.as_slice.ensures at same) in
+    (unit_found c.in-Some.ensures named, omega (arith, c.in-Some-checked_sub.ensures))
+
+pub pair-returns-in_default-2 : goal.pair-returns-in_default-2
+pair-returns-in_default-2 t c =
+    let left = rw c.in-Some.is at c.in_ok-left.ensures in
+    no_second_content c.args.room c.in-Some.room left.0 left.1 (rw c.in_default-2.is at c.in_ok-right.ensures)
+
+pub pair-returns : goal.pair-returns
+pair-returns t c =
+    let left = rw c.in-Some.is at c.in_ok-left.ensures in
+    let right = rw c.in-Some-2.is at c.in_ok-right.ensures in
+    rw (c.in_ok-left-2.ensures.0, c.in_ok-left-2.ensures.1) (pair_found c.args.room c.in-Some.room c.in-Some-2.room left.0 left.1 right.0 right.1)

@@ -1,0 +1,16 @@
+use Rattle.std.proofs.Common.{ap, refl}
+use Rattle.std.proofs.lemmas.Option.{slice_get_read}
+use Rattle.viper_state.proofs.MapLaws.{contents_changed, contents_cloned, handed}
+use Rattle.viper_state.specs.View.{memo_of}
+use Rattle.run_file.proofs.memos.set_content.Goals as goal
+
+pub set-requires : goal.set-requires
+set-requires c = contents_cloned (λ k q h. h) (λ v w h. h)
+
+pub returns-in-Some : goal.returns-in-Some
+returns-in-Some c =
+    let item = c.in-Some.ensures.item in
+    let there = slice_get_read c.args.memo.now.content.items _ c.args.predicate c.in-Some.contents.now refl item.3.0 item.1 in
+    handed c.set.result c.grown.result c.grown.ensures c.set.ensures.changed (λ h.
+    ap (λ maps. record { heap = (memo_of c.args.memo.now).heap; content = maps })
+    (contents_changed c.args.memo.now.content.items c.args.predicate c.in-Some.contents.now c.set.new.self c.args.key c.args.content there h))

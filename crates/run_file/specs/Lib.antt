@@ -1,0 +1,11 @@
+pub mod Text
+pub mod Values
+pub mod Lines
+pub mod NamedOrder
+pub mod Run
+pub mod LineView
+pub mod Reading
+pub mod Found
+pub mod Progress
+pub mod View
+pub mod Printed

@@ -1,0 +1,131 @@
+-- Which run of a unit a run file spells, and where a file goes wrong that spells none.
+use Rattle.std.specs.Prelude.{⊤, ◌≡◌, ◌≢◌, ◌⊎◌, ◌<◌, ◌+◌, ℕ, List, [], ◌∷◌, ◌++◌, codes, length, map, fold, take, slice_set, AllPairs}
+use Rattle.std.specs.List.{AllByRecursion, AllZip}
+use Rattle.std.specs.Ordering.{nat_cmp}
+use Rattle.sparse.specs.Map.{empty}
+use Rattle.vb_base.specs.Place.{line_after}
+use Rattle.vb_base.specs.declared.places.Pos.{Pos}
+use Rattle.vb_value.specs.Content as content
+use Rattle.vb_value.specs.Content.{same_content}
+use Rattle.vb_value.specs.Key.{key_cmp}
+use Rattle.vb_value.specs.Value.{default_of, value_eq}
+use Rattle.vb_value.specs.declared.values.Ty.{Ty}
+use Rattle.viper_core.specs.Program.{Program}
+use Rattle.viper_state.specs.State.{Key, Memo, changed_at}
+use Rattle.viper_state.specs.Run.{Opening}
+use Rattle.viper_state.specs.Choice.{Choice, Filled}
+use Rattle.run_file.specs.Text.{lines_of, is_skipped, told}
+use Rattle.run_file.specs.Lines.{Known, Scope, scope_of, Line, Var, Heap, Holds, Chosen, Opened, IsLine}
+use Rattle.run_file.specs.declared.lines.Named.{Named}
+use Rattle.run_file.specs.declared.lines.Named.TheVariants as named
+
+-- where a run of a unit begins, and the choices that it then takes
+pub record ViperRun : Type 0 where
+  pub opening : Opening
+  pub choices : List Choice
+
+-- ---- lines that fill a heap, contents and variables
+
+-- what is named by no line has its default
+abbrev pub empty_memo : List Ty → List (List Ty) → Memo
+empty_memo fields keys = record { heap = map (λ u. empty (default_of u)) fields; content = map (λ us. empty content.Unit) keys }
+
+abbrev pub scope_memo : Scope → Memo
+scope_memo s = empty_memo s.fields.types s.predicates.types
+
+abbrev pub empty_opening : Scope → Opening
+empty_opening s = record { store = map default_of s.variables.types; memo = scope_memo s }
+
+-- a heap and contents with what a line gives. A line that gives the default leaves no entry.
+abbrev pub memo_with : Memo → Line → Memo
+memo_with m (Heap f r v) = record m { heap = changed_at nat_cmp value_eq m.heap f r v }
+memo_with m (Holds q k c) = record m { content = changed_at key_cmp same_content m.content q k c }
+memo_with m (Var n v) = m
+memo_with m (Chosen c) = m
+memo_with m Opened = m
+
+abbrev pub opening_with : Opening → Line → Opening
+opening_with o (Var n v) = record o { store = slice_set o.store n v }
+opening_with o (Heap f r v) = record o { memo = memo_with o.memo (Heap f r v) }
+opening_with o (Holds q k c) = record o { memo = memo_with o.memo (Holds q k c) }
+opening_with o (Chosen c) = o
+opening_with o Opened = o
+
+-- a line of a heap and contents
+abbrev pub IsPlaceLine : Line → Type 0
+IsPlaceLine (Heap f r v) = ⊤
+IsPlaceLine (Holds q k c) = ⊤
+IsPlaceLine (Var n v) = ⊥
+IsPlaceLine (Chosen c) = ⊥
+IsPlaceLine Opened = ⊥
+
+-- such a line, or one of a variable
+abbrev pub IsSetting : Line → Type 0
+IsSetting (Var n v) = ⊤
+IsSetting (Heap f r v) = ⊤
+IsSetting (Holds q k c) = ⊤
+IsSetting (Chosen c) = ⊥
+IsSetting Opened = ⊥
+
+-- the variable, the place or the instance that a line names, however it is spelled
+abbrev pub names_of : Line → List Named
+names_of (Var n v) = named.Variable n ∷ []
+names_of (Heap f r v) = named.Place f r ∷ []
+names_of (Holds q k c) = named.Instance q k ∷ []
+names_of (Chosen c) = []
+names_of Opened = []
+
+abbrev pub all_names : List Line → List Named
+all_names [] = []
+all_names (l ∷ ls) = names_of l ++ all_names ls
+
+-- no two of these lines name the same
+abbrev pub NamedOnce : List Line → Type 0
+NamedOnce ls = AllPairs (λ a b. a ≢ b) (all_names ls)
+
+-- ---- runs
+
+-- these lines are these choices, where a heap and contents begin as the default and are filled by the lines after them
+pub data AreChoices (s : Scope) : List Line → List Choice → Type 0 where
+  none : AreChoices s [] []
+  one : {c : Choice} {ls : List Line} {cs : List Choice} → AreChoices s ls cs → AreChoices s (Chosen c ∷ ls) (c ∷ cs)
+  filled : (block : List Line) {ls : List Line} {cs : List Choice} → AllByRecursion IsPlaceLine block → NamedOnce block → AreChoices s ls cs →
+      AreChoices s (Opened ∷ block ++ ls) (Filled (fold memo_with (scope_memo s) block) ∷ cs)
+
+-- these lines, after the header, are this run: first come the lines of the opening, and then the choices
+pub record AreRun (s : Scope) (ls : List Line) (run : ViperRun) : Type 0 where
+  pub settings : List Line
+  pub rest : List Line
+  pub whole : ls ≡ settings ++ rest
+  pub only : AllByRecursion IsSetting settings
+  pub once : NamedOnce settings
+  pub opening : run.opening ≡ fold opening_with (empty_opening s) settings
+  pub choices : AreChoices s rest run.choices
+
+abbrev pub header : List (List ℕ)
+header = codes "viper" ∷ codes "run" ∷ []
+
+-- the lines of a file spell this run of the unit: those that are not skipped are the header, and lines that are the run
+pub record SpellRun (p : Program) (n : ℕ) (lines : List (List ℕ)) (run : ViperRun) : Type 0 where
+  pub words : List (List (List ℕ))
+  pub said : List Line
+  pub headed : told lines ≡ header ∷ words
+  pub meant : AllZip (IsLine (scope_of p n)) words said
+  pub means : AreRun (scope_of p n) said run
+
+-- the bytes spell this run of the unit of this number
+abbrev pub SpellsViperRun : List ℕ → Program → ℕ → ViperRun → Type 0
+SpellsViperRun bytes p n run = SpellRun p n (lines_of bytes) run
+
+-- ---- where a file goes wrong
+
+-- lines that may stand at the front of a file: all of them are skipped, or they spell a run
+abbrev pub MayStand : Program → ℕ → List (List ℕ) → Type 0
+MayStand p n lines = (told lines ≡ []) ⊎ ((run : ViperRun) × SpellRun p n lines run)
+
+-- The file goes wrong at this place, in column 1: at the first line that may not stand there, or, where all lines are
+-- skipped, so that the header is missing, at the last.
+pub data GoesWrongAt (bytes : List ℕ) (p : Program) (n : ℕ) (at : Pos) : Type 0 where
+  bad_line : (i : ℕ) → i < length (lines_of bytes) → MayStand p n (take i (lines_of bytes)) →
+      (MayStand p n (take (i + 1) (lines_of bytes)) → ⊥) → at.line ≡ i + 1 → at.col ≡ 1 → GoesWrongAt bytes p n at
+  no_header : told (lines_of bytes) ≡ [] → at.line ≡ line_after bytes → at.col ≡ 1 → GoesWrongAt bytes p n at

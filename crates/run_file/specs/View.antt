@@ -1,0 +1,26 @@
+-- The plain data that contracts see of a run, and of how far a file is read.
+use Rattle.std.specs.Prelude.{◌≡◌, ◌⊎◌, map, Result, Ok, Err}
+use Rattle.vb_base.specs.declared.places.Pos.{Pos}
+use Rattle.viper_state.specs.View.{opening_of, choice_of}
+use Rattle.run_file.specs.Run as r
+use Rattle.run_file.specs.Progress.{Progress}
+use Rattle.run_file.specs.declared.runs.ViperRun.{ViperRun}
+use Rattle.run_file.specs.declared.runs.RunFileFault.{RunFileFault}
+use Rattle.run_file.specs.declared.runs.RunFileFault.TheVariants as fault
+use Rattle.run_file.specs.declared.reader.Reader.{Reader}
+
+abbrev pub run_of : ViperRun → r.ViperRun
+run_of x = record { opening = opening_of x.opening; choices = map choice_of x.choices.items }
+
+abbrev pub progress_of : Reader → Progress
+progress_of x = record { stage = x.stage; named = x.named.keys; run = run_of x.run }
+
+-- the result is this run, unless memory was refused
+abbrev pub GivesRun : r.ViperRun → Result ViperRun RunFileFault → Type 0
+GivesRun run (Ok x) = run_of x ≡ run
+GivesRun run (Err e) = e ≡ fault.Memory
+
+-- the result is this place, unless memory was refused
+abbrev pub GivesPlace : Pos → Result ViperRun RunFileFault → Type 0
+GivesPlace at (Ok x) = ⊥
+GivesPlace at (Err e) = (e ≡ fault.Syntax at) ⊎ (e ≡ fault.Memory)

@@ -1,0 +1,19 @@
+//! The files from which a run is read: where a unit begins, and the choices that it takes. They are read and printed.
+//!
+//! `specs/` says which run a file spells (`Run`), and where a file goes wrong that spells none.
+#![tactic(auto)]
+
+mod contents;
+pub mod laws;
+mod lines;
+mod memos;
+mod names;
+mod printer;
+mod reader;
+mod runs;
+mod texts;
+mod values;
+
+pub use printer::print_viper_run;
+pub use reader::read_viper_run;
+pub use runs::{RunFileFault, ViperRun};

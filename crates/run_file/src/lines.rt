@@ -1,0 +1,268 @@
+// The lines of a run file of Viper.
+ghost use Rattle.std.specs.Prelude.{◌≡◌, IfOk, MatchOption, Some, find};
+ghost use Rattle.std.specs.Option.{option_map, option_copied};
+ghost use Rattle.std.specs.Str.{bytes_eq};
+ghost use Rattle.viper_state.specs.View.{choice_of};
+ghost use Rattle.run_file.specs.Text.{words_of};
+ghost use Rattle.run_file.specs.Lines as l;
+ghost use Rattle.run_file.specs.Reading as reading;
+ghost use Rattle.run_file.specs.LineView.{line_view, scope_view};
+
+use crate::contents::{key, whole_content};
+use crate::names::{Names, Scope};
+use crate::texts::next_word;
+use crate::values::{any_value, fraction, reference, truth, value};
+use std::alloc::Global;
+use vb_base::Memory;
+use vb_value::{Content, Key, Ty, Value};
+use viper_state::Choice;
+
+/// What a line names: a variable, a field at a reference, or an instance of a predicate.
+#[derive(Drop, PartialEq, Eq, PartialOrd, Ord)]
+pub enum Named {
+    Variable(usize),
+    Place(usize, u64),
+    Instance(usize, Key),
+}
+
+/// The first word of a line.
+#[derive(Clone, Copy)]
+enum Keyword {
+    Var,
+    Heap,
+    Content,
+    Pick,
+    Value,
+    Amount,
+    Fresh,
+    State,
+}
+
+const KEYWORDS: [Keyword; 8] = [
+    Keyword::Var,
+    Keyword::Heap,
+    Keyword::Content,
+    Keyword::Pick,
+    Keyword::Value,
+    Keyword::Amount,
+    Keyword::Fresh,
+    Keyword::State,
+];
+
+/// What a line says.
+#[derive(Drop)]
+pub(crate) enum Line {
+    /// A variable has a value.
+    Var(usize, Value),
+    /// A field has a value at a reference.
+    Heap(usize, u64, Value),
+    /// An instance of a predicate has a content.
+    Content(usize, Key, Content),
+    /// A choice that is no heap and contents.
+    Chosen(Choice),
+    /// A choice of a heap and contents, which the lines after it fill.
+    State,
+}
+
+/// The line that these words are, if they are one.
+pub(crate) fn line_of(alloc: Global, scope: Scope, words: &[u8]) -> Result<Option<Line>, Memory>
+    ensures { IfOk result (λ l. option_map line_view l ≡ reading.line_of (scope_view scope.entry) (words_of words.now)) }
+{
+    let Some((word, rest)) = next_word(words) else {
+        return Ok(None);
+    };
+    match keyword_of(word) {
+        Some(keyword) => keyed_line(alloc, scope, keyword, rest),
+        None => Ok(None),
+    }
+}
+
+/// The line behind its first word.
+fn keyed_line(
+    alloc: Global,
+    scope: Scope,
+    keyword: Keyword,
+    words: &[u8],
+) -> Result<Option<Line>, Memory>
+    ensures { IfOk result (λ l. option_map line_view l ≡ reading.keyed_line (scope_view scope.entry) keyword (words_of words.now)) }
+{
+    match keyword {
+        Keyword::Var => var_line(alloc, scope, words),
+        Keyword::Heap => heap_line(alloc, scope, words),
+        Keyword::Content => content_line(alloc, scope, words),
+        Keyword::Pick => Ok(chosen(pick_line(words))),
+        Keyword::Value => Ok(chosen(value_line(words))),
+        Keyword::Amount => Ok(chosen(amount_line(words))),
+        Keyword::Fresh => Ok(chosen(fresh_line(words))),
+        Keyword::State => Ok(state_line(words)),
+    }
+}
+
+fn chosen(choice: Option<Choice>) -> Option<Line>
+    ensures { option_map line_view result ≡ option_map l.Chosen (option_map choice_of choice) }
+{
+    Some(Line::Chosen(choice?))
+}
+
+fn keyword_text(keyword: Keyword) -> &'static str
+    ensures { result.now ≡ reading.keyword_text keyword }
+{
+    match keyword {
+        Keyword::Var => "var",
+        Keyword::Heap => "heap",
+        Keyword::Content => "content",
+        Keyword::Pick => "pick",
+        Keyword::Value => "value",
+        Keyword::Amount => "amount",
+        Keyword::Fresh => "fresh",
+        Keyword::State => "state",
+    }
+}
+
+fn keyword_of(word: &[u8]) -> Option<Keyword>
+    ensures { result ≡ reading.keyword_of word.now }
+{
+    keyword_among(&KEYWORDS, word)
+}
+
+fn keyword_among(keywords: &[Keyword], word: &[u8]) -> Option<Keyword>
+    ensures { result ≡ find (λ k. bytes_eq word.now (reading.keyword_text k)) keywords.now }
+{
+    keywords
+        .iter()
+        .copied()
+        .find(|keyword| word == keyword_text(*keyword).as_bytes())
+}
+
+/// The one word, where there is no other.
+fn single(words: &[u8]) -> Option<&[u8]>
+    ensures { option_map (λ w. w.now) result ≡ reading.single (words_of words.now) }
+{
+    let (word, rest) = next_word(words)?;
+    match next_word(rest) {
+        Some(_) => None,
+        None => Some(word),
+    }
+}
+
+/// The value of a type that is the one word.
+fn only_value(ty: Ty, words: &[u8]) -> Option<Value>
+    ensures { result ≡ reading.only_value ty (words_of words.now) }
+{
+    value(ty, single(words)?)
+}
+
+/// The name with which the words of a line begin, as its number, and the rest of the line.
+fn numbered<'a>(
+    alloc: Global,
+    names: &Names,
+    words: &'a [u8],
+) -> Result<Option<(usize, &'a [u8])>, Memory>
+    ensures { IfOk result (λ r. option_map (λ x. (x.0, words_of x.1.now)) r ≡ reading.numbered_name names.now (words_of words.now)) }
+{
+    let Some((name, rest)) = next_word(words) else {
+        return Ok(None);
+    };
+    match names.number_of(alloc, name)? {
+        Some(number) => Ok(Some((number, rest))),
+        None => Ok(None),
+    }
+}
+
+fn var_line(alloc: Global, scope: Scope, words: &[u8]) -> Result<Option<Line>, Memory>
+    ensures { IfOk result (λ l. option_map line_view l ≡ reading.named_line reading.variable_line (scope_view scope.entry).variables (words_of words.now)) }
+{
+    match numbered(alloc, scope.variables, words)? {
+        Some((number, rest)) => Ok(variable_line(number, scope.types.get(number), rest)),
+        None => Ok(None),
+    }
+}
+
+fn variable_line(number: usize, ty: Option<&Ty>, words: &[u8]) -> Option<Line>
+    ensures { option_map line_view result ≡ reading.variable_line number (option_copied ty.entry) (words_of words.now) }
+{
+    Some(Line::Var(number, only_value(*ty?, words)?))
+}
+
+fn heap_line(alloc: Global, scope: Scope, words: &[u8]) -> Result<Option<Line>, Memory>
+    ensures { IfOk result (λ l. option_map line_view l ≡ reading.named_line reading.place_line (scope_view scope.entry).fields (words_of words.now)) }
+{
+    match numbered(alloc, scope.fields, words)? {
+        Some((number, rest)) => {
+            let layout = scope.layout;
+            Ok(place_line(number, layout.fields.get(number), rest))
+        }
+        None => Ok(None),
+    }
+}
+
+fn place_line(number: usize, ty: Option<&Ty>, words: &[u8]) -> Option<Line>
+    ensures { option_map line_view result ≡ reading.place_line number (option_copied ty.entry) (words_of words.now) }
+{
+    let ty = *ty?;
+    let (place, rest) = next_word(words)?;
+    Some(Line::Heap(number, reference(place)?, only_value(ty, rest)?))
+}
+
+fn content_line(alloc: Global, scope: Scope, words: &[u8]) -> Result<Option<Line>, Memory>
+    ensures { IfOk result (λ l. option_map line_view l ≡ reading.named_line reading.instance_line (scope_view scope.entry).predicates (words_of words.now)) }
+{
+    let Some((number, rest)) = numbered(alloc, scope.predicates, words)? else {
+        return Ok(None);
+    };
+    let layout = scope.layout;
+    match layout.keys.get(number) {
+        Some(types) => instance_line(alloc, number, types, rest),
+        None => Ok(None),
+    }
+}
+
+fn instance_line(
+    alloc: Global,
+    number: usize,
+    types: &[Ty],
+    words: &[u8],
+) -> Result<Option<Line>, Memory>
+    ensures { IfOk result (λ l. option_map line_view l ≡ reading.instance_line number (Some types.now) (words_of words.now)) }
+{
+    let Some((key, rest)) = key(alloc, types, words)? else {
+        return Ok(None);
+    };
+    match whole_content(alloc, rest)? {
+        Some(content) => Ok(Some(Line::Content(number, key, content))),
+        None => Ok(None),
+    }
+}
+
+fn pick_line(words: &[u8]) -> Option<Choice>
+    ensures { option_map choice_of result ≡ reading.pick_line (words_of words.now) }
+{
+    Some(Choice::Branch(truth(single(words)?)?))
+}
+
+fn value_line(words: &[u8]) -> Option<Choice>
+    ensures { option_map choice_of result ≡ reading.value_line (words_of words.now) }
+{
+    Some(Choice::Took(any_value(single(words)?)?))
+}
+
+fn amount_line(words: &[u8]) -> Option<Choice>
+    ensures { option_map choice_of result ≡ reading.amount_line (words_of words.now) }
+{
+    Some(Choice::Amount(fraction(single(words)?)?))
+}
+
+fn fresh_line(words: &[u8]) -> Option<Choice>
+    ensures { option_map choice_of result ≡ reading.fresh_line (words_of words.now) }
+{
+    Some(Choice::Fresh(reference(single(words)?)?))
+}
+
+fn state_line(words: &[u8]) -> Option<Line>
+    ensures { option_map line_view result ≡ reading.state_line (words_of words.now) }
+{
+    match next_word(words) {
+        Some(_) => None,
+        None => Some(Line::State),
+    }
+}

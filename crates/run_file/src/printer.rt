@@ -1,0 +1,333 @@
+// The text of a run.
+ghost use Rattle.std.specs.Prelude.{◌≡◌, ◌++◌, IfOk, OnOk, map};
+ghost use Rattle.std.specs.Option.{option_copied, option_map};
+ghost use Rattle.vb_value.specs.View.{content_of};
+ghost use Rattle.viper_core.specs.Program as p;
+ghost use Rattle.viper_core.specs.View.{predicate_of, program_of};
+ghost use Rattle.viper_state.specs.View.{choice_of, contents_of, memo_of};
+ghost use Rattle.run_file.specs.Printed as text;
+ghost use Rattle.run_file.specs.View.{run_of};
+
+use crate::names::variables_of;
+use crate::runs::ViperRun;
+use sparse::Sparse;
+use std::alloc::Global;
+use vb_base::{Ident, Memory};
+use vb_value::{Content, Frac, Key, KeyPart, Value};
+use viper_core::{Predicate, Program};
+use viper_state::{Choice, Memo};
+
+/// The text of a run of a unit: the header, the variables other than their default, heap and contents, and the choices.
+pub fn print_viper_run(
+    alloc: Global,
+    program: &Program,
+    unit: u32,
+    run: &ViperRun,
+) -> Result<Vec<u8>, Memory>
+    ensures { IfOk result (λ out. out.items ≡ text.run_text (program_of program.now) unit (run_of run.now)) }
+{
+    let (names, _) = variables_of(program, unit);
+    let mut out = Vec::new(alloc);
+    put(&mut out, b"viper run\n")?;
+    put_variables(alloc, &mut out, names, &run.opening.store)?;
+    put_memo(alloc, &mut out, program, &run.opening.memo)?;
+    put_choices(alloc, &mut out, program, &run.choices)?;
+    Ok(out)
+}
+
+fn put_variables(
+    alloc: Global,
+    out: &mut Vec<u8>,
+    names: &[Ident],
+    values: &[Value],
+) -> Result<(), Memory>
+    ensures { OnOk result (out.new.items ≡ out.old.items ++ text.numbered_text text.var_text names.now 0 values.now) }
+{
+    for (i, value) in values.iter().enumerate() {
+        put_variable(alloc, out, names.get(i), *value)?;
+    }
+    Ok(())
+}
+
+/// A variable, unless it has its default.
+fn put_variable(
+    alloc: Global,
+    out: &mut Vec<u8>,
+    name: Option<&Ident>,
+    value: Value,
+) -> Result<(), Memory>
+    ensures { OnOk result (out.new.items ≡ out.old.items ++ text.named_text text.var_text (option_copied name.entry) value) }
+{
+    let Some(name) = name else {
+        return Ok(());
+    };
+    if value == Value::default_of(value.ty()) {
+        return Ok(());
+    }
+    put(out, b"var ")?;
+    put(out, &name.bytes)?;
+    put(out, b" ")?;
+    put_value(alloc, out, value)?;
+    put(out, b"\n")
+}
+
+fn put_memo(alloc: Global, out: &mut Vec<u8>, program: &Program, memo: &Memo) -> Result<(), Memory>
+    ensures { OnOk result (out.new.items ≡ out.old.items ++ text.memo_text (program_of program.now) (memo_of memo.now)) }
+{
+    put_heaps(alloc, out, &program.fields, &memo.heap)?;
+    put_contents(alloc, out, &program.predicates, &memo.content)
+}
+
+fn put_heaps(
+    alloc: Global,
+    out: &mut Vec<u8>,
+    fields: &[Ident],
+    heaps: &[Sparse<u64, Value>],
+) -> Result<(), Memory>
+    ensures { OnOk result (out.new.items ≡ out.old.items ++ text.numbered_text text.heap_text fields.now 0 heaps.now) }
+{
+    for (i, heap) in heaps.iter().enumerate() {
+        put_heap(alloc, out, fields.get(i), heap)?;
+    }
+    Ok(())
+}
+
+fn put_heap(
+    alloc: Global,
+    out: &mut Vec<u8>,
+    name: Option<&Ident>,
+    heap: &Sparse<u64, Value>,
+) -> Result<(), Memory>
+    ensures { OnOk result (out.new.items ≡ out.old.items ++ text.named_text text.heap_text (option_copied name.entry) heap.now) }
+{
+    match name {
+        Some(name) => put_places(alloc, out, name, heap),
+        None => Ok(()),
+    }
+}
+
+fn put_places(
+    alloc: Global,
+    out: &mut Vec<u8>,
+    name: &Ident,
+    heap: &Sparse<u64, Value>,
+) -> Result<(), Memory>
+    ensures { OnOk result (out.new.items ≡ out.old.items ++ text.heap_text name.now heap.now) }
+{
+    for i in 0..heap.len() {
+        let reference = *heap.key_at(i);
+        put_place(alloc, out, name, reference, *heap.get(&reference))?;
+    }
+    Ok(())
+}
+
+fn put_place(
+    alloc: Global,
+    out: &mut Vec<u8>,
+    name: &Ident,
+    reference: u64,
+    value: Value,
+) -> Result<(), Memory>
+    ensures { OnOk result (out.new.items ≡ out.old.items ++ text.place_text name.now reference value) }
+{
+    put(out, b"heap ")?;
+    put(out, &name.bytes)?;
+    put(out, b" ")?;
+    put_reference(alloc, out, reference)?;
+    put(out, b" ")?;
+    put_value(alloc, out, value)?;
+    put(out, b"\n")
+}
+
+fn put_contents(
+    alloc: Global,
+    out: &mut Vec<u8>,
+    predicates: &[Predicate],
+    contents: &[Sparse<Key, Content>],
+) -> Result<(), Memory>
+    ensures { OnOk result (out.new.items ≡ out.old.items
+        ++ text.numbered_text text.contents_text (map (λ (d : p.Predicate). d.name) (map predicate_of predicates.now)) 0 (map contents_of contents.now)) }
+{
+    for (i, map) in contents.iter().enumerate() {
+        put_predicate(alloc, out, predicates.get(i), map)?;
+    }
+    Ok(())
+}
+
+fn put_predicate(
+    alloc: Global,
+    out: &mut Vec<u8>,
+    predicate: Option<&Predicate>,
+    contents: &Sparse<Key, Content>,
+) -> Result<(), Memory>
+    ensures { OnOk result (out.new.items ≡ out.old.items
+        ++ text.named_text text.contents_text (option_map (λ d. (predicate_of d).name) (option_copied predicate.entry)) (contents_of contents.now)) }
+{
+    match predicate {
+        Some(predicate) => put_instances(alloc, out, &predicate.name, contents),
+        None => Ok(()),
+    }
+}
+
+fn put_instances(
+    alloc: Global,
+    out: &mut Vec<u8>,
+    name: &Ident,
+    contents: &Sparse<Key, Content>,
+) -> Result<(), Memory>
+    ensures { OnOk result (out.new.items ≡ out.old.items ++ text.contents_text name.now (contents_of contents.now)) }
+{
+    for i in 0..contents.len() {
+        let key = contents.key_at(i);
+        put_instance(alloc, out, name, key, contents.get(key))?;
+    }
+    Ok(())
+}
+
+fn put_instance(
+    alloc: Global,
+    out: &mut Vec<u8>,
+    name: &Ident,
+    key: &Key,
+    content: &Content,
+) -> Result<(), Memory>
+    ensures { OnOk result (out.new.items ≡ out.old.items ++ text.instance_text name.now key.now (content_of content.now)) }
+{
+    put(out, b"content ")?;
+    put(out, &name.bytes)?;
+    put(out, b" ")?;
+    put_key(alloc, out, &key.parts)?;
+    put_content(alloc, out, content)?;
+    put(out, b"\n")
+}
+
+/// The arguments of an instance, each with a space behind it.
+fn put_key(alloc: Global, out: &mut Vec<u8>, parts: &[KeyPart]) -> Result<(), Memory>
+    ensures { OnOk result (out.new.items ≡ out.old.items ++ text.key_text parts.now) }
+{
+    for part in parts {
+        put_part(alloc, out, *part)?;
+        put(out, b" ")?;
+    }
+    Ok(())
+}
+
+fn put_part(alloc: Global, out: &mut Vec<u8>, part: KeyPart) -> Result<(), Memory>
+    ensures { OnOk result (out.new.items ≡ out.old.items ++ text.part_text part) }
+{
+    match part {
+        KeyPart::Int(number) => put(out, format!(in alloc; "{number}")?.as_bytes()),
+        KeyPart::Bool(truth) => put(out, truth_text(truth)),
+        KeyPart::Ref(reference) => put_reference(alloc, out, reference),
+    }
+}
+
+fn put_content(alloc: Global, out: &mut Vec<u8>, content: &Content) -> Result<(), Memory>
+    ensures { OnOk result (out.new.items ≡ out.old.items ++ text.content_text (content_of content.now)) }
+{
+    match content {
+        Content::Unit => put(out, b"unit"),
+        Content::Leaf(value) => {
+            put(out, b"leaf ")?;
+            put_value(alloc, out, *value)
+        }
+        Content::Pair(left, right) => {
+            put(out, b"pair ")?;
+            put_content(alloc, out, left)?;
+            put(out, b" ")?;
+            put_content(alloc, out, right)
+        }
+    }
+}
+
+fn put_value(alloc: Global, out: &mut Vec<u8>, value: Value) -> Result<(), Memory>
+    ensures { OnOk result (out.new.items ≡ out.old.items ++ text.value_text value) }
+{
+    match value {
+        Value::Int(number) => put(out, format!(in alloc; "{number}")?.as_bytes()),
+        Value::Bool(truth) => put(out, truth_text(truth)),
+        Value::Ref(reference) => put_reference(alloc, out, reference),
+        Value::Perm(fraction) => put_fraction(alloc, out, fraction),
+    }
+}
+
+fn truth_text(truth: bool) -> &'static [u8]
+    ensures { result.now ≡ text.truth_text truth }
+{
+    if truth { b"true" } else { b"false" }
+}
+
+fn put_reference(alloc: Global, out: &mut Vec<u8>, reference: u64) -> Result<(), Memory>
+    ensures { OnOk result (out.new.items ≡ out.old.items ++ text.reference_text reference) }
+{
+    if reference == 0 {
+        return put(out, b"null");
+    }
+    put(out, b"#")?;
+    put(out, format!(in alloc; "{reference}")?.as_bytes())
+}
+
+fn put_fraction(alloc: Global, out: &mut Vec<u8>, fraction: Frac) -> Result<(), Memory>
+    ensures { OnOk result (out.new.items ≡ out.old.items ++ text.fraction_text fraction) }
+{
+    let num = Frac::num(fraction);
+    let den = Frac::den(fraction);
+    put(out, format!(in alloc; "{num}/{den}")?.as_bytes())
+}
+
+fn put_choices(
+    alloc: Global,
+    out: &mut Vec<u8>,
+    program: &Program,
+    choices: &[Choice],
+) -> Result<(), Memory>
+    ensures { OnOk result (out.new.items ≡ out.old.items ++ text.choices_text (program_of program.now) (map choice_of choices.now)) }
+{
+    for choice in choices {
+        put_choice(alloc, out, program, choice)?;
+    }
+    Ok(())
+}
+
+fn put_choice(
+    alloc: Global,
+    out: &mut Vec<u8>,
+    program: &Program,
+    choice: &Choice,
+) -> Result<(), Memory>
+    ensures { OnOk result (out.new.items ≡ out.old.items ++ text.choice_text (program_of program.now) (choice_of choice.now)) }
+{
+    match choice {
+        Choice::Branch(way) => {
+            put(out, b"pick ")?;
+            put(out, truth_text(*way))?;
+            put(out, b"\n")
+        }
+        Choice::Took(value) => {
+            put(out, b"value ")?;
+            put_value(alloc, out, *value)?;
+            put(out, b"\n")
+        }
+        Choice::Amount(amount) => {
+            put(out, b"amount ")?;
+            put_fraction(alloc, out, *amount)?;
+            put(out, b"\n")
+        }
+        Choice::Fresh(reference) => {
+            put(out, b"fresh ")?;
+            put_reference(alloc, out, *reference)?;
+            put(out, b"\n")
+        }
+        Choice::Memo(memo) => {
+            put(out, b"state\n")?;
+            put_memo(alloc, out, program, memo)
+        }
+    }
+}
+
+fn put(out: &mut Vec<u8>, bytes: &[u8]) -> Result<(), Memory>
+    ensures { OnOk result (out.new.items ≡ out.old.items ++ bytes.now) }
+{
+    out.extend_from_slice(bytes)?;
+    Ok(())
+}

@@ -1,0 +1,253 @@
+// The reader of run files of Viper.
+ghost use Rattle.std.specs.Prelude.{◌≡◌, ◌≤◌, ◌<◌, ◌^◌, true, false, Some, IfOk, IfErr, OnOk, MatchResult, length};
+ghost use Rattle.vb_base.specs.declared.places.Pos.{Pos};
+ghost use Rattle.viper_core.specs.Formed.{IsFormed};
+ghost use Rattle.viper_core.specs.View.{program_of};
+ghost use Rattle.viper_state.specs.View.{choice_of};
+ghost use Rattle.run_file.specs.Run.{ViperRun as Plain, SpellsViperRun, GoesWrongAt};
+ghost use Rattle.run_file.specs.LineView.{line_view, scope_view};
+ghost use Rattle.run_file.specs.Progress as progress;
+ghost use Rattle.run_file.specs.Text.{lines_of, words_of};
+ghost use Rattle.run_file.specs.View.{progress_of, run_of, GivesRun, GivesPlace};
+
+use crate::lines::{Line, Named, line_of};
+use crate::memos::{defaults, empty_memo, fill_last, fill_memo};
+use crate::names::{Names, Scope, variables_of};
+use crate::runs::{RunFileFault, ViperRun};
+use crate::texts::{is_skipped, next_line, next_word};
+use std::alloc::Global;
+use std::collections::BTreeSet;
+use vb_base::{Memory, Pos};
+use vb_value::Value;
+use viper_core::Program;
+use viper_state::{Choice, Opening};
+
+/// The run of a unit that the bytes of a run file spell, or else where they go wrong: at the first line that may not
+/// stand there, or at the last where the header is missing.
+pub fn read_viper_run(
+    alloc: Global,
+    bytes: &[u8],
+    program: &Program,
+    unit: u32,
+) -> Result<ViperRun, RunFileFault>
+    requires few { length bytes.now ≤ 33554432 }
+    requires formed { IsFormed (program_of program.now) }
+    requires unit { unit < length (program_of program.now).units }
+    ensures run { IfOk result (λ run. SpellsViperRun bytes.now (program_of program.now) unit (run_of run)) }
+    ensures fault { IfErr result (progress.UnlessMemory (GoesWrongAt bytes.now (program_of program.now) unit)) }
+
+    // and so no other run, and no other place
+    ensures only_run { (run : Plain) → SpellsViperRun bytes.now (program_of program.now) unit run → GivesRun run result }
+    ensures only_place { (at : Pos) → GoesWrongAt bytes.now (program_of program.now) unit at → GivesPlace at result }
+{
+    let (names, types) = variables_of(program, unit);
+    let variables = Names::of(alloc, names)?;
+    let fields = Names::of(alloc, &program.fields)?;
+    let predicates = Names::of_predicates(alloc, &program.predicates)?;
+    let scope = Scope {
+        variables: &variables,
+        types,
+        fields: &fields,
+        predicates: &predicates,
+        layout: &program.layout,
+    };
+    read_lines(alloc, scope, bytes)
+}
+
+/// What may stand next in a file.
+#[derive(Clone, Copy)]
+enum Stage {
+    Header,
+    Opening,
+    /// A heap and contents are filled, which are the last choice.
+    Filling,
+    Choosing,
+}
+
+/// How far a file is read.
+#[derive(Drop)]
+struct Reader {
+    stage: Stage,
+    /// What the lines that fill the same heap and contents have named.
+    named: BTreeSet<Named>,
+    run: ViperRun,
+}
+
+impl Reader {
+    /// Nothing is read yet.
+    fn new(alloc: Global, scope: Scope) -> Result<Reader, Memory>
+        ensures { IfOk result (λ x. progress_of x ≡ progress.begun (scope_view scope.entry)) }
+    {
+        let memo = empty_memo(alloc, scope.layout)?;
+        let store = defaults(alloc, scope.types)?;
+        Ok(Reader {
+            stage: Stage::Header,
+            named: BTreeSet::new(alloc),
+            run: ViperRun {
+                opening: Opening { store, memo },
+                choices: Vec::new(alloc),
+            },
+        })
+    }
+
+    /// Reads a line. False where it may not stand.
+    fn read_line(&mut self, alloc: Global, scope: Scope, text: &[u8]) -> Result<bool, Memory>
+        ensures { IfOk result (λ ok. progress.Reads ok (progress.read_line (scope_view scope.entry) (progress_of self.old) text.now) (progress_of self.new)) }
+    {
+        if is_skipped(text) {
+            return Ok(true);
+        }
+        if let Stage::Header = self.stage {
+            return Ok(self.read_header(text));
+        }
+        match line_of(alloc, scope, text)? {
+            Some(line) => self.follow(alloc, scope, line),
+            None => Ok(false),
+        }
+    }
+
+    fn read_header(&mut self, text: &[u8]) -> bool
+        ensures { progress.Reads result (progress.header_read (progress_of self.old) (words_of text.now)) (progress_of self.new) }
+    {
+        let header = is_header(text);
+        if header {
+            self.stage = Stage::Opening;
+        }
+        header
+    }
+
+    /// Takes in what a line says. False where the line may not stand.
+    fn follow(&mut self, alloc: Global, scope: Scope, line: Line) -> Result<bool, Memory>
+        ensures { IfOk result (λ ok. progress.Reads ok (progress.followed (scope_view scope.entry) (progress_of self.old) (line_view line)) (progress_of self.new)) }
+    {
+        match line {
+            Line::Var(number, value) => self.set_variable(number, value),
+            Line::Heap(field, reference, value) => {
+                let named = Named::Place(field, reference);
+                self.set_place(named, Line::Heap(field, reference, value))
+            }
+            Line::Content(predicate, key, content) => {
+                let named = Named::Instance(predicate, key.clone()?);
+                self.set_place(named, Line::Content(predicate, key, content))
+            }
+            Line::Chosen(choice) => self.choose(Stage::Choosing, choice),
+            Line::State => {
+                let memo = empty_memo(alloc, scope.layout)?;
+                self.choose(Stage::Filling, Choice::Memo(memo))
+            }
+        }
+    }
+
+    /// Gives a variable a value, in the opening and once.
+    fn set_variable(&mut self, number: usize, value: Value) -> Result<bool, Memory>
+        ensures { IfOk result (λ ok. progress.Reads ok (progress.variable_set (progress_of self.old) number value) (progress_of self.new)) }
+    {
+        if !may_set(self.stage) || !self.named.insert(Named::Variable(number))? {
+            return Ok(false);
+        }
+        if let Some(slot) = self.run.opening.store.get_mut(number) {
+            *slot = value;
+        }
+        Ok(true)
+    }
+
+    /// Puts a value or content where a heap and contents are filled, once for each place and instance.
+    fn set_place(&mut self, named: Named, line: Line) -> Result<bool, Memory>
+        ensures { IfOk result (λ ok. progress.Reads ok (progress.place_set (progress_of self.old) (line_view line) named) (progress_of self.new)) }
+    {
+        if !may_place(self.stage) || !self.named.insert(named)? {
+            return Ok(false);
+        }
+        fill(&mut self.run, self.stage, line)?;
+        Ok(true)
+    }
+
+    /// The run, after so many lines, where the header is among them.
+    fn finish(self, lines: u32) -> Result<ViperRun, RunFileFault>
+        requires { (1 ≤ lines) × (lines < 2 ^ 32) }
+        ensures { MatchResult result (λ run. (progress.is_headed self.stage ≡ true) × (run_of run ≡ run_of self.run))
+            (λ e. (progress.is_headed self.stage ≡ false) × progress.UnlessMemory (λ at. (at.line ≡ lines) × (at.col ≡ 1)) e) }
+    {
+        match self.stage {
+            Stage::Header => Err(RunFileFault::Syntax(Pos {
+                line: lines,
+                col: 1,
+            })),
+            _ => Ok(self.run),
+        }
+    }
+
+    /// Takes in a choice, after which what may stand is this.
+    fn choose(&mut self, next: Stage, choice: Choice) -> Result<bool, Memory>
+        ensures { IfOk result (λ ok. progress.Reads ok (Some (progress.chosen next (progress_of self.old) (choice_of choice))) (progress_of self.new)) }
+    {
+        self.run.choices.push(choice)?;
+        self.named.clear();
+        self.stage = next;
+        Ok(true)
+    }
+}
+
+/// Puts what a line gives where a heap and contents are filled.
+fn fill(run: &mut ViperRun, stage: Stage, line: Line) -> Result<(), Memory>
+    ensures { OnOk result (run_of run.new ≡ progress.run_with stage (line_view line) (run_of run.old)) }
+{
+    match stage {
+        Stage::Opening => fill_memo(&mut run.opening.memo, line),
+        Stage::Filling => fill_last(&mut run.choices, line),
+        _ => Ok(()),
+    }
+}
+
+/// Whether a variable's line may stand.
+fn may_set(stage: Stage) -> bool
+    ensures { result ≡ progress.may_set stage }
+{
+    match stage {
+        Stage::Opening => true,
+        _ => false,
+    }
+}
+
+/// Whether a line of a heap and contents may stand.
+fn may_place(stage: Stage) -> bool
+    ensures { result ≡ progress.may_place stage }
+{
+    match stage {
+        Stage::Opening | Stage::Filling => true,
+        _ => false,
+    }
+}
+
+/// Whether the words of a line are the header.
+fn is_header(line: &[u8]) -> bool
+    ensures { result ≡ progress.is_header (words_of line.now) }
+{
+    let Some((first, rest)) = next_word(line) else {
+        return false;
+    };
+    let Some((second, rest)) = next_word(rest) else {
+        return false;
+    };
+    first == b"viper".as_slice() && second == b"run".as_slice() && next_word(rest).is_none()
+}
+
+/// The run that the lines of a text are, or where it goes wrong.
+fn read_lines(alloc: Global, scope: Scope, bytes: &[u8]) -> Result<ViperRun, RunFileFault>
+    requires { length bytes.now ≤ 33554432 }
+    ensures { MatchResult result (λ run. progress.IsRead (scope_view scope.entry) (lines_of bytes.now) (run_of run))
+        (progress.UnlessMemory (progress.StopsAt (scope_view scope.entry) (lines_of bytes.now))) }
+{
+    let mut reader = Reader::new(alloc, scope)?;
+    let mut rest = Some(bytes);
+    let mut line = 0;
+    while let Some(text) = rest {
+        let (text, after) = next_line(text);
+        line += 1;
+        if !reader.read_line(alloc, scope, text)? {
+            return Err(RunFileFault::Syntax(Pos { line, col: 1 }));
+        }
+        rest = after;
+    }
+    reader.finish(line)
+}
