@@ -6,7 +6,7 @@ use Rattle.vb_tool.specs.declared.straight.Op.{Op}
 use Rattle.vb_tool.specs.declared.straight.Op.TheVariants.{Eq, Ne, Lt, Le, Gt, Ge, Add, Sub}
 use Rattle.vb_tool.specs.Tree as vt
 use Rattle.vb_tool.specs.Formed as f
-use Rattle.vb_tool.specs.Meaning as v
+use Rattle.vb_tool.proofs.StraightMeaning as v
 use Rattle.boogie_tree.specs.Tree as bt
 use Rattle.boogie_tree.specs.Meaning as b
 use Rattle.vb_tool.specs.Encoded.{op_code, expr_code, stmt_code}

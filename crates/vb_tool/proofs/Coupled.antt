@@ -1,6 +1,6 @@
 -- When a Boogie environment stands for a Viper store: each variable's local has the variable's value.
 use Rattle.std.specs.Prelude.{◌≡◌, ℕ, List, slice_get, Some}
-use Rattle.vb_tool.specs.Meaning as v
+use Rattle.vb_tool.proofs.StraightMeaning as v
 use Rattle.boogie_tree.specs.Meaning as b
 
 -- the Boogie value of a Viper value

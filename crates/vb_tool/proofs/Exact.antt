@@ -7,7 +7,7 @@ use Rattle.vb_base.proofs.NameLaws.{place_of_name}
 use Rattle.boogie_tree.specs.declared.trees.BBase.TheVariants as base
 use Rattle.vb_tool.specs.Tree as vt
 use Rattle.vb_tool.specs.Formed as f
-use Rattle.vb_tool.specs.Meaning as v
+use Rattle.vb_tool.proofs.StraightMeaning as v
 use Rattle.boogie_tree.specs.Tree as bt
 use Rattle.boogie_tree.specs.Meaning as b
 use Rattle.vb_tool.specs.Encoded.{procedure_name, local_of, front_locals, method_code, program_code}

@@ -1,3 +1,5 @@
+pub mod StraightMeaning
+pub mod SameMeaning
 pub mod ExampleLaws
 pub mod Coupled
 pub mod Alike
@@ -11,3 +13,4 @@ pub mod StraightLaws
 pub mod Verdicts
 pub mod CallLaws
 pub mod ViperLaws
+mod UnitLaws

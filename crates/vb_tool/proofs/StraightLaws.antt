@@ -131,12 +131,12 @@ in_fact : {c : ty.Context} {a : e.Expr} {at : Pos} → ty.IsAssertion c (e.Fact 
 in_fact (ty.fact h) = (_, h)
 
 -- the assert of a comparison that was there
-record Asserted (at start : Pos) (o : Option v.Expr) (q : v.Stmt) : Type 0 where
-  fact : v.Expr
-  fact_is : o ≡ Some fact
-  stmt_is : v.Assert at (v.Fact fact start) ≡ q
+pub record Asserted (at start : Pos) (o : Option v.Expr) (q : v.Stmt) : Type 0 where
+  pub fact : v.Expr
+  pub fact_is : o ≡ Some fact
+  pub stmt_is : v.Assert at (v.Fact fact start) ≡ q
 
-assert_there : (at start : Pos) (o : Option v.Expr) (q : v.Stmt) → assert_of at (fact_of o start) ≡ Some q → Asserted at start o q
+pub assert_there : (at start : Pos) (o : Option v.Expr) (q : v.Stmt) → assert_of at (fact_of o start) ≡ Some q → Asserted at start o q
 assert_there at start (Some fact) q is = record { fact = fact; fact_is = refl; stmt_is = same_some is }
 assert_there at start None q is = absurd (cc)
 
@@ -163,14 +163,14 @@ stmt_scope sc (s.Assert at a) q is = refl
 stmt_scope sc _ q is = absurd (cc)
 
 -- the first and the rest were there
-record Both {X : Type 0} (o : Option X) (os : Option (List X)) (all : List X) : Type 0 where
-  first : X
-  rest : List X
-  first_is : o ≡ Some first
-  rest_is : os ≡ Some rest
-  all_is : first ∷ rest ≡ all
+pub record Both {X : Type 0} (o : Option X) (os : Option (List X)) (all : List X) : Type 0 where
+  pub first : X
+  pub rest : List X
+  pub first_is : o ≡ Some first
+  pub rest_is : os ≡ Some rest
+  pub all_is : first ∷ rest ≡ all
 
-both : {X : Type 0} (o : Option X) (os : Option (List X)) (all : List X) → one_more o os ≡ Some all → Both o os all
+pub both : {X : Type 0} (o : Option X) (os : Option (List X)) (all : List X) → one_more o os ≡ Some all → Both o os all
 both (Some x) (Some xs) all is = record { first = x; rest = xs; first_is = refl; rest_is = refl; all_is = same_some is }
 both (Some x) None all is = absurd (cc)
 both None os all is = absurd (cc)
@@ -195,40 +195,40 @@ stmts_formed m sc (s.next a rest) qs h is within =
 
 -- methods
 
-abbrev method_with : p.Method → Pos → List v.Stmt → v.Method
+abbrev pub method_with : p.Method → Pos → List v.Stmt → v.Method
 method_with m turn ss = record { name = m.name; at = m.at; name_at = m.name_at; names = m.names; turn = turn; stmts = ss }
 
 -- the body of a method and its statements were there
-record HasAsserts (m : p.Method) (o : Option p.Body) (q : v.Method) : Type 0 where
-  body : p.Body
-  stmts : List v.Stmt
-  body_is : o ≡ Some body
-  stmts_are : straight_stmts body.stmts ≡ Some stmts
-  method_is : method_with m body.turn stmts ≡ q
+pub record HasAsserts (m : p.Method) (o : Option p.Body) (q : v.Method) : Type 0 where
+  pub body : p.Body
+  pub stmts : List v.Stmt
+  pub body_is : o ≡ Some body
+  pub stmts_are : straight_stmts body.stmts ≡ Some stmts
+  pub method_is : method_with m body.turn stmts ≡ q
 
 stmts_there : (m : p.Method) (turn : Pos) (o : Option (List v.Stmt)) (q : v.Method) → with_stmts m turn o ≡ Some q → (ss : List v.Stmt) × (o ≡ Some ss) × (method_with m turn ss ≡ q)
 stmts_there m turn (Some ss) q is = (ss, refl, same_some is)
 stmts_there m turn None q is = absurd (cc)
 
-body_there : (m : p.Method) (o : Option p.Body) (q : v.Method) → with_body m o ≡ Some q → HasAsserts m o q
+pub body_there : (m : p.Method) (o : Option p.Body) (q : v.Method) → with_body m o ≡ Some q → HasAsserts m o q
 body_there m (Some b) q is =
     let there = stmts_there m b.turn (straight_stmts b.stmts) q is in
     record { body = b; stmts = there.0; body_is = refl; stmts_are = there.1; method_is = there.2 }
 body_there m None q is = absurd (cc)
 
 -- where a test decides whether something is there, it passed
-passed : {X : Type 0} (b : Bool) (o : Option X) (x : X) → (if b then o else None) ≡ Some x → (b ≡ true) × (o ≡ Some x)
+pub passed : {X : Type 0} (b : Bool) (o : Option X) (x : X) → (if b then o else None) ≡ Some x → (b ≡ true) × (o ≡ Some x)
 passed true o x is = (refl, is)
 passed false o x is = absurd (cc)
 
-no_returns : (m : p.Method) → has_plain_header m ≡ true → m.returns ≡ 0
+pub no_returns : (m : p.Method) → has_plain_header m ≡ true → m.returns ≡ 0
 no_returns m h = eqb-true m.returns 0 (and_parts _ _ (and_parts _ _ (and_parts _ _ h).0).0).0
 
-body_typed : (program : p.Program) (m : p.Method) (b : p.Body) → typed.IsMethod program m → m.body ≡ Some b → typed.IsBody program m b
+pub body_typed : (program : p.Program) (m : p.Method) (b : p.Body) → typed.IsMethod program m → m.body ≡ Some b → typed.IsBody program m b
 body_typed program m b h is = subst (λ o. IfSome o (typed.IsBody program m)) is h.body
 
 -- the variables are the parameters
-as_many : (program : p.Program) (m : p.Method) (b : p.Body) (ss : List v.Stmt) → typed.IsMethod program m → m.returns ≡ 0 → m.body ≡ Some b → straight_stmts b.stmts ≡ Some ss →
+pub as_many : (program : p.Program) (m : p.Method) (b : p.Body) (ss : List v.Stmt) → typed.IsMethod program m → m.returns ≡ 0 → m.body ≡ Some b → straight_stmts b.stmts ≡ Some ss →
     length m.vars ≡ length m.names
 as_many program m b ss h none is there =
     let counted : length m.vars ≡ (stmts_scope (typed.method_scope m) b.stmts).fresh = h.variables ∙ ap (typed.variables_of (typed.method_scope m)) is in
@@ -276,7 +276,7 @@ same_names (m ∷ ms) qs is =
     let parts = both (straight_method m) (straight_methods ms) qs is in
     sym (ap (map name_of) parts.all_is) ∙ same_more (same_name m parts.first parts.first_is) (same_names ms parts.rest parts.rest_is)
 
-nothing : {X : Type 0} (xs : List X) → (length xs == 0) ≡ true → xs ≡ []
+pub nothing : {X : Type 0} (xs : List X) → (length xs == 0) ≡ true → xs ≡ []
 nothing [] h = refl
 nothing (x ∷ xs) h = absurd (omega (arith, eqb-true (length (x ∷ xs)) 0 h))
 

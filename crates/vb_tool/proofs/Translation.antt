@@ -1,5 +1,5 @@
 -- What is written for a program is a translation of it.
-use Rattle.std.proofs.Common.{◌≡◌, ◌∙◌, ◌≤◌, ◌<◌, ◌+◌, ◌++◌, ℕ, zero, suc, true, List, [], ◌∷◌, map, length, Some, slice_get, codes, refl, sym, ap, subst, arith, append-nil}
+use Rattle.std.proofs.Common.{◌≡◌, ◌∙◌, ◌≤◌, ◌<◌, ◌+◌, ◌++◌, ◌↔◌, ℕ, zero, suc, true, List, [], ◌∷◌, map, length, Some, slice_get, codes, refl, sym, ap, subst, arith, append-nil}
 use Rattle.std.specs.List.{list_all}
 use Rattle.std.specs.Option.{option_map}
 use Rattle.std.proofs.lemmas.List.{get_or-map, length-map}
@@ -8,6 +8,13 @@ use Rattle.std.proofs.lemmas.Bool.{and_parts, and_from, or_left}
 use Rattle.vb_base.specs.Names.{is_name, is_name_start, is_name_byte, NamesDiffer}
 use Rattle.boogie_tree.specs.declared.trees.BBase.TheVariants as base
 use Rattle.boogie_tree.specs.declared.trees.Local.{Local}
+use Rattle.vb_base.specs.declared.labels.Label.{Label}
+use Rattle.viper_core.specs.Formed.{IsTypedProgram}
+use Rattle.viper_core.specs.Program as p
+use Rattle.viper_core.specs.declared.programs.Unit as unit
+use Rattle.viper_core.specs.declared.programs.Unit.TheVariants as u
+use Rattle.viper_meaning.specs.Units.{ViperFails}
+use Rattle.boogie_tree.specs.Meaning.{BoogieFails}
 use Rattle.vb_tool.specs.declared.straight.Op.{Op}
 use Rattle.vb_tool.specs.Tree as v
 use Rattle.vb_tool.specs.Formed as f
@@ -15,10 +22,13 @@ use Rattle.boogie_tree.specs.Tree as b
 use Rattle.boogie_tree.specs.Types as ty
 use Rattle.boogie_tree.proofs.OneProgram.{one_program}
 use Rattle.boogie_tree.proofs.TypedRuns.{never_wrong}
-use Rattle.vb_tool.specs.Encoded.{procedure_name, local_name, local_of, front_locals, op_code, expr_code, stmt_code, method_code, program_code}
+use Rattle.vb_tool.specs.Straight.{straight_of}
+use Rattle.vb_tool.specs.Encoded.{unit_method, procedure_name, local_name, local_of, op_code, expr_code, stmt_code, method_code, program_code}
 use Rattle.vb_tool.specs.Printed.{program_text}
-use Rattle.vb_tool.specs.Translates.{HasFront, Translates}
+use Rattle.vb_tool.specs.Translates.{IsProcedureOf, Translates}
 use Rattle.vb_tool.proofs.Exact.{exact}
+use Rattle.vb_tool.proofs.StraightLaws.{straight_formed}
+use Rattle.vb_tool.proofs.UnitLaws.{straight_unit, units_as_many, fails_alike}
 use Rattle.vb_tool.proofs.Spelled as w
 use Rattle.vb_tool.proofs.Nesting as n
 
@@ -105,6 +115,9 @@ same_behind (x ∷ xs) h = same_behind xs (same_rest h)
 same_proc : {p q : b.Proc} → Some p ≡ Some q → p ≡ q
 same_proc h = cc
 
+same_unit : {p q : unit.Unit} → Some p ≡ Some q → p ≡ q
+same_unit h = cc
+
 -- names that differ still differ behind one front
 fronted_differ : (front : List ℕ) (names : List (List ℕ)) → NamesDiffer names → NamesDiffer (map (λ name. front ++ name) names)
 fronted_differ front names differ i j d below within same =
@@ -150,22 +163,50 @@ procedures_differ : (ms : List v.Method) → NamesDiffer (map (λ (m : v.Method)
 procedures_differ ms differ =
     subst NamesDiffer (map-map procedure_name (λ (m : v.Method). m.name) ms ∙ sym (procedure_names ms)) (fronted_differ (codes "M$") (map (λ (m : v.Method). m.name) ms) differ)
 
-has_front : (ms : List v.Method) (unit : ℕ) (m : v.Method) (p : b.Proc) → slice_get ms unit ≡ Some m → slice_get (program_code ms) unit ≡ Some p → HasFront m p
-has_front ms unit m p h k =
-    let is_code : p ≡ method_code m = same_proc (sym k ∙ (slice_get-map method_code ms unit ∙ ap (option_map method_code) h)) in
-    record { others = []; locals = ap (λ (q : b.Proc). q.locals) is_code ∙ sym (append-nil (front_locals m)) }
+-- the straight method of a procedure
+unit_of : (ms : List v.Method) (n : ℕ) (procedure : b.Proc) → slice_get (program_code ms) n ≡ Some procedure → (m : v.Method) × (slice_get ms n ≡ Some m) × (procedure ≡ method_code m)
+unit_of [] n procedure there = absurd (cc)
+unit_of (m ∷ ms) zero procedure there = (m, refl, same_proc (sym there))
+unit_of (m ∷ ms) (suc n) procedure there = unit_of ms n procedure there
 
-pub translates : (program : v.Program) → f.IsFormed program → Translates program (program_text (program_code program))
-translates program formed =
-    let spelled = w.program_spelled (methods_written program formed.methods) (procedures_differ program formed.names_differ) in
-    record {
-      boogie = program_code program;
-      spelled = spelled;
-      only = λ other h. one_program h spelled;
-      brackets = n.most_open-procs spelled.procedures (methods_nested program formed.methods);
-      typed = methods_typed program formed.methods;
-      never_wrong = never_wrong (program_code program) (methods_typed program formed.methods);
-      procedures = procedure_names program;
-      front = has_front program;
-      exact = exact program formed;
-    }
+module _ (program : p.Program) (ms : v.Program) (typed : IsTypedProgram program) (straight : straight_of program ≡ Some ms) where
+  is_procedure : (n : ℕ) (w : unit.Unit) (procedure : b.Proc) → slice_get program.units n ≡ Some w → slice_get (program_code ms) n ≡ Some procedure → IsProcedureOf program w procedure
+  is_procedure n w procedure there written =
+      let of = unit_of ms n procedure written in
+      let is = straight_unit program ms n of.0 typed straight of.1 in
+      let same : w ≡ u.Method n = same_unit (sym there ∙ is.unit_there) in
+      let method = is.plain_method.method_is in
+      record {
+        method = is.method;
+        is_unit = ap (unit_method program) same ∙ is.method_there;
+        named = ap (λ (q : b.Proc). q.name) of.2 ∙ ap (λ (m : v.Method). procedure_name m.name) (sym method);
+        others = [];
+        front = ap (λ (q : b.Proc). q.locals) of.2 ∙ ap (λ (m : v.Method). map local_of m.names) (sym method) ∙ sym (append-nil (map local_of is.method.names));
+      }
+
+  fails_alike_at : f.IsFormed ms → (n : ℕ) (procedure : b.Proc) → slice_get (program_code ms) n ≡ Some procedure → (label : Label) →
+      BoogieFails (program_code ms) procedure.name label ↔ ViperFails program n label
+  fails_alike_at formed n procedure written label =
+      let of = unit_of ms n procedure written in
+      let written_alike = exact ms formed n of.0 of.1 label in
+      let meant_alike = fails_alike program ms n of.0 of.1 (straight_unit program ms n of.0 typed straight of.1) label in
+      let same = ap (λ (q : b.Proc). q.name) of.2 in (
+        λ h. meant_alike.0 (written_alike.0 (subst (λ name. BoogieFails (program_code ms) name label) same h)),
+        λ h. subst (λ name. BoogieFails (program_code ms) name label) (sym same) (written_alike.1 (meant_alike.1 h)),
+      )
+
+  pub translates : Translates program (program_text (program_code ms))
+  translates =
+      let formed = straight_formed program ms typed straight in
+      let spelled = w.program_spelled (methods_written ms formed.methods) (procedures_differ ms formed.names_differ) in
+      record {
+        boogie = program_code ms;
+        spelled = spelled;
+        only = λ other h. one_program h spelled;
+        brackets = n.most_open-procs spelled.procedures (methods_nested ms formed.methods);
+        typed = methods_typed ms formed.methods;
+        never_wrong = never_wrong (program_code ms) (methods_typed ms formed.methods);
+        as_many = length-map ms method_code ∙ units_as_many program ms typed straight;
+        procedures = is_procedure;
+        exact = fails_alike_at formed;
+      }

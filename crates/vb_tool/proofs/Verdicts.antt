@@ -99,12 +99,12 @@ accepted_tokens {tokens = ts} {source = s} {r = r} spelled h below is (of_tree {
     accepted_tree h below is (subst (λ x. IsTreeRefusal x r) (one_spelled ts t s also spelled) other)
 
 -- and not refused where they are a program that is translated
-pub accepted_not_refused : {bytes : List ℕ} {program : v.Program} {r : Refusal} → Accepts bytes program → IsRefusal bytes r → ⊥
+pub accepted_not_refused : {bytes : List ℕ} {program : p.Program} {r : Refusal} → Accepts bytes program → IsRefusal bytes r → ⊥
 accepted_not_refused h (size above) = omega (arith, above, h.accepted.small)
 accepted_not_refused {bytes} h (bad_lex {fault = e} small is) = lexed_or_faulty bytes h.accepted.tokens e h.accepted.lexed is
 accepted_not_refused {bytes} {r = r} h (of_tokens {tokens = ts} small lexed is) =
     let a = h.accepted in
-    accepted_tokens a.spelled a.is_typed a.light h.straight (subst (λ x. IsTokenRefusal bytes x r) (one_lexed bytes ts a.tokens lexed a.lexed) is)
+    accepted_tokens a.spelled a.is_typed a.light h.is_straight (subst (λ x. IsTokenRefusal bytes x r) (one_lexed bytes ts a.tokens lexed a.lexed) is)
 
 -- bytes are one typed program at most
 pub one_accepted : {bytes : List ℕ} {q r : p.Program} → IsAccepted bytes q → IsAccepted bytes r → q ≡ r
@@ -124,7 +124,7 @@ module _ (bytes : List ℕ) where
   refused_by_one (Err (trouble.Refused q)) text why r is = one_refusal (why q refl) is
 
   pub accepted_by_one : (result : Result (Vec ℕ Global) Trouble) → ((r : Refusal) → result ≡ Err (trouble.Refused r) → IsRefusal bytes r) →
-      (program : v.Program) → Accepts bytes program → GivesText result
+      (program : p.Program) → Accepts bytes program → GivesText result
   accepted_by_one (Ok t) why program is = tt
   accepted_by_one (Err trouble.Memory) why program is = tt
   accepted_by_one (Err trouble.Read) why program is = tt
@@ -167,14 +167,8 @@ form_refusal bytes tokens source q r small lexed spelled is below other is_r =
 
 -- ---- each text has an answer
 
-same_some : {X : Type 0} {x y : X} → Some x ≡ Some y → x ≡ y
-same_some h = cc
-
-one_translated : {bytes : List ℕ} {a b : v.Program} → Accepts bytes a → Accepts bytes b → a ≡ b
-one_translated h i = same_some (sym h.straight ∙ ap straight_of (one_accepted h.accepted i.accepted) ∙ i.straight)
-
-accepted_once : {bytes : List ℕ} {program : v.Program} → Accepts bytes program → HasOneAnswer bytes
-accepted_once h = is_accepted h (λ other i. one_translated i h) (λ r is. accepted_not_refused h is)
+accepted_once : {bytes : List ℕ} {program : p.Program} → Accepts bytes program → HasOneAnswer bytes
+accepted_once h = is_accepted h (λ other i. one_accepted i.accepted h.accepted) (λ r is. accepted_not_refused h is)
 
 refused_once : {bytes : List ℕ} {r : Refusal} → IsRefusal bytes r → HasOneAnswer bytes
 refused_once h = is_refused h (λ other is. one_refusal is h) (λ program accepts. accepted_not_refused accepts h)
@@ -183,10 +177,10 @@ refused_once h = is_refused h (λ other is. one_refusal is h) (λ program accept
 module _ (bytes : List ℕ) (small : length bytes ≤ 1048576) where
   of_form : (tokens : List Token) (source : d.SourceProgram) (q : p.Program) → IsLexed bytes tokens → Spells tokens source → IsProgram source q → weight q ≤ 100000 →
       (o : Option v.Program) → straight_of q ≡ o → HasOneAnswer bytes
-  of_form tokens source q lexed spelled is light (Some program) straight = accepted_once (record {
-    typed = q;
+  of_form tokens source q lexed spelled is light (Some straight) is_straight = accepted_once {program = q} (record {
     accepted = record { small = small; tokens = tokens; lexed = lexed; source = source; spelled = spelled; is_typed = is; light = light };
     straight = straight;
+    is_straight = is_straight;
   })
   of_form tokens source q lexed spelled is light None other = refused_once (of_tokens small lexed (of_tree spelled (not_yet is light other)))
 

@@ -17,10 +17,10 @@ use Rattle.viper_meaning.specs.Operators.{binary}
 use Rattle.viper_meaning.specs.Value.{value}
 use Rattle.vb_tool.specs.declared.straight.Op.{Op}
 use Rattle.vb_tool.specs.declared.straight.Op.TheVariants.{Eq, Ne, Lt, Le, Gt, Ge, Add, Sub}
-use Rattle.vb_tool.specs.Meaning as m
+use Rattle.vb_tool.proofs.StraightMeaning as m
 use Rattle.vb_tool.specs.Straight.{side_operator, comparison_operator, side_of, comparison_of}
 use Rattle.vb_tool.specs.Tree as v
-use Rattle.vb_tool.specs.Viper.{viper_value, viper_end, AreInts, MeansTheSame}
+use Rattle.vb_tool.proofs.SameMeaning.{viper_value, viper_end, AreInts, MeansTheSame}
 use Rattle.vb_tool.proofs.StraightLaws.{built, same_some}
 
 -- a side has the same Int in both meanings, or blocks in both

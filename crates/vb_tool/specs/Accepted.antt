@@ -37,11 +37,11 @@ pub record IsAccepted (bytes : List ℕ) (typed : p.Program) : Type 0 where
   pub is_typed : IsProgram source typed
   pub light : weight typed ≤ max_weight
 
--- the bytes are the text of a program that is this straight program
-pub record Accepts (bytes : List ℕ) (program : v.Program) : Type 0 where
-  pub typed : p.Program
-  pub accepted : IsAccepted bytes typed
-  pub straight : straight_of typed ≡ Some program
+-- the bytes are the text of this program, and it is a straight one
+pub record Accepts (bytes : List ℕ) (program : p.Program) : Type 0 where
+  pub accepted : IsAccepted bytes program
+  pub straight : v.Program
+  pub is_straight : straight_of program ≡ Some straight
 
 -- a tree is refused for the first rule that it breaks, for its weight, or since it has a form that is not translated yet
 pub data IsTreeRefusal (source : d.SourceProgram) : Refusal → Type 0 where
@@ -63,7 +63,7 @@ pub data IsRefusal (bytes : List ℕ) : Refusal → Type 0 where
 
 -- the bytes are accepted for exactly one program, or refused for exactly one reason, and never both
 pub data HasOneAnswer (bytes : List ℕ) : Type 0 where
-  is_accepted : {program : v.Program} → Accepts bytes program →
-      ((other : v.Program) → Accepts bytes other → other ≡ program) → ((r : Refusal) → IsRefusal bytes r → ⊥) → HasOneAnswer bytes
+  is_accepted : {program : p.Program} → Accepts bytes program →
+      ((other : p.Program) → Accepts bytes other → other ≡ program) → ((r : Refusal) → IsRefusal bytes r → ⊥) → HasOneAnswer bytes
   is_refused : {r : Refusal} → IsRefusal bytes r → ((other : Refusal) → IsRefusal bytes other → other ≡ r) →
-      ((program : v.Program) → Accepts bytes program → ⊥) → HasOneAnswer bytes
+      ((program : p.Program) → Accepts bytes program → ⊥) → HasOneAnswer bytes

@@ -3,7 +3,7 @@ use Rattle.std.specs.Prelude.{◌≡◌, ◌⊎◌, ℕ, List, [], ◌∷◌, Op
 use Rattle.vb_outer.specs.Faults.{Rose}
 use Rattle.vb_outer.specs.Shelf.{Files, IsMissing, IsFile}
 use Rattle.vb_outer.specs.Sink.{Appends, AppendsPrefix}
-use Rattle.vb_tool.specs.Tree as v
+use Rattle.viper_core.specs.Program as p
 use Rattle.vb_tool.specs.Accepted.{Accepts, IsRefusal}
 use Rattle.vb_tool.specs.Status.{line_of}
 use Rattle.vb_tool.specs.Translates.{Translates}
@@ -40,7 +40,7 @@ pub data IsCause (words : List (List ℕ)) (files : Option Files) (before now : 
 
 -- a translation of the named file, or of some program where the shelf does not tell its files
 pub record Translation (words : List (List ℕ)) (files : Option Files) (text : List ℕ) : Type 0 where
-  pub program : v.Program
+  pub program : p.Program
   pub translates : Translates program text
   pub accepted : NamedFile words files (λ bytes. Accepts bytes program)
 

@@ -1,6 +1,9 @@
 -- What is written for a method: its procedure.
-use Rattle.std.specs.Prelude.{◌++◌, ℕ, false, List, map, codes}
+use Rattle.std.specs.Prelude.{◌++◌, ℕ, false, List, Option, None, map, slice_get, codes}
 use Rattle.vb_base.specs.declared.labels.Kind.TheVariants as kind
+use Rattle.viper_core.specs.Program as p
+use Rattle.viper_core.specs.declared.programs.Unit as unit
+use Rattle.viper_core.specs.declared.programs.Unit.TheVariants as u
 use Rattle.vb_tool.specs.declared.straight.Op.{Op}
 use Rattle.vb_tool.specs.declared.straight.Op.TheVariants as v_op
 use Rattle.boogie_tree.specs.declared.trees.BOp.{BOp}
@@ -9,6 +12,11 @@ use Rattle.boogie_tree.specs.declared.trees.BBase.TheVariants as base
 use Rattle.boogie_tree.specs.declared.trees.Local.{Local}
 use Rattle.vb_tool.specs.Tree as v
 use Rattle.boogie_tree.specs.Tree as b
+
+-- the method that a unit is
+abbrev pub unit_method : p.Program → unit.Unit → Option p.Method
+unit_method program (u.Method k) = slice_get program.methods k
+unit_method program (u.Predicate k) = None
 
 -- the procedure of the method m is `M$m`
 abbrev pub procedure_name : List ℕ → List ℕ

@@ -1,7 +1,6 @@
 pub mod Tree
 pub mod View
 pub mod Formed
-pub mod Meaning
 pub mod Straight
 pub mod Examples
 pub mod Encoded
@@ -12,4 +11,3 @@ pub mod Converted
 pub mod Accepted
 pub mod Call
 pub mod Parts
-pub mod Viper

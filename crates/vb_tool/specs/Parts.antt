@@ -3,7 +3,7 @@ use Rattle.std.specs.Prelude.{◌≡◌, ℕ, List, Option, Result, Ok, Err, Vec
 use Rattle.std.specs.declared.alloc.Global.{Global}
 use Rattle.vb_outer.specs.Faults.{Rose}
 use Rattle.vb_outer.specs.Sink.{Appends, AppendsPrefix}
-use Rattle.vb_tool.specs.Tree as v
+use Rattle.viper_core.specs.Program as p
 use Rattle.vb_tool.specs.Accepted.{Accepts}
 use Rattle.vb_tool.specs.Status.{line_of}
 use Rattle.vb_tool.specs.Translates.{Translates}
@@ -27,7 +27,7 @@ pub data Delivers (before now : Option (List ℕ)) (faults_before faults_now : �
 
 -- a translation of the program that the bytes are
 pub record TranslationOf (bytes text : List ℕ) : Type 0 where
-  pub program : v.Program
+  pub program : p.Program
   pub accepted : Accepts bytes program
   pub translates : Translates program text
 

@@ -1,21 +1,25 @@
 -- What it means that bytes are a translation of a program: the promise of `translate`.
-use Rattle.std.specs.Prelude.{◌≡◌, ◌≤◌, ◌++◌, ◌↔◌, ℕ, List, map, slice_get, Some}
+use Rattle.std.specs.Prelude.{◌≡◌, ◌≤◌, ◌++◌, ◌↔◌, ℕ, List, length, map, slice_get, Some}
 use Rattle.vb_base.specs.declared.labels.Label.{Label}
+use Rattle.viper_core.specs.Program as p
+use Rattle.viper_core.specs.declared.programs.Unit as unit
+use Rattle.viper_meaning.specs.Units.{ViperFails}
 use Rattle.boogie_tree.specs.declared.trees.Local.{Local}
-use Rattle.vb_tool.specs.Tree as v
-use Rattle.vb_tool.specs.Meaning.{ViperFails}
 use Rattle.boogie_tree.specs.Tree as b
 use Rattle.boogie_tree.specs.Grammar.{BSpells, most_open}
 use Rattle.boogie_tree.specs.Types.{IsTyped}
 use Rattle.boogie_tree.specs.Meaning.{BoogieFails, NeverWrong}
-use Rattle.vb_tool.specs.Encoded.{procedure_name, front_locals}
+use Rattle.vb_tool.specs.Encoded.{unit_method, procedure_name, local_of}
 
--- the locals that the opening of the unit sets are the first of its procedure, in their order
-pub record HasFront (m : v.Method) (p : b.Proc) : Type 0 where
+-- a procedure of a unit: it has the unit's name, and the locals that an opening of the unit sets are its first, in their order
+pub record IsProcedureOf (program : p.Program) (u : unit.Unit) (procedure : b.Proc) : Type 0 where
+  pub method : p.Method
+  pub is_unit : unit_method program u ≡ Some method
+  pub named : procedure.name ≡ procedure_name method.name
   pub others : List Local
-  pub locals : p.locals ≡ front_locals m ++ others
+  pub front : procedure.locals ≡ map local_of method.names ++ others
 
-pub record Translates (program : v.Program) (bytes : List ℕ) : Type 0 where
+pub record Translates (program : p.Program) (bytes : List ℕ) : Type 0 where
   -- the bytes spell exactly one Boogie program
   pub boogie : b.BProgram
   pub spelled : BSpells bytes boogie
@@ -25,10 +29,10 @@ pub record Translates (program : v.Program) (bytes : List ℕ) : Type 0 where
   -- it is well-typed, and no run of it is Wrong
   pub typed : IsTyped boogie
   pub never_wrong : NeverWrong boogie
-  -- it has the procedure of each unit, in the order of the units, and no other
-  pub procedures : map (λ (p : b.Proc). p.name) boogie ≡ map (λ (m : v.Method). procedure_name m.name) program
-  -- whose first locals are those that the unit's opening sets
-  pub front : (unit : ℕ) (m : v.Method) (p : b.Proc) → slice_get program unit ≡ Some m → slice_get boogie unit ≡ Some p → HasFront m p
+  -- it has a procedure of each unit, in the order of the units, and no other
+  pub as_many : length boogie ≡ length program.units
+  pub procedures : (n : ℕ) (u : unit.Unit) (procedure : b.Proc) → slice_get program.units n ≡ Some u → slice_get boogie n ≡ Some procedure →
+      IsProcedureOf program u procedure
   -- for each unit and each label, some run of the procedure fails there exactly when some run of the unit does
-  pub exact : (unit : ℕ) (m : v.Method) → slice_get program unit ≡ Some m → (label : Label) →
-      BoogieFails boogie (procedure_name m.name) label ↔ ViperFails program unit label
+  pub exact : (n : ℕ) (procedure : b.Proc) → slice_get boogie n ≡ Some procedure → (label : Label) →
+      BoogieFails boogie procedure.name label ↔ ViperFails program n label

@@ -4,7 +4,7 @@ ghost use Rattle.std.specs.String.{string_bytes};
 ghost use Rattle.vb_outer.specs.Faults.{Rose};
 ghost use Rattle.vb_outer.specs.Shelf.{IsMissing, IsFile};
 ghost use Rattle.vb_outer.specs.Sink.{Appends, AppendsPrefix};
-ghost use Rattle.vb_tool.specs.Tree as v;
+ghost use Rattle.viper_core.specs.Program as p;
 ghost use Rattle.vb_tool.specs.Status.{line_of};
 ghost use Rattle.vb_tool.specs.Accepted.{Accepts, IsRefusal};
 ghost use Rattle.vb_tool.specs.Call.{Names, IsNoCommand, Unreadable, NamedFile, IsCause, Translation, EndsAs, OutAfter, ErrAfter, Causes};
@@ -47,7 +47,7 @@ pub fn tool<H: Shelf, O: Sink, E: Sink>(
         → EndsAs Status.ReadFault result }
     ensures refused { (name bytes : List ℕ) (r : Refusal) → Names (map string_bytes words.now.items) name
         → IsFile (H.files shelf.old) name bytes → IsRefusal bytes r → EndsAs (Status.Refused r) result }
-    ensures accepted { (name bytes : List ℕ) (program : v.Program) → Names (map string_bytes words.now.items) name
+    ensures accepted { (name bytes : List ℕ) (program : p.Program) → Names (map string_bytes words.now.items) name
         → IsFile (H.files shelf.old) name bytes → Accepts bytes program → EndsAs Status.Done result }
 
     // What stands afterwards.
@@ -80,7 +80,7 @@ fn named_file(words: &Vec<String>) -> Option<&str>
 
 /// Reads the named file and translates it.
 fn translation<H: Shelf>(alloc: Global, shelf: &mut H, name: &str) -> Result<Vec<u8>, Trouble>
-    ensures text { IfOk result (λ text. (program : v.Program) × Translates program text.items
+    ensures text { IfOk result (λ text. (program : p.Program) × Translates program text.items
         × ((bytes : List ℕ) → IsFile (H.files shelf.old) name.now bytes → Accepts bytes program)) }
     ensures refusal { (r : Refusal) → IsErrOf result (Trouble.Refused r)
         → (bytes : List ℕ) → IsFile (H.files shelf.old) name.now bytes → IsRefusal bytes r }
@@ -88,7 +88,7 @@ fn translation<H: Shelf>(alloc: Global, shelf: &mut H, name: &str) -> Result<Vec
 
     ensures missing { IsMissing (H.files shelf.old) name.now → IsErrOf result Trouble.Read }
     ensures refused { (bytes : List ℕ) (r : Refusal) → IsFile (H.files shelf.old) name.now bytes → IsRefusal bytes r → GivesRefusal r result }
-    ensures accepted { (bytes : List ℕ) (program : v.Program) → IsFile (H.files shelf.old) name.now bytes → Accepts bytes program → GivesText result }
+    ensures accepted { (bytes : List ℕ) (program : p.Program) → IsFile (H.files shelf.old) name.now bytes → Accepts bytes program → GivesText result }
     ensures files { H.files shelf.new ≡ H.files shelf.old }
 {
     let bytes = read_file(alloc, shelf, name, MAX_FILE)?;
@@ -102,7 +102,7 @@ fn translated(alloc: Global, bytes: &[u8]) -> Result<Vec<u8>, Trouble>
     ensures refusal { (r : Refusal) → IsErrOf result (Trouble.Refused r) → IsRefusal bytes.now r }
     ensures read { IsErrOf result Trouble.Read → ⊥ }
     ensures refused { (r : Refusal) → IsRefusal bytes.now r → GivesRefusal r result }
-    ensures accepted { (program : v.Program) → Accepts bytes.now program → GivesText result }
+    ensures accepted { (program : p.Program) → Accepts bytes.now program → GivesText result }
 {
     stages(alloc, bytes)
 }

@@ -7,7 +7,7 @@ ghost use Rattle.vb_tool.specs.Encoded.{expr_code, stmt_code, method_code, progr
 ghost use Rattle.vb_tool.specs.Encoded as code;
 
 use crate::straight::{Assertion, Expr, Method, Op, Program, Stmt};
-use boogie_tree::{BBase, BExpr, BOp, BProgram, BStmt, Local, Proc};
+use boogie_tree::trees::{BBase, BExpr, BOp, BProgram, BStmt, Local, Proc};
 use std::alloc::Global;
 use vb_base::{Ident, Kind, Label, Memory};
 

@@ -5,7 +5,8 @@ ghost use Rattle.boogie_tree.specs.Text.{prelude};
 ghost use Rattle.boogie_tree.specs.Grammar.{sign_of};
 ghost use Rattle.vb_tool.specs.Printed as text;
 
-use boogie_tree::{BExpr, BOp, BProgram, BStmt, Local, PRELUDE, Proc};
+use boogie_tree::PRELUDE;
+use boogie_tree::trees::{BExpr, BOp, BProgram, BStmt, Local, Proc};
 use std::alloc::Global;
 use vb_base::{Memory, label_text};
 

@@ -7,7 +7,6 @@ use Rattle.vb_tool.specs.Printed.{program_text}
 use Rattle.vb_tool.specs.Translates.{Translates}
 use Rattle.vb_tool.specs.View as v
 use Rattle.vb_tool.proofs.CallLaws.{error_is}
-use Rattle.vb_tool.proofs.StraightLaws.{straight_formed}
 use Rattle.vb_tool.proofs.Translation.{translates}
 use Rattle.vb_tool.proofs.Verdicts.{lex_refusal, parse_refusal, type_refusal, form_refusal}
 use Rattle.vb_tool.proofs.command.stages.Goals as goal
@@ -42,9 +41,8 @@ returns-clause-text c =
     let formed = c.in_ok-typed.ensures.formed (c.in_ok-source.ensures.good c.in_ok-tokens.ensures.well_formed) in
     let written = c.in_ok-print.ensures ∙ ap program_text c.in_ok-boogie.ensures in
     record {
-      program = v.program_of c.in-Some.program;
+      program = core.program_of c.in_ok-typed.typed;
       accepted = record {
-        typed = core.program_of c.in_ok-typed.typed;
         accepted = record {
           small = c.requires;
           tokens = c.in_ok-tokens.tokens.items;
@@ -54,8 +52,8 @@ returns-clause-text c =
           is_typed = c.in_ok-typed.ensures.found.0;
           light = c.in_ok-typed.ensures.found.1;
         };
-        straight = straight;
+        straight = v.program_of c.in-Some.program;
+        is_straight = straight;
       };
-      translates = subst (Translates (v.program_of c.in-Some.program)) (sym written)
-          (translates (v.program_of c.in-Some.program) (straight_formed (core.program_of c.in_ok-typed.typed) (v.program_of c.in-Some.program) formed.typed straight));
+      translates = subst (Translates (core.program_of c.in_ok-typed.typed)) (sym written) (translates (core.program_of c.in_ok-typed.typed) (v.program_of c.in-Some.program) formed.typed straight);
     }

@@ -8,7 +8,7 @@ use Rattle.viper_state.specs.Run.{Scene}
 use Rattle.viper_state.specs.State.{State}
 use Rattle.viper_meaning.specs.Ends.{Evaluated, ends, is, Fails, blocks}
 use Rattle.viper_meaning.specs.Value.{value}
-use Rattle.vb_tool.specs.Meaning as m
+use Rattle.vb_tool.proofs.StraightMeaning as m
 use Rattle.vb_tool.specs.Tree as v
 
 -- a value as one of Viper
