@@ -11,6 +11,8 @@ mod scenes;
 pub use answers::{Evaluated, Halt, Opening1, Stop};
 pub use calls::{eval, eval_open, open_body};
 pub use operators::{assumed, failure, fitted, found};
-pub use places::{added, key_of};
-pub use readings::{evaluate, evaluate_all, key_in, permission_of, reference_of, truth_of};
+pub use places::{Instance, Share, added, fill_held, key_of, take};
+pub use readings::{
+    amount_of, evaluate, evaluate_all, key_in, open, permission_of, reference_of, truth_of,
+};
 pub use scenes::SceneRef;

@@ -94,13 +94,14 @@ impl Place {
 
 /// A predicate with its arguments.
 #[derive(Drop)]
-pub(crate) struct Instance {
-    pub(crate) predicate: u32,
-    pub(crate) key: Key,
+pub struct Instance {
+    pub predicate: u32,
+    pub key: Key,
 }
 
 impl Instance {
-    pub(crate) fn of(predicate: u32, key: Key) -> Instance
+    /// The instance of these two.
+    pub fn of(predicate: u32, key: Key) -> Instance
         ensures { result ≡ record { predicate = predicate; key = key } }
     {
         Instance { predicate, key }
@@ -109,14 +110,15 @@ impl Instance {
 
 /// An amount of an assertion, the scale that multiplies it, and the place of what it is an amount of.
 #[derive(Clone, Copy)]
-pub(crate) struct Share {
-    pub(crate) amount: Frac,
-    pub(crate) scale: Frac,
-    pub(crate) at: Pos,
+pub struct Share {
+    pub amount: Frac,
+    pub scale: Frac,
+    pub at: Pos,
 }
 
 impl Share {
-    pub(crate) fn of(amount: Frac, scale: Frac, at: Pos) -> Share
+    /// The share of these three.
+    pub fn of(amount: Frac, scale: Frac, at: Pos) -> Share
         ensures { result ≡ record { amount = amount; scale = scale; at = at } }
     {
         Share { amount, scale, at }
@@ -135,7 +137,7 @@ pub fn key_of(alloc: Global, values: &[Value]) -> Result<Key, Halt>
 }
 
 /// Takes so much of an instance.
-pub(crate) fn take(
+pub fn take(
     scene: SceneRef,
     state: &mut State,
     instance: Instance,
@@ -266,7 +268,7 @@ fn contain(
 }
 
 /// Fills an instance by an amount that is positive.
-fn fill_held(
+pub fn fill_held(
     alloc: Global,
     state: &mut State,
     instance: Instance,

@@ -144,7 +144,7 @@ pub fn permission_of(
 
 /// An amount, which is no `wildcard` in the body of a predicate.
 #[cycle(readings)]
-fn amount_of(
+pub fn amount_of(
     alloc: Global,
     amount: &Amt,
     now: &State,
@@ -270,7 +270,7 @@ fn unfold_at(
 
 /// Produces an assertion from a content, its amounts times a scale.
 #[cycle(readings)]
-pub(crate) fn open(
+pub fn open(
     alloc: Global,
     body: &Assertion,
     content: &Content,

@@ -1,6 +1,5 @@
 -- What was kept of a state so far, one key and one map after another.
 use Rattle.std.proofs.Common.{arith, ◌≡◌, refl, sym, ap, ◌∙◌, subst, ℕ, zero, suc, Bool, Some, None, List, [], ◌∷◌, ◌++◌, ◌+◌, take, drop, length, slice_get, slice_set, All, Result, if◌then◌else◌}
-use Rattle.std.specs.List.{AllZip}
 use Rattle.std.specs.declared.cmp.Ordering.{Ordering}
 use Rattle.std.proofs.lemmas.List.{append-nil, length-map}
 use Rattle.std.proofs.lemmas.List.Elements.{All-head}
@@ -11,7 +10,7 @@ use Rattle.vb_value.specs.Layout.{Layout}
 use Rattle.viper_state.specs.Choice as choice
 use Rattle.viper_state.specs.Choice.{Choice}
 use Rattle.viper_state.specs.Event as event
-use Rattle.viper_state.specs.Fits.{FitsHeap, FitsMask, FitsContents, FitsAmounts, FitsMemo, FitsState, FitsChoice}
+use Rattle.viper_state.specs.Fits.{FitsHeap, FitsContents, FitsMemo, HasMaps, FitsChoice}
 use Rattle.viper_state.specs.Run.{Feed}
 use Rattle.viper_state.specs.State.{Memo, State}
 use Rattle.viper_state.specs.View.{contents_of, state_of, memo_of}
@@ -64,22 +63,21 @@ module _ {K V : Type 0} (cmp : K → K → Ordering) (eq : V → V → Bool) whe
 
 -- ---- as many maps as the layout has
 
-same_long : {A B C : Type 0} (P : A → B → Type 0) (Q : A → C → Type 0) (us : List A) (xs : List B) (ys : List C) → AllZip P us xs → AllZip Q us ys → length xs ≡ length ys
-same_long P Q us xs ys h k = AllZip-long P us xs h ∙ sym (AllZip-long Q us ys k)
-
-module _ (l : Layout) (s : StateOfCode) (n : MemoOfCode) (fits : FitsState l (state_of s)) (fit : FitsMemo l (memo_of n)) where
+module _ (l : Layout) (s : StateOfCode) (n : MemoOfCode) (has : HasMaps l (state_of s)) (fit : FitsMemo l (memo_of n)) where
   pub heaps_long : length s.heap.items ≡ length n.heap.items
-  heaps_long = same_long FitsHeap FitsHeap l.fields s.heap.items n.heap.items fits.heap fit.heap
+  heaps_long = has.heap ∙ sym (AllZip-long FitsHeap l.fields n.heap.items fit.heap)
 
   pub masks_long : length s.mask.items ≡ length n.heap.items
-  masks_long = same_long FitsMask FitsHeap l.fields s.mask.items n.heap.items fits.mask fit.heap
+  masks_long = has.mask ∙ sym (AllZip-long FitsHeap l.fields n.heap.items fit.heap)
+
+  contents_fit : length (memo_of n).content ≡ length l.keys
+  contents_fit = AllZip-long FitsContents l.keys (memo_of n).content fit.content
 
   pub contents_long : length s.content.items ≡ length n.content.items
-  contents_long =
-      sym (length-map s.content.items contents_of) ∙ same_long FitsContents FitsContents l.keys (state_of s).content (memo_of n).content fits.content fit.content ∙ length-map n.content.items contents_of
+  contents_long = sym (length-map s.content.items contents_of) ∙ has.content ∙ sym contents_fit ∙ length-map n.content.items contents_of
 
   pub amounts_long : length s.amount.items ≡ length n.content.items
-  amounts_long = same_long FitsAmounts FitsContents l.keys s.amount.items (memo_of n).content fits.amount fit.content ∙ length-map n.content.items contents_of
+  amounts_long = has.amount ∙ sym contents_fit ∙ length-map n.content.items contents_of
 
 -- ---- what is forgotten, as an event and a state
 
@@ -110,10 +108,10 @@ module _ (l : Layout) where
   pub memo_fits : (f m : Feed) (c : Choice) (n : Memo) → f.left ≡ c ∷ m.left → Some n ≡ filled_in c → All (FitsChoice l) f.left → FitsMemo l n
   memo_fits f m c n first filled fit = subst (FitsChoice l) (filled_as c n filled) (All-head (FitsChoice l) c m.left (subst (All (FitsChoice l)) first fit))
 
-  memo_chosen : (c : Choice) (n : Memo) → FitsMemo l n → Some n ≡ filled_in c → memo_in l c ≡ Some n
+  pub memo_chosen : (c : Choice) (n : Memo) → FitsMemo l n → Some n ≡ filled_in c → memo_in l c ≡ Some n
   memo_chosen c n fit filled = ap (memo_in l) (filled_as c n filled) ∙ ap (λ b. if b then Some n else None) ((Decides-fits_memo l n).1 fit)
 
-  none_chosen : (c : Choice) → None ≡ filled_in c → memo_in l c ≡ None
+  pub none_chosen : (c : Choice) → None ≡ filled_in c → memo_in l c ≡ None
   none_chosen (choice.Branch b) h = refl
   none_chosen (choice.Took v) h = refl
   none_chosen (choice.Amount q) h = refl

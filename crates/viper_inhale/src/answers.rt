@@ -4,6 +4,7 @@ ghost use Rattle.viper_eval.specs.declared.answers.Halt.TheVariants as evaluatio
 ghost use Rattle.viper_inhale.specs.Answers.{run_stop, run_halt};
 ghost use Rattle.viper_inhale.specs.declared.answers.Halt.TheVariants as halt;
 
+use std::alloc::{AllocError, AllocFailed};
 use vb_base::{Label, Memory, Pos};
 
 /// How a step of a run ends.
@@ -90,10 +91,18 @@ impl From<vb_value::Memory> for Halt {
     }
 }
 
-impl From<std::alloc::AllocError> for Halt {
+impl From<AllocError> for Halt {
     ghost from_gives = { λ _ e. e ≡ halt.Memory };
 
-    fn from(_: std::alloc::AllocError) -> Halt {
+    fn from(_: AllocError) -> Halt {
+        Halt::Memory
+    }
+}
+
+impl<T: Drop> From<AllocFailed<T>> for Halt {
+    ghost from_gives = { λ _ e. e ≡ halt.Memory };
+
+    fn from(_: AllocFailed<T>) -> Halt {
         Halt::Memory
     }
 }

@@ -5,7 +5,7 @@ ghost use Rattle.vb_value.specs.Fraction.{is_positive};
 ghost use Rattle.vb_value.specs.Layout.{Layout};
 ghost use Rattle.viper_core.specs.Literals.{IsWithinAssertion};
 ghost use Rattle.viper_core.specs.View.{assertion_of};
-ghost use Rattle.viper_state.specs.Fits.{FitsChoice, FitsState};
+ghost use Rattle.viper_state.specs.Fits.{FitsChoice, HasMaps};
 ghost use Rattle.viper_state.specs.Run.{Feed as Fed};
 ghost use Rattle.viper_state.specs.State as tree;
 ghost use Rattle.viper_state.specs.View.{scene_of, state_of, feed_of};
@@ -25,7 +25,7 @@ use viper_eval::SceneRef;
 use viper_state::{Feed, Scene, State};
 
 /// How a step ended, if not for want of memory.
-fn step(answer: Result<(), Halt>) -> Result<Step, Memory>
+pub fn step(answer: Result<(), Halt>) -> Result<Step, Memory>
     ensures { (f g : Fed) (r : run.Run tree.State) (s : tree.State) → Does (λ _. s) f r g answer
         → IfOk result (λ step. run_of r f ≡ run.ran g.events (step_of s step) g.left) }
 {
@@ -99,9 +99,9 @@ pub fn produce(
 /// next choice, a heap and contents, says what stands there from then on; what is held keeps its value.
 ///
 /// `Goes` leaves the state after forgetting. The events and the choices that are left are exact after each `Step`, where the
-/// state and the choices fit one layout.
+/// choices fit a layout whose maps the state has.
 pub fn forget(alloc: Global, state: &mut State, feed: &mut Feed) -> Result<Step, Memory>
-    ensures step { (l : Layout) → FitsState l (state_of state.old) → All (FitsChoice l) (feed_of feed.old).left → IfOk result (λ step. run_of
+    ensures step { (l : Layout) → HasMaps l (state_of state.old) → All (FitsChoice l) (feed_of feed.old).left → IfOk result (λ step. run_of
         (forgotten.forget l (state_of state.old)) (feed_of feed.old)
         ≡ run.ran (feed_of feed.new).events (step_of (state_of state.new) step) (feed_of feed.new).left) }
 {

@@ -51,7 +51,7 @@ fn consume_amount(
 }
 
 /// Consumes an assertion, its amounts times a scale.
-pub(crate) fn consume(
+pub fn consume(
     alloc: Global,
     assertion: &Assertion,
     start: &State,

@@ -6,7 +6,7 @@ ghost use Rattle.sparse.specs.Map.{keys};
 ghost use Rattle.vb_value.specs.Content.{same_content};
 ghost use Rattle.vb_value.specs.Key.{key_cmp};
 ghost use Rattle.vb_value.specs.Value.{value_eq};
-ghost use Rattle.viper_state.specs.Fits.{FitsMemo, FitsState, FitsChoice};
+ghost use Rattle.viper_state.specs.Fits.{FitsMemo, HasMaps, FitsChoice};
 ghost use Rattle.viper_state.specs.View.{contents_of, memo_of, choice_of, state_of, feed_of};
 ghost use Rattle.vb_value.specs.Layout.{Layout};
 ghost use Rattle.viper_meaning.specs.Forgotten.{kept_at, forgotten_maps, forgotten, with_memo};
@@ -108,7 +108,7 @@ fn memo_in(choice: Choice) -> Option<Memo>
 
 /// Forgets by a heap and contents, and records what stands from then on.
 fn forget_by(alloc: Global, memo: Memo, state: &mut State, feed: &mut Feed) -> Result<(), Halt>
-    ensures { (l : Layout) → FitsState l (state_of state.old) → FitsMemo l (memo_of memo)
+    ensures { (l : Layout) → HasMaps l (state_of state.old) → FitsMemo l (memo_of memo)
         → Does (λ _. state_of state.new) (feed_of feed.old)
         (run.noting (event.Whole (forgotten (state_of state.old) (memo_of memo))) (run.goes (with_memo (state_of state.old) (forgotten (state_of state.old) (memo_of memo)))))
         (feed_of feed.new) result }
@@ -127,8 +127,8 @@ fn forget_by(alloc: Global, memo: Memo, state: &mut State, feed: &mut Feed) -> R
 }
 
 /// Forgets what is not held, by the next choice, which has to be a heap and contents.
-pub(crate) fn forget(alloc: Global, state: &mut State, feed: &mut Feed) -> Result<(), Halt>
-    ensures { (l : Layout) → FitsState l (state_of state.old) → All (FitsChoice l) (feed_of feed.old).left
+pub fn forget(alloc: Global, state: &mut State, feed: &mut Feed) -> Result<(), Halt>
+    ensures { (l : Layout) → HasMaps l (state_of state.old) → All (FitsChoice l) (feed_of feed.old).left
         → Does (λ _. state_of state.new) (feed_of feed.old) (m.forget l (state_of state.old)) (feed_of feed.new) result }
 {
     match feed.take() {

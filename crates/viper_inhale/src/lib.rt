@@ -4,10 +4,10 @@
 mod answers;
 mod calls;
 mod choices;
-mod consuming;
-mod forgetting;
-mod producing;
+pub mod consuming;
+pub mod forgetting;
+pub mod producing;
 mod resources;
 
 pub use answers::{Halt, Step, Stop};
-pub use calls::{consume, forget, produce};
+pub use calls::{consume, forget, produce, step};

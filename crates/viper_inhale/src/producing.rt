@@ -49,7 +49,7 @@ fn produce_amount(
 }
 
 /// Produces an assertion, its amounts times a scale.
-pub(crate) fn produce(
+pub fn produce(
     alloc: Global,
     assertion: &Assertion,
     scene: SceneRef,
