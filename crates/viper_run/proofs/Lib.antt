@@ -1,0 +1,16 @@
+pub mod ThenLaws
+pub mod ChoiceLaws
+pub mod EachLaws
+pub mod ReadyLaws
+pub mod StepLaws
+pub mod ClauseLaws
+pub mod ObjectLaws
+pub mod StartLaws
+pub mod LoopReadyLaws
+pub mod LoopStepLaws
+pub mod NodeLaws
+pub mod BlockLaws
+pub mod LoopLaws
+pub mod StoreLaws
+pub mod CallLaws
+pub mod UnitLaws

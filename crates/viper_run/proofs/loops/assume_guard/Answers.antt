@@ -1,0 +1,44 @@
+use Rattle.std.proofs.Common.{All, ap, sym, subst}
+use Rattle.vb_value.specs.Bound.{Bounded}
+use Rattle.viper_core.specs.Literals.{IsWithinAssertion}
+use Rattle.viper_core.specs.View.{assertions_of, expr_of}
+use Rattle.viper_state.specs.View.{state_of}
+use Rattle.viper_state.specs.Within.{IsWithinScene}
+use Rattle.viper_meaning.proofs.ShapeLaws.{produce_all_shape}
+use Rattle.viper_meaning.proofs.StatementKeptLaws.{produce_all_within}
+use Rattle.viper_eval.specs.View.{lent}
+use Rattle.viper_inhale.proofs.DoesLaws.{passed}
+use Rattle.viper_run.specs.View.{activation_of, configuration_of}
+use Rattle.viper_run.proofs.LoopStepLaws.{guarded_stops, guard_stops, guard_blocks, guard_holds}
+use Rattle.viper_run.proofs.ReadyLaws.{scene_within, stays}
+use Rattle.viper_run.proofs.loops.assume_guard.Goals as goal
+
+pub truth_of-requires-clause-now_within : goal.truth_of-requires-clause-now_within
+truth_of-requires-clause-now_within c =
+    let k = activation_of c.args.activation in
+    let r = c.requires.ready in
+    let sc = lent c.scene-scene.result in
+    let invariants = assertions_of c.deref.result.now in
+    (stays (produce_all_within invariants sc (state_of c.args.configuration.now.state) (subst (λ xs. All IsWithinAssertion (assertions_of xs)) (sym c.deref.ensures.value) c.requires.invariants_within) r.state.within
+    (subst IsWithinScene (sym c.scene-scene.ensures) (scene_within c.args.turns.now.at r)))
+    (produce_all_shape Bounded k.program invariants sc (state_of c.args.configuration.now.state) r.state.maps) r.state c.in_ok-produce_all.ensures).within
+
+pub returns-in_err-produce_all : goal.returns-in_err-produce_all
+returns-in_err-produce_all c =
+    passed _ _ c.from_residual.ensures.1 (guarded_stops (activation_of c.args.activation) (configuration_of c.args.configuration.now) c.scene-scene.ensures (assertions_of c.args.turns.now.invariants.items) (ap assertions_of c.deref.ensures.value) (expr_of c.args.turns.now.guard)
+    (state_of c.args.configuration.now.state) c.in_err-produce_all.ensures)
+
+pub returns-in_err-truth_of : goal.returns-in_err-truth_of
+returns-in_err-truth_of c =
+    passed _ _ c.from_residual-in_err-truth_of.ensures.1 (guard_stops (activation_of c.args.activation) (configuration_of c.args.configuration.now) c.scene-scene.ensures (assertions_of c.args.turns.now.invariants.items) (ap assertions_of c.deref.ensures.value) (expr_of c.args.turns.now.guard)
+    (state_of c.produce_all.new.state) (state_of c.args.configuration.now.state) c.in_ok-produce_all.ensures c.in_err-truth_of.ensures.answers c.in_err-truth_of.ensures.left)
+
+pub returns-in_err-assumed : goal.returns-in_err-assumed
+returns-in_err-assumed c =
+    passed _ _ c.from_residual-in_err-assumed.ensures.1 (guard_blocks (activation_of c.args.activation) (configuration_of c.args.configuration.now) c.scene-scene.ensures (assertions_of c.args.turns.now.invariants.items) (ap assertions_of c.deref.ensures.value) (expr_of c.args.turns.now.guard)
+    (state_of c.produce_all.new.state) (state_of c.args.configuration.now.state) c.in_ok-produce_all.ensures _ c.in_ok-truth_of.ensures.answers c.in_ok-truth_of.ensures.left c.in_err-assumed.ensures)
+
+pub returns : goal.returns
+returns c =
+    guard_holds (activation_of c.args.activation) (configuration_of c.args.configuration.now) c.scene-scene.ensures (assertions_of c.args.turns.now.invariants.items) (ap assertions_of c.deref.ensures.value) (expr_of c.args.turns.now.guard)
+    (state_of c.produce_all.new.state) (state_of c.args.configuration.now.state) c.in_ok-produce_all.ensures c.in_ok-truth_of.ensures.answers c.in_ok-truth_of.ensures.left c.in_ok-assumed.ensures

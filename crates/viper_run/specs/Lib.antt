@@ -1,0 +1,4 @@
+pub mod Outcome
+pub mod Ready
+pub mod Steps
+pub mod View

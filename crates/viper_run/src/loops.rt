@@ -1,0 +1,146 @@
+// The parts of a loop around its body.
+ghost use Rattle.std.specs.Prelude.{◌≡◌, All};
+ghost use Rattle.vb_value.specs.Bound.{Bounded};
+ghost use Rattle.viper_core.specs.Literals.{IsWithinAssertion, IsWithinExpr};
+ghost use Rattle.viper_core.specs.View.{assertions_of, expr_of};
+ghost use Rattle.viper_state.specs.View.{feed_of};
+ghost use Rattle.viper_meaning.specs.Statements as m;
+ghost use Rattle.viper_inhale.specs.Answers.{Does};
+ghost use Rattle.viper_run.specs.Ready.{IsReady};
+ghost use Rattle.viper_run.specs.Steps.{guarded, loop_entered, turn_begun};
+ghost use Rattle.viper_run.specs.View.{activation_of, configuration_of};
+
+use crate::activations::{Activation, Configuration};
+use crate::choices::{take_state, take_values};
+use crate::clauses::{consume_all, exhale_all, produce_all};
+use std::alloc::Global;
+use viper_core::Loop;
+use viper_eval::{assumed, truth_of};
+use viper_inhale::{Halt, Stop};
+use viper_state::{Feed, copy_state};
+
+/// The invariant is given up, and the loop targets take any values.
+pub(crate) fn enter_loop(
+    alloc: Global,
+    activation: Activation,
+    turns: &Loop,
+    configuration: &mut Configuration,
+    feed: &mut Feed,
+) -> Result<(), Halt>
+    requires invariants_within { All IsWithinAssertion (assertions_of turns.now.invariants.items) }
+    requires ready { IsReady (activation_of activation) (configuration_of configuration.old) (feed_of feed.old) }
+    ensures { Does (λ _. configuration_of configuration.new) (feed_of feed.old)
+        (loop_entered (activation_of activation.entry) turns.now.at (assertions_of turns.now.invariants.items) turns.now.targets.items (configuration_of configuration.old))
+        (feed_of feed.new) result }
+{
+    let scene = activation.scene(&configuration.store, turns.at);
+    exhale_all(
+        alloc,
+        &turns.invariants,
+        scene,
+        &mut configuration.state,
+        feed,
+    )?;
+    let values = take_values(alloc, activation.vars, &turns.targets, feed)?;
+    configuration.store.set_all(&turns.targets, &values);
+    Ok(())
+}
+
+/// The invariant is produced, and the guard is assumed.
+fn assume_guard(
+    alloc: Global,
+    activation: Activation,
+    turns: &Loop,
+    configuration: &mut Configuration,
+    feed: &mut Feed,
+) -> Result<(), Halt>
+    requires guard_within { IsWithinExpr (expr_of turns.now.guard) }
+    requires invariants_within { All IsWithinAssertion (assertions_of turns.now.invariants.items) }
+    requires ready { IsReady (activation_of activation) (configuration_of configuration.old) (feed_of feed.old) }
+    ensures { Does (λ _. configuration_of configuration.new) (feed_of feed.old)
+        (guarded (activation_of activation.entry) turns.now.at (expr_of turns.now.guard) (assertions_of turns.now.invariants.items) (configuration_of configuration.old) (configuration_of configuration.old).state)
+        (feed_of feed.new) result }
+{
+    let scene = activation.scene(&configuration.store, turns.at);
+    produce_all(
+        alloc,
+        &turns.invariants,
+        scene,
+        &mut configuration.state,
+        feed,
+    )?;
+    Ok(assumed(truth_of(alloc, &turns.guard, &configuration.state, scene, feed)?)?)
+}
+
+/// A turn begins in any state that the invariant and the guard allow, in which nothing else is held.
+pub(crate) fn begin_turn(
+    alloc: Global,
+    activation: Activation,
+    turns: &Loop,
+    configuration: &mut Configuration,
+    feed: &mut Feed,
+) -> Result<(), Halt>
+    requires guard_within { IsWithinExpr (expr_of turns.now.guard) }
+    requires invariants_within { All IsWithinAssertion (assertions_of turns.now.invariants.items) }
+    requires ready { IsReady (activation_of activation) (configuration_of configuration.old) (feed_of feed.old) }
+    ensures { Does (λ _. configuration_of configuration.new) (feed_of feed.old)
+        (turn_begun (activation_of activation.entry) turns.now.at (expr_of turns.now.guard) (assertions_of turns.now.invariants.items) (configuration_of configuration.old))
+        (feed_of feed.new) result }
+{
+    configuration.state = take_state(alloc, activation.program, feed)?;
+    assume_guard(alloc, activation, turns, configuration, feed)
+}
+
+/// A turn ends with the invariant. Nothing goes on after it.
+pub(crate) fn end_turn(
+    alloc: Global,
+    activation: Activation,
+    turns: &Loop,
+    configuration: &Configuration,
+    feed: &mut Feed,
+) -> Result<(), Halt>
+    requires invariants_within { All IsWithinAssertion (assertions_of turns.now.invariants.items) }
+    requires ready { IsReady (activation_of activation) (configuration_of configuration.now) (feed_of feed.old) }
+    ensures { Does (λ _. configuration_of configuration.now) (feed_of feed.old)
+        (m.in_vain (m.consume_all Bounded (assertions_of turns.now.invariants.items) (configuration_of configuration.now).state
+        (m.scene (activation_of activation.entry) (configuration_of configuration.now) turns.now.turn) (configuration_of configuration.now).state))
+        (feed_of feed.new) result }
+{
+    let scene = activation.scene(&configuration.store, turns.turn);
+    let mut left = copy_state(alloc, &configuration.state)?;
+    consume_all(
+        alloc,
+        &turns.invariants,
+        &configuration.state,
+        scene,
+        &mut left,
+        feed,
+    )?;
+    Err(Halt::Stops(Stop::Blocked))
+}
+
+/// After the loop the invariant holds again on top of what is held, and the guard does not.
+pub(crate) fn leave_loop(
+    alloc: Global,
+    activation: Activation,
+    turns: &Loop,
+    configuration: &mut Configuration,
+    feed: &mut Feed,
+) -> Result<(), Halt>
+    requires guard_within { IsWithinExpr (expr_of turns.now.guard) }
+    requires invariants_within { All IsWithinAssertion (assertions_of turns.now.invariants.items) }
+    requires ready { IsReady (activation_of activation) (configuration_of configuration.old) (feed_of feed.old) }
+    ensures { Does (λ _. configuration_of configuration.new) (feed_of feed.old)
+        (m.after_loop Bounded (activation_of activation.entry) turns.now.at (expr_of turns.now.guard) (assertions_of turns.now.invariants.items) (configuration_of configuration.old))
+        (feed_of feed.new) result }
+{
+    let scene = activation.scene(&configuration.store, turns.at);
+    produce_all(
+        alloc,
+        &turns.invariants,
+        scene,
+        &mut configuration.state,
+        feed,
+    )?;
+    Ok(assumed(!truth_of(alloc, &turns.guard, &configuration.state, scene, feed)?)?)
+}

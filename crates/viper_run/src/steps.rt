@@ -1,0 +1,316 @@
+// The statements in which no other statements stand.
+ghost use Rattle.std.specs.Prelude.{◌≡◌, None};
+ghost use Rattle.std.specs.Option.{option_map};
+ghost use Rattle.vb_base.specs.declared.places.Pos.{Pos as Place};
+ghost use Rattle.vb_value.specs.Bound.{Bounded};
+ghost use Rattle.viper_core.specs.Literals.{AreWithinExprs, IsWithinAssertion, IsWithinExpr};
+ghost use Rattle.viper_core.specs.Stmt as s;
+ghost use Rattle.viper_core.specs.View.{assertion_of, expr_of, exprs_of, fold_of};
+ghost use Rattle.viper_state.specs.View.{feed_of};
+ghost use Rattle.viper_meaning.specs.StatementLiterals.{IsWithinStmt};
+ghost use Rattle.viper_meaning.specs.Statements as m;
+ghost use Rattle.viper_inhale.specs.Answers.{Does};
+ghost use Rattle.viper_run.specs.Ready.{IsReady};
+ghost use Rattle.viper_run.specs.View.{activation_of, configuration_of};
+
+use crate::activations::{Activation, Configuration};
+use crate::calling;
+use crate::choices::{take_fresh, take_value_of};
+use crate::objects::{create, is_fresh, write_field};
+use std::alloc::Global;
+use vb_base::Pos;
+use vb_value::{Frac, Value};
+use viper_core::{Assertion, Expr, FoldStmt};
+use viper_eval::{assumed, evaluate, evaluate_all, found, reference_of};
+use viper_fold::{fold_in, unfold_in};
+use viper_inhale::Halt;
+use viper_inhale::consuming::consume;
+use viper_inhale::forgetting::forget;
+use viper_inhale::producing::produce;
+use viper_state::{Feed, copy_state};
+
+/// `var x: T`
+pub(crate) fn declare(
+    activation: Activation,
+    variable: u32,
+    configuration: &mut Configuration,
+    feed: &mut Feed,
+) -> Result<(), Halt>
+    ensures { (at : Place) → Does (λ _. configuration_of configuration.new) (feed_of feed.old)
+        (m.run_stmt Bounded (activation_of activation.entry) (s.Var at variable None) (configuration_of configuration.old))
+        (feed_of feed.new) result }
+{
+    let value = take_value_of(activation.vars, variable, feed)?;
+    configuration.store.set(variable, value);
+    Ok(())
+}
+
+/// `x := e`
+pub(crate) fn assign(
+    alloc: Global,
+    activation: Activation,
+    at: Pos,
+    variable: u32,
+    e: &Expr,
+    configuration: &mut Configuration,
+    feed: &mut Feed,
+) -> Result<(), Halt>
+    requires e_within { IsWithinExpr (expr_of e.now) }
+    requires ready { IsReady (activation_of activation) (configuration_of configuration.old) (feed_of feed.old) }
+    ensures { Does (λ _. configuration_of configuration.new) (feed_of feed.old)
+        (m.run_stmt Bounded (activation_of activation.entry) (s.Assign at variable (expr_of e.now)) (configuration_of configuration.old))
+        (feed_of feed.new) result }
+{
+    let scene = activation.scene(&configuration.store, at);
+    let value = evaluate(alloc, e, &configuration.state, scene, feed)?;
+    configuration.store.set(variable, value);
+    Ok(())
+}
+
+/// `var x: T`, or `var x: T := e`
+pub(crate) fn declare_variable(
+    alloc: Global,
+    activation: Activation,
+    at: Pos,
+    variable: u32,
+    init: &Option<Expr>,
+    configuration: &mut Configuration,
+    feed: &mut Feed,
+) -> Result<(), Halt>
+    requires init_within { IsWithinStmt (s.Var at variable (option_map expr_of init.now)) }
+    requires ready { IsReady (activation_of activation) (configuration_of configuration.old) (feed_of feed.old) }
+    ensures { Does (λ _. configuration_of configuration.new) (feed_of feed.old)
+        (m.run_stmt Bounded (activation_of activation.entry) (s.Var at variable (option_map expr_of init.now)) (configuration_of configuration.old))
+        (feed_of feed.new) result }
+{
+    match init {
+        None => declare(activation, variable, configuration, feed),
+        Some(e) => assign(alloc, activation, at, variable, e, configuration, feed),
+    }
+}
+
+/// `e.f := d`
+pub(crate) fn write(
+    alloc: Global,
+    activation: Activation,
+    at: Pos,
+    e: &Expr,
+    field: u32,
+    place: Pos,
+    d: &Expr,
+    configuration: &mut Configuration,
+    feed: &mut Feed,
+) -> Result<(), Halt>
+    requires e_within { IsWithinExpr (expr_of e.now) }
+    requires d_within { IsWithinExpr (expr_of d.now) }
+    requires ready { IsReady (activation_of activation) (configuration_of configuration.old) (feed_of feed.old) }
+    ensures { Does (λ _. configuration_of configuration.new) (feed_of feed.old)
+        (m.run_stmt Bounded (activation_of activation.entry) (s.Write at (expr_of e.now) field place (expr_of d.now)) (configuration_of configuration.old))
+        (feed_of feed.new) result }
+{
+    let scene = activation.scene(&configuration.store, at);
+    let reference = reference_of(alloc, e, &configuration.state, scene, feed)?;
+    let value = evaluate(alloc, d, &configuration.state, scene, feed)?;
+    Ok(write_field(
+        scene,
+        &mut configuration.state,
+        field,
+        place,
+        reference,
+        value,
+    )?)
+}
+
+/// `x := new(f, g)`
+pub(crate) fn make_new(
+    activation: Activation,
+    variable: u32,
+    fields: &[u32],
+    refs: &[u32],
+    configuration: &mut Configuration,
+    feed: &mut Feed,
+) -> Result<(), Halt>
+    ensures { (at : Place) → Does (λ _. configuration_of configuration.new) (feed_of feed.old)
+        (m.run_stmt Bounded (activation_of activation.entry) (s.New at variable fields.now refs.now) (configuration_of configuration.old))
+        (feed_of feed.new) result }
+{
+    let reference = take_fresh(feed)?;
+    assumed(is_fresh(reference, refs, configuration))?;
+    let program = activation.program;
+    create(
+        &program.layout.fields,
+        reference,
+        fields,
+        &mut configuration.state,
+        feed,
+    )?;
+    configuration.store.set(variable, Value::Ref(reference));
+    Ok(())
+}
+
+/// `x, y := m(a, b)`
+pub(crate) fn call(
+    alloc: Global,
+    activation: Activation,
+    at: Pos,
+    targets: &[u32],
+    method: u32,
+    args: &[Expr],
+    configuration: &mut Configuration,
+    feed: &mut Feed,
+) -> Result<(), Halt>
+    requires args_within { AreWithinExprs (exprs_of args.now) }
+    requires ready { IsReady (activation_of activation) (configuration_of configuration.old) (feed_of feed.old) }
+    ensures { Does (λ _. configuration_of configuration.new) (feed_of feed.old)
+        (m.run_stmt Bounded (activation_of activation.entry) (s.Call at targets.now method (exprs_of args.now)) (configuration_of configuration.old))
+        (feed_of feed.new) result }
+{
+    let scene = activation.scene(&configuration.store, at);
+    let args = evaluate_all(alloc, args, &configuration.state, scene, feed)?;
+    let callee = found(activation.program.methods.get(method as usize))?;
+    calling::call(
+        alloc,
+        activation,
+        at,
+        targets,
+        callee,
+        args,
+        configuration,
+        feed,
+    )
+}
+
+/// `inhale A`
+pub(crate) fn inhale(
+    alloc: Global,
+    activation: Activation,
+    at: Pos,
+    a: &Assertion,
+    configuration: &mut Configuration,
+    feed: &mut Feed,
+) -> Result<(), Halt>
+    requires a_within { IsWithinAssertion (assertion_of a.now) }
+    requires ready { IsReady (activation_of activation) (configuration_of configuration.old) (feed_of feed.old) }
+    ensures { Does (λ _. configuration_of configuration.new) (feed_of feed.old)
+        (m.run_stmt Bounded (activation_of activation.entry) (s.Inhale at (assertion_of a.now)) (configuration_of configuration.old))
+        (feed_of feed.new) result }
+{
+    let scene = activation.scene(&configuration.store, at);
+    produce(
+        alloc,
+        a,
+        scene,
+        Frac::write(),
+        &mut configuration.state,
+        feed,
+    )
+}
+
+/// `exhale A`
+pub(crate) fn exhale(
+    alloc: Global,
+    activation: Activation,
+    at: Pos,
+    a: &Assertion,
+    configuration: &mut Configuration,
+    feed: &mut Feed,
+) -> Result<(), Halt>
+    requires a_within { IsWithinAssertion (assertion_of a.now) }
+    requires ready { IsReady (activation_of activation) (configuration_of configuration.old) (feed_of feed.old) }
+    ensures { Does (λ _. configuration_of configuration.new) (feed_of feed.old)
+        (m.run_stmt Bounded (activation_of activation.entry) (s.Exhale at (assertion_of a.now)) (configuration_of configuration.old))
+        (feed_of feed.new) result }
+{
+    let scene = activation.scene(&configuration.store, at);
+    let start = copy_state(alloc, &configuration.state)?;
+    consume(
+        alloc,
+        a,
+        &start,
+        scene,
+        Frac::write(),
+        &mut configuration.state,
+        feed,
+    )?;
+    forget(alloc, &mut configuration.state, feed)
+}
+
+/// `assert A`
+pub(crate) fn check(
+    alloc: Global,
+    activation: Activation,
+    at: Pos,
+    a: &Assertion,
+    configuration: &Configuration,
+    feed: &mut Feed,
+) -> Result<(), Halt>
+    requires a_within { IsWithinAssertion (assertion_of a.now) }
+    requires ready { IsReady (activation_of activation) (configuration_of configuration.now) (feed_of feed.old) }
+    ensures { Does (λ _. configuration_of configuration.now) (feed_of feed.old)
+        (m.run_stmt Bounded (activation_of activation.entry) (s.Assert at (assertion_of a.now)) (configuration_of configuration.now))
+        (feed_of feed.new) result }
+{
+    let scene = activation.scene(&configuration.store, at);
+    let mut left = copy_state(alloc, &configuration.state)?;
+    consume(
+        alloc,
+        a,
+        &configuration.state,
+        scene,
+        Frac::write(),
+        &mut left,
+        feed,
+    )
+}
+
+/// `fold acc(P(a), amount)`
+pub(crate) fn fold(
+    alloc: Global,
+    activation: Activation,
+    instance: &FoldStmt,
+    configuration: &mut Configuration,
+    feed: &mut Feed,
+) -> Result<(), Halt>
+    requires args_within { AreWithinExprs (fold_of instance.now).args }
+    requires amount_within { IsWithinExpr (fold_of instance.now).amount }
+    requires ready { IsReady (activation_of activation) (configuration_of configuration.old) (feed_of feed.old) }
+    ensures { Does (λ _. configuration_of configuration.new) (feed_of feed.old)
+        (m.run_stmt Bounded (activation_of activation.entry) (s.Fold (fold_of instance.now)) (configuration_of configuration.old))
+        (feed_of feed.new) result }
+{
+    let scene = activation.scene(&configuration.store, instance.at);
+    fold_in(
+        alloc,
+        activation.program,
+        instance,
+        &mut configuration.state,
+        scene,
+        feed,
+    )
+}
+
+/// `unfold acc(P(a), amount)`
+pub(crate) fn unfold(
+    alloc: Global,
+    activation: Activation,
+    instance: &FoldStmt,
+    configuration: &mut Configuration,
+    feed: &mut Feed,
+) -> Result<(), Halt>
+    requires args_within { AreWithinExprs (fold_of instance.now).args }
+    requires amount_within { IsWithinExpr (fold_of instance.now).amount }
+    requires ready { IsReady (activation_of activation) (configuration_of configuration.old) (feed_of feed.old) }
+    ensures { Does (λ _. configuration_of configuration.new) (feed_of feed.old)
+        (m.run_stmt Bounded (activation_of activation.entry) (s.Unfold (fold_of instance.now)) (configuration_of configuration.old))
+        (feed_of feed.new) result }
+{
+    let scene = activation.scene(&configuration.store, instance.at);
+    unfold_in(
+        alloc,
+        activation.program,
+        instance,
+        &mut configuration.state,
+        scene,
+        feed,
+    )
+}
