@@ -1,16 +1,14 @@
 -- The content with which words begin, as it is read.
 use Rattle.std.proofs.Common.{◌≡◌, ◌∙◌, ◌+◌, ◌<◌, ◌≤◌, ℕ, zero, suc, Bool, true, false, cond, List, [], ◌∷◌, length, Option, Some, None, refl, sym, ap, subst, arith}
-use Rattle.std.specs.Prelude.{codes, option_and_then, nat_le, not, ◌&&◌}
+use Rattle.std.specs.Prelude.{codes, nat_le}
 use Rattle.std.specs.Bool.{Decides}
 use Rattle.std.specs.Option.{option_map}
-use Rattle.std.specs.Str.{bytes_eq}
 use Rattle.std.proofs.lemmas.Option.{some_pair_parts, cond_some}
 use Rattle.std.proofs.lemmas.Bool.{le-leb, leb-true}
 use Rattle.std.proofs.lemmas.Slice.Eq.{bytes_eq-Decides}
 use Rattle.vb_value.specs.Content as tree
 use Rattle.vb_value.specs.Content.{Content, nodes}
 use Rattle.vb_value.specs.declared.values.Value.{Value}
-use Rattle.run_file.specs.Text.{is_empty}
 use Rattle.run_file.specs.Values.{BeginsWithContent, unit, leaf, pair}
 use Rattle.run_file.specs.Reading.{any_value, leaf_from, content_from, small_whole, whole_content, ◌>>=◌}
 use Rattle.run_file.proofs.NumberLaws.{refuted}

@@ -1,20 +1,19 @@
 -- The run that a file spells, and the place where it goes wrong, are what is read of its lines.
-use Rattle.std.proofs.Common.{◌≡◌, ◌∙◌, ◌+◌, ◌<◌, ◌⊎◌, ◌==◌, inl, inr, ℕ, Bool, true, false, cond, not, List, [], ◌∷◌, ◌++◌, length, take, Option, Some, None, Result, Ok, Err, MatchResult, IfOk, IfErr, refl, sym, ap, subst, arith}
-use Rattle.std.specs.Prelude.{codes, filter, map, ◌&&◌}
+use Rattle.std.proofs.Common.{◌≡◌, ◌∙◌, ◌+◌, ◌⊎◌, ◌==◌, inl, inr, ℕ, Bool, true, false, cond, not, List, [], ◌∷◌, take, Option, Some, None, refl, sym, ap, subst}
+use Rattle.std.specs.Prelude.{codes, filter, map}
 use Rattle.std.specs.List.{AllZip}
 use Rattle.std.specs.Str.{bytes_eq}
 use Rattle.std.proofs.lemmas.Bool.{and_parts}
-use Rattle.std.proofs.lemmas.Option.{option_and_then_some}
 use Rattle.std.proofs.lemmas.List.Splits.{length-slice_split}
 use Rattle.std.proofs.lemmas.Slice.Eq.{bytes_eq-Decides}
 use Rattle.vb_base.specs.declared.places.Pos.{Pos}
 use Rattle.viper_core.specs.Program.{Program}
 use Rattle.run_file.specs.Text.{lines_of, is_skipped, words_of, told}
 use Rattle.run_file.specs.Lines.{Scope, scope_of, Line, Var, Heap, Holds, Chosen, Opened, IsLine}
-use Rattle.run_file.specs.Run.{ViperRun, AreRun, header, SpellRun, MayStand, GoesWrongAt, bad_line, no_header}
+use Rattle.run_file.specs.Run.{ViperRun, header, SpellRun, MayStand, GoesWrongAt, bad_line, no_header}
 use Rattle.run_file.specs.Reading.{◌>>=◌, line_of}
 use Rattle.run_file.specs.NamedOrder.{named_cmp}
-use Rattle.run_file.specs.Progress.{Progress, begun, is_header, header_read, stepped, followed, has_named, once, may_set, may_place, run_set, run_with, read_line, all_read, is_headed, IsRead, StopsAt, bad, headless}
+use Rattle.run_file.specs.Progress.{Progress, begun, is_header, stepped, followed, has_named, once, may_set, may_place, run_set, run_with, read_line, all_read, is_headed, IsRead, StopsAt, bad, headless}
 use Rattle.std.specs.BTreeSet.{insert_key}
 use Rattle.run_file.specs.declared.lines.Named.{Named}
 use Rattle.run_file.specs.declared.lines.Named.TheVariants as named

@@ -14,3 +14,10 @@ pub mod ScopeLaws
 pub mod OneRun
 pub mod PrintLaws
 pub mod SpelledLaws
+pub mod PrintedWords
+pub mod PrintedValues
+pub mod PrintedMaps
+pub mod PrintedMemos
+pub mod PrintedOnce
+pub mod PrintedLines
+pub mod PrintedRuns

@@ -1,6 +1,6 @@
 -- What a line says is what is read of its words, where names differ.
-use Rattle.std.proofs.Common.{◌≡◌, ◌∙◌, ◌<◌, ◌≤◌, ◌==◌, ℕ, Bool, true, false, cond, List, [], ◌∷◌, ◌++◌, length, get_or, Option, Some, None, MatchOption, slice_get, refl, sym, ap, subst, arith}
-use Rattle.std.specs.Prelude.{codes, position, nat_lt, find}
+use Rattle.std.proofs.Common.{◌≡◌, ◌∙◌, ◌≤◌, ◌==◌, ℕ, Bool, true, false, cond, List, [], ◌∷◌, length, get_or, Option, Some, None, MatchOption, slice_get, refl, sym, ap, subst, arith}
+use Rattle.std.specs.Prelude.{codes, nat_lt}
 use Rattle.std.specs.List.{position_or_len}
 use Rattle.std.specs.Cmp.Lexicographic.{pointwise}
 use Rattle.std.specs.Option.{option_map}
@@ -12,10 +12,8 @@ use Rattle.std.proofs.lemmas.Slice.Eq.{bytes_eq-Decides}
 use Rattle.vb_base.specs.Names.{NamesDiffer}
 use Rattle.vb_base.proofs.NameLaws.{place_of_name}
 use Rattle.vb_base.proofs.Lookups.{looked_up, found}
-use Rattle.vb_value.specs.Content.{Content}
 use Rattle.vb_value.specs.Fraction.{Fraction}
 use Rattle.vb_value.specs.declared.keys.KeyPart.{KeyPart}
-use Rattle.vb_value.specs.declared.keys.KeyPart.TheVariants as part
 use Rattle.vb_value.specs.declared.values.Ty.{Ty}
 use Rattle.vb_value.specs.declared.values.Ty.TheVariants as ty
 use Rattle.vb_value.specs.declared.values.Value.{Value}
@@ -26,7 +24,7 @@ use Rattle.run_file.specs.Values as v
 use Rattle.run_file.specs.Values.{SpellsValue, IsArgument, BeginsWithKey, BeginsWithContent}
 use Rattle.run_file.specs.Lines as l
 use Rattle.run_file.specs.Lines.{Scope, Known, HasName, Line, Var, Heap, Holds, Chosen, Opened, IsLine}
-use Rattle.run_file.specs.Reading.{◌>>=◌, argument_of, argument_from, key_from, after_parts, number_of, keyword_text, keywords, keyword_of, single, only_value, variable_line, place_line, instance_line, numbered_name, named_line, pick_line, value_line, amount_line, fresh_line, state_line, keyed_line, line_of, whole_content, value_of, any_value, truth, reference, fraction, type_told}
+use Rattle.run_file.specs.Reading.{◌>>=◌, argument_of, key_from, after_parts, number_of, keyword_text, keywords, keyword_of, single, only_value, variable_line, place_line, instance_line, named_line, state_line, keyed_line, line_of, whole_content, value_of, any_value, truth, reference, fraction}
 use Rattle.run_file.specs.declared.lines.Keyword.{Keyword}
 use Rattle.run_file.specs.declared.lines.Keyword.TheVariants as keyword
 use Rattle.run_file.proofs.ValueLaws.{mapped_some, value_spelled, spelled_value}

@@ -1,5 +1,5 @@
 -- A heap and contents among others.
-use Rattle.std.proofs.Common.{◌≡◌, ◌∙◌, ◌<◌, ◌-◌, ◌+◌, ℕ, zero, suc, List, [], ◌∷◌, ◌++◌, length, map, replicate, set, get_or, Result, Ok, Err, OnOk, refl, sym, ap, arith}
+use Rattle.std.proofs.Common.{◌≡◌, ◌∙◌, ◌<◌, ◌-◌, ℕ, suc, List, [], ◌∷◌, length, map, replicate, set, get_or, Result, Ok, Err, OnOk, refl, sym, ap, arith}
 use Rattle.std.proofs.lemmas.List.{length-map, map-set, get_or-map}
 use Rattle.viper_state.specs.Choice.{Choice}
 use Rattle.viper_state.specs.View.{choice_of}

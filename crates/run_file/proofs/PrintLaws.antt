@@ -1,5 +1,5 @@
 -- What is printed of one thing more.
-use Rattle.std.proofs.Common.{◌≡◌, ◌∙◌, ◌+◌, ◌<◌, ◌≤◌, ℕ, zero, suc, List, [], ◌∷◌, ◌++◌, append_assoc, length, map, drop, get_or, Option, Some, None, slice_get, IfSome, is_some, refl, sym, ap, subst, arith}
+use Rattle.std.proofs.Common.{◌≡◌, ◌∙◌, ◌+◌, ◌<◌, ◌≤◌, ℕ, List, ◌∷◌, ◌++◌, append_assoc, length, map, drop, get_or, Option, Some, None, slice_get, IfSome, is_some, refl, sym, ap, arith}
 use Rattle.std.specs.Prelude.{nat_lt}
 use Rattle.std.specs.Borrow.{Bor}
 use Rattle.std.specs.Option.{option_map, option_copied}
@@ -9,7 +9,6 @@ use Rattle.std.proofs.lemmas.List.{drop_more, drop_all, map-id, append-nil, leng
 use Rattle.std.proofs.lemmas.Option.{slice_get_within, get_or_from_slice_get, slice_get-map, slice_get_past, slice_get-get_or}
 use Rattle.sparse.specs.Map.{Map, get, keys}
 use Rattle.sparse.proofs.MeaningLaws.{get-meaning_of, keys-meaning_of, IsMeaning-on}
-use Rattle.vb_value.specs.Content as tree
 use Rattle.vb_value.specs.Content.{same_content}
 use Rattle.vb_value.specs.Key.{key_cmp}
 use Rattle.vb_value.specs.View.{content_of}

@@ -1,6 +1,6 @@
 -- The run that lines are is what is read of them, line by line.
-use Rattle.std.proofs.Common.{◌≡◌, ◌∙◌, ℕ, Bool, true, false, cond, List, [], ◌∷◌, ◌++◌, append_assoc, Option, Some, None, refl, sym, ap, subst}
-use Rattle.std.specs.Prelude.{fold, slice_set}
+use Rattle.std.proofs.Common.{◌≡◌, ◌∙◌, Bool, true, false, cond, List, [], ◌∷◌, ◌++◌, append_assoc, Option, Some, None, refl, sym, ap, subst}
+use Rattle.std.specs.Prelude.{fold}
 use Rattle.std.specs.List.{AllByRecursion}
 use Rattle.std.specs.BTreeSet.{insert_key}
 use Rattle.std.proofs.lemmas.List.{append-nil}
@@ -8,9 +8,9 @@ use Rattle.viper_state.specs.State.{Memo}
 use Rattle.viper_state.specs.Run.{Opening}
 use Rattle.viper_state.specs.Choice.{Choice, Filled}
 use Rattle.run_file.specs.Lines.{Scope, Line, Var, Heap, Holds, Chosen, Opened}
-use Rattle.run_file.specs.Run.{ViperRun, scope_memo, empty_opening, memo_with, opening_with, IsPlaceLine, IsSetting, names_of, all_names, NamedOnce, AreChoices, AreRun, none, one, filled}
+use Rattle.run_file.specs.Run.{ViperRun, scope_memo, empty_opening, memo_with, opening_with, IsPlaceLine, IsSetting, names_of, all_names, AreChoices, AreRun, none, one, filled}
 use Rattle.run_file.specs.NamedOrder.{named_cmp}
-use Rattle.run_file.specs.Progress.{Progress, choice_with, last_with, has_named, once, run_with, run_set, followed, chosen, is_headed}
+use Rattle.run_file.specs.Progress.{Progress, last_with, has_named, followed, is_headed}
 use Rattle.run_file.specs.declared.lines.Named.{Named}
 use Rattle.run_file.specs.declared.lines.Named.TheVariants as named
 use Rattle.run_file.specs.declared.reader.Stage.{Stage}

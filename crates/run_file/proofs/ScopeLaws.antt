@@ -1,5 +1,5 @@
 -- The names that the lines of a file may name differ, where the program is formed.
-use Rattle.std.proofs.Common.{◌≡◌, ◌≢◌, ◌∙◌, ◌+◌, ◌<◌, ℕ, List, [], ◌∷◌, ◌++◌, All, AllPairs, map, length, length-append, get_or, Option, Some, None, slice_get, IfSome, subst, refl, sym, ap, arith}
+use Rattle.std.proofs.Common.{◌≡◌, ◌∙◌, ◌+◌, ℕ, List, [], ◌++◌, All, map, length, length-append, Option, Some, None, slice_get, IfSome, subst, refl, sym, arith}
 use Rattle.std.proofs.lemmas.List.{get_or_append_left, get_or-append-add}
 use Rattle.viper_state.proofs.Paired.{All-found}
 use Rattle.vb_base.specs.Names.{NamesDiffer}

@@ -1,11 +1,10 @@
 -- What a word spells is what is read of it.
-use Rattle.std.proofs.Common.{◌≡◌, ◌≢◌, ◌∙◌, ◌+◌, ◌-◌, ◌<◌, ◌≤◌, ◌^◌, ◌==◌, ℕ, zero, suc, ℤ, pos, negsuc, neg_ℤ, unsigned_abs, Bool, true, false, not, cond, ◌&&◌, ◌||◌, if◌then◌else◌, List, [], ◌∷◌, ◌++◌, length, get_or, take, drop, Option, Some, None, IsTrue, refl, sym, ap, subst, arith}
+use Rattle.std.proofs.Common.{◌≡◌, ◌≢◌, ◌∙◌, ◌+◌, ◌-◌, ◌<◌, ◌^◌, ◌==◌, ℕ, zero, suc, ℤ, pos, neg_ℤ, unsigned_abs, Bool, true, false, not, cond, ◌&&◌, if◌then◌else◌, List, [], ◌∷◌, ◌++◌, length, get_or, take, drop, Option, Some, None, IsTrue, refl, sym, ap, subst, arith}
 use Rattle.std.specs.Prelude.{codes}
 use Rattle.std.specs.Bool.{Decides}
 use Rattle.std.specs.Char.{is_ascii_digit}
-use Rattle.std.specs.List.{list_all, list_any, prefix_len, before_first, after_first, position_or_len}
+use Rattle.std.specs.List.{list_all, prefix_len, before_first, after_first, position_or_len}
 use Rattle.std.specs.Option.{option_map}
-use Rattle.std.specs.Str.{bytes_eq}
 use Rattle.std.proofs.lemmas.Bool.{and_parts, and_from, eqb-true, cond-true, lt-ltb}
 use Rattle.std.proofs.lemmas.Option.{cond_some}
 use Rattle.std.proofs.lemmas.List.Sums.{split_at_first, prefix_len_stops}
@@ -22,8 +21,8 @@ use Rattle.vb_value.specs.declared.values.Value.{Value}
 use Rattle.vb_value.specs.declared.values.Value.TheVariants.{Int, Bool as Truth, Ref, Perm}
 use Rattle.run_file.specs.Values as v
 use Rattle.run_file.specs.Values.{SpellsBelow, SpellsInt, SpellsValue}
-use Rattle.run_file.specs.Reading.{natural, magnitude, numbered, integer, truth, reference, fraction, fraction_of, first_type, type_told, value_of, any_value}
-use Rattle.run_file.proofs.NumberLaws.{refuted, number_spelled, spelled_number, no_number}
+use Rattle.run_file.specs.Reading.{magnitude, numbered, integer, truth, reference, fraction, fraction_of, value_of}
+use Rattle.run_file.proofs.NumberLaws.{refuted, number_spelled, spelled_number}
 
 -- ---- numbers
 

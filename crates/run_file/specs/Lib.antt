@@ -9,3 +9,4 @@ pub mod Found
 pub mod Progress
 pub mod View
 pub mod Printed
+pub mod Printable

@@ -11,11 +11,11 @@ use Rattle.vb_value.specs.Key.{key_cmp}
 use Rattle.vb_value.specs.Value.{default_of, value_eq}
 use Rattle.vb_value.specs.declared.values.Ty.{Ty}
 use Rattle.viper_core.specs.Program.{Program}
-use Rattle.viper_state.specs.State.{Key, Memo, changed_at}
+use Rattle.viper_state.specs.State.{Memo, changed_at}
 use Rattle.viper_state.specs.Run.{Opening}
 use Rattle.viper_state.specs.Choice.{Choice, Filled}
-use Rattle.run_file.specs.Text.{lines_of, is_skipped, told}
-use Rattle.run_file.specs.Lines.{Known, Scope, scope_of, Line, Var, Heap, Holds, Chosen, Opened, IsLine}
+use Rattle.run_file.specs.Text.{lines_of, told}
+use Rattle.run_file.specs.Lines.{Scope, scope_of, Line, Var, Heap, Holds, Chosen, Opened, IsLine}
 use Rattle.run_file.specs.declared.lines.Named.{Named}
 use Rattle.run_file.specs.declared.lines.Named.TheVariants as named
 

@@ -2,10 +2,13 @@
 ghost use Rattle.std.specs.Prelude.{◌≡◌, ◌++◌, IfOk, OnOk, map};
 ghost use Rattle.std.specs.Option.{option_copied, option_map};
 ghost use Rattle.vb_value.specs.View.{content_of};
+ghost use Rattle.viper_core.specs.Formed.{IsFormed};
 ghost use Rattle.viper_core.specs.Program as p;
 ghost use Rattle.viper_core.specs.View.{predicate_of, program_of};
 ghost use Rattle.viper_state.specs.View.{choice_of, contents_of, memo_of};
+ghost use Rattle.run_file.specs.Printable.{IsPrintable};
 ghost use Rattle.run_file.specs.Printed as text;
+ghost use Rattle.run_file.specs.Run.{SpellsViperRun};
 ghost use Rattle.run_file.specs.View.{run_of};
 
 use crate::names::variables_of;
@@ -24,7 +27,11 @@ pub fn print_viper_run(
     unit: u32,
     run: &ViperRun,
 ) -> Result<Vec<u8>, Memory>
-    ensures { IfOk result (λ out. out.items ≡ text.run_text (program_of program.now) unit (run_of run.now)) }
+    ensures bytes { IfOk result (λ out. out.items ≡ text.run_text (program_of program.now) unit (run_of run.now)) }
+
+    // and so they spell the run
+    ensures spells { IfOk result (λ out. IsFormed (program_of program.now) → IsPrintable (program_of program.now) unit (run_of run.now) →
+        SpellsViperRun out.items (program_of program.now) unit (run_of run.now)) }
 {
     let (names, _) = variables_of(program, unit);
     let mut out = Vec::new(alloc);

@@ -1,4 +1,4 @@
-use Rattle.std.proofs.Common.{◌∙◌, ap, sym, map, arith, ◌≡◌, length, Vec, Global, List}
+use Rattle.std.proofs.Common.{◌∙◌, ap, map, arith, ◌≡◌, length}
 use Rattle.std.proofs.lemmas.List.{length-map}
 use Rattle.sparse.specs.Map.{empty}
 use Rattle.vb_value.specs.Content as tree

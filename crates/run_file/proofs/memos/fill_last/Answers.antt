@@ -1,4 +1,4 @@
-use Rattle.std.proofs.Common.{refl, sym, arith}
+use Rattle.std.proofs.Common.{refl, arith}
 use Rattle.run_file.specs.LineView.{line_view}
 use Rattle.run_file.proofs.MemoLaws.{on_ok, last_is_filled}
 use Rattle.run_file.proofs.memos.fill_last.Goals as goal

@@ -1,4 +1,3 @@
-use Rattle.std.proofs.Common.{ap}
 use Rattle.run_file.specs.View.{run_of}
 use Rattle.run_file.proofs.MemoLaws.{on_ok}
 use Rattle.run_file.proofs.reader.fill.Goals as goal

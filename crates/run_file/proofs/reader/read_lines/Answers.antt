@@ -1,7 +1,6 @@
-use Rattle.std.proofs.Common.{◌≡◌, ◌∙◌, ◌+◌, ◌<◌, ◌≤◌, ◌^◌, length, drop, ◌∷◌, sym, ap, arith, true, false, refl, Some}
+use Rattle.std.proofs.Common.{◌≡◌, ◌∙◌, length, sym, ap, arith, refl}
 use Rattle.run_file.specs.Text.{lines_of, lines_left}
 use Rattle.run_file.specs.LineView.{scope_view}
-use Rattle.run_file.specs.Progress.{Reads, read_line}
 use Rattle.run_file.specs.View.{progress_of, run_of}
 use Rattle.run_file.proofs.ReadLaws.{turn, read_more, stops_here, all_taken, read_whole, finished, lines_few, some_line}
 use Rattle.run_file.proofs.reader.read_lines.Goals as goal

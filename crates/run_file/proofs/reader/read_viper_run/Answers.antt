@@ -1,11 +1,10 @@
-use Rattle.std.proofs.Common.{◌≡◌, ◌∙◌, ap, sym, subst, map, List, ℕ}
+use Rattle.std.proofs.Common.{◌∙◌, ap, sym, subst, map}
 use Rattle.vb_base.specs.Names.{NamesDiffer}
 use Rattle.viper_core.specs.Program as p
 use Rattle.viper_core.specs.View.{predicate_of, program_of}
-use Rattle.run_file.specs.Lines.{Known, scope_of, unit_variables}
-use Rattle.run_file.specs.LineView.{scope_view}
+use Rattle.run_file.specs.Lines.{Known}
 use Rattle.run_file.proofs.ScopeLaws.{names_apart}
-use Rattle.run_file.proofs.OneRun.{Answered, answered}
+use Rattle.run_file.proofs.OneRun.{answered}
 use Rattle.run_file.proofs.reader.read_viper_run.Goals as goal
 
 pub of-requires : goal.of-requires

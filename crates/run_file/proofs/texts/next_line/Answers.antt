@@ -1,5 +1,4 @@
-use Rattle.std.proofs.Common.{◌≡◌, ◌∙◌, ◌==◌, sym, ap, not, List, ◌∷◌, take, drop}
-use Rattle.std.specs.List.{prefix_len}
+use Rattle.std.proofs.Common.{◌∙◌, ◌==◌, ap, not, take, drop}
 use Rattle.std.proofs.lemmas.List.Sums.{prefix_len-le-length}
 use Rattle.run_file.proofs.WordLaws.{last_line, line_and_more}
 use Rattle.run_file.proofs.texts.next_line.Goals as goal

@@ -1,9 +1,7 @@
-use Rattle.std.proofs.Common.{◌≡◌, ◌∙◌, ◌==◌, not, take, drop, sym, ap, pos, arith, to_z, of_z}
+use Rattle.std.proofs.Common.{◌≡◌, ◌∙◌, ◌==◌, not, take, drop, sym, ap, arith, to_z, of_z}
 use Rattle.std.specs.Int.{w128}
 use Rattle.std.proofs.lemmas.Int.{to_z-of_z}
-use Rattle.std.specs.List.{prefix_len}
 use Rattle.std.proofs.lemmas.List.Sums.{prefix_len-le-length}
-use Rattle.run_file.specs.Reading.{integer, magnitude}
 use Rattle.run_file.proofs.ValueLaws.{fraction_is, no_fraction, fraction_made, fraction_failed}
 use Rattle.run_file.proofs.values.fraction.Goals as goal
 

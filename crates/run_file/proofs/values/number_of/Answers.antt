@@ -1,4 +1,4 @@
-use Rattle.std.proofs.Common.{◌∙◌, sym}
+use Rattle.std.proofs.Common.{◌∙◌}
 use Rattle.run_file.proofs.NumberLaws.{parsed, digits_text}
 use Rattle.run_file.proofs.values.number_of.Goals as goal
 

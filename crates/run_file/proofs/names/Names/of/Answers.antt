@@ -1,5 +1,4 @@
 use Rattle.std.proofs.Common.{◌∙◌, []}
-use Rattle.std.specs.Cmp.Lexicographic.{pointwise}
 use Rattle.std.proofs.lemmas.List.{get_or_read}
 use Rattle.run_file.proofs.NameTables.{one_more_name}
 use Rattle.run_file.proofs.names.Names.of.Goals as goal

@@ -1,5 +1,5 @@
-use Rattle.std.proofs.Common.{◌∙◌, ap, sym, List, ℕ, map, ◌<◌, ◌≡◌, length, get_or, arith, []}
-use Rattle.std.proofs.lemmas.List.{get_or_read, get_or-map, length-map}
+use Rattle.std.proofs.Common.{◌∙◌, ap, sym, List, ℕ, map, ◌<◌, ◌≡◌, length, get_or, []}
+use Rattle.std.proofs.lemmas.List.{get_or-map, length-map}
 use Rattle.viper_core.specs.declared.programs.Predicate.{Predicate}
 use Rattle.viper_core.specs.Program as p
 use Rattle.viper_core.specs.View.{predicate_of}

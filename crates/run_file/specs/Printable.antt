@@ -1,0 +1,58 @@
+-- The runs that a printed text spells: they fit the program, are within the bound, and have references that a run file can name.
+use Rattle.std.specs.Prelude.{⊤, ◌<◌, ◌^◌, ℕ, All}
+use Rattle.vb_value.specs.Content.{Content, AllValues}
+use Rattle.vb_value.specs.declared.keys.KeyPart.{KeyPart}
+use Rattle.vb_value.specs.declared.keys.KeyPart.TheVariants as part
+use Rattle.vb_value.specs.declared.values.Value.{Value}
+use Rattle.vb_value.specs.declared.values.Value.TheVariants.{Int, Bool as Truth, Ref, Perm}
+use Rattle.viper_core.specs.Program.{Program}
+use Rattle.viper_state.specs.Choice.{Choice, Branch, Took, Amount, Fresh, Filled}
+use Rattle.viper_state.specs.Fits.{FitsOpening, FitsChoice}
+use Rattle.viper_state.specs.State.{Key, Memo}
+use Rattle.viper_state.specs.Within.{HasEntries, IsWithinOpening, IsWithinChoice}
+use Rattle.run_file.specs.Lines.{scope_of}
+use Rattle.run_file.specs.Run.{ViperRun}
+
+-- ---- references below 2^64, as every reference of the code is
+
+abbrev pub IsNamed : ℕ → Type 0
+IsNamed r = r < 2 ^ 64
+
+abbrev pub IsNamedValue : Value → Type 0
+IsNamedValue (Int n) = ⊤
+IsNamedValue (Truth b) = ⊤
+IsNamedValue (Ref r) = IsNamed r
+IsNamedValue (Perm q) = ⊤
+
+abbrev pub IsNamedPart : KeyPart → Type 0
+IsNamedPart (part.Int n) = ⊤
+IsNamedPart (part.Bool b) = ⊤
+IsNamedPart (part.Ref r) = IsNamed r
+
+abbrev pub IsNamedKey : Key → Type 0
+IsNamedKey k = All IsNamedPart k
+
+abbrev pub IsNamedContent : Content → Type 0
+IsNamedContent c = AllValues IsNamedValue c
+
+pub record IsNamedMemo (m : Memo) : Type 0 where
+  pub heap : All (HasEntries IsNamed IsNamedValue) m.heap
+  pub content : All (HasEntries IsNamedKey IsNamedContent) m.content
+
+abbrev pub IsNamedChoice : Choice → Type 0
+IsNamedChoice (Branch b) = ⊤
+IsNamedChoice (Took v) = IsNamedValue v
+IsNamedChoice (Amount q) = ⊤
+IsNamedChoice (Fresh r) = IsNamed r
+IsNamedChoice (Filled m) = IsNamedMemo m
+
+-- ---- runs
+
+pub record IsPrintable (p : Program) (n : ℕ) (run : ViperRun) : Type 0 where
+  pub opening_fits : FitsOpening p.layout (scope_of p n).variables.types run.opening
+  pub choices_fit : All (FitsChoice p.layout) run.choices
+  pub opening_within : IsWithinOpening run.opening
+  pub choices_within : All IsWithinChoice run.choices
+  pub store_named : All IsNamedValue run.opening.store
+  pub memo_named : IsNamedMemo run.opening.memo
+  pub choices_named : All IsNamedChoice run.choices
