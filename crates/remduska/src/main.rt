@@ -1,4 +1,5 @@
-//! `remduska translate FILE` writes the Boogie program of a Viper file to the standard output.
+//! `remduska translate FILE` writes the Boogie program of a Viper file to the standard output, and `remduska run FILE UNIT RUNFILE`
+//! the outcome of a run of a unit of it.
 //!
 //! What a call does is the contract of `vb_tool::tool`; this file only connects it to the process.
 #![tactic(auto)]

@@ -4,15 +4,12 @@ use Rattle.std.specs.declared.cmp.Ordering.TheVariants.{Equal}
 use Rattle.std.specs.Cmp.{int_cmp_is}
 use Rattle.vb_base.specs.declared.labels.Label.{Label}
 use Rattle.vb_base.specs.declared.places.Pos.{Pos}
-use Rattle.vb_value.specs.declared.values.Value.TheVariants as viper
-use Rattle.viper_core.specs.Expr as e
 use Rattle.viper_meaning.specs.Units.{ViperFails}
 use Rattle.vb_tool.specs.Tree as t
 use Rattle.vb_tool.specs.declared.straight.Op.TheVariants.{Eq, Lt}
 use Rattle.vb_tool.proofs.StraightMeaning.{Value, Int, Choice, Branch, Took, Memo, Done, Failed, IsOpening, unit_run, run}
 use Rattle.vb_tool.proofs.StraightMeaning as thin
 use Rattle.vb_tool.specs.Examples.{asserting, method_asserting, equals_itself, is_below_3, is_false}
-use Rattle.vb_tool.specs.Straight.{comparison_of}
 use Rattle.vb_tool.proofs.UnitLaws.{IsStraightUnit, fails_alike}
 
 -- ---- the straight methods that they are

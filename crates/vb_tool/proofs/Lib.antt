@@ -11,6 +11,11 @@ pub mod Translation
 pub mod OtherForms
 pub mod StraightLaws
 pub mod Verdicts
+pub mod RunOfUnits
+pub mod UnitNames
+pub mod RunVerdicts
+pub mod RunStages
 pub mod CallLaws
+pub mod Answered
 pub mod ViperLaws
 mod UnitLaws

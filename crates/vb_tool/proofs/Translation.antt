@@ -1,9 +1,7 @@
 -- What is written for a program is a translation of it.
 use Rattle.std.proofs.Common.{◌≡◌, ◌∙◌, ◌≤◌, ◌<◌, ◌+◌, ◌++◌, ◌↔◌, ℕ, zero, suc, true, List, [], ◌∷◌, map, length, Some, slice_get, codes, refl, sym, ap, subst, arith, append-nil}
 use Rattle.std.specs.List.{list_all}
-use Rattle.std.specs.Option.{option_map}
 use Rattle.std.proofs.lemmas.List.{get_or-map, length-map}
-use Rattle.std.proofs.lemmas.Option.{slice_get-map}
 use Rattle.std.proofs.lemmas.Bool.{and_parts, and_from, or_left}
 use Rattle.vb_base.specs.Names.{is_name, is_name_start, is_name_byte, NamesDiffer}
 use Rattle.boogie_tree.specs.declared.trees.BBase.TheVariants as base

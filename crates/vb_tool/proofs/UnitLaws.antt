@@ -1,5 +1,5 @@
 -- A unit of a straight program fails at a label exactly where its straight method does.
-use Rattle.std.proofs.Common.{arith, ◌≡◌, ◌∙◌, refl, sym, ap, subst, ◌↔◌, ◌<◌, ◌≤◌, ◌+◌, ◌==◌, ◌&&◌, ℕ, zero, suc, ℤ, pos, Bool, true, false, if◌then◌else◌, List, [], ◌∷◌, ◌++◌, map, length, drop, take, Option, Some, None, IfSome, slice_get, get_or, All, append-nil}
+use Rattle.std.proofs.Common.{arith, ◌≡◌, ◌∙◌, refl, sym, ap, subst, ◌↔◌, ◌<◌, ◌≤◌, ◌+◌, ◌==◌, ◌&&◌, ℕ, zero, suc, ℤ, pos, true, false, if◌then◌else◌, List, [], ◌∷◌, ◌++◌, map, length, take, Option, Some, None, IfSome, slice_get, get_or, All, append-nil}
 use Rattle.std.specs.List.{AllZip}
 use Rattle.std.specs.Option.{option_map}
 use Rattle.std.proofs.lemmas.Bool.{and_parts}
@@ -7,12 +7,10 @@ use Rattle.std.proofs.lemmas.List.Elements.{All-nil, All-cons}
 use Rattle.std.proofs.lemmas.List.{drop_all, take_all, nil_from_length, length-map}
 use Rattle.std.proofs.lemmas.List.FromFn.{length-range_with_len, get_or-range_with_len}
 use Rattle.std.proofs.lemmas.Option.{slice_get-map, slice_get-get_or, slice_get_within}
-use Rattle.std.proofs.lemmas.Slice.Zip.{AllZip-long}
 use Rattle.vb_base.specs.declared.labels.Label.{Label}
 use Rattle.vb_base.specs.declared.labels.Kind.TheVariants as kind
 use Rattle.vb_base.specs.declared.places.Pos.{Pos}
 use Rattle.vb_value.specs.Bound.{Unbounded}
-use Rattle.vb_value.specs.Fraction.{write}
 use Rattle.vb_value.specs.Value.{default_of}
 use Rattle.vb_value.specs.declared.values.Ty.{Ty}
 use Rattle.vb_value.specs.declared.values.Ty.TheVariants as ty
@@ -29,7 +27,7 @@ use Rattle.viper_state.specs.Choice as choice
 use Rattle.viper_state.specs.Choice.{Choice}
 use Rattle.viper_state.specs.Event as event
 use Rattle.viper_state.specs.Event.{Event}
-use Rattle.viper_state.specs.Fits.{FitsValue, FitsStore, FitsHeap, FitsContents, FitsOpening, FitsChoice}
+use Rattle.viper_state.specs.Fits.{FitsValue, FitsStore, FitsHeap, FitsContents, FitsChoice}
 use Rattle.viper_state.specs.Run.{Opening, Scene}
 use Rattle.viper_state.specs.State.{State, Memo, empty_state}
 use Rattle.viper_meaning.specs.Ends as m
@@ -38,8 +36,8 @@ use Rattle.viper_meaning.specs.Forgotten.{memo_in}
 use Rattle.viper_meaning.specs.Run as run
 use Rattle.viper_meaning.specs.Run.{Run, ended, takes, goes, before, noting, evaluating, then_do, given, taking, Ran, ran, since, on}
 use Rattle.viper_meaning.specs.Statements.{Configuration, Activation, scene, run_stmt, run_block, produce_all, consume_all, taking_branch, taking_state, in_vain}
-use Rattle.viper_meaning.specs.Units.{first_store, check_postcondition, run_body, run_method, start_method, run_of_unit, unit_run, opening_types, Opens, ViperFails}
-use Rattle.viper_meaning.specs.Value.{value, as_truth}
+use Rattle.viper_meaning.specs.Units.{first_store, run_method, start_method, run_of_unit, unit_run, opening_types, Opens, ViperFails}
+use Rattle.viper_meaning.specs.Value.{as_truth}
 use Rattle.vb_tool.proofs.StraightMeaning as thin
 use Rattle.vb_tool.specs.Straight.{straight_stmt, straight_stmts, straight_method, straight_methods, straight_of, has_plain_header, with_body, comparison_of, is_int, are_ints}
 use Rattle.vb_tool.specs.Tree as v

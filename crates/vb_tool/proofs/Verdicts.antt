@@ -1,7 +1,6 @@
 -- Bytes are a program, or are refused for one reason.
-use Rattle.std.proofs.Common.{◌≡◌, ◌∙◌, ◌⊎◌, inl, inr, ◌<◌, ◌≤◌, ◌-◌, ◌^◌, ℕ, List, [], ◌∷◌, length, Option, Some, None, Result, Ok, Err, Vec, IfOk, refl, sym, ap, subst, arith}
+use Rattle.std.proofs.Common.{◌≡◌, ◌∙◌, ◌⊎◌, inl, inr, ◌<◌, ◌≤◌, ℕ, List, length, Option, Some, None, Err, refl, sym, ap, subst, arith}
 use Rattle.std.proofs.lemmas.Bool.{cases_lt}
-use Rattle.std.specs.declared.alloc.Global.{Global}
 use Rattle.vb_base.specs.declared.places.Pos.{Pos}
 use Rattle.vb_base.specs.Place.{IsPlaceAfter, IsPlace}
 use Rattle.vb_base.proofs.Place.{same_pos}
@@ -13,12 +12,15 @@ use Rattle.viper_syntax.specs.Decl as d
 use Rattle.viper_syntax.specs.Lexed.{IsLexed, HasFault}
 use Rattle.viper_syntax.specs.Step.{UnlessMemory}
 use Rattle.viper_syntax.proofs.AnswerLaws.{some_answer as some_cut}
+use Rattle.viper_syntax.proofs.FormLaws.{well_formed}
 use Rattle.viper_syntax.proofs.LexLaws.{one_lexed, one_fault, lexed_or_faulty}
 use Rattle.viper_parse.specs.Answers.{IsProgram as Spelled, GoesWrong, place_at, Gives as GivesTree, Refuses}
 use Rattle.viper_parse.specs.Spells.{Spells}
 use Rattle.viper_syntax.specs.declared.faults.ParseFault.{ParseFault}
 use Rattle.viper_syntax.specs.declared.faults.ParseFault.TheVariants as parse
+use Rattle.viper_parse.proofs.GoodLaws.{good}
 use Rattle.viper_parse.proofs.Parsed.{one_program as one_spelled, some_answer}
+use Rattle.viper_core.specs.Formed.{IsFormed}
 use Rattle.viper_core.specs.Program as p
 use Rattle.viper_core.specs.Weight.{weight}
 use Rattle.viper_types.specs.Checked.{IsRefused}
@@ -27,16 +29,16 @@ use Rattle.viper_types.specs.Outcome.{Judged, Found, Broken}
 use Rattle.viper_types.specs.Program.{IsProgram}
 use Rattle.viper_types.specs.declared.faults.TypeFault.{TypeFault}
 use Rattle.viper_types.specs.declared.faults.TypeFault.TheVariants as typed
+use Rattle.viper_types.proofs.FormedProgram.{typed_program_is_formed}
 use Rattle.viper_types.proofs.ProgramFinds.{one_program_of}
 use Rattle.viper_types.proofs.ProgramLaws.{broken_is_no_program, typed_or_broken}
 use Rattle.vb_tool.specs.Tree as v
-use Rattle.vb_tool.specs.Accepted.{IsAccepted, Accepts, IsTreeRefusal, rule, heavy, not_yet, IsTokenRefusal, syntax, of_tree, IsRefusal, size, lex as bad_lex, of_tokens, HasOneAnswer, is_accepted, is_refused}
+use Rattle.vb_tool.specs.Accepted.{IsAccepted, Accepts, IsTreeRefusal, rule, heavy, IsTokenRefusal, syntax, of_tree, IsTextRefusal, lex as bad_lex, of_tokens, IsRefusal, HasOneAnswer, is_accepted, is_refused}
+use Rattle.vb_tool.specs.Accepted as accepted
 use Rattle.vb_tool.specs.Converted.{trouble_of_lex, trouble_of_parse, trouble_of_types}
-use Rattle.vb_tool.specs.Parts.{TranslationOf, GivesRefusal, GivesText}
 use Rattle.vb_tool.specs.Straight.{straight_of}
 use Rattle.vb_tool.specs.declared.status.Refusal.{Refusal}
 use Rattle.vb_tool.specs.declared.status.Refusal.TheVariants as refusal
-use Rattle.vb_tool.specs.declared.trouble.Trouble.{Trouble}
 use Rattle.vb_tool.specs.declared.trouble.Trouble.TheVariants as trouble
 
 -- ---- each reason excludes every other
@@ -52,13 +54,8 @@ not_both h i above below = omega (arith, above, below, ap weight (one_program_of
 one_tree_refusal : {source : d.SourceProgram} {r q : Refusal} → IsTreeRefusal source r → IsTreeRefusal source q → r ≡ q
 one_tree_refusal (rule e) (rule f) = ap for_rule (sym e ∙ f)
 one_tree_refusal (rule e) (heavy h above) = absurd (broken_is_no_program e _ h)
-one_tree_refusal (rule e) (not_yet h below other) = absurd (broken_is_no_program e _ h)
 one_tree_refusal (heavy h above) (rule e) = absurd (broken_is_no_program e _ h)
 one_tree_refusal (heavy h above) (heavy i also) = refl
-one_tree_refusal (heavy h above) (not_yet i below other) = absurd (not_both h i above below)
-one_tree_refusal (not_yet h below other) (rule e) = absurd (broken_is_no_program e _ h)
-one_tree_refusal (not_yet h below other) (heavy i above) = absurd (not_both i h above below)
-one_tree_refusal (not_yet h below other) (not_yet i also another) = refl
 
 same_end : {bytes : List ℕ} {a b : Pos} → IsPlaceAfter bytes a → IsPlaceAfter bytes b → a ≡ b
 same_end {a = a} {b = b} h i = same_pos a b (h.line ∙ sym i.line) (h.col ∙ sym i.col)
@@ -74,37 +71,29 @@ one_token_refusal (of_tree spelled is) (syntax none h after) = absurd (none (_, 
 one_token_refusal {tokens = ts} {q = q} (of_tree {source = s} spelled is) (of_tree {source = t} also other) =
     one_tree_refusal is (subst (λ x. IsTreeRefusal x q) (one_spelled ts t s also spelled) other)
 
--- bytes are refused for one reason
-pub one_refusal : {bytes : List ℕ} {r q : Refusal} → IsRefusal bytes r → IsRefusal bytes q → r ≡ q
-one_refusal (size above) (size also) = refl
-one_refusal (size above) (bad_lex small is) = absurd (omega (arith, above, small))
-one_refusal (size above) (of_tokens small lexed is) = absurd (omega (arith, above, small))
-one_refusal (bad_lex small is) (size above) = absurd (omega (arith, above, small))
-one_refusal {bytes} (bad_lex {fault = e} small is) (bad_lex {fault = f} also other) = ap (λ x. refusal.Lex x) (one_fault bytes e f is other)
-one_refusal {bytes} (bad_lex {fault = e} small is) (of_tokens {tokens = ts} also lexed other) = absurd (lexed_or_faulty bytes ts e lexed is)
-one_refusal (of_tokens small lexed is) (size above) = absurd (omega (arith, above, small))
-one_refusal {bytes} (of_tokens {tokens = ts} small lexed is) (bad_lex {fault = e} also other) = absurd (lexed_or_faulty bytes ts e lexed other)
-one_refusal {bytes} {r} {q} (of_tokens {tokens = ts} small lexed is) (of_tokens {tokens = us} also cut other) =
+-- a text is refused for one reason
+pub one_text_refusal : {bytes : List ℕ} {r q : Refusal} → IsTextRefusal bytes r → IsTextRefusal bytes q → r ≡ q
+one_text_refusal {bytes} (bad_lex {fault = e} is) (bad_lex {fault = f} other) = ap (λ x. refusal.Lex x) (one_fault bytes e f is other)
+one_text_refusal {bytes} (bad_lex {fault = e} is) (of_tokens {tokens = ts} lexed other) = absurd (lexed_or_faulty bytes ts e lexed is)
+one_text_refusal {bytes} (of_tokens {tokens = ts} lexed is) (bad_lex {fault = e} other) = absurd (lexed_or_faulty bytes ts e lexed other)
+one_text_refusal {bytes} {r} {q} (of_tokens {tokens = ts} lexed is) (of_tokens {tokens = us} cut other) =
     one_token_refusal is (subst (λ x. IsTokenRefusal bytes x q) (one_lexed bytes us ts cut lexed) other)
 
-accepted_tree : {source : d.SourceProgram} {q : p.Program} {program : v.Program} {r : Refusal} → IsProgram source q → weight q ≤ 100000 → straight_of q ≡ Some program → IsTreeRefusal source r → ⊥
-accepted_tree h below is (rule e) = broken_is_no_program e _ h
-accepted_tree h below is (heavy i above) = not_both i h above below
-accepted_tree {program = program} h below is (not_yet i also other) = let same : Some program ≡ None = sym is ∙ ap straight_of (one_program_of h i) ∙ other in absurd (cc)
+accepted_tree : {source : d.SourceProgram} {q : p.Program} {r : Refusal} → IsProgram source q → weight q ≤ 100000 → IsTreeRefusal source r → ⊥
+accepted_tree h below (rule e) = broken_is_no_program e _ h
+accepted_tree h below (heavy i above) = not_both i h above below
 
-accepted_tokens : {bytes : List ℕ} {tokens : List Token} {source : d.SourceProgram} {q : p.Program} {program : v.Program} {r : Refusal} → Spells tokens source → IsProgram source q → weight q ≤ 100000 →
-    straight_of q ≡ Some program → IsTokenRefusal bytes tokens r → ⊥
-accepted_tokens spelled h below is (syntax none place after) = none (_, spelled)
-accepted_tokens {tokens = ts} {source = s} {r = r} spelled h below is (of_tree {source = t} also other) =
-    accepted_tree h below is (subst (λ x. IsTreeRefusal x r) (one_spelled ts t s also spelled) other)
+accepted_tokens : {bytes : List ℕ} {tokens : List Token} {source : d.SourceProgram} {q : p.Program} {r : Refusal} → Spells tokens source → IsProgram source q → weight q ≤ 100000 →
+    IsTokenRefusal bytes tokens r → ⊥
+accepted_tokens spelled h below (syntax none place after) = none (_, spelled)
+accepted_tokens {tokens = ts} {source = s} {r = r} spelled h below (of_tree {source = t} also other) =
+    accepted_tree h below (subst (λ x. IsTreeRefusal x r) (one_spelled ts t s also spelled) other)
 
--- and not refused where they are a program that is translated
-pub accepted_not_refused : {bytes : List ℕ} {program : p.Program} {r : Refusal} → Accepts bytes program → IsRefusal bytes r → ⊥
-accepted_not_refused h (size above) = omega (arith, above, h.accepted.small)
-accepted_not_refused {bytes} h (bad_lex {fault = e} small is) = lexed_or_faulty bytes h.accepted.tokens e h.accepted.lexed is
-accepted_not_refused {bytes} {r = r} h (of_tokens {tokens = ts} small lexed is) =
-    let a = h.accepted in
-    accepted_tokens a.spelled a.is_typed a.light h.is_straight (subst (λ x. IsTokenRefusal bytes x r) (one_lexed bytes ts a.tokens lexed a.lexed) is)
+-- and not refused where it is a program
+pub accepted_text : {bytes : List ℕ} {q : p.Program} {r : Refusal} → IsAccepted bytes q → IsTextRefusal bytes r → ⊥
+accepted_text {bytes} a (bad_lex {fault = e} is) = lexed_or_faulty bytes a.tokens e a.lexed is
+accepted_text {bytes} {r = r} a (of_tokens {tokens = ts} lexed is) =
+    accepted_tokens a.spelled a.is_typed a.light (subst (λ x. IsTokenRefusal bytes x r) (one_lexed bytes ts a.tokens lexed a.lexed) is)
 
 -- bytes are one typed program at most
 pub one_accepted : {bytes : List ℕ} {q r : p.Program} → IsAccepted bytes q → IsAccepted bytes r → q ≡ r
@@ -113,99 +102,116 @@ one_accepted {bytes} {r = r} h i =
     let source = one_spelled h.tokens i.source h.source (subst (λ ts. Spells ts i.source) tokens i.spelled) h.spelled in
     one_program_of h.is_typed (subst (λ s. IsProgram s r) source i.is_typed)
 
--- so one direction of an answer gives the other
+-- which is formed
+pub accepted_formed : {bytes : List ℕ} {q : p.Program} → IsAccepted bytes q → IsFormed q
+accepted_formed {bytes} a = record {
+  typed = typed_program_is_formed (good (well_formed bytes a.tokens a.small a.lexed) a.spelled) a.is_typed;
+  light = a.light;
+}
 
-module _ (bytes : List ℕ) where
-  pub refused_by_one : (result : Result (Vec ℕ Global) Trouble) → IfOk result (λ t. TranslationOf bytes t.items) → ((r : Refusal) → result ≡ Err (trouble.Refused r) → IsRefusal bytes r) →
-      (r : Refusal) → IsRefusal bytes r → GivesRefusal r result
-  refused_by_one (Ok t) text why r is = accepted_not_refused text.accepted is
-  refused_by_one (Err trouble.Memory) text why r is = tt
-  refused_by_one (Err trouble.Read) text why r is = tt
-  refused_by_one (Err (trouble.Refused q)) text why r is = one_refusal (why q refl) is
+-- ---- what `translate` accepts and refuses
 
-  pub accepted_by_one : (result : Result (Vec ℕ Global) Trouble) → ((r : Refusal) → result ≡ Err (trouble.Refused r) → IsRefusal bytes r) →
-      (program : p.Program) → Accepts bytes program → GivesText result
-  accepted_by_one (Ok t) why program is = tt
-  accepted_by_one (Err trouble.Memory) why program is = tt
-  accepted_by_one (Err trouble.Read) why program is = tt
-  accepted_by_one (Err (trouble.Refused q)) why program is = accepted_not_refused is (why q refl)
+not_straight : (o : Option v.Program) (program : v.Program) → o ≡ Some program → o ≡ None → ⊥
+not_straight o program is other = let same : Some program ≡ None = sym is ∙ other in absurd (cc)
+
+pub one_refusal : {bytes : List ℕ} {r q : Refusal} → IsRefusal bytes r → IsRefusal bytes q → r ≡ q
+one_refusal (accepted.size above) (accepted.size also) = refl
+one_refusal (accepted.size above) (accepted.of_text small is) = absurd (omega (arith, above, small))
+one_refusal (accepted.size above) (accepted.not_yet a other) = absurd (omega (arith, above, a.small))
+one_refusal (accepted.of_text small is) (accepted.size above) = absurd (omega (arith, above, small))
+one_refusal (accepted.of_text small is) (accepted.of_text also other) = one_text_refusal is other
+one_refusal (accepted.of_text small is) (accepted.not_yet a other) = absurd (accepted_text a is)
+one_refusal (accepted.not_yet a is) (accepted.size above) = absurd (omega (arith, above, a.small))
+one_refusal (accepted.not_yet a is) (accepted.of_text small other) = absurd (accepted_text a other)
+one_refusal (accepted.not_yet a is) (accepted.not_yet b other) = refl
+
+pub accepted_not_refused : {bytes : List ℕ} {program : p.Program} {r : Refusal} → Accepts bytes program → IsRefusal bytes r → ⊥
+accepted_not_refused h (accepted.size above) = omega (arith, above, h.accepted.small)
+accepted_not_refused h (accepted.of_text small is) = accepted_text h.accepted is
+accepted_not_refused h (accepted.not_yet a other) = not_straight _ h.straight h.is_straight (ap straight_of (one_accepted h.accepted a) ∙ other)
 
 -- ---- the refusal of each stage
 
-pub lex_refusal : (bytes : List ℕ) (fault : LexFault) (r : Refusal) → length bytes ≤ 1048576 → UnlessMemory (HasFault bytes) fault → trouble_of_lex fault ≡ trouble.Refused r → IsRefusal bytes r
-lex_refusal bytes (lex.BadByte at) r small is is_r = let same : refusal.Lex (lex.BadByte at) ≡ r = cc in subst (IsRefusal bytes) same (bad_lex small is)
-lex_refusal bytes (lex.OpenComment at) r small is is_r = let same : refusal.Lex (lex.OpenComment at) ≡ r = cc in subst (IsRefusal bytes) same (bad_lex small is)
-lex_refusal bytes (lex.BigLiteral at) r small is is_r = let same : refusal.Lex (lex.BigLiteral at) ≡ r = cc in subst (IsRefusal bytes) same (bad_lex small is)
-lex_refusal bytes (lex.Braces at) r small is is_r = let same : refusal.Lex (lex.Braces at) ≡ r = cc in subst (IsRefusal bytes) same (bad_lex small is)
-lex_refusal bytes (lex.LongGroup at) r small is is_r = let same : refusal.Lex (lex.LongGroup at) ≡ r = cc in subst (IsRefusal bytes) same (bad_lex small is)
-lex_refusal bytes (lex.Unsupported at) r small is is_r = let same : refusal.Lex (lex.Unsupported at) ≡ r = cc in subst (IsRefusal bytes) same (bad_lex small is)
-lex_refusal bytes lex.Memory r small is is_r = absurd (cc)
+pub lex_refusal : (bytes : List ℕ) (fault : LexFault) (r : Refusal) → UnlessMemory (HasFault bytes) fault → trouble_of_lex fault ≡ trouble.Refused r → IsTextRefusal bytes r
+lex_refusal bytes (lex.BadByte at) r is is_r = let same : refusal.Lex (lex.BadByte at) ≡ r = cc in subst (IsTextRefusal bytes) same (bad_lex is)
+lex_refusal bytes (lex.OpenComment at) r is is_r = let same : refusal.Lex (lex.OpenComment at) ≡ r = cc in subst (IsTextRefusal bytes) same (bad_lex is)
+lex_refusal bytes (lex.BigLiteral at) r is is_r = let same : refusal.Lex (lex.BigLiteral at) ≡ r = cc in subst (IsTextRefusal bytes) same (bad_lex is)
+lex_refusal bytes (lex.Braces at) r is is_r = let same : refusal.Lex (lex.Braces at) ≡ r = cc in subst (IsTextRefusal bytes) same (bad_lex is)
+lex_refusal bytes (lex.LongGroup at) r is is_r = let same : refusal.Lex (lex.LongGroup at) ≡ r = cc in subst (IsTextRefusal bytes) same (bad_lex is)
+lex_refusal bytes (lex.Unsupported at) r is is_r = let same : refusal.Lex (lex.Unsupported at) ≡ r = cc in subst (IsTextRefusal bytes) same (bad_lex is)
+lex_refusal bytes lex.Memory r is is_r = absurd (cc)
 
-pub parse_refusal : (bytes : List ℕ) (tokens : List Token) (last : Pos) (fault : ParseFault) (r : Refusal) → length bytes ≤ 1048576 → IsLexed bytes tokens → IsPlaceAfter bytes last →
-    ((q : d.SourceProgram) → Spells tokens q → GivesTree (Err fault) q) → Refuses (Err fault) tokens last → trouble_of_parse fault ≡ trouble.Refused r → IsRefusal bytes r
-parse_refusal bytes tokens last parse.Memory r small lexed after only there is_r = absurd (cc)
-parse_refusal bytes tokens last (parse.Syntax at) r small lexed after only there is_r =
+pub parse_refusal : (bytes : List ℕ) (tokens : List Token) (last : Pos) (fault : ParseFault) (r : Refusal) → IsLexed bytes tokens → IsPlaceAfter bytes last →
+    ((q : d.SourceProgram) → Spells tokens q → GivesTree (Err fault) q) → Refuses (Err fault) tokens last → trouble_of_parse fault ≡ trouble.Refused r → IsTextRefusal bytes r
+parse_refusal bytes tokens last parse.Memory r lexed after only there is_r = absurd (cc)
+parse_refusal bytes tokens last (parse.Syntax at) r lexed after only there is_r =
     let same : refusal.Syntax (place_at tokens there.0 last) ≡ r = ap (λ x. refusal.Syntax x) (sym there.2) ∙ cc in
-    subst (IsRefusal bytes) same (of_tokens small lexed (syntax (λ x. only x.0 x.1) there.1 after))
+    subst (IsTextRefusal bytes) same (of_tokens lexed (syntax (λ x. only x.0 x.1) there.1 after))
 
-pub type_refusal : (bytes : List ℕ) (tokens : List Token) (source : d.SourceProgram) (fault : TypeFault) (r : Refusal) → length bytes ≤ 1048576 → IsLexed bytes tokens → Spells tokens source →
-    IsRefused source fault → trouble_of_types fault ≡ trouble.Refused r → IsRefusal bytes r
-type_refusal bytes tokens source typed.Memory r small lexed spelled why is_r = absurd (cc)
-type_refusal bytes tokens source (typed.Rule at n) r small lexed spelled why is_r =
+pub type_refusal : (bytes : List ℕ) (tokens : List Token) (source : d.SourceProgram) (fault : TypeFault) (r : Refusal) → IsLexed bytes tokens → Spells tokens source →
+    IsRefused source fault → trouble_of_types fault ≡ trouble.Refused r → IsTextRefusal bytes r
+type_refusal bytes tokens source typed.Memory r lexed spelled why is_r = absurd (cc)
+type_refusal bytes tokens source (typed.Rule at n) r lexed spelled why is_r =
     let same : refusal.Rule at n ≡ r = cc in
-    subst (IsRefusal bytes) same (of_tokens small lexed (of_tree spelled (rule why)))
-type_refusal bytes tokens source (typed.Weight n) r small lexed spelled why is_r =
+    subst (IsTextRefusal bytes) same (of_tokens lexed (of_tree spelled (rule why)))
+type_refusal bytes tokens source (typed.Weight n) r lexed spelled why is_r =
     let same : refusal.Weight 100001 ≡ r = ap (λ x. refusal.Weight x) (sym why.0) ∙ cc in
     let (program, is, above) = why.1 in
-    subst (IsRefusal bytes) same (of_tokens small lexed (of_tree spelled (heavy is above)))
+    subst (IsTextRefusal bytes) same (of_tokens lexed (of_tree spelled (heavy is above)))
 
-pub form_refusal : (bytes : List ℕ) (tokens : List Token) (source : d.SourceProgram) (q : p.Program) (r : Refusal) → length bytes ≤ 1048576 → IsLexed bytes tokens → Spells tokens source → IsProgram source q →
-    weight q ≤ 100000 → straight_of q ≡ None → trouble.Refused refusal.NotYet ≡ trouble.Refused r → IsRefusal bytes r
-form_refusal bytes tokens source q r small lexed spelled is below other is_r =
+pub form_refusal : (bytes : List ℕ) (q : p.Program) (r : Refusal) → IsAccepted bytes q → straight_of q ≡ None → trouble.Refused refusal.NotYet ≡ trouble.Refused r → IsRefusal bytes r
+form_refusal bytes q r is other is_r =
     let same : refusal.NotYet ≡ r = cc in
-    subst (IsRefusal bytes) same (of_tokens small lexed (of_tree spelled (not_yet is below other)))
+    subst (IsRefusal bytes) same (accepted.not_yet is other)
 
 -- ---- each text has an answer
 
-accepted_once : {bytes : List ℕ} {program : p.Program} → Accepts bytes program → HasOneAnswer bytes
-accepted_once h = is_accepted h (λ other i. one_accepted i.accepted h.accepted) (λ r is. accepted_not_refused h is)
-
-refused_once : {bytes : List ℕ} {r : Refusal} → IsRefusal bytes r → HasOneAnswer bytes
-refused_once h = is_refused h (λ other is. one_refusal is h) (λ program accepts. accepted_not_refused accepts h)
-
 -- Each stage goes on, or refuses.
 module _ (bytes : List ℕ) (small : length bytes ≤ 1048576) where
-  of_form : (tokens : List Token) (source : d.SourceProgram) (q : p.Program) → IsLexed bytes tokens → Spells tokens source → IsProgram source q → weight q ≤ 100000 →
-      (o : Option v.Program) → straight_of q ≡ o → HasOneAnswer bytes
-  of_form tokens source q lexed spelled is light (Some straight) is_straight = accepted_once {program = q} (record {
-    accepted = record { small = small; tokens = tokens; lexed = lexed; source = source; spelled = spelled; is_typed = is; light = light };
-    straight = straight;
-    is_straight = is_straight;
-  })
-  of_form tokens source q lexed spelled is light None other = refused_once (of_tokens small lexed (of_tree spelled (not_yet is light other)))
+  abbrev Answered : Type 0
+  Answered = ((q : p.Program) × IsAccepted bytes q) ⊎ ((r : Refusal) × IsTextRefusal bytes r)
 
   of_weight : (tokens : List Token) (source : d.SourceProgram) (q : p.Program) → IsLexed bytes tokens → Spells tokens source → IsProgram source q →
-      (100000 < weight q) ⊎ (weight q ≤ 100000) → HasOneAnswer bytes
-  of_weight tokens source q lexed spelled is (inl above) = refused_once (of_tokens small lexed (of_tree spelled (heavy is above)))
-  of_weight tokens source q lexed spelled is (inr light) = of_form tokens source q lexed spelled is light (straight_of q) refl
+      (100000 < weight q) ⊎ (weight q ≤ 100000) → Answered
+  of_weight tokens source q lexed spelled is (inl above) = inr (_, of_tokens lexed (of_tree spelled (heavy is above)))
+  of_weight tokens source q lexed spelled is (inr light) =
+      inl (q, record { small = small; tokens = tokens; lexed = lexed; source = source; spelled = spelled; is_typed = is; light = light })
 
   of_types : (tokens : List Token) (source : d.SourceProgram) → IsLexed bytes tokens → Spells tokens source →
-      ((q : p.Program) × IsProgram source q) ⊎ ((at : Pos) × (n : ℕ) × (program_typing source ≡ Broken at n)) → HasOneAnswer bytes
+      ((q : p.Program) × IsProgram source q) ⊎ ((at : Pos) × (n : ℕ) × (program_typing source ≡ Broken at n)) → Answered
   of_types tokens source lexed spelled (inl typed) = of_weight tokens source typed.0 lexed spelled typed.1 (cases_lt 100000 (weight typed.0))
-  of_types tokens source lexed spelled (inr broken) = refused_once (of_tokens small lexed (of_tree spelled (rule broken.2)))
+  of_types tokens source lexed spelled (inr broken) = inr (_, of_tokens lexed (of_tree spelled (rule broken.2)))
 
-  of_spelling : (tokens : List Token) → IsLexed bytes tokens → Spelled tokens ⊎ GoesWrong tokens → HasOneAnswer bytes
+  of_spelling : (tokens : List Token) → IsLexed bytes tokens → Spelled tokens ⊎ GoesWrong tokens → Answered
   of_spelling tokens lexed (inl tree) = of_types tokens tree.0 lexed tree.1 (typed_or_broken tree.0)
   of_spelling tokens lexed (inr wrong) =
-      let last = some_place_after bytes small in refused_once (of_tokens small lexed (syntax {end = last.0} wrong.none wrong.place last.1))
+      let last = some_place_after bytes small in inr (_, of_tokens lexed (syntax {end = last.0} wrong.none wrong.place last.1))
 
-  of_cut : ((ts : List Token) × IsLexed bytes ts) ⊎ ((fault : LexFault) × HasFault bytes fault) → HasOneAnswer bytes
+  of_cut : ((ts : List Token) × IsLexed bytes ts) ⊎ ((fault : LexFault) × HasFault bytes fault) → Answered
   of_cut (inl cut) = of_spelling cut.0 cut.1 (some_answer cut.0)
-  of_cut (inr fault) = refused_once (bad_lex small fault.1)
+  of_cut (inr fault) = inr (_, bad_lex fault.1)
 
-of_size : (bytes : List ℕ) → (1048576 < length bytes) ⊎ (length bytes ≤ 1048576) → HasOneAnswer bytes
-of_size bytes (inl above) = refused_once (size above)
-of_size bytes (inr small) = of_cut bytes small (some_cut bytes small)
+-- a text within the limit is a program, or is refused
+pub text_answer : (bytes : List ℕ) → length bytes ≤ 1048576 → ((q : p.Program) × IsAccepted bytes q) ⊎ ((r : Refusal) × IsTextRefusal bytes r)
+text_answer bytes small = of_cut bytes small (some_cut bytes small)
 
-pub one_answer : (bytes : List ℕ) → HasOneAnswer bytes
+accepted_once : {bytes : List ℕ} {program : p.Program} → Accepts bytes program → HasOneAnswer (Accepts bytes) (IsRefusal bytes)
+accepted_once h = is_accepted h (λ other i. one_accepted i.accepted h.accepted) (λ r is. accepted_not_refused h is)
+
+refused_once : {bytes : List ℕ} {r : Refusal} → IsRefusal bytes r → HasOneAnswer (Accepts bytes) (IsRefusal bytes)
+refused_once h = is_refused h (λ other is. one_refusal is h) (λ program accepts. accepted_not_refused accepts h)
+
+of_form : (bytes : List ℕ) (q : p.Program) → IsAccepted bytes q → (o : Option v.Program) → straight_of q ≡ o → HasOneAnswer (Accepts bytes) (IsRefusal bytes)
+of_form bytes q is (Some straight) is_straight = accepted_once {program = q} (record { accepted = is; straight = straight; is_straight = is_straight })
+of_form bytes q is None other = refused_once (accepted.not_yet is other)
+
+of_text : (bytes : List ℕ) → length bytes ≤ 1048576 → ((q : p.Program) × IsAccepted bytes q) ⊎ ((r : Refusal) × IsTextRefusal bytes r) → HasOneAnswer (Accepts bytes) (IsRefusal bytes)
+of_text bytes small (inl typed) = of_form bytes typed.0 typed.1 (straight_of typed.0) refl
+of_text bytes small (inr refused) = refused_once (accepted.of_text small refused.1)
+
+of_size : (bytes : List ℕ) → (1048576 < length bytes) ⊎ (length bytes ≤ 1048576) → HasOneAnswer (Accepts bytes) (IsRefusal bytes)
+of_size bytes (inl above) = refused_once (accepted.size above)
+of_size bytes (inr small) = of_text bytes small (text_answer bytes small)
+
+pub one_answer : (bytes : List ℕ) → HasOneAnswer (Accepts bytes) (IsRefusal bytes)
 one_answer bytes = of_size bytes (cases_lt 1048576 (length bytes))

@@ -1,5 +1,6 @@
--- Which program the bytes of a file are, and why they are refused. Each step goes on from the one before: bytes are cut into
--- tokens, tokens spell a tree, a tree is a typed program, and a program is one that is translated.
+-- Which program the bytes of a file are, which run the bytes of two files are, and why they are refused. Each step goes on
+-- from the one before: bytes are cut into tokens, tokens spell a tree, and a tree is a typed program. For `translate` the
+-- program is one that is translated. For `run` it has the unit, and the other file spells a run of that.
 use Rattle.std.specs.Prelude.{◌≡◌, ◌<◌, ◌≤◌, ℕ, List, length, Some, None}
 use Rattle.vb_base.specs.declared.places.Pos.{Pos}
 use Rattle.viper_syntax.specs.declared.tokens.LexFault.{LexFault}
@@ -14,12 +15,14 @@ use Rattle.viper_core.specs.Weight.{weight}
 use Rattle.viper_types.specs.Declaring.{program_typing}
 use Rattle.viper_types.specs.Outcome.{Broken}
 use Rattle.viper_types.specs.Program.{IsProgram}
+use Rattle.run_file.specs.Run.{SpellsViperRun, GoesWrongAt}
 use Rattle.vb_tool.specs.Tree as v
 use Rattle.vb_tool.specs.Straight.{straight_of}
+use Rattle.vb_tool.specs.Units.{unit_named, UnitRun}
 use Rattle.vb_tool.specs.declared.status.Refusal.{Refusal}
-use Rattle.vb_tool.specs.declared.status.Refusal.TheVariants.{Size, Lex, Syntax, Rule, Weight, NotYet}
+use Rattle.vb_tool.specs.declared.status.Refusal.TheVariants.{Size, RunSize, Lex, Syntax, Rule, Weight, NotYet, NoUnit, RunSyntax}
 
--- a file has at most 1,048,576 bytes
+-- a file of a program, and one of a run, has at most 1,048,576 bytes
 abbrev pub max_file : ℕ
 max_file = 1048576
 
@@ -43,11 +46,20 @@ pub record Accepts (bytes : List ℕ) (program : p.Program) : Type 0 where
   pub straight : v.Program
   pub is_straight : straight_of program ≡ Some straight
 
--- a tree is refused for the first rule that it breaks, for its weight, or since it has a form that is not translated yet
+-- the bytes and the name are this run: they are the text of its program, whose unit has this name, and the bytes of the run
+-- file spell the run
+pub record AcceptsRun (bytes name run_bytes : List ℕ) (u : UnitRun) : Type 0 where
+  pub accepted : IsAccepted bytes u.program
+  pub small : length run_bytes ≤ max_file
+  pub named : unit_named u.program name ≡ Some u.unit
+  pub spelled : SpellsViperRun run_bytes u.program u.unit u.run
+
+-- ---- refusals
+
+-- a tree is refused for the first rule that it breaks, or for its weight
 pub data IsTreeRefusal (source : d.SourceProgram) : Refusal → Type 0 where
   rule : {at : Pos} {n : ℕ} → program_typing source ≡ Broken at n → IsTreeRefusal source (Rule at n)
   heavy : {typed : p.Program} → IsProgram source typed → max_weight < weight typed → IsTreeRefusal source (Weight 100001)
-  not_yet : {typed : p.Program} → IsProgram source typed → weight typed ≤ max_weight → straight_of typed ≡ None → IsTreeRefusal source NotYet
 
 -- tokens that spell no tree are refused at the first token with which they begin none, or at the end where all of them begin
 -- one
@@ -55,15 +67,28 @@ pub data IsTokenRefusal (bytes : List ℕ) (tokens : List Token) : Refusal → T
   syntax : {i : ℕ} {end : Pos} → (Spelled tokens → ⊥) → IsPlace Spelled tokens i → IsPlaceAfter bytes end → IsTokenRefusal bytes tokens (Syntax (place_at tokens i end))
   of_tree : {source : d.SourceProgram} {r : Refusal} → Spells tokens source → IsTreeRefusal source r → IsTokenRefusal bytes tokens r
 
--- the bytes are refused, for the first of these reasons that stands
+-- a text is refused for a fault of its tokens, or for what they spell
+pub data IsTextRefusal (bytes : List ℕ) : Refusal → Type 0 where
+  lex : {fault : LexFault} → HasFault bytes fault → IsTextRefusal bytes (Lex fault)
+  of_tokens : {tokens : List Token} {r : Refusal} → IsLexed bytes tokens → IsTokenRefusal bytes tokens r → IsTextRefusal bytes r
+
+-- `translate` refuses the bytes, for the first of these reasons that stands; the last is a form that is not translated yet
 pub data IsRefusal (bytes : List ℕ) : Refusal → Type 0 where
   size : max_file < length bytes → IsRefusal bytes Size
-  lex : {fault : LexFault} → length bytes ≤ max_file → HasFault bytes fault → IsRefusal bytes (Lex fault)
-  of_tokens : {tokens : List Token} {r : Refusal} → length bytes ≤ max_file → IsLexed bytes tokens → IsTokenRefusal bytes tokens r → IsRefusal bytes r
+  of_text : {r : Refusal} → length bytes ≤ max_file → IsTextRefusal bytes r → IsRefusal bytes r
+  not_yet : {typed : p.Program} → IsAccepted bytes typed → straight_of typed ≡ None → IsRefusal bytes NotYet
 
--- the bytes are accepted for exactly one program, or refused for exactly one reason, and never both
-pub data HasOneAnswer (bytes : List ℕ) : Type 0 where
-  is_accepted : {program : p.Program} → Accepts bytes program →
-      ((other : p.Program) → Accepts bytes other → other ≡ program) → ((r : Refusal) → IsRefusal bytes r → ⊥) → HasOneAnswer bytes
-  is_refused : {r : Refusal} → IsRefusal bytes r → ((other : Refusal) → IsRefusal bytes other → other ≡ r) →
-      ((program : p.Program) → Accepts bytes program → ⊥) → HasOneAnswer bytes
+-- `run` refuses the bytes of its two files and the name of its unit, for the first of these reasons that stands
+pub data IsRunRefusal (bytes name run_bytes : List ℕ) : Refusal → Type 0 where
+  size : max_file < length bytes → IsRunRefusal bytes name run_bytes Size
+  run_size : length bytes ≤ max_file → max_file < length run_bytes → IsRunRefusal bytes name run_bytes RunSize
+  of_text : {r : Refusal} → length bytes ≤ max_file → length run_bytes ≤ max_file → IsTextRefusal bytes r → IsRunRefusal bytes name run_bytes r
+  no_unit : {typed : p.Program} → IsAccepted bytes typed → length run_bytes ≤ max_file → unit_named typed name ≡ None →
+      IsRunRefusal bytes name run_bytes NoUnit
+  run_syntax : {typed : p.Program} {unit : ℕ} {at : Pos} → IsAccepted bytes typed → length run_bytes ≤ max_file →
+      unit_named typed name ≡ Some unit → GoesWrongAt run_bytes typed unit at → IsRunRefusal bytes name run_bytes (RunSyntax at)
+
+-- exactly one thing is accepted, or there is exactly one reason to refuse, and never both
+pub data HasOneAnswer {X : Type 0} (Accepted : X → Type 0) (Refused : Refusal → Type 0) : Type 0 where
+  is_accepted : {x : X} → Accepted x → ((other : X) → Accepted other → other ≡ x) → ((r : Refusal) → Refused r → ⊥) → HasOneAnswer Accepted Refused
+  is_refused : {r : Refusal} → Refused r → ((other : Refusal) → Refused other → other ≡ r) → ((x : X) → Accepted x → ⊥) → HasOneAnswer Accepted Refused

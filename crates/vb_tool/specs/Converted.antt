@@ -5,6 +5,8 @@ use Rattle.viper_syntax.specs.declared.tokens.LexFault.{LexFault}
 use Rattle.viper_syntax.specs.declared.tokens.LexFault.TheVariants as lex
 use Rattle.viper_syntax.specs.declared.faults.ParseFault.{ParseFault}
 use Rattle.viper_syntax.specs.declared.faults.ParseFault.TheVariants as parse
+use Rattle.run_file.specs.declared.runs.RunFileFault.{RunFileFault}
+use Rattle.run_file.specs.declared.runs.RunFileFault.TheVariants as run
 use Rattle.viper_types.specs.declared.faults.TypeFault.{TypeFault}
 use Rattle.viper_types.specs.declared.faults.TypeFault.TheVariants as typed
 use Rattle.vb_tool.specs.declared.status.Refusal.TheVariants as refusal
@@ -15,6 +17,12 @@ abbrev pub trouble_of_file : FileFault → Trouble
 trouble_of_file file.Memory = Memory
 trouble_of_file file.Failed = Read
 trouble_of_file file.Long = Refused refusal.Size
+
+-- the same of a run file
+abbrev pub trouble_of_run_file : FileFault → Trouble
+trouble_of_run_file file.Memory = Memory
+trouble_of_run_file file.Failed = Read
+trouble_of_run_file file.Long = Refused refusal.RunSize
 
 abbrev pub trouble_of_lex : LexFault → Trouble
 trouble_of_lex (lex.BadByte at) = Refused (refusal.Lex (lex.BadByte at))
@@ -33,3 +41,7 @@ abbrev pub trouble_of_types : TypeFault → Trouble
 trouble_of_types typed.Memory = Memory
 trouble_of_types (typed.Rule at n) = Refused (refusal.Rule at n)
 trouble_of_types (typed.Weight n) = Refused (refusal.Weight n)
+
+abbrev pub trouble_of_run : RunFileFault → Trouble
+trouble_of_run run.Memory = Memory
+trouble_of_run (run.Syntax at) = Refused (refusal.RunSyntax at)

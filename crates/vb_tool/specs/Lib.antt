@@ -8,6 +8,9 @@ pub mod Printed
 pub mod Status
 pub mod Translates
 pub mod Converted
+pub mod Command
+pub mod Units
+pub mod Outcome
 pub mod Accepted
 pub mod Call
 pub mod Parts

@@ -4,9 +4,9 @@ use Rattle.std.specs.Fmt.{decimal}
 use Rattle.vb_base.specs.Labels.{place_text}
 use Rattle.viper_syntax.specs.declared.tokens.LexFault.TheVariants.{BadByte, OpenComment, BigLiteral, Braces, LongGroup, Unsupported, Memory}
 use Rattle.vb_tool.specs.declared.status.Refusal.{Refusal}
-use Rattle.vb_tool.specs.declared.status.Refusal.TheVariants.{Size, Lex, Syntax, Rule, Weight, NotYet}
+use Rattle.vb_tool.specs.declared.status.Refusal.TheVariants.{Size, RunSize, Lex, Syntax, Rule, Weight, NotYet, NoUnit, RunSyntax}
 use Rattle.vb_tool.specs.declared.status.Status.{Status}
-use Rattle.vb_tool.specs.declared.status.Status.TheVariants.{Done, Refused, Usage, ReadFault, WriteFault, NoMemory}
+use Rattle.vb_tool.specs.declared.status.Status.TheVariants.{Done, Refused, Usage, ReadFault, WriteFault, NoMemory, Failed, Blocked, Short, Over}
 
 abbrev pub number_of : Status → ℕ
 number_of Done = 0
@@ -15,10 +15,15 @@ number_of Usage = 2
 number_of ReadFault = 3
 number_of WriteFault = 4
 number_of NoMemory = 5
+number_of (Failed label) = 10
+number_of Blocked = 11
+number_of Short = 12
+number_of Over = 13
 
 -- a refusal's word, and the place of what is refused
 abbrev pub refusal_text : Refusal → List ℕ
 refusal_text Size = codes "size"
+refusal_text RunSize = codes "run-size"
 refusal_text (Lex (BadByte at)) = codes "bad-byte " ++ place_text at
 refusal_text (Lex (OpenComment at)) = codes "open-comment " ++ place_text at
 refusal_text (Lex (BigLiteral at)) = codes "big-literal " ++ place_text at
@@ -30,12 +35,18 @@ refusal_text (Syntax at) = codes "syntax " ++ place_text at
 refusal_text (Rule at n) = codes "type " ++ place_text at ++ codes " rule " ++ decimal n
 refusal_text (Weight n) = codes "weight " ++ decimal n
 refusal_text NotYet = codes "not-yet"
+refusal_text NoUnit = codes "no-unit"
+refusal_text (RunSyntax at) = codes "run-syntax " ++ place_text at
 
 -- one line, or nothing where the status writes none
 abbrev pub line_of : Status → List ℕ
 line_of Done = []
 line_of (Refused r) = codes "error: " ++ refusal_text r ++ codes "\n"
-line_of Usage = codes "usage: translate FILE\n"
+line_of Usage = codes "usage: translate FILE | run FILE UNIT RUNFILE\n"
 line_of ReadFault = codes "error: read\n"
 line_of WriteFault = []
 line_of NoMemory = []
+line_of (Failed label) = []
+line_of Blocked = []
+line_of Short = []
+line_of Over = []

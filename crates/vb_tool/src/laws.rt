@@ -1,10 +1,13 @@
 // Laws of the definitions, each the contract of a function with nothing to do.
-ghost use Rattle.std.specs.Prelude.{◌≡◌, ℕ, List};
+ghost use Rattle.std.specs.Prelude.{◌≡◌, ℕ, List, Some, slice_get};
 ghost use Rattle.vb_base.specs.declared.labels.Label.{Label};
 ghost use Rattle.vb_base.specs.declared.places.Pos.{Pos};
 ghost use Rattle.viper_core.specs.Program as p;
+ghost use Rattle.viper_core.specs.Formed.{IsFormed};
+ghost use Rattle.viper_core.specs.declared.programs.Unit.{Unit};
 ghost use Rattle.viper_meaning.specs.Units.{ViperFails};
-ghost use Rattle.vb_tool.specs.Accepted.{IsAccepted, HasOneAnswer};
+ghost use Rattle.vb_tool.specs.Units.{name_of};
+ghost use Rattle.vb_tool.specs.Accepted.{IsAccepted, Accepts, AcceptsRun, IsRefusal, IsRunRefusal, HasOneAnswer};
 ghost use Rattle.vb_tool.specs.Examples.{asserting, equals_itself, is_below_3, is_false};
 
 /// No run of `method m(x: Int) { assert x == x }` fails.
@@ -17,9 +20,16 @@ pub fn a_bound_fails()
     ensures { (at : Pos) → ViperFails (asserting (is_below_3 at) at) 0 (is_false at) }
 {}
 
+/// No two units of a program have one name.
+pub fn names_of_units_differ()
+    ensures { (q : p.Program) → IsFormed q → (i j : ℕ) (w v : Unit) (name : List ℕ) → slice_get q.units i ≡ Some w → slice_get q.units j ≡ Some v
+        → name_of q w ≡ Some name → name_of q v ≡ Some name → i ≡ j }
+{}
+
 /// Bytes are accepted for exactly one program, or refused for exactly one reason, and never both; and they are at most one
-/// typed program.
+/// typed program. So it is with the bytes of a file and a run file, and the name of a unit, and the run that they are.
 pub fn bytes_have_one_answer()
-    ensures answer { (bytes : List ℕ) → HasOneAnswer bytes }
+    ensures translate { (bytes : List ℕ) → HasOneAnswer (Accepts bytes) (IsRefusal bytes) }
+    ensures run { (bytes name run_bytes : List ℕ) → HasOneAnswer (AcceptsRun bytes name run_bytes) (IsRunRefusal bytes name run_bytes) }
     ensures typed { (bytes : List ℕ) (q r : p.Program) → IsAccepted bytes q → IsAccepted bytes r → q ≡ r }
 {}

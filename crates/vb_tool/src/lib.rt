@@ -6,11 +6,17 @@
 mod command;
 mod encoder;
 pub mod laws;
+mod outcome;
 mod printer;
+mod stages;
 mod status;
 mod straight;
 mod straight_program;
 mod trouble;
+mod units;
+mod words;
+mod works;
 
-pub use command::{MAX_FILE, tool};
+pub use command::tool;
 pub use status::{Refusal, Status};
+pub use works::MAX_FILE;

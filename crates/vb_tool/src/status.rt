@@ -5,14 +5,16 @@ ghost use Rattle.vb_tool.specs.Status.{line_of};
 
 use std::alloc::{AllocError, Global};
 use std::fmt;
-use vb_base::Pos;
+use vb_base::{Label, Pos};
 use viper_syntax::LexFault;
 
-/// Why a file is not translated. The refusals are tried in this order.
+/// Why the files of a command are refused. The refusals are tried in this order.
 #[derive(Clone, Copy, Debug, PartialEq, Eq)]
 pub enum Refusal {
     /// The file has more than 1,048,576 bytes.
     Size,
+    /// The run file has more than 1,048,576 bytes.
+    RunSize,
     /// The file has no tokens: a byte, a comment, a number, a bracket or a word is wrong at a place.
     Lex(LexFault),
     /// Its tokens spell no program. The place is that of the first token with which they begin none, or the end of the
@@ -24,14 +26,18 @@ pub enum Refusal {
     Weight(u64),
     /// Its program is accepted, and has a form that is not translated yet.
     NotYet,
+    /// Its program has no unit of that name.
+    NoUnit,
+    /// The run file spells no run of the unit. The place is that of the first line that may not stand where it does.
+    RunSyntax(Pos),
 }
 
 /// How a call ends. The status that the process ends with is its number.
 #[derive(Clone, Copy, Debug, PartialEq, Eq)]
 pub enum Status {
-    /// The command did its work.
+    /// The command did its work. A run came to its end.
     Done,
-    /// The file is refused.
+    /// A file is refused.
     Refused(Refusal),
     /// The words are none of the forms of a command.
     Usage,
@@ -41,6 +47,14 @@ pub enum Status {
     WriteFault,
     /// Memory was refused.
     NoMemory,
+    /// The run fails, at this check.
+    Failed(Label),
+    /// An assumption ended the run.
+    Blocked,
+    /// A choice was missing in the run.
+    Short,
+    /// A number or a content left its bound in the run.
+    Over,
 }
 
 impl Status {
@@ -57,6 +71,10 @@ impl Status {
             Status::ReadFault => 3,
             Status::WriteFault => 4,
             Status::NoMemory => 5,
+            Status::Failed(_) => 10,
+            Status::Blocked => 11,
+            Status::Short => 12,
+            Status::Over => 13,
         }
     }
 }
@@ -69,6 +87,7 @@ impl fmt::Display for Refusal {
     fn fmt<W: fmt::Write>(&self, f: &mut fmt::Formatter<W>) -> fmt::Result {
         match self {
             Refusal::Size => f.write_str("size"),
+            Refusal::RunSize => f.write_str("run-size"),
             Refusal::Lex(LexFault::BadByte(at)) => write!(f, "bad-byte {at}"),
             Refusal::Lex(LexFault::OpenComment(at)) => write!(f, "open-comment {at}"),
             Refusal::Lex(LexFault::BigLiteral(at)) => write!(f, "big-literal {at}"),
@@ -80,6 +99,8 @@ impl fmt::Display for Refusal {
             Refusal::Rule(at, rule) => write!(f, "type {at} rule {rule}"),
             Refusal::Weight(weight) => write!(f, "weight {weight}"),
             Refusal::NotYet => f.write_str("not-yet"),
+            Refusal::NoUnit => f.write_str("no-unit"),
+            Refusal::RunSyntax(at) => write!(f, "run-syntax {at}"),
         }
     }
 }
@@ -92,9 +113,12 @@ impl fmt::Display for Status {
     fn fmt<W: fmt::Write>(&self, f: &mut fmt::Formatter<W>) -> fmt::Result {
         match self {
             Status::Refused(refusal) => writeln!(f, "error: {refusal}"),
-            Status::Usage => f.write_str("usage: translate FILE\n"),
+            Status::Usage => f.write_str("usage: translate FILE | run FILE UNIT RUNFILE\n"),
             Status::ReadFault => f.write_str("error: read\n"),
-            Status::Done | Status::WriteFault | Status::NoMemory => Ok(()),
+            Status::WriteFault | Status::NoMemory => Ok(()),
+            Status::Done | Status::Failed(_) | Status::Blocked | Status::Short | Status::Over => {
+                Ok(())
+            }
         }
     }
 }

@@ -1,20 +1,21 @@
-// Why no translation was made.
+// Why a command did not do its work.
 ghost use Rattle.std.specs.Prelude.{◌≡◌};
 ghost use Rattle.vb_tool.specs.declared.trouble.Trouble.TheVariants as trouble;
 ghost use Rattle.vb_tool.specs.declared.status.Refusal.TheVariants as refusal;
-ghost use Rattle.vb_tool.specs.Converted.{trouble_of_file, trouble_of_lex, trouble_of_parse, trouble_of_types};
+ghost use Rattle.vb_tool.specs.Converted.{trouble_of_file, trouble_of_lex, trouble_of_parse, trouble_of_types, trouble_of_run};
 
 use crate::status::Refusal;
+use run_file::RunFileFault;
 use vb_base::Memory;
 use vb_outer::FileFault;
 use viper_syntax::{LexFault, ParseFault};
 use viper_types::TypeFault;
 
-/// Why a named file gave no text.
+/// Why the files of a command gave no text.
 #[derive(Clone, Copy, Debug, PartialEq, Eq)]
 pub enum Trouble {
     Memory,
-    /// It could not be read.
+    /// One of them could not be read.
     Read,
     Refused(Refusal),
 }
@@ -69,6 +70,17 @@ impl From<TypeFault> for Trouble {
             TypeFault::Memory => Trouble::Memory,
             TypeFault::Rule(at, rule) => Trouble::Refused(Refusal::Rule(at, rule)),
             TypeFault::Weight(weight) => Trouble::Refused(Refusal::Weight(weight)),
+        }
+    }
+}
+
+impl From<RunFileFault> for Trouble {
+    ghost from_gives = { λ fault e. e ≡ trouble_of_run fault };
+
+    fn from(fault: RunFileFault) -> Trouble {
+        match fault {
+            RunFileFault::Memory => Trouble::Memory,
+            RunFileFault::Syntax(at) => Trouble::Refused(Refusal::RunSyntax(at)),
         }
     }
 }

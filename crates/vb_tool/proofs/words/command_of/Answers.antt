@@ -1,0 +1,59 @@
+use Rattle.std.proofs.Common.{◌≡◌, ◌∙◌, ◌<◌, ◌≤◌, ℕ, true, List, [], ◌∷◌, map, length, get_or, codes, refl, sym, ap, subst, arith, eqb}
+use Rattle.std.specs.Cmp.Lexicographic.{pointwise}
+use Rattle.std.specs.String.{string_bytes}
+use Rattle.std.specs.declared.alloc.Global.{Global}
+use Rattle.std.specs.declared.string.String.{String}
+use Rattle.std.proofs.lemmas.Bool.{and_parts, eqb-true}
+use Rattle.vb_tool.specs.Command.{Translate, Run, Asks}
+use Rattle.vb_tool.proofs.words.command_of.Goals as goal
+
+same_text : (xs ys : List ℕ) → pointwise eqb xs ys ≡ true → xs ≡ ys
+same_text [] [] h = refl
+same_text [] (y ∷ ys) h = absurd (cc)
+same_text (x ∷ xs) [] h = absurd (cc)
+same_text (x ∷ xs) (y ∷ ys) h =
+    let parts = and_parts (eqb x y) (pointwise eqb xs ys) h in
+    let first : x ≡ y = eqb-true x y parts.0 in
+    let rest : xs ≡ ys = same_text xs ys parts.1 in
+    cc
+
+two_words : (words : List (String Global)) (word file : String Global) → 2 ≤ length words → length words < 3 →
+    word ≡ get_or words 0 word → file ≡ get_or words 1 file → pointwise eqb (string_bytes word) (codes "translate") ≡ true →
+    Asks (map string_bytes words) (Translate (string_bytes file))
+two_words [] word file two three h k e = absurd (omega (arith, two))
+two_words (a ∷ []) word file two three h k e = absurd (omega (arith, two))
+two_words (a ∷ b ∷ c ∷ words) word file two three h k e = absurd (omega (arith, three))
+two_words (a ∷ b ∷ []) word file two three h k e =
+    let first : string_bytes a ≡ codes "translate" = ap string_bytes (sym h) ∙ same_text _ _ e in
+    let second : string_bytes b ≡ string_bytes file = ap string_bytes (sym k) in
+    record { words_are = ap (λ x. x ∷ string_bytes b ∷ []) first ∙ ap (λ y. codes "translate" ∷ y ∷ []) second }
+
+four_words : (words : List (String Global)) (word file unit run_file : String Global) → 4 ≤ length words → length words < 5 →
+    word ≡ get_or words 0 word → file ≡ get_or words 1 file → unit ≡ get_or words 2 unit → run_file ≡ get_or words 3 run_file →
+    pointwise eqb (string_bytes word) (codes "run") ≡ true → Asks (map string_bytes words) (Run (string_bytes file) (string_bytes unit) (string_bytes run_file))
+four_words [] word file unit run_file four five h i j k e = absurd (omega (arith, four))
+four_words (a ∷ []) word file unit run_file four five h i j k e = absurd (omega (arith, four))
+four_words (a ∷ b ∷ []) word file unit run_file four five h i j k e = absurd (omega (arith, four))
+four_words (a ∷ b ∷ c ∷ []) word file unit run_file four five h i j k e = absurd (omega (arith, four))
+four_words (a ∷ b ∷ c ∷ d ∷ x ∷ words) word file unit run_file four five h i j k e = absurd (omega (arith, five))
+four_words (a ∷ b ∷ c ∷ d ∷ []) word file unit run_file four five h i j k e =
+    let first : string_bytes a ≡ codes "run" = ap string_bytes (sym h) ∙ same_text _ _ e in
+    record {
+      words_are = ap (λ x. x ∷ string_bytes b ∷ string_bytes c ∷ string_bytes d ∷ []) first
+          ∙ ap (λ x. codes "run" ∷ string_bytes x ∷ string_bytes c ∷ string_bytes d ∷ []) (sym i)
+          ∙ ap (λ x. codes "run" ∷ string_bytes file ∷ string_bytes x ∷ string_bytes d ∷ []) (sym j)
+          ∙ ap (λ x. codes "run" ∷ string_bytes file ∷ string_bytes unit ∷ string_bytes x ∷ []) (sym k);
+    }
+
+pub returns-in-len2 : goal.returns-in-len2
+returns-in-len2 c =
+    let two = two_words c.args.words.now c.word-item.result c.file-item.result c.in-len2.len_at_least c.in-len2.len_below c.word-item.is c.file-item.is
+    (subst (λ t. pointwise eqb t (codes "translate") ≡ true) c.as_str.ensures.value (sym c.eq.ensures ∙ c.if-eq.true)) in
+    rw c.as_str-in-len2.ensures.value two
+
+pub returns-in-len4 : goal.returns-in-len4
+returns-in-len4 c =
+    let four = four_words c.args.words.now c.word-item-then-words-lt5.result c.file-item-then-words-lt5.result c.unit-item.result c.run_file-item.result
+    c.in-len4.len_at_least c.in-len4.len_below c.word-item-then-words-lt5.is c.file-item-then-words-lt5.is c.unit-item.is c.run_file-item.is
+    (subst (λ t. pointwise eqb t (codes "run") ≡ true) c.as_str-then-words-lt5.ensures.value (sym c.eq-then-words-lt5.ensures ∙ c.if-eq-2.true)) in
+    rw (c.as_str-in-len4.ensures.value, c.as_str-in-len4-2.ensures.value, c.as_str-in-len4-3.ensures.value) four
