@@ -1,0 +1,12 @@
+pub mod ForallLaws
+pub mod BoundLaws
+pub mod RunLaws
+pub mod RunBoundLaws
+pub mod TypeLaws
+pub mod ProgramLaws
+pub mod ValueLaws
+pub mod TypedLaws
+pub mod RunTypedLaws
+pub mod RenamedLaws
+pub mod AssumeLaws
+pub mod PatternLaws

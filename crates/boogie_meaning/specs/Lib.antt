@@ -1,0 +1,15 @@
+pub mod Ends
+pub mod Values
+pub mod Types
+pub mod Operators
+pub mod Value
+pub mod Forall
+pub mod Decided
+pub mod Marked
+pub mod Quantified
+pub mod Run
+pub mod Programs
+pub mod Compared
+pub mod Kept
+pub mod Renamed
+pub mod Patterns
