@@ -1,0 +1,52 @@
+-- What a node of the program is as plain data, given what its parts were borrowed as.
+use Rattle.std.proofs.Common.{◌≡◌, sym, ap, ◌∙◌, ℕ, List, Vec}
+use Rattle.std.specs.declared.boxed.Box.{Box}
+use Rattle.std.specs.declared.alloc.Global.{Global}
+use Rattle.boogie_tree.specs.Expr as t
+use Rattle.boogie_tree.specs.Whole.{expr_of, exprs_of, stmt_of, stmts_of}
+use Rattle.boogie_tree.specs.declared.exprs.BExpr as expr
+use Rattle.boogie_tree.specs.declared.exprs.BOp.{BOp}
+use Rattle.boogie_tree.specs.Stmt as s
+use Rattle.boogie_tree.specs.declared.stmts.BStmt as stmt
+use Rattle.boogie_tree.proofs.WholeLaws.{expr_of-At, stmt_of-If, stmt_of-Either}
+
+module _ {e : expr.BExpr} where
+  pub neg_is : {a : expr.BExpr} {x : Box expr.BExpr Global} → e ≡ expr.Neg x → a ≡ x.value → expr_of e ≡ t.Neg (expr_of a)
+  neg_is is part = ap expr_of is ∙ ap (λ a. t.Neg (expr_of a)) (sym part)
+
+  pub not_is : {a : expr.BExpr} {x : Box expr.BExpr Global} → e ≡ expr.Not x → a ≡ x.value → expr_of e ≡ t.Not (expr_of a)
+  not_is is part = ap expr_of is ∙ ap (λ a. t.Not (expr_of a)) (sym part)
+
+  pub to_real_is : {a : expr.BExpr} {x : Box expr.BExpr Global} → e ≡ expr.ToReal x → a ≡ x.value → expr_of e ≡ t.ToReal (expr_of a)
+  to_real_is is part = ap expr_of is ∙ ap (λ a. t.ToReal (expr_of a)) (sym part)
+
+  pub s_int_is : {a : expr.BExpr} {x : Box expr.BExpr Global} → e ≡ expr.SInt x → a ≡ x.value → expr_of e ≡ t.SInt (expr_of a)
+  s_int_is is part = ap expr_of is ∙ ap (λ a. t.SInt (expr_of a)) (sym part)
+
+  pub s_bool_is : {a : expr.BExpr} {x : Box expr.BExpr Global} → e ≡ expr.SBool x → a ≡ x.value → expr_of e ≡ t.SBool (expr_of a)
+  s_bool_is is part = ap expr_of is ∙ ap (λ a. t.SBool (expr_of a)) (sym part)
+
+  pub s_ref_is : {a : expr.BExpr} {x : Box expr.BExpr Global} → e ≡ expr.SRef x → a ≡ x.value → expr_of e ≡ t.SRef (expr_of a)
+  s_ref_is is part = ap expr_of is ∙ ap (λ a. t.SRef (expr_of a)) (sym part)
+
+  pub s_perm_is : {a : expr.BExpr} {x : Box expr.BExpr Global} → e ≡ expr.SPerm x → a ≡ x.value → expr_of e ≡ t.SPerm (expr_of a)
+  s_perm_is is part = ap expr_of is ∙ ap (λ a. t.SPerm (expr_of a)) (sym part)
+
+  pub bin_is : {a b : expr.BExpr} {o : BOp} {x y : Box expr.BExpr Global} → e ≡ expr.Bin o x y → a ≡ x.value → b ≡ y.value → expr_of e ≡ t.Bin o (expr_of a) (expr_of b)
+  bin_is {o = o} is left right = ap expr_of is ∙ (λ i. t.Bin o (expr_of (sym left i)) (expr_of (sym right i)))
+
+  pub if_is : {a b c : expr.BExpr} {x y z : Box expr.BExpr Global} → e ≡ expr.If x y z → a ≡ x.value → b ≡ y.value → c ≡ z.value → expr_of e ≡ t.If (expr_of a) (expr_of b) (expr_of c)
+  if_is is first second third = ap expr_of is ∙ (λ i. t.If (expr_of (sym first i)) (expr_of (sym second i)) (expr_of (sym third i)))
+
+  pub pair_is : {a b : expr.BExpr} {x y : Box expr.BExpr Global} → e ≡ expr.Pair x y → a ≡ x.value → b ≡ y.value → expr_of e ≡ t.Pair (expr_of a) (expr_of b)
+  pair_is is left right = ap expr_of is ∙ (λ i. t.Pair (expr_of (sym left i)) (expr_of (sym right i)))
+
+  pub at_is : {m : ℕ} (v : Vec expr.BExpr Global) {es : List expr.BExpr} → e ≡ expr.At m v → es ≡ v.items → expr_of e ≡ t.At m (exprs_of es)
+  at_is {m = m} v is same = ap expr_of is ∙ expr_of-At m v ∙ ap (λ es. t.At m (exprs_of es)) (sym same)
+
+module _ {x : stmt.BStmt} where
+  pub block_is : {e : expr.BExpr} (v w : Vec stmt.BStmt Global) {xs ys : List stmt.BStmt} → x ≡ stmt.If e v w → xs ≡ v.items → ys ≡ w.items → stmt_of x ≡ s.If (expr_of e) (stmts_of xs) (stmts_of ys)
+  block_is {e = e} v w is same other = ap stmt_of is ∙ stmt_of-If e v w ∙ (λ i. s.If (expr_of e) (stmts_of (sym same i)) (stmts_of (sym other i)))
+
+  pub either_is : (v w : Vec stmt.BStmt Global) {xs ys : List stmt.BStmt} → x ≡ stmt.Either v w → xs ≡ v.items → ys ≡ w.items → stmt_of x ≡ s.Either (stmts_of xs) (stmts_of ys)
+  either_is v w is same other = ap stmt_of is ∙ stmt_of-Either v w ∙ (λ i. s.Either (stmts_of (sym same i)) (stmts_of (sym other i)))

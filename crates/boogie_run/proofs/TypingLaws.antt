@@ -1,0 +1,50 @@
+-- The types of indices, one after the other.
+use Rattle.std.proofs.Common.{◌≡◌, ℕ, suc, ◌+◌, ◌-◌, ◌≤◌, Bool as Truth, true, false, Option, Some, None, List, [], ◌∷◌, ◌&&◌, map, drop, length, length-drop, nat_eq, refl, sym, ap, ◌∙◌, arith}
+use Rattle.std.proofs.lemmas.Bool.{false_from_ne_true}
+use Rattle.std.proofs.lemmas.Bool.Decides.{Decides-eqb}
+use Rattle.boogie_tree.specs.declared.exprs.BBase.{BBase}
+use Rattle.std.specs.Option.{option_map}
+use Rattle.boogie_tree.specs.Whole.{stmts_of, type_of, locals_of, proc_of}
+use Rattle.boogie_tree.specs.declared.programs.Local.{Local}
+use Rattle.boogie_tree.specs.declared.programs.Proc.{Proc}
+use Rattle.boogie_tree.specs.declared.stmts.BStmt.{BStmt}
+use Rattle.boogie_meaning.specs.Programs.{is_typed_proc, ill_typed_among}
+use Rattle.boogie_meaning.specs.Types.{is_typed}
+use Rattle.boogie_run.specs.Typed.{types_in}
+use Rattle.boogie_meaning.specs.Values.{same_bases}
+
+ended-step : (n : ℕ) (ws d : List BBase) → n ≤ length ws → length d ≡ length ws - n → same_bases [] d ≡ nat_eq n (length ws)
+ended-step n ws [] h e = sym ((Decides-eqb n (length ws)).1 (omega (arith, h, e)))
+ended-step n ws (w ∷ rest) h e = sym (false_from_ne_true (nat_eq n (length ws)) (λ t. let s = (Decides-eqb n (length ws)).0 t in absurd (omega (arith, h, e, s))))
+
+-- no index is left just where no type is
+pub ended : (n : ℕ) (ws : List BBase) → n ≤ length ws → same_bases [] (drop n ws) ≡ nat_eq n (length ws)
+ended n ws h = ended-step n ws (drop n ws) h (length-drop n ws)
+
+-- a test of which the last part is left, or a part before it is false
+pub last_of_two : {p q r : Truth} → p ≡ true → r ≡ q → r ≡ (p && q)
+last_of_two h g = rw h g
+
+pub first_of_two : {p r : Truth} (q : Truth) → r ≡ p → r ≡ false → r ≡ (p && q)
+first_of_two q h g = g ∙ sym (ap (λ x. x && q) (sym h ∙ g))
+
+number_after : (n : ℕ) (o : Option ℕ) → option_map (λ m. n + m) (option_map suc o) ≡ option_map (λ m. (n + 1) + m) o
+number_after n None = refl
+number_after n (Some m) = ap Some (omega arith)
+
+-- ---- procedures
+
+types_in_is : (ls : List Local) → types_in ls ≡ map (λ l. l.ty) (locals_of ls)
+types_in_is [] = refl
+types_in_is (l ∷ ls) = ap (λ us. type_of l.ty ∷ us) (types_in_is ls)
+
+-- what is told of the body of a procedure
+pub proc_is : (d : Proc) {ls : List Local} {xs : List BStmt} → ls ≡ d.locals.items → xs ≡ d.body.items → is_typed (types_in ls) (stmts_of xs) ≡ is_typed_proc (proc_of d)
+proc_is d h g = (λ i. is_typed (types_in (h i)) (stmts_of (g i))) ∙ ap (λ us. is_typed us (stmts_of d.body.items)) (types_in_is d.locals.items)
+
+pub at_ill_typed : (n : ℕ) (d : Proc) (ds : List Proc) → is_typed_proc (proc_of d) ≡ false → option_map (λ m. n + m) (ill_typed_among (map proc_of (d ∷ ds))) ≡ Some (n + 1)
+at_ill_typed n d ds h = rw h refl
+
+pub at_typed : (n : ℕ) (d : Proc) (ds : List Proc) → is_typed_proc (proc_of d) ≡ true →
+    option_map (λ m. n + m) (ill_typed_among (map proc_of (d ∷ ds))) ≡ option_map (λ m. (n + 1) + m) (ill_typed_among (map proc_of ds))
+at_typed n d ds h = rw h (number_after n (ill_typed_among (map proc_of ds)))

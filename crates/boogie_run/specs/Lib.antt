@@ -1,0 +1,12 @@
+pub mod Start
+pub mod Typed
+pub mod Answers
+pub mod Chosen
+pub mod Lazy
+pub mod Operands
+pub mod Ready
+pub mod Runs
+pub mod Searched
+pub mod Unary
+pub mod View
+pub mod Within

@@ -1,0 +1,124 @@
+// Lists of keys, and whether they are all the keys of a type.
+#![tactic(auto, using(crate::specs::Answers::is, crate::specs::Answers::over, crate::specs::Answers::wrong, crate::specs::Answers::no_memory))]
+
+ghost use Rattle.std.specs.Prelude.{◌≡◌, ◌++◌, ◌∷◌, [], Bool, not, IfOk};
+ghost use Rattle.boogie_meaning.specs.Decided as d;
+ghost use Rattle.boogie_meaning.specs.Ends.{End};
+ghost use Rattle.boogie_meaning.specs.Values as m;
+ghost use Rattle.boogie_run.specs.Answers.{Answers};
+
+use crate::eval_ends::Miss;
+use boogie_tree::BBase;
+use std::alloc::Global;
+use vb_base::Memory;
+use vb_value::{Key, KeyPart};
+
+/// Whether an index has this type.
+fn is_of(part: KeyPart, base: BBase) -> bool
+    ensures { result ≡ m.same_base (m.base_of_part part) base }
+{
+    match part {
+        KeyPart::Int(_) => matches!(base, BBase::Int),
+        KeyPart::Bool(_) => matches!(base, BBase::Bool),
+        KeyPart::Ref(_) => matches!(base, BBase::Ref),
+    }
+}
+
+/// Whether a key has as many parts, each of its type.
+pub(crate) fn fits(bases: &[BBase], parts: &[KeyPart]) -> bool
+    ensures { result ≡ m.fits_key bases.now parts.now }
+{
+    let mut count = 0;
+    for base in bases {
+        let Some(part) = parts.get(count) else {
+            return false;
+        };
+        if !is_of(*part, *base) {
+            return false;
+        }
+        count += 1;
+    }
+    count == parts.len()
+}
+
+/// Whether a key is among these.
+fn is_listed(keys: &[Key], key: &Key) -> bool
+    ensures { result ≡ d.is_listed keys.now key.now }
+{
+    for listed in keys {
+        if key.cmp(listed).is_eq() {
+            return true;
+        }
+    }
+    false
+}
+
+/// Whether there is a key of these types.
+fn is_inhabited(bases: &[BBase]) -> bool
+    ensures { result ≡ d.is_inhabited bases.now }
+{
+    for base in bases {
+        if matches!(base, BBase::Real | BBase::Snap) {
+            return false;
+        }
+    }
+    true
+}
+
+/// The key with one more part.
+fn extended(alloc: Global, front: &Key, part: KeyPart) -> Result<Key, Memory>
+    ensures { IfOk result (λ k. k ≡ front.now ++ part ∷ []) }
+{
+    let mut parts = Vec::with_capacity(alloc, front.parts.len() + 1)?;
+    parts.extend_from_slice(&front.parts)?;
+    parts.push(part)?;
+    Ok(Key { parts })
+}
+
+/// Whether a key that begins so and goes on with these types is not listed.
+fn has_other_from(alloc: Global, front: &Key, bases: &[BBase], keys: &[Key]) -> Result<bool, Memory>
+    ensures { IfOk result (λ p. p ≡ d.finds bases.now (λ k. not (d.is_listed keys.now (front.now ++ k)))) }
+{
+    let Some((first, rest)) = bases.split_first() else {
+        return Ok(!is_listed(keys, front));
+    };
+    match first {
+        BBase::Int => Ok(is_inhabited(rest)),
+        BBase::Bool => {
+            let lower = extended(alloc, front, KeyPart::Bool(false))?;
+            if has_other_from(alloc, &lower, rest, keys)? {
+                return Ok(true);
+            }
+            let upper = extended(alloc, front, KeyPart::Bool(true))?;
+            has_other_from(alloc, &upper, rest, keys)
+        }
+        BBase::Ref => Ok(is_inhabited(rest)),
+        BBase::Real => Ok(false),
+        BBase::Snap => Ok(false),
+    }
+}
+
+/// Whether a key of these types is not listed.
+pub(crate) fn has_other(alloc: Global, bases: &[BBase], keys: &[Key]) -> Result<bool, Memory>
+    ensures { IfOk result (λ p. p ≡ d.has_other bases.now keys.now) }
+{
+    let front = Key {
+        parts: Vec::new(alloc),
+    };
+    has_other_from(alloc, &front, bases, keys)
+}
+
+/// Of two ends of truths the first in the order Over, Wrong, false, true.
+pub(crate) fn worse(left: Result<bool, Miss>, right: Result<bool, Miss>) -> Result<bool, Miss>
+    ensures { (e : End Bool) (f : End Bool) → Answers (λ p. p) e left → Answers (λ p. p) f right → Answers (λ p. p) (d.worst e f) result }
+{
+    match (left, right) {
+        (Err(Miss::Memory), _) => Err(Miss::Memory),
+        (_, Err(Miss::Memory)) => Err(Miss::Memory),
+        (Err(Miss::Over), _) => Err(Miss::Over),
+        (_, Err(Miss::Over)) => Err(Miss::Over),
+        (Err(Miss::Wrong), _) => Err(Miss::Wrong),
+        (_, Err(Miss::Wrong)) => Err(Miss::Wrong),
+        (Ok(p), Ok(q)) => Ok(p && q),
+    }
+}

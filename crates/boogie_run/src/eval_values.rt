@@ -1,0 +1,163 @@
+// The values of variables, and of maps at keys.
+#![tactic(auto, using(crate::specs::Answers::is, crate::specs::Answers::over, crate::specs::Answers::wrong, crate::specs::Answers::no_memory))]
+
+ghost use Rattle.std.specs.Prelude.{◌≡◌, IfOk, slice_get};
+ghost use Rattle.sparse.specs.Map.{get};
+ghost use Rattle.vb_value.specs.Key.{key_cmp};
+ghost use Rattle.boogie_tree.specs.Value as v;
+ghost use Rattle.boogie_tree.specs.Whole.{scalar_of, value_of};
+ghost use Rattle.boogie_meaning.specs.Ends.{End, Is, Wrong, then_with, found};
+ghost use Rattle.boogie_meaning.specs.Operators.{part_of};
+ghost use Rattle.boogie_meaning.specs.Value as m;
+ghost use Rattle.boogie_run.specs.Answers.{Answers};
+ghost use Rattle.boogie_run.specs.View.{map_of, values_of, scope_of};
+ghost use Rattle.boogie_run.specs.Within.{IsWithinScalar};
+
+use crate::eval_ends::{Answer, Miss};
+use boogie_tree::{BScalar, BValue};
+use sparse::Sparse;
+use vb_value::{Key, KeyPart};
+
+/// Where an expression stands.
+#[derive(Clone, Copy)]
+pub(crate) enum Scope<'a> {
+    /// Under no `forall`.
+    Outside,
+    /// Under one whose names have these values.
+    At(&'a Key),
+    /// Under one whose names have values that are not marked: each map has its default there.
+    Elsewhere,
+}
+
+/// An equal value of its own.
+fn copied(value: &BScalar) -> Answer
+    ensures { Answers scalar_of (Is (scalar_of value.now)) result }
+{
+    match value.clone() {
+        Ok(copy) => Ok(copy),
+        Err(_) => Err(Miss::Memory),
+    }
+}
+
+fn scalar_in(value: &BValue) -> Answer
+    ensures { Answers scalar_of (m.scalar_in (value_of value.now)) result }
+{
+    match value {
+        BValue::One(value) => copied(value),
+        BValue::Map(_) => Err(Miss::Wrong),
+    }
+}
+
+/// The value of a variable that is no map.
+pub(crate) fn variable(env: &[BValue], number: usize) -> Answer
+    ensures { Answers scalar_of (then_with (found (slice_get (values_of env.now) number)) m.scalar_in) result }
+{
+    match env.get(number) {
+        Some(value) => scalar_in(value),
+        None => Err(Miss::Wrong),
+    }
+}
+
+fn map_in(value: &BValue) -> Result<&Sparse<Key, BScalar>, Miss>
+    ensures { Answers (λ n. map_of n.now) (m.map_in (value_of value.now)) result }
+{
+    match value {
+        BValue::One(_) => Err(Miss::Wrong),
+        BValue::Map(map) => Ok(map),
+    }
+}
+
+/// The map of this number.
+pub(crate) fn the_map(env: &[BValue], number: usize) -> Result<&Sparse<Key, BScalar>, Miss>
+    ensures { Answers (λ n. map_of n.now) (m.the_map (values_of env.now) number) result }
+{
+    match env.get(number) {
+        Some(value) => map_in(value),
+        None => Err(Miss::Wrong),
+    }
+}
+
+fn value_in(map: &Sparse<Key, BScalar>, key: &Key) -> Answer
+    ensures { Answers scalar_of (Is (get key_cmp (map_of map.now) key.now)) result }
+{
+    copied(map.get(key))
+}
+
+fn default_in(map: &Sparse<Key, BScalar>) -> Answer
+    ensures { Answers scalar_of (Is (map_of map.now).default) result }
+{
+    copied(map.default())
+}
+
+fn value_at_key(env: &[BValue], number: usize, key: &Key) -> Answer
+    ensures { Answers scalar_of (then_with (m.the_map (values_of env.now) number) (λ n. Is (get key_cmp n key.now))) result }
+{
+    match the_map(env, number) {
+        Ok(map) => value_in(map, key),
+        Err(miss) => Err(miss),
+    }
+}
+
+fn default_at(env: &[BValue], number: usize) -> Answer
+    ensures { Answers scalar_of (then_with (m.the_map (values_of env.now) number) (λ n. Is n.default)) result }
+{
+    match the_map(env, number) {
+        Ok(map) => default_in(map),
+        Err(miss) => Err(miss),
+    }
+}
+
+/// The value of a map at the key that indices make.
+pub(crate) fn value_at(env: &[BValue], number: usize, key: Result<Key, Miss>) -> Answer
+    ensures { (e : End v.Key) → Answers (λ k. k) e key
+        → Answers scalar_of (then_with e (λ k. then_with (m.the_map (values_of env.now) number) (λ n. Is (get key_cmp n k)))) result }
+{
+    match key {
+        Ok(key) => value_at_key(env, number, &key),
+        Err(miss) => Err(miss),
+    }
+}
+
+/// The value of a map at the bound names.
+pub(crate) fn value_at_bound(env: &[BValue], number: usize, scope: Scope) -> Answer
+    ensures { Answers scalar_of (then_with (m.the_map (values_of env.now) number) (scope_of (values_of env.now) scope.entry).bound) result }
+{
+    match scope {
+        Scope::Outside => outside_at(env, number),
+        Scope::At(key) => value_at_key(env, number, key),
+        Scope::Elsewhere => default_at(env, number),
+    }
+}
+
+/// There are no bound names under no `forall`.
+fn outside_at(env: &[BValue], number: usize) -> Answer
+    ensures { Answers scalar_of (then_with (m.the_map (values_of env.now) number) (λ n. Wrong)) result }
+{
+    match the_map(env, number) {
+        Ok(_) => Err(Miss::Wrong),
+        Err(miss) => Err(miss),
+    }
+}
+
+fn part_in(value: &BScalar) -> Result<KeyPart, Miss>
+    requires { IsWithinScalar (scalar_of value.now) }
+    ensures { Answers (λ p. p) (part_of (scalar_of value.now)) result }
+{
+    match value {
+        BScalar::Int(number) => Ok(KeyPart::Int(*number)),
+        BScalar::Bool(truth) => Ok(KeyPart::Bool(*truth)),
+        BScalar::Ref(reference) => Ok(KeyPart::Ref(*reference)),
+        _ => Err(Miss::Wrong),
+    }
+}
+
+/// An index as a part of a key.
+pub(crate) fn part_of(value: Answer) -> Result<KeyPart, Miss>
+    requires { IfOk value (λ w. IsWithinScalar (scalar_of w)) }
+    ensures { (e : End v.BScalar) → Answers scalar_of e value → Answers (λ p. p) (then_with e part_of) result }
+{
+    match value {
+        Ok(value) => part_in(&value),
+        Err(miss) => Err(miss),
+    }
+}

@@ -1,0 +1,21 @@
+//! Types of Boogie programs, and the runs of their procedures, as `boogie_meaning` defines them.
+#![tactic(auto)]
+
+mod eval;
+mod eval_ends;
+mod eval_keys;
+mod eval_marked;
+mod eval_operators;
+mod eval_unary;
+mod eval_values;
+mod replay_choices;
+mod replay_ends;
+pub mod replay_laws;
+mod replay_runs;
+mod replay_steps;
+mod replay_values;
+mod replaying;
+mod typing;
+
+pub use replaying::{BOutcome, replay};
+pub use typing::check_types;

@@ -1,0 +1,93 @@
+// The values of variables, and their changes.
+#![tactic(auto, using(crate::specs::Answers::is, crate::specs::Answers::over, crate::specs::Answers::wrong, crate::specs::Answers::no_memory))]
+
+ghost use Rattle.std.specs.Prelude.{◌≡◌, slice_get, slice_set, IfOk, OnOk};
+ghost use Rattle.sparse.specs.Map.{set};
+ghost use Rattle.vb_value.specs.Key.{key_cmp};
+ghost use Rattle.boogie_tree.specs.Value.{same_scalar};
+ghost use Rattle.boogie_tree.specs.Whole.{scalar_of, value_of};
+ghost use Rattle.boogie_meaning.specs.Ends.{Is, found};
+ghost use Rattle.boogie_run.specs.Answers.{Answers};
+ghost use Rattle.boogie_run.specs.View.{map_of, values_of, environment_of};
+
+use crate::eval_ends::Miss;
+use boogie_tree::{BScalar, BValue};
+use sparse::Sparse;
+use vb_base::Memory;
+use vb_value::Key;
+
+/// The values of the variables.
+#[derive(Drop)]
+pub(crate) struct Environment {
+    pub(crate) values: Vec<BValue>,
+}
+
+impl Environment {
+    /// Gives a variable a value.
+    pub(crate) fn set(&mut self, number: usize, value: BValue)
+        ensures { environment_of self.new ≡ slice_set (environment_of self.old) number (value_of value) }
+    {
+        if let Some(slot) = self.values.get_mut(number) {
+            *slot = value;
+        }
+    }
+}
+
+/// An equal value of its own.
+pub(crate) fn copied_scalar(value: &BScalar) -> Result<BScalar, Memory>
+    ensures { IfOk result (λ w. scalar_of w ≡ scalar_of value.now) }
+{
+    match value.clone() {
+        Ok(copy) => Ok(copy),
+        Err(_) => Err(Memory),
+    }
+}
+
+/// An equal map of its own, which shares its entries.
+pub(crate) fn copied_map(map: &Sparse<Key, BScalar>) -> Result<Sparse<Key, BScalar>, Memory>
+    ensures { IfOk result (λ n. map_of n ≡ map_of map.now) }
+{
+    match map.copy() {
+        Ok(copy) => Ok(copy),
+        Err(_) => Err(Memory),
+    }
+}
+
+/// The same of a value that may be a map.
+pub(crate) fn copied_value(value: &BValue) -> Result<BValue, Memory>
+    ensures { IfOk result (λ w. value_of w ≡ value_of value.now) }
+{
+    match value {
+        BValue::One(value) => Ok(BValue::One(copied_scalar(value)?)),
+        BValue::Map(map) => Ok(BValue::Map(copied_map(map)?)),
+    }
+}
+
+fn whole_value(value: &BValue) -> Result<BValue, Miss>
+    ensures { Answers value_of (Is (value_of value.now)) result }
+{
+    match copied_value(value) {
+        Ok(copy) => Ok(copy),
+        Err(_) => Err(Miss::Memory),
+    }
+}
+
+/// The value of a variable, which may be a map.
+pub(crate) fn whole(env: &[BValue], number: usize) -> Result<BValue, Miss>
+    ensures { Answers value_of (found (slice_get (values_of env.now) number)) result }
+{
+    match env.get(number) {
+        Some(value) => whole_value(value),
+        None => Err(Miss::Wrong),
+    }
+}
+
+/// Gives a map a value at a key.
+pub(crate) fn set_at(map: &mut Sparse<Key, BScalar>, key: Key, value: BScalar) -> Result<(), Memory>
+    ensures { OnOk result (map_of map.new ≡ set key_cmp same_scalar (map_of map.old) key (scalar_of value)) }
+{
+    match map.set(key, value) {
+        Ok(()) => Ok(()),
+        Err(_) => Err(Memory),
+    }
+}

@@ -1,0 +1,354 @@
+// The types of expressions and statements.
+ghost use Rattle.std.specs.Prelude.{◌≡◌, ◌↔◌, true, false, slice_get, map, None, IsOk, IfErr};
+ghost use Rattle.boogie_tree.specs.Whole.{expr_of, exprs_of, stmt_of, stmts_of, type_of, proc_of, program_of};
+ghost use Rattle.boogie_tree.specs.declared.exprs.BBase.TheVariants as base;
+ghost use Rattle.boogie_meaning.specs.Values.{same_base, same_bases, same_type};
+ghost use Rattle.boogie_meaning.specs.Types as ty;
+ghost use Rattle.boogie_meaning.specs.Types.{then_some, base_of, bases_of};
+ghost use Rattle.boogie_meaning.specs.Programs.{IsTypedProgram, IsFirstIllTyped, ill_typed_among};
+ghost use Rattle.boogie_run.specs.Typed.{types_in, bound_by, answer_at, choice_at, pair_at, are_bases, is_index, indexed_by, some_plain};
+
+use boogie_tree::{BBase, BExpr, BOp, BProgram, BStmt, BType, Local, Proc};
+
+pub(crate) fn same_base(a: BBase, b: BBase) -> bool
+    ensures { result ≡ same_base a b }
+{
+    match a {
+        BBase::Int => matches!(b, BBase::Int),
+        BBase::Bool => matches!(b, BBase::Bool),
+        BBase::Ref => matches!(b, BBase::Ref),
+        BBase::Real => matches!(b, BBase::Real),
+        BBase::Snap => matches!(b, BBase::Snap),
+    }
+}
+
+/// The type `then`, where the operand has the type that is wanted.
+fn given(wanted: BBase, then: BBase, operand: Option<BBase>) -> Option<BBase>
+    ensures { result ≡ then_some operand (ty.given wanted then) }
+{
+    match operand {
+        Some(found) if same_base(found, wanted) => Some(then),
+        _ => None,
+    }
+}
+
+/// Negation is of ints and reals.
+fn negated(operand: Option<BBase>) -> Option<BBase>
+    ensures { result ≡ then_some operand ty.negated }
+{
+    match operand {
+        Some(BBase::Int) => Some(BBase::Int),
+        Some(BBase::Real) => Some(BBase::Real),
+        _ => None,
+    }
+}
+
+/// The type of an operator's value, where it takes two operands of this type.
+fn answer_of(op: BOp, operand: BBase) -> Option<BBase>
+    ensures { result ≡ ty.answer_of op operand }
+{
+    match op {
+        BOp::Iff | BOp::Implies | BOp::Or | BOp::And => match operand {
+            BBase::Bool => Some(BBase::Bool),
+            _ => None,
+        },
+        BOp::Eq | BOp::Ne => Some(BBase::Bool),
+        BOp::Lt | BOp::Le | BOp::Gt | BOp::Ge => match operand {
+            BBase::Int | BBase::Real => Some(BBase::Bool),
+            _ => None,
+        },
+        BOp::Add | BOp::Sub | BOp::Mul => match operand {
+            BBase::Int => Some(BBase::Int),
+            BBase::Real => Some(BBase::Real),
+            _ => None,
+        },
+        BOp::Divide => match operand {
+            BBase::Real => Some(BBase::Real),
+            _ => None,
+        },
+        BOp::IntDiv | BOp::IntMod => match operand {
+            BBase::Int => Some(BBase::Int),
+            _ => None,
+        },
+    }
+}
+
+fn answer(op: BOp, left: Option<BBase>, right: Option<BBase>) -> Option<BBase>
+    ensures { result ≡ answer_at op left right }
+{
+    match (left, right) {
+        (Some(left), Some(right)) if same_base(right, left) => answer_of(op, left),
+        _ => None,
+    }
+}
+
+fn choice(condition: Option<BBase>, left: Option<BBase>, right: Option<BBase>) -> Option<BBase>
+    ensures { result ≡ choice_at condition left right }
+{
+    match (condition, left) {
+        (Some(BBase::Bool), Some(side)) => given(side, side, right),
+        _ => None,
+    }
+}
+
+fn pair(left: Option<BBase>, right: Option<BBase>) -> Option<BBase>
+    ensures { result ≡ pair_at left right }
+{
+    match left {
+        Some(BBase::Snap) => given(BBase::Snap, BBase::Snap, right),
+        _ => None,
+    }
+}
+
+/// The type of a variable that is no map.
+fn plain(locals: &[Local], number: usize) -> Option<BBase>
+    ensures { result ≡ then_some (slice_get (types_in locals.now) number) (λ l. ty.plain_base l.keys l.base) }
+{
+    let local = locals.get(number)?;
+    if local.ty.keys.is_empty() {
+        Some(local.ty.base)
+    } else {
+        None
+    }
+}
+
+fn same_bases(left: &[BBase], right: &[BBase]) -> bool
+    ensures { result ≡ same_bases left.now right.now }
+{
+    match left {
+        [] => right.is_empty(),
+        [a, others @ ..] => match right {
+            [] => false,
+            [b, rest @ ..] => same_base(*a, *b) && same_bases(others, rest),
+        },
+    }
+}
+
+/// The type of the values of a map that the bound names index.
+fn bound(locals: &[Local], number: usize, keys: &[BBase]) -> Option<BBase>
+    ensures { result ≡ then_some (slice_get (types_in locals.now) number) (λ l. ty.indexed l.keys l.base keys.now) }
+{
+    let local = locals.get(number)?;
+    if !local.ty.keys.is_empty() && same_bases(keys, &local.ty.keys) {
+        Some(local.ty.base)
+    } else {
+        None
+    }
+}
+
+fn is_index(found: Option<BBase>, key: BBase) -> bool
+    ensures { result ≡ is_index found key }
+{
+    match found {
+        Some(base) => same_base(base, key) && matches!(base, BBase::Int | BBase::Bool | BBase::Ref),
+        None => false,
+    }
+}
+
+/// The type of an expression, if it has one: by the types of the variables and, where it is inside a `forall`, of the names
+/// that this binds.
+#[cycle(typing)]
+fn base_of(locals: &[Local], inside: bool, keys: &[BBase], e: &BExpr) -> Option<BBase>
+    ensures { result ≡ base_of (types_in locals.now) (bound_by inside keys.now) (expr_of e.now) }
+{
+    match e {
+        BExpr::Var(number) => plain(locals, *number),
+        BExpr::Int(_) => Some(BBase::Int),
+        BExpr::Real(_) => Some(BBase::Real),
+        BExpr::Bool(_) => Some(BBase::Bool),
+        BExpr::Null => Some(BBase::Ref),
+        BExpr::Unit => Some(BBase::Snap),
+        BExpr::Neg(a) => negated(base_of(locals, inside, keys, a)),
+        BExpr::Not(a) => given(BBase::Bool, BBase::Bool, base_of(locals, inside, keys, a)),
+        BExpr::Bin(op, a, b) => answer(
+            *op,
+            base_of(locals, inside, keys, a),
+            base_of(locals, inside, keys, b),
+        ),
+        BExpr::If(c, a, b) => choice(
+            base_of(locals, inside, keys, c),
+            base_of(locals, inside, keys, a),
+            base_of(locals, inside, keys, b),
+        ),
+        BExpr::Forall(us, a) => {
+            if inside {
+                None
+            } else {
+                given(BBase::Bool, BBase::Bool, base_of(locals, true, us, a))
+            }
+        }
+        BExpr::ToReal(a) => given(BBase::Int, BBase::Real, base_of(locals, inside, keys, a)),
+        BExpr::SInt(a) => given(BBase::Int, BBase::Snap, base_of(locals, inside, keys, a)),
+        BExpr::SBool(a) => given(BBase::Bool, BBase::Snap, base_of(locals, inside, keys, a)),
+        BExpr::SRef(a) => given(BBase::Ref, BBase::Snap, base_of(locals, inside, keys, a)),
+        BExpr::SPerm(a) => given(BBase::Real, BBase::Snap, base_of(locals, inside, keys, a)),
+        BExpr::Pair(a, b) => pair(
+            base_of(locals, inside, keys, a),
+            base_of(locals, inside, keys, b),
+        ),
+        BExpr::At(number, es) => at(locals, inside, keys, *number, es),
+        BExpr::AtBound(number) => {
+            if inside {
+                bound(locals, *number, keys)
+            } else {
+                None
+            }
+        }
+    }
+}
+
+/// The type of a map's values at indices.
+#[cycle(typing)]
+fn at(locals: &[Local], inside: bool, keys: &[BBase], number: usize, es: &[BExpr]) -> Option<BBase>
+    ensures { result ≡ indexed_by (slice_get (types_in locals.now) number)
+        (bases_of (types_in locals.now) (bound_by inside keys.now) (exprs_of es.now)) }
+{
+    let local = locals.get(number)?;
+    if !local.ty.keys.is_empty() && are_of(locals, inside, keys, es, &local.ty.keys) {
+        Some(local.ty.base)
+    } else {
+        None
+    }
+}
+
+/// Whether indices have these types.
+#[cycle(typing)]
+fn are_of(locals: &[Local], inside: bool, keys: &[BBase], es: &[BExpr], wanted: &[BBase]) -> bool
+    ensures { result ≡ are_bases (bases_of (types_in locals.now) (bound_by inside keys.now) (exprs_of es.now)) wanted.now }
+{
+    let mut count = 0;
+    for e in es {
+        let Some(key) = wanted.get(count) else {
+            return false;
+        };
+        if !is_index(base_of(locals, inside, keys, e), *key) {
+            return false;
+        }
+        count += 1;
+    }
+    count == wanted.len()
+}
+
+fn is_base(found: Option<BBase>, wanted: BBase) -> bool
+    ensures { result ≡ ty.is_base found wanted }
+{
+    match found {
+        Some(base) => same_base(base, wanted),
+        None => false,
+    }
+}
+
+/// Whether an expression is a bool, under no `forall`.
+fn is_bool(locals: &[Local], e: &BExpr) -> bool
+    ensures { result ≡ ty.is_base (base_of (types_in locals.now) None (expr_of e.now)) base.Bool }
+{
+    is_base(base_of(locals, false, &[], e), BBase::Bool)
+}
+
+fn same_type(a: &BType, b: &BType) -> bool
+    ensures { result ≡ same_type (type_of a.now) (type_of b.now) }
+{
+    same_bases(&a.keys, &b.keys) && same_base(a.base, b.base)
+}
+
+/// Whether the variable has the type of the other one, which may be a map.
+fn is_copy(locals: &[Local], number: usize, other: usize) -> bool
+    ensures { result ≡ ty.is_type (slice_get (types_in locals.now) number) (slice_get (types_in locals.now) other) }
+{
+    match (locals.get(number), locals.get(other)) {
+        (Some(to), Some(from)) => same_type(&to.ty, &from.ty),
+        _ => false,
+    }
+}
+
+/// Whether the variable is no map, and has the type that is found.
+fn is_plain(locals: &[Local], number: usize, found: Option<BBase>) -> bool
+    ensures { result ≡ ty.is_type (slice_get (types_in locals.now) number) (some_plain found) }
+{
+    match locals.get(number) {
+        Some(local) => match found {
+            Some(base) => same_bases(&local.ty.keys, &[]) && same_base(local.ty.base, base),
+            None => false,
+        },
+        None => false,
+    }
+}
+
+/// Whether an assignment is well-typed.
+fn is_assign(locals: &[Local], number: usize, e: &BExpr) -> bool
+    ensures { result ≡ ty.is_type (slice_get (types_in locals.now) number) (ty.side_type (types_in locals.now) (expr_of e.now)) }
+{
+    match e {
+        BExpr::Var(other) => is_copy(locals, number, *other),
+        _ => is_plain(locals, number, base_of(locals, false, &[], e)),
+    }
+}
+
+/// Whether a map takes the value at the indices.
+fn is_put(locals: &[Local], number: usize, es: &[BExpr], e: &BExpr) -> bool
+    ensures { result ≡ ty.is_put (slice_get (types_in locals.now) number) (bases_of (types_in locals.now) None (exprs_of es.now))
+        (base_of (types_in locals.now) None (expr_of e.now)) }
+{
+    match base_of(locals, false, &[], e) {
+        Some(base) => is_base(at(locals, false, &[], number, es), base),
+        None => false,
+    }
+}
+
+/// Whether a statement is well-typed.
+#[cycle(blocks)]
+fn is_typed_stmt(locals: &[Local], stmt: &BStmt) -> bool
+    ensures { result ≡ ty.is_typed_stmt (types_in locals.now) (stmt_of stmt.now) }
+{
+    match stmt {
+        BStmt::Assign(number, e) => is_assign(locals, *number, e),
+        BStmt::Put(number, es, e) => is_put(locals, *number, es, e),
+        BStmt::Havoc(number) => *number < locals.len(),
+        BStmt::Assume(e) => is_bool(locals, e),
+        BStmt::Assert(_, e) => is_bool(locals, e),
+        BStmt::If(e, then, other) => {
+            if !is_bool(locals, e) {
+                return false;
+            }
+            is_typed(locals, then) && is_typed(locals, other)
+        }
+        BStmt::Either(then, other) => is_typed(locals, then) && is_typed(locals, other),
+    }
+}
+
+/// Whether each statement of a block is.
+#[cycle(blocks)]
+fn is_typed(locals: &[Local], stmts: &[BStmt]) -> bool
+    ensures { result ≡ ty.is_typed (types_in locals.now) (stmts_of stmts.now) }
+{
+    for stmt in stmts {
+        if !is_typed_stmt(locals, stmt) {
+            return false;
+        }
+    }
+    true
+}
+
+/// Whether each procedure of the program is well-typed, or the number, from 1 on, of the first one that is not.
+pub fn check_types(program: &BProgram) -> Result<(), usize>
+    ensures typed { IsOk result ↔ IsTypedProgram (program_of program.now) }
+    ensures first { IfErr result (IsFirstIllTyped (program_of program.now)) }
+{
+    match first_ill_typed(&program.procs) {
+        Some(number) => Err(number),
+        None => Ok(()),
+    }
+}
+
+fn first_ill_typed(procs: &[Proc]) -> Option<usize>
+    ensures { result ≡ ill_typed_among (map proc_of procs.now) }
+{
+    let mut number = 0;
+    for proc in procs {
+        number += 1;
+        if !is_typed(&proc.locals, &proc.body) {
+            return Some(number);
+        }
+    }
+    None
+}
