@@ -10,12 +10,13 @@ use Rattle.boogie_tree.specs.Text.{prelude}
 use Rattle.boogie_text.specs.declared.faults.BoogieFault.{BoogieFault}
 use Rattle.boogie_text.specs.declared.faults.BoogieFault.TheVariants as fault
 use Rattle.boogie_text.specs.declared.tokens.BToken.{BToken}
-use Rattle.boogie_text.specs.Cut.{IsCut, piece}
+use Rattle.boogie_text.specs.Cut.{IsCut, IsRow, piece}
 use Rattle.boogie_text.specs.Depth.{IsShallow, IsTooDeep}
 use Rattle.boogie_text.specs.Spells.{BSpells, IsProgram}
 use Rattle.boogie_text.specs.Faults.{Differs, ended, other, later, Stops, place_at, IsFault, no_prelude, no_token, too_deep, no_program}
 use Rattle.boogie_text.specs.Faults as s
 use Rattle.boogie_text.proofs.CutLaws.{one_piece, one_cut}
+use Rattle.boogie_text.proofs.AlikeLaws.{one_row, row_of, never_row, derives_alike, shallow_alike}
 use Rattle.boogie_text.proofs.Parsed.{append-same_front}
 
 one_difference : {xs ys s t : List ℕ} → Differs xs ys s → Differs xs ys t → s ≡ t
@@ -101,9 +102,12 @@ one_fault bytes _ _ (no_program {ts = ts} {i = x} {end = p} e h i n j k) (no_pro
     let last : q ≡ p = one_place_after bytes q p w k in
     ap fault.Syntax (sym (ap (λ z. place_at z y q) same ∙ ap (λ z. place_at ts z q) number ∙ ap (λ z. place_at ts x z) last))
 
+row_as : {bytes rest left : List ℕ} {ts : List BToken} → bytes ≡ prelude ++ rest → bytes ≡ prelude ++ left → IsCut prelude left ts → IsRow rest ts
+row_as {ts = ts} e f h = subst (λ r. IsRow r ts) (append-same_front prelude (sym f ∙ e)) (row_of h)
+
 -- what spells a program and is not too deep is not refused
 pub not_refused : (bytes : List ℕ) (f : BoogieFault) (b : BProgram) (h : BSpells bytes b) → IsShallow h.tokens → IsFault bytes f → ⊥
 not_refused bytes _ b h shallow (no_prelude d a) = not_begun d h.rest h.text
-not_refused bytes _ b h shallow (no_token e k) = never_both (stop_as h.text e k) h.cut
-not_refused bytes _ b h shallow (too_deep {at = q} e k i) = not_shallow (subst (λ ts. IsTooDeep ts q) (cut_as h.text e h.cut k) i) shallow
-not_refused bytes _ b h shallow (no_program e k i n j l) = n (subst IsProgram (sym (cut_as h.text e h.cut k)) (b, h.spells))
+not_refused bytes _ b h shallow (no_token e k) = never_row (stop_as h.text e k) h.cut
+not_refused bytes _ b h shallow (too_deep e k i) = not_shallow i (shallow_alike (one_row h.cut (row_as h.text e k)) shallow)
+not_refused bytes _ b h shallow (no_program e k i n j l) = n (b, derives_alike h.spells (one_row h.cut (row_as h.text e k)))

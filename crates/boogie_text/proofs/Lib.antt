@@ -1,4 +1,13 @@
 pub mod CutLaws
+pub mod AlikeLaws
+pub mod NamingLaws
+pub mod PrintLaws
+pub mod WrittenRows
+pub mod FreshLaws
+pub mod VarLaws
+pub mod ExprShown
+pub mod ProgramShown
+pub mod ShortLaws
 pub mod NameLaws
 pub mod Elements
 pub mod Codes

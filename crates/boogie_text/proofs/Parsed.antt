@@ -4,11 +4,11 @@ use Rattle.grammar.proofs.Reading.{one_reading}
 use Rattle.boogie_tree.specs.Program.{BProgram}
 use Rattle.boogie_tree.specs.Text.{prelude}
 use Rattle.boogie_text.specs.declared.tokens.BToken.{BToken}
-use Rattle.boogie_text.specs.Cut.{IsCut}
+use Rattle.boogie_text.specs.Cut.{IsRow}
 use Rattle.boogie_text.specs.Grammar as g
 use Rattle.boogie_text.specs.Grammar.{rules}
 use Rattle.boogie_text.specs.Spells.{Spells, BSpells}
-use Rattle.boogie_text.proofs.CutLaws.{one_cut}
+use Rattle.boogie_text.proofs.AlikeLaws.{one_row, derives_alike}
 use Rattle.boogie_text.proofs.Elements.{laws}
 use Rattle.boogie_text.proofs.Complete.{complete}
 
@@ -28,6 +28,5 @@ append-same_front (x ∷ xs) h = append-same_front xs (same_rest h)
 pub one_program : (bytes : List ℕ) (a b : BProgram) → BSpells bytes a → BSpells bytes b → a ≡ b
 one_program bytes a b p q =
     let rest : q.rest ≡ p.rest = append-same_front prelude (sym q.text ∙ p.text) in
-    let cut : IsCut prelude p.rest q.tokens = subst (λ r. IsCut prelude r q.tokens) rest q.cut in
-    let tokens : q.tokens ≡ p.tokens = sym (one_cut p.cut cut) in
-    one_tree p.tokens a b p.spells (subst (λ ts. Spells ts b) tokens q.spells)
+    let row : IsRow p.rest q.tokens = subst (λ r. IsRow r q.tokens) rest q.cut in
+    one_tree p.tokens a b p.spells (derives_alike q.spells (one_row row p.cut))

@@ -18,3 +18,9 @@ pub data IsCut : List ℕ → List ℕ → List BToken → Type 0 where
       Piece (class_of b) (b ∷ bytes) o n → IsPlaceAfter before at →
       IsCut (before ++ take n (b ∷ bytes)) (drop n (b ∷ bytes)) tokens →
       IsCut before (b ∷ bytes) (onto o at tokens)
+
+-- the bytes are a row of such pieces, and these are the tokens among them, at whatever places
+pub data IsRow : List ℕ → List BToken → Type 0 where
+  none : IsRow [] []
+  more : {bytes : List ℕ} {b n : ℕ} {o : Option BTok} (at : Pos) {tokens : List BToken} →
+      Piece (class_of b) (b ∷ bytes) o n → IsRow (drop n (b ∷ bytes)) tokens → IsRow (b ∷ bytes) (onto o at tokens)

@@ -6,3 +6,6 @@ pub mod Grammar
 pub mod Spells
 pub mod Depth
 pub mod Faults
+pub mod Printed
+pub mod Printable
+pub mod Naming

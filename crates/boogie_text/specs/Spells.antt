@@ -5,7 +5,7 @@ use Rattle.grammar.specs.Spells.{Derives}
 use Rattle.boogie_tree.specs.Program.{BProgram}
 use Rattle.boogie_tree.specs.Text.{prelude}
 use Rattle.boogie_text.specs.declared.tokens.BToken.{BToken}
-use Rattle.boogie_text.specs.Cut.{IsCut}
+use Rattle.boogie_text.specs.Cut.{IsRow}
 use Rattle.boogie_text.specs.Grammar.{Program, rule, rules}
 
 -- a list of tokens spells a program
@@ -17,7 +17,7 @@ pub record BSpells (bytes : List ℕ) (program : BProgram) : Type 0 where
   pub rest : List ℕ
   pub tokens : List BToken
   pub text : bytes ≡ prelude ++ rest
-  pub cut : IsCut prelude rest tokens
+  pub cut : IsRow rest tokens
   pub spells : Spells tokens program
 
 -- the tokens spell some program

@@ -1,0 +1,261 @@
+// The text of expressions.
+ghost use Rattle.std.specs.Prelude.{◌≡◌, ◌++◌, OnOk, [], drop, codes};
+ghost use Rattle.std.specs.Fmt.{signed_decimal};
+ghost use Rattle.boogie_tree.specs.Whole as b;
+ghost use Rattle.boogie_text.specs.Grammar.{local_names};
+ghost use Rattle.boogie_text.specs.Naming.{naming_of};
+ghost use Rattle.boogie_text.specs.Printed as text;
+
+use crate::naming::{Naming, bound_names};
+use boogie_tree::{BBase, BExpr, BOp, Local};
+use std::alloc::Global;
+use vb_base::{Ident, Memory};
+
+/// An expression.
+#[cycle(expressions)]
+pub(crate) fn put_expr(
+    alloc: Global,
+    out: &mut Vec<u8>,
+    names: &Naming<'_>,
+    expr: &BExpr,
+) -> Result<(), Memory>
+    ensures { OnOk result (out.new.items ≡ out.old.items ++ text.expr_text (naming_of names.now) (b.expr_of expr.now)) }
+{
+    match expr {
+        BExpr::Var(i) => put_name(out, names.locals, *i),
+        BExpr::Int(n) => put_number(alloc, out, *n, b""),
+        BExpr::Real(n) => put_number(alloc, out, *n, b".0"),
+        BExpr::Bool(truth) => put(out, truth_text(*truth)),
+        BExpr::Null => put(out, b"null"),
+        BExpr::Unit => put(out, b"sUnit"),
+        BExpr::Neg(a) => put_wrapped(alloc, out, names, b"(- ", a),
+        BExpr::Not(a) => put_wrapped(alloc, out, names, b"(! ", a),
+        BExpr::Bin(op, a, b) => {
+            put_after(alloc, out, names, b"(", a)?;
+            put_operator(out, *op)?;
+            put_wrapped(alloc, out, names, b" ", b)
+        }
+        BExpr::If(a, b, c) => {
+            put_after(alloc, out, names, b"(if ", a)?;
+            put_after(alloc, out, names, b" then ", b)?;
+            put_wrapped(alloc, out, names, b" else ", c)
+        }
+        BExpr::Forall(types, a) => put_forall(alloc, out, names, types, a),
+        BExpr::ToReal(a) => put_wrapped(alloc, out, names, b"real(", a),
+        BExpr::SInt(a) => put_wrapped(alloc, out, names, b"sInt(", a),
+        BExpr::SBool(a) => put_wrapped(alloc, out, names, b"sBool(", a),
+        BExpr::SRef(a) => put_wrapped(alloc, out, names, b"sRef(", a),
+        BExpr::SPerm(a) => put_wrapped(alloc, out, names, b"sPerm(", a),
+        BExpr::Pair(a, b) => {
+            put_after(alloc, out, names, b"sPair(", a)?;
+            put_wrapped(alloc, out, names, b", ", b)
+        }
+        BExpr::At(i, indices) => {
+            put_map(out, names.locals, *i)?;
+            put_exprs(alloc, out, names, indices)?;
+            put(out, b"]")
+        }
+        BExpr::AtBound(i) => put_at_bound(out, names, *i),
+    }
+}
+
+/// These bytes, and then an expression.
+#[cycle(expressions)]
+pub(crate) fn put_after(
+    alloc: Global,
+    out: &mut Vec<u8>,
+    names: &Naming<'_>,
+    front: &[u8],
+    a: &BExpr,
+) -> Result<(), Memory>
+    ensures { OnOk result (out.new.items ≡ out.old.items ++ front.now ++ text.expr_text (naming_of names.now) (b.expr_of a.now)) }
+{
+    put(out, front)?;
+    put_expr(alloc, out, names, a)
+}
+
+/// An expression between these bytes and a `)`.
+#[cycle(expressions)]
+fn put_wrapped(
+    alloc: Global,
+    out: &mut Vec<u8>,
+    names: &Naming<'_>,
+    front: &[u8],
+    a: &BExpr,
+) -> Result<(), Memory>
+    ensures { OnOk result (out.new.items ≡ out.old.items ++ front.now ++ text.expr_text (naming_of names.now) (b.expr_of a.now) ++ codes ")") }
+{
+    put(out, front)?;
+    put_expr(alloc, out, names, a)?;
+    put(out, b")")
+}
+
+#[cycle(expressions)]
+fn put_forall(
+    alloc: Global,
+    out: &mut Vec<u8>,
+    names: &Naming<'_>,
+    types: &[BBase],
+    body: &BExpr,
+) -> Result<(), Memory>
+    ensures { OnOk result (out.new.items ≡ out.old.items ++ codes "(forall " ++ text.binders_text [] (text.bound_names names.now.taken.now [] types.now) types.now ++
+        codes " :: " ++ text.expr_text (text.under (naming_of names.now) types.now) (b.expr_of body.now) ++ codes ")") }
+{
+    let bound = bound_names(alloc, names.taken, types)?;
+    put(out, b"(forall ")?;
+    put_binders(out, &bound, types)?;
+    put(out, b" :: ")?;
+    let inner = Naming {
+        locals: names.locals,
+        taken: names.taken,
+        bound: &bound,
+    };
+    put_expr(alloc, out, &inner, body)?;
+    put(out, b")")
+}
+
+/// Expressions with `, ` between them.
+#[cycle(expressions)]
+pub(crate) fn put_exprs(
+    alloc: Global,
+    out: &mut Vec<u8>,
+    names: &Naming<'_>,
+    exprs: &[BExpr],
+) -> Result<(), Memory>
+    ensures { OnOk result (out.new.items ≡ out.old.items ++ text.exprs_text (naming_of names.now) [] (b.exprs_of exprs.now)) }
+{
+    let mut before: &[u8] = b"";
+    for expr in exprs {
+        put_after(alloc, out, names, before, expr)?;
+        before = b", ";
+    }
+    Ok(())
+}
+
+fn put_at_bound(out: &mut Vec<u8>, names: &Naming<'_>, map: usize) -> Result<(), Memory>
+    ensures { OnOk result (out.new.items ≡ out.old.items ++ text.name_at (local_names (b.locals_of names.now.locals.now)) map ++ codes "[" ++
+        text.names_text [] names.now.bound.now ++ codes "]") }
+{
+    put_map(out, names.locals, map)?;
+    put_names(out, names.bound)?;
+    put(out, b"]")
+}
+
+/// Names with `, ` between them.
+fn put_names(out: &mut Vec<u8>, names: &[Ident]) -> Result<(), Memory>
+    ensures { OnOk result (out.new.items ≡ out.old.items ++ text.names_text [] names.now) }
+{
+    let mut before: &[u8] = b"";
+    for name in names {
+        put(out, before)?;
+        put(out, &name.bytes)?;
+        before = b", ";
+    }
+    Ok(())
+}
+
+/// Bound variables with their types.
+fn put_binders(out: &mut Vec<u8>, names: &[Ident], types: &[BBase]) -> Result<(), Memory>
+    ensures { OnOk result (out.new.items ≡ out.old.items ++ text.binders_text [] names.now types.now) }
+{
+    let mut before: &[u8] = b"";
+    for (i, name) in names.iter().enumerate() {
+        match types.get(i) {
+            Some(base) => put_binder(out, before, name, *base)?,
+            None => return Ok(()),
+        }
+        before = b", ";
+    }
+    Ok(())
+}
+
+fn put_binder(out: &mut Vec<u8>, before: &[u8], name: &Ident, base: BBase) -> Result<(), Memory>
+    ensures { OnOk result (out.new.items ≡ out.old.items ++ before.now ++ name.now ++ codes ": " ++ text.base_text base) }
+{
+    put(out, before)?;
+    put(out, &name.bytes)?;
+    put(out, b": ")?;
+    put(out, base_text(base))
+}
+
+fn put_operator(out: &mut Vec<u8>, op: BOp) -> Result<(), Memory>
+    ensures { OnOk result (out.new.items ≡ out.old.items ++ codes " " ++ text.operator_text op) }
+{
+    put(out, b" ")?;
+    put(out, operator_text(op))
+}
+
+/// The name of the map of this number, and `[`.
+pub(crate) fn put_map(out: &mut Vec<u8>, locals: &[Local], i: usize) -> Result<(), Memory>
+    ensures { OnOk result (out.new.items ≡ out.old.items ++ text.name_at (local_names (b.locals_of locals.now)) i ++ codes "[") }
+{
+    put_name(out, locals, i)?;
+    put(out, b"[")
+}
+
+/// The name of the variable of this number.
+pub(crate) fn put_name(out: &mut Vec<u8>, locals: &[Local], i: usize) -> Result<(), Memory>
+    ensures { OnOk result (out.new.items ≡ out.old.items ++ text.name_at (local_names (b.locals_of locals.now)) i) }
+{
+    match locals.get(i) {
+        Some(local) => put(out, &local.name.bytes),
+        None => Ok(()),
+    }
+}
+
+fn put_number(alloc: Global, out: &mut Vec<u8>, n: i128, after: &[u8]) -> Result<(), Memory>
+    ensures { OnOk result (out.new.items ≡ out.old.items ++ signed_decimal n ++ after.now) }
+{
+    put(out, format!(in alloc; "{n}")?.as_bytes())?;
+    put(out, after)
+}
+
+fn truth_text(truth: bool) -> &'static [u8]
+    ensures { result.now ≡ text.truth_text truth }
+{
+    if truth { b"true" } else { b"false" }
+}
+
+/// The word of a type.
+pub(crate) fn base_text(base: BBase) -> &'static [u8]
+    ensures { result.now ≡ text.base_text base }
+{
+    match base {
+        BBase::Int => b"int",
+        BBase::Bool => b"bool",
+        BBase::Ref => b"Ref",
+        BBase::Real => b"real",
+        BBase::Snap => b"Snap",
+    }
+}
+
+fn operator_text(op: BOp) -> &'static [u8]
+    ensures { result.now ≡ text.operator_text op }
+{
+    match op {
+        BOp::Iff => b"<==>",
+        BOp::Implies => b"==>",
+        BOp::Or => b"||",
+        BOp::And => b"&&",
+        BOp::Eq => b"==",
+        BOp::Ne => b"!=",
+        BOp::Lt => b"<",
+        BOp::Le => b"<=",
+        BOp::Gt => b">",
+        BOp::Ge => b">=",
+        BOp::Add => b"+",
+        BOp::Sub => b"-",
+        BOp::Mul => b"*",
+        BOp::Divide => b"/",
+        BOp::IntDiv => b"div",
+        BOp::IntMod => b"mod",
+    }
+}
+
+/// These bytes.
+pub(crate) fn put(out: &mut Vec<u8>, bytes: &[u8]) -> Result<(), Memory>
+    ensures { OnOk result (out.new.items ≡ out.old.items ++ bytes.now) }
+{
+    out.extend_from_slice(bytes)?;
+    Ok(())
+}
