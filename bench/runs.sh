@@ -1,6 +1,7 @@
 #!/usr/bin/env bash
 # How the time of `run` grows with the length of the run: exhales over one small heap, calls, folds and unfolds of one cell after
-# the other, turns into an `unfolding`, new objects, and run files with many places. Each line has the kind of run, its length,
+# the other, a list that is unfolded and folded cell by cell, turns into an `unfolding`, new objects, and run files with many
+# places, and with as many `state`s as the program has fields. Each line has the kind of run, its length,
 # the bytes of both files, and the least of five times in milliseconds: processor time, the start of the process included.
 #
 # Give the program, if it is not the proved one: bench/runs.sh PROGRAM
@@ -29,6 +30,21 @@ write_files() { # KIND COUNT
         folds)
             { printf 'field f: Int predicate P(x: Ref, n: Int) { acc(x.f) } method m(x: Ref) { inhale acc(x.f)\n'; seq "$2" | sed 's/.*/fold P(x, &) unfold P(x, &)/'; printf '}'; } >"$method"
             printf 'pick true\n' >>"$choices" ;;
+        lists)
+            awk -v n="$2" 'BEGIN {
+                print "field next: Ref predicate list(x: Ref) { acc(x.next) && (x.next != null ==> list(x.next)) }"
+                print "method m(x: Ref) requires list(x) { var x1: Ref := x;"
+                for (i = 1; i < n; i++) printf "unfold list(x%d); var x%d: Ref := x%d.next;\n", i, i + 1, i
+                printf "unfold list(x%d);\n", n
+                for (i = n; i > 0; i--) printf "fold list(x%d);\n", i
+                print "}" }' >"$method"
+            awk -v n="$2" 'BEGIN {
+                printf "content list #1"
+                for (i = 2; i <= n; i++) printf " pair leaf #%d", i
+                print " pair leaf null unit\npick true" }' >>"$choices" ;;
+        maps)
+            { seq -f 'field f%.0f: Int' "$2"; printf 'method m(x: Ref) { assert true }'; } >"$method"
+            { printf 'pick true\n'; many "$2" state; } >>"$choices" ;;
         unfoldings)
             { printf 'field f: Int predicate P(x: Ref) { acc(x.f) } method m(x: Ref) { inhale P(x)\n'; many "$2" 'assert unfolding P(x) in x.f == 3'; printf '}'; } >"$method"
             printf 'content P #1 leaf 3\npick true\n' >>"$choices" ;;
@@ -60,10 +76,11 @@ least_of_five() {
 }
 
 printf '%-10s %7s %9s %6s  %s\n' run length bytes ms outcome
-for kind in exhales calls folds unfoldings loops news places states; do
+for kind in exhales calls folds lists unfoldings loops news places states maps; do
     case $kind in
                 calls) lengths='1000 2000 4000 8000' ;;
-        folds) lengths='500 1000 2000 4000' ;;
+        folds | maps) lengths='500 1000 2000 4000' ;;
+        lists) lengths='250 500 1000 2000' ;;
         exhales | unfoldings | loops) lengths='750 1500 3000 6000' ;;
         news) lengths='500 1000 2000 4000' ;;
         places | states) lengths='8000 16000 32000 64000' ;;
