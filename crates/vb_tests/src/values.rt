@@ -2,6 +2,7 @@
 use crate::numbers::parts;
 use std::alloc::Global;
 use std::cmp::Ordering;
+use std::rc::Rc;
 use std::test::Fail;
 use vb_value::{Content, Frac, Key, KeyPart, PairFault, Ty, Value};
 
@@ -61,11 +62,11 @@ fn is_rising(alloc: Global, lower: &str, upper: &str) -> Result<bool, Fail> {
 }
 
 /// So many pairs in one line.
-fn line(alloc: Global, pairs: u32) -> Result<Box<Content>, Fail> {
-    let mut content = Box::new(alloc, Content::Leaf(Value::Int(7)))?;
+fn line(alloc: Global, pairs: u32) -> Result<Content, Fail> {
+    let mut content = Content::Leaf(Value::Int(7));
     for _ in 0..pairs {
-        let unit = Box::new(alloc, Content::Unit)?;
-        content = Box::new(alloc, Content::Pair(content, unit))?;
+        let unit = Rc::new(alloc, Content::Unit)?;
+        content = Content::Pair(Rc::new(alloc, content)?, unit);
     }
     Ok(content)
 }
@@ -75,7 +76,7 @@ fn line_row(alloc: Global, row: &str) -> Result<bool, Fail> {
     let (pairs, nodes) = parts(row, " ")?;
     let (pairs, nodes) = (number(pairs)?, number(nodes)?);
     let content = line(alloc, pairs)?;
-    let Ok(copy) = content.copy(alloc) else {
+    let Ok(copy) = content.copy() else {
         return Err("no memory")?;
     };
     Ok(content.same(&copy) && !content.same(&Content::Unit) && copy.nodes() == nodes)
@@ -87,7 +88,7 @@ fn pair_row(alloc: Global, row: &str) -> Result<bool, Fail> {
     let (left, right) = (number(left)?, number(right)?);
     let left = line(alloc, left)?;
     let right = line(alloc, right)?;
-    match Content::pair(alloc, Box::into_inner(left), Box::into_inner(right)) {
+    match Content::pair(alloc, left, right) {
         Ok(pair) => Ok(want != "over" && pair.nodes() == number(want)?),
         Err(fault) => Ok(want == "over" && fault == PairFault::Over),
     }

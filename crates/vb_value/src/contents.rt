@@ -10,6 +10,7 @@ ghost use Rattle.vb_value.specs.View.{content_of};
 
 use crate::values::Value;
 use std::alloc::{AllocError, Global};
+use std::rc::Rc;
 
 /// The most nodes of a content in a run.
 pub const MAX_NODES: u32 = 4096;
@@ -28,11 +29,13 @@ pub enum PairFault {
 }
 
 /// What an instance contains, seen as its tree: nothing, the value of a place, or two contents.
+///
+/// Contents share their parts, since a state keeps what an instance contained beside a content that it is a part of.
 #[derive(Debug, Drop)]
 pub enum Content {
     Unit,
     Leaf(Value),
-    Pair(Box<Content>, Box<Content>),
+    Pair(Rc<Content>, Rc<Content>),
 }
 
 impl Content {
@@ -81,18 +84,14 @@ impl Content {
         }
     }
 
-    /// An equal content of its own.
-    pub fn copy(&self, alloc: Global) -> Result<Content, Memory>
+    /// An equal content, which shares its parts.
+    pub fn copy(&self) -> Result<Content, Memory>
         ensures { IfOk result (λ c. content_of c ≡ content_of self.now) }
     {
         match self {
             Content::Unit => Ok(Content::Unit),
             Content::Leaf(value) => Ok(Content::Leaf(*value)),
-            Content::Pair(left, right) => {
-                let left = left.copy(alloc)?;
-                let right = right.copy(alloc)?;
-                Ok(Content::Pair(boxed(alloc, left)?, boxed(alloc, right)?))
-            }
+            Content::Pair(left, right) => Ok(Content::Pair(shared(left)?, shared(right)?)),
         }
     }
 
@@ -108,7 +107,7 @@ impl Content {
         if right.room_after(room).is_none() {
             return Err(PairFault::Over);
         }
-        match (boxed(alloc, left), boxed(alloc, right)) {
+        match (counted(alloc, left), counted(alloc, right)) {
             (Ok(left), Ok(right)) => Ok(Content::Pair(left, right)),
             _ => Err(PairFault::Memory),
         }
@@ -133,17 +132,20 @@ impl Clone for Content {
     ghost is_clone = { λ x y. content_of y ≡ content_of x };
 
     fn clone(&self) -> Result<Content, AllocError> {
-        match self {
-            Content::Unit => Ok(Content::Unit),
-            Content::Leaf(value) => Ok(Content::Leaf(*value)),
-            Content::Pair(left, _) => self.copy(*Box::allocator(left)).map_err(|_| AllocError),
-        }
+        self.copy().map_err(|_| AllocError)
     }
 }
 
-/// The content in a box of its own.
-fn boxed(alloc: Global, content: Content) -> Result<Box<Content>, Memory>
-    ensures { IfOk result (λ b. b.value ≡ content) }
+/// The content behind a counted pointer.
+fn counted(alloc: Global, content: Content) -> Result<Rc<Content>, Memory>
+    ensures { IfOk result (λ r. r.value ≡ content) }
 {
-    Box::new(alloc, content).map_err(|_| Memory)
+    Rc::new(alloc, content).map_err(|_| Memory)
+}
+
+/// The same content, shared.
+fn shared(content: &Rc<Content>) -> Result<Rc<Content>, Memory>
+    ensures { IfOk result (λ r. r.value ≡ content.now.value) }
+{
+    content.clone().map_err(|_| Memory)
 }

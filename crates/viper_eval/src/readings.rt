@@ -305,10 +305,10 @@ pub fn open(
             let amount = amount_of(alloc, amount, state, scene, feed)?;
             let instance = Instance::of(*predicate, key);
             let share = Share::of(amount, scale, *at);
-            fill_instance(alloc, scene, state, instance, share, content)
+            fill_instance(scene, state, instance, share, content)
         }
         Assertion::And(a, b) => {
-            let (left, right) = split(alloc, content, feed)?;
+            let (left, right) = split(content, feed)?;
             open(alloc, a, left, state, scene, scale, feed)?;
             open(alloc, b, right, state, scene, scale, feed)
         }

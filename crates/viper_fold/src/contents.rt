@@ -37,19 +37,13 @@ fn part_of_place(now: &State, field: u32, reference: u64, amount: Frac) -> Resul
 }
 
 /// What an instance contains where so much of it is held.
-fn part_of_instance(
-    alloc: Global,
-    now: &State,
-    predicate: u32,
-    key: &Key,
-    amount: Frac,
-) -> Result<Content, Halt>
+fn part_of_instance(now: &State, predicate: u32, key: &Key, amount: Frac) -> Result<Content, Halt>
     requires now_within { IsWithinState (state_of now.now) }
     ensures content { Answers content_of [] (part_of (state_of now.now) (resource.Instance predicate key.now) amount) [] result }
     ensures small { IfOk result (λ c. tree.nodes (content_of c) ≤ 4096) }
 {
     if Frac::is_positive(amount) {
-        Ok(found(now.content_at(predicate, key))?.copy(alloc)?)
+        Ok(found(now.content_at(predicate, key))?.copy()?)
     } else {
         Ok(Content::Unit)
     }
@@ -102,7 +96,7 @@ fn content_of_instance(
 {
     let key = key_in(alloc, args, now, scene, feed)?;
     let amount = amount_of(alloc, amount, now, scene, feed)?;
-    part_of_instance(alloc, now, predicate, &key, amount)
+    part_of_instance(now, predicate, &key, amount)
 }
 
 /// The pair of two contents, if it has at most 4,096 nodes.

@@ -69,7 +69,7 @@ fn close(
     ensures left { (feed_of feed.new).left ≡ (feed_of feed.old).left }
 {
     let content = small_content(alloc, body, start, scene, share.at, feed)?;
-    fill_held(alloc, left, instance, share, &content)
+    fill_held(left, instance, share, &content)
 }
 
 /// Folds an instance whose body is known. The variables of the scene are the arguments.

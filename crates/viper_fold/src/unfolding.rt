@@ -26,17 +26,12 @@ use viper_eval::{Instance, SceneRef, evaluate_all, found, key_of, open, permissi
 use viper_inhale::Halt;
 use viper_state::{Feed, State};
 
-/// What an instance contains, as a content of its own.
-fn content_at(
-    alloc: Global,
-    state: &State,
-    predicate: u32,
-    key: &Key,
-) -> Result<Option<Content>, Memory>
+/// What an instance contains, shared with the state.
+fn content_at(state: &State, predicate: u32, key: &Key) -> Result<Option<Content>, Memory>
     ensures { IfOk result (λ c. option_map content_of c ≡ content_at (state_of state.now) predicate key.now) }
 {
     match state.content_at(predicate, key) {
-        Some(content) => Ok(Some(content.copy(alloc)?)),
+        Some(content) => Ok(Some(content.copy()?)),
         None => Ok(None),
     }
 }
@@ -62,7 +57,7 @@ fn unfold_at(
 {
     let key = key_of(alloc, args)?;
     let body = found(body_of(program, s.predicate))?;
-    let content = content_at(alloc, state, s.predicate, &key)?;
+    let content = content_at(state, s.predicate, &key)?;
     let instance = Instance::of(s.predicate, key);
     take(scene, state, instance, amount, s.place)?;
     let content = found(content)?;

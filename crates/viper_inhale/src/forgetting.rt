@@ -41,7 +41,6 @@ fn keep_values(
 
 /// Gives new contents of a predicate the own content of each instance of which something is held.
 fn keep_contents(
-    alloc: Global,
     new: &mut Sparse<Key, Content>,
     own: &Sparse<Key, Content>,
     held: &Sparse<Key, Frac>,
@@ -51,7 +50,7 @@ fn keep_contents(
 {
     for i in 0..held.len() {
         let key = held.key_at(i);
-        let content = own.get(key).copy(alloc)?;
+        let content = own.get(key).copy()?;
         new.set(key.clone()?, content)?;
     }
     Ok(())
@@ -75,7 +74,6 @@ fn keep_heap(
 
 /// The same for the contents of all predicates.
 fn keep_all_contents(
-    alloc: Global,
     news: &mut Vec<Sparse<Key, Content>>,
     owns: &[Sparse<Key, Content>],
     helds: &[Sparse<Key, Frac>],
@@ -86,12 +84,7 @@ fn keep_all_contents(
     ensures memory { IfErr result (λ h. h ≡ halt.Memory) }
 {
     for predicate in 0..news.len().min(owns.len()).min(helds.len()) {
-        keep_contents(
-            alloc,
-            &mut news[predicate],
-            &owns[predicate],
-            &helds[predicate],
-        )?;
+        keep_contents(&mut news[predicate], &owns[predicate], &helds[predicate])?;
     }
     Ok(())
 }
@@ -118,7 +111,7 @@ fn forget_by(alloc: Global, memo: Memo, state: &mut State, feed: &mut Feed) -> R
         mut content,
     } = memo;
     keep_heap(&mut heap, &state.heap, &state.mask)?;
-    keep_all_contents(alloc, &mut content, &state.content, &state.amount)?;
+    keep_all_contents(&mut content, &state.content, &state.amount)?;
     let memo = Memo { heap, content };
     feed.record(Event::Whole(copy_memo(alloc, &memo)?))?;
     state.heap = memo.heap;
