@@ -7,13 +7,13 @@ use Rattle.boogie_tree.specs.Value.{Key, BValue, BChoice}
 use Rattle.boogie_tree.specs.declared.exprs.BBase.{BBase}
 use Rattle.boogie_meaning.specs.Ends.{End, Is, Over, Wrong}
 use Rattle.boogie_meaning.specs.Operators.{as_bool}
-use Rattle.boogie_meaning.specs.Values.{FitsKey}
+use Rattle.boogie_tree.specs.Values.{FitsKey}
 use Rattle.boogie_meaning.specs.Value.{body_at}
-use Rattle.boogie_meaning.specs.Forall.{IsTruth, fails, holds}
+use Rattle.boogie_meaning.specs.Forall.{IsTruth, IsForall, over, wrong, fails, holds}
 use Rattle.boogie_meaning.specs.Quantified.{quantified}
 use Rattle.boogie_meaning.specs.Run.{Run, Done, Stops, Blocked, with_truth, assumed, brun_stmt}
-use Rattle.boogie_meaning.specs.Patterns.{assume_all, GoesFrom}
-use Rattle.boogie_meaning.proofs.ForallLaws.{one_forall, forall_true}
+use Rattle.boogie_meaning.specs.Patterns.{assume_all, GoesFrom, GoesOrBlocks, goes, blocks}
+use Rattle.boogie_meaning.proofs.ForallLaws.{one_forall, forall_true, truth_not_over, truth_not_wrong}
 
 pub done_is : {env env' : List BValue} {cs left : List BChoice} → Done env cs ≡ Done env' left → GoesFrom env cs env' left
 done_is {env} {cs = cs} e = record { environment = ap (λ r. env-of env r) e; choices = ap (λ r. left-of cs r) e }
@@ -34,6 +34,13 @@ at_end (Is false) env cs env' left h = absurd (cc)
 at_end Over env cs env' left h = absurd (cc)
 at_end Wrong env cs env' left h = absurd (cc)
 
+ends_at : {P : Key → Type 0} {body : Key → End Truth} {v : End Truth} (env : List BValue) (cs : List BChoice) → ((k : Key) → P k → IsTruth (body k)) → IsForall P body v →
+    GoesOrBlocks env cs (with_truth (as_bool v) cs (assumed env cs))
+ends_at env cs h (over k p e) = absurd (truth_not_over (h k p) e)
+ends_at env cs h (wrong f k p e) = absurd (truth_not_wrong (h k p) e)
+ends_at env cs h (fails f k p e) = blocks
+ends_at env cs h (holds f) = goes
+
 module _ (ls : List BType) (b : Bound) (us : List BBase) (a : t.BExpr) (env : List BValue) (cs : List BChoice) where
   pub assume_holds : ((k : Key) → FitsKey us k → body_at b a env k ≡ Is true) → brun_stmt ls b (assume_all us a) env cs ≡ Done env cs
   assume_holds h = ap (λ e. with_truth (as_bool e) cs (assumed env cs)) (one_forall (quantified b us a env).1 (holds h))
@@ -47,3 +54,6 @@ module _ (ls : List BType) (b : Bound) (us : List BBase) (a : t.BExpr) (env : Li
   pub assume_blocked : ((k : Key) → FitsKey us k → IsTruth (body_at b a env k)) → (k : Key) → FitsKey us k → body_at b a env k ≡ Is false →
       brun_stmt ls b (assume_all us a) env cs ≡ Stops Blocked cs
   assume_blocked h k f e = ap (λ e. with_truth (as_bool e) cs (assumed env cs)) (one_forall (quantified b us a env).1 (fails h k f e))
+
+  pub assume_ends : ((k : Key) → FitsKey us k → IsTruth (body_at b a env k)) → GoesOrBlocks env cs (brun_stmt ls b (assume_all us a) env cs)
+  assume_ends h = ends_at env cs h (quantified b us a env).1

@@ -12,7 +12,7 @@ use Rattle.boogie_tree.specs.declared.exprs.BBase.{BBase}
 use Rattle.boogie_tree.specs.declared.exprs.BOp.{BOp}
 use Rattle.boogie_tree.specs.declared.exprs.BOp.TheVariants as op
 use Rattle.boogie_meaning.specs.Ends.{End, Is, Over, Wrong, then_with, found, fitting}
-use Rattle.boogie_meaning.specs.Values.{same_base, base_of_scalar}
+use Rattle.boogie_tree.specs.Values.{same_base, base_of_scalar}
 use Rattle.boogie_meaning.specs.Operators.{truth_of, int_of, ref_of, real_of, snap_of, part_of, as_truth, as_bool, negative, pair_of, sum_of, difference_of, product_of, quotient_of, euclidean, compared, equal, same_truth, plain, is_lazy, settled, settled_or, binary}
 use Rattle.boogie_meaning.specs.Value.{Scope, scalar_in, map_in, the_map, value, values, under, body_at}
 use Rattle.boogie_meaning.specs.Forall.{IsForall, over as is_over, wrong, fails, holds}

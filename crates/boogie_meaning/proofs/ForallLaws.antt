@@ -9,16 +9,16 @@ use Rattle.boogie_tree.specs.declared.exprs.BBase.TheVariants as base
 use Rattle.vb_value.specs.declared.keys.KeyPart.TheVariants as part
 use Rattle.boogie_meaning.specs.Ends.{End, Is, Over, Wrong}
 use Rattle.boogie_meaning.specs.Operators.{as_truth}
-use Rattle.boogie_meaning.specs.Values.{FitsKey}
+use Rattle.boogie_tree.specs.Values.{FitsKey, are_keys}
 use Rattle.boogie_meaning.specs.Value.{body_at}
 use Rattle.boogie_meaning.specs.Forall.{IsTruth, is, IsForall, over, wrong, fails, holds}
-use Rattle.boogie_meaning.specs.Decided.{is_listed, is_inhabited, size, total, sample, large-step}
+use Rattle.boogie_meaning.specs.Decided.{is_listed, size, total, sample, large-step}
 use Rattle.boogie_meaning.specs.Marked.{marked, value_off, AtMarked, AtMarkedOr}
 
 pub truth_not_over : {e : End Truth} → IsTruth e → e ≡ Over → ⊥
 truth_not_over (is p) h = absurd (cc)
 
-truth_not_wrong : {e : End Truth} → IsTruth e → e ≡ Wrong → ⊥
+pub truth_not_wrong : {e : End Truth} → IsTruth e → e ≡ Wrong → ⊥
 truth_not_wrong (is p) h = absurd (cc)
 
 module _ {K : Type 0} {P : K → Type 0} {body : K → End Truth} where
@@ -87,7 +87,7 @@ pub marked_alone : (b : Bound) (us : List BBase) (a : t.BExpr) (env : List BValu
 marked_alone b us a env e all = as_at (λ k p. p.0) (λ k g. (k, (g, all k g), refl))
 
 -- Where every key of these types is listed, each of the types is bool.
-only_bools-by : (us : List BBase) (test : Key → Truth) (n : ℕ) → is_inhabited us ≡ true → ((k : Key) → n ≤ size k → test k ≡ true) → ((k : Key) → FitsKey us k → test k ≡ false) →
+only_bools-by : (us : List BBase) (test : Key → Truth) (n : ℕ) → are_keys us ≡ true → ((k : Key) → n ≤ size k → test k ≡ true) → ((k : Key) → FitsKey us k → test k ≡ false) →
     All (λ u. u ≡ base.Bool) us
 only_bools-by [] test n h large none = All-nil (λ u. u ≡ base.Bool)
 only_bools-by (base.Int ∷ us) test n h large none =
@@ -106,6 +106,6 @@ only_bools-by (base.Ref ∷ us) test n h large none =
 only_bools-by (base.Real ∷ us) test n h large none = absurd (cc)
 only_bools-by (base.Snap ∷ us) test n h large none = absurd (cc)
 
-pub only_bools : (us : List BBase) (ks : List Key) → is_inhabited us ≡ true → ((k : Key) → FitsKey us k → is_listed ks k ≡ true) → All (λ u. u ≡ base.Bool) us
+pub only_bools : (us : List BBase) (ks : List Key) → are_keys us ≡ true → ((k : Key) → FitsKey us k → is_listed ks k ≡ true) → All (λ u. u ≡ base.Bool) us
 only_bools us ks h all =
     only_bools-by us (λ k. not (is_listed ks k)) (total ks + 1) h (λ k l. large-step k ks (is_listed ks k) refl l) (λ k f. rw (all k f) refl)

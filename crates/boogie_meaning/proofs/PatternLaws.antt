@@ -1,5 +1,5 @@
 -- A map of zeros, and a map that is given any values where another one is 0.
-use Rattle.std.proofs.Common.{◌≡◌, ◌≢◌, ℕ, zero, suc, ◌<◌, pos, Bool as Truth, true, false, not, cond, Option, Some, None, unwrap_or, List, [], ◌∷◌, All, length, slice_get, slice_set, if◌then◌else◌, refl, sym, ap, subst, ◌∙◌, arith}
+use Rattle.std.proofs.Common.{◌≡◌, ◌≢◌, ℕ, zero, suc, ◌<◌, ◌⊎◌, inl, inr, pos, Bool as Truth, true, false, not, cond, Option, Some, None, unwrap_or, List, [], ◌∷◌, All, length, slice_get, slice_set, if◌then◌else◌, refl, sym, ap, subst, ◌∙◌, arith}
 use Rattle.std.specs.Map.{keys_of, values_of, lookup}
 use Rattle.std.specs.BTreeMap.{is_at}
 use Rattle.std.specs.Ordering.{is_eq}
@@ -18,13 +18,14 @@ use Rattle.boogie_tree.specs.Equality.{Decides-same_scalar}
 use Rattle.boogie_tree.specs.declared.exprs.BBase.{BBase}
 use Rattle.boogie_tree.specs.declared.exprs.BBase.TheVariants as base
 use Rattle.boogie_tree.specs.declared.exprs.BOp.TheVariants as op
-use Rattle.boogie_meaning.specs.Ends.{End, Is, Over, Wrong, then_with}
+use Rattle.boogie_meaning.specs.Ends.{End, Is, Over, Wrong, then_with, found}
 use Rattle.boogie_meaning.specs.Operators.{as_truth, equal, binary}
-use Rattle.boogie_meaning.specs.Values.{FitsKey, FitsScalar, IsMapOf, IsOfType, many, map_type, IsReducedChoice}
-use Rattle.boogie_meaning.specs.Value.{the_map, body_at}
-use Rattle.boogie_meaning.specs.Run.{Run, Done, Stops, Short, unless_blocked, then_run, chosen, brun_stmt, brun}
-use Rattle.boogie_meaning.specs.Patterns.{assume_all, zero_code, is_kept, forget_code, Agrees, IsReady, with_both, HasForgotten, GoesFrom}
-use Rattle.boogie_meaning.proofs.AssumeLaws.{done_is, assume_holds, assume_done}
+use Rattle.boogie_tree.specs.Values.{FitsKey, FitsScalar, IsMapOf, IsOfType, many, map_type, IsReducedChoice}
+use Rattle.boogie_meaning.specs.Value.{the_map, scalar_in, body_at}
+use Rattle.boogie_meaning.specs.Forall.{IsTruth, is}
+use Rattle.boogie_meaning.specs.Run.{Run, Done, Stop, Stops, Blocked, Short, unless_blocked, then_run, chosen, brun_stmt, brun}
+use Rattle.boogie_meaning.specs.Patterns.{assume_all, zero_code, is_kept, forget_code, Agrees, CanForget, with_both, HasForgotten, GoesFrom, GoesOrBlocks, goes, blocks, is_other, avoid_code, Avoids, AreThere}
+use Rattle.boogie_meaning.proofs.AssumeLaws.{done_is, assume_holds, assume_done, assume_ends}
 use Rattle.boogie_meaning.proofs.TypeLaws.{same_base_itself}
 use Rattle.boogie_meaning.proofs.ValueLaws.{empty_typed, get_typed, chosen_typed}
 
@@ -75,6 +76,9 @@ module _ (ls : List BType) (b : Bound) (us : List BBase) (env : List BValue) (m 
       let all : (k : Key) → FitsKey us k → get key_cmp n k ≡ n.default = λ k f. (Decides-same_scalar (get key_cmp n k) (Real none)).0 (is_inj (sym (zero_body k) ∙ p.0 k f)) ∙ sym h.default in
       let es = zero_entries us n.default n.entries h.keys h.reduced.no_default all in
       ((λ i. record { default = h.default i; entries = es i }), p.1)
+
+  pub zero_ends : GoesOrBlocks env cs (brun_stmt ls b (zero_code us m) env cs)
+  zero_ends = assume_ends ls b us (t.Bin op.Eq (t.AtBound m) (t.Real (pos 0))) env cs (λ k f. subst IsTruth (sym (zero_body k)) (is (same_scalar (get key_cmp n k) (Real none))))
 
   pub zero_goes_by : n ≡ empty (Real none) → brun_stmt ls b (zero_code us m) env cs ≡ Done env cs
   zero_goes_by e =
@@ -134,7 +138,7 @@ map_inside : {u : BBase} {us : List BBase} {w : BBase} (v : BValue) → IsOfType
 map_inside _ (many {m = m} h) = (m, refl, h)
 
 module _ (ls : List BType) (b : Bound) (env : List BValue) (u : BBase) (us : List BBase) (w : BBase) (held old new : ℕ) (mh mo : Map Key BScalar)
-    (r : IsReady ls env u us w held old new mh mo) where
+    (r : CanForget ls env u us w held old new mh mo) where
   abbrev code : s.BStmts
   code = forget_code (u ∷ us) held old new
 
@@ -211,3 +215,52 @@ module _ (ls : List BType) (b : Bound) (env : List BValue) (u : BBase) (us : Lis
       HasForgotten env u us w old new mh mo cs env' left
   forget_agrees [] env' left q d = let e : Stops Short [] ≡ Done env' left = sym short_is ∙ d in absurd (cc)
   forget_agrees (c ∷ cs) env' left q d = given_by c cs (chosen (map_type u us w) c) refl (All-head IsReducedChoice c cs q) env' left (sym (given_is c cs) ∙ d)
+
+  -- where it is not done, it blocks or a choice is missing
+  stops_after : (mn : Map Key BScalar) (cs : List BChoice) {end : Run} (why : Stop) (left : List BChoice) → GoesOrBlocks (after mn) cs end → then_run end copied ≡ Stops why left →
+      (why ≡ Blocked) ⊎ (why ≡ Short)
+  stops_after mn cs why left goes d = let e : Done (with_both env old new mn) cs ≡ Stops why left = sym (copied_is mn cs) ∙ d in absurd (cc)
+  stops_after mn cs why left blocks d = inl (cc)
+
+  stops_chosen : (cs : List BChoice) (v : BValue) → IsOfType v (map_type u us w) → (why : Stop) (left : List BChoice) → checked (slice_set env new v) cs ≡ Stops why left →
+      (why ≡ Blocked) ⊎ (why ≡ Short)
+  stops_chosen cs v f why left d =
+      let m = map_inside v f in
+      let truths : (k : Key) → FitsKey (u ∷ us) k → IsTruth (body_at b (is_kept held old new) (after m.0) k) = λ k g. subst IsTruth (sym (kept_body m.0 k m.2)) (is _) in
+      stops_after m.0 cs why left (assume_ends ls b (u ∷ us) (is_kept held old new) (after m.0) cs truths) (subst (λ x. checked (slice_set env new x) cs ≡ Stops why left) m.1 d)
+
+  stops_by : (c : BChoice) (cs : List BChoice) (o : Option BValue) → chosen (map_type u us w) c ≡ o → IsReducedChoice c → (why : Stop) (left : List BChoice) →
+      then_run (unless_blocked o cs (λ v rest. Done (slice_set env new v) rest)) checked ≡ Stops why left → (why ≡ Blocked) ⊎ (why ≡ Short)
+  stops_by c cs (Some v) e q why left d = stops_chosen cs v (chosen_typed (map_type u us w) c v q e) why left d
+  stops_by c cs None e q why left d = inl (cc)
+
+  pub forget_stops : (cs : List BChoice) (why : Stop) (left : List BChoice) → All IsReducedChoice cs → brun ls b code env cs ≡ Stops why left → (why ≡ Blocked) ⊎ (why ≡ Short)
+  forget_stops [] why left q d = let e : Stops Short [] ≡ Stops why left = sym short_is ∙ d in inr (cc)
+  forget_stops (c ∷ cs) why left q d = stops_by c cs (chosen (map_type u us w) c) refl (All-head IsReducedChoice c cs q) why left (sym (given_is c cs) ∙ d)
+
+-- ---- a value that a map does not have
+
+module _ (ls : List BType) (b : Bound) (us : List BBase) (env : List BValue) (w : BBase) (held m r : ℕ) (mh n : Map Key BScalar) (v : BScalar) (x : AreThere env us w held m r mh n v) (cs : List BChoice) where
+  other_body : (k : Key) → body_at b (is_other held m r) env k ≡ Is (implied (not (same_scalar (get key_cmp mh k) (Real none))) (not (same_scalar (get key_cmp n k) v)))
+  other_body k =
+      let e = at_bound_is env held mh k x.held_there in
+      let f = at_bound_is env m n k x.map_there in
+      let g : then_with (found (slice_get env r)) scalar_in ≡ Is v = ap (λ o. then_with (found o) scalar_in) x.value_there in
+      let p = equal_is not base.Real (get key_cmp mh k) (Real none) (get_typed x.held_typed k) zero_fits in
+      let q = equal_is not w (get key_cmp n k) v (get_typed x.map_typed k) x.value_typed in
+      (λ i. as_truth (binary b op.Implies (binary b op.Ne (e i) (Is (Real none))) (binary b op.Ne (f i) (g i))))
+      ∙ (λ i. as_truth (binary b op.Implies (p i) (q i)))
+      ∙ implies_is b _ _
+
+  pub avoid_goes : Avoids us mh n v → brun_stmt ls b (avoid_code us held m r) env cs ≡ Done env cs
+  avoid_goes h =
+      assume_holds ls b us (is_other held m r) env cs
+      (λ k f. other_body k ∙ ap Is (to_implied _ _ (λ e. not_same (get key_cmp n k) v (h k f (from_not_same (get key_cmp mh k) (Real none) e)))))
+
+  pub avoid_done : (env' : List BValue) (left : List BChoice) → brun_stmt ls b (avoid_code us held m r) env cs ≡ Done env' left → Avoids us mh n v × GoesFrom env cs env' left
+  avoid_done env' left d =
+      let a = assume_done ls b us (is_other held m r) env cs env' left d in
+      (λ k f e. from_not_same (get key_cmp n k) v (from_implied _ _ (is_inj (sym (other_body k) ∙ a.0 k f)) (not_same (get key_cmp mh k) (Real none) e)), a.1)
+
+  pub avoid_ends : GoesOrBlocks env cs (brun_stmt ls b (avoid_code us held m r) env cs)
+  avoid_ends = assume_ends ls b us (is_other held m r) env cs (λ k f. subst IsTruth (sym (other_body k)) (is _))

@@ -1,9 +1,24 @@
 -- The first ill-typed procedure is the one that the function on programs finds.
 use Rattle.std.proofs.Common.{◌≡◌, ◌<◌, ℕ, zero, suc, Bool as Truth, true, false, Option, Some, None, List, [], ◌∷◌, slice_get, if◌then◌else◌, refl, sym, ap, subst, ◌∙◌, arith}
+use Rattle.std.specs.Bool.{Decides}
 use Rattle.std.specs.Option.{option_map}
-use Rattle.boogie_tree.specs.Program.{Proc, BProgram}
-use Rattle.boogie_meaning.specs.Programs.{types_of, IsTypedProc, is_typed_proc, IsTypedProgram, ill_typed_among, first_ill_typed, IsFirstIllTyped}
-use Rattle.boogie_meaning.proofs.TypeLaws.{Decides-is_typed, some_same}
+use Rattle.sparse.proofs.MapLaws.{Decides-list_all}
+use Rattle.boogie_tree.specs.Program.{BType, Proc, BProgram}
+use Rattle.boogie_tree.specs.Values.{AreKeys, are_keys}
+use Rattle.boogie_meaning.specs.Types.{is_typed}
+use Rattle.boogie_meaning.specs.Programs.{types_of, HaveKeys, have_keys, IsTypedProc, is_typed_proc, IsTypedProgram, ill_typed_among, first_ill_typed, IsFirstIllTyped}
+use Rattle.boogie_meaning.proofs.TypeLaws.{Decides-is_typed, Decides-are_keys, and_both, and_true, some_same}
+
+Decides-have_keys : (ls : List BType) → Decides (have_keys ls) (HaveKeys ls)
+Decides-have_keys ls = Decides-list_all (λ u. are_keys u.keys) (λ u. AreKeys u.keys) (λ u. Decides-are_keys u.keys) ls
+
+Decides-is_typed_proc : (d : Proc) → Decides (is_typed_proc d) (IsTypedProc d)
+Decides-is_typed_proc d =
+    let keys = Decides-have_keys (types_of d) in
+    let body = Decides-is_typed (types_of d) d.body in (
+      λ h. let p = and_both (have_keys (types_of d)) (is_typed (types_of d) d.body) h in record { keys = keys.0 p.0; body = body.0 p.1 },
+      λ t. and_true (keys.1 t.keys) (body.1 t.body),
+    )
 
 abbrev AllTyped : List Proc → Type 0
 AllTyped ds = (n : ℕ) (d : Proc) → slice_get ds n ≡ Some d → IsTypedProc d
@@ -25,7 +40,7 @@ some_at (Some n) number h = (n, refl, some_same h)
 
 none_step : (d : Proc) (ds : List Proc) (p : Truth) → is_typed_proc d ≡ p → (if p then option_map suc (ill_typed_among ds) else Some 1) ≡ None →
     (ill_typed_among ds ≡ None → AllTyped ds) → AllTyped (d ∷ ds)
-none_step d ds true e h f = typed_first d ds ((Decides-is_typed (types_of d) d.body).0 e) (f (none_at (ill_typed_among ds) h))
+none_step d ds true e h f = typed_first d ds ((Decides-is_typed_proc d).0 e) (f (none_at (ill_typed_among ds) h))
 none_step d ds false e h f = absurd (cc)
 
 none_is_typed : (ds : List Proc) → ill_typed_among ds ≡ None → AllTyped ds
@@ -35,7 +50,7 @@ none_is_typed (d ∷ ds) h = none_step d ds (is_typed_proc d) refl h (none_is_ty
 typed_is_none : (ds : List Proc) → AllTyped ds → ill_typed_among ds ≡ None
 typed_is_none [] h = refl
 typed_is_none (d ∷ ds) h =
-    let e : is_typed_proc d ≡ true = (Decides-is_typed (types_of d) d.body).1 (h zero d refl) in
+    let e : is_typed_proc d ≡ true = (Decides-is_typed_proc d).1 (h zero d refl) in
     let f : ill_typed_among ds ≡ None = typed_is_none ds (λ n x there. h (suc n) x there) in
     rw (e, f) refl
 
@@ -58,13 +73,13 @@ some_step : (d : Proc) (ds : List Proc) (number : ℕ) (p : Truth) → is_typed_
     ((n : ℕ) → ill_typed_among ds ≡ Some n → First ds n) → First (d ∷ ds) number
 some_step d ds number true e h f =
     let s = some_at (ill_typed_among ds) number h in
-    after_typed d ds s.0 number ((Decides-is_typed (types_of d) d.body).0 e) s.2 (f s.0 s.1)
+    after_typed d ds s.0 number ((Decides-is_typed_proc d).0 e) s.2 (f s.0 s.1)
 some_step d ds number false e h f = record {
   place = 0;
   is_number = sym (some_same h);
   procedure = d;
   is_there = refl;
-  is_ill_typed = λ g. let t : is_typed_proc d ≡ true = (Decides-is_typed (types_of d) d.body).1 g in absurd (cc);
+  is_ill_typed = λ g. let t : is_typed_proc d ≡ true = (Decides-is_typed_proc d).1 g in absurd (cc);
   before = λ n x below there. absurd (omega (arith, below));
 }
 

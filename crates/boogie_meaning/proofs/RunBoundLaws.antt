@@ -4,9 +4,10 @@ use Rattle.vb_value.specs.Bound.{Unbounded, Bounded}
 use Rattle.boogie_tree.specs.Stmt as s
 use Rattle.boogie_tree.specs.Program.{BType}
 use Rattle.boogie_tree.specs.Value.{BValue, BChoice}
-use Rattle.boogie_meaning.specs.Ends.{End, Is, Over, Wrong}
-use Rattle.boogie_meaning.specs.Run.{Run, Done, Stops, Failed, Blocked, Short, Exceeds, IllTyped, with_end, unless_blocked, with_choice, then_run, picked, chosen, brun_stmt, brun}
-use Rattle.boogie_meaning.specs.Compared.{IsBoundedBy, same as alike, over as exceeds, IsNotOver, StaysWithin, RunIsBoundedBy, same, over}
+use Rattle.boogie_meaning.specs.Ends as ends
+use Rattle.boogie_meaning.specs.Ends.{End, Is}
+use Rattle.boogie_meaning.specs.Run.{Run, Done, Stops, Failed, Blocked, Short, Over, Wrong, with_end, unless_blocked, with_choice, then_run, picked, chosen, brun_stmt, brun}
+use Rattle.boogie_meaning.specs.Compared.{IsBoundedBy, same as alike, over as is_over, IsNotOver, StaysWithin, RunIsBoundedBy, same, over}
 use Rattle.boogie_meaning.proofs.BoundLaws.{found_bounded, the_map_bounded, as_truth_bounded, bvalue_bounded, bkey_bounded, side_bounded}
 
 pub run_not_over : {r q : Run} → RunIsBoundedBy r q → StaysWithin q
@@ -15,14 +16,14 @@ run_not_over (over h) = h
 
 end_within : {X : Type 0} (e : End X) (cs : List BChoice) (go : X → Run) → IsNotOver e → ((x : X) → StaysWithin (go x)) → StaysWithin (with_end e cs go)
 end_within (Is x) cs go h g = g x
-end_within Over cs go h g = absurd h
-end_within Wrong cs go h g = tt
+end_within ends.Over cs go h g = absurd h
+end_within ends.Wrong cs go h g = tt
 
 end_bounded : {X : Type 0} {e f : End X} (cs : List BChoice) (go to : X → Run) → IsBoundedBy e f → ((x : X) → RunIsBoundedBy (go x) (to x)) → RunIsBoundedBy (with_end e cs go) (with_end f cs to)
 end_bounded {e = Is x} cs go to (alike h) g = g x
-end_bounded {e = Over} cs go to (alike h) g = absurd h
-end_bounded {e = Wrong} cs go to (alike h) g = same tt
-end_bounded {f = f} cs go to (exceeds h) g = over (end_within f cs to h (λ x. run_not_over (g x)))
+end_bounded {e = ends.Over} cs go to (alike h) g = absurd h
+end_bounded {e = ends.Wrong} cs go to (alike h) g = same tt
+end_bounded {f = f} cs go to (is_over h) g = over (end_within f cs to h (λ x. run_not_over (g x)))
 
 unless_bounded : {X : Type 0} (o : Option X) (rest : List BChoice) (go to : X → List BChoice → Run) → ((x : X) (cs : List BChoice) → RunIsBoundedBy (go x cs) (to x cs)) →
     RunIsBoundedBy (unless_blocked o rest go) (unless_blocked o rest to)
@@ -39,8 +40,8 @@ then_within (Done env cs) go h g = g env cs
 then_within (Stops (Failed l) cs) go h g = tt
 then_within (Stops Blocked cs) go h g = tt
 then_within (Stops Short cs) go h g = tt
-then_within (Stops Exceeds cs) go h g = absurd h
-then_within (Stops IllTyped cs) go h g = tt
+then_within (Stops Over cs) go h g = absurd h
+then_within (Stops Wrong cs) go h g = tt
 
 then_bounded : {r q : Run} (go to : List BValue → List BChoice → Run) → RunIsBoundedBy r q → ((env : List BValue) (cs : List BChoice) → RunIsBoundedBy (go env cs) (to env cs)) →
     RunIsBoundedBy (then_run r go) (then_run q to)
@@ -48,8 +49,8 @@ then_bounded {r = Done env cs} go to (same h) g = g env cs
 then_bounded {r = Stops (Failed l) cs} go to (same h) g = same tt
 then_bounded {r = Stops Blocked cs} go to (same h) g = same tt
 then_bounded {r = Stops Short cs} go to (same h) g = same tt
-then_bounded {r = Stops Exceeds cs} go to (same h) g = absurd h
-then_bounded {r = Stops IllTyped cs} go to (same h) g = same tt
+then_bounded {r = Stops Over cs} go to (same h) g = absurd h
+then_bounded {r = Stops Wrong cs} go to (same h) g = same tt
 then_bounded {q = q} go to (over h) g = over (then_within q to h (λ env cs. run_not_over (g env cs)))
 
 if_bounded : (p : Truth) {r q t u : Run} → RunIsBoundedBy r q → RunIsBoundedBy t u → RunIsBoundedBy (if p then r else t) (if p then q else u)

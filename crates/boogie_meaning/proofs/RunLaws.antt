@@ -4,11 +4,12 @@ use Rattle.vb_value.specs.Bound.{Bound}
 use Rattle.boogie_tree.specs.Stmt as s
 use Rattle.boogie_tree.specs.Program.{BType}
 use Rattle.boogie_tree.specs.Value.{BValue, BChoice}
-use Rattle.boogie_meaning.specs.Ends.{End, Is, Over, Wrong, found}
+use Rattle.boogie_meaning.specs.Ends as ends
+use Rattle.boogie_meaning.specs.Ends.{End, Is, found}
 use Rattle.boogie_meaning.specs.Operators.{as_truth}
 use Rattle.boogie_meaning.specs.Value.{the_map}
 use Rattle.boogie_meaning.specs.Quantified.{bvalue, bkey, side}
-use Rattle.boogie_meaning.specs.Run.{Run, Done, Stops, Failed, Blocked, Short, Exceeds, IllTyped, with_end, unless_blocked, with_choice, then_run, picked, chosen, assumed, asserted, brun_stmt, brun, is_short, with_more}
+use Rattle.boogie_meaning.specs.Run.{Run, Done, Stops, Failed, Blocked, Short, Over, Wrong, with_end, unless_blocked, with_choice, then_run, picked, chosen, assumed, asserted, brun_stmt, brun, is_short, with_more}
 
 -- with more choices the second run ends as the first does, with more choices left, unless the first is short
 abbrev pub GoesOn : List BChoice → Run → Run → Type 0
@@ -16,8 +17,8 @@ GoesOn more r q = is_short r ≡ false → q ≡ with_more more r
 
 end_more : {X : Type 0} (e : End X) (cs more : List BChoice) (go to : X → Run) → ((x : X) → GoesOn more (go x) (to x)) → GoesOn more (with_end e cs go) (with_end e (cs ++ more) to)
 end_more (Is x) cs more go to h = h x
-end_more Over cs more go to h = λ s. refl
-end_more Wrong cs more go to h = λ s. refl
+end_more ends.Over cs more go to h = λ s. refl
+end_more ends.Wrong cs more go to h = λ s. refl
 
 unless_more : {X : Type 0} (o : Option X) (rest more : List BChoice) (go : X → List BChoice → Run) → ((x : X) (cs : List BChoice) → GoesOn more (go x cs) (go x (cs ++ more))) →
     GoesOn more (unless_blocked o rest go) (unless_blocked o (rest ++ more) go)
@@ -35,8 +36,8 @@ then_more more (Done env cs) q go h g = λ s. ap (λ x. then_run x go) (h refl) 
 then_more more (Stops (Failed l) cs) q go h g = λ s. ap (λ x. then_run x go) (h refl)
 then_more more (Stops Blocked cs) q go h g = λ s. ap (λ x. then_run x go) (h refl)
 then_more more (Stops Short cs) q go h g = λ s. absurd (cc)
-then_more more (Stops Exceeds cs) q go h g = λ s. ap (λ x. then_run x go) (h refl)
-then_more more (Stops IllTyped cs) q go h g = λ s. ap (λ x. then_run x go) (h refl)
+then_more more (Stops Over cs) q go h g = λ s. ap (λ x. then_run x go) (h refl)
+then_more more (Stops Wrong cs) q go h g = λ s. ap (λ x. then_run x go) (h refl)
 
 assumed_more : (env : List BValue) (cs more : List BChoice) (p : Truth) → GoesOn more (assumed env cs p) (assumed env (cs ++ more) p)
 assumed_more env cs more true = λ s. refl

@@ -1,4 +1,4 @@
--- A well-typed run is never ill-typed, and keeps each variable of its type.
+-- A well-typed run is never Wrong, and keeps each variable of its type.
 use Rattle.std.proofs.Common.{◌≡◌, Bool as Truth, true, false, Option, Some, None, List, [], ◌∷◌, All, if◌then◌else◌, refl}
 use Rattle.std.proofs.lemmas.List.Elements.{All-head, All-tail}
 use Rattle.vb_value.specs.Bound.{Bound}
@@ -6,18 +6,18 @@ use Rattle.boogie_tree.specs.Stmt as s
 use Rattle.boogie_tree.specs.Program.{BType, BProgram}
 use Rattle.boogie_tree.specs.Value.{BValue, BChoice}
 use Rattle.boogie_meaning.specs.Ends.{End, Keeps, value as has, over}
-use Rattle.boogie_meaning.specs.Values.{IsEnvironment, IsReducedChoice, IsOfType, many, map_type}
+use Rattle.boogie_tree.specs.Values.{IsEnvironment, IsReducedChoice, IsOfType, many, map_type}
 use Rattle.boogie_meaning.specs.Types.{IsTyped, skip, first, IsTypedStmt, assign, put, havoc, assume_, assert_, if_, either}
-use Rattle.boogie_meaning.specs.Run.{Run, Stops, IllTyped, with_end, unless_blocked, with_choice, then_run, picked, chosen, brun_stmt, brun}
+use Rattle.boogie_meaning.specs.Run.{Run, Stops, Wrong, with_end, unless_blocked, with_choice, then_run, picked, chosen, brun_stmt, brun}
 use Rattle.boogie_meaning.specs.Programs.{types_of, IsTypedProgram, NeverWrong}
-use Rattle.boogie_meaning.specs.Kept.{KeepsTypes, done, failed, blocked, short, exceeds}
+use Rattle.boogie_meaning.specs.Kept.{KeepsTypes, done, failed, blocked, short, over as is_over}
 use Rattle.boogie_meaning.proofs.TypedLaws.{truth_keeps, the_map_keeps, bvalue_keeps, bkey_keeps, side_keeps}
 use Rattle.boogie_meaning.proofs.ValueLaws.{set_typed, stored_typed, chosen_typed}
 
 module _ {ls : List BType} where
   end_keeps : {X : Type 0} {P : X → Type 0} {e : End X} (cs : List BChoice) (go : X → Run) → Keeps P e → ((x : X) → P x → KeepsTypes ls (go x)) → KeepsTypes ls (with_end e cs go)
   end_keeps cs go (has {x = x} p) g = g x p
-  end_keeps cs go over g = exceeds
+  end_keeps cs go over g = is_over
 
   unless_keeps : {X : Type 0} (P : X → Type 0) (o : Option X) (rest : List BChoice) (go : X → List BChoice → Run) → All IsReducedChoice rest → ((x : X) → o ≡ Some x → P x) →
       ((x : X) (cs : List BChoice) → P x → All IsReducedChoice cs → KeepsTypes ls (go x cs)) → KeepsTypes ls (unless_blocked o rest go)
@@ -37,7 +37,7 @@ module _ {ls : List BType} where
   then_keeps go failed g = failed
   then_keeps go blocked g = blocked
   then_keeps go short g = short
-  then_keeps go exceeds g = exceeds
+  then_keeps go is_over g = is_over
 
   if_keeps : (p : Truth) {r q : Run} → KeepsTypes ls r → KeepsTypes ls q → KeepsTypes ls (if p then r else q)
   if_keeps true h g = h
@@ -64,12 +64,12 @@ module _ (ls : List BType) (b : Bound) where
     stmts_keep env cs skip h r = done h r
     stmts_keep env cs (first x xs) h r = then_keeps _ (stmt_keeps env cs x h r) (λ env' rest g q. stmts_keep env' rest xs g q)
 
-not_ill_typed : {ls : List BType} {r : Run} (cs : List BChoice) → KeepsTypes ls r → r ≡ Stops IllTyped cs → ⊥
-not_ill_typed cs (done h q) e = absurd (cc)
-not_ill_typed cs failed e = absurd (cc)
-not_ill_typed cs blocked e = absurd (cc)
-not_ill_typed cs short e = absurd (cc)
-not_ill_typed cs exceeds e = absurd (cc)
+not_wrong : {ls : List BType} {r : Run} (cs : List BChoice) → KeepsTypes ls r → r ≡ Stops Wrong cs → ⊥
+not_wrong cs (done h q) e = absurd (cc)
+not_wrong cs failed e = absurd (cc)
+not_wrong cs blocked e = absurd (cc)
+not_wrong cs short e = absurd (cc)
+not_wrong cs is_over e = absurd (cc)
 
 pub never_wrong : (program : BProgram) → IsTypedProgram program → NeverWrong program
-never_wrong program h b n d env cs left there g r e = not_ill_typed left (stmts_keep (types_of d) b env cs (h n d there) g r) e
+never_wrong program h b n d env cs left there g r e = not_wrong left (stmts_keep (types_of d) b env cs (h n d there).body g r) e

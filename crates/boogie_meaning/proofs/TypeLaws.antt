@@ -2,12 +2,13 @@
 use Rattle.std.proofs.Common.{◌≡◌, ℕ, Bool as Truth, true, false, ◌&&◌, Option, Some, None, List, [], ◌∷◌, slice_get, if◌then◌else◌, refl, sym, ap, subst, ◌∙◌}
 use Rattle.std.specs.Bool.{Decides}
 use Rattle.std.specs.Option.{is_some}
+use Rattle.std.proofs.lemmas.List.Sums.{AllPass-from_list_all, list_all-from_AllPass}
 use Rattle.boogie_tree.specs.Expr as t
 use Rattle.boogie_tree.specs.Stmt as s
 use Rattle.boogie_tree.specs.Program.{BType}
 use Rattle.boogie_tree.specs.declared.exprs.BBase.{BBase}
 use Rattle.boogie_tree.specs.declared.exprs.BBase.TheVariants as base
-use Rattle.boogie_meaning.specs.Values.{same_base, same_bases, same_type, is_key, plain_type, map_type}
+use Rattle.boogie_tree.specs.Values.{same_base, same_bases, same_type, is_key, plain_type, map_type, AreKeys, are_keys}
 use Rattle.boogie_meaning.specs.Decided.{Decides-same_base}
 use Rattle.boogie_meaning.specs.Types.{answer_of, HasType, var, int, real, bool, null, unit, neg, not_, binary, choose, forall_, to_real, s_int, s_bool, s_ref, s_perm, pair, at, at_bound, HaveTypes, none, more, SideHasType, whole, value, then_some, given, plain_base, indexed, base_of, bases_of, side_type, is_base, is_type, is_put, IsTypedStmt, assign, put, havoc, assume_, assert_, if_, either, IsTyped, skip, first, is_typed_stmt, is_typed}
 
@@ -28,6 +29,10 @@ if_some : {X : Type 0} (p : Truth) (x y : X) → (if p then Some x else None) �
 if_some true x y h = (refl, some_same h)
 if_some false x y h = absurd (cc)
 
+from_if : {X : Type 0} (p : Truth) (o : Option X) (x : X) → (if p then o else None) ≡ Some x → (p ≡ true) × (o ≡ Some x)
+from_if true o x h = (refl, h)
+from_if false o x h = absurd (cc)
+
 from_given : (u w v x : BBase) → given u w v ≡ Some x → (v ≡ u) × (w ≡ x)
 from_given u w v x h = let p = if_some (same_base v u) w x h in ((Decides-same_base v u).0 p.0, p.1)
 
@@ -35,11 +40,14 @@ from_plain : (ks : List BBase) (u w : BBase) → plain_base ks u ≡ Some w → 
 from_plain [] u w h = (refl, some_same h)
 from_plain (k ∷ ks) u w h = absurd (cc)
 
-and_both : (p q : Truth) → (p && q) ≡ true → (p ≡ true) × (q ≡ true)
+pub and_both : (p q : Truth) → (p && q) ≡ true → (p ≡ true) × (q ≡ true)
 and_both true q h = (refl, h)
 and_both false q h = absurd (cc)
 
-and_true : {p q : Truth} → p ≡ true → q ≡ true → (p && q) ≡ true
+pub Decides-are_keys : (us : List BBase) → Decides (are_keys us) (AreKeys us)
+Decides-are_keys us = (AllPass-from_list_all is_key us, list_all-from_AllPass is_key us)
+
+pub and_true : {p q : Truth} → p ≡ true → q ≡ true → (p && q) ≡ true
 and_true h g = rw (h, g) refl
 
 pub bases_same : (us ws : List BBase) → same_bases us ws ≡ true → us ≡ ws
@@ -107,9 +115,10 @@ mutual
       choose (type_from (base_of_sound ls o c p.0 p.1) g.0) (type_from (base_of_sound ls o x r.0 r.1) d.1) (type_from (base_of_sound ls o y s.0 s.1) (d.0 ∙ d.1))
   base_of_sound ls (Some ws) (t.Forall us a) u h = absurd (cc)
   base_of_sound ls None (t.Forall us a) u h =
-      let p = from_then (base_of ls (Some us) a) _ u h in
+      let k = from_if (are_keys us) _ u h in
+      let p = from_then (base_of ls (Some us) a) _ u k.1 in
       let q = from_given base.Bool base.Bool p.0 u p.2 in
-      type_from (forall_ (type_from (base_of_sound ls (Some us) a p.0 p.1) q.0)) q.1
+      type_from (forall_ ((Decides-are_keys us).0 k.0) (type_from (base_of_sound ls (Some us) a p.0 p.1) q.0)) q.1
   base_of_sound ls o (t.ToReal a) u h =
       let p = from_then (base_of ls o a) _ u h in
       let q = from_given base.Int base.Real p.0 u p.2 in
@@ -174,7 +183,7 @@ mutual
   base_of_complete (not_ h) = rw (base_of_complete h) refl
   base_of_complete (binary {u = u} a x y) = rw (base_of_complete x, base_of_complete y) (rw (given_itself u u) a)
   base_of_complete (choose {u = u} c x y) = rw (base_of_complete c, base_of_complete x, base_of_complete y) (given_itself u u)
-  base_of_complete (forall_ h) = rw (base_of_complete h) refl
+  base_of_complete (forall_ {us = us} k h) = rw ((Decides-are_keys us).1 k, base_of_complete h) refl
   base_of_complete (to_real h) = rw (base_of_complete h) refl
   base_of_complete (s_int h) = rw (base_of_complete h) refl
   base_of_complete (s_bool h) = rw (base_of_complete h) refl

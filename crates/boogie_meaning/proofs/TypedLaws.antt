@@ -18,7 +18,7 @@ use Rattle.boogie_tree.specs.declared.exprs.BBase.TheVariants as base
 use Rattle.boogie_tree.specs.declared.exprs.BOp.{BOp}
 use Rattle.boogie_tree.specs.declared.exprs.BOp.TheVariants as op
 use Rattle.boogie_meaning.specs.Ends.{End, Wrong, then_with, found, fitting, Keeps, value as has, over}
-use Rattle.boogie_meaning.specs.Values.{same_base, is_key, FitsScalar, FitsPart, FitsKey, IsMapOf, IsOfType, one, many, IsEnvironment, plain_type, map_type}
+use Rattle.boogie_tree.specs.Values.{same_base, is_key, FitsScalar, FitsPart, FitsKey, IsMapOf, IsOfType, one, many, IsEnvironment, plain_type, map_type}
 use Rattle.boogie_meaning.specs.Types.{answer_of, negated, HasType, var, int, real, bool, null, unit, neg, not_, binary as operator, choose, forall_, to_real, s_int, s_bool, s_ref, s_perm, pair, at, at_bound, HaveTypes, none, more, SideHasType, whole as whole_variable, value as expression}
 use Rattle.boogie_meaning.specs.Operators.{truth_of, part_of, as_truth, as_bool, negative, negation, real_from, leaf_int, leaf_bool, leaf_ref, leaf_perm, pair_of, sum_of, difference_of, product_of, quotient_of, euclidean, compared, equal, same_truth, settled, settled_or, binary}
 use Rattle.boogie_meaning.specs.Value.{Scope, scalar_in, map_in, the_map, value, values, under, body_at}
@@ -255,7 +255,7 @@ module _ (b : Bound) (ls : List BType) (env : List BValue) (h : IsEnvironment ls
     value_keeps w o s (not_ a) = keeps_then (value_keeps w o s a) (at_truth negation (λ p. has (truth_fits _)))
     value_keeps w o s (operator {p = p} {u = u} {w = x} e a c) = binary_keeps b p u x e (value_keeps w o s a) (value_keeps w o s c)
     value_keeps w o s (choose c x y) = keeps_then (truth_keeps (value_keeps w o s c)) (λ p a. if_keeps p (value_keeps w o s x) (value_keeps w o s y))
-    value_keeps w o s (forall_ {us = us} {a = a} f) = s.all us a refl f
+    value_keeps w o s (forall_ {us = us} {a = a} k f) = s.all us a refl f
     value_keeps w o s (to_real a) = keeps_then (value_keeps w o s a) (at_int real_from (λ n. has (real_fits _ (proper_whole Unbounded n tt).reduced)))
     value_keeps w o s (s_int a) = keeps_then (value_keeps w o s a) (at_int leaf_int (λ n. has (snap_fits _ tt)))
     value_keeps w o s (s_bool a) = keeps_then (value_keeps w o s a) (at_truth leaf_bool (λ n. has (snap_fits _ tt)))

@@ -22,7 +22,7 @@ use Rattle.boogie_tree.specs.Value.{Key, BScalar, same_scalar, BValue, One, Many
 use Rattle.boogie_tree.specs.Equality.{Decides-same_scalar}
 use Rattle.boogie_tree.specs.declared.exprs.BBase.{BBase}
 use Rattle.boogie_tree.specs.declared.exprs.BBase.TheVariants as base
-use Rattle.boogie_meaning.specs.Values.{same_base, base_of_scalar, FitsScalar, FitsKey, fits_key, IsMapOf, IsOfType, one, many, IsEnvironment, default_of, plain_type, map_type, IsReducedEntry, IsReducedChoice}
+use Rattle.boogie_tree.specs.Values.{same_base, base_of_scalar, FitsScalar, FitsKey, fits_key, IsMapOf, IsOfType, one, many, IsEnvironment, default_of, plain_type, map_type, IsReducedEntry, IsReducedChoice}
 use Rattle.boogie_meaning.specs.Decided.{Decides-same_base, Decides-fits_key}
 use Rattle.boogie_meaning.specs.Run.{fits_entries, filled, chosen_by, chosen, entries_of, choice_for}
 use Rattle.boogie_meaning.specs.Programs.{default_by}

@@ -15,7 +15,7 @@ use Rattle.boogie_tree.specs.Value.{Key}
 use Rattle.boogie_tree.specs.declared.exprs.BBase.{BBase}
 use Rattle.boogie_tree.specs.declared.exprs.BBase.TheVariants as base
 use Rattle.boogie_meaning.specs.Ends.{End, Is, Over, Wrong}
-use Rattle.boogie_meaning.specs.Values.{FitsKey, fits_key, base_of_part, same_base}
+use Rattle.boogie_tree.specs.Values.{FitsKey, fits_key, base_of_part, same_base, are_keys}
 use Rattle.boogie_meaning.specs.Forall.{IsTruth, is, IsForall, over, wrong, fails, holds}
 
 -- ---- the search
@@ -42,21 +42,13 @@ abbrev pub is_listed : List Key → Key → Truth
 is_listed [] j = false
 is_listed (k ∷ ks) j = same_key j k || is_listed ks j
 
--- whether there is a key of these types
-abbrev pub is_inhabited : List BBase → Truth
-is_inhabited [] = true
-is_inhabited (base.Int ∷ us) = is_inhabited us
-is_inhabited (base.Bool ∷ us) = is_inhabited us
-is_inhabited (base.Ref ∷ us) = is_inhabited us
-is_inhabited (base.Real ∷ us) = false
-is_inhabited (base.Snap ∷ us) = false
-
--- whether a key of these types passes a test that all large keys pass: where one of the types is int or Ref, one does
+-- Whether a key of these types passes a test that all large keys pass: where one of the types is int or Ref, one does. Where
+-- one of the types is none of keys, there is no key.
 abbrev pub finds : List BBase → (Key → Truth) → Truth
 finds [] test = test []
-finds (base.Int ∷ us) test = is_inhabited us
+finds (base.Int ∷ us) test = are_keys us
 finds (base.Bool ∷ us) test = finds us (λ k. test (part.Bool false ∷ k)) || finds us (λ k. test (part.Bool true ∷ k))
-finds (base.Ref ∷ us) test = is_inhabited us
+finds (base.Ref ∷ us) test = are_keys us
 finds (base.Real ∷ us) test = false
 finds (base.Snap ∷ us) test = false
 
@@ -223,7 +215,7 @@ pub large-step : (j : Key) (ks : List Key) (s : Truth) → is_listed ks j ≡ s 
 large-step j ks true e h = let l = listed-small j ks e in absurd (omega (arith, h, l))
 large-step j ks false e h = refl
 
-pub sample : (us : List BBase) → is_inhabited us ≡ true → (k : Key) × FitsKey us k
+pub sample : (us : List BBase) → are_keys us ≡ true → (k : Key) × FitsKey us k
 sample [] h = ([], tt)
 sample (base.Int ∷ us) h = let s = sample us h in (part.Int (pos 0) ∷ s.0, (refl, s.1))
 sample (base.Bool ∷ us) h = let s = sample us h in (part.Bool false ∷ s.0, (refl, s.1))
@@ -231,7 +223,7 @@ sample (base.Ref ∷ us) h = let s = sample us h in (part.Ref 0 ∷ s.0, (refl, 
 sample (base.Real ∷ us) h = absurd (cc)
 sample (base.Snap ∷ us) h = absurd (cc)
 
-uninhabited : (us : List BBase) (k : Key) → is_inhabited us ≡ false → FitsKey us k → ⊥
+uninhabited : (us : List BBase) (k : Key) → are_keys us ≡ false → FitsKey us k → ⊥
 uninhabited [] k h f = absurd (cc)
 uninhabited (u ∷ us) [] h f = f
 uninhabited (base.Int ∷ us) (a ∷ k) h f = uninhabited us k h f.1

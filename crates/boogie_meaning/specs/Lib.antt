@@ -1,5 +1,4 @@
 pub mod Ends
-pub mod Values
 pub mod Types
 pub mod Operators
 pub mod Value

@@ -10,7 +10,7 @@ use Rattle.vb_value.specs.Key.{key_cmp}
 use Rattle.boogie_tree.specs.Expr as t
 use Rattle.boogie_tree.specs.Value.{Key, BScalar, BValue}
 use Rattle.boogie_tree.specs.declared.exprs.BBase.{BBase}
-use Rattle.boogie_meaning.specs.Values.{FitsKey}
+use Rattle.boogie_tree.specs.Values.{FitsKey}
 use Rattle.boogie_meaning.specs.Ends.{End, Is, Over, Wrong, then_with}
 use Rattle.boogie_meaning.specs.Operators.{as_truth, part_of, binary, negative, negation, real_from, leaf_int, leaf_bool, leaf_ref, leaf_perm, pair_of}
 use Rattle.boogie_meaning.specs.Value.{Scope, the_map, value, values, under}

@@ -17,7 +17,7 @@ use Rattle.boogie_tree.specs.Value.{BScalar, Int, Bool, Ref, Real, Snap, same_sc
 use Rattle.boogie_tree.specs.declared.exprs.BOp.{BOp}
 use Rattle.boogie_tree.specs.declared.exprs.BOp.TheVariants as op
 use Rattle.boogie_meaning.specs.Ends.{End, Is, Wrong, then_with, fitting}
-use Rattle.boogie_meaning.specs.Values.{same_base, base_of_scalar}
+use Rattle.boogie_tree.specs.Values.{same_base, base_of_scalar}
 
 -- ---- what a value of this type is
 

@@ -1,4 +1,4 @@
--- Three pieces of code, whose runs are told apart by what their maps are.
+-- Pieces of code that assume a quantifier, whose runs are told apart by what their maps are.
 use Rattle.std.specs.Prelude.{◌≡◌, ◌≢◌, ◌<◌, ℕ, pos, List, ◌∷◌, length, Some, slice_get, slice_set}
 use Rattle.sparse.specs.Map.{Map, get}
 use Rattle.vb_value.specs.Fraction.{none}
@@ -6,16 +6,21 @@ use Rattle.vb_value.specs.Key.{key_cmp}
 use Rattle.boogie_tree.specs.Expr as t
 use Rattle.boogie_tree.specs.Stmt as s
 use Rattle.boogie_tree.specs.Program.{BType}
-use Rattle.boogie_tree.specs.Value.{Key, BScalar, Real, BValue, Many, BChoice}
+use Rattle.boogie_tree.specs.Value.{Key, BScalar, Real, BValue, One, Many, BChoice}
 use Rattle.boogie_tree.specs.declared.exprs.BBase.{BBase}
 use Rattle.boogie_tree.specs.declared.exprs.BBase.TheVariants as base
 use Rattle.boogie_tree.specs.declared.exprs.BOp.TheVariants as op
-use Rattle.boogie_meaning.specs.Values.{FitsKey, IsMapOf, map_type}
-use Rattle.boogie_meaning.specs.Run.{chosen}
+use Rattle.boogie_tree.specs.Values.{FitsKey, FitsScalar, IsMapOf, map_type}
+use Rattle.boogie_meaning.specs.Run.{Run, Done, Stops, Blocked, chosen}
 
 -- `assume (forall .. :: a)`
 abbrev pub assume_all : List BBase → t.BExpr → s.BStmt
 assume_all us a = s.Assume (t.Forall us a)
+
+-- a run that goes on with the environment and the choices that it has, or blocks
+pub data GoesOrBlocks (env : List BValue) (cs : List BChoice) : Run → Type 0 where
+  goes : GoesOrBlocks env cs (Done env cs)
+  blocks : GoesOrBlocks env cs (Stops Blocked cs)
 
 -- ---- a map of zeros: `assume (forall q :: (m[q] == 0.0))`
 
@@ -37,7 +42,7 @@ Agrees us held old new = (k : Key) → FitsKey us k → get key_cmp held k ≢ R
 
 -- The first two variables are maps with keys of the types `u ∷ us`, of reals and of values of type w. The third has the type
 -- of the second, and is neither of them.
-pub record IsReady (ls : List BType) (env : List BValue) (u : BBase) (us : List BBase) (w : BBase) (held old new : ℕ) (held_map old_map : Map Key BScalar) : Type 0 where
+pub record CanForget (ls : List BType) (env : List BValue) (u : BBase) (us : List BBase) (w : BBase) (held old new : ℕ) (held_map old_map : Map Key BScalar) : Type 0 where
   pub held_there : slice_get env held ≡ Some (Many held_map)
   pub held_typed : IsMapOf (u ∷ us) base.Real held_map
   pub old_there : slice_get env old ≡ Some (Many old_map)
@@ -66,3 +71,24 @@ pub record HasForgotten (env : List BValue) (u : BBase) (us : List BBase) (w : B
 pub record GoesFrom (env : List BValue) (cs : List BChoice) (env' : List BValue) (left : List BChoice) : Type 0 where
   pub environment : env ≡ env'
   pub choices : cs ≡ left
+
+-- ---- a value that is nowhere where another map is not 0: `assume (forall q :: ((held[q] != 0.0) ==> (m[q] != r)))`
+
+abbrev pub is_other : ℕ → ℕ → ℕ → t.BExpr
+is_other held m r = t.Bin op.Implies (t.Bin op.Ne (t.AtBound held) (t.Real (pos 0))) (t.Bin op.Ne (t.AtBound m) (t.Var r))
+
+abbrev pub avoid_code : List BBase → ℕ → ℕ → ℕ → s.BStmt
+avoid_code us held m r = assume_all us (is_other held m r)
+
+-- the second map has another value than this one where the first map is not 0
+abbrev pub Avoids : List BBase → Map Key BScalar → Map Key BScalar → BScalar → Type 0
+Avoids us held n v = (k : Key) → FitsKey us k → get key_cmp held k ≢ Real none → get key_cmp n k ≢ v
+
+-- the first two variables are maps with keys of these types, of reals and of values of type w, and the third has such a value
+pub record AreThere (env : List BValue) (us : List BBase) (w : BBase) (held m r : ℕ) (held_map map : Map Key BScalar) (value : BScalar) : Type 0 where
+  pub held_there : slice_get env held ≡ Some (Many held_map)
+  pub held_typed : IsMapOf us base.Real held_map
+  pub map_there : slice_get env m ≡ Some (Many map)
+  pub map_typed : IsMapOf us w map
+  pub value_there : slice_get env r ≡ Some (One value)
+  pub value_typed : FitsScalar w value

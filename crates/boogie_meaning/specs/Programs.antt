@@ -1,5 +1,6 @@
 -- Programs (Leino, This is Boogie 2, sections 8 and 9): the types of a program, the runs of its procedures, and what fails.
-use Rattle.std.specs.Prelude.{◌≡◌, ◌<◌, ℕ, suc, Bool as Truth, List, [], ◌∷◌, map, All, Option, Some, None, slice_get, if◌then◌else◌}
+use Rattle.std.specs.Prelude.{◌≡◌, ◌<◌, ℕ, suc, Bool as Truth, ◌&&◌, List, [], ◌∷◌, map, All, Option, Some, None, slice_get, if◌then◌else◌}
+use Rattle.std.specs.List.{list_all}
 use Rattle.std.specs.Option.{option_map}
 use Rattle.sparse.specs.Map.{empty}
 use Rattle.vb_base.specs.declared.labels.Label.{Label}
@@ -7,9 +8,9 @@ use Rattle.vb_value.specs.Bound.{Bound, Unbounded}
 use Rattle.boogie_tree.specs.Program.{BType, Proc, BProgram}
 use Rattle.boogie_tree.specs.Value.{BValue, One, Many, BChoice}
 use Rattle.boogie_tree.specs.declared.exprs.BBase.{BBase}
-use Rattle.boogie_meaning.specs.Values.{default_of, IsEnvironment, IsReducedChoice}
+use Rattle.boogie_tree.specs.Values.{AreKeys, are_keys, default_of, IsEnvironment, IsReducedChoice}
 use Rattle.boogie_meaning.specs.Types.{IsTyped, is_typed}
-use Rattle.boogie_meaning.specs.Run.{Run, Stops, Failed, IllTyped, brun}
+use Rattle.boogie_meaning.specs.Run.{Run, Stops, Failed, Wrong, brun}
 
 -- the types of the variables of a procedure
 abbrev pub types_of : Proc → List BType
@@ -17,11 +18,21 @@ types_of d = map (λ l. l.ty) d.locals
 
 -- ---- types
 
-abbrev pub IsTypedProc : Proc → Type 0
-IsTypedProc d = IsTyped (types_of d) d.body
+-- the indices of each map have key types
+abbrev pub HaveKeys : List BType → Type 0
+HaveKeys ls = All (λ u. AreKeys u.keys) ls
+
+-- the same as a test
+abbrev pub have_keys : List BType → Truth
+have_keys ls = list_all (λ u. are_keys u.keys) ls
+
+-- the types of the variables are types, and each statement is well-typed
+pub record IsTypedProc (d : Proc) : Type 0 where
+  pub keys : HaveKeys (types_of d)
+  pub body : IsTyped (types_of d) d.body
 
 abbrev pub is_typed_proc : Proc → Truth
-is_typed_proc d = is_typed (types_of d) d.body
+is_typed_proc d = have_keys (types_of d) && is_typed (types_of d) d.body
 
 -- each procedure is well-typed
 abbrev pub IsTypedProgram : BProgram → Type 0
@@ -70,7 +81,7 @@ pub record BoogieFails (program : BProgram) (name : List ℕ) (label : Label) : 
   pub left : List BChoice
   pub fails : brun_proc Unbounded procedure environment choices ≡ Stops (Failed label) left
 
--- no run of a procedure, from any values of its variables and by any choices, with the bound or without it, is ill-typed
+-- no run of a procedure, from any values of its variables and by any choices, with the bound or without it, is Wrong
 abbrev pub NeverWrong : BProgram → Type 0
 NeverWrong program = (b : Bound) (n : ℕ) (d : Proc) (env : List BValue) (cs left : List BChoice) → slice_get program.procs n ≡ Some d →
-    IsEnvironment (types_of d) env → All IsReducedChoice cs → brun_proc b d env cs ≡ Stops IllTyped left → ⊥
+    IsEnvironment (types_of d) env → All IsReducedChoice cs → brun_proc b d env cs ≡ Stops Wrong left → ⊥

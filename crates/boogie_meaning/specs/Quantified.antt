@@ -7,7 +7,7 @@ use Rattle.boogie_tree.specs.Expr as t
 use Rattle.boogie_tree.specs.Value.{Key, BScalar, BValue, One}
 use Rattle.boogie_tree.specs.declared.exprs.BBase.{BBase}
 use Rattle.boogie_meaning.specs.Ends.{End, Is, Wrong, then_with, found}
-use Rattle.boogie_meaning.specs.Values.{FitsKey}
+use Rattle.boogie_tree.specs.Values.{FitsKey}
 use Rattle.boogie_meaning.specs.Operators.{as_truth, as_bool}
 use Rattle.boogie_meaning.specs.Value.{Scope, value, values, body_at}
 use Rattle.boogie_meaning.specs.Forall.{IsForall}

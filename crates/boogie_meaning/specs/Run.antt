@@ -9,8 +9,9 @@ use Rattle.boogie_tree.specs.Stmt as s
 use Rattle.boogie_tree.specs.Program.{BType}
 use Rattle.boogie_tree.specs.Value.{Key, BScalar, same_scalar, BValue, One, Many, Entry, BChoice, Pick, Value, Entries}
 use Rattle.boogie_tree.specs.declared.exprs.BBase.{BBase}
-use Rattle.boogie_meaning.specs.Ends.{End, Is, Over, Wrong, found}
-use Rattle.boogie_meaning.specs.Values.{same_base, base_of_scalar, default_of, fits_key}
+use Rattle.boogie_meaning.specs.Ends as ends
+use Rattle.boogie_meaning.specs.Ends.{End, Is, found}
+use Rattle.boogie_tree.specs.Values.{same_base, base_of_scalar, default_of, fits_key}
 use Rattle.boogie_meaning.specs.Operators.{as_truth}
 use Rattle.boogie_meaning.specs.Value.{the_map}
 use Rattle.boogie_meaning.specs.Quantified.{bvalue, bkey, side}
@@ -24,9 +25,9 @@ pub data Stop : Type 0 where
   -- a choice is missing
   Short : Stop
   -- a number or a content leaves the bound
-  Exceeds : Stop
+  Over : Stop
   -- an operand has the wrong type
-  IllTyped : Stop
+  Wrong : Stop
 
 -- how a run ends, with the choices that are left
 pub data Run : Type 0 where
@@ -38,8 +39,8 @@ pub data Run : Type 0 where
 -- with what is evaluated
 abbrev pub with_end : {X : Type 0} → End X → List BChoice → (X → Run) → Run
 with_end (Is x) cs go = go x
-with_end Over cs go = Stops Exceeds cs
-with_end Wrong cs go = Stops IllTyped cs
+with_end ends.Over cs go = Stops Over cs
+with_end ends.Wrong cs go = Stops Wrong cs
 
 abbrev pub with_truth : End BScalar → List BChoice → (Truth → Run) → Run
 with_truth e cs go = with_end (as_truth e) cs go
@@ -121,8 +122,8 @@ is_short (Done env cs) = false
 is_short (Stops (Failed l) cs) = false
 is_short (Stops Blocked cs) = false
 is_short (Stops Short cs) = true
-is_short (Stops Exceeds cs) = false
-is_short (Stops IllTyped cs) = false
+is_short (Stops Over cs) = false
+is_short (Stops Wrong cs) = false
 
 -- the same end, with more choices left
 abbrev pub with_more : List BChoice → Run → Run

@@ -7,7 +7,7 @@ use Rattle.boogie_tree.specs.declared.exprs.BBase.{BBase}
 use Rattle.boogie_tree.specs.declared.exprs.BBase.TheVariants as base
 use Rattle.boogie_tree.specs.declared.exprs.BOp.{BOp}
 use Rattle.boogie_tree.specs.declared.exprs.BOp.TheVariants as op
-use Rattle.boogie_meaning.specs.Values.{same_base, same_bases, same_type, is_key, plain_type, map_type}
+use Rattle.boogie_tree.specs.Values.{same_base, same_bases, same_type, is_key, plain_type, map_type, AreKeys, are_keys}
 
 -- the type of the value of an operator whose two operands have this type, if it takes them
 abbrev pub answer_of : BOp → BBase → Option BBase
@@ -56,7 +56,7 @@ mutual
     not_ : {o : _} {a : t.BExpr} → HasType ls o a base.Bool → HasType ls o (t.Not a) base.Bool
     binary : {o : _} {p : BOp} {a b : t.BExpr} {u w : BBase} → answer_of p u ≡ Some w → HasType ls o a u → HasType ls o b u → HasType ls o (t.Bin p a b) w
     choose : {o : _} {c a b : t.BExpr} {u : BBase} → HasType ls o c base.Bool → HasType ls o a u → HasType ls o b u → HasType ls o (t.If c a b) u
-    forall_ : {us : List BBase} {a : t.BExpr} → HasType ls (Some us) a base.Bool → HasType ls None (t.Forall us a) base.Bool
+    forall_ : {us : List BBase} {a : t.BExpr} → AreKeys us → HasType ls (Some us) a base.Bool → HasType ls None (t.Forall us a) base.Bool
     to_real : {o : _} {a : t.BExpr} → HasType ls o a base.Int → HasType ls o (t.ToReal a) base.Real
     s_int : {o : _} {a : t.BExpr} → HasType ls o a base.Int → HasType ls o (t.SInt a) base.Snap
     s_bool : {o : _} {a : t.BExpr} → HasType ls o a base.Bool → HasType ls o (t.SBool a) base.Snap
@@ -128,7 +128,7 @@ abbrev mutual
   base_of ls o (t.Bin p a b) = then_some (base_of ls o a) (λ u. then_some (base_of ls o b) (λ w. then_some (given u u w) (answer_of p)))
   base_of ls o (t.If c a b) = then_some (base_of ls o c) (λ w. then_some (given base.Bool base.Bool w) (λ p. then_some (base_of ls o a) (λ u. then_some (base_of ls o b) (given u u))))
   base_of ls (Some ws) (t.Forall us a) = None
-  base_of ls None (t.Forall us a) = then_some (base_of ls (Some us) a) (given base.Bool base.Bool)
+  base_of ls None (t.Forall us a) = if are_keys us then then_some (base_of ls (Some us) a) (given base.Bool base.Bool) else None
   base_of ls o (t.ToReal a) = then_some (base_of ls o a) (given base.Int base.Real)
   base_of ls o (t.SInt a) = then_some (base_of ls o a) (given base.Int base.Snap)
   base_of ls o (t.SBool a) = then_some (base_of ls o a) (given base.Bool base.Snap)

@@ -12,7 +12,7 @@ ghost use Rattle.boogie_tree.specs.Value.{Key, BScalar, same_scalar, BValue, BCh
 ghost use Rattle.boogie_tree.specs.declared.exprs.BBase.{BBase};
 ghost use Rattle.boogie_tree.specs.declared.exprs.BBase.TheVariants as base;
 ghost use Rattle.boogie_meaning.specs.Compared.{IsNotOver, IsBoundedBy};
-ghost use Rattle.boogie_meaning.specs.Decided.{is_listed, is_inhabited};
+ghost use Rattle.boogie_meaning.specs.Decided.{is_listed};
 ghost use Rattle.boogie_meaning.specs.Ends.{End, Keeps};
 ghost use Rattle.boogie_meaning.specs.Forall.{IsForall};
 ghost use Rattle.boogie_meaning.specs.Marked.{marked, AtMarked, AtMarkedOr};
@@ -22,7 +22,7 @@ ghost use Rattle.boogie_meaning.specs.Renamed.{renamed, renamed_in, AllVariables
 ghost use Rattle.boogie_meaning.specs.Run.{chosen, choice_for};
 ghost use Rattle.boogie_meaning.specs.Types.{HasType, HaveTypes, SideHasType, IsTyped, base_of, is_typed};
 ghost use Rattle.boogie_meaning.specs.Value.{body_at};
-ghost use Rattle.boogie_meaning.specs.Values.{default_of, FitsKey, FitsScalar, IsMapOf, IsOfType, IsEnvironment, IsReducedChoice};
+ghost use Rattle.boogie_tree.specs.Values.{AreKeys, default_of, FitsKey, FitsScalar, IsMapOf, IsOfType, IsEnvironment, IsReducedChoice};
 
 /// A quantifier has one end, which is what is true of its body at every list of keys of its type.
 pub fn a_quantifier_has_one_end()
@@ -44,7 +44,7 @@ pub fn the_marked_keys_decide_a_quantifier()
     ensures alone { (b : Bound) (us : List BBase) (a : t.BExpr) (env : List BValue) (e : End Truth)
         → ((k : Key) → FitsKey us k → is_listed (marked a env) k ≡ true) → IsForall (AtMarked a env us) (body_at b a env) e
         → IsForall (FitsKey us) (body_at b a env) e }
-    ensures missing { (us : List BBase) (a : t.BExpr) (env : List BValue) → is_inhabited us ≡ true
+    ensures missing { (us : List BBase) (a : t.BExpr) (env : List BValue) → AreKeys us
         → ((k : Key) → FitsKey us k → is_listed (marked a env) k ≡ true) → All (λ u. u ≡ base.Bool) us }
 {}
 

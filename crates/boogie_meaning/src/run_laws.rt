@@ -10,7 +10,7 @@ ghost use Rattle.boogie_meaning.specs.Kept.{KeepsTypes};
 ghost use Rattle.boogie_meaning.specs.Programs.{IsTypedProgram, NeverWrong};
 ghost use Rattle.boogie_meaning.specs.Run.{brun, is_short, with_more};
 ghost use Rattle.boogie_meaning.specs.Types.{IsTyped};
-ghost use Rattle.boogie_meaning.specs.Values.{IsEnvironment, IsReducedChoice};
+ghost use Rattle.boogie_tree.specs.Values.{IsEnvironment, IsReducedChoice};
 
 /// Choices that are left over do not change the end of a run.
 pub fn choices_left_over_change_nothing()

@@ -1,9 +1,9 @@
 -- The ways to go on with an answer, one lemma for each.
-use Rattle.std.proofs.Common.{◌≡◌, refl, sym, ap, ◌∙◌, subst, Bool, true, false, Result, Ok, Err, IfErr, IsErrAnd, if◌then◌else◌}
+use Rattle.std.proofs.Common.{◌≡◌, refl, sym, ap, ◌∙◌, subst, Bool, true, false, Result, Ok, Err, IfErr, IsErrAnd}
 use Rattle.std.proofs.lemmas.Result.{err_from_is_err_and}
 use Rattle.vb_value.specs.Bound.{Bounded, value_if}
 use Rattle.vb_value.specs.declared.numbers.Over as numbers
-use Rattle.boogie_meaning.specs.Ends.{End, Is, Over, Wrong, then_with, fitting}
+use Rattle.boogie_meaning.specs.Ends.{End, Is, then_with, fitting}
 use Rattle.boogie_run.specs.Answers.{Answers, no_memory, is, over, wrong}
 use Rattle.boogie_run.specs.declared.eval_ends.Miss.{Miss}
 use Rattle.boogie_run.specs.declared.eval_ends.Miss.TheVariants as miss

@@ -1,5 +1,5 @@
 -- The parts so far, and then those of the indices that are left.
-use Rattle.std.proofs.Common.{◌≡◌, refl, sym, ap, ◌∙◌, ℕ, ◌+◌, ◌<◌, ◌≤◌, length, drop, get_or, List, [], ◌∷◌, ◌++◌, append_assoc, Result, Ok, Err}
+use Rattle.std.proofs.Common.{◌≡◌, refl, sym, ap, ◌∙◌, ℕ, ◌+◌, ◌<◌, ◌≤◌, length, drop, get_or, List, [], ◌∷◌, ◌++◌, append_assoc, Ok, Err}
 use Rattle.std.proofs.lemmas.List.{append-nil}
 use Rattle.vb_value.specs.Bound.{Bounded}
 use Rattle.vb_value.specs.declared.keys.KeyPart.{KeyPart}
@@ -9,7 +9,7 @@ use Rattle.boogie_tree.specs.declared.exprs.BExpr as expr
 use Rattle.boogie_meaning.specs.Ends.{End, Is, Over, Wrong, then_with}
 use Rattle.boogie_meaning.specs.Operators.{part_of}
 use Rattle.boogie_meaning.specs.Value.{Scope, value, values}
-use Rattle.boogie_run.specs.Answers.{Answers, is}
+use Rattle.boogie_run.specs.Answers.{Answers}
 use Rattle.boogie_run.specs.declared.eval_ends.Miss.{Miss}
 use Rattle.boogie_run.proofs.AnswerLaws.{the_value, same_answers, stops_then}
 use Rattle.boogie_run.proofs.ListLaws.{item_at, none_at}

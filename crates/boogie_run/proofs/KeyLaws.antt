@@ -7,7 +7,7 @@ use Rattle.boogie_tree.specs.Value.{Key}
 use Rattle.boogie_tree.specs.declared.exprs.BBase.{BBase}
 use Rattle.boogie_tree.specs.declared.exprs.BBase.TheVariants as base
 use Rattle.boogie_meaning.specs.Decided.{is_listed, finds}
-use Rattle.boogie_meaning.specs.Values.{fits_key}
+use Rattle.boogie_tree.specs.Values.{fits_key}
 use Rattle.boogie_run.proofs.ListLaws.{none_at}
 
 -- ---- the end of a key

@@ -1,6 +1,5 @@
 mod AnswerLaws
 mod BlockLaws
-mod EvalNodeLaws
 mod IndexLaws
 mod KeyLaws
 mod ListLaws
@@ -12,7 +11,8 @@ mod OperatorLaws
 mod RunStepLaws
 mod RunWithinLaws
 mod SearchLaws
-mod SettingLaws
-mod StartLaws
+mod SetLaws
+pub mod SettingLaws
+pub mod StartLaws
 mod TypingLaws
 mod WithinLaws

@@ -1,5 +1,5 @@
 -- Maps of the program as plain data.
-use Rattle.std.proofs.Common.{◌≡◌, refl, sym, ap, ◌∙◌, List, [], ◌∷◌, map}
+use Rattle.std.proofs.Common.{◌≡◌, refl, sym, ap, List, [], ◌∷◌, map}
 use Rattle.std.specs.Map.{keys_of}
 use Rattle.std.specs.Ordering.{on}
 use Rattle.sparse.specs.Map.{Map, keys, set, IsSame, ClonesAreEqual}

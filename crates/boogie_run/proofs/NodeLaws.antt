@@ -45,8 +45,11 @@ module _ {e : expr.BExpr} where
   at_is {m = m} v is same = ap expr_of is ∙ expr_of-At m v ∙ ap (λ es. t.At m (exprs_of es)) (sym same)
 
 module _ {x : stmt.BStmt} where
-  pub block_is : {e : expr.BExpr} (v w : Vec stmt.BStmt Global) {xs ys : List stmt.BStmt} → x ≡ stmt.If e v w → xs ≡ v.items → ys ≡ w.items → stmt_of x ≡ s.If (expr_of e) (stmts_of xs) (stmts_of ys)
-  block_is {e = e} v w is same other = ap stmt_of is ∙ stmt_of-If e v w ∙ (λ i. s.If (expr_of e) (stmts_of (sym same i)) (stmts_of (sym other i)))
+  pub put_is : {i : ℕ} {e : expr.BExpr} (v : Vec expr.BExpr Global) {es : List expr.BExpr} → x ≡ stmt.Put i v e → es ≡ v.items → stmt_of x ≡ s.Put i (exprs_of es) (expr_of e)
+  put_is {i = i} {e = e} v is same = ap stmt_of is ∙ ap (λ es. s.Put i (exprs_of es) (expr_of e)) (sym same)
+
+  pub if_stmt_is : {e : expr.BExpr} (v w : Vec stmt.BStmt Global) {xs ys : List stmt.BStmt} → x ≡ stmt.If e v w → xs ≡ v.items → ys ≡ w.items → stmt_of x ≡ s.If (expr_of e) (stmts_of xs) (stmts_of ys)
+  if_stmt_is {e = e} v w is same other = ap stmt_of is ∙ stmt_of-If e v w ∙ (λ i. s.If (expr_of e) (stmts_of (sym same i)) (stmts_of (sym other i)))
 
   pub either_is : (v w : Vec stmt.BStmt Global) {xs ys : List stmt.BStmt} → x ≡ stmt.Either v w → xs ≡ v.items → ys ≡ w.items → stmt_of x ≡ s.Either (stmts_of xs) (stmts_of ys)
   either_is v w is same other = ap stmt_of is ∙ stmt_of-Either v w ∙ (λ i. s.Either (stmts_of (sym same i)) (stmts_of (sym other i)))

@@ -1,5 +1,5 @@
 -- Operators in steps.
-use Rattle.std.proofs.Common.{◌≡◌, refl, sym, ap, ◌∙◌, Bool as Truth, true, false, Option, Some, None, Err, if◌then◌else◌}
+use Rattle.std.proofs.Common.{◌≡◌, refl, ap, Bool as Truth, true, false, Option, Some, None, Err, if◌then◌else◌}
 use Rattle.std.specs.declared.cmp.Ordering.{Ordering}
 use Rattle.vb_value.specs.Bound.{Bounded}
 use Rattle.boogie_tree.specs.Value.{BScalar, Int, Bool, Ref, Real, Snap}
@@ -7,7 +7,7 @@ use Rattle.boogie_tree.specs.declared.exprs.BOp.{BOp}
 use Rattle.boogie_meaning.specs.Ends.{End, Is, Over, Wrong, then_with, fitting}
 use Rattle.boogie_meaning.specs.Operators.{truth_of, as_truth, as_bool, is_lazy, settled, settled_or, plain, compared, binary}
 use Rattle.boogie_tree.specs.Whole.{scalar_of}
-use Rattle.boogie_run.specs.Answers.{Answers, no_memory, is, over, wrong}
+use Rattle.boogie_run.specs.Answers.{Answers, no_memory, over, wrong}
 use Rattle.boogie_run.specs.declared.eval_ends.Miss.{Miss}
 use Rattle.boogie_run.specs.Lazy.{settled_by, combined}
 use Rattle.boogie_run.specs.Operands.{operands, order_in}

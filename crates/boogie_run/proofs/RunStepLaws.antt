@@ -1,17 +1,14 @@
 -- The ways to go on with a run, one lemma for each.
-use Rattle.std.proofs.Common.{◌≡◌, refl, sym, ap, ◌∙◌, subst, Bool as Truth, true, false, List, Result, Ok, Err, IsErrAnd, if◌then◌else◌}
+use Rattle.std.proofs.Common.{◌≡◌, sym, ap, ◌∙◌, subst, List, Result, Ok, Err, IsErrAnd}
 use Rattle.std.proofs.lemmas.Result.{err_from_is_err_and}
 use Rattle.boogie_tree.specs.Value.{BValue, BChoice}
 use Rattle.boogie_meaning.specs.Ends.{End}
-use Rattle.boogie_meaning.specs.Run as m
-use Rattle.boogie_meaning.specs.Run.{Run, Done, Stops, with_end, then_run}
+use Rattle.boogie_meaning.specs.Run.{Run, Done, with_end, then_run}
 use Rattle.boogie_run.specs.Answers.{Answers, no_memory, is, over, wrong}
 use Rattle.boogie_run.specs.Runs as runs
 use Rattle.boogie_run.specs.Runs.{Runs, done, stops, Takes, halted, why}
 use Rattle.boogie_run.specs.declared.eval_ends.Miss.{Miss}
-use Rattle.boogie_run.specs.declared.replay_ends.Stop.{Stop}
 use Rattle.boogie_run.specs.declared.replay_ends.Halt.{Halt}
-use Rattle.boogie_run.specs.declared.replay_ends.Halt.TheVariants as halt
 
 pub same_run : {r q : Run} {env : List BValue} {left : List BChoice} {a : Result (Unit {0}) Halt} → r ≡ q → Runs q env left a → Runs r env left a
 same_run same runs.no_memory = runs.no_memory

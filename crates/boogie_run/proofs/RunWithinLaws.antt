@@ -1,7 +1,7 @@
 -- A run keeps all numbers within the bound.
-use Rattle.std.proofs.Common.{◌≡◌, refl, sym, ap, ◌∙◌, subst, arith, ℕ, zero, suc, ◌<◌, length, get_or, Bool as Truth, true, false, Option, Some, None, List, [], ◌∷◌, All, slice_get, slice_set, Result, Ok, if◌then◌else◌}
+use Rattle.std.proofs.Common.{◌≡◌, refl, subst, arith, ℕ, zero, suc, ◌<◌, length, get_or, Bool as Truth, true, false, Option, Some, None, List, [], ◌∷◌, All, slice_get, slice_set, Ok, if◌then◌else◌}
 use Rattle.std.proofs.lemmas.List.Elements.{All-nil, All-head, All-tail, All-set}
-use Rattle.sparse.specs.Map.{Map, empty, get, set, values as map_values}
+use Rattle.sparse.specs.Map.{Map, empty, set}
 use Rattle.sparse.proofs.MapLaws.{All-values-set}
 use Rattle.vb_value.specs.Bound.{Bounded}
 use Rattle.vb_value.specs.Key.{key_cmp}
@@ -18,10 +18,9 @@ use Rattle.boogie_meaning.specs.Operators.{as_truth}
 use Rattle.boogie_meaning.specs.Quantified.{side, bvalue, bkey, outside, one_of}
 use Rattle.boogie_meaning.specs.Run.{Run, Done, Stops, Blocked, Failed, with_end, unless_blocked, with_choice, then_run, picked, chosen, chosen_by, filled, fits_entries, brun_stmt, brun}
 use Rattle.boogie_meaning.specs.Value.{the_map}
-use Rattle.boogie_meaning.specs.Values.{default_of, same_base, base_of_scalar}
+use Rattle.boogie_tree.specs.Values.{default_of, same_base, base_of_scalar}
 use Rattle.boogie_run.specs.Ready.{IsReady, KeepsReady}
 use Rattle.boogie_run.specs.Runs.{Runs, done, Takes, goes}
-use Rattle.boogie_run.specs.View.{scope_of}
 use Rattle.boogie_run.specs.Within.{IsWithinScalar, IsWithinValue, IsWithinEntry, IsWithinChoice, IsWithinExpr, IsWithinStmt, AreWithinStmts, Gives}
 use Rattle.boogie_run.specs.declared.eval_values.Scope.TheVariants as scope
 use Rattle.boogie_run.proofs.WithinLaws.{then_gives, found_gives, the_map_gives, value_gives, scope_within}

@@ -4,13 +4,13 @@ use Rattle.vb_value.specs.Bound.{Bounded}
 use Rattle.boogie_tree.specs.Expr as t
 use Rattle.boogie_tree.specs.Value.{Key, BValue}
 use Rattle.boogie_tree.specs.declared.exprs.BBase.{BBase}
-use Rattle.boogie_meaning.specs.Decided.{worst, scan, searched, decided}
+use Rattle.boogie_meaning.specs.Decided.{worst, scan, is_listed, decided}
 use Rattle.boogie_meaning.specs.Ends.{End, Is, Over, Wrong}
 use Rattle.boogie_meaning.specs.Marked.{marked, elsewhere, value_off}
 use Rattle.boogie_meaning.specs.Operators.{as_truth}
 use Rattle.boogie_meaning.specs.Quantified.{quantified}
 use Rattle.boogie_meaning.specs.Value.{value, body_at}
-use Rattle.boogie_meaning.specs.Values.{fits_key}
+use Rattle.boogie_tree.specs.Values.{fits_key}
 use Rattle.boogie_meaning.proofs.ForallLaws.{one_forall}
 use Rattle.boogie_run.specs.Searched.{end_elsewhere, with_key, with_keys}
 
@@ -59,10 +59,11 @@ pub with_keys_is : (us : List BBase) (body : Key → End Truth) (ks : List Key) 
 with_keys_is us body [] e = worst_true e
 with_keys_is us body (k ∷ ks) e = with_keys_is us body ks (with_key us body k e) ∙ in_turn (fits_key us k) (body k) (scan us body ks) e
 
-pub quantified_is : (us : List BBase) (a : t.BExpr) (env : List BValue) (ks : List Key) → ks ≡ marked a env →
+-- any list of the keys that are marked serves
+pub quantified_is : (us : List BBase) (a : t.BExpr) (env : List BValue) (ks : List Key) → ((k : Key) → is_listed ks k ≡ is_listed (marked a env) k) →
     (quantified Bounded us a env).0 ≡ with_keys us (body_at Bounded a env) ks (end_elsewhere us a env ks)
-quantified_is us a env ks is =
+quantified_is us a env ks same =
     let body = body_at Bounded a env in
     let rest = as_truth (value Bounded elsewhere a env) in
-    one_forall (quantified Bounded us a env).1 (decided us body (marked a env) rest (λ k f h. ap as_truth (value_off Bounded a env k h))) ∙
-    ap (λ ks. searched us body ks rest) (sym is) ∙ sym (with_keys_is us body ks (end_elsewhere us a env ks))
+    one_forall (quantified Bounded us a env).1 (decided us body ks rest (λ k f h. ap as_truth (value_off Bounded a env k (sym (same k) ∙ h)))) ∙
+    sym (with_keys_is us body ks (end_elsewhere us a env ks))

@@ -1,10 +1,10 @@
 -- Settings of their types make an environment.
-use Rattle.std.proofs.Common.{◌≡◌, List, [], ◌∷◌, All, map, slice_set}
+use Rattle.std.proofs.Common.{List, [], ◌∷◌, All, map, slice_set}
 use Rattle.std.proofs.lemmas.List.Elements.{All-head, All-tail}
 use Rattle.boogie_tree.specs.Program.{BType}
 use Rattle.boogie_tree.specs.Value.{BValue, BSetting}
 use Rattle.boogie_meaning.specs.Programs.{default_value}
-use Rattle.boogie_meaning.specs.Values.{IsEnvironment}
+use Rattle.boogie_tree.specs.Values.{IsEnvironment}
 use Rattle.boogie_meaning.proofs.ValueLaws.{default_typed, stored_typed}
 use Rattle.boogie_run.specs.Start.{FitsSetting, with_settings, start_of}
 

@@ -1,4 +1,4 @@
--- Where a run begins, and that it is never ill-typed.
+-- Where a run begins, and that it is never Wrong.
 use Rattle.std.proofs.Common.{◌≡◌, refl, sym, ap, ◌∙◌, arith, ℕ, zero, suc, ◌<◌, length, get_or, List, [], ◌∷◌, Option, Some, Err, map, slice_get}
 use Rattle.std.specs.Option.{option_map}
 use Rattle.std.proofs.lemmas.Option.{slice_get-map}
@@ -7,7 +7,7 @@ use Rattle.boogie_tree.specs.Value.{BValue, BChoice}
 use Rattle.boogie_tree.specs.Whole.{type_of, locals_of, proc_of}
 use Rattle.boogie_tree.specs.declared.programs.Local.{Local}
 use Rattle.boogie_tree.specs.declared.programs.Proc.{Proc}
-use Rattle.boogie_meaning.specs.Kept.{KeepsTypes, done, failed, blocked, short, exceeds}
+use Rattle.boogie_meaning.specs.Kept.{KeepsTypes, done, failed, blocked, short, over}
 use Rattle.boogie_meaning.specs.Run as m
 use Rattle.boogie_meaning.specs.Run.{Run, Stops}
 use Rattle.boogie_run.specs.Runs as runs
@@ -21,15 +21,15 @@ pub types_are : (ls : List Local) → types_in ls ≡ map (λ (l : p.Local). l.t
 types_are [] = refl
 types_are (l ∷ ls) = ap (λ us. type_of l.ty ∷ us) (types_are ls)
 
-ill_typed_never : {ls : List p.BType} {r : Run} (cs : List BChoice) → KeepsTypes ls r → r ≡ Stops m.IllTyped cs → ⊥
-ill_typed_never cs (done h q) e = absurd (cc)
-ill_typed_never cs failed e = absurd (cc)
-ill_typed_never cs blocked e = absurd (cc)
-ill_typed_never cs short e = absurd (cc)
-ill_typed_never cs exceeds e = absurd (cc)
+wrong_ended : {ls : List p.BType} {r : Run} (cs : List BChoice) → KeepsTypes ls r → r ≡ Stops m.Wrong cs → ⊥
+wrong_ended cs (done h q) e = absurd (cc)
+wrong_ended cs failed e = absurd (cc)
+wrong_ended cs blocked e = absurd (cc)
+wrong_ended cs short e = absurd (cc)
+wrong_ended cs over e = absurd (cc)
 
 pub wrong_never : {ls : List p.BType} {r : Run} {env : List BValue} {left : List BChoice} → KeepsTypes ls r → Runs r env left (Err (halt.Stops stop.Wrong)) → ⊥
-wrong_never {left = left} k (runs.stops h) = ill_typed_never left k h
+wrong_never {left = left} k (runs.stops h) = wrong_ended left k h
 
 pub proc_there : (ds : List Proc) (n : ℕ) (d : Proc) → slice_get ds n ≡ Some d → slice_get (map proc_of ds) n ≡ Some (proc_of d)
 proc_there ds n d h = slice_get-map proc_of ds n ∙ ap (option_map proc_of) h

@@ -4,14 +4,15 @@ use Rattle.std.proofs.lemmas.Bool.{false_from_ne_true}
 use Rattle.std.proofs.lemmas.Bool.Decides.{Decides-eqb}
 use Rattle.boogie_tree.specs.declared.exprs.BBase.{BBase}
 use Rattle.std.specs.Option.{option_map}
-use Rattle.boogie_tree.specs.Whole.{stmts_of, type_of, locals_of, proc_of}
+use Rattle.boogie_tree.specs.Whole.{stmts_of, proc_of}
 use Rattle.boogie_tree.specs.declared.programs.Local.{Local}
 use Rattle.boogie_tree.specs.declared.programs.Proc.{Proc}
 use Rattle.boogie_tree.specs.declared.stmts.BStmt.{BStmt}
-use Rattle.boogie_meaning.specs.Programs.{is_typed_proc, ill_typed_among}
+use Rattle.boogie_meaning.specs.Programs.{have_keys, is_typed_proc, ill_typed_among}
 use Rattle.boogie_meaning.specs.Types.{is_typed}
 use Rattle.boogie_run.specs.Typed.{types_in}
-use Rattle.boogie_meaning.specs.Values.{same_bases}
+use Rattle.boogie_run.proofs.StartLaws.{types_are}
+use Rattle.boogie_tree.specs.Values.{same_bases}
 
 ended-step : (n : ℕ) (ws d : List BBase) → n ≤ length ws → length d ≡ length ws - n → same_bases [] d ≡ nat_eq n (length ws)
 ended-step n ws [] h e = sym ((Decides-eqb n (length ws)).1 (omega (arith, h, e)))
@@ -34,13 +35,12 @@ number_after n (Some m) = ap Some (omega arith)
 
 -- ---- procedures
 
-types_in_is : (ls : List Local) → types_in ls ≡ map (λ l. l.ty) (locals_of ls)
-types_in_is [] = refl
-types_in_is (l ∷ ls) = ap (λ us. type_of l.ty ∷ us) (types_in_is ls)
-
--- what is told of the body of a procedure
-pub proc_is : (d : Proc) {ls : List Local} {xs : List BStmt} → ls ≡ d.locals.items → xs ≡ d.body.items → is_typed (types_in ls) (stmts_of xs) ≡ is_typed_proc (proc_of d)
-proc_is d h g = (λ i. is_typed (types_in (h i)) (stmts_of (g i))) ∙ ap (λ us. is_typed us (stmts_of d.body.items)) (types_in_is d.locals.items)
+-- what is told of the locals and the body of a procedure
+pub proc_is : (d : Proc) {ks ls : List Local} {xs : List BStmt} → ks ≡ d.locals.items → ls ≡ d.locals.items → xs ≡ d.body.items →
+    (have_keys (types_in ks) && is_typed (types_in ls) (stmts_of xs)) ≡ is_typed_proc (proc_of d)
+proc_is d f h g =
+    (λ i. have_keys (types_in (f i)) && is_typed (types_in (h i)) (stmts_of (g i)))
+    ∙ ap (λ us. have_keys us && is_typed us (stmts_of d.body.items)) (types_are d.locals.items)
 
 pub at_ill_typed : (n : ℕ) (d : Proc) (ds : List Proc) → is_typed_proc (proc_of d) ≡ false → option_map (λ m. n + m) (ill_typed_among (map proc_of (d ∷ ds))) ≡ Some (n + 1)
 at_ill_typed n d ds h = rw h refl

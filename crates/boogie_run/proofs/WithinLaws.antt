@@ -1,12 +1,12 @@
 -- What is evaluated within the bound is within the bound.
-use Rattle.std.proofs.Common.{◌≡◌, refl, sym, ap, ◌∙◌, subst, arith, ℕ, zero, suc, ◌/◌, ◌<◌, length, get_or, ℤ, pos, negsuc, neg_ℤ, ◌+ℤ◌, ◌-ℤ◌, ◌*ℤ◌, Bool as Truth, true, false, not, Option, Some, None, Result, IfOk, List, [], ◌∷◌, All, slice_get, if◌then◌else◌}
+use Rattle.std.proofs.Common.{◌≡◌, refl, subst, arith, ℕ, zero, suc, ◌/◌, ◌<◌, length, get_or, ℤ, pos, negsuc, neg_ℤ, ◌+ℤ◌, ◌-ℤ◌, ◌*ℤ◌, Bool as Truth, true, false, not, Option, Some, None, Result, IfOk, List, [], ◌∷◌, All, slice_get, if◌then◌else◌}
 use Rattle.std.proofs.lemmas.Int.{ints}
 use Rattle.std.proofs.lemmas.List.Elements.{All-head, All-tail}
 use Rattle.std.proofs.Math.Nat.{div-le_self}
 use Rattle.std.specs.Int.{int_div_euclid, int_rem_euclid}
 use Rattle.std.specs.Ordering.{int_eq, is_lt, is_le, is_gt, is_ge}
 use Rattle.std.specs.declared.cmp.Ordering.{Ordering}
-use Rattle.sparse.specs.Map.{Map, get, values as map_values}
+use Rattle.sparse.specs.Map.{Map, get}
 use Rattle.sparse.proofs.MapLaws.{get-All}
 use Rattle.vb_value.specs.Bound.{Bounded, IsWithin, is_within}
 use Rattle.vb_value.specs.Fraction.{Fraction, is_none, none, quotient, fits_quotient}

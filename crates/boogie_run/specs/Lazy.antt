@@ -1,5 +1,5 @@
 -- Operators in steps: what the left side alone tells, and then the rest.
-use Rattle.std.specs.Prelude.{Bool as Truth, true, false, Option, Some, None, if◌then◌else◌}
+use Rattle.std.specs.Prelude.{Bool as Truth, Option, None, if◌then◌else◌}
 use Rattle.std.specs.Ordering.{is_lt, is_le, is_gt, is_ge}
 use Rattle.std.specs.declared.cmp.Ordering.{Ordering}
 use Rattle.vb_value.specs.Bound.{Bounded}

@@ -4,8 +4,8 @@ use Rattle.std.specs.Ordering.{int_cmp, int_eq}
 use Rattle.std.specs.declared.cmp.Ordering.{Ordering}
 use Rattle.vb_value.specs.Bound.{Bounded, IsWithin, is_within}
 use Rattle.vb_value.specs.Fraction.{none, is_none, sum, difference, product, quotient, order, fits_sum, fits_difference, fits_product, fits_quotient, fits_order}
-use Rattle.boogie_tree.specs.Value.{BScalar, Int, Bool, Ref, Real, Snap, same_scalar}
-use Rattle.boogie_meaning.specs.Values.{same_base, base_of_scalar}
+use Rattle.boogie_tree.specs.Value.{BScalar, Int, Real, same_scalar}
+use Rattle.boogie_tree.specs.Values.{same_base, base_of_scalar}
 use Rattle.boogie_meaning.specs.Ends.{End, Is, Wrong, fitting}
 use Rattle.boogie_run.specs.declared.eval_operators.Operands.{Operands}
 use Rattle.boogie_run.specs.declared.eval_operators.Operands.TheVariants.{Ints, Reals, Mixed}

@@ -1,5 +1,5 @@
 -- What a run needs, so that it can be computed.
-use Rattle.std.specs.Prelude.{⊤, List, All}
+use Rattle.std.specs.Prelude.{List, All}
 use Rattle.boogie_tree.specs.Value.{BValue, BChoice}
 use Rattle.boogie_meaning.specs.Run.{Run, Done, Stops}
 use Rattle.boogie_run.specs.Within.{IsWithinValue, IsWithinChoice}

@@ -20,8 +20,8 @@ abbrev pub why : Stop → m.Stop
 why (stop.Failed l) = m.Failed l
 why stop.Blocked = m.Blocked
 why stop.Short = m.Short
-why stop.Over = m.Exceeds
-why stop.Wrong = m.IllTyped
+why stop.Over = m.Over
+why stop.Wrong = m.Wrong
 
 -- The run ended so, with this environment where it is done, and these choices are left. Nothing is said where memory was refused.
 pub data Runs (r : Run) (env : List BValue) (left : List BChoice) : Result (Unit {0}) Halt → Type 0 where

@@ -1,5 +1,6 @@
 -- The search of a quantifier in the order of the code.
-use Rattle.std.specs.Prelude.{Bool as Truth, true, List, [], ◌∷◌, if◌then◌else◌}
+use Rattle.std.specs.Prelude.{◌≡◌, Bool as Truth, true, false, List, [], ◌∷◌, if◌then◌else◌}
+use Rattle.sparse.specs.Map.{Map}
 use Rattle.vb_value.specs.Bound.{Bounded}
 use Rattle.boogie_tree.specs.Expr as t
 use Rattle.boogie_tree.specs.Value.{Key, BValue}
@@ -9,7 +10,11 @@ use Rattle.boogie_meaning.specs.Ends.{End, Is}
 use Rattle.boogie_meaning.specs.Marked.{elsewhere}
 use Rattle.boogie_meaning.specs.Operators.{as_truth}
 use Rattle.boogie_meaning.specs.Value.{value}
-use Rattle.boogie_meaning.specs.Values.{fits_key}
+use Rattle.boogie_tree.specs.Values.{fits_key}
+
+-- A map that is true at the keys of a set, and false elsewhere.
+abbrev pub IsSet : Map Key Truth → Type 0
+IsSet m = m.default ≡ false
 
 -- the end at the keys that are not listed
 abbrev pub end_elsewhere : List BBase → t.BExpr → List BValue → List Key → End Truth

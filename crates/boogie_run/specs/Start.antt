@@ -3,8 +3,8 @@ use Rattle.std.specs.Prelude.{◌≡◌, ℕ, List, [], ◌∷◌, All, map, Opt
 use Rattle.boogie_tree.specs.Program.{BType, Proc, BProgram}
 use Rattle.boogie_tree.specs.Value.{BValue, BSetting, BRun}
 use Rattle.boogie_meaning.specs.Programs.{types_of, default_value}
-use Rattle.boogie_meaning.specs.Run.{Run, Done, Stops, Failed, Blocked, Short, Exceeds, IllTyped}
-use Rattle.boogie_meaning.specs.Values.{IsEnvironment, IsOfType, IsReducedChoice}
+use Rattle.boogie_meaning.specs.Run.{Run, Done, Stops, Failed, Blocked, Short, Over, Wrong}
+use Rattle.boogie_tree.specs.Values.{IsEnvironment, IsOfType, IsReducedChoice}
 use Rattle.boogie_run.specs.Ready.{IsReady}
 use Rattle.boogie_run.specs.Within.{AreWithinStmts}
 use Rattle.boogie_run.specs.declared.replaying.BOutcome.{BOutcome}
@@ -35,11 +35,11 @@ pub record CanRun (d : Proc) (r : BRun) : Type 0 where
 abbrev pub IsWithinProgram : BProgram → Type 0
 IsWithinProgram program = (n : ℕ) (d : Proc) → slice_get program.procs n ≡ Some d → AreWithinStmts d.body
 
--- how a run ended that is not ill-typed
+-- how a run ended that is not Wrong
 abbrev pub outcome_of : Run → Option BOutcome
 outcome_of (Done env cs) = Some outcome.Done
 outcome_of (Stops (Failed l) cs) = Some (outcome.Failed l)
 outcome_of (Stops Blocked cs) = Some outcome.Blocked
 outcome_of (Stops Short cs) = Some outcome.Short
-outcome_of (Stops Exceeds cs) = Some outcome.Over
-outcome_of (Stops IllTyped cs) = None
+outcome_of (Stops Over cs) = Some outcome.Over
+outcome_of (Stops Wrong cs) = None

@@ -6,7 +6,7 @@ use Rattle.boogie_tree.specs.declared.exprs.BBase.{BBase}
 use Rattle.boogie_tree.specs.declared.exprs.BBase.TheVariants as base
 use Rattle.boogie_tree.specs.declared.exprs.BOp.{BOp}
 use Rattle.boogie_tree.specs.declared.programs.Local.{Local}
-use Rattle.boogie_meaning.specs.Values.{same_base, same_bases, is_key, plain_type}
+use Rattle.boogie_tree.specs.Values.{same_base, same_bases, is_key, plain_type}
 use Rattle.boogie_meaning.specs.Types.{then_some, given, answer_of, indexed}
 
 -- the types of the variables

@@ -3,7 +3,9 @@
 
 ghost use Rattle.std.specs.Prelude.{◌≡◌, All, Bool, IfOk};
 ghost use Rattle.vb_value.specs.Bound.{Bounded};
+ghost use Rattle.sparse.specs.Map.{keys};
 ghost use Rattle.boogie_tree.specs.Expr as t;
+ghost use Rattle.boogie_tree.specs.Value as v;
 ghost use Rattle.boogie_tree.specs.Whole.{expr_of, exprs_of, scalar_of};
 ghost use Rattle.boogie_meaning.specs.Ends.{End};
 ghost use Rattle.boogie_meaning.specs.Decided as d;
@@ -12,7 +14,7 @@ ghost use Rattle.boogie_meaning.specs.Operators.{as_truth};
 ghost use Rattle.boogie_meaning.specs.Quantified as q;
 ghost use Rattle.boogie_meaning.specs.Value as m;
 ghost use Rattle.boogie_run.specs.Answers.{Answers};
-ghost use Rattle.boogie_run.specs.Searched.{end_elsewhere, with_key, with_keys};
+ghost use Rattle.boogie_run.specs.Searched.{IsSet, end_elsewhere, with_key, with_keys};
 ghost use Rattle.boogie_run.specs.View.{values_of, scope_of};
 ghost use Rattle.boogie_run.specs.Within.{IsWithinValue, IsWithinExpr, AreWithinExprs};
 
@@ -20,6 +22,7 @@ use crate::eval_ends::{Answer, Miss};
 use crate::eval_keys::{fits, has_other, worse};
 use crate::eval_marked::mark;
 use crate::eval_operators::{combined, open, truth, truth_of};
+use crate::eval_sets::{KeySet, set_of};
 use crate::eval_unary::{Unary, applied, as_real, fraction, negated, paired};
 use crate::eval_values::{Scope, part_of, value_at, value_at_bound, variable};
 use boogie_tree::{BBase, BExpr, BScalar, BValue};
@@ -27,13 +30,14 @@ use std::alloc::Global;
 use vb_base::Memory;
 use vb_value::{Content, Frac, Key};
 
-/// The keys that are marked in an expression.
-fn marked_keys(alloc: Global, e: &BExpr, env: &[BValue]) -> Result<Vec<Key>, Memory>
-    ensures { IfOk result (λ keys. keys.items ≡ marked (expr_of e.now) (values_of env.now)) }
+/// The keys that are marked in an expression, each of them once.
+fn marked_keys(alloc: Global, e: &BExpr, env: &[BValue]) -> Result<KeySet, Memory>
+    ensures is_set { IfOk result IsSet }
+    ensures marked { IfOk result (λ set. (k : v.Key) → d.is_listed (keys set) k ≡ d.is_listed (marked (expr_of e.now) (values_of env.now)) k) }
 {
-    let mut keys = Vec::new(alloc);
-    mark(e, env, &mut keys)?;
-    Ok(keys)
+    let mut list = Vec::new(alloc);
+    mark(e, env, &mut list)?;
+    set_of(alloc, &list)
 }
 
 /// The value of an expression.
@@ -111,9 +115,9 @@ fn quantified(alloc: Global, bases: &[BBase], a: &BExpr, env: &[BValue]) -> Resu
     requires env_within { All IsWithinValue (values_of env.now) }
     ensures { Answers (λ p. p) (q.quantified Bounded bases.now (expr_of a.now) (values_of env.now)).0 result }
 {
-    let keys = marked_keys(alloc, a, env)?;
-    let rest = elsewhere(alloc, bases, a, env, &keys);
-    at_keys(alloc, bases, a, env, &keys, rest)
+    let set = marked_keys(alloc, a, env)?;
+    let rest = elsewhere(alloc, bases, a, env, &set);
+    at_keys(alloc, bases, a, env, &set, rest)
 }
 
 /// The end of a body at the lists of keys that are not marked, where there are some.
@@ -123,13 +127,14 @@ fn elsewhere(
     bases: &[BBase],
     a: &BExpr,
     env: &[BValue],
-    keys: &[Key],
+    set: &KeySet,
 ) -> Result<bool, Miss>
     requires a_within { IsWithinExpr (expr_of a.now) }
     requires env_within { All IsWithinValue (values_of env.now) }
-    ensures { Answers (λ p. p) (end_elsewhere bases.now (expr_of a.now) (values_of env.now) keys.now) result }
+    requires is_set { IsSet set.now }
+    ensures { Answers (λ p. p) (end_elsewhere bases.now (expr_of a.now) (values_of env.now) (keys set.now)) result }
 {
-    if has_other(alloc, bases, keys)? {
+    if has_other(alloc, bases, set)? {
         truth_of(eval(alloc, a, env, Scope::Elsewhere))
     } else {
         Ok(true)
@@ -143,17 +148,17 @@ fn at_keys(
     bases: &[BBase],
     a: &BExpr,
     env: &[BValue],
-    keys: &[Key],
+    set: &KeySet,
     rest: Result<bool, Miss>,
 ) -> Result<bool, Miss>
     requires a_within { IsWithinExpr (expr_of a.now) }
     requires env_within { All IsWithinValue (values_of env.now) }
     ensures { (e : End Bool) → Answers (λ p. p) e rest → Answers (λ p. p)
-        (with_keys bases.now (m.body_at Bounded (expr_of a.now) (values_of env.now)) keys.now e) result }
+        (with_keys bases.now (m.body_at Bounded (expr_of a.now) (values_of env.now)) (keys set.now) e) result }
 {
     let mut end = rest;
-    for key in keys {
-        end = at_key(alloc, bases, a, env, key, end);
+    for i in 0..set.len() {
+        end = at_key(alloc, bases, a, env, set.key_at(i), end);
     }
     end
 }

@@ -1,13 +1,17 @@
-// Lists of keys, and whether they are all the keys of a type.
+// Keys, and whether a set has all the keys of a type.
 #![tactic(auto, using(crate::specs::Answers::is, crate::specs::Answers::over, crate::specs::Answers::wrong, crate::specs::Answers::no_memory))]
 
 ghost use Rattle.std.specs.Prelude.{◌≡◌, ◌++◌, ◌∷◌, [], Bool, not, IfOk};
+ghost use Rattle.sparse.specs.Map.{keys};
 ghost use Rattle.boogie_meaning.specs.Decided as d;
 ghost use Rattle.boogie_meaning.specs.Ends.{End};
-ghost use Rattle.boogie_meaning.specs.Values as m;
+ghost use Rattle.boogie_tree.specs.Values as m;
 ghost use Rattle.boogie_run.specs.Answers.{Answers};
+ghost use Rattle.boogie_run.specs.Searched.{IsSet};
 
+use crate::bases::are_keys;
 use crate::eval_ends::Miss;
+use crate::eval_sets::{KeySet, has};
 use boogie_tree::BBase;
 use std::alloc::Global;
 use vb_base::Memory;
@@ -41,30 +45,6 @@ pub(crate) fn fits(bases: &[BBase], parts: &[KeyPart]) -> bool
     count == parts.len()
 }
 
-/// Whether a key is among these.
-fn is_listed(keys: &[Key], key: &Key) -> bool
-    ensures { result ≡ d.is_listed keys.now key.now }
-{
-    for listed in keys {
-        if key.cmp(listed).is_eq() {
-            return true;
-        }
-    }
-    false
-}
-
-/// Whether there is a key of these types.
-fn is_inhabited(bases: &[BBase]) -> bool
-    ensures { result ≡ d.is_inhabited bases.now }
-{
-    for base in bases {
-        if matches!(base, BBase::Real | BBase::Snap) {
-            return false;
-        }
-    }
-    true
-}
-
 /// The key with one more part.
 fn extended(alloc: Global, front: &Key, part: KeyPart) -> Result<Key, Memory>
     ensures { IfOk result (λ k. k ≡ front.now ++ part ∷ []) }
@@ -75,37 +55,39 @@ fn extended(alloc: Global, front: &Key, part: KeyPart) -> Result<Key, Memory>
     Ok(Key { parts })
 }
 
-/// Whether a key that begins so and goes on with these types is not listed.
-fn has_other_from(alloc: Global, front: &Key, bases: &[BBase], keys: &[Key]) -> Result<bool, Memory>
-    ensures { IfOk result (λ p. p ≡ d.finds bases.now (λ k. not (d.is_listed keys.now (front.now ++ k)))) }
+/// Whether a key that begins so and goes on with these types is not in the set. No more keys are tried than the set has, and one.
+fn has_other_from(alloc: Global, front: &Key, bases: &[BBase], set: &KeySet) -> Result<bool, Memory>
+    requires { IsSet set.now }
+    ensures { IfOk result (λ p. p ≡ d.finds bases.now (λ k. not (d.is_listed (keys set.now) (front.now ++ k)))) }
 {
     let Some((first, rest)) = bases.split_first() else {
-        return Ok(!is_listed(keys, front));
+        return Ok(!has(set, front));
     };
     match first {
-        BBase::Int => Ok(is_inhabited(rest)),
+        BBase::Int => Ok(are_keys(rest)),
         BBase::Bool => {
             let lower = extended(alloc, front, KeyPart::Bool(false))?;
-            if has_other_from(alloc, &lower, rest, keys)? {
+            if has_other_from(alloc, &lower, rest, set)? {
                 return Ok(true);
             }
             let upper = extended(alloc, front, KeyPart::Bool(true))?;
-            has_other_from(alloc, &upper, rest, keys)
+            has_other_from(alloc, &upper, rest, set)
         }
-        BBase::Ref => Ok(is_inhabited(rest)),
+        BBase::Ref => Ok(are_keys(rest)),
         BBase::Real => Ok(false),
         BBase::Snap => Ok(false),
     }
 }
 
-/// Whether a key of these types is not listed.
-pub(crate) fn has_other(alloc: Global, bases: &[BBase], keys: &[Key]) -> Result<bool, Memory>
-    ensures { IfOk result (λ p. p ≡ d.has_other bases.now keys.now) }
+/// Whether a key of these types is not in the set.
+pub(crate) fn has_other(alloc: Global, bases: &[BBase], set: &KeySet) -> Result<bool, Memory>
+    requires { IsSet set.now }
+    ensures { IfOk result (λ p. p ≡ d.has_other bases.now (keys set.now)) }
 {
     let front = Key {
         parts: Vec::new(alloc),
     };
-    has_other_from(alloc, &front, bases, keys)
+    has_other_from(alloc, &front, bases, set)
 }
 
 /// Of two ends of truths the first in the order Over, Wrong, false, true.

@@ -10,7 +10,7 @@ ghost use Rattle.boogie_tree.specs.Value as v;
 ghost use Rattle.boogie_tree.specs.Whole.{scalar_of};
 ghost use Rattle.boogie_meaning.specs.Ends.{End, Is, then_with, fitting};
 ghost use Rattle.boogie_meaning.specs.Operators as o;
-ghost use Rattle.boogie_meaning.specs.Values.{same_base, base_of_scalar};
+ghost use Rattle.boogie_tree.specs.Values.{same_base, base_of_scalar};
 ghost use Rattle.boogie_run.specs.Answers.{Answers};
 ghost use Rattle.boogie_run.specs.Lazy as lazy;
 ghost use Rattle.boogie_run.specs.Operands.{operands, AreWithin, sum_in, difference_in, product_in, quotient_in, euclidean_in, order_in, same_in};

@@ -1,11 +1,13 @@
 //! Types of Boogie programs, and the runs of their procedures, as `boogie_meaning` defines them.
 #![tactic(auto)]
 
+mod bases;
 mod eval;
 mod eval_ends;
 mod eval_keys;
 mod eval_marked;
 mod eval_operators;
+mod eval_sets;
 mod eval_unary;
 mod eval_values;
 mod replay_choices;

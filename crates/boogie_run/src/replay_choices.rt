@@ -9,7 +9,7 @@ ghost use Rattle.boogie_tree.specs.Value.{same_scalar};
 ghost use Rattle.boogie_run.specs.Chosen.{chosen_entries, chosen_scalar};
 ghost use Rattle.boogie_tree.specs.Whole.{choice_of, entry_of, scalar_of, type_of, value_of};
 ghost use Rattle.boogie_meaning.specs.Run as m;
-ghost use Rattle.boogie_meaning.specs.Values.{default_of, fits_key, same_base, base_of_scalar};
+ghost use Rattle.boogie_tree.specs.Values.{default_of, fits_key, same_base, base_of_scalar};
 ghost use Rattle.boogie_run.specs.Runs.{Takes};
 ghost use Rattle.boogie_run.specs.View.{map_of, left_in};
 

@@ -3,7 +3,7 @@
 ghost use Rattle.std.specs.Prelude.{List, All};
 ghost use Rattle.boogie_tree.specs.Program.{BType};
 ghost use Rattle.boogie_tree.specs.Value.{BSetting};
-ghost use Rattle.boogie_meaning.specs.Values.{IsEnvironment};
+ghost use Rattle.boogie_tree.specs.Values.{IsEnvironment};
 ghost use Rattle.boogie_run.specs.Start.{FitsSetting, start_of};
 
 /// Where each setting gives a variable a value of its type, a run begins with a value of its type for each variable.

@@ -82,7 +82,7 @@ fn feed_of(choices: &[BChoice]) -> Feed<'_>
     Feed { choices, next: 0 }
 }
 
-/// How a run ended that is not ill-typed.
+/// How a run ended that is not Wrong.
 fn outcome(ended: Result<(), Halt>) -> Result<BOutcome, Memory>
     requires { ended ≡ Err (Halt.Stops Stop.Wrong) → ⊥ }
     ensures { (r : Run) (env : List v.BValue) (left : List v.BChoice) → Runs r env left ended → IfOk result (λ o. outcome_of r ≡ Some o) }

@@ -2,25 +2,14 @@
 ghost use Rattle.std.specs.Prelude.{◌≡◌, ◌↔◌, true, false, slice_get, map, None, IsOk, IfErr};
 ghost use Rattle.boogie_tree.specs.Whole.{expr_of, exprs_of, stmt_of, stmts_of, type_of, proc_of, program_of};
 ghost use Rattle.boogie_tree.specs.declared.exprs.BBase.TheVariants as base;
-ghost use Rattle.boogie_meaning.specs.Values.{same_base, same_bases, same_type};
+ghost use Rattle.boogie_tree.specs.Values.{same_bases, same_type};
 ghost use Rattle.boogie_meaning.specs.Types as ty;
 ghost use Rattle.boogie_meaning.specs.Types.{then_some, base_of, bases_of};
-ghost use Rattle.boogie_meaning.specs.Programs.{IsTypedProgram, IsFirstIllTyped, ill_typed_among};
+ghost use Rattle.boogie_meaning.specs.Programs.{IsTypedProgram, IsFirstIllTyped, have_keys, is_typed_proc, ill_typed_among};
 ghost use Rattle.boogie_run.specs.Typed.{types_in, bound_by, answer_at, choice_at, pair_at, are_bases, is_index, indexed_by, some_plain};
 
+use crate::bases::{are_keys, is_key, same_base};
 use boogie_tree::{BBase, BExpr, BOp, BProgram, BStmt, BType, Local, Proc};
-
-pub(crate) fn same_base(a: BBase, b: BBase) -> bool
-    ensures { result ≡ same_base a b }
-{
-    match a {
-        BBase::Int => matches!(b, BBase::Int),
-        BBase::Bool => matches!(b, BBase::Bool),
-        BBase::Ref => matches!(b, BBase::Ref),
-        BBase::Real => matches!(b, BBase::Real),
-        BBase::Snap => matches!(b, BBase::Snap),
-    }
-}
 
 /// The type `then`, where the operand has the type that is wanted.
 fn given(wanted: BBase, then: BBase, operand: Option<BBase>) -> Option<BBase>
@@ -140,7 +129,7 @@ fn is_index(found: Option<BBase>, key: BBase) -> bool
     ensures { result ≡ is_index found key }
 {
     match found {
-        Some(base) => same_base(base, key) && matches!(base, BBase::Int | BBase::Bool | BBase::Ref),
+        Some(base) => same_base(base, key) && is_key(base),
         None => false,
     }
 }
@@ -171,7 +160,7 @@ fn base_of(locals: &[Local], inside: bool, keys: &[BBase], e: &BExpr) -> Option<
             base_of(locals, inside, keys, b),
         ),
         BExpr::Forall(us, a) => {
-            if inside {
+            if inside || !are_keys(us) {
                 None
             } else {
                 given(BBase::Bool, BBase::Bool, base_of(locals, true, us, a))
@@ -340,13 +329,32 @@ pub fn check_types(program: &BProgram) -> Result<(), usize>
     }
 }
 
+/// Whether the types of the variables are types, and each statement is well-typed.
+fn is_typed_proc(proc: &Proc) -> bool
+    ensures { result ≡ is_typed_proc (proc_of proc.now) }
+{
+    have_keys(&proc.locals) && is_typed(&proc.locals, &proc.body)
+}
+
+/// Whether the indices of each map have types of keys.
+fn have_keys(locals: &[Local]) -> bool
+    ensures { result ≡ have_keys (types_in locals.now) }
+{
+    for local in locals {
+        if !are_keys(&local.ty.keys) {
+            return false;
+        }
+    }
+    true
+}
+
 fn first_ill_typed(procs: &[Proc]) -> Option<usize>
     ensures { result ≡ ill_typed_among (map proc_of procs.now) }
 {
     let mut number = 0;
     for proc in procs {
         number += 1;
-        if !is_typed(&proc.locals, &proc.body) {
+        if !is_typed_proc(proc) {
             return Some(number);
         }
     }

@@ -1,12 +1,8 @@
-pub mod Tree
-pub mod View
 pub mod Text
-pub mod Grammar
-pub mod Types
-pub mod Meaning
 pub mod Expr
 pub mod Stmt
 pub mod Program
 pub mod Value
+pub mod Values
 pub mod Whole
 pub mod Equality

@@ -1,18 +1,20 @@
 -- Each exit of an evaluation, by the steps that led to it.
 use Rattle.std.proofs.Common.{rules, refl, sym, ap, ◌∙◌, subst, Ok, IfOk, if◌then◌else◌, ◌++◌, ◌+◌, drop}
+use Rattle.sparse.specs.Map.{keys}
 use Rattle.vb_value.specs.Bound.{Bounded}
 use Rattle.boogie_tree.specs.Whole.{expr_of, exprs_of, scalar_of}
 use Rattle.boogie_tree.specs.declared.exprs.BExpr.{the_lemmas}
 use Rattle.boogie_meaning.specs.Ends.{Is, then_with}
 use Rattle.boogie_meaning.specs.Operators as o
-use Rattle.boogie_meaning.specs.Value.{value, values}
-use Rattle.boogie_run.specs.Answers.{Answers, is}
-use Rattle.boogie_run.specs.Searched.{end_elsewhere}
+use Rattle.boogie_meaning.specs.Value.{value, values, body_at}
+use Rattle.boogie_run.specs.Answers.{is}
+use Rattle.boogie_run.specs.Searched.{with_key, with_keys}
 use Rattle.boogie_run.specs.View.{values_of, scope_of}
 use Rattle.boogie_run.specs.Within.{IsWithinExpr, IsWithinScalar}
 use Rattle.boogie_run.proofs.AnswerLaws.{the_value, same_answers, passed, goes_then, stops_then, answer_is}
-use Rattle.boogie_run.proofs.EvalNodeLaws.{at_is, bin_is, if_is, pair_is, neg_is, to_real_is}
+use Rattle.boogie_run.proofs.NodeLaws.{at_is, bin_is, if_is, pair_is, neg_is, to_real_is}
 use Rattle.boogie_run.proofs.IndexLaws.{index_goes, index_stops, indices_end}
+use Rattle.boogie_run.proofs.ListLaws.{entry_at}
 use Rattle.boogie_run.proofs.SearchLaws.{quantified_is}
 use Rattle.boogie_run.proofs.WithinLaws.{all_within, argument_within}
 use Rattle.boogie_run.proofs.eval.+evaluation.Goals as goal
@@ -123,5 +125,15 @@ quantified-returns t c =
     let us = c.args.bases.now in
     let a = expr_of c.args.a.now in
     let env = values_of c.args.env.now in
-    same_answers (quantified_is us a env c.deref-2.result.now (c.deref-2.ensures.value ∙ c.in_ok-keys.ensures))
-    (c.at_keys.ensures _ (subst (λ ks. Answers (λ p. p) (end_elsewhere us a env ks) c.elsewhere-rest.result) (c.deref.ensures.value ∙ sym c.deref-2.ensures.value) c.elsewhere-rest.ensures))
+    same_answers (quantified_is us a env (keys c.in_ok-set.set) c.in_ok-set.ensures.marked) (c.at_keys.ensures _ c.elsewhere-rest.ensures)
+
+pub at_keys-loop-i-preserved : goal.at_keys-loop-i-preserved
+at_keys-loop-i-preserved t c =
+    let us = c.args.bases.now in
+    let body = body_at Bounded (expr_of c.args.a.now) (values_of c.args.env.now) in
+    let ks = keys c.args.set.now in
+    record {
+      so_far = λ e h.
+          let s = c.loop-i.invariant.so_far e h in
+          (with_key us body c.key_at.result.now s.0, c.at_key-end.ensures s.0 s.1, s.2 ∙ ap (λ xs. with_keys us body xs s.0) (entry_at ks c.loop-i.i c.key_at.result.now c.key_at.ensures.key));
+    }

@@ -1,6 +1,6 @@
 -- The types and parts that are left tell it.
 use Rattle.std.proofs.Common.{◌≡◌, ◌≤◌, length, drop}
-use Rattle.boogie_meaning.specs.Values.{fits_key}
+use Rattle.boogie_tree.specs.Values.{fits_key}
 use Rattle.boogie_run.proofs.eval_keys.fits.Given as goal
 
 abbrev pub invariant-loop-base : goal.invariant-loop-base

@@ -1,8 +1,7 @@
-use Rattle.std.proofs.Common.{sym, ap, ◌∙◌, subst, OnOk, ◌≡◌, ◌++◌}
-use Rattle.boogie_tree.specs.Whole.{expr_of}
+use Rattle.std.proofs.Common.{sym, subst, OnOk, ◌≡◌, ◌++◌}
 use Rattle.boogie_meaning.specs.Marked.{marked}
 use Rattle.boogie_run.specs.View.{values_of}
-use Rattle.boogie_run.proofs.EvalNodeLaws.{at_is}
+use Rattle.boogie_run.proofs.NodeLaws.{at_is}
 use Rattle.boogie_run.proofs.eval_marked.+marking.Goals as goal
 
 pub mark-returns-in-At : goal.mark-returns-in-At

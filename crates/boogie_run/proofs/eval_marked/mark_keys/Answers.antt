@@ -1,4 +1,4 @@
-use Rattle.std.proofs.Common.{sym, ap, ◌∙◌, ◌++◌, ◌∷◌, [], ◌≤◌, length, subst}
+use Rattle.std.proofs.Common.{sym, ap, ◌∙◌, ◌++◌, ◌∷◌, [], ◌≤◌, subst}
 use Rattle.sparse.specs.Map.{keys}
 use Rattle.boogie_run.proofs.ListLaws.{one_more, no_more}
 use Rattle.boogie_run.proofs.MapLaws.{keys_mean}

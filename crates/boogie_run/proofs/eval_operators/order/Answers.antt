@@ -1,4 +1,4 @@
-use Rattle.std.proofs.Common.{rules, refl, sym, ap, ◌∙◌}
+use Rattle.std.proofs.Common.{rules, ap, ◌∙◌}
 use Rattle.boogie_meaning.specs.Ends.{Is}
 use Rattle.boogie_run.specs.Answers.{is}
 use Rattle.boogie_run.specs.Operands.{order_in}

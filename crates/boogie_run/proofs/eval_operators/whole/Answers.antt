@@ -1,4 +1,4 @@
-use Rattle.std.proofs.Common.{refl, sym, ◌∙◌, ap, subst, IfOk}
+use Rattle.std.proofs.Common.{sym, ◌∙◌, ap, subst, IfOk}
 use Rattle.vb_value.specs.Bound.{IsWithin}
 use Rattle.vb_value.proofs.BoundLaws.{read_back}
 use Rattle.boogie_tree.specs.Value as v

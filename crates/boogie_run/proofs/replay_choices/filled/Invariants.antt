@@ -3,7 +3,7 @@ use Rattle.std.proofs.Common.{◌≡◌, drop, map}
 use Rattle.sparse.specs.Map.{empty}
 use Rattle.boogie_tree.specs.Whole.{entry_of}
 use Rattle.boogie_meaning.specs.Run.{filled}
-use Rattle.boogie_meaning.specs.Values.{default_of}
+use Rattle.boogie_tree.specs.Values.{default_of}
 use Rattle.boogie_run.specs.View.{map_of}
 use Rattle.boogie_run.proofs.replay_choices.filled.Given as goal
 

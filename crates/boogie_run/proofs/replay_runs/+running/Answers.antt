@@ -1,5 +1,5 @@
 -- Each exit of a run, by the steps that led to it.
-use Rattle.std.proofs.Common.{rules, refl, sym, ap, ◌∙◌, subst, Ok, if◌then◌else◌}
+use Rattle.std.proofs.Common.{rules, refl, sym, ap, subst, Ok, if◌then◌else◌}
 use Rattle.vb_value.specs.Bound.{Bounded}
 use Rattle.boogie_tree.specs.Whole.{expr_of, stmt_of, stmts_of}
 use Rattle.boogie_tree.specs.declared.stmts.BStmt.{the_lemmas}
@@ -11,7 +11,8 @@ use Rattle.boogie_run.specs.Typed.{types_in}
 use Rattle.boogie_run.specs.View.{environment_of, left_in, values_of}
 use Rattle.boogie_run.specs.Within.{IsWithinStmt}
 use Rattle.boogie_run.proofs.AnswerLaws.{same_answers, answer_is}
-use Rattle.boogie_run.proofs.BlockLaws.{put_is, branches_are, ways_are, block_goes, block_stops, block_ends}
+use Rattle.boogie_run.proofs.BlockLaws.{block_goes, block_stops, block_ends}
+use Rattle.boogie_run.proofs.NodeLaws.{put_is, if_stmt_is, either_is}
 use Rattle.boogie_run.proofs.RunStepLaws.{same_run, run_passed, end_goes, take_goes, take_is}
 use Rattle.boogie_run.proofs.RunWithinLaws.{stays_ready, stmt_keeps, take_ready, statement_within}
 use Rattle.boogie_run.proofs.replay_runs.+running.Goals as goal
@@ -51,17 +52,17 @@ run_block-returns t c =
 
 pub run_stmt-run_block-requires : goal.run_stmt-run_block-requires
 run_stmt-run_block-requires t c =
-    (search (rules, the_lemmas), ((subst IsWithinStmt (branches_are c.in-If.xs c.in-If.ys c.in-If.is c.deref-then-branch.ensures.value refl) c.requires.stmt_within).1, c.requires.ready))
+    (search (rules, the_lemmas), ((subst IsWithinStmt (if_stmt_is c.in-If.xs c.in-If.ys c.in-If.is c.deref-then-branch.ensures.value refl) c.requires.stmt_within).1, c.requires.ready))
 
 pub run_stmt-run_block-requires-else-branch : goal.run_stmt-run_block-requires-else-branch
 run_stmt-run_block-requires-else-branch t c =
-    (search (rules, the_lemmas), ((subst IsWithinStmt (branches_are c.in-If.xs c.in-If.ys c.in-If.is refl c.deref-else-branch.ensures.value) c.requires.stmt_within).2, c.requires.ready))
+    (search (rules, the_lemmas), ((subst IsWithinStmt (if_stmt_is c.in-If.xs c.in-If.ys c.in-If.is refl c.deref-else-branch.ensures.value) c.requires.stmt_within).2, c.requires.ready))
 
 pub run_stmt-run_block-requires-then-branch-2 : goal.run_stmt-run_block-requires-then-branch-2
 run_stmt-run_block-requires-then-branch-2 t c = (
   search (rules, the_lemmas),
   (
-    (subst IsWithinStmt (ways_are c.in-Either.xs c.in-Either.ys c.in-Either.is c.deref-then-branch-2.ensures.value refl) c.requires.stmt_within).0,
+    (subst IsWithinStmt (either_is c.in-Either.xs c.in-Either.ys c.in-Either.is c.deref-then-branch-2.ensures.value refl) c.requires.stmt_within).0,
     take_ready c.in_ok-take_branch-in-Either.ensures c.requires.ready,
   ),
 )
@@ -70,7 +71,7 @@ pub run_stmt-run_block-requires-else-branch-2 : goal.run_stmt-run_block-requires
 run_stmt-run_block-requires-else-branch-2 t c = (
   search (rules, the_lemmas),
   (
-    (subst IsWithinStmt (ways_are c.in-Either.xs c.in-Either.ys c.in-Either.is refl c.deref-else-branch-2.ensures.value) c.requires.stmt_within).1,
+    (subst IsWithinStmt (either_is c.in-Either.xs c.in-Either.ys c.in-Either.is refl c.deref-else-branch-2.ensures.value) c.requires.stmt_within).1,
     take_ready c.in_ok-take_branch-in-Either.ensures c.requires.ready,
   ),
 )
@@ -90,7 +91,7 @@ run_stmt-returns-then-branch t c =
     let ls = types_in c.args.locals.now in
     let env = environment_of c.args.env.now in
     let cs = left_in c.args.feed.now in
-    same_run (ap (λ x. brun_stmt ls Bounded x env cs) (branches_are c.in-If.xs c.in-If.ys c.in-If.is c.deref-then-branch.ensures.value refl))
+    same_run (ap (λ x. brun_stmt ls Bounded x env cs) (if_stmt_is c.in-If.xs c.in-If.ys c.in-If.is c.deref-then-branch.ensures.value refl))
     (end_goes cs (λ p. if p then brun ls Bounded (stmts_of c.deref-then-branch.result.now) env cs else brun ls Bounded (stmts_of c.in-If.ys.items) env cs)
     (answer_is (ap Ok c.if-branch.true) (same_answers (ap (λ xs. as_truth (bvalue Bounded (expr_of c.in-If.e) (values_of xs))) (sym c.deref-in-If.ensures.value)) c.in_ok-condition-in-If.ensures))
     c.run_block.ensures)
@@ -100,7 +101,7 @@ run_stmt-returns-else-branch t c =
     let ls = types_in c.args.locals.now in
     let env = environment_of c.args.env.now in
     let cs = left_in c.args.feed.now in
-    same_run (ap (λ x. brun_stmt ls Bounded x env cs) (branches_are c.in-If.xs c.in-If.ys c.in-If.is refl c.deref-else-branch.ensures.value))
+    same_run (ap (λ x. brun_stmt ls Bounded x env cs) (if_stmt_is c.in-If.xs c.in-If.ys c.in-If.is refl c.deref-else-branch.ensures.value))
     (end_goes cs (λ p. if p then brun ls Bounded (stmts_of c.in-If.xs.items) env cs else brun ls Bounded (stmts_of c.deref-else-branch.result.now) env cs)
     (answer_is (ap Ok c.if-branch.false) (same_answers (ap (λ xs. as_truth (bvalue Bounded (expr_of c.in-If.e) (values_of xs))) (sym c.deref-in-If.ensures.value)) c.in_ok-condition-in-If.ensures))
     c.run_block-else-branch.ensures)
@@ -110,7 +111,7 @@ run_stmt-returns-then-branch-2 t c =
     let ls = types_in c.args.locals.now in
     let env = environment_of c.args.env.now in
     let cs = left_in c.args.feed.now in
-    same_run (ap (λ x. brun_stmt ls Bounded x env cs) (ways_are c.in-Either.xs c.in-Either.ys c.in-Either.is c.deref-then-branch-2.ensures.value refl))
+    same_run (ap (λ x. brun_stmt ls Bounded x env cs) (either_is c.in-Either.xs c.in-Either.ys c.in-Either.is c.deref-then-branch-2.ensures.value refl))
     (take_goes (λ p rest. if p then brun ls Bounded (stmts_of c.deref-then-branch-2.result.now) env rest else brun ls Bounded (stmts_of c.in-Either.ys.items) env rest)
     (take_is c.if-branch-2.true c.in_ok-take_branch-in-Either.ensures) c.run_block-then-branch-2.ensures)
 
@@ -119,6 +120,6 @@ run_stmt-returns-else-branch-2 t c =
     let ls = types_in c.args.locals.now in
     let env = environment_of c.args.env.now in
     let cs = left_in c.args.feed.now in
-    same_run (ap (λ x. brun_stmt ls Bounded x env cs) (ways_are c.in-Either.xs c.in-Either.ys c.in-Either.is refl c.deref-else-branch-2.ensures.value))
+    same_run (ap (λ x. brun_stmt ls Bounded x env cs) (either_is c.in-Either.xs c.in-Either.ys c.in-Either.is refl c.deref-else-branch-2.ensures.value))
     (take_goes (λ p rest. if p then brun ls Bounded (stmts_of c.in-Either.xs.items) env rest else brun ls Bounded (stmts_of c.deref-else-branch-2.result.now) env rest)
     (take_is c.if-branch-2.false c.in_ok-take_branch-in-Either.ensures) c.run_block-else-branch-2.ensures)

@@ -1,6 +1,5 @@
 -- The defaults so far, and those of the variables that are left.
 use Rattle.std.proofs.Common.{◌≡◌, ◌++◌, drop, map}
-use Rattle.boogie_tree.specs.Whole.{type_of}
 use Rattle.boogie_meaning.specs.Programs.{default_value}
 use Rattle.boogie_run.specs.Typed.{types_in}
 use Rattle.boogie_run.specs.View.{values_of}

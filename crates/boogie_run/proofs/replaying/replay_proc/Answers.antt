@@ -32,7 +32,7 @@ outcome-requires c = λ h.
     let runs : brun_proc Bounded d (start_of (types_of d) r.settings) r.choices ≡
     brun (types_in c.deref-4.result.now) Bounded (stmts_of c.deref-5.result.now) (environment_of c.in_ok-env.env) (left_in c.feed_of-feed.result) =
     sym (λ i. brun (types i) Bounded (stmts_of (c.deref-5.ensures.value i)) (begins i) (takes i)) in
-    wrong_never (stmts_keep (types_of d) Bounded (start_of (types_of d) r.settings) r.choices c.requires.typed c.requires.can_run.environment c.requires.can_run.reduced)
+    wrong_never (stmts_keep (types_of d) Bounded (start_of (types_of d) r.settings) r.choices c.requires.typed.body c.requires.can_run.environment c.requires.can_run.reduced)
     (same_run runs (same_result h c.run_block.ensures))
 
 pub returns : goal.returns

@@ -1,19 +1,19 @@
 use Rattle.std.proofs.Common.{refl, sym, ap, ◌∙◌}
 use Rattle.boogie_meaning.specs.Types.{is_typed_stmt}
 use Rattle.boogie_run.specs.Typed.{types_in}
-use Rattle.boogie_run.proofs.NodeLaws.{block_is, either_is}
+use Rattle.boogie_run.proofs.NodeLaws.{if_stmt_is, either_is}
 use Rattle.boogie_run.proofs.TypingLaws.{last_of_two, first_of_two}
 use Rattle.boogie_run.proofs.typing.+blocks.Goals as goal
 
 pub is_typed_stmt-returns-then-is_typed : goal.is_typed_stmt-returns-then-is_typed
 is_typed_stmt-returns-then-is_typed t c =
     last_of_two (sym c.is_bool-in-If.ensures ∙ c.if-not-is_bool.false) (last_of_two (sym c.is_typed.ensures ∙ c.if-is_typed.true) c.is_typed-then-is_typed.ensures)
-    ∙ sym (ap (is_typed_stmt (types_in c.args.locals.now)) (block_is c.in-If.then c.in-If.other c.in-If.is c.deref-in-If.ensures.value c.deref-then-is_typed.ensures.value))
+    ∙ sym (ap (is_typed_stmt (types_in c.args.locals.now)) (if_stmt_is c.in-If.then c.in-If.other c.in-If.is c.deref-in-If.ensures.value c.deref-then-is_typed.ensures.value))
 
 pub is_typed_stmt-returns-else-is_typed : goal.is_typed_stmt-returns-else-is_typed
 is_typed_stmt-returns-else-is_typed t c =
     last_of_two (sym c.is_bool-in-If.ensures ∙ c.if-not-is_bool.false) (first_of_two _ c.is_typed.ensures c.if-is_typed.false)
-    ∙ sym (ap (is_typed_stmt (types_in c.args.locals.now)) (block_is c.in-If.then c.in-If.other c.in-If.is c.deref-in-If.ensures.value refl))
+    ∙ sym (ap (is_typed_stmt (types_in c.args.locals.now)) (if_stmt_is c.in-If.then c.in-If.other c.in-If.is c.deref-in-If.ensures.value refl))
 
 pub is_typed_stmt-returns-then-is_typed-2 : goal.is_typed_stmt-returns-then-is_typed-2
 is_typed_stmt-returns-then-is_typed-2 t c =

@@ -1,7 +1,7 @@
 -- Types of values (Leino, This is Boogie 2, sections 2 and 3): each base type has a default, and a map is total, with the
 -- default of its values' type at all but finitely many keys. A real is a rational number.
 use Rattle.std.specs.Prelude.{⊤, ◌≡◌, pos, Bool as Truth, true, false, ◌&&◌, List, [], ◌∷◌, All}
-use Rattle.std.specs.List.{AllZip}
+use Rattle.std.specs.List.{AllZip, list_all}
 use Rattle.sparse.specs.Map as map
 use Rattle.sparse.specs.Map.{Map}
 use Rattle.vb_value.specs.Content as content
@@ -33,13 +33,20 @@ same_bases _ _ = false
 abbrev pub same_type : BType → BType → Truth
 same_type u w = same_bases u.keys w.keys && same_base u.base w.base
 
--- the types that the indices of a map have
+-- the types that the indices of a map and the names bound by a `forall` have
 abbrev pub is_key : BBase → Truth
 is_key base.Int = true
 is_key base.Bool = true
 is_key base.Ref = true
 is_key base.Real = false
 is_key base.Snap = false
+
+abbrev pub AreKeys : List BBase → Type 0
+AreKeys us = All (λ u. is_key u ≡ true) us
+
+-- the same as a test
+abbrev pub are_keys : List BBase → Truth
+are_keys us = list_all is_key us
 
 -- the type of a variable that is no map
 abbrev pub plain_type : BBase → BType
@@ -76,6 +83,10 @@ default_of base.Bool = Bool false
 default_of base.Ref = Ref 0
 default_of base.Real = Real none
 default_of base.Snap = Snap content.Unit
+
+-- whether it is the default of its own type
+abbrev pub is_default : BScalar → Truth
+is_default v = same_scalar v (default_of (base_of_scalar v))
 
 -- ---- keys
 
