@@ -105,9 +105,12 @@ one_fault bytes _ _ (no_program {ts = ts} {i = x} {end = p} e h i n j k) (no_pro
 row_as : {bytes rest left : List ℕ} {ts : List BToken} → bytes ≡ prelude ++ rest → bytes ≡ prelude ++ left → IsCut prelude left ts → IsRow rest ts
 row_as {ts = ts} e f h = subst (λ r. IsRow r ts) (append-same_front prelude (sym f ∙ e)) (row_of h)
 
--- what spells a program and is not too deep is not refused
+-- what spells a program is refused for its brackets alone
+pub too_deep_only : (bytes : List ℕ) (f : BoogieFault) (b : BProgram) (h : BSpells bytes b) → IsFault bytes f → (at : Pos) × (f ≡ fault.Deep at) × (IsShallow h.tokens → ⊥)
+too_deep_only bytes _ b h (no_prelude d a) = absurd (not_begun d h.rest h.text)
+too_deep_only bytes _ b h (no_token e k) = absurd (never_row (stop_as h.text e k) h.cut)
+too_deep_only bytes _ b h (too_deep {at = at} e k i) = (at, refl, λ shallow. not_shallow i (shallow_alike (one_row h.cut (row_as h.text e k)) shallow))
+too_deep_only bytes _ b h (no_program e k i n j l) = absurd (n (b, derives_alike h.spells (one_row h.cut (row_as h.text e k))))
+
 pub not_refused : (bytes : List ℕ) (f : BoogieFault) (b : BProgram) (h : BSpells bytes b) → IsShallow h.tokens → IsFault bytes f → ⊥
-not_refused bytes _ b h shallow (no_prelude d a) = not_begun d h.rest h.text
-not_refused bytes _ b h shallow (no_token e k) = never_row (stop_as h.text e k) h.cut
-not_refused bytes _ b h shallow (too_deep e k i) = not_shallow i (shallow_alike (one_row h.cut (row_as h.text e k)) shallow)
-not_refused bytes _ b h shallow (no_program e k i n j l) = n (b, derives_alike h.spells (one_row h.cut (row_as h.text e k)))
+not_refused bytes f b h shallow k = (too_deep_only bytes f b h k).2 shallow

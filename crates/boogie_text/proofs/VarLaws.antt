@@ -69,6 +69,10 @@ free_among : (x : List ℕ) (names : List (List ℕ)) → is_reserved x ≡ fals
 free_among x [] free h = absurd (cc)
 free_among x (y ∷ ys) free h = free_among_at x y (bytes_eq x y) (is_among x ys) (some_free ys) free refl h (free_among x ys free)
 
+-- where a name that is not reserved has a number, some name is free
+pub numbered_is_free : (x : List ℕ) (names : List (List ℕ)) (i : ℕ) → is_reserved x ≡ false → number_of x names ≡ Some i → some_free names ≡ true
+numbered_is_free x names i free h = free_among x names free (there x names i h)
+
 pub some_is_free : {names : List (List ℕ)} {i : ℕ} → IsVar names i → some_free names ≡ true
 some_is_free {names = names} {i = i} h = free_among (name_at names i) names h.free (there (name_at names i) names i h.there)
 

@@ -36,7 +36,7 @@ abbrev pub at_start : BTok → BToken
 at_start t = record { tok = t; pos = start }
 
 -- a piece, told by its class, its token and its length
-piece_as : {c d : Class} {bytes : List ℕ} {n m : ℕ} {o q : Option BTok} → Piece c bytes o n → d ≡ c → o ≡ q → n ≡ m → Piece d bytes q m
+pub piece_as : {c d : Class} {bytes : List ℕ} {n m : ℕ} {o q : Option BTok} → Piece c bytes o n → d ≡ c → o ≡ q → n ≡ m → Piece d bytes q m
 piece_as {c = c} {d = d} {bytes = bytes} {n = n} {m = m} {o = o} {q = q} piece class token len =
     subst (λ k. Piece d bytes q k) len (subst (λ x. Piece d bytes x n) token (subst (λ k. Piece k bytes o n) (sym class) piece))
 

@@ -112,22 +112,34 @@ wrapped x make = after_sign sign.OpenParen (read (Expr x) (λ a. after_sign sign
 abbrev pub named : Scope → ℕ → Rule v.expr
 named x i = when (the_sign sign.OpenBracket) (λ _. read (Indices x i) give) (give (t.Var i))
 
--- number | real literal | "true" | "false" | "null" | "sUnit" | "real" "(" bexpr ")" | .. | "sPair" "(" bexpr "," bexpr ")"
-abbrev pub simple : Scope → Rule v.expr → Rule v.expr
-simple x others =
+-- number | real literal | "true" | "false" | "null" | "sUnit"
+abbrev pub leaves : Rule v.expr → Rule v.expr
+leaves others =
     when a_number (λ n. give (t.Int n))
     (when a_real (λ n. give (t.Real n))
     (when (the_word w.True) (λ _. give (t.Bool true))
     (when (the_word w.False) (λ _. give (t.Bool false))
     (when (the_word w.Null) (λ _. give t.Null)
     (when (the_word w.SUnit) (λ _. give t.Unit)
-    (when (the_word w.Real) (λ _. wrapped x t.ToReal)
+    others)))))
+
+-- "real" "(" bexpr ")" | "sInt" "(" bexpr ")" | ..
+abbrev pub wraps : Scope → Rule v.expr → Rule v.expr
+wraps x others =
+    when (the_word w.Real) (λ _. wrapped x t.ToReal)
     (when (the_word w.SInt) (λ _. wrapped x t.SInt)
     (when (the_word w.SBool) (λ _. wrapped x t.SBool)
     (when (the_word w.SRef) (λ _. wrapped x t.SRef)
     (when (the_word w.SPerm) (λ _. wrapped x t.SPerm)
-    (when (the_word w.SPair) (λ _. after_sign sign.OpenParen (read (Expr x) (λ a. after_sign sign.Comma (read (Expr x) (λ b. after_sign sign.CloseParen (give (t.Pair a b)))))))
-    others)))))))))))
+    others))))
+
+-- "(" bexpr "," bexpr ")", after "sPair"
+abbrev pub paired : Scope → Rule v.expr
+paired x = after_sign sign.OpenParen (read (Expr x) (λ a. after_sign sign.Comma (read (Expr x) (λ b. after_sign sign.CloseParen (give (t.Pair a b))))))
+
+-- these, and "sPair" "(" bexpr "," bexpr ")"
+abbrev pub simple : Scope → Rule v.expr → Rule v.expr
+simple x others = leaves (wraps x (when (the_word w.SPair) (λ _. paired x) others))
 
 abbrev pub in_parens : Scope → Rule v.expr
 in_parens x = after_sign sign.OpenParen (read (InParens x) give)

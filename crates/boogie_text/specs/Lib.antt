@@ -5,7 +5,14 @@ pub mod Tests
 pub mod Grammar
 pub mod Spells
 pub mod Depth
+pub mod Nested
 pub mod Faults
 pub mod Printed
 pub mod Printable
 pub mod Naming
+pub mod Step
+pub mod Greedy
+pub mod ReadView
+pub mod StmtView
+pub mod Whole
+pub mod Answers

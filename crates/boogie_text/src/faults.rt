@@ -1,5 +1,8 @@
 // Why a text is no program.
-use vb_base::Pos;
+ghost use Rattle.std.specs.Prelude.{◌≡◌};
+ghost use Rattle.boogie_text.specs.declared.faults.BoogieFault.TheVariants as fault;
+
+use vb_base::{Memory, Pos};
 
 /// Why a text was not read.
 #[derive(Clone, Copy)]
@@ -12,4 +15,12 @@ pub enum BoogieFault {
     Syntax(Pos),
     /// The first sign that is the 2,049th unclosed one.
     Deep(Pos),
+}
+
+impl From<Memory> for BoogieFault {
+    ghost from_gives = { λ _ e. e ≡ fault.Memory };
+
+    fn from(_: Memory) -> Self {
+        BoogieFault::Memory
+    }
 }

@@ -1,11 +1,14 @@
 // Laws of the text, each the contract of a function with nothing to do.
-ghost use Rattle.std.specs.Prelude.{◌≡◌, ◌⊎◌, List, ℕ};
+ghost use Rattle.std.specs.Prelude.{◌≡◌, ◌≤◌, ◌⊎◌, List, ℕ, length, take};
 ghost use Rattle.vb_base.specs.Place.{IsPlace};
 ghost use Rattle.boogie_tree.specs.Program as p;
 ghost use Rattle.boogie_text.specs.declared.tokens.BToken.{BToken};
 ghost use Rattle.boogie_text.specs.declared.faults.BoogieFault.{BoogieFault};
-ghost use Rattle.boogie_text.specs.Depth.{IsShallow};
+ghost use Rattle.boogie_text.specs.Answers.{IsRead};
+ghost use Rattle.boogie_text.specs.Depth.{IsShallow, unclosed};
 ghost use Rattle.boogie_text.specs.Faults.{IsFault};
+ghost use Rattle.boogie_text.specs.Nested.{program_depth};
+ghost use Rattle.boogie_text.specs.Printable.{IsPrintable};
 ghost use Rattle.boogie_text.specs.Spells.{Spells, BSpells, IsProgram, GoesWrong};
 
 /// No bytes spell two programs.
@@ -28,6 +31,11 @@ pub fn some_answer()
     ensures { (ts : List BToken) → IsProgram ts ⊎ GoesWrong ts }
 {}
 
+/// A text of at most 33,554,432 bytes spells a program whose brackets are not too deep, or is refused.
+pub fn some_text_answer()
+    ensures { (bytes : List ℕ) → length bytes ≤ 33554432 → ((b : p.BProgram) × IsRead bytes b) ⊎ ((f : BoogieFault) × IsFault bytes f) }
+{}
+
 /// Bytes are refused in one way at most.
 pub fn one_fault()
     ensures { (bytes : List ℕ) (f g : BoogieFault) → IsFault bytes f → IsFault bytes g → f ≡ g }
@@ -36,4 +44,15 @@ pub fn one_fault()
 /// Bytes that spell a program whose brackets are not too deep are not refused.
 pub fn not_refused()
     ensures { (bytes : List ℕ) (f : BoogieFault) (b : p.BProgram) (h : BSpells bytes b) → IsShallow h.tokens → IsFault bytes f → ⊥ }
+{}
+
+/// The tokens of a program have no more brackets unclosed at once than the program is nested.
+pub fn brackets_are_nested()
+    ensures { (ts : List BToken) (p : p.BProgram) → Spells ts p → (n : ℕ) → unclosed (take n ts) ≤ program_depth p }
+{}
+
+/// What bytes spell can be printed: names are names that are not reserved and differ where they have to, literals are within
+/// the bound, and the number of each variable exists.
+pub fn spelled_is_printable()
+    ensures { (bytes : List ℕ) (b : p.BProgram) → BSpells bytes b → IsPrintable b }
 {}

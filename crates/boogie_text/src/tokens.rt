@@ -2,7 +2,7 @@
 use vb_base::{Ident, Label, Pos};
 
 /// A sign.
-#[derive(Clone, Copy)]
+#[derive(Clone, Copy, PartialEq, Eq)]
 pub enum BSign {
     OpenParen,
     CloseParen,

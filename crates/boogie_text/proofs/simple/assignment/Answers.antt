@@ -1,0 +1,42 @@
+use Rattle.boogie_tree.specs.Whole.{stmt_of}
+use Rattle.boogie_text.specs.Grammar as g
+use Rattle.boogie_text.proofs.Reading.{start, by_need, by_token, by_other, by_part, whole}
+use Rattle.boogie_text.proofs.Steps.{token_error, part_error, whole_as}
+use Rattle.boogie_text.proofs.StmtLaws.{stmt_of-Put}
+use Rattle.boogie_text.proofs.simple.assignment.Goals as goal
+
+pub returns-in_err-indices-clause-reads : goal.returns-in_err-indices-clause-reads
+returns-in_err-indices-clause-reads c =
+    part_error stmt_of _ _ c.from_residual.ensures.1 (by_token c.in-Some.ensures.eats (start (g.assignment c.args.locals.now c.args.i) c.args.tokens.now)) c.in_err-indices.ensures.reads
+
+pub returns-in_err-rest-clause-reads : goal.returns-in_err-rest-clause-reads
+returns-in_err-rest-clause-reads c =
+    token_error stmt_of _ _ c.from_residual-in_err-rest.ensures.1 (by_part c.in_ok-indices.ensures.reads (by_token c.in-Some.ensures.eats (start (g.assignment c.args.locals.now c.args.i) c.args.tokens.now))) c.in_err-rest.ensures.takes
+
+pub returns-in_err-value-clause-reads : goal.returns-in_err-value-clause-reads
+returns-in_err-value-clause-reads c =
+    part_error stmt_of _ _ c.from_residual-in_err-value.ensures.1 (by_need c.in_ok-rest.ensures.takes (by_part c.in_ok-indices.ensures.reads (by_token c.in-Some.ensures.eats (start (g.assignment c.args.locals.now c.args.i) c.args.tokens.now)))) c.in_err-value.ensures.reads
+
+pub returns-in_err-after-clause-reads : goal.returns-in_err-after-clause-reads
+returns-in_err-after-clause-reads c =
+    token_error stmt_of _ _ c.from_residual-in_err-after.ensures.1 (by_part c.in_ok-value.ensures.reads (by_need c.in_ok-rest.ensures.takes (by_part c.in_ok-indices.ensures.reads (by_token c.in-Some.ensures.eats (start (g.assignment c.args.locals.now c.args.i) c.args.tokens.now))))) c.in_err-after.ensures.takes
+
+pub returns-in-Some-clause-reads : goal.returns-in-Some-clause-reads
+returns-in-Some-clause-reads c =
+    whole_as (by_need c.in_ok-after.ensures.takes (by_part c.in_ok-value.ensures.reads (by_need c.in_ok-rest.ensures.takes (by_part c.in_ok-indices.ensures.reads (by_token c.in-Some.ensures.eats (start (g.assignment c.args.locals.now c.args.i) c.args.tokens.now)))))) (stmt_of-Put c.args.i c.in_ok-indices.indices c.in_ok-value.value)
+
+pub returns-in_err-rest-2-clause-reads : goal.returns-in_err-rest-2-clause-reads
+returns-in_err-rest-2-clause-reads c =
+    token_error stmt_of _ _ c.from_residual-in_err-rest-2.ensures.1 (by_other c.in_default.ensures.eats (start (g.assignment c.args.locals.now c.args.i) c.args.tokens.now)) c.in_err-rest-2.ensures.takes
+
+pub returns-in_err-value-2-clause-reads : goal.returns-in_err-value-2-clause-reads
+returns-in_err-value-2-clause-reads c =
+    part_error stmt_of _ _ c.from_residual-in_err-value-2.ensures.1 (by_need c.in_ok-rest-2.ensures.takes (by_other c.in_default.ensures.eats (start (g.assignment c.args.locals.now c.args.i) c.args.tokens.now))) c.in_err-value-2.ensures.reads
+
+pub returns-in_err-after-2-clause-reads : goal.returns-in_err-after-2-clause-reads
+returns-in_err-after-2-clause-reads c =
+    token_error stmt_of _ _ c.from_residual-in_err-after-2.ensures.1 (by_part c.in_ok-value-2.ensures.reads (by_need c.in_ok-rest-2.ensures.takes (by_other c.in_default.ensures.eats (start (g.assignment c.args.locals.now c.args.i) c.args.tokens.now)))) c.in_err-after-2.ensures.takes
+
+pub returns-clause-reads : goal.returns-clause-reads
+returns-clause-reads c =
+    whole (by_need c.in_ok-after-2.ensures.takes (by_part c.in_ok-value-2.ensures.reads (by_need c.in_ok-rest-2.ensures.takes (by_other c.in_default.ensures.eats (start (g.assignment c.args.locals.now c.args.i) c.args.tokens.now)))))

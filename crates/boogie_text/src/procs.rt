@@ -1,0 +1,55 @@
+// Procedures, and a program from its tokens.
+ghost use Rattle.std.specs.Prelude.{◌≡◌, ◌<◌, [], length, false, IfOk};
+ghost use Rattle.boogie_tree.specs.Whole.{proc_of};
+ghost use Rattle.boogie_text.specs.Grammar as g;
+ghost use Rattle.boogie_text.specs.Greedy.{Parses};
+ghost use Rattle.boogie_text.specs.Words.{is_among};
+ghost use Rattle.boogie_text.specs.StmtView.{all_procs_of};
+
+use crate::eating::{Read, eat_word, sign};
+use crate::locals::{locals, new_name};
+use crate::scopes::Names;
+use crate::stmts::statements;
+use crate::types::pushed;
+use crate::{BSign, BToken, Word};
+use boogie_tree::Proc;
+use std::alloc::Global;
+
+/// A procedure after its word, whose name is none of these.
+fn procedure<'a>(alloc: Global, taken: &Names, tokens: &'a [BToken]) -> Read<'a, Proc>
+    ensures shorter { IfOk result (λ r. length r.1.now < length tokens.now) }
+    ensures new { IfOk result (λ r. is_among r.0.name taken.now ≡ false) }
+    ensures reads { Parses proc_of (g.rule (g.Procedure taken.now)) tokens.now result }
+{
+    let (name, rest) = new_name(alloc, taken, tokens)?;
+    let (_, rest) = sign(BSign::OpenParen, rest)?;
+    let (_, rest) = sign(BSign::CloseParen, rest)?;
+    let (_, rest) = sign(BSign::OpenBrace, rest)?;
+    let mut names = Names::new(alloc);
+    let (vars, rest) = locals(alloc, &mut names, rest)?;
+    let (body, rest) = statements(alloc, &names, rest)?;
+    Ok((
+        Proc {
+            name,
+            locals: vars,
+            body,
+        },
+        rest,
+    ))
+}
+
+/// The procedures of a program, whose names differ, and the tokens after them.
+pub(crate) fn procedures<'a>(alloc: Global, tokens: &'a [BToken]) -> Read<'a, Vec<Proc>>
+    ensures reads { Parses all_procs_of (g.rule (g.Program [])) tokens.now result }
+{
+    let mut names = Names::new(alloc);
+    let mut all = Vec::new(alloc);
+    let mut rest = tokens;
+    while let Some(after) = eat_word(Word::Procedure, rest) {
+        let (next, after) = procedure(alloc, &names, after)?;
+        names.add(next.name.copy(alloc)?)?;
+        all = pushed(all, next)?;
+        rest = after;
+    }
+    Ok((all, rest))
+}

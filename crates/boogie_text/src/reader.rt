@@ -1,0 +1,67 @@
+// A program from its bytes.
+ghost use Rattle.std.specs.Prelude.{◌≡◌, ◌≤◌, ◌++◌, length, IfErr, IfOk, MatchResult};
+ghost use Rattle.vb_base.specs.Place.{IsPlaceAfter};
+ghost use Rattle.boogie_tree.specs.Program as p;
+ghost use Rattle.boogie_tree.specs.Text.{prelude};
+ghost use Rattle.boogie_tree.specs.Whole.{program_of};
+ghost use Rattle.boogie_text.specs.declared.faults.BoogieFault.{BoogieFault};
+ghost use Rattle.boogie_text.specs.Answers.{IsRead, UnlessMemory, GivesProgram, GivesFault};
+ghost use Rattle.boogie_text.specs.Faults.{IsFault};
+ghost use Rattle.boogie_text.specs.Spells.{BSpells};
+
+use crate::BoogieFault;
+use crate::depth::first_too_deep;
+use crate::front::after_prelude;
+use crate::lexer::cut;
+use crate::program::program;
+use boogie_tree::{BProgram, PRELUDE};
+use std::alloc::Global;
+use vb_base::{Pos, advance, place_after};
+
+/// The program that these bytes spell, or the first reason for which they are refused.
+///
+/// These are tried in this order. `Prelude` comes exactly where they do not begin with the prelude, `Syntax` where there
+/// is a byte behind it at which neither a token nor a blank begins, `Deep` where 2,049 brackets are unclosed at once, and
+/// `Syntax` again where the tokens spell no program: at the first token with which they begin none, or at the end.
+pub fn read(alloc: Global, bytes: &[u8]) -> Result<BProgram, BoogieFault>
+    requires { length bytes.now ≤ 33554432 }
+    ensures program { IfOk result (λ b. IsRead bytes.now (program_of b)) }
+    ensures fault { IfErr result (UnlessMemory (IsFault bytes.now)) }
+
+    // and so no other program, and no other fault
+    ensures only_program { (b : p.BProgram) → BSpells bytes.now b → GivesProgram b result }
+    ensures only_fault { (f : BoogieFault) → IsFault bytes.now f → GivesFault f result }
+{
+    read_text(alloc, bytes)
+}
+
+fn read_text(alloc: Global, bytes: &[u8]) -> Result<BProgram, BoogieFault>
+    requires { length bytes.now ≤ 33554432 }
+    ensures { MatchResult result (λ b. IsRead bytes.now (program_of b)) (UnlessMemory (IsFault bytes.now)) }
+{
+    match after_prelude(bytes) {
+        Ok(rest) => read_rest(alloc, rest),
+        Err(at) => Err(BoogieFault::Prelude(at)),
+    }
+}
+
+/// The program that the prelude and these bytes spell.
+fn read_rest(alloc: Global, rest: &[u8]) -> Result<BProgram, BoogieFault>
+    requires { length rest.now ≤ 33554432 }
+    ensures { MatchResult result (λ b. IsRead (prelude ++ rest.now) (program_of b)) (UnlessMemory (IsFault (prelude ++ rest.now))) }
+{
+    let tokens = cut(alloc, PRELUDE, rest)?;
+    if let Some(at) = first_too_deep(&tokens) {
+        return Err(BoogieFault::Deep(at));
+    }
+    program(alloc, &tokens, end_after(rest))
+}
+
+/// The place past the last byte of the prelude and these bytes.
+#[tactic(auto, unfolding(boogie_tree::specs::Text::prelude))]
+fn end_after(rest: &[u8]) -> Pos
+    requires { length rest.now ≤ 33554432 }
+    ensures { IsPlaceAfter (prelude ++ rest.now) result }
+{
+    advance(place_after(PRELUDE), rest)
+}

@@ -1,0 +1,117 @@
+// Statements without blocks.
+ghost use Rattle.std.specs.Prelude.{◌≡◌, ◌<◌, [], length, IfOk, IfSome};
+ghost use Rattle.boogie_tree.specs.Whole.{expr_of, stmt_of};
+ghost use Rattle.boogie_text.specs.Grammar as g;
+ghost use Rattle.boogie_text.specs.Greedy.{Parses};
+ghost use Rattle.boogie_text.specs.ReadView.{all_exprs_of};
+ghost use Rattle.boogie_text.specs.StmtView.{no_bound, assuming, asserting, EatsHavoc};
+
+use crate::eating::{Read, eat_sign, eat_word, label, sign, word};
+use crate::exprs::{expr, exprs};
+use crate::leaves::eat_variable;
+use crate::scopes::{Names, Scope};
+use crate::{BSign, BToken, Word};
+use boogie_tree::{BExpr, BStmt};
+use grammar::Stop;
+use std::alloc::Global;
+use vb_base::Ident;
+
+/// No bound names.
+fn none_bound<'a>() -> &'a [Ident]
+    ensures { result.now ≡ [] }
+{
+    &[]
+}
+
+/// An expression that stands in no `forall`.
+pub(crate) fn whole_expr<'a>(alloc: Global, locals: &Names, tokens: &'a [BToken]) -> Read<'a, BExpr>
+    ensures shorter { IfOk result (λ r. length r.1.now < length tokens.now) }
+    ensures reads { Parses expr_of (g.rule (g.Expr (no_bound locals.now))) tokens.now result }
+{
+    let scope = Scope {
+        locals,
+        bound: none_bound(),
+    };
+    let (inner, rest) = expr(alloc, scope, tokens)?;
+    Ok((Box::into_inner(inner), rest))
+}
+
+/// Indices that stand in no `forall`, with the `]`.
+fn whole_exprs<'a>(alloc: Global, locals: &Names, tokens: &'a [BToken]) -> Read<'a, Vec<BExpr>>
+    ensures shorter { IfOk result (λ r. length r.1.now < length tokens.now) }
+    ensures reads { Parses all_exprs_of (g.rule (g.Exprs (no_bound locals.now))) tokens.now result }
+{
+    let scope = Scope {
+        locals,
+        bound: none_bound(),
+    };
+    exprs(alloc, scope, tokens)
+}
+
+/// `bexpr ";"` after `assume`.
+pub(crate) fn assumption<'a>(alloc: Global, locals: &Names, tokens: &'a [BToken]) -> Read<'a, BStmt>
+    ensures shorter { IfOk result (λ r. length r.1.now < length tokens.now) }
+    ensures reads { Parses stmt_of (assuming locals.now) tokens.now result }
+{
+    let (claim, rest) = whole_expr(alloc, locals, tokens)?;
+    let (_, after) = sign(BSign::Semicolon, rest)?;
+    Ok((BStmt::Assume(claim), after))
+}
+
+/// `"{" ":" "msg" string "}" bexpr ";"` after `assert`.
+pub(crate) fn assertion<'a>(alloc: Global, locals: &Names, tokens: &'a [BToken]) -> Read<'a, BStmt>
+    ensures shorter { IfOk result (λ r. length r.1.now < length tokens.now) }
+    ensures reads { Parses stmt_of (asserting locals.now) tokens.now result }
+{
+    let (_, rest) = sign(BSign::OpenBrace, tokens)?;
+    let (_, rest) = sign(BSign::Colon, rest)?;
+    let (_, rest) = word(Word::Msg, rest)?;
+    let (text, rest) = label(rest)?;
+    let (_, rest) = sign(BSign::CloseBrace, rest)?;
+    let (claim, rest) = whole_expr(alloc, locals, rest)?;
+    let (_, after) = sign(BSign::Semicolon, rest)?;
+    Ok((BStmt::Assert(text, claim), after))
+}
+
+/// `":=" bexpr ";"`, or this after indices, behind the name of a variable.
+pub(crate) fn assignment<'a>(
+    alloc: Global,
+    locals: &Names,
+    i: usize,
+    tokens: &'a [BToken],
+) -> Read<'a, BStmt>
+    ensures shorter { IfOk result (λ r. length r.1.now < length tokens.now) }
+    ensures reads { Parses stmt_of (g.assignment locals.now i) tokens.now result }
+{
+    if let Some(rest) = eat_sign(BSign::OpenBracket, tokens) {
+        let (indices, rest) = whole_exprs(alloc, locals, rest)?;
+        let (_, rest) = sign(BSign::Assign, rest)?;
+        let (value, rest) = whole_expr(alloc, locals, rest)?;
+        let (_, after) = sign(BSign::Semicolon, rest)?;
+        return Ok((BStmt::Put(i, indices, value), after));
+    }
+    let (_, rest) = sign(BSign::Assign, tokens)?;
+    let (value, rest) = whole_expr(alloc, locals, rest)?;
+    let (_, after) = sign(BSign::Semicolon, rest)?;
+    Ok((BStmt::Assign(i, value), after))
+}
+
+/// The variable after `havoc`, if the word is next; then a variable must follow it.
+pub(crate) fn eat_havoc<'a>(
+    locals: &Names,
+    tokens: &'a [BToken],
+) -> Result<Option<(usize, &'a [BToken])>, Stop<'a, BToken>>
+    ensures shorter { IfOk result (λ o. IfSome o (λ r. length r.1.now < length tokens.now)) }
+    ensures eats { EatsHavoc locals.now tokens.now result }
+{
+    let Some(rest) = eat_word(Word::Havoc, tokens) else {
+        return Ok(None);
+    };
+    if let Some(eaten) = eat_variable(locals, rest) {
+        return Ok(Some(eaten));
+    }
+    if locals.some_free() {
+        return Err(Stop::Before(rest));
+    }
+    Err(Stop::Before(tokens))
+}

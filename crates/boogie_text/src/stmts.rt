@@ -1,0 +1,122 @@
+// Statements.
+ghost use Rattle.std.specs.Prelude.{◌≡◌, ◌<◌, ◌≤◌, [], length, IfOk};
+ghost use Rattle.boogie_tree.specs.Whole.{stmt_of};
+ghost use Rattle.boogie_text.specs.Grammar as g;
+ghost use Rattle.boogie_text.specs.Greedy.{Parses};
+ghost use Rattle.boogie_text.specs.StmtView.{all_stmts_of, block_of, unpicked, picked};
+
+use crate::eating::{Read, eat_sign, eat_word, sign, word};
+use crate::leaves::eat_variable;
+use crate::scopes::Names;
+use crate::simple::{assertion, assignment, assumption, eat_havoc, whole_expr};
+use crate::types::pushed;
+use crate::{BSign, BToken, Word};
+use boogie_tree::BStmt;
+use std::alloc::Global;
+
+/// `{ bstmt } "}"`
+#[cycle(blocks)]
+pub(crate) fn statements<'a>(
+    alloc: Global,
+    locals: &Names,
+    tokens: &'a [BToken],
+) -> Read<'a, Vec<BStmt>>
+    ensures shorter { IfOk result (λ r. length r.1.now < length tokens.now) }
+    ensures reads { Parses all_stmts_of (g.rule (g.Statements locals.now [])) tokens.now result }
+{
+    let mut all = Vec::new(alloc);
+    let mut rest = tokens;
+    loop {
+        if let Some(after) = eat_sign(BSign::CloseBrace, rest) {
+            return Ok((all, after));
+        }
+        let (next, after) = statement(alloc, locals, rest)?;
+        all = pushed(all, next)?;
+        rest = after;
+    }
+}
+
+/// A statement.
+#[cycle(blocks)]
+fn statement<'a>(alloc: Global, locals: &Names, tokens: &'a [BToken]) -> Read<'a, BStmt>
+    ensures shorter { IfOk result (λ r. length r.1.now < length tokens.now) }
+    ensures reads { Parses stmt_of (g.rule (g.Statement locals.now)) tokens.now result }
+{
+    if let Some(rest) = eat_word(Word::Assume, tokens) {
+        return assumption(alloc, locals, rest);
+    }
+    if let Some(rest) = eat_word(Word::Assert, tokens) {
+        return assertion(alloc, locals, rest);
+    }
+    if let Some((i, rest)) = eat_havoc(locals, tokens)? {
+        let (_, after) = sign(BSign::Semicolon, rest)?;
+        return Ok((BStmt::Havoc(i), after));
+    }
+    if let Some((i, rest)) = eat_variable(locals, tokens) {
+        return assignment(alloc, locals, i, rest);
+    }
+    conditional(alloc, locals, tokens)
+}
+
+/// `"if" "(" ( bexpr | "*" ) ")" bblock [ "else" bblock ]`
+#[cycle(blocks)]
+fn conditional<'a>(alloc: Global, locals: &Names, tokens: &'a [BToken]) -> Read<'a, BStmt>
+    ensures shorter { IfOk result (λ r. length r.1.now < length tokens.now) }
+    ensures reads { Parses stmt_of (g.conditional locals.now) tokens.now result }
+{
+    let (_, rest) = word(Word::If, tokens)?;
+    let (_, rest) = sign(BSign::OpenParen, rest)?;
+    if let Some(rest) = eat_sign(BSign::Star, rest) {
+        return either(alloc, locals, rest);
+    }
+    choice(alloc, locals, rest)
+}
+
+/// What follows the `*` of an `if`.
+#[cycle(blocks)]
+fn either<'a>(alloc: Global, locals: &Names, tokens: &'a [BToken]) -> Read<'a, BStmt>
+    ensures shorter { IfOk result (λ r. length r.1.now < length tokens.now) }
+    ensures reads { Parses stmt_of (unpicked locals.now) tokens.now result }
+{
+    let (_, rest) = sign(BSign::CloseParen, tokens)?;
+    let (first, rest) = block(alloc, locals, rest)?;
+    let (second, rest) = otherwise(alloc, locals, rest)?;
+    Ok((BStmt::Either(first, second), rest))
+}
+
+/// What follows the `(` of an `if`, where it is no `*`.
+#[cycle(blocks)]
+fn choice<'a>(alloc: Global, locals: &Names, tokens: &'a [BToken]) -> Read<'a, BStmt>
+    ensures shorter { IfOk result (λ r. length r.1.now < length tokens.now) }
+    ensures reads { Parses stmt_of (picked locals.now) tokens.now result }
+{
+    let (condition, rest) = whole_expr(alloc, locals, tokens)?;
+    let (_, rest) = sign(BSign::CloseParen, rest)?;
+    let (first, rest) = block(alloc, locals, rest)?;
+    let (second, rest) = otherwise(alloc, locals, rest)?;
+    Ok((BStmt::If(condition, first, second), rest))
+}
+
+/// `"{" { bstmt } "}"`
+#[cycle(blocks)]
+fn block<'a>(alloc: Global, locals: &Names, tokens: &'a [BToken]) -> Read<'a, Vec<BStmt>>
+    ensures shorter { IfOk result (λ r. length r.1.now < length tokens.now) }
+    ensures reads { Parses block_of (g.rule (g.Block locals.now)) tokens.now result }
+{
+    let (_, rest) = sign(BSign::OpenBrace, tokens)?;
+    let (all, rest) = statements(alloc, locals, rest)?;
+    Ok((all, rest))
+}
+
+/// `[ "else" bblock ]`
+#[cycle(blocks)]
+fn otherwise<'a>(alloc: Global, locals: &Names, tokens: &'a [BToken]) -> Read<'a, Vec<BStmt>>
+    ensures shorter { IfOk result (λ r. length r.1.now ≤ length tokens.now) }
+    ensures reads { Parses block_of (g.rule (g.Else locals.now)) tokens.now result }
+{
+    let Some(rest) = eat_word(Word::Else, tokens) else {
+        let none = Vec::new(alloc);
+        return Ok((none, tokens));
+    };
+    block(alloc, locals, rest)
+}

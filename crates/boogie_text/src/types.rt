@@ -1,0 +1,51 @@
+// Types and what a `forall` binds.
+ghost use Rattle.std.specs.Prelude.{◌≡◌, ◌<◌, ◌++◌, ◌∷◌, [], length, IfOk};
+ghost use Rattle.boogie_tree.specs.Whole.{type_of};
+ghost use Rattle.boogie_text.specs.Grammar as g;
+ghost use Rattle.boogie_text.specs.Greedy.{Parses};
+ghost use Rattle.boogie_text.specs.ReadView.{bases_of};
+
+use crate::eating::{Read, base, eat_sign, key, sign};
+use crate::{BSign, BToken};
+use boogie_tree::{BBase, BType};
+use std::alloc::{AllocFailed, Global};
+
+/// The list with one more item.
+pub(crate) fn pushed<T: Drop>(mut all: Vec<T>, item: T) -> Result<Vec<T>, AllocFailed<T>>
+    ensures { IfOk result (λ v. v.items ≡ all.items ++ (item ∷ [])) }
+{
+    all.push(item)?;
+    Ok(all)
+}
+
+/// The type of a variable.
+pub(crate) fn type_of(alloc: Global, tokens: &[BToken]) -> Read<'_, BType>
+    ensures shorter { IfOk result (λ r. length r.1.now < length tokens.now) }
+    ensures reads { Parses type_of (g.rule g.TypeOf) tokens.now result }
+{
+    let Some(rest) = eat_sign(BSign::OpenBracket, tokens) else {
+        let (base, rest) = base(tokens)?;
+        let keys = Vec::new(alloc);
+        return Ok((BType { keys, base }, rest));
+    };
+    let (first, rest) = key(rest)?;
+    let (keys, rest) = more_keys(alloc, first, rest)?;
+    let (base, rest) = base(rest)?;
+    Ok((BType { keys, base }, rest))
+}
+
+/// What goes on with a list of one type of keys, and the `]` after them.
+fn more_keys(alloc: Global, first: BBase, tokens: &[BToken]) -> Read<'_, Vec<BBase>>
+    ensures shorter { IfOk result (λ r. length r.1.now < length tokens.now) }
+    ensures reads { Parses bases_of (g.rule (g.MoreKeys (first ∷ []))) tokens.now result }
+{
+    let mut all = pushed(Vec::new(alloc), first)?;
+    let mut rest = tokens;
+    while let Some(after) = eat_sign(BSign::Comma, rest) {
+        let (next, after) = key(after)?;
+        all = pushed(all, next)?;
+        rest = after;
+    }
+    let (_, after) = sign(BSign::CloseBracket, rest)?;
+    Ok((all, after))
+}
