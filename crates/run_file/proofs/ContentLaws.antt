@@ -133,25 +133,36 @@ pub one_content : {words rest more : List (List ℕ)} {a b : Content} → Begins
 one_content {words} {rest} {more} {a} {b} h k =
     some_pair_parts a b rest more (sym (content_read (length words) h (omega arith)) ∙ content_read (length words) k (omega arith))
 
-pub no_second_content : {words middle : List (List ℕ)} {a : Content} (room left : ℕ) → BeginsWithContent words a middle → nodes a + left ≡ room →
-    ((c : Content) (rest : List (List ℕ)) → BeginsWithContent middle c rest → nodes c ≤ left → ⊥) →
+some_node : (c : Content) → 1 ≤ nodes c
+some_node tree.Unit = omega arith
+some_node (tree.Leaf v) = omega arith
+some_node (tree.Pair a b) = omega arith
+
+-- a pair has a node for itself, and one at least for each of its parts
+pub no_pair : (words : List (List ℕ)) (room : ℕ) → room < 1 → (c : Content) (rest : List (List ℕ)) → BeginsWithContent (codes "pair" ∷ words) c rest → nodes c ≤ room + 1 → ⊥
+no_pair words room few c rest k small =
+    let parts = pair_parts words c rest k in
+    omega (arith, small, few, ap nodes parts.whole, some_node parts.left)
+
+pub no_first_content : (words : List (List ℕ)) (room kept : ℕ) → kept + 1 ≡ room →
+    ((c : Content) (rest : List (List ℕ)) → BeginsWithContent words c rest → nodes c ≤ kept → ⊥) →
     (c : Content) (rest : List (List ℕ)) → BeginsWithContent (codes "pair" ∷ words) c rest → nodes c ≤ room + 1 → ⊥
-no_second_content {words} {middle} {a} room left h count none c rest k small =
+no_first_content words room kept one none c rest k small =
+    let parts = pair_parts words c rest k in
+    none parts.left parts.middle parts.first (omega (arith, small, one, ap nodes parts.whole, some_node parts.right))
+
+pub no_second_content : {words middle : List (List ℕ)} {a : Content} (room kept left : ℕ) → kept + 1 ≡ room → BeginsWithContent words a middle → nodes a + left ≡ kept →
+    ((c : Content) (rest : List (List ℕ)) → BeginsWithContent middle c rest → nodes c ≤ left + 1 → ⊥) →
+    (c : Content) (rest : List (List ℕ)) → BeginsWithContent (codes "pair" ∷ words) c rest → nodes c ≤ room + 1 → ⊥
+no_second_content {words} {middle} {a} room kept left one h count none c rest k small =
     let parts = pair_parts words c rest k in
     let same = one_content h parts.first in
     none parts.right rest (subst (λ m. BeginsWithContent m parts.right rest) (sym same.1) parts.second)
-    (omega (arith, small, count, ap nodes same.0, ap nodes parts.whole))
+    (omega (arith, small, one, count, ap nodes same.0, ap nodes parts.whole))
 
-pub no_first_content : (words : List (List ℕ)) (room : ℕ) →
-    ((c : Content) (rest : List (List ℕ)) → BeginsWithContent words c rest → nodes c ≤ room → ⊥) →
-    (c : Content) (rest : List (List ℕ)) → BeginsWithContent (codes "pair" ∷ words) c rest → nodes c ≤ room + 1 → ⊥
-no_first_content words room none c rest k small =
-    let parts = pair_parts words c rest k in
-    none parts.left parts.middle parts.first (omega (arith, small, ap nodes parts.whole))
-
-pub pair_found : {words middle rest : List (List ℕ)} {a b : Content} (room left more : ℕ) → BeginsWithContent words a middle → nodes a + left ≡ room →
-    BeginsWithContent middle b rest → nodes b + more ≡ left → BeginsWithContent (codes "pair" ∷ words) (tree.Pair a b) rest × (1 + (nodes a + nodes b) + more ≡ room + 1)
-pair_found room left more h count k again = (pair h k, omega (arith, count, again))
+pub pair_found : {words middle rest : List (List ℕ)} {a b : Content} (room kept left more : ℕ) → kept + 1 ≡ room → BeginsWithContent words a middle → nodes a + left ≡ kept →
+    BeginsWithContent middle b rest → nodes b + more ≡ left + 1 → BeginsWithContent (codes "pair" ∷ words) (tree.Pair a b) rest × (1 + (nodes a + nodes b) + more ≡ room + 1)
+pair_found room kept left more one h count k again = (pair h k, omega (arith, one, count, again))
 
 -- ---- the content that all words are
 

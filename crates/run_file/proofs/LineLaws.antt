@@ -63,7 +63,7 @@ found_number names n name is =
 
 -- ---- keys
 
-argument_spelled : {x : Value} {a : KeyPart} → IsArgument x a → argument_of x ≡ Some a
+pub argument_spelled : {x : Value} {a : KeyPart} → IsArgument x a → argument_of x ≡ Some a
 argument_spelled v.int = refl
 argument_spelled v.truth = refl
 argument_spelled v.reference = refl
@@ -71,7 +71,7 @@ argument_spelled v.reference = refl
 same_some : {A : Type 0} {x y : A} → Some x ≡ Some y → x ≡ y
 same_some e = cc
 
-spelled_argument : (x : Value) (a : KeyPart) → argument_of x ≡ Some a → IsArgument x a
+pub spelled_argument : (x : Value) (a : KeyPart) → argument_of x ≡ Some a → IsArgument x a
 spelled_argument (Int n) a e = subst (IsArgument (Int n)) (same_some e) v.int
 spelled_argument (Truth b) a e = subst (IsArgument (Truth b)) (same_some e) v.truth
 spelled_argument (Ref r) a e = subst (IsArgument (Ref r)) (same_some e) v.reference
@@ -123,7 +123,7 @@ named_is : {T : Type 0} (line : ℕ → Option T → List (List ℕ) → Option 
 named_is line k n name t words differ h = rw (number_found k.names n name differ h.named, h.typed) refl
 
 -- what is behind `Some` of one type
-truth_spelled : {word : List ℕ} {b : Bool} → SpellsValue ty.Bool word (Truth b) → truth word ≡ Some b
+pub truth_spelled : {word : List ℕ} {b : Bool} → SpellsValue ty.Bool word (Truth b) → truth word ≡ Some b
 truth_spelled {word = word} {b = b} h = mapped_some Truth (truth word) (Truth b) (value_spelled h) (λ x is same. is ∙ ap Some cc)
 
 reference_spelled : {word : List ℕ} {r : ℕ} → SpellsValue ty.Ref word (Ref r) → reference word ≡ Some r
@@ -148,7 +148,7 @@ line_spelled apart l.state = refl
 
 -- ---- and back
 
-single_is : (words : List (List ℕ)) (word : List ℕ) → single words ≡ Some word → words ≡ word ∷ []
+pub single_is : (words : List (List ℕ)) (word : List ℕ) → single words ≡ Some word → words ≡ word ∷ []
 single_is [] word e = absurd cc
 single_is (w ∷ []) word e = ap (λ x. x ∷ []) (same_some e)
 single_is (w ∷ x ∷ ws) word e = absurd cc

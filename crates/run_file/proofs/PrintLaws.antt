@@ -24,7 +24,7 @@ use Rattle.run_file.specs.Printed.{named_text, numbered_text, place_text, places
 on_drop : {X : Type 0} (xs : List X) (n : ℕ) (x : X) → n < length xs → x ≡ get_or xs n x → drop n xs ≡ x ∷ drop (n + 1) xs
 on_drop xs n x within is = drop_more xs n x within ∙ ap (λ y. y ∷ drop (n + 1) xs) (sym is)
 
-regrouped : (before text rest all now : List ℕ) → before ++ (text ++ rest) ≡ all → now ≡ before ++ text → now ++ rest ≡ all
+pub regrouped : (before text rest all now : List ℕ) → before ++ (text ++ rest) ≡ all → now ≡ before ++ text → now ++ rest ≡ all
 regrouped before text rest all now h e = ap (λ x. x ++ rest) e ∙ (append_assoc before text rest ∙ h)
 
 pub numbered_more : {X : Type 0} (text : List ℕ → X → List ℕ) (names : List (List ℕ)) (n : ℕ) (xs : List X) (x : X) (before now all : List ℕ) (o : Option (List ℕ)) →

@@ -1,12 +1,10 @@
 -- What is printed of a thing is its lines.
-use Rattle.std.proofs.Common.{◌≡◌, ◌+◌, ◌<◌, ◌≤◌, ℕ, suc, Bool, true, false, cond, List, [], ◌∷◌, ◌++◌, length, All, Some, IfSome, slice_get, refl, sym, subst, arith}
-use Rattle.std.specs.Prelude.{⊤, codes, nat_eq}
-use Rattle.std.specs.List.{AllZip, starts_with}
+use Rattle.std.proofs.Common.{ℕ, Bool, true, false, cond, List, [], ◌∷◌, ◌++◌, All, refl, subst, arith}
+use Rattle.std.specs.Prelude.{codes}
+use Rattle.std.specs.List.{AllZip}
 use Rattle.std.specs.Ordering.{nat_cmp}
 use Rattle.std.proofs.lemmas.List.{append-nil}
 use Rattle.std.proofs.lemmas.List.Elements.{All-head, All-tail}
-use Rattle.std.proofs.lemmas.Option.{slice_get_within, slice_get-get_or}
-use Rattle.std.proofs.Math.ListN.{get_or}
 use Rattle.sparse.specs.Map.{Map, get, keys}
 use Rattle.vb_value.specs.Content.{Content, IsReducedContent, IsWithinContent}
 use Rattle.vb_value.specs.Key.{key_cmp, IsWithinKey}
@@ -19,54 +17,16 @@ use Rattle.viper_state.specs.Within.{HasValues, HasEntries}
 use Rattle.viper_state.proofs.EachLaws.{get_has}
 use Rattle.viper_state.proofs.FitsLaws.{FitsMap-get, FitsValue-default}
 use Rattle.viper_state.proofs.MapLaws.{exact_values, exact_contents}
-use Rattle.viper_state.proofs.Paired.{paired_back, All-found}
+use Rattle.viper_state.proofs.Paired.{paired_back}
 use Rattle.run_file.specs.Lines as l
 use Rattle.run_file.specs.Lines.{Known, HasName, Scope, Line, Var, Heap, Holds, Chosen, Opened, IsLine}
 use Rattle.run_file.specs.Printable.{IsNamed, IsNamedValue, IsNamedKey, IsNamedContent}
-use Rattle.run_file.specs.Printed.{named_text, numbered_text, reference_text, value_text, var_text, place_text, places_text, heap_text, instance_text, instances_text, contents_text, key_text, content_text}
+use Rattle.run_file.specs.Printed.{numbered_text, reference_text, value_text, var_text, place_text, places_text, heap_text, instance_text, instances_text, contents_text, key_text, content_text}
 use Rattle.run_file.specs.Values.{SpellsValue, BeginsWithContent}
-use Rattle.run_file.proofs.PrintedWords.{IsWord, IsFront, IsText, word_text, text_then, front_then, blank_behind, Tells, tells_nothing, tells_then, line_told}
+use Rattle.run_file.proofs.PrintedWords.{IsWord, word_text, text_then, front_then, blank_behind}
 use Rattle.run_file.proofs.PrintedValues.{value_is_spelled, value_word, reference_spelled, key_spelled, content_spelled, key_words, content_words}
-use Rattle.run_file.proofs.PrintedMemos.{numbered_lines, entry_lines, map_lines, var_lines}
-
--- the text is these lines
-pub record Says (s : Scope) (text : List ℕ) (ls : List Line) : Type 0 where
-  pub words : List (List (List ℕ))
-  pub told : Tells text words
-  pub are : AllZip (IsLine s) words ls
-
-zip_append : {A B : Type 0} (R : A → B → Type 0) (xs us : List A) (ys vs : List B) → AllZip R xs ys → AllZip R us vs → AllZip R (xs ++ us) (ys ++ vs)
-zip_append R [] us [] vs h k = k
-zip_append R [] us (y ∷ ys) vs h k = absurd h
-zip_append R (x ∷ xs) us [] vs h k = absurd h
-zip_append R (x ∷ xs) us (y ∷ ys) vs h k = (h.0, zip_append R xs us ys vs h.1 k)
-
-pub says_nothing : (s : Scope) → Says s [] []
-says_nothing s = record { words = []; told = tells_nothing; are = tt }
-
-pub says_then : {s : Scope} {a b : List ℕ} {ls ms : List Line} → Says s a ls → Says s b ms → Says s (a ++ b) (ls ++ ms)
-says_then {s} {a} {b} {ls} {ms} h k = record { words = h.words ++ k.words; told = tells_then h.told k.told; are = zip_append (IsLine s) h.words k.words ls ms h.are k.are }
-
-pub line_said : (s : Scope) (text w : List ℕ) (ws : List (List ℕ)) (x : Line) → IsText text (w ∷ ws) → starts_with nat_eq text (codes "//") ≡ false → IsLine s (w ∷ ws) x → Says s (text ++ codes "\n") (x ∷ [])
-line_said s text w ws x h first is = record { words = (w ∷ ws) ∷ []; told = line_told text w ws h first; are = (is, tt) }
-
--- ---- names
-
--- each of these has a name that is a word
-pub record HasNames {T : Type 0} (k : Known T) : Type 0 where
-  pub as_many : length k.types ≤ length k.names
-  pub words : All IsWord k.names
-
-pub record NamedAt {T : Type 0} (k : Known T) (n : ℕ) (t : T) : Type 0 where
-  pub name : List ℕ
-  pub word : IsWord name
-  pub has : HasName k n name t
-
-pub named_at : {T : Type 0} (k : Known T) → HasNames k → (n : ℕ) (t : T) → slice_get k.types n ≡ Some t → NamedAt k n t
-named_at k h n t there =
-    let within : n < length k.names = omega (arith, slice_get_within k.types n t there, h.as_many) in
-    let found : slice_get k.names n ≡ Some (get_or k.names n []) = slice_get-get_or k.names n [] within in
-    record { name = get_or k.names n []; word = subst (λ o. IfSome o IsWord) found (All-found IsWord k.names n h.words); has = record { named = found; typed = there } }
+use Rattle.run_file.proofs.PrintedMemos.{entry_lines, map_lines, var_lines}
+use Rattle.run_file.proofs.SaidLines.{Says, says_nothing, says_then, line_said, keyword, HasNames, NamedAt, named_at, found, numbered, numbered_said}
 
 -- ---- values
 
@@ -78,10 +38,7 @@ pub record GoodValue (u : Ty) (w : Value) : Type 0 where
 pub good_spelled : {u : Ty} {w : Value} → GoodValue u w → SpellsValue u (value_text w) w
 good_spelled {u} {w} h = subst (λ t. SpellsValue t (value_text w) w) h.fits.typed (value_is_spelled w h.fits.reduced h.within h.named)
 
-keyword : {w : List ℕ} → IsWord w → IsFront (w ++ codes " ") (w ∷ [])
-keyword h = blank_behind (word_text h)
-
-var_word : IsWord (codes "var")
+pub var_word : IsWord (codes "var")
 var_word = record { some = omega arith; bytes = refl }
 
 heap_word : IsWord (codes "heap")
@@ -92,26 +49,26 @@ content_word = record { some = omega arith; bytes = refl }
 
 -- ---- variables
 
-pub var_said : (s : Scope) (n : ℕ) (u : Ty) (w : Value) (a : NamedAt s.variables n u) → GoodValue u w → Says s (var_text a.name w) (var_lines n w)
+pub var_said : (s : Scope) (n : ℕ) (u : Ty) (w : Value) (a : NamedAt s.variables n u) → GoodValue u w → Says (IsLine s) (var_text a.name w) (var_lines n w)
 var_said s n u w a h = by_test (value_eq w (default_of (type_of w))) where
-  by_test : (b : Bool) → Says s (cond b [] (codes "var " ++ a.name ++ codes " " ++ value_text w ++ codes "\n")) (cond b [] (Var n w ∷ []))
-  by_test true = says_nothing s
+  by_test : (b : Bool) → Says (IsLine s) (cond b [] (codes "var " ++ a.name ++ codes " " ++ value_text w ++ codes "\n")) (cond b [] (Var n w ∷ []))
+  by_test true = says_nothing (IsLine s)
   by_test false =
       let spelled = good_spelled h in
-      line_said s (codes "var " ++ a.name ++ codes " " ++ value_text w) (codes "var") (a.name ∷ value_text w ∷ []) (Var n w)
+      line_said (IsLine s) (codes "var " ++ a.name ++ codes " " ++ value_text w) (codes "var") (a.name ∷ value_text w ∷ []) (Var n w)
       (text_then (blank_behind (text_then (keyword var_word) (word_text a.word))) (word_text (value_word spelled))) refl (l.var a.has spelled)
 
 -- ---- places
 
-place_said : (s : Scope) (f r : ℕ) (u : Ty) (w : Value) (a : NamedAt s.fields f u) → IsNamed r → GoodValue u w → Says s (place_text a.name r w) (Heap f r w ∷ [])
+place_said : (s : Scope) (f r : ℕ) (u : Ty) (w : Value) (a : NamedAt s.fields f u) → IsNamed r → GoodValue u w → Says (IsLine s) (place_text a.name r w) (Heap f r w ∷ [])
 place_said s f r u w a small h =
     let at = reference_spelled r small in let spelled = good_spelled h in
-    line_said s (codes "heap " ++ a.name ++ codes " " ++ reference_text r ++ codes " " ++ value_text w) (codes "heap") (a.name ∷ reference_text r ∷ value_text w ∷ []) (Heap f r w)
+    line_said (IsLine s) (codes "heap " ++ a.name ++ codes " " ++ reference_text r ++ codes " " ++ value_text w) (codes "heap") (a.name ∷ reference_text r ∷ value_text w ∷ []) (Heap f r w)
     (text_then (blank_behind (text_then (blank_behind (text_then (keyword heap_word) (word_text a.word))) (word_text (value_word at)))) (word_text (value_word spelled))) refl (l.heap a.has at spelled)
 
 places_said : (s : Scope) (f : ℕ) (u : Ty) (m : Map ℕ Value) (rs : List ℕ) (a : NamedAt s.fields f u) → All IsNamed rs → ((r : ℕ) → GoodValue u (get nat_cmp m r)) →
-    Says s (places_text a.name m rs) (entry_lines nat_cmp Heap f m rs)
-places_said s f u m [] a named good = says_nothing s
+    Says (IsLine s) (places_text a.name m rs) (entry_lines nat_cmp Heap f m rs)
+places_said s f u m [] a named good = says_nothing (IsLine s)
 places_said s f u m (r ∷ rs) a named good =
     says_then (place_said s f r u (get nat_cmp m r) a (All-head IsNamed r rs named) (good r)) (places_said s f u m rs a (All-tail IsNamed r rs named) good)
 
@@ -127,69 +84,34 @@ record GoodKey (us : List Ty) (k : Key) : Type 0 where
   within : IsWithinKey k
   named : IsNamedKey k
 
-instance_said : (s : Scope) (q : ℕ) (us : List Ty) (k : Key) (c : Content) (a : NamedAt s.predicates q us) → GoodKey us k → GoodContent c → Says s (instance_text a.name k c) (Holds q k c ∷ [])
+instance_said : (s : Scope) (q : ℕ) (us : List Ty) (k : Key) (c : Content) (a : NamedAt s.predicates q us) → GoodKey us k → GoodContent c → Says (IsLine s) (instance_text a.name k c) (Holds q k c ∷ [])
 instance_said s q us k c a g h =
     let key = key_spelled us k g.fits g.within g.named in
     let tree = content_spelled c h.lowest h.within.values h.named in
-    line_said s (codes "content " ++ a.name ++ codes " " ++ key_text k ++ content_text c) (codes "content") (a.name ∷ (key_words k ++ content_words c)) (Holds q k c)
+    line_said (IsLine s) (codes "content " ++ a.name ++ codes " " ++ key_text k ++ content_text c) (codes "content") (a.name ∷ (key_words k ++ content_words c)) (Holds q k c)
     (text_then (front_then (blank_behind (text_then (keyword content_word) (word_text a.word))) key.text) tree.text) refl
     (l.content a.has (key.spelled (content_words c)) (subst (λ ws. BeginsWithContent ws c []) (append-nil (content_words c)) (tree.spelled [])) h.within.small)
 
 instances_said : (s : Scope) (q : ℕ) (us : List Ty) (m : Map Key Content) (ks : List Key) (a : NamedAt s.predicates q us) → All (FitsKey us) ks → All IsWithinKey ks → All IsNamedKey ks →
-    ((k : Key) → GoodContent (get key_cmp m k)) → Says s (instances_text a.name m ks) (entry_lines key_cmp Holds q m ks)
-instances_said s q us m [] a fits within named good = says_nothing s
+    ((k : Key) → GoodContent (get key_cmp m k)) → Says (IsLine s) (instances_text a.name m ks) (entry_lines key_cmp Holds q m ks)
+instances_said s q us m [] a fits within named good = says_nothing (IsLine s)
 instances_said s q us m (k ∷ ks) a fits within named good =
     says_then (instance_said s q us k (get key_cmp m k) a
     (record { fits = All-head (FitsKey us) k ks fits; within = All-head IsWithinKey k ks within; named = All-head IsNamedKey k ks named }) (good k))
     (instances_said s q us m ks a (All-tail (FitsKey us) k ks fits) (All-tail IsWithinKey k ks within) (All-tail IsNamedKey k ks named) good)
 
--- ---- things by number
-
-abbrev AllFrom : {X : Type 0} → (ℕ → X → Type 0) → ℕ → List X → Type 0
-AllFrom P n [] = ⊤
-AllFrom P n (x ∷ xs) = P n x × AllFrom P (n + 1) xs
-
-all_from : {X : Type 0} (P : ℕ → X → Type 0) (n : ℕ) (xs : List X) → ((i : ℕ) (x : X) → slice_get xs i ≡ Some x → P (n + i) x) → AllFrom P n xs
-all_from P n [] h = tt
-all_from P n (x ∷ xs) h =
-    let first : n + 0 ≡ n = omega arith in
-    (subst (λ k. P k x) first (h 0 x refl), all_from P (n + 1) xs (λ i y e. subst (λ k. P k y) (one_on n i) (h (suc i) y e)))
-  where
-    one_on : (n i : ℕ) → n + suc i ≡ n + 1 + i
-    one_on n i = omega arith
-
-from_none : (i : ℕ) → i ≡ 0 + i
-from_none i = omega arith
-
--- what is printed of a thing with its name is its lines
-pub record SaidAt {X : Type 0} (s : Scope) (text : List ℕ → X → List ℕ) (lines : ℕ → X → List Line) (names : List (List ℕ)) (n : ℕ) (x : X) : Type 0 where
-  pub name : List ℕ
-  pub named : slice_get names n ≡ Some name
-  pub said : Says s (text name x) (lines n x)
-
-module _ {X : Type 0} (s : Scope) (text : List ℕ → X → List ℕ) (lines : ℕ → X → List Line) (names : List (List ℕ)) where
-  numbered_from : (n : ℕ) (xs : List X) → AllFrom (SaidAt s text lines names) n xs → Says s (numbered_text text names n xs) (numbered_lines lines n xs)
-  numbered_from n [] h = says_nothing s
-  numbered_from n (x ∷ xs) h = says_then (subst (λ o. Says s (named_text text o x) (lines n x)) (sym h.0.named) h.0.said) (numbered_from (n + 1) xs h.1)
-
-  pub numbered_said : (xs : List X) → ((i : ℕ) (x : X) → slice_get xs i ≡ Some x → SaidAt s text lines names i x) → Says s (numbered_text text names 0 xs) (numbered_lines lines 0 xs)
-  numbered_said xs h = numbered_from 0 xs (all_from (SaidAt s text lines names) 0 xs (λ i x e. subst (λ k. SaidAt s text lines names k x) (from_none i) (h i x e)))
-
 -- ---- variables, heaps and contents
 
-found : {X : Type 0} (P : X → Type 0) (xs : List X) (n : ℕ) (x : X) → All P xs → slice_get xs n ≡ Some x → P x
-found P xs n x h e = subst (λ o. IfSome o P) e (All-found P xs n h)
-
 pub variables_said : (s : Scope) (vs : List Value) → HasNames s.variables → FitsStore s.variables.types vs → All IsWithinValue vs → All IsNamedValue vs →
-    Says s (numbered_text var_text s.variables.names 0 vs) (numbered_lines var_lines 0 vs)
+    Says (IsLine s) (numbered_text var_text s.variables.names 0 vs) (numbered var_lines 0 vs)
 variables_said s vs names fits within named =
-    numbered_said s var_text var_lines s.variables.names vs (λ i w e.
+    numbered_said (IsLine s) var_text var_lines s.variables.names vs (λ i w e.
     let at = paired_back FitsValue s.variables.types vs i w fits e in
     let a = named_at s.variables names i at.0 at.1.0 in
     record { name = a.name; named = a.has.named; said = var_said s i at.0 w a (record { fits = at.1.1; within = found IsWithinValue vs i w within e; named = found IsNamedValue vs i w named e }) })
 
 heap_said : (s : Scope) (f : ℕ) (u : Ty) (m : Map ℕ Value) (a : NamedAt s.fields f u) → FitsHeap u m → HasValues IsWithinValue m → HasEntries IsNamed IsNamedValue m →
-    Says s (heap_text a.name m) (map_lines nat_cmp Heap f m)
+    Says (IsLine s) (heap_text a.name m) (map_lines nat_cmp Heap f m)
 heap_said s f u m a fits within named =
     places_said s f u m (keys m) a named.keys (λ r. record {
       fits = FitsMap-get exact_values.total m r fits (FitsValue-default u);
@@ -198,15 +120,15 @@ heap_said s f u m a fits within named =
     })
 
 pub heaps_said : (s : Scope) (ms : List (Map ℕ Value)) → HasNames s.fields → AllZip FitsHeap s.fields.types ms → All (HasValues IsWithinValue) ms → All (HasEntries IsNamed IsNamedValue) ms →
-    Says s (numbered_text heap_text s.fields.names 0 ms) (numbered_lines (map_lines nat_cmp Heap) 0 ms)
+    Says (IsLine s) (numbered_text heap_text s.fields.names 0 ms) (numbered (map_lines nat_cmp Heap) 0 ms)
 heaps_said s ms names fits within named =
-    numbered_said s heap_text (map_lines nat_cmp Heap) s.fields.names ms (λ i m e.
+    numbered_said (IsLine s) heap_text (map_lines nat_cmp Heap) s.fields.names ms (λ i m e.
     let at = paired_back FitsHeap s.fields.types ms i m fits e in
     let a = named_at s.fields names i at.0 at.1.0 in
     record { name = a.name; named = a.has.named; said = heap_said s i at.0 m a at.1.1 (found (HasValues IsWithinValue) ms i m within e) (found (HasEntries IsNamed IsNamedValue) ms i m named e) })
 
 content_said : (s : Scope) (q : ℕ) (us : List Ty) (m : Map Key Content) (a : NamedAt s.predicates q us) → FitsContents us m → HasEntries IsWithinKey IsWithinContent m →
-    HasEntries IsNamedKey IsNamedContent m → Says s (contents_text a.name m) (map_lines key_cmp Holds q m)
+    HasEntries IsNamedKey IsNamedContent m → Says (IsLine s) (contents_text a.name m) (map_lines key_cmp Holds q m)
 content_said s q us m a fits within named =
     instances_said s q us m (keys m) a fits.keys within.keys named.keys (λ k. record {
       lowest = FitsMap-get exact_contents.total m k fits tt;
@@ -215,9 +137,9 @@ content_said s q us m a fits within named =
     })
 
 pub contents_said : (s : Scope) (ms : List (Map Key Content)) → HasNames s.predicates → AllZip FitsContents s.predicates.types ms → All (HasEntries IsWithinKey IsWithinContent) ms →
-    All (HasEntries IsNamedKey IsNamedContent) ms → Says s (numbered_text contents_text s.predicates.names 0 ms) (numbered_lines (map_lines key_cmp Holds) 0 ms)
+    All (HasEntries IsNamedKey IsNamedContent) ms → Says (IsLine s) (numbered_text contents_text s.predicates.names 0 ms) (numbered (map_lines key_cmp Holds) 0 ms)
 contents_said s ms names fits within named =
-    numbered_said s contents_text (map_lines key_cmp Holds) s.predicates.names ms (λ i m e.
+    numbered_said (IsLine s) contents_text (map_lines key_cmp Holds) s.predicates.names ms (λ i m e.
     let at = paired_back FitsContents s.predicates.types ms i m fits e in
     let a = named_at s.predicates names i at.0 at.1.0 in
     record { name = a.name; named = a.has.named; said = content_said s i at.0 m a at.1.1 (found (HasEntries IsWithinKey IsWithinContent) ms i m within e) (found (HasEntries IsNamedKey IsNamedContent) ms i m named e) })

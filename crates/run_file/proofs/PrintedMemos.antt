@@ -19,13 +19,10 @@ use Rattle.viper_state.specs.State.{Key, Memo, changed_at}
 use Rattle.viper_state.proofs.MapLaws.{exact_values, exact_contents}
 use Rattle.run_file.specs.Lines.{Line, Var, Heap, Holds, Chosen, Opened}
 use Rattle.run_file.specs.Run.{memo_with, opening_with, empty_memo, IsPlaceLine, IsSetting}
+use Rattle.run_file.proofs.SaidLines.{numbered}
 use Rattle.run_file.proofs.PrintedMaps.{refilled, refilled_is, changed_middle}
 
 -- ---- lines
-
-abbrev pub numbered_lines : {X : Type 0} → (ℕ → X → List Line) → ℕ → List X → List Line
-numbered_lines lines n [] = []
-numbered_lines lines n (x ∷ xs) = lines n x ++ numbered_lines lines (n + 1) xs
 
 abbrev pub entry_lines : {K V : Type 0} → (K → K → Ordering) → (ℕ → K → V → Line) → ℕ → Map K V → List K → List Line
 entry_lines cmp line n m [] = []
@@ -35,7 +32,7 @@ abbrev pub map_lines : {K V : Type 0} → (K → K → Ordering) → (ℕ → K 
 map_lines cmp line n m = entry_lines cmp line n m (keys m)
 
 abbrev pub memo_lines : Memo → List Line
-memo_lines m = numbered_lines (map_lines nat_cmp Heap) 0 m.heap ++ numbered_lines (map_lines key_cmp Holds) 0 m.content
+memo_lines m = numbered (map_lines nat_cmp Heap) 0 m.heap ++ numbered (map_lines key_cmp Holds) 0 m.content
 
 abbrev pub var_lines : ℕ → Value → List Line
 var_lines n v = if value_eq v (default_of (type_of v)) then [] else Var n v ∷ []
@@ -47,21 +44,21 @@ each_append P [] ms h k = k
 each_append P (l ∷ ls) ms h k = (h.0, each_append P ls ms h.1 k)
 
 module _ {X : Type 0} (P : Line → Type 0) (lines : ℕ → X → List Line) (go : (n : ℕ) (x : X) → AllByRecursion P (lines n x)) where
-  each_numbered : (n : ℕ) (xs : List X) → AllByRecursion P (numbered_lines lines n xs)
+  each_numbered : (n : ℕ) (xs : List X) → AllByRecursion P (numbered lines n xs)
   each_numbered n [] = tt
-  each_numbered n (x ∷ xs) = each_append P (lines n x) (numbered_lines lines (n + 1) xs) (go n x) (each_numbered (n + 1) xs)
+  each_numbered n (x ∷ xs) = each_append P (lines n x) (numbered lines (n + 1) xs) (go n x) (each_numbered (n + 1) xs)
 
 module _ {K V : Type 0} (cmp : K → K → Ordering) (P : Line → Type 0) (line : ℕ → K → V → Line) (go : (n : ℕ) (k : K) (v : V) → P (line n k v)) where
   each_entry : (n : ℕ) (m : Map K V) (ks : List K) → AllByRecursion P (entry_lines cmp line n m ks)
   each_entry n m [] = tt
   each_entry n m (k ∷ ks) = (go n k (get cmp m k), each_entry n m ks)
 
-  each_map : (n : ℕ) (ms : List (Map K V)) → AllByRecursion P (numbered_lines (map_lines cmp line) n ms)
+  each_map : (n : ℕ) (ms : List (Map K V)) → AllByRecursion P (numbered (map_lines cmp line) n ms)
   each_map n ms = each_numbered P (map_lines cmp line) (λ i m. each_entry i m (keys m)) n ms
 
 pub places_alone : (m : Memo) → AllByRecursion IsPlaceLine (memo_lines m)
 places_alone m =
-    each_append IsPlaceLine (numbered_lines (map_lines nat_cmp Heap) 0 m.heap) (numbered_lines (map_lines key_cmp Holds) 0 m.content)
+    each_append IsPlaceLine (numbered (map_lines nat_cmp Heap) 0 m.heap) (numbered (map_lines key_cmp Holds) 0 m.content)
     (each_map nat_cmp IsPlaceLine Heap (λ n k v. tt) 0 m.heap) (each_map key_cmp IsPlaceLine Holds (λ n k v. tt) 0 m.content)
 
 place_sets : (l : Line) → IsPlaceLine l → IsSetting l
@@ -81,11 +78,11 @@ var_sets n v false = (tt, tt)
 
 -- the lines of an opening
 abbrev pub opening_lines : Opening → List Line
-opening_lines o = numbered_lines var_lines 0 o.store ++ memo_lines o.memo
+opening_lines o = numbered var_lines 0 o.store ++ memo_lines o.memo
 
 pub settings_alone : (o : Opening) → AllByRecursion IsSetting (opening_lines o)
 settings_alone o =
-    each_append IsSetting (numbered_lines var_lines 0 o.store) (memo_lines o.memo)
+    each_append IsSetting (numbered var_lines 0 o.store) (memo_lines o.memo)
     (each_numbered IsSetting var_lines (λ n v. var_sets n v (value_eq v (default_of (type_of v)))) 0 o.store) (places_set (memo_lines o.memo) (places_alone o.memo))
 
 -- ---- the lines of maps give the maps back
@@ -106,15 +103,15 @@ module _ {K V U : Type 0} {cmp : K → K → Ordering} {eq : V → V → Bool} (
       (entries_folded m (empty m.default) before after n (keys m) at ∙ ap (λ y. put (before ++ y ∷ after)) (refilled_is x m h.1))
 
   maps_folded : (us : List U) (ms before : List (Map K V)) (n : ℕ) → n ≡ length before → AllZip (λ u m. (m.default ≡ d u) × IsReduced cmp eq m) us ms →
-      fold memo_with (put (before ++ map (λ u. empty (d u)) us)) (numbered_lines (map_lines cmp line) n ms) ≡ put (before ++ ms)
+      fold memo_with (put (before ++ map (λ u. empty (d u)) us)) (numbered (map_lines cmp line) n ms) ≡ put (before ++ ms)
   maps_folded [] [] before n at h = refl
   maps_folded [] (m ∷ ms) before n at h = absurd h
   maps_folded (u ∷ us) [] before n at h = absurd h
   maps_folded (u ∷ us) (m ∷ ms) before n at h =
       let rest : List (Map K V) = map (λ u. empty (d u)) us in
       let longer : n + 1 ≡ length (before ++ m ∷ []) = omega (arith, at, length-append before (m ∷ [])) in
-      fold-append memo_with (put (before ++ empty (d u) ∷ rest)) (map_lines cmp line n m) (numbered_lines (map_lines cmp line) (n + 1) ms) ∙
-      (ap (λ s. fold memo_with s (numbered_lines (map_lines cmp line) (n + 1) ms)) (map_folded u m before rest n at h.0 ∙ ap put (sym (append_assoc before (m ∷ []) rest))) ∙
+      fold-append memo_with (put (before ++ empty (d u) ∷ rest)) (map_lines cmp line n m) (numbered (map_lines cmp line) (n + 1) ms) ∙
+      (ap (λ s. fold memo_with s (numbered (map_lines cmp line) (n + 1) ms)) (map_folded u m before rest n at h.0 ∙ ap put (sym (append_assoc before (m ∷ []) rest))) ∙
       (maps_folded us ms (before ++ m ∷ []) (n + 1) longer h.1 ∙ ap put (append_assoc before (m ∷ []) ms)))
 
 zip_of : {A B : Type 0} (R S : A → B → Type 0) → ((a : A) (b : B) → R a b → S a b) → (xs : List A) (ys : List B) → AllZip R xs ys → AllZip S xs ys
@@ -127,8 +124,8 @@ zip_of R S go (x ∷ xs) (y ∷ ys) h = (go x y h.0, zip_of R S go xs ys h.1)
 pub memo_filled : (l : Layout) (m : Memo) → FitsMemo l m → fold memo_with (empty_memo l.fields l.keys) (memo_lines m) ≡ m
 memo_filled l m h =
     let none = map (λ us. empty {K = Key} content.Unit) l.keys in
-    fold-append memo_with (empty_memo l.fields l.keys) (numbered_lines (map_lines nat_cmp Heap) 0 m.heap) (numbered_lines (map_lines key_cmp Holds) 0 m.content) ∙
-    (ap (λ s. fold memo_with s (numbered_lines (map_lines key_cmp Holds) 0 m.content))
+    fold-append memo_with (empty_memo l.fields l.keys) (numbered (map_lines nat_cmp Heap) 0 m.heap) (numbered (map_lines key_cmp Holds) 0 m.content) ∙
+    (ap (λ s. fold memo_with s (numbered (map_lines key_cmp Holds) 0 m.content))
     (maps_folded exact_values Heap (λ maps. record { heap = maps; content = none }) (λ maps n k v. refl) default_of l.fields m.heap [] 0 refl
     (zip_of FitsHeap (λ u n. (n.default ≡ default_of u) × IsReduced nat_cmp value_eq n) (λ u n i. (i.default, i.reduced)) l.fields m.heap h.heap)) ∙
     maps_folded exact_contents Holds (λ maps. record { heap = m.heap; content = maps }) (λ maps n k v. refl) (λ us. content.Unit) l.keys m.content [] 0 refl

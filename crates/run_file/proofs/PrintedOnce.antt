@@ -9,7 +9,7 @@ use Rattle.std.specs.declared.cmp.Ordering.{Ordering}
 use Rattle.std.specs.declared.cmp.Ordering.TheVariants.{Less, Equal}
 use Rattle.std.proofs.lemmas.Cmp.{tied_itself}
 use Rattle.std.proofs.lemmas.List.{append-nil}
-use Rattle.std.proofs.lemmas.List.Elements.{All-nil, All-cons, All-head, All-tail}
+use Rattle.std.proofs.lemmas.List.Elements.{All-nil, All-cons, All-weaker}
 use Rattle.std.proofs.lemmas.List.Kept.{AllPairs-cons}
 use Rattle.sparse.specs.Map.{Map, get, keys}
 use Rattle.vb_value.specs.Key.{key_cmp}
@@ -24,11 +24,8 @@ use Rattle.run_file.specs.Lines.{Line, Var, Heap, Holds}
 use Rattle.run_file.specs.Run.{names_of, all_names, NamedOnce}
 use Rattle.run_file.specs.declared.lines.Named.{Named}
 use Rattle.run_file.specs.declared.lines.Named.TheVariants.{Variable, Place, Instance}
-use Rattle.run_file.proofs.PrintedMemos.{numbered_lines, entry_lines, map_lines, memo_lines, var_lines, opening_lines}
-
-all_by : {X : Type 0} (P Q : X → Type 0) → ((x : X) → P x → Q x) → (xs : List X) → All P xs → All Q xs
-all_by P Q go [] h = All-nil Q
-all_by P Q go (x ∷ xs) h = All-cons Q x xs (go x (All-head P x xs h)) (all_by P Q go xs (All-tail P x xs h))
+use Rattle.run_file.proofs.SaidLines.{numbered}
+use Rattle.run_file.proofs.PrintedMemos.{entry_lines, map_lines, memo_lines, var_lines, opening_lines}
 
 -- what lines name from a number on, each once
 record Once (From : ℕ → Named → Type 0) (n : ℕ) (ls : List Line) : Type 0 where
@@ -46,7 +43,7 @@ one_more From n l x ls is from apart h = record {
 }
 
 fewer : (From : ℕ → Named → Type 0) → ((n : ℕ) (x : Named) → From (n + 1) x → From n x) → (n : ℕ) (ls : List Line) → Once From (n + 1) ls → Once From n ls
-fewer From more n ls h = record { apart = h.apart; from = all_by (From (n + 1)) (From n) (more n) (all_names ls) h.from }
+fewer From more n ls h = record { apart = h.apart; from = All-weaker (From (n + 1)) (From n) (more n) (all_names ls) h.from }
 
 -- ---- maps
 
@@ -58,7 +55,7 @@ record Names {K V : Type 0} (line : ℕ → K → V → Line) (name : ℕ → K 
   more : (n : ℕ) (x : Named) → From (n + 1) x → From n x
   apart : (n : ℕ) (k : K) (x : Named) → From (n + 1) x → name n k ≢ x
 
-less_itself : {K : Type 0} {cmp : K → K → Ordering} → IsTotalOrder cmp → (k q : K) → cmp k q ≡ Less → k ≢ q
+pub less_itself : {K : Type 0} {cmp : K → K → Ordering} → IsTotalOrder cmp → (k q : K) → cmp k q ≡ Less → k ≢ q
 less_itself {cmp = cmp} o k q less same = not_both (sym (tied_itself o k) ∙ (ap (cmp k) same ∙ less)) where
   not_both : Equal ≡ Less → ⊥
   not_both e = cc
@@ -66,7 +63,7 @@ less_itself {cmp = cmp} o k q less same = not_both (sym (tied_itself o k) ∙ (a
 module _ {K V : Type 0} {cmp : K → K → Ordering} (o : IsTotalOrder cmp) (line : ℕ → K → V → Line) (name : ℕ → K → Named) (From : ℕ → Named → Type 0) (h : Names line name From) where
   head_apart : (n : ℕ) (m : Map K V) (k : K) (ks : List K) (ls : List Line) → AllByRecursion (λ q. cmp k q ≡ Less) ks → All (From (n + 1)) (all_names ls) →
       All (λ y. name n k ≢ y) (all_names (entry_lines cmp line n m ks ++ ls))
-  head_apart n m k [] ls below from = all_by (From (n + 1)) (λ y. name n k ≢ y) (h.apart n k) (all_names ls) from
+  head_apart n m k [] ls below from = All-weaker (From (n + 1)) (λ y. name n k ≢ y) (h.apart n k) (all_names ls) from
   head_apart n m k (q ∷ ks) ls below from =
       subst (λ ns. All (λ y. name n k ≢ y) (ns ++ all_names (entry_lines cmp line n m ks ++ ls))) (sym (h.named n q (get cmp m q)))
       (All-cons (λ y. name n k ≢ y) (name n q) (all_names (entry_lines cmp line n m ks ++ ls)) (λ e. less_itself o k q below.0 (h.key n k q e)) (head_apart n m k ks ls below.1 from))
@@ -79,11 +76,11 @@ module _ {K V : Type 0} {cmp : K → K → Ordering} (o : IsTotalOrder cmp) (lin
       (head_apart n m k ks ls sorted.0 g.from) (entries_once n m ks ls sorted.1 g)
 
   maps_once : (n : ℕ) (ms : List (Map K V)) (ls : List Line) → AllByRecursion (λ m. IsStrictlySortedBy cmp (keys m)) ms → ((j : ℕ) → Once From j ls) →
-      Once From n (numbered_lines (map_lines cmp line) n ms ++ ls)
+      Once From n (numbered (map_lines cmp line) n ms ++ ls)
   maps_once n [] ls sorted g = g n
   maps_once n (m ∷ ms) ls sorted g =
-      subst (Once From n) (sym (append_assoc (map_lines cmp line n m) (numbered_lines (map_lines cmp line) (n + 1) ms) ls))
-      (entries_once n m (keys m) (numbered_lines (map_lines cmp line) (n + 1) ms ++ ls) sorted.0 (maps_once (n + 1) ms ls sorted.1 g))
+      subst (Once From n) (sym (append_assoc (map_lines cmp line n m) (numbered (map_lines cmp line) (n + 1) ms) ls))
+      (entries_once n m (keys m) (numbered (map_lines cmp line) (n + 1) ms ++ ls) sorted.0 (maps_once (n + 1) ms ls sorted.1 g))
 
 -- ---- the three kinds, each before the next
 
@@ -167,10 +164,10 @@ memo_names : (l : Layout) (m : Memo) → FitsMemo l m → Once FromPlace 0 (memo
 memo_names l m fits =
     let contents = maps_once exact_contents.total Holds Instance FromInstance (instances Holds (λ n k v. refl)) 0 m.content []
     (sorted_maps key_cmp FitsContents (λ u n i. i.reduced.ascending) l.keys m.content fits.content) (nothing_named FromInstance) in
-    let alone : Once FromInstance 0 (numbered_lines (map_lines key_cmp Holds) 0 m.content) = subst (Once FromInstance 0) (append-nil (numbered_lines (map_lines key_cmp Holds) 0 m.content)) contents in
-    maps_once exact_values.total Heap Place FromPlace (places Heap (λ n r v. refl)) 0 m.heap (numbered_lines (map_lines key_cmp Holds) 0 m.content)
+    let alone : Once FromInstance 0 (numbered (map_lines key_cmp Holds) 0 m.content) = subst (Once FromInstance 0) (append-nil (numbered (map_lines key_cmp Holds) 0 m.content)) contents in
+    maps_once exact_values.total Heap Place FromPlace (places Heap (λ n r v. refl)) 0 m.heap (numbered (map_lines key_cmp Holds) 0 m.content)
     (sorted_maps nat_cmp FitsHeap (λ u n i. i.reduced.ascending) l.fields m.heap fits.heap)
-    (λ j. record { apart = alone.apart; from = all_by (FromInstance 0) (FromPlace j) (place_behind j) (all_names (numbered_lines (map_lines key_cmp Holds) 0 m.content)) alone.from })
+    (λ j. record { apart = alone.apart; from = All-weaker (FromInstance 0) (FromPlace j) (place_behind j) (all_names (numbered (map_lines key_cmp Holds) 0 m.content)) alone.from })
 
 pub memo_once : (l : Layout) (m : Memo) → FitsMemo l m → NamedOnce (memo_lines m)
 memo_once l m fits = (memo_names l m fits).apart
@@ -178,16 +175,16 @@ memo_once l m fits = (memo_names l m fits).apart
 var_once : (n : ℕ) (v : Value) (ls : List Line) (b : Bool) → Once FromVariable (n + 1) ls → Once FromVariable n (cond b [] (Var n v ∷ []) ++ ls)
 var_once n v ls true h = fewer FromVariable variable_more n ls h
 var_once n v ls false h =
-    one_more FromVariable n (Var n v) (Variable n) ls refl (omega arith) (all_by (FromVariable (n + 1)) (λ y. Variable n ≢ y) (variable_apart n) (all_names ls) h.from) (fewer FromVariable variable_more n ls h)
+    one_more FromVariable n (Var n v) (Variable n) ls refl (omega arith) (All-weaker (FromVariable (n + 1)) (λ y. Variable n ≢ y) (variable_apart n) (all_names ls) h.from) (fewer FromVariable variable_more n ls h)
 
-vars_once : (n : ℕ) (vs : List Value) (ls : List Line) → ((j : ℕ) → Once FromVariable j ls) → Once FromVariable n (numbered_lines var_lines n vs ++ ls)
+vars_once : (n : ℕ) (vs : List Value) (ls : List Line) → ((j : ℕ) → Once FromVariable j ls) → Once FromVariable n (numbered var_lines n vs ++ ls)
 vars_once n [] ls h = h n
 vars_once n (v ∷ vs) ls h =
-    subst (Once FromVariable n) (sym (append_assoc (var_lines n v) (numbered_lines var_lines (n + 1) vs) ls))
-    (var_once n v (numbered_lines var_lines (n + 1) vs ++ ls) (value_eq v (default_of (type_of v))) (vars_once (n + 1) vs ls h))
+    subst (Once FromVariable n) (sym (append_assoc (var_lines n v) (numbered var_lines (n + 1) vs) ls))
+    (var_once n v (numbered var_lines (n + 1) vs ++ ls) (value_eq v (default_of (type_of v))) (vars_once (n + 1) vs ls h))
 
 pub opening_once : (l : Layout) (o : Opening) → FitsMemo l o.memo → NamedOnce (opening_lines o)
 opening_once l o fits =
     let places_of = memo_names l o.memo fits in
     (vars_once 0 o.store (memo_lines o.memo)
-    (λ j. record { apart = places_of.apart; from = all_by (FromPlace 0) (FromVariable j) (variable_behind j) (all_names (memo_lines o.memo)) places_of.from })).apart
+    (λ j. record { apart = places_of.apart; from = All-weaker (FromPlace 0) (FromVariable j) (variable_behind j) (all_names (memo_lines o.memo)) places_of.from })).apart

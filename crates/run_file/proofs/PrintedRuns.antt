@@ -4,7 +4,7 @@ use Rattle.std.specs.Prelude.{fold, codes}
 use Rattle.std.specs.List.{list_all}
 use Rattle.std.proofs.lemmas.Bool.{and_parts}
 use Rattle.std.proofs.lemmas.Bool.Decides.{nat_tests}
-use Rattle.std.proofs.lemmas.List.{append-nil, length-map, length-take}
+use Rattle.std.proofs.lemmas.List.{length-map, length-take}
 use Rattle.std.proofs.lemmas.List.Elements.{All-nil, All-cons, All-head, All-tail}
 use Rattle.std.proofs.lemmas.List.Sums.{fold-append}
 use Rattle.vb_base.specs.Names.{is_name, is_name_start, is_name_byte, is_viper_name, is_word}
@@ -27,14 +27,13 @@ use Rattle.run_file.specs.Lines.{Known, Scope, scope_of, method_variables, predi
 use Rattle.run_file.specs.Printable.{IsNamedMemo, IsNamedChoice, IsPrintable}
 use Rattle.run_file.specs.Printed.{memo_text, choice_text, choices_text, run_text, truth_text, value_text, fraction_text, reference_text}
 use Rattle.run_file.specs.Run.{ViperRun, opening_with, empty_opening, scope_memo, AreChoices, none, one, filled, header, SpellsViperRun}
-use Rattle.run_file.specs.Text.{lines_of, told}
-use Rattle.run_file.proofs.WordLaws.{no_words}
 use Rattle.run_file.proofs.PrintedWords.{all_of, is_word_byte, IsWord, word_text, text_then, blank_behind, Tells, tells_then, line_told}
 use Rattle.run_file.proofs.PrintedValues.{value_is_spelled, value_word, truth_spelled, reference_spelled, fraction_spelled}
 use Rattle.run_file.proofs.PrintedMaps.{set_middle}
-use Rattle.run_file.proofs.PrintedMemos.{numbered_lines, memo_lines, var_lines, opening_lines, places_alone, settings_alone, memo_filled, places_open}
+use Rattle.run_file.proofs.PrintedMemos.{memo_lines, var_lines, opening_lines, places_alone, settings_alone, memo_filled, places_open}
 use Rattle.run_file.proofs.PrintedOnce.{memo_once, opening_once}
-use Rattle.run_file.proofs.PrintedLines.{Says, says_nothing, says_then, line_said, HasNames, variables_said, heaps_said, contents_said}
+use Rattle.run_file.proofs.PrintedLines.{variables_said, heaps_said, contents_said}
+use Rattle.run_file.proofs.SaidLines.{Says, says_nothing, says_then, line_said, all_told, HasNames, numbered}
 
 -- ---- the names of a formed program are words
 
@@ -44,7 +43,7 @@ name_byte b is = grind (arith, nat_tests)
 start_byte : (b : ℕ) → is_name_start b ≡ true → is_word_byte b ≡ true
 start_byte b is = grind (arith, nat_tests)
 
-name_word : (name : List ℕ) → is_name name ≡ true → IsWord name
+pub name_word : (name : List ℕ) → is_name name ≡ true → IsWord name
 name_word [] is = absurd cc
 name_word (b ∷ bs) is =
     let parts = and_parts (is_name_start b) (list_all is_name_byte bs) is in
@@ -107,7 +106,7 @@ scope_names p n h =
 
 -- ---- heaps and contents, and choices
 
-memo_said : (p : Program) (n : ℕ) (m : Memo) → ScopeNames (scope_of p n) → FitsMemo p.layout m → IsWithinMemo m → IsNamedMemo m → Says (scope_of p n) (memo_text p m) (memo_lines m)
+memo_said : (p : Program) (n : ℕ) (m : Memo) → ScopeNames (scope_of p n) → FitsMemo p.layout m → IsWithinMemo m → IsNamedMemo m → Says (IsLine (scope_of p n)) (memo_text p m) (memo_lines m)
 memo_said p n m names fits within named =
     says_then (heaps_said (scope_of p n) m.heap names.fields fits.heap within.heap named.heap)
     (contents_said (scope_of p n) m.content names.predicates fits.content within.content named.content)
@@ -123,10 +122,10 @@ abbrev choices_lines : List Choice → List Line
 choices_lines [] = []
 choices_lines (c ∷ cs) = choice_lines c ++ choices_lines cs
 
-pick_word : IsWord (codes "pick")
+pub pick_word : IsWord (codes "pick")
 pick_word = record { some = omega arith; bytes = refl }
 
-value_keyword : IsWord (codes "value")
+pub value_keyword : IsWord (codes "value")
 value_keyword = record { some = omega arith; bytes = refl }
 
 amount_word : IsWord (codes "amount")
@@ -138,29 +137,29 @@ fresh_word = record { some = omega arith; bytes = refl }
 state_word : IsWord (codes "state")
 state_word = record { some = omega arith; bytes = refl }
 
-choice_said : (p : Program) (n : ℕ) (c : Choice) → ScopeNames (scope_of p n) → FitsChoice p.layout c → IsWithinChoice c → IsNamedChoice c → Says (scope_of p n) (choice_text p c) (choice_lines c)
+choice_said : (p : Program) (n : ℕ) (c : Choice) → ScopeNames (scope_of p n) → FitsChoice p.layout c → IsWithinChoice c → IsNamedChoice c → Says (IsLine (scope_of p n)) (choice_text p c) (choice_lines c)
 choice_said p n (Branch b) names fits within named =
     let spelled = truth_spelled b in
-    line_said (scope_of p n) (codes "pick " ++ truth_text b) (codes "pick") (truth_text b ∷ []) (Chosen (Branch b))
+    line_said (IsLine (scope_of p n)) (codes "pick " ++ truth_text b) (codes "pick") (truth_text b ∷ []) (Chosen (Branch b))
     (text_then (blank_behind (word_text pick_word)) (word_text (value_word spelled))) refl (l.pick spelled)
 choice_said p n (Took w) names fits within named =
     let spelled = value_is_spelled w fits within named in
-    line_said (scope_of p n) (codes "value " ++ value_text w) (codes "value") (value_text w ∷ []) (Chosen (Took w))
+    line_said (IsLine (scope_of p n)) (codes "value " ++ value_text w) (codes "value") (value_text w ∷ []) (Chosen (Took w))
     (text_then (blank_behind (word_text value_keyword)) (word_text (value_word spelled))) refl (l.value spelled)
 choice_said p n (Amount q) names fits within named =
     let spelled = fraction_spelled q fits within in
-    line_said (scope_of p n) (codes "amount " ++ fraction_text q) (codes "amount") (fraction_text q ∷ []) (Chosen (Amount q))
+    line_said (IsLine (scope_of p n)) (codes "amount " ++ fraction_text q) (codes "amount") (fraction_text q ∷ []) (Chosen (Amount q))
     (text_then (blank_behind (word_text amount_word)) (word_text (value_word spelled))) refl (l.amount spelled)
 choice_said p n (Fresh r) names fits within named =
     let spelled = reference_spelled r named in
-    line_said (scope_of p n) (codes "fresh " ++ reference_text r) (codes "fresh") (reference_text r ∷ []) (Chosen (Fresh r))
+    line_said (IsLine (scope_of p n)) (codes "fresh " ++ reference_text r) (codes "fresh") (reference_text r ∷ []) (Chosen (Fresh r))
     (text_then (blank_behind (word_text fresh_word)) (word_text (value_word spelled))) refl (l.fresh spelled)
 choice_said p n (Filled m) names fits within named =
-    says_then (line_said (scope_of p n) (codes "state") (codes "state") [] Opened (word_text state_word) refl l.state) (memo_said p n m names fits within named)
+    says_then (line_said (IsLine (scope_of p n)) (codes "state") (codes "state") [] Opened (word_text state_word) refl l.state) (memo_said p n m names fits within named)
 
 choices_said : (p : Program) (n : ℕ) (cs : List Choice) → ScopeNames (scope_of p n) → All (FitsChoice p.layout) cs → All IsWithinChoice cs → All IsNamedChoice cs →
-    Says (scope_of p n) (choices_text p cs) (choices_lines cs)
-choices_said p n [] names fits within named = says_nothing (scope_of p n)
+    Says (IsLine (scope_of p n)) (choices_text p cs) (choices_lines cs)
+choices_said p n [] names fits within named = says_nothing (IsLine (scope_of p n))
 choices_said p n (c ∷ cs) names fits within named =
     says_then (choice_said p n c names (All-head (FitsChoice p.layout) c cs fits) (All-head IsWithinChoice c cs within) (All-head IsNamedChoice c cs named))
     (choices_said p n cs names (All-tail (FitsChoice p.layout) c cs fits) (All-tail IsWithinChoice c cs within) (All-tail IsNamedChoice c cs named))
@@ -188,14 +187,14 @@ module _ (m : Memo) where
       ap (λ x. record { store = x; memo = m }) (ap (λ k. slice_set (before ++ default_of u ∷ after) k w) at ∙ set_middle before (default_of u) w after)
 
   vars_set : (us : List Ty) (ws before : List Value) (n : ℕ) → n ≡ length before → FitsStore us ws →
-      fold opening_with (record { store = before ++ map default_of us; memo = m }) (numbered_lines var_lines n ws) ≡ record { store = before ++ ws; memo = m }
+      fold opening_with (record { store = before ++ map default_of us; memo = m }) (numbered var_lines n ws) ≡ record { store = before ++ ws; memo = m }
   vars_set [] [] before n at fits = refl
   vars_set [] (w ∷ ws) before n at fits = absurd fits
   vars_set (u ∷ us) [] before n at fits = absurd fits
   vars_set (u ∷ us) (w ∷ ws) before n at fits =
       let longer : n + 1 ≡ length (before ++ w ∷ []) = omega (arith, at, length-append before (w ∷ [])) in
-      fold-append opening_with (record { store = before ++ default_of u ∷ map default_of us; memo = m }) (var_lines n w) (numbered_lines var_lines (n + 1) ws) ∙
-      (ap (λ o. fold opening_with o (numbered_lines var_lines (n + 1) ws))
+      fold-append opening_with (record { store = before ++ default_of u ∷ map default_of us; memo = m }) (var_lines n w) (numbered var_lines (n + 1) ws) ∙
+      (ap (λ o. fold opening_with o (numbered var_lines (n + 1) ws))
       (var_set n u w before (map default_of us) (value_eq w (default_of (type_of w))) at fits.0.typed refl ∙ ap (λ x. record { store = x; memo = m }) (sym (append_assoc before (w ∷ []) (map default_of us)))) ∙
       (vars_set us ws (before ++ w ∷ []) (n + 1) longer fits.1 ∙ ap (λ x. record { store = x; memo = m }) (append_assoc before (w ∷ []) ws)))
 
@@ -203,7 +202,7 @@ opening_set : (p : Program) (n : ℕ) (o : Opening) → FitsStore (scope_of p n)
     fold opening_with (empty_opening (scope_of p n)) (opening_lines o) ≡ o
 opening_set p n o store memo =
     let s = scope_of p n in
-    fold-append opening_with (empty_opening s) (numbered_lines var_lines 0 o.store) (memo_lines o.memo) ∙
+    fold-append opening_with (empty_opening s) (numbered var_lines 0 o.store) (memo_lines o.memo) ∙
     (ap (λ x. fold opening_with x (memo_lines o.memo)) (vars_set (scope_memo s) s.variables.types o.store [] 0 refl store) ∙
     (places_open (memo_lines o.memo) (record { store = o.store; memo = scope_memo s }) (places_alone o.memo) ∙ ap (λ m. record { store = o.store; memo = m }) (memo_filled p.layout o.memo memo)))
 
@@ -212,18 +211,11 @@ opening_set p n o store memo =
 viper_text : IsWord (codes "viper")
 viper_text = record { some = omega arith; bytes = refl }
 
-run_word : IsWord (codes "run")
+pub run_word : IsWord (codes "run")
 run_word = record { some = omega arith; bytes = refl }
 
 header_told : Tells (codes "viper run\n") (header ∷ [])
 header_told = line_told (codes "viper run") (codes "viper") (codes "run" ∷ []) (text_then (blank_behind (word_text viper_text)) (word_text run_word)) refl
-
-nothing_told : told (lines_of []) ≡ []
-nothing_told = rw no_words refl
-
-all_told : {text : List ℕ} {words : List (List (List ℕ))} → Tells text words → told (lines_of text) ≡ words
-all_told {text} {words} h =
-    ap (λ x. told (lines_of x)) (sym (append-nil text)) ∙ (h.whole [] ∙ (ap (λ x. words ++ x) nothing_told ∙ append-nil words))
 
 pub run_spelled : (p : Program) (n : ℕ) (run : ViperRun) → IsFormed p → IsPrintable p n run → SpellsViperRun (run_text p n run) p n run
 run_spelled p n run formed h =

@@ -36,16 +36,16 @@ use Rattle.run_file.specs.Values.{SpellsInt, plain, negative, SpellsValue, int, 
 -- ---- values
 
 -- a value of its type that is within the bound, and that a file can name
-record Good (u : Ty) (w : Value) : Type 0 where
-  fits : FitsValue u w
-  within : IsWithinValue w
-  named : IsNamedValue w
+pub record Good (u : Ty) (w : Value) : Type 0 where
+  pub fits : FitsValue u w
+  pub within : IsWithinValue w
+  pub named : IsNamedValue w
 
 good_int : {word : List ℕ} {n : ℤ} → SpellsInt word n → IsWithin n
 good_int (plain {n = n} h) = omega (arith, ints, h.small)
 good_int (negative {n = n} h) = omega (arith, ints, h.small)
 
-good_value : {u : Ty} {word : List ℕ} {w : Value} → SpellsValue u word w → Good u w
+pub good_value : {u : Ty} {word : List ℕ} {w : Value} → SpellsValue u word w → Good u w
 good_value (int h) = record { fits = record { typed = refl; reduced = tt }; within = good_int h; named = tt }
 good_value truth = record { fits = record { typed = refl; reduced = tt }; within = tt; named = tt }
 good_value falsehood = record { fits = record { typed = refl; reduced = tt }; within = tt; named = tt }
@@ -86,12 +86,12 @@ good_key (more {a = a} {k = k} h is rest) =
     let first = good_part (good_value h) is in let others = good_key rest in
     record { fits = (first.fits, others.fits); within = All-cons IsWithinPart a k first.within others.within; named = All-cons IsNamedPart a k first.named others.named }
 
-record GoodContent (c : Content) : Type 0 where
-  reduced : IsReducedContent c
-  within : AllValues IsWithinValue c
-  named : IsNamedContent c
+pub record GoodContent (c : Content) : Type 0 where
+  pub reduced : IsReducedContent c
+  pub within : AllValues IsWithinValue c
+  pub named : IsNamedContent c
 
-good_content : {words rest : List (List ℕ)} {c : Content} → BeginsWithContent words c rest → GoodContent c
+pub good_content : {words rest : List (List ℕ)} {c : Content} → BeginsWithContent words c rest → GoodContent c
 good_content unit = record { reduced = tt; within = tt; named = tt }
 good_content (leaf h) = let g = good_value h in record { reduced = g.fits.reduced; within = g.within; named = g.named }
 good_content (pair h i) =

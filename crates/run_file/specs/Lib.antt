@@ -10,3 +10,11 @@ pub mod Progress
 pub mod View
 pub mod Printed
 pub mod Printable
+pub mod Machine
+pub mod BoogieLines
+pub mod BoogieReading
+pub mod BoogieRun
+pub mod BoogieProgress
+pub mod BoogieView
+pub mod BoogiePrinted
+pub mod BoogiePrintable

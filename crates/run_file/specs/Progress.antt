@@ -1,8 +1,6 @@
 -- How a run file is read line by line. That this is the run that the lines spell is shown in `proofs/`.
-use Rattle.std.specs.Prelude.{⊤, ◌≡◌, ◌<◌, ◌+◌, ℕ, Bool, true, false, ◌&&◌, List, [], ◌∷◌, ◌++◌, Option, Some, None, codes, length, take, slice_set, if◌then◌else◌}
-use Rattle.std.specs.BTreeMap.{is_at}
+use Rattle.std.specs.Prelude.{⊤, ℕ, Bool, true, false, ◌&&◌, List, [], ◌∷◌, ◌++◌, Option, Some, None, codes, slice_set, if◌then◌else◌}
 use Rattle.std.specs.BTreeSet.{insert_key}
-use Rattle.std.specs.List.{list_any}
 use Rattle.std.specs.Str.{bytes_eq}
 use Rattle.vb_base.specs.declared.places.Pos.{Pos}
 use Rattle.vb_value.specs.declared.values.Value.{Value}
@@ -11,6 +9,7 @@ use Rattle.run_file.specs.Text.{is_skipped, words_of}
 use Rattle.run_file.specs.Lines.{Scope, Line, Var, Heap, Holds, Chosen, Opened}
 use Rattle.run_file.specs.Reading.{◌>>=◌, line_of}
 use Rattle.run_file.specs.Run.{ViperRun, scope_memo, empty_opening, memo_with}
+use Rattle.run_file.specs.Machine.{Machine, among}
 use Rattle.run_file.specs.NamedOrder.{named_cmp}
 use Rattle.run_file.specs.declared.lines.Named.{Named}
 use Rattle.run_file.specs.declared.lines.Named.TheVariants as named
@@ -57,7 +56,7 @@ abbrev pub run_set : ℕ → Value → ViperRun → ViperRun
 run_set n v run = record run { opening = record { store = slice_set run.opening.store n v; memo = run.opening.memo } }
 
 abbrev pub has_named : List Named → Named → Bool
-has_named names n = list_any (is_at (named_cmp n)) names
+has_named names n = among named_cmp names n
 
 -- the run changes so, where the name is new
 abbrev pub once : Progress → Named → ViperRun → Option Progress
@@ -107,35 +106,13 @@ stepped s stage.Choosing st words = line_of s words >>= followed s st
 unfoldable pub read_line : Scope → Progress → List ℕ → Option Progress
 read_line s st text = if is_skipped text then Some st else stepped s st.stage st (words_of text)
 
--- whether a line may stand, and how far the file is read after it
-abbrev pub Reads : Bool → Option Progress → Progress → Type 0
-Reads true o st = o ≡ Some st
-Reads false o st = o ≡ None
-
--- ---- all lines
-
-abbrev pub all_read : Scope → Option Progress → List (List ℕ) → Option Progress
-all_read s None lines = None
-all_read s (Some st) [] = Some st
-all_read s (Some st) (l ∷ ls) = all_read s (read_line s st l) ls
-
 abbrev pub is_headed : Stage → Bool
 is_headed stage.Header = false
 is_headed _ = true
 
--- all lines are read, and the header is among them
-pub record IsRead (s : Scope) (lines : List (List ℕ)) (whole : ViperRun) : Type 0 where
-  pub last : Progress
-  pub read : all_read s (Some (begun s)) lines ≡ Some last
-  pub headed : is_headed last.stage ≡ true
-  pub run : last.run ≡ whole
-
--- the first line that may not stand, or the last where no header was read
-pub data StopsAt (s : Scope) (lines : List (List ℕ)) (at : Pos) : Type 0 where
-  bad : (i : ℕ) (st : Progress) → i < length lines → all_read s (Some (begun s)) (take i lines) ≡ Some st →
-      all_read s (Some (begun s)) (take (i + 1) lines) ≡ None → at.line ≡ i + 1 → at.col ≡ 1 → StopsAt s lines at
-  headless : (st : Progress) → all_read s (Some (begun s)) lines ≡ Some st → is_headed st.stage ≡ false →
-      at.line ≡ length lines → at.col ≡ 1 → StopsAt s lines at
+-- the reader of the run files of a unit with this scope
+abbrev pub reader : Scope → Machine Progress ViperRun
+reader s = record { begun = begun s; step = read_line s; is_headed = λ st. is_headed st.stage; run = λ st. st.run }
 
 -- the fact about the place, unless memory was refused
 abbrev pub UnlessMemory : (Pos → Type 0) → RunFileFault → Type 0

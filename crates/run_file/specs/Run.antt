@@ -1,9 +1,8 @@
 -- Which run of a unit a run file spells, and where a file goes wrong that spells none.
-use Rattle.std.specs.Prelude.{⊤, ◌≡◌, ◌≢◌, ◌⊎◌, ◌<◌, ◌+◌, ℕ, List, [], ◌∷◌, ◌++◌, codes, length, map, fold, take, slice_set, AllPairs}
-use Rattle.std.specs.List.{AllByRecursion, AllZip}
+use Rattle.std.specs.Prelude.{⊤, ◌≡◌, ◌≢◌, ℕ, List, [], ◌∷◌, ◌++◌, codes, map, fold, slice_set, AllPairs}
+use Rattle.std.specs.List.{AllByRecursion}
 use Rattle.std.specs.Ordering.{nat_cmp}
 use Rattle.sparse.specs.Map.{empty}
-use Rattle.vb_base.specs.Place.{line_after}
 use Rattle.vb_base.specs.declared.places.Pos.{Pos}
 use Rattle.vb_value.specs.Content as content
 use Rattle.vb_value.specs.Content.{same_content}
@@ -14,8 +13,9 @@ use Rattle.viper_core.specs.Program.{Program}
 use Rattle.viper_state.specs.State.{Memo, changed_at}
 use Rattle.viper_state.specs.Run.{Opening}
 use Rattle.viper_state.specs.Choice.{Choice, Filled}
-use Rattle.run_file.specs.Text.{lines_of, told}
+use Rattle.run_file.specs.Text.{lines_of}
 use Rattle.run_file.specs.Lines.{Scope, scope_of, Line, Var, Heap, Holds, Chosen, Opened, IsLine}
+use Rattle.run_file.specs.Machine.{Headed, WrongAt}
 use Rattle.run_file.specs.declared.lines.Named.{Named}
 use Rattle.run_file.specs.declared.lines.Named.TheVariants as named
 
@@ -106,26 +106,12 @@ abbrev pub header : List (List ℕ)
 header = codes "viper" ∷ codes "run" ∷ []
 
 -- the lines of a file spell this run of the unit: those that are not skipped are the header, and lines that are the run
-pub record SpellRun (p : Program) (n : ℕ) (lines : List (List ℕ)) (run : ViperRun) : Type 0 where
-  pub words : List (List (List ℕ))
-  pub said : List Line
-  pub headed : told lines ≡ header ∷ words
-  pub meant : AllZip (IsLine (scope_of p n)) words said
-  pub means : AreRun (scope_of p n) said run
+abbrev pub SpellRun : Program → ℕ → List (List ℕ) → ViperRun → Type 0
+SpellRun p n = Headed header (IsLine (scope_of p n)) (AreRun (scope_of p n))
 
 -- the bytes spell this run of the unit of this number
 abbrev pub SpellsViperRun : List ℕ → Program → ℕ → ViperRun → Type 0
 SpellsViperRun bytes p n run = SpellRun p n (lines_of bytes) run
 
--- ---- where a file goes wrong
-
--- lines that may stand at the front of a file: all of them are skipped, or they spell a run
-abbrev pub MayStand : Program → ℕ → List (List ℕ) → Type 0
-MayStand p n lines = (told lines ≡ []) ⊎ ((run : ViperRun) × SpellRun p n lines run)
-
--- The file goes wrong at this place, in column 1: at the first line that may not stand there, or, where all lines are
--- skipped, so that the header is missing, at the last.
-pub data GoesWrongAt (bytes : List ℕ) (p : Program) (n : ℕ) (at : Pos) : Type 0 where
-  bad_line : (i : ℕ) → i < length (lines_of bytes) → MayStand p n (take i (lines_of bytes)) →
-      (MayStand p n (take (i + 1) (lines_of bytes)) → ⊥) → at.line ≡ i + 1 → at.col ≡ 1 → GoesWrongAt bytes p n at
-  no_header : told (lines_of bytes) ≡ [] → at.line ≡ line_after bytes → at.col ≡ 1 → GoesWrongAt bytes p n at
+abbrev pub GoesWrongAt : List ℕ → Program → ℕ → Pos → Type 0
+GoesWrongAt bytes p n at = WrongAt (SpellRun p n) bytes at

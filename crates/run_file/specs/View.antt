@@ -15,12 +15,12 @@ run_of x = record { opening = opening_of x.opening; choices = map choice_of x.ch
 abbrev pub progress_of : Reader → Progress
 progress_of x = record { stage = x.stage; named = x.named.keys; run = run_of x.run }
 
--- the result is this run, unless memory was refused
-abbrev pub GivesRun : r.ViperRun → Result ViperRun RunFileFault → Type 0
-GivesRun run (Ok x) = run_of x ≡ run
-GivesRun run (Err e) = e ≡ fault.Memory
+-- the result is so, unless memory was refused
+abbrev pub Gives : {X : Type 0} → (X → Type 0) → Result X RunFileFault → Type 0
+Gives P (Ok x) = P x
+Gives P (Err e) = e ≡ fault.Memory
 
 -- the result is this place, unless memory was refused
-abbrev pub GivesPlace : Pos → Result ViperRun RunFileFault → Type 0
+abbrev pub GivesPlace : {X : Type 0} → Pos → Result X RunFileFault → Type 0
 GivesPlace at (Ok x) = ⊥
 GivesPlace at (Err e) = (e ≡ fault.Syntax at) ⊎ (e ≡ fault.Memory)

@@ -12,7 +12,8 @@ ghost use Rattle.run_file.specs.Reading.{argument_from, key_from, whole_content}
 use crate::texts::next_word;
 use crate::values::{any_value, argument, value};
 use std::alloc::Global;
-use vb_base::{Memory, boxed_pair};
+use std::rc::Rc;
+use vb_base::Memory;
 use vb_value::{Content, Key, KeyPart, MAX_NODES, Ty};
 
 /// The arguments of these types with which the words of a line begin, and the rest of the line.
@@ -87,17 +88,28 @@ fn leaf(words: &[u8], room: u32) -> Option<(Content, &[u8], u32)>
     Some((Content::Leaf(any_value(word)?), rest, room))
 }
 
-/// The pair of the two contents with which the words begin.
+/// The pair of the two contents with which the words begin. While the left one is read, a node is kept back for the right
+/// one.
 #[cycle(contents)]
 fn pair(alloc: Global, words: &[u8], room: u32) -> Result<Option<(Content, &[u8], u32)>, Memory>
     ensures { IfOk result (λ r. IsPairFound (words_of words.now) room r) }
 {
-    let Some((left, rest, room)) = content(alloc, words, room)? else {
+    let Some(kept) = room.checked_sub(1) else {
         return Ok(None);
     };
-    let Some((right, rest, room)) = content(alloc, rest, room)? else {
+    let Some((left, rest, room)) = content(alloc, words, kept)? else {
         return Ok(None);
     };
-    let (left, right) = boxed_pair(alloc, left, right)?;
-    Ok(Some((Content::Pair(left, right), rest, room)))
+    let Some((right, rest, room)) = content(alloc, rest, room + 1)? else {
+        return Ok(None);
+    };
+    Ok(Some((paired(alloc, left, right)?, rest, room)))
+}
+
+fn paired(alloc: Global, left: Content, right: Content) -> Result<Content, Memory>
+    ensures { IfOk result (λ c. content_of c ≡ tree.Pair (content_of left) (content_of right)) }
+{
+    let left = Rc::new(alloc, left)?;
+    let right = Rc::new(alloc, right)?;
+    Ok(Content::Pair(left, right))
 }

@@ -3,6 +3,12 @@
 //! `specs/` says which run a file spells (`Run`), and where a file goes wrong that spells none.
 #![tactic(auto)]
 
+pub mod boogie_laws;
+mod boogie_lines;
+mod boogie_names;
+mod boogie_printer;
+mod boogie_reader;
+mod boogie_values;
 mod contents;
 pub mod laws;
 mod lines;
@@ -14,6 +20,9 @@ mod runs;
 mod texts;
 mod values;
 
+pub use boogie_names::boogie_run_name;
+pub use boogie_printer::print_boogie_run;
+pub use boogie_reader::read_boogie_run;
 pub use printer::print_viper_run;
 pub use reader::read_viper_run;
 pub use runs::{RunFileFault, ViperRun};

@@ -135,7 +135,7 @@ fn keyword_among(keywords: &[Keyword], word: &[u8]) -> Option<Keyword>
 }
 
 /// The one word, where there is no other.
-fn single(words: &[u8]) -> Option<&[u8]>
+pub(crate) fn single(words: &[u8]) -> Option<&[u8]>
     ensures { option_map (λ w. w.now) result ≡ reading.single (words_of words.now) }
 {
     let (word, rest) = next_word(words)?;
@@ -153,7 +153,7 @@ fn only_value(ty: Ty, words: &[u8]) -> Option<Value>
 }
 
 /// The name with which the words of a line begin, as its number, and the rest of the line.
-fn numbered<'a>(
+pub(crate) fn numbered<'a>(
     alloc: Global,
     names: &Names,
     words: &'a [u8],

@@ -106,7 +106,7 @@ fn fill_choice(choice: &mut Choice, line: Line) -> Result<(), Memory>
 }
 
 /// The same answer, where memory was refused by the name that it has here.
-fn grown<T>(answer: Result<T, sparse::Memory>) -> Result<T, Memory>
+pub(crate) fn grown<T>(answer: Result<T, sparse::Memory>) -> Result<T, Memory>
     ensures { IfOk result (λ x. answer ≡ Ok x) }
 {
     match answer {

@@ -4,10 +4,13 @@ ghost use Rattle.std.specs.Option.{option_map};
 ghost use Rattle.vb_base.specs.Names.{NamesDiffer};
 ghost use Rattle.viper_core.specs.Program as p;
 ghost use Rattle.viper_core.specs.View.{method_of, predicate_of, program_of};
+ghost use Rattle.boogie_tree.specs.Whole.{locals_of};
+ghost use Rattle.run_file.specs.BoogieLines.{known};
 ghost use Rattle.run_file.specs.Lines as l;
 ghost use Rattle.run_file.specs.LineView.{lent_names};
 ghost use Rattle.run_file.specs.Reading.{number_of};
 
+use boogie_tree::Local;
 use indexmap::IndexSet;
 use std::alloc::Global;
 use std::marker::Model;
@@ -50,6 +53,18 @@ impl Names {
         let mut known = IndexSet::new(alloc);
         for predicate in predicates {
             known.insert(predicate.name.copy(alloc)?)?;
+        }
+        Ok(Names { names: known })
+    }
+
+    /// The names of the variables of a procedure in order.
+    pub(crate) fn of_locals(alloc: Global, locals: &[Local]) -> Result<Names, Memory>
+        requires { NamesDiffer (known (locals_of locals.now)).names }
+        ensures { IfOk result (λ x. x ≡ (known (locals_of locals.now)).names) }
+    {
+        let mut known = IndexSet::new(alloc);
+        for local in locals {
+            known.insert(local.name.copy(alloc)?)?;
         }
         Ok(Names { names: known })
     }

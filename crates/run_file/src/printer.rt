@@ -209,7 +209,7 @@ fn put_instance(
 }
 
 /// The arguments of an instance, each with a space behind it.
-fn put_key(alloc: Global, out: &mut Vec<u8>, parts: &[KeyPart]) -> Result<(), Memory>
+pub(crate) fn put_key(alloc: Global, out: &mut Vec<u8>, parts: &[KeyPart]) -> Result<(), Memory>
     ensures { OnOk result (out.new.items ≡ out.old.items ++ text.key_text parts.now) }
 {
     for part in parts {
@@ -229,7 +229,7 @@ fn put_part(alloc: Global, out: &mut Vec<u8>, part: KeyPart) -> Result<(), Memor
     }
 }
 
-fn put_content(alloc: Global, out: &mut Vec<u8>, content: &Content) -> Result<(), Memory>
+pub(crate) fn put_content(alloc: Global, out: &mut Vec<u8>, content: &Content) -> Result<(), Memory>
     ensures { OnOk result (out.new.items ≡ out.old.items ++ text.content_text (content_of content.now)) }
 {
     match content {
@@ -258,13 +258,13 @@ fn put_value(alloc: Global, out: &mut Vec<u8>, value: Value) -> Result<(), Memor
     }
 }
 
-fn truth_text(truth: bool) -> &'static [u8]
+pub(crate) fn truth_text(truth: bool) -> &'static [u8]
     ensures { result.now ≡ text.truth_text truth }
 {
     if truth { b"true" } else { b"false" }
 }
 
-fn put_reference(alloc: Global, out: &mut Vec<u8>, reference: u64) -> Result<(), Memory>
+pub(crate) fn put_reference(alloc: Global, out: &mut Vec<u8>, reference: u64) -> Result<(), Memory>
     ensures { OnOk result (out.new.items ≡ out.old.items ++ text.reference_text reference) }
 {
     if reference == 0 {
@@ -274,7 +274,7 @@ fn put_reference(alloc: Global, out: &mut Vec<u8>, reference: u64) -> Result<(),
     put(out, format!(in alloc; "{reference}")?.as_bytes())
 }
 
-fn put_fraction(alloc: Global, out: &mut Vec<u8>, fraction: Frac) -> Result<(), Memory>
+pub(crate) fn put_fraction(alloc: Global, out: &mut Vec<u8>, fraction: Frac) -> Result<(), Memory>
     ensures { OnOk result (out.new.items ≡ out.old.items ++ text.fraction_text fraction) }
 {
     let num = Frac::num(fraction);
@@ -332,7 +332,7 @@ fn put_choice(
     }
 }
 
-fn put(out: &mut Vec<u8>, bytes: &[u8]) -> Result<(), Memory>
+pub(crate) fn put(out: &mut Vec<u8>, bytes: &[u8]) -> Result<(), Memory>
     ensures { OnOk result (out.new.items ≡ out.old.items ++ bytes.now) }
 {
     out.extend_from_slice(bytes)?;

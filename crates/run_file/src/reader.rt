@@ -6,9 +6,10 @@ ghost use Rattle.viper_core.specs.View.{program_of};
 ghost use Rattle.viper_state.specs.View.{choice_of};
 ghost use Rattle.run_file.specs.Run.{ViperRun as Plain, SpellsViperRun, GoesWrongAt};
 ghost use Rattle.run_file.specs.LineView.{line_view, scope_view};
+ghost use Rattle.run_file.specs.Machine.{IsReadBy, StopsBy, Steps};
 ghost use Rattle.run_file.specs.Progress as progress;
 ghost use Rattle.run_file.specs.Text.{lines_of, words_of};
-ghost use Rattle.run_file.specs.View.{progress_of, run_of, GivesRun, GivesPlace};
+ghost use Rattle.run_file.specs.View.{progress_of, run_of, Gives, GivesPlace};
 
 use crate::lines::{Line, Named, line_of};
 use crate::memos::{defaults, empty_memo, fill_last, fill_memo};
@@ -37,7 +38,7 @@ pub fn read_viper_run(
     ensures fault { IfErr result (progress.UnlessMemory (GoesWrongAt bytes.now (program_of program.now) unit)) }
 
     // and so no other run, and no other place
-    ensures only_run { (run : Plain) → SpellsViperRun bytes.now (program_of program.now) unit run → GivesRun run result }
+    ensures only_run { (run : Plain) → SpellsViperRun bytes.now (program_of program.now) unit run → Gives (λ x. run_of x ≡ run) result }
     ensures only_place { (at : Pos) → GoesWrongAt bytes.now (program_of program.now) unit at → GivesPlace at result }
 {
     let (names, types) = variables_of(program, unit);
@@ -92,7 +93,7 @@ impl Reader {
 
     /// Reads a line. False where it may not stand.
     fn read_line(&mut self, alloc: Global, scope: Scope, text: &[u8]) -> Result<bool, Memory>
-        ensures { IfOk result (λ ok. progress.Reads ok (progress.read_line (scope_view scope.entry) (progress_of self.old) text.now) (progress_of self.new)) }
+        ensures { IfOk result (λ ok. Steps ok (progress.read_line (scope_view scope.entry) (progress_of self.old) text.now) (progress_of self.new)) }
     {
         if is_skipped(text) {
             return Ok(true);
@@ -107,7 +108,7 @@ impl Reader {
     }
 
     fn read_header(&mut self, text: &[u8]) -> bool
-        ensures { progress.Reads result (progress.header_read (progress_of self.old) (words_of text.now)) (progress_of self.new) }
+        ensures { Steps result (progress.header_read (progress_of self.old) (words_of text.now)) (progress_of self.new) }
     {
         let header = is_header(text);
         if header {
@@ -118,7 +119,7 @@ impl Reader {
 
     /// Takes in what a line says. False where the line may not stand.
     fn follow(&mut self, alloc: Global, scope: Scope, line: Line) -> Result<bool, Memory>
-        ensures { IfOk result (λ ok. progress.Reads ok (progress.followed (scope_view scope.entry) (progress_of self.old) (line_view line)) (progress_of self.new)) }
+        ensures { IfOk result (λ ok. Steps ok (progress.followed (scope_view scope.entry) (progress_of self.old) (line_view line)) (progress_of self.new)) }
     {
         match line {
             Line::Var(number, value) => self.set_variable(number, value),
@@ -140,7 +141,7 @@ impl Reader {
 
     /// Gives a variable a value, in the opening and once.
     fn set_variable(&mut self, number: usize, value: Value) -> Result<bool, Memory>
-        ensures { IfOk result (λ ok. progress.Reads ok (progress.variable_set (progress_of self.old) number value) (progress_of self.new)) }
+        ensures { IfOk result (λ ok. Steps ok (progress.variable_set (progress_of self.old) number value) (progress_of self.new)) }
     {
         if !may_set(self.stage) || !self.named.insert(Named::Variable(number))? {
             return Ok(false);
@@ -153,7 +154,7 @@ impl Reader {
 
     /// Puts a value or content where a heap and contents are filled, once for each place and instance.
     fn set_place(&mut self, named: Named, line: Line) -> Result<bool, Memory>
-        ensures { IfOk result (λ ok. progress.Reads ok (progress.place_set (progress_of self.old) (line_view line) named) (progress_of self.new)) }
+        ensures { IfOk result (λ ok. Steps ok (progress.place_set (progress_of self.old) (line_view line) named) (progress_of self.new)) }
     {
         if !may_place(self.stage) || !self.named.insert(named)? {
             return Ok(false);
@@ -166,7 +167,7 @@ impl Reader {
     fn finish(self, lines: u32) -> Result<ViperRun, RunFileFault>
         requires { (1 ≤ lines) × (lines < 2 ^ 32) }
         ensures { MatchResult result (λ run. (progress.is_headed self.stage ≡ true) × (run_of run ≡ run_of self.run))
-            (λ e. (progress.is_headed self.stage ≡ false) × progress.UnlessMemory (λ at. (at.line ≡ lines) × (at.col ≡ 1)) e) }
+            (λ e. progress.UnlessMemory (λ at. (progress.is_headed self.stage ≡ false) × (at.line ≡ lines) × (at.col ≡ 1)) e) }
     {
         match self.stage {
             Stage::Header => Err(RunFileFault::Syntax(Pos {
@@ -179,7 +180,7 @@ impl Reader {
 
     /// Takes in a choice, after which what may stand is this.
     fn choose(&mut self, next: Stage, choice: Choice) -> Result<bool, Memory>
-        ensures { IfOk result (λ ok. progress.Reads ok (Some (progress.chosen next (progress_of self.old) (choice_of choice))) (progress_of self.new)) }
+        ensures { IfOk result (λ ok. Steps ok (Some (progress.chosen next (progress_of self.old) (choice_of choice))) (progress_of self.new)) }
     {
         self.run.choices.push(choice)?;
         self.named.clear();
@@ -235,8 +236,8 @@ fn is_header(line: &[u8]) -> bool
 /// The run that the lines of a text are, or where it goes wrong.
 fn read_lines(alloc: Global, scope: Scope, bytes: &[u8]) -> Result<ViperRun, RunFileFault>
     requires { length bytes.now ≤ 33554432 }
-    ensures { MatchResult result (λ run. progress.IsRead (scope_view scope.entry) (lines_of bytes.now) (run_of run))
-        (progress.UnlessMemory (progress.StopsAt (scope_view scope.entry) (lines_of bytes.now))) }
+    ensures { MatchResult result (λ run. IsReadBy (progress.reader (scope_view scope.entry)) (lines_of bytes.now) (run_of run))
+        (progress.UnlessMemory (StopsBy (progress.reader (scope_view scope.entry)) (lines_of bytes.now))) }
 {
     let mut reader = Reader::new(alloc, scope)?;
     let mut rest = Some(bytes);

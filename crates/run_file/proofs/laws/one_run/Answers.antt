@@ -1,7 +1,7 @@
 use Rattle.run_file.proofs.ScopeLaws.{names_apart}
-use Rattle.run_file.proofs.FileLaws.{file_read}
-use Rattle.run_file.proofs.OneRun.{one_read}
+use Rattle.run_file.proofs.AnswerLaws.{one_run}
+use Rattle.run_file.proofs.FileLaws.{is_reader}
 use Rattle.run_file.proofs.laws.one_run.Goals as goal
 
 pub returns : goal.returns
-returns c = λ bytes p n a b formed h k. let apart = names_apart p n formed in one_read (file_read apart h) (file_read apart k)
+returns c = λ bytes p n a b formed. one_run (is_reader p n (names_apart p n formed)) bytes a b

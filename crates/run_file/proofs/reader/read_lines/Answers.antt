@@ -2,7 +2,9 @@ use Rattle.std.proofs.Common.{◌≡◌, ◌∙◌, length, sym, ap, arith, refl
 use Rattle.run_file.specs.Text.{lines_of, lines_left}
 use Rattle.run_file.specs.LineView.{scope_view}
 use Rattle.run_file.specs.View.{progress_of, run_of}
-use Rattle.run_file.proofs.ReadLaws.{turn, read_more, stops_here, all_taken, read_whole, finished, lines_few, some_line}
+use Rattle.run_file.specs.Progress.{begun, read_line, reader}
+use Rattle.run_file.proofs.ReadLaws.{turn, all_taken, lines_few, some_line}
+use Rattle.run_file.proofs.StepLaws.{step_more, stops_here, read_whole, finished}
 use Rattle.run_file.proofs.reader.read_lines.Goals as goal
 
 pub overflow_add-line : goal.overflow_add-line
@@ -24,7 +26,7 @@ returns-then-not-branch c =
     let lines = lines_of c.args.bytes.now in
     let here = sym c.loop-rest.invariant.left ∙ (ap lines_left c.in-Some.is ∙ c.next_line.ensures) in
     let none = rw c.if-not-branch.true at c.in_ok-read_line.ensures in
-    stops_here (scope_view c.args.scope) lines c.loop-rest.line _ _ (progress_of c.loop-rest.reader) _ here c.loop-rest.invariant.so_far none refl refl
+    stops_here (reader (scope_view c.args.scope)) lines c.loop-rest.line _ _ (progress_of c.loop-rest.reader) _ here c.loop-rest.invariant.so_far none refl refl
 
 pub loop-rest-preserved : goal.loop-rest-preserved
 loop-rest-preserved c =
@@ -35,7 +37,7 @@ loop-rest-preserved c =
     record {
       left = t.left;
       within = omega (arith, t.within);
-      so_far = read_more (scope_view c.args.scope) lines c.loop-rest.line _ (progress_of c.loop-rest.reader) t.taken c.loop-rest.invariant.so_far ∙ some;
+      so_far = step_more (read_line (scope_view c.args.scope)) (begun (scope_view c.args.scope)) lines c.loop-rest.line _ (progress_of c.loop-rest.reader) t.taken c.loop-rest.invariant.so_far ∙ some;
     }
 
 pub finish-requires : goal.finish-requires
@@ -49,4 +51,5 @@ returns c =
     let lines = lines_of c.args.bytes.now in
     let all : c.loop-rest.line ≡ length lines = all_taken lines c.loop-rest.line (sym (ap lines_left c.in_default.is) ∙ c.loop-rest.invariant.left) c.loop-rest.invariant.within in
     let st = progress_of c.loop-rest.reader in
-    finished run_of (scope_view c.args.scope) lines st c.finish.result (read_whole (scope_view c.args.scope) lines c.loop-rest.line st all c.loop-rest.invariant.so_far) (rw all at c.finish.ensures)
+    let m = reader (scope_view c.args.scope) in
+    finished m lines run_of st c.finish.result (read_whole m lines c.loop-rest.line st all c.loop-rest.invariant.so_far) (rw all at c.finish.ensures)

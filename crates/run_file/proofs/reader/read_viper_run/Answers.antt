@@ -4,7 +4,7 @@ use Rattle.viper_core.specs.Program as p
 use Rattle.viper_core.specs.View.{predicate_of, program_of}
 use Rattle.run_file.specs.Lines.{Known}
 use Rattle.run_file.proofs.ScopeLaws.{names_apart}
-use Rattle.run_file.proofs.OneRun.{answered}
+use Rattle.run_file.proofs.FileLaws.{unit_answered}
 use Rattle.run_file.proofs.reader.read_viper_run.Goals as goal
 
 pub of-requires : goal.of-requires
@@ -23,7 +23,7 @@ returns-clause-run c =
     let variables = ap (λ ns. record { names = ns; types = c.variables_of.result.1.now }) c.in_ok-variables.ensures ∙ c.variables_of.ensures in
     let fields = c.in_ok-fields.ensures ∙ c.deref.ensures.value in
     let predicates = c.in_ok-predicates.ensures ∙ ap (λ ds. map (λ (d : p.Predicate). d.name) (map predicate_of ds)) c.deref-2.ensures.value in
-    (answered c.args.bytes.now program c.args.unit _ c.read_lines.result (names_apart program c.args.unit c.requires.formed)
+    (unit_answered c.args.bytes.now program c.args.unit _ c.read_lines.result (names_apart program c.args.unit c.requires.formed)
     (λ i. record { variables = variables i; fields = record { names = fields i; types = program.layout.fields }; predicates = record { names = predicates i; types = program.layout.keys } })
     c.read_lines.ensures).run
 
@@ -33,7 +33,7 @@ returns-clause-fault c =
     let variables = ap (λ ns. record { names = ns; types = c.variables_of.result.1.now }) c.in_ok-variables.ensures ∙ c.variables_of.ensures in
     let fields = c.in_ok-fields.ensures ∙ c.deref.ensures.value in
     let predicates = c.in_ok-predicates.ensures ∙ ap (λ ds. map (λ (d : p.Predicate). d.name) (map predicate_of ds)) c.deref-2.ensures.value in
-    (answered c.args.bytes.now program c.args.unit _ c.read_lines.result (names_apart program c.args.unit c.requires.formed)
+    (unit_answered c.args.bytes.now program c.args.unit _ c.read_lines.result (names_apart program c.args.unit c.requires.formed)
     (λ i. record { variables = variables i; fields = record { names = fields i; types = program.layout.fields }; predicates = record { names = predicates i; types = program.layout.keys } })
     c.read_lines.ensures).fault
 
@@ -43,7 +43,7 @@ returns-clause-only_run c =
     let variables = ap (λ ns. record { names = ns; types = c.variables_of.result.1.now }) c.in_ok-variables.ensures ∙ c.variables_of.ensures in
     let fields = c.in_ok-fields.ensures ∙ c.deref.ensures.value in
     let predicates = c.in_ok-predicates.ensures ∙ ap (λ ds. map (λ (d : p.Predicate). d.name) (map predicate_of ds)) c.deref-2.ensures.value in
-    (answered c.args.bytes.now program c.args.unit _ c.read_lines.result (names_apart program c.args.unit c.requires.formed)
+    (unit_answered c.args.bytes.now program c.args.unit _ c.read_lines.result (names_apart program c.args.unit c.requires.formed)
     (λ i. record { variables = variables i; fields = record { names = fields i; types = program.layout.fields }; predicates = record { names = predicates i; types = program.layout.keys } })
     c.read_lines.ensures).only_run
 
@@ -53,6 +53,6 @@ returns-clause-only_place c =
     let variables = ap (λ ns. record { names = ns; types = c.variables_of.result.1.now }) c.in_ok-variables.ensures ∙ c.variables_of.ensures in
     let fields = c.in_ok-fields.ensures ∙ c.deref.ensures.value in
     let predicates = c.in_ok-predicates.ensures ∙ ap (λ ds. map (λ (d : p.Predicate). d.name) (map predicate_of ds)) c.deref-2.ensures.value in
-    (answered c.args.bytes.now program c.args.unit _ c.read_lines.result (names_apart program c.args.unit c.requires.formed)
+    (unit_answered c.args.bytes.now program c.args.unit _ c.read_lines.result (names_apart program c.args.unit c.requires.formed)
     (λ i. record { variables = variables i; fields = record { names = fields i; types = program.layout.fields }; predicates = record { names = predicates i; types = program.layout.keys } })
     c.read_lines.ensures).only_place
