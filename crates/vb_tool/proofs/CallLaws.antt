@@ -6,14 +6,18 @@ use Rattle.vb_outer.specs.Shelf.{Files, IsFile, IsMissing, IsWhole, IsLonger}
 use Rattle.vb_outer.specs.Sink.{Appends}
 use Rattle.vb_outer.specs.declared.fault.FileFault.{FileFault}
 use Rattle.vb_outer.specs.declared.fault.FileFault.TheVariants as file
+use Rattle.boogie_run.specs.declared.replaying.BOutcome.{BOutcome}
+use Rattle.boogie_run.specs.declared.replaying.BOutcome.TheVariants as boogie
 use Rattle.vb_tool.specs.Accepted as accepted
+use Rattle.vb_tool.specs.AcceptedReplay as replay
 use Rattle.vb_tool.specs.Call as call
-use Rattle.vb_tool.specs.Call.{Tells, Misses, Refuses, Works, Translation, HasWorked, IsCause, usage, read, refused, worked, OutAfter, ErrAfter, Causes}
-use Rattle.vb_tool.specs.Command.{Command, Translate, Run, Asks}
+use Rattle.vb_tool.specs.Call.{Tells, MissesOf, Refuses, Works, Translation, HasWorked, IsCause, usage, read, refused, worked, OutAfter, ErrAfter, Causes}
+use Rattle.vb_tool.specs.Command.{Command, Translate, Run, Replay, Asks}
 use Rattle.vb_tool.specs.Converted.{trouble_of_file}
 use Rattle.vb_tool.specs.Outcome.{status_of, run_status}
 use Rattle.vb_tool.specs.Parts as parts
-use Rattle.vb_tool.specs.Parts.{Reports, Delivers, TranslationOf, OutcomeOf}
+use Rattle.vb_tool.specs.Parts.{Reports, Delivers, TranslationOf, OutcomeOf, ReplayOf}
+use Rattle.vb_tool.specs.ReplayOutcome.{replay_status}
 use Rattle.vb_tool.specs.Status.{line_of}
 use Rattle.vb_tool.specs.Units.{end_of}
 use Rattle.vb_tool.specs.declared.status.Refusal.{Refusal}
@@ -48,11 +52,11 @@ missing_tells None name missing = absurd missing
 missing_tells (Some files) name missing = tt
 
 -- a file that could not be read is refused for its length, or is missing, or the shelf failed
-pub file_refusal : (files : Option Files) (name : List ℕ) (fault : FileFault) (r : Refusal) → (fault ≡ file.Long → IsLonger files name 1048576) →
-    trouble_of_file fault ≡ trouble.Refused r → (refusal.Size ≡ r) × IsLonger files name 1048576
-file_refusal files name file.Memory r long is_r = absurd (cc)
-file_refusal files name file.Failed r long is_r = absurd (cc)
-file_refusal files name file.Long r long is_r = (cc, long refl)
+pub file_refusal : (files : Option Files) (name : List ℕ) (limit : ℕ) (fault : FileFault) (r : Refusal) → (fault ≡ file.Long → IsLonger files name limit) →
+    trouble_of_file fault ≡ trouble.Refused r → (refusal.Size ≡ r) × IsLonger files name limit
+file_refusal files name limit file.Memory r long is_r = absurd (cc)
+file_refusal files name limit file.Failed r long is_r = absurd (cc)
+file_refusal files name limit file.Long r long is_r = (cc, long refl)
 
 pub file_unread : (Cause : Type 0) (fault : FileFault) → (fault ≡ file.Failed → Cause) → trouble_of_file fault ≡ trouble.Read → Cause
 file_unread Cause file.Memory failed is = absurd (cc)
@@ -64,26 +68,27 @@ pub rose_later : (first second third : ℕ) → first ≤ second → Rose second
 rose_later first second third later rose = omega (arith, later, rose)
 
 -- the same of the first file that a command reads
-pub first_missing : {files : Option Files} {name : List ℕ} {names : List (List ℕ)} {Cause : Type 0} → IsMissing files name ⊎ Cause → Misses files (name ∷ names) ⊎ Cause
+pub first_missing : {files : Option Files} {limit : ℕ} {name : List ℕ} {names : List (List ℕ)} {Cause : Type 0} → IsMissing files name ⊎ Cause →
+    MissesOf files limit (name ∷ names) ⊎ Cause
 first_missing (inl missing) = inl (call.first missing)
 first_missing (inr cause) = inr cause
 
 -- and of the second
-pub second_missing : (files : Option Files) (file run_file bytes : List ℕ) (first second third : ℕ) → IsWhole files file bytes → length bytes ≤ 1048576 → first ≤ second →
-    IsMissing files run_file ⊎ Rose second third → Misses files (file ∷ run_file ∷ []) ⊎ Rose first third
-second_missing files file run_file bytes first second third whole small later (inl missing) =
+pub second_missing : (files : Option Files) (file run_file bytes : List ℕ) (limit first second third : ℕ) → IsWhole files file bytes → length bytes ≤ limit → first ≤ second →
+    IsMissing files run_file ⊎ Rose second third → MissesOf files limit (file ∷ run_file ∷ []) ⊎ Rose first third
+second_missing files file run_file bytes limit first second third whole small later (inl missing) =
     inl (call.later bytes (is_file files file bytes (missing_tells files run_file missing) whole) small (call.first missing))
-second_missing files file run_file bytes first second third whole small later (inr rose) = inr (rose_later first second third later rose)
+second_missing files file run_file bytes limit first second third whole small later (inr rose) = inr (rose_later first second third later rose)
 
 pub run_refuses : (files : Option Files) (file unit run_file bytes run_bytes : List ℕ) (r : Refusal) → IsWhole files file bytes → IsWhole files run_file run_bytes →
     accepted.IsRunRefusal bytes unit run_bytes r → Tells files → Refuses files (Run file unit run_file) r
 run_refuses files file unit run_file bytes run_bytes r whole run_whole is tells =
     call.runs bytes run_bytes (is_file files file bytes tells whole) (is_file files run_file run_bytes tells run_whole) is
 
-pub too_long : (files : Option Files) (command : Command) (file : List ℕ) (r : Refusal) → (refusal.Size ≡ r) × IsLonger files file 1048576 →
-    ((bytes : List ℕ) → IsFile files file bytes → 1048576 < length bytes → Refuses files command refusal.Size) → Tells files → Refuses files command r
-too_long files command file r long refuses tells =
-    let (bytes, is, above) = is_longer files file 1048576 tells long.1 in
+pub too_long : (files : Option Files) (command : Command) (file : List ℕ) (limit : ℕ) (r : Refusal) → (refusal.Size ≡ r) × IsLonger files file limit →
+    ((bytes : List ℕ) → IsFile files file bytes → limit < length bytes → Refuses files command refusal.Size) → Tells files → Refuses files command r
+too_long files command file limit r long refuses tells =
+    let (bytes, is, above) = is_longer files file limit tells long.1 in
     subst (Refuses files command) long.0 (refuses bytes is above)
 
 pub run_too_long : (files : Option Files) (file unit run_file bytes : List ℕ) (r : Refusal) → IsWhole files file bytes → length bytes ≤ 1048576 →
@@ -91,6 +96,19 @@ pub run_too_long : (files : Option Files) (file unit run_file bytes : List ℕ) 
 run_too_long files file unit run_file bytes r whole small is_r longer tells =
     let (run_bytes, is, above) = is_longer files run_file 1048576 tells longer in
     subst (Refuses files (Run file unit run_file)) (sym is_r) (call.runs bytes run_bytes (is_file files file bytes tells whole) is (accepted.run_size small above))
+
+-- the same of a replay
+
+pub replay_refuses : (files : Option Files) (file run_file bytes run_bytes : List ℕ) (r : Refusal) → IsWhole files file bytes → IsWhole files run_file run_bytes →
+    replay.IsReplayRefusal bytes run_bytes r → Tells files → Refuses files (Replay file run_file) r
+replay_refuses files file run_file bytes run_bytes r whole run_whole is tells =
+    call.replays bytes run_bytes (is_file files file bytes tells whole) (is_file files run_file run_bytes tells run_whole) is
+
+pub replay_run_too_long : (files : Option Files) (file run_file bytes : List ℕ) (r : Refusal) → IsWhole files file bytes → length bytes ≤ 33554432 →
+    r ≡ refusal.RunSize → IsLonger files run_file 33554432 → Tells files → Refuses files (Replay file run_file) r
+replay_run_too_long files file run_file bytes r whole small is_r longer tells =
+    let (run_bytes, is, above) = is_longer files run_file 33554432 tells longer in
+    subst (Refuses files (Replay file run_file)) (sym is_r) (call.replays bytes run_bytes (is_file files file bytes tells whole) is (replay.run_size small above))
 
 -- ---- the work of a command
 
@@ -108,6 +126,17 @@ pub run_result_works : (files : Option Files) (file unit run_file bytes run_byte
     IfOk result (λ w. OutcomeOf bytes unit run_bytes w.status w.text.items) → IfOk result (λ w. Works files (Run file unit run_file) w.status w.text.items)
 run_result_works files file unit run_file bytes run_bytes (Ok w) whole run_whole o = run_works files file unit run_file bytes run_bytes w.text.items w.status whole run_whole o
 run_result_works files file unit run_file bytes run_bytes (Err e) whole run_whole o = o
+
+replay_works : (files : Option Files) (file run_file bytes run_bytes text : List ℕ) (s : Status) → IsWhole files file bytes → IsWhole files run_file run_bytes →
+    ReplayOf bytes run_bytes s text → Works files (Replay file run_file) s text
+replay_works files file run_file bytes run_bytes text s whole run_whole o =
+    let works = call.replayed (record { accepted = λ tells. (bytes, run_bytes, is_file files file bytes tells whole, is_file files run_file run_bytes tells run_whole, o.accepted) }) o.ends in
+    subst (λ x. Works files (Replay file run_file) x text) (sym o.status_is) (subst (λ t. Works files (Replay file run_file) (replay_status o.outcome) t) (sym o.text_is) works)
+
+pub replay_result_works : (files : Option Files) (file run_file bytes run_bytes : List ℕ) (result : Result Work Trouble) → IsWhole files file bytes → IsWhole files run_file run_bytes →
+    IfOk result (λ w. ReplayOf bytes run_bytes w.status w.text.items) → IfOk result (λ w. Works files (Replay file run_file) w.status w.text.items)
+replay_result_works files file run_file bytes run_bytes (Ok w) whole run_whole o = replay_works files file run_file bytes run_bytes w.text.items w.status whole run_whole o
+replay_result_works files file run_file bytes run_bytes (Err e) whole run_whole o = o
 
 pub has_worked : {words : List (List ℕ)} {files : Option Files} {command : Command} {s : Status} {text told : List ℕ} → Asks words command → Works files command s text → told ≡ text →
     HasWorked words files s told
@@ -177,9 +206,17 @@ outcome_done (outcome.Over at) = over
 run_done : (r : Ran State) → IsDone (run_status r)
 run_done (ran events step left) = outcome_done (outcome_of step)
 
+replay_done : (o : BOutcome) → IsDone (replay_status o)
+replay_done boogie.Done = done
+replay_done (boogie.Failed label) = failed
+replay_done boogie.Blocked = blocked
+replay_done boogie.Short = short
+replay_done boogie.Over = over
+
 pub works_done : {files : Option Files} {command : Command} {s : Status} {text : List ℕ} → Works files command s text → IsDone s
 works_done (call.translated t) = done
 works_done (call.ran {u = u} is) = run_done (end_of u)
+works_done (call.replayed {o = o} is ends) = replay_done o
 
 done_cause : {words : List (List ℕ)} {files : Option Files} {first last : ℕ} (SinkFailed : Type 0) {s : Status} → IsDone s → IsCause words files first last s →
     Causes words files first last SinkFailed s

@@ -4,9 +4,6 @@ pub mod ExampleLaws
 pub mod Coupled
 pub mod Alike
 pub mod Exact
-pub mod Pieces
-pub mod Spelled
-pub mod Nesting
 pub mod Translation
 pub mod OtherForms
 pub mod StraightLaws
@@ -15,6 +12,9 @@ pub mod RunOfUnits
 pub mod UnitNames
 pub mod RunVerdicts
 pub mod RunStages
+pub mod BoogieRunLaws
+pub mod BoogieVerdicts
+pub mod BoogieStages
 pub mod CallLaws
 pub mod Answered
 pub mod ViperLaws

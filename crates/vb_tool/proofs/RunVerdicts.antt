@@ -5,8 +5,8 @@ use Rattle.vb_base.specs.declared.places.Pos.{Pos}
 use Rattle.viper_core.specs.Formed.{IsFormed}
 use Rattle.viper_core.specs.Program as p
 use Rattle.run_file.specs.Run.{ViperRun, SpellsViperRun, GoesWrongAt}
-use Rattle.run_file.proofs.FileLaws.{file_read, stops}
-use Rattle.run_file.proofs.OneRun.{ends, one_read, one_stop, read_or_stops}
+use Rattle.run_file.proofs.AnswerLaws as run_laws
+use Rattle.run_file.proofs.FileLaws.{is_reader}
 use Rattle.run_file.proofs.ScopeLaws.{names_apart}
 use Rattle.vb_tool.proofs.Verdicts.{one_accepted, accepted_text, accepted_formed, one_text_refusal, text_answer}
 use Rattle.vb_tool.specs.Accepted.{IsAccepted, AcceptsRun, IsTextRefusal, IsRunRefusal, size, run_size, of_text, no_unit, run_syntax, HasOneAnswer, is_accepted, is_refused}
@@ -18,13 +18,13 @@ use Rattle.vb_tool.specs.declared.status.Refusal.TheVariants as refusal
 
 module _ (bytes : List ℕ) (q : p.Program) (n : ℕ) (formed : IsFormed q) where
   one_run : {a b : ViperRun} → SpellsViperRun bytes q n a → SpellsViperRun bytes q n b → a ≡ b
-  one_run h k = let apart = names_apart q n formed in one_read (file_read apart h) (file_read apart k)
+  one_run {a} {b} h k = run_laws.one_run (is_reader q n (names_apart q n formed)) bytes a b h k
 
   one_wrong : {a b : Pos} → GoesWrongAt bytes q n a → GoesWrongAt bytes q n b → a ≡ b
-  one_wrong {a} {b} h k = let apart = names_apart q n formed in one_stop (stops bytes q n a apart h) (stops bytes q n b apart k)
+  one_wrong {a} {b} h k = run_laws.one_place (is_reader q n (names_apart q n formed)) bytes a b h k
 
   never_both : {a : ViperRun} {b : Pos} → SpellsViperRun bytes q n a → GoesWrongAt bytes q n b → ⊥
-  never_both {b = b} h k = let apart = names_apart q n formed in read_or_stops (file_read apart h) (stops bytes q n b apart k)
+  never_both {a} {b} h k = run_laws.not_both (is_reader q n (names_apart q n formed)) bytes a b h k
 
 -- ---- what `run` accepts and refuses
 
@@ -110,7 +110,7 @@ module _ (bytes name run : List ℕ) where
 
   of_unit : (q : p.Program) → IsAccepted bytes q → length run ≤ 1048576 → (o : Option ℕ) → unit_named q name ≡ o → Answer
   of_unit q a few None none = refused_once (no_unit a few none)
-  of_unit q a few (Some n) named = of_run q n a few named (ends run q n (omega (arith, few)) (names_apart q n (accepted_formed a)))
+  of_unit q a few (Some n) named = of_run q n a few named (run_laws.run_or_place (is_reader q n (names_apart q n (accepted_formed a))) run (omega (arith, few)))
 
   of_bytes : length bytes ≤ 1048576 → length run ≤ 1048576 → ((q : p.Program) × IsAccepted bytes q) ⊎ ((r : Refusal) × IsTextRefusal bytes r) → Answer
   of_bytes small few (inl typed) = of_unit typed.0 typed.1 few (unit_named typed.0 name) refl

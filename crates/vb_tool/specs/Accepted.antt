@@ -16,19 +16,12 @@ use Rattle.viper_types.specs.Declaring.{program_typing}
 use Rattle.viper_types.specs.Outcome.{Broken}
 use Rattle.viper_types.specs.Program.{IsProgram}
 use Rattle.run_file.specs.Run.{SpellsViperRun, GoesWrongAt}
+use Rattle.vb_tool.specs.Limits.{max_file, max_weight}
 use Rattle.vb_tool.specs.Tree as v
 use Rattle.vb_tool.specs.Straight.{straight_of}
 use Rattle.vb_tool.specs.Units.{unit_named, UnitRun}
 use Rattle.vb_tool.specs.declared.status.Refusal.{Refusal}
 use Rattle.vb_tool.specs.declared.status.Refusal.TheVariants.{Size, RunSize, Lex, Syntax, Rule, Weight, NotYet, NoUnit, RunSyntax}
-
--- a file of a program, and one of a run, has at most 1,048,576 bytes
-abbrev pub max_file : ℕ
-max_file = 1048576
-
--- a program weighs at most so much
-abbrev pub max_weight : ℕ
-max_weight = 100000
 
 -- the bytes are the text of this typed program, within the limits of a file and of weight
 pub record IsAccepted (bytes : List ℕ) (typed : p.Program) : Type 0 where

@@ -1,21 +1,32 @@
 -- The commands: what the words of a call ask for, and the files that they name.
 use Rattle.std.specs.Prelude.{◌≡◌, ℕ, List, [], ◌∷◌, codes}
+use Rattle.vb_tool.specs.Limits.{max_file, max_boogie_file}
 
 pub data Command : Type 0 where
   -- `translate FILE`
   Translate : List ℕ → Command
   -- `run FILE UNIT RUNFILE`
   Run : List ℕ → List ℕ → List ℕ → Command
+  -- `replay BPL BRUN`
+  Replay : List ℕ → List ℕ → Command
 
 -- the words that ask for a command
 abbrev pub words_of : Command → List (List ℕ)
 words_of (Translate file) = codes "translate" ∷ file ∷ []
 words_of (Run file unit run_file) = codes "run" ∷ file ∷ unit ∷ run_file ∷ []
+words_of (Replay file run_file) = codes "replay" ∷ file ∷ run_file ∷ []
 
 -- the files that a command names, in the order in which they are read
 abbrev pub files_of : Command → List (List ℕ)
 files_of (Translate file) = file ∷ []
 files_of (Run file unit run_file) = file ∷ run_file ∷ []
+files_of (Replay file run_file) = file ∷ run_file ∷ []
+
+-- the most bytes that each of them may have
+abbrev pub limit_of : Command → ℕ
+limit_of (Translate file) = max_file
+limit_of (Run file unit run_file) = max_file
+limit_of (Replay file run_file) = max_boogie_file
 
 -- the words ask for this command
 pub record Asks (words : List (List ℕ)) (command : Command) : Type 0 where

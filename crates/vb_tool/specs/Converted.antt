@@ -5,6 +5,8 @@ use Rattle.viper_syntax.specs.declared.tokens.LexFault.{LexFault}
 use Rattle.viper_syntax.specs.declared.tokens.LexFault.TheVariants as lex
 use Rattle.viper_syntax.specs.declared.faults.ParseFault.{ParseFault}
 use Rattle.viper_syntax.specs.declared.faults.ParseFault.TheVariants as parse
+use Rattle.boogie_text.specs.declared.faults.BoogieFault.{BoogieFault}
+use Rattle.boogie_text.specs.declared.faults.BoogieFault.TheVariants as boogie
 use Rattle.run_file.specs.declared.runs.RunFileFault.{RunFileFault}
 use Rattle.run_file.specs.declared.runs.RunFileFault.TheVariants as run
 use Rattle.viper_types.specs.declared.faults.TypeFault.{TypeFault}
@@ -41,6 +43,12 @@ abbrev pub trouble_of_types : TypeFault → Trouble
 trouble_of_types typed.Memory = Memory
 trouble_of_types (typed.Rule at n) = Refused (refusal.Rule at n)
 trouble_of_types (typed.Weight n) = Refused (refusal.Weight n)
+
+abbrev pub trouble_of_boogie : BoogieFault → Trouble
+trouble_of_boogie boogie.Memory = Memory
+trouble_of_boogie (boogie.Prelude at) = Refused (refusal.Prelude at)
+trouble_of_boogie (boogie.Syntax at) = Refused (refusal.BoogieSyntax at)
+trouble_of_boogie (boogie.Deep at) = Refused (refusal.Deep at)
 
 abbrev pub trouble_of_run : RunFileFault → Trouble
 trouble_of_run run.Memory = Memory

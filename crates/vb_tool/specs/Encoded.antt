@@ -6,12 +6,14 @@ use Rattle.viper_core.specs.declared.programs.Unit as unit
 use Rattle.viper_core.specs.declared.programs.Unit.TheVariants as u
 use Rattle.vb_tool.specs.declared.straight.Op.{Op}
 use Rattle.vb_tool.specs.declared.straight.Op.TheVariants as v_op
-use Rattle.boogie_tree.specs.declared.trees.BOp.{BOp}
-use Rattle.boogie_tree.specs.declared.trees.BOp.TheVariants as b_op
-use Rattle.boogie_tree.specs.declared.trees.BBase.TheVariants as base
-use Rattle.boogie_tree.specs.declared.trees.Local.{Local}
+use Rattle.boogie_tree.specs.declared.exprs.BOp.{BOp}
+use Rattle.boogie_tree.specs.declared.exprs.BOp.TheVariants as b_op
+use Rattle.boogie_tree.specs.declared.exprs.BBase.TheVariants as base
+use Rattle.boogie_tree.specs.Expr as b
+use Rattle.boogie_tree.specs.Stmt as s
+use Rattle.boogie_tree.specs.Program.{Local, Proc, BProgram}
+use Rattle.boogie_tree.specs.Values.{plain_type}
 use Rattle.vb_tool.specs.Tree as v
-use Rattle.boogie_tree.specs.Tree as b
 
 -- the method that a unit is
 abbrev pub unit_method : p.Program → unit.Unit → Option p.Method
@@ -27,7 +29,7 @@ abbrev pub local_name : List ℕ → List ℕ
 local_name name = codes "v$" ++ name
 
 abbrev pub local_of : List ℕ → Local
-local_of name = record { name = local_name name; ty = base.Int }
+local_of name = record { name = local_name name; ty = plain_type base.Int }
 
 -- The locals that an opening sets stand first among the locals of the procedure: one for each parameter, in order.
 abbrev pub front_locals : v.Method → List Local
@@ -49,15 +51,15 @@ expr_code (v.Int n) = b.Int n
 expr_code (v.Bin o x y at) = b.Bin (op_code o) (expr_code x) (expr_code y)
 
 -- an assert asserts its expression under the label of its failure
-abbrev pub stmt_code : v.Stmt → b.BStmt
-stmt_code (v.Assert at (v.Fact e start)) = b.Assert (record { at = at; part = start; kind = kind.Fact }) (expr_code e)
+abbrev pub stmt_code : v.Stmt → s.BStmt
+stmt_code (v.Assert at (v.Fact e start)) = s.Assert (record { at = at; part = start; kind = kind.Fact }) (expr_code e)
 
 -- the body, or the postcondition's own check, which goes no further
-abbrev pub branch_code : v.Method → b.BStmt
-branch_code m = b.Either (b.stmts (map stmt_code m.stmts)) (b.first (b.Assume (b.Bool false)) b.skip)
+abbrev pub branch_code : List v.Stmt → s.BStmt
+branch_code ss = s.Either (s.stmts (map stmt_code ss)) (s.first (s.Assume (b.Bool false)) s.skip)
 
-abbrev pub method_code : v.Method → b.Proc
-method_code m = record { name = procedure_name m.name; locals = front_locals m; body = b.first (branch_code m) b.skip }
+abbrev pub method_code : v.Method → Proc
+method_code m = record { name = procedure_name m.name; locals = front_locals m; body = s.first (branch_code m.stmts) s.skip }
 
-abbrev pub program_code : v.Program → b.BProgram
-program_code program = map method_code program
+abbrev pub program_code : v.Program → BProgram
+program_code program = record { procs = map method_code program }

@@ -4,13 +4,16 @@ pub mod Formed
 pub mod Straight
 pub mod Examples
 pub mod Encoded
-pub mod Printed
 pub mod Status
 pub mod Translates
 pub mod Converted
+pub mod Limits
 pub mod Command
 pub mod Units
 pub mod Outcome
+pub mod Procedures
+pub mod ReplayOutcome
 pub mod Accepted
+pub mod AcceptedReplay
 pub mod Call
 pub mod Parts

@@ -1,11 +1,16 @@
 -- What the parts of a call do, one after the other.
-use Rattle.std.specs.Prelude.{◌≡◌, ℕ, List, Option}
+use Rattle.std.specs.Prelude.{◌≡◌, ℕ, List, Option, Some}
 use Rattle.vb_outer.specs.Faults.{Rose}
 use Rattle.vb_outer.specs.Sink.{Appends, AppendsPrefix}
 use Rattle.viper_core.specs.Program as p
+use Rattle.boogie_run.specs.Start.{outcome_of}
+use Rattle.boogie_run.specs.declared.replaying.BOutcome.{BOutcome}
 use Rattle.vb_tool.specs.Accepted.{Accepts, AcceptsRun}
+use Rattle.vb_tool.specs.AcceptedReplay.{AcceptsReplay}
 use Rattle.vb_tool.specs.Command as c
 use Rattle.vb_tool.specs.Outcome.{run_status, run_text}
+use Rattle.vb_tool.specs.Procedures.{ProcedureRun, procedure_end}
+use Rattle.vb_tool.specs.ReplayOutcome.{replay_status, replay_text}
 use Rattle.vb_tool.specs.Status.{line_of}
 use Rattle.vb_tool.specs.Translates.{Translates}
 use Rattle.vb_tool.specs.Units.{UnitRun, end_of}
@@ -18,6 +23,7 @@ use Rattle.vb_tool.specs.declared.words.Command.TheVariants as words
 abbrev pub command_of : Command → c.Command
 command_of (words.Translate file) = c.Translate file.now
 command_of (words.Run file unit run_file) = c.Run file.now unit.now run_file.now
+command_of (words.Replay file run_file) = c.Replay file.now run_file.now
 
 -- the line of a status goes to the sink of errors, and the call ends with that status; but for a fault of the sink, after
 -- which the front of the line stands there, and for want of memory
@@ -43,3 +49,12 @@ pub record OutcomeOf (bytes name run_bytes : List ℕ) (status : Status) (text :
   pub accepted : AcceptsRun bytes name run_bytes run
   pub status_is : status ≡ run_status (end_of run)
   pub text_is : text ≡ run_text (end_of run)
+
+-- the same of a procedure
+pub record ReplayOf (bytes run_bytes : List ℕ) (status : Status) (text : List ℕ) : Type 0 where
+  pub run : ProcedureRun
+  pub accepted : AcceptsReplay bytes run_bytes run
+  pub outcome : BOutcome
+  pub ends : outcome_of (procedure_end run) ≡ Some outcome
+  pub status_is : status ≡ replay_status outcome
+  pub text_is : text ≡ replay_text outcome

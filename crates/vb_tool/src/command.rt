@@ -1,16 +1,21 @@
 // The tool: from the words of a command line to what it writes and the status it ends with.
-ghost use Rattle.std.specs.Prelude.{◌≡◌, ◌⊎◌, ℕ, List, map};
+ghost use Rattle.std.specs.Prelude.{◌≡◌, ◌⊎◌, ℕ, List, Some, map};
 ghost use Rattle.std.specs.String.{string_bytes};
 ghost use Rattle.vb_outer.specs.Faults.{Rose};
 ghost use Rattle.vb_outer.specs.Shelf.{IsFile};
 ghost use Rattle.vb_outer.specs.Sink.{Appends, AppendsPrefix};
 ghost use Rattle.viper_core.specs.Program as p;
 ghost use Rattle.vb_tool.specs.Status.{line_of};
+ghost use Rattle.boogie_run.specs.Start.{outcome_of};
+ghost use Rattle.boogie_run.specs.declared.replaying.BOutcome.{BOutcome};
 ghost use Rattle.vb_tool.specs.Accepted.{Accepts, AcceptsRun};
-ghost use Rattle.vb_tool.specs.Command.{Command as CommandOf, Translate, Run, Asks, IsNoCommand, files_of};
+ghost use Rattle.vb_tool.specs.AcceptedReplay.{AcceptsReplay};
+ghost use Rattle.vb_tool.specs.Command.{Command as CommandOf, Translate, Run, Replay, Asks, IsNoCommand};
 ghost use Rattle.vb_tool.specs.Call.{Misses, Refuses, HasWorked, IsCause, Causes, EndsAs, OutAfter, ErrAfter};
 ghost use Rattle.vb_tool.specs.Outcome.{run_status};
 ghost use Rattle.vb_tool.specs.Parts.{Reports, Delivers};
+ghost use Rattle.vb_tool.specs.Procedures.{ProcedureRun, procedure_end};
+ghost use Rattle.vb_tool.specs.ReplayOutcome.{replay_status};
 ghost use Rattle.vb_tool.specs.Units.{UnitRun, end_of};
 
 use crate::status::{Refusal, Status, line};
@@ -24,8 +29,9 @@ use vb_outer::{Shelf, Sink, write_all};
 ///
 /// `translate FILE` reads the file from the shelf and writes its Boogie program to `out`. `run FILE UNIT RUNFILE` runs a
 /// method or a predicate of the file, from the state and on the choices of the run file, and writes the outcome to `out`: how
-/// the run ended, and how many choices it left over. Where the words are no command, or a file is refused or cannot be read,
-/// one line goes to `err`, and nothing to `out`.
+/// the run ended, and how many choices it left over. `replay BPL BRUN` runs a procedure of a program of Boogie, as the run file
+/// says, and writes how that ended. Where the words are no command, or a file is refused or cannot be read, one line goes to
+/// `err`, and nothing to `out`.
 pub fn tool<H: Shelf, O: Sink, E: Sink>(
     alloc: Global,
     words: &Vec<String>,
@@ -40,7 +46,7 @@ pub fn tool<H: Shelf, O: Sink, E: Sink>(
     // And where a cause stands, its status comes, unless memory was refused or a device failed.
     ensures usage { IsNoCommand (map string_bytes words.now.items) → EndsAs Status.Usage result }
     ensures missing { (command : CommandOf) → Asks (map string_bytes words.now.items) command
-        → Misses (H.files shelf.old) (files_of command) → EndsAs Status.ReadFault result }
+        → Misses (H.files shelf.old) command → EndsAs Status.ReadFault result }
     ensures refused { (command : CommandOf) (r : Refusal) → Asks (map string_bytes words.now.items) command
         → Refuses (H.files shelf.old) command r → EndsAs (Status.Refused r) result }
     ensures accepted { (file bytes : List ℕ) (program : p.Program) → Asks (map string_bytes words.now.items) (Translate file)
@@ -49,6 +55,10 @@ pub fn tool<H: Shelf, O: Sink, E: Sink>(
         → Asks (map string_bytes words.now.items) (Run file unit run_file)
         → IsFile (H.files shelf.old) file bytes → IsFile (H.files shelf.old) run_file run_bytes
         → AcceptsRun bytes unit run_bytes u → EndsAs (run_status (end_of u)) result }
+    ensures replay { (file run_file bytes run_bytes : List ℕ) (u : ProcedureRun) (o : BOutcome)
+        → Asks (map string_bytes words.now.items) (Replay file run_file)
+        → IsFile (H.files shelf.old) file bytes → IsFile (H.files shelf.old) run_file run_bytes
+        → AcceptsReplay bytes run_bytes u → outcome_of (procedure_end u) ≡ Some o → EndsAs (replay_status o) result }
 
     // What stands afterwards.
     ensures out { OutAfter (O.written out.old) (O.written out.new) (HasWorked (map string_bytes words.now.items) (H.files shelf.old)) result }

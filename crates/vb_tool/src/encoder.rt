@@ -1,13 +1,12 @@
 // From a program of Viper to one of Boogie.
-ghost use Rattle.std.specs.Prelude.{◌≡◌, ◌++◌, false, map, IfOk};
+ghost use Rattle.std.specs.Prelude.{◌≡◌, ◌++◌, map, IfOk};
 ghost use Rattle.vb_tool.specs.View as v;
-ghost use Rattle.boogie_tree.specs.View as b;
-ghost use Rattle.boogie_tree.specs.Tree as boogie;
-ghost use Rattle.vb_tool.specs.Encoded.{expr_code, stmt_code, method_code, program_code};
+ghost use Rattle.boogie_tree.specs.Whole as b;
+ghost use Rattle.vb_tool.specs.Encoded.{expr_code, stmt_code, branch_code, method_code, program_code};
 ghost use Rattle.vb_tool.specs.Encoded as code;
 
 use crate::straight::{Assertion, Expr, Method, Op, Program, Stmt};
-use boogie_tree::trees::{BBase, BExpr, BOp, BProgram, BStmt, Local, Proc};
+use boogie_tree::{BBase, BExpr, BOp, BProgram, BStmt, BType, Local, Proc};
 use std::alloc::Global;
 use vb_base::{Ident, Kind, Label, Memory};
 
@@ -34,8 +33,7 @@ fn procedure(alloc: Global, method: &Method) -> Result<Proc, Memory>
 }
 
 fn branches(alloc: Global, stmts: &[Stmt]) -> Result<BStmt, Memory>
-    ensures { IfOk result (λ s. b.stmt_of s ≡ boogie.Either (boogie.stmts (map stmt_code (map v.stmt_of stmts.now)))
-        (boogie.first (boogie.Assume (boogie.Bool false)) boogie.skip)) }
+    ensures { IfOk result (λ s. b.stmt_of s ≡ branch_code (map v.stmt_of stmts.now)) }
 {
     let body = statements(alloc, stmts)?;
     let check = vec![in alloc; BStmt::Assume(BExpr::Bool(false))]?;
@@ -53,17 +51,24 @@ fn fronted(alloc: Global, front: &[u8], name: &Ident) -> Result<Ident, Memory>
 
 /// The locals that an opening sets: one for each parameter.
 fn front(alloc: Global, names: &[Ident]) -> Result<Vec<Local>, Memory>
-    ensures { IfOk result (λ locals. locals.items ≡ map code.local_of names.now) }
+    ensures { IfOk result (λ locals. b.locals_of locals.items ≡ map code.local_of names.now) }
 {
     let mut locals = Vec::new(alloc);
     for name in names {
-        let name = fronted(alloc, b"v$", name)?;
-        locals.push(Local {
-            name,
-            ty: BBase::Int,
-        })?;
+        locals.push(local(alloc, name)?)?;
     }
     Ok(locals)
+}
+
+fn local(alloc: Global, name: &Ident) -> Result<Local, Memory>
+    ensures { IfOk result (λ local. b.local_of local ≡ code.local_of name.now) }
+{
+    let name = fronted(alloc, b"v$", name)?;
+    let ty = BType {
+        keys: Vec::new(alloc),
+        base: BBase::Int,
+    };
+    Ok(Local { name, ty })
 }
 
 fn statements(alloc: Global, stmts: &[Stmt]) -> Result<Vec<BStmt>, Memory>

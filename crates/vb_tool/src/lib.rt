@@ -7,7 +7,8 @@ mod command;
 mod encoder;
 pub mod laws;
 mod outcome;
-mod printer;
+mod procedures;
+mod replay_outcome;
 mod stages;
 mod status;
 mod straight;
@@ -19,4 +20,4 @@ mod works;
 
 pub use command::tool;
 pub use status::{Refusal, Status};
-pub use works::MAX_FILE;
+pub use works::{MAX_BOOGIE_FILE, MAX_FILE};

@@ -7,11 +7,11 @@ ghost use Rattle.vb_tool.specs.Parts.{TranslationOf, OutcomeOf};
 
 use crate::encoder::encode;
 use crate::outcome::{Work, told};
-use crate::printer::print;
 use crate::status::Refusal;
 use crate::straight_program::straight_program;
 use crate::trouble::Trouble;
 use crate::units::unit_named;
+use boogie_text::print;
 use run_file::{ViperRun, read_viper_run};
 use std::alloc::Global;
 use vb_base::place_after;

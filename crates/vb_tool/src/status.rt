@@ -8,12 +8,12 @@ use std::fmt;
 use vb_base::{Label, Pos};
 use viper_syntax::LexFault;
 
-/// Why the files of a command are refused. The refusals are tried in this order.
+/// Why the files of a command are refused. Those of one command are tried in this order.
 #[derive(Clone, Copy, Debug, PartialEq, Eq)]
 pub enum Refusal {
-    /// The file has more than 1,048,576 bytes.
+    /// The file has more bytes than it may have: 1,048,576 for a program of Viper, 33,554,432 for one of Boogie.
     Size,
-    /// The run file has more than 1,048,576 bytes.
+    /// The run file has more bytes than the file may have.
     RunSize,
     /// The file has no tokens: a byte, a comment, a number, a bracket or a word is wrong at a place.
     Lex(LexFault),
@@ -28,7 +28,20 @@ pub enum Refusal {
     NotYet,
     /// Its program has no unit of that name.
     NoUnit,
-    /// The run file spells no run of the unit. The place is that of the first line that may not stand where it does.
+    /// The file does not begin with the prelude of Boogie. The place is that of the first byte that differs, or the end of
+    /// the file.
+    Prelude(Pos),
+    /// More than 2,048 of its brackets are unclosed at once; the place is that of the first one too many.
+    Deep(Pos),
+    /// It spells no program of Boogie. The place is that of the first byte behind the prelude at which no token begins, or
+    /// else of the first token with which the tokens begin no program, or the end of the file where all of them begin one.
+    BoogieSyntax(Pos),
+    /// Its procedure of this number, from 1 on, is ill-typed, and none before it.
+    BoogieType(usize),
+    /// Its program has no procedure of the name in the header of the run file.
+    NoProcedure,
+    /// The run file spells no run of the unit or procedure. The place is that of the first line that may not stand where it
+    /// does. A wrong header is refused before `NoProcedure`.
     RunSyntax(Pos),
 }
 
@@ -100,10 +113,18 @@ impl fmt::Display for Refusal {
             Refusal::Weight(weight) => write!(f, "weight {weight}"),
             Refusal::NotYet => f.write_str("not-yet"),
             Refusal::NoUnit => f.write_str("no-unit"),
+            Refusal::Prelude(at) => write!(f, "prelude {at}"),
+            Refusal::Deep(at) => write!(f, "deep {at}"),
+            Refusal::BoogieSyntax(at) => write!(f, "syntax {at}"),
+            Refusal::BoogieType(number) => write!(f, "boogie-type {number}"),
+            Refusal::NoProcedure => f.write_str("no-procedure"),
             Refusal::RunSyntax(at) => write!(f, "run-syntax {at}"),
         }
     }
 }
+
+/// The line of the forms of the commands.
+const USAGE: &str = "usage: translate FILE | run FILE UNIT RUNFILE | replay BPL BRUN\n";
 
 impl fmt::Display for Status {
     ghost use Rattle.vb_tool.specs.Status.{line_of};
@@ -113,7 +134,7 @@ impl fmt::Display for Status {
     fn fmt<W: fmt::Write>(&self, f: &mut fmt::Formatter<W>) -> fmt::Result {
         match self {
             Status::Refused(refusal) => writeln!(f, "error: {refusal}"),
-            Status::Usage => f.write_str("usage: translate FILE | run FILE UNIT RUNFILE\n"),
+            Status::Usage => f.write_str(USAGE),
             Status::ReadFault => f.write_str("error: read\n"),
             Status::WriteFault | Status::NoMemory => Ok(()),
             Status::Done | Status::Failed(_) | Status::Blocked | Status::Short | Status::Over => {

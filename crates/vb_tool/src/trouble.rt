@@ -2,9 +2,10 @@
 ghost use Rattle.std.specs.Prelude.{◌≡◌};
 ghost use Rattle.vb_tool.specs.declared.trouble.Trouble.TheVariants as trouble;
 ghost use Rattle.vb_tool.specs.declared.status.Refusal.TheVariants as refusal;
-ghost use Rattle.vb_tool.specs.Converted.{trouble_of_file, trouble_of_lex, trouble_of_parse, trouble_of_types, trouble_of_run};
+ghost use Rattle.vb_tool.specs.Converted.{trouble_of_file, trouble_of_lex, trouble_of_parse, trouble_of_types, trouble_of_boogie, trouble_of_run};
 
 use crate::status::Refusal;
+use boogie_text::BoogieFault;
 use run_file::RunFileFault;
 use vb_base::Memory;
 use vb_outer::FileFault;
@@ -70,6 +71,19 @@ impl From<TypeFault> for Trouble {
             TypeFault::Memory => Trouble::Memory,
             TypeFault::Rule(at, rule) => Trouble::Refused(Refusal::Rule(at, rule)),
             TypeFault::Weight(weight) => Trouble::Refused(Refusal::Weight(weight)),
+        }
+    }
+}
+
+impl From<BoogieFault> for Trouble {
+    ghost from_gives = { λ fault e. e ≡ trouble_of_boogie fault };
+
+    fn from(fault: BoogieFault) -> Trouble {
+        match fault {
+            BoogieFault::Memory => Trouble::Memory,
+            BoogieFault::Prelude(at) => Trouble::Refused(Refusal::Prelude(at)),
+            BoogieFault::Syntax(at) => Trouble::Refused(Refusal::BoogieSyntax(at)),
+            BoogieFault::Deep(at) => Trouble::Refused(Refusal::Deep(at)),
         }
     }
 }

@@ -11,6 +11,8 @@ pub enum Command<'a> {
     Translate(&'a str),
     /// `run FILE UNIT RUNFILE`: a unit of a file, run as another file says.
     Run(&'a str, &'a str, &'a str),
+    /// `replay BPL BRUN`: a procedure of a file of Boogie, run as another file says.
+    Replay(&'a str, &'a str),
 }
 
 /// The command that the words ask for, if they are one.
@@ -24,6 +26,9 @@ pub fn command_of(words: &[String]) -> Option<Command>
             unit.as_str(),
             run_file.as_str(),
         )),
+        [word, file, run_file] if word.as_str() == "replay" => {
+            Some(Command::Replay(file.as_str(), run_file.as_str()))
+        }
         _ => None,
     }
 }

@@ -3,11 +3,12 @@ ghost use Rattle.std.specs.Prelude.{◌≡◌, ◌⊎◌, ◌≤◌, IfOk, IfErr
 ghost use Rattle.vb_outer.specs.Faults.{Rose};
 ghost use Rattle.vb_outer.specs.Shelf.{IsMissing, IsWhole, IsLonger};
 ghost use Rattle.vb_tool.specs.Call.{Tells, Misses, Refuses, Works};
-ghost use Rattle.vb_tool.specs.Command.{Translate, Run, files_of};
+ghost use Rattle.vb_tool.specs.Command.{Translate, Run, Replay};
 ghost use Rattle.vb_tool.specs.Parts.{command_of};
 ghost use Rattle.vb_tool.specs.declared.status.Refusal.TheVariants as refusal;
 
 use crate::outcome::Work;
+use crate::procedures::replayed;
 use crate::stages::{outcome, translated};
 use crate::status::{Refusal, Status};
 use crate::trouble::Trouble;
@@ -15,19 +16,23 @@ use crate::words::Command;
 use std::alloc::Global;
 use vb_outer::{FileFault, Shelf, read_file};
 
-/// A file of a program, and one of a run, has at most so many bytes.
+/// A file of a program of Viper, and one of a run of it, has at most so many bytes.
 pub const MAX_FILE: usize = 1_048_576;
+
+/// A file of a program of Boogie, and one of a run of it, has at most so many bytes.
+pub const MAX_BOOGIE_FILE: usize = 33_554_432;
 
 /// Does what a command asks for, but for writing it.
 pub fn work<H: Shelf>(alloc: Global, shelf: &mut H, command: Command) -> Result<Work, Trouble>
     ensures work { IfOk result (λ w. Works (H.files shelf.old) (command_of command.entry) w.status w.text.items) }
     ensures refused { (r : Refusal) → IsErrOf result (Trouble.Refused r) → Tells (H.files shelf.old) → Refuses (H.files shelf.old) (command_of command.entry) r }
-    ensures read { IsErrOf result Trouble.Read → Misses (H.files shelf.old) (files_of (command_of command.entry)) ⊎ Rose (H.faults shelf.old) (H.faults shelf.new) }
+    ensures read { IsErrOf result Trouble.Read → Misses (H.files shelf.old) (command_of command.entry) ⊎ Rose (H.faults shelf.old) (H.faults shelf.new) }
     ensures files { H.files shelf.new ≡ H.files shelf.old }
 {
     match command {
         Command::Translate(file) => translate(alloc, shelf, file),
         Command::Run(file, unit, run_file) => run(alloc, shelf, file, unit, run_file),
+        Command::Replay(file, run_file) => replay(alloc, shelf, file, run_file),
     }
 }
 
@@ -35,7 +40,7 @@ pub fn work<H: Shelf>(alloc: Global, shelf: &mut H, command: Command) -> Result<
 fn translate<H: Shelf>(alloc: Global, shelf: &mut H, file: &str) -> Result<Work, Trouble>
     ensures work { IfOk result (λ w. Works (H.files shelf.old) (Translate file.now) w.status w.text.items) }
     ensures refused { (r : Refusal) → IsErrOf result (Trouble.Refused r) → Tells (H.files shelf.old) → Refuses (H.files shelf.old) (Translate file.now) r }
-    ensures read { IsErrOf result Trouble.Read → Misses (H.files shelf.old) (files_of (Translate file.now)) ⊎ Rose (H.faults shelf.old) (H.faults shelf.new) }
+    ensures read { IsErrOf result Trouble.Read → Misses (H.files shelf.old) (Translate file.now) ⊎ Rose (H.faults shelf.old) (H.faults shelf.new) }
     ensures files { H.files shelf.new ≡ H.files shelf.old }
 {
     let source = read_file(alloc, shelf, file, MAX_FILE)?;
@@ -56,24 +61,46 @@ fn run<H: Shelf>(
 ) -> Result<Work, Trouble>
     ensures work { IfOk result (λ w. Works (H.files shelf.old) (Run file.now unit.now run_file.now) w.status w.text.items) }
     ensures refused { (r : Refusal) → IsErrOf result (Trouble.Refused r) → Tells (H.files shelf.old) → Refuses (H.files shelf.old) (Run file.now unit.now run_file.now) r }
-    ensures read { IsErrOf result Trouble.Read → Misses (H.files shelf.old) (files_of (Run file.now unit.now run_file.now)) ⊎ Rose (H.faults shelf.old) (H.faults shelf.new) }
+    ensures read { IsErrOf result Trouble.Read → Misses (H.files shelf.old) (Run file.now unit.now run_file.now) ⊎ Rose (H.faults shelf.old) (H.faults shelf.new) }
     ensures files { H.files shelf.new ≡ H.files shelf.old }
 {
     let bytes = read_file(alloc, shelf, file, MAX_FILE)?;
-    let run_bytes = read_run_file(alloc, shelf, run_file)?;
+    let run_bytes = read_run_file(alloc, shelf, run_file, MAX_FILE)?;
     outcome(alloc, &bytes, unit, &run_bytes)
 }
 
-/// Reads a run file.
-fn read_run_file<H: Shelf>(alloc: Global, shelf: &mut H, name: &str) -> Result<Vec<u8>, Trouble>
+/// Reads a file of Boogie and then a run file, and runs a procedure.
+fn replay<H: Shelf>(
+    alloc: Global,
+    shelf: &mut H,
+    file: &str,
+    run_file: &str,
+) -> Result<Work, Trouble>
+    ensures work { IfOk result (λ w. Works (H.files shelf.old) (Replay file.now run_file.now) w.status w.text.items) }
+    ensures refused { (r : Refusal) → IsErrOf result (Trouble.Refused r) → Tells (H.files shelf.old) → Refuses (H.files shelf.old) (Replay file.now run_file.now) r }
+    ensures read { IsErrOf result Trouble.Read → Misses (H.files shelf.old) (Replay file.now run_file.now) ⊎ Rose (H.faults shelf.old) (H.faults shelf.new) }
+    ensures files { H.files shelf.new ≡ H.files shelf.old }
+{
+    let bytes = read_file(alloc, shelf, file, MAX_BOOGIE_FILE)?;
+    let run_bytes = read_run_file(alloc, shelf, run_file, MAX_BOOGIE_FILE)?;
+    replayed(alloc, &bytes, &run_bytes)
+}
+
+/// Reads a run file, which may have so many bytes.
+fn read_run_file<H: Shelf>(
+    alloc: Global,
+    shelf: &mut H,
+    name: &str,
+    limit: usize,
+) -> Result<Vec<u8>, Trouble>
     ensures whole { IfOk result (λ bytes. IsWhole (H.files shelf.old) name.now bytes.items) }
-    ensures within { IfOk result (λ bytes. length bytes.items ≤ 1048576) }
-    ensures refused { (r : Refusal) → IsErrOf result (Trouble.Refused r) → (r ≡ refusal.RunSize) × IsLonger (H.files shelf.old) name.now 1048576 }
+    ensures within { IfOk result (λ bytes. length bytes.items ≤ limit) }
+    ensures refused { (r : Refusal) → IsErrOf result (Trouble.Refused r) → (r ≡ refusal.RunSize) × IsLonger (H.files shelf.old) name.now limit }
     ensures read { IsErrOf result Trouble.Read → IsMissing (H.files shelf.old) name.now ⊎ Rose (H.faults shelf.old) (H.faults shelf.new) }
     ensures later { H.faults shelf.old ≤ H.faults shelf.new }
     ensures files { H.files shelf.new ≡ H.files shelf.old }
 {
-    match read_file(alloc, shelf, name, MAX_FILE) {
+    match read_file(alloc, shelf, name, limit) {
         Ok(bytes) => Ok(bytes),
         Err(FileFault::Memory) => Err(Trouble::Memory),
         Err(FileFault::Failed) => Err(Trouble::Read),

@@ -1,6 +1,6 @@
 use Rattle.std.proofs.Common.{◌≡◌, map, take}
 use Rattle.vb_tool.specs.View as v
-use Rattle.boogie_tree.specs.View as b
+use Rattle.boogie_tree.specs.Whole as b
 use Rattle.vb_tool.specs.Encoded.{method_code}
 use Rattle.vb_tool.proofs.encoder.encode.Given as goal
 

@@ -1,3 +1,4 @@
+use Rattle.vb_tool.proofs.BoogieVerdicts.{one_boogie, one_replay_answer}
 use Rattle.vb_tool.proofs.RunVerdicts.{one_run_answer}
 use Rattle.vb_tool.proofs.Verdicts.{one_accepted, one_answer}
 use Rattle.vb_tool.proofs.laws.bytes_have_one_answer.Goals as goal
@@ -10,3 +11,9 @@ returns-clause-run c = one_run_answer
 
 pub returns-clause-typed : goal.returns-clause-typed
 returns-clause-typed c = λ bytes q r h i. one_accepted h i
+
+pub returns-clause-replay : goal.returns-clause-replay
+returns-clause-replay c = one_replay_answer
+
+pub returns-clause-boogie : goal.returns-clause-boogie
+returns-clause-boogie c = λ bytes q r h i. one_boogie h i

@@ -4,7 +4,7 @@ use Rattle.std.specs.String.{string_bytes}
 use Rattle.std.specs.declared.alloc.Global.{Global}
 use Rattle.std.specs.declared.string.String.{String}
 use Rattle.std.proofs.lemmas.Bool.{and_parts, eqb-true}
-use Rattle.vb_tool.specs.Command.{Translate, Run, Asks}
+use Rattle.vb_tool.specs.Command.{Translate, Run, Replay, Asks}
 use Rattle.vb_tool.proofs.words.command_of.Goals as goal
 
 same_text : (xs ys : List ℕ) → pointwise eqb xs ys ≡ true → xs ≡ ys
@@ -27,6 +27,21 @@ two_words (a ∷ b ∷ []) word file two three h k e =
     let first : string_bytes a ≡ codes "translate" = ap string_bytes (sym h) ∙ same_text _ _ e in
     let second : string_bytes b ≡ string_bytes file = ap string_bytes (sym k) in
     record { words_are = ap (λ x. x ∷ string_bytes b ∷ []) first ∙ ap (λ y. codes "translate" ∷ y ∷ []) second }
+
+three_words : (words : List (String Global)) (word file run_file : String Global) → 3 ≤ length words → length words < 4 →
+    word ≡ get_or words 0 word → file ≡ get_or words 1 file → run_file ≡ get_or words 2 run_file →
+    pointwise eqb (string_bytes word) (codes "replay") ≡ true → Asks (map string_bytes words) (Replay (string_bytes file) (string_bytes run_file))
+three_words [] word file run_file three four h i j e = absurd (omega (arith, three))
+three_words (a ∷ []) word file run_file three four h i j e = absurd (omega (arith, three))
+three_words (a ∷ b ∷ []) word file run_file three four h i j e = absurd (omega (arith, three))
+three_words (a ∷ b ∷ c ∷ d ∷ words) word file run_file three four h i j e = absurd (omega (arith, four))
+three_words (a ∷ b ∷ c ∷ []) word file run_file three four h i j e =
+    let first : string_bytes a ≡ codes "replay" = ap string_bytes (sym h) ∙ same_text _ _ e in
+    record {
+      words_are = ap (λ x. x ∷ string_bytes b ∷ string_bytes c ∷ []) first
+          ∙ ap (λ x. codes "replay" ∷ string_bytes x ∷ string_bytes c ∷ []) (sym i)
+          ∙ ap (λ x. codes "replay" ∷ string_bytes file ∷ string_bytes x ∷ []) (sym j);
+    }
 
 four_words : (words : List (String Global)) (word file unit run_file : String Global) → 4 ≤ length words → length words < 5 →
     word ≡ get_or words 0 word → file ≡ get_or words 1 file → unit ≡ get_or words 2 unit → run_file ≡ get_or words 3 run_file →
@@ -51,9 +66,16 @@ returns-in-len2 c =
     (subst (λ t. pointwise eqb t (codes "translate") ≡ true) c.as_str.ensures.value (sym c.eq.ensures ∙ c.if-eq.true)) in
     rw c.as_str-in-len2.ensures.value two
 
+pub returns-in-len3 : goal.returns-in-len3
+returns-in-len3 c =
+    let three = three_words c.args.words.now c.word-item-then-words-lt4.result c.file-item-then-words-lt4.result c.run_file-item.result
+    c.in-len3.len_at_least c.in-len3.len_below c.word-item-then-words-lt4.is c.file-item-then-words-lt4.is c.run_file-item.is
+    (subst (λ t. pointwise eqb t (codes "replay") ≡ true) c.as_str-then-words-lt4.ensures.value (sym c.eq-then-words-lt4.ensures ∙ c.if-eq-2.true)) in
+    rw (c.as_str-in-len3.ensures.value, c.as_str-in-len3-2.ensures.value) three
+
 pub returns-in-len4 : goal.returns-in-len4
 returns-in-len4 c =
-    let four = four_words c.args.words.now c.word-item-then-words-lt5.result c.file-item-then-words-lt5.result c.unit-item.result c.run_file-item.result
-    c.in-len4.len_at_least c.in-len4.len_below c.word-item-then-words-lt5.is c.file-item-then-words-lt5.is c.unit-item.is c.run_file-item.is
-    (subst (λ t. pointwise eqb t (codes "run") ≡ true) c.as_str-then-words-lt5.ensures.value (sym c.eq-then-words-lt5.ensures ∙ c.if-eq-2.true)) in
+    let four = four_words c.args.words.now c.word-item-then-words-lt5.result c.file-item-then-words-lt5.result c.unit-item.result c.run_file-item-then-words-lt5.result
+    c.in-len4.len_at_least c.in-len4.len_below c.word-item-then-words-lt5.is c.file-item-then-words-lt5.is c.unit-item.is c.run_file-item-then-words-lt5.is
+    (subst (λ t. pointwise eqb t (codes "run") ≡ true) c.as_str-then-words-lt5.ensures.value (sym c.eq-then-words-lt5.ensures ∙ c.if-eq-3.true)) in
     rw (c.as_str-in-len4.ensures.value, c.as_str-in-len4-2.ensures.value, c.as_str-in-len4-3.ensures.value) four

@@ -10,8 +10,8 @@ pub returns-in_err-bytes-clause-refused : goal.returns-in_err-bytes-clause-refus
 returns-in_err-bytes-clause-refused g c r is_r tells =
     let p = err_from_is_err_and c.from_residual.result c.from_residual.ensures.1 in
     let files = g.H.Shelf.files c.args.shelf.now in
-    too_long files _ c.args.file.now r
-    (file_refusal files c.args.file.now c.in_err-bytes.field-0.0 r (λ long. c.in_err-bytes.ensures.long (ap (λ fault. Err fault) long)) (sym p.2 ∙ error_is p.1 is_r))
+    too_long files _ c.args.file.now 1048576 r
+    (file_refusal files c.args.file.now 1048576 c.in_err-bytes.field-0.0 r (λ long. c.in_err-bytes.ensures.long (ap (λ fault. Err fault) long)) (sym p.2 ∙ error_is p.1 is_r))
     (λ bytes is above. call.too_long bytes is above) tells
 
 pub returns-in_err-bytes-clause-read : goal.returns-in_err-bytes-clause-read
@@ -31,7 +31,7 @@ pub returns-in_err-run_bytes-clause-read : goal.returns-in_err-run_bytes-clause-
 returns-in_err-run_bytes-clause-read g c is_read =
     let p = err_from_is_err_and c.from_residual-in_err-run_bytes.result c.from_residual-in_err-run_bytes.ensures.1 in
     let files = g.H.Shelf.files c.args.shelf.now in
-    second_missing files c.args.file.now c.args.run_file.now c.in_ok-bytes.bytes.items _ _ _ c.in_ok-bytes.ensures.whole c.in_ok-bytes.ensures.within c.in_ok-bytes.ensures.later
+    second_missing files c.args.file.now c.args.run_file.now c.in_ok-bytes.bytes.items 1048576 _ _ _ c.in_ok-bytes.ensures.whole c.in_ok-bytes.ensures.within c.in_ok-bytes.ensures.later
     (rw (← c.in_ok-bytes.ensures.same) (c.in_err-run_bytes.ensures.read (ap (λ t. Err t) (sym p.2 ∙ error_is p.1 is_read))))
 
 pub returns-clause-refused : goal.returns-clause-refused

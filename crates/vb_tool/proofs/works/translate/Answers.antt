@@ -9,8 +9,8 @@ pub returns-in_err-source-clause-refused : goal.returns-in_err-source-clause-ref
 returns-in_err-source-clause-refused g c r is_r tells =
     let p = err_from_is_err_and c.from_residual.result c.from_residual.ensures.1 in
     let files = g.H.Shelf.files c.args.shelf.now in
-    too_long files _ c.args.file.now r
-    (file_refusal files c.args.file.now c.in_err-source.field-0.0 r (λ long. c.in_err-source.ensures.long (ap (λ fault. Err fault) long)) (sym p.2 ∙ error_is p.1 is_r))
+    too_long files _ c.args.file.now 1048576 r
+    (file_refusal files c.args.file.now 1048576 c.in_err-source.field-0.0 r (λ long. c.in_err-source.ensures.long (ap (λ fault. Err fault) long)) (sym p.2 ∙ error_is p.1 is_r))
     (λ bytes is above. call.translates bytes is (accepted.size above)) tells
 
 pub returns-in_err-source-clause-read : goal.returns-in_err-source-clause-read

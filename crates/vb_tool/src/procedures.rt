@@ -1,0 +1,71 @@
+// A program of Boogie, and a run of one of its procedures.
+ghost use Rattle.std.specs.Prelude.{◌≡◌, ◌≤◌, length, IfOk, IsErrOf, position};
+ghost use Rattle.std.specs.Str.{bytes_eq};
+ghost use Rattle.boogie_tree.specs.Program as p;
+ghost use Rattle.boogie_tree.specs.Whole.{program_of, proc_of};
+ghost use Rattle.vb_tool.specs.AcceptedReplay.{IsBoogie, IsBoogieRefusal, IsBoogieRunRefusal, IsReplayRefusal};
+ghost use Rattle.vb_tool.specs.Parts.{ReplayOf};
+ghost use Rattle.vb_tool.specs.Procedures.{procedure_named};
+
+use crate::outcome::Work;
+use crate::replay_outcome::told;
+use crate::status::Refusal;
+use crate::trouble::Trouble;
+use boogie_run::{check_types, replay};
+use boogie_text::read;
+use boogie_tree::{BProgram, Proc};
+use run_file::{boogie_run_name, read_boogie_run};
+use std::alloc::Global;
+use vb_base::Ident;
+
+/// The well-typed program of a file.
+fn boogie_program(alloc: Global, bytes: &[u8]) -> Result<BProgram, Trouble>
+    requires { length bytes.now ≤ 33554432 }
+    ensures accepted { IfOk result (λ p. IsBoogie bytes.now (program_of p)) }
+    ensures refused { (r : Refusal) → IsErrOf result (Trouble.Refused r) → IsBoogieRefusal bytes.now r }
+    ensures read { IsErrOf result Trouble.Read → ⊥ }
+{
+    let program = read(alloc, bytes)?;
+    match check_types(&program) {
+        Ok(()) => Ok(program),
+        Err(number) => Err(Trouble::Refused(Refusal::BoogieType(number))),
+    }
+}
+
+/// The number of the procedure that has this name.
+fn procedure_named(program: &BProgram, name: &Ident) -> Option<usize>
+    ensures { result ≡ procedure_named (program_of program.now) name.now }
+{
+    place_of(&program.procs, name)
+}
+
+/// Its place among the procedures.
+fn place_of(procs: &[Proc], name: &Ident) -> Option<usize>
+    ensures { result ≡ position (λ d. bytes_eq (proc_of d).name name.now) procs.now }
+{
+    procs.iter().position(|proc| is_named(proc, name))
+}
+
+fn is_named(proc: &Proc, name: &Ident) -> bool
+    ensures { result ≡ bytes_eq (proc_of proc.now).name name.now }
+{
+    proc.name.bytes.as_slice() == name.bytes.as_slice()
+}
+
+/// The outcome of the procedure that a run file names, of the program of a file, on the run of the run file.
+pub fn replayed(alloc: Global, bytes: &[u8], run_bytes: &[u8]) -> Result<Work, Trouble>
+    requires bytes_within { length bytes.now ≤ 33554432 }
+    requires run_within { length run_bytes.now ≤ 33554432 }
+    ensures work { IfOk result (λ w. ReplayOf bytes.now run_bytes.now w.status w.text.items) }
+    ensures refused { (r : Refusal) → IsErrOf result (Trouble.Refused r) → IsReplayRefusal bytes.now run_bytes.now r }
+    ensures read { IsErrOf result Trouble.Read → ⊥ }
+{
+    let program = boogie_program(alloc, bytes)?;
+    let name = boogie_run_name(alloc, run_bytes)?;
+    let Some(number) = procedure_named(&program, &name) else {
+        return Err(Trouble::Refused(Refusal::NoProcedure));
+    };
+    let run = read_boogie_run(alloc, run_bytes, &program.procs[number])?;
+    let outcome = replay(alloc, &program, number, &run)?;
+    Ok(told(alloc, outcome)?)
+}
