@@ -59,7 +59,8 @@ for kind in comments procedures statements nested updates quantifiers wide entri
         nested) lengths='600 1200 2400 4800' ;;
         updates) lengths='2500 5000 10000 20000' ;;
         quantifiers) lengths='250 500 1000 2000' ;;
-        wide | entries) lengths='125000 250000 500000 1000000' ;;
+        wide) lengths='125000 250000 500000 1000000' ;;
+        entries) lengths='325000 650000 1300000 2600000' ;;
     esac
     for length in $lengths; do
         write_files "$kind" "$length"
