@@ -14,3 +14,4 @@ pub mod UnitLaws
 pub mod PartLaws
 pub mod StmtParts
 pub mod CutLaws
+pub mod NodeLaws

@@ -1,10 +1,9 @@
 -- The values of arguments, one after the other.
-use Rattle.std.proofs.Common.{◌≡◌, sym, ap, ◌∙◌, arith, ℕ, suc, ◌+◌, ◌<◌, ◌≤◌, length, drop, get_or, List, [], ◌∷◌, ◌++◌, append_assoc, Ok, Err}
+use Rattle.std.proofs.Common.{◌≡◌, sym, ap, ◌∙◌, ℕ, ◌+◌, ◌<◌, ◌≤◌, length, drop, get_or, List, [], ◌∷◌, ◌++◌, append_assoc, Ok, Err}
 use Rattle.std.proofs.lemmas.List.{append-nil}
-use Rattle.std.proofs.Math.Numerals.{add-one}
-use Rattle.std.proofs.Math.Seq.{drop-cons, drop-length}
 use Rattle.vb_value.specs.declared.values.Value.{Value}
 use Rattle.viper_core.specs.View.{expr_of, exprs_of}
+use Rattle.viper_core.proofs.NodeLaws.{next_argument, no_argument}
 use Rattle.viper_core.specs.declared.exprs.Expr as expr
 use Rattle.viper_state.specs.State.{State}
 use Rattle.viper_state.specs.Event.{Event}
@@ -26,12 +25,6 @@ led_by e rest = then_with e (λ v. then_with rest (λ vs. is (v ∷ vs)))
 
 moved : (items : List Value) (v : Value) (rest : Evaluated (List Value)) → behind items (then_with rest (λ vs. is (v ∷ vs))) ≡ behind (items ++ v ∷ []) rest
 moved items v rest = then_then rest (λ vs. is (v ∷ vs)) (λ vs. is (items ++ vs)) ∙ then_same rest _ _ (λ vs. ap is (sym (append_assoc items (v ∷ []) vs)))
-
-next_argument : (es : List expr.Expr) (i : ℕ) (e : expr.Expr) → i < length es → e ≡ get_or es i e → drop i es ≡ e ∷ drop (i + 1) es
-next_argument es i e lt is = rw add-one (drop-cons es i e lt ∙ ap (λ x. x ∷ drop (suc i) es) (sym is))
-
-no_argument : (es : List expr.Expr) (i : ℕ) → length es ≤ i → i ≤ length es → drop i es ≡ []
-no_argument es i above below = let end : i ≡ length es = omega arith in rw end (drop-length es)
 
 step : (m n : List Event) (e : Evaluated Value) (v : Value) (rest : Evaluated (List Value)) (items : List Value) →
     after m e ≡ ends n (Is v) → after m (behind items (led_by e rest)) ≡ after n (behind (items ++ v ∷ []) rest)

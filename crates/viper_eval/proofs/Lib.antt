@@ -1,7 +1,6 @@
 pub mod NumberLaws
 pub mod AnswerLaws
 pub mod PlaceLaws
-pub mod NodeLaws
 pub mod OperatorLaws
 pub mod WithinLaws
 pub mod ArgumentLaws

@@ -21,7 +21,7 @@ use Rattle.viper_eval.specs.View.{lent}
 use Rattle.viper_eval.proofs.AnswerLaws.{passed, same_answers, goes_then, stops_then, calmly, ends_with, stops_with, found_as, found_as_stops}
 use Rattle.viper_eval.proofs.WithinLaws.{value_within, values_within, opened_within, halves_within, key_is_within, taken_within, scene_within, content_is_within, argument_within}
 use Rattle.viper_eval.proofs.ArgumentLaws.{argument_goes, argument_stops, arguments_end}
-use Rattle.viper_eval.proofs.NodeLaws.{neg_is, not_is, bin_is, choose_is, field_is, unfolding_is, opened_is, inst_is, and_is, implies_is, choice_is}
+use Rattle.viper_core.proofs.NodeLaws.{neg_is, not_is, bin_is, choose_is, field_is, unfolding_is, opened_is, inst_is, and_is, implies_is, choice_is}
 use Rattle.viper_eval.proofs.PlaceLaws.{taken_at, placed_at, filled_at}
 use Rattle.viper_eval.proofs.ExpressionLaws as expression
 use Rattle.viper_eval.proofs.BodyLaws as body

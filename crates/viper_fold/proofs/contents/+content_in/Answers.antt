@@ -4,7 +4,7 @@ use Rattle.viper_core.specs.View.{assertion_of}
 use Rattle.viper_state.specs.View.{state_of}
 use Rattle.viper_eval.specs.View.{lent}
 use Rattle.viper_eval.proofs.AnswerLaws.{passed, same_answers, ends_is}
-use Rattle.viper_eval.proofs.NodeLaws.{inst_is, and_is, implies_is, choice_is}
+use Rattle.viper_core.proofs.NodeLaws.{inst_is, and_is, implies_is, choice_is}
 use Rattle.viper_fold.specs.Measured.{measured}
 use Rattle.viper_fold.proofs.ContentLaws.{contained}
 use Rattle.viper_fold.proofs.MeasuredLaws.{part_stops, part_goes, left_stops, right_stops, both_go, condition_stops, so_goes, not_goes}

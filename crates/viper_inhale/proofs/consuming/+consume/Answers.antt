@@ -4,7 +4,7 @@ use Rattle.viper_core.specs.View.{amt_of, assertion_of}
 use Rattle.viper_state.specs.View.{state_of}
 use Rattle.viper_eval.specs.View.{lent}
 use Rattle.viper_eval.proofs.AnswerLaws.{if_so, if_not, ends_is, stops_with}
-use Rattle.viper_eval.proofs.NodeLaws.{inst_is, and_is, implies_is, choice_is}
+use Rattle.viper_core.proofs.NodeLaws.{inst_is, and_is, implies_is, choice_is}
 use Rattle.viper_inhale.specs.View.{resource_of}
 use Rattle.viper_inhale.proofs.DoesLaws.{passed, goes_at_once, stopped_as}
 use Rattle.viper_inhale.proofs.FormLaws.{read_stops, step_stops, step_goes, part_stops, part_goes, first_stops, both_go, so_goes, not_goes}

@@ -5,7 +5,7 @@ use Rattle.viper_core.specs.declared.exprs.Assertion.{the_lemmas}
 use Rattle.viper_state.specs.View.{state_of, feed_of}
 use Rattle.viper_state.specs.Within.{IsWithinChoice}
 use Rattle.viper_eval.specs.View.{lent}
-use Rattle.viper_eval.proofs.NodeLaws.{inst_is, and_is, implies_is, choice_is}
+use Rattle.viper_core.proofs.NodeLaws.{inst_is, and_is, implies_is, choice_is}
 use Rattle.viper_inhale.proofs.DoesLaws.{passed, goes_at_once}
 use Rattle.viper_inhale.proofs.FormLaws.{read_stops, step_stops, step_goes, part_stops, part_goes, first_stops, both_go, so_goes, not_goes}
 use Rattle.viper_inhale.proofs.AssertionLaws.{fact_goes, fact_fails, produced, produced_share, produced_within}

@@ -1,5 +1,7 @@
 -- What a node of the program is as plain data, given what its parts were borrowed as.
-use Rattle.std.proofs.Common.{◌≡◌, sym, ap, ◌∙◌, ℕ, List, Vec}
+use Rattle.std.proofs.Common.{◌≡◌, sym, ap, ◌∙◌, arith, ℕ, suc, ◌+◌, ◌<◌, ◌≤◌, length, drop, get_or, List, [], ◌∷◌, Vec}
+use Rattle.std.proofs.Math.Numerals.{add-one}
+use Rattle.std.proofs.Math.Seq.{drop-cons, drop-length}
 use Rattle.std.specs.declared.boxed.Box.{Box}
 use Rattle.std.specs.declared.alloc.Global.{Global}
 use Rattle.vb_base.specs.declared.places.Pos.{Pos}
@@ -47,3 +49,11 @@ module _ {a : assertion.Assertion} where
   pub choice_is : {b c : assertion.Assertion} {e : expr.Expr} {x y : Box assertion.Assertion Global} → a ≡ assertion.Choose e x y → b ≡ x.value → c ≡ y.value →
       assertion_of a ≡ t.ChooseAssertion (expr_of e) (assertion_of b) (assertion_of c)
   choice_is {e = e} is left right = ap assertion_of is ∙ (λ i. t.ChooseAssertion (expr_of e) (assertion_of (sym left i)) (assertion_of (sym right i)))
+
+-- ---- the arguments that are left
+
+pub next_argument : (es : List expr.Expr) (i : ℕ) (e : expr.Expr) → i < length es → e ≡ get_or es i e → drop i es ≡ e ∷ drop (i + 1) es
+next_argument es i e lt is = rw add-one (drop-cons es i e lt ∙ ap (λ x. x ∷ drop (suc i) es) (sym is))
+
+pub no_argument : (es : List expr.Expr) (i : ℕ) → length es ≤ i → i ≤ length es → drop i es ≡ []
+no_argument es i above below = let end : i ≡ length es = omega arith in rw end (drop-length es)
