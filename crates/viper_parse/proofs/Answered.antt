@@ -8,15 +8,15 @@ use Rattle.viper_syntax.specs.declared.tokens.Word.{Word}
 use Rattle.viper_syntax.specs.declared.tokens.Word.TheVariants as word
 use Rattle.viper_syntax.specs.declared.tokens.Sign.{Sign}
 use Rattle.viper_syntax.specs.declared.tokens.Sign.TheVariants as sign
-use Rattle.viper_parse.specs.declared.parts.WordClass.{WordClass}
-use Rattle.viper_parse.specs.Tests.{Kind, Test, this, a_name, a_number, one_of, a_negation, an_operator, belongs, is_negation, level_of}
-use Rattle.viper_parse.specs.Grammar as g
-use Rattle.viper_parse.specs.Grammar.{Symbol, Rule, rule, viper, rules}
+use Rattle.viper_grammar.specs.declared.parts.WordClass.{WordClass}
+use Rattle.viper_grammar.specs.Tests.{Kind, Test, this, a_name, a_number, one_of, a_negation, an_operator, belongs, is_negation, level_of}
+use Rattle.viper_grammar.specs.Grammar as g
+use Rattle.viper_grammar.specs.Grammar.{Symbol, Rule, rule, viper, rules}
 use Rattle.grammar.specs.Whole.{IsSpelled, GoesWrong}
 use Rattle.grammar.proofs.Answered as grammar
 use Rattle.grammar.proofs.Answered.{right, wrong, fg, fn, fw, fr, ft}
 use Rattle.viper_parse.proofs.Codes.{word_code, sign_code, empty}
-use Rattle.viper_parse.proofs.Elements.{laws}
+use Rattle.viper_grammar.proofs.Elements.{laws}
 use Rattle.viper_parse.proofs.Complete.{empty_right, complete}
 
 -- whether two tokens are the same

@@ -10,13 +10,13 @@ use Rattle.viper_syntax.specs.declared.tokens.Word.{Word}
 use Rattle.viper_syntax.specs.declared.tokens.Word.TheVariants as word
 use Rattle.viper_syntax.specs.declared.tokens.Sign.{Sign}
 use Rattle.viper_syntax.specs.declared.tokens.Sign.TheVariants as sign
-use Rattle.viper_parse.specs.declared.parts.WordClass.{WordClass}
-use Rattle.viper_parse.specs.declared.parts.WordClass.TheVariants as class
+use Rattle.viper_grammar.specs.declared.parts.WordClass.{WordClass}
+use Rattle.viper_grammar.specs.declared.parts.WordClass.TheVariants as class
 use Rattle.viper_syntax.specs.Stmt as s
-use Rattle.viper_parse.specs.Tests as v
-use Rattle.viper_parse.specs.Tests.{Kind, Value, Test, this, a_name, a_number, one_of, a_negation, an_operator, Passes}
-use Rattle.viper_parse.specs.Grammar as g
-use Rattle.viper_parse.specs.Grammar.{Symbol, viper}
+use Rattle.viper_grammar.specs.Tests as v
+use Rattle.viper_grammar.specs.Tests.{Kind, Value, Test, this, a_name, a_number, one_of, a_negation, an_operator, Passes}
+use Rattle.viper_grammar.specs.Grammar as g
+use Rattle.viper_grammar.specs.Grammar.{Symbol, viper}
 
 -- a number for each token, names and numbers alike
 abbrev pub word_code : Word → ℕ

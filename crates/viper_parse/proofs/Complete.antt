@@ -16,17 +16,17 @@ use Rattle.viper_syntax.specs.Term.{Term}
 use Rattle.viper_syntax.specs.declared.stmts.Named.{Named}
 use Rattle.viper_syntax.specs.declared.stmts.Formal.{Formal}
 use Rattle.viper_syntax.specs.Stmt as s
-use Rattle.viper_parse.specs.declared.parts.Shape.{Shape}
-use Rattle.viper_parse.specs.declared.parts.Shape.TheVariants as shape
-use Rattle.viper_parse.specs.declared.parts.WordClass.{WordClass}
-use Rattle.viper_parse.specs.declared.parts.WordClass.TheVariants as class
-use Rattle.viper_parse.specs.Tests as v
-use Rattle.viper_parse.specs.Tests.{Kind, Value, Part, Test, this, a_name, a_number, one_of, a_negation, an_operator, Passes, is_type, is_constant, is_check, is_clause, is_negation, belongs, level_of}
-use Rattle.viper_parse.specs.Grammar as g
-use Rattle.viper_parse.specs.Grammar.{Symbol, Rule, give, need, when, read, rule, rules}
-use Rattle.viper_parse.specs.Spells as plain
-use Rattle.viper_parse.specs.Spells.{Derives}
-use Rattle.viper_parse.specs.Greedy.{Reads}
+use Rattle.viper_grammar.specs.declared.parts.Shape.{Shape}
+use Rattle.viper_grammar.specs.declared.parts.Shape.TheVariants as shape
+use Rattle.viper_grammar.specs.declared.parts.WordClass.{WordClass}
+use Rattle.viper_grammar.specs.declared.parts.WordClass.TheVariants as class
+use Rattle.viper_grammar.specs.Tests as v
+use Rattle.viper_grammar.specs.Tests.{Kind, Value, Part, Test, this, a_name, a_number, one_of, a_negation, an_operator, Passes, is_type, is_constant, is_check, is_clause, is_negation, belongs, level_of}
+use Rattle.viper_grammar.specs.Grammar as g
+use Rattle.viper_grammar.specs.Grammar.{Symbol, Rule, give, need, when, read, rule, rules}
+use Rattle.viper_grammar.specs.Spells as plain
+use Rattle.viper_grammar.specs.Spells.{Derives}
+use Rattle.viper_grammar.specs.Greedy.{Reads}
 use Rattle.grammar.proofs.Sets.{among, apart, within}
 use Rattle.grammar.proofs.Complete as grammar
 use Rattle.grammar.proofs.Complete.{good_give, good_need, good_when, good_read, te, tn, tw, tr}

@@ -5,11 +5,11 @@ use Rattle.viper_syntax.specs.declared.tokens.Token.{Token}
 use Rattle.viper_syntax.specs.Stmt as s
 use Rattle.viper_syntax.specs.Decl as d
 use Rattle.viper_syntax.specs.Good.{formal_names, block_names, arm_names, stmts_names, arms_names, body_names, decls_names}
-use Rattle.viper_parse.specs.Tests as v
-use Rattle.viper_parse.specs.Tests.{Kind, Value, Test}
-use Rattle.viper_parse.specs.Grammar as g
-use Rattle.viper_parse.specs.Grammar.{Symbol, Rule, give, need, when, read, rule}
-use Rattle.viper_parse.specs.Spells.{Derives, given, needed, taken, passed, called}
+use Rattle.viper_grammar.specs.Tests as v
+use Rattle.viper_grammar.specs.Tests.{Kind, Value, Test}
+use Rattle.viper_grammar.specs.Grammar as g
+use Rattle.viper_grammar.specs.Grammar.{Symbol, Rule, give, need, when, read, rule}
+use Rattle.viper_grammar.specs.Spells.{Derives, given, needed, taken, passed, called}
 use Rattle.viper_parse.proofs.Leaves.{names_in, held_names, decls_names_more, stmts_names_more, arms_names_more, formals_more}
 
 -- of so many names that were declared so far, and one more for each token, the rest makes do

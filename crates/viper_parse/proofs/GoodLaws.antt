@@ -11,7 +11,7 @@ use Rattle.viper_syntax.specs.Limit.{KeepsLimits}
 use Rattle.viper_syntax.specs.Lexed.{IsProper, IsWellFormed}
 use Rattle.viper_syntax.specs.Good.{HasLiterals, HasNames, IsName, IsGoodSource, depth}
 use Rattle.viper_syntax.proofs.FormLaws.{short_row}
-use Rattle.viper_parse.specs.Spells.{Spells}
+use Rattle.viper_grammar.specs.Spells.{Spells}
 use Rattle.viper_parse.proofs.Leaves.{Each, IsRight, all_hold}
 use Rattle.viper_parse.proofs.Counted.{all_counted}
 use Rattle.viper_parse.proofs.Shallow.{HasShortRows, all_shallow}

@@ -10,13 +10,13 @@ use Rattle.viper_syntax.specs.Term as t
 use Rattle.viper_syntax.specs.Stmt as s
 use Rattle.viper_syntax.specs.Decl as d
 use Rattle.viper_syntax.specs.Good.{amount_terms, rhs_terms, with_fields, target_terms, option_terms, stmt_terms, block_terms, arm_terms, stmts_terms, arms_terms, clauses_terms, decl_terms, decls_terms, IsLiteral, HasLiterals, AmountHasLiterals, HaveLiterals, formal_names, stmt_names, block_names, arm_names, stmts_names, arms_names, body_names, decl_names, decls_names, IsName, HasNames, AmountHasNames, HaveNames, names_of, rhs_uses, stmt_uses, block_uses, arm_uses, stmts_uses, arms_uses, body_uses, decl_uses, decls_uses}
-use Rattle.viper_parse.specs.declared.parts.Shape.{Shape}
-use Rattle.viper_parse.specs.declared.parts.Shape.TheVariants as shape
-use Rattle.viper_parse.specs.Tests as v
-use Rattle.viper_parse.specs.Tests.{Kind, Value, Part, Test, this, a_name, a_number, one_of, a_negation, an_operator, Passes}
-use Rattle.viper_parse.specs.Grammar as g
-use Rattle.viper_parse.specs.Grammar.{Symbol, Rule, give, need, when, read, rule}
-use Rattle.viper_parse.specs.Spells.{Derives, given, needed, taken, passed, called}
+use Rattle.viper_grammar.specs.declared.parts.Shape.{Shape}
+use Rattle.viper_grammar.specs.declared.parts.Shape.TheVariants as shape
+use Rattle.viper_grammar.specs.Tests as v
+use Rattle.viper_grammar.specs.Tests.{Kind, Value, Part, Test, this, a_name, a_number, one_of, a_negation, an_operator, Passes}
+use Rattle.viper_grammar.specs.Grammar as g
+use Rattle.viper_grammar.specs.Grammar.{Symbol, Rule, give, need, when, read, rule}
+use Rattle.viper_grammar.specs.Spells.{Derives, given, needed, taken, passed, called}
 
 -- a property of each element
 abbrev pub Each : {X : Type 0} → (X → Type 0) → List X → Type 0

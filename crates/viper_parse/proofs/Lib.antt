@@ -1,6 +1,4 @@
-pub mod Elements
-pub mod Reading
-pub mod Steps
+pub mod HeaderLaws
 pub mod Whole
 pub mod Codes
 pub mod Complete

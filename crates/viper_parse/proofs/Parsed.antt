@@ -11,14 +11,15 @@ use Rattle.grammar.specs.Whole as text
 use Rattle.grammar.specs.Whole.{IsSpelled}
 use Rattle.grammar.proofs.Whole as grammar
 use Rattle.grammar.proofs.Whole.{split, count}
-use Rattle.viper_parse.specs.Tests as v
-use Rattle.viper_parse.specs.Grammar as g
-use Rattle.viper_parse.specs.Grammar.{rule, rules}
-use Rattle.viper_parse.specs.Spells.{Derives, Spells}
-use Rattle.viper_parse.specs.Greedy.{Reads}
+use Rattle.viper_grammar.specs.Tests as v
+use Rattle.viper_grammar.specs.Grammar as g
+use Rattle.viper_grammar.specs.Grammar.{rule, rules}
+use Rattle.viper_grammar.specs.Spells.{Derives, Spells}
+use Rattle.viper_grammar.specs.Greedy.{Reads}
 use Rattle.viper_parse.specs.Whole.{FailsWhole, RefusesWhole}
-use Rattle.viper_parse.specs.Answers.{IsProgram, GoesWrong, place_at, Gives, Refuses, fault_of}
-use Rattle.viper_parse.proofs.Reading.{derivation, one_reading}
+use Rattle.viper_grammar.specs.Stops.{place_at, fault_of}
+use Rattle.viper_parse.specs.Answers.{IsProgram, GoesWrong, Gives, Refuses}
+use Rattle.viper_grammar.proofs.Reading.{derivation, one_reading}
 use Rattle.viper_parse.proofs.Complete.{complete}
 use Rattle.viper_parse.proofs.Answered.{answered}
 

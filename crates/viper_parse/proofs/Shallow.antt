@@ -11,13 +11,13 @@ use Rattle.viper_syntax.specs.declared.stmts.Named.{Named}
 use Rattle.viper_syntax.specs.Term as t
 use Rattle.viper_syntax.specs.Stmt as s
 use Rattle.viper_syntax.specs.Decl as d
-use Rattle.viper_parse.specs.declared.parts.Shape.{Shape}
-use Rattle.viper_parse.specs.declared.parts.Shape.TheVariants as shape
-use Rattle.viper_parse.specs.Tests as v
-use Rattle.viper_parse.specs.Tests.{Kind, Value, Part, Test, this, a_name, a_number, one_of, a_negation, an_operator, Passes, is_constant, is_negation, level_of}
-use Rattle.viper_parse.specs.Grammar as g
-use Rattle.viper_parse.specs.Grammar.{Symbol, Rule, give, need, when, read, rule}
-use Rattle.viper_parse.specs.Spells.{Derives, given, needed, taken, passed, called}
+use Rattle.viper_grammar.specs.declared.parts.Shape.{Shape}
+use Rattle.viper_grammar.specs.declared.parts.Shape.TheVariants as shape
+use Rattle.viper_grammar.specs.Tests as v
+use Rattle.viper_grammar.specs.Tests.{Kind, Value, Part, Test, this, a_name, a_number, one_of, a_negation, an_operator, Passes, is_constant, is_negation, level_of}
+use Rattle.viper_grammar.specs.Grammar as g
+use Rattle.viper_grammar.specs.Grammar.{Symbol, Rule, give, need, when, read, rule}
+use Rattle.viper_grammar.specs.Spells.{Derives, given, needed, taken, passed, called}
 use Rattle.viper_syntax.specs.Good.{depth, amount_depth, terms_depth, amount_terms, rhs_terms, with_fields, target_terms, option_terms, block_terms, arm_terms, arms_terms, clauses_terms, decls_terms}
 use Rattle.viper_syntax.specs.Limit.{is_divider, is_dividing_word, is_dividing_sign, IsUndivided}
 use Rattle.viper_parse.proofs.Leaves.{Each, each_append, each_by, terms_in, held_terms, decls_terms_more, stmts_terms_more, arms_terms_more, clauses_more}

@@ -9,13 +9,13 @@ use Rattle.grammar.proofs.Whole as grammar
 use Rattle.viper_syntax.specs.declared.tokens.Token.{Token}
 use Rattle.viper_syntax.specs.declared.decls.Decl.{Decl}
 use Rattle.viper_syntax.specs.Decl as d
-use Rattle.viper_parse.specs.Tests as v
-use Rattle.viper_parse.specs.Tests.{Kind}
-use Rattle.viper_parse.specs.Grammar as g
-use Rattle.viper_parse.specs.Grammar.{Rule, rule, rules}
-use Rattle.viper_parse.specs.Greedy.{Reads, Fails, Goes, Refuses}
+use Rattle.viper_grammar.specs.Tests as v
+use Rattle.viper_grammar.specs.Tests.{Kind}
+use Rattle.viper_grammar.specs.Grammar as g
+use Rattle.viper_grammar.specs.Grammar.{Rule, rule, rules}
+use Rattle.viper_grammar.specs.Greedy.{Reads, Fails, Goes, Refuses}
 use Rattle.viper_parse.specs.Whole.{Declares, DeclareFails, FailsWhole, RefusesWhole, ReadsWhole}
-use Rattle.viper_parse.proofs.Elements.{laws}
+use Rattle.viper_grammar.proofs.Elements.{laws}
 
 -- an error at a `?` of `declaration`
 

@@ -1,16 +1,15 @@
 -- What `parse` answers.
-use Rattle.std.specs.Prelude.{◌≡◌, ℕ, zero, suc, List, [], ◌∷◌, Result, Ok, Err}
+use Rattle.std.specs.Prelude.{◌≡◌, ℕ, List, Result, Ok, Err}
 use Rattle.vb_base.specs.declared.places.Pos.{Pos}
+use Rattle.vb_base.specs.Place.{IsPlace}
 use Rattle.viper_syntax.specs.declared.tokens.Token.{Token}
 use Rattle.viper_syntax.specs.declared.decls.SourceProgram.{SourceProgram}
 use Rattle.viper_syntax.specs.Decl as d
 use Rattle.viper_syntax.specs.View.{program_of}
-use Rattle.viper_parse.specs.Spells.{Spells}
-use Rattle.vb_base.specs.Place.{IsPlace}
-use Rattle.grammar.specs.declared.stop.Stop.{Stop}
-use Rattle.grammar.specs.declared.stop.Stop.TheVariants as stop
 use Rattle.viper_syntax.specs.declared.faults.ParseFault.{ParseFault}
 use Rattle.viper_syntax.specs.declared.faults.ParseFault.TheVariants as fault
+use Rattle.viper_grammar.specs.Spells.{Spells}
+use Rattle.viper_grammar.specs.Stops.{place_at}
 
 -- the tokens spell some program
 abbrev pub IsProgram : List Token → Type 0
@@ -21,12 +20,6 @@ pub record GoesWrong (ts : List Token) : Type 0 where
   pub none : IsProgram ts → ⊥
   pub at : ℕ
   pub place : IsPlace IsProgram ts at
-
--- the place of the token of this number, or the end where the tokens have no such token
-abbrev pub place_at : List Token → ℕ → Pos → Pos
-place_at [] i end = end
-place_at (k ∷ ts) zero end = k.pos
-place_at (k ∷ ts) (suc i) end = place_at ts i end
 
 -- the answer is this program, unless memory was refused
 abbrev pub Gives : Result SourceProgram ParseFault → d.SourceProgram → Type 0
@@ -40,8 +33,3 @@ abbrev pub Refuses : Result SourceProgram ParseFault → List Token → Pos → 
 Refuses (Ok p) ts end = Unit {0}
 Refuses (Err fault.Memory) ts end = Unit {0}
 Refuses (Err (fault.Syntax at)) ts end = (i : ℕ) × IsPlace IsProgram ts i × (at ≡ place_at ts i end)
-
--- the fault that a stop is
-abbrev pub fault_of : Stop Token → Pos → ParseFault
-fault_of stop.Memory end = fault.Memory
-fault_of (stop.Before r) end = fault.Syntax (place_at r.now zero end)

@@ -1,7 +1,4 @@
-pub mod Tests
-pub mod Grammar
-pub mod Spells
-pub mod Greedy
 pub mod View
+pub mod Header
 pub mod Whole
 pub mod Answers

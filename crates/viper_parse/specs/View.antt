@@ -1,4 +1,4 @@
--- What contracts see of the parser's own types: the plain data of Tests.
+-- What contracts see of lists and of a body: the plain data of the grammar.
 use Rattle.std.specs.Prelude.{List, map, Option}
 use Rattle.std.specs.Option.{option_map}
 use Rattle.std.specs.declared.alloc.Global.{Global}
@@ -12,17 +12,7 @@ use Rattle.viper_syntax.specs.declared.stmts.Formal.{Formal}
 use Rattle.viper_syntax.specs.declared.stmts.SStmt.{SStmt}
 use Rattle.viper_syntax.specs.declared.stmts.SBlock.{SBlock}
 use Rattle.viper_syntax.specs.declared.decls.SClause.{SClause}
-use Rattle.viper_syntax.specs.declared.decls.Decl.{Decl}
-use Rattle.viper_syntax.specs.View.{term_of, call_of, amount_of, stmt_of, block_of, clause_of, decl_of}
-use Rattle.viper_parse.specs.Tests as v
-use Rattle.viper_parse.specs.declared.parts.Part.{Part}
-use Rattle.viper_parse.specs.declared.parts.Instance.{Instance}
-
-abbrev pub part_of : Part → v.Part
-part_of p = record { shape = p.shape; tree = term_of p.term.value }
-
-abbrev pub instance_of : Instance → v.Instance
-instance_of i = record { call = call_of i.call; amount = amount_of i.amount }
+use Rattle.viper_syntax.specs.View.{term_of, stmt_of, block_of, clause_of}
 
 abbrev pub arguments_of : Vec Term Global → List t.Term
 arguments_of v = map term_of v.items
@@ -41,6 +31,3 @@ clauses_of v = map clause_of v.items
 
 abbrev pub body_of : Option SBlock → Option s.SBlock
 body_of b = option_map block_of b
-
-abbrev pub decls_of : Vec Decl Global → List d.Decl
-decls_of v = map decl_of v.items

@@ -8,8 +8,8 @@ use Rattle.viper_syntax.specs.declared.decls.Decl.{Decl}
 use Rattle.viper_syntax.specs.Decl as d
 use Rattle.viper_syntax.specs.View.{decl_of}
 use Rattle.grammar.specs.Whole as grammar
-use Rattle.viper_parse.specs.Grammar.{rule, Program, rules}
-use Rattle.viper_parse.specs.Greedy.{Reads, Fails, Goes}
+use Rattle.viper_grammar.specs.Grammar.{rule, Program, rules}
+use Rattle.viper_grammar.specs.Greedy.{Reads, Fails, Goes}
 use Rattle.grammar.specs.declared.stop.Stop.{Stop}
 use Rattle.grammar.specs.declared.stop.Stop.TheVariants as stop
 

@@ -3,18 +3,19 @@ ghost use Rattle.std.specs.Prelude.{◌≡◌, ◌<◌, ◌≤◌, ◌∷◌, []
 ghost use Rattle.std.specs.Option.{option_map};
 ghost use Rattle.viper_syntax.specs.Decl as d;
 ghost use Rattle.viper_syntax.specs.View.{block_of, clause_of, decl_of, term_of};
-ghost use Rattle.viper_parse.specs.Grammar as g;
-ghost use Rattle.viper_parse.specs.Greedy.{Parses};
+ghost use Rattle.viper_grammar.specs.Grammar as g;
+ghost use Rattle.viper_grammar.specs.Greedy.{Parses};
 ghost use Rattle.viper_parse.specs.View.{formals_of, clauses_of, body_of};
+ghost use Rattle.viper_parse.specs.Header.{Heads};
 ghost use Rattle.viper_parse.specs.Whole.{Declares, ReadsWhole};
 
-use crate::parts::{WordClass, pushed};
 use crate::stmts::{braced, formal, semicolons, statements};
 use crate::terms::term;
-use crate::tokens::{Read, eat_one_of, eat_sign, eat_word, name, sign};
 use grammar::Stop;
 use std::alloc::Global;
 use vb_base::Pos;
+use viper_grammar::tokens::{Read, eat_one_of, eat_sign, eat_word, name, sign};
+use viper_grammar::{WordClass, pushed};
 use viper_syntax::{Decl, Formal, Named, SBlock, SClause, SMethod, Sign, Token, Word};
 
 /// `[ formal { "," formal } ] ")"`
@@ -84,14 +85,23 @@ fn body<'a>(alloc: Global, tokens: &'a [Token]) -> Read<'a, Option<SBlock>>
     Ok((Some(braced(at, stmts)), rest))
 }
 
+/// `name "(" [ formal { "," formal } ] ")"`
+fn header<'a>(alloc: Global, tokens: &'a [Token]) -> Read<'a, (Named, Vec<Formal>)>
+    ensures shorter { IfOk result (λ r. length r.1.now < length tokens.now) }
+    ensures reads { Heads tokens.now result }
+{
+    let (named, rest) = name(alloc, tokens)?;
+    let (_, after) = sign(Sign::OpenParen, rest)?;
+    let (params, rest) = formals(alloc, after)?;
+    Ok(((named, params), rest))
+}
+
 /// What follows `predicate`.
 fn predicate<'a>(alloc: Global, at: Pos, tokens: &'a [Token]) -> Read<'a, Decl>
     ensures shorter { IfOk result (λ r. length r.1.now < length tokens.now) }
     ensures reads { Parses decl_of (g.rule (g.Predicate at)) tokens.now result }
 {
-    let (named, rest) = name(alloc, tokens)?;
-    let (_, after) = sign(Sign::OpenParen, rest)?;
-    let (params, rest) = formals(alloc, after)?;
+    let ((named, params), rest) = header(alloc, tokens)?;
     let Some((_, inside)) = eat_sign(Sign::OpenBrace, rest) else {
         return Ok((Decl::Predicate(at, named, params, None), rest));
     };
@@ -108,9 +118,7 @@ fn method<'a>(alloc: Global, at: Pos, tokens: &'a [Token]) -> Read<'a, Decl>
     ensures shorter { IfOk result (λ r. length r.1.now < length tokens.now) }
     ensures reads { Parses decl_of (g.rule (g.Method at)) tokens.now result }
 {
-    let (named, rest) = name(alloc, tokens)?;
-    let (_, after) = sign(Sign::OpenParen, rest)?;
-    let (params, rest) = formals(alloc, after)?;
+    let ((named, params), rest) = header(alloc, tokens)?;
     let (results, rest) = returns(alloc, rest)?;
     let (conditions, rest) = clauses(alloc, rest)?;
     let (block, rest) = body(alloc, rest)?;
@@ -139,12 +147,10 @@ fn declaration<'a>(
         return Ok(Some((Decl::Field(declared), rest)));
     }
     if let Some((at, after)) = eat_word(Word::Predicate, tokens) {
-        let (whole, rest) = predicate(alloc, at, after)?;
-        return Ok(Some((whole, rest)));
+        return Ok(Some(predicate(alloc, at, after)?));
     }
     if let Some((at, after)) = eat_word(Word::Method, tokens) {
-        let (whole, rest) = method(alloc, at, after)?;
-        return Ok(Some((whole, rest)));
+        return Ok(Some(method(alloc, at, after)?));
     }
     Ok(None)
 }

@@ -5,13 +5,15 @@ ghost use Rattle.viper_syntax.specs.Decl as d;
 ghost use Rattle.viper_syntax.specs.View.{program_of};
 ghost use Rattle.viper_syntax.specs.Good.{IsGoodSource};
 ghost use Rattle.viper_syntax.specs.Lexed.{IsWellFormed};
-ghost use Rattle.viper_parse.specs.Answers.{IsProgram, GoesWrong, Gives, Refuses, place_at, fault_of};
-ghost use Rattle.viper_parse.specs.Spells.{Spells};
+ghost use Rattle.viper_grammar.specs.Stops.{place_at, fault_of};
+ghost use Rattle.viper_parse.specs.Answers.{IsProgram, GoesWrong, Gives, Refuses};
+ghost use Rattle.viper_grammar.specs.Spells.{Spells};
 
 use crate::decls::declarations;
 use grammar::Stop;
 use std::alloc::Global;
 use vb_base::Pos;
+use viper_grammar::fault;
 use viper_syntax::{ParseFault, SourceProgram, Token};
 
 /// The program that the tokens of a file spell; `end` is the place past the file's last byte. It is the one tree
@@ -36,25 +38,6 @@ fn parse_slice(alloc: Global, tokens: &[Token], end: Pos) -> Result<SourceProgra
     match declarations(alloc, tokens) {
         Ok(decls) => Ok(SourceProgram { decls }),
         Err(stop) => Err(fault(stop, end)),
-    }
-}
-
-fn fault(stop: Stop<'_, Token>, end: Pos) -> ParseFault
-    ensures { result ≡ fault_of stop.entry end }
-{
-    match stop {
-        Stop::Memory => ParseFault::Memory,
-        Stop::Before(rest) => ParseFault::Syntax(place_of(rest, end)),
-    }
-}
-
-/// The place of the next token, or the end.
-fn place_of(tokens: &[Token], end: Pos) -> Pos
-    ensures { result ≡ place_at tokens.now 0 end }
-{
-    match tokens.first() {
-        Some(token) => token.pos,
-        None => end,
     }
 }
 

@@ -2,16 +2,16 @@
 ghost use Rattle.std.specs.Prelude.{◌≡◌, ◌<◌, ◌≤◌, ◌∷◌, [], length, IfOk, map};
 ghost use Rattle.viper_syntax.specs.Stmt as s;
 ghost use Rattle.viper_syntax.specs.View.{stmt_of, block_of, arm_of, rhs_of, term_of, call_of, fold_of, amount_of, fold_amount_of, else_of};
-ghost use Rattle.viper_parse.specs.Grammar as g;
-ghost use Rattle.viper_parse.specs.Greedy.{Parses, Reads};
+ghost use Rattle.viper_grammar.specs.Grammar as g;
+ghost use Rattle.viper_grammar.specs.Greedy.{Parses, Reads};
 ghost use Rattle.viper_parse.specs.View.{arguments_of, names_of, stmts_in};
 
-use crate::build::assigned;
-use crate::parts::{Instance, Part, WordClass, pushed};
 use crate::terms::{arguments, call, group, instance, term};
-use crate::tokens::{Read, eat_one_of, eat_sign, eat_word, name, one_of, sign};
 use std::alloc::{AllocFailed, Global};
 use vb_base::Pos;
+use viper_grammar::build::assigned;
+use viper_grammar::tokens::{Read, eat_one_of, eat_sign, eat_word, name, one_of, sign};
+use viper_grammar::{Instance, Part, WordClass, pushed};
 use viper_syntax::{
     Formal, Named, SArm, SBlock, SCall, SFold, SNew, SRhs, SStmt, Sign, Term, Token, Word,
 };

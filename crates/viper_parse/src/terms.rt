@@ -1,22 +1,23 @@
 // Terms.
 ghost use Rattle.std.specs.Prelude.{◌≡◌, ◌<◌, ◌≤◌, ℕ, length, false, IfOk, IfSome, MatchOption, map};
 ghost use Rattle.viper_syntax.specs.View.{term_of, amount_of, call_of};
-ghost use Rattle.viper_parse.specs.Grammar as g;
-ghost use Rattle.viper_parse.specs.Grammar.{Starts};
-ghost use Rattle.viper_parse.specs.Greedy.{Parses, Reads};
-ghost use Rattle.viper_parse.specs.Tests.{an_operator};
-ghost use Rattle.viper_parse.specs.View.{part_of, instance_of, arguments_of};
+ghost use Rattle.viper_grammar.specs.Grammar as g;
+ghost use Rattle.viper_grammar.specs.Grammar.{Starts};
+ghost use Rattle.viper_grammar.specs.Greedy.{Parses, Reads};
+ghost use Rattle.viper_grammar.specs.Tests.{an_operator};
+ghost use Rattle.viper_grammar.specs.View.{part_of, instance_of};
+ghost use Rattle.viper_parse.specs.View.{arguments_of};
 
-use crate::build::{
+use std::alloc::Global;
+use vb_base::Pos;
+use viper_grammar::build::{
     accessed, applied, binary, called, chosen, constant, field, number, old, unfolding, variable,
 };
-use crate::parts::{Instance, Part, Shape, WordClass, pushed};
-use crate::tokens::{
+use viper_grammar::tokens::{
     Read, eat_name, eat_negation, eat_number, eat_one_of, eat_operator, eat_sign, eat_word, name,
     sign, word,
 };
-use std::alloc::Global;
-use vb_base::Pos;
+use viper_grammar::{Instance, Part, Shape, WordClass, pushed, repeats, right_level};
 use viper_syntax::{Named, SCall, Sign, Term, Token, Word};
 
 /// A term.
@@ -80,21 +81,6 @@ fn chain<'a>(alloc: Global, n: u32, first: Part, tokens: &'a [Token]) -> Read<'a
         }
     }
     Ok((part, rest))
-}
-
-/// The level of the right side of an operator of level n: the next tighter one, or the same where operators of
-/// level n group to the right.
-fn right_level(n: u32) -> u32
-    ensures { result ≡ g.right_level n }
-{
-    if n < 4 { n.saturating_sub(1) } else { n }
-}
-
-/// Whether operators of level n group to the left, so that one more may follow.
-fn repeats(n: u32) -> bool
-    ensures { result ≡ g.repeats n }
-{
-    n < 3
 }
 
 /// The next operator, if it is of level n and may go on with this term.

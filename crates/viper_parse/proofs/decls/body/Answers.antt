@@ -1,8 +1,8 @@
 use Rattle.std.proofs.Common.{ap}
-use Rattle.viper_parse.specs.Grammar as g
+use Rattle.viper_grammar.specs.Grammar as g
 use Rattle.viper_parse.specs.View.{body_of}
-use Rattle.viper_parse.proofs.Reading.{start, by_token, by_other, by_part, whole}
-use Rattle.viper_parse.proofs.Steps.{part_error, whole_as}
+use Rattle.viper_grammar.proofs.Reading.{start, by_token, by_other, by_part, whole}
+use Rattle.viper_grammar.proofs.Steps.{part_error, whole_as}
 use Rattle.viper_parse.proofs.decls.body.Goals as goal
 use Rattle.std.proofs.Common.{Some}
 

@@ -1,7 +1,7 @@
 use Rattle.std.proofs.Common.{◌≤◌, length, map, []}
 use Rattle.viper_syntax.specs.View.{decl_of}
-use Rattle.viper_parse.specs.Grammar as g
-use Rattle.viper_parse.specs.Greedy.{Goes}
+use Rattle.viper_grammar.specs.Grammar as g
+use Rattle.viper_grammar.specs.Greedy.{Goes}
 use Rattle.viper_parse.proofs.decls.declarations.Given as goal
 
 abbrev pub invariant-loop-next : goal.invariant-loop-next

@@ -1,6 +1,6 @@
 use Rattle.std.proofs.Common.{◌<◌, length}
-use Rattle.viper_parse.specs.Grammar as g
-use Rattle.viper_parse.specs.Greedy.{Goes}
+use Rattle.viper_grammar.specs.Grammar as g
+use Rattle.viper_grammar.specs.Greedy.{Goes}
 use Rattle.viper_parse.proofs.decls.formals.Given as goal
 
 abbrev pub invariant-loop-after : goal.invariant-loop-after

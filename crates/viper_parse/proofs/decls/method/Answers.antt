@@ -1,33 +1,26 @@
 use Rattle.viper_syntax.specs.View.{decl_of}
-use Rattle.viper_parse.specs.Grammar as g
-use Rattle.viper_parse.proofs.Reading.{start, by_need, by_part, whole}
-use Rattle.viper_parse.proofs.Steps.{part_error, token_error}
+use Rattle.viper_grammar.specs.Grammar as g
+use Rattle.viper_grammar.proofs.Reading.{start, by_part, whole}
+use Rattle.viper_grammar.proofs.Steps.{part_error}
+use Rattle.viper_parse.proofs.HeaderLaws.{head_error, by_header}
 use Rattle.viper_parse.proofs.decls.method.Goals as goal
 
 pub returns-in_err-named-clause-reads : goal.returns-in_err-named-clause-reads
 returns-in_err-named-clause-reads c =
-    token_error decl_of _ _ c.from_residual.ensures.1 (start (g.rule (g.Method c.args.at)) c.args.tokens.now) c.in_err-named.ensures.takes
-
-pub returns-in_err-after-clause-reads : goal.returns-in_err-after-clause-reads
-returns-in_err-after-clause-reads c =
-    token_error decl_of _ _ c.from_residual-in_err-after.ensures.1 (by_need c.in_ok-named.ensures.takes (start (g.rule (g.Method c.args.at)) c.args.tokens.now)) c.in_err-after.ensures.takes
-
-pub returns-in_err-params-clause-reads : goal.returns-in_err-params-clause-reads
-returns-in_err-params-clause-reads c =
-    part_error decl_of _ _ c.from_residual-in_err-params.ensures.1 (by_need c.in_ok-after.ensures.takes (by_need c.in_ok-named.ensures.takes (start (g.rule (g.Method c.args.at)) c.args.tokens.now))) c.in_err-params.ensures.reads
+    head_error decl_of _ _ c.from_residual.ensures.1 (start (g.rule (g.Method c.args.at)) c.args.tokens.now) c.in_err-named.ensures.reads
 
 pub returns-in_err-results-clause-reads : goal.returns-in_err-results-clause-reads
 returns-in_err-results-clause-reads c =
-    part_error decl_of _ _ c.from_residual-in_err-results.ensures.1 (by_part c.in_ok-params.ensures.reads (by_need c.in_ok-after.ensures.takes (by_need c.in_ok-named.ensures.takes (start (g.rule (g.Method c.args.at)) c.args.tokens.now)))) c.in_err-results.ensures.reads
+    part_error decl_of _ _ c.from_residual-in_err-results.ensures.1 (by_header c.in_ok-named.ensures.reads (start (g.rule (g.Method c.args.at)) c.args.tokens.now)) c.in_err-results.ensures.reads
 
 pub returns-in_err-conditions-clause-reads : goal.returns-in_err-conditions-clause-reads
 returns-in_err-conditions-clause-reads c =
-    part_error decl_of _ _ c.from_residual-in_err-conditions.ensures.1 (by_part c.in_ok-results.ensures.reads (by_part c.in_ok-params.ensures.reads (by_need c.in_ok-after.ensures.takes (by_need c.in_ok-named.ensures.takes (start (g.rule (g.Method c.args.at)) c.args.tokens.now))))) c.in_err-conditions.ensures.reads
+    part_error decl_of _ _ c.from_residual-in_err-conditions.ensures.1 (by_part c.in_ok-results.ensures.reads (by_header c.in_ok-named.ensures.reads (start (g.rule (g.Method c.args.at)) c.args.tokens.now))) c.in_err-conditions.ensures.reads
 
 pub returns-in_err-block-clause-reads : goal.returns-in_err-block-clause-reads
 returns-in_err-block-clause-reads c =
-    part_error decl_of _ _ c.from_residual-in_err-block.ensures.1 (by_part c.in_ok-conditions.ensures.reads (by_part c.in_ok-results.ensures.reads (by_part c.in_ok-params.ensures.reads (by_need c.in_ok-after.ensures.takes (by_need c.in_ok-named.ensures.takes (start (g.rule (g.Method c.args.at)) c.args.tokens.now)))))) c.in_err-block.ensures.reads
+    part_error decl_of _ _ c.from_residual-in_err-block.ensures.1 (by_part c.in_ok-conditions.ensures.reads (by_part c.in_ok-results.ensures.reads (by_header c.in_ok-named.ensures.reads (start (g.rule (g.Method c.args.at)) c.args.tokens.now)))) c.in_err-block.ensures.reads
 
 pub returns-clause-reads : goal.returns-clause-reads
 returns-clause-reads c =
-    whole (by_part c.in_ok-block.ensures.reads (by_part c.in_ok-conditions.ensures.reads (by_part c.in_ok-results.ensures.reads (by_part c.in_ok-params.ensures.reads (by_need c.in_ok-after.ensures.takes (by_need c.in_ok-named.ensures.takes (start (g.rule (g.Method c.args.at)) c.args.tokens.now)))))))
+    whole (by_part c.in_ok-block.ensures.reads (by_part c.in_ok-conditions.ensures.reads (by_part c.in_ok-results.ensures.reads (by_header c.in_ok-named.ensures.reads (start (g.rule (g.Method c.args.at)) c.args.tokens.now)))))

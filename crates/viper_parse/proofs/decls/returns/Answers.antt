@@ -1,7 +1,7 @@
-use Rattle.viper_parse.specs.Grammar as g
+use Rattle.viper_grammar.specs.Grammar as g
 use Rattle.viper_parse.specs.View.{formals_of}
-use Rattle.viper_parse.proofs.Reading.{start, by_need, by_token, by_other}
-use Rattle.viper_parse.proofs.Steps.{token_error, tail, pass_on, whole_as}
+use Rattle.viper_grammar.proofs.Reading.{start, by_need, by_token, by_other}
+use Rattle.viper_grammar.proofs.Steps.{token_error, tail, pass_on, whole_as}
 use Rattle.viper_parse.proofs.decls.returns.Goals as goal
 
 pub returns-in_default-clause-reads : goal.returns-in_default-clause-reads

@@ -1,11 +1,11 @@
 use Rattle.std.proofs.Common.{refl, ap, map, [], arith}
 use Rattle.viper_syntax.specs.Stmt as s
 use Rattle.viper_syntax.specs.View.{term_of, stmt_of, arm_of, block_of}
-use Rattle.viper_parse.specs.Tests as v
-use Rattle.viper_parse.specs.Grammar as g
+use Rattle.viper_grammar.specs.Tests as v
+use Rattle.viper_grammar.specs.Grammar as g
 use Rattle.viper_parse.specs.View.{stmts_in}
-use Rattle.viper_parse.proofs.Reading.{start, by_need, by_token, by_other, by_part, whole}
-use Rattle.viper_parse.proofs.Steps.{part_error, token_error, tail, pass_on, whole_as, goes_at, goes_by, pushed_first, pushed_more}
+use Rattle.viper_grammar.proofs.Reading.{start, by_need, by_token, by_other, by_part, whole}
+use Rattle.viper_grammar.proofs.Steps.{part_error, token_error, tail, pass_on, whole_as, goes_at, goes_by, pushed_first, pushed_more}
 use Rattle.viper_parse.proofs.stmts.+stmts.Goals as goal
 
 pub statement-returns-in-Some-clause-reads : goal.statement-returns-in-Some-clause-reads

@@ -1,6 +1,6 @@
-use Rattle.viper_parse.specs.Grammar as g
-use Rattle.viper_parse.proofs.Reading.{start, by_need, whole}
-use Rattle.viper_parse.proofs.Steps.{token_error}
+use Rattle.viper_grammar.specs.Grammar as g
+use Rattle.viper_grammar.proofs.Reading.{start, by_need, whole}
+use Rattle.viper_grammar.proofs.Steps.{token_error}
 use Rattle.viper_parse.proofs.stmts.formal.Goals as goal
 
 pub returns-in_err-named-clause-reads : goal.returns-in_err-named-clause-reads

@@ -1,7 +1,7 @@
 use Rattle.std.proofs.Common.{ap, ◌∙◌, [], ◌∷◌, ◌++◌}
-use Rattle.viper_parse.specs.Grammar as g
+use Rattle.viper_grammar.specs.Grammar as g
 use Rattle.viper_parse.specs.View.{names_of}
-use Rattle.viper_parse.proofs.Steps.{parses_at}
+use Rattle.viper_grammar.proofs.Steps.{parses_at}
 use Rattle.viper_parse.proofs.stmts.names.Goals as goal
 
 pub returns-clause-reads : goal.returns-clause-reads

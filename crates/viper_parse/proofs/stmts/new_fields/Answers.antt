@@ -1,7 +1,7 @@
 use Rattle.viper_syntax.specs.View.{rhs_of}
-use Rattle.viper_parse.specs.Grammar as g
-use Rattle.viper_parse.proofs.Reading.{start, by_need, by_part}
-use Rattle.viper_parse.proofs.Steps.{part_error, token_error, whole_as}
+use Rattle.viper_grammar.specs.Grammar as g
+use Rattle.viper_grammar.proofs.Reading.{start, by_need, by_part}
+use Rattle.viper_grammar.proofs.Steps.{part_error, token_error, whole_as}
 use Rattle.viper_parse.proofs.stmts.new_fields.Goals as goal
 
 pub returns-in_err-named-clause-reads : goal.returns-in_err-named-clause-reads

@@ -1,7 +1,7 @@
 use Rattle.std.proofs.Common.{arith}
-use Rattle.viper_parse.specs.Grammar as g
-use Rattle.viper_parse.proofs.Reading.{start, by_token, by_other, whole}
-use Rattle.viper_parse.proofs.Steps.{tail}
+use Rattle.viper_grammar.specs.Grammar as g
+use Rattle.viper_grammar.proofs.Reading.{start, by_token, by_other, whole}
+use Rattle.viper_grammar.proofs.Steps.{tail}
 use Rattle.viper_parse.proofs.stmts.semicolons.Goals as goal
 
 pub loop-after-init : goal.loop-after-init

@@ -1,8 +1,8 @@
 use Rattle.viper_syntax.specs.View.{stmt_of}
 use Rattle.viper_syntax.specs.declared.tokens.Sign.TheVariants as sign
-use Rattle.viper_parse.specs.Grammar as g
-use Rattle.viper_parse.proofs.Reading.{start, by_need, by_part, whole}
-use Rattle.viper_parse.proofs.Steps.{part_error, token_error, symbol_at, symbol_refuses_at}
+use Rattle.viper_grammar.specs.Grammar as g
+use Rattle.viper_grammar.proofs.Reading.{start, by_need, by_part, whole}
+use Rattle.viper_grammar.proofs.Steps.{part_error, token_error, symbol_at, symbol_refuses_at}
 use Rattle.viper_parse.proofs.stmts.targets.Goals as goal
 
 pub returns-in_err-second-clause-reads : goal.returns-in_err-second-clause-reads

@@ -4,13 +4,14 @@ use Rattle.std.proofs.lemmas.Int.{to_z-of_z}
 use mir.Val.{to_z, of_z}
 use mir.Syntax.{w128}
 use Rattle.viper_syntax.specs.Term.{Number}
-use Rattle.viper_parse.specs.Tests as v
-use Rattle.viper_parse.specs.Grammar as g
-use Rattle.viper_parse.specs.Grammar.{give}
-use Rattle.viper_parse.specs.Greedy.{called, given}
-use Rattle.viper_parse.specs.View.{part_of, instance_of, arguments_of}
-use Rattle.viper_parse.proofs.Reading.{fails_in, start, by_need, by_token, by_other, by_part, whole}
-use Rattle.viper_parse.proofs.Steps.{error_as, part_error, token_error, tail, pass_on, whole_as, goes_at, stays, goes_further, once, again, level_longer, level_fails, longer_fails, level_at, level_refuses_at, pushed_first, pushed_more}
+use Rattle.viper_grammar.specs.Tests as v
+use Rattle.viper_grammar.specs.Grammar as g
+use Rattle.viper_grammar.specs.Grammar.{give}
+use Rattle.viper_grammar.specs.Greedy.{called, given}
+use Rattle.viper_grammar.specs.View.{part_of, instance_of}
+use Rattle.viper_parse.specs.View.{arguments_of}
+use Rattle.viper_grammar.proofs.Reading.{fails_in, start, by_need, by_token, by_other, by_part, whole}
+use Rattle.viper_grammar.proofs.Steps.{error_as, part_error, token_error, tail, pass_on, whole_as, goes_at, stays, goes_further, once, again, level_longer, level_fails, longer_fails, level_at, level_refuses_at, pushed_first, pushed_more}
 use Rattle.viper_parse.proofs.terms.+terms.Goals as goal
 
 pub term-returns-in_err-part-clause-reads : goal.term-returns-in_err-part-clause-reads

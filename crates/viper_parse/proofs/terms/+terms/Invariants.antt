@@ -1,8 +1,8 @@
 use Rattle.std.proofs.Common.{◌+◌, ◌*◌, ◌≤◌, ◌<◌, length, map}
 use Rattle.viper_syntax.specs.View.{term_of}
-use Rattle.viper_parse.specs.Grammar as g
-use Rattle.viper_parse.specs.Greedy.{Goes, Reads}
-use Rattle.viper_parse.specs.View.{part_of}
+use Rattle.viper_grammar.specs.Grammar as g
+use Rattle.viper_grammar.specs.Greedy.{Goes, Reads}
+use Rattle.viper_grammar.specs.View.{part_of}
 use Rattle.viper_parse.proofs.terms.+terms.Given as goal
 
 abbrev pub decreases-term : goal.decreases-term

@@ -1,7 +1,7 @@
 use Rattle.std.proofs.Common.{◌≤◌, length}
-use Rattle.viper_parse.specs.Grammar as g
-use Rattle.viper_parse.specs.Greedy.{Goes}
-use Rattle.viper_parse.specs.View.{part_of}
+use Rattle.viper_grammar.specs.Grammar as g
+use Rattle.viper_grammar.specs.Greedy.{Goes}
+use Rattle.viper_grammar.specs.View.{part_of}
 use Rattle.viper_parse.proofs.terms.fields.Given as goal
 
 abbrev pub invariant-loop-after : goal.invariant-loop-after

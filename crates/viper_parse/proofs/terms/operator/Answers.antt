@@ -1,5 +1,5 @@
-use Rattle.viper_parse.specs.View.{part_of}
-use Rattle.viper_parse.proofs.Steps.{stays, operator_goes}
+use Rattle.viper_grammar.specs.View.{part_of}
+use Rattle.viper_grammar.proofs.Steps.{stays, operator_goes}
 use Rattle.viper_parse.proofs.terms.operator.Goals as goal
 
 pub returns-then-is_open-clause-goes_on : goal.returns-then-is_open-clause-goes_on
