@@ -8,10 +8,12 @@ use Rattle.viper_syntax.specs.Term as t
 use Rattle.viper_syntax.specs.declared.tokens.Sign.{Sign}
 use Rattle.viper_syntax.specs.declared.tokens.Sign.TheVariants as sign
 use Rattle.viper_syntax.specs.declared.tokens.Word.TheVariants as word
-use Rattle.viper_types.specs.Outcome.{Judged, Found}
-use Rattle.viper_types.specs.Context.{Context, predicate_at, allows_permission_forms}
+use Rattle.viper_scope.specs.Outcome.{Judged, Found}
+use Rattle.viper_scope.specs.Context.{Context, predicate_at, allows_permission_forms}
 use Rattle.viper_types.specs.Typing as j
-use Rattle.viper_types.specs.Typing.{Scope, start, is_wildcard, by_connective, asserting}
+use Rattle.viper_scope.specs.Scope.{Scope}
+use Rattle.viper_scope.specs.Arguments.{start}
+use Rattle.viper_types.specs.Typing.{is_wildcard, by_connective, asserting}
 use Rattle.viper_types.specs.Typed as r
 use Rattle.viper_types.specs.Typed.{Typed, full, part, IsAmount, fixed, IsInstance, of_predicate, Asserts, is_assertion_form}
 use Rattle.viper_types.proofs.Tells.{Tells, tells, broken, tell_then, tell_so, tell_known, tell_obeys, tell_if, one_found}

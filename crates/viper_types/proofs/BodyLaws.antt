@@ -2,12 +2,13 @@
 use Rattle.std.proofs.Common.{◌≡◌, ◌∙◌, ℕ, zero, suc, true, Option, Some, None, List, [], ◌∷◌, ◌++◌, map, slice_get, is_some, refl, sym, ap, subst, append_assoc, append-nil}
 use Rattle.viper_core.specs.Expr as e
 use Rattle.viper_syntax.specs.Decl as d
-use Rattle.viper_types.specs.declared.context.Part.{Part}
-use Rattle.viper_types.specs.declared.context.Role.{Role}
-use Rattle.viper_types.specs.declared.context.Role.TheVariants as role
-use Rattle.viper_types.specs.Context.{World, Signature, find, numbered, predicate_in}
-use Rattle.viper_types.specs.Frame.{declared_type}
-use Rattle.viper_types.specs.Declaring.{no_world, with_decl, body_context, context_in}
+use Rattle.viper_scope.specs.declared.context.Part.{Part}
+use Rattle.viper_scope.specs.declared.context.Role.{Role}
+use Rattle.viper_scope.specs.declared.context.Role.TheVariants as role
+use Rattle.viper_scope.specs.Context.{World, Signature, find, numbered, predicate_in}
+use Rattle.viper_scope.specs.Types.{declared_type}
+use Rattle.viper_scope.specs.Naming.{no_world, with_decl}
+use Rattle.viper_types.specs.Declaring.{body_context, context_in}
 use Rattle.viper_types.specs.Program.{AreNamed, no_names, one_name}
 use Rattle.viper_types.proofs.TermSound.{HasBodies}
 use Rattle.viper_types.proofs.TermTypes.{same_some}

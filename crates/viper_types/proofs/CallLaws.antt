@@ -4,8 +4,8 @@ use Rattle.viper_syntax.specs.Term.{terms}
 use Rattle.viper_syntax.specs.View.{term_of, terms_of}
 use Rattle.viper_syntax.specs.declared.terms.Term.{Term}
 use Rattle.viper_syntax.proofs.ViewLaws.{terms_of-map}
-use Rattle.viper_types.specs.Typing.{as_many}
-use Rattle.viper_types.proofs.Steps.{as_many-map}
+use Rattle.viper_scope.specs.Arguments.{as_many}
+use Rattle.viper_scope.proofs.ArgumentLaws.{as_many-map}
 
 pub as_many_map : {X Y Z : Type 0} (f : X → Z) (xs : List X) (ys : List Y) → as_many (map f xs) ys ≡ as_many xs ys
 as_many_map = as_many-map

@@ -11,15 +11,16 @@ use Rattle.viper_core.specs.View.{program_of}
 use Rattle.viper_core.specs.Weight.{weight, told_weight}
 use Rattle.viper_core.specs.declared.programs.Program.{Program}
 use Rattle.viper_syntax.specs.Decl.{Decl, SourceProgram}
-use Rattle.viper_types.specs.declared.faults.TypeFault.{TypeFault}
-use Rattle.viper_types.specs.declared.faults.TypeFault.TheVariants.{Memory, Rule, Weight}
-use Rattle.viper_types.specs.Answers.{Refuses}
+use Rattle.viper_scope.specs.declared.faults.TypeFault.{TypeFault}
+use Rattle.viper_scope.specs.declared.faults.TypeFault.TheVariants.{Memory, Rule, Weight}
+use Rattle.viper_scope.specs.Answers.{Refuses}
 use Rattle.viper_types.specs.Checked.{Gives, Tells, IsRefused, Overweighs}
-use Rattle.viper_types.specs.Context.{World}
+use Rattle.viper_scope.specs.Context.{World}
 use Rattle.viper_types.specs.Copied.{copied_by_decls}
-use Rattle.viper_types.specs.Declaring.{naming, no_world, decls_typing, bodies_of, assembled, no_program, program_typing}
+use Rattle.viper_scope.specs.Naming.{naming, no_world}
+use Rattle.viper_types.specs.Declaring.{decls_typing, bodies_of, assembled, no_program, program_typing}
 use Rattle.viper_syntax.specs.Good.{IsGoodSource}
-use Rattle.viper_types.specs.Outcome.{Judged, Found, Broken, then_typed}
+use Rattle.viper_scope.specs.Outcome.{Judged, Found, Broken, then_typed}
 use Rattle.viper_types.specs.Program.{IsProgram}
 use Rattle.viper_types.proofs.CopiedProgram.{copied_weighs}
 use Rattle.viper_types.proofs.Lean.{Ends, both, same, decls_ends}

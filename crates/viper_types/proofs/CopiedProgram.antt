@@ -13,16 +13,17 @@ use Rattle.viper_syntax.specs.Decl as d
 use Rattle.viper_syntax.specs.declared.stmts.Formal.{Formal}
 use Rattle.viper_syntax.specs.declared.tokens.Word.{Word}
 use Rattle.viper_syntax.specs.declared.tokens.Word.TheVariants as word
-use Rattle.viper_types.specs.declared.context.Part.TheVariants as part
-use Rattle.viper_types.specs.Outcome.{Found}
-use Rattle.viper_types.specs.Context.{World, Context, find}
+use Rattle.viper_scope.specs.declared.context.Part.TheVariants as part
+use Rattle.viper_scope.specs.Outcome.{Found}
+use Rattle.viper_scope.specs.Context.{World, Context, find}
 use Rattle.viper_types.specs.Copied as k
 use Rattle.viper_types.specs.Copied.{copied, with_formals, copied_by_clauses, copied_by_body, copied_by_method, copied_by_decl, copied_by_decls}
-use Rattle.viper_types.specs.Typing.{Scope}
-use Rattle.viper_types.specs.Frame.{Frame, type_of, declared_type, with_variable}
-use Rattle.viper_types.specs.Stepping.{ref_variables}
+use Rattle.viper_scope.specs.Scope.{Scope, ref_variables}
+use Rattle.viper_scope.specs.Types.{type_of, declared_type}
+use Rattle.viper_types.specs.Frame.{Frame, with_variable}
 use Rattle.viper_types.specs.Declaring as j
-use Rattle.viper_types.specs.Declaring.{Declared, FieldOf, PredicateOf, MethodOf, no_world, naming, no_frame, formals, context_in, clause_of, clauses, conditions, method_body, method_typing, decl_typing, decls_typing, bodies_of, no_program, assembled, program_typing}
+use Rattle.viper_scope.specs.Naming.{no_world, naming}
+use Rattle.viper_types.specs.Declaring.{Declared, FieldOf, PredicateOf, MethodOf, no_frame, formals, context_in, clause_of, clauses, conditions, method_body, method_typing, decl_typing, decls_typing, bodies_of, no_program, assembled, program_typing}
 use Rattle.viper_types.specs.Program.{AreNamed, AreDeclared, bodies_in}
 use Rattle.viper_types.proofs.Assembled.{predicates_in, methods_in, has_predicates, has_methods}
 use Rattle.viper_types.proofs.CopiedTerms.{any_told}

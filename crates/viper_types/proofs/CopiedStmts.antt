@@ -16,16 +16,19 @@ use Rattle.viper_syntax.specs.declared.stmts.Named.{Named}
 use Rattle.viper_syntax.specs.declared.stmts.Formal.{Formal}
 use Rattle.viper_syntax.specs.declared.tokens.Word.{Word}
 use Rattle.viper_syntax.specs.declared.tokens.Word.TheVariants as word
-use Rattle.viper_types.specs.declared.context.Variable.{Variable}
-use Rattle.viper_types.specs.Outcome.{Judged, Found, known}
-use Rattle.viper_types.specs.Context.{World, Context, method_at, nowhere}
+use Rattle.viper_scope.specs.declared.context.Variable.{Variable}
+use Rattle.viper_scope.specs.Outcome.{Judged, Found, known}
+use Rattle.viper_scope.specs.Context.{World, Context, method_at, nowhere}
 use Rattle.viper_types.specs.Copied as k
 use Rattle.viper_types.specs.Copied.{copied, copied_amount, copied_all, with_formal, with_formals, copied_by_new, copied_by_rhs, copied_by_init, copied_by_terms, copied_by_fold, refs_after, copied_by, copied_by_block, copied_by_stmts, copied_by_arms, copied_by_arm, copied_by_else}
-use Rattle.viper_types.specs.Typing.{Scope, as_many, misfit, with_body, typing_all, permission, expected, arguments, asserting}
-use Rattle.viper_types.specs.Frame.{Frame, declared_type, declared_in_arms, declared_in_arm, frame_after, with_variable, with_hidden}
-use Rattle.viper_types.specs.Stepping.{Target, Branch, fresh, target, ref_target, call_targets, mistarget, ref_variables, new_fields, calling, calling_into_field, creating, target_place, declaring, setting, first_place, checking, folding, asserting_all, alone, nested, arm_count, stepping, blocking, stepping_all, branches, branch, otherwise}
+use Rattle.viper_scope.specs.Scope.{Scope, ref_variables}
+use Rattle.viper_scope.specs.Arguments.{as_many, misfit}
+use Rattle.viper_types.specs.Typing.{with_body, typing_all, permission, expected, arguments, asserting}
+use Rattle.viper_scope.specs.Types.{declared_type}
+use Rattle.viper_types.specs.Frame.{Frame, declared_in_arms, declared_in_arm, frame_after, with_variable, with_hidden}
+use Rattle.viper_types.specs.Stepping.{Target, Branch, fresh, target, ref_target, call_targets, mistarget, new_fields, calling, calling_into_field, creating, target_place, declaring, setting, first_place, checking, folding, asserting_all, alone, nested, arm_count, stepping, blocking, stepping_all, branches, branch, otherwise}
 use Rattle.viper_types.proofs.CopiedTerms.{any_told, typings_size, size_in, CoversExpr, CoversAssertion, typing_all_covers, expected_covers, arguments_covers, permission_covers, asserting_covers}
-use Rattle.viper_types.proofs.Listing.{refs_append}
+use Rattle.viper_scope.proofs.ScopeLaws.{refs_append}
 use Rattle.viper_types.proofs.Tells.{Tells, tells, broken, tell_then, tell_so, tell_known, tell_obeys, tell_clear}
 
 -- a program in which each part counts what was counted with

@@ -10,11 +10,13 @@ use Rattle.viper_core.specs.Typing.{value_type, is_number}
 use Rattle.viper_syntax.specs.Term as t
 use Rattle.viper_syntax.specs.declared.tokens.Sign.{Sign}
 use Rattle.viper_syntax.specs.declared.tokens.Sign.TheVariants as sign
-use Rattle.viper_types.specs.Outcome.{Judged, Found, Broken}
-use Rattle.viper_types.specs.Context.{World, Context, Signature, field_at, predicate_at, allows_old, allows_permission_forms, body_or_true, body_at}
+use Rattle.viper_scope.specs.Outcome.{Judged, Found, Broken}
+use Rattle.viper_scope.specs.Context.{World, Context, Signature, field_at, predicate_at, allows_old, allows_permission_forms, body_or_true, body_at}
 use Rattle.viper_types.specs.Copied.{base_of as world_base, body_size, opened_size, copied, copied_amount, copied_all}
 use Rattle.viper_types.specs.Operators.{operator}
-use Rattle.viper_types.specs.Typing.{Scope, Typing, start, unary, located, as_many, misfit, exprs_in, fitted, of_type, opening, typing, typing_all, permission, expected, arguments, is_wildcard, amount, instance, access, fact, by_connective, asserting}
+use Rattle.viper_scope.specs.Scope.{Scope}
+use Rattle.viper_scope.specs.Arguments.{Typing, start, as_many, misfit, exprs_in, fitted}
+use Rattle.viper_types.specs.Typing.{unary, located, of_type, opening, typing, typing_all, permission, expected, arguments, is_wildcard, amount, instance, access, fact, by_connective, asserting}
 use Rattle.viper_types.proofs.Tells.{Tells, tells, broken, tell_then, tell_so, tell_known, tell_obeys, tell_clear, tell_if}
 
 -- a typed expression, and expressions, no smaller than this

@@ -4,8 +4,8 @@ use Rattle.vb_base.specs.declared.places.Pos.{Pos}
 use Rattle.viper_core.specs.Expr as e
 use Rattle.viper_core.specs.Program as p
 use Rattle.viper_syntax.specs.Decl as d
-use Rattle.viper_types.specs.Context.{World}
-use Rattle.viper_types.specs.Outcome.{Judged, Found, Broken, then_typed, then_more}
+use Rattle.viper_scope.specs.Context.{World}
+use Rattle.viper_scope.specs.Outcome.{Judged, Found, Broken, then_typed, then_more}
 use Rattle.viper_types.specs.Declaring as j
 
 -- a program so far, and declarations onto it

@@ -8,8 +8,9 @@ use Rattle.vb_value.specs.declared.values.Ty.TheVariants as ty
 use Rattle.viper_core.specs.Formed.{below}
 use Rattle.viper_core.specs.Typing as g
 use Rattle.viper_syntax.specs.declared.stmts.Formal.{Formal}
-use Rattle.viper_types.specs.Context.{Context, allows_old, allows_permission_forms}
-use Rattle.viper_types.specs.Frame.{Frame, declared_type}
+use Rattle.viper_scope.specs.Context.{Context, allows_old, allows_permission_forms}
+use Rattle.viper_scope.specs.Types.{declared_type}
+use Rattle.viper_types.specs.Frame.{Frame}
 use Rattle.viper_types.specs.Program.{AreFormals, no_formals, one_formal}
 use Rattle.viper_types.proofs.TermTypes.{Describes, Resolves}
 use Rattle.viper_types.proofs.Rising.{Rising}

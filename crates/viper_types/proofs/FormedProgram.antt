@@ -7,8 +7,9 @@ use Rattle.viper_core.specs.Formed as g
 use Rattle.viper_core.specs.Formed.{AreNames, HasFewDeclarations, IsTypedProgram, global_names}
 use Rattle.viper_core.specs.Program as p
 use Rattle.viper_syntax.specs.Decl as d
-use Rattle.viper_types.specs.Context.{World}
-use Rattle.viper_types.specs.Declaring.{Declared, no_world, no_program, assembled}
+use Rattle.viper_scope.specs.Context.{World}
+use Rattle.viper_scope.specs.Naming.{no_world}
+use Rattle.viper_types.specs.Declaring.{Declared, no_program, assembled}
 use Rattle.viper_syntax.specs.Good.{HasLiterals, decl_terms, decls_terms, decl_names, decls_names, IsGoodSource}
 use Rattle.viper_types.specs.Program as r
 use Rattle.viper_types.specs.Program.{AreNamed, IsPredicate, predicate_of, IsMethod, method_of, AreDeclared, no_decls, one_decl, bodies_in, IsProgram, program_of}

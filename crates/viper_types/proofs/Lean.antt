@@ -17,17 +17,19 @@ use Rattle.viper_syntax.specs.declared.tokens.Sign.{Sign}
 use Rattle.viper_syntax.specs.declared.tokens.Sign.TheVariants as sign
 use Rattle.viper_syntax.specs.declared.tokens.Word.{Word}
 use Rattle.viper_syntax.specs.declared.tokens.Word.TheVariants as word
-use Rattle.viper_types.specs.declared.context.Part.TheVariants as part
-use Rattle.viper_types.specs.Outcome.{Judged, Found, Broken, then_typed, known, obeys, clear_of}
-use Rattle.viper_types.specs.Context.{World, Context, find, field_at, predicate_at, method_at, allows_old, nowhere}
+use Rattle.viper_scope.specs.declared.context.Part.TheVariants as part
+use Rattle.viper_scope.specs.Outcome.{Judged, Found, Broken, then_typed, known, obeys, clear_of}
+use Rattle.viper_scope.specs.Context.{World, Context, find, field_at, predicate_at, method_at, allows_old, nowhere}
 use Rattle.viper_types.specs.Operators.{operator}
 use Rattle.viper_types.specs.Typing as j
-use Rattle.viper_types.specs.Typing.{Scope, Typing, Located, start, unary, applied, chosen, located, as_many, misfit, exprs_in, fitted, of_type, with_body, opening, opened_typing, typing, typing_all, permission, expected, arguments, is_wildcard, wildcard, amount, instance, access, fact, by_connective, asserting}
+use Rattle.viper_scope.specs.Scope.{Scope}
+use Rattle.viper_scope.specs.Arguments.{Typing, start, as_many, misfit, fitted}
+use Rattle.viper_types.specs.Typing.{Located, unary, applied, chosen, located, of_type, with_body, opening, opened_typing, typing, typing_all, permission, expected, arguments, is_wildcard, wildcard, amount, instance, access, fact, by_connective, asserting}
 use Rattle.viper_types.specs.Frame.{Frame, declared_in_arms, declared_in_arm, frame_after, with_hidden}
 use Rattle.viper_types.specs.Stepping as g
-use Rattle.viper_types.specs.Stepping.{Target, Branch, fresh, target, ref_target, call_targets, mistarget, calling, calling_into_field, creating, dotted, target_place, declaring, assigning, writing, setting, first_place, checking, folding, asserting_all, nested, arm_count, stepping, blocking, stepping_all, branches, branch, otherwise}
+use Rattle.viper_types.specs.Stepping.{Target, Branch, fresh, target, ref_target, call_targets, mistarget, calling, calling_into_field, creating, dotted, target_place, declaring, setting, first_place, checking, folding, asserting_all, nested, arm_count, stepping, blocking, stepping_all, branches, branch, otherwise}
 use Rattle.viper_types.specs.Declaring as w
-use Rattle.viper_types.specs.Declaring.{Declared, naming, no_world, formals, no_frame, context_in, clause_of, clauses, method_body, method_typing, decl_typing, decls_typing, bodies_of, program_typing}
+use Rattle.viper_types.specs.Declaring.{Declared, formals, no_frame, context_in, clause_of, clauses, method_body, method_typing, decl_typing, decls_typing}
 
 -- two walks that both find something, or tell the same broken rule
 pub data Ends {X Y : Type 0} (R : X → Y → Type 0) : Judged X → Judged Y → Type 0 where

@@ -11,11 +11,14 @@ use Rattle.viper_syntax.specs.Stmt as s
 use Rattle.viper_syntax.specs.declared.stmts.Named.{Named}
 use Rattle.viper_syntax.specs.declared.tokens.Word.{Word}
 use Rattle.viper_syntax.specs.declared.tokens.Word.TheVariants as word
-use Rattle.viper_types.specs.Outcome.{Judged, Found, Broken}
-use Rattle.viper_types.specs.Context.{World, Context, method_at, nowhere}
-use Rattle.viper_types.specs.Typing.{Scope, as_many, misfit, typing_all, expected, asserting}
-use Rattle.viper_types.specs.Frame.{Frame, declared_type, declared_in_arms, declared_in_block, declared_in_else, declared_in_arm, frame_after, with_hidden}
-use Rattle.viper_types.specs.Target.{targets}
+use Rattle.viper_scope.specs.Outcome.{Judged, Found, Broken}
+use Rattle.viper_scope.specs.Context.{World, Context, method_at, nowhere}
+use Rattle.viper_scope.specs.Scope.{Scope}
+use Rattle.viper_scope.specs.Arguments.{as_many, misfit}
+use Rattle.viper_types.specs.Typing.{typing_all, expected, asserting}
+use Rattle.viper_scope.specs.Types.{declared_type}
+use Rattle.viper_types.specs.Frame.{Frame, declared_in_arms, declared_in_block, declared_in_else, declared_in_arm, frame_after, with_hidden}
+use Rattle.viper_scope.specs.Target.{targets}
 use Rattle.viper_types.specs.Stepping as j
 use Rattle.viper_types.specs.Stepping.{Target, Branch, mistarget, alone, nested, arm_count, chosen_fields, target_place, asserting_all, stepping, blocking, stepping_all, otherwise}
 use Rattle.viper_types.proofs.Tells.{Tells, tells, broken, tell_then, tell_known, tell_obeys, tell_clear}

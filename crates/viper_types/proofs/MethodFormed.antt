@@ -18,11 +18,12 @@ use Rattle.viper_core.specs.Typing.{IsAssertion, AreStmts}
 use Rattle.viper_syntax.specs.Decl as d
 use Rattle.viper_syntax.specs.Stmt as s
 use Rattle.viper_syntax.specs.declared.stmts.Formal.{Formal}
-use Rattle.viper_types.specs.declared.context.Part.TheVariants as part
-use Rattle.viper_types.specs.Context.{World, Context}
-use Rattle.viper_types.specs.Frame.{Frame, declared, declared_in, declared_in_block, declared_in_arms, declared_in_arm, declared_in_else, declared_type}
+use Rattle.viper_scope.specs.declared.context.Part.TheVariants as part
+use Rattle.viper_scope.specs.Context.{World, Context}
+use Rattle.viper_scope.specs.Types.{declared_type}
+use Rattle.viper_types.specs.Frame.{Frame, declared, declared_in, declared_in_block, declared_in_arms, declared_in_arm, declared_in_else}
 use Rattle.viper_syntax.specs.Good.{HasLiterals, clauses_terms, option_terms, block_terms, stmt_names, stmts_names, block_names, arms_names, arm_names, else_names, body_names, decl_names}
-use Rattle.viper_types.specs.Typing.{Scope}
+use Rattle.viper_scope.specs.Scope.{Scope}
 use Rattle.viper_types.specs.Declaring.{no_frame, name_of, context_in, conditions, locals}
 use Rattle.viper_types.specs.Program.{AreFormals, requires_of, ensures_of, AreClauses, no_clauses, one_clause, IsMethodBody, no_block, block_of, IsMethod, method_of}
 use Rattle.viper_types.proofs.TermTypes.{Describes, Resolves, is_assertion}

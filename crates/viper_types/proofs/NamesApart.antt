@@ -7,10 +7,11 @@ use Rattle.std.proofs.lemmas.List.Kept.{AllPairs-cons}
 use Rattle.vb_base.specs.Names.{NamesDiffer}
 use Rattle.viper_syntax.specs.Decl as d
 use Rattle.viper_syntax.specs.declared.stmts.Formal.{Formal}
-use Rattle.viper_types.specs.declared.context.Role.{Role}
-use Rattle.viper_types.specs.Context.{World, find}
+use Rattle.viper_scope.specs.declared.context.Role.{Role}
+use Rattle.viper_scope.specs.Context.{World, find}
 use Rattle.viper_types.specs.Frame.{Frame}
-use Rattle.viper_types.specs.Declaring.{decl_name, with_decl, name_of}
+use Rattle.viper_scope.specs.Naming.{decl_name, with_decl}
+use Rattle.viper_types.specs.Declaring.{name_of}
 use Rattle.viper_types.specs.Program.{AreNamed, no_names, one_name, AreFormals, no_formals, one_formal}
 
 -- a name that is none of these

@@ -3,12 +3,13 @@ use Rattle.std.proofs.Common.{◌≡◌, ◌∙◌, ap, sym, refl, ◌-◌, List
 use Rattle.vb_base.specs.declared.places.Pos.{Pos}
 use Rattle.viper_core.specs.Expr as e
 use Rattle.viper_syntax.specs.declared.stmts.Named.{Named}
-use Rattle.viper_types.specs.declared.faults.TypeFault.{TypeFault}
-use Rattle.viper_types.specs.declared.faults.TypeFault.TheVariants.{Memory, Rule, Weight}
-use Rattle.viper_types.specs.Answers.{Refuses}
-use Rattle.viper_types.specs.Context.{World}
-use Rattle.viper_types.specs.Outcome.{Judged, Found}
-use Rattle.viper_types.specs.Typing.{Typing, Located, located}
+use Rattle.viper_scope.specs.declared.faults.TypeFault.{TypeFault}
+use Rattle.viper_scope.specs.declared.faults.TypeFault.TheVariants.{Memory, Rule, Weight}
+use Rattle.viper_scope.specs.Answers.{Refuses}
+use Rattle.viper_scope.specs.Context.{World}
+use Rattle.viper_scope.specs.Outcome.{Judged, Found}
+use Rattle.viper_scope.specs.Arguments.{Typing}
+use Rattle.viper_types.specs.Typing.{Located, located}
 use Rattle.viper_types.specs.Stepping.{dotted, last_place}
 
 -- the place of these further names after a place

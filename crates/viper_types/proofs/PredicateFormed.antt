@@ -17,10 +17,11 @@ use Rattle.viper_syntax.specs.Decl as d
 use Rattle.viper_syntax.specs.Term as t
 use Rattle.viper_syntax.specs.declared.stmts.Named.{Named}
 use Rattle.viper_syntax.specs.declared.stmts.Formal.{Formal}
-use Rattle.viper_types.specs.Context.{World}
-use Rattle.viper_types.specs.Frame.{Frame, declared_type}
+use Rattle.viper_scope.specs.Context.{World}
+use Rattle.viper_scope.specs.Types.{declared_type}
+use Rattle.viper_types.specs.Frame.{Frame}
 use Rattle.viper_syntax.specs.Good.{HasLiterals, option_terms, decl_terms, decl_names}
-use Rattle.viper_types.specs.Typing.{Scope}
+use Rattle.viper_scope.specs.Scope.{Scope}
 use Rattle.viper_types.specs.Declaring.{no_frame, name_of, body_context}
 use Rattle.viper_types.specs.Program.{AreFormals, IsPredicateBody, no_body, body_of, IsPredicate, predicate_of}
 use Rattle.viper_types.proofs.TermTypes.{Describes, Resolves, is_assertion}

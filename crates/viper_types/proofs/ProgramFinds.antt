@@ -8,12 +8,13 @@ use Rattle.viper_syntax.specs.Stmt as s
 use Rattle.viper_syntax.specs.Decl as d
 use Rattle.viper_syntax.specs.declared.stmts.Named.{Named}
 use Rattle.viper_syntax.specs.declared.stmts.Formal.{Formal}
-use Rattle.viper_types.specs.Outcome.{Found}
-use Rattle.viper_types.specs.Context.{World, Context}
-use Rattle.viper_types.specs.Typing.{Scope}
+use Rattle.viper_scope.specs.Outcome.{Found}
+use Rattle.viper_scope.specs.Context.{World, Context}
+use Rattle.viper_scope.specs.Scope.{Scope}
 use Rattle.viper_types.specs.Frame.{Frame}
 use Rattle.viper_types.specs.Declaring as j
-use Rattle.viper_types.specs.Declaring.{naming, formals, Declared, bodies_of, decls_typing, predicate_typing, program_typing}
+use Rattle.viper_scope.specs.Naming.{naming}
+use Rattle.viper_types.specs.Declaring.{formals, Declared, bodies_of, decls_typing, predicate_typing, program_typing}
 use Rattle.viper_types.specs.Program as r
 use Rattle.viper_types.specs.Program.{AreNamed, no_names, one_name, AreFormals, no_formals, one_formal, IsPredicateBody, no_body, body_of, IsPredicate, predicate_of, IsClause, requires_of, ensures_of, AreClauses, no_clauses, one_clause, IsMethodBody, no_block, block_of, IsMethod, method_of, IsDeclared, AreDeclared, no_decls, one_decl, bodies_in, IsProgram, program_of}
 use Rattle.viper_types.proofs.Tells.{one_found}

@@ -3,7 +3,7 @@ use Rattle.std.proofs.Common.{◌≡◌, ◌∙◌, ◌⊎◌, inl, inr, ℕ, sy
 use Rattle.vb_base.specs.declared.places.Pos.{Pos}
 use Rattle.viper_core.specs.Program as p
 use Rattle.viper_syntax.specs.Decl as d
-use Rattle.viper_types.specs.Outcome.{Judged, Found, Broken}
+use Rattle.viper_scope.specs.Outcome.{Judged, Found, Broken}
 use Rattle.viper_types.specs.Declaring.{program_typing}
 use Rattle.viper_types.specs.Program.{IsProgram}
 use Rattle.viper_types.proofs.Tells.{told}

@@ -12,14 +12,16 @@ use Rattle.viper_syntax.specs.declared.stmts.Named.{Named}
 use Rattle.viper_syntax.specs.declared.stmts.Formal.{Formal}
 use Rattle.viper_syntax.specs.declared.tokens.Word.{Word}
 use Rattle.viper_syntax.specs.declared.tokens.Word.TheVariants as word
-use Rattle.viper_types.specs.declared.context.Part.{Part}
-use Rattle.viper_types.specs.declared.context.Part.TheVariants as part
-use Rattle.viper_types.specs.Outcome.{Judged, Found, Broken, then_typed, then_more}
-use Rattle.viper_types.specs.Context.{World, Context, Signature, find}
-use Rattle.viper_types.specs.Typing.{Scope}
-use Rattle.viper_types.specs.Frame.{Frame, type_of, declared_type, with_variable}
+use Rattle.viper_scope.specs.declared.context.Part.{Part}
+use Rattle.viper_scope.specs.declared.context.Part.TheVariants as part
+use Rattle.viper_scope.specs.Outcome.{Judged, Found, Broken, then_typed, then_more}
+use Rattle.viper_scope.specs.Context.{World, Context, Signature, find}
+use Rattle.viper_scope.specs.Scope.{Scope}
+use Rattle.viper_scope.specs.Types.{type_of, declared_type}
+use Rattle.viper_types.specs.Frame.{Frame, with_variable}
 use Rattle.viper_types.specs.Declaring as j
-use Rattle.viper_types.specs.Declaring.{decl_name, no_world, with_decl, is_new, naming, no_frame, formals, body_context, context_in, Declared, PredicateOf, found_body, bodies_of, decls_typing, predicate_typing, program_typing}
+use Rattle.viper_scope.specs.Naming.{decl_name, no_world, with_decl, is_new, naming}
+use Rattle.viper_types.specs.Declaring.{no_frame, formals, body_context, context_in, Declared, PredicateOf, found_body, bodies_of, decls_typing, predicate_typing, program_typing}
 use Rattle.viper_types.specs.Program as r
 use Rattle.viper_types.specs.Program.{AreNamed, no_names, one_name, AreFormals, no_formals, one_formal, IsPredicateBody, no_body, body_of, IsPredicate, predicate_of, IsClause, requires_of, ensures_of, AreClauses, no_clauses, one_clause, IsMethodBody, no_block, block_of, IsMethod, method_of, IsDeclared, AreDeclared, no_decls, one_decl, bodies_in, IsProgram, program_of}
 use Rattle.viper_types.proofs.Tells.{Tells, tells, broken, tell_then, tell_so, tell_obeys, none_is, told}

@@ -14,11 +14,11 @@ use Rattle.viper_core.specs.Stmt as c
 use Rattle.viper_core.specs.Typing as g
 use Rattle.viper_core.proofs.ScopeLaws.{some_old_or_new}
 use Rattle.viper_syntax.specs.Stmt as s
-use Rattle.viper_types.specs.Context.{Context}
+use Rattle.viper_scope.specs.Context.{Context}
 use Rattle.viper_types.specs.Frame.{Frame}
-use Rattle.viper_types.specs.Outcome.{Found}
-use Rattle.viper_types.specs.Stepping.{blocking, listed as listed_only}
-use Rattle.viper_types.specs.Target.{with_target, with_targets, targets_of_stmt, targets_from, gathered, targets}
+use Rattle.viper_scope.specs.Outcome.{Found}
+use Rattle.viper_scope.specs.Target.{listed as listed_only, with_target, with_targets, targets_of_stmt, targets_from, gathered, targets}
+use Rattle.viper_types.specs.Stepping.{blocking}
 use Rattle.viper_types.proofs.Loops.{ListLoops, plain, branches, turns, LoopsIn, no_loops, more_loops, block_loops}
 use Rattle.viper_types.proofs.Tells.{told}
 use Rattle.viper_types.proofs.Rising.{Rising, has, rising_filter, has_above, same_rising}

@@ -7,9 +7,9 @@ use Rattle.vb_value.specs.declared.values.Ty.{Ty}
 use Rattle.viper_core.specs.Scope as cs
 use Rattle.viper_core.specs.Typing as g
 use Rattle.viper_syntax.specs.Stmt as s
-use Rattle.viper_types.specs.declared.context.Variable.{Variable}
-use Rattle.viper_types.specs.Context.{Context, find}
-use Rattle.viper_types.specs.Typing.{Scope}
+use Rattle.viper_scope.specs.declared.context.Variable.{Variable}
+use Rattle.viper_scope.specs.Context.{Context, find}
+use Rattle.viper_scope.specs.Scope.{Scope}
 use Rattle.viper_types.specs.Frame.{Frame, declared, with_variable, with_hidden, frame_after}
 use Rattle.viper_types.proofs.TermTypes.{same_some, Describes, Resolves}
 use Rattle.viper_types.proofs.Rising.{Rising, rising_push, rising_wider}

@@ -11,9 +11,10 @@ use Rattle.viper_syntax.specs.Term as t
 use Rattle.viper_syntax.specs.Stmt as s
 use Rattle.viper_syntax.specs.declared.stmts.Named.{Named}
 use Rattle.viper_syntax.specs.declared.tokens.Word.{Word}
-use Rattle.viper_types.specs.Context.{World, Context}
+use Rattle.viper_scope.specs.Context.{World, Context}
 use Rattle.viper_syntax.specs.Good.{depth, with_fields, target_terms, rhs_terms, option_terms, amount_terms, stmt_terms, block_terms, stmts_terms, arms_terms, else_terms}
-use Rattle.viper_types.specs.Typing.{Scope, Located}
+use Rattle.viper_scope.specs.Scope.{Scope}
+use Rattle.viper_types.specs.Typing.{Located}
 use Rattle.viper_types.specs.Frame.{Frame}
 use Rattle.viper_types.specs.Stepping.{Target, Branch, nested, alone, arm_count}
 use Rattle.viper_types.specs.Stepped as r

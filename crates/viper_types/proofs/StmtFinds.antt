@@ -11,9 +11,11 @@ use Rattle.viper_syntax.specs.Stmt as s
 use Rattle.viper_syntax.specs.declared.stmts.Named.{Named}
 use Rattle.viper_syntax.specs.declared.stmts.Formal.{Formal}
 use Rattle.viper_syntax.specs.declared.tokens.Word.{Word}
-use Rattle.viper_types.specs.Outcome.{Judged, Found, Broken, then_typed}
-use Rattle.viper_types.specs.Context.{World, Context}
-use Rattle.viper_types.specs.Typing.{Scope, Located, as_many, located, typing}
+use Rattle.viper_scope.specs.Outcome.{Judged, Found, Broken, then_typed}
+use Rattle.viper_scope.specs.Context.{World, Context}
+use Rattle.viper_scope.specs.Scope.{Scope}
+use Rattle.viper_scope.specs.Arguments.{as_many}
+use Rattle.viper_types.specs.Typing.{Located, located, typing}
 use Rattle.viper_types.specs.Frame.{Frame}
 use Rattle.viper_types.specs.Stepping as j
 use Rattle.viper_types.specs.Stepping.{Target, Branch, numbers_in, mistarget, stepping, blocking, stepping_all, branches, branch, otherwise}

@@ -10,15 +10,15 @@ use Rattle.viper_syntax.specs.Term as t
 use Rattle.viper_syntax.specs.Stmt as s
 use Rattle.viper_syntax.specs.View.{arms_of}
 use Rattle.viper_syntax.specs.declared.stmts.SArm.{SArm}
-use Rattle.viper_types.specs.declared.faults.TypeFault.{TypeFault}
-use Rattle.viper_types.specs.Answers.{Refuses}
-use Rattle.viper_types.specs.Context.{Context, nowhere}
+use Rattle.viper_scope.specs.declared.faults.TypeFault.{TypeFault}
+use Rattle.viper_scope.specs.Answers.{Refuses}
+use Rattle.viper_scope.specs.Context.{Context, nowhere}
 use Rattle.viper_types.specs.Frame.{Frame, declared_in_arms, with_hidden}
-use Rattle.viper_types.specs.Outcome.{Judged, Found, Broken, then_typed, known, obeys}
+use Rattle.viper_scope.specs.Outcome.{Judged, Found, Broken, then_typed, known, obeys}
 use Rattle.viper_types.specs.Typing.{expected}
-use Rattle.viper_types.specs.Target.{targets}
-use Rattle.viper_types.specs.Stepping.{Branch, listed, nested, arm_count, opening_of, as_block, asserting_all, stepping, blocking, stepping_all, branches, otherwise}
-use Rattle.viper_types.proofs.Steps.{failed, found_same}
+use Rattle.viper_scope.specs.Target.{targets, listed}
+use Rattle.viper_types.specs.Stepping.{Branch, nested, arm_count, opening_of, as_block, asserting_all, stepping, blocking, stepping_all, branches, otherwise}
+use Rattle.viper_scope.proofs.Judged.{failed, found_same}
 
 pub on_ok : {X E P : Type 0} (r : Result X E) → P → OnOk r P
 on_ok (Ok x) p = p

@@ -17,11 +17,12 @@ use Rattle.viper_core.specs.Typing.{HasType, HaveTypes}
 use Rattle.viper_syntax.specs.Term as t
 use Rattle.viper_syntax.specs.Stmt as s
 use Rattle.viper_syntax.specs.declared.stmts.Named.{Named}
-use Rattle.viper_types.specs.Context.{World, Context, field_at}
+use Rattle.viper_scope.specs.Context.{World, Context, field_at}
 use Rattle.viper_syntax.specs.Good.{HasLiterals, amount_terms}
-use Rattle.viper_types.specs.Typing.{Scope, Located}
+use Rattle.viper_scope.specs.Scope.{Scope, ref_variables}
+use Rattle.viper_types.specs.Typing.{Located}
 use Rattle.viper_types.specs.Frame.{Frame}
-use Rattle.viper_types.specs.Stepping.{Target, numbers_in, ref_variables}
+use Rattle.viper_types.specs.Stepping.{Target, numbers_in}
 use Rattle.viper_types.specs.Stepped as r
 use Rattle.viper_types.proofs.TermTypes.{Describes, Resolves, has_type, have_types, permission_has_type}
 use Rattle.viper_types.proofs.GoodLists.{all_left, all_right, have_literals, amount_has_literals}

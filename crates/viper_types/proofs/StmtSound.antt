@@ -14,11 +14,13 @@ use Rattle.viper_syntax.specs.declared.stmts.Named.{Named}
 use Rattle.viper_syntax.specs.declared.stmts.Formal.{Formal}
 use Rattle.viper_syntax.specs.declared.tokens.Word.{Word}
 use Rattle.viper_syntax.specs.declared.tokens.Word.TheVariants as word
-use Rattle.viper_types.specs.Context.{World, Context, find, field_at, method_at, nowhere}
-use Rattle.viper_types.specs.Typing.{Scope, Typing, as_many, misfit}
+use Rattle.viper_scope.specs.Context.{World, Context, find, field_at, method_at, nowhere}
+use Rattle.viper_scope.specs.Scope.{Scope}
+use Rattle.viper_scope.specs.Arguments.{Typing, as_many, misfit}
 use Rattle.viper_types.specs.Typed as r
 use Rattle.viper_types.specs.Typed.{Typed}
-use Rattle.viper_types.specs.Frame.{Frame, type_of, or_int, declared_in_arms, declared_in_arm, frame_after, with_hidden}
+use Rattle.viper_scope.specs.Types.{type_of, or_int}
+use Rattle.viper_types.specs.Frame.{Frame, declared_in_arms, declared_in_arm, frame_after, with_hidden}
 use Rattle.viper_types.specs.Stepping as j
 use Rattle.viper_types.specs.Stepping.{Target, is_target, is_listed, numbers_in, mistarget, nested, arm_count, stepping, blocking, stepping_all, branches, branch, otherwise}
 use Rattle.viper_types.specs.Stepped

@@ -15,10 +15,11 @@ use Rattle.viper_syntax.specs.Stmt as s
 use Rattle.viper_syntax.specs.declared.stmts.Named.{Named}
 use Rattle.viper_syntax.specs.declared.stmts.Formal.{Formal}
 use Rattle.viper_syntax.specs.declared.tokens.Word.{Word}
-use Rattle.viper_types.specs.Context.{Context}
+use Rattle.viper_scope.specs.Context.{Context}
 use Rattle.viper_syntax.specs.Good.{HasLiterals, with_fields, target_terms, rhs_terms, option_terms, stmt_terms, block_terms, stmts_terms, arms_terms, else_terms}
-use Rattle.viper_types.specs.Typing.{Scope}
-use Rattle.viper_types.specs.Frame.{Frame, type_of, or_int, declared_type, declared, declared_in, declared_in_block, declared_in_arms, declared_in_else, with_hidden, frame_after}
+use Rattle.viper_scope.specs.Scope.{Scope}
+use Rattle.viper_scope.specs.Types.{type_of, or_int, declared_type}
+use Rattle.viper_types.specs.Frame.{Frame, declared, declared_in, declared_in_block, declared_in_arms, declared_in_else, with_hidden, frame_after}
 use Rattle.viper_types.specs.Stepping.{Target, Branch, nested, alone}
 use Rattle.viper_types.specs.Stepped as r
 use Rattle.viper_types.specs.Stepped.{Stepped, Blocked, SteppedAll, Branches, Otherwise}

@@ -1,8 +1,8 @@
 -- The targets of a call, one after the other.
 use Rattle.std.proofs.Common.{◌≡◌, ◌∙◌, sym, ap, refl, ℕ, Bool, true, false, not, List, [], ◌∷◌, ◌++◌}
 use Rattle.viper_syntax.specs.declared.stmts.Named.{Named}
-use Rattle.viper_types.specs.Outcome.{Found, Broken}
-use Rattle.viper_types.specs.Typing.{Scope}
+use Rattle.viper_scope.specs.Outcome.{Found, Broken}
+use Rattle.viper_scope.specs.Scope.{Scope}
 use Rattle.viper_types.specs.Stepping.{Target, target, call_targets, is_target, is_listed, numbers_in}
 use Rattle.viper_types.proofs.Listing.{is_listed-numbers}
 

@@ -4,7 +4,7 @@ use Rattle.vb_base.specs.declared.places.Pos.{Pos}
 use Rattle.vb_value.specs.Value.{same_type}
 use Rattle.vb_value.specs.declared.values.Ty.{Ty}
 use Rattle.vb_value.specs.declared.values.Ty.TheVariants as ty
-use Rattle.viper_types.specs.Outcome.{Judged, Found, Broken, then_typed, known, obeys, clear_of}
+use Rattle.viper_scope.specs.Outcome.{Judged, Found, Broken, then_typed, known, obeys, clear_of}
 
 pub data Tells {X : Type 0} (P : X → Type 0) : Judged X → Type 0 where
   tells : {x : X} → P x → Tells P (Found x)

@@ -6,10 +6,10 @@ use Rattle.viper_core.specs.Depth as g
 use Rattle.viper_syntax.specs.Term as t
 use Rattle.viper_syntax.specs.declared.tokens.Word.{Word}
 use Rattle.viper_syntax.specs.declared.tokens.Word.TheVariants as word
-use Rattle.viper_types.specs.Context.{Context}
+use Rattle.viper_scope.specs.Context.{Context}
 use Rattle.viper_types.specs.Operators.{literal}
 use Rattle.viper_syntax.specs.Good.{depth, amount_depth, terms_depth}
-use Rattle.viper_types.specs.Typing.{Scope}
+use Rattle.viper_scope.specs.Scope.{Scope}
 use Rattle.viper_types.specs.Typed as r
 use Rattle.viper_types.specs.Typed.{Typed, TypedAll, Permission, IsAmount, IsInstance, Asserts}
 use Rattle.viper_types.proofs.TermTypes.{same_some}

@@ -7,10 +7,12 @@ use Rattle.viper_core.specs.Expr as e
 use Rattle.viper_syntax.specs.Term as t
 use Rattle.viper_syntax.specs.declared.tokens.Word.{Word}
 use Rattle.viper_syntax.specs.declared.tokens.Word.TheVariants as word
-use Rattle.viper_types.specs.Outcome.{Found}
-use Rattle.viper_types.specs.Context.{Context, field_at}
+use Rattle.viper_scope.specs.Outcome.{Found}
+use Rattle.viper_scope.specs.Context.{Context, field_at}
 use Rattle.viper_types.specs.Operators.{literal, is_wildcard_word}
-use Rattle.viper_types.specs.Typing.{Scope, Typing, as_many, misfit, exprs_in, typing, typing_all, permission, expected, place, arguments}
+use Rattle.viper_scope.specs.Scope.{Scope}
+use Rattle.viper_scope.specs.Arguments.{Typing, as_many, misfit, exprs_in}
+use Rattle.viper_types.specs.Typing.{typing, typing_all, permission, expected, place, arguments}
 use Rattle.viper_types.specs.Typed.{Typed, name, number, constant, negative, negation, binary, choice, field, old, unfolding_in, TypedAll, nothing, also, Permission, full, part}
 use Rattle.viper_types.proofs.Tells.{type_is_same, one_found}
 

@@ -9,9 +9,11 @@ use Rattle.viper_core.specs.Typing.{value_type, is_number}
 use Rattle.viper_syntax.specs.Term as t
 use Rattle.viper_syntax.specs.declared.tokens.Sign.{Sign}
 use Rattle.viper_syntax.specs.declared.tokens.Sign.TheVariants as sign
-use Rattle.viper_types.specs.Context.{World, Context, Signature, find, field_at, predicate_at, allows_old, allows_permission_forms}
+use Rattle.viper_scope.specs.Context.{World, Context, Signature, find, field_at, predicate_at, allows_old, allows_permission_forms}
 use Rattle.viper_types.specs.Operators.{operator, literal, is_wildcard_word}
-use Rattle.viper_types.specs.Typing.{Scope, Typing, Located, start, unary, located, as_many, misfit, exprs_in, fitted, of_type, with_body, opening, opened_typing, typing, typing_all, permission, expected, place, arguments}
+use Rattle.viper_scope.specs.Scope.{Scope}
+use Rattle.viper_scope.specs.Arguments.{Typing, start, as_many, misfit, exprs_in, fitted}
+use Rattle.viper_types.specs.Typing.{Located, unary, located, of_type, with_body, opening, opened_typing, typing, typing_all, permission, expected, place, arguments}
 use Rattle.viper_types.specs.Typed.{Typed, name, number, constant, negative, negation, binary, choice, field, old, unfolding_in, TypedAll, nothing, also, Permission, full, part}
 use Rattle.viper_types.proofs.Tells.{Tells, tells, broken, tell_then, tell_so, tell_known, tell_obeys, tell_clear, tell_if, same_types, if_none}
 

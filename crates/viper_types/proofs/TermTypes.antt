@@ -9,11 +9,11 @@ use Rattle.viper_core.specs.Typing.{HasType, HaveTypes, IsAssertion, params_of, 
 use Rattle.viper_syntax.specs.Term as t
 use Rattle.viper_syntax.specs.declared.tokens.Word.{Word}
 use Rattle.viper_syntax.specs.declared.tokens.Word.TheVariants as word
-use Rattle.viper_types.specs.declared.context.Variable.{Variable}
-use Rattle.viper_types.specs.Context.{World, Context, Signature, MethodSignature, find, field_at, predicate_at, method_at, allows_old, allows_permission_forms}
+use Rattle.viper_scope.specs.declared.context.Variable.{Variable}
+use Rattle.viper_scope.specs.Context.{World, Context, Signature, MethodSignature, find, field_at, predicate_at, method_at, allows_old, allows_permission_forms}
 use Rattle.viper_types.specs.Operators.{literal}
 use Rattle.viper_syntax.specs.Good.{HasLiterals, AmountHasLiterals, HaveLiterals}
-use Rattle.viper_types.specs.Typing.{Scope}
+use Rattle.viper_scope.specs.Scope.{Scope}
 use Rattle.viper_types.specs.Typed as r
 use Rattle.viper_types.specs.Typed.{Typed, TypedAll, Permission, IsAmount, IsInstance, Asserts}
 

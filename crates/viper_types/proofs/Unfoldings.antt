@@ -4,12 +4,14 @@ use Rattle.vb_base.specs.declared.places.Pos.{Pos}
 use Rattle.vb_value.specs.declared.values.Ty.{Ty}
 use Rattle.viper_core.specs.Expr as e
 use Rattle.viper_syntax.specs.Term as t
-use Rattle.viper_types.specs.declared.faults.TypeFault.{TypeFault}
-use Rattle.viper_types.specs.declared.faults.TypeFault.TheVariants.{Memory, Rule, Weight}
-use Rattle.viper_types.specs.Answers.{Refuses}
-use Rattle.viper_types.specs.Context.{Context, Signature}
-use Rattle.viper_types.specs.Outcome.{Found}
-use Rattle.viper_types.specs.Typing.{Scope, Typing, typing, arguments, permission, opening, opened_typing}
+use Rattle.viper_scope.specs.declared.faults.TypeFault.{TypeFault}
+use Rattle.viper_scope.specs.declared.faults.TypeFault.TheVariants.{Memory, Rule, Weight}
+use Rattle.viper_scope.specs.Answers.{Refuses}
+use Rattle.viper_scope.specs.Context.{Context, Signature}
+use Rattle.viper_scope.specs.Outcome.{Found}
+use Rattle.viper_scope.specs.Scope.{Scope}
+use Rattle.viper_scope.specs.Arguments.{Typing}
+use Rattle.viper_types.specs.Typing.{typing, arguments, permission, opening, opened_typing}
 
 pub args_break : (c : Context) (sc : Scope) {u : t.Term} {x : List ℕ} {args : t.Terms} {m : t.Amount} {a : t.Term} {at name_at : Pos} {s : ℕ × Signature}
     (seen : t.Terms) (params : List Ty) (f : TypeFault) →

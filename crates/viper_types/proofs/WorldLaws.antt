@@ -10,10 +10,10 @@ use Rattle.viper_syntax.specs.Term as t
 use Rattle.viper_syntax.specs.Decl as d
 use Rattle.viper_syntax.specs.declared.stmts.Named.{Named}
 use Rattle.viper_syntax.specs.declared.stmts.Formal.{Formal}
-use Rattle.viper_types.specs.declared.context.Role.{Role}
-use Rattle.viper_types.specs.declared.context.Role.TheVariants as role
-use Rattle.viper_types.specs.Context.{World, Signature, MethodSignature, find, numbered, field_in, predicate_in, method_in}
-use Rattle.viper_types.specs.Frame.{declared_type}
+use Rattle.viper_scope.specs.declared.context.Role.{Role}
+use Rattle.viper_scope.specs.declared.context.Role.TheVariants as role
+use Rattle.viper_scope.specs.Context.{World, Signature, MethodSignature, find, numbered, field_in, predicate_in, method_in}
+use Rattle.viper_scope.specs.Types.{declared_type}
 use Rattle.viper_types.specs.Declaring.{Declared, locals}
 use Rattle.viper_types.specs.Program as r
 use Rattle.viper_types.specs.Program.{AreNamed, no_names, one_name, IsPredicateBody, IsPredicate, predicate_of, IsMethod, method_of, AreDeclared, no_decls, one_decl}

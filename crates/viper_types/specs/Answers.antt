@@ -1,14 +1,13 @@
 -- How a function of the code answers what is judged: the value, or the first broken rule, or the want of memory.
-use Rattle.std.specs.Prelude.{◌≡◌, ℕ, Bool, Result, Ok, Err, Option, Some, None, List, map}
+use Rattle.std.specs.Prelude.{ℕ, Bool, Option, Some, None, List, map}
 use Rattle.std.proofs.Common.{Bor}
 use Rattle.std.specs.declared.vec.Vec.{Vec}
 use Rattle.std.specs.declared.alloc.Global.{Global}
 use Rattle.std.specs.Option.{option_map}
-use Rattle.vb_value.specs.declared.values.Ty.{Ty}
 use Rattle.viper_core.specs.Expr as e
 use Rattle.viper_core.specs.Stmt as c
 use Rattle.viper_core.specs.Program as p
-use Rattle.viper_core.specs.View.{expr_of, exprs_of, assertion_of, assertions_of, stmt_of, stmts_of, predicate_of, method_of}
+use Rattle.viper_core.specs.View.{expr_of, assertion_of, assertions_of, stmt_of, stmts_of, predicate_of, method_of}
 use Rattle.viper_core.specs.declared.exprs.Expr.{Expr}
 use Rattle.viper_core.specs.declared.stmts.Stmt.{Stmt}
 use Rattle.viper_core.specs.declared.exprs.Assertion.{Assertion}
@@ -18,52 +17,19 @@ use Rattle.viper_syntax.specs.Stmt as st
 use Rattle.viper_syntax.specs.View.{term_of, rhs_of}
 use Rattle.viper_syntax.specs.declared.stmts.SRhs.{SRhs}
 use Rattle.viper_syntax.specs.declared.terms.Term as term
-use Rattle.viper_types.specs.declared.context.PredicateSignature.{PredicateSignature}
-use Rattle.viper_types.specs.declared.context.MethodTypes.{MethodTypes}
-use Rattle.viper_types.specs.declared.context.World as world
-use Rattle.viper_types.specs.declared.context.Context as context
-use Rattle.viper_types.specs.declared.faults.TypeFault.{TypeFault}
-use Rattle.viper_types.specs.declared.faults.TypeFault.TheVariants.{Memory, Rule, Weight}
-use Rattle.viper_types.specs.declared.context.FieldPlace.{FieldPlace}
+use Rattle.viper_types.specs.declared.expressions.FieldPlace.{FieldPlace}
 use Rattle.viper_types.specs.declared.declarations.Declared.{Declared}
 use Rattle.viper_types.specs.declared.declarations.Declared.TheVariants as declared
 use Rattle.viper_types.specs.declared.declarations.Parts.{Parts}
 use Rattle.viper_types.specs.declared.frames.Frame as frame
 use Rattle.viper_types.specs.declared.frames.Target as target
 use Rattle.viper_types.specs.declared.statements.TypedArm.{TypedArm}
-use Rattle.viper_types.specs.Typing.{Typing, Located}
-use Rattle.viper_types.specs.Outcome.{Judged, Found, Broken}
-use Rattle.viper_types.specs.Context.{Signature, MethodSignature, World, Context}
+use Rattle.viper_types.specs.Typing.{Located}
 use Rattle.viper_types.specs.Frame.{Frame}
 use Rattle.viper_types.specs.Stepping.{Target, Branch}
 use Rattle.viper_types.specs.Declaring as j
 
-abbrev pub Refuses : {X : Type 0} → Judged X → TypeFault → Type 0
-Refuses j Memory = Unit {0}
-Refuses j (Rule p n) = j ≡ Broken p n
-Refuses j (Weight w) = ⊥
-
--- `seen` is what a contract sees of the value
-abbrev pub Answers : {X Y : Type 0} → (Y → X) → Judged X → Result Y TypeFault → Type 0
-Answers seen j (Ok y) = j ≡ Found (seen y)
-Answers seen j (Err f) = Refuses j f
-
 -- views
-
-abbrev pub typing_of : Expr × Ty → e.Expr × Ty
-typing_of x = (expr_of x.0, x.1)
-
-abbrev pub signature_of : PredicateSignature → Signature
-signature_of s = record { params = s.params.items; has_body = s.has_body }
-
-abbrev pub method_signature_of : MethodTypes → MethodSignature
-method_signature_of s = record { params = s.params.items; returns = s.returns.items }
-
-abbrev pub typings_of : Vec (Expr × Ty) Global → List Typing
-typings_of v = map typing_of v.items
-
-abbrev pub argument_exprs_of : Vec Expr Global → e.Exprs
-argument_exprs_of v = exprs_of v.items
 
 -- an optional term behind a reference, as an amount
 abbrev pub lent_amount_of : Option (Bor term.Term) → t.Amount
@@ -72,27 +38,6 @@ lent_amount_of (Some a) = t.given (term_of a.now)
 
 abbrev pub place_of : FieldPlace → Located
 place_of l = record { receiver = expr_of l.receiver; field = l.field; ty = l.ty }
-
-abbrev pub numbered_signature_of : ℕ × Bor PredicateSignature → ℕ × Signature
-numbered_signature_of s = (s.0, signature_of s.1.now)
-
-abbrev pub numbered_method_of : ℕ × Bor MethodTypes → ℕ × MethodSignature
-numbered_method_of s = (s.0, method_signature_of s.1.now)
-
-abbrev pub world_of : world.World → World
-world_of w = record {
-  roles = w.roles;
-  fields = w.fields.items;
-  predicates = map signature_of w.predicates.items;
-  methods = map method_signature_of w.methods.items;
-}
-
-abbrev pub context_of : context.Context → Context
-context_of c = record {
-  world = world_of c.world.now;
-  bodies = map (option_map assertion_of) c.bodies.now;
-  part = c.part;
-}
 
 abbrev pub frame_of : frame.Frame → Frame
 frame_of f = record { vars = f.vars.items; scope = f.scope }

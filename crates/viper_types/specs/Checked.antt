@@ -6,9 +6,9 @@ use Rattle.viper_core.specs.View.{program_of}
 use Rattle.viper_core.specs.Weight.{weight}
 use Rattle.viper_core.specs.declared.programs.Program.{Program}
 use Rattle.viper_syntax.specs.Decl.{SourceProgram}
-use Rattle.viper_types.specs.declared.faults.TypeFault.{TypeFault}
-use Rattle.viper_types.specs.declared.faults.TypeFault.TheVariants.{Memory, Rule, Weight}
-use Rattle.viper_types.specs.Outcome.{Judged, Found, Broken}
+use Rattle.viper_scope.specs.declared.faults.TypeFault.{TypeFault}
+use Rattle.viper_scope.specs.declared.faults.TypeFault.TheVariants.{Memory, Rule, Weight}
+use Rattle.viper_scope.specs.Outcome.{Judged, Found, Broken}
 use Rattle.viper_types.specs.Declaring.{program_typing}
 use Rattle.viper_types.specs.Program.{IsProgram}
 

@@ -10,8 +10,8 @@ use Rattle.viper_syntax.specs.Term as t
 use Rattle.viper_syntax.specs.Stmt as s
 use Rattle.viper_syntax.specs.Decl as d
 use Rattle.viper_syntax.specs.declared.stmts.Formal.{Formal}
-use Rattle.viper_types.specs.Context.{World, Signature, predicate_at}
-use Rattle.viper_types.specs.Frame.{declared_type}
+use Rattle.viper_scope.specs.Context.{World, Signature, predicate_at}
+use Rattle.viper_scope.specs.Types.{declared_type}
 
 -- what each part of the program counts at least
 abbrev pub base_of : World → ℕ

@@ -1,6 +1,7 @@
 -- The walk through a file: what it is, or the first rule that it breaks. First the names of the shared space are gone through,
 -- and then the declarations from first to last, each from left to right. Which program a file is, without any order, is said by
 -- the judgement in `Program`.
+use Rattle.viper_scope.specs.Naming.{no_world, naming}
 use Rattle.std.specs.Prelude.{ℕ, Bool, true, false, not, ◌||◌, Option, Some, None, List, [], ◌∷◌, ◌++◌, length, map, is_some, if◌then◌else◌}
 use Rattle.vb_base.specs.declared.places.Pos.{Pos}
 use Rattle.vb_value.specs.Value.{same_type}
@@ -17,49 +18,16 @@ use Rattle.viper_syntax.specs.declared.stmts.Named.{Named}
 use Rattle.viper_syntax.specs.declared.stmts.Formal.{Formal}
 use Rattle.viper_syntax.specs.declared.tokens.Word.{Word}
 use Rattle.viper_syntax.specs.declared.tokens.Word.TheVariants as word
-use Rattle.viper_types.specs.declared.context.Part as part_type
-use Rattle.viper_types.specs.declared.context.Part.TheVariants as part
-use Rattle.viper_types.specs.declared.context.Role.TheVariants as role
-use Rattle.viper_types.specs.Outcome.{Judged, Found, Broken, then_typed, obeys, then_more}
-use Rattle.viper_types.specs.Context.{World, Context, find}
-use Rattle.viper_types.specs.Typing.{Scope, start, asserting}
-use Rattle.viper_types.specs.Frame.{Frame, type_of, declared_type, with_variable, declared_in_block}
+use Rattle.viper_scope.specs.declared.context.Part as part_type
+use Rattle.viper_scope.specs.declared.context.Part.TheVariants as part
+use Rattle.viper_scope.specs.Outcome.{Judged, Found, Broken, then_typed, obeys, then_more}
+use Rattle.viper_scope.specs.Context.{World, Context, find}
+use Rattle.viper_scope.specs.Scope.{Scope}
+use Rattle.viper_scope.specs.Arguments.{start}
+use Rattle.viper_types.specs.Typing.{asserting}
+use Rattle.viper_scope.specs.Types.{type_of, declared_type}
+use Rattle.viper_types.specs.Frame.{Frame, with_variable, declared_in_block}
 use Rattle.viper_types.specs.Stepping.{blocking, opening_of}
-
--- the shared space of names
-
-abbrev pub decl_name : d.Decl → Named
-decl_name (d.Field f) = f.name
-decl_name (d.Predicate at x params body) = x
-decl_name (d.Method m) = m.name
-
-abbrev pub no_world : World
-no_world = record { roles = []; fields = []; predicates = []; methods = [] }
-
--- one more declaration
-abbrev pub with_decl : World → d.Decl → World
-with_decl w (d.Field f) = record w { roles = w.roles ++ (f.name.name, role.Field (length w.fields)) ∷ []; fields = w.fields ++ declared_type f ∷ [] }
-with_decl w (d.Predicate at x params body) = record w {
-  roles = w.roles ++ (x.name, role.Predicate (length w.predicates)) ∷ [];
-  predicates = w.predicates ++ record { params = map declared_type params; has_body = is_some body } ∷ [];
-}
-with_decl w (d.Method m) = record w {
-  roles = w.roles ++ (m.name.name, role.Method (length w.methods)) ∷ [];
-  methods = w.methods ++ record { params = map declared_type m.params; returns = map declared_type m.returns } ∷ [];
-}
-
-abbrev pub with_decls : World → List d.Decl → World
-with_decls w [] = w
-with_decls w (a ∷ rest) = with_decls (with_decl w a) rest
-
--- whether a declaration's name is none of those before
-abbrev pub is_new : World → d.Decl → Bool
-is_new w a = not (is_some (find w.roles (decl_name a).name))
-
--- all names of the shared space are different (rule 2)
-abbrev pub naming : World → List d.Decl → Judged World
-naming w [] = Found w
-naming w (a ∷ rest) = obeys (is_new w a) (decl_name a).pos 2 (naming (with_decl w a) rest)
 
 -- formals
 

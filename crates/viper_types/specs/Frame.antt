@@ -1,28 +1,10 @@
 -- The variables of a method while its statements are typed, in order.
-use Rattle.std.specs.Prelude.{ℕ, Bool, false, List, [], ◌∷◌, ◌++◌, length, Option, Some, None}
+use Rattle.viper_scope.specs.Types.{declared_type}
+use Rattle.std.specs.Prelude.{ℕ, Bool, false, List, [], ◌∷◌, ◌++◌, length}
 use Rattle.vb_value.specs.declared.values.Ty.{Ty}
 use Rattle.vb_value.specs.declared.values.Ty.TheVariants as ty
 use Rattle.viper_syntax.specs.Stmt as s
-use Rattle.viper_syntax.specs.declared.stmts.Formal.{Formal}
-use Rattle.viper_syntax.specs.declared.tokens.Word.{Word}
-use Rattle.viper_syntax.specs.declared.tokens.Word.TheVariants as word
-use Rattle.viper_types.specs.Typing.{Scope}
-
--- the type of a word
-abbrev pub type_of : Word → Option Ty
-type_of word.Int = Some ty.Int
-type_of word.Bool = Some ty.Bool
-type_of word.Ref = Some ty.Ref
-type_of word.Perm = Some ty.Perm
-type_of _ = None
-
--- the same, and Int for a word that is no type, which breaks a rule wherever it stands
-abbrev pub or_int : Option Ty → Ty
-or_int (Some u) = u
-or_int None = ty.Int
-
-abbrev pub declared_type : Formal → Ty
-declared_type f = or_int (type_of f.ty)
+use Rattle.viper_scope.specs.Scope.{Scope}
 
 -- the types of all variables so far, by their numbers, and those that are visible
 pub record Frame : Type 0 where

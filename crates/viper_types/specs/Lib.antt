@@ -1,11 +1,8 @@
-pub mod Outcome
-pub mod Context
 pub mod Operators
 pub mod Typing
 pub mod Typed
 pub mod Answers
 pub mod Frame
-pub mod Target
 pub mod Stepping
 pub mod Stepped
 pub mod Copied

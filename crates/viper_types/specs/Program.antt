@@ -13,14 +13,16 @@ use Rattle.viper_syntax.specs.Decl as d
 use Rattle.viper_syntax.specs.declared.stmts.Named.{Named}
 use Rattle.viper_syntax.specs.declared.stmts.Formal.{Formal}
 use Rattle.viper_syntax.specs.declared.tokens.Word.TheVariants as word
-use Rattle.viper_types.specs.declared.context.Part.TheVariants as part
-use Rattle.viper_types.specs.Context.{World, Context, find}
-use Rattle.viper_types.specs.Typing.{Scope}
+use Rattle.viper_scope.specs.declared.context.Part.TheVariants as part
+use Rattle.viper_scope.specs.Context.{World, Context, find}
+use Rattle.viper_scope.specs.Scope.{Scope}
 use Rattle.viper_types.specs.Typed.{Asserts}
-use Rattle.viper_types.specs.Frame.{Frame, type_of, declared_type, with_variable}
+use Rattle.viper_scope.specs.Types.{type_of, declared_type}
+use Rattle.viper_types.specs.Frame.{Frame, with_variable}
 use Rattle.viper_types.specs.Stepping.{opening_of}
 use Rattle.viper_types.specs.Stepped.{Blocked}
-use Rattle.viper_types.specs.Declaring.{decl_name, no_world, with_decl, no_frame, name_of, body_context, context_in, conditions, locals, Declared, FieldOf, PredicateOf, MethodOf, no_program, assembled}
+use Rattle.viper_scope.specs.Naming.{decl_name, no_world, with_decl}
+use Rattle.viper_types.specs.Declaring.{no_frame, name_of, body_context, context_in, conditions, locals, Declared, FieldOf, PredicateOf, MethodOf, no_program, assembled}
 
 -- the names of the shared space are all different; what they stand for
 pub data AreNamed : World → List d.Decl → World → Type 0 where

@@ -13,13 +13,16 @@ use Rattle.viper_syntax.specs.declared.stmts.Named.{Named}
 use Rattle.viper_syntax.specs.declared.stmts.Formal.{Formal}
 use Rattle.viper_syntax.specs.declared.tokens.Word.{Word}
 use Rattle.viper_syntax.specs.declared.tokens.Word.TheVariants as word
-use Rattle.viper_types.specs.declared.context.Variable.{Variable}
-use Rattle.viper_types.specs.Context.{World, Context, Signature, MethodSignature, find, field_at, predicate_at, method_at}
-use Rattle.viper_types.specs.Typing.{Scope, Located, start}
+use Rattle.viper_scope.specs.declared.context.Variable.{Variable}
+use Rattle.viper_scope.specs.Context.{World, Context, Signature, MethodSignature, find, field_at, predicate_at, method_at}
+use Rattle.viper_scope.specs.Scope.{Scope, ref_variables}
+use Rattle.viper_scope.specs.Arguments.{start}
+use Rattle.viper_types.specs.Typing.{Located}
 use Rattle.viper_types.specs.Typed.{Typed, TypedAll, Permission, Asserts}
-use Rattle.viper_types.specs.Frame.{Frame, type_of, declared_in_arms, declared_in_arm, frame_after, with_hidden}
-use Rattle.viper_types.specs.Target.{targets}
-use Rattle.viper_types.specs.Stepping.{Target, numbers_in, ref_variables, last_place, first_place, Branch, nested, arm_count, opening_of}
+use Rattle.viper_scope.specs.Types.{type_of}
+use Rattle.viper_types.specs.Frame.{Frame, declared_in_arms, declared_in_arm, frame_after, with_hidden}
+use Rattle.viper_scope.specs.Target.{targets}
+use Rattle.viper_types.specs.Stepping.{Target, numbers_in, last_place, first_place, Branch, nested, arm_count, opening_of}
 
 -- a new variable: its name is not visible yet
 pub data IsFresh (fr : Frame) (f : Formal) : Target → Type 0 where

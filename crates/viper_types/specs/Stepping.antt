@@ -3,6 +3,8 @@
 -- those of the arguments (3). In a `new` the target comes first, then the fields in order. A `var` tries the rules 2 and 3 on
 -- its name, before what it is given. Which statement it is, without any order, is said by the judgement in `Stepped`.
 -- `lists` says whether the lists of `new` and of loops are made. A lean walk makes none: it tells the same broken rule.
+use Rattle.viper_scope.specs.Scope.{ref_variables, Scope}
+use Rattle.viper_scope.specs.Target.{listed, targets}
 use Rattle.std.specs.Prelude.{ℕ, ◌+◌, ◌==◌, Bool, true, false, not, nat_le, Option, Some, None, List, [], ◌∷◌, ◌++◌, length, is_some, if◌then◌else◌}
 use Rattle.std.specs.List.{range_with_len}
 use Rattle.vb_base.specs.declared.places.Pos.{Pos}
@@ -17,11 +19,12 @@ use Rattle.viper_syntax.specs.declared.stmts.Named.{Named}
 use Rattle.viper_syntax.specs.declared.stmts.Formal.{Formal}
 use Rattle.viper_syntax.specs.declared.tokens.Word.{Word}
 use Rattle.viper_syntax.specs.declared.tokens.Word.TheVariants as word
-use Rattle.viper_types.specs.Outcome.{Judged, Found, Broken, then_typed, known, obeys, clear_of, then_more}
-use Rattle.viper_types.specs.Context.{World, Context, find, field_at, method_at, nowhere}
-use Rattle.viper_types.specs.Typing.{Scope, Typing, Located, start, typing, typing_all, permission, expected, arguments, asserting, located, as_many, misfit, exprs_in, with_body}
-use Rattle.viper_types.specs.Frame.{Frame, type_of, declared_type, declared_in_arms, declared_in_arm, frame_after, with_hidden}
-use Rattle.viper_types.specs.Target.{targets}
+use Rattle.viper_scope.specs.Outcome.{Judged, Found, Broken, then_typed, known, obeys, clear_of, then_more}
+use Rattle.viper_scope.specs.Context.{World, Context, find, field_at, method_at, nowhere}
+use Rattle.viper_scope.specs.Arguments.{Typing, start, as_many, misfit, exprs_in}
+use Rattle.viper_types.specs.Typing.{Located, typing, typing_all, permission, expected, arguments, asserting, located, with_body}
+use Rattle.viper_scope.specs.Types.{type_of, declared_type}
+use Rattle.viper_types.specs.Frame.{Frame, declared_in_arms, declared_in_arm, frame_after, with_hidden}
 
 -- a variable that takes a value, and the place of its name
 pub record Target : Type 0 where
@@ -88,16 +91,6 @@ is_listed n (m ∷ ms) = if n == m then true else is_listed n ms
 abbrev pub new_fields : World → List ℕ → List Named → Judged (List ℕ)
 new_fields w so_far [] = Found so_far
 new_fields w so_far (f ∷ fs) = known (field_at w f.name) f.pos 1 (λ n. obeys (not (is_listed n.0 so_far)) f.pos 14 (new_fields w (so_far ++ n.0 ∷ []) fs))
-
--- the Ref variables in scope
-abbrev pub ref_variables : Scope → List ℕ
-ref_variables [] = []
-ref_variables (x ∷ xs) = if same_type x.1.ty ty.Ref then x.1.number ∷ ref_variables xs else ref_variables xs
-
--- a list, which a lean walk leaves empty
-abbrev pub listed : Bool → List ℕ → List ℕ
-listed true ns = ns
-listed false ns = []
 
 -- the listed fields, or all of them
 abbrev pub chosen_fields : Bool → World → s.SNew → Judged (List ℕ)

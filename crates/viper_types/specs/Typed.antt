@@ -11,11 +11,13 @@ use Rattle.viper_syntax.specs.declared.tokens.Sign.{Sign}
 use Rattle.viper_syntax.specs.declared.tokens.Sign.TheVariants as sign
 use Rattle.viper_syntax.specs.declared.tokens.Word.{Word}
 use Rattle.viper_syntax.specs.declared.tokens.Word.TheVariants as word
-use Rattle.viper_types.specs.declared.context.Variable.{Variable}
-use Rattle.viper_types.specs.Context.{Context, Signature, find, field_at, predicate_at, allows_old, allows_permission_forms}
+use Rattle.viper_scope.specs.declared.context.Variable.{Variable}
+use Rattle.viper_scope.specs.Context.{Context, Signature, find, field_at, predicate_at, allows_old, allows_permission_forms}
 use Rattle.viper_core.specs.Typing.{value_type, is_number}
 use Rattle.viper_types.specs.Operators.{operator, literal}
-use Rattle.viper_types.specs.Typing.{Scope, start, write}
+use Rattle.viper_scope.specs.Scope.{Scope}
+use Rattle.viper_scope.specs.Arguments.{start}
+use Rattle.viper_types.specs.Typing.{write}
 
 mutual
   -- the term is this expression, of this type

@@ -1,7 +1,9 @@
 -- The walk through terms: what a term is, or the first rule that it breaks. The parts of a term come before the term itself,
 -- from left to right; only the rules 4, 5, 6, 12 and 16 are tried on arrival, before the parts. At one node the rules are tried
 -- by number. Which expression a term is, without any order, is said by the judgement in `Typed`.
-use Rattle.std.specs.Prelude.{ℕ, Bool, true, false, if◌then◌else◌, pos, Option, Some, None, List, [], ◌∷◌}
+use Rattle.viper_scope.specs.Scope.{Scope}
+use Rattle.viper_scope.specs.Arguments.{Typing, start, fitted}
+use Rattle.std.specs.Prelude.{ℕ, Bool, false, if◌then◌else◌, pos, List, []}
 use Rattle.vb_base.specs.declared.places.Pos.{Pos}
 use Rattle.vb_value.specs.Value.{same_type}
 use Rattle.vb_value.specs.declared.values.Ty.{Ty}
@@ -12,33 +14,10 @@ use Rattle.viper_syntax.specs.Term as t
 use Rattle.viper_syntax.specs.declared.tokens.Sign.{Sign}
 use Rattle.viper_syntax.specs.declared.tokens.Sign.TheVariants as sign
 use Rattle.viper_syntax.specs.declared.tokens.Word.{Word}
-use Rattle.viper_types.specs.declared.context.Variable.{Variable}
-use Rattle.viper_types.specs.Outcome.{Judged, Found, Broken, then_typed, known, obeys, clear_of, then_more}
-use Rattle.viper_types.specs.Context.{World, Context, Signature, find, field_at, predicate_at, allows_old, allows_permission_forms, body_at}
+use Rattle.viper_scope.specs.Outcome.{Judged, Found, Broken, then_typed, known, obeys, then_more}
+use Rattle.viper_scope.specs.Context.{World, Context, Signature, find, field_at, predicate_at, allows_old, allows_permission_forms, body_at}
 use Rattle.viper_core.specs.Typing.{value_type, is_number}
 use Rattle.viper_types.specs.Operators.{operator, literal, is_wildcard_word}
-
--- the variables that a term sees, with their names
-abbrev pub Scope : Type 0
-Scope = List (List ℕ × Variable)
-
--- a typed expression
-abbrev pub Typing : Type 0
-Typing = e.Expr × Ty
-
--- the leftmost token of a term, parentheses not counted
-abbrev pub start : t.Term → Pos
-start (t.Name x at) = at
-start (t.Number n at) = at
-start (t.Constant w at) = at
-start (t.Unary o a at) = at
-start (t.Binary o a b at) = start a
-start (t.Choose a b c at) = start a
-start (t.Field a f at) = start a
-start (t.Old a at) = at
-start (t.Acc a m at) = at
-start (t.Inst x args at) = at
-start (t.Unfolding x args m a at name_at) = at
 
 -- the node itself, once its parts are typed
 
@@ -70,29 +49,6 @@ pub record Located : Type 0 where
 
 abbrev pub located : World → List ℕ → Pos → Typing → Judged Located
 located w f at x = known (field_at w f) at 1 (λ n. obeys (same_type x.1 ty.Ref) at 3 (Found (record { receiver = x.0; field = n.0; ty = n.1 })))
-
--- whether there are as many arguments as parameters
-abbrev pub as_many : {X Y : Type 0} → List X → List Y → Bool
-as_many [] [] = true
-as_many [] (y ∷ ys) = false
-as_many (x ∷ xs) [] = false
-as_many (x ∷ xs) (y ∷ ys) = as_many xs ys
-
--- the start of the first argument that is not of its parameter's type
-abbrev pub misfit : t.Terms → List Typing → List Ty → Option Pos
-misfit t.none xs us = None
-misfit (t.more a rest) [] us = None
-misfit (t.more a rest) (x ∷ xs) [] = None
-misfit (t.more a rest) (x ∷ xs) (u ∷ us) = if same_type x.1 u then misfit rest xs us else Some (start a)
-
--- the expressions of typed arguments
-abbrev pub exprs_in : List Typing → e.Exprs
-exprs_in [] = e.none
-exprs_in (x ∷ xs) = e.more x.0 (exprs_in xs)
-
--- typed arguments for these parameters
-abbrev pub fitted : t.Terms → List Ty → Pos → List Typing → Judged e.Exprs
-fitted args params at xs = obeys (as_many xs params) at 9 (clear_of (misfit args xs params) 3 (Found (exprs_in xs)))
 
 -- a part that must have a type
 abbrev pub of_type : Ty → t.Term → Typing → Judged e.Expr

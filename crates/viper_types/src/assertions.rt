@@ -2,18 +2,17 @@
 ghost use Rattle.std.specs.Prelude.{◌≡◌, map};
 ghost use Rattle.viper_core.specs.View.{amt_of, assertion_of, assertions_of};
 ghost use Rattle.viper_syntax.specs.View.{term_of, terms_of};
-ghost use Rattle.viper_types.specs.Answers.{Answers, lent_amount_of, context_of};
+ghost use Rattle.viper_scope.specs.Answers.{Answers, context_of};
+ghost use Rattle.viper_types.specs.Answers.{lent_amount_of};
 ghost use Rattle.viper_types.specs.Stepping.{asserting_all};
 ghost use Rattle.viper_types.specs.Typing as j;
 
-use crate::context::Context;
-use crate::expressions::{allows_permission_forms, arguments, expected, place, start, write};
-use crate::faults::TypeFault;
-use crate::scope::Scope;
+use crate::expressions::{allows_permission_forms, arguments, expected, place, write};
 use std::alloc::Global;
 use vb_base::{Ident, Pos, boxed, kept};
 use vb_value::Ty;
 use viper_core::{Amt, Assertion};
+use viper_scope::{Context, Scope, TypeFault, start};
 use viper_syntax::{Sign, Term, Word};
 
 /// The amount of an accessibility predicate.

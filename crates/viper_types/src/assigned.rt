@@ -1,18 +1,17 @@
 // The variables that take values.
 ghost use Rattle.std.specs.Prelude.{◌≡◌, [], IfOk, map, not};
-ghost use Rattle.viper_types.specs.Answers.{Answers, target_of, targets_of};
-ghost use Rattle.viper_types.specs.Outcome.{Found, obeys};
+ghost use Rattle.viper_scope.specs.Answers.{Answers};
+ghost use Rattle.viper_types.specs.Answers.{target_of, targets_of};
+ghost use Rattle.viper_scope.specs.Outcome.{Found, obeys};
 ghost use Rattle.viper_types.specs.Stepping as s;
 
-use crate::context::Variable;
-use crate::faults::TypeFault;
 use crate::frames::Target;
 use crate::listed::list_new;
-use crate::scope::Scope;
 use indexmap::IndexSet;
 use std::alloc::Global;
 use vb_base::{Memory, Pos};
 use vb_value::Ty;
+use viper_scope::{Scope, TypeFault, Variable};
 use viper_syntax::Named;
 
 /// A visible variable that is no parameter.

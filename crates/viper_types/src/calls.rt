@@ -3,20 +3,20 @@ ghost use Rattle.std.specs.Prelude.{◌≡◌, map};
 ghost use Rattle.viper_core.specs.View.{stmt_of};
 ghost use Rattle.viper_syntax.specs.Term as t;
 ghost use Rattle.viper_syntax.specs.View.{call_of};
-ghost use Rattle.viper_types.specs.Answers.{Answers, argument_exprs_of, context_of, target_of, typing_of, typings_of};
+ghost use Rattle.viper_scope.specs.Answers.{Answers, argument_exprs_of, context_of, typing_of, typings_of};
+ghost use Rattle.viper_types.specs.Answers.{target_of};
+ghost use Rattle.viper_scope.specs.Arguments as a;
 ghost use Rattle.viper_types.specs.Stepping as s;
 ghost use Rattle.viper_types.specs.Typing as j;
 
 use crate::assigned::{mistarget, numbers_in};
-use crate::context::{Context, MethodTypes};
-use crate::expressions::{arguments, as_many, exprs_in, misfit, typings};
-use crate::faults::TypeFault;
+use crate::expressions::{arguments, typings};
 use crate::frames::Target;
-use crate::scope::Scope;
 use std::alloc::Global;
 use vb_base::Pos;
 use vb_value::Ty;
 use viper_core::{Expr, Stmt};
+use viper_scope::{Context, MethodTypes, Scope, TypeFault, as_many, exprs_in, misfit};
 use viper_syntax::SCall;
 
 /// The arguments of a call, with their types.
@@ -33,7 +33,7 @@ fn typed_arguments(
 
 /// The start of the first argument of a call that is not of its parameter's type.
 fn first_misfit(call: &SCall, typed: &[(Expr, Ty)], params: &[Ty]) -> Option<Pos>
-    ensures { result ≡ j.misfit (t.terms (call_of call.now).args) (map typing_of typed.now) params.now }
+    ensures { result ≡ a.misfit (t.terms (call_of call.now).args) (map typing_of typed.now) params.now }
 {
     misfit(&call.args, typed, params)
 }

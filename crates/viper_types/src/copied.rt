@@ -6,15 +6,15 @@ ghost use Rattle.viper_core.specs.Budget.{Leaves};
 ghost use Rattle.viper_syntax.specs.View as v;
 ghost use Rattle.viper_syntax.specs.Stmt as s;
 ghost use Rattle.viper_syntax.specs.Term as t;
-ghost use Rattle.viper_types.specs.Answers.{optional_bodies_of, world_of, lent_rhs_of};
-ghost use Rattle.viper_types.specs.Context.{predicate_at};
+ghost use Rattle.viper_scope.specs.Answers.{world_of};
+ghost use Rattle.viper_types.specs.Answers.{optional_bodies_of, lent_rhs_of};
+ghost use Rattle.viper_scope.specs.Context.{predicate_at};
 ghost use Rattle.viper_types.specs.Copied as c;
 
-use crate::context::World;
-use crate::frames::declared_type;
 use vb_base::Ident;
 use vb_value::Ty;
 use viper_core::{Assertion, MAX_WEIGHT, spend, spend_assertion};
+use viper_scope::{World, declared_type};
 use viper_syntax::{
     Decl, Formal, SArm, SBlock, SCall, SClause, SFold, SMethod, SNew, SRhs, SStmt, Term,
 };

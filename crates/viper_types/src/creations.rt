@@ -3,17 +3,18 @@ ghost use Rattle.std.specs.Prelude.{◌≡◌, [], IfOk, length};
 ghost use Rattle.std.specs.List.{range_with_len};
 ghost use Rattle.viper_core.specs.View.{stmt_of};
 ghost use Rattle.viper_syntax.specs.View.{new_of};
-ghost use Rattle.viper_types.specs.Answers.{Answers, world_of, numbers_of};
+ghost use Rattle.viper_scope.specs.Answers.{Answers, world_of};
+ghost use Rattle.viper_types.specs.Answers.{numbers_of};
+ghost use Rattle.viper_scope.specs.Scope.{ref_variables};
+ghost use Rattle.viper_scope.specs.Target.{listed};
 ghost use Rattle.viper_types.specs.Stepping as s;
 
-use crate::context::{Context, World};
-use crate::faults::TypeFault;
 use crate::listed::list_new;
-use crate::scope::Scope;
 use indexmap::IndexSet;
 use std::alloc::Global;
 use vb_base::{Memory, Pos};
 use viper_core::Stmt;
+use viper_scope::{Context, Scope, TypeFault, World};
 use viper_syntax::{Named, SNew};
 
 /// The fields that a `new` names, none of them twice.
@@ -62,7 +63,7 @@ fn chosen_fields(
 
 /// The Ref variables in scope.
 fn ref_variables(alloc: Global, lists: bool, scope: &Scope) -> Result<Vec<u32>, Memory>
-    ensures { IfOk result (λ v. v.items ≡ s.listed lists (s.ref_variables scope.now)) }
+    ensures { IfOk result (λ v. v.items ≡ listed lists (ref_variables scope.now)) }
 {
     if !lists {
         return Ok(Vec::new(alloc));

@@ -2,20 +2,18 @@
 ghost use Rattle.std.specs.Prelude.{◌≡◌, ◌++◌, ◌∷◌, [], OnOk, length, map};
 ghost use Rattle.viper_core.specs.View as core;
 ghost use Rattle.viper_syntax.specs.View.{decl_of};
-ghost use Rattle.viper_types.specs.Answers.{Answers, declared_of, optional_bodies_of, parts_of, world_of};
+ghost use Rattle.viper_scope.specs.Answers.{Answers, world_of};
+ghost use Rattle.viper_types.specs.Answers.{declared_of, optional_bodies_of, parts_of};
 ghost use Rattle.viper_types.specs.Declaring as j;
-ghost use Rattle.viper_types.specs.Outcome.{Found, then_typed};
+ghost use Rattle.viper_scope.specs.Outcome.{Found, then_typed};
 
-use crate::context::World;
-use crate::faults::TypeFault;
-use crate::frames::type_of;
 use crate::methods::method;
 use crate::predicates::predicate;
-use crate::world::next_number;
 use std::alloc::Global;
 use vb_base::{Ident, Memory};
 use vb_value::{Layout, Ty};
 use viper_core::{Assertion, Method, Predicate, Program, Unit};
+use viper_scope::{TypeFault, World, next_number, type_of};
 use viper_syntax::{Decl, Formal};
 
 /// A typed declaration.

@@ -4,45 +4,35 @@ ghost use Rattle.std.specs.Option.{option_map};
 ghost use Rattle.viper_core.specs.Expr as e;
 ghost use Rattle.viper_core.specs.View.{expr_of, exprs_of, assertion_of};
 ghost use Rattle.viper_syntax.specs.View.{term_of, terms_of, amount_of};
-ghost use Rattle.viper_types.specs.Answers.{Answers, typing_of, typings_of, argument_exprs_of, place_of, lent_amount_of, numbered_signature_of, world_of, context_of};
-ghost use Rattle.viper_types.specs.Context as c;
+ghost use Rattle.viper_scope.specs.Answers.{Answers, typing_of, typings_of, argument_exprs_of, numbered_signature_of, world_of, context_of};
+ghost use Rattle.viper_types.specs.Answers.{place_of, lent_amount_of};
+ghost use Rattle.viper_scope.specs.Context as c;
 ghost use Rattle.viper_types.specs.Operators as o;
-ghost use Rattle.viper_types.specs.Outcome.{known, Found};
+ghost use Rattle.viper_scope.specs.Outcome.{known, Found};
 ghost use Rattle.viper_types.specs.Typing as j;
 ghost use Rattle.vb_value.specs.Fraction.{whole};
 ghost use Rattle.viper_syntax.specs.Term as t;
 
-use crate::context::{Context, FieldPlace, Part, PredicateSignature, World};
-use crate::faults::TypeFault;
-use crate::scope::Scope;
 use std::alloc::Global;
 use vb_base::{Ident, Pos};
 use vb_value::{Frac, Ty};
 use viper_core::{Assertion, Expr, Op, Opened};
+use viper_scope::{Context, Part, PredicateSignature, Scope, TypeFault, World, fitted, start};
 use viper_syntax::{Sign, Term, Word};
+
+/// A field of a receiver, with its type.
+#[derive(Drop)]
+pub struct FieldPlace {
+    pub receiver: Expr,
+    pub field: u32,
+    pub ty: Ty,
+}
 
 /// The first place of a text: the place of what no text spells.
 pub(crate) fn nowhere() -> Pos
     ensures { result ≡ c.nowhere }
 {
     Pos { line: 1, col: 1 }
-}
-
-/// The leftmost token of a term, parentheses not counted.
-pub(crate) fn start(term: &Term) -> Pos
-    ensures { result ≡ j.start (term_of term.now) }
-{
-    match term {
-        Term::Name(_, at)
-        | Term::Number(_, at)
-        | Term::Constant(_, at)
-        | Term::Unary(_, _, at)
-        | Term::Old(_, at)
-        | Term::Acc(_, _, at)
-        | Term::Inst(_, _, at)
-        | Term::Unfolding(_, _, _, _, at, _) => *at,
-        Term::Binary(_, a, _, _) | Term::Choose(a, _, _, _) | Term::Field(a, _, _) => start(a),
-    }
 }
 
 /// The operator of a binary sign.
@@ -210,51 +200,6 @@ pub(crate) fn field(alloc: Global, place: FieldPlace, at: Pos) -> Result<(Expr, 
 {
     let receiver = Box::new(alloc, place.receiver)?;
     Ok((Expr::Field(receiver, place.field, at), place.ty))
-}
-
-/// Whether there are as many of one as of the other.
-pub(crate) fn as_many<X, Y>(xs: &[X], ys: &[Y]) -> bool
-    ensures { result ≡ j.as_many xs.now ys.now }
-{
-    xs.len() == ys.len()
-}
-
-/// The start of the first argument that is not of its parameter's type.
-pub(crate) fn misfit(args: &[Term], typed: &[(Expr, Ty)], params: &[Ty]) -> Option<Pos>
-    ensures { result ≡ j.misfit (terms_of args.now) (map typing_of typed.now) params.now }
-{
-    for (i, arg) in args.iter().enumerate() {
-        if typed.get(i)?.1 != *params.get(i)? {
-            return Some(start(arg));
-        }
-    }
-    None
-}
-
-/// The expressions of typed arguments.
-pub(crate) fn exprs_in(alloc: Global, typed: Vec<(Expr, Ty)>) -> Result<Vec<Expr>, TypeFault>
-    ensures { Answers argument_exprs_of (Found (j.exprs_in (typings_of typed))) result }
-{
-    Ok(typed.into_iter().map(|(e, _)| e).collect(alloc)?)
-}
-
-/// Typed arguments for these parameters.
-fn fitted(
-    alloc: Global,
-    args: &[Term],
-    typed: Vec<(Expr, Ty)>,
-    params: &[Ty],
-    at: Pos,
-) -> Result<Vec<Expr>, TypeFault>
-    ensures { Answers argument_exprs_of (j.fitted (terms_of args.now) params.now at (typings_of typed)) result }
-{
-    if !as_many(&typed, params) {
-        return Err(TypeFault::Rule(at, 9));
-    }
-    if let Some(place) = misfit(args, &typed, params) {
-        return Err(TypeFault::Rule(place, 3));
-    }
-    exprs_in(alloc, typed)
 }
 
 /// A typed term that must have this type.

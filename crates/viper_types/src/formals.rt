@@ -1,15 +1,17 @@
 // Formals: the parameters and returns of predicates and methods.
 ghost use Rattle.std.specs.Prelude.{◌≡◌, ◌++◌, OnOk, map};
-ghost use Rattle.viper_types.specs.Answers.{Answers, frame_of};
+ghost use Rattle.viper_scope.specs.Answers.{Answers};
+ghost use Rattle.viper_types.specs.Answers.{frame_of};
 ghost use Rattle.viper_types.specs.Declaring as j;
 ghost use Rattle.viper_types.specs.Frame as f;
-ghost use Rattle.viper_types.specs.Outcome.{Found};
+ghost use Rattle.viper_scope.specs.Types as types;
+ghost use Rattle.viper_scope.specs.Outcome.{Found};
 
-use crate::faults::TypeFault;
-use crate::frames::{Frame, type_of};
+use crate::frames::Frame;
 use std::alloc::Global;
 use vb_base::{Ident, Memory};
 use vb_value::Ty;
+use viper_scope::{TypeFault, type_of};
 use viper_syntax::Formal;
 
 /// Adds a formal, which is a Perm only where that is allowed.
@@ -20,7 +22,7 @@ fn formal(
     is_parameter: bool,
     formal: &Formal,
 ) -> Result<(), TypeFault>
-    ensures { Answers (λ _. frame_of frame.new) (j.formal allows_perm (frame_of frame.old) formal.now (Found (f.with_variable (frame_of frame.old) formal.now.name.name (f.declared_type formal.now) is_parameter))) result }
+    ensures { Answers (λ _. frame_of frame.new) (j.formal allows_perm (frame_of frame.old) formal.now (Found (f.with_variable (frame_of frame.old) formal.now.name.name (types.declared_type formal.now) is_parameter))) result }
 {
     let at = formal.name.pos;
     if frame.scope.find(&formal.name.name).is_some() {

@@ -1,17 +1,17 @@
 // The variables of a method while its statements are typed.
 ghost use Rattle.std.specs.Prelude.{◌≡◌, IfOk, None, OnOk, length};
-ghost use Rattle.viper_types.specs.Answers.{Answers, frame_of, target_of};
-ghost use Rattle.viper_types.specs.Context.{find};
+ghost use Rattle.viper_scope.specs.Answers.{Answers};
+ghost use Rattle.viper_types.specs.Answers.{frame_of, target_of};
+ghost use Rattle.viper_scope.specs.Context.{find};
 ghost use Rattle.viper_types.specs.Declaring.{no_frame};
 ghost use Rattle.viper_types.specs.Frame as f;
+ghost use Rattle.viper_scope.specs.Types as types;
 ghost use Rattle.viper_types.specs.Stepping as s;
 
-use crate::context::Variable;
-use crate::faults::TypeFault;
-use crate::scope::Scope;
 use std::alloc::Global;
 use vb_base::{Ident, Memory, Pos};
 use vb_value::Ty;
+use viper_scope::{Scope, TypeFault, Variable, next_number, type_of};
 use viper_syntax::{Formal, Word};
 
 /// The variables of a method so far.
@@ -24,31 +24,11 @@ pub struct Frame {
 }
 
 /// A variable that takes a value, and the place of its name.
-#[derive(Clone, Copy, Debug, PartialEq, Eq)]
+#[derive(Clone, Copy)]
 pub struct Target {
     pub number: u32,
     pub ty: Ty,
     pub at: Pos,
-}
-
-/// The type of a word.
-pub fn type_of(word: Word) -> Option<Ty>
-    ensures { result ≡ f.type_of word }
-{
-    match word {
-        Word::Int => Some(Ty::Int),
-        Word::Bool => Some(Ty::Bool),
-        Word::Ref => Some(Ty::Ref),
-        Word::Perm => Some(Ty::Perm),
-        _ => None,
-    }
-}
-
-/// The type of a formal, and Int where its word is no type.
-pub fn declared_type(formal: &Formal) -> Ty
-    ensures { result ≡ f.declared_type formal.now }
-{
-    type_of(formal.ty).unwrap_or(Ty::Int)
 }
 
 impl Frame {
@@ -87,13 +67,13 @@ impl Frame {
     pub fn next_number(&self) -> Result<u32, Memory>
         ensures { IfOk result (λ n. n ≡ length self.now.vars.items) }
     {
-        u32::try_from(self.vars.len()).map_err(|_| Memory)
+        next_number(self.vars.len())
     }
 
     /// The variable that a declaration makes.
     pub fn fresh(&self, formal: &Formal) -> Result<Target, TypeFault>
         ensures answers { Answers target_of (s.fresh (frame_of self.now) formal.now) result }
-        ensures typed { IfOk result (λ v. v.ty ≡ f.declared_type formal.now) }
+        ensures typed { IfOk result (λ v. v.ty ≡ types.declared_type formal.now) }
         ensures is_new { OnOk result (find self.now.scope formal.now.name.name ≡ None) }
     {
         let at = formal.name.pos;

@@ -10,15 +10,15 @@ ghost use Rattle.viper_core.specs.Stmt as c;
 ghost use Rattle.viper_syntax.specs.Decl as d;
 ghost use Rattle.viper_syntax.specs.Stmt as s;
 ghost use Rattle.viper_syntax.specs.Term as t;
-ghost use Rattle.viper_types.specs.Context.{Context};
+ghost use Rattle.viper_scope.specs.Context.{Context};
 ghost use Rattle.viper_types.specs.Frame.{Frame};
 ghost use Rattle.viper_syntax.specs.Good.{IsGoodSource};
 ghost use Rattle.viper_types.specs.Declaring.{program_typing};
-ghost use Rattle.viper_types.specs.Outcome.{Broken};
+ghost use Rattle.viper_scope.specs.Outcome.{Broken};
 ghost use Rattle.viper_types.specs.Program.{IsProgram};
 ghost use Rattle.viper_types.specs.Stepped.{Stepped};
 ghost use Rattle.viper_types.specs.Typed.{Typed, Asserts};
-ghost use Rattle.viper_types.specs.Typing.{Scope};
+ghost use Rattle.viper_scope.specs.Scope.{Scope};
 
 /// A term is at most one expression, of at most one type, and at most one assertion.
 pub fn one_expression()

@@ -3,22 +3,19 @@ ghost use Rattle.std.specs.Prelude.{◌≡◌, ◌++◌, IfOk, OnOk, false, leng
 ghost use Rattle.std.specs.Option.{option_map};
 ghost use Rattle.viper_core.specs.View as core;
 ghost use Rattle.viper_syntax.specs.View.{block_of, clause_of, method_of, term_of};
-ghost use Rattle.viper_types.specs.Answers.{Answers, clause_typing_of, clause_typings_of, context_of, frame_of, optional_bodies_of, world_of};
+ghost use Rattle.viper_scope.specs.Answers.{Answers, context_of, world_of};
+ghost use Rattle.viper_types.specs.Answers.{clause_typing_of, clause_typings_of, frame_of, optional_bodies_of};
 ghost use Rattle.viper_types.specs.Declaring as j;
 
 use crate::assertions::assertion;
-use crate::context::{Context, Part, World};
-use crate::expressions::start;
-use crate::faults::TypeFault;
 use crate::formals::{add_names, formals};
 use crate::frames::Frame;
-use crate::scope::Scope;
 use crate::statements::blocking;
-use crate::world::next_number;
 use std::alloc::Global;
 use vb_base::{Ident, Memory};
 use viper_core::{Assertion, Body, Method};
-use viper_syntax::{SBlock, SClause, SMethod, Word};
+use viper_scope::{Context, Part, Scope, TypeFault, World, next_number, seen, start};
+use viper_syntax::{SBlock, SClause, SMethod};
 
 /// A clause, with whether it is a precondition, which sees the parameters alone.
 fn clause(
@@ -32,29 +29,17 @@ fn clause(
     ensures { Answers clause_typing_of (j.clause_of (world_of world.now) (optional_bodies_of bodies.now) params.now all.now clause.now.word (term_of clause.now.term)) result }
 {
     let term = &clause.term;
-    match clause.word {
-        Word::Requires => {
-            let part = Part::Precondition;
-            let context = Context {
-                world,
-                bodies,
-                part,
-                lists: false,
-            };
-            Ok((true, assertion(alloc, &context, params, term)?))
-        }
-        Word::Ensures => {
-            let part = Part::Elsewhere;
-            let context = Context {
-                world,
-                bodies,
-                part,
-                lists: false,
-            };
-            Ok((false, assertion(alloc, &context, all, term)?))
-        }
-        _ => Err(TypeFault::Rule(start(term), 3)),
-    }
+    let Some((part, scope)) = seen(clause.word, params, all) else {
+        return Err(TypeFault::Rule(start(term), 3));
+    };
+    let context = Context {
+        world,
+        bodies,
+        part,
+        lists: false,
+    };
+    let condition = assertion(alloc, &context, scope, term)?;
+    Ok((part.is_precondition(), condition))
 }
 
 /// Clauses in order, each with whether it is a precondition.

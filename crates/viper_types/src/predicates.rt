@@ -4,22 +4,20 @@ ghost use Rattle.std.specs.Option.{option_map};
 ghost use Rattle.viper_core.specs.Program as p;
 ghost use Rattle.viper_core.specs.View as core;
 ghost use Rattle.viper_syntax.specs.View.{decl_of, term_of};
-ghost use Rattle.viper_types.specs.Answers.{Answers, optional_bodies_of, world_of};
+ghost use Rattle.viper_scope.specs.Answers.{Answers, world_of};
+ghost use Rattle.viper_types.specs.Answers.{optional_bodies_of};
 ghost use Rattle.viper_types.specs.Declaring as j;
-ghost use Rattle.viper_types.specs.Frame as f;
-ghost use Rattle.viper_types.specs.Outcome.{Judged};
+ghost use Rattle.viper_scope.specs.Types as types;
+ghost use Rattle.viper_scope.specs.Outcome.{Judged};
 
 use crate::assertions::assertion;
-use crate::context::{Context, Part, World};
-use crate::faults::TypeFault;
 use crate::formals::{add_names, formals};
 use crate::frames::Frame;
-use crate::scope::Scope;
-use crate::world::types_in;
 use std::alloc::Global;
 use vb_base::{Ident, Memory, Pos};
 use vb_value::Ty;
 use viper_core::{Assertion, Predicate};
+use viper_scope::{Context, Part, Scope, TypeFault, World, types_in};
 use viper_syntax::{Decl, Formal, Named, Term};
 
 /// The body of a predicate. It sees no bodies, since it holds no `unfolding`.
@@ -55,7 +53,7 @@ struct Heading {
 fn heading_of(alloc: Global, name: &Ident, params: &[Formal]) -> Result<Heading, Memory>
     ensures name { IfOk result (λ h. h.name ≡ name.now) }
     ensures names { IfOk result (λ h. h.names.items ≡ map j.name_of params.now) }
-    ensures params { IfOk result (λ h. h.params.items ≡ map f.declared_type params.now) }
+    ensures params { IfOk result (λ h. h.params.items ≡ map types.declared_type params.now) }
 {
     let mut names = Vec::with_capacity(alloc, params.len())?;
     add_names(alloc, &mut names, params)?;

@@ -6,21 +6,19 @@ ghost use Rattle.viper_core.specs.Program as p;
 ghost use Rattle.viper_core.specs.View as core;
 ghost use Rattle.viper_core.specs.Weight.{weight};
 ghost use Rattle.viper_syntax.specs.View.{decl_of, program_of as source_of};
-ghost use Rattle.viper_types.specs.Answers.{world_of};
+ghost use Rattle.viper_scope.specs.Answers.{world_of};
 ghost use Rattle.viper_types.specs.Checked.{Gives, IsRefused, Overweighs, Tells};
 ghost use Rattle.viper_types.specs.Declaring as j;
 ghost use Rattle.viper_syntax.specs.Good.{IsGoodSource};
-ghost use Rattle.viper_types.specs.Outcome.{Broken, Found, then_typed};
+ghost use Rattle.viper_scope.specs.Outcome.{Broken, Found, then_typed};
 ghost use Rattle.viper_types.specs.Program.{IsProgram};
 
-use crate::context::World;
 use crate::copied::spend_decls;
 use crate::declarations::declarations;
-use crate::faults::TypeFault;
 use crate::predicates::bodies_of;
-use crate::world::naming;
 use std::alloc::Global;
 use viper_core::{MAX_WEIGHT, Program, weight};
+use viper_scope::{TypeFault, World, naming};
 use viper_syntax::{Decl, SourceProgram};
 
 /// Why a file is refused that copies more than a program may weigh: for the first rule that it breaks, or else for its weight.

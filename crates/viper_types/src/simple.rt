@@ -3,26 +3,26 @@ ghost use Rattle.std.specs.Prelude.{◌≡◌, OnOk, false};
 ghost use Rattle.viper_core.specs.Expr as e;
 ghost use Rattle.viper_core.specs.View.{expr_of, fold_of as core_fold_of, stmt_of};
 ghost use Rattle.viper_syntax.specs.View.{fold_of, rhs_of, term_of};
-ghost use Rattle.viper_types.specs.Answers.{Answers, context_of, frame_of, place_of, target_of, typing_of, world_of, lent_rhs_of};
+ghost use Rattle.viper_scope.specs.Answers.{Answers, context_of, typing_of, world_of};
+ghost use Rattle.viper_types.specs.Answers.{frame_of, place_of, target_of, lent_rhs_of};
 ghost use Rattle.viper_types.specs.Frame as f;
-ghost use Rattle.viper_types.specs.Outcome.{then_typed};
+ghost use Rattle.viper_scope.specs.Types as types;
+ghost use Rattle.viper_scope.specs.Outcome.{then_typed};
 ghost use Rattle.viper_types.specs.Stepping as s;
 ghost use Rattle.viper_types.specs.Typing as j;
 
 use crate::assertions::assertion;
 use crate::assigned::{ref_target, target};
 use crate::calls::{call_arguments, calling, calling_into_field};
-use crate::context::{Context, FieldPlace, World};
 use crate::creations::creating;
-use crate::expressions::{expected, located, nowhere, permission, start, with_body};
-use crate::faults::TypeFault;
+use crate::expressions::{FieldPlace, expected, located, nowhere, permission, with_body};
 use crate::frames::{Frame, Target};
-use crate::scope::Scope;
 use std::alloc::Global;
 use std::slice;
 use vb_base::{Pos, kept};
 use vb_value::Ty;
 use viper_core::{Assertion, Expr, FoldStmt, Stmt};
+use viper_scope::{Context, Scope, TypeFault, World, start};
 use viper_syntax::{Formal, Named, SFold, SRhs, Term, Word};
 
 /// A field of what stands at a place.
@@ -127,7 +127,7 @@ pub fn variable(
     formal: &Formal,
     rhs: Option<&SRhs>,
 ) -> Result<Stmt, TypeFault>
-    ensures after { OnOk result (frame_of frame.new ≡ f.with_variable (frame_of frame.old) formal.now.name.name (f.declared_type formal.now) false) }
+    ensures after { OnOk result (frame_of frame.new ≡ f.with_variable (frame_of frame.old) formal.now.name.name (types.declared_type formal.now) false) }
     ensures answers { Answers stmt_of (then_typed (s.fresh (frame_of frame.old) formal.now) (λ v. s.declaring context.now.lists (context_of context.now) (frame_of frame.old) at v (lent_rhs_of rhs.entry))) result }
 {
     let target = frame.fresh(formal)?;

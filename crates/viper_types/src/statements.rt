@@ -3,29 +3,27 @@ ghost use Rattle.std.specs.Prelude.{◌≡◌, ◌+◌, ◌++◌, ◌≤◌, OnO
 ghost use Rattle.viper_core.specs.Stmt as c;
 ghost use Rattle.viper_core.specs.View as core;
 ghost use Rattle.viper_syntax.specs.View.{arm_of, arms_of, block_of, else_of, stmt_of, stmts_of, term_of};
-ghost use Rattle.viper_types.specs.Answers.{Answers, block_stmts_of, branch_of, branches_of, context_of, frame_of, loop_terms_of, stmt_list_of};
-ghost use Rattle.viper_types.specs.Context.{nowhere};
+ghost use Rattle.viper_scope.specs.Answers.{Answers, context_of};
+ghost use Rattle.viper_types.specs.Answers.{block_stmts_of, branch_of, branches_of, frame_of, loop_terms_of, stmt_list_of};
+ghost use Rattle.viper_scope.specs.Context.{nowhere};
 ghost use Rattle.viper_types.specs.Frame as f;
-ghost use Rattle.viper_types.specs.Outcome.{Found, known, then_typed};
+ghost use Rattle.viper_scope.specs.Outcome.{Found, known, then_typed};
 ghost use Rattle.viper_types.specs.Stepping as s;
-ghost use Rattle.viper_types.specs.Target as v;
+ghost use Rattle.viper_scope.specs.Target as v;
 ghost use Rattle.viper_types.specs.Typing as j;
 ghost use Rattle.vb_value.specs.declared.values.Ty.TheVariants as ty;
 
 use crate::assertions::assertions;
 use crate::assigned::call_targets;
 use crate::calls::calling;
-use crate::context::Context;
 use crate::expressions::{expected, nowhere};
-use crate::faults::TypeFault;
 use crate::frames::Frame;
-use crate::scope::Scope;
 use crate::simple::{checking, folding, setting, variable};
-use crate::targets::targets;
 use std::alloc::Global;
 use vb_base::Pos;
 use vb_value::Ty;
 use viper_core::{Assertion, Expr, Loop, Stmt};
+use viper_scope::{Context, Scope, TypeFault, targets};
 use viper_syntax::{Named, SArm, SBlock, SStmt, Term};
 
 /// A block is no deeper than this.
@@ -146,7 +144,7 @@ fn iteration(
     requires { depth ≤ 128 }
     ensures after { OnOk result (frame_of frame.new ≡ f.with_hidden (frame_of frame.old) (f.declared_in_block (block_of body.now))) }
     ensures answers { Answers core.stmt_of (then_typed (s.blocking context.now.lists (context_of context.now) (depth + 1) (frame_of frame.old) (block_of body.now)) (λ ss.
-        Found (c.While (c.loop at (core.expr_of terms.0) (core.assertions_of terms.1.items) ss body.now.at (s.listed context.now.lists (v.targets (length frame.old.vars.items) ss)))))) result }
+        Found (c.While (c.loop at (core.expr_of terms.0) (core.assertions_of terms.1.items) ss body.now.at (v.listed context.now.lists (v.targets (length frame.old.vars.items) ss)))))) result }
 {
     let (guard, invariants) = terms;
     let below = frame.next_number()?;

@@ -3,9 +3,9 @@ use Rattle.viper_core.specs.View.{assertion_of}
 use Rattle.viper_syntax.specs.Term as tree
 use Rattle.viper_syntax.specs.View.{term_of, terms_of}
 use Rattle.viper_syntax.proofs.ViewLaws.{term_of-Inst}
-use Rattle.viper_types.specs.Answers.{context_of}
+use Rattle.viper_scope.specs.Answers.{context_of}
 use Rattle.viper_types.specs.Typing.{asserting, instance}
-use Rattle.viper_types.proofs.Steps.{answers_along}
+use Rattle.viper_scope.proofs.Judged.{answers_along}
 use Rattle.viper_types.proofs.assertions.+assertion.Goals as goal
 
 pub assertion-returns-in-Inst : goal.assertion-returns-in-Inst

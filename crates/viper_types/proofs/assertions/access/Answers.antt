@@ -2,9 +2,10 @@ use Rattle.std.proofs.Common.{◌∙◌, ap, sym}
 use Rattle.viper_core.specs.View.{assertion_of}
 use Rattle.viper_syntax.specs.View.{term_of, terms_of}
 use Rattle.viper_syntax.proofs.ViewLaws.{term_of-Inst}
-use Rattle.viper_types.specs.Answers.{context_of, lent_amount_of}
+use Rattle.viper_scope.specs.Answers.{context_of}
+use Rattle.viper_types.specs.Answers.{lent_amount_of}
 use Rattle.viper_types.specs.Typing.{access, instance}
-use Rattle.viper_types.proofs.Steps.{answers_along}
+use Rattle.viper_scope.proofs.Judged.{answers_along}
 use Rattle.viper_types.proofs.assertions.access.Goals as goal
 
 pub returns-in-Inst : goal.returns-in-Inst

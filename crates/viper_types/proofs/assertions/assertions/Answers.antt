@@ -3,10 +3,11 @@ use Rattle.std.proofs.Common.{◌∙◌, ap, map, rules, ◌∷◌, [], ◌+◌,
 use Rattle.std.proofs.lemmas.List.{map-append}
 use Rattle.viper_core.specs.View.{assertion_of, assertions_of}
 use Rattle.viper_syntax.specs.View.{term_of}
-use Rattle.viper_types.specs.Answers.{context_of}
-use Rattle.viper_types.specs.Outcome.{prefixed}
+use Rattle.viper_scope.specs.Answers.{context_of}
+use Rattle.viper_scope.specs.Outcome.{prefixed}
 use Rattle.viper_types.specs.Typing.{asserting}
-use Rattle.viper_types.proofs.Steps.{at_error, refuses_along, each, prefixed_nothing, one_more, one_broken, none_left, asserting_all-each}
+use Rattle.viper_scope.proofs.Judged.{at_error, refuses_along}
+use Rattle.viper_types.proofs.Steps.{each, prefixed_nothing, one_more, one_broken, none_left, asserting_all-each}
 use Rattle.viper_types.proofs.assertions.assertions.Goals as goal
 
 pub loop-term-init : goal.loop-term-init

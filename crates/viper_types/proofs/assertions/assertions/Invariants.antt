@@ -2,8 +2,8 @@
 use Rattle.std.proofs.Common.{◌≡◌, drop, map}
 use Rattle.viper_core.specs.View.{assertion_of}
 use Rattle.viper_syntax.specs.View.{term_of}
-use Rattle.viper_types.specs.Answers.{context_of}
-use Rattle.viper_types.specs.Outcome.{prefixed}
+use Rattle.viper_scope.specs.Answers.{context_of}
+use Rattle.viper_scope.specs.Outcome.{prefixed}
 use Rattle.viper_types.specs.Typing.{asserting}
 use Rattle.viper_types.proofs.Steps.{each}
 use Rattle.viper_types.proofs.assertions.assertions.Given as goal

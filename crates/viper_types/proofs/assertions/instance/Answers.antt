@@ -5,10 +5,12 @@ use Rattle.viper_core.specs.Expr as e
 use Rattle.viper_core.proofs.ViewLaws.{assertion_of-Inst}
 use Rattle.viper_syntax.specs.Term as t
 use Rattle.viper_syntax.specs.View.{terms_of}
-use Rattle.viper_types.specs.Answers.{context_of, lent_amount_of}
-use Rattle.viper_types.specs.Context.{Context, Signature, predicate_at}
-use Rattle.viper_types.specs.Outcome.{Found}
-use Rattle.viper_types.specs.Typing.{Scope, arguments, amount, instance}
+use Rattle.viper_scope.specs.Answers.{context_of}
+use Rattle.viper_types.specs.Answers.{lent_amount_of}
+use Rattle.viper_scope.specs.Context.{Context, Signature, predicate_at}
+use Rattle.viper_scope.specs.Outcome.{Found}
+use Rattle.viper_scope.specs.Scope.{Scope}
+use Rattle.viper_types.specs.Typing.{arguments, amount, instance}
 use Rattle.viper_types.proofs.assertions.instance.Goals as goal
 
 instanced : (c : Context) (sc : Scope) (x : List ℕ) (args : t.Terms) (m : t.Amount) (at : Pos) (params : List Ty) {s : ℕ × Signature} {es : e.Exprs} {p : e.Amt} →

@@ -1,8 +1,8 @@
 use Rattle.std.proofs.Common.{ap, sym}
-use Rattle.viper_types.specs.Answers.{context_of, argument_exprs_of}
+use Rattle.viper_scope.specs.Answers.{context_of, argument_exprs_of}
 use Rattle.viper_types.specs.Typing.{arguments}
 use Rattle.viper_types.proofs.CallLaws.{call_terms}
-use Rattle.viper_types.proofs.Steps.{answers_along}
+use Rattle.viper_scope.proofs.Judged.{answers_along}
 use Rattle.viper_types.proofs.calls.call_arguments.Goals as goal
 
 pub returns : goal.returns

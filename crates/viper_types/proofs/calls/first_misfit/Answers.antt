@@ -1,6 +1,6 @@
 use Rattle.std.proofs.Common.{ap, map, ◌∙◌}
-use Rattle.viper_types.specs.Answers.{typing_of}
-use Rattle.viper_types.specs.Typing.{misfit}
+use Rattle.viper_scope.specs.Answers.{typing_of}
+use Rattle.viper_scope.specs.Arguments.{misfit}
 use Rattle.viper_types.proofs.CallLaws.{call_terms}
 use Rattle.viper_types.proofs.calls.first_misfit.Goals as goal
 

@@ -1,8 +1,8 @@
 use Rattle.std.proofs.Common.{ap, sym}
-use Rattle.viper_types.specs.Answers.{context_of, typings_of}
+use Rattle.viper_scope.specs.Answers.{context_of, typings_of}
 use Rattle.viper_types.specs.Typing.{typing_all}
 use Rattle.viper_types.proofs.CallLaws.{call_terms}
-use Rattle.viper_types.proofs.Steps.{answers_along}
+use Rattle.viper_scope.proofs.Judged.{answers_along}
 use Rattle.viper_types.proofs.calls.typed_arguments.Goals as goal
 
 pub returns : goal.returns

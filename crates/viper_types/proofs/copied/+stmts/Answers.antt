@@ -3,7 +3,8 @@ use Rattle.std.proofs.Common.{rules, ◌∙◌, ap, ◌+◌, map}
 use Rattle.viper_core.proofs.BudgetLaws.{leaves_at}
 use Rattle.viper_syntax.specs.View.{term_of, stmt_of, block_of, arms_of, else_of}
 use Rattle.viper_syntax.proofs.ViewLaws.{stmt_of-If, stmt_of-While}
-use Rattle.viper_types.specs.Answers.{optional_bodies_of, world_of}
+use Rattle.viper_scope.specs.Answers.{world_of}
+use Rattle.viper_types.specs.Answers.{optional_bodies_of}
 use Rattle.viper_types.specs.Copied.{copied, copied_by, copied_by_terms, copied_by_arms, copied_by_else, copied_by_block}
 use Rattle.viper_types.proofs.copied.+stmts.Goals as goal
 

@@ -1,7 +1,8 @@
 -- What was spent so far is what the arms or statements copy that were seen.
 use Rattle.std.proofs.Common.{◌≡◌, ◌+◌, drop}
 use Rattle.viper_syntax.specs.View.{arms_of, stmts_of}
-use Rattle.viper_types.specs.Answers.{optional_bodies_of, world_of}
+use Rattle.viper_scope.specs.Answers.{world_of}
+use Rattle.viper_types.specs.Answers.{optional_bodies_of}
 use Rattle.viper_types.specs.Copied.{copied_by_arms, copied_by_stmts}
 use Rattle.viper_types.proofs.copied.+stmts.Given as goal
 

@@ -3,8 +3,9 @@ use Rattle.std.proofs.Common.{rules, ◌∙◌, ap, ◌+◌}
 use Rattle.viper_core.proofs.BudgetLaws.{leaves_at}
 use Rattle.viper_syntax.specs.View.{term_of, terms_of, amount_of}
 use Rattle.viper_syntax.proofs.ViewLaws.{term_of-Inst, term_of-Unfolding}
-use Rattle.viper_types.specs.Answers.{optional_bodies_of, world_of}
-use Rattle.viper_types.specs.Context.{predicate_at}
+use Rattle.viper_scope.specs.Answers.{world_of}
+use Rattle.viper_types.specs.Answers.{optional_bodies_of}
+use Rattle.viper_scope.specs.Context.{predicate_at}
 use Rattle.viper_types.specs.Copied.{opened_size, copied, copied_amount, copied_all}
 use Rattle.viper_types.proofs.copied.+terms.Goals as goal
 

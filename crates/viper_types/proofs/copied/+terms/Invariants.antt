@@ -1,7 +1,8 @@
 -- What was spent so far is what the terms copy that were seen.
 use Rattle.std.proofs.Common.{◌≡◌, ◌+◌, drop}
 use Rattle.viper_syntax.specs.View.{terms_of}
-use Rattle.viper_types.specs.Answers.{optional_bodies_of, world_of}
+use Rattle.viper_scope.specs.Answers.{world_of}
+use Rattle.viper_types.specs.Answers.{optional_bodies_of}
 use Rattle.viper_types.specs.Copied.{copied_all}
 use Rattle.viper_types.proofs.copied.+terms.Given as goal
 

@@ -1,6 +1,7 @@
 use Rattle.std.proofs.Common.{ap, sym}
 use Rattle.viper_core.proofs.BudgetLaws.{leaves_at}
-use Rattle.viper_types.specs.Answers.{optional_bodies_of, world_of}
+use Rattle.viper_scope.specs.Answers.{world_of}
+use Rattle.viper_types.specs.Answers.{optional_bodies_of}
 use Rattle.viper_types.specs.Copied.{copied_all}
 use Rattle.viper_types.proofs.CallLaws.{call_terms}
 use Rattle.viper_types.proofs.copied.spend_call.Goals as goal

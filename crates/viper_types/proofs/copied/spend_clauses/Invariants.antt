@@ -1,7 +1,8 @@
 -- What was spent so far is what the clauses copy that were seen.
 use Rattle.std.proofs.Common.{◌≡◌, ◌+◌, drop, map}
 use Rattle.viper_syntax.specs.View.{clause_of}
-use Rattle.viper_types.specs.Answers.{optional_bodies_of, world_of}
+use Rattle.viper_scope.specs.Answers.{world_of}
+use Rattle.viper_types.specs.Answers.{optional_bodies_of}
 use Rattle.viper_types.specs.Copied.{copied_by_clauses}
 use Rattle.viper_types.proofs.copied.spend_clauses.Given as goal
 

@@ -1,6 +1,6 @@
 -- The names that are left follow the fields so far.
 use Rattle.std.proofs.Common.{◌≡◌, [], drop}
-use Rattle.viper_types.specs.Answers.{world_of}
+use Rattle.viper_scope.specs.Answers.{world_of}
 use Rattle.viper_types.specs.Stepping.{new_fields}
 use Rattle.viper_types.proofs.creations.new_fields.Given as goal
 

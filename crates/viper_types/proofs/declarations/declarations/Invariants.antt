@@ -1,7 +1,8 @@
 -- The declarations that are left follow those so far.
 use Rattle.std.proofs.Common.{◌≡◌, drop, map}
 use Rattle.viper_syntax.specs.View.{decl_of}
-use Rattle.viper_types.specs.Answers.{optional_bodies_of, parts_of, world_of}
+use Rattle.viper_scope.specs.Answers.{world_of}
+use Rattle.viper_types.specs.Answers.{optional_bodies_of, parts_of}
 use Rattle.viper_types.specs.Declaring.{no_program}
 use Rattle.viper_types.proofs.DeclLaws.{onto}
 use Rattle.viper_types.proofs.declarations.declarations.Given as goal

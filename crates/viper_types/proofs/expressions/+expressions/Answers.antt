@@ -3,10 +3,11 @@ use Rattle.std.proofs.Common.{◌∙◌, ap, sym, map, rules, ◌∷◌, [], ◌
 use Rattle.std.proofs.lemmas.List.{map-append}
 use Rattle.viper_syntax.specs.View.{term_of, terms_of}
 use Rattle.viper_syntax.proofs.ViewLaws.{term_of-Unfolding}
-use Rattle.viper_types.specs.Answers.{context_of, typing_of, typings_of}
-use Rattle.viper_types.specs.Outcome.{prefixed}
+use Rattle.viper_scope.specs.Answers.{context_of, typing_of, typings_of}
+use Rattle.viper_scope.specs.Outcome.{prefixed}
 use Rattle.viper_types.specs.Typing.{typing}
-use Rattle.viper_types.proofs.Steps.{at_error, refuses_along, answers_along, each, prefixed_nothing, one_more, one_broken, none_left, typing_all-each}
+use Rattle.viper_scope.proofs.Judged.{at_error, refuses_along, answers_along}
+use Rattle.viper_types.proofs.Steps.{each, prefixed_nothing, one_more, one_broken, none_left, typing_all-each}
 use Rattle.viper_types.proofs.Unfoldings.{args_break, amount_breaks, inner_breaks, unfolded}
 use Rattle.viper_types.proofs.expressions.+expressions.Goals as goal
 

@@ -1,8 +1,8 @@
 -- What is typed so far, and then the terms that are left.
 use Rattle.std.proofs.Common.{◌≡◌, drop, map}
 use Rattle.viper_syntax.specs.View.{term_of}
-use Rattle.viper_types.specs.Answers.{typing_of, context_of}
-use Rattle.viper_types.specs.Outcome.{prefixed}
+use Rattle.viper_scope.specs.Answers.{typing_of, context_of}
+use Rattle.viper_scope.specs.Outcome.{prefixed}
 use Rattle.viper_types.specs.Typing.{typing}
 use Rattle.viper_types.proofs.Steps.{each}
 use Rattle.viper_types.proofs.expressions.+expressions.Given as goal

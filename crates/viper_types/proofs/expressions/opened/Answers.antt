@@ -2,8 +2,8 @@ use Rattle.std.proofs.Common.{◌∙◌, ap, sym}
 use Rattle.viper_core.specs.Expr as e
 use Rattle.viper_core.specs.View.{expr_of, exprs_of, opened_of}
 use Rattle.viper_core.proofs.ViewLaws.{expr_of-Unfolding}
-use Rattle.viper_types.specs.Outcome.{Found}
-use Rattle.viper_types.proofs.Steps.{found_same}
+use Rattle.viper_scope.specs.Outcome.{Found}
+use Rattle.viper_scope.proofs.Judged.{found_same}
 use Rattle.viper_types.proofs.expressions.opened.Goals as goal
 
 pub returns : goal.returns

@@ -1,7 +1,8 @@
 -- The bodies so far, and then those of the declarations that are left.
 use Rattle.std.proofs.Common.{◌≡◌, ◌++◌, drop, map}
 use Rattle.viper_syntax.specs.View.{decl_of}
-use Rattle.viper_types.specs.Answers.{optional_bodies_of, world_of}
+use Rattle.viper_scope.specs.Answers.{world_of}
+use Rattle.viper_types.specs.Answers.{optional_bodies_of}
 use Rattle.viper_types.specs.Declaring.{bodies_of}
 use Rattle.viper_types.proofs.predicates.bodies_of.Given as goal
 

@@ -1,6 +1,7 @@
 use Rattle.std.proofs.Common.{rules, ◌≡◌, ◌∙◌, ap, map, true, is_none}
 use Rattle.viper_syntax.specs.View.{decl_of, program_of as source_of}
-use Rattle.viper_types.specs.Answers.{optional_bodies_of, world_of}
+use Rattle.viper_scope.specs.Answers.{world_of}
+use Rattle.viper_types.specs.Answers.{optional_bodies_of}
 use Rattle.viper_types.proofs.CheckLaws.{heavy_told}
 use Rattle.viper_types.proofs.program.typed.Goals as goal
 

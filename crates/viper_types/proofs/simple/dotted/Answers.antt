@@ -1,7 +1,8 @@
 use Rattle.std.proofs.Common.{◌∙◌, ◌+◌, ◌-◌, sym, ap, drop, take, length}
-use Rattle.viper_types.specs.Answers.{place_of, world_of}
+use Rattle.viper_scope.specs.Answers.{world_of}
+use Rattle.viper_types.specs.Answers.{place_of}
 use Rattle.viper_types.proofs.PlaceLaws.{dotted_on, dotted_found, dotted_refused}
-use Rattle.viper_types.proofs.Steps.{at_error, refuses_along}
+use Rattle.viper_scope.proofs.Judged.{at_error, refuses_along}
 use Rattle.viper_types.proofs.Turns.{left_at}
 use Rattle.viper_types.proofs.simple.dotted.Goals as goal
 

@@ -1,6 +1,7 @@
 -- The names that are left follow the place so far.
 use Rattle.std.proofs.Common.{◌≡◌, drop}
-use Rattle.viper_types.specs.Answers.{place_of, typing_of, world_of}
+use Rattle.viper_scope.specs.Answers.{typing_of, world_of}
+use Rattle.viper_types.specs.Answers.{place_of}
 use Rattle.viper_types.specs.Stepping.{dotted}
 use Rattle.viper_types.proofs.PlaceLaws.{dotted_on}
 use Rattle.viper_types.proofs.simple.dotted.Given as goal

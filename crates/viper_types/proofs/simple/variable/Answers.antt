@@ -1,10 +1,11 @@
 use Rattle.std.proofs.Common.{◌∙◌, ap, sym}
 use Rattle.viper_core.specs.View.{stmt_of}
-use Rattle.viper_types.specs.Answers.{context_of, frame_of, lent_rhs_of}
-use Rattle.viper_types.specs.Outcome.{Found, then_typed}
+use Rattle.viper_scope.specs.Answers.{context_of}
+use Rattle.viper_types.specs.Answers.{frame_of, lent_rhs_of}
+use Rattle.viper_scope.specs.Outcome.{Found, then_typed}
 use Rattle.viper_types.specs.Stepping.{Target, declaring}
 use Rattle.viper_types.proofs.Kept.{kept_value}
-use Rattle.viper_types.proofs.Steps.{at_error, refuses_along}
+use Rattle.viper_scope.proofs.Judged.{at_error, refuses_along}
 use Rattle.viper_types.proofs.simple.variable.Goals as goal
 
 pub returns-in_err-stmt-clause-answers : goal.returns-in_err-stmt-clause-answers

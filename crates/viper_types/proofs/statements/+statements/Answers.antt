@@ -6,14 +6,15 @@ use Rattle.viper_core.proofs.ViewLaws.{stmts_of-map}
 use Rattle.viper_syntax.specs.Stmt as s
 use Rattle.viper_syntax.specs.View.{arms_of, else_of, block_of, stmt_of, stmts_of, term_of}
 use Rattle.viper_syntax.proofs.ViewLaws.{stmt_of-If, stmt_of-While}
-use Rattle.viper_types.specs.Answers.{context_of, frame_of, branches_of, loop_terms_of}
-use Rattle.viper_types.specs.Context.{nowhere}
+use Rattle.viper_scope.specs.Answers.{context_of}
+use Rattle.viper_types.specs.Answers.{frame_of, branches_of, loop_terms_of}
+use Rattle.viper_scope.specs.Context.{nowhere}
 use Rattle.viper_types.specs.Frame.{frame_after, declared_in_arms, declared_in_else, with_hidden}
-use Rattle.viper_types.specs.Outcome.{Found, known, then_typed}
-use Rattle.viper_types.specs.Stepping.{nested, listed, stepping, stepping_all}
-use Rattle.viper_types.specs.Target.{gathered, targets}
+use Rattle.viper_scope.specs.Outcome.{Found, known, then_typed}
+use Rattle.viper_scope.specs.Target.{listed, gathered, targets}
+use Rattle.viper_types.specs.Stepping.{nested, stepping, stepping_all}
 use Rattle.viper_types.proofs.SameTargets.{listed_targets}
-use Rattle.viper_types.proofs.Steps.{at_error, refuses_along, answers_along, failed}
+use Rattle.viper_scope.proofs.Judged.{at_error, refuses_along, answers_along, failed}
 use Rattle.viper_types.proofs.StmtLaws.{on_ok, on_ok_too, arm_count-length, hidden_twice, if_arms_refused, if_arms, loop_typed, block_typed}
 use Rattle.viper_types.proofs.statements.+statements.Goals as goal
 

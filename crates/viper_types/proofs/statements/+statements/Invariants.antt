@@ -1,9 +1,10 @@
 -- The statements or arms that are left follow those so far; what a block declares is hidden after it.
 use Rattle.std.proofs.Common.{◌≡◌, ◌+◌, ◌++◌, ◌≤◌, length, take, drop}
 use Rattle.viper_syntax.specs.View.{arms_of, stmts_of}
-use Rattle.viper_types.specs.Answers.{branches_of, context_of, frame_of, stmt_list_of}
+use Rattle.viper_scope.specs.Answers.{context_of}
+use Rattle.viper_types.specs.Answers.{branches_of, frame_of, stmt_list_of}
 use Rattle.viper_types.specs.Frame.{declared_in, declared_in_arms}
-use Rattle.viper_types.specs.Outcome.{prefixed}
+use Rattle.viper_scope.specs.Outcome.{prefixed}
 use Rattle.viper_types.specs.Stepping as s
 use Rattle.viper_types.proofs.statements.+statements.Given as goal
 

@@ -1,0 +1,9 @@
+pub mod Outcome
+pub mod Context
+pub mod Types
+pub mod Scope
+pub mod Target
+pub mod Arguments
+pub mod Clause
+pub mod Naming
+pub mod Answers

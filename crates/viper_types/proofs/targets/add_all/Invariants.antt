@@ -1,7 +1,0 @@
--- The variables that are left are added to those found so far.
-use Rattle.std.proofs.Common.{◌≡◌, drop}
-use Rattle.viper_types.specs.Target.{with_targets}
-use Rattle.viper_types.proofs.targets.add_all.Given as goal
-
-abbrev pub invariant-loop-x : goal.invariant-loop-x
-invariant-loop-x l = with_targets l.below l.found.keys (drop l.x-index l.xs) ≡ with_targets l.below l.fn.found.keys l.xs
