@@ -4,15 +4,15 @@ use Rattle.std.specs.Prelude.{fold}
 use Rattle.grammar.specs.Rules.{Starts}
 use Rattle.grammar.specs.Spells.{Derives, given, needed, taken, passed, called}
 use Rattle.vb_base.specs.declared.places.Pos.{Pos}
-use Rattle.boogie_text.specs.declared.tokens.BTok.{BTok}
-use Rattle.boogie_text.specs.declared.tokens.BToken.{BToken}
-use Rattle.boogie_text.specs.Cut.{IsCut, IsRow, end, piece, none, more, onto}
-use Rattle.boogie_text.specs.Depth.{unclosed_with, IsShallow}
-use Rattle.boogie_text.specs.Faults.{Stops}
-use Rattle.boogie_text.specs.Faults as s
-use Rattle.boogie_text.specs.Grammar.{Rule, read, rules, boogie}
-use Rattle.boogie_text.specs.Tests as v
-use Rattle.boogie_text.specs.Tests.{Kind, Value, Test, Passes}
+use Rattle.boogie_grammar.specs.declared.tokens.BTok.{BTok}
+use Rattle.boogie_grammar.specs.declared.tokens.BToken.{BToken}
+use Rattle.boogie_grammar.specs.Cut.{IsCut, IsRow, end, piece, none, more, onto}
+use Rattle.boogie_grammar.specs.Depth.{unclosed_with, IsShallow}
+use Rattle.boogie_grammar.specs.Faults.{Stops}
+use Rattle.boogie_grammar.specs.Faults as s
+use Rattle.boogie_grammar.specs.Grammar.{Rule, read, rules, boogie}
+use Rattle.boogie_grammar.specs.Tests as v
+use Rattle.boogie_grammar.specs.Tests.{Kind, Value, Test, Passes}
 use Rattle.boogie_text.proofs.CutLaws.{one_piece}
 
 pub data Alike : List BToken → List BToken → Type 0 where

@@ -8,23 +8,24 @@ use Rattle.grammar.specs.Whole.{IsSpelled}
 use Rattle.grammar.proofs.Answered as grammar
 use Rattle.grammar.proofs.Answered.{right, wrong, fg, fn, fw, fr, ft}
 use Rattle.boogie_tree.specs.Expr as t
+use Rattle.boogie_tree.specs.Values.{is_key}
 use Rattle.boogie_tree.specs.declared.exprs.BBase.{BBase}
 use Rattle.boogie_tree.specs.declared.exprs.BBase.TheVariants as base
 use Rattle.boogie_tree.specs.declared.exprs.BOp.{BOp}
 use Rattle.boogie_tree.specs.declared.exprs.BOp.TheVariants as op
-use Rattle.boogie_text.specs.declared.tokens.BSign.{BSign}
-use Rattle.boogie_text.specs.declared.tokens.BSign.TheVariants as sign
-use Rattle.boogie_text.specs.declared.tokens.BTok.{BTok}
-use Rattle.boogie_text.specs.declared.tokens.BTok.TheVariants as tok
-use Rattle.boogie_text.specs.declared.tokens.BToken.{BToken}
-use Rattle.boogie_text.specs.Words.{word_tok, word_text, base_word, operator_tok, is_reserved, is_among}
-use Rattle.boogie_text.specs.Tests as v
-use Rattle.boogie_text.specs.Tests.{Kind, Value, Test, Passes, is_key, number_of, the_sign, the_word, the_name, a_new_name, a_variable, a_number, a_real, a_label, a_base, a_key, an_operator}
-use Rattle.boogie_text.specs.Grammar as g
-use Rattle.boogie_text.specs.Grammar.{Symbol, Rule, give, need, when, read, rule, boogie, rules}
-use Rattle.boogie_text.specs.Spells.{IsProgram, GoesWrong}
+use Rattle.boogie_grammar.specs.declared.tokens.BSign.{BSign}
+use Rattle.boogie_grammar.specs.declared.tokens.BSign.TheVariants as sign
+use Rattle.boogie_grammar.specs.declared.tokens.BTok.{BTok}
+use Rattle.boogie_grammar.specs.declared.tokens.BTok.TheVariants as tok
+use Rattle.boogie_grammar.specs.declared.tokens.BToken.{BToken}
+use Rattle.boogie_grammar.specs.Words.{word_tok, word_text, base_word, operator_tok, is_reserved, is_among}
+use Rattle.boogie_grammar.specs.Tests as v
+use Rattle.boogie_grammar.specs.Tests.{Kind, Value, Test, Passes, number_of, the_sign, the_word, the_name, a_new_name, a_variable, a_number, a_real, a_label, a_base, a_key, an_operator}
+use Rattle.boogie_grammar.specs.Grammar as g
+use Rattle.boogie_grammar.specs.Grammar.{Symbol, Rule, give, need, when, read, rule, boogie, rules}
+use Rattle.boogie_grammar.specs.Spells.{IsProgram, GoesWrong}
+use Rattle.boogie_grammar.proofs.Elements.{laws, operator_at, operator_there}
 use Rattle.boogie_text.proofs.Codes.{sign_code, empty}
-use Rattle.boogie_text.proofs.Elements.{laws, operator_at, operator_there}
 use Rattle.boogie_text.proofs.Complete.{by_where, by_bound, empty_right, complete}
 
 abbrev Decided : Type 0 → Type 0

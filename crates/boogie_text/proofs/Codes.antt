@@ -5,16 +5,16 @@ use Rattle.std.specs.Str.{bytes_eq}
 use Rattle.grammar.proofs.Sets.{among}
 use Rattle.grammar.proofs.Complete.{Table}
 use Rattle.boogie_tree.specs.Stmt as s
-use Rattle.boogie_text.specs.declared.tokens.BSign.{BSign}
-use Rattle.boogie_text.specs.declared.tokens.BSign.TheVariants as sign
-use Rattle.boogie_text.specs.declared.tokens.BTok.{BTok}
-use Rattle.boogie_text.specs.declared.tokens.BTok.TheVariants as tok
-use Rattle.boogie_text.specs.declared.tokens.Word.{Word}
-use Rattle.boogie_text.specs.declared.tokens.Word.TheVariants as w
-use Rattle.boogie_text.specs.Words.{word_text, is_reserved, is_among, reserved}
-use Rattle.boogie_text.specs.Tests.{Kind, Value, Test, the_sign, the_word, the_name, a_new_name, a_variable, a_number, a_real, a_label, a_base, a_key, an_operator}
-use Rattle.boogie_text.specs.Grammar as g
-use Rattle.boogie_text.specs.Grammar.{Symbol, boogie}
+use Rattle.boogie_grammar.specs.declared.tokens.BSign.{BSign}
+use Rattle.boogie_grammar.specs.declared.tokens.BSign.TheVariants as sign
+use Rattle.boogie_grammar.specs.declared.tokens.BTok.{BTok}
+use Rattle.boogie_grammar.specs.declared.tokens.BTok.TheVariants as tok
+use Rattle.boogie_grammar.specs.declared.tokens.Word.{Word}
+use Rattle.boogie_grammar.specs.declared.tokens.Word.TheVariants as w
+use Rattle.boogie_grammar.specs.Words.{word_text, is_reserved, is_among, reserved}
+use Rattle.boogie_grammar.specs.Tests.{Kind, Value, Test, the_sign, the_word, the_name, a_new_name, a_variable, a_number, a_real, a_label, a_base, a_key, an_operator}
+use Rattle.boogie_grammar.specs.Grammar as g
+use Rattle.boogie_grammar.specs.Grammar.{Symbol, boogie}
 
 abbrev pub word_code : Word → ℕ
 word_code w.Procedure = 10

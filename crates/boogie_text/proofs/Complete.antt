@@ -1,6 +1,6 @@
 -- Every derivation is read: where a rule has alternatives, the next token tells which of them was derived.
 use Rattle.std.proofs.Common.{◌≡◌, refl, sym, subst, ◌∙◌, ℕ, Bool, true, false, not, ◌&&◌, cond, List, [], ◌∷◌, ◌++◌, Option, Some, None}
-use Rattle.std.proofs.lemmas.Bool.{eq-eqb, and_parts, both_ways}
+use Rattle.std.proofs.lemmas.Bool.{eq-eqb, both_ways}
 use Rattle.grammar.proofs.Sets.{among, within}
 use Rattle.grammar.proofs.Complete as grammar
 use Rattle.grammar.proofs.Complete.{good_give, good_need, good_when, good_read, te, tn, tw, tr}
@@ -8,22 +8,23 @@ use Rattle.grammar.specs.Spells as plain
 use Rattle.grammar.specs.Spells.{Derives}
 use Rattle.grammar.specs.Greedy.{Reads}
 use Rattle.boogie_tree.specs.Expr as t
+use Rattle.boogie_tree.specs.Values.{is_key}
 use Rattle.boogie_tree.specs.declared.exprs.BBase.{BBase}
 use Rattle.boogie_tree.specs.declared.exprs.BBase.TheVariants as base
 use Rattle.boogie_tree.specs.declared.exprs.BOp.{BOp}
 use Rattle.boogie_tree.specs.declared.exprs.BOp.TheVariants as op
-use Rattle.boogie_text.specs.declared.tokens.BSign.TheVariants as sign
-use Rattle.boogie_text.specs.declared.tokens.Word.{Word}
-use Rattle.boogie_text.specs.declared.tokens.Word.TheVariants as w
-use Rattle.boogie_text.specs.declared.tokens.BTok.{BTok}
-use Rattle.boogie_text.specs.declared.tokens.BTok.TheVariants as tok
-use Rattle.boogie_text.specs.declared.tokens.BToken.{BToken}
-use Rattle.boogie_text.specs.Words.{word_tok, word_text, base_word, operator_tok, is_reserved, is_among}
-use Rattle.boogie_text.specs.Tests as v
-use Rattle.boogie_text.specs.Tests.{Binding, Kind, Value, Test, Passes, is_key, the_sign, the_word, the_name, a_new_name, a_variable, a_number, a_real, a_label, a_base, a_key, an_operator}
-use Rattle.boogie_text.specs.Grammar as g
-use Rattle.boogie_text.specs.Grammar.{Symbol, Rule, give, need, when, read, rule, rules}
-use Rattle.boogie_text.proofs.NameLaws.{there}
+use Rattle.boogie_grammar.specs.declared.tokens.BSign.TheVariants as sign
+use Rattle.boogie_grammar.specs.declared.tokens.Word.{Word}
+use Rattle.boogie_grammar.specs.declared.tokens.Word.TheVariants as w
+use Rattle.boogie_grammar.specs.declared.tokens.BTok.{BTok}
+use Rattle.boogie_grammar.specs.declared.tokens.BTok.TheVariants as tok
+use Rattle.boogie_grammar.specs.declared.tokens.BToken.{BToken}
+use Rattle.boogie_grammar.specs.Words.{word_tok, word_text, base_word, operator_tok, is_reserved, is_among}
+use Rattle.boogie_grammar.specs.Tests as v
+use Rattle.boogie_grammar.specs.Tests.{Binding, Kind, Value, Test, Passes, the_sign, the_word, the_name, a_new_name, a_variable, a_number, a_real, a_label, a_base, a_key, an_operator}
+use Rattle.boogie_grammar.specs.Grammar as g
+use Rattle.boogie_grammar.specs.Grammar.{Symbol, Rule, give, need, when, read, rule, rules}
+use Rattle.boogie_grammar.proofs.NameLaws.{there, free_bound}
 use Rattle.boogie_text.proofs.Codes.{code, word_code, sign_code, name_code, word_is, free_code, names, keys, bases, operators, expr_starts, codes, first_codes, empty, ext_codes, table}
 
 -- the tokens that pass a test are among its codes
@@ -96,12 +97,6 @@ by_bound P [] first other h i = h
 by_bound P (q ∷ qs) first other h i = i
 
 -- the rule of an index list
-
-pub free_bound : (q : List ℕ) (locals : List (List ℕ)) → (not (is_reserved q) && not (is_among q locals)) ≡ true → (is_reserved q ≡ false) × (is_among q locals ≡ false)
-free_bound q locals h = let p = and_parts _ _ h in (from_not _ p.0, from_not _ p.1) where
-  from_not : (b : Bool) → not b ≡ true → b ≡ false
-  from_not true e = cc
-  from_not false e = refl
 
 abbrev begins : {s : Kind} → Rule s → List ℕ
 begins a = grammar.begins table a

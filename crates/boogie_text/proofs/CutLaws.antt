@@ -2,12 +2,12 @@
 use Rattle.std.proofs.Common.{◌≡◌, ◌∙◌, ℕ, List, ◌∷◌, ◌++◌, Option, Some, take, drop, length, refl, sym, ap, subst}
 use Rattle.vb_base.proofs.Fronts.{one_label}
 use Rattle.vb_base.proofs.PlaceLaws.{one_place_after}
-use Rattle.boogie_text.specs.declared.tokens.BTok.{BTok}
-use Rattle.boogie_text.specs.declared.tokens.BTok.TheVariants as tok
-use Rattle.boogie_text.specs.declared.tokens.BToken.{BToken}
-use Rattle.boogie_text.specs.Words.{sign_text}
-use Rattle.boogie_text.specs.Pieces.{Class, Piece, blank, name, number, text, comment, sign}
-use Rattle.boogie_text.specs.Cut.{IsCut, end, piece, onto}
+use Rattle.boogie_grammar.specs.declared.tokens.BTok.{BTok}
+use Rattle.boogie_grammar.specs.declared.tokens.BTok.TheVariants as tok
+use Rattle.boogie_grammar.specs.declared.tokens.BToken.{BToken}
+use Rattle.boogie_grammar.specs.Words.{sign_text}
+use Rattle.boogie_grammar.specs.Pieces.{Class, Piece, blank, name, number, text, comment, sign}
+use Rattle.boogie_grammar.specs.Cut.{IsCut, end, piece, onto}
 
 same_some : {X : Type 0} {x y : X} → Some x ≡ Some y → x ≡ y
 same_some h = cc

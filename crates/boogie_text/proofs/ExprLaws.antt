@@ -1,15 +1,15 @@
 -- The rule of an expression, by what is next.
 use Rattle.std.proofs.Common.{◌≡◌, sym, subst, List}
 use Rattle.boogie_tree.specs.Expr as t
-use Rattle.boogie_text.specs.declared.tokens.BToken.{BToken}
-use Rattle.boogie_text.specs.declared.tokens.Word.TheVariants as w
-use Rattle.boogie_text.specs.Tests as v
-use Rattle.boogie_text.specs.Tests.{the_word, a_variable, some_free}
-use Rattle.boogie_text.specs.Grammar as g
-use Rattle.boogie_text.specs.Grammar.{Rule, when, where_true}
-use Rattle.boogie_text.specs.Greedy.{Reads, Goes}
-use Rattle.boogie_text.specs.ReadView.{ReadsLeaf, NoLeaf, NoWrap}
-use Rattle.boogie_text.proofs.Steps.{goes_then}
+use Rattle.boogie_grammar.specs.declared.tokens.BToken.{BToken}
+use Rattle.boogie_grammar.specs.declared.tokens.Word.TheVariants as w
+use Rattle.boogie_grammar.specs.Tests as v
+use Rattle.boogie_grammar.specs.Tests.{the_word, a_variable, some_free}
+use Rattle.boogie_grammar.specs.Grammar as g
+use Rattle.boogie_grammar.specs.Grammar.{Rule, when, where_true}
+use Rattle.boogie_grammar.specs.Greedy.{Reads, Goes}
+use Rattle.boogie_grammar.specs.ReadView.{ReadsLeaf, NoLeaf, NoWrap}
+use Rattle.boogie_grammar.proofs.Steps.{goes_then}
 
 -- what is left of the rule behind leaves, behind the words of forms, and behind pairs
 

@@ -7,28 +7,29 @@ use Rattle.std.proofs.lemmas.Bool.{and_from, or_from}
 use Rattle.vb_base.specs.Names.{is_name, is_name_byte}
 use Rattle.grammar.specs.Spells.{Derives, given, needed, taken, passed, called}
 use Rattle.boogie_tree.specs.Expr as t
+use Rattle.boogie_tree.specs.Values.{is_key, AreKeys}
 use Rattle.boogie_tree.specs.declared.exprs.BBase.{BBase}
 use Rattle.boogie_tree.specs.declared.exprs.BBase.TheVariants as base
 use Rattle.boogie_tree.specs.declared.exprs.BOp.{BOp}
-use Rattle.boogie_text.specs.declared.tokens.BSign.{BSign}
-use Rattle.boogie_text.specs.declared.tokens.BSign.TheVariants as sign
-use Rattle.boogie_text.specs.declared.tokens.BTok.TheVariants as tok
-use Rattle.boogie_text.specs.declared.tokens.BToken.{BToken}
-use Rattle.boogie_text.specs.declared.tokens.Word.{Word}
-use Rattle.boogie_text.specs.declared.tokens.Word.TheVariants as w
-use Rattle.boogie_text.specs.Words.{word_tok, base_word, operator_tok, is_among, is_reserved}
-use Rattle.boogie_text.specs.Pieces.{max_literal, is_point_zero}
-use Rattle.boogie_text.specs.Tests as v
-use Rattle.boogie_text.specs.Tests.{Kind, Value, Test, Binding, is_key, the_sign, the_word, the_name, a_new_name, a_variable, a_number, a_real, a_key, an_operator}
-use Rattle.boogie_text.specs.Grammar as g
-use Rattle.boogie_text.specs.Grammar.{Symbol, Rule, Scope, give, need, when, read, rule, rules, boogie}
-use Rattle.boogie_text.specs.Cut.{IsRow}
-use Rattle.boogie_text.specs.Printable.{IsLiteral, AreKeys, FitsExpr, FitExprs}
-use Rattle.boogie_text.specs.Printed.{Naming, name_at, base_text, bound_name, free_number, free_name, bound_names, under, names_text, binders_text, expr_text, exprs_text}
+use Rattle.boogie_grammar.specs.declared.tokens.BSign.{BSign}
+use Rattle.boogie_grammar.specs.declared.tokens.BSign.TheVariants as sign
+use Rattle.boogie_grammar.specs.declared.tokens.BTok.TheVariants as tok
+use Rattle.boogie_grammar.specs.declared.tokens.BToken.{BToken}
+use Rattle.boogie_grammar.specs.declared.tokens.Word.{Word}
+use Rattle.boogie_grammar.specs.declared.tokens.Word.TheVariants as w
+use Rattle.boogie_grammar.specs.Words.{word_tok, base_word, operator_tok, is_among, is_reserved}
+use Rattle.boogie_grammar.specs.Pieces.{max_literal, is_point_zero}
+use Rattle.boogie_grammar.specs.Tests as v
+use Rattle.boogie_grammar.specs.Tests.{Kind, Value, Test, Binding, the_sign, the_word, the_name, a_new_name, a_variable, a_number, a_real, a_key, an_operator}
+use Rattle.boogie_grammar.specs.Grammar as g
+use Rattle.boogie_grammar.specs.Grammar.{Symbol, Rule, Scope, give, need, when, read, rule, rules, boogie}
+use Rattle.boogie_grammar.specs.Cut.{IsRow}
+use Rattle.boogie_grammar.specs.Printed.{Naming, name_at, base_text, bound_name, free_number, free_name, bound_names, under, names_text, binders_text, expr_text, exprs_text}
+use Rattle.boogie_grammar.proofs.WrittenRows.{at_start, Ends, name_row, free_row, blank_row, open_row, close_row, bracket_row, end_row, comma_row, minus_row, not_row, colon_row, bounds_row, operator_row, number_row, real_row}
+use Rattle.boogie_grammar.proofs.NamingLaws.{either}
+use Rattle.boogie_text.specs.Printable.{IsLiteral, FitsExpr, FitExprs}
 use Rattle.boogie_text.proofs.Complete.{by_where, by_bound}
-use Rattle.boogie_text.proofs.WrittenRows.{at_start, Ends, name_row, free_row, blank_row, open_row, close_row, bracket_row, end_row, comma_row, minus_row, not_row, colon_row, bounds_row, operator_row, number_row, real_row}
 use Rattle.boogie_text.proofs.FreshLaws.{free_is_new, free_form, bound_is_free, or_false_parts}
-use Rattle.boogie_text.proofs.NamingLaws.{either}
 use Rattle.boogie_text.proofs.VarLaws.{IsVar, some_is_free, head_of, tail_of}
 
 -- a text is cut into tokens that are derived from a rule, in front of anything that ends it

@@ -7,14 +7,14 @@ use Rattle.vb_base.specs.Place.{IsPlace, IsPlaceAfter}
 use Rattle.vb_base.proofs.PlaceLaws.{one_place_after, one_place}
 use Rattle.boogie_tree.specs.Program.{BProgram}
 use Rattle.boogie_tree.specs.Text.{prelude}
-use Rattle.boogie_text.specs.declared.faults.BoogieFault.{BoogieFault}
-use Rattle.boogie_text.specs.declared.faults.BoogieFault.TheVariants as fault
-use Rattle.boogie_text.specs.declared.tokens.BToken.{BToken}
-use Rattle.boogie_text.specs.Cut.{IsCut, IsRow, piece}
-use Rattle.boogie_text.specs.Depth.{IsShallow, IsTooDeep}
-use Rattle.boogie_text.specs.Spells.{BSpells, IsProgram}
-use Rattle.boogie_text.specs.Faults.{Differs, ended, other, later, Stops, place_at, IsFault, no_prelude, no_token, too_deep, no_program}
-use Rattle.boogie_text.specs.Faults as s
+use Rattle.boogie_grammar.specs.declared.faults.BoogieFault.{BoogieFault}
+use Rattle.boogie_grammar.specs.declared.faults.BoogieFault.TheVariants as fault
+use Rattle.boogie_grammar.specs.declared.tokens.BToken.{BToken}
+use Rattle.boogie_grammar.specs.Cut.{IsCut, IsRow, piece}
+use Rattle.boogie_grammar.specs.Depth.{IsShallow, IsTooDeep}
+use Rattle.boogie_grammar.specs.Spells.{BSpells, IsProgram}
+use Rattle.boogie_grammar.specs.Faults.{Differs, ended, other, later, Stops, place_at, IsFault, no_prelude, no_token, too_deep, no_program}
+use Rattle.boogie_grammar.specs.Faults as s
 use Rattle.boogie_text.proofs.CutLaws.{one_piece, one_cut}
 use Rattle.boogie_text.proofs.AlikeLaws.{one_row, row_of, never_row, derives_alike, shallow_alike}
 use Rattle.boogie_text.proofs.Parsed.{append-same_front}

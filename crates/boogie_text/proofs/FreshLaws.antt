@@ -5,9 +5,9 @@ use Rattle.std.proofs.lemmas.Slice.Eq.{bytes_eq-Decides}
 use Rattle.std.proofs.lemmas.Fmt.{decimal_injective}
 use Rattle.std.proofs.lemmas.Bool.{or_left, or_right, or_from, both_ways}
 use Rattle.vb_base.specs.Names.{is_name}
-use Rattle.boogie_text.specs.Words.{is_among, is_reserved}
-use Rattle.boogie_text.specs.Printed.{bound_name, free_number, free_name, is_q}
-use Rattle.boogie_text.proofs.WrittenRows.{bound_form}
+use Rattle.boogie_grammar.specs.Words.{is_among, is_reserved}
+use Rattle.boogie_grammar.specs.Printed.{bound_name, free_number, free_name, is_q}
+use Rattle.boogie_grammar.proofs.WrittenRows.{bound_form}
 
 same_bytes : (x y : List ℕ) → bytes_eq x y ≡ true → x ≡ y
 same_bytes x y e = (bytes_eq-Decides x y).0 e

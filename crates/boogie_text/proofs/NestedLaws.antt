@@ -7,21 +7,21 @@ use Rattle.grammar.specs.Spells.{Derives, given, needed, taken, passed, called}
 use Rattle.boogie_tree.specs.Expr as t
 use Rattle.boogie_tree.specs.Stmt as s
 use Rattle.boogie_tree.specs.Program.{Proc, BProgram}
+use Rattle.boogie_tree.specs.Nested.{expr_depth, exprs_depth, stmt_depth, stmts_depth, proc_depth, procs_depth, program_depth}
 use Rattle.boogie_tree.specs.declared.exprs.BOp.{BOp}
 use Rattle.boogie_tree.specs.declared.exprs.BOp.TheVariants as op
-use Rattle.boogie_text.specs.declared.tokens.BSign.{BSign}
-use Rattle.boogie_text.specs.declared.tokens.BSign.TheVariants as sign
-use Rattle.boogie_text.specs.declared.tokens.BTok.TheVariants as tok
-use Rattle.boogie_text.specs.declared.tokens.BToken.{BToken}
-use Rattle.boogie_text.specs.declared.tokens.Word.TheVariants as w
-use Rattle.boogie_text.specs.Words.{operator_tok, is_reserved, is_among}
-use Rattle.boogie_text.specs.Tests as v
-use Rattle.boogie_text.specs.Tests.{Kind, Value, Test, Passes, some_free}
-use Rattle.boogie_text.specs.Grammar as g
-use Rattle.boogie_text.specs.Grammar.{Symbol, Rule, give, need, when, read, boogie, rule, rules, where_true, unless_bound}
-use Rattle.boogie_text.specs.Depth.{unclosed_with, unclosed, IsShallow}
-use Rattle.boogie_text.specs.Nested.{expr_depth, exprs_depth, stmt_depth, stmts_depth, proc_depth, procs_depth, program_depth}
-use Rattle.boogie_text.specs.Spells.{Spells}
+use Rattle.boogie_grammar.specs.declared.tokens.BSign.{BSign}
+use Rattle.boogie_grammar.specs.declared.tokens.BSign.TheVariants as sign
+use Rattle.boogie_grammar.specs.declared.tokens.BTok.TheVariants as tok
+use Rattle.boogie_grammar.specs.declared.tokens.BToken.{BToken}
+use Rattle.boogie_grammar.specs.declared.tokens.Word.TheVariants as w
+use Rattle.boogie_grammar.specs.Words.{operator_tok, is_reserved, is_among}
+use Rattle.boogie_grammar.specs.Tests as v
+use Rattle.boogie_grammar.specs.Tests.{Kind, Value, Test, Passes, some_free}
+use Rattle.boogie_grammar.specs.Grammar as g
+use Rattle.boogie_grammar.specs.Grammar.{Symbol, Rule, give, need, when, read, boogie, rule, rules, where_true, unless_bound}
+use Rattle.boogie_grammar.specs.Depth.{unclosed_with, unclosed, IsShallow}
+use Rattle.boogie_grammar.specs.Spells.{Spells}
 
 -- ---- tokens
 

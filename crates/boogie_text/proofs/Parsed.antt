@@ -3,13 +3,13 @@ use Rattle.std.proofs.Common.{◌≡◌, ◌∙◌, ℕ, List, ◌∷◌, [], �
 use Rattle.grammar.proofs.Reading.{one_reading}
 use Rattle.boogie_tree.specs.Program.{BProgram}
 use Rattle.boogie_tree.specs.Text.{prelude}
-use Rattle.boogie_text.specs.declared.tokens.BToken.{BToken}
-use Rattle.boogie_text.specs.Cut.{IsRow}
-use Rattle.boogie_text.specs.Grammar as g
-use Rattle.boogie_text.specs.Grammar.{rules}
-use Rattle.boogie_text.specs.Spells.{Spells, BSpells}
+use Rattle.boogie_grammar.specs.declared.tokens.BToken.{BToken}
+use Rattle.boogie_grammar.specs.Cut.{IsRow}
+use Rattle.boogie_grammar.specs.Grammar as g
+use Rattle.boogie_grammar.specs.Grammar.{rules}
+use Rattle.boogie_grammar.specs.Spells.{Spells, BSpells}
+use Rattle.boogie_grammar.proofs.Elements.{laws}
 use Rattle.boogie_text.proofs.AlikeLaws.{one_row, derives_alike}
-use Rattle.boogie_text.proofs.Elements.{laws}
 use Rattle.boogie_text.proofs.Complete.{complete}
 
 program_is : (p q : BProgram) → p.procs ≡ q.procs → p ≡ q

@@ -2,8 +2,8 @@
 use Rattle.std.proofs.Common.{◌≡◌, ◌<◌, ◌≤◌, refl, sym, ap, arith, ℕ, zero, suc, List, [], ◌∷◌, length, get_or}
 use Rattle.boogie_tree.specs.declared.programs.Local.{Local}
 use Rattle.boogie_tree.specs.Whole.{locals_of}
-use Rattle.boogie_text.specs.Grammar.{local_names}
-use Rattle.boogie_text.specs.Printed.{name_at}
+use Rattle.boogie_grammar.specs.Grammar.{local_names}
+use Rattle.boogie_grammar.specs.Printed.{name_at}
 
 pub name_there : (ls : List Local) (i : ℕ) (l : Local) → i < length ls → l ≡ get_or ls i l → name_at (local_names (locals_of ls)) i ≡ l.name
 name_there [] i l lt e = absurd (omega (arith, lt))

@@ -6,7 +6,7 @@ use Rattle.boogie_tree.specs.Program as p
 use Rattle.boogie_tree.specs.Whole.{stmt_of, stmts_of}
 use Rattle.boogie_tree.specs.declared.stmts.BStmt.{BStmt}
 use Rattle.boogie_tree.proofs.WholeLaws.{stmts_of-map}
-use Rattle.boogie_text.specs.Grammar.{proc_names}
+use Rattle.boogie_grammar.specs.Grammar.{proc_names}
 
 pub procedure_is : (x : List ℕ) (ls : List p.Local) (ss : List BStmt) →
     (let d : p.Proc = record { name = x; locals = ls; body = stmts_of ss } in d) ≡ record { name = x; locals = ls; body = s.stmts (map stmt_of ss) }

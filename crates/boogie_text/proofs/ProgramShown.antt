@@ -10,22 +10,23 @@ use Rattle.grammar.specs.Spells.{Derives, given, needed, taken, passed, called}
 use Rattle.boogie_tree.specs.Expr as t
 use Rattle.boogie_tree.specs.Stmt as s
 use Rattle.boogie_tree.specs.Program.{Local, Proc, BProgram}
+use Rattle.boogie_tree.specs.Values.{is_key, AreKeys}
 use Rattle.boogie_tree.specs.declared.exprs.BBase.{BBase}
-use Rattle.boogie_text.specs.declared.tokens.BSign.TheVariants as sign
-use Rattle.boogie_text.specs.declared.tokens.BTok.TheVariants as tok
-use Rattle.boogie_text.specs.declared.tokens.BToken.{BToken}
-use Rattle.boogie_text.specs.declared.tokens.Word.TheVariants as w
-use Rattle.boogie_text.specs.Words.{word_tok, base_word, is_among}
-use Rattle.boogie_text.specs.Tests as v
-use Rattle.boogie_text.specs.Tests.{Kind, Value, is_key, a_new_name, a_variable, a_label, a_base, a_key, some_free}
-use Rattle.boogie_text.specs.Grammar as g
-use Rattle.boogie_text.specs.Grammar.{Rule, give, need, when, read, rule, rules, local_names, proc_names}
-use Rattle.boogie_text.specs.Cut.{IsRow}
-use Rattle.boogie_text.specs.Cut as cut
-use Rattle.boogie_text.specs.Printable.{IsFreeName, AreKeys, FitsStmt, FitStmts, FitsLocal, FitsProc, IsPrintable}
-use Rattle.boogie_text.specs.Printed.{naming, name_at, is_q, base_text, expr_text, exprs_text, stmt_text, stmts_text, bases_text, type_text, locals_text, proc_text, procs_text, program_text}
-use Rattle.boogie_text.specs.Spells.{BSpells}
-use Rattle.boogie_text.proofs.WrittenRows.{at_start, Ends, name_row, free_row, blank_row, line_row, open_row, close_row, bracket_row, end_row, begin_row, finish_row, comma_row, semicolon_row, star_row, colon_row, mark_row, assign_row, text_row}
+use Rattle.boogie_grammar.specs.declared.tokens.BSign.TheVariants as sign
+use Rattle.boogie_grammar.specs.declared.tokens.BTok.TheVariants as tok
+use Rattle.boogie_grammar.specs.declared.tokens.BToken.{BToken}
+use Rattle.boogie_grammar.specs.declared.tokens.Word.TheVariants as w
+use Rattle.boogie_grammar.specs.Words.{word_tok, base_word, is_among}
+use Rattle.boogie_grammar.specs.Tests as v
+use Rattle.boogie_grammar.specs.Tests.{Kind, Value, a_new_name, a_variable, a_label, a_base, a_key, some_free}
+use Rattle.boogie_grammar.specs.Grammar as g
+use Rattle.boogie_grammar.specs.Grammar.{Rule, give, need, when, read, rule, rules, local_names, proc_names}
+use Rattle.boogie_grammar.specs.Cut.{IsRow}
+use Rattle.boogie_grammar.specs.Cut as cut
+use Rattle.boogie_grammar.specs.Printed.{naming, name_at, is_q, base_text, expr_text, exprs_text, stmt_text, stmts_text, bases_text, type_text, locals_text, proc_text, procs_text, program_text}
+use Rattle.boogie_grammar.specs.Spells.{BSpells}
+use Rattle.boogie_grammar.proofs.WrittenRows.{at_start, Ends, name_row, free_row, blank_row, line_row, open_row, close_row, bracket_row, end_row, begin_row, finish_row, comma_row, semicolon_row, star_row, colon_row, mark_row, assign_row, text_row}
+use Rattle.boogie_text.specs.Printable.{IsFreeName, FitsStmt, FitStmts, FitsLocal, FitsProc, IsPrintable}
 use Rattle.boogie_text.proofs.FreshLaws.{avoided}
 use Rattle.boogie_text.proofs.VarLaws.{IsVar, some_is_free, var_at, new_after, head_of, tail_of}
 use Rattle.boogie_text.proofs.ExprShown.{Shown, Listed, Ready, Short, Shorts, sign_first, sign_taken, word_first, word_taken, tail_derives, where_yes, ends, value_at, list_of, list_exprs, base_row, expr_shown, listed_shown, all_cons, all_none}

@@ -8,14 +8,14 @@ use Rattle.boogie_tree.specs.Program as p
 use Rattle.boogie_tree.specs.Text.{prelude}
 use Rattle.boogie_tree.specs.Whole.{program_of}
 use Rattle.boogie_tree.specs.declared.programs.BProgram.{BProgram}
-use Rattle.boogie_text.specs.declared.faults.BoogieFault.{BoogieFault}
-use Rattle.boogie_text.specs.declared.faults.BoogieFault.TheVariants as fault
-use Rattle.boogie_text.specs.declared.tokens.BToken.{BToken}
-use Rattle.boogie_text.specs.Cut.{IsCut}
-use Rattle.boogie_text.specs.Depth.{IsShallow}
-use Rattle.boogie_text.specs.Faults.{IsFault, no_token, no_program}
-use Rattle.boogie_text.specs.Spells.{Spells, BSpells}
-use Rattle.boogie_text.specs.Step.{CutFails}
+use Rattle.boogie_grammar.specs.declared.faults.BoogieFault.{BoogieFault}
+use Rattle.boogie_grammar.specs.declared.faults.BoogieFault.TheVariants as fault
+use Rattle.boogie_grammar.specs.declared.tokens.BToken.{BToken}
+use Rattle.boogie_grammar.specs.Cut.{IsCut}
+use Rattle.boogie_grammar.specs.Depth.{IsShallow}
+use Rattle.boogie_grammar.specs.Faults.{IsFault, no_token, no_program}
+use Rattle.boogie_grammar.specs.Spells.{Spells, BSpells}
+use Rattle.boogie_grammar.specs.Step.{CutFails}
 use Rattle.boogie_text.specs.Whole.{RefusesTokens, ReadsProgram}
 use Rattle.boogie_text.specs.Answers.{IsRead, UnlessMemory, GivesProgram, GivesFault}
 use Rattle.boogie_text.proofs.AlikeLaws.{row_of}

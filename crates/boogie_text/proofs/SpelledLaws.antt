@@ -17,22 +17,23 @@ use Rattle.vb_base.specs.Rows.{front}
 use Rattle.boogie_tree.specs.Expr as t
 use Rattle.boogie_tree.specs.Stmt as s
 use Rattle.boogie_tree.specs.Program.{Local, Proc, BProgram}
+use Rattle.boogie_tree.specs.Values.{is_key, AreKeys}
 use Rattle.boogie_tree.specs.declared.exprs.BBase.{BBase}
-use Rattle.boogie_text.specs.declared.tokens.BTok.{BTok}
-use Rattle.boogie_text.specs.declared.tokens.BTok.TheVariants as tok
-use Rattle.boogie_text.specs.declared.tokens.BToken.{BToken}
-use Rattle.boogie_text.specs.declared.tokens.Word.TheVariants as word
-use Rattle.boogie_text.specs.Words.{is_among, is_reserved}
-use Rattle.boogie_text.specs.Pieces as p
-use Rattle.boogie_text.specs.Pieces.{Piece, Class, Blank, Letter, Digit, Quote, Other, class_of, is_blank, max_literal, literal}
-use Rattle.boogie_text.specs.Cut as cut
-use Rattle.boogie_text.specs.Cut.{onto, IsRow}
-use Rattle.boogie_text.specs.Tests as v
-use Rattle.boogie_text.specs.Tests.{Kind, Value, Test, Passes, IsVariable, number_of, some_free, is_key}
-use Rattle.boogie_text.specs.Grammar as g
-use Rattle.boogie_text.specs.Grammar.{Symbol, Rule, give, need, when, read, rule, rules, local_names, proc_names}
-use Rattle.boogie_text.specs.Printable.{IsLiteral, AreKeys, FitsExpr, FitExprs, FitsStmt, FitStmts, FitsLocal, FitsProc, IsPrintable}
-use Rattle.boogie_text.specs.Spells.{BSpells}
+use Rattle.boogie_grammar.specs.declared.tokens.BTok.{BTok}
+use Rattle.boogie_grammar.specs.declared.tokens.BTok.TheVariants as tok
+use Rattle.boogie_grammar.specs.declared.tokens.BToken.{BToken}
+use Rattle.boogie_grammar.specs.declared.tokens.Word.TheVariants as word
+use Rattle.boogie_grammar.specs.Words.{is_among, is_reserved}
+use Rattle.boogie_grammar.specs.Pieces as p
+use Rattle.boogie_grammar.specs.Pieces.{Piece, Class, Blank, Letter, Digit, Quote, Other, class_of, is_blank, max_literal, literal}
+use Rattle.boogie_grammar.specs.Cut as cut
+use Rattle.boogie_grammar.specs.Cut.{onto, IsRow}
+use Rattle.boogie_grammar.specs.Tests as v
+use Rattle.boogie_grammar.specs.Tests.{Kind, Value, Test, Passes, IsVariable, number_of, some_free}
+use Rattle.boogie_grammar.specs.Grammar as g
+use Rattle.boogie_grammar.specs.Grammar.{Symbol, Rule, give, need, when, read, rule, rules, local_names, proc_names}
+use Rattle.boogie_grammar.specs.Spells.{BSpells}
+use Rattle.boogie_text.specs.Printable.{IsLiteral, FitsExpr, FitExprs, FitsStmt, FitStmts, FitsLocal, FitsProc, IsPrintable}
 use Rattle.boogie_text.proofs.Complete.{by_where}
 
 and_true : (a b : Truth) → a ≡ true → b ≡ true → (a && b) ≡ true

@@ -8,19 +8,19 @@ use Rattle.boogie_tree.specs.Whole.{expr_of, stmt_of}
 use Rattle.boogie_tree.specs.declared.exprs.BExpr.{BExpr}
 use Rattle.boogie_tree.specs.declared.stmts.BStmt as stmt
 use Rattle.boogie_tree.proofs.WholeLaws.{exprs_of-map}
-use Rattle.boogie_text.specs.declared.tokens.BTok.{BTok}
-use Rattle.boogie_text.specs.declared.tokens.BSign.TheVariants as sign
-use Rattle.boogie_text.specs.declared.tokens.BToken.{BToken}
-use Rattle.boogie_text.specs.declared.tokens.Word.TheVariants as w
-use Rattle.boogie_text.specs.Words.{word_tok}
-use Rattle.boogie_text.specs.Tests as v
-use Rattle.boogie_text.specs.Tests.{Kind, Value, some_free, the_word, a_variable}
-use Rattle.boogie_text.specs.Grammar as g
-use Rattle.boogie_text.specs.Grammar.{Rule, when, give, after_sign, where_true}
-use Rattle.boogie_text.specs.Greedy.{Starts, IsNot, Reads, Goes, Fails}
-use Rattle.boogie_text.specs.ReadView.{ReadsVariable, NoVariable}
+use Rattle.boogie_grammar.specs.declared.tokens.BTok.{BTok}
+use Rattle.boogie_grammar.specs.declared.tokens.BSign.TheVariants as sign
+use Rattle.boogie_grammar.specs.declared.tokens.BToken.{BToken}
+use Rattle.boogie_grammar.specs.declared.tokens.Word.TheVariants as w
+use Rattle.boogie_grammar.specs.Words.{word_tok}
+use Rattle.boogie_grammar.specs.Tests as v
+use Rattle.boogie_grammar.specs.Tests.{Kind, Value, some_free, the_word, a_variable}
+use Rattle.boogie_grammar.specs.Grammar as g
+use Rattle.boogie_grammar.specs.Grammar.{Rule, when, give, after_sign, where_true}
+use Rattle.boogie_grammar.specs.Greedy.{Starts, IsNot, Reads, Goes, Fails}
+use Rattle.boogie_grammar.specs.ReadView.{ReadsVariable, NoVariable}
+use Rattle.boogie_grammar.proofs.Reading.{start, by_need, by_token, by_other, fails_taken, fails_here}
 use Rattle.boogie_text.specs.StmtView.{changing, storing}
-use Rattle.boogie_text.proofs.Reading.{start, by_need, by_token, by_other, fails_taken, fails_here}
 
 -- what was built
 

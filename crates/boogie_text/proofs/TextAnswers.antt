@@ -15,23 +15,23 @@ use Rattle.vb_base.specs.Rows.{front, behind}
 use Rattle.vb_base.proofs.PlaceLaws.{line_after-le, col_after-le}
 use Rattle.boogie_tree.specs.Program.{BProgram}
 use Rattle.boogie_tree.specs.Text.{prelude}
-use Rattle.boogie_text.specs.declared.faults.BoogieFault.{BoogieFault}
-use Rattle.boogie_text.specs.declared.tokens.BSign.{BSign}
-use Rattle.boogie_text.specs.declared.tokens.BTok.{BTok}
-use Rattle.boogie_text.specs.declared.tokens.BToken.{BToken}
-use Rattle.boogie_text.specs.Pieces as p
-use Rattle.boogie_text.specs.Pieces.{Class, Blank, Letter, Digit, Quote, Other, Piece, class_of, is_blank, is_unquoted, digits, max_literal, sign_at}
-use Rattle.boogie_text.specs.Cut.{IsCut, end, piece, onto}
-use Rattle.boogie_text.specs.Depth.{IsShallow, IsTooDeep, unclosed}
-use Rattle.boogie_text.specs.Spells.{IsProgram, GoesWrong}
-use Rattle.boogie_text.specs.Faults.{Differs, ended, other, later, Stops, place_at, IsFault, no_prelude, no_token, too_deep, no_program}
-use Rattle.boogie_text.specs.Faults as s
+use Rattle.boogie_grammar.specs.declared.faults.BoogieFault.{BoogieFault}
+use Rattle.boogie_grammar.specs.declared.tokens.BSign.{BSign}
+use Rattle.boogie_grammar.specs.declared.tokens.BTok.{BTok}
+use Rattle.boogie_grammar.specs.declared.tokens.BToken.{BToken}
+use Rattle.boogie_grammar.specs.Pieces as p
+use Rattle.boogie_grammar.specs.Pieces.{Class, Blank, Letter, Digit, Quote, Other, Piece, class_of, is_blank, is_unquoted, digits, max_literal, sign_at}
+use Rattle.boogie_grammar.specs.Cut.{IsCut, end, piece, onto}
+use Rattle.boogie_grammar.specs.Depth.{IsShallow, IsTooDeep, unclosed}
+use Rattle.boogie_grammar.specs.Spells.{IsProgram, GoesWrong}
+use Rattle.boogie_grammar.specs.Faults.{Differs, ended, other, later, Stops, place_at, IsFault, no_prelude, no_token, too_deep, no_program}
+use Rattle.boogie_grammar.specs.Faults as s
+use Rattle.boogie_grammar.proofs.DepthLaws.{one_more_front, shallow_from_fronts}
+use Rattle.boogie_grammar.proofs.LexLaws.{piece_some}
+use Rattle.boogie_grammar.proofs.PieceLaws.{comment_piece, no_sign}
 use Rattle.boogie_text.specs.Answers.{IsRead}
 use Rattle.boogie_text.proofs.Answered.{some_answer}
-use Rattle.boogie_text.proofs.DepthLaws.{one_more_front, shallow_from_fronts}
 use Rattle.boogie_text.proofs.LabelAnswers.{label_or_not}
-use Rattle.boogie_text.proofs.LexLaws.{piece_some}
-use Rattle.boogie_text.proofs.PieceLaws.{comment_piece, no_sign}
 use Rattle.boogie_text.proofs.ReadLaws.{is_read}
 
 -- a piece begins here, or none

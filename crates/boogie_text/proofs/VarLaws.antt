@@ -1,16 +1,16 @@
 -- The names of the locals of a program that can be printed, as the grammar asks for them.
-use Rattle.std.proofs.Common.{◌≡◌, ◌∙◌, refl, sym, ap, subst, arith, ℕ, zero, suc, ◌<◌, Bool, true, false, not, ◌||◌, List, [], ◌∷◌, ◌++◌, Some, length}
+use Rattle.std.proofs.Common.{◌≡◌, ◌∙◌, refl, sym, ap, subst, arith, ℕ, zero, suc, ◌<◌, Bool, true, false, List, [], ◌∷◌, ◌++◌, Some, length}
 use Rattle.std.specs.Prelude.{All, slice_index_or}
 use Rattle.std.specs.Option.{option_map}
 use Rattle.std.specs.Str.{bytes_eq}
 use Rattle.std.proofs.lemmas.Slice.Eq.{bytes_eq-Decides}
-use Rattle.std.proofs.lemmas.Bool.{or_left, or_right, or_from, cond-true, cond-false}
+use Rattle.std.proofs.lemmas.Bool.{or_from, cond-true, cond-false}
 use Rattle.vb_base.specs.Names.{is_name, NamesDiffer}
-use Rattle.boogie_text.specs.Words.{is_among, is_reserved}
-use Rattle.boogie_text.specs.Tests.{number_of, some_free}
+use Rattle.boogie_grammar.specs.Words.{is_among, is_reserved}
+use Rattle.boogie_grammar.specs.Tests.{number_of, some_free}
+use Rattle.boogie_grammar.specs.Printed.{name_at}
+use Rattle.boogie_grammar.proofs.NameLaws.{there, free_among}
 use Rattle.boogie_text.specs.Printable.{IsFreeName}
-use Rattle.boogie_text.specs.Printed.{name_at}
-use Rattle.boogie_text.proofs.NameLaws.{there}
 
 -- a local that can be named
 pub record IsVar (names : List (List ℕ)) (i : ℕ) : Type 0 where
@@ -59,19 +59,6 @@ var_at names free differ i lt =
     record { form = f.form; free = f.free; there = numbered names i differ lt }
 
 -- where some local can be named, one is free
-
-free_among_at : (x y : List ℕ) (b c : Bool) (some : Bool) → is_reserved x ≡ false → bytes_eq x y ≡ b → (b || c) ≡ true → (c ≡ true → some ≡ true) → (not (is_reserved y) || some) ≡ true
-free_among_at x y true c some free e h rest =
-    or_left (not (is_reserved y)) some (ap not (subst (λ z. is_reserved z ≡ false) ((bytes_eq-Decides x y).0 e) free))
-free_among_at x y false c some free e h rest = or_right (not (is_reserved y)) some (rest h)
-
-free_among : (x : List ℕ) (names : List (List ℕ)) → is_reserved x ≡ false → is_among x names ≡ true → some_free names ≡ true
-free_among x [] free h = absurd (cc)
-free_among x (y ∷ ys) free h = free_among_at x y (bytes_eq x y) (is_among x ys) (some_free ys) free refl h (free_among x ys free)
-
--- where a name that is not reserved has a number, some name is free
-pub numbered_is_free : (x : List ℕ) (names : List (List ℕ)) (i : ℕ) → is_reserved x ≡ false → number_of x names ≡ Some i → some_free names ≡ true
-numbered_is_free x names i free h = free_among x names free (there x names i h)
 
 pub some_is_free : {names : List (List ℕ)} {i : ℕ} → IsVar names i → some_free names ≡ true
 some_is_free {names = names} {i = i} h = free_among (name_at names i) names h.free (there (name_at names i) names i h.there)

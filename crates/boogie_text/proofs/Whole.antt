@@ -13,17 +13,17 @@ use Rattle.grammar.proofs.Whole as grammar
 use Rattle.grammar.proofs.Whole.{split, count}
 use Rattle.boogie_tree.specs.Program.{Proc}
 use Rattle.boogie_tree.specs.declared.programs.Proc as d
-use Rattle.boogie_text.specs.declared.tokens.BToken.{BToken}
-use Rattle.boogie_text.specs.Tests as v
-use Rattle.boogie_text.specs.Grammar as g
-use Rattle.boogie_text.specs.Grammar.{rule, rules}
-use Rattle.boogie_text.specs.Greedy.{Reads, Refuses}
-use Rattle.boogie_text.specs.Spells.{Spells, IsProgram}
-use Rattle.boogie_text.specs.Faults.{place_at}
-use Rattle.boogie_text.specs.Whole.{FailsWhole, RefusesWhole, ReadsWhole, RefusesTokens, fault_of}
-use Rattle.boogie_text.proofs.Elements.{laws}
+use Rattle.boogie_grammar.specs.declared.tokens.BToken.{BToken}
+use Rattle.boogie_grammar.specs.Tests as v
+use Rattle.boogie_grammar.specs.Grammar as g
+use Rattle.boogie_grammar.specs.Grammar.{rule, rules}
+use Rattle.boogie_grammar.specs.Greedy.{Reads, Refuses}
+use Rattle.boogie_grammar.specs.Spells.{Spells, IsProgram}
+use Rattle.boogie_grammar.specs.Faults.{place_at, fault_of}
+use Rattle.boogie_grammar.proofs.Elements.{laws}
+use Rattle.boogie_grammar.proofs.Reading.{start}
+use Rattle.boogie_text.specs.Whole.{FailsWhole, RefusesWhole, ReadsWhole, RefusesTokens}
 use Rattle.boogie_text.proofs.Complete.{complete}
-use Rattle.boogie_text.proofs.Reading.{start}
 
 pub whole_error : (ts : List BToken) (w : Stop BToken) (res : Result (Vec d.Proc Global) (Stop BToken)) → IsErrAnd res (λ x. x ≡ w) → Refuses (rule (g.Program [])) ts w → ReadsWhole ts res
 whole_error ts w res e h =

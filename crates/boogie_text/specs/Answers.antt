@@ -3,10 +3,10 @@ use Rattle.std.specs.Prelude.{◌≡◌, ◌⊎◌, ℕ, List, Result, Ok, Err}
 use Rattle.boogie_tree.specs.Program as p
 use Rattle.boogie_tree.specs.Whole.{program_of}
 use Rattle.boogie_tree.specs.declared.programs.BProgram.{BProgram}
-use Rattle.boogie_text.specs.declared.faults.BoogieFault.{BoogieFault}
-use Rattle.boogie_text.specs.declared.faults.BoogieFault.TheVariants as fault
-use Rattle.boogie_text.specs.Depth.{IsShallow}
-use Rattle.boogie_text.specs.Spells.{BSpells}
+use Rattle.boogie_grammar.specs.declared.faults.BoogieFault.{BoogieFault}
+use Rattle.boogie_grammar.specs.declared.faults.BoogieFault.TheVariants as fault
+use Rattle.boogie_grammar.specs.Depth.{IsShallow}
+use Rattle.boogie_grammar.specs.Spells.{BSpells}
 
 -- the bytes spell the program, and never are more than 2,048 of its brackets unclosed
 pub record IsRead (bytes : List ℕ) (program : p.BProgram) : Type 0 where

@@ -6,11 +6,10 @@ use Rattle.vb_base.specs.Names.{is_name, NamesDiffer}
 use Rattle.boogie_tree.specs.Expr as t
 use Rattle.boogie_tree.specs.Stmt as s
 use Rattle.boogie_tree.specs.Program.{Local, Proc, BProgram}
-use Rattle.boogie_tree.specs.declared.exprs.BBase.{BBase}
-use Rattle.boogie_text.specs.Words.{is_reserved}
-use Rattle.boogie_text.specs.Pieces.{max_literal}
-use Rattle.boogie_text.specs.Tests.{is_key}
-use Rattle.boogie_text.specs.Grammar.{local_names, proc_names}
+use Rattle.boogie_tree.specs.Values.{AreKeys}
+use Rattle.boogie_grammar.specs.Words.{is_reserved}
+use Rattle.boogie_grammar.specs.Pieces.{max_literal}
+use Rattle.boogie_grammar.specs.Grammar.{local_names, proc_names}
 
 -- a number from 0 to the greatest literal
 pub record IsLiteral (n : ℤ) : Type 0 where
@@ -22,9 +21,6 @@ pub record IsLiteral (n : ℤ) : Type 0 where
 pub record IsFreeName (name : List ℕ) : Type 0 where
   pub form : is_name name ≡ true
   pub free : is_reserved name ≡ false
-
-abbrev pub AreKeys : List BBase → Type 0
-AreKeys us = All (λ u. is_key u ≡ true) us
 
 -- with n locals, and inside a `forall` or not
 abbrev mutual

@@ -9,14 +9,14 @@ use Rattle.boogie_tree.specs.Program as p
 use Rattle.boogie_tree.specs.Whole.{stmt_of, stmts_of, proc_of}
 use Rattle.boogie_tree.specs.declared.programs.Proc as declared
 use Rattle.boogie_tree.specs.declared.stmts.BStmt.{BStmt}
-use Rattle.boogie_text.specs.declared.tokens.BSign.TheVariants as sign
-use Rattle.boogie_text.specs.declared.tokens.BToken.{BToken}
-use Rattle.boogie_text.specs.declared.tokens.Word.TheVariants as w
-use Rattle.boogie_text.specs.Tests as v
-use Rattle.boogie_text.specs.Tests.{some_free, a_variable, a_label}
-use Rattle.boogie_text.specs.Greedy.{Goes, Refuses}
-use Rattle.boogie_text.specs.Grammar as g
-use Rattle.boogie_text.specs.Grammar.{Rule, give, need, when, read, after_sign, after_word, where_true}
+use Rattle.boogie_grammar.specs.declared.tokens.BSign.TheVariants as sign
+use Rattle.boogie_grammar.specs.declared.tokens.BToken.{BToken}
+use Rattle.boogie_grammar.specs.declared.tokens.Word.TheVariants as w
+use Rattle.boogie_grammar.specs.Tests as v
+use Rattle.boogie_grammar.specs.Tests.{some_free, a_variable, a_label}
+use Rattle.boogie_grammar.specs.Greedy.{Goes, Refuses}
+use Rattle.boogie_grammar.specs.Grammar as g
+use Rattle.boogie_grammar.specs.Grammar.{Rule, give, need, when, read, after_sign, after_word, where_true}
 
 -- the scope of what stands in no `forall`
 abbrev pub no_bound : List (List ℕ) → g.Scope

@@ -1,22 +1,21 @@
 -- What the functions answer that read a program from its tokens: the greedy reading up to the end of the tokens.
-use Rattle.std.specs.Prelude.{◌≡◌, ℕ, zero, List, [], Result, Ok, Err}
+use Rattle.std.specs.Prelude.{◌≡◌, ℕ, List, [], Result, Ok, Err}
 use Rattle.std.specs.declared.alloc.Global.{Global}
 use Rattle.std.specs.declared.vec.Vec.{Vec}
 use Rattle.vb_base.specs.declared.places.Pos.{Pos}
 use Rattle.vb_base.specs.Place.{IsPlace}
 use Rattle.grammar.specs.Whole as grammar
 use Rattle.grammar.specs.declared.stop.Stop.{Stop}
-use Rattle.grammar.specs.declared.stop.Stop.TheVariants as stop
 use Rattle.boogie_tree.specs.Whole.{program_of}
 use Rattle.boogie_tree.specs.declared.programs.BProgram.{BProgram}
 use Rattle.boogie_tree.specs.declared.programs.Proc.{Proc}
-use Rattle.boogie_text.specs.declared.faults.BoogieFault.{BoogieFault}
-use Rattle.boogie_text.specs.declared.faults.BoogieFault.TheVariants as fault
-use Rattle.boogie_text.specs.declared.tokens.BToken.{BToken}
-use Rattle.boogie_text.specs.Faults.{place_at}
-use Rattle.boogie_text.specs.Grammar.{rule, rules, Program}
-use Rattle.boogie_text.specs.Greedy.{Reads}
-use Rattle.boogie_text.specs.Spells.{Spells, IsProgram}
+use Rattle.boogie_grammar.specs.declared.faults.BoogieFault.{BoogieFault}
+use Rattle.boogie_grammar.specs.declared.faults.BoogieFault.TheVariants as fault
+use Rattle.boogie_grammar.specs.declared.tokens.BToken.{BToken}
+use Rattle.boogie_grammar.specs.Faults.{place_at}
+use Rattle.boogie_grammar.specs.Grammar.{rule, rules, Program}
+use Rattle.boogie_grammar.specs.Greedy.{Reads}
+use Rattle.boogie_grammar.specs.Spells.{Spells, IsProgram}
 use Rattle.boogie_text.specs.StmtView.{all_procs_of}
 
 -- just in front of r a program goes wrong
@@ -29,11 +28,6 @@ RefusesWhole ts e = grammar.RefusesWhole rules (rule (Program [])) ts e
 abbrev pub ReadsWhole : List BToken → Result (Vec Proc Global) (Stop BToken) → Type 0
 ReadsWhole ts (Ok ps) = Reads _ (rule (Program [])) ts (all_procs_of ps) []
 ReadsWhole ts (Err e) = RefusesWhole ts e
-
--- the fault that a stop is
-abbrev pub fault_of : Stop BToken → Pos → BoogieFault
-fault_of stop.Memory end = fault.Memory
-fault_of (stop.Before r) end = fault.Syntax (place_at r.now zero end)
 
 -- memory was refused, or the tokens spell no program, and go wrong at this place
 abbrev pub RefusesTokens : List BToken → Pos → BoogieFault → Type 0

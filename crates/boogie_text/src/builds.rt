@@ -2,9 +2,9 @@
 ghost use Rattle.std.specs.Prelude.{◌≡◌, IfOk};
 ghost use Rattle.boogie_tree.specs.Expr as t;
 ghost use Rattle.boogie_tree.specs.Whole.{expr_of};
-ghost use Rattle.boogie_text.specs.ReadView.{boxed_of, all_exprs_of, wrap_of};
+ghost use Rattle.boogie_grammar.specs.ReadView.{boxed_of, all_exprs_of, wrap_of};
 
-use crate::leaves::Wrap;
+use boogie_grammar::leaves::Wrap;
 use boogie_tree::BExpr;
 use std::alloc::Global;
 use vb_base::{Memory, boxed};

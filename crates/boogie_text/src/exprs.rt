@@ -1,16 +1,16 @@
 // Expressions.
 ghost use Rattle.std.specs.Prelude.{◌≡◌, ◌<◌, ◌≤◌, [], length, IfOk};
-ghost use Rattle.boogie_text.specs.Grammar as g;
-ghost use Rattle.boogie_text.specs.Greedy.{Parses};
-ghost use Rattle.boogie_text.specs.ReadView.{scope_of, boxed_of, all_exprs_of, wrap_of, closing, chosen, quantifying};
+ghost use Rattle.boogie_grammar.specs.Grammar as g;
+ghost use Rattle.boogie_grammar.specs.Greedy.{Parses};
+ghost use Rattle.boogie_grammar.specs.ReadView.{scope_of, boxed_of, all_exprs_of, wrap_of, closing, chosen, quantifying};
 
-use crate::bounds::{binders, bound_rest, eat_bound, eat_forall};
+use crate::bounds::{binders, bound_rest, eat_bound};
 use crate::builds::{at, wrap};
-use crate::eating::{Read, eat_sign, eat_word, operator, sign, word};
-use crate::leaves::{Wrap, eat_leaf, eat_variable, eat_wrap};
-use crate::scopes::{Names, Scope};
 use crate::types::pushed;
-use crate::{BSign, BToken, Word};
+use boogie_grammar::eating::{Read, eat_sign, eat_word, operator, sign, word};
+use boogie_grammar::leaves::{Wrap, eat_forall, eat_leaf, eat_variable, eat_wrap};
+use boogie_grammar::scopes::{Names, Scope};
+use boogie_grammar::{BSign, BToken, Word};
 use boogie_tree::BExpr;
 use std::alloc::Global;
 use vb_base::boxed;

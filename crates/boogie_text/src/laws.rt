@@ -2,14 +2,14 @@
 ghost use Rattle.std.specs.Prelude.{◌≡◌, ◌≤◌, ◌⊎◌, List, ℕ, length, take};
 ghost use Rattle.vb_base.specs.Place.{IsPlace};
 ghost use Rattle.boogie_tree.specs.Program as p;
-ghost use Rattle.boogie_text.specs.declared.tokens.BToken.{BToken};
-ghost use Rattle.boogie_text.specs.declared.faults.BoogieFault.{BoogieFault};
+ghost use Rattle.boogie_tree.specs.Nested.{program_depth};
+ghost use Rattle.boogie_grammar.specs.declared.tokens.BToken.{BToken};
+ghost use Rattle.boogie_grammar.specs.declared.faults.BoogieFault.{BoogieFault};
+ghost use Rattle.boogie_grammar.specs.Depth.{IsShallow, unclosed};
+ghost use Rattle.boogie_grammar.specs.Faults.{IsFault};
+ghost use Rattle.boogie_grammar.specs.Spells.{Spells, BSpells, IsProgram, GoesWrong};
 ghost use Rattle.boogie_text.specs.Answers.{IsRead};
-ghost use Rattle.boogie_text.specs.Depth.{IsShallow, unclosed};
-ghost use Rattle.boogie_text.specs.Faults.{IsFault};
-ghost use Rattle.boogie_text.specs.Nested.{program_depth};
 ghost use Rattle.boogie_text.specs.Printable.{IsPrintable};
-ghost use Rattle.boogie_text.specs.Spells.{Spells, BSpells, IsProgram, GoesWrong};
 
 /// No bytes spell two programs.
 pub fn one_program()

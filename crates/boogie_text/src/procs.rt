@@ -1,17 +1,18 @@
 // Procedures, and a program from its tokens.
 ghost use Rattle.std.specs.Prelude.{◌≡◌, ◌<◌, [], length, false, IfOk};
 ghost use Rattle.boogie_tree.specs.Whole.{proc_of};
-ghost use Rattle.boogie_text.specs.Grammar as g;
-ghost use Rattle.boogie_text.specs.Greedy.{Parses};
-ghost use Rattle.boogie_text.specs.Words.{is_among};
+ghost use Rattle.boogie_grammar.specs.Grammar as g;
+ghost use Rattle.boogie_grammar.specs.Greedy.{Parses};
+ghost use Rattle.boogie_grammar.specs.Words.{is_among};
 ghost use Rattle.boogie_text.specs.StmtView.{all_procs_of};
 
-use crate::eating::{Read, eat_word, sign};
-use crate::locals::{locals, new_name};
-use crate::scopes::Names;
+use crate::locals::locals;
 use crate::stmts::statements;
 use crate::types::pushed;
-use crate::{BSign, BToken, Word};
+use boogie_grammar::eating::{Read, eat_word, sign};
+use boogie_grammar::new_names::new_name;
+use boogie_grammar::scopes::Names;
+use boogie_grammar::{BSign, BToken, Word};
 use boogie_tree::Proc;
 use std::alloc::Global;
 

@@ -1,10 +1,8 @@
 // A program from its tokens.
-ghost use Rattle.std.specs.Prelude.{◌≡◌};
-ghost use Rattle.boogie_text.specs.Faults.{place_at};
-ghost use Rattle.boogie_text.specs.Whole.{ReadsWhole, ReadsProgram, fault_of};
+ghost use Rattle.boogie_text.specs.Whole.{ReadsWhole, ReadsProgram};
 
 use crate::procs::procedures;
-use crate::{BToken, BoogieFault};
+use boogie_grammar::{BToken, BoogieFault, fault};
 use boogie_tree::{BProgram, Proc};
 use grammar::Stop;
 use std::alloc::Global;
@@ -30,23 +28,4 @@ fn all_procedures(alloc: Global, tokens: &[BToken]) -> Result<Vec<Proc>, Stop<'_
         return Err(Stop::Before(rest));
     }
     Ok(procs)
-}
-
-fn fault(stop: Stop<'_, BToken>, end: Pos) -> BoogieFault
-    ensures { result ≡ fault_of stop.entry end }
-{
-    match stop {
-        Stop::Memory => BoogieFault::Memory,
-        Stop::Before(rest) => BoogieFault::Syntax(place_of(rest, end)),
-    }
-}
-
-/// The place of the next token, or the end.
-fn place_of(tokens: &[BToken], end: Pos) -> Pos
-    ensures { result ≡ place_at tokens.now 0 end }
-{
-    match tokens.first() {
-        Some(token) => token.pos,
-        None => end,
-    }
 }

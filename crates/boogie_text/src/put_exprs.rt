@@ -2,11 +2,12 @@
 ghost use Rattle.std.specs.Prelude.{◌≡◌, ◌++◌, OnOk, [], drop, codes};
 ghost use Rattle.std.specs.Fmt.{signed_decimal};
 ghost use Rattle.boogie_tree.specs.Whole as b;
-ghost use Rattle.boogie_text.specs.Grammar.{local_names};
-ghost use Rattle.boogie_text.specs.Naming.{naming_of};
-ghost use Rattle.boogie_text.specs.Printed as text;
+ghost use Rattle.boogie_grammar.specs.Grammar.{local_names};
+ghost use Rattle.boogie_grammar.specs.Naming.{naming_of};
+ghost use Rattle.boogie_grammar.specs.Printed as text;
 
-use crate::naming::{Naming, bound_names};
+use boogie_grammar::eating::base_text;
+use boogie_grammar::naming::{Naming, bound_names};
 use boogie_tree::{BBase, BExpr, BOp, Local};
 use std::alloc::Global;
 use vb_base::{Ident, Memory};
@@ -214,19 +215,6 @@ fn truth_text(truth: bool) -> &'static [u8]
     ensures { result.now ≡ text.truth_text truth }
 {
     if truth { b"true" } else { b"false" }
-}
-
-/// The word of a type.
-pub(crate) fn base_text(base: BBase) -> &'static [u8]
-    ensures { result.now ≡ text.base_text base }
-{
-    match base {
-        BBase::Int => b"int",
-        BBase::Bool => b"bool",
-        BBase::Ref => b"Ref",
-        BBase::Real => b"real",
-        BBase::Snap => b"Snap",
-    }
 }
 
 fn operator_text(op: BOp) -> &'static [u8]

@@ -1,16 +1,16 @@
 // Statements without blocks.
 ghost use Rattle.std.specs.Prelude.{◌≡◌, ◌<◌, [], length, IfOk, IfSome};
 ghost use Rattle.boogie_tree.specs.Whole.{expr_of, stmt_of};
-ghost use Rattle.boogie_text.specs.Grammar as g;
-ghost use Rattle.boogie_text.specs.Greedy.{Parses};
-ghost use Rattle.boogie_text.specs.ReadView.{all_exprs_of};
+ghost use Rattle.boogie_grammar.specs.Grammar as g;
+ghost use Rattle.boogie_grammar.specs.Greedy.{Parses};
+ghost use Rattle.boogie_grammar.specs.ReadView.{all_exprs_of};
 ghost use Rattle.boogie_text.specs.StmtView.{no_bound, assuming, asserting, EatsHavoc};
 
-use crate::eating::{Read, eat_sign, eat_word, label, sign, word};
 use crate::exprs::{expr, exprs};
-use crate::leaves::eat_variable;
-use crate::scopes::{Names, Scope};
-use crate::{BSign, BToken, Word};
+use boogie_grammar::eating::{Read, eat_sign, eat_word, label, sign, word};
+use boogie_grammar::leaves::eat_variable;
+use boogie_grammar::scopes::{Names, Scope};
+use boogie_grammar::{BSign, BToken, Word};
 use boogie_tree::{BExpr, BStmt};
 use grammar::Stop;
 use std::alloc::Global;

@@ -1,16 +1,16 @@
 // Statements.
 ghost use Rattle.std.specs.Prelude.{◌≡◌, ◌<◌, ◌≤◌, [], length, IfOk};
 ghost use Rattle.boogie_tree.specs.Whole.{stmt_of};
-ghost use Rattle.boogie_text.specs.Grammar as g;
-ghost use Rattle.boogie_text.specs.Greedy.{Parses};
+ghost use Rattle.boogie_grammar.specs.Grammar as g;
+ghost use Rattle.boogie_grammar.specs.Greedy.{Parses};
 ghost use Rattle.boogie_text.specs.StmtView.{all_stmts_of, block_of, unpicked, picked};
 
-use crate::eating::{Read, eat_sign, eat_word, sign, word};
-use crate::leaves::eat_variable;
-use crate::scopes::Names;
 use crate::simple::{assertion, assignment, assumption, eat_havoc, whole_expr};
 use crate::types::pushed;
-use crate::{BSign, BToken, Word};
+use boogie_grammar::eating::{Read, eat_sign, eat_word, sign, word};
+use boogie_grammar::leaves::eat_variable;
+use boogie_grammar::scopes::Names;
+use boogie_grammar::{BSign, BToken, Word};
 use boogie_tree::BStmt;
 use std::alloc::Global;
 

@@ -1,12 +1,12 @@
 // Types and what a `forall` binds.
 ghost use Rattle.std.specs.Prelude.{◌≡◌, ◌<◌, ◌++◌, ◌∷◌, [], length, IfOk};
 ghost use Rattle.boogie_tree.specs.Whole.{type_of};
-ghost use Rattle.boogie_text.specs.Grammar as g;
-ghost use Rattle.boogie_text.specs.Greedy.{Parses};
-ghost use Rattle.boogie_text.specs.ReadView.{bases_of};
+ghost use Rattle.boogie_grammar.specs.Grammar as g;
+ghost use Rattle.boogie_grammar.specs.Greedy.{Parses};
+ghost use Rattle.boogie_grammar.specs.ReadView.{bases_of};
 
-use crate::eating::{Read, base, eat_sign, key, sign};
-use crate::{BSign, BToken};
+use boogie_grammar::eating::{Read, base, eat_sign, key, sign};
+use boogie_grammar::{BSign, BToken};
 use boogie_tree::{BBase, BType};
 use std::alloc::{AllocFailed, Global};
 

@@ -6,3 +6,4 @@ pub mod Value
 pub mod Values
 pub mod Whole
 pub mod Equality
+pub mod Nested

@@ -1,8 +1,8 @@
 use Rattle.std.proofs.Common.{arith}
-use Rattle.boogie_text.specs.ReadView.{scope_of, binding_of}
-use Rattle.boogie_text.proofs.Reading.{by_need, by_token, by_other}
-use Rattle.boogie_text.proofs.Steps.{token_error, tail, whole_as}
-use Rattle.boogie_text.proofs.BoundLaws.{not_bound, bound_as, bound_more, none_bound}
+use Rattle.boogie_grammar.specs.ReadView.{scope_of, binding_of}
+use Rattle.boogie_grammar.proofs.Reading.{by_need, by_token, by_other}
+use Rattle.boogie_grammar.proofs.Steps.{token_error, tail, whole_as}
+use Rattle.boogie_grammar.proofs.BoundLaws.{not_bound, bound_as, bound_more, none_bound}
 use Rattle.boogie_text.proofs.bounds.binders.Goals as goal
 
 pub loop-name-init : goal.loop-name-init

@@ -1,7 +1,7 @@
 use Rattle.std.proofs.Common.{◌≤◌, length}
-use Rattle.boogie_text.specs.Grammar as g
-use Rattle.boogie_text.specs.Greedy.{Goes}
-use Rattle.boogie_text.specs.ReadView.{scope_of, binding_of}
+use Rattle.boogie_grammar.specs.Grammar as g
+use Rattle.boogie_grammar.specs.Greedy.{Goes}
+use Rattle.boogie_grammar.specs.ReadView.{scope_of, binding_of}
 use Rattle.boogie_text.proofs.bounds.binders.Given as goal
 
 abbrev pub invariant-loop-name : goal.invariant-loop-name

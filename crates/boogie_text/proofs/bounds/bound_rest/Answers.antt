@@ -1,8 +1,8 @@
 use Rattle.std.proofs.Common.{sym, arith}
-use Rattle.boogie_text.specs.Grammar as g
-use Rattle.boogie_text.proofs.Reading.{start, by_need, whole}
-use Rattle.boogie_text.proofs.Steps.{token_error, tail, goes_by}
-use Rattle.boogie_text.proofs.BoundLaws.{rest_of}
+use Rattle.boogie_grammar.specs.Grammar as g
+use Rattle.boogie_grammar.proofs.Reading.{start, by_need, whole}
+use Rattle.boogie_grammar.proofs.Steps.{token_error, tail, goes_by}
+use Rattle.boogie_grammar.proofs.BoundLaws.{rest_of}
 use Rattle.boogie_text.proofs.bounds.bound_rest.Goals as goal
 
 pub loop-name-init : goal.loop-name-init

@@ -1,6 +1,6 @@
 use Rattle.std.proofs.Common.{sym}
-use Rattle.boogie_text.specs.ReadView.{scope_of}
-use Rattle.boogie_text.proofs.BoundLaws.{no_bound, bound_is_local, bound_is_not, bound_is}
+use Rattle.boogie_grammar.specs.ReadView.{scope_of}
+use Rattle.boogie_grammar.proofs.BoundLaws.{no_bound, bound_is_local, bound_is_not, bound_is}
 use Rattle.boogie_text.proofs.bounds.eat_bound.Goals as goal
 
 pub returns-in_err-first-clause-eats : goal.returns-in_err-first-clause-eats

@@ -1,8 +1,8 @@
 use Rattle.std.proofs.Common.{◌+◌, ◌*◌, ◌<◌, length, map}
 use Rattle.boogie_tree.specs.Whole.{expr_of}
-use Rattle.boogie_text.specs.Grammar as g
-use Rattle.boogie_text.specs.Greedy.{Goes}
-use Rattle.boogie_text.specs.ReadView.{scope_of}
+use Rattle.boogie_grammar.specs.Grammar as g
+use Rattle.boogie_grammar.specs.Greedy.{Goes}
+use Rattle.boogie_grammar.specs.ReadView.{scope_of}
 use Rattle.boogie_text.proofs.exprs.+expressions.Given as goal
 
 abbrev pub decreases-expr : goal.decreases-expr

@@ -2,16 +2,16 @@ use Rattle.std.proofs.Common.{◌≡◌, ◌∙◌, ◌++◌, [], ◌∷◌, ref
 use Rattle.std.proofs.lemmas.List.{map-append}
 use Rattle.boogie_tree.specs.Program as p
 use Rattle.boogie_tree.specs.Whole.{local_of, locals_of}
-use Rattle.boogie_text.specs.declared.tokens.BToken.{BToken}
+use Rattle.boogie_grammar.specs.declared.tokens.BToken.{BToken}
 use Rattle.grammar.specs.declared.stop.Stop.{Stop}
-use Rattle.boogie_text.specs.Tests as v
-use Rattle.boogie_text.specs.Tests.{a_new_name}
-use Rattle.boogie_text.specs.Grammar as g
-use Rattle.boogie_text.specs.Grammar.{local_names}
-use Rattle.boogie_text.specs.Greedy.{Starts, Misses}
-use Rattle.boogie_text.specs.ReadView.{all_locals_of}
-use Rattle.boogie_text.proofs.Reading.{by_need, by_token, by_other, by_part, whole}
-use Rattle.boogie_text.proofs.Steps.{token_error, part_error, tail, goes_at, pushed_more}
+use Rattle.boogie_grammar.specs.Tests as v
+use Rattle.boogie_grammar.specs.Tests.{a_new_name}
+use Rattle.boogie_grammar.specs.Grammar as g
+use Rattle.boogie_grammar.specs.Grammar.{local_names}
+use Rattle.boogie_grammar.specs.Greedy.{Starts, Misses}
+use Rattle.boogie_grammar.specs.ReadView.{all_locals_of}
+use Rattle.boogie_grammar.proofs.Reading.{by_need, by_token, by_other, by_part, whole}
+use Rattle.boogie_grammar.proofs.Steps.{token_error, part_error, tail, goes_at, pushed_more}
 use Rattle.boogie_text.proofs.locals.locals.Goals as goal
 
 named_at : {x y : List (List ℕ)} {ts us : List BToken} {n : List ℕ} → x ≡ y → Starts (a_new_name x) ts n us → Starts (a_new_name y) ts n us

@@ -1,8 +1,8 @@
 use Rattle.std.proofs.Common.{◌≡◌, ◌≤◌, [], length}
 use Rattle.boogie_tree.specs.Whole.{locals_of}
-use Rattle.boogie_text.specs.Grammar as g
-use Rattle.boogie_text.specs.Grammar.{local_names}
-use Rattle.boogie_text.specs.Greedy.{Goes}
+use Rattle.boogie_grammar.specs.Grammar as g
+use Rattle.boogie_grammar.specs.Grammar.{local_names}
+use Rattle.boogie_grammar.specs.Greedy.{Goes}
 use Rattle.boogie_text.proofs.locals.locals.Given as goal
 
 abbrev pub invariant-loop-after : goal.invariant-loop-after

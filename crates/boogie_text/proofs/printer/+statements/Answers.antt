@@ -5,9 +5,9 @@ use Rattle.std.specs.declared.vec.Vec.{Vec}
 use Rattle.boogie_tree.specs.declared.stmts.BStmt as s
 use Rattle.boogie_tree.specs.Whole.{expr_of, stmt_of, stmts_of}
 use Rattle.boogie_tree.proofs.WholeLaws.{stmt_of-If, stmt_of-Either}
-use Rattle.boogie_text.specs.Naming.{naming_of}
-use Rattle.boogie_text.specs.Printed as text
-use Rattle.boogie_text.specs.Printed.{expr_text, stmt_text, stmts_text}
+use Rattle.boogie_grammar.specs.Naming.{naming_of}
+use Rattle.boogie_grammar.specs.Printed as text
+use Rattle.boogie_grammar.specs.Printed.{expr_text, stmt_text, stmts_text}
 use Rattle.boogie_text.proofs.printer.+statements.Goals as goal
 
 if_text : (x : text.Naming) (st : s.BStmt) (e : _) (a b : Vec s.BStmt Global) → st ≡ s.If e a b →

@@ -1,6 +1,6 @@
 use Rattle.std.proofs.Common.{sym, subst, IfOk, Result, Ok, Err}
 use Rattle.boogie_tree.specs.Whole as b
-use Rattle.boogie_text.specs.Spells.{BSpells}
+use Rattle.boogie_grammar.specs.Spells.{BSpells}
 use Rattle.boogie_text.proofs.ProgramShown.{program_spelled}
 use Rattle.boogie_text.proofs.ShortLaws.{short_procs}
 use Rattle.boogie_text.proofs.printer.print.Goals as goal

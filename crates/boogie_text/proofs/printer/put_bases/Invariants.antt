@@ -1,5 +1,5 @@
 use Rattle.std.proofs.Common.{◌≡◌, ◌++◌, [], drop}
-use Rattle.boogie_text.specs.Printed.{bases_text}
+use Rattle.boogie_grammar.specs.Printed.{bases_text}
 use Rattle.boogie_text.proofs.printer.put_bases.Given as goal
 
 abbrev pub invariant-loop-base : goal.invariant-loop-base

@@ -1,6 +1,6 @@
 use Rattle.std.proofs.Common.{◌≡◌, ◌++◌, drop}
 use Rattle.boogie_tree.specs.Whole.{locals_of}
-use Rattle.boogie_text.specs.Printed.{locals_text}
+use Rattle.boogie_grammar.specs.Printed.{locals_text}
 use Rattle.boogie_text.proofs.printer.put_locals.Given as goal
 
 abbrev pub invariant-loop-local : goal.invariant-loop-local

@@ -1,7 +1,7 @@
 use Rattle.std.proofs.Common.{◌≡◌, ◌++◌, map, drop}
 use Rattle.boogie_tree.specs.Whole as b
 use Rattle.boogie_tree.specs.Text.{prelude}
-use Rattle.boogie_text.specs.Printed.{procs_text}
+use Rattle.boogie_grammar.specs.Printed.{procs_text}
 use Rattle.boogie_text.proofs.printer.whole_text.Given as goal
 
 abbrev pub invariant-loop-proc : goal.invariant-loop-proc

@@ -5,9 +5,9 @@ use Rattle.std.specs.declared.vec.Vec.{Vec}
 use Rattle.boogie_tree.specs.Whole.{expr_of, exprs_of}
 use Rattle.boogie_tree.specs.declared.exprs.BExpr as e
 use Rattle.boogie_tree.proofs.WholeLaws.{expr_of-At}
-use Rattle.boogie_text.specs.Naming.{naming_of}
-use Rattle.boogie_text.specs.Printed as text
-use Rattle.boogie_text.specs.Printed.{expr_text, exprs_text, name_at}
+use Rattle.boogie_grammar.specs.Naming.{naming_of}
+use Rattle.boogie_grammar.specs.Printed as text
+use Rattle.boogie_grammar.specs.Printed.{expr_text, exprs_text, name_at}
 use Rattle.boogie_text.proofs.put_exprs.+expressions.Goals as goal
 
 at_text : (x : text.Naming) (whole : e.BExpr) (i : _) (v : Vec e.BExpr Global) → whole ≡ e.At i v →

@@ -1,7 +1,7 @@
 use Rattle.std.proofs.Common.{◌≡◌, ◌++◌, [], drop}
 use Rattle.boogie_tree.specs.Whole as b
-use Rattle.boogie_text.specs.Naming.{naming_of}
-use Rattle.boogie_text.specs.Printed as text
+use Rattle.boogie_grammar.specs.Naming.{naming_of}
+use Rattle.boogie_grammar.specs.Printed as text
 use Rattle.boogie_text.proofs.put_exprs.+expressions.Given as goal
 
 abbrev pub invariant-put_exprs-loop-expr : goal.invariant-put_exprs-loop-expr

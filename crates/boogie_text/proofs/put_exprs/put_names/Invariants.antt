@@ -1,5 +1,5 @@
 use Rattle.std.proofs.Common.{◌≡◌, ◌++◌, [], drop}
-use Rattle.boogie_text.specs.Printed as text
+use Rattle.boogie_grammar.specs.Printed as text
 use Rattle.boogie_text.proofs.put_exprs.put_names.Given as goal
 
 abbrev pub invariant-loop-name : goal.invariant-loop-name

@@ -1,7 +1,7 @@
 use Rattle.std.proofs.Common.{refl, subst}
 use Rattle.boogie_tree.specs.Text.{prelude}
-use Rattle.boogie_text.specs.Depth.{IsShallow, IsTooDeep}
-use Rattle.boogie_text.specs.Faults.{too_deep}
+use Rattle.boogie_grammar.specs.Depth.{IsShallow, IsTooDeep}
+use Rattle.boogie_grammar.specs.Faults.{too_deep}
 use Rattle.boogie_text.specs.Whole.{ReadsProgram}
 use Rattle.boogie_text.proofs.ReadLaws.{cut_error, reads_rest}
 use Rattle.boogie_text.proofs.reader.read_rest.Goals as goal

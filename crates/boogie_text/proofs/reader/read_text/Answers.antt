@@ -1,4 +1,4 @@
-use Rattle.boogie_text.specs.Faults.{no_prelude}
+use Rattle.boogie_grammar.specs.Faults.{no_prelude}
 use Rattle.boogie_text.proofs.reader.read_text.Goals as goal
 
 pub returns-in-Err : goal.returns-in-Err

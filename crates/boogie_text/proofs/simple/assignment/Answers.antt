@@ -1,7 +1,7 @@
 use Rattle.boogie_tree.specs.Whole.{stmt_of}
-use Rattle.boogie_text.specs.Grammar as g
-use Rattle.boogie_text.proofs.Reading.{start, by_need, by_token, by_other, by_part, whole}
-use Rattle.boogie_text.proofs.Steps.{token_error, part_error, whole_as}
+use Rattle.boogie_grammar.specs.Grammar as g
+use Rattle.boogie_grammar.proofs.Reading.{start, by_need, by_token, by_other, by_part, whole}
+use Rattle.boogie_grammar.proofs.Steps.{token_error, part_error, whole_as}
 use Rattle.boogie_text.proofs.StmtLaws.{stmt_of-Put}
 use Rattle.boogie_text.proofs.simple.assignment.Goals as goal
 

@@ -1,7 +1,7 @@
 use Rattle.boogie_tree.specs.Whole.{stmt_of}
+use Rattle.boogie_grammar.proofs.Reading.{start, by_need, by_part, whole}
+use Rattle.boogie_grammar.proofs.Steps.{token_error, part_error}
 use Rattle.boogie_text.specs.StmtView.{assuming}
-use Rattle.boogie_text.proofs.Reading.{start, by_need, by_part, whole}
-use Rattle.boogie_text.proofs.Steps.{token_error, part_error}
 use Rattle.boogie_text.proofs.simple.assumption.Goals as goal
 
 pub returns-in_err-claim-clause-reads : goal.returns-in_err-claim-clause-reads

@@ -1,7 +1,7 @@
 use Rattle.std.proofs.Common.{ap}
 use Rattle.boogie_tree.specs.Whole.{expr_of}
-use Rattle.boogie_text.specs.Grammar as g
-use Rattle.boogie_text.proofs.Steps.{error_as, symbol_at, symbol_refuses_at}
+use Rattle.boogie_grammar.specs.Grammar as g
+use Rattle.boogie_grammar.proofs.Steps.{error_as, symbol_at, symbol_refuses_at}
 use Rattle.boogie_text.proofs.StmtLaws.{read_as}
 use Rattle.boogie_text.proofs.simple.whole_expr.Goals as goal
 

@@ -1,6 +1,6 @@
-use Rattle.boogie_text.specs.Grammar as g
-use Rattle.boogie_text.specs.ReadView.{all_exprs_of}
-use Rattle.boogie_text.proofs.Steps.{parses_at}
+use Rattle.boogie_grammar.specs.Grammar as g
+use Rattle.boogie_grammar.specs.ReadView.{all_exprs_of}
+use Rattle.boogie_grammar.proofs.Steps.{parses_at}
 use Rattle.boogie_text.proofs.simple.whole_exprs.Goals as goal
 
 pub returns-clause-reads : goal.returns-clause-reads

@@ -1,12 +1,12 @@
 use Rattle.std.proofs.Common.{ap, arith, refl, map, []}
 use Rattle.boogie_tree.specs.Whole.{stmt_of, stmts_of}
 use Rattle.boogie_tree.proofs.WholeLaws.{stmt_of-If, stmt_of-Either, stmts_of-map}
-use Rattle.boogie_text.specs.Tests as v
-use Rattle.boogie_text.specs.Grammar as g
+use Rattle.boogie_grammar.specs.Tests as v
+use Rattle.boogie_grammar.specs.Grammar as g
+use Rattle.boogie_grammar.proofs.Reading.{start, by_need, by_token, by_other, by_part, whole}
+use Rattle.boogie_grammar.proofs.Steps.{error_as, token_error, part_error, tail, pass_on, whole_as, goes_at, goes_then, pushed_more}
+use Rattle.boogie_grammar.proofs.EatLaws.{by_variable, by_no_variable}
 use Rattle.boogie_text.specs.StmtView.{all_stmts_of, block_of, unpicked, picked}
-use Rattle.boogie_text.proofs.Reading.{start, by_need, by_token, by_other, by_part, whole}
-use Rattle.boogie_text.proofs.Steps.{error_as, token_error, part_error, tail, pass_on, whole_as, goes_at, goes_then, pushed_more}
-use Rattle.boogie_text.proofs.EatLaws.{by_variable, by_no_variable}
 use Rattle.boogie_text.proofs.stmts.+blocks.Goals as goal
 
 pub statements-loop-after-init : goal.statements-loop-after-init

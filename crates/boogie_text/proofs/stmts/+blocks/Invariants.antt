@@ -1,7 +1,7 @@
 use Rattle.std.proofs.Common.{◌+◌, ◌*◌, ◌≤◌, [], length, map}
 use Rattle.boogie_tree.specs.Whole.{stmt_of}
-use Rattle.boogie_text.specs.Grammar as g
-use Rattle.boogie_text.specs.Greedy.{Goes}
+use Rattle.boogie_grammar.specs.Grammar as g
+use Rattle.boogie_grammar.specs.Greedy.{Goes}
 use Rattle.boogie_text.proofs.stmts.+blocks.Given as goal
 
 abbrev pub decreases-statements : goal.decreases-statements

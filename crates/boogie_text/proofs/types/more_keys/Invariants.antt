@@ -1,6 +1,6 @@
 use Rattle.std.proofs.Common.{◌≤◌, [], ◌∷◌, length}
-use Rattle.boogie_text.specs.Grammar as g
-use Rattle.boogie_text.specs.Greedy.{Goes}
+use Rattle.boogie_grammar.specs.Grammar as g
+use Rattle.boogie_grammar.specs.Greedy.{Goes}
 use Rattle.boogie_text.proofs.types.more_keys.Given as goal
 
 abbrev pub invariant-loop-after : goal.invariant-loop-after

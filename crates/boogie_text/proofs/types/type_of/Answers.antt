@@ -1,9 +1,9 @@
 use Rattle.std.proofs.Common.{ap}
 use Rattle.boogie_tree.specs.Program as p
 use Rattle.boogie_tree.specs.Whole.{type_of}
-use Rattle.boogie_text.specs.Grammar as g
-use Rattle.boogie_text.proofs.Reading.{start, by_need, by_token, by_other, by_part, whole}
-use Rattle.boogie_text.proofs.Steps.{token_error, part_error, whole_as}
+use Rattle.boogie_grammar.specs.Grammar as g
+use Rattle.boogie_grammar.proofs.Reading.{start, by_need, by_token, by_other, by_part, whole}
+use Rattle.boogie_grammar.proofs.Steps.{token_error, part_error, whole_as}
 use Rattle.boogie_text.proofs.types.type_of.Goals as goal
 
 pub returns-in_err-base-clause-reads : goal.returns-in_err-base-clause-reads

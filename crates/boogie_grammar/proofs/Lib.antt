@@ -1,0 +1,13 @@
+pub mod NamingLaws
+pub mod WrittenRows
+pub mod PieceLaws
+pub mod LexLaws
+pub mod NameLaws
+pub mod Elements
+pub mod EatLaws
+pub mod BoundLaws
+pub mod FrontLaws
+pub mod ScopeLaws
+pub mod Reading
+pub mod Steps
+pub mod DepthLaws

@@ -1,0 +1,11 @@
+use Rattle.std.proofs.Common.{◌≡◌, ◌∙◌, sym, ap, arith}
+use Rattle.std.proofs.lemmas.Int.{to_z-of_z}
+use mir.Val.{to_z, of_z}
+use mir.Syntax.{w128}
+use Rattle.boogie_grammar.specs.declared.tokens.BTok.TheVariants as tok
+use Rattle.boogie_grammar.proofs.eating.eat_number.Goals as goal
+
+pub returns-in-Number-clause-eats : goal.returns-in-Number-clause-eats
+returns-in-Number-clause-eats c =
+    let same : to_z w128 (of_z w128 c.value_of.result) ≡ c.value_of.result = grind (arith, to_z-of_z) in
+    record { token = c.in_ok-first.first.now; is = c.in_ok-first.ensures.cases.0; passes = c.in-Number.is ∙ ap tok.Number (sym (same ∙ c.value_of.ensures)) }

@@ -1,0 +1,35 @@
+-- How many brackets are unclosed at once.
+use Rattle.std.specs.Prelude.{◌≡◌, ℕ, ◌+◌, ◌-◌, ◌<◌, ◌≤◌, List, take, slice_get, Some, fold}
+use Rattle.vb_base.specs.declared.places.Pos.{Pos}
+use Rattle.boogie_grammar.specs.declared.tokens.BSign.TheVariants as sign
+use Rattle.boogie_grammar.specs.declared.tokens.BTok.{BTok}
+use Rattle.boogie_grammar.specs.declared.tokens.BTok.TheVariants as tok
+use Rattle.boogie_grammar.specs.declared.tokens.BToken.{BToken}
+
+-- how many `(`, `[` and `{` are unclosed after a further token: each closing sign closes the last one, of whatever kind,
+-- and nothing where there is none
+abbrev pub unclosed_with : ℕ → BTok → ℕ
+unclosed_with n (tok.Sign sign.OpenParen) = n + 1
+unclosed_with n (tok.Sign sign.OpenBracket) = n + 1
+unclosed_with n (tok.Sign sign.OpenBrace) = n + 1
+unclosed_with n (tok.Sign sign.CloseParen) = n - 1
+unclosed_with n (tok.Sign sign.CloseBracket) = n - 1
+unclosed_with n (tok.Sign sign.CloseBrace) = n - 1
+unclosed_with n _ = n
+
+-- how many are unclosed after these tokens
+abbrev pub unclosed : List BToken → ℕ
+unclosed ts = fold (λ n t. unclosed_with n t.tok) 0 ts
+
+-- after no front of these tokens more than 2,048 are unclosed
+abbrev pub IsShallow : List BToken → Type 0
+IsShallow ts = (n : ℕ) → unclosed (take n ts) ≤ 2048
+
+-- the first token with which more are unclosed stands at this place
+pub record IsTooDeep (ts : List BToken) (at : Pos) : Type 0 where
+  pub index : ℕ
+  pub token : BToken
+  pub here : slice_get ts index ≡ Some token
+  pub place : token.pos ≡ at
+  pub above : 2048 < unclosed (take (index + 1) ts)
+  pub before : (n : ℕ) → n ≤ index → unclosed (take n ts) ≤ 2048

@@ -1,0 +1,13 @@
+pub mod Words
+pub mod Pieces
+pub mod Cut
+pub mod Tests
+pub mod Grammar
+pub mod Spells
+pub mod Depth
+pub mod Faults
+pub mod Printed
+pub mod Naming
+pub mod Step
+pub mod Greedy
+pub mod ReadView

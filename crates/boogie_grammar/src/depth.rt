@@ -1,0 +1,37 @@
+// How many brackets are unclosed at once.
+ghost use Rattle.std.specs.Prelude.{◌≡◌, ◌<◌, ◌^◌, MatchOption};
+ghost use Rattle.boogie_grammar.specs.Depth.{IsShallow, IsTooDeep, unclosed_with};
+
+use crate::{BSign, BTok, BToken};
+use vb_base::Pos;
+
+/// How many `(`, `[` and `{` may be unclosed at once.
+const MAX_UNCLOSED: usize = 2048;
+
+/// The place of the first sign that is the 2,049th unclosed `(`, `[` or `{`, if there is one.
+pub fn first_too_deep(tokens: &[BToken]) -> Option<Pos>
+    ensures { MatchOption result (IsShallow tokens.now) (IsTooDeep tokens.now) }
+{
+    let mut count: usize = 0;
+    for token in tokens {
+        count = unclosed_with(count, &token.tok);
+        if count > MAX_UNCLOSED {
+            return Some(token.pos);
+        }
+    }
+    None
+}
+
+/// How many are unclosed after one more token.
+fn unclosed_with(count: usize, tok: &BTok) -> usize
+    requires { count < 2 ^ 32 }
+    ensures { result ≡ unclosed_with count tok.now }
+{
+    match tok {
+        BTok::Sign(BSign::OpenParen | BSign::OpenBracket | BSign::OpenBrace) => count + 1,
+        BTok::Sign(BSign::CloseParen | BSign::CloseBracket | BSign::CloseBrace) => {
+            count.saturating_sub(1)
+        }
+        _ => count,
+    }
+}

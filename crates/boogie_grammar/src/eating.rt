@@ -1,0 +1,338 @@
+// One token at a time: whether the next one is of a kind, and what it holds.
+ghost use Rattle.std.specs.Prelude.{◌≡◌, ◌<◌, ◌↔◌, find, length, IsTrue, IfOk, IfSome, MatchOption};
+ghost use Rattle.std.specs.Str.{bytes_eq};
+ghost use Rattle.boogie_tree.specs.Values.{is_key};
+ghost use Rattle.boogie_tree.specs.declared.exprs.BBase.{BBase};
+ghost use Rattle.boogie_tree.specs.declared.exprs.BOp.{BOp};
+ghost use Rattle.boogie_grammar.specs.declared.tokens.BTok.TheVariants as tok;
+ghost use Rattle.boogie_grammar.specs.Greedy.{IsNot, Starts, Takes};
+ghost use Rattle.boogie_grammar.specs.Printed.{base_text};
+ghost use Rattle.boogie_grammar.specs.Step.{sign_operator};
+ghost use Rattle.boogie_grammar.specs.Tests.{the_sign, the_word, the_name, a_number, a_real, a_label, a_base, a_key, an_operator};
+ghost use Rattle.boogie_grammar.specs.Words.{word_text, operator_tok};
+
+use crate::{BSign, BTok, BToken, Word};
+use boogie_tree::{BBase, BOp};
+use grammar::Stop;
+use vb_base::{Ident, Label};
+
+/// What was read, and the tokens that are left.
+pub type Read<'a, T> = grammar::Read<'a, BToken, T>;
+
+fn same_sign(a: BSign, b: BSign) -> bool
+    ensures { IsTrue result ↔ (a ≡ b) }
+{
+    a == b
+}
+
+/// The tokens after this sign, if it is next.
+pub fn eat_sign(wanted: BSign, tokens: &[BToken]) -> Option<&[BToken]>
+    ensures shorter { IfSome result (λ r. length r.now < length tokens.now) }
+    ensures eats { MatchOption result (IsNot (the_sign wanted) tokens.now) (λ r. Starts (the_sign wanted) tokens.now tt r.now) }
+{
+    let (first, rest) = tokens.split_first()?;
+    match first.tok {
+        BTok::Sign(sign) if same_sign(sign, wanted) => Some(rest),
+        _ => None,
+    }
+}
+
+/// The tokens after this sign, which must be next.
+pub fn sign<'a>(wanted: BSign, tokens: &'a [BToken]) -> Read<'a, ()>
+    ensures shorter { IfOk result (λ p. length p.1.now < length tokens.now) }
+    ensures takes { Takes (the_sign wanted) tokens.now result }
+{
+    match eat_sign(wanted, tokens) {
+        Some(rest) => Ok(((), rest)),
+        None => Err(Stop::Before(tokens)),
+    }
+}
+
+/// How a word is spelled.
+fn word_text(word: Word) -> &'static [u8]
+    ensures { result.now ≡ word_text word }
+{
+    match word {
+        Word::Procedure => b"procedure",
+        Word::Var => b"var",
+        Word::Havoc => b"havoc",
+        Word::Assume => b"assume",
+        Word::Assert => b"assert",
+        Word::If => b"if",
+        Word::Then => b"then",
+        Word::Else => b"else",
+        Word::Forall => b"forall",
+        Word::True => b"true",
+        Word::False => b"false",
+        Word::Int => b"int",
+        Word::Bool => b"bool",
+        Word::Real => b"real",
+        Word::Div => b"div",
+        Word::Mod => b"mod",
+        Word::Ref => b"Ref",
+        Word::Null => b"null",
+        Word::Snap => b"Snap",
+        Word::SUnit => b"sUnit",
+        Word::SInt => b"sInt",
+        Word::SBool => b"sBool",
+        Word::SRef => b"sRef",
+        Word::SPerm => b"sPerm",
+        Word::SPair => b"sPair",
+        Word::Msg => b"msg",
+    }
+}
+
+fn same_bytes(a: &[u8], b: &[u8]) -> bool
+    ensures { IsTrue result ↔ (a.now ≡ b.now) }
+{
+    a == b
+}
+
+/// The tokens after this word, if it is next.
+pub fn eat_word(wanted: Word, tokens: &[BToken]) -> Option<&[BToken]>
+    ensures shorter { IfSome result (λ r. length r.now < length tokens.now) }
+    ensures eats { MatchOption result (IsNot (the_word wanted) tokens.now) (λ r. Starts (the_word wanted) tokens.now tt r.now) }
+{
+    let (first, rest) = tokens.split_first()?;
+    match &first.tok {
+        BTok::Name(name) if same_bytes(&name.bytes, word_text(wanted)) => Some(rest),
+        _ => None,
+    }
+}
+
+/// The tokens after this word, which must be next.
+pub fn word<'a>(wanted: Word, tokens: &'a [BToken]) -> Read<'a, ()>
+    ensures shorter { IfOk result (λ p. length p.1.now < length tokens.now) }
+    ensures takes { Takes (the_word wanted) tokens.now result }
+{
+    match eat_word(wanted, tokens) {
+        Some(rest) => Ok(((), rest)),
+        None => Err(Stop::Before(tokens)),
+    }
+}
+
+/// What a number is.
+fn value_of(number: &i128) -> i128
+    ensures { result ≡ number.now }
+{
+    *number
+}
+
+/// The next number, if one is next, and the tokens after it.
+pub fn eat_number(tokens: &[BToken]) -> Option<(i128, &[BToken])>
+    ensures shorter { IfSome result (λ p. length p.1.now < length tokens.now) }
+    ensures eats { MatchOption result (IsNot a_number tokens.now) (λ p. Starts a_number tokens.now p.0 p.1.now) }
+{
+    let (first, rest) = tokens.split_first()?;
+    match &first.tok {
+        BTok::Number(value) => Some((value_of(value), rest)),
+        _ => None,
+    }
+}
+
+/// The digits of the next real literal, if one is next, and the tokens after it.
+pub fn eat_real(tokens: &[BToken]) -> Option<(i128, &[BToken])>
+    ensures shorter { IfSome result (λ p. length p.1.now < length tokens.now) }
+    ensures eats { MatchOption result (IsNot a_real tokens.now) (λ p. Starts a_real tokens.now p.0 p.1.now) }
+{
+    let (first, rest) = tokens.split_first()?;
+    match &first.tok {
+        BTok::Real(value) => Some((value_of(value), rest)),
+        _ => None,
+    }
+}
+
+/// The label of the next text, which must be next, and the tokens after it.
+pub fn label(tokens: &[BToken]) -> Read<'_, Label>
+    ensures shorter { IfOk result (λ p. length p.1.now < length tokens.now) }
+    ensures takes { Takes a_label tokens.now result }
+{
+    match tokens.split_first() {
+        Some((first, rest)) => match &first.tok {
+            BTok::Text(label) => Ok((*label, rest)),
+            _ => Err(Stop::Before(tokens)),
+        },
+        None => Err(Stop::Before(tokens)),
+    }
+}
+
+const BASES: [BBase; 5] = [
+    BBase::Int,
+    BBase::Bool,
+    BBase::Ref,
+    BBase::Real,
+    BBase::Snap,
+];
+
+/// The word of a type.
+pub fn base_text(base: BBase) -> &'static [u8]
+    ensures { result.now ≡ base_text base }
+{
+    match base {
+        BBase::Int => b"int",
+        BBase::Bool => b"bool",
+        BBase::Ref => b"Ref",
+        BBase::Real => b"real",
+        BBase::Snap => b"Snap",
+    }
+}
+
+/// The type that has this word, if one has.
+fn base_of(bytes: &[u8]) -> Option<BBase>
+    ensures { MatchOption result ((u : BBase) → bytes.now ≡ base_text u → ⊥) (λ u. bytes.now ≡ base_text u) }
+{
+    base_among(&BASES, bytes)
+}
+
+/// The first of these types that has this word.
+fn base_among(bases: &[BBase], bytes: &[u8]) -> Option<BBase>
+    ensures { result ≡ find (λ u. bytes_eq bytes.now (base_text u)) bases.now }
+{
+    bases.iter().copied().find(|base| bytes == base_text(*base))
+}
+
+/// A type, which must be next, and the tokens after it.
+pub fn base(tokens: &[BToken]) -> Read<'_, BBase>
+    ensures shorter { IfOk result (λ p. length p.1.now < length tokens.now) }
+    ensures takes { Takes a_base tokens.now result }
+{
+    match eat_base(tokens) {
+        Some(eaten) => Ok(eaten),
+        None => Err(Stop::Before(tokens)),
+    }
+}
+
+fn eat_base(tokens: &[BToken]) -> Option<(BBase, &[BToken])>
+    ensures shorter { IfSome result (λ p. length p.1.now < length tokens.now) }
+    ensures eats { MatchOption result (IsNot a_base tokens.now) (λ p. Starts a_base tokens.now p.0 p.1.now) }
+{
+    let (first, rest) = tokens.split_first()?;
+    match &first.tok {
+        BTok::Name(name) => {
+            let base = base_of(&name.bytes)?;
+            Some((base, rest))
+        }
+        _ => None,
+    }
+}
+
+/// The operator that a sign is, if it is one.
+fn sign_operator(sign: BSign) -> Option<BOp>
+    ensures { result ≡ sign_operator sign }
+{
+    Some(match sign {
+        BSign::Iff => BOp::Iff,
+        BSign::Implies => BOp::Implies,
+        BSign::Or => BOp::Or,
+        BSign::And => BOp::And,
+        BSign::Equal => BOp::Eq,
+        BSign::NotEqual => BOp::Ne,
+        BSign::Less => BOp::Lt,
+        BSign::AtMost => BOp::Le,
+        BSign::Greater => BOp::Gt,
+        BSign::AtLeast => BOp::Ge,
+        BSign::Plus => BOp::Add,
+        BSign::Minus => BOp::Sub,
+        BSign::Star => BOp::Mul,
+        BSign::Slash => BOp::Divide,
+        _ => return None,
+    })
+}
+
+/// The operator that a word is, if it is one.
+fn word_operator(bytes: &[u8]) -> Option<BOp>
+    ensures { MatchOption result ((o : BOp) → tok.Name bytes.now ≡ operator_tok o → ⊥) (λ o. tok.Name bytes.now ≡ operator_tok o) }
+{
+    if same_bytes(bytes, b"div") {
+        Some(BOp::IntDiv)
+    } else if same_bytes(bytes, b"mod") {
+        Some(BOp::IntMod)
+    } else {
+        None
+    }
+}
+
+/// Whether keys may have a type.
+fn is_key(base: BBase) -> bool
+    ensures { result ≡ is_key base }
+{
+    matches!(base, BBase::Int | BBase::Bool | BBase::Ref)
+}
+
+/// A type of keys, which must be next, and the tokens after it.
+pub fn key(tokens: &[BToken]) -> Read<'_, BBase>
+    ensures shorter { IfOk result (λ p. length p.1.now < length tokens.now) }
+    ensures takes { Takes a_key tokens.now result }
+{
+    match eat_key(tokens) {
+        Some(eaten) => Ok(eaten),
+        None => Err(Stop::Before(tokens)),
+    }
+}
+
+fn eat_key(tokens: &[BToken]) -> Option<(BBase, &[BToken])>
+    ensures shorter { IfSome result (λ p. length p.1.now < length tokens.now) }
+    ensures eats { MatchOption result (IsNot a_key tokens.now) (λ p. Starts a_key tokens.now p.0 p.1.now) }
+{
+    let (base, rest) = eat_base(tokens)?;
+    if is_key(base) {
+        Some((base, rest))
+    } else {
+        None
+    }
+}
+
+/// The operator that a token is, if it is one.
+fn operator_of(tok: &BTok) -> Option<BOp>
+    ensures { MatchOption result ((o : BOp) → tok.now ≡ operator_tok o → ⊥) (λ o. tok.now ≡ operator_tok o) }
+{
+    match tok {
+        BTok::Sign(sign) => sign_operator(*sign),
+        BTok::Name(name) => word_operator(&name.bytes),
+        _ => None,
+    }
+}
+
+/// An operator, which must be next, and the tokens after it.
+pub fn operator(tokens: &[BToken]) -> Read<'_, BOp>
+    ensures shorter { IfOk result (λ p. length p.1.now < length tokens.now) }
+    ensures takes { Takes an_operator tokens.now result }
+{
+    match eat_operator(tokens) {
+        Some(eaten) => Ok(eaten),
+        None => Err(Stop::Before(tokens)),
+    }
+}
+
+fn eat_operator(tokens: &[BToken]) -> Option<(BOp, &[BToken])>
+    ensures shorter { IfSome result (λ p. length p.1.now < length tokens.now) }
+    ensures eats { MatchOption result (IsNot an_operator tokens.now) (λ p. Starts an_operator tokens.now p.0 p.1.now) }
+{
+    let (first, rest) = tokens.split_first()?;
+    let op = operator_of(&first.tok)?;
+    Some((op, rest))
+}
+
+/// The tokens after this name, if it is next.
+pub fn eat_this<'a>(name: &Ident, tokens: &'a [BToken]) -> Option<&'a [BToken]>
+    ensures shorter { IfSome result (λ r. length r.now < length tokens.now) }
+    ensures eats { MatchOption result (IsNot (the_name name.now) tokens.now) (λ r. Starts (the_name name.now) tokens.now tt r.now) }
+{
+    let wanted: &[u8] = &name.bytes;
+    let (first, rest) = tokens.split_first()?;
+    match &first.tok {
+        BTok::Name(other) if same_bytes(&other.bytes, wanted) => Some(rest),
+        _ => None,
+    }
+}
+
+/// The tokens after this name, which must be next.
+pub fn this<'a>(name: &Ident, tokens: &'a [BToken]) -> Read<'a, ()>
+    ensures shorter { IfOk result (λ p. length p.1.now < length tokens.now) }
+    ensures takes { Takes (the_name name.now) tokens.now result }
+{
+    match eat_this(name, tokens) {
+        Some(rest) => Ok(((), rest)),
+        None => Err(Stop::Before(tokens)),
+    }
+}

@@ -1,0 +1,65 @@
+// Names that a declaration may have.
+ghost use Rattle.std.specs.Prelude.{◌≡◌, ◌<◌, ◌++◌, length, IfOk};
+ghost use Rattle.boogie_grammar.specs.Greedy.{Takes};
+ghost use Rattle.boogie_grammar.specs.ReadView.{IsNewName};
+ghost use Rattle.boogie_grammar.specs.Tests.{a_new_name};
+
+use crate::eating::Read;
+use crate::scopes::{Names, is_reserved};
+use crate::{BTok, BToken};
+use grammar::Stop;
+use std::alloc::Global;
+use vb_base::Ident;
+
+/// Whether a name is not reserved and none of these.
+pub fn is_new(names: &Names, name: &Ident) -> bool
+    ensures { result ≡ IsNewName names.now name.now }
+{
+    !is_reserved(&name.bytes) && !names.has(name)
+}
+
+/// A copy of the next name, which must be next, not reserved, and none of these.
+pub fn new_name<'a>(alloc: Global, taken: &Names, tokens: &'a [BToken]) -> Read<'a, Ident>
+    ensures shorter { IfOk result (λ p. length p.1.now < length tokens.now) }
+    ensures takes { Takes (a_new_name taken.now) tokens.now result }
+{
+    match tokens.split_first() {
+        Some((first, rest)) => match &first.tok {
+            BTok::Name(name) if is_new(taken, name) => {
+                let name = name.copy(alloc)?;
+                Ok((name, rest))
+            }
+            _ => Err(Stop::Before(tokens)),
+        },
+        None => Err(Stop::Before(tokens)),
+    }
+}
+
+/// Whether a name is not reserved, none of the locals, and not yet bound.
+fn is_unbound(locals: &Names, bound: &Names, name: &Ident) -> bool
+    ensures { result ≡ IsNewName (locals.now ++ bound.now) name.now }
+{
+    is_new(locals, name) && !bound.has(name)
+}
+
+/// A copy of the next name, which must be next, not reserved, none of the locals, and not yet bound.
+pub fn bound_name<'a>(
+    alloc: Global,
+    locals: &Names,
+    bound: &Names,
+    tokens: &'a [BToken],
+) -> Read<'a, Ident>
+    ensures shorter { IfOk result (λ p. length p.1.now < length tokens.now) }
+    ensures takes { Takes (a_new_name (locals.now ++ bound.now)) tokens.now result }
+{
+    match tokens.split_first() {
+        Some((first, rest)) => match &first.tok {
+            BTok::Name(name) if is_unbound(locals, bound, name) => {
+                let name = name.copy(alloc)?;
+                Ok((name, rest))
+            }
+            _ => Err(Stop::Before(tokens)),
+        },
+        None => Err(Stop::Before(tokens)),
+    }
+}

@@ -1,0 +1,148 @@
+// The names that an expression may use.
+ghost use Rattle.std.specs.Prelude.{◌≡◌, ◌≢◌, ◌++◌, ◌∷◌, ℕ, [], IfOk, OnOk, MatchOption, Some, false};
+ghost use Rattle.std.specs.List.{list_any};
+ghost use Rattle.std.specs.Str.{bytes_eq};
+ghost use Rattle.boogie_grammar.specs.Tests.{number_of, some_free};
+ghost use Rattle.boogie_grammar.specs.Words.{is_among, is_reserved};
+
+use indexmap::IndexSet;
+use std::alloc::Global;
+use std::marker::Model;
+use vb_base::{Ident, Memory};
+
+/// The names that are no names of variables or procedures.
+const RESERVED: [&[u8]; 32] = [
+    b"procedure",
+    b"var",
+    b"havoc",
+    b"assume",
+    b"assert",
+    b"if",
+    b"then",
+    b"else",
+    b"forall",
+    b"true",
+    b"false",
+    b"int",
+    b"bool",
+    b"real",
+    b"div",
+    b"mod",
+    b"Ref",
+    b"null",
+    b"Snap",
+    b"sTag",
+    b"sUnit",
+    b"sInt",
+    b"sBool",
+    b"sRef",
+    b"sPerm",
+    b"sPair",
+    b"sIntOf",
+    b"sBoolOf",
+    b"sRefOf",
+    b"sPermOf",
+    b"sFirst",
+    b"sSecond",
+];
+
+/// Whether a name is reserved.
+pub fn is_reserved(name: &[u8]) -> bool
+    ensures { result ≡ is_reserved name.now }
+{
+    is_word_among(&RESERVED, name)
+}
+
+/// Whether a name is one of these words.
+fn is_word_among(words: &[&[u8]], name: &[u8]) -> bool
+    ensures { result ≡ list_any (λ w. bytes_eq name.now w.now) words.now }
+{
+    words.iter().any(|word| name == *word)
+}
+
+/// Whether one of these names is not reserved.
+fn is_some_free(names: &[Ident]) -> bool
+    ensures { result ≡ some_free names.now }
+{
+    names.iter().any(|name| !is_reserved(&name.bytes))
+}
+
+/// Names that differ, each with its number. Contracts see the list of them.
+#[derive(Drop)]
+pub struct Names {
+    names: IndexSet<Ident>,
+}
+
+impl Model for Names {
+    ghost use Rattle.std.specs.Prelude.{ℕ, List};
+
+    ghost Value = { List (List ℕ) };
+
+    ghost view = { λ x. x.names.keys };
+}
+
+impl Names {
+    /// No names.
+    pub fn new(alloc: Global) -> Names
+        ensures { result ≡ [] }
+    {
+        Names {
+            names: IndexSet::new(alloc),
+        }
+    }
+
+    /// The number of a name.
+    pub fn number_of(&self, name: &Ident) -> Option<usize>
+        ensures { result ≡ number_of name.now self.now }
+    {
+        self.names.get_index_of(name)
+    }
+
+    /// Whether a name is one of these.
+    pub fn has(&self, name: &Ident) -> bool
+        ensures { result ≡ is_among name.now self.now }
+    {
+        self.number_of(name).is_some()
+    }
+
+    /// All names, in the order of their numbers.
+    pub fn all(&self) -> &[Ident]
+        ensures { result.now ≡ self.now }
+    {
+        self.names.as_slice()
+    }
+
+    /// Whether one of them is not reserved.
+    pub fn some_free(&self) -> bool
+        ensures { result ≡ some_free self.now }
+    {
+        is_some_free(self.names.as_slice())
+    }
+
+    /// One name more, which is none of these.
+    pub fn add(&mut self, name: Ident) -> Result<(), Memory>
+        requires { is_among name self.now ≡ false }
+        ensures { OnOk result (self.new ≡ self.old ++ (name ∷ [])) }
+    {
+        self.names.insert(name)?;
+        Ok(())
+    }
+}
+
+/// What an expression may name: the locals, and what the `forall` around binds.
+#[derive(Clone, Copy)]
+pub struct Scope<'a> {
+    pub locals: &'a Names,
+    pub bound: &'a [Ident],
+}
+
+/// The number of a name that is not reserved.
+pub fn variable(names: &Names, name: &Ident) -> Option<usize>
+    ensures { MatchOption result ((i : ℕ) → is_reserved name.now ≡ false → number_of name.now names.now ≡ Some i → ⊥)
+        (λ i. (is_reserved name.now ≡ false) × (number_of name.now names.now ≡ Some i)) }
+{
+    if is_reserved(&name.bytes) {
+        return None;
+    }
+    names.number_of(name)
+}

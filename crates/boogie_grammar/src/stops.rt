@@ -1,0 +1,27 @@
+// Where a list of tokens goes wrong.
+ghost use Rattle.std.specs.Prelude.{◌≡◌};
+ghost use Rattle.boogie_grammar.specs.Faults.{place_at, fault_of};
+
+use crate::{BToken, BoogieFault};
+use grammar::Stop;
+use vb_base::Pos;
+
+/// The fault that a stop is, where the tokens end at this place.
+pub fn fault(stop: Stop<'_, BToken>, end: Pos) -> BoogieFault
+    ensures { result ≡ fault_of stop.entry end }
+{
+    match stop {
+        Stop::Memory => BoogieFault::Memory,
+        Stop::Before(rest) => BoogieFault::Syntax(place_of(rest, end)),
+    }
+}
+
+/// The place of the next token, or the end.
+fn place_of(tokens: &[BToken], end: Pos) -> Pos
+    ensures { result ≡ place_at tokens.now 0 end }
+{
+    match tokens.first() {
+        Some(token) => token.pos,
+        None => end,
+    }
+}

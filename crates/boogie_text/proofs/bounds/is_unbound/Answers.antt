@@ -1,9 +1,0 @@
-use Rattle.std.proofs.Common.{◌∙◌, sym}
-use Rattle.boogie_text.proofs.BoundLaws.{unbound_new, bound_old}
-use Rattle.boogie_text.proofs.bounds.is_unbound.Goals as goal
-
-pub returns-then-is_new : goal.returns-then-is_new
-returns-then-is_new c = unbound_new c.args.name.now c.args.locals.now c.args.bound.now _ c.if-is_new.ensures c.has.ensures
-
-pub returns-else-is_new : goal.returns-else-is_new
-returns-else-is_new c = c.is_new.ensures ∙ sym c.if-is_new.ensures ∙ bound_old c.args.name.now c.args.locals.now c.args.bound.now c.if-is_new.ensures

@@ -1,9 +1,0 @@
-use Rattle.std.proofs.Common.{length}
-use Rattle.boogie_text.proofs.LexLaws.{IsReached}
-use Rattle.boogie_text.proofs.lexer.cut.Given as goal
-
-abbrev pub invariant-loop-rest : goal.invariant-loop-rest
-invariant-loop-rest l = IsReached l.before l.bytes l.rest l.at.line l.at.col l.tokens.items
-
-abbrev pub decreases-loop-rest : goal.decreases-loop-rest
-decreases-loop-rest l = length l.rest

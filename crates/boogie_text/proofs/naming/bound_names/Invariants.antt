@@ -1,6 +1,0 @@
-use Rattle.std.proofs.Common.{◌≡◌, ◌++◌, [], drop}
-use Rattle.boogie_text.specs.Printed as text
-use Rattle.boogie_text.proofs.naming.bound_names.Given as goal
-
-abbrev pub invariant-loop : goal.invariant-loop
-invariant-loop l = l.chosen.items ++ text.bound_names l.taken l.chosen.items (drop l.index l.types) ≡ text.bound_names l.taken [] l.types

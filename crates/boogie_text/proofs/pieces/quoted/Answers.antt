@@ -1,5 +1,0 @@
-use Rattle.boogie_text.proofs.PieceLaws.{text_piece}
-use Rattle.boogie_text.proofs.pieces.quoted.Goals as goal
-
-pub returns : goal.returns
-returns c = text_piece c.args.rest.now c.unquoted_len-len.result c.in_ok-label.label c.unquoted_len-len.ensures c.if-len-rest.false c.in_ok-label.ensures
