@@ -18,3 +18,4 @@ pub mod BoogieProgress
 pub mod BoogieView
 pub mod BoogiePrinted
 pub mod BoogiePrintable
+pub mod Moves
