@@ -1,0 +1,7 @@
+-- The types of the keys so far.
+use Rattle.std.proofs.Common.{◌≡◌, map, take}
+use Rattle.enc_expr.specs.Kinds.{base_for}
+use Rattle.enc_expr.proofs.openings.indexed_map_of.Given as goal
+
+abbrev pub invariant-loop-ty : goal.invariant-loop-ty
+invariant-loop-ty l = l.keys.items ≡ map base_for (take l.ty-index l.params)

@@ -1,0 +1,17 @@
+pub mod Place
+pub mod Kinds
+pub mod Code
+pub mod Pieces
+pub mod Operators
+pub mod Encoding
+pub mod Coupling
+pub mod Alike
+pub mod Front
+pub mod Emits
+pub mod Boundary
+pub mod Typed
+pub mod Shallow
+pub mod Nodes
+pub mod View
+pub mod Checked
+pub mod Worked

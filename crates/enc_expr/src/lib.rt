@@ -1,0 +1,29 @@
+//! Expressions of Viper as code of Boogie, which fails, goes on and stops just as the expression does.
+//!
+//! `specs/` says what is written for each form (`Encoding`), how a state of Viper stands in the variables of Boogie
+//! (`Coupling`), and when a run of the code is alike (`Alike`).
+#![tactic(auto)]
+
+mod blocks;
+mod calls;
+mod codes;
+mod emits;
+mod fillings;
+pub mod laws;
+mod openings;
+mod operands;
+mod operators;
+mod places;
+mod readings;
+mod terms;
+pub mod worked;
+
+pub use blocks::{add, add_all};
+pub use calls::checked;
+pub use codes::{check, check_all, fill};
+pub use emits::Emit;
+pub use fillings::Source;
+pub use openings::{Part, taking};
+pub use operands::{Atom, Held, Located, Operand, atomic, in_locals};
+pub use places::{Maps, Place};
+pub use readings::{Kinds, Reading};

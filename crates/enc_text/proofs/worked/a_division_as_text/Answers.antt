@@ -1,0 +1,8 @@
+use Rattle.enc_text.proofs.Rows as rows
+use Rattle.enc_text.proofs.worked.a_division_as_text.Goals as goal
+
+pub returns-clause-code : goal.returns-clause-code
+returns-clause-code call = rows.division_code
+
+pub returns-clause-value : goal.returns-clause-value
+returns-clause-value call = rows.division_value
