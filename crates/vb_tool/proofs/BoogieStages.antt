@@ -15,11 +15,11 @@ use Rattle.boogie_tree.specs.Whole.{proc_of, program_of}
 use Rattle.boogie_tree.specs.declared.programs.BProgram.{BProgram as Program}
 use Rattle.boogie_tree.specs.declared.programs.Proc.{Proc}
 use Rattle.boogie_meaning.specs.Programs.{types_of, IsFirstIllTyped}
+use Rattle.boogie_grammar.specs.Faults.{IsFault}
+use Rattle.boogie_grammar.specs.declared.faults.BoogieFault.{BoogieFault}
+use Rattle.boogie_grammar.specs.declared.faults.BoogieFault.TheVariants as fault
 use Rattle.boogie_text.specs.Answers.{IsRead, UnlessMemory}
-use Rattle.boogie_text.specs.Faults.{IsFault}
 use Rattle.boogie_text.specs.Printable.{IsLiteral, FitsExpr, FitExprs, FitsStmt, FitStmts, FitsProc}
-use Rattle.boogie_text.specs.declared.faults.BoogieFault.{BoogieFault}
-use Rattle.boogie_text.specs.declared.faults.BoogieFault.TheVariants as fault
 use Rattle.boogie_text.proofs.SpelledLaws.{spelled_printable}
 use Rattle.boogie_run.specs.Start.{start_of, outcome_of, CanRun, IsWithinProgram}
 use Rattle.boogie_run.specs.Within.{IsWithinExpr, AreWithinExprs, IsWithinStmt, AreWithinStmts}

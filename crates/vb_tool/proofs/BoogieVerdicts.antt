@@ -15,11 +15,11 @@ use Rattle.boogie_meaning.specs.Programs.{types_of, brun_proc, IsTypedProgram, I
 use Rattle.boogie_meaning.specs.Run.{Run, Done, Stops, Failed, Blocked, Short, Over, Wrong}
 use Rattle.boogie_meaning.proofs.ProgramLaws.{is_first, is_first_back, no_ill_typed}
 use Rattle.boogie_meaning.proofs.RunTypedLaws as runs
+use Rattle.boogie_grammar.specs.Faults.{IsFault}
+use Rattle.boogie_grammar.specs.declared.faults.BoogieFault.{BoogieFault}
+use Rattle.boogie_grammar.specs.declared.faults.BoogieFault.TheVariants as fault
 use Rattle.boogie_text.specs.Answers.{IsRead}
-use Rattle.boogie_text.specs.Faults.{IsFault}
 use Rattle.boogie_text.specs.Printable.{FitsProc}
-use Rattle.boogie_text.specs.declared.faults.BoogieFault.{BoogieFault}
-use Rattle.boogie_text.specs.declared.faults.BoogieFault.TheVariants as fault
 use Rattle.boogie_text.proofs.FaultLaws.{one_fault, not_refused}
 use Rattle.boogie_text.proofs.Parsed.{one_program}
 use Rattle.boogie_text.proofs.SpelledLaws.{spelled_printable}

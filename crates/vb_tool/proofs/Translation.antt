@@ -16,11 +16,11 @@ use Rattle.boogie_tree.specs.Program.{BType, Local, Proc, BProgram}
 use Rattle.boogie_tree.specs.Stmt as s
 use Rattle.boogie_tree.specs.Values.{plain_type}
 use Rattle.boogie_tree.specs.Values as keys
+use Rattle.boogie_tree.specs.Nested.{expr_depth, stmts_depth, procs_depth}
 use Rattle.boogie_tree.specs.declared.exprs.BBase.TheVariants as base
-use Rattle.boogie_text.specs.Grammar.{local_names, proc_names}
-use Rattle.boogie_text.specs.Nested.{expr_depth, stmts_depth, procs_depth}
-use Rattle.boogie_text.specs.Printable.{IsFreeName, AreKeys, FitsExpr, FitStmts, FitsLocal, FitsProc, IsPrintable}
-use Rattle.boogie_text.specs.Spells.{BSpells}
+use Rattle.boogie_grammar.specs.Grammar.{local_names, proc_names}
+use Rattle.boogie_grammar.specs.Spells.{BSpells}
+use Rattle.boogie_text.specs.Printable.{IsFreeName, FitsExpr, FitStmts, FitsLocal, FitsProc, IsPrintable}
 use Rattle.boogie_text.proofs.NestedLaws.{shallow}
 use Rattle.boogie_text.proofs.Parsed.{one_program}
 use Rattle.boogie_meaning.specs.Programs.{types_of, HaveKeys, IsTypedProc, BoogieFails}
@@ -56,7 +56,7 @@ locals_fit : (names : List (List ℕ)) → list_all is_name names ≡ true → A
 locals_fit [] h = All-nil FitsLocal
 locals_fit (name ∷ names) h =
     let parts = and_parts (is_name name) (list_all is_name names) h in
-    let no_keys : AreKeys [] = All-nil _ in
+    let no_keys : keys.AreKeys [] = All-nil _ in
     All-cons FitsLocal (local_of name) (map local_of names) (record { name = free_local name parts.0; keys = no_keys }) (locals_fit names parts.1)
 
 int_fits : (n : ℕ) {e : v.Expr} → f.IsInt n e → FitsExpr n false (expr_code e)

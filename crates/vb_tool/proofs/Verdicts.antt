@@ -14,8 +14,9 @@ use Rattle.viper_syntax.specs.Step.{UnlessMemory}
 use Rattle.viper_syntax.proofs.AnswerLaws.{some_answer as some_cut}
 use Rattle.viper_syntax.proofs.FormLaws.{well_formed}
 use Rattle.viper_syntax.proofs.LexLaws.{one_lexed, one_fault, lexed_or_faulty}
-use Rattle.viper_parse.specs.Answers.{IsProgram as Spelled, GoesWrong, place_at, Gives as GivesTree, Refuses}
-use Rattle.viper_parse.specs.Spells.{Spells}
+use Rattle.viper_parse.specs.Answers.{IsProgram as Spelled, GoesWrong, Gives as GivesTree, Refuses}
+use Rattle.viper_grammar.specs.Spells.{Spells}
+use Rattle.viper_grammar.specs.Stops.{place_at}
 use Rattle.viper_syntax.specs.declared.faults.ParseFault.{ParseFault}
 use Rattle.viper_syntax.specs.declared.faults.ParseFault.TheVariants as parse
 use Rattle.viper_parse.proofs.GoodLaws.{good}
@@ -25,10 +26,10 @@ use Rattle.viper_core.specs.Program as p
 use Rattle.viper_core.specs.Weight.{weight}
 use Rattle.viper_types.specs.Checked.{IsRefused}
 use Rattle.viper_types.specs.Declaring.{program_typing}
-use Rattle.viper_types.specs.Outcome.{Judged, Found, Broken}
+use Rattle.viper_scope.specs.Outcome.{Judged, Found, Broken}
 use Rattle.viper_types.specs.Program.{IsProgram}
-use Rattle.viper_types.specs.declared.faults.TypeFault.{TypeFault}
-use Rattle.viper_types.specs.declared.faults.TypeFault.TheVariants as typed
+use Rattle.viper_scope.specs.declared.faults.TypeFault.{TypeFault}
+use Rattle.viper_scope.specs.declared.faults.TypeFault.TheVariants as typed
 use Rattle.viper_types.proofs.FormedProgram.{typed_program_is_formed}
 use Rattle.viper_types.proofs.ProgramFinds.{one_program_of}
 use Rattle.viper_types.proofs.ProgramLaws.{broken_is_no_program, typed_or_broken}

@@ -8,12 +8,13 @@ use Rattle.viper_syntax.specs.declared.tokens.Token.{Token}
 use Rattle.viper_syntax.specs.Decl as d
 use Rattle.viper_syntax.specs.Lexed.{IsLexed, HasFault}
 use Rattle.vb_base.specs.Place.{IsPlaceAfter, IsPlace}
-use Rattle.viper_parse.specs.Answers.{IsProgram as Spelled, place_at}
-use Rattle.viper_parse.specs.Spells.{Spells}
+use Rattle.viper_parse.specs.Answers.{IsProgram as Spelled}
+use Rattle.viper_grammar.specs.Spells.{Spells}
+use Rattle.viper_grammar.specs.Stops.{place_at}
 use Rattle.viper_core.specs.Program as p
 use Rattle.viper_core.specs.Weight.{weight}
 use Rattle.viper_types.specs.Declaring.{program_typing}
-use Rattle.viper_types.specs.Outcome.{Broken}
+use Rattle.viper_scope.specs.Outcome.{Broken}
 use Rattle.viper_types.specs.Program.{IsProgram}
 use Rattle.run_file.specs.Run.{SpellsViperRun, GoesWrongAt}
 use Rattle.vb_tool.specs.Limits.{max_file, max_weight}

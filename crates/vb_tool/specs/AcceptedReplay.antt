@@ -6,9 +6,9 @@ use Rattle.vb_base.specs.declared.places.Pos.{Pos}
 use Rattle.boogie_tree.specs.Program.{Proc, BProgram}
 use Rattle.boogie_tree.specs.Value.{BRun}
 use Rattle.boogie_meaning.specs.Programs.{types_of, IsTypedProgram, IsFirstIllTyped}
+use Rattle.boogie_grammar.specs.Faults.{IsFault}
+use Rattle.boogie_grammar.specs.declared.faults.BoogieFault.TheVariants as fault
 use Rattle.boogie_text.specs.Answers.{IsRead}
-use Rattle.boogie_text.specs.Faults.{IsFault}
-use Rattle.boogie_text.specs.declared.faults.BoogieFault.TheVariants as fault
 use Rattle.boogie_run.specs.Start.{start_of}
 use Rattle.run_file.specs.BoogieRun.{SpellsName, NamesNothingAt, SpellsBoogieRun, GoesWrongAt}
 use Rattle.vb_tool.specs.Limits.{max_boogie_file}

@@ -5,12 +5,12 @@ use Rattle.viper_syntax.specs.declared.tokens.LexFault.{LexFault}
 use Rattle.viper_syntax.specs.declared.tokens.LexFault.TheVariants as lex
 use Rattle.viper_syntax.specs.declared.faults.ParseFault.{ParseFault}
 use Rattle.viper_syntax.specs.declared.faults.ParseFault.TheVariants as parse
-use Rattle.boogie_text.specs.declared.faults.BoogieFault.{BoogieFault}
-use Rattle.boogie_text.specs.declared.faults.BoogieFault.TheVariants as boogie
+use Rattle.boogie_grammar.specs.declared.faults.BoogieFault.{BoogieFault}
+use Rattle.boogie_grammar.specs.declared.faults.BoogieFault.TheVariants as boogie
 use Rattle.run_file.specs.declared.runs.RunFileFault.{RunFileFault}
 use Rattle.run_file.specs.declared.runs.RunFileFault.TheVariants as run
-use Rattle.viper_types.specs.declared.faults.TypeFault.{TypeFault}
-use Rattle.viper_types.specs.declared.faults.TypeFault.TheVariants as typed
+use Rattle.viper_scope.specs.declared.faults.TypeFault.{TypeFault}
+use Rattle.viper_scope.specs.declared.faults.TypeFault.TheVariants as typed
 use Rattle.vb_tool.specs.declared.status.Refusal.TheVariants as refusal
 use Rattle.vb_tool.specs.declared.trouble.Trouble.{Trouble}
 use Rattle.vb_tool.specs.declared.trouble.Trouble.TheVariants.{Memory, Read, Refused}

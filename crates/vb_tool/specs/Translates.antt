@@ -5,8 +5,8 @@ use Rattle.viper_core.specs.Program as p
 use Rattle.viper_core.specs.declared.programs.Unit as unit
 use Rattle.viper_meaning.specs.Units.{ViperFails}
 use Rattle.boogie_tree.specs.Program.{Local, Proc, BProgram}
-use Rattle.boogie_text.specs.Depth.{IsShallow}
-use Rattle.boogie_text.specs.Spells.{BSpells}
+use Rattle.boogie_grammar.specs.Depth.{IsShallow}
+use Rattle.boogie_grammar.specs.Spells.{BSpells}
 use Rattle.boogie_meaning.specs.Programs.{IsTypedProgram, NeverWrong, BoogieFails}
 use Rattle.vb_tool.specs.Encoded.{unit_method, procedure_name, local_of}
 

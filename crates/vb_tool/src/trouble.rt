@@ -5,12 +5,12 @@ ghost use Rattle.vb_tool.specs.declared.status.Refusal.TheVariants as refusal;
 ghost use Rattle.vb_tool.specs.Converted.{trouble_of_file, trouble_of_lex, trouble_of_parse, trouble_of_types, trouble_of_boogie, trouble_of_run};
 
 use crate::status::Refusal;
-use boogie_text::BoogieFault;
+use boogie_grammar::BoogieFault;
 use run_file::RunFileFault;
 use vb_base::Memory;
 use vb_outer::FileFault;
+use viper_scope::TypeFault;
 use viper_syntax::{LexFault, ParseFault};
-use viper_types::TypeFault;
 
 /// Why the files of a command gave no text.
 #[derive(Clone, Copy, Debug, PartialEq, Eq)]

@@ -2,8 +2,8 @@ use Rattle.std.proofs.Common.{◌∙◌, Err, ap, sym, subst, refl}
 use Rattle.std.proofs.lemmas.Result.{err_from_is_err_and}
 use Rattle.std.specs.Option.{option_map}
 use Rattle.viper_core.specs.View as core
+use Rattle.boogie_grammar.specs.Spells.{BSpells}
 use Rattle.boogie_text.specs.Printable.{IsPrintable}
-use Rattle.boogie_text.specs.Spells.{BSpells}
 use Rattle.vb_tool.specs.Accepted.{of_text}
 use Rattle.vb_tool.specs.View as v
 use Rattle.vb_tool.proofs.CallLaws.{error_is}
