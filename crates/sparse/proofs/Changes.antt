@@ -44,7 +44,7 @@ grown_right-by n m l t (inr h) d a b (c, e, f) =
     let is : t ≡ max l m + 1 = f (omega arith, omega arith) in
     (grind arith, grind arith)
 
-shrunk_right-by : (n m l t : ℕ) → (m + 1 < l) ⊎ (l ≤ m + 1) → DifferByAtMost 1 l n → m ≤ n → n ≤ m + 1 → IsOver l m t → (t ≤ max l n + 1) × (max l n + 1 ≤ t + 1)
+pub shrunk_right-by : (n m l t : ℕ) → (m + 1 < l) ⊎ (l ≤ m + 1) → DifferByAtMost 1 l n → m ≤ n → n ≤ m + 1 → IsOver l m t → (t ≤ max l n + 1) × (max l n + 1 ≤ t + 1)
 shrunk_right-by n m l t (inl h) d a b (c, e, f) = (grind arith, grind arith)
 shrunk_right-by n m l t (inr h) d a b (c, e, f) =
     let is : t ≡ max l m + 1 = f (omega arith, omega arith) in

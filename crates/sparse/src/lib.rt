@@ -8,7 +8,6 @@ mod tree;
 
 use std::alloc::{AllocError, AllocFailed, Global};
 use std::marker::Model;
-use std::rc::Rc;
 use tree::Tree;
 
 /// There was no memory.
@@ -96,12 +95,7 @@ impl<K: Ord + Clone, V: Eq + Clone> Sparse<K, V> {
         ensures reduced_before { IsReduced K.cmp V.eq self.old }
         ensures reduced { IsReduced K.cmp V.eq self.new }
     {
-        if value == self.zero {
-            self.root = self.root.without(self.alloc, &key)?;
-            return Ok(());
-        }
-        let entry = Rc::new(self.alloc, (key, value))?;
-        self.root = self.root.with(self.alloc, &entry)?;
+        self.root = self.root.changed(self.alloc, &self.zero, key, value)?;
         Ok(())
     }
 

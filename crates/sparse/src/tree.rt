@@ -290,3 +290,29 @@ impl<K: Ord + Drop, V: Drop> Tree<K, V> {
         }
     }
 }
+
+impl<K: Ord + Drop, V: Eq + Drop> Tree<K, V> {
+    ghost use Rattle.sparse.specs.Map.{set, IsSame};
+
+    /// The tree of the map in which a key has a value, in a map whose default is `zero`.
+    pub(crate) fn changed(
+        &self,
+        alloc: Global,
+        zero: &V,
+        key: K,
+        value: V,
+    ) -> Result<Tree<K, V>, Memory>
+        requires ascending { IsStrictlySortedBy K.cmp (keys_of (entries (plain_of self.now))) }
+        requires balanced { IsBalanced (plain_of self.now) }
+        ensures balanced { IfOk result (λ t. IsBalanced (plain_of t)) }
+        ensures same { IfOk result (λ t. IsSame K.cmp V.eq
+            (set K.cmp V.eq (record { default = zero.now; entries = entries (plain_of self.now) }) key value)
+            (record { default = zero.now; entries = entries (plain_of t) })) }
+    {
+        if value == *zero {
+            return self.without(alloc, &key);
+        }
+        let entry = Rc::new(alloc, (key, value))?;
+        self.with(alloc, &entry)
+    }
+}

@@ -1,4 +1,5 @@
-use Rattle.std.proofs.Common.{rules, sym, ◌∙◌}
+use Rattle.std.proofs.Common.{rules}
+use Rattle.sparse.specs.Tree.{plain_of, entries}
 use Rattle.sparse.specs.declared.tree.Tree.{the_lemmas}
 use Rattle.sparse.proofs.Splits.{sorted_left, sorted_right}
 use Rattle.sparse.proofs.Changes.{IfOk-imp, put-Less, put-Equal, put-Greater}
@@ -8,36 +9,36 @@ pub with-requires : goal.with-requires
 with-requires g t c κs within =
     let s = rw c.in-Fork.is at c.requires.ascending in
     let b = rw c.in-Fork.is at c.requires.balanced in
-    (search (rules, the_lemmas), (within.0, (within.1, (rw c.deref-in-Less.ensures (sorted_left _ _ _ _ s), rw c.deref-in-Less.ensures b.0))))
+    (search (rules, the_lemmas), (within.0, (within.1, (rw c.deref-in-Less.ensures (sorted_left g.K.Ord.cmp (entries (plain_of c.in-Fork.node.value.left)) c.in-Fork.node.value.entry.value (entries (plain_of c.in-Fork.node.value.right)) s), rw c.deref-in-Less.ensures b.0))))
 
 pub with-requires-in-Greater : goal.with-requires-in-Greater
 with-requires-in-Greater g t c κs within =
     let s = rw c.in-Fork.is at c.requires.ascending in
     let b = rw c.in-Fork.is at c.requires.balanced in
-    (search (rules, the_lemmas), (within.0, (within.1, (rw c.deref-in-Greater.ensures (sorted_right _ _ _ _ s), rw c.deref-in-Greater.ensures b.1))))
+    (search (rules, the_lemmas), (within.0, (within.1, (rw c.deref-in-Greater.ensures (sorted_right g.K.Ord.cmp (entries (plain_of c.in-Fork.node.value.left)) c.in-Fork.node.value.entry.value (entries (plain_of c.in-Fork.node.value.right)) s), rw c.deref-in-Greater.ensures b.1))))
 
 pub returns-in_ok-left-in-Less : goal.returns-in_ok-left-in-Less
 returns-in_ok-left-in-Less g t c =
     let s = rw c.in-Fork.is at c.requires.ascending in
     let b = rw c.in-Fork.is at c.requires.balanced in
-    let h = rw (c.deref.ensures, c.deref-3.ensures, c.deref-2.ensures) at (sym c.cmp.ensures ∙ c.in-Less.is) in
+    let h = rw (c.cmp.ensures, c.deref.ensures, c.deref-3.ensures, c.deref-2.ensures) at c.in-Less.is in
     let left = rw c.deref-in-Less.ensures at c.in_ok-left-in-Less.ensures in
     let joined = rw (c.deref-in-Less-2.ensures, c.deref-in-Less-3.ensures) at c.balanced.ensures.joined in
-    rw c.in-Fork.is (IfOk-imp (λ u j. put-Less g.met.K.Ord.total _ _ _ _ _ s b c.args.entry.now.value h _ _ left j) _ joined)
+    rw c.in-Fork.is (IfOk-imp (λ u j. put-Less g.met.K.Ord.total (plain_of c.in-Fork.node.value.left) c.in-Fork.node.value.entry.value (plain_of c.in-Fork.node.value.right) c.in-Fork.node.value.height c.in-Fork.node.value.size s b c.args.entry.now.value h (plain_of c.in_ok-left-in-Less.left) _ left j) _ joined)
 
 pub returns-in-Equal : goal.returns-in-Equal
 returns-in-Equal g t c =
     let s = rw c.in-Fork.is at c.requires.ascending in
     let b = rw c.in-Fork.is at c.requires.balanced in
-    let h = rw (c.deref.ensures, c.deref-3.ensures, c.deref-2.ensures) at (sym c.cmp.ensures ∙ c.in-Equal.is) in
+    let h = rw (c.cmp.ensures, c.deref.ensures, c.deref-3.ensures, c.deref-2.ensures) at c.in-Equal.is in
     let made = rw (c.deref-in-Equal.ensures, c.deref-in-Equal-2.ensures) at c.fork-in-Equal.ensures.node in
-    rw c.in-Fork.is (IfOk-imp (λ u j. put-Equal g.met.K.Ord.total _ _ _ _ _ s b c.args.entry.now.value h _ j) _ made)
+    rw c.in-Fork.is (IfOk-imp (λ u j. put-Equal g.met.K.Ord.total (plain_of c.in-Fork.node.value.left) c.in-Fork.node.value.entry.value (plain_of c.in-Fork.node.value.right) c.in-Fork.node.value.height c.in-Fork.node.value.size s b c.args.entry.now.value h _ j) _ made)
 
 pub returns-in_ok-right-in-Greater : goal.returns-in_ok-right-in-Greater
 returns-in_ok-right-in-Greater g t c =
     let s = rw c.in-Fork.is at c.requires.ascending in
     let b = rw c.in-Fork.is at c.requires.balanced in
-    let h = rw (c.deref.ensures, c.deref-3.ensures, c.deref-2.ensures) at (sym c.cmp.ensures ∙ c.in-Greater.is) in
+    let h = rw (c.cmp.ensures, c.deref.ensures, c.deref-3.ensures, c.deref-2.ensures) at c.in-Greater.is in
     let right = rw c.deref-in-Greater.ensures at c.in_ok-right-in-Greater.ensures in
     let joined = rw (c.deref-in-Greater-2.ensures, c.deref-in-Greater-3.ensures) at c.balanced-in-Greater.ensures.joined in
-    rw c.in-Fork.is (IfOk-imp (λ u j. put-Greater g.met.K.Ord.total _ _ _ _ _ s b c.args.entry.now.value h _ _ right j) _ joined)
+    rw c.in-Fork.is (IfOk-imp (λ u j. put-Greater g.met.K.Ord.total (plain_of c.in-Fork.node.value.left) c.in-Fork.node.value.entry.value (plain_of c.in-Fork.node.value.right) c.in-Fork.node.value.height c.in-Fork.node.value.size s b c.args.entry.now.value h (plain_of c.in_ok-right-in-Greater.right) _ right j) _ joined)
