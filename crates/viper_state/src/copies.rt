@@ -39,12 +39,14 @@ pub fn copy_state(alloc: Global, state: &State) -> Result<State, Memory>
 pub fn empty_state(alloc: Global, layout: &Layout, memo: &Memo) -> Result<State, Memory>
     ensures { IfOk result (λ state. state_of state ≡ s.empty_state layout.now (memo_of memo.now)) }
 {
+    let mask = empty_maps(alloc, layout.fields.len())?;
+    let amount = empty_maps(alloc, layout.keys.len())?;
     let Memo { heap, content } = copy_memo(alloc, memo)?;
     Ok(State {
         heap,
         content,
-        mask: empty_maps(alloc, layout.fields.len())?,
-        amount: empty_maps(alloc, layout.keys.len())?,
+        mask,
+        amount,
     })
 }
 

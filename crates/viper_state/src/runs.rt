@@ -8,7 +8,7 @@ use vb_base::{Label, Memory, Pos};
 use vb_value::{Content, Frac, Value};
 
 /// Where a run of a unit begins.
-#[derive(Debug, Drop)]
+#[derive(Drop)]
 pub struct Opening {
     /// A value for each parameter and then for each return.
     pub store: Vec<Value>,
@@ -16,7 +16,7 @@ pub struct Opening {
 }
 
 /// One value that a run takes from outside.
-#[derive(Debug, Drop)]
+#[derive(Drop)]
 pub enum Choice {
     /// Which of two ways it goes.
     Branch(bool),
@@ -31,7 +31,7 @@ pub enum Choice {
 }
 
 /// A step of a run for which its translation takes choices.
-#[derive(Debug, Drop)]
+#[derive(Drop)]
 pub enum Event {
     /// A `Branch` choice was taken.
     Branch(bool),
@@ -50,7 +50,7 @@ pub enum Event {
 }
 
 /// The choices of a run, and what it recorded so far.
-#[derive(Debug, Drop)]
+#[derive(Drop)]
 pub struct Feed {
     pub choices: Vec<Choice>,
     /// How many of the choices were taken.
@@ -82,7 +82,7 @@ impl Feed {
 }
 
 /// What an expression is read in, besides the state.
-#[derive(Debug, Drop)]
+#[derive(Drop)]
 pub struct Scene {
     /// The values of the variables.
     pub store: Vec<Value>,

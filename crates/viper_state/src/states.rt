@@ -3,7 +3,7 @@ use sparse::Sparse;
 use vb_value::{Content, Frac, Key, Value};
 
 /// A heap and the contents of all instances.
-#[derive(Debug, Drop)]
+#[derive(Drop)]
 pub struct Memo {
     /// For each field the value at each reference.
     pub heap: Vec<Sparse<u64, Value>>,
@@ -12,7 +12,7 @@ pub struct Memo {
 }
 
 /// A state: a heap and contents, with the permission that is held.
-#[derive(Debug, Drop)]
+#[derive(Drop)]
 pub struct State {
     /// For each field the value at each reference.
     pub heap: Vec<Sparse<u64, Value>>,

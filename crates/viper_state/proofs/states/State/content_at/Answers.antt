@@ -1,12 +1,18 @@
-use Rattle.std.proofs.Common.{◌≡◌, slice_get, refl, ap, ◌∙◌, subst, Some}
-use Rattle.std.proofs.lemmas.Option.{slice_get_read}
+use Rattle.std.proofs.Common.{◌≡◌, Bor, Option, Some, None, refl, ap, ◌∙◌}
+use Rattle.std.specs.Option.{option_map}
+use Rattle.vb_value.specs.Key.{key_cmp}
 use Rattle.vb_value.specs.View.{content_of}
-use Rattle.viper_state.proofs.MapLaws.{content_read}
+use Rattle.vb_value.specs.declared.contents.Content.{Content}
+use Rattle.viper_state.specs.State.{found_at}
+use Rattle.viper_state.proofs.MapLaws.{contents_read}
 use Rattle.viper_state.proofs.states.State.content_at.Goals as goal
+
+seen : (o : Option (Bor Content)) → option_map (λ c. content_of c.now) o ≡ option_map content_of (option_map (λ c. c.now) o)
+seen None = refl
+seen (Some c) = refl
 
 pub returns : goal.returns
 returns c =
-    let item = c.in_ok-get.ensures.lookup in
-    let read = slice_get_read c.deref.result.now _ c.args.predicate c.in_ok-get.field-0.now refl item.3.0 item.1 in
-    let there = subst (λ maps. slice_get maps c.args.predicate ≡ Some c.in_ok-get.field-0.now) c.deref.ensures.value read in
-    ap (λ x. Some (content_of x)) c.get-2.ensures.value ∙ content_read c.args.self.now.content.items c.args.predicate c.in_ok-get.field-0.now c.args.key.now there
+    seen c.found.result ∙ ap (option_map content_of) c.found.ensures
+    ∙ ap (λ maps. option_map content_of (found_at key_cmp maps c.args.predicate c.args.key.now)) c.deref.ensures.value
+    ∙ contents_read c.args.self.now.content.items c.args.predicate c.args.key.now
