@@ -8,7 +8,7 @@ use crate::{Failed, count_fault};
 use std::marker::Model;
 
 /// Counts calls and faults, and knows the numbers of the calls that are to fail.
-#[derive(Debug, Drop)]
+#[derive(Drop)]
 pub(crate) struct Schedule {
     failing: Vec<u64>,
     made: u64,

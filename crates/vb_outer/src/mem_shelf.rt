@@ -12,21 +12,21 @@ use crate::{Failed, Shelf};
 use std::marker::Model;
 
 /// A file in memory.
-#[derive(Debug, Drop)]
+#[derive(Drop)]
 pub struct MemFile {
     pub name: Vec<u8>,
     pub bytes: Vec<u8>,
 }
 
 /// A place in a file: the file's index, and how many of its bytes lie before.
-#[derive(Clone, Copy, Debug)]
+#[derive(Clone, Copy)]
 struct Place {
     file: usize,
     at: usize,
 }
 
 /// Holds its files, gives a fixed number of bytes a call, and fails the calls that it is told to fail.
-#[derive(Debug, Drop)]
+#[derive(Drop)]
 pub struct MemShelf {
     files: Vec<MemFile>,
     begun: Option<Place>,

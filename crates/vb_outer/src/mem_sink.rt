@@ -14,7 +14,7 @@ use std::marker::Model;
 const FIRST_ROOM: usize = 4096;
 
 /// Keeps what is written to it, takes a fixed number of bytes a call, and fails the calls that it is told to fail.
-#[derive(Debug, Drop)]
+#[derive(Drop)]
 pub struct MemSink {
     written: Vec<u8>,
     most: usize,
