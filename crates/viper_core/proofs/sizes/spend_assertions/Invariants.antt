@@ -1,9 +1,0 @@
--- What was spent so far is the size of the assertions that were seen.
-use Rattle.std.proofs.Common.{◌≡◌, ◌+◌, drop}
-use Rattle.viper_core.specs.Size.{assertion_sizes}
-use Rattle.viper_core.specs.View.{assertions_of}
-use Rattle.viper_core.proofs.sizes.spend_assertions.Given as goal
-
-abbrev pub invariant-loop-a : goal.invariant-loop-a
-invariant-loop-a l =
-    l.left + assertion_sizes l.base (assertions_of l.assertions) ≡ l.fn.budget + assertion_sizes l.base (assertions_of (drop l.a-index l.assertions))
