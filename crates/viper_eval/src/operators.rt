@@ -2,9 +2,10 @@
 ghost use Rattle.std.specs.Prelude.{◌≡◌, ℤ, Bool, Option, pos, neg_ℤ, not};
 ghost use Rattle.std.specs.Ordering.{int_eq};
 ghost use Rattle.std.specs.Int.{int_div_euclid, int_rem_euclid};
-ghost use Rattle.vb_value.specs.Bound.{IsWithin, value_if};
-ghost use Rattle.vb_value.specs.Fraction.{whole, IsWithinFraction, product};
+ghost use Rattle.vb_value.specs.Bound.{IsWithin, is_within, value_if};
+ghost use Rattle.vb_value.specs.Fraction.{Fraction, whole, IsWithinFraction, product};
 ghost use Rattle.vb_value.specs.Value.{IsWithinValue};
+ghost use Rattle.vb_value.specs.declared.values.Value.TheVariants as value;
 ghost use Rattle.vb_value.specs.Bound.{Bounded};
 ghost use Rattle.viper_meaning.specs.Ends.{found, fitting};
 ghost use Rattle.viper_meaning.specs.Operators as o;
@@ -126,16 +127,30 @@ pub(crate) fn negation(value: Value) -> Result<Value, Stop>
     Ok(Value::Bool(!truth(value)?))
 }
 
+/// An Int, where its computation fits.
+fn int_value(answer: Result<i128, Over>, at: Pos) -> Result<Value, Stop>
+    ensures { (n : ℤ) → answer ≡ value_if (is_within n) n → ended result ≡ fitting Bounded (is_within n) at (value.Int n) }
+{
+    Ok(Value::Int(fitted(answer, at)?))
+}
+
+/// A Perm, where its computation fits.
+fn perm_value(answer: Result<Frac, Over>, at: Pos) -> Result<Value, Stop>
+    ensures { (fits : Bool) (q : Fraction) → answer ≡ value_if fits q → ended result ≡ fitting Bounded fits at (value.Perm q) }
+{
+    Ok(Value::Perm(fitted(answer, at)?))
+}
+
 fn sum(left: Value, right: Value, at: Pos) -> Result<Value, Stop>
     ensures { ended result ≡ o.sum_of Bounded left right at }
 {
     match left {
         Value::Int(x) => match right {
-            Value::Int(y) => Ok(Value::Int(fitted(int_add(x, y), at)?)),
+            Value::Int(y) => int_value(int_add(x, y), at),
             _ => Err(Stop::Blocked),
         },
         Value::Perm(p) => match right {
-            Value::Perm(q) => Ok(Value::Perm(fitted(Frac::add(p, q), at)?)),
+            Value::Perm(q) => perm_value(Frac::add(p, q), at),
             _ => Err(Stop::Blocked),
         },
         _ => Err(Stop::Blocked),
@@ -147,11 +162,11 @@ fn difference(left: Value, right: Value, at: Pos) -> Result<Value, Stop>
 {
     match left {
         Value::Int(x) => match right {
-            Value::Int(y) => Ok(Value::Int(fitted(int_sub(x, y), at)?)),
+            Value::Int(y) => int_value(int_sub(x, y), at),
             _ => Err(Stop::Blocked),
         },
         Value::Perm(p) => match right {
-            Value::Perm(q) => Ok(Value::Perm(fitted(Frac::sub(p, q), at)?)),
+            Value::Perm(q) => perm_value(Frac::sub(p, q), at),
             _ => Err(Stop::Blocked),
         },
         _ => Err(Stop::Blocked),
@@ -161,7 +176,7 @@ fn difference(left: Value, right: Value, at: Pos) -> Result<Value, Stop>
 fn fraction_product(p: Frac, q: Frac, at: Pos) -> Result<Value, Stop>
     ensures { ended result ≡ o.fraction_product Bounded p q at }
 {
-    Ok(Value::Perm(fitted(Frac::mul(p, q), at)?))
+    perm_value(Frac::mul(p, q), at)
 }
 
 /// A product. An Int `n` counts as `n/1` beside a Perm.
@@ -172,7 +187,7 @@ fn product(left: Value, right: Value, at: Pos) -> Result<Value, Stop>
 {
     match left {
         Value::Int(x) => match right {
-            Value::Int(y) => Ok(Value::Int(fitted(int_mul(x, y), at)?)),
+            Value::Int(y) => int_value(int_mul(x, y), at),
             Value::Perm(q) => fraction_product(fraction(x), q, at),
             _ => Err(Stop::Blocked),
         },
@@ -219,7 +234,7 @@ fn divided_by(scene: SceneRef, amount: Frac, number: i128, at: Pos) -> Result<Va
     if is_zero(number) {
         return Err(failure(scene, at, Kind::Div));
     }
-    Ok(Value::Perm(fitted(Frac::div_int(amount, number), at)?))
+    perm_value(Frac::div_int(amount, number), at)
 }
 
 fn quotient(scene: SceneRef, left: Value, right: Value, at: Pos) -> Result<Value, Stop>

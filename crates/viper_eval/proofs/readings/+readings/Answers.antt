@@ -27,99 +27,135 @@ use Rattle.viper_eval.proofs.ExpressionLaws as expression
 use Rattle.viper_eval.proofs.BodyLaws as body
 use Rattle.viper_eval.proofs.readings.+readings.Goals as goal
 
-pub evaluate-returns-in_err-variable-in-Var-clause-answers : goal.evaluate-returns-in_err-variable-in-Var-clause-answers
-evaluate-returns-in_err-variable-in-Var-clause-answers _ c =
-    passed _ _ c.from_residual.ensures.1 (expression.of_expr (state_of c.args.now.now) (lent c.args.scene) _ (ap expr_of c.in-Var.is)
-    (stops_with _ c.in_err-variable-in-Var.ensures))
+pub evaluate-returns-in_err-variable-in-Var : goal.evaluate-returns-in_err-variable-in-Var
+evaluate-returns-in_err-variable-in-Var _ c = record {
+  answers = passed _ _ c.from_residual.ensures.1 (expression.of_expr (state_of c.args.now.now) (lent c.args.scene) _ (ap expr_of c.in-Var.is)
+      (stops_with _ c.in_err-variable-in-Var.ensures));
+  left = refl;
+}
 
-pub evaluate-returns-in_ok-variable-in-Var-clause-answers : goal.evaluate-returns-in_ok-variable-in-Var-clause-answers
-evaluate-returns-in_ok-variable-in-Var-clause-answers _ c =
-    expression.of_expr (state_of c.args.now.now) (lent c.args.scene) _ (ap expr_of c.in-Var.is) (ends_with _ c.in_ok-variable-in-Var.ensures)
+pub evaluate-returns-in_ok-variable-in-Var : goal.evaluate-returns-in_ok-variable-in-Var
+evaluate-returns-in_ok-variable-in-Var _ c = record {
+  answers = expression.of_expr (state_of c.args.now.now) (lent c.args.scene) _ (ap expr_of c.in-Var.is) (ends_with _ c.in_ok-variable-in-Var.ensures);
+  left = refl;
+}
 
-pub evaluate-returns-in-Int-clause-answers : goal.evaluate-returns-in-Int-clause-answers
-evaluate-returns-in-Int-clause-answers _ c =
-    expression.of_expr (state_of c.args.now.now) (lent c.args.scene) _ (ap expr_of c.in-Int.is)
-    (ends_with _ (ap (λ n. is (variant.Int n)) (read_back c.in-Int.number (subst IsWithinExpr (ap expr_of c.in-Int.is) c.requires.e_within))))
+pub evaluate-returns-in-Int : goal.evaluate-returns-in-Int
+evaluate-returns-in-Int _ c = record {
+  answers = expression.of_expr (state_of c.args.now.now) (lent c.args.scene) _ (ap expr_of c.in-Int.is)
+      (ends_with _ (ap (λ n. is (variant.Int n)) (read_back c.in-Int.number (subst IsWithinExpr (ap expr_of c.in-Int.is) c.requires.e_within))));
+  left = refl;
+}
 
-pub evaluate-returns-in-Bool-clause-answers : goal.evaluate-returns-in-Bool-clause-answers
-evaluate-returns-in-Bool-clause-answers _ c =
-    expression.of_expr (state_of c.args.now.now) (lent c.args.scene) _ (ap expr_of c.in-Bool.is) (ends_with _ refl)
+pub evaluate-returns-in-Bool : goal.evaluate-returns-in-Bool
+evaluate-returns-in-Bool _ c = record {
+  answers = expression.of_expr (state_of c.args.now.now) (lent c.args.scene) _ (ap expr_of c.in-Bool.is) (ends_with _ refl);
+  left = refl;
+}
 
-pub evaluate-returns-in-Null-clause-answers : goal.evaluate-returns-in-Null-clause-answers
-evaluate-returns-in-Null-clause-answers _ c =
-    expression.of_expr (state_of c.args.now.now) (lent c.args.scene) _ (ap expr_of c.in-Null.is) (ends_with _ refl)
+pub evaluate-returns-in-Null : goal.evaluate-returns-in-Null
+evaluate-returns-in-Null _ c = record {
+  answers = expression.of_expr (state_of c.args.now.now) (lent c.args.scene) _ (ap expr_of c.in-Null.is) (ends_with _ refl);
+  left = refl;
+}
 
-pub evaluate-returns-in-Part-clause-answers : goal.evaluate-returns-in-Part-clause-answers
-evaluate-returns-in-Part-clause-answers _ c =
-    expression.of_expr (state_of c.args.now.now) (lent c.args.scene) _ (ap expr_of c.in-Part.is) (ends_with _ refl)
+pub evaluate-returns-in-Part : goal.evaluate-returns-in-Part
+evaluate-returns-in-Part _ c = record {
+  answers = expression.of_expr (state_of c.args.now.now) (lent c.args.scene) _ (ap expr_of c.in-Part.is) (ends_with _ refl);
+  left = refl;
+}
 
-pub evaluate-returns-in_err-evaluate-in-Neg-clause-answers : goal.evaluate-returns-in_err-evaluate-in-Neg-clause-answers
-evaluate-returns-in_err-evaluate-in-Neg-clause-answers _ c =
-    passed _ _ c.from_residual-in_err-evaluate-in-Neg.ensures.1 (expression.neg_stops (state_of c.args.now.now) (lent c.args.scene)
-    (neg_is c.in-Neg.is c.deref.ensures) c.in_err-evaluate-in-Neg.ensures.answers)
+pub evaluate-returns-in_err-evaluate-in-Neg : goal.evaluate-returns-in_err-evaluate-in-Neg
+evaluate-returns-in_err-evaluate-in-Neg _ c = record {
+  answers = passed _ _ c.from_residual-in_err-evaluate-in-Neg.ensures.1 (expression.neg_stops (state_of c.args.now.now) (lent c.args.scene)
+      (neg_is c.in-Neg.is c.deref.ensures) c.in_err-evaluate-in-Neg.ensures.answers);
+  left = c.in_err-evaluate-in-Neg.ensures.left;
+}
 
 pub evaluate-negative-requires : goal.evaluate-negative-requires
 evaluate-negative-requires _ c =
     value_within (expr_of c.deref.result.now) (state_of c.args.now.now) (lent c.args.scene)
     (subst IsWithinExpr (neg_is c.in-Neg.is c.deref.ensures) c.requires.e_within) c.requires.now_within c.requires.scene_within c.in_ok-evaluate-in-Neg.ensures.answers
 
-pub evaluate-returns-in_err-negative-in-Neg-clause-answers : goal.evaluate-returns-in_err-negative-in-Neg-clause-answers
-evaluate-returns-in_err-negative-in-Neg-clause-answers _ c =
-    passed _ _ c.from_residual-in_err-negative-in-Neg.ensures.1 (expression.neg_goes (state_of c.args.now.now) (lent c.args.scene)
-    (neg_is c.in-Neg.is c.deref.ensures) c.in_ok-evaluate-in-Neg.ensures.answers (stops_with _ c.in_err-negative-in-Neg.ensures))
+pub evaluate-returns-in_err-negative-in-Neg : goal.evaluate-returns-in_err-negative-in-Neg
+evaluate-returns-in_err-negative-in-Neg _ c = record {
+  answers = passed _ _ c.from_residual-in_err-negative-in-Neg.ensures.1 (expression.neg_goes (state_of c.args.now.now) (lent c.args.scene)
+      (neg_is c.in-Neg.is c.deref.ensures) c.in_ok-evaluate-in-Neg.ensures.answers (stops_with _ c.in_err-negative-in-Neg.ensures));
+  left = c.in_ok-evaluate-in-Neg.ensures.left;
+}
 
-pub evaluate-returns-in_ok-negative-in-Neg-clause-answers : goal.evaluate-returns-in_ok-negative-in-Neg-clause-answers
-evaluate-returns-in_ok-negative-in-Neg-clause-answers _ c =
-    expression.neg_goes (state_of c.args.now.now) (lent c.args.scene) (neg_is c.in-Neg.is c.deref.ensures) c.in_ok-evaluate-in-Neg.ensures.answers
-    (ends_with _ c.in_ok-negative-in-Neg.ensures)
+pub evaluate-returns-in_ok-negative-in-Neg : goal.evaluate-returns-in_ok-negative-in-Neg
+evaluate-returns-in_ok-negative-in-Neg _ c = record {
+  answers = expression.neg_goes (state_of c.args.now.now) (lent c.args.scene) (neg_is c.in-Neg.is c.deref.ensures) c.in_ok-evaluate-in-Neg.ensures.answers
+      (ends_with _ c.in_ok-negative-in-Neg.ensures);
+  left = c.in_ok-evaluate-in-Neg.ensures.left;
+}
 
-pub evaluate-returns-in_err-evaluate-in-Not-clause-answers : goal.evaluate-returns-in_err-evaluate-in-Not-clause-answers
-evaluate-returns-in_err-evaluate-in-Not-clause-answers _ c =
-    passed _ _ c.from_residual-in_err-evaluate-in-Not.ensures.1 (expression.not_stops (state_of c.args.now.now) (lent c.args.scene)
-    (not_is c.in-Not.is c.deref-in-Not.ensures) c.in_err-evaluate-in-Not.ensures.answers)
+pub evaluate-returns-in_err-evaluate-in-Not : goal.evaluate-returns-in_err-evaluate-in-Not
+evaluate-returns-in_err-evaluate-in-Not _ c = record {
+  answers = passed _ _ c.from_residual-in_err-evaluate-in-Not.ensures.1 (expression.not_stops (state_of c.args.now.now) (lent c.args.scene)
+      (not_is c.in-Not.is c.deref-in-Not.ensures) c.in_err-evaluate-in-Not.ensures.answers);
+  left = c.in_err-evaluate-in-Not.ensures.left;
+}
 
-pub evaluate-returns-in_err-negation-in-Not-clause-answers : goal.evaluate-returns-in_err-negation-in-Not-clause-answers
-evaluate-returns-in_err-negation-in-Not-clause-answers _ c =
-    passed _ _ c.from_residual-in_err-negation-in-Not.ensures.1 (expression.not_goes (state_of c.args.now.now) (lent c.args.scene)
-    (not_is c.in-Not.is c.deref-in-Not.ensures) c.in_ok-evaluate-in-Not.ensures.answers (stops_with _ c.in_err-negation-in-Not.ensures))
+pub evaluate-returns-in_err-negation-in-Not : goal.evaluate-returns-in_err-negation-in-Not
+evaluate-returns-in_err-negation-in-Not _ c = record {
+  answers = passed _ _ c.from_residual-in_err-negation-in-Not.ensures.1 (expression.not_goes (state_of c.args.now.now) (lent c.args.scene)
+      (not_is c.in-Not.is c.deref-in-Not.ensures) c.in_ok-evaluate-in-Not.ensures.answers (stops_with _ c.in_err-negation-in-Not.ensures));
+  left = c.in_ok-evaluate-in-Not.ensures.left;
+}
 
-pub evaluate-returns-in_ok-negation-in-Not-clause-answers : goal.evaluate-returns-in_ok-negation-in-Not-clause-answers
-evaluate-returns-in_ok-negation-in-Not-clause-answers _ c =
-    expression.not_goes (state_of c.args.now.now) (lent c.args.scene) (not_is c.in-Not.is c.deref-in-Not.ensures) c.in_ok-evaluate-in-Not.ensures.answers
-    (ends_with _ c.in_ok-negation-in-Not.ensures)
+pub evaluate-returns-in_ok-negation-in-Not : goal.evaluate-returns-in_ok-negation-in-Not
+evaluate-returns-in_ok-negation-in-Not _ c = record {
+  answers = expression.not_goes (state_of c.args.now.now) (lent c.args.scene) (not_is c.in-Not.is c.deref-in-Not.ensures) c.in_ok-evaluate-in-Not.ensures.answers
+      (ends_with _ c.in_ok-negation-in-Not.ensures);
+  left = c.in_ok-evaluate-in-Not.ensures.left;
+}
 
-pub evaluate-returns-in_err-left-in-Bin-clause-answers : goal.evaluate-returns-in_err-left-in-Bin-clause-answers
-evaluate-returns-in_err-left-in-Bin-clause-answers _ c =
-    passed _ _ c.from_residual-in_err-left-in-Bin.ensures.1 (expression.left_stops (state_of c.args.now.now) (lent c.args.scene)
-    (bin_is c.in-Bin.is c.deref-in-Bin.ensures refl) c.in_err-left-in-Bin.ensures.answers)
+pub evaluate-returns-in_err-left-in-Bin : goal.evaluate-returns-in_err-left-in-Bin
+evaluate-returns-in_err-left-in-Bin _ c = record {
+  answers = passed _ _ c.from_residual-in_err-left-in-Bin.ensures.1 (expression.left_stops (state_of c.args.now.now) (lent c.args.scene)
+      (bin_is c.in-Bin.is c.deref-in-Bin.ensures refl) c.in_err-left-in-Bin.ensures.answers);
+  left = c.in_err-left-in-Bin.ensures.left;
+}
 
-pub evaluate-returns-in_err-answer-in-Bin-clause-answers : goal.evaluate-returns-in_err-answer-in-Bin-clause-answers
-evaluate-returns-in_err-answer-in-Bin-clause-answers _ c =
-    passed _ _ c.from_residual-in_err-answer-in-Bin.ensures.1 (expression.settling_stops (state_of c.args.now.now) (lent c.args.scene)
-    (bin_is c.in-Bin.is c.deref-in-Bin.ensures refl) c.in_ok-left-in-Bin.ensures.answers c.in_err-answer-in-Bin.ensures)
+pub evaluate-returns-in_err-answer-in-Bin : goal.evaluate-returns-in_err-answer-in-Bin
+evaluate-returns-in_err-answer-in-Bin _ c = record {
+  answers = passed _ _ c.from_residual-in_err-answer-in-Bin.ensures.1 (expression.settling_stops (state_of c.args.now.now) (lent c.args.scene)
+      (bin_is c.in-Bin.is c.deref-in-Bin.ensures refl) c.in_ok-left-in-Bin.ensures.answers c.in_err-answer-in-Bin.ensures);
+  left = c.in_ok-left-in-Bin.ensures.left;
+}
 
-pub evaluate-returns-in-Some-clause-answers : goal.evaluate-returns-in-Some-clause-answers
-evaluate-returns-in-Some-clause-answers _ c =
-    expression.left_settles (state_of c.args.now.now) (lent c.args.scene) (bin_is c.in-Bin.is c.deref-in-Bin.ensures refl) c.in_ok-left-in-Bin.ensures.answers
-    (sym (ap is c.in-Some.is) ∙ c.in_ok-answer-in-Bin.ensures)
+pub evaluate-returns-in-Some : goal.evaluate-returns-in-Some
+evaluate-returns-in-Some _ c = record {
+  answers = expression.left_settles (state_of c.args.now.now) (lent c.args.scene) (bin_is c.in-Bin.is c.deref-in-Bin.ensures refl) c.in_ok-left-in-Bin.ensures.answers
+      (sym (ap is c.in-Some.is) ∙ c.in_ok-answer-in-Bin.ensures);
+  left = c.in_ok-left-in-Bin.ensures.left;
+}
 
-pub evaluate-returns-in_err-right-in-Bin-clause-answers : goal.evaluate-returns-in_err-right-in-Bin-clause-answers
-evaluate-returns-in_err-right-in-Bin-clause-answers _ c =
-    passed _ _ c.from_residual-in_err-right-in-Bin.ensures.1 (expression.right_stops (state_of c.args.now.now) (lent c.args.scene)
-    (bin_is c.in-Bin.is c.deref-in-Bin.ensures c.deref-in-Bin-2.ensures) c.in_ok-left-in-Bin.ensures.answers (sym (ap is c.in_default.is) ∙ c.in_ok-answer-in-Bin.ensures)
-    c.in_err-right-in-Bin.ensures.answers)
+pub evaluate-returns-in_err-right-in-Bin : goal.evaluate-returns-in_err-right-in-Bin
+evaluate-returns-in_err-right-in-Bin _ c = record {
+  answers = passed _ _ c.from_residual-in_err-right-in-Bin.ensures.1 (expression.right_stops (state_of c.args.now.now) (lent c.args.scene)
+      (bin_is c.in-Bin.is c.deref-in-Bin.ensures c.deref-in-Bin-2.ensures) c.in_ok-left-in-Bin.ensures.answers (sym (ap is c.in_default.is) ∙ c.in_ok-answer-in-Bin.ensures)
+      c.in_err-right-in-Bin.ensures.answers);
+  left = c.in_err-right-in-Bin.ensures.left ∙ c.in_ok-left-in-Bin.ensures.left;
+}
 
-pub evaluate-returns-in_err-combined-in-Bin-clause-answers : goal.evaluate-returns-in_err-combined-in-Bin-clause-answers
-evaluate-returns-in_err-combined-in-Bin-clause-answers _ c =
-    passed _ _ c.from_residual-in_err-combined-in-Bin.ensures.1 (expression.both_go (state_of c.args.now.now) (lent c.args.scene)
-    (bin_is c.in-Bin.is c.deref-in-Bin.ensures c.deref-in-Bin-2.ensures) c.in_ok-left-in-Bin.ensures.answers (sym (ap is c.in_default.is) ∙ c.in_ok-answer-in-Bin.ensures)
-    c.in_ok-right-in-Bin.ensures.answers (stops_with _ c.in_err-combined-in-Bin.ensures))
+pub evaluate-returns-in_err-combined-in-Bin : goal.evaluate-returns-in_err-combined-in-Bin
+evaluate-returns-in_err-combined-in-Bin _ c = record {
+  answers = passed _ _ c.from_residual-in_err-combined-in-Bin.ensures.1 (expression.both_go (state_of c.args.now.now) (lent c.args.scene)
+      (bin_is c.in-Bin.is c.deref-in-Bin.ensures c.deref-in-Bin-2.ensures) c.in_ok-left-in-Bin.ensures.answers (sym (ap is c.in_default.is) ∙ c.in_ok-answer-in-Bin.ensures)
+      c.in_ok-right-in-Bin.ensures.answers (stops_with _ c.in_err-combined-in-Bin.ensures));
+  left = c.in_ok-right-in-Bin.ensures.left ∙ c.in_ok-left-in-Bin.ensures.left;
+}
 
-pub evaluate-returns-in_ok-combined-in-Bin-clause-answers : goal.evaluate-returns-in_ok-combined-in-Bin-clause-answers
-evaluate-returns-in_ok-combined-in-Bin-clause-answers _ c =
-    expression.both_go (state_of c.args.now.now) (lent c.args.scene) (bin_is c.in-Bin.is c.deref-in-Bin.ensures c.deref-in-Bin-2.ensures)
-    c.in_ok-left-in-Bin.ensures.answers (sym (ap is c.in_default.is) ∙ c.in_ok-answer-in-Bin.ensures) c.in_ok-right-in-Bin.ensures.answers
-    (ends_with _ c.in_ok-combined-in-Bin.ensures)
+pub evaluate-returns-in_ok-combined-in-Bin : goal.evaluate-returns-in_ok-combined-in-Bin
+evaluate-returns-in_ok-combined-in-Bin _ c = record {
+  answers = expression.both_go (state_of c.args.now.now) (lent c.args.scene) (bin_is c.in-Bin.is c.deref-in-Bin.ensures c.deref-in-Bin-2.ensures)
+      c.in_ok-left-in-Bin.ensures.answers (sym (ap is c.in_default.is) ∙ c.in_ok-answer-in-Bin.ensures) c.in_ok-right-in-Bin.ensures.answers
+      (ends_with _ c.in_ok-combined-in-Bin.ensures);
+  left = c.in_ok-right-in-Bin.ensures.left ∙ c.in_ok-left-in-Bin.ensures.left;
+}
 
 pub evaluate-combined-requires-clause-left_within : goal.evaluate-combined-requires-clause-left_within
 evaluate-combined-requires-clause-left_within _ c =
@@ -133,38 +169,50 @@ evaluate-combined-requires-clause-right_within _ c =
     (subst IsWithinExpr (bin_is c.in-Bin.is c.deref-in-Bin.ensures c.deref-in-Bin-2.ensures) c.requires.e_within).1 c.requires.now_within c.requires.scene_within
     c.in_ok-right-in-Bin.ensures.answers
 
-pub evaluate-returns-in_err-truth_of-in-Choose-clause-answers : goal.evaluate-returns-in_err-truth_of-in-Choose-clause-answers
-evaluate-returns-in_err-truth_of-in-Choose-clause-answers _ c =
-    passed _ _ c.from_residual-in_err-truth_of-in-Choose.ensures.1
-    (expression.choose_stops (state_of c.args.now.now) (lent c.args.scene) (choose_is c.in-Choose.is c.deref-in-Choose.ensures refl refl)
-    c.in_err-truth_of-in-Choose.ensures.answers)
+pub evaluate-returns-in_err-truth_of-in-Choose : goal.evaluate-returns-in_err-truth_of-in-Choose
+evaluate-returns-in_err-truth_of-in-Choose _ c = record {
+  answers = passed _ _ c.from_residual-in_err-truth_of-in-Choose.ensures.1
+      (expression.choose_stops (state_of c.args.now.now) (lent c.args.scene) (choose_is c.in-Choose.is c.deref-in-Choose.ensures refl refl)
+      c.in_err-truth_of-in-Choose.ensures.answers);
+  left = c.in_err-truth_of-in-Choose.ensures.left;
+}
 
-pub evaluate-returns-then-branch-clause-answers : goal.evaluate-returns-then-branch-clause-answers
-evaluate-returns-then-branch-clause-answers _ c =
-    expression.choose_so (state_of c.args.now.now) (lent c.args.scene) (choose_is c.in-Choose.is c.deref-in-Choose.ensures c.deref-then-branch.ensures refl)
-    c.in_ok-truth_of-in-Choose.ensures.answers c.if-branch.true c.evaluate-then-branch.ensures.answers
+pub evaluate-returns-then-branch : goal.evaluate-returns-then-branch
+evaluate-returns-then-branch _ c = record {
+  answers = expression.choose_so (state_of c.args.now.now) (lent c.args.scene) (choose_is c.in-Choose.is c.deref-in-Choose.ensures c.deref-then-branch.ensures refl)
+      c.in_ok-truth_of-in-Choose.ensures.answers c.if-branch.true c.evaluate-then-branch.ensures.answers;
+  left = c.evaluate-then-branch.ensures.left ∙ c.in_ok-truth_of-in-Choose.ensures.left;
+}
 
-pub evaluate-returns-else-branch-clause-answers : goal.evaluate-returns-else-branch-clause-answers
-evaluate-returns-else-branch-clause-answers _ c =
-    expression.choose_not (state_of c.args.now.now) (lent c.args.scene) (choose_is c.in-Choose.is c.deref-in-Choose.ensures refl c.deref-else-branch.ensures)
-    c.in_ok-truth_of-in-Choose.ensures.answers c.if-branch.false c.evaluate-else-branch.ensures.answers
+pub evaluate-returns-else-branch : goal.evaluate-returns-else-branch
+evaluate-returns-else-branch _ c = record {
+  answers = expression.choose_not (state_of c.args.now.now) (lent c.args.scene) (choose_is c.in-Choose.is c.deref-in-Choose.ensures refl c.deref-else-branch.ensures)
+      c.in_ok-truth_of-in-Choose.ensures.answers c.if-branch.false c.evaluate-else-branch.ensures.answers;
+  left = c.evaluate-else-branch.ensures.left ∙ c.in_ok-truth_of-in-Choose.ensures.left;
+}
 
-pub evaluate-returns-in_err-receiver-in-Field-clause-answers : goal.evaluate-returns-in_err-receiver-in-Field-clause-answers
-evaluate-returns-in_err-receiver-in-Field-clause-answers _ c =
-    passed _ _ c.from_residual-in_err-receiver-in-Field.ensures.1
-    (expression.field_stops (state_of c.args.now.now) (lent c.args.scene) (field_is c.in-Field.is c.deref-in-Field.ensures)
-    c.in_err-receiver-in-Field.ensures.answers)
+pub evaluate-returns-in_err-receiver-in-Field : goal.evaluate-returns-in_err-receiver-in-Field
+evaluate-returns-in_err-receiver-in-Field _ c = record {
+  answers = passed _ _ c.from_residual-in_err-receiver-in-Field.ensures.1
+      (expression.field_stops (state_of c.args.now.now) (lent c.args.scene) (field_is c.in-Field.is c.deref-in-Field.ensures)
+      c.in_err-receiver-in-Field.ensures.answers);
+  left = c.in_err-receiver-in-Field.ensures.left;
+}
 
-pub evaluate-returns-in_err-read_field-in-Field-clause-answers : goal.evaluate-returns-in_err-read_field-in-Field-clause-answers
-evaluate-returns-in_err-read_field-in-Field-clause-answers _ c =
-    passed _ _ c.from_residual-in_err-read_field-in-Field.ensures.1
-    (expression.field_goes (state_of c.args.now.now) (lent c.args.scene) (field_is c.in-Field.is c.deref-in-Field.ensures) c.in_ok-receiver-in-Field.ensures.answers
-    (stops_with _ c.in_err-read_field-in-Field.ensures))
+pub evaluate-returns-in_err-read_field-in-Field : goal.evaluate-returns-in_err-read_field-in-Field
+evaluate-returns-in_err-read_field-in-Field _ c = record {
+  answers = passed _ _ c.from_residual-in_err-read_field-in-Field.ensures.1
+      (expression.field_goes (state_of c.args.now.now) (lent c.args.scene) (field_is c.in-Field.is c.deref-in-Field.ensures) c.in_ok-receiver-in-Field.ensures.answers
+      (stops_with _ c.in_err-read_field-in-Field.ensures));
+  left = c.in_ok-receiver-in-Field.ensures.left;
+}
 
-pub evaluate-returns-in_ok-read_field-in-Field-clause-answers : goal.evaluate-returns-in_ok-read_field-in-Field-clause-answers
-evaluate-returns-in_ok-read_field-in-Field-clause-answers _ c =
-    expression.field_goes (state_of c.args.now.now) (lent c.args.scene) (field_is c.in-Field.is c.deref-in-Field.ensures) c.in_ok-receiver-in-Field.ensures.answers
-    (ends_with _ c.in_ok-read_field-in-Field.ensures)
+pub evaluate-returns-in_ok-read_field-in-Field : goal.evaluate-returns-in_ok-read_field-in-Field
+evaluate-returns-in_ok-read_field-in-Field _ c = record {
+  answers = expression.field_goes (state_of c.args.now.now) (lent c.args.scene) (field_is c.in-Field.is c.deref-in-Field.ensures) c.in_ok-receiver-in-Field.ensures.answers
+      (ends_with _ c.in_ok-read_field-in-Field.ensures);
+  left = c.in_ok-receiver-in-Field.ensures.left;
+}
 
 pub evaluate-unfold-requires : goal.evaluate-unfold-requires
 evaluate-unfold-requires _ c = (
@@ -175,50 +223,72 @@ evaluate-unfold-requires _ c = (
   ),
 )
 
-pub evaluate-returns-in-Unfolding-clause-answers : goal.evaluate-returns-in-Unfolding-clause-answers
-evaluate-returns-in-Unfolding-clause-answers _ c =
-    expression.of_expr (state_of c.args.now.now) (lent c.args.scene) _ (unfolding_is c.in-Unfolding.is c.deref-in-Unfolding.ensures) c.unfold.ensures.answers
+pub evaluate-returns-in-Unfolding : goal.evaluate-returns-in-Unfolding
+evaluate-returns-in-Unfolding _ c = record {
+  answers = expression.of_expr (state_of c.args.now.now) (lent c.args.scene) _ (unfolding_is c.in-Unfolding.is c.deref-in-Unfolding.ensures) c.unfold.ensures.answers;
+  left = c.unfold.ensures.left;
+}
 
-pub truth_of-returns-in_err-evaluate-clause-answers : goal.truth_of-returns-in_err-evaluate-clause-answers
-truth_of-returns-in_err-evaluate-clause-answers _ c =
-    passed _ _ c.from_residual.ensures.1 (stops_then truth_of c.in_err-evaluate.ensures.answers)
+pub truth_of-returns-in_err-evaluate : goal.truth_of-returns-in_err-evaluate
+truth_of-returns-in_err-evaluate _ c = record {
+  answers = passed _ _ c.from_residual.ensures.1 (stops_then truth_of c.in_err-evaluate.ensures.answers);
+  left = c.in_err-evaluate.ensures.left;
+}
 
-pub truth_of-returns-in_err-truth-clause-answers : goal.truth_of-returns-in_err-truth-clause-answers
-truth_of-returns-in_err-truth-clause-answers _ c =
-    passed _ _ c.from_residual-in_err-truth.ensures.1 (goes_then truth_of c.in_ok-evaluate.ensures.answers (stops_with _ c.in_err-truth.ensures))
+pub truth_of-returns-in_err-truth : goal.truth_of-returns-in_err-truth
+truth_of-returns-in_err-truth _ c = record {
+  answers = passed _ _ c.from_residual-in_err-truth.ensures.1 (goes_then truth_of c.in_ok-evaluate.ensures.answers (stops_with _ c.in_err-truth.ensures));
+  left = c.in_ok-evaluate.ensures.left;
+}
 
-pub truth_of-returns-clause-answers : goal.truth_of-returns-clause-answers
-truth_of-returns-clause-answers _ c =
-    goes_then truth_of c.in_ok-evaluate.ensures.answers (ends_with _ c.in_ok-truth.ensures)
+pub truth_of-returns : goal.truth_of-returns
+truth_of-returns _ c = record {
+  answers = goes_then truth_of c.in_ok-evaluate.ensures.answers (ends_with _ c.in_ok-truth.ensures);
+  left = c.in_ok-evaluate.ensures.left;
+}
 
-pub reference_of-returns-in_err-evaluate-clause-answers : goal.reference_of-returns-in_err-evaluate-clause-answers
-reference_of-returns-in_err-evaluate-clause-answers _ c =
-    passed _ _ c.from_residual.ensures.1 (stops_then ref_of c.in_err-evaluate.ensures.answers)
+pub reference_of-returns-in_err-evaluate : goal.reference_of-returns-in_err-evaluate
+reference_of-returns-in_err-evaluate _ c = record {
+  answers = passed _ _ c.from_residual.ensures.1 (stops_then ref_of c.in_err-evaluate.ensures.answers);
+  left = c.in_err-evaluate.ensures.left;
+}
 
-pub reference_of-returns-in_err-reference-clause-answers : goal.reference_of-returns-in_err-reference-clause-answers
-reference_of-returns-in_err-reference-clause-answers _ c =
-    passed _ _ c.from_residual-in_err-reference.ensures.1 (goes_then ref_of c.in_ok-evaluate.ensures.answers (stops_with _ c.in_err-reference.ensures))
+pub reference_of-returns-in_err-reference : goal.reference_of-returns-in_err-reference
+reference_of-returns-in_err-reference _ c = record {
+  answers = passed _ _ c.from_residual-in_err-reference.ensures.1 (goes_then ref_of c.in_ok-evaluate.ensures.answers (stops_with _ c.in_err-reference.ensures));
+  left = c.in_ok-evaluate.ensures.left;
+}
 
-pub reference_of-returns-clause-answers : goal.reference_of-returns-clause-answers
-reference_of-returns-clause-answers _ c =
-    goes_then ref_of c.in_ok-evaluate.ensures.answers (ends_with _ c.in_ok-reference.ensures)
+pub reference_of-returns : goal.reference_of-returns
+reference_of-returns _ c = record {
+  answers = goes_then ref_of c.in_ok-evaluate.ensures.answers (ends_with _ c.in_ok-reference.ensures);
+  left = c.in_ok-evaluate.ensures.left;
+}
 
-pub permission_of-returns-in_err-evaluate-clause-answers : goal.permission_of-returns-in_err-evaluate-clause-answers
-permission_of-returns-in_err-evaluate-clause-answers _ c =
-    passed _ _ c.from_residual.ensures.1 (stops_then perm_of c.in_err-evaluate.ensures.answers)
+pub permission_of-returns-in_err-evaluate : goal.permission_of-returns-in_err-evaluate
+permission_of-returns-in_err-evaluate _ c = record {
+  answers = passed _ _ c.from_residual.ensures.1 (stops_then perm_of c.in_err-evaluate.ensures.answers);
+  left = c.in_err-evaluate.ensures.left;
+}
 
-pub permission_of-returns-in_err-permission-clause-answers : goal.permission_of-returns-in_err-permission-clause-answers
-permission_of-returns-in_err-permission-clause-answers _ c =
-    passed _ _ c.from_residual-in_err-permission.ensures.1 (goes_then perm_of c.in_ok-evaluate.ensures.answers (stops_with _ c.in_err-permission.ensures))
+pub permission_of-returns-in_err-permission : goal.permission_of-returns-in_err-permission
+permission_of-returns-in_err-permission _ c = record {
+  answers = passed _ _ c.from_residual-in_err-permission.ensures.1 (goes_then perm_of c.in_ok-evaluate.ensures.answers (stops_with _ c.in_err-permission.ensures));
+  left = c.in_ok-evaluate.ensures.left;
+}
 
-pub permission_of-returns-clause-answers : goal.permission_of-returns-clause-answers
-permission_of-returns-clause-answers _ c =
-    goes_then perm_of c.in_ok-evaluate.ensures.answers (ends_with _ c.in_ok-permission.ensures)
+pub permission_of-returns : goal.permission_of-returns
+permission_of-returns _ c = record {
+  answers = goes_then perm_of c.in_ok-evaluate.ensures.answers (ends_with _ c.in_ok-permission.ensures);
+  left = c.in_ok-evaluate.ensures.left;
+}
 
-pub amount_of-returns-in-Wildcard-clause-answers : goal.amount_of-returns-in-Wildcard-clause-answers
-amount_of-returns-in-Wildcard-clause-answers _ c =
-    same_answers (ap (λ m. amount_of Bounded (amt_of m) (state_of c.args.now.now) (lent c.args.scene)) c.in-Wildcard.is)
-    (stops_with _ refl)
+pub amount_of-returns-in-Wildcard : goal.amount_of-returns-in-Wildcard
+amount_of-returns-in-Wildcard _ c = record {
+  answers = same_answers (ap (λ m. amount_of Bounded (amt_of m) (state_of c.args.now.now) (lent c.args.scene)) c.in-Wildcard.is)
+      (stops_with _ refl);
+  left = refl;
+}
 
 pub evaluate_all-returns-in_err-values-clause-answers : goal.evaluate_all-returns-in_err-values-clause-answers
 evaluate_all-returns-in_err-values-clause-answers _ c =
@@ -238,46 +308,60 @@ evaluate_all-evaluate-requires _ c = (
   ),
 )
 
-pub evaluate_all-returns-in_err-evaluate-clause-answers : goal.evaluate_all-returns-in_err-evaluate-clause-answers
-evaluate_all-returns-in_err-evaluate-clause-answers _ c =
-    passed _ _ c.from_residual-in_err-evaluate.ensures.1 (argument_stops c.args.es.now c.loop-e.e-index (state_of c.args.now.now) (lent c.args.scene) (λ v. v.items)
-    c.e-item.result c.loop-e.values.items _ _ _ _ _ c.loop-e-test.true c.e-item.is c.loop-e.invariant.answers c.in_err-evaluate.ensures.answers)
+pub evaluate_all-returns-in_err-evaluate : goal.evaluate_all-returns-in_err-evaluate
+evaluate_all-returns-in_err-evaluate _ c = record {
+  answers = passed _ _ c.from_residual-in_err-evaluate.ensures.1 (argument_stops c.args.es.now c.loop-e.e-index (state_of c.args.now.now) (lent c.args.scene) (λ v. v.items)
+      c.e-item.result c.loop-e.values.items _ _ _ _ _ c.loop-e-test.true c.e-item.is c.loop-e.invariant.answers c.in_err-evaluate.ensures.answers);
+  left = c.in_err-evaluate.ensures.left ∙ c.loop-e.invariant.left;
+}
 
 pub evaluate_all-loop-e-preserved : goal.evaluate_all-loop-e-preserved
 evaluate_all-loop-e-preserved _ c =
     let next = argument_goes c.args.es.now c.loop-e.e-index (state_of c.args.now.now) (lent c.args.scene) c.e-item.result c.loop-e.values.items _ _ _ _ _ _ c.loop-e-test.true c.e-item.is c.in_ok-push.ensures.items c.loop-e.invariant.answers c.in_ok-evaluate.ensures.answers in
     record { answers = next; left = cc }
 
-pub evaluate_all-returns-clause-answers : goal.evaluate_all-returns-clause-answers
-evaluate_all-returns-clause-answers _ c =
-    arguments_end c.args.es.now c.loop-e.e-index (state_of c.args.now.now) (lent c.args.scene) (λ v. v.items) c.loop-e.values _ _ _ c.loop-e-test.false
-    c.loop-e.auto.e-index-end c.loop-e.invariant.answers
+pub evaluate_all-returns : goal.evaluate_all-returns
+evaluate_all-returns _ c = record {
+  answers = arguments_end c.args.es.now c.loop-e.e-index (state_of c.args.now.now) (lent c.args.scene) (λ v. v.items) c.loop-e.values _ _ _ c.loop-e-test.false
+      c.loop-e.auto.e-index-end c.loop-e.invariant.answers;
+  left = c.loop-e.invariant.left;
+}
 
-pub key_in-returns-in_err-values-clause-answers : goal.key_in-returns-in_err-values-clause-answers
-key_in-returns-in_err-values-clause-answers _ c =
-    passed _ _ c.from_residual.ensures.1 (stops_then (λ vs. found (key_of vs)) c.in_err-values.ensures.answers)
+pub key_in-returns-in_err-values : goal.key_in-returns-in_err-values
+key_in-returns-in_err-values _ c = record {
+  answers = passed _ _ c.from_residual.ensures.1 (stops_then (λ vs. found (key_of vs)) c.in_err-values.ensures.answers);
+  left = c.in_err-values.ensures.left;
+}
 
-pub key_in-returns-clause-answers : goal.key_in-returns-clause-answers
-key_in-returns-clause-answers _ c =
-    goes_then (λ vs. found (key_of vs)) c.in_ok-values.ensures.answers
-    (calmly _ (same_answers (ap (λ vs. found (key_of vs)) (sym c.deref.ensures.value)) c.key_of.ensures))
+pub key_in-returns : goal.key_in-returns
+key_in-returns _ c = record {
+  answers = goes_then (λ vs. found (key_of vs)) c.in_ok-values.ensures.answers
+      (calmly _ (same_answers (ap (λ vs. found (key_of vs)) (sym c.deref.ensures.value)) c.key_of.ensures));
+  left = c.in_ok-values.ensures.left;
+}
 
-pub unfold-returns-in_err-args-clause-answers : goal.unfold-returns-in_err-args-clause-answers
-unfold-returns-in_err-args-clause-answers _ c =
-    passed _ _ c.from_residual.ensures.1 (expression.unfold_args_stop (λ vs. vs.items) (state_of c.args.now.now) (lent c.args.scene)
-    (opened_is c.args.opened.now c.deref.ensures.value) c.in_err-args.ensures.answers)
+pub unfold-returns-in_err-args : goal.unfold-returns-in_err-args
+unfold-returns-in_err-args _ c = record {
+  answers = passed _ _ c.from_residual.ensures.1 (expression.unfold_args_stop (λ vs. vs.items) (state_of c.args.now.now) (lent c.args.scene)
+      (opened_is c.args.opened.now c.deref.ensures.value) c.in_err-args.ensures.answers);
+  left = c.in_err-args.ensures.left;
+}
 
-pub unfold-returns-in_err-amount-clause-answers : goal.unfold-returns-in_err-amount-clause-answers
-unfold-returns-in_err-amount-clause-answers _ c =
-    passed _ _ c.from_residual-in_err-amount.ensures.1 (expression.unfold_amount_stops (λ vs. vs.items) (state_of c.args.now.now) (lent c.args.scene)
-    (opened_is c.args.opened.now c.deref.ensures.value) c.in_ok-args.ensures.answers c.in_err-amount.ensures.answers)
+pub unfold-returns-in_err-amount : goal.unfold-returns-in_err-amount
+unfold-returns-in_err-amount _ c = record {
+  answers = passed _ _ c.from_residual-in_err-amount.ensures.1 (expression.unfold_amount_stops (λ vs. vs.items) (state_of c.args.now.now) (lent c.args.scene)
+      (opened_is c.args.opened.now c.deref.ensures.value) c.in_ok-args.ensures.answers c.in_err-amount.ensures.answers);
+  left = c.in_err-amount.ensures.left ∙ c.in_ok-args.ensures.left;
+}
 
-pub unfold-returns-clause-answers : goal.unfold-returns-clause-answers
-unfold-returns-clause-answers _ c =
-    expression.unfold_goes (λ vs. vs.items) (state_of c.args.now.now) (lent c.args.scene) (opened_is c.args.opened.now c.deref.ensures.value)
-    c.in_ok-args.ensures.answers c.in_ok-amount.ensures.answers
-    (same_answers (ap (λ vs. unfolded_at (opened_of c.args.opened.now) vs c.in_ok-amount.amount (state_of c.args.now.now) (lent c.args.scene)) (sym c.deref-2.ensures.value))
-    c.unfold_at.ensures.answers)
+pub unfold-returns : goal.unfold-returns
+unfold-returns _ c = record {
+  answers = expression.unfold_goes (λ vs. vs.items) (state_of c.args.now.now) (lent c.args.scene) (opened_is c.args.opened.now c.deref.ensures.value)
+      c.in_ok-args.ensures.answers c.in_ok-amount.ensures.answers
+      (same_answers (ap (λ vs. unfolded_at (opened_of c.args.opened.now) vs c.in_ok-amount.amount (state_of c.args.now.now) (lent c.args.scene)) (sym c.deref-2.ensures.value))
+      c.unfold_at.ensures.answers);
+  left = c.unfold_at.ensures.left ∙ c.in_ok-amount.ensures.left ∙ c.in_ok-args.ensures.left;
+}
 
 pub unfold-unfold_at-requires : goal.unfold-unfold_at-requires
 unfold-unfold_at-requires _ c = (
@@ -294,44 +378,56 @@ unfold-unfold_at-requires _ c = (
   ),
 )
 
-pub unfold_at-returns-in_err-key-clause-answers : goal.unfold_at-returns-in_err-key-clause-answers
-unfold_at-returns-in_err-key-clause-answers _ c =
-    passed _ _ c.from_residual.ensures.1 (expression.key_stops (λ (s : State). s) (state_of c.args.now.now) (lent c.args.scene) c.args.args.now c.args.amount
-    (opened_is c.args.opened.now refl) c.in_err-key.ensures)
+pub unfold_at-returns-in_err-key : goal.unfold_at-returns-in_err-key
+unfold_at-returns-in_err-key _ c = record {
+  answers = passed _ _ c.from_residual.ensures.1 (expression.key_stops (λ (s : State). s) (state_of c.args.now.now) (lent c.args.scene) c.args.args.now c.args.amount
+      (opened_is c.args.opened.now refl) c.in_err-key.ensures);
+  left = refl;
+}
 
-pub unfold_at-returns-in_err-copy-clause-answers : goal.unfold_at-returns-in_err-copy-clause-answers
-unfold_at-returns-in_err-copy-clause-answers _ c =
-    passed _ _ c.from_residual-in_err-copy.ensures.1 no_memory
+pub unfold_at-returns-in_err-copy : goal.unfold_at-returns-in_err-copy
+unfold_at-returns-in_err-copy _ c = record {
+  answers = passed _ _ c.from_residual-in_err-copy.ensures.1 no_memory;
+  left = refl;
+}
 
-pub unfold_at-returns-in_err-take-clause-answers : goal.unfold_at-returns-in_err-take-clause-answers
-unfold_at-returns-in_err-take-clause-answers _ c =
-    passed _ _ c.from_residual-in_err-take.ensures.1 (expression.take_stops (λ _. state_of c.take.new.state) (state_of c.args.now.now) (lent c.args.scene) c.args.args.now
-    c.args.amount (opened_is c.args.opened.now refl) c.in_ok-key.ensures
-    (taken_at (lent c.args.scene) c.args.amount c.args.opened.now.place c.in_ok-copy.ensures c.of-instance.ensures c.in_err-take.ensures))
+pub unfold_at-returns-in_err-take : goal.unfold_at-returns-in_err-take
+unfold_at-returns-in_err-take _ c = record {
+  answers = passed _ _ c.from_residual-in_err-take.ensures.1 (expression.take_stops (λ _. state_of c.take.new.state) (state_of c.args.now.now) (lent c.args.scene) c.args.args.now
+      c.args.amount (opened_is c.args.opened.now refl) c.in_ok-key.ensures
+      (taken_at (lent c.args.scene) c.args.amount c.args.opened.now.place c.in_ok-copy.ensures c.of-instance.ensures c.in_err-take.ensures));
+  left = refl;
+}
 
-pub unfold_at-returns-in_err-content-clause-answers : goal.unfold_at-returns-in_err-content-clause-answers
-unfold_at-returns-in_err-content-clause-answers _ c =
-    passed _ _ c.from_residual-in_err-content.ensures.1 (expression.content_stops (λ _. state_of c.take.new.state) (state_of c.args.now.now) (lent c.args.scene)
-    c.args.args.now c.args.amount (opened_is c.args.opened.now refl) c.in_ok-key.ensures
-    (taken_at (lent c.args.scene) c.args.amount c.args.opened.now.place c.in_ok-copy.ensures c.of-instance.ensures c.in_ok-take.ensures)
-    (found_as_stops (λ d. content_of d.now) _ _ c.in_err-content.ensures ∙ ap found c.content_at-content.ensures))
+pub unfold_at-returns-in_err-content : goal.unfold_at-returns-in_err-content
+unfold_at-returns-in_err-content _ c = record {
+  answers = passed _ _ c.from_residual-in_err-content.ensures.1 (expression.content_stops (λ _. state_of c.take.new.state) (state_of c.args.now.now) (lent c.args.scene)
+      c.args.args.now c.args.amount (opened_is c.args.opened.now refl) c.in_ok-key.ensures
+      (taken_at (lent c.args.scene) c.args.amount c.args.opened.now.place c.in_ok-copy.ensures c.of-instance.ensures c.in_ok-take.ensures)
+      (found_as_stops (λ d. content_of d.now) _ _ c.in_err-content.ensures ∙ ap found c.content_at-content.ensures));
+  left = refl;
+}
 
-pub unfold_at-returns-in_err-open-clause-answers : goal.unfold_at-returns-in_err-open-clause-answers
-unfold_at-returns-in_err-open-clause-answers _ c =
-    passed _ _ c.from_residual-in_err-open.ensures.1 (expression.open_stops (λ _. state_of c.take.new.state) (state_of c.args.now.now) (lent c.args.scene) c.args.args.now
-    c.args.amount (opened_is c.args.opened.now refl) c.in_ok-key.ensures
-    (taken_at (lent c.args.scene) c.args.amount c.args.opened.now.place c.in_ok-copy.ensures c.of-instance.ensures c.in_ok-take.ensures)
-    (found_as (λ d. content_of d.now) _ _ c.in_ok-content.ensures ∙ ap found c.content_at-content.ensures)
-    (same_answers (ap (λ inside. opened Bounded (assertion_of c.args.opened.now.body) (content_of c.in_ok-content.content.now) (state_of c.take.new.state) inside c.args.amount)
-    (sym c.with_variables-inside.ensures)) c.in_err-open.ensures.answers))
+pub unfold_at-returns-in_err-open : goal.unfold_at-returns-in_err-open
+unfold_at-returns-in_err-open _ c = record {
+  answers = passed _ _ c.from_residual-in_err-open.ensures.1 (expression.open_stops (λ _. state_of c.take.new.state) (state_of c.args.now.now) (lent c.args.scene) c.args.args.now
+      c.args.amount (opened_is c.args.opened.now refl) c.in_ok-key.ensures
+      (taken_at (lent c.args.scene) c.args.amount c.args.opened.now.place c.in_ok-copy.ensures c.of-instance.ensures c.in_ok-take.ensures)
+      (found_as (λ d. content_of d.now) _ _ c.in_ok-content.ensures ∙ ap found c.content_at-content.ensures)
+      (same_answers (ap (λ inside. opened Bounded (assertion_of c.args.opened.now.body) (content_of c.in_ok-content.content.now) (state_of c.take.new.state) inside c.args.amount)
+      (sym c.with_variables-inside.ensures)) c.in_err-open.ensures.answers));
+  left = c.in_err-open.ensures.left;
+}
 
-pub unfold_at-returns-clause-answers : goal.unfold_at-returns-clause-answers
-unfold_at-returns-clause-answers _ c =
-    expression.inner_goes (λ _. state_of c.take.new.state) (state_of c.args.now.now) (lent c.args.scene) c.args.args.now c.args.amount (opened_is c.args.opened.now refl)
-    c.in_ok-key.ensures (taken_at (lent c.args.scene) c.args.amount c.args.opened.now.place c.in_ok-copy.ensures c.of-instance.ensures c.in_ok-take.ensures)
-    (found_as (λ d. content_of d.now) _ _ c.in_ok-content.ensures ∙ ap found c.content_at-content.ensures)
-    (same_answers (ap (λ inside. opened Bounded (assertion_of c.args.opened.now.body) (content_of c.in_ok-content.content.now) (state_of c.take.new.state) inside c.args.amount)
-    (sym c.with_variables-inside.ensures)) c.in_ok-open.ensures.answers) c.evaluate.ensures.answers
+pub unfold_at-returns : goal.unfold_at-returns
+unfold_at-returns _ c = record {
+  answers = expression.inner_goes (λ _. state_of c.take.new.state) (state_of c.args.now.now) (lent c.args.scene) c.args.args.now c.args.amount (opened_is c.args.opened.now refl)
+      c.in_ok-key.ensures (taken_at (lent c.args.scene) c.args.amount c.args.opened.now.place c.in_ok-copy.ensures c.of-instance.ensures c.in_ok-take.ensures)
+      (found_as (λ d. content_of d.now) _ _ c.in_ok-content.ensures ∙ ap found c.content_at-content.ensures)
+      (same_answers (ap (λ inside. opened Bounded (assertion_of c.args.opened.now.body) (content_of c.in_ok-content.content.now) (state_of c.take.new.state) inside c.args.amount)
+      (sym c.with_variables-inside.ensures)) c.in_ok-open.ensures.answers) c.evaluate.ensures.answers;
+  left = c.evaluate.ensures.left ∙ c.in_ok-open.ensures.left;
+}
 
 pub unfold_at-open-requires : goal.unfold_at-open-requires
 unfold_at-open-requires _ c = (
@@ -371,43 +467,57 @@ unfold_at-evaluate-requires _ c = (
   ),
 )
 
-pub open-returns-in_err-truth_of-in-Fact-clause-answers : goal.open-returns-in_err-truth_of-in-Fact-clause-answers
-open-returns-in_err-truth_of-in-Fact-clause-answers _ c =
-    passed _ _ c.from_residual.ensures.1 (body.fact_stops (content_of c.args.content.now) (state_of c.args.state.now) (lent c.args.scene) c.args.scale
-    (ap assertion_of c.in-Fact.is) c.in_err-truth_of-in-Fact.ensures.answers)
+pub open-returns-in_err-truth_of-in-Fact : goal.open-returns-in_err-truth_of-in-Fact
+open-returns-in_err-truth_of-in-Fact _ c = record {
+  answers = passed _ _ c.from_residual.ensures.1 (body.fact_stops (content_of c.args.content.now) (state_of c.args.state.now) (lent c.args.scene) c.args.scale
+      (ap assertion_of c.in-Fact.is) c.in_err-truth_of-in-Fact.ensures.answers);
+  left = c.in_err-truth_of-in-Fact.ensures.left;
+}
 
-pub open-returns-in_err-assumed-in-Fact-clause-answers : goal.open-returns-in_err-assumed-in-Fact-clause-answers
-open-returns-in_err-assumed-in-Fact-clause-answers _ c =
-    passed _ _ c.from_residual-in_err-assumed-in-Fact.ensures.1 (body.fact_fails (content_of c.args.content.now) (state_of c.args.state.now) (lent c.args.scene)
-    c.args.scale (ap assertion_of c.in-Fact.is) c.in_ok-truth_of-in-Fact.ensures.answers c.in_err-assumed-in-Fact.ensures)
+pub open-returns-in_err-assumed-in-Fact : goal.open-returns-in_err-assumed-in-Fact
+open-returns-in_err-assumed-in-Fact _ c = record {
+  answers = passed _ _ c.from_residual-in_err-assumed-in-Fact.ensures.1 (body.fact_fails (content_of c.args.content.now) (state_of c.args.state.now) (lent c.args.scene)
+      c.args.scale (ap assertion_of c.in-Fact.is) c.in_ok-truth_of-in-Fact.ensures.answers c.in_err-assumed-in-Fact.ensures);
+  left = c.in_ok-truth_of-in-Fact.ensures.left;
+}
 
-pub open-returns-in_err-unit-in-Fact-clause-answers : goal.open-returns-in_err-unit-in-Fact-clause-answers
-open-returns-in_err-unit-in-Fact-clause-answers _ c =
-    passed _ _ c.from_residual-in_err-unit-in-Fact.ensures.1 (body.fact_goes (content_of c.args.content.now) (state_of c.args.state.now) (lent c.args.scene)
-    c.args.scale (ap assertion_of c.in-Fact.is) c.in_ok-truth_of-in-Fact.ensures.answers c.in_ok-assumed-in-Fact.ensures
-    (body.unit_stops (content_of c.args.content.now) (state_of c.args.state.now) _ c.in_err-unit-in-Fact.ensures))
+pub open-returns-in_err-unit-in-Fact : goal.open-returns-in_err-unit-in-Fact
+open-returns-in_err-unit-in-Fact _ c = record {
+  answers = passed _ _ c.from_residual-in_err-unit-in-Fact.ensures.1 (body.fact_goes (content_of c.args.content.now) (state_of c.args.state.now) (lent c.args.scene)
+      c.args.scale (ap assertion_of c.in-Fact.is) c.in_ok-truth_of-in-Fact.ensures.answers c.in_ok-assumed-in-Fact.ensures
+      (body.unit_stops (content_of c.args.content.now) (state_of c.args.state.now) _ c.in_err-unit-in-Fact.ensures));
+  left = c.in_ok-truth_of-in-Fact.ensures.left;
+}
 
-pub open-returns-in_ok-unit-in-Fact-clause-answers : goal.open-returns-in_ok-unit-in-Fact-clause-answers
-open-returns-in_ok-unit-in-Fact-clause-answers _ c =
-    body.fact_goes (content_of c.args.content.now) (state_of c.args.state.now) (lent c.args.scene) c.args.scale (ap assertion_of c.in-Fact.is)
-    c.in_ok-truth_of-in-Fact.ensures.answers c.in_ok-assumed-in-Fact.ensures
-    (body.unit_goes (content_of c.args.content.now) (state_of c.args.state.now) _ _ c.in_ok-unit-in-Fact.ensures refl)
+pub open-returns-in_ok-unit-in-Fact : goal.open-returns-in_ok-unit-in-Fact
+open-returns-in_ok-unit-in-Fact _ c = record {
+  answers = body.fact_goes (content_of c.args.content.now) (state_of c.args.state.now) (lent c.args.scene) c.args.scale (ap assertion_of c.in-Fact.is)
+      c.in_ok-truth_of-in-Fact.ensures.answers c.in_ok-assumed-in-Fact.ensures
+      (body.unit_goes (content_of c.args.content.now) (state_of c.args.state.now) _ _ c.in_ok-unit-in-Fact.ensures refl);
+  left = c.in_ok-truth_of-in-Fact.ensures.left;
+}
 
-pub open-returns-in_err-receiver-in-Acc-clause-answers : goal.open-returns-in_err-receiver-in-Acc-clause-answers
-open-returns-in_err-receiver-in-Acc-clause-answers _ c =
-    passed _ _ c.from_residual-in_err-receiver-in-Acc.ensures.1 (body.receiver_stops (content_of c.args.content.now) (state_of c.args.state.now) (lent c.args.scene)
-    c.args.scale (ap assertion_of c.in-Acc.is) c.in_err-receiver-in-Acc.ensures.answers)
+pub open-returns-in_err-receiver-in-Acc : goal.open-returns-in_err-receiver-in-Acc
+open-returns-in_err-receiver-in-Acc _ c = record {
+  answers = passed _ _ c.from_residual-in_err-receiver-in-Acc.ensures.1 (body.receiver_stops (content_of c.args.content.now) (state_of c.args.state.now) (lent c.args.scene)
+      c.args.scale (ap assertion_of c.in-Acc.is) c.in_err-receiver-in-Acc.ensures.answers);
+  left = c.in_err-receiver-in-Acc.ensures.left;
+}
 
-pub open-returns-in_err-amount-in-Acc-clause-answers : goal.open-returns-in_err-amount-in-Acc-clause-answers
-open-returns-in_err-amount-in-Acc-clause-answers _ c =
-    passed _ _ c.from_residual-in_err-amount-in-Acc.ensures.1 (body.amount_stops (content_of c.args.content.now) (state_of c.args.state.now) (lent c.args.scene)
-    c.args.scale (ap assertion_of c.in-Acc.is) c.in_ok-receiver-in-Acc.ensures.answers c.in_err-amount-in-Acc.ensures.answers)
+pub open-returns-in_err-amount-in-Acc : goal.open-returns-in_err-amount-in-Acc
+open-returns-in_err-amount-in-Acc _ c = record {
+  answers = passed _ _ c.from_residual-in_err-amount-in-Acc.ensures.1 (body.amount_stops (content_of c.args.content.now) (state_of c.args.state.now) (lent c.args.scene)
+      c.args.scale (ap assertion_of c.in-Acc.is) c.in_ok-receiver-in-Acc.ensures.answers c.in_err-amount-in-Acc.ensures.answers);
+  left = c.in_err-amount-in-Acc.ensures.left ∙ c.in_ok-receiver-in-Acc.ensures.left;
+}
 
-pub open-returns-in_ok-amount-in-Acc-clause-answers : goal.open-returns-in_ok-amount-in-Acc-clause-answers
-open-returns-in_ok-amount-in-Acc-clause-answers _ c =
-    body.place_goes (content_of c.args.content.now) (state_of c.args.state.now) (lent c.args.scene) c.args.scale (ap assertion_of c.in-Acc.is)
-    c.in_ok-receiver-in-Acc.ensures.answers c.in_ok-amount-in-Acc.ensures.answers
-    (placed_at (lent c.args.scene) (content_of c.args.content.now) (state_of c.args.state.now) c.of-place.ensures c.of-share.ensures c.fill_place.ensures.answers)
+pub open-returns-in_ok-amount-in-Acc : goal.open-returns-in_ok-amount-in-Acc
+open-returns-in_ok-amount-in-Acc _ c = record {
+  answers = body.place_goes (content_of c.args.content.now) (state_of c.args.state.now) (lent c.args.scene) c.args.scale (ap assertion_of c.in-Acc.is)
+      c.in_ok-receiver-in-Acc.ensures.answers c.in_ok-amount-in-Acc.ensures.answers
+      (placed_at (lent c.args.scene) (content_of c.args.content.now) (state_of c.args.state.now) c.of-place.ensures c.of-share.ensures c.fill_place.ensures.answers);
+  left = c.fill_place.ensures.left ∙ c.in_ok-amount-in-Acc.ensures.left ∙ c.in_ok-receiver-in-Acc.ensures.left;
+}
 
 pub open-key_in-requires : goal.open-key_in-requires
 open-key_in-requires _ c = (
@@ -418,27 +528,35 @@ open-key_in-requires _ c = (
   ),
 )
 
-pub open-returns-in_err-key-in-Inst-clause-answers : goal.open-returns-in_err-key-in-Inst-clause-answers
-open-returns-in_err-key-in-Inst-clause-answers _ c =
-    passed _ _ c.from_residual-in_err-key-in-Inst.ensures.1 (body.key_stops (content_of c.args.content.now) (state_of c.args.state.now) (lent c.args.scene)
-    c.args.scale (inst_is c.in-Inst.args c.in-Inst.is c.deref.ensures.value) c.in_err-key-in-Inst.ensures.answers)
+pub open-returns-in_err-key-in-Inst : goal.open-returns-in_err-key-in-Inst
+open-returns-in_err-key-in-Inst _ c = record {
+  answers = passed _ _ c.from_residual-in_err-key-in-Inst.ensures.1 (body.key_stops (content_of c.args.content.now) (state_of c.args.state.now) (lent c.args.scene)
+      c.args.scale (inst_is c.in-Inst.args c.in-Inst.is c.deref.ensures.value) c.in_err-key-in-Inst.ensures.answers);
+  left = c.in_err-key-in-Inst.ensures.left;
+}
 
-pub open-returns-in_err-amount-in-Inst-clause-answers : goal.open-returns-in_err-amount-in-Inst-clause-answers
-open-returns-in_err-amount-in-Inst-clause-answers _ c =
-    passed _ _ c.from_residual-in_err-amount-in-Inst.ensures.1 (body.share_stops (content_of c.args.content.now) (state_of c.args.state.now) (lent c.args.scene)
-    c.args.scale (inst_is c.in-Inst.args c.in-Inst.is c.deref.ensures.value) c.in_ok-key-in-Inst.ensures.answers c.in_err-amount-in-Inst.ensures.answers)
+pub open-returns-in_err-amount-in-Inst : goal.open-returns-in_err-amount-in-Inst
+open-returns-in_err-amount-in-Inst _ c = record {
+  answers = passed _ _ c.from_residual-in_err-amount-in-Inst.ensures.1 (body.share_stops (content_of c.args.content.now) (state_of c.args.state.now) (lent c.args.scene)
+      c.args.scale (inst_is c.in-Inst.args c.in-Inst.is c.deref.ensures.value) c.in_ok-key-in-Inst.ensures.answers c.in_err-amount-in-Inst.ensures.answers);
+  left = c.in_err-amount-in-Inst.ensures.left ∙ c.in_ok-key-in-Inst.ensures.left;
+}
 
-pub open-returns-in_ok-amount-in-Inst-clause-answers : goal.open-returns-in_ok-amount-in-Inst-clause-answers
-open-returns-in_ok-amount-in-Inst-clause-answers _ c =
-    body.instance_goes (content_of c.args.content.now) (state_of c.args.state.now) (lent c.args.scene) c.args.scale
-    (inst_is c.in-Inst.args c.in-Inst.is c.deref.ensures.value) c.in_ok-key-in-Inst.ensures.answers c.in_ok-amount-in-Inst.ensures.answers
-    (filled_at (lent c.args.scene) (content_of c.args.content.now) (state_of c.args.state.now) c.of-instance.ensures c.of-share-in-Inst.ensures
-    (calmly _ c.fill_instance.ensures))
+pub open-returns-in_ok-amount-in-Inst : goal.open-returns-in_ok-amount-in-Inst
+open-returns-in_ok-amount-in-Inst _ c = record {
+  answers = body.instance_goes (content_of c.args.content.now) (state_of c.args.state.now) (lent c.args.scene) c.args.scale
+      (inst_is c.in-Inst.args c.in-Inst.is c.deref.ensures.value) c.in_ok-key-in-Inst.ensures.answers c.in_ok-amount-in-Inst.ensures.answers
+      (filled_at (lent c.args.scene) (content_of c.args.content.now) (state_of c.args.state.now) c.of-instance.ensures c.of-share-in-Inst.ensures
+      (calmly _ c.fill_instance.ensures));
+  left = c.in_ok-amount-in-Inst.ensures.left ∙ c.in_ok-key-in-Inst.ensures.left;
+}
 
-pub open-returns-in_err-left-in-And-clause-answers : goal.open-returns-in_err-left-in-And-clause-answers
-open-returns-in_err-left-in-And-clause-answers _ c =
-    passed _ _ c.from_residual-in_err-left-in-And.ensures.1 (body.pair_stops (λ p. (content_of p.0.now, content_of p.1.now)) (content_of c.args.content.now)
-    (state_of c.args.state.now) (lent c.args.scene) c.args.scale (ap assertion_of c.in-And.is) c.in_err-left-in-And.ensures.answers)
+pub open-returns-in_err-left-in-And : goal.open-returns-in_err-left-in-And
+open-returns-in_err-left-in-And _ c = record {
+  answers = passed _ _ c.from_residual-in_err-left-in-And.ensures.1 (body.pair_stops (λ p. (content_of p.0.now, content_of p.1.now)) (content_of c.args.content.now)
+      (state_of c.args.state.now) (lent c.args.scene) c.args.scale (ap assertion_of c.in-And.is) c.in_err-left-in-And.ensures.answers);
+  left = c.in_err-left-in-And.ensures.left;
+}
 
 pub open-open-requires : goal.open-open-requires
 open-open-requires _ c = (
@@ -452,11 +570,13 @@ open-open-requires _ c = (
   ),
 )
 
-pub open-returns-in_err-open-in-And-clause-answers : goal.open-returns-in_err-open-in-And-clause-answers
-open-returns-in_err-open-in-And-clause-answers _ c =
-    passed _ _ c.from_residual-in_err-open-in-And.ensures.1 (body.first_stops (λ p. (content_of p.0.now, content_of p.1.now)) (content_of c.args.content.now)
-    (state_of c.args.state.now) (lent c.args.scene) c.args.scale (and_is c.in-And.is c.deref-in-And.ensures refl) c.in_ok-left-in-And.ensures.answers
-    c.in_err-open-in-And.ensures.answers)
+pub open-returns-in_err-open-in-And : goal.open-returns-in_err-open-in-And
+open-returns-in_err-open-in-And _ c = record {
+  answers = passed _ _ c.from_residual-in_err-open-in-And.ensures.1 (body.first_stops (λ p. (content_of p.0.now, content_of p.1.now)) (content_of c.args.content.now)
+      (state_of c.args.state.now) (lent c.args.scene) c.args.scale (and_is c.in-And.is c.deref-in-And.ensures refl) c.in_ok-left-in-And.ensures.answers
+      c.in_err-open-in-And.ensures.answers);
+  left = c.in_err-open-in-And.ensures.left ∙ c.in_ok-left-in-And.ensures.left;
+}
 
 pub open-open-requires-in-And : goal.open-open-requires-in-And
 open-open-requires-in-And _ c = (
@@ -476,46 +596,62 @@ open-open-requires-in-And _ c = (
   ),
 )
 
-pub open-returns-in_ok-open-in-And-clause-answers : goal.open-returns-in_ok-open-in-And-clause-answers
-open-returns-in_ok-open-in-And-clause-answers _ c =
-    body.both_go (λ p. (content_of p.0.now, content_of p.1.now)) (content_of c.args.content.now) (state_of c.args.state.now) (lent c.args.scene) c.args.scale
-    (and_is c.in-And.is c.deref-in-And.ensures c.deref-in-And-2.ensures) c.in_ok-left-in-And.ensures.answers c.in_ok-open-in-And.ensures.answers c.open-in-And.ensures.answers
+pub open-returns-in_ok-open-in-And : goal.open-returns-in_ok-open-in-And
+open-returns-in_ok-open-in-And _ c = record {
+  answers = body.both_go (λ p. (content_of p.0.now, content_of p.1.now)) (content_of c.args.content.now) (state_of c.args.state.now) (lent c.args.scene) c.args.scale
+      (and_is c.in-And.is c.deref-in-And.ensures c.deref-in-And-2.ensures) c.in_ok-left-in-And.ensures.answers c.in_ok-open-in-And.ensures.answers c.open-in-And.ensures.answers;
+  left = c.open-in-And.ensures.left ∙ c.in_ok-open-in-And.ensures.left ∙ c.in_ok-left-in-And.ensures.left;
+}
 
-pub open-returns-in_err-truth_of-in-Implies-clause-answers : goal.open-returns-in_err-truth_of-in-Implies-clause-answers
-open-returns-in_err-truth_of-in-Implies-clause-answers _ c =
-    passed _ _ c.from_residual-in_err-truth_of-in-Implies.ensures.1
-    (body.implies_stops (content_of c.args.content.now) (state_of c.args.state.now) (lent c.args.scene) c.args.scale (ap assertion_of c.in-Implies.is)
-    c.in_err-truth_of-in-Implies.ensures.answers)
+pub open-returns-in_err-truth_of-in-Implies : goal.open-returns-in_err-truth_of-in-Implies
+open-returns-in_err-truth_of-in-Implies _ c = record {
+  answers = passed _ _ c.from_residual-in_err-truth_of-in-Implies.ensures.1
+      (body.implies_stops (content_of c.args.content.now) (state_of c.args.state.now) (lent c.args.scene) c.args.scale (ap assertion_of c.in-Implies.is)
+      c.in_err-truth_of-in-Implies.ensures.answers);
+  left = c.in_err-truth_of-in-Implies.ensures.left;
+}
 
-pub open-returns-then-branch-clause-answers : goal.open-returns-then-branch-clause-answers
-open-returns-then-branch-clause-answers _ c =
-    body.implies_so (content_of c.args.content.now) (state_of c.args.state.now) (lent c.args.scene) c.args.scale
-    (implies_is c.in-Implies.is c.deref-then-branch.ensures) c.in_ok-truth_of-in-Implies.ensures.answers c.if-branch.true c.open-then-branch.ensures.answers
+pub open-returns-then-branch : goal.open-returns-then-branch
+open-returns-then-branch _ c = record {
+  answers = body.implies_so (content_of c.args.content.now) (state_of c.args.state.now) (lent c.args.scene) c.args.scale
+      (implies_is c.in-Implies.is c.deref-then-branch.ensures) c.in_ok-truth_of-in-Implies.ensures.answers c.if-branch.true c.open-then-branch.ensures.answers;
+  left = c.open-then-branch.ensures.left ∙ c.in_ok-truth_of-in-Implies.ensures.left;
+}
 
-pub open-returns-in_err-unit-in-Implies-clause-answers : goal.open-returns-in_err-unit-in-Implies-clause-answers
-open-returns-in_err-unit-in-Implies-clause-answers _ c =
-    passed _ _ c.from_residual-in_err-unit-in-Implies.ensures.1 (body.implies_not (content_of c.args.content.now) (state_of c.args.state.now) (lent c.args.scene)
-    c.args.scale (ap assertion_of c.in-Implies.is) c.in_ok-truth_of-in-Implies.ensures.answers c.if-branch.false
-    (body.unit_stops (content_of c.args.content.now) (state_of c.args.state.now) _ c.in_err-unit-in-Implies.ensures))
+pub open-returns-in_err-unit-in-Implies : goal.open-returns-in_err-unit-in-Implies
+open-returns-in_err-unit-in-Implies _ c = record {
+  answers = passed _ _ c.from_residual-in_err-unit-in-Implies.ensures.1 (body.implies_not (content_of c.args.content.now) (state_of c.args.state.now) (lent c.args.scene)
+      c.args.scale (ap assertion_of c.in-Implies.is) c.in_ok-truth_of-in-Implies.ensures.answers c.if-branch.false
+      (body.unit_stops (content_of c.args.content.now) (state_of c.args.state.now) _ c.in_err-unit-in-Implies.ensures));
+  left = c.in_ok-truth_of-in-Implies.ensures.left;
+}
 
-pub open-returns-in_ok-unit-in-Implies-clause-answers : goal.open-returns-in_ok-unit-in-Implies-clause-answers
-open-returns-in_ok-unit-in-Implies-clause-answers _ c =
-    body.implies_not (content_of c.args.content.now) (state_of c.args.state.now) (lent c.args.scene) c.args.scale (ap assertion_of c.in-Implies.is)
-    c.in_ok-truth_of-in-Implies.ensures.answers c.if-branch.false
-    (body.unit_goes (content_of c.args.content.now) (state_of c.args.state.now) _ _ c.in_ok-unit-in-Implies.ensures refl)
+pub open-returns-in_ok-unit-in-Implies : goal.open-returns-in_ok-unit-in-Implies
+open-returns-in_ok-unit-in-Implies _ c = record {
+  answers = body.implies_not (content_of c.args.content.now) (state_of c.args.state.now) (lent c.args.scene) c.args.scale (ap assertion_of c.in-Implies.is)
+      c.in_ok-truth_of-in-Implies.ensures.answers c.if-branch.false
+      (body.unit_goes (content_of c.args.content.now) (state_of c.args.state.now) _ _ c.in_ok-unit-in-Implies.ensures refl);
+  left = c.in_ok-truth_of-in-Implies.ensures.left;
+}
 
-pub open-returns-in_err-truth_of-in-Choose-clause-answers : goal.open-returns-in_err-truth_of-in-Choose-clause-answers
-open-returns-in_err-truth_of-in-Choose-clause-answers _ c =
-    passed _ _ c.from_residual-in_err-truth_of-in-Choose.ensures.1
-    (body.choose_stops (content_of c.args.content.now) (state_of c.args.state.now) (lent c.args.scene) c.args.scale (ap assertion_of c.in-Choose.is)
-    c.in_err-truth_of-in-Choose.ensures.answers)
+pub open-returns-in_err-truth_of-in-Choose : goal.open-returns-in_err-truth_of-in-Choose
+open-returns-in_err-truth_of-in-Choose _ c = record {
+  answers = passed _ _ c.from_residual-in_err-truth_of-in-Choose.ensures.1
+      (body.choose_stops (content_of c.args.content.now) (state_of c.args.state.now) (lent c.args.scene) c.args.scale (ap assertion_of c.in-Choose.is)
+      c.in_err-truth_of-in-Choose.ensures.answers);
+  left = c.in_err-truth_of-in-Choose.ensures.left;
+}
 
-pub open-returns-then-branch-2-clause-answers : goal.open-returns-then-branch-2-clause-answers
-open-returns-then-branch-2-clause-answers _ c =
-    body.choose_so (content_of c.args.content.now) (state_of c.args.state.now) (lent c.args.scene) c.args.scale
-    (choice_is c.in-Choose.is c.deref-then-branch-2.ensures refl) c.in_ok-truth_of-in-Choose.ensures.answers c.if-branch-2.true c.open-then-branch-2.ensures.answers
+pub open-returns-then-branch-2 : goal.open-returns-then-branch-2
+open-returns-then-branch-2 _ c = record {
+  answers = body.choose_so (content_of c.args.content.now) (state_of c.args.state.now) (lent c.args.scene) c.args.scale
+      (choice_is c.in-Choose.is c.deref-then-branch-2.ensures refl) c.in_ok-truth_of-in-Choose.ensures.answers c.if-branch-2.true c.open-then-branch-2.ensures.answers;
+  left = c.open-then-branch-2.ensures.left ∙ c.in_ok-truth_of-in-Choose.ensures.left;
+}
 
-pub open-returns-else-branch-2-clause-answers : goal.open-returns-else-branch-2-clause-answers
-open-returns-else-branch-2-clause-answers _ c =
-    body.choose_not (content_of c.args.content.now) (state_of c.args.state.now) (lent c.args.scene) c.args.scale
-    (choice_is c.in-Choose.is refl c.deref-else-branch-2.ensures) c.in_ok-truth_of-in-Choose.ensures.answers c.if-branch-2.false c.open-else-branch-2.ensures.answers
+pub open-returns-else-branch-2 : goal.open-returns-else-branch-2
+open-returns-else-branch-2 _ c = record {
+  answers = body.choose_not (content_of c.args.content.now) (state_of c.args.state.now) (lent c.args.scene) c.args.scale
+      (choice_is c.in-Choose.is refl c.deref-else-branch-2.ensures) c.in_ok-truth_of-in-Choose.ensures.answers c.if-branch-2.false c.open-else-branch-2.ensures.answers;
+  left = c.open-else-branch-2.ensures.left ∙ c.in_ok-truth_of-in-Choose.ensures.left;
+}
