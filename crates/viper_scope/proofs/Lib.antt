@@ -1,3 +1,4 @@
 pub mod Judged
 pub mod ArgumentLaws
 pub mod ScopeLaws
+pub mod NamingLaws

@@ -83,29 +83,29 @@ impl World {
     pub fn field(&self, name: &Ident) -> Option<(u32, Ty)>
         ensures { result ≡ c.field_at (world_of self.now) name.now }
     {
-        match self.roles.find(name)? {
-            Role::Field(n) => Some((n, *self.fields.get(n as usize)?)),
-            _ => None,
-        }
+        let Some(Role::Field(n)) = self.roles.find(name) else {
+            return None;
+        };
+        Some((n, *self.fields.get(n as usize)?))
     }
 
     /// The predicate of this name, with its number.
     pub fn predicate(&self, name: &Ident) -> Option<(u32, &PredicateSignature)>
         ensures { option_map numbered_signature_of result ≡ c.predicate_at (world_of self.now) name.now }
     {
-        match self.roles.find(name)? {
-            Role::Predicate(n) => Some((n, self.predicates.get(n as usize)?)),
-            _ => None,
-        }
+        let Some(Role::Predicate(n)) = self.roles.find(name) else {
+            return None;
+        };
+        Some((n, self.predicates.get(n as usize)?))
     }
 
     /// The method of this name, with its number.
     pub fn method(&self, name: &Ident) -> Option<(u32, &MethodTypes)>
         ensures { option_map numbered_method_of result ≡ c.method_at (world_of self.now) name.now }
     {
-        match self.roles.find(name)? {
-            Role::Method(n) => Some((n, self.methods.get(n as usize)?)),
-            _ => None,
-        }
+        let Some(Role::Method(n)) = self.roles.find(name) else {
+            return None;
+        };
+        Some((n, self.methods.get(n as usize)?))
     }
 }
