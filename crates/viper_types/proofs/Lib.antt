@@ -10,6 +10,7 @@ mod CallLaws
 mod PlaceLaws
 mod Nesting
 mod StmtLaws
+mod BlockLaws
 mod DeclLaws
 pub mod Tells
 pub mod TermSound

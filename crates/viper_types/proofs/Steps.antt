@@ -27,30 +27,35 @@ prefixed_more : {X : Type 0} (done : List X) (x : X) (j : Judged (List X)) → p
 prefixed_more done x (Found xs) = ap Found (append_assoc done (x ∷ []) xs)
 prefixed_more done x (Broken p r) = refl
 
+-- a turn of a loop over parts: one more is done
+pub one_done : {X : Type 0} (done : List X) (x : X) (j : Judged X) (left rest all : Judged (List X)) → left ≡ then_more j rest → j ≡ Found x → prefixed done left ≡ all → prefixed (done ++ x ∷ []) rest ≡ all
+one_done done x j left rest all is found so_far =
+    prefixed_more done x rest ∙ ap (λ k. prefixed done (then_more k rest)) (sym found) ∙ ap (prefixed done) (sym is) ∙ so_far
+
+-- a part in a loop that breaks a rule
+pub one_refused : {X : Type 0} (done : List X) (j : Judged X) (left rest all : Judged (List X)) (f : TypeFault) → left ≡ then_more j rest → Refuses j f → prefixed done left ≡ all → Refuses all f
+one_refused done j left rest all Memory is h so_far = tt
+one_refused done j left rest all (Rule p n) is h so_far = sym so_far ∙ ap (prefixed done) is ∙ ap (λ k. prefixed done (then_more k rest)) h
+one_refused done j left rest all (Weight w) is h so_far = h
+
+-- the end of a loop over parts
+pub all_done : {X : Type 0} (done : List X) (left all : Judged (List X)) → left ≡ Found [] → prefixed done left ≡ all → all ≡ Found done
+all_done done left all none so_far = sym so_far ∙ ap (prefixed done) none ∙ ap Found (append-nil done)
+
 next_left : {A X : Type 0} (one : A → Judged X) (items : List A) (i : ℕ) (a : A) → i < length items → a ≡ get_or items i a → each one (drop i items) ≡ then_more (one a) (each one (drop (i + 1) items))
 next_left one items i a within is =
     at_drop_more (each one) items i a within ∙ ap (λ b. then_more (one b) (each one (drop (i + 1) items))) (sym is)
 
--- a turn of a loop over parts: one more is done
 pub one_more : {A X : Type 0} (one : A → Judged X) (items : List A) (i : ℕ) (a : A) (done : List X) (x : X) (all : Judged (List X)) → i < length items → a ≡ get_or items i a → one a ≡ Found x → prefixed done (each one (drop i items)) ≡ all → prefixed (done ++ x ∷ []) (each one (drop (i + 1) items)) ≡ all
 one_more one items i a done x all within is found so_far =
-    prefixed_more done x (each one (drop (i + 1) items)) ∙
-    ap (λ k. prefixed done (then_more k (each one (drop (i + 1) items)))) (sym found) ∙
-    ap (prefixed done) (sym (next_left one items i a within is)) ∙
-    so_far
+    one_done done x (one a) (each one (drop i items)) (each one (drop (i + 1) items)) all (next_left one items i a within is) found so_far
 
--- a part in a loop that breaks a rule
 pub one_broken : {A X : Type 0} (one : A → Judged X) (items : List A) (i : ℕ) (a : A) (done : List X) (all : Judged (List X)) (f : TypeFault) → i < length items → a ≡ get_or items i a → Refuses (one a) f → prefixed done (each one (drop i items)) ≡ all → Refuses all f
-one_broken one items i a done all Memory within is h so_far = tt
-one_broken one items i a done all (Rule p n) within is h so_far =
-    sym so_far ∙ ap (prefixed done) (next_left one items i a within is) ∙
-    ap (λ k. prefixed done (then_more k (each one (drop (i + 1) items)))) h
-one_broken one items i a done all (Weight w) within is h so_far = h
+one_broken one items i a done all f within is h so_far =
+    one_refused done (one a) (each one (drop i items)) (each one (drop (i + 1) items)) all f (next_left one items i a within is) h so_far
 
--- the end of a loop over parts
 pub none_left : {A X : Type 0} (one : A → Judged X) (items : List A) (i : ℕ) (done : List X) (all : Judged (List X)) → length items ≤ i → prefixed done (each one (drop i items)) ≡ all → all ≡ Found done
-none_left one items i done all over so_far =
-    sym so_far ∙ ap (prefixed done) (at_drop_all (each one) items i over) ∙ ap Found (append-nil done)
+none_left one items i done all over so_far = all_done done (each one (drop i items)) all (at_drop_all (each one) items i over) so_far
 
 pub typing_all-each : (c : Context) (sc : Scope) (items : List term.Term) → typing_all c sc (terms_of items) ≡ each (λ a. typing c sc (term_of a)) items
 typing_all-each c sc [] = refl

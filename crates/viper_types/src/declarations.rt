@@ -10,7 +10,7 @@ ghost use Rattle.viper_scope.specs.Outcome.{Found, then_typed};
 use crate::methods::method;
 use crate::predicates::predicate;
 use std::alloc::Global;
-use vb_base::{Ident, Memory};
+use vb_base::{Ident, Memory, kept};
 use vb_value::{Layout, Ty};
 use viper_core::{Assertion, Method, Predicate, Program, Unit};
 use viper_scope::{TypeFault, World, next_number, type_of};
@@ -101,7 +101,8 @@ impl Parts {
     fn add_predicate(&mut self, alloc: Global, predicate: Predicate) -> Result<(), Memory>
         ensures { OnOk result (parts_of self.new ≡ j.with_declared (parts_of self.old) (j.PredicateOf (core.predicate_of predicate))) }
     {
-        self.announce(alloc, &predicate)?;
+        let announced = self.announce(alloc, &predicate);
+        let ((), predicate) = kept(announced, predicate)?;
         self.predicates.push(predicate)?;
         Ok(())
     }
@@ -118,8 +119,8 @@ impl Parts {
             Declared::Predicate(predicate) => self.add_predicate(alloc, predicate)?,
             Declared::Method(method) => {
                 let number = next_number(self.methods.len())?;
-                self.units.push(Unit::Method(number))?;
                 self.methods.push(method)?;
+                self.units.push(Unit::Method(number))?;
             }
         }
         Ok(())

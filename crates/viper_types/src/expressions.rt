@@ -14,7 +14,7 @@ ghost use Rattle.vb_value.specs.Fraction.{whole};
 ghost use Rattle.viper_syntax.specs.Term as t;
 
 use std::alloc::Global;
-use vb_base::{Ident, Pos};
+use vb_base::{Ident, Pos, boxed, boxed_pair, kept};
 use vb_value::{Frac, Ty};
 use viper_core::{Assertion, Expr, Op, Opened};
 use viper_scope::{Context, Part, PredicateSignature, Scope, TypeFault, World, fitted, start};
@@ -145,8 +145,7 @@ fn applied(
     let Some(ty) = op.value_type(left_ty, right_ty) else {
         return Err(TypeFault::Rule(at, 3));
     };
-    let left = Box::new(alloc, left)?;
-    let right = Box::new(alloc, right)?;
+    let (left, right) = boxed_pair(alloc, left, right)?;
     Ok((Expr::Bin(op, left, right, at), ty))
 }
 
@@ -165,9 +164,9 @@ fn chosen(
     if condition_ty != Ty::Bool || ty != second_ty {
         return Err(TypeFault::Rule(at, 3));
     }
-    let condition = Box::new(alloc, condition)?;
-    let first = Box::new(alloc, first)?;
-    let second = Box::new(alloc, second)?;
+    let condition = boxed(alloc, condition);
+    let (condition, (first, second)) = kept(condition, (first, second))?;
+    let (first, second) = boxed_pair(alloc, first, second)?;
     Ok((Expr::Choose(condition, first, second), ty))
 }
 
@@ -308,13 +307,16 @@ pub(crate) fn typing(
         Term::Unary(sign, a, at) => unary(alloc, *sign, typing(alloc, context, scope, a)?, *at),
         Term::Binary(sign, a, b, at) => {
             let left = typing(alloc, context, scope, a)?;
-            let right = typing(alloc, context, scope, b)?;
+            let right = typing(alloc, context, scope, b);
+            let (right, left) = kept(right, left)?;
             applied(alloc, *sign, left, right, *at)
         }
         Term::Choose(a, b, c, at) => {
             let condition = typing(alloc, context, scope, a)?;
-            let first = typing(alloc, context, scope, b)?;
-            let second = typing(alloc, context, scope, c)?;
+            let first = typing(alloc, context, scope, b);
+            let (first, condition) = kept(first, condition)?;
+            let second = typing(alloc, context, scope, c);
+            let (second, (first, condition)) = kept(second, (first, condition))?;
             chosen(alloc, condition, first, second, *at)
         }
         Term::Field(a, name, at) => field(alloc, place(alloc, context, scope, a, name, *at)?, *at),

@@ -4,14 +4,18 @@ ghost use Rattle.std.specs.Option.{option_map};
 ghost use Rattle.viper_core.specs.View as core;
 ghost use Rattle.viper_syntax.specs.View.{block_of, clause_of, method_of, term_of};
 ghost use Rattle.viper_scope.specs.Answers.{Answers, context_of, world_of};
+ghost use Rattle.viper_scope.specs.Outcome.{Found, then_typed};
+ghost use Rattle.viper_scope.specs.declared.context.Part.TheVariants as part;
 ghost use Rattle.viper_types.specs.Answers.{clause_typing_of, clause_typings_of, frame_of, optional_bodies_of};
 ghost use Rattle.viper_types.specs.Declaring as j;
+ghost use Rattle.viper_types.specs.Frame as f;
 
 use crate::assertions::assertion;
 use crate::formals::{add_names, formals};
 use crate::frames::Frame;
 use crate::statements::blocking;
 use std::alloc::Global;
+use std::mem;
 use vb_base::{Ident, Memory};
 use viper_core::{Assertion, Body, Method};
 use viper_scope::{Context, Part, Scope, TypeFault, World, next_number, seen, start};
@@ -135,6 +139,62 @@ fn heading_of(alloc: Global, method: &SMethod) -> Result<Heading, Memory>
     })
 }
 
+/// Declares the formals of a method. The parameters stand also in a frame of their own.
+fn declare_formals(
+    alloc: Global,
+    params: &mut Frame,
+    frame: &mut Frame,
+    method: &SMethod,
+) -> Result<(), TypeFault>
+    requires params { frame_of params.old ≡ j.no_frame }
+    requires frame { frame_of frame.old ≡ j.no_frame }
+    ensures { Answers {X = f.Frame × f.Frame} (λ _. (frame_of params.new, frame_of frame.new)) (then_typed (j.formals true true j.no_frame method.now.params.items) (λ ps.
+        then_typed (j.formals true false ps method.now.returns.items) (λ fr. Found (ps, fr)))) result }
+{
+    formals(alloc, params, true, true, &method.params)?;
+    formals(alloc, frame, true, true, &method.params)?;
+    formals(alloc, frame, true, false, &method.returns)
+}
+
+/// A method whose variables these frames take.
+fn method_in(
+    alloc: Global,
+    context: &Context,
+    params: &mut Frame,
+    frame: &mut Frame,
+    method: &SMethod,
+) -> Result<Method, TypeFault>
+    requires part { context.now.part ≡ part.Elsewhere }
+    requires params { frame_of params.old ≡ j.no_frame }
+    requires frame { frame_of frame.old ≡ j.no_frame }
+    ensures { Answers core.method_of (j.method_typing context.now.lists (world_of context.now.world.now) (optional_bodies_of context.now.bodies.now) (method_of method.now)) result }
+{
+    declare_formals(alloc, params, frame, method)?;
+    let clauses = clauses(
+        alloc,
+        context.world,
+        context.bodies,
+        &params.scope,
+        &frame.scope,
+        &method.clauses,
+    )?;
+    let conditions = split_clauses(alloc, clauses)?;
+    let heading = heading_of(alloc, method)?;
+    let body = method_body(alloc, context, frame, &method.body)?;
+    Ok(Method {
+        name: heading.name,
+        at: method.at,
+        name_at: method.name.pos,
+        names: heading.names,
+        params: heading.params,
+        returns: heading.returns,
+        vars: mem::replace(&mut frame.vars, Vec::new(alloc)),
+        preconditions: conditions.before,
+        postconditions: conditions.after,
+        body,
+    })
+}
+
 /// A method. The parameters stand also in a scope of their own, which its preconditions see.
 pub fn method(
     alloc: Global,
@@ -145,43 +205,14 @@ pub fn method(
 ) -> Result<Method, TypeFault>
     ensures { Answers core.method_of (j.method_typing lists (world_of world.now) (optional_bodies_of bodies.now) (method_of method.now)) result }
 {
-    let heading = heading_of(alloc, method)?;
-    let mut params = Frame::new(alloc);
-    formals(alloc, &mut params, true, true, &method.params)?;
-    let mut frame = Frame::new(alloc);
-    formals(alloc, &mut frame, true, true, &method.params)?;
-    formals(alloc, &mut frame, true, false, &method.returns)?;
-    let clauses = clauses(
-        alloc,
+    let part = Part::Elsewhere;
+    let context = Context {
         world,
         bodies,
-        &params.scope,
-        &frame.scope,
-        &method.clauses,
-    )?;
-    let conditions = split_clauses(alloc, clauses)?;
-    let part = Part::Elsewhere;
-    let body = method_body(
-        alloc,
-        &Context {
-            world,
-            bodies,
-            part,
-            lists,
-        },
-        &mut frame,
-        &method.body,
-    )?;
-    Ok(Method {
-        name: heading.name,
-        at: method.at,
-        name_at: method.name.pos,
-        names: heading.names,
-        params: heading.params,
-        returns: heading.returns,
-        vars: frame.vars,
-        preconditions: conditions.before,
-        postconditions: conditions.after,
-        body,
-    })
+        part,
+        lists,
+    };
+    let mut params = Frame::new(alloc);
+    let mut frame = Frame::new(alloc);
+    method_in(alloc, &context, &mut params, &mut frame, method)
 }

@@ -5,7 +5,7 @@ ghost use Rattle.viper_core.specs.Program as p;
 ghost use Rattle.viper_core.specs.View as core;
 ghost use Rattle.viper_syntax.specs.View.{decl_of, term_of};
 ghost use Rattle.viper_scope.specs.Answers.{Answers, world_of};
-ghost use Rattle.viper_types.specs.Answers.{optional_bodies_of};
+ghost use Rattle.viper_types.specs.Answers.{frame_of, optional_bodies_of};
 ghost use Rattle.viper_types.specs.Declaring as j;
 ghost use Rattle.viper_scope.specs.Types as types;
 ghost use Rattle.viper_scope.specs.Outcome.{Judged};
@@ -66,6 +66,31 @@ fn heading_of(alloc: Global, name: &Ident, params: &[Formal]) -> Result<Heading,
     })
 }
 
+/// A predicate whose parameters this frame takes.
+fn predicate_in(
+    alloc: Global,
+    world: &World,
+    frame: &mut Frame,
+    at: Pos,
+    name: &Named,
+    params: &[Formal],
+    body: &Option<Term>,
+) -> Result<Predicate, TypeFault>
+    requires { frame_of frame.old ≡ j.no_frame }
+    ensures { Answers core.predicate_of (j.predicate_typing (world_of world.now) at name.now params.now (option_map term_of body.now)) result }
+{
+    formals(alloc, frame, false, true, params)?;
+    let heading = heading_of(alloc, &name.name, params)?;
+    let body = predicate_body(alloc, world, &frame.scope, body)?;
+    Ok(Predicate {
+        name: heading.name,
+        at,
+        names: heading.names,
+        params: heading.params,
+        body,
+    })
+}
+
 /// A predicate.
 pub fn predicate(
     alloc: Global,
@@ -77,17 +102,8 @@ pub fn predicate(
 ) -> Result<Predicate, TypeFault>
     ensures { Answers core.predicate_of (j.predicate_typing (world_of world.now) at name.now params.now (option_map term_of body.now)) result }
 {
-    let heading = heading_of(alloc, &name.name, params)?;
     let mut frame = Frame::new(alloc);
-    formals(alloc, &mut frame, false, true, params)?;
-    let body = predicate_body(alloc, world, &frame.scope, body)?;
-    Ok(Predicate {
-        name: heading.name,
-        at,
-        names: heading.names,
-        params: heading.params,
-        body,
-    })
+    predicate_in(alloc, world, &mut frame, at, name, params, body)
 }
 
 /// The body of a typed predicate, and none where it breaks a rule.

@@ -10,6 +10,7 @@ ghost use Rattle.viper_scope.specs.Answers.{world_of};
 ghost use Rattle.viper_types.specs.Checked.{Gives, IsRefused, Overweighs, Tells};
 ghost use Rattle.viper_types.specs.Declaring as j;
 ghost use Rattle.viper_syntax.specs.Good.{IsGoodSource};
+ghost use Rattle.viper_scope.specs.Naming as n;
 ghost use Rattle.viper_scope.specs.Outcome.{Broken, Found, then_typed};
 ghost use Rattle.viper_types.specs.Program.{IsProgram};
 
@@ -33,18 +34,26 @@ fn heavy_fault(alloc: Global, world: &World, decls: &[Decl]) -> TypeFault
     }
 }
 
-/// The program that a file is; or the first rule that it breaks, or its weight, where what it copies tells that.
+/// The program that a file is, whose names are told; or the first rule that it breaks, or its weight, where what it copies tells that.
+fn typed_in(alloc: Global, world: &World, source: &SourceProgram) -> Result<Program, TypeFault>
+    requires { n.naming n.no_world (source_of source.now).decls ≡ Found (world_of world.now) }
+    ensures found { IfOk result (λ q. j.program_typing (source_of source.now) ≡ Found (core.program_of q)) }
+    ensures refused { IfErr result (λ f. IsRefused (source_of source.now) f) }
+{
+    let bodies = bodies_of(alloc, world, &source.decls)?;
+    if spend_decls(MAX_WEIGHT, world, &bodies, &source.decls).is_none() {
+        return Err(heavy_fault(alloc, world, &source.decls));
+    }
+    let parts = declarations(alloc, world, &bodies, true, &source.decls)?;
+    Ok(parts.program())
+}
+
 fn typed(alloc: Global, source: &SourceProgram) -> Result<Program, TypeFault>
     ensures found { IfOk result (λ q. j.program_typing (source_of source.now) ≡ Found (core.program_of q)) }
     ensures refused { IfErr result (λ f. IsRefused (source_of source.now) f) }
 {
     let world = naming(alloc, &source.decls)?;
-    let bodies = bodies_of(alloc, &world, &source.decls)?;
-    if spend_decls(MAX_WEIGHT, &world, &bodies, &source.decls).is_none() {
-        return Err(heavy_fault(alloc, &world, &source.decls));
-    }
-    let parts = declarations(alloc, &world, &bodies, true, &source.decls)?;
-    Ok(parts.program())
+    typed_in(alloc, &world, source)
 }
 
 /// The program that a file is, which weighs no more than 100,000; or the first rule that the file breaks.

@@ -1,8 +1,9 @@
 use Rattle.std.proofs.Common.{◌≡◌, ◌∙◌, subst, sym, ap, map, drop, ◌+◌, ◌++◌, ◌∷◌, []}
 use Rattle.std.specs.Bool.{OnTrue}
-use Rattle.std.proofs.lemmas.List.{map-append}
-use Rattle.viper_types.specs.Answers.{target_of}
-use Rattle.viper_types.specs.Stepping.{call_targets, numbers_in}
+use Rattle.std.proofs.lemmas.List.{at_drop_all, map-append}
+use Rattle.viper_scope.proofs.Judged.{at_error, failed, refuses_along}
+use Rattle.viper_types.specs.Answers.{target_of, targets_of}
+use Rattle.viper_types.specs.Stepping.{call_targets, numbers_in, target}
 use Rattle.viper_types.proofs.Listing.{numbers_in-push}
 use Rattle.viper_types.proofs.Turns.{left_at}
 use Rattle.viper_types.proofs.TargetLaws.{new_target, same_target, next_target}
@@ -31,3 +32,14 @@ loop-x-preserved c =
           (new_target v before c.loop-x.seen.keys _ _ c.loop-x.invariant.seen c.in_ok-list_new.ensures.is_new c.if-not-branch.false)) ∙
           sym (ap (call_targets c.args.scope.now before) left) ∙ c.loop-x.invariant.rest;
     }
+
+pub returns-in_err-target : goal.returns-in_err-target
+returns-in_err-target c =
+    let before = map target_of c.loop-x.targets.items in
+    let left = left_at c.args.names.now c.loop-x.x-index c.x-item.result c.loop-x-test.true c.x-item.is in
+    at_error targets_of _ _ _ c.from_residual.ensures.1
+    (refuses_along c.in_err-target.field-0.0 (sym c.loop-x.invariant.rest ∙ ap (call_targets c.args.scope.now before) left) (failed c.in_err-target.field-0.0 (target c.args.scope.now c.x-item.result) _ c.in_err-target.ensures))
+
+pub returns : goal.returns
+returns c =
+    sym c.loop-x.invariant.rest ∙ at_drop_all (call_targets c.args.scope.now (map target_of c.loop-x.targets.items)) c.args.names.now c.loop-x.x-index c.loop-x-test.false

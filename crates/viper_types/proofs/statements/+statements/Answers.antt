@@ -1,21 +1,25 @@
--- The variants that hold blocks.
-use Rattle.std.proofs.Common.{◌∙◌, ap, sym, ℕ, ◌+◌, List, length, map}
+-- The variants that hold blocks, and the loops over statements and arms.
+use Rattle.std.proofs.Common.{◌≡◌, ◌∙◌, ap, refl, sym, arith, ℕ, ◌+◌, List, [], ◌∷◌, length, drop, map}
+use Rattle.std.proofs.Math.Seq.{take-length}
+use Rattle.std.proofs.lemmas.List.{map-append}
 use Rattle.viper_core.specs.Stmt as plain
 use Rattle.viper_core.specs.View as core
 use Rattle.viper_core.proofs.ViewLaws.{stmts_of-map}
 use Rattle.viper_syntax.specs.Stmt as s
-use Rattle.viper_syntax.specs.View.{arms_of, else_of, block_of, stmt_of, stmts_of, term_of}
+use Rattle.viper_syntax.specs.View.{arm_of, arms_of, else_of, block_of, stmt_of, stmts_of, term_of}
 use Rattle.viper_syntax.proofs.ViewLaws.{stmt_of-If, stmt_of-While}
 use Rattle.viper_scope.specs.Answers.{context_of}
-use Rattle.viper_types.specs.Answers.{frame_of, branches_of, loop_terms_of}
+use Rattle.viper_types.specs.Answers.{frame_of, branch_of, branches_of, loop_terms_of, stmt_list_of}
 use Rattle.viper_scope.specs.Context.{nowhere}
 use Rattle.viper_types.specs.Frame.{frame_after, declared_in_arms, declared_in_else, with_hidden}
-use Rattle.viper_scope.specs.Outcome.{Found, known, then_typed}
+use Rattle.viper_scope.specs.Outcome.{Found, known, prefixed, then_typed}
 use Rattle.viper_scope.specs.Target.{listed, gathered, targets}
-use Rattle.viper_types.specs.Stepping.{nested, stepping, stepping_all}
+use Rattle.viper_types.specs.Stepping.{branch, branches, nested, stepping, stepping_all}
 use Rattle.viper_types.proofs.SameTargets.{listed_targets}
 use Rattle.viper_scope.proofs.Judged.{at_error, refuses_along, answers_along, failed}
 use Rattle.viper_types.proofs.StmtLaws.{on_ok, on_ok_too, arm_count-length, hidden_twice, if_arms_refused, if_arms, loop_typed, block_typed}
+use Rattle.viper_types.proofs.BlockLaws.{next_vars, next_visible, next_stmt, no_stmt, all_vars, next_arm_vars, next_arm, no_arm, all_hidden}
+use Rattle.viper_types.proofs.Steps.{prefixed_nothing, one_done, one_refused, all_done}
 use Rattle.viper_types.proofs.statements.+statements.Goals as goal
 
 pub blocking-returns-clause-answers : goal.blocking-returns-clause-answers
@@ -102,3 +106,103 @@ stepping-returns-in_ok-terms-in-While-clause-answers t c =
     (ap (stepping c.args.context.now.lists k c.args.depth fr) is ∙
     loop_typed c.args.context.now.lists k c.args.depth fr c.in-While.at guard (map term_of c.deref-in-While.result.now) (block_of c.in-While.body) (loop_terms_of c.in_ok-terms-in-While.terms) c.in_ok-terms-in-While.ensures)
     c.iteration.ensures.answers
+
+-- ---- the statements of a block
+
+pub stepping_all-loop-stmt-init : goal.stepping_all-loop-stmt-init
+stepping_all-loop-stmt-init t c =
+    let all = stepping_all c.args.context.now.lists (context_of c.args.context.now) c.args.depth (frame_of c.args.frame.now) (stmts_of c.args.stmts.now) in
+    record {
+      vars = refl;
+      visible = take-length c.args.frame.now.scope;
+      rest = ap (λ done. prefixed (map core.stmt_of done) all) c.in_ok-typed.ensures.items ∙ prefixed_nothing all;
+    }
+
+pub stepping_all-loop-stmt-preserved : goal.stepping_all-loop-stmt-preserved
+stepping_all-loop-stmt-preserved t c =
+    let lists = c.args.context.now.lists in
+    let k = context_of c.args.context.now in
+    let fr = frame_of c.loop-stmt.frame in
+    let gr = frame_of c.stepping.new.frame in
+    let items = c.args.stmts.now in
+    let i = c.loop-stmt.stmt-index in
+    let item = c.stmt-item.result in
+    let done = c.loop-stmt.typed.items in
+    let rest = stepping_all lists k c.args.depth gr (stmts_of (drop (i + 1) items)) in
+    record {
+      vars = next_vars fr gr items i item _ c.loop-stmt-test.true c.stmt-item.is c.in_ok-next.ensures.after c.loop-stmt.invariant.vars;
+      visible = next_visible fr gr item c.args.frame.now.scope c.in_ok-next.ensures.after c.loop-stmt.invariant.visible;
+      rest = ap (λ typed. prefixed typed rest) (ap (map core.stmt_of) c.in_ok-push.ensures.items ∙ map-append core.stmt_of done (c.in_ok-next.next ∷ [])) ∙
+          one_done (map core.stmt_of done) (core.stmt_of c.in_ok-next.next) (stepping lists k c.args.depth fr (stmt_of item)) _ rest _
+          (next_stmt lists k c.args.depth fr gr items i item c.loop-stmt-test.true c.stmt-item.is c.in_ok-next.ensures.after) c.in_ok-next.ensures.answers c.loop-stmt.invariant.rest;
+    }
+
+pub stepping_all-returns-in_err-next-clause-answers : goal.stepping_all-returns-in_err-next-clause-answers
+stepping_all-returns-in_err-next-clause-answers t c =
+    let lists = c.args.context.now.lists in
+    let k = context_of c.args.context.now in
+    let fr = frame_of c.loop-stmt.frame in
+    let item = c.stmt-item.result in
+    at_error stmt_list_of _ _ _ c.from_residual-in_err-next.ensures.1
+    (one_refused (stmt_list_of c.loop-stmt.typed) (stepping lists k c.args.depth fr (stmt_of item)) _ _ _ c.in_err-next.field-0.0
+    (next_stmt lists k c.args.depth fr _ c.args.stmts.now c.loop-stmt.stmt-index item c.loop-stmt-test.true c.stmt-item.is refl) c.in_err-next.ensures.answers c.loop-stmt.invariant.rest)
+
+pub stepping_all-returns-clause-vars : goal.stepping_all-returns-clause-vars
+stepping_all-returns-clause-vars t c = all_vars (frame_of c.loop-stmt.frame) c.args.stmts.now c.loop-stmt.stmt-index _ c.loop-stmt-test.false c.loop-stmt.invariant.vars
+
+pub stepping_all-returns-clause-answers : goal.stepping_all-returns-clause-answers
+stepping_all-returns-clause-answers t c =
+    all_done (stmt_list_of c.loop-stmt.typed) _ _
+    (no_stmt c.args.context.now.lists (context_of c.args.context.now) c.args.depth (frame_of c.loop-stmt.frame) c.args.stmts.now c.loop-stmt.stmt-index c.loop-stmt-test.false) c.loop-stmt.invariant.rest
+
+-- ---- the arms of an `if`
+
+pub branches-loop-i-init : goal.branches-loop-i-init
+branches-loop-i-init t c =
+    let from = λ (d : ℕ). branches c.args.context.now.lists (context_of c.args.context.now) d (frame_of c.args.frame.now) (arms_of c.args.arms.now) in
+    let first : c.args.depth + 0 ≡ c.args.depth = omega arith in
+    record {
+      shallow = omega (arith, c.requires);
+      vars = refl;
+      scope = refl;
+      rest = ap (λ done. prefixed (map branch_of done) (from (c.args.depth + 0))) c.in_ok-typed.ensures.items ∙ prefixed_nothing (from (c.args.depth + 0)) ∙ ap from first;
+    }
+
+pub branches-loop-i-preserved : goal.branches-loop-i-preserved
+branches-loop-i-preserved t c =
+    let lists = c.args.context.now.lists in
+    let k = context_of c.args.context.now in
+    let fr = frame_of c.loop-i.frame in
+    let gr = frame_of c.branch-alloc.new.frame in
+    let items = c.args.arms.now in
+    let i = c.loop-i.i in
+    let item = c.index-arms-i.result in
+    let done = c.loop-i.typed.items in
+    let rest = branches lists k (c.args.depth + (i + 1)) gr (arms_of (drop (i + 1) items)) in
+    record {
+      shallow = omega (arith, c.in_ok-next.ensures.shallow);
+      vars = next_arm_vars fr gr items i item _ c.loop-i-test.true c.index-arms-i.is c.in_ok-next.ensures.after c.loop-i.invariant.vars;
+      scope = ap (λ hr. hr.scope) c.in_ok-next.ensures.after ∙ c.loop-i.invariant.scope;
+      rest = ap (λ typed. prefixed typed rest) (ap (map branch_of) c.in_ok-push.ensures.items ∙ map-append branch_of done (c.in_ok-next.next ∷ [])) ∙
+          one_done (map branch_of done) (branch_of c.in_ok-next.next) (branch lists k (c.args.depth + i) fr (arm_of item)) _ rest _
+          (next_arm lists k c.args.depth fr gr items i item c.loop-i-test.true c.index-arms-i.is c.in_ok-next.ensures.after) c.in_ok-next.ensures.answers c.loop-i.invariant.rest;
+    }
+
+pub branches-returns-in_err-next-clause-answers : goal.branches-returns-in_err-next-clause-answers
+branches-returns-in_err-next-clause-answers t c =
+    let lists = c.args.context.now.lists in
+    let k = context_of c.args.context.now in
+    let fr = frame_of c.loop-i.frame in
+    let item = c.index-arms-i.result in
+    at_error branches_of _ _ _ c.from_residual-in_err-next.ensures.1
+    (one_refused (branches_of c.loop-i.typed) (branch lists k (c.args.depth + c.loop-i.i) fr (arm_of item)) _ _ _ c.in_err-next.field-0.0
+    (next_arm lists k c.args.depth fr _ c.args.arms.now c.loop-i.i item c.loop-i-test.true c.index-arms-i.is refl) c.in_err-next.ensures.answers c.loop-i.invariant.rest)
+
+pub branches-returns-clause-after : goal.branches-returns-clause-after
+branches-returns-clause-after t c =
+    all_hidden (frame_of c.loop-i.frame) (frame_of c.args.frame.now) c.args.arms.now c.loop-i.i c.loop-i-test.false c.loop-i.invariant.vars c.loop-i.invariant.scope
+
+pub branches-returns-clause-answers : goal.branches-returns-clause-answers
+branches-returns-clause-answers t c =
+    all_done (branches_of c.loop-i.typed) _ _
+    (no_arm c.args.context.now.lists (context_of c.args.context.now) (c.args.depth + c.loop-i.i) (frame_of c.loop-i.frame) c.args.arms.now c.loop-i.i c.loop-i-test.false) c.loop-i.invariant.rest
