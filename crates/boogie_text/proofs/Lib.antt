@@ -1,6 +1,7 @@
 pub mod CutLaws
 pub mod AlikeLaws
 pub mod PrintLaws
+pub mod PutLaws
 pub mod FreshLaws
 pub mod VarLaws
 pub mod ExprShown

@@ -1,5 +1,6 @@
 pub mod Fronts
 pub mod Laws
+pub mod LessLaws
 pub mod Reading
 pub mod Steps
 pub mod Whole

@@ -7,6 +7,7 @@ use Rattle.boogie_grammar.proofs.Reading.{start, by_need, by_token, by_other, by
 use Rattle.boogie_grammar.proofs.Steps.{token_error, part_error, tail, pass_on, whole_as, goes_at, goes_then, pushed_first, pushed_more, symbol_at, symbol_refuses_at}
 use Rattle.boogie_grammar.proofs.EatLaws.{by_variable, by_no_variable}
 use Rattle.boogie_text.proofs.ExprLaws.{at_pair, one_leaf, no_leaf, no_wrap}
+use Rattle.grammar.proofs.LessLaws.{less, less_on, at_most_on, no_more_on}
 use Rattle.boogie_text.proofs.exprs.+expressions.Goals as goal
 
 pub expr-returns-in-Some-clause-reads : goal.expr-returns-in-Some-clause-reads
@@ -222,3 +223,74 @@ binding-returns-in_err-after-2-clause-reads t c =
 pub binding-returns-clause-reads : goal.binding-returns-clause-reads
 binding-returns-clause-reads t c =
     whole_as (by_need c.in_ok-after-2.ensures.takes (by_part (symbol_at (λ bs. g.Expr (record { locals = c.args.scope.locals.now; bound = bs })) c.all.ensures c.in_ok-inner.ensures.reads) (by_need c.in_ok-after.ensures.takes (by_part c.in_ok-types.ensures.reads (start (quantifying (scope_of c.args.scope)) c.args.tokens.now))))) (ap expr_of c.in_ok-whole.ensures)
+
+-- the tokens that are left
+
+pub binary-returns-clause-shorter : goal.binary-returns-clause-shorter
+binary-returns-clause-shorter t c = less (less (less c.in_ok-left.ensures.shorter c.in_ok-op.ensures.shorter) c.in_ok-right.ensures.shorter) c.in_ok-after.ensures.shorter
+
+pub binding-returns-clause-shorter : goal.binding-returns-clause-shorter
+binding-returns-clause-shorter t c = less (less (less c.in_ok-types.ensures.shorter c.in_ok-after.ensures.shorter) c.in_ok-inner.ensures.shorter) c.in_ok-after-2.ensures.shorter
+
+pub choice-returns-clause-shorter : goal.choice-returns-clause-shorter
+choice-returns-clause-shorter t c = less (less (less (less (less c.in_ok-condition.ensures.shorter c.in_ok-after.ensures.shorter) c.in_ok-first.ensures.shorter) c.in_ok-after-2.ensures.shorter) c.in_ok-second.ensures.shorter) c.in_ok-after-3.ensures.shorter
+
+pub closed-returns-clause-shorter : goal.closed-returns-clause-shorter
+closed-returns-clause-shorter t c = less c.in_ok-inner.ensures.shorter c.in_ok-after.ensures.shorter
+
+pub expr-returns-in-Some-clause-shorter : goal.expr-returns-in-Some-clause-shorter
+expr-returns-in-Some-clause-shorter t c = c.in-Some.ensures.shorter
+
+pub expr-returns-in-Some-eat_wrap-clause-shorter : goal.expr-returns-in-Some-eat_wrap-clause-shorter
+expr-returns-in-Some-eat_wrap-clause-shorter t c = less_on _ c.wrapped.result c.in-Some-eat_wrap.ensures.shorter c.wrapped.ensures.shorter
+
+pub expr-returns-in-Some-eat_word-clause-shorter : goal.expr-returns-in-Some-eat_word-clause-shorter
+expr-returns-in-Some-eat_word-clause-shorter t c = less_on _ c.paired.result c.in-Some-eat_word.ensures.shorter c.paired.ensures.shorter
+
+pub expr-returns-in-Some-eat_variable-clause-shorter : goal.expr-returns-in-Some-eat_variable-clause-shorter
+expr-returns-in-Some-eat_variable-clause-shorter t c = at_most_on _ c.named.result c.in-Some-eat_variable.ensures.shorter c.named.ensures.shorter
+
+pub expr-returns-clause-shorter : goal.expr-returns-clause-shorter
+expr-returns-clause-shorter t c = c.in_parens.ensures.shorter
+
+pub exprs-returns-clause-shorter : goal.exprs-returns-clause-shorter
+exprs-returns-clause-shorter t c = less c.loop-after.invariant.shorter c.in_ok-after.ensures.shorter
+
+pub in_parens-returns-clause-shorter : goal.in_parens-returns-clause-shorter
+in_parens-returns-clause-shorter t c = less_on _ c.inside.result c.in_ok-rest.ensures.shorter c.inside.ensures.shorter
+
+pub indices-returns-in-Some-clause-shorter : goal.indices-returns-in-Some-clause-shorter
+indices-returns-in-Some-clause-shorter t c = less c.in-Some.ensures.shorter c.in_ok-after.ensures.shorter
+
+pub indices-returns-clause-shorter : goal.indices-returns-clause-shorter
+indices-returns-clause-shorter t c = c.in_ok-all.ensures.shorter
+
+pub inside-returns-in-Some-clause-shorter : goal.inside-returns-in-Some-clause-shorter
+inside-returns-in-Some-clause-shorter t c = less_on _ c.closed.result c.in-Some.ensures.shorter c.closed.ensures.shorter
+
+pub inside-returns-in-Some-eat_sign-clause-shorter : goal.inside-returns-in-Some-eat_sign-clause-shorter
+inside-returns-in-Some-eat_sign-clause-shorter t c = less_on _ c.closed-in-Some-eat_sign.result c.in-Some-eat_sign.ensures.shorter c.closed-in-Some-eat_sign.ensures.shorter
+
+pub inside-returns-in-Some-eat_word-clause-shorter : goal.inside-returns-in-Some-eat_word-clause-shorter
+inside-returns-in-Some-eat_word-clause-shorter t c = less_on _ c.choice.result c.in-Some-eat_word.ensures.shorter c.choice.ensures.shorter
+
+pub inside-returns-in-Some-eat_forall-clause-shorter : goal.inside-returns-in-Some-eat_forall-clause-shorter
+inside-returns-in-Some-eat_forall-clause-shorter t c = less_on _ c.quantified.result c.in-Some-eat_forall.ensures.shorter c.quantified.ensures.shorter
+
+pub inside-returns-clause-shorter : goal.inside-returns-clause-shorter
+inside-returns-clause-shorter t c = c.binary.ensures.shorter
+
+pub named-returns-clause-shorter : goal.named-returns-clause-shorter
+named-returns-clause-shorter t c = no_more_on _ c.indices.result c.in-Some.ensures.shorter c.indices.ensures.shorter
+
+pub paired-returns-clause-shorter : goal.paired-returns-clause-shorter
+paired-returns-clause-shorter t c = less (less (less (less c.in_ok-rest.ensures.shorter c.in_ok-first.ensures.shorter) c.in_ok-after.ensures.shorter) c.in_ok-second.ensures.shorter) c.in_ok-after-2.ensures.shorter
+
+pub quantified-returns-clause-shorter : goal.quantified-returns-clause-shorter
+quantified-returns-clause-shorter t c = c.binding.ensures.shorter
+
+pub wrapped-returns-clause-shorter : goal.wrapped-returns-clause-shorter
+wrapped-returns-clause-shorter t c = less_on _ c.closed.result c.in_ok-rest.ensures.shorter c.closed.ensures.shorter
+
+pub quantified-returns-clause-reads : goal.quantified-returns-clause-reads
+quantified-returns-clause-reads t c = c.binding.ensures.reads

@@ -46,3 +46,9 @@ loop-after-preserved c =
 
 pub returns-clause-reads : goal.returns-clause-reads
 returns-clause-reads c = whole (by_other c.in_default.ensures.eats c.loop-after.invariant.goes)
+
+pub returns-clause-shorter : goal.returns-clause-shorter
+returns-clause-shorter c = c.loop-after.invariant.shorter
+
+pub returns-clause-names : goal.returns-clause-names
+returns-clause-names c = c.loop-after.invariant.names

@@ -4,6 +4,7 @@ use Rattle.boogie_grammar.specs.Grammar as g
 use Rattle.boogie_grammar.proofs.Reading.{start, by_need, by_part}
 use Rattle.boogie_grammar.proofs.Steps.{token_error, part_error, whole_as, symbol_at, symbol_refuses_at}
 use Rattle.boogie_text.proofs.ProcLaws.{procedure_is}
+use Rattle.grammar.proofs.LessLaws.{less, less_end}
 use Rattle.boogie_text.proofs.procs.procedure.Goals as goal
 
 pub returns-in_err-name-clause-reads : goal.returns-in_err-name-clause-reads
@@ -37,3 +38,6 @@ returns-clause-reads c =
 pub returns-clause-new : goal.returns-clause-new
 returns-clause-new c =
     c.in_ok-name.ensures.takes.passes.2
+
+pub returns-clause-shorter : goal.returns-clause-shorter
+returns-clause-shorter c = less (less_end (less (less (less c.in_ok-name.ensures.shorter c.in_ok-rest.ensures.shorter) c.in_ok-rest-2.ensures.shorter) c.in_ok-rest-3.ensures.shorter) c.in_ok-vars.ensures.shorter) c.in_ok-body.ensures.shorter

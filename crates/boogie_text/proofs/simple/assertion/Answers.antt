@@ -2,6 +2,7 @@ use Rattle.boogie_tree.specs.Whole.{stmt_of}
 use Rattle.boogie_grammar.proofs.Reading.{start, by_need, by_part, whole}
 use Rattle.boogie_grammar.proofs.Steps.{token_error, part_error}
 use Rattle.boogie_text.specs.StmtView.{asserting}
+use Rattle.grammar.proofs.LessLaws.{less}
 use Rattle.boogie_text.proofs.simple.assertion.Goals as goal
 
 pub returns-in_err-rest-clause-reads : goal.returns-in_err-rest-clause-reads
@@ -35,3 +36,6 @@ returns-in_err-after-clause-reads c =
 pub returns-clause-reads : goal.returns-clause-reads
 returns-clause-reads c =
     whole (by_need c.in_ok-after.ensures.takes (by_part c.in_ok-claim.ensures.reads (by_need c.in_ok-rest-4.ensures.takes (by_need c.in_ok-text.ensures.takes (by_need c.in_ok-rest-3.ensures.takes (by_need c.in_ok-rest-2.ensures.takes (by_need c.in_ok-rest.ensures.takes (start (asserting c.args.locals.now) c.args.tokens.now))))))))
+
+pub returns-clause-shorter : goal.returns-clause-shorter
+returns-clause-shorter c = less (less (less (less (less (less c.in_ok-rest.ensures.shorter c.in_ok-rest-2.ensures.shorter) c.in_ok-rest-3.ensures.shorter) c.in_ok-text.ensures.shorter) c.in_ok-rest-4.ensures.shorter) c.in_ok-claim.ensures.shorter) c.in_ok-after.ensures.shorter

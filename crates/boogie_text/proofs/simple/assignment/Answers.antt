@@ -3,6 +3,7 @@ use Rattle.boogie_grammar.specs.Grammar as g
 use Rattle.boogie_grammar.proofs.Reading.{start, by_need, by_token, by_other, by_part, whole}
 use Rattle.boogie_grammar.proofs.Steps.{token_error, part_error, whole_as}
 use Rattle.boogie_text.proofs.StmtLaws.{stmt_of-Put}
+use Rattle.grammar.proofs.LessLaws.{less}
 use Rattle.boogie_text.proofs.simple.assignment.Goals as goal
 
 pub returns-in_err-indices-clause-reads : goal.returns-in_err-indices-clause-reads
@@ -40,3 +41,9 @@ returns-in_err-after-2-clause-reads c =
 pub returns-clause-reads : goal.returns-clause-reads
 returns-clause-reads c =
     whole (by_need c.in_ok-after-2.ensures.takes (by_part c.in_ok-value-2.ensures.reads (by_need c.in_ok-rest-2.ensures.takes (by_other c.in_default.ensures.eats (start (g.assignment c.args.locals.now c.args.i) c.args.tokens.now)))))
+
+pub returns-in-Some-clause-shorter : goal.returns-in-Some-clause-shorter
+returns-in-Some-clause-shorter c = less (less (less (less c.in-Some.ensures.shorter c.in_ok-indices.ensures.shorter) c.in_ok-rest.ensures.shorter) c.in_ok-value.ensures.shorter) c.in_ok-after.ensures.shorter
+
+pub returns-clause-shorter : goal.returns-clause-shorter
+returns-clause-shorter c = less (less c.in_ok-rest-2.ensures.shorter c.in_ok-value-2.ensures.shorter) c.in_ok-after-2.ensures.shorter

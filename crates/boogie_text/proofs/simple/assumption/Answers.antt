@@ -2,6 +2,7 @@ use Rattle.boogie_tree.specs.Whole.{stmt_of}
 use Rattle.boogie_grammar.proofs.Reading.{start, by_need, by_part, whole}
 use Rattle.boogie_grammar.proofs.Steps.{token_error, part_error}
 use Rattle.boogie_text.specs.StmtView.{assuming}
+use Rattle.grammar.proofs.LessLaws.{less}
 use Rattle.boogie_text.proofs.simple.assumption.Goals as goal
 
 pub returns-in_err-claim-clause-reads : goal.returns-in_err-claim-clause-reads
@@ -15,3 +16,6 @@ returns-in_err-after-clause-reads c =
 pub returns-clause-reads : goal.returns-clause-reads
 returns-clause-reads c =
     whole (by_need c.in_ok-after.ensures.takes (by_part c.in_ok-claim.ensures.reads (start (assuming c.args.locals.now) c.args.tokens.now)))
+
+pub returns-clause-shorter : goal.returns-clause-shorter
+returns-clause-shorter c = less c.in_ok-claim.ensures.shorter c.in_ok-after.ensures.shorter

@@ -7,6 +7,7 @@ use Rattle.boogie_grammar.proofs.Reading.{start, by_need, by_token, by_other, by
 use Rattle.boogie_grammar.proofs.Steps.{error_as, token_error, part_error, tail, pass_on, whole_as, goes_at, goes_then, pushed_more}
 use Rattle.boogie_grammar.proofs.EatLaws.{by_variable, by_no_variable}
 use Rattle.boogie_text.specs.StmtView.{all_stmts_of, block_of, unpicked, picked}
+use Rattle.grammar.proofs.LessLaws.{less, less_end, end_less, less_on, no_more_on}
 use Rattle.boogie_text.proofs.stmts.+blocks.Goals as goal
 
 pub statements-loop-after-init : goal.statements-loop-after-init
@@ -124,3 +125,41 @@ otherwise-returns-in_default-clause-reads t c =
 pub otherwise-returns-clause-reads : goal.otherwise-returns-clause-reads
 otherwise-returns-clause-reads t c =
     pass_on block_of _ (tail (by_token c.in-Some.ensures.eats (start (g.rule (g.Else c.args.locals.now)) c.args.tokens.now))) c.block.ensures.reads
+
+-- the tokens that are left
+
+pub statements-returns-in-Some-clause-shorter : goal.statements-returns-in-Some-clause-shorter
+statements-returns-in-Some-clause-shorter t c = end_less c.loop-after.invariant.shorter c.in-Some.ensures.shorter
+
+pub statement-returns-in-Some-clause-shorter : goal.statement-returns-in-Some-clause-shorter
+statement-returns-in-Some-clause-shorter t c = less_on _ c.assumption.result c.in-Some.ensures.shorter c.assumption.ensures.shorter
+
+pub statement-returns-in-Some-eat_word-clause-shorter : goal.statement-returns-in-Some-eat_word-clause-shorter
+statement-returns-in-Some-eat_word-clause-shorter t c = less_on _ c.assertion.result c.in-Some-eat_word.ensures.shorter c.assertion.ensures.shorter
+
+pub statement-returns-in-Some-2-clause-shorter : goal.statement-returns-in-Some-2-clause-shorter
+statement-returns-in-Some-2-clause-shorter t c = less (rw c.in-Some-2.is at c.in_ok-i.ensures.shorter) c.in_ok-after.ensures.shorter
+
+pub statement-returns-in-Some-eat_variable-clause-shorter : goal.statement-returns-in-Some-eat_variable-clause-shorter
+statement-returns-in-Some-eat_variable-clause-shorter t c = less_on _ c.assignment.result c.in-Some-eat_variable.ensures.shorter c.assignment.ensures.shorter
+
+pub statement-returns-clause-shorter : goal.statement-returns-clause-shorter
+statement-returns-clause-shorter t c = c.conditional.ensures.shorter
+
+pub conditional-returns-in-Some-clause-shorter : goal.conditional-returns-in-Some-clause-shorter
+conditional-returns-in-Some-clause-shorter t c = less_on _ c.either.result (less (less c.in_ok-rest.ensures.shorter c.in_ok-rest-2.ensures.shorter) c.in-Some.ensures.shorter) c.either.ensures.shorter
+
+pub conditional-returns-clause-shorter : goal.conditional-returns-clause-shorter
+conditional-returns-clause-shorter t c = less_on _ c.choice.result (less c.in_ok-rest.ensures.shorter c.in_ok-rest-2.ensures.shorter) c.choice.ensures.shorter
+
+pub either-returns-clause-shorter : goal.either-returns-clause-shorter
+either-returns-clause-shorter t c = less_end (less c.in_ok-rest.ensures.shorter c.in_ok-first.ensures.shorter) c.in_ok-second.ensures.shorter
+
+pub choice-returns-clause-shorter : goal.choice-returns-clause-shorter
+choice-returns-clause-shorter t c = less_end (less (less c.in_ok-condition.ensures.shorter c.in_ok-rest.ensures.shorter) c.in_ok-first.ensures.shorter) c.in_ok-second.ensures.shorter
+
+pub block-returns-clause-shorter : goal.block-returns-clause-shorter
+block-returns-clause-shorter t c = less c.in_ok-rest.ensures.shorter c.in_ok-all.ensures.shorter
+
+pub otherwise-returns-clause-shorter : goal.otherwise-returns-clause-shorter
+otherwise-returns-clause-shorter t c = no_more_on _ c.block.result c.in-Some.ensures.shorter c.block.ensures.shorter

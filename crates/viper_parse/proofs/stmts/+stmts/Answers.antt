@@ -6,6 +6,7 @@ use Rattle.viper_grammar.specs.Grammar as g
 use Rattle.viper_parse.specs.View.{stmts_in}
 use Rattle.viper_grammar.proofs.Reading.{start, by_need, by_token, by_other, by_part, whole}
 use Rattle.viper_grammar.proofs.Steps.{part_error, token_error, tail, pass_on, whole_as, goes_at, goes_by, pushed_first, pushed_more}
+use Rattle.grammar.proofs.LessLaws.{less, less_end, end_less, less_on}
 use Rattle.viper_parse.proofs.stmts.+stmts.Goals as goal
 
 pub statement-returns-in-Some-clause-reads : goal.statement-returns-in-Some-clause-reads
@@ -135,3 +136,44 @@ statements-returns-in_err-next-clause-reads t c =
 pub statements-each-preserved : goal.statements-each-preserved
 statements-each-preserved t c =
     record { shorter = omega (arith, c.in_ok-next.ensures.shorter, c.semicolons-rest.ensures.shorter); goes = goes_at v.stmts (λ ss. g.rule (g.Statements ss)) (pushed_more stmt_of _ c.in_ok-all.ensures refl) (tail (by_part c.semicolons-rest.ensures.reads (by_part c.in_ok-next.ensures.reads (by_other c.in_default.ensures.eats (c.each.invariant.goes))))) }
+
+-- the tokens that are left
+
+pub statement-returns-in-Some-clause-shorter : goal.statement-returns-in-Some-clause-shorter
+statement-returns-in-Some-clause-shorter t c = less_on _ c.variable.result c.in-Some.ensures.shorter c.variable.ensures.shorter
+
+pub statement-returns-in-Some-eat_one_of-clause-shorter : goal.statement-returns-in-Some-eat_one_of-clause-shorter
+statement-returns-in-Some-eat_one_of-clause-shorter t c = less c.in-Some-eat_one_of.ensures.shorter c.in_ok-part.ensures.shorter
+
+pub statement-returns-in-Some-eat_word-clause-shorter : goal.statement-returns-in-Some-eat_word-clause-shorter
+statement-returns-in-Some-eat_word-clause-shorter t c = less c.in-Some-eat_word.ensures.shorter c.in_ok-held.ensures.shorter
+
+pub statement-returns-in-Some-eat_word-2-clause-shorter : goal.statement-returns-in-Some-eat_word-2-clause-shorter
+statement-returns-in-Some-eat_word-2-clause-shorter t c = less c.in-Some-eat_word-2.ensures.shorter c.in_ok-held-2.ensures.shorter
+
+pub statement-returns-in-Some-eat_word-3-clause-shorter : goal.statement-returns-in-Some-eat_word-3-clause-shorter
+statement-returns-in-Some-eat_word-3-clause-shorter t c = less_on _ c.branches.result c.in-Some-eat_word-3.ensures.shorter c.branches.ensures.shorter
+
+pub statement-returns-in-Some-eat_word-4-clause-shorter : goal.statement-returns-in-Some-eat_word-4-clause-shorter
+statement-returns-in-Some-eat_word-4-clause-shorter t c = less_on _ c.while_loop.result c.in-Some-eat_word-4.ensures.shorter c.while_loop.ensures.shorter
+
+pub statement-returns-clause-shorter : goal.statement-returns-clause-shorter
+statement-returns-clause-shorter t c = less_on _ c.after_name.result c.in_ok-named.ensures.shorter c.after_name.ensures.shorter
+
+pub arm-returns-clause-shorter : goal.arm-returns-clause-shorter
+arm-returns-clause-shorter t c = less c.in_ok-condition.ensures.shorter c.in_ok-body.ensures.shorter
+
+pub branches-returns-in_default-eat_word-clause-shorter : goal.branches-returns-in_default-eat_word-clause-shorter
+branches-returns-in_default-eat_word-clause-shorter t c = c.loop-place.invariant.shorter
+
+pub branches-returns-clause-shorter : goal.branches-returns-clause-shorter
+branches-returns-clause-shorter t c = less (less c.loop-place.invariant.shorter c.in-Some-eat_word.ensures.shorter) c.in_ok-last.ensures.shorter
+
+pub while_loop-returns-clause-shorter : goal.while_loop-returns-clause-shorter
+while_loop-returns-clause-shorter t c = less (less_end c.in_ok-condition.ensures.shorter c.in_ok-conditions.ensures.shorter) c.in_ok-body.ensures.shorter
+
+pub block-returns-clause-shorter : goal.block-returns-clause-shorter
+block-returns-clause-shorter t c = less c.in_ok-at.ensures.shorter c.in_ok-stmts.ensures.shorter
+
+pub statements-returns-in-Some-clause-shorter : goal.statements-returns-in-Some-clause-shorter
+statements-returns-in-Some-clause-shorter t c = end_less c.each.invariant.shorter c.in-Some.ensures.shorter

@@ -12,6 +12,7 @@ use Rattle.viper_grammar.specs.View.{part_of, instance_of}
 use Rattle.viper_parse.specs.View.{arguments_of}
 use Rattle.viper_grammar.proofs.Reading.{fails_in, start, by_need, by_token, by_other, by_part, whole}
 use Rattle.viper_grammar.proofs.Steps.{error_as, part_error, token_error, tail, pass_on, whole_as, goes_at, stays, goes_further, once, again, level_longer, level_fails, longer_fails, level_at, level_refuses_at, pushed_first, pushed_more}
+use Rattle.grammar.proofs.LessLaws.{less, less_on, at_most_on, no_more}
 use Rattle.viper_parse.proofs.terms.+terms.Goals as goal
 
 pub term-returns-in_err-part-clause-reads : goal.term-returns-in_err-part-clause-reads
@@ -293,3 +294,74 @@ arguments-returns-in_err-after-clause-reads t c =
 
 pub arguments-returns-clause-reads : goal.arguments-returns-clause-reads
 arguments-returns-clause-reads t c = whole (by_need c.in_ok-after.ensures.takes (by_other c.in_default-eat_sign.ensures.eats c.loop-after.invariant.goes))
+
+-- the tokens that are left
+
+pub term-returns-clause-shorter : goal.term-returns-clause-shorter
+term-returns-clause-shorter t c = at_most_on _ c.choice.result c.in_ok-part.ensures.shorter c.choice.ensures.shorter
+
+pub choice-returns-clause-shorter : goal.choice-returns-clause-shorter
+choice-returns-clause-shorter t c = no_more (less (less (less c.in-Some.ensures.shorter c.in_ok-first.ensures.shorter) c.in_ok-after.ensures.shorter) c.in_ok-second.ensures.shorter)
+
+pub level-returns-clause-shorter : goal.level-returns-clause-shorter
+level-returns-clause-shorter t c = c.loop-m.invariant.shorter
+
+pub chain-returns-clause-shorter : goal.chain-returns-clause-shorter
+chain-returns-clause-shorter t c = c.loop-operator.invariant.shorter
+
+pub unary-returns-in-Some-clause-shorter : goal.unary-returns-in-Some-clause-shorter
+unary-returns-in-Some-clause-shorter t c = less c.in-Some.ensures.shorter c.in_ok-operand.ensures.shorter
+
+pub unary-returns-in-Some-eat_word-clause-shorter : goal.unary-returns-in-Some-eat_word-clause-shorter
+unary-returns-in-Some-eat_word-clause-shorter t c = less_on _ c.opening.result c.in-Some-eat_word.ensures.shorter c.opening.ensures.shorter
+
+pub unary-returns-clause-shorter : goal.unary-returns-clause-shorter
+unary-returns-clause-shorter t c = at_most_on _ c.fields.result c.in_ok-part.ensures.shorter c.fields.ensures.shorter
+
+pub opening-returns-clause-shorter : goal.opening-returns-clause-shorter
+opening-returns-clause-shorter t c = less (less c.in_ok-opened.ensures.shorter c.in_ok-after.ensures.shorter) c.in_ok-inner.ensures.shorter
+
+pub first-returns-in-Some-clause-shorter : goal.first-returns-in-Some-clause-shorter
+first-returns-in-Some-clause-shorter t c = at_most_on _ c.name_or_call.result (rw c.in-Some.is at c.in_ok-named.ensures.shorter) c.name_or_call.ensures.shorter
+
+pub first-returns-in-Some-eat_number-clause-shorter : goal.first-returns-in-Some-eat_number-clause-shorter
+first-returns-in-Some-eat_number-clause-shorter t c = c.in-Some-eat_number.ensures.shorter
+
+pub first-returns-in-Some-eat_one_of-clause-shorter : goal.first-returns-in-Some-eat_one_of-clause-shorter
+first-returns-in-Some-eat_one_of-clause-shorter t c = c.in-Some-eat_one_of.ensures.shorter
+
+pub first-returns-in-Some-eat_word-clause-shorter : goal.first-returns-in-Some-eat_word-clause-shorter
+first-returns-in-Some-eat_word-clause-shorter t c = less c.in-Some-eat_word.ensures.shorter c.in_ok-inner.ensures.shorter
+
+pub first-returns-in-Some-eat_word-2-clause-shorter : goal.first-returns-in-Some-eat_word-2-clause-shorter
+first-returns-in-Some-eat_word-2-clause-shorter t c = less_on _ c.access.result c.in-Some-eat_word-2.ensures.shorter c.access.ensures.shorter
+
+pub first-returns-clause-shorter : goal.first-returns-clause-shorter
+first-returns-clause-shorter t c = c.in_ok-inner-2.ensures.shorter
+
+pub name_or_call-returns-clause-shorter : goal.name_or_call-returns-clause-shorter
+name_or_call-returns-clause-shorter t c = no_more (less c.in-Some.ensures.shorter c.in_ok-args.ensures.shorter)
+
+pub access-returns-clause-shorter : goal.access-returns-clause-shorter
+access-returns-clause-shorter t c = less (less c.in_ok-rest.ensures.shorter c.in_ok-place.ensures.shorter) c.in_ok-held.ensures.shorter
+
+pub group-returns-clause-shorter : goal.group-returns-clause-shorter
+group-returns-clause-shorter t c = less (less c.in_ok-rest.ensures.shorter c.in_ok-inner.ensures.shorter) c.in_ok-after.ensures.shorter
+
+pub amount-returns-in-Some-clause-shorter : goal.amount-returns-in-Some-clause-shorter
+amount-returns-in-Some-clause-shorter t c = less (less c.in-Some.ensures.shorter c.in_ok-part.ensures.shorter) c.in_ok-after.ensures.shorter
+
+pub instance-returns-in-Some-clause-shorter : goal.instance-returns-in-Some-clause-shorter
+instance-returns-in-Some-clause-shorter t c = less (less (less c.in-Some.ensures.shorter c.in_ok-rest.ensures.shorter) c.in_ok-named.ensures.shorter) c.in_ok-held.ensures.shorter
+
+pub instance-returns-clause-shorter : goal.instance-returns-clause-shorter
+instance-returns-clause-shorter t c = c.in_ok-named-2.ensures.shorter
+
+pub call-returns-clause-shorter : goal.call-returns-clause-shorter
+call-returns-clause-shorter t c = less (less c.in_ok-named.ensures.shorter c.in_ok-rest.ensures.shorter) c.in_ok-args.ensures.shorter
+
+pub arguments-returns-in-Some-clause-shorter : goal.arguments-returns-in-Some-clause-shorter
+arguments-returns-in-Some-clause-shorter t c = c.in-Some.ensures.shorter
+
+pub arguments-returns-clause-shorter : goal.arguments-returns-clause-shorter
+arguments-returns-clause-shorter t c = less c.loop-after.invariant.shorter c.in_ok-after.ensures.shorter
