@@ -14,7 +14,7 @@ use Rattle.enc_expr.specs.Kinds.{Kinds, base_for, type_at, body_kinds, state_typ
 use Rattle.enc_expr.specs.Place.{Maps, Place, number, with_now, with_vars}
 use Rattle.enc_expr.specs.Code.{Code, Emitting, join, gives, then_emit, declares, declares_all, Guard, puts, guards}
 use Rattle.enc_expr.specs.Pieces.{Operand, Atom, Located, is_atom, in_local, atomic, located, located_from, at_one, one, label, index, check_divisor}
-use Rattle.enc_expr.specs.Operators.{binary_code, lazily, lazy_operand, right_counts, division, quotient_operand, operand_of, choose_code, chosen_operand}
+use Rattle.enc_expr.specs.Operators.{binary_code, lazily, lazy_operand, right_counts, divisor, division, quotient_operand, operand_of, choose_code, chosen_operand}
 use Rattle.enc_expr.specs.Encoding.{read_code, read_checks, maps_from, copy_state, taking, is_unit, pair_code, fill_by, fill_place_code, fill_instance_code, acc_code, instance_code, code, codes, amount_code, body_code, unfolding_code, unfolding_at, inside_code}
 use Rattle.enc_expr.specs.Emits.{Emit, Emits}
 use Rattle.enc_expr.proofs.EmitLaws.{gives_emits, then_emits}
@@ -68,11 +68,15 @@ pub lazily_emits : (g : Guard) (o : Op) (x : Operand) (right : Guard → Emittin
 lazily_emits g o x right old mid new h y k l =
     then_emits (guards g (right_counts o x.expr)) (λ (h : ℕ). then_emit (right (Some h)) (λ (y : Operand). gives (lazy_operand o h y))) old mid new h (lazy_operand o h y) k (ending (right (Some h)) (lazy_operand o h) y l)
 
-pub division_emits : (p : Place) (g : Guard) (o : Op) (at : Pos) (x y : Operand) (old mid new : Emit) (d : Atom) → Emits (atomic y (from old)) old mid d →
-    Emits (puts g (join d.sets (check_divisor (label p at kind.Div) d.expr)) (from mid)) mid new tt → Emits (division p g o at x y (from old)) old new (quotient_operand o x d.expr)
-division_emits p g o at x y old mid new d h k =
-    then_emits (atomic y) (λ (d : Atom). then_emit (puts g (join d.sets (check_divisor (label p at kind.Div) d.expr))) (λ (u : ⊤). gives (quotient_operand o x d.expr))) old mid new d (quotient_operand o x d.expr) h
-    (ending (puts g (join d.sets (check_divisor (label p at kind.Div) d.expr))) (λ (u : ⊤). quotient_operand o x d.expr) tt k)
+pub divisor_emits : (p : Place) (g : Guard) (at : Pos) (y : Operand) (old mid new : Emit) (d : Atom) → Emits (atomic y (from old)) old mid d →
+    Emits (puts g (join d.sets (check_divisor (label p at kind.Div) d.expr)) (from mid)) mid new tt → Emits (divisor p g at y (from old)) old new d.expr
+divisor_emits p g at y old mid new d h k =
+    then_emits (atomic y) (λ (d : Atom). then_emit (puts g (join d.sets (check_divisor (label p at kind.Div) d.expr))) (λ (u : ⊤). gives d.expr)) old mid new d d.expr h
+    (ending (puts g (join d.sets (check_divisor (label p at kind.Div) d.expr))) (λ (u : ⊤). d.expr) tt k)
+
+pub division_emits : (p : Place) (g : Guard) (o : Op) (at : Pos) (x y : Operand) (old new : Emit) (d : t.BExpr) → Emits (divisor p g at y (from old)) old new d →
+    Emits (division p g o at x y (from old)) old new (quotient_operand o x d)
+division_emits p g o at x y old new d h = record { locals = h.locals; next = h.next; stmts = h.stmts; value = ap (quotient_operand o x) h.value }
 
 -- ---- choices
 

@@ -9,7 +9,7 @@ use Rattle.boogie_tree.specs.Whole.{locals_of, stmts_of}
 use Rattle.boogie_tree.specs.Values.{plain_type}
 use Rattle.boogie_tree.specs.declared.exprs.BBase.TheVariants as base
 use Rattle.enc_expr.specs.declared.emits.Emit as emit
-use Rattle.enc_expr.specs.Code.{Code, join, Guard, declares, puts}
+use Rattle.enc_expr.specs.Code.{Code, join, Guard, declares, puts, guards}
 use Rattle.enc_expr.specs.Encoding.{pair_code}
 use Rattle.enc_expr.specs.Pieces.{Operand, Located, located_from}
 
@@ -54,3 +54,9 @@ pub record Splits (g : Guard) (content left right : ℕ) (old new : Emit) : Type
   pub first : Emits (declares (plain_type base.Snap) (length old.locals)) old one left
   pub second : Emits (declares (plain_type base.Snap) (length one.locals)) one two right
   pub taken : Emits (puts g (pair_code content left right) (length two.locals)) two new tt
+
+-- A choice got a guard for each of its sides.
+pub record Sides (g : Guard) (condition : t.BExpr) (old new : Emit) (so otherwise : ℕ) : Type 0 where
+  pub mid : Emit
+  pub first : Emits (guards g condition (length old.locals)) old mid so
+  pub second : Emits (guards g (t.Not (t.Var so)) (length mid.locals)) mid new otherwise

@@ -65,6 +65,10 @@ abbrev pub quotient_operand : Op → Operand → t.BExpr → Operand
 quotient_operand o.Divide x d = record { expr = t.Bin op.Divide (as_real x).expr (real d); base = base.Real }
 quotient_operand o x d = record { expr = t.Bin (op_of o) x.expr d; base = base.Int }
 
+-- the divisor, which may be written twice and is not 0
+abbrev pub divisor : Place → Guard → Pos → Operand → Emitting t.BExpr
+divisor p g at y = then_emit (atomic y) (λ d. then_emit (puts g (join d.sets (check_divisor (label p at kind.Div) d.expr))) (λ u. gives d.expr))
+
 -- the divisor is written twice: it is not 0, and it divides
 abbrev pub division : Place → Guard → Op → Pos → Operand → Operand → Emitting Operand
 division p g o at x y = then_emit (atomic y) (λ d. then_emit (puts g (join d.sets (check_divisor (label p at kind.Div) d.expr))) (λ u. gives (quotient_operand o x d.expr)))

@@ -1,7 +1,6 @@
 // Statements behind others.
 ghost use Rattle.std.specs.Prelude.{◌≡◌, [], ◌∷◌, ◌++◌, OnOk};
 
-use std::alloc::Global;
 use vb_base::Memory;
 
 /// One more at the end.

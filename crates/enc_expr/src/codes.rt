@@ -15,8 +15,7 @@ use crate::fillings::{Source, fill_access, fill_fact, fill_nothing, fill_part, s
 use crate::openings::{Part, fresh_state, take_copy};
 use crate::operands::{Atom, Held, Located, Operand, atomic, in_locals, int_operand, part_operand};
 use crate::operators::{
-    Class, chosen, class_of, denied, division, lazy_value, negative, other_side, right_counts,
-    value_of,
+    Class, chosen, class_of, denied, division, lazy_value, negative, right_counts, sides, value_of,
 };
 use crate::places::Maps;
 use crate::readings::{Reading, base_for, number};
@@ -59,8 +58,7 @@ pub fn check(alloc: Global, e: &Expr, reading: Reading, out: &mut Emit) -> Resul
         }
         Expr::Choose(a, b, c) => {
             let condition = check(alloc, a, reading, out)?;
-            let so = out.guard(alloc, reading.guard, Box::into_inner(condition.expr))?;
-            let otherwise = other_side(alloc, reading.guard, so, out)?;
+            let (so, otherwise) = sides(alloc, reading.guard, condition, out)?;
             let left = check(alloc, b, reading.under(so), out)?;
             let right = check(alloc, c, reading.under(otherwise), out)?;
             chosen(alloc, so, left, right)
@@ -277,15 +275,13 @@ pub fn fill(
         }
         Assertion::Implies(e, a) => {
             let condition = check(alloc, e, reading, out)?;
-            let so = out.guard(alloc, reading.guard, Box::into_inner(condition.expr))?;
-            let otherwise = other_side(alloc, reading.guard, so, out)?;
+            let (so, otherwise) = sides(alloc, reading.guard, condition, out)?;
             fill(alloc, a, source, reading.under(so), out)?;
             fill_nothing(alloc, source, reading.under(otherwise), out)
         }
         Assertion::Choose(e, a, b) => {
             let condition = check(alloc, e, reading, out)?;
-            let so = out.guard(alloc, reading.guard, Box::into_inner(condition.expr))?;
-            let otherwise = other_side(alloc, reading.guard, so, out)?;
+            let (so, otherwise) = sides(alloc, reading.guard, condition, out)?;
             fill(alloc, a, source, reading.under(so), out)?;
             fill(alloc, b, source, reading.under(otherwise), out)
         }

@@ -85,21 +85,38 @@ fn put_value(alloc: Global, map: usize, index: Index, value: usize) -> Result<BS
     Ok(BStmt::Put(map, index.exprs(alloc)?, BExpr::Var(value)))
 }
 
-/// A mask or amount gets so much more at an index. That it is not negative before is no news, and helps a solver.
-pub(crate) fn add_to(
+/// A map gets more at an index by an amount that is scaled.
+fn put_more(
     alloc: Global,
     map: usize,
     index: Index,
-    amount: BExpr,
+    scale: Atom,
+    amount: Atom,
+) -> Result<BStmt, Memory>
+    ensures { IfOk result (λ x. stmt_of x ≡ s.Put map (index_in index.entry)
+        (t.Bin op.Add (t.At map (index_in index.entry)) (piece.scaled (atom_of scale) (atom_of amount)))) }
+{
+    let key = index.exprs(alloc)?;
+    let held = at(alloc, map, index)?;
+    let more = scaled(alloc, scale, amount)?;
+    let sum = binary(alloc, BOp::Add, held, more)?;
+    Ok(BStmt::Put(map, key, sum))
+}
+
+/// A mask or amount gets so much more at an index. That it is not negative before is no news, and helps a solver.
+fn add_to(
+    alloc: Global,
+    map: usize,
+    index: Index,
+    scale: Atom,
+    amount: Atom,
     block: &mut Vec<BStmt>,
 ) -> Result<(), Memory>
     ensures { OnOk result (stmts_of block.new.items ≡ join (stmts_of block.old.items)
-        (piece.add_to map (index_in index.entry) (expr_of amount))) }
+        (piece.add_to map (index_in index.entry) (piece.scaled (atom_of scale) (atom_of amount)))) }
 {
     add(block, assume_amount(alloc, map, index, BOp::Ge, 0)?)?;
-    let held = at(alloc, map, index)?;
-    let sum = binary(alloc, BOp::Add, held, amount)?;
-    add(block, BStmt::Put(map, index.exprs(alloc)?, sum))
+    add(block, put_more(alloc, map, index, scale, amount)?)
 }
 
 // ---- by a positive amount
@@ -165,8 +182,8 @@ fn fill_place(
     let mask = number(&reading.now.mask, filled.field);
     let index = Index::Reference(filled.receiver);
     set_value(alloc, mask, heap, index, filled.value, &mut fill)?;
-    let more = scaled(alloc, source.scale, filled.amount)?;
-    add_to(alloc, mask, index, more, &mut fill)?;
+    let scale = source.scale;
+    add_to(alloc, mask, index, scale, filled.amount, &mut fill)?;
     add(&mut fill, assume_amount(alloc, mask, index, BOp::Le, 1)?)?;
     Ok(fill)
 }
@@ -187,8 +204,7 @@ fn fill_instance(
     let amounts = number(&reading.now.amount, predicate);
     let contents = number(&reading.now.content, predicate);
     set_value(alloc, amounts, contents, index, source.content, &mut fill)?;
-    let more = scaled(alloc, source.scale, amount)?;
-    add_to(alloc, amounts, index, more, &mut fill)?;
+    add_to(alloc, amounts, index, source.scale, amount, &mut fill)?;
     Ok(fill)
 }
 

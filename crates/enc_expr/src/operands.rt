@@ -166,11 +166,9 @@ impl Located {
             return add(&mut self.locals, local);
         }
         let local = out.fresh_scalar(alloc, x.base)?;
-        add(&mut self.locals, local)?;
-        add(
-            &mut self.sets,
-            BStmt::Assign(local, Box::into_inner(x.expr)),
-        )
+        let set = BStmt::Assign(local, Box::into_inner(x.expr));
+        add(&mut self.sets, set)?;
+        add(&mut self.locals, local)
     }
 }
 

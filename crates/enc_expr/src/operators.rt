@@ -5,7 +5,7 @@ ghost use Rattle.boogie_tree.specs.Expr as t;
 ghost use Rattle.boogie_tree.specs.Whole.{expr_of, stmts_of};
 ghost use Rattle.boogie_tree.specs.declared.exprs.BBase.TheVariants as base;
 ghost use Rattle.enc_expr.specs.Code.{join, guards};
-ghost use Rattle.enc_expr.specs.Emits.{emit_of, Emits};
+ghost use Rattle.enc_expr.specs.Emits.{emit_of, Emits, Sides};
 ghost use Rattle.enc_expr.specs.Operators as code;
 ghost use Rattle.enc_expr.specs.Pieces as piece;
 ghost use Rattle.enc_expr.specs.View.{class_in, seen, atom_of, place_in};
@@ -162,6 +162,25 @@ fn check_divisor(
     add(block, BStmt::Assert(label, divides))
 }
 
+/// The divisor as one that may be written twice, once it is known not to be 0.
+fn tested_divisor(
+    alloc: Global,
+    at: Pos,
+    right: Operand,
+    reading: Reading,
+    out: &mut Emit,
+) -> Result<Atom, Memory>
+    ensures { IfOk result (λ d. Emits (code.divisor (place_in reading.entry) reading.entry.guard at (seen right)
+        (length (emit_of out.old).locals)) (emit_of out.old) (emit_of out.new) (atom_of d)) }
+{
+    let divisor = atomic(alloc, right, out)?;
+    let atom = divisor.atom;
+    let mut block = divisor.sets;
+    check_divisor(alloc, reading.label(at, Kind::Div), atom, &mut block)?;
+    out.put(alloc, reading.guard, block)?;
+    Ok(atom)
+}
+
 /// The value of a division. The divisor is written twice: it is not 0, and it divides.
 pub(crate) fn division(
     alloc: Global,
@@ -175,12 +194,8 @@ pub(crate) fn division(
     ensures { IfOk result (λ x. Emits (code.division (place_in reading.entry) reading.entry.guard op at (seen left) (seen right)
         (length (emit_of out.old).locals)) (emit_of out.old) (emit_of out.new) (seen x)) }
 {
-    let divisor = atomic(alloc, right, out)?;
-    let atom = divisor.atom;
-    let mut block = divisor.sets;
-    check_divisor(alloc, reading.label(at, Kind::Div), atom, &mut block)?;
-    out.put(alloc, reading.guard, block)?;
-    quotient(alloc, op, left, atom)
+    let divisor = tested_divisor(alloc, at, right, reading, out)?;
+    quotient(alloc, op, left, divisor)
 }
 
 // ---- lazy operators
@@ -227,7 +242,7 @@ pub(crate) fn denied(alloc: Global, x: Operand) -> Result<Operand, Memory>
 }
 
 /// The guard of the other side of a choice. It names the guard of the whole too, which it could not do without.
-pub(crate) fn other_side(
+fn other_side(
     alloc: Global,
     guard: Option<usize>,
     one: usize,
@@ -238,6 +253,20 @@ pub(crate) fn other_side(
 {
     let condition = negation(alloc, BExpr::Var(one))?;
     out.guard(alloc, guard, condition)
+}
+
+/// The guards of both sides of a choice.
+pub(crate) fn sides(
+    alloc: Global,
+    guard: Option<usize>,
+    condition: Operand,
+    out: &mut Emit,
+) -> Result<(usize, usize), Memory>
+    ensures { IfOk result (λ r. Sides guard (seen condition).expr (emit_of out.old) (emit_of out.new) r.0 r.1) }
+{
+    let so = out.guard(alloc, guard, Box::into_inner(condition.expr))?;
+    let otherwise = other_side(alloc, guard, so, out)?;
+    Ok((so, otherwise))
 }
 
 pub(crate) fn chosen(

@@ -69,10 +69,10 @@ check-returns-in_ok-right-in-Plain _ c =
 pub check-returns-in_ok-right-in-Choose : goal.check-returns-in_ok-right-in-Choose
 check-returns-in_ok-right-in-Choose _ c =
     IfOk-weaker c.chosen.result _ _ (λ x same. coded_as (kinds_of c.args.reading.kinds) (place_in c.args.reading) c.args.reading.guard _ (choose_is c.in-Choose.is c.deref-in-Choose.ensures c.deref-in-Choose-2.ensures c.deref-in-Choose-3.ensures) (valued same
-    (choice_emits (kinds_of c.args.reading.kinds) (place_in c.args.reading) c.args.reading.guard (viper c.deref-in-Choose.result.now) (viper c.deref-in-Choose-2.result.now) (viper c.deref-in-Choose-3.result.now) (emit_of c.args.out.now) (emit_of c.check-in-Choose.new.out) (emit_of c.guard.new.self) (emit_of c.other_side.new.out) (emit_of c.check-in-Choose-2.new.out) _ (seen c.in_ok-condition-in-Choose.condition)
-    c.in_ok-so-in-Choose.so c.in_ok-otherwise-in-Choose.otherwise (seen c.in_ok-left-in-Choose.left) (seen c.in_ok-right-in-Choose.right) c.in_ok-condition-in-Choose.ensures
-    (guarded_as c.args.reading.guard (ap expr_of c.into_inner.ensures) c.in_ok-so-in-Choose.ensures) c.in_ok-otherwise-in-Choose.ensures
-    (read_as _ _ _ _ _ _ (viper c.deref-in-Choose-2.result.now) (length (emit_of c.other_side.new.out).locals) c.under.ensures.kinds c.under.ensures.place c.under.ensures.guard c.in_ok-left-in-Choose.ensures)
+    (choice_emits (kinds_of c.args.reading.kinds) (place_in c.args.reading) c.args.reading.guard (viper c.deref-in-Choose.result.now) (viper c.deref-in-Choose-2.result.now) (viper c.deref-in-Choose-3.result.now) (emit_of c.args.out.now) (emit_of c.check-in-Choose.new.out) c.in_ok-so-in-Choose.ensures.mid (emit_of c.sides.new.out) (emit_of c.check-in-Choose-2.new.out) _ (seen c.in_ok-condition-in-Choose.condition)
+    c.in_ok-so-in-Choose.so c.in_ok-so-in-Choose.otherwise (seen c.in_ok-left-in-Choose.left) (seen c.in_ok-right-in-Choose.right) c.in_ok-condition-in-Choose.ensures
+    c.in_ok-so-in-Choose.ensures.first c.in_ok-so-in-Choose.ensures.second
+    (read_as _ _ _ _ _ _ (viper c.deref-in-Choose-2.result.now) (length (emit_of c.sides.new.out).locals) c.under.ensures.kinds c.under.ensures.place c.under.ensures.guard c.in_ok-left-in-Choose.ensures)
     (read_as _ _ _ _ _ _ (viper c.deref-in-Choose-3.result.now) (length (emit_of c.check-in-Choose-2.new.out).locals) c.under-in-Choose.ensures.kinds c.under-in-Choose.ensures.place c.under-in-Choose.ensures.guard c.in_ok-right-in-Choose.ensures)))) c.chosen.ensures
 
 pub check-returns-in_ok-receiver-in-Field : goal.check-returns-in_ok-receiver-in-Field
@@ -121,16 +121,16 @@ fill-returns-in_ok-fill-in-And _ c =
 pub fill-returns-in_ok-fill-in-Implies : goal.fill-returns-in_ok-fill-in-Implies
 fill-returns-in_ok-fill-in-Implies _ c =
     on_ok_weaker c.fill_nothing.result (λ h. filled_as (kinds_of c.args.reading.kinds) (place_in c.args.reading) c.args.reading.guard _ _ _ (implies_is c.in-Implies.is c.deref-in-Implies.ensures) (implied_emits (kinds_of c.args.reading.kinds) (place_in c.args.reading) c.args.reading.guard (atom_of c.args.source.scale) c.args.source.content (viper c.in-Implies.e) (assertion_of c.deref-in-Implies.result.now)
-    (emit_of c.args.out.now) (emit_of c.check-in-Implies.new.out) (emit_of c.guard.new.self) (emit_of c.other_side.new.out) (emit_of c.fill-in-Implies.new.out) (emit_of c.fill_nothing.new.out) (seen c.in_ok-condition-in-Implies.condition)
-    c.in_ok-so-in-Implies.so c.in_ok-otherwise-in-Implies.otherwise c.in_ok-condition-in-Implies.ensures (guarded_as c.args.reading.guard (ap expr_of c.into_inner.ensures) c.in_ok-so-in-Implies.ensures) c.in_ok-otherwise-in-Implies.ensures
-    (fill_as _ _ _ _ _ _ (atom_of c.args.source.scale) (assertion_of c.deref-in-Implies.result.now) c.args.source.content (length (emit_of c.other_side.new.out).locals) c.under.ensures.kinds c.under.ensures.place c.under.ensures.guard c.in_ok-fill-in-Implies.ensures) (put_under (one (s.Assume (is_unit c.args.source.content))) (length (emit_of c.fill-in-Implies.new.out).locals) c.under-in-Implies.ensures.guard h))) c.fill_nothing.ensures
+    (emit_of c.args.out.now) (emit_of c.check-in-Implies.new.out) c.in_ok-so-in-Implies.ensures.mid (emit_of c.sides.new.out) (emit_of c.fill-in-Implies.new.out) (emit_of c.fill_nothing.new.out) (seen c.in_ok-condition-in-Implies.condition)
+    c.in_ok-so-in-Implies.so c.in_ok-so-in-Implies.otherwise c.in_ok-condition-in-Implies.ensures c.in_ok-so-in-Implies.ensures.first c.in_ok-so-in-Implies.ensures.second
+    (fill_as _ _ _ _ _ _ (atom_of c.args.source.scale) (assertion_of c.deref-in-Implies.result.now) c.args.source.content (length (emit_of c.sides.new.out).locals) c.under.ensures.kinds c.under.ensures.place c.under.ensures.guard c.in_ok-fill-in-Implies.ensures) (put_under (one (s.Assume (is_unit c.args.source.content))) (length (emit_of c.fill-in-Implies.new.out).locals) c.under-in-Implies.ensures.guard h))) c.fill_nothing.ensures
 
 pub fill-returns-in_ok-fill-in-Choose : goal.fill-returns-in_ok-fill-in-Choose
 fill-returns-in_ok-fill-in-Choose _ c =
     on_ok_weaker c.fill-in-Choose-2.result (λ h. filled_as (kinds_of c.args.reading.kinds) (place_in c.args.reading) c.args.reading.guard _ _ _ (choice_is c.in-Choose.is c.deref-in-Choose.ensures c.deref-in-Choose-2.ensures) (chosen_emits (kinds_of c.args.reading.kinds) (place_in c.args.reading) c.args.reading.guard (atom_of c.args.source.scale) c.args.source.content (viper c.in-Choose.e) (assertion_of c.deref-in-Choose.result.now) (assertion_of c.deref-in-Choose-2.result.now)
-    (emit_of c.args.out.now) (emit_of c.check-in-Choose.new.out) (emit_of c.guard-in-Choose.new.self) (emit_of c.other_side-in-Choose.new.out) (emit_of c.fill-in-Choose.new.out) (emit_of c.fill-in-Choose-2.new.out) (seen c.in_ok-condition-in-Choose.condition)
-    c.in_ok-so-in-Choose.so c.in_ok-otherwise-in-Choose.otherwise c.in_ok-condition-in-Choose.ensures (guarded_as c.args.reading.guard (ap expr_of c.into_inner-in-Choose.ensures) c.in_ok-so-in-Choose.ensures) c.in_ok-otherwise-in-Choose.ensures
-    (fill_as _ _ _ _ _ _ (atom_of c.args.source.scale) (assertion_of c.deref-in-Choose.result.now) c.args.source.content (length (emit_of c.other_side-in-Choose.new.out).locals) c.under-in-Choose.ensures.kinds c.under-in-Choose.ensures.place c.under-in-Choose.ensures.guard c.in_ok-fill-in-Choose.ensures)
+    (emit_of c.args.out.now) (emit_of c.check-in-Choose.new.out) c.in_ok-so-in-Choose.ensures.mid (emit_of c.sides-in-Choose.new.out) (emit_of c.fill-in-Choose.new.out) (emit_of c.fill-in-Choose-2.new.out) (seen c.in_ok-condition-in-Choose.condition)
+    c.in_ok-so-in-Choose.so c.in_ok-so-in-Choose.otherwise c.in_ok-condition-in-Choose.ensures c.in_ok-so-in-Choose.ensures.first c.in_ok-so-in-Choose.ensures.second
+    (fill_as _ _ _ _ _ _ (atom_of c.args.source.scale) (assertion_of c.deref-in-Choose.result.now) c.args.source.content (length (emit_of c.sides-in-Choose.new.out).locals) c.under-in-Choose.ensures.kinds c.under-in-Choose.ensures.place c.under-in-Choose.ensures.guard c.in_ok-fill-in-Choose.ensures)
     (fill_as _ _ _ _ _ _ (atom_of c.args.source.scale) (assertion_of c.deref-in-Choose-2.result.now) c.args.source.content (length (emit_of c.fill-in-Choose.new.out).locals) c.under-in-Choose-2.ensures.kinds c.under-in-Choose-2.ensures.place c.under-in-Choose-2.ensures.guard h))) c.fill-in-Choose-2.ensures
 
 pub read_inside-returns : goal.read_inside-returns

@@ -6,7 +6,7 @@ use Rattle.boogie_tree.specs.Whole.{stmts_of}
 use Rattle.boogie_tree.specs.declared.exprs.BOp.TheVariants as op
 use Rattle.enc_expr.specs.Code.{join}
 use Rattle.enc_expr.specs.Encoding.{take_value, set_value}
-use Rattle.enc_expr.specs.Pieces.{add_to, one_real}
+use Rattle.enc_expr.specs.Pieces.{add_to, one_real, scaled}
 use Rattle.enc_expr.specs.Place.{number}
 use Rattle.enc_expr.specs.View.{atom_of}
 use Rattle.enc_expr.proofs.BlockLaws.{added}
@@ -21,5 +21,5 @@ returns c =
     four_added _ _ _ _ (stmts_of c.new-fill.result.items) (stmts_of c.take_value.new.block.items) (stmts_of c.set_value.new.block.items) (stmts_of c.add_to.new.block.items) (ap stmts_of c.new-fill.ensures.items)
     (c.in_ok-take_value.ensures ∙ ap (λ u. join (stmts_of c.new-fill.result.items) (take_value u (atom_of c.args.filled.receiver) c.args.filled.value c.args.source.content)) c.field-ty.ensures)
     (c.in_ok-set_value.ensures ∙ (λ i. join (stmts_of c.take_value.new.block.items) (set_value (mask i) (heap i) key c.args.filled.value)))
-    (c.in_ok-add_to.ensures ∙ (λ i. join (stmts_of c.set_value.new.block.items) (add_to (mask i) key (c.in_ok-more.ensures i))))
+    (c.in_ok-add_to.ensures ∙ ap (λ m. join (stmts_of c.set_value.new.block.items) (add_to m key (scaled (atom_of c.args.source.scale) (atom_of c.args.filled.amount)))) mask)
     (added c.add_to.new.block.items _ c.in_ok-add.ensures (c.in_ok-assume_amount.ensures ∙ ap (λ m. s.Assume (t.Bin op.Le (t.At m key) one_real)) mask))

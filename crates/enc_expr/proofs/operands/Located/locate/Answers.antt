@@ -18,5 +18,5 @@ returns-in-Some c =
 pub returns : goal.returns
 returns c =
     on_ok_weaker c.add-3.result (λ h. other_located (seen c.args.x) (expr_of c.args.x.expr.value) c.in_ok-local.local (emit_of c.args.out.now) (emit_of c.fresh_scalar.new.self) (located_of c.args.self.now) _
-    (ap (λ a. variable_in (expr_of a)) (sym c.deref.ensures) ∙ sym c.variable_in.ensures ∙ c.in_default.is) c.in_ok-local.ensures c.in_ok-add.ensures
-    (added c.args.self.now.sets.items _ h (ap (λ a. s.Assign c.in_ok-local.local (expr_of a)) c.into_inner.ensures))) c.add-3.ensures
+    (ap (λ a. variable_in (expr_of a)) (sym c.deref.ensures) ∙ sym c.variable_in.ensures ∙ c.in_default.is) c.in_ok-local.ensures h
+    (added c.args.self.now.sets.items _ c.in_ok-add.ensures (ap (λ a. s.Assign c.in_ok-local.local (expr_of a)) c.into_inner.ensures))) c.add-3.ensures
