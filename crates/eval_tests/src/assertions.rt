@@ -3,21 +3,23 @@
 // number of choices that are left, and the events. A place in line 2 is a column of the assertion.
 ghost use Rattle.std.specs.Prelude.{◌≡◌, All, IfOk, true};
 ghost use Rattle.vb_value.specs.Fraction.{is_positive};
+ghost use Rattle.viper_core.specs.Formed.{IsFormed};
 ghost use Rattle.viper_core.specs.Literals.{IsWithinAssertion};
-ghost use Rattle.viper_core.specs.View.{assertion_of};
-ghost use Rattle.viper_state.specs.View.{choice_of, feed_of, state_of};
-ghost use Rattle.viper_state.specs.Within.{IsWithinChoice, IsWithinFeed, IsWithinState};
+ghost use Rattle.viper_core.specs.View.{assertion_of, program_of};
+ghost use Rattle.viper_state.specs.View.{choice_of, feed_of, scene_of, state_of};
+ghost use Rattle.viper_state.specs.Within.{IsWithinChoice, IsWithinFeed, IsWithinScene, IsWithinState};
 
 use crate::files::{inhaled, program};
+use crate::rows::{Rows, check};
 use crate::states::{is_changed, scene, state_of};
-use crate::told::{stepped, with_choices};
+use crate::told::{other_than, stepped, with_choices};
 use crate::words::{fraction, parts};
 use std::alloc::Global;
 use std::test::Fail;
 use vb_value::Frac;
-use viper_core::Assertion;
+use viper_core::{Assertion, Program};
 use viper_inhale::{Step, consume, forget, produce};
-use viper_state::{Choice, Event, Feed, Memo, State};
+use viper_state::{Choice, Event, Feed, Memo, Scene, State};
 
 /// What stands before the assertion.
 const START: &str =
@@ -267,6 +269,33 @@ fn ending(
     assertion: &Assertion,
     row: &Row,
     state: &mut State,
+    scene: &Scene,
+    scale: Frac,
+    feed: &mut Feed,
+) -> Result<Step, Fail>
+    requires assertion_within { IsWithinAssertion (assertion_of assertion.now) }
+    requires state_within { IsWithinState (state_of state.old) }
+    requires scene_within { IsWithinScene (scene_of scene.now) }
+    requires scale_positive { is_positive scale ≡ true }
+    requires feed_within { IsWithinFeed (feed_of feed.old) }
+{
+    match row.call.as_bytes() {
+        b"consume" => {
+            let start = state_of(alloc, row.before)?;
+            Ok(consume(alloc, assertion, &start, state, scene, scale, feed)?)
+        }
+        b"produce" => Ok(produce(alloc, assertion, state, scene, scale, feed)?),
+        b"forget" => Ok(forget(alloc, state, feed)?),
+        _ => Err("no call")?,
+    }
+}
+
+/// How the call of a row ends with its values and its scale.
+fn ending_in(
+    alloc: Global,
+    assertion: &Assertion,
+    row: &Row,
+    state: &mut State,
     feed: &mut Feed,
 ) -> Result<Step, Fail>
     requires assertion_within { IsWithinAssertion (assertion_of assertion.now) }
@@ -275,54 +304,51 @@ fn ending(
 {
     let scale = scale(row.scale)?;
     let scene = scene(alloc, row.variables, "")?;
-    match row.call.as_bytes() {
-        b"consume" => {
-            let start = state_of(alloc, row.before)?;
-            Ok(consume(alloc, assertion, &start, state, &scene, scale, feed)?)
-        }
-        b"produce" => Ok(produce(alloc, assertion, state, &scene, scale, feed)?),
-        b"forget" => Ok(forget(alloc, state, feed)?),
-        _ => Err("no call")?,
-    }
+    ending(alloc, assertion, row, state, &scene, scale, feed)
 }
 
 /// How the call of a row ends, what is left and what is recorded. Where the run goes on, the state is as it should be.
+fn told_in(
+    alloc: Global,
+    assertion: &Assertion,
+    row: &Row,
+    state: &mut State,
+    feed: &mut Feed,
+) -> Result<String, Fail>
+    requires assertion_within { IsWithinAssertion (assertion_of assertion.now) }
+    requires state_within { IsWithinState (state_of state.old) }
+    requires feed_within { IsWithinFeed (feed_of feed.old) }
+{
+    let end = ending_in(alloc, assertion, row, state, feed)?;
+    if end == Step::Goes && !is_changed(alloc, state, row.before, row.other)? {
+        return Ok("another state".to_string(alloc)?);
+    }
+    with_choices(alloc, stepped(alloc, end)?, feed)
+}
+
+/// The same in the state of the row, with its choices.
 fn told(alloc: Global, assertion: &Assertion, row: &Row) -> Result<String, Fail>
     requires { IsWithinAssertion (assertion_of assertion.now) }
 {
-    let mut state = state_of(alloc, row.before)?;
     let mut feed = feed(alloc, row.choices)?;
-    let end = ending(alloc, assertion, row, &mut state, &mut feed)?;
-    if end == Step::Goes && !is_changed(alloc, &state, row.before, row.other)? {
-        return Ok("another state".to_string(alloc)?);
-    }
-    with_choices(alloc, stepped(alloc, end)?, &feed)
+    let mut state = state_of(alloc, row.before)?;
+    told_in(alloc, assertion, row, &mut state, &mut feed)
+}
+
+/// The same of the assertion of a program.
+fn told_of(alloc: Global, program: &Program, row: &Row) -> Result<String, Fail>
+    requires { IsFormed (program_of program.now) }
+{
+    let assertion = inhaled(program).ok_or("no assertion")?;
+    told(alloc, assertion, row)
 }
 
 /// What came of a row, where the row says otherwise.
-fn wrong_row(alloc: Global, row: &str) -> Result<Option<String>, Fail> {
+pub fn wrong_row(alloc: Global, start: &str, row: &str) -> Result<Option<String>, Fail> {
     let row = columns(row)?;
-    let program = program(alloc, START, row.assertion)?;
-    let assertion = inhaled(&program).ok_or("no assertion")?;
-    let got = told(alloc, assertion, &row)?;
-    Ok(if got.as_str() == row.want {
-        None
-    } else {
-        Some(got)
-    })
-}
-
-/// The wrong rows of the tables, each with what came.
-fn wrong(alloc: Global, tables: &[&str]) -> Result<String, Fail> {
-    let mut text = "".to_string(alloc)?;
-    for table in tables {
-        for row in table.lines() {
-            if let Some(got) = wrong_row(alloc, row)? {
-                text.push_str(format!(in alloc; "{row}: {got}\n")?.as_str())?;
-            }
-        }
-    }
-    Ok(text)
+    let program = program(alloc, start, row.assertion)?;
+    let came = told_of(alloc, &program, &row)?;
+    Ok(other_than(row.want, came))
 }
 
 /// Each end, each event, each state and the choices that are left are what their row says.
@@ -331,6 +357,8 @@ fn assertions_end_as_the_tables_say(rt: HostRuntime) -> Result<(), Fail> {
     let tables = [
         READS, SUMS, SIGNS, ORDER, TAKEN, GIVEN, SCALES, INSTANCES, SIDES, OVER, FORGOTTEN,
     ];
-    assert_eq!(rt; wrong(rt.alloc(), &tables)?.as_str(), "");
+    for table in tables {
+        check(&rt, rt.alloc(), Rows::Assertion, START, table)?;
+    }
     Ok(())
 }

@@ -1,19 +1,24 @@
 // How the bodies of predicates are opened: each row is a body over `x` and `z`, the content, the scale, the values of `x` and
 // `z`, the state, what is other in the state afterwards, the end and the events. A place in line 2 is a column of the body.
+ghost use Rattle.vb_value.specs.Content.{IsWithinContent};
+ghost use Rattle.vb_value.specs.View.{content_of};
+ghost use Rattle.viper_core.specs.Formed.{IsFormed};
 ghost use Rattle.viper_core.specs.Literals.{IsWithinAssertion};
-ghost use Rattle.viper_core.specs.View.{assertion_of};
-ghost use Rattle.viper_state.specs.View.{state_of};
-ghost use Rattle.viper_state.specs.Within.{IsWithinState};
+ghost use Rattle.viper_core.specs.View.{assertion_of, program_of};
+ghost use Rattle.viper_state.specs.View.{scene_of, state_of};
+ghost use Rattle.viper_state.specs.Within.{IsWithinScene, IsWithinState};
 
 use crate::files::{last_body, program};
+use crate::rows::{Rows, check};
 use crate::states::{is_changed, scene, state_of};
-use crate::told::{feed, opened, with_events};
+use crate::told::{feed, opened, other_than, with_events};
 use crate::words::{content, fraction, parts};
 use std::alloc::Global;
 use std::test::Fail;
-use viper_core::Assertion;
+use vb_value::{Content, Frac};
+use viper_core::{Assertion, Program};
 use viper_eval::{Opening1, open_body};
-use viper_state::{Feed, State};
+use viper_state::{Feed, Scene, State};
 
 /// What stands before the body.
 const START: &str =
@@ -158,6 +163,24 @@ fn columns(row: &str) -> Result<Row<'_>, Fail> {
 fn ending(
     alloc: Global,
     body: &Assertion,
+    content: &Content,
+    state: &mut State,
+    scene: &Scene,
+    scale: Frac,
+    feed: &mut Feed,
+) -> Result<Opening1, Fail>
+    requires body_within { IsWithinAssertion (assertion_of body.now) }
+    requires content_within { IsWithinContent (content_of content.now) }
+    requires state_within { IsWithinState (state_of state.old) }
+    requires scene_within { IsWithinScene (scene_of scene.now) }
+{
+    Ok(open_body(alloc, body, content, state, scene, scale, feed)?)
+}
+
+/// How a body is opened with the values, the content and the scale of the row.
+fn ending_in(
+    alloc: Global,
+    body: &Assertion,
     row: &Row,
     state: &mut State,
     feed: &mut Feed,
@@ -166,48 +189,52 @@ fn ending(
     requires state_within { IsWithinState (state_of state.old) }
 {
     let scale = fraction(row.scale)?;
-    let content = content(alloc, row.content)?;
     let scene = scene(alloc, row.variables, "")?;
-    Ok(open_body(alloc, body, &content, state, &scene, scale, feed)?)
+    let content = content(alloc, row.content)?;
+    ending(alloc, body, &content, state, &scene, scale, feed)
 }
 
 /// How a body is opened, and what is recorded. Where the opening goes on, the state is as it should be.
+fn told_in(
+    alloc: Global,
+    body: &Assertion,
+    row: &Row,
+    state: &mut State,
+    feed: &mut Feed,
+) -> Result<String, Fail>
+    requires body_within { IsWithinAssertion (assertion_of body.now) }
+    requires state_within { IsWithinState (state_of state.old) }
+{
+    let end = ending_in(alloc, body, row, state, feed)?;
+    if end == Opening1::Goes && !is_changed(alloc, state, row.before, row.other)? {
+        return Ok("another state".to_string(alloc)?);
+    }
+    with_events(alloc, opened(alloc, end)?, feed)
+}
+
+/// The same in the state of the row.
 fn told(alloc: Global, body: &Assertion, row: &Row) -> Result<String, Fail>
     requires { IsWithinAssertion (assertion_of body.now) }
 {
-    let mut state = state_of(alloc, row.before)?;
     let mut feed = feed(alloc)?;
-    let end = ending(alloc, body, row, &mut state, &mut feed)?;
-    if end == Opening1::Goes && !is_changed(alloc, &state, row.before, row.other)? {
-        return Ok("another state".to_string(alloc)?);
-    }
-    with_events(alloc, opened(alloc, end)?, &feed)
+    let mut state = state_of(alloc, row.before)?;
+    told_in(alloc, body, row, &mut state, &mut feed)
+}
+
+/// The same of the body of a program.
+fn told_of(alloc: Global, program: &Program, row: &Row) -> Result<String, Fail>
+    requires { IsFormed (program_of program.now) }
+{
+    let body = last_body(program).ok_or("no body")?;
+    told(alloc, body, row)
 }
 
 /// What came of a row, where the row says otherwise.
-fn wrong_row(alloc: Global, row: &str) -> Result<Option<String>, Fail> {
+pub fn wrong_row(alloc: Global, start: &str, row: &str) -> Result<Option<String>, Fail> {
     let row = columns(row)?;
-    let program = program(alloc, START, row.body)?;
-    let body = last_body(&program).ok_or("no body")?;
-    let got = told(alloc, body, &row)?;
-    Ok(if got.as_str() == row.want {
-        None
-    } else {
-        Some(got)
-    })
-}
-
-/// The wrong rows of the tables, each with what came.
-fn wrong(alloc: Global, tables: &[&str]) -> Result<String, Fail> {
-    let mut text = "".to_string(alloc)?;
-    for table in tables {
-        for row in table.lines() {
-            if let Some(got) = wrong_row(alloc, row)? {
-                text.push_str(format!(in alloc; "{row}: {got}\n")?.as_str())?;
-            }
-        }
-    }
-    Ok(text)
+    let program = program(alloc, start, row.body)?;
+    let came = told_of(alloc, &program, &row)?;
+    Ok(other_than(row.want, came))
 }
 
 /// Each end, each event and each state is what its row says.
@@ -216,6 +243,8 @@ fn bodies_are_opened_as_the_tables_say(rt: HostRuntime) -> Result<(), Fail> {
     let tables = [
         PLACES, SIGNS, EARLY, PAIRS, HELD, SCALES, INSTANCES, SIDES, FACTS, LATE,
     ];
-    assert_eq!(rt; wrong(rt.alloc(), &tables)?.as_str(), "");
+    for table in tables {
+        check(&rt, rt.alloc(), Rows::Body, START, table)?;
+    }
     Ok(())
 }

@@ -1,17 +1,21 @@
 // How expressions end: each row is an expression, the values of the variables, the state, behind `old` the old state, the
 // end and the events. A place in line 2 is a column of the expression.
+ghost use Rattle.viper_core.specs.Formed.{IsFormed};
 ghost use Rattle.viper_core.specs.Literals.{IsWithinExpr};
-ghost use Rattle.viper_core.specs.View.{expr_of};
+ghost use Rattle.viper_core.specs.View.{expr_of, program_of};
+ghost use Rattle.viper_state.specs.View.{scene_of, state_of};
+ghost use Rattle.viper_state.specs.Within.{IsWithinScene, IsWithinState};
 
 use crate::files::{initial, program};
+use crate::rows::{Rows, check};
 use crate::states::{scene, state_of};
-use crate::told::{evaluated, feed, with_events};
+use crate::told::{evaluated, feed, other_than, with_events};
 use crate::words::parts;
 use std::alloc::Global;
 use std::test::Fail;
-use viper_core::Expr;
+use viper_core::{Expr, Program};
 use viper_eval::{Evaluated, eval, eval_open};
-use viper_state::Feed;
+use viper_state::{Feed, Scene, State};
 
 /// A read needs a reference, and then permission.
 const READS: (&str, &str) = (
@@ -393,6 +397,26 @@ unfolding P(x, -3) in true ; #1 ; P(#1,-3)=5 P(#1,-3):1/1 ; blocked ; 5",
 fn ending(
     alloc: Global,
     e: &Expr,
+    now: &State,
+    scene: &Scene,
+    feed: &mut Feed,
+) -> Result<Option<Evaluated>, Fail>
+    requires e_within { IsWithinExpr (expr_of e.now) }
+    requires now_within { IsWithinState (state_of now.now) }
+    requires scene_within { IsWithinScene (scene_of scene.now) }
+{
+    let end = eval_open(alloc, e, now, scene, feed)?;
+    Ok(if eval(alloc, e, now, scene)? == end {
+        Some(end)
+    } else {
+        None
+    })
+}
+
+/// How an expression ends with these values and states.
+fn ending_in(
+    alloc: Global,
+    e: &Expr,
     variables: &str,
     states: &str,
     feed: &mut Feed,
@@ -402,12 +426,15 @@ fn ending(
     let (now, old) = states.split_once("old").unwrap_or((states, ""));
     let scene = scene(alloc, variables, old)?;
     let now = state_of(alloc, now)?;
-    let end = eval_open(alloc, e, &now, &scene, feed)?;
-    Ok(if eval(alloc, e, &now, &scene)? == end {
-        Some(end)
-    } else {
-        None
-    })
+    ending(alloc, e, &now, &scene, feed)
+}
+
+/// An end, and what is recorded.
+fn told_end(alloc: Global, end: Option<Evaluated>, feed: &Feed) -> Result<String, Fail> {
+    match end {
+        Some(end) => with_events(alloc, evaluated(alloc, end)?, feed),
+        None => Ok("another end without events".to_string(alloc)?),
+    }
 }
 
 /// How an expression ends, and what it records.
@@ -415,38 +442,26 @@ fn told(alloc: Global, e: &Expr, variables: &str, states: &str) -> Result<String
     requires { IsWithinExpr (expr_of e.now) }
 {
     let mut feed = feed(alloc)?;
-    match ending(alloc, e, variables, states, &mut feed)? {
-        Some(end) => with_events(alloc, evaluated(alloc, end)?, &feed),
-        None => Ok("another end without events".to_string(alloc)?),
-    }
+    let end = ending_in(alloc, e, variables, states, &mut feed)?;
+    told_end(alloc, end, &feed)
+}
+
+/// How the expression of a program ends, and what it records.
+fn told_of(alloc: Global, program: &Program, variables: &str, states: &str) -> Result<String, Fail>
+    requires { IsFormed (program_of program.now) }
+{
+    let e = initial(program).ok_or("no expression")?;
+    told(alloc, e, variables, states)
 }
 
 /// What came of a row, where the row says otherwise.
-fn wrong_row(alloc: Global, start: &str, row: &str) -> Result<Option<String>, Fail> {
+pub fn wrong_row(alloc: Global, start: &str, row: &str) -> Result<Option<String>, Fail> {
     let (e, rest) = parts(row, " ; ")?;
     let (variables, rest) = parts(rest, " ; ")?;
     let (states, want) = parts(rest, " ; ")?;
     let program = program(alloc, start, e)?;
-    let e = initial(&program).ok_or("no expression")?;
-    let got = told(alloc, e, variables, states)?;
-    Ok(if got.as_str() == want {
-        None
-    } else {
-        Some(got)
-    })
-}
-
-/// The wrong rows of the tables, each with what came.
-fn wrong(alloc: Global, tables: &[(&str, &str)]) -> Result<String, Fail> {
-    let mut text = "".to_string(alloc)?;
-    for (start, rows) in tables {
-        for row in rows.lines() {
-            if let Some(got) = wrong_row(alloc, start, row)? {
-                text.push_str(format!(in alloc; "{row}: {got}\n")?.as_str())?;
-            }
-        }
-    }
-    Ok(text)
+    let came = told_of(alloc, &program, variables, states)?;
+    Ok(other_than(want, came))
 }
 
 /// Each end and each event is what its row says.
@@ -457,6 +472,8 @@ fn expressions_end_as_the_tables_say(rt: HostRuntime) -> Result<(), Fail> {
         REMAINDER, RATIO, WHOLE, FRACTIONS, ORDERS, MIXED, UNFOLDING, AMOUNTS, ARGUMENTS, NUMBERED,
         SWAPPED, NESTED, NEGATED,
     ];
-    assert_eq!(rt; wrong(rt.alloc(), &tables)?.as_str(), "");
+    for (start, table) in tables {
+        check(&rt, rt.alloc(), Rows::Expression, start, table)?;
+    }
     Ok(())
 }

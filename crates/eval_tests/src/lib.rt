@@ -11,6 +11,8 @@ mod expressions;
 #[cfg(test)]
 mod files;
 #[cfg(test)]
+mod rows;
+#[cfg(test)]
 mod states;
 #[cfg(test)]
 mod told;

@@ -121,3 +121,12 @@ pub fn stepped(alloc: Global, end: Step) -> Result<String, Fail> {
         Step::Over(at) => format!(in alloc; "over {at}")?,
     })
 }
+
+/// What came, where it is other than what should come.
+pub fn other_than(want: &str, came: String) -> Option<String> {
+    if came.as_str() == want {
+        None
+    } else {
+        Some(came)
+    }
+}

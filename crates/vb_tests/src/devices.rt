@@ -1,7 +1,8 @@
 // Files and streams: whole files and texts over devices that give and take little, and that fail.
+use crate::rows::{Rows, check, four};
 use std::alloc::Global;
 use std::fs;
-use std::test::Fail;
+use std::rt::Files;
 use vb_outer::{
     DiskShelf, Failed, FileFault, MemFile, MemShelf, MemSink, Shelf, StdSink, read_file, write_all,
 };
@@ -33,84 +34,75 @@ const WRITES: &str = "\
 1 10 012345678 Failed
 99 2 0123456789 Ok";
 
-fn number(text: &str) -> Result<usize, Fail> {
-    Ok(text.parse::<usize>().ok().ok_or("no number")?)
-}
-
-/// The first word of a text, and the rest.
-fn word(text: &str) -> Result<(&str, &str), Fail> {
-    Ok(text.split_once(" ").ok_or("one word")?)
-}
-
 /// The numbers of the calls that fail.
-fn failing(alloc: Global, text: &str) -> Result<Vec<u64>, Fail> {
+fn failing(alloc: Global, text: &str) -> Option<Vec<u64>> {
     let mut calls = Vec::new(alloc);
     if text != "none" {
-        for each in text.split(",") {
-            calls.push(each.parse::<u64>().ok().ok_or("no number")?)?;
+        for each in text.split(',') {
+            calls.push(each.parse::<u64>().ok()?).ok()?;
         }
     }
-    Ok(calls)
+    Some(calls)
 }
 
-/// A shelf with one file, `note`, that says `hello`.
-fn note_shelf(alloc: Global, failing: Vec<u64>, most: usize) -> Result<MemShelf, Fail> {
+/// A file, `note`, that says `hello`.
+fn note(alloc: Global) -> Option<MemFile> {
+    let name = b"note".to_vec(alloc).ok()?;
+    let bytes = b"hello".to_vec(alloc).ok()?;
+    Some(MemFile { name, bytes })
+}
+
+/// A shelf with the file `note` alone.
+fn note_shelf(alloc: Global, calls: &str, most: usize) -> Option<MemShelf> {
     if most == 0 {
-        return Err("a shelf gives something")?;
+        return None;
     }
-    let note = MemFile {
-        name: b"note".to_vec(alloc)?,
-        bytes: b"hello".to_vec(alloc)?,
-    };
-    let files = vec![in alloc; note]?;
-    Ok(MemShelf::make(files, failing, most))
+    let failing = failing(alloc, calls)?;
+    let files = vec![in alloc; note(alloc)?].ok()?;
+    Some(MemShelf::make(files, failing, most))
 }
 
-fn told(fault: FileFault) -> &'static str {
-    match fault {
-        FileFault::Memory => "Memory",
-        FileFault::Failed => "Failed",
-        FileFault::Long => "Long",
-    }
-}
-
-/// Whether a file is read as the row says.
-fn read_row(alloc: Global, row: &str) -> Result<bool, Fail> {
-    let (most, rest) = word(row)?;
-    let (calls, rest) = word(rest)?;
-    let (limit, want) = word(rest)?;
-    let mut shelf = note_shelf(alloc, failing(alloc, calls)?, number(most)?)?;
-    Ok(match read_file(alloc, &mut shelf, "note", number(limit)?) {
+/// Whether a file is read as it should be: wholly, or with the fault of that name.
+fn is_read(alloc: Global, shelf: &mut MemShelf, limit: usize, want: &str) -> bool {
+    match read_file(alloc, shelf, "note", limit) {
         Ok(bytes) => bytes.as_slice() == want.as_bytes(),
-        Err(fault) => told(fault) == want,
-    })
+        Err(FileFault::Memory) => false,
+        Err(FileFault::Failed) => want == "Failed",
+        Err(FileFault::Long) => want == "Long",
+    }
+}
+
+pub(crate) fn read_row(alloc: Global, row: &str) -> Option<bool> {
+    let (most, calls, limit, want) = four(row, " ")?;
+    let limit = limit.parse::<usize>().ok()?;
+    let mut shelf = note_shelf(alloc, calls, most.parse::<usize>().ok()?)?;
+    Some(is_read(alloc, &mut shelf, limit, want))
 }
 
 /// A sink that takes so much.
-fn sink(alloc: Global, failing: Vec<u64>, most: usize) -> Result<MemSink, Fail> {
+fn sink(alloc: Global, calls: &str, most: usize) -> Option<MemSink> {
     if most == 0 {
-        return Err("a sink takes something")?;
+        return None;
     }
-    Ok(MemSink::make(alloc, failing, most).ok().ok_or("no memory")?)
+    MemSink::make(alloc, failing(alloc, calls)?, most).ok()
 }
 
-/// Whether a text is written as the row says.
-fn write_row(alloc: Global, row: &str) -> Result<bool, Fail> {
-    let (most, rest) = word(row)?;
-    let (calls, rest) = word(rest)?;
-    let (front, end) = word(rest)?;
-    let mut sink = sink(alloc, failing(alloc, calls)?, number(most)?)?;
-    let is_whole = write_all(&mut sink, b"0123456789").is_ok();
+/// Whether a text is written wholly, or up to its front.
+fn is_written(sink: &mut MemSink, front: &str, end: &str) -> bool {
+    let is_whole = write_all(sink, b"0123456789").is_ok();
     let front = if front == "-" { "" } else { front };
-    Ok(is_whole == (end == "Ok") && sink.written() == front.as_bytes())
+    is_whole == (end == "Ok") && sink.written() == front.as_bytes()
+}
+
+pub(crate) fn write_row(alloc: Global, row: &str) -> Option<bool> {
+    let (most, calls, front, end) = four(row, " ")?;
+    let mut sink = sink(alloc, calls, most.parse::<usize>().ok()?)?;
+    Some(is_written(&mut sink, front, end))
 }
 
 #[test]
-fn a_file_is_read_whole_or_not_at_all(rt: HostRuntime) -> Result<(), Fail> {
-    for row in READS.lines() {
-        assert!(rt; read_row(rt.alloc(), row)?, "{row}");
-    }
-    Ok(())
+fn a_file_is_read_whole_or_not_at_all(rt: HostRuntime) {
+    check(&rt, rt.alloc(), Rows::Read, READS);
 }
 
 /// Whether `note` is read in two pieces.
@@ -120,38 +112,40 @@ fn reads_in_pieces(shelf: &mut MemShelf) -> bool {
     counts == [Ok(3), Ok(2)] && buf == *b"lol\0"
 }
 
-#[test]
-fn a_missing_file_fails_and_the_next_is_read(rt: HostRuntime) -> Result<(), Fail> {
-    let alloc = rt.alloc();
-    let mut shelf = note_shelf(alloc, Vec::new(alloc), 3)?;
+/// Whether a missing file fails, and what is read behind it.
+fn reads_behind_a_fault(alloc: Global) -> Option<bool> {
+    let mut shelf = note_shelf(alloc, "none", 3)?;
     let missing = read_file(alloc, &mut shelf, "nota", 5).err();
     let ends = [shelf.read(&mut [0; 4]).is_ok(), shelf.begin("note").is_ok()];
     let is_read = reads_in_pieces(&mut shelf);
-    assert!(rt; missing == Some(FileFault::Failed) && ends == [true, true] && is_read);
-    Ok(())
+    Some(missing == Some(FileFault::Failed) && ends == [true, true] && is_read)
 }
 
 #[test]
-fn a_text_is_written_up_to_the_failing_call(rt: HostRuntime) -> Result<(), Fail> {
-    for row in WRITES.lines() {
-        assert!(rt; write_row(rt.alloc(), row)?, "{row}");
-    }
-    Ok(())
+fn a_missing_file_fails_and_the_next_is_read(rt: HostRuntime) {
+    assert!(rt; reads_behind_a_fault(rt.alloc()) == Some(true));
 }
 
 #[test]
-fn texts_are_written_one_after_another(rt: HostRuntime) -> Result<(), Fail> {
-    let alloc = rt.alloc();
-    let mut sink = sink(alloc, failing(alloc, "4")?, 2)?;
+fn a_text_is_written_up_to_the_failing_call(rt: HostRuntime) {
+    check(&rt, rt.alloc(), Rows::Write, WRITES);
+}
+
+/// Whether texts stand one behind another, but for one whose write failed.
+fn writes_in_turn(alloc: Global) -> Option<bool> {
+    let mut sink = sink(alloc, "4", 2)?;
     let ends = [
         write_all(&mut sink, b"one"),
         write_all(&mut sink, b""),
         write_all(&mut sink, b"two"),
         write_all(&mut sink, b"!"),
     ];
-    assert_eq!(rt; ends, [Ok(()), Ok(()), Err(Failed), Ok(())]);
-    assert_eq!(rt; sink.written(), b"onetw!".as_slice());
-    Ok(())
+    Some(ends == [Ok(()), Ok(()), Err(Failed), Ok(())] && sink.written() == b"onetw!".as_slice())
+}
+
+#[test]
+fn texts_are_written_one_after_another(rt: HostRuntime) {
+    assert!(rt; writes_in_turn(rt.alloc()) == Some(true));
 }
 
 /// How many bytes of a file come within the limit, or why none do.
@@ -164,32 +158,47 @@ fn count<H: Shelf>(
     Ok(read_file(alloc, shelf, name, limit)?.len())
 }
 
-#[test]
-fn a_file_on_the_disk_is_read(rt: HostRuntime) -> Result<(), Fail> {
-    let alloc = rt.alloc();
-    // More than what is asked for at once.
-    let text: Vec<u8> = vec![in alloc; b'x'; 70_001]?;
-    fs::write(&rt, "long", text.as_slice())?;
-    let mut disk = DiskShelf::make(rt);
+/// Whether files are read within their limits, and nothing is read with no file begun.
+fn reads_within_limits<H: Shelf>(alloc: Global, disk: &mut H) -> bool {
     let before = disk.read(&mut [0; 4]);
     let counts = [
-        count(alloc, &mut disk, "long", 70_001),
-        count(alloc, &mut disk, "long", 70_000),
-        count(alloc, &mut disk, "none", 5),
+        count(alloc, disk, "long", 70_001),
+        count(alloc, disk, "long", 70_000),
+        count(alloc, disk, "none", 5),
     ];
     let after = disk.read(&mut [0; 4]);
     let wanted = [Ok(70_001), Err(FileFault::Long), Err(FileFault::Failed)];
-    assert!(rt; counts == wanted && [before, after] == [Ok(0), Ok(0)]);
-    Ok(())
+    counts == wanted && [before, after] == [Ok(0), Ok(0)]
+}
+
+/// Writes a file, `long`. It has more bytes than are asked for at once.
+fn write_long<R: Files>(rt: &R, alloc: Global) -> Option<()> {
+    let text: Vec<u8> = vec![in alloc; b'x'; 70_001].ok()?;
+    fs::write(rt, "long", text.as_slice()).ok()
+}
+
+#[test]
+fn a_file_on_the_disk_is_read(rt: HostRuntime) {
+    assert!(rt; write_long(&rt, rt.alloc()).is_some());
+    assert!(rt; reads_within_limits(rt.alloc(), &mut DiskShelf::make(rt)));
+}
+
+/// Whether a text is written to both streams.
+fn writes_to_streams(rt: HostRuntime) -> bool {
+    let out = write_all(&mut StdSink::make(rt.stdout()), b"out\n");
+    let err = write_all(&mut StdSink::make(rt.stderr()), b"err\n");
+    [out, err] == [Ok(()), Ok(())]
+}
+
+/// Whether a full writer takes nothing more.
+fn fills_a_writer() -> bool {
+    let mut room = [0; 3];
+    let full = write_all(&mut StdSink::make(room.as_mut_slice()), b"outer");
+    full == Err(Failed) && room == *b"out"
 }
 
 #[test]
 fn a_stream_is_written(rt: HostRuntime) {
-    let out = write_all(&mut StdSink::make(rt.stdout()), b"out\n");
-    let err = write_all(&mut StdSink::make(rt.stderr()), b"err\n");
-    // A full writer takes nothing more.
-    let mut room = [0; 3];
-    let full = write_all(&mut StdSink::make(room.as_mut_slice()), b"outer");
-    assert_eq!(rt; [out, err, full], [Ok(()), Ok(()), Err(Failed)]);
-    assert_eq!(rt; room.as_slice(), b"out".as_slice());
+    assert!(rt; writes_to_streams(rt));
+    assert!(rt; fills_a_writer());
 }

@@ -1,5 +1,5 @@
 // Generated programs.
-use std::test::Fail;
+use std::alloc::Global;
 use vb_gen::{GenFault, make_program};
 
 const OF_TWO: &str = "\
@@ -18,19 +18,26 @@ method m2(x: Ref) returns (r: Int)
 }
 ";
 
-#[test]
-fn a_program_has_its_methods(rt: HostRuntime) -> Result<(), Fail> {
-    let one = make_program(rt.alloc(), 1).ok().ok_or("no program")?;
-    let two = make_program(rt.alloc(), 2).ok().ok_or("no program")?;
-    let most = make_program(rt.alloc(), 2_000).ok().ok_or("no program")?;
-    assert!(rt; one.len() == 132 && two.as_slice() == OF_TWO.as_bytes());
-    assert!(rt; OF_TWO.as_bytes().starts_with(&one) && most.starts_with(&two));
-    Ok(())
+/// Whether a program of one method is the front of one of two, and that of one of 2,000.
+fn grows(alloc: Global) -> Option<bool> {
+    let two = make_program(alloc, 2).ok()?;
+    let most = make_program(alloc, 2_000).ok()?;
+    let one = make_program(alloc, 1).ok()?;
+    let is_front = one.len() == 132 && OF_TWO.as_bytes().starts_with(&one);
+    Some(is_front && two.as_slice() == OF_TWO.as_bytes() && most.starts_with(&two))
 }
 
 #[test]
-fn a_number_of_methods_has_its_range(rt: HostRuntime) -> Result<(), Fail> {
-    assert!(rt; make_program(rt.alloc(), 0).err() == Some(GenFault::Range));
-    assert!(rt; make_program(rt.alloc(), 2_001).err() == Some(GenFault::Range));
-    Ok(())
+fn a_program_has_its_methods(rt: HostRuntime) {
+    assert!(rt; grows(rt.alloc()) == Some(true));
+}
+
+#[test]
+fn a_number_of_methods_has_its_range(rt: HostRuntime) {
+    for n in [0, 2_001] {
+        assert!(rt;
+            make_program(rt.alloc(), n).err() == Some(GenFault::Range),
+            "{n}"
+        );
+    }
 }

@@ -1,6 +1,6 @@
 // Labels: each is read and written back as it stands, and no other spelling is read.
+use crate::rows::{Rows, check};
 use std::alloc::Global;
-use std::test::Fail;
 use vb_base::{label_text, read_label};
 
 const LABELS: &str = "\
@@ -34,34 +34,24 @@ const OTHERS: &str = "\
 |:20 1:27 false|";
 
 /// Whether the row is a label, and the text of that label.
-fn label_row(alloc: Global, row: &str) -> Result<bool, Fail> {
-    match read_label(row.as_bytes()) {
-        Some(label) => Ok(label_text(alloc, &label)?.as_slice() == row.as_bytes()),
-        None => Ok(false),
-    }
+pub(crate) fn label_row(alloc: Global, row: &str) -> Option<bool> {
+    let label = read_label(row.as_bytes())?;
+    let text = label_text(alloc, &label).ok()?;
+    Some(text.as_slice() == row.as_bytes())
 }
 
 /// Whether what stands between the bars is no label.
-fn other_row(row: &str) -> Result<bool, Fail> {
-    let text = row.strip_prefix("|").ok_or("no bar")?;
-    let text = text.strip_suffix("|").ok_or("no bar")?;
-    Ok(read_label(text.as_bytes()).is_none())
+pub(crate) fn other_row(row: &str) -> Option<bool> {
+    let text = row.strip_prefix("|")?.strip_suffix("|")?;
+    Some(read_label(text.as_bytes()).is_none())
 }
 
 #[test]
-fn labels_are_read_and_written_back(rt: HostRuntime) -> Result<(), Fail> {
-    for row in LABELS.lines() {
-        let right = label_row(rt.alloc(), row)?;
-        assert!(rt; right, "{row}");
-    }
-    Ok(())
+fn labels_are_read_and_written_back(rt: HostRuntime) {
+    check(&rt, rt.alloc(), Rows::Label, LABELS);
 }
 
 #[test]
-fn other_spellings_are_no_labels(rt: HostRuntime) -> Result<(), Fail> {
-    for row in OTHERS.lines() {
-        let right = other_row(row)?;
-        assert!(rt; right, "{row}");
-    }
-    Ok(())
+fn other_spellings_are_no_labels(rt: HostRuntime) {
+    check(&rt, rt.alloc(), Rows::OtherLabel, OTHERS);
 }

@@ -13,6 +13,8 @@ mod maps;
 #[cfg(test)]
 mod numbers;
 #[cfg(test)]
+mod rows;
+#[cfg(test)]
 mod states;
 #[cfg(test)]
 mod values;

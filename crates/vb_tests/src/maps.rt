@@ -1,8 +1,7 @@
 // Maps with the default 7.
-use crate::numbers::parts;
+use crate::rows::{Rows, boxed, check, halves};
 use sparse::Sparse;
 use std::alloc::Global;
-use std::test::Fail;
 
 /// Changes of keys in turn, and the entries that are there then.
 const CHANGES: &str = "\
@@ -14,72 +13,95 @@ const CHANGES: &str = "\
 5=50 5=7 5=50 -> 5=50
 0=0 18446744073709551615=1 -> 0=0 18446744073709551615=1";
 
-fn entry(text: &str) -> Result<(u64, u64), Fail> {
-    let (key, value) = parts(text, "=")?;
-    let key = key.parse::<u64>().ok().ok_or("no key")?;
-    Ok((key, value.parse::<u64>().ok().ok_or("no value")?))
+fn entry(text: &str) -> Option<(u64, u64)> {
+    let (key, value) = halves(text, "=")?;
+    Some((key.parse::<u64>().ok()?, value.parse::<u64>().ok()?))
 }
 
-fn change(map: &mut Sparse<u64, u64>, changes: &str) -> Result<(), Fail> {
+fn change(map: &mut Sparse<u64, u64>, changes: &str) -> Option<()> {
     for text in changes.split(' ') {
         let (key, value) = entry(text)?;
-        map.set(key, value)?;
+        map.set(key, value).ok()?;
     }
-    Ok(())
+    Some(())
 }
 
-/// Whether the map has these entries and no others, and the default 7.
-fn has(map: &Sparse<u64, u64>, entries: &str) -> Result<bool, Fail> {
-    let mut i = 0;
-    for text in entries.split(' ').filter(|text| *text != "nothing") {
-        let (key, value) = entry(text)?;
-        if i >= map.len() || *map.key_at(i) != key || *map.get(&key) != value {
-            return Ok(false);
+/// Whether the entry stands there.
+fn has_entry(map: &Sparse<u64, u64>, index: usize, text: &str) -> Option<bool> {
+    let (key, value) = entry(text)?;
+    Some(index < map.len() && *map.key_at(index) == key && *map.get(&key) == value)
+}
+
+/// Whether the map has so many entries, and the default 7.
+fn has_no_others(map: &Sparse<u64, u64>, count: usize) -> bool {
+    count == map.len() && *map.get(&100) == 7 && *map.default() == 7
+}
+
+/// Whether the map has these entries and no others.
+fn has(map: &Sparse<u64, u64>, entries: &str) -> Option<bool> {
+    let entries = if entries == "nothing" { "" } else { entries };
+    let mut count = 0usize;
+    for text in entries.split_whitespace() {
+        if !has_entry(map, count, text)? {
+            return Some(false);
         }
-        i += 1;
+        count = count.wrapping_add(1);
     }
-    Ok(i == map.len() && *map.get(&100) == 7 && *map.default() == 7)
+    Some(has_no_others(map, count))
 }
 
-/// Whether the changes give the entries, to a map and to a copy of it, which then changes by itself.
-fn changes_row(alloc: Global, row: &str) -> Result<bool, Fail> {
-    let (changes, entries) = parts(row, " -> ")?;
-    let mut map = Sparse::make(alloc, 7)?;
-    change(&mut map, changes)?;
-    let mut copy = map.copy()?;
+/// A map without entries.
+fn empty(alloc: Global) -> Option<Box<Sparse<u64, u64>>> {
+    boxed(alloc, Sparse::make(alloc, 7).ok())
+}
+
+/// Whether a copy of the map has the entries, and changes by itself.
+fn is_copied(alloc: Global, map: &Sparse<u64, u64>, entries: &str) -> Option<bool> {
+    let mut copy = boxed(alloc, map.copy().ok())?;
     let is_copied = has(&copy, entries)?;
-    copy.set(100, 1)?;
-    Ok(is_copied && has(&map, entries)? && *copy.get(&100) == 1)
+    copy.set(100, 1).ok()?;
+    Some(is_copied && *copy.get(&100) == 1)
+}
+
+/// Whether the changes give the entries, to a map and to a copy of it.
+pub(crate) fn changes_row(alloc: Global, row: &str) -> Option<bool> {
+    let (changes, entries) = halves(row, " -> ")?;
+    let mut map = empty(alloc)?;
+    change(&mut map, changes)?;
+    let is_copied = is_copied(alloc, &map, entries)?;
+    let is_kept = has(&map, entries)?;
+    Some(is_copied && is_kept)
 }
 
 #[test]
-fn maps_keep_what_differs_from_their_default(rt: HostRuntime) -> Result<(), Fail> {
-    for row in CHANGES.lines() {
-        assert!(rt; changes_row(rt.alloc(), row)?, "{row}");
-    }
-    Ok(())
+fn maps_keep_what_differs_from_their_default(rt: HostRuntime) {
+    check(&rt, rt.alloc(), Rows::Map, CHANGES);
 }
 
 /// A map with the keys from 1 to `most`, each with ten times itself.
-fn tens(alloc: Global, most: u64) -> Result<Sparse<u64, u64>, Fail> {
-    let mut map = Sparse::make(alloc, 7)?;
+fn tens(alloc: Global, most: u64) -> Option<Box<Sparse<u64, u64>>> {
+    let mut map = empty(alloc)?;
     for before in 0..most {
         let key = before.wrapping_add(1);
-        map.set(key, key.wrapping_mul(10))?;
+        map.set(key, key.wrapping_mul(10)).ok()?;
     }
-    Ok(map)
+    Some(map)
+}
+
+/// A copy of the map, with 1 at the key.
+fn changed_copy(map: &Sparse<u64, u64>, key: u64) -> Option<Sparse<u64, u64>> {
+    let mut copy = map.copy().ok()?;
+    copy.set(key, 1).ok()?;
+    Some(copy)
 }
 
 /// A copy of the map for each key, each with 1 at its own key.
-fn copies(alloc: Global, map: &Sparse<u64, u64>, most: u64) -> Result<Vec<Sparse<u64, u64>>, Fail> {
+fn copies(alloc: Global, map: &Sparse<u64, u64>, most: u64) -> Option<Vec<Sparse<u64, u64>>> {
     let mut kept = Vec::new(alloc);
     for before in 0..most {
-        let key = before.wrapping_add(1);
-        let mut copy = map.copy()?;
-        copy.set(key, 1)?;
-        kept.push(copy)?;
+        kept.push(changed_copy(map, before.wrapping_add(1))?).ok()?;
     }
-    Ok(kept)
+    Some(kept)
 }
 
 /// Whether the map has its own values, and each copy has 1 at its own key and the map's value at the next.
@@ -97,19 +119,21 @@ fn stand_apart(map: &Sparse<u64, u64>, kept: &[Sparse<u64, u64>]) -> bool {
 }
 
 // Without shared parts the copies would have 2,500,000,000 entries.
+fn shares(alloc: Global, most: u64) -> Option<bool> {
+    let map = tens(alloc, most)?;
+    let kept = copies(alloc, &map, most)?;
+    Some(stand_apart(&map, &kept) && (kept.len() as u64, map.len() as u64) == (most, most))
+}
+
 #[test]
-fn copies_share_their_entries(rt: HostRuntime) -> Result<(), Fail> {
-    let map = tens(rt.alloc(), 50_000)?;
-    let kept = copies(rt.alloc(), &map, 50_000)?;
-    let is_apart = stand_apart(&map, &kept);
-    assert!(rt; is_apart && kept.len() == 50_000 && map.len() == 50_000);
-    Ok(())
+fn copies_share_their_entries(rt: HostRuntime) {
+    assert!(rt; shares(rt.alloc(), 50_000) == Some(true));
 }
 
 /// Changes a map as a plain list of entries in order is changed, one key after another, and whether both have the same
 /// entries each time.
-fn changes_as_a_list(alloc: Global, rounds: u64) -> Result<bool, Fail> {
-    let mut map = Sparse::make(alloc, 7)?;
+fn changes_as_a_list(alloc: Global, rounds: u64) -> Option<bool> {
+    let mut map = empty(alloc)?;
     let mut list = Vec::new(alloc);
     let mut seed = 1u64;
     for _ in 0..rounds {
@@ -118,26 +142,36 @@ fn changes_as_a_list(alloc: Global, rounds: u64) -> Result<bool, Fail> {
             .wrapping_add(1442695040888963407);
         let key = (seed >> 33) % 64;
         let value = (seed >> 40) % 9;
-        map.set(key, value)?;
-        set_in_list(&mut list, key, value)?;
-        if !has_entries(&map, &list) {
-            return Ok(false);
+        if !changes_both(&mut map, &mut list, key, value)? {
+            return Some(false);
         }
     }
-    Ok(true)
+    Some(true)
+}
+
+/// Changes the map and the list alike, and answers whether they have the same entries then.
+fn changes_both(
+    map: &mut Sparse<u64, u64>,
+    list: &mut Vec<(u64, u64)>,
+    key: u64,
+    value: u64,
+) -> Option<bool> {
+    map.set(key, value).ok()?;
+    set_in_list(list, key, value)?;
+    Some(has_entries(map, list))
 }
 
 /// The plain program: the entries in one list, in the order of their keys.
-fn set_in_list(list: &mut Vec<(u64, u64)>, key: u64, value: u64) -> Result<(), Fail> {
+fn set_in_list(list: &mut Vec<(u64, u64)>, key: u64, value: u64) -> Option<()> {
     match list.binary_search_by(|entry| entry.0.cmp(&key)) {
         Ok(index) if value == 7 => {
             list.remove(index);
         }
         Ok(index) => list[index].1 = value,
-        Err(index) if value != 7 => list.insert(index, (key, value))?,
+        Err(index) if value != 7 => list.insert(index, (key, value)).ok()?,
         Err(_) => {}
     }
-    Ok(())
+    Some(())
 }
 
 fn has_entries(map: &Sparse<u64, u64>, list: &[(u64, u64)]) -> bool {
@@ -154,8 +188,6 @@ fn has_entries(map: &Sparse<u64, u64>, list: &[(u64, u64)]) -> bool {
 }
 
 #[test]
-fn maps_change_as_a_list_of_entries_does(rt: HostRuntime) -> Result<(), Fail> {
-    let is_alike = changes_as_a_list(rt.alloc(), 4_000)?;
-    assert!(rt; is_alike);
-    Ok(())
+fn maps_change_as_a_list_of_entries_does(rt: HostRuntime) {
+    assert!(rt; changes_as_a_list(rt.alloc(), 4_000) == Some(true));
 }

@@ -1,6 +1,6 @@
 // Whole numbers and fractions: operations, and where they leave the bound.
+use crate::rows::{Rows, check, four, halves, three};
 use std::cmp::Ordering;
-use std::test::Fail;
 use vb_value::{Frac, MAX, Over, int_add, int_div, int_mod, int_mul, int_sub};
 
 /// `a OP b = answer`, where `MAX` is the greatest number.
@@ -75,124 +75,125 @@ const SIGNS: &str = "\
 4/3 positive, above one
 MAX/-1 negative";
 
+/// Amounts that have a name.
+const NAMED: &str = "\
+none 0/1
+write 1/1";
+
 /// A whole number. `MAX` is the greatest, and `LEAST` the one below the least.
-pub(crate) fn number(text: &str) -> Result<i128, Fail> {
-    match text.as_bytes() {
-        b"MAX" => Ok(MAX),
-        b"-MAX" => Ok(-MAX),
-        b"LEAST" => Ok(i128::MIN),
-        _ => Ok(text.parse::<i128>().ok().ok_or("no number")?),
+pub(crate) fn number(text: &str) -> Option<i128> {
+    match text {
+        "MAX" => Some(MAX),
+        "-MAX" => Some(-MAX),
+        "LEAST" => Some(i128::MIN),
+        _ => text.parse::<i128>().ok(),
     }
 }
 
-/// Two parts of a text, before and after what stands between them.
-pub(crate) fn parts<'a>(text: &'a str, between: &str) -> Result<(&'a str, &'a str), Fail> {
-    Ok(text.split_once(between).ok_or("one part")?)
+/// A fraction's two numbers, as in `1/2`.
+fn pair(text: &str) -> Option<(i128, i128)> {
+    let (num, den) = halves(text, "/")?;
+    Some((number(num)?, number(den)?))
 }
 
-fn answer(text: &str) -> Result<Result<i128, Over>, Fail> {
-    if text == "Over" {
-        return Ok(Err(Over));
-    }
-    Ok(Ok(number(text)?))
-}
-
-fn divided(a: i128, operator: &str, b: i128) -> Result<i128, Fail> {
-    if a == i128::MIN || b == i128::MIN || b == 0 {
-        return Err("not to be divided")?;
-    }
-    match operator.as_bytes() {
-        b"div" => Ok(int_div(a, b)),
-        b"mod" => Ok(int_mod(a, b)),
-        _ => Err("no operator")?,
-    }
-}
-
-/// Whether the row of two whole numbers is right.
-fn whole_row(row: &str) -> Result<bool, Fail> {
-    let (left, want) = parts(row, " = ")?;
-    let (a, rest) = parts(left, " ")?;
-    let (operator, b) = parts(rest, " ")?;
-    let (a, b) = (number(a)?, number(b)?);
-    let got = match operator.as_bytes() {
-        b"+" => int_add(a, b),
-        b"-" => int_sub(a, b),
-        b"*" => int_mul(a, b),
-        _ => Ok(divided(a, operator, b)?),
-    };
-    Ok(got == answer(want)?)
-}
-
-pub(crate) fn pair(text: &str) -> Result<(i128, i128), Fail> {
-    let (num, den) = parts(text, "/")?;
-    Ok((number(num)?, number(den)?))
-}
-
-pub(crate) fn fraction(text: &str) -> Result<Frac, Fail> {
+pub(crate) fn fraction(text: &str) -> Option<Frac> {
     let (num, den) = pair(text)?;
-    Ok(Frac::make(num, den).ok_or("no fraction")?)
+    Frac::make(num, den)
 }
 
 /// Whether a fraction has the two numbers that it should have.
-pub(crate) fn is_made(made: Option<Frac>, want: &str) -> Result<bool, Fail> {
-    Ok(match made {
-        Some(made) => (Frac::num(made), Frac::den(made)) == pair(want)?,
-        None => want == "none" || want == "Over",
-    })
+pub(crate) fn is_made(made: Option<Frac>, want: &str) -> Option<bool> {
+    match made {
+        Some(made) => Some((Frac::num(made), Frac::den(made)) == pair(want)?),
+        None => Some(want == "none" || want == "Over"),
+    }
 }
 
-fn made_row(row: &str) -> Result<bool, Fail> {
-    let (numbers, want) = parts(row, " = ")?;
+fn divided(a: i128, operator: &str, b: i128) -> Option<Result<i128, Over>> {
+    if a == i128::MIN || b == i128::MIN || b == 0 {
+        return None;
+    }
+    match operator {
+        "div" => Some(Ok(int_div(a, b))),
+        "mod" => Some(Ok(int_mod(a, b))),
+        _ => None,
+    }
+}
+
+/// What the operator makes of two whole numbers.
+fn computed(a: &str, operator: &str, b: &str) -> Option<Result<i128, Over>> {
+    let (a, b) = (number(a)?, number(b)?);
+    match operator {
+        "+" => Some(int_add(a, b)),
+        "-" => Some(int_sub(a, b)),
+        "*" => Some(int_mul(a, b)),
+        _ => divided(a, operator, b),
+    }
+}
+
+fn is_whole(got: Result<i128, Over>, want: &str) -> Option<bool> {
+    match got {
+        Ok(got) => Some(got == number(want)?),
+        Err(Over) => Some(want == "Over"),
+    }
+}
+
+pub(crate) fn whole_row(row: &str) -> Option<bool> {
+    let (a, operator, b, want) = four(row, " = ")?;
+    is_whole(computed(a, operator, b)?, want)
+}
+
+pub(crate) fn made_row(row: &str) -> Option<bool> {
+    let (numbers, want) = halves(row, " = ")?;
     let (num, den) = pair(numbers)?;
     is_made(Frac::make(num, den), want)
 }
 
-fn quotient(a: Frac, b: &str) -> Result<Result<Frac, Over>, Fail> {
-    let b = fraction(b)?;
-    if Frac::num(b) == 0 {
-        return Err("no divisor")?;
+/// What the operator makes of two fractions.
+fn combined(a: Frac, operator: &str, b: Frac) -> Option<Result<Frac, Over>> {
+    match operator {
+        "+" => Some(Frac::add(a, b)),
+        "-" => Some(Frac::sub(a, b)),
+        "*" => Some(Frac::mul(a, b)),
+        ":" if Frac::num(b) != 0 => Some(Frac::div(a, b)),
+        _ => None,
     }
-    Ok(Frac::div(a, b))
 }
 
-fn quotient_by(a: Frac, n: &str) -> Result<Result<Frac, Over>, Fail> {
-    let n = number(n)?;
+fn quotient_by(a: Frac, n: i128) -> Option<Result<Frac, Over>> {
     if n == 0 || n == i128::MIN {
-        return Err("no divisor")?;
+        return None;
     }
-    Ok(Frac::div_int(a, n))
+    Some(Frac::div_int(a, n))
 }
 
-fn fraction_row(row: &str) -> Result<bool, Fail> {
-    let (left, want) = parts(row, " = ")?;
-    let (a, rest) = parts(left, " ")?;
-    let (operator, b) = parts(rest, " ")?;
-    let a = fraction(a)?;
-    let got = match operator.as_bytes() {
-        b"+" => Frac::add(a, fraction(b)?),
-        b"-" => Frac::sub(a, fraction(b)?),
-        b"*" => Frac::mul(a, fraction(b)?),
-        b":" => quotient(a, b)?,
-        b"by" => quotient_by(a, b)?,
-        _ => return Err("no operator")?,
-    };
+/// What the operator makes of a fraction, and of a fraction or a whole number.
+fn operated(a: Frac, operator: &str, b: &str) -> Option<Result<Frac, Over>> {
+    if operator == "by" {
+        return quotient_by(a, number(b)?);
+    }
+    combined(a, operator, fraction(b)?)
+}
+
+pub(crate) fn fraction_row(row: &str) -> Option<bool> {
+    let (a, operator, b, want) = four(row, " = ")?;
+    let got = operated(fraction(a)?, operator, b)?;
     is_made(got.ok(), want)
 }
 
-fn order_row(row: &str) -> Result<bool, Fail> {
-    let (a, rest) = parts(row, " ")?;
-    let (b, want) = parts(rest, " ")?;
+pub(crate) fn order_row(row: &str) -> Option<bool> {
+    let (a, b, want) = three(row)?;
     let got = match Frac::cmp(fraction(a)?, fraction(b)?) {
         Ok(Ordering::Less) => "Less",
         Ok(Ordering::Equal) => "Equal",
         Ok(Ordering::Greater) => "Greater",
         Err(Over) => "Over",
     };
-    Ok(got == want)
+    Some(got == want)
 }
 
-fn sign_row(row: &str) -> Result<bool, Fail> {
-    let (amount, want) = parts(row, " ")?;
+pub(crate) fn sign_row(row: &str) -> Option<bool> {
+    let (amount, want) = halves(row, " ")?;
     let amount = fraction(amount)?;
     let sign = if Frac::is_negative(amount) {
         "negative"
@@ -201,41 +202,40 @@ fn sign_row(row: &str) -> Result<bool, Fail> {
     } else {
         "none"
     };
-    Ok(
+    Some(
         want.starts_with(sign)
             && Frac::is_none(amount) == (sign == "none")
             && Frac::is_above_one(amount) == want.ends_with("above one"),
     )
 }
 
-#[test]
-fn whole_numbers_are_computed_exactly_within_the_bound(rt: HostRuntime) -> Result<(), Fail> {
-    for row in WHOLE.lines() {
-        assert!(rt; whole_row(row)?, "{row}");
-    }
-    Ok(())
+/// Whether a named amount is the fraction that it should be.
+pub(crate) fn named_row(row: &str) -> Option<bool> {
+    let (name, want) = halves(row, " ")?;
+    is_made(
+        Some(if name == "none" {
+            Frac::none()
+        } else {
+            Frac::write()
+        }),
+        want,
+    )
 }
 
 #[test]
-fn fractions_are_made_and_computed_in_lowest_terms(rt: HostRuntime) -> Result<(), Fail> {
-    for row in MADE.lines() {
-        assert!(rt; made_row(row)?, "{row}");
-    }
-    for row in FRACTIONS.lines() {
-        assert!(rt; fraction_row(row)?, "{row}");
-    }
-    Ok(())
+fn whole_numbers_are_computed_exactly_within_the_bound(rt: HostRuntime) {
+    check(&rt, rt.alloc(), Rows::Whole, WHOLE);
 }
 
 #[test]
-fn amounts_are_compared_and_have_a_sign(rt: HostRuntime) -> Result<(), Fail> {
-    for row in ORDERS.lines() {
-        assert!(rt; order_row(row)?, "{row}");
-    }
-    for row in SIGNS.lines() {
-        assert!(rt; sign_row(row)?, "{row}");
-    }
-    assert!(rt; is_made(Some(Frac::none()), "0/1")?);
-    assert!(rt; is_made(Some(Frac::write()), "1/1")?);
-    Ok(())
+fn fractions_are_made_and_computed_in_lowest_terms(rt: HostRuntime) {
+    check(&rt, rt.alloc(), Rows::Made, MADE);
+    check(&rt, rt.alloc(), Rows::Fraction, FRACTIONS);
+}
+
+#[test]
+fn amounts_are_compared_and_have_a_sign(rt: HostRuntime) {
+    check(&rt, rt.alloc(), Rows::Order, ORDERS);
+    check(&rt, rt.alloc(), Rows::Sign, SIGNS);
+    check(&rt, rt.alloc(), Rows::Named, NAMED);
 }

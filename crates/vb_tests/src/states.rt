@@ -1,8 +1,8 @@
 // A state over one Int field and one predicate of one Ref, read and changed place by place; and a feed.
-use crate::numbers::{fraction, is_made, number, parts};
+use crate::numbers::{fraction, is_made, number};
+use crate::rows::{Rows, boxed, check, four};
 use sparse::Sparse;
 use std::alloc::Global;
-use std::test::Fail;
 use vb_value::{Content, Frac, Key, KeyPart, Layout, Ty, Value};
 use viper_state::{Choice, Event, Feed, Memo, State, copy_state, empty_state};
 
@@ -40,28 +40,38 @@ amount 0 2 3/2
 content 0 1 unit
 content 0 2 9";
 
-fn key(alloc: Global, reference: u64) -> Result<Key, Fail> {
-    Ok(Key {
-        parts: vec![in alloc; KeyPart::Ref(reference)]?,
-    })
+/// The kinds of the choices that are taken one after another.
+const TAKEN: &str = "branch took none none";
+
+fn key(alloc: Global, reference: u64) -> Option<Key> {
+    let parts = vec![in alloc; KeyPart::Ref(reference)].ok()?;
+    Some(Key { parts })
 }
 
-/// The heap of the field, which is 7 at the reference 1, and contents of the predicate, all of them nothing.
-fn memo(alloc: Global) -> Result<Memo, Fail> {
-    let mut values = Sparse::make(alloc, Value::Int(0))?;
-    values.set(1, Value::Int(7))?;
-    Ok(Memo {
-        heap: vec![in alloc; values]?,
-        content: vec![in alloc; Sparse::make(alloc, Content::Unit)?]?,
-    })
+/// Heaps of one field, which is 7 at the reference 1.
+fn heap(alloc: Global) -> Option<Vec<Sparse<u64, Value>>> {
+    let mut heap = vec![in alloc; Sparse::make(alloc, Value::Int(0)).ok()?].ok()?;
+    heap.get_mut(0)?.set(1, Value::Int(7)).ok()?;
+    Some(heap)
 }
 
-fn state(alloc: Global) -> Result<Box<State>, Fail> {
-    let layout = Layout {
-        fields: vec![in alloc; Ty::Int]?,
-        keys: vec![in alloc; vec![in alloc; Ty::Ref]?]?,
-    };
-    Ok(Box::new(alloc, empty_state(alloc, &layout, &memo(alloc)?)?)?)
+/// The heap of the field, and contents of the predicate, all of them nothing.
+fn memo(alloc: Global) -> Option<Memo> {
+    let content = vec![in alloc; Sparse::make(alloc, Content::Unit).ok()?].ok()?;
+    let heap = heap(alloc)?;
+    Some(Memo { heap, content })
+}
+
+fn layout(alloc: Global) -> Option<Layout> {
+    let fields = vec![in alloc; Ty::Int].ok()?;
+    let keys = vec![in alloc; vec![in alloc; Ty::Ref].ok()?].ok()?;
+    Some(Layout { fields, keys })
+}
+
+fn state(alloc: Global) -> Option<Box<State>> {
+    let layout = boxed(alloc, layout(alloc))?;
+    let memo = boxed(alloc, memo(alloc))?;
+    boxed(alloc, empty_state(alloc, &layout, &memo).ok())
 }
 
 /// A row: what is meant, the number of the field or predicate, the reference, and the answer or the new one.
@@ -73,121 +83,130 @@ struct Row<'a> {
     answer: &'a str,
 }
 
-fn row_of(text: &str) -> Result<Row<'_>, Fail> {
-    let (what, rest) = parts(text, " ")?;
-    let (number, rest) = parts(rest, " ")?;
-    let (reference, answer) = parts(rest, " ")?;
-    Ok(Row {
+fn row_of(text: &str) -> Option<Row<'_>> {
+    let (what, number, reference, answer) = four(text, " ")?;
+    let number = number.parse::<u32>().ok()?;
+    let reference = reference.parse::<u64>().ok()?;
+    Some(Row {
         what,
-        number: number.parse::<u32>().ok().ok_or("no number")?,
-        reference: reference.parse::<u64>().ok().ok_or("no reference")?,
+        number,
+        reference,
         answer,
     })
 }
 
-fn is_value(value: Option<Value>, want: &str) -> Result<bool, Fail> {
+fn is_value(value: Option<Value>, want: &str) -> Option<bool> {
     match value {
-        Some(Value::Int(value)) => Ok(value == number(want)?),
-        Some(_) => Ok(false),
-        None => Ok(want == "none"),
+        Some(Value::Int(value)) => Some(value == number(want)?),
+        Some(_) => Some(false),
+        None => Some(want == "none"),
     }
 }
 
-fn is_content(content: Option<&Content>, want: &str) -> Result<bool, Fail> {
+fn is_content(content: Option<&Content>, want: &str) -> Option<bool> {
     match content {
-        Some(Content::Unit) => Ok(want == "unit"),
+        Some(Content::Unit) => Some(want == "unit"),
         Some(Content::Leaf(value)) => is_value(Some(*value), want),
-        Some(Content::Pair(_, _)) => Ok(false),
-        None => Ok(want == "none"),
+        Some(Content::Pair(_, _)) => Some(false),
+        None => Some(want == "none"),
     }
 }
 
-fn is_read(alloc: Global, state: &State, text: &str) -> Result<bool, Fail> {
+fn is_read(alloc: Global, state: &State, text: &str) -> Option<bool> {
     let row = row_of(text)?;
     let key = key(alloc, row.reference)?;
-    match row.what.as_bytes() {
-        b"value" => is_value(state.value_at(row.number, row.reference), row.answer),
-        b"mask" => is_made(state.mask_at(row.number, row.reference), row.answer),
-        b"amount" => is_made(state.amount_at(row.number, &key), row.answer),
+    match row.what {
+        "value" => is_value(state.value_at(row.number, row.reference), row.answer),
+        "mask" => is_made(state.mask_at(row.number, row.reference), row.answer),
+        "amount" => is_made(state.amount_at(row.number, &key), row.answer),
         _ => is_content(state.content_at(row.number, &key), row.answer),
     }
 }
 
-/// The number, or 1 where there should be no place for it.
-fn whole(text: &str) -> Result<i128, Fail> {
-    if text == "none" {
-        return Ok(1);
-    }
-    number(text)
+/// The new value, or 1 where there should be no place for it.
+fn new_value(text: &str) -> Option<Value> {
+    let number = if text == "none" { 1 } else { number(text)? };
+    Some(Value::Int(number))
 }
 
-fn amount(text: &str) -> Result<Frac, Fail> {
+fn new_amount(text: &str) -> Option<Frac> {
     if text == "none" {
-        return Ok(Frac::write());
+        return Some(Frac::write());
     }
     fraction(text)
 }
 
 /// Changes a place, and answers whether there is one.
-fn set_place(state: &mut State, row: Row<'_>) -> Result<bool, Fail> {
-    if row.what == "value" {
-        let value = Value::Int(whole(row.answer)?);
-        return Ok(state.set_value(row.number, row.reference, value)?.is_some());
-    }
-    let permission = amount(row.answer)?;
-    Ok(
-        state
-            .set_mask(row.number, row.reference, permission)?
-            .is_some(),
-    )
+fn set_place(state: &mut State, row: Row<'_>) -> Option<bool> {
+    let set = if row.what == "value" {
+        state.set_value(row.number, row.reference, new_value(row.answer)?)
+    } else {
+        state.set_mask(row.number, row.reference, new_amount(row.answer)?)
+    };
+    Some(set.ok()?.is_some())
 }
 
 /// Changes an instance, and answers whether there is one.
-fn set_instance(alloc: Global, state: &mut State, row: Row<'_>) -> Result<bool, Fail> {
-    if row.what == "amount" {
-        let held = amount(row.answer)?;
+fn set_instance(alloc: Global, state: &mut State, row: Row<'_>) -> Option<bool> {
+    let set = if row.what == "amount" {
+        let amount = new_amount(row.answer)?;
+        state.set_amount(row.number, key(alloc, row.reference)?, amount)
+    } else {
+        let value = new_value(row.answer)?;
         let key = key(alloc, row.reference)?;
-        return Ok(state.set_amount(row.number, key, held)?.is_some());
-    }
-    let value = Value::Int(whole(row.answer)?);
-    let key = key(alloc, row.reference)?;
-    Ok(
-        state
-            .set_content(row.number, key, Content::Leaf(value))?
-            .is_some(),
-    )
+        state.set_content(row.number, key, Content::Leaf(value))
+    };
+    Some(set.ok()?.is_some())
 }
 
 /// Makes the change, and answers whether there was a place or an instance exactly where there should be.
-fn is_changed(alloc: Global, state: &mut State, text: &str) -> Result<bool, Fail> {
+fn is_changed(alloc: Global, state: &mut State, text: &str) -> Option<bool> {
     let row = row_of(text)?;
-    let found = match row.what.as_bytes() {
-        b"value" | b"mask" => set_place(state, row)?,
+    let found = match row.what {
+        "value" | "mask" => set_place(state, row)?,
         _ => set_instance(alloc, state, row)?,
     };
-    Ok(found == (row.answer != "none"))
+    Some(found == (row.answer != "none"))
+}
+
+/// A copy of the state, in which all changes are made.
+fn changed(alloc: Global, state: &State) -> Option<Box<State>> {
+    let mut copy = boxed(alloc, copy_state(alloc, state).ok())?;
+    for change in CHANGES.lines() {
+        is_changed(alloc, &mut copy, change)?;
+    }
+    Some(copy)
+}
+
+pub(crate) fn change_row(alloc: Global, row: &str) -> Option<bool> {
+    let mut state = state(alloc)?;
+    is_changed(alloc, &mut state, row)
+}
+
+/// Whether the row is so in a copy that is changed.
+pub(crate) fn changed_row(alloc: Global, row: &str) -> Option<bool> {
+    let state = state(alloc)?;
+    let copy = changed(alloc, &state)?;
+    is_read(alloc, &copy, row)
+}
+
+/// Whether the row is so in a state whose copy is changed.
+pub(crate) fn empty_row(alloc: Global, row: &str) -> Option<bool> {
+    let state = state(alloc)?;
+    let _copy = changed(alloc, &state)?;
+    is_read(alloc, &state, row)
 }
 
 #[test]
-fn a_copy_changes_by_itself(rt: HostRuntime) -> Result<(), Fail> {
-    let alloc = rt.alloc();
-    let state = state(alloc)?;
-    let mut copy = Box::new(alloc, copy_state(alloc, &state)?)?;
-    for row in CHANGES.lines() {
-        assert!(rt; is_changed(alloc, &mut copy, row)?, "{row}");
-    }
-    for row in CHANGED.lines() {
-        assert!(rt; is_read(alloc, &copy, row)?, "{row}");
-    }
-    for row in EMPTY.lines() {
-        assert!(rt; is_read(alloc, &state, row)?, "{row}");
-    }
-    Ok(())
+fn a_copy_changes_by_itself(rt: HostRuntime) {
+    check(&rt, rt.alloc(), Rows::Change, CHANGES);
+    check(&rt, rt.alloc(), Rows::Changed, CHANGED);
+    check(&rt, rt.alloc(), Rows::Empty, EMPTY);
 }
 
-fn feed(alloc: Global) -> Result<Feed, Fail> {
-    Ok(Feed {
-        choices: vec![in alloc; Choice::Branch(true), Choice::Took(Value::Int(5))]?,
+fn feed(alloc: Global) -> Option<Feed> {
+    Some(Feed {
+        choices: vec![in alloc; Choice::Branch(true), Choice::Took(Value::Int(5))].ok()?,
         next: 0,
         events: Vec::new(alloc),
     })
@@ -203,13 +222,21 @@ fn taken(feed: &mut Feed) -> &'static str {
     }
 }
 
+/// Whether the choices are of these kinds, and an event is recorded behind them.
+pub(crate) fn feed_row(alloc: Global, row: &str) -> Option<bool> {
+    let (first, second, third, fourth) = four(row, " ")?;
+    let mut feed = boxed(alloc, feed(alloc))?;
+    let kinds = [
+        taken(&mut feed),
+        taken(&mut feed),
+        taken(&mut feed),
+        taken(&mut feed),
+    ];
+    feed.record(Event::Branch(true)).ok()?;
+    Some(kinds == [first, second, third, fourth] && feed.events.len() == 1)
+}
+
 #[test]
-fn a_feed_gives_each_choice_once(rt: HostRuntime) -> Result<(), Fail> {
-    let mut feed = feed(rt.alloc())?;
-    for want in ["branch", "took", "none", "none"] {
-        assert_eq!(rt; taken(&mut feed), want);
-    }
-    feed.record(Event::Branch(true))?;
-    assert_eq!(rt; feed.events.len(), 1);
-    Ok(())
+fn a_feed_gives_each_choice_once(rt: HostRuntime) {
+    check(&rt, rt.alloc(), Rows::Feed, TAKEN);
 }

@@ -1,20 +1,18 @@
 // Values, keys and contents.
-use crate::numbers::parts;
+use crate::rows::{Rows, check, halves, three};
 use std::alloc::Global;
 use std::cmp::Ordering;
 use std::rc::Rc;
-use std::test::Fail;
 use vb_value::{Content, Frac, Key, KeyPart, PairFault, Ty, Value};
 
-/// Keys in ascending order: `#4` is a reference, and `.` ends the key.
+/// Keys, each below the other: `#4` is a reference, and `.` ends the key.
 const RISING: &str = "\
-.
--2 .
-3 .
-3 false .
-3 true .
-false .
-#4 .";
+. < -2 .
+-2 . < 3 .
+3 . < 3 false .
+3 false . < 3 true .
+3 true . < false .
+false . < #4 .";
 
 /// How many pairs stand in one line, and how many nodes that is.
 const LINES: &str = "\
@@ -30,94 +28,95 @@ const PAIRS: &str = "\
 1023 1023 4095
 1024 1023 over";
 
-fn number(text: &str) -> Result<u32, Fail> {
-    Ok(text.parse::<u32>().ok().ok_or("no number")?)
-}
-
-fn part(text: &str) -> Result<KeyPart, Fail> {
-    match text.as_bytes() {
-        b"true" => Ok(KeyPart::Bool(true)),
-        b"false" => Ok(KeyPart::Bool(false)),
+fn part(text: &str) -> Option<KeyPart> {
+    match text {
+        "true" => Some(KeyPart::Bool(true)),
+        "false" => Some(KeyPart::Bool(false)),
         _ => match text.strip_prefix('#') {
-            Some(at) => Ok(KeyPart::Ref(at.parse::<u64>().ok().ok_or("no reference")?)),
-            None => Ok(KeyPart::Int(text.parse::<i128>().ok().ok_or("no number")?)),
+            Some(at) => Some(KeyPart::Ref(at.parse::<u64>().ok()?)),
+            None => Some(KeyPart::Int(text.parse::<i128>().ok()?)),
         },
     }
 }
 
-fn key(alloc: Global, text: &str) -> Result<Key, Fail> {
+fn key(alloc: Global, text: &str) -> Option<Key> {
     let mut parts = Vec::new(alloc);
-    for word in text.split(' ').filter(|word| *word != ".") {
-        parts.push(part(word)?)?;
+    for word in text.split(' ') {
+        if word != "." {
+            parts.push(part(word)?).ok()?;
+        }
     }
-    Ok(Key { parts })
+    Some(Key { parts })
 }
 
 /// Whether the first key is below the second, which is equal to its clone.
-fn is_rising(alloc: Global, lower: &str, upper: &str) -> Result<bool, Fail> {
-    let lower = key(alloc, lower)?;
+fn is_below(lower: &Key, upper: &Key) -> Option<bool> {
+    let copy = upper.clone().ok()?;
+    Some(*upper == copy && lower.cmp(upper) == Ordering::Less)
+}
+
+pub(crate) fn rising_row(alloc: Global, row: &str) -> Option<bool> {
+    let (lower, upper) = halves(row, " < ")?;
     let upper = key(alloc, upper)?;
-    let order = lower.cmp(&upper);
-    Ok(upper == upper.clone()? && order == Ordering::Less)
+    is_below(&key(alloc, lower)?, &upper)
 }
 
 /// So many pairs in one line.
-fn line(alloc: Global, pairs: u32) -> Result<Content, Fail> {
+fn line(alloc: Global, pairs: u32) -> Option<Content> {
     let mut content = Content::Leaf(Value::Int(7));
     for _ in 0..pairs {
-        let unit = Rc::new(alloc, Content::Unit)?;
-        content = Content::Pair(Rc::new(alloc, content)?, unit);
+        let left = Rc::new(alloc, content).ok()?;
+        content = Content::Pair(left, Rc::new(alloc, Content::Unit).ok()?);
     }
-    Ok(content)
+    Some(content)
 }
 
 /// Whether there are so many nodes, in the content and in its copy, which is another than nothing.
-fn line_row(alloc: Global, row: &str) -> Result<bool, Fail> {
-    let (pairs, nodes) = parts(row, " ")?;
-    let (pairs, nodes) = (number(pairs)?, number(nodes)?);
-    let content = line(alloc, pairs)?;
-    let Ok(copy) = content.copy() else {
-        return Err("no memory")?;
-    };
-    Ok(content.same(&copy) && !content.same(&Content::Unit) && copy.nodes() == nodes)
+fn has_nodes(content: &Content, nodes: u32) -> Option<bool> {
+    let copy = content.copy().ok()?;
+    Some(content.same(&copy) && !content.same(&Content::Unit) && copy.nodes() == nodes)
 }
 
-fn pair_row(alloc: Global, row: &str) -> Result<bool, Fail> {
-    let (left, rest) = parts(row, " ")?;
-    let (right, want) = parts(rest, " ")?;
-    let (left, right) = (number(left)?, number(right)?);
+pub(crate) fn line_row(alloc: Global, row: &str) -> Option<bool> {
+    let (pairs, nodes) = halves(row, " ")?;
+    let nodes = nodes.parse::<u32>().ok()?;
+    has_nodes(&line(alloc, pairs.parse::<u32>().ok()?)?, nodes)
+}
+
+/// The nodes of the pair of two lines, or `over`.
+fn is_paired(alloc: Global, left: u32, right: u32, want: &str) -> Option<bool> {
     let left = line(alloc, left)?;
-    let right = line(alloc, right)?;
-    match Content::pair(alloc, left, right) {
-        Ok(pair) => Ok(want != "over" && pair.nodes() == number(want)?),
-        Err(fault) => Ok(want == "over" && fault == PairFault::Over),
+    match Content::pair(alloc, left, line(alloc, right)?) {
+        Ok(pair) => Some(pair.nodes() == want.parse::<u32>().ok()?),
+        Err(fault) => Some(want == "over" && fault == PairFault::Over),
     }
 }
 
+pub(crate) fn pair_row(alloc: Global, row: &str) -> Option<bool> {
+    let (left, right, want) = three(row)?;
+    is_paired(
+        alloc,
+        left.parse::<u32>().ok()?,
+        right.parse::<u32>().ok()?,
+        want,
+    )
+}
+
 #[test]
-fn each_type_has_its_default(rt: HostRuntime) -> Result<(), Fail> {
+fn each_type_has_its_default(rt: HostRuntime) {
     for ty in [Ty::Int, Ty::Bool, Ty::Ref, Ty::Perm] {
         assert_eq!(rt; Value::default_of(ty).ty(), ty);
     }
     assert_eq!(rt; Value::default_of(Ty::Perm), Value::Perm(Frac::none()));
-    Ok(())
 }
 
 #[test]
-fn keys_are_ordered_part_by_part(rt: HostRuntime) -> Result<(), Fail> {
-    for (lower, upper) in RISING.lines().zip(RISING.lines().skip(1)) {
-        assert!(rt; is_rising(rt.alloc(), lower, upper)?, "{lower} {upper}");
-    }
-    Ok(())
+fn keys_are_ordered_part_by_part(rt: HostRuntime) {
+    check(&rt, rt.alloc(), Rows::Rising, RISING);
 }
 
 #[test]
-fn contents_are_counted_and_paired_up_to_the_bound(rt: HostRuntime) -> Result<(), Fail> {
-    for row in LINES.lines() {
-        assert!(rt; line_row(rt.alloc(), row)?, "{row}");
-    }
-    for row in PAIRS.lines() {
-        assert!(rt; pair_row(rt.alloc(), row)?, "{row}");
-    }
-    Ok(())
+fn contents_are_counted_and_paired_up_to_the_bound(rt: HostRuntime) {
+    check(&rt, rt.alloc(), Rows::Line, LINES);
+    check(&rt, rt.alloc(), Rows::Pair, PAIRS);
 }
