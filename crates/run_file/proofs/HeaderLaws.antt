@@ -1,5 +1,5 @@
 -- The header of a file names one procedure, or goes wrong at one place.
-use Rattle.std.proofs.Common.{◌≡◌, ◌∙◌, ◌+◌, ◌<◌, ◌≤◌, ◌⊎◌, inl, inr, ◌==◌, ℕ, suc, Bool, true, false, not, cond, List, [], ◌∷◌, ◌++◌, length, take, drop, Option, Some, None, refl, sym, ap, subst, arith}
+use Rattle.std.proofs.Common.{◌≡◌, ◌∙◌, ◌+◌, ◌≤◌, ◌⊎◌, inl, inr, ◌==◌, ℕ, suc, Bool, true, false, not, cond, List, [], ◌∷◌, ◌++◌, length, take, drop, Option, Some, None, refl, sym, ap, subst, arith}
 use Rattle.std.specs.Prelude.{filter, map}
 use Rattle.std.proofs.lemmas.Bool.{cases_order}
 use Rattle.std.proofs.lemmas.List.Splits.{length-slice_split}
@@ -8,11 +8,11 @@ use Rattle.vb_base.specs.declared.places.Pos.{Pos}
 use Rattle.vb_base.proofs.Place.{same_pos}
 use Rattle.vb_base.proofs.PlaceLaws.{line_after-le}
 use Rattle.run_file.specs.Text.{lines_of, told, is_skipped, words_of}
-use Rattle.run_file.specs.Machine.{MayStand, WrongAt, bad_line, no_header}
-use Rattle.run_file.specs.BoogieRun.{header, SpellName, SpellsName, NamesNothingAt}
+use Rattle.run_file.specs.Machine.{bad_line, no_header}
+use Rattle.run_file.specs.BoogieRun.{SpellsName, NamesNothingAt}
 use Rattle.run_file.specs.BoogieProgress.{header_name}
 use Rattle.run_file.specs.BoogieView.{FirstSaid}
-use Rattle.run_file.proofs.BoogieNameLaws.{not_nothing, no_front, told_split, told_first, header_named, front_stands, no_may, early, never_wrong}
+use Rattle.run_file.proofs.BoogieNameLaws.{no_front, told_split, told_first, header_named, no_may, early, never_wrong}
 
 -- ---- the first line that is not skipped
 

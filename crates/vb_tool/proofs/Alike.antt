@@ -1,5 +1,5 @@
 -- The code of a method's statements ends as the statements do.
-use Rattle.std.proofs.Common.{◌≡◌, ◌<◌, ℕ, ℤ, Bool as Truth, true, false, if◌then◌else◌, List, [], ◌∷◌, map, slice_get, Some, refl, ap, subst}
+use Rattle.std.proofs.Common.{◌≡◌, ◌<◌, ℕ, ℤ, Bool as Truth, true, false, if◌then◌else◌, List, [], ◌∷◌, map, slice_get, Some, refl, subst}
 use Rattle.vb_base.specs.declared.labels.Label.{Label}
 use Rattle.vb_base.specs.declared.places.Pos.{Pos}
 use Rattle.vb_value.specs.Bound.{Unbounded}

@@ -1,6 +1,6 @@
 -- What a run file of Boogie spells can be run: each variable begins with a value of its type, fractions are in lowest terms,
 -- and numbers are within the bound.
-use Rattle.std.proofs.Common.{◌≡◌, ◌∙◌, ℕ, zero, suc, Bool as Truth, true, false, ◌&&◌, List, [], ◌∷◌, ◌++◌, map, All, AllPairs, IsTrue, Some, slice_get, slice_set, refl, sym, ap, subst, arith, if◌then◌else◌}
+use Rattle.std.proofs.Common.{◌≡◌, ◌∙◌, ℕ, Bool as Truth, true, false, ◌&&◌, List, [], ◌∷◌, ◌++◌, map, All, IsTrue, Some, slice_get, slice_set, refl, sym, ap, subst, arith, if◌then◌else◌}
 use Rattle.std.specs.Prelude.{⊤, fold}
 use Rattle.std.specs.List.{AllZip}
 use Rattle.std.specs.Map.{values_of}
@@ -18,8 +18,7 @@ use Rattle.boogie_tree.specs.declared.exprs.BBase.{BBase}
 use Rattle.boogie_tree.specs.declared.exprs.BBase.TheVariants as base
 use Rattle.boogie_meaning.specs.Decided.{Decides-same_base, Decides-fits_key}
 use Rattle.boogie_meaning.specs.Programs.{types_of, default_value, default_by}
-use Rattle.boogie_meaning.proofs.ValueLaws.{default_fits, empty_typed, set_typed}
-use Rattle.boogie_run.specs.Ready.{IsReady}
+use Rattle.boogie_meaning.proofs.ValueLaws.{empty_typed, set_typed}
 use Rattle.boogie_run.specs.Start.{with_settings, start_of, FitsSetting, CanRun}
 use Rattle.boogie_run.specs.Within.{IsWithinScalar, IsWithinValue, IsWithinEntry, IsWithinChoice}
 use Rattle.boogie_run.proofs.SettingLaws.{start_fits}

@@ -1,10 +1,9 @@
 -- What the stages of a replay refuse, and what they tell.
-use Rattle.std.proofs.Common.{◌≡◌, ◌∙◌, ◌+◌, ◌≤◌, ◌<◌, ℕ, ℤ, pos, Bool as Truth, not, cond, List, [], ◌∷◌, length, get_or, map, Option, Some, None, slice_get, refl, sym, ap, subst, arith}
+use Rattle.std.proofs.Common.{◌≡◌, ◌+◌, ◌≤◌, ℕ, ℤ, Bool as Truth, not, cond, List, [], ◌∷◌, length, get_or, map, Some, None, slice_get, refl, sym, ap, subst, arith}
 use Rattle.std.specs.List.{position, prefix_len}
 use Rattle.std.specs.Str.{bytes_eq}
 use Rattle.std.proofs.lemmas.Int.{ints}
 use Rattle.std.proofs.lemmas.List.{length-map}
-use Rattle.std.proofs.lemmas.List.Elements.{All-head}
 use Rattle.vb_value.specs.Bound.{IsWithin}
 use Rattle.boogie_tree.specs.Expr as t
 use Rattle.boogie_tree.specs.Program as p
@@ -21,7 +20,7 @@ use Rattle.boogie_grammar.specs.declared.faults.BoogieFault.TheVariants as fault
 use Rattle.boogie_text.specs.Answers.{IsRead, UnlessMemory}
 use Rattle.boogie_text.specs.Printable.{IsLiteral, FitsExpr, FitExprs, FitsStmt, FitStmts, FitsProc}
 use Rattle.boogie_text.proofs.SpelledLaws.{spelled_printable}
-use Rattle.boogie_run.specs.Start.{start_of, outcome_of, CanRun, IsWithinProgram}
+use Rattle.boogie_run.specs.Start.{start_of, outcome_of, IsWithinProgram}
 use Rattle.boogie_run.specs.Within.{IsWithinExpr, AreWithinExprs, IsWithinStmt, AreWithinStmts}
 use Rattle.boogie_run.specs.declared.replaying.BOutcome.{BOutcome}
 use Rattle.run_file.specs.BoogieRun.{NamesNothingAt, SpellsName, SpellsBoogieRun, GoesWrongAt}
@@ -30,10 +29,10 @@ use Rattle.run_file.specs.declared.runs.RunFileFault.{RunFileFault}
 use Rattle.run_file.specs.declared.runs.RunFileFault.TheVariants as run
 use Rattle.boogie_run.proofs.StartLaws.{is_there, proc_there}
 use Rattle.vb_tool.proofs.BoogieVerdicts.{all_at, named_within}
-use Rattle.vb_tool.specs.AcceptedReplay.{IsBoogie, NamesProcedure, AcceptsReplay, IsBoogieRefusal, prelude, deep, syntax, ill_typed, IsBoogieRunRefusal, header, no_procedure, run_syntax, IsReplayRefusal, of_text, of_run}
+use Rattle.vb_tool.specs.AcceptedReplay.{IsBoogie, NamesProcedure, IsBoogieRefusal, prelude, deep, syntax, ill_typed, header, no_procedure, run_syntax, IsReplayRefusal, of_text, of_run}
 use Rattle.vb_tool.specs.Converted.{trouble_of_boogie, trouble_of_run}
 use Rattle.vb_tool.specs.Parts.{ReplayOf}
-use Rattle.vb_tool.specs.Procedures.{procedure_named, ProcedureRun, procedure_end}
+use Rattle.vb_tool.specs.Procedures.{procedure_named, procedure_end}
 use Rattle.vb_tool.specs.ReplayOutcome.{replay_status, replay_text}
 use Rattle.vb_tool.specs.declared.status.Refusal.{Refusal}
 use Rattle.vb_tool.specs.declared.status.Refusal.TheVariants as refusal

@@ -1,5 +1,5 @@
 -- Two files are a run of a procedure of Boogie, or are refused for one reason.
-use Rattle.std.proofs.Common.{◌≡◌, ◌∙◌, ◌⊎◌, inl, inr, ◌<◌, ◌≤◌, ℕ, zero, suc, List, [], ◌∷◌, length, map, All, Option, Some, None, slice_get, refl, sym, ap, subst, arith}
+use Rattle.std.proofs.Common.{◌≡◌, ◌∙◌, ◌⊎◌, inl, inr, ◌<◌, ◌≤◌, ℕ, zero, suc, List, [], ◌∷◌, length, All, Option, Some, None, slice_get, refl, sym, ap, subst, arith}
 use Rattle.std.proofs.lemmas.Bool.{cases_lt}
 use Rattle.std.proofs.lemmas.List.Quantifiers.{position-Some}
 use Rattle.std.proofs.lemmas.Option.{slice_get_within, get_or_from_slice_get}
@@ -9,9 +9,9 @@ use Rattle.vb_base.specs.declared.places.Pos.{Pos}
 use Rattle.vb_value.specs.Bound.{Bounded}
 use Rattle.boogie_tree.specs.Program.{Proc, BProgram}
 use Rattle.boogie_tree.specs.Stmt.{skip}
-use Rattle.boogie_tree.specs.Value.{BValue, BChoice, BRun}
+use Rattle.boogie_tree.specs.Value.{BChoice, BRun}
 use Rattle.boogie_tree.specs.Values.{IsEnvironment, IsReducedChoice}
-use Rattle.boogie_meaning.specs.Programs.{types_of, brun_proc, IsTypedProgram, IsFirstIllTyped, first_ill_typed}
+use Rattle.boogie_meaning.specs.Programs.{types_of, IsTypedProgram, IsFirstIllTyped, first_ill_typed}
 use Rattle.boogie_meaning.specs.Run.{Run, Done, Stops, Failed, Blocked, Short, Over, Wrong}
 use Rattle.boogie_meaning.proofs.ProgramLaws.{is_first, is_first_back, no_ill_typed}
 use Rattle.boogie_meaning.proofs.RunTypedLaws as runs

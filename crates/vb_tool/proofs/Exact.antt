@@ -1,5 +1,5 @@
 -- Some run of a method's procedure fails at a label exactly when some run of the method does.
-use Rattle.std.proofs.Common.{◌≡◌, ◌∙◌, ◌<◌, ◌↔◌, ℕ, zero, suc, ℤ, Bool as Truth, true, false, List, [], ◌∷◌, map, length, Some, slice_get, refl, sym, ap, subst, arith}
+use Rattle.std.proofs.Common.{◌≡◌, ◌∙◌, ◌<◌, ◌↔◌, ℕ, zero, suc, ℤ, true, false, List, [], ◌∷◌, map, length, Some, slice_get, refl, sym, ap, subst, arith}
 use Rattle.std.specs.Prelude.{All}
 use Rattle.std.specs.Option.{option_map}
 use Rattle.std.proofs.lemmas.List.Elements.{All-nil, All-cons}
@@ -16,7 +16,7 @@ use Rattle.boogie_tree.specs.Value.{BScalar, Int, Bool, Ref, Real, Snap, BValue,
 use Rattle.boogie_meaning.specs.Programs.{types_of, brun_proc, BoogieFails}
 use Rattle.boogie_meaning.specs.Run.{Run, Done, Stops, Failed, then_run}
 use Rattle.boogie_tree.specs.Values.{plain_type, FitsScalar, IsOfType, one, many, IsEnvironment, IsReducedChoice}
-use Rattle.vb_tool.specs.Encoded.{procedure_name, local_of, front_locals, method_code, program_code}
+use Rattle.vb_tool.specs.Encoded.{procedure_name, local_of, method_code, program_code}
 use Rattle.vb_tool.proofs.Coupled.{local_value, IsCoupled}
 use Rattle.vb_tool.proofs.Alike as alike
 use Rattle.vb_tool.proofs.Alike.{HasInts, Alike, stmts_alike}

@@ -12,13 +12,13 @@ use Rattle.viper_core.specs.Program as p
 use Rattle.viper_core.specs.declared.programs.Unit as unit
 use Rattle.viper_core.specs.declared.programs.Unit.TheVariants as u
 use Rattle.viper_meaning.specs.Units.{ViperFails}
-use Rattle.boogie_tree.specs.Program.{BType, Local, Proc, BProgram}
+use Rattle.boogie_tree.specs.Program.{BType, Local, Proc}
 use Rattle.boogie_tree.specs.Stmt as s
 use Rattle.boogie_tree.specs.Values.{plain_type}
 use Rattle.boogie_tree.specs.Values as keys
 use Rattle.boogie_tree.specs.Nested.{expr_depth, stmts_depth, procs_depth}
 use Rattle.boogie_tree.specs.declared.exprs.BBase.TheVariants as base
-use Rattle.boogie_grammar.specs.Grammar.{local_names, proc_names}
+use Rattle.boogie_grammar.specs.Grammar.{proc_names}
 use Rattle.boogie_grammar.specs.Spells.{BSpells}
 use Rattle.boogie_text.specs.Printable.{IsFreeName, FitsExpr, FitStmts, FitsLocal, FitsProc, IsPrintable}
 use Rattle.boogie_text.proofs.NestedLaws.{shallow}
