@@ -1,7 +1,6 @@
 // One token at a time: whether the next one is of a kind, and what it holds.
 ghost use Rattle.std.specs.Prelude.{◌≡◌, ◌<◌, ◌↔◌, find, length, IsTrue, IfOk, IfSome, MatchOption};
 ghost use Rattle.std.specs.Str.{bytes_eq};
-ghost use Rattle.boogie_tree.specs.Values.{is_key};
 ghost use Rattle.boogie_tree.specs.declared.exprs.BBase.{BBase};
 ghost use Rattle.boogie_tree.specs.declared.exprs.BOp.{BOp};
 ghost use Rattle.boogie_grammar.specs.declared.tokens.BTok.TheVariants as tok;
@@ -12,7 +11,7 @@ ghost use Rattle.boogie_grammar.specs.Tests.{the_sign, the_word, the_name, a_num
 ghost use Rattle.boogie_grammar.specs.Words.{word_text, operator_tok};
 
 use crate::{BSign, BTok, BToken, Word};
-use boogie_tree::{BBase, BOp};
+use boogie_tree::{BBase, BOp, is_key};
 use grammar::Stop;
 use vb_base::{Ident, Label};
 
@@ -250,13 +249,6 @@ fn word_operator(bytes: &[u8]) -> Option<BOp>
     } else {
         None
     }
-}
-
-/// Whether keys may have a type.
-fn is_key(base: BBase) -> bool
-    ensures { result ≡ is_key base }
-{
-    matches!(base, BBase::Int | BBase::Bool | BBase::Ref)
 }
 
 /// A type of keys, which must be next, and the tokens after it.

@@ -19,13 +19,13 @@ ghost use Rattle.boogie_run.specs.View.{values_of, scope_of};
 ghost use Rattle.boogie_run.specs.Within.{IsWithinValue, IsWithinExpr, AreWithinExprs};
 
 use crate::eval_ends::{Answer, Miss};
-use crate::eval_keys::{fits, has_other, worse};
+use crate::eval_keys::{has_other, worse};
 use crate::eval_marked::mark;
 use crate::eval_operators::{combined, open, truth, truth_of};
 use crate::eval_sets::{KeySet, set_of};
 use crate::eval_unary::{Unary, applied, as_real, fraction, negated, paired};
 use crate::eval_values::{Scope, part_of, value_at, value_at_bound, variable};
-use boogie_tree::{BBase, BExpr, BScalar, BValue};
+use boogie_tree::{BBase, BExpr, BScalar, BValue, fits_key};
 use std::alloc::Global;
 use vb_base::Memory;
 use vb_value::{Content, Frac, Key};
@@ -178,7 +178,7 @@ fn at_key(
     ensures { (e : End Bool) → Answers (λ p. p) e end → Answers (λ p. p)
         (with_key bases.now (m.body_at Bounded (expr_of a.now) (values_of env.now)) key.now e) result }
 {
-    if !fits(bases, &key.parts) {
+    if !fits_key(bases, &key.parts) {
         return end;
     }
     worse(truth_of(eval(alloc, a, env, Scope::At(key))), end)

@@ -5,45 +5,15 @@ ghost use Rattle.std.specs.Prelude.{◌≡◌, ◌++◌, ◌∷◌, [], Bool, no
 ghost use Rattle.sparse.specs.Map.{keys};
 ghost use Rattle.boogie_meaning.specs.Decided as d;
 ghost use Rattle.boogie_meaning.specs.Ends.{End};
-ghost use Rattle.boogie_tree.specs.Values as m;
 ghost use Rattle.boogie_run.specs.Answers.{Answers};
-ghost use Rattle.boogie_run.specs.Searched.{IsSet};
+ghost use Rattle.boogie_run.specs.Searched.{IsSet, outnumbers};
 
-use crate::bases::are_keys;
 use crate::eval_ends::Miss;
 use crate::eval_sets::{KeySet, has};
-use boogie_tree::BBase;
+use boogie_tree::{BBase, are_keys};
 use std::alloc::Global;
 use vb_base::Memory;
 use vb_value::{Key, KeyPart};
-
-/// Whether an index has this type.
-fn is_of(part: KeyPart, base: BBase) -> bool
-    ensures { result ≡ m.same_base (m.base_of_part part) base }
-{
-    match part {
-        KeyPart::Int(_) => matches!(base, BBase::Int),
-        KeyPart::Bool(_) => matches!(base, BBase::Bool),
-        KeyPart::Ref(_) => matches!(base, BBase::Ref),
-    }
-}
-
-/// Whether a key has as many parts, each of its type.
-pub(crate) fn fits(bases: &[BBase], parts: &[KeyPart]) -> bool
-    ensures { result ≡ m.fits_key bases.now parts.now }
-{
-    let mut count = 0;
-    for base in bases {
-        let Some(part) = parts.get(count) else {
-            return false;
-        };
-        if !is_of(*part, *base) {
-            return false;
-        }
-        count += 1;
-    }
-    count == parts.len()
-}
 
 /// The key with one more part.
 fn extended(alloc: Global, front: &Key, part: KeyPart) -> Result<Key, Memory>
@@ -79,11 +49,28 @@ fn has_other_from(alloc: Global, front: &Key, bases: &[BBase], set: &KeySet) -> 
     }
 }
 
+/// Whether the choices of the bools among these types are more than so many.
+fn outnumbers(bases: &[BBase], count: usize) -> bool
+    ensures { result ≡ outnumbers bases.now count }
+{
+    let mut left = count;
+    for base in bases {
+        if *base == BBase::Bool {
+            left /= 2;
+        }
+    }
+    left == 0
+}
+
 /// Whether a key of these types is not in the set.
 pub(crate) fn has_other(alloc: Global, bases: &[BBase], set: &KeySet) -> Result<bool, Memory>
     requires { IsSet set.now }
     ensures { IfOk result (λ p. p ≡ d.has_other bases.now (keys set.now)) }
 {
+    if outnumbers(bases, set.len()) {
+        return Ok(are_keys(bases));
+    }
+    // So there are no more bools, and the calls are no deeper, than a logarithm of the set's length.
     let front = Key {
         parts: Vec::new(alloc),
     };

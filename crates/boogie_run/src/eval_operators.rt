@@ -10,14 +10,13 @@ ghost use Rattle.boogie_tree.specs.Value as v;
 ghost use Rattle.boogie_tree.specs.Whole.{scalar_of};
 ghost use Rattle.boogie_meaning.specs.Ends.{End, Is, then_with, fitting};
 ghost use Rattle.boogie_meaning.specs.Operators as o;
-ghost use Rattle.boogie_tree.specs.Values.{same_base, base_of_scalar};
 ghost use Rattle.boogie_run.specs.Answers.{Answers};
 ghost use Rattle.boogie_run.specs.Lazy as lazy;
 ghost use Rattle.boogie_run.specs.Operands.{operands, AreWithin, sum_in, difference_in, product_in, quotient_in, euclidean_in, order_in, same_in};
 ghost use Rattle.boogie_run.specs.Within.{IsWithinScalar};
 
 use crate::eval_ends::{Answer, Miss};
-use boogie_tree::{BOp, BScalar};
+use boogie_tree::{BOp, BScalar, base_of_scalar, same_base};
 use std::cmp::Ordering;
 use vb_value::{Frac, Over, int_add, int_div, int_mod, int_mul, int_sub};
 
@@ -184,23 +183,10 @@ fn order(operands: Operands) -> Result<Ordering, Miss>
 fn same(left: &BScalar, right: &BScalar) -> Result<bool, Miss>
     ensures { Answers (λ p. p) (same_in (scalar_of left.now) (scalar_of right.now)) result }
 {
-    if are_of_one_type(left, right) {
+    if same_base(base_of_scalar(left), base_of_scalar(right)) {
         Ok(left.same(right))
     } else {
         Err(Miss::Wrong)
-    }
-}
-
-fn are_of_one_type(left: &BScalar, right: &BScalar) -> bool
-    ensures { result ≡ same_base (base_of_scalar (scalar_of left.now)) (base_of_scalar (scalar_of right.now)) }
-{
-    match (left, right) {
-        (BScalar::Int(_), BScalar::Int(_)) => true,
-        (BScalar::Bool(_), BScalar::Bool(_)) => true,
-        (BScalar::Ref(_), BScalar::Ref(_)) => true,
-        (BScalar::Real(_), BScalar::Real(_)) => true,
-        (BScalar::Snap(_), BScalar::Snap(_)) => true,
-        _ => false,
     }
 }
 
@@ -218,10 +204,7 @@ fn same_truth(left: &BScalar, right: &BScalar) -> Answer
 pub(crate) fn truth_of(value: Answer) -> Result<bool, Miss>
     ensures { (e : End v.BScalar) → Answers scalar_of e value → Answers (λ p. p) (o.as_truth e) result }
 {
-    match value {
-        Ok(value) => truth_in(&value),
-        Err(miss) => Err(miss),
-    }
+    truth_in(&value?)
 }
 
 fn truth_in(value: &BScalar) -> Result<bool, Miss>
@@ -237,20 +220,14 @@ fn truth_in(value: &BScalar) -> Result<bool, Miss>
 pub(crate) fn truth(flag: Result<bool, Miss>) -> Answer
     ensures { (e : End Bool) → Answers (λ p. p) e flag → Answers scalar_of (o.as_bool e) result }
 {
-    match flag {
-        Ok(truth) => Ok(BScalar::Bool(truth)),
-        Err(miss) => Err(miss),
-    }
+    Ok(BScalar::Bool(flag?))
 }
 
 /// The opposite of a truth.
 fn untruth(flag: Result<bool, Miss>) -> Answer
     ensures { (e : End Bool) → Answers (λ p. p) e flag → Answers scalar_of (then_with e (λ p. Is (v.Bool (not p)))) result }
 {
-    match flag {
-        Ok(truth) => Ok(BScalar::Bool(!truth)),
-        Err(miss) => Err(miss),
-    }
+    Ok(BScalar::Bool(!flag?))
 }
 
 /// Whether the order is the one that a comparison looks for.
@@ -268,10 +245,7 @@ fn tests(op: BOp, order: Ordering) -> bool
 fn tested(op: BOp, order: Result<Ordering, Miss>) -> Answer
     ensures { (e : End Ordering) → Answers (λ n. n) e order → Answers scalar_of (lazy.tested op e) result }
 {
-    match order {
-        Ok(order) => Ok(BScalar::Bool(tests(op, order))),
-        Err(miss) => Err(miss),
-    }
+    Ok(BScalar::Bool(tests(op, order?)))
 }
 
 /// The value of an operator that looks at both sides.
@@ -363,8 +337,5 @@ pub(crate) fn combined(op: BOp, left: BScalar, right: Answer) -> Answer
     if is_lazy(op) {
         return truth(truth_of(right));
     }
-    match right {
-        Ok(right) => plain(op, &left, &right),
-        Err(miss) => Err(miss),
-    }
+    plain(op, &left, &right?)
 }

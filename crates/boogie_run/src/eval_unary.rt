@@ -58,10 +58,7 @@ pub(crate) fn negated(value: Answer) -> Answer
     requires { IfOk value (λ w. IsWithinScalar (scalar_of w)) }
     ensures { (e : End v.BScalar) → Answers scalar_of e value → Answers scalar_of (then_with e o.negative) result }
 {
-    match value {
-        Ok(value) => negative(value),
-        Err(miss) => Err(miss),
-    }
+    negative(value?)
 }
 
 fn real_from(value: BScalar) -> Answer
@@ -79,10 +76,7 @@ pub(crate) fn as_real(value: Answer) -> Answer
     requires { IfOk value (λ w. IsWithinScalar (scalar_of w)) }
     ensures { (e : End v.BScalar) → Answers scalar_of e value → Answers scalar_of (then_with e o.real_from) result }
 {
-    match value {
-        Ok(value) => real_from(value),
-        Err(miss) => Err(miss),
-    }
+    real_from(value?)
 }
 
 fn negation(value: BScalar) -> Answer
@@ -146,10 +140,7 @@ fn value_of(op: Unary, value: BScalar) -> Answer
 pub(crate) fn applied(op: Unary, value: Answer) -> Answer
     ensures { (e : End v.BScalar) → Answers scalar_of e value → Answers scalar_of (then_with e (unary_of op)) result }
 {
-    match value {
-        Ok(value) => value_of(op, value),
-        Err(miss) => Err(miss),
-    }
+    value_of(op, value?)
 }
 
 fn snap(value: BScalar) -> Result<Content, Miss>
@@ -175,19 +166,13 @@ fn pair(alloc: Global, left: Content, right: Content) -> Answer
 fn pair_with(alloc: Global, left: Content, right: BScalar) -> Answer
     ensures { Answers scalar_of (then_with (o.snap_of (scalar_of right)) (λ d. pair_in (content_of left) d)) result }
 {
-    match snap(right) {
-        Ok(right) => pair(alloc, left, right),
-        Err(miss) => Err(miss),
-    }
+    pair(alloc, left, snap(right)?)
 }
 
 fn pair_of(alloc: Global, left: BScalar, right: BScalar) -> Answer
     ensures { Answers scalar_of (o.pair_of Bounded (scalar_of left) (scalar_of right)) result }
 {
-    match snap(left) {
-        Ok(left) => pair_with(alloc, left, right),
-        Err(miss) => Err(miss),
-    }
+    pair_with(alloc, snap(left)?, right)
 }
 
 /// The value of a pair.
@@ -195,8 +180,5 @@ pub(crate) fn paired(alloc: Global, left: BScalar, right: Answer) -> Answer
     ensures { (e : End v.BScalar) → Answers scalar_of e right
         → Answers scalar_of (then_with e (λ w. o.pair_of Bounded (scalar_of left) w)) result }
 {
-    match right {
-        Ok(right) => pair_of(alloc, left, right),
-        Err(miss) => Err(miss),
-    }
+    pair_of(alloc, left, right?)
 }

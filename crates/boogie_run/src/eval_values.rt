@@ -92,19 +92,13 @@ fn default_in(map: &Sparse<Key, BScalar>) -> Answer
 fn value_at_key(env: &[BValue], number: usize, key: &Key) -> Answer
     ensures { Answers scalar_of (then_with (m.the_map (values_of env.now) number) (λ n. Is (get key_cmp n key.now))) result }
 {
-    match the_map(env, number) {
-        Ok(map) => value_in(map, key),
-        Err(miss) => Err(miss),
-    }
+    value_in(the_map(env, number)?, key)
 }
 
 fn default_at(env: &[BValue], number: usize) -> Answer
     ensures { Answers scalar_of (then_with (m.the_map (values_of env.now) number) (λ n. Is n.default)) result }
 {
-    match the_map(env, number) {
-        Ok(map) => default_in(map),
-        Err(miss) => Err(miss),
-    }
+    default_in(the_map(env, number)?)
 }
 
 /// The value of a map at the key that indices make.
@@ -112,10 +106,7 @@ pub(crate) fn value_at(env: &[BValue], number: usize, key: Result<Key, Miss>) ->
     ensures { (e : End v.Key) → Answers (λ k. k) e key
         → Answers scalar_of (then_with e (λ k. then_with (m.the_map (values_of env.now) number) (λ n. Is (get key_cmp n k)))) result }
 {
-    match key {
-        Ok(key) => value_at_key(env, number, &key),
-        Err(miss) => Err(miss),
-    }
+    value_at_key(env, number, &key?)
 }
 
 /// The value of a map at the bound names.
@@ -133,10 +124,8 @@ pub(crate) fn value_at_bound(env: &[BValue], number: usize, scope: Scope) -> Ans
 fn outside_at(env: &[BValue], number: usize) -> Answer
     ensures { Answers scalar_of (then_with (m.the_map (values_of env.now) number) (λ n. Wrong)) result }
 {
-    match the_map(env, number) {
-        Ok(_) => Err(Miss::Wrong),
-        Err(miss) => Err(miss),
-    }
+    the_map(env, number)?;
+    Err(Miss::Wrong)
 }
 
 fn part_in(value: &BScalar) -> Result<KeyPart, Miss>
@@ -156,8 +145,5 @@ pub(crate) fn part_of(value: Answer) -> Result<KeyPart, Miss>
     requires { IfOk value (λ w. IsWithinScalar (scalar_of w)) }
     ensures { (e : End v.BScalar) → Answers scalar_of e value → Answers (λ p. p) (then_with e part_of) result }
 {
-    match value {
-        Ok(value) => part_in(&value),
-        Err(miss) => Err(miss),
-    }
+    part_in(&value?)
 }

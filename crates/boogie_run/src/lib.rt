@@ -1,7 +1,6 @@
 //! Types of Boogie programs, and the runs of their procedures, as `boogie_meaning` defines them.
 #![tactic(auto)]
 
-mod bases;
 mod eval;
 mod eval_ends;
 mod eval_keys;

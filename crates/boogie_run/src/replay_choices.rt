@@ -13,14 +13,15 @@ ghost use Rattle.boogie_tree.specs.Values.{default_of, fits_key, same_base, base
 ghost use Rattle.boogie_run.specs.Runs.{Takes};
 ghost use Rattle.boogie_run.specs.View.{map_of, left_in};
 
-use crate::eval_keys::fits;
 use crate::replay_ends::{Halt, Stop};
 use crate::replay_values::{copied_scalar, set_at};
-use boogie_tree::{BBase, BChoice, BScalar, BType, BValue, Entry};
+use boogie_tree::{
+    BBase, BChoice, BScalar, BType, BValue, Entry, base_of_scalar, default_of, fits_key, same_base,
+};
 use sparse::Sparse;
 use std::alloc::Global;
 use vb_base::Memory;
-use vb_value::{Content, Frac, Key};
+use vb_value::Key;
 
 /// The choices of a run.
 #[derive(Clone, Copy)]
@@ -64,36 +65,11 @@ pub(crate) fn take_branch(feed: &mut Feed) -> Result<bool, Halt>
     }
 }
 
-/// The default of a type: 0, false, null, 0 or the content of nothing.
-pub(crate) fn default_of(base: BBase) -> BScalar
-    ensures { scalar_of result ≡ default_of base }
-{
-    match base {
-        BBase::Int => BScalar::Int(0),
-        BBase::Bool => BScalar::Bool(false),
-        BBase::Ref => BScalar::Ref(0),
-        BBase::Real => BScalar::Real(Frac::none()),
-        BBase::Snap => BScalar::Snap(Content::Unit),
-    }
-}
-
-fn is_of(value: &BScalar, base: BBase) -> bool
-    ensures { result ≡ same_base (base_of_scalar (scalar_of value.now)) base }
-{
-    match value {
-        BScalar::Int(_) => matches!(base, BBase::Int),
-        BScalar::Bool(_) => matches!(base, BBase::Bool),
-        BScalar::Ref(_) => matches!(base, BBase::Ref),
-        BScalar::Real(_) => matches!(base, BBase::Real),
-        BScalar::Snap(_) => matches!(base, BBase::Snap),
-    }
-}
-
 /// Whether an entry is of a map of this type.
 fn fits_entry(keys: &[BBase], base: BBase, entry: &Entry) -> bool
     ensures { result ≡ (fits_key keys.now (entry_of entry.now).key && same_base (base_of_scalar (entry_of entry.now).value) base) }
 {
-    fits(keys, &entry.key.parts) && is_of(&entry.value, base)
+    fits_key(keys, &entry.key.parts) && same_base(base_of_scalar(&entry.value), base)
 }
 
 /// Whether each entry is.
@@ -166,7 +142,7 @@ fn chosen_map(
 fn chosen_value(base: BBase, value: &BScalar) -> Result<Option<BValue>, Memory>
     ensures { IfOk result (λ w. option_map value_of w ≡ chosen_scalar base (scalar_of value.now)) }
 {
-    if !is_of(value, base) {
+    if !same_base(base_of_scalar(value), base) {
         return Ok(None);
     }
     Ok(Some(BValue::One(copied_scalar(value)?)))

@@ -36,10 +36,7 @@ use vb_value::Key;
 fn one_of(value: Answer) -> Result<BValue, Miss>
     ensures { (e : End v.BScalar) → Answers scalar_of e value → Answers value_of (q.one_of e) result }
 {
-    match value {
-        Ok(value) => Ok(BValue::One(value)),
-        Err(miss) => Err(miss),
-    }
+    Ok(BValue::One(value?))
 }
 
 /// The value of the right side of an assignment, which may be a whole map.
@@ -76,10 +73,7 @@ pub(crate) fn assign(
 fn map_copy(env: &[BValue], number: usize) -> Result<Sparse<Key, BScalar>, Miss>
     ensures { Answers map_of (w.the_map (values_of env.now) number) result }
 {
-    match the_map(env, number) {
-        Ok(map) => copy_of(map),
-        Err(miss) => Err(miss),
-    }
+    copy_of(the_map(env, number)?)
 }
 
 #[tactic(auto, using(crate::specs::Answers::is, crate::specs::Answers::over, crate::specs::Answers::wrong, crate::specs::Answers::no_memory))]

@@ -12,11 +12,11 @@ ghost use Rattle.boogie_run.specs.Typed.{types_in};
 ghost use Rattle.boogie_run.specs.View.{environment_of, left_in};
 ghost use Rattle.boogie_run.specs.Within.{AreWithinStmts};
 
-use crate::replay_choices::{Feed, default_of, empty_map};
+use crate::replay_choices::{Feed, empty_map};
 use crate::replay_ends::{Halt, Stop};
 use crate::replay_runs::run_block;
 use crate::replay_values::{Environment, copied_value};
-use boogie_tree::{BChoice, BProgram, BRun, BSetting, BType, BValue, Local, Proc};
+use boogie_tree::{BChoice, BProgram, BRun, BSetting, BType, BValue, Local, Proc, default_of};
 use std::alloc::Global;
 use vb_base::{Label, Memory};
 

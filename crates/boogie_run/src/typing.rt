@@ -1,15 +1,17 @@
 // The types of expressions and statements.
 ghost use Rattle.std.specs.Prelude.{◌≡◌, ◌↔◌, true, false, slice_get, map, None, IsOk, IfErr};
+ghost use Rattle.boogie_tree.specs.Expr as t;
 ghost use Rattle.boogie_tree.specs.Whole.{expr_of, exprs_of, stmt_of, stmts_of, type_of, proc_of, program_of};
 ghost use Rattle.boogie_tree.specs.declared.exprs.BBase.TheVariants as base;
-ghost use Rattle.boogie_tree.specs.Values.{same_bases, same_type};
+ghost use Rattle.boogie_tree.specs.Values.{same_type};
 ghost use Rattle.boogie_meaning.specs.Types as ty;
 ghost use Rattle.boogie_meaning.specs.Types.{then_some, base_of, bases_of};
 ghost use Rattle.boogie_meaning.specs.Programs.{IsTypedProgram, IsFirstIllTyped, have_keys, is_typed_proc, ill_typed_among};
 ghost use Rattle.boogie_run.specs.Typed.{types_in, bound_by, answer_at, choice_at, pair_at, are_bases, is_index, indexed_by, some_plain};
 
-use crate::bases::{are_keys, is_key, same_base};
-use boogie_tree::{BBase, BExpr, BOp, BProgram, BStmt, BType, Local, Proc};
+use boogie_tree::{
+    BBase, BExpr, BOp, BProgram, BStmt, BType, Local, Proc, are_keys, is_key, same_base, same_bases,
+};
 
 /// The type `then`, where the operand has the type that is wanted.
 fn given(wanted: BBase, then: BBase, operand: Option<BBase>) -> Option<BBase>
@@ -101,22 +103,13 @@ fn plain(locals: &[Local], number: usize) -> Option<BBase>
     }
 }
 
-fn same_bases(left: &[BBase], right: &[BBase]) -> bool
-    ensures { result ≡ same_bases left.now right.now }
+/// The type of the values of a map that the bound names index, inside a `forall`.
+fn bound(locals: &[Local], inside: bool, keys: &[BBase], number: usize) -> Option<BBase>
+    ensures { result ≡ base_of (types_in locals.now) (bound_by inside keys.now) (t.AtBound number) }
 {
-    match left {
-        [] => right.is_empty(),
-        [a, others @ ..] => match right {
-            [] => false,
-            [b, rest @ ..] => same_base(*a, *b) && same_bases(others, rest),
-        },
+    if !inside {
+        return None;
     }
-}
-
-/// The type of the values of a map that the bound names index.
-fn bound(locals: &[Local], number: usize, keys: &[BBase]) -> Option<BBase>
-    ensures { result ≡ then_some (slice_get (types_in locals.now) number) (λ l. ty.indexed l.keys l.base keys.now) }
-{
     let local = locals.get(number)?;
     if !local.ty.keys.is_empty() && same_bases(keys, &local.ty.keys) {
         Some(local.ty.base)
@@ -176,13 +169,7 @@ fn base_of(locals: &[Local], inside: bool, keys: &[BBase], e: &BExpr) -> Option<
             base_of(locals, inside, keys, b),
         ),
         BExpr::At(number, es) => at(locals, inside, keys, *number, es),
-        BExpr::AtBound(number) => {
-            if inside {
-                bound(locals, *number, keys)
-            } else {
-                None
-            }
-        }
+        BExpr::AtBound(number) => bound(locals, inside, keys, *number),
     }
 }
 

@@ -1,1 +1,2 @@
+mod BaseLaws
 pub mod WholeLaws

@@ -19,12 +19,12 @@ ghost use Rattle.run_file.specs.declared.boogie_reader.Stage.TheVariants as stag
 
 use crate::boogie_lines::{Line, Scope, line_of};
 use crate::boogie_names::header_name;
-use crate::boogie_values::{default_of, fits_entry, is_default};
+use crate::boogie_values::{fits_entry, is_default};
 use crate::memos::grown;
 use crate::names::Names;
 use crate::runs::RunFileFault;
 use crate::texts::{is_skipped, next_line};
-use boogie_tree::{BChoice, BRun, BScalar, BSetting, BValue, Entry, Local, Proc};
+use boogie_tree::{BChoice, BRun, BScalar, BSetting, BValue, Entry, Local, Proc, default_of};
 use sparse::Sparse;
 use std::alloc::Global;
 use std::collections::BTreeSet;

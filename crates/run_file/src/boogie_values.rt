@@ -12,10 +12,10 @@ use crate::contents::whole_content;
 use crate::lines::single;
 use crate::texts::next_word;
 use crate::values::{any_value, argument};
-use boogie_tree::{BBase, BScalar, BType, Entry};
+use boogie_tree::{BBase, BScalar, BType, Entry, base_of_scalar, default_of, fits_key};
 use std::alloc::Global;
 use vb_base::Memory;
-use vb_value::{Content, Frac, Key, KeyPart, Value};
+use vb_value::{Key, KeyPart, Value};
 
 /// The value that all the words of a line are: one word, or a content.
 pub(crate) fn scalar(alloc: Global, words: &[u8]) -> Result<Option<BScalar>, Memory>
@@ -110,40 +110,14 @@ fn part_of(word: &[u8]) -> Option<KeyPart>
 pub(crate) fn has_base(value: &BScalar, base: BBase) -> bool
     ensures { result ≡ bases.same_base (bases.base_of_scalar (scalar_of value.now)) base }
 {
-    base_of(value) == base
-}
-
-/// The type of a value.
-fn base_of(value: &BScalar) -> BBase
-    ensures { result ≡ bases.base_of_scalar (scalar_of value.now) }
-{
-    match value {
-        BScalar::Int(_) => BBase::Int,
-        BScalar::Bool(_) => BBase::Bool,
-        BScalar::Ref(_) => BBase::Ref,
-        BScalar::Real(_) => BBase::Real,
-        BScalar::Snap(_) => BBase::Snap,
-    }
-}
-
-/// The value of a variable of this type that nothing is said of.
-pub(crate) fn default_of(base: BBase) -> BScalar
-    ensures { scalar_of result ≡ bases.default_of base }
-{
-    match base {
-        BBase::Int => BScalar::Int(0),
-        BBase::Bool => BScalar::Bool(false),
-        BBase::Ref => BScalar::Ref(0),
-        BBase::Real => BScalar::Real(Frac::none()),
-        BBase::Snap => BScalar::Snap(Content::Unit),
-    }
+    base_of_scalar(value) == base
 }
 
 /// Whether a value is the default of its own type.
 pub(crate) fn is_default(value: &BScalar) -> bool
     ensures { result ≡ bases.is_default (scalar_of value.now) }
 {
-    *value == default_of(base_of(value))
+    *value == default_of(base_of_scalar(value))
 }
 
 /// Whether an entry is one of a map of this type.
@@ -151,26 +125,4 @@ pub(crate) fn fits_entry(ty: &BType, entry: &Entry) -> bool
     ensures { result ≡ fits_entry (record { keys = ty.now.keys.items; base = ty.now.base }) (entry_of entry.now) }
 {
     fits_key(&ty.keys, &entry.key.parts) && has_base(&entry.value, ty.base)
-}
-
-fn fits_key(types: &[BBase], parts: &[KeyPart]) -> bool
-    ensures { result ≡ bases.fits_key types.now parts.now }
-{
-    match types {
-        [ty, types @ ..] => match parts {
-            [part, parts @ ..] => base_of_part(*part) == *ty && fits_key(types, parts),
-            [] => false,
-        },
-        [] => parts.is_empty(),
-    }
-}
-
-fn base_of_part(part: KeyPart) -> BBase
-    ensures { result ≡ bases.base_of_part part }
-{
-    match part {
-        KeyPart::Int(_) => BBase::Int,
-        KeyPart::Bool(_) => BBase::Bool,
-        KeyPart::Ref(_) => BBase::Ref,
-    }
 }

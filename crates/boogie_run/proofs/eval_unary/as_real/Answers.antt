@@ -2,5 +2,5 @@ use Rattle.boogie_meaning.specs.Operators.{real_from}
 use Rattle.boogie_run.proofs.AnswerLaws.{answer_is, goes_then}
 use Rattle.boogie_run.proofs.eval_unary.as_real.Goals as goal
 
-pub returns-in-Ok : goal.returns-in-Ok
-returns-in-Ok c e h = goes_then real_from (answer_is c.in-Ok.is h) c.real_from.ensures
+pub returns : goal.returns
+returns c e h = goes_then real_from (answer_is c.in_ok-value.was h) c.real_from.ensures

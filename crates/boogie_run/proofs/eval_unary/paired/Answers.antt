@@ -4,5 +4,5 @@ use Rattle.boogie_meaning.specs.Operators.{pair_of}
 use Rattle.boogie_run.proofs.AnswerLaws.{answer_is, goes_then}
 use Rattle.boogie_run.proofs.eval_unary.paired.Goals as goal
 
-pub returns-in-Ok : goal.returns-in-Ok
-returns-in-Ok c e h = goes_then (λ w. pair_of Bounded (scalar_of c.args.left) w) (answer_is c.in-Ok.is h) c.pair_of.ensures
+pub returns : goal.returns
+returns c e h = goes_then (λ w. pair_of Bounded (scalar_of c.args.left) w) (answer_is c.in_ok-right.was h) c.pair_of.ensures

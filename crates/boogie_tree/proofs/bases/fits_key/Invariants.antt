@@ -1,7 +1,7 @@
 -- The types and parts that are left tell it.
 use Rattle.std.proofs.Common.{◌≡◌, ◌≤◌, length, drop}
 use Rattle.boogie_tree.specs.Values.{fits_key}
-use Rattle.boogie_run.proofs.eval_keys.fits.Given as goal
+use Rattle.boogie_tree.proofs.bases.fits_key.Given as goal
 
 abbrev pub invariant-loop-base : goal.invariant-loop-base
 invariant-loop-base l = record {
