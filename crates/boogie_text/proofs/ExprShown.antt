@@ -29,7 +29,7 @@ use Rattle.boogie_grammar.proofs.WrittenRows.{at_start, Ends, name_row, free_row
 use Rattle.boogie_grammar.proofs.NamingLaws.{either}
 use Rattle.boogie_text.specs.Printable.{IsLiteral, FitsExpr, FitExprs}
 use Rattle.boogie_text.proofs.Complete.{by_where, by_bound}
-use Rattle.boogie_text.proofs.FreshLaws.{free_is_new, free_form, bound_is_free, or_false_parts}
+use Rattle.boogie_text.proofs.FreshLaws.{free_form, free_parts, bound_is_free}
 use Rattle.boogie_text.proofs.VarLaws.{IsVar, some_is_free, head_of, tail_of}
 
 -- a text is cut into tokens that are derived from a rule, in front of anything that ends it
@@ -387,7 +387,7 @@ next_name x n ready chosen short =
     let all = x.taken ++ chosen in
     let m = free_number (length all) 0 all in
     let few : length all < 2 ^ 64 = let l = length-append x.taken chosen in let r = ready.short in omega (arith, l, r, short) in
-    let parts = or_false_parts (is_among (bound_name m) x.taken) (is_among (bound_name m) chosen) (sym (either (bound_name m) x.taken chosen) ∙ free_is_new all few) in
+    let parts = free_parts x.taken chosen (let r = ready.short in omega (arith, r, short)) in
     record {
       new = record { form = free_form all few; free = bound_is_free m; new = ready.avoids m parts.0 };
       other = parts.1;

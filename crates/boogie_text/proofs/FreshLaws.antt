@@ -1,5 +1,5 @@
 -- The name that is chosen for a bound variable is none of those that are taken.
-use Rattle.std.proofs.Common.{◌≡◌, ◌∙◌, refl, sym, ap, arith, ℕ, zero, suc, ◌+◌, ◌^◌, ◌<◌, ◌≤◌, Bool, true, false, ◌||◌, List, [], ◌∷◌, length, filter, if◌then◌else◌}
+use Rattle.std.proofs.Common.{◌≡◌, ◌∙◌, refl, sym, ap, arith, ℕ, zero, suc, ◌+◌, ◌^◌, ◌<◌, ◌≤◌, Bool, true, false, ◌||◌, List, [], ◌∷◌, ◌++◌, length, length-append, filter, if◌then◌else◌}
 use Rattle.std.specs.Str.{bytes_eq}
 use Rattle.std.proofs.lemmas.Slice.Eq.{bytes_eq-Decides}
 use Rattle.std.proofs.lemmas.Fmt.{decimal_injective}
@@ -7,6 +7,7 @@ use Rattle.std.proofs.lemmas.Bool.{or_left, or_right, or_from, both_ways}
 use Rattle.vb_base.specs.Names.{is_name}
 use Rattle.boogie_grammar.specs.Words.{is_among, is_reserved}
 use Rattle.boogie_grammar.specs.Printed.{bound_name, free_number, free_name, is_q}
+use Rattle.boogie_grammar.proofs.NamingLaws.{either}
 use Rattle.boogie_grammar.proofs.WrittenRows.{bound_form}
 
 same_bytes : (x y : List ℕ) → bytes_eq x y ≡ true → x ≡ y
@@ -100,15 +101,29 @@ free_form all small = bound_form (free_number (length all) 0 all) (let h = free_
 pub bound_is_free : (n : ℕ) → is_reserved (bound_name n) ≡ false
 bound_is_free n = refl
 
+pub or_false_parts : (a b : Bool) → (a || b) ≡ false → (a ≡ false) × (b ≡ false)
+or_false_parts true b h = absurd (cc)
+or_false_parts false b h = (refl, h)
+
+pub free_parts : (taken chosen : List (List ℕ)) → length taken + length chosen < 2 ^ 64 → (is_among (free_name (taken ++ chosen)) taken ≡ false) × (is_among (free_name (taken ++ chosen)) chosen ≡ false)
+free_parts taken chosen few =
+    let q = free_name (taken ++ chosen) in
+    let l = length-append taken chosen in
+    or_false_parts (is_among q taken) (is_among q chosen) (sym (either q taken chosen) ∙ free_is_new (taken ++ chosen) (omega (arith, l, few)))
+
 -- the names that are looked at are all that matter
+
+fewer_at : (b : Bool) (n : ℕ) (x : List ℕ) (xs : List (List ℕ)) → length xs ≤ n → length (if b then (x ∷ xs) else xs) ≤ suc n
+fewer_at true n x xs le = omega (arith, le)
+fewer_at false n x xs le = omega (arith, le)
+
+pub fewer : (names : List (List ℕ)) → length (filter is_q names) ≤ length names
+fewer [] = omega arith
+fewer (x ∷ xs) = fewer_at (is_q x) (length xs) x (filter is_q xs) (fewer xs)
 
 differ_from_q : (b c : Bool) (n : ℕ) (y : List ℕ) → bytes_eq (bound_name n) y ≡ b → is_q y ≡ c → c ≡ false → b ≡ false
 differ_from_q true c n y e f g = absurd (let same = same_bytes (bound_name n) y e in let q : is_q y ≡ true = ap is_q (sym same) in both_ways (is_q y) (f ∙ g) q)
 differ_from_q false c n y e f g = refl
-
-pub or_false_parts : (a b : Bool) → (a || b) ≡ false → (a ≡ false) × (b ≡ false)
-or_false_parts true b h = absurd (cc)
-or_false_parts false b h = (refl, h)
 
 avoided_at : (n : ℕ) (y : List ℕ) (qs : List (List ℕ)) (among : Bool) (c : Bool) → is_q y ≡ c → is_among (bound_name n) (if c then y ∷ qs else qs) ≡ false →
     (is_among (bound_name n) qs ≡ false → among ≡ false) → (bytes_eq (bound_name n) y || among) ≡ false

@@ -3,6 +3,7 @@ pub mod AlikeLaws
 pub mod PrintLaws
 pub mod PutLaws
 pub mod FreshLaws
+pub mod BinderLaws
 pub mod VarLaws
 pub mod ExprShown
 pub mod ProgramShown

@@ -1,5 +1,5 @@
 -- What is written for a program spells it.
-use Rattle.std.proofs.Common.{◌≡◌, refl, sym, ap, subst, arith, ℕ, suc, ◌^◌, ◌<◌, ◌≤◌, Bool as Truth, true, false, List, [], ◌∷◌, ◌++◌, length, filter, codes, append_assoc, append-nil, if◌then◌else◌}
+use Rattle.std.proofs.Common.{◌≡◌, refl, sym, ap, subst, arith, ℕ, suc, ◌^◌, ◌<◌, Bool as Truth, true, false, List, [], ◌∷◌, ◌++◌, length, codes, append_assoc, append-nil}
 use Rattle.std.specs.Prelude.{All, ⊤}
 use Rattle.std.specs.List.{prefix_len}
 use Rattle.std.proofs.lemmas.List.{map-append}
@@ -23,11 +23,11 @@ use Rattle.boogie_grammar.specs.Grammar as g
 use Rattle.boogie_grammar.specs.Grammar.{Rule, give, need, when, read, rule, rules, local_names, proc_names}
 use Rattle.boogie_grammar.specs.Cut.{IsRow}
 use Rattle.boogie_grammar.specs.Cut as cut
-use Rattle.boogie_grammar.specs.Printed.{naming, name_at, is_q, base_text, expr_text, exprs_text, stmt_text, stmts_text, bases_text, type_text, locals_text, proc_text, procs_text, program_text}
+use Rattle.boogie_grammar.specs.Printed.{naming, name_at, base_text, expr_text, exprs_text, stmt_text, stmts_text, bases_text, type_text, locals_text, proc_text, procs_text, program_text}
 use Rattle.boogie_grammar.specs.Spells.{BSpells}
 use Rattle.boogie_grammar.proofs.WrittenRows.{at_start, Ends, name_row, free_row, blank_row, line_row, open_row, close_row, bracket_row, end_row, begin_row, finish_row, comma_row, semicolon_row, star_row, colon_row, mark_row, assign_row, text_row}
 use Rattle.boogie_text.specs.Printable.{IsFreeName, FitsStmt, FitStmts, FitsLocal, FitsProc, IsPrintable}
-use Rattle.boogie_text.proofs.FreshLaws.{avoided}
+use Rattle.boogie_text.proofs.FreshLaws.{avoided, fewer}
 use Rattle.boogie_text.proofs.VarLaws.{IsVar, some_is_free, var_at, new_after, head_of, tail_of}
 use Rattle.boogie_text.proofs.ExprShown.{Shown, Listed, Ready, Short, Shorts, sign_first, sign_taken, word_first, word_taken, tail_derives, where_yes, ends, value_at, list_of, list_exprs, base_row, expr_shown, listed_shown, all_cons, all_none}
 
@@ -327,14 +327,6 @@ names_free (l ∷ ls) fit = all_cons IsFreeName l.name (local_names ls) (head_of
 same_number : (ls : List Local) → length (local_names ls) ≡ length ls
 same_number [] = refl
 same_number (l ∷ ls) = ap suc (same_number ls)
-
-fewer_at : (b : Truth) (n : ℕ) (x : List ℕ) (xs : List (List ℕ)) → length xs ≤ n → length (if b then (x ∷ xs) else xs) ≤ suc n
-fewer_at true n x xs le = omega (arith, le)
-fewer_at false n x xs le = omega (arith, le)
-
-fewer : (names : List (List ℕ)) → length (filter is_q names) ≤ length names
-fewer [] = omega arith
-fewer (x ∷ xs) = fewer_at (is_q x) (length xs) x (filter is_q xs) (fewer xs)
 
 locals_ready : (ls : List Local) → All FitsLocal ls → NamesDiffer (local_names ls) → length ls < 2 ^ 63 → Ready (naming (local_names ls)) (length ls)
 locals_ready ls fit differ short = record {

@@ -1,5 +1,5 @@
 -- What calls that write one after the other have written together.
-use Rattle.std.proofs.Common.{◌≡◌, ◌∙◌, ◌++◌, ◌<◌, ◌≤◌, ◌+◌, refl, sym, ap, ℕ, suc, List, [], ◌∷◌, length, get_or, drop, codes, add-one, append_assoc, drop-cons}
+use Rattle.std.proofs.Common.{◌≡◌, ◌∙◌, ◌++◌, ◌<◌, ◌≤◌, ◌+◌, sym, ap, ℕ, suc, List, [], ◌∷◌, length, get_or, drop, codes, add-one, append_assoc, drop-cons}
 use Rattle.std.proofs.lemmas.List.{append-nil, at_drop_all}
 use Rattle.boogie_tree.specs.declared.exprs.BBase.{BBase}
 use Rattle.boogie_tree.specs.Expr as t

@@ -16,8 +16,8 @@ mod stmts;
 mod types;
 
 pub use laws::{
-    brackets_are_nested, not_refused, one_fault, one_place, one_program, one_tree, some_answer,
-    some_text_answer, spelled_is_printable,
+    bound_names_are_fresh, brackets_are_nested, not_refused, one_fault, one_place, one_program,
+    one_tree, some_answer, some_text_answer, spelled_is_printable,
 };
 pub use printer::print;
 pub use reader::read;

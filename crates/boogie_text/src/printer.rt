@@ -17,10 +17,12 @@ use std::alloc::Global;
 use vb_base::{Label, Memory, label_text};
 
 /// The text of a program: the prelude, and then a line for each local, statement and bracket of a block. It spells the
-/// program. A bound variable is written as `q` and a number, and no local has that name.
+/// program. A bound variable is written as `q` and a number, the least that makes it the name of no local and of none
+/// before it in its `forall`.
 pub fn print(alloc: Global, program: &BProgram) -> Result<Vec<u8>, Memory>
     requires { IsPrintable (b.program_of program.now) }
-    ensures { IfOk result (λ bytes. BSpells bytes.items (b.program_of program.now)) }
+    ensures text { IfOk result (λ bytes. bytes.items ≡ text.program_text (b.program_of program.now)) }
+    ensures spells { IfOk result (λ bytes. BSpells bytes.items (b.program_of program.now)) }
 {
     whole_text(alloc, program)
 }

@@ -9,7 +9,7 @@ if_ok : {A E : Type 0} {P : A → Type 0} (r : Result A E) (Q : A → Type 0) �
 if_ok (Ok x) Q f h = f x h
 if_ok (Err e) Q f h = h
 
-pub returns : goal.returns
-returns c =
+pub returns-clause-spells : goal.returns-clause-spells
+returns-clause-spells c =
     let spelled = program_spelled (b.program_of c.args.program.now) c.requires (short_procs c.args.program.now.procs.items) in
     if_ok c.whole_text.result _ (λ bytes e. subst (λ text. BSpells text (b.program_of c.args.program.now)) (sym e) spelled) c.whole_text.ensures

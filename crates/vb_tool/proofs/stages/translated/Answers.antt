@@ -31,7 +31,7 @@ print-requires c =
 pub returns-clause-text : goal.returns-clause-text
 returns-clause-text c =
     let straight = sym c.in_ok-program.ensures ∙ ap (option_map v.program_of) c.in-Some.is in
-    let spelled = subst (BSpells c.in_ok-print.field-0.items) c.in_ok-boogie.ensures c.in_ok-print.ensures in
+    let spelled = subst (BSpells c.in_ok-print.field-0.items) c.in_ok-boogie.ensures c.in_ok-print.ensures.spells in
     record {
       program = core.program_of c.in_ok-typed.typed;
       accepted = record { accepted = c.in_ok-typed.ensures.accepted; straight = v.program_of c.in-Some.program; is_straight = straight };
