@@ -1,5 +1,4 @@
--- To produce a body from what it contains is to produce it: the same end, whatever is held. So an instance that is unfolded
--- gives back what was folded.
+-- To produce a body from what it contains is to produce it: the same end, whatever is held.
 use Rattle.std.proofs.Common.{◌≡◌, refl, sym, ap, ◌∙◌, subst, ℕ, zero, suc, Bool, true, false, not, Option, Some, None, List, [], ◌∷◌, ◌++◌, ◌==◌, All, IfSome, slice_get, slice_set, if◌then◌else◌}
 use Rattle.std.proofs.lemmas.Bool.{true≢false}
 use Rattle.std.specs.Option.{option_map}
@@ -36,6 +35,7 @@ use Rattle.viper_meaning.specs.Places.{read_field, key_of, added, unit_of, pair_
 use Rattle.viper_meaning.specs.Assertions.{more_held, given_to, produce_amount, produce}
 use Rattle.viper_meaning.proofs.PartLaws.{some_from_positive, positive_from_some}
 use Rattle.viper_meaning.proofs.ContentLaws.{then_has}
+use Rattle.viper_meaning.proofs.HeldKeptLaws.{Stays}
 use Rattle.viper_meaning.specs.Produced.{IsProduced}
 use Rattle.viper_meaning.specs.Run.{Run, ended, goes, before, evaluating, then_do}
 use Rattle.viper_meaning.specs.Resource.{Resource, Place, Instance, held_at, with_held, is_null, is_too_much}
@@ -258,9 +258,6 @@ module _ (b : Bound) (sc : Scene) (k : Fraction) (at : Pos) (s u : State) (heap 
       signs false false i e = rw (i, e) (instance_filled p key q c (some_there (Instance p key) q c h i e))
 
 -- ---- what is given changes neither heap nor contents
-
-abbrev Stays : State → State → Type 0
-Stays s t = (t.heap ≡ s.heap) × (t.content ≡ s.content)
 
 not_blocked : {X : Type 0} (b : Bool) (e : Evaluated X) (x : X) → Has x (unless b blocks e) → Has x e
 not_blocked true e x h = cc

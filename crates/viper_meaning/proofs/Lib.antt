@@ -10,6 +10,8 @@ pub mod VariableLaws
 pub mod SignLaws
 pub mod TypedLaws
 pub mod RunLaws
+pub mod ThenLaws
+pub mod ClauseLaws
 pub mod RunBoundLaws
 pub mod RunKeptLaws
 pub mod ForgetLaws
@@ -33,10 +35,14 @@ pub mod SatLaws
 pub mod StatementKeptLaws
 pub mod FormedLiterals
 pub mod StateKeptLaws
+pub mod HeldKeptLaws
 pub mod ShapeLaws
 pub mod ContentLaws
+pub mod QuietLaws
 pub mod StatementBoundLaws
 pub mod StatementSignLaws
+pub mod LeftLaws
+pub mod WholeLaws
 pub mod StatementFitsLaws
 pub mod FreshLaws
 pub mod InverseLaws

@@ -84,7 +84,7 @@ turned Less h = refl
 turned Equal h = absurd (true≢false (sym h))
 turned Greater h = absurd (true≢false (sym h))
 
-less_is_enough : (held q : Fraction) → is_lt (order q held) ≡ true → is_lt (order held q) ≡ false
+pub less_is_enough : (held q : Fraction) → is_lt (order q held) ≡ true → is_lt (order held q) ≡ false
 less_is_enough held q h = ap is_lt (order_antisymm held q) ∙ turned (order q held) h
 
 some_taken_sign : (b : Bound) (x : Resource) (at : Pos) (left : State) (held q : Fraction) → IsNonnegative left → Keeps IsAny IsNonnegative (some_taken_from b x at left held q)

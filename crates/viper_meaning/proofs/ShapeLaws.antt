@@ -1,5 +1,5 @@
 -- A state that has the maps of the program keeps them, in every run.
-use Rattle.std.proofs.Common.{◌≡◌, refl, ap, ℕ, zero, suc, Bool, true, false, not, Option, Some, None, List, [], ◌∷◌, IfSome, length, if◌then◌else◌}
+use Rattle.std.proofs.Common.{◌≡◌, refl, ap, ℕ, ◌==◌, zero, suc, Bool, true, false, not, Option, Some, None, List, [], ◌∷◌, IfSome, length, if◌then◌else◌}
 use Rattle.std.specs.Ordering.{nat_cmp, is_lt}
 use Rattle.std.specs.declared.cmp.Ordering.{Ordering}
 use Rattle.sparse.specs.Map.{Map}
@@ -7,7 +7,7 @@ use Rattle.vb_base.specs.declared.labels.Kind.TheVariants as kind
 use Rattle.vb_base.specs.declared.places.Pos.{Pos}
 use Rattle.vb_value.specs.Bound.{Bound}
 use Rattle.vb_value.specs.Content.{Content, same_content}
-use Rattle.vb_value.specs.Fraction.{Fraction, is_negative, is_positive, is_none, is_above_one, product, order, fits_product, fits_order, write}
+use Rattle.vb_value.specs.Fraction.{Fraction, is_negative, is_positive, is_none, is_above_one, order, fits_order, write}
 use Rattle.vb_value.specs.Key.{key_cmp}
 use Rattle.vb_value.specs.Layout.{Layout}
 use Rattle.vb_value.specs.Value.{value_eq}
@@ -25,21 +25,20 @@ use Rattle.viper_state.specs.Run.{Opening, Scene, with_variables}
 use Rattle.viper_state.specs.State.{Key, Memo, State, value_at, mask_at, content_at, amount_at, empty_state}
 use Rattle.viper_state.proofs.FitsTestLaws.{Decides-fits_memo}
 use Rattle.viper_state.proofs.ShapeLaws.{memo_has_maps, with_value_has_maps, with_mask_has_maps, with_content_has_maps, with_amount_has_maps, empty_state_has_maps}
-use Rattle.viper_meaning.specs.Assertions.{place_in, instance_in, more_held, given_to, produce_amount, produce, rest_of, taken_from, something_held, some_taken_from, consume_amount, consume}
+use Rattle.viper_meaning.specs.Assertions.{produce, consume}
 use Rattle.viper_meaning.specs.Contents.{content_in, body_of, positive_amount, closed, is_small, fold_instance, unfold_instance}
 use Rattle.viper_meaning.specs.Ends.{Evaluated, found, then_with, is, fitting}
 use Rattle.viper_meaning.specs.Forgotten.{forgotten_maps, forgotten, memo_in, forget}
 use Rattle.viper_meaning.specs.Kept.{IsAny, Keeps}
 use Rattle.viper_meaning.specs.KeptRuns.{KeepsRun, at_end}
 use Rattle.viper_meaning.specs.Places.{key_of, taken, unit_of, pair_of, leaf_for, added, written, contained, fill_leaf, fill_place, fill_held, fill_instance}
-use Rattle.viper_meaning.specs.Resource.{Resource, Place, Instance, held_at, with_held, is_null, is_too_much}
-use Rattle.viper_meaning.specs.Run.{Run, taking_amount, amount_in}
+use Rattle.viper_meaning.specs.Resource.{Resource, Place, Instance, with_held}
 use Rattle.viper_meaning.specs.Statements.{Configuration, Activation, produce_all, consume_all, exhale_all, created, called, run_stmt, run_block}
 use Rattle.viper_meaning.specs.Units.{unit_run}
-use Rattle.viper_meaning.specs.Value.{as_truth, as_ref, as_key, value, values, amount_of, opened, truth_in, perm_in}
-use Rattle.viper_meaning.proofs.ClosedLaws.{any_found}
+use Rattle.viper_meaning.specs.Value.{as_truth, as_ref, as_key, value, values, amount_of, opened, perm_in}
+use Rattle.viper_meaning.proofs.HeldKeptLaws.{produce_keeps, consume_keeps}
 use Rattle.viper_meaning.proofs.KeptLaws.{is_kept, fails_kept, blocks_kept, then_kept, unless_kept, if_kept}
-use Rattle.viper_meaning.proofs.RunKeptLaws.{before_kept, then_do_kept, taking_kept, if_run_kept}
+use Rattle.viper_meaning.proofs.RunKeptLaws.{before_kept, then_do_kept, taking_kept}
 use Rattle.viper_meaning.proofs.SignLaws.{any_events, after_any}
 use Rattle.viper_meaning.proofs.StateKeptLaws as k
 use Rattle.viper_meaning.proofs.StateKeptLaws.{IsKeptByRuns, OfState, then_any}
@@ -48,61 +47,17 @@ module _ (l : Layout) where
   abbrev Shaped : Evaluated State → Type 0
   Shaped e = Keeps IsAny (HasMaps l) e
 
-  abbrev ShapedRun : Run State → Type 0
-  ShapedRun r = KeepsRun IsAny IsAny (HasMaps l) r
-
   pub with_held_has_maps : {s : State} → HasMaps l s → (x : Resource) (q : Fraction) → HasMaps l (with_held s x q)
   with_held_has_maps h (Place f r) q = with_mask_has_maps h f r q
   with_held_has_maps h (Instance p key) q = with_amount_has_maps h p key q
 
-  chosen_any : {go : Fraction → Run State} → ((q : Fraction) → ShapedRun (go q)) → ShapedRun (taking_amount go)
-  chosen_any g = taking_kept {Q = IsAny} amount_in (λ c u. any_found (amount_in c)) (λ q u. before_kept (event.Wild q ∷ []) (any_events (event.Wild q ∷ [])) (g q))
-
-  -- ---- producing
-
-  more_held_shape : (b : Bound) (k : Fraction) (x : Resource) (at : Pos) (s : State) (q : Fraction) → HasMaps l s → Shaped (more_held b k x at s q)
-  more_held_shape b k x at s q h =
-      unless_kept (is_null x) blocks_kept (after_any (found (held_at s x)) (λ held. after_any (added b held k q at) (λ all. unless_kept (is_too_much x all) blocks_kept (is_kept (with_held_has_maps h x all)))))
-
-  given_to_shape : (b : Bound) (sc : Scene) (k : Fraction) (x : Resource) (at : Pos) (s : State) (q : Fraction) → HasMaps l s → Shaped (given_to b sc k x at s q)
-  given_to_shape b sc k x at s q h = unless_kept (is_negative q) (fails_kept sc at kind.Negative) (if_kept (is_none q) (is_kept h) (more_held_shape b k x at s q h))
-
-  produce_amount_shape : (b : Bound) (m : t.Amt) (sc : Scene) (k : Fraction) (at : Pos) (s : State) (x : Resource) → HasMaps l s → ShapedRun (produce_amount b m sc k at s x)
-  produce_amount_shape b (t.Is e) sc k at s x h = at_end (after_any (perm_in b e s sc) (λ q. given_to_shape b sc k x at s q h))
-  produce_amount_shape b t.Wildcard sc k at s x h = chosen_any (λ q. at_end (unless_kept (not (is_positive q)) blocks_kept (more_held_shape b k x at s q h)))
+  -- ---- producing and consuming
 
   pub produce_shape : (b : Bound) (a : t.Assertion) (sc : Scene) (k : Fraction) (s : State) → HasMaps l s → KeepsRun IsAny IsAny (HasMaps l) (produce b a sc k s)
-  produce_shape b (t.Fact e at) sc k s h = at_end (after_any (truth_in b e s sc) (λ holds. if_kept holds (is_kept h) blocks_kept))
-  produce_shape b (t.Acc e f m at) sc k s h = then_any (place_in b e f s sc) (λ x. produce_amount_shape b m sc k at s x h)
-  produce_shape b (t.Inst p args m at) sc k s h = then_any (instance_in b p args s sc) (λ x. produce_amount_shape b m sc k at s x h)
-  produce_shape b (t.And x y) sc k s h = then_do_kept (produce_shape b x sc k s h) (λ u i. produce_shape b y sc k u i)
-  produce_shape b (t.Implies e x) sc k s h = then_any (truth_in b e s sc) (λ holds. if_run_kept holds (produce_shape b x sc k s h) (at_end (is_kept h)))
-  produce_shape b (t.ChooseAssertion e x y) sc k s h = then_any (truth_in b e s sc) (λ holds. if_run_kept holds (produce_shape b x sc k s h) (produce_shape b y sc k s h))
-
-  -- ---- consuming
-
-  taken_from_shape : (b : Bound) (sc : Scene) (k : Fraction) (x : Resource) (at : Pos) (left : State) (q : Fraction) → HasMaps l left → Shaped (taken_from b sc k x at left q)
-  taken_from_shape b sc k x at left q h =
-      unless_kept (is_negative q) (fails_kept sc at kind.Negative) (after_any (found (held_at left x)) (λ held. after_any (fitting b (fits_product k q) at (product k q)) (λ some.
-      after_any (rest_of b sc at held some) (λ rest. is_kept (with_held_has_maps h x rest)))))
-
-  some_taken_shape : (b : Bound) (x : Resource) (at : Pos) (left : State) (held q : Fraction) → HasMaps l left → Shaped (some_taken_from b x at left held q)
-  some_taken_shape b x at left held q h =
-      unless_kept (not (is_positive q)) blocks_kept (after_any (fitting b (fits_order q held) at (is_lt (order q held))) (λ less. unless_kept (not less) blocks_kept (
-      after_any _ (λ rest. is_kept (with_held_has_maps h x rest)))))
-
-  consume_amount_shape : (b : Bound) (m : t.Amt) (start : State) (sc : Scene) (k : Fraction) (at : Pos) (left : State) (x : Resource) → HasMaps l left → ShapedRun (consume_amount b m start sc k at left x)
-  consume_amount_shape b (t.Is e) start sc k at left x h = at_end (after_any (perm_in b e start sc) (λ q. taken_from_shape b sc k x at left q h))
-  consume_amount_shape b t.Wildcard start sc k at left x h = then_any (something_held sc x at left) (λ held. chosen_any (λ q. at_end (some_taken_shape b x at left held q h)))
+  produce_shape b a sc k s h = produce_keeps b (HasMaps l) (λ u x q i. with_held_has_maps i x q) a sc k s h
 
   pub consume_shape : (b : Bound) (a : t.Assertion) (start : State) (sc : Scene) (k : Fraction) (left : State) → HasMaps l left → KeepsRun IsAny IsAny (HasMaps l) (consume b a start sc k left)
-  consume_shape b (t.Fact e at) start sc k left h = at_end (after_any (truth_in b e start sc) (λ holds. if_kept holds (is_kept h) (fails_kept sc at kind.Fact)))
-  consume_shape b (t.Acc e f m at) start sc k left h = then_any (place_in b e f start sc) (λ x. consume_amount_shape b m start sc k at left x h)
-  consume_shape b (t.Inst p args m at) start sc k left h = then_any (instance_in b p args start sc) (λ x. consume_amount_shape b m start sc k at left x h)
-  consume_shape b (t.And x y) start sc k left h = then_do_kept (consume_shape b x start sc k left h) (λ u i. consume_shape b y start sc k u i)
-  consume_shape b (t.Implies e x) start sc k left h = then_any (truth_in b e start sc) (λ holds. if_run_kept holds (consume_shape b x start sc k left h) (at_end (is_kept h)))
-  consume_shape b (t.ChooseAssertion e x y) start sc k left h =
-      then_any (truth_in b e start sc) (λ holds. if_run_kept holds (consume_shape b x start sc k left h) (consume_shape b y start sc k left h))
+  consume_shape b a start sc k left h = consume_keeps b (HasMaps l) (λ u x q i. with_held_has_maps i x q) a start sc k left h
 
   -- ---- forgetting
 
@@ -200,7 +155,7 @@ shape_kept b program = record {
   folds = fold_instance_shape program.layout b program;
   unfolds = unfold_instance_shape program.layout b program;
   writes = λ s f r v h. with_value_has_maps h f r v;
-  holds = λ s f r h. with_mask_has_maps h f r write;
+  holds = λ s f r n h. with_mask_has_maps h f r write;
   begins = begins;
 }
   where
@@ -220,7 +175,7 @@ consume_all_shape b program = k.consume_all_any b program (HasMaps program.layou
 pub exhale_all_shape : (b : Bound) (program : Program) (list : List t.Assertion) (s : State) (sc : Scene) → HasMaps program.layout s → KeepsRun IsAny IsAny (HasMaps program.layout) (exhale_all b program list s sc)
 exhale_all_shape b program = k.exhale_all_any b program (HasMaps program.layout) (shape_kept b program)
 
-pub created_shape : (b : Bound) (program : Program) (tys : List Ty) (r : ℕ) (fs : List ℕ) (s : State) → HasMaps program.layout s → KeepsRun IsAny IsAny (HasMaps program.layout) (created tys r fs s)
+pub created_shape : (b : Bound) (program : Program) (tys : List Ty) (r : ℕ) → (r == 0) ≡ false → (fs : List ℕ) (s : State) → HasMaps program.layout s → KeepsRun IsAny IsAny (HasMaps program.layout) (created tys r fs s)
 created_shape b program = k.created_any b program (HasMaps program.layout) (shape_kept b program)
 
 pub called_shape : (b : Bound) (a : Activation) (targets : List ℕ) (callee : Method) (args : List Value) (at : Pos) (c : Configuration) → HasMaps a.program.layout c.state →

@@ -1,6 +1,7 @@
 -- What producing, consuming, forgetting, folding, unfolding and writing keep of a state is kept by statements, methods and
 -- predicates, whatever is chosen.
-use Rattle.std.proofs.Common.{ℕ, Bool, not, Option, Some, None, List, [], ◌∷◌, ◌++◌, IfSome, slice_get}
+use Rattle.std.proofs.Common.{◌≡◌, refl, sym, ℕ, Bool, true, false, not, ◌&&◌, if◌then◌else◌, Option, Some, None, List, [], ◌∷◌, ◌++◌, IfSome, slice_get}
+use Rattle.std.proofs.lemmas.Bool.{true≢false}
 use Rattle.std.specs.Prelude.{◌==◌}
 use Rattle.vb_base.specs.declared.labels.Kind.TheVariants as kind
 use Rattle.vb_base.specs.declared.places.Pos.{Pos}
@@ -40,7 +41,7 @@ pub record IsKeptByRuns (b : Bound) (program : Program) (P : State → Type 0) :
   pub folds : (f : s.FoldStmt) (s : State) (sc : Scene) → P s → KeepsRun IsAny IsAny P (fold_instance b program f s sc)
   pub unfolds : (f : s.FoldStmt) (s : State) (sc : Scene) → P s → Keeps IsAny P (unfold_instance b program f s sc)
   pub writes : (s : State) (f r : ℕ) (v : Value) → P s → P (with_value s f r v)
-  pub holds : (s : State) (f r : ℕ) → P s → P (with_mask s f r write)
+  pub holds : (s : State) (f r : ℕ) → (r == 0) ≡ false → P s → P (with_mask s f r write)
   pub begins : (c : Choice) → IfSome (memo_in program.layout c) (λ m. P (empty_state program.layout m))
 
 -- the state of a configuration has the property
@@ -71,6 +72,19 @@ values_any tys (x ∷ xs) = then_any (found (slice_get tys x)) (λ ty. took_any 
 pub in_vain_any : {X Y : Type 0} {P : X → Type 0} {Q : Y → Type 0} {r : Run X} → AnyRun P r → AnyRun Q (in_vain r)
 in_vain_any h = then_do_kept h (λ x p. at_end blocks_kept)
 
+-- goes on where the test holds
+if_so_kept : {X : Type 0} {P : X → Type 0} (b : Bool) {r u : Run X} → (b ≡ true → AnyRun P r) → AnyRun P u → AnyRun P (if b then r else u)
+if_so_kept true h g = h refl
+if_so_kept false h g = g
+
+-- a new reference is not null
+fresh_not_null : (r : ℕ) (refs : List ℕ) (c : Configuration) → is_fresh r refs c ≡ true → (r == 0) ≡ false
+fresh_not_null r refs c = by (r == 0) _
+  where
+    by : (b rest : Bool) → (not b && rest) ≡ true → b ≡ false
+    by true rest e = absurd (true≢false (sym e))
+    by false rest e = refl
+
 module _ (b : Bound) (program : Program) (P : State → Type 0) (kept : IsKeptByRuns b program P) where
   state_any : {X : Type 0} {Q : X → Type 0} {go : State → Run X} → ((s : State) → P s → AnyRun Q (go s)) → AnyRun Q (taking_state program go)
   state_any g = taking_kept (memo_in program.layout) (λ c h. kept.begins c) (λ m h. before_kept (event.Whole m ∷ []) (any_events (event.Whole m ∷ [])) (g (empty_state program.layout m) h))
@@ -94,10 +108,10 @@ module _ (b : Bound) (program : Program) (P : State → Type 0) (kept : IsKeptBy
   field_written_any sc s f at r w h =
       unless_kept (r == 0) (fails_kept sc at kind.Null) (after_any (found (mask_at s f r)) (λ held. unless_kept (not (fraction_eq held write)) (fails_kept sc at kind.Perm) (is_kept (kept.writes s f r w h))))
 
-  pub created_any : (tys : List Ty) (r : ℕ) (fs : List ℕ) (s : State) → P s → AnyRun P (created tys r fs s)
-  created_any tys r [] s h = at_end (is_kept h)
-  created_any tys r (f ∷ fs) s h =
-      then_any (found (slice_get tys f)) (λ ty. took_any ty (λ w. created_any tys r fs (with_mask (with_value s f r w) f r write) (kept.holds (with_value s f r w) f r (kept.writes s f r w h))))
+  pub created_any : (tys : List Ty) (r : ℕ) → (r == 0) ≡ false → (fs : List ℕ) (s : State) → P s → AnyRun P (created tys r fs s)
+  created_any tys r n [] s h = at_end (is_kept h)
+  created_any tys r n (f ∷ fs) s h =
+      then_any (found (slice_get tys f)) (λ ty. took_any ty (λ w. created_any tys r n fs (with_mask (with_value s f r w) f r write) (kept.holds (with_value s f r w) f r n (kept.writes s f r w h))))
 
 -- ---- statements
 
@@ -137,7 +151,7 @@ module _ (b : Bound) (a : Activation) (P : State → Type 0) (kept : IsKeptByRun
         then_any (ref_in b e c.state (scene a c at)) (λ r. then_any (value b d c.state (scene a c at)) (λ w.
         evaluating_kept (field_written_any b a.program P kept (scene a c at) c.state f place r w h) (λ u i. at_end (is_kept i))))
     run_stmt_any (s.New at x fields refs) c h =
-        fresh_any (λ r. if_run_kept (is_fresh r refs c) (then_do_kept (created_any b a.program P kept a.program.layout.fields r fields c.state h) (λ u i. at_end (is_kept i))) (at_end blocks_kept))
+        fresh_any (λ r. if_so_kept (is_fresh r refs c) (λ new. then_do_kept (created_any b a.program P kept a.program.layout.fields r (fresh_not_null r refs c new) fields c.state h) (λ u i. at_end (is_kept i))) (at_end blocks_kept))
     run_stmt_any (s.Call at targets m args) c h =
         then_any (values b args c.state (scene a c at)) (λ vs. then_any (found (slice_get a.program.methods m)) (λ callee. called_any targets callee vs at c h))
     run_stmt_any (s.Inhale at x) c h = then_do_kept (kept.produces x (scene a c at) c.state h) (λ u i. at_end (is_kept i))

@@ -71,7 +71,7 @@ sign_kept b program = record {
   folds = fold_instance_sign b program;
   unfolds = unfold_instance_sign b program;
   writes = λ s f r v h. with_value_nonnegative h f r v;
-  holds = λ s f r h. with_mask_nonnegative h f r write refl;
+  holds = λ s f r n h. with_mask_nonnegative h f r write refl;
   begins = λ c. begin_with (memo_in program.layout c);
 }
   where

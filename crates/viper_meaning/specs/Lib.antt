@@ -20,3 +20,4 @@ pub mod Configurations
 pub mod Written
 pub mod Fresh
 pub mod Produced
+pub mod HeldWhole

@@ -1,6 +1,6 @@
 //! Laws of runs, each as the contract of a function that does nothing.
 
-ghost use Rattle.std.specs.Prelude.{◌≡◌, ℕ, ◌++◌, List, Some, false, if◌then◌else◌};
+ghost use Rattle.std.specs.Prelude.{◌≡◌, ℕ, ◌++◌, List, [], Some, false, if◌then◌else◌};
 ghost use Rattle.vb_value.specs.Bound.{Bound, Unbounded, Bounded};
 ghost use Rattle.vb_value.specs.Fraction.{Fraction, IsReduced, is_negative, is_none};
 ghost use Rattle.vb_value.specs.Layout.{Layout};
@@ -8,18 +8,21 @@ ghost use Rattle.vb_value.specs.declared.values.Value.{Value};
 ghost use Rattle.viper_core.specs.Expr as t;
 ghost use Rattle.viper_core.specs.Formed.{IsFormed};
 ghost use Rattle.viper_core.specs.Literals.{IsWithinAssertion, IsProperAssertion};
-ghost use Rattle.viper_core.specs.Plain.{AssertionHasNoOld};
+ghost use Rattle.viper_core.specs.Plain.{AssertionHasNoOld, AssertionOpensNothing};
 ghost use Rattle.viper_core.specs.Typing.{Context, IsAssertion};
 ghost use Rattle.viper_state.specs.Choice.{Choice};
 ghost use Rattle.viper_state.specs.Fits.{FitsMemo, FitsState, FitsScene, FitsChoice, FitsEvent};
 ghost use Rattle.viper_state.specs.State.{Key, Memo, State, value_at, mask_at, content_at, amount_at};
 ghost use Rattle.viper_state.specs.Run.{Scene, with_variables, with_old};
 ghost use Rattle.viper_state.specs.Within.{IsWithinState, IsWithinScene, IsWithinChoice, IsWithinEvent, IsProperState, IsProperScene, IsProperChoice, IsProperEvent, IsNonnegative};
-ghost use Rattle.viper_meaning.specs.Run.{Run, on, then_do, then_ran, is_short, with_more};
+ghost use Rattle.viper_meaning.specs.Run.{Run, ended, on, then_do, then_ran, is_short, with_more};
 ghost use Rattle.viper_meaning.specs.ComparedRuns.{is_over};
 ghost use Rattle.viper_meaning.specs.Kept.{IsAny};
 ghost use Rattle.viper_meaning.specs.KeptRuns.{KeepsRun};
 ghost use Rattle.viper_meaning.specs.Assertions.{produce, consume};
+ghost use Rattle.viper_meaning.specs.Contents.{content_in};
+ghost use Rattle.viper_meaning.specs.Ends.{Evaluated, events_of};
+ghost use Rattle.viper_meaning.specs.Written.{HasNoWildcard};
 ghost use Rattle.viper_meaning.specs.Variables.{AgreeOnAssertion};
 ghost use Rattle.viper_meaning.specs.Forgotten.{forget, forgotten, with_memo};
 
@@ -84,6 +87,26 @@ pub fn no_run_makes_a_permission_negative()
     ensures consume { (b : Bound) (a : t.Assertion) (start : State) (sc : Scene) (k : Fraction) (left : State)
         → IsNonnegative left → KeepsRun IsAny IsAny IsNonnegative (consume b a start sc k left) }
     ensures forget { (layout : Layout) (s : State) → IsNonnegative s → KeepsRun IsAny IsAny IsNonnegative (forget layout s) }
+{}
+
+/// Producing and consuming change what is held, and neither the heap nor the contents.
+pub fn only_what_is_held_changes()
+    ensures produce { (b : Bound) (a : t.Assertion) (sc : Scene) (k : Fraction) (s : State)
+        → KeepsRun IsAny IsAny (λ u. (u.heap ≡ s.heap) × (u.content ≡ s.content)) (produce b a sc k s) }
+    ensures consume { (b : Bound) (a : t.Assertion) (start : State) (sc : Scene) (k : Fraction) (left : State)
+        → KeepsRun IsAny IsAny (λ u. (u.heap ≡ left.heap) × (u.content ≡ left.content)) (consume b a start sc k left) }
+{}
+
+/// An assertion without `unfolding` and `wildcard` takes no choice and records no event, where it is produced or consumed. Nor
+/// is any recorded where what it contains is told.
+pub fn a_plain_assertion_takes_and_records_nothing()
+    ensures produce { (b : Bound) (a : t.Assertion) (sc : Scene) (k : Fraction) (s : State) → HasNoWildcard a
+        → AssertionOpensNothing a → (e : Evaluated State) × ((produce b a sc k s ≡ ended e) × (events_of e ≡ [])) }
+    ensures consume { (b : Bound) (a : t.Assertion) (start : State) (sc : Scene) (k : Fraction) (left : State)
+        → HasNoWildcard a → AssertionOpensNothing a
+        → (e : Evaluated State) × ((consume b a start sc k left ≡ ended e) × (events_of e ≡ [])) }
+    ensures content { (b : Bound) (a : t.Assertion) (s : State) (sc : Scene) → AssertionOpensNothing a
+        → events_of (content_in b a s sc) ≡ [] }
 {}
 
 /// What forgetting leaves: a place to which nothing is held has the value that was taken from outside, and any other its own.

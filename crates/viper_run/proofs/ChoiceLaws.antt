@@ -17,13 +17,13 @@ use Rattle.viper_meaning.specs.Forgotten.{memo_in}
 use Rattle.viper_meaning.specs.Run as run
 use Rattle.viper_meaning.specs.Run.{Run, takes, noting, evaluating, then_do, given, taking, Goes, Blocked, Short, Ran, ran, since, on}
 use Rattle.viper_meaning.specs.Statements.{branch_in, fresh_in, value_in, taking_branch, taking_fresh, taking_value, taking_values, taking_state}
+use Rattle.viper_meaning.proofs.ThenLaws.{then_then, then_same, goes_then}
 use Rattle.viper_inhale.specs.Answers.{run_of, Does, goes, stops}
 use Rattle.viper_inhale.specs.declared.answers.Halt.{Halt}
 use Rattle.viper_inhale.specs.declared.answers.Halt.TheVariants as halt
 use Rattle.viper_inhale.specs.declared.answers.Stop.TheVariants as stop
 use Rattle.viper_inhale.proofs.DoesLaws.{does_at}
 use Rattle.viper_run.specs.Steps.{taking_value_of}
-use Rattle.viper_run.proofs.ThenLaws.{then_then, then_same, goes_then}
 
 since_nothing : {X : Type 0} (es : List Event) (n : Ran X) → since es (since [] n) ≡ since es n
 since_nothing es (ran fs step left) = refl

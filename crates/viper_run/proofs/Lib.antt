@@ -1,4 +1,3 @@
-pub mod ThenLaws
 pub mod ChoiceLaws
 pub mod EachLaws
 pub mod ReadyLaws

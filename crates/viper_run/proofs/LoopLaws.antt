@@ -13,6 +13,7 @@ use Rattle.viper_meaning.specs.Forgotten.{memo_in}
 use Rattle.viper_meaning.specs.Run.{Run, ended, goes, noting, taking, evaluating, then_do}
 use Rattle.viper_meaning.specs.Statements.{Activation, Configuration, scene, stored, with_state, taking_branch, taking_values, taking_state, in_vain, produce_all, consume_all, exhale_all, after_loop, run_turn, run_loop, run_stmt, run_block}
 use Rattle.viper_meaning.specs.Value.{truth_in}
+use Rattle.viper_meaning.proofs.ThenLaws.{then_then, then_same, before_then, goes_then}
 use Rattle.viper_inhale.specs.Answers.{Does}
 use Rattle.viper_inhale.specs.declared.answers.Halt.{Halt}
 use Rattle.viper_inhale.specs.declared.answers.Halt.TheVariants as stop_halt
@@ -20,7 +21,6 @@ use Rattle.viper_inhale.specs.declared.answers.Stop.TheVariants as stop
 use Rattle.viper_inhale.proofs.FormLaws.{first_stops, both_go}
 use Rattle.viper_run.specs.Steps.{loop_entered, guarded, turn_begun}
 use Rattle.viper_run.proofs.ChoiceLaws.{taking_then, blocks_at}
-use Rattle.viper_run.proofs.ThenLaws.{then_then, then_same, before_then, goes_then}
 
 -- the body of a loop
 abbrev pub runs : Activation → s.Stmts → Configuration → Run Configuration

@@ -19,9 +19,9 @@ use Rattle.viper_meaning.specs.Ends.{ends, Fails, is, blocks, then_with, found, 
 use Rattle.viper_meaning.specs.Run as run
 use Rattle.viper_meaning.specs.Run.{Run, ended, evaluating, then_do}
 use Rattle.viper_meaning.specs.Statements.{Configuration, with_state, with_variable, created, field_written, is_stored, is_fresh}
+use Rattle.viper_meaning.proofs.ThenLaws.{goes_then}
 use Rattle.viper_eval.specs.Steps.{assumed}
 use Rattle.viper_run.specs.Steps.{held_whole}
-use Rattle.viper_run.proofs.ThenLaws.{goes_then}
 use Rattle.viper_run.proofs.ChoiceLaws.{value_then_step}
 use Rattle.viper_run.proofs.EachLaws.{item_at}
 

@@ -16,13 +16,13 @@ use Rattle.viper_meaning.specs.Run as run
 use Rattle.viper_meaning.specs.Run.{Run, ended, evaluating, then_do}
 use Rattle.viper_meaning.specs.Statements.{Activation, Configuration, scene, with_state, with_variable, field_written, run_stmt}
 use Rattle.viper_meaning.specs.Value.{value, ref_in}
+use Rattle.viper_meaning.proofs.ThenLaws.{then_then, then_is}
 use Rattle.viper_eval.specs.Answers.{Answers}
 use Rattle.viper_eval.specs.declared.answers.Halt.{Halt as HaltOfReading}
 use Rattle.viper_inhale.specs.Answers.{Does, no_memory, goes, stops, run_halt}
 use Rattle.viper_inhale.specs.declared.answers.Halt.{Halt}
 use Rattle.viper_inhale.proofs.DoesLaws.{then_goes, then_stops, goes_at_once, same_run}
 use Rattle.viper_inhale.proofs.FormLaws.{part_stops, part_goes, first_stops, both_go}
-use Rattle.viper_run.proofs.ThenLaws.{then_then, then_is}
 
 -- the end of a run, as part of another
 pub ended_as : {X Y W : Type 0} {v : X → Y} {u : X → W} {f g : Feed} {r : Run Y} {q : Result X Halt} (h : Y → W) → ((x : X) → u x ≡ h (v x)) → Does v f r g q → Does u f (then_do r (λ y. run.goes (h y))) g q

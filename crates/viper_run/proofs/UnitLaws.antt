@@ -41,6 +41,7 @@ use Rattle.viper_meaning.proofs.RunKeptLaws.{then_do_kept}
 use Rattle.viper_meaning.proofs.ShapeLaws.{produce_all_shape}
 use Rattle.viper_meaning.proofs.StateKeptLaws.{OfState}
 use Rattle.viper_meaning.proofs.StatementKeptLaws.{produce_all_within}
+use Rattle.viper_meaning.proofs.ThenLaws.{then_then, then_same, goes_then}
 use Rattle.viper_eval.specs.Answers as reading
 use Rattle.viper_eval.specs.declared.answers.Stop.{Stop as EndOfReading}
 use Rattle.viper_inhale.specs.Answers.{Does, no_memory, goes, stops, stopped, run_of, run_stop}
@@ -56,7 +57,6 @@ use Rattle.viper_run.specs.Steps.{method_begun}
 use Rattle.viper_run.specs.declared.units.Run.{Run as RunOf}
 use Rattle.viper_run.proofs.ChoiceLaws.{state_then, branch_then, blocks_at}
 use Rattle.viper_run.proofs.ReadyLaws.{left_kept, any_choices}
-use Rattle.viper_run.proofs.ThenLaws.{then_then, then_same, goes_then}
 
 -- ---- answers seen through another view
 

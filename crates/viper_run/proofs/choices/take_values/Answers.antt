@@ -2,9 +2,9 @@ use Rattle.std.proofs.Common.{refl, sym, ap, ◌∙◌, ◌+◌, drop, get_or, L
 use Rattle.vb_value.specs.declared.values.Value.{Value}
 use Rattle.viper_state.specs.View.{feed_of}
 use Rattle.viper_meaning.specs.Statements as m
+use Rattle.viper_meaning.proofs.ThenLaws.{then_is}
 use Rattle.viper_inhale.specs.Answers.{run_of, no_memory}
 use Rattle.viper_inhale.proofs.DoesLaws.{passed}
-use Rattle.viper_run.proofs.ThenLaws.{then_is}
 use Rattle.viper_run.proofs.ChoiceLaws.{all_taken, one_taken, none_taken, more_taken}
 use Rattle.viper_run.proofs.EachLaws.{number_at, each_goes, each_stops, each_end}
 use Rattle.viper_run.proofs.StepLaws.{ended_as}

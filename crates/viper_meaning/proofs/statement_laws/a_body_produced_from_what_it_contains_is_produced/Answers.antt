@@ -1,5 +1,5 @@
 use Rattle.viper_meaning.proofs.InverseLaws.{opened_is_produced}
-use Rattle.viper_meaning.proofs.statement_laws.unfolding_gives_back_what_was_folded.Goals as goal
+use Rattle.viper_meaning.proofs.statement_laws.a_body_produced_from_what_it_contains_is_produced.Goals as goal
 
 pub returns : goal.returns
 returns z = opened_is_produced
