@@ -15,7 +15,8 @@ use crate::choices::take_branch;
 use crate::loops::{begin_turn, end_turn, enter_loop, leave_loop};
 use crate::steps;
 use std::alloc::Global;
-use viper_core::{Loop, Stmt};
+use vb_base::Pos;
+use viper_core::{Expr, Loop, Stmt};
 use viper_eval::truth_of;
 use viper_inhale::Halt;
 use viper_state::Feed;
@@ -39,18 +40,8 @@ fn run_stmt(
             steps::declare_variable(alloc, activation, *at, *x, init, configuration, feed)
         }
         Stmt::Assign(at, x, e) => steps::assign(alloc, activation, *at, *x, e, configuration, feed),
-        Stmt::Write(at, e, field, place, d) => {
-            steps::write(
-                alloc,
-                activation,
-                *at,
-                e,
-                *field,
-                *place,
-                d,
-                configuration,
-                feed,
-            )
+        Stmt::Write(at, e, f, name, d) => {
+            steps::write(alloc, activation, *at, e, *f, *name, d, configuration, feed)
         }
         Stmt::New(_, x, fields, refs) => {
             steps::make_new(activation, *x, fields, refs, configuration, feed)
@@ -72,15 +63,34 @@ fn run_stmt(
         Stmt::Assert(at, a) => steps::check(alloc, activation, *at, a, configuration, feed),
         Stmt::Fold(instance) => steps::fold(alloc, activation, instance, configuration, feed),
         Stmt::Unfold(instance) => steps::unfold(alloc, activation, instance, configuration, feed),
-        Stmt::If(at, e, first, second) => {
-            let scene = activation.scene(&configuration.store, *at);
-            if truth_of(alloc, e, &configuration.state, scene, feed)? {
-                run_block(alloc, activation, first, configuration, feed)
-            } else {
-                run_block(alloc, activation, second, configuration, feed)
-            }
-        }
+        Stmt::If(at, e, a, b) => run_if(alloc, activation, *at, e, a, b, configuration, feed),
         Stmt::While(turns) => run_loop(alloc, activation, turns, configuration, feed),
+    }
+}
+
+/// Runs the first block where the condition holds, and else the second.
+#[cycle(running)]
+fn run_if(
+    alloc: Global,
+    activation: Activation,
+    at: Pos,
+    e: &Expr,
+    first: &[Stmt],
+    second: &[Stmt],
+    configuration: &mut Configuration,
+    feed: &mut Feed,
+) -> Result<(), Halt>
+    requires if_within { IsWithinStmt (s.If at (expr_of e.now) (stmts_of first.now) (stmts_of second.now)) }
+    requires ready { IsReady (activation_of activation) (configuration_of configuration.old) (feed_of feed.old) }
+    ensures { Does (λ _. configuration_of configuration.new) (feed_of feed.old)
+        (m.run_stmt Bounded (activation_of activation.entry) (s.If at (expr_of e.now) (stmts_of first.now) (stmts_of second.now)) (configuration_of configuration.old))
+        (feed_of feed.new) result }
+{
+    let scene = activation.scene(&configuration.store, at);
+    if truth_of(alloc, e, &configuration.state, scene, feed)? {
+        run_block(alloc, activation, first, configuration, feed)
+    } else {
+        run_block(alloc, activation, second, configuration, feed)
     }
 }
 

@@ -274,7 +274,7 @@ fn run_of(
 #[derive(Drop)]
 pub struct Run {
     pub outcome: Outcome,
-    /// The final state where the outcome is `Done`, and otherwise the state in which the run began.
+    /// The final state where the outcome is `Done`; after another outcome nothing is said of it.
     pub state: State,
     /// What was recorded, in order.
     pub events: Vec<Event>,
@@ -296,7 +296,7 @@ fn outcome(halt: Halt) -> Result<Outcome, Memory>
     }
 }
 
-/// What a run that ended so answers. The state is that in which it began, or its final one.
+/// What a run that ended so answers.
 fn ended(outcome: Outcome, state: State, feed: Feed) -> Run
     ensures { result ≡ record { outcome = outcome; state = state; events = feed.events; unused = vec_len feed.choices - feed.next } }
 {

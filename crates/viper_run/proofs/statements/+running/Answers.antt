@@ -1,4 +1,4 @@
-use Rattle.std.proofs.Common.{rules, refl, sym, ap, ◌∙◌, subst, if◌then◌else◌}
+use Rattle.std.proofs.Common.{rules, refl, sym, ap, subst, if◌then◌else◌}
 use Rattle.vb_value.specs.Bound.{Bounded}
 use Rattle.viper_core.specs.View.{assertions_of, expr_of, stmt_of, stmts_of}
 use Rattle.viper_core.specs.declared.stmts.Stmt.{the_lemmas}
@@ -129,19 +129,46 @@ run_loop-returns-else-branch t c =
     both_go (turn_or_leave k w.at guard invariants body w.turn) (loop_is k w.at guard invariants body w.turn w.targets.items d) c.in_ok-enter_loop.ensures
     (both_go go (branch_then go) c.in_ok-take_branch.ensures (same_run (ap go c.if-branch.false) c.leave_loop.ensures))
 
+-- ---- a condition between two blocks
+
+pub run_if-returns-in_err-truth_of : goal.run_if-returns-in_err-truth_of
+run_if-returns-in_err-truth_of t c =
+    let k = activation_of c.args.activation in
+    let d = configuration_of c.args.configuration.now in
+    let first = stmts_of c.args.first.now in
+    let second = stmts_of c.args.second.now in
+    passed _ _ c.from_residual.ensures.1 (part_stops (λ holds. if holds then m.run_block Bounded k first d else m.run_block Bounded k second d) (branches_is k d c.scene-scene.ensures (expr_of c.args.e.now) first second)
+    c.in_err-truth_of.ensures.answers c.in_err-truth_of.ensures.left)
+
+pub run_if-run_block-requires : goal.run_if-run_block-requires
+run_if-run_block-requires t c = (search (rules, the_lemmas), (c.requires.if_within.1, ready_at c.requires.ready c.in_ok-truth_of.ensures.left))
+
+pub run_if-run_block-requires-else-branch : goal.run_if-run_block-requires-else-branch
+run_if-run_block-requires-else-branch t c = (search (rules, the_lemmas), (c.requires.if_within.2, ready_at c.requires.ready c.in_ok-truth_of.ensures.left))
+
+pub run_if-returns-then-branch : goal.run_if-returns-then-branch
+run_if-returns-then-branch t c =
+    let k = activation_of c.args.activation in
+    let d = configuration_of c.args.configuration.now in
+    let first = stmts_of c.args.first.now in
+    let second = stmts_of c.args.second.now in
+    so_goes (m.run_block Bounded k first d) (m.run_block Bounded k second d) (branches_is k d c.scene-scene.ensures (expr_of c.args.e.now) first second)
+    c.in_ok-truth_of.ensures.answers c.in_ok-truth_of.ensures.left c.if-branch.true c.run_block.ensures
+
+pub run_if-returns-else-branch : goal.run_if-returns-else-branch
+run_if-returns-else-branch t c =
+    let k = activation_of c.args.activation in
+    let d = configuration_of c.args.configuration.now in
+    let first = stmts_of c.args.first.now in
+    let second = stmts_of c.args.second.now in
+    not_goes (m.run_block Bounded k first d) (m.run_block Bounded k second d) (branches_is k d c.scene-scene.ensures (expr_of c.args.e.now) first second)
+    c.in_ok-truth_of.ensures.answers c.in_ok-truth_of.ensures.left c.if-branch.false c.run_block-else-branch.ensures
+
 -- ---- a statement
 
-pub run_stmt-returns-in_err-truth_of-in-If : goal.run_stmt-returns-in_err-truth_of-in-If
-run_stmt-returns-in_err-truth_of-in-If t c =
-    passed _ _ c.from_residual.ensures.1 (part_stops (λ holds. if holds then m.run_block Bounded (activation_of c.args.activation) (stmts_of c.in-If.first.items) (configuration_of c.args.configuration.now) else m.run_block Bounded (activation_of c.args.activation) (stmts_of c.in-If.second.items) (configuration_of c.args.configuration.now))
-    (ap (λ a. m.run_stmt Bounded (activation_of c.args.activation) a (configuration_of c.args.configuration.now)) (if_is c.in-If.first c.in-If.second c.in-If.is refl refl) ∙ branches_is (activation_of c.args.activation) (configuration_of c.args.configuration.now) c.scene-scene.ensures (expr_of c.in-If.e) (stmts_of c.in-If.first.items) (stmts_of c.in-If.second.items))
-    c.in_err-truth_of-in-If.ensures.answers c.in_err-truth_of-in-If.ensures.left)
-
-pub run_stmt-run_block-requires : goal.run_stmt-run_block-requires
-run_stmt-run_block-requires t c = (search (rules, the_lemmas), ((subst IsWithinStmt (if_is c.in-If.first c.in-If.second c.in-If.is c.deref-then-branch.ensures.value refl) c.requires.stmt_within).1, ready_at c.requires.ready c.in_ok-truth_of-in-If.ensures.left))
-
-pub run_stmt-run_block-requires-else-branch : goal.run_stmt-run_block-requires-else-branch
-run_stmt-run_block-requires-else-branch t c = (search (rules, the_lemmas), ((subst IsWithinStmt (if_is c.in-If.first c.in-If.second c.in-If.is refl c.deref-else-branch.ensures.value) c.requires.stmt_within).2, ready_at c.requires.ready c.in_ok-truth_of-in-If.ensures.left))
+pub run_stmt-run_if-requires : goal.run_stmt-run_if-requires
+run_stmt-run_if-requires t c =
+    (search (rules, the_lemmas), (subst IsWithinStmt (if_is c.in-If.a c.in-If.b c.in-If.is c.deref-in-If.ensures.value c.deref-in-If-2.ensures.value) c.requires.stmt_within, c.requires.ready))
 
 pub run_stmt-run_loop-requires : goal.run_stmt-run_loop-requires
 run_stmt-run_loop-requires t c = (search (rules, the_lemmas), (subst IsWithinStmt (while_is c.in-While.turns c.in-While.is) c.requires.stmt_within, c.requires.ready))
@@ -178,17 +205,9 @@ run_stmt-returns-in-Fold t c = same_run (ap (λ a. m.run_stmt Bounded (activatio
 pub run_stmt-returns-in-Unfold : goal.run_stmt-returns-in-Unfold
 run_stmt-returns-in-Unfold t c = same_run (ap (λ a. m.run_stmt Bounded (activation_of c.args.activation) (stmt_of a) (configuration_of c.args.configuration.now)) c.in-Unfold.is) c.unfold.ensures
 
-pub run_stmt-returns-then-branch : goal.run_stmt-returns-then-branch
-run_stmt-returns-then-branch t c =
-    so_goes (m.run_block Bounded (activation_of c.args.activation) (stmts_of c.deref-then-branch.result.now) (configuration_of c.args.configuration.now)) (m.run_block Bounded (activation_of c.args.activation) (stmts_of c.in-If.second.items) (configuration_of c.args.configuration.now))
-    (ap (λ a. m.run_stmt Bounded (activation_of c.args.activation) a (configuration_of c.args.configuration.now)) (if_is c.in-If.first c.in-If.second c.in-If.is c.deref-then-branch.ensures.value refl) ∙ branches_is (activation_of c.args.activation) (configuration_of c.args.configuration.now) c.scene-scene.ensures (expr_of c.in-If.e) (stmts_of c.deref-then-branch.result.now) (stmts_of c.in-If.second.items))
-    c.in_ok-truth_of-in-If.ensures.answers c.in_ok-truth_of-in-If.ensures.left c.if-branch.true c.run_block.ensures
-
-pub run_stmt-returns-else-branch : goal.run_stmt-returns-else-branch
-run_stmt-returns-else-branch t c =
-    not_goes (m.run_block Bounded (activation_of c.args.activation) (stmts_of c.in-If.first.items) (configuration_of c.args.configuration.now)) (m.run_block Bounded (activation_of c.args.activation) (stmts_of c.deref-else-branch.result.now) (configuration_of c.args.configuration.now))
-    (ap (λ a. m.run_stmt Bounded (activation_of c.args.activation) a (configuration_of c.args.configuration.now)) (if_is c.in-If.first c.in-If.second c.in-If.is refl c.deref-else-branch.ensures.value) ∙ branches_is (activation_of c.args.activation) (configuration_of c.args.configuration.now) c.scene-scene.ensures (expr_of c.in-If.e) (stmts_of c.in-If.first.items) (stmts_of c.deref-else-branch.result.now))
-    c.in_ok-truth_of-in-If.ensures.answers c.in_ok-truth_of-in-If.ensures.left c.if-branch.false c.run_block-else-branch.ensures
+pub run_stmt-returns-in-If : goal.run_stmt-returns-in-If
+run_stmt-returns-in-If t c =
+    same_run (ap (λ a. m.run_stmt Bounded (activation_of c.args.activation) a (configuration_of c.args.configuration.now)) (if_is c.in-If.a c.in-If.b c.in-If.is c.deref-in-If.ensures.value c.deref-in-If-2.ensures.value)) c.run_if.ensures
 
 pub run_stmt-returns-in-While : goal.run_stmt-returns-in-While
 run_stmt-returns-in-While t c =

@@ -1,6 +1,8 @@
--- The statements that are left, from where the run stands.
-use Rattle.std.proofs.Common.{◌≡◌, drop}
+-- What falls at each call of the cycle, and the statements that are left, from where the run stands.
+use denote.Param.Weighed.{most}
+use Rattle.std.proofs.Common.{◌≡◌, ◌+◌, ◌*◌, drop, max}
 use Rattle.vb_value.specs.Bound.{Bounded}
+use Rattle.viper_core.proofs.stmts.Stmt.TheLaws.{the_size}
 use Rattle.viper_core.specs.View.{stmts_of}
 use Rattle.viper_state.specs.View.{feed_of}
 use Rattle.viper_meaning.specs.Statements as m
@@ -15,3 +17,19 @@ invariant-run_block-loop-stmt l = record {
       run_of (m.run_block Bounded (activation_of l.activation) (stmts_of (drop l.stmt-index l.stmts)) (configuration_of l.configuration)) (feed_of l.feed);
   ready : IsReady (activation_of l.activation) (configuration_of l.configuration) (feed_of l.feed);
 }
+
+abbrev pub decreases-run_stmt : goal.decreases-run_stmt
+decreases-run_stmt l = 3 * goal.size-run_stmt l
+
+abbrev pub decreases-run_block : goal.decreases-run_block
+decreases-run_block l = 3 * goal.size-run_block l + 1
+
+-- a condition goes on to either block
+abbrev pub decreases-run_if : goal.decreases-run_if
+decreases-run_if l = 3 * max (most the_size l.first.now) (most the_size l.second.now) + 2
+
+abbrev pub decreases-run_loop : goal.decreases-run_loop
+decreases-run_loop l = 3 * goal.size-run_loop l + 1
+
+abbrev pub decreases-run_turn : goal.decreases-run_turn
+decreases-run_turn l = 3 * goal.size-run_turn l
