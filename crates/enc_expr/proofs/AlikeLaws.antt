@@ -1,27 +1,15 @@
 -- Ways of going on, for evaluations and runs side by side.
-use Rattle.std.proofs.Common.{refl, ap, sym, subst, ◌∙◌, append_assoc, ◌≡◌, ◌+◌, ◌<◌, ◌≤◌, ℕ, zero, suc, List, [], ◌∷◌, ◌++◌, length, Some, None, slice_get, slice_set, arith}
-use Rattle.sparse.specs.Map.{Map}
-use Rattle.vb_value.specs.Layout.{Layout}
-use Rattle.vb_value.specs.Bound.{Bound}
-use Rattle.vb_value.specs.declared.values.Ty.{Ty}
-use Rattle.vb_value.specs.declared.values.Value.{Value}
+use Rattle.std.proofs.Common.{refl, ap, sym, ◌∙◌, append_assoc, ◌≡◌, List, [], ◌∷◌, ◌++◌}
 use Rattle.viper_state.specs.Event.{Event}
 use Rattle.viper_meaning.specs.Ends as v
 use Rattle.viper_meaning.specs.Ends.{Evaluated, ends, events_of, Is, Fails, Over, is, after, then_with}
 use Rattle.viper_meaning.specs.Kept.{Keeps, value}
-use Rattle.boogie_tree.specs.Program.{BType}
-use Rattle.boogie_tree.specs.Value.{BValue, BChoice}
+use Rattle.boogie_tree.specs.Value.{BChoice}
 use Rattle.boogie_meaning.specs.Run as r
 use Rattle.boogie_meaning.specs.Run.{Run, Done, Stops, Stop, Failed, Blocked, Short, Wrong, then_run}
-use Rattle.boogie_meaning.proofs.PatternLaws.{set_there}
 use Rattle.run_file.specs.Moves.{moves, moves_of}
-use Rattle.viper_core.specs.Typing.{Context}
-use Rattle.viper_state.specs.State.{State}
-use Rattle.viper_state.specs.Run.{Scene}
-use Rattle.enc_expr.specs.Place.{Maps, Place}
-use Rattle.enc_expr.specs.Code.{Guard}
-use Rattle.enc_expr.specs.Coupling.{Env, MapKind, HasMap, HasMaps, HasVariable, IsAwake, AreLocals, IsReady, IsCoupled}
-use Rattle.enc_expr.specs.Alike.{Alike, Follows, IsStopped, Kept, Agree}
+use Rattle.enc_expr.specs.Coupling.{Env}
+use Rattle.enc_expr.specs.Alike.{Alike, Follows, IsStopped}
 use Rattle.enc_expr.specs.Alike as a
 use Rattle.enc_expr.proofs.BoundaryLaws.{same_front}
 
@@ -99,80 +87,3 @@ kept_alike k (a.short more f) = a.short more f
 kept_alike k (a.beyond f) = a.beyond f
 kept_alike k a.over = a.over
 kept_alike k (a.stray f stopped) = a.stray f stopped
-
--- ---- environments
-
-pub kept_itself : (n : ℕ) (E : Env) → Kept n E E
-kept_itself n E = record { length = refl; same = λ i h. refl }
-
-pub kept_then : {n m : ℕ} {E F G : Env} → n ≤ m → Kept n E F → Kept m F G → Kept n E G
-kept_then h k l = record { length = l.length ∙ k.length; same = λ i below. l.same i (omega (arith, below, h)) ∙ k.same i below }
-
-pub set_length : (E : Env) (i : ℕ) (v : BValue) → length (slice_set E i v) ≡ length E
-set_length [] i v = refl
-set_length (w ∷ E) zero v = refl
-set_length (w ∷ E) (suc i) v = omega (arith, set_length E i v)
-
--- a new local is set
-pub kept_set : (n i : ℕ) (v : BValue) (E : Env) → n ≤ i → Kept n E (slice_set E i v)
-kept_set n i v E h = record { length = set_length E i v; same = λ j below. set_there E i j v (λ same. omega (arith, same, below, h)) }
-
-pub locals_first : (ts : List BType) (n : ℕ) (us ws : List BType) → AreLocals ts n (us ++ ws) → AreLocals ts n us
-locals_first ts n [] ws h = tt
-locals_first ts n (u ∷ us) ws h = (h.0, locals_first ts (n + 1) us ws h.1)
-
-pub locals_rest : (ts : List BType) (n : ℕ) (us ws : List BType) → AreLocals ts n (us ++ ws) → AreLocals ts (n + length us) ws
-locals_rest ts n [] ws h = subst (λ i. AreLocals ts i ws) (omega arith) h
-locals_rest ts n (u ∷ us) ws h = subst (λ i. AreLocals ts i ws) (omega arith) (locals_rest ts (n + 1) us ws h.1)
-
--- the same map in another local
-pub map_moved : {K V : Type 0} {k : MapKind K V} {n m x y : ℕ} {maps : List (Map K V)} {i : ℕ} {E F : Env} → y < m → slice_get F y ≡ slice_get E x → HasMap k n x maps i E → HasMap k m y maps i F
-map_moved below same h = record {
-  m = h.m;
-  there = h.there;
-  tidy = h.tidy;
-  below = below;
-  image = h.image;
-  here = same ∙ h.here;
-  typed = h.typed;
-  same = h.same;
-  rests = h.rests;
-}
-
--- a map that stands in a local that was not changed
-pub map_kept : {K V : Type 0} {k : MapKind K V} {n m x : ℕ} {maps : List (Map K V)} {i : ℕ} {E F : Env} → n ≤ m → Kept n E F → HasMap k n x maps i E → HasMap k m x maps i F
-map_kept within kept h = map_moved (omega (arith, h.below, within)) (kept.same _ h.below) h
-
--- all maps of a state, where nothing but later locals was changed
-pub maps_kept : {layout : Layout} {n m : ℕ} {l : Maps} {s : State} {E F : Env} → n ≤ m → Kept n E F → HasMaps layout n l s E → HasMaps layout m l s F
-maps_kept within kept h = record {
-  heap = λ f u there. map_kept within kept (h.heap f u there);
-  mask = λ f u there. map_kept within kept (h.mask f u there);
-  amount = λ q us there. map_kept within kept (h.amount q us there);
-  content = λ q us there. map_kept within kept (h.content q us there);
-}
-
-pub variable_kept : {u : Ty} {n m i : ℕ} {store : List Value} {x : ℕ} {E F : Env} → n ≤ m → Kept n E F → HasVariable u n i store x E → HasVariable u m i store x F
-variable_kept within kept h = record { v = h.v; there = h.there; typed = h.typed; below = omega (arith, h.below, within); here = kept.same _ h.below ∙ h.here }
-
-pub coupled_kept : (b : Bound) (c : Context) (n m : ℕ) (p : Place) (s : State) (sc : Scene) (E F : Env) → n ≤ m → Kept n E F → IsCoupled b c n p s sc E → IsCoupled b c m p s sc F
-coupled_kept b c n m p s sc E F h k l = record {
-  now = maps_kept h k l.now;
-  old = maps_kept h k l.old;
-  vars = λ x u visible there. variable_kept h k (l.vars x u visible there);
-  at = l.at;
-  sound = l.sound;
-  old_sound = l.old_sound;
-  store = l.store;
-}
-
-pub awake_kept : (g : Guard) {n m : ℕ} {E F : Env} → n ≤ m → Kept n E F → IsAwake g n E → IsAwake g m F
-awake_kept None within kept h = tt
-awake_kept (Some i) within kept h = (omega (arith, h.0, within), kept.same i h.0 ∙ h.1)
-
-pub ready_rest : (ts : List BType) (g : Guard) (n m : ℕ) (us ws : List BType) (E F : Env) → n + length us ≡ m → Kept n E F → IsReady ts g n (us ++ ws) E → IsReady ts g m ws F
-ready_rest ts g n m us ws E F e k h = record {
-  awake = awake_kept g (omega (arith, e)) k h.awake;
-  full = k.length ∙ h.full;
-  locals = subst (λ i. AreLocals ts i ws) e (locals_rest ts n us ws h.locals);
-}

@@ -22,7 +22,7 @@ use Rattle.enc_expr.specs.Alike.{Agree, AreValues, none, more, HasAtom, variable
 use Rattle.enc_expr.specs.Alike as alike
 use Rattle.enc_expr.proofs.Simulated.{Sets}
 use Rattle.enc_expr.proofs.RunLaws.{is_same, there_is, join_done, assign_run}
-use Rattle.enc_expr.proofs.AlikeLaws.{kept_itself, kept_then, kept_set, locals_first, locals_rest}
+use Rattle.enc_expr.proofs.FrameLaws.{kept_itself, kept_then, kept_set, locals_first, locals_rest}
 use Rattle.enc_expr.proofs.CodeLaws.{from_counted, located_counted}
 
 -- ---- what is set

@@ -45,7 +45,8 @@ use Rattle.enc_expr.specs.Alike.{Alike, Kept, IsValued, AreValues, AreValued, Is
 use Rattle.enc_expr.specs.Alike as alike
 use Rattle.enc_expr.proofs.Simulated.{Simulates, Fills}
 use Rattle.enc_expr.proofs.RunLaws.{then_done, join_done, guarded_awake, assume_run, atom_agrees}
-use Rattle.enc_expr.proofs.AlikeLaws.{is_alike, then_alike, weaken_alike, kept_alike, kept_then, locals_first, locals_rest, coupled_kept, awake_kept, ready_rest}
+use Rattle.enc_expr.proofs.AlikeLaws.{is_alike, then_alike, weaken_alike, kept_alike}
+use Rattle.enc_expr.proofs.FrameLaws.{kept_then, but_from, but_then, locals_first, locals_rest, coupled_kept, awake_kept, ready_rest}
 use Rattle.enc_expr.proofs.CodeLaws.{code_counted, codes_counted, body_counted, located_counted, atomic_counted}
 use Rattle.enc_expr.proofs.AtomLaws.{Holds, holds_more, atomic_set, located_more, located_set, values_more}
 use Rattle.enc_expr.proofs.OpeningLaws.{alike_run, alike_of, found_alike}
@@ -54,7 +55,7 @@ use Rattle.enc_expr.proofs.FormLaws.{truth_alike}
 use Rattle.enc_expr.proofs.InsideLaws.{atom_more}
 use Rattle.enc_expr.proofs.UnfoldingLaws.{emit_alike, quiet_alike, located_quiet, atomic_quiet, perm_alike}
 use Rattle.enc_expr.proofs.ChoiceLaws.{source_kept, scale_kept}
-use Rattle.enc_expr.proofs.FillLaws.{IsChanged, but_from, but_then, changed_coupled, stopped_first, unit_alike, fill_place_alike, fill_instance_alike}
+use Rattle.enc_expr.proofs.FillLaws.{IsChanged, changed_coupled, stopped_first, unit_alike, fill_place_alike, fill_instance_alike}
 
 abbrev AnyEvent : Event → Type 0
 AnyEvent v = IsAny v

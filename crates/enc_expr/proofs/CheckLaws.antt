@@ -51,7 +51,8 @@ use Rattle.enc_expr.specs.Alike as a
 use Rattle.enc_expr.specs.Alike.{Alike, Kept, Agree, IsValued}
 use Rattle.enc_expr.proofs.Simulated.{IsCounted, Computes, value, over}
 use Rattle.enc_expr.proofs.RunLaws.{join_skip, join_done, guarded_awake, assert_run, atom_value, atom_agrees}
-use Rattle.enc_expr.proofs.AlikeLaws.{is_alike, map_moved, coupled_kept, locals_first}
+use Rattle.enc_expr.proofs.AlikeLaws.{is_alike}
+use Rattle.enc_expr.proofs.FrameLaws.{map_moved, coupled_kept, locals_first}
 use Rattle.enc_expr.proofs.CodeLaws.{atomic_counted}
 use Rattle.enc_expr.proofs.AtomLaws.{atomic_set}
 use Rattle.enc_expr.proofs.MapLaws.{found_in_map, read_map}

@@ -33,13 +33,13 @@ use Rattle.enc_expr.specs.Operators.{choose_code}
 use Rattle.enc_expr.specs.Encoding.{is_unit}
 use Rattle.enc_expr.specs.Coupling.{Env}
 use Rattle.enc_expr.specs.Alike as a
-use Rattle.enc_expr.specs.Alike.{Alike, Kept, KeptBut, IsScale, IsFilled, IsSource}
+use Rattle.enc_expr.specs.Alike.{Alike, Kept, IsScale, IsFilled, IsSource}
 use Rattle.enc_expr.proofs.Simulated.{IsCounted, Sleeps, Fills}
 use Rattle.enc_expr.proofs.RunLaws.{guarded_awake, assume_run}
-use Rattle.enc_expr.proofs.AlikeLaws.{is_alike, kept_then, locals_first, coupled_kept, ready_rest}
+use Rattle.enc_expr.proofs.AlikeLaws.{is_alike}
+use Rattle.enc_expr.proofs.FrameLaws.{kept_then, kept_but_then, then_kept_but, maps_below, singles_kept, scale_single, source_single, locals_first, coupled_kept, ready_rest}
 use Rattle.enc_expr.proofs.AmountLaws.{then_again}
-use Rattle.enc_expr.proofs.OpeningLaws.{alike_run, alike_of, maps_below}
-use Rattle.enc_expr.proofs.InsideLaws.{amount_scales}
+use Rattle.enc_expr.proofs.OpeningLaws.{alike_run, alike_of}
 use Rattle.enc_expr.proofs.UnfoldingLaws.{emit_alike}
 use Rattle.enc_expr.proofs.FormLaws.{Reads, truth_alike, guarded_by, are_guarded, choose_alike}
 
@@ -50,17 +50,10 @@ nothing h u v = tt
 -- ---- what stays
 
 pub source_kept : {b : Bound} {n m : ℕ} {E F : Env} {from : ℕ} {d : Content} → n ≤ m → Kept n E F → IsSource b n E from d → IsSource b m F from d
-source_kept within kept h = record { below = omega (arith, h.below, within); here = kept.same _ h.below ∙ h.here; reduced = h.reduced; proper = h.proper }
+source_kept within kept h = source_single within (singles_kept kept) h
 
 pub scale_kept : {b : Bound} {n m : ℕ} {E F : Env} {x : t.BExpr} {q : Fraction} → n ≤ m → Kept n E F → IsScale b n E x q → IsScale b m F x q
-scale_kept {b} {n} {m} {E} {F} {x} {q} within kept h = amount_scales b n m E F x q within kept h.atom h.positive h.proper
-
--- changes before and after others
-pub kept_but_then : {O : ℕ → Type 0} {n m : ℕ} {E F G : Env} → n ≤ m → Kept n E F → KeptBut O m F G → KeptBut O n E G
-kept_but_then within kept h = record { length = h.length ∙ kept.length; same = λ i below other. h.same i (omega (arith, below, within)) other ∙ kept.same i below }
-
-pub then_kept_but : {O : ℕ → Type 0} {n m : ℕ} {E F G : Env} → n ≤ m → KeptBut O n E F → Kept m F G → KeptBut O n E G
-then_kept_but within h kept = record { length = kept.length ∙ h.length; same = λ i below other. kept.same i (omega (arith, below, within)) ∙ h.same i below other }
+scale_kept within kept h = scale_single within (singles_kept kept) h
 
 module _ (ts : List BType) (b : Bound) (c : Context) (p : Place) (s : State) (sc : Scene) (scale : t.BExpr) (k : Fraction) (from : ℕ) (d : Content) where
   -- a filling from later locals is one from earlier ones

@@ -23,7 +23,7 @@ use Rattle.enc_expr.specs.Coupling.{Env, IsAsleep, AreLocals}
 use Rattle.enc_expr.specs.Alike.{Kept}
 use Rattle.enc_expr.proofs.Simulated.{IsCounted, AreAsleep, Sleeps}
 use Rattle.enc_expr.proofs.RunLaws.{join_done, guarded_asleep, under_asleep, assign_run}
-use Rattle.enc_expr.proofs.AlikeLaws.{kept_itself, kept_then, kept_set, locals_first, locals_rest}
+use Rattle.enc_expr.proofs.FrameLaws.{kept_itself, kept_then, kept_set, locals_first, locals_rest}
 
 -- ---- the ways of writing
 

@@ -4,7 +4,7 @@ use Rattle.std.specs.Prelude.{⊤}
 use Rattle.vb_base.specs.declared.places.Pos.{Pos}
 use Rattle.viper_core.specs.Expr as e
 use Rattle.viper_core.specs.declared.exprs.Op.{Op}
-use Rattle.viper_meaning.specs.Operators.{class_of, Lazy, Division, Plain}
+use Rattle.viper_meaning.specs.Operators.{Class, class_of, Lazy, Division, Plain}
 use Rattle.boogie_tree.specs.Expr as t
 use Rattle.boogie_tree.specs.Stmt as s
 use Rattle.boogie_tree.specs.declared.exprs.BBase.TheVariants as base
@@ -14,7 +14,7 @@ use Rattle.enc_expr.specs.Kinds.{Kinds, base_for, type_at, body_kinds, state_typ
 use Rattle.enc_expr.specs.Place.{Maps, Place, number, with_now, with_vars}
 use Rattle.enc_expr.specs.Code.{Code, Emitting, join, gives, then_emit, declares, declares_all, Guard, puts, guards}
 use Rattle.enc_expr.specs.Pieces.{Operand, Atom, Located, is_atom, in_local, atomic, located, located_from, at_one, one, label, index, check_divisor}
-use Rattle.enc_expr.specs.Operators.{binary_code, lazily, lazy_operand, right_counts, divisor, division, quotient_operand, operand_of, choose_code, chosen_operand}
+use Rattle.enc_expr.specs.Operators.{binary_code, in_class_code, lazily, lazy_operand, right_counts, divisor, division, quotient_operand, operand_of, choose_code, chosen_operand}
 use Rattle.enc_expr.specs.Encoding.{read_code, read_checks, maps_from, copy_state, taking, is_unit, pair_code, fill_by, fill_place_code, fill_instance_code, acc_code, instance_code, code, codes, amount_code, body_code, unfolding_code, unfolding_at, inside_code}
 use Rattle.enc_expr.specs.Emits.{Emit, Emits}
 use Rattle.enc_expr.proofs.EmitLaws.{gives_emits, then_emits}
@@ -62,6 +62,16 @@ module _ (p : Place) (g : Guard) (o : Op) (at : Pos) (left : Emitting Operand) (
 
   pub plain_emits : (new : Emit) (y : Operand) → class_of o ≡ Plain → Emits (right g (from mid)) mid new y → Emits (binary_code p g o at left right (from old)) old new (operand_of o x y)
   plain_emits new y c k = rw c (then_emits left (λ (x : Operand). then_emit (right g) (λ (y : Operand). gives (operand_of o x y))) old mid new x (operand_of o x y) h (ending (right g) (λ (y : Operand). operand_of o x y) y k))
+
+-- the rest of an operator, behind its left side
+pub binary_emits : (p : Place) (g : Guard) (o : Op) (at : Pos) (left : Emitting Operand) (right : Guard → Emitting Operand) (old mid new : Emit) (x y : Operand) → Emits (left (from old)) old mid x →
+    Emits (binary_code p g o at (gives x) right (from mid)) mid new y → Emits (binary_code p g o at left right (from old)) old new y
+binary_emits p g o at left right old mid new x y h k = by_class (class_of o) k
+  where
+    by_class : (q : Class) → Emits (in_class_code q p g o at (gives x) right (from mid)) mid new y → Emits (in_class_code q p g o at left right (from old)) old new y
+    by_class Lazy k = then_emits left (λ (x : Operand). lazily g o x right) old mid new x y h k
+    by_class Division k = then_emits left (λ (x : Operand). then_emit (right g) (λ (y : Operand). division p g o at x y)) old mid new x y h k
+    by_class Plain k = then_emits left (λ (x : Operand). then_emit (right g) (λ (y : Operand). gives (operand_of o x y))) old mid new x y h k
 
 pub lazily_emits : (g : Guard) (o : Op) (x : Operand) (right : Guard → Emitting Operand) (old mid new : Emit) (h : ℕ) (y : Operand) → Emits (guards g (right_counts o x.expr) (from old)) old mid h →
     Emits (right (Some h) (from mid)) mid new y → Emits (lazily g o x right (from old)) old new (lazy_operand o h y)

@@ -1,5 +1,5 @@
 -- Filling a place or an instance from a content, by an amount.
-use Rattle.std.proofs.Common.{◌≡◌, ◌≢◌, ◌+◌, ◌<◌, ◌≤◌, ℕ, ℤ, pos, negsuc, zero, suc, Bool as Truth, true, false, not, ◌==◌, List, [], ◌∷◌, ◌++◌, Option, Some, None, IfSome, slice_get, slice_set, length, ◌⊎◌, inl, inr, refl, sym, ap, subst, ◌∙◌, arith, if◌then◌else◌}
+use Rattle.std.proofs.Common.{◌≡◌, ◌+◌, ◌<◌, ◌≤◌, ℕ, ℤ, pos, negsuc, zero, suc, Bool as Truth, true, false, not, ◌==◌, List, [], ◌∷◌, ◌++◌, Option, Some, None, IfSome, slice_get, slice_set, length, ◌⊎◌, inl, inr, refl, sym, ap, subst, ◌∙◌, arith, if◌then◌else◌}
 use Rattle.std.specs.Ordering.{nat_cmp, int_eq}
 use Rattle.std.specs.declared.cmp.Ordering.{Ordering}
 use Rattle.std.proofs.lemmas.Bool.{true≢false}
@@ -10,11 +10,11 @@ use Rattle.sparse.specs.Meaning.{IsExact}
 use Rattle.sparse.proofs.MapLaws.{set-get, get-set_same}
 use Rattle.vb_base.specs.declared.places.Pos.{Pos}
 use Rattle.vb_base.specs.declared.labels.Kind.TheVariants as kind
-use Rattle.vb_value.specs.Bound.{Bound}
+use Rattle.vb_value.specs.Bound.{Bound, IfBounded}
 use Rattle.vb_value.specs.Content as content
 use Rattle.vb_value.specs.Content.{Content, Leaf, same_content, IsReducedContent}
 use Rattle.vb_value.specs.Equality.{Decides-value_eq, Decides-same_content}
-use Rattle.vb_value.specs.Fraction.{Fraction, IsProperFraction, is_negative, is_positive, is_none, is_above_one, is_below_zero, is_above_zero, sum, product, fits_product}
+use Rattle.vb_value.specs.Fraction.{Fraction, IsProperFraction, is_negative, is_positive, is_none, is_above_one, is_below_zero, is_above_zero, sum, product, fits_product, fits_sum}
 use Rattle.vb_value.specs.Key.{key_cmp}
 use Rattle.vb_value.specs.Value.{type_of, same_type, value_eq, IsReducedValue}
 use Rattle.vb_value.specs.declared.values.Ty.{Ty}
@@ -53,88 +53,40 @@ use Rattle.boogie_meaning.proofs.ValueLaws.{exact}
 use Rattle.run_file.specs.BoogieLines.{scalar}
 use Rattle.run_file.specs.Moves.{moves, place_key, instance_key}
 use Rattle.enc_expr.specs.Place as place
-use Rattle.enc_expr.specs.Place.{Maps, Place, number, Spot, IsSpot, local_at, IsLocalOf}
+use Rattle.enc_expr.specs.Place.{Place, number, AreApart, IsLocalOf}
 use Rattle.enc_expr.specs.Kinds.{variable_type}
 use Rattle.enc_expr.specs.Code.{join}
 use Rattle.enc_expr.specs.Encoding.{is_unit, leaf, same_where_held, fill_place_code, fill_instance_code, fill_by}
 use Rattle.enc_expr.specs.Coupling.{Env, IsSound, HasMaps, IsCoupled, heap_kind, mask_kind, amount_kind, content_kind, IsOwn}
 use Rattle.enc_expr.specs.Pieces.{at_one, index, one, label, zero_real, one_real, scaled, check_nonnegative, if_positive, add_to}
-use Rattle.enc_expr.specs.Alike.{Alike, IsStopped, Follows, Kept, KeptBut, HasAtom, AreLocated, variable, int, real, truth, null, IsScale, IsSource}
+use Rattle.enc_expr.specs.Alike.{Alike, IsStopped, Kept, KeptBut, HasAtom, AreLocated, null, IsScale, IsSource, Follows}
 use Rattle.enc_expr.specs.Alike as alike
 use Rattle.enc_expr.proofs.RunLaws.{join_done, assume_run, atom_value, atom_agrees}
-use Rattle.enc_expr.proofs.AlikeLaws.{is_alike, after_alike, kept_itself, kept_set, set_length, map_moved, maps_kept}
+use Rattle.enc_expr.proofs.AlikeLaws.{is_alike, after_alike, weaken_alike}
+use Rattle.enc_expr.proofs.FrameLaws.{kept_itself, kept_set, but_from, but_then, kept_but_then, but_set, maps_kept, singles_put, singles_but, atom_single, located_single, coupled_own}
 use Rattle.enc_expr.proofs.AmountLaws.{added_alike, fits_is, at_value, put_run, add_to_run, if_positive_run, check_nonnegative_run, some_test, one_test, scaled_value}
 use Rattle.enc_expr.proofs.OperatorLaws.{plain_value}
 use Rattle.enc_expr.proofs.MapLaws.{found_in_map, read_map, value_written, mask_written, amount_written, content_written, index_key}
-use Rattle.enc_expr.proofs.OpeningLaws.{after_nothing, alike_run, alike_of, found_alike, unless_alike, fails_alike, stops_first, exists_at}
+use Rattle.enc_expr.proofs.OpeningLaws.{after_nothing, alike_run, alike_of, found_alike, unless_alike, fails_alike, stops_first}
 
 -- ---- environments
 
--- what is no map stands in another local than a map
-one_is_no_map : (E : Env) (y i : ℕ) (map : Map Key BScalar) (w : BScalar) → slice_get E y ≡ Some (Many map) → slice_get E i ≡ Some (One w) → y ≢ i
-one_is_no_map E y i map w there here e = no_map (same_Some _ _ (sym there ∙ ap (λ j. slice_get E j) e ∙ here))
-  where
-    no_map : {map : Map Key BScalar} {w : BScalar} → Many map ≡ One w → ⊥
-    no_map e = cc
-
-pub one_kept : (E : Env) (y i : ℕ) (map : Map Key BScalar) (w : BScalar) (x : BValue) → slice_get E y ≡ Some (Many map) → slice_get E i ≡ Some (One w) → slice_get (slice_set E y x) i ≡ Some (One w)
-one_kept E y i map w x there here = set_there E y i x (one_is_no_map E y i map w there here) ∙ here
-
 -- an atom keeps its value while maps change
 pub atom_put : {n : ℕ} {E : Env} {x : t.BExpr} {w : BScalar} (y : ℕ) (map : Map Key BScalar) (z : BValue) → slice_get E y ≡ Some (Many map) → HasAtom n E x w → HasAtom n (slice_set E y z) x w
-atom_put {E} y map z there (variable {i} {v} below here) = variable below (one_kept E y i map v z there here)
-atom_put y map z there int = int
-atom_put y map z there real = real
-atom_put y map z there truth = truth
-atom_put y map z there null = null
-
-pub but_from : {O : ℕ → Type 0} {n : ℕ} {E F : Env} → Kept n E F → KeptBut O n E F
-but_from h = record { length = h.length; same = λ i below other. h.same i below }
-
-pub but_then : {O : ℕ → Type 0} {n m : ℕ} {E F G : Env} → n ≤ m → KeptBut O n E F → KeptBut O m F G → KeptBut O n E G
-but_then h k l = record { length = l.length ∙ k.length; same = λ i below other. l.same i (omega (arith, below, h)) other ∙ k.same i below other }
-
-pub but_set : {O : ℕ → Type 0} (n : ℕ) (E : Env) (i : ℕ) (w : BValue) → O i → KeptBut O n E (slice_set E i w)
-but_set {O} n E i w own = record { length = set_length E i w; same = λ j below other. set_there E i j w (λ e. other (subst O e own)) }
+atom_put {n} {E} y map z there h = atom_single (omega arith) (singles_put n E y map z there) h
 
 -- the present maps hold this state, and nothing else but new locals was changed
 pub record IsChanged (c : Context) (p : Place) (n m : ℕ) (E : Env) (s : State) (F : Env) : Type 0 where
   pub kept : KeptBut (IsLocalOf c.program.layout p.now) n E F
   pub now : HasMaps c.program.layout m p.now s F
 
-module _ (b : Bound) (c : Context) (n m : ℕ) (p : Place) (s : State) (sc : Scene) (E F : Env) (own : IsOwn c p) (within : n ≤ m) (coupled : IsCoupled b c n p s sc E) where
-  map_there : (l : Maps) (t : State) → HasMaps c.program.layout n l t E → (i : Spot) → IsSpot c.program.layout i → (map : Map Key BScalar) × (slice_get E (local_at l i) ≡ Some (Many map))
-  map_there l t h (place.Heap f) there = let u = exists_at c.program.layout.fields f there in let map = h.heap f u.0 u.1 in (map.image, map.here)
-  map_there l t h (place.Mask f) there = let u = exists_at c.program.layout.fields f there in let map = h.mask f u.0 u.1 in (map.image, map.here)
-  map_there l t h (place.Amount q) there = let us = exists_at c.program.layout.keys q there in let map = h.amount q us.0 us.1 in (map.image, map.here)
-  map_there l t h (place.Content q) there = let us = exists_at c.program.layout.keys q there in let map = h.content q us.0 us.1 in (map.image, map.here)
+-- behind other changes of these maps
+changed_again : {c : Context} {p : Place} {n m : ℕ} {E F G : Env} {s : State} → KeptBut (IsLocalOf c.program.layout p.now) n E F → IsChanged c p n m F s G → IsChanged c p n m E s G
+changed_again kept h = record { kept = but_then (omega arith) kept h.kept; now = h.now }
 
-  -- what is no map, was there before and still is
-  single_kept : KeptBut (IsLocalOf c.program.layout p.now) n E F → (i : ℕ) (w : BScalar) → i < n → slice_get E i ≡ Some (One w) → slice_get F i ≡ Some (One w)
-  single_kept kept i w below here = kept.same i below (λ l. let map = map_there p.now s coupled.now l.spot l.exists in one_is_no_map E (local_at p.now l.spot) i map.0 w map.1 here (sym l.there)) ∙ here
-
-  old_same : KeptBut (IsLocalOf c.program.layout p.now) n E F → (i : Spot) → IsSpot c.program.layout i → local_at p.old i < n → slice_get F (local_at p.old i) ≡ slice_get E (local_at p.old i)
-  old_same kept i there below = kept.same (local_at p.old i) below (λ l. own.beside l.spot i l.exists there (sym l.there))
-
-  -- where the new state is sound, all is coupled again
-  pub changed_coupled : (t : State) → IsSound b c.program.layout t → IsChanged c p n m E t F → IsCoupled b c m p t sc F
-  changed_coupled t sound h =
-      let fields = c.program.layout.fields in let keys = c.program.layout.keys in
-      record {
-        now = h.now;
-        old = record {
-          heap = λ f u there. let map = coupled.old.heap f u there in map_moved (omega (arith, map.below, within)) (old_same h.kept (place.Heap f) (slice_get_within fields f u there) map.below) map;
-          mask = λ f u there. let map = coupled.old.mask f u there in map_moved (omega (arith, map.below, within)) (old_same h.kept (place.Mask f) (slice_get_within fields f u there) map.below) map;
-          amount = λ q us there. let map = coupled.old.amount q us there in map_moved (omega (arith, map.below, within)) (old_same h.kept (place.Amount q) (slice_get_within keys q us there) map.below) map;
-          content = λ q us there. let map = coupled.old.content q us there in map_moved (omega (arith, map.below, within)) (old_same h.kept (place.Content q) (slice_get_within keys q us there) map.below) map;
-        };
-        vars = λ x u visible there. let it = coupled.vars x u visible there in
-            record { v = it.v; there = it.there; typed = it.typed; below = omega (arith, it.below, within); here = single_kept h.kept (number p.vars x) (scalar it.v) it.below it.here };
-        at = coupled.at;
-        sound = sound;
-        old_sound = coupled.old_sound;
-        store = coupled.store;
-      }
+-- where the new state is sound, all is coupled again
+pub changed_coupled : (b : Bound) (c : Context) (n m : ℕ) (p : Place) (s : State) (sc : Scene) (E F : Env) → IsOwn c p → n ≤ m → IsCoupled b c n p s sc E → (less : State) → IsSound b c.program.layout less → IsChanged c p n m E less F → IsCoupled b c m p less sc F
+changed_coupled b c n m p s sc E F own within coupled less sound h = coupled_own b c n m p p.now s less sc E F own within h.kept (singles_but c.program.layout n n p.now s E F coupled.now h.kept) h.now sound coupled
 
 -- ---- from Unit
 
@@ -409,6 +361,70 @@ unless_then_alike : {X Y : Type 0} {Q : Y → Env → Type 0} {cs : List BChoice
 unless_then_alike instead e go true f g = f refl
 unless_then_alike instead e go false f g = g refl
 
+-- ---- adding
+
+-- an atom that is a reference, as an index
+pub reference_key : (b : Bound) (n : ℕ) (E : Env) (x : t.BExpr) (r : ℕ) → HasAtom n E x (bv.Ref r) → bkey b (t.more x t.none) E ≡ end.Is (place_key r)
+reference_key b n E x r h = ap (λ (z : end.End BScalar). end.then_with z (λ v. end.then_with (m.part_of v) (λ p. end.Is (p ∷ [])))) (atom_value b n E x (bv.Ref r) h)
+
+-- so much more than is held, times a scale
+module _ (ts : List BType) (b : Bound) (c : Context) (p : Place) (apart : AreApart c.program.layout p.now) (n m : ℕ) (s : State) (E : Env) (maps : HasMaps c.program.layout m p.now s E) (k : Fraction) (scale : t.BExpr)
+    (scales : HasAtom n E scale (Real k)) (proper_scale : IsProperFraction b k) (q : t.BExpr) (w : Fraction) (atom : HasAtom n E q (Real w)) (proper : IsProperFraction b w) (at : Pos) (held : Fraction) (proper_held : IsProperFraction b held)
+    (sign : IsNotNegative held) where
+  abbrev more : Fraction
+  more = product k w
+
+  abbrev all : Fraction
+  all = sum held more
+
+  more_value : IfBounded b (fits_product k w ≡ true) → bvalue b (scaled scale q) E ≡ end.Is (Real more)
+  more_value fits = scaled_value b n E scale q k w scales atom proper_scale proper (fits_is b (fits_product k w) (Real more) fits)
+
+  proper_all : IfBounded b (fits_product k w ≡ true) → IfBounded b (fits_sum held more ≡ true) → IsProperFraction b all
+  proper_all fits_more fits_all = proper_sum b held more proper_held (proper_product b k w proper_scale proper fits_more) fits_all
+
+  -- of a place, of which there is at most 1
+  pub mask_added : (f r : ℕ) (u : Ty) (x : t.BExpr) → slice_get c.program.layout.fields f ≡ Some u → HasAtom n E x (bv.Ref r) → mask_at s f r ≡ Some held → (cs : List BChoice) →
+      Alike (IsChanged c p n m E) (then_with (added b held k w at) (λ all. unless (is_above_one all) blocks (is (with_mask s f r all)))) cs
+      (brun ts b (join (add_to (number p.now.mask f) (t.more x t.none) (scaled scale q)) (one (stmt.Assume (t.Bin op.Le (at_one (number p.now.mask f) x) one_real)))) E cs)
+  mask_added f r u x there ref is_held cs =
+      let mask = number p.now.mask f in let es = t.more x t.none in
+      let bounded = one (stmt.Assume (t.Bin op.Le (at_one mask x) one_real)) in
+      let old = maps.mask f u there in
+      let same_held : get nat_cmp old.m r ≡ held = same_Some _ _ (sym (found_in_map mask_kind m mask s.mask f E r old) ∙ is_held) in
+      let image = set key_cmp same_scalar old.image (place_key r) (Real all) in
+      let F = slice_set E mask (Many image) in
+      let kept : KeptBut (IsLocalOf c.program.layout p.now) n E F = but_set n E mask _ (record { spot = place.Mask f; exists = slice_get_within c.program.layout.fields f u there; there = refl }) in
+      added_alike b held k w at _ cs _ (λ fits_more fits_all.
+      let fraction = proper_all fits_more fits_all in
+      let add = add_to_run ts b mask es (scaled scale q) (place_key r) old.image held more E cs old.here (reference_key b n E x r ref) (old.same r tt ∙ ap Real same_held) (more_value fits_more) proper_held sign fits_all in
+      let new : HasMaps c.program.layout m p.now (with_mask s f r all) F = mask_written c m p.now s E apart maps f u r all there fraction.reduced in
+      let here = set_here E mask (Many image) (slice_get_within E mask (Many old.image) old.here) in
+      let all_value : bvalue b (at_one mask x) F ≡ end.Is (Real all) =
+      at_value b mask es (place_key r) image F here (reference_key b n F x r (atom_put mask old.image _ old.here ref))
+      ∙ ap (λ (z : BScalar). end.Is z) (get-set_same exact old.image old.typed.reduced (place_key r) (Real all)) in
+      let asked = plain_value b op.Le (at_one mask x) one_real _ _ F refl all_value refl ∙ one_test b all fraction in
+      let last : brun ts b (join (add_to mask es (scaled scale q)) bounded) E cs ≡ (if not (is_above_one all) then Done F cs else Stops Blocked cs) =
+      join_done ts b (add_to mask es (scaled scale q)) bounded E F cs cs add ∙ assume_run ts b (t.Bin op.Le (at_one mask x) one_real) (not (is_above_one all)) stmt.skip F cs asked in
+      unless_alike (is_above_one all)
+      (λ above. alike_run (last ∙ ap (λ (z : Truth). if not z then Done F cs else Stops Blocked cs) above) (stopped_first cs))
+      (λ above. alike_run (last ∙ ap (λ (z : Truth). if not z then Done F cs else Stops Blocked cs) above) (is_alike (record { kept = kept; now = new }))))
+
+  -- of an instance
+  pub amount_added : (j : ℕ) (us : List Ty) (key : Key) (js : List ℕ) (vs : List Value) → slice_get c.program.layout.keys j ≡ Some us → FitsKey us key → AreLocated n E js vs → Some key ≡ key_of vs → amount_at s j key ≡ Some held →
+      (cs : List BChoice) → Alike (IsChanged c p n m E) (then_with (added b held k w at) (λ all. is (with_amount s j key all))) cs (brun ts b (add_to (number p.now.amount j) (index js) (scaled scale q)) E cs)
+  amount_added j us key js vs there fits_key located is_key is_held cs =
+      let amounts = number p.now.amount j in
+      let old = maps.amount j us there in
+      let same_held : get key_cmp old.m key ≡ held = same_Some _ _ (sym (found_in_map (amount_kind us) m amounts s.amount j E key old) ∙ is_held) in
+      let F = slice_set E amounts (Many (set key_cmp same_scalar old.image (instance_key key) (Real all))) in
+      let kept : KeptBut (IsLocalOf c.program.layout p.now) n E F = but_set n E amounts _ (record { spot = place.Amount j; exists = slice_get_within c.program.layout.keys j us there; there = refl }) in
+      added_alike b held k w at _ cs _ (λ fits_more fits_all.
+      let add = add_to_run ts b amounts (index js) (scaled scale q) (instance_key key) old.image held more E cs old.here (index_key b n E js vs key located is_key) (old.same key fits_key ∙ ap Real same_held) (more_value fits_more) proper_held
+      sign fits_all in
+      let new : HasMaps c.program.layout m p.now (with_amount s j key all) F = amount_written c m p.now s E apart maps j us key all there fits_key (proper_all fits_more fits_all).reduced in
+      alike_run add (is_alike (record { kept = kept; now = new })))
+
 -- ---- a place
 
 module _ (ts : List BType) (b : Bound) (c : Context) (p : Place) (s : State) (sc : Scene) (own : IsOwn c p) (n : ℕ) (E : Env) (coupled : IsCoupled b c n p s sc E) (full : length E ≡ length ts) (k : Fraction) (scale : t.BExpr)
@@ -422,9 +438,6 @@ module _ (ts : List BType) (b : Bound) (c : Context) (p : Place) (s : State) (sc
 
     abbrev es : t.BExprs
     es = t.more x t.none
-
-    place_there : (F : Env) → HasAtom n F x (bv.Ref r) → bkey b es F ≡ end.Is (place_key r)
-    place_there F h = ap (λ (z : end.End BScalar). end.then_with z (λ v. end.then_with (m.part_of v) (λ p. end.Is (p ∷ [])))) (atom_value b n F x (bv.Ref r) h)
 
     abbrev bounded : BStmts
     bounded = one (stmt.Assume (t.Bin op.Le (at_one mask x) one_real))
@@ -450,7 +463,7 @@ module _ (ts : List BType) (b : Bound) (c : Context) (p : Place) (s : State) (sc
         let fitting = value_found coupled.sound.fits f r u there in
         let typed_old : type_of old ≡ u = ap type_of (same_Some _ _ (sym is_old ∙ fitting.1.0)) ∙ fitting.1.1.typed in
         let ref1 : HasAtom n E1 x (bv.Ref r) = atom_agrees k1.same ref in
-        let key1 = place_there E1 ref1 in
+        let key1 = reference_key b n E1 x r ref1 in
         let held_value : bvalue b (at_one mask x) E1 ≡ end.Is (Real held) = read_map mask_kind b m mask s.mask f E1 r es mask1 tt key1 in
         let old_value : bvalue b (at_one heap x) E1 ≡ end.Is (scalar old) = read_map (heap_kind u) b m heap s.heap f E1 r es heap1 tt key1 in
         let new_value : bvalue b (t.Var n) E1 ≡ end.Is (scalar v) = ap (λ (o : Option BValue). end.then_with (end.found o) scalar_in) (set_here E n (One (scalar v)) long) in
@@ -463,37 +476,15 @@ module _ (ts : List BType) (b : Bound) (c : Context) (p : Place) (s : State) (sc
         ∙ ap (λ (z : Evaluated State). then_with (if is_none held then is new else z) go) (after_nothing (unless (not (value_eq v old)) blocks (is s))) in
         let E2 = slice_set E1 heap (Many (set key_cmp same_scalar heap1.image (place_key r) (scalar v))) in
         let M2 : HasMaps c.program.layout m p.now new E2 = value_written c m p.now s E1 own.apart M1 f u r v there typed reduced in
-        let mask2 = M2.mask f u there in
-        let same_held : get nat_cmp mask2.m r ≡ held = same_Some _ _ (sym (found_in_map mask_kind m mask new.mask f E2 r mask2) ∙ is_held) in
         let ref2 : HasAtom n E2 x (bv.Ref r) = atom_put heap heap1.image _ heap1.here ref1 in
         let scale2 : HasAtom n E2 scale (Real k) = atom_put heap heap1.image _ heap1.here (atom_agrees k1.same scales.atom) in
         let atom2 : HasAtom n E2 q (Real w) = atom_put heap heap1.image _ heap1.here (atom_agrees k1.same atom) in
-        let more = product k w in let all = sum held more in
-        let E3 = slice_set E2 mask (Many (set key_cmp same_scalar mask2.image (place_key r) (Real all))) in
-        let own_heap : IsLocalOf c.program.layout p.now heap = record { spot = place.Heap f; exists = exists; there = refl } in
-        let own_mask : IsLocalOf c.program.layout p.now mask = record { spot = place.Mask f; exists = exists; there = refl } in
-        let O = IsLocalOf c.program.layout p.now in
-        let b2 : KeptBut O n E1 E2 = but_set n E1 heap _ own_heap in
-        let b3 : KeptBut O n E2 E3 = but_set n E2 mask _ own_mask in
-        let kept : KeptBut O n E E3 = but_then (omega arith) (but_from k1) (but_then (omega arith) b2 b3) in
+        let kept : KeptBut (IsLocalOf c.program.layout p.now) n E E2 = kept_but_then (omega arith) k1 (but_set n E1 heap _ (record { spot = place.Heap f; exists = exists; there = refl })) in
         found_alike (mask_at s f r) held _ is_held (alike_of same_written (
         held_cases ts b (is_none held) (value_eq v old) new s go (t.Bin op.Implies (t.Bin op.Ne (at_one mask x) zero_real) (t.Bin op.Eq (at_one heap x) (t.Var n))) putting E1 cs test is_same (
         alike_run (put_run ts b heap es (t.Var n) (place_key r) heap1.image (scalar v) (join (add_to mask es (scaled scale q)) bounded) E1 cs heap1.here key1 new_value) (
-        added_alike b held k w at _ cs _ (λ fits_more fits_all.
-        let value2 : bvalue b (scaled scale q) E2 ≡ end.Is (Real more) = scaled_value b n E2 scale q k w scale2 atom2 scales.proper proper (fits_is b (fits_product k w) (Real more) fits_more) in
-        let add = add_to_run ts b mask es (scaled scale q) (place_key r) mask2.image held more E2 cs mask2.here (place_there E2 ref2) (mask2.same r tt ∙ ap Real same_held) value2 proper_held sign fits_all in
-        let proper_all : IsProperFraction b all = proper_sum b held more proper_held (proper_product b k w scales.proper proper fits_more) fits_all in
-        let M3 : HasMaps c.program.layout m p.now (with_mask new f r all) E3 = mask_written c m p.now new E2 own.apart M2 f u r all there proper_all.reduced in
-        let here3 = set_here E2 mask (Many (set key_cmp same_scalar mask2.image (place_key r) (Real all))) (slice_get_within E2 mask (Many mask2.image) mask2.here) in
-        let all_value : bvalue b (at_one mask x) E3 ≡ end.Is (Real all) =
-        at_value b mask es (place_key r) (set key_cmp same_scalar mask2.image (place_key r) (Real all)) E3 here3 (place_there E3 (atom_put mask mask2.image _ mask2.here ref2))
-        ∙ ap (λ (z : BScalar). end.Is z) (get-set_same exact mask2.image mask2.typed.reduced (place_key r) (Real all)) in
-        let asked = plain_value b op.Le (at_one mask x) one_real _ _ E3 refl all_value refl ∙ one_test b all proper_all in
-        let last : brun ts b (join (add_to mask es (scaled scale q)) bounded) E2 cs ≡ (if not (is_above_one all) then Done E3 cs else Stops Blocked cs) =
-        join_done ts b (add_to mask es (scaled scale q)) bounded E2 E3 cs cs add ∙ assume_run ts b (t.Bin op.Le (at_one mask x) one_real) (not (is_above_one all)) stmt.skip E3 cs asked in
-        unless_alike (is_above_one all)
-        (λ above. alike_run (last ∙ ap (λ (z : Truth). if not z then Done E3 cs else Stops Blocked cs) above) (stopped_first cs))
-        (λ above. alike_run (last ∙ ap (λ (z : Truth). if not z then Done E3 cs else Stops Blocked cs) above) (is_alike (record { kept = kept; now = M3 }))))))))
+        weaken_alike (λ t F h. changed_again kept h)
+        (mask_added ts b c p own.apart n m new E2 M2 k scale scale2 scales.proper q w atom2 proper at held proper_held sign f r u x there ref2 is_held cs)))))
 
     pub fill_place_alike : (cs : List BChoice) → Alike (IsChanged c p n (n + 1) E) (fill_place b sc k f r w d at s) cs (brun ts b (fill_by p at q from (fill_place_code p scale u f x q n from)) E cs)
     fill_place_alike cs =
@@ -518,12 +509,6 @@ module _ (ts : List BType) (b : Bound) (c : Context) (p : Place) (s : State) (sc
 
   -- ---- an instance
 
-  located_put : (F : Env) (y : ℕ) (map : Map Key BScalar) (z : BValue) (js : List ℕ) (vs : List Value) → slice_get F y ≡ Some (Many map) → AreLocated n F js vs → AreLocated n (slice_set F y z) js vs
-  located_put F y map z [] [] there alike.AreLocated.none = alike.AreLocated.none
-  located_put F y map z [] (v ∷ vs) there h = elim h [ ]
-  located_put F y map z (i ∷ js) [] there h = elim h [ ]
-  located_put F y map z (i ∷ js) (v ∷ vs) there (alike.AreLocated.more below here rest) = alike.AreLocated.more below (one_kept F y i map (scalar v) z there here) (located_put F y map z js vs there rest)
-
   module _ (j : ℕ) (us : List Ty) (key : Key) (js : List ℕ) (vs : List Value) (there : slice_get c.program.layout.keys j ≡ Some us) (fits_key : FitsKey us key) (located : AreLocated n E js vs) (is_key : Some key ≡ key_of vs) where
     abbrev amounts : ℕ
     amounts = number p.now.amount j
@@ -537,8 +522,7 @@ module _ (ts : List BType) (b : Bound) (c : Context) (p : Place) (s : State) (sc
     abbrev filling : BStmts
     filling = stmt.first (stmt.Put contents ks (t.Var from)) (add_to amounts ks (scaled scale q))
 
-    fill_held_alike : (cs : List BChoice) →
-        Alike (IsChanged c p n n E) (fill_held b k j key w d at s) cs (brun ts b (stmt.first (same_where_held (t.At amounts ks) (t.At contents ks) (t.Var from)) filling) E cs)
+    pub fill_held_alike : (cs : List BChoice) → Alike (IsChanged c p n n E) (fill_held b k j key w d at s) cs (brun ts b (fill_instance_code p scale j ks q from) E cs)
     fill_held_alike cs =
         let exists = slice_get_within c.program.layout.keys j us there in
         let amount1 = coupled.now.amount j us there in let content1 = coupled.now.content j us there in
@@ -561,25 +545,15 @@ module _ (ts : List BType) (b : Bound) (c : Context) (p : Place) (s : State) (sc
         ∙ ap (λ (z : Evaluated State). then_with (if is_none held then is new else z) go) (after_nothing (unless (not (same_content d old)) blocks (is s))) in
         let E2 = slice_set E contents (Many (set key_cmp same_scalar content1.image (instance_key key) (Snap d))) in
         let M2 : HasMaps c.program.layout n p.now new E2 = content_written c n p.now s E own.apart coupled.now j us key d there fits_key source.reduced in
-        let amount2 = M2.amount j us there in
-        let same_held : get key_cmp amount2.m key ≡ held = same_Some _ _ (sym (found_in_map (amount_kind us) n amounts new.amount j E2 key amount2) ∙ is_held) in
-        let key2 = index_key b n E2 js vs key (located_put E contents content1.image _ js vs content1.here located) is_key in
+        let located2 = located_single (omega arith) (singles_put n E contents content1.image _ content1.here) located in
         let scale2 : HasAtom n E2 scale (Real k) = atom_put contents content1.image _ content1.here scales.atom in
         let atom2 : HasAtom n E2 q (Real w) = atom_put contents content1.image _ content1.here atom in
-        let more = product k w in let all = sum held more in
-        let E3 = slice_set E2 amounts (Many (set key_cmp same_scalar amount2.image (instance_key key) (Real all))) in
-        let O = IsLocalOf c.program.layout p.now in
-        let b2 : KeptBut O n E E2 = but_set n E contents _ (record { spot = place.Content j; exists = exists; there = refl }) in
-        let b3 : KeptBut O n E2 E3 = but_set n E2 amounts _ (record { spot = place.Amount j; exists = exists; there = refl }) in
+        let kept : KeptBut (IsLocalOf c.program.layout p.now) n E E2 = but_set n E contents _ (record { spot = place.Content j; exists = exists; there = refl }) in
         found_alike (amount_at s j key) held _ is_held (alike_of same_contained (
         held_cases ts b (is_none held) (same_content d old) new s go (t.Bin op.Implies (t.Bin op.Ne (t.At amounts ks) zero_real) (t.Bin op.Eq (t.At contents ks) (t.Var from))) filling E cs test is_same (
         alike_run (put_run ts b contents ks (t.Var from) (instance_key key) content1.image (Snap d) (add_to amounts ks (scaled scale q)) E cs content1.here key1 new_value) (
-        added_alike b held k w at _ cs _ (λ fits_more fits_all.
-        let value2 : bvalue b (scaled scale q) E2 ≡ end.Is (Real more) = scaled_value b n E2 scale q k w scale2 atom2 scales.proper proper (fits_is b (fits_product k w) (Real more) fits_more) in
-        let add = add_to_run ts b amounts ks (scaled scale q) (instance_key key) amount2.image held more E2 cs amount2.here key2 (amount2.same key fits_key ∙ ap Real same_held) value2 proper_held sign fits_all in
-        let proper_all : IsProperFraction b all = proper_sum b held more proper_held (proper_product b k w scales.proper proper fits_more) fits_all in
-        let M3 : HasMaps c.program.layout n p.now (with_amount new j key all) E3 = amount_written c n p.now new E2 own.apart M2 j us key all there fits_key proper_all.reduced in
-        alike_run add (is_alike (record { kept = but_then (omega arith) b2 b3; now = M3 })))))))
+        weaken_alike (λ t F h. changed_again kept h)
+        (amount_added ts b c p own.apart n n new E2 M2 k scale scale2 scales.proper q w atom2 proper at held proper_held sign j us key js vs there fits_key located2 is_key is_held cs)))))
 
     pub fill_instance_alike : (cs : List BChoice) → Alike (IsChanged c p n n E) (fill_instance b sc k j key w d at s) cs (brun ts b (fill_by p at q from (fill_instance_code p scale j ks q from)) E cs)
     fill_instance_alike cs =

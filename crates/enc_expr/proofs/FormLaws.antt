@@ -43,7 +43,8 @@ use Rattle.enc_expr.specs.Alike as a
 use Rattle.enc_expr.specs.Alike.{Alike, Kept, Agree, IsValued, AreValued, none, more, variable}
 use Rattle.enc_expr.proofs.Simulated.{IsCounted, AreAsleep, Sleeps, Simulates, Computes, value, over}
 use Rattle.enc_expr.proofs.RunLaws.{join_skip, join_run, join_done, under_awake, assign_run, atom_value}
-use Rattle.enc_expr.proofs.AlikeLaws.{is_alike, weaken_alike, kept_alike, kept_itself, kept_then, kept_set, locals_first, locals_rest, coupled_kept, awake_kept, ready_rest}
+use Rattle.enc_expr.proofs.AlikeLaws.{is_alike, weaken_alike, kept_alike}
+use Rattle.enc_expr.proofs.FrameLaws.{kept_itself, kept_then, kept_set, locals_first, locals_rest, coupled_kept, awake_kept, ready_rest}
 use Rattle.enc_expr.proofs.AtomLaws.{Holds, holds_more}
 use Rattle.enc_expr.proofs.OperatorLaws.{plain_computes, negative_computes, negation_computes}
 use Rattle.enc_expr.proofs.AmountLaws.{then_again}

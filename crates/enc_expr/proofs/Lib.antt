@@ -3,6 +3,7 @@ pub mod CodeLaws
 pub mod AtomLaws
 pub mod OpeningLaws
 pub mod InsideLaws
+pub mod CopyLaws
 pub mod UnfoldingLaws
 pub mod OperatorLaws
 pub mod AmountLaws
@@ -21,6 +22,7 @@ pub mod EmitLaws
 pub mod TypedMore
 pub mod RunLaws
 pub mod AlikeLaws
+pub mod FrameLaws
 pub mod BaseLaws
 pub mod FormLaws
 pub mod MapLaws

@@ -1,5 +1,5 @@
 -- A conjunction is filled from a pair: its parts are chosen, and then each side is filled from its part.
-use Rattle.std.proofs.Common.{◌≡◌, ◌+◌, ◌<◌, ◌≤◌, ℕ, nat_lt, Bool as Truth, true, false, List, [], ◌∷◌, ◌++◌, length, Option, Some, None, slice_get, slice_set, if◌then◌else◌, ◌⊎◌, inl, inr, refl, sym, ap, subst, ◌∙◌, arith}
+use Rattle.std.proofs.Common.{◌≡◌, ◌+◌, ◌<◌, ◌≤◌, ℕ, nat_lt, Bool as Truth, true, false, List, [], ◌∷◌, ◌++◌, length, Some, None, slice_get, slice_set, if◌then◌else◌, ◌⊎◌, inl, inr, refl, sym, ap, subst, ◌∙◌, arith}
 use Rattle.std.specs.Bool.{⊤}
 use Rattle.std.proofs.lemmas.Bool.{true≢false, lt-ltb}
 use Rattle.std.proofs.lemmas.Option.{slice_get_within}
@@ -7,7 +7,6 @@ use Rattle.vb_value.specs.Bound.{Bound, Bounded, Unbounded}
 use Rattle.vb_value.specs.Content.{Content, Unit, Leaf, Pair, nodes, same_content, IsReducedContent, IsProperContent}
 use Rattle.vb_value.specs.Equality.{Decides-same_content}
 use Rattle.vb_value.specs.Fraction.{Fraction}
-use Rattle.vb_value.specs.Layout.{Layout}
 use Rattle.viper_core.specs.Typing.{Context}
 use Rattle.viper_state.specs.Event as event
 use Rattle.viper_state.specs.State.{State}
@@ -31,18 +30,19 @@ use Rattle.boogie_meaning.specs.Quantified.{bvalue}
 use Rattle.boogie_meaning.specs.Run.{Run, Stops, Blocked, Short, Over, chosen, with_truth, assumed, then_run, brun}
 use Rattle.boogie_meaning.proofs.PatternLaws.{set_here, set_there}
 use Rattle.run_file.specs.Moves.{moves}
-use Rattle.enc_expr.specs.Place.{Maps, Place, Spot, Heap, Mask, Amount, Content as Held, IsSpot, local_at, IsLocalOf}
+use Rattle.enc_expr.specs.Place.{Place}
 use Rattle.enc_expr.specs.Code.{Emitting, join, then_emit, declares, Guard, guarded, puts}
 use Rattle.enc_expr.specs.Encoding.{pair_code}
-use Rattle.enc_expr.specs.Coupling.{Env, HasMaps, IsAwake, AreLocals}
+use Rattle.enc_expr.specs.Coupling.{Env, IsAwake, AreLocals}
 use Rattle.enc_expr.specs.Alike as a
-use Rattle.enc_expr.specs.Alike.{Alike, IsStopped, Follows, Kept, KeptBut, HasAtom, variable, int, real, truth, null, IsScale, IsFilled}
+use Rattle.enc_expr.specs.Alike.{Alike, IsStopped, Kept, Follows, IsScale, IsFilled}
 use Rattle.enc_expr.proofs.Simulated.{IsCounted, Fills}
 use Rattle.enc_expr.proofs.RunLaws.{join_run, guarded_awake, assume_run}
-use Rattle.enc_expr.proofs.AlikeLaws.{after_alike, then_alike, weaken_alike, kept_then, kept_set, locals_first, locals_rest, coupled_kept, awake_kept}
+use Rattle.enc_expr.proofs.AlikeLaws.{after_alike, then_alike, weaken_alike}
+use Rattle.enc_expr.proofs.FrameLaws.{kept_then, but_then, kept_but_then, Singles, singles_but, scale_single, awake_single, kept_set, locals_first, locals_rest, coupled_kept, awake_kept}
 use Rattle.enc_expr.proofs.OperatorLaws.{plain_value}
-use Rattle.enc_expr.proofs.OpeningLaws.{alike_run, alike_of, exists_at}
-use Rattle.enc_expr.proofs.ChoiceLaws.{scale_kept, kept_but_then}
+use Rattle.enc_expr.proofs.OpeningLaws.{alike_run, alike_of}
+use Rattle.enc_expr.proofs.ChoiceLaws.{scale_kept}
 
 -- ---- choices of contents
 
@@ -213,32 +213,7 @@ module _ (ts : List BType) (b : Bound) (l r from : ℕ) (d : Content) (ys : BStm
 
 -- ---- both sides
 
--- a local with a scalar holds no map
-not_map : (layout : Layout) (n : ℕ) (l : Maps) (s : State) (E : Env) (i : ℕ) (x : BScalar) → HasMaps layout n l s E → slice_get E i ≡ Some (One x) → IsLocalOf layout l i → ⊥
-not_map layout n l s E i x h here own = by_spot own.spot own.exists own.there
-  where
-    no_scalar : {x : BScalar} {m : _} {o : Option BValue} → o ≡ Some (One x) → o ≡ Some (w.Many m) → ⊥
-    no_scalar h k = cc
-
-    by_spot : (spot : Spot) → IsSpot layout spot → i ≡ local_at l spot → ⊥
-    by_spot (Heap f) exists there = let u = exists_at layout.fields f exists in no_scalar here (ap (slice_get E) there ∙ (h.heap f u.0 u.1).here)
-    by_spot (Mask f) exists there = let u = exists_at layout.fields f exists in no_scalar here (ap (slice_get E) there ∙ (h.mask f u.0 u.1).here)
-    by_spot (Amount q) exists there = let u = exists_at layout.keys q exists in no_scalar here (ap (slice_get E) there ∙ (h.amount q u.0 u.1).here)
-    by_spot (Held q) exists there = let u = exists_at layout.keys q exists in no_scalar here (ap (slice_get E) there ∙ (h.content q u.0 u.1).here)
-
 module _ (ts : List BType) (b : Bound) (c : Context) (p : Place) (sc : Scene) (scale : t.BExpr) (k : Fraction) where
-  -- what is no map stays while the maps of the present state change
-  atom_stays : {n m : ℕ} {E F : Env} {s : State} {x : t.BExpr} {z : BScalar} → n ≤ m → HasMaps c.program.layout n p.now s E → KeptBut (IsLocalOf c.program.layout p.now) n E F → HasAtom n E x z → HasAtom m F x z
-  atom_stays {n} {E = E} {s = s} within h kept (variable {i} below here) = variable (omega (arith, below, within)) (kept.same i below (not_map c.program.layout n p.now s E i _ h here) ∙ here)
-  atom_stays within h kept int = int
-  atom_stays within h kept real = real
-  atom_stays within h kept truth = truth
-  atom_stays within h kept null = null
-
-  awake_stays : (g : Guard) {n m : ℕ} {E F : Env} {s : State} → n ≤ m → HasMaps c.program.layout n p.now s E → KeptBut (IsLocalOf c.program.layout p.now) n E F → IsAwake g n E → IsAwake g m F
-  awake_stays None within h kept awake = tt
-  awake_stays (Some i) {n} {E = E} {s = s} within h kept awake = (omega (arith, awake.0, within), kept.same i awake.0 (not_map c.program.layout n p.now s E i _ h awake.1) ∙ awake.1)
-
   pub sides_fill : (g : Guard) (s : State) (from : ℕ) (d : Content) (left right : ℕ → Emitting ⊤) (e : Content → Evaluated State) (h : State → Content → Evaluated State) → ((i : ℕ) → IsCounted (left i)) → ((i : ℕ) → IsCounted (right i)) →
       ((d : Content) (from : ℕ) → Fills ts b c p g s sc scale k from d (left from) (e d)) → ((t : State) (d : Content) (from : ℕ) → Fills ts b c p g t sc scale k from d (right from) (h t d)) →
       Fills ts b c p g s sc scale k from d
@@ -274,21 +249,19 @@ module _ (ts : List BType) (b : Bound) (c : Context) (p : Place) (sc : Scene) (s
         ((fills x n).alike m F rest coupled1 (record { below = omega arith; here = at_first; reduced = reduced.0; proper = (proper_closed b).left x y proper }) scaled1
         (record { awake = awake; full = kept.length ∙ ready.full; locals = locals_first ts m one.locals two.locals ready.locals.1.1 }))
         (λ t G last filled.
+        let singles : Singles m F G = singles_but layout m m p.now s F G coupled1.now filled.kept in
         weaken_alike (λ t H i. record { kept = kept_but_then (omega arith) kept (but_then low filled.kept i.kept); coupled = i.coupled })
         ((fills2 t y r).alike one.next G last filled.coupled
         (record {
           below = omega (arith, low);
-          here = filled.kept.same r (omega arith) (not_map layout m p.now s F r (Snap y) coupled1.now at_second) ∙ at_second;
+          here = singles.same r (Snap y) (omega arith) at_second;
           reduced = reduced.1;
           proper = (proper_closed b).right x y proper;
         })
-        (record { atom = atom_stays low coupled1.now filled.kept scaled1.atom; positive = scaled1.positive; proper = scaled1.proper })
+        (scale_single low singles scaled1)
         (record {
-          awake = awake_stays g low coupled1.now filled.kept awake;
+          awake = awake_single g low singles awake;
           full = filled.kept.length ∙ kept.length ∙ ready.full;
           locals = subst (λ i. AreLocals ts i two.locals) ((counted n).next m) (locals_rest ts m one.locals two.locals ready.locals.1.1);
         }))))) cs (is_parted d go));
   }
-    where
-      but_then : {O : ℕ → Type 0} {n m : ℕ} {E F G : Env} → n ≤ m → KeptBut O n E F → KeptBut O m F G → KeptBut O n E G
-      but_then within h k = record { length = k.length ∙ h.length; same = λ i below other. k.same i (omega (arith, below, within)) other ∙ h.same i below other }

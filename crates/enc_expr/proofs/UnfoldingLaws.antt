@@ -1,5 +1,6 @@
 -- The code of `unfolding` ends as it does, where that of its parts does.
 use Rattle.std.proofs.Common.{◌≡◌, ◌≢◌, ◌+◌, ◌<◌, ◌≤◌, ℕ, Bool as Truth, true, false, List, [], ◌∷◌, ◌++◌, length, All, Some, slice_get, if◌then◌else◌, refl, sym, ap, subst, ◌∙◌, arith}
+use Rattle.std.specs.Bool.{⊤}
 use Rattle.std.proofs.lemmas.Option.{slice_get_within}
 use Rattle.std.proofs.lemmas.List.Elements.{All-head, All-tail}
 use Rattle.vb_base.specs.declared.places.Pos.{Pos}
@@ -33,20 +34,22 @@ use Rattle.boogie_tree.specs.Value.{BChoice, Real}
 use Rattle.boogie_tree.specs.Values.{plain_type}
 use Rattle.boogie_tree.specs.declared.exprs.BBase.TheVariants as base
 use Rattle.boogie_meaning.specs.Run.{Run, Done, brun}
-use Rattle.enc_expr.specs.Place.{Place, with_now, with_vars}
+use Rattle.enc_expr.specs.Place.{Maps, Place, with_now, with_vars, IsLocalOf}
 use Rattle.enc_expr.specs.Kinds.{Kinds, kinds_in, body_kinds, state_types}
 use Rattle.enc_expr.specs.Code.{Emitting, join, gives, then_emit, declares, declares_all, Guard, puts}
 use Rattle.enc_expr.specs.Pieces.{Operand, Atom, is_atom, in_local, atomic, Located, located_from, located, index}
 use Rattle.enc_expr.specs.Encoding.{maps_from, copy_state, taking, code, unfolding_code, codes, body_code}
 use Rattle.enc_expr.specs.Coupling.{Env, IsCoupled, IsAwake, AreLocals, IsReady, IsOwn}
-use Rattle.enc_expr.specs.Alike.{Alike, Kept, IsValued, AreValues, AreValued}
+use Rattle.enc_expr.specs.Alike.{Alike, Kept, KeptBut, IsValued, AreValues, AreValued, IsFilled}
 use Rattle.enc_expr.proofs.Simulated.{IsCounted, Simulates, Fills}
 use Rattle.enc_expr.proofs.RunLaws.{then_done, join_run}
-use Rattle.enc_expr.proofs.AlikeLaws.{is_alike, then_alike, weaken_alike, kept_alike, kept_then, locals_first, locals_rest, coupled_kept, awake_kept, ready_rest}
+use Rattle.enc_expr.proofs.AlikeLaws.{is_alike, then_alike, weaken_alike, kept_alike}
+use Rattle.enc_expr.proofs.FrameLaws.{kept_then, but_then, Singles, singles_then, singles_but, awake_single, locals_first, locals_rest, coupled_kept, awake_kept, ready_rest}
 use Rattle.enc_expr.proofs.CodeLaws.{code_counted, codes_counted, body_counted, located_counted, atomic_counted}
 use Rattle.enc_expr.proofs.AtomLaws.{Holds, values_more}
 use Rattle.enc_expr.proofs.OpeningLaws.{alike_run, found_alike}
-use Rattle.enc_expr.proofs.InsideLaws.{filled_kept, inner_coupled, own_maps, values_fit, IsOpened, instance_opened}
+use Rattle.enc_expr.proofs.InsideLaws.{inner_coupled, body_owns, values_fit, IsOpened}
+use Rattle.enc_expr.proofs.CopyLaws.{copies_kept, own_maps, copy_opened}
 
 -- ---- ways of writing beside ways of going on
 
@@ -97,6 +100,33 @@ key_exists (u ∷ us) (v.Bool q ∷ vs) h fits = let rest = key_exists us vs (Al
 key_exists (u ∷ us) (v.Ref r ∷ vs) h fits = let rest = key_exists us vs (All-tail (λ u. u ≢ ty.Perm) u us h) fits.1 in (part.Ref r ∷ rest.0, ap (in_front (Some (part.Ref r))) rest.1)
 key_exists (u ∷ us) (v.Perm q ∷ vs) h fits = absurd (All-head (λ u. u ≢ ty.Perm) u us h (sym fits.0.typed))
 
+-- ---- the body
+
+-- in maps that are none of the old state
+module _ (ts : List BType) (b : Bound) (c : Context) (d : Predicate) (p : Place) (g : Guard) (s : State) (sc : Scene) (q : ℕ) (body : e.Assertion) (own : Maps) (owns : IsOwn c (with_now own p)) where
+  -- where it is read
+  abbrev in_own : List ℕ → Place
+  in_own is = with_now own (with_vars is p)
+
+  abbrev body_in : List ℕ → t.BExpr → ℕ → Emitting ⊤
+  body_in is scale from = body_code (body_kinds (kinds_in c) q) (in_own is) g scale body from
+
+  -- behind the opening it is produced, and all is coupled again
+  pub body_opened : (n from : ℕ) (is : List ℕ) (vs : List Value) (w : Fraction) (scale : t.BExpr) (E F : Env) (less : State) (key : Key) (cs : List BChoice) → IsCoupled b c n p s sc E → n ≤ from → IsAwake g n E → length E ≡ length ts →
+      (o : IsOpened b c d p own s sc q key vs w n from is scale E less F) →
+      Fills ts b (predicate_context c.program d) (in_own is) g less (with_variables vs sc) scale w from o.content (body_in is scale from) (opened b body o.content less (with_variables vs sc) w) → AreLocals ts (from + 1) (body_in is scale from (from + 1)).locals →
+      (let z = body_in is scale from (from + 1) in Alike (λ t G. IsFilled b c n z.next (with_now own p) sc E t G × Singles n E G) (opened b body o.content less (with_variables vs sc) w) cs (brun ts b z.stmts F cs))
+  body_opened n from is vs w scale E F less key cs coupled low awake full o fills locals =
+      let y = from + 1 in
+      let z = body_in is scale from y in
+      let counted : IsCounted (body_in is scale from) = body_counted (body_kinds (kinds_in c) q) (in_own is) g scale body from in
+      let ready : IsReady ts g y z.locals F = record { awake = awake_single g (omega (arith, low)) o.singles awake; full = o.kept.length ∙ full; locals = locals } in
+      weaken_alike (λ t G filled.
+      let singles : Singles n E G = singles_then (omega (arith, low)) o.singles (singles_but c.program.layout y y own less F G o.coupled.now filled.kept) in
+      let kept : KeptBut (IsLocalOf c.program.layout own) n E G = but_then (omega (arith, low)) o.kept filled.kept in
+      (record { kept = kept; coupled = inner_coupled b c d n z.next p own is s t sc vs E G owns coupled (omega (arith, low, counted.next y)) kept singles filled.coupled }, singles))
+      (fills.alike y F cs o.coupled o.source o.scale ready)
+
 -- ---- the expression
 
 module _ (ts : List BType) (b : Bound) (c : Context) (d : Predicate) (p : Place) (g : Guard) (s : State) (sc : Scene) (q : ℕ) (u : Ty) (body : e.Assertion) (inner : e.Expr) (at : Pos) where
@@ -123,26 +153,26 @@ module _ (ts : List BType) (b : Bound) (c : Context) (d : Predicate) (p : Place)
   inside x is scale from = then_emit (body_code (body_kinds k q) (body_place x is) g scale body from) (λ z. code k (inner_place x) g inner)
 
   inside_alike : BodyFills → InnerReads → (n x from : ℕ) (is : List ℕ) (vs : List Value) (w : Fraction) (amount : t.BExpr) (E F : Env) (less : State) (key : Key) (cs : List BChoice) → IsCoupled b c n p s sc E → n ≤ x → x ≤ from →
-      FitsStore d.params vs → IsAwake g n E → length E ≡ length ts → (o : IsOpened b c d p s sc q key vs w n x from is amount E less F) → AreLocals ts (from + 1) (inside x is amount from (from + 1)).locals →
+      FitsStore d.params vs → IsAwake g n E → length E ≡ length ts → (o : IsOpened b c d p (maps_from c.program.layout x) s sc q key vs w n from is amount E less F) → AreLocals ts (from + 1) (inside x is amount from (from + 1)).locals →
       (let z = inside x is amount from (from + 1) in
       Alike (IsValued b n z.next z.value u E) (then_with (opened b body o.content less (with_variables vs sc) w) (λ copy. value b inner copy sc)) cs (brun ts b z.stmts F cs))
   inside_alike fills reads n x from is vs w amount E F less key cs coupled low high fits awake full o locals =
       let y = from + 1 in
+      let own = maps_from c.program.layout x in
+      let owns = own_maps b c n x p s sc E coupled low in
       let first = body_code (body_kinds k q) (body_place x is) g amount body from in
       let second = code k (inner_place x) g inner in
       let counted : IsCounted first = body_counted (body_kinds k q) (body_place x is) g amount body from in
       let m = (first y).next in
-      let more : y ≤ m = omega (arith, counted.next y) in
-      let awake_here : IsAwake g y F = awake_kept g (omega (arith, low, high)) o.kept awake in
+      let more : n ≤ m = omega (arith, low, high, counted.next y) in
       emit_alike ts b first (λ z. second) y F cs _ _
-      ((fills x is less vs amount w o.content from (own_maps b c d n x p s sc is E coupled low) fits).alike y F cs o.coupled o.source o.scale
-      (record { awake = awake_here; full = o.kept.length ∙ full; locals = locals_first ts y (first y).locals (second m).locals locals }))
-      (λ t G rest filled.
-      let kept : Kept n E G = kept_then low o.kept (filled_kept c.program.layout x y F G (omega (arith, high)) filled.kept) in
-      weaken_alike (λ w H valued. record { kept = kept_then (omega (arith, low, high, more)) kept valued.kept; typed = valued.typed; here = valued.here })
-      ((reads x t).alike m G rest (inner_coupled b c d n m p (maps_from k.layout x) is s t sc vs E G coupled (omega (arith, low, high, more)) kept filled.coupled)
-      (record {
-        awake = awake_kept g (omega (arith, low, high, more)) kept awake;
+      (body_opened ts b c d p g s sc q body own owns n from is vs w amount E F less key cs coupled (omega (arith, low, high)) awake full o (fills x is less vs amount w o.content from (body_owns c d p own is owns) fits)
+      (locals_first ts y (first y).locals (second m).locals locals))
+      (λ t G rest h.
+      let kept : Kept n E G = copies_kept c.program.layout n x n E G low (omega arith) h.0.kept in
+      weaken_alike (λ w H valued. record { kept = kept_then more kept valued.kept; typed = valued.typed; here = valued.here })
+      ((reads x t).alike m G rest h.0.coupled (record {
+        awake = awake_kept g more kept awake;
         full = kept.length ∙ full;
         locals = subst (λ i. AreLocals ts i (second m).locals) (counted.next y) (locals_rest ts y (first y).locals (second m).locals locals);
       })))
@@ -179,7 +209,7 @@ module _ (ts : List BType) (b : Bound) (c : Context) (d : Predicate) (p : Place)
       quiet_alike ts b (located xs) (λ l. then_emit (atomic m) (λ a. then_emit (declares_all own) (λ x. then_emit (declares snap) (λ from. then_emit (puts g (opening l a x from)) (λ z. inside x l.locals a.expr from))))) n E cs (located_quiet xs n) (
       quiet_alike ts b (atomic m) (λ a. then_emit (declares_all own) (λ x. then_emit (declares snap) (λ from. then_emit (puts g (opening l.value a x from)) (λ z. inside x l.value.locals a.expr from)))) l.next E cs (atomic_quiet m l.next) (
       emit_alike ts b (puts g (opening l.value a.value x from)) (λ z. inside x l.value.locals a.value.expr from) (from + 1) E cs _ _
-      (instance_opened ts b c d p g s sc q key vs w at n xs m E cs coupled ready.awake ready.full (locals_first ts n l.locals (a.locals ++ after_x) ready.locals) (locals_first ts l.next a.locals after_x at_l) within there are_values proper
+      (copy_opened ts b c d p g s sc q key vs w at n xs m E cs coupled ready.awake ready.full (locals_first ts n l.locals (a.locals ++ after_x) ready.locals) (locals_first ts l.next a.locals after_x at_l) within there are_values proper
       is_key amount proper_amount)
       (λ less F rest o. found_alike (content_at s q key) o.content _ o.there (
       inside_alike fills reads n x from l.value.locals vs w a.value.expr E F less key rest coupled low (omega arith) (values_fit are_values proper) ready.awake ready.full o at_from.1))))

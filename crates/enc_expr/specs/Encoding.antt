@@ -125,6 +125,16 @@ instance_code p g scale q at from xs m =
 abbrev pub pair_code : ℕ → ℕ → ℕ → s.BStmts
 pair_code from l r = s.first (s.Havoc l) (s.first (s.Havoc r) (one (s.Assume (t.Bin op.Eq (t.Var from) (t.Pair (t.Var l) (t.Var r))))))
 
+-- ---- opening
+
+-- An instance is opened in copies of the present maps, once its arguments are in locals and its amount is an atom. What goes on is
+-- handed the copies, and the local of the content.
+abbrev pub opening_code : {X : Type 0} → Layout → Place → Guard → ℕ → Pos → Located → Atom → (Maps → ℕ → Emitting X) → Emitting X
+opening_code layout p g q at l a go =
+    then_emit (declares_all (state_types layout)) (λ n. then_emit (declares (plain_type base.Snap)) (λ from.
+    then_emit (puts g (join l.sets (join a.sets (taking p (maps_from layout n) (copy_state (maps_from layout n) p.now) q (index l.locals) a.expr from at)))) (λ u.
+    go (maps_from layout n) from)))
+
 -- ---- the code
 
 abbrev mutual
@@ -147,11 +157,8 @@ abbrev mutual
   pub unfolding_code : Kinds → Place → Guard → e.Opened → Emitting Operand
   unfolding_code k p g (e.opened q args amount body inner at) =
       then_emit (codes k p g args) (λ xs. then_emit (code k p g amount) (λ m.
-      then_emit (located xs) (λ l. then_emit (atomic m) (λ a.
-      then_emit (declares_all (state_types k.layout)) (λ n. then_emit (declares (plain_type base.Snap)) (λ from.
-      then_emit (puts g (join l.sets (join a.sets (taking p (maps_from k.layout n) (copy_state (maps_from k.layout n) p.now) q (index l.locals) a.expr from at)))) (λ u.
-      then_emit (body_code (body_kinds k q) (with_now (maps_from k.layout n) (with_vars l.locals p)) g a.expr body from) (λ u.
-      code k (with_now (maps_from k.layout n) p) g inner))))))))
+      then_emit (located xs) (λ l. then_emit (atomic m) (λ a. opening_code k.layout p g q at l a (λ own from.
+      then_emit (body_code (body_kinds k q) (with_now own (with_vars l.locals p)) g a.expr body from) (λ u. code k (with_now own p) g inner))))))
 
   -- of arguments, from left to right
   pub codes : Kinds → Place → Guard → e.Exprs → Emitting (List Operand)
@@ -176,15 +183,11 @@ abbrev mutual
   body_code k p g scale (e.ChooseAssertion c a b) from =
       then_emit (code k p g c) (λ x. choose_code g x.expr (λ h. body_code k p h scale a from) (λ h. body_code k p h scale b from) (λ h u v. tt))
 
--- of an `unfolding`, once its arguments are in locals and its amount is an atom
-abbrev pub unfolding_at : Kinds → Place → Guard → e.Opened → Located → Atom → Emitting Operand
-unfolding_at k p g (e.opened q args amount body inner at) l a =
-    then_emit (declares_all (state_types k.layout)) (λ n. then_emit (declares (plain_type base.Snap)) (λ from.
-    then_emit (puts g (join l.sets (join a.sets (taking p (maps_from k.layout n) (copy_state (maps_from k.layout n) p.now) q (index l.locals) a.expr from at)))) (λ u.
-    then_emit (body_code (body_kinds k q) (with_now (maps_from k.layout n) (with_vars l.locals p)) g a.expr body from) (λ u.
-    code k (with_now (maps_from k.layout n) p) g inner))))
-
--- the body and the inner expression, in these maps
+-- the body and the inner expression of an `unfolding`, in these maps
 abbrev pub inside_code : Kinds → Place → Guard → e.Opened → List ℕ → Maps → t.BExpr → ℕ → Emitting Operand
 inside_code k p g (e.opened q args amount body inner at) locals m scale from =
     then_emit (body_code (body_kinds k q) (with_now m (with_vars locals p)) g scale body from) (λ u. code k (with_now m p) g inner)
+
+-- the whole, once its arguments are in locals and its amount is an atom
+abbrev pub unfolding_at : Kinds → Place → Guard → e.Opened → Located → Atom → Emitting Operand
+unfolding_at k p g (e.opened q args amount body inner at) l a = opening_code k.layout p g q at l a (λ own. inside_code k p g (e.opened q args amount body inner at) l.locals own a.expr)

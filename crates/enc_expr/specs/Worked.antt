@@ -101,19 +101,19 @@ environment vs now old =
     amount old 2 ∷ amount old 0 ∷ amount old 1 ∷ contents old 1 ∷ contents old 0 ∷ contents old 2 ∷ []
 
 -- what a new local holds at first is of no matter
-abbrev pub stale : BBase → boogie.BScalar
-stale base.Int = boogie.Int (pos 77)
-stale base.Bool = boogie.Bool true
-stale base.Ref = boogie.Ref 77
-stale base.Real = boogie.Real write
-stale base.Snap = boogie.Snap (content.Pair content.Unit content.Unit)
+abbrev pub stale_scalar : BBase → boogie.BScalar
+stale_scalar base.Int = boogie.Int (pos 77)
+stale_scalar base.Bool = boogie.Bool true
+stale_scalar base.Ref = boogie.Ref 77
+stale_scalar base.Real = boogie.Real write
+stale_scalar base.Snap = boogie.Snap (content.Pair content.Unit content.Unit)
 
-abbrev pub unset_by : List BBase → BBase → boogie.BValue
-unset_by [] u = boogie.One (stale u)
-unset_by (k ∷ ks) u = boogie.Many (empty (stale u))
+abbrev pub stale_by : List BBase → BBase → boogie.BValue
+stale_by [] u = boogie.One (stale_scalar u)
+stale_by (k ∷ ks) u = boogie.Many (empty (stale_scalar u))
 
-abbrev pub unset : BType → boogie.BValue
-unset u = unset_by u.keys u.base
+abbrev pub stale : BType → boogie.BValue
+stale u = stale_by u.keys u.base
 
 -- ---- what is said of each
 
@@ -134,7 +134,7 @@ evaluated b x = value b x.expr x.now (record { store = x.store; old = x.old; at 
 -- the run of the code, and behind it the value of its operand alone
 abbrev pub ran : Bound → Code Operand → List boogie.BValue → List boogie.BChoice → run.Run
 ran b c env cs =
-    run.then_run (run.brun (locals ++ c.locals) b c.stmts (env ++ map unset c.locals) cs) (λ E rest.
+    run.then_run (run.brun (locals ++ c.locals) b c.stmts (env ++ map stale c.locals) cs) (λ E rest.
     run.with_end (bvalue b c.value.expr E) rest (λ v. run.Done (boogie.One v ∷ []) rest))
 
 abbrev pub is_fine : Code Operand → Truth

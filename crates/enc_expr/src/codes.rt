@@ -2,10 +2,10 @@
 ghost use Rattle.std.specs.Prelude.{◌≡◌, length, IfOk, OnOk};
 ghost use Rattle.viper_core.specs.View.{expr_of, exprs_of, opened_of, amt_of, assertion_of};
 ghost use Rattle.boogie_tree.specs.Whole.{stmts_of};
-ghost use Rattle.enc_expr.specs.Code.{join};
+ghost use Rattle.enc_expr.specs.Code.{join, gives};
 ghost use Rattle.enc_expr.specs.Emits.{emit_of, Emits};
 ghost use Rattle.enc_expr.specs.Encoding as code;
-ghost use Rattle.enc_expr.specs.Operators.{lazily};
+ghost use Rattle.enc_expr.specs.Operators.{binary_code, lazily};
 ghost use Rattle.enc_expr.specs.Place.{maps_of};
 ghost use Rattle.enc_expr.specs.View.{seen, all_seen, atom_of, held_of, located_of, kinds_of, place_in};
 
@@ -44,17 +44,7 @@ pub fn check(alloc: Global, e: &Expr, reading: Reading, out: &mut Emit) -> Resul
         Expr::Not(a) => denied(alloc, check(alloc, a, reading, out)?),
         Expr::Bin(op, a, b, at) => {
             let left = check(alloc, a, reading, out)?;
-            match class_of(*op) {
-                Class::Lazy => check_lazily(alloc, *op, left, b, reading, out),
-                Class::Division => {
-                    let right = check(alloc, b, reading, out)?;
-                    division(alloc, *op, *at, left, right, reading, out)
-                }
-                Class::Plain => {
-                    let right = check(alloc, b, reading, out)?;
-                    value_of(alloc, *op, left, right)
-                }
-            }
+            check_binary(alloc, *op, *at, left, b, reading, out)
         }
         Expr::Choose(a, b, c) => {
             let condition = check(alloc, a, reading, out)?;
@@ -69,6 +59,34 @@ pub fn check(alloc: Global, e: &Expr, reading: Reading, out: &mut Emit) -> Resul
         }
         Expr::Old(a) => check(alloc, a, reading.with_now(reading.old), out),
         Expr::Unfolding(opened) => unfold(alloc, opened, reading, out),
+    }
+}
+
+/// An operator whose left side is checked.
+#[cycle(codes)]
+fn check_binary(
+    alloc: Global,
+    op: Op,
+    at: Pos,
+    left: Operand,
+    b: &Expr,
+    reading: Reading,
+    out: &mut Emit,
+) -> Result<Operand, Memory>
+    ensures { IfOk result (λ x. Emits (binary_code (place_in reading.entry) reading.entry.guard op at (gives (seen left))
+        (λ h. code.code (kinds_of reading.entry.kinds) (place_in reading.entry) h (expr_of b.now)) (length (emit_of out.old).locals))
+        (emit_of out.old) (emit_of out.new) (seen x)) }
+{
+    match class_of(op) {
+        Class::Lazy => check_lazily(alloc, op, left, b, reading, out),
+        Class::Division => {
+            let right = check(alloc, b, reading, out)?;
+            division(alloc, op, at, left, right, reading, out)
+        }
+        Class::Plain => {
+            let right = check(alloc, b, reading, out)?;
+            value_of(alloc, op, left, right)
+        }
     }
 }
 

@@ -103,8 +103,9 @@ fn put_more(
     Ok(BStmt::Put(map, key, sum))
 }
 
-/// A mask or amount gets so much more at an index. That it is not negative before is no news, and helps a solver.
-fn add_to(
+/// A mask or amount gets so much more at an index, by an amount that is scaled. That it is not negative before is no news, and
+/// helps a solver.
+pub fn add_to(
     alloc: Global,
     map: usize,
     index: Index,
@@ -149,7 +150,7 @@ fn take_value(
 }
 
 /// What is held stays as it is, and the map gets the value also there.
-fn set_value(
+pub fn set_value(
     alloc: Global,
     held: usize,
     map: usize,
@@ -210,7 +211,8 @@ fn fill_instance(
 
 // ---- by any amount
 
-fn check_nonnegative(
+/// An amount is not negative. A literal that is not negative is not asked.
+pub fn check_nonnegative(
     alloc: Global,
     label: Label,
     amount: Atom,
@@ -227,7 +229,7 @@ fn check_nonnegative(
 }
 
 /// The one block where an amount is positive, and else the other.
-fn if_positive(
+pub fn if_positive(
     alloc: Global,
     amount: Atom,
     so: Vec<BStmt>,

@@ -38,10 +38,10 @@ ghost use Rattle.enc_expr.specs.Shallow.{IsShallow, IsShallowExpression};
 ghost use Rattle.enc_expr.specs.Typed.{HasPlaceTypes, HasGuardType, IsTypedPiece, IsTypedExpression};
 
 /// From each environment in which a state is coupled, the code of a well-typed expression ends as the expression does there, with
-/// a bound and without one. On the moves of the events of the expression the code is done, fails or is blocked where the
-/// expression has a value, fails or is blocked. And each run of the code that is done or fails, whatever it chooses, has such
-/// an end of the expression, and took its moves. Where it is done, the operand has the value, and nothing but new locals was
-/// changed. Nothing is said of an expression that leaves the bound.
+/// a bound and without one. On the moves of the events of the expression the code is done or fails where the expression has a
+/// value or fails, and is blocked or short of a choice where the expression is blocked. And each run of the code that is done
+/// or fails, whatever it chooses, has such an end of the expression, and took its moves. Where it is done, the operand has the
+/// value, and nothing but new locals was changed. Nothing is said of an expression that leaves the bound.
 pub fn an_expression_and_its_code_end_alike()
     ensures { (ts : List BType) (b : Bound) (c : Context) (p : Place) (g : Guard) (s : State) (sc : Scene) (n : ℕ) (E : Env)
         (a : e.Expr) (u : Ty) → IsFormed c.program → IsCoupled b c n p s sc E → typing.HasType c a u

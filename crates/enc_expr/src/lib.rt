@@ -22,8 +22,12 @@ pub use blocks::{add, add_all};
 pub use calls::checked;
 pub use codes::{check, check_all, fill};
 pub use emits::Emit;
-pub use fillings::Source;
-pub use openings::{Part, taking};
+pub use fillings::{Source, add_to, check_nonnegative, if_positive, set_value};
+pub use openings::{
+    Part, check_positive, copies, copy_state, fresh_indexed, fresh_masks, fresh_state, taking,
+};
 pub use operands::{Atom, Held, Located, Operand, atomic, in_locals};
+pub use operators::sides;
 pub use places::{Maps, Place};
-pub use readings::{Kinds, Reading};
+pub use readings::{Kinds, Reading, number};
+pub use terms::{Index, at, binary, scaled};

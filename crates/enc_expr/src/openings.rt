@@ -63,7 +63,8 @@ fn fresh_heaps(alloc: Global, fields: &[Ty], out: &mut Emit) -> Result<Vec<usize
     Ok(heaps)
 }
 
-fn fresh_masks(alloc: Global, fields: &[Ty], out: &mut Emit) -> Result<Vec<usize>, Memory>
+/// For each field a new mask.
+pub fn fresh_masks(alloc: Global, fields: &[Ty], out: &mut Emit) -> Result<Vec<usize>, Memory>
     ensures { IfOk result (λ ns. Declares (map k.mask_type fields.now) (emit_of out.old) (emit_of out.new) ns.items) }
 {
     let mut masks = Vec::with_capacity(alloc, fields.len())?;
@@ -74,8 +75,8 @@ fn fresh_masks(alloc: Global, fields: &[Ty], out: &mut Emit) -> Result<Vec<usize
     Ok(masks)
 }
 
-/// For each predicate a map of its instances.
-fn fresh_indexed(
+/// For each predicate a new map of its instances, with values of this base type.
+pub fn fresh_indexed(
     alloc: Global,
     keys: &[Vec<Ty>],
     base: BBase,
@@ -92,7 +93,7 @@ fn fresh_indexed(
 }
 
 /// New maps of a whole state.
-pub(crate) fn fresh_state(alloc: Global, layout: &Layout, out: &mut Emit) -> Result<Maps, Memory>
+pub fn fresh_state(alloc: Global, layout: &Layout, out: &mut Emit) -> Result<Maps, Memory>
     ensures { IfOk result (λ m. (maps_of m ≡ code.maps_from layout.now (length (emit_of out.old).locals))
         × Emits (declares_all (k.state_types layout.now) (length (emit_of out.old).locals)) (emit_of out.old) (emit_of out.new)
         (length (emit_of out.old).locals)) }
@@ -110,7 +111,7 @@ pub(crate) fn fresh_state(alloc: Global, layout: &Layout, out: &mut Emit) -> Res
 }
 
 /// The first locals get the values of the second.
-fn copies(own: &[usize], from: &[usize], block: &mut Vec<BStmt>) -> Result<(), Memory>
+pub fn copies(own: &[usize], from: &[usize], block: &mut Vec<BStmt>) -> Result<(), Memory>
     ensures { OnOk result (stmts_of block.new.items ≡ join (stmts_of block.old.items) (code.copies own.now from.now 0)) }
 {
     for (i, local) in own.iter().enumerate() {
@@ -121,7 +122,7 @@ fn copies(own: &[usize], from: &[usize], block: &mut Vec<BStmt>) -> Result<(), M
 }
 
 /// The statements that copy a state.
-pub(crate) fn copy_state(alloc: Global, own: &Maps, from: &Maps) -> Result<Vec<BStmt>, Memory>
+pub fn copy_state(alloc: Global, own: &Maps, from: &Maps) -> Result<Vec<BStmt>, Memory>
     ensures { IfOk result (λ xs. stmts_of xs.items ≡ code.copy_state (maps_of own.now) (maps_of from.now)) }
 {
     let mut block = Vec::new(alloc);
@@ -143,7 +144,8 @@ pub struct Part {
     pub at: Pos,
 }
 
-fn check_positive(
+/// An amount is positive. The literal 1 is not asked.
+pub fn check_positive(
     alloc: Global,
     label: Label,
     amount: Atom,

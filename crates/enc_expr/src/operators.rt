@@ -256,7 +256,7 @@ fn other_side(
 }
 
 /// The guards of both sides of a choice.
-pub(crate) fn sides(
+pub fn sides(
     alloc: Global,
     guard: Option<usize>,
     condition: Operand,

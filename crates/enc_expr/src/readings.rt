@@ -65,7 +65,7 @@ fn type_at(types: &[Ty], number: u32) -> Ty
 }
 
 /// The local of a field, predicate or variable.
-pub(crate) fn number(locals: &[usize], index: u32) -> usize
+pub fn number(locals: &[usize], index: u32) -> usize
     ensures { result ≡ p.number locals.now index }
 {
     local_at(locals, index as usize)

@@ -13,7 +13,7 @@ use vb_base::{Memory, boxed, boxed_pair};
 use vb_value::Ty;
 
 /// An operator at two operands.
-pub(crate) fn binary(alloc: Global, op: BOp, left: BExpr, right: BExpr) -> Result<BExpr, Memory>
+pub fn binary(alloc: Global, op: BOp, left: BExpr, right: BExpr) -> Result<BExpr, Memory>
     ensures { IfOk result (λ x. expr_of x ≡ t.Bin op (expr_of left) (expr_of right)) }
 {
     let (left, right) = boxed_pair(alloc, left, right)?;
@@ -37,7 +37,7 @@ pub enum Index<'a> {
 
 impl<'a> Index<'a> {
     /// It as expressions.
-    pub(crate) fn exprs(self, alloc: Global) -> Result<Vec<BExpr>, Memory>
+    pub fn exprs(self, alloc: Global) -> Result<Vec<BExpr>, Memory>
         ensures { IfOk result (λ xs. exprs_of xs.items ≡ index_in self.entry) }
     {
         match self {
@@ -61,7 +61,7 @@ fn arguments(alloc: Global, locals: &[usize]) -> Result<Vec<BExpr>, Memory>
 }
 
 /// A map at an index.
-pub(crate) fn at(alloc: Global, map: usize, index: Index) -> Result<BExpr, Memory>
+pub fn at(alloc: Global, map: usize, index: Index) -> Result<BExpr, Memory>
     ensures { IfOk result (λ x. expr_of x ≡ t.At map (index_in index.entry)) }
 {
     let index = index.exprs(alloc)?;
@@ -92,7 +92,7 @@ pub(crate) fn leaf(alloc: Global, ty: Ty, a: BExpr) -> Result<BExpr, Memory>
 }
 
 /// An amount times a scale.
-pub(crate) fn scaled(alloc: Global, scale: Atom, amount: Atom) -> Result<BExpr, Memory>
+pub fn scaled(alloc: Global, scale: Atom, amount: Atom) -> Result<BExpr, Memory>
     ensures { IfOk result (λ x. expr_of x ≡ piece.scaled (atom_of scale) (atom_of amount)) }
 {
     if scale.is_one() {

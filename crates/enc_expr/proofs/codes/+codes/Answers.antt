@@ -6,6 +6,7 @@ use Rattle.viper_core.proofs.NodeLaws.{neg_is, not_is, bin_is, choose_is, field_
 use Rattle.boogie_tree.specs.Expr as t
 use Rattle.boogie_tree.specs.Stmt as s
 use Rattle.boogie_tree.specs.Whole.{expr_of, stmts_of}
+use Rattle.enc_expr.specs.Code.{gives}
 use Rattle.enc_expr.specs.Operators.{right_counts}
 use Rattle.enc_expr.specs.Emits.{Emit, emit_of, Emits}
 use Rattle.enc_expr.specs.Encoding.{is_unit, code, codes, amount_code}
@@ -15,7 +16,7 @@ use Rattle.enc_expr.specs.Place.{maps_of, with_now, with_vars}
 use Rattle.enc_expr.specs.View.{seen, all_seen, atom_of, held_of, located_of, class_in, kinds_of, place_in}
 use Rattle.enc_expr.proofs.BlockLaws.{all_added}
 use Rattle.enc_expr.proofs.EmitLaws.{gives_emits}
-use Rattle.enc_expr.proofs.EmittedForms.{valued, put_as, coded_as, all_coded_as, filled_as, read_as, fill_as, guarded_as, neg_emits, not_emits, lazy_emits, divided_emits, plain_emits, lazily_emits, choice_emits, field_emits, fact_emits, access_emits, part_emits, both_emit, implied_emits, chosen_emits, unfolding_emits, unfolded_emits, inside_emits, scaled_as, put_under, inside_as, opening_is}
+use Rattle.enc_expr.proofs.EmittedForms.{valued, binary_emits, put_as, coded_as, all_coded_as, filled_as, read_as, fill_as, guarded_as, neg_emits, not_emits, lazy_emits, divided_emits, plain_emits, lazily_emits, choice_emits, field_emits, fact_emits, access_emits, part_emits, both_emit, implied_emits, chosen_emits, unfolding_emits, unfolded_emits, inside_emits, scaled_as, put_under, inside_as, opening_is}
 use Rattle.enc_expr.proofs.EmittedParts.{next_item, dropped_all, check_step, all_seen-append}
 use Rattle.enc_expr.proofs.codes.+codes.Goals as goal
 
@@ -47,24 +48,27 @@ pub check-returns-in_ok-check-in-Not : goal.check-returns-in_ok-check-in-Not
 check-returns-in_ok-check-in-Not _ c =
     IfOk-weaker c.denied.result _ _ (λ x same. coded_as (kinds_of c.args.reading.kinds) (place_in c.args.reading) c.args.reading.guard _ (not_is c.in-Not.is c.deref-in-Not.ensures) (valued same (not_emits (kinds_of c.args.reading.kinds) (place_in c.args.reading) c.args.reading.guard (viper c.deref-in-Not.result.now) (emit_of c.args.out.now) _ (seen c.in_ok-check-in-Not.field-0) c.in_ok-check-in-Not.ensures))) c.denied.ensures
 
-pub check-returns-in-Lazy : goal.check-returns-in-Lazy
-check-returns-in-Lazy _ c =
-    IfOk-weaker c.check_lazily.result _ _ (λ x h. coded_as (kinds_of c.args.reading.kinds) (place_in c.args.reading) c.args.reading.guard _ (bin_is c.in-Bin.is c.deref-in-Bin.ensures c.deref-in-Lazy.ensures)
-    (lazy_emits (place_in c.args.reading) c.args.reading.guard c.in-Bin.op c.in-Bin.at (code (kinds_of c.args.reading.kinds) (place_in c.args.reading) c.args.reading.guard (viper c.deref-in-Bin.result.now)) (λ g. code (kinds_of c.args.reading.kinds) (place_in c.args.reading) g (viper c.deref-in-Lazy.result.now))
-    (emit_of c.args.out.now) (emit_of c.check-in-Bin.new.out) (seen c.in_ok-left-in-Bin.left) c.in_ok-left-in-Bin.ensures (emit_of c.check_lazily.new.out) (seen x) (sym c.class_of.ensures ∙ ap class_in c.in-Lazy.is) h)) c.check_lazily.ensures
+pub check-returns-in_ok-left-in-Bin : goal.check-returns-in_ok-left-in-Bin
+check-returns-in_ok-left-in-Bin _ c =
+    IfOk-weaker c.check_binary.result _ _ (λ x h. coded_as (kinds_of c.args.reading.kinds) (place_in c.args.reading) c.args.reading.guard _ (bin_is c.in-Bin.is c.deref-in-Bin.ensures c.deref-in-Bin-2.ensures)
+    (binary_emits (place_in c.args.reading) c.args.reading.guard c.in-Bin.op c.in-Bin.at (code (kinds_of c.args.reading.kinds) (place_in c.args.reading) c.args.reading.guard (viper c.deref-in-Bin.result.now)) (λ g. code (kinds_of c.args.reading.kinds) (place_in c.args.reading) g (viper c.deref-in-Bin-2.result.now))
+    (emit_of c.args.out.now) (emit_of c.check-in-Bin.new.out) (emit_of c.check_binary.new.out) (seen c.in_ok-left-in-Bin.left) (seen x) c.in_ok-left-in-Bin.ensures h)) c.check_binary.ensures
 
-pub check-returns-in_ok-right-in-Division : goal.check-returns-in_ok-right-in-Division
-check-returns-in_ok-right-in-Division _ c =
-    IfOk-weaker c.division.result _ _ (λ x h. coded_as (kinds_of c.args.reading.kinds) (place_in c.args.reading) c.args.reading.guard _ (bin_is c.in-Bin.is c.deref-in-Bin.ensures c.deref-in-Division.ensures)
-    (divided_emits (place_in c.args.reading) c.args.reading.guard c.in-Bin.op c.in-Bin.at (code (kinds_of c.args.reading.kinds) (place_in c.args.reading) c.args.reading.guard (viper c.deref-in-Bin.result.now)) (λ g. code (kinds_of c.args.reading.kinds) (place_in c.args.reading) g (viper c.deref-in-Division.result.now))
-    (emit_of c.args.out.now) (emit_of c.check-in-Bin.new.out) (seen c.in_ok-left-in-Bin.left) c.in_ok-left-in-Bin.ensures (emit_of c.check-in-Division.new.out) (emit_of c.division.new.out) (seen c.in_ok-right-in-Division.right) (seen x)
-    (sym c.class_of.ensures ∙ ap class_in c.in-Division.is) c.in_ok-right-in-Division.ensures h)) c.division.ensures
+pub check_binary-returns-in-Lazy : goal.check_binary-returns-in-Lazy
+check_binary-returns-in-Lazy _ c =
+    IfOk-weaker c.check_lazily.result _ _ (λ x h. lazy_emits (place_in c.args.reading) c.args.reading.guard c.args.op c.args.at (gives (seen c.args.left)) (λ g. code (kinds_of c.args.reading.kinds) (place_in c.args.reading) g (viper c.args.b.now))
+    (emit_of c.args.out.now) (emit_of c.args.out.now) (seen c.args.left) (gives_emits (seen c.args.left) (emit_of c.args.out.now)) (emit_of c.check_lazily.new.out) (seen x) (sym c.class_of.ensures ∙ ap class_in c.in-Lazy.is) h) c.check_lazily.ensures
 
-pub check-returns-in_ok-right-in-Plain : goal.check-returns-in_ok-right-in-Plain
-check-returns-in_ok-right-in-Plain _ c =
-    IfOk-weaker c.value_of.result _ _ (λ x same. coded_as (kinds_of c.args.reading.kinds) (place_in c.args.reading) c.args.reading.guard _ (bin_is c.in-Bin.is c.deref-in-Bin.ensures c.deref-in-Plain.ensures) (valued same
-    (plain_emits (place_in c.args.reading) c.args.reading.guard c.in-Bin.op c.in-Bin.at (code (kinds_of c.args.reading.kinds) (place_in c.args.reading) c.args.reading.guard (viper c.deref-in-Bin.result.now)) (λ g. code (kinds_of c.args.reading.kinds) (place_in c.args.reading) g (viper c.deref-in-Plain.result.now))
-    (emit_of c.args.out.now) (emit_of c.check-in-Bin.new.out) (seen c.in_ok-left-in-Bin.left) c.in_ok-left-in-Bin.ensures _ (seen c.in_ok-right-in-Plain.right) (sym c.class_of.ensures ∙ ap class_in c.in-Plain.is) c.in_ok-right-in-Plain.ensures))) c.value_of.ensures
+pub check_binary-returns-in_ok-right-in-Division : goal.check_binary-returns-in_ok-right-in-Division
+check_binary-returns-in_ok-right-in-Division _ c =
+    IfOk-weaker c.division.result _ _ (λ x h. divided_emits (place_in c.args.reading) c.args.reading.guard c.args.op c.args.at (gives (seen c.args.left)) (λ g. code (kinds_of c.args.reading.kinds) (place_in c.args.reading) g (viper c.args.b.now))
+    (emit_of c.args.out.now) (emit_of c.args.out.now) (seen c.args.left) (gives_emits (seen c.args.left) (emit_of c.args.out.now)) (emit_of c.check.new.out) (emit_of c.division.new.out) (seen c.in_ok-right-in-Division.right) (seen x)
+    (sym c.class_of.ensures ∙ ap class_in c.in-Division.is) c.in_ok-right-in-Division.ensures h) c.division.ensures
+
+pub check_binary-returns-in_ok-right-in-Plain : goal.check_binary-returns-in_ok-right-in-Plain
+check_binary-returns-in_ok-right-in-Plain _ c =
+    IfOk-weaker c.value_of.result _ _ (λ x same. valued same (plain_emits (place_in c.args.reading) c.args.reading.guard c.args.op c.args.at (gives (seen c.args.left)) (λ g. code (kinds_of c.args.reading.kinds) (place_in c.args.reading) g (viper c.args.b.now))
+    (emit_of c.args.out.now) (emit_of c.args.out.now) (seen c.args.left) (gives_emits (seen c.args.left) (emit_of c.args.out.now)) _ (seen c.in_ok-right-in-Plain.right) (sym c.class_of.ensures ∙ ap class_in c.in-Plain.is) c.in_ok-right-in-Plain.ensures)) c.value_of.ensures
 
 pub check-returns-in_ok-right-in-Choose : goal.check-returns-in_ok-right-in-Choose
 check-returns-in_ok-right-in-Choose _ c =
