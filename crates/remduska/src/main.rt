@@ -1,5 +1,5 @@
-//! `remduska translate FILE` writes the Boogie program of a Viper file to the standard output, and `remduska run FILE UNIT RUNFILE`
-//! the outcome of a run of a unit of it.
+//! `remduska translate FILE` writes the Boogie program of a Viper file to the standard output, `remduska run FILE UNIT RUNFILE`
+//! the outcome of a run of a unit of it, and `remduska replay BPL BRUN` the outcome of a run of a procedure of a Boogie program.
 //!
 //! What a call does is the contract of `vb_tool::tool`; this file only connects it to the process.
 #![tactic(auto)]

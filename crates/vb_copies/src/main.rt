@@ -18,7 +18,8 @@ fn main(rt: HostRuntime) -> ExitCode {
     }
 }
 
-/// Whether the words are two numbers, and there was memory.
+/// Copies as the first two words say, where one that is missing or no number counts as 0. Answers whether there are two
+/// words, and there was memory.
 fn run(rt: &HostRuntime) -> io::Result<bool> {
     let mut numbers = [0u64; 2];
     let mut i = 0usize;

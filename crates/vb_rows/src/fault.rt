@@ -4,8 +4,10 @@ use std::alloc::{AllocError, AllocFailed};
 use std::fmt;
 use std::num::ParseIntError;
 
+/// Why a line of a table cannot be taken, or a row cannot be run.
 #[derive(Clone, Copy, Debug, PartialEq, Eq)]
 pub enum Fault {
+    /// Memory was refused.
     Memory,
     /// The line may not stand there, or a number is none.
     Line,

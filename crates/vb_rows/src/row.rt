@@ -20,6 +20,7 @@ pub enum Place {
     Err,
 }
 
+/// A call of the tool, with a name in plain words, and how it has to end.
 #[derive(Drop)]
 pub struct Row {
     pub name: String,

@@ -8,6 +8,7 @@ use std::alloc::{AllocError, Global};
 use std::mem;
 use vb_outer::MemFile;
 
+/// What was read of a table so far: its rows, the texts that rows use by name, and where the next line belongs.
 #[derive(Drop)]
 pub struct Table {
     rows: Vec<Row>,

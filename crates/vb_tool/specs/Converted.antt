@@ -20,12 +20,6 @@ trouble_of_file file.Memory = Memory
 trouble_of_file file.Failed = Read
 trouble_of_file file.Long = Refused refusal.Size
 
--- the same of a run file
-abbrev pub trouble_of_run_file : FileFault → Trouble
-trouble_of_run_file file.Memory = Memory
-trouble_of_run_file file.Failed = Read
-trouble_of_run_file file.Long = Refused refusal.RunSize
-
 abbrev pub trouble_of_lex : LexFault → Trouble
 trouble_of_lex (lex.BadByte at) = Refused (refusal.Lex (lex.BadByte at))
 trouble_of_lex (lex.OpenComment at) = Refused (refusal.Lex (lex.OpenComment at))

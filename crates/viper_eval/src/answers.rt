@@ -34,7 +34,7 @@ pub enum Stop {
     Fails(Label),
     /// An assumption does not hold.
     Blocked,
-    /// A number left its bound, at this place.
+    /// A number or a content left its bound, at this place.
     Over(Pos),
 }
 

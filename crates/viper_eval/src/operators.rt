@@ -252,7 +252,7 @@ fn quotient(scene: SceneRef, left: Value, right: Value, at: Pos) -> Result<Value
     }
 }
 
-/// `\\`
+/// `\`
 fn int_quotient(scene: SceneRef, left: Value, right: Value, at: Pos) -> Result<Value, Stop>
     requires left_within { IsWithinValue left }
     requires right_within { IsWithinValue right }

@@ -16,7 +16,7 @@ pub enum Step {
     Blocked,
     /// A choice is missing.
     Short,
-    /// A number left its bound, at this place.
+    /// A number or a content left its bound, at this place.
     Over(Pos),
 }
 
@@ -24,14 +24,18 @@ pub enum Step {
 #[derive(Clone, Copy, Debug, PartialEq, Eq)]
 pub enum Stop {
     Fails(Label),
+    /// An assumption does not hold, or a choice is not of the kind that the step needs.
     Blocked,
+    /// A choice is missing.
     Short,
+    /// A number or a content left its bound, at this place.
     Over(Pos),
 }
 
 /// Why a step does not go on.
 #[derive(Clone, Copy, Debug, PartialEq, Eq)]
 pub enum Halt {
+    /// There was no memory.
     Memory,
     Stops(Stop),
 }

@@ -26,7 +26,7 @@ pub enum Choice {
     Amount(Frac),
     /// The reference of a new object.
     Fresh(u64),
-    /// A heap and contents for what is forgotten.
+    /// A heap and contents for what is forgotten, or for a state in which nothing is held.
     Memo(Memo),
 }
 

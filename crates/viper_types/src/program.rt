@@ -56,7 +56,9 @@ fn typed(alloc: Global, source: &SourceProgram) -> Result<Program, TypeFault>
     typed_in(alloc, &world, source)
 }
 
-/// The program that a file is, which weighs no more than 100,000; or the first rule that the file breaks.
+/// The program that a file is, which weighs no more than 100,000; or else why there is none. A file that breaks a rule is
+/// refused by the first that it breaks, with its place; `Weight` says that it breaks none and the program weighs more, and
+/// `Memory` that memory was refused.
 pub fn check(alloc: Global, source: &SourceProgram) -> Result<Program, TypeFault>
     ensures found { IfOk result (λ q. IsProgram (source_of source.now) (core.program_of q) × (weight (core.program_of q) ≤ 100000)) }
     ensures only { (q : p.Program) → IsProgram (source_of source.now) q → Gives result q }
