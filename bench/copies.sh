@@ -6,7 +6,7 @@
 set -eu
 top=$(dirname "$(readlink -f "$0")")/..
 program=${1:-$top/crates/vb_copies/out/vb_copies}
-[ -x "$program" ] || (cd "$top/crates/vb_copies" && rt run -- 0 0 >/dev/null)
+[ $# -gt 0 ] || (cd "$top/crates/vb_copies" && rt run -- 0 0 >/dev/null)
 
 # The least processor time of five calls, in milliseconds.
 least_of_five() {

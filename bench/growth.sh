@@ -4,11 +4,13 @@
 # Then what a typed program would hold much of, or what is looked for often: a method of Int variables and as many `new`s; of Ref
 # variables and as many `new`s; fields and as many `new(*)`s; variables that are assigned in 127 nested loops; and `unfolding`s of
 # one long body. All but the shortest of these are refused for their weight.
-# Each line has the kind of text, its bytes, and the least of five times in milliseconds, the start of the process included.
+# Each line has the kind of text, its bytes, the least of five times in milliseconds, the start of the process included, and the
+# line on the error stream, if there is one.
 set -eu
 top=$(dirname "$(readlink -f "$0")")/..
 folder=$(mktemp -d)
 trap 'rm -r "$folder"' EXIT
+"$top/remduska" translate "$top/examples/first.vpr" >/dev/null    # the program is built before anything is measured
 
 write_text() { # KIND BYTES
     case $1 in
@@ -36,17 +38,18 @@ least_of_five() {
     least=
     for _ in 1 2 3 4 5; do
         begin=$(date +%s%N)
-        "$top/remduska" translate "$folder/text.vpr" >/dev/null 2>&1 || true
+        "$top/remduska" translate "$folder/text.vpr" >/dev/null 2>"$folder/err" || true
         took=$((($(date +%s%N) - begin) / 1000))
         if [ -z "$least" ] || [ "$took" -lt "$least" ]; then least=$took; fi
     done
     printf '%d.%d' "$((least / 1000))" "$((least % 1000 / 100))"
 }
 
-printf '%-9s %9s %9s\n' text bytes ms
+printf '%-9s %9s %9s  %s\n' text bytes ms outcome
 for kind in blanks comment tokens fields variables asserts new refs stars loops bodies; do
     for bytes in 131072 262144 524288 1048576; do
         write_text "$kind" "$bytes"
-        printf '%-9s %9d %9s\n' "$kind" "$(wc -c <"$folder/text.vpr")" "$(least_of_five)"
+        least=$(least_of_five)
+        printf '%-9s %9d %9s  %s\n' "$kind" "$(wc -c <"$folder/text.vpr")" "$least" "$(head -n 1 "$folder/err")"
     done
 done

@@ -10,6 +10,7 @@ top=$(dirname "$(readlink -f "$0")")/..
 program=${1:-$top/remduska}
 folder=$(mktemp -d)
 trap 'rm -r "$folder"' EXIT
+[ $# -gt 0 ] || "$top/remduska" translate "$top/examples/first.vpr" >/dev/null    # the program is built before anything is measured
 
 many() { # COUNT LINES..: the lines, so many times
     local count=$1
@@ -78,7 +79,7 @@ least_of_five() {
 printf '%-10s %7s %9s %6s  %s\n' run length bytes ms outcome
 for kind in exhales calls folds lists unfoldings loops news places states maps; do
     case $kind in
-                calls) lengths='1000 2000 4000 8000' ;;
+        calls) lengths='1000 2000 4000 8000' ;;
         folds | maps) lengths='500 1000 2000 4000' ;;
         lists) lengths='250 500 1000 2000' ;;
         exhales | unfoldings | loops) lengths='750 1500 3000 6000' ;;
