@@ -85,8 +85,10 @@ pub fn a_typed_literal_is_proper()
 {}
 
 /// The body of a predicate, the clauses of a method and the statements of its body are parts of their program. A body
-/// sees the parameters of its predicate alone.
+/// sees the parameters of its predicate alone; that much is so of each typed program, whatever it weighs.
 pub fn a_program_has_parts()
+    ensures typed_body { (q : p.Program) (k : ℕ) (d : p.Predicate) (a : t.Assertion) → IsTypedProgram q
+        → slice_get q.predicates k ≡ Some d → d.body ≡ Some a → IsAssertion (predicate_context q d) a }
     ensures body { (q : p.Program) (k : ℕ) (d : p.Predicate) (a : t.Assertion) → IsFormed q
         → slice_get q.predicates k ≡ Some d → d.body ≡ Some a → IsPartAssertion (predicate_context q d) a }
     ensures preconditions { (q : p.Program) (k : ℕ) (m : p.Method) → IsFormed q → slice_get q.methods k ≡ Some m
