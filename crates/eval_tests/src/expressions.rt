@@ -382,6 +382,16 @@ unfolding R(true) in true ; #1 #2 ; R(true)=1&true&#3 R(true):1/1 ; true
 unfolding R(false) in true ; #1 #2 ; R(true)=1 R(true):1/1 ; 9:1 2:11 perm",
 );
 
+/// Expressions of many forms in a body, each of which contains nothing.
+const FORMS: (&str, &str) = (
+    "field f: Int field g: Ref predicate P(x: Ref) { acc(x.f) && (x.f > 0 ? true : x.f == -1) && (x.f > 0 ==> !(x.f == 2)) } method m(x: Ref) { var r: Bool :=",
+    "\
+unfolding P(x) in x.f > 0 ; #1 ; P(#1)=3&_&_ P(#1):1/1 ; true ; (3&(_&_)) 3 (_&_)
+unfolding P(x) in x.f > 0 ; #1 ; P(#1)=-1&_&_ P(#1):1/1 ; false ; (-1&(_&_)) -1 (_&_)
+unfolding P(x) in x.f > 0 ; #1 ; P(#1)=0&_&_ P(#1):1/1 ; blocked ; (0&(_&_)) 0 (_&_)
+unfolding P(x) in x.f > 0 ; #1 ; P(#1)=2&_&_ P(#1):1/1 ; blocked ; (2&(_&_)) 2 (_&_)",
+);
+
 /// A negated fraction in a body.
 const NEGATED: (&str, &str) = (
     "field f: Int field g: Ref predicate P(x: Ref, n: Int) { acc(x.f, -(n / 2)) } method m(x: Ref) { var r: Bool :=",
@@ -470,7 +480,7 @@ fn expressions_end_as_the_tables_say(rt: HostRuntime) -> Result<(), Fail> {
     let tables = [
         READS, TWO, SIGNS, NEGATIVE, OVER, EUCLIDEAN, DIVIDED, LAZY, CHOICES, OLD, QUOTIENT,
         REMAINDER, RATIO, WHOLE, FRACTIONS, ORDERS, MIXED, UNFOLDING, AMOUNTS, ARGUMENTS, NUMBERED,
-        SWAPPED, NESTED, NEGATED,
+        SWAPPED, NESTED, FORMS, NEGATED,
     ];
     for (start, table) in tables {
         check(&rt, rt.alloc(), Rows::Expression, start, table)?;

@@ -1,5 +1,6 @@
-//! Tests of the evaluation of expressions, of the opening of predicates, and of producing, consuming and forgetting: whole
-//! small files, read from tables whose ends are worked out by hand. A table is one string, a row a line.
+//! Tests of the tokens of texts, of the evaluation of expressions, of the opening of predicates, and of producing, consuming
+//! and forgetting: texts and whole small files, read from tables whose ends are worked out by hand. A table is one string, a
+//! row a line.
 #![tactic(auto)]
 
 #[cfg(test)]
@@ -14,6 +15,8 @@ mod files;
 mod rows;
 #[cfg(test)]
 mod states;
+#[cfg(test)]
+mod tokens;
 #[cfg(test)]
 mod told;
 #[cfg(test)]

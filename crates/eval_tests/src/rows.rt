@@ -1,5 +1,5 @@
 // The rows of the tables, one after another.
-use crate::{assertions, bodies, expressions};
+use crate::{assertions, bodies, expressions, tokens};
 use std::alloc::Global;
 use std::process::Abort;
 use std::test::Fail;
@@ -10,6 +10,7 @@ pub enum Rows {
     Expression,
     Body,
     Assertion,
+    Token,
 }
 
 /// What came of a row, where the row says otherwise.
@@ -18,6 +19,7 @@ fn wrong(alloc: Global, rows: Rows, start: &str, row: &str) -> Result<Option<Str
         Rows::Expression => expressions::wrong_row(alloc, start, row),
         Rows::Body => bodies::wrong_row(alloc, start, row),
         Rows::Assertion => assertions::wrong_row(alloc, start, row),
+        Rows::Token => tokens::wrong_row(alloc, row),
     }
 }
 

@@ -62,8 +62,8 @@ fn note_shelf(alloc: Global, calls: &str, most: usize) -> Option<MemShelf> {
     Some(MemShelf::make(files, failing, most))
 }
 
-/// Whether a file is read as it should be: wholly, or with the fault of that name.
-fn is_read(alloc: Global, shelf: &mut MemShelf, limit: usize, want: &str) -> bool {
+/// Whether the file `note` is read as it should be: wholly, or with the fault of that name.
+fn is_read<H: Shelf>(alloc: Global, shelf: &mut H, limit: usize, want: &str) -> bool {
     match read_file(alloc, shelf, "note", limit) {
         Ok(bytes) => bytes.as_slice() == want.as_bytes(),
         Err(FileFault::Memory) => false,
@@ -116,9 +116,10 @@ fn reads_in_pieces(shelf: &mut MemShelf) -> bool {
 fn reads_behind_a_fault(alloc: Global) -> Option<bool> {
     let mut shelf = note_shelf(alloc, "none", 3)?;
     let missing = read_file(alloc, &mut shelf, "nota", 5).err();
-    let ends = [shelf.read(&mut [0; 4]).is_ok(), shelf.begin("note").is_ok()];
+    let after = shelf.read(&mut [0; 4]);
+    let is_begun = shelf.begin("note").is_ok();
     let is_read = reads_in_pieces(&mut shelf);
-    Some(missing == Some(FileFault::Failed) && ends == [true, true] && is_read)
+    Some(missing == Some(FileFault::Failed) && after == Ok(0) && is_begun && is_read)
 }
 
 #[test]
@@ -158,7 +159,7 @@ fn count<H: Shelf>(
     Ok(read_file(alloc, shelf, name, limit)?.len())
 }
 
-/// Whether files are read within their limits, and nothing is read with no file begun.
+/// Whether files are read within their limits, one behind a missing one, and nothing is read with no file begun.
 fn reads_within_limits<H: Shelf>(alloc: Global, disk: &mut H) -> bool {
     let before = disk.read(&mut [0; 4]);
     let counts = [
@@ -168,7 +169,8 @@ fn reads_within_limits<H: Shelf>(alloc: Global, disk: &mut H) -> bool {
     ];
     let after = disk.read(&mut [0; 4]);
     let wanted = [Ok(70_001), Err(FileFault::Long), Err(FileFault::Failed)];
-    counts == wanted && [before, after] == [Ok(0), Ok(0)]
+    let is_note = is_read(alloc, disk, 5, "hello");
+    counts == wanted && [before, after] == [Ok(0), Ok(0)] && is_note
 }
 
 /// Writes a file, `long`. It has more bytes than are asked for at once.
@@ -177,9 +179,15 @@ fn write_long<R: Files>(rt: &R, alloc: Global) -> Option<()> {
     fs::write(rt, "long", text.as_slice()).ok()
 }
 
+/// Writes a file, `note`, that says `hello`.
+fn write_note<R: Files>(rt: &R) -> Option<()> {
+    fs::write(rt, "note", b"hello".as_slice()).ok()
+}
+
 #[test]
 fn a_file_on_the_disk_is_read(rt: HostRuntime) {
     assert!(rt; write_long(&rt, rt.alloc()).is_some());
+    assert!(rt; write_note(&rt).is_some());
     assert!(rt; reads_within_limits(rt.alloc(), &mut DiskShelf::make(rt)));
 }
 

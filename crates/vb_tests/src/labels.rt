@@ -1,15 +1,19 @@
-// Labels: each is read and written back as it stands, and no other spelling is read.
-use crate::rows::{Rows, check};
+// Labels: each is read and written back as it stands, and no other spelling is read. A name is copied.
+use crate::rows::{Rows, check, halves};
 use std::alloc::Global;
-use vb_base::{label_text, read_label};
+use vb_base::{Ident, Kind, Label, label_text, read_label, same_label};
 
+/// Labels, and their kinds.
 const LABELS: &str = "\
-1:20 4294967295:27 false
-1:1 2:2 null
-1:1 2:2 perm
-10:1 2:20 div
-1:1 2:2 negative
-1:4294967295 2:2 amount";
+1:20 4294967295:27 false = Fact
+1:1 2:2 null = Null
+1:1 2:2 perm = Perm
+1:1 2:2 false = Fact
+1:1 2:2 div = Div
+1:1 2:2 negative = Negative
+1:1 2:2 amount = Amount
+10:1 2:20 div = Div
+1:4294967295 2:2 amount = Amount";
 
 /// Texts between bars that are no labels.
 const OTHERS: &str = "\
@@ -33,11 +37,32 @@ const OTHERS: &str = "\
 |1.20 1:27 false|
 |:20 1:27 false|";
 
-/// Whether the row is a label, and the text of that label.
+fn kind_name(kind: Kind) -> &'static str {
+    match kind {
+        Kind::Null => "Null",
+        Kind::Perm => "Perm",
+        Kind::Fact => "Fact",
+        Kind::Div => "Div",
+        Kind::Negative => "Negative",
+        Kind::Amount => "Amount",
+    }
+}
+
+/// Whether the bytes are the label.
+fn is_read(label: &Label, bytes: &[u8]) -> bool {
+    match read_label(bytes) {
+        Some(read) => same_label(label, &read),
+        None => false,
+    }
+}
+
+/// Whether the row is a label of its kind, and the text of that label.
 pub(crate) fn label_row(alloc: Global, row: &str) -> Option<bool> {
-    let label = read_label(row.as_bytes())?;
+    let (spelled, kind) = halves(row, " = ")?;
+    let label = read_label(spelled.as_bytes())?;
     let text = label_text(alloc, &label).ok()?;
-    Some(text.as_slice() == row.as_bytes())
+    let is_written = text.as_slice() == spelled.as_bytes() && is_read(&label, text.as_slice());
+    Some(is_written && kind_name(label.kind) == kind)
 }
 
 /// Whether what stands between the bars is no label.
@@ -54,4 +79,17 @@ fn labels_are_read_and_written_back(rt: HostRuntime) {
 #[test]
 fn other_spellings_are_no_labels(rt: HostRuntime) {
     check(&rt, rt.alloc(), Rows::OtherLabel, OTHERS);
+}
+
+/// Whether a name and its copy are equal.
+fn copies_a_name(alloc: Global) -> Option<bool> {
+    let bytes = b"x'$1".to_vec(alloc).ok()?;
+    let name = Ident { bytes };
+    let copy = name.copy(alloc).ok()?;
+    Some(copy == name && copy.bytes.as_slice() == b"x'$1".as_slice())
+}
+
+#[test]
+fn a_copied_name_equals_its_source(rt: HostRuntime) {
+    assert!(rt; copies_a_name(rt.alloc()) == Some(true));
 }

@@ -5,13 +5,18 @@ use std::alloc::Global;
 
 /// Changes of keys in turn, and the entries that are there then.
 const CHANGES: &str = "\
-100=7 -> nothing
+100=7 100=7 100=7 100=7 -> nothing
+4=40 -> 4=40
+4=40 6=60 2=20 -> 2=20 4=40 6=60
 5=50 -> 5=50
 5=50 9=90 3=30 -> 3=30 5=50 9=90
 5=50 9=90 5=51 -> 5=51 9=90
 5=50 9=90 5=7 -> 9=90
 5=50 5=7 5=50 -> 5=50
 0=0 18446744073709551615=1 -> 0=0 18446744073709551615=1";
+
+/// Entries of a map, changes of a copy, and the entries of the copy then. The map keeps its own.
+const COPIES: &str = "1=10 2=20 -> 2=7 0=1 -> 0=1 1=10";
 
 fn entry(text: &str) -> Option<(u64, u64)> {
     let (key, value) = halves(text, "=")?;
@@ -73,9 +78,33 @@ pub(crate) fn changes_row(alloc: Global, row: &str) -> Option<bool> {
     Some(is_copied && is_kept)
 }
 
+/// Whether the changes give the entries to a copy of the map.
+fn is_changed_copy(
+    alloc: Global,
+    map: &Sparse<u64, u64>,
+    changes: &str,
+    entries: &str,
+) -> Option<bool> {
+    let mut copy = boxed(alloc, map.copy().ok())?;
+    change(&mut copy, changes)?;
+    has(&copy, entries)
+}
+
+/// Whether the changes give the last entries to a copy, and the map keeps the first.
+pub(crate) fn copies_row(alloc: Global, row: &str) -> Option<bool> {
+    let (kept, rest) = halves(row, " -> ")?;
+    let (changes, entries) = halves(rest, " -> ")?;
+    let mut map = empty(alloc)?;
+    change(&mut map, kept)?;
+    let is_changed = is_changed_copy(alloc, &map, changes, entries)?;
+    let is_kept = has(&map, kept)?;
+    Some(is_changed && is_kept)
+}
+
 #[test]
 fn maps_keep_what_differs_from_their_default(rt: HostRuntime) {
     check(&rt, rt.alloc(), Rows::Map, CHANGES);
+    check(&rt, rt.alloc(), Rows::MapCopy, COPIES);
 }
 
 /// A map with the keys from 1 to `most`, each with ten times itself.

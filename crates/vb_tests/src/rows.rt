@@ -11,6 +11,7 @@ pub(crate) enum Rows {
     Label,
     OtherLabel,
     Map,
+    MapCopy,
     Whole,
     Made,
     Fraction,
@@ -19,10 +20,12 @@ pub(crate) enum Rows {
     Named,
     Rising,
     Line,
+    Same,
     Pair,
     Change,
     Changed,
     Empty,
+    Contents,
     Feed,
 }
 
@@ -34,6 +37,7 @@ fn is_right(alloc: Global, rows: Rows, row: &str) -> Option<bool> {
         Rows::Label => labels::label_row(alloc, row),
         Rows::OtherLabel => labels::other_row(row),
         Rows::Map => maps::changes_row(alloc, row),
+        Rows::MapCopy => maps::copies_row(alloc, row),
         Rows::Whole => numbers::whole_row(row),
         Rows::Made => numbers::made_row(row),
         Rows::Fraction => numbers::fraction_row(row),
@@ -42,10 +46,12 @@ fn is_right(alloc: Global, rows: Rows, row: &str) -> Option<bool> {
         Rows::Named => numbers::named_row(row),
         Rows::Rising => values::rising_row(alloc, row),
         Rows::Line => values::line_row(alloc, row),
+        Rows::Same => values::same_row(alloc, row),
         Rows::Pair => values::pair_row(alloc, row),
         Rows::Change => states::change_row(alloc, row),
         Rows::Changed => states::changed_row(alloc, row),
         Rows::Empty => states::empty_row(alloc, row),
+        Rows::Contents => states::contents_row(alloc, row),
         Rows::Feed => states::feed_row(alloc, row),
     }
 }

@@ -1,6 +1,6 @@
 // A state over one Int field and one predicate of one Ref, read and changed place by place; and a feed.
 use crate::numbers::{fraction, is_made, number};
-use crate::rows::{Rows, boxed, check, four};
+use crate::rows::{Rows, boxed, check, four, halves};
 use sparse::Sparse;
 use std::alloc::Global;
 use vb_value::{Content, Frac, Key, KeyPart, Layout, Ty, Value};
@@ -12,10 +12,13 @@ value 0 1 7
 value 0 2 0
 value 1 1 none
 mask 0 1 0/1
+mask 0 2 0/1
 mask 1 1 none
 amount 0 1 0/1
+amount 0 2 0/1
 amount 1 1 none
 content 0 1 unit
+content 0 2 unit
 content 1 1 none";
 
 /// Changes; none where there is no such field or predicate.
@@ -40,8 +43,12 @@ amount 0 2 3/2
 content 0 1 unit
 content 0 2 9";
 
-/// The kinds of the choices that are taken one after another.
-const TAKEN: &str = "branch took none none";
+/// Contents that instances get one after another, and those that are there then, in the order of the keys: `_` is nothing,
+/// and `1&2` the pair of two numbers.
+const CONTENTS: &str = "2=1&2 1,9=3 1=4&5 2=_ -> 1=4&5 1,9=3";
+
+/// The choices that are taken one after another.
+const TAKEN: &str = "true 5 none none";
 
 fn key(alloc: Global, reference: u64) -> Option<Key> {
     let parts = vec![in alloc; KeyPart::Ref(reference)].ok()?;
@@ -204,6 +211,90 @@ fn a_copy_changes_by_itself(rt: HostRuntime) {
     check(&rt, rt.alloc(), Rows::Empty, EMPTY);
 }
 
+/// The key of these numbers, as in `1,9`.
+fn key_of(alloc: Global, text: &str) -> Option<Key> {
+    let mut parts = Vec::new(alloc);
+    for word in text.split(',') {
+        parts.push(KeyPart::Int(number(word)?)).ok()?;
+    }
+    Some(Key { parts })
+}
+
+fn leaf_of(text: &str) -> Option<Content> {
+    Some(Content::Leaf(Value::Int(number(text)?)))
+}
+
+fn content_of(alloc: Global, text: &str) -> Option<Content> {
+    if text == "_" {
+        return Some(Content::Unit);
+    }
+    match halves(text, "&") {
+        Some((left, right)) => Content::pair(alloc, leaf_of(left)?, leaf_of(right)?).ok(),
+        None => leaf_of(text),
+    }
+}
+
+/// Gives an instance its content.
+fn fill(alloc: Global, state: &mut State, text: &str) -> Option<()> {
+    let (key, content) = halves(text, "=")?;
+    let content = content_of(alloc, content)?;
+    let key = key_of(alloc, key)?;
+    state.set_content(0, key, content).ok()?
+}
+
+fn fill_all(alloc: Global, state: &mut State, texts: &str) -> Option<()> {
+    for text in texts.split(' ') {
+        fill(alloc, state, text)?;
+    }
+    Some(())
+}
+
+/// Whether the instance stands there, with its content.
+fn has_content(
+    alloc: Global,
+    contents: &Sparse<Key, Content>,
+    index: usize,
+    text: &str,
+) -> Option<bool> {
+    let (key, content) = halves(text, "=")?;
+    let key = key_of(alloc, key)?;
+    let content = content_of(alloc, content)?;
+    let is_there = index < contents.len() && *contents.key_at(index) == key;
+    Some(is_there && contents.get(&key).same(&content))
+}
+
+/// Whether the state has these contents, and no others.
+fn has_contents(alloc: Global, state: &State, texts: &str) -> Option<bool> {
+    let contents = state.content.get(0)?;
+    let mut count = 0usize;
+    for text in texts.split(' ') {
+        if !has_content(alloc, contents, count, text)? {
+            return Some(false);
+        }
+        count = count.wrapping_add(1);
+    }
+    Some(count == contents.len())
+}
+
+/// Whether a copy of the state has the contents.
+fn is_copied(alloc: Global, state: &State, texts: &str) -> Option<bool> {
+    let copy = boxed(alloc, copy_state(alloc, state).ok())?;
+    has_contents(alloc, &copy, texts)
+}
+
+/// Whether what the instances get gives the contents, to a copy of the state.
+pub(crate) fn contents_row(alloc: Global, row: &str) -> Option<bool> {
+    let (given, contents) = halves(row, " -> ")?;
+    let mut state = state(alloc)?;
+    fill_all(alloc, &mut state, given)?;
+    is_copied(alloc, &state, contents)
+}
+
+#[test]
+fn contents_stand_in_the_order_of_their_keys(rt: HostRuntime) {
+    check(&rt, rt.alloc(), Rows::Contents, CONTENTS);
+}
+
 fn feed(alloc: Global) -> Option<Feed> {
     Some(Feed {
         choices: vec![in alloc; Choice::Branch(true), Choice::Took(Value::Int(5))].ok()?,
@@ -212,28 +303,28 @@ fn feed(alloc: Global) -> Option<Feed> {
     })
 }
 
-/// The kind of the next choice.
+/// The next choice.
 fn taken(feed: &mut Feed) -> &'static str {
     match feed.take() {
-        Some(Choice::Branch(_)) => "branch",
-        Some(Choice::Took(_)) => "took",
+        Some(Choice::Branch(true)) => "true",
+        Some(Choice::Took(Value::Int(5))) => "5",
         Some(_) => "another",
         None => "none",
     }
 }
 
-/// Whether the choices are of these kinds, and an event is recorded behind them.
+/// Whether the choices are these, and an event is recorded behind them.
 pub(crate) fn feed_row(alloc: Global, row: &str) -> Option<bool> {
     let (first, second, third, fourth) = four(row, " ")?;
     let mut feed = boxed(alloc, feed(alloc))?;
-    let kinds = [
+    let choices = [
         taken(&mut feed),
         taken(&mut feed),
         taken(&mut feed),
         taken(&mut feed),
     ];
     feed.record(Event::Branch(true)).ok()?;
-    Some(kinds == [first, second, third, fourth] && feed.events.len() == 1)
+    Some(choices == [first, second, third, fourth] && feed.events.len() == 1)
 }
 
 #[test]

@@ -22,6 +22,11 @@ const LINES: &str = "\
 2048 4097
 3000 4097";
 
+/// How many pairs two lines have, and whether they are the same.
+const SAME: &str = "\
+2047 2047 same
+2047 2046 other";
+
 /// How many pairs two contents have, and the nodes of their pair.
 const PAIRS: &str = "\
 0 0 3
@@ -49,10 +54,16 @@ fn key(alloc: Global, text: &str) -> Option<Key> {
     Some(Key { parts })
 }
 
-/// Whether the first key is below the second, which is equal to its clone.
+/// Whether a key is equal to its clone.
+fn is_cloned(key: &Key) -> Option<bool> {
+    let copy = key.clone().ok()?;
+    Some(*key == copy)
+}
+
+/// Whether the first key is below the second, and each is equal to its clone.
 fn is_below(lower: &Key, upper: &Key) -> Option<bool> {
-    let copy = upper.clone().ok()?;
-    Some(*upper == copy && lower.cmp(upper) == Ordering::Less)
+    let are_cloned = (is_cloned(lower)?, is_cloned(upper)?);
+    Some(are_cloned == (true, true) && lower.cmp(upper) == Ordering::Less)
 }
 
 pub(crate) fn rising_row(alloc: Global, row: &str) -> Option<bool> {
@@ -69,6 +80,25 @@ fn line(alloc: Global, pairs: u32) -> Option<Content> {
         content = Content::Pair(left, Rc::new(alloc, Content::Unit).ok()?);
     }
     Some(content)
+}
+
+/// Whether a content is equal to its clone.
+fn is_content_cloned(content: &Content) -> Option<bool> {
+    let copy = content.clone().ok()?;
+    Some(*content == copy)
+}
+
+/// Whether two lines are equal to each other or not, as the row says, and the first to its clone.
+fn is_same(left: &Content, right: &Content, want: &str) -> Option<bool> {
+    let is_cloned = is_content_cloned(left)?;
+    Some(is_cloned && left.same(right) == (want == "same"))
+}
+
+pub(crate) fn same_row(alloc: Global, row: &str) -> Option<bool> {
+    let (left, right, want) = three(row)?;
+    let right = right.parse::<u32>().ok()?;
+    let left = line(alloc, left.parse::<u32>().ok()?)?;
+    is_same(&left, &line(alloc, right)?, want)
 }
 
 /// Whether there are so many nodes, in the content and in its copy, which is another than nothing.
@@ -118,5 +148,6 @@ fn keys_are_ordered_part_by_part(rt: HostRuntime) {
 #[test]
 fn contents_are_counted_and_paired_up_to_the_bound(rt: HostRuntime) {
     check(&rt, rt.alloc(), Rows::Line, LINES);
+    check(&rt, rt.alloc(), Rows::Same, SAME);
     check(&rt, rt.alloc(), Rows::Pair, PAIRS);
 }
