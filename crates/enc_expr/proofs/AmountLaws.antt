@@ -69,7 +69,7 @@ first_decides : (p q : Bool) → (p ≡ true → q ≡ true) → (p && q) ≡ p
 first_decides true q h = h refl
 first_decides false q h = refl
 
-none_alone : (q : Fraction) → IsReduced q → fraction_eq q none ≡ is_none q
+pub none_alone : (q : Fraction) → IsReduced q → fraction_eq q none ≡ is_none q
 none_alone q h = first_decides (is_none q) (q.den == 1) (λ e. (Decides-eqb q.den 1).1 (one_below ((Decides-int_eq q.num (pos 0)).0 e)))
   where
     one_below : q.num ≡ pos 0 → q.den ≡ 1
@@ -128,7 +128,7 @@ added_alike b held k q at go cs run h = rw (then_again (e.fitting b (fits_produc
 -- ---- expressions
 
 -- the literal 1
-one_is : {n : ℕ} {E : Env} {x : t.BExpr} {q : Fraction} → HasAtom n E x (Real q) → is_one x ≡ true → q ≡ write
+pub one_is : {n : ℕ} {E : Env} {x : t.BExpr} {q : Fraction} → HasAtom n E x (Real q) → is_one x ≡ true → q ≡ write
 one_is (variable l h) e = absurd cc
 one_is (real {z = z}) e = ap whole ((Decides-int_eq z (pos 1)).0 e)
 

@@ -74,7 +74,7 @@ ref_alike {Q} {r = r} typed h = alike_run (sym (then_done r)) (then_alike h (λ 
 -- ---- what stays as locals are added
 
 -- values of these types, none of them Perm, make a key
-key_typed : {b : Bound} {n : ℕ} {E : Env} {xs : List Operand} {us : List Ty} {vs : List Value} → AreValues b n E xs us vs → All (λ u. u ≢ ty.Perm) us → (key : Key) × ((Some key ≡ key_of vs) × FitsKey us key)
+pub key_typed : {b : Bound} {n : ℕ} {E : Env} {xs : List Operand} {us : List Ty} {vs : List Value} → AreValues b n E xs us vs → All (λ u. u ≢ ty.Perm) us → (key : Key) × ((Some key ≡ key_of vs) × FitsKey us key)
 key_typed alike.AreValues.none h = ([], (refl, tt))
 key_typed (alike.AreValues.more {u} {us} {v = w} {vs} typed here rest) h =
     let ks = key_typed rest (All-tail (λ u. u ≢ ty.Perm) u us h) in in_front_typed u us w vs typed (All-head (λ u. u ≢ ty.Perm) u us h) ks.0 ks.1.0 ks.1.1

@@ -28,7 +28,7 @@ use Rattle.enc_expr.proofs.FrameLaws.{kept_itself, kept_then, kept_set, locals_f
 -- ---- the ways of writing
 
 -- each statement stands under one of these guards, or under a new one that is made from one of them
-data IsWritten : (Guard → Type 0) → (X : Type 0) → Emitting X → Type 1 where
+pub data IsWritten : (Guard → Type 0) → (X : Type 0) → Emitting X → Type 1 where
   given : {O : Guard → Type 0} {X : Type 0} (x : X) → IsWritten O X (gives x)
   both : {O : Guard → Type 0} {X Y : Type 0} {m : Emitting X} {go : X → Emitting Y} → IsWritten O X m → ((x : X) → IsWritten O Y (go x)) → IsWritten O Y (then_emit m go)
   local : {O : Guard → Type 0} (u : BType) → IsWritten O ℕ (declares u)
@@ -38,7 +38,7 @@ data IsWritten : (Guard → Type 0) → (X : Type 0) → Emitting X → Type 1 w
       IsWritten O Y (then_emit (guards g x) go)
 
 -- under whatever guards there are, if its own guard is one of them
-abbrev AreWritten : {X : Type 0} → (Guard → Emitting X) → Type 1
+abbrev pub AreWritten : {X : Type 0} → (Guard → Emitting X) → Type 1
 AreWritten {X} m = (O : Guard → Type 0) (g : Guard) → O g → IsWritten O X (m g)
 
 module _ {O : Guard → Type 0} where
@@ -50,14 +50,14 @@ module _ {O : Guard → Type 0} where
   local_written : (x : Operand) → IsWritten O _ (in_local x)
   local_written x = search (both, local, given)
 
-  atomic_written : (x : Operand) → IsWritten O _ (atomic x)
+  pub atomic_written : (x : Operand) → IsWritten O _ (atomic x)
   atomic_written x = either_written _ (given _) (local_written x)
 
   from_written : (x : Operand) (y : t.BExpr) → IsWritten O _ (located_from x y)
   from_written x (t.Var i) = given _
   from_written x _ = search (both, local, given)
 
-  located_written : (xs : List Operand) → IsWritten O _ (located xs)
+  pub located_written : (xs : List Operand) → IsWritten O _ (located xs)
   located_written [] = given _
   located_written (x ∷ xs) = search (both, from_written, located_written xs, given)
 
@@ -70,7 +70,7 @@ module _ {O : Guard → Type 0} where
   class_written Division p g o at left right own h i = both h (λ x. both (i O g own) (λ y. division_written p g o at x y own))
   class_written Plain p g o at left right own h i = both h (λ x. both (i O g own) (λ y. given (operand_of o x y)))
 
-  choose_written : {X Y : Type 0} (g : Guard) (x : t.BExpr) (left right : Guard → Emitting X) (to : ℕ → X → X → Y) → O g → AreWritten left →
+  pub choose_written : {X Y : Type 0} (g : Guard) (x : t.BExpr) (left right : Guard → Emitting X) (to : ℕ → X → X → Y) → O g → AreWritten left →
       AreWritten right → IsWritten O _ (choose_code g x left right to)
   choose_written g x left right to own h i = guarded g x own (λ a. guarded g (t.Not (t.Var a)) (inr own) (λ c. both (h _ (Some a) (inr (inl refl))) (λ v. both (i _ (Some c) (inl refl)) (λ w. given (to a v w)))))
 
@@ -84,7 +84,7 @@ module _ {O : Guard → Type 0} where
   instance_written p g scale q at from xs m own = search (both, atomic_written, located_written, put)
 
 mutual
-  code_written : (O : Guard → Type 0) (k : Kinds) (p : Place) (g : Guard) (a : e.Expr) → O g → IsWritten O _ (code k p g a)
+  pub code_written : (O : Guard → Type 0) (k : Kinds) (p : Place) (g : Guard) (a : e.Expr) → O g → IsWritten O _ (code k p g a)
   code_written O k p g (e.Var x) own = given _
   code_written O k p g (e.Int n) own = given _
   code_written O k p g (e.Bool b) own = given _
@@ -105,11 +105,11 @@ mutual
       let read : (r : Place) → IsWritten O _ (code k r g inner) = λ r. code_written O k r g inner own in
       search (both, xs, m, located_written, atomic_written, locals, local, put, fill, read) depth 12
 
-  codes_written : (O : Guard → Type 0) (k : Kinds) (p : Place) (g : Guard) (xs : e.Exprs) → O g → IsWritten O _ (codes k p g xs)
+  pub codes_written : (O : Guard → Type 0) (k : Kinds) (p : Place) (g : Guard) (xs : e.Exprs) → O g → IsWritten O _ (codes k p g xs)
   codes_written O k p g e.none own = given _
   codes_written O k p g (e.more a rest) own = search (both, code_written O k p g a own, codes_written O k p g rest own, given)
 
-  amount_written : (O : Guard → Type 0) (k : Kinds) (p : Place) (g : Guard) (m : e.Amt) → O g → IsWritten O _ (amount_code k p g m)
+  pub amount_written : (O : Guard → Type 0) (k : Kinds) (p : Place) (g : Guard) (m : e.Amt) → O g → IsWritten O _ (amount_code k p g m)
   amount_written O k p g (e.Is a) own = code_written O k p g a own
   amount_written O k p g e.Wildcard own = given _
 
@@ -129,7 +129,7 @@ mutual
 -- ---- numbers
 
 -- the next local comes after those that are declared
-written_counted : {O : Guard → Type 0} {X : Type 0} {m : Emitting X} → IsWritten O X m → IsCounted m
+pub written_counted : {O : Guard → Type 0} {X : Type 0} {m : Emitting X} → IsWritten O X m → IsCounted m
 written_counted (given x) = record { next = λ n. omega arith }
 written_counted (both {m} {go} h g) = record {
   next = λ n.
@@ -186,7 +186,7 @@ body_counted k p g scale a from = written_counted (body_written (λ g. ⊤) k p 
 -- ---- sleeping code
 
 -- one of these guards
-data IsUnder (O : ℕ → Type 0) : Guard → Type 0 where
+pub data IsUnder (O : ℕ → Type 0) : Guard → Type 0 where
   some : {h : ℕ} → O h → IsUnder O (Some h)
 
 under_more : {O N : ℕ → Type 0} {g : Guard} → ((h : ℕ) → O h → N h) → IsUnder O g → IsUnder N g
@@ -238,7 +238,7 @@ under_guards : {O : ℕ → Type 0} {Y : Type 0} {g : Guard} (x : t.BExpr) (go :
 under_guards x go (some {h} own) f = guards_sleep h x go own f
 
 -- where all guards are false
-written_sleeps : {N : Guard → Type 0} {X : Type 0} {m : Emitting X} → IsWritten N X m → (O : ℕ → Type 0) → ((g : Guard) → N g → IsUnder O g) → Sleeps O m
+pub written_sleeps : {N : Guard → Type 0} {X : Type 0} {m : Emitting X} → IsWritten N X m → (O : ℕ → Type 0) → ((g : Guard) → N g → IsUnder O g) → Sleeps O m
 written_sleeps (given x) O all = nothing_sleeps (λ n. refl)
 written_sleeps (both {m} {go} h g) O all = then_sleeps m go (written_counted h) (written_sleeps h O all) (λ x. written_sleeps (g x) O all)
 written_sleeps (local u) O all = nothing_sleeps (λ n. refl)

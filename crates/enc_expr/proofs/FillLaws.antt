@@ -121,7 +121,7 @@ sign_left (pos (suc n)) h = ap not (sym (false_of (int_eq (pos (suc n)) (pos 0))
 sign_left (negsuc n) h = absurd (cc)
 
 -- what is not negative is none or positive
-positive_unless_none : (q : Fraction) → is_negative q ≡ false → is_positive q ≡ not (is_none q)
+pub positive_unless_none : (q : Fraction) → is_negative q ≡ false → is_positive q ≡ not (is_none q)
 positive_unless_none q h = sign_left q.num h
 
 module _ (ts : List BType) (b : Bound) (c : Context) (p : Place) (s : State) (sc : Scene) (n m : ℕ) (E : Env) (coupled : IsCoupled b c n p s sc E) (more : n ≤ m) (at : Pos) (from : ℕ) (d : Content)
@@ -146,7 +146,7 @@ module _ (ts : List BType) (b : Bound) (c : Context) (p : Place) (s : State) (sc
 
 -- ---- what is held stays as it is
 
-implies_value : (b : Bound) (q r : Truth) (x y : end.End BScalar) → x ≡ end.Is (bv.Bool q) → y ≡ end.Is (bv.Bool r) → m.binary b op.Implies x y ≡ end.Is (bv.Bool (if q then r else true))
+pub implies_value : (b : Bound) (q r : Truth) (x y : end.End BScalar) → x ≡ end.Is (bv.Bool q) → y ≡ end.Is (bv.Bool r) → m.binary b op.Implies x y ≡ end.Is (bv.Bool (if q then r else true))
 implies_value b q r x y h g = (λ i. m.binary b op.Implies (h i) (g i)) ∙ by_cases q r
   where
     by_cases : (q r : Truth) → m.binary b op.Implies (end.Is (bv.Bool q)) (end.Is (bv.Bool r)) ≡ end.Is (bv.Bool (if q then r else true))
@@ -185,7 +185,7 @@ slice_set_same (y ∷ xs) zero x h = ap (λ z. z ∷ xs) (sym (same_Some _ _ h))
 slice_set_same (y ∷ xs) (suc i) x h = ap (λ zs. y ∷ zs) (slice_set_same xs i x h)
 
 -- nothing changes where the value is put that is there
-changed_same : {K V : Type 0} {cmp : K → K → Ordering} {eq : V → V → Truth} (exact : IsExact cmp eq) (maps : List (Map K V)) (i : ℕ) (a : K) (m : Map K V) → slice_get maps i ≡ Some m → IsTidy cmp eq m →
+pub changed_same : {K V : Type 0} {cmp : K → K → Ordering} {eq : V → V → Truth} (exact : IsExact cmp eq) (maps : List (Map K V)) (i : ℕ) (a : K) (m : Map K V) → slice_get maps i ≡ Some m → IsTidy cmp eq m →
     changed_at cmp eq maps i a (get cmp m a) ≡ maps
 changed_same {cmp = cmp} {eq = eq} exact maps i a m there tidy =
     ap (changed cmp eq maps i a (get cmp m a)) there ∙ ap (slice_set maps i) (set-get exact m tidy a) ∙ slice_set_same maps i m there

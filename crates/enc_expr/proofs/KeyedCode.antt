@@ -34,28 +34,28 @@ has_keys u = AreKeys u.keys
 
 -- ---- by the ways of writing
 
-gives_keyed : {X : Type 0} (x : X) → IsKeyed (gives x)
+pub gives_keyed : {X : Type 0} (x : X) → IsKeyed (gives x)
 gives_keyed x = record { keys = λ n. All-nil has_keys }
 
-then_keyed : {X Y : Type 0} {m : Emitting X} {go : X → Emitting Y} → IsKeyed m → ((x : X) → IsKeyed (go x)) → IsKeyed (then_emit m go)
+pub then_keyed : {X Y : Type 0} {m : Emitting X} {go : X → Emitting Y} → IsKeyed m → ((x : X) → IsKeyed (go x)) → IsKeyed (then_emit m go)
 then_keyed {m = m} {go = go} h g = record { keys = λ n. All-append has_keys (m n).locals (go (m n).value (m n).next).locals (h.keys n) ((g (m n).value).keys (m n).next) }
 
-plain_keyed : (u : BBase) → IsKeyed (declares (plain_type u))
+pub plain_keyed : (u : BBase) → IsKeyed (declares (plain_type u))
 plain_keyed u = record { keys = λ n. All-cons has_keys (plain_type u) [] (All-nil (λ w. is_key w ≡ true)) (All-nil has_keys) }
 
 all_keyed : (us : List BType) → HaveKeys us → IsKeyed (declares_all us)
 all_keyed us h = record { keys = λ n. h }
 
-puts_keyed : (g : Guard) (xs : BStmts) → IsKeyed (puts g xs)
+pub puts_keyed : (g : Guard) (xs : BStmts) → IsKeyed (puts g xs)
 puts_keyed g xs = record { keys = λ n. All-nil has_keys }
 
-guards_keyed : (g : Guard) (x : t.BExpr) → IsKeyed (guards g x)
+pub guards_keyed : (g : Guard) (x : t.BExpr) → IsKeyed (guards g x)
 guards_keyed g x = record { keys = λ n. All-cons has_keys (plain_type base.Bool) [] (All-nil (λ w. is_key w ≡ true)) (All-nil has_keys) }
 
 in_local_keyed : (x : Operand) → IsKeyed (in_local x)
 in_local_keyed x = then_keyed (plain_keyed x.base) (λ i. gives_keyed (record { expr = t.Var i; sets = s.first (s.Assign i x.expr) s.skip }))
 
-atomic_keyed : (x : Operand) → IsKeyed (atomic x)
+pub atomic_keyed : (x : Operand) → IsKeyed (atomic x)
 atomic_keyed x = either (is_atom x.expr)
   where
     either : (q : Bool) → IsKeyed (λ n. if q then gives (record { expr = x.expr; sets = s.skip }) n else in_local x n)
@@ -69,7 +69,7 @@ located_from_keyed x a = new_local x
     new_local : (x : Operand) → IsKeyed {X = Located} (then_emit (declares (plain_type x.base)) (λ i. gives (record { locals = i ∷ []; sets = s.first (s.Assign i x.expr) s.skip })))
     new_local x = then_keyed (plain_keyed x.base) (λ i. gives_keyed (record { locals = i ∷ []; sets = s.first (s.Assign i x.expr) s.skip }))
 
-located_keyed : (xs : List Operand) → IsKeyed (located xs)
+pub located_keyed : (xs : List Operand) → IsKeyed (located xs)
 located_keyed [] = gives_keyed (record { locals = []; sets = s.skip })
 located_keyed (x ∷ xs) = then_keyed (located_from_keyed x x.expr) (λ a. then_keyed (located_keyed xs) (λ rest. gives_keyed (record { locals = a.locals ++ rest.locals; sets = join a.sets rest.sets })))
 
@@ -88,7 +88,7 @@ in_class_keyed Lazy p g o at left right h go = then_keyed h (λ x. lazily_keyed 
 in_class_keyed Division p g o at left right h go = then_keyed h (λ x. then_keyed (go g) (λ y. division_keyed p g o at x y))
 in_class_keyed Plain p g o at left right h go = then_keyed h (λ x. then_keyed (go g) (λ y. gives_keyed (operand_of o x y)))
 
-choose_keyed : {X Y : Type 0} (g : Guard) (x : t.BExpr) (left right : Guard → Emitting X) (both : ℕ → X → X → Y) → ((h : Guard) → IsKeyed (left h)) → ((h : Guard) → IsKeyed (right h)) →
+pub choose_keyed : {X Y : Type 0} (g : Guard) (x : t.BExpr) (left right : Guard → Emitting X) (both : ℕ → X → X → Y) → ((h : Guard) → IsKeyed (left h)) → ((h : Guard) → IsKeyed (right h)) →
     IsKeyed (choose_code g x left right both)
 choose_keyed g x left right both go to = then_keyed (guards_keyed g x) (λ h. then_keyed (guards_keyed g (t.Not (t.Var h))) (λ k. then_keyed (go (Some h)) (λ v. then_keyed (to (Some k)) (λ w. gives_keyed (both h v w)))))
 
@@ -167,11 +167,11 @@ mutual
       then_keyed (body_keyed (body_kinds k q) (with_now (maps_from k.layout n) (with_vars l.locals p)) g a.expr body from h) (λ u.
       code_keyed k (with_now (maps_from k.layout n) p) g inner h))))))))
 
-  codes_keyed : (k : Kinds) (p : Place) (g : Guard) (xs : e.Exprs) → HaveKeys (state_types k.layout) → IsKeyed (codes k p g xs)
+  pub codes_keyed : (k : Kinds) (p : Place) (g : Guard) (xs : e.Exprs) → HaveKeys (state_types k.layout) → IsKeyed (codes k p g xs)
   codes_keyed k p g e.none h = gives_keyed []
   codes_keyed k p g (e.more a rest) h = then_keyed (code_keyed k p g a h) (λ x. then_keyed (codes_keyed k p g rest h) (λ xs. gives_keyed (x ∷ xs)))
 
-  amount_keyed : (k : Kinds) (p : Place) (g : Guard) (m : e.Amt) → HaveKeys (state_types k.layout) → IsKeyed (amount_code k p g m)
+  pub amount_keyed : (k : Kinds) (p : Place) (g : Guard) (m : e.Amt) → HaveKeys (state_types k.layout) → IsKeyed (amount_code k p g m)
   amount_keyed k p g (e.Is a) h = code_keyed k p g a h
   amount_keyed k p g e.Wildcard h = gives_keyed (record { expr = zero_real; base = base.Real })
 

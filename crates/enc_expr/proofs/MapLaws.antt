@@ -180,7 +180,7 @@ module _ {K V : Type 0} (k : MapKind K V) where
   map_apart n m x maps i E F grows same h = map_moved grows refl same h
 
 -- what is so at one element and at the others
-at_each : {U : Type 0} (us : List U) (P : ℕ → U → Type 0) (i : ℕ) (u : U) → slice_get us i ≡ Some u → P i u → ((j : ℕ) (w : U) → slice_get us j ≡ Some w → i ≢ j → P j w) →
+pub at_each : {U : Type 0} (us : List U) (P : ℕ → U → Type 0) (i : ℕ) (u : U) → slice_get us i ≡ Some u → P i u → ((j : ℕ) (w : U) → slice_get us j ≡ Some w → i ≢ j → P j w) →
     (j : ℕ) (w : U) → slice_get us j ≡ Some w → P j w
 at_each {U} us P i u there here others j w has = elim (same_or i j) [
   | inl e ↦ subst (λ j. (w : U) → slice_get us j ≡ Some w → P j w) e (λ w has. subst (P i) (same_Some u w (sym there ∙ has)) here) w has

@@ -115,7 +115,7 @@ module _ (top : ℕ) where
       then_low top h (λ x i. then_low top (go g) (λ y j. division_low p g f at x y d k v u class (subst (λ (a : Ty). value_type f v a ≡ Some u) e typed) few i (subst (λ (a : Ty). IsLow k a y) e j)))
   in_class_low Plain p g f at left right d k v w u class typed few h go = then_low top h (λ x i. then_low top (go g) (λ y j. gives_low top (operand_low f x y d k v w u class typed i j)))
 
-  choose_low : {X Y : Type 0} {P Q : X → Type 0} {R : Y → Type 0} (g : Guard) (x : t.BExpr) (left right : Guard → Emitting X) (both : ℕ → X → X → Y) → 1 + expr_depth x ≤ top → 2 ≤ top →
+  pub choose_low : {X Y : Type 0} {P Q : X → Type 0} {R : Y → Type 0} (g : Guard) (x : t.BExpr) (left right : Guard → Emitting X) (both : ℕ → X → X → Y) → 1 + expr_depth x ≤ top → 2 ≤ top →
       ((h : Guard) → IsLowCode top P (left h)) → ((h : Guard) → IsLowCode top Q (right h)) → ((h : ℕ) (v w : X) → P v → Q w → R (both h v w)) → IsLowCode top R (choose_code g x left right both)
   choose_low g x left right both few two go to all = then_low top (guards_low top g x few) (λ i l. then_low top (guards_low top g (t.Not (t.Var i)) (omega (arith, two))) (λ j k.
       then_low top (go (Some i)) (λ v p. then_low top (to (Some j)) (λ w q. gives_low top (all i v w p q)))))

@@ -67,7 +67,7 @@ check_divisor_low l d h = unless_low 1 (is_divisor_literal d) (one (s.Assert l (
 check_positive_low : (l : Label) (q : t.BExpr) → expr_depth q ≤ 0 → stmts_depth (check_positive l q) ≤ 2
 check_positive_low l q h = unless_low 2 (is_one q) (one (s.Assert l (t.Bin op.Gt q zero_real))) (omega (arith, h))
 
-check_nonnegative_low : (l : Label) (q : t.BExpr) → expr_depth q ≤ 0 → stmts_depth (check_nonnegative l q) ≤ 4
+pub check_nonnegative_low : (l : Label) (q : t.BExpr) → expr_depth q ≤ 0 → stmts_depth (check_nonnegative l q) ≤ 4
 check_nonnegative_low l q h = unless_low 4 (is_amount_literal q) (one (s.Assert l (t.Bin op.Ge q zero_real))) (omega (arith, h))
 
 pub read_checks_low : (p : Place) (f : ℕ) (at : Pos) (x : t.BExpr) → expr_depth x ≤ 0 → stmts_depth (read_checks p f at x) ≤ 2
@@ -107,7 +107,7 @@ taking_low layout p n q key amount from at h i =
 
 -- ---- filling
 
-scaled_low : (scale q : t.BExpr) → expr_depth scale ≤ 0 → expr_depth q ≤ 0 → expr_depth (scaled scale q) ≤ 1
+pub scaled_low : (scale q : t.BExpr) → expr_depth scale ≤ 0 → expr_depth q ≤ 0 → expr_depth (scaled scale q) ≤ 1
 scaled_low scale q h i = by_literals (is_one scale) (is_one q)
   where
     by_literals : (p r : Bool) → expr_depth (if p then q else if r then scale else t.Bin op.Mul scale q) ≤ 1
@@ -122,7 +122,7 @@ if_positive_low k q xs ys h few i j = by_literal (is_one q)
     by_literal true = omega (arith, i)
     by_literal false = omega (arith, h, few, i, j)
 
-add_to_low : (m : ℕ) (k : t.BExprs) (q : t.BExpr) → exprs_depth k ≤ 0 → expr_depth q ≤ 1 → stmts_depth (add_to m k q) ≤ 3
+pub add_to_low : (m : ℕ) (k : t.BExprs) (q : t.BExpr) → exprs_depth k ≤ 0 → expr_depth q ≤ 1 → stmts_depth (add_to m k q) ≤ 3
 add_to_low m k q h i = omega (arith, h, i)
 
 set_value_low : (held m : ℕ) (k : t.BExprs) (v : ℕ) → exprs_depth k ≤ 0 → stmts_depth (set_value held m k v) ≤ 3

@@ -94,7 +94,7 @@ module _ (b : Bound) (c : Context) (formed : IsFormed c.program) {n : ℕ} {p : 
   proper_values {xs} typed = values_kept b (IsProperFraction b) IsReduced (IsProperValue b) (IsProperKey b) (IsProperContent b) (proper_closed b) xs s sc
       (exprs_literals _ _ (literals_proper b) c formed.typed typed) coupled.sound.proper proper_scene
 
-  proper_amount : {a : e.Expr} → HasType c a ty.Perm → Keeps IsAny (IsProperFraction b) (amount_of b (e.Is a) s sc)
+  pub proper_amount : {a : e.Expr} → HasType c a ty.Perm → Keeps IsAny (IsProperFraction b) (amount_of b (e.Is a) s sc)
   proper_amount {a} typed = any_law (λ q h. h) (amount_kept b (IsProperFraction b) IsReduced (IsProperValue b) (IsProperKey b) (IsProperContent b) (proper_closed b) (e.Is a) s sc
       (typed_literals _ _ (literals_proper b) c formed.typed typed) coupled.sound.proper proper_scene)
 

@@ -69,7 +69,7 @@ in_class_small Division j k p g f at left right h go = then_small (64 + k) (omeg
 in_class_small Plain j k p g f at left right h go = then_small (64 + k) (omega arith) h (λ x any. then_small (64 + weigh x) (omega arith) (go g) (λ y any.
     gives_small {x = operand_of f x y} tt (let a = operand_nodes f x y in omega (arith, a))))
 
-choose_small : {X Y : Type 0} {measure : X → ℕ} {most : Y → ℕ} (j k total : ℕ) (g : Guard) (x : t.BExpr) (left right : Guard → Emitting X) (both : ℕ → X → X → Y) → 10 + expr_nodes x + j + k ≤ total →
+pub choose_small : {X Y : Type 0} {measure : X → ℕ} {most : Y → ℕ} (j k total : ℕ) (g : Guard) (x : t.BExpr) (left right : Guard → Emitting X) (both : ℕ → X → X → Y) → 10 + expr_nodes x + j + k ≤ total →
     ((h : Guard) → IsSmall j Any measure (left h)) → ((h : Guard) → IsSmall k Any measure (right h)) → ((h : ℕ) (v w : X) → most (both h v w) ≤ measure v + measure w) → IsSmall total Any most (choose_code g x left right both)
 choose_small {measure = measure} j k total g x left right both enough go to all = then_small (6 + j + k) (omega (arith, enough)) (guards_small g x) (λ h any. then_small (j + k) (omega arith) (guards_small g (t.Not (t.Var h))) (λ i any.
     then_small k (omega arith) (go (Some h)) (λ v any. then_small (measure v) (omega arith) (to (Some i)) (λ w any. gives_small {x = both h v w} tt (all h v w)))))
@@ -160,7 +160,7 @@ module _ (least : ℕ) where
 -- ---- what is promised
 
 -- each part counts its own node, the fields and the predicates
-counted : (p : Program) → IsFormed p → 1 + parts_of p.layout ≤ base_of p
+pub counted : (p : Program) → IsFormed p → 1 + parts_of p.layout ≤ base_of p
 counted p h = let kept = h.typed.layout in let keys = ap length kept.keys in omega (arith, kept.fields, keys, length-map p.predicates (λ (d : Predicate). d.params))
 
 pub expression_linear : (c : Context) (p : Place) (g : Guard) (a : e.Expr) (n : ℕ) → IsFormed c.program →

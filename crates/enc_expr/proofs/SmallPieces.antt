@@ -70,7 +70,7 @@ check_divisor_nodes l d h = unless_nodes 4 (is_divisor_literal d) (one (s.Assert
 check_positive_nodes : (l : Label) (q : t.BExpr) → expr_nodes q ≤ 1 → stmts_nodes (check_positive l q) ≤ 4
 check_positive_nodes l q h = unless_nodes 4 (is_one q) (one (s.Assert l (t.Bin op.Gt q zero_real))) (omega (arith, h))
 
-check_nonnegative_nodes : (l : Label) (q : t.BExpr) → expr_nodes q ≤ 1 → stmts_nodes (check_nonnegative l q) ≤ 4
+pub check_nonnegative_nodes : (l : Label) (q : t.BExpr) → expr_nodes q ≤ 1 → stmts_nodes (check_nonnegative l q) ≤ 4
 check_nonnegative_nodes l q h = unless_nodes 4 (is_amount_literal q) (one (s.Assert l (t.Bin op.Ge q zero_real))) (omega (arith, h))
 
 pub read_checks_nodes : (p : Place) (f : ℕ) (at : Pos) (x : t.BExpr) → expr_nodes x ≤ 1 → stmts_nodes (read_checks p f at x) ≤ 9
@@ -135,7 +135,7 @@ state_types_length layout = omega (
 
 -- ---- filling
 
-scaled_nodes : (scale q : t.BExpr) → expr_nodes scale ≤ 1 → expr_nodes q ≤ 1 → expr_nodes (scaled scale q) ≤ 3
+pub scaled_nodes : (scale q : t.BExpr) → expr_nodes scale ≤ 1 → expr_nodes q ≤ 1 → expr_nodes (scaled scale q) ≤ 3
 scaled_nodes scale q h i = by_literals (is_one scale) (is_one q)
   where
     by_literals : (p r : Bool) → expr_nodes (if p then q else if r then scale else t.Bin op.Mul scale q) ≤ 3
@@ -150,7 +150,7 @@ if_positive_nodes q xs ys h = by_literal (is_one q)
     by_literal true = omega arith
     by_literal false = omega (arith, h)
 
-add_to_nodes : (m : ℕ) (k : t.BExprs) (q : t.BExpr) → expr_nodes q ≤ 3 → stmts_nodes (add_to m k q) ≤ 10 + 3 * exprs_nodes k
+pub add_to_nodes : (m : ℕ) (k : t.BExprs) (q : t.BExpr) → expr_nodes q ≤ 3 → stmts_nodes (add_to m k q) ≤ 10 + 3 * exprs_nodes k
 add_to_nodes m k q h = omega (arith, h)
 
 set_value_nodes : (held m : ℕ) (k : t.BExprs) (v : ℕ) → stmts_nodes (set_value held m k v) ≤ 10 + 3 * exprs_nodes k

@@ -168,7 +168,7 @@ module _ (ts : List BType) where
 
   -- ---- amounts
 
-  scaled_typed : (x y : t.BExpr) → HasType ts None x base.Real → HasType ts None y base.Real → HasType ts None (scaled x y) base.Real
+  pub scaled_typed : (x y : t.BExpr) → HasType ts None x base.Real → HasType ts None y base.Real → HasType ts None (scaled x y) base.Real
   scaled_typed x y h k = by_literals (is_one x) (is_one y)
     where
       by_literals : (p q : Bool) → HasType ts None (if p then y else if q then x else t.Bin op.Mul x y) base.Real
@@ -176,7 +176,7 @@ module _ (ts : List BType) where
       by_literals false true = h
       by_literals false false = b.binary refl h k
 
-  check_nonnegative_typed : (l : Label) (x : t.BExpr) → HasType ts None x base.Real → IsTyped ts (check_nonnegative l x)
+  pub check_nonnegative_typed : (l : Label) (x : t.BExpr) → HasType ts None x base.Real → IsTyped ts (check_nonnegative l x)
   check_nonnegative_typed l x h = unless_typed (is_amount_literal x) (one (s.Assert l (t.Bin op.Ge x zero_real))) (one_typed ts (b.assert_ (b.binary refl h b.real)))
 
   check_positive_typed : (l : Label) (x : t.BExpr) → HasType ts None x base.Real → IsTyped ts (check_positive l x)

@@ -172,9 +172,9 @@ pub fn check_all(
     Ok(operands)
 }
 
-/// The amount of an accessibility predicate in the body of a predicate, which has no `wildcard`.
+/// The code of the amount of an accessibility predicate, with its value as an operand, which is none for `wildcard`.
 #[cycle(codes)]
-fn check_amount(
+pub fn check_amount(
     alloc: Global,
     amount: &Amt,
     reading: Reading,

@@ -20,14 +20,15 @@ pub mod worked;
 
 pub use blocks::{add, add_all};
 pub use calls::checked;
-pub use codes::{check, check_all, fill};
+pub use codes::{check, check_all, check_amount, fill};
 pub use emits::Emit;
 pub use fillings::{Source, add_to, check_nonnegative, if_positive, set_value};
 pub use openings::{
-    Part, check_positive, copies, copy_state, fresh_indexed, fresh_masks, fresh_state, taking,
+    Part, check_positive, copies, copy_state, fresh_indexed, fresh_masks, fresh_state, heap_of,
+    indexed_map_of, taking,
 };
 pub use operands::{Atom, Held, Located, Operand, atomic, in_locals};
 pub use operators::sides;
 pub use places::{Maps, Place};
-pub use readings::{Kinds, Reading, number};
+pub use readings::{Kinds, Reading, local_at, number};
 pub use terms::{Index, at, binary, scaled};

@@ -31,14 +31,15 @@ fn map_of(alloc: Global, values: BBase) -> Result<BType, Memory>
     Ok(BType { keys, base: values })
 }
 
-fn heap_of(alloc: Global, ty: &Ty) -> Result<BType, Memory>
+/// The type of the heap of a field.
+pub fn heap_of(alloc: Global, ty: &Ty) -> Result<BType, Memory>
     ensures { IfOk result (λ u. type_of u ≡ k.heap_type ty.now) }
 {
     map_of(alloc, base_for(*ty))
 }
 
 /// The type of the amounts or contents of a predicate: its instances have 0 as index where it has no parameters.
-fn indexed_map_of(alloc: Global, params: &[Ty], base: BBase) -> Result<BType, Memory>
+pub fn indexed_map_of(alloc: Global, params: &[Ty], base: BBase) -> Result<BType, Memory>
     ensures { IfOk result (λ u. type_of u ≡ record { keys = k.index_types params.now; base = base }) }
 {
     if params.is_empty() {

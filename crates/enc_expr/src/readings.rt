@@ -72,7 +72,7 @@ pub fn number(locals: &[usize], index: u32) -> usize
 }
 
 /// The same by an index of the machine.
-pub(crate) fn local_at(locals: &[usize], index: usize) -> usize
+pub fn local_at(locals: &[usize], index: usize) -> usize
     ensures { result ≡ p.number locals.now index }
 {
     locals.get(index).copied().unwrap_or(0)
