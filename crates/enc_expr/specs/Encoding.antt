@@ -165,7 +165,7 @@ abbrev mutual
   codes k p g e.none = gives []
   codes k p g (e.more a rest) = then_emit (code k p g a) (λ x. then_emit (codes k p g rest) (λ xs. gives (x ∷ xs)))
 
-  -- of the amount of an accessibility predicate in the body of a predicate, which has no `wildcard`
+  -- of the amount of an accessibility predicate; that of a `wildcard`, which is chosen later, is 0 here
   pub amount_code : Kinds → Place → Guard → e.Amt → Emitting Operand
   amount_code k p g (e.Is a) = code k p g a
   amount_code k p g e.Wildcard = gives (record { expr = zero_real; base = base.Real })

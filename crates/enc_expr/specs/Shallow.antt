@@ -13,8 +13,7 @@ reserve ty.Bool = 0
 reserve ty.Ref = 0
 reserve ty.Perm = 0
 
--- Of what has this depth the statements have one bracket more at most. A body that is opened counts too, which has a depth of
--- 1,024 at most.
+-- Of what has this depth the statements have one bracket more at most, or 1,025, since a body that is opened counts too.
 pub record IsShallow (d : ℕ) {X : Type 0} (m : Code X) : Type 0 where
   pub stmts : stmts_depth m.stmts ≤ 1 + max 1024 d
 

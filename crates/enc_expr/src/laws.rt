@@ -74,10 +74,9 @@ pub fn code_is_well_typed()
         → IsTypedPiece ts (body_code (kinds_in c) p g scale a from (length ts)) }
 {}
 
-/// The text of the code of a well-typed expression or body of a formed program has hardly more brackets open at once than the
-/// expression or body has levels: the value of an expression no more, and the statements one more. What an `unfolding` opens
-/// counts too, and has at most 1,024 levels. So where an expression or body keeps within 1,024 levels, its code keeps within
-/// 1,025.
+/// The value of a well-typed expression of a formed program has no more brackets open at once than the expression has levels. The
+/// statements of its code, and of that of a body, have at most 1,025, also where an `unfolding` opens a body, or one more than the
+/// expression or body has levels where it has more than 1,024.
 pub fn code_is_shallow()
     ensures expression { (c : Context) (p : Place) (g : Guard) (a : e.Expr) (u : Ty) (n : ℕ) → IsFormed c.program
         → typing.HasType c a u → IsShallowExpression (depth a) u (code (kinds_in c) p g a n) }
