@@ -1,5 +1,5 @@
 -- How places go on with one more byte, and that places are one.
-use Rattle.std.proofs.Common.{◌≡◌, ◌∙◌, ℕ, ◌+◌, ◌<◌, ◌≤◌, ◌⊎◌, Bool, true, false, cond, not, refl, ap, sym, subst, inl, inr, arith, List, [], ◌∷◌, ◌++◌, length, take, drop, append_assoc}
+use Rattle.std.proofs.Common.{◌≡◌, ◌∙◌, ℕ, ◌+◌, ◌^◌, ◌<◌, ◌≤◌, ◌⊎◌, Bool, true, false, cond, not, refl, ap, sym, subst, inl, inr, arith, List, [], ◌∷◌, ◌++◌, length, take, drop, append_assoc}
 use Rattle.std.specs.Prelude.{◌==◌}
 use Rattle.std.specs.List.{suffix_len, prefix_len}
 use Rattle.std.proofs.lemmas.Bool.{cases_order}
@@ -32,14 +32,14 @@ col_after-le bs = omega (arith, suffix_len-le-length (λ b. not (b == 10)) bs)
 pub one_place_after : (before : List ℕ) (p q : Pos) → IsPlaceAfter before p → IsPlaceAfter before q → p ≡ q
 one_place_after before p q h g = same_pos p q (h.line ∙ sym g.line) (h.col ∙ sym g.col)
 
--- after at most so many bytes is a place
-pub some_place_after : (before : List ℕ) → length before ≤ 1048576 → (at : Pos) × IsPlaceAfter before at
-some_place_after before most = (
+-- after so few bytes is a place
+pub some_place_after : (before : List ℕ) → length before + 1 < 2 ^ 32 → (at : Pos) × IsPlaceAfter before at
+some_place_after before few = (
   record {
     line = line_after before;
     col = col_after before;
-    line_in_range = (omega arith, omega (arith, most, line_after-le before));
-    col_in_range = (omega arith, omega (arith, most, col_after-le before));
+    line_in_range = (omega arith, omega (arith, few, line_after-le before));
+    col_in_range = (omega arith, omega (arith, few, col_after-le before));
   },
   record { line = refl; col = refl },
 )

@@ -1,4 +1,5 @@
 pub mod Labels
+pub mod Limits
 pub mod Names
 pub mod Place
 pub mod Reading

@@ -2,6 +2,7 @@
 #![tactic(auto)]
 
 mod labels;
+pub mod limits;
 mod names;
 mod owned;
 mod places;

@@ -1,5 +1,5 @@
 // The places of a text.
-ghost use Rattle.std.specs.Prelude.{◌≤◌, ◌<◌, ◌+◌, ◌^◌, ℕ, List, ◌++◌, length};
+ghost use Rattle.std.specs.Prelude.{◌<◌, ◌+◌, ◌^◌, ℕ, List, ◌++◌, length};
 ghost use Rattle.vb_base.specs.Place.{IsPlaceAfter};
 
 use crate::Pos;
@@ -25,7 +25,7 @@ pub fn advance(start: Pos, bytes: &[u8]) -> Pos
 
 /// The place past the last byte of a text.
 pub fn place_after(bytes: &[u8]) -> Pos
-    requires { length bytes.now ≤ 1048576 }
+    requires { length bytes.now + 1 < 2 ^ 32 }
     ensures { IsPlaceAfter bytes.now result }
 {
     advance(Pos { line: 1, col: 1 }, bytes)

@@ -1,6 +1,7 @@
 -- The generated programs.
 use Rattle.std.specs.Prelude.{◌≡◌, ◌++◌, ◌-◌, ◌%◌, ◌<◌, ◌⊎◌, ℕ, zero, suc, List, [], codes, if◌then◌else◌, ◌==◌}
 use Rattle.std.specs.Fmt.{decimal}
+use Rattle.vb_base.specs.Limits.{max_made_methods}
 
 -- the number itself where it is odd, and else the one before it
 abbrev pub odd_of : ℕ → ℕ
@@ -32,4 +33,4 @@ abbrev pub program_text : ℕ → List ℕ
 program_text n = codes "field f: Int\n" ++ methods_text n
 
 abbrev pub IsOutOfRange : ℕ → Type 0
-IsOutOfRange n = (n ≡ 0) ⊎ (2000 < n)
+IsOutOfRange n = (n ≡ 0) ⊎ (max_made_methods < n)

@@ -7,13 +7,14 @@ ghost use Rattle.vb_gen.specs.Generated.{odd_of, head_text, conditions_text, ret
 ghost use Rattle.vb_gen.specs.declared.GenFault.TheVariants as fault;
 
 use std::alloc::{AllocError, Global};
+use vb_base::limits::MAX_MADE_METHODS;
 
 /// Why there is no program.
 #[derive(Clone, Copy, Debug, PartialEq, Eq)]
 pub enum GenFault {
     /// Memory was refused.
     Memory,
-    /// The number of methods is 0 or above 2,000.
+    /// The number of methods is 0 or above `MAX_MADE_METHODS`.
     Range,
 }
 
@@ -24,9 +25,6 @@ impl From<AllocError> for GenFault {
         GenFault::Memory
     }
 }
-
-/// The greatest number of methods.
-const MOST: u32 = 2_000;
 
 /// The number itself where it is odd, and else the one before it.
 fn odd_of(number: u32) -> u32
@@ -105,7 +103,7 @@ pub fn make_program(alloc: Global, n: u32) -> Result<Vec<u8>, GenFault>
     ensures text { IfOk result (λ text. text.items ≡ program_text n) }
     ensures range { (result ≡ Err fault.Range) ↔ IsOutOfRange n }
 {
-    if n == 0 || n > MOST {
+    if n == 0 || n > MAX_MADE_METHODS {
         return Err(GenFault::Range);
     }
     let mut out = b"field f: Int\n".to_vec(alloc)?;

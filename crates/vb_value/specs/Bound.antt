@@ -3,7 +3,7 @@ use Rattle.std.specs.Prelude.{⊤, ◌^◌, ◌<◌, ℤ, Bool, true, false, nat
 use Rattle.vb_value.specs.declared.numbers.Over.{Over}
 
 -- With no bound a number may be of any size, and a content too. Within the bound a number has magnitude at most MAX, and a
--- content at most 4,096 nodes; what leaves it is Over.
+-- content at most `max_content_nodes` nodes; what leaves it is Over.
 pub data Bound : Type 0 where
   Unbounded : Bound
   Bounded : Bound

@@ -1,6 +1,7 @@
 -- What an instance of a predicate contains, as a finite tree: nothing, the value of a place, or what the two sides of a
 -- conjunction contain. The rules of contents are this project's own.
 use Rattle.std.specs.Prelude.{⊤, ℕ, ◌+◌, ◌≤◌, Bool, true, false, ◌&&◌}
+use Rattle.vb_base.specs.Limits.{max_content_nodes}
 use Rattle.vb_value.specs.declared.values.Value.{Value}
 use Rattle.vb_value.specs.Bound.{Bound, IfBounded}
 use Rattle.vb_value.specs.Value.{value_eq, IsReducedValue, IsWithinValue, IsProperValue}
@@ -39,12 +40,12 @@ all_values test (Pair a b) = all_values test a && all_values test b
 abbrev pub IsReducedContent : Content → Type 0
 IsReducedContent = AllValues IsReducedValue
 
--- at most 4,096 nodes, and the numbers are within the bound
+-- not too many nodes, and the numbers are within the bound
 pub record IsWithinContent (c : Content) : Type 0 where
-  pub small : nodes c ≤ 4096
+  pub small : nodes c ≤ max_content_nodes
   pub values : AllValues IsWithinValue c
 
 -- the same by a bound: the fractions are in lowest terms, and where there is a bound the nodes and the numbers are within it
 pub record IsProperContent (b : Bound) (c : Content) : Type 0 where
-  pub small : IfBounded b (nodes c ≤ 4096)
+  pub small : IfBounded b (nodes c ≤ max_content_nodes)
   pub values : AllValues (IsProperValue b) c

@@ -1,8 +1,9 @@
 //! What an instance of a predicate contains, as a finite tree.
 
-ghost use Rattle.std.specs.Prelude.{◌≡◌, ◌↔◌, ◌-◌, ◌<◌, ◌≤◌, min, IsTrue, SomeIff, IfOk, Err};
+ghost use Rattle.std.specs.Prelude.{◌≡◌, ◌↔◌, ◌+◌, ◌-◌, ◌<◌, ◌≤◌, min, IsTrue, SomeIff, IfOk, Err};
 ghost use Rattle.std.specs.Cmp.{partial_equiv_from_equiv};
 ghost use Rattle.std.specs.Ordering.{on};
+ghost use Rattle.vb_base.specs.Limits.{max_content_nodes};
 ghost use Rattle.vb_value.specs.Equality.{same_content_equiv};
 ghost use Rattle.vb_value.specs.Content as tree;
 ghost use Rattle.vb_value.specs.Content.{nodes, same_content};
@@ -11,9 +12,7 @@ ghost use Rattle.vb_value.specs.View.{content_of};
 use crate::values::Value;
 use std::alloc::{AllocError, Global};
 use std::rc::Rc;
-
-/// The most nodes of a content in a run.
-pub const MAX_NODES: u32 = 4096;
+use vb_base::limits::MAX_CONTENT_NODES;
 
 /// There was no memory.
 #[derive(Clone, Copy, Debug, PartialEq, Eq)]
@@ -24,7 +23,7 @@ pub struct Memory;
 pub enum PairFault {
     /// There was no memory.
     Memory,
-    /// The pair would have more than 4,096 nodes.
+    /// The pair would have more than `MAX_CONTENT_NODES` nodes.
     Over,
 }
 
@@ -62,14 +61,14 @@ impl Content {
         }
     }
 
-    /// How many nodes there are, or 4,097 where there are more than 4,096. It visits no more nodes
+    /// How many nodes there are, or `MAX_CONTENT_NODES + 1` where there are more. It visits no more nodes
     /// than that.
     pub fn nodes(&self) -> u32
-        ensures { result ≡ min (nodes (content_of self.now)) 4097 }
+        ensures { result ≡ min (nodes (content_of self.now)) (max_content_nodes + 1) }
     {
-        match self.room_after(MAX_NODES) {
-            Some(left) => MAX_NODES - left,
-            None => MAX_NODES + 1,
+        match self.room_after(MAX_CONTENT_NODES) {
+            Some(left) => MAX_CONTENT_NODES - left,
+            None => MAX_CONTENT_NODES + 1,
         }
     }
 
@@ -84,24 +83,20 @@ impl Content {
         }
     }
 
-    /// An equal content, which shares its parts.
-    pub fn copy(&self) -> Result<Content, Memory>
+    /// An equal content, which shares its parts and so takes nothing from `alloc`.
+    pub fn copy(&self, alloc: Global) -> Result<Content, Memory>
         ensures { IfOk result (λ c. content_of c ≡ content_of self.now) }
     {
-        match self {
-            Content::Unit => Ok(Content::Unit),
-            Content::Leaf(value) => Ok(Content::Leaf(*value)),
-            Content::Pair(left, right) => Ok(Content::Pair(shared(left)?, shared(right)?)),
-        }
+        self.clone().map_err(|_| Memory)
     }
 
-    /// The pair of two contents. `Over` exactly where it would have more than 4,096 nodes.
+    /// The pair of two contents. `Over` exactly where it would have more than `MAX_CONTENT_NODES` nodes.
     pub fn pair(alloc: Global, left: Content, right: Content) -> Result<Content, PairFault>
-        ensures over { (result ≡ Err PairFault.Over) ↔ (4096 < nodes (tree.Pair (content_of left) (content_of right))) }
+        ensures over { (result ≡ Err PairFault.Over) ↔ (max_content_nodes < nodes (tree.Pair (content_of left) (content_of right))) }
         ensures value { IfOk result (λ c. content_of c ≡ tree.Pair (content_of left) (content_of right)) }
-        ensures small { IfOk result (λ c. nodes (content_of c) ≤ 4096) }
+        ensures small { IfOk result (λ c. nodes (content_of c) ≤ max_content_nodes) }
     {
-        let Some(room) = left.room_after(MAX_NODES - 1) else {
+        let Some(room) = left.room_after(MAX_CONTENT_NODES - 1) else {
             return Err(PairFault::Over);
         };
         if right.room_after(room).is_none() {
@@ -132,7 +127,11 @@ impl Clone for Content {
     ghost is_clone = { λ x y. content_of y ≡ content_of x };
 
     fn clone(&self) -> Result<Content, AllocError> {
-        self.copy().map_err(|_| AllocError)
+        match self {
+            Content::Unit => Ok(Content::Unit),
+            Content::Leaf(value) => Ok(Content::Leaf(*value)),
+            Content::Pair(left, right) => Ok(Content::Pair(left.clone()?, right.clone()?)),
+        }
     }
 }
 
@@ -141,11 +140,4 @@ fn counted(alloc: Global, content: Content) -> Result<Rc<Content>, Memory>
     ensures { IfOk result (λ r. r.value ≡ content) }
 {
     Rc::new(alloc, content).map_err(|_| Memory)
-}
-
-/// The same content, shared.
-fn shared(content: &Rc<Content>) -> Result<Rc<Content>, Memory>
-    ensures { IfOk result (λ r. r.value ≡ content.now.value) }
-{
-    content.clone().map_err(|_| Memory)
 }

@@ -11,7 +11,7 @@ pub mod laws;
 mod numbers;
 mod values;
 
-pub use contents::{Content, MAX_NODES, Memory, PairFault};
+pub use contents::{Content, Memory, PairFault};
 pub use fractions::Frac;
 pub use keys::{Key, KeyPart};
 pub use numbers::{MAX, Over, int_add, int_div, int_mod, int_mul, int_sub};

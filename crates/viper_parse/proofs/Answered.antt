@@ -1,6 +1,7 @@
 -- Each list of tokens is read, or goes wrong somewhere: by the number of its tokens, and then by the rank of the symbol.
 use Rattle.std.proofs.Common.{◌≡◌, refl, sym, ap, subst, ◌∙◌, ℕ, ℤ, pos, negsuc, zero, suc, ◌+◌, ◌-◌, ◌⊎◌, inl, inr, Bool, true, false, List, [], ◌∷◌, Some, slice_get, arith}
 use Rattle.std.proofs.lemmas.Bool.{cases_order}
+use Rattle.std.proofs.lemmas.Option.{same_Some}
 use Rattle.viper_syntax.specs.declared.tokens.Token.{Token}
 use Rattle.viper_syntax.specs.declared.tokens.Tok.{Tok}
 use Rattle.viper_syntax.specs.declared.tokens.Tok.TheVariants as tok
@@ -79,14 +80,11 @@ sign_there : (o : Sign) → slice_get signs (sign_code o - 50) ≡ Some o
 sign_there sign.OpenParen = refl
 sign_there _ = refl
 
-some_is : {A : Type 0} {x y : A} → Some x ≡ Some y → x ≡ y
-some_is e = cc
-
 one_word : (a b : Word) → word_code a ≡ word_code b → a ≡ b
-one_word a b e = some_is (sym (word_there a) ∙ ap (λ n. slice_get words (n - 10)) e ∙ word_there b)
+one_word a b e = same_Some _ _ (sym (word_there a) ∙ ap (λ n. slice_get words (n - 10)) e ∙ word_there b)
 
 one_sign : (a b : Sign) → sign_code a ≡ sign_code b → a ≡ b
-one_sign a b e = some_is (sym (sign_there a) ∙ ap (λ n. slice_get signs (n - 50)) e ∙ sign_there b)
+one_sign a b e = same_Some _ _ (sym (sign_there a) ∙ ap (λ n. slice_get signs (n - 50)) e ∙ sign_there b)
 
 same_tok : (a b : Tok) → Decided (a ≡ b)
 same_tok (tok.Name x) (tok.Name y) = decided_by (λ e. ap tok.Name e) (λ e. cc) (same_bytes x y)

@@ -1,8 +1,6 @@
 // Declarations, and the program.
-ghost use Rattle.std.specs.Prelude.{◌≡◌, ◌<◌, ◌≤◌, ◌∷◌, [], length, IfOk, IfSome, map};
-ghost use Rattle.std.specs.Option.{option_map};
-ghost use Rattle.viper_syntax.specs.Decl as d;
-ghost use Rattle.viper_syntax.specs.View.{block_of, clause_of, decl_of, term_of};
+ghost use Rattle.std.specs.Prelude.{◌<◌, ◌≤◌, [], length, IfOk, IfSome};
+ghost use Rattle.viper_syntax.specs.View.{decl_of};
 ghost use Rattle.viper_grammar.specs.Grammar as g;
 ghost use Rattle.viper_grammar.specs.Greedy.{Parses};
 ghost use Rattle.viper_parse.specs.View.{formals_of, clauses_of, body_of};

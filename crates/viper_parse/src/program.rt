@@ -5,7 +5,6 @@ ghost use Rattle.viper_syntax.specs.Decl as d;
 ghost use Rattle.viper_syntax.specs.View.{program_of};
 ghost use Rattle.viper_syntax.specs.Good.{IsGoodSource};
 ghost use Rattle.viper_syntax.specs.Lexed.{IsWellFormed};
-ghost use Rattle.viper_grammar.specs.Stops.{place_at, fault_of};
 ghost use Rattle.viper_parse.specs.Answers.{IsProgram, GoesWrong, Gives, Refuses};
 ghost use Rattle.viper_grammar.specs.Spells.{Spells};
 
@@ -18,7 +17,7 @@ use viper_syntax::{ParseFault, SourceProgram, Token};
 
 /// The program that the tokens of a file spell; `end` is the place past the file's last byte. It is the one tree
 /// that the grammar has for them, and a `Syntax` comes exactly where it has none. Where the tokens are those of a
-/// successful `lex`, no term of it is nested deeper than 1,024, each of its names is a name and no word, and its
+/// successful `lex`, no term of it is nested too deep, each of its names is a name and no word, and its
 /// literals are within the bound.
 pub fn parse(alloc: Global, tokens: &Vec<Token>, end: Pos) -> Result<SourceProgram, ParseFault>
     ensures found { IfOk result (λ p. Spells tokens.now.items (program_of p)) }

@@ -1,6 +1,6 @@
 // Terms.
-ghost use Rattle.std.specs.Prelude.{◌≡◌, ◌<◌, ◌≤◌, ℕ, length, false, IfOk, IfSome, MatchOption, map};
-ghost use Rattle.viper_syntax.specs.View.{term_of, amount_of, call_of};
+ghost use Rattle.std.specs.Prelude.{◌≡◌, ◌<◌, ◌≤◌, length, false, IfOk, IfSome, MatchOption};
+ghost use Rattle.viper_syntax.specs.View.{amount_of, call_of};
 ghost use Rattle.viper_grammar.specs.Grammar as g;
 ghost use Rattle.viper_grammar.specs.Grammar.{Starts};
 ghost use Rattle.viper_grammar.specs.Greedy.{Parses, Reads};

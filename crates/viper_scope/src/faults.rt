@@ -12,7 +12,7 @@ pub enum TypeFault {
     Memory,
     /// The rule of this number is broken at this place; no rule is broken before it.
     Rule(Pos, u32),
-    /// The program is well-typed and weighs more than 100,000. The weight is told as 100,001.
+    /// The program is well-typed and weighs more than `MAX_WEIGHT`. The weight is told as `TOO_HEAVY`.
     Weight(u64),
 }
 

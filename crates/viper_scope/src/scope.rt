@@ -1,5 +1,5 @@
 // The variables that a term sees.
-ghost use Rattle.std.specs.Prelude.{◌≡◌, ◌++◌, ◌∷◌, [], IfOk, None, OnOk, length, take};
+ghost use Rattle.std.specs.Prelude.{◌≡◌, ◌++◌, ◌∷◌, [], None, OnOk, length, take};
 ghost use Rattle.viper_scope.specs.Context.{find};
 ghost use Rattle.viper_scope.specs.Scope.{ref_variables};
 

@@ -4,6 +4,7 @@ use Rattle.std.specs.Prelude.{◌≤ℤ◌, slice_get}
 use Rattle.std.proofs.lemmas.List.{append_assoc, append-nil, length-append, length-take-le, length-drop, take_at}
 use Rattle.std.proofs.lemmas.Bool.{and_from}
 use Rattle.std.proofs.lemmas.Int.{ints}
+use Rattle.std.proofs.lemmas.Option.{same_Some}
 use Rattle.vb_base.specs.declared.places.Pos.{Pos}
 use Rattle.vb_base.specs.Names.{is_name}
 use Rattle.vb_base.specs.Place.{IsPlaceAfter, IsBefore}
@@ -23,9 +24,6 @@ use Rattle.viper_syntax.proofs.WordLaws.{no_word}
 
 false_true : false ≡ true → ⊥
 false_true e = cc
-
-same_token : {t u : Token} → Some t ≡ Some u → t ≡ u
-same_token e = cc
 
 -- what a token of the cut is, with no regard to refused words
 abbrev IsCutTok : Tok → Type 0
@@ -52,7 +50,7 @@ cut_toks before rest ts end i t h = cc
 cut_toks before rest ts (piece {n = n} {p = Skipped} {ts = us} l s pl c) i t h = cut_toks (before ++ take n rest) (drop n rest) us c i t h
 cut_toks before rest ts (piece {n = n} {p = Unclosed} {ts = us} l s pl c) i t h = absurd s
 cut_toks before rest ts (piece {n = n} {p = Taken u} {ts = us} l s pl c) zero t h =
-    subst (λ x. IsCutTok x.tok) (same_token h) (token_of_piece (take n rest) u l.piece s)
+    subst (λ x. IsCutTok x.tok) (same_Some _ _ h) (token_of_piece (take n rest) u l.piece s)
 cut_toks before rest ts (piece {n = n} {p = Taken u} {ts = us} l s pl c) (suc i) t h = cut_toks (before ++ take n rest) (drop n rest) us c i t h
 
 -- where no word is refused, no token is one
@@ -80,7 +78,7 @@ cut_place before rest ts (piece {n = n} {p = Skipped} {ts = us} l s pl c) i t h 
     (take n rest ++ later.0, subst (λ vs. IsPlaceAfter vs t.pos) (append_assoc before (take n rest) later.0) later.1)
 cut_place before rest ts (piece {n = n} {p = Unclosed} {ts = us} l s pl c) i t h = absurd s
 cut_place before rest ts (piece {n = n} {p = Taken u} {at = at} {ts = us} l s pl c) zero t h =
-    ([], subst (λ x. IsPlaceAfter (before ++ []) x.pos) (same_token h) (subst (λ vs. IsPlaceAfter vs at) (sym (append-nil before)) pl))
+    ([], subst (λ x. IsPlaceAfter (before ++ []) x.pos) (same_Some _ _ h) (subst (λ vs. IsPlaceAfter vs at) (sym (append-nil before)) pl))
 cut_place before rest ts (piece {n = n} {p = Taken u} {ts = us} l s pl c) (suc i) t h =
     let later = cut_place (before ++ take n rest) (drop n rest) us c i t h in
     (take n rest ++ later.0, subst (λ vs. IsPlaceAfter vs t.pos) (append_assoc before (take n rest) later.0) later.1)
@@ -96,7 +94,7 @@ cut_order before rest ts (piece {n = n} {p = Taken x} {at = at} {ts = us} l s pl
     let long = longest_some l in
     let some : 0 < length (take n rest ++ later.0) = omega (arith, long, length-take-le n rest l.within, length-append (take n rest) later.0) in
     let there = subst (λ vs. IsPlaceAfter vs u.pos) (append_assoc before (take n rest) later.0) later.1 in
-    subst (λ y. IsBefore y.pos u.pos) (same_token h) (place_before before (take n rest ++ later.0) at u.pos some pl there)
+    subst (λ y. IsBefore y.pos u.pos) (same_Some _ _ h) (place_before before (take n rest ++ later.0) at u.pos some pl there)
 cut_order before rest ts (piece {n = n} {p = Taken x} {ts = us} l s pl c) (suc i) (suc j) t u lt h g =
     cut_order (before ++ take n rest) (drop n rest) us c i j t u (omega arith) h g
 

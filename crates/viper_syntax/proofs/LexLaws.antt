@@ -3,6 +3,7 @@ use Rattle.std.proofs.Common.{◌≡◌, ◌∙◌, ℕ, ℤ, ◌+◌, ◌<◌, 
 use Rattle.std.specs.Prelude.{◌⊎◌, ◌≤ℤ◌, ◌<ℤ◌, slice_get}
 use Rattle.std.proofs.lemmas.Bool.{cases_lt}
 use Rattle.std.proofs.lemmas.Int.{ints}
+use Rattle.std.proofs.lemmas.Option.{same_Some}
 use Rattle.vb_base.specs.declared.places.Pos.{Pos}
 use Rattle.vb_base.proofs.PlaceLaws.{one_place_after}
 use Rattle.viper_syntax.specs.declared.tokens.LexFault.{LexFault}
@@ -92,9 +93,6 @@ one_meeting before rest e g (later {n = n} {p = p} l s d) (later {n = m} {p = q}
 no_earlier : (f : List Token → ℕ) (limit : ℕ) (ts : List Token) (p q : Pos) (a : IsFirstAbove f limit ts p) (b : IsFirstAbove f limit ts q) → a.index < b.index → ⊥
 no_earlier f limit ts p q a b lt = omega (arith, a.above, b.before (a.index + 1) (omega arith))
 
-same_token : {t u : Token} → Some t ≡ Some u → t ≡ u
-same_token e = cc
-
 one_first : (f : List Token → ℕ) (limit : ℕ) (ts : List Token) (p q : Pos) → IsFirstAbove f limit ts p → IsFirstAbove f limit ts q → p ≡ q
 one_first f limit ts p q a b = sym a.place ∙ ap (λ t. t.pos) same ∙ b.place where
   index : a.index ≡ b.index
@@ -105,7 +103,7 @@ one_first f limit ts p q a b = sym a.place ∙ ap (λ t. t.pos) same ∙ b.place
     by_case (inr le) (inr le') = omega arith
 
   same : a.token ≡ b.token
-  same = same_token (sym a.here ∙ ap (λ i. slice_get ts i) index ∙ b.here)
+  same = same_Some _ _ (sym a.here ∙ ap (λ i. slice_get ts i) index ∙ b.here)
 
 above_not_within : (f : List Token → ℕ) (limit : ℕ) (ts : List Token) (p : Pos) → IsFirstAbove f limit ts p → StaysWithin f limit ts → ⊥
 above_not_within f limit ts p a h = omega (arith, a.above, h (a.index + 1))

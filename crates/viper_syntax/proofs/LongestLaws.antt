@@ -8,6 +8,7 @@ use Rattle.std.proofs.lemmas.Bool.{cases_lt, and_from, and_parts}
 use Rattle.std.proofs.lemmas.Bool.Decides.{nat_tests}
 use Rattle.std.proofs.lemmas.List.{drop_more, length-take, length-take-le, take_all, append_assoc, length-append}
 use Rattle.std.proofs.lemmas.List.Sums.{prefix_len-le-length}
+use Rattle.std.proofs.lemmas.Option.{same_Some}
 use Rattle.std.proofs.lemmas.Slice.Eq.{bytes_eq-Decides}
 use Rattle.vb_base.specs.Names.{is_name, is_name_start, is_name_byte}
 use Rattle.viper_syntax.specs.declared.tokens.Sign.{Sign}
@@ -134,9 +135,6 @@ slice_get_front [] ys i x lt h = absurd (omega arith)
 slice_get_front (y ∷ xs) ys zero x lt h = h
 slice_get_front (y ∷ xs) ys (suc i) x lt h = slice_get_front xs ys i x (omega arith) h
 
-some_same : {a b : ℕ} → Some a ≡ Some b → a ≡ b
-some_same e = cc
-
 -- comments
 
 -- where a sign begins with `/`, the front is one byte long
@@ -147,7 +145,7 @@ second_byte : {b c : ℕ} {us vs : List ℕ} → b ∷ us ≡ 47 ∷ c ∷ vs �
 second_byte e = ap (λ us. slice_get (drop 1 us) 0) e
 
 not_both : (us : List ℕ) → slice_get us 0 ≡ Some 47 → slice_get us 0 ≡ Some 42 → ⊥
-not_both us h g = false_true (sym (ap (nat_eq 47) (some_same {a = 47} {b = 42} (sym h ∙ g))))
+not_both us h g = false_true (sym (ap (nat_eq 47) (same_Some 47 42 (sym h ∙ g))))
 
 pub line_longest : (bs : List ℕ) →
     IsLongest (47 ∷ 47 ∷ bs) (prefix_len (λ b. not (b == 10)) (47 ∷ 47 ∷ bs)) Skipped
@@ -391,13 +389,13 @@ sign_from_first (b ∷ bs) long no_blank no_start no_digit slash =
     (no_blank, no_start, no_digit, λ e. (λ f. (slash e).0 (second bs 47 f), λ f. (slash e).1 (second bs 42 f))) where
       second : (bs : List ℕ) (c : ℕ) → slice_get bs 0 ≡ Some c → get_or bs 0 0 ≡ c
       second [] c e = cc
-      second (a ∷ bs) c e = some_same e
+      second (a ∷ bs) c e = same_Some _ _ e
 
 -- the search for `*/`
 
 pub star_at : (bs : List ℕ) (i c : ℕ) → i < length bs → (nat_eq (get_or bs i 0) c ≡ true → slice_get bs i ≡ Some c) × (slice_get bs i ≡ Some c → nat_eq (get_or bs i 0) c ≡ true)
 star_at [] i c lt = absurd (omega arith)
-star_at (b ∷ bs) zero c lt = (λ h. ap (λ x. Some x) (eq_from b c h), λ e. rw (some_same e) (eq_to c)) where
+star_at (b ∷ bs) zero c lt = (λ h. ap (λ x. Some x) (eq_from b c h), λ e. rw (same_Some _ _ e) (eq_to c)) where
   eq_from : (m n : ℕ) → nat_eq m n ≡ true → m ≡ n
   eq_from m n h = grind (arith, nat_tests)
 
@@ -419,7 +417,7 @@ decimal_step n i ds lt = rw (drop_more ds i 0 lt) (decimal_grows (n * 10 + (get_
 
 get_from_slice_get : (bs : List ℕ) (i c : ℕ) → slice_get bs i ≡ Some c → get_or bs i 0 ≡ c
 get_from_slice_get [] i c e = cc
-get_from_slice_get (b ∷ bs) zero c e = some_same e
+get_from_slice_get (b ∷ bs) zero c e = same_Some _ _ e
 get_from_slice_get (b ∷ bs) (suc i) c e = get_from_slice_get bs i c e
 
 -- where the byte at i does not end a `*/`, none begins before it

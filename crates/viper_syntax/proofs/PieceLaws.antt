@@ -5,6 +5,7 @@ use Rattle.std.specs.Char.{is_ascii_digit}
 use Rattle.std.specs.List.{list_all}
 use Rattle.std.specs.Str.{bytes_eq}
 use Rattle.std.proofs.lemmas.Bool.Decides.{nat_tests}
+use Rattle.std.proofs.lemmas.Option.{same_Some}
 use Rattle.vb_base.specs.Names.{is_name, is_name_start}
 use Rattle.viper_syntax.specs.declared.tokens.Sign.{Sign}
 use Rattle.viper_syntax.specs.declared.tokens.Sign.TheVariants as s
@@ -133,14 +134,11 @@ pub sign_found : (v : Sign) → find (λ u. bytes_eq (sign_text v) (sign_text u)
 sign_found s.OpenParen = refl
 sign_found _ = refl
 
-same_some : {X : Type 0} (x y : X) → Some x ≡ Some y → x ≡ y
-same_some x y e = cc
-
 pub same_word : (u v : Word) → word_text u ≡ word_text v → u ≡ v
-same_word u v e = same_some u v (sym (word_found u) ∙ ap (λ us. find (λ x. bytes_eq us (word_text x)) words) e ∙ word_found v)
+same_word u v e = same_Some u v (sym (word_found u) ∙ ap (λ us. find (λ x. bytes_eq us (word_text x)) words) e ∙ word_found v)
 
 pub same_sign : (u v : Sign) → sign_text u ≡ sign_text v → u ≡ v
-same_sign u v e = same_some u v (sym (sign_found u) ∙ ap (λ us. find (λ x. bytes_eq us (sign_text x)) signs) e ∙ sign_found v)
+same_sign u v e = same_Some u v (sym (sign_found u) ∙ ap (λ us. find (λ x. bytes_eq us (sign_text x)) signs) e ∙ sign_found v)
 
 -- a sign that begins with `/` is that byte alone
 slash_alone : (v : Sign) → (nat_eq (head_of (sign_text v)) 47 && nat_lt 1 (length (sign_text v))) ≡ false

@@ -1,6 +1,7 @@
 -- What the parser promises of a source tree, and the checker asks: terms are not nested too deep, names are names, literals
 -- are within the bound, and no number of names is too large.
 use Rattle.std.specs.Prelude.{◌≤◌, ◌<◌, ◌^◌, ◌+◌, ◌≤ℤ◌, ℕ, ℤ, pos, max, ⊤, List, [], ◌∷◌, ◌++◌, Option, Some, None, All, IsTrue, length, map, unsigned_abs}
+use Rattle.vb_base.specs.Limits.{max_term_depth}
 use Rattle.vb_base.specs.Names.{is_viper_name}
 use Rattle.viper_syntax.specs.declared.stmts.Named.{Named}
 use Rattle.viper_syntax.specs.declared.stmts.Formal.{Formal}
@@ -267,7 +268,7 @@ pub record HasViperNames (source : d.SourceProgram) : Type 0 where
 
 -- what the parser promises
 pub record IsGoodSource (source : d.SourceProgram) : Type 0 where
-  pub shallow : All (λ a. depth a ≤ 1024) (decls_terms source.decls)
+  pub shallow : All (λ a. depth a ≤ max_term_depth) (decls_terms source.decls)
   pub literals : All HasLiterals (decls_terms source.decls)
   pub names : HasViperNames source
   pub few : length (decls_names source.decls) < 2 ^ 32

@@ -2,6 +2,7 @@
 use Rattle.std.specs.Prelude.{◌≡◌, ℕ, ◌+◌, ◌-◌, ◌<◌, ◌≤◌, Bool, true, false, not, List, take, slice_get, Some, fold, count_by}
 use Rattle.std.specs.List.{suffix_len, list_any}
 use Rattle.std.specs.Str.{bytes_eq}
+use Rattle.vb_base.specs.Limits.{max_unclosed_braces, max_group_tokens}
 use Rattle.vb_base.specs.declared.places.Pos.{Pos}
 use Rattle.vb_base.specs.Names.{refused_words}
 use Rattle.viper_syntax.specs.declared.tokens.LexFault.{LexFault}
@@ -87,17 +88,17 @@ pub record IsFirstAbove (count : List Token → ℕ) (limit : ℕ) (ts : List To
   pub above : limit < count (take (index + 1) ts)
   pub before : (n : ℕ) → n ≤ index → count (take n ts) ≤ limit
 
--- at most 128 `{` are unclosed at once, no group has more than 1,024 tokens, and no word is refused
+-- not too many `{` are unclosed at once, no group has too many tokens, and no word is refused
 pub record KeepsLimits (ts : List Token) : Type 0 where
-  pub braces : StaysWithin unclosed 128 ts
-  pub groups : StaysWithin in_group 1024 ts
+  pub braces : StaysWithin unclosed max_unclosed_braces ts
+  pub groups : StaysWithin in_group max_group_tokens ts
   pub supported : StaysWithin refused 0 ts
 
 -- the first of these that does not hold, in this order, with the place of the first token that breaks it
 pub data BreaksLimit (ts : List Token) : LexFault → Type 0 where
-  deep_brace : {at : Pos} → IsFirstAbove unclosed 128 ts at → BreaksLimit ts (f.Braces at)
-  long_group : {at : Pos} → StaysWithin unclosed 128 ts → IsFirstAbove in_group 1024 ts at → BreaksLimit ts (f.LongGroup at)
-  refused_word : {at : Pos} → StaysWithin unclosed 128 ts → StaysWithin in_group 1024 ts →
+  deep_brace : {at : Pos} → IsFirstAbove unclosed max_unclosed_braces ts at → BreaksLimit ts (f.Braces at)
+  long_group : {at : Pos} → StaysWithin unclosed max_unclosed_braces ts → IsFirstAbove in_group max_group_tokens ts at → BreaksLimit ts (f.LongGroup at)
+  refused_word : {at : Pos} → StaysWithin unclosed max_unclosed_braces ts → StaysWithin in_group max_group_tokens ts →
       IsFirstAbove refused 0 ts at → BreaksLimit ts (f.Unsupported at)
 
 -- no token of these is a divider

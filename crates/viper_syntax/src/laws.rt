@@ -1,10 +1,11 @@
 // The laws of the cut, each as the contract of a function with an empty body.
-ghost use Rattle.std.specs.Prelude.{◌≡◌, ◌⊎◌, ℕ, ◌≤◌, Bool, false, List, ◌++◌, [], length, slice_get, Some};
+ghost use Rattle.std.specs.Prelude.{◌≡◌, ◌⊎◌, ℕ, ◌≤◌, List, ◌++◌, [], length};
+ghost use Rattle.vb_base.specs.Limits.{max_viper_bytes, max_group_tokens};
 ghost use Rattle.viper_syntax.specs.declared.tokens.LexFault.{LexFault};
 ghost use Rattle.viper_syntax.specs.declared.tokens.Token.{Token};
-ghost use Rattle.viper_syntax.specs.Cut.{IsCut, Meets};
-ghost use Rattle.viper_syntax.specs.Limit.{is_divider, KeepsLimits, IsUndivided};
-ghost use Rattle.viper_syntax.specs.Lexed.{IsLexed, HasFault, IsWellFormed};
+ghost use Rattle.viper_syntax.specs.Cut.{IsCut};
+ghost use Rattle.viper_syntax.specs.Limit.{KeepsLimits, IsUndivided};
+ghost use Rattle.viper_syntax.specs.Lexed.{IsLexed, HasFault};
 
 /// A text has at most one cut into tokens.
 pub fn one_cut()
@@ -18,13 +19,13 @@ pub fn one_answer()
     ensures not_both { (bytes : List ℕ) (ts : List Token) (e : LexFault) → IsLexed bytes ts → HasFault bytes e → ⊥ }
 {}
 
-/// A row of tokens without a divider has at most 1,024 tokens, wherever it stands.
+/// A row of tokens without a divider has at most as many tokens as a group, wherever it stands.
 pub fn short_groups()
-    ensures { (front row back : List Token) → KeepsLimits (front ++ row ++ back) → IsUndivided row → length row ≤ 1024 }
+    ensures { (front row back : List Token) → KeepsLimits (front ++ row ++ back) → IsUndivided row → length row ≤ max_group_tokens }
 {}
 
-/// A text of at most 1,048,576 bytes is a list of tokens, or has a first fault.
+/// A text that is not too long is a list of tokens, or has a first fault.
 pub fn some_answer()
-    ensures { (bytes : List ℕ) → length bytes ≤ 1048576 →
+    ensures { (bytes : List ℕ) → length bytes ≤ max_viper_bytes →
         ((ts : List Token) × IsLexed bytes ts) ⊎ ((fault : LexFault) × HasFault bytes fault) }
 {}

@@ -1,5 +1,6 @@
 // The tokens of a text.
-ghost use Rattle.std.specs.Prelude.{◌≡◌, ◌≤◌, ◌⊎◌, List, [], MatchResult, IfOk, IfErr, length};
+ghost use Rattle.std.specs.Prelude.{◌≤◌, List, [], MatchResult, IfOk, IfErr, length};
+ghost use Rattle.vb_base.specs.Limits.{max_viper_bytes};
 ghost use Rattle.viper_syntax.specs.declared.tokens.LexFault.{LexFault};
 ghost use Rattle.viper_syntax.specs.declared.tokens.Token.{Token};
 ghost use Rattle.viper_syntax.specs.Cut.{IsCut, Meets};
@@ -12,12 +13,12 @@ use crate::{LexFault, Token};
 use std::alloc::Global;
 use vb_base::{Pos, advance};
 
-/// The tokens of a text of at most 1,048,576 bytes.
+/// The tokens of a text that is not too long.
 ///
 /// Where the cut of the bytes meets a fault, it is the answer. Else the limits on braces and on groups and the
 /// refused words are tried in this order, each over the whole list of tokens.
 pub fn lex(alloc: Global, bytes: &[u8]) -> Result<Vec<Token>, LexFault>
-    requires { length bytes.now ≤ 1048576 }
+    requires { length bytes.now ≤ max_viper_bytes }
     ensures tokens { IfOk result (λ v. IsLexed bytes.now v.items) }
     ensures fault { IfErr result (UnlessMemory (HasFault bytes.now)) }
 
@@ -37,7 +38,7 @@ pub fn lex(alloc: Global, bytes: &[u8]) -> Result<Vec<Token>, LexFault>
 
 /// The tokens of the cut, with no regard to the limits.
 fn cut(alloc: Global, bytes: &[u8]) -> Result<Vec<Token>, LexFault>
-    requires { length bytes.now ≤ 1048576 }
+    requires { length bytes.now ≤ max_viper_bytes }
     ensures { MatchResult result (λ v. IsCut [] bytes.now v.items) (UnlessMemory (Meets [] bytes.now)) }
 {
     let mut tokens = Vec::new(alloc);

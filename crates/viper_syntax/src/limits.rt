@@ -1,16 +1,12 @@
 // The limits that a list of tokens keeps.
-ghost use Rattle.std.specs.Prelude.{◌≡◌, MatchOption, ◌<◌, ◌^◌, length};
+ghost use Rattle.std.specs.Prelude.{◌≡◌, MatchOption, ◌<◌, ◌^◌};
+ghost use Rattle.vb_base.specs.Limits.{max_unclosed_braces, max_group_tokens};
 ghost use Rattle.viper_syntax.specs.Limit.{KeepsLimits, BreaksLimit, StaysWithin, IsFirstAbove, unclosed, unclosed_with, in_group, refused, is_divider, is_refused};
 
 use crate::words::is_refused_word;
 use crate::{LexFault, Sign, Tok, Token, Word};
 use vb_base::Pos;
-
-/// How many `{` may be unclosed at once.
-const MAX_BRACES: usize = 128;
-
-/// How many tokens a group may have.
-const MAX_GROUP: usize = 1024;
+use vb_base::limits::{MAX_GROUP_TOKENS, MAX_UNCLOSED_BRACES};
 
 /// The first limit that the tokens break, if any: that on braces, that on groups, no refused word.
 pub(crate) fn broken_limit(tokens: &[Token]) -> Option<LexFault>
@@ -29,12 +25,12 @@ pub(crate) fn broken_limit(tokens: &[Token]) -> Option<LexFault>
 
 /// The place of the first `{` that is one too many, if any.
 fn first_deep_brace(tokens: &[Token]) -> Option<Pos>
-    ensures { MatchOption result (StaysWithin unclosed 128 tokens.now) (IsFirstAbove unclosed 128 tokens.now) }
+    ensures { MatchOption result (StaysWithin unclosed max_unclosed_braces tokens.now) (IsFirstAbove unclosed max_unclosed_braces tokens.now) }
 {
     let mut count: usize = 0;
     for token in tokens {
         count = unclosed_with(count, &token.tok);
-        if count > MAX_BRACES {
+        if count > MAX_UNCLOSED_BRACES {
             return Some(token.pos);
         }
     }
@@ -43,12 +39,12 @@ fn first_deep_brace(tokens: &[Token]) -> Option<Pos>
 
 /// The place of the first token that is one too many in its group, if any.
 fn first_long_group(tokens: &[Token]) -> Option<Pos>
-    ensures { MatchOption result (StaysWithin in_group 1024 tokens.now) (IsFirstAbove in_group 1024 tokens.now) }
+    ensures { MatchOption result (StaysWithin in_group max_group_tokens tokens.now) (IsFirstAbove in_group max_group_tokens tokens.now) }
 {
     let mut count: usize = 0;
     for token in tokens {
         count = if is_divider(&token.tok) { 0 } else { count + 1 };
-        if count > MAX_GROUP {
+        if count > MAX_GROUP_TOKENS {
             return Some(token.pos);
         }
     }

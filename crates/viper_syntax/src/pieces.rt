@@ -1,8 +1,7 @@
 // The longest piece with which a text begins.
-ghost use Rattle.std.specs.Prelude.{◌≡◌, ◌≤◌, ◌<◌, ◌^◌, ◌==◌, not, pos, ℕ, IsTrue, IfOk, MatchOption, List, length, slice_index};
+ghost use Rattle.std.specs.Prelude.{◌≡◌, ◌≤◌, ◌<◌, ◌^◌, ◌==◌, not, pos, IsTrue, IfOk, MatchOption, length, slice_index};
 ghost use Rattle.std.specs.Char.{is_ascii_digit};
 ghost use Rattle.std.specs.List.{prefix_len, list_all};
-ghost use Rattle.viper_syntax.specs.declared.tokens.Tok.TheVariants as k;
 ghost use Rattle.vb_base.specs.Names.{is_name_start, is_name_byte};
 ghost use Rattle.viper_syntax.specs.Spelling.{is_blank, decimal};
 ghost use Rattle.viper_syntax.specs.Piece.{Taken, HasNoClose, IsLongest};

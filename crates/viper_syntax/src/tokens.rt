@@ -135,9 +135,9 @@ pub enum LexFault {
     OpenComment(Pos),
     /// A number above 2^127 - 1, at its first digit.
     BigLiteral(Pos),
-    /// The `{` that is the 129th unclosed one.
+    /// The first `{` with which more than `MAX_UNCLOSED_BRACES` are unclosed.
     Braces(Pos),
-    /// The 1,025th token of a group, the tokens between two dividers.
+    /// The first token with which a group, the tokens between two dividers, has more than `MAX_GROUP_TOKENS`.
     LongGroup(Pos),
     /// The first word that is Viper's and none of this subset.
     Unsupported(Pos),

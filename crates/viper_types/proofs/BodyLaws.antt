@@ -1,5 +1,6 @@
 -- Where all predicates of a file are typed, each that has a body has a typed one.
 use Rattle.std.proofs.Common.{◌≡◌, ◌∙◌, ℕ, zero, suc, true, Option, Some, None, List, [], ◌∷◌, ◌++◌, map, slice_get, is_some, refl, sym, ap, subst, append_assoc, append-nil}
+use Rattle.std.proofs.lemmas.Option.{same_Some}
 use Rattle.viper_core.specs.Expr as e
 use Rattle.viper_syntax.specs.Decl as d
 use Rattle.viper_scope.specs.declared.context.Part.{Part}
@@ -11,7 +12,6 @@ use Rattle.viper_scope.specs.Naming.{no_world, with_decl}
 use Rattle.viper_types.specs.Declaring.{body_context, context_in}
 use Rattle.viper_types.specs.Program.{AreNamed, no_names, one_name}
 use Rattle.viper_types.proofs.TermSound.{HasBodies}
-use Rattle.viper_types.proofs.TermTypes.{same_some}
 
 -- the signatures of the predicates, in order
 abbrev pub signatures : List d.Decl → List Signature
@@ -48,13 +48,13 @@ body_there : {ss : List Signature} {bs : List (Option e.Assertion)} → Bodied s
     r.has_body ≡ true →
     (body : e.Assertion) × (slice_get bs n ≡ Some (Some body))
 body_there no_bodies n r i k = absurd (cc)
-body_there (one_body {s = s} {b = b} h g) zero r i k = first_body s r b h (same_some i) k
+body_there (one_body {s = s} {b = b} h g) zero r i k = first_body s r b h (same_Some _ _ i) k
 body_there (one_body h g) (suc n) r i k = body_there g n r i k
 
 -- the signature of a predicate stands at its number
 pub numbered_is : {X : Type 0} (m n : ℕ) (x : X) (o : Option X) → numbered m o ≡ Some (n, x) → (m ≡ n) × (o ≡ Some x)
 numbered_is m n x None h = absurd (cc)
-numbered_is m n x (Some y) h = let same = same_some h in (ap (λ z. z.0) same, ap (λ z. Some z.1) same)
+numbered_is m n x (Some y) h = let same = same_Some _ _ h in (ap (λ z. z.0) same, ap (λ z. Some z.1) same)
 
 predicate_is : (ss : List Signature) (o : Option Role) (n : ℕ) (s : Signature) → predicate_in ss o ≡ Some (n, s) → slice_get ss n ≡ Some s
 predicate_is ss None n s h = absurd (cc)

@@ -1,5 +1,6 @@
 -- What the typing of statements finds has, in each loop, the targets of the loop.
 use Rattle.std.proofs.Common.{◌≡◌, ℕ, ◌+◌, ◌++◌, ◌≤◌, Bool, true, false, Option, Some, None, List, [], ◌∷◌, nat_le, length, refl, subst, arith, length-append}
+use Rattle.std.proofs.lemmas.Option.{same_Some}
 use Rattle.vb_base.specs.declared.places.Pos.{Pos}
 use Rattle.vb_value.specs.Value.{same_type}
 use Rattle.vb_value.specs.declared.values.Ty.{Ty}
@@ -105,9 +106,6 @@ lower_arms : {low below : ℕ} {bs : List Branch} → low ≤ below → BranchLo
 lower_arms le no_arms = no_arms
 lower_arms le (more_arms h g) = more_arms (lower_all le h) (lower_arms le g)
 
-same_some : {X : Type 0} {x y : X} → Some x ≡ Some y → x ≡ y
-same_some h = cc
-
 alone_loops : {n : ℕ} (o : Option c.Stmt) (other : c.Stmts) → ((y : c.Stmt) → o ≡ Some y → ListLoops n y) → LoopsIn n other → LoopsIn n (alone o other)
 alone_loops None other h g = g
 alone_loops (Some y) other h g = more_loops (h y refl) no_loops
@@ -115,7 +113,7 @@ alone_loops (Some y) other h g = more_loops (h y refl) no_loops
 nested_loops : {n : ℕ} {bs : List Branch} (other : c.Stmts) → BranchLoops n bs → LoopsIn n other → (x : c.Stmt) → nested bs other ≡ Some x → ListLoops n x
 nested_loops other no_arms g x is = absurd (cc)
 nested_loops {n} other (more_arms {b = b} {bs = bs} h more) g x is =
-    subst (λ y. ListLoops n y) (same_some is) (branches h (alone_loops (nested bs other) other (nested_loops other more g) g))
+    subst (λ y. ListLoops n y) (same_Some _ _ is) (branches h (alone_loops (nested bs other) other (nested_loops other more g) g))
 
 more_vars : (fr : Frame) (us : List Ty) → length fr.vars ≤ length (with_hidden fr us).vars
 more_vars fr us = omega (arith, length-append fr.vars us)

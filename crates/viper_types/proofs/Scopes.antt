@@ -3,6 +3,7 @@ use Rattle.std.proofs.Common.{◌≡◌, ◌∙◌, ◌⊎◌, inl, inr, ◌==�
 use Rattle.std.specs.Cmp.Lexicographic.{pointwise}
 use Rattle.std.proofs.lemmas.List.{length_push}
 use Rattle.std.proofs.lemmas.List.Elements.{Contains-append_right}
+use Rattle.std.proofs.lemmas.Option.{same_Some}
 use Rattle.vb_value.specs.declared.values.Ty.{Ty}
 use Rattle.viper_core.specs.Scope as cs
 use Rattle.viper_core.specs.Typing as g
@@ -11,7 +12,7 @@ use Rattle.viper_scope.specs.declared.context.Variable.{Variable}
 use Rattle.viper_scope.specs.Context.{Context, find}
 use Rattle.viper_scope.specs.Scope.{Scope}
 use Rattle.viper_types.specs.Frame.{Frame, declared, with_variable, with_hidden, frame_after}
-use Rattle.viper_types.proofs.TermTypes.{same_some, Describes, Resolves}
+use Rattle.viper_types.proofs.TermTypes.{Describes, Resolves}
 use Rattle.viper_types.proofs.Rising.{Rising, rising_push, rising_wider}
 
 -- ---- places in lists
@@ -110,7 +111,7 @@ hidden_scope fr us inner h = same_scope refl h
 -- ---- what names stand for
 
 first_or_later : {X : Type 0} (b : Bool) (x z : X) (o : Option X) → cond b (Some x) o ≡ Some z → (x ≡ z) ⊎ (o ≡ Some z)
-first_or_later true x z o h = inl (same_some h)
+first_or_later true x z o h = inl (same_Some _ _ h)
 first_or_later false x z o h = inr h
 
 contains_first : (n : ℕ) (ns : List ℕ) → Contains (n ∷ ns) n

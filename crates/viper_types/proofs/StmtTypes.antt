@@ -1,6 +1,7 @@
 -- A typed statement is a statement of the core, among the variables of its method.
 use Rattle.std.proofs.Common.{◌≡◌, ◌∙◌, ℕ, Option, Some, List, [], ◌∷◌, ◌++◌, All, length, slice_get, refl, sym, ap, subst, append_assoc, append-nil}
 use Rattle.std.proofs.lemmas.List.Elements.{All-cons, All-nil, All-head, All-tail}
+use Rattle.std.proofs.lemmas.Option.{same_Some}
 use Rattle.vb_base.specs.declared.places.Pos.{Pos}
 use Rattle.vb_value.specs.declared.values.Ty.{Ty}
 use Rattle.vb_value.specs.declared.values.Ty.TheVariants as ty
@@ -23,7 +24,7 @@ use Rattle.viper_types.specs.Frame.{Frame, declared, declared_in, declared_in_bl
 use Rattle.viper_types.specs.Stepping.{Target, Branch, nested, alone}
 use Rattle.viper_types.specs.Stepped as r
 use Rattle.viper_types.specs.Stepped.{Stepped, Blocked, SteppedAll, Branches, Otherwise}
-use Rattle.viper_types.proofs.TermTypes.{same_some, Describes, Resolves, has_type, is_assertion}
+use Rattle.viper_types.proofs.TermTypes.{Describes, Resolves, has_type, is_assertion}
 use Rattle.viper_types.proofs.GoodLists.{all_left, all_right}
 use Rattle.viper_types.proofs.Scopes.{Extends, extends_less, slice_get_at, numbers, core_scope, IsSound, sound_after, sound_hidden, declared_scope, hidden_scope, vars_after, same_scope}
 use Rattle.viper_types.proofs.StmtParts.{Stands, Takes, names_in, target_is, take_targets, no_targets, one_target, received, stays, all_stay, declares, call_is, call_scope, new_is, new_scope, place_is, fold_is}
@@ -131,7 +132,7 @@ next_count fr a us = ap (λ vs. length (vs ++ us)) (vars_after fr a) ∙ ap (λ 
 
 keeps_visible : (bs : List Branch) (other : c.Stmts) (x : c.Stmt) (sc : cs.Scope) → nested bs other ≡ Some x → (scope_after sc x).visible ≡ sc.visible
 keeps_visible [] other x sc h = absurd (cc)
-keeps_visible (b ∷ bs) other x sc h = subst (λ y. (scope_after sc y).visible ≡ sc.visible) (same_some h) refl
+keeps_visible (b ∷ bs) other x sc h = subst (λ y. (scope_after sc y).visible ≡ sc.visible) (same_Some _ _ h) refl
 
 first_of : {m : g.Frame} {sc : cs.Scope} {x : c.Stmt} → AreStmts m sc (c.next x c.skip) → IsStmt m sc x
 first_of (g.goes_on h rest) = h

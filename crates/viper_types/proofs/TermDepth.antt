@@ -1,5 +1,6 @@
 -- An expression or assertion is nested no deeper than the term that it is.
 use Rattle.std.proofs.Common.{◌≡◌, ℕ, ◌+◌, ◌≤◌, max, List, Some, subst, arith}
+use Rattle.std.proofs.lemmas.Option.{same_Some}
 use Rattle.vb_value.specs.declared.values.Ty.{Ty}
 use Rattle.viper_core.specs.Expr as e
 use Rattle.viper_core.specs.Depth as g
@@ -12,14 +13,13 @@ use Rattle.viper_syntax.specs.Good.{depth, amount_depth, terms_depth}
 use Rattle.viper_scope.specs.Scope.{Scope}
 use Rattle.viper_types.specs.Typed as r
 use Rattle.viper_types.specs.Typed.{Typed, TypedAll, Permission, IsAmount, IsInstance, Asserts}
-use Rattle.viper_types.proofs.TermTypes.{same_some}
 
 literal_depth : (w : Word) (x : e.Expr × Ty) → literal w ≡ Some x → g.depth x.0 ≤ 1
-literal_depth word.True x h = subst (λ z. g.depth z.0 ≤ 1) (same_some h) (omega arith)
-literal_depth word.False x h = subst (λ z. g.depth z.0 ≤ 1) (same_some h) (omega arith)
-literal_depth word.Null x h = subst (λ z. g.depth z.0 ≤ 1) (same_some h) (omega arith)
-literal_depth word.Write x h = subst (λ z. g.depth z.0 ≤ 1) (same_some h) (omega arith)
-literal_depth word.None x h = subst (λ z. g.depth z.0 ≤ 1) (same_some h) (omega arith)
+literal_depth word.True x h = subst (λ z. g.depth z.0 ≤ 1) (same_Some _ _ h) (omega arith)
+literal_depth word.False x h = subst (λ z. g.depth z.0 ≤ 1) (same_Some _ _ h) (omega arith)
+literal_depth word.Null x h = subst (λ z. g.depth z.0 ≤ 1) (same_Some _ _ h) (omega arith)
+literal_depth word.Write x h = subst (λ z. g.depth z.0 ≤ 1) (same_Some _ _ h) (omega arith)
+literal_depth word.None x h = subst (λ z. g.depth z.0 ≤ 1) (same_Some _ _ h) (omega arith)
 literal_depth _ x h = absurd (cc)
 
 -- an amount that was left out is no deeper than any term

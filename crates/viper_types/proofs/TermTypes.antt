@@ -1,5 +1,6 @@
 -- A term that is an expression of a type is so also over resolved names.
 use Rattle.std.proofs.Common.{◌≡◌, ℕ, List, true, Option, Some, Contains, length, slice_get, is_some, inl, inr, refl, sym, subst}
+use Rattle.std.proofs.lemmas.Option.{same_Some}
 use Rattle.vb_value.specs.declared.values.Ty.{Ty}
 use Rattle.vb_value.specs.declared.values.Ty.TheVariants as ty
 use Rattle.viper_core.specs.Expr as e
@@ -48,15 +49,12 @@ pub record Resolves (k : Context) (sc : Scope) (c : g.Context) : Type 0 where
   pub old : allows_old k.part ≡ true → g.allows_old c.site ≡ true
   pub forms : allows_permission_forms k.part ≡ true → g.is_outside_predicates c.site ≡ true
 
-pub same_some : {X : Type 0} {x y : X} → Some x ≡ Some y → x ≡ y
-same_some h = cc
-
 literal_typed : (c : g.Context) (w : Word) (x : e.Expr × Ty) → literal w ≡ Some x → HasType c x.0 x.1
-literal_typed c word.True x h = subst (λ z. HasType c z.0 z.1) (same_some h) g.truth
-literal_typed c word.False x h = subst (λ z. HasType c z.0 z.1) (same_some h) g.truth
-literal_typed c word.Null x h = subst (λ z. HasType c z.0 z.1) (same_some h) g.null
-literal_typed c word.Write x h = subst (λ z. HasType c z.0 z.1) (same_some h) (g.part (inr refl))
-literal_typed c word.None x h = subst (λ z. HasType c z.0 z.1) (same_some h) (g.part (inl refl))
+literal_typed c word.True x h = subst (λ z. HasType c z.0 z.1) (same_Some _ _ h) g.truth
+literal_typed c word.False x h = subst (λ z. HasType c z.0 z.1) (same_Some _ _ h) g.truth
+literal_typed c word.Null x h = subst (λ z. HasType c z.0 z.1) (same_Some _ _ h) g.null
+literal_typed c word.Write x h = subst (λ z. HasType c z.0 z.1) (same_Some _ _ h) (g.part (inr refl))
+literal_typed c word.None x h = subst (λ z. HasType c z.0 z.1) (same_Some _ _ h) (g.part (inl refl))
 literal_typed c _ x h = absurd (cc)
 
 mutual

@@ -1,6 +1,7 @@
 -- What names stand for in a file is what its program has at their numbers.
 use Rattle.std.proofs.Common.{◌≡◌, ◌∙◌, ℕ, zero, suc, Option, Some, None, List, [], ◌∷◌, ◌++◌, length, map, take, drop, slice_get, is_some, refl, sym, ap, subst, append_assoc, append-nil}
 use Rattle.std.proofs.lemmas.List.{length-map, take_at, drop_at}
+use Rattle.std.proofs.lemmas.Option.{same_Some}
 use Rattle.vb_base.specs.declared.places.Pos.{Pos}
 use Rattle.vb_value.specs.declared.values.Ty.{Ty}
 use Rattle.viper_core.specs.Expr as e
@@ -17,7 +18,7 @@ use Rattle.viper_scope.specs.Types.{declared_type}
 use Rattle.viper_types.specs.Declaring.{Declared, locals}
 use Rattle.viper_types.specs.Program as r
 use Rattle.viper_types.specs.Program.{AreNamed, no_names, one_name, IsPredicateBody, IsPredicate, predicate_of, IsMethod, method_of, AreDeclared, no_decls, one_decl}
-use Rattle.viper_types.proofs.TermTypes.{same_some, HasPredicate, HasMethod, Describes}
+use Rattle.viper_types.proofs.TermTypes.{HasPredicate, HasMethod, Describes}
 use Rattle.viper_types.proofs.BodyLaws.{numbered_is}
 use Rattle.viper_types.proofs.FormalScopes.{formals_vars}
 use Rattle.viper_types.proofs.StmtTypes.{type_is}
@@ -113,7 +114,7 @@ method_there ss (Some (role.Method m)) n s h = listed_at ss m n s h
 -- what a list of images has at a number
 mapped : {X Y : Type 0} (f : X → Y) (xs : List X) (n : ℕ) (y : Y) → slice_get (map f xs) n ≡ Some y → (x : X) × (slice_get xs n ≡ Some x) × (f x ≡ y)
 mapped f [] n y h = absurd (cc)
-mapped f (x ∷ xs) zero y h = (x, refl, same_some h)
+mapped f (x ∷ xs) zero y h = (x, refl, same_Some _ _ h)
 mapped f (x ∷ xs) (suc n) y h = mapped f xs n y h
 
 has_predicate : (q : p.Program) (n : ℕ) (s : Signature) → slice_get (map signature q.predicates) n ≡ Some s → HasPredicate q n s
@@ -129,7 +130,7 @@ has_method q n s h =
 same_there : (ds : List p.Predicate) (n : ℕ) (b : e.Assertion) (q : p.Predicate) → slice_get (map body_in ds) n ≡ Some (Some b) → slice_get ds n ≡ Some q → q.body ≡ Some b
 same_there ds n b q h i =
     let is = mapped body_in ds n (Some b) h in
-    let same : is.0 ≡ q = same_some (sym is.1 ∙ i) in
+    let same : is.0 ≡ q = same_Some _ _ (sym is.1 ∙ i) in
     sym (ap (λ (d : p.Predicate). d.body) same) ∙ is.2
 
 pub describes : (w : World) (bodies : List (Option e.Assertion)) (q : p.Program) → w.fields ≡ q.layout.fields → w.predicates ≡ map signature q.predicates →

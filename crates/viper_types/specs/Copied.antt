@@ -2,6 +2,7 @@
 -- Ref variables in scope at each `new`, and all fields at each `new(*)`. Whatever file is typed weighs at least as much, so it
 -- is known to be too heavy before anything is copied.
 use Rattle.std.specs.Prelude.{ℕ, ◌+◌, nat_lt, if◌then◌else◌, Option, Some, None, List, [], ◌∷◌, length, slice_get}
+use Rattle.vb_base.specs.Limits.{too_heavy}
 use Rattle.vb_value.specs.Value.{same_type}
 use Rattle.vb_value.specs.declared.values.Ty.TheVariants as ty
 use Rattle.viper_core.specs.Expr as e
@@ -54,9 +55,9 @@ abbrev mutual
 
 -- statements, where so many Ref variables are in scope
 
--- with one more variable: from 100,001 on they are too many whatever they are
+-- with one more variable: above the greatest weight they are too many whatever they are
 abbrev pub with_formal : ℕ → Formal → ℕ
-with_formal refs f = if same_type (declared_type f) ty.Ref then (if nat_lt refs 100001 then refs + 1 else refs) else refs
+with_formal refs f = if same_type (declared_type f) ty.Ref then (if nat_lt refs too_heavy then refs + 1 else refs) else refs
 
 abbrev pub with_formals : ℕ → List Formal → ℕ
 with_formals refs [] = refs

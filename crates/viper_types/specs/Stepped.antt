@@ -2,6 +2,7 @@
 -- depth, among which variables.
 use Rattle.std.specs.Prelude.{◌≡◌, ◌≢◌, ℕ, ◌+◌, true, false, nat_le, Option, Some, None, List, [], ◌∷◌, AllPairs, length}
 use Rattle.std.specs.List.{range_with_len}
+use Rattle.vb_base.specs.Limits.{max_block_depth}
 use Rattle.vb_base.specs.declared.places.Pos.{Pos}
 use Rattle.vb_value.specs.declared.values.Ty.{Ty}
 use Rattle.vb_value.specs.declared.values.Ty.TheVariants as ty
@@ -118,9 +119,9 @@ mutual
         Typed k fr.scope a x ty.Bool → AssertsAll k fr.scope is xs → Blocked k (d + 1) fr b ss →
         Stepped k d fr (s.While at a is b) (c.While (c.loop at x xs ss (opening_of b) (targets (length fr.vars) ss)))
 
-  -- a block, which is no deeper than 128
+  -- a block, which is not too deep
   pub data Blocked (k : Context) : ℕ → Frame → s.SBlock → c.Stmts → Type 0 where
-    block : {d : ℕ} {fr : Frame} {at : Pos} {ss : s.SStmts} {xs : List c.Stmt} → nat_le d 128 ≡ true → SteppedAll k d fr ss xs → Blocked k d fr (s.block at ss) (c.stmts xs)
+    block : {d : ℕ} {fr : Frame} {at : Pos} {ss : s.SStmts} {xs : List c.Stmt} → nat_le d max_block_depth ≡ true → SteppedAll k d fr ss xs → Blocked k d fr (s.block at ss) (c.stmts xs)
 
   pub data SteppedAll (k : Context) : ℕ → Frame → s.SStmts → List c.Stmt → Type 0 where
     no_steps : {d : ℕ} {fr : Frame} → SteppedAll k d fr s.no_stmts []

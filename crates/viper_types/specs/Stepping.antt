@@ -3,6 +3,7 @@
 -- those of the arguments (3). In a `new` the target comes first, then the fields in order. A `var` tries the rules 2 and 3 on
 -- its name, before what it is given. Which statement it is, without any order, is said by the judgement in `Stepped`.
 -- `lists` says whether the lists of `new` and of loops are made. A lean walk makes none: it tells the same broken rule.
+use Rattle.vb_base.specs.Limits.{max_block_depth}
 use Rattle.viper_scope.specs.Scope.{ref_variables, Scope}
 use Rattle.viper_scope.specs.Target.{listed, targets}
 use Rattle.std.specs.Prelude.{ℕ, ◌+◌, ◌==◌, Bool, true, false, not, nat_le, Option, Some, None, List, [], ◌∷◌, ◌++◌, length, is_some, if◌then◌else◌}
@@ -206,9 +207,9 @@ abbrev mutual
       then_typed (expected k fr.scope ty.Bool a) (λ x. then_typed (asserting_all k fr.scope is) (λ xs. then_typed (blocking lists k (d + 1) fr b) (λ ss.
       Found (c.While (c.loop at x xs ss (opening_of b) (listed lists (targets (length fr.vars) ss)))))))
 
-  -- a block of this depth, which is at most 128 (15)
+  -- a block of this depth, which is not too deep (15)
   pub blocking : Bool → Context → ℕ → Frame → s.SBlock → Judged c.Stmts
-  blocking lists k d fr (s.block at ss) = obeys (nat_le d 128) at 15 (then_typed (stepping_all lists k d fr ss) as_block)
+  blocking lists k d fr (s.block at ss) = obeys (nat_le d max_block_depth) at 15 (then_typed (stepping_all lists k d fr ss) as_block)
 
   -- the statements of a block of this depth
   pub stepping_all : Bool → Context → ℕ → Frame → s.SStmts → Judged (List c.Stmt)

@@ -1,5 +1,5 @@
 // The typing of assertions: what a term is, or the first rule that it breaks.
-ghost use Rattle.std.specs.Prelude.{◌≡◌, map};
+ghost use Rattle.std.specs.Prelude.{map};
 ghost use Rattle.viper_core.specs.View.{amt_of, assertion_of, assertions_of};
 ghost use Rattle.viper_syntax.specs.View.{term_of, terms_of};
 ghost use Rattle.viper_scope.specs.Answers.{Answers, context_of};

@@ -1,26 +1,22 @@
 // What typing would copy, spent from a budget before it copies anything: each call answers what is left of the budget, or
 // None where there is more to copy.
 ghost use Rattle.std.specs.Prelude.{◌≡◌, map};
-ghost use Rattle.std.specs.Option.{option_map};
 ghost use Rattle.viper_core.specs.Budget.{Leaves};
 ghost use Rattle.viper_syntax.specs.View as v;
-ghost use Rattle.viper_syntax.specs.Stmt as s;
 ghost use Rattle.viper_syntax.specs.Term as t;
 ghost use Rattle.viper_scope.specs.Answers.{world_of};
-ghost use Rattle.viper_types.specs.Answers.{optional_bodies_of, lent_rhs_of};
+ghost use Rattle.viper_types.specs.Answers.{optional_bodies_of};
 ghost use Rattle.viper_scope.specs.Context.{predicate_at};
 ghost use Rattle.viper_types.specs.Copied as c;
 
 use vb_base::Ident;
+use vb_base::limits::TOO_HEAVY;
 use vb_value::Ty;
-use viper_core::{Assertion, MAX_WEIGHT, spend, spend_assertion};
+use viper_core::{Assertion, spend, spend_assertion};
 use viper_scope::{World, declared_type};
 use viper_syntax::{
     Decl, Formal, SArm, SBlock, SCall, SClause, SFold, SMethod, SNew, SRhs, SStmt, Term,
 };
-
-/// With more Ref variables in scope a `new` is over every budget.
-const MAX_REFS: u64 = MAX_WEIGHT + 1;
 
 /// What each part of the program counts at least.
 fn base_of(world: &World) -> u64
@@ -112,11 +108,11 @@ fn spend_call(budget: u64, world: &World, bodies: &[Option<Assertion>], call: &S
     spend_terms(budget, world, bodies, &call.args)
 }
 
-/// The Ref variables in scope with one more variable.
+/// The Ref variables in scope with one more variable. With `TOO_HEAVY` of them a `new` is over every budget.
 fn with_formal(refs: u64, formal: &Formal) -> u64
     ensures { result ≡ c.with_formal refs formal.now }
 {
-    if declared_type(formal) == Ty::Ref && refs < MAX_REFS {
+    if declared_type(formal) == Ty::Ref && refs < TOO_HEAVY {
         refs + 1
     } else {
         refs

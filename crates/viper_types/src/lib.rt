@@ -21,3 +21,4 @@ mod simple;
 mod statements;
 
 pub use program::check;
+pub use viper_scope::TypeFault;

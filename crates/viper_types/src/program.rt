@@ -1,5 +1,6 @@
 // The typing of a file.
 ghost use Rattle.std.specs.Prelude.{◌≡◌, ◌≤◌, ℕ, IfErr, IfOk, [], false, map};
+ghost use Rattle.vb_base.specs.Limits.{max_weight};
 ghost use Rattle.vb_base.specs.declared.places.Pos.{Pos};
 ghost use Rattle.viper_core.specs.Formed.{IsFormed};
 ghost use Rattle.viper_core.specs.Program as p;
@@ -18,7 +19,8 @@ use crate::copied::spend_decls;
 use crate::declarations::declarations;
 use crate::predicates::bodies_of;
 use std::alloc::Global;
-use viper_core::{MAX_WEIGHT, Program, weight};
+use vb_base::limits::{MAX_WEIGHT, TOO_HEAVY};
+use viper_core::{Program, weight};
 use viper_scope::{TypeFault, World, naming};
 use viper_syntax::{Decl, SourceProgram};
 
@@ -29,7 +31,7 @@ fn heavy_fault(alloc: Global, world: &World, decls: &[Decl]) -> TypeFault
     ensures { Overweighs (then_typed (j.decls_typing false (world_of world.now) [] (map decl_of decls.now)) (λ xs. Found (j.assembled j.no_program xs))) result }
 {
     match declarations(alloc, world, &[], false, decls) {
-        Ok(_) => TypeFault::Weight(MAX_WEIGHT + 1),
+        Ok(_) => TypeFault::Weight(TOO_HEAVY),
         Err(fault) => fault,
     }
 }
@@ -56,11 +58,11 @@ fn typed(alloc: Global, source: &SourceProgram) -> Result<Program, TypeFault>
     typed_in(alloc, &world, source)
 }
 
-/// The program that a file is, which weighs no more than 100,000; or else why there is none. A file that breaks a rule is
+/// The program that a file is, which weighs no more than `MAX_WEIGHT`; or else why there is none. A file that breaks a rule is
 /// refused by the first that it breaks, with its place; `Weight` says that it breaks none and the program weighs more, and
 /// `Memory` that memory was refused.
 pub fn check(alloc: Global, source: &SourceProgram) -> Result<Program, TypeFault>
-    ensures found { IfOk result (λ q. IsProgram (source_of source.now) (core.program_of q) × (weight (core.program_of q) ≤ 100000)) }
+    ensures found { IfOk result (λ q. IsProgram (source_of source.now) (core.program_of q) × (weight (core.program_of q) ≤ max_weight)) }
     ensures only { (q : p.Program) → IsProgram (source_of source.now) q → Gives result q }
     ensures refused { IfErr result (λ f. IsRefused (source_of source.now) f) }
     ensures first { (at : Pos) (n : ℕ) → j.program_typing (source_of source.now) ≡ Broken at n → Tells result at n }

@@ -1,5 +1,6 @@
 // Statements and blocks.
 ghost use Rattle.std.specs.Prelude.{◌≡◌, ◌+◌, ◌++◌, ◌≤◌, OnOk, length, map, take};
+ghost use Rattle.vb_base.specs.Limits.{max_block_depth};
 ghost use Rattle.viper_core.specs.Stmt as c;
 ghost use Rattle.viper_core.specs.View as core;
 ghost use Rattle.viper_syntax.specs.View.{arm_of, arms_of, block_of, else_of, stmt_of, stmts_of, term_of};
@@ -21,13 +22,11 @@ use crate::frames::Frame;
 use crate::simple::{checking, folding, setting, variable};
 use std::alloc::Global;
 use vb_base::Pos;
+use vb_base::limits::MAX_BLOCK_DEPTH;
 use vb_value::Ty;
 use viper_core::{Assertion, Expr, Loop, Stmt};
 use viper_scope::{Context, Scope, TypeFault, targets};
 use viper_syntax::{Named, SArm, SBlock, SStmt, Term};
-
-/// A block is no deeper than this.
-const MAX_DEPTH: usize = 128;
 
 /// An arm of an `if`, typed.
 #[derive(Drop)]
@@ -84,7 +83,7 @@ fn stepping(
     frame: &mut Frame,
     stmt: &SStmt,
 ) -> Result<Stmt, TypeFault>
-    requires { depth ≤ 128 }
+    requires { depth ≤ max_block_depth }
     ensures after { OnOk result (frame_of frame.new ≡ f.frame_after (frame_of frame.old) (stmt_of stmt.now)) }
     ensures answers { Answers core.stmt_of (s.stepping context.now.lists (context_of context.now) depth (frame_of frame.old) (stmt_of stmt.now)) result }
 {
@@ -141,7 +140,7 @@ fn iteration(
     at: Pos,
     terms: (Expr, Vec<Assertion>),
 ) -> Result<Stmt, TypeFault>
-    requires { depth ≤ 128 }
+    requires { depth ≤ max_block_depth }
     ensures after { OnOk result (frame_of frame.new ≡ f.with_hidden (frame_of frame.old) (f.declared_in_block (block_of body.now))) }
     ensures answers { Answers core.stmt_of (then_typed (s.blocking context.now.lists (context_of context.now) (depth + 1) (frame_of frame.old) (block_of body.now)) (λ ss.
         Found (c.While (c.loop at (core.expr_of terms.0) (core.assertions_of terms.1.items) ss body.now.at (v.listed context.now.lists (v.targets (length frame.old.vars.items) ss)))))) result }
@@ -169,11 +168,11 @@ pub fn blocking(
     frame: &mut Frame,
     block: &SBlock,
 ) -> Result<Vec<Stmt>, TypeFault>
-    ensures shallow { OnOk result (depth ≤ 128) }
+    ensures shallow { OnOk result (depth ≤ max_block_depth) }
     ensures after { OnOk result (frame_of frame.new ≡ f.with_hidden (frame_of frame.old) (f.declared_in_block (block_of block.now))) }
     ensures answers { Answers block_stmts_of (s.blocking context.now.lists (context_of context.now) depth (frame_of frame.old) (block_of block.now)) result }
 {
-    if depth > MAX_DEPTH {
+    if depth > MAX_BLOCK_DEPTH {
         return Err(TypeFault::Rule(block.at, 15));
     }
     let visible = frame.scope.extent();
@@ -191,7 +190,7 @@ fn stepping_all(
     frame: &mut Frame,
     stmts: &[SStmt],
 ) -> Result<Vec<Stmt>, TypeFault>
-    requires { depth ≤ 128 }
+    requires { depth ≤ max_block_depth }
     ensures vars { OnOk result (frame.new.vars.items ≡ frame.old.vars.items ++ f.declared_in (stmts_of stmts.now)) }
     ensures visible { OnOk result (take (length frame.old.scope) frame.new.scope ≡ frame.old.scope) }
     ensures answers { Answers stmt_list_of (s.stepping_all context.now.lists (context_of context.now) depth (frame_of frame.old) (stmts_of stmts.now)) result }
@@ -213,8 +212,8 @@ fn branches(
     frame: &mut Frame,
     arms: &[SArm],
 ) -> Result<Vec<TypedArm>, TypeFault>
-    requires { depth ≤ 129 }
-    ensures shallow { OnOk result (depth + length arms.now ≤ 129) }
+    requires { depth ≤ max_block_depth + 1 }
+    ensures shallow { OnOk result (depth + length arms.now ≤ max_block_depth + 1) }
     ensures after { OnOk result (frame_of frame.new ≡ f.with_hidden (frame_of frame.old) (f.declared_in_arms (arms_of arms.now))) }
     ensures answers { Answers branches_of (s.branches context.now.lists (context_of context.now) depth (frame_of frame.old) (arms_of arms.now)) result }
 {
@@ -234,7 +233,7 @@ fn branch(
     frame: &mut Frame,
     arm: &SArm,
 ) -> Result<TypedArm, TypeFault>
-    ensures shallow { OnOk result (depth ≤ 128) }
+    ensures shallow { OnOk result (depth ≤ max_block_depth) }
     ensures after { OnOk result (frame_of frame.new ≡ f.with_hidden (frame_of frame.old) (f.declared_in_arm (arm_of arm.now))) }
     ensures answers { Answers branch_of (s.branch context.now.lists (context_of context.now) depth (frame_of frame.old) (arm_of arm.now)) result }
 {

@@ -3,8 +3,8 @@ use Rattle.viper_syntax.proofs.LimitLaws.{item_at, unclosed_more, one_more_front
 use Rattle.viper_syntax.specs.Limit.{unclosed}
 use Rattle.viper_syntax.proofs.limits.first_deep_brace.Goals as goal
 
-pub returns-then-count-gt-MAX_BRACES : goal.returns-then-count-gt-MAX_BRACES
-returns-then-count-gt-MAX_BRACES c =
+pub returns-then-count-gt-MAX_UNCLOSED_BRACES : goal.returns-then-count-gt-MAX_UNCLOSED_BRACES
+returns-then-count-gt-MAX_UNCLOSED_BRACES c =
     let here = item_at c.args.tokens.now c.loop-token.token-index c.token-item.result c.loop-token-test.true c.token-item.is in
     let more = unclosed_more c.args.tokens.now c.loop-token.token-index c.token-item.result here in
     record {

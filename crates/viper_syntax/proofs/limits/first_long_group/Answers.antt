@@ -4,8 +4,8 @@ use Rattle.viper_syntax.specs.Limit.{is_divider}
 use Rattle.viper_syntax.proofs.limits.first_long_group.Goals as goal
 use Rattle.viper_syntax.proofs.limits.first_long_group.Goals.{then-is_divider, else-is_divider}
 
-pub returns-then-count-gt-MAX_GROUP : goal.returns-then-count-gt-MAX_GROUP
-returns-then-count-gt-MAX_GROUP c =
+pub returns-then-count-gt-MAX_GROUP_TOKENS : goal.returns-then-count-gt-MAX_GROUP_TOKENS
+returns-then-count-gt-MAX_GROUP_TOKENS c =
     let here = item_at c.args.tokens.now c.loop-token.token-index c.token-item.result c.loop-token-test.true c.token-item.is in
     let more = in_group_more c.args.tokens.now c.loop-token.token-index c.token-item.result here in
     record {

@@ -26,7 +26,7 @@ pub blocking-returns-clause-answers : goal.blocking-returns-clause-answers
 blocking-returns-clause-answers t c =
     let k = context_of c.args.context.now in
     let fr = frame_of c.args.frame.now in
-    block_typed c.args.context.now.lists k c.args.depth fr c.args.block.now.at (stmts_of c.args.block.now.stmts.items) _ c.if-depth-gt-MAX_DEPTH.false
+    block_typed c.args.context.now.lists k c.args.depth fr c.args.block.now.at (stmts_of c.args.block.now.stmts.items) _ c.if-depth-gt-MAX_BLOCK_DEPTH.false
     (ap (λ ss. stepping_all c.args.context.now.lists k c.args.depth fr (stmts_of ss)) (sym c.deref.ensures.value) ∙ c.in_ok-stmts.ensures.answers) ∙
     ap Found (sym (stmts_of-map c.in_ok-stmts.stmts.items))
 
