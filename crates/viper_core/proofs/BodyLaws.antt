@@ -1,10 +1,12 @@
--- What typed expressions and assertions look into: no predicate's body has `unfolding` or `old`, and no precondition has `old`.
+-- What typed expressions and assertions look into: no predicate's body has `unfolding`, `old` or `wildcard`, and no precondition
+-- has `old`.
 use Rattle.std.proofs.Common.{◌≡◌, ℕ, Bool, false, List, Some, IsTrue, slice_get, refl}
 use Rattle.vb_value.specs.declared.values.Ty.{Ty}
 use Rattle.viper_core.specs.Expr as t
 use Rattle.viper_core.specs.Formed.{predicate_context, precondition_context, IsTypedProgram}
 use Rattle.viper_core.specs.Plain.{OpensNothing, OpenNothing, AmountOpensNothing, AssertionOpensNothing, HasNoOld, OpenedHasNoOld, HaveNoOld, AmountHasNoOld, AssertionHasNoOld}
 use Rattle.viper_core.specs.Program.{Program, Predicate, Method}
+use Rattle.viper_core.specs.Written.{IsWritten, HasNoWildcard}
 use Rattle.viper_core.specs.Typing.{allows_old, is_outside_predicates, Context, HasType, variable, literal, truth, null, part, negative, negation, binary, choice, field, old, unfolded, Opens, opens, HaveTypes, nothing, also, IsAmount, amount, wildcard, IsAssertion, fact, access, instance, both, implied, chosen}
 use Rattle.viper_core.proofs.FormedLaws.{predicate_body_of_typed}
 
@@ -55,7 +57,7 @@ assertion_opens_nothing z (chosen h i j) = (opens_nothing z h, assertion_opens_n
 -- ---- without `old`
 
 mutual
-  has_no_old : {c : Context} {e : t.Expr} {u : Ty} → allows_old c.site ≡ false → OfBodies c AssertionHasNoOld → HasType c e u → HasNoOld e
+  pub has_no_old : {c : Context} {e : t.Expr} {u : Ty} → allows_old c.site ≡ false → OfBodies c AssertionHasNoOld → HasType c e u → HasNoOld e
   has_no_old z w (variable h i) = tt
   has_no_old z w (literal h) = tt
   has_no_old z w truth = tt
@@ -73,21 +75,35 @@ mutual
   opened_has_no_old z w a (opens {p = p} {body = body} d exists has_body args m inner) =
       (have_no_old z w args, has_no_old z w m, w a p d body exists has_body, has_no_old z w inner)
 
-  have_no_old : {c : Context} {es : t.Exprs} {us : List Ty} → allows_old c.site ≡ false → OfBodies c AssertionHasNoOld → HaveTypes c es us → HaveNoOld es
+  pub have_no_old : {c : Context} {es : t.Exprs} {us : List Ty} → allows_old c.site ≡ false → OfBodies c AssertionHasNoOld → HaveTypes c es us → HaveNoOld es
   have_no_old z w nothing = tt
   have_no_old z w (also h i) = (has_no_old z w h, have_no_old z w i)
 
-amount_has_no_old : {c : Context} {m : t.Amt} → allows_old c.site ≡ false → OfBodies c AssertionHasNoOld → IsAmount c m → AmountHasNoOld m
+pub amount_has_no_old : {c : Context} {m : t.Amt} → allows_old c.site ≡ false → OfBodies c AssertionHasNoOld → IsAmount c m → AmountHasNoOld m
 amount_has_no_old z w (amount h) = has_no_old z w h
 amount_has_no_old z w (wildcard a) = tt
 
-assertion_has_no_old : {c : Context} {a : t.Assertion} → allows_old c.site ≡ false → OfBodies c AssertionHasNoOld → IsAssertion c a → AssertionHasNoOld a
+pub assertion_has_no_old : {c : Context} {a : t.Assertion} → allows_old c.site ≡ false → OfBodies c AssertionHasNoOld → IsAssertion c a → AssertionHasNoOld a
 assertion_has_no_old z w (fact h) = has_no_old z w h
 assertion_has_no_old z w (access h is m) = (has_no_old z w h, amount_has_no_old z w m)
 assertion_has_no_old z w (instance d is args m) = (have_no_old z w args, amount_has_no_old z w m)
 assertion_has_no_old z w (both h i) = (assertion_has_no_old z w h, assertion_has_no_old z w i)
 assertion_has_no_old z w (implied h i) = (has_no_old z w h, assertion_has_no_old z w i)
 assertion_has_no_old z w (chosen h i j) = (has_no_old z w h, assertion_has_no_old z w i, assertion_has_no_old z w j)
+
+-- ---- without `wildcard`
+
+amount_written : {c : Context} {m : t.Amt} → is_outside_predicates c.site ≡ false → IsAmount c m → IsWritten m
+amount_written z (amount h) = tt
+amount_written {c} z (wildcard a) = never (is_outside_predicates c.site) z a
+
+assertion_written : {c : Context} {a : t.Assertion} → is_outside_predicates c.site ≡ false → IsAssertion c a → HasNoWildcard a
+assertion_written z (fact h) = tt
+assertion_written z (access h is m) = amount_written z m
+assertion_written z (instance d is args m) = amount_written z m
+assertion_written z (both h i) = (assertion_written z h, assertion_written z i)
+assertion_written z (implied h i) = assertion_written z i
+assertion_written z (chosen h i j) = (assertion_written z i, assertion_written z j)
 
 -- ---- bodies and preconditions
 
@@ -96,6 +112,9 @@ body_opens_nothing p d a h = assertion_opens_nothing refl h
 
 pub body_has_no_old : (p : Program) (d : Predicate) (a : t.Assertion) → IsAssertion (predicate_context p d) a → AssertionHasNoOld a
 body_has_no_old p d a h = assertion_has_no_old refl (of_no_bodies (predicate_context p d) AssertionHasNoOld refl) h
+
+pub body_has_no_wildcard : (p : Program) (d : Predicate) (a : t.Assertion) → IsAssertion (predicate_context p d) a → HasNoWildcard a
+body_has_no_wildcard p d a h = assertion_written refl h
 
 pub precondition_has_no_old : (p : Program) → IsTypedProgram p → (m : Method) (a : t.Assertion) → IsAssertion (precondition_context p m) a → AssertionHasNoOld a
 precondition_has_no_old p h m a i =

@@ -14,4 +14,5 @@ pub mod UnitLaws
 pub mod PartLaws
 pub mod StmtParts
 pub mod CutLaws
+pub mod TargetLaws
 pub mod NodeLaws

@@ -84,7 +84,7 @@ earlier sc s = later_old_or_new sc (scope_after sc s) (visible-scope_after sc s)
 
 -- ---- what typed statements assign is visible before them, or declared by them
 
-either : {X : Type 0} (a b : Bool) → (IsTrue a → X) → (IsTrue b → X) → IsTrue (a || b) → X
+pub either : {X : Type 0} (a b : Bool) → (IsTrue a → X) → (IsTrue b → X) → IsTrue (a || b) → X
 either true b f g h = f refl
 either false b f g h = g h
 
@@ -99,7 +99,7 @@ received m sc x (assigned targets differ) h = assigned_of m sc x targets h
 received m sc x (s.declared {x = y} is typed) h =
     either (y == x) false (λ same. inr (omega (arith, eqb-true y x same, is))) (λ wrong. absurd (cc)) h
 
-either_left : (b : Bool) → IsTrue b → IsTrue (b || false)
+pub either_left : (b : Bool) → IsTrue b → IsTrue (b || false)
 either_left true h = refl
 either_left false h = h
 

@@ -1,6 +1,7 @@
 -- Which trees are programs: what a program keeps that was read and checked.
 use Rattle.std.specs.Prelude.{◌≡◌, ◌≢◌, ◌<◌, ◌≤◌, ◌^◌, ◌+◌, ℕ, max, List, [], ◌∷◌, ◌++◌, Option, None, Some, is_some, slice_get, All, IfSome, IsTrue, length, map, if◌then◌else◌}
 use Rattle.std.specs.List.{range_with_len}
+use Rattle.vb_base.specs.Limits.{max_block_depth, max_term_depth, max_weight}
 use Rattle.vb_base.specs.Names.{is_viper_name, NamesDiffer}
 use Rattle.vb_value.specs.declared.values.Ty.TheVariants as ty
 use Rattle.viper_core.specs.declared.programs.Unit as u
@@ -34,7 +35,7 @@ pub record IsPredicate (p : Program) (d : Predicate) : Type 0 where
   -- a parameter is an Int, a Bool or a Ref
   pub params : All (λ t. t ≢ ty.Perm) d.params
   pub body : IfSome d.body (IsAssertion (predicate_context p d))
-  pub nested : IfSome d.body (λ a. assertion_depth a ≤ 1024)
+  pub nested : IfSome d.body (λ a. assertion_depth a ≤ max_term_depth)
 
 -- ---- methods
 
@@ -60,8 +61,8 @@ variables_of sc (Some b) = (stmts_scope sc b.stmts).fresh
 
 pub record IsBody (p : Program) (m : Method) (b : Body) : Type 0 where
   pub stmts : AreStmts (method_frame p m) (method_scope m) b.stmts
-  pub nested : stmts_depth b.stmts ≤ 1024
-  pub blocks : block_depth b.stmts ≤ 128
+  pub nested : stmts_depth b.stmts ≤ max_term_depth
+  pub blocks : block_depth b.stmts ≤ max_block_depth
 
 pub record IsMethod (p : Program) (m : Method) : Type 0 where
   pub names : AreNames m.names
@@ -70,7 +71,7 @@ pub record IsMethod (p : Program) (m : Method) : Type 0 where
   pub few : length m.vars < 2 ^ 32
   pub preconditions : All (IsAssertion (precondition_context p m)) m.preconditions
   pub postconditions : All (IsAssertion (postcondition_context p m)) m.postconditions
-  pub nested : max (assertion_depths m.preconditions) (assertion_depths m.postconditions) ≤ 1024
+  pub nested : max (assertion_depths m.preconditions) (assertion_depths m.postconditions) ≤ max_term_depth
   pub body : IfSome m.body (IsBody p m)
 
 -- ---- programs
@@ -127,4 +128,4 @@ pub record IsTypedProgram (p : Program) : Type 0 where
 
 pub record IsFormed (p : Program) : Type 0 where
   pub typed : IsTypedProgram p
-  pub light : weight p ≤ 100000
+  pub light : weight p ≤ max_weight

@@ -7,6 +7,7 @@ pub mod Weight
 pub mod Depth
 pub mod Literals
 pub mod Plain
+pub mod Written
 pub mod Scope
 pub mod Typing
 pub mod Formed

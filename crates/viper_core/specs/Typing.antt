@@ -145,6 +145,10 @@ pub record Frame : Type 0 where
 abbrev pub inside : Frame → Scope → Context
 inside m sc = record { program = m.program; vars = m.vars; visible = sc.visible; site = Elsewhere }
 
+-- a variable of the method, of some type
+abbrev pub IsVariable : Frame → ℕ → Type 0
+IsVariable m x = (u : Ty) × (slice_get m.vars x ≡ Some u)
+
 -- a variable of this type that may be assigned
 pub record IsTarget (m : Frame) (sc : Scope) (x : ℕ) (u : Ty) : Type 0 where
   pub visible : Contains sc.visible x

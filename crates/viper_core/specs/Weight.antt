@@ -1,6 +1,7 @@
 -- The weight of a program: a measure of the work and the text of its translation, in which each use of a predicate or a
 -- method counts the size of its body or its clauses.
 use Rattle.std.specs.Prelude.{ℕ, ◌+◌, min, List, [], ◌∷◌, length, Option, None, Some, slice_get}
+use Rattle.vb_base.specs.Limits.{too_heavy}
 use Rattle.viper_core.specs.Expr.{Expr, Assertion}
 use Rattle.viper_core.specs.Stmt.{Stmt, Var, Assign, Write, New, Call, Inhale, Exhale, Assert, Fold, Unfold, If, While, loop, FoldStmt, Stmts, skip, next}
 use Rattle.viper_core.specs.Program.{Program, Predicate, Method, Body}
@@ -82,6 +83,6 @@ methods_weight p (m ∷ ms) = method_weight p m + methods_weight p ms
 abbrev pub weight : Program → ℕ
 weight p = predicates_weight p p.predicates + methods_weight p p.methods
 
--- the weight as it is told: each above 100,000 is told as 100,001
+-- the weight as it is told: each that is too great is told as one
 abbrev pub told_weight : Program → ℕ
-told_weight p = min (weight p) 100001
+told_weight p = min (weight p) too_heavy

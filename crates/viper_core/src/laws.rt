@@ -1,6 +1,7 @@
 //! Laws of the definitions, each as the contract of a function that does nothing.
 
 ghost use Rattle.std.specs.Prelude.{◌≡◌, ◌≤◌, ◌<◌, ◌+◌, ◌⊎◌, ℕ, List, ◌∷◌, None, Some, All, Contains, IsTrue, slice_get};
+ghost use Rattle.vb_base.specs.Limits.{max_weight, too_heavy};
 ghost use Rattle.vb_base.specs.declared.places.Pos.{Pos};
 ghost use Rattle.vb_value.specs.Bound.{Bound};
 ghost use Rattle.vb_value.specs.declared.values.Ty.{Ty};
@@ -17,16 +18,17 @@ ghost use Rattle.viper_core.specs.Scope.{Scope, after_block, scope_after, some_a
 ghost use Rattle.viper_core.specs.Stmt as s;
 ghost use Rattle.viper_core.specs.Typing.{Site, Context, Frame, inside, value_type, HasType, HaveTypes, Opens, IsAmount, IsAssertion, IsTarget, Receive, AreFields, params_of, returns_of, AreStmts};
 ghost use Rattle.viper_core.specs.Weight.{weight, told_weight, predicate_weight, method_weight};
+ghost use Rattle.viper_core.specs.Written.{HasNoWildcard};
 
 /// An expression has at most one type.
 pub fn an_expression_has_one_type()
     ensures { (c : Context) (e : t.Expr) (u : Ty) (v : Ty) → HasType c e u → HasType c e v → u ≡ v }
 {}
 
-/// A weight is told as it is up to the limit, and as one more than the limit where it is more.
+/// A weight is told as it is up to the limit, and as `TOO_HEAVY` where it is more.
 pub fn a_told_weight_tells()
-    ensures light { (q : p.Program) → weight q ≤ 100000 → told_weight q ≡ weight q }
-    ensures heavy { (q : p.Program) → 100000 < weight q → told_weight q ≡ 100001 }
+    ensures light { (q : p.Program) → weight q ≤ max_weight → told_weight q ≡ weight q }
+    ensures heavy { (q : p.Program) → max_weight < weight q → told_weight q ≡ too_heavy }
 {}
 
 /// A predicate or a method weighs no more than its program.
@@ -62,12 +64,14 @@ pub fn a_unit_is_declared()
         → slice_get q.units i ≡ Some (unit.Predicate k) → HasBodyAt q.predicates k }
 {}
 
-/// The bodies of predicates have neither `unfolding` nor `old`, and preconditions have no `old`.
+/// The bodies of predicates have no `unfolding`, no `old` and no `wildcard`, and preconditions have no `old`.
 pub fn bodies_are_plain()
     ensures opens_nothing { (q : p.Program) (d : p.Predicate) (a : t.Assertion) → IsAssertion (predicate_context q d) a
         → AssertionOpensNothing a }
     ensures has_no_old { (q : p.Program) (d : p.Predicate) (a : t.Assertion) → IsAssertion (predicate_context q d) a
         → AssertionHasNoOld a }
+    ensures has_no_wildcard { (q : p.Program) (d : p.Predicate) (a : t.Assertion) → IsAssertion (predicate_context q d) a
+        → HasNoWildcard a }
     ensures precondition { (q : p.Program) (m : p.Method) (a : t.Assertion) → IsTypedProgram q
         → IsAssertion (precondition_context q m) a → AssertionHasNoOld a }
 {}

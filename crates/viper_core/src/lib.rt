@@ -3,6 +3,7 @@
 //! `specs/` has the plain data that contracts see, which programs are formed, and what a program weighs.
 #![tactic(auto)]
 
+pub mod context_laws;
 mod copies;
 mod exprs;
 pub mod laws;
@@ -16,4 +17,4 @@ pub use exprs::{Amt, Assertion, Expr, Op, Opened};
 pub use programs::{Body, Method, Predicate, Program, Unit};
 pub use sizes::{spend, spend_assertion};
 pub use stmts::{FoldStmt, Loop, Stmt};
-pub use weights::{MAX_WEIGHT, weight};
+pub use weights::weight;

@@ -6,20 +6,17 @@ ghost use Rattle.viper_core.specs.Stmt as s;
 
 use crate::sizes::{after_assertion, after_assertions, after_expr, after_exprs};
 use crate::{FoldStmt, Loop, Method, Predicate, Program, Stmt};
+use vb_base::limits::TOO_HEAVY;
 
-/// A program of more weight is refused.
-pub const MAX_WEIGHT: u64 = 100_000;
-
-/// The weight of a program, or `MAX_WEIGHT + 1` where it is more than `MAX_WEIGHT`.
+/// The weight of a program, or `TOO_HEAVY` where it is more than `MAX_WEIGHT`.
 ///
 /// It stops soon after the weight is more, and recurses as deep as the program is nested.
 pub fn weight(program: &Program) -> u64
     ensures { result ≡ told_weight (program_of program.now) }
 {
-    let room = MAX_WEIGHT + 1;
-    let left = after_predicates(room as u128, program, &program.predicates);
+    let left = after_predicates(TOO_HEAVY as u128, program, &program.predicates);
     let left = after_methods(left, program, &program.methods);
-    room - left as u64
+    TOO_HEAVY - left as u64
 }
 
 /// What each part of a program counts at least.

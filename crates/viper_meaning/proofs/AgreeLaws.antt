@@ -1,20 +1,24 @@
 -- How an evaluation with less permission and one with more compare.
-use Rattle.std.proofs.Common.{◌≡◌, refl, sym, ap, ◌∙◌, subst, ℕ, ◌==◌, Bool, true, false, Option, Some, None, List, [], slice_get, if◌then◌else◌}
+use Rattle.std.proofs.Common.{◌≡◌, refl, sym, ap, ◌∙◌, subst, ℕ, ℤ, pos, ◌==◌, Bool, true, false, Option, Some, None, List, [], slice_get, if◌then◌else◌}
+use Rattle.std.specs.Int.{int_div_euclid, int_rem_euclid}
+use Rattle.std.specs.Ordering.{int_eq}
 use Rattle.vb_base.specs.declared.labels.Kind.TheVariants as kind
 use Rattle.vb_base.specs.declared.labels.Label.{Label}
 use Rattle.vb_base.specs.declared.places.Pos.{Pos}
 use Rattle.vb_value.specs.Bound.{Unbounded}
 use Rattle.vb_value.specs.Fraction.{Fraction, is_none}
 use Rattle.vb_value.specs.declared.values.Value.{Value}
+use Rattle.vb_value.specs.declared.values.Value.TheVariants.{Int, Perm}
 use Rattle.viper_core.specs.Expr as t
 use Rattle.viper_core.specs.Plain.{OpensNothing, OpenNothing}
 use Rattle.viper_core.specs.declared.exprs.Op.{Op}
+use Rattle.viper_core.specs.declared.exprs.Op.TheVariants as op
 use Rattle.viper_state.specs.Event.{Event}
 use Rattle.viper_state.specs.State.{State, mask_at, value_at}
 use Rattle.viper_state.specs.Run.{Scene}
 use Rattle.viper_meaning.specs.Ends.{Evaluated, ends, Is, Fails, Blocked, Over, is, fails, after, then_with, found, unless}
 use Rattle.viper_meaning.specs.Assertions.{place_in, instance_in}
-use Rattle.viper_meaning.specs.Operators.{Class, Lazy, Division, Plain, class_of, truth_of, perm_of, ref_of, plain, divided, settled, settled_or, in_class, negative, negation}
+use Rattle.viper_meaning.specs.Operators.{Class, Lazy, Division, Plain, class_of, truth_of, perm_of, ref_of, plain, quotient_of, euclidean, divided, settled, settled_or, in_class, negative, negation}
 use Rattle.viper_meaning.specs.Places.{read_field, key_of}
 use Rattle.viper_meaning.specs.Resource.{Resource, Place, Instance}
 use Rattle.viper_meaning.specs.Sat.{Has}
@@ -79,22 +83,22 @@ module _ {M : Type 0} where
   -- ---- reading
 
   -- with more permission no reading fails that did not fail with less
-  permitted : {X : Type 0} (sc : Scene) (at : Pos) (a b : Bool) (e : Evaluated X) → (a ≡ false → b ≡ false) → Agrees M IsSame (unless a (fails sc at kind.Perm) e) (unless b (fails sc at kind.Perm) e)
-  permitted sc at true b e h = failed
-  permitted sc at false true e h = let no : true ≡ false = h refl in cc
-  permitted sc at false false e h = agrees_self e
+  permitted : {X : Type 0} (sc sd : Scene) (at : Pos) (a b : Bool) (e : Evaluated X) → (a ≡ false → b ≡ false) → Agrees M IsSame (unless a (fails sc at kind.Perm) e) (unless b (fails sd at kind.Perm) e)
+  permitted sc sd at true b e h = failed
+  permitted sc sd at false true e h = let no : true ≡ false = h refl in cc
+  permitted sc sd at false false e h = agrees_self e
 
-  read_held : (sc : Scene) (at : Pos) (o p : Option Fraction) (e : Evaluated Value) → HeldPart o p →
-      Agrees M IsSame (then_with (found o) (λ held. unless (is_none held) (fails sc at kind.Perm) e)) (then_with (found p) (λ held. unless (is_none held) (fails sc at kind.Perm) e))
-  read_held sc at (Some x) (Some y) e h = after_agrees [] [] (permitted sc at (is_none x) (is_none y) e (part_some h))
-  read_held sc at (Some x) None e h = absurd h
-  read_held sc at None (Some y) e h = absurd h
-  read_held sc at None None e h = blocked
+  read_held : (sc sd : Scene) (at : Pos) (o p : Option Fraction) (e : Evaluated Value) → HeldPart o p →
+      Agrees M IsSame (then_with (found o) (λ held. unless (is_none held) (fails sc at kind.Perm) e)) (then_with (found p) (λ held. unless (is_none held) (fails sd at kind.Perm) e))
+  read_held sc sd at (Some x) (Some y) e h = after_agrees [] [] (permitted sc sd at (is_none x) (is_none y) e (part_some h))
+  read_held sc sd at (Some x) None e h = absurd h
+  read_held sc sd at None (Some y) e h = absurd h
+  read_held sc sd at None None e h = blocked
 
-  pub read_agrees : {s w : State} → Near s w → (sc : Scene) (f : ℕ) (at : Pos) (r : ℕ) → Agrees M IsSame (read_field sc s f at r) (read_field sc w f at r)
-  read_agrees {s} {w} near sc f at r =
-      unless_agrees (r == 0) failed (subst (λ v. Agrees M IsSame (then_with (found (mask_at s f r)) (λ held. unless (is_none held) (fails sc at kind.Perm) (found (value_at s f r)))) (then_with (found (mask_at w f r)) (λ held. unless (is_none held) (fails sc at kind.Perm) (found v))))
-      (near.values f r) (read_held sc at (mask_at s f r) (mask_at w f r) (found (value_at s f r)) (near.held (Place f r))))
+  pub read_agrees : {s w : State} → Near s w → (sc sd : Scene) (f : ℕ) (at : Pos) (r : ℕ) → Agrees M IsSame (read_field sc s f at r) (read_field sd w f at r)
+  read_agrees {s} {w} near sc sd f at r =
+      unless_agrees (r == 0) failed (subst (λ v. Agrees M IsSame (then_with (found (mask_at s f r)) (λ held. unless (is_none held) (fails sc at kind.Perm) (found (value_at s f r)))) (then_with (found (mask_at w f r)) (λ held. unless (is_none held) (fails sd at kind.Perm) (found v))))
+      (near.values f r) (read_held sc sd at (mask_at s f r) (mask_at w f r) (found (value_at s f r)) (near.held (Place f r))))
 
   -- ---- operators
 
@@ -102,10 +106,37 @@ module _ {M : Type 0} where
   settled_agrees (Some c) h = is_agrees refl
   settled_agrees None h = h
 
-  pub class_agrees : (c : Class) (sc : Scene) (o : Op) (at : Pos) {e f g h : Evaluated Value} → Agrees M IsSame e f → Agrees M IsSame g h → Agrees M IsSame (in_class c Unbounded sc o e g at) (in_class c Unbounded sc o f h at)
-  class_agrees Lazy sc o at l r = then_same l (λ v. then_same (agrees_self (truth_of v)) (λ c. settled_agrees (settled o c) r))
-  class_agrees Division sc o at l r = then_same l (λ v. then_alike (λ w. divided Unbounded sc o v w at) r)
-  class_agrees Plain sc o at l r = then_same l (λ v. then_alike (λ w. plain Unbounded o v w at) r)
+  -- of the scene an operator looks at the step that is running alone, and so only where it fails
+  quotient_agrees : (sc sd : Scene) (v w : Value) (at : Pos) → Agrees M IsSame (quotient_of Unbounded sc v w at) (quotient_of Unbounded sd v w at)
+  quotient_agrees sc sd (Int x) (Int n) at = unless_agrees (int_eq n (pos 0)) failed (agrees_self _)
+  quotient_agrees sc sd (Perm p) (Int n) at = unless_agrees (int_eq n (pos 0)) failed (agrees_self _)
+  quotient_agrees sc sd (Int x) _ at = blocked
+  quotient_agrees sc sd (Perm p) _ at = blocked
+  quotient_agrees sc sd _ _ at = blocked
+
+  euclidean_agrees : (sc sd : Scene) (f : ℤ → ℤ → ℤ) (v w : Value) (at : Pos) → Agrees M IsSame (euclidean sc f v w at) (euclidean sd f v w at)
+  euclidean_agrees sc sd f (Int x) (Int d) at = unless_agrees (int_eq d (pos 0)) failed (agrees_self _)
+  euclidean_agrees sc sd f (Int x) _ at = blocked
+  euclidean_agrees sc sd f _ _ at = blocked
+
+  divided_agrees : (sc sd : Scene) (o : Op) (v w : Value) (at : Pos) → Agrees M IsSame (divided Unbounded sc o v w at) (divided Unbounded sd o v w at)
+  divided_agrees sc sd op.Divide v w at = quotient_agrees sc sd v w at
+  divided_agrees sc sd op.IntDiv v w at = euclidean_agrees sc sd int_div_euclid v w at
+  divided_agrees sc sd op.IntMod v w at = euclidean_agrees sc sd int_rem_euclid v w at
+  divided_agrees sc sd _ v w at = blocked
+
+  pub class_agrees : (c : Class) (sc sd : Scene) (o : Op) (at : Pos) {e f g h : Evaluated Value} → Agrees M IsSame e f → Agrees M IsSame g h → Agrees M IsSame (in_class c Unbounded sc o e g at) (in_class c Unbounded sd o f h at)
+  class_agrees Lazy sc sd o at l r = then_same l (λ v. then_same (agrees_self (truth_of v)) (λ c. settled_agrees (settled o c) r))
+  class_agrees Division sc sd o at l r = then_same l (λ v. then_same r (λ w. divided_agrees sc sd o v w at))
+  class_agrees Plain sc sd o at l r = then_same l (λ v. then_alike (λ w. plain Unbounded o v w at) r)
+
+-- the values are related in another way too
+pub agrees_weaker : {X Y : Type 0} {M : Type 0} {R S : X → Y → Type 0} {e : Evaluated X} {f : Evaluated Y} → ((x : X) (y : Y) → R x y → S x y) → Agrees M R e f → Agrees M S e f
+agrees_weaker go failed = failed
+agrees_weaker go over = over
+agrees_weaker go (both {x = x} {y = y} r) = both (go x y r)
+agrees_weaker go blocked = blocked
+agrees_weaker go (lost m) = lost m
 
 -- what has a value with less has the same with more
 stays : {X : Type 0} {e f : Evaluated X} {x : X} → Agrees ⊥ IsSame e f → Has x e → Has x f
@@ -126,9 +157,9 @@ module _ {s w : State} (sc : Scene) (near : Near s w) where
   value_agrees (t.Part q) h = is_agrees refl
   value_agrees (t.Neg a) h = then_alike negative (value_agrees a h)
   value_agrees (t.Not a) h = then_alike negation (value_agrees a h)
-  value_agrees (t.Bin o x y at) h = class_agrees (class_of o) sc o at (value_agrees x h.0) (value_agrees y h.1)
+  value_agrees (t.Bin o x y at) h = class_agrees (class_of o) sc sc o at (value_agrees x h.0) (value_agrees y h.1)
   value_agrees (t.Choose a x y) h = then_same (then_alike truth_of (value_agrees a h.0)) (λ holds. if_agrees holds (value_agrees x h.1) (value_agrees y h.2))
-  value_agrees (t.Field a f at) h = then_same (then_alike ref_of (value_agrees a h)) (read_agrees near sc f at)
+  value_agrees (t.Field a f at) h = then_same (then_alike ref_of (value_agrees a h)) (read_agrees near sc sc f at)
   value_agrees (t.Old a) h = agrees_self (value Unbounded a sc.old sc)
   value_agrees (t.Unfolding o) h = absurd h
 

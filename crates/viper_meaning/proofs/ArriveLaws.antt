@@ -46,6 +46,7 @@ use Rattle.viper_meaning.proofs.OpenedLaws.{value_close, values_close}
 use Rattle.viper_meaning.proofs.ReadLaws.{perm_proper}
 use Rattle.viper_meaning.proofs.PartLaws.{IsAmount, IsPartOf, amount_none, whole_amount, part_self, part_sum, part_trans, amount_sum, part_not_above, is_none_itself, positive_from_some}
 use Rattle.viper_meaning.proofs.RunLaws.{on-before, on-then}
+use Rattle.viper_meaning.proofs.UnderLaws.{IsAmountShare}
 
 -- ---- one lemma for each way to go on
 
@@ -99,9 +100,6 @@ arrives_then Q P choices mid left r go h g = subst (Arrives P left) (sym (on-the
 
 -- ---- shares
 
-abbrev pub IsAmountShare : Share → Type 0
-IsAmountShare share = IsAmount share.amount
-
 part_if_same : (x : Resource) (h : Fraction) (b : Bool) (q : Fraction) → IsAmount h → IsAmount q → IsPartOf h (if b then sum h q else h)
 part_if_same x h true q a g = part_sum a g
 part_if_same x h false q a g = part_self a
@@ -111,7 +109,7 @@ amount_if_same h true q a g = amount_sum a g
 amount_if_same h false q a g = a
 
 -- what is held before is a part of it with all shares
-part_total : (x : Resource) (h : Fraction) (xs : List Share) → IsAmount h → All IsAmountShare xs → IsPartOf h (total_from x h xs)
+pub part_total : (x : Resource) (h : Fraction) (xs : List Share) → IsAmount h → All IsAmountShare xs → IsPartOf h (total_from x h xs)
 part_total x h [] a g = part_self a
 part_total x h (share ∷ xs) a g =
     let one = All-head IsAmountShare share xs g in
@@ -142,7 +140,7 @@ before_close {u} {s} {xs} full h = record {
     by_option x (Some q) a = part_total x q xs (a q refl) h.amounts
     by_option x None a = tt
 
-same_self : (x : Resource) → is_same x x ≡ true
+pub same_self : (x : Resource) → is_same x x ≡ true
 same_self (Place f r) = both_true (f == f) (r == r) ((Decides-eqb f f).1 refl) ((Decides-eqb r r).1 refl)
   where
     both_true : (a b : Bool) → a ≡ true → b ≡ true → a && b ≡ true

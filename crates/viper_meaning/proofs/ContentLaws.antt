@@ -1,6 +1,6 @@
 -- What was consumed has a content: where a run consumed an assertion without `wildcard`, the assertion contains something in
--- the state at the start. The body of a predicate is such an assertion.
-use Rattle.std.proofs.Common.{◌≡◌, refl, sym, ap, ◌∙◌, subst, ℕ, zero, suc, Bool, true, false, Option, Some, None, List, [], ◌∷◌, IsTrue, length, slice_get, if◌then◌else◌}
+-- the state at the start.
+use Rattle.std.proofs.Common.{◌≡◌, refl, sym, ap, ◌∙◌, subst, ℕ, zero, suc, Bool, true, false, Option, Some, None, List, [], ◌∷◌, length, slice_get, if◌then◌else◌}
 use Rattle.std.specs.Option.{option_map}
 use Rattle.std.specs.Ordering.{nat_cmp}
 use Rattle.std.specs.declared.cmp.Ordering.{Ordering}
@@ -13,9 +13,7 @@ use Rattle.vb_value.specs.Fraction.{Fraction, is_negative, is_positive, product,
 use Rattle.vb_value.specs.Key.{key_cmp}
 use Rattle.vb_value.specs.Layout.{Layout}
 use Rattle.viper_core.specs.Expr as t
-use Rattle.viper_core.specs.Formed.{predicate_context}
-use Rattle.viper_core.specs.Program.{Program, Predicate}
-use Rattle.viper_core.specs.Typing.{is_outside_predicates, Context, IsAmount, amount, wildcard, IsAssertion, fact, access, instance, both, implied, chosen}
+use Rattle.viper_core.specs.Written.{IsWritten, HasNoWildcard}
 use Rattle.viper_state.specs.Choice.{Choice}
 use Rattle.viper_state.specs.Event.{Event}
 use Rattle.viper_state.specs.Fits.{HasMaps}
@@ -31,31 +29,10 @@ use Rattle.viper_meaning.specs.Resource.{Resource, Place, Instance, held_at}
 use Rattle.viper_meaning.specs.Run.{Run, evaluating}
 use Rattle.viper_meaning.specs.Sat.{Has}
 use Rattle.viper_meaning.specs.Value.{perm_in, truth_in}
-use Rattle.viper_meaning.specs.Written.{IsWritten, HasNoWildcard}
 use Rattle.viper_meaning.proofs.KeptLaws.{is_kept, fails_kept, after_kept, unless_kept, if_kept}
 use Rattle.viper_meaning.proofs.RunKeptLaws.{before_kept, then_do_kept}
 use Rattle.viper_meaning.proofs.ShapeLaws.{with_held_has_maps}
 use Rattle.viper_meaning.proofs.SignLaws.{any_events, after_any}
-
--- ---- the body of a predicate
-
-amount_written : {c : Context} {m : t.Amt} → is_outside_predicates c.site ≡ false → IsAmount c m → IsWritten m
-amount_written s (amount h) = tt
-amount_written {c} s (wildcard h) = outside (is_outside_predicates c.site) s h
-  where
-    outside : (b : Bool) → b ≡ false → IsTrue b → ⊥
-    outside b e h = cc
-
-assertion_written : {c : Context} {a : t.Assertion} → is_outside_predicates c.site ≡ false → IsAssertion c a → HasNoWildcard a
-assertion_written s (fact h) = tt
-assertion_written s (access h i m) = amount_written s m
-assertion_written s (instance d i args m) = amount_written s m
-assertion_written s (both h i) = (assertion_written s h, assertion_written s i)
-assertion_written s (implied h i) = assertion_written s i
-assertion_written s (chosen h i j) = (assertion_written s i, assertion_written s j)
-
-pub body_has_no_wildcard : (p : Program) (d : Predicate) (a : t.Assertion) → IsAssertion (predicate_context p d) a → HasNoWildcard a
-body_has_no_wildcard p d a h = assertion_written refl h
 
 -- ---- what goes on with a value
 

@@ -123,14 +123,14 @@ module _ {K V U : Type 0} (cmp : K → K → Ordering) (eq : V → V → Bool) (
   maps_fit (u ∷ us) (a ∷ news) (o ∷ owns) [] f g h = absurd h
   maps_fit (u ∷ us) (a ∷ news) (o ∷ owns) (m ∷ helds) f g h = (go u a o m f.0 g.0 h.0, maps_fit us news owns helds f.1 g.1 h.1)
 
-forgotten_fits : (l : Layout) (s : State) (m : Memo) → FitsState l s → FitsMemo l m → FitsMemo l (forgotten s m)
+pub forgotten_fits : (l : Layout) (s : State) (m : Memo) → FitsState l s → FitsMemo l m → FitsMemo l (forgotten s m)
 forgotten_fits l s m h g = record {
   heap = maps_fit nat_cmp value_eq FitsHeap FitsMask (λ u new own held i j k. kept_fits exact_values.total (FitsValue-default u) new own (keys held) i j k.keys) l.fields m.heap s.heap s.mask g.heap h.heap h.mask;
   content = maps_fit key_cmp same_content FitsContents FitsAmounts (λ us new own held i j k. kept_fits exact_contents.total tt new own (keys held) i j k.keys) l.keys m.content s.content s.amount g.content h.content h.amount;
 }
 
 -- a choice that does not fit is none
-memo_in_fits : (l : Layout) (c : Choice) → IfSome (memo_in l c) (FitsMemo l)
+pub memo_in_fits : (l : Layout) (c : Choice) → IfSome (memo_in l c) (FitsMemo l)
 memo_in_fits l (choice.Filled m) = where_so (fits_memo l m) refl
   where
     where_so : (b : Bool) → fits_memo l m ≡ b → IfSome (if b then Some m else None) (FitsMemo l)

@@ -83,7 +83,7 @@ module _ (r : ℕ) (store : List Value) where
   each_named [] = refl
   each_named (x ∷ xs) = or_right _ (is_named r store xs) ∙ ap (λ b. is_named r store (x ∷ []) || b) (each_named xs)
 
-  Decides-named : (xs : List ℕ) → Decides (not (is_named r store xs)) ((x : ℕ) → Contains xs x → slice_get store x ≢ Some (v.Ref r))
+  pub Decides-named : (xs : List ℕ) → Decides (not (is_named r store xs)) ((x : ℕ) → Contains xs x → slice_get store x ≢ Some (v.Ref r))
   Decides-named xs = subst (λ b. Decides (not b) ((x : ℕ) → Contains xs x → slice_get store x ≢ Some (v.Ref r))) (sym (each_named xs))
       (Decides-none (λ x. is_named r store (x ∷ [])) (λ x. slice_get store x ≡ Some (v.Ref r)) (λ x. one_named x (slice_get store x) refl) xs)
 

@@ -20,6 +20,7 @@ use Rattle.vb_value.specs.declared.values.Value.{Value}
 use Rattle.viper_core.specs.Expr as t
 use Rattle.viper_core.specs.Plain.{OpensNothing, OpenNothing, AmountOpensNothing, AssertionOpensNothing}
 use Rattle.viper_core.specs.declared.exprs.Op.{Op}
+use Rattle.viper_core.specs.Written.{IsWritten, HasNoWildcard}
 use Rattle.viper_state.specs.Event as event
 use Rattle.viper_state.specs.Event.{Event}
 use Rattle.viper_state.specs.Run.{Scene}
@@ -41,7 +42,6 @@ use Rattle.viper_meaning.specs.Run.{Run, ended, goes, before, evaluating, then_d
 use Rattle.viper_meaning.specs.Resource.{Resource, Place, Instance, held_at, with_held, is_null, is_too_much}
 use Rattle.viper_meaning.specs.Sat.{Has}
 use Rattle.viper_meaning.specs.Value.{as_truth, as_perm, as_ref, value, values, amount_of, perm_in, truth_in, ref_in, key_in, opened}
-use Rattle.viper_meaning.specs.Written.{IsWritten, HasNoWildcard}
 
 -- ---- two evaluations have the same value, where both have one
 

@@ -16,6 +16,12 @@ pub mod RunBoundLaws
 pub mod RunKeptLaws
 pub mod ForgetLaws
 pub mod ForgottenLaws
+pub mod EmptiedLaws
+pub mod BeginLaws
+pub mod ChangeLaws
+pub mod AlikeLaws
+pub mod SeenLaws
+pub mod MoreLaws
 pub mod RunWithinLaws
 pub mod RunSignLaws
 pub mod RunFitsLaws
@@ -28,6 +34,7 @@ pub mod EveryLaws
 pub mod SatProduceLaws
 pub mod ReadLaws
 pub mod NearLaws
+pub mod UnderLaws
 pub mod OpenedLaws
 pub mod ArriveLaws
 pub mod HeldSignLaws
@@ -46,3 +53,10 @@ pub mod WholeLaws
 pub mod StatementFitsLaws
 pub mod FreshLaws
 pub mod InverseLaws
+pub mod SplitLaws
+pub mod AskedLaws
+pub mod TakenLaws
+pub mod UnblockedLaws
+pub mod FoldLaws
+pub mod FoundLaws
+pub mod UnfoldLaws

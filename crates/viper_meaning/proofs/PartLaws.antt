@@ -171,12 +171,12 @@ turned_less Less = refl
 turned_less Equal = refl
 turned_less Greater = refl
 
-above_by_order : (q : Fraction) → is_above_one q ≡ is_lt (order write q)
+pub above_by_order : (q : Fraction) → is_above_one q ≡ is_lt (order write q)
 above_by_order q =
     sym (turned_less (int_cmp q.num (pos q.den))) ∙ ap is_lt (sym (int_cmp_total.antisymm (pos q.den) q.num) ∙
     ap (λ z. int_cmp z q.num) (sym (one-*ℤ (pos q.den))) ∙ ap (int_cmp (pos 1 *ℤ pos q.den)) (sym (*ℤ_one q.num)))
 
-amount_write : IsAmount write
+pub amount_write : IsAmount write
 amount_write = record { reduced = IsReduced-whole (pos 1); not_negative = refl }
 
 -- where the whole is not above 1, no part is

@@ -16,7 +16,8 @@ use Rattle.viper_core.specs.Formed.{IsTypedProgram}
 use Rattle.viper_core.specs.Plain.{OpensNothing, OpenNothing, AmountOpensNothing, AssertionOpensNothing}
 use Rattle.viper_core.specs.Program.{Program, Predicate}
 use Rattle.viper_core.specs.Stmt as s
-use Rattle.viper_core.proofs.BodyLaws.{assertion_opens_nothing}
+use Rattle.viper_core.specs.Written.{IsWritten, HasNoWildcard}
+use Rattle.viper_core.proofs.BodyLaws.{assertion_opens_nothing, body_has_no_wildcard}
 use Rattle.viper_core.proofs.FormedLaws.{predicate_body_of_typed}
 use Rattle.viper_state.specs.Event as event
 use Rattle.viper_state.specs.Event.{Event}
@@ -32,9 +33,7 @@ use Rattle.viper_meaning.specs.Resource.{Resource, Place, Instance, held_at, is_
 use Rattle.viper_meaning.specs.Run.{Run, ended, goes, before, evaluating, then_do}
 use Rattle.viper_meaning.specs.Statements.{Activation, Configuration, scene, with_state, run_stmt}
 use Rattle.viper_meaning.specs.Value.{values, perm_in, opened}
-use Rattle.viper_meaning.specs.Written.{IsWritten, HasNoWildcard}
 use Rattle.viper_meaning.proofs.ClosedLaws.{any_found}
-use Rattle.viper_meaning.proofs.ContentLaws.{body_has_no_wildcard}
 use Rattle.viper_meaning.proofs.KeptLaws.{any_kept, fails_kept, blocks_kept, then_kept, found_kept, unless_kept, if_kept, recorded_kept, fitting_kept}
 use Rattle.viper_meaning.proofs.PlainLaws.{truth_quiet, perm_quiet, ref_quiet, key_quiet, amount_quiet, IsNone, IsQuiet, none_recorded, no_events, is_quiet}
 
@@ -264,10 +263,10 @@ two_later (ends es (Over at)) e g = no_more es
 
 module _ (b : Bound) (program : Program) (typed : IsTypedProgram program) (f : s.FoldStmt) (s : State) (sc : Scene) where
   -- the arguments, and then the amount
-  abbrev Front : Evaluated Fraction
+  abbrev pub Front : Evaluated Fraction
   Front = then_with (values b f.args s sc) (λ vs. perm_in b f.amount s sc)
 
-  fold_recorded : (e : Evaluated State) × ((fold_instance b program f s sc ≡ ended e) × (events_of e ≡ events_of Front))
+  pub fold_recorded : (e : Evaluated State) × ((fold_instance b program f s sc ≡ ended e) × (events_of e ≡ events_of Front))
   fold_recorded = two_recorded (values b f.args s sc) (perm_in b f.amount s sc) (λ vs q.
       evaluating_quiet (there_quiet b (key_of vs)) (λ key u. evaluating_quiet (found_kept (body_of program f.predicate) (body_plain program typed f.predicate)) (λ body plain.
       evaluating_quiet (unless_kept (not (is_positive q)) (fails_kept sc f.place kind.Amount) (any_kept q)) (λ q v.

@@ -37,7 +37,7 @@ on-then (ended e) go choices = on-evaluating e go choices
 on-then (takes es next) go [] = refl
 on-then (takes es next) go (c ∷ choices) = ap (since es) (on-then (next c) go choices) ∙ sym (then-since es (on (next c) choices) (λ x. on (go x)))
 
-short-since : {X : Type 0} (es : List Event) (r : Ran X) → is_short (since es r) ≡ is_short r
+pub short-since : {X : Type 0} (es : List Event) (r : Ran X) → is_short (since es r) ≡ is_short r
 short-since es (ran fs (Goes x) left) = refl
 short-since es (ran fs (Fails l) left) = refl
 short-since es (ran fs Blocked left) = refl

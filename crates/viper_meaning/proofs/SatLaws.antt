@@ -26,26 +26,27 @@ use Rattle.viper_meaning.specs.ComparedRuns.{is_over}
 use Rattle.viper_meaning.specs.Resource.{Resource, Place, Instance, held_at}
 use Rattle.viper_meaning.specs.Run.{Goes, Fails, Blocked, Short, Over, Ran, ran, on}
 use Rattle.viper_meaning.specs.Sat.{Share, total, total_from, Sat, Arrives, memo_of_state}
-use Rattle.viper_meaning.proofs.ArriveLaws.{Before, IsAmountShare, amounts_of, total_amount, arrives, arrives_at, before_end}
+use Rattle.viper_meaning.proofs.ArriveLaws.{Before, amounts_of, total_amount, arrives, arrives_at, before_end}
 use Rattle.viper_meaning.proofs.HeldLaws.{IsHeld, empty_whole, empty_holds_none}
 use Rattle.viper_meaning.proofs.HeldSignLaws.{nonnegative_from_held}
 use Rattle.viper_meaning.proofs.NearLaws.{IsFull}
 use Rattle.viper_meaning.proofs.RunBoundLaws.{small_run, produce_bounded}
+use Rattle.viper_meaning.proofs.UnderLaws.{IsAmountShare}
 
-reduced_heap : (l : Layout) (s : State) → FitsState l s → All (IsReduced nat_cmp value_eq) s.heap
+pub reduced_heap : (l : Layout) (s : State) → FitsState l s → All (IsReduced nat_cmp value_eq) s.heap
 reduced_heap l s h = All-paired FitsHeap (IsReduced nat_cmp value_eq) (λ u m i. i.reduced) l.fields s.heap h.heap
 
-reduced_content : (l : Layout) (s : State) → FitsState l s → All (IsReduced key_cmp same_content) s.content
+pub reduced_content : (l : Layout) (s : State) → FitsState l s → All (IsReduced key_cmp same_content) s.content
 reduced_content l s h = All-paired FitsContents (IsReduced key_cmp same_content) (λ us m i. i.reduced) l.keys s.content h.content
 
-held_masks : (l : Layout) (s : State) → FitsState l s → All (IsHeld nat_cmp) s.mask
+pub held_masks : (l : Layout) (s : State) → FitsState l s → All (IsHeld nat_cmp) s.mask
 held_masks l s h = All-paired FitsMask (IsHeld nat_cmp) (λ u m i. record { default = i.default; reduced = i.reduced }) l.fields s.mask h.mask
 
-held_amounts : (l : Layout) (s : State) → FitsState l s → All (IsHeld key_cmp) s.amount
+pub held_amounts : (l : Layout) (s : State) → FitsState l s → All (IsHeld key_cmp) s.amount
 held_amounts l s h = All-paired FitsAmounts (IsHeld key_cmp) (λ us m i. record { default = i.default; reduced = i.reduced }) l.keys s.amount h.amount
 
 -- a state in which a sum of amounts is held of each resource
-full_state : (l : Layout) (s : State) (shares : List Share) → FitsState l s → All IsAmountShare shares → ((x : Resource) (q : Fraction) → held_at s x ≡ Some q → q ≡ total x shares) → IsFull s
+pub full_state : (l : Layout) (s : State) (shares : List Share) → FitsState l s → All IsAmountShare shares → ((x : Resource) (q : Fraction) → held_at s x ≡ Some q → q ≡ total x shares) → IsFull s
 full_state l s shares h amounts held = record {
   whole = record {
     proper = state_proper l s h;
@@ -58,7 +59,7 @@ full_state l s shares h amounts held = record {
 }
 
 -- two states of one program hold amounts of the same resources
-held_there : {l : Layout} {s w : State} → FitsState l s → FitsState l w → (x : Resource) (q : Fraction) → held_at s x ≡ Some q → (p : Fraction) × (held_at w x ≡ Some p)
+pub held_there : {l : Layout} {s w : State} → FitsState l s → FitsState l w → (x : Resource) (q : Fraction) → held_at s x ≡ Some q → (p : Fraction) × (held_at w x ≡ Some p)
 held_there h g (Place f r) q e =
     let at = field_of_mask h f r q e in
     let there = mask_found g f r at.0 at.1.0 in

@@ -39,7 +39,7 @@ fresh_bounded h = taking_bounded fresh_in (λ x. before_bounded (event.Fresh x �
 took_bounded : {X : Type 0} (ty : Ty) {go to : Value → Run X} → ((x : Value) → IsBoundedRun (go x) (to x)) → IsBoundedRun (taking_value ty go) (taking_value ty to)
 took_bounded ty h = taking_bounded (value_in ty) (λ x. before_bounded (event.Took x ∷ []) (h x))
 
-taking_values_bounded : (tys : List Ty) (xs : List ℕ) → IsBoundedRun (taking_values tys xs) (taking_values tys xs)
+pub taking_values_bounded : (tys : List Ty) (xs : List ℕ) → IsBoundedRun (taking_values tys xs) (taking_values tys xs)
 taking_values_bounded tys [] = goes_bounded []
 taking_values_bounded tys (x ∷ xs) =
     evaluating_bounded (found_bounded (slice_get tys x)) (λ ty. took_bounded ty (λ v. then_do_bounded (taking_values_bounded tys xs) (λ vs. goes_bounded (v ∷ vs))))
@@ -55,11 +55,11 @@ forget_bounded layout s = taking_bounded (memo_in layout) (λ m. before_bounded 
 
 -- ---- clauses
 
-produce_all_bounded : (list : List t.Assertion) (sc : Scene) (s : State) → IsBoundedRun (produce_all Bounded list sc s) (produce_all Unbounded list sc s)
+pub produce_all_bounded : (list : List t.Assertion) (sc : Scene) (s : State) → IsBoundedRun (produce_all Bounded list sc s) (produce_all Unbounded list sc s)
 produce_all_bounded [] sc s = goes_bounded s
 produce_all_bounded (a ∷ list) sc s = then_do_bounded (produce_bounded a sc write s) (produce_all_bounded list sc)
 
-consume_all_bounded : (list : List t.Assertion) (start : State) (sc : Scene) (left : State) → IsBoundedRun (consume_all Bounded list start sc left) (consume_all Unbounded list start sc left)
+pub consume_all_bounded : (list : List t.Assertion) (start : State) (sc : Scene) (left : State) → IsBoundedRun (consume_all Bounded list start sc left) (consume_all Unbounded list start sc left)
 consume_all_bounded [] start sc left = goes_bounded left
 consume_all_bounded (a ∷ list) start sc left = then_do_bounded (consume_bounded a start sc write left) (consume_all_bounded list start sc)
 
@@ -109,7 +109,7 @@ created_bounded tys r [] s = goes_bounded s
 created_bounded tys r (f ∷ fs) s = evaluating_bounded (found_bounded (slice_get tys f)) (λ ty. took_bounded ty (λ v. created_bounded tys r fs (with_mask (with_value s f r v) f r write)))
 
 module _ (a : Activation) where
-  called_bounded : (targets : List ℕ) (callee : Method) (args : List Value) (at : Pos) (c : Configuration) → IsBoundedRun (called Bounded a targets callee args at c) (called Unbounded a targets callee args at c)
+  pub called_bounded : (targets : List ℕ) (callee : Method) (args : List Value) (at : Pos) (c : Configuration) → IsBoundedRun (called Bounded a targets callee args at c) (called Unbounded a targets callee args at c)
   called_bounded targets callee args at c =
       then_do_bounded (exhale_all_bounded a.program callee.preconditions c.state (with_variables args (scene a c at))) (λ s. then_do_bounded (taking_values_bounded a.vars targets) (λ vs.
       then_do_bounded (produce_all_bounded callee.postconditions (record { store = args ++ vs; old = c.state; at = at }) s) (λ w. goes_bounded (record { store = stored c.store targets vs; state = w }))))

@@ -67,36 +67,36 @@ there_is {P = P} (Some y) (x, (e, p)) = let same : x ≡ y = cc in subst P same 
 there_is None found = tt
 
 -- the values of these variables, each of its type
-abbrev ValuesOf : List Ty → List ℕ → List Value → Type 0
+abbrev pub ValuesOf : List Ty → List ℕ → List Value → Type 0
 ValuesOf us [] [] = ⊤
 ValuesOf us [] (w ∷ ws) = ⊥
 ValuesOf us (x ∷ xs) [] = ⊥
 ValuesOf us (x ∷ xs) (w ∷ ws) = ((y : Ty) × ((slice_get us x ≡ Some y) × FitsValue y w)) × ValuesOf us xs ws
 
-set_fits : (us : List Ty) (store : List Value) (x : ℕ) (y : Ty) (w : Value) → FitsStore us store → slice_get us x ≡ Some y → FitsValue y w → FitsStore us (slice_set store x w)
+pub set_fits : (us : List Ty) (store : List Value) (x : ℕ) (y : Ty) (w : Value) → FitsStore us store → slice_get us x ≡ Some y → FitsValue y w → FitsStore us (slice_set store x w)
 set_fits [] [] x y w h e f = h
 set_fits [] (a ∷ store) x y w h e f = absurd h
 set_fits (z ∷ us) [] x y w h e f = absurd h
 set_fits (z ∷ us) (a ∷ store) zero y w h e f = let same : y ≡ z = cc in (subst (λ i. FitsValue i w) same f, h.1)
 set_fits (z ∷ us) (a ∷ store) (suc x) y w h e f = (h.0, set_fits us store x y w h.1 e f)
 
-stored_fits : (us : List Ty) (store : List Value) (xs : List ℕ) (ws : List Value) → FitsStore us store → ValuesOf us xs ws → FitsStore us (stored store xs ws)
+pub stored_fits : (us : List Ty) (store : List Value) (xs : List ℕ) (ws : List Value) → FitsStore us store → ValuesOf us xs ws → FitsStore us (stored store xs ws)
 stored_fits us store [] [] h g = h
 stored_fits us store [] (w ∷ ws) h g = absurd g
 stored_fits us store (x ∷ xs) [] h g = absurd g
 stored_fits us store (x ∷ xs) (w ∷ ws) h g = stored_fits us (slice_set store x w) xs ws (set_fits us store x g.0.0 w h g.0.1.0 g.0.1.1) g.1
 
-both_fit : (us ys : List Ty) (vs ws : List Value) → FitsStore us vs → FitsStore ys ws → FitsStore (us ++ ys) (vs ++ ws)
+pub both_fit : (us ys : List Ty) (vs ws : List Value) → FitsStore us vs → FitsStore ys ws → FitsStore (us ++ ys) (vs ++ ws)
 both_fit [] ys [] ws h g = g
 both_fit [] ys (w ∷ vs) ws h g = absurd h
 both_fit (x ∷ us) ys [] ws h g = absurd h
 both_fit (x ∷ us) ys (w ∷ vs) ws h g = (h.0, both_fit us ys vs ws h.1 g)
 
-defaults_fit : (us : List Ty) → FitsStore us (map default_of us)
+pub defaults_fit : (us : List Ty) → FitsStore us (map default_of us)
 defaults_fit [] = tt
 defaults_fit (x ∷ us) = (FitsValue-default x, defaults_fit us)
 
-take_both : (n m : ℕ) (us : List Ty) → take n us ++ take m (drop n us) ≡ take (n + m) us
+pub take_both : (n m : ℕ) (us : List Ty) → take n us ++ take m (drop n us) ≡ take (n + m) us
 take_both zero m us = let same : m ≡ 0 + m = omega arith in ap (λ n. take n us) same
 take_both (suc n) zero [] = let same : suc (n + 0) ≡ suc n + 0 = omega arith in ap (λ i. take i []) same
 take_both (suc n) (suc m) [] = let same : suc (n + suc m) ≡ suc n + suc m = omega arith in ap (λ i. take i []) same
@@ -137,7 +137,7 @@ write_reduced : IsReduced write
 write_reduced = IsReduced-whole (pos 1)
 
 module _ (l : Layout) where
-  abbrev GoesTo : {X : Type 0} → (X → Type 0) → Run X → Type 0
+  abbrev pub GoesTo : {X : Type 0} → (X → Type 0) → Run X → Type 0
   GoesTo P r = KeepsRun (FitsEvent l) (FitsChoice l) P r
 
   one_event : (e : Event) → FitsEvent l e → All (FitsEvent l) (e ∷ [])
@@ -160,7 +160,7 @@ module _ (l : Layout) where
   took_fits : {X : Type 0} {P : X → Type 0} (y : Ty) {go : Value → Run X} → ((w : Value) → FitsValue y w → GoesTo P (go w)) → GoesTo P (taking_value y go)
   took_fits y g = taking_kept {Q = FitsValue y} (value_in y) (value_in_fits y) (λ w h. before_kept (event.Took w ∷ []) (one_event (event.Took w) h.reduced) (g w h))
 
-  taking_values_fits : (us : List Ty) (xs : List ℕ) → GoesTo (ValuesOf us xs) (taking_values us xs)
+  pub taking_values_fits : (us : List Ty) (xs : List ℕ) → GoesTo (ValuesOf us xs) (taking_values us xs)
   taking_values_fits us [] = at_end (is_kept tt)
   taking_values_fits us (x ∷ xs) =
       evaluating_kept (found_kept {P = λ y. slice_get us x ≡ Some y} (slice_get us x) (itself (slice_get us x))) (λ y e. took_fits y (λ w i.
@@ -388,7 +388,7 @@ module _ (b : Bound) (program : Program) (formed : IsFormed program) where
   run_method_fits k m None old c there i f h = check_fits k m old c.store there f h.store
   run_method_fits k m (Some body) old c there i f h = branch_fits program.layout (λ runs. if_run_kept runs (run_body_fits k m body old c there i f h) (check_fits k m old c.store there f h.store))
 
-  first_fits : (m : Method) (given : List Value) → FitsStore (take (m.params + m.returns) m.vars) given → FitsStore m.vars (first_store m given)
+  pub first_fits : (m : Method) (given : List Value) → FitsStore (take (m.params + m.returns) m.vars) given → FitsStore m.vars (first_store m given)
   first_fits m given h =
       let n = m.params + m.returns in
       subst (λ us. FitsStore us (first_store m given)) (take-append-drop n m.vars) (both_fit (take n m.vars) (drop n m.vars) given (map default_of (drop n m.vars)) h (defaults_fit (drop n m.vars)))

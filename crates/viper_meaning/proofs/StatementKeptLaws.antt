@@ -60,7 +60,7 @@ pub record IsClosedContent (b : Bound) (V : Value → Type 0) (C D : Content →
   pub small : (c : Content) → IfBounded b (is_small c ≡ true) → D c → C c
 
 -- a list with another item at a number
-All-with : {X : Type 0} (P : X → Type 0) (xs : List X) (n : ℕ) (x : X) → All P xs → P x → All P (slice_set xs n x)
+pub All-with : {X : Type 0} (P : X → Type 0) (xs : List X) (n : ℕ) (x : X) → All P xs → P x → All P (slice_set xs n x)
 All-with P [] n x h p = All-nil P
 All-with P (y ∷ xs) zero x h p = All-cons P x xs p (All-tail P y xs h)
 All-with P (y ∷ xs) (suc n) x h p = All-cons P y (slice_set xs n x) (All-head P y xs h) (All-with P xs n x (All-tail P y xs h) p)
@@ -382,10 +382,10 @@ proper_contents b = record {
   small = λ c few h. record { small = if_bounded b (small_nodes c) few; values = h };
 }
 
-proper_none : (b : Bound) → IsProperFraction b none
+pub proper_none : (b : Bound) → IsProperFraction b none
 proper_none b = record { reduced = IsReduced-whole (pos 0); within = in_bound b within_none }
 
-proper_write : (b : Bound) → IsProperFraction b write
+pub proper_write : (b : Bound) → IsProperFraction b write
 proper_write b = record { reduced = IsReduced-whole (pos 1); within = in_bound b within_write }
 
 proper_default : (b : Bound) (ty : Ty) → IsProperValue b (default_of ty)

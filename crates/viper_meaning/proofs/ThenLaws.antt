@@ -6,7 +6,7 @@ use Rattle.viper_meaning.specs.Ends as m
 use Rattle.viper_meaning.specs.Ends.{ends}
 use Rattle.viper_meaning.specs.Run.{Run, ended, takes, goes, before, then_do}
 
-before_before : {X : Type 0} (es fs : List Event) (r : Run X) → before es (before fs r) ≡ before (es ++ fs) r
+pub before_before : {X : Type 0} (es fs : List Event) (r : Run X) → before es (before fs r) ≡ before (es ++ fs) r
 before_before es fs (ended (ends gs end)) = ap (λ events. ended (ends events end)) (sym (append_assoc es fs gs))
 before_before es fs (takes gs next) = ap (λ events. takes events next) (sym (append_assoc es fs gs))
 
@@ -34,7 +34,7 @@ then_is (takes es next) = λ i. takes es (λ c. then_is (next c) i)
 pub then_same : {X Y : Type 0} (r : Run X) {f g : X → Run Y} → ((x : X) → f x ≡ g x) → then_do r f ≡ then_do r g
 then_same r h = λ i. then_do r (λ x. h x i)
 
-before_nothing : {X : Type 0} (r : Run X) → before [] r ≡ r
+pub before_nothing : {X : Type 0} (r : Run X) → before [] r ≡ r
 before_nothing (ended (ends es end)) = refl
 before_nothing (takes es next) = refl
 

@@ -59,7 +59,7 @@ keeps (failure h) = kept.failure h
 keeps (blocked h b) = kept.blocked h
 keeps (over h) = kept.over h
 
-not_blocked : {X : Type 0} {E : Event → Type 0} {P : X → Type 0} {e : Evaluated X} → Comes E ⊥ P e → IsNotBlocked e
+pub not_blocked : {X : Type 0} {E : Event → Type 0} {P : X → Type 0} {e : Evaluated X} → Comes E ⊥ P e → IsNotBlocked e
 not_blocked (with_value h p) = tt
 not_blocked (failure h) = tt
 not_blocked (blocked h b) = b
@@ -99,29 +99,29 @@ of_values o v w {l} typed e f = ap (λ x. value_type o x (type_of w)) e ∙ ap (
 -- ---- one lemma for each way to go on
 
 module _ {E : Event → Type 0} {B : Type 0} where
-  is_typed : {X : Type 0} {P : X → Type 0} {x : X} → P x → Comes E B P (is x)
+  pub is_typed : {X : Type 0} {P : X → Type 0} {x : X} → P x → Comes E B P (is x)
   is_typed p = with_value (All-nil E) p
 
-  fails_typed : {X : Type 0} {P : X → Type 0} (sc : Scene) (at : Pos) (k : Kind) → Comes E B P (fails sc at k)
+  pub fails_typed : {X : Type 0} {P : X → Type 0} (sc : Scene) (at : Pos) (k : Kind) → Comes E B P (fails sc at k)
   fails_typed sc at k = failure (All-nil E)
 
   blocks_typed : {X : Type 0} {P : X → Type 0} → B → Comes E B P blocks
   blocks_typed b = blocked (All-nil E) b
 
-  after_typed : {X : Type 0} {P : X → Type 0} (before : List Event) {e : Evaluated X} → All E before → Comes E B P e → Comes E B P (after before e)
+  pub after_typed : {X : Type 0} {P : X → Type 0} (before : List Event) {e : Evaluated X} → All E before → Comes E B P e → Comes E B P (after before e)
   after_typed before b (with_value h p) = with_value (All-append E before _ b h) p
   after_typed before b (failure h) = failure (All-append E before _ b h)
   after_typed before b (blocked h o) = blocked (All-append E before _ b h) o
   after_typed before b (over h) = over (All-append E before _ b h)
 
-  then_typed : {X Y : Type 0} {P : X → Type 0} {Q : Y → Type 0} {e : Evaluated X} {go : X → Evaluated Y} → Comes E B P e → ((x : X) → P x → Comes E B Q (go x)) → Comes E B Q (then_with e go)
+  pub then_typed : {X Y : Type 0} {P : X → Type 0} {Q : Y → Type 0} {e : Evaluated X} {go : X → Evaluated Y} → Comes E B P e → ((x : X) → P x → Comes E B Q (go x)) → Comes E B Q (then_with e go)
   then_typed (with_value h p) g = after_typed _ h (g _ p)
   then_typed (failure h) g = failure h
   then_typed (blocked h b) g = blocked h b
   then_typed (over h) g = over h
 
   -- what is there
-  there_typed : {X : Type 0} {P : X → Type 0} (o : Option X) → (x : X) × ((o ≡ Some x) × P x) → Comes E B P (found o)
+  pub there_typed : {X : Type 0} {P : X → Type 0} (o : Option X) → (x : X) × ((o ≡ Some x) × P x) → Comes E B P (found o)
   there_typed {P = P} (Some y) (x, (e, p)) = let same : x ≡ y = cc in is_typed (subst P same p)
   there_typed None (x, (e, p)) = cc
 
@@ -129,18 +129,18 @@ module _ {E : Event → Type 0} {B : Type 0} where
   found_typed b (Some x) p = is_typed p
   found_typed b None p = blocks_typed b
 
-  unless_typed : {X : Type 0} {P : X → Type 0} (c : Bool) {i e : Evaluated X} → Comes E B P i → Comes E B P e → Comes E B P (unless c i e)
+  pub unless_typed : {X : Type 0} {P : X → Type 0} (c : Bool) {i e : Evaluated X} → Comes E B P i → Comes E B P e → Comes E B P (unless c i e)
   unless_typed true h g = h
   unless_typed false h g = g
 
-  if_typed : {X : Type 0} {P : X → Type 0} (c : Bool) {i e : Evaluated X} → Comes E B P i → Comes E B P e → Comes E B P (if c then i else e)
+  pub if_typed : {X : Type 0} {P : X → Type 0} (c : Bool) {i e : Evaluated X} → Comes E B P i → Comes E B P e → Comes E B P (if c then i else e)
   if_typed true h g = h
   if_typed false h g = g
 
   recorded_typed : {X : Type 0} {P : X → Type 0} (v : Event) {e : Evaluated X} → E v → Comes E B P e → Comes E B P (recorded v e)
   recorded_typed v w h = after_typed (v ∷ []) (All-cons E v [] w (All-nil E)) h
 
-  fitting_typed : {X : Type 0} {P : X → Type 0} (b : Bound) (fits : Bool) (at : Pos) (x : X) → P x → Comes E B P (fitting b fits at x)
+  pub fitting_typed : {X : Type 0} {P : X → Type 0} (b : Bound) (fits : Bool) (at : Pos) (x : X) → P x → Comes E B P (fitting b fits at x)
   fitting_typed Unbounded fits at x p = is_typed p
   fitting_typed Bounded true at x p = is_typed p
   fitting_typed Bounded false at x p = over (All-nil E)

@@ -87,7 +87,7 @@ mask_can s h f r = by (slice_get s.mask f) (All-found CanBeMask s.mask f h)
     by (Some m) i = (i.at_most_whole r, λ e. subst (λ x. is_none (get nat_cmp m x) ≡ true) (sym e) i.nothing_of_null)
     by None i = tt
 
-empty_whole : (l : Layout) (m : Memo) → HoldsAtMostWhole (empty_state l m)
+pub empty_whole : (l : Layout) (m : Memo) → HoldsAtMostWhole (empty_state l m)
 empty_whole l m = All-replicate CanBeMask (length l.fields) (empty none) (record { reduced = IsReduced-empty exact_masks.total none; at_most_whole = λ r. refl; nothing_of_null = refl })
 
 -- ---- resources

@@ -1,7 +1,8 @@
 -- What an assertion contains in a state, and how an instance is folded and unfolded (Viper tutorial, "Predicates"). A content
 -- stands for the snapshot of an instance; the rules of contents are this project's own.
-use Rattle.std.specs.Prelude.{ℕ, Bool, not, Option, Some, None, slice_get, nat_lt, if◌then◌else◌}
+use Rattle.std.specs.Prelude.{◌+◌, ℕ, Bool, not, Option, Some, None, slice_get, nat_lt, if◌then◌else◌}
 use Rattle.std.specs.Option.{option_map}
+use Rattle.vb_base.specs.Limits.{max_content_nodes}
 use Rattle.vb_base.specs.declared.labels.Kind.TheVariants as kind
 use Rattle.vb_base.specs.declared.places.Pos.{Pos}
 use Rattle.vb_value.specs.Bound.{Bound}
@@ -39,9 +40,9 @@ content_in b (t.And x y) s sc = then_with (content_in b x s sc) (λ c. then_with
 content_in b (t.Implies e x) s sc = then_with (truth_in b e s sc) (λ holds. if holds then content_in b x s sc else is Unit)
 content_in b (t.ChooseAssertion e x y) s sc = then_with (truth_in b e s sc) (λ holds. if holds then content_in b x s sc else content_in b y s sc)
 
--- a content of a run has at most 4,096 nodes
+-- a content of a run has not too many nodes
 abbrev pub is_small : Content → Bool
-is_small c = nat_lt (nodes c) 4097
+is_small c = nat_lt (nodes c) (max_content_nodes + 1)
 
 -- ---- fold and unfold
 

@@ -17,7 +17,12 @@ pub mod Statements
 pub mod Units
 pub mod StatementLiterals
 pub mod Configurations
-pub mod Written
 pub mod Fresh
+pub mod Asked
+pub mod StillHeld
+pub mod BodyBlocked
+pub mod Named
 pub mod Produced
 pub mod HeldWhole
+pub mod Alike
+pub mod More

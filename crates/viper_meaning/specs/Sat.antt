@@ -79,6 +79,16 @@ pub record Sat (a : t.Assertion) (s : State) (sc : Scene) (amounts : List Fracti
   pub held : (x : Resource) (q : Fraction) → held_at s x ≡ Some q → q ≡ total x shares
   pub at_most_one : (x : Resource) (q : Fraction) → held_at s x ≡ Some q → is_too_much x q ≡ false
 
+-- an assertion and the clauses after it, as one conjunction
+abbrev pub conjoined : t.Assertion → List t.Assertion → t.Assertion
+conjoined a [] = a
+conjoined a (x ∷ rest) = conjoined (t.And a x) rest
+
+-- The state satisfies the clauses, which are one conjunction in their order. Where there is none, nothing is held.
+abbrev pub SatAll : List t.Assertion → State → Scene → List Fraction → Type 0
+SatAll [] s sc amounts = ((x : Resource) (q : Fraction) → held_at s x ≡ Some q → q ≡ none) × (amounts ≡ [])
+SatAll (a ∷ rest) s sc amounts = Sat (conjoined a rest) s sc amounts
+
 -- its heap and contents
 abbrev pub memo_of_state : State → Memo
 memo_of_state s = record { heap = s.heap; content = s.content }

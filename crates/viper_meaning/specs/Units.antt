@@ -15,10 +15,10 @@ use Rattle.viper_state.specs.Choice.{Choice}
 use Rattle.viper_state.specs.Event.{Event}
 use Rattle.viper_state.specs.Fits.{FitsOpening, FitsChoice}
 use Rattle.viper_state.specs.State.{State, empty_state}
-use Rattle.viper_state.specs.Run.{Opening}
+use Rattle.viper_state.specs.Run.{Opening, Scene}
 use Rattle.viper_meaning.specs.Assertions.{produce}
 use Rattle.viper_meaning.specs.Ends.{found}
-use Rattle.viper_meaning.specs.Run.{Run, evaluating, then_do, Fails, ran, on}
+use Rattle.viper_meaning.specs.Run.{Run, evaluating, then_do, Goes, Fails, ran, on}
 use Rattle.viper_meaning.specs.Statements.{Activation, Configuration, scene, produce_all, consume_all, run_block, taking_branch, taking_state, in_vain}
 
 -- ---- methods
@@ -42,13 +42,28 @@ abbrev pub run_method : Bound → Activation → Method → Option Body → Conf
 run_method b k m None c = check_postcondition b k m c.store
 run_method b k m (Some body) c = taking_branch (λ runs. if runs then run_body b k m body c else check_postcondition b k m c.store)
 
--- The precondition is produced where nothing is held. What it makes is the old state of the method.
+-- what its clauses are read in at the start, where nothing is held
+abbrev pub first_scene : Program → Method → Opening → Scene
+first_scene program m o = record { store = first_store m o.store; old = empty_state program.layout o.memo; at = m.at }
+
+-- it begins: the precondition is produced where nothing is held
+abbrev pub begin_method : Bound → Program → Method → Opening → Run State
+begin_method b program m o = produce_all b m.preconditions (first_scene program m o) (empty_state program.layout o.memo)
+
+-- The method begins in this state, from an opening that fits it: on some choices the precondition makes it.
+pub record Begins (b : Bound) (program : Program) (m : Method) (o : Opening) (s : State) : Type 0 where
+  pub opens : FitsOpening program.layout (take (m.params + m.returns) m.vars) o
+  pub choices : List Choice
+  pub fit : All (FitsChoice program.layout) choices
+  pub events : List Event
+  pub left : List Choice
+  pub goes : on (begin_method b program m o) choices ≡ ran events (Goes s) left
+
+-- the state in which it begins is its old state
 abbrev pub start_method : Bound → Program → Method → Opening → Run State
 start_method b program m o =
-    let store = first_store m o.store in
-    let start = empty_state program.layout o.memo in
-    then_do (produce_all b m.preconditions (record { store = store; old = start; at = m.at }) start) (λ s.
-    run_method b (record { program = program; vars = m.vars; old = s }) m m.body (record { store = store; state = s }))
+    then_do (begin_method b program m o) (λ s.
+    run_method b (record { program = program; vars = m.vars; old = s }) m m.body (record { store = first_store m o.store; state = s }))
 
 -- ---- predicates
 

@@ -10,6 +10,7 @@ ghost use Rattle.viper_core.specs.Formed.{IsFormed};
 ghost use Rattle.viper_core.specs.Literals.{IsWithinAssertion, IsProperAssertion};
 ghost use Rattle.viper_core.specs.Plain.{AssertionHasNoOld, AssertionOpensNothing};
 ghost use Rattle.viper_core.specs.Typing.{Context, IsAssertion};
+ghost use Rattle.viper_core.specs.Written.{HasNoWildcard};
 ghost use Rattle.viper_state.specs.Choice.{Choice};
 ghost use Rattle.viper_state.specs.Fits.{FitsMemo, FitsState, FitsScene, FitsChoice, FitsEvent};
 ghost use Rattle.viper_state.specs.State.{Key, Memo, State, value_at, mask_at, content_at, amount_at};
@@ -22,7 +23,6 @@ ghost use Rattle.viper_meaning.specs.KeptRuns.{KeepsRun};
 ghost use Rattle.viper_meaning.specs.Assertions.{produce, consume};
 ghost use Rattle.viper_meaning.specs.Contents.{content_in};
 ghost use Rattle.viper_meaning.specs.Ends.{Evaluated, events_of};
-ghost use Rattle.viper_meaning.specs.Written.{HasNoWildcard};
 ghost use Rattle.viper_meaning.specs.Variables.{AgreeOnAssertion};
 ghost use Rattle.viper_meaning.specs.Forgotten.{forget, forgotten, with_memo};
 

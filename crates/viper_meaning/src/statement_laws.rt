@@ -15,6 +15,7 @@ ghost use Rattle.viper_core.specs.Program.{Program};
 ghost use Rattle.viper_core.specs.Scope.{Scope};
 ghost use Rattle.viper_core.specs.Stmt.{Stmt, Stmts, FoldStmt, Fold, Unfold, next};
 ghost use Rattle.viper_core.specs.Typing.{Context, Frame, IsFold, IsStmt, AreStmts};
+ghost use Rattle.viper_core.specs.Written.{HasNoWildcard};
 ghost use Rattle.viper_state.specs.Choice.{Choice};
 ghost use Rattle.viper_state.specs.Event.{Event, Split, Leaf};
 ghost use Rattle.viper_state.specs.Fits.{FitsState, FitsScene, FitsChoice, FitsEvent, HasMaps, MemoHasMaps};
@@ -38,7 +39,6 @@ ghost use Rattle.viper_meaning.specs.StatementLiterals.{IsWithinStmt, AreWithinS
 ghost use Rattle.viper_meaning.specs.Statements.{Activation, Configuration, scene, is_fresh, produce_all, consume_all, run_stmt, run_block};
 ghost use Rattle.viper_meaning.specs.Units.{unit_run, Opens};
 ghost use Rattle.viper_meaning.specs.Value.{values, perm_in, opened};
-ghost use Rattle.viper_meaning.specs.Written.{HasNoWildcard};
 
 /// The literals of a formed program are within the bound, and proper with the bound and without it.
 pub fn the_literals_of_a_program_are_within_the_bound()

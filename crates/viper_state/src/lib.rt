@@ -5,6 +5,7 @@
 
 mod copies;
 pub mod laws;
+pub mod layout_laws;
 mod places;
 mod runs;
 mod states;
