@@ -16,7 +16,7 @@ ghost use Rattle.viper_meaning.specs.Value.{value, opened};
 ghost use Rattle.viper_eval.specs.Answers.{Answers, end_of, goes_with};
 
 use crate::answers::{Evaluated, Halt, Opening1, Stop};
-use crate::readings::{evaluate, open};
+use crate::readings::{eval_in, open_in};
 use crate::scenes::SceneRef;
 use std::alloc::Global;
 use vb_base::Memory;
@@ -76,7 +76,7 @@ pub fn eval_open(
         (value Bounded (expr_of e.now) (state_of now.now) (scene_of scene.now)) ≡ m.ends (feed_of feed.new).events (end_of v)) }
     ensures no_choice { (feed_of feed.new).left ≡ (feed_of feed.old).left }
 {
-    evaluated(evaluate(alloc, e, now, SceneRef::of(scene), feed))
+    evaluated(eval_in(alloc, e, now, SceneRef::of(scene), feed))
 }
 
 /// The same without the events. An expression without `unfolding` records none.
@@ -122,7 +122,7 @@ pub fn open_body(
         ≡ m.ends (feed_of feed.new).events (goes_with (state_of state.new) o)) }
     ensures no_choice { (feed_of feed.new).left ≡ (feed_of feed.old).left }
 {
-    opening(open(
+    opening(open_in(
         alloc,
         body,
         content,

@@ -13,6 +13,6 @@ pub use calls::{eval, eval_open, open_body};
 pub use operators::{assumed, failure, fitted, found};
 pub use places::{Instance, Share, added, fill_held, key_of, take};
 pub use readings::{
-    amount_of, evaluate, evaluate_all, key_in, open, permission_of, reference_of, truth_of,
+    amount_of, eval_all, eval_in, key_in, open_in, permission_of, reference_of, truth_of,
 };
 pub use scenes::SceneRef;

@@ -1,9 +1,9 @@
 // The values of operators.
-ghost use Rattle.std.specs.Prelude.{◌≡◌, ℤ, Bool, Option, pos, neg_ℤ, not};
+ghost use Rattle.std.specs.Prelude.{◌≡◌, ℤ, Bool, Option, pos, neg_ℤ};
 ghost use Rattle.std.specs.Ordering.{int_eq};
 ghost use Rattle.std.specs.Int.{int_div_euclid, int_rem_euclid};
 ghost use Rattle.vb_value.specs.Bound.{IsWithin, is_within, value_if};
-ghost use Rattle.vb_value.specs.Fraction.{Fraction, whole, IsWithinFraction, product};
+ghost use Rattle.vb_value.specs.Fraction.{Fraction, whole, product};
 ghost use Rattle.vb_value.specs.Value.{IsWithinValue};
 ghost use Rattle.vb_value.specs.declared.values.Value.TheVariants as value;
 ghost use Rattle.vb_value.specs.Bound.{Bounded};

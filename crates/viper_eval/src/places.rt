@@ -249,6 +249,7 @@ pub(crate) fn fill_place(
 
 /// An instance takes the content where none was held. Else it must have it.
 fn contain(
+    alloc: Global,
     state: &mut State,
     instance: &Instance,
     content: &Content,
@@ -259,7 +260,7 @@ fn contain(
 {
     if Frac::is_none(held) {
         let key = instance.key.clone()?;
-        state.set_content(instance.predicate, key, content.copy()?)?;
+        state.set_content(instance.predicate, key, content.copy(alloc)?)?;
         return Ok(());
     }
     let old = found(state.content_at(instance.predicate, &instance.key))?;
@@ -268,6 +269,7 @@ fn contain(
 
 /// Fills an instance by an amount that is positive.
 pub fn fill_held(
+    alloc: Global,
     state: &mut State,
     instance: Instance,
     share: Share,
@@ -277,7 +279,7 @@ pub fn fill_held(
         (p.fill_held Bounded share.scale instance.predicate instance.key share.amount (content_of content.now) share.at (state_of state.old)) [] result }
 {
     let held = found(state.amount_at(instance.predicate, &instance.key))?;
-    contain(state, &instance, content, held)?;
+    contain(alloc, state, &instance, content, held)?;
     let all = added(held, share.scale, share.amount, share.at)?;
     state.set_amount(instance.predicate, instance.key, all)?;
     Ok(())
@@ -285,6 +287,7 @@ pub fn fill_held(
 
 /// Fills an instance from a content.
 pub(crate) fn fill_instance(
+    alloc: Global,
     scene: SceneRef,
     state: &mut State,
     instance: Instance,
@@ -300,11 +303,12 @@ pub(crate) fn fill_instance(
     if Frac::is_none(share.amount) {
         return Ok(unit(content)?);
     }
-    fill_held(state, instance, share, content)
+    fill_held(alloc, state, instance, share, content)
 }
 
 /// The parts of a content that is a pair, which are recorded.
 pub(crate) fn split<'a>(
+    alloc: Global,
     content: &'a Content,
     feed: &mut Feed,
 ) -> Result<(&'a Content, &'a Content), Halt>
@@ -314,7 +318,7 @@ pub(crate) fn split<'a>(
 {
     match content {
         Content::Pair(left, right) => {
-            feed.record(Event::Split(left.copy()?, right.copy()?))?;
+            feed.record(Event::Split(left.copy(alloc)?, right.copy(alloc)?))?;
             Ok((left, right))
         }
         Content::Unit | Content::Leaf(_) => Err(Halt::Stops(Stop::Blocked)),

@@ -36,7 +36,7 @@ fn variable(scene: SceneRef, number: u32) -> Result<Value, Stop>
 
 /// The value of an expression.
 #[cycle(readings)]
-pub fn evaluate(
+pub fn eval_in(
     alloc: Global,
     e: &Expr,
     now: &State,
@@ -56,28 +56,28 @@ pub fn evaluate(
         Expr::Bool(truth) => Ok(Value::Bool(*truth)),
         Expr::Null => Ok(Value::Ref(0)),
         Expr::Part(amount) => Ok(Value::Perm(*amount)),
-        Expr::Neg(a) => Ok(negative(evaluate(alloc, a, now, scene, feed)?)?),
-        Expr::Not(a) => Ok(negation(evaluate(alloc, a, now, scene, feed)?)?),
+        Expr::Neg(a) => Ok(negative(eval_in(alloc, a, now, scene, feed)?)?),
+        Expr::Not(a) => Ok(negation(eval_in(alloc, a, now, scene, feed)?)?),
         Expr::Bin(op, a, b, at) => {
-            let left = evaluate(alloc, a, now, scene, feed)?;
+            let left = eval_in(alloc, a, now, scene, feed)?;
             if let Some(answer) = settled(*op, left)? {
                 return Ok(Value::Bool(answer));
             }
-            let right = evaluate(alloc, b, now, scene, feed)?;
+            let right = eval_in(alloc, b, now, scene, feed)?;
             Ok(combined(scene, *op, left, right, *at)?)
         }
         Expr::Choose(a, b, c) => {
             if truth_of(alloc, a, now, scene, feed)? {
-                evaluate(alloc, b, now, scene, feed)
+                eval_in(alloc, b, now, scene, feed)
             } else {
-                evaluate(alloc, c, now, scene, feed)
+                eval_in(alloc, c, now, scene, feed)
             }
         }
         Expr::Field(a, field, at) => {
             let receiver = reference_of(alloc, a, now, scene, feed)?;
             Ok(read_field(scene, now, *field, *at, receiver)?)
         }
-        Expr::Old(a) => evaluate(alloc, a, scene.old, scene, feed),
+        Expr::Old(a) => eval_in(alloc, a, scene.old, scene, feed),
         Expr::Unfolding(opened) => unfold(alloc, opened, now, scene, feed),
     }
 }
@@ -99,7 +99,7 @@ pub fn truth_of(
         (feed_of feed.new).events result }
     ensures left { (feed_of feed.new).left ≡ (feed_of feed.old).left }
 {
-    Ok(truth(evaluate(alloc, e, now, scene, feed)?)?)
+    Ok(truth(eval_in(alloc, e, now, scene, feed)?)?)
 }
 
 /// The value of an expression that is a Ref.
@@ -119,7 +119,7 @@ pub fn reference_of(
         (feed_of feed.new).events result }
     ensures left { (feed_of feed.new).left ≡ (feed_of feed.old).left }
 {
-    Ok(reference(evaluate(alloc, e, now, scene, feed)?)?)
+    Ok(reference(eval_in(alloc, e, now, scene, feed)?)?)
 }
 
 /// The value of an expression that is a Perm.
@@ -139,7 +139,7 @@ pub fn permission_of(
         (feed_of feed.new).events result }
     ensures left { (feed_of feed.new).left ≡ (feed_of feed.old).left }
 {
-    Ok(permission(evaluate(alloc, e, now, scene, feed)?)?)
+    Ok(permission(eval_in(alloc, e, now, scene, feed)?)?)
 }
 
 /// An amount, which is no `wildcard` in the body of a predicate.
@@ -167,7 +167,7 @@ pub fn amount_of(
 
 /// The values of arguments, from left to right.
 #[cycle(readings)]
-pub fn evaluate_all(
+pub fn eval_all(
     alloc: Global,
     es: &[Expr],
     now: &State,
@@ -183,7 +183,7 @@ pub fn evaluate_all(
 {
     let mut values = Vec::with_capacity(alloc, es.len())?;
     for e in es {
-        values.push(evaluate(alloc, e, now, scene, feed)?)?;
+        values.push(eval_in(alloc, e, now, scene, feed)?)?;
     }
     Ok(values)
 }
@@ -204,7 +204,7 @@ pub fn key_in(
         (m.key_in Bounded (exprs_of args.now) (state_of now.now) (lent scene.entry)) (feed_of feed.new).events result }
     ensures left { (feed_of feed.new).left ≡ (feed_of feed.old).left }
 {
-    let values = evaluate_all(alloc, args, now, scene, feed)?;
+    let values = eval_all(alloc, args, now, scene, feed)?;
     key_of(alloc, &values)
 }
 
@@ -224,7 +224,7 @@ fn unfold(
         (m.unfolded Bounded (opened_of opened.now) (state_of now.now) (lent scene.entry)) (feed_of feed.new).events result }
     ensures left { (feed_of feed.new).left ≡ (feed_of feed.old).left }
 {
-    let args = evaluate_all(alloc, &opened.args, now, scene, feed)?;
+    let args = eval_all(alloc, &opened.args, now, scene, feed)?;
     let amount = permission_of(alloc, &opened.amount, now, scene, feed)?;
     unfold_at(alloc, opened, &args, amount, now, scene, feed)
 }
@@ -256,7 +256,7 @@ fn unfold_at(
     take(scene, &mut copy, instance, amount, opened.place)?;
     let content = found(content)?;
     let inside = scene.with_variables(args);
-    open(
+    open_in(
         alloc,
         &opened.body,
         content,
@@ -265,12 +265,12 @@ fn unfold_at(
         amount,
         feed,
     )?;
-    evaluate(alloc, &opened.inner, &copy, scene, feed)
+    eval_in(alloc, &opened.inner, &copy, scene, feed)
 }
 
 /// Produces an assertion from a content, its amounts times a scale.
 #[cycle(readings)]
-pub fn open(
+pub fn open_in(
     alloc: Global,
     body: &Assertion,
     content: &Content,
@@ -305,25 +305,25 @@ pub fn open(
             let amount = amount_of(alloc, amount, state, scene, feed)?;
             let instance = Instance::of(*predicate, key);
             let share = Share::of(amount, scale, *at);
-            fill_instance(scene, state, instance, share, content)
+            fill_instance(alloc, scene, state, instance, share, content)
         }
         Assertion::And(a, b) => {
-            let (left, right) = split(content, feed)?;
-            open(alloc, a, left, state, scene, scale, feed)?;
-            open(alloc, b, right, state, scene, scale, feed)
+            let (left, right) = split(alloc, content, feed)?;
+            open_in(alloc, a, left, state, scene, scale, feed)?;
+            open_in(alloc, b, right, state, scene, scale, feed)
         }
         Assertion::Implies(e, a) => {
             if truth_of(alloc, e, state, scene, feed)? {
-                open(alloc, a, content, state, scene, scale, feed)
+                open_in(alloc, a, content, state, scene, scale, feed)
             } else {
                 Ok(unit(content)?)
             }
         }
         Assertion::Choose(e, a, b) => {
             if truth_of(alloc, e, state, scene, feed)? {
-                open(alloc, a, content, state, scene, scale, feed)
+                open_in(alloc, a, content, state, scene, scale, feed)
             } else {
-                open(alloc, b, content, state, scene, scale, feed)
+                open_in(alloc, b, content, state, scene, scale, feed)
             }
         }
     }

@@ -29,7 +29,7 @@ use viper_state::{Feed, Scene, State};
 #[derive(Drop)]
 pub enum Contained {
     Is(Content),
-    /// It has more than 4,096 nodes.
+    /// It has more than `MAX_CONTENT_NODES` nodes.
     Over,
 }
 

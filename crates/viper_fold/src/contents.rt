@@ -1,6 +1,7 @@
 // What an assertion contains in a state.
 ghost use Rattle.std.specs.Prelude.{◌≡◌, ◌≤◌, [], IfOk};
 ghost use Rattle.std.specs.Option.{option_map};
+ghost use Rattle.vb_base.specs.Limits.{max_content_nodes};
 ghost use Rattle.vb_value.specs.Bound.{Bounded};
 ghost use Rattle.vb_value.specs.Content as tree;
 ghost use Rattle.vb_value.specs.View.{content_of};
@@ -27,7 +28,7 @@ use viper_state::{Feed, State};
 /// What a place contains where so much of it is held.
 fn part_of_place(now: &State, field: u32, reference: u64, amount: Frac) -> Result<Content, Halt>
     ensures content { Answers content_of [] (part_of (state_of now.now) (resource.Place field reference) amount) [] result }
-    ensures small { IfOk result (λ c. tree.nodes (content_of c) ≤ 4096) }
+    ensures small { IfOk result (λ c. tree.nodes (content_of c) ≤ max_content_nodes) }
 {
     if Frac::is_positive(amount) {
         Ok(Content::Leaf(found(now.value_at(field, reference))?))
@@ -37,13 +38,19 @@ fn part_of_place(now: &State, field: u32, reference: u64, amount: Frac) -> Resul
 }
 
 /// What an instance contains where so much of it is held.
-fn part_of_instance(now: &State, predicate: u32, key: &Key, amount: Frac) -> Result<Content, Halt>
+fn part_of_instance(
+    alloc: Global,
+    now: &State,
+    predicate: u32,
+    key: &Key,
+    amount: Frac,
+) -> Result<Content, Halt>
     requires now_within { IsWithinState (state_of now.now) }
     ensures content { Answers content_of [] (part_of (state_of now.now) (resource.Instance predicate key.now) amount) [] result }
-    ensures small { IfOk result (λ c. tree.nodes (content_of c) ≤ 4096) }
+    ensures small { IfOk result (λ c. tree.nodes (content_of c) ≤ max_content_nodes) }
 {
     if Frac::is_positive(amount) {
-        Ok(found(now.content_at(predicate, key))?.copy()?)
+        Ok(found(now.content_at(predicate, key))?.copy(alloc)?)
     } else {
         Ok(Content::Unit)
     }
@@ -67,7 +74,7 @@ fn content_of_place(
         (then_with (place_in Bounded (expr_of receiver.now) field (state_of now.now) (lent scene.entry))
         (m.content_by Bounded (amt_of amount.now) (state_of now.now) (lent scene.entry))) (feed_of feed.new).events result }
     ensures left { (feed_of feed.new).left ≡ (feed_of feed.old).left }
-    ensures small { IfOk result (λ c. tree.nodes (content_of c) ≤ 4096) }
+    ensures small { IfOk result (λ c. tree.nodes (content_of c) ≤ max_content_nodes) }
 {
     let reference = reference_of(alloc, receiver, now, scene, feed)?;
     let amount = amount_of(alloc, amount, now, scene, feed)?;
@@ -92,14 +99,14 @@ fn content_of_instance(
         (then_with (instance_in Bounded predicate (exprs_of args.now) (state_of now.now) (lent scene.entry))
         (m.content_by Bounded (amt_of amount.now) (state_of now.now) (lent scene.entry))) (feed_of feed.new).events result }
     ensures left { (feed_of feed.new).left ≡ (feed_of feed.old).left }
-    ensures small { IfOk result (λ c. tree.nodes (content_of c) ≤ 4096) }
+    ensures small { IfOk result (λ c. tree.nodes (content_of c) ≤ max_content_nodes) }
 {
     let key = key_in(alloc, args, now, scene, feed)?;
     let amount = amount_of(alloc, amount, now, scene, feed)?;
-    part_of_instance(now, predicate, &key, amount)
+    part_of_instance(alloc, now, predicate, &key, amount)
 }
 
-/// The pair of two contents, if it has at most 4,096 nodes.
+/// The pair of two contents, if it is small.
 fn pair_of(alloc: Global, left: Content, right: Content) -> Result<Option<Content>, Halt>
     ensures { Answers (option_map content_of) [] (is (if_small (tree.Pair (content_of left) (content_of right)))) [] result }
 {
@@ -128,7 +135,7 @@ fn joined(
     }
 }
 
-/// What an assertion contains, if it has at most 4,096 nodes. Each expression is read in the state.
+/// What an assertion contains, if it is small. Each expression is read in the state.
 pub(crate) fn content_in(
     alloc: Global,
     assertion: &Assertion,
@@ -186,7 +193,7 @@ fn small(content: Option<Content>, at: Pos) -> Result<Content, Halt>
     }
 }
 
-/// What an assertion contains. More than 4,096 nodes end at this place.
+/// What an assertion contains. One that is too large ends at this place.
 pub(crate) fn small_content(
     alloc: Global,
     assertion: &Assertion,

@@ -21,10 +21,9 @@ use vb_base::{Kind, Pos};
 use vb_value::{Frac, Value};
 use viper_core::{Assertion, FoldStmt, Program};
 use viper_eval::{
-    Instance, SceneRef, Share, Stop, evaluate_all, failure, fill_held, found, key_of, permission_of,
+    Instance, SceneRef, Share, Stop, eval_all, failure, fill_held, found, key_of, permission_of,
 };
-use viper_inhale::Halt;
-use viper_inhale::consuming::consume;
+use viper_inhale::{Halt, consume_in};
 use viper_state::{Feed, State, copy_state};
 
 /// The body of a predicate that has one.
@@ -69,7 +68,7 @@ fn close(
     ensures left { (feed_of feed.new).left ≡ (feed_of feed.old).left }
 {
     let content = small_content(alloc, body, start, scene, share.at, feed)?;
-    fill_held(left, instance, share, &content)
+    fill_held(alloc, left, instance, share, &content)
 }
 
 /// Folds an instance whose body is known. The variables of the scene are the arguments.
@@ -91,7 +90,7 @@ fn fold_by(
         (feed_of feed.new) result }
 {
     let start = copy_state(alloc, state)?;
-    consume(alloc, body, &start, scene, share.amount, state, feed)?;
+    consume_in(alloc, body, &start, state, scene, share.amount, feed)?;
     Ok(close(alloc, body, &start, scene, instance, share, state, feed)?)
 }
 
@@ -145,7 +144,7 @@ pub fn fold_in(
     ensures { Does (λ _. state_of state.new) (feed_of feed.old)
         (m.fold_instance Bounded (program_of program.now) (fold_of s.now) (state_of state.old) (lent scene.entry)) (feed_of feed.new) result }
 {
-    let args = evaluate_all(alloc, &s.args, state, scene, feed)?;
+    let args = eval_all(alloc, &s.args, state, scene, feed)?;
     let amount = permission_of(alloc, &s.amount, state, scene, feed)?;
     fold_at(alloc, program, s, &args, amount, state, scene, feed)
 }

@@ -22,16 +22,21 @@ use crate::folding::body_of;
 use std::alloc::Global;
 use vb_value::{Content, Frac, Key, Memory, Value};
 use viper_core::{FoldStmt, Program};
-use viper_eval::{Instance, SceneRef, evaluate_all, found, key_of, open, permission_of, take};
+use viper_eval::{Instance, SceneRef, eval_all, found, key_of, open_in, permission_of, take};
 use viper_inhale::Halt;
 use viper_state::{Feed, State};
 
 /// What an instance contains, shared with the state.
-fn content_at(state: &State, predicate: u32, key: &Key) -> Result<Option<Content>, Memory>
+fn content_at(
+    alloc: Global,
+    state: &State,
+    predicate: u32,
+    key: &Key,
+) -> Result<Option<Content>, Memory>
     ensures { IfOk result (λ c. option_map content_of c ≡ content_at (state_of state.now) predicate key.now) }
 {
     match state.content_at(predicate, key) {
-        Some(content) => Ok(Some(content.copy()?)),
+        Some(content) => Ok(Some(content.copy(alloc)?)),
         None => Ok(None),
     }
 }
@@ -57,12 +62,12 @@ fn unfold_at(
 {
     let key = key_of(alloc, args)?;
     let body = found(body_of(program, s.predicate))?;
-    let content = content_at(state, s.predicate, &key)?;
+    let content = content_at(alloc, state, s.predicate, &key)?;
     let instance = Instance::of(s.predicate, key);
     take(scene, state, instance, amount, s.place)?;
     let content = found(content)?;
     let inside = scene.with_variables(args);
-    open(alloc, body, &content, state, inside, amount, feed)
+    open_in(alloc, body, &content, state, inside, amount, feed)
 }
 
 /// Unfolds an instance: takes it, and produces the body of the predicate from what the instance contains, each amount in it
@@ -88,7 +93,7 @@ pub fn unfold_in(
     ensures { Does (λ _. state_of state.new) (feed_of feed.old)
         (run.ended (m.unfold_instance Bounded (program_of program.now) (fold_of s.now) (state_of state.old) (lent scene.entry))) (feed_of feed.new) result }
 {
-    let args = evaluate_all(alloc, &s.args, state, scene, feed)?;
+    let args = eval_all(alloc, &s.args, state, scene, feed)?;
     let amount = permission_of(alloc, &s.amount, state, scene, feed)?;
     Ok(unfold_at(alloc, program, s, &args, amount, state, scene, feed)?)
 }

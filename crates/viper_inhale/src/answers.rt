@@ -1,6 +1,5 @@
 // How the steps of a run end.
 ghost use Rattle.std.specs.Prelude.{◌≡◌};
-ghost use Rattle.viper_eval.specs.declared.answers.Halt.TheVariants as evaluation;
 ghost use Rattle.viper_inhale.specs.Answers.{run_stop, run_halt};
 ghost use Rattle.viper_inhale.specs.declared.answers.Halt.TheVariants as halt;
 

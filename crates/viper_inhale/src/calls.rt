@@ -16,7 +16,9 @@ ghost use Rattle.viper_meaning.specs.Forgotten as forgotten;
 ghost use Rattle.viper_inhale.specs.Answers.{Does, run_of, step_of};
 
 use crate::answers::{Halt, Step, Stop};
-use crate::{consuming, forgetting, producing};
+use crate::consuming::consume_in;
+use crate::forgetting::forget_in;
+use crate::producing::produce_in;
 use std::alloc::Global;
 use vb_base::Memory;
 use vb_value::Frac;
@@ -64,7 +66,7 @@ pub fn consume(
         ≡ run.ran (feed_of feed.new).events (step_of (state_of left.new) step) (feed_of feed.new).left) }
 {
     let scene = SceneRef::of(scene);
-    step(consuming::consume(alloc, a, start, scene, scale, left, feed))
+    step(consume_in(alloc, a, start, left, scene, scale, feed))
 }
 
 /// Produces an assertion: each expression is read in the state that the earlier parts have made, and permission is added, each
@@ -92,7 +94,7 @@ pub fn produce(
         ≡ run.ran (feed_of feed.new).events (step_of (state_of state.new) step) (feed_of feed.new).left) }
 {
     let scene = SceneRef::of(scene);
-    step(producing::produce(alloc, a, scene, scale, state, feed))
+    step(produce_in(alloc, a, state, scene, scale, feed))
 }
 
 /// Forgets the value of each place to which nothing is held, and what each instance contains of which nothing is held. The
@@ -105,5 +107,5 @@ pub fn forget(alloc: Global, state: &mut State, feed: &mut Feed) -> Result<Step,
         (forgotten.forget l (state_of state.old)) (feed_of feed.old)
         ≡ run.ran (feed_of feed.new).events (step_of (state_of state.new) step) (feed_of feed.new).left) }
 {
-    step(forgetting::forget(alloc, state, feed))
+    step(forget_in(alloc, state, feed))
 }

@@ -51,13 +51,13 @@ fn consume_amount(
 }
 
 /// Consumes an assertion, its amounts times a scale.
-pub fn consume(
+pub fn consume_in(
     alloc: Global,
     assertion: &Assertion,
     start: &State,
+    left: &mut State,
     scene: SceneRef,
     scale: Frac,
-    left: &mut State,
     feed: &mut Feed,
 ) -> Result<(), Halt>
     requires assertion_within { IsWithinAssertion (assertion_of assertion.now) }
@@ -85,21 +85,21 @@ pub fn consume(
             consume_amount(alloc, amount, start, scene, share, left, resource, feed)
         }
         Assertion::And(a, b) => {
-            consume(alloc, a, start, scene, scale, left, feed)?;
-            consume(alloc, b, start, scene, scale, left, feed)
+            consume_in(alloc, a, start, left, scene, scale, feed)?;
+            consume_in(alloc, b, start, left, scene, scale, feed)
         }
         Assertion::Implies(e, a) => {
             if truth_of(alloc, e, start, scene, feed)? {
-                consume(alloc, a, start, scene, scale, left, feed)
+                consume_in(alloc, a, start, left, scene, scale, feed)
             } else {
                 Ok(())
             }
         }
         Assertion::Choose(e, a, b) => {
             if truth_of(alloc, e, start, scene, feed)? {
-                consume(alloc, a, start, scene, scale, left, feed)
+                consume_in(alloc, a, start, left, scene, scale, feed)
             } else {
-                consume(alloc, b, start, scene, scale, left, feed)
+                consume_in(alloc, b, start, left, scene, scale, feed)
             }
         }
     }

@@ -41,6 +41,7 @@ fn keep_values(
 
 /// Gives new contents of a predicate the own content of each instance of which something is held.
 fn keep_contents(
+    alloc: Global,
     new: &mut Sparse<Key, Content>,
     own: &Sparse<Key, Content>,
     held: &Sparse<Key, Frac>,
@@ -50,7 +51,7 @@ fn keep_contents(
 {
     for i in 0..held.len() {
         let key = held.key_at(i);
-        let content = own.get(key).copy()?;
+        let content = own.get(key).copy(alloc)?;
         new.set(key.clone()?, content)?;
     }
     Ok(())
@@ -74,6 +75,7 @@ fn keep_heap(
 
 /// The same for the contents of all predicates.
 fn keep_all_contents(
+    alloc: Global,
     news: &mut Vec<Sparse<Key, Content>>,
     owns: &[Sparse<Key, Content>],
     helds: &[Sparse<Key, Frac>],
@@ -84,7 +86,12 @@ fn keep_all_contents(
     ensures memory { IfErr result (λ h. h ≡ halt.Memory) }
 {
     for predicate in 0..news.len().min(owns.len()).min(helds.len()) {
-        keep_contents(&mut news[predicate], &owns[predicate], &helds[predicate])?;
+        keep_contents(
+            alloc,
+            &mut news[predicate],
+            &owns[predicate],
+            &helds[predicate],
+        )?;
     }
     Ok(())
 }
@@ -111,7 +118,7 @@ fn forget_by(alloc: Global, memo: Memo, state: &mut State, feed: &mut Feed) -> R
         mut content,
     } = memo;
     keep_heap(&mut heap, &state.heap, &state.mask)?;
-    keep_all_contents(&mut content, &state.content, &state.amount)?;
+    keep_all_contents(alloc, &mut content, &state.content, &state.amount)?;
     let memo = Memo { heap, content };
     feed.record(Event::Whole(copy_memo(alloc, &memo)?))?;
     state.heap = memo.heap;
@@ -120,7 +127,7 @@ fn forget_by(alloc: Global, memo: Memo, state: &mut State, feed: &mut Feed) -> R
 }
 
 /// Forgets what is not held, by the next choice, which has to be a heap and contents.
-pub fn forget(alloc: Global, state: &mut State, feed: &mut Feed) -> Result<(), Halt>
+pub fn forget_in(alloc: Global, state: &mut State, feed: &mut Feed) -> Result<(), Halt>
     ensures { (l : Layout) → HasMaps l (state_of state.old) → All (FitsChoice l) (feed_of feed.old).left
         → Does (λ _. state_of state.new) (feed_of feed.old) (m.forget l (state_of state.old)) (feed_of feed.new) result }
 {

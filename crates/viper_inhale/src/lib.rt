@@ -4,10 +4,13 @@
 mod answers;
 mod calls;
 mod choices;
-pub mod consuming;
-pub mod forgetting;
-pub mod producing;
+mod consuming;
+mod forgetting;
+mod producing;
 mod resources;
 
 pub use answers::{Halt, Step, Stop};
 pub use calls::{consume, forget, produce, step};
+pub use consuming::consume_in;
+pub use forgetting::forget_in;
+pub use producing::produce_in;

@@ -49,12 +49,12 @@ fn produce_amount(
 }
 
 /// Produces an assertion, its amounts times a scale.
-pub fn produce(
+pub fn produce_in(
     alloc: Global,
     assertion: &Assertion,
+    state: &mut State,
     scene: SceneRef,
     scale: Frac,
-    state: &mut State,
     feed: &mut Feed,
 ) -> Result<(), Halt>
     requires assertion_within { IsWithinAssertion (assertion_of assertion.now) }
@@ -80,21 +80,21 @@ pub fn produce(
             produce_amount(alloc, amount, scene, share, state, resource, feed)
         }
         Assertion::And(a, b) => {
-            produce(alloc, a, scene, scale, state, feed)?;
-            produce(alloc, b, scene, scale, state, feed)
+            produce_in(alloc, a, state, scene, scale, feed)?;
+            produce_in(alloc, b, state, scene, scale, feed)
         }
         Assertion::Implies(e, a) => {
             if truth_of(alloc, e, state, scene, feed)? {
-                produce(alloc, a, scene, scale, state, feed)
+                produce_in(alloc, a, state, scene, scale, feed)
             } else {
                 Ok(())
             }
         }
         Assertion::Choose(e, a, b) => {
             if truth_of(alloc, e, state, scene, feed)? {
-                produce(alloc, a, scene, scale, state, feed)
+                produce_in(alloc, a, state, scene, scale, feed)
             } else {
-                produce(alloc, b, scene, scale, state, feed)
+                produce_in(alloc, b, state, scene, scale, feed)
             }
         }
     }

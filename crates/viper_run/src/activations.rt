@@ -1,5 +1,5 @@
 // Where a run stands, and what stays the same while a method runs.
-ghost use Rattle.std.specs.Prelude.{◌≡◌, map, slice_set};
+ghost use Rattle.std.specs.Prelude.{◌≡◌, slice_set};
 ghost use Rattle.viper_state.specs.View.{state_of};
 ghost use Rattle.viper_meaning.specs.Statements as m;
 ghost use Rattle.viper_eval.specs.View.{lent};

@@ -1,5 +1,5 @@
 // Calls of methods, by their contracts.
-ghost use Rattle.std.specs.Prelude.{◌≡◌, ◌++◌, All};
+ghost use Rattle.std.specs.Prelude.{All};
 ghost use Rattle.vb_value.specs.Bound.{Bounded};
 ghost use Rattle.vb_value.specs.Value.{IsWithinValue};
 ghost use Rattle.viper_core.specs.Literals.{IsWithinAssertion};

@@ -2,7 +2,7 @@
 ghost use Rattle.std.specs.Prelude.{◌≡◌, All};
 ghost use Rattle.std.specs.Option.{option_map};
 ghost use Rattle.viper_core.specs.View.{program_of};
-ghost use Rattle.viper_state.specs.Fits.{FitsMemo, FitsChoice};
+ghost use Rattle.viper_state.specs.Fits.{FitsChoice};
 ghost use Rattle.viper_state.specs.Event as event;
 ghost use Rattle.viper_state.specs.State as tree;
 ghost use Rattle.viper_state.specs.View.{choice_of, event_of, feed_of, memo_of, state_of};

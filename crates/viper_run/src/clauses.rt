@@ -15,10 +15,7 @@ use std::alloc::Global;
 use vb_value::Frac;
 use viper_core::Assertion;
 use viper_eval::SceneRef;
-use viper_inhale::Halt;
-use viper_inhale::consuming::consume;
-use viper_inhale::forgetting::forget;
-use viper_inhale::producing::produce;
+use viper_inhale::{Halt, consume_in, forget_in, produce_in};
 use viper_state::{Feed, State, copy_state};
 
 /// Produces clauses, one after the other.
@@ -37,7 +34,7 @@ pub(crate) fn produce_all(
         (m.produce_all Bounded (assertions_of clauses.now) (lent scene.entry) (state_of state.old)) (feed_of feed.new) result }
 {
     for clause in clauses {
-        produce(alloc, clause, scene, Frac::write(), state, feed)?;
+        produce_in(alloc, clause, state, scene, Frac::write(), feed)?;
     }
     Ok(())
 }
@@ -58,7 +55,7 @@ pub(crate) fn consume_all(
         (m.consume_all Bounded (assertions_of clauses.now) (state_of start.now) (lent scene.entry) (state_of left.old)) (feed_of feed.new) result }
 {
     for clause in clauses {
-        consume(alloc, clause, start, scene, Frac::write(), left, feed)?;
+        consume_in(alloc, clause, start, left, scene, Frac::write(), feed)?;
     }
     Ok(())
 }
@@ -81,7 +78,7 @@ pub(crate) fn give_up(
         (m.exhale_all Bounded q (assertions_of clauses.now) (state_of left.old) (lent scene.entry)) (feed_of feed.new) result }
 {
     consume_all(alloc, clauses, start, scene, left, feed)?;
-    forget(alloc, left, feed)
+    forget_in(alloc, left, feed)
 }
 
 /// The same, where no copy of the state is at hand.

@@ -1,5 +1,5 @@
 // The parts of a loop around its body.
-ghost use Rattle.std.specs.Prelude.{◌≡◌, All};
+ghost use Rattle.std.specs.Prelude.{All};
 ghost use Rattle.vb_value.specs.Bound.{Bounded};
 ghost use Rattle.viper_core.specs.Literals.{IsWithinAssertion, IsWithinExpr};
 ghost use Rattle.viper_core.specs.View.{assertions_of, expr_of};

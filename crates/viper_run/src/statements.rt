@@ -1,5 +1,4 @@
 // Statements, blocks and loops.
-ghost use Rattle.std.specs.Prelude.{◌≡◌};
 ghost use Rattle.vb_value.specs.Bound.{Bounded};
 ghost use Rattle.viper_core.specs.Stmt as s;
 ghost use Rattle.viper_core.specs.View.{assertions_of, expr_of, loop_of, stmt_of, stmts_of};

@@ -1,5 +1,5 @@
 // The statements in which no other statements stand.
-ghost use Rattle.std.specs.Prelude.{◌≡◌, None};
+ghost use Rattle.std.specs.Prelude.{None};
 ghost use Rattle.std.specs.Option.{option_map};
 ghost use Rattle.vb_base.specs.declared.places.Pos.{Pos as Place};
 ghost use Rattle.vb_value.specs.Bound.{Bounded};
@@ -21,12 +21,9 @@ use std::alloc::Global;
 use vb_base::Pos;
 use vb_value::{Frac, Value};
 use viper_core::{Assertion, Expr, FoldStmt};
-use viper_eval::{assumed, evaluate, evaluate_all, found, reference_of};
+use viper_eval::{assumed, eval_all, eval_in, found, reference_of};
 use viper_fold::{fold_in, unfold_in};
-use viper_inhale::Halt;
-use viper_inhale::consuming::consume;
-use viper_inhale::forgetting::forget;
-use viper_inhale::producing::produce;
+use viper_inhale::{Halt, consume_in, forget_in, produce_in};
 use viper_state::{Feed, copy_state};
 
 /// `var x: T`
@@ -62,7 +59,7 @@ pub(crate) fn assign(
         (feed_of feed.new) result }
 {
     let scene = activation.scene(&configuration.store, at);
-    let value = evaluate(alloc, e, &configuration.state, scene, feed)?;
+    let value = eval_in(alloc, e, &configuration.state, scene, feed)?;
     configuration.store.set(variable, value);
     Ok(())
 }
@@ -110,7 +107,7 @@ pub(crate) fn write(
 {
     let scene = activation.scene(&configuration.store, at);
     let reference = reference_of(alloc, e, &configuration.state, scene, feed)?;
-    let value = evaluate(alloc, d, &configuration.state, scene, feed)?;
+    let value = eval_in(alloc, d, &configuration.state, scene, feed)?;
     Ok(write_field(
         scene,
         &mut configuration.state,
@@ -166,7 +163,7 @@ pub(crate) fn call(
         (feed_of feed.new) result }
 {
     let scene = activation.scene(&configuration.store, at);
-    let args = evaluate_all(alloc, args, &configuration.state, scene, feed)?;
+    let args = eval_all(alloc, args, &configuration.state, scene, feed)?;
     let callee = found(activation.program.methods.get(method as usize))?;
     calling::call(
         alloc,
@@ -196,12 +193,12 @@ pub(crate) fn inhale(
         (feed_of feed.new) result }
 {
     let scene = activation.scene(&configuration.store, at);
-    produce(
+    produce_in(
         alloc,
         a,
+        &mut configuration.state,
         scene,
         Frac::write(),
-        &mut configuration.state,
         feed,
     )
 }
@@ -223,16 +220,16 @@ pub(crate) fn exhale(
 {
     let scene = activation.scene(&configuration.store, at);
     let start = copy_state(alloc, &configuration.state)?;
-    consume(
+    consume_in(
         alloc,
         a,
         &start,
+        &mut configuration.state,
         scene,
         Frac::write(),
-        &mut configuration.state,
         feed,
     )?;
-    forget(alloc, &mut configuration.state, feed)
+    forget_in(alloc, &mut configuration.state, feed)
 }
 
 /// `assert A`
@@ -252,13 +249,13 @@ pub(crate) fn check(
 {
     let scene = activation.scene(&configuration.store, at);
     let mut left = copy_state(alloc, &configuration.state)?;
-    consume(
+    consume_in(
         alloc,
         a,
         &configuration.state,
+        &mut left,
         scene,
         Frac::write(),
-        &mut left,
         feed,
     )
 }

@@ -31,8 +31,7 @@ use vb_base::Memory;
 use vb_value::{Frac, Value};
 use viper_core::{Assertion, Body, Method, Predicate, Program, Unit};
 use viper_eval::{SceneRef, found};
-use viper_inhale::producing::produce;
-use viper_inhale::{Halt, Stop};
+use viper_inhale::{Halt, Stop, produce_in};
 use viper_state::{Choice, Event, Feed, Opening, Outcome, State, copy_state, empty_state};
 
 /// The values of the variables at the start: those given, and defaults for the others.
@@ -212,7 +211,7 @@ fn start_predicate(
         old: &old,
         at: predicate.at,
     };
-    produce(alloc, body, scene, Frac::write(), &mut state, feed)?;
+    produce_in(alloc, body, &mut state, scene, Frac::write(), feed)?;
     Ok(state)
 }
 
@@ -311,7 +310,7 @@ fn ended(outcome: Outcome, state: State, feed: Feed) -> Run
 
 /// Runs a unit of a program, by its number: a method against its contract, or the body of a predicate.
 ///
-/// Numbers have magnitude at most 2^127 - 1, and contents at most 4,096 nodes; what would leave this bound ends `Over`.
+/// Numbers have magnitude at most 2^127 - 1, and contents at most `MAX_CONTENT_NODES` nodes; what would leave this bound ends `Over`.
 ///
 /// `Memory` where there is no memory.
 ///

@@ -10,4 +10,4 @@ use Rattle.viper_eval.proofs.calls.open_body.Goals as goal
 pub returns-clause-opened : goal.returns-clause-opened
 returns-clause-opened c =
     c.opening.ensures _ _ _ _ (same_answers (ap (λ sc. opened Bounded (assertion_of c.args.body.now) (content_of c.args.content.now) (state_of c.args.state.now) sc c.args.scale) (sym c.of.ensures))
-    c.open.ensures.answers)
+    c.open_in.ensures.answers)

@@ -8,8 +8,8 @@ use Rattle.viper_meaning.specs.Value.{values}
 use Rattle.viper_eval.specs.View.{lent}
 use Rattle.viper_eval.proofs.readings.+readings.Given as goal
 
-abbrev pub invariant-evaluate_all-loop-e : goal.invariant-evaluate_all-loop-e
-invariant-evaluate_all-loop-e l = record {
+abbrev pub invariant-eval_all-loop-e : goal.invariant-eval_all-loop-e
+invariant-eval_all-loop-e l = record {
   answers : after (feed_of l.fn.feed).events (values Bounded (exprs_of l.es) (state_of l.now) (lent l.scene)) ≡
       after (feed_of l.feed).events (then_with (values Bounded (exprs_of (drop l.e-index l.es)) (state_of l.now) (lent l.scene)) (λ vs. is (l.values.items ++ vs)));
   left : (feed_of l.feed).left ≡ (feed_of l.fn.feed).left;

@@ -38,22 +38,22 @@ returns-in_err-content-2-clause-answers c =
     (goes_then _ (calmly _ (taken_at (lent c.args.scene) c.args.amount c.args.s.now.place refl c.of-instance.ensures c.in_ok-take.ensures))
     (calm_stop _ _ (found_as_stops content_of _ _ c.in_err-content-2.ensures ∙ ap found c.in_ok-content.ensures)))))
 
-pub open-requires-clause-body_within : goal.open-requires-clause-body_within
-open-requires-clause-body_within c = c.requires.body_within _ (found_is _ _ (found_as (λ b. assertion_of b.now) _ _ c.in_ok-body.ensures ∙ ap found c.body_of.ensures))
+pub open_in-requires-clause-body_within : goal.open_in-requires-clause-body_within
+open_in-requires-clause-body_within c = c.requires.body_within _ (found_is _ _ (found_as (λ b. assertion_of b.now) _ _ c.in_ok-body.ensures ∙ ap found c.body_of.ensures))
 
-pub open-requires-clause-content_within : goal.open-requires-clause-content_within
-open-requires-clause-content_within c =
+pub open_in-requires-clause-content_within : goal.open_in-requires-clause-content_within
+open_in-requires-clause-content_within c =
     content_is_within (state_of c.args.state.now) c.args.s.now.predicate c.in_ok-key.key c.requires.state_within
     (found_as content_of _ _ c.in_ok-content-2.ensures ∙ ap found c.in_ok-content.ensures)
 
-pub open-requires-clause-state_within : goal.open-requires-clause-state_within
-open-requires-clause-state_within c =
+pub open_in-requires-clause-state_within : goal.open_in-requires-clause-state_within
+open_in-requires-clause-state_within c =
     taken_within (λ _. state_of c.take.new.state) (lent c.args.scene) (state_of c.args.state.now) c.args.s.now.predicate c.in_ok-key.key c.args.amount c.args.s.now.place c.requires.state_within
     (key_is_within c.args.args.now c.requires.args_within c.in_ok-key.ensures)
     (taken_at (lent c.args.scene) c.args.amount c.args.s.now.place refl c.of-instance.ensures c.in_ok-take.ensures)
 
-pub open-requires-clause-scene_within : goal.open-requires-clause-scene_within
-open-requires-clause-scene_within c = subst IsWithinScene (sym c.with_variables-inside.ensures) (scene_within c.args.args.now (lent c.args.scene) c.requires.args_within c.requires.scene_within)
+pub open_in-requires-clause-scene_within : goal.open_in-requires-clause-scene_within
+open_in-requires-clause-scene_within c = subst IsWithinScene (sym c.with_variables-inside.ensures) (scene_within c.args.args.now (lent c.args.scene) c.requires.args_within c.requires.scene_within)
 
 pub returns-clause-answers : goal.returns-clause-answers
 returns-clause-answers c =
@@ -61,4 +61,4 @@ returns-clause-answers c =
     (goes_then _ (calmly _ (taken_at (lent c.args.scene) c.args.amount c.args.s.now.place refl c.of-instance.ensures c.in_ok-take.ensures))
     (calm_then _ (found_as content_of _ _ c.in_ok-content-2.ensures ∙ ap found c.in_ok-content.ensures)
     (same_answers (ap (λ inside. opened Bounded (assertion_of c.in_ok-body.body.now) (content_of c.in_ok-content-2.content) (state_of c.take.new.state) inside c.args.amount)
-    (sym c.with_variables-inside.ensures)) c.open.ensures.answers))))
+    (sym c.with_variables-inside.ensures)) c.open_in.ensures.answers))))

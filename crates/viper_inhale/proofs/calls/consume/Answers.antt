@@ -7,4 +7,4 @@ use Rattle.viper_inhale.proofs.DoesLaws.{same_run}
 use Rattle.viper_inhale.proofs.calls.consume.Goals as goal
 
 pub returns : goal.returns
-returns c = record { step = c.step.ensures _ _ _ _ (same_run (ap (λ sc. m.consume Bounded (assertion_of c.args.a.now) (state_of c.args.start.now) sc c.args.scale (state_of c.args.left.now)) (sym c.of-scene.ensures)) c.consume.ensures) }
+returns c = record { step = c.step.ensures _ _ _ _ (same_run (ap (λ sc. m.consume Bounded (assertion_of c.args.a.now) (state_of c.args.start.now) sc c.args.scale (state_of c.args.left.now)) (sym c.of-scene.ensures)) c.consume_in.ensures) }

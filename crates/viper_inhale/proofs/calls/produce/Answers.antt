@@ -7,4 +7,4 @@ use Rattle.viper_inhale.proofs.DoesLaws.{same_run}
 use Rattle.viper_inhale.proofs.calls.produce.Goals as goal
 
 pub returns : goal.returns
-returns c = record { step = c.step.ensures _ _ _ _ (same_run (ap (λ sc. m.produce Bounded (assertion_of c.args.a.now) sc c.args.scale (state_of c.args.state.now)) (sym c.of-scene.ensures)) c.produce.ensures) }
+returns c = record { step = c.step.ensures _ _ _ _ (same_run (ap (λ sc. m.produce Bounded (assertion_of c.args.a.now) sc c.args.scale (state_of c.args.state.now)) (sym c.of-scene.ensures)) c.produce_in.ensures) }

@@ -12,17 +12,17 @@ use Rattle.viper_run.proofs.ClauseLaws.{clause_within}
 use Rattle.viper_run.proofs.EachLaws.{item_at, each_goes, each_stops, each_end}
 use Rattle.viper_run.proofs.clauses.consume_all.Goals as goal
 
-pub consume-requires-clause-assertion_within : goal.consume-requires-clause-assertion_within
-consume-requires-clause-assertion_within c =
+pub consume_in-requires-clause-assertion_within : goal.consume_in-requires-clause-assertion_within
+consume_in-requires-clause-assertion_within c =
     subst (λ a. IsWithinAssertion (assertion_of a)) (sym c.clause-item.is) (clause_within c.args.clauses.now c.loop-clause.clause-index c.clause-item.result c.loop-clause-test.true c.requires.clauses_within)
 
-pub returns-in_err-consume : goal.returns-in_err-consume
-returns-in_err-consume c =
+pub returns-in_err-consume_in : goal.returns-in_err-consume_in
+returns-in_err-consume_in c =
     let sc = lent c.args.scene in
     let start = state_of c.args.start.now in
     passed _ _ c.from_residual.ensures.1 (each_stops (λ xs s. m.consume_all Bounded (assertions_of xs) start sc s) (λ a s. consume Bounded (assertion_of a) start sc write s) (λ s. refl) (λ a rest s. refl) c.args.clauses.now c.loop-clause.clause-index
     c.clause-item.result (state_of c.loop-clause.left) (item_at c.args.clauses.now c.loop-clause.clause-index c.clause-item.result c.loop-clause-test.true c.clause-item.is) c.loop-clause.invariant
-    (same_run (ap (λ k. consume Bounded (assertion_of c.clause-item.result) start sc k (state_of c.loop-clause.left)) (sym c.write.ensures)) c.in_err-consume.ensures))
+    (same_run (ap (λ k. consume Bounded (assertion_of c.clause-item.result) start sc k (state_of c.loop-clause.left)) (sym c.write.ensures)) c.in_err-consume_in.ensures))
 
 pub loop-clause-preserved : goal.loop-clause-preserved
 loop-clause-preserved c =
@@ -31,7 +31,7 @@ loop-clause-preserved c =
     each_goes (λ xs s. m.consume_all Bounded (assertions_of xs) start sc s) (λ a s. consume Bounded (assertion_of a) start sc write s) (λ s. refl) (λ a rest s. refl) c.args.clauses.now c.loop-clause.clause-index
     (m.consume_all Bounded (assertions_of c.args.clauses.now) start sc (state_of c.args.left.now)) (feed_of c.args.feed.now)
     c.clause-item.result (state_of c.loop-clause.left) (item_at c.args.clauses.now c.loop-clause.clause-index c.clause-item.result c.loop-clause-test.true c.clause-item.is) c.loop-clause.invariant
-    (same_run (ap (λ k. consume Bounded (assertion_of c.clause-item.result) start sc k (state_of c.loop-clause.left)) (sym c.write.ensures)) c.in_ok-consume.ensures)
+    (same_run (ap (λ k. consume Bounded (assertion_of c.clause-item.result) start sc k (state_of c.loop-clause.left)) (sym c.write.ensures)) c.in_ok-consume_in.ensures)
 
 pub returns : goal.returns
 returns c =

@@ -23,4 +23,4 @@ returns c q maps fit =
     let sc = lent c.args.scene in
     let kept = does_keep (consume_all_shape Bounded q clauses (state_of c.args.start.now) sc (state_of c.args.left.now) maps) (any_choices (feed_of c.args.feed.now).left) c.in_ok-consume_all.ensures in
     both_go (forget q.layout) refl (same_run (λ i. m.consume_all Bounded clauses (sym c.requires.same i) sc (state_of c.args.left.now)) c.in_ok-consume_all.ensures)
-    (c.forget.ensures q.layout kept.0 (left_kept (FitsChoice q.layout) fit c.in_ok-consume_all.ensures))
+    (c.forget_in.ensures q.layout kept.0 (left_kept (FitsChoice q.layout) fit c.in_ok-consume_all.ensures))

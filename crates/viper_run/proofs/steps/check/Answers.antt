@@ -10,4 +10,4 @@ pub returns-in_err-left : goal.returns-in_err-left
 returns-in_err-left c = passed _ _ c.from_residual.ensures.1 no_memory
 
 pub returns : goal.returns
-returns c = checked (activation_of c.args.activation) (configuration_of c.args.configuration.now) c.scene-scene.ensures (assertion_of c.args.a.now) (state_of c.consume.new.left) c.in_ok-left.ensures c.write.ensures c.consume.ensures
+returns c = checked (activation_of c.args.activation) (configuration_of c.args.configuration.now) c.scene-scene.ensures (assertion_of c.args.a.now) (state_of c.consume_in.new.left) c.in_ok-left.ensures c.write.ensures c.consume_in.ensures

@@ -16,9 +16,9 @@ use Rattle.viper_run.proofs.steps.exhale.Goals as goal
 pub returns-in_err-start : goal.returns-in_err-start
 returns-in_err-start c = passed _ _ c.from_residual.ensures.1 no_memory
 
-pub returns-in_err-consume : goal.returns-in_err-consume
-returns-in_err-consume c =
-    passed _ _ c.from_residual-in_err-consume.ensures.1 (exhale_stops (activation_of c.args.activation) (configuration_of c.args.configuration.now) c.scene-scene.ensures (assertion_of c.args.a.now) c.in_ok-start.ensures c.write.ensures c.in_err-consume.ensures)
+pub returns-in_err-consume_in : goal.returns-in_err-consume_in
+returns-in_err-consume_in c =
+    passed _ _ c.from_residual-in_err-consume_in.ensures.1 (exhale_stops (activation_of c.args.activation) (configuration_of c.args.configuration.now) c.scene-scene.ensures (assertion_of c.args.a.now) c.in_ok-start.ensures c.write.ensures c.in_err-consume_in.ensures)
 
 pub returns : goal.returns
 returns c =
@@ -28,6 +28,6 @@ returns c =
     let r = c.requires.ready in
     let after = stays (consume_within a (state_of c.in_ok-start.start) sc c.write.result (state_of c.args.configuration.now.state) c.requires.a_within (subst IsWithinState (sym c.in_ok-start.ensures) r.state.within) r.state.within
     (subst IsWithinScene (sym c.scene-scene.ensures) (scene_within c.args.at r))) (consume_shape k.program.layout Bounded a (state_of c.in_ok-start.start) sc c.write.result (state_of c.args.configuration.now.state) r.state.maps) r.state
-    c.in_ok-consume.ensures in
-    exhaled k (configuration_of c.args.configuration.now) c.scene-scene.ensures a (state_of c.forget.new.state) c.in_ok-start.ensures c.write.ensures c.in_ok-consume.ensures
-    (c.forget.ensures k.program.layout after.maps after.fit)
+    c.in_ok-consume_in.ensures in
+    exhaled k (configuration_of c.args.configuration.now) c.scene-scene.ensures a (state_of c.forget_in.new.state) c.in_ok-start.ensures c.write.ensures c.in_ok-consume_in.ensures
+    (c.forget_in.ensures k.program.layout after.maps after.fit)

@@ -12,16 +12,16 @@ returns-in_err-old c = passed _ _ c.from_residual.ensures.1 no_memory
 pub returns-in_err-state : goal.returns-in_err-state
 returns-in_err-state c = passed _ _ c.from_residual-in_err-state.ensures.1 no_memory
 
-pub produce-requires-clause-scene_within : goal.produce-requires-clause-scene_within
-produce-requires-clause-scene_within c =
+pub produce_in-requires-clause-scene_within : goal.produce_in-requires-clause-scene_within
+produce_in-requires-clause-scene_within c =
     predicate_scene (program_of c.args.program.now) (predicate_of c.args.predicate.now) (opening_of c.args.opening.now) c.deref.ensures.value c.in_ok-old.ensures c.requires.begin.within
 
-pub returns-in_err-produce : goal.returns-in_err-produce
-returns-in_err-produce c =
-    passed _ _ c.from_residual-in_err-produce.ensures.1 (seen_stops (predicate_starts (program_of c.args.program.now) (predicate_of c.args.predicate.now) (opening_of c.args.opening.now) c.in_ok-old.ensures c.in_ok-state.ensures
-    (assertion_of c.args.body.now) c.deref.ensures.value c.write.ensures c.in_err-produce.ensures))
+pub returns-in_err-produce_in : goal.returns-in_err-produce_in
+returns-in_err-produce_in c =
+    passed _ _ c.from_residual-in_err-produce_in.ensures.1 (seen_stops (predicate_starts (program_of c.args.program.now) (predicate_of c.args.predicate.now) (opening_of c.args.opening.now) c.in_ok-old.ensures c.in_ok-state.ensures
+    (assertion_of c.args.body.now) c.deref.ensures.value c.write.ensures c.in_err-produce_in.ensures))
 
 pub returns : goal.returns
 returns c =
     seen _ refl (predicate_starts (program_of c.args.program.now) (predicate_of c.args.predicate.now) (opening_of c.args.opening.now) c.in_ok-old.ensures c.in_ok-state.ensures
-    (assertion_of c.args.body.now) c.deref.ensures.value c.write.ensures c.in_ok-produce.ensures)
+    (assertion_of c.args.body.now) c.deref.ensures.value c.write.ensures c.in_ok-produce_in.ensures)

@@ -9,7 +9,7 @@ use Rattle.viper_inhale.specs.View.{resource_of}
 use Rattle.viper_inhale.proofs.DoesLaws.{passed, goes_at_once, stopped_as}
 use Rattle.viper_inhale.proofs.FormLaws.{read_stops, step_stops, step_goes, part_stops, part_goes, first_stops, both_go, so_goes, not_goes}
 use Rattle.viper_inhale.proofs.AssertionLaws.{consumed, consumed_share}
-use Rattle.viper_inhale.proofs.consuming.+consume.Goals as goal
+use Rattle.viper_inhale.proofs.consuming.+consume_in.Goals as goal
 
 pub returns-in_err-truth_of-in-Fact : goal.returns-in_err-truth_of-in-Fact
 returns-in_err-truth_of-in-Fact _ c =
@@ -52,15 +52,15 @@ returns-in_ok-resource-in-Inst _ c =
     c.in_ok-resource-in-Inst.ensures.answers c.in_ok-resource-in-Inst.ensures.left (consumed_share c.of-share-in-Inst.ensures (amt_of c.in-Inst.amount)
     (state_of c.args.start.now) (lent c.args.scene) (state_of c.args.left.now) (resource_of c.in_ok-resource-in-Inst.resource) c.consume_amount-in-Inst.ensures)
 
-pub returns-in_err-consume-in-And : goal.returns-in_err-consume-in-And
-returns-in_err-consume-in-And _ c =
-    passed _ _ c.from_residual-in_err-consume-in-And.ensures.1 (first_stops _ (consumed (state_of c.args.start.now) (lent c.args.scene) c.args.scale (state_of c.args.left.now) (and_is c.in-And.is c.deref-in-And.ensures refl))
-    c.in_err-consume-in-And.ensures)
+pub returns-in_err-consume_in-in-And : goal.returns-in_err-consume_in-in-And
+returns-in_err-consume_in-in-And _ c =
+    passed _ _ c.from_residual-in_err-consume_in-in-And.ensures.1 (first_stops _ (consumed (state_of c.args.start.now) (lent c.args.scene) c.args.scale (state_of c.args.left.now) (and_is c.in-And.is c.deref-in-And.ensures refl))
+    c.in_err-consume_in-in-And.ensures)
 
-pub returns-in_ok-consume-in-And : goal.returns-in_ok-consume-in-And
-returns-in_ok-consume-in-And _ c =
+pub returns-in_ok-consume_in-in-And : goal.returns-in_ok-consume_in-in-And
+returns-in_ok-consume_in-in-And _ c =
     both_go _ (consumed (state_of c.args.start.now) (lent c.args.scene) c.args.scale (state_of c.args.left.now) (and_is c.in-And.is c.deref-in-And.ensures c.deref-in-And-2.ensures))
-    c.in_ok-consume-in-And.ensures c.consume-in-And.ensures
+    c.in_ok-consume_in-in-And.ensures c.consume_in-in-And.ensures
 
 pub returns-in_err-truth_of-in-Implies : goal.returns-in_err-truth_of-in-Implies
 returns-in_err-truth_of-in-Implies _ c =
@@ -70,7 +70,7 @@ returns-in_err-truth_of-in-Implies _ c =
 pub returns-then-branch-2 : goal.returns-then-branch-2
 returns-then-branch-2 _ c =
     so_goes _ _ (consumed (state_of c.args.start.now) (lent c.args.scene) c.args.scale (state_of c.args.left.now) (implies_is c.in-Implies.is c.deref-then-branch-2.ensures))
-    c.in_ok-truth_of-in-Implies.ensures.answers c.in_ok-truth_of-in-Implies.ensures.left c.if-branch-2.true c.consume-then-branch-2.ensures
+    c.in_ok-truth_of-in-Implies.ensures.answers c.in_ok-truth_of-in-Implies.ensures.left c.if-branch-2.true c.consume_in-then-branch-2.ensures
 
 pub returns-else-branch-2 : goal.returns-else-branch-2
 returns-else-branch-2 _ c =
@@ -85,9 +85,9 @@ returns-in_err-truth_of-in-Choose _ c =
 pub returns-then-branch-3 : goal.returns-then-branch-3
 returns-then-branch-3 _ c =
     so_goes _ _ (consumed (state_of c.args.start.now) (lent c.args.scene) c.args.scale (state_of c.args.left.now) (choice_is c.in-Choose.is c.deref-then-branch-3.ensures refl))
-    c.in_ok-truth_of-in-Choose.ensures.answers c.in_ok-truth_of-in-Choose.ensures.left c.if-branch-3.true c.consume-then-branch-3.ensures
+    c.in_ok-truth_of-in-Choose.ensures.answers c.in_ok-truth_of-in-Choose.ensures.left c.if-branch-3.true c.consume_in-then-branch-3.ensures
 
 pub returns-else-branch-3 : goal.returns-else-branch-3
 returns-else-branch-3 _ c =
     not_goes _ _ (consumed (state_of c.args.start.now) (lent c.args.scene) c.args.scale (state_of c.args.left.now) (choice_is c.in-Choose.is refl c.deref-else-branch-3.ensures))
-    c.in_ok-truth_of-in-Choose.ensures.answers c.in_ok-truth_of-in-Choose.ensures.left c.if-branch-3.false c.consume-else-branch-3.ensures
+    c.in_ok-truth_of-in-Choose.ensures.answers c.in_ok-truth_of-in-Choose.ensures.left c.if-branch-3.false c.consume_in-else-branch-3.ensures

@@ -2,7 +2,7 @@ use Rattle.std.proofs.Common.{refl}
 use Rattle.viper_state.specs.View.{choice_of, feed_of, memo_of, state_of}
 use Rattle.viper_inhale.specs.Answers.{stops}
 use Rattle.viper_inhale.proofs.ForgettingLaws.{memo_fits, memo_taken, no_memo, no_choice_left}
-use Rattle.viper_inhale.proofs.forgetting.forget.Goals as goal
+use Rattle.viper_inhale.proofs.forgetting.forget_in.Goals as goal
 
 pub returns-in-Some-memo_in : goal.returns-in-Some-memo_in
 returns-in-Some-memo_in c l s fit =
