@@ -24,7 +24,8 @@ use Rattle.boogie_grammar.specs.declared.tokens.BTok.TheVariants as tok
 use Rattle.boogie_grammar.specs.declared.tokens.BToken.{BToken}
 use Rattle.boogie_grammar.specs.Words.{operator_tok}
 use Rattle.boogie_grammar.specs.Pieces as p
-use Rattle.boogie_grammar.specs.Pieces.{Class, Letter, Digit, class_of, is_blank, is_unquoted, is_point_zero, literal, literal_length, max_literal, Piece}
+use Rattle.boogie_tree.specs.Literals.{max_literal}
+use Rattle.boogie_grammar.specs.Pieces.{Class, Letter, Digit, class_of, is_blank, is_unquoted, is_point_zero, literal, literal_length, Piece}
 use Rattle.boogie_grammar.specs.Cut.{IsRow, more}
 use Rattle.boogie_grammar.specs.Printed.{operator_text}
 

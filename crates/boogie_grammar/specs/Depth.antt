@@ -1,5 +1,6 @@
 -- How many brackets are unclosed at once.
 use Rattle.std.specs.Prelude.{◌≡◌, ℕ, ◌+◌, ◌-◌, ◌<◌, ◌≤◌, List, take, slice_get, Some, fold}
+use Rattle.vb_base.specs.Limits.{max_unclosed_brackets}
 use Rattle.vb_base.specs.declared.places.Pos.{Pos}
 use Rattle.boogie_grammar.specs.declared.tokens.BSign.TheVariants as sign
 use Rattle.boogie_grammar.specs.declared.tokens.BTok.{BTok}
@@ -21,9 +22,9 @@ unclosed_with n _ = n
 abbrev pub unclosed : List BToken → ℕ
 unclosed ts = fold (λ n t. unclosed_with n t.tok) 0 ts
 
--- after no front of these tokens more than 2,048 are unclosed
+-- after no front of these tokens too many are unclosed
 abbrev pub IsShallow : List BToken → Type 0
-IsShallow ts = (n : ℕ) → unclosed (take n ts) ≤ 2048
+IsShallow ts = (n : ℕ) → unclosed (take n ts) ≤ max_unclosed_brackets
 
 -- the first token with which more are unclosed stands at this place
 pub record IsTooDeep (ts : List BToken) (at : Pos) : Type 0 where
@@ -31,5 +32,5 @@ pub record IsTooDeep (ts : List BToken) (at : Pos) : Type 0 where
   pub token : BToken
   pub here : slice_get ts index ≡ Some token
   pub place : token.pos ≡ at
-  pub above : 2048 < unclosed (take (index + 1) ts)
-  pub before : (n : ℕ) → n ≤ index → unclosed (take n ts) ≤ 2048
+  pub above : max_unclosed_brackets < unclosed (take (index + 1) ts)
+  pub before : (n : ℕ) → n ≤ index → unclosed (take n ts) ≤ max_unclosed_brackets

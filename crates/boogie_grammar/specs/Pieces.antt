@@ -1,6 +1,6 @@
 -- The pieces that the text after the prelude is made of: tokens, blanks and comments (Leino, This is Boogie 2, section 1,
 -- with the mark `{:msg ".."}` and the real literals of the later tool).
-use Rattle.std.specs.Prelude.{◌≡◌, ◌==◌, ◌^◌, ◌+◌, ◌-◌, ◌≤◌, pos, ℕ, Bool, not, ◌||◌, if◌then◌else◌, false, List, [], ◌∷◌, length, Option, Some, None, find}
+use Rattle.std.specs.Prelude.{◌≡◌, ◌==◌, ◌+◌, ◌≤◌, pos, ℕ, Bool, not, ◌||◌, if◌then◌else◌, false, List, [], ◌∷◌, length, Option, Some, None, find}
 use Rattle.std.specs.Char.{is_ascii_digit}
 use Rattle.std.specs.List.{starts_with, prefix_len}
 use Rattle.std.specs.Str.Parse.{digits_value}
@@ -12,11 +12,8 @@ use Rattle.boogie_grammar.specs.declared.tokens.BSign.{BSign}
 use Rattle.boogie_grammar.specs.declared.tokens.BSign.TheVariants as s
 use Rattle.boogie_grammar.specs.declared.tokens.BTok.{BTok}
 use Rattle.boogie_grammar.specs.declared.tokens.BTok.TheVariants as tok
+use Rattle.boogie_tree.specs.Literals.{max_literal}
 use Rattle.boogie_grammar.specs.Words.{sign_text}
-
--- the greatest literal
-abbrev pub max_literal : ℕ
-max_literal = 2 ^ 127 - 1
 
 abbrev pub is_blank : ℕ → Bool
 is_blank b = b == 32 || b == 10 || b == 13 || b == 9

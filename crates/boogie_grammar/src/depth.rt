@@ -4,18 +4,16 @@ ghost use Rattle.boogie_grammar.specs.Depth.{IsShallow, IsTooDeep, unclosed_with
 
 use crate::{BSign, BTok, BToken};
 use vb_base::Pos;
+use vb_base::limits::MAX_UNCLOSED_BRACKETS;
 
-/// How many `(`, `[` and `{` may be unclosed at once.
-const MAX_UNCLOSED: usize = 2048;
-
-/// The place of the first sign that is the 2,049th unclosed `(`, `[` or `{`, if there is one.
+/// The place of the first `(`, `[` or `{` with which more than `MAX_UNCLOSED_BRACKETS` are unclosed, if there is one.
 pub fn first_too_deep(tokens: &[BToken]) -> Option<Pos>
     ensures { MatchOption result (IsShallow tokens.now) (IsTooDeep tokens.now) }
 {
     let mut count: usize = 0;
     for token in tokens {
         count = unclosed_with(count, &token.tok);
-        if count > MAX_UNCLOSED {
+        if count > MAX_UNCLOSED_BRACKETS {
             return Some(token.pos);
         }
     }

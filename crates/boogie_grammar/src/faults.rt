@@ -13,7 +13,7 @@ pub enum BoogieFault {
     Prelude(Pos),
     /// The first byte at which nothing begins, or the first token with which no program goes on, or the end.
     Syntax(Pos),
-    /// The first sign that is the 2,049th unclosed one.
+    /// The first sign with which more than `MAX_UNCLOSED_BRACKETS` are unclosed.
     Deep(Pos),
 }
 

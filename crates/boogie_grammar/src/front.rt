@@ -1,5 +1,6 @@
 // The front of a text.
 ghost use Rattle.std.specs.Prelude.{◌≡◌, ◌≤◌, ◌<◌, ◌≢◌, ◌++◌, length, take, get_or, MatchResult};
+ghost use Rattle.vb_base.specs.Limits.{max_boogie_bytes};
 ghost use Rattle.boogie_tree.specs.Text.{prelude};
 ghost use Rattle.boogie_grammar.specs.Step.{LacksFront};
 
@@ -16,7 +17,7 @@ pub fn after_prelude(bytes: &[u8]) -> Result<&[u8], Pos>
 
 /// What follows these bytes, or the place of the first byte that differs from them, or the end.
 fn after_front<'a>(bytes: &'a [u8], front: &[u8]) -> Result<&'a [u8], Pos>
-    requires { length front.now ≤ 1048576 }
+    requires { length front.now ≤ max_boogie_bytes }
     ensures { MatchResult result (λ rest. bytes.now ≡ front.now ++ rest.now) (LacksFront bytes.now front.now) }
 {
     let same = same_len(bytes, front);

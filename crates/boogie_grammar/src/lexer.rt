@@ -1,6 +1,7 @@
 // The tokens of a text.
 ghost use Rattle.std.specs.Prelude.{◌≡◌, ◌≤◌, ◌++◌, OnOk, length};
 ghost use Rattle.std.specs.Result.{result_map_both};
+ghost use Rattle.vb_base.specs.Limits.{max_boogie_bytes};
 ghost use Rattle.boogie_grammar.specs.Step.{Cuts, one_at};
 
 use crate::pieces::piece;
@@ -10,8 +11,8 @@ use vb_base::{Memory, Pos, advance, place_after};
 
 /// The tokens of a text that stands after these bytes, or the place of the first byte at which none begins.
 pub fn cut(alloc: Global, before: &[u8], bytes: &[u8]) -> Result<Vec<BToken>, BoogieFault>
-    requires before { length before.now ≤ 1048576 }
-    requires bytes { length bytes.now ≤ 33554432 }
+    requires before { length before.now ≤ max_boogie_bytes }
+    requires bytes { length bytes.now ≤ max_boogie_bytes }
     ensures { Cuts before.now bytes.now (result_map_both (λ v. v.items) (λ e. e) result) }
 {
     let mut tokens = Vec::new(alloc);

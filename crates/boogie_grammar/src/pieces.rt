@@ -5,7 +5,8 @@ ghost use Rattle.std.specs.List.{prefix_len, list_all};
 ghost use Rattle.std.specs.Str.Parse.{digits_value};
 ghost use Rattle.vb_base.specs.Names.{is_name_start, is_name_byte};
 ghost use Rattle.boogie_grammar.specs.declared.tokens.BTok.{BTok};
-ghost use Rattle.boogie_grammar.specs.Pieces.{Piece, Letter, Digit, Quote, Other, is_blank, is_in_line, is_unquoted, is_point_zero, literal_length, max_literal};
+ghost use Rattle.boogie_tree.specs.Literals.{max_literal};
+ghost use Rattle.boogie_grammar.specs.Pieces.{Piece, Letter, Digit, Quote, Other, is_blank, is_in_line, is_unquoted, is_point_zero, literal_length};
 ghost use Rattle.boogie_grammar.specs.Step.{IsPiece, NoPiece, literal_of};
 
 use crate::BTok;

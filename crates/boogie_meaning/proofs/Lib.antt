@@ -1,6 +1,8 @@
 pub mod ForallLaws
 pub mod BoundLaws
 pub mod RunLaws
+pub mod FitsLaws
+mod TakenLaws
 pub mod RunBoundLaws
 pub mod TypeLaws
 pub mod ProgramLaws

@@ -1,11 +1,12 @@
 -- The values of operators (Leino, This is Boogie 2, section 4; the later `/`, `div`, `mod` and reals of Boogie's manual). A
 -- quotient by 0 and a remainder by 0 are 0, and `div` and `mod` are Euclidean: the remainder is not negative. An operand of
 -- another type is Wrong, which it is in no typed program.
-use Rattle.std.specs.Prelude.{ℕ, ℤ, pos, ◌+ℤ◌, ◌-ℤ◌, ◌*ℤ◌, neg_ℤ, Bool as Truth, true, false, not, Option, Some, None, nat_lt, if◌then◌else◌}
+use Rattle.std.specs.Prelude.{◌+◌, ℕ, ℤ, pos, ◌+ℤ◌, ◌-ℤ◌, ◌*ℤ◌, neg_ℤ, Bool as Truth, true, false, not, Option, Some, None, nat_lt, if◌then◌else◌}
 use Rattle.std.specs.Int.{int_div_euclid, int_rem_euclid}
 use Rattle.std.specs.Ordering.{int_cmp, int_eq, is_lt, is_le, is_gt, is_ge}
 use Rattle.std.specs.Bool.{beq}
 use Rattle.std.specs.declared.cmp.Ordering.{Ordering}
+use Rattle.vb_base.specs.Limits.{max_content_nodes}
 use Rattle.vb_value.specs.Bound.{Bound, is_within}
 use Rattle.vb_value.specs.Content as content
 use Rattle.vb_value.specs.Content.{Content, nodes}
@@ -81,9 +82,9 @@ leaf_ref v = then_with (ref_of v) (λ r. Is (Snap (content.Leaf (leaf.Ref r))))
 abbrev pub leaf_perm : BScalar → End BScalar
 leaf_perm v = then_with (real_of v) (λ q. Is (Snap (content.Leaf (leaf.Perm q))))
 
--- within the bound a content has at most 4,096 nodes
+-- within the bound a content has not too many nodes
 abbrev pub pair_of : Bound → BScalar → BScalar → End BScalar
-pair_of b v w = then_with (snap_of v) (λ c. then_with (snap_of w) (λ d. fitting b (nat_lt (nodes (content.Pair c d)) 4097) (Snap (content.Pair c d))))
+pair_of b v w = then_with (snap_of v) (λ c. then_with (snap_of w) (λ d. fitting b (nat_lt (nodes (content.Pair c d)) (max_content_nodes + 1)) (Snap (content.Pair c d))))
 
 -- ---- operators that look at both sides
 

@@ -1,6 +1,6 @@
 -- The run of a procedure (Leino, This is Boogie 2, sections 8 and 9): it knows variables, maps and choices, and nothing of Viper.
 -- Each start has one end, for a run is a function of the environment and the choices.
-use Rattle.std.specs.Prelude.{ℕ, Bool as Truth, true, false, ◌&&◌, List, [], ◌∷◌, ◌++◌, Option, Some, None, slice_get, slice_set, if◌then◌else◌}
+use Rattle.std.specs.Prelude.{◌≡◌, ℕ, Bool as Truth, true, false, ◌&&◌, List, [], ◌∷◌, ◌++◌, Option, Some, None, slice_get, slice_set, if◌then◌else◌}
 use Rattle.sparse.specs.Map.{Map, empty, set}
 use Rattle.vb_base.specs.declared.labels.Label.{Label}
 use Rattle.vb_value.specs.Bound.{Bound}
@@ -129,6 +129,22 @@ is_short (Stops Wrong cs) = false
 abbrev pub with_more : List BChoice → Run → Run
 with_more more (Done env cs) = Done env (cs ++ more)
 with_more more (Stops why cs) = Stops why (cs ++ more)
+
+abbrev pub left_of : Run → List BChoice
+left_of (Done env cs) = cs
+left_of (Stops why cs) = cs
+
+-- the same end, with these choices left
+abbrev pub with_left : List BChoice → Run → Run
+with_left left (Done env cs) = Done env left
+with_left left (Stops why cs) = Stops why left
+
+-- The choices of a run are those that it takes, and those that it leaves. On the ones that it takes, with any others behind them,
+-- it ends alike and leaves just these others.
+pub record TakesSome (run : List BChoice → Run) (cs : List BChoice) : Type 0 where
+  pub taken : List BChoice
+  pub whole : cs ≡ taken ++ left_of (run cs)
+  pub alike : (others : List BChoice) → run (taken ++ others) ≡ with_left others (run cs)
 
 -- the choice that gives a variable this value
 abbrev pub entries_of : List (Key × BScalar) → List Entry

@@ -1,12 +1,14 @@
 //! Laws of types, values and quantifiers, each as the contract of a function that does nothing.
 
-ghost use Rattle.std.specs.Prelude.{◌≡◌, ◌↔◌, ℕ, Bool as Truth, true, false, List, All, Some, None, Option, slice_get};
+ghost use Rattle.std.specs.Prelude.{◌≡◌, ◌↔◌, ℕ, Bool as Truth, true, false, List, All, Some, None, Option, length, slice_get};
 ghost use Rattle.std.specs.Bool.{Decides};
 ghost use Rattle.sparse.specs.Map.{Map, empty, get, set};
 ghost use Rattle.vb_value.specs.Bound.{Bound, Unbounded, Bounded};
 ghost use Rattle.vb_value.specs.Key.{key_cmp};
 ghost use Rattle.boogie_tree.specs.Expr as t;
 ghost use Rattle.boogie_tree.specs.Stmt as s;
+ghost use Rattle.boogie_tree.specs.Fits.{FitsExpr, FitStmts};
+ghost use Rattle.boogie_tree.specs.Literals.{LiteralsFit, BlockLiteralsFit};
 ghost use Rattle.boogie_tree.specs.Program.{BType, BProgram};
 ghost use Rattle.boogie_tree.specs.Value.{Key, BScalar, same_scalar, BValue, BChoice};
 ghost use Rattle.boogie_tree.specs.declared.exprs.BBase.{BBase};
@@ -97,4 +99,11 @@ pub fn an_expression_looks_at_its_own_variables()
         → AllVariables (λ i. slice_get new (f i) ≡ slice_get env i) e → bvalue b (renamed f e) new ≡ bvalue b e env }
     ensures key { (b : Bound) (f : ℕ → ℕ) (env : List BValue) (new : List BValue) (es : t.BExprs)
         → AllVariablesIn (λ i. slice_get new (f i) ≡ slice_get env i) es → bkey b (renamed_in f es) new ≡ bkey b es env }
+{}
+
+/// What is well-typed, and has literals that can be spelled, can be spelled among as many locals.
+pub fn what_is_typed_can_be_printed()
+    ensures expression { (ts : List BType) (x : t.BExpr) (u : BBase) → HasType ts None x u → LiteralsFit x
+        → FitsExpr (length ts) false x }
+    ensures statements { (ts : List BType) (xs : s.BStmts) → IsTyped ts xs → BlockLiteralsFit xs → FitStmts (length ts) xs }
 {}

@@ -8,7 +8,7 @@ ghost use Rattle.boogie_tree.specs.Value.{BValue, BChoice};
 ghost use Rattle.boogie_meaning.specs.Compared.{StaysWithin, RunIsBoundedBy};
 ghost use Rattle.boogie_meaning.specs.Kept.{KeepsTypes};
 ghost use Rattle.boogie_meaning.specs.Programs.{IsTypedProgram, NeverWrong};
-ghost use Rattle.boogie_meaning.specs.Run.{brun, is_short, with_more};
+ghost use Rattle.boogie_meaning.specs.Run.{TakesSome, brun, is_short, with_more};
 ghost use Rattle.boogie_meaning.specs.Types.{IsTyped};
 ghost use Rattle.boogie_tree.specs.Values.{IsEnvironment, IsReducedChoice};
 
@@ -16,6 +16,13 @@ ghost use Rattle.boogie_tree.specs.Values.{IsEnvironment, IsReducedChoice};
 pub fn choices_left_over_change_nothing()
     ensures { (ls : List BType) (b : Bound) (xs : s.BStmts) (env : List BValue) (cs : List BChoice) (more : List BChoice)
         → is_short (brun ls b xs env cs) ≡ false → brun ls b xs env (cs ++ more) ≡ with_more more (brun ls b xs env cs) }
+{}
+
+/// A run that wants no more choices takes some of those that it is given and leaves the others. On the ones that it takes, with
+/// any others behind them, it ends alike and leaves just these others.
+pub fn a_run_takes_some_of_its_choices()
+    ensures { (ls : List BType) (b : Bound) (xs : s.BStmts) (env : List BValue) (cs : List BChoice)
+        → is_short (brun ls b xs env cs) ≡ false → TakesSome (λ ds. brun ls b xs env ds) cs }
 {}
 
 /// A run within the bound that does not leave it is the run without it. Without a bound no run leaves it.

@@ -1,5 +1,6 @@
 -- The operators of one side that compute no number, and pairs.
-use Rattle.std.specs.Prelude.{nat_lt}
+use Rattle.std.specs.Prelude.{◌+◌, nat_lt}
+use Rattle.vb_base.specs.Limits.{max_content_nodes}
 use Rattle.vb_value.specs.Bound.{Bounded}
 use Rattle.vb_value.specs.Content.{Content, Pair, nodes}
 use Rattle.boogie_tree.specs.Value.{BScalar, Snap}
@@ -17,4 +18,4 @@ unary_of op.SPerm = leaf_perm
 
 -- the pair of two contents, within the bound
 abbrev pub pair_in : Content → Content → End BScalar
-pair_in c d = fitting Bounded (nat_lt (nodes (Pair c d)) 4097) (Snap (Pair c d))
+pair_in c d = fitting Bounded (nat_lt (nodes (Pair c d)) (max_content_nodes + 1)) (Snap (Pair c d))

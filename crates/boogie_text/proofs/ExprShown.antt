@@ -18,7 +18,8 @@ use Rattle.boogie_grammar.specs.declared.tokens.BToken.{BToken}
 use Rattle.boogie_grammar.specs.declared.tokens.Word.{Word}
 use Rattle.boogie_grammar.specs.declared.tokens.Word.TheVariants as w
 use Rattle.boogie_grammar.specs.Words.{word_tok, base_word, operator_tok, is_among, is_reserved}
-use Rattle.boogie_grammar.specs.Pieces.{max_literal, is_point_zero}
+use Rattle.boogie_tree.specs.Literals.{max_literal, IsLiteral}
+use Rattle.boogie_grammar.specs.Pieces.{is_point_zero}
 use Rattle.boogie_grammar.specs.Tests as v
 use Rattle.boogie_grammar.specs.Tests.{Kind, Value, Test, Binding, the_sign, the_word, the_name, a_new_name, a_variable, a_number, a_real, a_key, an_operator}
 use Rattle.boogie_grammar.specs.Grammar as g
@@ -27,7 +28,7 @@ use Rattle.boogie_grammar.specs.Cut.{IsRow}
 use Rattle.boogie_grammar.specs.Printed.{Naming, name_at, base_text, bound_name, free_number, free_name, bound_names, under, names_text, binders_text, expr_text, exprs_text}
 use Rattle.boogie_grammar.proofs.WrittenRows.{at_start, Ends, name_row, free_row, blank_row, open_row, close_row, bracket_row, end_row, comma_row, minus_row, not_row, colon_row, bounds_row, operator_row, number_row, real_row}
 use Rattle.boogie_grammar.proofs.NamingLaws.{either}
-use Rattle.boogie_text.specs.Printable.{IsLiteral, FitsExpr, FitExprs}
+use Rattle.boogie_tree.specs.Fits.{FitsExpr, FitExprs}
 use Rattle.boogie_text.proofs.Complete.{by_where, by_bound}
 use Rattle.boogie_text.proofs.FreshLaws.{free_form, free_parts, bound_is_free}
 use Rattle.boogie_text.proofs.VarLaws.{IsVar, some_is_free, head_of, tail_of}

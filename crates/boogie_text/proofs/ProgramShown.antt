@@ -26,7 +26,8 @@ use Rattle.boogie_grammar.specs.Cut as cut
 use Rattle.boogie_grammar.specs.Printed.{naming, name_at, base_text, expr_text, exprs_text, stmt_text, stmts_text, bases_text, type_text, locals_text, proc_text, procs_text, program_text}
 use Rattle.boogie_grammar.specs.Spells.{BSpells}
 use Rattle.boogie_grammar.proofs.WrittenRows.{at_start, Ends, name_row, free_row, blank_row, line_row, open_row, close_row, bracket_row, end_row, begin_row, finish_row, comma_row, semicolon_row, star_row, colon_row, mark_row, assign_row, text_row}
-use Rattle.boogie_text.specs.Printable.{IsFreeName, FitsStmt, FitStmts, FitsLocal, FitsProc, IsPrintable}
+use Rattle.boogie_tree.specs.Fits.{FitsStmt, FitStmts}
+use Rattle.boogie_text.specs.Printable.{IsFreeName, FitsLocal, FitsProc, IsPrintable}
 use Rattle.boogie_text.proofs.FreshLaws.{avoided, fewer}
 use Rattle.boogie_text.proofs.VarLaws.{IsVar, some_is_free, var_at, new_after, head_of, tail_of}
 use Rattle.boogie_text.proofs.ExprShown.{Shown, Listed, Ready, Short, Shorts, sign_first, sign_taken, word_first, word_taken, tail_derives, where_yes, ends, value_at, list_of, list_exprs, base_row, expr_shown, listed_shown, all_cons, all_none}

@@ -25,7 +25,8 @@ use Rattle.boogie_grammar.specs.declared.tokens.BToken.{BToken}
 use Rattle.boogie_grammar.specs.declared.tokens.Word.TheVariants as word
 use Rattle.boogie_grammar.specs.Words.{is_among, is_reserved}
 use Rattle.boogie_grammar.specs.Pieces as p
-use Rattle.boogie_grammar.specs.Pieces.{Piece, Class, Blank, Letter, Digit, Quote, Other, class_of, is_blank, max_literal, literal}
+use Rattle.boogie_tree.specs.Literals.{max_literal, IsLiteral}
+use Rattle.boogie_grammar.specs.Pieces.{Piece, Class, Blank, Letter, Digit, Quote, Other, class_of, is_blank, literal}
 use Rattle.boogie_grammar.specs.Cut as cut
 use Rattle.boogie_grammar.specs.Cut.{onto, IsRow}
 use Rattle.boogie_grammar.specs.Tests as v
@@ -33,7 +34,8 @@ use Rattle.boogie_grammar.specs.Tests.{Kind, Value, Test, Passes, IsVariable, nu
 use Rattle.boogie_grammar.specs.Grammar as g
 use Rattle.boogie_grammar.specs.Grammar.{Symbol, Rule, give, need, when, read, rule, rules, local_names, proc_names}
 use Rattle.boogie_grammar.specs.Spells.{BSpells}
-use Rattle.boogie_text.specs.Printable.{IsLiteral, FitsExpr, FitExprs, FitsStmt, FitStmts, FitsLocal, FitsProc, IsPrintable}
+use Rattle.boogie_tree.specs.Fits.{FitsExpr, FitExprs, FitsStmt, FitStmts}
+use Rattle.boogie_text.specs.Printable.{FitsLocal, FitsProc, IsPrintable}
 use Rattle.boogie_text.proofs.Complete.{by_where}
 
 and_true : (a b : Truth) → a ≡ true → b ≡ true → (a && b) ≡ true

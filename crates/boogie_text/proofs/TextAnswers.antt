@@ -20,7 +20,8 @@ use Rattle.boogie_grammar.specs.declared.tokens.BSign.{BSign}
 use Rattle.boogie_grammar.specs.declared.tokens.BTok.{BTok}
 use Rattle.boogie_grammar.specs.declared.tokens.BToken.{BToken}
 use Rattle.boogie_grammar.specs.Pieces as p
-use Rattle.boogie_grammar.specs.Pieces.{Class, Blank, Letter, Digit, Quote, Other, Piece, class_of, is_blank, is_unquoted, digits, max_literal, sign_at}
+use Rattle.boogie_tree.specs.Literals.{max_literal}
+use Rattle.boogie_grammar.specs.Pieces.{Class, Blank, Letter, Digit, Quote, Other, Piece, class_of, is_blank, is_unquoted, digits, sign_at}
 use Rattle.boogie_grammar.specs.Cut.{IsCut, end, piece, onto}
 use Rattle.boogie_grammar.specs.Depth.{IsShallow, IsTooDeep, unclosed}
 use Rattle.boogie_grammar.specs.Spells.{IsProgram, GoesWrong}

@@ -8,7 +8,7 @@ use Rattle.boogie_grammar.specs.declared.faults.BoogieFault.TheVariants as fault
 use Rattle.boogie_grammar.specs.Depth.{IsShallow}
 use Rattle.boogie_grammar.specs.Spells.{BSpells}
 
--- the bytes spell the program, and never are more than 2,048 of its brackets unclosed
+-- the bytes spell the program, and never are too many of its brackets unclosed
 pub record IsRead (bytes : List ℕ) (program : p.BProgram) : Type 0 where
   pub spelled : BSpells bytes program
   pub shallow : IsShallow spelled.tokens

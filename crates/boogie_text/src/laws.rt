@@ -1,5 +1,6 @@
 // Laws of the text, each the contract of a function with nothing to do.
 ghost use Rattle.std.specs.Prelude.{◌≡◌, ◌+◌, ◌^◌, ◌<◌, ◌≤◌, ◌⊎◌, List, ℕ, length, take};
+ghost use Rattle.vb_base.specs.Limits.{max_boogie_bytes};
 ghost use Rattle.vb_base.specs.Place.{IsPlace};
 ghost use Rattle.boogie_tree.specs.Program as p;
 ghost use Rattle.boogie_tree.specs.Nested.{program_depth};
@@ -34,9 +35,9 @@ pub fn some_answer()
     ensures { (ts : List BToken) → IsProgram ts ⊎ GoesWrong ts }
 {}
 
-/// A text of at most 33,554,432 bytes spells a program whose brackets are not too deep, or is refused.
+/// A text that is not too long spells a program whose brackets are not too deep, or is refused.
 pub fn some_text_answer()
-    ensures { (bytes : List ℕ) → length bytes ≤ 33554432 → ((b : p.BProgram) × IsRead bytes b) ⊎ ((f : BoogieFault) × IsFault bytes f) }
+    ensures { (bytes : List ℕ) → length bytes ≤ max_boogie_bytes → ((b : p.BProgram) × IsRead bytes b) ⊎ ((f : BoogieFault) × IsFault bytes f) }
 {}
 
 /// Bytes are refused in one way at most.

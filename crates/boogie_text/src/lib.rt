@@ -15,6 +15,7 @@ mod simple;
 mod stmts;
 mod types;
 
+pub use boogie_grammar::BoogieFault;
 pub use laws::{
     bound_names_are_fresh, brackets_are_nested, not_refused, one_fault, one_place, one_program,
     one_tree, some_answer, some_text_answer, spelled_is_printable,

@@ -1,5 +1,6 @@
 // A program from its bytes.
 ghost use Rattle.std.specs.Prelude.{◌≡◌, ◌≤◌, ◌++◌, length, IfErr, IfOk, MatchResult};
+ghost use Rattle.vb_base.specs.Limits.{max_boogie_bytes};
 ghost use Rattle.vb_base.specs.Place.{IsPlaceAfter};
 ghost use Rattle.boogie_tree.specs.Program as p;
 ghost use Rattle.boogie_tree.specs.Text.{prelude};
@@ -18,10 +19,10 @@ use vb_base::{Pos, advance, place_after};
 /// The program that these bytes spell, or the first reason for which they are refused.
 ///
 /// These are tried in this order. `Prelude` comes exactly where they do not begin with the prelude, `Syntax` where there
-/// is a byte behind it at which neither a token nor a blank begins, `Deep` where 2,049 brackets are unclosed at once, and
+/// is a byte behind it at which neither a token nor a blank begins, `Deep` where too many brackets are unclosed at once, and
 /// `Syntax` again where the tokens spell no program: at the first token with which they begin none, or at the end.
 pub fn read(alloc: Global, bytes: &[u8]) -> Result<BProgram, BoogieFault>
-    requires { length bytes.now ≤ 33554432 }
+    requires { length bytes.now ≤ max_boogie_bytes }
     ensures program { IfOk result (λ b. IsRead bytes.now (program_of b)) }
     ensures fault { IfErr result (UnlessMemory (IsFault bytes.now)) }
 
@@ -33,7 +34,7 @@ pub fn read(alloc: Global, bytes: &[u8]) -> Result<BProgram, BoogieFault>
 }
 
 fn read_text(alloc: Global, bytes: &[u8]) -> Result<BProgram, BoogieFault>
-    requires { length bytes.now ≤ 33554432 }
+    requires { length bytes.now ≤ max_boogie_bytes }
     ensures { MatchResult result (λ b. IsRead bytes.now (program_of b)) (UnlessMemory (IsFault bytes.now)) }
 {
     match after_prelude(bytes) {
@@ -44,7 +45,7 @@ fn read_text(alloc: Global, bytes: &[u8]) -> Result<BProgram, BoogieFault>
 
 /// The program that the prelude and these bytes spell.
 fn read_rest(alloc: Global, rest: &[u8]) -> Result<BProgram, BoogieFault>
-    requires { length rest.now ≤ 33554432 }
+    requires { length rest.now ≤ max_boogie_bytes }
     ensures { MatchResult result (λ b. IsRead (prelude ++ rest.now) (program_of b)) (UnlessMemory (IsFault (prelude ++ rest.now))) }
 {
     let tokens = cut(alloc, PRELUDE, rest)?;
@@ -57,7 +58,7 @@ fn read_rest(alloc: Global, rest: &[u8]) -> Result<BProgram, BoogieFault>
 /// The place past the last byte of the prelude and these bytes.
 #[tactic(auto, unfolding(boogie_tree::specs::Text::prelude))]
 fn end_after(rest: &[u8]) -> Pos
-    requires { length rest.now ≤ 33554432 }
+    requires { length rest.now ≤ max_boogie_bytes }
     ensures { IsPlaceAfter (prelude ++ rest.now) result }
 {
     advance(place_after(PRELUDE), rest)

@@ -7,3 +7,5 @@ pub mod Values
 pub mod Whole
 pub mod Equality
 pub mod Nested
+pub mod Literals
+pub mod Fits

@@ -18,12 +18,13 @@ use Rattle.boogie_tree.specs.Program.{BType}
 use Rattle.boogie_tree.specs.Value.{Key, BScalar, Snap, Entry, Pick, Value as Given}
 use Rattle.boogie_tree.specs.declared.exprs.BBase.{BBase}
 use Rattle.boogie_tree.specs.declared.exprs.BBase.TheVariants as base
-use Rattle.run_file.specs.Text.{is_empty}
+use Rattle.moves.specs.Lists.{is_empty}
 use Rattle.run_file.specs.Values as v
 use Rattle.run_file.specs.Values.{SpellsValue, IsArgument, BeginsWithContent}
 use Rattle.run_file.specs.Lines.{Known, HasName}
 use Rattle.run_file.specs.BoogieLines as l
-use Rattle.run_file.specs.BoogieLines.{scalar, SpellsScalar, SpellsEntry, Line, Var, Map, At, Chosen, Opened, IsLine}
+use Rattle.moves.specs.Scalars.{scalar}
+use Rattle.run_file.specs.BoogieLines.{SpellsScalar, SpellsEntry, Line, Var, Map, At, Chosen, Opened, IsLine}
 use Rattle.run_file.specs.Reading.{◌>>=◌, truth, any_value, argument_of, whole_content, number_of, single, magnitude}
 use Rattle.run_file.specs.BoogieReading.{opens_content, scalar_from, content_scalar, word_scalar, part_of, with_part, parts_from, entry_from, keyword_text, keywords, keyword_of, variable_given, variable_line, map_line, named_line, entries_line, pick_line, value_line, keyed_line, line_of}
 use Rattle.run_file.specs.declared.boogie_lines.Keyword.{Keyword}

@@ -17,13 +17,15 @@ use Rattle.boogie_tree.specs.Value.{Key, BScalar, Int, Bool as Truth, Ref, Real,
 use Rattle.boogie_tree.specs.Values.{is_default, base_of_scalar, FitsKey, map_type, plain_type, IsMapOf, IsOfType, one, many}
 use Rattle.boogie_tree.specs.declared.exprs.BBase.{BBase}
 use Rattle.run_file.specs.BoogieLines as l
-use Rattle.run_file.specs.BoogieLines.{scalar, SpellsScalar, SpellsEntry, Line, Var, Map as Fill, At, Chosen, Opened, IsLine}
-use Rattle.run_file.specs.BoogiePrintable.{IsSpellable, IsSpellableKey, IsSpellableValue, ArePrintableEntries, IsPrintableChoice}
+use Rattle.moves.specs.Scalars.{scalar}
+use Rattle.run_file.specs.BoogieLines.{SpellsScalar, SpellsEntry, Line, Var, Map as Fill, At, Chosen, Opened, IsLine}
+use Rattle.moves.specs.Printable.{IsSpellable, IsSpellableKey, ArePrintableEntries, IsPrintableChoice}
+use Rattle.run_file.specs.BoogiePrintable.{IsSpellableValue}
 use Rattle.run_file.specs.BoogiePrinted.{scalar_text, entry_text, entries_text, value_text, given_text, choice_text, choices_text}
 use Rattle.run_file.specs.BoogieRun.{entries_of}
 use Rattle.run_file.specs.Lines.{Known}
 use Rattle.run_file.specs.Printed.{truth_text, reference_text, fraction_text, key_text}
-use Rattle.run_file.specs.Text.{is_empty}
+use Rattle.moves.specs.Lists.{is_empty}
 use Rattle.run_file.specs.Values as v
 use Rattle.run_file.specs.Values.{SpellsValue, BeginsWithKey, BeginsWithContent}
 use Rattle.run_file.proofs.PrintedLines.{var_word}

@@ -17,7 +17,7 @@ use Rattle.vb_value.specs.KeyOrder.{key_cmp_total}
 use Rattle.boogie_tree.specs.Value.{Key, BScalar, Int, Bool as Truth, Ref, Real, Snap, same_scalar, Entry}
 use Rattle.boogie_tree.specs.Values.{is_default, default_of, FitsScalar, IsMapOf}
 use Rattle.boogie_tree.specs.declared.exprs.BBase.{BBase}
-use Rattle.run_file.specs.BoogiePrintable.{ArePrintableEntries}
+use Rattle.moves.specs.Printable.{ArePrintableEntries}
 use Rattle.run_file.specs.BoogieRun.{entry_with, filled, entries_of, nothing, KeysOnce}
 use Rattle.run_file.proofs.BoogieMapLaws.{exact_scalars}
 use Rattle.run_file.proofs.BoogiePrintedLines.{entry}

@@ -17,13 +17,14 @@ use Rattle.boogie_tree.specs.Value.{Key, BScalar, BValue, One, Many, Entry, BCho
 use Rattle.boogie_tree.specs.Values.{is_default, base_of_scalar, default_of, FitsKey, fits_key, base_of_part, FitsScalar, map_type, plain_type, IsMapOf, IsOfType, one, many}
 use Rattle.boogie_tree.specs.declared.exprs.BBase.{BBase}
 use Rattle.run_file.specs.BoogieLines.{known, Line, Var, Map as Fill, At, Opened, IsLine}
-use Rattle.run_file.specs.BoogiePrintable.{KeepsNames, IsPrintableSetting, IsPrintableChoice, IsPrintable}
+use Rattle.moves.specs.Printable.{IsPrintableChoice}
+use Rattle.run_file.specs.BoogiePrintable.{KeepsNames, IsPrintableSetting, IsPrintable}
 use Rattle.run_file.specs.BoogiePrinted.{given_text, given_with, given, run_text}
 use Rattle.run_file.specs.BoogieRun as r
 use Rattle.run_file.specs.BoogieRun.{entries_of, filled, nothing, fits_entry, unset, environment, header, AreSettings, AreChoices, SpellsBoogieRun}
 use Rattle.run_file.specs.Lines.{Known}
 use Rattle.run_file.specs.Printed.{numbered_text}
-use Rattle.run_file.specs.Text.{is_empty}
+use Rattle.moves.specs.Lists.{is_empty}
 use Rattle.run_file.proofs.BoogieLineLaws.{same_bases}
 use Rattle.run_file.proofs.BoogiePrintedLines.{each_entry, value_lines, given_lines, GoodValue, given_said, choices_lines, choices_said}
 use Rattle.run_file.proofs.BoogiePrintedMaps.{typed_filled, map_once, entries_back, entries_once}

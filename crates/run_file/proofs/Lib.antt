@@ -37,3 +37,4 @@ pub mod HeaderLaws
 pub mod BoogiePrintedLines
 pub mod BoogiePrintedMaps
 pub mod BoogiePrintedRuns
+mod NamedLists

@@ -13,7 +13,7 @@ use mir.Val.{SFits}
 use mir.Syntax.{w128}
 use Rattle.std.proofs.lemmas.Str.Parse.{parse_digits}
 use Rattle.vb_base.proofs.Numbers.{digits, all_digits, digits_are_text}
-use Rattle.run_file.specs.Text.{is_empty}
+use Rattle.moves.specs.Lists.{is_empty}
 use Rattle.run_file.specs.Values.{SpellsBelow}
 use Rattle.run_file.specs.Reading.{natural, magnitude, numbered}
 

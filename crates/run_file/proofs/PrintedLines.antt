@@ -20,7 +20,7 @@ use Rattle.viper_state.proofs.MapLaws.{exact_values, exact_contents}
 use Rattle.viper_state.proofs.Paired.{paired_back}
 use Rattle.run_file.specs.Lines as l
 use Rattle.run_file.specs.Lines.{Known, HasName, Scope, Line, Var, Heap, Holds, Chosen, Opened, IsLine}
-use Rattle.run_file.specs.Printable.{IsNamed, IsNamedValue, IsNamedKey, IsNamedContent}
+use Rattle.moves.specs.Printable.{IsNamed, IsNamedValue, IsNamedKey, IsNamedContent}
 use Rattle.run_file.specs.Printed.{numbered_text, reference_text, value_text, var_text, place_text, places_text, heap_text, instance_text, instances_text, contents_text, key_text, content_text}
 use Rattle.run_file.specs.Values.{SpellsValue, BeginsWithContent}
 use Rattle.run_file.proofs.PrintedWords.{IsWord, word_text, text_then, front_then, blank_behind}

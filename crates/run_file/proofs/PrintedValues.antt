@@ -24,7 +24,7 @@ use Rattle.vb_value.specs.declared.values.Value.TheVariants.{Int, Bool as Truth,
 use Rattle.vb_value.proofs.FractionLaws.{reduced_self}
 use Rattle.viper_state.specs.Fits.{FitsKey, FitsPart}
 use Rattle.viper_state.specs.State.{Key}
-use Rattle.run_file.specs.Printable.{IsNamed, IsNamedValue, IsNamedPart, IsNamedKey, IsNamedContent}
+use Rattle.moves.specs.Printable.{IsNamed, IsNamedValue, IsNamedPart, IsNamedKey, IsNamedContent}
 use Rattle.run_file.specs.Printed.{truth_text, reference_text, fraction_text, value_text, part_text, key_text, content_text}
 use Rattle.run_file.specs.Values as v
 use Rattle.run_file.specs.Values.{SpellsBelow, SpellsInt, SpellsValue, IsArgument, BeginsWithKey, BeginsWithContent}

@@ -6,7 +6,8 @@ use Rattle.std.proofs.lemmas.Bool.{and_parts, and_from}
 use Rattle.std.proofs.lemmas.Bool.Decides.{nat_tests}
 use Rattle.std.proofs.lemmas.List.{append-nil}
 use Rattle.std.proofs.lemmas.List.Splits.{slice_split-cons_yes, slice_split-cons_no}
-use Rattle.run_file.specs.Text.{lines_of, is_blank, is_empty, is_skipped, words_of, told}
+use Rattle.moves.specs.Lists.{is_empty}
+use Rattle.run_file.specs.Text.{lines_of, is_blank, is_skipped, words_of, told}
 use Rattle.run_file.proofs.WordLaws.{Begins, without_blank, no_words}
 
 -- ---- bytes

@@ -29,7 +29,8 @@ use Rattle.viper_state.proofs.FitsLaws.{FitsMap-set, FitsMap-empty, FitsValue-de
 use Rattle.viper_state.proofs.MapLaws.{exact_values, exact_contents}
 use Rattle.viper_state.proofs.Paired.{paired_changed, All-changed}
 use Rattle.run_file.specs.Lines.{Scope, scope_of, Line, Var, Heap, Holds, Chosen, Opened, IsLine, var, heap, content as holds, pick, value, amount, fresh, state}
-use Rattle.run_file.specs.Printable.{IsNamed, IsNamedValue, IsNamedPart, IsNamedKey, IsNamedContent, IsNamedMemo, IsNamedChoice, IsPrintable}
+use Rattle.moves.specs.Printable.{IsNamed, IsNamedValue, IsNamedPart, IsNamedKey, IsNamedContent}
+use Rattle.run_file.specs.Printable.{IsNamedMemo, IsNamedChoice, IsPrintable}
 use Rattle.run_file.specs.Run.{ViperRun, memo_with, opening_with, scope_memo, empty_opening, AreChoices, none as no_choice, one, filled, SpellsViperRun}
 use Rattle.run_file.specs.Values.{SpellsInt, plain, negative, SpellsValue, int, truth, falsehood, null, reference, perm, IsArgument, int as int_argument, truth as truth_argument, reference as reference_argument, BeginsWithKey, none as no_key, more, BeginsWithContent, unit, leaf, pair}
 

@@ -2,7 +2,8 @@
 use Rattle.std.proofs.Common.{◌≡◌, ◌∙◌, ◌+◌, ◌-◌, ◌<◌, ◌≤◌, ℕ, suc, Bool, true, false, not, cond, ◌==◌, List, [], ◌∷◌, length, take, drop, refl, sym, ap, arith}
 use Rattle.std.proofs.lemmas.List.{take_rest}
 use Rattle.std.specs.List.{prefix_len, slice_split, onto_first, filter}
-use Rattle.run_file.specs.Text.{lines_of, is_blank, is_empty, words_of}
+use Rattle.moves.specs.Lists.{is_empty}
+use Rattle.run_file.specs.Text.{lines_of, is_blank, words_of}
 
 suc_is : (n : ℕ) → 1 + n ≡ suc n
 suc_is n = omega arith

@@ -1,32 +1,27 @@
 -- What a line of a run file of Boogie says.
 use Rattle.std.specs.Prelude.{◌≡◌, ◌≤◌, ℕ, Bool, true, false, List, [], ◌∷◌, codes, map}
+use Rattle.vb_base.specs.Limits.{max_content_nodes}
 use Rattle.vb_value.specs.Content.{Content, nodes}
 use Rattle.vb_value.specs.declared.keys.KeyPart.{KeyPart}
 use Rattle.vb_value.specs.declared.values.Ty.{Ty}
 use Rattle.vb_value.specs.declared.values.Ty.TheVariants as ty
 use Rattle.vb_value.specs.declared.values.Value.{Value}
-use Rattle.vb_value.specs.declared.values.Value.TheVariants.{Int, Bool as Truth, Ref, Perm}
+use Rattle.vb_value.specs.declared.values.Value.TheVariants.{Bool as Truth}
 use Rattle.boogie_tree.specs.Values.{base_of_scalar}
 use Rattle.boogie_tree.specs.Program.{BType, Local}
 use Rattle.boogie_tree.specs.Value as b
 use Rattle.boogie_tree.specs.Value.{Key, BScalar, Entry, BChoice, Pick, Value as Given}
-use Rattle.run_file.specs.Text.{is_empty}
+use Rattle.moves.specs.Scalars.{scalar}
+use Rattle.moves.specs.Lists.{is_empty}
 use Rattle.run_file.specs.Values.{SpellsValue, IsArgument, BeginsWithContent}
 use Rattle.run_file.specs.Lines.{Known, HasName}
 
 -- ---- values
 
--- a value as one of Boogie, where a fraction is a real
-abbrev pub scalar : Value → BScalar
-scalar (Int n) = b.Int n
-scalar (Truth t) = b.Bool t
-scalar (Ref r) = b.Ref r
-scalar (Perm q) = b.Real q
-
 -- words that are a value of some type: one word, or a content
 pub data SpellsScalar : List (List ℕ) → BScalar → Type 0 where
   word : {u : Ty} {w : List ℕ} {v : Value} → SpellsValue u w v → SpellsScalar (w ∷ []) (scalar v)
-  content : {words : List (List ℕ)} {c : Content} → BeginsWithContent words c [] → nodes c ≤ 4096 → SpellsScalar words (b.Snap c)
+  content : {words : List (List ℕ)} {c : Content} → BeginsWithContent words c [] → nodes c ≤ max_content_nodes → SpellsScalar words (b.Snap c)
 
 -- words that are a key, of at least one part, and behind it a value
 pub data SpellsEntry : List (List ℕ) → Key → BScalar → Type 0 where

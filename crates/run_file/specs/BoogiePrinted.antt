@@ -4,7 +4,7 @@ use Rattle.std.specs.Prelude.{ℕ, List, [], ◌∷◌, ◌++◌, Option, Some, 
 use Rattle.boogie_tree.specs.Values.{is_default}
 use Rattle.boogie_tree.specs.Program.{Proc}
 use Rattle.boogie_tree.specs.Value.{BScalar, Int, Bool, Ref, Real, Snap, BValue, One, Many, Entry, BChoice, Pick, Value, Entries, BSetting, BRun}
-use Rattle.run_file.specs.Text.{is_empty}
+use Rattle.moves.specs.Lists.{is_empty}
 use Rattle.run_file.specs.Printed.{truth_text, reference_text, fraction_text, content_text, key_text, numbered_text}
 use Rattle.std.specs.Fmt.{signed_decimal}
 use Rattle.run_file.specs.BoogieLines.{known}

@@ -6,10 +6,11 @@ use Rattle.vb_value.specs.declared.keys.KeyPart.{KeyPart}
 use Rattle.boogie_tree.specs.Values.{same_base, base_of_scalar}
 use Rattle.boogie_tree.specs.Program.{BType}
 use Rattle.boogie_tree.specs.Value.{Key, BScalar, Snap, Entry, BChoice, Pick, Value as Given}
-use Rattle.run_file.specs.Text.{is_empty}
+use Rattle.moves.specs.Lists.{is_empty}
 use Rattle.run_file.specs.Lines.{Known}
 use Rattle.run_file.specs.Reading.{◌>>=◌, truth, any_value, argument_of, whole_content, numbered_name, single}
-use Rattle.run_file.specs.BoogieLines.{scalar, Line, Var, Map, At, Chosen, Opened}
+use Rattle.moves.specs.Scalars.{scalar}
+use Rattle.run_file.specs.BoogieLines.{Line, Var, Map, At, Chosen, Opened}
 use Rattle.run_file.specs.declared.boogie_lines.Keyword.{Keyword}
 use Rattle.run_file.specs.declared.boogie_lines.Keyword.TheVariants as keyword
 

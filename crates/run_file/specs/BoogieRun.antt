@@ -8,7 +8,8 @@ use Rattle.vb_value.specs.Key.{key_cmp}
 use Rattle.boogie_tree.specs.Values.{same_base, base_of_scalar, default_of, is_default, fits_key}
 use Rattle.boogie_tree.specs.Program.{BType, Local, Proc}
 use Rattle.boogie_tree.specs.Value.{Key, BScalar, Snap, same_scalar, BValue, One, Many, Entry, BChoice, Entries, BSetting, BRun}
-use Rattle.run_file.specs.Text.{lines_of, told, is_empty}
+use Rattle.moves.specs.Lists.{is_empty}
+use Rattle.run_file.specs.Text.{lines_of, told}
 use Rattle.run_file.specs.Lines.{Known}
 use Rattle.run_file.specs.BoogieLines.{known, Line, Var, Map, At, Chosen, Opened, IsLine}
 use Rattle.run_file.specs.Machine.{Headed, WrongAt}

@@ -18,4 +18,3 @@ pub mod BoogieProgress
 pub mod BoogieView
 pub mod BoogiePrinted
 pub mod BoogiePrintable
-pub mod Moves

@@ -1,5 +1,6 @@
 -- What a line of a run file of Viper says.
 use Rattle.std.specs.Prelude.{◌≡◌, ◌≤◌, ◌+◌, ℕ, Bool, List, [], ◌∷◌, Option, Some, None, codes, map, slice_get, take}
+use Rattle.vb_base.specs.Limits.{max_content_nodes}
 use Rattle.vb_value.specs.Content.{Content, nodes}
 use Rattle.vb_value.specs.declared.values.Ty.{Ty}
 use Rattle.vb_value.specs.declared.values.Ty.TheVariants as ty
@@ -79,7 +80,7 @@ pub data IsLine (s : Scope) : List (List ℕ) → Line → Type 0 where
       HasName s.fields f name u → SpellsValue ty.Ref place (Ref r) → SpellsValue u word v →
       IsLine s (codes "heap" ∷ name ∷ place ∷ word ∷ []) (Heap f r v)
   content : {q : ℕ} {name : List ℕ} {words rest : List (List ℕ)} {us : List Ty} {k : Key} {c : Content} →
-      HasName s.predicates q name us → BeginsWithKey us words k rest → BeginsWithContent rest c [] → nodes c ≤ 4096 →
+      HasName s.predicates q name us → BeginsWithKey us words k rest → BeginsWithContent rest c [] → nodes c ≤ max_content_nodes →
       IsLine s (codes "content" ∷ name ∷ words) (Holds q k c)
   pick : {word : List ℕ} {b : Bool} → SpellsValue ty.Bool word (Truth b) →
       IsLine s (codes "pick" ∷ word ∷ []) (Chosen (Branch b))

@@ -1,39 +1,15 @@
 -- The runs that a printed text spells: they fit the program, are within the bound, and have references that a run file can name.
-use Rattle.std.specs.Prelude.{⊤, ◌<◌, ◌^◌, ℕ, All}
-use Rattle.vb_value.specs.Content.{Content, AllValues}
-use Rattle.vb_value.specs.declared.keys.KeyPart.{KeyPart}
-use Rattle.vb_value.specs.declared.keys.KeyPart.TheVariants as part
-use Rattle.vb_value.specs.declared.values.Value.{Value}
-use Rattle.vb_value.specs.declared.values.Value.TheVariants.{Int, Bool as Truth, Ref, Perm}
+use Rattle.std.specs.Prelude.{⊤, ℕ, All}
 use Rattle.viper_core.specs.Program.{Program}
 use Rattle.viper_state.specs.Choice.{Choice, Branch, Took, Amount, Fresh, Filled}
 use Rattle.viper_state.specs.Fits.{FitsOpening, FitsChoice}
-use Rattle.viper_state.specs.State.{Key, Memo}
+use Rattle.viper_state.specs.State.{Memo}
 use Rattle.viper_state.specs.Within.{HasEntries, IsWithinOpening, IsWithinChoice}
+use Rattle.moves.specs.Printable.{IsNamed, IsNamedValue, IsNamedKey, IsNamedContent}
 use Rattle.run_file.specs.Lines.{scope_of}
 use Rattle.run_file.specs.Run.{ViperRun}
 
--- ---- references below 2^64, as every reference of the code is
-
-abbrev pub IsNamed : ℕ → Type 0
-IsNamed r = r < 2 ^ 64
-
-abbrev pub IsNamedValue : Value → Type 0
-IsNamedValue (Int n) = ⊤
-IsNamedValue (Truth b) = ⊤
-IsNamedValue (Ref r) = IsNamed r
-IsNamedValue (Perm q) = ⊤
-
-abbrev pub IsNamedPart : KeyPart → Type 0
-IsNamedPart (part.Int n) = ⊤
-IsNamedPart (part.Bool b) = ⊤
-IsNamedPart (part.Ref r) = IsNamed r
-
-abbrev pub IsNamedKey : Key → Type 0
-IsNamedKey k = All IsNamedPart k
-
-abbrev pub IsNamedContent : Content → Type 0
-IsNamedContent c = AllValues IsNamedValue c
+-- ---- references below 2^64
 
 pub record IsNamedMemo (m : Memo) : Type 0 where
   pub heap : All (HasEntries IsNamed IsNamedValue) m.heap

@@ -6,6 +6,7 @@ use Rattle.std.specs.Char.{is_ascii_digit}
 use Rattle.std.specs.Str.{bytes_eq}
 use Rattle.std.specs.Str.Parse.{digits_value}
 use Rattle.std.specs.Cmp.Lexicographic.{pointwise}
+use Rattle.vb_base.specs.Limits.{max_content_nodes}
 use Rattle.vb_value.specs.Content as content
 use Rattle.vb_value.specs.Content.{Content, nodes}
 use Rattle.vb_value.specs.Fraction.{Fraction, fits_ratio, ratio}
@@ -17,7 +18,7 @@ use Rattle.vb_value.specs.declared.values.Value.{Value}
 use Rattle.vb_value.specs.declared.values.Value.TheVariants.{Int, Bool as Truth, Ref, Perm}
 use Rattle.viper_state.specs.State.{Key}
 use Rattle.viper_state.specs.Choice.{Choice, Branch, Took, Amount, Fresh}
-use Rattle.run_file.specs.Text.{is_empty}
+use Rattle.moves.specs.Lists.{is_empty}
 use Rattle.run_file.specs.Lines.{Known, Scope, Line, Var, Heap, Holds, Chosen, Opened}
 use Rattle.run_file.specs.declared.lines.Keyword.{Keyword}
 use Rattle.run_file.specs.declared.lines.Keyword.TheVariants as keyword
@@ -111,7 +112,7 @@ content_from (suc n) (word ∷ words) =
     (if bytes_eq word (codes "pair") then content_from n words >>= (λ a. content_from n a.1 >>= (λ b. Some (content.Pair a.0 b.0, b.1))) else None))
 
 abbrev pub small_whole : Content × List (List ℕ) → Option Content
-small_whole r = if is_empty r.1 && nat_le (nodes r.0) 4096 then Some r.0 else None
+small_whole r = if is_empty r.1 && nat_le (nodes r.0) max_content_nodes then Some r.0 else None
 
 -- the content that all the words are
 unfoldable pub whole_content : List (List ℕ) → Option Content

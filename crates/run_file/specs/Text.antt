@@ -1,7 +1,8 @@
 -- A run file is lines, and a line is words.
-use Rattle.std.specs.Prelude.{ℕ, Bool, true, false, not, ◌==◌, ◌||◌, nat_eq, List, [], ◌∷◌, Option, None, Some, filter, map, codes}
+use Rattle.std.specs.Prelude.{ℕ, Bool, not, ◌==◌, ◌||◌, nat_eq, List, [], Option, None, Some, filter, map, codes}
 use Rattle.std.specs.Borrow.{Bor}
 use Rattle.std.specs.List.{slice_split, starts_with}
+use Rattle.moves.specs.Lists.{is_empty}
 
 -- lines are divided by the byte 10
 abbrev pub lines_of : List ℕ → List (List ℕ)
@@ -10,10 +11,6 @@ lines_of bytes = slice_split (λ b. b == 10) bytes
 -- a space, a tab or a carriage return
 abbrev pub is_blank : ℕ → Bool
 is_blank b = b == 32 || b == 9 || b == 13
-
-abbrev pub is_empty : {X : Type 0} → List X → Bool
-is_empty [] = true
-is_empty (x ∷ xs) = false
 
 -- words are what stands between blanks
 unfoldable pub words_of : List ℕ → List (List ℕ)

@@ -1,5 +1,6 @@
 //! Laws of run files of Boogie, each as the contract of a function that does nothing.
 ghost use Rattle.std.specs.Prelude.{◌≡◌, ◌≤◌, ◌⊎◌, ℕ, List, length};
+ghost use Rattle.vb_base.specs.Limits.{max_boogie_bytes};
 ghost use Rattle.vb_base.specs.Names.{NamesDiffer};
 ghost use Rattle.vb_base.specs.declared.places.Pos.{Pos};
 ghost use Rattle.boogie_tree.specs.Program.{Proc};
@@ -18,7 +19,7 @@ pub fn one_boogie_run()
 
 /// Bytes spell a run, or they go wrong at one place.
 pub fn a_boogie_run_or_one_place()
-    ensures either { (bytes : List ℕ) (d : Proc) → length bytes ≤ 33554432 → NamesDiffer (known d.locals).names →
+    ensures either { (bytes : List ℕ) (d : Proc) → length bytes ≤ max_boogie_bytes → NamesDiffer (known d.locals).names →
         ((run : BRun) × SpellsBoogieRun bytes d run) ⊎ ((at : Pos) × GoesWrongAt bytes d at) }
     ensures not_both { (bytes : List ℕ) (d : Proc) (run : BRun) (at : Pos) → NamesDiffer (known d.locals).names →
         SpellsBoogieRun bytes d run → GoesWrongAt bytes d at → ⊥ }
@@ -34,7 +35,7 @@ pub fn a_printed_boogie_run_is_spelled()
 
 /// The header of a file names a procedure, or goes wrong at one place, and never both.
 pub fn a_header_or_one_place()
-    ensures either { (bytes : List ℕ) → length bytes ≤ 33554432 → ((name : List ℕ) × SpellsName bytes name) ⊎ ((at : Pos) × NamesNothingAt bytes at) }
+    ensures either { (bytes : List ℕ) → length bytes ≤ max_boogie_bytes → ((name : List ℕ) × SpellsName bytes name) ⊎ ((at : Pos) × NamesNothingAt bytes at) }
     ensures one_name { (bytes name other : List ℕ) → SpellsName bytes name → SpellsName bytes other → name ≡ other }
     ensures not_both { (bytes name : List ℕ) (at : Pos) → SpellsName bytes name → NamesNothingAt bytes at → ⊥ }
     ensures one_place { (bytes : List ℕ) (at to : Pos) → NamesNothingAt bytes at → NamesNothingAt bytes to → at ≡ to }

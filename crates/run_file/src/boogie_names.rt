@@ -1,6 +1,7 @@
 // The procedure whose run a run file of Boogie is.
 ghost use Rattle.std.specs.Prelude.{◌≡◌, ◌≤◌, ◌<◌, ◌^◌, ℕ, List, IfOk, IfErr, MatchResult, length};
 ghost use Rattle.std.specs.Option.{option_map};
+ghost use Rattle.vb_base.specs.Limits.{max_boogie_bytes};
 ghost use Rattle.vb_base.specs.declared.places.Pos.{Pos};
 ghost use Rattle.run_file.specs.BoogieProgress as progress;
 ghost use Rattle.run_file.specs.BoogieRun.{SpellsName, NamesNothingAt};
@@ -17,7 +18,7 @@ use vb_base::{Ident, Memory, Pos};
 /// The name of the procedure on the header line of a run file, or else where the header is wrong: at the first line that is
 /// not skipped, or at the last where there is none.
 pub fn boogie_run_name(alloc: Global, bytes: &[u8]) -> Result<Ident, RunFileFault>
-    requires { length bytes.now ≤ 33554432 }
+    requires { length bytes.now ≤ max_boogie_bytes }
     ensures name { IfOk result (λ x. SpellsName bytes.now x) }
     ensures fault { IfErr result (UnlessMemory (NamesNothingAt bytes.now)) }
 
@@ -41,7 +42,7 @@ fn copied(alloc: Global, name: &[u8]) -> Result<Ident, Memory>
 
 /// The number of the first line that is not skipped, and the line, or else the number of the last line.
 fn first_said(bytes: &[u8]) -> (u32, Option<&[u8]>)
-    requires { length bytes.now ≤ 33554432 }
+    requires { length bytes.now ≤ max_boogie_bytes }
     ensures { IsFirstSaid (lines_of bytes.now) result }
 {
     let mut rest = Some(bytes);

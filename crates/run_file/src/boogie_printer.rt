@@ -1,8 +1,9 @@
 // The text of a run of Boogie.
-ghost use Rattle.std.specs.Prelude.{◌≡◌, ◌++◌, None, IfOk, OnOk, length, map, replicate, slice_get, slice_set, Some};
+ghost use Rattle.std.specs.Prelude.{◌≡◌, ◌++◌, All, None, IfOk, OnOk, length, map, replicate, slice_get, slice_set, Some};
 ghost use Rattle.std.specs.Option.{option_map};
 ghost use Rattle.boogie_tree.specs.Value as v;
 ghost use Rattle.boogie_tree.specs.Whole.{choice_of, entry_of, locals_of, local_of, proc_of, run_of, scalar_of, setting_of, value_of};
+ghost use Rattle.moves.specs.Printable.{IsNamedEntry, IsNamedKey, IsNamedMove, IsNamedScalar};
 ghost use Rattle.run_file.specs.BoogieLines.{known};
 ghost use Rattle.run_file.specs.BoogiePrintable.{IsPrintable, KeepsNames};
 ghost use Rattle.run_file.specs.BoogiePrinted as text;
@@ -26,6 +27,9 @@ pub fn print_boogie_run(alloc: Global, proc: &Proc, run: &BRun) -> Result<Vec<u8
     // and so they spell the run
     ensures spells { IfOk result (λ out. KeepsNames (proc_of proc.now) → IsPrintable (proc_of proc.now) (run_of run.now) →
         SpellsBoogieRun out.items (proc_of proc.now) (run_of run.now)) }
+
+    // each reference of the code is below 2^64, so that of what is printable this need not be asked of the choices
+    ensures named { IfOk result (λ out. All IsNamedMove (run_of run.now).choices) }
 {
     let mut out = Vec::new(alloc);
     put(&mut out, b"boogie run ")?;
@@ -184,7 +188,8 @@ fn put_filled(alloc: Global, out: &mut Vec<u8>, filled: &Sparse<Key, BScalar>) -
 }
 
 fn put_entries(alloc: Global, out: &mut Vec<u8>, entries: &[Entry]) -> Result<(), Memory>
-    ensures { OnOk result (out.new.items ≡ out.old.items ++ text.entries_text (map entry_of entries.now)) }
+    ensures text { OnOk result (out.new.items ≡ out.old.items ++ text.entries_text (map entry_of entries.now)) }
+    ensures named { OnOk result (All IsNamedEntry (map entry_of entries.now)) }
 {
     for entry in entries {
         put_place(alloc, out, &entry.key, &entry.value)?;
@@ -193,7 +198,8 @@ fn put_entries(alloc: Global, out: &mut Vec<u8>, entries: &[Entry]) -> Result<()
 }
 
 fn put_place(alloc: Global, out: &mut Vec<u8>, key: &Key, value: &BScalar) -> Result<(), Memory>
-    ensures { OnOk result (out.new.items ≡ out.old.items ++ text.entry_text (record { key = key.now; value = scalar_of value.now })) }
+    ensures text { OnOk result (out.new.items ≡ out.old.items ++ text.entry_text (record { key = key.now; value = scalar_of value.now })) }
+    ensures named { OnOk result (IsNamedKey key.now × IsNamedScalar (scalar_of value.now)) }
 {
     put(out, b"at ")?;
     put_key(alloc, out, &key.parts)?;
@@ -202,7 +208,8 @@ fn put_place(alloc: Global, out: &mut Vec<u8>, key: &Key, value: &BScalar) -> Re
 }
 
 fn put_scalar(alloc: Global, out: &mut Vec<u8>, value: &BScalar) -> Result<(), Memory>
-    ensures { OnOk result (out.new.items ≡ out.old.items ++ text.scalar_text (scalar_of value.now)) }
+    ensures text { OnOk result (out.new.items ≡ out.old.items ++ text.scalar_text (scalar_of value.now)) }
+    ensures named { OnOk result (IsNamedScalar (scalar_of value.now)) }
 {
     match value {
         BScalar::Int(number) => put(out, format!(in alloc; "{number}")?.as_bytes()),
@@ -214,7 +221,8 @@ fn put_scalar(alloc: Global, out: &mut Vec<u8>, value: &BScalar) -> Result<(), M
 }
 
 fn put_choices(alloc: Global, out: &mut Vec<u8>, choices: &[BChoice]) -> Result<(), Memory>
-    ensures { OnOk result (out.new.items ≡ out.old.items ++ text.choices_text (map choice_of choices.now)) }
+    ensures text { OnOk result (out.new.items ≡ out.old.items ++ text.choices_text (map choice_of choices.now)) }
+    ensures named { OnOk result (All IsNamedMove (map choice_of choices.now)) }
 {
     for choice in choices {
         put_choice(alloc, out, choice)?;
@@ -223,7 +231,8 @@ fn put_choices(alloc: Global, out: &mut Vec<u8>, choices: &[BChoice]) -> Result<
 }
 
 fn put_choice(alloc: Global, out: &mut Vec<u8>, choice: &BChoice) -> Result<(), Memory>
-    ensures { OnOk result (out.new.items ≡ out.old.items ++ text.choice_text (choice_of choice.now)) }
+    ensures text { OnOk result (out.new.items ≡ out.old.items ++ text.choice_text (choice_of choice.now)) }
+    ensures named { OnOk result (IsNamedMove (choice_of choice.now)) }
 {
     match choice {
         BChoice::Pick(way) => {

@@ -1,6 +1,7 @@
 // The reader of run files of Boogie.
 ghost use Rattle.std.specs.Prelude.{◌≡◌, ◌≤◌, ◌<◌, ◌^◌, List, ℕ, true, false, Some, IfOk, IfErr, OnOk, MatchResult, length, map, option_and_then};
 ghost use Rattle.std.specs.Option.{option_map};
+ghost use Rattle.vb_base.specs.Limits.{max_boogie_bytes};
 ghost use Rattle.sparse.specs.Map.{Map, empty};
 ghost use Rattle.vb_base.specs.Names.{NamesDiffer};
 ghost use Rattle.vb_base.specs.declared.places.Pos.{Pos};
@@ -35,7 +36,7 @@ use vb_value::{Content, Key};
 /// The run of a procedure that the bytes of a run file spell, or else where they go wrong: at the first line that may not
 /// stand there, or at the last where the header is missing.
 pub fn read_boogie_run(alloc: Global, bytes: &[u8], proc: &Proc) -> Result<BRun, RunFileFault>
-    requires few { length bytes.now ≤ 33554432 }
+    requires few { length bytes.now ≤ max_boogie_bytes }
     requires names { NamesDiffer (known (proc_of proc.now).locals).names }
     ensures run { IfOk result (λ run. r.SpellsBoogieRun bytes.now (proc_of proc.now) (run_of run)) }
     ensures fault { IfErr result (UnlessMemory (r.GoesWrongAt bytes.now (proc_of proc.now))) }
@@ -348,7 +349,7 @@ fn is_named(name: &Ident, word: Option<&[u8]>) -> bool
 
 /// The run that the lines of a text are, or where it goes wrong.
 fn read_lines(alloc: Global, name: &Ident, scope: Scope, bytes: &[u8]) -> Result<BRun, RunFileFault>
-    requires { length bytes.now ≤ 33554432 }
+    requires { length bytes.now ≤ max_boogie_bytes }
     ensures { MatchResult result (λ run. IsReadBy (progress.reader name.now (scope_view scope.entry)) (lines_of bytes.now) (run_of run))
         (UnlessMemory (StopsBy (progress.reader name.now (scope_view scope.entry)) (lines_of bytes.now))) }
 {

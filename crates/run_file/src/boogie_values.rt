@@ -3,7 +3,6 @@ ghost use Rattle.std.specs.Prelude.{◌≡◌, IfOk, MatchOption};
 ghost use Rattle.std.specs.Option.{option_map};
 ghost use Rattle.boogie_tree.specs.Values as bases;
 ghost use Rattle.boogie_tree.specs.Whole.{scalar_of, entry_of};
-ghost use Rattle.run_file.specs.BoogieLines as l;
 ghost use Rattle.run_file.specs.BoogieReading as reading;
 ghost use Rattle.run_file.specs.BoogieRun.{fits_entry};
 ghost use Rattle.run_file.specs.Text.{words_of};
@@ -13,9 +12,10 @@ use crate::lines::single;
 use crate::texts::next_word;
 use crate::values::{any_value, argument};
 use boogie_tree::{BBase, BScalar, BType, Entry, base_of_scalar, default_of, fits_key};
+use moves::scalar as as_scalar;
 use std::alloc::Global;
 use vb_base::Memory;
-use vb_value::{Key, KeyPart, Value};
+use vb_value::{Key, KeyPart};
 
 /// The value that all the words of a line are: one word, or a content.
 pub(crate) fn scalar(alloc: Global, words: &[u8]) -> Result<Option<BScalar>, Memory>
@@ -51,18 +51,6 @@ fn opens_content(word: &[u8]) -> bool
     ensures { result ≡ reading.opens_content word.now }
 {
     word == b"unit".as_slice() || word == b"leaf".as_slice() || word == b"pair".as_slice()
-}
-
-/// A value as one of Boogie, where a fraction is a real.
-fn as_scalar(value: Value) -> BScalar
-    ensures { scalar_of result ≡ l.scalar value }
-{
-    match value {
-        Value::Int(number) => BScalar::Int(number),
-        Value::Bool(truth) => BScalar::Bool(truth),
-        Value::Ref(reference) => BScalar::Ref(reference),
-        Value::Perm(fraction) => BScalar::Real(fraction),
-    }
 }
 
 /// The key and value that all the words of a line are.

@@ -14,7 +14,8 @@ use crate::values::{any_value, argument, value};
 use std::alloc::Global;
 use std::rc::Rc;
 use vb_base::Memory;
-use vb_value::{Content, Key, KeyPart, MAX_NODES, Ty};
+use vb_base::limits::MAX_CONTENT_NODES;
+use vb_value::{Content, Key, KeyPart, Ty};
 
 /// The arguments of these types with which the words of a line begin, and the rest of the line.
 pub(crate) fn key<'a>(
@@ -48,7 +49,7 @@ fn argument_of(ty: Ty, words: &[u8]) -> Option<(KeyPart, &[u8])>
 pub(crate) fn whole_content(alloc: Global, words: &[u8]) -> Result<Option<Content>, Memory>
     ensures { IfOk result (λ c. option_map content_of c ≡ whole_content (words_of words.now)) }
 {
-    let Some((content, rest, _)) = content(alloc, words, MAX_NODES)? else {
+    let Some((content, rest, _)) = content(alloc, words, MAX_CONTENT_NODES)? else {
         return Ok(None);
     };
     match next_word(rest) {

@@ -1,5 +1,6 @@
 //! Laws of run files, each as the contract of a function that does nothing.
 ghost use Rattle.std.specs.Prelude.{◌≡◌, ◌≤◌, ◌⊎◌, ℕ, List, length};
+ghost use Rattle.vb_base.specs.Limits.{max_boogie_bytes};
 ghost use Rattle.vb_base.specs.declared.places.Pos.{Pos};
 ghost use Rattle.viper_core.specs.Formed.{IsFormed};
 ghost use Rattle.viper_core.specs.Program.{Program};
@@ -15,7 +16,7 @@ pub fn one_run()
 
 /// Bytes spell a run, or they go wrong at one place.
 pub fn a_run_or_one_place()
-    ensures either { (bytes : List ℕ) (p : Program) (n : ℕ) → length bytes ≤ 33554432 → IsFormed p →
+    ensures either { (bytes : List ℕ) (p : Program) (n : ℕ) → length bytes ≤ max_boogie_bytes → IsFormed p →
         ((run : ViperRun) × SpellsViperRun bytes p n run) ⊎ ((at : Pos) × GoesWrongAt bytes p n at) }
     ensures not_both { (bytes : List ℕ) (p : Program) (n : ℕ) (run : ViperRun) (at : Pos) → IsFormed p →
         SpellsViperRun bytes p n run → GoesWrongAt bytes p n at → ⊥ }

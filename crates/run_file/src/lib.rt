@@ -23,6 +23,7 @@ mod values;
 pub use boogie_names::boogie_run_name;
 pub use boogie_printer::print_boogie_run;
 pub use boogie_reader::read_boogie_run;
+pub use moves::moves;
 pub use printer::print_viper_run;
 pub use reader::read_viper_run;
 pub use runs::{RunFileFault, ViperRun};

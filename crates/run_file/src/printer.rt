@@ -6,6 +6,7 @@ ghost use Rattle.viper_core.specs.Formed.{IsFormed};
 ghost use Rattle.viper_core.specs.Program as p;
 ghost use Rattle.viper_core.specs.View.{predicate_of, program_of};
 ghost use Rattle.viper_state.specs.View.{choice_of, contents_of, memo_of};
+ghost use Rattle.moves.specs.Printable.{IsNamed, IsNamedContent, IsNamedKey, IsNamedPart, IsNamedValue};
 ghost use Rattle.run_file.specs.Printable.{IsPrintable};
 ghost use Rattle.run_file.specs.Printed as text;
 ghost use Rattle.run_file.specs.Run.{SpellsViperRun};
@@ -210,7 +211,8 @@ fn put_instance(
 
 /// The arguments of an instance, each with a space behind it.
 pub(crate) fn put_key(alloc: Global, out: &mut Vec<u8>, parts: &[KeyPart]) -> Result<(), Memory>
-    ensures { OnOk result (out.new.items ≡ out.old.items ++ text.key_text parts.now) }
+    ensures text { OnOk result (out.new.items ≡ out.old.items ++ text.key_text parts.now) }
+    ensures named { OnOk result (IsNamedKey parts.now) }
 {
     for part in parts {
         put_part(alloc, out, *part)?;
@@ -220,7 +222,8 @@ pub(crate) fn put_key(alloc: Global, out: &mut Vec<u8>, parts: &[KeyPart]) -> Re
 }
 
 fn put_part(alloc: Global, out: &mut Vec<u8>, part: KeyPart) -> Result<(), Memory>
-    ensures { OnOk result (out.new.items ≡ out.old.items ++ text.part_text part) }
+    ensures text { OnOk result (out.new.items ≡ out.old.items ++ text.part_text part) }
+    ensures named { OnOk result (IsNamedPart part) }
 {
     match part {
         KeyPart::Int(number) => put(out, format!(in alloc; "{number}")?.as_bytes()),
@@ -230,7 +233,8 @@ fn put_part(alloc: Global, out: &mut Vec<u8>, part: KeyPart) -> Result<(), Memor
 }
 
 pub(crate) fn put_content(alloc: Global, out: &mut Vec<u8>, content: &Content) -> Result<(), Memory>
-    ensures { OnOk result (out.new.items ≡ out.old.items ++ text.content_text (content_of content.now)) }
+    ensures text { OnOk result (out.new.items ≡ out.old.items ++ text.content_text (content_of content.now)) }
+    ensures named { OnOk result (IsNamedContent (content_of content.now)) }
 {
     match content {
         Content::Unit => put(out, b"unit"),
@@ -248,7 +252,8 @@ pub(crate) fn put_content(alloc: Global, out: &mut Vec<u8>, content: &Content) -
 }
 
 fn put_value(alloc: Global, out: &mut Vec<u8>, value: Value) -> Result<(), Memory>
-    ensures { OnOk result (out.new.items ≡ out.old.items ++ text.value_text value) }
+    ensures text { OnOk result (out.new.items ≡ out.old.items ++ text.value_text value) }
+    ensures named { OnOk result (IsNamedValue value) }
 {
     match value {
         Value::Int(number) => put(out, format!(in alloc; "{number}")?.as_bytes()),
@@ -265,7 +270,8 @@ pub(crate) fn truth_text(truth: bool) -> &'static [u8]
 }
 
 pub(crate) fn put_reference(alloc: Global, out: &mut Vec<u8>, reference: u64) -> Result<(), Memory>
-    ensures { OnOk result (out.new.items ≡ out.old.items ++ text.reference_text reference) }
+    ensures text { OnOk result (out.new.items ≡ out.old.items ++ text.reference_text reference) }
+    ensures named { OnOk result (IsNamed reference) }
 {
     if reference == 0 {
         return put(out, b"null");

@@ -1,5 +1,6 @@
 // The reader of run files of Viper.
 ghost use Rattle.std.specs.Prelude.{◌≡◌, ◌≤◌, ◌<◌, ◌^◌, true, false, Some, IfOk, IfErr, OnOk, MatchResult, length};
+ghost use Rattle.vb_base.specs.Limits.{max_boogie_bytes};
 ghost use Rattle.vb_base.specs.declared.places.Pos.{Pos};
 ghost use Rattle.viper_core.specs.Formed.{IsFormed};
 ghost use Rattle.viper_core.specs.View.{program_of};
@@ -31,7 +32,7 @@ pub fn read_viper_run(
     program: &Program,
     unit: u32,
 ) -> Result<ViperRun, RunFileFault>
-    requires few { length bytes.now ≤ 33554432 }
+    requires few { length bytes.now ≤ max_boogie_bytes }
     requires formed { IsFormed (program_of program.now) }
     requires unit { unit < length (program_of program.now).units }
     ensures run { IfOk result (λ run. SpellsViperRun bytes.now (program_of program.now) unit (run_of run)) }
@@ -235,7 +236,7 @@ fn is_header(line: &[u8]) -> bool
 
 /// The run that the lines of a text are, or where it goes wrong.
 fn read_lines(alloc: Global, scope: Scope, bytes: &[u8]) -> Result<ViperRun, RunFileFault>
-    requires { length bytes.now ≤ 33554432 }
+    requires { length bytes.now ≤ max_boogie_bytes }
     ensures { MatchResult result (λ run. IsReadBy (progress.reader (scope_view scope.entry)) (lines_of bytes.now) (run_of run))
         (progress.UnlessMemory (StopsBy (progress.reader (scope_view scope.entry)) (lines_of bytes.now))) }
 {

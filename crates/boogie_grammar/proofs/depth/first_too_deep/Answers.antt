@@ -3,8 +3,8 @@ use Rattle.boogie_grammar.proofs.DepthLaws.{item_at, unclosed_more, one_more_fro
 use Rattle.boogie_grammar.specs.Depth.{unclosed}
 use Rattle.boogie_grammar.proofs.depth.first_too_deep.Goals as goal
 
-pub returns-then-count-gt-MAX_UNCLOSED : goal.returns-then-count-gt-MAX_UNCLOSED
-returns-then-count-gt-MAX_UNCLOSED c =
+pub returns-then-count-gt-MAX_UNCLOSED_BRACKETS : goal.returns-then-count-gt-MAX_UNCLOSED_BRACKETS
+returns-then-count-gt-MAX_UNCLOSED_BRACKETS c =
     let here = item_at c.args.tokens.now c.loop-token.token-index c.token-item.result c.loop-token-test.true c.token-item.is in
     let more = unclosed_more c.args.tokens.now c.loop-token.token-index c.token-item.result here in
     record {

@@ -1,0 +1,4 @@
+pub mod MapLaws
+mod ListLaws
+mod PrintableLaws
+pub mod NamedLists
