@@ -1,33 +1,27 @@
 -- Ways of going on, for runs of Viper and of code side by side.
 use Rattle.std.specs.Bool.{⊤}
-use Rattle.std.proofs.Common.{◌≡◌, ℕ, None, List, [], ◌∷◌, ◌++◌, All, refl, sym, ap, subst, ◌∙◌, append_assoc, append-nil}
+use Rattle.std.proofs.Common.{◌≡◌, ℕ, Option, Some, None, List, [], ◌∷◌, ◌++◌, All, refl, sym, ap, subst, ◌∙◌, append_assoc, append-nil}
 use Rattle.std.proofs.lemmas.List.Elements.{All-nil, All-cons, All-head, All-tail, All-append}
 use Rattle.vb_base.specs.declared.labels.Label.{Label}
-use Rattle.vb_value.specs.Bound.{Bound}
-use Rattle.vb_value.specs.Fraction.{Fraction, IsProperFraction}
+use Rattle.vb_value.specs.Bound.{Bound, Bounded}
 use Rattle.vb_value.specs.Layout.{Layout}
-use Rattle.viper_state.specs.Choice as choice
 use Rattle.viper_state.specs.Choice.{Choice}
-use Rattle.viper_state.specs.Event as event
 use Rattle.viper_state.specs.Event.{Event}
 use Rattle.viper_meaning.specs.Ends as v
 use Rattle.viper_meaning.specs.Ends.{Evaluated, ends}
-use Rattle.viper_meaning.specs.Run.{Run, ended, takes, then_do, before, given, taking_amount, Step, Goes, Fails, Blocked, Short, Over, Ran, ran, leaving, since, on, then_ran, is_short, with_more}
+use Rattle.viper_meaning.specs.Run.{Run, ended, takes, then_do, noting, given, taking, Step, Goes, Fails, Blocked, Short, Over, Ran, ran, leaving, since, on, then_ran, is_short, with_more}
 use Rattle.viper_meaning.specs.Kept as kept
 use Rattle.viper_meaning.specs.Kept.{Keeps}
 use Rattle.viper_meaning.specs.KeptRuns.{KeepsRun, at_end, later}
 use Rattle.viper_meaning.proofs.RunLaws.{on-before, on-then, more_left}
-use Rattle.boogie_tree.specs.Value as bv
 use Rattle.boogie_tree.specs.Value.{Key, BChoice}
 use Rattle.sparse.specs.Map.{Map}
 use Rattle.vb_value.specs.Content.{Content}
 use Rattle.vb_value.specs.declared.values.Ty.{Ty}
 use Rattle.vb_value.specs.declared.values.Value.{Value}
-use Rattle.boogie_tree.specs.Values.{plain_type}
-use Rattle.boogie_tree.specs.declared.exprs.BBase.TheVariants as base
 use Rattle.boogie_meaning.specs.Run as r
 use Rattle.boogie_meaning.specs.Run.{Done, Stops, then_run}
-use Rattle.run_file.specs.Moves.{moves, moves_of}
+use Rattle.moves.specs.Moves.{moves, moves_of}
 use Rattle.enc_expr.specs.Coupling.{Env}
 use Rattle.enc_expr.specs.Alike as a
 use Rattle.enc_expr.specs.Alike.{Alike, Follows, IsStopped}
@@ -120,6 +114,22 @@ same_goes {x = x} h = ap (λ s. the_value x s) h
     the_value d (Goes x) = x
     the_value d _ = d
 
+since_nothing : {X : Type 0} (o : Ran X) → since [] o ≡ o
+since_nothing (ran es step left) = refl
+
+-- A choice of Viper with one move, for one step of a run: the choices that it takes, what is recorded, and the move. Fine is what is
+-- known of what is chosen.
+pub record Kind (b : Bound) (layout : Layout) (K : Type 0) : Type 1 where
+  pub kind : Choice → Option K
+  pub event : K → Event
+  pub give : K → Choice
+  pub move : K → BChoice
+  pub Fine : K → Type 0
+  pub is_kind : (k : K) → Fine k → kind (give k) ≡ Some k
+  pub is_move : (k : K) → moves_of (event k) ≡ move k ∷ []
+  pub fine : (c : Choice) (k : K) → IsGiven b layout c → kind c ≡ Some k → Fine k
+  pub gives : (k : K) → Fine k → IsGiven b layout (give k)
+
 module _ (W : Type 0) (b : Bound) (layout : Layout) where
   -- ---- one thing in place of another that is the same
 
@@ -129,11 +139,11 @@ module _ (W : Type 0) (b : Bound) (layout : Layout) where
     each_run = λ cs proper is_over. subst (IsBacked b layout Q v cs) (sym (same cs)) (h.each_run cs proper (subst HasEnded (same cs) is_over));
   }
     where
-      moved : (choices : List Choice) (more : List BChoice) → OnMoves W Q more other (on v choices) → OnMoves W Q more run (on v choices)
+      moved : (choices : List Choice) (more : List BChoice) → OnMoves W Q b more other (on v choices) → OnMoves W Q b more run (on v choices)
       moved choices more k = at (on v choices) k
         where
-          at : (o : Ran X) → OnMoves W Q more other o → OnMoves W Q more run o
-          at (ran events step left) k = subst (GoesWith W Q more step) (sym (same (moves events ++ more))) k
+          at : (o : Ran X) → OnMoves W Q b more other o → OnMoves W Q b more run o
+          at (ran events step left) k = subst (GoesWith W Q b more step) (sym (same (moves events ++ more))) k
 
   pub same_alongside : {X : Type 0} {Q : X → Env → Type 0} {v w : Run X} {run : List BChoice → r.Run} → v ≡ w → AreAlongside W b layout Q w run → AreAlongside W b layout Q v run
   same_alongside {Q} {run = run} same h = subst (λ v. AreAlongside W b layout Q v run) (sym same) h
@@ -152,24 +162,24 @@ module _ (W : Type 0) (b : Bound) (layout : Layout) where
   leaving_is es v.Blocked choices = refl
   leaving_is es (v.Over at) choices = refl
 
-  in_front : {X : Type 0} {Q : X → Env → Type 0} {es : List Event} {how : v.End X} {cs more : List BChoice} {run : r.Run} → cs ≡ moves es ++ more → Alike Q (ends es how) cs run → GoesWith W Q more (step_of how) run
+  in_front : {X : Type 0} {Q : X → Env → Type 0} {es : List Event} {how : v.End X} {cs more : List BChoice} {run : r.Run} → cs ≡ moves es ++ more → Alike Q b (ends es how) cs run → GoesWith W Q b more (step_of how) run
   in_front {Q} {es} {more = more} same (a.done {rest = rest} {x = x} {E = E} f q) =
-      subst (λ m. GoesWith W Q m (Goes x) (Done E rest)) (same_front (moves es) rest more (sym f.same ∙ same)) (done q)
+      subst (λ m. GoesWith W Q b m (Goes x) (Done E rest)) (same_front (moves es) rest more (sym f.same ∙ same)) (done q)
   in_front {Q} {es} {more = more} same (a.failed {rest = rest} {l = l} f) =
-      subst (λ m. GoesWith W Q m (Fails l) (Stops (r.Failed l) rest)) (same_front (moves es) rest more (sym f.same ∙ same)) failed
+      subst (λ m. GoesWith W Q b m (Fails l) (Stops (r.Failed l) rest)) (same_front (moves es) rest more (sym f.same ∙ same)) failed
   in_front same (a.blocked others f) = blocked (λ w e. tt)
   in_front same (a.short others f) = blocked (λ w e. tt)
   in_front {es = es} same (a.beyond other) = blocked (λ w e. absurd (other (same ∙ ap (λ ds. moves es ++ ds) e ∙ append-nil (moves es))))
-  in_front same a.over = over
+  in_front same (a.over bounded f) = over bounded
   in_front {more = more} same (a.stray other stopped) = absurd (other more (record { same = same }))
 
-  backs : {X : Type 0} {Q : X → Env → Type 0} {es : List Event} {how : v.End X} {cs : List BChoice} {run : r.Run} → Alike Q (ends es how) cs run → HasEnded run → IsBacked b layout Q (ended (ends es how)) cs run
+  backs : {X : Type 0} {Q : X → Env → Type 0} {es : List Event} {how : v.End X} {cs : List BChoice} {run : r.Run} → Alike Q b (ends es how) cs run → HasEnded run → IsBacked b layout Q (ended (ends es how)) cs run
   backs {es = es} (a.done {rest = rest} f q) h = backed [] rest (All-nil (IsGiven b layout)) refl (took_from es f.same) (side.done q)
   backs {es = es} (a.failed {rest = rest} f) h = backed [] rest (All-nil (IsGiven b layout)) refl (took_from es f.same) side.failed
   backs (a.blocked others f) h = elim h [ ]
   backs (a.short others f) h = elim h [ ]
   backs (a.beyond other) h = elim h [ ]
-  backs a.over h = beyond [] (All-nil (IsGiven b layout)) refl
+  backs {es = es} (a.over {rest = rest} bounded f) h = beyond [] rest bounded (All-nil (IsGiven b layout)) refl (took_from es f.same)
   backs {run = Done E rest} (a.stray other stopped) h = elim stopped [ ]
   backs {run = Stops (r.Failed l) rest} (a.stray other stopped) h = elim stopped [ ]
   backs {run = Stops r.Blocked rest} (a.stray other stopped) h = elim h [ ]
@@ -177,9 +187,9 @@ module _ (W : Type 0) (b : Bound) (layout : Layout) where
   backs {run = Stops r.Over rest} (a.stray other stopped) h = elim h [ ]
   backs {run = Stops r.Wrong rest} (a.stray other stopped) h = elim h [ ]
 
-  pub ended_alongside : {X : Type 0} {Q : X → Env → Type 0} (e : Evaluated X) {run : List BChoice → r.Run} → ((cs : List BChoice) → Alike Q e cs (run cs)) → AreAlongside W b layout Q (ended e) run
+  pub ended_alongside : {X : Type 0} {Q : X → Env → Type 0} (e : Evaluated X) {run : List BChoice → r.Run} → ((cs : List BChoice) → Alike Q b e cs (run cs)) → AreAlongside W b layout Q (ended e) run
   ended_alongside {Q = Q} (ends es how) {run} h = record {
-    on_moves = λ choices more all. subst (OnMoves W Q more run) (leaving_is es how choices) (in_front refl (h (moves es ++ more)));
+    on_moves = λ choices more all. subst (OnMoves W Q b more run) (leaving_is es how choices) (in_front refl (h (moves es ++ more)));
     each_run = λ cs proper is_over. backs (h cs) is_over;
   }
 
@@ -194,30 +204,33 @@ module _ (W : Type 0) (b : Bound) (layout : Layout) where
   waits_on to (Stops r.Wrong rest) h = elim h [ ]
 
   module _ {X Y : Type 0} {Q : X → Env → Type 0} {R : Y → Env → Type 0} where
-    stays_failed : {l : Label} {more : List BChoice} (to : Env → List BChoice → r.Run) {run : r.Run} → GoesWith W Q more (Fails l) run → GoesWith W R more (Fails l) (then_run run to)
+    stays_failed : {l : Label} {more : List BChoice} (to : Env → List BChoice → r.Run) {run : r.Run} → GoesWith W Q b more (Fails l) run → GoesWith W R b more (Fails l) (then_run run to)
     stays_failed to failed = failed
 
-    stays_blocked : {more : List BChoice} (to : Env → List BChoice → r.Run) (run : r.Run) → GoesWith W Q more Blocked run → GoesWith W R more Blocked (then_run run to)
+    stays_blocked : {more : List BChoice} (to : Env → List BChoice → r.Run) (run : r.Run) → GoesWith W Q b more Blocked run → GoesWith W R b more Blocked (then_run run to)
     stays_blocked to run (blocked h) = blocked (λ w e. waits_on to run (h w e))
 
-    stays_short : {more : List BChoice} (to : Env → List BChoice → r.Run) (run : r.Run) → GoesWith W Q more Short run → GoesWith W R more Short (then_run run to)
+    stays_short : {more : List BChoice} (to : Env → List BChoice → r.Run) (run : r.Run) → GoesWith W Q b more Short run → GoesWith W R b more Short (then_run run to)
     stays_short to run (short h) = short (λ w e. waits_on to run (h w e))
 
-    goes_on : {x : X} {m more : List BChoice} {run : r.Run} {step : Step Y} (to : Env → List BChoice → r.Run) → GoesWith W Q m (Goes x) run → ((E : Env) → Q x E → GoesWith W R more step (to E m)) → GoesWith W R more step (then_run run to)
+    stays_over : {at : _} {more : List BChoice} (to : Env → List BChoice → r.Run) {run : r.Run} → GoesWith W Q b more (Over at) run → GoesWith W R b more (Over at) (then_run run to)
+    stays_over to (over bounded) = over bounded
+
+    goes_on : {x : X} {m more : List BChoice} {run : r.Run} {step : Step Y} (to : Env → List BChoice → r.Run) → GoesWith W Q b m (Goes x) run → ((E : Env) → Q x E → GoesWith W R b more step (to E m)) → GoesWith W R b more step (then_run run to)
     goes_on to (done {E = E} q) k = k E q
 
     module _ {to : Env → List BChoice → r.Run} (v : Run X) (go : X → Run Y) (g : (x : X) (E : Env) → Q x E → AreAlongside W b layout R (go x) (to E)) where
-      then_moves : (run : List BChoice → r.Run) (more : List BChoice) (o : Ran X) → All (IsGiven b layout) (left_of o) → ((m : List BChoice) → OnMoves W Q m run o) →
-          OnMoves W R more (λ cs. then_run (run cs) to) (then_ran o (λ x. on (go x)))
+      then_moves : (run : List BChoice → r.Run) (more : List BChoice) (o : Ran X) → All (IsGiven b layout) (left_of o) → ((m : List BChoice) → OnMoves W Q b m run o) →
+          OnMoves W R b more (λ cs. then_run (run cs) to) (then_ran o (λ x. on (go x)))
       then_moves run more (ran es (Goes x) left) all h = after_first (on (go x) left) (λ E q. (g x E q).on_moves left more all)
         where
-          after_first : (w : Ran Y) → ((E : Env) → Q x E → OnMoves W R more (to E) w) → OnMoves W R more (λ cs. then_run (run cs) to) (since es w)
+          after_first : (w : Ran Y) → ((E : Env) → Q x E → OnMoves W R b more (to E) w) → OnMoves W R b more (λ cs. then_run (run cs) to) (since es w)
           after_first (ran fs step rest) k =
-              subst (λ cs. GoesWith W R more step (then_run (run cs) to)) (sym (append_assoc (moves es) (moves fs) more) ∙ ap (λ ds. ds ++ more) (sym (moves_append es fs))) (goes_on to (h (moves fs ++ more)) k)
+              subst (λ cs. GoesWith W R b more step (then_run (run cs) to)) (sym (append_assoc (moves es) (moves fs) more) ∙ ap (λ ds. ds ++ more) (sym (moves_append es fs))) (goes_on to (h (moves fs ++ more)) k)
       then_moves run more (ran es (Fails l) left) all h = stays_failed to (h more)
       then_moves run more (ran es Blocked left) all h = stays_blocked to (run (moves es ++ more)) (h more)
       then_moves run more (ran es Short left) all h = stays_short to (run (moves es ++ more)) (h more)
-      then_moves run more (ran es (Over at) left) all h = over
+      then_moves run more (ran es (Over at) left) all h = stays_over to (h more)
 
       both_taken : {es fs : List Event} {x : X} {step : Step Y} {left : List Choice} (first second : List Choice) → on v first ≡ ran es (Goes x) [] → on (go x) second ≡ ran fs step left →
           on (then_do v go) (first ++ second) ≡ ran (es ++ fs) step left
@@ -228,21 +241,21 @@ module _ (W : Type 0) (b : Bound) (layout : Layout) where
           IsBacked b layout R (go x) rest run → IsBacked b layout R (then_do v go) cs run
       second_backed choices all taken same (backed others left given_too taken_too same_too m) =
           backed (choices ++ others) left (All-append (IsGiven b layout) choices others all given_too) (both_taken choices others taken taken_too) (took_append same same_too) m
-      second_backed choices all taken same (beyond others given_too taken_too) =
-          beyond (choices ++ others) (All-append (IsGiven b layout) choices others all given_too) (both_taken choices others taken taken_too)
+      second_backed choices all taken same (beyond others left bounded given_too taken_too same_too) =
+          beyond (choices ++ others) left bounded (All-append (IsGiven b layout) choices others all given_too) (both_taken choices others taken taken_too) (took_append same same_too)
 
-      is_beyond : {es : List Event} {at : _} {left : List Choice} {cs : List BChoice} {run : r.Run} (choices : List Choice) → All (IsGiven b layout) choices → on v choices ≡ ran es (Over at) left →
+      is_beyond : {es : List Event} {at : _} {cs rest : List BChoice} {run : r.Run} (choices : List Choice) → b ≡ Bounded → All (IsGiven b layout) choices → on v choices ≡ ran es (Over at) [] → Took layout es cs rest →
           IsBacked b layout R (then_do v go) cs run
-      is_beyond choices all taken = beyond choices all (on-then v go choices ∙ ap (λ o. then_ran o (λ x. on (go x))) taken)
+      is_beyond {rest = rest} choices bounded all taken same = beyond choices rest bounded all (on-then v go choices ∙ ap (λ o. then_ran o (λ x. on (go x))) taken) same
 
       after_done : {cs left : List BChoice} {E : Env} → All (IsProperMove b) cs → HasEnded (to E left) → IsBacked b layout Q v cs (Done E left) → IsBacked b layout R (then_do v go) cs (to E left)
       after_done {cs} {left} {E} proper is_over (backed choices rest all taken same (side.done {x = x} q)) =
           second_backed choices all taken same ((g x E q).each_run left (took_behind (IsProperMove b) same proper) is_over)
-      after_done proper is_over (beyond choices all taken) = is_beyond choices all taken
+      after_done proper is_over (beyond choices rest bounded all taken same) = is_beyond choices bounded all taken same
 
       after_failed : {cs left : List BChoice} {l : Label} → IsBacked b layout Q v cs (Stops (r.Failed l) left) → IsBacked b layout R (then_do v go) cs (Stops (r.Failed l) left)
       after_failed (backed choices rest all taken same side.failed) = backed choices rest all (on-then v go choices ∙ ap (λ o. then_ran o (λ x. on (go x))) taken) same side.failed
-      after_failed (beyond choices all taken) = is_beyond choices all taken
+      after_failed (beyond choices rest bounded all taken same) = is_beyond choices bounded all taken same
 
       then_backed : (cs : List BChoice) (run : r.Run) → All (IsProperMove b) cs → (HasEnded run → IsBacked b layout Q v cs run) → HasEnded (then_run run to) → IsBacked b layout R (then_do v go) cs (then_run run to)
       then_backed cs (Done E rest) proper f is_over = after_done proper is_over (f tt)
@@ -254,74 +267,72 @@ module _ (W : Type 0) (b : Bound) (layout : Layout) where
 
       pub then_alongside : {run : List BChoice → r.Run} → AreAlongside W b layout Q v run → AreAlongside W b layout R (then_do v go) (λ cs. then_run (run cs) to)
       then_alongside {run} h = record {
-        on_moves = λ choices more all. subst (OnMoves W R more (λ cs. then_run (run cs) to)) (sym (on-then v go choices))
+        on_moves = λ choices more all. subst (OnMoves W R b more (λ cs. then_run (run cs) to)) (sym (on-then v go choices))
             (then_moves run more (on v choices) (left_given (IsGiven b layout) v choices all) (λ m. h.on_moves choices m all));
         each_run = λ cs proper is_over. then_backed cs (run cs) proper (h.each_run cs proper) is_over;
       }
 
-  -- ---- an amount that is chosen
+  -- ---- a choice with one move
 
-  -- the moves of what was recorded follow the choice of the amount
-  module _ {X : Type 0} {Q : X → Env → Type 0} (go : Fraction → Run X) (run : List BChoice → r.Run) (none : run [] ≡ Stops r.Short [])
-      (wrong : (c : BChoice) (rest : List BChoice) → r.chosen (plain_type base.Real) c ≡ None → run (c ∷ rest) ≡ Stops r.Blocked rest)
-      (some : (q : Fraction) → IsProperFraction b q → AreAlongside W b layout Q (go q) (λ ds. run (bv.Value (bv.Real q) ∷ ds))) where
-    waits_first : {more : List BChoice} → more ≡ [] → Waits (run more)
-    waits_first e = subst Waits (sym (ap run e ∙ none)) tt
+  module _ {K : Type 0} (i : Kind b layout K) {X : Type 0} (go : K → Run X) where
+    -- what is run once it is chosen
+    abbrev chosen : Run X
+    chosen = taking i.kind (λ k. noting (i.event k) (go k))
 
-    noted : (q : Fraction) (choices : List Choice) (more : List BChoice) (o : Ran X) → o ≡ on (go q) choices → OnMoves W Q more (λ ds. run (bv.Value (bv.Real q) ∷ ds)) o →
-        OnMoves W Q more run (since [] (on (before (event.Wild q ∷ []) (go q)) choices))
-    noted q choices more (ran es step left) same h =
-        subst (λ o. OnMoves W Q more run (since [] o)) (ap (since (event.Wild q ∷ [])) same ∙ sym (on-before (event.Wild q ∷ []) (go q) choices)) h
+    noted : (c : Choice) (k : K) (choices : List Choice) → i.kind c ≡ Some k → on chosen (c ∷ choices) ≡ since (i.event k ∷ []) (on (go k) choices)
+    noted c k choices is = ap (λ o. since [] (on (given o (λ k. noting (i.event k) (go k))) choices)) is ∙ ap (since []) (on-before (i.event k ∷ []) (go k) choices) ∙ since_nothing (since (i.event k ∷ []) (on (go k) choices))
 
-    amount_moves : (choices : List Choice) (more : List BChoice) → All (IsGiven b layout) choices → OnMoves W Q more run (on (taking_amount go) choices)
-    amount_moves [] more all = short (λ w e. waits_first e)
-    amount_moves (choice.Amount q ∷ choices) more all =
-        noted q choices more (on (go q) choices) refl ((some q (All-head (IsGiven b layout) (choice.Amount q) choices all).proper).on_moves choices more (All-tail (IsGiven b layout) (choice.Amount q) choices all))
-    amount_moves (choice.Branch p ∷ choices) more all = blocked (λ w e. waits_first e)
-    amount_moves (choice.Took w ∷ choices) more all = blocked (λ w e. waits_first e)
-    amount_moves (choice.Fresh x ∷ choices) more all = blocked (λ w e. waits_first e)
-    amount_moves (choice.Filled m ∷ choices) more all = blocked (λ w e. waits_first e)
+    refused : (c : Choice) (choices : List Choice) → i.kind c ≡ None → on chosen (c ∷ choices) ≡ ran [] Blocked choices
+    refused c choices is = ap (λ o. since [] (on (given o (λ k. noting (i.event k) (go k))) choices)) is
 
-    amount_given : (q : Fraction) → IsProperFraction b q → IsGiven b layout (choice.Amount q)
-    amount_given q proper = record { proper = proper; fits = proper.reduced }
+    -- the moves of what was recorded follow the move of the choice
+    moves_on : (Q : X → Env → Type 0) (run : List BChoice → r.Run) (k : K) (more : List BChoice) (o : Ran X) → OnMoves W Q b more (λ ds. run (i.move k ∷ ds)) o → OnMoves W Q b more run (since (i.event k ∷ []) o)
+    moves_on Q run k more (ran es step left) h = subst (λ ms. GoesWith W Q b more step (run ((ms ++ moves es) ++ more))) (sym (i.is_move k)) h
 
-    amount_taken : {es : List Event} {step : Step X} {left : List Choice} (q : Fraction) (choices : List Choice) → on (go q) choices ≡ ran es step left →
-        on (taking_amount go) (choice.Amount q ∷ choices) ≡ ran (event.Wild q ∷ es) step left
-    amount_taken q choices h = ap (since []) (on-before (event.Wild q ∷ []) (go q) choices ∙ ap (since (event.Wild q ∷ [])) h)
+    module _ {Q : X → Env → Type 0} (run : List BChoice → r.Run) (waits : W → Waits (run [])) (some : (k : K) → i.Fine k → AreAlongside W b layout Q (go k) (λ ds. run (i.move k ∷ ds))) where
+      waits_first : {more : List BChoice} → W → more ≡ [] → Waits (run more)
+      waits_first w e = subst (λ ds. Waits (run ds)) (sym e) (waits w)
 
-    amount_backed : {cs : List BChoice} {to : r.Run} (q : Fraction) → IsProperFraction b q → IsBacked b layout Q (go q) cs to → IsBacked b layout Q (taking_amount go) (bv.Value (bv.Real q) ∷ cs) to
-    amount_backed q proper (backed choices rest all taken same m) =
-        backed (choice.Amount q ∷ choices) rest (All-cons (IsGiven b layout) (choice.Amount q) choices (amount_given q proper) all) (amount_taken q choices taken) (moved refl same) m
-    amount_backed q proper (beyond choices all taken) =
-        beyond (choice.Amount q ∷ choices) (All-cons (IsGiven b layout) (choice.Amount q) choices (amount_given q proper) all) (amount_taken q choices taken)
+      chosen_moves : (choices : List Choice) (more : List BChoice) → All (IsGiven b layout) choices → OnMoves W Q b more run (on chosen choices)
+      chosen_moves [] more all = short waits_first
+      chosen_moves (c ∷ choices) more all = by_kind (i.kind c) refl
+        where
+          by_kind : (o : Option K) → i.kind c ≡ o → OnMoves W Q b more run (on chosen (c ∷ choices))
+          by_kind (Some k) is =
+              subst (OnMoves W Q b more run) (sym (noted c k choices is))
+              (moves_on Q run k more (on (go k) choices) ((some k (i.fine c k (All-head (IsGiven b layout) c choices all) is)).on_moves choices more (All-tail (IsGiven b layout) c choices all)))
+          by_kind None is = subst (OnMoves W Q b more run) (sym (refused c choices is)) (blocked waits_first)
 
-    not_wrong : {Z : Type 0} (c : BChoice) (rest : List BChoice) → r.chosen (plain_type base.Real) c ≡ None → HasEnded (run (c ∷ rest)) → Z
-    not_wrong c rest h is_over = absurd (subst HasEnded (wrong c rest h) is_over)
+      taken : (k : K) → i.Fine k → {es : List Event} {step : Step X} {left : List Choice} (choices : List Choice) → on (go k) choices ≡ ran es step left → on chosen (i.give k ∷ choices) ≡ ran (i.event k ∷ es) step left
+      taken k fine choices h = noted (i.give k) k choices (i.is_kind k fine) ∙ ap (since (i.event k ∷ [])) h
 
-    amount_run : (cs : List BChoice) → All (IsProperMove b) cs → HasEnded (run cs) → IsBacked b layout Q (taking_amount go) cs (run cs)
-    amount_run [] proper is_over = absurd (subst HasEnded none is_over)
-    amount_run (bv.Value (bv.Real q) ∷ rest) proper is_over =
-        let fraction : IsProperFraction b q = All-head (IsProperMove b) (bv.Value (bv.Real q)) rest proper in
-        amount_backed q fraction ((some q fraction).each_run rest (All-tail (IsProperMove b) (bv.Value (bv.Real q)) rest proper) is_over)
-    amount_run (bv.Value (bv.Int n) ∷ rest) proper is_over = not_wrong (bv.Value (bv.Int n)) rest refl is_over
-    amount_run (bv.Value (bv.Bool n) ∷ rest) proper is_over = not_wrong (bv.Value (bv.Bool n)) rest refl is_over
-    amount_run (bv.Value (bv.Ref n) ∷ rest) proper is_over = not_wrong (bv.Value (bv.Ref n)) rest refl is_over
-    amount_run (bv.Value (bv.Snap n) ∷ rest) proper is_over = not_wrong (bv.Value (bv.Snap n)) rest refl is_over
-    amount_run (bv.Pick p ∷ rest) proper is_over = not_wrong (bv.Pick p) rest refl is_over
-    amount_run (bv.Entries es ∷ rest) proper is_over = not_wrong (bv.Entries es) rest refl is_over
+      chosen_backed : {cs : List BChoice} {to : r.Run} (k : K) → i.Fine k → IsBacked b layout Q (go k) cs to → IsBacked b layout Q chosen (i.move k ∷ cs) to
+      chosen_backed {cs} k fine (backed choices rest all is same m) =
+          backed (i.give k ∷ choices) rest (All-cons (IsGiven b layout) (i.give k) choices (i.gives k fine) all) (taken k fine choices is) (moved (ap (λ ms. ms ++ cs) (sym (i.is_move k))) same) m
+      chosen_backed {cs} k fine (beyond choices rest bounded all is same) =
+          beyond (i.give k ∷ choices) rest bounded (All-cons (IsGiven b layout) (i.give k) choices (i.gives k fine) all) (taken k fine choices is) (moved (ap (λ ms. ms ++ cs) (sym (i.is_move k))) same)
 
-    pub amount_alongside : AreAlongside W b layout Q (taking_amount go) run
-    amount_alongside = record { on_moves = amount_moves; each_run = amount_run }
+      -- where the code, if it is done or fails, has taken such a move first
+      pub chosen_alongside : (HasEnded (run []) → ⊥) →
+          ((c : BChoice) (rest : List BChoice) → IsProperMove b c → HasEnded (run (c ∷ rest)) → (k : K) × (i.Fine k × (c ≡ i.move k))) → AreAlongside W b layout Q chosen run
+      chosen_alongside none known = record { on_moves = chosen_moves; each_run = each }
+        where
+          each : (cs : List BChoice) → All (IsProperMove b) cs → HasEnded (run cs) → IsBacked b layout Q chosen cs (run cs)
+          each [] proper is_over = absurd (none is_over)
+          each (c ∷ rest) proper is_over =
+              let o = known c rest (All-head (IsProperMove b) c rest proper) is_over in let k = o.0 in
+              subst (λ c. IsBacked b layout Q chosen (c ∷ rest) (run (c ∷ rest))) (sym o.1.1)
+              (chosen_backed k o.1.0 ((some k o.1.0).each_run rest (All-tail (IsProperMove b) c rest proper) (subst (λ c. HasEnded (run (c ∷ rest))) o.1.1 is_over)))
 
   -- ---- what is said of the end
 
   module _ {X : Type 0} {Q R : X → Env → Type 0} where
-    more_said : {more : List BChoice} {step : Step X} {run : r.Run} → ((x : X) (E : Env) → step ≡ Goes x → Q x E → R x E) → GoesWith W Q more step run → GoesWith W R more step run
+    more_said : {more : List BChoice} {step : Step X} {run : r.Run} → ((x : X) (E : Env) → step ≡ Goes x → Q x E → R x E) → GoesWith W Q b more step run → GoesWith W R b more step run
     more_said f (done q) = done (f _ _ refl q)
     more_said f failed = failed
     more_said f (blocked w) = blocked w
     more_said f (short w) = short w
-    more_said f over = over
+    more_said f (over bounded) = over bounded
 
     more_matches : {rest : List BChoice} {step : Step X} {run : r.Run} → ((x : X) (E : Env) → step ≡ Goes x → Q x E → R x E) → Matches Q rest step run → Matches R rest step run
     more_matches f (side.done q) = side.done (f _ _ refl q)
@@ -335,7 +346,7 @@ module _ (W : Type 0) (b : Bound) (layout : Layout) where
       each_run = λ cs proper is_over. still (h.each_run cs proper is_over);
     }
       where
-        moved : (more : List BChoice) (o : Ran X) → KeptRan P o → OnMoves W Q more run o → OnMoves W R more run o
+        moved : (more : List BChoice) (o : Ran X) → KeptRan P o → OnMoves W Q b more run o → OnMoves W R b more run o
         moved more (ran es (Goes x) left) p k = more_said (λ y E e q. f y E (subst P (same_goes e) p) q) k
         moved more (ran es (Fails l) left) p k = more_said (λ y E e q. absurd (cc)) k
         moved more (ran es Blocked left) p k = more_said (λ y E e q. absurd (cc)) k
@@ -347,7 +358,7 @@ module _ (W : Type 0) (b : Bound) (layout : Layout) where
 
         still : {cs : List BChoice} {to : r.Run} → IsBacked b layout Q v cs to → IsBacked b layout R v cs to
         still (backed choices rest all taken same m) = backed choices rest all taken same (more_matches (λ y E e q. f y E (goes_kept (on v choices) taken (kept_on v choices keeps all) y e) q) m)
-        still (beyond choices all taken) = beyond choices all taken
+        still (beyond choices rest bounded all taken same) = beyond choices rest bounded all taken same
 
     pub weaken_alongside : {v : Run X} {run : List BChoice → r.Run} → ((x : X) (E : Env) → Q x E → R x E) → AreAlongside W b layout Q v run → AreAlongside W b layout R v run
     weaken_alongside {v} {run} f h = record {
@@ -355,12 +366,12 @@ module _ (W : Type 0) (b : Bound) (layout : Layout) where
       each_run = λ cs proper is_over. still (h.each_run cs proper is_over);
     }
       where
-        moved : (more : List BChoice) (o : Ran X) → OnMoves W Q more run o → OnMoves W R more run o
+        moved : (more : List BChoice) (o : Ran X) → OnMoves W Q b more run o → OnMoves W R b more run o
         moved more (ran es step left) k = more_said (λ y E e q. f y E q) k
 
         still : {cs : List BChoice} {to : r.Run} → IsBacked b layout Q v cs to → IsBacked b layout R v cs to
         still (backed choices rest all taken same m) = backed choices rest all taken same (more_matches (λ y E e q. f y E q) m)
-        still (beyond choices all taken) = beyond choices all taken
+        still (beyond choices rest bounded all taken same) = beyond choices rest bounded all taken same
 
     -- code behind it that sleeps
     pub quiet_alongside : {v : Run X} {run : List BChoice → r.Run} {to : Env → List BChoice → r.Run} → ((x : X) (E : Env) (rest : List BChoice) → Q x E → (F : Env) × ((to E rest ≡ Done F rest) × R x F)) →
@@ -370,14 +381,14 @@ module _ (W : Type 0) (b : Bound) (layout : Layout) where
       each_run = λ cs proper is_over. still cs (run cs) (h.each_run cs proper) is_over;
     }
       where
-        rests : {more : List BChoice} {step : Step X} {from : r.Run} → GoesWith W Q more step from → GoesWith W R more step (then_run from to)
-        rests {more} (done {x = x} {E = E} q) = let o = f x E more q in subst (λ run. GoesWith W R more (Goes x) run) (sym o.1.0) (done o.1.1)
+        rests : {more : List BChoice} {step : Step X} {from : r.Run} → GoesWith W Q b more step from → GoesWith W R b more step (then_run from to)
+        rests {more} (done {x = x} {E = E} q) = let o = f x E more q in subst (λ run. GoesWith W R b more (Goes x) run) (sym o.1.0) (done o.1.1)
         rests failed = failed
         rests (blocked {run = from} h) = blocked (λ w e. waits_on to from (h w e))
         rests (short {run = from} h) = short (λ w e. waits_on to from (h w e))
-        rests over = over
+        rests (over bounded) = over bounded
 
-        moved : (more : List BChoice) (o : Ran X) → OnMoves W Q more run o → OnMoves W R more (λ cs. then_run (run cs) to) o
+        moved : (more : List BChoice) (o : Ran X) → OnMoves W Q b more run o → OnMoves W R b more (λ cs. then_run (run cs) to) o
         moved more (ran es step left) k = rests k
 
         matches : {rest : List BChoice} {step : Step X} {from : r.Run} → Matches Q rest step from → Matches R rest step (then_run from to)
@@ -386,7 +397,7 @@ module _ (W : Type 0) (b : Bound) (layout : Layout) where
 
         again : {cs : List BChoice} {from : r.Run} → IsBacked b layout Q v cs from → IsBacked b layout R v cs (then_run from to)
         again (backed choices rest all taken same m) = backed choices rest all taken same (matches m)
-        again (beyond choices all taken) = beyond choices all taken
+        again (beyond choices rest bounded all taken same) = beyond choices rest bounded all taken same
 
         still : (cs : List BChoice) (from : r.Run) → (HasEnded from → IsBacked b layout Q v cs from) → HasEnded (then_run from to) → IsBacked b layout R v cs (then_run from to)
         still cs (Done E rest) k is_over = again (k tt)
@@ -403,5 +414,5 @@ module _ (W : Type 0) (b : Bound) (layout : Layout) where
     each_run = λ cs proper is_over. (h cs).each_run cs proper is_over;
   }
     where
-      moved : (more : List BChoice) (o : Ran _) → ((ds : List BChoice) → OnMoves W Q more (run ds) o) → OnMoves W Q more (λ cs. run cs cs) o
+      moved : (more : List BChoice) (o : Ran _) → ((ds : List BChoice) → OnMoves W Q b more (run ds) o) → OnMoves W Q b more (λ cs. run cs cs) o
       moved more (ran es step left) k = k (moves es ++ more)

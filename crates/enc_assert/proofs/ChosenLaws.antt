@@ -1,11 +1,15 @@
 -- An amount is chosen, which is positive, and then a row goes on.
 use Rattle.std.specs.Bool.{⊤}
-use Rattle.std.proofs.Common.{◌≡◌, ◌+◌, ◌<◌, ℕ, Bool as Truth, true, false, not, List, ◌∷◌, Some, length, slice_get, slice_set, if◌then◌else◌, refl, sym, ap, ◌∙◌, arith}
+use Rattle.std.proofs.Common.{◌≡◌, ◌+◌, ◌<◌, ℕ, Bool as Truth, true, false, not, List, [], ◌∷◌, Some, None, length, slice_get, slice_set, if◌then◌else◌, ◌⊎◌, inl, inr, refl, sym, ap, subst, ◌∙◌, arith}
+use Rattle.std.proofs.lemmas.Option.{same_Some}
 use Rattle.vb_value.specs.Bound.{Bound}
 use Rattle.vb_value.specs.Layout.{Layout}
 use Rattle.vb_value.specs.Fraction.{Fraction, IsProperFraction, is_positive}
+use Rattle.viper_state.specs.Choice as choice
+use Rattle.viper_state.specs.Choice.{Choice}
+use Rattle.viper_state.specs.Event as event
 use Rattle.viper_meaning.specs.Ends.{Evaluated, blocks, unless}
-use Rattle.viper_meaning.specs.Run.{ended, taking_amount}
+use Rattle.viper_meaning.specs.Run.{ended, amount_in, taking_amount}
 use Rattle.boogie_tree.specs.Expr as t
 use Rattle.boogie_tree.specs.Program.{BType}
 use Rattle.boogie_tree.specs.Stmt.{BStmts}
@@ -23,14 +27,37 @@ use Rattle.enc_expr.specs.Code.{join}
 use Rattle.enc_expr.specs.Pieces.{zero_real}
 use Rattle.enc_expr.specs.Coupling.{Env}
 use Rattle.enc_expr.specs.Alike.{Alike, HasAtom, variable}
+use Rattle.enc_expr.specs.Boundary.{HasEnded}
 use Rattle.enc_expr.proofs.RunLaws.{assume_run, atom_value}
 use Rattle.enc_expr.proofs.AmountLaws.{positive_test}
 use Rattle.enc_expr.proofs.OperatorLaws.{plain_value}
 use Rattle.enc_expr.proofs.OpeningLaws.{alike_run, unless_alike}
 use Rattle.enc_expr.proofs.FillLaws.{stopped_first}
 use Rattle.enc_assert.specs.Encoding.{some_amount}
-use Rattle.enc_assert.specs.Alongside.{AreAlongside}
-use Rattle.enc_assert.proofs.AlongsideLaws.{ended_alongside, amount_alongside}
+use Rattle.enc_assert.specs.Alongside.{IsGiven, IsProperMove, Waits, AreAlongside}
+use Rattle.enc_assert.proofs.AlongsideLaws.{Kind, ended_alongside, chosen_alongside}
+
+-- ---- an amount
+
+pub amount_proper : (b : Bound) (layout : Layout) (c : Choice) (q : Fraction) → IsGiven b layout c → amount_in c ≡ Some q → IsProperFraction b q
+amount_proper b layout (choice.Amount q) w given same = subst (IsProperFraction b) (same_Some _ _ same) given.proper
+amount_proper b layout (choice.Branch p) w given same = absurd cc
+amount_proper b layout (choice.Took v) w given same = absurd cc
+amount_proper b layout (choice.Fresh x) w given same = absurd cc
+amount_proper b layout (choice.Filled m) w given same = absurd cc
+
+abbrev pub amount_choice : (b : Bound) (layout : Layout) → Kind b layout Fraction
+amount_choice b layout = record {
+  kind = amount_in;
+  event = λ q. event.Wild q;
+  give = λ q. choice.Amount q;
+  move = λ q. bv.Value (Real q);
+  Fine = IsProperFraction b;
+  is_kind = λ q proper. refl;
+  is_move = λ q. refl;
+  fine = amount_proper b layout;
+  gives = λ q proper. record { proper = proper; fits = proper.reduced };
+}
 
 module _ (ts : List BType) (b : Bound) (layout : Layout) (n : ℕ) (F : Env) (local : slice_get ts n ≡ Some (plain_type base.Real)) (long : n < length F) where
   abbrev positive : t.BExpr
@@ -44,11 +71,10 @@ module _ (ts : List BType) (b : Bound) (layout : Layout) (n : ℕ) (F : Env) (lo
       let atom : HasAtom (n + 1) (chose w) (t.Var n) (Real w) = variable (omega arith) (set_here F n (One (Real w)) long) in
       plain_value b op.Gt (t.Var n) zero_real _ _ (chose w) refl (atom_value b (n + 1) (chose w) (t.Var n) (Real w) atom) refl ∙ positive_test b w proper
 
-  pub some_alongside : {X : Type 0} {Q : X → Env → Type 0} (row : BStmts) (go : Fraction → Evaluated X) → ((w : Fraction) → IsProperFraction b w → is_positive w ≡ true → (ds : List BChoice) → Alike Q (go w) ds (brun ts b row (chose w) ds)) →
+  pub some_alongside : {X : Type 0} {Q : X → Env → Type 0} (row : BStmts) (go : Fraction → Evaluated X) → ((w : Fraction) → IsProperFraction b w → is_positive w ≡ true → (ds : List BChoice) → Alike Q b (go w) ds (brun ts b row (chose w) ds)) →
       AreAlongside ⊤ b layout Q (taking_amount (λ w. ended (unless (not (is_positive w)) blocks (go w)))) (λ cs. brun ts b (join (some_amount n) row) F cs)
   some_alongside row go h =
-      amount_alongside ⊤ b layout (λ w. ended (unless (not (is_positive w)) blocks (go w))) (λ cs. brun ts b (join (some_amount n) row) F cs)
-      (rw local refl) (λ d rest wrong. rw (local, wrong) refl)
+      chosen_alongside ⊤ b layout (amount_choice b layout) (λ w. ended (unless (not (is_positive w)) blocks (go w))) (λ cs. brun ts b (join (some_amount n) row) F cs) (λ w. subst Waits (sym none) tt)
       (λ w proper.
       let tested : (ds : List BChoice) → brun ts b (join (some_amount n) row) F (bv.Value (Real w) ∷ ds) ≡ (if is_positive w then brun ts b row (chose w) ds else Stops r.Blocked ds) =
       λ ds. (rw local refl) ∙ assume_run ts b positive (is_positive w) row (chose w) ds (asked w proper) in
@@ -56,7 +82,24 @@ module _ (ts : List BType) (b : Bound) (layout : Layout) (n : ℕ) (F : Env) (lo
       unless_alike (not (is_positive w))
       (λ no. alike_run (tested ds ∙ ap (λ (z : Truth). if z then brun ts b row (chose w) ds else Stops r.Blocked ds) (not_true _ no)) (stopped_first ds))
       (λ yes. let sign = not_false _ yes in alike_run (tested ds ∙ ap (λ (z : Truth). if z then brun ts b row (chose w) ds else Stops r.Blocked ds) sign) (h w proper sign ds))))
+      (λ is_over. subst HasEnded none is_over)
+      (λ d rest proper is_over. elim (real_chosen d proper) [ inl other ↦ absurd (subst HasEnded (wrong d rest other) is_over) | inr k ↦ k ])
     where
+      none : brun ts b (join (some_amount n) row) F [] ≡ Stops r.Short []
+      none = rw local refl
+
+      wrong : (d : BChoice) (rest : List BChoice) → r.chosen (plain_type base.Real) d ≡ None → brun ts b (join (some_amount n) row) F (d ∷ rest) ≡ Stops r.Blocked rest
+      wrong d rest other = rw (local, other) refl
+
+      real_chosen : (d : BChoice) → IsProperMove b d → (r.chosen (plain_type base.Real) d ≡ None) ⊎ ((q : Fraction) × (IsProperFraction b q × (d ≡ bv.Value (Real q))))
+      real_chosen (bv.Value (Real q)) proper = inr (q, (proper, refl))
+      real_chosen (bv.Value (bv.Int n)) proper = inl refl
+      real_chosen (bv.Value (bv.Bool q)) proper = inl refl
+      real_chosen (bv.Value (bv.Ref x)) proper = inl refl
+      real_chosen (bv.Value (bv.Snap d)) proper = inl refl
+      real_chosen (bv.Pick q) proper = inl refl
+      real_chosen (bv.Entries es) proper = inl refl
+
       not_true : (z : Truth) → not z ≡ true → z ≡ false
       not_true true h = sym h
       not_true false h = refl

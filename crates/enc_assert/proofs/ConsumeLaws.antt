@@ -91,7 +91,7 @@ module _ (ts : List BType) (b : Bound) (c : Context) (p : Place) (left : Maps) (
         let H = set2.after in let k2 = set2.sets.kept in
         let kept : Kept n E H = kept_then low z.0.kept (kept_then {F = G} mid k1 k2) in
         let within : n ≤ n3 = omega (arith, low, mid, high) in
-        let here = aimed b c n3 n3 left u H own.apart (maps_kept within kept maps) sound (aims_more high k2.same set1.aims) in
+        let here = aimed b c n3 n3 left u H own (maps_kept within kept maps) sound (aims_more high k2.same set1.aims) in
         quiet_alike ts b tg (consume_amount p left g scale at (e.Is a) m.value) n1 F more (aim.quiet n1) (
         quiet_alike ts b (atomic m.value) (λ q. puts g (join t1.value.sets (join q.sets (takes_code p left scale at t1.value.target q.expr)))) n2 F more (atomic_quiet m.value n2) (
         alike_run (set_run ts b c p g start sc scale k n1 F t1.value.sets q.value.sets (takes_code p left scale at t1.value.target q.value.expr) more ready1.awake set1.sets.done set2.sets.done)
@@ -109,7 +109,7 @@ module _ (ts : List BType) (b : Bound) (c : Context) (p : Place) (left : Maps) (
         let F = set1.after in let k1 = set1.sets.kept in
         let long : n1 < length F = omega (arith, slice_get_within ts n1 own_type locals.0, k1.length, ready.full) in
         let maps1 : HasMaps c.program.layout n1 left u F = maps_kept low k1 maps in
-        let here = aimed b c n1 n1 left u F own.apart maps1 sound set1.aims in
+        let here = aimed b c n1 n1 left u F own maps1 sound set1.aims in
         let row = takes_some p left at y n1 in
         let held = t.At (held_in left y) (key_of y) in
         let test = stmt.Assert (label p at kind.Perm) (t.Bin op.Ne held zero_real) in
@@ -126,9 +126,9 @@ module _ (ts : List BType) (b : Bound) (c : Context) (p : Place) (left : Maps) (
         let kept : Kept n E G = kept_then low k1 k2 in
         let within : n ≤ n1 + 1 = omega (arith, low) in
         let atom : HasAtom (n1 + 1) G (t.Var n1) (Real w) = variable (omega arith) (set_here F n1 (One (Real w)) long) in
-        let here2 = aimed b c (n1 + 1) (n1 + 1) left u G own.apart (maps_kept within kept maps) sound (aims_more (omega arith) k2.same set1.aims) in
+        let here2 = aimed b c (n1 + 1) (n1 + 1) left u G own (maps_kept within kept maps) sound (aims_more (omega arith) k2.same set1.aims) in
         let same_held : here2.held ≡ here.held = same_Some _ _ (sym here2.is_held ∙ here.is_held) in
-        subst (λ (h : Fraction). Alike (IsGrown c left n (n1 + 1) E) (part_of b x at u h w) ds (brun ts b last G ds)) same_held
+        subst (λ (h : Fraction). Alike (IsGrown c left n (n1 + 1) E) b (part_of b x at u h w) ds (brun ts b last G ds)) same_held
         (weaken_alike (λ t I grown. grown_after within kept grown) (part_alike ts b c left (n1 + 1) (n1 + 1) u G at here2 (t.Var n1) w proper (atom_value b (n1 + 1) G (t.Var n1) (Real w) atom) ds))))))
         (ended_alongside ⊤ b c.program.layout (meaning.something_held sc x at u) (λ cs. alike_run (sym (then_done (brun_stmt ts b test F cs))) (something_alike ts b c p left n1 n1 u sc F coupled.at at here cs))))
 

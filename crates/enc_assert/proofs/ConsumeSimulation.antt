@@ -1,6 +1,6 @@
 -- The code of consuming an assertion ends as consuming does, in both directions.
 use Rattle.std.specs.Bool.{⊤}
-use Rattle.std.proofs.Common.{◌≡◌, ◌≤◌, ℕ, Bool as Truth, true, false, List, [], Some, if◌then◌else◌, refl, sym, ap, subst, ◌∙◌, arith}
+use Rattle.std.proofs.Common.{◌≡◌, ◌≤◌, ℕ, Bool as Truth, true, false, List, [], Some, if◌then◌else◌, inl, inr, refl, ap, subst, ◌∙◌, arith}
 use Rattle.vb_base.specs.declared.labels.Kind.TheVariants as kind
 use Rattle.vb_value.specs.Bound.{Bound}
 use Rattle.vb_value.specs.Fraction.{Fraction}
@@ -32,7 +32,7 @@ use Rattle.boogie_tree.specs.Stmt as stmt
 use Rattle.boogie_tree.specs.Value.{BChoice}
 use Rattle.boogie_meaning.specs.Run as r
 use Rattle.boogie_meaning.specs.Run.{Done, Stops, then_run, brun}
-use Rattle.run_file.specs.BoogieLines.{scalar}
+use Rattle.moves.specs.Scalars.{scalar}
 use Rattle.enc_expr.specs.Place.{Place, Maps, number, with_now}
 use Rattle.enc_expr.specs.Kinds.{kinds_in}
 use Rattle.enc_expr.specs.Code.{then_emit, Guard, puts}
@@ -42,7 +42,7 @@ use Rattle.enc_expr.specs.Coupling.{Env, HasMaps, IsSound, IsCoupled}
 use Rattle.enc_expr.specs.Alike.{Alike, IsScale}
 use Rattle.enc_expr.proofs.RunLaws.{assert_run, guarded_awake}
 use Rattle.enc_expr.proofs.AlikeLaws.{is_alike}
-use Rattle.enc_expr.proofs.FrameLaws.{Names, of_variable, of_now, of_old, coupled_but, not_map, maps_kept, Singles, singles_but, scale_single, but_from, but_then, kept_but_then, then_kept_but, locals_first, coupled_kept, awake_kept, ready_rest}
+use Rattle.enc_expr.proofs.FrameLaws.{Names, of_variable, of_now, of_old, coupled_but, not_map, maps_kept, Singles, singles_but, scale_single, but_from, but_less, but_then, own_apart, kept_but_then, then_kept_but, locals_first, coupled_kept, awake_kept, ready_rest}
 use Rattle.enc_expr.proofs.CodeLaws.{code_counted, codes_counted}
 use Rattle.enc_expr.proofs.OpeningLaws.{alike_run, fails_alike}
 use Rattle.enc_expr.proofs.UnfoldingLaws.{emit_alike}
@@ -57,7 +57,7 @@ use Rattle.enc_assert.proofs.AimLaws.{field_aims, instance_aims}
 use Rattle.enc_assert.proofs.GiveLaws.{IsGrown}
 use Rattle.enc_assert.proofs.GoingLaws.{emit_alongside}
 use Rattle.enc_assert.proofs.WayLaws.{bool_alike, made_alike, key_alike, both_kept, any_run, Way, Acts, both_act, implied_acts, chosen_acts}
-use Rattle.enc_assert.proofs.ProduceLaws.{held_is_local, but_less, grown_after}
+use Rattle.enc_assert.proofs.ProduceLaws.{held_is_local, grown_after}
 use Rattle.enc_assert.proofs.ConsumeLaws.{AmountReads, amount_consumed}
 use Rattle.enc_assert.proofs.WrittenLaws.{consume_counted, consume_sleeps}
 
@@ -76,8 +76,8 @@ module _ (b : Bound) (c : Context) (p : Place) (left : Maps) (own : IsShrinking 
   left_beside {n} {u} {E} coupled maps i (of_variable named) mine =
       let it = coupled.vars named.variable named.ty named.visible named.typed in
       not_map c.program.layout n left u E (number p.vars named.variable) (scalar it.v) maps it.here (held_is_local (number p.vars named.variable) (subst (IsHeldLocalOf c.program.layout left) named.there mine))
-  left_beside coupled maps i (of_now named) mine = own.beside_now mine.spot named.spot mine.held mine.exists named.exists (sym mine.there ∙ named.there)
-  left_beside coupled maps i (of_old named) mine = own.beside_old mine.spot named.spot mine.held mine.exists named.exists (sym mine.there ∙ named.there)
+  left_beside coupled maps i (of_now named) mine = own_apart own (inl named) mine
+  left_beside coupled maps i (of_old named) mine = own_apart own (inr named) mine
 
   -- so it stays coupled
   pub start_coupled : {n m : ℕ} {u w : State} {E F : Env} → n ≤ m → IsCoupled b c n p start sc E → HasMaps c.program.layout n left u E → IsConsumed b c n m left E w F → IsCoupled b c m p start sc F
@@ -165,7 +165,7 @@ module _ (ts : List BType) (b : Bound) (c : Context) (formed : IsFormed c.progra
   }
     where
       by_truth : {Q : State → Env → Type 0} (F : Env) (cs : List BChoice) → p.at ≡ sc.at → (q : Truth) → Q u F →
-          Alike Q (if q then is_end u else fails sc at kind.Fact) cs (if q then Done F cs else Stops (r.Failed (label p at kind.Fact)) cs)
+          Alike Q b (if q then is_end u else fails sc at kind.Fact) cs (if q then Done F cs else Stops (r.Failed (label p at kind.Fact)) cs)
       by_truth F cs same true h = is_alike h
       by_truth F cs same false h = fails_alike p sc at kind.Fact same
   assertion_consumed g u (e.Acc a f m at) (y.access {u = z} typed there exact) = record {
@@ -177,7 +177,7 @@ module _ (ts : List BType) (b : Bound) (c : Context) (formed : IsFormed c.progra
         let counted = code_counted (kinds_in c) p g a in
         let low : n ≤ n1 = omega (arith, counted.next n) in
         whole (e.Acc a f m at) u (y.access typed there exact) before (
-        emit_alongside ts b c first go n E (meaning.place_in b a f start sc) (meaning.consume_amount b m start sc k at u)
+        emit_alongside ⊤ ts b c.program.layout first go n E (meaning.place_in b a f start sc) (meaning.consume_amount b m start sc k at u)
         (λ cs. made_alike (resource.Place f) (ref_alike (λ w F z. z.typed) ((expression ts b c p g start sc a ty.Ref formed typed).alike n E cs coupled (record { awake = ready.awake; full = ready.full; locals = locals_first ts n x.locals last.locals ready.locals }))))
         (λ w F made.
         let q = made.1.1 in let now = way.later low q.kept before in
@@ -197,7 +197,7 @@ module _ (ts : List BType) (b : Bound) (c : Context) (formed : IsFormed c.progra
         let keys = keys_at c formed q d there in
         let no_perm = (predicate_of_typed c.program formed.typed q d there).params in
         whole (e.Inst q args m at) u (y.instance d there typed exact) before (
-        emit_alongside ts b c first go n E (meaning.instance_in b q args start sc) (meaning.consume_amount b m start sc k at u)
+        emit_alongside ⊤ ts b c.program.layout first go n E (meaning.instance_in b q args start sc) (meaning.consume_amount b m start sc k at u)
         (λ cs. made_alike (resource.Instance q) (key_alike no_perm ((arguments ts b c p g start sc args d.params formed typed).alike n E cs coupled (record { awake = ready.awake; full = ready.full; locals = locals_first ts n x.locals last.locals ready.locals }))))
         (λ w F made.
         let found = made.1.1 in let now = way.later low found.valued.kept before in

@@ -34,9 +34,8 @@ use Rattle.boogie_tree.specs.declared.exprs.BBase.TheVariants as base
 use Rattle.boogie_meaning.specs.Run.{filled, fits_entries, chosen}
 use Rattle.boogie_meaning.specs.Decided.{Decides-same_base, Decides-fits_key}
 use Rattle.boogie_meaning.proofs.ValueLaws.{exact}
-use Rattle.run_file.specs.BoogieLines.{scalar}
-use Rattle.run_file.specs.Moves.{place_key, instance_key}
-use Rattle.enc_expr.specs.Kinds.{base_for, index_types}
+use Rattle.moves.specs.Scalars.{scalar, base_for}
+use Rattle.moves.specs.Maps.{place_key, instance_key, index_types}
 use Rattle.enc_expr.specs.Coupling.{MapKind, heap_kind, content_kind}
 use Rattle.enc_expr.proofs.MapLaws.{IsKind}
 

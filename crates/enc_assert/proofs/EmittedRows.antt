@@ -14,7 +14,8 @@ use Rattle.boogie_tree.specs.declared.exprs.BBase.TheVariants as base
 use Rattle.boogie_tree.specs.declared.exprs.BOp.TheVariants as op
 use Rattle.boogie_meaning.specs.Patterns as pattern
 use Rattle.enc_expr.specs.Place.{Maps, Place, number}
-use Rattle.enc_expr.specs.Kinds.{Kinds, heap_type, content_type}
+use Rattle.moves.specs.Maps.{heap_type, content_type}
+use Rattle.enc_expr.specs.Kinds.{Kinds}
 use Rattle.enc_expr.specs.Code.{Code, Emitting, join, gives, then_emit, declares, Guard, puts, guards}
 use Rattle.enc_expr.specs.Pieces.{Operand, Atom, Located, atomic, located, index, at_one, one, one_real, scaled, add_to}
 use Rattle.enc_expr.specs.Operators.{choose_code}

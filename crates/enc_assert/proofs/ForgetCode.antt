@@ -15,7 +15,8 @@ use Rattle.boogie_meaning.specs.Programs.{HaveKeys}
 use Rattle.boogie_meaning.specs.Types as b
 use Rattle.boogie_meaning.specs.Types.{IsTyped}
 use Rattle.enc_expr.specs.Place.{Maps, number}
-use Rattle.enc_expr.specs.Kinds.{base_for, index_types, heap_type, mask_type, amount_type, content_type, state_types}
+use Rattle.moves.specs.Scalars.{base_for}
+use Rattle.moves.specs.Maps.{index_types, heap_type, mask_type, amount_type, content_type, state_types}
 use Rattle.enc_expr.specs.Code.{Code, join, declares, puts}
 use Rattle.enc_expr.specs.Nodes.{stmts_nodes, written}
 use Rattle.enc_expr.specs.Typed.{HasStateTypes, IsTypedPiece}

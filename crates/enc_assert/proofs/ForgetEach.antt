@@ -18,14 +18,14 @@ use Rattle.boogie_meaning.specs.Patterns.{with_both}
 use Rattle.boogie_meaning.specs.Run.{Run, filled, chosen, Done, Stop, Stops, Blocked, Short, then_run, brun}
 use Rattle.boogie_meaning.proofs.PatternLaws.{set_there}
 use Rattle.enc_expr.specs.Code.{Emitting, gives, then_emit}
-use Rattle.enc_expr.specs.Place.{Maps, Spot, IsSpot, local_at}
+use Rattle.enc_expr.specs.Place.{Maps, Spot, IsSpot, IsFree, local_at}
 use Rattle.enc_expr.specs.Coupling.{Env, HasMap, HasMaps, AreLocals}
 use Rattle.enc_expr.specs.Alike.{KeptBut}
 use Rattle.enc_expr.proofs.RunLaws.{join_run, join_done}
 use Rattle.enc_expr.proofs.FrameLaws.{set_length, but_from, but_then, kept_itself}
 use Rattle.enc_assert.specs.Alongside.{IsProperMove, GivesMap}
 use Rattle.enc_assert.specs.Encoding.{forget_map}
-use Rattle.enc_assert.specs.Held.{IsFree, IsFreeLocalOf}
+use Rattle.enc_assert.specs.Held.{IsFreeLocalOf}
 use Rattle.enc_assert.proofs.DecodeLaws.{IsRead, entries_for}
 use Rattle.enc_assert.proofs.ForgetStep.{Paired, IsOwnWhereHeld, IsNew, forward, Backward, backward, stops}
 
@@ -125,7 +125,7 @@ module _ {layout : Layout} {now : Maps} {T K V : Type 0} (side : Side layout now
     kept_free : (image : Map Key BScalar) → KeptBut (IsFreeLocalOf layout now) n E (with_both E x n image)
     kept_free image =
         let k = changed image in
-        record { length = k.length; same = λ j below other. k.same j below (λ same. other (record { spot = side.spot i; free = side.is_free i; exists = side.exists i (slice_get_within side.types i u there); there = same })) }
+        record { length = k.length; same = λ j below other. k.same j below (λ same. other (record { spot = side.spot i; kind = side.is_free i; exists = side.exists i (slice_get_within side.types i u there); there = same })) }
 
     -- what the start says of this map
     own_where_held : (h : Map K V) → IsOwn i h u → IsOwnWhereHeld pair ts bd n x y i (side.maps s) (side.helds s) E old held own_local long h

@@ -8,8 +8,8 @@ use Rattle.vb_value.specs.declared.values.Ty.{Ty}
 use Rattle.vb_value.specs.declared.values.Value.{Value}
 use Rattle.viper_state.specs.State.{Key, State}
 use Rattle.viper_state.proofs.Paired.{get_set_other}
-use Rattle.enc_expr.specs.Place.{Maps, Spot, Heap, Mask, Amount, Content as Contents, IsSpot, local_at, number, AreApart}
-use Rattle.enc_expr.specs.Kinds.{heap_type, content_type}
+use Rattle.enc_expr.specs.Place.{Maps, Spot, Heap, Mask, Amount, Content as Contents, IsSpot, IsFree, local_at, number, AreApart}
+use Rattle.moves.specs.Maps.{heap_type, content_type}
 use Rattle.enc_expr.specs.Coupling.{Env, MapKind, HasMap, HasMaps, heap_kind, content_kind}
 use Rattle.enc_expr.specs.Alike.{KeptBut}
 use Rattle.enc_expr.proofs.MapLaws.{at_each}
@@ -30,12 +30,12 @@ map_elsewhere below moved same h = record {
   rests = h.rests;
 }
 
-module _ (layout : Layout) (now : Maps) (apart : AreApart layout now) where
+module _ (layout : Layout) (now : Maps) {O : ℕ → Type 0} (own : AreApart IsFree O layout now) where
   -- a map that is not the one that was replaced stays
-  stays : {K V : Type 0} {k : MapKind K V} {n : ℕ} {maps : List (Map K V)} {i : ℕ} {E F : Env} (changed other : Spot) → IsSpot layout changed → IsSpot layout other → (other ≡ changed → ⊥) → KeptBut (λ j. j ≡ local_at now changed) n E F →
+  stays : {K V : Type 0} {k : MapKind K V} {n : ℕ} {maps : List (Map K V)} {i : ℕ} {E F : Env} (changed other : Spot) → IsFree changed → IsSpot layout changed → IsSpot layout other → (other ≡ changed → ⊥) → KeptBut (λ j. j ≡ local_at now changed) n E F →
       HasMap k n (local_at now other) maps i E → HasMap k (n + 1) (local_at now other) maps i F
-  stays changed other exists there apart_from kept h =
-      map_elsewhere (omega (arith, h.below)) refl (kept.same (local_at now other) h.below (λ same. apart_from (apart other changed there exists same))) h
+  stays changed other free exists there apart_from kept h =
+      map_elsewhere (omega (arith, h.below)) refl (kept.same (local_at now other) h.below (λ same. apart_from (sym (own.apart changed other free exists there (sym same))))) h
 
   pub heap_replaced : {n : ℕ} {s : State} {E F : Env} → HasMaps layout n now s E → (f : ℕ) (u : Ty) → slice_get layout.fields f ≡ Some u → (h : Map ℕ Value) → KeptBut (λ j. j ≡ number now.heap f) n E F →
       HasMap (heap_kind u) (n + 1) (number now.heap f) (slice_set s.heap f h) f F → HasMaps layout (n + 1) now (record s { heap = slice_set s.heap f h }) F
@@ -44,10 +44,10 @@ module _ (layout : Layout) (now : Maps) (apart : AreApart layout now) where
       record {
         heap = at_each layout.fields (λ (g : ℕ) (y : Ty). HasMap (heap_kind y) (n + 1) (number now.heap g) (slice_set s.heap f h) g F) f u there new
             (λ g y has other. map_elsewhere (omega (arith, (maps.heap g y has).below)) (get_set_other s.heap f g h other)
-            (kept.same (number now.heap g) (maps.heap g y has).below (λ same. other (sym (same_heap (apart (Heap g) (Heap f) (slice_get_within layout.fields g y has) exists same))))) (maps.heap g y has));
-        mask = λ g y has. stays (Heap f) (Mask g) exists (slice_get_within layout.fields g y has) (λ e. cc) kept (maps.mask g y has);
-        amount = λ g ys has. stays (Heap f) (Amount g) exists (slice_get_within layout.keys g ys has) (λ e. cc) kept (maps.amount g ys has);
-        content = λ g ys has. stays (Heap f) (Contents g) exists (slice_get_within layout.keys g ys has) (λ e. cc) kept (maps.content g ys has);
+            (kept.same (number now.heap g) (maps.heap g y has).below (λ same. other (same_heap (own.apart (Heap f) (Heap g) tt exists (slice_get_within layout.fields g y has) (sym same))))) (maps.heap g y has));
+        mask = λ g y has. stays (Heap f) (Mask g) tt exists (slice_get_within layout.fields g y has) (λ e. cc) kept (maps.mask g y has);
+        amount = λ g ys has. stays (Heap f) (Amount g) tt exists (slice_get_within layout.keys g ys has) (λ e. cc) kept (maps.amount g ys has);
+        content = λ g ys has. stays (Heap f) (Contents g) tt exists (slice_get_within layout.keys g ys has) (λ e. cc) kept (maps.content g ys has);
       }
     where
       same_heap : {f g : ℕ} → Heap f ≡ Heap g → f ≡ g
@@ -58,12 +58,12 @@ module _ (layout : Layout) (now : Maps) (apart : AreApart layout now) where
   content_replaced {n} {s} {E} {F} maps q us there h kept new =
       let exists = slice_get_within layout.keys q us there in
       record {
-        heap = λ g y has. stays (Contents q) (Heap g) exists (slice_get_within layout.fields g y has) (λ e. cc) kept (maps.heap g y has);
-        mask = λ g y has. stays (Contents q) (Mask g) exists (slice_get_within layout.fields g y has) (λ e. cc) kept (maps.mask g y has);
-        amount = λ g ys has. stays (Contents q) (Amount g) exists (slice_get_within layout.keys g ys has) (λ e. cc) kept (maps.amount g ys has);
+        heap = λ g y has. stays (Contents q) (Heap g) tt exists (slice_get_within layout.fields g y has) (λ e. cc) kept (maps.heap g y has);
+        mask = λ g y has. stays (Contents q) (Mask g) tt exists (slice_get_within layout.fields g y has) (λ e. cc) kept (maps.mask g y has);
+        amount = λ g ys has. stays (Contents q) (Amount g) tt exists (slice_get_within layout.keys g ys has) (λ e. cc) kept (maps.amount g ys has);
         content = at_each layout.keys (λ (g : ℕ) (ys : List Ty). HasMap (content_kind ys) (n + 1) (number now.content g) (slice_set s.content q h) g F) q us there new
             (λ g ys has other. map_elsewhere (omega (arith, (maps.content g ys has).below)) (get_set_other s.content q g h other)
-            (kept.same (number now.content g) (maps.content g ys has).below (λ same. other (sym (same_content (apart (Contents g) (Contents q) (slice_get_within layout.keys g ys has) exists same))))) (maps.content g ys has));
+            (kept.same (number now.content g) (maps.content g ys has).below (λ same. other (same_content (own.apart (Contents q) (Contents g) tt exists (slice_get_within layout.keys g ys has) (sym same))))) (maps.content g ys has));
       }
     where
       same_content : {f g : ℕ} → Contents f ≡ Contents g → f ≡ g

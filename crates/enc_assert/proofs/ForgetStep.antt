@@ -29,9 +29,8 @@ use Rattle.boogie_meaning.specs.Run.{filled, fits_entries, chosen, Done, Stop, S
 use Rattle.boogie_tree.specs.Stmt.{BStmts}
 use Rattle.boogie_meaning.proofs.PatternLaws.{set_here, forget_goes, forget_agrees, forget_stops}
 use Rattle.boogie_meaning.proofs.ValueLaws.{chosen_typed}
-use Rattle.run_file.specs.BoogieLines.{scalar}
-use Rattle.run_file.specs.Moves.{place_key, instance_key}
-use Rattle.enc_expr.specs.Kinds.{base_for, index_types}
+use Rattle.moves.specs.Scalars.{scalar, base_for}
+use Rattle.moves.specs.Maps.{place_key, instance_key, index_types}
 use Rattle.enc_expr.specs.Coupling.{Env, MapKind, HasMap, heap_kind, mask_kind, amount_kind, content_kind}
 use Rattle.enc_expr.proofs.FrameLaws.{set_length}
 use Rattle.enc_expr.proofs.MapLaws.{IsKind, heap_is_kind, content_is_kind}

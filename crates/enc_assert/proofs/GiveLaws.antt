@@ -33,7 +33,7 @@ use Rattle.boogie_meaning.specs.Ends as end
 use Rattle.boogie_meaning.specs.Quantified.{bvalue, bkey}
 use Rattle.boogie_meaning.specs.Run.{Done, Stops, Blocked, brun}
 use Rattle.boogie_meaning.proofs.PatternLaws.{set_here}
-use Rattle.enc_expr.specs.Place.{Maps, number, AreApart}
+use Rattle.enc_expr.specs.Place.{Maps, number}
 use Rattle.enc_expr.specs.Code.{join}
 use Rattle.enc_expr.specs.Pieces.{at_one, one, zero_real, one_real, is_one, scaled, add_to}
 use Rattle.enc_expr.specs.Coupling.{Env, HasMaps, IsSound}
@@ -105,7 +105,7 @@ fits_nothing Bounded k w held ik iw ih e =
 
 -- ---- so much more is held
 
-module _ (ts : List BType) (b : Bound) (c : Context) (l : Maps) (n m : ℕ) (s : State) (E : Env) (apart : AreApart c.program.layout l) (maps : HasMaps c.program.layout m l s E) (sound : IsSound b c.program.layout s)
+module _ (ts : List BType) (b : Bound) (c : Context) (l : Maps) (n m : ℕ) (s : State) (E : Env) (maps : HasMaps c.program.layout m l s E) (sound : IsSound b c.program.layout s)
     (k : Fraction) (scale : t.BExpr) (scales : IsScale b n E scale k) (q : t.BExpr) (w : Fraction) (atom : HasAtom n E q (Real w)) (proper : IsProperFraction b w) (at : Pos) where
   -- what holds wherever the amount is positive
   positive_value : (y : t.BExpr) (z : Truth) (F : Env) → HasAtom n F q (Real w) → bvalue b y F ≡ end.Is (bv.Bool z) → bvalue b (where_positive q y) F ≡ end.Is (bv.Bool (if is_positive w then z else true))
@@ -147,10 +147,10 @@ module _ (ts : List BType) (b : Bound) (c : Context) (l : Maps) (n m : ℕ) (s :
 
   -- of an instance
   pub instance_given : {p : ℕ} {is : List ℕ} {key : Key} (h : IsHere b c.program.layout m l s E (target.Instance p is) (resource.Instance p key)) (cs : List BChoice) →
-      Alike (IsGrown c l n m E) (giving (resource.Instance p key)) cs (brun ts b (more_held l scale (target.Instance p is) q) E cs)
+      Alike (IsGrown c l n m E) b (giving (resource.Instance p key)) cs (brun ts b (more_held l scale (target.Instance p is) q) E cs)
   instance_given {p} {is} {key} h cs = by_none (is_none w) refl
     where
-      by_none : (z : Truth) → is_none w ≡ z → Alike (IsGrown c l n m E) (if z then is_end s else meaning.more_held b k (resource.Instance p key) at s w) cs (brun ts b (more_held l scale (target.Instance p is) q) E cs)
+      by_none : (z : Truth) → is_none w ≡ z → Alike (IsGrown c l n m E) b (if z then is_end s else meaning.more_held b k (resource.Instance p key) at s w) cs (brun ts b (more_held l scale (target.Instance p is) q) E cs)
       by_none true e =
           let fits = fits_nothing b k w h.held scales.proper proper h.proper e in
           alike_run (add_run h cs fits.0 fits.1) (is_alike (none_grown h e))
@@ -187,10 +187,10 @@ module _ (ts : List BType) (b : Bound) (c : Context) (l : Maps) (n m : ℕ) (s :
         (positive_value (t.Bin op.Le (at_one mask y) one_real) (not (is_above_one (all h))) F (atom_put mask h.image _ h.there atom)
         (plain_value b op.Le (at_one mask y) one_real _ _ F refl value refl ∙ one_test b (all h) (proper_all h fits_more fits_all)))
 
-    pub place_given : (cs : List BChoice) → is_negative w ≡ false → Alike (IsGrown c l n m E) (giving (resource.Place f r)) cs (brun ts b (more_held l scale (target.Field f y) q) E cs)
+    pub place_given : (cs : List BChoice) → is_negative w ≡ false → Alike (IsGrown c l n m E) b (giving (resource.Place f r)) cs (brun ts b (more_held l scale (target.Field f y) q) E cs)
     place_given cs sign = by_none (is_none w) refl
       where
-        by_none : (z : Truth) → is_none w ≡ z → Alike (IsGrown c l n m E) (if z then is_end s else meaning.more_held b k (resource.Place f r) at s w) cs (brun ts b (more_held l scale (target.Field f y) q) E cs)
+        by_none : (z : Truth) → is_none w ≡ z → Alike (IsGrown c l n m E) b (if z then is_end s else meaning.more_held b k (resource.Place f r) at s w) cs (brun ts b (more_held l scale (target.Field f y) q) E cs)
         by_none true e =
             let no : is_positive w ≡ false = positive_unless_none w sign ∙ ap not e in
             let fits = fits_nothing b k w h.held scales.proper proper h.proper e in

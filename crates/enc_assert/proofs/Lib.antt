@@ -23,4 +23,11 @@ pub mod TypedAssertions
 pub mod ShallowAssertions
 pub mod SmallAssertions
 pub mod ForgetCode
+pub mod LiteralAssertions
 pub mod EmittedRows
+pub mod CallLaws
+pub mod EmittedCalls
+pub mod TypedCalls
+pub mod ShallowCalls
+pub mod SmallCalls
+pub mod PrintedCalls

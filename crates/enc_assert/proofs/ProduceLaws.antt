@@ -29,7 +29,7 @@ use Rattle.boogie_tree.specs.declared.exprs.BBase.TheVariants as base
 use Rattle.boogie_meaning.specs.Run as r
 use Rattle.boogie_meaning.specs.Run.{Done, Stops, then_run, brun}
 use Rattle.boogie_meaning.proofs.PatternLaws.{set_here}
-use Rattle.run_file.specs.BoogieLines.{scalar}
+use Rattle.moves.specs.Scalars.{scalar}
 use Rattle.enc_expr.specs.Place.{Place, Maps, IsLocalOf}
 use Rattle.enc_expr.specs.Kinds.{kinds_in}
 use Rattle.enc_expr.specs.Code.{Emitting, join, then_emit, Guard, guarded, puts}
@@ -40,7 +40,7 @@ use Rattle.enc_expr.specs.Alike.{Alike, Kept, KeptBut, IsValued, HasAtom, IsScal
 use Rattle.enc_expr.proofs.Simulated.{Simulates}
 use Rattle.enc_expr.proofs.RunLaws.{join_done, guarded_awake}
 use Rattle.enc_expr.proofs.AlikeLaws.{weaken_alike, kept_alike}
-use Rattle.enc_expr.proofs.FrameLaws.{kept_then, kept_set, kept_but_then, singles_but, locals_first, locals_rest, coupled_kept, coupled_changed, ready_rest}
+use Rattle.enc_expr.proofs.FrameLaws.{kept_then, kept_set, kept_but_then, but_less, own_apart, singles_but, locals_first, locals_rest, coupled_kept, coupled_changed, ready_rest}
 use Rattle.enc_expr.proofs.CodeLaws.{code_counted, atomic_counted}
 use Rattle.enc_expr.proofs.AtomLaws.{Holds, holds_more, atomic_set}
 use Rattle.enc_expr.proofs.AmountLaws.{check_nonnegative_run}
@@ -61,10 +61,7 @@ use Rattle.enc_assert.proofs.GiveLaws.{IsGrown, instance_given, place_given}
 -- ---- what stays
 
 pub held_is_local : {layout : Layout} {l : Maps} (x : ℕ) → IsHeldLocalOf layout l x → IsLocalOf layout l x
-held_is_local x h = record { spot = h.spot; exists = h.exists; there = h.there }
-
-pub but_less : {O P : ℕ → Type 0} {n : ℕ} {E F : Env} → ((i : ℕ) → O i → P i) → KeptBut O n E F → KeptBut P n E F
-but_less more h = record { length = h.length; same = λ i below other. h.same i below (λ own. other (more i own)) }
+held_is_local x h = record { spot = h.spot; kind = tt; exists = h.exists; there = h.there }
 
 pub grown_after : {c : Context} {l : Maps} {n m j : ℕ} {E F G : Env} {s : State} → n ≤ m → Kept n E F → IsGrown c l m j F s G → IsGrown c l n j E s G
 grown_after within kept h = record { kept = kept_but_then within kept h.kept; maps = h.maps }
@@ -78,7 +75,7 @@ grown_coupled b c n m p s less sc E F own within coupled sound h =
     (λ i named below.
     let it = coupled.vars named.variable named.ty named.visible named.typed in
     subst (λ j. slice_get F j ≡ slice_get E j) (sym named.there) (singles.same _ (scalar it.v) it.below it.here ∙ sym it.here))
-    (λ i named below. h.kept.same i below (λ mine. own.beside mine.spot named.spot mine.held mine.exists named.exists (sym mine.there ∙ named.there)))
+    (λ i named below. h.kept.same i below (λ mine. own_apart own named mine))
     h.maps sound coupled
 
 -- ---- an amount
@@ -96,17 +93,17 @@ module _ (ts : List BType) (b : Bound) (c : Context) (p : Place) (g : Guard) (s 
   -- so much more of what is aimed at
   given_more : (own : IsGrowing c p) (n : ℕ) (E : Env) (coupled : IsCoupled b c n p s sc E) (scales : IsScale b n E scale k) (q : t.BExpr) (w : Fraction) (atom : HasAtom n E q (Real w)) (proper : IsProperFraction b w) (at : Pos)
       (y : Target) (x : Resource) → Aims c.program.layout n E y x → is_negative w ≡ false → (cs : List BChoice) →
-      Alike (IsGrown c p.now n n E) (if is_none w then is_end s else meaning.more_held b k x at s w) cs (brun ts b (more_held p.now scale y q) E cs)
+      Alike (IsGrown c p.now n n E) b (if is_none w then is_end s else meaning.more_held b k x at s w) cs (brun ts b (more_held p.now scale y q) E cs)
   given_more own n E coupled scales q w atom proper at _ _ (field there ref) sign cs =
-      place_given ts b c p.now n n s E own.apart coupled.now coupled.sound k scale scales q w atom proper at ref (aimed b c n n p.now s E own.apart coupled.now coupled.sound (field there ref)) cs sign
+      place_given ts b c p.now n n s E coupled.now coupled.sound k scale scales q w atom proper at ref (aimed b c n n p.now s E own coupled.now coupled.sound (field there ref)) cs sign
   given_more own n E coupled scales q w atom proper at _ _ (instance there fits located is_key) sign cs =
-      instance_given ts b c p.now n n s E own.apart coupled.now coupled.sound k scale scales q w atom proper at
-      (aimed b c n n p.now s E own.apart coupled.now coupled.sound (instance there fits located is_key)) cs
+      instance_given ts b c p.now n n s E coupled.now coupled.sound k scale scales q w atom proper at
+      (aimed b c n n p.now s E own coupled.now coupled.sound (instance there fits located is_key)) cs
 
   -- an amount that is written: a negative one fails
   given_alike : (own : IsGrowing c p) (n : ℕ) (E : Env) (coupled : IsCoupled b c n p s sc E) (scales : IsScale b n E scale k) (q : t.BExpr) (w : Fraction) (atom : HasAtom n E q (Real w)) (proper : IsProperFraction b w) (at : Pos)
       (y : Target) (x : Resource) → Aims c.program.layout n E y x → (cs : List BChoice) →
-      Alike (IsGrown c p.now n n E) (meaning.given_to b sc k x at s w) cs (brun ts b (gives_code p scale at y q) E cs)
+      Alike (IsGrown c p.now n n E) b (meaning.given_to b sc k x at s w) cs (brun ts b (gives_code p scale at y q) E cs)
   given_alike own n E coupled scales q w atom proper at y x aims cs =
       let l = label p at kind.Negative in
       let check = check_nonnegative_run ts b n l q w E cs atom proper in

@@ -41,7 +41,7 @@ use Rattle.enc_expr.specs.Coupling.{Env, IsSound, IsCoupled}
 use Rattle.enc_expr.specs.Alike.{Alike, KeptBut, IsScale}
 use Rattle.enc_expr.proofs.RunLaws.{guarded_awake, assume_run}
 use Rattle.enc_expr.proofs.AlikeLaws.{is_alike}
-use Rattle.enc_expr.proofs.FrameLaws.{Singles, singles_but, scale_single, but_from, but_then, kept_but_then, then_kept_but, locals_first, coupled_kept, awake_kept, ready_rest}
+use Rattle.enc_expr.proofs.FrameLaws.{Singles, singles_but, scale_single, but_from, but_less, but_then, kept_but_then, then_kept_but, locals_first, coupled_kept, awake_kept, ready_rest}
 use Rattle.enc_expr.proofs.CodeLaws.{code_counted, codes_counted}
 use Rattle.enc_expr.proofs.OpeningLaws.{alike_run}
 use Rattle.enc_expr.proofs.UnfoldingLaws.{emit_alike}
@@ -57,7 +57,7 @@ use Rattle.enc_assert.proofs.AimLaws.{field_aims, instance_aims}
 use Rattle.enc_assert.proofs.GiveLaws.{IsGrown}
 use Rattle.enc_assert.proofs.GoingLaws.{emit_alongside}
 use Rattle.enc_assert.proofs.WayLaws.{bool_alike, made_alike, key_alike, both_kept, any_run, Way, Acts, both_act, implied_acts, chosen_acts}
-use Rattle.enc_assert.proofs.ProduceLaws.{held_is_local, but_less, grown_after, grown_coupled, AmountReads, amount_produced}
+use Rattle.enc_assert.proofs.ProduceLaws.{held_is_local, grown_after, grown_coupled, AmountReads, amount_produced}
 use Rattle.enc_assert.proofs.WrittenLaws.{produce_counted, produce_sleeps}
 
 -- ---- what is no map stays while permission is produced
@@ -133,7 +133,7 @@ module _ (ts : List BType) (b : Bound) (c : Context) (formed : IsFormed c.progra
         (by_truth F rest q produced)));
   }
     where
-      by_truth : {Q : State → Env → Type 0} (F : Env) (cs : List BChoice) (q : Truth) → Q s F → Alike Q (if q then is_end s else blocks) cs (if q then Done F cs else Stops r.Blocked cs)
+      by_truth : {Q : State → Env → Type 0} (F : Env) (cs : List BChoice) (q : Truth) → Q s F → Alike Q b (if q then is_end s else blocks) cs (if q then Done F cs else Stops r.Blocked cs)
       by_truth F cs true h = is_alike h
       by_truth F cs false h = stopped_first cs
   assertion_produced g s (e.Acc a f m at) (y.access {u = u} typed there exact) = record {
@@ -146,7 +146,7 @@ module _ (ts : List BType) (b : Bound) (c : Context) (formed : IsFormed c.progra
         let low : n ≤ n1 = omega (arith, counted.next n) in
         let all = (produce_counted (kinds_in c) p g scale (e.Acc a f m at)).next n in
         whole (e.Acc a f m at) s (omega (arith, all)) (y.access typed there exact) coupled scales (
-        emit_alongside ts b c first go n E (meaning.place_in b a f s sc) (meaning.produce_amount b m sc k at s)
+        emit_alongside ⊤ ts b c.program.layout first go n E (meaning.place_in b a f s sc) (meaning.produce_amount b m sc k at s)
         (λ cs. made_alike (resource.Place f) (ref_alike (λ w F z. z.typed) ((expression ts b c p g s sc a ty.Ref formed typed).alike n E cs coupled (record { awake = ready.awake; full = ready.full; locals = locals_first ts n x.locals last.locals ready.locals }))))
         (λ z F made.
         let ref = made.0 in let q = made.1.1 in
@@ -167,7 +167,7 @@ module _ (ts : List BType) (b : Bound) (c : Context) (formed : IsFormed c.progra
         let keys = keys_at c formed q d there in
         let no_perm = (predicate_of_typed c.program formed.typed q d there).params in
         whole (e.Inst q args m at) s (omega (arith, all)) (y.instance d there typed exact) coupled scales (
-        emit_alongside ts b c first go n E (meaning.instance_in b q args s sc) (meaning.produce_amount b m sc k at s)
+        emit_alongside ⊤ ts b c.program.layout first go n E (meaning.instance_in b q args s sc) (meaning.produce_amount b m sc k at s)
         (λ cs. made_alike (resource.Instance q) (key_alike no_perm ((arguments ts b c p g s sc args d.params formed typed).alike n E cs coupled (record { awake = ready.awake; full = ready.full; locals = locals_first ts n x.locals last.locals ready.locals }))))
         (λ z F made.
         let key = made.0 in let found = made.1.1 in let vs = found.values in

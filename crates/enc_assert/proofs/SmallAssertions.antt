@@ -66,19 +66,19 @@ takes_some_nodes p left at x w = omega arith
 
 -- ---- the code
 
-record AreSmallBlocks (w : Blocks) : Type 0 where
-  fact : (at : Pos) (x : t.BExpr) → stmts_nodes (w.fact at x) ≤ 1 + expr_nodes x
-  written : (at : Pos) (x : Target) (q : t.BExpr) → expr_nodes q ≤ 1 → stmts_nodes (w.written at x q) ≤ 31 + 5 * exprs_nodes (key_of x)
-  chosen : (at : Pos) (x : Target) (i : ℕ) → stmts_nodes (w.chosen at x i) ≤ 31 + 5 * exprs_nodes (key_of x)
+pub record AreSmallBlocks (w : Blocks) : Type 0 where
+  pub fact : (at : Pos) (x : t.BExpr) → stmts_nodes (w.fact at x) ≤ 1 + expr_nodes x
+  pub written : (at : Pos) (x : Target) (q : t.BExpr) → expr_nodes q ≤ 1 → stmts_nodes (w.written at x q) ≤ 31 + 5 * exprs_nodes (key_of x)
+  pub chosen : (at : Pos) (x : Target) (i : ℕ) → stmts_nodes (w.chosen at x i) ≤ 31 + 5 * exprs_nodes (key_of x)
 
-produce_blocks_small : (p : Place) (scale : t.BExpr) → expr_nodes scale ≤ 1 → AreSmallBlocks (produce_blocks p scale)
+pub produce_blocks_small : (p : Place) (scale : t.BExpr) → expr_nodes scale ≤ 1 → AreSmallBlocks (produce_blocks p scale)
 produce_blocks_small p scale few = record {
   fact = λ at x. omega arith;
   written = λ at x q h. let a = gives_code_nodes p scale at x q few h in omega (arith, a);
   chosen = λ at x w. gives_some_nodes p scale x w few;
 }
 
-consume_blocks_small : (p : Place) (left : Maps) (scale : t.BExpr) → expr_nodes scale ≤ 1 → AreSmallBlocks (consume_blocks p left scale)
+pub consume_blocks_small : (p : Place) (left : Maps) (scale : t.BExpr) → expr_nodes scale ≤ 1 → AreSmallBlocks (consume_blocks p left scale)
 consume_blocks_small p left scale few = record {
   fact = λ at x. omega arith;
   written = λ at x q h. let a = takes_code_nodes p left scale at x q few h in omega (arith, a);
@@ -117,7 +117,7 @@ module _ (least : ℕ) (k : Kinds) (p : Place) (w : Blocks) (h : 1 + parts_of k.
       choose_small {measure = nothing} {most = nothing} (64 * assertion_size least d) (64 * assertion_size least f) (64 + 64 * assertion_size least d + 64 * assertion_size least f + weigh x) g x.expr
       (λ m. walk k p w m d) (λ m. walk k p w m f) (λ m u v. tt) (omega arith) (λ m. walk_small m d) (λ m. walk_small m f) (λ m u v. omega arith))
 
-walk_linear : (c : Context) (p : Place) (w : Blocks) (g : Guard) (a : e.Assertion) (n : ℕ) → IsFormed c.program → AreSmallBlocks w → written (walk (kinds_in c) p w g a n) ≤ 64 * assertion_size (base_of c.program) a
+pub walk_linear : (c : Context) (p : Place) (w : Blocks) (g : Guard) (a : e.Assertion) (n : ℕ) → IsFormed c.program → AreSmallBlocks w → written (walk (kinds_in c) p w g a n) ≤ 64 * assertion_size (base_of c.program) a
 walk_linear c p w g a n formed blocks = let h = (walk_small (base_of c.program) (kinds_in c) p w (counted c.program formed) blocks g a).within n in omega (arith, h)
 
 -- ---- what is promised

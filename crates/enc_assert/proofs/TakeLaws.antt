@@ -45,8 +45,8 @@ use Rattle.enc_assert.specs.Encoding.{takes_code}
 use Rattle.enc_assert.proofs.TargetLaws.{IsHere}
 use Rattle.enc_assert.proofs.GiveLaws.{IsGrown}
 
-unless_then : {X Y : Type 0} {Q : Y → Env → Type 0} {cs : List BChoice} {run : Run} (instead a : Evaluated X) (go : X → Evaluated Y) (test : Truth) → (test ≡ true → Alike Q (then_with instead go) cs run) →
-    (test ≡ false → Alike Q (then_with a go) cs run) → Alike Q (then_with (unless test instead a) go) cs run
+unless_then : {b : Bound} {X Y : Type 0} {Q : Y → Env → Type 0} {cs : List BChoice} {run : Run} (instead a : Evaluated X) (go : X → Evaluated Y) (test : Truth) → (test ≡ true → Alike Q b (then_with instead go) cs run) →
+    (test ≡ false → Alike Q b (then_with a go) cs run) → Alike Q b (then_with (unless test instead a) go) cs run
 unless_then instead a go true f h = f refl
 unless_then instead a go false f h = h refl
 
@@ -62,7 +62,7 @@ module _ (ts : List BType) (b : Bound) (c : Context) (p : Place) (left : Maps) (
 
   -- so much is taken, where the difference is within the bound
   subtract_alike : (q : t.BExpr) (w : Fraction) → IsReduced w → bvalue b q E ≡ end.Is (Real w) → (cs : List BChoice) →
-      Alike (IsGrown c left n m E) (then_with (fitting b (fits_difference h.held w) at (difference h.held w)) (λ rest. is_end (with_held u x rest))) cs (brun ts b (taken_amount (held_in left y) (key_of y) q) E cs)
+      Alike (IsGrown c left n m E) b (then_with (fitting b (fits_difference h.held w) at (difference h.held w)) (λ rest. is_end (with_held u x rest))) cs (brun ts b (taken_amount (held_in left y) (key_of y) q) E cs)
   subtract_alike q w reduced value cs =
       let rest = difference h.held w in
       let minus : bvalue b (t.Bin op.Sub held q) E ≡ end.fitting b (fits_difference h.held w) (Real rest) = λ k. calculus.binary b op.Sub (held_value k) (value k) in
@@ -72,7 +72,7 @@ module _ (ts : List BType) (b : Bound) (c : Context) (p : Place) (left : Maps) (
 
   -- an amount that is written: a negative one fails, and so does more than is held
   pub taken_alike : (k : Fraction) (scale : t.BExpr) → IsScale b n E scale k → (q : t.BExpr) (w : Fraction) → HasAtom n E q (Real w) → IsProperFraction b w → (cs : List BChoice) →
-      Alike (IsGrown c left n m E) (meaning.taken_from b sc k x at u w) cs (brun ts b (takes_code p left scale at y q) E cs)
+      Alike (IsGrown c left n m E) b (meaning.taken_from b sc k x at u w) cs (brun ts b (takes_code p left scale at y q) E cs)
   taken_alike k scale scales q w atom proper cs =
       let negative = label p at kind.Negative in let missing = label p at kind.Perm in
       let some = product k w in let amount = scaled scale q in
@@ -101,7 +101,7 @@ module _ (ts : List BType) (b : Bound) (c : Context) (p : Place) (left : Maps) (
   is_some = t.Bin op.Ne held zero_real
 
   -- something has to be held
-  pub something_alike : (cs : List BChoice) → Alike (λ w F. (w ≡ h.held) × (F ≡ E)) (meaning.something_held sc x at u) cs (brun ts b (one (stmt.Assert (label p at kind.Perm) is_some)) E cs)
+  pub something_alike : (cs : List BChoice) → Alike (λ w F. (w ≡ h.held) × (F ≡ E)) b (meaning.something_held sc x at u) cs (brun ts b (one (stmt.Assert (label p at kind.Perm) is_some)) E cs)
   something_alike cs =
       let asked : bvalue b is_some E ≡ end.Is (bv.Bool (not (is_none h.held))) = plain_value b op.Ne held zero_real _ _ E refl held_value refl ∙ some_test b h.held h.proper in
       let run = assert_run ts b (label p at kind.Perm) is_some (not (is_none h.held)) stmt.skip E cs asked in
@@ -113,7 +113,7 @@ module _ (ts : List BType) (b : Bound) (c : Context) (p : Place) (left : Maps) (
 -- less than is held
 module _ (ts : List BType) (b : Bound) (c : Context) (left : Maps) (n m : ℕ) (u : State) (E : Env) (at : Pos) {y : Target} {x : Resource} (h : IsHere b c.program.layout m left u E y x) where
   pub part_alike : (q : t.BExpr) (w : Fraction) → IsProperFraction b w → bvalue b q E ≡ end.Is (Real w) → (cs : List BChoice) →
-      Alike (IsGrown c left n m E)
+      Alike (IsGrown c left n m E) b
       (then_with (fitting b (fits_order w h.held) at (is_lt (order w h.held))) (λ less. unless (not less) blocks (then_with (fitting b (fits_difference h.held w) at (difference h.held w)) (λ rest. is_end (with_held u x rest))))) cs
       (brun ts b (stmt.first (stmt.Assume (t.Bin op.Lt q (t.At (held_in left y) (key_of y)))) (taken_amount (held_in left y) (key_of y) q)) E cs)
   part_alike q w proper value cs =

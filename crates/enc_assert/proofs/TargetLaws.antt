@@ -23,8 +23,8 @@ use Rattle.boogie_tree.specs.Value as bv
 use Rattle.boogie_tree.specs.Value.{BScalar, Many, Real, same_scalar}
 use Rattle.boogie_meaning.specs.Ends as end
 use Rattle.boogie_meaning.specs.Quantified.{bkey}
-use Rattle.run_file.specs.Moves.{place_key, instance_key}
-use Rattle.enc_expr.specs.Place.{Maps, number, Mask, Amount, AreApart}
+use Rattle.moves.specs.Maps.{place_key, instance_key}
+use Rattle.enc_expr.specs.Place.{Maps, number, Mask, Amount, IsHeld, AreApart}
 use Rattle.enc_expr.specs.Coupling.{Env, HasMaps, IsSound, mask_kind, amount_kind}
 use Rattle.enc_expr.specs.Alike.{HasAtom, AreLocated}
 use Rattle.enc_expr.proofs.MapLaws.{found_in_map, mask_written, amount_written, index_key}
@@ -55,7 +55,7 @@ pub record IsHere (b : Bound) (layout : Layout) (m : ℕ) (l : Maps) (s : State)
   pub unchanged : with_held s x held ≡ s
   pub written : (q : Fraction) → IsReduced q → HasMaps layout m l (with_held s x q) (slice_set E (held_in l y) (Many (set key_cmp same_scalar image index (Real q))))
 
-pub aimed : (b : Bound) (c : Context) (n m : ℕ) (l : Maps) (s : State) (E : Env) {y : Target} {x : Resource} → AreApart c.program.layout l → HasMaps c.program.layout m l s E → IsSound b c.program.layout s → Aims c.program.layout n E y x →
+pub aimed : (b : Bound) (c : Context) (n m : ℕ) (l : Maps) (s : State) (E : Env) {y : Target} {x : Resource} {O : ℕ → Type 0} → AreApart IsHeld O c.program.layout l → HasMaps c.program.layout m l s E → IsSound b c.program.layout s → Aims c.program.layout n E y x →
     IsHere b c.program.layout m l s E y x
 aimed b c n m l s E apart maps sound (field {f} {r} {u} {x} there ref) =
     let old = maps.mask f u there in
@@ -71,9 +71,9 @@ aimed b c n m l s E apart maps sound (field {f} {r} {u} {x} there ref) =
       value = old.same r tt;
       proper = subst (λ o. IfSome o (IsProperFraction b)) is_held (mask_has sound.proper f r);
       sign = subst (λ o. IfSome o IsNotNegative) is_held (mask_not_negative sound.nonnegative f r);
-      local = record { spot = Mask f; held = tt; exists = slice_get_within c.program.layout.fields f u there; there = refl };
+      local = record { spot = Mask f; kind = tt; exists = slice_get_within c.program.layout.fields f u there; there = refl };
       unchanged = ap (λ (h : List (Map ℕ Fraction)). record s { mask = h }) (changed_same exact_masks s.mask f r old.m old.there old.tidy);
-      written = λ q reduced. mask_written c m l s E apart maps f u r q there reduced;
+      written = λ q reduced. mask_written c m l s E apart maps f u r q there tt reduced;
     }
 aimed b c n m l s E apart maps sound (instance {p} {us} {key} {is} {vs} there fits located is_key) =
     let old = maps.amount p us there in
@@ -89,7 +89,7 @@ aimed b c n m l s E apart maps sound (instance {p} {us} {key} {is} {vs} there fi
       value = old.same key fits;
       proper = subst (λ o. IfSome o (IsProperFraction b)) is_held (amount_has sound.proper p key);
       sign = subst (λ o. IfSome o IsNotNegative) is_held (amount_not_negative sound.nonnegative p key);
-      local = record { spot = Amount p; held = tt; exists = slice_get_within c.program.layout.keys p us there; there = refl };
+      local = record { spot = Amount p; kind = tt; exists = slice_get_within c.program.layout.keys p us there; there = refl };
       unchanged = ap (λ (h : List (Map Key Fraction)). record s { amount = h }) (changed_same exact_amounts s.amount p key old.m old.there old.tidy);
-      written = λ q reduced. amount_written c m l s E apart maps p us key q there fits reduced;
+      written = λ q reduced. amount_written c m l s E apart maps p us key q there tt fits reduced;
     }

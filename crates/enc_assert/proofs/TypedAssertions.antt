@@ -18,7 +18,8 @@ use Rattle.boogie_meaning.specs.Programs.{HaveKeys}
 use Rattle.boogie_meaning.specs.Types as b
 use Rattle.boogie_meaning.specs.Types.{HasType, IsTyped}
 use Rattle.enc_expr.specs.Place.{Maps, Place}
-use Rattle.enc_expr.specs.Kinds.{Kinds, kinds_in, state_types}
+use Rattle.moves.specs.Maps.{state_types}
+use Rattle.enc_expr.specs.Kinds.{Kinds, kinds_in}
 use Rattle.enc_expr.specs.Code.{Emitting, join, Guard}
 use Rattle.enc_expr.specs.Pieces.{Operand}
 use Rattle.enc_expr.specs.Coupling.{AreLocals}
@@ -37,19 +38,19 @@ use Rattle.enc_assert.proofs.WalkLaws.{Blocks, amount_walk, walk, produce_blocks
 -- ---- types
 
 module _ (ts : List BType) (layout : Layout) where
-  record AreTypedBlocks (w : Blocks) : Type 0 where
-    fact : (at : Pos) (x : t.BExpr) → HasType ts None x base.Bool → IsTyped ts (w.fact at x)
-    written : (at : Pos) (x : Target) (q : t.BExpr) → IsTypedTarget ts layout x → HasType ts None q base.Real → IsTyped ts (w.written at x q)
-    chosen : (at : Pos) (x : Target) (i : ℕ) → IsTypedTarget ts layout x → slice_get ts i ≡ Some (plain_type base.Real) → IsTyped ts (w.chosen at x i)
+  pub record AreTypedBlocks (w : Blocks) : Type 0 where
+    pub fact : (at : Pos) (x : t.BExpr) → HasType ts None x base.Bool → IsTyped ts (w.fact at x)
+    pub written : (at : Pos) (x : Target) (q : t.BExpr) → IsTypedTarget ts layout x → HasType ts None q base.Real → IsTyped ts (w.written at x q)
+    pub chosen : (at : Pos) (x : Target) (i : ℕ) → IsTypedTarget ts layout x → slice_get ts i ≡ Some (plain_type base.Real) → IsTyped ts (w.chosen at x i)
 
-  produce_blocks_typed : (p : Place) (scale : t.BExpr) → HasHeldTypes layout p.now ts → HasType ts None scale base.Real → AreTypedBlocks (produce_blocks p scale)
+  pub produce_blocks_typed : (p : Place) (scale : t.BExpr) → HasHeldTypes layout p.now ts → HasType ts None scale base.Real → AreTypedBlocks (produce_blocks p scale)
   produce_blocks_typed p scale h k = record {
     fact = λ at x i. one_typed ts (b.assume_ i);
     written = λ at x q i l. gives_code_typed ts layout p scale at x q h k i l;
     chosen = λ at x w i l. gives_some_typed ts layout p scale x w h k i l;
   }
 
-  consume_blocks_typed : (p : Place) (left : Maps) (scale : t.BExpr) → HasHeldTypes layout left ts → HasType ts None scale base.Real → AreTypedBlocks (consume_blocks p left scale)
+  pub consume_blocks_typed : (p : Place) (left : Maps) (scale : t.BExpr) → HasHeldTypes layout left ts → HasType ts None scale base.Real → AreTypedBlocks (consume_blocks p left scale)
   consume_blocks_typed p left scale h k = record {
     fact = λ at x i. one_typed ts (b.assert_ i);
     written = λ at x q i l. takes_code_typed ts layout p left scale at x q h k i l;
@@ -63,7 +64,7 @@ module _ (ts : List BType) (layout : Layout) where
       puts_typed ts g (join x.sets (w.chosen at x.target j)) guard (join_typed ts i.sets (blocks.chosen at x.target j i.target k)))
 
 module _ (ts : List BType) (c : Context) (p : Place) (w : Blocks) (formed : IsFormed c.program) (h : HasPlaceTypes c p ts) (blocks : AreTypedBlocks ts c.program.layout w) where
-  walk_typed : (g : Guard) (a : e.Assertion) → IsAssertion c a → HasGuardType g ts → IsTypedCode ts Any (walk (kinds_in c) p w g a)
+  pub walk_typed : (g : Guard) (a : e.Assertion) → IsAssertion c a → HasGuardType g ts → IsTypedCode ts Any (walk (kinds_in c) p w g a)
   walk_typed g (e.Fact a at) (y.fact i) guard = then_typed ts (code_typed ts c p g a ty.Bool formed i h guard) (λ x k. puts_typed ts g (w.fact at x.expr) guard (blocks.fact at x.expr k.typed))
   walk_typed g (e.Acc a f m at) (y.access {u = u} i there j) guard = then_typed ts (code_typed ts c p g a ty.Ref formed i h guard) (λ x k. then_typed ts (amount_typed ts c p g m formed j h guard) (λ z l.
       then_typed ts (field_typed ts c.program.layout f u x there k) (λ o n. amount_walk_typed ts c.program.layout w g at m z o blocks guard l n)))
@@ -86,7 +87,7 @@ amount_walk_keyed : (w : Blocks) (g : Guard) (at : Pos) (m : e.Amt) (y : Operand
 amount_walk_keyed w g at (e.Is a) y x = then_keyed (atomic_keyed y) (λ q. puts_keyed g (join x.sets (join q.sets (w.written at x.target q.expr))))
 amount_walk_keyed w g at e.Wildcard y x = then_keyed (plain_keyed base.Real) (λ i. puts_keyed g (join x.sets (w.chosen at x.target i)))
 
-walk_keyed : (k : Kinds) (p : Place) (w : Blocks) (g : Guard) (a : e.Assertion) → HaveKeys (state_types k.layout) → IsKeyed (walk k p w g a)
+pub walk_keyed : (k : Kinds) (p : Place) (w : Blocks) (g : Guard) (a : e.Assertion) → HaveKeys (state_types k.layout) → IsKeyed (walk k p w g a)
 walk_keyed k p w g (e.Fact a at) h = then_keyed (code_keyed k p g a h) (λ x. puts_keyed g (w.fact at x.expr))
 walk_keyed k p w g (e.Acc a f m at) h = then_keyed (code_keyed k p g a h) (λ x. then_keyed (amount_keyed k p g m h) (λ y. then_keyed (field_keyed f x) (λ o. amount_walk_keyed w g at m y o)))
 walk_keyed k p w g (e.Inst q args m at) h = then_keyed (codes_keyed k p g args h) (λ xs. then_keyed (amount_keyed k p g m h) (λ y. then_keyed (instance_keyed q xs) (λ o. amount_walk_keyed w g at m y o)))

@@ -59,17 +59,17 @@ use Rattle.enc_assert.proofs.GoingLaws.{emit_alongside, emit_both}
 
 -- ---- truths and resources
 
-bool_is : (Q : Value → Env → Type 0) {E : Env} {cs : List BChoice} (w : Value) → type_of w ≡ ty.Bool → Q w E → Alike (λ q F. Q (v.Bool q) F) (truth_of w) cs (Done E cs)
+bool_is : {b : Bound} (Q : Value → Env → Type 0) {E : Env} {cs : List BChoice} (w : Value) → type_of w ≡ ty.Bool → Q w E → Alike (λ q F. Q (v.Bool q) F) b (truth_of w) cs (Done E cs)
 bool_is Q (v.Bool q) typed h = is_alike h
 bool_is Q (v.Int n) typed h = absurd (cc)
 bool_is Q (v.Ref r) typed h = absurd (cc)
 bool_is Q (v.Perm q) typed h = absurd (cc)
 
-pub bool_alike : {Q : Value → Env → Type 0} {a : Evaluated Value} {cs : List BChoice} {run : r.Run} → ((w : Value) (E : Env) → Q w E → type_of w ≡ ty.Bool) → Alike Q a cs run → Alike (λ q E. Q (v.Bool q) E) (as_truth a) cs run
+pub bool_alike : {b : Bound} {Q : Value → Env → Type 0} {a : Evaluated Value} {cs : List BChoice} {run : r.Run} → ((w : Value) (E : Env) → Q w E → type_of w ≡ ty.Bool) → Alike Q b a cs run → Alike (λ q E. Q (v.Bool q) E) b (as_truth a) cs run
 bool_alike {Q} {run = run} typed h = alike_run (sym (then_done run)) (then_alike h (λ w E rest q. bool_is Q w (typed w E q) q))
 
 -- the value of an evaluation, made into another thing
-pub made_alike : {X Z : Type 0} {Q : X → Env → Type 0} {a : Evaluated X} {cs : List BChoice} {run : r.Run} (make : X → Z) → Alike Q a cs run → Alike (λ z F. (x : X) × ((z ≡ make x) × Q x F)) (then_with a (λ x. is_end (make x))) cs run
+pub made_alike : {b : Bound} {X Z : Type 0} {Q : X → Env → Type 0} {a : Evaluated X} {cs : List BChoice} {run : r.Run} (make : X → Z) → Alike Q b a cs run → Alike (λ z F. (x : X) × ((z ≡ make x) × Q x F)) b (then_with a (λ x. is_end (make x))) cs run
 made_alike {run = run} make h = alike_run (sym (then_done run)) (then_alike h (λ x E rest q. is_alike (x, (refl, q))))
 
 -- values of these types make a key
@@ -79,12 +79,12 @@ pub record IsFoundKey (b : Bound) (n m : ℕ) (xs : List Operand) (us : List Ty)
   pub is_key : Some key ≡ places.key_of values
   pub fits : FitsKey us key
 
-pub key_alike : {b : Bound} {n m : ℕ} {xs : List Operand} {us : List Ty} {E : Env} {a : Evaluated (List Value)} {cs : List BChoice} {run : r.Run} → All (λ u. u ≢ ty.Perm) us → Alike (λ vs F. AreValued b n m xs us E vs F) a cs run →
-    Alike (IsFoundKey b n m xs us E) (as_key a) cs run
+pub key_alike : {b : Bound} {n m : ℕ} {xs : List Operand} {us : List Ty} {E : Env} {a : Evaluated (List Value)} {cs : List BChoice} {run : r.Run} → All (λ u. u ≢ ty.Perm) us → Alike (λ vs F. AreValued b n m xs us E vs F) b a cs run →
+    Alike (IsFoundKey b n m xs us E) b (as_key a) cs run
 key_alike {b} {n} {m} {xs} {us} {E} {run = run} no_perm h = alike_run (sym (then_done run)) (then_alike h (λ vs F rest valued.
     let key = key_typed valued.values no_perm in
     let is_found : IsFoundKey b n m xs us E key.0 F = record { values = vs; valued = valued; is_key = key.1.0; fits = key.1.1 } in
-    subst (λ o. Alike (IsFoundKey b n m xs us E) (found o) rest (Done F rest)) key.1.0 (is_alike is_found)))
+    subst (λ o. Alike (IsFoundKey b n m xs us E) b (found o) rest (Done F rest)) key.1.0 (is_alike is_found)))
 
 -- ---- both guards of a choice
 
@@ -159,7 +159,7 @@ module _ (ts : List BType) (b : Bound) (c : Context) (p : Place) (sc : Scene) (w
     alongside = λ n E before ready.
         let x = first n in let n1 = x.next in let last = second n1 in
         let low : n ≤ n1 = omega (arith, counted.next n) in let high : n1 ≤ last.next = omega (arith, counted2.next n1) in
-        emit_both ts b c first (λ u. second) n E one two
+        emit_both ⊤ ts b c.program.layout first (λ u. second) n E one two
         (acts.alongside n E before (record { awake = ready.awake; full = ready.full; locals = locals_first ts n x.locals last.locals ready.locals }))
         (λ w F after.
         let ready1 : IsReady ts g n1 last.locals F = record {
@@ -182,7 +182,7 @@ module _ (ts : List BType) (b : Bound) (c : Context) (p : Place) (sc : Scene) (w
         let go : Operand → Emitting ⊤ = λ x. then_emit (guards g x.expr) (λ h. side (Some h)) in let last = go x.value n1 in
         let counted = code_counted (kinds_in c) p g a in
         let low : n ≤ n1 = omega (arith, counted.next n) in let high : n1 + 1 ≤ l.next = omega (arith, (counted2 (Some n1)).next (n1 + 1)) in
-        emit_alongside ts b c first go n E (truth_in b a s sc) (λ holds. if holds then run else goes u)
+        emit_alongside ⊤ ts b c.program.layout first go n E (truth_in b a s sc) (λ holds. if holds then run else goes u)
         (λ cs. bool_alike (λ w F z. z.typed) ((tests s).alike n E cs (way.coupled before) (record { awake = ready.awake; full = ready.full; locals = locals_first ts n x.locals last.locals ready.locals })))
         (λ q F z.
         let ready1 = ready_rest ts g n n1 x.locals last.locals E F (counted.next n) z.kept ready in
@@ -222,7 +222,7 @@ module _ (ts : List BType) (b : Bound) (c : Context) (p : Place) (sc : Scene) (w
         let counted = code_counted (kinds_in c) p g a in
         let low0 : n0 ≤ n = omega (arith, counted.next n0) in
         let low : n + 1 + 1 ≤ l.next = omega (arith, (counted1 (Some n)).next (n + 1 + 1)) in let high : l.next ≤ o.next = omega (arith, (counted2 (Some (n + 1))).next l.next) in
-        emit_alongside ts b c first go n0 E0 (truth_in b a s sc) (λ holds. if holds then one else two)
+        emit_alongside ⊤ ts b c.program.layout first go n0 E0 (truth_in b a s sc) (λ holds. if holds then one else two)
         (λ cs. bool_alike (λ w F z. z.typed) ((tests s).alike n0 E0 cs (way.coupled before0) (record { awake = ready0.awake; full = ready0.full; locals = locals_first ts n0 x.locals last.locals ready0.locals })))
         (λ q E z.
         let ready = ready_rest ts g n0 n x.locals last.locals E0 E (counted.next n0) z.kept ready0 in

@@ -5,7 +5,7 @@ use Rattle.std.specs.Prelude.{⊤, ◌≡◌, ℕ, List, [], ◌∷◌, ◌++◌
 use Rattle.sparse.specs.Map.{Map, get}
 use Rattle.vb_base.specs.declared.labels.Label.{Label}
 use Rattle.vb_base.specs.declared.places.Pos.{Pos}
-use Rattle.vb_value.specs.Bound.{Bound, IfBounded, IsWithin}
+use Rattle.vb_value.specs.Bound.{Bound, Bounded, IfBounded, IsWithin}
 use Rattle.vb_value.specs.Content.{Content, IsReducedContent, IsProperContent}
 use Rattle.vb_value.specs.Key.{key_cmp, IsProperKey}
 use Rattle.vb_value.specs.declared.values.Ty.{Ty}
@@ -22,8 +22,8 @@ use Rattle.boogie_tree.specs.Value as bv
 use Rattle.boogie_tree.specs.Program.{BType}
 use Rattle.boogie_tree.specs.Value.{Key, BScalar, Many, Entry, BChoice}
 use Rattle.boogie_meaning.specs.Run as r
-use Rattle.run_file.specs.Moves.{moves, moves_of}
-use Rattle.enc_expr.specs.Kinds.{heap_type, content_type}
+use Rattle.moves.specs.Moves.{moves, moves_of}
+use Rattle.moves.specs.Maps.{heap_type, content_type}
 use Rattle.enc_expr.specs.Coupling.{Env, MapKind, heap_kind, content_kind}
 use Rattle.enc_expr.specs.Boundary.{HasEnded}
 
@@ -90,17 +90,17 @@ Waits (r.Stops r.Over cs) = ⊥
 Waits (r.Stops r.Wrong cs) = ⊥
 
 -- The step beside a run of the code from its moves and these choices behind them. Where the step stops for want of a right choice
--- the code does so too, if no more choices are there and W holds. Nothing is said where the step is Over.
-pub data GoesWith {X : Type 0} (W : Type 0) (Q : X → Env → Type 0) (more : List BChoice) : Step X → r.Run → Type 0 where
-  done : {x : X} {E : Env} → Q x E → GoesWith W Q more (Goes x) (r.Done E more)
-  failed : {l : Label} → GoesWith W Q more (Fails l) (r.Stops (r.Failed l) more)
-  blocked : {run : r.Run} → (W → more ≡ [] → Waits run) → GoesWith W Q more Blocked run
-  short : {run : r.Run} → (W → more ≡ [] → Waits run) → GoesWith W Q more Short run
-  over : {at : Pos} {run : r.Run} → GoesWith W Q more (Over at) run
+-- the code does so too, if no more choices are there and W holds. Nothing is said where the step is Over, as with a bound it may be.
+pub data GoesWith {X : Type 0} (W : Type 0) (Q : X → Env → Type 0) (b : Bound) (more : List BChoice) : Step X → r.Run → Type 0 where
+  done : {x : X} {E : Env} → Q x E → GoesWith W Q b more (Goes x) (r.Done E more)
+  failed : {l : Label} → GoesWith W Q b more (Fails l) (r.Stops (r.Failed l) more)
+  blocked : {run : r.Run} → (W → more ≡ [] → Waits run) → GoesWith W Q b more Blocked run
+  short : {run : r.Run} → (W → more ≡ [] → Waits run) → GoesWith W Q b more Short run
+  over : {at : Pos} {run : r.Run} → b ≡ Bounded → GoesWith W Q b more (Over at) run
 
 -- on the moves of what was recorded
-abbrev pub OnMoves : {X : Type 0} → Type 0 → (X → Env → Type 0) → List BChoice → (List BChoice → r.Run) → Ran X → Type 0
-OnMoves W Q more run (ran events step left) = GoesWith W Q more step (run (moves events ++ more))
+abbrev pub OnMoves : {X : Type 0} → Type 0 → (X → Env → Type 0) → Bound → List BChoice → (List BChoice → r.Run) → Ran X → Type 0
+OnMoves W Q b more run (ran events step left) = GoesWith W Q b more step (run (moves events ++ more))
 
 -- ---- from Boogie
 
@@ -109,18 +109,18 @@ pub data Matches {X : Type 0} (Q : X → Env → Type 0) (rest : List BChoice) :
   done : {x : X} {E : Env} → Q x E → Matches Q rest (Goes x) (r.Done E rest)
   failed : {l : Label} → Matches Q rest (Fails l) (r.Stops (r.Failed l) rest)
 
--- There are choices, all of which the run of Viper takes, and the code took the moves of what it records. Or there are choices on
--- which the run is Over, as with a bound there may be, and then nothing is said of the code.
+-- There are choices, all of which the run of Viper takes, and the code took the moves of what it records. Or the run is Over on
+-- them, as with a bound it may be: the code took the moves of what was recorded until then, and nothing is said of its end.
 pub data IsBacked {X : Type 0} (b : Bound) (layout : Layout) (Q : X → Env → Type 0) (v : Run X) (cs : List BChoice) (run : r.Run) : Type 0 where
   backed : {events : List Event} {step : Step X} (choices : List Choice) (rest : List BChoice) → All (IsGiven b layout) choices → on v choices ≡ ran events step [] →
       Took layout events cs rest → Matches Q rest step run → IsBacked b layout Q v cs run
-  beyond : {events : List Event} {at : Pos} {left : List Choice} (choices : List Choice) → All (IsGiven b layout) choices → on v choices ≡ ran events (Over at) left →
-      IsBacked b layout Q v cs run
+  beyond : {events : List Event} {at : Pos} (choices : List Choice) (rest : List BChoice) → b ≡ Bounded → All (IsGiven b layout) choices → on v choices ≡ ran events (Over at) [] →
+      Took layout events cs rest → IsBacked b layout Q v cs run
 
 -- ---- both
 
 -- Where W holds the code also waits for choices where the run does. (Forgetting takes a choice also where a program has no field and
 -- no predicate, and its code then takes none.)
 pub record AreAlongside {X : Type 0} (W : Type 0) (b : Bound) (layout : Layout) (Q : X → Env → Type 0) (v : Run X) (run : List BChoice → r.Run) : Type 0 where
-  pub on_moves : (choices : List Choice) (more : List BChoice) → All (IsGiven b layout) choices → OnMoves W Q more run (on v choices)
+  pub on_moves : (choices : List Choice) (more : List BChoice) → All (IsGiven b layout) choices → OnMoves W Q b more run (on v choices)
   pub each_run : (cs : List BChoice) → All (IsProperMove b) cs → HasEnded (run cs) → IsBacked b layout Q v cs (run cs)

@@ -1,42 +1,30 @@
 -- Locals that hold permission: masks and amounts. Producing changes those of the present state, and consuming those of another
 -- one, from which permission is taken.
-use Rattle.std.specs.Prelude.{⊤, ◌≡◌, ◌≢◌, ◌<◌, ℕ, length}
+use Rattle.std.specs.Prelude.{◌<◌, ◌⊎◌, ℕ, length}
 use Rattle.vb_value.specs.Bound.{Bound}
 use Rattle.vb_value.specs.Layout.{Layout}
 use Rattle.viper_core.specs.Typing.{Context}
 use Rattle.viper_state.specs.State.{State}
 use Rattle.viper_state.specs.Run.{Scene}
-use Rattle.enc_expr.specs.Place.{Maps, Place, Spot, Heap, Mask, Amount, Content, IsSpot, local_at, AreApart}
+use Rattle.enc_expr.specs.Place.{Maps, Place, IsHeld, IsFree, IsLocalAt, IsLocalOf, AreApart}
 use Rattle.enc_expr.specs.Coupling.{Env, HasMaps, IsSound, IsCoupled}
 use Rattle.enc_expr.specs.Alike.{KeptBut}
 
-abbrev pub IsHeld : Spot → Type 0
-IsHeld (Heap f) = ⊥
-IsHeld (Mask f) = ⊤
-IsHeld (Amount q) = ⊤
-IsHeld (Content q) = ⊥
-
 -- it is the local of a mask, or of amounts, of the state
-pub record IsHeldLocalOf (layout : Layout) (m : Maps) (x : ℕ) : Type 0 where
-  pub spot : Spot
-  pub held : IsHeld spot
-  pub exists : IsSpot layout spot
-  pub there : x ≡ local_at m spot
-
--- its masks and amounts are no locals of the other state
-abbrev pub AreHeldBeside : Layout → Maps → Maps → Type 0
-AreHeldBeside layout m l = (i j : Spot) → IsHeld i → IsSpot layout i → IsSpot layout j → local_at m i ≢ local_at l j
+abbrev pub IsHeldLocalOf : Layout → Maps → ℕ → Type 0
+IsHeldLocalOf = IsLocalAt IsHeld
 
 -- what is produced goes to the masks and amounts of the present state, which are no locals of the old one
-pub record IsGrowing (c : Context) (p : Place) : Type 0 where
-  pub apart : AreApart c.program.layout p.now
-  pub beside : AreHeldBeside c.program.layout p.now p.old
+abbrev pub IsGrowing : Context → Place → Type 0
+IsGrowing c p = AreApart IsHeld (IsLocalOf c.program.layout p.old) c.program.layout p.now
+
+-- it is the local of a map of the present state, or of the old one
+abbrev pub IsRead : Context → Place → ℕ → Type 0
+IsRead c p x = IsLocalOf c.program.layout p.now x ⊎ IsLocalOf c.program.layout p.old x
 
 -- what is consumed is taken from masks and amounts that are no locals of the state that is read, nor of the old one
-pub record IsShrinking (c : Context) (p : Place) (left : Maps) : Type 0 where
-  pub apart : AreApart c.program.layout left
-  pub beside_now : AreHeldBeside c.program.layout left p.now
-  pub beside_old : AreHeldBeside c.program.layout left p.old
+abbrev pub IsShrinking : Context → Place → Maps → Type 0
+IsShrinking c p left = AreApart IsHeld (IsRead c p) c.program.layout left
 
 -- ---- afterwards
 
@@ -53,23 +41,13 @@ pub record IsConsumed (b : Bound) (c : Context) (n m : ℕ) (left : Maps) (E : E
 
 -- ---- forgetting
 
-abbrev pub IsFree : Spot → Type 0
-IsFree (Heap f) = ⊤
-IsFree (Mask f) = ⊥
-IsFree (Amount q) = ⊥
-IsFree (Content q) = ⊤
-
 -- it is the local of a heap, or of contents, of the state
-pub record IsFreeLocalOf (layout : Layout) (m : Maps) (x : ℕ) : Type 0 where
-  pub spot : Spot
-  pub free : IsFree spot
-  pub exists : IsSpot layout spot
-  pub there : x ≡ local_at m spot
+abbrev pub IsFreeLocalOf : Layout → Maps → ℕ → Type 0
+IsFreeLocalOf = IsLocalAt IsFree
 
 -- what is forgotten goes from the heaps and contents of the present state, which are no locals of the old one
-pub record IsForgetting (c : Context) (p : Place) : Type 0 where
-  pub apart : AreApart c.program.layout p.now
-  pub beside : (i j : Spot) → IsFree i → IsSpot c.program.layout i → IsSpot c.program.layout j → local_at p.now i ≢ local_at p.old j
+abbrev pub IsForgetting : Context → Place → Type 0
+IsForgetting c p = AreApart IsFree (IsLocalOf c.program.layout p.old) c.program.layout p.now
 
 -- all is coupled again, with the state that is left. Nothing but its heaps and contents, and new locals, was changed.
 pub record IsForgotten (b : Bound) (c : Context) (n m : ℕ) (p : Place) (sc : Scene) (E : Env) (s : State) (F : Env) : Type 0 where

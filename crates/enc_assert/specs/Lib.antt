@@ -4,3 +4,4 @@ pub mod Encoding
 pub mod Alongside
 pub mod Typed
 pub mod Access
+pub mod Calls

@@ -4,7 +4,7 @@ use Rattle.vb_value.specs.Layout.{Layout}
 use Rattle.vb_value.specs.declared.values.Ty.{Ty}
 use Rattle.boogie_tree.specs.Program.{BType}
 use Rattle.enc_expr.specs.Place.{Maps, number}
-use Rattle.enc_expr.specs.Kinds.{mask_type, amount_type}
+use Rattle.moves.specs.Maps.{mask_type, amount_type}
 
 -- of the masks and amounts of a state
 pub record HasHeldTypes (layout : Layout) (m : Maps) (ts : List BType) : Type 0 where

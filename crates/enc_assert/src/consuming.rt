@@ -234,7 +234,7 @@ fn consume_access(
 
 /// Writes the code that consumes an assertion: its expressions are read in the present state, and permission is taken from
 /// other maps, by amounts that are scaled, but for those of `wildcard`.
-pub fn consume_code(
+pub fn consume(
     alloc: Global,
     assertion: &Assertion,
     taking: Taking,
@@ -259,19 +259,19 @@ pub fn consume_code(
             consume_access(alloc, access, amount, *at, taking, reading, out)
         }
         Assertion::And(a, b) => {
-            consume_code(alloc, a, taking, reading, out)?;
-            consume_code(alloc, b, taking, reading, out)
+            consume(alloc, a, taking, reading, out)?;
+            consume(alloc, b, taking, reading, out)
         }
         Assertion::Implies(e, a) => {
             let condition = check(alloc, e, reading, out)?;
             let so = out.guard(alloc, reading.guard, Box::into_inner(condition.expr))?;
-            consume_code(alloc, a, taking, reading.under(so), out)
+            consume(alloc, a, taking, reading.under(so), out)
         }
         Assertion::Choose(e, a, b) => {
             let condition = check(alloc, e, reading, out)?;
             let (so, otherwise) = sides(alloc, reading.guard, condition, out)?;
-            consume_code(alloc, a, taking, reading.under(so), out)?;
-            consume_code(alloc, b, taking, reading.under(otherwise), out)
+            consume(alloc, a, taking, reading.under(so), out)?;
+            consume(alloc, b, taking, reading.under(otherwise), out)
         }
     }
 }

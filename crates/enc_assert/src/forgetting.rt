@@ -93,7 +93,7 @@ fn forget_contents(
 }
 
 /// Writes the code that gives any values to heaps and contents where nothing is held.
-pub fn forget_code(alloc: Global, now: &Maps, layout: &Layout, out: &mut Emit) -> Result<(), Memory>
+pub fn forget(alloc: Global, layout: &Layout, now: &Maps, out: &mut Emit) -> Result<(), Memory>
     ensures { OnOk result (Emits (code.forget_code layout.now (maps_of now.now) (length (emit_of out.old).locals))
         (emit_of out.old) (emit_of out.new) tt) }
 {

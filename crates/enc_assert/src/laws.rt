@@ -17,14 +17,17 @@ ghost use Rattle.viper_state.specs.Fits.{FitsStore};
 ghost use Rattle.viper_meaning.specs.Assertions.{produce, consume};
 ghost use Rattle.viper_meaning.specs.Forgotten.{forget};
 ghost use Rattle.boogie_tree.specs.Expr as t;
+ghost use Rattle.boogie_tree.specs.Literals.{LiteralsFit, BlockLiteralsFit};
 ghost use Rattle.boogie_tree.specs.Nested.{expr_depth, stmts_depth};
 ghost use Rattle.boogie_tree.specs.Program.{BType};
 ghost use Rattle.boogie_tree.specs.declared.exprs.BBase.TheVariants as base;
 ghost use Rattle.boogie_meaning.specs.Run.{brun};
 ghost use Rattle.boogie_meaning.specs.Types as types;
 ghost use Rattle.enc_expr.specs.Place.{Maps, Place, with_now};
-ghost use Rattle.enc_expr.specs.Kinds.{kinds_in};
+ghost use Rattle.enc_expr.specs.Kinds.{Kinds, kinds_in};
 ghost use Rattle.enc_expr.specs.Code.{Guard};
+ghost use Rattle.enc_expr.specs.Fits.{FitsPiece};
+ghost use Rattle.enc_expr.specs.Literals.{AssertionLiteralsFit};
 ghost use Rattle.enc_expr.specs.Nodes.{expr_nodes, written};
 ghost use Rattle.enc_expr.specs.Coupling.{Env, HasMaps, IsSound, IsCoupled, AreLocals, IsReady};
 ghost use Rattle.enc_expr.specs.Alike.{IsScale};
@@ -47,8 +50,8 @@ ghost use Rattle.enc_assert.specs.Typed.{HasHeldTypes};
 /// without one. On the moves of what the run records the code is done or fails where the run does, and is blocked or short of a
 /// choice where the run is. And each run of the code on proper choices that is done or fails is backed by choices on which the
 /// run does the same, and took the moves of what that one records. Where they are done, the state to which permission came is
-/// coupled, and nothing but its masks and amounts, and new locals, was changed. Nothing is said of a run that leaves the bound;
-/// and where some choices make the run of Viper leave it, with a bound, nothing is said of what the code does on others.
+/// coupled, and nothing but its masks and amounts, and new locals, was changed. With the bound the run may leave it: the code took
+/// the moves of what was recorded until then, and nothing is said of its end.
 pub fn producing_and_its_code_end_alike()
     ensures { (ts : List BType) (b : Bound) (c : Context) (p : Place) (g : Guard) (s : State) (sc : Scene) (n : ℕ) (E : Env)
         (scale : t.BExpr) (k : Fraction) (a : e.Assertion) → IsFormed c.program → IsCoupled b c n p s sc E → IsAssertion c a
@@ -110,9 +113,9 @@ pub fn code_is_well_typed()
         → IsTypedPiece ts (forget_code p.layout m (length ts)) }
 {}
 
-/// The text of the code of producing or consuming a well-typed assertion of a formed program has at most 1,025 brackets open at
-/// once, also where an `unfolding` opens a body, or one more than the assertion has levels where it has more than 1,024. The code
-/// of forgetting keeps within 4.
+/// The text of the code of producing or consuming a well-typed assertion of a formed program has at most one more bracket open at
+/// once than the assertion has levels, or than a term of a program may have, since an `unfolding` opens a body. The code of
+/// forgetting keeps within 4.
 pub fn code_is_shallow()
     ensures produce { (c : Context) (p : Place) (g : Guard) (scale : t.BExpr) (a : e.Assertion) (n : ℕ) → IsFormed c.program
         → IsAssertion c a → expr_depth scale ≡ 0
@@ -136,4 +139,29 @@ pub fn code_is_linear()
         → written (consume_code (kinds_in c) p left g scale a n) ≤ 64 * assertion_size (base_of c.program) a }
     ensures forget { (layout : Layout) (m : Maps) (n : ℕ)
         → written (forget_code layout m n) ≡ 13 * (length layout.fields + length layout.keys) }
+{}
+
+/// The literals of the code of producing or consuming an assertion can be spelled where those of the assertion and the scale can,
+/// and those of the code of forgetting always.
+pub fn literals_of_code_fit()
+    ensures produce { (k : Kinds) (p : Place) (g : Guard) (scale : t.BExpr) (a : e.Assertion) (n : ℕ) → AssertionLiteralsFit a
+        → LiteralsFit scale → BlockLiteralsFit (produce_code k p g scale a n).stmts }
+    ensures consume { (k : Kinds) (p : Place) (left : Maps) (g : Guard) (scale : t.BExpr) (a : e.Assertion) (n : ℕ)
+        → AssertionLiteralsFit a → LiteralsFit scale → BlockLiteralsFit (consume_code k p left g scale a n).stmts }
+    ensures forget { (layout : Layout) (m : Maps) (n : ℕ) → BlockLiteralsFit (forget_code layout m n).stmts }
+{}
+
+/// So the code of producing or consuming a well-typed assertion of a formed program can be spelled, behind the locals that its
+/// place names and among its own, and so can that of forgetting.
+pub fn code_can_be_printed()
+    ensures produce { (c : Context) (p : Place) (g : Guard) (scale : t.BExpr) (a : e.Assertion) (ts : List BType)
+        → IsFormed c.program → IsAssertion c a → HasPlaceTypes c p ts → HasGuardType g ts
+        → types.HasType ts None scale base.Real → LiteralsFit scale
+        → FitsPiece (length ts) (produce_code (kinds_in c) p g scale a (length ts)) }
+    ensures consume { (c : Context) (p : Place) (left : Maps) (g : Guard) (scale : t.BExpr) (a : e.Assertion) (ts : List BType)
+        → IsFormed c.program → IsAssertion c a → HasPlaceTypes c p ts → HasHeldTypes c.program.layout left ts
+        → HasGuardType g ts → types.HasType ts None scale base.Real → LiteralsFit scale
+        → FitsPiece (length ts) (consume_code (kinds_in c) p left g scale a (length ts)) }
+    ensures forget { (p : Program) (m : Maps) (ts : List BType) → IsFormed p → HasStateTypes p.layout m ts
+        → FitsPiece (length ts) (forget_code p.layout m (length ts)) }
 {}

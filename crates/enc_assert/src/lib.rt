@@ -5,12 +5,16 @@
 #![tactic(auto)]
 
 mod amounts;
+pub mod call_laws;
+mod calls;
 mod consuming;
 mod forgetting;
 pub mod laws;
 mod producing;
+mod scales;
 mod targets;
 
-pub use consuming::{Taking, consume_code};
-pub use forgetting::forget_code;
-pub use producing::produce_code;
+pub use calls::{consume_code, forget_code, produce_code};
+pub use consuming::{Taking, consume};
+pub use forgetting::forget;
+pub use producing::produce;

@@ -191,7 +191,7 @@ fn produce_access(
 // ---- assertions
 
 /// Writes the code that produces an assertion, its amounts times a scale, which is positive.
-pub fn produce_code(
+pub fn produce(
     alloc: Global,
     assertion: &Assertion,
     scale: Atom,
@@ -215,19 +215,19 @@ pub fn produce_code(
             produce_access(alloc, access, amount, *at, scale, reading, out)
         }
         Assertion::And(a, b) => {
-            produce_code(alloc, a, scale, reading, out)?;
-            produce_code(alloc, b, scale, reading, out)
+            produce(alloc, a, scale, reading, out)?;
+            produce(alloc, b, scale, reading, out)
         }
         Assertion::Implies(e, a) => {
             let condition = check(alloc, e, reading, out)?;
             let so = out.guard(alloc, reading.guard, Box::into_inner(condition.expr))?;
-            produce_code(alloc, a, scale, reading.under(so), out)
+            produce(alloc, a, scale, reading.under(so), out)
         }
         Assertion::Choose(e, a, b) => {
             let condition = check(alloc, e, reading, out)?;
             let (so, otherwise) = sides(alloc, reading.guard, condition, out)?;
-            produce_code(alloc, a, scale, reading.under(so), out)?;
-            produce_code(alloc, b, scale, reading.under(otherwise), out)
+            produce(alloc, a, scale, reading.under(so), out)?;
+            produce(alloc, b, scale, reading.under(otherwise), out)
         }
     }
 }

@@ -98,10 +98,10 @@ after_nothing : {X : Type 0} (r : Evaluated X) → after [] r ≡ r
 after_nothing (ends events how) = refl
 
 pub fitting_alike : {X Y : Type 0} {Q : Y → Env → Type 0} (b : Bound) (fits : Bool) (at : Pos) (x : X) (go : X → Evaluated Y) (cs : List BChoice) (run : Run) →
-    (IfBounded b (fits ≡ true) → Alike Q (go x) cs run) → Alike Q (then_with (e.fitting b fits at x) go) cs run
+    (IfBounded b (fits ≡ true) → Alike Q b (go x) cs run) → Alike Q b (then_with (e.fitting b fits at x) go) cs run
 fitting_alike Unbounded fits at x go cs run h = rw (after_nothing (go x)) (h tt)
 fitting_alike Bounded true at x go cs run h = rw (after_nothing (go x)) (h refl)
-fitting_alike Bounded false at x go cs run h = over
+fitting_alike Bounded false at x go cs run h = over refl (record { same = refl })
 
 pub then_again : {X Y Z : Type 0} (r : Evaluated X) (f : X → Evaluated Y) (g : Y → Evaluated Z) → then_with (then_with r f) g ≡ then_with r (λ x. then_with (f x) g)
 then_again (ends es (e.Is x)) f g = after_first es (f x) g
@@ -120,8 +120,8 @@ then_again (ends es (e.Over at)) f g = refl
 
 -- what is held after so much was added, times the scale
 pub added_alike : {Y : Type 0} {Q : Y → Env → Type 0} (b : Bound) (held k q : Fraction) (at : Pos) (go : Fraction → Evaluated Y) (cs : List BChoice) (run : Run) →
-    (IfBounded b (fits_product k q ≡ true) → IfBounded b (fits_sum held (product k q) ≡ true) → Alike Q (go (sum held (product k q))) cs run) →
-    Alike Q (then_with (added b held k q at) go) cs run
+    (IfBounded b (fits_product k q ≡ true) → IfBounded b (fits_sum held (product k q) ≡ true) → Alike Q b (go (sum held (product k q))) cs run) →
+    Alike Q b (then_with (added b held k q at) go) cs run
 added_alike b held k q at go cs run h = rw (then_again (e.fitting b (fits_product k q) at (product k q)) (λ more. e.fitting b (fits_sum held more) at (sum held more)) go)
     (fitting_alike b (fits_product k q) at (product k q) _ cs run (λ f. fitting_alike b (fits_sum held (product k q)) at (sum held (product k q)) go cs run (h f)))
 

@@ -14,7 +14,7 @@ use Rattle.boogie_tree.specs.Values.{plain_type}
 use Rattle.boogie_meaning.specs.Ends.{Is}
 use Rattle.boogie_meaning.specs.Quantified.{bvalue}
 use Rattle.boogie_meaning.proofs.PatternLaws.{set_here}
-use Rattle.run_file.specs.BoogieLines.{scalar}
+use Rattle.moves.specs.Scalars.{scalar}
 use Rattle.enc_expr.specs.Code.{Code, join, gives}
 use Rattle.enc_expr.specs.Pieces.{Operand, is_atom, Atom, in_local, atomic, Located, located_from, located}
 use Rattle.enc_expr.specs.Coupling.{Env, AreLocals}
@@ -110,7 +110,7 @@ pub located_more : {n m : ℕ} {E F : Env} {is : List ℕ} {vs : List Value} →
 located_more within same alike.AreLocated.none = alike.AreLocated.none
 located_more within same (alike.AreLocated.more {i} below here rest) = alike.AreLocated.more (omega (arith, below, within)) (same i below ∙ here) (located_more within same rest)
 
-located_append : {n : ℕ} {E : Env} {is js : List ℕ} {vs ws : List Value} → AreLocated n E is vs → AreLocated n E js ws → AreLocated n E (is ++ js) (vs ++ ws)
+pub located_append : {n : ℕ} {E : Env} {is js : List ℕ} {vs ws : List Value} → AreLocated n E is vs → AreLocated n E js ws → AreLocated n E (is ++ js) (vs ++ ws)
 located_append alike.AreLocated.none g = g
 located_append (alike.AreLocated.more below here rest) g = alike.AreLocated.more below here (located_append rest g)
 

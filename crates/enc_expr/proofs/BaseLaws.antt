@@ -12,7 +12,8 @@ use Rattle.viper_core.specs.Typing.{Context, Opens, type_if, value_type}
 use Rattle.viper_meaning.specs.Operators.{Class, Lazy, Division, Plain, class_of}
 use Rattle.boogie_tree.specs.Expr as t
 use Rattle.enc_expr.specs.Place.{Place, with_now}
-use Rattle.enc_expr.specs.Kinds.{kinds_in, base_for}
+use Rattle.moves.specs.Scalars.{base_for}
+use Rattle.enc_expr.specs.Kinds.{kinds_in}
 use Rattle.enc_expr.specs.Code.{Emitting, Guard}
 use Rattle.enc_expr.specs.Pieces.{Operand}
 use Rattle.enc_expr.specs.Operators.{operand_of, product_operand, quotient_operand, in_class_code}
@@ -21,7 +22,7 @@ use Rattle.enc_expr.specs.Encoding.{code, unfolding_code}
 -- ---- the types of operators
 
 -- a test of types that was passed
-type_passed : (test : Truth) {v u : Ty} → type_if test v ≡ Some u → v ≡ u
+pub type_passed : (test : Truth) {v u : Ty} → type_if test v ≡ Some u → v ≡ u
 type_passed true h = cc
 type_passed false h = absurd cc
 
@@ -40,14 +41,14 @@ divisor_type o.IntDiv ty.Int ty.Int u division typed = refl
 divisor_type o.IntMod ty.Int ty.Int u division typed = refl
 divisor_type f v w u division typed = absurd cc
 
-product_base : (x z : Operand) (v w u : Ty) → value_type o.Mul v w ≡ Some u → x.base ≡ base_for v → z.base ≡ base_for w → (product_operand x z).base ≡ base_for u
+pub product_base : (x z : Operand) (v w u : Ty) → value_type o.Mul v w ≡ Some u → x.base ≡ base_for v → z.base ≡ base_for w → (product_operand x z).base ≡ base_for u
 product_base x z ty.Int ty.Int u typed h i = let k : ty.Int ≡ u = cc in rw (← k, h, i) refl
 product_base x z ty.Int ty.Perm u typed h i = let k : ty.Perm ≡ u = cc in rw (← k, h, i) refl
 product_base x z ty.Perm ty.Int u typed h i = let k : ty.Perm ≡ u = cc in rw (← k, h, i) refl
 product_base x z ty.Perm ty.Perm u typed h i = let k : ty.Perm ≡ u = cc in rw (← k, h, i) refl
 product_base x z v w u typed h i = absurd cc
 
-operand_base : (f : Op) (x z : Operand) (v w u : Ty) → class_of f ≡ Plain → value_type f v w ≡ Some u → x.base ≡ base_for v → z.base ≡ base_for w → (operand_of f x z).base ≡ base_for u
+pub operand_base : (f : Op) (x z : Operand) (v w u : Ty) → class_of f ≡ Plain → value_type f v w ≡ Some u → x.base ≡ base_for v → z.base ≡ base_for w → (operand_of f x z).base ≡ base_for u
 operand_base o.Add x z v w u plain typed h i = h ∙ ap base_for (type_passed _ typed)
 operand_base o.Sub x z v w u plain typed h i = h ∙ ap base_for (type_passed _ typed)
 operand_base o.Mul x z v w u plain typed h i = product_base x z v w u typed h i
@@ -60,7 +61,7 @@ operand_base o.Gt x z v w u plain typed h i = ap base_for (type_passed _ typed)
 operand_base o.Ge x z v w u plain typed h i = ap base_for (type_passed _ typed)
 operand_base f x z v w u plain typed h i = absurd cc
 
-quotient_base : (f : Op) (x : Operand) (d : t.BExpr) (v w u : Ty) → class_of f ≡ Division → value_type f v w ≡ Some u → (quotient_operand f x d).base ≡ base_for u
+pub quotient_base : (f : Op) (x : Operand) (d : t.BExpr) (v w u : Ty) → class_of f ≡ Division → value_type f v w ≡ Some u → (quotient_operand f x d).base ≡ base_for u
 quotient_base o.Divide x d v w u division typed = ap base_for (type_passed _ typed)
 quotient_base o.IntDiv x d v w u division typed = ap base_for (type_passed _ typed)
 quotient_base o.IntMod x d v w u division typed = ap base_for (type_passed _ typed)

@@ -34,9 +34,9 @@ use Rattle.viper_state.specs.State.{Key, State}
 use Rattle.std.proofs.lemmas.List.Elements.{All-head, All-tail}
 use Rattle.boogie_meaning.specs.Ends as end
 use Rattle.boogie_meaning.specs.Quantified.{bvalue}
-use Rattle.run_file.specs.BoogieLines.{scalar}
+use Rattle.moves.specs.Scalars.{scalar, variable_type}
 use Rattle.enc_expr.specs.Place.{Place}
-use Rattle.enc_expr.specs.Kinds.{kinds_in, type_at, variable_type}
+use Rattle.enc_expr.specs.Kinds.{kinds_in, type_at}
 use Rattle.enc_expr.specs.Code.{join, then_emit, declares, Guard, puts}
 use Rattle.enc_expr.specs.Pieces.{Operand, Atom, atomic, Located, located, index, one}
 use Rattle.enc_expr.specs.Encoding.{is_unit, code, codes, body_code, acc_code, instance_code, fill_by, fill_place_code, fill_instance_code}
@@ -62,13 +62,13 @@ AnyEvent v = IsAny v
 
 -- ---- references
 
-ref_is : (Q : Value → Env → Type 0) {E : Env} {cs : List BChoice} (w : Value) → type_of w ≡ ty.Ref → Q w E → Alike (λ r F. Q (v.Ref r) F) (ref_of w) cs (Done E cs)
+ref_is : {b : Bound} (Q : Value → Env → Type 0) {E : Env} {cs : List BChoice} (w : Value) → type_of w ≡ ty.Ref → Q w E → Alike (λ r F. Q (v.Ref r) F) b (ref_of w) cs (Done E cs)
 ref_is Q (v.Ref r) typed h = is_alike h
 ref_is Q (v.Int n) typed h = absurd (cc)
 ref_is Q (v.Bool q) typed h = absurd (cc)
 ref_is Q (v.Perm q) typed h = absurd (cc)
 
-pub ref_alike : {Q : Value → Env → Type 0} {e : Evaluated Value} {cs : List BChoice} {r : Run} → ((w : Value) (E : Env) → Q w E → type_of w ≡ ty.Ref) → Alike Q e cs r → Alike (λ q E. Q (v.Ref q) E) (as_ref e) cs r
+pub ref_alike : {b : Bound} {Q : Value → Env → Type 0} {e : Evaluated Value} {cs : List BChoice} {r : Run} → ((w : Value) (E : Env) → Q w E → type_of w ≡ ty.Ref) → Alike Q b e cs r → Alike (λ q E. Q (v.Ref q) E) b (as_ref e) cs r
 ref_alike {Q} {r = r} typed h = alike_run (sym (then_done r)) (then_alike h (λ w E rest q. ref_is Q w (typed w E q) q))
 
 -- ---- what stays as locals are added
@@ -104,7 +104,7 @@ module _ (ts : List BType) (b : Bound) (c : Context) (p : Place) (g : Guard) (s 
 
   -- the state after the row is sound
   filled_alike : (e : Evaluated State) (n m : ℕ) (E : Env) (cs : List BChoice) (run : Run) → IsOwn c p → n ≤ m → IsCoupled b c n p s sc E → Keeps AnyEvent (IsSound b c.program.layout) e →
-      Alike (IsChanged c p n m E) e cs run → Alike (IsFilled b c n m p sc E) e cs run
+      Alike (IsChanged c p n m E) b e cs run → Alike (IsFilled b c n m p sc E) b e cs run
   filled_alike e n m E cs run own within coupled kept h =
       weaken_alike (λ t F z. record { kept = z.0.kept; coupled = changed_coupled b c n m p s sc E F own within coupled t z.1 z.0 }) (kept_alike kept h)
 
@@ -114,7 +114,7 @@ module _ (ts : List BType) (b : Bound) (c : Context) (p : Place) (g : Guard) (s 
 
     acc_alike : (x q : Operand) (r : ℕ) (w : Fraction) (n : ℕ) (E : Env) (cs : List BChoice) → slice_get c.program.layout.fields f ≡ Some u → IsCoupled b c n p s sc E → IsSource b n E from d → IsScale b n E scale k →
         Holds b n x.expr E (bv.Ref r) → Holds b n q.expr E (Real w) → IsProperFraction b w → (let z = acc_code (kinds_in c) p g scale f at from x q n in
-        IsReady ts g n z.locals E → Alike (IsChanged c p n z.next E) (fill_place b sc k f r w d at s) cs (brun ts b z.stmts E cs))
+        IsReady ts g n z.locals E → Alike (IsChanged c p n z.next E) b (fill_place b sc k f r w d at s) cs (brun ts b z.stmts E cs))
     acc_alike x q r w n E cs there coupled source scales ref amount proper = λ ready.
         let a = atomic x n in let n1 = a.next in let o = atomic q n1 in let n2 = o.next in
         let own_type = variable_type u in
@@ -140,7 +140,7 @@ module _ (ts : List BType) (b : Bound) (c : Context) (p : Place) (g : Guard) (s 
   module _ (j : ℕ) (us : List Ty) (at : Pos) (d : Content) (from : ℕ) (own : IsOwn c p) (there : slice_get c.program.layout.keys j ≡ Some us) where
     instance_alike : (xs : List Operand) (q : Operand) (vs : List Value) (key : Key) (w : Fraction) (n : ℕ) (E : Env) (cs : List BChoice) → FitsKey us key → Some key ≡ key_of vs → IsCoupled b c n p s sc E →
         IsSource b n E from d → IsScale b n E scale k → AreValues b n E xs us vs → Holds b n q.expr E (Real w) → IsProperFraction b w → (let z = instance_code p g scale j at from xs q n in
-        IsReady ts g n z.locals E → Alike (IsChanged c p n z.next E) (fill_instance b sc k j key w d at s) cs (brun ts b z.stmts E cs))
+        IsReady ts g n z.locals E → Alike (IsChanged c p n z.next E) b (fill_instance b sc k j key w d at s) cs (brun ts b z.stmts E cs))
     instance_alike xs q vs key w n E cs fits is_key coupled source scales are_values amount proper = λ ready.
         let l = located xs n in let n1 = l.next in let o = atomic q n1 in let n2 = o.next in
         let fills = λ (y : Located) (z : Atom). fill_by p at z.expr from (fill_instance_code p scale j (index y.locals) z.expr from) in
@@ -180,7 +180,7 @@ module _ (ts : List BType) (b : Bound) (c : Context) (p : Place) (g : Guard) (s 
   }
     where
       by_truth : (n n1 : ℕ) (E F : Env) (cs : List BChoice) (x : t.BExpr) (q : Truth) → slice_get F from ≡ Some (bv.One (bv.Snap d)) → bvalue b x F ≡ end.Is (bv.Bool q) → IsFilled b c n n1 p sc E s F →
-          Alike (IsFilled b c n n1 p sc E) (if q then then_with (unit_of d) (λ u. is s) else blocks) cs (brun ts b (stmt.first (stmt.Assume (is_unit from)) (one (stmt.Assume x))) F cs)
+          Alike (IsFilled b c n n1 p sc E) b (if q then then_with (unit_of d) (λ u. is s) else blocks) cs (brun ts b (stmt.first (stmt.Assume (is_unit from)) (one (stmt.Assume x))) F cs)
       by_truth n n1 E F cs x true here value filled = unit_alike ts b from d (is s) (one (stmt.Assume x)) F cs here (λ unit. alike_run (assume_run ts b x true stmt.skip F cs value) (is_alike filled))
       by_truth n n1 E F cs x false here value filled =
           alike_of (unit_blocks d) (unit_alike ts b from d blocks (one (stmt.Assume x)) F cs here (λ unit. alike_run (assume_run ts b x false stmt.skip F cs value) (stopped_first cs)))

@@ -1,23 +1,19 @@
 -- Both directions from one relation.
-use Rattle.std.proofs.Common.{◌≡◌, ℕ, List, [], ◌∷◌, ◌++◌, sym, ap, refl, ◌∙◌, append-nil}
+use Rattle.std.proofs.Common.{◌≡◌, ℕ, List, [], ◌∷◌, ◌++◌, sym, ap, ◌∙◌, append-nil}
 use Rattle.vb_value.specs.Bound.{Bound, Bounded, Unbounded}
 use Rattle.viper_state.specs.Event.{Event}
 use Rattle.viper_state.specs.State.{State}
 use Rattle.viper_state.specs.Run.{Scene}
 use Rattle.vb_value.specs.Content.{Content}
 use Rattle.vb_value.specs.Fraction.{Fraction}
-use Rattle.viper_core.specs.Expr as t
 use Rattle.viper_core.specs.Typing.{Context}
-use Rattle.viper_meaning.specs.Compared.{IsNotOver}
 use Rattle.viper_meaning.specs.Ends as v
 use Rattle.viper_meaning.specs.Ends.{Evaluated, ends, events_of}
-use Rattle.viper_meaning.specs.Value.{value, opened}
-use Rattle.viper_meaning.proofs.BoundLaws.{goes_not_over, value_bounded, opened_bounded}
 use Rattle.boogie_tree.specs.Expr as bt
 use Rattle.boogie_tree.specs.Program.{BType}
 use Rattle.boogie_tree.specs.Value.{BChoice}
 use Rattle.boogie_meaning.specs.Run.{Run, Done, Stops, Failed, Blocked, Short, Over, Wrong, brun}
-use Rattle.run_file.specs.Moves.{moves}
+use Rattle.moves.specs.Moves.{moves}
 use Rattle.enc_expr.specs.Place.{Place}
 use Rattle.enc_expr.specs.Code.{Emitting, Guard}
 use Rattle.enc_expr.specs.Coupling.{Env, IsCoupled, IsReady}
@@ -41,55 +37,48 @@ just_moves {events = events} more rest f same =
 
 module _ {X : Type 0} {Q : X → Env → Type 0} where
   -- only the bound makes an evaluation Over
-  over_bounded : {es : List Event} {at : _} {cs : List BChoice} {run : Run} → (b : Bound) → (b ≡ Unbounded → ⊥) → EndsAlike Q b (ends es (v.Over at)) cs run
-  over_bounded Unbounded h = absurd (h refl)
-  over_bounded Bounded h = over
+  over_bounded : {es : List Event} {at : _} {cs rest : List BChoice} {run : Run} → (b : Bound) → b ≡ Bounded → Follows es cs rest → EndsAlike Q b (ends es (v.Over at)) cs run
+  over_bounded Unbounded h f = absurd cc
+  over_bounded Bounded h f = over f
 
-  on_moves_alike : {e : Evaluated X} {cs : List BChoice} {run : Run} → (b : Bound) → (b ≡ Unbounded → IsNotOver e) → Alike Q e cs run → cs ≡ moves (events_of e) ++ [] → EndsAlike Q b e cs run
-  on_moves_alike b h (a.done f q) same = done f q
-  on_moves_alike b h (a.failed f) same = failed f
-  on_moves_alike b h (a.blocked {rest = rest} more f) same = blocked (just_moves more rest f same)
-  on_moves_alike b h (a.short {rest = rest} more f) same = short (just_moves more rest f same)
-  on_moves_alike b h (a.beyond other) same = absurd (other (same ∙ append-nil _))
-  on_moves_alike b h a.over same = over_bounded b h
-  on_moves_alike {e = ends es how} b h (a.stray other stopped) same = absurd (other [] (record { same = same }))
+  on_moves_alike : {e : Evaluated X} {cs : List BChoice} {run : Run} → (b : Bound) → Alike Q b e cs run → cs ≡ moves (events_of e) ++ [] → EndsAlike Q b e cs run
+  on_moves_alike b (a.done f q) same = done f q
+  on_moves_alike b (a.failed f) same = failed f
+  on_moves_alike b (a.blocked {rest = rest} more f) same = blocked (just_moves more rest f same)
+  on_moves_alike b (a.short {rest = rest} more f) same = short (just_moves more rest f same)
+  on_moves_alike b (a.beyond other) same = absurd (other (same ∙ append-nil _))
+  on_moves_alike b (a.over bounded f) same = over_bounded b bounded f
+  on_moves_alike {e = ends es how} b (a.stray other stopped) same = absurd (other [] (record { same = same }))
 
-  each_run_alike : {e : Evaluated X} {cs : List BChoice} {run : Run} → (b : Bound) → (b ≡ Unbounded → IsNotOver e) → Alike Q e cs run → HasEnded run → EndsAlike Q b e cs run
-  each_run_alike b h (a.done f q) ended = done f q
-  each_run_alike b h (a.failed f) ended = failed f
-  each_run_alike b h (a.blocked more f) ended = elim ended [ ]
-  each_run_alike b h (a.short more f) ended = elim ended [ ]
-  each_run_alike b h (a.beyond other) ended = elim ended [ ]
-  each_run_alike b h a.over ended = over_bounded b h
-  each_run_alike {run = Done env cs} b h (a.stray other stopped) ended = elim stopped [ ]
-  each_run_alike {run = Stops (Failed l) cs} b h (a.stray other stopped) ended = elim stopped [ ]
-  each_run_alike {run = Stops Blocked cs} b h (a.stray other stopped) ended = elim ended [ ]
-  each_run_alike {run = Stops Short cs} b h (a.stray other stopped) ended = elim ended [ ]
-  each_run_alike {run = Stops Over cs} b h (a.stray other stopped) ended = elim ended [ ]
-  each_run_alike {run = Stops Wrong cs} b h (a.stray other stopped) ended = elim ended [ ]
+  each_run_alike : {e : Evaluated X} {cs : List BChoice} {run : Run} → (b : Bound) → Alike Q b e cs run → HasEnded run → EndsAlike Q b e cs run
+  each_run_alike b (a.done f q) ended = done f q
+  each_run_alike b (a.failed f) ended = failed f
+  each_run_alike b (a.blocked more f) ended = elim ended [ ]
+  each_run_alike b (a.short more f) ended = elim ended [ ]
+  each_run_alike b (a.beyond other) ended = elim ended [ ]
+  each_run_alike b (a.over bounded f) ended = over_bounded b bounded f
+  each_run_alike {run = Done env cs} b (a.stray other stopped) ended = elim stopped [ ]
+  each_run_alike {run = Stops (Failed l) cs} b (a.stray other stopped) ended = elim stopped [ ]
+  each_run_alike {run = Stops Blocked cs} b (a.stray other stopped) ended = elim ended [ ]
+  each_run_alike {run = Stops Short cs} b (a.stray other stopped) ended = elim ended [ ]
+  each_run_alike {run = Stops Over cs} b (a.stray other stopped) ended = elim ended [ ]
+  each_run_alike {run = Stops Wrong cs} b (a.stray other stopped) ended = elim ended [ ]
 
 module _ {X : Type 0} {Q : X → Env → Type 0} (b : Bound) (e : Evaluated X) (run : List BChoice → Run) where
   -- what is alike for all choices is alike in both directions
-  pub both_ways : (b ≡ Unbounded → IsNotOver e) → ((cs : List BChoice) → Alike Q e cs (run cs)) → AreAlike b Q e run
-  both_ways within h = record {
-    on_moves = on_moves_alike b within (h (moves (events_of e))) (sym (append-nil (moves (events_of e))));
-    each_run = λ cs ended. each_run_alike b within (h cs) ended;
+  pub both_ways : ((cs : List BChoice) → Alike Q b e cs (run cs)) → AreAlike b Q e run
+  both_ways h = record {
+    on_moves = on_moves_alike b (h (moves (events_of e))) (sym (append-nil (moves (events_of e))));
+    each_run = λ cs ended. each_run_alike b (h cs) ended;
   }
-
--- without a bound nothing is Over
-pub value_within : (b : Bound) (x : t.Expr) (s : State) (sc : Scene) → b ≡ Unbounded → IsNotOver (value b x s sc)
-value_within b x s sc e = rw e (goes_not_over (value_bounded x s sc))
-
-pub opened_within : (b : Bound) (x : t.Assertion) (d : Content) (s : State) (sc : Scene) (k : Fraction) → b ≡ Unbounded → IsNotOver (opened b x d s sc k)
-opened_within b x d s sc k e = rw e (goes_not_over (opened_bounded x d s sc k))
 
 -- of code that simulates, from each environment in which the state is coupled
 pub simulated_both_ways : (ts : List BType) (b : Bound) (c : Context) (p : Place) (g : Guard) (s : State) (sc : Scene) {X V : Type 0} (m : Emitting X) (r : Evaluated V)
-    (Q : ℕ → ℕ → X → Env → V → Env → Type 0) (n : ℕ) (E : Env) → Simulates ts b c p g s sc m r Q → (b ≡ Unbounded → IsNotOver r) → IsCoupled b c n p s sc E → IsReady ts g n (m n).locals E →
+    (Q : ℕ → ℕ → X → Env → V → Env → Type 0) (n : ℕ) (E : Env) → Simulates ts b c p g s sc m r Q → IsCoupled b c n p s sc E → IsReady ts g n (m n).locals E →
     AreAlike b (Q n (m n).next (m n).value E) r (λ cs. brun ts b (m n).stmts E cs)
-simulated_both_ways ts b c p g s sc m r Q n E h within coupled ready = both_ways b r (λ cs. brun ts b (m n).stmts E cs) within (λ cs. h.alike n E cs coupled ready)
+simulated_both_ways ts b c p g s sc m r Q n E h coupled ready = both_ways b r (λ cs. brun ts b (m n).stmts E cs) (λ cs. h.alike n E cs coupled ready)
 
 pub filled_both_ways : (ts : List BType) (b : Bound) (c : Context) (p : Place) (g : Guard) (s : State) (sc : Scene) (scale : bt.BExpr) (k : Fraction) (from : ℕ) (d : Content) {X : Type 0}
-    (m : Emitting X) (r : Evaluated State) (n : ℕ) (E : Env) → Fills ts b c p g s sc scale k from d m r → (b ≡ Unbounded → IsNotOver r) → IsCoupled b c n p s sc E → IsSource b n E from d →
+    (m : Emitting X) (r : Evaluated State) (n : ℕ) (E : Env) → Fills ts b c p g s sc scale k from d m r → IsCoupled b c n p s sc E → IsSource b n E from d →
     IsScale b n E scale k → IsReady ts g n (m n).locals E → AreAlike b (IsFilled b c n (m n).next p sc E) r (λ cs. brun ts b (m n).stmts E cs)
-filled_both_ways ts b c p g s sc scale k from d m r n E h within coupled source scaled ready = both_ways b r (λ cs. brun ts b (m n).stmts E cs) within (λ cs. h.alike n E cs coupled source scaled ready)
+filled_both_ways ts b c p g s sc scale k from d m r n E h coupled source scaled ready = both_ways b r (λ cs. brun ts b (m n).stmts E cs) (λ cs. h.alike n E cs coupled source scaled ready)

@@ -39,9 +39,10 @@ use Rattle.boogie_meaning.specs.Ends as end
 use Rattle.boogie_meaning.specs.Operators as m
 use Rattle.boogie_meaning.specs.Quantified.{bvalue, bkey}
 use Rattle.boogie_meaning.specs.Run.{Run, Done, Stops, Failed, brun}
-use Rattle.run_file.specs.Moves.{place_key}
+use Rattle.moves.specs.Maps.{place_key}
 use Rattle.enc_expr.specs.Place.{Place, number}
-use Rattle.enc_expr.specs.Kinds.{kinds_in, base_for, type_at}
+use Rattle.moves.specs.Scalars.{base_for}
+use Rattle.enc_expr.specs.Kinds.{kinds_in, type_at}
 use Rattle.enc_expr.specs.Code.{Emitting, join, gives, then_emit, Guard, guarded, puts}
 use Rattle.enc_expr.specs.Pieces.{Operand, atomic, at_one, one, label, zero_real, check_divisor}
 use Rattle.enc_expr.specs.Operators.{quotient_operand, division, in_class_code}
@@ -64,18 +65,18 @@ use Rattle.enc_expr.proofs.FormLaws.{HasValue, value_more, Reads, Goes, goes_the
 
 -- ---- values of a type
 
-int_is : (z : Value) → type_of z ≡ ty.Int → (d : ℤ) × (z ≡ v.Int d)
+pub int_is : (z : Value) → type_of z ≡ ty.Int → (d : ℤ) × (z ≡ v.Int d)
 int_is (v.Int d) typed = (d, refl)
 int_is z typed = absurd cc
 
-ref_alike : {Y : Type 0} {Q : Y → Env → Type 0} {cs : List BChoice} {r : Run} (z : Value) (k : ℕ → Evaluated Y) → type_of z ≡ ty.Ref → ((q : ℕ) → z ≡ v.Ref q → Alike Q (k q) cs r) → Alike Q (then_with (ref_of z) k) cs r
+ref_alike : {b : Bound} {Y : Type 0} {Q : Y → Env → Type 0} {cs : List BChoice} {r : Run} (z : Value) (k : ℕ → Evaluated Y) → type_of z ≡ ty.Ref → ((q : ℕ) → z ≡ v.Ref q → Alike Q b (k q) cs r) → Alike Q b (then_with (ref_of z) k) cs r
 ref_alike (v.Ref q) k typed h = alike_of (after_nothing (k q)) (h q refl)
 ref_alike z k typed h = absurd cc
 
 -- ---- divisions
 
 -- by 0 each of them fails
-division_fails : (b : Bound) (sc : Scene) (f : Op) (z : Value) (at : Pos) (u : Ty) → class_of f ≡ Division → value_type f (type_of z) ty.Int ≡ Some u → divided b sc f z (v.Int (pos 0)) at ≡ fails sc at kind.Div
+pub division_fails : (b : Bound) (sc : Scene) (f : Op) (z : Value) (at : Pos) (u : Ty) → class_of f ≡ Division → value_type f (type_of z) ty.Int ≡ Some u → divided b sc f z (v.Int (pos 0)) at ≡ fails sc at kind.Div
 division_fails b sc o.Divide (v.Int x) at u class typed = refl
 division_fails b sc o.Divide (v.Perm q) at u class typed = refl
 division_fails b sc o.IntDiv (v.Int x) at u class typed = refl
@@ -83,17 +84,17 @@ division_fails b sc o.IntMod (v.Int x) at u class typed = refl
 division_fails b sc f z at u class typed = absurd cc
 
 -- what is computed after new locals are set
-computes_alike : {b : Bound} {K : Env → Type 0} {e : Evaluated Value} (z : Operand) (u : Ty) (n i : ℕ) (E F : Env) (cs : List BChoice) → Computes b u z K e → Kept n E F → ((G : Env) → Agree i F G → K G) → Alike (IsValued b n i z u E) e cs (Done F cs)
+computes_alike : {b : Bound} {K : Env → Type 0} {e : Evaluated Value} (z : Operand) (u : Ty) (n i : ℕ) (E F : Env) (cs : List BChoice) → Computes b u z K e → Kept n E F → ((G : Env) → Agree i F G → K G) → Alike (IsValued b n i z u E) b e cs (Done F cs)
 computes_alike z u n i E F cs (value typed base h) kept k = is_alike (record { kept = kept; typed = typed; here = λ G agree. h G (k G agree) })
-computes_alike z u n i E F cs over kept k = a.over
+computes_alike z u n i E F cs (over bounded) kept k = a.over bounded (record { same = refl })
 
 -- the value at a key of a map of Viper is that of its map of Boogie
-found_value : {K V : Type 0} (k : MapKind K V) (b : Bound) (n x : ℕ) (maps : List (Map K V)) (i : ℕ) (E : Env) (j : K) (es : t.BExprs) (z : V) → HasMap k n x maps i E → k.Counts j → bkey b es E ≡ end.Is (k.key j) → found_at k.cmp maps i j ≡ Some z →
+pub found_value : {K V : Type 0} (k : MapKind K V) (b : Bound) (n x : ℕ) (maps : List (Map K V)) (i : ℕ) (E : Env) (j : K) (es : t.BExprs) (z : V) → HasMap k n x maps i E → k.Counts j → bkey b es E ≡ end.Is (k.key j) → found_at k.cmp maps i j ≡ Some z →
     bvalue b (t.At x es) E ≡ end.Is (k.code z)
 found_value k b n x maps i E j es z h counts key there =
     read_map k b n x maps i E j es h counts key ∙ ap (λ z. end.Is (k.code z)) (same_Some _ _ (sym (found_in_map k n x maps i E j h) ∙ there))
 
-place_index : (b : Bound) (x : t.BExpr) (r : ℕ) (E : Env) → bvalue b x E ≡ end.Is (w.Ref r) → bkey b (t.more x t.none) E ≡ end.Is (place_key r)
+pub place_index : (b : Bound) (x : t.BExpr) (r : ℕ) (E : Env) → bvalue b x E ≡ end.Is (w.Ref r) → bkey b (t.more x t.none) E ≡ end.Is (place_key r)
 place_index b x r E h = λ j. end.then_with (h j) (λ q. end.then_with (m.part_of q) (λ p. end.Is (p ∷ [])))
 
 module _ (ts : List BType) (b : Bound) (c : Context) (p : Place) (g : Guard) (s : State) (sc : Scene) where
@@ -112,8 +113,8 @@ module _ (ts : List BType) (b : Bound) (c : Context) (p : Place) (g : Guard) (s 
       let R : Value → Env → Type 0 = IsValued b n i (quotient_operand f x q.value.expr) u E in
       let run : brun ts b (join (guarded g (join q.value.sets (check_divisor to q.value.expr))) stmt.skip) E cs ≡ (if not (int_eq d (pos 0)) then Done F cs else Stops (Failed to) cs) =
       put_run n q.value.sets (check_divisor to q.value.expr) E F cs (record { awake = ready.awake; full = ready.full; locals = tt }) (set.sets.done cs) ∙ divisor_check ts b i to q.value.expr d F cs set.atom in
-      let by_test : (t : Truth) → int_eq d (pos 0) ≡ t → Alike R (divided b sc f z (v.Int d) at) cs (if not t then Done F cs else Stops (Failed to) cs) =
-      λ t. elim t as (λ t. int_eq d (pos 0) ≡ t → Alike R (divided b sc f z (v.Int d) at) cs (if not t then Done F cs else Stops (Failed to) cs)) [
+      let by_test : (t : Truth) → int_eq d (pos 0) ≡ t → Alike R b (divided b sc f z (v.Int d) at) cs (if not t then Done F cs else Stops (Failed to) cs) =
+      λ t. elim t as (λ t. int_eq d (pos 0) ≡ t → Alike R b (divided b sc f z (v.Int d) at) cs (if not t then Done F cs else Stops (Failed to) cs)) [
         | true ↦ λ same. alike_of (ap (λ d. divided b sc f z (v.Int d) at) ((Decides-int_eq d (pos 0)).0 same) ∙ division_fails b sc f z at u class typed) (fails_alike p sc at kind.Div coupled.at)
         | false ↦ λ same. computes_alike (quotient_operand f x q.value.expr) u n i E F cs
             (division_computes b sc f x (record { expr = q.value.expr; base = y.base }) z d at u class typed (hx.base ∙ ap base_for (sym hx.typed)) hy.base proper (λ zero. absurd (true≢false (sym ((Decides-int_eq d (pos 0)).1 zero) ∙ same))))

@@ -25,7 +25,7 @@ use Rattle.boogie_meaning.specs.Operators as m
 use Rattle.boogie_meaning.specs.Value.{scalar_in}
 use Rattle.boogie_meaning.specs.Quantified.{bvalue}
 use Rattle.boogie_meaning.specs.Run.{Run, Done, Stops, Blocked, brun}
-use Rattle.run_file.specs.BoogieLines.{scalar}
+use Rattle.moves.specs.Scalars.{scalar}
 use Rattle.enc_expr.specs.Place.{Place}
 use Rattle.enc_expr.specs.Code.{Emitting, then_emit, Guard, guarded, puts}
 use Rattle.enc_expr.specs.Pieces.{Operand, one}
@@ -73,7 +73,7 @@ module _ (ts : List BType) (b : Bound) (c : Context) (p : Place) (s : State) (sc
   }
     where
       by_content : {Q : State → Env → Type 0} {E : Env} {cs : List BChoice} {r : Run} (d : Content) → ((z : Truth) → m.equal (λ p. p) (w.Snap d) (w.Snap Unit) ≡ end.Is (w.Bool z) → r ≡ (if z then Done E cs else Stops Blocked cs)) →
-          Q s E → Alike Q (then_with (unit_of d) (λ u. is_end s)) cs r
+          Q s E → Alike Q b (then_with (unit_of d) (λ u. is_end s)) cs r
       by_content Unit h q = alike_run (h true refl) (is_alike q)
       by_content (Leaf z) h q = alike_run (h false refl) (a.blocked [] (record { same = refl }))
       by_content (Pair x y) h q = alike_run (h false refl) (a.blocked [] (record { same = refl }))

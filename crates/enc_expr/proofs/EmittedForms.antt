@@ -10,7 +10,9 @@ use Rattle.boogie_tree.specs.Stmt as s
 use Rattle.boogie_tree.specs.declared.exprs.BBase.TheVariants as base
 use Rattle.boogie_tree.specs.Values.{plain_type}
 use Rattle.vb_base.specs.declared.labels.Kind.TheVariants as kind
-use Rattle.enc_expr.specs.Kinds.{Kinds, base_for, type_at, body_kinds, state_types, variable_type}
+use Rattle.moves.specs.Scalars.{base_for, variable_type}
+use Rattle.moves.specs.Maps.{state_types}
+use Rattle.enc_expr.specs.Kinds.{Kinds, type_at, body_kinds}
 use Rattle.enc_expr.specs.Place.{Maps, Place, number, with_now, with_vars}
 use Rattle.enc_expr.specs.Code.{Code, Emitting, join, gives, then_emit, declares, declares_all, Guard, puts, guards}
 use Rattle.enc_expr.specs.Pieces.{Operand, Atom, Located, is_atom, in_local, atomic, located, located_from, at_one, one, label, index, check_divisor}

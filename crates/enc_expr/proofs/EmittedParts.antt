@@ -19,7 +19,8 @@ use Rattle.viper_core.specs.View.{expr_of, exprs_of}
 use Rattle.viper_core.specs.declared.exprs.Expr.{Expr}
 use Rattle.enc_expr.specs.View.{seen, all_seen}
 use Rattle.enc_expr.specs.declared.operands.Operand.{Operand as Operands}
-use Rattle.enc_expr.specs.Kinds.{Kinds, heap_type, mask_type, amount_type, content_type, state_types}
+use Rattle.moves.specs.Maps.{heap_type, mask_type, amount_type, content_type, state_types}
+use Rattle.enc_expr.specs.Kinds.{Kinds}
 use Rattle.enc_expr.specs.Place.{Place, number}
 use Rattle.enc_expr.specs.Encoding.{maps_from, copies, code, codes}
 use Rattle.enc_expr.specs.Pieces.{Operand, Located, one, unless_known, variable_in, located_from, located, variables, index}

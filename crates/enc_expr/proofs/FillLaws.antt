@@ -50,11 +50,11 @@ use Rattle.boogie_meaning.specs.Value.{scalar_in}
 use Rattle.boogie_meaning.specs.Run.{Run, Done, Stops, Failed, Blocked, Short, chosen, brun}
 use Rattle.boogie_meaning.proofs.PatternLaws.{set_here, set_there}
 use Rattle.boogie_meaning.proofs.ValueLaws.{exact}
-use Rattle.run_file.specs.BoogieLines.{scalar}
-use Rattle.run_file.specs.Moves.{moves, place_key, instance_key}
+use Rattle.moves.specs.Scalars.{scalar, variable_type}
+use Rattle.moves.specs.Maps.{place_key, instance_key}
+use Rattle.moves.specs.Moves.{moves}
 use Rattle.enc_expr.specs.Place as place
-use Rattle.enc_expr.specs.Place.{Place, number, AreApart, IsLocalOf}
-use Rattle.enc_expr.specs.Kinds.{variable_type}
+use Rattle.enc_expr.specs.Place.{Place, number, IsLocalOf}
 use Rattle.enc_expr.specs.Code.{join}
 use Rattle.enc_expr.specs.Encoding.{is_unit, leaf, same_where_held, fill_place_code, fill_instance_code, fill_by}
 use Rattle.enc_expr.specs.Coupling.{Env, IsSound, HasMaps, IsCoupled, heap_kind, mask_kind, amount_kind, content_kind, IsOwn}
@@ -90,18 +90,18 @@ changed_coupled b c n m p s sc E F own within coupled less sound h = coupled_own
 
 -- ---- from Unit
 
-pub stopped_first : {X : Type 0} {Q : X → Env → Type 0} (cs : List BChoice) → Alike Q blocks cs (Stops Blocked cs)
+pub stopped_first : {b : Bound} {X : Type 0} {Q : X → Env → Type 0} (cs : List BChoice) → Alike Q b blocks cs (Stops Blocked cs)
 stopped_first cs = alike.blocked [] (record { same = refl })
 
 pub unit_alike : {X : Type 0} {Q : X → Env → Type 0} (ts : List BType) (b : Bound) (from : ℕ) (d : Content) (go : Evaluated X) (xs : BStmts) (E : Env) (cs : List BChoice) → slice_get E from ≡ Some (One (Snap d)) →
-    (d ≡ content.Unit → Alike Q go cs (brun ts b xs E cs)) → Alike Q (then_with (unit_of d) (λ u. go)) cs (brun ts b (stmt.first (stmt.Assume (is_unit from)) xs) E cs)
+    (d ≡ content.Unit → Alike Q b go cs (brun ts b xs E cs)) → Alike Q b (then_with (unit_of d) (λ u. go)) cs (brun ts b (stmt.first (stmt.Assume (is_unit from)) xs) E cs)
 unit_alike {Q} ts b from d go xs E cs here h = by_content d value h
   where
     value : bvalue b (is_unit from) E ≡ end.Is (bv.Bool (same_content d content.Unit))
     value = plain_value b op.Eq (t.Var from) t.Unit (Snap d) (Snap content.Unit) E refl (ap (λ (o : Option BValue). end.then_with (end.found o) scalar_in) here) refl
 
-    by_content : (d : Content) → bvalue b (is_unit from) E ≡ end.Is (bv.Bool (same_content d content.Unit)) → (d ≡ content.Unit → Alike Q go cs (brun ts b xs E cs)) →
-        Alike Q (then_with (unit_of d) (λ u. go)) cs (brun ts b (stmt.first (stmt.Assume (is_unit from)) xs) E cs)
+    by_content : (d : Content) → bvalue b (is_unit from) E ≡ end.Is (bv.Bool (same_content d content.Unit)) → (d ≡ content.Unit → Alike Q b go cs (brun ts b xs E cs)) →
+        Alike Q b (then_with (unit_of d) (λ u. go)) cs (brun ts b (stmt.first (stmt.Assume (is_unit from)) xs) E cs)
     by_content content.Unit value h = alike_of (after_nothing go) (alike_run (assume_run ts b (is_unit from) true xs E cs value) (h refl))
     by_content (content.Leaf w) value h = alike_run (assume_run ts b (is_unit from) false xs E cs value) (stopped_first cs)
     by_content (content.Pair x y) value h = alike_run (assume_run ts b (is_unit from) false xs E cs value) (stopped_first cs)
@@ -126,14 +126,14 @@ positive_unless_none q h = sign_left q.num h
 
 module _ (ts : List BType) (b : Bound) (c : Context) (p : Place) (s : State) (sc : Scene) (n m : ℕ) (E : Env) (coupled : IsCoupled b c n p s sc E) (more : n ≤ m) (at : Pos) (from : ℕ) (d : Content)
     (source : IsSource b n E from d) (x : t.BExpr) (w : Fraction) (atom : HasAtom n E x (Real w)) (proper : IsProperFraction b w) where
-  by_none : (q : Truth) (some : Evaluated State) (xs : BStmts) (cs : List BChoice) → (q ≡ false → Alike (IsChanged c p n m E) some cs (brun ts b xs E cs)) →
-      Alike (IsChanged c p n m E) (if q then then_with (unit_of d) (λ u. is s) else some) cs (if not q then brun ts b xs E cs else brun ts b (one (stmt.Assume (is_unit from))) E cs)
+  by_none : (q : Truth) (some : Evaluated State) (xs : BStmts) (cs : List BChoice) → (q ≡ false → Alike (IsChanged c p n m E) b some cs (brun ts b xs E cs)) →
+      Alike (IsChanged c p n m E) b (if q then then_with (unit_of d) (λ u. is s) else some) cs (if not q then brun ts b xs E cs else brun ts b (one (stmt.Assume (is_unit from))) E cs)
   by_none true some xs cs h = unit_alike ts b from d (is s) stmt.skip E cs source.here (λ e. is_alike (record { kept = but_from (kept_itself n E); now = maps_kept more (kept_itself n E) coupled.now }))
   by_none false some xs cs h = h refl
 
   -- it fails at a negative amount, and by none fills nothing
-  pub by_amount_alike : (some : Evaluated State) (xs : BStmts) (cs : List BChoice) → (is_positive w ≡ true → Alike (IsChanged c p n m E) some cs (brun ts b xs E cs)) →
-      Alike (IsChanged c p n m E) (unless (is_negative w) (fails sc at kind.Negative) (if is_none w then then_with (unit_of d) (λ u. is s) else some)) cs (brun ts b (fill_by p at x from xs) E cs)
+  pub by_amount_alike : (some : Evaluated State) (xs : BStmts) (cs : List BChoice) → (is_positive w ≡ true → Alike (IsChanged c p n m E) b some cs (brun ts b xs E cs)) →
+      Alike (IsChanged c p n m E) b (unless (is_negative w) (fails sc at kind.Negative) (if is_none w then then_with (unit_of d) (λ u. is s) else some)) cs (brun ts b (fill_by p at x from xs) E cs)
   by_amount_alike some xs cs h =
       let l = label p at kind.Negative in
       let last = if_positive x xs (one (stmt.Assume (is_unit from))) in
@@ -172,11 +172,11 @@ held_test b held old new q o w E h proper there value typed =
 
 -- a state is changed where nothing is held, and else it is the same already
 held_cases : {X : Type 0} {Q : X → Env → Type 0} (ts : List BType) (b : Bound) (empty same : Truth) (new s : State) (go : State → Evaluated X) (test : t.BExpr) (xs : BStmts) (E : Env) (cs : List BChoice) →
-    bvalue b test E ≡ end.Is (bv.Bool (if empty then true else same)) → (same ≡ true → new ≡ s) → Alike Q (go new) cs (brun ts b xs E cs) →
-    Alike Q (then_with (if empty then is new else unless (not same) blocks (is s)) go) cs (brun ts b (stmt.first (stmt.Assume test) xs) E cs)
+    bvalue b test E ≡ end.Is (bv.Bool (if empty then true else same)) → (same ≡ true → new ≡ s) → Alike Q b (go new) cs (brun ts b xs E cs) →
+    Alike Q b (then_with (if empty then is new else unless (not same) blocks (is s)) go) cs (brun ts b (stmt.first (stmt.Assume test) xs) E cs)
 held_cases ts b true same new s go test xs E cs value is_same h = alike_run (assume_run ts b test true xs E cs value) (alike_of (after_nothing (go new)) h)
 held_cases {Q} ts b false true new s go test xs E cs value is_same h =
-    alike_run (assume_run ts b test true xs E cs value) (alike_of (after_nothing (go s)) (subst (λ t. Alike Q (go t) cs (brun ts b xs E cs)) (is_same refl) h))
+    alike_run (assume_run ts b test true xs E cs value) (alike_of (after_nothing (go s)) (subst (λ t. Alike Q b (go t) cs (brun ts b xs E cs)) (is_same refl) h))
 held_cases ts b false false new s go test xs E cs value is_same h = alike_run (assume_run ts b test false xs E cs value) (stopped_first cs)
 
 slice_set_same : {X : Type 0} (xs : List X) (i : ℕ) (x : X) → slice_get xs i ≡ Some x → slice_set xs i x ≡ xs
@@ -264,8 +264,8 @@ leaf_value b u w i E typed here = subst (λ u. bvalue b (leaf u (t.Var i)) E ≡
     by_value (v.Perm n) here = ap (λ (o : Option BValue). end.then_with (end.then_with (end.found o) scalar_in) m.leaf_perm) here
 
 -- the first choice is no such leaf, and the code stops
-stray_leaf : {X : Type 0} {Q : X → Env → Type 0} (w : Value) (e : Evaluated X) (cs : List BChoice) (run : Run) → ((rest : List BChoice) → cs ≡ bv.Value (scalar w) ∷ rest → ⊥) → IsStopped run →
-    Alike Q (after (event.Leaf w ∷ []) e) cs run
+stray_leaf : {b : Bound} {X : Type 0} {Q : X → Env → Type 0} (w : Value) (e : Evaluated X) (cs : List BChoice) (run : Run) → ((rest : List BChoice) → cs ≡ bv.Value (scalar w) ∷ rest → ⊥) → IsStopped run →
+    Alike Q b (after (event.Leaf w ∷ []) e) cs run
 stray_leaf w (ends es how) cs run h stopped = alike.stray (λ rest k. h (moves es ++ rest) k.same) stopped
 
 value_same : (x y : BScalar) (xs ys : List BChoice) → bv.Value x ∷ xs ≡ bv.Value y ∷ ys → x ≡ y
@@ -323,25 +323,25 @@ module _ (ts : List BType) (b : Bound) (u : Ty) (i from : ℕ) (d : Content) (ys
       havoc : brun ts b choosing E (bv.Value (scalar w) ∷ rest) ≡ brun ts b (stmt.first (stmt.Assume test) ys) (chose w) rest
       havoc = rw (there, picked u w typed) refl
 
-  module _ {X : Type 0} {Q : X → Env → Type 0} (e : Evaluated X) (go : Value → Evaluated X) (next : (w : Value) (rest : List BChoice) → d ≡ Leaf w → type_of w ≡ u → Alike Q (go w) rest (brun ts b ys (chose w) rest)) where
+  module _ {X : Type 0} {Q : X → Env → Type 0} (e : Evaluated X) (go : Value → Evaluated X) (next : (w : Value) (rest : List BChoice) → d ≡ Leaf w → type_of w ≡ u → Alike Q b (go w) rest (brun ts b ys (chose w) rest)) where
     -- the choice was no leaf that fits
-    choice_stops : (cs rest more : List BChoice) (run : Run) → run ≡ Stops Blocked rest → cs ≡ more ++ rest → Fits u d e go → ((w : Value) → d ≡ Leaf w → type_of w ≡ u → (left : List BChoice) → cs ≡ bv.Value (scalar w) ∷ left → ⊥) → Alike Q e cs run
+    choice_stops : (cs rest more : List BChoice) (run : Run) → run ≡ Stops Blocked rest → cs ≡ more ++ rest → Fits u d e go → ((w : Value) → d ≡ Leaf w → type_of w ≡ u → (left : List BChoice) → cs ≡ bv.Value (scalar w) ∷ left → ⊥) → Alike Q b e cs run
     choice_stops cs rest more run stops all (with_leaf w same typed goes) h = alike_of goes (alike_run stops (stray_leaf w (go w) cs (Stops Blocked rest) (h w same typed) tt))
     choice_stops cs rest more run stops all (not_at_all none goes) h = alike_of goes (alike_run stops (alike.blocked more (record { same = all })))
 
-    goes_on : (w : Value) (rest : List BChoice) → d ≡ Leaf w → type_of w ≡ u → Fits u d e go → Alike Q e (bv.Value (scalar w) ∷ rest) (brun ts b ys (chose w) rest)
+    goes_on : (w : Value) (rest : List BChoice) → d ≡ Leaf w → type_of w ≡ u → Fits u d e go → Alike Q b e (bv.Value (scalar w) ∷ rest) (brun ts b ys (chose w) rest)
     goes_on w rest same typed (with_leaf z same_z typed_z goes) =
         let is_w : z ≡ w = leaf_same z w (sym same_z ∙ same) in
         alike_of (goes ∙ ap (λ z. after (event.Leaf z ∷ []) (go z)) is_w) (after_alike {es = event.Leaf w ∷ []} (record { same = refl }) (next w rest same typed))
     goes_on w rest same typed (not_at_all none goes) = absurd (none w same typed)
 
     compared : (w : Value) (rest : List BChoice) → type_of w ≡ u → Fits u d e go → (q : Truth) → same_content d (Leaf w) ≡ q →
-        Alike Q e (bv.Value (scalar w) ∷ rest) (if q then brun ts b ys (chose w) rest else Stops Blocked rest)
+        Alike Q b e (bv.Value (scalar w) ∷ rest) (if q then brun ts b ys (chose w) rest else Stops Blocked rest)
     compared w rest typed fit true e = goes_on w rest ((Decides-same_content d (Leaf w)).0 e) typed fit
     compared w rest typed fit false e = choice_stops (bv.Value (scalar w) ∷ rest) rest (bv.Value (scalar w) ∷ []) (Stops Blocked rest) refl refl fit
         (λ z same is_u left h. true≢false (sym ((Decides-same_content d (Leaf w)).1 (same ∙ ap Leaf (sym (scalar_same w z (value_same (scalar w) (scalar z) rest left h))))) ∙ e))
 
-    pub choice_alike : (cs : List BChoice) → Fits u d e go → Alike Q e cs (brun ts b choosing E cs)
+    pub choice_alike : (cs : List BChoice) → Fits u d e go → Alike Q b e cs (brun ts b choosing E cs)
     choice_alike [] (with_leaf w same typed goes) = alike_of goes (alike_run nothing_chosen (stray_leaf w (go w) [] (Stops Short []) (λ rest h. cc) tt))
     choice_alike [] (not_at_all none goes) = alike_of goes (alike_run nothing_chosen (alike.short [] (record { same = refl })))
     choice_alike (c ∷ rest) fit = elim (pick u c) [
@@ -350,14 +350,14 @@ module _ (ts : List BType) (b : Bound) (u : Ty) (i from : ℕ) (d : Content) (ys
           (λ w same typed left h. none_some (sym none ∙ ap (chosen (variable_type u)) (first_same c (bv.Value (scalar w)) rest left h) ∙ picked u w typed))
     ]
       where
-        alike_cs : {d : BChoice} → d ≡ c → Alike Q e (d ∷ rest) (brun ts b choosing E (d ∷ rest)) → Alike Q e (c ∷ rest) (brun ts b choosing E (c ∷ rest))
-        alike_cs same h = subst (λ c. Alike Q e (c ∷ rest) (brun ts b choosing E (c ∷ rest))) same h
+        alike_cs : {d : BChoice} → d ≡ c → Alike Q b e (d ∷ rest) (brun ts b choosing E (d ∷ rest)) → Alike Q b e (c ∷ rest) (brun ts b choosing E (c ∷ rest))
+        alike_cs same h = subst (λ c. Alike Q b e (c ∷ rest) (brun ts b choosing E (c ∷ rest))) same h
 
         none_some : {x : BValue} → None ≡ Some x → ⊥
         none_some h = cc
 
-unless_then_alike : {X Y : Type 0} {Q : Y → Env → Type 0} {cs : List BChoice} {r : Run} (instead e : Evaluated X) (go : X → Evaluated Y) (test : Truth) → (test ≡ true → Alike Q (then_with instead go) cs r) →
-    (test ≡ false → Alike Q (then_with e go) cs r) → Alike Q (then_with (unless test instead e) go) cs r
+unless_then_alike : {b : Bound} {X Y : Type 0} {Q : Y → Env → Type 0} {cs : List BChoice} {r : Run} (instead e : Evaluated X) (go : X → Evaluated Y) (test : Truth) → (test ≡ true → Alike Q b (then_with instead go) cs r) →
+    (test ≡ false → Alike Q b (then_with e go) cs r) → Alike Q b (then_with (unless test instead e) go) cs r
 unless_then_alike instead e go true f g = f refl
 unless_then_alike instead e go false f g = g refl
 
@@ -368,7 +368,7 @@ pub reference_key : (b : Bound) (n : ℕ) (E : Env) (x : t.BExpr) (r : ℕ) → 
 reference_key b n E x r h = ap (λ (z : end.End BScalar). end.then_with z (λ v. end.then_with (m.part_of v) (λ p. end.Is (p ∷ [])))) (atom_value b n E x (bv.Ref r) h)
 
 -- so much more than is held, times a scale
-module _ (ts : List BType) (b : Bound) (c : Context) (p : Place) (apart : AreApart c.program.layout p.now) (n m : ℕ) (s : State) (E : Env) (maps : HasMaps c.program.layout m p.now s E) (k : Fraction) (scale : t.BExpr)
+module _ (ts : List BType) (b : Bound) (c : Context) (p : Place) (own : IsOwn c p) (n m : ℕ) (s : State) (E : Env) (maps : HasMaps c.program.layout m p.now s E) (k : Fraction) (scale : t.BExpr)
     (scales : HasAtom n E scale (Real k)) (proper_scale : IsProperFraction b k) (q : t.BExpr) (w : Fraction) (atom : HasAtom n E q (Real w)) (proper : IsProperFraction b w) (at : Pos) (held : Fraction) (proper_held : IsProperFraction b held)
     (sign : IsNotNegative held) where
   abbrev more : Fraction
@@ -385,7 +385,7 @@ module _ (ts : List BType) (b : Bound) (c : Context) (p : Place) (apart : AreApa
 
   -- of a place, of which there is at most 1
   pub mask_added : (f r : ℕ) (u : Ty) (x : t.BExpr) → slice_get c.program.layout.fields f ≡ Some u → HasAtom n E x (bv.Ref r) → mask_at s f r ≡ Some held → (cs : List BChoice) →
-      Alike (IsChanged c p n m E) (then_with (added b held k w at) (λ all. unless (is_above_one all) blocks (is (with_mask s f r all)))) cs
+      Alike (IsChanged c p n m E) b (then_with (added b held k w at) (λ all. unless (is_above_one all) blocks (is (with_mask s f r all)))) cs
       (brun ts b (join (add_to (number p.now.mask f) (t.more x t.none) (scaled scale q)) (one (stmt.Assume (t.Bin op.Le (at_one (number p.now.mask f) x) one_real)))) E cs)
   mask_added f r u x there ref is_held cs =
       let mask = number p.now.mask f in let es = t.more x t.none in
@@ -394,11 +394,11 @@ module _ (ts : List BType) (b : Bound) (c : Context) (p : Place) (apart : AreApa
       let same_held : get nat_cmp old.m r ≡ held = same_Some _ _ (sym (found_in_map mask_kind m mask s.mask f E r old) ∙ is_held) in
       let image = set key_cmp same_scalar old.image (place_key r) (Real all) in
       let F = slice_set E mask (Many image) in
-      let kept : KeptBut (IsLocalOf c.program.layout p.now) n E F = but_set n E mask _ (record { spot = place.Mask f; exists = slice_get_within c.program.layout.fields f u there; there = refl }) in
+      let kept : KeptBut (IsLocalOf c.program.layout p.now) n E F = but_set n E mask _ (record { spot = place.Mask f; kind = tt; exists = slice_get_within c.program.layout.fields f u there; there = refl }) in
       added_alike b held k w at _ cs _ (λ fits_more fits_all.
       let fraction = proper_all fits_more fits_all in
       let add = add_to_run ts b mask es (scaled scale q) (place_key r) old.image held more E cs old.here (reference_key b n E x r ref) (old.same r tt ∙ ap Real same_held) (more_value fits_more) proper_held sign fits_all in
-      let new : HasMaps c.program.layout m p.now (with_mask s f r all) F = mask_written c m p.now s E apart maps f u r all there fraction.reduced in
+      let new : HasMaps c.program.layout m p.now (with_mask s f r all) F = mask_written c m p.now s E own maps f u r all there tt fraction.reduced in
       let here = set_here E mask (Many image) (slice_get_within E mask (Many old.image) old.here) in
       let all_value : bvalue b (at_one mask x) F ≡ end.Is (Real all) =
       at_value b mask es (place_key r) image F here (reference_key b n F x r (atom_put mask old.image _ old.here ref))
@@ -412,17 +412,17 @@ module _ (ts : List BType) (b : Bound) (c : Context) (p : Place) (apart : AreApa
 
   -- of an instance
   pub amount_added : (j : ℕ) (us : List Ty) (key : Key) (js : List ℕ) (vs : List Value) → slice_get c.program.layout.keys j ≡ Some us → FitsKey us key → AreLocated n E js vs → Some key ≡ key_of vs → amount_at s j key ≡ Some held →
-      (cs : List BChoice) → Alike (IsChanged c p n m E) (then_with (added b held k w at) (λ all. is (with_amount s j key all))) cs (brun ts b (add_to (number p.now.amount j) (index js) (scaled scale q)) E cs)
+      (cs : List BChoice) → Alike (IsChanged c p n m E) b (then_with (added b held k w at) (λ all. is (with_amount s j key all))) cs (brun ts b (add_to (number p.now.amount j) (index js) (scaled scale q)) E cs)
   amount_added j us key js vs there fits_key located is_key is_held cs =
       let amounts = number p.now.amount j in
       let old = maps.amount j us there in
       let same_held : get key_cmp old.m key ≡ held = same_Some _ _ (sym (found_in_map (amount_kind us) m amounts s.amount j E key old) ∙ is_held) in
       let F = slice_set E amounts (Many (set key_cmp same_scalar old.image (instance_key key) (Real all))) in
-      let kept : KeptBut (IsLocalOf c.program.layout p.now) n E F = but_set n E amounts _ (record { spot = place.Amount j; exists = slice_get_within c.program.layout.keys j us there; there = refl }) in
+      let kept : KeptBut (IsLocalOf c.program.layout p.now) n E F = but_set n E amounts _ (record { spot = place.Amount j; kind = tt; exists = slice_get_within c.program.layout.keys j us there; there = refl }) in
       added_alike b held k w at _ cs _ (λ fits_more fits_all.
       let add = add_to_run ts b amounts (index js) (scaled scale q) (instance_key key) old.image held more E cs old.here (index_key b n E js vs key located is_key) (old.same key fits_key ∙ ap Real same_held) (more_value fits_more) proper_held
       sign fits_all in
-      let new : HasMaps c.program.layout m p.now (with_amount s j key all) F = amount_written c m p.now s E apart maps j us key all there fits_key (proper_all fits_more fits_all).reduced in
+      let new : HasMaps c.program.layout m p.now (with_amount s j key all) F = amount_written c m p.now s E own maps j us key all there tt fits_key (proper_all fits_more fits_all).reduced in
       alike_run add (is_alike (record { kept = kept; now = new })))
 
 -- ---- a place
@@ -446,7 +446,7 @@ module _ (ts : List BType) (b : Bound) (c : Context) (p : Place) (s : State) (sc
     putting = stmt.first (stmt.Put heap es (t.Var n)) (join (add_to mask es (scaled scale q)) bounded)
 
     fill_leaf_alike : (v : Value) → type_of v ≡ u → IsReducedValue v → (cs : List BChoice) →
-        Alike (IsChanged c p n (n + 1) E) (fill_leaf b k f r w v at s) cs (brun ts b (stmt.first (same_where_held (at_one mask x) (at_one heap x) (t.Var n)) putting) (slice_set E n (One (scalar v))) cs)
+        Alike (IsChanged c p n (n + 1) E) b (fill_leaf b k f r w v at s) cs (brun ts b (stmt.first (same_where_held (at_one mask x) (at_one heap x) (t.Var n)) putting) (slice_set E n (One (scalar v))) cs)
     fill_leaf_alike v typed reduced cs =
         let m = n + 1 in
         let exists = slice_get_within c.program.layout.fields f u there in
@@ -475,18 +475,18 @@ module _ (ts : List BType) (b : Bound) (c : Context) (p : Place) (s : State) (sc
         let same_written = ap (λ (o : Option Value). then_with (if is_none held then is new else then_with (found o) (λ old. unless (not (value_eq v old)) blocks (is s))) go) is_old
         ∙ ap (λ (z : Evaluated State). then_with (if is_none held then is new else z) go) (after_nothing (unless (not (value_eq v old)) blocks (is s))) in
         let E2 = slice_set E1 heap (Many (set key_cmp same_scalar heap1.image (place_key r) (scalar v))) in
-        let M2 : HasMaps c.program.layout m p.now new E2 = value_written c m p.now s E1 own.apart M1 f u r v there typed reduced in
+        let M2 : HasMaps c.program.layout m p.now new E2 = value_written c m p.now s E1 own M1 f u r v there tt typed reduced in
         let ref2 : HasAtom n E2 x (bv.Ref r) = atom_put heap heap1.image _ heap1.here ref1 in
         let scale2 : HasAtom n E2 scale (Real k) = atom_put heap heap1.image _ heap1.here (atom_agrees k1.same scales.atom) in
         let atom2 : HasAtom n E2 q (Real w) = atom_put heap heap1.image _ heap1.here (atom_agrees k1.same atom) in
-        let kept : KeptBut (IsLocalOf c.program.layout p.now) n E E2 = kept_but_then (omega arith) k1 (but_set n E1 heap _ (record { spot = place.Heap f; exists = exists; there = refl })) in
+        let kept : KeptBut (IsLocalOf c.program.layout p.now) n E E2 = kept_but_then (omega arith) k1 (but_set n E1 heap _ (record { spot = place.Heap f; kind = tt; exists = exists; there = refl })) in
         found_alike (mask_at s f r) held _ is_held (alike_of same_written (
         held_cases ts b (is_none held) (value_eq v old) new s go (t.Bin op.Implies (t.Bin op.Ne (at_one mask x) zero_real) (t.Bin op.Eq (at_one heap x) (t.Var n))) putting E1 cs test is_same (
         alike_run (put_run ts b heap es (t.Var n) (place_key r) heap1.image (scalar v) (join (add_to mask es (scaled scale q)) bounded) E1 cs heap1.here key1 new_value) (
         weaken_alike (λ t F h. changed_again kept h)
-        (mask_added ts b c p own.apart n m new E2 M2 k scale scale2 scales.proper q w atom2 proper at held proper_held sign f r u x there ref2 is_held cs)))))
+        (mask_added ts b c p own n m new E2 M2 k scale scale2 scales.proper q w atom2 proper at held proper_held sign f r u x there ref2 is_held cs)))))
 
-    pub fill_place_alike : (cs : List BChoice) → Alike (IsChanged c p n (n + 1) E) (fill_place b sc k f r w d at s) cs (brun ts b (fill_by p at q from (fill_place_code p scale u f x q n from)) E cs)
+    pub fill_place_alike : (cs : List BChoice) → Alike (IsChanged c p n (n + 1) E) b (fill_place b sc k f r w d at s) cs (brun ts b (fill_by p at q from (fill_place_code p scale u f x q n from)) E cs)
     fill_place_alike cs =
         let long : n < length E = omega (arith, slice_get_within ts n (variable_type u) local, full) in
         let heap1 = coupled.now.heap f u there in
@@ -522,7 +522,7 @@ module _ (ts : List BType) (b : Bound) (c : Context) (p : Place) (s : State) (sc
     abbrev filling : BStmts
     filling = stmt.first (stmt.Put contents ks (t.Var from)) (add_to amounts ks (scaled scale q))
 
-    pub fill_held_alike : (cs : List BChoice) → Alike (IsChanged c p n n E) (fill_held b k j key w d at s) cs (brun ts b (fill_instance_code p scale j ks q from) E cs)
+    pub fill_held_alike : (cs : List BChoice) → Alike (IsChanged c p n n E) b (fill_held b k j key w d at s) cs (brun ts b (fill_instance_code p scale j ks q from) E cs)
     fill_held_alike cs =
         let exists = slice_get_within c.program.layout.keys j us there in
         let amount1 = coupled.now.amount j us there in let content1 = coupled.now.content j us there in
@@ -544,17 +544,17 @@ module _ (ts : List BType) (b : Bound) (c : Context) (p : Place) (s : State) (sc
         let same_contained = ap (λ (o : Option Content). then_with (if is_none held then is new else then_with (found o) (λ old. unless (not (same_content d old)) blocks (is s))) go) is_old
         ∙ ap (λ (z : Evaluated State). then_with (if is_none held then is new else z) go) (after_nothing (unless (not (same_content d old)) blocks (is s))) in
         let E2 = slice_set E contents (Many (set key_cmp same_scalar content1.image (instance_key key) (Snap d))) in
-        let M2 : HasMaps c.program.layout n p.now new E2 = content_written c n p.now s E own.apart coupled.now j us key d there fits_key source.reduced in
+        let M2 : HasMaps c.program.layout n p.now new E2 = content_written c n p.now s E own coupled.now j us key d there tt fits_key source.reduced in
         let located2 = located_single (omega arith) (singles_put n E contents content1.image _ content1.here) located in
         let scale2 : HasAtom n E2 scale (Real k) = atom_put contents content1.image _ content1.here scales.atom in
         let atom2 : HasAtom n E2 q (Real w) = atom_put contents content1.image _ content1.here atom in
-        let kept : KeptBut (IsLocalOf c.program.layout p.now) n E E2 = but_set n E contents _ (record { spot = place.Content j; exists = exists; there = refl }) in
+        let kept : KeptBut (IsLocalOf c.program.layout p.now) n E E2 = but_set n E contents _ (record { spot = place.Content j; kind = tt; exists = exists; there = refl }) in
         found_alike (amount_at s j key) held _ is_held (alike_of same_contained (
         held_cases ts b (is_none held) (same_content d old) new s go (t.Bin op.Implies (t.Bin op.Ne (t.At amounts ks) zero_real) (t.Bin op.Eq (t.At contents ks) (t.Var from))) filling E cs test is_same (
         alike_run (put_run ts b contents ks (t.Var from) (instance_key key) content1.image (Snap d) (add_to amounts ks (scaled scale q)) E cs content1.here key1 new_value) (
         weaken_alike (λ t F h. changed_again kept h)
-        (amount_added ts b c p own.apart n n new E2 M2 k scale scale2 scales.proper q w atom2 proper at held proper_held sign j us key js vs there fits_key located2 is_key is_held cs)))))
+        (amount_added ts b c p own n n new E2 M2 k scale scale2 scales.proper q w atom2 proper at held proper_held sign j us key js vs there fits_key located2 is_key is_held cs)))))
 
-    pub fill_instance_alike : (cs : List BChoice) → Alike (IsChanged c p n n E) (fill_instance b sc k j key w d at s) cs (brun ts b (fill_by p at q from (fill_instance_code p scale j ks q from)) E cs)
+    pub fill_instance_alike : (cs : List BChoice) → Alike (IsChanged c p n n E) b (fill_instance b sc k j key w d at s) cs (brun ts b (fill_by p at q from (fill_instance_code p scale j ks q from)) E cs)
     fill_instance_alike cs =
         by_amount_alike ts b c p s sc n n E coupled (omega arith) at from d source q w atom proper (fill_held b k j key w d at s) (fill_instance_code p scale j ks q from) cs (λ positive. fill_held_alike cs)

@@ -32,9 +32,8 @@ use Rattle.boogie_meaning.specs.Value.{scalar_in}
 use Rattle.boogie_meaning.specs.Quantified.{bvalue}
 use Rattle.boogie_meaning.specs.Run.{Run, Done, Stops, then_run, brun}
 use Rattle.boogie_meaning.proofs.PatternLaws.{set_here}
-use Rattle.run_file.specs.BoogieLines.{scalar}
+use Rattle.moves.specs.Scalars.{scalar, base_for}
 use Rattle.enc_expr.specs.Place.{Place, number, with_now}
-use Rattle.enc_expr.specs.Kinds.{base_for}
 use Rattle.enc_expr.specs.Code.{Emitting, join, gives, then_emit, Guard, under}
 use Rattle.enc_expr.specs.Pieces.{Operand}
 use Rattle.enc_expr.specs.Operators.{operand_of, right_counts, lazy_op, lazy_operand, lazily, in_class_code, chosen_operand, choose_code}
@@ -64,7 +63,7 @@ value_more within same h = record { typed = h.typed; base = h.base; held = holds
 
 -- ---- values of a type
 
-pub truth_alike : {Y : Type 0} {Q : Y → Env → Type 0} {cs : List BChoice} {r : Run} (z : Value) (k : Truth → Evaluated Y) → type_of z ≡ ty.Bool → ((q : Truth) → z ≡ v.Bool q → Alike Q (k q) cs r) → Alike Q (then_with (truth_of z) k) cs r
+pub truth_alike : {b : Bound} {Y : Type 0} {Q : Y → Env → Type 0} {cs : List BChoice} {r : Run} (z : Value) (k : Truth → Evaluated Y) → type_of z ≡ ty.Bool → ((q : Truth) → z ≡ v.Bool q → Alike Q b (k q) cs r) → Alike Q b (then_with (truth_of z) k) cs r
 truth_alike (v.Bool q) k typed h = alike_of (after_nothing (k q)) (h q refl)
 truth_alike z k typed h = absurd cc
 
@@ -75,12 +74,12 @@ module _ (ts : List BType) (b : Bound) (c : Context) where
 
   -- the same from one environment
   abbrev pub Goes : ℕ → Env → Emitting Operand → Ty → Evaluated Value → List BChoice → Type 0
-  Goes n E m u e cs = Alike (IsValued b n (m n).next (m n).value u E) e cs (brun ts b (m n).stmts E cs)
+  Goes n E m u e cs = Alike (IsValued b n (m n).next (m n).value u E) b e cs (brun ts b (m n).stmts E cs)
 
   -- what is computed without statements
   pub computes_goes : {K : Env → Type 0} {e : Evaluated Value} (z : Operand) (u : Ty) (n : ℕ) (E : Env) (cs : List BChoice) → Computes b u z K e → ((G : Env) → Agree n E G → K G) → Goes n E (gives z) u e cs
   computes_goes z u n E cs (value typed base h) k = is_alike (record { kept = kept_itself n E; typed = typed; here = λ G agree. h G (k G agree) })
-  computes_goes z u n E cs over k = a.over
+  computes_goes z u n E cs (over bounded) k = a.over bounded (record { same = refl })
 
   module _ (p : Place) (g : Guard) (s : State) (sc : Scene) where
     -- ---- literals and variables
@@ -238,14 +237,14 @@ one_asleep : (h n : ℕ) (E : Env) → h < n → slice_get E h ≡ Some (One (w.
 one_asleep h n E below here = λ j same. (omega (arith, same, below), ap (slice_get E) same ∙ here)
 
 -- what sleeps stays out of it
-pub sleep_alike : {V : Type 0} {Q R : V → Env → Type 0} {e : Evaluated V} {cs : List BChoice} {r : Run} {to : Env → List BChoice → Run} → Alike Q e cs r →
-    ((z : V) (G : Env) (rest : List BChoice) → Q z G → (H : Env) × ((to G rest ≡ Done H rest) × R z H)) → Alike R e cs (then_run r to)
+pub sleep_alike : {b : Bound} {V : Type 0} {Q R : V → Env → Type 0} {e : Evaluated V} {cs : List BChoice} {r : Run} {to : Env → List BChoice → Run} → Alike Q b e cs r →
+    ((z : V) (G : Env) (rest : List BChoice) → Q z G → (H : Env) × ((to G rest ≡ Done H rest) × R z H)) → Alike R b e cs (then_run r to)
 sleep_alike (a.done f q) go = let h = go _ _ _ q in alike_run h.1.0 (a.done f h.1.1)
 sleep_alike (a.failed f) go = a.failed f
 sleep_alike (a.blocked others f) go = a.blocked others f
 sleep_alike (a.short others f) go = a.short others f
 sleep_alike (a.beyond f) go = a.beyond f
-sleep_alike a.over go = a.over
+sleep_alike (a.over bounded f) go = a.over bounded f
 sleep_alike {r = Stops why rest} (a.stray f stopped) go = a.stray f stopped
 sleep_alike {r = Done E rest} (a.stray f stopped) go = elim stopped [ ]
 
@@ -266,7 +265,7 @@ module _ (ts : List BType) (b : Bound) (c : Context) (p : Place) (g : Guard) (s 
       let low : n + 1 ≤ r.next = omega (arith, (counted n).next (n + 1)) in
       let run : brun ts b (lazily g f x right n).stmts E cs ≡ brun ts b r.stmts F cs =
       assign_run ts b n (under g z) (w.Bool (counts f q)) (join r.stmts stmt.skip) E cs (under_awake ts b g n z (counts f q) E ready.awake (counts_value b f q x.expr E here)) ∙ ap (λ xs. brun ts b xs F cs) (join_skip r.stmts) in
-      alike_run run (elim (lazy_cases f q e lazy) as (λ k. Alike (IsValued b n r.next y ty.Bool E) (settled_or (settled f q) e) cs (brun ts b r.stmts F cs)) [
+      alike_run run (elim (lazy_cases f q e lazy) as (λ k. Alike (IsValued b n r.next y ty.Bool E) b (settled_or (settled f q) e) cs (brun ts b r.stmts F cs)) [
         | inl h ↦ alike_of h.1 (weaken_alike (λ k G i. record {
           kept = kept_then {G = G} (omega arith) kept i.kept;
           typed = i.typed;
@@ -318,12 +317,12 @@ module _ (ts : List BType) (b : Bound) (c : Context) (p : Place) (g : Guard) (s 
   pub choose_alike : {X Y V : Type 0} {Q R : V → Env → Type 0} {T : Env → V → Env → Type 0} (x : t.BExpr) (left right : Guard → Emitting X) (both : ℕ → X → X → Y) (q : Truth) (e h : Evaluated V) (n : ℕ) (E : Env) (cs : List BChoice) →
       bvalue b x E ≡ end.Is (w.Bool q) → IsReady ts g n (choose_code g x left right both n).locals E → IsCounted (left (Some n)) → Sleeps (λ j. j ≡ n) (left (Some n)) → Sleeps (λ j. j ≡ n + 1) (right (Some (n + 1))) →
       (let l = left (Some n) (n + 1 + 1) in let r = right (Some (n + 1)) l.next in let F = guarded_by E n q in
-      (q ≡ true → IsReady ts (Some n) (n + 1 + 1) l.locals F → Alike Q e cs (brun ts b l.stmts F cs)) →
+      (q ≡ true → IsReady ts (Some n) (n + 1 + 1) l.locals F → Alike Q b e cs (brun ts b l.stmts F cs)) →
       ((z : V) (G : Env) → Q z G → (length G ≡ length F) × (slice_get G (n + 1) ≡ slice_get F (n + 1))) →
       ((z : V) (G H : Env) → q ≡ true → slice_get F n ≡ Some (One (w.Bool true)) → Q z G → Kept l.next G H → R z H) →
-      ((G : Env) → q ≡ false → Kept (n + 1 + 1) F G → IsReady ts (Some (n + 1)) l.next r.locals G → Alike (T G) h cs (brun ts b r.stmts G cs)) →
+      ((G : Env) → q ≡ false → Kept (n + 1 + 1) F G → IsReady ts (Some (n + 1)) l.next r.locals G → Alike (T G) b h cs (brun ts b r.stmts G cs)) →
       ((z : V) (G H : Env) → q ≡ false → slice_get F n ≡ Some (One (w.Bool false)) → Kept (n + 1 + 1) F G → T G z H → R z H) →
-      Alike R (if q then e else h) cs (brun ts b (choose_code g x left right both n).stmts E cs))
+      Alike R b (if q then e else h) cs (brun ts b (choose_code g x left right both n).stmts E cs))
   choose_alike {R = R} x left right both q e h n E cs here ready counted sleeps sleeps2 one stays first_ends two second_ends =
       let l = left (Some n) (n + 1 + 1) in let r = right (Some (n + 1)) l.next in
       let F1 = slice_set E n (One (w.Bool q)) in let F = guarded_by E n q in
@@ -343,7 +342,7 @@ module _ (ts : List BType) (b : Bound) (c : Context) (p : Place) (g : Guard) (s 
       assign_run ts b n (under g x) (w.Bool q) (stmt.first (stmt.Assign (n + 1) (under g other)) rest) E cs (under_awake ts b g n x q E ready.awake here)
       ∙ assign_run ts b (n + 1) (under g other) (w.Bool (not q)) rest F1 cs (under_awake ts b g (n + 1) other (not q) F1 awake not_value)
       ∙ ap (λ xs. brun ts b (join l.stmts xs) F cs) (join_skip r.stmts) in
-      let by_truth : (t : Truth) → q ≡ t → Alike R (if t then e else h) cs (brun ts b (join l.stmts r.stmts) F cs) = λ t. elim t as (λ t. q ≡ t → Alike R (if t then e else h) cs (brun ts b (join l.stmts r.stmts) F cs)) [
+      let by_truth : (t : Truth) → q ≡ t → Alike R b (if t then e else h) cs (brun ts b (join l.stmts r.stmts) F cs) = λ t. elim t as (λ t. q ≡ t → Alike R b (if t then e else h) cs (brun ts b (join l.stmts r.stmts) F cs)) [
         | true ↦ λ same.
             let first : slice_get F n ≡ Some (One (w.Bool true)) = guarded.first ∙ ap (λ (t : Truth). Some (One (w.Bool t))) same in
             alike_run (join_run ts b l.stmts r.stmts F cs) (sleep_alike (one same (record { awake = (omega arith, first); full = full; locals = l_locals })) (λ z G left_choices i.

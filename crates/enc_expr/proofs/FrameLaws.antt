@@ -15,10 +15,10 @@ use Rattle.boogie_tree.specs.Expr as t
 use Rattle.boogie_tree.specs.Program.{BType}
 use Rattle.boogie_tree.specs.Value.{Key, BScalar, BValue, One, Many}
 use Rattle.boogie_meaning.proofs.PatternLaws.{set_there}
-use Rattle.run_file.specs.BoogieLines.{scalar}
-use Rattle.enc_expr.specs.Place.{Maps, Place, with_now, number, Spot, Heap, Mask, Amount, Content, IsSpot, local_at, IsLocalOf}
+use Rattle.moves.specs.Scalars.{scalar}
+use Rattle.enc_expr.specs.Place.{Maps, Place, with_now, number, Spot, Heap, Mask, Amount, Content, IsSpot, local_at, IsHeld, IsLocalAt, IsLocalOf, AreApart}
 use Rattle.enc_expr.specs.Code.{Guard}
-use Rattle.enc_expr.specs.Coupling.{Env, MapKind, HasMap, HasMaps, HasVariable, IsAwake, AreLocals, IsReady, IsSound, IsCoupled, IsOwn}
+use Rattle.enc_expr.specs.Coupling.{Env, MapKind, HasMap, HasMaps, HasHeld, HasVariable, IsAwake, AreLocals, IsReady, IsSound, IsCoupled, IsOwn}
 use Rattle.enc_expr.specs.Alike as alike
 use Rattle.enc_expr.specs.Alike.{Kept, KeptBut, HasAtom, AreLocated, IsScale, IsSource, variable, int, real, truth, null}
 
@@ -51,6 +51,9 @@ locals_rest ts n (u ∷ us) ws h = subst (λ i. AreLocals ts i ws) (omega arith)
 
 pub but_from : {O : ℕ → Type 0} {n : ℕ} {E F : Env} → Kept n E F → KeptBut O n E F
 but_from h = record { length = h.length; same = λ i below other. h.same i below }
+
+pub but_less : {O P : ℕ → Type 0} {n : ℕ} {E F : Env} → ((i : ℕ) → O i → P i) → KeptBut O n E F → KeptBut P n E F
+but_less more h = record { length = h.length; same = λ i below other. h.same i below (λ own. other (more i own)) }
 
 -- where these are no earlier locals
 pub but_none : {O : ℕ → Type 0} {n m : ℕ} {E F : Env} → n ≤ m → ((i : ℕ) → i < n → O i → ⊥) → KeptBut O m E F → Kept n E F
@@ -111,7 +114,7 @@ maps_framed {layout} {n} {m} {l} {s} {E} {F} within frame h = record {
 }
   where
     framed : {K V : Type 0} {k : MapKind K V} {maps : List (Map K V)} {i : ℕ} (spot : Spot) → IsSpot layout spot → HasMap k n (local_at l spot) maps i E → HasMap k m (local_at l spot) maps i F
-    framed spot exists map = map_moved (omega (arith, map.below, within)) (frame (local_at l spot) (record { spot = spot; exists = exists; there = refl }) map.below) map
+    framed spot exists map = map_moved (omega (arith, map.below, within)) (frame (local_at l spot) (record { spot = spot; kind = tt; exists = exists; there = refl }) map.below) map
 
 variable_moved : {u : Ty} {n m i : ℕ} {store : List Value} {x : ℕ} {E F : Env} → i < m → slice_get F i ≡ slice_get E i → HasVariable u n i store x E → HasVariable u m i store x F
 variable_moved below same h = record { v = h.v; there = h.there; typed = h.typed; below = below; here = same ∙ h.here }
@@ -150,6 +153,26 @@ map_kept within kept h = map_moved (omega (arith, h.below, within)) (kept.same _
 pub maps_kept : {layout : Layout} {n m : ℕ} {l : Maps} {s : State} {E F : Env} → n ≤ m → Kept n E F → HasMaps layout n l s E → HasMaps layout m l s F
 maps_kept within kept h = maps_framed within (λ i named below. kept.same i below) h
 
+-- the same of those maps that hold permission
+pub maps_held : {layout : Layout} {n : ℕ} {l : Maps} {s : State} {E : Env} → HasMaps layout n l s E → HasHeld layout n l s E
+maps_held h = record { mask = h.mask; amount = h.amount }
+
+pub held_framed : {layout : Layout} {n m : ℕ} {l : Maps} {s : State} {E F : Env} → n ≤ m → Frames (IsLocalAt IsHeld layout l) n E F → HasHeld layout n l s E → HasHeld layout m l s F
+held_framed {layout} {l = l} within frame h = record {
+  mask = λ f u there.
+      let map = h.mask f u there in
+      map_moved (omega (arith, map.below, within)) (frame (number l.mask f) (record { spot = Mask f; kind = tt; exists = slice_get_within layout.fields f u there; there = refl }) map.below) map;
+  amount = λ q us there.
+      let map = h.amount q us there in
+      map_moved (omega (arith, map.below, within)) (frame (number l.amount q) (record { spot = Amount q; kind = tt; exists = slice_get_within layout.keys q us there; there = refl }) map.below) map;
+}
+
+pub held_but : {O : ℕ → Type 0} {layout : Layout} {n m : ℕ} {l : Maps} {s : State} {E F : Env} → n ≤ m → KeptBut O n E F → ((i : ℕ) → IsLocalAt IsHeld layout l i → O i → ⊥) → HasHeld layout n l s E → HasHeld layout m l s F
+held_but within kept apart h = held_framed within (λ i named below. kept.same i below (apart i named)) h
+
+pub held_kept : {layout : Layout} {n m : ℕ} {l : Maps} {s : State} {E F : Env} → n ≤ m → Kept n E F → HasHeld layout n l s E → HasHeld layout m l s F
+held_kept within kept h = held_framed within (λ i named below. kept.same i below) h
+
 pub coupled_kept : (b : Bound) (c : Context) (n m : ℕ) (p : Place) (s : State) (sc : Scene) (E F : Env) → n ≤ m → Kept n E F → IsCoupled b c n p s sc E → IsCoupled b c m p s sc F
 coupled_kept b c n m p s sc E F within kept h = coupled_framed b c n m p s sc E F within (λ i named below. kept.same i below) h
 
@@ -168,13 +191,13 @@ maps_below layout n m s E h (Amount q) there = let u = exists_at layout.keys q t
 maps_below layout n m s E h (Content q) there = let u = exists_at layout.keys q there in (h.content q u.0 u.1).below
 
 -- each holds a map
-map_there : (layout : Layout) (n : ℕ) (m : Maps) (s : State) (E : Env) → HasMaps layout n m s E → (i : Spot) → IsSpot layout i → (map : Map Key BScalar) × (slice_get E (local_at m i) ≡ Some (Many map))
+pub map_there : (layout : Layout) (n : ℕ) (m : Maps) (s : State) (E : Env) → HasMaps layout n m s E → (i : Spot) → IsSpot layout i → (map : Map Key BScalar) × (slice_get E (local_at m i) ≡ Some (Many map))
 map_there layout n m s E h (Heap f) there = let u = exists_at layout.fields f there in let map = h.heap f u.0 u.1 in (map.image, map.here)
 map_there layout n m s E h (Mask f) there = let u = exists_at layout.fields f there in let map = h.mask f u.0 u.1 in (map.image, map.here)
 map_there layout n m s E h (Amount q) there = let u = exists_at layout.keys q there in let map = h.amount q u.0 u.1 in (map.image, map.here)
 map_there layout n m s E h (Content q) there = let u = exists_at layout.keys q there in let map = h.content q u.0 u.1 in (map.image, map.here)
 
-one_is_no_map : (E : Env) (y i : ℕ) (map : Map Key BScalar) (w : BScalar) → slice_get E y ≡ Some (Many map) → slice_get E i ≡ Some (One w) → y ≢ i
+pub one_is_no_map : (E : Env) (y i : ℕ) (map : Map Key BScalar) (w : BScalar) → slice_get E y ≡ Some (Many map) → slice_get E i ≡ Some (One w) → y ≢ i
 one_is_no_map E y i map w there here e = no_map (same_Some _ _ (sym there ∙ ap (λ j. slice_get E j) e ∙ here))
   where
     no_map : {map : Map Key BScalar} {w : BScalar} → Many map ≡ One w → ⊥
@@ -228,10 +251,10 @@ scale_single within h scale = record { atom = atom_single within h scale.atom; p
 pub source_single : {b : Bound} {n m : ℕ} {E F : Env} {from : ℕ} {d : content.Content} → n ≤ m → Singles n E F → IsSource b n E from d → IsSource b m F from d
 source_single within h source = record { below = omega (arith, source.below, within); here = h.same _ _ source.below source.here; reduced = source.reduced; proper = source.proper }
 
--- ---- maps that are none of the old state
+-- ---- maps that may be changed
 
-pub own_apart : {c : Context} {p : Place} {i : ℕ} → IsOwn c p → IsLocalOf c.program.layout p.old i → IsLocalOf c.program.layout p.now i → ⊥
-own_apart own before present = own.beside present.spot before.spot present.exists before.exists (sym present.there ∙ before.there)
+pub own_apart : {P : Spot → Type 0} {O : ℕ → Type 0} {layout : Layout} {m : Maps} {i : ℕ} → AreApart P O layout m → O i → IsLocalAt P layout m i → ⊥
+own_apart {O = O} own other mine = own.beside mine.spot mine.kind mine.exists (subst O mine.there other)
 
 -- another state in such maps, where nothing but these and new locals was changed
 pub coupled_own : (b : Bound) (c : Context) (n m : ℕ) (p : Place) (l : Maps) (s less : State) (sc : Scene) (E F : Env) → IsOwn c (with_now l p) → n ≤ m → KeptBut (IsLocalOf c.program.layout l) n E F → Singles n E F →

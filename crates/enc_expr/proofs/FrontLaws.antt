@@ -13,43 +13,44 @@ use Rattle.viper_core.specs.declared.programs.Unit.{Unit}
 use Rattle.viper_core.specs.declared.programs.Unit.TheVariants as unit
 use Rattle.viper_core.proofs.FormedLaws.{predicate_of_typed, method_of_typed}
 use Rattle.viper_core.proofs.ScopeLaws.{fresh-stmts_scope}
-use Rattle.enc_expr.specs.Kinds.{variable_type, heap_type, content_type}
+use Rattle.moves.specs.Scalars.{variable_type}
+use Rattle.moves.specs.Maps.{heap_type, content_type}
 use Rattle.enc_expr.specs.Front.{variable_name, heap_name, content_name, names_of_method, names_of_predicate, types_of_method, types_of_predicate, names_of, types_of, HasFront}
 
 -- ---- names that differ
 
-differ_left : (xs ys : List (List ℕ)) → NamesDiffer (xs ++ ys) → NamesDiffer xs
+pub differ_left : (xs ys : List (List ℕ)) → NamesDiffer (xs ++ ys) → NamesDiffer xs
 differ_left xs ys h i j d below within e =
     h i j d below (omega (arith, within, length-append xs ys))
     (get_or_append_left xs ys d i (omega (arith, below, within)) ∙ (e ∙ sym (get_or_append_left xs ys d j within)))
 
-differ_right : (xs ys : List (List ℕ)) → NamesDiffer (xs ++ ys) → NamesDiffer ys
+pub differ_right : (xs ys : List (List ℕ)) → NamesDiffer (xs ++ ys) → NamesDiffer ys
 differ_right xs ys h i j d below within e =
     h (length xs + i) (length xs + j) d (omega (arith, below)) (omega (arith, within, length-append xs ys))
     (get_or-append-add xs ys i d ∙ (e ∙ sym (get_or-append-add xs ys j d)))
 
-all_left : (P : List ℕ → Type 0) (xs ys : List (List ℕ)) → All P (xs ++ ys) → All P xs
+pub all_left : (P : List ℕ → Type 0) (xs ys : List (List ℕ)) → All P (xs ++ ys) → All P xs
 all_left P xs ys h k d within = subst P (get_or_append_left xs ys d k within) (h k d (omega (arith, within, length-append xs ys)))
 
-all_right : (P : List ℕ → Type 0) (xs ys : List (List ℕ)) → All P (xs ++ ys) → All P ys
+pub all_right : (P : List ℕ → Type 0) (xs ys : List (List ℕ)) → All P (xs ++ ys) → All P ys
 all_right P xs ys h k d within = subst P (get_or-append-add xs ys k d) (h (length xs + k) d (omega (arith, within, length-append xs ys)))
 
-no_names : NamesDiffer []
+pub no_names : NamesDiffer []
 no_names i j d below within = absurd (omega (arith, within))
 
-first_differs : (x : List ℕ) (xs : List (List ℕ)) → NamesDiffer (x ∷ xs) → All (λ y. x ≢ y) xs
+pub first_differs : (x : List ℕ) (xs : List (List ℕ)) → NamesDiffer (x ∷ xs) → All (λ y. x ≢ y) xs
 first_differs x xs h k d within = h 0 (suc k) d (omega arith) (omega (arith, within))
 
-rest_differ : (x : List ℕ) (xs : List (List ℕ)) → NamesDiffer (x ∷ xs) → NamesDiffer xs
+pub rest_differ : (x : List ℕ) (xs : List (List ℕ)) → NamesDiffer (x ∷ xs) → NamesDiffer xs
 rest_differ x xs h i j d below within = h (suc i) (suc j) d (omega (arith, below)) (omega (arith, within))
 
-map_differ : (f : List ℕ → List ℕ) → ((x y : List ℕ) → f x ≡ f y → x ≡ y) → (xs : List (List ℕ)) → NamesDiffer xs → NamesDiffer (map f xs)
+pub map_differ : (f : List ℕ → List ℕ) → ((x y : List ℕ) → f x ≡ f y → x ≡ y) → (xs : List (List ℕ)) → NamesDiffer xs → NamesDiffer (map f xs)
 map_differ f same [] h = no_names
 map_differ f same (x ∷ xs) h = AllPairs-cons (λ a b. a ≢ b) (f x) (map f xs)
     (All-map (λ y. f x ≢ y) f xs (All-weaker (λ y. x ≢ y) (λ y. f x ≢ f y) (λ y other e. other (same x y e)) xs (first_differs x xs h)))
     (map_differ f same xs (rest_differ x xs h))
 
-append_differ : (P Q : List ℕ → Type 0) → ((x y : List ℕ) → P x → Q y → x ≢ y) → (xs ys : List (List ℕ)) → All P xs → All Q ys → NamesDiffer xs → NamesDiffer ys → NamesDiffer (xs ++ ys)
+pub append_differ : (P Q : List ℕ → Type 0) → ((x y : List ℕ) → P x → Q y → x ≢ y) → (xs ys : List (List ℕ)) → All P xs → All Q ys → NamesDiffer xs → NamesDiffer ys → NamesDiffer (xs ++ ys)
 append_differ P Q apart [] ys ps qs h k = k
 append_differ P Q apart (x ∷ xs) ys ps qs h k = AllPairs-cons (λ a b. a ≢ b) x (xs ++ ys)
     (All-append (λ y. x ≢ y) xs ys (first_differs x xs h) (All-weaker Q (λ y. x ≢ y) (λ y q. apart x y (All-head P x xs ps) q) ys qs))
@@ -60,7 +61,7 @@ append_differ P Q apart (x ∷ xs) ys ps qs h k = AllPairs-cons (λ a b. a ≢ b
 start_is_byte : (b : ℕ) → is_name_start b ≡ true → is_name_byte b ≡ true
 start_is_byte b h = rw h refl
 
-bytes_of_name : (x : List ℕ) → is_name x ≡ true → list_all is_name_byte x ≡ true
+pub bytes_of_name : (x : List ℕ) → is_name x ≡ true → list_all is_name_byte x ≡ true
 bytes_of_name [] h = refl
 bytes_of_name (b ∷ x) h = let parts = and_parts (is_name_start b) (list_all is_name_byte x) h in
     subst (λ (q : Bool). (q && list_all is_name_byte x) ≡ true) (sym (start_is_byte b parts.0)) parts.1
@@ -113,7 +114,7 @@ unit_names p h (unit.Predicate n) = predicate_names p h n (slice_get p.predicate
 
 -- ---- as many types
 
-at_least : (sc : Scope) (b : Option Body) → sc.fresh ≤ variables_of sc b
+pub at_least : (sc : Scope) (b : Option Body) → sc.fresh ≤ variables_of sc b
 at_least sc None = omega arith
 at_least sc (Some b) = fresh-stmts_scope sc b.stmts
 

@@ -45,7 +45,7 @@ use Rattle.enc_expr.proofs.OpeningLaws.{Provides, provided, IsTaken, opening_ali
 -- ---- the body, and what is read inside
 
 -- the locals of the arguments are the variables of the body
-located_variable : {n : ℕ} {E : Env} (is : List ℕ) (vs : List Value) (us : List Ty) (i : ℕ) (u : Ty) → AreLocated n E is vs → FitsStore us vs → slice_get us i ≡ Some u → HasVariable u n (number is i) vs i E
+pub located_variable : {n : ℕ} {E : Env} (is : List ℕ) (vs : List Value) (us : List Ty) (i : ℕ) (u : Ty) → AreLocated n E is vs → FitsStore us vs → slice_get us i ≡ Some u → HasVariable u n (number is i) vs i E
 located_variable [] [] (y ∷ us) i u h fits there = elim fits [ ]
 located_variable [] (v ∷ vs) us i u h fits there = elim h [ ]
 located_variable (a ∷ is) [] us i u h fits there = elim h [ ]
@@ -102,7 +102,7 @@ values_fit {b} (alike.AreValues.more {u} {v = w} {vs} typed here rest) h = (prop
 
 -- maps that are none of the old state, where the body is read
 pub body_owns : (c : Context) (d : Predicate) (p : Place) (m : Maps) (is : List ℕ) → IsOwn c (with_now m p) → IsOwn (predicate_context c.program d) (with_now m (with_vars is p))
-body_owns c d p m is own = record { apart = own.apart; beside = own.beside }
+body_owns c d p m is own = own
 
 -- ---- the whole opening
 
@@ -132,7 +132,7 @@ module _ (ts : List BType) (b : Bound) (c : Context) (d : Predicate) (p : Place)
   pub instance_opened : (own : Maps) (sets : BStmts) (from : ℕ) → IsOwn c (with_now own p) → x ≤ from → ((G : Env) → IsCoupled b c x p s sc G → length G ≡ length ts → Provides ts b c.program.layout sets own s x from G) →
       (cs : List BChoice) → IsCoupled b c n p s sc E → IsAwake g n E → length E ≡ length ts → AreLocals ts n l.locals → AreLocals ts l.next a.locals → from < length ts →
       slice_get c.program.layout.keys q ≡ Some d.params → AreValues b n E xs d.params vs → All (IsProperValue b) vs → Some key ≡ key_of vs → Holds b n m.expr E (Real w) → IsProperFraction b w →
-      Alike (IsOpened b c d p own s sc q key vs w n from l.value.locals a.value.expr E) (taken b sc s q key w at) cs
+      Alike (IsOpened b c d p own s sc q key vs w n from l.value.locals a.value.expr E) b (taken b sc s q key w at) cs
       (brun ts b (guarded g (join l.value.sets (join a.value.sets (taking p own sets q (index l.value.locals) a.value.expr from at)))) E cs)
   instance_opened own sets from owns behind provides cs coupled awake full locals more_locals within there values proper is_key amount proper_amount =
       let set = located_set ts b n E xs d.params vs full values locals in
@@ -147,7 +147,7 @@ module _ (ts : List BType) (b : Bound) (c : Context) (d : Predicate) (p : Place)
       let here : AreLocated x G l.value.locals vs = located_more high put.sets.kept.same set.located in
       let full_here : length G ≡ length ts = kept.length ∙ full in
       let now = coupled_kept b c n x p s sc E G (omega (arith, low, high)) kept coupled in
-      let opens = opening_alike ts b c x p s sc G q d.params l.value.locals vs key a.value.expr w at now full_here there fits_key here is_key put.atom proper_amount own sets from owns.apart behind (provides G now full_here) cs
+      let opens = opening_alike ts b c x p s sc G q d.params l.value.locals vs key a.value.expr w at now full_here there fits_key here is_key put.atom proper_amount own sets from owns behind (provides G now full_here) cs
       (omega (arith, within, full_here)) proper_key in
       let body = taking p own sets q (index l.value.locals) a.value.expr from at in
       alike_run (guarded_awake ts b g n (join l.value.sets (join a.value.sets body)) E cs awake ∙ join_done ts b l.value.sets (join a.value.sets body) E F cs cs (set.sets.done cs) ∙ join_done ts b a.value.sets body F G cs cs (put.sets.done cs))
@@ -164,6 +164,6 @@ module _ (ts : List BType) (b : Bound) (c : Context) (d : Predicate) (p : Place)
   -- in the present maps, as by `unfold`
   pub place_opened : (cs : List BChoice) → IsOwn c p → IsCoupled b c n p s sc E → IsAwake g n E → length E ≡ length ts → AreLocals ts n l.locals → AreLocals ts l.next a.locals → x < length ts →
       slice_get c.program.layout.keys q ≡ Some d.params → AreValues b n E xs d.params vs → All (IsProperValue b) vs → Some key ≡ key_of vs → Holds b n m.expr E (Real w) → IsProperFraction b w →
-      Alike (IsOpened b c d p p.now s sc q key vs w n x l.value.locals a.value.expr E) (taken b sc s q key w at) cs
+      Alike (IsOpened b c d p p.now s sc q key vs w n x l.value.locals a.value.expr E) b (taken b sc s q key w at) cs
       (brun ts b (guarded g (join l.value.sets (join a.value.sets (taking p p.now skip q (index l.value.locals) a.value.expr x at)))) E cs)
   place_opened cs own = instance_opened p.now skip x own (omega arith) (λ G now long. provided ts b c.program.layout p.now s x x G (omega arith) now.now) cs

@@ -19,7 +19,9 @@ use Rattle.boogie_tree.specs.declared.exprs.BBase.TheVariants as base
 use Rattle.boogie_tree.specs.Values.{plain_type, is_key, AreKeys}
 use Rattle.boogie_meaning.specs.Programs.{HaveKeys}
 use Rattle.enc_expr.specs.Place.{Place, number, with_now, with_vars}
-use Rattle.enc_expr.specs.Kinds.{Kinds, base_for, type_at, body_kinds, index_types, heap_type, mask_type, amount_type, content_type, state_types}
+use Rattle.moves.specs.Scalars.{base_for}
+use Rattle.moves.specs.Maps.{index_types, heap_type, mask_type, amount_type, content_type, state_types}
+use Rattle.enc_expr.specs.Kinds.{Kinds, type_at, body_kinds}
 use Rattle.enc_expr.specs.Code.{Emitting, join, gives, then_emit, declares, declares_all, Guard, puts, guards}
 use Rattle.enc_expr.specs.Pieces.{Operand, Located, is_atom, in_local, atomic, located_from, located, index, at_one, one, label, zero_real, check_divisor}
 use Rattle.enc_expr.specs.Operators.{operand_of, quotient_operand, division, right_counts, lazy_operand, lazily, in_class_code, chosen_operand, choose_code}
@@ -43,7 +45,7 @@ then_keyed {m = m} {go = go} h g = record { keys = λ n. All-append has_keys (m 
 pub plain_keyed : (u : BBase) → IsKeyed (declares (plain_type u))
 plain_keyed u = record { keys = λ n. All-cons has_keys (plain_type u) [] (All-nil (λ w. is_key w ≡ true)) (All-nil has_keys) }
 
-all_keyed : (us : List BType) → HaveKeys us → IsKeyed (declares_all us)
+pub all_keyed : (us : List BType) → HaveKeys us → IsKeyed (declares_all us)
 all_keyed us h = record { keys = λ n. h }
 
 pub puts_keyed : (g : Guard) (xs : BStmts) → IsKeyed (puts g xs)

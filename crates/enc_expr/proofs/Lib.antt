@@ -14,6 +14,9 @@ pub mod KeyedCode
 pub mod TypedCode
 pub mod ShallowPieces
 pub mod ShallowCode
+pub mod LiteralPieces
+pub mod LiteralCode
+pub mod PrintedCode
 pub mod SmallPieces
 pub mod SmallCode
 pub mod FrontLaws
@@ -37,3 +40,5 @@ pub mod BlockLaws
 pub mod EmittedForms
 pub mod EmittedParts
 pub mod Rows
+pub mod ReadOffLaws
+pub mod CopyingLaws

@@ -1,5 +1,5 @@
 -- Maps that are coupled: their values, what is put into them, and what stands beside.
-use Rattle.std.proofs.Common.{◌≡◌, ◌≢◌, ◌<◌, ℕ, Bool, true, false, List, [], ◌∷◌, map, Option, Some, None, slice_get, slice_set, ◌⊎◌, inl, inr, zero, suc, refl, sym, ap, subst, ◌∙◌, arith}
+use Rattle.std.proofs.Common.{◌≡◌, ◌≢◌, ◌<◌, ℕ, Bool, true, false, List, [], ◌∷◌, Option, Some, None, slice_get, slice_set, ◌⊎◌, inl, inr, zero, suc, refl, sym, ap, subst, ◌∙◌, arith}
 use Rattle.std.specs.BTreeMap.{is_at}
 use Rattle.std.specs.Option.{option_map}
 use Rattle.std.specs.declared.cmp.Ordering.{Ordering}
@@ -15,13 +15,12 @@ use Rattle.vb_value.specs.Bound.{Bound}
 use Rattle.vb_value.specs.Key.{key_cmp}
 use Rattle.vb_value.specs.Value.{type_of, IsReducedValue}
 use Rattle.vb_value.specs.declared.keys.KeyPart.{KeyPart}
-use Rattle.vb_value.specs.declared.keys.KeyPart.TheVariants as part
 use Rattle.vb_value.specs.declared.values.Ty.{Ty}
 use Rattle.vb_value.specs.declared.values.Value.TheVariants as v
 use Rattle.vb_value.specs.declared.values.Value.{Value}
 use Rattle.vb_value.specs.Content.{Content, IsReducedContent}
 use Rattle.vb_value.specs.Fraction.{Fraction, IsReduced as IsLowest}
-use Rattle.viper_state.specs.Fits.{FitsKey, part_type}
+use Rattle.viper_state.specs.Fits.{FitsKey}
 use Rattle.viper_state.specs.State.{State, found_at, changed, changed_at, with_value, with_mask, with_content, with_amount}
 use Rattle.viper_state.proofs.MapLaws.{exact_values, exact_masks, exact_amounts, exact_contents}
 use Rattle.viper_state.proofs.Paired.{get_set_other, get_set_same}
@@ -35,13 +34,13 @@ use Rattle.boogie_tree.specs.Value.{Key, BScalar, BValue, Many, Real, Snap, same
 use Rattle.boogie_tree.specs.Values as b
 use Rattle.boogie_meaning.specs.Ends.{Is}
 use Rattle.boogie_meaning.specs.Quantified.{bvalue, bkey}
-use Rattle.run_file.specs.BoogieLines.{scalar}
-use Rattle.run_file.specs.Moves.{instance_key, place_key}
+use Rattle.moves.specs.Scalars.{scalar, base_for}
+use Rattle.moves.specs.Maps.{instance_key, place_key}
+use Rattle.moves.proofs.MapLaws.{scalar_fits, instance_fits}
 use Rattle.viper_core.specs.Typing.{Context}
 use Rattle.viper_meaning.specs.Places.{key_of, key_part, in_front}
 use Rattle.enc_expr.specs.Place as place
-use Rattle.enc_expr.specs.Place.{Spot, IsSpot, local_at, Maps, Place, number, AreApart, AreBeside, IsLocalOf}
-use Rattle.enc_expr.specs.Kinds.{base_for, index_types}
+use Rattle.enc_expr.specs.Place.{Spot, IsSpot, local_at, Maps, number, AreApart}
 use Rattle.enc_expr.specs.Pieces.{index, variables}
 use Rattle.enc_expr.specs.Coupling.{Env, MapKind, HasMap, HasMaps, heap_kind, mask_kind, amount_kind, content_kind}
 use Rattle.enc_expr.specs.Alike.{AreLocated, none, more}
@@ -67,23 +66,6 @@ instance_apart [] (x ∷ a) c h g e = absurd h
 instance_apart (u ∷ us) [] c h g e = absurd h
 instance_apart (u ∷ us) (x ∷ a) [] h g e = absurd g
 instance_apart (u ∷ us) (x ∷ a) (y ∷ c) h g e = e
-
-part_fits : (x : KeyPart) → b.base_of_part x ≡ base_for (part_type x)
-part_fits (part.Int n) = refl
-part_fits (part.Bool q) = refl
-part_fits (part.Ref r) = refl
-
-parts_fit : (us : List Ty) (a : Key) → FitsKey us a → b.FitsKey (map base_for us) a
-parts_fit [] [] h = tt
-parts_fit [] (x ∷ a) h = absurd h
-parts_fit (u ∷ us) [] h = absurd h
-parts_fit (u ∷ us) (x ∷ a) h = (part_fits x ∙ ap base_for h.0, parts_fit us a h.1)
-
-pub instance_fits : (us : List Ty) (a : Key) → FitsKey us a → b.FitsKey (index_types us) (instance_key a)
-instance_fits [] [] h = (refl, tt)
-instance_fits [] (x ∷ a) h = absurd h
-instance_fits (u ∷ us) [] h = absurd h
-instance_fits (u ∷ us) (x ∷ a) h = (part_fits x ∙ ap base_for h.0, parts_fit us a h.1)
 
 pub amount_is_kind : (us : List Ty) → IsKind (amount_kind us)
 amount_is_kind us = record { exact = exact_amounts; apart = instance_apart us; fits = instance_fits us }
@@ -187,34 +169,28 @@ at_each {U} us P i u there here others j w has = elim (same_or i j) [
   | inr n ↦ others j w has n
 ]
 
-pub scalar_fits : (v : Value) → IsReducedValue v → b.FitsScalar (base_for (type_of v)) (scalar v)
-scalar_fits (v.Int n) h = record { typed = refl; reduced = tt }
-scalar_fits (v.Bool q) h = record { typed = refl; reduced = tt }
-scalar_fits (v.Ref r) h = record { typed = refl; reduced = tt }
-scalar_fits (v.Perm q) h = record { typed = refl; reduced = h }
-
 -- ---- a state: one map of the present state is changed at a key
 
-same_heap : {f g : ℕ} → place.Heap f ≡ place.Heap g → f ≡ g
+pub same_heap : {f g : ℕ} → place.Heap f ≡ place.Heap g → f ≡ g
 same_heap e = cc
 
-same_mask : {f g : ℕ} → place.Mask f ≡ place.Mask g → f ≡ g
+pub same_mask : {f g : ℕ} → place.Mask f ≡ place.Mask g → f ≡ g
 same_mask e = cc
 
-same_amount : {f g : ℕ} → place.Amount f ≡ place.Amount g → f ≡ g
+pub same_amount : {f g : ℕ} → place.Amount f ≡ place.Amount g → f ≡ g
 same_amount e = cc
 
-same_content : {f g : ℕ} → place.Content f ≡ place.Content g → f ≡ g
+pub same_content : {f g : ℕ} → place.Content f ≡ place.Content g → f ≡ g
 same_content e = cc
 
-module _ (c : Context) (n : ℕ) (m : Maps) (s : State) (E : Env) (apart : AreApart c.program.layout m) (h : HasMaps c.program.layout n m s E) where
+module _ {P : Spot → Type 0} {O : ℕ → Type 0} (c : Context) (n : ℕ) (m : Maps) (s : State) (E : Env) (own : AreApart P O c.program.layout m) (h : HasMaps c.program.layout n m s E) where
   -- the local of another map
-  beside : (i j : Spot) → IsSpot c.program.layout i → IsSpot c.program.layout j → (i ≡ j → ⊥) → (w : BValue) → slice_get (slice_set E (local_at m i) w) (local_at m j) ≡ slice_get E (local_at m j)
-  beside i j there here other w = set_there E (local_at m i) (local_at m j) w (λ e. other (apart i j there here e))
+  beside : (i j : Spot) → P i → IsSpot c.program.layout i → IsSpot c.program.layout j → (i ≡ j → ⊥) → (w : BValue) → slice_get (slice_set E (local_at m i) w) (local_at m j) ≡ slice_get E (local_at m j)
+  beside i j mine there here other w = set_there E (local_at m i) (local_at m j) w (λ e. other (own.apart i j mine there here e))
 
-  pub value_written : (f : ℕ) (u : Ty) (r : ℕ) (v : Value) (there : slice_get c.program.layout.fields f ≡ Some u) → type_of v ≡ u → IsReducedValue v →
+  pub value_written : (f : ℕ) (u : Ty) (r : ℕ) (v : Value) (there : slice_get c.program.layout.fields f ≡ Some u) → P (place.Heap f) → type_of v ≡ u → IsReducedValue v →
       HasMaps c.program.layout n m (with_value s f r v) (slice_set E (number m.heap f) (Many (set key_cmp same_scalar (h.heap f u there).image (place_key r) (scalar v))))
-  value_written f u r v there typed reduced =
+  value_written f u r v there mine typed reduced =
       let old = h.heap f u there in let i = number m.heap f in let w = Many (set key_cmp same_scalar old.image (place_key r) (scalar v)) in
       let F = slice_set E i w in let new = with_value s f r v in let at = place.Heap f in
       let exists = slice_get_within c.program.layout.fields f u there in
@@ -222,76 +198,76 @@ module _ (c : Context) (n : ℕ) (m : Maps) (s : State) (E : Env) (apart : AreAp
         heap = at_each c.program.layout.fields (λ (g : ℕ) (y : Ty). HasMap (heap_kind y) n (number m.heap g) new.heap g F) f u there
             (map_written (heap_kind u) (heap_is_kind u) n i s.heap f E r v old tt (subst (λ w. b.FitsScalar (base_for w) (scalar v)) typed (scalar_fits v reduced)))
             (λ g y has other. map_beside (heap_kind y) n (number m.heap g) i s.heap g f E r v w (λ e. other (sym e))
-            (λ e. other (same_heap (apart at (place.Heap g) exists (slice_get_within c.program.layout.fields g y has) (sym e)))) (h.heap g y has));
-        mask = λ g y has. map_apart mask_kind n n (number m.mask g) s.mask g E F (λ l. l) (beside at (place.Mask g) exists (slice_get_within c.program.layout.fields g y has) (λ e. cc) w) (h.mask g y has);
-        amount = λ g ys has. map_apart (amount_kind ys) n n (number m.amount g) s.amount g E F (λ l. l) (beside at (place.Amount g) exists (slice_get_within c.program.layout.keys g ys has) (λ e. cc) w) (h.amount g ys has);
-        content = λ g ys has. map_apart (content_kind ys) n n (number m.content g) s.content g E F (λ l. l) (beside at (place.Content g) exists (slice_get_within c.program.layout.keys g ys has) (λ e. cc) w) (h.content g ys has);
+            (λ e. other (same_heap (own.apart at (place.Heap g) mine exists (slice_get_within c.program.layout.fields g y has) (sym e)))) (h.heap g y has));
+        mask = λ g y has. map_apart mask_kind n n (number m.mask g) s.mask g E F (λ l. l) (beside at (place.Mask g) mine exists (slice_get_within c.program.layout.fields g y has) (λ e. cc) w) (h.mask g y has);
+        amount = λ g ys has. map_apart (amount_kind ys) n n (number m.amount g) s.amount g E F (λ l. l) (beside at (place.Amount g) mine exists (slice_get_within c.program.layout.keys g ys has) (λ e. cc) w) (h.amount g ys has);
+        content = λ g ys has. map_apart (content_kind ys) n n (number m.content g) s.content g E F (λ l. l) (beside at (place.Content g) mine exists (slice_get_within c.program.layout.keys g ys has) (λ e. cc) w) (h.content g ys has);
       }
 
-  pub mask_written : (f : ℕ) (u : Ty) (r : ℕ) (q : Fraction) (there : slice_get c.program.layout.fields f ≡ Some u) → IsLowest q →
+  pub mask_written : (f : ℕ) (u : Ty) (r : ℕ) (q : Fraction) (there : slice_get c.program.layout.fields f ≡ Some u) → P (place.Mask f) → IsLowest q →
       HasMaps c.program.layout n m (with_mask s f r q) (slice_set E (number m.mask f) (Many (set key_cmp same_scalar (h.mask f u there).image (place_key r) (Real q))))
-  mask_written f u r q there reduced =
+  mask_written f u r q there mine reduced =
       let old = h.mask f u there in let i = number m.mask f in let w = Many (set key_cmp same_scalar old.image (place_key r) (Real q)) in
       let F = slice_set E i w in let new = with_mask s f r q in let at = place.Mask f in
       let exists = slice_get_within c.program.layout.fields f u there in
       record {
-        heap = λ g y has. map_apart (heap_kind y) n n (number m.heap g) s.heap g E F (λ l. l) (beside at (place.Heap g) exists (slice_get_within c.program.layout.fields g y has) (λ e. cc) w) (h.heap g y has);
+        heap = λ g y has. map_apart (heap_kind y) n n (number m.heap g) s.heap g E F (λ l. l) (beside at (place.Heap g) mine exists (slice_get_within c.program.layout.fields g y has) (λ e. cc) w) (h.heap g y has);
         mask = at_each c.program.layout.fields (λ (g : ℕ) (y : Ty). HasMap mask_kind n (number m.mask g) new.mask g F) f u there
             (map_written mask_kind mask_is_kind n i s.mask f E r q old tt (record { typed = refl; reduced = reduced }))
             (λ g y has other. map_beside mask_kind n (number m.mask g) i s.mask g f E r q w (λ e. other (sym e))
-            (λ e. other (same_mask (apart at (place.Mask g) exists (slice_get_within c.program.layout.fields g y has) (sym e)))) (h.mask g y has));
-        amount = λ g ys has. map_apart (amount_kind ys) n n (number m.amount g) s.amount g E F (λ l. l) (beside at (place.Amount g) exists (slice_get_within c.program.layout.keys g ys has) (λ e. cc) w) (h.amount g ys has);
-        content = λ g ys has. map_apart (content_kind ys) n n (number m.content g) s.content g E F (λ l. l) (beside at (place.Content g) exists (slice_get_within c.program.layout.keys g ys has) (λ e. cc) w) (h.content g ys has);
+            (λ e. other (same_mask (own.apart at (place.Mask g) mine exists (slice_get_within c.program.layout.fields g y has) (sym e)))) (h.mask g y has));
+        amount = λ g ys has. map_apart (amount_kind ys) n n (number m.amount g) s.amount g E F (λ l. l) (beside at (place.Amount g) mine exists (slice_get_within c.program.layout.keys g ys has) (λ e. cc) w) (h.amount g ys has);
+        content = λ g ys has. map_apart (content_kind ys) n n (number m.content g) s.content g E F (λ l. l) (beside at (place.Content g) mine exists (slice_get_within c.program.layout.keys g ys has) (λ e. cc) w) (h.content g ys has);
       }
 
-  pub amount_written : (q : ℕ) (us : List Ty) (a : Key) (x : Fraction) (there : slice_get c.program.layout.keys q ≡ Some us) → FitsKey us a → IsLowest x →
+  pub amount_written : (q : ℕ) (us : List Ty) (a : Key) (x : Fraction) (there : slice_get c.program.layout.keys q ≡ Some us) → P (place.Amount q) → FitsKey us a → IsLowest x →
       HasMaps c.program.layout n m (with_amount s q a x) (slice_set E (number m.amount q) (Many (set key_cmp same_scalar (h.amount q us there).image (instance_key a) (Real x))))
-  amount_written q us a x there fits reduced =
+  amount_written q us a x there mine fits reduced =
       let old = h.amount q us there in let i = number m.amount q in let w = Many (set key_cmp same_scalar old.image (instance_key a) (Real x)) in
       let F = slice_set E i w in let new = with_amount s q a x in let at = place.Amount q in
       let exists = slice_get_within c.program.layout.keys q us there in
       record {
-        heap = λ g y has. map_apart (heap_kind y) n n (number m.heap g) s.heap g E F (λ l. l) (beside at (place.Heap g) exists (slice_get_within c.program.layout.fields g y has) (λ e. cc) w) (h.heap g y has);
-        mask = λ g y has. map_apart mask_kind n n (number m.mask g) s.mask g E F (λ l. l) (beside at (place.Mask g) exists (slice_get_within c.program.layout.fields g y has) (λ e. cc) w) (h.mask g y has);
+        heap = λ g y has. map_apart (heap_kind y) n n (number m.heap g) s.heap g E F (λ l. l) (beside at (place.Heap g) mine exists (slice_get_within c.program.layout.fields g y has) (λ e. cc) w) (h.heap g y has);
+        mask = λ g y has. map_apart mask_kind n n (number m.mask g) s.mask g E F (λ l. l) (beside at (place.Mask g) mine exists (slice_get_within c.program.layout.fields g y has) (λ e. cc) w) (h.mask g y has);
         amount = at_each c.program.layout.keys (λ (g : ℕ) (ys : List Ty). HasMap (amount_kind ys) n (number m.amount g) new.amount g F) q us there
             (map_written (amount_kind us) (amount_is_kind us) n i s.amount q E a x old fits (record { typed = refl; reduced = reduced }))
             (λ g ys has other. map_beside (amount_kind ys) n (number m.amount g) i s.amount g q E a x w (λ e. other (sym e))
-            (λ e. other (same_amount (apart at (place.Amount g) exists (slice_get_within c.program.layout.keys g ys has) (sym e)))) (h.amount g ys has));
-        content = λ g ys has. map_apart (content_kind ys) n n (number m.content g) s.content g E F (λ l. l) (beside at (place.Content g) exists (slice_get_within c.program.layout.keys g ys has) (λ e. cc) w) (h.content g ys has);
+            (λ e. other (same_amount (own.apart at (place.Amount g) mine exists (slice_get_within c.program.layout.keys g ys has) (sym e)))) (h.amount g ys has));
+        content = λ g ys has. map_apart (content_kind ys) n n (number m.content g) s.content g E F (λ l. l) (beside at (place.Content g) mine exists (slice_get_within c.program.layout.keys g ys has) (λ e. cc) w) (h.content g ys has);
       }
 
-  pub content_written : (q : ℕ) (us : List Ty) (a : Key) (d : Content) (there : slice_get c.program.layout.keys q ≡ Some us) → FitsKey us a → IsReducedContent d →
+  pub content_written : (q : ℕ) (us : List Ty) (a : Key) (d : Content) (there : slice_get c.program.layout.keys q ≡ Some us) → P (place.Content q) → FitsKey us a → IsReducedContent d →
       HasMaps c.program.layout n m (with_content s q a d) (slice_set E (number m.content q) (Many (set key_cmp same_scalar (h.content q us there).image (instance_key a) (Snap d))))
-  content_written q us a d there fits reduced =
+  content_written q us a d there mine fits reduced =
       let old = h.content q us there in let i = number m.content q in let w = Many (set key_cmp same_scalar old.image (instance_key a) (Snap d)) in
       let F = slice_set E i w in let new = with_content s q a d in let at = place.Content q in
       let exists = slice_get_within c.program.layout.keys q us there in
       record {
-        heap = λ g y has. map_apart (heap_kind y) n n (number m.heap g) s.heap g E F (λ l. l) (beside at (place.Heap g) exists (slice_get_within c.program.layout.fields g y has) (λ e. cc) w) (h.heap g y has);
-        mask = λ g y has. map_apart mask_kind n n (number m.mask g) s.mask g E F (λ l. l) (beside at (place.Mask g) exists (slice_get_within c.program.layout.fields g y has) (λ e. cc) w) (h.mask g y has);
-        amount = λ g ys has. map_apart (amount_kind ys) n n (number m.amount g) s.amount g E F (λ l. l) (beside at (place.Amount g) exists (slice_get_within c.program.layout.keys g ys has) (λ e. cc) w) (h.amount g ys has);
+        heap = λ g y has. map_apart (heap_kind y) n n (number m.heap g) s.heap g E F (λ l. l) (beside at (place.Heap g) mine exists (slice_get_within c.program.layout.fields g y has) (λ e. cc) w) (h.heap g y has);
+        mask = λ g y has. map_apart mask_kind n n (number m.mask g) s.mask g E F (λ l. l) (beside at (place.Mask g) mine exists (slice_get_within c.program.layout.fields g y has) (λ e. cc) w) (h.mask g y has);
+        amount = λ g ys has. map_apart (amount_kind ys) n n (number m.amount g) s.amount g E F (λ l. l) (beside at (place.Amount g) mine exists (slice_get_within c.program.layout.keys g ys has) (λ e. cc) w) (h.amount g ys has);
         content = at_each c.program.layout.keys (λ (g : ℕ) (ys : List Ty). HasMap (content_kind ys) n (number m.content g) new.content g F) q us there
             (map_written (content_kind us) (content_is_kind us) n i s.content q E a d old fits (record { typed = refl; reduced = reduced }))
             (λ g ys has other. map_beside (content_kind ys) n (number m.content g) i s.content g q E a d w (λ e. other (sym e))
-            (λ e. other (same_content (apart at (place.Content g) exists (slice_get_within c.program.layout.keys g ys has) (sym e)))) (h.content g ys has));
+            (λ e. other (same_content (own.apart at (place.Content g) mine exists (slice_get_within c.program.layout.keys g ys has) (sym e)))) (h.content g ys has));
       }
 
 -- ---- indices of instances
 
 -- the parts of a key
-record IsFront (p : Option KeyPart) (o : Option Key) (a : Key) : Type 0 where
+pub record IsFront (p : Option KeyPart) (o : Option Key) (a : Key) : Type 0 where
   pub first_part : KeyPart
   pub others : Key
   pub first_is : p ≡ Some first_part
   pub others_are : o ≡ Some others
   pub whole : a ≡ first_part ∷ others
 
-front_of : (p : Option KeyPart) (o : Option Key) (a : Key) → Some a ≡ in_front p o → IsFront p o a
+pub front_of : (p : Option KeyPart) (o : Option Key) (a : Key) → Some a ≡ in_front p o → IsFront p o a
 front_of (Some x) (Some k) a h = record { first_part = x; others = k; first_is = refl; others_are = refl; whole = same_Some _ _ h }
 front_of (Some x) None a h = absurd cc
 front_of None o a h = absurd cc
 
-part_there : (v : Value) (x : KeyPart) → key_part v ≡ Some x → part_of (scalar v) ≡ Is x
+pub part_there : (v : Value) (x : KeyPart) → key_part v ≡ Some x → part_of (scalar v) ≡ Is x
 part_there (v.Int n) x h = ap (λ (x : KeyPart). Is x) (same_Some _ _ h)
 part_there (v.Bool q) x h = ap (λ (x : KeyPart). Is x) (same_Some _ _ h)
 part_there (v.Ref r) x h = ap (λ (x : KeyPart). Is x) (same_Some _ _ h)

@@ -40,8 +40,8 @@ use Rattle.boogie_meaning.specs.Value.{map_in}
 use Rattle.boogie_meaning.specs.Quantified.{bvalue, bkey}
 use Rattle.boogie_meaning.specs.Run.{Run, Done, Stops, Stop, Failed, with_end, put_value, then_run, brun}
 use Rattle.boogie_meaning.proofs.PatternLaws.{set_here}
-use Rattle.run_file.specs.Moves.{instance_key}
-use Rattle.enc_expr.specs.Place.{Maps, Place, number, Amount, IsLocalOf, AreApart}
+use Rattle.moves.specs.Maps.{instance_key}
+use Rattle.enc_expr.specs.Place.{Maps, Place, number, Amount, IsAnySpot, IsLocalOf, AreApart}
 use Rattle.enc_expr.specs.Code.{join}
 use Rattle.enc_expr.specs.Encoding.{taking}
 use Rattle.enc_expr.specs.Coupling.{Env, IsSound, IsCoupled, HasMaps, amount_kind, content_kind}
@@ -59,25 +59,25 @@ pub after_nothing : {X : Type 0} (e : Evaluated X) → after [] e ≡ e
 after_nothing (ends events end) = refl
 
 -- one run in place of another that is the same
-pub alike_run : {X : Type 0} {Q : X → Env → Type 0} {e : Evaluated X} {cs : List BChoice} {r q : Run} → r ≡ q → Alike Q e cs q → Alike Q e cs r
-alike_run {Q} {e} {cs} same h = subst (Alike Q e cs) (sym same) h
+pub alike_run : {b : Bound} {X : Type 0} {Q : X → Env → Type 0} {e : Evaluated X} {cs : List BChoice} {r q : Run} → r ≡ q → Alike Q b e cs q → Alike Q b e cs r
+alike_run {b} {Q = Q} {e} {cs} same h = subst (Alike Q b e cs) (sym same) h
 
-pub alike_of : {X : Type 0} {Q : X → Env → Type 0} {e f : Evaluated X} {cs : List BChoice} {r : Run} → e ≡ f → Alike Q f cs r → Alike Q e cs r
-alike_of {Q} {cs} {r} same h = subst (λ e. Alike Q e cs r) (sym same) h
+pub alike_of : {b : Bound} {X : Type 0} {Q : X → Env → Type 0} {e f : Evaluated X} {cs : List BChoice} {r : Run} → e ≡ f → Alike Q b f cs r → Alike Q b e cs r
+alike_of {b} {Q = Q} {cs = cs} {r} same h = subst (λ e. Alike Q b e cs r) (sym same) h
 
 -- what there is
-pub found_alike : {X Y : Type 0} {Q : Y → Env → Type 0} {cs : List BChoice} {r : Run} (o : Option X) (x : X) (go : X → Evaluated Y) → o ≡ Some x → Alike Q (go x) cs r → Alike Q (then_with (found o) go) cs r
+pub found_alike : {b : Bound} {X Y : Type 0} {Q : Y → Env → Type 0} {cs : List BChoice} {r : Run} (o : Option X) (x : X) (go : X → Evaluated Y) → o ≡ Some x → Alike Q b (go x) cs r → Alike Q b (then_with (found o) go) cs r
 found_alike o x go same h = alike_of (ap (λ o. then_with (found o) go) same ∙ after_nothing (go x)) h
 
 -- a number that the code computes too: either it is within the bound, or nothing is said
 pub fitting_alike : {X Y W : Type 0} {Q : Y → Env → Type 0} {cs : List BChoice} {r : Run} (b : Bound) (fits : Truth) (at : Pos) (x : X) (go : X → Evaluated Y) (w : W) (e : end.End W) → e ≡ end.fitting b fits w →
-    (e ≡ end.Is w → Alike Q (go x) cs r) → Alike Q (then_with (fitting b fits at x) go) cs r
+    (e ≡ end.Is w → Alike Q b (go x) cs r) → Alike Q b (then_with (fitting b fits at x) go) cs r
 fitting_alike Unbounded fits at x go w e same h = alike_of (after_nothing (go x)) (h same)
 fitting_alike Bounded true at x go w e same h = alike_of (after_nothing (go x)) (h same)
-fitting_alike Bounded false at x go w e same h = over
+fitting_alike Bounded false at x go w e same h = over refl (record { same = refl })
 
-pub unless_alike : {X : Type 0} {Q : X → Env → Type 0} {instead go : Evaluated X} {cs : List BChoice} {r : Run} (test : Truth) → (test ≡ true → Alike Q instead cs r) → (test ≡ false → Alike Q go cs r) →
-    Alike Q (unless test instead go) cs r
+pub unless_alike : {b : Bound} {X : Type 0} {Q : X → Env → Type 0} {instead go : Evaluated X} {cs : List BChoice} {r : Run} (test : Truth) → (test ≡ true → Alike Q b instead cs r) → (test ≡ false → Alike Q b go cs r) →
+    Alike Q b (unless test instead go) cs r
 unless_alike true f g = f refl
 unless_alike false f g = g refl
 
@@ -90,9 +90,9 @@ false_not true h = sym h
 false_not false h = refl
 
 -- the same failure
-pub fails_alike : {X : Type 0} {Q : X → Env → Type 0} {cs : List BChoice} (p : Place) (sc : Scene) (part : Pos) (kind : Kind) → p.at ≡ sc.at → Alike Q (fails sc part kind) cs (Stops (Failed (label p part kind)) cs)
-fails_alike {Q} {cs} p sc part kind same =
-    subst (λ at. Alike Q (ends [] (Fails (record { at = at; part = part; kind = kind }))) cs (Stops (Failed (label p part kind)) cs)) same (failed (record { same = refl }))
+pub fails_alike : {b : Bound} {X : Type 0} {Q : X → Env → Type 0} {cs : List BChoice} (p : Place) (sc : Scene) (part : Pos) (kind : Kind) → p.at ≡ sc.at → Alike Q b (fails sc part kind) cs (Stops (Failed (label p part kind)) cs)
+fails_alike {b} {Q = Q} {cs} p sc part kind same =
+    subst (λ at. Alike Q b (ends [] (Fails (record { at = at; part = part; kind = kind }))) cs (Stops (Failed (label p part kind)) cs)) same (failed (record { same = refl }))
 
 module _ (ts : List BType) (b : Bound) where
   pub stops_first : (xs ys : BStmts) (E : Env) (why : Stop) (cs rest : List BChoice) → brun ts b xs E cs ≡ Stops why rest → brun ts b (join xs ys) E cs ≡ Stops why rest
@@ -130,7 +130,7 @@ pub record IsTaken (layout : Layout) (m : Maps) (x from : ℕ) (s : State) (q : 
 
 module _ (ts : List BType) (b : Bound) (c : Context) (x : ℕ) (p : Place) (s : State) (sc : Scene) (E : Env) (q : ℕ) (us : List Ty) (is : List ℕ) (vs : List Value) (key : Key) (amount : t.BExpr) (w : Fraction) (at : Pos)
     (coupled : IsCoupled b c x p s sc E) (full : length E ≡ length ts) (there : slice_get c.program.layout.keys q ≡ Some us) (fits : FitsKey us key) (located : AreLocated x E is vs) (same_key : Some key ≡ key_of vs)
-    (atom : HasAtom x E amount (Real w)) (proper : IsProperFraction b w) (own : Maps) (sets : BStmts) (from : ℕ) (apart : AreApart c.program.layout own) (high : x ≤ from)
+    (atom : HasAtom x E amount (Real w)) (proper : IsProperFraction b w) (own : Maps) (sets : BStmts) (from : ℕ) {O : ℕ → Type 0} (apart : AreApart IsAnySpot O c.program.layout own) (high : x ≤ from)
     (provides : Provides ts b c.program.layout sets own s x from E) where
   abbrev layout : Layout
   layout = c.program.layout
@@ -157,7 +157,7 @@ module _ (ts : List BType) (b : Bound) (c : Context) (x : ℕ) (p : Place) (s : 
 
   -- in the maps the amount is taken, where the difference is within the bound
   changes_alike : (cs : List BChoice) → from < length E → is_positive w ≡ true →
-      Alike Taken (then_with (fitting b (fits_difference held w) at (difference held w)) (λ left. is_end (with_amount s q key left))) cs (brun ts b changes provides.after cs)
+      Alike Taken b (then_with (fitting b (fits_difference held w) at (difference held w)) (λ left. is_end (with_amount s q key left))) cs (brun ts b changes provides.after cs)
   changes_alike cs within positive =
       let F = provides.after in let i = number own.amount q in let j = number own.content q in
       let has = provides.maps.amount q us there in
@@ -170,8 +170,8 @@ module _ (ts : List BType) (b : Bound) (c : Context) (x : ℕ) (p : Place) (s : 
       let minus : bvalue b (t.Bin op.Sub (t.At i (index is)) amount) F ≡ end.fitting b (fits_difference held w) (Real (difference held w)) = λ k. m.binary b op.Sub (left k) (right k) in
       fitting_alike b (fits_difference held w) at (difference held w) _ (Real (difference held w)) _ minus (λ value.
       let F2 = slice_set F i (Many (set key_cmp same_scalar has.image (instance_key key) (Real (difference held w)))) in
-      let maps = amount_written c from own s F apart provides.maps q us key (difference held w) there fits (IsReduced-difference held w held_reduced proper.reduced) in
-      let kept2 : KeptBut (IsLocalOf layout own) x F F2 = but_set x F i _ (record { spot = Amount q; exists = slice_get_within layout.keys q us there; there = refl }) in
+      let maps = amount_written c from own s F apart provides.maps q us key (difference held w) there tt fits (IsReduced-difference held w held_reduced proper.reduced) in
+      let kept2 : KeptBut (IsLocalOf layout own) x F F2 = but_set x F i _ (record { spot = Amount q; kind = tt; exists = slice_get_within layout.keys q us there; there = refl }) in
       let singles2 : Singles x F F2 = singles_put x F i has.image _ has.here in
       let has2 = maps.content q us there in
       let key2 : bkey b (index is) F2 ≡ end.Is (instance_key key) = index_key b x F2 is vs key (located_single (omega arith) singles2 located1) same_key in
@@ -192,7 +192,7 @@ module _ (ts : List BType) (b : Bound) (c : Context) (x : ℕ) (p : Place) (s : 
 
   -- the tests of the present state, the statements, and the changes
   pub taking_alike : (cs : List BChoice) → from < length E →
-      Alike Taken (taken b sc s q key w at) cs (brun ts b (taking p own sets q (index is) amount from at) E cs)
+      Alike Taken b (taken b sc s q key w at) cs (brun ts b (taking p own sets q (index is) amount from at) E cs)
   taking_alike cs within =
       let none_asked = label p at kind.Amount in let missing = label p at kind.Perm in
       let key_there : bkey b (index is) E ≡ end.Is (instance_key key) = index_key b x E is vs key located same_key in
@@ -218,7 +218,7 @@ module _ (ts : List BType) (b : Bound) (c : Context) (x : ℕ) (p : Place) (s : 
   TakenSoundly less F = Taken less F × IsSound b layout less
 
   pub opening_alike : (cs : List BChoice) → from < length E → IsProperKey b key →
-      Alike TakenSoundly (taken b sc s q key w at) cs (brun ts b (taking p own sets q (index is) amount from at) E cs)
+      Alike TakenSoundly b (taken b sc s q key w at) cs (brun ts b (taking p own sets q (index is) amount from at) E cs)
   opening_alike cs within proper_key =
       let typed = keeps (taken_typed layout {B = ⊤} b sc s q us key w at there fits proper.reduced coupled.sound.fits) in
       let kept = taken_kept b (IsProperFraction b) IsReduced (IsProperValue b) (IsProperKey b) (IsProperContent b) (proper_closed b) sc s q key w at proper.reduced coupled.sound.proper proper_key in

@@ -32,8 +32,7 @@ use Rattle.boogie_tree.specs.declared.exprs.BOp.TheVariants as op
 use Rattle.boogie_meaning.specs.Ends.{End, Is, fitting, then_with}
 use Rattle.boogie_meaning.specs.Operators as r
 use Rattle.boogie_meaning.specs.Quantified.{bvalue}
-use Rattle.run_file.specs.BoogieLines.{scalar}
-use Rattle.enc_expr.specs.Kinds.{base_for}
+use Rattle.moves.specs.Scalars.{scalar, base_for}
 use Rattle.enc_expr.specs.Pieces.{Operand, real}
 use Rattle.enc_expr.specs.Operators.{operand_of, plain_operand, product_operand, quotient_operand}
 use Rattle.enc_expr.specs.Coupling.{Env}
@@ -63,7 +62,7 @@ fitting_computes : (b : Bound) (u : Ty) (z : Operand) (K : Env → Type 0) (fits
     ((E : Env) → K E → bvalue b z.expr E ≡ fitting b fits (scalar v)) → Computes b u z K (e.fitting b fits at v)
 fitting_computes Unbounded u z K fits at v typed base h = value typed base h
 fitting_computes Bounded u z K true at v typed base h = value typed base h
-fitting_computes Bounded u z K false at v typed base h = over
+fitting_computes Bounded u z K false at v typed base h = over refl
 
 -- ---- plain operators
 

@@ -29,7 +29,7 @@ use Rattle.boogie_meaning.specs.Value.{scalar_in}
 use Rattle.boogie_meaning.specs.Quantified.{bvalue}
 use Rattle.boogie_meaning.specs.Run.{Run, Stops, Blocked, Short, Over, chosen, with_truth, assumed, then_run, brun}
 use Rattle.boogie_meaning.proofs.PatternLaws.{set_here, set_there}
-use Rattle.run_file.specs.Moves.{moves}
+use Rattle.moves.specs.Moves.{moves}
 use Rattle.enc_expr.specs.Place.{Place}
 use Rattle.enc_expr.specs.Code.{Emitting, join, then_emit, declares, Guard, guarded, puts}
 use Rattle.enc_expr.specs.Encoding.{pair_code}
@@ -83,8 +83,8 @@ is_parted (Pair x y) go = with_parts x y refl refl
 is_parted Unit go = no_pair (λ x y h. cc) refl
 is_parted (Leaf v) go = no_pair (λ x y h. cc) refl
 
-stray_pair : {X : Type 0} {Q : X → Env → Type 0} (x y : Content) (e : Evaluated X) (cs : List BChoice) (run : Run) → ((left : List BChoice) → cs ≡ w.Value (Snap x) ∷ (w.Value (Snap y) ∷ left) → ⊥) → IsStopped run →
-    Alike Q (after (event.Split x y ∷ []) e) cs run
+stray_pair : {b : Bound} {X : Type 0} {Q : X → Env → Type 0} (x y : Content) (e : Evaluated X) (cs : List BChoice) (run : Run) → ((left : List BChoice) → cs ≡ w.Value (Snap x) ∷ (w.Value (Snap y) ∷ left) → ⊥) → IsStopped run →
+    Alike Q b (after (event.Split x y ∷ []) e) cs run
 stray_pair x y (ends es how) cs run h stopped = a.stray (λ left k. h (moves es ++ left) k.same) stopped
 
 pair_same : (x y c d : Content) → Pair x y ≡ Pair c d → (x ≡ c) × (y ≡ d)
@@ -164,13 +164,13 @@ module _ (ts : List BType) (b : Bound) (l r from : ℕ) (d : Content) (ys : BStm
   test_over x y rest h = let k = local_value from (Snap d) (chose x y) (from_there x y) in
       λ j. then_run (with_truth (m.binary b op.Eq (k j) (h j)) rest (assumed (chose x y) rest)) (λ F left. brun ts b ys F left)
 
-  module _ {X : Type 0} {Q : X → Env → Type 0} (e : Evaluated X) (go : Content × Content → Evaluated X) (goes : (x y : Content) (rest : List BChoice) → d ≡ Pair x y → Alike Q (go (x, y)) rest (brun ts b ys (chose x y) rest)) where
+  module _ {X : Type 0} {Q : X → Env → Type 0} (e : Evaluated X) (go : Content × Content → Evaluated X) (goes : (x y : Content) (rest : List BChoice) → d ≡ Pair x y → Alike Q b (go (x, y)) rest (brun ts b ys (chose x y) rest)) where
     -- the choices were no parts of the content
-    parts_stop : (cs : List BChoice) (run : Run) → IsStopped run → Alike Q blocks cs run → IsParted d e go → ((x y : Content) → d ≡ Pair x y → (left : List BChoice) → cs ≡ w.Value (Snap x) ∷ (w.Value (Snap y) ∷ left) → ⊥) → Alike Q e cs run
+    parts_stop : (cs : List BChoice) (run : Run) → IsStopped run → Alike Q b blocks cs run → IsParted d e go → ((x y : Content) → d ≡ Pair x y → (left : List BChoice) → cs ≡ w.Value (Snap x) ∷ (w.Value (Snap y) ∷ left) → ⊥) → Alike Q b e cs run
     parts_stop cs run stopped no_parts (with_parts x y same is) h = alike_of is (stray_pair x y (go (x, y)) cs run (h x y same) stopped)
     parts_stop cs run stopped no_parts (no_pair none is) h = alike_of is no_parts
 
-    goes_on : (x y : Content) (rest : List BChoice) → d ≡ Pair x y → IsParted d e go → Alike Q e (w.Value (Snap x) ∷ (w.Value (Snap y) ∷ rest)) (brun ts b ys (chose x y) rest)
+    goes_on : (x y : Content) (rest : List BChoice) → d ≡ Pair x y → IsParted d e go → Alike Q b e (w.Value (Snap x) ∷ (w.Value (Snap y) ∷ rest)) (brun ts b ys (chose x y) rest)
     goes_on x y rest same (with_parts u v other is) =
         let parts = pair_same u v x y (sym other ∙ same) in
         alike_of (is ∙ (λ j. after (event.Split (parts.0 j) (parts.1 j) ∷ []) (go (parts.0 j, parts.1 j)))) (after_alike {es = event.Split x y ∷ []} (record { same = refl }) (goes x y rest same))
@@ -183,30 +183,30 @@ module _ (ts : List BType) (b : Bound) (l r from : ℕ) (d : Content) (ys : BStm
         λ j. Pair (one j) (two j)
 
     compared : (x y : Content) (rest : List BChoice) → IsParted d e go → (q : Truth) → same_content d (Pair x y) ≡ q →
-        Alike Q e (w.Value (Snap x) ∷ (w.Value (Snap y) ∷ rest)) (if q then brun ts b ys (chose x y) rest else Stops Blocked rest)
+        Alike Q b e (w.Value (Snap x) ∷ (w.Value (Snap y) ∷ rest)) (if q then brun ts b ys (chose x y) rest else Stops Blocked rest)
     compared x y rest parted true same = goes_on x y rest ((Decides-same_content d (Pair x y)).0 same) parted
     compared x y rest parted false same = parts_stop _ (Stops Blocked rest) tt (a.blocked (w.Value (Snap x) ∷ (w.Value (Snap y) ∷ [])) (record { same = refl })) parted
         (λ u v is left h. true≢false (sym ((Decides-same_content d (Pair x y)).1 (is ∙ sym (both_same x y u v rest left h))) ∙ same))
 
-    chosen_alike : (x y : Content) (rest : List BChoice) → IsParted d e go → Alike Q e (w.Value (Snap x) ∷ (w.Value (Snap y) ∷ rest)) (brun ts b checked (chose x y) rest)
+    chosen_alike : (x y : Content) (rest : List BChoice) → IsParted d e go → Alike Q b e (w.Value (Snap x) ∷ (w.Value (Snap y) ∷ rest)) (brun ts b checked (chose x y) rest)
     chosen_alike x y rest parted = elim (fit_cases b (nat_lt (nodes (Pair x y)) 4097) (Snap (Pair x y))) [
       | inl fit ↦ alike_run (assume_run ts b test (same_content d (Pair x y)) ys (chose x y) rest (test_value x y (pair_value x y ∙ fit))) (compared x y rest parted (same_content d (Pair x y)) refl)
       | inr large ↦ alike_run (test_over x y rest (pair_value x y ∙ large.0)) (parts_stop _ (Stops Over rest) tt (a.beyond (λ h. cc)) parted
           (λ u v is left h. too_large b x y large.1.0 large.1.1 (subst (IsProperContent b) (is ∙ sym (both_same x y u v rest left h)) proper)))
     ]
 
-    second_alike : (x : Content) (cs : List BChoice) → IsParted d e go → Alike Q e (w.Value (Snap x) ∷ cs) (brun ts b second (chose_first x) cs)
+    second_alike : (x : Content) (cs : List BChoice) → IsParted d e go → Alike Q b e (w.Value (Snap x) ∷ cs) (brun ts b second (chose_first x) cs)
     second_alike x [] parted = alike_run (no_more x) (parts_stop _ (Stops Short []) tt (a.short (w.Value (Snap x) ∷ []) (record { same = refl })) parted (λ u v is left h. no_second _ _ _ left h))
     second_alike x (c ∷ rest) parted = elim (content_choice c) [
-      | inl y ↦ subst (λ c. Alike Q e (w.Value (Snap x) ∷ (c ∷ rest)) (brun ts b second (chose_first x) (c ∷ rest))) y.1 (alike_run (second_chosen x y.0 rest) (chosen_alike x y.0 rest parted))
+      | inl y ↦ subst (λ c. Alike Q b e (w.Value (Snap x) ∷ (c ∷ rest)) (brun ts b second (chose_first x) (c ∷ rest))) y.1 (alike_run (second_chosen x y.0 rest) (chosen_alike x y.0 rest parted))
       | inr none ↦ alike_run (wrong_second x c rest none) (parts_stop _ (Stops Blocked rest) tt (a.blocked (w.Value (Snap x) ∷ (c ∷ [])) (record { same = refl })) parted
           (λ u v is left h. none_given (sym none ∙ ap (chosen (plain_type base.Snap)) (second_same (w.Value (Snap x)) c (w.Value (Snap u)) (w.Value (Snap v)) rest left h))))
     ]
 
-    pub parts_alike : (cs : List BChoice) → IsParted d e go → Alike Q e cs (brun ts b choosing E cs)
+    pub parts_alike : (cs : List BChoice) → IsParted d e go → Alike Q b e cs (brun ts b choosing E cs)
     parts_alike [] parted = alike_run no_choice (parts_stop [] (Stops Short []) tt (a.short [] (record { same = refl })) parted (λ u v is left h. cc))
     parts_alike (c ∷ rest) parted = elim (content_choice c) [
-      | inl x ↦ subst (λ c. Alike Q e (c ∷ rest) (brun ts b choosing E (c ∷ rest))) x.1 (alike_run (first_chosen x.0 rest) (second_alike x.0 rest parted))
+      | inl x ↦ subst (λ c. Alike Q b e (c ∷ rest) (brun ts b choosing E (c ∷ rest))) x.1 (alike_run (first_chosen x.0 rest) (second_alike x.0 rest parted))
       | inr none ↦ alike_run (wrong_first c rest none) (parts_stop (c ∷ rest) (Stops Blocked rest) tt (a.blocked (c ∷ []) (record { same = refl })) parted
           (λ u v is left h. none_given (sym none ∙ ap (chosen (plain_type base.Snap)) (first_same c (w.Value (Snap u)) rest (w.Value (Snap v) ∷ left) h))))
     ]

@@ -1,6 +1,6 @@
 -- What is shown of pieces of code.
 use Rattle.std.proofs.Common.{◌≡◌, ◌+◌, ℕ, List, [], length}
-use Rattle.vb_value.specs.Bound.{Bound}
+use Rattle.vb_value.specs.Bound.{Bound, Bounded}
 use Rattle.vb_value.specs.Content.{Content}
 use Rattle.vb_value.specs.Fraction.{Fraction}
 use Rattle.vb_value.specs.Value.{type_of}
@@ -17,9 +17,8 @@ use Rattle.boogie_tree.specs.Value.{BChoice}
 use Rattle.boogie_meaning.specs.Ends as end
 use Rattle.boogie_meaning.specs.Quantified.{bvalue}
 use Rattle.boogie_meaning.specs.Run.{Run, Done, brun}
-use Rattle.run_file.specs.BoogieLines.{scalar}
+use Rattle.moves.specs.Scalars.{scalar, base_for}
 use Rattle.enc_expr.specs.Place.{Place}
-use Rattle.enc_expr.specs.Kinds.{base_for}
 use Rattle.enc_expr.specs.Code.{Emitting, Guard}
 use Rattle.enc_expr.specs.Pieces.{Operand}
 use Rattle.enc_expr.specs.Coupling.{Env, IsCoupled, IsAsleep, AreLocals, IsReady}
@@ -55,14 +54,14 @@ pub record Sleeps (O : ℕ → Type 0) {X : Type 0} (m : Emitting X) : Type 0 wh
 pub record Simulates (ts : List BType) (b : Bound) (c : Context) (p : Place) (g : Guard) (s : State) (sc : Scene) {X V : Type 0} (m : Emitting X) (e : Evaluated V)
     (Q : ℕ → ℕ → X → Env → V → Env → Type 0) : Type 0 where
   pub alike : (n : ℕ) (E : Env) (cs : List BChoice) → IsCoupled b c n p s sc E → IsReady ts g n (m n).locals E →
-      Alike (Q n (m n).next (m n).value E) e cs (brun ts b (m n).stmts E cs)
+      Alike (Q n (m n).next (m n).value E) b e cs (brun ts b (m n).stmts E cs)
 
 -- ---- operators
 
 -- the operand has the value of the evaluation in each environment with K, or the evaluation is beyond the bound
 pub data Computes (b : Bound) (u : Ty) (z : Operand) (K : Env → Type 0) : Evaluated Value → Type 0 where
   value : {v : Value} → type_of v ≡ u → z.base ≡ base_for u → ((E : Env) → K E → bvalue b z.expr E ≡ end.Is (scalar v)) → Computes b u z K (is v)
-  over : {at : _} → Computes b u z K (ends [] (Over at))
+  over : {at : _} → b ≡ Bounded → Computes b u z K (ends [] (Over at))
 
 -- an expression has this value
 pub record Has (b : Bound) (x : t.BExpr) (v : Value) (E : Env) : Type 0 where
@@ -81,4 +80,4 @@ pub record Sets (ts : List BType) (b : Bound) (xs : BStmts) (n : ℕ) (E F : Env
 pub record Fills (ts : List BType) (b : Bound) (c : Context) (p : Place) (g : Guard) (s : State) (sc : Scene) (scale : t.BExpr) (k : Fraction) (from : ℕ) (d : Content)
     {X : Type 0} (m : Emitting X) (e : Evaluated State) : Type 0 where
   pub alike : (n : ℕ) (E : Env) (cs : List BChoice) → IsCoupled b c n p s sc E → IsSource b n E from d → IsScale b n E scale k → IsReady ts g n (m n).locals E →
-      Alike (IsFilled b c n (m n).next p sc E) e cs (brun ts b (m n).stmts E cs)
+      Alike (IsFilled b c n (m n).next p sc E) b e cs (brun ts b (m n).stmts E cs)

@@ -40,7 +40,8 @@ use Rattle.boogie_tree.specs.Value.{BChoice}
 use Rattle.boogie_tree.specs.declared.exprs.BBase.TheVariants as base
 use Rattle.boogie_meaning.specs.Ends as end
 use Rattle.enc_expr.specs.Place.{Place, with_now, with_vars}
-use Rattle.enc_expr.specs.Kinds.{Kinds, kinds_in, base_for, type_at, body_kinds}
+use Rattle.moves.specs.Scalars.{base_for}
+use Rattle.enc_expr.specs.Kinds.{Kinds, kinds_in, type_at, body_kinds}
 use Rattle.enc_expr.specs.Code.{Emitting, Guard, puts}
 use Rattle.enc_expr.specs.Pieces.{Operand, one}
 use Rattle.enc_expr.specs.Operators.{in_class_code}
@@ -59,13 +60,13 @@ use Rattle.enc_expr.proofs.BodyLaws.{fact_fills, acc_fills, instance_fills}
 
 -- ---- laws of evaluations
 
-any_law : {X : Type 0} {V : Event → Type 0} {P Q : X → Type 0} {a : Evaluated X} → ((x : X) → P x → Q x) → Keeps V P a → Keeps IsAny Q a
+pub any_law : {X : Type 0} {V : Event → Type 0} {P Q : X → Type 0} {a : Evaluated X} → ((x : X) → P x → Q x) → Keeps V P a → Keeps IsAny Q a
 any_law f (kept.value h p) = kept.value (any_events _) (f _ p)
 any_law f (kept.failure h) = kept.failure (any_events _)
 any_law f (kept.blocked h) = kept.blocked (any_events _)
 any_law f (kept.over h) = kept.over (any_events _)
 
-both_laws : {X : Type 0} {V W : Event → Type 0} {P Q : X → Type 0} {a : Evaluated X} → Keeps V P a → Keeps W Q a → Keeps IsAny (λ x. P x × Q x) a
+pub both_laws : {X : Type 0} {V W : Event → Type 0} {P Q : X → Type 0} {a : Evaluated X} → Keeps V P a → Keeps W Q a → Keeps IsAny (λ x. P x × Q x) a
 both_laws (kept.value h p) (kept.value i q) = kept.value (any_events _) (p, q)
 both_laws (kept.failure h) k = kept.failure (any_events _)
 both_laws (kept.blocked h) k = kept.blocked (any_events _)
@@ -73,7 +74,7 @@ both_laws (kept.over h) k = kept.over (any_events _)
 
 -- ---- literals and operators
 
-part_is_whole : (q : Fraction) → IsLiteralPart q → end.Is (w.Real (whole q.num)) ≡ end.Is (w.Real q)
+pub part_is_whole : (q : Fraction) → IsLiteralPart q → end.Is (w.Real (whole q.num)) ≡ end.Is (w.Real q)
 part_is_whole q (inl same) = subst (λ (q : Fraction). end.Is (w.Real (whole q.num)) ≡ end.Is (w.Real q)) (sym same) refl
 part_is_whole q (inr same) = subst (λ (q : Fraction). end.Is (w.Real (whole q.num)) ≡ end.Is (w.Real q)) (sym same) refl
 
@@ -86,11 +87,11 @@ module _ (b : Bound) (c : Context) (formed : IsFormed c.program) {n : ℕ} {p : 
   abbrev OfEvents : Event → Type 0
   OfEvents = AllOfEvent (IsProperFraction b) (IsProperValue b) (IsProperKey b) (IsProperContent b)
 
-  proper_value : {a : e.Expr} {u : Ty} → HasType c a u → Keeps OfEvents (IsProperValue b) (value b a s sc)
+  pub proper_value : {a : e.Expr} {u : Ty} → HasType c a u → Keeps OfEvents (IsProperValue b) (value b a s sc)
   proper_value {a} typed = value_kept b (IsProperFraction b) IsReduced (IsProperValue b) (IsProperKey b) (IsProperContent b) (proper_closed b) a s sc
       (typed_literals _ _ (literals_proper b) c formed.typed typed) coupled.sound.proper proper_scene
 
-  proper_values : {xs : e.Exprs} {us : List Ty} → HaveTypes c xs us → Keeps OfEvents (All (IsProperValue b)) (values b xs s sc)
+  pub proper_values : {xs : e.Exprs} {us : List Ty} → HaveTypes c xs us → Keeps OfEvents (All (IsProperValue b)) (values b xs s sc)
   proper_values {xs} typed = values_kept b (IsProperFraction b) IsReduced (IsProperValue b) (IsProperKey b) (IsProperContent b) (proper_closed b) xs s sc
       (exprs_literals _ _ (literals_proper b) c formed.typed typed) coupled.sound.proper proper_scene
 

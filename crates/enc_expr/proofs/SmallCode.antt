@@ -17,7 +17,9 @@ use Rattle.boogie_tree.specs.Stmt as s
 use Rattle.boogie_tree.specs.declared.exprs.BBase.TheVariants as base
 use Rattle.boogie_tree.specs.Values.{plain_type, same_base}
 use Rattle.enc_expr.specs.Place.{Place, number, with_now, with_vars}
-use Rattle.enc_expr.specs.Kinds.{Kinds, kinds_in, base_for, type_at, body_kinds, state_types, variable_type}
+use Rattle.moves.specs.Scalars.{base_for, variable_type}
+use Rattle.moves.specs.Maps.{state_types}
+use Rattle.enc_expr.specs.Kinds.{Kinds, kinds_in, type_at, body_kinds}
 use Rattle.enc_expr.specs.Code.{Emitting, join, gives, Guard, puts}
 use Rattle.enc_expr.specs.Pieces.{Operand, at_one, one, label, index, zero_real, check_divisor, real}
 use Rattle.enc_expr.specs.Operators.{plain_operand, operand_of, as_real, product_operand, quotient_operand, division, right_counts, lazy_operand, lazily, in_class_code, chosen_operand, choose_code}

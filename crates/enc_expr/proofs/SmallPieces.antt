@@ -16,7 +16,7 @@ use Rattle.boogie_tree.specs.Program.{BType}
 use Rattle.boogie_tree.specs.declared.exprs.BOp.TheVariants as op
 use Rattle.boogie_tree.specs.Values.{plain_type}
 use Rattle.enc_expr.specs.Place.{Maps, Place, number}
-use Rattle.enc_expr.specs.Kinds.{heap_type, mask_type, amount_type, content_type, state_types}
+use Rattle.moves.specs.Maps.{heap_type, mask_type, amount_type, content_type, state_types}
 use Rattle.enc_expr.specs.Code.{Emitting, join, gives, then_emit, declares, declares_all, Guard, guarded, under, puts, guards}
 use Rattle.enc_expr.specs.Pieces.{Operand, Atom, Located, is_atom, in_local, atomic, located_from, located, variables, index, one, label, zero_real, one_real, is_one, is_amount_literal, is_divisor_literal, unless_known, check_nonnegative, check_positive, check_divisor, scaled, if_positive, real, add_to}
 use Rattle.enc_expr.specs.Encoding.{read_checks, maps_from, copies, copy_state, held_check, taken_amount, taking, is_unit, leaf, take_value, set_value, fill_place_code, fill_instance_code, fill_by}

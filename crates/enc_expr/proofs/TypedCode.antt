@@ -21,7 +21,9 @@ use Rattle.boogie_tree.specs.Values.{plain_type}
 use Rattle.boogie_meaning.specs.Types as b
 use Rattle.boogie_meaning.specs.Types.{HasType}
 use Rattle.enc_expr.specs.Place.{Maps, Place, with_now, with_vars}
-use Rattle.enc_expr.specs.Kinds.{Kinds, kinds_in, base_for, body_kinds, state_types}
+use Rattle.moves.specs.Scalars.{base_for}
+use Rattle.moves.specs.Maps.{state_types}
+use Rattle.enc_expr.specs.Kinds.{Kinds, kinds_in, body_kinds}
 use Rattle.enc_expr.specs.Code.{Guard, join, puts}
 use Rattle.enc_expr.specs.Pieces.{Operand, Atom, Located, one, index}
 use Rattle.enc_expr.specs.Operators.{chosen_operand}
@@ -35,7 +37,7 @@ use Rattle.enc_expr.proofs.TypedForms.{own_type, binary_typed, choose_typed, cho
 
 module _ (ts : List BType) where
   -- what is negated is a number
-  negated_typed : (u : Ty) (x : Operand) → IsTrue (y.is_number u) → IsOperand ts u x → IsOperand ts u (record { expr = t.Neg x.expr; base = x.base })
+  pub negated_typed : (u : Ty) (x : Operand) → IsTrue (y.is_number u) → IsOperand ts u x → IsOperand ts u (record { expr = t.Neg x.expr; base = x.base })
   negated_typed ty.Int x h i = record { typed = b.neg refl i.typed; base = i.base }
   negated_typed ty.Perm x h i = record { typed = b.neg refl i.typed; base = i.base }
   negated_typed ty.Bool x h i = absurd cc

@@ -23,7 +23,9 @@ use Rattle.boogie_tree.specs.Values.{plain_type}
 use Rattle.boogie_meaning.specs.Types as b
 use Rattle.boogie_meaning.specs.Types.{HasType, HaveTypes, IsTyped, answer_of}
 use Rattle.enc_expr.specs.Place.{Maps, Place, number}
-use Rattle.enc_expr.specs.Kinds.{kinds_in, base_for, type_at, index_types, mask_type, amount_type, variable_type}
+use Rattle.moves.specs.Scalars.{base_for, variable_type}
+use Rattle.moves.specs.Maps.{index_types, mask_type, amount_type}
+use Rattle.enc_expr.specs.Kinds.{kinds_in, type_at}
 use Rattle.enc_expr.specs.Code.{Emitting, join, gives, Guard}
 use Rattle.enc_expr.specs.Pieces.{Operand, index, at_one, one, label, zero_real, is_one, unless_known, is_divisor_literal, is_amount_literal, check_nonnegative, check_positive, check_divisor, scaled, if_positive, real, add_to}
 use Rattle.enc_expr.specs.Operators.{plain_operand, product_operand, operand_of, quotient_operand, division, right_counts, lazy_op, lazily, in_class_code, binary_code, chosen_operand, choose_code}
@@ -89,14 +91,14 @@ module _ (ts : List BType) where
   operand_typed o.Mul x y v w u plain typed h k = product_typed x y v w u typed h k
   operand_typed f x y v w u plain typed h k = absurd cc
 
-  quotient_typed : (f : Op) (x : Operand) (d : t.BExpr) (v u : Ty) → class_of f ≡ Division → value_type f v ty.Int ≡ Some u → IsOperand ts v x → HasType ts None d base.Int → IsOperand ts u (quotient_operand f x d)
+  pub quotient_typed : (f : Op) (x : Operand) (d : t.BExpr) (v u : Ty) → class_of f ≡ Division → value_type f v ty.Int ≡ Some u → IsOperand ts v x → HasType ts None d base.Int → IsOperand ts u (quotient_operand f x d)
   quotient_typed o.Divide x d ty.Int u division typed h k = let e : ty.Perm ≡ u = cc in rw (← e, h.base) (record { typed = b.binary refl (real_typed x.expr h.typed) (real_typed d k); base = refl })
   quotient_typed o.Divide x d ty.Perm u division typed h k = let e : ty.Perm ≡ u = cc in rw (← e, h.base) (record { typed = b.binary refl h.typed (real_typed d k); base = refl })
   quotient_typed o.IntDiv x d ty.Int u division typed h k = let e : ty.Int ≡ u = cc in rw (← e) (record { typed = b.binary refl h.typed k; base = refl })
   quotient_typed o.IntMod x d ty.Int u division typed h k = let e : ty.Int ≡ u = cc in rw (← e) (record { typed = b.binary refl h.typed k; base = refl })
   quotient_typed f x d v u division typed h k = absurd cc
 
-  unless_typed : (known : Bool) (xs : BStmts) → IsTyped ts xs → IsTyped ts (unless_known known xs)
+  pub unless_typed : (known : Bool) (xs : BStmts) → IsTyped ts xs → IsTyped ts (unless_known known xs)
   unless_typed true xs h = b.skip
   unless_typed false xs h = h
 
@@ -147,7 +149,7 @@ module _ (ts : List BType) where
 
   -- ---- reading a field
 
-  at_one_typed : (m : ℕ) (w : BBase) (x : t.BExpr) → slice_get ts m ≡ Some (record { keys = base.Ref ∷ []; base = w }) → HasType ts None x base.Ref → HasType ts None (at_one m x) w
+  pub at_one_typed : (m : ℕ) (w : BBase) (x : t.BExpr) → slice_get ts m ≡ Some (record { keys = base.Ref ∷ []; base = w }) → HasType ts None x base.Ref → HasType ts None (at_one m x) w
   at_one_typed m w x l h = b.at l (b.more refl h b.none)
 
   read_checks_typed : (layout : Layout) (p : Place) (f : ℕ) (at : Pos) (x : t.BExpr) (u : Ty) → HasStateTypes layout p.now ts → slice_get layout.fields f ≡ Some u → HasType ts None x base.Ref → IsTyped ts (read_checks p f at x)
@@ -179,7 +181,7 @@ module _ (ts : List BType) where
   pub check_nonnegative_typed : (l : Label) (x : t.BExpr) → HasType ts None x base.Real → IsTyped ts (check_nonnegative l x)
   check_nonnegative_typed l x h = unless_typed (is_amount_literal x) (one (s.Assert l (t.Bin op.Ge x zero_real))) (one_typed ts (b.assert_ (b.binary refl h b.real)))
 
-  check_positive_typed : (l : Label) (x : t.BExpr) → HasType ts None x base.Real → IsTyped ts (check_positive l x)
+  pub check_positive_typed : (l : Label) (x : t.BExpr) → HasType ts None x base.Real → IsTyped ts (check_positive l x)
   check_positive_typed l x h = unless_typed (is_one x) (one (s.Assert l (t.Bin op.Gt x zero_real))) (one_typed ts (b.assert_ (b.binary refl h b.real)))
 
   if_positive_typed : (x : t.BExpr) (xs ys : BStmts) → HasType ts None x base.Real → IsTyped ts xs → IsTyped ts ys → IsTyped ts (if_positive x xs ys)
@@ -190,7 +192,7 @@ module _ (ts : List BType) where
       by_literal false = one_typed ts (b.if_ (b.binary refl h b.real) i j)
 
   -- a mask or amount gets more
-  add_to_typed : (us : List Ty) (m : ℕ) (es : t.BExprs) (x : t.BExpr) → slice_get ts m ≡ Some (amount_type us) → HaveTypes ts None es (index_types us) → HasType ts None x base.Real → IsTyped ts (add_to m es x)
+  pub add_to_typed : (us : List Ty) (m : ℕ) (es : t.BExprs) (x : t.BExpr) → slice_get ts m ≡ Some (amount_type us) → HaveTypes ts None es (index_types us) → HasType ts None x base.Real → IsTyped ts (add_to m es x)
   add_to_typed us m es x l h k = let old : HasType ts None (t.At m es) base.Real = at_typed ts us m base.Real es l h in
       b.first (b.assume_ (b.binary refl old b.real)) (one_typed ts (put_typed ts us m base.Real es (t.Bin op.Add (t.At m es) x) l h (b.binary refl old k)))
 
@@ -211,13 +213,13 @@ module _ (ts : List BType) where
   pub pair_typed : (from l r : ℕ) → slice_get ts from ≡ Some (plain_type base.Snap) → slice_get ts l ≡ Some (plain_type base.Snap) → slice_get ts r ≡ Some (plain_type base.Snap) → IsTyped ts (pair_code from l r)
   pair_typed from l r h i j = b.first (b.havoc i) (b.first (b.havoc j) (one_typed ts (b.assume_ (b.binary refl (b.var h) (b.pair (b.var i) (b.var j))))))
 
-  leaf_typed : (u : Ty) (x : t.BExpr) → HasType ts None x (base_for u) → HasType ts None (leaf u x) base.Snap
+  pub leaf_typed : (u : Ty) (x : t.BExpr) → HasType ts None x (base_for u) → HasType ts None (leaf u x) base.Snap
   leaf_typed ty.Int x h = b.s_int h
   leaf_typed ty.Bool x h = b.s_bool h
   leaf_typed ty.Ref x h = b.s_ref h
   leaf_typed ty.Perm x h = b.s_perm h
 
-  same_typed : (w : BBase) (held old new : t.BExpr) → HasType ts None held base.Real → HasType ts None old w → HasType ts None new w → b.IsTypedStmt ts (same_where_held held old new)
+  pub same_typed : (w : BBase) (held old new : t.BExpr) → HasType ts None held base.Real → HasType ts None old w → HasType ts None new w → b.IsTypedStmt ts (same_where_held held old new)
   same_typed w held old new h i j = b.assume_ (b.binary refl (b.binary refl h b.real) (b.binary refl i j))
 
   fill_by_typed : (p : Place) (at : Pos) (x : t.BExpr) (from : ℕ) (xs : BStmts) → slice_get ts from ≡ Some (plain_type base.Snap) → HasType ts None x base.Real → IsTyped ts xs → IsTyped ts (fill_by p at x from xs)
@@ -245,7 +247,7 @@ module _ (ts : List BType) where
       old : HasType ts None (at_one (number p.now.heap f) x) (base_for u)
       old = at_one_typed (number p.now.heap f) (base_for u) x (now.heap f u there) h
 
-  fill_instance_typed : (layout : Layout) (p : Place) (scale : t.BExpr) (us : List Ty) (q : ℕ) (key : t.BExprs) (amount : t.BExpr) (from : ℕ) → HasStateTypes layout p.now ts → slice_get layout.keys q ≡ Some us → HasType ts None scale base.Real →
+  pub fill_instance_typed : (layout : Layout) (p : Place) (scale : t.BExpr) (us : List Ty) (q : ℕ) (key : t.BExprs) (amount : t.BExpr) (from : ℕ) → HasStateTypes layout p.now ts → slice_get layout.keys q ≡ Some us → HasType ts None scale base.Real →
       HaveTypes ts None key (index_types us) → HasType ts None amount base.Real → slice_get ts from ≡ Some (plain_type base.Snap) → IsTyped ts (fill_instance_code p scale q key amount from)
   fill_instance_typed layout p scale us q key amount from now there s h i l =
       b.first (same_typed base.Snap (t.At (number p.now.amount q) key) (t.At (number p.now.content q) key) (t.Var from) (at_typed ts us (number p.now.amount q) base.Real key (now.amount q us there) h)

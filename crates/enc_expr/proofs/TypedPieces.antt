@@ -17,7 +17,8 @@ use Rattle.boogie_tree.specs.Values.{plain_type, is_key}
 use Rattle.boogie_meaning.specs.Types as b
 use Rattle.boogie_meaning.specs.Types.{HasType, HaveTypes, IsTyped}
 use Rattle.enc_expr.specs.Place.{Maps, number}
-use Rattle.enc_expr.specs.Kinds.{base_for, index_types, heap_type, mask_type, amount_type, content_type, state_types, variable_type}
+use Rattle.moves.specs.Scalars.{base_for, variable_type}
+use Rattle.moves.specs.Maps.{index_types, heap_type, mask_type, amount_type, content_type, state_types}
 use Rattle.enc_expr.specs.Code.{Emitting, join, gives, then_emit, declares, declares_all, Guard, guarded, under, puts, guards}
 use Rattle.enc_expr.specs.Pieces.{Operand, Atom, Located, is_atom, in_local, atomic, located_from, located, variables, index}
 use Rattle.enc_expr.specs.Coupling.{AreLocals}
@@ -68,11 +69,11 @@ module _ (ts : List BType) where
   pub declares_typed : (u : BType) → IsTypedCode ts (λ i. slice_get ts i ≡ Some u) (declares u)
   declares_typed u = record { stmts = λ n rest l. b.skip; value = λ n rest l. l.0; next = λ n rest l. l.1 }
 
-  first_locals : (n : ℕ) (us ws : List BType) → AreLocals ts n (us ++ ws) → AreLocals ts n us
+  pub first_locals : (n : ℕ) (us ws : List BType) → AreLocals ts n (us ++ ws) → AreLocals ts n us
   first_locals n [] ws l = tt
   first_locals n (u ∷ us) ws l = (l.0, first_locals (n + 1) us ws l.1)
 
-  rest_locals : (n : ℕ) (us ws : List BType) → AreLocals ts n (us ++ ws) → AreLocals ts (n + length us) ws
+  pub rest_locals : (n : ℕ) (us ws : List BType) → AreLocals ts n (us ++ ws) → AreLocals ts (n + length us) ws
   rest_locals n [] ws l = subst (λ (i : ℕ). AreLocals ts i ws) (omega arith) l
   rest_locals n (u ∷ us) ws l = subst (λ (i : ℕ). AreLocals ts i ws) (omega arith) (rest_locals (n + 1) us ws l.1)
 
@@ -173,13 +174,13 @@ module _ (ts : List BType) where
 
   -- ---- the maps of a state
 
-  at_local : (n : ℕ) (us : List BType) (i : ℕ) (u : BType) → AreLocals ts n us → slice_get us i ≡ Some u → slice_get ts (n + i) ≡ Some u
+  pub at_local : (n : ℕ) (us : List BType) (i : ℕ) (u : BType) → AreLocals ts n us → slice_get us i ≡ Some u → slice_get ts (n + i) ≡ Some u
   at_local n (w ∷ us) zero u l h = subst (λ (j : ℕ). slice_get ts j ≡ Some u) (omega arith) (l.0 ∙ h)
   at_local n (w ∷ us) (suc i) u l h = subst (λ (j : ℕ). slice_get ts j ≡ Some u) (omega arith) (at_local (n + 1) us i u l.1 h)
   at_local n [] i u l h = absurd cc
 
   -- locals with these types, for each of a list
-  each_local : {X : Type 0} (n : ℕ) (f : X → BType) (xs : List X) (i : ℕ) (x : X) → AreLocals ts n (map f xs) → slice_get xs i ≡ Some x → slice_get ts (number (range_with_len n (length xs)) i) ≡ Some (f x)
+  pub each_local : {X : Type 0} (n : ℕ) (f : X → BType) (xs : List X) (i : ℕ) (x : X) → AreLocals ts n (map f xs) → slice_get xs i ≡ Some x → slice_get ts (number (range_with_len n (length xs)) i) ≡ Some (f x)
   each_local n f (y ∷ xs) zero x l h = l.0 ∙ ap (λ o. option_map f o) h
   each_local n f (y ∷ xs) (suc i) x l h = each_local (n + 1) f xs i x l.1 h
   each_local n f [] i x l h = absurd cc
@@ -227,14 +228,14 @@ module _ (ts : List BType) where
       four = simp (length-append, length-map) (omega arith)
 
   -- maps of the same types are copied, from number j on
-  each_copied : {X : Type 0} (f : X → BType) (xs : List X) (a : ℕ) (ys : List ℕ) (j : ℕ) →
+  pub each_copied : {X : Type 0} (f : X → BType) (xs : List X) (a : ℕ) (ys : List ℕ) (j : ℕ) →
       ((i : ℕ) (x : X) → slice_get xs i ≡ Some x → slice_get ts (number (range_with_len a (length xs)) i) ≡ Some (f x)) →
       ((i l : ℕ) (x : X) → l ≡ i + j → slice_get xs i ≡ Some x → slice_get ts (number ys l) ≡ Some (f x)) → IsTyped ts (copies (range_with_len a (length xs)) ys j)
   each_copied f [] a ys j h k = b.skip
   each_copied f (x ∷ xs) a ys j h k =
       b.first (b.assign (h 0 x refl) (b.whole (k 0 j x (omega arith) refl))) (each_copied f xs (a + 1) ys (j + 1) (λ i z e. h (suc i) z e) (λ i l z same e. k (suc i) l z (omega (arith, same)) e))
 
-  all_copied : {X : Type 0} (f : X → BType) (xs : List X) (a : ℕ) (ys : List ℕ) →
+  pub all_copied : {X : Type 0} (f : X → BType) (xs : List X) (a : ℕ) (ys : List ℕ) →
       ((i : ℕ) (x : X) → slice_get xs i ≡ Some x → slice_get ts (number (range_with_len a (length xs)) i) ≡ Some (f x)) →
       ((i : ℕ) (x : X) → slice_get xs i ≡ Some x → slice_get ts (number ys i) ≡ Some (f x)) → IsTyped ts (copies (range_with_len a (length xs)) ys 0)
   all_copied f xs a ys h k = each_copied f xs a ys 0 h (λ i l x same e. k l x (ap (slice_get xs) (omega (arith, same)) ∙ e))

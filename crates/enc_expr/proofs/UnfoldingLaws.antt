@@ -35,7 +35,8 @@ use Rattle.boogie_tree.specs.Values.{plain_type}
 use Rattle.boogie_tree.specs.declared.exprs.BBase.TheVariants as base
 use Rattle.boogie_meaning.specs.Run.{Run, Done, brun}
 use Rattle.enc_expr.specs.Place.{Maps, Place, with_now, with_vars, IsLocalOf}
-use Rattle.enc_expr.specs.Kinds.{Kinds, kinds_in, body_kinds, state_types}
+use Rattle.moves.specs.Maps.{state_types}
+use Rattle.enc_expr.specs.Kinds.{Kinds, kinds_in, body_kinds}
 use Rattle.enc_expr.specs.Code.{Emitting, join, gives, then_emit, declares, declares_all, Guard, puts}
 use Rattle.enc_expr.specs.Pieces.{Operand, Atom, is_atom, in_local, atomic, Located, located_from, located, index}
 use Rattle.enc_expr.specs.Encoding.{maps_from, copy_state, taking, code, unfolding_code, codes, body_code}
@@ -54,12 +55,12 @@ use Rattle.enc_expr.proofs.CopyLaws.{copies_kept, own_maps, copy_opened}
 -- ---- ways of writing beside ways of going on
 
 module _ (ts : List BType) (b : Bound) {X Y : Type 0} (m : Emitting X) (go : X → Emitting Y) (n : ℕ) (E : Env) (cs : List BChoice) where
-  pub emit_alike : {V W : Type 0} {Q : V → Env → Type 0} {R : W → Env → Type 0} (e : Evaluated V) (k : V → Evaluated W) → Alike Q e cs (brun ts b (m n).stmts E cs) →
-      ((v : V) (F : Env) (rest : List BChoice) → Q v F → Alike R (k v) rest (brun ts b (go (m n).value (m n).next).stmts F rest)) → Alike R (then_with e k) cs (brun ts b (then_emit m go n).stmts E cs)
+  pub emit_alike : {V W : Type 0} {Q : V → Env → Type 0} {R : W → Env → Type 0} (e : Evaluated V) (k : V → Evaluated W) → Alike Q b e cs (brun ts b (m n).stmts E cs) →
+      ((v : V) (F : Env) (rest : List BChoice) → Q v F → Alike R b (k v) rest (brun ts b (go (m n).value (m n).next).stmts F rest)) → Alike R b (then_with e k) cs (brun ts b (then_emit m go n).stmts E cs)
   emit_alike e k h g = alike_run (join_run ts b (m n).stmts (go (m n).value (m n).next).stmts E cs) (then_alike h g)
 
   -- where nothing but locals is written
-  pub quiet_alike : {W : Type 0} {R : W → Env → Type 0} {e : Evaluated W} → (m n).stmts ≡ stmt.skip → Alike R e cs (brun ts b (go (m n).value (m n).next).stmts E cs) → Alike R e cs (brun ts b (then_emit m go n).stmts E cs)
+  pub quiet_alike : {W : Type 0} {R : W → Env → Type 0} {e : Evaluated W} → (m n).stmts ≡ stmt.skip → Alike R b e cs (brun ts b (go (m n).value (m n).next).stmts E cs) → Alike R b e cs (brun ts b (then_emit m go n).stmts E cs)
   quiet_alike quiet h = alike_run (ap (λ xs. brun ts b (join xs (go (m n).value (m n).next).stmts) E cs) quiet) h
 
 from_quiet : (x : Operand) (y : t.BExpr) (n : ℕ) → (located_from x y n).stmts ≡ stmt.skip
@@ -79,13 +80,13 @@ atomic_quiet x n = either_quiet (is_atom x.expr) _ (in_local x) n refl
 
 -- ---- permissions
 
-perm_is : (Q : Value → Env → Type 0) {E : Env} {cs : List BChoice} (w : Value) → type_of w ≡ ty.Perm → Q w E → Alike (λ q F. Q (v.Perm q) F) (perm_of w) cs (Done E cs)
+perm_is : {b : Bound} (Q : Value → Env → Type 0) {E : Env} {cs : List BChoice} (w : Value) → type_of w ≡ ty.Perm → Q w E → Alike (λ q F. Q (v.Perm q) F) b (perm_of w) cs (Done E cs)
 perm_is Q (v.Perm q) typed h = is_alike h
 perm_is Q (v.Int n) typed h = absurd (cc)
 perm_is Q (v.Bool q) typed h = absurd (cc)
 perm_is Q (v.Ref r) typed h = absurd (cc)
 
-pub perm_alike : {Q : Value → Env → Type 0} {e : Evaluated Value} {cs : List BChoice} {r : Run} → ((w : Value) (E : Env) → Q w E → type_of w ≡ ty.Perm) → Alike Q e cs r → Alike (λ q E. Q (v.Perm q) E) (as_perm e) cs r
+pub perm_alike : {b : Bound} {Q : Value → Env → Type 0} {e : Evaluated Value} {cs : List BChoice} {r : Run} → ((w : Value) (E : Env) → Q w E → type_of w ≡ ty.Perm) → Alike Q b e cs r → Alike (λ q E. Q (v.Perm q) E) b (as_perm e) cs r
 perm_alike {Q} {r = r} typed h = alike_run (sym (then_done r)) (then_alike h (λ w E rest q. perm_is Q w (typed w E q) q))
 
 -- ---- keys
@@ -115,7 +116,7 @@ module _ (ts : List BType) (b : Bound) (c : Context) (d : Predicate) (p : Place)
   pub body_opened : (n from : ℕ) (is : List ℕ) (vs : List Value) (w : Fraction) (scale : t.BExpr) (E F : Env) (less : State) (key : Key) (cs : List BChoice) → IsCoupled b c n p s sc E → n ≤ from → IsAwake g n E → length E ≡ length ts →
       (o : IsOpened b c d p own s sc q key vs w n from is scale E less F) →
       Fills ts b (predicate_context c.program d) (in_own is) g less (with_variables vs sc) scale w from o.content (body_in is scale from) (opened b body o.content less (with_variables vs sc) w) → AreLocals ts (from + 1) (body_in is scale from (from + 1)).locals →
-      (let z = body_in is scale from (from + 1) in Alike (λ t G. IsFilled b c n z.next (with_now own p) sc E t G × Singles n E G) (opened b body o.content less (with_variables vs sc) w) cs (brun ts b z.stmts F cs))
+      (let z = body_in is scale from (from + 1) in Alike (λ t G. IsFilled b c n z.next (with_now own p) sc E t G × Singles n E G) b (opened b body o.content less (with_variables vs sc) w) cs (brun ts b z.stmts F cs))
   body_opened n from is vs w scale E F less key cs coupled low awake full o fills locals =
       let y = from + 1 in
       let z = body_in is scale from y in
@@ -155,7 +156,7 @@ module _ (ts : List BType) (b : Bound) (c : Context) (d : Predicate) (p : Place)
   inside_alike : BodyFills → InnerReads → (n x from : ℕ) (is : List ℕ) (vs : List Value) (w : Fraction) (amount : t.BExpr) (E F : Env) (less : State) (key : Key) (cs : List BChoice) → IsCoupled b c n p s sc E → n ≤ x → x ≤ from →
       FitsStore d.params vs → IsAwake g n E → length E ≡ length ts → (o : IsOpened b c d p (maps_from c.program.layout x) s sc q key vs w n from is amount E less F) → AreLocals ts (from + 1) (inside x is amount from (from + 1)).locals →
       (let z = inside x is amount from (from + 1) in
-      Alike (IsValued b n z.next z.value u E) (then_with (opened b body o.content less (with_variables vs sc) w) (λ copy. value b inner copy sc)) cs (brun ts b z.stmts F cs))
+      Alike (IsValued b n z.next z.value u E) b (then_with (opened b body o.content less (with_variables vs sc) w) (λ copy. value b inner copy sc)) cs (brun ts b z.stmts F cs))
   inside_alike fills reads n x from is vs w amount E F less key cs coupled low high fits awake full o locals =
       let y = from + 1 in
       let own = maps_from c.program.layout x in
@@ -192,7 +193,7 @@ module _ (ts : List BType) (b : Bound) (c : Context) (d : Predicate) (p : Place)
   opening_alike_whole : BodyFills → InnerReads → (n : ℕ) (xs : List Operand) (m : Operand) (vs : List Value) (w : Fraction) (key : Key) (E : Env) (cs : List BChoice) → IsCoupled b c n p s sc E →
       slice_get c.program.layout.keys q ≡ Some d.params → AreValues b n E xs d.params vs → All (IsProperValue b) vs → Some key ≡ key_of vs → Holds b n m.expr E (Real w) → IsProperFraction b w →
       IsReady ts g n (from_opening xs m n).locals E →
-      Alike (IsValued b n (from_opening xs m n).next (from_opening xs m n).value u E) (from_taking vs w key) cs (brun ts b (from_opening xs m n).stmts E cs)
+      Alike (IsValued b n (from_opening xs m n).next (from_opening xs m n).value u E) b (from_taking vs w key) cs (brun ts b (from_opening xs m n).stmts E cs)
   opening_alike_whole fills reads n xs m vs w key E cs coupled there are_values proper is_key amount proper_amount ready =
       let l = located xs n in let a = atomic m l.next in let x = a.next in
       let own = state_types k.layout in

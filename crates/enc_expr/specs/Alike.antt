@@ -3,7 +3,7 @@
 use Rattle.std.specs.Prelude.{⊤, ◌≡◌, ◌<◌, ℕ, Bool as Truth, true, List, [], ◌∷◌, ◌++◌, length, slice_get, Some}
 use Rattle.vb_base.specs.declared.labels.Label.{Label}
 use Rattle.vb_base.specs.declared.places.Pos.{Pos}
-use Rattle.vb_value.specs.Bound.{Bound}
+use Rattle.vb_value.specs.Bound.{Bound, Bounded}
 use Rattle.vb_value.specs.Content.{Content, IsReducedContent, IsProperContent}
 use Rattle.vb_value.specs.Fraction.{Fraction, whole, is_positive, IsProperFraction}
 use Rattle.vb_value.specs.Value.{type_of}
@@ -19,8 +19,8 @@ use Rattle.boogie_tree.specs.Value.{BScalar, Int, Bool, Ref, Real, Snap, BChoice
 use Rattle.boogie_meaning.specs.Ends as end
 use Rattle.boogie_meaning.specs.Quantified.{bvalue}
 use Rattle.boogie_meaning.specs.Run as r
-use Rattle.run_file.specs.BoogieLines.{scalar}
-use Rattle.run_file.specs.Moves.{moves}
+use Rattle.moves.specs.Scalars.{scalar}
+use Rattle.moves.specs.Moves.{moves}
 use Rattle.enc_expr.specs.Place.{Place, IsLocalOf}
 use Rattle.enc_expr.specs.Pieces.{Operand}
 use Rattle.enc_expr.specs.Coupling.{Env, IsCoupled}
@@ -41,21 +41,21 @@ IsStopped (r.Stops r.Over cs) = ⊤
 IsStopped (r.Stops r.Wrong cs) = ⊥
 
 -- The evaluation beside the run of its code from these choices, where Q is said of a value and the environment after it.
-pub data Alike {X : Type 0} (Q : X → Env → Type 0) : Evaluated X → List BChoice → r.Run → Type 0 where
+pub data Alike {X : Type 0} (Q : X → Env → Type 0) (b : Bound) : Evaluated X → List BChoice → r.Run → Type 0 where
   done : {events : List Event} {cs rest : List BChoice} {x : X} {E : Env} → Follows events cs rest → Q x E →
-      Alike Q (ends events (Is x)) cs (r.Done E rest)
+      Alike Q b (ends events (Is x)) cs (r.Done E rest)
   failed : {events : List Event} {cs rest : List BChoice} {l : Label} → Follows events cs rest →
-      Alike Q (ends events (Fails l)) cs (r.Stops (r.Failed l) rest)
+      Alike Q b (ends events (Fails l)) cs (r.Stops (r.Failed l) rest)
   -- Where the evaluation is blocked the code is, or it wants a choice; it has taken the moves, and maybe others. From other choices
   -- than the moves it may be beyond the bound.
-  blocked : {events : List Event} {cs rest : List BChoice} (more : List BChoice) → Follows events cs (more ++ rest) → Alike Q (ends events Blocked) cs (r.Stops r.Blocked rest)
-  short : {events : List Event} {cs rest : List BChoice} (more : List BChoice) → Follows events cs (more ++ rest) → Alike Q (ends events Blocked) cs (r.Stops r.Short rest)
-  beyond : {events : List Event} {cs rest : List BChoice} → (cs ≡ moves events → ⊥) → Alike Q (ends events Blocked) cs (r.Stops r.Over rest)
-  -- nothing is said where the evaluation is Over
-  over : {events : List Event} {at : Pos} {cs : List BChoice} {run : r.Run} → Alike Q (ends events (Over at)) cs run
+  blocked : {events : List Event} {cs rest : List BChoice} (more : List BChoice) → Follows events cs (more ++ rest) → Alike Q b (ends events Blocked) cs (r.Stops r.Blocked rest)
+  short : {events : List Event} {cs rest : List BChoice} (more : List BChoice) → Follows events cs (more ++ rest) → Alike Q b (ends events Blocked) cs (r.Stops r.Short rest)
+  beyond : {events : List Event} {cs rest : List BChoice} → (cs ≡ moves events → ⊥) → Alike Q b (ends events Blocked) cs (r.Stops r.Over rest)
+  -- where the evaluation is Over, as with a bound it may be, nothing is said of the end of the code
+  over : {events : List Event} {at : Pos} {cs rest : List BChoice} {run : r.Run} → b ≡ Bounded → Follows events cs rest → Alike Q b (ends events (Over at)) cs run
   -- the choices do not begin with the moves of the events, and the code stops
   stray : {events : List Event} {e : End X} {cs : List BChoice} {run : r.Run} → ((rest : List BChoice) → Follows events cs rest → ⊥) → IsStopped run →
-      Alike Q (ends events e) cs run
+      Alike Q b (ends events e) cs run
 
 -- ---- environments that agree
 

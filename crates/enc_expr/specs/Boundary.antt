@@ -8,7 +8,7 @@ use Rattle.viper_state.specs.Event.{Event}
 use Rattle.viper_meaning.specs.Ends.{Evaluated, ends, events_of, Is, Fails, Blocked, Over}
 use Rattle.boogie_tree.specs.Value.{BChoice}
 use Rattle.boogie_meaning.specs.Run as r
-use Rattle.run_file.specs.Moves.{moves}
+use Rattle.moves.specs.Moves.{moves}
 use Rattle.enc_expr.specs.Coupling.{Env}
 use Rattle.enc_expr.specs.Alike.{Follows}
 
@@ -19,8 +19,8 @@ pub data EndsAlike {X : Type 0} (Q : X → Env → Type 0) : Bound → Evaluated
   failed : {b : Bound} {events : List Event} {cs rest : List BChoice} {l : Label} → Follows events cs rest → EndsAlike Q b (ends events (Fails l)) cs (r.Stops (r.Failed l) rest)
   blocked : {b : Bound} {events : List Event} {cs rest : List BChoice} → Follows events cs rest → EndsAlike Q b (ends events Blocked) cs (r.Stops r.Blocked rest)
   short : {b : Bound} {events : List Event} {cs rest : List BChoice} → Follows events cs rest → EndsAlike Q b (ends events Blocked) cs (r.Stops r.Short rest)
-  -- nothing is said of what leaves the bound
-  over : {events : List Event} {at : Pos} {cs : List BChoice} {run : r.Run} → EndsAlike Q Bounded (ends events (Over at)) cs run
+  -- of what leaves the bound it is said that the choices begin with its moves, and nothing of the end of the run
+  over : {events : List Event} {at : Pos} {cs rest : List BChoice} {run : r.Run} → Follows events cs rest → EndsAlike Q Bounded (ends events (Over at)) cs run
 
 -- the run is done, or failed
 abbrev pub HasEnded : r.Run → Type 0

@@ -22,10 +22,9 @@ use Rattle.boogie_tree.specs.Value.{Key, BScalar, Bool, Real, Snap, BValue, One,
 use Rattle.boogie_tree.specs.Values.{IsMapOf}
 use Rattle.boogie_tree.specs.declared.exprs.BBase.{BBase}
 use Rattle.boogie_tree.specs.declared.exprs.BBase.TheVariants as base
-use Rattle.run_file.specs.BoogieLines.{scalar}
-use Rattle.run_file.specs.Moves.{place_key, instance_key}
-use Rattle.enc_expr.specs.Place.{Maps, Place, number, AreApart, AreBeside}
-use Rattle.enc_expr.specs.Kinds.{base_for, index_types}
+use Rattle.moves.specs.Scalars.{scalar, base_for}
+use Rattle.moves.specs.Maps.{place_key, instance_key, index_types}
+use Rattle.enc_expr.specs.Place.{Maps, Place, number, IsAnySpot, IsLocalOf, AreApart}
 use Rattle.enc_expr.specs.Code.{Guard}
 
 -- the values of the locals
@@ -91,6 +90,11 @@ pub record HasMaps (layout : Layout) (n : ℕ) (m : Maps) (s : State) (E : Env) 
   pub amount : (q : ℕ) (us : List Ty) → slice_get layout.keys q ≡ Some us → HasMap (amount_kind us) n (number m.amount q) s.amount q E
   pub content : (q : ℕ) (us : List Ty) → slice_get layout.keys q ≡ Some us → HasMap (content_kind us) n (number m.content q) s.content q E
 
+-- those of its maps that hold permission
+pub record HasHeld (layout : Layout) (n : ℕ) (m : Maps) (s : State) (E : Env) : Type 0 where
+  pub mask : (f : ℕ) (u : Ty) → slice_get layout.fields f ≡ Some u → HasMap mask_kind n (number m.mask f) s.mask f E
+  pub amount : (q : ℕ) (us : List Ty) → slice_get layout.keys q ≡ Some us → HasMap (amount_kind us) n (number m.amount q) s.amount q E
+
 -- what each state of a run keeps: it fits the program, its numbers are proper, and no permission is negative
 pub record IsSound (b : Bound) (layout : Layout) (s : State) : Type 0 where
   pub fits : FitsState layout s
@@ -123,9 +127,8 @@ pub record IsCoupled (b : Bound) (c : Context) (n : ℕ) (p : Place) (s : State)
   pub store : All (IsProperValue b) sc.store
 
 -- the maps of the present state are changed, and they are none of the old state
-pub record IsOwn (c : Context) (p : Place) : Type 0 where
-  pub apart : AreApart c.program.layout p.now
-  pub beside : AreBeside c.program.layout p.now p.old
+abbrev pub IsOwn : Context → Place → Type 0
+IsOwn c p = AreApart IsAnySpot (IsLocalOf c.program.layout p.old) c.program.layout p.now
 
 -- ---- guards and fresh locals
 

@@ -15,7 +15,9 @@ use Rattle.boogie_tree.specs.declared.exprs.BBase.TheVariants as base
 use Rattle.boogie_tree.specs.declared.exprs.BOp.TheVariants as op
 use Rattle.boogie_tree.specs.Values.{plain_type}
 use Rattle.enc_expr.specs.Place.{Maps, Place, number, with_now, with_vars}
-use Rattle.enc_expr.specs.Kinds.{Kinds, base_for, type_at, body_kinds, state_types, variable_type}
+use Rattle.moves.specs.Scalars.{base_for, variable_type}
+use Rattle.moves.specs.Maps.{state_types}
+use Rattle.enc_expr.specs.Kinds.{Kinds, type_at, body_kinds}
 use Rattle.enc_expr.specs.Code.{Emitting, join, gives, then_emit, declares, declares_all, Guard, puts}
 use Rattle.enc_expr.specs.Pieces.{Operand, Atom, Located, atomic, located, index, at_one, one, label, zero_real, one_real, check_nonnegative, check_positive, scaled, if_positive, add_to}
 use Rattle.enc_expr.specs.Operators.{binary_code, chosen_operand, choose_code}

@@ -11,9 +11,8 @@ use Rattle.vb_value.specs.declared.values.Ty.{Ty}
 use Rattle.viper_state.specs.Run.{Opening}
 use Rattle.boogie_tree.specs.Program.{BType}
 use Rattle.boogie_tree.specs.Value.{BValue, One, Many, Snap}
-use Rattle.run_file.specs.BoogieLines.{scalar}
-use Rattle.run_file.specs.Moves.{place_key, instance_key}
-use Rattle.enc_expr.specs.Kinds.{variable_type, heap_type, content_type}
+use Rattle.moves.specs.Scalars.{scalar, variable_type}
+use Rattle.moves.specs.Maps.{place_key, instance_key, heap_type, content_type}
 
 abbrev pub variable_name : List ℕ → List ℕ
 variable_name x = codes "v$" ++ x

@@ -1,5 +1,5 @@
 -- Where a part of a program is read: the numbers of the local variables that hold the state.
-use Rattle.std.specs.Prelude.{◌≡◌, ◌≢◌, ◌<◌, ℕ, List, length, slice_index_or}
+use Rattle.std.specs.Prelude.{⊤, ◌≡◌, ◌<◌, ℕ, List, length, slice_index_or}
 use Rattle.vb_base.specs.declared.places.Pos.{Pos}
 use Rattle.vb_value.specs.Layout.{Layout}
 use Rattle.enc_expr.specs.declared.places.Maps as maps
@@ -63,16 +63,44 @@ local_at m (Mask f) = number m.mask f
 local_at m (Amount q) = number m.amount q
 local_at m (Content q) = number m.content q
 
--- it is the local of a map of the state
-pub record IsLocalOf (layout : Layout) (m : Maps) (x : ℕ) : Type 0 where
+-- each list has a local for every field or predicate, and no other
+pub record HasSizes (layout : Layout) (m : Maps) : Type 0 where
+  pub heap : length m.heap ≡ length layout.fields
+  pub mask : length m.mask ≡ length layout.fields
+  pub amount : length m.amount ≡ length layout.keys
+  pub content : length m.content ≡ length layout.keys
+
+-- ---- kinds of maps
+
+abbrev pub IsAnySpot : Spot → Type 0
+IsAnySpot i = ⊤
+
+-- permission: masks and amounts
+abbrev pub IsHeld : Spot → Type 0
+IsHeld (Heap f) = ⊥
+IsHeld (Mask f) = ⊤
+IsHeld (Amount q) = ⊤
+IsHeld (Content q) = ⊥
+
+-- what may be forgotten: heaps and contents
+abbrev pub IsFree : Spot → Type 0
+IsFree (Heap f) = ⊤
+IsFree (Mask f) = ⊥
+IsFree (Amount q) = ⊥
+IsFree (Content q) = ⊤
+
+-- it is the local of a map of the state, of this kind
+pub record IsLocalAt (P : Spot → Type 0) (layout : Layout) (m : Maps) (x : ℕ) : Type 0 where
   pub spot : Spot
+  pub kind : P spot
   pub exists : IsSpot layout spot
   pub there : x ≡ local_at m spot
 
--- two maps of the state have two locals
-abbrev pub AreApart : Layout → Maps → Type 0
-AreApart layout m = (i j : Spot) → IsSpot layout i → IsSpot layout j → local_at m i ≡ local_at m j → i ≡ j
+abbrev pub IsLocalOf : Layout → Maps → ℕ → Type 0
+IsLocalOf = IsLocalAt IsAnySpot
 
--- none of its locals is one of the other state
-abbrev pub AreBeside : Layout → Maps → Maps → Type 0
-AreBeside layout m l = (i j : Spot) → IsSpot layout i → IsSpot layout j → local_at m i ≢ local_at l j
+-- The maps of a state of this kind may be changed, and nothing else with them: each has a local of its own, and none of them is a
+-- local with O.
+pub record AreApart (P : Spot → Type 0) (O : ℕ → Type 0) (layout : Layout) (m : Maps) : Type 0 where
+  pub apart : (i j : Spot) → P i → IsSpot layout i → IsSpot layout j → local_at m i ≡ local_at m j → i ≡ j
+  pub beside : (i : Spot) → P i → IsSpot layout i → O (local_at m i) → ⊥

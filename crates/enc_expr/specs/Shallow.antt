@@ -1,5 +1,6 @@
 -- How deep the brackets of code are nested.
 use Rattle.std.specs.Prelude.{ℕ, ◌+◌, ◌≤◌, max}
+use Rattle.vb_base.specs.Limits.{max_term_depth}
 use Rattle.vb_value.specs.declared.values.Ty.{Ty}
 use Rattle.vb_value.specs.declared.values.Ty.TheVariants as ty
 use Rattle.boogie_tree.specs.Nested.{expr_depth, stmts_depth}
@@ -13,9 +14,9 @@ reserve ty.Bool = 0
 reserve ty.Ref = 0
 reserve ty.Perm = 0
 
--- Of what has this depth the statements have one bracket more at most, or 1,025, since a body that is opened counts too.
+-- Of what has this depth, or of a body that it opens, the statements have one bracket more at most.
 pub record IsShallow (d : ℕ) {X : Type 0} (m : Code X) : Type 0 where
-  pub stmts : stmts_depth m.stmts ≤ 1 + max 1024 d
+  pub stmts : stmts_depth m.stmts ≤ 1 + max max_term_depth d
 
 -- the value of an expression of this depth and type has no more brackets than the expression, and that of an Int one fewer
 pub record IsShallowExpression (d : ℕ) (u : Ty) (m : Code Operand) : Type 0 where

@@ -9,7 +9,8 @@ use Rattle.boogie_tree.specs.Values.{plain_type}
 use Rattle.boogie_meaning.specs.Programs.{HaveKeys}
 use Rattle.boogie_meaning.specs.Types.{HasType, IsTyped}
 use Rattle.enc_expr.specs.Place.{Maps, Place, number}
-use Rattle.enc_expr.specs.Kinds.{base_for, heap_type, mask_type, amount_type, content_type, variable_type}
+use Rattle.moves.specs.Scalars.{base_for, variable_type}
+use Rattle.moves.specs.Maps.{heap_type, mask_type, amount_type, content_type}
 use Rattle.enc_expr.specs.Code.{Code, Guard}
 use Rattle.enc_expr.specs.Pieces.{Operand}
 

@@ -15,11 +15,15 @@ use Rattle.enc_expr.specs.declared.terms.Index.{Index}
 use Rattle.enc_expr.specs.declared.terms.Index.TheVariants as at
 use Rattle.enc_expr.specs.declared.operators.Class.{Class}
 use Rattle.enc_expr.specs.declared.operators.Class.TheVariants as class
+use Rattle.enc_expr.specs.declared.own_kinds.OwnKinds.{OwnKinds}
 use Rattle.enc_expr.specs.declared.readings.Kinds.{Kinds}
 use Rattle.enc_expr.specs.declared.readings.Reading.{Reading}
 
 abbrev pub kinds_of : Kinds → k.Kinds
 kinds_of x = record { vars = x.vars.now; layout = x.layout.now }
+
+abbrev pub own_kinds_of : OwnKinds → k.Kinds
+own_kinds_of x = record { vars = x.vars.items; layout = x.layout }
 
 abbrev pub place_in : Reading → p.Place
 place_in r = record { vars = r.vars.now; now = p.maps_of r.now.now; old = p.maps_of r.old.now; at = r.at }

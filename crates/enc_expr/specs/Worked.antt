@@ -38,10 +38,11 @@ use Rattle.boogie_tree.specs.declared.exprs.BBase.TheVariants as base
 use Rattle.boogie_meaning.specs.Quantified.{bvalue}
 use Rattle.boogie_meaning.specs.Run as run
 use Rattle.boogie_meaning.specs.Types.{base_of, is_base, is_typed}
-use Rattle.run_file.specs.BoogieLines.{scalar}
-use Rattle.run_file.specs.Moves.{moves, place_key, instance_key}
+use Rattle.moves.specs.Scalars.{scalar, variable_type}
+use Rattle.moves.specs.Maps.{place_key, instance_key, heap_type, mask_type, amount_type, content_type}
+use Rattle.moves.specs.Moves.{moves}
 use Rattle.enc_expr.specs.Place.{Place}
-use Rattle.enc_expr.specs.Kinds.{Kinds, heap_type, mask_type, amount_type, content_type, variable_type}
+use Rattle.enc_expr.specs.Kinds.{Kinds}
 use Rattle.enc_expr.specs.Code.{Code}
 use Rattle.enc_expr.specs.Pieces.{Operand}
 use Rattle.enc_expr.specs.Encoding.{code}

@@ -19,6 +19,7 @@ ghost use Rattle.viper_state.specs.Run.{Opening, Scene};
 ghost use Rattle.viper_state.specs.Fits.{FitsStore, FitsOpening};
 ghost use Rattle.viper_meaning.specs.Value.{value, opened};
 ghost use Rattle.boogie_tree.specs.Expr as t;
+ghost use Rattle.boogie_tree.specs.Literals.{LiteralsFit, BlockLiteralsFit};
 ghost use Rattle.boogie_tree.specs.Nested.{expr_depth};
 ghost use Rattle.boogie_tree.specs.Program.{BType};
 ghost use Rattle.boogie_tree.specs.Values.{plain_type, IsEnvironment};
@@ -26,10 +27,12 @@ ghost use Rattle.boogie_tree.specs.declared.exprs.BBase.TheVariants as base;
 ghost use Rattle.boogie_meaning.specs.Run.{brun};
 ghost use Rattle.boogie_meaning.specs.Types as types;
 ghost use Rattle.enc_expr.specs.Place.{Place};
-ghost use Rattle.enc_expr.specs.Kinds.{kinds_in};
+ghost use Rattle.enc_expr.specs.Kinds.{Kinds, kinds_in};
 ghost use Rattle.enc_expr.specs.Code.{Guard};
 ghost use Rattle.enc_expr.specs.Encoding.{code, body_code};
 ghost use Rattle.enc_expr.specs.Front.{types_of, front_types, front_values, HasFront};
+ghost use Rattle.enc_expr.specs.Fits.{FitsPiece, FitsCode};
+ghost use Rattle.enc_expr.specs.Literals.{ViperLiteralsFit, AssertionLiteralsFit};
 ghost use Rattle.enc_expr.specs.Nodes.{expr_nodes, written};
 ghost use Rattle.enc_expr.specs.Coupling.{Env, IsCoupled, IsOwn, IsReady};
 ghost use Rattle.enc_expr.specs.Alike.{IsValued, IsScale, IsSource, IsFilled};
@@ -41,7 +44,8 @@ ghost use Rattle.enc_expr.specs.Typed.{HasPlaceTypes, HasGuardType, IsTypedPiece
 /// a bound and without one. On the moves of the events of the expression the code is done or fails where the expression has a
 /// value or fails, and is blocked or short of a choice where the expression is blocked. And each run of the code that is done
 /// or fails, whatever it chooses, has such an end of the expression, and took its moves. Where it is done, the operand has the
-/// value, and nothing but new locals was changed. Nothing is said of an expression that leaves the bound.
+/// value, and nothing but new locals was changed. With the bound the expression may leave it: then the choices begin with its moves,
+/// and nothing is said of the end of the code.
 pub fn an_expression_and_its_code_end_alike()
     ensures { (ts : List BType) (b : Bound) (c : Context) (p : Place) (g : Guard) (s : State) (sc : Scene) (n : ℕ) (E : Env)
         (a : e.Expr) (u : Ty) → IsFormed c.program → IsCoupled b c n p s sc E → typing.HasType c a u
@@ -75,8 +79,8 @@ pub fn code_is_well_typed()
 {}
 
 /// The value of a well-typed expression of a formed program has no more brackets open at once than the expression has levels. The
-/// statements of its code, and of that of a body, have at most 1,025, also where an `unfolding` opens a body, or one more than the
-/// expression or body has levels where it has more than 1,024.
+/// statements of its code, and of that of a body, have at most one more than the expression or body has levels, or than a term of a
+/// program may have, since an `unfolding` opens a body.
 pub fn code_is_shallow()
     ensures expression { (c : Context) (p : Place) (g : Guard) (a : e.Expr) (u : Ty) (n : ℕ) → IsFormed c.program
         → typing.HasType c a u → IsShallowExpression (depth a) u (code (kinds_in c) p g a n) }
@@ -94,6 +98,32 @@ pub fn code_is_linear()
     ensures body { (c : Context) (p : Place) (g : Guard) (scale : t.BExpr) (a : e.Assertion) (from n : ℕ) → IsFormed c.program
         → expr_nodes scale ≡ 1
         → written (body_code (kinds_in c) p g scale a from n) ≤ 64 * assertion_size (base_of c.program) a }
+{}
+
+/// The literals of the code of an expression or body can be spelled where those of the expression or body can.
+pub fn literals_of_code_fit()
+    ensures expression { (k : Kinds) (p : Place) (g : Guard) (a : e.Expr) (n : ℕ) → ViperLiteralsFit a
+        → BlockLiteralsFit (code k p g a n).stmts × LiteralsFit (code k p g a n).value.expr }
+    ensures body { (k : Kinds) (p : Place) (g : Guard) (scale : t.BExpr) (a : e.Assertion) (from n : ℕ) → AssertionLiteralsFit a
+        → LiteralsFit scale → BlockLiteralsFit (body_code k p g scale a from n).stmts }
+{}
+
+/// The literals of a typed expression or assertion of a formed program can be spelled.
+pub fn literals_of_programs_fit()
+    ensures expression { (c : Context) (a : e.Expr) (u : Ty) → IsFormed c.program → typing.HasType c a u → ViperLiteralsFit a }
+    ensures assertion { (c : Context) (a : e.Assertion) → IsFormed c.program → IsAssertion c a → AssertionLiteralsFit a }
+{}
+
+/// The code of a typed expression or body of a formed program can be spelled, behind the locals that its place names and
+/// among its own.
+pub fn code_can_be_printed()
+    ensures expression { (c : Context) (p : Place) (g : Guard) (a : e.Expr) (u : Ty) (ts : List BType) → IsFormed c.program
+        → typing.HasType c a u → HasPlaceTypes c p ts → HasGuardType g ts
+        → FitsCode (length ts) (code (kinds_in c) p g a (length ts)) }
+    ensures body { (c : Context) (p : Place) (g : Guard) (scale : t.BExpr) (a : e.Assertion) (from : ℕ) (ts : List BType)
+        → IsFormed c.program → IsAssertion c a → HasPlaceTypes c p ts → HasGuardType g ts
+        → types.HasType ts None scale base.Real → LiteralsFit scale → slice_get ts from ≡ Some (plain_type base.Snap)
+        → FitsPiece (length ts) (body_code (kinds_in c) p g scale a from (length ts)) }
 {}
 
 /// The locals that hold the opening of a unit of a formed program have names, no two of which are the same, and as many types.

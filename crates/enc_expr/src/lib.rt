@@ -5,14 +5,17 @@
 #![tactic(auto)]
 
 mod blocks;
+pub mod call_laws;
 mod calls;
 mod codes;
+mod copying;
 mod emits;
 mod fillings;
 pub mod laws;
 mod openings;
 mod operands;
 mod operators;
+mod own_kinds;
 mod places;
 mod readings;
 mod terms;
@@ -21,6 +24,7 @@ pub mod worked;
 pub use blocks::{add, add_all};
 pub use calls::checked;
 pub use codes::{check, check_all, check_amount, fill};
+pub use copying::copied;
 pub use emits::Emit;
 pub use fillings::{Source, add_to, check_nonnegative, if_positive, set_value};
 pub use openings::{
@@ -29,6 +33,7 @@ pub use openings::{
 };
 pub use operands::{Atom, Held, Located, Operand, atomic, in_locals};
 pub use operators::sides;
+pub use own_kinds::OwnKinds;
 pub use places::{Maps, Place};
-pub use readings::{Kinds, Reading, local_at, number};
+pub use readings::{Kinds, Reading, base_for, local_at, number};
 pub use terms::{Index, at, binary, scaled};

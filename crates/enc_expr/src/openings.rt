@@ -5,10 +5,10 @@ ghost use Rattle.boogie_tree.specs.declared.exprs.BBase.TheVariants as base;
 ghost use Rattle.enc_expr.specs.Code.{declares_all, join, puts};
 ghost use Rattle.enc_expr.specs.Emits.{emit_of, Emits, Declares};
 ghost use Rattle.enc_expr.specs.Encoding as code;
-ghost use Rattle.enc_expr.specs.Kinds as k;
 ghost use Rattle.enc_expr.specs.Pieces as piece;
 ghost use Rattle.enc_expr.specs.Place.{maps_of};
 ghost use Rattle.enc_expr.specs.View.{atom_of, index_in, place_in};
+ghost use Rattle.moves.specs.Maps.{heap_type, index_types, indexed_type, mask_type, state_types};
 
 use crate::blocks::{add, add_all};
 use crate::emits::Emit;
@@ -33,14 +33,14 @@ fn map_of(alloc: Global, values: BBase) -> Result<BType, Memory>
 
 /// The type of the heap of a field.
 pub fn heap_of(alloc: Global, ty: &Ty) -> Result<BType, Memory>
-    ensures { IfOk result (λ u. type_of u ≡ k.heap_type ty.now) }
+    ensures { IfOk result (λ u. type_of u ≡ heap_type ty.now) }
 {
     map_of(alloc, base_for(*ty))
 }
 
 /// The type of the amounts or contents of a predicate: its instances have 0 as index where it has no parameters.
 pub fn indexed_map_of(alloc: Global, params: &[Ty], base: BBase) -> Result<BType, Memory>
-    ensures { IfOk result (λ u. type_of u ≡ record { keys = k.index_types params.now; base = base }) }
+    ensures { IfOk result (λ u. type_of u ≡ record { keys = index_types params.now; base = base }) }
 {
     if params.is_empty() {
         let keys = vec![in alloc; BBase::Int]?;
@@ -54,7 +54,7 @@ pub fn indexed_map_of(alloc: Global, params: &[Ty], base: BBase) -> Result<BType
 }
 
 fn fresh_heaps(alloc: Global, fields: &[Ty], out: &mut Emit) -> Result<Vec<usize>, Memory>
-    ensures { IfOk result (λ ns. Declares (map k.heap_type fields.now) (emit_of out.old) (emit_of out.new) ns.items) }
+    ensures { IfOk result (λ ns. Declares (map heap_type fields.now) (emit_of out.old) (emit_of out.new) ns.items) }
 {
     let mut heaps = Vec::with_capacity(alloc, fields.len())?;
     for ty in fields {
@@ -66,7 +66,7 @@ fn fresh_heaps(alloc: Global, fields: &[Ty], out: &mut Emit) -> Result<Vec<usize
 
 /// For each field a new mask.
 pub fn fresh_masks(alloc: Global, fields: &[Ty], out: &mut Emit) -> Result<Vec<usize>, Memory>
-    ensures { IfOk result (λ ns. Declares (map k.mask_type fields.now) (emit_of out.old) (emit_of out.new) ns.items) }
+    ensures { IfOk result (λ ns. Declares (map mask_type fields.now) (emit_of out.old) (emit_of out.new) ns.items) }
 {
     let mut masks = Vec::with_capacity(alloc, fields.len())?;
     for _ in fields {
@@ -83,7 +83,7 @@ pub fn fresh_indexed(
     base: BBase,
     out: &mut Emit,
 ) -> Result<Vec<usize>, Memory>
-    ensures { IfOk result (λ ns. Declares (map (λ us. k.indexed_type base us.items) keys.now) (emit_of out.old) (emit_of out.new) ns.items) }
+    ensures { IfOk result (λ ns. Declares (map (λ us. indexed_type base us.items) keys.now) (emit_of out.old) (emit_of out.new) ns.items) }
 {
     let mut maps = Vec::with_capacity(alloc, keys.len())?;
     for params in keys {
@@ -96,7 +96,7 @@ pub fn fresh_indexed(
 /// New maps of a whole state.
 pub fn fresh_state(alloc: Global, layout: &Layout, out: &mut Emit) -> Result<Maps, Memory>
     ensures { IfOk result (λ m. (maps_of m ≡ code.maps_from layout.now (length (emit_of out.old).locals))
-        × Emits (declares_all (k.state_types layout.now) (length (emit_of out.old).locals)) (emit_of out.old) (emit_of out.new)
+        × Emits (declares_all (state_types layout.now) (length (emit_of out.old).locals)) (emit_of out.old) (emit_of out.new)
         (length (emit_of out.old).locals)) }
 {
     let heap = fresh_heaps(alloc, &layout.fields, out)?;

@@ -4,6 +4,7 @@ ghost use Rattle.enc_expr.specs.Kinds as k;
 ghost use Rattle.enc_expr.specs.Place as p;
 ghost use Rattle.enc_expr.specs.Pieces as piece;
 ghost use Rattle.enc_expr.specs.View.{kinds_of, place_in};
+ghost use Rattle.moves.specs.Scalars as s;
 
 use crate::places::{Maps, Place};
 use boogie_tree::BBase;
@@ -20,7 +21,7 @@ pub struct Kinds<'a> {
 impl<'a> Kinds<'a> {
     /// The base type of a variable.
     pub fn variable(self, number: u32) -> BBase
-        ensures { result ≡ k.base_for (k.type_at (kinds_of self.entry).vars number) }
+        ensures { result ≡ s.base_for (k.type_at (kinds_of self.entry).vars number) }
     {
         base_for(type_at(self.vars, number))
     }
@@ -47,8 +48,8 @@ impl<'a> Kinds<'a> {
 }
 
 /// A permission is a real.
-pub(crate) fn base_for(ty: Ty) -> BBase
-    ensures { result ≡ k.base_for ty }
+pub fn base_for(ty: Ty) -> BBase
+    ensures { result ≡ s.base_for ty }
 {
     match ty {
         Ty::Int => BBase::Int,

@@ -14,20 +14,21 @@ use Rattle.boogie_tree.specs.declared.exprs.BBase.TheVariants as base
 use Rattle.boogie_tree.specs.Values.{plain_type, AreKeys}
 use Rattle.boogie_meaning.specs.Programs.{HaveKeys}
 use Rattle.boogie_meaning.specs.Types as b
-use Rattle.boogie_text.specs.Printable.{IsFreeName, FitStmts, FitsProc}
+use Rattle.boogie_tree.specs.Fits.{FitStmts}
+use Rattle.boogie_text.specs.Printable.{IsFreeName, FitsProc}
 use Rattle.enc_expr.specs.Place.{Place}
 use Rattle.enc_expr.specs.Kinds.{kinds_in}
 use Rattle.enc_expr.specs.Code.{Code, Guard}
 use Rattle.enc_expr.specs.Emits.{temporaries}
 use Rattle.enc_expr.specs.Encoding.{code, body_code}
-use Rattle.enc_expr.specs.Front.{front_names, front_types}
+use Rattle.enc_expr.specs.Locals.{fixed_names, fixed_types, named, locals_of_unit}
 use Rattle.enc_expr.specs.Typed.{HasPlaceTypes, HasGuardType}
-use Rattle.enc_expr.proofs.FrontLaws.{front}
 use Rattle.enc_expr.proofs.TypedCode.{expression_typed, filling_typed}
-use Rattle.enc_text.specs.Literals.{LiteralsFit}
-use Rattle.enc_text.specs.Fits.{FitsPiece, named, locals_of_unit, types_before, procedure_of}
-use Rattle.enc_text.proofs.NameLaws.{length_named, length_temporaries, locals_printed}
-use Rattle.enc_text.proofs.PrintedCode.{expression_printed, body_printed}
+use Rattle.boogie_tree.specs.Literals.{LiteralsFit}
+use Rattle.enc_expr.specs.Fits.{FitsPiece}
+use Rattle.enc_text.specs.Fits.{types_before, procedure_of}
+use Rattle.enc_text.proofs.NameLaws.{length_named, length_temporaries, fixed_good, locals_fit, locals_differ}
+use Rattle.enc_expr.proofs.PrintedCode.{expression_printed, body_printed}
 
 abbrev has_keys : BType → Type 0
 has_keys u = AreKeys u.keys
@@ -37,22 +38,22 @@ of_piece : {X : Type 0} (name : List ℕ) (p : Program) (i : Unit) (us : List BT
     FitsPiece (length (types_before p i us)) m → FitsProc (procedure_of name p i us m)
 of_piece name p i us m free formed keyed own small h = record {
   name = free;
-  locals = (locals_printed p i (us ++ m.locals) formed (All-append has_keys us m.locals keyed own) few).0;
-  locals_differ = (locals_printed p i (us ++ m.locals) formed (All-append has_keys us m.locals keyed own) few).1;
+  locals = locals_fit p i (us ++ m.locals) formed (All-append has_keys us m.locals keyed own) few;
+  locals_differ = locals_differ p i (us ++ m.locals) formed few;
   body = subst (λ (n : ℕ). FitStmts n m.stmts) as_many h;
 }
   where
-    few : length (front_types p i ++ (us ++ m.locals)) ≤ 2 ^ 64
-    few = omega (arith, small, length-append (front_types p i) (us ++ m.locals), length-append us m.locals, length-append (front_types p i) us)
+    few : length (fixed_types p i ++ (us ++ m.locals)) ≤ 2 ^ 64
+    few = omega (arith, small, length-append (fixed_types p i) (us ++ m.locals), length-append us m.locals, length-append (fixed_types p i) us)
 
     as_many : length (types_before p i us) + length m.locals ≡ length (locals_of_unit p i (us ++ m.locals))
     as_many = omega (
       arith,
-      length-append (front_types p i) us,
+      length-append (fixed_types p i) us,
       length-append us m.locals,
-      length-append (named (front_names p i) (front_types p i)) (temporaries (length (front_types p i)) (us ++ m.locals)),
-      length_named (front_names p i) (front_types p i) (front p i formed).as_many,
-      length_temporaries (length (front_types p i)) (us ++ m.locals),
+      length-append (named (fixed_names p i) (fixed_types p i)) (temporaries (length (fixed_types p i)) (us ++ m.locals)),
+      length_named (fixed_names p i) (fixed_types p i) (fixed_good p i formed).as_many,
+      length_temporaries (length (fixed_types p i)) (us ++ m.locals),
     )
 
 pub expression_procedure : (name : List ℕ) (i : Unit) (us : List BType) (c : Context) (p : Place) (g : Guard) (a : e.Expr) (u : Ty) → IsFreeName name → IsFormed c.program → HaveKeys us → y.HasType c a u →

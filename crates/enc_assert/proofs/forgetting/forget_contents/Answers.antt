@@ -1,6 +1,6 @@
 use Rattle.std.proofs.Common.{◌∙◌, ◌+◌, length, map, drop, ap, sym, subst}
 use Rattle.enc_expr.specs.Emits.{Emit, emit_of, Emits}
-use Rattle.enc_expr.specs.Kinds.{content_type}
+use Rattle.moves.specs.Maps.{content_type}
 use Rattle.enc_expr.specs.Place.{number, maps_of}
 use Rattle.enc_expr.proofs.EmitLaws.{gives_emits}
 use Rattle.enc_expr.proofs.EmittedParts.{next_item, dropped_all}

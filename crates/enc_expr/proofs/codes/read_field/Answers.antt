@@ -3,7 +3,7 @@ use Rattle.std.proofs.Common.{◌∙◌, ap}
 use Rattle.std.proofs.lemmas.Result.{IfOk-weaker}
 use Rattle.boogie_tree.specs.Expr as t
 use Rattle.enc_expr.specs.Emits.{emit_of}
-use Rattle.enc_expr.specs.Kinds.{base_for}
+use Rattle.moves.specs.Scalars.{base_for}
 use Rattle.enc_expr.specs.Place.{number}
 use Rattle.enc_expr.specs.View.{seen, atom_of, held_of, kinds_of, place_in}
 use Rattle.enc_expr.proofs.EmittedForms.{valued, put_as, read_emits}

@@ -6,7 +6,7 @@ use Rattle.boogie_tree.specs.Values.{plain_type}
 use Rattle.enc_expr.specs.Code.{join}
 use Rattle.enc_expr.specs.Emits.{emit_of}
 use Rattle.enc_expr.specs.Encoding.{filled_by}
-use Rattle.enc_expr.specs.Kinds.{base_for}
+use Rattle.moves.specs.Scalars.{base_for}
 use Rattle.enc_expr.specs.View.{seen, atom_of, held_of, kinds_of, place_in}
 use Rattle.enc_expr.proofs.BlockLaws.{all_added, then_added}
 use Rattle.enc_expr.proofs.EmittedForms.{put_as, acc_emits}

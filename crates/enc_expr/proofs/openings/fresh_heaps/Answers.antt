@@ -1,6 +1,6 @@
 use Rattle.std.proofs.Common.{◌∙◌, ℕ, ◌+◌, List, ◌++◌, map, drop, ap, subst}
 use Rattle.enc_expr.specs.Emits.{Emit, emit_of, Declares}
-use Rattle.enc_expr.specs.Kinds.{heap_type}
+use Rattle.moves.specs.Maps.{heap_type}
 use Rattle.enc_expr.proofs.EmittedParts.{declare_step, declare_end, declared_as, next_of, next_is}
 use Rattle.enc_expr.proofs.openings.fresh_heaps.Goals as goal
 

@@ -1,7 +1,7 @@
 -- The locals that are left, behind those so far.
 use Rattle.std.proofs.Common.{List, ℕ, ◌++◌, map, drop}
 use Rattle.enc_expr.specs.Emits.{Emit, emit_of, Declares}
-use Rattle.enc_expr.specs.Kinds.{heap_type}
+use Rattle.moves.specs.Maps.{heap_type}
 use Rattle.enc_expr.proofs.openings.fresh_heaps.Given as goal
 
 abbrev pub invariant-loop-ty : goal.invariant-loop-ty

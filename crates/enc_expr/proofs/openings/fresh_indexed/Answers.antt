@@ -4,7 +4,7 @@ use Rattle.vb_value.specs.declared.values.Ty.{Ty}
 use Rattle.boogie_tree.specs.Program.{BType}
 use Rattle.boogie_tree.specs.declared.exprs.BBase.{BBase}
 use Rattle.enc_expr.specs.Emits.{Emit, emit_of, Declares}
-use Rattle.enc_expr.specs.Kinds.{index_types, indexed_type}
+use Rattle.moves.specs.Maps.{index_types, indexed_type}
 use Rattle.enc_expr.proofs.EmittedParts.{declare_step, declare_end, declared_as, next_item}
 use Rattle.enc_expr.proofs.openings.fresh_indexed.Goals as goal
 

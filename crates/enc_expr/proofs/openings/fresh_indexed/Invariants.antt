@@ -1,7 +1,7 @@
 -- The locals that are left, behind those so far.
 use Rattle.std.proofs.Common.{List, ℕ, ◌++◌, map, drop}
 use Rattle.enc_expr.specs.Emits.{Emit, emit_of, Declares}
-use Rattle.enc_expr.specs.Kinds.{indexed_type}
+use Rattle.moves.specs.Maps.{indexed_type}
 use Rattle.enc_expr.proofs.openings.fresh_indexed.Given as goal
 
 abbrev pub invariant-loop-params : goal.invariant-loop-params

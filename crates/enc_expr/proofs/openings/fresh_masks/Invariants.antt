@@ -1,7 +1,7 @@
 -- The locals that are left, behind those so far.
 use Rattle.std.proofs.Common.{List, ℕ, ◌++◌, map, drop}
 use Rattle.enc_expr.specs.Emits.{Emit, emit_of, Declares}
-use Rattle.enc_expr.specs.Kinds.{mask_type}
+use Rattle.moves.specs.Maps.{mask_type}
 use Rattle.enc_expr.proofs.openings.fresh_masks.Given as goal
 
 abbrev pub invariant-loop : goal.invariant-loop

@@ -3,7 +3,7 @@ use Rattle.std.proofs.Common.{◌≡◌, ◌∙◌, map, ap}
 use Rattle.vb_value.specs.Layout.{Layout}
 use Rattle.boogie_tree.specs.declared.exprs.BBase.TheVariants as plain
 use Rattle.enc_expr.specs.Emits.{emit_of}
-use Rattle.enc_expr.specs.Kinds.{heap_type, mask_type, indexed_type}
+use Rattle.moves.specs.Maps.{heap_type, mask_type, indexed_type}
 use Rattle.enc_expr.proofs.EmittedParts.{declares_as, state_declared, map-map}
 use Rattle.enc_expr.proofs.openings.fresh_state.Goals as goal
 

@@ -1,6 +1,6 @@
 -- The types of the keys so far.
 use Rattle.std.proofs.Common.{◌≡◌, map, take}
-use Rattle.enc_expr.specs.Kinds.{base_for}
+use Rattle.moves.specs.Scalars.{base_for}
 use Rattle.enc_expr.proofs.openings.indexed_map_of.Given as goal
 
 abbrev pub invariant-loop-ty : goal.invariant-loop-ty
