@@ -1,0 +1,10 @@
+pub mod SavedLaws
+pub mod PlainLaws
+pub mod ContentLaws
+pub mod ClosingLaws
+pub mod CountedLaws
+pub mod FoldLaws
+pub mod UnfoldLaws
+pub mod TypedFold
+pub mod ShallowFold
+pub mod SmallFold

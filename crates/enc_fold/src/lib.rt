@@ -1,0 +1,4 @@
+//! Folding and unfolding predicates as code of Boogie, whose runs go alongside those of Viper.
+#![tactic(auto)]
+
+pub mod laws;

@@ -1,0 +1,4 @@
+pub mod Home
+pub mod Encoding
+pub mod Runs
+pub mod Units
