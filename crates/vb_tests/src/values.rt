@@ -102,15 +102,16 @@ pub(crate) fn same_row(alloc: Global, row: &str) -> Option<bool> {
 }
 
 /// Whether there are so many nodes, in the content and in its copy, which is another than nothing.
-fn has_nodes(content: &Content, nodes: u32) -> Option<bool> {
-    let copy = content.copy().ok()?;
+fn has_nodes(alloc: Global, content: &Content, nodes: u32) -> Option<bool> {
+    let copy = content.copy(alloc).ok()?;
     Some(content.same(&copy) && !content.same(&Content::Unit) && copy.nodes() == nodes)
 }
 
 pub(crate) fn line_row(alloc: Global, row: &str) -> Option<bool> {
     let (pairs, nodes) = halves(row, " ")?;
     let nodes = nodes.parse::<u32>().ok()?;
-    has_nodes(&line(alloc, pairs.parse::<u32>().ok()?)?, nodes)
+    let content = line(alloc, pairs.parse::<u32>().ok()?)?;
+    has_nodes(alloc, &content, nodes)
 }
 
 /// The nodes of the pair of two lines, or `over`.

@@ -22,11 +22,12 @@ use Rattle.boogie_meaning.proofs.ValueLaws.{empty_typed, set_typed}
 use Rattle.boogie_run.specs.Start.{with_settings, start_of, FitsSetting, CanRun}
 use Rattle.boogie_run.specs.Within.{IsWithinScalar, IsWithinValue, IsWithinEntry, IsWithinChoice}
 use Rattle.boogie_run.proofs.SettingLaws.{start_fits}
-use Rattle.run_file.specs.BoogieLines.{scalar, SpellsScalar, word, content, SpellsEntry, last, more, known, Line, Var, Map as Opens, At, Chosen, Opened, IsLine, var, opens, at, pick, value, entries}
+use Rattle.moves.specs.Scalars.{scalar}
+use Rattle.run_file.specs.BoogieLines.{SpellsScalar, word, content, SpellsEntry, last, more, known, Line, Var, Map as Opens, At, Chosen, Opened, IsLine, var, opens, at, pick, value, entries}
 use Rattle.run_file.specs.BoogieRun.{entry_with, filled, entries_of, nothing, fits_entry, AreSettings, AreChoices, none, one, many, AreRun, environment, unset, SpellsBoogieRun}
 use Rattle.run_file.specs.BoogieRun as choice
 use Rattle.run_file.specs.Lines.{Known}
-use Rattle.run_file.specs.Text.{is_empty}
+use Rattle.moves.specs.Lists.{is_empty}
 use Rattle.run_file.proofs.SpelledLaws.{Good, good_value, good_content}
 
 -- ---- values

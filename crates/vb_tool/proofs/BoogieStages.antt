@@ -18,7 +18,9 @@ use Rattle.boogie_grammar.specs.Faults.{IsFault}
 use Rattle.boogie_grammar.specs.declared.faults.BoogieFault.{BoogieFault}
 use Rattle.boogie_grammar.specs.declared.faults.BoogieFault.TheVariants as fault
 use Rattle.boogie_text.specs.Answers.{IsRead, UnlessMemory}
-use Rattle.boogie_text.specs.Printable.{IsLiteral, FitsExpr, FitExprs, FitsStmt, FitStmts, FitsProc}
+use Rattle.boogie_tree.specs.Literals.{IsLiteral}
+use Rattle.boogie_tree.specs.Fits.{FitsExpr, FitExprs, FitsStmt, FitStmts}
+use Rattle.boogie_text.specs.Printable.{FitsProc}
 use Rattle.boogie_text.proofs.SpelledLaws.{spelled_printable}
 use Rattle.boogie_run.specs.Start.{start_of, outcome_of, IsWithinProgram}
 use Rattle.boogie_run.specs.Within.{IsWithinExpr, AreWithinExprs, IsWithinStmt, AreWithinStmts}

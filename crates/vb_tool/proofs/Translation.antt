@@ -20,7 +20,8 @@ use Rattle.boogie_tree.specs.Nested.{expr_depth, stmts_depth, procs_depth}
 use Rattle.boogie_tree.specs.declared.exprs.BBase.TheVariants as base
 use Rattle.boogie_grammar.specs.Grammar.{proc_names}
 use Rattle.boogie_grammar.specs.Spells.{BSpells}
-use Rattle.boogie_text.specs.Printable.{IsFreeName, FitsExpr, FitStmts, FitsLocal, FitsProc, IsPrintable}
+use Rattle.boogie_tree.specs.Fits.{FitsExpr, FitStmts}
+use Rattle.boogie_text.specs.Printable.{IsFreeName, FitsLocal, FitsProc, IsPrintable}
 use Rattle.boogie_text.proofs.NestedLaws.{shallow}
 use Rattle.boogie_text.proofs.Parsed.{one_program}
 use Rattle.boogie_meaning.specs.Programs.{types_of, HaveKeys, IsTypedProc, BoogieFails}

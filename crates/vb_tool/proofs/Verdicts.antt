@@ -186,7 +186,7 @@ module _ (bytes : List ℕ) (small : length bytes ≤ 1048576) where
   of_spelling : (tokens : List Token) → IsLexed bytes tokens → Spelled tokens ⊎ GoesWrong tokens → Answered
   of_spelling tokens lexed (inl tree) = of_types tokens tree.0 lexed tree.1 (typed_or_broken tree.0)
   of_spelling tokens lexed (inr wrong) =
-      let last = some_place_after bytes small in inr (_, of_tokens lexed (syntax {end = last.0} wrong.none wrong.place last.1))
+      let last = some_place_after bytes (omega (arith, small)) in inr (_, of_tokens lexed (syntax {end = last.0} wrong.none wrong.place last.1))
 
   of_cut : ((ts : List Token) × IsLexed bytes ts) ⊎ ((fault : LexFault) × HasFault bytes fault) → Answered
   of_cut (inl cut) = of_spelling cut.0 cut.1 (some_answer cut.0)

@@ -2,6 +2,7 @@
 -- from the one before: bytes are cut into tokens, tokens spell a tree, and a tree is a typed program. For `translate` the
 -- program is one that is translated. For `run` it has the unit, and the other file spells a run of that.
 use Rattle.std.specs.Prelude.{◌≡◌, ◌<◌, ◌≤◌, ℕ, List, length, Some, None}
+use Rattle.vb_base.specs.Limits.{max_viper_bytes, max_weight, too_heavy}
 use Rattle.vb_base.specs.declared.places.Pos.{Pos}
 use Rattle.viper_syntax.specs.declared.tokens.LexFault.{LexFault}
 use Rattle.viper_syntax.specs.declared.tokens.Token.{Token}
@@ -17,7 +18,6 @@ use Rattle.viper_types.specs.Declaring.{program_typing}
 use Rattle.viper_scope.specs.Outcome.{Broken}
 use Rattle.viper_types.specs.Program.{IsProgram}
 use Rattle.run_file.specs.Run.{SpellsViperRun, GoesWrongAt}
-use Rattle.vb_tool.specs.Limits.{max_file, max_weight}
 use Rattle.vb_tool.specs.Tree as v
 use Rattle.vb_tool.specs.Straight.{straight_of}
 use Rattle.vb_tool.specs.Units.{unit_named, UnitRun}
@@ -26,7 +26,7 @@ use Rattle.vb_tool.specs.declared.status.Refusal.TheVariants.{Size, RunSize, Lex
 
 -- the bytes are the text of this typed program, within the limits of a file and of weight
 pub record IsAccepted (bytes : List ℕ) (typed : p.Program) : Type 0 where
-  pub small : length bytes ≤ max_file
+  pub small : length bytes ≤ max_viper_bytes
   pub tokens : List Token
   pub lexed : IsLexed bytes tokens
   pub source : d.SourceProgram
@@ -44,7 +44,7 @@ pub record Accepts (bytes : List ℕ) (program : p.Program) : Type 0 where
 -- file spell the run
 pub record AcceptsRun (bytes name run_bytes : List ℕ) (u : UnitRun) : Type 0 where
   pub accepted : IsAccepted bytes u.program
-  pub small : length run_bytes ≤ max_file
+  pub small : length run_bytes ≤ max_viper_bytes
   pub named : unit_named u.program name ≡ Some u.unit
   pub spelled : SpellsViperRun run_bytes u.program u.unit u.run
 
@@ -53,7 +53,7 @@ pub record AcceptsRun (bytes name run_bytes : List ℕ) (u : UnitRun) : Type 0 w
 -- a tree is refused for the first rule that it breaks, or for its weight
 pub data IsTreeRefusal (source : d.SourceProgram) : Refusal → Type 0 where
   rule : {at : Pos} {n : ℕ} → program_typing source ≡ Broken at n → IsTreeRefusal source (Rule at n)
-  heavy : {typed : p.Program} → IsProgram source typed → max_weight < weight typed → IsTreeRefusal source (Weight 100001)
+  heavy : {typed : p.Program} → IsProgram source typed → max_weight < weight typed → IsTreeRefusal source (Weight too_heavy)
 
 -- tokens that spell no tree are refused at the first token with which they begin none, or at the end where all of them begin
 -- one
@@ -68,18 +68,18 @@ pub data IsTextRefusal (bytes : List ℕ) : Refusal → Type 0 where
 
 -- `translate` refuses the bytes, for the first of these reasons that stands; the last is a form that is not translated yet
 pub data IsRefusal (bytes : List ℕ) : Refusal → Type 0 where
-  size : max_file < length bytes → IsRefusal bytes Size
-  of_text : {r : Refusal} → length bytes ≤ max_file → IsTextRefusal bytes r → IsRefusal bytes r
+  size : max_viper_bytes < length bytes → IsRefusal bytes Size
+  of_text : {r : Refusal} → length bytes ≤ max_viper_bytes → IsTextRefusal bytes r → IsRefusal bytes r
   not_yet : {typed : p.Program} → IsAccepted bytes typed → straight_of typed ≡ None → IsRefusal bytes NotYet
 
 -- `run` refuses the bytes of its two files and the name of its unit, for the first of these reasons that stands
 pub data IsRunRefusal (bytes name run_bytes : List ℕ) : Refusal → Type 0 where
-  size : max_file < length bytes → IsRunRefusal bytes name run_bytes Size
-  run_size : length bytes ≤ max_file → max_file < length run_bytes → IsRunRefusal bytes name run_bytes RunSize
-  of_text : {r : Refusal} → length bytes ≤ max_file → length run_bytes ≤ max_file → IsTextRefusal bytes r → IsRunRefusal bytes name run_bytes r
-  no_unit : {typed : p.Program} → IsAccepted bytes typed → length run_bytes ≤ max_file → unit_named typed name ≡ None →
+  size : max_viper_bytes < length bytes → IsRunRefusal bytes name run_bytes Size
+  run_size : length bytes ≤ max_viper_bytes → max_viper_bytes < length run_bytes → IsRunRefusal bytes name run_bytes RunSize
+  of_text : {r : Refusal} → length bytes ≤ max_viper_bytes → length run_bytes ≤ max_viper_bytes → IsTextRefusal bytes r → IsRunRefusal bytes name run_bytes r
+  no_unit : {typed : p.Program} → IsAccepted bytes typed → length run_bytes ≤ max_viper_bytes → unit_named typed name ≡ None →
       IsRunRefusal bytes name run_bytes NoUnit
-  run_syntax : {typed : p.Program} {unit : ℕ} {at : Pos} → IsAccepted bytes typed → length run_bytes ≤ max_file →
+  run_syntax : {typed : p.Program} {unit : ℕ} {at : Pos} → IsAccepted bytes typed → length run_bytes ≤ max_viper_bytes →
       unit_named typed name ≡ Some unit → GoesWrongAt run_bytes typed unit at → IsRunRefusal bytes name run_bytes (RunSyntax at)
 
 -- exactly one thing is accepted, or there is exactly one reason to refuse, and never both

@@ -2,6 +2,7 @@
 -- refused. Each step goes on from the one before: bytes spell a program, the program is well-typed, the header of the run
 -- file names one of its procedures, and the run file spells a run of that.
 use Rattle.std.specs.Prelude.{◌≡◌, ◌<◌, ◌≤◌, ℕ, List, length, slice_get, Some, None}
+use Rattle.vb_base.specs.Limits.{max_boogie_bytes}
 use Rattle.vb_base.specs.declared.places.Pos.{Pos}
 use Rattle.boogie_tree.specs.Program.{Proc, BProgram}
 use Rattle.boogie_tree.specs.Value.{BRun}
@@ -11,14 +12,13 @@ use Rattle.boogie_grammar.specs.declared.faults.BoogieFault.TheVariants as fault
 use Rattle.boogie_text.specs.Answers.{IsRead}
 use Rattle.boogie_run.specs.Start.{start_of}
 use Rattle.run_file.specs.BoogieRun.{SpellsName, NamesNothingAt, SpellsBoogieRun, GoesWrongAt}
-use Rattle.vb_tool.specs.Limits.{max_boogie_file}
 use Rattle.vb_tool.specs.Procedures.{procedure_named, ProcedureRun}
 use Rattle.vb_tool.specs.declared.status.Refusal.{Refusal}
 use Rattle.vb_tool.specs.declared.status.Refusal.TheVariants.{Size, RunSize, Prelude, Deep, BoogieSyntax, BoogieType, NoProcedure, RunSyntax}
 
 -- the bytes are the text of this well-typed program, within the limits of a file and of brackets
 pub record IsBoogie (bytes : List ℕ) (program : BProgram) : Type 0 where
-  pub small : length bytes ≤ max_boogie_file
+  pub small : length bytes ≤ max_boogie_bytes
   pub text : IsRead bytes program
   pub is_typed : IsTypedProgram program
 
@@ -34,7 +34,7 @@ pub record NamesProcedure (run_bytes : List ℕ) (program : BProgram) (procedure
 -- defaults elsewhere.
 pub record AcceptsReplay (bytes run_bytes : List ℕ) (u : ProcedureRun) : Type 0 where
   pub accepted : IsBoogie bytes u.program
-  pub small : length run_bytes ≤ max_boogie_file
+  pub small : length run_bytes ≤ max_boogie_bytes
   pub names : NamesProcedure run_bytes u.program u.procedure
   pub run : BRun
   pub spelled : SpellsBoogieRun run_bytes u.procedure run
@@ -59,8 +59,8 @@ pub data IsBoogieRunRefusal (program : BProgram) (run_bytes : List ℕ) : Refusa
 
 -- `replay` refuses the bytes of its two files, for the first of these reasons that stands
 pub data IsReplayRefusal (bytes run_bytes : List ℕ) : Refusal → Type 0 where
-  size : max_boogie_file < length bytes → IsReplayRefusal bytes run_bytes Size
-  run_size : length bytes ≤ max_boogie_file → max_boogie_file < length run_bytes → IsReplayRefusal bytes run_bytes RunSize
-  of_text : {r : Refusal} → length bytes ≤ max_boogie_file → length run_bytes ≤ max_boogie_file → IsBoogieRefusal bytes r → IsReplayRefusal bytes run_bytes r
-  of_run : {program : BProgram} {r : Refusal} → IsBoogie bytes program → length run_bytes ≤ max_boogie_file → IsBoogieRunRefusal program run_bytes r →
+  size : max_boogie_bytes < length bytes → IsReplayRefusal bytes run_bytes Size
+  run_size : length bytes ≤ max_boogie_bytes → max_boogie_bytes < length run_bytes → IsReplayRefusal bytes run_bytes RunSize
+  of_text : {r : Refusal} → length bytes ≤ max_boogie_bytes → length run_bytes ≤ max_boogie_bytes → IsBoogieRefusal bytes r → IsReplayRefusal bytes run_bytes r
+  of_run : {program : BProgram} {r : Refusal} → IsBoogie bytes program → length run_bytes ≤ max_boogie_bytes → IsBoogieRunRefusal program run_bytes r →
       IsReplayRefusal bytes run_bytes r

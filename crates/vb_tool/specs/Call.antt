@@ -1,5 +1,6 @@
 -- What a call of the tool does: when each status comes, and what stands in the sinks afterwards.
 use Rattle.std.specs.Prelude.{⊤, ◌≡◌, ◌⊎◌, ◌<◌, ◌≤◌, ℕ, List, ◌∷◌, length, Option, None, Some}
+use Rattle.vb_base.specs.Limits.{max_viper_bytes, max_boogie_bytes}
 use Rattle.vb_outer.specs.Faults.{Rose}
 use Rattle.vb_outer.specs.Shelf.{Files, IsMissing, IsFile}
 use Rattle.vb_outer.specs.Sink.{Appends, AppendsPrefix}
@@ -9,7 +10,6 @@ use Rattle.boogie_run.specs.declared.replaying.BOutcome.{BOutcome}
 use Rattle.vb_tool.specs.Accepted.{Accepts, AcceptsRun, IsRefusal, IsRunRefusal}
 use Rattle.vb_tool.specs.AcceptedReplay.{AcceptsReplay, IsReplayRefusal}
 use Rattle.vb_tool.specs.Command.{Command, Translate, Run, Replay, Asks, IsNoCommand, files_of, limit_of}
-use Rattle.vb_tool.specs.Limits.{max_file, max_boogie_file}
 use Rattle.vb_tool.specs.Outcome.{run_status, run_text}
 use Rattle.vb_tool.specs.Procedures.{ProcedureRun, procedure_end}
 use Rattle.vb_tool.specs.ReplayOutcome.{replay_status, replay_text}
@@ -40,10 +40,10 @@ Misses files command = MissesOf files (limit_of command) (files_of command)
 -- the command is refused. A file that is too long is refused before the next one is read.
 pub data Refuses (files : Option Files) : Command → Refusal → Type 0 where
   translates : {file : List ℕ} {r : Refusal} (bytes : List ℕ) → IsFile files file bytes → IsRefusal bytes r → Refuses files (Translate file) r
-  too_long : {file unit run_file : List ℕ} (bytes : List ℕ) → IsFile files file bytes → max_file < length bytes → Refuses files (Run file unit run_file) Size
+  too_long : {file unit run_file : List ℕ} (bytes : List ℕ) → IsFile files file bytes → max_viper_bytes < length bytes → Refuses files (Run file unit run_file) Size
   runs : {file unit run_file : List ℕ} {r : Refusal} (bytes run_bytes : List ℕ) → IsFile files file bytes → IsFile files run_file run_bytes → IsRunRefusal bytes unit run_bytes r →
       Refuses files (Run file unit run_file) r
-  replay_too_long : {file run_file : List ℕ} (bytes : List ℕ) → IsFile files file bytes → max_boogie_file < length bytes → Refuses files (Replay file run_file) Size
+  replay_too_long : {file run_file : List ℕ} (bytes : List ℕ) → IsFile files file bytes → max_boogie_bytes < length bytes → Refuses files (Replay file run_file) Size
   replays : {file run_file : List ℕ} {r : Refusal} (bytes run_bytes : List ℕ) → IsFile files file bytes → IsFile files run_file run_bytes → IsReplayRefusal bytes run_bytes r →
       Refuses files (Replay file run_file) r
 

@@ -1,6 +1,6 @@
 -- The commands: what the words of a call ask for, and the files that they name.
 use Rattle.std.specs.Prelude.{◌≡◌, ℕ, List, [], ◌∷◌, codes}
-use Rattle.vb_tool.specs.Limits.{max_file, max_boogie_file}
+use Rattle.vb_base.specs.Limits.{max_viper_bytes, max_boogie_bytes}
 
 pub data Command : Type 0 where
   -- `translate FILE`
@@ -24,9 +24,9 @@ files_of (Replay file run_file) = file ∷ run_file ∷ []
 
 -- the most bytes that each of them may have
 abbrev pub limit_of : Command → ℕ
-limit_of (Translate file) = max_file
-limit_of (Run file unit run_file) = max_file
-limit_of (Replay file run_file) = max_boogie_file
+limit_of (Translate file) = max_viper_bytes
+limit_of (Run file unit run_file) = max_viper_bytes
+limit_of (Replay file run_file) = max_boogie_bytes
 
 -- the words ask for this command
 pub record Asks (words : List (List ℕ)) (command : Command) : Type 0 where

@@ -1,6 +1,7 @@
 -- Which trees are programs: types and names are right, and expressions are not too deep.
 use Rattle.std.specs.Prelude.{ℕ, pos, ◌+◌, ◌<◌, ◌≤◌, ◌^◌, ◌-◌, max, List, [], ◌∷◌, ⊤, length, map, IsTrue}
 use Rattle.std.specs.List.{list_all}
+use Rattle.vb_base.specs.Limits.{max_term_depth}
 use Rattle.vb_base.specs.declared.places.Pos.{Pos}
 use Rattle.vb_base.specs.Names.{is_name, NamesDiffer}
 use Rattle.vb_tool.specs.declared.straight.Op.{Op}
@@ -34,7 +35,7 @@ depth (Int n) = 1
 depth (Bin o a b at) = 1 + max (depth a) (depth b)
 
 pub data IsStmt (variables : ℕ) : Stmt → Type 0 where
-  assert_ : {e : Expr} {at start : Pos} → IsBool variables e → depth e ≤ 1024 → IsStmt variables (Assert at (Fact e start))
+  assert_ : {e : Expr} {at start : Pos} → IsBool variables e → depth e ≤ max_term_depth → IsStmt variables (Assert at (Fact e start))
 
 abbrev pub AreStmts : ℕ → List Stmt → Type 0
 AreStmts variables [] = ⊤

@@ -7,7 +7,6 @@ pub mod Encoded
 pub mod Status
 pub mod Translates
 pub mod Converted
-pub mod Limits
 pub mod Command
 pub mod Units
 pub mod Outcome

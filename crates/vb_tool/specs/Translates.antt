@@ -23,7 +23,7 @@ pub record Translates (program : p.Program) (bytes : List ℕ) : Type 0 where
   pub boogie : BProgram
   pub spelled : BSpells bytes boogie
   pub only : (other : BProgram) → BSpells bytes other → other ≡ boogie
-  -- at most 2,048 brackets are open at once
+  -- not too many brackets are open at once
   pub brackets : IsShallow spelled.tokens
   -- it is well-typed, and no run of it is ill-typed, with the bound or without it
   pub typed : IsTypedProgram boogie

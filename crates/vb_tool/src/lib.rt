@@ -20,4 +20,3 @@ mod works;
 
 pub use command::tool;
 pub use status::{Refusal, Status};
-pub use works::{MAX_BOOGIE_FILE, MAX_FILE};

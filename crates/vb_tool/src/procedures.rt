@@ -1,9 +1,10 @@
 // A program of Boogie, and a run of one of its procedures.
 ghost use Rattle.std.specs.Prelude.{◌≡◌, ◌≤◌, length, IfOk, IsErrOf, position};
 ghost use Rattle.std.specs.Str.{bytes_eq};
+ghost use Rattle.vb_base.specs.Limits.{max_boogie_bytes};
 ghost use Rattle.boogie_tree.specs.Program as p;
 ghost use Rattle.boogie_tree.specs.Whole.{program_of, proc_of};
-ghost use Rattle.vb_tool.specs.AcceptedReplay.{IsBoogie, IsBoogieRefusal, IsBoogieRunRefusal, IsReplayRefusal};
+ghost use Rattle.vb_tool.specs.AcceptedReplay.{IsBoogie, IsBoogieRefusal, IsReplayRefusal};
 ghost use Rattle.vb_tool.specs.Parts.{ReplayOf};
 ghost use Rattle.vb_tool.specs.Procedures.{procedure_named};
 
@@ -20,7 +21,7 @@ use vb_base::Ident;
 
 /// The well-typed program of a file.
 fn boogie_program(alloc: Global, bytes: &[u8]) -> Result<BProgram, Trouble>
-    requires { length bytes.now ≤ 33554432 }
+    requires { length bytes.now ≤ max_boogie_bytes }
     ensures accepted { IfOk result (λ p. IsBoogie bytes.now (program_of p)) }
     ensures refused { (r : Refusal) → IsErrOf result (Trouble.Refused r) → IsBoogieRefusal bytes.now r }
     ensures read { IsErrOf result Trouble.Read → ⊥ }
@@ -54,8 +55,8 @@ fn is_named(proc: &Proc, name: &Ident) -> bool
 
 /// The outcome of the procedure that a run file names, of the program of a file, on the run of the run file.
 pub fn replayed(alloc: Global, bytes: &[u8], run_bytes: &[u8]) -> Result<Work, Trouble>
-    requires bytes_within { length bytes.now ≤ 33554432 }
-    requires run_within { length run_bytes.now ≤ 33554432 }
+    requires bytes_within { length bytes.now ≤ max_boogie_bytes }
+    requires run_within { length run_bytes.now ≤ max_boogie_bytes }
     ensures work { IfOk result (λ w. ReplayOf bytes.now run_bytes.now w.status w.text.items) }
     ensures refused { (r : Refusal) → IsErrOf result (Trouble.Refused r) → IsReplayRefusal bytes.now run_bytes.now r }
     ensures read { IsErrOf result Trouble.Read → ⊥ }

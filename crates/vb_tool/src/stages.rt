@@ -1,5 +1,6 @@
 // The stages of a command, over the bytes of its files. Each may refuse them.
-ghost use Rattle.std.specs.Prelude.{◌≡◌, ◌≤◌, length, IfOk, IsErrOf};
+ghost use Rattle.std.specs.Prelude.{◌≤◌, length, IfOk, IsErrOf};
+ghost use Rattle.vb_base.specs.Limits.{max_viper_bytes};
 ghost use Rattle.viper_core.specs.Formed.{IsFormed};
 ghost use Rattle.viper_core.specs.View.{program_of};
 ghost use Rattle.vb_tool.specs.Accepted.{IsAccepted, IsTextRefusal, IsRefusal, IsRunRefusal};
@@ -23,7 +24,7 @@ use viper_types::check;
 
 /// The typed program of a file. What a stage leaves over is given up before the next.
 fn typed_program(alloc: Global, bytes: &[u8]) -> Result<Program, Trouble>
-    requires { length bytes.now ≤ 1048576 }
+    requires { length bytes.now ≤ max_viper_bytes }
     ensures accepted { IfOk result (λ p. IsAccepted bytes.now (program_of p)) }
     ensures formed { IfOk result (λ p. IsFormed (program_of p)) }
     ensures refused { (r : Refusal) → IsErrOf result (Trouble.Refused r) → IsTextRefusal bytes.now r }
@@ -37,7 +38,7 @@ fn typed_program(alloc: Global, bytes: &[u8]) -> Result<Program, Trouble>
 
 /// The translation of a file.
 pub fn translated(alloc: Global, bytes: &[u8]) -> Result<Vec<u8>, Trouble>
-    requires { length bytes.now ≤ 1048576 }
+    requires { length bytes.now ≤ max_viper_bytes }
     ensures text { IfOk result (λ text. TranslationOf bytes.now text.items) }
     ensures refused { (r : Refusal) → IsErrOf result (Trouble.Refused r) → IsRefusal bytes.now r }
     ensures read { IsErrOf result Trouble.Read → ⊥ }
@@ -52,8 +53,8 @@ pub fn translated(alloc: Global, bytes: &[u8]) -> Result<Vec<u8>, Trouble>
 
 /// The outcome of the unit of this name, of the program of a file, on the run of a run file.
 pub fn outcome(alloc: Global, bytes: &[u8], name: &str, run_bytes: &[u8]) -> Result<Work, Trouble>
-    requires bytes_within { length bytes.now ≤ 1048576 }
-    requires run_within { length run_bytes.now ≤ 1048576 }
+    requires bytes_within { length bytes.now ≤ max_viper_bytes }
+    requires run_within { length run_bytes.now ≤ max_viper_bytes }
     ensures work { IfOk result (λ w. OutcomeOf bytes.now name.now run_bytes.now w.status w.text.items) }
     ensures refused { (r : Refusal) → IsErrOf result (Trouble.Refused r) → IsRunRefusal bytes.now name.now run_bytes.now r }
     ensures read { IsErrOf result Trouble.Read → ⊥ }

@@ -11,7 +11,7 @@ use viper_syntax::LexFault;
 /// Why the files of a command are refused. Those of one command are tried in this order.
 #[derive(Clone, Copy, Debug, PartialEq, Eq)]
 pub enum Refusal {
-    /// The file has more bytes than it may have: 1,048,576 for a program of Viper, 33,554,432 for one of Boogie.
+    /// The file has more bytes than it may have: `MAX_VIPER_BYTES` for a program of Viper, `MAX_BOOGIE_BYTES` for one of Boogie.
     Size,
     /// The run file has more bytes than the file may have.
     RunSize,
@@ -22,7 +22,7 @@ pub enum Refusal {
     Syntax(Pos),
     /// Its program breaks the rule of this number at this place, and none before it.
     Rule(Pos, u32),
-    /// Its program is well-typed and weighs more than 100,000; the weight is told as 100,001.
+    /// Its program is well-typed and weighs more than `MAX_WEIGHT`; the weight is told as `TOO_HEAVY`.
     Weight(u64),
     /// Its program is accepted, and has a form that is not translated yet.
     NotYet,
@@ -31,7 +31,7 @@ pub enum Refusal {
     /// The file does not begin with the prelude of Boogie. The place is that of the first byte that differs, or the end of
     /// the file.
     Prelude(Pos),
-    /// More than 2,048 of its brackets are unclosed at once; the place is that of the first one too many.
+    /// More than `MAX_UNCLOSED_BRACKETS` of its brackets are unclosed at once; the place is that of the first one too many.
     Deep(Pos),
     /// It spells no program of Boogie. The place is that of the first byte behind the prelude at which no token begins, or
     /// else of the first token with which the tokens begin no program, or the end of the file where all of them begin one.

@@ -1,16 +1,15 @@
 // Why a command did not do its work.
 ghost use Rattle.std.specs.Prelude.{◌≡◌};
 ghost use Rattle.vb_tool.specs.declared.trouble.Trouble.TheVariants as trouble;
-ghost use Rattle.vb_tool.specs.declared.status.Refusal.TheVariants as refusal;
 ghost use Rattle.vb_tool.specs.Converted.{trouble_of_file, trouble_of_lex, trouble_of_parse, trouble_of_types, trouble_of_boogie, trouble_of_run};
 
 use crate::status::Refusal;
-use boogie_grammar::BoogieFault;
+use boogie_text::BoogieFault;
 use run_file::RunFileFault;
 use vb_base::Memory;
 use vb_outer::FileFault;
-use viper_scope::TypeFault;
 use viper_syntax::{LexFault, ParseFault};
+use viper_types::TypeFault;
 
 /// Why the files of a command gave no text.
 #[derive(Clone, Copy, Debug, PartialEq, Eq)]

@@ -1,5 +1,5 @@
 // The work of a command: its files are read from the shelf, in their order.
-ghost use Rattle.std.specs.Prelude.{◌≡◌, ◌⊎◌, ◌≤◌, IfOk, IfErr, IsErrOf, length};
+ghost use Rattle.std.specs.Prelude.{◌≡◌, ◌⊎◌, ◌≤◌, IfOk, IsErrOf, length};
 ghost use Rattle.vb_outer.specs.Faults.{Rose};
 ghost use Rattle.vb_outer.specs.Shelf.{IsMissing, IsWhole, IsLonger};
 ghost use Rattle.vb_tool.specs.Call.{Tells, Misses, Refuses, Works};
@@ -14,13 +14,8 @@ use crate::status::{Refusal, Status};
 use crate::trouble::Trouble;
 use crate::words::Command;
 use std::alloc::Global;
+use vb_base::limits::{MAX_BOOGIE_BYTES, MAX_VIPER_BYTES};
 use vb_outer::{FileFault, Shelf, read_file};
-
-/// A file of a program of Viper, and one of a run of it, has at most so many bytes.
-pub const MAX_FILE: usize = 1_048_576;
-
-/// A file of a program of Boogie, and one of a run of it, has at most so many bytes.
-pub const MAX_BOOGIE_FILE: usize = 33_554_432;
 
 /// Does what a command asks for, but for writing it.
 pub fn work<H: Shelf>(alloc: Global, shelf: &mut H, command: Command) -> Result<Work, Trouble>
@@ -43,7 +38,7 @@ fn translate<H: Shelf>(alloc: Global, shelf: &mut H, file: &str) -> Result<Work,
     ensures read { IsErrOf result Trouble.Read → Misses (H.files shelf.old) (Translate file.now) ⊎ Rose (H.faults shelf.old) (H.faults shelf.new) }
     ensures files { H.files shelf.new ≡ H.files shelf.old }
 {
-    let source = read_file(alloc, shelf, file, MAX_FILE)?;
+    let source = read_file(alloc, shelf, file, MAX_VIPER_BYTES)?;
     let text = translated(alloc, &source)?;
     Ok(Work {
         status: Status::Done,
@@ -64,8 +59,8 @@ fn run<H: Shelf>(
     ensures read { IsErrOf result Trouble.Read → Misses (H.files shelf.old) (Run file.now unit.now run_file.now) ⊎ Rose (H.faults shelf.old) (H.faults shelf.new) }
     ensures files { H.files shelf.new ≡ H.files shelf.old }
 {
-    let bytes = read_file(alloc, shelf, file, MAX_FILE)?;
-    let run_bytes = read_run_file(alloc, shelf, run_file, MAX_FILE)?;
+    let bytes = read_file(alloc, shelf, file, MAX_VIPER_BYTES)?;
+    let run_bytes = read_run_file(alloc, shelf, run_file, MAX_VIPER_BYTES)?;
     outcome(alloc, &bytes, unit, &run_bytes)
 }
 
@@ -81,8 +76,8 @@ fn replay<H: Shelf>(
     ensures read { IsErrOf result Trouble.Read → Misses (H.files shelf.old) (Replay file.now run_file.now) ⊎ Rose (H.faults shelf.old) (H.faults shelf.new) }
     ensures files { H.files shelf.new ≡ H.files shelf.old }
 {
-    let bytes = read_file(alloc, shelf, file, MAX_BOOGIE_FILE)?;
-    let run_bytes = read_run_file(alloc, shelf, run_file, MAX_BOOGIE_FILE)?;
+    let bytes = read_file(alloc, shelf, file, MAX_BOOGIE_BYTES)?;
+    let run_bytes = read_run_file(alloc, shelf, run_file, MAX_BOOGIE_BYTES)?;
     replayed(alloc, &bytes, &run_bytes)
 }
 
