@@ -10,7 +10,7 @@ set -eu
 top=$(dirname "$(readlink -f "$0")")/..
 folder=$(mktemp -d)
 trap 'rm -r "$folder"' EXIT
-"$top/remduska" translate "$top/examples/first.vpr" >/dev/null    # the program is built before anything is measured
+"$top/remduska" --build    # the program is built before anything is measured
 
 write_text() { # KIND BYTES
     case $1 in

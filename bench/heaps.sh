@@ -13,7 +13,7 @@ top=$(dirname "$(readlink -f "$0")")/..
 program=${1:-$top/remduska}
 folder=$(mktemp -d)
 trap 'rm -r "$folder"' EXIT
-[ $# -gt 0 ] || "$top/remduska" translate "$top/examples/first.vpr" >/dev/null    # the program is built before anything is measured
+[ $# -gt 0 ] || "$top/remduska" --build    # the program is built before anything is measured
 
 many() { # COUNT LINE
     yes "$2" | head -n "$1" || true

@@ -11,7 +11,7 @@ top=$(dirname "$(readlink -f "$0")")/..
 program=${1:-$top/remduska}
 folder=$(mktemp -d)
 trap 'rm -r "$folder"' EXIT
-[ $# -gt 0 ] || "$top/remduska" translate "$top/examples/first.vpr" >/dev/null    # the program is built before anything is measured
+[ $# -gt 0 ] || "$top/remduska" --build    # the program is built before anything is measured
 prelude=$(sed '/^procedure/,$d' "$top/examples/first.bpl")
 
 write_files() { # KIND COUNT
