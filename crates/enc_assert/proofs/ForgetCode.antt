@@ -76,8 +76,8 @@ module _ (ts : List BType) where
   contents_typed m (us ∷ keys) i h = let here = h 0 i us (omega arith) refl in
       then_typed ts (content_typed us (number m.amount i) (number m.content i) here.0 here.1 here.2) (λ z any. contents_typed m keys (i + 1) (λ j l ws same there. h (suc j) l ws (omega (arith, same)) there))
 
-  all_typed : (layout : Layout) (m : Maps) → HaveKeys (state_types layout) → HasStateTypes layout m ts → IsTypedCode ts Any (forget_code layout m)
-  all_typed layout m keys h = then_typed ts
+  pub forget_code_typed : (layout : Layout) (m : Maps) → HaveKeys (state_types layout) → HasStateTypes layout m ts → IsTypedCode ts Any (forget_code layout m)
+  forget_code_typed layout m keys h = then_typed ts
       (heaps_typed m layout.fields 0 (λ j l u same there. let same_there : slice_get layout.fields l ≡ Some u = ap (slice_get layout.fields) (omega (arith, same)) ∙ there in (h.mask l u same_there, h.heap l u same_there)))
       (λ z any. contents_typed m layout.keys 0 (λ j l us same there. let same_there : slice_get layout.keys l ≡ Some us = ap (slice_get layout.keys) (omega (arith, same)) ∙ there in
       (contents_keyed layout keys l us same_there, h.amount l us same_there, h.content l us same_there)))
@@ -98,8 +98,8 @@ contents_all_keyed : (m : Maps) (kss : List (List Ty)) (i : ℕ) → ((q : ℕ) 
 contents_all_keyed m [] i h = gives_keyed tt
 contents_all_keyed m (us ∷ kss) i h = then_keyed (map_keyed (content_type us) (number m.amount i) (number m.content i) (h 0 us refl)) (λ z. contents_all_keyed m kss (i + 1) (λ q ws there. h (suc q) ws there))
 
-all_keyed : (layout : Layout) (m : Maps) → HaveKeys (state_types layout) → IsKeyed (forget_code layout m)
-all_keyed layout m keys = then_keyed (heaps_keyed m layout.fields 0) (λ z. contents_all_keyed m layout.keys 0 (contents_keyed layout keys))
+pub forget_keyed : (layout : Layout) (m : Maps) → HaveKeys (state_types layout) → IsKeyed (forget_code layout m)
+forget_keyed layout m keys = then_keyed (heaps_keyed m layout.fields 0) (λ z. contents_all_keyed m layout.keys 0 (contents_keyed layout keys))
 
 -- ---- brackets
 
@@ -136,7 +136,7 @@ contents_nodes m (us ∷ kss) i n = let first = forget_map (content_type us) (nu
 
 pub forget_typed : (p : Program) (m : Maps) (ts : List BType) → IsFormed p → HasStateTypes p.layout m ts → IsTypedPiece ts (forget_code p.layout m (length ts))
 forget_typed p m ts formed h = let keys = states_keyed p formed.typed in let us = (forget_code p.layout m (length ts)).locals in
-    piece_typed ts (forget_code p.layout m) (all_keyed p.layout m keys) (all_typed (ts ++ us) p.layout m keys (more_state_types ts us p.layout m h))
+    piece_typed ts (forget_code p.layout m) (forget_keyed p.layout m keys) (forget_code_typed (ts ++ us) p.layout m keys (more_state_types ts us p.layout m h))
 
 pub forget_shallow : (layout : Layout) (m : Maps) (n : ℕ) → stmts_depth (forget_code layout m n).stmts ≤ 4
 forget_shallow layout m n = (then_low 4 (heaps_low m layout.fields 0) (λ z any. contents_low m layout.keys 0)).stmts n

@@ -36,7 +36,7 @@ use Rattle.enc_expr.specs.Code.{Emitting, join, then_emit, Guard, guarded, puts}
 use Rattle.enc_expr.specs.Pieces.{atomic, label, check_nonnegative}
 use Rattle.enc_expr.specs.Encoding.{code, amount_code}
 use Rattle.enc_expr.specs.Coupling.{Env, IsSound, IsCoupled, IsAwake, AreLocals, IsReady}
-use Rattle.enc_expr.specs.Alike.{Alike, Kept, KeptBut, IsValued, HasAtom, IsScale, variable}
+use Rattle.enc_expr.specs.Alike.{Alike, Kept, IsValued, HasAtom, IsScale, variable}
 use Rattle.enc_expr.proofs.Simulated.{Simulates}
 use Rattle.enc_expr.proofs.RunLaws.{join_done, guarded_awake}
 use Rattle.enc_expr.proofs.AlikeLaws.{weaken_alike, kept_alike}

@@ -42,3 +42,6 @@ pub mod EmittedParts
 pub mod Rows
 pub mod ReadOffLaws
 pub mod CopyingLaws
+pub mod PlainLaws
+pub mod ContentLaws
+pub mod PlainForms

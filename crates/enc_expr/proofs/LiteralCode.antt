@@ -40,11 +40,11 @@ product_fits x y h i = by_type (same_base x.base y.base)
     by_type true = (h, i)
     by_type false = (as_real_fits x h, as_real_fits y i)
 
-operand_fits : (f : Op) (x y : Operand) → OperandFits x → OperandFits y → OperandFits (operand_of f x y)
+pub operand_fits : (f : Op) (x y : Operand) → OperandFits x → OperandFits y → OperandFits (operand_of f x y)
 operand_fits o.Mul x y h i = product_fits x y h i
 operand_fits f x y h i = (h, i)
 
-quotient_fits : (f : Op) (x : Operand) (d : t.BExpr) → OperandFits x → LiteralsFit d → OperandFits (quotient_operand f x d)
+pub quotient_fits : (f : Op) (x : Operand) (d : t.BExpr) → OperandFits x → LiteralsFit d → OperandFits (quotient_operand f x d)
 quotient_fits o.Divide x d h i = (as_real_fits x h, real_fits d i)
 quotient_fits f x d h i = (h, i)
 

@@ -60,7 +60,7 @@ real_fits x h = h
 pub check_divisor_fits : (l : Label) (d : t.BExpr) → LiteralsFit d → BlockLiteralsFit (check_divisor l d)
 check_divisor_fits l d h = unless_fits (is_divisor_literal d) (one (s.Assert l (t.Bin op.Ne d (t.Int (pos 0))))) ((h, zero_fits), tt)
 
-check_positive_fits : (l : Label) (q : t.BExpr) → LiteralsFit q → BlockLiteralsFit (check_positive l q)
+pub check_positive_fits : (l : Label) (q : t.BExpr) → LiteralsFit q → BlockLiteralsFit (check_positive l q)
 check_positive_fits l q h = unless_fits (is_one q) (one (s.Assert l (t.Bin op.Gt q zero_real))) ((h, zero_fits), tt)
 
 pub check_nonnegative_fits : (l : Label) (q : t.BExpr) → LiteralsFit q → BlockLiteralsFit (check_nonnegative l q)
@@ -68,7 +68,7 @@ check_nonnegative_fits l q h = unless_fits (is_amount_literal q) (one (s.Assert 
 
 -- ---- maps of a state of their own
 
-copies_fit : (xs ys : List ℕ) (i : ℕ) → BlockLiteralsFit (copies xs ys i)
+pub copies_fit : (xs ys : List ℕ) (i : ℕ) → BlockLiteralsFit (copies xs ys i)
 copies_fit [] ys i = tt
 copies_fit (x ∷ xs) ys i = (tt, copies_fit xs ys (i + 1))
 

@@ -81,11 +81,11 @@ pub unless_alike : {b : Bound} {X : Type 0} {Q : X → Env → Type 0} {instead 
 unless_alike true f g = f refl
 unless_alike false f g = g refl
 
-true_not : (q : Truth) → not q ≡ false → q ≡ true
+pub true_not : (q : Truth) → not q ≡ false → q ≡ true
 true_not true h = refl
 true_not false h = sym h
 
-false_not : (q : Truth) → not q ≡ true → q ≡ false
+pub false_not : (q : Truth) → not q ≡ true → q ≡ false
 false_not true h = sym h
 false_not false h = refl
 

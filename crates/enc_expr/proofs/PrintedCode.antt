@@ -39,7 +39,7 @@ part_fits : (q : Fraction) → IsLiteralPart q → IsLiteral q.num
 part_fits q (inl is) = subst (λ (r : Fraction). IsLiteral r.num) (sym is) zero_fits
 part_fits q (inr is) = subst (λ (r : Fraction). IsLiteral r.num) (sym is) one_fits
 
-literals_hold : HoldsOfLiterals IsLiteral (λ q. IsLiteral q.num)
+pub literals_hold : HoldsOfLiterals IsLiteral (λ q. IsLiteral q.num)
 literals_hold = record { numbers = number_fits; permissions = part_fits }
 
 pub expression_literals : (c : Context) (a : e.Expr) (u : Ty) → IsFormed c.program → y.HasType c a u → ViperLiteralsFit a

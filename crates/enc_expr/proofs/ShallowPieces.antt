@@ -64,7 +64,7 @@ real_low x = other x
 pub check_divisor_low : (l : Label) (d : t.BExpr) → expr_depth d ≤ 0 → stmts_depth (check_divisor l d) ≤ 1
 check_divisor_low l d h = unless_low 1 (is_divisor_literal d) (one (s.Assert l (t.Bin op.Ne d (t.Int (pos 0))))) (omega (arith, h))
 
-check_positive_low : (l : Label) (q : t.BExpr) → expr_depth q ≤ 0 → stmts_depth (check_positive l q) ≤ 2
+pub check_positive_low : (l : Label) (q : t.BExpr) → expr_depth q ≤ 0 → stmts_depth (check_positive l q) ≤ 2
 check_positive_low l q h = unless_low 2 (is_one q) (one (s.Assert l (t.Bin op.Gt q zero_real))) (omega (arith, h))
 
 pub check_nonnegative_low : (l : Label) (q : t.BExpr) → expr_depth q ≤ 0 → stmts_depth (check_nonnegative l q) ≤ 4
@@ -75,7 +75,7 @@ read_checks_low p f at x h = omega (arith, h)
 
 -- ---- maps of a state of their own
 
-copies_low : (xs ys : List ℕ) (i : ℕ) → stmts_depth (copies xs ys i) ≤ 2
+pub copies_low : (xs ys : List ℕ) (i : ℕ) → stmts_depth (copies xs ys i) ≤ 2
 copies_low [] ys i = omega arith
 copies_low (x ∷ xs) ys i = let rest = copies_low xs ys (i + 1) in omega (arith, rest)
 

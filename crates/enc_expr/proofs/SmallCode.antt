@@ -29,7 +29,7 @@ use Rattle.enc_expr.proofs.SmallPieces.{join_nodes, index_nodes, real_nodes, che
 
 -- ---- operators
 
-as_real_nodes : (x : Operand) → expr_nodes (as_real x).expr ≤ 1 + expr_nodes x.expr
+pub as_real_nodes : (x : Operand) → expr_nodes (as_real x).expr ≤ 1 + expr_nodes x.expr
 as_real_nodes x = either (same_base x.base base.Int)
   where
     either : (q : Bool) → expr_nodes (if q then record { expr = real x.expr; base = base.Real } else x).expr ≤ 1 + expr_nodes x.expr
@@ -43,7 +43,7 @@ product_nodes x y = either (same_base x.base y.base)
     either true = omega arith
     either false = let a = as_real_nodes x in let b = as_real_nodes y in omega (arith, a, b)
 
-operand_nodes : (f : Op) (x y : Operand) → expr_nodes (operand_of f x y).expr ≤ 3 + expr_nodes x.expr + expr_nodes y.expr
+pub operand_nodes : (f : Op) (x y : Operand) → expr_nodes (operand_of f x y).expr ≤ 3 + expr_nodes x.expr + expr_nodes y.expr
 operand_nodes o.Mul x y = product_nodes x y
 operand_nodes f x y = omega arith
 

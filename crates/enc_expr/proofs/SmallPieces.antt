@@ -67,7 +67,7 @@ real_nodes x = other x
 pub check_divisor_nodes : (l : Label) (d : t.BExpr) → expr_nodes d ≤ 1 → stmts_nodes (check_divisor l d) ≤ 4
 check_divisor_nodes l d h = unless_nodes 4 (is_divisor_literal d) (one (s.Assert l (t.Bin op.Ne d (t.Int (pos 0))))) (omega (arith, h))
 
-check_positive_nodes : (l : Label) (q : t.BExpr) → expr_nodes q ≤ 1 → stmts_nodes (check_positive l q) ≤ 4
+pub check_positive_nodes : (l : Label) (q : t.BExpr) → expr_nodes q ≤ 1 → stmts_nodes (check_positive l q) ≤ 4
 check_positive_nodes l q h = unless_nodes 4 (is_one q) (one (s.Assert l (t.Bin op.Gt q zero_real))) (omega (arith, h))
 
 pub check_nonnegative_nodes : (l : Label) (q : t.BExpr) → expr_nodes q ≤ 1 → stmts_nodes (check_nonnegative l q) ≤ 4
@@ -78,7 +78,7 @@ read_checks_nodes p f at x h = omega (arith, h)
 
 -- ---- maps of a state of their own
 
-copies_nodes : (xs ys : List ℕ) (i : ℕ) → stmts_nodes (copies xs ys i) ≡ 2 * length xs
+pub copies_nodes : (xs ys : List ℕ) (i : ℕ) → stmts_nodes (copies xs ys i) ≡ 2 * length xs
 copies_nodes [] ys i = refl
 copies_nodes (x ∷ xs) ys i = let rest = copies_nodes xs ys (i + 1) in omega (arith, rest)
 

@@ -20,3 +20,4 @@ pub mod Fits
 pub mod View
 pub mod Checked
 pub mod Worked
+pub mod Worth

@@ -1,6 +1,6 @@
 -- The value of an expression, and what an assertion contains, as one expression of Boogie each, without any checks. Where the
 -- assertion was consumed, all that counts of it has a value, so nothing has to be checked again.
-use Rattle.std.specs.Prelude.{ℕ, pos, List, [], ◌∷◌, if◌then◌else◌}
+use Rattle.std.specs.Prelude.{pos, if◌then◌else◌}
 use Rattle.viper_core.specs.Expr as e
 use Rattle.viper_core.specs.declared.exprs.Op.{Op}
 use Rattle.viper_meaning.specs.Operators.{Class, Lazy, Division, Plain, class_of}

@@ -12,11 +12,13 @@ ghost use Rattle.viper_core.specs.Program.{Program};
 ghost use Rattle.viper_core.specs.declared.programs.Unit.{Unit};
 ghost use Rattle.viper_core.specs.Size.{size, assertion_size};
 ghost use Rattle.viper_core.specs.Typing as typing;
-ghost use Rattle.viper_core.specs.Typing.{Context, IsAssertion, is_outside_predicates};
+ghost use Rattle.viper_core.specs.Typing.{Context, IsAssertion, allows_old, is_outside_predicates};
 ghost use Rattle.viper_core.specs.Weight.{base_of};
 ghost use Rattle.viper_state.specs.State.{State};
 ghost use Rattle.viper_state.specs.Run.{Opening, Scene};
 ghost use Rattle.viper_state.specs.Fits.{FitsStore, FitsOpening};
+ghost use Rattle.viper_meaning.specs.Contents.{content_in};
+ghost use Rattle.viper_meaning.specs.Kept.{IsAny, Keeps};
 ghost use Rattle.viper_meaning.specs.Value.{value, opened};
 ghost use Rattle.boogie_tree.specs.Expr as t;
 ghost use Rattle.boogie_tree.specs.Literals.{LiteralsFit, BlockLiteralsFit};
@@ -37,8 +39,10 @@ ghost use Rattle.enc_expr.specs.Nodes.{expr_nodes, written};
 ghost use Rattle.enc_expr.specs.Coupling.{Env, IsCoupled, IsOwn, IsReady};
 ghost use Rattle.enc_expr.specs.Alike.{IsValued, IsScale, IsSource, IsFilled};
 ghost use Rattle.enc_expr.specs.Boundary.{AreAlike};
+ghost use Rattle.enc_expr.specs.Plain.{plain, content_expr};
 ghost use Rattle.enc_expr.specs.Shallow.{IsShallow, IsShallowExpression};
 ghost use Rattle.enc_expr.specs.Typed.{HasPlaceTypes, HasGuardType, IsTypedPiece, IsTypedExpression};
+ghost use Rattle.enc_expr.specs.Worth.{IsPlain, IsContent};
 
 /// From each environment in which a state is coupled, the code of a well-typed expression ends as the expression does there, with
 /// a bound and without one. On the moves of the events of the expression the code is done or fails where the expression has a
@@ -64,6 +68,17 @@ pub fn a_body_and_its_code_end_alike()
         → IsReady ts g n (body_code (kinds_in c) p g scale a from n).locals E
         → AreAlike b (IsFilled b c n (body_code (kinds_in c) p g scale a from n).next p sc E) (opened b a d s sc k)
         (λ cs. brun ts b (body_code (kinds_in c) p g scale a from n).stmts E cs) }
+{}
+
+/// Where an expression of the body of a predicate has a value in a state that is coupled, the expression without checks has it
+/// too; and what an assertion there contains is the value of its content, where it is small enough for the bound.
+pub fn what_is_not_checked_has_the_value()
+    ensures expression { (b : Bound) (c : Context) (p : Place) (s : State) (sc : Scene) (n : ℕ) (E : Env) (a : e.Expr) (u : Ty)
+        → IsFormed c.program → IsCoupled b c n p s sc E → allows_old c.site ≡ false → is_outside_predicates c.site ≡ false
+        → typing.HasType c a u → Keeps IsAny (IsPlain b u (plain (kinds_in c) p a) E) (value b a s sc) }
+    ensures content { (b : Bound) (c : Context) (p : Place) (s : State) (sc : Scene) (n : ℕ) (E : Env) (a : e.Assertion)
+        → IsFormed c.program → IsCoupled b c n p s sc E → allows_old c.site ≡ false → is_outside_predicates c.site ≡ false
+        → IsAssertion c a → Keeps IsAny (IsContent b E (content_expr (kinds_in c) p a)) (content_in b a s sc) }
 {}
 
 /// Behind locals of the types that its place names, the code of a well-typed expression or body is well-typed, with its own

@@ -42,7 +42,7 @@ pub(crate) fn class_of(op: Op) -> Class
 }
 
 /// The operator of Boogie.
-fn op_of(op: Op) -> BOp
+pub(crate) fn op_of(op: Op) -> BOp
     ensures { result ≡ code.op_of op }
 {
     match op {
@@ -125,13 +125,19 @@ pub(crate) fn value_of(
 
 // ---- divisions
 
-fn quotient(alloc: Global, op: Op, left: Operand, divisor: Atom) -> Result<Operand, Memory>
-    ensures { IfOk result (λ x. seen x ≡ code.quotient_operand op (seen left) (atom_of divisor)) }
+/// The quotient or remainder by an expression.
+pub(crate) fn quotient(
+    alloc: Global,
+    op: Op,
+    left: Operand,
+    divisor: BExpr,
+) -> Result<Operand, Memory>
+    ensures { IfOk result (λ x. seen x ≡ code.quotient_operand op (seen left) (expr_of divisor)) }
 {
     match op {
         Op::Divide => {
             let left = as_real(alloc, left)?;
-            let right = boxed(alloc, real(alloc, divisor.expr())?)?;
+            let right = boxed(alloc, real(alloc, divisor)?)?;
             Operand::of(
                 alloc,
                 BExpr::Bin(BOp::Divide, left.expr, right),
@@ -139,7 +145,7 @@ fn quotient(alloc: Global, op: Op, left: Operand, divisor: Atom) -> Result<Opera
             )
         }
         _ => {
-            let right = boxed(alloc, divisor.expr())?;
+            let right = boxed(alloc, divisor)?;
             Operand::of(alloc, BExpr::Bin(op_of(op), left.expr, right), BBase::Int)
         }
     }
@@ -195,7 +201,7 @@ pub(crate) fn division(
         (length (emit_of out.old).locals)) (emit_of out.old) (emit_of out.new) (seen x)) }
 {
     let divisor = tested_divisor(alloc, at, right, reading, out)?;
-    quotient(alloc, op, left, divisor)
+    quotient(alloc, op, left, divisor.expr())
 }
 
 // ---- lazy operators

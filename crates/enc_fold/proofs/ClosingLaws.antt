@@ -1,6 +1,6 @@
 -- The body of a predicate is consumed, and the instance takes what it contained.
 use Rattle.std.specs.Bool.{⊤}
-use Rattle.std.proofs.Common.{◌≡◌, ◌≢◌, ◌+◌, ◌<◌, ◌≤◌, ◌++◌, ℕ, List, [], ◌∷◌, length, All, Bool as Truth, true, false, Option, Some, None, slice_get, slice_set, refl, sym, ap, subst, ◌∙◌, nat_lt, arith}
+use Rattle.std.proofs.Common.{◌≡◌, ◌+◌, ◌≤◌, ℕ, List, [], ◌∷◌, length, All, true, Some, None, slice_get, slice_set, refl, sym, ap, subst, ◌∙◌, arith}
 use Rattle.std.proofs.lemmas.Bool.Decides.{nat_tests}
 use Rattle.std.proofs.lemmas.Option.{slice_get_within, get_or_from_slice_get}
 use Rattle.vb_base.specs.Limits.{max_content_nodes}
@@ -24,11 +24,11 @@ use Rattle.viper_state.specs.State.{Key, State}
 use Rattle.viper_state.proofs.ShapeLaws.{state_has_maps}
 use Rattle.viper_meaning.specs.Assertions.{consume}
 use Rattle.viper_meaning.specs.Contents.{content_in, is_small, closed}
-use Rattle.viper_meaning.specs.Ends.{Evaluated, ends, End, Is, is, then_with, fitting, the_end, events_of}
+use Rattle.viper_meaning.specs.Ends.{Evaluated, ends, is, then_with, fitting, events_of}
 use Rattle.viper_meaning.specs.Kept as kept
 use Rattle.viper_meaning.specs.Kept.{Keeps, IsAny}
 use Rattle.viper_meaning.specs.Places.{key_of, fill_held}
-use Rattle.viper_meaning.specs.Run.{Run, ended, then_do}
+use Rattle.viper_meaning.specs.Run.{ended, then_do}
 use Rattle.viper_meaning.specs.Sat.{Has}
 use Rattle.viper_meaning.proofs.ContentLaws.{consumed_has_content}
 use Rattle.viper_meaning.proofs.QuietLaws.{content_unrecorded}
@@ -46,24 +46,24 @@ use Rattle.boogie_meaning.specs.Quantified.{bvalue}
 use Rattle.boogie_meaning.specs.Run.{brun}
 use Rattle.boogie_meaning.proofs.PatternLaws.{set_here}
 use Rattle.enc_expr.specs.Place.{Maps, Place, with_now, with_vars, IsLocalOf}
-use Rattle.enc_expr.specs.Kinds.{Kinds, kinds_in, body_kinds}
-use Rattle.enc_expr.specs.Code.{Code, Emitting, then_emit, declares, puts}
+use Rattle.enc_expr.specs.Kinds.{kinds_in, body_kinds}
+use Rattle.enc_expr.specs.Code.{Emitting, then_emit, declares, puts}
 use Rattle.enc_expr.specs.Pieces.{index, one_real}
 use Rattle.enc_expr.specs.Encoding.{fill_instance_code}
 use Rattle.enc_expr.specs.Plain.{content_expr}
 use Rattle.enc_expr.specs.Coupling.{Env, HasMaps, IsCoupled, IsOwn, AreLocals, IsReady}
-use Rattle.enc_expr.specs.Alike.{Alike, Kept, KeptBut, HasAtom, real, AreLocated, IsScale, IsSource}
+use Rattle.enc_expr.specs.Alike.{Alike, Kept, KeptBut, HasAtom, real, AreLocated, IsScale}
 use Rattle.enc_expr.proofs.RunLaws.{assign_run}
 use Rattle.enc_expr.proofs.AlikeLaws.{weaken_alike}
 use Rattle.enc_expr.proofs.AmountLaws.{fitting_alike}
-use Rattle.enc_expr.proofs.FrameLaws.{kept_set, but_less, but_then, kept_but_then, then_kept_but, maps_kept, maps_but, Singles, singles_then, singles_kept, singles_but, atom_single, located_single, coupled_own, locals_first, locals_rest}
+use Rattle.enc_expr.proofs.FrameLaws.{kept_set, but_less, but_then, kept_but_then, then_kept_but, maps_kept, Singles, singles_then, singles_kept, singles_but, atom_single, located_single, coupled_own, locals_first, locals_rest}
 use Rattle.enc_expr.proofs.FillLaws.{IsChanged, fill_held_alike}
-use Rattle.enc_expr.proofs.InsideLaws.{amount_scales, located_variable}
+use Rattle.enc_expr.proofs.InsideLaws.{located_variable, amount_scales}
 use Rattle.enc_expr.proofs.OpeningLaws.{after_nothing, alike_run, alike_of}
 use Rattle.enc_assert.specs.Alongside.{IsGiven, AreAlongside}
 use Rattle.enc_assert.specs.Encoding.{consume_code}
 use Rattle.enc_assert.specs.Held.{IsConsumed, IsShrinking}
-use Rattle.enc_assert.proofs.AlongsideLaws.{ended_alongside, law_alongside, weaken_alongside}
+use Rattle.enc_assert.proofs.AlongsideLaws.{ended_alongside, law_alongside}
 use Rattle.enc_assert.proofs.ConsumeSimulation.{start_coupled, assertion_consumed}
 use Rattle.enc_assert.proofs.GoingLaws.{emit_both, quiet_first}
 use Rattle.enc_assert.proofs.ProduceLaws.{held_is_local}
@@ -71,8 +71,8 @@ use Rattle.enc_assert.proofs.WayLaws.{any_run}
 use Rattle.enc_assert.proofs.WrittenLaws.{consume_counted}
 use Rattle.enc_fold.specs.Saved.{held_types, held_from, saving}
 use Rattle.enc_fold.specs.Encoding.{closing_code}
-use Rattle.enc_fold.proofs.ContentLaws.{content_value}
-use Rattle.enc_fold.proofs.SavedLaws.{straight_first, saving_is, saving_counted, saving_sets, saved_coupled, start_shrinks}
+use Rattle.enc_expr.proofs.ContentLaws.{content_value}
+use Rattle.enc_fold.proofs.SavedLaws.{straight_first, saving_is, saving_counted, saving_sets, start_shrinks}
 
 -- ---- evaluations
 

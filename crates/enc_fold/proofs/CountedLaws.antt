@@ -9,9 +9,9 @@ use Rattle.boogie_tree.specs.Values.{plain_type}
 use Rattle.boogie_tree.specs.declared.exprs.BBase.TheVariants as base
 use Rattle.enc_expr.specs.Place.{Place, with_now, with_vars}
 use Rattle.enc_expr.specs.Kinds.{Kinds, body_kinds}
-use Rattle.enc_expr.specs.Code.{join, then_emit, declares, puts}
+use Rattle.enc_expr.specs.Code.{join, declares, puts}
 use Rattle.enc_expr.specs.Pieces.{atomic, located, index, label, one_real, check_positive}
-use Rattle.enc_expr.specs.Encoding.{code, codes, body_code, taking, fill_instance_code}
+use Rattle.enc_expr.specs.Encoding.{code, codes, taking, fill_instance_code}
 use Rattle.enc_expr.specs.Plain.{content_expr}
 use Rattle.enc_expr.proofs.Simulated.{IsCounted}
 use Rattle.enc_expr.proofs.CodeLaws.{then_counted, declares_counted, puts_counted, atomic_counted, located_counted, code_counted, codes_counted, body_counted}

@@ -1,11 +1,10 @@
 -- The code of `fold` goes alongside it, from arguments and amount on.
 use Rattle.std.specs.Bool.{⊤}
-use Rattle.std.proofs.Common.{◌≡◌, ◌≢◌, ◌+◌, ◌≤◌, ◌++◌, ℕ, List, [], ◌∷◌, length, All, Bool as Truth, true, false, not, Option, Some, None, IfSome, slice_get, refl, sym, ap, subst, ◌∙◌, arith}
+use Rattle.std.proofs.Common.{◌≡◌, ◌≤◌, ◌++◌, ℕ, List, length, All, true, not, Option, Some, None, IfSome, slice_get, refl, sym, ap, subst, ◌∙◌, arith}
 use Rattle.vb_base.specs.declared.labels.Kind.TheVariants as kind
 use Rattle.vb_value.specs.Bound.{Bound}
 use Rattle.vb_value.specs.Fraction.{Fraction, is_positive, IsProperFraction}
 use Rattle.vb_value.specs.Value.{IsProperValue}
-use Rattle.vb_value.specs.declared.values.Ty.{Ty}
 use Rattle.vb_value.specs.declared.values.Ty.TheVariants as ty
 use Rattle.vb_value.specs.declared.values.Value.{Value}
 use Rattle.viper_core.specs.Expr as e
@@ -20,7 +19,7 @@ use Rattle.viper_state.specs.Run.{Scene, with_variables}
 use Rattle.viper_state.specs.State.{Key, State}
 use Rattle.viper_meaning.specs.Assertions.{consume}
 use Rattle.viper_meaning.specs.Contents.{body_of, positive_amount, closed, fold_instance}
-use Rattle.viper_meaning.specs.Ends.{found, is as is_end}
+use Rattle.viper_meaning.specs.Ends.{found}
 use Rattle.viper_meaning.specs.Kept.{IsAny}
 use Rattle.viper_meaning.specs.KeptRuns.{KeepsRun}
 use Rattle.viper_meaning.specs.Places.{key_of}
@@ -38,7 +37,7 @@ use Rattle.boogie_tree.specs.Program.{BType}
 use Rattle.boogie_tree.specs.Stmt as stmt
 use Rattle.boogie_tree.specs.Value as w
 use Rattle.boogie_tree.specs.Value.{BChoice}
-use Rattle.boogie_meaning.specs.Run.{Stops, Failed, brun}
+use Rattle.boogie_meaning.specs.Run.{brun}
 use Rattle.enc_expr.specs.Place.{Place}
 use Rattle.enc_expr.specs.Kinds.{Kinds, kinds_in}
 use Rattle.enc_expr.specs.Code.{Code, Emitting, join, then_emit, puts}
@@ -53,7 +52,7 @@ use Rattle.enc_expr.proofs.CodeLaws.{code_counted, codes_counted, atomic_counted
 use Rattle.enc_expr.proofs.FillLaws.{IsChanged, changed_coupled}
 use Rattle.enc_expr.proofs.FrameLaws.{kept_then, kept_but_then, coupled_kept, locals_first, locals_rest, ready_rest}
 use Rattle.enc_expr.proofs.InsideLaws.{values_fit}
-use Rattle.enc_expr.proofs.OpeningLaws.{alike_run, unless_alike, fails_alike}
+use Rattle.enc_expr.proofs.OpeningLaws.{alike_run, unless_alike, fails_alike, true_not, false_not}
 use Rattle.enc_expr.proofs.RunLaws.{join_done}
 use Rattle.enc_expr.proofs.Simulation.{expression, arguments, proper_value, proper_values}
 use Rattle.enc_expr.proofs.UnfoldingLaws.{located_quiet, atomic_quiet, perm_alike, key_exists}
@@ -68,14 +67,6 @@ use Rattle.enc_fold.proofs.CountedLaws.{fold_counted}
 -- what there is, in a run
 found_run : {X Y : Type 0} (o : Option X) (x : X) (go : X → Run Y) → o ≡ Some x → evaluating (found o) go ≡ go x
 found_run o x go there = ap (λ o. evaluating (found o) go) there ∙ before_nothing (go x)
-
-true_not : (q : Truth) → not q ≡ false → q ≡ true
-true_not true h = refl
-true_not false h = sym h
-
-false_not : (q : Truth) → not q ≡ true → q ≡ false
-false_not true h = sym h
-false_not false h = refl
 
 -- the amount was tested to be positive, and arguments and amount are where the code names them
 record IsPaid (n x : ℕ) (locals : List ℕ) (amount : t.BExpr) (vs : List Value) (z : Fraction) (E : Env) (asked : Fraction) (F : Env) : Type 0 where

@@ -1,6 +1,4 @@
 pub mod SavedLaws
-pub mod PlainLaws
-pub mod ContentLaws
 pub mod ClosingLaws
 pub mod CountedLaws
 pub mod FoldLaws
@@ -8,3 +6,6 @@ pub mod UnfoldLaws
 pub mod TypedFold
 pub mod ShallowFold
 pub mod SmallFold
+pub mod CallLaws
+pub mod EmittedFold
+pub mod LiteralFold

@@ -1,5 +1,5 @@
 -- Masks and amounts of their own hold what the present ones do, and so do whole copies of a state.
-use Rattle.std.proofs.Common.{◌≡◌, ◌≢◌, ◌+◌, ◌<◌, ◌≤◌, ◌++◌, ℕ, List, [], ◌∷◌, length, length-append, append-nil, map, Some, None, slice_get, inl, inr, refl, sym, ap, subst, ◌∙◌, arith}
+use Rattle.std.proofs.Common.{◌≡◌, ◌+◌, ◌<◌, ◌≤◌, ℕ, List, [], ◌∷◌, length, length-append, append-nil, map, None, inl, inr, refl, sym, ap, subst, ◌∙◌, arith}
 use Rattle.std.proofs.lemmas.List.{length-map}
 use Rattle.std.proofs.lemmas.Option.{slice_get_within}
 use Rattle.vb_value.specs.Bound.{Bound}
@@ -10,13 +10,12 @@ use Rattle.viper_state.specs.State.{State}
 use Rattle.viper_state.specs.Run.{Scene}
 use Rattle.viper_meaning.specs.Run.{Run}
 use Rattle.boogie_tree.specs.Program.{BType}
-use Rattle.boogie_tree.specs.Stmt as s
 use Rattle.boogie_tree.specs.Value.{BChoice}
 use Rattle.boogie_meaning.specs.Run.{Done, brun}
 use Rattle.moves.specs.Maps.{mask_type, amount_type, state_types}
 use Rattle.enc_expr.specs.Place.{Maps, Place, with_now, Spot, Heap, Mask, Amount, Content, IsSpot, local_at, IsHeld, AreApart}
-use Rattle.enc_expr.specs.Code.{Emitting, join, gives, then_emit, declares_all, puts}
-use Rattle.enc_expr.specs.Encoding.{maps_from, copies, copy_state}
+use Rattle.enc_expr.specs.Code.{Emitting, gives, then_emit, declares_all, puts}
+use Rattle.enc_expr.specs.Encoding.{maps_from, copy_state}
 use Rattle.enc_expr.specs.Coupling.{Env, HasMaps, IsCoupled, AreLocals, IsOwn, mask_kind, amount_kind}
 use Rattle.enc_expr.specs.Alike.{Kept}
 use Rattle.enc_expr.proofs.Simulated.{IsCounted, Sets}

@@ -1,10 +1,8 @@
 -- How many brackets the code of folding and unfolding has open at once. Nothing is cut in what an assertion contains: a product or a
 -- quotient opens two over an Int, and between two of these there are a comparison and a choice. So there are at most four brackets
 -- for three levels.
-use Rattle.std.specs.Bool.{⊤}
-use Rattle.std.proofs.Common.{◌≡◌, ◌+◌, ◌*◌, ◌≤◌, max, ℕ, Bool as Truth, true, false, List, [], ◌∷◌, Some, None, slice_get, if◌then◌else◌, ◌⊎◌, inl, inr, refl, ap, sym, subst, arith}
+use Rattle.std.proofs.Common.{◌≡◌, ◌+◌, ◌*◌, ◌≤◌, max, ℕ, Bool as Truth, true, false, List, Some, None, slice_get, if◌then◌else◌, ◌⊎◌, inl, inr, refl, ap, sym, subst, arith}
 use Rattle.std.proofs.lemmas.Option.{get_or_from_slice_get}
-use Rattle.vb_base.specs.declared.labels.Label.{Label}
 use Rattle.vb_base.specs.declared.labels.Kind.TheVariants as kind
 use Rattle.vb_value.specs.Layout.{Layout}
 use Rattle.vb_value.specs.declared.values.Ty.{Ty}
@@ -31,14 +29,14 @@ use Rattle.boogie_tree.specs.declared.exprs.BOp.TheVariants as op
 use Rattle.moves.specs.Scalars.{base_for}
 use Rattle.enc_expr.specs.Place.{Maps, Place, number, with_now, with_vars}
 use Rattle.enc_expr.specs.Kinds.{Kinds, kinds_in, type_at, body_kinds}
-use Rattle.enc_expr.specs.Code.{Emitting, join, gives, then_emit, declares, declares_all, puts}
-use Rattle.enc_expr.specs.Pieces.{Operand, Atom, Located, atomic, located, index, label, at_one, one, zero_real, one_real, is_one, unless_known, check_positive}
+use Rattle.enc_expr.specs.Code.{join, gives, puts}
+use Rattle.enc_expr.specs.Pieces.{Operand, index, label, at_one, one, zero_real, one_real, is_one, check_positive}
 use Rattle.enc_expr.specs.Operators.{operand_of, product_operand, quotient_operand}
-use Rattle.enc_expr.specs.Encoding.{code, codes, body_code, copies, held_check, taken_amount, taking, leaf, fill_instance_code}
+use Rattle.enc_expr.specs.Encoding.{body_code, copies, held_check, taken_amount, taking, leaf, fill_instance_code}
 use Rattle.enc_expr.specs.Plain.{plain_by, plain, plain_more, plain_index, plain_amount, contained_by, content_expr}
 use Rattle.enc_expr.proofs.BaseLaws.{lazy_types, divisor_type}
-use Rattle.enc_expr.proofs.ShallowCode.{IsLow, code_low, codes_low, body_low}
-use Rattle.enc_expr.proofs.ShallowPieces.{join_low, index_low, real_low, fill_instance_low, Any, IsLowCode, gives_low, then_low, declares_low, declares_all_low, puts_low, atomic_low, located_low}
+use Rattle.enc_expr.proofs.ShallowCode.{code_low, codes_low, body_low}
+use Rattle.enc_expr.proofs.ShallowPieces.{join_low, index_low, real_low, fill_instance_low, Any, IsLowCode, gives_low, then_low, declares_low, declares_all_low, puts_low, atomic_low, located_low, check_positive_low, copies_low}
 use Rattle.enc_assert.specs.Encoding.{consume_code}
 use Rattle.enc_assert.proofs.ShallowAssertions.{consume_shallow}
 use Rattle.enc_fold.specs.Saved.{held_types, held_from, copy_held, saving}
@@ -203,17 +201,6 @@ module _ (c : Context) (p : Place) (inside : allows_old c.site ≡ false) (close
   content_flat (e.ChooseAssertion a d f) (y.chosen i j k) = let h = (plain_flat a ty.Bool i).low in let l = content_flat d j in let n = content_flat f k in omega (arith, h, l, n)
 
 -- ---- pieces
-
-check_positive_low : (l : Label) (q : t.BExpr) → expr_depth q ≤ 0 → stmts_depth (check_positive l q) ≤ 2
-check_positive_low l q h = by_literal (is_one q)
-  where
-    by_literal : (one : Truth) → stmts_depth (unless_known one (s.first (s.Assert l (t.Bin op.Gt q zero_real)) s.skip)) ≤ 2
-    by_literal true = omega arith
-    by_literal false = omega (arith, h)
-
-copies_low : (xs ys : List ℕ) (i : ℕ) → stmts_depth (copies xs ys i) ≤ 2
-copies_low [] ys i = omega arith
-copies_low (x ∷ xs) ys i = let rest = copies_low xs ys (i + 1) in omega (arith, rest)
 
 module _ (top : ℕ) (some : 5 ≤ top) where
   saving_low : (layout : Layout) (m : Maps) → IsLowCode top Any (saving layout m)

@@ -1,8 +1,6 @@
 -- The code of folding and unfolding is linear in what it weighs.
-use Rattle.std.specs.Bool.{⊤}
-use Rattle.std.proofs.Common.{◌≡◌, ◌+◌, ◌*◌, ◌≤◌, ℕ, Bool as Truth, true, false, List, [], ◌∷◌, Some, None, length, slice_get, if◌then◌else◌, refl, ap, sym, subst, ◌∙◌, arith}
+use Rattle.std.proofs.Common.{◌≡◌, ◌+◌, ◌*◌, ◌≤◌, ℕ, Bool as Truth, true, false, List, Some, None, length, slice_get, if◌then◌else◌, refl, ap, sym, subst, ◌∙◌, arith}
 use Rattle.std.proofs.lemmas.List.FromFn.{length-range_with_len}
-use Rattle.vb_base.specs.declared.labels.Label.{Label}
 use Rattle.vb_base.specs.declared.labels.Kind.TheVariants as kind
 use Rattle.vb_value.specs.Layout.{Layout}
 use Rattle.vb_value.specs.declared.values.Ty.{Ty}
@@ -20,19 +18,19 @@ use Rattle.viper_meaning.specs.Operators.{Class, Lazy, Division, Plain, class_of
 use Rattle.viper_meaning.proofs.TypedLaws.{keys_at}
 use Rattle.boogie_tree.specs.Expr as t
 use Rattle.boogie_tree.specs.Stmt as s
-use Rattle.boogie_tree.specs.Values.{plain_type, same_base}
+use Rattle.boogie_tree.specs.Values.{plain_type}
 use Rattle.boogie_tree.specs.declared.exprs.BBase.TheVariants as base
 use Rattle.boogie_tree.specs.declared.exprs.BOp.TheVariants as op
 use Rattle.enc_expr.specs.Place.{Maps, Place, number, with_now, with_vars}
 use Rattle.enc_expr.specs.Kinds.{Kinds, kinds_in, type_at, body_kinds}
-use Rattle.enc_expr.specs.Code.{Emitting, join, gives, then_emit, declares, declares_all, puts}
-use Rattle.enc_expr.specs.Pieces.{Operand, Atom, Located, atomic, located, index, label, at_one, one, zero_real, one_real, is_one, real, unless_known, check_positive}
-use Rattle.enc_expr.specs.Operators.{plain_operand, as_real, operand_of, product_operand, quotient_operand}
-use Rattle.enc_expr.specs.Encoding.{code, codes, body_code, copies, held_check, taken_amount, taking, leaf, fill_instance_code}
+use Rattle.enc_expr.specs.Code.{join, gives}
+use Rattle.enc_expr.specs.Pieces.{Operand, index, label, at_one, one, zero_real, one_real, is_one, check_positive}
+use Rattle.enc_expr.specs.Operators.{quotient_operand}
+use Rattle.enc_expr.specs.Encoding.{copies, held_check, taken_amount, taking, leaf, fill_instance_code}
 use Rattle.enc_expr.specs.Nodes.{expr_nodes, exprs_nodes, stmts_nodes, written}
 use Rattle.enc_expr.specs.Plain.{plain_by, plain, plain_more, plain_index, plain_amount, contained_by, content_expr}
-use Rattle.enc_expr.proofs.SmallCode.{code_small, codes_small, body_small, counted}
-use Rattle.enc_expr.proofs.SmallPieces.{join_nodes, index_nodes, real_nodes, parts_of, fill_instance_nodes, Any, nothing, weigh, weigh_all, weigh_atom, weigh_located, IsSmall, gives_small, then_small, more_small, declares_small, declares_all_small, puts_small, atomic_small, located_small}
+use Rattle.enc_expr.proofs.SmallCode.{code_small, codes_small, body_small, counted, as_real_nodes, operand_nodes}
+use Rattle.enc_expr.proofs.SmallPieces.{join_nodes, index_nodes, real_nodes, parts_of, fill_instance_nodes, Any, nothing, weigh, weigh_all, weigh_atom, weigh_located, IsSmall, gives_small, then_small, more_small, declares_small, declares_all_small, puts_small, atomic_small, located_small, check_positive_nodes, copies_nodes}
 use Rattle.enc_assert.specs.Encoding.{consume_code}
 use Rattle.enc_assert.proofs.SmallAssertions.{consume_linear}
 use Rattle.enc_fold.specs.Saved.{held_types, held_from, copy_held, saving}
@@ -41,24 +39,6 @@ use Rattle.enc_fold.proofs.ClosingLaws.{kinds_of_body}
 use Rattle.enc_fold.proofs.SavedLaws.{held_length}
 
 -- ---- values without checks
-
-as_real_nodes : (x : Operand) → expr_nodes (as_real x).expr ≤ 1 + expr_nodes x.expr
-as_real_nodes x = either (same_base x.base base.Int)
-  where
-    either : (q : Truth) → expr_nodes (if q then record { expr = real x.expr; base = base.Real } else x).expr ≤ 1 + expr_nodes x.expr
-    either true = real_nodes x.expr
-    either false = omega arith
-
-product_nodes : (x y : Operand) → expr_nodes (product_operand x y).expr ≤ 3 + expr_nodes x.expr + expr_nodes y.expr
-product_nodes x y = either (same_base x.base y.base)
-  where
-    either : (q : Truth) → expr_nodes (if q then plain_operand o.Mul x y else plain_operand o.Mul (as_real x) (as_real y)).expr ≤ 3 + expr_nodes x.expr + expr_nodes y.expr
-    either true = omega arith
-    either false = let a = as_real_nodes x in let b = as_real_nodes y in omega (arith, a, b)
-
-operand_nodes : (f : Op) (x y : Operand) → expr_nodes (operand_of f x y).expr ≤ 3 + expr_nodes x.expr + expr_nodes y.expr
-operand_nodes o.Mul x y = product_nodes x y
-operand_nodes f x y = omega arith
 
 quotient_nodes : (f : Op) (x : Operand) (d : t.BExpr) → expr_nodes (quotient_operand f x d).expr ≤ 3 + expr_nodes x.expr + expr_nodes d
 quotient_nodes o.Divide x d = let a = as_real_nodes x in let b = real_nodes d in omega (arith, a, b)
@@ -137,17 +117,6 @@ module _ (least : ℕ) (k : Kinds) where
   content_nodes p (e.ChooseAssertion a b c) h = let i = plain_nodes p a in let j = content_nodes p b h in let l = content_nodes p c h in omega (arith, i, j, l)
 
 -- ---- pieces
-
-check_positive_nodes : (l : Label) (q : t.BExpr) → expr_nodes q ≤ 1 → stmts_nodes (check_positive l q) ≤ 4
-check_positive_nodes l q h = either (is_one q)
-  where
-    either : (one : Truth) → stmts_nodes (unless_known one (s.first (s.Assert l (t.Bin op.Gt q zero_real)) s.skip)) ≤ 4
-    either true = omega arith
-    either false = omega (arith, h)
-
-copies_nodes : (xs ys : List ℕ) (i : ℕ) → stmts_nodes (copies xs ys i) ≡ 2 * length xs
-copies_nodes [] ys i = refl
-copies_nodes (x ∷ xs) ys i = let rest = copies_nodes xs ys (i + 1) in omega (arith, rest)
 
 saving_small : (layout : Layout) (m : Maps) → IsSmall (3 * parts_of layout + 2) Any nothing (saving layout m)
 saving_small layout m =

@@ -1,6 +1,5 @@
 -- The code of folding and unfolding is well-typed, and the maps that it declares have indices of key types.
-use Rattle.std.specs.Bool.{⊤}
-use Rattle.std.proofs.Common.{◌≡◌, ◌≢◌, ◌+◌, ◌++◌, ℕ, Bool as Truth, true, false, List, [], ◌∷◌, All, length, map, if◌then◌else◌, Some, None, slice_get, refl, sym, ap, subst, ◌∙◌, arith}
+use Rattle.std.proofs.Common.{◌≡◌, ◌≢◌, ◌+◌, ◌++◌, ℕ, Bool as Truth, true, false, List, [], ◌∷◌, All, length, map, if◌then◌else◌, Some, None, slice_get, refl, sym, ap, subst, ◌∙◌}
 use Rattle.std.proofs.lemmas.List.{length-map as mapped_length}
 use Rattle.std.proofs.lemmas.List.Elements.{All-nil, All-cons, All-head, All-tail, All-append}
 use Rattle.std.proofs.lemmas.Option.{get_or_from_slice_get}
@@ -23,29 +22,28 @@ use Rattle.boogie_tree.specs.Expr as t
 use Rattle.boogie_tree.specs.Program.{BType}
 use Rattle.boogie_tree.specs.Stmt as s
 use Rattle.boogie_tree.specs.Values.{plain_type, is_key, AreKeys}
-use Rattle.boogie_tree.specs.declared.exprs.BBase.{BBase}
 use Rattle.boogie_tree.specs.declared.exprs.BBase.TheVariants as base
 use Rattle.boogie_tree.specs.declared.exprs.BOp.TheVariants as op
 use Rattle.boogie_meaning.specs.Programs.{HaveKeys}
 use Rattle.boogie_meaning.specs.Types as b
 use Rattle.boogie_meaning.specs.Types.{HasType, HaveTypes, IsTyped}
-use Rattle.moves.specs.Maps.{heap_type, content_type, mask_type, amount_type, state_types, index_types}
+use Rattle.moves.specs.Maps.{heap_type, content_type, mask_type, amount_type, index_types}
 use Rattle.moves.specs.Scalars.{base_for}
 use Rattle.enc_expr.specs.Place.{Maps, Place, number, with_now, with_vars}
 use Rattle.enc_expr.specs.Kinds.{Kinds, kinds_in, type_at, body_kinds}
-use Rattle.enc_expr.specs.Code.{Emitting, join, gives, then_emit, declares, declares_all, puts}
-use Rattle.enc_expr.specs.Pieces.{Operand, Atom, Located, atomic, located, index, label, at_one, zero_real, one_real, is_one, check_positive}
-use Rattle.enc_expr.specs.Encoding.{code, codes, body_code, taking, leaf, fill_instance_code}
+use Rattle.enc_expr.specs.Code.{join}
+use Rattle.enc_expr.specs.Pieces.{Operand, index, label, at_one, zero_real, one_real, is_one, check_positive}
+use Rattle.enc_expr.specs.Encoding.{body_code, taking, leaf, fill_instance_code}
 use Rattle.enc_expr.specs.Plain.{plain_by, plain, plain_more, plain_index, plain_amount, contained_by, content_expr}
 use Rattle.enc_expr.specs.Coupling.{AreLocals}
 use Rattle.enc_expr.specs.Typed.{HasStateTypes, HasPlaceTypes, IsOperand, IsTypedPiece}
 use Rattle.enc_expr.proofs.BaseLaws.{lazy_types, divisor_type}
 use Rattle.enc_expr.proofs.KeyedCode.{IsKeyed, states_keyed, gives_keyed, then_keyed, plain_keyed, puts_keyed, atomic_keyed, located_keyed, code_keyed, codes_keyed, body_keyed, all_keyed}
-use Rattle.enc_expr.proofs.TypedPieces.{IsTypedCode, Any, join_typed, one_typed, gives_typed, then_typed, declares_typed, declares_all_typed, puts_typed, atomic_typed, AreVariables, located_typed, index_typed, variable_at, at_typed, first_locals, rest_locals, each_local, all_copied}
+use Rattle.enc_expr.proofs.TypedPieces.{IsTypedCode, Any, join_typed, gives_typed, then_typed, declares_typed, declares_all_typed, puts_typed, atomic_typed, AreVariables, located_typed, index_typed, variable_at, at_typed, first_locals, rest_locals, each_local, all_copied}
 use Rattle.enc_expr.proofs.TypedForms.{own_type, operand_typed, taking_typed, quotient_typed, check_positive_typed, leaf_typed, at_one_typed, fill_instance_typed}
 use Rattle.enc_expr.proofs.TypedCode.{code_typed, codes_typed, body_typed, more_place_types, negated_typed}
 use Rattle.enc_assert.specs.Encoding.{consume_code}
-use Rattle.enc_assert.proofs.WalkLaws.{walk, consume_blocks, consume_walks}
+use Rattle.enc_assert.proofs.WalkLaws.{consume_blocks, consume_walks}
 use Rattle.enc_assert.proofs.TypedAssertions.{consume_blocks_typed, walk_typed, walk_keyed, held_types as held_of, piece_typed}
 use Rattle.enc_fold.specs.Saved.{held_types, held_from, copy_held, saving}
 use Rattle.enc_fold.specs.Encoding.{closing_code, fold_code, unfold_code}

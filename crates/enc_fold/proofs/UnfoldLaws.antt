@@ -1,9 +1,8 @@
 -- The code of `unfold` ends as it does.
 use Rattle.std.specs.Bool.{⊤}
-use Rattle.std.proofs.Common.{◌≡◌, ◌≢◌, ◌+◌, ◌<◌, ◌≤◌, ◌++◌, ℕ, List, [], ◌∷◌, length, All, Option, Some, None, slice_get, refl, sym, ap, subst, ◌∙◌, arith}
+use Rattle.std.proofs.Common.{◌≡◌, ◌+◌, ◌≤◌, ◌++◌, ℕ, List, [], ◌∷◌, All, Some, None, slice_get, refl, sym, subst, arith}
 use Rattle.std.proofs.lemmas.Option.{slice_get_within}
 use Rattle.vb_value.specs.Bound.{Bound}
-use Rattle.vb_value.specs.Content.{Content}
 use Rattle.vb_value.specs.Fraction.{Fraction, IsProperFraction}
 use Rattle.vb_value.specs.Value.{IsProperValue}
 use Rattle.vb_value.specs.declared.values.Ty.TheVariants as ty
@@ -12,7 +11,7 @@ use Rattle.viper_core.specs.Expr as e
 use Rattle.viper_core.specs.Formed.{IsFormed, predicate_context}
 use Rattle.viper_core.specs.Program.{Predicate}
 use Rattle.viper_core.specs.Stmt.{FoldStmt}
-use Rattle.viper_core.specs.Typing.{Context, IsFold, IsAssertion}
+use Rattle.viper_core.specs.Typing.{Context, IsFold}
 use Rattle.viper_core.proofs.FormedLaws.{predicate_of_typed, predicate_body_of_typed}
 use Rattle.viper_state.specs.Run.{Scene, with_variables}
 use Rattle.viper_state.specs.State.{Key, State, content_at}
@@ -31,7 +30,7 @@ use Rattle.boogie_tree.specs.declared.exprs.BBase.TheVariants as base
 use Rattle.boogie_meaning.specs.Run.{brun}
 use Rattle.enc_expr.specs.Place.{Place, with_vars}
 use Rattle.enc_expr.specs.Kinds.{Kinds, kinds_in, body_kinds}
-use Rattle.enc_expr.specs.Code.{Code, Emitting, join, then_emit, declares, puts}
+use Rattle.enc_expr.specs.Code.{Emitting, join, then_emit, declares, puts}
 use Rattle.enc_expr.specs.Pieces.{Operand, Atom, Located, atomic, located, index}
 use Rattle.enc_expr.specs.Encoding.{code, codes, body_code, taking}
 use Rattle.enc_expr.specs.Coupling.{Env, IsCoupled, IsOwn, AreLocals, IsReady}

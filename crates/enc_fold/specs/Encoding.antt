@@ -1,17 +1,16 @@
 -- The code of folding and unfolding an instance, whose predicate has this body.
-use Rattle.std.specs.Prelude.{⊤, ℕ, List, [], ◌∷◌, Some, None}
+use Rattle.std.specs.Prelude.{⊤, ℕ, List, None}
 use Rattle.vb_base.specs.declared.labels.Kind.TheVariants as kind
-use Rattle.vb_base.specs.declared.places.Pos.{Pos}
 use Rattle.viper_core.specs.Expr as e
 use Rattle.viper_core.specs.Stmt.{FoldStmt}
 use Rattle.boogie_tree.specs.Expr as t
 use Rattle.boogie_tree.specs.Stmt as s
 use Rattle.boogie_tree.specs.declared.exprs.BBase.TheVariants as base
 use Rattle.boogie_tree.specs.Values.{plain_type}
-use Rattle.enc_expr.specs.Place.{Maps, Place, with_now, with_vars}
+use Rattle.enc_expr.specs.Place.{Place, with_now, with_vars}
 use Rattle.enc_expr.specs.Kinds.{Kinds, body_kinds}
-use Rattle.enc_expr.specs.Code.{Emitting, join, gives, then_emit, declares, puts}
-use Rattle.enc_expr.specs.Pieces.{Operand, Atom, Located, atomic, located, index, one, label, one_real, check_positive}
+use Rattle.enc_expr.specs.Code.{Emitting, join, then_emit, declares, puts}
+use Rattle.enc_expr.specs.Pieces.{atomic, located, index, label, one_real, check_positive}
 use Rattle.enc_expr.specs.Encoding.{code, codes, body_code, taking, fill_instance_code}
 use Rattle.enc_expr.specs.Plain.{content_expr}
 use Rattle.enc_assert.specs.Encoding.{consume_code}

@@ -1,3 +1,4 @@
 pub mod Saved
 pub mod Encoding
-pub mod Worth
+pub mod Calls
+pub mod Spelled

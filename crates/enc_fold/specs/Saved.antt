@@ -1,5 +1,5 @@
 -- Masks and amounts of their own, and whole states, as copies: what is read while permission is taken from the present ones.
-use Rattle.std.specs.Prelude.{⊤, ℕ, ◌+◌, List, ◌++◌, map, Some, None, length}
+use Rattle.std.specs.Prelude.{ℕ, ◌+◌, List, ◌++◌, map, None, length}
 use Rattle.std.specs.List.{range_with_len}
 use Rattle.vb_value.specs.Layout.{Layout}
 use Rattle.boogie_tree.specs.Stmt as s
@@ -19,7 +19,7 @@ held_from layout m n =
     let fields = length layout.fields in
     record { heap = m.heap; mask = range_with_len n fields; amount = range_with_len (n + fields) (length layout.keys); content = m.content }
 
--- the masks and amounts of the second state become those of the first
+-- the masks and amounts of the first state get the values of those of the second
 abbrev pub copy_held : Maps → Maps → s.BStmts
 copy_held m l = join (copies m.mask l.mask 0) (copies m.amount l.amount 0)
 

@@ -3,45 +3,33 @@
 ghost use Rattle.std.specs.Prelude.{⊤, ◌≡◌, ◌≤◌, ◌+◌, ◌*◌, max, ℕ, List, false, length, None};
 ghost use Rattle.vb_base.specs.Limits.{max_term_depth};
 ghost use Rattle.vb_value.specs.Bound.{Bound};
-ghost use Rattle.vb_value.specs.declared.values.Ty.{Ty};
 ghost use Rattle.viper_core.specs.Depth.{fold_depth, assertion_depth};
 ghost use Rattle.viper_core.specs.Expr as e;
 ghost use Rattle.viper_core.specs.Formed.{IsFormed};
 ghost use Rattle.viper_core.specs.Stmt.{FoldStmt};
-ghost use Rattle.viper_core.specs.Typing as typing;
 ghost use Rattle.viper_core.specs.Typing.{Context, IsAssertion, IsFold, allows_old, is_outside_predicates};
 ghost use Rattle.viper_core.specs.Weight.{fold_weight};
 ghost use Rattle.viper_state.specs.Fits.{FitsStore};
 ghost use Rattle.viper_state.specs.Run.{Scene};
 ghost use Rattle.viper_state.specs.State.{State};
-ghost use Rattle.viper_meaning.specs.Contents.{content_in, fold_instance, unfold_instance};
-ghost use Rattle.viper_meaning.specs.Kept.{IsAny, Keeps};
-ghost use Rattle.viper_meaning.specs.Value.{value};
+ghost use Rattle.viper_meaning.specs.Contents.{fold_instance, unfold_instance};
+ghost use Rattle.boogie_tree.specs.Literals.{BlockLiteralsFit};
 ghost use Rattle.boogie_tree.specs.Nested.{expr_depth, stmts_depth};
 ghost use Rattle.boogie_tree.specs.Program.{BType};
 ghost use Rattle.boogie_meaning.specs.Run.{brun};
 ghost use Rattle.enc_expr.specs.Place.{Place};
-ghost use Rattle.enc_expr.specs.Kinds.{kinds_in};
+ghost use Rattle.enc_expr.specs.Fits.{FitsPiece};
+ghost use Rattle.enc_expr.specs.Kinds.{Kinds, kinds_in};
+ghost use Rattle.enc_expr.specs.Literals.{AssertionLiteralsFit};
 ghost use Rattle.enc_expr.specs.Nodes.{written};
-ghost use Rattle.enc_expr.specs.Plain.{plain, content_expr};
+ghost use Rattle.enc_expr.specs.Plain.{content_expr};
 ghost use Rattle.enc_expr.specs.Coupling.{Env, IsCoupled, IsOwn, IsReady};
 ghost use Rattle.enc_expr.specs.Alike.{IsFilled};
 ghost use Rattle.enc_expr.specs.Boundary.{AreAlike};
 ghost use Rattle.enc_expr.specs.Typed.{HasPlaceTypes, IsTypedPiece};
 ghost use Rattle.enc_assert.specs.Alongside.{AreAlongside};
 ghost use Rattle.enc_fold.specs.Encoding.{fold_code, unfold_code};
-ghost use Rattle.enc_fold.specs.Worth.{IsPlain, IsContent};
-
-/// Where an expression of the body of a predicate has a value in a state that is coupled, the expression without checks has it
-/// too; and what an assertion there contains is the value of its content, where it is small enough for the bound.
-pub fn what_is_not_checked_has_the_value()
-    ensures expression { (b : Bound) (c : Context) (p : Place) (s : State) (sc : Scene) (n : ℕ) (E : Env) (a : e.Expr) (u : Ty)
-        → IsFormed c.program → IsCoupled b c n p s sc E → allows_old c.site ≡ false → is_outside_predicates c.site ≡ false
-        → typing.HasType c a u → Keeps IsAny (IsPlain b u (plain (kinds_in c) p a) E) (value b a s sc) }
-    ensures content { (b : Bound) (c : Context) (p : Place) (s : State) (sc : Scene) (n : ℕ) (E : Env) (a : e.Assertion)
-        → IsFormed c.program → IsCoupled b c n p s sc E → allows_old c.site ≡ false → is_outside_predicates c.site ≡ false
-        → IsAssertion c a → Keeps IsAny (IsContent b E (content_expr (kinds_in c) p a)) (content_in b a s sc) }
-{}
+ghost use Rattle.enc_fold.specs.Spelled.{FoldLiteralsFit};
 
 /// From each environment in which a state is coupled, folding an instance and its code end alike, with a bound and without one. On
 /// the moves of what the run records the code is done or fails where the run does, and is blocked or short of a choice where the
@@ -94,4 +82,21 @@ pub fn code_is_linear()
         → written (fold_code (kinds_in c) p f typed.body n) ≤ 72 * fold_weight c.program f }
     ensures unfold { (c : Context) (p : Place) (f : FoldStmt) (n : ℕ) → IsFormed c.program → (typed : IsFold c f)
         → written (unfold_code (kinds_in c) p f typed.body n) ≤ 72 * fold_weight c.program f }
+{}
+
+/// The literals of the code of folding or unfolding can be spelled where those of the statement and of the body can.
+pub fn literals_of_code_fit()
+    ensures fold { (k : Kinds) (p : Place) (f : FoldStmt) (body : e.Assertion) (n : ℕ) → FoldLiteralsFit f
+        → AssertionLiteralsFit body → BlockLiteralsFit (fold_code k p f body n).stmts }
+    ensures unfold { (k : Kinds) (p : Place) (f : FoldStmt) (body : e.Assertion) (n : ℕ) → FoldLiteralsFit f
+        → AssertionLiteralsFit body → BlockLiteralsFit (unfold_code k p f body n).stmts }
+{}
+
+/// So the code of a well-typed `fold` or `unfold` of a formed program can be spelled, behind the locals that its place names and
+/// among its own.
+pub fn code_can_be_printed()
+    ensures fold { (c : Context) (p : Place) (f : FoldStmt) (ts : List BType) → IsFormed c.program → (typed : IsFold c f)
+        → HasPlaceTypes c p ts → FitsPiece (length ts) (fold_code (kinds_in c) p f typed.body (length ts)) }
+    ensures unfold { (c : Context) (p : Place) (f : FoldStmt) (ts : List BType) → IsFormed c.program → (typed : IsFold c f)
+        → HasPlaceTypes c p ts → FitsPiece (length ts) (unfold_code (kinds_in c) p f typed.body (length ts)) }
 {}

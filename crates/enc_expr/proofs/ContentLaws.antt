@@ -1,12 +1,10 @@
 -- What an assertion contains is the value of an expression without checks, where it is small enough for the bound.
-use Rattle.std.proofs.Common.{◌≡◌, ℕ, ◌+◌, pos, List, Bool as Truth, true, false, Option, Some, None, IfSome, nat_lt, slice_get, if◌then◌else◌, refl, sym, ap, subst, ◌∙◌, arith}
+use Rattle.std.proofs.Common.{◌≡◌, ℕ, pos, List, Bool as Truth, true, false, Option, Some, IfSome, slice_get, if◌then◌else◌, refl, sym, ap, subst, ◌∙◌, arith}
 use Rattle.std.specs.Option.{option_map}
-use Rattle.std.specs.Ordering.{int_eq}
 use Rattle.std.proofs.lemmas.Bool.Decides.{Decides-int_eq}
 use Rattle.std.proofs.lemmas.Option.{get_or_from_slice_get}
 use Rattle.std.proofs.lemmas.Bool.Decides.{nat_tests}
 use Rattle.vb_base.specs.declared.places.Pos.{Pos}
-use Rattle.vb_base.specs.Limits.{max_content_nodes}
 use Rattle.vb_value.specs.Bound.{Bound, Bounded, Unbounded, IfBounded}
 use Rattle.vb_value.specs.Content as content
 use Rattle.vb_value.specs.Content.{Content, Leaf, Pair, nodes}
@@ -21,9 +19,8 @@ use Rattle.viper_core.specs.Formed.{IsFormed}
 use Rattle.viper_core.specs.Typing as y
 use Rattle.viper_core.specs.Typing.{Context, HasType, IsAmount, IsAssertion, allows_old, is_outside_predicates}
 use Rattle.viper_state.specs.Run.{Scene}
-use Rattle.viper_state.specs.State.{Key, State, value_at, content_at}
+use Rattle.viper_state.specs.State.{Key, State}
 use Rattle.viper_state.proofs.FitsLaws.{value_found, content_found}
-use Rattle.viper_meaning.specs.Assertions.{place_in, instance_in}
 use Rattle.viper_meaning.specs.Contents.{contained_at, content_by, content_in, is_small}
 use Rattle.viper_meaning.specs.Ends.{Evaluated, is, found}
 use Rattle.viper_meaning.specs.Kept.{Keeps, IsAny}
@@ -36,8 +33,7 @@ use Rattle.boogie_tree.specs.Value as w
 use Rattle.boogie_tree.specs.declared.exprs.BOp.TheVariants as op
 use Rattle.boogie_meaning.specs.Ends as end
 use Rattle.boogie_meaning.specs.Operators as m
-use Rattle.boogie_meaning.specs.Quantified.{bvalue, bkey}
-use Rattle.moves.specs.Maps.{instance_key}
+use Rattle.boogie_meaning.specs.Quantified.{bvalue}
 use Rattle.moves.specs.Scalars.{scalar}
 use Rattle.enc_expr.specs.Place.{Place, number}
 use Rattle.enc_expr.specs.Kinds.{kinds_in, type_at}
@@ -50,8 +46,8 @@ use Rattle.enc_expr.proofs.AmountLaws.{positive_test}
 use Rattle.enc_expr.proofs.OperatorLaws as operator
 use Rattle.enc_expr.proofs.Simulation.{both_laws, any_law, proper_amount}
 use Rattle.enc_expr.proofs.CheckLaws.{found_value, place_index}
-use Rattle.enc_fold.specs.Worth.{IsContent}
-use Rattle.enc_fold.proofs.PlainLaws.{truth_plain, ref_plain, perm_plain, IsPlainKey, plain_value, plain_key}
+use Rattle.enc_expr.specs.Worth.{IsContent}
+use Rattle.enc_expr.proofs.PlainLaws.{truth_plain, ref_plain, perm_plain, IsPlainKey, plain_value, plain_key}
 
 -- ---- by an amount
 

@@ -1,5 +1,5 @@
 -- Where an expression has a value, the one without checks has it too.
-use Rattle.std.proofs.Common.{◌≡◌, ◌≢◌, ℕ, ◌==◌, ℤ, pos, Bool as Truth, true, false, not, List, [], ◌∷◌, All, Option, Some, None, IfSome, slice_get, if◌then◌else◌, refl, sym, ap, subst, ◌∙◌}
+use Rattle.std.proofs.Common.{◌≡◌, ℕ, ◌==◌, ℤ, pos, Bool as Truth, true, false, List, [], ◌∷◌, Option, Some, None, IfSome, slice_get, if◌then◌else◌, refl, sym, ap, subst, ◌∙◌}
 use Rattle.std.specs.Ordering.{int_eq}
 use Rattle.std.proofs.lemmas.Bool.{true≢false}
 use Rattle.std.proofs.lemmas.Bool.Decides.{Decides-int_eq}
@@ -7,10 +7,9 @@ use Rattle.std.proofs.lemmas.Option.{get_or_from_slice_get, same_Some}
 use Rattle.vb_base.specs.declared.labels.Kind.TheVariants as kind
 use Rattle.vb_base.specs.declared.places.Pos.{Pos}
 use Rattle.vb_value.specs.Bound.{Bound}
-use Rattle.vb_value.specs.Fraction.{Fraction, is_none}
+use Rattle.vb_value.specs.Fraction.{is_none}
 use Rattle.vb_value.specs.Value.{type_of, IsProperValue}
 use Rattle.vb_value.specs.declared.keys.KeyPart.{KeyPart}
-use Rattle.vb_value.specs.declared.keys.KeyPart.TheVariants as part
 use Rattle.vb_value.specs.declared.values.Ty.{Ty}
 use Rattle.vb_value.specs.declared.values.Ty.TheVariants as ty
 use Rattle.vb_value.specs.declared.values.Value.{Value}
@@ -26,12 +25,12 @@ use Rattle.viper_state.specs.Fits.{FitsKey, part_type}
 use Rattle.viper_state.specs.Run.{Scene}
 use Rattle.viper_state.specs.State.{Key, State, value_at, mask_at}
 use Rattle.viper_state.proofs.FitsLaws.{value_found}
-use Rattle.viper_meaning.specs.Ends.{Evaluated, then_with, found}
+use Rattle.viper_meaning.specs.Ends.{Evaluated, then_with}
 use Rattle.viper_meaning.specs.Kept as kept
 use Rattle.viper_meaning.specs.Kept.{Keeps, IsAny}
 use Rattle.viper_meaning.specs.Operators as meaning
 use Rattle.viper_meaning.specs.Operators.{Class, Lazy, Division, Plain, class_of, truth_of, ref_of, perm_of, settled, settled_or, in_class}
-use Rattle.viper_meaning.specs.Places.{key_of, key_part, in_front, read_field}
+use Rattle.viper_meaning.specs.Places.{key_of, key_part, read_field}
 use Rattle.viper_meaning.specs.Value.{as_truth, as_ref, as_perm, value, values, key_in}
 use Rattle.viper_meaning.proofs.ClosedLaws.{any_found}
 use Rattle.viper_meaning.proofs.SignLaws.{any_events}
@@ -55,10 +54,10 @@ use Rattle.enc_expr.specs.Alike.{variable}
 use Rattle.enc_expr.proofs.Simulated.{Computes, value as computed, over, Has}
 use Rattle.enc_expr.proofs.RunLaws.{atom_value}
 use Rattle.enc_expr.proofs.BaseLaws.{lazy_types, divisor_type, operand_base, quotient_base}
-use Rattle.enc_fold.specs.Worth.{IsPlain}
 use Rattle.enc_expr.proofs.MapLaws.{front_of, part_there}
-use Rattle.enc_expr.proofs.CheckLaws.{found_value, place_index, int_is, division_fails}
-use Rattle.enc_expr.proofs.OperatorLaws.{plain_computes, division_computes, negative_computes, negation_computes, HaveBoth}
+use Rattle.enc_expr.specs.Worth.{IsPlain}
+use Rattle.enc_expr.proofs.OperatorLaws.{plain_computes, division_computes, negative_computes, negation_computes}
+use Rattle.enc_expr.proofs.CheckLaws.{int_is, division_fails, found_value, place_index}
 use Rattle.enc_expr.proofs.Simulation.{both_laws, any_law, part_is_whole, proper_value}
 
 -- ---- types
