@@ -1,6 +1,6 @@
 -- What is written for an expression spells it.
 use Rattle.std.proofs.Common.{◌≡◌, ◌∙◌, refl, sym, ap, subst, arith, ℕ, ℤ, pos, zero, suc, ◌+◌, ◌^◌, ◌<◌, ◌≤◌, Bool as Truth, true, false, not, ◌&&◌, List, [], ◌∷◌, ◌++◌, length, length-append, codes, append_assoc, append-nil}
-use Rattle.std.specs.Prelude.{All, ⊤}
+use Rattle.std.specs.Prelude.{All}
 use Rattle.std.specs.Char.{is_ascii_digit}
 use Rattle.std.specs.List.{prefix_len}
 use Rattle.std.proofs.lemmas.Bool.{and_from, or_from}
@@ -29,6 +29,7 @@ use Rattle.boogie_grammar.specs.Printed.{Naming, name_at, base_text, bound_name,
 use Rattle.boogie_grammar.proofs.WrittenRows.{at_start, Ends, name_row, free_row, blank_row, open_row, close_row, bracket_row, end_row, comma_row, minus_row, not_row, colon_row, bounds_row, operator_row, number_row, real_row}
 use Rattle.boogie_grammar.proofs.NamingLaws.{either}
 use Rattle.boogie_tree.specs.Fits.{FitsExpr, FitExprs}
+use Rattle.boogie_text.specs.Short.{ShortExpr, ShortExprs}
 use Rattle.boogie_text.proofs.Complete.{by_where, by_bound}
 use Rattle.boogie_text.proofs.FreshLaws.{free_form, free_parts, bound_is_free}
 use Rattle.boogie_text.proofs.VarLaws.{IsVar, some_is_free, head_of, tail_of}
@@ -108,27 +109,6 @@ pub record Ready (x : Naming) (n : ℕ) : Type 0 where
 abbrev pub Inside : Truth → Naming → Type 0
 Inside false x = x.bound ≡ []
 Inside true x = (q : List ℕ) × (qs : List (List ℕ)) × (x.bound ≡ q ∷ qs) × All (IsNew x.locals) (q ∷ qs)
-
--- no `forall` binds more than can be numbered
-abbrev mutual
-  pub Short : t.BExpr → Type 0
-  Short (t.Neg a) = Short a
-  Short (t.Not a) = Short a
-  Short (t.Bin o a b) = Short a × Short b
-  Short (t.If a b c) = Short a × Short b × Short c
-  Short (t.Forall us a) = (length us < 2 ^ 63) × Short a
-  Short (t.ToReal a) = Short a
-  Short (t.SInt a) = Short a
-  Short (t.SBool a) = Short a
-  Short (t.SRef a) = Short a
-  Short (t.SPerm a) = Short a
-  Short (t.Pair a b) = Short a × Short b
-  Short (t.At i es) = Shorts es
-  Short _ = ⊤
-
-  pub Shorts : t.BExprs → Type 0
-  Shorts t.none = ⊤
-  Shorts (t.more a es) = Short a × Shorts es
 
 abbrev ShownExpr : Naming → t.BExpr → Type 0
 ShownExpr x e = Shown (expr_text x e) (rule (g.Expr (scope_of x))) e
@@ -510,7 +490,7 @@ literal_shown : (x : Naming) (k : ℤ) (make : ℤ → t.BExpr) → ((m : ℕ) �
 literal_shown x k make f h = subst (λ z. ShownExpr x (make z)) (sym h.is) (f h.natural h.within)
 
 mutual
-  pub expr_shown : (x : Naming) (n : ℕ) (b : Truth) → Ready x n → Inside b x → (e : t.BExpr) → FitsExpr n b e → Short e → ShownExpr x e
+  pub expr_shown : (x : Naming) (n : ℕ) (b : Truth) → Ready x n → Inside b x → (e : t.BExpr) → FitsExpr n b e → ShortExpr e → ShownExpr x e
   expr_shown x n b ready inside (t.Var i) h s = var_shown x i (ready.named i h)
   expr_shown x n b ready inside (t.Int k) h s = literal_shown x k (λ z. t.Int z) (int_shown x) h
   expr_shown x n b ready inside (t.Real k) h s = literal_shown x k (λ z. t.Real z) (real_shown x) h
@@ -538,12 +518,12 @@ mutual
   expr_shown x n false ready inside (t.AtBound i) h s = absurd (let e = h.1 in cc)
   expr_shown x n true ready inside (t.AtBound i) h s = at_bound_shown x i inside.0 inside.1 inside.2 inside.3 (ready.named i h.0)
 
-  pub more_shown : (x : Naming) (n : ℕ) (b : Truth) → Ready x n → Inside b x → (es : t.BExprs) (all : List t.BExpr) → FitExprs n b es → Shorts es →
+  pub more_shown : (x : Naming) (n : ℕ) (b : Truth) → Ready x n → Inside b x → (es : t.BExprs) (all : List t.BExpr) → FitExprs n b es → ShortExprs es →
       Listed (exprs_text x (codes ", ") es) (rule (g.MoreExprs (scope_of x) all)) (all ++ list_of es)
   more_shown x n b ready inside t.none all h s = no_more x all
   more_shown x n b ready inside (t.more a es) all h s =
       one_more x a es all (expr_shown x n b ready inside a h.0 s.0) (more_shown x n b ready inside es (all ++ (a ∷ [])) h.1 s.1)
 
-pub listed_shown : (x : Naming) (n : ℕ) → Ready x n → x.bound ≡ [] → (es : t.BExprs) → (es ≡ t.none → ⊥) → FitExprs n false es → Shorts es → Listed (exprs_text x [] es) (rule (g.Exprs (scope_of x))) (list_of es)
+pub listed_shown : (x : Naming) (n : ℕ) → Ready x n → x.bound ≡ [] → (es : t.BExprs) → (es ≡ t.none → ⊥) → FitExprs n false es → ShortExprs es → Listed (exprs_text x [] es) (rule (g.Exprs (scope_of x))) (list_of es)
 listed_shown x n ready none t.none some h s = absurd (some refl)
 listed_shown x n ready none (t.more a es) some h s = first_shown x a es (expr_shown x n false ready none a h.0 s.0) (more_shown x n false ready none es (a ∷ []) h.1 s.1)

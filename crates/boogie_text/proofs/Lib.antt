@@ -2,6 +2,7 @@ pub mod CutLaws
 pub mod AlikeLaws
 pub mod PrintLaws
 pub mod PutLaws
+pub mod PieceLaws
 pub mod FreshLaws
 pub mod BinderLaws
 pub mod VarLaws

@@ -1,6 +1,6 @@
 -- What is written for a program spells it.
-use Rattle.std.proofs.Common.{◌≡◌, refl, sym, ap, subst, arith, ℕ, suc, ◌^◌, ◌<◌, Bool as Truth, true, false, List, [], ◌∷◌, ◌++◌, length, codes, append_assoc, append-nil}
-use Rattle.std.specs.Prelude.{All, ⊤}
+use Rattle.std.proofs.Common.{◌≡◌, refl, sym, ap, subst, arith, ℕ, suc, ◌^◌, ◌<◌, Bool as Truth, true, false, List, [], ◌∷◌, ◌++◌, length, filter, codes, append_assoc, append-nil}
+use Rattle.std.specs.Prelude.{All}
 use Rattle.std.specs.List.{prefix_len}
 use Rattle.std.proofs.lemmas.List.{map-append}
 use Rattle.vb_base.specs.declared.labels.Label.{Label}
@@ -23,14 +23,15 @@ use Rattle.boogie_grammar.specs.Grammar as g
 use Rattle.boogie_grammar.specs.Grammar.{Rule, give, need, when, read, rule, rules, local_names, proc_names}
 use Rattle.boogie_grammar.specs.Cut.{IsRow}
 use Rattle.boogie_grammar.specs.Cut as cut
-use Rattle.boogie_grammar.specs.Printed.{naming, name_at, base_text, expr_text, exprs_text, stmt_text, stmts_text, bases_text, type_text, locals_text, proc_text, procs_text, program_text}
+use Rattle.boogie_grammar.specs.Printed.{naming, is_q, name_at, base_text, expr_text, exprs_text, stmt_text, stmts_text, bases_text, type_text, locals_text, proc_text, procs_text, program_text}
 use Rattle.boogie_grammar.specs.Spells.{BSpells}
 use Rattle.boogie_grammar.proofs.WrittenRows.{at_start, Ends, name_row, free_row, blank_row, line_row, open_row, close_row, bracket_row, end_row, begin_row, finish_row, comma_row, semicolon_row, star_row, colon_row, mark_row, assign_row, text_row}
 use Rattle.boogie_tree.specs.Fits.{FitsStmt, FitStmts}
 use Rattle.boogie_text.specs.Printable.{IsFreeName, FitsLocal, FitsProc, IsPrintable}
-use Rattle.boogie_text.proofs.FreshLaws.{avoided, fewer}
+use Rattle.boogie_text.specs.Short.{ShortStmt, ShortStmts, ShortProc, IsShort}
+use Rattle.boogie_text.proofs.FreshLaws.{avoided}
 use Rattle.boogie_text.proofs.VarLaws.{IsVar, some_is_free, var_at, new_after, head_of, tail_of}
-use Rattle.boogie_text.proofs.ExprShown.{Shown, Listed, Ready, Short, Shorts, sign_first, sign_taken, word_first, word_taken, tail_derives, where_yes, ends, value_at, list_of, list_exprs, base_row, expr_shown, listed_shown, all_cons, all_none}
+use Rattle.boogie_text.proofs.ExprShown.{Shown, Listed, Ready, sign_first, sign_taken, word_first, word_taken, tail_derives, where_yes, ends, value_at, list_of, list_exprs, base_row, expr_shown, listed_shown, all_cons, all_none}
 
 -- a text is cut into tokens that are derived from a rule, whatever follows
 pub record Closed (bytes : List ℕ) {k : Kind} (a : Rule k) (x : Value k) : Type 0 where
@@ -219,20 +220,6 @@ either_shown names a b h i = record {
 
 -- all statements
 
-abbrev mutual
-  pub ShortStmt : s.BStmt → Type 0
-  ShortStmt (s.Assign i e) = Short e
-  ShortStmt (s.Put i es e) = Shorts es × Short e
-  ShortStmt (s.Havoc i) = ⊤
-  ShortStmt (s.Assume e) = Short e
-  ShortStmt (s.Assert l e) = Short e
-  ShortStmt (s.If e a b) = Short e × ShortStmts a × ShortStmts b
-  ShortStmt (s.Either a b) = ShortStmts a × ShortStmts b
-
-  pub ShortStmts : s.BStmts → Type 0
-  ShortStmts s.skip = ⊤
-  ShortStmts (s.first a rest) = ShortStmt a × ShortStmts rest
-
 mutual
   stmt_shown : (names : List (List ℕ)) (n : ℕ) → Ready (naming names) n → (a : s.BStmt) → FitsStmt n a → ShortStmt a → ShownStmt names a
   stmt_shown names n ready (s.Assign i e) h k = assign_shown names i e (ready.named i h.0) (expr_shown (naming names) n false ready refl e h.1 k)
@@ -329,17 +316,12 @@ same_number : (ls : List Local) → length (local_names ls) ≡ length ls
 same_number [] = refl
 same_number (l ∷ ls) = ap suc (same_number ls)
 
-locals_ready : (ls : List Local) → All FitsLocal ls → NamesDiffer (local_names ls) → length ls < 2 ^ 63 → Ready (naming (local_names ls)) (length ls)
+locals_ready : (ls : List Local) → All FitsLocal ls → NamesDiffer (local_names ls) → length (filter is_q (local_names ls)) < 2 ^ 63 → Ready (naming (local_names ls)) (length ls)
 locals_ready ls fit differ short = record {
   named = λ i lt. var_at (local_names ls) (names_free ls fit) differ i (let e = same_number ls in omega (arith, e, lt));
   avoids = λ m h. avoided m (local_names ls) h;
-  short = let f = fewer (local_names ls) in let e = same_number ls in omega (arith, e, f, short);
+  short = short;
 }
-
--- no list is longer than can be numbered
-pub record ShortProc (p : Proc) : Type 0 where
-  pub locals : length p.locals < 2 ^ 63
-  pub body : ShortStmts p.body
 
 -- after `procedure`
 record ShownProc (seen : List (List ℕ)) (p : Proc) : Type 0 where
@@ -390,7 +372,7 @@ procs_shown (p ∷ ps) all fit short differ =
       row = procs_row (proc_text p) (procs_text ps) one.tokens more.tokens one.row more.row;
     }
 
-pub program_spelled : (program : BProgram) → IsPrintable program → All ShortProc program.procs → BSpells (program_text program) program
+pub program_spelled : (program : BProgram) → IsPrintable program → IsShort program → BSpells (program_text program) program
 program_spelled program h short =
     let all = procs_shown program.procs [] h.procs short h.procs_differ in
     record {

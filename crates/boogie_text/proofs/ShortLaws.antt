@@ -9,8 +9,10 @@ use Rattle.boogie_tree.specs.declared.exprs.BBase.{BBase}
 use Rattle.boogie_tree.specs.declared.stmts.BStmt as stmt
 use Rattle.boogie_tree.specs.declared.programs.Local.{Local}
 use Rattle.boogie_tree.specs.declared.programs.Proc.{Proc}
-use Rattle.boogie_text.proofs.ExprShown.{Short, Shorts, all_cons, all_none}
-use Rattle.boogie_text.proofs.ProgramShown.{ShortStmt, ShortStmts, ShortProc}
+use Rattle.boogie_grammar.specs.Grammar.{local_names}
+use Rattle.boogie_text.specs.Short.{ShortExpr, ShortExprs, ShortStmt, ShortStmts, ShortProc}
+use Rattle.boogie_text.proofs.ExprShown.{all_cons, all_none}
+use Rattle.boogie_text.proofs.FreshLaws.{fewer}
 
 few_bases : (v : Vec BBase Global) → length v.items < 2 ^ 63
 few_bases v = omega arith
@@ -19,7 +21,7 @@ few_locals : (v : Vec Local Global) → length v.items < 2 ^ 63
 few_locals v = omega arith
 
 mutual
-  short_expr : (e : expr.BExpr) → Short (expr_of e)
+  short_expr : (e : expr.BExpr) → ShortExpr (expr_of e)
   short_expr (expr.Var i) = tt
   short_expr (expr.Int n) = tt
   short_expr (expr.Real n) = tt
@@ -40,11 +42,11 @@ mutual
   short_expr (expr.At' i shape es) = short_row es
   short_expr (expr.AtBound i) = tt
 
-  short_row : {n : _} (r : expr.Row_of-BExpr n) → Shorts (expr_row r)
+  short_row : {n : _} (r : expr.Row_of-BExpr n) → ShortExprs (expr_row r)
   short_row expr.end_of-BExpr = tt
   short_row (expr.more_of-BExpr a rest) = (short_expr a, short_row rest)
 
-short_exprs : (es : List expr.BExpr) → Shorts (exprs_of es)
+short_exprs : (es : List expr.BExpr) → ShortExprs (exprs_of es)
 short_exprs [] = tt
 short_exprs (e ∷ es) = (short_expr e, short_exprs es)
 
@@ -66,13 +68,14 @@ short_stmts : (ss : List stmt.BStmt) → ShortStmts (stmts_of ss)
 short_stmts [] = tt
 short_stmts (a ∷ rest) = (short_stmt a, short_stmts rest)
 
-same_number : (ls : List Local) → length (map local_of ls) ≡ length ls
+same_number : (ls : List Local) → length (local_names (map local_of ls)) ≡ length ls
 same_number [] = refl
 same_number (l ∷ ls) = ap suc (same_number ls)
 
 short_proc : (p : Proc) → ShortProc (proc_of p)
 short_proc p = record {
-  locals = let e = same_number p.locals.items in let f = few_locals p.locals in omega (arith, e, f);
+  locals =
+      let e = same_number p.locals.items in let f = few_locals p.locals in let g = fewer (local_names (map local_of p.locals.items)) in omega (arith, e, f, g);
   body = short_stmts p.body.items;
 }
 

@@ -1,5 +1,9 @@
 pub mod Printable
+pub mod Short
 pub mod Fresh
 pub mod StmtView
 pub mod Whole
 pub mod Answers
+pub mod Pieces
+pub mod Names
+pub mod Asserts

@@ -1,24 +1,39 @@
 //! The text of Boogie: the reader and the printer of programs.
 #![tactic(auto)]
 
+mod asserts;
 mod bounds;
 mod builds;
 mod exprs;
 mod laws;
 mod locals;
+mod pieces;
 mod printer;
 mod procs;
 mod program;
 mod put_exprs;
+mod put_heads;
+mod put_stmts;
 mod reader;
 mod simple;
 mod stmts;
+mod text_laws;
 mod types;
 
+pub use asserts::count_asserts;
 pub use boogie_grammar::BoogieFault;
 pub use laws::{
     bound_names_are_fresh, brackets_are_nested, not_refused, one_fault, one_place, one_program,
     one_tree, some_answer, some_text_answer, spelled_is_printable,
 };
+pub use pieces::{
+    EmitFault, Names, put_code, put_head, put_if, write_code, write_else, write_end, write_head,
+    write_if, write_prelude,
+};
 pub use printer::print;
+pub use put_stmts::{put_else, put_end};
 pub use reader::read;
+pub use text_laws::{
+    nested_is_shallow, programs_are_written_in_pieces, statements_are_written_in_pieces,
+    written_is_spelled,
+};

@@ -2,7 +2,7 @@ use Rattle.std.proofs.Common.{◌≡◌, ◌++◌, drop}
 use Rattle.boogie_tree.specs.Whole as b
 use Rattle.boogie_grammar.specs.Naming.{naming_of}
 use Rattle.boogie_grammar.specs.Printed.{stmts_text}
-use Rattle.boogie_text.proofs.printer.+statements.Given as goal
+use Rattle.boogie_text.proofs.put_stmts.+statements.Given as goal
 
 abbrev pub invariant-put_statements-loop-stmt : goal.invariant-put_statements-loop-stmt
 invariant-put_statements-loop-stmt l =
