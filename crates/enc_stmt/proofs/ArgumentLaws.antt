@@ -1,11 +1,10 @@
 -- The arguments of a call get locals of their own, which hold their values until the call has ended.
-use Rattle.std.proofs.Common.{◌≡◌, ◌+◌, ◌<◌, ◌≤◌, ◌++◌, ℕ, zero, suc, List, [], ◌∷◌, length, append-nil, Some, None, All, slice_get, slice_set, refl, ap, subst, ◌∙◌, arith}
+use Rattle.std.proofs.Common.{◌≡◌, ◌+◌, ◌<◌, ◌≤◌, ℕ, List, [], ◌∷◌, length, append-nil, None, All, slice_set, refl, ap, subst, ◌∙◌, arith}
 use Rattle.std.proofs.lemmas.List.Elements.{All-nil, All-cons, All-head, All-tail}
-use Rattle.std.proofs.lemmas.Option.{slice_get_within, same_Some}
+use Rattle.std.proofs.lemmas.Option.{slice_get_within}
 use Rattle.vb_value.specs.Bound.{Bound}
 use Rattle.vb_value.specs.declared.values.Ty.{Ty}
 use Rattle.vb_value.specs.declared.values.Value.{Value}
-use Rattle.viper_state.specs.Fits.{FitsStore}
 use Rattle.boogie_tree.specs.Program.{BType}
 use Rattle.boogie_tree.specs.Stmt as stmt
 use Rattle.boogie_tree.specs.Value.{One}
@@ -13,10 +12,9 @@ use Rattle.boogie_tree.specs.Values.{plain_type}
 use Rattle.boogie_meaning.specs.Run.{brun}
 use Rattle.boogie_meaning.proofs.PatternLaws.{set_here}
 use Rattle.moves.specs.Scalars.{scalar}
-use Rattle.enc_expr.specs.Place.{number}
 use Rattle.enc_expr.specs.Code.{Emitting, join, gives, then_emit, declares, puts}
 use Rattle.enc_expr.specs.Pieces.{Operand, one}
-use Rattle.enc_expr.specs.Coupling.{Env, HasVariable, AreLocals}
+use Rattle.enc_expr.specs.Coupling.{Env, AreLocals}
 use Rattle.enc_expr.specs.Alike as alike
 use Rattle.enc_expr.specs.Alike.{KeptBut, AreValues, AreLocated}
 use Rattle.enc_expr.proofs.AtomLaws.{sets_nothing, sets_then, sets_one, values_more}

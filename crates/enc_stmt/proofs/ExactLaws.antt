@@ -103,7 +103,7 @@ defaults_proper b (w ∷ ws) = All-cons (IsProperValue b) (default_of w) (map de
 
 -- ---- room
 
-are_locals : (ts : List BType) (n : ℕ) (us : List BType) → ((i : ℕ) (w : BType) → slice_get us i ≡ Some w → slice_get ts (n + i) ≡ Some w) → AreLocals ts n us
+pub are_locals : (ts : List BType) (n : ℕ) (us : List BType) → ((i : ℕ) (w : BType) → slice_get us i ≡ Some w → slice_get ts (n + i) ≡ Some w) → AreLocals ts n us
 are_locals ts n [] h = tt
 are_locals ts n (u ∷ us) h =
     let first : n ≡ n + 0 = omega arith in

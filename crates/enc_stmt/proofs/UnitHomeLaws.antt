@@ -175,7 +175,7 @@ module _ (p : Program) (u : Unit) where
       (get_more (map_type base.Ref [] base.Real ∷ map amount_type p.layout.keys) (map variable_type (types_of_others p u)) (1 + q) (amount_type us)
       (get_from (map_type base.Ref [] base.Real ∷ []) (map amount_type p.layout.keys) 1 (1 + q) q (amount_type us) refl refl (get_mapped amount_type p.layout.keys q us there)))
 
-  further_is : (i : ℕ) (w : Ty) → slice_get (types_of_others p u) i ≡ Some w → slice_get (fixed_types p u) (first_further p u + i) ≡ Some (variable_type w)
+  pub further_is : (i : ℕ) (w : Ty) → slice_get (types_of_others p u) i ≡ Some w → slice_get (fixed_types p u) (first_further p u + i) ≡ Some (variable_type w)
   further_is i w there =
       late_type (first_further p u + i) (1 + predicates + i) (variable_type w) (omega arith)
       (get_from (map_type base.Ref [] base.Real ∷ map amount_type p.layout.keys) (map variable_type (types_of_others p u)) (1 + predicates) (1 + predicates + i) i (variable_type w) zero_length refl

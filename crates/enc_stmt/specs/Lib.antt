@@ -2,3 +2,15 @@ pub mod Home
 pub mod Encoding
 pub mod Runs
 pub mod Units
+pub mod Typed
+pub mod View
+pub mod Parts
+pub mod Sizes
+pub mod Steps
+pub mod Fixed
+pub mod Numbers
+pub mod Written
+pub mod Translates
+pub mod Rows
+pub mod Forms
+pub mod Counts

@@ -1,0 +1,162 @@
+-- The code of assertions and of forgetting has a text that is read back, where their literals are literals of Boogie.
+use Rattle.std.specs.Bool.{⊤}
+use Rattle.std.proofs.Common.{◌≡◌, ◌≢◌, ◌<◌, ◌^◌, ℕ, suc, ◌+◌, Bool, true, false, List, [], ◌∷◌, Some, None, length, slice_get, refl, sym, subst, if◌then◌else◌, arith}
+use Rattle.std.proofs.lemmas.List.{length-map}
+use Rattle.moves.specs.Scalars.{base_for}
+use Rattle.vb_base.specs.declared.labels.Kind.TheVariants as kind
+use Rattle.vb_base.specs.declared.places.Pos.{Pos}
+use Rattle.vb_value.specs.Layout.{Layout}
+use Rattle.vb_value.specs.declared.values.Ty.{Ty}
+use Rattle.viper_core.specs.Expr as e
+use Rattle.boogie_tree.specs.Expr as t
+use Rattle.boogie_tree.specs.Stmt as s
+use Rattle.boogie_tree.specs.Stmt.{BStmts}
+use Rattle.boogie_tree.specs.Program.{BType}
+use Rattle.enc_stmt.proofs.TextTrees.{TextFits, IndexTextFits, BlockTextFits}
+use Rattle.boogie_tree.specs.Values.{plain_type}
+use Rattle.boogie_tree.specs.declared.exprs.BBase.TheVariants as base
+use Rattle.boogie_tree.specs.declared.exprs.BOp.TheVariants as op
+use Rattle.boogie_meaning.specs.Patterns as pattern
+use Rattle.moves.specs.Maps.{index_types, heap_type, content_type}
+use Rattle.enc_expr.specs.Place.{Maps, Place, number}
+use Rattle.enc_expr.specs.Kinds.{Kinds}
+use Rattle.enc_expr.specs.Code.{Emitting, join, Guard}
+use Rattle.enc_expr.specs.Pieces.{Operand, at_one, one, one_real, zero_real, is_one, label, check_nonnegative, scaled, add_to}
+use Rattle.enc_expr.specs.Encoding.{held_check, taken_amount}
+use Rattle.enc_expr.specs.Literals.{AssertionLiteralsFit}
+use Rattle.enc_stmt.proofs.TextPieces.{zero_fits, one_fits, join_fits, index_fits, check_nonnegative_fits, scaled_fits, add_to_fits, Any, OperandFits, OperandsFit, EmittingFits, gives_fits, then_fits, declares_fits, puts_fits, guards_fits, atomic_fits, located_fits}
+use Rattle.enc_stmt.proofs.TextCode.{code_fits, codes_fit, amount_fits, choose_fits}
+use Rattle.enc_assert.specs.Target.{Target, Field, Instance, Aimed, held_in, key_of}
+use Rattle.enc_assert.specs.Encoding.{field_target, instance_target, where_positive, some_amount, more_held, gives_code, gives_some, produce_code, takes_code, takes_some, consume_code, forget_map, forget_heaps, forget_contents, forget_code}
+use Rattle.enc_assert.proofs.WalkLaws.{Blocks, amount_walk, walk, produce_blocks, consume_blocks, produce_walks, consume_walks}
+
+-- ---- what an accessibility predicate speaks of
+
+abbrev TargetFits : Target → Type 0
+TargetFits x = IndexTextFits (key_of x)
+
+record AimFits (x : Aimed) : Type 0 where
+  target : TargetFits x.target
+  sets : BlockTextFits x.sets
+
+field_fits : (f : ℕ) (x : Operand) → OperandFits x → EmittingFits AimFits (field_target f x)
+field_fits f x h = then_fits (atomic_fits x h) (λ r a. gives_fits {x = record { target = Field f r.expr; sets = r.sets }} (record { target = (a.expr, tt); sets = a.sets }))
+
+instance_fits : (q : ℕ) (xs : List Operand) → OperandsFit xs → EmittingFits AimFits (instance_target q xs)
+instance_fits q xs h = then_fits (located_fits xs h) (λ l i. gives_fits {x = record { target = Instance q l.locals; sets = l.sets }} (record { target = index_fits l.locals; sets = i }))
+
+-- ---- amounts
+
+where_fits : (q x : t.BExpr) → TextFits q → TextFits x → TextFits (where_positive q x)
+where_fits q x h i = by_literal (is_one q)
+  where
+    by_literal : (p : Bool) → TextFits (if p then x else t.Bin op.Implies (t.Bin op.Gt q zero_real) x)
+    by_literal true = i
+    by_literal false = ((h, zero_fits), i)
+
+some_fits : (w : ℕ) → BlockTextFits (some_amount w)
+some_fits w = (tt, ((tt, zero_fits), tt))
+
+more_fits : (m : Maps) (scale : t.BExpr) (x : Target) (q : t.BExpr) → TextFits scale → TargetFits x → TextFits q → BlockTextFits (more_held m scale x q)
+more_fits m scale (Field f x) q h i j =
+    let add = add_to (number m.mask f) (t.more x t.none) (scaled scale q) in
+    let limit = one (s.Assume (where_positive q (t.Bin op.Le (at_one (number m.mask f) x) one_real))) in (
+      where_fits q (t.Bin op.Ne x t.Null) j (i.0, tt),
+      join_fits add limit (add_to_fits (number m.mask f) (t.more x t.none) (scaled scale q) i (scaled_fits scale q h j))
+          (where_fits q (t.Bin op.Le (at_one (number m.mask f) x) one_real) j (i, one_fits), tt),
+    )
+more_fits m scale (Instance p is) q h i j = add_to_fits (number m.amount p) (key_of (Instance p is)) (scaled scale q) i (scaled_fits scale q h j)
+
+gives_code_fits : (p : Place) (scale : t.BExpr) (at : Pos) (x : Target) (q : t.BExpr) → TextFits scale → TargetFits x → TextFits q → BlockTextFits (gives_code p scale at x q)
+gives_code_fits p scale at x q h i j =
+    join_fits (check_nonnegative (label p at kind.Negative) q) (more_held p.now scale x q) (check_nonnegative_fits (label p at kind.Negative) q j) (more_fits p.now scale x q h i j)
+
+gives_some_fits : (p : Place) (scale : t.BExpr) (x : Target) (w : ℕ) → TextFits scale → TargetFits x → BlockTextFits (gives_some p scale x w)
+gives_some_fits p scale x w h i = join_fits (some_amount w) (more_held p.now scale x (t.Var w)) (some_fits w) (more_fits p.now scale x (t.Var w) h i tt)
+
+takes_code_fits : (p : Place) (left : Maps) (scale : t.BExpr) (at : Pos) (x : Target) (q : t.BExpr) → TextFits scale → TargetFits x → TextFits q → BlockTextFits (takes_code p left scale at x q)
+takes_code_fits p left scale at x q h i j =
+    let amount = scaled_fits scale q h j in
+    let check = held_check (label p at kind.Perm) (held_in left x) (key_of x) (scaled scale q) in
+    let take = taken_amount (held_in left x) (key_of x) (scaled scale q) in
+    join_fits (check_nonnegative (label p at kind.Negative) q) (join check take) (check_nonnegative_fits (label p at kind.Negative) q j) (join_fits check take ((i, amount), tt) ((i, (i, amount)), tt))
+
+takes_some_fits : (p : Place) (left : Maps) (at : Pos) (x : Target) (w : ℕ) → TargetFits x → BlockTextFits (takes_some p left at x w)
+takes_some_fits p left at x w i = ((i, zero_fits), join_fits (some_amount w) rest (some_fits w) ((tt, i), ((i, (i, tt)), tt)))
+  where
+    rest : BStmts
+    rest = s.first (s.Assume (t.Bin op.Lt (t.Var w) (t.At (held_in left x) (key_of x)))) (taken_amount (held_in left x) (key_of x) (t.Var w))
+
+-- ---- the code
+
+record BlocksFit (w : Blocks) : Type 0 where
+  fact : (at : Pos) (x : t.BExpr) → TextFits x → BlockTextFits (w.fact at x)
+  written : (at : Pos) (x : Target) (q : t.BExpr) → TargetFits x → TextFits q → BlockTextFits (w.written at x q)
+  chosen : (at : Pos) (x : Target) (i : ℕ) → TargetFits x → BlockTextFits (w.chosen at x i)
+
+produce_blocks_fit : (p : Place) (scale : t.BExpr) → TextFits scale → BlocksFit (produce_blocks p scale)
+produce_blocks_fit p scale h = record {
+  fact = λ at x i. (i, tt);
+  written = λ at x q i j. gives_code_fits p scale at x q h i j;
+  chosen = λ at x w i. gives_some_fits p scale x w h i;
+}
+
+consume_blocks_fit : (p : Place) (left : Maps) (scale : t.BExpr) → TextFits scale → BlocksFit (consume_blocks p left scale)
+consume_blocks_fit p left scale h = record {
+  fact = λ at x i. (i, tt);
+  written = λ at x q i j. takes_code_fits p left scale at x q h i j;
+  chosen = λ at x w i. takes_some_fits p left at x w i;
+}
+
+amount_walk_fits : (w : Blocks) (g : Guard) (at : Pos) (m : e.Amt) (y : Operand) (x : Aimed) → BlocksFit w → OperandFits y → AimFits x → EmittingFits Any (amount_walk w g at m y x)
+amount_walk_fits w g at (e.Is a) y x blocks h i = then_fits (atomic_fits y h) (λ q k. let code = w.written at x.target q.expr in
+    puts_fits g (join x.sets (join q.sets code)) (join_fits x.sets (join q.sets code) i.sets (join_fits q.sets code k.sets (blocks.written at x.target q.expr i.target k.expr))))
+amount_walk_fits w g at e.Wildcard y x blocks h i = then_fits (declares_fits (plain_type base.Real)) (λ j any.
+    puts_fits g (join x.sets (w.chosen at x.target j)) (join_fits x.sets (w.chosen at x.target j) i.sets (blocks.chosen at x.target j i.target)))
+
+module _ (k : Kinds) (p : Place) (w : Blocks) (blocks : BlocksFit w) where
+  walk_fits : (g : Guard) (a : e.Assertion) → AssertionLiteralsFit a → EmittingFits Any (walk k p w g a)
+  walk_fits g (e.Fact a at) l = then_fits (code_fits k p g a l) (λ x i. puts_fits g (w.fact at x.expr) (blocks.fact at x.expr i))
+  walk_fits g (e.Acc a f m at) l = then_fits (code_fits k p g a l.0) (λ x i. then_fits (amount_fits k p g m l.1) (λ y j. then_fits (field_fits f x i) (λ z h. amount_walk_fits w g at m y z blocks j h)))
+  walk_fits g (e.Inst q args m at) l = then_fits (codes_fit k p g args l.0) (λ xs i. then_fits (amount_fits k p g m l.1) (λ y j. then_fits (instance_fits q xs i) (λ z h. amount_walk_fits w g at m y z blocks j h)))
+  walk_fits g (e.And a d) l = then_fits (walk_fits g a l.0) (λ u any. walk_fits g d l.1)
+  walk_fits g (e.Implies a d) l = then_fits (code_fits k p g a l.0) (λ x i. then_fits (guards_fits g x.expr i) (λ m any. walk_fits (Some m) d l.1))
+  walk_fits g (e.ChooseAssertion a d f) l = then_fits (code_fits k p g a l.0) (λ x i.
+      choose_fits {P = Any} {Q = Any} g x.expr (λ m. walk k p w m d) (λ m. walk k p w m f) (λ m u v. tt) i (λ m. walk_fits m d l.1) (λ m. walk_fits m f l.2) (λ m u v q r. tt))
+
+-- ---- forgetting
+
+pub some_type : (us : List Ty) → index_types us ≢ []
+some_type [] e = absurd cc
+some_type (u ∷ us) e = absurd cc
+
+map_fits : (u : BType) (held old : ℕ) → u.keys ≢ [] → length u.keys < 2 ^ 63 → EmittingFits Any (forget_map u held old)
+map_fits u held old some few = then_fits (declares_fits u) (λ new any. puts_fits None (pattern.forget_code u.keys held old new) (tt, ((some, few, ((tt, zero_fits), (tt, tt))), (tt, tt))))
+
+-- no predicate has more parameters
+abbrev pub AreFew : List (List Ty) → Type 0
+AreFew keys = (q : ℕ) (us : List Ty) → slice_get keys q ≡ Some us → length us < 2 ^ 32
+
+pub few_types : (us : List Ty) → length us < 2 ^ 32 → length (index_types us) < 2 ^ 63
+few_types [] few = omega arith
+few_types (u ∷ us) few = omega (arith, few, length-map us base_for)
+
+heaps_fit : (m : Maps) (us : List Ty) (i : ℕ) → EmittingFits Any (forget_heaps m us i)
+heaps_fit m [] i = gives_fits tt
+heaps_fit m (u ∷ us) i = then_fits (map_fits (heap_type u) (number m.mask i) (number m.heap i) (λ e. absurd cc) (omega arith)) (λ x any. heaps_fit m us (i + 1))
+
+contents_fit : (m : Maps) (keys : List (List Ty)) (i : ℕ) → AreFew keys → EmittingFits Any (forget_contents m keys i)
+contents_fit m [] i few = gives_fits tt
+contents_fit m (us ∷ keys) i few =
+    then_fits (map_fits (content_type us) (number m.amount i) (number m.content i) (some_type us) (few_types us (few 0 us refl))) (λ x any. contents_fit m keys (i + 1) (λ q ws there. few (suc q) ws there))
+
+-- ---- what is promised
+
+pub produce_fits : (k : Kinds) (p : Place) (g : Guard) (scale : t.BExpr) (a : e.Assertion) → AssertionLiteralsFit a → TextFits scale → EmittingFits Any (produce_code k p g scale a)
+produce_fits k p g scale a l h = subst (λ (m : Emitting ⊤). EmittingFits Any m) (sym (produce_walks k p scale g a)) (walk_fits k p (produce_blocks p scale) (produce_blocks_fit p scale h) g a l)
+
+pub consume_fits : (k : Kinds) (p : Place) (left : Maps) (g : Guard) (scale : t.BExpr) (a : e.Assertion) → AssertionLiteralsFit a → TextFits scale → EmittingFits Any (consume_code k p left g scale a)
+consume_fits k p left g scale a l h = subst (λ (m : Emitting ⊤). EmittingFits Any m) (sym (consume_walks k p scale left g a)) (walk_fits k p (consume_blocks p left scale) (consume_blocks_fit p left scale h) g a l)
+
+pub forget_fits : (layout : Layout) (m : Maps) → AreFew layout.keys → EmittingFits Any (forget_code layout m)
+forget_fits layout m few = then_fits (heaps_fit m layout.fields 0) (λ x any. contents_fit m layout.keys 0 few)

@@ -1,0 +1,205 @@
+// The procedure of a unit: its locals, and its text.
+ghost use Rattle.std.specs.Prelude.{◌≡◌, ◌++◌, ◌≤◌, length, map, All, IfOk, OnOk, OnErr, IsErrOf};
+ghost use Rattle.vb_outer.specs.Faults.{HasCause, Rose};
+ghost use Rattle.vb_outer.specs.Sink.{Appends, AppendsPrefix};
+ghost use Rattle.viper_core.specs.Formed.{IsFormed};
+ghost use Rattle.viper_core.specs.View.{program_of};
+ghost use Rattle.boogie_grammar.specs.Grammar.{local_names};
+ghost use Rattle.boogie_grammar.specs.Printed.{naming, proc_text};
+ghost use Rattle.boogie_text.specs.Asserts.{asserts_in};
+ghost use Rattle.boogie_text.specs.Pieces.{head_text, end_text};
+ghost use Rattle.boogie_text.specs.declared.pieces.EmitFault.TheVariants as fault;
+ghost use Rattle.boogie_tree.specs.Whole.{locals_of};
+ghost use Rattle.enc_expr.specs.Emits.{temporaries};
+ghost use Rattle.enc_stmt.specs.Counts.{counts};
+ghost use Rattle.enc_stmt.specs.Rows.{row_types, row_text, row_asserts, laid_text};
+ghost use Rattle.enc_stmt.specs.Steps as steps;
+ghost use Rattle.enc_stmt.specs.Units.{unit_procedure};
+ghost use Rattle.enc_stmt.specs.View.{coder_of, step_of};
+ghost use Rattle.enc_stmt.specs.Written.{IsStep};
+
+use crate::counts::Written;
+use crate::fixed::fixed_locals;
+use crate::names::unit_name;
+use crate::passes::row_locals;
+use crate::rows::unit_steps;
+use crate::steps::Step;
+use crate::units::unit_home;
+use crate::writers::{Writer, unit_writer};
+use crate::writing::write_row;
+use boogie_text::{EmitFault, Names, put_end, put_head};
+use boogie_tree::Local;
+use enc_expr::Emit;
+use std::alloc::Global;
+use vb_base::{Ident, Memory};
+use vb_outer::{Failed, Sink, write_all};
+use viper_core::{Program, Unit};
+
+// ---- its locals
+
+/// The fixed locals, and then those that the steps declare.
+fn locals_in(alloc: Global, writer: Writer, row: &[Step<'_>]) -> Result<Vec<Local>, Memory>
+    requires { All IsStep (map step_of row.now) }
+    ensures { IfOk result (λ locals. locals_of locals.items
+        ≡ steps.fixed_locals (program_of writer.entry.program.now) writer.entry.unit
+        ++ temporaries (length (steps.fixed_locals (program_of writer.entry.program.now) writer.entry.unit))
+        (row_types (coder_of writer.entry) (map step_of row.now) (length (steps.fixed_locals (program_of writer.entry.program.now) writer.entry.unit)))) }
+{
+    let locals = fixed_locals(alloc, writer.program, writer.unit)?;
+    let code = Vec::new(alloc);
+    let mut out = Emit { locals, code };
+    row_locals(alloc, writer, row, &mut out)?;
+    Ok(out.locals)
+}
+
+/// All locals of a unit, by what its steps are written by.
+fn locals_over(alloc: Global, writer: Writer) -> Result<Vec<Local>, Memory>
+    requires formed { IsFormed (program_of writer.program.now) }
+    requires code { coder_of writer ≡ steps.unit_step (program_of writer.program.now) writer.unit }
+    ensures { IfOk result (λ locals. locals_of locals.items ≡ (unit_procedure (program_of writer.entry.program.now) writer.entry.unit).locals) }
+{
+    let row = unit_steps(alloc, writer.program, writer.unit)?;
+    locals_in(alloc, writer, &row)
+}
+
+/// All locals of the procedure of a unit.
+pub fn locals_of_unit(alloc: Global, program: &Program, unit: Unit) -> Result<Vec<Local>, Memory>
+    requires { IsFormed (program_of program.now) }
+    ensures { IfOk result (λ locals. locals_of locals.items ≡ (unit_procedure (program_of program.now) unit).locals) }
+{
+    let home = unit_home(alloc, program, unit)?;
+    locals_over(alloc, unit_writer(program, unit, &home))
+}
+
+// ---- its text
+
+/// Writes and counts a text without statements.
+pub(crate) fn write_text<S: Sink>(
+    text: &[u8],
+    written: &mut Written,
+    sink: &mut S,
+) -> Result<(), Failed>
+    ensures ok { OnOk result (Appends (S.written sink.old) (S.written sink.new) text.now) }
+    ensures counts { OnOk result (written.new ≡ counts written.old (length text.now) 0) }
+    ensures front { OnErr result (AppendsPrefix (S.written sink.old) (S.written sink.new) text.now) }
+    ensures cause { HasCause (S.faults sink.old) (S.faults sink.new) result }
+{
+    write_all(sink, text)?;
+    *written = written.with_text(text);
+    Ok(())
+}
+
+fn text_of_head(alloc: Global, name: &Ident, locals: &[Local]) -> Result<Vec<u8>, Memory>
+    ensures { IfOk result (λ text. text.items ≡ head_text name.now (locals_of locals.now)) }
+{
+    let mut text = Vec::new(alloc);
+    put_head(&mut text, name, locals)?;
+    Ok(text)
+}
+
+fn text_of_end(alloc: Global) -> Result<Vec<u8>, Memory>
+    ensures { IfOk result (λ text. text.items ≡ end_text) }
+{
+    let mut text = Vec::new(alloc);
+    put_end(&mut text)?;
+    Ok(text)
+}
+
+/// Writes the steps behind the fixed locals, where these are all locals.
+fn write_steps<S: Sink>(
+    alloc: Global,
+    writer: Writer,
+    locals: &[Local],
+    row: &[Step<'_>],
+    written: &mut Written,
+    sink: &mut S,
+) -> Result<(), EmitFault>
+    requires { All IsStep (map step_of row.now) }
+    ensures ok { OnOk result (Appends (S.written sink.old) (S.written sink.new)
+        (row_text (coder_of writer.entry) (naming (local_names (locals_of locals.now))) (map step_of row.now) (length (steps.fixed_locals (program_of writer.entry.program.now) writer.entry.unit)))) }
+    ensures counts { OnOk result (written.new ≡ counts written.old
+        (length (row_text (coder_of writer.entry) (naming (local_names (locals_of locals.now))) (map step_of row.now) (length (steps.fixed_locals (program_of writer.entry.program.now) writer.entry.unit))))
+        (row_asserts (coder_of writer.entry) (map step_of row.now) (length (steps.fixed_locals (program_of writer.entry.program.now) writer.entry.unit)))) }
+    ensures front { OnErr result (AppendsPrefix (S.written sink.old) (S.written sink.new)
+        (row_text (coder_of writer.entry) (naming (local_names (locals_of locals.now))) (map step_of row.now) (length (steps.fixed_locals (program_of writer.entry.program.now) writer.entry.unit)))) }
+    ensures failed { IsErrOf result fault.Failed → Rose (S.faults sink.old) (S.faults sink.new) }
+    ensures later { S.faults sink.old ≤ S.faults sink.new }
+{
+    let names = Names::of(alloc, locals)?;
+    let own = fixed_locals(alloc, writer.program, writer.unit)?;
+    let code = Vec::new(alloc);
+    let mut out = Emit { locals: own, code };
+    write_row(alloc, writer, &names, row, &mut out, written, sink)
+}
+
+/// Writes a procedure of this name, where these are all locals.
+fn write_laid<S: Sink>(
+    alloc: Global,
+    writer: Writer,
+    name: &Ident,
+    locals: &[Local],
+    row: &[Step<'_>],
+    written: &mut Written,
+    sink: &mut S,
+) -> Result<(), EmitFault>
+    requires { All IsStep (map step_of row.now) }
+    ensures ok { OnOk result (Appends (S.written sink.old) (S.written sink.new)
+        (laid_text (coder_of writer.entry) name.now (locals_of locals.now) (map step_of row.now) (length (steps.fixed_locals (program_of writer.entry.program.now) writer.entry.unit)))) }
+    ensures counts { OnOk result (written.new ≡ counts written.old
+        (length (laid_text (coder_of writer.entry) name.now (locals_of locals.now) (map step_of row.now) (length (steps.fixed_locals (program_of writer.entry.program.now) writer.entry.unit))))
+        (row_asserts (coder_of writer.entry) (map step_of row.now) (length (steps.fixed_locals (program_of writer.entry.program.now) writer.entry.unit)))) }
+    ensures front { OnErr result (AppendsPrefix (S.written sink.old) (S.written sink.new)
+        (laid_text (coder_of writer.entry) name.now (locals_of locals.now) (map step_of row.now) (length (steps.fixed_locals (program_of writer.entry.program.now) writer.entry.unit)))) }
+    ensures failed { IsErrOf result fault.Failed → Rose (S.faults sink.old) (S.faults sink.new) }
+    ensures later { S.faults sink.old ≤ S.faults sink.new }
+{
+    let head = text_of_head(alloc, name, locals)?;
+    write_text(&head, written, sink)?;
+    write_steps(alloc, writer, locals, row, written, sink)?;
+    let end = text_of_end(alloc)?;
+    write_text(&end, written, sink)?;
+    Ok(())
+}
+
+/// Writes the procedure of a unit, by what its steps are written by.
+fn write_over<S: Sink>(
+    alloc: Global,
+    writer: Writer,
+    written: &mut Written,
+    sink: &mut S,
+) -> Result<(), EmitFault>
+    requires formed { IsFormed (program_of writer.program.now) }
+    requires code { coder_of writer ≡ steps.unit_step (program_of writer.program.now) writer.unit }
+    ensures ok { OnOk result (Appends (S.written sink.old) (S.written sink.new) (proc_text (unit_procedure (program_of writer.entry.program.now) writer.entry.unit))) }
+    ensures counts { OnOk result (written.new ≡ counts written.old (length (proc_text (unit_procedure (program_of writer.entry.program.now) writer.entry.unit)))
+        (asserts_in (unit_procedure (program_of writer.entry.program.now) writer.entry.unit).body)) }
+    ensures front { OnErr result (AppendsPrefix (S.written sink.old) (S.written sink.new) (proc_text (unit_procedure (program_of writer.entry.program.now) writer.entry.unit))) }
+    ensures failed { IsErrOf result fault.Failed → Rose (S.faults sink.old) (S.faults sink.new) }
+    ensures later { S.faults sink.old ≤ S.faults sink.new }
+{
+    let row = unit_steps(alloc, writer.program, writer.unit)?;
+    let locals = locals_in(alloc, writer, &row)?;
+    let name = unit_name(alloc, writer.program, writer.unit)?;
+    write_laid(alloc, writer, &name, &locals, &row, written, sink)
+}
+
+/// Writes the procedure of a unit.
+pub fn write_unit<S: Sink>(
+    alloc: Global,
+    program: &Program,
+    unit: Unit,
+    written: &mut Written,
+    sink: &mut S,
+) -> Result<(), EmitFault>
+    requires { IsFormed (program_of program.now) }
+    ensures ok { OnOk result (Appends (S.written sink.old) (S.written sink.new) (proc_text (unit_procedure (program_of program.now) unit))) }
+    ensures counts { OnOk result (written.new ≡ counts written.old (length (proc_text (unit_procedure (program_of program.now) unit)))
+        (asserts_in (unit_procedure (program_of program.now) unit).body)) }
+    ensures front { OnErr result (AppendsPrefix (S.written sink.old) (S.written sink.new) (proc_text (unit_procedure (program_of program.now) unit))) }
+    ensures failed { IsErrOf result fault.Failed → Rose (S.faults sink.old) (S.faults sink.new) }
+    ensures later { S.faults sink.old ≤ S.faults sink.new }
+{
+    let home = unit_home(alloc, program, unit)?;
+    let writer = unit_writer(program, unit, &home);
+    write_over(alloc, writer, written, sink)
+}

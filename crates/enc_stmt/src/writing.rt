@@ -1,0 +1,94 @@
+// The second pass over the steps of a unit, which writes them.
+ghost use Rattle.std.specs.Prelude.{◌≡◌, ◌++◌, ◌≤◌, length, map, All, IfOk, OnOk, OnErr, IsErrOf};
+ghost use Rattle.vb_outer.specs.Faults.{Rose};
+ghost use Rattle.vb_outer.specs.Sink.{Appends, AppendsPrefix};
+ghost use Rattle.boogie_text.specs.Names.{names_of};
+ghost use Rattle.boogie_text.specs.Pieces.{pieces_text};
+ghost use Rattle.boogie_text.specs.declared.pieces.EmitFault.TheVariants as fault;
+ghost use Rattle.enc_expr.specs.Emits.{emit_of};
+ghost use Rattle.enc_stmt.specs.Counts.{Puts, counts};
+ghost use Rattle.enc_stmt.specs.Rows.{bracket_pieces, row_text, row_asserts};
+ghost use Rattle.enc_stmt.specs.View.{bracket_of, coder_of, step_of};
+ghost use Rattle.enc_stmt.specs.Written.{IsStep};
+
+use crate::counts::Written;
+use crate::steps::{Bracket, Step};
+use crate::writers::Writer;
+use boogie_text::{EmitFault, Names, put_code, put_else, put_end, put_if};
+use boogie_tree::BExpr;
+use enc_expr::Emit;
+use std::alloc::Global;
+use vb_base::Memory;
+use vb_outer::{Sink, write_all};
+
+/// Appends a bracket, if there is one.
+fn put_bracket(
+    alloc: Global,
+    names: &Names<'_>,
+    bracket: &Bracket,
+    out: &mut Vec<u8>,
+) -> Result<(), Memory>
+    ensures { OnOk result (out.new.items ≡ out.old.items ++ pieces_text (names_of names.now) (bracket_pieces (bracket_of bracket.now))) }
+{
+    match bracket {
+        Bracket::Nothing => Ok(()),
+        Bracket::If(condition) => {
+            let condition: &BExpr = condition;
+            put_if(alloc, names, Some(condition), out)
+        }
+        Bracket::Either => put_if(alloc, names, None, out),
+        Bracket::Else => put_else(out),
+        Bracket::End => put_end(out),
+    }
+}
+
+/// The text of a step. Its code stays in `out` until the next one.
+fn step_text(
+    alloc: Global,
+    writer: Writer,
+    names: &Names<'_>,
+    step: &Step<'_>,
+    out: &mut Emit,
+    written: &mut Written,
+) -> Result<Vec<u8>, Memory>
+    requires { IsStep (step_of step.now) }
+    ensures { IfOk result (λ text. Puts (coder_of writer.entry) (names_of names.now) (step_of step.now)
+        (length (emit_of out.old).locals) (length (emit_of out.new).locals) written.old written.new text.items) }
+{
+    out.code.clear();
+    let bracket = writer.code(alloc, step, out)?;
+    let mut text = Vec::new(alloc);
+    put_code(alloc, names, &out.code, &mut text)?;
+    put_bracket(alloc, names, &bracket, &mut text)?;
+    *written = written.with_code(&text, &out.code);
+    Ok(text)
+}
+
+/// Writes the steps of a row.
+pub fn write_row<S: Sink>(
+    alloc: Global,
+    writer: Writer,
+    names: &Names<'_>,
+    row: &[Step<'_>],
+    out: &mut Emit,
+    written: &mut Written,
+    sink: &mut S,
+) -> Result<(), EmitFault>
+    requires { All IsStep (map step_of row.now) }
+    ensures ok { OnOk result (Appends (S.written sink.old) (S.written sink.new)
+        (row_text (coder_of writer.entry) (names_of names.now) (map step_of row.now) (length (emit_of out.old).locals))) }
+    ensures counts { OnOk result (written.new ≡ counts written.old
+        (length (row_text (coder_of writer.entry) (names_of names.now) (map step_of row.now) (length (emit_of out.old).locals)))
+        (row_asserts (coder_of writer.entry) (map step_of row.now) (length (emit_of out.old).locals))) }
+    ensures front { OnErr result (AppendsPrefix (S.written sink.old) (S.written sink.new)
+        (row_text (coder_of writer.entry) (names_of names.now) (map step_of row.now) (length (emit_of out.old).locals))) }
+    ensures failed { IsErrOf result fault.Failed → Rose (S.faults sink.old) (S.faults sink.new) }
+    ensures later { S.faults sink.old ≤ S.faults sink.new }
+{
+    let _start = *written;
+    for step in row {
+        let text = step_text(alloc, writer, names, step, out, written)?;
+        write_all(sink, &text)?;
+    }
+    Ok(())
+}
