@@ -22,6 +22,8 @@ axiom (forall p: real :: {sPerm(p)} sTag(sPerm(p)) == 4 && sPermOf(sPerm(p)) == 
 axiom (forall a: Snap, b: Snap :: {sPair(a, b)} sTag(sPair(a, b)) == 5 && sFirst(sPair(a, b)) == a && sSecond(sPair(a, b)) == b);
 procedure M$m() {
 var v$x: int;
+var z$: [Ref]real;
+assume (forall q0: Ref :: (z$[q0] == 0.0));
 if (*) {
 assert {:msg "1:20 1:27 false"} (v$x < 3);
 } else {

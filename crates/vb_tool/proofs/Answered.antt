@@ -1,21 +1,29 @@
 -- Files have one answer, so which status comes where a cause stands follows from the causes.
-use Rattle.std.proofs.Common.{◌≡◌, ◌∙◌, ◌<◌, ℕ, List, [], ◌∷◌, length, Option, Some, None, refl, sym, ap, subst, arith}
-use Rattle.vb_outer.specs.Shelf.{Files, IsFile, IsMissing}
-use Rattle.viper_core.specs.Program as p
+use Rattle.std.proofs.Common.{◌≡◌, ◌∙◌, inl, inr, ◌<◌, ◌≤◌, ℕ, List, [], ◌∷◌, length, Option, Some, None, refl, sym, ap, subst, arith}
+use Rattle.std.specs.Str.Parse.{digits_value}
+use Rattle.vb_gen.specs.Generated.{IsOutOfRange}
+use Rattle.vb_outer.specs.Shelf.{Files, IsFile, IsMissing, IsWhole}
+use Rattle.vb_outer.specs.Sink.{Appends}
 use Rattle.boogie_run.specs.Start.{outcome_of}
 use Rattle.boogie_run.specs.declared.replaying.BOutcome.{BOutcome}
+use Rattle.enc_stmt.specs.Translates.{text_of}
+use Rattle.viper_core.specs.Program as p
 use Rattle.vb_tool.proofs.BoogieVerdicts.{one_replay_refusal, replay_not_refused, one_procedure_run}
+use Rattle.vb_tool.proofs.CallLaws.{IsOutcome, does_end}
 use Rattle.vb_tool.proofs.RunVerdicts.{one_run_refusal, run_not_refused, one_unit_run}
-use Rattle.vb_tool.proofs.Verdicts.{one_refusal, accepted_not_refused}
+use Rattle.vb_tool.proofs.Verdicts.{one_refusal, accepted_not_refused, one_accepted}
 use Rattle.vb_tool.specs.Accepted as accepted
-use Rattle.vb_tool.specs.Accepted.{Accepts, AcceptsRun, IsRunRefusal}
+use Rattle.vb_tool.specs.Accepted.{IsAccepted, AcceptsRun, IsRefusal, IsRunRefusal}
 use Rattle.vb_tool.specs.AcceptedReplay as replay
 use Rattle.vb_tool.specs.AcceptedReplay.{AcceptsReplay, IsReplayRefusal}
-use Rattle.vb_tool.specs.Call.{Tells, MissesOf, Misses, first, later, Refuses, translates, too_long, runs, replay_too_long, replays, Works, translated, ran, replayed, IsCause, usage, read, refused, worked, Causes, EndsAs, as_expected, no_memory, read_fault, write_fault}
-use Rattle.vb_tool.specs.Command.{Command, Translate, Run, Replay, Asks, IsNoCommand, words_of}
-use Rattle.vb_tool.specs.Outcome.{run_status}
+use Rattle.vb_tool.specs.Call as call
+use Rattle.vb_tool.specs.Call.{MissesOf, Misses, first, later, Refuses, translates, too_long, runs, replay_too_long, replays, makes, Does, translated, ran, replayed, made, HasDone, IsCause, usage, read, refused, Causes, EndsAs, EndsWith, as_expected, no_memory, read_fault, write_fault, OutAfter}
+use Rattle.vb_tool.specs.Command as asks
+use Rattle.vb_tool.specs.Command.{Command, Translate, Run, Replay, Make, Asks, IsNoCommand}
+use Rattle.vb_tool.specs.Outcome.{run_status, run_text}
 use Rattle.vb_tool.specs.Procedures.{ProcedureRun, procedure_end}
-use Rattle.vb_tool.specs.ReplayOutcome.{replay_status}
+use Rattle.vb_tool.specs.ReplayOutcome.{replay_status, replay_text}
+use Rattle.vb_tool.specs.Summary.{made_text}
 use Rattle.vb_tool.specs.Units.{UnitRun, end_of}
 use Rattle.vb_tool.specs.declared.status.Refusal.{Refusal}
 use Rattle.vb_tool.specs.declared.status.Refusal.TheVariants as refusal
@@ -24,41 +32,43 @@ use Rattle.vb_tool.specs.declared.status.Status.TheVariants as status
 
 -- ---- words ask for one command
 
-one_command : (a b : Command) → words_of a ≡ words_of b → a ≡ b
-one_command (Translate f) (Translate g) same = let e : f ≡ g = cc in ap Translate e
-one_command (Translate f) (Run g u r) same = absurd (cc)
-one_command (Run g u r) (Translate f) same = absurd (cc)
-one_command (Translate f) (Replay g r) same = absurd (cc)
-one_command (Replay g r) (Translate f) same = absurd (cc)
-one_command (Run f t q) (Replay g r) same = absurd (cc)
-one_command (Replay g r) (Run f t q) same = absurd (cc)
-one_command (Replay f q) (Replay g r) same = let d : f ≡ g = cc in let h : q ≡ r = cc in ap (λ x. Replay x q) d ∙ ap (λ x. Replay g x) h
-one_command (Run f t q) (Run g u r) same =
-    let d : f ≡ g = cc in let e : t ≡ u = cc in let h : q ≡ r = cc in
-    ap (λ x. Run x t q) d ∙ ap (λ x. Run g x q) e ∙ ap (λ x. Run g u x) h
-
 asked_once : {words : List (List ℕ)} {a b : Command} → Asks words a → Asks words b → a ≡ b
-asked_once {a = a} {b = b} h i = one_command a b (sym h.words_are ∙ i.words_are)
+asked_once (asks.translate {file = f} h) (asks.translate {file = g} i) = let e : f ≡ g = cc in ap Translate e
+asked_once (asks.translate h) (asks.run i) = absurd (cc)
+asked_once (asks.translate h) (asks.replay i) = absurd (cc)
+asked_once (asks.translate h) (asks.make i k) = absurd (cc)
+asked_once (asks.run h) (asks.translate i) = absurd (cc)
+asked_once (asks.run {file = f} {unit = t} {run_file = q} h) (asks.run {file = g} {unit = u} {run_file = r} i) =
+    let d : f ≡ g = cc in let e : t ≡ u = cc in let k : q ≡ r = cc in
+    ap (λ x. Run x t q) d ∙ ap (λ x. Run g x q) e ∙ ap (λ x. Run g u x) k
+asked_once (asks.run h) (asks.replay i) = absurd (cc)
+asked_once (asks.run h) (asks.make i k) = absurd (cc)
+asked_once (asks.replay h) (asks.translate i) = absurd (cc)
+asked_once (asks.replay h) (asks.run i) = absurd (cc)
+asked_once (asks.replay {file = f} {run_file = q} h) (asks.replay {file = g} {run_file = r} i) =
+    let d : f ≡ g = cc in let k : q ≡ r = cc in ap (λ x. Replay x q) d ∙ ap (λ x. Replay g x) k
+asked_once (asks.replay h) (asks.make i k) = absurd (cc)
+asked_once (asks.make h k) (asks.translate i) = absurd (cc)
+asked_once (asks.make h k) (asks.run i) = absurd (cc)
+asked_once (asks.make h k) (asks.replay i) = absurd (cc)
+asked_once (asks.make {word = v} h k) (asks.make {word = w} i l) =
+    let e : v ≡ w = cc in ap Make (sym k.value ∙ ap (digits_value 10) e ∙ l.value)
 
 -- ---- a name is one file
+
+same_file : (files : Option Files) (name a b : List ℕ) → IsFile files name a → IsWhole files name b → a ≡ b
+same_file None name a b h i = absurd h
+same_file (Some files) name a b h i = let same : Some a ≡ Some b = sym h ∙ i in cc
 
 one_file : (files : Option Files) (name a b : List ℕ) → IsFile files name a → IsFile files name b → a ≡ b
 one_file None name a b h i = absurd h
 one_file (Some files) name a b h i = let same : Some a ≡ Some b = sym h ∙ i in cc
 
-not_missing : (files : Option Files) (name a : List ℕ) → IsFile files name a → IsMissing files name → ⊥
-not_missing None name a h i = absurd h
+not_missing : (files : Option Files) (name a : List ℕ) → IsWhole files name a → IsMissing files name → ⊥
+not_missing None name a h i = absurd i
 not_missing (Some files) name a h i = let same : Some a ≡ None = sym h ∙ i in absurd (cc)
 
-file_told : (files : Option Files) (name a : List ℕ) → IsFile files name a → Tells files
-file_told None name a h = absurd h
-file_told (Some files) name a h = tt
-
-missing_told : (files : Option Files) (name : List ℕ) → IsMissing files name → Tells files
-missing_told None name h = absurd h
-missing_told (Some files) name h = tt
-
--- ---- the files of a command have one answer
+-- ---- a command does one thing
 
 long_refusal : {bytes name run : List ℕ} {r : Refusal} → 1048576 < length bytes → IsRunRefusal bytes name run r → refusal.Size ≡ r
 long_refusal above is = one_run_refusal (accepted.size above) is
@@ -66,187 +76,197 @@ long_refusal above is = one_run_refusal (accepted.size above) is
 long_replay_refusal : {bytes run : List ℕ} {r : Refusal} → 33554432 < length bytes → IsReplayRefusal bytes run r → refusal.Size ≡ r
 long_replay_refusal above is = one_replay_refusal (replay.size above) is
 
+same_run_refusal : {a b c d unit : List ℕ} {r : Refusal} → a ≡ b → c ≡ d → IsRunRefusal b unit d r → IsRunRefusal a unit c r
+same_run_refusal {a} {d = d} {unit = unit} {r = r} same also is = subst (λ x. IsRunRefusal a unit x r) (sym also) (subst (λ x. IsRunRefusal x unit d r) (sym same) is)
+
+same_replay_refusal : {a b c d : List ℕ} {r : Refusal} → a ≡ b → c ≡ d → IsReplayRefusal b d r → IsReplayRefusal a c r
+same_replay_refusal {a} {d = d} {r = r} same also is = subst (λ x. IsReplayRefusal a x r) (sym also) (subst (λ x. IsReplayRefusal x d r) (sym same) is)
+
+same_run : {a b c d unit : List ℕ} {u : UnitRun} → a ≡ b → c ≡ d → AcceptsRun b unit d u → AcceptsRun a unit c u
+same_run {a} {d = d} {unit = unit} {u = u} same also is = subst (λ x. AcceptsRun a unit x u) (sym also) (subst (λ x. AcceptsRun x unit d u) (sym same) is)
+
+same_replay : {a b c d : List ℕ} {u : ProcedureRun} → a ≡ b → c ≡ d → AcceptsReplay b d u → AcceptsReplay a c u
+same_replay {a} {d = d} {u = u} same also is = subst (λ x. AcceptsReplay a x u) (sym also) (subst (λ x. AcceptsReplay x d u) (sym same) is)
+
+same_program : {a b : List ℕ} {q : p.Program} → a ≡ b → IsAccepted b q → IsAccepted a q
+same_program {q = q} same is = subst (λ x. IsAccepted x q) (sym same) is
+
+one_outcome : {v w : ProcedureRun} {o x : BOutcome} → v ≡ w → outcome_of (procedure_end v) ≡ Some o → outcome_of (procedure_end w) ≡ Some x → o ≡ x
+one_outcome {o = o} {x = x} same ends other =
+    let e : Some o ≡ Some x = sym ends ∙ ap (λ y. outcome_of (procedure_end y)) same ∙ other in cc
+
+not_out_of_range : {n : ℕ} → 1 ≤ n → n ≤ 2000 → IsOutOfRange n → ⊥
+not_out_of_range some few (inl none) = omega (arith, some, none)
+not_out_of_range some few (inr above) = omega (arith, few, above)
+
+module _ {Has Had : List ℕ → List ℕ → Type 0} (same : (name a b : List ℕ) → Has name a → Had name b → a ≡ b) where
+  one_refusal_of : {command : Command} {r q : Refusal} → Refuses Has command r → Refuses Had command q → r ≡ q
+  one_refusal_of {q = q} (translates {file = f} a is denied) (translates b also other) = one_refusal denied (subst (λ x. IsRefusal x q) (sym (same f a b is also)) other)
+  one_refusal_of (too_long a is above) (too_long b also other) = refl
+  one_refusal_of (too_long {file = f} a is above) (runs b c also there other) = long_refusal above (same_run_refusal (same f a b is also) refl other)
+  one_refusal_of (runs {file = f} a b is there denied) (too_long c also above) = sym (long_refusal above (same_run_refusal (sym (same f a c is also)) refl denied))
+  one_refusal_of (runs {file = f} {run_file = g} a b is run_is denied) (runs c d also run_also other) =
+      one_run_refusal denied (same_run_refusal (same f a c is also) (same g b d run_is run_also) other)
+  one_refusal_of (replay_too_long a is above) (replay_too_long b also other) = refl
+  one_refusal_of (replay_too_long {file = f} a is above) (replays b c also there other) = long_replay_refusal above (same_replay_refusal (same f a b is also) refl other)
+  one_refusal_of (replays {file = f} a b is there denied) (replay_too_long c also above) = sym (long_replay_refusal above (same_replay_refusal (sym (same f a c is also)) refl denied))
+  one_refusal_of (replays {file = f} {run_file = g} a b is run_is denied) (replays c d also run_also other) =
+      one_replay_refusal denied (same_replay_refusal (same f a c is also) (same g b d run_is run_also) other)
+  one_refusal_of (makes out) (makes also) = refl
+
+  does_not_refuse : {command : Command} {r : Refusal} {s : Status} {text : List ℕ} → Does Has command s text → Refuses Had command r → ⊥
+  does_not_refuse {r = r} (translated {file = f} a is accepts) (translates b also denied) = accepted_not_refused accepts (subst (λ x. IsRefusal x r) (sym (same f a b is also)) denied)
+  does_not_refuse (ran {file = f} a b is run_is accepts) (too_long c also above) = omega (arith, above, accepts.accepted.small, ap length (same f a c is also))
+  does_not_refuse (ran {file = f} {run_file = g} a b is run_is accepts) (runs c d also run_also denied) =
+      run_not_refused accepts (same_run_refusal (same f a c is also) (same g b d run_is run_also) denied)
+  does_not_refuse (replayed {file = f} a b is run_is accepts ends) (replay_too_long c also above) = omega (arith, above, accepts.accepted.small, ap length (same f a c is also))
+  does_not_refuse (replayed {file = f} {run_file = g} a b is run_is accepts ends) (replays c d also run_also denied) =
+      replay_not_refused accepts (same_replay_refusal (same f a c is also) (same g b d run_is run_also) denied)
+  does_not_refuse (made some few accepts) (makes out) = not_out_of_range some few out
+
+  refuses_not_does : {command : Command} {r : Refusal} {s : Status} {text : List ℕ} → Refuses Has command r → Does Had command s text → ⊥
+  refuses_not_does {r = r} (translates {file = f} a is denied) (translated b also accepts) = accepted_not_refused accepts (subst (λ x. IsRefusal x r) (same f a b is also) denied)
+  refuses_not_does (too_long {file = f} a is above) (ran b c also run_also accepts) = omega (arith, above, accepts.accepted.small, ap length (same f a b is also))
+  refuses_not_does (runs {file = f} {run_file = g} a b is run_is denied) (ran c d also run_also accepts) =
+      run_not_refused accepts (same_run_refusal (sym (same f a c is also)) (sym (same g b d run_is run_also)) denied)
+  refuses_not_does (replay_too_long {file = f} a is above) (replayed b c also run_also accepts ends) = omega (arith, above, accepts.accepted.small, ap length (same f a b is also))
+  refuses_not_does (replays {file = f} {run_file = g} a b is run_is denied) (replayed c d also run_also accepts ends) =
+      replay_not_refused accepts (same_replay_refusal (sym (same f a c is also)) (sym (same g b d run_is run_also)) denied)
+  refuses_not_does (makes out) (made some few accepts) = not_out_of_range some few out
+
+  does_one : {command : Command} {s t : Status} {text other : List ℕ} → Does Has command s text → Does Had command t other → (s ≡ t) × (text ≡ other)
+  does_one (translated {file = f} a is accepts) (translated b also others) = (refl, ap text_of (one_accepted accepts (same_program (same f a b is also) others)))
+  does_one (ran {file = f} {run_file = g} a b is run_is accepts) (ran c d also run_also others) =
+      let e = one_unit_run accepts (same_run (same f a c is also) (same g b d run_is run_also) others) in
+      (ap (λ x. run_status (end_of x)) e, ap (λ x. run_text (end_of x)) e)
+  does_one (replayed {file = f} {run_file = g} a b is run_is accepts ends) (replayed c d also run_also others end) =
+      let e = one_outcome (one_procedure_run accepts (same_replay (same f a c is also) (same g b d run_is run_also) others)) ends end in
+      (ap replay_status e, ap replay_text e)
+  does_one (made {n = n} some few accepts) (made others_some others_few others) = (refl, ap (made_text n) (one_accepted accepts others))
+
+pub one_deed : (files : Option Files) (command : Command) (s t : Status) (text other : List ℕ) → Does (IsFile files) command s text → Does (IsFile files) command t other →
+    (s ≡ t) × (text ≡ other)
+one_deed files command s t text other h i = does_one (one_file files) h i
+
+-- ---- a command whose files are missing does nothing else
+
 module _ {files : Option Files} where
-  misses_told : {limit : ℕ} {names : List (List ℕ)} → MissesOf files limit names → Tells files
-  misses_told (first {name = name} missing) = missing_told files name missing
-  misses_told (later {name = name} bytes is small misses) = file_told files name bytes is
-
-  refuses_told : {command : Command} {r : Refusal} → Refuses files command r → Tells files
-  refuses_told (translates {file = f} bytes is denied) = file_told files f bytes is
-  refuses_told (too_long {file = f} bytes is above) = file_told files f bytes is
-  refuses_told (runs {file = f} bytes run_bytes is run_is denied) = file_told files f bytes is
-  refuses_told (replay_too_long {file = f} bytes is above) = file_told files f bytes is
-  refuses_told (replays {file = f} bytes run_bytes is run_is denied) = file_told files f bytes is
-
   misses_none : {limit : ℕ} → MissesOf files limit [] → ⊥
   misses_none h = elim h [ ]
 
   -- the first file is there, and none is behind it
-  misses_one : {limit : ℕ} {name : List ℕ} (a : List ℕ) → IsFile files name a → MissesOf files limit (name ∷ []) → ⊥
+  misses_one : {limit : ℕ} {name : List ℕ} (a : List ℕ) → IsWhole files name a → MissesOf files limit (name ∷ []) → ⊥
   misses_one {name = name} a is (first missing) = not_missing files name a is missing
   misses_one a is (later b other small misses) = misses_none misses
 
-  misses_two : {limit : ℕ} {name other : List ℕ} (a b : List ℕ) → IsFile files name a → IsFile files other b → MissesOf files limit (name ∷ other ∷ []) → ⊥
+  misses_two : {limit : ℕ} {name other : List ℕ} (a b : List ℕ) → IsWhole files name a → IsWhole files other b → MissesOf files limit (name ∷ other ∷ []) → ⊥
   misses_two {name = name} a b is also (first missing) = not_missing files name a is missing
   misses_two a b is also (later c there small misses) = misses_one b also misses
 
-  misses_long : {limit : ℕ} {name other : List ℕ} (a : List ℕ) → IsFile files name a → limit < length a → MissesOf files limit (name ∷ other ∷ []) → ⊥
+  misses_long : {limit : ℕ} {name other : List ℕ} (a : List ℕ) → IsWhole files name a → limit < length a → MissesOf files limit (name ∷ other ∷ []) → ⊥
   misses_long {name = name} a is above (first missing) = not_missing files name a is missing
-  misses_long {name = name} a is above (later b there small misses) = omega (arith, above, small, ap length (one_file files name a b is there))
+  misses_long {name = name} a is above (later b there small misses) = omega (arith, above, small, ap length (same_file files name b a there is))
 
-  misses_not_refused : {command : Command} {r : Refusal} → Misses files command → Refuses files command r → ⊥
+  misses_not_refused : {command : Command} {r : Refusal} → Misses files command → Refuses (IsWhole files) command r → ⊥
   misses_not_refused misses (translates bytes is denied) = misses_one bytes is misses
   misses_not_refused misses (too_long bytes is above) = misses_long bytes is above misses
   misses_not_refused misses (runs bytes run_bytes is run_is denied) = misses_two bytes run_bytes is run_is misses
   misses_not_refused misses (replay_too_long bytes is above) = misses_long bytes is above misses
   misses_not_refused misses (replays bytes run_bytes is run_is denied) = misses_two bytes run_bytes is run_is misses
+  misses_not_refused misses (makes out) = misses_none misses
 
-  misses_not_works : {command : Command} {s : Status} {text : List ℕ} → Misses files command → Works files command s text → ⊥
-  misses_not_works misses (translated t) = let (bytes, is, accepts) = t.accepted (misses_told misses) in misses_one bytes is misses
-  misses_not_works misses (ran u) = let (bytes, run_bytes, is, run_is, accepts) = u.accepted (misses_told misses) in misses_two bytes run_bytes is run_is misses
-  misses_not_works misses (replayed u ends) = let (bytes, run_bytes, is, run_is, accepts) = u.accepted (misses_told misses) in misses_two bytes run_bytes is run_is misses
-
-  one_refusal_of : {command : Command} {r q : Refusal} → Refuses files command r → Refuses files command q → r ≡ q
-  one_refusal_of {q = q} (translates {file = f} a is denied) (translates b also other) = one_refusal denied (subst (λ x. accepted.IsRefusal x q) (one_file files f b a also is) other)
-  one_refusal_of (too_long a is above) (too_long b also other) = refl
-  one_refusal_of {q = q} (too_long {file = f} {unit = u} a is above) (runs b c also there other) =
-      long_refusal above (subst (λ x. IsRunRefusal x u c q) (one_file files f b a also is) other)
-  one_refusal_of {r = r} (runs {file = f} {unit = u} b c also there other) (too_long a is above) =
-      sym (long_refusal above (subst (λ x. IsRunRefusal x u c r) (one_file files f b a also is) other))
-  one_refusal_of {q = q} (runs {file = f} {unit = u} {run_file = g} a b is run_is denied) (runs c d also run_also other) =
-      one_run_refusal denied (subst (λ x. IsRunRefusal a u x q) (one_file files g d b run_also run_is) (subst (λ x. IsRunRefusal x u d q) (one_file files f c a also is) other))
-  one_refusal_of (replay_too_long a is above) (replay_too_long b also other) = refl
-  one_refusal_of {q = q} (replay_too_long {file = f} a is above) (replays b c also there other) =
-      long_replay_refusal above (subst (λ x. IsReplayRefusal x c q) (one_file files f b a also is) other)
-  one_refusal_of {r = r} (replays {file = f} b c also there other) (replay_too_long a is above) =
-      sym (long_replay_refusal above (subst (λ x. IsReplayRefusal x c r) (one_file files f b a also is) other))
-  one_refusal_of {q = q} (replays {file = f} {run_file = g} a b is run_is denied) (replays c d also run_also other) =
-      one_replay_refusal denied (subst (λ x. IsReplayRefusal a x q) (one_file files g d b run_also run_is) (subst (λ x. IsReplayRefusal x d q) (one_file files f c a also is) other))
-
-  translation_not_refused : {file : List ℕ} {program : p.Program} {r : Refusal} (a : List ℕ) → IsFile files file a → Accepts a program → Refuses files (Translate file) r → ⊥
-  translation_not_refused {file} {r = r} a is accepts (translates b also denied) = accepted_not_refused accepts (subst (λ x. accepted.IsRefusal x r) (one_file files file b a also is) denied)
-
-  run_not_refused_of : {file unit run_file : List ℕ} {u : UnitRun} {r : Refusal} (a b : List ℕ) → IsFile files file a → IsFile files run_file b → AcceptsRun a unit b u →
-      Refuses files (Run file unit run_file) r → ⊥
-  run_not_refused_of {file} a b is run_is accepts (too_long c also above) = omega (arith, above, accepts.accepted.small, ap length (one_file files file a c is also))
-  run_not_refused_of {file} {unit} {run_file} {r = r} a b is run_is accepts (runs c d also run_also denied) =
-      run_not_refused accepts (subst (λ x. IsRunRefusal a unit x r) (one_file files run_file d b run_also run_is) (subst (λ x. IsRunRefusal x unit d r) (one_file files file c a also is) denied))
-
-  replay_not_refused_of : {file run_file : List ℕ} {u : ProcedureRun} {r : Refusal} (a b : List ℕ) → IsFile files file a → IsFile files run_file b → AcceptsReplay a b u →
-      Refuses files (Replay file run_file) r → ⊥
-  replay_not_refused_of {file} a b is run_is accepts (replay_too_long c also above) = omega (arith, above, accepts.accepted.small, ap length (one_file files file a c is also))
-  replay_not_refused_of {file} {run_file} {r = r} a b is run_is accepts (replays c d also run_also denied) =
-      replay_not_refused accepts (subst (λ x. IsReplayRefusal a x r) (one_file files run_file d b run_also run_is) (subst (λ x. IsReplayRefusal x d r) (one_file files file c a also is) denied))
-
-  refuses_not_works : {command : Command} {r : Refusal} {s : Status} {text : List ℕ} → Refuses files command r → Works files command s text → ⊥
-  refuses_not_works refuses (translated t) = let (bytes, is, accepts) = t.accepted (refuses_told refuses) in translation_not_refused bytes is accepts refuses
-  refuses_not_works refuses (ran u) = let (bytes, run_bytes, is, run_is, accepts) = u.accepted (refuses_told refuses) in run_not_refused_of bytes run_bytes is run_is accepts refuses
-  refuses_not_works refuses (replayed u ends) =
-      let (bytes, run_bytes, is, run_is, accepts) = u.accepted (refuses_told refuses) in replay_not_refused_of bytes run_bytes is run_is accepts refuses
-
-  translation_status : {file : List ℕ} {s : Status} {text : List ℕ} → Works files (Translate file) s text → status.Done ≡ s
-  translation_status (translated t) = refl
-
-  outcome_status : {file unit run_file : List ℕ} {u : UnitRun} {s : Status} {text : List ℕ} (a b : List ℕ) → IsFile files file a → IsFile files run_file b → AcceptsRun a unit b u →
-      Works files (Run file unit run_file) s text → run_status (end_of u) ≡ s
-  outcome_status {file} {unit} {run_file} a b is run_is accepts (ran {u = w} h) =
-      let (c, d, also, run_also, others) = h.accepted (file_told files file a is) in
-      let here = subst (λ x. AcceptsRun a unit x w) (one_file files run_file d b run_also run_is) (subst (λ x. AcceptsRun x unit d w) (one_file files file c a also is) others) in
-      ap (λ x. run_status (end_of x)) (one_unit_run accepts here)
-
-  replay_outcome : {file run_file : List ℕ} {u : ProcedureRun} {o : BOutcome} {s : Status} {text : List ℕ} (a b : List ℕ) → IsFile files file a → IsFile files run_file b → AcceptsReplay a b u →
-      outcome_of (procedure_end u) ≡ Some o → Works files (Replay file run_file) s text → replay_status o ≡ s
-  replay_outcome {file} {run_file} {o = o} a b is run_is accepts ends (replayed {u = w} {o = p} h others_end) =
-      let (c, d, also, run_also, others) = h.accepted (file_told files file a is) in
-      let here = subst (λ x. AcceptsReplay a x w) (one_file files run_file d b run_also run_is) (subst (λ x. AcceptsReplay x d w) (one_file files file c a also is) others) in
-      let same : Some o ≡ Some p = sym ends ∙ ap (λ x. outcome_of (procedure_end x)) (one_procedure_run accepts here) ∙ others_end in
-      let one : o ≡ p = cc in
-      ap replay_status one
+  misses_not_done : {command : Command} {s : Status} {text : List ℕ} → Misses files command → Does (IsWhole files) command s text → ⊥
+  misses_not_done misses (translated bytes is accepts) = misses_one bytes is misses
+  misses_not_done misses (ran bytes run_bytes is run_is accepts) = misses_two bytes run_bytes is run_is misses
+  misses_not_done misses (replayed bytes run_bytes is run_is accepts ends) = misses_two bytes run_bytes is run_is misses
+  misses_not_done misses (made some few accepts) = misses_none misses
 
 -- ---- statuses
 
-module _ (words : List (List ℕ)) (files : Option Files) (before now : ℕ) where
-  -- what follows from each cause follows from the causes
-  from_causes : (expected : Status) → ((s : Status) → IsCause words files before now s → EndsAs expected s) → (SinkFailed : Type 0) (s : Status) → Causes words files before now SinkFailed s →
-      EndsAs expected s
-  from_causes expected each SinkFailed status.Done cause = each _ cause
-  from_causes expected each SinkFailed (status.Refused r) cause = each _ cause
-  from_causes expected each SinkFailed status.Usage cause = each _ cause
-  from_causes expected each SinkFailed status.ReadFault cause = each _ cause
-  from_causes expected each SinkFailed status.WriteFault cause = write_fault
-  from_causes expected each SinkFailed status.NoMemory cause = no_memory
-  from_causes expected each SinkFailed (status.Failed label) cause = each _ cause
-  from_causes expected each SinkFailed status.Blocked cause = each _ cause
-  from_causes expected each SinkFailed status.Short cause = each _ cause
-  from_causes expected each SinkFailed status.Over cause = each _ cause
+-- a call ended with no outcome of a command
+no_outcome : {s expected : Status} {X : Type 0} → (IsOutcome s → ⊥) → IsOutcome expected → s ≡ expected → X
+no_outcome none is same = absurd (none (subst IsOutcome (sym same) is))
 
-  usage_each : IsNoCommand words → (s : Status) → IsCause words files before now s → EndsAs status.Usage s
-  usage_each none s (usage also) = as_expected
-  usage_each none s (read asks why) = read_fault
-  usage_each none s (refused {command = c} asks why) = absurd (none.asks_none c asks)
-  usage_each none s (worked h) = absurd (none.asks_none h.command h.asked)
+module _ (words : List (List ℕ)) (files : Option Files) where
+  -- the command that the words ask for does this
+  does_this : {command : Command} {s : Status} {text : List ℕ} → Asks words command → HasDone words files s text → Does (IsWhole files) command s text
+  does_this {s = s} {text = t} asks h = subst (λ x. Does (IsWhole files) x s t) (asked_once h.asked asks) h.does
 
-  missing_each : {command : Command} → Asks words command → Misses files command → (s : Status) → IsCause words files before now s → EndsAs status.ReadFault s
-  missing_each {command = c} asks misses s (usage none) = absurd (none.asks_none c asks)
-  missing_each asks misses s (read other why) = read_fault
-  missing_each {command = c} asks misses s (refused {r = r} other why) =
-      absurd (misses_not_refused misses (subst (λ x. Refuses files x r) (asked_once other asks) (why (misses_told misses))))
-  missing_each {command = c} asks misses s (worked {text = t} h) = absurd (misses_not_works misses (subst (λ x. Works files x s t) (asked_once h.asked asks) h.works))
+  refuses_this : {command other : Command} {r : Refusal} → Asks words command → Asks words other → Refuses (IsWhole files) other r → Refuses (IsWhole files) command r
+  refuses_this {r = r} asks also refuses = subst (λ x. Refuses (IsWhole files) x r) (asked_once also asks) refuses
 
-  refused_each : {command : Command} {r : Refusal} → Asks words command → Refuses files command r → (s : Status) → IsCause words files before now s → EndsAs (status.Refused r) s
-  refused_each {command = c} asks refuses s (usage none) = absurd (none.asks_none c asks)
-  refused_each asks refuses s (read other why) = read_fault
-  refused_each {r = r} asks refuses s (refused {r = q} other why) =
-      let same = one_refusal_of refuses (subst (λ x. Refuses files x q) (asked_once other asks) (why (refuses_told refuses))) in
-      subst (λ x. EndsAs (status.Refused r) (status.Refused x)) same as_expected
-  refused_each asks refuses s (worked {text = t} h) = absurd (refuses_not_works refuses (subst (λ x. Works files x s t) (asked_once h.asked asks) h.works))
+  module _ {command : Command} {expected : Status} {text : List ℕ} (asks : Asks words command) (does : Does (IsFile files) command expected text)
+      (before now : Option (List ℕ)) where
+    -- what was written is this text
+    written_this : {s : Status} → call.Written before now (HasDone words files) s → Appends before now text
+    written_this written = subst (Appends before now) (sym (does_one (same_file files) does (does_this asks written.1)).1) written.2
 
-  accepted_each : {file : List ℕ} {program : p.Program} (bytes : List ℕ) → Asks words (Translate file) → IsFile files file bytes → Accepts bytes program →
-      (s : Status) → IsCause words files before now s → EndsAs status.Done s
-  accepted_each {file} bytes asks is accepts s (usage none) = absurd (none.asks_none (Translate file) asks)
-  accepted_each bytes asks is accepts s (read other why) = read_fault
-  accepted_each {file} bytes asks is accepts s (refused {r = r} other why) =
-      absurd (translation_not_refused bytes is accepts (subst (λ x. Refuses files x r) (asked_once other asks) (why (file_told files file bytes is))))
-  accepted_each bytes asks is accepts s (worked {text = t} h) =
-      subst (EndsAs status.Done) (translation_status (subst (λ x. Works files x s t) (asked_once h.asked asks) h.works)) as_expected
+    written : (s : Status) → OutAfter before now (HasDone words files) s → s ≡ expected → Appends before now text
+    written status.Done out same = written_this out
+    written (status.Failed label) out same = written_this out
+    written status.Blocked out same = written_this out
+    written status.Short out same = written_this out
+    written status.Over out same = written_this out
+    written (status.Refused r) out same = no_outcome (λ h. elim h [ ]) (does_end does) same
+    written status.Usage out same = no_outcome (λ h. elim h [ ]) (does_end does) same
+    written status.ReadFault out same = no_outcome (λ h. elim h [ ]) (does_end does) same
+    written status.WriteFault out same = no_outcome (λ h. elim h [ ]) (does_end does) same
+    written status.NoMemory out same = no_outcome (λ h. elim h [ ]) (does_end does) same
 
-  run_each : {file unit run_file : List ℕ} {u : UnitRun} (bytes run_bytes : List ℕ) → Asks words (Run file unit run_file) → IsFile files file bytes → IsFile files run_file run_bytes →
-      AcceptsRun bytes unit run_bytes u → (s : Status) → IsCause words files before now s → EndsAs (run_status (end_of u)) s
-  run_each {file} {unit} {run_file} bytes run_bytes asks is run_is accepts s (usage none) = absurd (none.asks_none (Run file unit run_file) asks)
-  run_each bytes run_bytes asks is run_is accepts s (read other why) = read_fault
-  run_each {file} bytes run_bytes asks is run_is accepts s (refused {r = r} other why) =
-      absurd (run_not_refused_of bytes run_bytes is run_is accepts (subst (λ x. Refuses files x r) (asked_once other asks) (why (file_told files file bytes is))))
-  run_each {u = u} bytes run_bytes asks is run_is accepts s (worked {text = t} h) =
-      subst (EndsAs (run_status (end_of u))) (outcome_status bytes run_bytes is run_is accepts (subst (λ x. Works files x s t) (asked_once h.asked asks) h.works)) as_expected
+  module _ (before now : ℕ) where
+    -- what follows from each cause follows from the causes
+    from_causes : (expected : Status) → ((s : Status) → IsCause words files before now s → EndsAs expected s) → (SinkFailed : Type 0) (s : Status) → Causes words files before now SinkFailed s →
+        EndsAs expected s
+    from_causes expected each SinkFailed status.Done cause = each _ cause
+    from_causes expected each SinkFailed (status.Refused r) cause = each _ cause
+    from_causes expected each SinkFailed status.Usage cause = each _ cause
+    from_causes expected each SinkFailed status.ReadFault cause = each _ cause
+    from_causes expected each SinkFailed status.WriteFault cause = write_fault
+    from_causes expected each SinkFailed status.NoMemory cause = no_memory
+    from_causes expected each SinkFailed (status.Failed label) cause = each _ cause
+    from_causes expected each SinkFailed status.Blocked cause = each _ cause
+    from_causes expected each SinkFailed status.Short cause = each _ cause
+    from_causes expected each SinkFailed status.Over cause = each _ cause
 
-  replay_each : {file run_file : List ℕ} {u : ProcedureRun} {o : BOutcome} (bytes run_bytes : List ℕ) → Asks words (Replay file run_file) → IsFile files file bytes →
-      IsFile files run_file run_bytes → AcceptsReplay bytes run_bytes u → outcome_of (procedure_end u) ≡ Some o → (s : Status) → IsCause words files before now s → EndsAs (replay_status o) s
-  replay_each {file} {run_file} bytes run_bytes asks is run_is accepts ends s (usage none) = absurd (none.asks_none (Replay file run_file) asks)
-  replay_each bytes run_bytes asks is run_is accepts ends s (read other why) = read_fault
-  replay_each {file} bytes run_bytes asks is run_is accepts ends s (refused {r = r} other why) =
-      absurd (replay_not_refused_of bytes run_bytes is run_is accepts (subst (λ x. Refuses files x r) (asked_once other asks) (why (file_told files file bytes is))))
-  replay_each {o = o} bytes run_bytes asks is run_is accepts ends s (worked {text = t} h) =
-      subst (EndsAs (replay_status o)) (replay_outcome bytes run_bytes is run_is accepts ends (subst (λ x. Works files x s t) (asked_once h.asked asks) h.works)) as_expected
+    usage_each : IsNoCommand words → (s : Status) → IsCause words files before now s → EndsAs status.Usage s
+    usage_each none s (usage also) = as_expected
+    usage_each none s (read asks names why) = read_fault
+    usage_each none s (refused {command = c} asks why) = absurd (none.asks_none c asks)
+    usage_each none s (call.done h) = absurd (none.asks_none h.command h.asked)
 
-  -- ---- what is promised where a cause stands
+    missing_each : {command : Command} → Asks words command → Misses files command → (s : Status) → IsCause words files before now s → EndsAs status.ReadFault s
+    missing_each {command = c} asks misses s (usage none) = absurd (none.asks_none c asks)
+    missing_each asks misses s (read other names why) = as_expected
+    missing_each asks misses s (refused other why) = absurd (misses_not_refused misses (refuses_this asks other why))
+    missing_each asks misses s (call.done h) = absurd (misses_not_done misses (does_this asks h))
 
-  module _ (SinkFailed : Type 0) (s : Status) (causes : Causes words files before now SinkFailed s) where
-    pub usage_comes : IsNoCommand words → EndsAs status.Usage s
-    usage_comes none = from_causes _ (usage_each none) SinkFailed s causes
+    refused_each : {command : Command} {r : Refusal} → Asks words command → Refuses (IsFile files) command r → (s : Status) → IsCause words files before now s → EndsAs (status.Refused r) s
+    refused_each {command = c} asks refuses s (usage none) = absurd (none.asks_none c asks)
+    refused_each asks refuses s (read other names why) = read_fault
+    refused_each {r = r} asks refuses s (refused other why) =
+        subst (λ x. EndsAs (status.Refused r) (status.Refused x)) (one_refusal_of (same_file files) refuses (refuses_this asks other why)) as_expected
+    refused_each asks refuses s (call.done h) = absurd (refuses_not_does (same_file files) refuses (does_this asks h))
 
-    pub missing_comes : (command : Command) → Asks words command → Misses files command → EndsAs status.ReadFault s
-    missing_comes command asks misses = from_causes _ (missing_each asks misses) SinkFailed s causes
+    does_each : {command : Command} {expected : Status} {text : List ℕ} → Asks words command → Does (IsFile files) command expected text → (s : Status) → IsCause words files before now s →
+        EndsAs expected s
+    does_each {command = c} asks does s (usage none) = absurd (none.asks_none c asks)
+    does_each asks does s (read other names why) = read_fault
+    does_each asks does s (refused other why) = absurd (does_not_refuse (same_file files) does (refuses_this asks other why))
+    does_each {expected = e} asks does s (call.done h) = subst (EndsAs e) (does_one (same_file files) does (does_this asks h)).0 as_expected
 
-    pub refused_comes : (command : Command) (r : Refusal) → Asks words command → Refuses files command r → EndsAs (status.Refused r) s
-    refused_comes command r asks refuses = from_causes _ (refused_each asks refuses) SinkFailed s causes
+    -- ---- what is promised where a cause stands
 
-    pub accepted_comes : (file bytes : List ℕ) (program : p.Program) → Asks words (Translate file) → IsFile files file bytes → Accepts bytes program → EndsAs status.Done s
-    accepted_comes file bytes program asks is accepts = from_causes _ (accepted_each bytes asks is accepts) SinkFailed s causes
+    module _ (SinkFailed : Type 0) (s : Status) (causes : Causes words files before now SinkFailed s) where
+      pub usage_comes : IsNoCommand words → EndsAs status.Usage s
+      usage_comes none = from_causes _ (usage_each none) SinkFailed s causes
 
-    pub run_comes : (file unit run_file bytes run_bytes : List ℕ) (u : UnitRun) → Asks words (Run file unit run_file) → IsFile files file bytes → IsFile files run_file run_bytes →
-        AcceptsRun bytes unit run_bytes u → EndsAs (run_status (end_of u)) s
-    run_comes file unit run_file bytes run_bytes u asks is run_is accepts = from_causes _ (run_each bytes run_bytes asks is run_is accepts) SinkFailed s causes
+      pub missing_comes : (command : Command) → Asks words command → Misses files command → EndsAs status.ReadFault s
+      missing_comes command asks misses = from_causes _ (missing_each asks misses) SinkFailed s causes
 
-    pub replay_comes : (file run_file bytes run_bytes : List ℕ) (u : ProcedureRun) (o : BOutcome) → Asks words (Replay file run_file) → IsFile files file bytes → IsFile files run_file run_bytes →
-        AcceptsReplay bytes run_bytes u → outcome_of (procedure_end u) ≡ Some o → EndsAs (replay_status o) s
-    replay_comes file run_file bytes run_bytes u o asks is run_is accepts ends = from_causes _ (replay_each bytes run_bytes asks is run_is accepts ends) SinkFailed s causes
+      pub refused_comes : (command : Command) (r : Refusal) → Asks words command → Refuses (IsFile files) command r → EndsAs (status.Refused r) s
+      refused_comes command r asks refuses = from_causes _ (refused_each asks refuses) SinkFailed s causes
+
+      pub does_comes : (out_before out_now : Option (List ℕ)) → OutAfter out_before out_now (HasDone words files) s →
+          (command : Command) (expected : Status) (text : List ℕ) → Asks words command → Does (IsFile files) command expected text → EndsWith out_before out_now expected text s
+      does_comes out_before out_now out command expected text asks does =
+          (from_causes _ (does_each asks does) SinkFailed s causes, written asks does out_before out_now s out)

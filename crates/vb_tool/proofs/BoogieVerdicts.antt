@@ -51,7 +51,7 @@ none_some e = cc
 
 -- the refusal for a fault
 abbrev pub for_fault : BoogieFault → Refusal
-for_fault fault.Memory = refusal.NotYet
+for_fault fault.Memory = refusal.Size
 for_fault (fault.Prelude at) = refusal.Prelude at
 for_fault (fault.Syntax at) = refusal.BoogieSyntax at
 for_fault (fault.Deep at) = refusal.Deep at

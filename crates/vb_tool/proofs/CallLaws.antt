@@ -1,5 +1,6 @@
 -- What the parts of a call, one after the other, make of it.
-use Rattle.std.proofs.Common.{◌≡◌, ◌⊎◌, inl, inr, ◌∙◌, ◌<◌, ◌≤◌, ℕ, List, [], ◌∷◌, length, Option, Some, None, Result, Ok, Err, IfOk, refl, sym, subst, arith}
+use Rattle.std.proofs.Common.{◌≡◌, ◌⊎◌, inl, inr, ◌∙◌, ◌+◌, ◌<◌, ◌≤◌, ℕ, zero, suc, List, [], ◌∷◌, length, replicate, Contains, Option, Some, None, Result, Ok, Err, IfOk, refl, sym, subst, arith}
+use Rattle.std.proofs.lemmas.List.{length-replicate}
 use Rattle.vb_base.specs.declared.labels.Label.{Label}
 use Rattle.vb_outer.specs.Faults.{Rose}
 use Rattle.vb_outer.specs.Shelf.{Files, IsFile, IsMissing, IsWhole, IsLonger}
@@ -8,15 +9,21 @@ use Rattle.vb_outer.specs.declared.fault.FileFault.{FileFault}
 use Rattle.vb_outer.specs.declared.fault.FileFault.TheVariants as file
 use Rattle.boogie_run.specs.declared.replaying.BOutcome.{BOutcome}
 use Rattle.boogie_run.specs.declared.replaying.BOutcome.TheVariants as boogie
+use Rattle.enc_stmt.specs.Translates.{text_of}
+use Rattle.vb_gen.specs.Generated.{IsOutOfRange}
+use Rattle.viper_core.specs.View.{program_of}
+use Rattle.viper_core.specs.declared.programs.Program.{Program}
+use Rattle.vb_tool.proofs.MakingLaws.{few_in_range}
 use Rattle.vb_tool.specs.Accepted as accepted
+use Rattle.vb_tool.specs.Accepted.{IsAccepted}
 use Rattle.vb_tool.specs.AcceptedReplay as replay
 use Rattle.vb_tool.specs.Call as call
-use Rattle.vb_tool.specs.Call.{Tells, MissesOf, Refuses, Works, Translation, HasWorked, IsCause, usage, read, refused, worked, OutAfter, ErrAfter, Causes}
-use Rattle.vb_tool.specs.Command.{Command, Translate, Run, Replay, Asks}
+use Rattle.vb_tool.specs.Call.{MissesOf, NamesFile, Refuses, Does, HasDone, IsCause, OutAfter, ErrAfter, Causes}
+use Rattle.vb_tool.specs.Command.{Command, Translate, Run, Replay, Make, Asks, files_of}
 use Rattle.vb_tool.specs.Converted.{trouble_of_file}
 use Rattle.vb_tool.specs.Outcome.{status_of, run_status}
 use Rattle.vb_tool.specs.Parts as parts
-use Rattle.vb_tool.specs.Parts.{Reports, Delivers, TranslationOf, OutcomeOf, ReplayOf}
+use Rattle.vb_tool.specs.Parts.{command_of, Reports, Delivers, OutcomeOf, ReplayOf, SummaryOf}
 use Rattle.vb_tool.specs.ReplayOutcome.{replay_status}
 use Rattle.vb_tool.specs.Status.{line_of}
 use Rattle.vb_tool.specs.Units.{end_of}
@@ -24,7 +31,7 @@ use Rattle.vb_tool.specs.declared.status.Refusal.{Refusal}
 use Rattle.vb_tool.specs.declared.status.Refusal.TheVariants as refusal
 use Rattle.vb_tool.specs.declared.status.Status.{Status}
 use Rattle.vb_tool.specs.declared.status.Status.TheVariants as status
-use Rattle.vb_tool.specs.declared.outcome.Work.{Work}
+use Rattle.vb_tool.specs.declared.outcome.Ending.{Ending}
 use Rattle.vb_tool.specs.declared.trouble.Trouble.{Trouble}
 use Rattle.vb_tool.specs.declared.trouble.Trouble.TheVariants as trouble
 use Rattle.viper_meaning.specs.Run.{Ran, ran}
@@ -39,17 +46,14 @@ error_is {d = d} {e = e} first other = let same : Err d ≡ Err e = sym first �
 
 -- ---- files that are read
 
-pub is_file : (files : Option Files) (name bytes : List ℕ) → Tells files → IsWhole files name bytes → IsFile files name bytes
-is_file None name bytes tells whole = absurd tells
-is_file (Some files) name bytes tells whole = whole
+is_file : (files : Option Files) (name other bytes : List ℕ) → IsMissing files other → IsWhole files name bytes → IsFile files name bytes
+is_file None name other bytes missing whole = absurd missing
+is_file (Some files) name other bytes missing whole = whole
 
-pub is_longer : (files : Option Files) (name : List ℕ) (limit : ℕ) → Tells files → IsLonger files name limit → (bytes : List ℕ) × IsFile files name bytes × (limit < length bytes)
-is_longer None name limit tells longer = absurd tells
-is_longer (Some files) name limit tells longer = longer
-
-missing_tells : (files : Option Files) (name : List ℕ) → IsMissing files name → Tells files
-missing_tells None name missing = absurd missing
-missing_tells (Some files) name missing = tt
+-- some bytes that are too long
+long_bytes : (files : Option Files) (name : List ℕ) (limit : ℕ) → IsLonger files name limit → (bytes : List ℕ) × IsWhole files name bytes × (limit < length bytes)
+long_bytes None name limit longer = (replicate (limit + 1) 0, tt, omega (arith, length-replicate {A = ℕ} (limit + 1) 0))
+long_bytes (Some files) name limit longer = longer
 
 -- a file that could not be read is refused for its length, or is missing, or the shelf failed
 pub file_refusal : (files : Option Files) (name : List ℕ) (limit : ℕ) (fault : FileFault) (r : Refusal) → (fault ≡ file.Long → IsLonger files name limit) →
@@ -77,71 +81,79 @@ first_missing (inr cause) = inr cause
 pub second_missing : (files : Option Files) (file run_file bytes : List ℕ) (limit first second third : ℕ) → IsWhole files file bytes → length bytes ≤ limit → first ≤ second →
     IsMissing files run_file ⊎ Rose second third → MissesOf files limit (file ∷ run_file ∷ []) ⊎ Rose first third
 second_missing files file run_file bytes limit first second third whole small later (inl missing) =
-    inl (call.later bytes (is_file files file bytes (missing_tells files run_file missing) whole) small (call.first missing))
+    inl (call.later bytes (is_file files file run_file bytes missing whole) small (call.first missing))
 second_missing files file run_file bytes limit first second third whole small later (inr rose) = inr (rose_later first second third later rose)
 
-pub run_refuses : (files : Option Files) (file unit run_file bytes run_bytes : List ℕ) (r : Refusal) → IsWhole files file bytes → IsWhole files run_file run_bytes →
-    accepted.IsRunRefusal bytes unit run_bytes r → Tells files → Refuses files (Run file unit run_file) r
-run_refuses files file unit run_file bytes run_bytes r whole run_whole is tells =
-    call.runs bytes run_bytes (is_file files file bytes tells whole) (is_file files run_file run_bytes tells run_whole) is
+-- a command names the first of its files
+pub names_first : (command : Command) (file : List ℕ) (files : List (List ℕ)) → files_of command ≡ file ∷ files → NamesFile command
+names_first command file files first = (file, subst (λ names. Contains names file) (sym first) (0, omega arith, refl))
+
+-- ---- refusals
 
 pub too_long : (files : Option Files) (command : Command) (file : List ℕ) (limit : ℕ) (r : Refusal) → (refusal.Size ≡ r) × IsLonger files file limit →
-    ((bytes : List ℕ) → IsFile files file bytes → limit < length bytes → Refuses files command refusal.Size) → Tells files → Refuses files command r
-too_long files command file limit r long refuses tells =
-    let (bytes, is, above) = is_longer files file limit tells long.1 in
-    subst (Refuses files command) long.0 (refuses bytes is above)
+    ((bytes : List ℕ) → IsWhole files file bytes → limit < length bytes → Refuses (IsWhole files) command refusal.Size) → Refuses (IsWhole files) command r
+too_long files command file limit r long refuses =
+    let (bytes, is, above) = long_bytes files file limit long.1 in
+    subst (Refuses (IsWhole files) command) long.0 (refuses bytes is above)
 
 pub run_too_long : (files : Option Files) (file unit run_file bytes : List ℕ) (r : Refusal) → IsWhole files file bytes → length bytes ≤ 1048576 →
-    r ≡ refusal.RunSize → IsLonger files run_file 1048576 → Tells files → Refuses files (Run file unit run_file) r
-run_too_long files file unit run_file bytes r whole small is_r longer tells =
-    let (run_bytes, is, above) = is_longer files run_file 1048576 tells longer in
-    subst (Refuses files (Run file unit run_file)) (sym is_r) (call.runs bytes run_bytes (is_file files file bytes tells whole) is (accepted.run_size small above))
-
--- the same of a replay
-
-pub replay_refuses : (files : Option Files) (file run_file bytes run_bytes : List ℕ) (r : Refusal) → IsWhole files file bytes → IsWhole files run_file run_bytes →
-    replay.IsReplayRefusal bytes run_bytes r → Tells files → Refuses files (Replay file run_file) r
-replay_refuses files file run_file bytes run_bytes r whole run_whole is tells =
-    call.replays bytes run_bytes (is_file files file bytes tells whole) (is_file files run_file run_bytes tells run_whole) is
+    r ≡ refusal.RunSize → IsLonger files run_file 1048576 → Refuses (IsWhole files) (Run file unit run_file) r
+run_too_long files file unit run_file bytes r whole small is_r longer =
+    let (run_bytes, is, above) = long_bytes files run_file 1048576 longer in
+    subst (Refuses (IsWhole files) (Run file unit run_file)) (sym is_r) (call.runs bytes run_bytes whole is (accepted.run_size small above))
 
 pub replay_run_too_long : (files : Option Files) (file run_file bytes : List ℕ) (r : Refusal) → IsWhole files file bytes → length bytes ≤ 33554432 →
-    r ≡ refusal.RunSize → IsLonger files run_file 33554432 → Tells files → Refuses files (Replay file run_file) r
-replay_run_too_long files file run_file bytes r whole small is_r longer tells =
-    let (run_bytes, is, above) = is_longer files run_file 33554432 tells longer in
-    subst (Refuses files (Replay file run_file)) (sym is_r) (call.replays bytes run_bytes (is_file files file bytes tells whole) is (replay.run_size small above))
+    r ≡ refusal.RunSize → IsLonger files run_file 33554432 → Refuses (IsWhole files) (Replay file run_file) r
+replay_run_too_long files file run_file bytes r whole small is_r longer =
+    let (run_bytes, is, above) = long_bytes files run_file 33554432 longer in
+    subst (Refuses (IsWhole files) (Replay file run_file)) (sym is_r) (call.replays bytes run_bytes whole is (replay.run_size small above))
 
--- ---- the work of a command
+-- ---- what a command does
 
-pub translation_works : (files : Option Files) (file bytes text : List ℕ) → IsWhole files file bytes → TranslationOf bytes text → Works files (Translate file) status.Done text
-translation_works files file bytes text whole t =
-    call.translated (record { program = t.program; translates = t.translates; accepted = λ tells. (bytes, is_file files file bytes tells whole, t.accepted) })
+pub translation_result_does : (files : Option Files) (file bytes : List ℕ) (result : Result Program Trouble) → IsWhole files file bytes →
+    IfOk result (λ q. IsAccepted bytes (program_of q)) → IfOk result (λ q. Does (IsWhole files) (Translate file) status.Done (text_of (program_of q)))
+translation_result_does files file bytes (Ok q) whole accepts = call.translated bytes whole accepts
+translation_result_does files file bytes (Err e) whole accepts = accepts
 
-pub run_works : (files : Option Files) (file unit run_file bytes run_bytes text : List ℕ) (s : Status) → IsWhole files file bytes → IsWhole files run_file run_bytes →
-    OutcomeOf bytes unit run_bytes s text → Works files (Run file unit run_file) s text
-run_works files file unit run_file bytes run_bytes text s whole run_whole o =
-    let works = call.ran (record { accepted = λ tells. (bytes, run_bytes, is_file files file bytes tells whole, is_file files run_file run_bytes tells run_whole, o.accepted) }) in
-    subst (λ x. Works files (Run file unit run_file) x text) (sym o.status_is) (subst (λ t. Works files (Run file unit run_file) (run_status (end_of o.run)) t) (sym o.text_is) works)
+run_does : (files : Option Files) (file unit run_file bytes run_bytes text : List ℕ) (s : Status) → IsWhole files file bytes → IsWhole files run_file run_bytes →
+    OutcomeOf bytes unit run_bytes s text → Does (IsWhole files) (Run file unit run_file) s text
+run_does files file unit run_file bytes run_bytes text s whole run_whole o =
+    let Deed : Status → List ℕ → Type 0 = Does (IsWhole files) (Run file unit run_file) in
+    subst (λ x. Deed x text) (sym o.status_is) (subst (Deed (run_status (end_of o.run))) (sym o.text_is) (call.ran bytes run_bytes whole run_whole o.accepted))
 
-pub run_result_works : (files : Option Files) (file unit run_file bytes run_bytes : List ℕ) (result : Result Work Trouble) → IsWhole files file bytes → IsWhole files run_file run_bytes →
-    IfOk result (λ w. OutcomeOf bytes unit run_bytes w.status w.text.items) → IfOk result (λ w. Works files (Run file unit run_file) w.status w.text.items)
-run_result_works files file unit run_file bytes run_bytes (Ok w) whole run_whole o = run_works files file unit run_file bytes run_bytes w.text.items w.status whole run_whole o
-run_result_works files file unit run_file bytes run_bytes (Err e) whole run_whole o = o
+pub run_result_does : (files : Option Files) (file unit run_file bytes run_bytes : List ℕ) (result : Result Ending Trouble) → IsWhole files file bytes → IsWhole files run_file run_bytes →
+    IfOk result (λ t. OutcomeOf bytes unit run_bytes t.status t.text.items) → IfOk result (λ t. Does (IsWhole files) (Run file unit run_file) t.status t.text.items)
+run_result_does files file unit run_file bytes run_bytes (Ok t) whole run_whole o = run_does files file unit run_file bytes run_bytes t.text.items t.status whole run_whole o
+run_result_does files file unit run_file bytes run_bytes (Err e) whole run_whole o = o
 
-replay_works : (files : Option Files) (file run_file bytes run_bytes text : List ℕ) (s : Status) → IsWhole files file bytes → IsWhole files run_file run_bytes →
-    ReplayOf bytes run_bytes s text → Works files (Replay file run_file) s text
-replay_works files file run_file bytes run_bytes text s whole run_whole o =
-    let works = call.replayed (record { accepted = λ tells. (bytes, run_bytes, is_file files file bytes tells whole, is_file files run_file run_bytes tells run_whole, o.accepted) }) o.ends in
-    subst (λ x. Works files (Replay file run_file) x text) (sym o.status_is) (subst (λ t. Works files (Replay file run_file) (replay_status o.outcome) t) (sym o.text_is) works)
+replay_does : (files : Option Files) (file run_file bytes run_bytes text : List ℕ) (s : Status) → IsWhole files file bytes → IsWhole files run_file run_bytes →
+    ReplayOf bytes run_bytes s text → Does (IsWhole files) (Replay file run_file) s text
+replay_does files file run_file bytes run_bytes text s whole run_whole o =
+    let Deed : Status → List ℕ → Type 0 = Does (IsWhole files) (Replay file run_file) in
+    subst (λ x. Deed x text) (sym o.status_is) (subst (Deed (replay_status o.outcome)) (sym o.text_is) (call.replayed bytes run_bytes whole run_whole o.accepted o.ends))
 
-pub replay_result_works : (files : Option Files) (file run_file bytes run_bytes : List ℕ) (result : Result Work Trouble) → IsWhole files file bytes → IsWhole files run_file run_bytes →
-    IfOk result (λ w. ReplayOf bytes run_bytes w.status w.text.items) → IfOk result (λ w. Works files (Replay file run_file) w.status w.text.items)
-replay_result_works files file run_file bytes run_bytes (Ok w) whole run_whole o = replay_works files file run_file bytes run_bytes w.text.items w.status whole run_whole o
-replay_result_works files file run_file bytes run_bytes (Err e) whole run_whole o = o
+pub replay_result_does : (files : Option Files) (file run_file bytes run_bytes : List ℕ) (result : Result Ending Trouble) → IsWhole files file bytes → IsWhole files run_file run_bytes →
+    IfOk result (λ t. ReplayOf bytes run_bytes t.status t.text.items) → IfOk result (λ t. Does (IsWhole files) (Replay file run_file) t.status t.text.items)
+replay_result_does files file run_file bytes run_bytes (Ok t) whole run_whole o = replay_does files file run_file bytes run_bytes t.text.items t.status whole run_whole o
+replay_result_does files file run_file bytes run_bytes (Err e) whole run_whole o = o
 
-pub has_worked : {words : List (List ℕ)} {files : Option Files} {command : Command} {s : Status} {text told : List ℕ} → Asks words command → Works files command s text → told ≡ text →
-    HasWorked words files s told
-has_worked {words} {files} {command} {s} asks works same =
-    subst (HasWorked words files s) (sym same) (record { command = command; asked = asks; works = works })
+-- a number that is not out of range is one from 1 on, and not too great
+in_range : (n : ℕ) → (IsOutOfRange n → ⊥) → (1 ≤ n) × (n ≤ 2000)
+in_range zero within = absurd (within (inl refl))
+in_range (suc n) within = (omega arith, few_in_range (suc n) within)
+
+pub made_does : (files : Option Files) (n : ℕ) (text : List ℕ) (s : Status) → SummaryOf n s text → Does (IsWhole files) (Make n) s text
+made_does files n text s o =
+    let range = in_range n o.in_range in
+    let Deed : Status → List ℕ → Type 0 = Does (IsWhole files) (Make n) in
+    subst (λ x. Deed x text) (sym o.status_is) (subst (Deed status.Done) (sym o.text_is) (call.made range.0 range.1 o.accepted))
+
+pub summary_refused : (files : Option Files) (n : ℕ) (r : Refusal) → (refusal.Range ≡ r) × IsOutOfRange n → Refuses (IsWhole files) (Make n) r
+summary_refused files n r why = subst (Refuses (IsWhole files) (Make n)) why.0 (call.makes why.1)
+
+pub has_done : {words : List (List ℕ)} {files : Option Files} {command : Command} {s : Status} {text : List ℕ} → Asks words command → Does (IsWhole files) command s text →
+    HasDone words files s text
+has_done {command = c} asks does = record { command = c; asked = asks; does = does }
 
 -- ---- what a status that was reported comes to
 
@@ -184,41 +196,42 @@ pub reported_out : {before now : Option (List ℕ)} {faults_before faults_now : 
     Reports before now faults_before faults_now s ended → OutAfter out out IsText ended
 reported_out out IsText line (parts.reported appends) = nothing_written out IsText line
 reported_out out IsText line (parts.unwritten front rose) = inl refl
-reported_out out IsText line (parts.no_memory same) = refl
+reported_out out IsText line (parts.no_memory same) = inl refl
 
 -- ---- what a text that was delivered comes to
 
 -- a status of work that was done
-pub data IsDone : Status → Type 0 where
-  done : IsDone status.Done
-  failed : {label : Label} → IsDone (status.Failed label)
-  blocked : IsDone status.Blocked
-  short : IsDone status.Short
-  over : IsDone status.Over
+pub data IsOutcome : Status → Type 0 where
+  done : IsOutcome status.Done
+  failed : {label : Label} → IsOutcome (status.Failed label)
+  blocked : IsOutcome status.Blocked
+  short : IsOutcome status.Short
+  over : IsOutcome status.Over
 
-outcome_done : (o : Outcome) → IsDone (status_of o)
+outcome_done : (o : Outcome) → IsOutcome (status_of o)
 outcome_done outcome.Done = done
 outcome_done (outcome.Failed label) = failed
 outcome_done outcome.Blocked = blocked
 outcome_done outcome.Short = short
 outcome_done (outcome.Over at) = over
 
-run_done : (r : Ran State) → IsDone (run_status r)
+run_done : (r : Ran State) → IsOutcome (run_status r)
 run_done (ran events step left) = outcome_done (outcome_of step)
 
-replay_done : (o : BOutcome) → IsDone (replay_status o)
+replay_done : (o : BOutcome) → IsOutcome (replay_status o)
 replay_done boogie.Done = done
 replay_done (boogie.Failed label) = failed
 replay_done boogie.Blocked = blocked
 replay_done boogie.Short = short
 replay_done boogie.Over = over
 
-pub works_done : {files : Option Files} {command : Command} {s : Status} {text : List ℕ} → Works files command s text → IsDone s
-works_done (call.translated t) = done
-works_done (call.ran {u = u} is) = run_done (end_of u)
-works_done (call.replayed {o = o} is ends) = replay_done o
+pub does_end : {Has : List ℕ → List ℕ → Type 0} {command : Command} {s : Status} {text : List ℕ} → Does Has command s text → IsOutcome s
+does_end (call.translated bytes is accepts) = done
+does_end (call.ran {u = u} bytes run_bytes is run_is accepts) = run_done (end_of u)
+does_end (call.replayed {o = o} bytes run_bytes is run_is accepts ends) = replay_done o
+does_end (call.made some few accepts) = done
 
-done_cause : {words : List (List ℕ)} {files : Option Files} {first last : ℕ} (SinkFailed : Type 0) {s : Status} → IsDone s → IsCause words files first last s →
+done_cause : {words : List (List ℕ)} {files : Option Files} {first last : ℕ} (SinkFailed : Type 0) {s : Status} → IsOutcome s → IsCause words files first last s →
     Causes words files first last SinkFailed s
 done_cause SinkFailed done cause = cause
 done_cause SinkFailed failed cause = cause
@@ -226,14 +239,14 @@ done_cause SinkFailed blocked cause = cause
 done_cause SinkFailed short cause = cause
 done_cause SinkFailed over cause = cause
 
-done_out : (before now : Option (List ℕ)) (IsText : Status → List ℕ → Type 0) {s : Status} (text : List ℕ) → IsDone s → IsText s text → Appends before now text → OutAfter before now IsText s
+done_out : (before now : Option (List ℕ)) (IsText : Status → List ℕ → Type 0) {s : Status} (text : List ℕ) → IsOutcome s → IsText s text → Appends before now text → OutAfter before now IsText s
 done_out before now IsText text done is appends = (text, is, appends)
 done_out before now IsText text failed is appends = (text, is, appends)
 done_out before now IsText text blocked is appends = (text, is, appends)
 done_out before now IsText text short is appends = (text, is, appends)
 done_out before now IsText text over is appends = (text, is, appends)
 
-done_err : (err : Option (List ℕ)) (Cause : Status → Type 0) {s : Status} → IsDone s → ErrAfter err err Cause s
+done_err : (err : Option (List ℕ)) (Cause : Status → Type 0) {s : Status} → IsOutcome s → ErrAfter err err Cause s
 done_err err Cause done = refl
 done_err err Cause failed = refl
 done_err err Cause blocked = refl
@@ -241,16 +254,19 @@ done_err err Cause short = refl
 done_err err Cause over = refl
 
 module _ {words : List (List ℕ)} {files : Option Files} {before now : Option (List ℕ)} {faults_before faults_now : ℕ} {text : List ℕ} where
-  pub delivered_cause : (first last : ℕ) (ErrFailed : Type 0) {s ended : Status} → Delivers before now faults_before faults_now text s ended → HasWorked words files s text →
+  pub delivered_cause : (first last : ℕ) (ErrFailed : Type 0) {s ended : Status} → Delivers before now faults_before faults_now text s ended → HasDone words files s text →
       Causes words files first last (Rose faults_before faults_now ⊎ ErrFailed) ended
-  delivered_cause first last ErrFailed (parts.delivered appends) h = done_cause _ (works_done h.works) (worked h)
+  delivered_cause first last ErrFailed (parts.delivered appends) h = done_cause _ (does_end h.does) (call.done h)
   delivered_cause first last ErrFailed (parts.unwritten front rose) h = inl rose
+  delivered_cause first last ErrFailed (parts.no_memory front) h = tt
 
-  pub delivered_out : {s ended : Status} → Delivers before now faults_before faults_now text s ended → HasWorked words files s text → OutAfter before now (HasWorked words files) ended
-  delivered_out (parts.delivered appends) h = done_out before now (HasWorked words files) text (works_done h.works) h appends
+  pub delivered_out : {s ended : Status} → Delivers before now faults_before faults_now text s ended → HasDone words files s text → OutAfter before now (HasDone words files) ended
+  delivered_out (parts.delivered appends) h = done_out before now (HasDone words files) text (does_end h.does) h appends
   delivered_out {s = s} (parts.unwritten front rose) h = inr (s, text, h, front)
+  delivered_out {s = s} (parts.no_memory front) h = inr (s, text, h, front)
 
-  pub delivered_err : (err : Option (List ℕ)) (Cause : Status → Type 0) {s ended : Status} → Delivers before now faults_before faults_now text s ended → HasWorked words files s text →
+  pub delivered_err : (err : Option (List ℕ)) (Cause : Status → Type 0) {s ended : Status} → Delivers before now faults_before faults_now text s ended → HasDone words files s text →
       ErrAfter err err Cause ended
-  delivered_err err Cause (parts.delivered appends) h = done_err err Cause (works_done h.works)
+  delivered_err err Cause (parts.delivered appends) h = done_err err Cause (does_end h.does)
   delivered_err err Cause (parts.unwritten front rose) h = inl refl
+  delivered_err err Cause (parts.no_memory front) h = refl

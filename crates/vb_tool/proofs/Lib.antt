@@ -1,12 +1,3 @@
-pub mod StraightMeaning
-pub mod SameMeaning
-pub mod ExampleLaws
-pub mod Coupled
-pub mod Alike
-pub mod Exact
-pub mod Translation
-pub mod OtherForms
-pub mod StraightLaws
 pub mod Verdicts
 pub mod RunOfUnits
 pub mod UnitNames
@@ -15,7 +6,7 @@ pub mod RunStages
 pub mod BoogieRunLaws
 pub mod BoogieVerdicts
 pub mod BoogieStages
+pub mod MakingLaws
+pub mod WordLaws
 pub mod CallLaws
 pub mod Answered
-pub mod ViperLaws
-mod UnitLaws

@@ -1,5 +1,5 @@
 -- Bytes are a program, or are refused for one reason.
-use Rattle.std.proofs.Common.{◌≡◌, ◌∙◌, ◌⊎◌, inl, inr, ◌<◌, ◌≤◌, ℕ, List, length, Option, Some, None, Err, refl, sym, ap, subst, arith}
+use Rattle.std.proofs.Common.{◌≡◌, ◌∙◌, ◌⊎◌, inl, inr, ◌<◌, ◌≤◌, ℕ, List, length, Err, refl, sym, ap, subst, arith}
 use Rattle.std.proofs.lemmas.Bool.{cases_lt}
 use Rattle.vb_base.specs.declared.places.Pos.{Pos}
 use Rattle.vb_base.specs.Place.{IsPlaceAfter, IsPlace}
@@ -33,11 +33,9 @@ use Rattle.viper_scope.specs.declared.faults.TypeFault.TheVariants as typed
 use Rattle.viper_types.proofs.FormedProgram.{typed_program_is_formed}
 use Rattle.viper_types.proofs.ProgramFinds.{one_program_of}
 use Rattle.viper_types.proofs.ProgramLaws.{broken_is_no_program, typed_or_broken}
-use Rattle.vb_tool.specs.Tree as v
-use Rattle.vb_tool.specs.Accepted.{IsAccepted, Accepts, IsTreeRefusal, rule, heavy, IsTokenRefusal, syntax, of_tree, IsTextRefusal, lex as bad_lex, of_tokens, IsRefusal, HasOneAnswer, is_accepted, is_refused}
+use Rattle.vb_tool.specs.Accepted.{IsAccepted, IsTreeRefusal, rule, heavy, IsTokenRefusal, syntax, of_tree, IsTextRefusal, lex as bad_lex, of_tokens, IsRefusal, HasOneAnswer, is_accepted, is_refused}
 use Rattle.vb_tool.specs.Accepted as accepted
 use Rattle.vb_tool.specs.Converted.{trouble_of_lex, trouble_of_parse, trouble_of_types}
-use Rattle.vb_tool.specs.Straight.{straight_of}
 use Rattle.vb_tool.specs.declared.status.Refusal.{Refusal}
 use Rattle.vb_tool.specs.declared.status.Refusal.TheVariants as refusal
 use Rattle.vb_tool.specs.declared.trouble.Trouble.TheVariants as trouble
@@ -46,7 +44,7 @@ use Rattle.vb_tool.specs.declared.trouble.Trouble.TheVariants as trouble
 
 -- the refusal for a broken rule
 abbrev for_rule : Judged p.Program → Refusal
-for_rule (Found q) = refusal.NotYet
+for_rule (Found q) = refusal.Size
 for_rule (Broken at n) = refusal.Rule at n
 
 not_both : {source : d.SourceProgram} {q r : p.Program} → IsProgram source q → IsProgram source r → 100000 < weight q → weight r ≤ 100000 → ⊥
@@ -112,24 +110,15 @@ accepted_formed {bytes} a = record {
 
 -- ---- what `translate` accepts and refuses
 
-not_straight : (o : Option v.Program) (program : v.Program) → o ≡ Some program → o ≡ None → ⊥
-not_straight o program is other = let same : Some program ≡ None = sym is ∙ other in absurd (cc)
-
 pub one_refusal : {bytes : List ℕ} {r q : Refusal} → IsRefusal bytes r → IsRefusal bytes q → r ≡ q
 one_refusal (accepted.size above) (accepted.size also) = refl
 one_refusal (accepted.size above) (accepted.of_text small is) = absurd (omega (arith, above, small))
-one_refusal (accepted.size above) (accepted.not_yet a other) = absurd (omega (arith, above, a.small))
 one_refusal (accepted.of_text small is) (accepted.size above) = absurd (omega (arith, above, small))
 one_refusal (accepted.of_text small is) (accepted.of_text also other) = one_text_refusal is other
-one_refusal (accepted.of_text small is) (accepted.not_yet a other) = absurd (accepted_text a is)
-one_refusal (accepted.not_yet a is) (accepted.size above) = absurd (omega (arith, above, a.small))
-one_refusal (accepted.not_yet a is) (accepted.of_text small other) = absurd (accepted_text a other)
-one_refusal (accepted.not_yet a is) (accepted.not_yet b other) = refl
 
-pub accepted_not_refused : {bytes : List ℕ} {program : p.Program} {r : Refusal} → Accepts bytes program → IsRefusal bytes r → ⊥
-accepted_not_refused h (accepted.size above) = omega (arith, above, h.accepted.small)
-accepted_not_refused h (accepted.of_text small is) = accepted_text h.accepted is
-accepted_not_refused h (accepted.not_yet a other) = not_straight _ h.straight h.is_straight (ap straight_of (one_accepted h.accepted a) ∙ other)
+pub accepted_not_refused : {bytes : List ℕ} {program : p.Program} {r : Refusal} → IsAccepted bytes program → IsRefusal bytes r → ⊥
+accepted_not_refused h (accepted.size above) = omega (arith, above, h.small)
+accepted_not_refused h (accepted.of_text small is) = accepted_text h is
 
 -- ---- the refusal of each stage
 
@@ -159,11 +148,6 @@ type_refusal bytes tokens source (typed.Weight n) r lexed spelled why is_r =
     let same : refusal.Weight 100001 ≡ r = ap (λ x. refusal.Weight x) (sym why.0) ∙ cc in
     let (program, is, above) = why.1 in
     subst (IsTextRefusal bytes) same (of_tokens lexed (of_tree spelled (heavy is above)))
-
-pub form_refusal : (bytes : List ℕ) (q : p.Program) (r : Refusal) → IsAccepted bytes q → straight_of q ≡ None → trouble.Refused refusal.NotYet ≡ trouble.Refused r → IsRefusal bytes r
-form_refusal bytes q r is other is_r =
-    let same : refusal.NotYet ≡ r = cc in
-    subst (IsRefusal bytes) same (accepted.not_yet is other)
 
 -- ---- each text has an answer
 
@@ -196,23 +180,19 @@ module _ (bytes : List ℕ) (small : length bytes ≤ 1048576) where
 pub text_answer : (bytes : List ℕ) → length bytes ≤ 1048576 → ((q : p.Program) × IsAccepted bytes q) ⊎ ((r : Refusal) × IsTextRefusal bytes r)
 text_answer bytes small = of_cut bytes small (some_cut bytes small)
 
-accepted_once : {bytes : List ℕ} {program : p.Program} → Accepts bytes program → HasOneAnswer (Accepts bytes) (IsRefusal bytes)
-accepted_once h = is_accepted h (λ other i. one_accepted i.accepted h.accepted) (λ r is. accepted_not_refused h is)
+accepted_once : {bytes : List ℕ} {program : p.Program} → IsAccepted bytes program → HasOneAnswer (IsAccepted bytes) (IsRefusal bytes)
+accepted_once h = is_accepted h (λ other i. one_accepted i h) (λ r is. accepted_not_refused h is)
 
-refused_once : {bytes : List ℕ} {r : Refusal} → IsRefusal bytes r → HasOneAnswer (Accepts bytes) (IsRefusal bytes)
+refused_once : {bytes : List ℕ} {r : Refusal} → IsRefusal bytes r → HasOneAnswer (IsAccepted bytes) (IsRefusal bytes)
 refused_once h = is_refused h (λ other is. one_refusal is h) (λ program accepts. accepted_not_refused accepts h)
 
-of_form : (bytes : List ℕ) (q : p.Program) → IsAccepted bytes q → (o : Option v.Program) → straight_of q ≡ o → HasOneAnswer (Accepts bytes) (IsRefusal bytes)
-of_form bytes q is (Some straight) is_straight = accepted_once {program = q} (record { accepted = is; straight = straight; is_straight = is_straight })
-of_form bytes q is None other = refused_once (accepted.not_yet is other)
-
-of_text : (bytes : List ℕ) → length bytes ≤ 1048576 → ((q : p.Program) × IsAccepted bytes q) ⊎ ((r : Refusal) × IsTextRefusal bytes r) → HasOneAnswer (Accepts bytes) (IsRefusal bytes)
-of_text bytes small (inl typed) = of_form bytes typed.0 typed.1 (straight_of typed.0) refl
+of_text : (bytes : List ℕ) → length bytes ≤ 1048576 → ((q : p.Program) × IsAccepted bytes q) ⊎ ((r : Refusal) × IsTextRefusal bytes r) → HasOneAnswer (IsAccepted bytes) (IsRefusal bytes)
+of_text bytes small (inl typed) = accepted_once typed.1
 of_text bytes small (inr refused) = refused_once (accepted.of_text small refused.1)
 
-of_size : (bytes : List ℕ) → (1048576 < length bytes) ⊎ (length bytes ≤ 1048576) → HasOneAnswer (Accepts bytes) (IsRefusal bytes)
+of_size : (bytes : List ℕ) → (1048576 < length bytes) ⊎ (length bytes ≤ 1048576) → HasOneAnswer (IsAccepted bytes) (IsRefusal bytes)
 of_size bytes (inl above) = refused_once (accepted.size above)
 of_size bytes (inr small) = of_text bytes small (text_answer bytes small)
 
-pub one_answer : (bytes : List ℕ) → HasOneAnswer (Accepts bytes) (IsRefusal bytes)
+pub one_answer : (bytes : List ℕ) → HasOneAnswer (IsAccepted bytes) (IsRefusal bytes)
 one_answer bytes = of_size bytes (cases_lt 1048576 (length bytes))

@@ -1,6 +1,6 @@
 -- Which program the bytes of a file are, which run the bytes of two files are, and why they are refused. Each step goes on
--- from the one before: bytes are cut into tokens, tokens spell a tree, and a tree is a typed program. For `translate` the
--- program is one that is translated. For `run` it has the unit, and the other file spells a run of that.
+-- from the one before: bytes are cut into tokens, tokens spell a tree, and a tree is a typed program. For `run` it has the
+-- unit, and the other file spells a run of that.
 use Rattle.std.specs.Prelude.{◌≡◌, ◌<◌, ◌≤◌, ℕ, List, length, Some, None}
 use Rattle.vb_base.specs.Limits.{max_viper_bytes, max_weight, too_heavy}
 use Rattle.vb_base.specs.declared.places.Pos.{Pos}
@@ -18,11 +18,9 @@ use Rattle.viper_types.specs.Declaring.{program_typing}
 use Rattle.viper_scope.specs.Outcome.{Broken}
 use Rattle.viper_types.specs.Program.{IsProgram}
 use Rattle.run_file.specs.Run.{SpellsViperRun, GoesWrongAt}
-use Rattle.vb_tool.specs.Tree as v
-use Rattle.vb_tool.specs.Straight.{straight_of}
 use Rattle.vb_tool.specs.Units.{unit_named, UnitRun}
 use Rattle.vb_tool.specs.declared.status.Refusal.{Refusal}
-use Rattle.vb_tool.specs.declared.status.Refusal.TheVariants.{Size, RunSize, Lex, Syntax, Rule, Weight, NotYet, NoUnit, RunSyntax}
+use Rattle.vb_tool.specs.declared.status.Refusal.TheVariants.{Size, RunSize, Lex, Syntax, Rule, Weight, NoUnit, RunSyntax}
 
 -- the bytes are the text of this typed program, within the limits of a file and of weight
 pub record IsAccepted (bytes : List ℕ) (typed : p.Program) : Type 0 where
@@ -33,12 +31,6 @@ pub record IsAccepted (bytes : List ℕ) (typed : p.Program) : Type 0 where
   pub spelled : Spells tokens source
   pub is_typed : IsProgram source typed
   pub light : weight typed ≤ max_weight
-
--- the bytes are the text of this program, and it is a straight one
-pub record Accepts (bytes : List ℕ) (program : p.Program) : Type 0 where
-  pub accepted : IsAccepted bytes program
-  pub straight : v.Program
-  pub is_straight : straight_of program ≡ Some straight
 
 -- the bytes and the name are this run: they are the text of its program, whose unit has this name, and the bytes of the run
 -- file spell the run
@@ -66,11 +58,10 @@ pub data IsTextRefusal (bytes : List ℕ) : Refusal → Type 0 where
   lex : {fault : LexFault} → HasFault bytes fault → IsTextRefusal bytes (Lex fault)
   of_tokens : {tokens : List Token} {r : Refusal} → IsLexed bytes tokens → IsTokenRefusal bytes tokens r → IsTextRefusal bytes r
 
--- `translate` refuses the bytes, for the first of these reasons that stands; the last is a form that is not translated yet
+-- `translate` refuses the bytes, for the first of these reasons that stands
 pub data IsRefusal (bytes : List ℕ) : Refusal → Type 0 where
   size : max_viper_bytes < length bytes → IsRefusal bytes Size
   of_text : {r : Refusal} → length bytes ≤ max_viper_bytes → IsTextRefusal bytes r → IsRefusal bytes r
-  not_yet : {typed : p.Program} → IsAccepted bytes typed → straight_of typed ≡ None → IsRefusal bytes NotYet
 
 -- `run` refuses the bytes of its two files and the name of its unit, for the first of these reasons that stands
 pub data IsRunRefusal (bytes name run_bytes : List ℕ) : Refusal → Type 0 where

@@ -1,31 +1,29 @@
 -- What a call of the tool does: when each status comes, and what stands in the sinks afterwards.
-use Rattle.std.specs.Prelude.{⊤, ◌≡◌, ◌⊎◌, ◌<◌, ◌≤◌, ℕ, List, ◌∷◌, length, Option, None, Some}
-use Rattle.vb_base.specs.Limits.{max_viper_bytes, max_boogie_bytes}
+use Rattle.std.specs.Prelude.{⊤, ◌≡◌, ◌⊎◌, ◌<◌, ◌≤◌, ℕ, List, ◌∷◌, length, Option, Some, Contains}
+use Rattle.vb_base.specs.Limits.{max_viper_bytes, max_boogie_bytes, max_made_methods}
+use Rattle.vb_gen.specs.Generated.{program_text, IsOutOfRange}
 use Rattle.vb_outer.specs.Faults.{Rose}
-use Rattle.vb_outer.specs.Shelf.{Files, IsMissing, IsFile}
+use Rattle.vb_outer.specs.Shelf.{Files, IsMissing, IsFile, IsWhole}
 use Rattle.vb_outer.specs.Sink.{Appends, AppendsPrefix}
 use Rattle.viper_core.specs.Program as p
 use Rattle.boogie_run.specs.Start.{outcome_of}
 use Rattle.boogie_run.specs.declared.replaying.BOutcome.{BOutcome}
-use Rattle.vb_tool.specs.Accepted.{Accepts, AcceptsRun, IsRefusal, IsRunRefusal}
+use Rattle.enc_stmt.specs.Translates.{text_of}
+use Rattle.vb_tool.specs.Accepted.{IsAccepted, AcceptsRun, IsRefusal, IsRunRefusal}
 use Rattle.vb_tool.specs.AcceptedReplay.{AcceptsReplay, IsReplayRefusal}
-use Rattle.vb_tool.specs.Command.{Command, Translate, Run, Replay, Asks, IsNoCommand, files_of, limit_of}
+use Rattle.vb_tool.specs.Command.{Command, Translate, Run, Replay, Make, Asks, IsNoCommand, files_of, limit_of}
 use Rattle.vb_tool.specs.Outcome.{run_status, run_text}
 use Rattle.vb_tool.specs.Procedures.{ProcedureRun, procedure_end}
 use Rattle.vb_tool.specs.ReplayOutcome.{replay_status, replay_text}
 use Rattle.vb_tool.specs.Status.{line_of}
-use Rattle.vb_tool.specs.Translates.{Translates}
+use Rattle.vb_tool.specs.Summary.{made_text}
 use Rattle.vb_tool.specs.Units.{UnitRun, end_of}
 use Rattle.vb_tool.specs.declared.status.Refusal.{Refusal}
-use Rattle.vb_tool.specs.declared.status.Refusal.TheVariants.{Size}
+use Rattle.vb_tool.specs.declared.status.Refusal.TheVariants.{Size, Range}
 use Rattle.vb_tool.specs.declared.status.Status.{Status}
 use Rattle.vb_tool.specs.declared.status.Status.TheVariants.{Done, Refused, Usage, ReadFault, WriteFault, NoMemory, Failed, Blocked, Short, Over}
 
--- ---- what the files of a command come to
-
-abbrev pub Tells : Option Files → Type 0
-Tells None = ⊥
-Tells (Some files) = ⊤
+-- ---- files that are missing
 
 -- one of these files, which are read in this order, is missing, and those before it are there and not longer than this
 pub data MissesOf (files : Option Files) (limit : ℕ) : List (List ℕ) → Type 0 where
@@ -37,51 +35,47 @@ pub data MissesOf (files : Option Files) (limit : ℕ) : List (List ℕ) → Typ
 abbrev pub Misses : Option Files → Command → Type 0
 Misses files command = MissesOf files (limit_of command) (files_of command)
 
--- the command is refused. A file that is too long is refused before the next one is read.
-pub data Refuses (files : Option Files) : Command → Refusal → Type 0 where
-  translates : {file : List ℕ} {r : Refusal} (bytes : List ℕ) → IsFile files file bytes → IsRefusal bytes r → Refuses files (Translate file) r
-  too_long : {file unit run_file : List ℕ} (bytes : List ℕ) → IsFile files file bytes → max_viper_bytes < length bytes → Refuses files (Run file unit run_file) Size
-  runs : {file unit run_file : List ℕ} {r : Refusal} (bytes run_bytes : List ℕ) → IsFile files file bytes → IsFile files run_file run_bytes → IsRunRefusal bytes unit run_bytes r →
-      Refuses files (Run file unit run_file) r
-  replay_too_long : {file run_file : List ℕ} (bytes : List ℕ) → IsFile files file bytes → max_boogie_bytes < length bytes → Refuses files (Replay file run_file) Size
-  replays : {file run_file : List ℕ} {r : Refusal} (bytes run_bytes : List ℕ) → IsFile files file bytes → IsFile files run_file run_bytes → IsReplayRefusal bytes run_bytes r →
-      Refuses files (Replay file run_file) r
+-- the command names a file
+abbrev pub NamesFile : Command → Type 0
+NamesFile command = (name : List ℕ) × Contains (files_of command) name
 
--- a translation of the file, or of some program where the shelf does not tell its files
-pub record Translation (files : Option Files) (file text : List ℕ) : Type 0 where
-  pub program : p.Program
-  pub translates : Translates program text
-  pub accepted : Tells files → (bytes : List ℕ) × IsFile files file bytes × Accepts bytes program
+-- ---- what a command does, where these are the bytes of files by their names
 
--- where the shelf tells its files, this is the run that they are
-pub record IsRun (files : Option Files) (file unit run_file : List ℕ) (u : UnitRun) : Type 0 where
-  pub accepted : Tells files → (bytes run_bytes : List ℕ) × IsFile files file bytes × IsFile files run_file run_bytes × AcceptsRun bytes unit run_bytes u
+-- it is refused. A file that is too long is refused before the next one is read.
+pub data Refuses (Has : List ℕ → List ℕ → Type 0) : Command → Refusal → Type 0 where
+  translates : {file : List ℕ} {r : Refusal} (bytes : List ℕ) → Has file bytes → IsRefusal bytes r → Refuses Has (Translate file) r
+  too_long : {file unit run_file : List ℕ} (bytes : List ℕ) → Has file bytes → max_viper_bytes < length bytes → Refuses Has (Run file unit run_file) Size
+  runs : {file unit run_file : List ℕ} {r : Refusal} (bytes run_bytes : List ℕ) → Has file bytes → Has run_file run_bytes → IsRunRefusal bytes unit run_bytes r →
+      Refuses Has (Run file unit run_file) r
+  replay_too_long : {file run_file : List ℕ} (bytes : List ℕ) → Has file bytes → max_boogie_bytes < length bytes → Refuses Has (Replay file run_file) Size
+  replays : {file run_file : List ℕ} {r : Refusal} (bytes run_bytes : List ℕ) → Has file bytes → Has run_file run_bytes → IsReplayRefusal bytes run_bytes r →
+      Refuses Has (Replay file run_file) r
+  makes : {n : ℕ} → IsOutOfRange n → Refuses Has (Make n) Range
 
--- the same of a run of a procedure
-pub record IsReplay (files : Option Files) (file run_file : List ℕ) (u : ProcedureRun) : Type 0 where
-  pub accepted : Tells files → (bytes run_bytes : List ℕ) × IsFile files file bytes × IsFile files run_file run_bytes × AcceptsReplay bytes run_bytes u
+-- it is accepted, ends with this status and writes this text
+pub data Does (Has : List ℕ → List ℕ → Type 0) : Command → Status → List ℕ → Type 0 where
+  translated : {file : List ℕ} {program : p.Program} (bytes : List ℕ) → Has file bytes → IsAccepted bytes program → Does Has (Translate file) Done (text_of program)
+  ran : {file unit run_file : List ℕ} {u : UnitRun} (bytes run_bytes : List ℕ) → Has file bytes → Has run_file run_bytes → AcceptsRun bytes unit run_bytes u →
+      Does Has (Run file unit run_file) (run_status (end_of u)) (run_text (end_of u))
+  replayed : {file run_file : List ℕ} {u : ProcedureRun} {o : BOutcome} (bytes run_bytes : List ℕ) → Has file bytes → Has run_file run_bytes → AcceptsReplay bytes run_bytes u →
+      outcome_of (procedure_end u) ≡ Some o → Does Has (Replay file run_file) (replay_status o) (replay_text o)
+  made : {n : ℕ} {program : p.Program} → 1 ≤ n → n ≤ max_made_methods → IsAccepted (program_text n) program → Does Has (Make n) Done (made_text n program)
 
--- the command does its work: it has this status and this text
-pub data Works (files : Option Files) : Command → Status → List ℕ → Type 0 where
-  translated : {file text : List ℕ} → Translation files file text → Works files (Translate file) Done text
-  ran : {file unit run_file : List ℕ} {u : UnitRun} → IsRun files file unit run_file u → Works files (Run file unit run_file) (run_status (end_of u)) (run_text (end_of u))
-  replayed : {file run_file : List ℕ} {u : ProcedureRun} {o : BOutcome} → IsReplay files file run_file u → outcome_of (procedure_end u) ≡ Some o →
-      Works files (Replay file run_file) (replay_status o) (replay_text o)
-
--- the command that the words ask for does its work
-pub record HasWorked (words : List (List ℕ)) (files : Option Files) (status : Status) (text : List ℕ) : Type 0 where
+-- The command that the words ask for does this. The bytes are those of its files; where the shelf does not tell its files, they
+-- are any bytes.
+pub record HasDone (words : List (List ℕ)) (files : Option Files) (status : Status) (text : List ℕ) : Type 0 where
   pub command : Command
   pub asked : Asks words command
-  pub works : Works files command status text
+  pub does : Does (IsWhole files) command status text
 
 -- ---- statuses
 
 -- when a status comes, where no sink failed and there was memory; the counts are those of the shelf's faults
 pub data IsCause (words : List (List ℕ)) (files : Option Files) (before now : ℕ) : Status → Type 0 where
   usage : IsNoCommand words → IsCause words files before now Usage
-  read : {command : Command} → Asks words command → Misses files command ⊎ Rose before now → IsCause words files before now ReadFault
-  refused : {command : Command} {r : Refusal} → Asks words command → (Tells files → Refuses files command r) → IsCause words files before now (Refused r)
-  worked : {status : Status} {text : List ℕ} → HasWorked words files status text → IsCause words files before now status
+  read : {command : Command} → Asks words command → NamesFile command → Misses files command ⊎ Rose before now → IsCause words files before now ReadFault
+  refused : {command : Command} {r : Refusal} → Asks words command → Refuses (IsWhole files) command r → IsCause words files before now (Refused r)
+  done : {status : Status} {text : List ℕ} → HasDone words files status text → IsCause words files before now status
 
 -- the cause of each status
 abbrev pub Causes : List (List ℕ) → Option Files → ℕ → ℕ → Type 0 → Status → Type 0
@@ -96,25 +90,33 @@ pub data EndsAs (expected : Status) : Status → Type 0 where
   read_fault : EndsAs expected ReadFault
   write_fault : EndsAs expected WriteFault
 
+-- and where it ends so, this text was appended to the output
+abbrev pub EndsWith : Option (List ℕ) → Option (List ℕ) → Status → List ℕ → Status → Type 0
+EndsWith before now expected text status = EndsAs expected status × (status ≡ expected → Appends before now text)
+
 -- ---- sinks
 
 -- a whole text was appended that belongs to the status
 abbrev pub Written : Option (List ℕ) → Option (List ℕ) → (Status → List ℕ → Type 0) → Status → Type 0
 Written before now IsText status = (text : List ℕ) × IsText status text × Appends before now text
 
--- what stands in the sink of the output: what the command writes, or what stood there before; after a fault of a sink the front
--- of such a text
+-- the front of such a text was appended, or nothing
+abbrev pub FrontWritten : Option (List ℕ) → Option (List ℕ) → (Status → List ℕ → Type 0) → Type 0
+FrontWritten before now IsText = (now ≡ before) ⊎ ((status : Status) × (text : List ℕ) × IsText status text × AppendsPrefix before now text)
+
+-- what stands in the sink of the output: what the command writes, or what stood there before; after a fault of a sink, and for
+-- want of memory, the front of what the command writes
 abbrev pub OutAfter : Option (List ℕ) → Option (List ℕ) → (Status → List ℕ → Type 0) → Status → Type 0
 OutAfter before now IsText Done = Written before now IsText Done
 OutAfter before now IsText (Failed label) = Written before now IsText (Failed label)
 OutAfter before now IsText Blocked = Written before now IsText Blocked
 OutAfter before now IsText Short = Written before now IsText Short
 OutAfter before now IsText Over = Written before now IsText Over
-OutAfter before now IsText WriteFault = (now ≡ before) ⊎ ((status : Status) × (text : List ℕ) × IsText status text × AppendsPrefix before now text)
+OutAfter before now IsText WriteFault = FrontWritten before now IsText
+OutAfter before now IsText NoMemory = FrontWritten before now IsText
 OutAfter before now IsText (Refused r) = now ≡ before
 OutAfter before now IsText Usage = now ≡ before
 OutAfter before now IsText ReadFault = now ≡ before
-OutAfter before now IsText NoMemory = now ≡ before
 
 -- what stands in the sink of errors: one more line, where the status has one; after a fault of a sink the front of such a line
 abbrev pub ErrAfter : Option (List ℕ) → Option (List ℕ) → (Status → Type 0) → Status → Type 0

@@ -1,5 +1,8 @@
 -- The commands: what the words of a call ask for, and the files that they name.
-use Rattle.std.specs.Prelude.{◌≡◌, ℕ, List, [], ◌∷◌, codes}
+use Rattle.std.specs.Prelude.{◌≡◌, ◌<◌, ◌≤◌, ℕ, IsTrue, List, [], ◌∷◌, length, codes}
+use Rattle.std.specs.Char.{is_ascii_digit}
+use Rattle.std.specs.List.{list_all}
+use Rattle.std.specs.Str.Parse.{digits_value}
 use Rattle.vb_base.specs.Limits.{max_viper_bytes, max_boogie_bytes}
 
 pub data Command : Type 0 where
@@ -9,29 +12,37 @@ pub data Command : Type 0 where
   Run : List ℕ → List ℕ → List ℕ → Command
   -- `replay BPL BRUN`
   Replay : List ℕ → List ℕ → Command
+  -- `make N`
+  Make : ℕ → Command
 
--- the words that ask for a command
-abbrev pub words_of : Command → List (List ℕ)
-words_of (Translate file) = codes "translate" ∷ file ∷ []
-words_of (Run file unit run_file) = codes "run" ∷ file ∷ unit ∷ run_file ∷ []
-words_of (Replay file run_file) = codes "replay" ∷ file ∷ run_file ∷ []
+-- one to nine digits, and their number. Leading zeros are allowed.
+pub record IsNumber (word : List ℕ) (n : ℕ) : Type 0 where
+  pub some : 0 < length word
+  pub few : length word ≤ 9
+  pub digits : IsTrue (list_all is_ascii_digit word)
+  pub value : digits_value 10 word ≡ n
+
+-- the words ask for this command
+pub data Asks (words : List (List ℕ)) : Command → Type 0 where
+  translate : {file : List ℕ} → words ≡ codes "translate" ∷ file ∷ [] → Asks words (Translate file)
+  run : {file unit run_file : List ℕ} → words ≡ codes "run" ∷ file ∷ unit ∷ run_file ∷ [] → Asks words (Run file unit run_file)
+  replay : {file run_file : List ℕ} → words ≡ codes "replay" ∷ file ∷ run_file ∷ [] → Asks words (Replay file run_file)
+  make : {word : List ℕ} {n : ℕ} → words ≡ codes "make" ∷ word ∷ [] → IsNumber word n → Asks words (Make n)
+
+-- the words are none of the forms of a command
+pub record IsNoCommand (words : List (List ℕ)) : Type 0 where
+  pub asks_none : (command : Command) → Asks words command → ⊥
 
 -- the files that a command names, in the order in which they are read
 abbrev pub files_of : Command → List (List ℕ)
 files_of (Translate file) = file ∷ []
 files_of (Run file unit run_file) = file ∷ run_file ∷ []
 files_of (Replay file run_file) = file ∷ run_file ∷ []
+files_of (Make n) = []
 
 -- the most bytes that each of them may have
 abbrev pub limit_of : Command → ℕ
 limit_of (Translate file) = max_viper_bytes
 limit_of (Run file unit run_file) = max_viper_bytes
 limit_of (Replay file run_file) = max_boogie_bytes
-
--- the words ask for this command
-pub record Asks (words : List (List ℕ)) (command : Command) : Type 0 where
-  pub words_are : words ≡ words_of command
-
--- the words are none of the forms of a command
-pub record IsNoCommand (words : List (List ℕ)) : Type 0 where
-  pub asks_none : (command : Command) → Asks words command → ⊥
+limit_of (Make n) = 0

@@ -11,6 +11,8 @@ use Rattle.run_file.specs.declared.runs.RunFileFault.{RunFileFault}
 use Rattle.run_file.specs.declared.runs.RunFileFault.TheVariants as run
 use Rattle.viper_scope.specs.declared.faults.TypeFault.{TypeFault}
 use Rattle.viper_scope.specs.declared.faults.TypeFault.TheVariants as typed
+use Rattle.vb_gen.specs.declared.GenFault.{GenFault}
+use Rattle.vb_gen.specs.declared.GenFault.TheVariants as made
 use Rattle.vb_tool.specs.declared.status.Refusal.TheVariants as refusal
 use Rattle.vb_tool.specs.declared.trouble.Trouble.{Trouble}
 use Rattle.vb_tool.specs.declared.trouble.Trouble.TheVariants.{Memory, Read, Refused}
@@ -47,3 +49,7 @@ trouble_of_boogie (boogie.Deep at) = Refused (refusal.Deep at)
 abbrev pub trouble_of_run : RunFileFault → Trouble
 trouble_of_run run.Memory = Memory
 trouble_of_run (run.Syntax at) = Refused (refusal.RunSyntax at)
+
+abbrev pub trouble_of_making : GenFault → Trouble
+trouble_of_making made.Memory = Memory
+trouble_of_making made.Range = Refused refusal.Range

@@ -1,13 +1,7 @@
-pub mod Tree
-pub mod View
-pub mod Formed
-pub mod Straight
-pub mod Examples
-pub mod Encoded
 pub mod Status
-pub mod Translates
 pub mod Converted
 pub mod Command
+pub mod Summary
 pub mod Units
 pub mod Outcome
 pub mod Procedures

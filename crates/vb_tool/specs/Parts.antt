@@ -1,21 +1,27 @@
 -- What the parts of a call do, one after the other.
-use Rattle.std.specs.Prelude.{◌≡◌, ℕ, List, Option, Some}
+use Rattle.std.specs.Prelude.{⊤, ◌≡◌, ℕ, List, Option, Some}
 use Rattle.vb_outer.specs.Faults.{Rose}
 use Rattle.vb_outer.specs.Sink.{Appends, AppendsPrefix}
+use Rattle.vb_gen.specs.Generated.{program_text, IsOutOfRange}
+use Rattle.viper_core.specs.Formed.{IsFormed}
 use Rattle.viper_core.specs.Program as p
+use Rattle.viper_core.specs.View.{program_of}
 use Rattle.boogie_run.specs.Start.{outcome_of}
 use Rattle.boogie_run.specs.declared.replaying.BOutcome.{BOutcome}
-use Rattle.vb_tool.specs.Accepted.{Accepts, AcceptsRun}
+use Rattle.enc_stmt.specs.Translates.{text_of}
+use Rattle.vb_tool.specs.Accepted.{IsAccepted, AcceptsRun}
 use Rattle.vb_tool.specs.AcceptedReplay.{AcceptsReplay}
 use Rattle.vb_tool.specs.Command as c
 use Rattle.vb_tool.specs.Outcome.{run_status, run_text}
 use Rattle.vb_tool.specs.Procedures.{ProcedureRun, procedure_end}
 use Rattle.vb_tool.specs.ReplayOutcome.{replay_status, replay_text}
 use Rattle.vb_tool.specs.Status.{line_of}
-use Rattle.vb_tool.specs.Translates.{Translates}
+use Rattle.vb_tool.specs.Summary.{made_text}
 use Rattle.vb_tool.specs.Units.{UnitRun, end_of}
+use Rattle.vb_tool.specs.declared.outcome.Work.{Work}
+use Rattle.vb_tool.specs.declared.outcome.Work.TheVariants.{Translate, Tell}
 use Rattle.vb_tool.specs.declared.status.Status.{Status}
-use Rattle.vb_tool.specs.declared.status.Status.TheVariants.{WriteFault, NoMemory}
+use Rattle.vb_tool.specs.declared.status.Status.TheVariants.{Done, WriteFault, NoMemory}
 use Rattle.vb_tool.specs.declared.words.Command.{Command}
 use Rattle.vb_tool.specs.declared.words.Command.TheVariants as words
 
@@ -24,6 +30,7 @@ abbrev pub command_of : Command → c.Command
 command_of (words.Translate file) = c.Translate file.now
 command_of (words.Run file unit run_file) = c.Run file.now unit.now run_file.now
 command_of (words.Replay file run_file) = c.Replay file.now run_file.now
+command_of (words.Make count) = c.Make count
 
 -- the line of a status goes to the sink of errors, and the call ends with that status; but for a fault of the sink, after
 -- which the front of the line stands there, and for want of memory
@@ -32,16 +39,26 @@ pub data Reports (before now : Option (List ℕ)) (faults_before faults_now : �
   unwritten : AppendsPrefix before now (line_of status) → Rose faults_before faults_now → Reports before now faults_before faults_now status WriteFault
   no_memory : now ≡ before → Reports before now faults_before faults_now status NoMemory
 
--- a text goes to the sink of the output, and the call ends with this status
+-- the status of a work that is done, and the text that is written
+abbrev pub work_status : Work → Status
+work_status (Translate program) = Done
+work_status (Tell told) = told.status
+
+abbrev pub work_text : Work → List ℕ
+work_text (Translate program) = text_of (program_of program)
+work_text (Tell told) = told.text.items
+
+-- a program that is to be translated is formed
+abbrev pub CanBeWritten : Work → Type 0
+CanBeWritten (Translate program) = IsFormed (program_of program)
+CanBeWritten (Tell told) = ⊤
+
+-- a text goes to the sink of the output, and the call ends with this status; but for a fault of the sink and for want of
+-- memory, after which a front of the text stands there
 pub data Delivers (before now : Option (List ℕ)) (faults_before faults_now : ℕ) (text : List ℕ) (status : Status) : Status → Type 0 where
   delivered : Appends before now text → Delivers before now faults_before faults_now text status status
   unwritten : AppendsPrefix before now text → Rose faults_before faults_now → Delivers before now faults_before faults_now text status WriteFault
-
--- a translation of the program that the bytes are
-pub record TranslationOf (bytes text : List ℕ) : Type 0 where
-  pub program : p.Program
-  pub accepted : Accepts bytes program
-  pub translates : Translates program text
+  no_memory : AppendsPrefix before now text → Delivers before now faults_before faults_now text status NoMemory
 
 -- the status and the text of the run that the bytes of two files are
 pub record OutcomeOf (bytes name run_bytes : List ℕ) (status : Status) (text : List ℕ) : Type 0 where
@@ -58,3 +75,11 @@ pub record ReplayOf (bytes run_bytes : List ℕ) (status : Status) (text : List 
   pub ends : outcome_of (procedure_end run) ≡ Some outcome
   pub status_is : status ≡ replay_status outcome
   pub text_is : text ≡ replay_text outcome
+
+-- the status and the text of `make`
+pub record SummaryOf (n : ℕ) (status : Status) (text : List ℕ) : Type 0 where
+  pub program : p.Program
+  pub in_range : IsOutOfRange n → ⊥
+  pub accepted : IsAccepted (program_text n) program
+  pub status_is : status ≡ Done
+  pub text_is : text ≡ made_text n program

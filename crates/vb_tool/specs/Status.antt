@@ -4,7 +4,7 @@ use Rattle.std.specs.Fmt.{decimal}
 use Rattle.vb_base.specs.Labels.{place_text}
 use Rattle.viper_syntax.specs.declared.tokens.LexFault.TheVariants.{BadByte, OpenComment, BigLiteral, Braces, LongGroup, Unsupported, Memory}
 use Rattle.vb_tool.specs.declared.status.Refusal.{Refusal}
-use Rattle.vb_tool.specs.declared.status.Refusal.TheVariants.{Size, RunSize, Lex, Syntax, Rule, Weight, NotYet, NoUnit, Prelude, Deep, BoogieSyntax, BoogieType, NoProcedure, RunSyntax}
+use Rattle.vb_tool.specs.declared.status.Refusal.TheVariants.{Size, RunSize, Lex, Syntax, Rule, Weight, NoUnit, Prelude, Deep, BoogieSyntax, BoogieType, NoProcedure, RunSyntax, Range}
 use Rattle.vb_tool.specs.declared.status.Status.{Status}
 use Rattle.vb_tool.specs.declared.status.Status.TheVariants.{Done, Refused, Usage, ReadFault, WriteFault, NoMemory, Failed, Blocked, Short, Over}
 
@@ -34,7 +34,6 @@ refusal_text (Lex Memory) = codes "memory"
 refusal_text (Syntax at) = codes "syntax " ++ place_text at
 refusal_text (Rule at n) = codes "type " ++ place_text at ++ codes " rule " ++ decimal n
 refusal_text (Weight n) = codes "weight " ++ decimal n
-refusal_text NotYet = codes "not-yet"
 refusal_text NoUnit = codes "no-unit"
 refusal_text (Prelude at) = codes "prelude " ++ place_text at
 refusal_text (Deep at) = codes "deep " ++ place_text at
@@ -42,12 +41,13 @@ refusal_text (BoogieSyntax at) = codes "syntax " ++ place_text at
 refusal_text (BoogieType n) = codes "boogie-type " ++ decimal n
 refusal_text NoProcedure = codes "no-procedure"
 refusal_text (RunSyntax at) = codes "run-syntax " ++ place_text at
+refusal_text Range = codes "range"
 
 -- one line, or nothing where the status writes none
 abbrev pub line_of : Status → List ℕ
 line_of Done = []
 line_of (Refused r) = codes "error: " ++ refusal_text r ++ codes "\n"
-line_of Usage = codes "usage: translate FILE | run FILE UNIT RUNFILE | replay BPL BRUN\n"
+line_of Usage = codes "usage: translate FILE | run FILE UNIT RUNFILE | replay BPL BRUN | make N\n"
 line_of ReadFault = codes "error: read\n"
 line_of WriteFault = []
 line_of NoMemory = []

@@ -4,15 +4,13 @@
 #![tactic(auto)]
 
 mod command;
-mod encoder;
 pub mod laws;
+mod making;
 mod outcome;
 mod procedures;
 mod replay_outcome;
 mod stages;
 mod status;
-mod straight;
-mod straight_program;
 mod trouble;
 mod units;
 mod words;

@@ -7,13 +7,23 @@ use crate::status::Status;
 use std::alloc::{AllocError, Global};
 use std::fmt;
 use vb_base::Memory;
+use viper_core::Program;
 use viper_state::Outcome;
 
-/// What a command writes that did its work, and its status.
+/// What a command came to: its status, and the text that tells of it.
 #[derive(Drop)]
-pub struct Work {
+pub struct Ending {
     pub status: Status,
     pub text: Vec<u8>,
+}
+
+/// What is left to do for a command that is not refused: to write a text.
+#[derive(Drop)]
+pub enum Work {
+    /// That of the translation of a program.
+    Translate(Program),
+    /// This one.
+    Tell(Ending),
 }
 
 /// The status of a call whose run ended so.
@@ -57,13 +67,13 @@ fn outcome_text(alloc: Global, outcome: Outcome, unused: usize) -> Result<String
     format!(in alloc; "{line}// unused {unused}\n")
 }
 
-/// The work of a run that ended so, and left over so many choices.
-pub fn told(alloc: Global, outcome: Outcome, unused: usize) -> Result<Work, Memory>
-    ensures status { IfOk result (λ w. w.status ≡ status_of outcome) }
-    ensures text { IfOk result (λ w. w.text.items ≡ outcome_text outcome unused) }
+/// What is told of a run that ended so, and left over so many choices.
+pub fn told(alloc: Global, outcome: Outcome, unused: usize) -> Result<Ending, Memory>
+    ensures status { IfOk result (λ t. t.status ≡ status_of outcome) }
+    ensures text { IfOk result (λ t. t.text.items ≡ outcome_text outcome unused) }
 {
     let text = outcome_text(alloc, outcome, unused)?;
-    Ok(Work {
+    Ok(Ending {
         status: status_of(outcome),
         text: text.into_bytes(),
     })

@@ -8,7 +8,7 @@ ghost use Rattle.vb_tool.specs.AcceptedReplay.{IsBoogie, IsBoogieRefusal, IsRepl
 ghost use Rattle.vb_tool.specs.Parts.{ReplayOf};
 ghost use Rattle.vb_tool.specs.Procedures.{procedure_named};
 
-use crate::outcome::Work;
+use crate::outcome::Ending;
 use crate::replay_outcome::told;
 use crate::status::Refusal;
 use crate::trouble::Trouble;
@@ -54,10 +54,10 @@ fn is_named(proc: &Proc, name: &Ident) -> bool
 }
 
 /// The outcome of the procedure that a run file names, of the program of a file, on the run of the run file.
-pub fn replayed(alloc: Global, bytes: &[u8], run_bytes: &[u8]) -> Result<Work, Trouble>
+pub fn replayed(alloc: Global, bytes: &[u8], run_bytes: &[u8]) -> Result<Ending, Trouble>
     requires bytes_within { length bytes.now ≤ max_boogie_bytes }
     requires run_within { length run_bytes.now ≤ max_boogie_bytes }
-    ensures work { IfOk result (λ w. ReplayOf bytes.now run_bytes.now w.status w.text.items) }
+    ensures told { IfOk result (λ t. ReplayOf bytes.now run_bytes.now t.status t.text.items) }
     ensures refused { (r : Refusal) → IsErrOf result (Trouble.Refused r) → IsReplayRefusal bytes.now run_bytes.now r }
     ensures read { IsErrOf result Trouble.Read → ⊥ }
 {

@@ -3,7 +3,7 @@ ghost use Rattle.std.specs.Prelude.{◌≡◌, IfOk, Some};
 ghost use Rattle.std.specs.String.{string_bytes};
 ghost use Rattle.vb_tool.specs.ReplayOutcome.{replay_status, replay_text};
 
-use crate::outcome::Work;
+use crate::outcome::Ending;
 use crate::status::Status;
 use boogie_run::BOutcome;
 use std::alloc::{AllocError, Global};
@@ -50,13 +50,13 @@ fn line_of(alloc: Global, outcome: BOutcome) -> Result<String, AllocError>
     format!(in alloc; "{line}")
 }
 
-/// The work of a run of a procedure that ended so.
-pub fn told(alloc: Global, outcome: BOutcome) -> Result<Work, Memory>
-    ensures status { IfOk result (λ w. w.status ≡ replay_status outcome) }
-    ensures text { IfOk result (λ w. w.text.items ≡ replay_text outcome) }
+/// What is told of a run of a procedure that ended so.
+pub fn told(alloc: Global, outcome: BOutcome) -> Result<Ending, Memory>
+    ensures status { IfOk result (λ t. t.status ≡ replay_status outcome) }
+    ensures text { IfOk result (λ t. t.text.items ≡ replay_text outcome) }
 {
     let text = line_of(alloc, outcome)?;
-    Ok(Work {
+    Ok(Ending {
         status: status_of(outcome),
         text: text.into_bytes(),
     })

@@ -8,7 +8,7 @@ use std::fmt;
 use vb_base::{Label, Pos};
 use viper_syntax::LexFault;
 
-/// Why the files of a command are refused. Those of one command are tried in this order.
+/// Why a command is refused. The reasons of one command are tried in this order.
 #[derive(Clone, Copy, Debug, PartialEq, Eq)]
 pub enum Refusal {
     /// The file has more bytes than it may have: `MAX_VIPER_BYTES` for a program of Viper, `MAX_BOOGIE_BYTES` for one of Boogie.
@@ -24,8 +24,6 @@ pub enum Refusal {
     Rule(Pos, u32),
     /// Its program is well-typed and weighs more than `MAX_WEIGHT`; the weight is told as `TOO_HEAVY`.
     Weight(u64),
-    /// Its program is accepted, and has a form that is not translated yet.
-    NotYet,
     /// Its program has no unit of that name.
     NoUnit,
     /// The file does not begin with the prelude of Boogie. The place is that of the first byte that differs, or the end of
@@ -43,6 +41,8 @@ pub enum Refusal {
     /// The run file spells no run of the unit or procedure. The place is that of the first line that may not stand where it
     /// does. A wrong header is refused before `NoProcedure`.
     RunSyntax(Pos),
+    /// No program is made of that many methods: there are none, or more than `MAX_MADE_METHODS`.
+    Range,
 }
 
 /// How a call ends. The status that the process ends with is its number.
@@ -50,7 +50,7 @@ pub enum Refusal {
 pub enum Status {
     /// The command did its work. A run came to its end.
     Done,
-    /// A file is refused.
+    /// A file is refused, or a number.
     Refused(Refusal),
     /// The words are none of the forms of a command.
     Usage,
@@ -111,7 +111,6 @@ impl fmt::Display for Refusal {
             Refusal::Syntax(at) => write!(f, "syntax {at}"),
             Refusal::Rule(at, rule) => write!(f, "type {at} rule {rule}"),
             Refusal::Weight(weight) => write!(f, "weight {weight}"),
-            Refusal::NotYet => f.write_str("not-yet"),
             Refusal::NoUnit => f.write_str("no-unit"),
             Refusal::Prelude(at) => write!(f, "prelude {at}"),
             Refusal::Deep(at) => write!(f, "deep {at}"),
@@ -119,12 +118,13 @@ impl fmt::Display for Refusal {
             Refusal::BoogieType(number) => write!(f, "boogie-type {number}"),
             Refusal::NoProcedure => f.write_str("no-procedure"),
             Refusal::RunSyntax(at) => write!(f, "run-syntax {at}"),
+            Refusal::Range => f.write_str("range"),
         }
     }
 }
 
 /// The line of the forms of the commands.
-const USAGE: &str = "usage: translate FILE | run FILE UNIT RUNFILE | replay BPL BRUN\n";
+const USAGE: &str = "usage: translate FILE | run FILE UNIT RUNFILE | replay BPL BRUN | make N\n";
 
 impl fmt::Display for Status {
     ghost use Rattle.vb_tool.specs.Status.{line_of};

@@ -1,12 +1,13 @@
 // Why a command did not do its work.
 ghost use Rattle.std.specs.Prelude.{◌≡◌};
 ghost use Rattle.vb_tool.specs.declared.trouble.Trouble.TheVariants as trouble;
-ghost use Rattle.vb_tool.specs.Converted.{trouble_of_file, trouble_of_lex, trouble_of_parse, trouble_of_types, trouble_of_boogie, trouble_of_run};
+ghost use Rattle.vb_tool.specs.Converted.{trouble_of_file, trouble_of_lex, trouble_of_parse, trouble_of_types, trouble_of_boogie, trouble_of_run, trouble_of_making};
 
 use crate::status::Refusal;
 use boogie_text::BoogieFault;
 use run_file::RunFileFault;
 use vb_base::Memory;
+use vb_gen::GenFault;
 use vb_outer::FileFault;
 use viper_syntax::{LexFault, ParseFault};
 use viper_types::TypeFault;
@@ -94,6 +95,17 @@ impl From<RunFileFault> for Trouble {
         match fault {
             RunFileFault::Memory => Trouble::Memory,
             RunFileFault::Syntax(at) => Trouble::Refused(Refusal::RunSyntax(at)),
+        }
+    }
+}
+
+impl From<GenFault> for Trouble {
+    ghost from_gives = { λ fault e. e ≡ trouble_of_making fault };
+
+    fn from(fault: GenFault) -> Trouble {
+        match fault {
+            GenFault::Memory => Trouble::Memory,
+            GenFault::Range => Trouble::Refused(Refusal::Range),
         }
     }
 }

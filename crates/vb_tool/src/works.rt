@@ -2,48 +2,65 @@
 ghost use Rattle.std.specs.Prelude.{◌≡◌, ◌⊎◌, ◌≤◌, IfOk, IsErrOf, length};
 ghost use Rattle.vb_outer.specs.Faults.{Rose};
 ghost use Rattle.vb_outer.specs.Shelf.{IsMissing, IsWhole, IsLonger};
-ghost use Rattle.vb_tool.specs.Call.{Tells, Misses, Refuses, Works};
-ghost use Rattle.vb_tool.specs.Command.{Translate, Run, Replay};
-ghost use Rattle.vb_tool.specs.Parts.{command_of};
+ghost use Rattle.viper_core.specs.Formed.{IsFormed};
+ghost use Rattle.viper_core.specs.View.{program_of};
+ghost use Rattle.enc_stmt.specs.Translates.{text_of};
+ghost use Rattle.vb_tool.specs.Call.{Misses, NamesFile, Refuses, Does};
+ghost use Rattle.vb_tool.specs.Command.{Translate, Run, Replay, Make};
+ghost use Rattle.vb_tool.specs.Parts.{command_of, work_status, work_text, CanBeWritten};
 ghost use Rattle.vb_tool.specs.declared.status.Refusal.TheVariants as refusal;
 
-use crate::outcome::Work;
+use crate::making::summary;
+use crate::outcome::{Ending, Work};
 use crate::procedures::replayed;
-use crate::stages::{outcome, translated};
+use crate::stages::{outcome, typed_program};
 use crate::status::{Refusal, Status};
 use crate::trouble::Trouble;
 use crate::words::Command;
 use std::alloc::Global;
 use vb_base::limits::{MAX_BOOGIE_BYTES, MAX_VIPER_BYTES};
 use vb_outer::{FileFault, Shelf, read_file};
+use viper_core::Program;
 
 /// Does what a command asks for, but for writing it.
 pub fn work<H: Shelf>(alloc: Global, shelf: &mut H, command: Command) -> Result<Work, Trouble>
-    ensures work { IfOk result (λ w. Works (H.files shelf.old) (command_of command.entry) w.status w.text.items) }
-    ensures refused { (r : Refusal) → IsErrOf result (Trouble.Refused r) → Tells (H.files shelf.old) → Refuses (H.files shelf.old) (command_of command.entry) r }
+    ensures work { IfOk result (λ w. Does (IsWhole (H.files shelf.old)) (command_of command.entry) (work_status w) (work_text w)) }
+    ensures can_be_written { IfOk result (λ w. CanBeWritten w) }
+    ensures refused { (r : Refusal) → IsErrOf result (Trouble.Refused r) → Refuses (IsWhole (H.files shelf.old)) (command_of command.entry) r }
     ensures read { IsErrOf result Trouble.Read → Misses (H.files shelf.old) (command_of command.entry) ⊎ Rose (H.faults shelf.old) (H.faults shelf.new) }
+    ensures names { IsErrOf result Trouble.Read → NamesFile (command_of command.entry) }
     ensures files { H.files shelf.new ≡ H.files shelf.old }
 {
     match command {
-        Command::Translate(file) => translate(alloc, shelf, file),
-        Command::Run(file, unit, run_file) => run(alloc, shelf, file, unit, run_file),
-        Command::Replay(file, run_file) => replay(alloc, shelf, file, run_file),
+        Command::Translate(file) => match translate(alloc, shelf, file) {
+            Ok(program) => Ok(Work::Translate(program)),
+            Err(trouble) => Err(trouble),
+        },
+        Command::Run(file, unit, run_file) => match run(alloc, shelf, file, unit, run_file) {
+            Ok(told) => Ok(Work::Tell(told)),
+            Err(trouble) => Err(trouble),
+        },
+        Command::Replay(file, run_file) => match replay(alloc, shelf, file, run_file) {
+            Ok(told) => Ok(Work::Tell(told)),
+            Err(trouble) => Err(trouble),
+        },
+        Command::Make(count) => match summary(alloc, count) {
+            Ok(told) => Ok(Work::Tell(told)),
+            Err(trouble) => Err(trouble),
+        },
     }
 }
 
-/// Reads a file and translates it.
-fn translate<H: Shelf>(alloc: Global, shelf: &mut H, file: &str) -> Result<Work, Trouble>
-    ensures work { IfOk result (λ w. Works (H.files shelf.old) (Translate file.now) w.status w.text.items) }
-    ensures refused { (r : Refusal) → IsErrOf result (Trouble.Refused r) → Tells (H.files shelf.old) → Refuses (H.files shelf.old) (Translate file.now) r }
+/// Reads a file, whose program is to be translated.
+fn translate<H: Shelf>(alloc: Global, shelf: &mut H, file: &str) -> Result<Program, Trouble>
+    ensures work { IfOk result (λ p. Does (IsWhole (H.files shelf.old)) (Translate file.now) Status.Done (text_of (program_of p))) }
+    ensures formed { IfOk result (λ p. IsFormed (program_of p)) }
+    ensures refused { (r : Refusal) → IsErrOf result (Trouble.Refused r) → Refuses (IsWhole (H.files shelf.old)) (Translate file.now) r }
     ensures read { IsErrOf result Trouble.Read → Misses (H.files shelf.old) (Translate file.now) ⊎ Rose (H.faults shelf.old) (H.faults shelf.new) }
     ensures files { H.files shelf.new ≡ H.files shelf.old }
 {
     let source = read_file(alloc, shelf, file, MAX_VIPER_BYTES)?;
-    let text = translated(alloc, &source)?;
-    Ok(Work {
-        status: Status::Done,
-        text,
-    })
+    typed_program(alloc, &source)
 }
 
 /// Reads a file and then a run file, and runs a unit.
@@ -53,9 +70,9 @@ fn run<H: Shelf>(
     file: &str,
     unit: &str,
     run_file: &str,
-) -> Result<Work, Trouble>
-    ensures work { IfOk result (λ w. Works (H.files shelf.old) (Run file.now unit.now run_file.now) w.status w.text.items) }
-    ensures refused { (r : Refusal) → IsErrOf result (Trouble.Refused r) → Tells (H.files shelf.old) → Refuses (H.files shelf.old) (Run file.now unit.now run_file.now) r }
+) -> Result<Ending, Trouble>
+    ensures work { IfOk result (λ t. Does (IsWhole (H.files shelf.old)) (Run file.now unit.now run_file.now) t.status t.text.items) }
+    ensures refused { (r : Refusal) → IsErrOf result (Trouble.Refused r) → Refuses (IsWhole (H.files shelf.old)) (Run file.now unit.now run_file.now) r }
     ensures read { IsErrOf result Trouble.Read → Misses (H.files shelf.old) (Run file.now unit.now run_file.now) ⊎ Rose (H.faults shelf.old) (H.faults shelf.new) }
     ensures files { H.files shelf.new ≡ H.files shelf.old }
 {
@@ -70,9 +87,9 @@ fn replay<H: Shelf>(
     shelf: &mut H,
     file: &str,
     run_file: &str,
-) -> Result<Work, Trouble>
-    ensures work { IfOk result (λ w. Works (H.files shelf.old) (Replay file.now run_file.now) w.status w.text.items) }
-    ensures refused { (r : Refusal) → IsErrOf result (Trouble.Refused r) → Tells (H.files shelf.old) → Refuses (H.files shelf.old) (Replay file.now run_file.now) r }
+) -> Result<Ending, Trouble>
+    ensures work { IfOk result (λ t. Does (IsWhole (H.files shelf.old)) (Replay file.now run_file.now) t.status t.text.items) }
+    ensures refused { (r : Refusal) → IsErrOf result (Trouble.Refused r) → Refuses (IsWhole (H.files shelf.old)) (Replay file.now run_file.now) r }
     ensures read { IsErrOf result Trouble.Read → Misses (H.files shelf.old) (Replay file.now run_file.now) ⊎ Rose (H.faults shelf.old) (H.faults shelf.new) }
     ensures files { H.files shelf.new ≡ H.files shelf.old }
 {

@@ -1,7 +1,7 @@
 use Rattle.std.proofs.Common.{map, ap, Err}
 use Rattle.std.specs.String.{string_bytes}
-use Rattle.vb_tool.specs.Call.{HasWorked, IsCause, usage, read, refused}
-use Rattle.vb_tool.proofs.CallLaws.{usage_line, read_line, refused_line, reported_cause, reported_err, reported_out, has_worked, delivered_cause, delivered_out, delivered_err}
+use Rattle.vb_tool.specs.Call.{HasDone, IsCause, usage, read, refused}
+use Rattle.vb_tool.proofs.CallLaws.{usage_line, read_line, refused_line, reported_cause, reported_err, reported_out, has_done, delivered_cause, delivered_out, delivered_err}
 use Rattle.vb_tool.proofs.command.answered.Goals as goal
 
 pub returns-in_default-clause-causes : goal.returns-in_default-clause-causes
@@ -12,33 +12,33 @@ returns-in_default-clause-err g c = reported_err usage_line c.report.ensures (us
 
 pub returns-in-Err-Read-clause-causes : goal.returns-in-Err-Read-clause-causes
 returns-in-Err-Read-clause-causes g c =
-    reported_cause _ read_line c.report-in-Err-Read.ensures (read c.in-Some.ensures (c.in-Err-Read.ensures.read (ap (λ e. Err e) c.in-Err-Read.field-0-is)))
+    reported_cause _ read_line c.report-in-Err-Read.ensures (read c.in-Some.ensures (c.in-Err-Read.ensures.names (ap (λ e. Err e) c.in-Err-Read.field-0-is)) (c.in-Err-Read.ensures.read (ap (λ e. Err e) c.in-Err-Read.field-0-is)))
 
 pub returns-in-Err-Read-clause-out : goal.returns-in-Err-Read-clause-out
-returns-in-Err-Read-clause-out g c = reported_out (g.O.Sink.written c.args.out.now) (HasWorked (map string_bytes c.args.words.now) (g.H.Shelf.files c.args.shelf.now)) read_line c.report-in-Err-Read.ensures
+returns-in-Err-Read-clause-out g c = reported_out (g.O.Sink.written c.args.out.now) (HasDone (map string_bytes c.args.words.now) (g.H.Shelf.files c.args.shelf.now)) read_line c.report-in-Err-Read.ensures
 
 pub returns-in-Err-Read-clause-err : goal.returns-in-Err-Read-clause-err
 returns-in-Err-Read-clause-err g c =
-    reported_err read_line c.report-in-Err-Read.ensures (read c.in-Some.ensures (c.in-Err-Read.ensures.read (ap (λ e. Err e) c.in-Err-Read.field-0-is)))
+    reported_err read_line c.report-in-Err-Read.ensures (read c.in-Some.ensures (c.in-Err-Read.ensures.names (ap (λ e. Err e) c.in-Err-Read.field-0-is)) (c.in-Err-Read.ensures.read (ap (λ e. Err e) c.in-Err-Read.field-0-is)))
 
 pub returns-in-Err-Refused-clause-causes : goal.returns-in-Err-Refused-clause-causes
 returns-in-Err-Refused-clause-causes g c =
     reported_cause _ refused_line c.report-in-Err-Refused.ensures (refused c.in-Some.ensures (c.in-Err-Refused.ensures.refused c.in-Err-Refused.refusal (ap (λ e. Err e) c.in-Err-Refused.field-0-is)))
 
 pub returns-in-Err-Refused-clause-out : goal.returns-in-Err-Refused-clause-out
-returns-in-Err-Refused-clause-out g c = reported_out (g.O.Sink.written c.args.out.now) (HasWorked (map string_bytes c.args.words.now) (g.H.Shelf.files c.args.shelf.now)) refused_line c.report-in-Err-Refused.ensures
+returns-in-Err-Refused-clause-out g c = reported_out (g.O.Sink.written c.args.out.now) (HasDone (map string_bytes c.args.words.now) (g.H.Shelf.files c.args.shelf.now)) refused_line c.report-in-Err-Refused.ensures
 
 pub returns-in-Err-Refused-clause-err : goal.returns-in-Err-Refused-clause-err
 returns-in-Err-Refused-clause-err g c =
     reported_err refused_line c.report-in-Err-Refused.ensures (refused c.in-Some.ensures (c.in-Err-Refused.ensures.refused c.in-Err-Refused.refusal (ap (λ e. Err e) c.in-Err-Refused.field-0-is)))
 
 pub returns-in-Ok-clause-causes : goal.returns-in-Ok-clause-causes
-returns-in-Ok-clause-causes g c = delivered_cause _ _ _ c.deliver.ensures (has_worked c.in-Some.ensures c.in-Ok.ensures.work c.deref.ensures.value)
+returns-in-Ok-clause-causes g c = delivered_cause _ _ _ c.deliver.ensures (has_done c.in-Some.ensures c.in-Ok.ensures.work)
 
 pub returns-in-Ok-clause-out : goal.returns-in-Ok-clause-out
-returns-in-Ok-clause-out g c = delivered_out c.deliver.ensures (has_worked c.in-Some.ensures c.in-Ok.ensures.work c.deref.ensures.value)
+returns-in-Ok-clause-out g c = delivered_out c.deliver.ensures (has_done c.in-Some.ensures c.in-Ok.ensures.work)
 
 pub returns-in-Ok-clause-err : goal.returns-in-Ok-clause-err
 returns-in-Ok-clause-err g c =
     delivered_err (g.E.Sink.written c.args.err.now) (IsCause (map string_bytes c.args.words.now) (g.H.Shelf.files c.args.shelf.now) (g.H.Shelf.faults c.args.shelf.now) (g.H.Shelf.faults c.work.new.shelf))
-    c.deliver.ensures (has_worked c.in-Some.ensures c.in-Ok.ensures.work c.deref.ensures.value)
+    c.deliver.ensures (has_done c.in-Some.ensures c.in-Ok.ensures.work)

@@ -1,6 +1,6 @@
 use Rattle.vb_tool.proofs.BoogieVerdicts.{one_boogie, one_replay_answer}
 use Rattle.vb_tool.proofs.RunVerdicts.{one_run_answer}
-use Rattle.vb_tool.proofs.Verdicts.{one_accepted, one_answer}
+use Rattle.vb_tool.proofs.Verdicts.{one_answer}
 use Rattle.vb_tool.proofs.laws.bytes_have_one_answer.Goals as goal
 
 pub returns-clause-translate : goal.returns-clause-translate
@@ -8,9 +8,6 @@ returns-clause-translate c = one_answer
 
 pub returns-clause-run : goal.returns-clause-run
 returns-clause-run c = one_run_answer
-
-pub returns-clause-typed : goal.returns-clause-typed
-returns-clause-typed c = λ bytes q r h i. one_accepted h i
 
 pub returns-clause-replay : goal.returns-clause-replay
 returns-clause-replay c = one_replay_answer

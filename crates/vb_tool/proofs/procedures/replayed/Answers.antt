@@ -46,8 +46,8 @@ replay-requires-clause-can_run c d is_there =
     subst (λ e. CanRun e (run_of c.in_ok-run.run')) (same_proc there is_there)
     (can_run c.args.run_bytes.now (proc_of c.index.result.now) (run_of c.in_ok-run.run') c.in_ok-run.ensures.run)
 
-pub returns-clause-work : goal.returns-clause-work
-returns-clause-work c =
+pub returns-clause-told : goal.returns-clause-told
+returns-clause-told c =
     let names = names_it c.args.run_bytes.now c.in_ok-program.program c.in_ok-name.name c.in-Some.number c.index.result.now c.in_ok-name.ensures.name (sym c.procedure_named.ensures ∙ c.in-Some.is) c.index.ensures in
     let there = named_there c.in_ok-program.program c.in_ok-name.name c.in-Some.number c.index.result.now (sym c.procedure_named.ensures ∙ c.in-Some.is) c.index.ensures in
     replay_is c.args.bytes.now c.args.run_bytes.now (program_of c.in_ok-program.program) c.in_ok-program.ensures.accepted c.requires.run_within

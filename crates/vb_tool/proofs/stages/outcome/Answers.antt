@@ -42,8 +42,8 @@ run_unit-requires-clause-choices_fit c = (spelled_good c.args.run_bytes.now (pro
 pub run_unit-requires-clause-choices_within : goal.run_unit-requires-clause-choices_within
 run_unit-requires-clause-choices_within c = (spelled_good c.args.run_bytes.now (program_of c.in_ok-program.program) c.in-Some.unit (run_of c.in_ok-run.run') c.in_ok-run.ensures.run).choices_within
 
-pub returns-clause-work : goal.returns-clause-work
-returns-clause-work c =
+pub returns-clause-told : goal.returns-clause-told
+returns-clause-told c =
     outcome_is _ _ _ (record { program = program_of c.in_ok-program.program; unit = c.in-Some.unit; run = run_of c.in_ok-run.run' }) _ _ c.in_ok-end.end
     (record {
       accepted = c.in_ok-program.ensures.accepted;
