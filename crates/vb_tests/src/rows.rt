@@ -1,7 +1,11 @@
 // The rows of the tables: what each kind of them tells, and their words.
-use crate::{devices, labels, maps, numbers, states, values};
+use crate::{
+    assertions, bodies, codes, devices, expressions, folds, labels, maps, numbers, programs, runs,
+    sent, statements, states, tokens, values,
+};
 use std::alloc::Global;
 use std::process::Abort;
+use std::test::Fail;
 
 /// What the rows of a table tell.
 #[derive(Clone, Copy)]
@@ -61,6 +65,61 @@ pub(crate) fn check<R: Abort>(rt: &R, alloc: Global, rows: Rows, table: &str) {
     for row in table.lines() {
         assert!(rt; is_right(alloc, rows, row) == Some(true), "{row}");
     }
+}
+
+/// What the rows of a table tell whose ends are told.
+#[derive(Clone, Copy)]
+pub(crate) enum Ends {
+    Expression,
+    Body,
+    Assertion,
+    Fold,
+    ViperRun,
+    BoogieRun,
+    Text,
+    Code,
+    StatementText,
+    Statement,
+    Sent,
+    ProgramText,
+    Program,
+    Token,
+}
+
+/// What came of a row, where the row says otherwise. `start` is what stands in the file before the row.
+fn other_end(alloc: Global, ends: Ends, start: &str, row: &str) -> Result<Option<String>, Fail> {
+    match ends {
+        Ends::Expression => expressions::wrong_row(alloc, start, row),
+        Ends::Body => bodies::wrong_row(alloc, start, row),
+        Ends::Assertion => assertions::wrong_row(alloc, start, row),
+        Ends::Fold => folds::wrong_row(alloc, start, row),
+        Ends::ViperRun => runs::wrong_viper_row(alloc, start, row),
+        Ends::BoogieRun => runs::wrong_boogie_row(alloc, start, row),
+        Ends::Text => codes::wrong_text(alloc, row),
+        Ends::Code => codes::wrong_code(alloc, start, row),
+        Ends::StatementText => statements::wrong_text(alloc, row),
+        Ends::Statement => statements::wrong_code(alloc, row),
+        Ends::Sent => sent::wrong_row(alloc, row),
+        Ends::ProgramText => programs::wrong_text(alloc, row),
+        Ends::Program => programs::wrong_program(alloc, row),
+        Ends::Token => tokens::wrong_row(alloc, row),
+    }
+}
+
+/// Fails the test at the first row of the table that ends otherwise than it says, and tells the row and what came.
+pub(crate) fn check_ends<R: Abort>(
+    rt: &R,
+    alloc: Global,
+    ends: Ends,
+    start: &str,
+    table: &str,
+) -> Result<(), Fail> {
+    for row in table.lines() {
+        if let Some(came) = other_end(alloc, ends, start, row)? {
+            panic!(rt; "{row}: {came}");
+        }
+    }
+    Ok(())
 }
 
 /// What stands before and after the first `between` of a text.
