@@ -3,7 +3,7 @@
 # behind, which are refused at the first; fields with names of their own; a method of variables; and a method of asserts.
 # Then what a typed program would hold much of, or what is looked for often: a method of Int variables and as many `new`s; of Ref
 # variables and as many `new`s; fields and as many `new(*)`s; variables that are assigned in 127 nested loops; and `unfolding`s of
-# one long body. All but the shortest of these are refused for their weight.
+# one long body. Most of these are refused for their weight.
 # Each line has the kind of text, its bytes, the least of five times in milliseconds, the start of the process included, and the
 # line on the error stream, if there is one.
 set -eu
