@@ -60,10 +60,10 @@ enough : 1025 ≤ top
 enough = omega arith
 
 module _ (m : Frame) (h : Home) (formed : IsFormed m.program) where
-  folds_low : (sc : Scope) (f : v.FoldStmt) (typed : IsFold (inside m sc) f) → fold_depth f ≤ 1024 → IsLowCode top Any (fold_code (kinds_in (inside m sc)) (place h f.at) f typed.body)
+  pub folds_low : (sc : Scope) (f : v.FoldStmt) (typed : IsFold (inside m sc) f) → fold_depth f ≤ 1024 → IsLowCode top Any (fold_code (kinds_in (inside m sc)) (place h f.at) f typed.body)
   folds_low sc f typed few = record { stmts = λ n. let low = fold_shallow (inside m sc) (place h f.at) formed f typed n in omega (arith, low, few); value = λ n. tt }
 
-  unfolds_low : (sc : Scope) (f : v.FoldStmt) (typed : IsFold (inside m sc) f) → fold_depth f ≤ 1024 → IsLowCode top Any (unfold_code (kinds_in (inside m sc)) (place h f.at) f typed.body)
+  pub unfolds_low : (sc : Scope) (f : v.FoldStmt) (typed : IsFold (inside m sc) f) → fold_depth f ≤ 1024 → IsLowCode top Any (unfold_code (kinds_in (inside m sc)) (place h f.at) f typed.body)
   unfolds_low sc f typed few = record { stmts = λ n. let low = unfold_shallow (inside m sc) (place h f.at) formed f typed n in omega (arith, low, few); value = λ n. tt }
 
 module _ (p : Program) (formed : IsFormed p) (h : Home) (m : Method) (is : IsMethod p m) where

@@ -91,7 +91,8 @@ abbrev pub defaults_code : ℕ → List Ty → s.BStmts
 defaults_code i [] = s.skip
 defaults_code i (u ∷ us) = s.first (s.Assign i (default_code u)) (defaults_code (i + 1) us)
 
--- Nothing is held, and the old state is the present one. All else that is read is set by the opening.
+-- Zero maps are zero, other variables have their defaults, nothing is held, and the old state is the present one. The opening sets
+-- the rest.
 abbrev pub start_code : Program → Unit → s.BStmts
 start_code p u =
     s.first (zero_code (base.Ref ∷ []) (zero_mask p u)) (join (zeros_code (zero_mask p u + 1) p.layout.keys) (join (defaults_code (first_further p u) (types_of_others p u))

@@ -7,12 +7,14 @@ ghost use Rattle.viper_core.specs.View.{method_of, predicate_of, program_of};
 use vb_value::Ty;
 use viper_core::{Method, Predicate, Program, Unit};
 
+/// A method by its number. None: there is none of that number.
 pub fn method_at(program: &Program, number: u32) -> Option<&Method>
     ensures { option_map (λ m. method_of m.now) result ≡ slice_get (program_of program.now).methods number }
 {
     program.methods.get(number as usize)
 }
 
+/// A predicate by its number. None: there is none of that number.
 pub fn predicate_at(program: &Program, number: u32) -> Option<&Predicate>
     ensures { option_map (λ d. predicate_of d.now) result ≡ slice_get (program_of program.now).predicates number }
 {
