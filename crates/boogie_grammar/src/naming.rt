@@ -12,8 +12,10 @@ use vb_base::{Ident, Memory};
 /// What names are written.
 #[derive(Clone, Copy)]
 pub struct Naming<'a> {
-    /// The locals of the procedure.
+    /// The first locals of the procedure.
     pub locals: &'a [Local],
+    /// How many temporaries stand behind these. The name of each is `t$` and its number among all locals.
+    pub temporaries: usize,
     /// The names of those that a bound variable might have.
     pub taken: &'a [Ident],
     /// What the `forall` around binds.

@@ -31,6 +31,7 @@ pub use pieces::{
     write_if, write_prelude,
 };
 pub use printer::print;
+pub use put_heads::put_locals;
 pub use put_stmts::{put_else, put_end};
 pub use reader::read;
 pub use text_laws::{

@@ -1,12 +1,12 @@
 // The text of a procedure, piece by piece.
-ghost use Rattle.std.specs.Prelude.{◌≡◌, ◌++◌, ◌≤◌, IfOk, OnOk, OnErr, IsErrOf};
+ghost use Rattle.std.specs.Prelude.{◌≡◌, ◌++◌, ◌≤◌, length, IfOk, OnOk, OnErr, IsErrOf};
 ghost use Rattle.std.specs.Option.{option_map};
 ghost use Rattle.vb_outer.specs.Faults.{HasCause, Rose};
 ghost use Rattle.vb_outer.specs.Sink.{Appends, AppendsPrefix};
 ghost use Rattle.boogie_tree.specs.Text.{prelude};
 ghost use Rattle.boogie_tree.specs.Whole.{expr_of, stmts_of, locals_of};
 ghost use Rattle.boogie_grammar.specs.Grammar.{local_names};
-ghost use Rattle.boogie_grammar.specs.Naming.{naming_of};
+ghost use Rattle.boogie_grammar.specs.Naming.{naming_of, temporary_names};
 ghost use Rattle.boogie_grammar.specs.Printed.{naming, stmts_text};
 ghost use Rattle.boogie_text.specs.Names.{names_of};
 ghost use Rattle.boogie_text.specs.Pieces.{if_piece, head_text, else_text, end_text, piece_text};
@@ -23,7 +23,10 @@ use vb_outer::{Failed, Sink, write_all};
 /// The locals of a procedure, and the names among them that a bound variable might have.
 #[derive(Drop)]
 pub struct Names<'a> {
+    /// The first ones.
     pub locals: &'a [Local],
+    /// How many temporaries stand behind these. The name of each is `t$` and its number among all locals.
+    pub temporaries: usize,
     /// In their order.
     pub taken: Vec<Ident>,
 }
@@ -33,8 +36,24 @@ impl<'a> Names<'a> {
     pub fn of(alloc: Global, locals: &'a [Local]) -> Result<Names<'a>, Memory>
         ensures { IfOk result (λ names. names_of names ≡ naming (local_names (locals_of locals.now))) }
     {
+        Names::with_temporaries(alloc, locals, 0)
+    }
+
+    /// The same with so many temporaries behind these locals.
+    pub fn with_temporaries(
+        alloc: Global,
+        locals: &'a [Local],
+        temporaries: usize,
+    ) -> Result<Names<'a>, Memory>
+        ensures { IfOk result (λ names. names_of names
+            ≡ naming (local_names (locals_of locals.now) ++ temporary_names (length locals.now) temporaries)) }
+    {
         let taken = taken_names(alloc, locals)?;
-        Ok(Names { locals, taken })
+        Ok(Names {
+            locals,
+            temporaries,
+            taken,
+        })
     }
 
     /// What names are written, where no `forall` is around.
@@ -43,6 +62,7 @@ impl<'a> Names<'a> {
     {
         Naming {
             locals: self.locals,
+            temporaries: self.temporaries,
             taken: &self.taken,
             bound: &[],
         }

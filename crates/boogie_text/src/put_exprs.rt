@@ -1,14 +1,13 @@
 // The text of expressions.
-ghost use Rattle.std.specs.Prelude.{◌≡◌, ◌++◌, OnOk, [], drop, codes};
+ghost use Rattle.std.specs.Prelude.{◌≡◌, ◌++◌, ◌≤◌, OnOk, [], drop, codes, length};
 ghost use Rattle.std.specs.Fmt.{signed_decimal};
 ghost use Rattle.boogie_tree.specs.Whole as b;
-ghost use Rattle.boogie_grammar.specs.Grammar.{local_names};
-ghost use Rattle.boogie_grammar.specs.Naming.{naming_of};
+ghost use Rattle.boogie_grammar.specs.Naming.{naming_of, temporary_name};
 ghost use Rattle.boogie_grammar.specs.Printed as text;
 
 use boogie_grammar::eating::base_text;
 use boogie_grammar::naming::{Naming, bound_names};
-use boogie_tree::{BBase, BExpr, BOp, Local};
+use boogie_tree::{BBase, BExpr, BOp};
 use std::alloc::Global;
 use vb_base::{Ident, Memory};
 
@@ -23,7 +22,7 @@ pub(crate) fn put_expr(
     ensures { OnOk result (out.new.items ≡ out.old.items ++ text.expr_text (naming_of names.now) (b.expr_of expr.now)) }
 {
     match expr {
-        BExpr::Var(i) => put_name(out, names.locals, *i),
+        BExpr::Var(i) => put_name(alloc, out, names, *i),
         BExpr::Int(n) => put_number(alloc, out, *n, b""),
         BExpr::Real(n) => put_number(alloc, out, *n, b".0"),
         BExpr::Bool(truth) => put(out, truth_text(*truth)),
@@ -52,11 +51,11 @@ pub(crate) fn put_expr(
             put_wrapped(alloc, out, names, b", ", b)
         }
         BExpr::At(i, indices) => {
-            put_map(out, names.locals, *i)?;
+            put_map(alloc, out, names, *i)?;
             put_exprs(alloc, out, names, indices)?;
             put(out, b"]")
         }
-        BExpr::AtBound(i) => put_at_bound(out, names, *i),
+        BExpr::AtBound(i) => put_at_bound(alloc, out, names, *i),
     }
 }
 
@@ -107,9 +106,8 @@ fn put_forall(
     put_binders(out, &bound, types)?;
     put(out, b" :: ")?;
     let inner = Naming {
-        locals: names.locals,
-        taken: names.taken,
         bound: &bound,
+        ..*names
     };
     put_expr(alloc, out, &inner, body)?;
     put(out, b")")
@@ -133,11 +131,16 @@ pub(crate) fn put_exprs(
     Ok(())
 }
 
-fn put_at_bound(out: &mut Vec<u8>, names: &Naming<'_>, map: usize) -> Result<(), Memory>
-    ensures { OnOk result (out.new.items ≡ out.old.items ++ text.name_at (local_names (b.locals_of names.now.locals.now)) map ++ codes "[" ++
+fn put_at_bound(
+    alloc: Global,
+    out: &mut Vec<u8>,
+    names: &Naming<'_>,
+    map: usize,
+) -> Result<(), Memory>
+    ensures { OnOk result (out.new.items ≡ out.old.items ++ text.name_at (naming_of names.now).locals map ++ codes "[" ++
         text.names_text [] names.now.bound.now ++ codes "]") }
 {
-    put_map(out, names.locals, map)?;
+    put_map(alloc, out, names, map)?;
     put_names(out, names.bound)?;
     put(out, b"]")
 }
@@ -187,21 +190,55 @@ fn put_operator(out: &mut Vec<u8>, op: BOp) -> Result<(), Memory>
 }
 
 /// The name of the map of this number, and `[`.
-pub(crate) fn put_map(out: &mut Vec<u8>, locals: &[Local], i: usize) -> Result<(), Memory>
-    ensures { OnOk result (out.new.items ≡ out.old.items ++ text.name_at (local_names (b.locals_of locals.now)) i ++ codes "[") }
+pub(crate) fn put_map(
+    alloc: Global,
+    out: &mut Vec<u8>,
+    names: &Naming<'_>,
+    i: usize,
+) -> Result<(), Memory>
+    ensures { OnOk result (out.new.items ≡ out.old.items ++ text.name_at (naming_of names.now).locals i ++ codes "[") }
 {
-    put_name(out, locals, i)?;
+    put_name(alloc, out, names, i)?;
     put(out, b"[")
 }
 
 /// The name of the variable of this number.
-pub(crate) fn put_name(out: &mut Vec<u8>, locals: &[Local], i: usize) -> Result<(), Memory>
-    ensures { OnOk result (out.new.items ≡ out.old.items ++ text.name_at (local_names (b.locals_of locals.now)) i) }
+pub(crate) fn put_name(
+    alloc: Global,
+    out: &mut Vec<u8>,
+    names: &Naming<'_>,
+    i: usize,
+) -> Result<(), Memory>
+    ensures { OnOk result (out.new.items ≡ out.old.items ++ text.name_at (naming_of names.now).locals i) }
 {
-    match locals.get(i) {
+    match names.locals.get(i) {
         Some(local) => put(out, &local.name.bytes),
-        None => Ok(()),
+        None => put_temporary(alloc, out, names, i),
     }
+}
+
+/// The same, where the variable is none of the first ones.
+fn put_temporary(
+    alloc: Global,
+    out: &mut Vec<u8>,
+    names: &Naming<'_>,
+    i: usize,
+) -> Result<(), Memory>
+    requires { length names.now.locals.now ≤ i }
+    ensures { OnOk result (out.new.items ≡ out.old.items ++ text.name_at (naming_of names.now).locals i) }
+{
+    if i - names.locals.len() < names.temporaries {
+        return put_numbered(alloc, out, i);
+    }
+    Ok(())
+}
+
+/// `t$` and a number.
+fn put_numbered(alloc: Global, out: &mut Vec<u8>, number: usize) -> Result<(), Memory>
+    ensures { OnOk result (out.new.items ≡ out.old.items ++ temporary_name number) }
+{
+    put(out, b"t$")?;
+    put(out, format!(in alloc; "{number}")?.as_bytes())
 }
 
 fn put_number(alloc: Global, out: &mut Vec<u8>, n: i128, after: &[u8]) -> Result<(), Memory>

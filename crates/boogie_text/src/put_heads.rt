@@ -17,8 +17,8 @@ pub(crate) fn put_header(out: &mut Vec<u8>, name: &[u8]) -> Result<(), Memory>
     put(out, b"() {\n")
 }
 
-/// A line for each local.
-pub(crate) fn put_locals(out: &mut Vec<u8>, locals: &[Local]) -> Result<(), Memory>
+/// Appends a line for each local.
+pub fn put_locals(out: &mut Vec<u8>, locals: &[Local]) -> Result<(), Memory>
     ensures { OnOk result (out.new.items ≡ out.old.items ++ text.locals_text (b.locals_of locals.now)) }
 {
     for local in locals {

@@ -2,14 +2,13 @@
 ghost use Rattle.std.specs.Prelude.{◌≡◌, ◌++◌, OnOk, [], codes};
 ghost use Rattle.vb_base.specs.Labels.{text_of};
 ghost use Rattle.boogie_tree.specs.Whole as b;
-ghost use Rattle.boogie_grammar.specs.Grammar.{local_names};
 ghost use Rattle.boogie_grammar.specs.Naming.{naming_of};
 ghost use Rattle.boogie_grammar.specs.Printed as text;
 ghost use Rattle.boogie_text.specs.Pieces.{else_text, end_text};
 
 use crate::put_exprs::{put, put_after, put_exprs, put_map, put_name};
 use boogie_grammar::naming::Naming;
-use boogie_tree::{BExpr, BStmt, Local};
+use boogie_tree::{BExpr, BStmt};
 use std::alloc::Global;
 use vb_base::{Label, Memory, label_text};
 
@@ -40,7 +39,7 @@ fn put_statement(
     match stmt {
         BStmt::Assign(i, value) => put_assignment(alloc, out, names, *i, value),
         BStmt::Put(i, indices, value) => put_change(alloc, out, names, *i, indices, value),
-        BStmt::Havoc(i) => put_havoc(out, names.locals, *i),
+        BStmt::Havoc(i) => put_havoc(alloc, out, names, *i),
         BStmt::Assume(truth) => put_line(alloc, out, names, b"assume ", truth),
         BStmt::Assert(label, truth) => put_assertion(alloc, out, names, label, truth),
         BStmt::If(truth, a, b) => {
@@ -115,10 +114,10 @@ fn put_assignment(
     i: usize,
     value: &BExpr,
 ) -> Result<(), Memory>
-    ensures { OnOk result (out.new.items ≡ out.old.items ++ text.name_at (local_names (b.locals_of names.now.locals.now)) i ++ codes " := " ++
+    ensures { OnOk result (out.new.items ≡ out.old.items ++ text.name_at (naming_of names.now).locals i ++ codes " := " ++
         text.expr_text (naming_of names.now) (b.expr_of value.now) ++ codes ";\n") }
 {
-    put_name(out, names.locals, i)?;
+    put_name(alloc, out, names, i)?;
     put_line(alloc, out, names, b" := ", value)
 }
 
@@ -130,19 +129,19 @@ fn put_change(
     indices: &[BExpr],
     value: &BExpr,
 ) -> Result<(), Memory>
-    ensures { OnOk result (out.new.items ≡ out.old.items ++ text.name_at (local_names (b.locals_of names.now.locals.now)) map ++ codes "[" ++
+    ensures { OnOk result (out.new.items ≡ out.old.items ++ text.name_at (naming_of names.now).locals map ++ codes "[" ++
         text.exprs_text (naming_of names.now) [] (b.exprs_of indices.now) ++ codes "] := " ++ text.expr_text (naming_of names.now) (b.expr_of value.now) ++ codes ";\n") }
 {
-    put_map(out, names.locals, map)?;
+    put_map(alloc, out, names, map)?;
     put_exprs(alloc, out, names, indices)?;
     put_line(alloc, out, names, b"] := ", value)
 }
 
-fn put_havoc(out: &mut Vec<u8>, locals: &[Local], i: usize) -> Result<(), Memory>
-    ensures { OnOk result (out.new.items ≡ out.old.items ++ codes "havoc " ++ text.name_at (local_names (b.locals_of locals.now)) i ++ codes ";\n") }
+fn put_havoc(alloc: Global, out: &mut Vec<u8>, names: &Naming<'_>, i: usize) -> Result<(), Memory>
+    ensures { OnOk result (out.new.items ≡ out.old.items ++ codes "havoc " ++ text.name_at (naming_of names.now).locals i ++ codes ";\n") }
 {
     put(out, b"havoc ")?;
-    put_name(out, locals, i)?;
+    put_name(alloc, out, names, i)?;
     put(out, b";\n")
 }
 

@@ -2,10 +2,9 @@ use Rattle.std.proofs.Common.{◌≡◌, ◌++◌, ◌∙◌, sym, ap, codes, []
 use Rattle.std.proofs.lemmas.Result.{on_ok_weaker}
 use Rattle.std.specs.declared.alloc.Global.{Global}
 use Rattle.std.specs.declared.vec.Vec.{Vec}
-use Rattle.boogie_tree.specs.Whole.{expr_of, exprs_of, locals_of}
+use Rattle.boogie_tree.specs.Whole.{expr_of, exprs_of}
 use Rattle.boogie_tree.specs.declared.exprs.BExpr as e
 use Rattle.boogie_tree.proofs.WholeLaws.{expr_of-At}
-use Rattle.boogie_grammar.specs.Grammar.{local_names}
 use Rattle.boogie_grammar.specs.Naming.{naming_of}
 use Rattle.boogie_grammar.specs.Printed as text
 use Rattle.boogie_grammar.specs.Printed.{expr_text, exprs_text, name_at, operator_text}
@@ -18,7 +17,7 @@ at_text x whole i v h = ap (λ y. expr_text x (expr_of y)) h ∙ ap (expr_text x
 
 pub put_expr-returns-in_ok-put_exprs-in-At : goal.put_expr-returns-in_ok-put_exprs-in-At
 put_expr-returns-in_ok-put_exprs-in-At t c =
-    on_ok_weaker c.put-in-At.result (λ h. row_steps c.args.out.now.items (name_at (local_names (locals_of c.args.names.now.locals.now)) c.in-At.i) (codes "[") (exprs_text (naming_of c.args.names.now) [] (exprs_of c.in-At.indices.items)) (codes "]")
+    on_ok_weaker c.put-in-At.result (λ h. row_steps c.args.out.now.items (name_at (naming_of c.args.names.now).locals c.in-At.i) (codes "[") (exprs_text (naming_of c.args.names.now) [] (exprs_of c.in-At.indices.items)) (codes "]")
     c.in_ok-put_map-in-At.ensures (c.in_ok-put_exprs-in-At.ensures ∙ ap (λ y. c.put_map.new.out.items ++ exprs_text (naming_of c.args.names.now) [] (exprs_of y)) c.deref-in-At.ensures.value) h
     ∙ ap (λ y. c.args.out.now.items ++ y) (sym (at_text (naming_of c.args.names.now) c.args.expr.now c.in-At.i c.in-At.indices c.in-At.is))) c.put-in-At.ensures
 
