@@ -4,7 +4,6 @@ use Rattle.std.specs.Bool.{⊤}
 use Rattle.std.proofs.Common.{◌≡◌, ◌+◌, ℕ, suc, List, [], ◌∷◌, ◌++◌, map, drop, take, length, length-append, All, None, Some, slice_get, refl, sym, ap, subst, ◌∙◌, append-nil, inl, inr, ◌⊎◌, arith}
 use Rattle.std.proofs.lemmas.List.{length-map, take-append-drop}
 use Rattle.std.proofs.lemmas.List.Elements.{All-nil, All-cons, All-head, All-tail, All-append, All-weaker}
-use Rattle.std.proofs.lemmas.Option.{same_Some}
 use Rattle.vb_base.specs.declared.labels.Label.{Label}
 use Rattle.vb_value.specs.Bound.{Bound, Bounded, Unbounded, IfBounded}
 use Rattle.vb_value.specs.Value.{default_of, IsProperValue}
@@ -25,16 +24,19 @@ use Rattle.viper_state.specs.State.{State, empty_state}
 use Rattle.viper_state.specs.Within.{IsProperOpening, IsWithinOpening, IsWithinChoice}
 use Rattle.viper_state.proofs.Paired.{All-both}
 use Rattle.viper_state.proofs.ProperLaws.{opening_proper_by, choice_proper_by}
+use Rattle.viper_meaning.specs.Asked as asked
 use Rattle.viper_meaning.specs.ComparedRuns.{is_over}
 use Rattle.viper_meaning.specs.Kept.{value, failure, blocked, over}
 use Rattle.viper_meaning.specs.KeptRuns.{KeepsRun, at_end, later}
 use Rattle.viper_meaning.specs.Run.{Run, Ran, Fails, ran, on, since}
-use Rattle.viper_meaning.specs.Units.{first_store, start_method, start_predicate, unit_run, opening_types, Opens, ViperFails}
+use Rattle.viper_meaning.specs.Units.{first_store, start_method, start_predicate, unit_run, opening_types, ViperFails}
+use Rattle.viper_meaning.proofs.AskedLaws.{unit_asks}
 use Rattle.viper_meaning.proofs.FoundLaws.{method_found, predicate_found}
 use Rattle.viper_meaning.proofs.RunBoundLaws.{small_run}
 use Rattle.viper_meaning.proofs.StatementBoundLaws.{unit_run_bounded}
 use Rattle.viper_meaning.proofs.StatementFitsLaws.{first_fits, unit_run_fits}
 use Rattle.viper_meaning.proofs.StatementKeptLaws.{proper_none}
+use Rattle.viper_meaning.proofs.TakenLaws.{passed}
 use Rattle.boogie_tree.specs.Program.{BType, Local}
 use Rattle.boogie_tree.specs.Stmt as s
 use Rattle.boogie_tree.specs.Value.{BChoice}
@@ -64,6 +66,7 @@ use Rattle.enc_stmt.proofs.FailLaws.{HasFailed, fails_so, failed_back}
 use Rattle.enc_stmt.proofs.GoingLaws.{Along, sets_along}
 use Rattle.enc_stmt.proofs.MethodLaws.{home_again}
 use Rattle.enc_stmt.proofs.OpenedLaws.{opening_read, opening_holds, start_has_zeros, start_is_typed}
+use Rattle.enc_stmt.proofs.OpeningLaws.{opened_fits}
 use Rattle.enc_stmt.proofs.ReducedLaws.{all_reduced, move_proper}
 use Rattle.enc_stmt.proofs.StartLaws.{IsStarted, starts, zeros_or_blocked, zip_length}
 use Rattle.enc_stmt.proofs.UnitHomeLaws.{get_behind, front_length, fixed_length, home_is_home}
@@ -87,6 +90,30 @@ events_kept (later all h) [] given = all
 events_kept {E = E} {C = C} (later {events = es} {next = next} all h) (c ∷ choices) given =
     subst (All E) (sym (since_events es (on (next c) choices)))
     (All-append E es (events_in (on (next c) choices)) all (events_kept (h c (All-head C c choices given)) choices (All-tail C c choices given)))
+
+-- ---- choices that a run took
+
+all_first : {X : Type 0} (P : X → Type 0) (xs ys : List X) → All P (xs ++ ys) → All P xs
+all_first P [] ys h = All-nil P
+all_first P (x ∷ xs) ys h = All-cons P x xs (All-head P x (xs ++ ys) h) (all_first P xs ys (All-tail P x (xs ++ ys) h))
+
+-- they fit, and on just those the run fails alike
+record Taken (p : Program) (i : ℕ) (o : Opening) (events : List Event) (label : Label) : Type 0 where
+  pub taken : List Choice
+  pub fit : All (FitsChoice p.layout) taken
+  pub within : All IsWithinChoice taken
+  pub fails : on (unit_run Bounded p i o) taken ≡ ran events (Fails label) []
+
+what_was_taken : (p : Program) (i : ℕ) (o : Opening) (choices : List Choice) (events : List Event) (left : List Choice) (label : Label) → All asked.IsReducedChoice choices → All IsWithinChoice choices →
+    on (unit_run Bounded p i o) choices ≡ ran events (Fails label) left → Taken p i o events label
+what_was_taken p i o choices events left label reduced within is =
+    let h = passed p.layout (unit_run Bounded p i o) (unit_asks Bounded p i o) choices events (Fails label) left is tt reduced in
+    record {
+      taken = h.0.taken;
+      fit = h.1;
+      within = all_first IsWithinChoice h.0.taken left (subst (All IsWithinChoice) h.0.split within);
+      fails = subst (λ cs. on (unit_run Bounded p i o) cs ≡ ran events (Fails label) []) (append-nil h.0.taken) (h.0.alike []);
+    }
 
 -- ---- stores
 
@@ -272,12 +299,6 @@ module _ (p : Program) (formed : IsFormed p) (u : Unit) where
     opening_types_are (unit.Predicate k) is =
         let d = unit_predicate p formed.typed.units i k is in let a : opening_types p (unit.Predicate k) ≡ Some d.predicate.params = rw (d.exists) refl in a ∙ ap Some (sym (ap types_of_predicate d.exists))
 
-    opened_fits : (o : Opening) → Opens p i o → FitsOpening p.layout (types_of p u) o
-    opened_fits o opens =
-        let same : opens.unit ≡ u = same_Some _ _ (sym opens.exists ∙ there) in
-        let types : opens.types ≡ types_of p u = same_Some _ _ (sym opens.typed ∙ (ap (opening_types p) same ∙ opening_types_are u there)) in
-        subst (λ ws. FitsOpening p.layout ws o) types opens.fits
-
     -- the values of an opening, with defaults behind them, are a start
     started_is : (bound : Bound) (o : Opening) → FitsOpening p.layout (types_of p u) o → IfBounded bound (IsWithinOpening o) → IsStart bound p formed (further_types p u) o u (started all_types (front_values o))
     started_is bound o fits within = record {
@@ -298,7 +319,7 @@ module _ (p : Program) (formed : IsFormed p) (u : Unit) where
 
     from_viper : (label : Label) → ViperFails p i label → ProcedureFails (unit_procedure p u) label
     from_viper label h =
-        let fits = opened_fits h.opening h.opens in let E : Env = started all_types (front_values h.opening) in
+        let fits = opened_fits p i h.opening u h.opens there in let E : Env = started all_types (front_values h.opening) in
         record {
           environment = E;
           is_environment = subst (λ ws. IsEnvironment ws E) (sym procedure_types) (start_is_typed p u (further_types p u) h.opening fits);
@@ -355,18 +376,18 @@ module _ (p : Program) (formed : IsFormed p) (u : Unit) where
     -- ---- the transfer
 
     pub unit_transfers : Transfers p i u
-    unit_transfers o choices events left label opens in_bound fit within is bound =
+    unit_transfers o choices events left label opens in_bound reduced within is bound =
         ap (λ (ls : List BType). brun_proc bound (unit_procedure p u) (started ls (front_values o)) (moves events)) procedure_types
-        ∙ (runs_as bound (started all_types (front_values o)) (moves events) ∙ by_bound bound)
+        ∙ (runs_as bound (started all_types (front_values o)) (moves events) ∙ by_bound bound (what_was_taken p i o choices events left label reduced within is))
       where
         fits : FitsOpening p.layout (types_of p u) o
-        fits = opened_fits o opens
+        fits = opened_fits p i o u opens there
 
-        by_bound : (bound : Bound) → brun all_types bound whole_code (started all_types (front_values o)) (moves events) ≡ Stops (r.Failed label) []
-        by_bound Bounded =
-            fails_from Bounded o choices events left label fits in_bound
-            (All-both (FitsChoice p.layout) IsWithinChoice (IsGiven Bounded p.layout) (λ c f w. record { proper = choice_proper_by Bounded p.layout c f w; fits = f }) choices fit within) is
-        by_bound Unbounded =
-            fails_from Unbounded o choices events left label fits tt
-            (All-weaker (FitsChoice p.layout) (IsGiven Unbounded p.layout) (λ c f. record { proper = choice_proper_by Unbounded p.layout c f tt; fits = f }) choices fit)
-            (sym (small_run (unit_run_bounded p i o) choices (ap is_over is)) ∙ is)
+        by_bound : (bound : Bound) → Taken p i o events label → brun all_types bound whole_code (started all_types (front_values o)) (moves events) ≡ Stops (r.Failed label) []
+        by_bound Bounded t =
+            fails_from Bounded o t.taken events [] label fits in_bound
+            (All-both (FitsChoice p.layout) IsWithinChoice (IsGiven Bounded p.layout) (λ c f w. record { proper = choice_proper_by Bounded p.layout c f w; fits = f }) t.taken t.fit t.within) t.fails
+        by_bound Unbounded t =
+            fails_from Unbounded o t.taken events [] label fits tt
+            (All-weaker (FitsChoice p.layout) (IsGiven Unbounded p.layout) (λ c f. record { proper = choice_proper_by Unbounded p.layout c f tt; fits = f }) t.taken t.fit)
+            (sym (small_run (unit_run_bounded p i o) t.taken (ap is_over t.fails)) ∙ t.fails)

@@ -25,6 +25,9 @@ pub mod UnitHomeLaws
 pub mod StartLaws
 pub mod OpenedLaws
 pub mod ReducedLaws
+pub mod FilledLaws
+pub mod NamedMaps
+pub mod OpeningLaws
 pub mod ExactLaws
 pub mod TypedStatements
 pub mod EmittedCalls
@@ -52,7 +55,10 @@ pub mod FormLaws
 pub mod RowLaws
 pub mod LayLaws
 pub mod PassLaws
+pub mod HeadLaws
 pub mod SentLaws
 pub mod NamesLaws
 pub mod UnitRowLaws
 pub mod StreamLaws
+pub mod BuildLaws
+pub mod TreeLaws

@@ -162,7 +162,7 @@ module _ (p : Program) (formed : IsFormed p) where
           let here = one_unit p formed i j a.0 c.0 a.1 c.1 (unit_is p formed i a.0 a.1) (unit_is p formed j c.0 c.1) (sym (get_mapped (unit_name p) p.units i a.0 d a.1) ∙ (same ∙ get_mapped (unit_name p) p.units j c.0 d c.1)) in
           omega (arith, below, here)
 
-  printable : IsPrintable (program_code p)
+  pub printable : IsPrintable (program_code p)
   printable = record { procs = each FitsProc (procedure_fits p formed); procs_differ = names_differ }
 
   program_typed : IsTypedProgram (program_code p)
@@ -232,8 +232,8 @@ module _ (p : Program) (formed : IsFormed p) where
     as_many = length-map p.units (unit_procedure p);
     procedures = is_procedure;
     exact = fails_alike;
-    transfers = λ n d written o choices events left label opens in_bound fit within is bound.
+    transfers = λ n d written o choices events left label opens in_bound reduced within is bound.
         let of = unit_of n d written in
         subst (λ (e : Proc). brun_proc bound e (started (b.types_of e) (front_values o)) (moves events) ≡ Stops (Failed label) []) (sym of.2)
-        (unit_transfers p formed of.0 n of.1 o choices events left label opens in_bound fit within is bound);
+        (unit_transfers p formed of.0 n of.1 o choices events left label opens in_bound reduced within is bound);
   }

@@ -107,12 +107,13 @@ module _ (p : Program) (x : Unit) (formed : IsFormed p) (code : Step → Emittin
   row_asserts_are =
       ap (λ (c : Step → Emitting Bracket). row_asserts c row (length (fixed_locals p x))) is_code ∙ ap (λ (r : List Step). row_asserts (unit_step p x) r (length (fixed_locals p x))) is_row ∙ unit_asserts p x formed
 
-  pub laid_is : (name : List ℕ) (locals : List Local) → name ≡ unit_name p x → locals ≡ (unit_procedure p x).locals → laid_text code name locals row (length (fixed_locals p x)) ≡ proc_text (unit_procedure p x)
-  laid_is name locals is_name are_locals =
+  pub laid_is : (name : List ℕ) → name ≡ unit_name p x → laid_text code name (fixed_locals p x) row ≡ proc_text (unit_procedure p x)
+  laid_is name is_name =
       let n = length (fixed_locals p x) in let names = naming (local_names (unit_procedure p x).locals) in let head = head_text (unit_name p x) (unit_procedure p x).locals in
-      ap (λ (z : List ℕ). laid_text code z locals row n) is_name ∙ ap (λ (ls : List Local). laid_text code (unit_name p x) ls row n) are_locals
-      ∙ ap (λ (c : Step → Emitting Bracket). laid_text c (unit_name p x) (unit_procedure p x).locals row n) is_code
-      ∙ ap (λ (r : List Step). laid_text (unit_step p x) (unit_name p x) (unit_procedure p x).locals r n) is_row
+      ap (λ (z : List ℕ). laid_text code z (fixed_locals p x) row) is_name
+      ∙ ap (λ (c : Step → Emitting Bracket). laid_text c (unit_name p x) (fixed_locals p x) row) is_code
+      ∙ ap (λ (r : List Step). laid_text (unit_step p x) (unit_name p x) (fixed_locals p x) r) is_row
+      ∙ ap (λ (ls : List Local). head_text (unit_name p x) ls ++ (row_text (unit_step p x) (naming (local_names ls)) (unit_row p x) n ++ end_text)) (unit_locals p x formed)
       ∙ ap (λ (z : List ℕ). head ++ (z ++ end_text)) (unit_text p x formed names)
       ∙ sym (append_assoc head (stmts_text names (unit_procedure p x).body) end_text)
 

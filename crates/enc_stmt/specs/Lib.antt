@@ -2,6 +2,7 @@ pub mod Home
 pub mod Encoding
 pub mod Runs
 pub mod Units
+pub mod Filled
 pub mod Typed
 pub mod View
 pub mod Parts
@@ -11,6 +12,8 @@ pub mod Fixed
 pub mod Numbers
 pub mod Written
 pub mod Translates
+pub mod Opened
 pub mod Rows
 pub mod Forms
+pub mod Built
 pub mod Counts

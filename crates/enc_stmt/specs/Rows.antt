@@ -1,13 +1,14 @@
 -- What a row of steps writes, one step after the other: the types of new locals, and pieces of text. Behind the statements of a
 -- step stands its bracket.
-use Rattle.std.specs.Prelude.{ℕ, ◌+◌, List, [], ◌∷◌, ◌++◌}
+use Rattle.std.specs.Prelude.{ℕ, ◌+◌, List, [], ◌∷◌, ◌++◌, length}
 use Rattle.boogie_grammar.specs.Grammar.{local_names}
-use Rattle.boogie_grammar.specs.Printed.{Naming, naming}
+use Rattle.boogie_grammar.specs.Printed.{Naming, naming, locals_text}
 use Rattle.boogie_text.specs.Asserts.{asserts_in}
 use Rattle.boogie_text.specs.Pieces as piece
 use Rattle.boogie_text.specs.Pieces.{Piece, pieces_text, head_text, end_text}
 use Rattle.boogie_tree.specs.Program.{BType, Local}
 use Rattle.enc_expr.specs.Code.{Code, Emitting}
+use Rattle.enc_expr.specs.Emits.{temporaries}
 use Rattle.enc_stmt.specs.Steps.{Step, Bracket, Nothing, If, Either, Else, End}
 
 abbrev pub bracket_pieces : Bracket → List Piece
@@ -46,6 +47,10 @@ abbrev pub row_pieces : (Step → Emitting Bracket) → List Step → ℕ → Li
 row_pieces code [] n = []
 row_pieces code (x ∷ xs) n = code_pieces (code x n) ++ row_pieces code xs (code x n).next
 
+-- a line for each local that the row declares
+abbrev pub row_lines : (Step → Emitting Bracket) → List Step → ℕ → List ℕ
+row_lines code row n = locals_text (temporaries n (row_types code row n))
+
 -- the text of a row, with these names of locals, and how many asserts it has
 abbrev pub row_text : (Step → Emitting Bracket) → Naming → List Step → ℕ → List ℕ
 row_text code names row n = pieces_text names (row_pieces code row n)
@@ -53,6 +58,14 @@ row_text code names row n = pieces_text names (row_pieces code row n)
 abbrev pub row_asserts : (Step → Emitting Bracket) → List Step → ℕ → ℕ
 row_asserts code row n = pieces_asserts (row_pieces code row n)
 
--- the text of a procedure: its head, the row behind the fixed locals, of which there are n, and its end
-abbrev pub laid_text : (Step → Emitting Bracket) → List ℕ → List Local → List Step → ℕ → List ℕ
-laid_text code name locals row n = head_text name locals ++ (row_text code (naming (local_names locals)) row n ++ end_text)
+-- all locals of a procedure: the fixed ones, and those that the row declares behind them
+abbrev pub laid_locals : (Step → Emitting Bracket) → List Local → List Step → List Local
+laid_locals code fixed row = fixed ++ temporaries (length fixed) (row_types code row (length fixed))
+
+-- what names are written in it
+abbrev pub laid_names : (Step → Emitting Bracket) → List Local → List Step → Naming
+laid_names code fixed row = naming (local_names (laid_locals code fixed row))
+
+-- the text of a procedure: its head, the row behind the fixed locals, and its end
+abbrev pub laid_text : (Step → Emitting Bracket) → List ℕ → List Local → List Step → List ℕ
+laid_text code name fixed row = head_text name (laid_locals code fixed row) ++ (row_text code (laid_names code fixed row) row (length fixed) ++ end_text)

@@ -7,9 +7,9 @@ use Rattle.viper_core.specs.Program.{Program}
 use Rattle.viper_core.specs.declared.programs.Unit.{Unit}
 use Rattle.viper_state.specs.Choice.{Choice}
 use Rattle.viper_state.specs.Event.{Event}
-use Rattle.viper_state.specs.Fits.{FitsChoice}
 use Rattle.viper_state.specs.Run.{Opening}
 use Rattle.viper_state.specs.Within.{IsWithinOpening, IsWithinChoice}
+use Rattle.viper_meaning.specs.Asked.{IsReducedChoice}
 use Rattle.viper_meaning.specs.Run.{Fails, ran, on}
 use Rattle.viper_meaning.specs.Units.{unit_run, Opens, ViperFails}
 use Rattle.boogie_tree.specs.Program.{Local, Proc, BProgram}
@@ -60,7 +60,8 @@ pub record Translates (program : Program) (bytes : List ℕ) : Type 0 where
   -- for each unit and each label, some run of the procedure fails there exactly when some run of the unit does
   pub exact : (n : ℕ) (procedure : Proc) → slice_get boogie.procs n ≡ Some procedure → (label : Label) → BoogieFails boogie procedure.name label ↔ ViperFails program n label
   -- A run of a unit within the bound that fails is one of its procedure: from the values of the opening, with defaults elsewhere, and
-  -- on the moves of what the run recorded, of which none is left. With the bound it fails so, and without it.
+  -- on the moves of what the run recorded, of which none is left. With the bound it fails so, and without it. Choices that the run
+  -- did not take need not fit.
   pub transfers : (n : ℕ) (procedure : Proc) → slice_get boogie.procs n ≡ Some procedure → (o : Opening) (choices : List Choice) (events : List Event) (left : List Choice) (label : Label) → Opens program n o →
-      IsWithinOpening o → All (FitsChoice program.layout) choices → All IsWithinChoice choices → on (unit_run Bounded program n o) choices ≡ ran events (Fails label) left →
+      IsWithinOpening o → All IsReducedChoice choices → All IsWithinChoice choices → on (unit_run Bounded program n o) choices ≡ ran events (Fails label) left →
       (bound : Bound) → brun_proc bound procedure (started (types_of procedure) (front_values o)) (moves events) ≡ Stops (Failed label) []

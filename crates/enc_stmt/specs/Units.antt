@@ -13,9 +13,9 @@ use Rattle.viper_core.specs.declared.programs.Unit.{Unit}
 use Rattle.viper_core.specs.declared.programs.Unit.TheVariants as unit
 use Rattle.viper_state.specs.Choice.{Choice}
 use Rattle.viper_state.specs.Event.{Event}
-use Rattle.viper_state.specs.Fits.{FitsChoice}
 use Rattle.viper_state.specs.Run.{Opening}
 use Rattle.viper_state.specs.Within.{IsWithinOpening, IsWithinChoice}
+use Rattle.viper_meaning.specs.Asked as asked
 use Rattle.viper_meaning.specs.Run.{Fails, ran, on}
 use Rattle.viper_meaning.specs.Units.{unit_run, Opens, ViperFails}
 use Rattle.boogie_tree.specs.Expr as t
@@ -150,7 +150,7 @@ pub record HasZeros (p : Program) (u : Unit) (E : Env) : Type 0 where
   pub mask : slice_get E (zero_mask p u) ≡ Some (Many (empty (Real none)))
   pub amount : (q : ℕ) (us : List Ty) → slice_get p.layout.keys q ≡ Some us → slice_get E (zero_mask p u + 1 + q) ≡ Some (Many (empty (Real none)))
 
--- these values, and defaults for the variables behind
+-- where a run of a procedure begins: its first variables have these values, and those behind have their defaults
 abbrev pub started : List BType → List BValue → Env
 started ts vs = vs ++ map default_value (drop (length vs) ts)
 
@@ -170,8 +170,9 @@ abbrev pub IsExact : Program → ℕ → Unit → Type 0
 IsExact p n u = (label : Label) → ProcedureFails (unit_procedure p u) label ↔ ViperFails p n label
 
 -- A run of the unit within the bound that fails is one of its procedure: from the values of the opening, with defaults elsewhere,
--- and on the moves of what the run recorded, of which none is left. With the bound it fails so, and without it.
+-- and on the moves of what the run recorded, of which none is left. With the bound it fails so, and without it. Choices that the
+-- run did not take need not fit.
 abbrev pub Transfers : Program → ℕ → Unit → Type 0
-Transfers p n u = (o : Opening) (choices : List Choice) (events : List Event) (left : List Choice) (label : Label) → Opens p n o → IsWithinOpening o → All (FitsChoice p.layout) choices → All IsWithinChoice choices →
+Transfers p n u = (o : Opening) (choices : List Choice) (events : List Event) (left : List Choice) (label : Label) → Opens p n o → IsWithinOpening o → All asked.IsReducedChoice choices → All IsWithinChoice choices →
     on (unit_run Bounded p n o) choices ≡ ran events (Fails label) left →
     (bound : Bound) → brun_proc bound (unit_procedure p u) (started (b.types_of (unit_procedure p u)) (front_values o)) (moves events) ≡ Stops (Failed label) []

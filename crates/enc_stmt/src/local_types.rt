@@ -97,6 +97,15 @@ fn add_front(alloc: Global, program: &Program, of: Unit, out: &mut Vec<BType>) -
     Ok(())
 }
 
+/// The types of the locals that an opening sets.
+pub fn front_local_types(alloc: Global, program: &Program, of: Unit) -> Result<Vec<BType>, Memory>
+    ensures { IfOk result (λ types. map type_of types.items ≡ front.front_types (program_of program.now) of) }
+{
+    let mut types = Vec::new(alloc);
+    add_front(alloc, program, of, &mut types)?;
+    Ok(types)
+}
+
 /// The types of the fixed locals of a unit.
 pub fn fixed_types(alloc: Global, program: &Program, of: Unit) -> Result<Vec<BType>, Memory>
     ensures { IfOk result (λ types. map type_of types.items ≡ local.fixed_types (program_of program.now) of) }

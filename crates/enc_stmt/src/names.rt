@@ -142,6 +142,15 @@ fn add_zeros(alloc: Global, program: &Program, out: &mut Vec<Ident>) -> Result<(
     add_predicates(alloc, b"z$", &program.predicates, out)
 }
 
+/// The names of the locals that an opening sets.
+pub fn front_names(alloc: Global, program: &Program, of: Unit) -> Result<Vec<Ident>, Memory>
+    ensures { IfOk result (λ names. names.items ≡ front.front_names (program_of program.now) of) }
+{
+    let mut names = Vec::new(alloc);
+    add_front(alloc, program, of, &mut names)?;
+    Ok(names)
+}
+
 /// The names of the fixed locals of a unit.
 pub fn fixed_names(alloc: Global, program: &Program, of: Unit) -> Result<Vec<Ident>, Memory>
     ensures { IfOk result (λ names. names.items ≡ local.fixed_names (program_of program.now) of) }

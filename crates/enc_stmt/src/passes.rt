@@ -1,4 +1,4 @@
-// The two passes over the steps of a unit: the first gathers the locals, and the second writes.
+// A pass over the steps of a unit that gathers their locals.
 ghost use Rattle.std.specs.Prelude.{◌≡◌, ◌++◌, length, map, All, OnOk};
 ghost use Rattle.enc_expr.specs.Emits.{emit_of, temporaries};
 ghost use Rattle.enc_stmt.specs.Rows.{row_types};

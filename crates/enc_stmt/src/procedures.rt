@@ -4,15 +4,14 @@ ghost use Rattle.vb_outer.specs.Faults.{HasCause, Rose};
 ghost use Rattle.vb_outer.specs.Sink.{Appends, AppendsPrefix};
 ghost use Rattle.viper_core.specs.Formed.{IsFormed};
 ghost use Rattle.viper_core.specs.View.{program_of};
-ghost use Rattle.boogie_grammar.specs.Grammar.{local_names};
-ghost use Rattle.boogie_grammar.specs.Printed.{naming, proc_text};
+ghost use Rattle.boogie_grammar.specs.Printed.{proc_text};
 ghost use Rattle.boogie_text.specs.Asserts.{asserts_in};
 ghost use Rattle.boogie_text.specs.Pieces.{head_text, end_text};
 ghost use Rattle.boogie_text.specs.declared.pieces.EmitFault.TheVariants as fault;
 ghost use Rattle.boogie_tree.specs.Whole.{locals_of};
 ghost use Rattle.enc_expr.specs.Emits.{temporaries};
 ghost use Rattle.enc_stmt.specs.Counts.{counts};
-ghost use Rattle.enc_stmt.specs.Rows.{row_types, row_text, row_asserts, laid_text};
+ghost use Rattle.enc_stmt.specs.Rows.{row_types, row_text, row_asserts, laid_locals, laid_names, laid_text};
 ghost use Rattle.enc_stmt.specs.Steps as steps;
 ghost use Rattle.enc_stmt.specs.Units.{unit_procedure};
 ghost use Rattle.enc_stmt.specs.View.{coder_of, step_of};
@@ -20,6 +19,7 @@ ghost use Rattle.enc_stmt.specs.Written.{IsStep};
 
 use crate::counts::Written;
 use crate::fixed::fixed_locals;
+use crate::heads::write_lines;
 use crate::names::unit_name;
 use crate::passes::row_locals;
 use crate::rows::unit_steps;
@@ -105,57 +105,88 @@ fn text_of_end(alloc: Global) -> Result<Vec<u8>, Memory>
     Ok(text)
 }
 
-/// Writes the steps behind the fixed locals, where these are all locals.
+/// Writes a procedure of this name up to its last local, and tells how many locals stand behind the fixed ones.
+fn write_head<S: Sink>(
+    alloc: Global,
+    writer: Writer,
+    name: &Ident,
+    row: &[Step<'_>],
+    written: &mut Written,
+    sink: &mut S,
+) -> Result<usize, EmitFault>
+    requires { All IsStep (map step_of row.now) }
+    ensures many { IfOk result (λ many. many ≡ length (row_types (coder_of writer.entry) (map step_of row.now) (length (steps.fixed_locals (program_of writer.entry.program.now) writer.entry.unit)))) }
+    ensures ok { OnOk result (Appends (S.written sink.old) (S.written sink.new)
+        (head_text name.now (laid_locals (coder_of writer.entry) (steps.fixed_locals (program_of writer.entry.program.now) writer.entry.unit) (map step_of row.now)))) }
+    ensures counts { OnOk result (written.new ≡ counts written.old
+        (length (head_text name.now (laid_locals (coder_of writer.entry) (steps.fixed_locals (program_of writer.entry.program.now) writer.entry.unit) (map step_of row.now))))
+        0) }
+    ensures front { OnErr result (AppendsPrefix (S.written sink.old) (S.written sink.new)
+        (head_text name.now (laid_locals (coder_of writer.entry) (steps.fixed_locals (program_of writer.entry.program.now) writer.entry.unit) (map step_of row.now)))) }
+    ensures failed { IsErrOf result fault.Failed → Rose (S.faults sink.old) (S.faults sink.new) }
+    ensures later { S.faults sink.old ≤ S.faults sink.new }
+{
+    let locals = fixed_locals(alloc, writer.program, writer.unit)?;
+    let fixed = locals.len();
+    let head = text_of_head(alloc, name, &locals)?;
+    write_text(&head, written, sink)?;
+    let code = Vec::new(alloc);
+    let mut out = Emit { locals, code };
+    write_lines(alloc, writer, row, &mut out, written, sink)?;
+    Ok(out.locals.len() - fixed)
+}
+
+/// Writes the steps behind the fixed locals, where they declare so many locals.
 fn write_steps<S: Sink>(
     alloc: Global,
     writer: Writer,
-    locals: &[Local],
+    many: usize,
     row: &[Step<'_>],
     written: &mut Written,
     sink: &mut S,
 ) -> Result<(), EmitFault>
-    requires { All IsStep (map step_of row.now) }
+    requires steps { All IsStep (map step_of row.now) }
+    requires many { many ≡ length (row_types (coder_of writer) (map step_of row.now) (length (steps.fixed_locals (program_of writer.program.now) writer.unit))) }
     ensures ok { OnOk result (Appends (S.written sink.old) (S.written sink.new)
-        (row_text (coder_of writer.entry) (naming (local_names (locals_of locals.now))) (map step_of row.now) (length (steps.fixed_locals (program_of writer.entry.program.now) writer.entry.unit)))) }
+        (row_text (coder_of writer.entry) (laid_names (coder_of writer.entry) (steps.fixed_locals (program_of writer.entry.program.now) writer.entry.unit) (map step_of row.now)) (map step_of row.now) (length (steps.fixed_locals (program_of writer.entry.program.now) writer.entry.unit)))) }
     ensures counts { OnOk result (written.new ≡ counts written.old
-        (length (row_text (coder_of writer.entry) (naming (local_names (locals_of locals.now))) (map step_of row.now) (length (steps.fixed_locals (program_of writer.entry.program.now) writer.entry.unit))))
+        (length (row_text (coder_of writer.entry) (laid_names (coder_of writer.entry) (steps.fixed_locals (program_of writer.entry.program.now) writer.entry.unit) (map step_of row.now)) (map step_of row.now) (length (steps.fixed_locals (program_of writer.entry.program.now) writer.entry.unit))))
         (row_asserts (coder_of writer.entry) (map step_of row.now) (length (steps.fixed_locals (program_of writer.entry.program.now) writer.entry.unit)))) }
     ensures front { OnErr result (AppendsPrefix (S.written sink.old) (S.written sink.new)
-        (row_text (coder_of writer.entry) (naming (local_names (locals_of locals.now))) (map step_of row.now) (length (steps.fixed_locals (program_of writer.entry.program.now) writer.entry.unit)))) }
+        (row_text (coder_of writer.entry) (laid_names (coder_of writer.entry) (steps.fixed_locals (program_of writer.entry.program.now) writer.entry.unit) (map step_of row.now)) (map step_of row.now) (length (steps.fixed_locals (program_of writer.entry.program.now) writer.entry.unit)))) }
     ensures failed { IsErrOf result fault.Failed → Rose (S.faults sink.old) (S.faults sink.new) }
     ensures later { S.faults sink.old ≤ S.faults sink.new }
 {
-    let names = Names::of(alloc, locals)?;
-    let own = fixed_locals(alloc, writer.program, writer.unit)?;
+    let fixed = fixed_locals(alloc, writer.program, writer.unit)?;
+    let names = Names::with_temporaries(alloc, &fixed, many)?;
+    let locals = fixed_locals(alloc, writer.program, writer.unit)?;
     let code = Vec::new(alloc);
-    let mut out = Emit { locals: own, code };
+    let mut out = Emit { locals, code };
     write_row(alloc, writer, &names, row, &mut out, written, sink)
 }
 
-/// Writes a procedure of this name, where these are all locals.
+/// Writes a procedure of this name.
 fn write_laid<S: Sink>(
     alloc: Global,
     writer: Writer,
     name: &Ident,
-    locals: &[Local],
     row: &[Step<'_>],
     written: &mut Written,
     sink: &mut S,
 ) -> Result<(), EmitFault>
     requires { All IsStep (map step_of row.now) }
     ensures ok { OnOk result (Appends (S.written sink.old) (S.written sink.new)
-        (laid_text (coder_of writer.entry) name.now (locals_of locals.now) (map step_of row.now) (length (steps.fixed_locals (program_of writer.entry.program.now) writer.entry.unit)))) }
+        (laid_text (coder_of writer.entry) name.now (steps.fixed_locals (program_of writer.entry.program.now) writer.entry.unit) (map step_of row.now))) }
     ensures counts { OnOk result (written.new ≡ counts written.old
-        (length (laid_text (coder_of writer.entry) name.now (locals_of locals.now) (map step_of row.now) (length (steps.fixed_locals (program_of writer.entry.program.now) writer.entry.unit))))
+        (length (laid_text (coder_of writer.entry) name.now (steps.fixed_locals (program_of writer.entry.program.now) writer.entry.unit) (map step_of row.now)))
         (row_asserts (coder_of writer.entry) (map step_of row.now) (length (steps.fixed_locals (program_of writer.entry.program.now) writer.entry.unit)))) }
     ensures front { OnErr result (AppendsPrefix (S.written sink.old) (S.written sink.new)
-        (laid_text (coder_of writer.entry) name.now (locals_of locals.now) (map step_of row.now) (length (steps.fixed_locals (program_of writer.entry.program.now) writer.entry.unit)))) }
+        (laid_text (coder_of writer.entry) name.now (steps.fixed_locals (program_of writer.entry.program.now) writer.entry.unit) (map step_of row.now))) }
     ensures failed { IsErrOf result fault.Failed → Rose (S.faults sink.old) (S.faults sink.new) }
     ensures later { S.faults sink.old ≤ S.faults sink.new }
 {
-    let head = text_of_head(alloc, name, locals)?;
-    write_text(&head, written, sink)?;
-    write_steps(alloc, writer, locals, row, written, sink)?;
+    let many = write_head(alloc, writer, name, row, written, sink)?;
+    write_steps(alloc, writer, many, row, written, sink)?;
     let end = text_of_end(alloc)?;
     write_text(&end, written, sink)?;
     Ok(())
@@ -178,9 +209,8 @@ fn write_over<S: Sink>(
     ensures later { S.faults sink.old ≤ S.faults sink.new }
 {
     let row = unit_steps(alloc, writer.program, writer.unit)?;
-    let locals = locals_in(alloc, writer, &row)?;
     let name = unit_name(alloc, writer.program, writer.unit)?;
-    write_laid(alloc, writer, &name, &locals, &row, written, sink)
+    write_laid(alloc, writer, &name, &row, written, sink)
 }
 
 /// Writes the procedure of a unit.

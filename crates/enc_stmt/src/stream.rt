@@ -68,8 +68,8 @@ pub fn unit_locals(alloc: Global, program: &Program, unit: u32) -> Result<Vec<Lo
     locals_of_unit(alloc, program, of)
 }
 
-/// Writes the translation of a program to a sink, statement after statement. What is held at once is the code of one step, the
-/// locals of one procedure, and the program.
+/// Writes the translation of a program to a sink, statement after statement. What is held at once is the program, the
+/// code of one step, the fixed locals of one procedure, and an empty place for each of its other locals.
 ///
 /// At Ok it has appended all of the text, and tells how much that was. At Err it has appended a front of it, which may be nothing:
 /// there was no memory for more, or the sink failed.

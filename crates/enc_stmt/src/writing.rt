@@ -12,6 +12,7 @@ ghost use Rattle.enc_stmt.specs.View.{bracket_of, coder_of, step_of};
 ghost use Rattle.enc_stmt.specs.Written.{IsStep};
 
 use crate::counts::Written;
+use crate::light::lighten;
 use crate::steps::{Bracket, Step};
 use crate::writers::Writer;
 use boogie_text::{EmitFault, Names, put_code, put_else, put_end, put_if};
@@ -42,7 +43,7 @@ fn put_bracket(
     }
 }
 
-/// The text of a step. Its code stays in `out` until the next one.
+/// The text of a step. Its code stays in `out` until the next one, and of its locals no more than how many they are.
 fn step_text(
     alloc: Global,
     writer: Writer,
@@ -56,7 +57,9 @@ fn step_text(
         (length (emit_of out.old).locals) (length (emit_of out.new).locals) written.old written.new text.items) }
 {
     out.code.clear();
+    let before = out.locals.len();
     let bracket = writer.code(alloc, step, out)?;
+    lighten(alloc, before, &mut out.locals);
     let mut text = Vec::new(alloc);
     put_code(alloc, names, &out.code, &mut text)?;
     put_bracket(alloc, names, &bracket, &mut text)?;

@@ -49,6 +49,8 @@ mod tokens;
 #[cfg(test)]
 mod told;
 #[cfg(test)]
+mod trees;
+#[cfg(test)]
 mod values;
 #[cfg(test)]
 mod words;

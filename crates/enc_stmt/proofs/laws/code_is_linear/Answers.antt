@@ -1,4 +1,4 @@
-use Rattle.std.proofs.Common.{◌≤◌, ◌+◌, arith}
+use Rattle.std.proofs.Common.{arith}
 use Rattle.enc_stmt.proofs.SmallStatements.{stmt_small, block_small}
 use Rattle.enc_stmt.proofs.laws.code_is_linear.Goals as goal
 

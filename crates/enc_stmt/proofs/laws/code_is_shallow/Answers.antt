@@ -1,4 +1,4 @@
-use Rattle.std.proofs.Common.{◌≤◌, ◌+◌, arith}
+use Rattle.std.proofs.Common.{arith}
 use Rattle.enc_stmt.proofs.ShallowStatements.{block_low}
 use Rattle.enc_stmt.proofs.ShallowUnits.{folds_low, unfolds_low}
 use Rattle.enc_stmt.proofs.laws.code_is_shallow.Goals as goal

@@ -3,29 +3,21 @@ use Rattle.vb_outer.specs.Sink.{Appends, AppendsPrefix}
 use Rattle.viper_core.specs.View.{program_of}
 use Rattle.boogie_grammar.specs.Printed.{proc_text}
 use Rattle.boogie_text.specs.Asserts.{asserts_in}
-use Rattle.boogie_tree.specs.Whole.{locals_of}
 use Rattle.enc_stmt.specs.Counts.{counts}
 use Rattle.enc_stmt.specs.Rows.{laid_text}
 use Rattle.enc_stmt.specs.Steps.{fixed_locals}
 use Rattle.enc_stmt.specs.Units.{unit_procedure}
 use Rattle.enc_stmt.specs.View.{coder_of, step_of}
 use Rattle.enc_stmt.proofs.SentLaws.{nothing_sent}
-use Rattle.enc_stmt.proofs.UnitRowLaws.{row_steps, row_locals, row_asserts_are, laid_is}
+use Rattle.enc_stmt.proofs.UnitRowLaws.{row_steps, row_asserts_are, laid_is}
 use Rattle.enc_stmt.proofs.procedures.write_over.Goals as goal
-
-pub locals_in-requires : goal.locals_in-requires
-locals_in-requires g c =
-    row_steps (program_of c.args.writer.program.now) c.args.writer.unit c.requires.formed (coder_of c.args.writer) c.requires.code (map step_of c.deref.result.now) (ap (map step_of) c.deref.ensures.value ∙ c.in_ok-row.ensures)
 
 pub write_laid-requires : goal.write_laid-requires
 write_laid-requires g c =
-    row_steps (program_of c.args.writer.program.now) c.args.writer.unit c.requires.formed (coder_of c.args.writer) c.requires.code (map step_of c.deref-3.result.now) (ap (map step_of) c.deref-3.ensures.value ∙ c.in_ok-row.ensures)
+    row_steps (program_of c.args.writer.program.now) c.args.writer.unit c.requires.formed (coder_of c.args.writer) c.requires.code (map step_of c.deref.result.now) (ap (map step_of) c.deref.ensures.value ∙ c.in_ok-row.ensures)
 
 pub returns-in_err-row-clause-front : goal.returns-in_err-row-clause-front
 returns-in_err-row-clause-front g c = nothing_sent c.from_residual.result (g.S.Sink.written c.args.sink.now) _
-
-pub returns-in_err-locals-clause-front : goal.returns-in_err-locals-clause-front
-returns-in_err-locals-clause-front g c = nothing_sent c.from_residual-in_err-locals.result (g.S.Sink.written c.args.sink.now) _
 
 pub returns-in_err-name-clause-front : goal.returns-in_err-name-clause-front
 returns-in_err-name-clause-front g c = nothing_sent c.from_residual-in_err-name.result (g.S.Sink.written c.args.sink.now) _
@@ -34,17 +26,13 @@ pub returns : goal.returns
 returns g c =
     let p = program_of c.args.writer.program.now in let x = c.args.writer.unit in let code = coder_of c.args.writer in
     let before = g.S.Sink.written c.args.sink.now in let now = g.S.Sink.written c.write_laid.new.sink in
-    let first_row : map step_of c.deref.result.now ≡ _ = ap (map step_of) c.deref.ensures.value ∙ c.in_ok-row.ensures in
-    let row = map step_of c.deref-3.result.now in let is_row = ap (map step_of) c.deref-3.ensures.value ∙ c.in_ok-row.ensures in
-    let locals = locals_of c.deref-2.result.now in
-    let are_locals : locals ≡ (unit_procedure p x).locals =
-    ap locals_of c.deref-2.ensures.value ∙ c.in_ok-locals.ensures ∙ row_locals p x c.requires.formed code c.requires.code (map step_of c.deref.result.now) first_row in
-    let text : laid_text code c.in_ok-name.name locals row (length (fixed_locals p x)) ≡ proc_text (unit_procedure p x) = laid_is p x c.requires.formed code c.requires.code row is_row c.in_ok-name.name locals c.in_ok-name.ensures are_locals in
+    let row = map step_of c.deref.result.now in let is_row = ap (map step_of) c.deref.ensures.value ∙ c.in_ok-row.ensures in
+    let text : laid_text code c.in_ok-name.name (fixed_locals p x) row ≡ proc_text (unit_procedure p x) = laid_is p x c.requires.formed code c.requires.code row is_row c.in_ok-name.name c.in_ok-name.ensures in
     let asserts = row_asserts_are p x c.requires.formed code c.requires.code row is_row in
     record {
       ok = subst (λ (z : List ℕ). OnOk c.write_laid.result (Appends before now z)) text c.write_laid.ensures.ok;
       counts = subst (λ (z : List ℕ). OnOk c.write_laid.result (c.write_laid.new.written ≡ counts c.args.written.now (length z) (asserts_in (unit_procedure p x).body))) text
-          (subst (λ (n : ℕ). OnOk c.write_laid.result (c.write_laid.new.written ≡ counts c.args.written.now (length (laid_text code c.in_ok-name.name locals row (length (fixed_locals p x)))) n)) asserts c.write_laid.ensures.counts);
+          (subst (λ (n : ℕ). OnOk c.write_laid.result (c.write_laid.new.written ≡ counts c.args.written.now (length (laid_text code c.in_ok-name.name (fixed_locals p x) row)) n)) asserts c.write_laid.ensures.counts);
       front = subst (λ (z : List ℕ). OnErr c.write_laid.result (AppendsPrefix before now z)) text c.write_laid.ensures.front;
       failed = c.write_laid.ensures.failed;
       later = c.write_laid.ensures.later;
