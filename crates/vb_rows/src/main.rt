@@ -4,6 +4,7 @@
 //! table is written.
 #![tactic(auto)]
 
+mod again;
 mod fault;
 mod row;
 mod table;

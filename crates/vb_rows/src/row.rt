@@ -64,13 +64,7 @@ impl Row {
     pub fn new(alloc: Global, name: &str) -> Result<Row, AllocError> {
         Ok(Row {
             name: name.to_string(alloc)?,
-            call: Call {
-                words: words_of(alloc, "translate file.vpr")?,
-                files: Vec::new(alloc),
-                shelf: Device::new(alloc),
-                out: Device::new(alloc),
-                err: Device::new(alloc),
-            },
+            call: Call::new(alloc, "translate file.vpr", Vec::new(alloc))?,
             end: End::new(alloc),
         })
     }
@@ -91,6 +85,17 @@ impl Row {
 }
 
 impl Call {
+    /// A call of these words over these files, whose devices do not fail.
+    pub fn new(alloc: Global, words: &str, files: Vec<MemFile>) -> Result<Call, AllocError> {
+        Ok(Call {
+            words: words_of(alloc, words)?,
+            files,
+            shelf: Device::new(alloc),
+            out: Device::new(alloc),
+            err: Device::new(alloc),
+        })
+    }
+
     /// Takes what a line says of a device: which calls fail, or how many bytes a call moves.
     pub fn take(&mut self, device: &str, what: &str, rest: &str) -> Result<(), Fault> {
         match device {

@@ -3,6 +3,7 @@ ghost use Rattle.std.specs.Prelude.{◌≡◌, map, IsTrue, is_some};
 ghost use Rattle.vb_outer.specs.MemShelf.{file_named, names_differ};
 ghost use Rattle.vb_outer.specs.Place.{held};
 
+use crate::again::{FAILED, ends_otherwise, file_of_run};
 use crate::fault::Fault;
 use crate::row::{Call, End, Row};
 use std::alloc::Global;
@@ -12,17 +13,28 @@ use vb_tool::tool;
 
 /// How a call ended: its status, and what stands in the sinks.
 #[derive(Drop)]
-struct Ended {
-    status: u8,
-    out: MemSink,
-    err: MemSink,
+pub struct Ended {
+    pub status: u8,
+    pub out: MemSink,
+    pub err: MemSink,
 }
 
-/// Runs a row, and prints what came where it ends otherwise than it says.
+/// How a row ended, and how its run ended as one of Boogie, where that is otherwise.
+#[derive(Drop)]
+struct Tried {
+    ended: Ended,
+    again: Option<Ended>,
+}
+
+/// Runs a row, and prints what came where it ends otherwise than it says. A run that failed is translated and replayed as well.
 pub fn ends_as_said(rt: &impl Print, alloc: Global, row: Row) -> io::Result<bool> {
+    let file = file_of_run(alloc, &row);
     let Row { name, call, end } = row;
-    match end_of(alloc, call) {
-        Ok(ended) => told(rt, name.as_str(), &end, &ended),
+    match attempted(alloc, call, file) {
+        Ok(Tried { ended, again }) => {
+            let as_said = told(rt, name.as_str(), &end, &ended)?;
+            Ok(told_again(rt, name.as_str(), again)? && as_said)
+        }
         Err(fault) => {
             println!(rt; "{name}: {fault}")?;
             Ok(false)
@@ -30,7 +42,21 @@ pub fn ends_as_said(rt: &impl Print, alloc: Global, row: Row) -> io::Result<bool
     }
 }
 
-fn end_of(alloc: Global, call: Call) -> Result<Ended, Fault> {
+fn attempted(
+    alloc: Global,
+    call: Call,
+    file: Result<Option<MemFile>, Fault>,
+) -> Result<Tried, Fault> {
+    let ended = end_of(alloc, call)?;
+    let again = match file? {
+        Some(file) if ended.status == FAILED => ends_otherwise(alloc, file, ended.out.written())?,
+        _ => None,
+    };
+    Ok(Tried { ended, again })
+}
+
+/// Runs a call.
+pub fn end_of(alloc: Global, call: Call) -> Result<Ended, Fault> {
     let Call {
         words,
         files,
@@ -84,6 +110,23 @@ fn told(rt: &impl Print, name: &str, end: &End, ended: &Ended) -> io::Result<boo
         as_said = false;
     }
     Ok(as_said)
+}
+
+/// Prints what came where a run that failed does not fail again.
+fn told_again(rt: &impl Print, name: &str, again: Option<Ended>) -> io::Result<bool> {
+    let Some(replayed) = again else {
+        return Ok(true);
+    };
+    println!(rt; "{name}: replayed, the status is {}", replayed.status)?;
+    println!(rt;
+        "{name}: replayed, on out stands {}",
+        shown(replayed.out.written())
+    )?;
+    println!(rt;
+        "{name}: replayed, on err stands {}",
+        shown(replayed.err.written())
+    )?;
+    Ok(false)
 }
 
 fn is_out_as_said(end: &End, out: &[u8]) -> bool {

@@ -1,6 +1,7 @@
 -- Files have one answer, so which status comes where a cause stands follows from the causes.
-use Rattle.std.proofs.Common.{◌≡◌, ◌∙◌, inl, inr, ◌<◌, ◌≤◌, ℕ, List, [], ◌∷◌, length, Option, Some, None, refl, sym, ap, subst, arith}
+use Rattle.std.proofs.Common.{◌≡◌, ◌∙◌, inl, inr, ◌<◌, ◌≤◌, ℕ, List, [], ◌∷◌, length, Option, Some, None, slice_get, refl, sym, ap, subst, arith}
 use Rattle.std.specs.Str.Parse.{digits_value}
+use Rattle.vb_base.specs.declared.labels.Label.{Label}
 use Rattle.vb_gen.specs.Generated.{IsOutOfRange}
 use Rattle.vb_outer.specs.Shelf.{Files, IsFile, IsMissing, IsWhole}
 use Rattle.vb_outer.specs.Sink.{Appends}
@@ -8,6 +9,7 @@ use Rattle.boogie_run.specs.Start.{outcome_of}
 use Rattle.boogie_run.specs.declared.replaying.BOutcome.{BOutcome}
 use Rattle.enc_stmt.specs.Translates.{text_of}
 use Rattle.viper_core.specs.Program as p
+use Rattle.viper_core.specs.declared.programs.Unit.{Unit}
 use Rattle.vb_tool.proofs.BoogieVerdicts.{one_replay_refusal, replay_not_refused, one_procedure_run}
 use Rattle.vb_tool.proofs.CallLaws.{IsOutcome, does_end}
 use Rattle.vb_tool.proofs.RunVerdicts.{one_run_refusal, run_not_refused, one_unit_run}
@@ -24,6 +26,7 @@ use Rattle.vb_tool.specs.Outcome.{run_status, run_text}
 use Rattle.vb_tool.specs.Procedures.{ProcedureRun, procedure_end}
 use Rattle.vb_tool.specs.ReplayOutcome.{replay_status, replay_text}
 use Rattle.vb_tool.specs.Summary.{made_text}
+use Rattle.vb_tool.specs.Transfer.{IsTransfer}
 use Rattle.vb_tool.specs.Units.{UnitRun, end_of}
 use Rattle.vb_tool.specs.declared.status.Refusal.{Refusal}
 use Rattle.vb_tool.specs.declared.status.Refusal.TheVariants as refusal
@@ -91,6 +94,10 @@ same_replay {a} {d = d} {u = u} same also is = subst (λ x. AcceptsReplay a x u)
 same_program : {a b : List ℕ} {q : p.Program} → a ≡ b → IsAccepted b q → IsAccepted a q
 same_program {q = q} same is = subst (λ x. IsAccepted x q) (sym same) is
 
+one_unit : {v w : UnitRun} {a b : Unit} → v ≡ w → slice_get v.program.units v.unit ≡ Some a → slice_get w.program.units w.unit ≡ Some b → a ≡ b
+one_unit {a = a} {b = b} same is other =
+    let e : Some a ≡ Some b = sym is ∙ ap (λ (y : UnitRun). slice_get y.program.units y.unit) same ∙ other in cc
+
 one_outcome : {v w : ProcedureRun} {o x : BOutcome} → v ≡ w → outcome_of (procedure_end v) ≡ Some o → outcome_of (procedure_end w) ≡ Some x → o ≡ x
 one_outcome {o = o} {x = x} same ends other =
     let e : Some o ≡ Some x = sym ends ∙ ap (λ y. outcome_of (procedure_end y)) same ∙ other in cc
@@ -116,8 +123,8 @@ module _ {Has Had : List ℕ → List ℕ → Type 0} (same : (name a b : List �
 
   does_not_refuse : {command : Command} {r : Refusal} {s : Status} {text : List ℕ} → Does Has command s text → Refuses Had command r → ⊥
   does_not_refuse {r = r} (translated {file = f} a is accepts) (translates b also denied) = accepted_not_refused accepts (subst (λ x. IsRefusal x r) (sym (same f a b is also)) denied)
-  does_not_refuse (ran {file = f} a b is run_is accepts) (too_long c also above) = omega (arith, above, accepts.accepted.small, ap length (same f a c is also))
-  does_not_refuse (ran {file = f} {run_file = g} a b is run_is accepts) (runs c d also run_also denied) =
+  does_not_refuse (ran {file = f} a b is run_is accepts there) (too_long c also above) = omega (arith, above, accepts.accepted.small, ap length (same f a c is also))
+  does_not_refuse (ran {file = f} {run_file = g} a b is run_is accepts there) (runs c d also run_also denied) =
       run_not_refused accepts (same_run_refusal (same f a c is also) (same g b d run_is run_also) denied)
   does_not_refuse (replayed {file = f} a b is run_is accepts ends) (replay_too_long c also above) = omega (arith, above, accepts.accepted.small, ap length (same f a c is also))
   does_not_refuse (replayed {file = f} {run_file = g} a b is run_is accepts ends) (replays c d also run_also denied) =
@@ -126,8 +133,8 @@ module _ {Has Had : List ℕ → List ℕ → Type 0} (same : (name a b : List �
 
   refuses_not_does : {command : Command} {r : Refusal} {s : Status} {text : List ℕ} → Refuses Has command r → Does Had command s text → ⊥
   refuses_not_does {r = r} (translates {file = f} a is denied) (translated b also accepts) = accepted_not_refused accepts (subst (λ x. IsRefusal x r) (same f a b is also) denied)
-  refuses_not_does (too_long {file = f} a is above) (ran b c also run_also accepts) = omega (arith, above, accepts.accepted.small, ap length (same f a b is also))
-  refuses_not_does (runs {file = f} {run_file = g} a b is run_is denied) (ran c d also run_also accepts) =
+  refuses_not_does (too_long {file = f} a is above) (ran b c also run_also accepts there) = omega (arith, above, accepts.accepted.small, ap length (same f a b is also))
+  refuses_not_does (runs {file = f} {run_file = g} a b is run_is denied) (ran c d also run_also accepts there) =
       run_not_refused accepts (same_run_refusal (sym (same f a c is also)) (sym (same g b d run_is run_also)) denied)
   refuses_not_does (replay_too_long {file = f} a is above) (replayed b c also run_also accepts ends) = omega (arith, above, accepts.accepted.small, ap length (same f a b is also))
   refuses_not_does (replays {file = f} {run_file = g} a b is run_is denied) (replayed c d also run_also accepts ends) =
@@ -136,9 +143,9 @@ module _ {Has Had : List ℕ → List ℕ → Type 0} (same : (name a b : List �
 
   does_one : {command : Command} {s t : Status} {text other : List ℕ} → Does Has command s text → Does Had command t other → (s ≡ t) × (text ≡ other)
   does_one (translated {file = f} a is accepts) (translated b also others) = (refl, ap text_of (one_accepted accepts (same_program (same f a b is also) others)))
-  does_one (ran {file = f} {run_file = g} a b is run_is accepts) (ran c d also run_also others) =
+  does_one (ran {file = f} {run_file = g} {w = w} a b is run_is accepts there) (ran {u = v} c d also run_also others also_there) =
       let e = one_unit_run accepts (same_run (same f a c is also) (same g b d run_is run_also) others) in
-      (ap (λ x. run_status (end_of x)) e, ap (λ x. run_text (end_of x)) e)
+      (ap (λ x. run_status (end_of x)) e, ap (λ x. run_text x.program w x.run.opening (end_of x)) e ∙ ap (λ x. run_text v.program x v.run.opening (end_of v)) (one_unit e there also_there))
   does_one (replayed {file = f} {run_file = g} a b is run_is accepts ends) (replayed c d also run_also others end) =
       let e = one_outcome (one_procedure_run accepts (same_replay (same f a c is also) (same g b d run_is run_also) others)) ends end in
       (ap replay_status e, ap replay_text e)
@@ -177,7 +184,7 @@ module _ {files : Option Files} where
 
   misses_not_done : {command : Command} {s : Status} {text : List ℕ} → Misses files command → Does (IsWhole files) command s text → ⊥
   misses_not_done misses (translated bytes is accepts) = misses_one bytes is misses
-  misses_not_done misses (ran bytes run_bytes is run_is accepts) = misses_two bytes run_bytes is run_is misses
+  misses_not_done misses (ran bytes run_bytes is run_is accepts there) = misses_two bytes run_bytes is run_is misses
   misses_not_done misses (replayed bytes run_bytes is run_is accepts ends) = misses_two bytes run_bytes is run_is misses
   misses_not_done misses (made some few accepts) = misses_none misses
 
@@ -212,6 +219,13 @@ module _ (words : List (List ℕ)) (files : Option Files) where
     written status.ReadFault out same = no_outcome (λ h. elim h [ ]) (does_end does) same
     written status.WriteFault out same = no_outcome (λ h. elim h [ ]) (does_end does) same
     written status.NoMemory out same = no_outcome (λ h. elim h [ ]) (does_end does) same
+
+  -- what is written of a run that failed ends with a run of Boogie that fails again
+  pub transfer_comes : (before now : Option (List ℕ)) (s : Status) → OutAfter before now (HasDone words files) s → (file unit run_file : List ℕ) (label : Label) →
+      Asks words (Run file unit run_file) → s ≡ status.Failed label → (text : List ℕ) × IsTransfer (IsWhole files) file unit run_file label text × Appends before now text
+  transfer_comes before now s out file unit run_file label asks is =
+      let written = subst (OutAfter before now (HasDone words files)) is out in
+      (written.0, written.1.transfers file unit run_file label (asked_once written.1.asked asks) refl, written.2)
 
   module _ (before now : ℕ) where
     -- what follows from each cause follows from the causes

@@ -246,7 +246,7 @@ defaults_are : (ls : List Local) → map (λ (l : Local). unset l.ty) ls ≡ map
 defaults_are [] = refl
 defaults_are (l ∷ ls) = let first = unset_is l.ty.keys l.ty.base in let rest = defaults_are ls in λ i. first i ∷ rest i
 
-settings_are : (ss : List BSetting) (env : List BValue) → fold (λ env (s : BSetting). slice_set env s.var s.value) env ss ≡ with_settings env ss
+pub settings_are : (ss : List BSetting) (env : List BValue) → fold (λ env (s : BSetting). slice_set env s.var s.value) env ss ≡ with_settings env ss
 settings_are [] env = refl
 settings_are (s ∷ ss) env = settings_are ss (slice_set env s.var s.value)
 

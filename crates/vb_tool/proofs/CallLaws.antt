@@ -18,7 +18,7 @@ use Rattle.vb_tool.specs.Accepted as accepted
 use Rattle.vb_tool.specs.Accepted.{IsAccepted}
 use Rattle.vb_tool.specs.AcceptedReplay as replay
 use Rattle.vb_tool.specs.Call as call
-use Rattle.vb_tool.specs.Call.{MissesOf, NamesFile, Refuses, Does, HasDone, IsCause, OutAfter, ErrAfter, Causes}
+use Rattle.vb_tool.specs.Call.{MissesOf, NamesFile, Refuses, Does, WritesTransfer, HasDone, IsCause, OutAfter, ErrAfter, Causes}
 use Rattle.vb_tool.specs.Command.{Command, Translate, Run, Replay, Make, Asks, files_of}
 use Rattle.vb_tool.specs.Converted.{trouble_of_file}
 use Rattle.vb_tool.specs.Outcome.{status_of, run_status}
@@ -26,6 +26,7 @@ use Rattle.vb_tool.specs.Parts as parts
 use Rattle.vb_tool.specs.Parts.{command_of, Reports, Delivers, OutcomeOf, ReplayOf, SummaryOf}
 use Rattle.vb_tool.specs.ReplayOutcome.{replay_status}
 use Rattle.vb_tool.specs.Status.{line_of}
+use Rattle.vb_tool.specs.Transfer.{IsTransfer}
 use Rattle.vb_tool.specs.Units.{end_of}
 use Rattle.vb_tool.specs.declared.status.Refusal.{Refusal}
 use Rattle.vb_tool.specs.declared.status.Refusal.TheVariants as refusal
@@ -119,12 +120,35 @@ run_does : (files : Option Files) (file unit run_file bytes run_bytes text : Lis
     OutcomeOf bytes unit run_bytes s text → Does (IsWhole files) (Run file unit run_file) s text
 run_does files file unit run_file bytes run_bytes text s whole run_whole o =
     let Deed : Status → List ℕ → Type 0 = Does (IsWhole files) (Run file unit run_file) in
-    subst (λ x. Deed x text) (sym o.status_is) (subst (Deed (run_status (end_of o.run))) (sym o.text_is) (call.ran bytes run_bytes whole run_whole o.accepted))
+    subst (λ x. Deed x text) (sym o.status_is) (subst (Deed (run_status (end_of o.run))) (sym o.text_is) (call.ran bytes run_bytes whole run_whole o.accepted o.exists))
 
 pub run_result_does : (files : Option Files) (file unit run_file bytes run_bytes : List ℕ) (result : Result Ending Trouble) → IsWhole files file bytes → IsWhole files run_file run_bytes →
     IfOk result (λ t. OutcomeOf bytes unit run_bytes t.status t.text.items) → IfOk result (λ t. Does (IsWhole files) (Run file unit run_file) t.status t.text.items)
 run_result_does files file unit run_file bytes run_bytes (Ok t) whole run_whole o = run_does files file unit run_file bytes run_bytes t.text.items t.status whole run_whole o
 run_result_does files file unit run_file bytes run_bytes (Err e) whole run_whole o = o
+
+-- where it failed, a run of Boogie stands in the text
+run_transfers : (files : Option Files) (file unit run_file bytes run_bytes text : List ℕ) (s : Status) → IsWhole files file bytes → IsWhole files run_file run_bytes →
+    OutcomeOf bytes unit run_bytes s text → WritesTransfer (IsWhole files) (Run file unit run_file) s text
+run_transfers files file unit run_file bytes run_bytes text s whole run_whole o f t r label same failed =
+    let e : file ≡ f = cc in let d : unit ≡ t = cc in let k : run_file ≡ r = cc in
+    subst (λ x. IsTransfer (IsWhole files) x t r label text) e (subst (λ x. IsTransfer (IsWhole files) file x r label text) d (subst (λ x. IsTransfer (IsWhole files) file unit x label text) k
+    (record { bytes = bytes; run_bytes = run_bytes; is = whole; run_is = run_whole; run = o.run; accepted = o.accepted; transferred = o.transferred label failed })))
+
+pub run_result_transfers : (files : Option Files) (file unit run_file bytes run_bytes : List ℕ) (result : Result Ending Trouble) → IsWhole files file bytes → IsWhole files run_file run_bytes →
+    IfOk result (λ t. OutcomeOf bytes unit run_bytes t.status t.text.items) → IfOk result (λ t. WritesTransfer (IsWhole files) (Run file unit run_file) t.status t.text.items)
+run_result_transfers files file unit run_file bytes run_bytes (Ok t) whole run_whole o = run_transfers files file unit run_file bytes run_bytes t.text.items t.status whole run_whole o
+run_result_transfers files file unit run_file bytes run_bytes (Err e) whole run_whole o = o
+
+-- no other command runs a unit
+pub translation_transfers : {Has : List ℕ → List ℕ → Type 0} {file : List ℕ} {s : Status} {text : List ℕ} → WritesTransfer Has (Translate file) s text
+translation_transfers f t r label same failed = absurd (cc)
+
+pub replay_transfers : {Has : List ℕ → List ℕ → Type 0} {file run_file : List ℕ} {s : Status} {text : List ℕ} → WritesTransfer Has (Replay file run_file) s text
+replay_transfers f t r label same failed = absurd (cc)
+
+pub making_transfers : {Has : List ℕ → List ℕ → Type 0} {n : ℕ} {s : Status} {text : List ℕ} → WritesTransfer Has (Make n) s text
+making_transfers f t r label same failed = absurd (cc)
 
 replay_does : (files : Option Files) (file run_file bytes run_bytes text : List ℕ) (s : Status) → IsWhole files file bytes → IsWhole files run_file run_bytes →
     ReplayOf bytes run_bytes s text → Does (IsWhole files) (Replay file run_file) s text
@@ -152,8 +176,8 @@ pub summary_refused : (files : Option Files) (n : ℕ) (r : Refusal) → (refusa
 summary_refused files n r why = subst (Refuses (IsWhole files) (Make n)) why.0 (call.makes why.1)
 
 pub has_done : {words : List (List ℕ)} {files : Option Files} {command : Command} {s : Status} {text : List ℕ} → Asks words command → Does (IsWhole files) command s text →
-    HasDone words files s text
-has_done {command = c} asks does = record { command = c; asked = asks; does = does }
+    WritesTransfer (IsWhole files) command s text → HasDone words files s text
+has_done {command = c} asks does transfers = record { command = c; asked = asks; does = does; transfers = transfers }
 
 -- ---- what a status that was reported comes to
 
@@ -227,7 +251,7 @@ replay_done boogie.Over = over
 
 pub does_end : {Has : List ℕ → List ℕ → Type 0} {command : Command} {s : Status} {text : List ℕ} → Does Has command s text → IsOutcome s
 does_end (call.translated bytes is accepts) = done
-does_end (call.ran {u = u} bytes run_bytes is run_is accepts) = run_done (end_of u)
+does_end (call.ran {u = u} bytes run_bytes is run_is accepts there) = run_done (end_of u)
 does_end (call.replayed {o = o} bytes run_bytes is run_is accepts ends) = replay_done o
 does_end (call.made some few accepts) = done
 

@@ -1,7 +1,11 @@
 pub mod Verdicts
 pub mod RunOfUnits
+pub mod VerifiedLaws
 pub mod UnitNames
 pub mod RunVerdicts
+pub mod AgainLaws
+pub mod MovedLaws
+pub mod TransferLaws
 pub mod RunStages
 pub mod BoogieRunLaws
 pub mod BoogieVerdicts

@@ -86,7 +86,7 @@ body_among n [] i k is = absurd (cc)
 body_among n (d ∷ ds) i k is =
     within_more n k (length ds) (with_body_from (n + 1) ds) (λ j e. body_among (n + 1) ds j k e) (first_or_later n k d.body (with_body_from (n + 1) ds) i is)
 
-there_is : {X : Type 0} (xs : List X) (k : ℕ) → k < length xs → (x : X) × (slice_get xs k ≡ Some x)
+pub there_is : {X : Type 0} (xs : List X) (k : ℕ) → k < length xs → (x : X) × (slice_get xs k ≡ Some x)
 there_is [] k h = absurd (omega (arith, h))
 there_is (x ∷ xs) zero h = (x, refl)
 there_is (x ∷ xs) (suc k) h = there_is xs k (omega (arith, h))

@@ -1,11 +1,13 @@
 -- What a call of the tool does: when each status comes, and what stands in the sinks afterwards.
-use Rattle.std.specs.Prelude.{⊤, ◌≡◌, ◌⊎◌, ◌<◌, ◌≤◌, ℕ, List, ◌∷◌, length, Option, Some, Contains}
+use Rattle.std.specs.Prelude.{⊤, ◌≡◌, ◌⊎◌, ◌<◌, ◌≤◌, ℕ, List, ◌∷◌, length, Option, Some, slice_get, Contains}
 use Rattle.vb_base.specs.Limits.{max_viper_bytes, max_boogie_bytes, max_made_methods}
 use Rattle.vb_gen.specs.Generated.{program_text, IsOutOfRange}
 use Rattle.vb_outer.specs.Faults.{Rose}
 use Rattle.vb_outer.specs.Shelf.{Files, IsMissing, IsFile, IsWhole}
 use Rattle.vb_outer.specs.Sink.{Appends, AppendsPrefix}
+use Rattle.vb_base.specs.declared.labels.Label.{Label}
 use Rattle.viper_core.specs.Program as p
+use Rattle.viper_core.specs.declared.programs.Unit.{Unit}
 use Rattle.boogie_run.specs.Start.{outcome_of}
 use Rattle.boogie_run.specs.declared.replaying.BOutcome.{BOutcome}
 use Rattle.enc_stmt.specs.Translates.{text_of}
@@ -17,6 +19,7 @@ use Rattle.vb_tool.specs.Procedures.{ProcedureRun, procedure_end}
 use Rattle.vb_tool.specs.ReplayOutcome.{replay_status, replay_text}
 use Rattle.vb_tool.specs.Status.{line_of}
 use Rattle.vb_tool.specs.Summary.{made_text}
+use Rattle.vb_tool.specs.Transfer.{IsTransfer}
 use Rattle.vb_tool.specs.Units.{UnitRun, end_of}
 use Rattle.vb_tool.specs.declared.status.Refusal.{Refusal}
 use Rattle.vb_tool.specs.declared.status.Refusal.TheVariants.{Size, Range}
@@ -55,11 +58,16 @@ pub data Refuses (Has : List ℕ → List ℕ → Type 0) : Command → Refusal 
 -- it is accepted, ends with this status and writes this text
 pub data Does (Has : List ℕ → List ℕ → Type 0) : Command → Status → List ℕ → Type 0 where
   translated : {file : List ℕ} {program : p.Program} (bytes : List ℕ) → Has file bytes → IsAccepted bytes program → Does Has (Translate file) Done (text_of program)
-  ran : {file unit run_file : List ℕ} {u : UnitRun} (bytes run_bytes : List ℕ) → Has file bytes → Has run_file run_bytes → AcceptsRun bytes unit run_bytes u →
-      Does Has (Run file unit run_file) (run_status (end_of u)) (run_text (end_of u))
+  ran : {file unit run_file : List ℕ} {u : UnitRun} {w : Unit} (bytes run_bytes : List ℕ) → Has file bytes → Has run_file run_bytes → AcceptsRun bytes unit run_bytes u →
+      slice_get u.program.units u.unit ≡ Some w → Does Has (Run file unit run_file) (run_status (end_of u)) (run_text u.program w u.run.opening (end_of u))
   replayed : {file run_file : List ℕ} {u : ProcedureRun} {o : BOutcome} (bytes run_bytes : List ℕ) → Has file bytes → Has run_file run_bytes → AcceptsReplay bytes run_bytes u →
       outcome_of (procedure_end u) ≡ Some o → Does Has (Replay file run_file) (replay_status o) (replay_text o)
   made : {n : ℕ} {program : p.Program} → 1 ≤ n → n ≤ max_made_methods → IsAccepted (program_text n) program → Does Has (Make n) Done (made_text n program)
+
+-- where a run of a unit failed, what is written ends with a run of Boogie that fails again
+abbrev pub WritesTransfer : (List ℕ → List ℕ → Type 0) → Command → Status → List ℕ → Type 0
+WritesTransfer Has command status text = (file unit run_file : List ℕ) (label : Label) → command ≡ Run file unit run_file → status ≡ Failed label →
+    IsTransfer Has file unit run_file label text
 
 -- The command that the words ask for does this. The bytes are those of its files; where the shelf does not tell its files, they
 -- are any bytes.
@@ -67,6 +75,7 @@ pub record HasDone (words : List (List ℕ)) (files : Option Files) (status : St
   pub command : Command
   pub asked : Asks words command
   pub does : Does (IsWhole files) command status text
+  pub transfers : WritesTransfer (IsWhole files) command status text
 
 -- ---- statuses
 

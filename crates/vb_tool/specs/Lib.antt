@@ -3,10 +3,13 @@ pub mod Converted
 pub mod Command
 pub mod Summary
 pub mod Units
+pub mod Moved
 pub mod Outcome
 pub mod Procedures
 pub mod ReplayOutcome
 pub mod Accepted
 pub mod AcceptedReplay
+pub mod Transfer
+pub mod Verified
 pub mod Call
 pub mod Parts

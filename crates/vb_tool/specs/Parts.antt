@@ -1,11 +1,13 @@
 -- What the parts of a call do, one after the other.
-use Rattle.std.specs.Prelude.{⊤, ◌≡◌, ℕ, List, Option, Some}
+use Rattle.std.specs.Prelude.{⊤, ◌≡◌, ℕ, List, Option, Some, slice_get}
+use Rattle.vb_base.specs.declared.labels.Label.{Label}
 use Rattle.vb_outer.specs.Faults.{Rose}
 use Rattle.vb_outer.specs.Sink.{Appends, AppendsPrefix}
 use Rattle.vb_gen.specs.Generated.{program_text, IsOutOfRange}
 use Rattle.viper_core.specs.Formed.{IsFormed}
 use Rattle.viper_core.specs.Program as p
 use Rattle.viper_core.specs.View.{program_of}
+use Rattle.viper_core.specs.declared.programs.Unit.{Unit}
 use Rattle.boogie_run.specs.Start.{outcome_of}
 use Rattle.boogie_run.specs.declared.replaying.BOutcome.{BOutcome}
 use Rattle.enc_stmt.specs.Translates.{text_of}
@@ -17,11 +19,12 @@ use Rattle.vb_tool.specs.Procedures.{ProcedureRun, procedure_end}
 use Rattle.vb_tool.specs.ReplayOutcome.{replay_status, replay_text}
 use Rattle.vb_tool.specs.Status.{line_of}
 use Rattle.vb_tool.specs.Summary.{made_text}
+use Rattle.vb_tool.specs.Transfer.{IsTransferred}
 use Rattle.vb_tool.specs.Units.{UnitRun, end_of}
 use Rattle.vb_tool.specs.declared.outcome.Work.{Work}
 use Rattle.vb_tool.specs.declared.outcome.Work.TheVariants.{Translate, Tell}
 use Rattle.vb_tool.specs.declared.status.Status.{Status}
-use Rattle.vb_tool.specs.declared.status.Status.TheVariants.{Done, WriteFault, NoMemory}
+use Rattle.vb_tool.specs.declared.status.Status.TheVariants.{Done, Failed, WriteFault, NoMemory}
 use Rattle.vb_tool.specs.declared.words.Command.{Command}
 use Rattle.vb_tool.specs.declared.words.Command.TheVariants as words
 
@@ -64,8 +67,11 @@ pub data Delivers (before now : Option (List ℕ)) (faults_before faults_now : �
 pub record OutcomeOf (bytes name run_bytes : List ℕ) (status : Status) (text : List ℕ) : Type 0 where
   pub run : UnitRun
   pub accepted : AcceptsRun bytes name run_bytes run
+  pub unit : Unit
+  pub exists : slice_get run.program.units run.unit ≡ Some unit
   pub status_is : status ≡ run_status (end_of run)
-  pub text_is : text ≡ run_text (end_of run)
+  pub text_is : text ≡ run_text run.program unit run.run.opening (end_of run)
+  pub transferred : (label : Label) → status ≡ Failed label → IsTransferred run label text
 
 -- the same of a procedure
 pub record ReplayOf (bytes run_bytes : List ℕ) (status : Status) (text : List ℕ) : Type 0 where

@@ -1,16 +1,19 @@
 // The tool: from the words of a command line to what it writes and the status it ends with.
 ghost use Rattle.std.specs.Prelude.{◌≡◌, ◌⊎◌, ℕ, List, map};
 ghost use Rattle.std.specs.String.{string_bytes};
+ghost use Rattle.vb_base.specs.declared.labels.Label.{Label};
 ghost use Rattle.vb_outer.specs.Faults.{Rose};
-ghost use Rattle.vb_outer.specs.Shelf.{IsFile};
+ghost use Rattle.vb_outer.specs.Shelf.{IsFile, IsWhole};
+ghost use Rattle.vb_outer.specs.Sink.{Appends};
 ghost use Rattle.viper_core.specs.Formed.{IsFormed};
 ghost use Rattle.viper_core.specs.Program as p;
 ghost use Rattle.viper_core.specs.View.{program_of};
 ghost use Rattle.enc_stmt.specs.Translates.{Translates, text_of};
 ghost use Rattle.vb_tool.specs.Accepted.{IsAccepted};
-ghost use Rattle.vb_tool.specs.Command.{Command as CommandOf, Asks, IsNoCommand};
+ghost use Rattle.vb_tool.specs.Command.{Command as CommandOf, Run, Asks, IsNoCommand};
 ghost use Rattle.vb_tool.specs.Call.{Misses, Refuses, Does, HasDone, IsCause, Causes, EndsAs, EndsWith, OutAfter, ErrAfter};
 ghost use Rattle.vb_tool.specs.Parts.{CanBeWritten, Reports, Delivers, work_status, work_text};
+ghost use Rattle.vb_tool.specs.Transfer.{IsTransfer};
 
 use crate::outcome::Work;
 use crate::status::{Refusal, Status, line};
@@ -27,7 +30,7 @@ use viper_core::Program;
 ///
 /// `translate FILE` reads the file from the shelf and writes its Boogie program to `out`. `run FILE UNIT RUNFILE` runs a
 /// method or a predicate of the file, from the state and on the choices of the run file, and writes the outcome to `out`: how
-/// the run ended, and how many choices it left over. `replay BPL BRUN` runs a procedure of a program of Boogie, as the run file
+/// the run ended, and how many choices it left over; and of a run that failed the run of Boogie that it turns into. `replay BPL BRUN` runs a procedure of a program of Boogie, as the run file
 /// says, and writes how that ended. `make N` generates a program of N methods, translates it, and writes how much that comes to.
 /// Where the words are no command, or a file is refused or cannot be read, or N is out of range, one line goes to `err`, and
 /// nothing to `out`.
@@ -55,6 +58,11 @@ pub fn tool<H: Shelf, O: Sink, E: Sink>(
 
     // What `translate` writes for a program translates it.
     ensures translates { (bytes : List ℕ) (program : p.Program) → IsAccepted bytes program → Translates program (text_of program) }
+
+    // What `run` writes of a run that failed ends with a run of Boogie, which fails at the same label on any translation of the file.
+    ensures transfers { (file unit run_file : List ℕ) (label : Label) → Asks (map string_bytes words.now.items) (Run file unit run_file)
+        → result ≡ Status.Failed label
+        → (text : List ℕ) × IsTransfer (IsWhole (H.files shelf.old)) file unit run_file label text × Appends (O.written out.old) (O.written out.new) text }
 
     // What stands afterwards.
     ensures out { OutAfter (O.written out.old) (O.written out.new) (HasDone (map string_bytes words.now.items) (H.files shelf.old)) result }

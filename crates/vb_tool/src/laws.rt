@@ -4,19 +4,26 @@ ghost use Rattle.boogie_run.specs.Start.{outcome_of};
 ghost use Rattle.boogie_run.specs.declared.replaying.BOutcome.{BOutcome};
 ghost use Rattle.boogie_tree.specs.Program.{BProgram};
 ghost use Rattle.vb_base.specs.Limits.{max_made_methods};
+ghost use Rattle.vb_base.specs.declared.labels.Label.{Label};
 ghost use Rattle.vb_gen.specs.Generated.{program_text};
 ghost use Rattle.vb_made.specs.Made.{generated_weight};
 ghost use Rattle.vb_outer.specs.Shelf.{Files, IsFile};
+ghost use Rattle.vb_value.specs.Bound.{Bound};
+ghost use Rattle.vb_value.specs.declared.values.Value.{Value};
 ghost use Rattle.viper_core.specs.Program as p;
 ghost use Rattle.viper_core.specs.Formed.{IsFormed};
 ghost use Rattle.viper_core.specs.Weight.{weight};
 ghost use Rattle.viper_core.specs.declared.programs.Unit.{Unit};
+ghost use Rattle.viper_state.specs.State.{State};
+ghost use Rattle.viper_meaning.specs.Units.{ViperFails};
+ghost use Rattle.enc_stmt.specs.Translates.{Translates};
 ghost use Rattle.vb_tool.specs.Units.{name_of};
 ghost use Rattle.vb_tool.specs.Accepted.{IsAccepted, AcceptsRun, IsRefusal, IsRunRefusal, HasOneAnswer};
 ghost use Rattle.vb_tool.specs.AcceptedReplay.{IsBoogie, AcceptsReplay, IsReplayRefusal};
 ghost use Rattle.vb_tool.specs.Procedures.{ProcedureRun, procedure_end};
 ghost use Rattle.vb_tool.specs.Call.{Does};
 ghost use Rattle.vb_tool.specs.Command.{Command};
+ghost use Rattle.vb_tool.specs.Verified.{NothingFails, SatisfiesPrecondition, run_from, NeverFails};
 ghost use Rattle.vb_tool.specs.declared.status.Status.{Status};
 
 /// No two units of a program have one name.
@@ -49,4 +56,16 @@ pub fn a_command_does_one_thing()
 /// even one.
 pub fn each_made_program_is_accepted()
     ensures { (n : ℕ) → n ≤ max_made_methods → (program : p.Program) × IsAccepted (program_text n) program × (weight program ≡ generated_weight n) }
+{}
+
+/// Where no run of a translation's procedures fails, no run of a method or a predicate does, at any label. And no method of an accepted
+/// file fails,
+/// with the bound or without it, from a state that satisfies its precondition: one whose permissions are exactly those that the
+/// precondition denotes, and in which nothing is held where it has no clause.
+pub fn where_no_procedure_fails_no_method_does()
+    ensures units { (program : p.Program) (bytes : List ℕ) (t : Translates program bytes) → NothingFails t
+        → (n : ℕ) (label : Label) → ViperFails program n label → ⊥ }
+    ensures methods { (source : List ℕ) (program : p.Program) (bytes : List ℕ) (t : Translates program bytes) → IsAccepted source program
+        → NothingFails t → (b : Bound) (k : ℕ) (m : p.Method) (store : List Value) (s : State) → slice_get program.methods k ≡ Some m
+        → SatisfiesPrecondition program m store s → NeverFails (run_from b program m store s) }
 {}

@@ -6,6 +6,7 @@
 mod command;
 pub mod laws;
 mod making;
+mod moved;
 mod outcome;
 mod procedures;
 mod replay_outcome;

@@ -1,5 +1,5 @@
 // The work of a command, and how a run ended.
-ghost use Rattle.std.specs.Prelude.{◌≡◌, IfOk, Some};
+ghost use Rattle.std.specs.Prelude.{◌≡◌, ◌++◌, IfOk, Some};
 ghost use Rattle.std.specs.String.{string_bytes};
 ghost use Rattle.vb_tool.specs.Outcome.{status_of, outcome_text};
 
@@ -65,6 +65,18 @@ fn outcome_text(alloc: Global, outcome: Outcome, unused: usize) -> Result<String
 {
     let line = EndLine(outcome);
     format!(in alloc; "{line}// unused {unused}\n")
+}
+
+impl Ending {
+    /// The same, with more of a text.
+    pub fn with_text(self, more: &[u8]) -> Result<Ending, Memory>
+        ensures status { IfOk result (λ t. t.status ≡ self.status) }
+        ensures text { IfOk result (λ t. t.text.items ≡ self.text.items ++ more.now) }
+    {
+        let Ending { status, mut text } = self;
+        text.extend_from_slice(more)?;
+        Ok(Ending { status, text })
+    }
 }
 
 /// What is told of a run that ended so, and left over so many choices.

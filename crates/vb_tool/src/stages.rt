@@ -1,21 +1,32 @@
 // The stages of a command, over the bytes of its files. Each may refuse them.
-ghost use Rattle.std.specs.Prelude.{◌≤◌, length, IfOk, IsErrOf};
+ghost use Rattle.std.specs.Prelude.{◌≡◌, ◌<◌, ◌≤◌, All, length, map, slice_get, IfOk, IsErrOf, Some};
 ghost use Rattle.vb_base.specs.Limits.{max_viper_bytes};
+ghost use Rattle.vb_base.specs.declared.labels.Label.{Label};
 ghost use Rattle.viper_core.specs.Formed.{IsFormed};
 ghost use Rattle.viper_core.specs.View.{program_of};
+ghost use Rattle.viper_core.specs.declared.programs.Unit.{Unit as UnitOf};
+ghost use Rattle.viper_meaning.specs.Units.{Opens};
+ghost use Rattle.viper_state.specs.View.{event_of, opening_of};
+ghost use Rattle.moves.specs.Moves.{moves};
+ghost use Rattle.moves.specs.Printable.{IsNamedMove};
+ghost use Rattle.enc_stmt.specs.Opened.{start_settings, IsNamedSetting};
 ghost use Rattle.vb_tool.specs.Accepted.{IsAccepted, IsTextRefusal, IsRunRefusal};
+ghost use Rattle.vb_tool.specs.Moved.{moved_text};
+ghost use Rattle.vb_tool.specs.Outcome.{status_of, with_moved};
 ghost use Rattle.vb_tool.specs.Parts.{OutcomeOf};
 
+use crate::moved::moved_text;
 use crate::outcome::{Ending, told};
 use crate::status::Refusal;
 use crate::trouble::Trouble;
 use crate::units::unit_named;
 use run_file::{ViperRun, read_viper_run};
 use std::alloc::Global;
-use vb_base::place_after;
+use vb_base::{Memory, place_after};
 use viper_core::Program;
 use viper_parse::parse;
-use viper_run::run_unit;
+use viper_run::{Run, run_unit};
+use viper_state::{Opening, Outcome};
 use viper_syntax::lex;
 use viper_types::check;
 
@@ -33,6 +44,33 @@ pub fn typed_program(alloc: Global, bytes: &[u8]) -> Result<Program, Trouble>
     Ok(check(alloc, &source)?)
 }
 
+/// What is told of a run of a unit that ended so: two lines, and where it failed the run of Boogie that it turns into.
+fn told_of(
+    alloc: Global,
+    program: &Program,
+    number: u32,
+    opening: &Opening,
+    end: &Run,
+) -> Result<Ending, Memory>
+    requires exists { number < length (program_of program.now).units }
+    requires opens { Opens (program_of program.now) number (opening_of opening.now) }
+    ensures status { IfOk result (λ t. t.status ≡ status_of end.now.outcome) }
+    ensures text { (w : UnitOf) → slice_get (program_of program.now).units number ≡ Some w
+        → IfOk result (λ t. t.text.items ≡ with_moved end.now.outcome end.now.unused (moved_text (program_of program.now) w (opening_of opening.now) (map event_of end.now.events.items))) }
+    ensures named { IfOk result (λ t. (label : Label) → end.now.outcome ≡ Outcome.Failed label
+        → All IsNamedMove (moves (map event_of end.now.events.items)) × All IsNamedSetting (start_settings (opening_of opening.now))) }
+{
+    let ending = told(alloc, end.outcome, end.unused)?;
+    match end.outcome {
+        Outcome::Failed(_) => {
+            let unit = program.units[number as usize];
+            let moved = moved_text(alloc, program, number, unit, opening, &end.events)?;
+            ending.with_text(&moved)
+        }
+        Outcome::Done | Outcome::Blocked | Outcome::Short | Outcome::Over(_) => Ok(ending),
+    }
+}
+
 /// The outcome of the unit of this name, of the program of a file, on the run of a run file.
 pub fn outcome(alloc: Global, bytes: &[u8], name: &str, run_bytes: &[u8]) -> Result<Ending, Trouble>
     requires bytes_within { length bytes.now ≤ max_viper_bytes }
@@ -48,5 +86,5 @@ pub fn outcome(alloc: Global, bytes: &[u8], name: &str, run_bytes: &[u8]) -> Res
     let run = read_viper_run(alloc, run_bytes, &program, unit)?;
     let ViperRun { opening, choices } = run;
     let end = run_unit(alloc, &program, unit, &opening, choices)?;
-    Ok(told(alloc, end.outcome, end.unused)?)
+    Ok(told_of(alloc, &program, unit, &opening, &end)?)
 }

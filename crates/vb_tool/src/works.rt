@@ -5,7 +5,7 @@ ghost use Rattle.vb_outer.specs.Shelf.{IsMissing, IsWhole, IsLonger};
 ghost use Rattle.viper_core.specs.Formed.{IsFormed};
 ghost use Rattle.viper_core.specs.View.{program_of};
 ghost use Rattle.enc_stmt.specs.Translates.{text_of};
-ghost use Rattle.vb_tool.specs.Call.{Misses, NamesFile, Refuses, Does};
+ghost use Rattle.vb_tool.specs.Call.{Misses, NamesFile, Refuses, Does, WritesTransfer};
 ghost use Rattle.vb_tool.specs.Command.{Translate, Run, Replay, Make};
 ghost use Rattle.vb_tool.specs.Parts.{command_of, work_status, work_text, CanBeWritten};
 ghost use Rattle.vb_tool.specs.declared.status.Refusal.TheVariants as refusal;
@@ -25,6 +25,7 @@ use viper_core::Program;
 /// Does what a command asks for, but for writing it.
 pub fn work<H: Shelf>(alloc: Global, shelf: &mut H, command: Command) -> Result<Work, Trouble>
     ensures work { IfOk result (λ w. Does (IsWhole (H.files shelf.old)) (command_of command.entry) (work_status w) (work_text w)) }
+    ensures transfers { IfOk result (λ w. WritesTransfer (IsWhole (H.files shelf.old)) (command_of command.entry) (work_status w) (work_text w)) }
     ensures can_be_written { IfOk result (λ w. CanBeWritten w) }
     ensures refused { (r : Refusal) → IsErrOf result (Trouble.Refused r) → Refuses (IsWhole (H.files shelf.old)) (command_of command.entry) r }
     ensures read { IsErrOf result Trouble.Read → Misses (H.files shelf.old) (command_of command.entry) ⊎ Rose (H.faults shelf.old) (H.faults shelf.new) }
@@ -72,6 +73,7 @@ fn run<H: Shelf>(
     run_file: &str,
 ) -> Result<Ending, Trouble>
     ensures work { IfOk result (λ t. Does (IsWhole (H.files shelf.old)) (Run file.now unit.now run_file.now) t.status t.text.items) }
+    ensures transfers { IfOk result (λ t. WritesTransfer (IsWhole (H.files shelf.old)) (Run file.now unit.now run_file.now) t.status t.text.items) }
     ensures refused { (r : Refusal) → IsErrOf result (Trouble.Refused r) → Refuses (IsWhole (H.files shelf.old)) (Run file.now unit.now run_file.now) r }
     ensures read { IsErrOf result Trouble.Read → Misses (H.files shelf.old) (Run file.now unit.now run_file.now) ⊎ Rose (H.faults shelf.old) (H.faults shelf.new) }
     ensures files { H.files shelf.new ≡ H.files shelf.old }

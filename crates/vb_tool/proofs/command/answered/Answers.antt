@@ -33,12 +33,12 @@ returns-in-Err-Refused-clause-err g c =
     reported_err refused_line c.report-in-Err-Refused.ensures (refused c.in-Some.ensures (c.in-Err-Refused.ensures.refused c.in-Err-Refused.refusal (ap (λ e. Err e) c.in-Err-Refused.field-0-is)))
 
 pub returns-in-Ok-clause-causes : goal.returns-in-Ok-clause-causes
-returns-in-Ok-clause-causes g c = delivered_cause _ _ _ c.deliver.ensures (has_done c.in-Some.ensures c.in-Ok.ensures.work)
+returns-in-Ok-clause-causes g c = delivered_cause _ _ _ c.deliver.ensures (has_done c.in-Some.ensures c.in-Ok.ensures.work c.in-Ok.ensures.transfers)
 
 pub returns-in-Ok-clause-out : goal.returns-in-Ok-clause-out
-returns-in-Ok-clause-out g c = delivered_out c.deliver.ensures (has_done c.in-Some.ensures c.in-Ok.ensures.work)
+returns-in-Ok-clause-out g c = delivered_out c.deliver.ensures (has_done c.in-Some.ensures c.in-Ok.ensures.work c.in-Ok.ensures.transfers)
 
 pub returns-in-Ok-clause-err : goal.returns-in-Ok-clause-err
 returns-in-Ok-clause-err g c =
     delivered_err (g.E.Sink.written c.args.err.now) (IsCause (map string_bytes c.args.words.now) (g.H.Shelf.files c.args.shelf.now) (g.H.Shelf.faults c.args.shelf.now) (g.H.Shelf.faults c.work.new.shelf))
-    c.deliver.ensures (has_done c.in-Some.ensures c.in-Ok.ensures.work)
+    c.deliver.ensures (has_done c.in-Some.ensures c.in-Ok.ensures.work c.in-Ok.ensures.transfers)

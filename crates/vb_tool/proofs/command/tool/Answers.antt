@@ -1,5 +1,5 @@
 use Rattle.enc_stmt.proofs.ProgramLaws.{translates}
-use Rattle.vb_tool.proofs.Answered.{usage_comes, missing_comes, refused_comes, does_comes}
+use Rattle.vb_tool.proofs.Answered.{usage_comes, missing_comes, refused_comes, does_comes, transfer_comes}
 use Rattle.vb_tool.proofs.Verdicts.{accepted_formed}
 use Rattle.vb_tool.proofs.command.tool.Goals as goal
 
@@ -17,3 +17,6 @@ returns-clause-does g c = rw (← c.deref.ensures.value) (does_comes _ _ _ _ _ _
 
 pub returns-clause-translates : goal.returns-clause-translates
 returns-clause-translates g c = λ bytes program accepted. translates program (accepted_formed accepted)
+
+pub returns-clause-transfers : goal.returns-clause-transfers
+returns-clause-transfers g c = rw (← c.deref.ensures.value) (transfer_comes _ _ _ _ _ c.answered.ensures.out)

@@ -4,8 +4,8 @@ use Rattle.viper_core.specs.View.{program_of}
 use Rattle.run_file.specs.View.{run_of}
 use Rattle.run_file.proofs.SpelledLaws.{spelled_good}
 use Rattle.vb_tool.proofs.CallLaws.{error_is}
-use Rattle.vb_tool.proofs.RunOfUnits.{named_exists, opens}
-use Rattle.vb_tool.proofs.RunStages.{text_refused, unit_refused, run_refused, outcome_is}
+use Rattle.vb_tool.proofs.RunOfUnits.{named_exists, opens, there_is}
+use Rattle.vb_tool.proofs.RunStages.{text_refused, unit_refused, run_refused, told_is}
 use Rattle.vb_tool.proofs.stages.outcome.Goals as goal
 
 pub returns-in_err-program-clause-refused : goal.returns-in_err-program-clause-refused
@@ -42,12 +42,23 @@ run_unit-requires-clause-choices_fit c = (spelled_good c.args.run_bytes.now (pro
 pub run_unit-requires-clause-choices_within : goal.run_unit-requires-clause-choices_within
 run_unit-requires-clause-choices_within c = (spelled_good c.args.run_bytes.now (program_of c.in_ok-program.program) c.in-Some.unit (run_of c.in_ok-run.run') c.in_ok-run.ensures.run).choices_within
 
+pub told_of-requires-clause-exists : goal.told_of-requires-clause-exists
+told_of-requires-clause-exists c = named_exists (program_of c.in_ok-program.program) c.args.name.now c.in-Some.unit (sym c.unit_named.ensures ∙ c.in-Some.is)
+
+pub told_of-requires-clause-opens : goal.told_of-requires-clause-opens
+told_of-requires-clause-opens c =
+    let q = program_of c.in_ok-program.program in
+    opens q c.in_ok-program.ensures.formed c.in-Some.unit (named_exists q c.args.name.now c.in-Some.unit (sym c.unit_named.ensures ∙ c.in-Some.is))
+    (run_of c.in_ok-run.run').opening (spelled_good c.args.run_bytes.now q c.in-Some.unit (run_of c.in_ok-run.run') c.in_ok-run.ensures.run).opening_fits
+
 pub returns-clause-told : goal.returns-clause-told
 returns-clause-told c =
-    outcome_is _ _ _ (record { program = program_of c.in_ok-program.program; unit = c.in-Some.unit; run = run_of c.in_ok-run.run' }) _ _ c.in_ok-end.end
+    let q = program_of c.in_ok-program.program in
+    let (w, there) = there_is q.units c.in-Some.unit (named_exists q c.args.name.now c.in-Some.unit (sym c.unit_named.ensures ∙ c.in-Some.is)) in
+    told_is _ _ _ (record { program = q; unit = c.in-Some.unit; run = run_of c.in_ok-run.run' }) w _ _ c.in_ok-end.end
     (record {
       accepted = c.in_ok-program.ensures.accepted;
       small = c.requires.run_within;
       named = sym c.unit_named.ensures ∙ c.in-Some.is;
       spelled = c.in_ok-run.ensures.run;
-    }) c.in_ok-end.ensures c.in_ok-told.ensures.status c.in_ok-told.ensures.text
+    }) there c.in_ok-end.ensures c.in_ok-told_of.ensures.status (c.in_ok-told_of.ensures.text w there) c.in_ok-told_of.ensures.named

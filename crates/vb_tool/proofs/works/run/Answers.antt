@@ -3,7 +3,7 @@ use Rattle.std.proofs.lemmas.Result.{err_from_is_err_and}
 use Rattle.vb_tool.specs.Accepted as accepted
 use Rattle.vb_outer.specs.Shelf.{IsLonger, IsWhole}
 use Rattle.vb_tool.specs.Call as call
-use Rattle.vb_tool.proofs.CallLaws.{error_is, file_refusal, file_unread, first_missing, second_missing, too_long, run_too_long, run_result_does}
+use Rattle.vb_tool.proofs.CallLaws.{error_is, file_refusal, file_unread, first_missing, second_missing, too_long, run_too_long, run_result_does, run_result_transfers}
 use Rattle.vb_tool.proofs.works.run.Goals as goal
 
 pub returns-in_err-bytes-clause-refused : goal.returns-in_err-bytes-clause-refused
@@ -44,5 +44,10 @@ returns-clause-refused g c r is_r =
 
 pub returns-clause-work : goal.returns-clause-work
 returns-clause-work g c = run_result_does _ _ _ _ _ _ _ c.in_ok-bytes.ensures.whole
+    (subst (λ f. IsWhole f c.args.run_file.now c.in_ok-run_bytes.run_bytes.items) c.in_ok-bytes.ensures.same c.in_ok-run_bytes.ensures.whole)
+    (rw (← c.deref.ensures.value, ← c.deref-2.ensures.value) c.outcome.ensures.told)
+
+pub returns-clause-transfers : goal.returns-clause-transfers
+returns-clause-transfers g c = run_result_transfers _ _ _ _ _ _ _ c.in_ok-bytes.ensures.whole
     (subst (λ f. IsWhole f c.args.run_file.now c.in_ok-run_bytes.run_bytes.items) c.in_ok-bytes.ensures.same c.in_ok-run_bytes.ensures.whole)
     (rw (← c.deref.ensures.value, ← c.deref-2.ensures.value) c.outcome.ensures.told)
