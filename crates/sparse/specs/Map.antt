@@ -1,13 +1,14 @@
 -- Maps with a default: every key has a value, and all but finitely many keys have the default. So are
 -- the total heaps and masks of a Viper state (Parthasarathy et al., Towards Trustworthy Automated
 -- Program Verifiers, PLDI 2024), and the maps of Boogie (Leino, This is Boogie 2).
-use Rattle.std.specs.Prelude.{◌≡◌, Bool, true, false, not, ◌&&◌, List, [], ◌∷◌, if◌then◌else◌, All, unwrap_or, refl}
+use Rattle.std.specs.Prelude.{◌≡◌, Bool, true, false, not, ◌&&◌, List, [], ◌∷◌, if◌then◌else◌, All, map, unwrap_or, refl}
 use Rattle.std.specs.List.{AllZip, list_all}
 use Rattle.std.specs.List.Sorted.{IsStrictlySortedBy}
 use Rattle.std.specs.Map.{keys_of, values_of, lookup, remove_entry}
 use Rattle.std.specs.BTreeMap.{insert_entry, is_at}
 use Rattle.std.specs.Ordering.{is_lt}
 use Rattle.std.specs.Coded.{Coded, code_by, coded×, coded_list}
+use denote.Ref.{Bor}
 use Rattle.std.specs.declared.cmp.Ordering.{Ordering}
 use Rattle.std.specs.declared.cmp.Ordering.TheVariants.{Equal}
 
@@ -42,6 +43,10 @@ module _ {K V : Type 0} where
   abbrev pub set : (K → K → Ordering) → (V → V → Bool) → Map K V → K → V → Map K V
   set cmp eq m k v =
       record { default = m.default; entries = if eq v m.default then remove_entry (is_at (cmp k)) m.entries else insert_entry cmp m.entries k v }
+
+-- what is borrowed in a list
+abbrev pub borrowed : {X : Type 0} → List (Bor X) → List X
+borrowed {X} xs = map (λ (b : Bor X). b.now) xs
 
 -- the keys ascend, and no entry has the default's value: so a map is written in one way only
 pub record IsReduced {K V : Type 0} (cmp : K → K → Ordering) (eq : V → V → Bool) (m : Map K V) : Type 0 where

@@ -56,7 +56,7 @@ impl<K: Ord + Clone, V: Eq + Clone> Model for Sparse<K, V> {
 }
 
 impl<K: Ord + Clone, V: Eq + Clone> Sparse<K, V> {
-    ghost use Rattle.sparse.specs.Map.{empty, get, set, keys, IsReduced, IsSame, ClonesAreEqual};
+    ghost use Rattle.sparse.specs.Map.{empty, get, set, keys, borrowed, IsReduced, IsSame, ClonesAreEqual};
 
     /// The map in which every key has the default `zero`.
     pub fn make(alloc: Global, zero: V) -> Result<Sparse<K, V>, Memory>
@@ -129,5 +129,15 @@ impl<K: Ord + Clone, V: Eq + Clone> Sparse<K, V> {
         ensures reduced { IsReduced K.cmp V.eq self.now }
     {
         self.root.key_at(i)
+    }
+
+    /// The keys that have another value than the default, in ascending order, each with its value.
+    pub fn entries(&self) -> Result<Vec<&(K, V)>, Memory>
+        ensures entries { IfOk result (λ list. borrowed list.items ≡ self.now.entries) }
+        ensures reduced { IsReduced K.cmp V.eq self.now }
+    {
+        let mut list = Vec::with_capacity(self.alloc, self.root.size())?;
+        self.root.list(&mut list)?;
+        Ok(list)
     }
 }

@@ -1,8 +1,9 @@
 //! Balanced trees of entries in the order of their keys. What is not changed is shared by `Rc`.
-ghost use Rattle.std.specs.Prelude.{◌≡◌, ◌<◌, ◌+◌, ◌∷◌, [], ◌++◌, max, length, slice_get, IfOk, IfNone, IfSome, unwrap_or};
+ghost use Rattle.std.specs.Prelude.{◌≡◌, ◌<◌, ◌+◌, ◌∷◌, [], ◌++◌, max, length, slice_get, IfOk, OnOk, IfNone, IfSome, unwrap_or};
 ghost use Rattle.std.specs.BTreeMap.{is_at};
 ghost use Rattle.std.specs.List.Sorted.{IsStrictlySortedBy};
 ghost use Rattle.std.specs.Map.{keys_of, lookup, remove_entry};
+ghost use Rattle.sparse.specs.Map.{borrowed};
 ghost use Rattle.sparse.specs.Tree.{Bare, plain_of, entries, height, DifferByAtMost, IsBalanced, node, IsGrown, IsJoined, IsShrunk, IsSplit, put_entry};
 
 use crate::Memory;
@@ -61,6 +62,18 @@ impl<K: Drop, V: Drop> Tree<K, V> {
             Tree::Leaf => 0,
             Tree::Fork(node) => node.size,
         }
+    }
+
+    /// Adds the entries to a list, from left to right.
+    pub(crate) fn list<'a>(&'a self, all: &mut Vec<&'a (K, V)>) -> Result<(), Memory>
+        ensures { OnOk result (borrowed all.new.items ≡ borrowed all.old.items ++ entries (plain_of self.now)) }
+    {
+        let Tree::Fork(node) = self else {
+            return Ok(());
+        };
+        node.left.list(all)?;
+        all.push(&*node.entry)?;
+        node.right.list(all)
     }
 }
 

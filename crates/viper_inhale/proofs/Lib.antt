@@ -2,3 +2,4 @@ pub mod DoesLaws
 pub mod FormLaws
 pub mod AssertionLaws
 pub mod ForgettingLaws
+pub mod FreeLaws

@@ -1,8 +1,8 @@
 // Forgetting: where nothing is held, the heap and contents of a choice take the place of the state's own.
-ghost use Rattle.std.specs.Prelude.{◌≡◌, All, IfErr, OnOk, length, map};
+ghost use Rattle.std.specs.Prelude.{◌≡◌, All, IfErr, IfOk, OnOk, length, map};
 ghost use Rattle.std.specs.Ordering.{nat_cmp};
 ghost use Rattle.std.specs.Option.{option_map};
-ghost use Rattle.sparse.specs.Map.{keys};
+ghost use Rattle.sparse.specs.Map.{borrowed, keys};
 ghost use Rattle.vb_value.specs.Content.{same_content};
 ghost use Rattle.vb_value.specs.Key.{key_cmp};
 ghost use Rattle.vb_value.specs.Value.{value_eq};
@@ -18,13 +18,48 @@ ghost use Rattle.viper_inhale.specs.View.{filled_in};
 ghost use Rattle.viper_inhale.specs.declared.answers.Halt.TheVariants as halt;
 
 use crate::answers::{Halt, Stop};
+use crate::free_keys::{all_keys, free_keys};
 use sparse::Sparse;
 use std::alloc::Global;
 use vb_value::{Content, Frac, Key, Value};
 use viper_state::{Choice, Event, Feed, Memo, State, copy_memo};
 
+/// A heap of a field after forgetting: the own values where something is held, and elsewhere those of the new heap. It begins
+/// as a copy of the own heap, which shares its entries, so it costs little more than what changes.
+fn changed_values(
+    alloc: Global,
+    new: &Sparse<u64, Value>,
+    own: &Sparse<u64, Value>,
+    held: &Sparse<u64, Frac>,
+) -> Result<Sparse<u64, Value>, Halt>
+    requires { new.now.default ≡ own.now.default }
+    ensures kept { IfOk result (λ m. m ≡ kept_at nat_cmp value_eq new.now own.now (keys held.now)) }
+    ensures memory { IfErr result (λ h. h ≡ halt.Memory) }
+{
+    let mut kept = own.copy()?;
+    take_values(&mut kept, new, &free_keys(alloc, own, held)?)?;
+    take_values(&mut kept, new, &free_keys(alloc, new, held)?)?;
+    Ok(kept)
+}
+
+/// Gives a heap of a field the value of another at some references.
+fn take_values(
+    heap: &mut Sparse<u64, Value>,
+    other: &Sparse<u64, Value>,
+    references: &[&u64],
+) -> Result<(), Halt>
+    ensures taken { OnOk result (heap.new ≡ kept_at nat_cmp value_eq heap.old other.now (borrowed references.now)) }
+    ensures memory { IfErr result (λ h. h ≡ halt.Memory) }
+{
+    for reference in references {
+        heap.set(**reference, *other.get(*reference))?;
+    }
+    Ok(())
+}
+
 /// Gives a new heap of a field the own value at each reference to which something is held.
 fn keep_values(
+    alloc: Global,
     new: &mut Sparse<u64, Value>,
     own: &Sparse<u64, Value>,
     held: &Sparse<u64, Frac>,
@@ -32,9 +67,43 @@ fn keep_values(
     ensures kept { OnOk result (new.new ≡ kept_at nat_cmp value_eq new.old own.now (keys held.now)) }
     ensures memory { IfErr result (λ h. h ≡ halt.Memory) }
 {
-    for i in 0..held.len() {
-        let reference = held.key_at(i);
-        new.set(*reference, *own.get(reference))?;
+    if held.len() < own.len() / 2 || *new.default() != *own.default() {
+        return take_values(new, own, &all_keys(alloc, held)?);
+    }
+    *new = changed_values(alloc, new, own, held)?;
+    Ok(())
+}
+
+/// The contents of a predicate after forgetting, as a heap's values.
+fn changed_contents(
+    alloc: Global,
+    new: &Sparse<Key, Content>,
+    own: &Sparse<Key, Content>,
+    held: &Sparse<Key, Frac>,
+) -> Result<Sparse<Key, Content>, Halt>
+    requires { (contents_of new.now).default ≡ (contents_of own.now).default }
+    ensures kept { IfOk result (λ m. contents_of m ≡ kept_at key_cmp same_content (contents_of new.now) (contents_of own.now) (keys held.now)) }
+    ensures memory { IfErr result (λ h. h ≡ halt.Memory) }
+{
+    let mut kept = own.copy()?;
+    take_contents(alloc, &mut kept, new, &free_keys(alloc, own, held)?)?;
+    take_contents(alloc, &mut kept, new, &free_keys(alloc, new, held)?)?;
+    Ok(kept)
+}
+
+/// Gives contents of a predicate that of others for some instances.
+fn take_contents(
+    alloc: Global,
+    contents: &mut Sparse<Key, Content>,
+    other: &Sparse<Key, Content>,
+    instances: &[&Key],
+) -> Result<(), Halt>
+    ensures taken { OnOk result (contents_of contents.new ≡ kept_at key_cmp same_content (contents_of contents.old) (contents_of other.now) (borrowed instances.now)) }
+    ensures memory { IfErr result (λ h. h ≡ halt.Memory) }
+{
+    for key in instances {
+        let content = other.get(*key).copy(alloc)?;
+        contents.set((*key).clone()?, content)?;
     }
     Ok(())
 }
@@ -49,16 +118,16 @@ fn keep_contents(
     ensures kept { OnOk result (contents_of new.new ≡ kept_at key_cmp same_content (contents_of new.old) (contents_of own.now) (keys held.now)) }
     ensures memory { IfErr result (λ h. h ≡ halt.Memory) }
 {
-    for i in 0..held.len() {
-        let key = held.key_at(i);
-        let content = own.get(key).copy(alloc)?;
-        new.set(key.clone()?, content)?;
+    if held.len() < own.len() / 2 || *new.default() != *own.default() {
+        return take_contents(alloc, new, own, &all_keys(alloc, held)?);
     }
+    *new = changed_contents(alloc, new, own, held)?;
     Ok(())
 }
 
 /// The same for the heaps of all fields.
 fn keep_heap(
+    alloc: Global,
     news: &mut Vec<Sparse<u64, Value>>,
     owns: &[Sparse<u64, Value>],
     helds: &[Sparse<u64, Frac>],
@@ -68,7 +137,7 @@ fn keep_heap(
     ensures memory { IfErr result (λ h. h ≡ halt.Memory) }
 {
     for field in 0..news.len().min(owns.len()).min(helds.len()) {
-        keep_values(&mut news[field], &owns[field], &helds[field])?;
+        keep_values(alloc, &mut news[field], &owns[field], &helds[field])?;
     }
     Ok(())
 }
@@ -117,7 +186,7 @@ fn forget_by(alloc: Global, memo: Memo, state: &mut State, feed: &mut Feed) -> R
         mut heap,
         mut content,
     } = memo;
-    keep_heap(&mut heap, &state.heap, &state.mask)?;
+    keep_heap(alloc, &mut heap, &state.heap, &state.mask)?;
     keep_all_contents(alloc, &mut content, &state.content, &state.amount)?;
     let memo = Memo { heap, content };
     feed.record(Event::Whole(copy_memo(alloc, &memo)?))?;

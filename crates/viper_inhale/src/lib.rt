@@ -6,6 +6,7 @@ mod calls;
 mod choices;
 mod consuming;
 mod forgetting;
+mod free_keys;
 mod producing;
 mod resources;
 
