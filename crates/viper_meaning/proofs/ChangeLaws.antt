@@ -55,7 +55,7 @@ weaker_run go (later f g) = later f (λ c i. weaker_run go (g c i))
 
 -- ---- lists
 
-stored_elsewhere : (x : ℕ) (store : List Value) (xs : List ℕ) (vs : List Value) → All (λ y. y ≢ x) xs → slice_get (stored store xs vs) x ≡ slice_get store x
+pub stored_elsewhere : (x : ℕ) (store : List Value) (xs : List ℕ) (vs : List Value) → All (λ y. y ≢ x) xs → slice_get (stored store xs vs) x ≡ slice_get store x
 stored_elsewhere x store [] vs h = refl
 stored_elsewhere x store (y ∷ xs) [] h = refl
 stored_elsewhere x store (y ∷ xs) (v ∷ vs) h =

@@ -43,7 +43,7 @@ AreClose R e f = Agrees (Unit {0}) R e f
 -- ---- ways to go on
 
 -- what the first has is kept
-then_proper : {X Z W : Type 0} {E : Event → Type 0} (P : X → Type 0) {S : Z → W → Type 0} {e f : Evaluated X} {go : X → Evaluated Z} {to : X → Evaluated W} → AreClose IsSame e f → Keeps E P e →
+pub then_proper : {X Z W : Type 0} {E : Event → Type 0} (P : X → Type 0) {S : Z → W → Type 0} {e f : Evaluated X} {go : X → Evaluated Z} {to : X → Evaluated W} → AreClose IsSame e f → Keeps E P e →
     ((x : X) → P x → AreClose S (go x) (to x)) → AreClose S (then_with e go) (then_with f to)
 then_proper P {S = S} {go = go} {to = to} (both {x = x} same) (kept.value h p) g = after_agrees _ _ (subst (λ z. AreClose S (go x) (to z)) same (g x p))
 then_proper P failed k g = failed
@@ -51,7 +51,7 @@ then_proper P over k g = over
 then_proper P blocked k g = blocked
 then_proper P (lost m) k g = lost m
 
-found_parts : (F : Rest) {s w : State} (x : Resource) → Under F s w → AreClose (λ a b. Framed (F.held x) a b) (found (held_at s x)) (found (held_at w x))
+pub found_parts : (F : Rest) {s w : State} (x : Resource) → Under F s w → AreClose (λ a b. Framed (F.held x) a b) (found (held_at s x)) (found (held_at w x))
 found_parts F {s} {w} x h = by (held_at s x) (held_at w x) refl refl (h.held x)
   where
     by : (o p : Option Fraction) → held_at s x ≡ o → held_at w x ≡ p → FramedPart x (F.held x) [] o p → AreClose (λ a b. Framed (F.held x) a b) (found o) (found p)
@@ -60,25 +60,25 @@ found_parts F {s} {w} x h = by (held_at s x) (held_at w x) refl refl (h.held x)
     by (Some a) None e g q = absurd q
     by None (Some b) e g q = absurd q
 
-found_same : {X : Type 0} (o p : Option X) → o ≡ p → AreClose IsSame (found o) (found p)
+pub found_same : {X : Type 0} (o p : Option X) → o ≡ p → AreClose IsSame (found o) (found p)
 found_same o p e = subst (λ q. AreClose IsSame (found o) (found q)) e (agrees_self (found o))
 
 -- what fails with more fails with less
-fails_first : {X Y : Type 0} {R : X → Y → Type 0} {f g : Evaluated X} {e h : Evaluated Y} (a b : Bool) → AreClose R f e → (a ≡ false → b ≡ false) → (a ≡ false → AreClose R g h) → ((y : Evaluated Y) → AreClose R f y) → AreClose R (unless a f g) (unless b e h)
+pub fails_first : {X Y : Type 0} {R : X → Y → Type 0} {f g : Evaluated X} {e h : Evaluated Y} (a b : Bool) → AreClose R f e → (a ≡ false → b ≡ false) → (a ≡ false → AreClose R g h) → ((y : Evaluated Y) → AreClose R f y) → AreClose R (unless a f g) (unless b e h)
 fails_first {e = e} {h = h} true b first go then_go any = any (unless b e h)
 fails_first false true first go then_go any = let no : true ≡ false = go refl in cc
 fails_first false false first go then_go any = then_go refl
 
-where_holds : {X Y : Type 0} {R : X → Y → Type 0} {g : Evaluated X} {h : Evaluated Y} (b : Bool) {f : Evaluated X} {e : Evaluated Y} → AreClose R f e → (b ≡ true → AreClose R g h) → AreClose R (unless (not b) f g) (unless (not b) e h)
+pub where_holds : {X Y : Type 0} {R : X → Y → Type 0} {g : Evaluated X} {h : Evaluated Y} (b : Bool) {f : Evaluated X} {e : Evaluated Y} → AreClose R f e → (b ≡ true → AreClose R g h) → AreClose R (unless (not b) f g) (unless (not b) e h)
 where_holds true first go = go refl
 where_holds false first go = first
 
-where_not : {X Y : Type 0} {R : X → Y → Type 0} {g : Evaluated X} {h : Evaluated Y} (b : Bool) {f : Evaluated X} {e : Evaluated Y} → AreClose R f e → (b ≡ false → AreClose R g h) → AreClose R (unless b f g) (unless b e h)
+pub where_not : {X Y : Type 0} {R : X → Y → Type 0} {g : Evaluated X} {h : Evaluated Y} (b : Bool) {f : Evaluated X} {e : Evaluated Y} → AreClose R f e → (b ≡ false → AreClose R g h) → AreClose R (unless b f g) (unless b e h)
 where_not true first go = first
 where_not false first go = go refl
 
 -- what blocks with less blocks with more
-blocks_last : {X Y : Type 0} {R : X → Y → Type 0} {g : Evaluated X} {h : Evaluated Y} (a b : Bool) → (b ≡ false → a ≡ false) → AreClose R g h → AreClose R (unless a blocks g) (unless b blocks h)
+pub blocks_last : {X Y : Type 0} {R : X → Y → Type 0} {g : Evaluated X} {h : Evaluated Y} (a b : Bool) → (b ≡ false → a ≡ false) → AreClose R g h → AreClose R (unless a blocks g) (unless b blocks h)
 blocks_last true true back go = blocked
 blocks_last false true back go = lost tt
 blocks_last true false back go = let no : true ≡ false = back refl in cc
@@ -86,7 +86,7 @@ blocks_last false false back go = go
 
 -- ---- taking and filling
 
-taken_two : (F : Rest) {s w : State} (sc sd : Scene) (p : ℕ) (key : Key) (q : Fraction) (at : Pos) → IsReduced q → Under F s w → AreClose (λ t x. Under F t x × (is_positive q ≡ true)) (taken Unbounded sc s p key q at) (taken Unbounded sd w p key q at)
+pub taken_two : (F : Rest) {s w : State} (sc sd : Scene) (p : ℕ) (key : Key) (q : Fraction) (at : Pos) → IsReduced q → Under F s w → AreClose (λ t x. Under F t x × (is_positive q ≡ true)) (taken Unbounded sc s p key q at) (taken Unbounded sd w p key q at)
 taken_two F {s} {w} sc sd p key q at reduced h =
     where_holds (is_positive q) failed (λ positive.
     let amount : IsAmount q = record { reduced = reduced; not_negative = positive_not_negative q positive } in
@@ -94,7 +94,7 @@ taken_two F {s} {w} sc sd p key q at reduced h =
     after_agrees [] [] (fails_first (is_lt (order a q)) (is_lt (order b q)) failed (part_enough q (own_part parts) amount) (λ enough.
     after_agrees [] [] (is_agrees (under_held h (Instance p key) (difference a q) (difference b q) (framed_taken q parts amount enough), positive))) (λ y. failed))))
 
-added_two : (f a b scale q : Fraction) (at : Pos) → Framed f a b → IsAmount scale → IsAmount q → AreClose (Framed f) (added Unbounded a scale q at) (added Unbounded b scale q at)
+pub added_two : (f a b scale q : Fraction) (at : Pos) → Framed f a b → IsAmount scale → IsAmount q → AreClose (Framed f) (added Unbounded a scale q at) (added Unbounded b scale q at)
 added_two f a b scale q at h i j = after_agrees [] [] (is_agrees (framed_added (product scale q) h (amount_product i j)))
 
 -- a place or instance takes what it is given where nothing was held, and else has to have it
@@ -135,7 +135,7 @@ module _ (F : Rest) where
       then_agrees (added_two (F.held (Place f r)) a b scale q at parts i j) (λ c d more.
       blocks_last (is_above_one c) (is_above_one d) (part_not_above (own_part more)) (is_agrees (under_held under (Place f r) c d more)))))
 
-  fill_held_two : {s w : State} (scale : Fraction) (p : ℕ) (key : Key) (q : Fraction) (c : Content) (at : Pos) → IsAmount scale → IsAmount q → IsProperContent Unbounded c → Under F s w →
+  pub fill_held_two : {s w : State} (scale : Fraction) (p : ℕ) (key : Key) (q : Fraction) (c : Content) (at : Pos) → IsAmount scale → IsAmount q → IsProperContent Unbounded c → Under F s w →
       AreClose (Under F) (fill_held Unbounded scale p key q c at s) (fill_held Unbounded scale p key q c at w)
   fill_held_two {s} {w} scale p key q c at i j proper h =
       then_agrees (found_parts F (Instance p key) h) (λ a b parts.
@@ -212,10 +212,10 @@ one_old a sc sd h at old =
 amount_is : (q : Fraction) → IsReduced q → is_positive q ≡ true → IsAmount q
 amount_is q h e = record { reduced = h; not_negative = positive_not_negative q e }
 
-content_same : (F : Rest) {s w : State} (p : ℕ) (key : Key) → Under F s w → AreClose IsSame (found (content_at s p key)) (found (content_at w p key))
+pub content_same : (F : Rest) {s w : State} (p : ℕ) (key : Key) → Under F s w → AreClose IsSame (found (content_at s p key)) (found (content_at w p key))
 content_same F {s} {w} p key h = found_same (content_at s p key) (content_at w p key) (h.contents p key)
 
-content_proper : {s : State} {E : Event → Type 0} (p : ℕ) (key : Key) → IsFull s → Keeps E (IsProperContent Unbounded) (found (content_at s p key))
+pub content_proper : {s : State} {E : Event → Type 0} (p : ℕ) (key : Key) → IsFull s → Keeps E (IsProperContent Unbounded) (found (content_at s p key))
 content_proper {s} p key h = k.found_kept (content_at s p key) (content_has h.whole.proper p key)
 
 -- In two scenes that agree on the variables, and on the old states where those are read. The rest is what others hold besides.

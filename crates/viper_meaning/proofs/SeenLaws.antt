@@ -128,7 +128,7 @@ contains_cases : {R : Type 0} (x y : ℕ) (xs : List ℕ) → Contains (x ∷ xs
 contains_cases x y xs (zero, within, is) first rest = first (sym is)
 contains_cases x y xs (suc k, within, is) first rest = rest (k, omega (arith, within), is)
 
-all_stored : {P : ℕ → Type 0} {vs ws : List Value} (xs : List ℕ) (zs : List Value) → length zs ≡ length xs → Agree P vs ws → Agree (λ y. P y ⊎ Contains xs y) (stored vs xs zs) (stored ws xs zs)
+pub all_stored : {P : ℕ → Type 0} {vs ws : List Value} (xs : List ℕ) (zs : List Value) → length zs ≡ length xs → Agree P vs ws → Agree (λ y. P y ⊎ Contains xs y) (stored vs xs zs) (stored ws xs zs)
 all_stored {P} [] zs e h = same_agrees (λ y. none y) h
   where
     none : (y : ℕ) → P y ⊎ Contains [] y → P y
@@ -151,7 +151,7 @@ visible_target sc x y = by (x == sc.fresh) (Decides-eqb x sc.fresh)
     by true d seen = elim (Contains-push_cases sc.visible sc.fresh y seen) [ inl old ↦ inl old | inr is ↦ inr (omega (arith, is, d.0 refl)) ]
     by false d seen = inl seen
 
-visible_targets : (sc : Scope) (xs : List ℕ) (y : ℕ) → Contains (after_targets sc xs).visible y → Contains sc.visible y ⊎ Contains xs y
+pub visible_targets : (sc : Scope) (xs : List ℕ) (y : ℕ) → Contains (after_targets sc xs).visible y → Contains sc.visible y ⊎ Contains xs y
 visible_targets sc [] y seen = inl seen
 visible_targets sc (x ∷ xs) y seen = outer (visible_targets (after_target sc x) xs y seen)
   where
@@ -268,7 +268,7 @@ module _ (b : Bound) (k : Activation) (m : Frame) where
       goes_on_with r = subst (λ z. RunsAlike (LooksAlike (after_target sc x).visible) (if is_fresh r refs (At vs s) then goes_to r vs else ended blocks) (if z then goes_to r ws else ended blocks)) (fresh_same r refs vs ws s among)
           (if_alike (is_fresh r refs (At vs s)) (same_first (any_run (created k.program.layout.fields r fields s)) (λ w p. goes_alike (looks w (set_agrees x (v.Ref r) (visible_target sc x) h)))) (alike.at_end alike.blocked))
 
-  called_seen : (sc : Scope) (targets : List ℕ) (callee : Method) (args : List Value) (at : Pos) (vs ws : List Value) (s : State) → Agree (Contains sc.visible) vs ws →
+  pub called_seen : (sc : Scope) (targets : List ℕ) (callee : Method) (args : List Value) (at : Pos) (vs ws : List Value) (s : State) → Agree (Contains sc.visible) vs ws →
       RunsAlike (LooksAlike (after_targets sc targets).visible) (called b k targets callee args at (At vs s)) (called b k targets callee args at (At ws s))
   called_seen sc targets callee args at vs ws s h =
       same_first (any_run (exhale_all b k.program callee.preconditions s (reads args at))) (λ w p. same_first (values_long k.vars targets) (λ rs long.

@@ -123,7 +123,7 @@ declared_fits us x y (w ∷ []) e g =
     (subst (λ z. FitsValue z w) equal g.0.1.1, tt)
 declared_fits us x y (w ∷ z ∷ ws) e g = absurd g.1
 
-received_fit : {m : Frame} {sc : Scope} (xs : List ℕ) (ys : List Ty) (ws : List Value) → Receive m sc xs ys → ValuesOf m.vars xs ws → FitsStore ys ws
+pub received_fit : {m : Frame} {sc : Scope} (xs : List ℕ) (ys : List Ty) (ws : List Value) → Receive m sc xs ys → ValuesOf m.vars xs ws → FitsStore ys ws
 received_fit xs ys ws (assigned i differ) g = targets_fit xs ys ws i g
 received_fit {m} xs ys ws (declared {x = x} {u = y} i e) g = declared_fits m.vars x y ws e g
 
@@ -297,7 +297,7 @@ module _ (b : Bound) (m : Frame) (formed : IsFormed m.program) (old : State) (ol
   value_goes : (sc : Scope) (e : t.Expr) (y : Ty) (c : Configuration) (at : Pos) → HasType (inside m sc) e y → Fit c → Keeps (FitsEvent m.program.layout) (FitsValue y) (value b e c.state (scene running c at))
   value_goes sc e y c at i h = keeps (value_typed b {B = ⊤} (inside m sc) formed e y c.state (scene running c at) i (inl tt) h.state (scene_fits c at h))
 
-  called_fits : (sc : Scope) (targets : List ℕ) (k : ℕ) (callee : Method) (args : List Value) (at : Pos) (c : Configuration) → slice_get m.program.methods k ≡ Some callee → FitsStore (params_of callee) args →
+  pub called_fits : (sc : Scope) (targets : List ℕ) (k : ℕ) (callee : Method) (args : List Value) (at : Pos) (c : Configuration) → slice_get m.program.methods k ≡ Some callee → FitsStore (params_of callee) args →
       Receive m sc targets (returns_of callee) → Fit c → StmtGoes Fit (called b running targets callee args at c)
   called_fits sc targets k callee args at c there a i h =
       then_do_kept (exhale_all_fits b (cut (precondition_context m.program callee) callee.params) formed callee.preconditions c.state (with_variables args (scene running c at))
@@ -407,7 +407,7 @@ module _ (b : Bound) (program : Program) (formed : IsFormed program) where
       produce_fits b (predicate_context program d) formed body (record { store = o.store; old = empty_state program.layout o.memo; at = d.at }) write (empty_state program.layout o.memo)
       (predicate_body_of_typed program formed.typed k d body there has) start (record { store = h.store; old = start }) write_reduced
 
-  method_types_are : (k : ℕ) (m : Method) → slice_get program.methods k ≡ Some m → opening_types program (u.Method k) ≡ Some (take (m.params + m.returns) m.vars)
+  pub method_types_are : (k : ℕ) (m : Method) → slice_get program.methods k ≡ Some m → opening_types program (u.Method k) ≡ Some (take (m.params + m.returns) m.vars)
   method_types_are k m e = rw (e) refl
 
   predicate_types_are : (k : ℕ) (d : Predicate) → slice_get program.predicates k ≡ Some d → opening_types program (u.Predicate k) ≡ Some d.params

@@ -63,7 +63,7 @@ unfold_instance_sign b program f s sc h =
 
 -- ---- statements and units
 
-sign_kept : (b : Bound) (program : Program) → IsKeptByRuns b program IsNonnegative
+pub sign_kept : (b : Bound) (program : Program) → IsKeptByRuns b program IsNonnegative
 sign_kept b program = record {
   produces = λ a sc s h. produce_sign b a sc write s refl h;
   consumes = λ a start sc left h. consume_sign b a start sc write left h;

@@ -248,7 +248,7 @@ unfold_instance_whole b program f s sc h =
 
 -- ---- statements, methods and predicates
 
-whole_kept : (b : Bound) (program : Program) → IsKeptByRuns b program HoldsAtMostWhole
+pub whole_kept : (b : Bound) (program : Program) → IsKeptByRuns b program HoldsAtMostWhole
 whole_kept b program = record {
   produces = λ a sc s h. produce_whole b a sc write s h;
   consumes = λ a start sc left h. consume_whole b a start sc write left refl h;

@@ -1,0 +1,4 @@
+pub mod Execution
+pub mod Budget
+pub mod Frame
+pub mod Worked
