@@ -48,7 +48,7 @@ Any x = Unit {0}
 
 module _ (ls : List BType) (b : Bound) where
   mutual
-    stmt_keeps : {x : s.BStmt} (env : List BValue) (cs : List BChoice) → IsTypedStmt ls x → IsEnvironment ls env → All IsReducedChoice cs → KeepsTypes ls (brun_stmt ls b x env cs)
+    pub stmt_keeps : {x : s.BStmt} (env : List BValue) (cs : List BChoice) → IsTypedStmt ls x → IsEnvironment ls env → All IsReducedChoice cs → KeepsTypes ls (brun_stmt ls b x env cs)
     stmt_keeps env cs (assign {i = i} {e = e} {u = u} l t) h r = end_keeps cs _ (side_keeps b ls env h e u t) (λ v f. done (stored_typed ls env i u v h l f) r)
     stmt_keeps env cs (put {i = i} {es = es} {e = e} {u = u} {us = us} {w = w} l ks t) h r =
         end_keeps cs _ (bkey_keeps b ls env h es (u ∷ us) ks) (λ k f. end_keeps cs _ (bvalue_keeps b ls env h e w t) (λ v g. end_keeps cs _ (the_map_keeps ls env h i u us w l) (λ m y.

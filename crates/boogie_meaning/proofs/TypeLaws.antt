@@ -277,7 +277,7 @@ mutual
 base_given : {o : Option BBase} {u : BBase} → o ≡ Some u → is_base o u ≡ true
 base_given {u = u} h = rw h (same_base_itself u)
 
-put_given : {u : Option BType} {keys : Option (List BBase)} {o : Option BBase} {k : BBase} {ks : List BBase} {w : BBase} → u ≡ Some (map_type k ks w) → keys ≡ Some (k ∷ ks) → o ≡ Some w →
+pub put_given : {u : Option BType} {keys : Option (List BBase)} {o : Option BBase} {k : BBase} {ks : List BBase} {w : BBase} → u ≡ Some (map_type k ks w) → keys ≡ Some (k ∷ ks) → o ≡ Some w →
     is_put u keys o ≡ true
 put_given {k = k} {ks = ks} {w = w} h g f = rw (h, g, f) (base_given (indexed_itself k ks w))
 

@@ -1,0 +1,9 @@
+pub mod TermLaws
+pub mod EnvLaws
+pub mod AlikeLaws
+pub mod CallLaws
+pub mod BlockLaws
+pub mod TurnLaws
+pub mod TurningLaws
+pub mod LoopLaws
+pub mod FollowsLaws

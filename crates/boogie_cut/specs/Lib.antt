@@ -1,0 +1,5 @@
+pub mod Fresh
+pub mod Cut
+pub mod Alike
+pub mod Follows
+pub mod Sum

@@ -1,0 +1,4 @@
+pub mod TypedLaws
+pub mod NameLaws
+pub mod LiteralLaws
+pub mod PrintableLaws
