@@ -49,14 +49,14 @@ record First (k : BToken) (ts us : List BToken) : Type 0 where
 first_of : {k : BToken} {ts us : List BToken} → Alike (k ∷ ts) us → First k ts us
 first_of (cons {j = j} {us = us} e a) = record { token = j; rest = us; is = refl; same = e; alike = a }
 
-record Split (ts us vs : List BToken) : Type 0 where
-  front : List BToken
-  behind : List BToken
-  is : front ++ behind ≡ vs
-  front_alike : Alike ts front
-  behind_alike : Alike us behind
+pub record Split (ts us vs : List BToken) : Type 0 where
+  pub front : List BToken
+  pub behind : List BToken
+  pub is : front ++ behind ≡ vs
+  pub front_alike : Alike ts front
+  pub behind_alike : Alike us behind
 
-split_of : (ts : List BToken) {us vs : List BToken} → Alike (ts ++ us) vs → Split ts us vs
+pub split_of : (ts : List BToken) {us vs : List BToken} → Alike (ts ++ us) vs → Split ts us vs
 split_of [] {vs = vs} a = record { front = []; behind = vs; is = refl; front_alike = nil; behind_alike = a }
 split_of (k ∷ ts) (cons {j = j} e a) =
     let s = split_of ts a in

@@ -309,7 +309,7 @@ good_indices x i (q ∷ qs) = by_where (Good v.expr (λ y k. among (code k.tok) 
     (λ _. when (the_name q) (λ _. read (g.BoundRest qs) (λ _. give (t.AtBound i))) (g.at_indices x i)) (g.at_indices x i)
     (λ h. let f = free_bound q x.locals h in good_bound x i q qs f.0 f.1) (tells_good (ext_codes (g.Indices x i)) (tells_at x i))
 
-good : {s : Kind} (a : Symbol s) → Good s (λ x k. among (code k.tok) (ext_codes a) ≡ true) (rule a)
+pub good : {s : Kind} (a : Symbol s) → Good s (λ x k. among (code k.tok) (ext_codes a) ≡ true) (rule a)
 good (g.Program ps) = tells_good (ext_codes (g.Program ps)) (tw refl (λ _. tr (λ z k h. h) (λ z. refl) (λ p. tr (λ z k h. h) (λ z. refl) (λ z. te))) te)
 good (g.Procedure taken) = tells_good (ext_codes (g.Procedure taken)) (tn (λ x. tn (λ _. tn (λ _. tn (λ _. tr (λ z k h. h) (λ z. refl) (λ ls. tr (λ z k h. h) (λ z. refl) (λ ss. te)))))))
 good (g.Locals ls) = tells_good (ext_codes (g.Locals ls)) (tw refl (λ _. tn (λ x. tn (λ _. tr (λ z k h. h) (λ z. refl) (λ u. tn (λ _. tr (λ z k h. h) (λ z. refl) (λ z. te)))))) te)

@@ -265,7 +265,7 @@ map_row : (first more base_name : List ℕ) (k u : BToken) (us : List BToken) �
     IsRow (((codes "[" ++ ([] ++ first ++ more) ++ codes "]") ++ base_name) ++ rest) ((at_start (tok.Sign sign.OpenBracket) ∷ k ∷ (us ++ u ∷ [])) ++ ts)
 map_row first more base_name k u us f e h i rest ts end r = simp append_assoc (bracket_row (f _ _ (e _) (h _ _ (i _ _ end.name_ends r))))
 
-type_shown : (keys : List BBase) (base : BBase) → AreKeys keys → Shown (type_text (record { keys = keys; base = base })) (rule g.TypeOf) (record { keys = keys; base = base })
+pub type_shown : (keys : List BBase) (base : BBase) → AreKeys keys → Shown (type_text (record { keys = keys; base = base })) (rule g.TypeOf) (record { keys = keys; base = base })
 type_shown [] base keys = record {
   tokens = at_start (word_tok (base_word base)) ∷ [];
   spelled = passed (needed {c = a_base} {v = base} (record { token = at_start (word_tok (base_word base)); is = refl; passes = refl }) given);

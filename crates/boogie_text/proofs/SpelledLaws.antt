@@ -49,7 +49,7 @@ neither false b e = (refl, e)
 -- ---- tokens
 
 -- a name has the form of one, and a literal is within the bound
-abbrev Proper : BTok → Type 0
+abbrev pub Proper : BTok → Type 0
 Proper (tok.Name x) = is_name x ≡ true
 Proper (tok.Number n) = IsLiteral n
 Proper (tok.Real n) = IsLiteral n
@@ -60,15 +60,15 @@ abbrev ProperPiece : Option BTok → Type 0
 ProperPiece None = ⊤
 ProperPiece (Some x) = Proper x
 
-abbrev AllProper : List BToken → Type 0
+abbrev pub AllProper : List BToken → Type 0
 AllProper [] = ⊤
 AllProper (k ∷ ts) = Proper k.tok × AllProper ts
 
-front_proper : (ts us : List BToken) → AllProper (ts ++ us) → AllProper ts
+pub front_proper : (ts us : List BToken) → AllProper (ts ++ us) → AllProper ts
 front_proper [] us h = tt
 front_proper (k ∷ ts) us h = (h.0, front_proper ts us h.1)
 
-back_proper : (ts us : List BToken) → AllProper (ts ++ us) → AllProper us
+pub back_proper : (ts us : List BToken) → AllProper (ts ++ us) → AllProper us
 back_proper [] us h = h
 back_proper (k ∷ ts) us h = back_proper ts us h.1
 
@@ -111,7 +111,7 @@ onto_proper : (o : Option BTok) (at : _) (ts : List BToken) → ProperPiece o �
 onto_proper None at ts h rest = rest
 onto_proper (Some x) at ts h rest = (h, rest)
 
-row_proper : {bytes : List ℕ} {ts : List BToken} → IsRow bytes ts → AllProper ts
+pub row_proper : {bytes : List ℕ} {ts : List BToken} → IsRow bytes ts → AllProper ts
 row_proper cut.none = tt
 row_proper (cut.more {bytes = bytes} {b = b} {o = o} at {tokens = ts} piece h) = onto_proper o at ts (piece_proper b bytes refl refl piece) (row_proper h)
 
@@ -126,7 +126,7 @@ number_within : (x : List ℕ) (names : List (List ℕ)) (i : ℕ) → number_of
 number_within x [] i e = absurd cc
 number_within x (y ∷ ys) i e = number_at (bytes_eq x y) (number_of x ys) i (length ys) e (number_within x ys)
 
-variable_within : {names : List (List ℕ)} {k : BTok} {i : ℕ} → IsVariable names k i → i < length names
+pub variable_within : {names : List (List ℕ)} {k : BTok} {i : ℕ} → IsVariable names k i → i < length names
 variable_within {names} {i = i} h = number_within h.name names i h.there
 
 unequal : (x y : List ℕ) → bytes_eq x y ≡ false → y ≡ x → ⊥
@@ -168,7 +168,7 @@ some_bases [] u e = cc
 some_bases (w ∷ us) u e = cc
 
 -- whether names are bound
-abbrev inside : List (List ℕ) → Truth
+abbrev pub inside : List (List ℕ) → Truth
 inside [] = false
 inside (q ∷ qs) = true
 
@@ -178,14 +178,14 @@ some_bound (x ∷ qs) q = refl
 
 -- ---- symbols
 
-abbrev Fits : g.Scope → t.BExpr → Type 0
+abbrev pub Fits : g.Scope → t.BExpr → Type 0
 Fits x e = FitsExpr (length x.locals) (inside x.bound) e
 
-abbrev SomeFit : g.Scope → List t.BExpr → Type 0
+abbrev pub SomeFit : g.Scope → List t.BExpr → Type 0
 SomeFit x es = (t.exprs es ≢ t.none) × FitExprs (length x.locals) (inside x.bound) (t.exprs es)
 
 -- what a list has so far
-abbrev Held : {k : Kind} → Symbol k → Type 0
+abbrev pub Held : {k : Kind} → Symbol k → Type 0
 Held (g.Program ps) = All FitsProc ps × NamesDiffer (proc_names ps)
 Held (g.Locals ls) = All FitsLocal ls × NamesDiffer (local_names ls)
 Held (g.MoreKeys ks) = AreKeys ks
@@ -196,7 +196,7 @@ Held (g.MoreExprs x es) = SomeFit x es
 Held _ = ⊤
 
 -- what a symbol gives
-abbrev Gives : {k : Kind} → Symbol k → Value k → Type 0
+abbrev pub Gives : {k : Kind} → Symbol k → Value k → Type 0
 Gives (g.Program ps) x = All FitsProc x × NamesDiffer (proc_names x)
 Gives (g.Procedure names) x = FitsProc x × (is_among x.name names ≡ false)
 Gives (g.Locals ls) x = All FitsLocal x × NamesDiffer (local_names x)
@@ -217,7 +217,7 @@ Gives (g.MoreExprs y es) x = SomeFit y x
 -- ---- rules
 
 -- what a rule gives, of proper tokens, has the property
-abbrev Keeps : {k : Kind} → (Value k → Type 0) → Rule k → Type 0
+abbrev pub Keeps : {k : Kind} → (Value k → Type 0) → Rule k → Type 0
 Keeps P (give x) = P x
 Keeps P (need c go) = (j : BToken) (x : _) → Proper j.tok → Passes c j x → Keeps P (go x)
 Keeps P (when c go other) = ((j : BToken) (x : _) → Proper j.tok → Passes c j x → Keeps P (go x)) × Keeps P other
@@ -417,7 +417,7 @@ more_exprs_keep x es held = (
   λ _ _ _ _. held,
 )
 
-all_keep : {k : Kind} (a : Symbol k) → Held a → Keeps (Gives a) (rule a)
+pub all_keep : {k : Kind} (a : Symbol k) → Held a → Keeps (Gives a) (rule a)
 all_keep (g.Program ps) held = procedures_keep ps held
 all_keep (g.Procedure names) held = procedure_keeps names
 all_keep (g.Locals ls) held = locals_keep ls held
@@ -435,7 +435,7 @@ all_keep (g.BoundRest qs) held = rest_keeps qs
 all_keep (g.Exprs x) held = exprs_keep x
 all_keep (g.MoreExprs x es) held = more_exprs_keep x es held
 
-keeps : {k : Kind} (P : Value k → Type 0) {a : Rule k} {ts : List BToken} {x : Value k} → Derives rules k a ts x → Keeps P a → AllProper ts → P x
+pub keeps : {k : Kind} (P : Value k → Type 0) {a : Rule k} {ts : List BToken} {x : Value k} → Derives rules k a ts x → Keeps P a → AllProper ts → P x
 keeps P given h proper = h
 keeps P (needed {v = y} q d) h proper = let all = subst AllProper q.is proper in keeps P d (h q.token y all.0 q.passes) all.1
 keeps P (taken {v = y} q d) h proper = let all = subst AllProper q.is proper in keeps P d (h.0 q.token y all.0 q.passes) all.1

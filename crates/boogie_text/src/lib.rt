@@ -13,6 +13,7 @@ mod procs;
 mod program;
 mod put_exprs;
 mod put_heads;
+mod put_leaves;
 mod put_stmts;
 mod reader;
 mod simple;
@@ -31,7 +32,8 @@ pub use pieces::{
     write_if, write_prelude,
 };
 pub use printer::print;
-pub use put_heads::put_locals;
+pub use put_heads::{put_locals, put_type};
+pub use put_leaves::{put, put_binders, put_names, put_number, put_operator, truth_text};
 pub use put_stmts::{put_else, put_end};
 pub use reader::read;
 pub use text_laws::{

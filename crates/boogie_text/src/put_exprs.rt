@@ -1,15 +1,14 @@
 // The text of expressions.
 ghost use Rattle.std.specs.Prelude.{◌≡◌, ◌++◌, ◌≤◌, OnOk, [], drop, codes, length};
-ghost use Rattle.std.specs.Fmt.{signed_decimal};
 ghost use Rattle.boogie_tree.specs.Whole as b;
 ghost use Rattle.boogie_grammar.specs.Naming.{naming_of, temporary_name};
 ghost use Rattle.boogie_grammar.specs.Printed as text;
 
-use boogie_grammar::eating::base_text;
+use crate::put_leaves::{put, put_binders, put_names, put_number, put_operator, truth_text};
 use boogie_grammar::naming::{Naming, bound_names};
-use boogie_tree::{BBase, BExpr, BOp};
+use boogie_tree::{BBase, BExpr};
 use std::alloc::Global;
-use vb_base::{Ident, Memory};
+use vb_base::Memory;
 
 /// An expression.
 #[cycle(expressions)]
@@ -145,50 +144,6 @@ fn put_at_bound(
     put(out, b"]")
 }
 
-/// Names with `, ` between them.
-fn put_names(out: &mut Vec<u8>, names: &[Ident]) -> Result<(), Memory>
-    ensures { OnOk result (out.new.items ≡ out.old.items ++ text.names_text [] names.now) }
-{
-    let mut before: &[u8] = b"";
-    for name in names {
-        put(out, before)?;
-        put(out, &name.bytes)?;
-        before = b", ";
-    }
-    Ok(())
-}
-
-/// Bound variables with their types.
-fn put_binders(out: &mut Vec<u8>, names: &[Ident], types: &[BBase]) -> Result<(), Memory>
-    ensures { OnOk result (out.new.items ≡ out.old.items ++ text.binders_text [] names.now types.now) }
-{
-    let mut before: &[u8] = b"";
-    for (i, name) in names.iter().enumerate() {
-        match types.get(i) {
-            Some(base) => put_binder(out, before, name, *base)?,
-            None => return Ok(()),
-        }
-        before = b", ";
-    }
-    Ok(())
-}
-
-fn put_binder(out: &mut Vec<u8>, before: &[u8], name: &Ident, base: BBase) -> Result<(), Memory>
-    ensures { OnOk result (out.new.items ≡ out.old.items ++ before.now ++ name.now ++ codes ": " ++ text.base_text base) }
-{
-    put(out, before)?;
-    put(out, &name.bytes)?;
-    put(out, b": ")?;
-    put(out, base_text(base))
-}
-
-fn put_operator(out: &mut Vec<u8>, op: BOp) -> Result<(), Memory>
-    ensures { OnOk result (out.new.items ≡ out.old.items ++ codes " " ++ text.operator_text op) }
-{
-    put(out, b" ")?;
-    put(out, operator_text(op))
-}
-
 /// The name of the map of this number, and `[`.
 pub(crate) fn put_map(
     alloc: Global,
@@ -239,48 +194,4 @@ fn put_numbered(alloc: Global, out: &mut Vec<u8>, number: usize) -> Result<(), M
 {
     put(out, b"t$")?;
     put(out, format!(in alloc; "{number}")?.as_bytes())
-}
-
-fn put_number(alloc: Global, out: &mut Vec<u8>, n: i128, after: &[u8]) -> Result<(), Memory>
-    ensures { OnOk result (out.new.items ≡ out.old.items ++ signed_decimal n ++ after.now) }
-{
-    put(out, format!(in alloc; "{n}")?.as_bytes())?;
-    put(out, after)
-}
-
-fn truth_text(truth: bool) -> &'static [u8]
-    ensures { result.now ≡ text.truth_text truth }
-{
-    if truth { b"true" } else { b"false" }
-}
-
-fn operator_text(op: BOp) -> &'static [u8]
-    ensures { result.now ≡ text.operator_text op }
-{
-    match op {
-        BOp::Iff => b"<==>",
-        BOp::Implies => b"==>",
-        BOp::Or => b"||",
-        BOp::And => b"&&",
-        BOp::Eq => b"==",
-        BOp::Ne => b"!=",
-        BOp::Lt => b"<",
-        BOp::Le => b"<=",
-        BOp::Gt => b">",
-        BOp::Ge => b">=",
-        BOp::Add => b"+",
-        BOp::Sub => b"-",
-        BOp::Mul => b"*",
-        BOp::Divide => b"/",
-        BOp::IntDiv => b"div",
-        BOp::IntMod => b"mod",
-    }
-}
-
-/// These bytes.
-pub(crate) fn put(out: &mut Vec<u8>, bytes: &[u8]) -> Result<(), Memory>
-    ensures { OnOk result (out.new.items ≡ out.old.items ++ bytes.now) }
-{
-    out.extend_from_slice(bytes)?;
-    Ok(())
 }

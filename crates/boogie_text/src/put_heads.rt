@@ -3,7 +3,7 @@ ghost use Rattle.std.specs.Prelude.{◌≡◌, ◌++◌, OnOk, [], codes};
 ghost use Rattle.boogie_tree.specs.Whole as b;
 ghost use Rattle.boogie_grammar.specs.Printed as text;
 
-use crate::put_exprs::put;
+use crate::put_leaves::put;
 use boogie_grammar::eating::base_text;
 use boogie_tree::{BBase, BType, Local};
 use vb_base::Memory;
@@ -37,7 +37,8 @@ fn put_local(out: &mut Vec<u8>, local: &Local) -> Result<(), Memory>
     put(out, b";\n")
 }
 
-fn put_type(out: &mut Vec<u8>, ty: &BType) -> Result<(), Memory>
+/// Appends a type.
+pub fn put_type(out: &mut Vec<u8>, ty: &BType) -> Result<(), Memory>
     ensures { OnOk result (out.new.items ≡ out.old.items ++ text.type_text (b.type_of ty.now)) }
 {
     put_keys(out, &ty.keys)?;

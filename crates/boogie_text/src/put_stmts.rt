@@ -6,7 +6,8 @@ ghost use Rattle.boogie_grammar.specs.Naming.{naming_of};
 ghost use Rattle.boogie_grammar.specs.Printed as text;
 ghost use Rattle.boogie_text.specs.Pieces.{else_text, end_text};
 
-use crate::put_exprs::{put, put_after, put_exprs, put_map, put_name};
+use crate::put_exprs::{put_after, put_exprs, put_map, put_name};
+use crate::put_leaves::put;
 use boogie_grammar::naming::Naming;
 use boogie_tree::{BExpr, BStmt};
 use std::alloc::Global;

@@ -1,27 +1,33 @@
 -- Files have one answer, so which status comes where a cause stands follows from the causes.
-use Rattle.std.proofs.Common.{◌≡◌, ◌∙◌, inl, inr, ◌<◌, ◌≤◌, ℕ, List, [], ◌∷◌, length, Option, Some, None, slice_get, refl, sym, ap, subst, arith}
+use Rattle.std.proofs.Common.{◌≡◌, ◌∙◌, inl, inr, ◌<◌, ◌≤◌, ◌++◌, ℕ, List, [], ◌∷◌, codes, length, Option, Some, None, slice_get, refl, sym, ap, subst, arith}
 use Rattle.std.specs.Str.Parse.{digits_value}
+use Rattle.vb_base.proofs.Fronts.{one_label}
+use Rattle.vb_base.specs.Labels.{Spells}
 use Rattle.vb_base.specs.declared.labels.Label.{Label}
 use Rattle.vb_gen.specs.Generated.{IsOutOfRange}
 use Rattle.vb_outer.specs.Shelf.{Files, IsFile, IsMissing, IsWhole}
 use Rattle.vb_outer.specs.Sink.{Appends}
 use Rattle.boogie_run.specs.Start.{outcome_of}
 use Rattle.boogie_run.specs.declared.replaying.BOutcome.{BOutcome}
+use Rattle.boogie_tree.specs.Program.{Proc}
 use Rattle.enc_stmt.specs.Translates.{text_of}
 use Rattle.viper_core.specs.Program as p
 use Rattle.viper_core.specs.declared.programs.Unit.{Unit}
 use Rattle.vb_tool.proofs.BoogieVerdicts.{one_replay_refusal, replay_not_refused, one_procedure_run}
 use Rattle.vb_tool.proofs.CallLaws.{IsOutcome, does_end}
+use Rattle.vb_tool.proofs.ConditionVerdicts.{one_condition_refusal, condition_not_refused, one_condition}
 use Rattle.vb_tool.proofs.RunVerdicts.{one_run_refusal, run_not_refused, one_unit_run}
 use Rattle.vb_tool.proofs.Verdicts.{one_refusal, accepted_not_refused, one_accepted}
 use Rattle.vb_tool.specs.Accepted as accepted
 use Rattle.vb_tool.specs.Accepted.{IsAccepted, AcceptsRun, IsRefusal, IsRunRefusal}
+use Rattle.vb_tool.specs.AcceptedCondition.{AcceptsCondition, IsConditionRefusal}
 use Rattle.vb_tool.specs.AcceptedReplay as replay
 use Rattle.vb_tool.specs.AcceptedReplay.{AcceptsReplay, IsReplayRefusal}
 use Rattle.vb_tool.specs.Call as call
-use Rattle.vb_tool.specs.Call.{MissesOf, Misses, first, later, Refuses, translates, too_long, runs, replay_too_long, replays, makes, Does, translated, ran, replayed, made, HasDone, IsCause, usage, read, refused, Causes, EndsAs, EndsWith, as_expected, no_memory, read_fault, write_fault, OutAfter}
+use Rattle.vb_tool.specs.Call.{MissesOf, Misses, first, later, Refuses, translates, too_long, runs, replay_too_long, replays, makes, conditions, Does, translated, ran, replayed, made, stated, HasDone, IsCause, usage, read, refused, Causes, EndsAs, EndsWith, as_expected, no_memory, read_fault, write_fault, OutAfter}
 use Rattle.vb_tool.specs.Command as asks
-use Rattle.vb_tool.specs.Command.{Command, Translate, Run, Replay, Make, Asks, IsNoCommand}
+use Rattle.vb_tool.specs.Command.{Command, Translate, Run, Replay, Make, Condition, Asks, IsNoCommand}
+use Rattle.vb_tool.specs.Conditions.{condition_text, IsStatement}
 use Rattle.vb_tool.specs.Outcome.{run_status, run_text}
 use Rattle.vb_tool.specs.Procedures.{ProcedureRun, procedure_end}
 use Rattle.vb_tool.specs.ReplayOutcome.{replay_status, replay_text}
@@ -39,23 +45,35 @@ asked_once : {words : List (List ℕ)} {a b : Command} → Asks words a → Asks
 asked_once (asks.translate {file = f} h) (asks.translate {file = g} i) = let e : f ≡ g = cc in ap Translate e
 asked_once (asks.translate h) (asks.run i) = absurd (cc)
 asked_once (asks.translate h) (asks.replay i) = absurd (cc)
-asked_once (asks.translate h) (asks.make i k) = absurd (cc)
+asked_once (asks.translate h) (asks.make i l) = absurd (cc)
+asked_once (asks.translate h) (asks.condition i l) = absurd (cc)
 asked_once (asks.run h) (asks.translate i) = absurd (cc)
 asked_once (asks.run {file = f} {unit = t} {run_file = q} h) (asks.run {file = g} {unit = u} {run_file = r} i) =
     let d : f ≡ g = cc in let e : t ≡ u = cc in let k : q ≡ r = cc in
     ap (λ x. Run x t q) d ∙ ap (λ x. Run g x q) e ∙ ap (λ x. Run g u x) k
 asked_once (asks.run h) (asks.replay i) = absurd (cc)
-asked_once (asks.run h) (asks.make i k) = absurd (cc)
+asked_once (asks.run h) (asks.make i l) = absurd (cc)
+asked_once (asks.run h) (asks.condition i l) = absurd (cc)
 asked_once (asks.replay h) (asks.translate i) = absurd (cc)
 asked_once (asks.replay h) (asks.run i) = absurd (cc)
 asked_once (asks.replay {file = f} {run_file = q} h) (asks.replay {file = g} {run_file = r} i) =
     let d : f ≡ g = cc in let k : q ≡ r = cc in ap (λ x. Replay x q) d ∙ ap (λ x. Replay g x) k
-asked_once (asks.replay h) (asks.make i k) = absurd (cc)
+asked_once (asks.replay h) (asks.make i l) = absurd (cc)
+asked_once (asks.replay h) (asks.condition i l) = absurd (cc)
 asked_once (asks.make h k) (asks.translate i) = absurd (cc)
 asked_once (asks.make h k) (asks.run i) = absurd (cc)
 asked_once (asks.make h k) (asks.replay i) = absurd (cc)
 asked_once (asks.make {word = v} h k) (asks.make {word = w} i l) =
     let e : v ≡ w = cc in ap Make (sym k.value ∙ ap (digits_value 10) e ∙ l.value)
+asked_once (asks.make h k) (asks.condition i l) = absurd (cc)
+asked_once (asks.condition h k) (asks.translate i) = absurd (cc)
+asked_once (asks.condition h k) (asks.run i) = absurd (cc)
+asked_once (asks.condition h k) (asks.replay i) = absurd (cc)
+asked_once (asks.condition h k) (asks.make i l) = absurd (cc)
+asked_once (asks.condition {file = f} {procedure = t} {at = a} {part = b} {kind = c} {label = m} h k) (asks.condition {file = g} {procedure = u} {at = x} {part = y} {kind = z} {label = n} i l) =
+    let d : f ≡ g = cc in let e : t ≡ u = cc in let j : a ≡ x = cc in let p : b ≡ y = cc in let q : c ≡ z = cc in
+    let text : a ++ codes " " ++ b ++ codes " " ++ c ≡ x ++ codes " " ++ y ++ codes " " ++ z = ap (λ v. v ++ codes " " ++ b ++ codes " " ++ c) j ∙ ap (λ v. x ++ codes " " ++ v ++ codes " " ++ c) p ∙ ap (λ v. x ++ codes " " ++ y ++ codes " " ++ v) q in
+    ap (λ v. Condition v t m) d ∙ ap (λ v. Condition g v m) e ∙ ap (λ v. Condition g u v) (one_label (subst (λ v. Spells v m) text k) l)
 
 -- ---- a name is one file
 
@@ -91,6 +109,12 @@ same_run {a} {d = d} {unit = unit} {u = u} same also is = subst (λ x. AcceptsRu
 same_replay : {a b c d : List ℕ} {u : ProcedureRun} → a ≡ b → c ≡ d → AcceptsReplay b d u → AcceptsReplay a c u
 same_replay {a} {d = d} {u = u} same also is = subst (λ x. AcceptsReplay a x u) (sym also) (subst (λ x. AcceptsReplay x d u) (sym same) is)
 
+same_condition_refusal : {a b name : List ℕ} {r : Refusal} → a ≡ b → IsConditionRefusal b name r → IsConditionRefusal a name r
+same_condition_refusal {name = name} {r = r} same is = subst (λ x. IsConditionRefusal x name r) (sym same) is
+
+same_condition : {a b name : List ℕ} {d : Proc} → a ≡ b → AcceptsCondition b name d → AcceptsCondition a name d
+same_condition {name = name} {d = d} same is = subst (λ x. AcceptsCondition x name d) (sym same) is
+
 same_program : {a b : List ℕ} {q : p.Program} → a ≡ b → IsAccepted b q → IsAccepted a q
 same_program {q = q} same is = subst (λ x. IsAccepted x q) (sym same) is
 
@@ -120,6 +144,7 @@ module _ {Has Had : List ℕ → List ℕ → Type 0} (same : (name a b : List �
   one_refusal_of (replays {file = f} {run_file = g} a b is run_is denied) (replays c d also run_also other) =
       one_replay_refusal denied (same_replay_refusal (same f a c is also) (same g b d run_is run_also) other)
   one_refusal_of (makes out) (makes also) = refl
+  one_refusal_of (conditions {file = f} a is denied) (conditions b also other) = one_condition_refusal denied (same_condition_refusal (same f a b is also) other)
 
   does_not_refuse : {command : Command} {r : Refusal} {s : Status} {text : List ℕ} → Does Has command s text → Refuses Had command r → ⊥
   does_not_refuse {r = r} (translated {file = f} a is accepts) (translates b also denied) = accepted_not_refused accepts (subst (λ x. IsRefusal x r) (sym (same f a b is also)) denied)
@@ -130,6 +155,7 @@ module _ {Has Had : List ℕ → List ℕ → Type 0} (same : (name a b : List �
   does_not_refuse (replayed {file = f} {run_file = g} a b is run_is accepts ends) (replays c d also run_also denied) =
       replay_not_refused accepts (same_replay_refusal (same f a c is also) (same g b d run_is run_also) denied)
   does_not_refuse (made some few accepts) (makes out) = not_out_of_range some few out
+  does_not_refuse (stated {file = f} a is accepts) (conditions b also denied) = condition_not_refused accepts (same_condition_refusal (same f a b is also) denied)
 
   refuses_not_does : {command : Command} {r : Refusal} {s : Status} {text : List ℕ} → Refuses Has command r → Does Had command s text → ⊥
   refuses_not_does {r = r} (translates {file = f} a is denied) (translated b also accepts) = accepted_not_refused accepts (subst (λ x. IsRefusal x r) (same f a b is also) denied)
@@ -140,6 +166,7 @@ module _ {Has Had : List ℕ → List ℕ → Type 0} (same : (name a b : List �
   refuses_not_does (replays {file = f} {run_file = g} a b is run_is denied) (replayed c d also run_also accepts ends) =
       replay_not_refused accepts (same_replay_refusal (sym (same f a c is also)) (sym (same g b d run_is run_also)) denied)
   refuses_not_does (makes out) (made some few accepts) = not_out_of_range some few out
+  refuses_not_does (conditions {file = f} a is denied) (stated b also accepts) = condition_not_refused accepts (same_condition_refusal (sym (same f a b is also)) denied)
 
   does_one : {command : Command} {s t : Status} {text other : List ℕ} → Does Has command s text → Does Had command t other → (s ≡ t) × (text ≡ other)
   does_one (translated {file = f} a is accepts) (translated b also others) = (refl, ap text_of (one_accepted accepts (same_program (same f a b is also) others)))
@@ -150,6 +177,7 @@ module _ {Has Had : List ℕ → List ℕ → Type 0} (same : (name a b : List �
       let e = one_outcome (one_procedure_run accepts (same_replay (same f a c is also) (same g b d run_is run_also) others)) ends end in
       (ap replay_status e, ap replay_text e)
   does_one (made {n = n} some few accepts) (made others_some others_few others) = (refl, ap (made_text n) (one_accepted accepts others))
+  does_one (stated {file = f} {label = l} a is accepts) (stated b also others) = (refl, ap (λ d. condition_text d l) (one_condition accepts (same_condition (same f a b is also) others)))
 
 pub one_deed : (files : Option Files) (command : Command) (s t : Status) (text other : List ℕ) → Does (IsFile files) command s text → Does (IsFile files) command t other →
     (s ≡ t) × (text ≡ other)
@@ -181,12 +209,14 @@ module _ {files : Option Files} where
   misses_not_refused misses (replay_too_long bytes is above) = misses_long bytes is above misses
   misses_not_refused misses (replays bytes run_bytes is run_is denied) = misses_two bytes run_bytes is run_is misses
   misses_not_refused misses (makes out) = misses_none misses
+  misses_not_refused misses (conditions bytes is denied) = misses_one bytes is misses
 
   misses_not_done : {command : Command} {s : Status} {text : List ℕ} → Misses files command → Does (IsWhole files) command s text → ⊥
   misses_not_done misses (translated bytes is accepts) = misses_one bytes is misses
   misses_not_done misses (ran bytes run_bytes is run_is accepts there) = misses_two bytes run_bytes is run_is misses
   misses_not_done misses (replayed bytes run_bytes is run_is accepts ends) = misses_two bytes run_bytes is run_is misses
   misses_not_done misses (made some few accepts) = misses_none misses
+  misses_not_done misses (stated bytes is accepts) = misses_one bytes is misses
 
 -- ---- statuses
 
@@ -226,6 +256,13 @@ module _ (words : List (List ℕ)) (files : Option Files) where
   transfer_comes before now s out file unit run_file label asks is =
       let written = subst (OutAfter before now (HasDone words files)) is out in
       (written.0, written.1.transfers file unit run_file label (asked_once written.1.asked asks) refl, written.2)
+
+  -- what is written of a procedure and a label is a condition for them
+  pub statement_comes : (before now : Option (List ℕ)) (s : Status) → OutAfter before now (HasDone words files) s → (file procedure : List ℕ) (label : Label) →
+      Asks words (Condition file procedure label) → s ≡ status.Done → (text : List ℕ) × IsStatement (IsWhole files) file procedure label text × Appends before now text
+  statement_comes before now s out file procedure label asks is =
+      let written = subst (OutAfter before now (HasDone words files)) is out in
+      (written.0, written.1.states file procedure label (asked_once written.1.asked asks), written.2)
 
   module _ (before now : ℕ) where
     -- what follows from each cause follows from the causes

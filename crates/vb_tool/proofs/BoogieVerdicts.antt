@@ -72,7 +72,7 @@ typed_and_not : {q r : BProgram} {n : ℕ} → q ≡ r → IsTypedProgram q → 
 typed_and_not same typed i = i.is_ill_typed (subst IsTypedProgram same typed i.place i.procedure i.is_there)
 
 module _ {bytes : List ℕ} where
-  one_text_refusal : {r q : Refusal} → IsBoogieRefusal bytes r → IsBoogieRefusal bytes q → r ≡ q
+  pub one_text_refusal : {r q : Refusal} → IsBoogieRefusal bytes r → IsBoogieRefusal bytes q → r ≡ q
   one_text_refusal (prelude f) (prelude g) = ap for_fault (one_fault bytes _ _ f g)
   one_text_refusal (prelude f) (deep g) = ap for_fault (one_fault bytes _ _ f g)
   one_text_refusal (prelude f) (syntax g) = ap for_fault (one_fault bytes _ _ f g)
@@ -90,7 +90,7 @@ module _ {bytes : List ℕ} where
   one_text_refusal (ill_typed h i) (syntax g) = absurd (read_refused _ h g)
   one_text_refusal (ill_typed h i) (ill_typed k j) = ap refusal.BoogieType (one_number (one_text h k) i j)
 
-  boogie_text : {q : BProgram} {r : Refusal} → IsBoogie bytes q → IsBoogieRefusal bytes r → ⊥
+  pub boogie_text : {q : BProgram} {r : Refusal} → IsBoogie bytes q → IsBoogieRefusal bytes r → ⊥
   boogie_text h (prelude f) = read_refused _ h.text f
   boogie_text h (deep f) = read_refused _ h.text f
   boogie_text h (syntax f) = read_refused _ h.text f
@@ -194,6 +194,27 @@ nobody = record { name = []; locals = []; body = skip }
 pub named_within : (q : BProgram) (name : List ℕ) (n : ℕ) → procedure_named q name ≡ Some n → n < length q.procs
 named_within q name n e = (position-Some (λ (d : Proc). bytes_eq d.name name) q.procs n nobody e).0
 
+-- a text is a well-typed program, or is refused
+pub boogie_answer : (bytes : List ℕ) → length bytes ≤ 33554432 → ((q : BProgram) × IsBoogie bytes q) ⊎ ((r : Refusal) × IsBoogieRefusal bytes r)
+boogie_answer bytes small = of_cut (some_text_answer bytes (omega (arith, small)))
+  where
+    of_types : (q : BProgram) → IsRead bytes q → (o : Option ℕ) → first_ill_typed q ≡ o → ((q : BProgram) × IsBoogie bytes q) ⊎ ((r : Refusal) × IsBoogieRefusal bytes r)
+    of_types q h None none = inl (q, record { small = small; text = h; is_typed = no_ill_typed q none })
+    of_types q h (Some n) some = inr (_, ill_typed h (is_first q n some))
+
+    no_memory : IsFault bytes fault.Memory → ⊥
+    no_memory f = elim f [ ]
+
+    of_fault : (f : BoogieFault) → IsFault bytes f → ((q : BProgram) × IsBoogie bytes q) ⊎ ((r : Refusal) × IsBoogieRefusal bytes r)
+    of_fault fault.Memory f = absurd (no_memory f)
+    of_fault (fault.Prelude at) f = inr (_, prelude f)
+    of_fault (fault.Syntax at) f = inr (_, syntax f)
+    of_fault (fault.Deep at) f = inr (_, deep f)
+
+    of_cut : ((q : BProgram) × IsRead bytes q) ⊎ ((f : BoogieFault) × IsFault bytes f) → ((q : BProgram) × IsBoogie bytes q) ⊎ ((r : Refusal) × IsBoogieRefusal bytes r)
+    of_cut (inl (q, h)) = of_types q h (first_ill_typed q) refl
+    of_cut (inr (f, h)) = of_fault f h
+
 module _ (bytes run : List ℕ) where
   abbrev Answer : Type 0
   Answer = HasOneAnswer (AcceptsReplay bytes run) (IsReplayRefusal bytes run)
@@ -222,26 +243,13 @@ module _ (bytes run : List ℕ) where
     of_header (inl (name, h)) = of_name name h (procedure_named q name) refl
     of_header (inr (at, wrong)) = refused_once (of_run a few (header wrong))
 
-  module _ (small : length bytes ≤ 33554432) (few : length run ≤ 33554432) where
-    of_types : (q : BProgram) → IsRead bytes q → (o : Option ℕ) → first_ill_typed q ≡ o → Answer
-    of_types q h None none = of_header q (record { small = small; text = h; is_typed = no_ill_typed q none }) few (header_or_place run few)
-    of_types q h (Some n) some = refused_once (of_text small few (ill_typed h (is_first q n some)))
-
-    fault_refuses : (f : BoogieFault) → IsFault bytes f → Answer
-    fault_refuses fault.Memory f = absurd (no_memory f) where
-      no_memory : IsFault bytes fault.Memory → ⊥
-      no_memory f = elim f [ ]
-    fault_refuses (fault.Prelude at) f = refused_once (of_text small few (prelude f))
-    fault_refuses (fault.Syntax at) f = refused_once (of_text small few (syntax f))
-    fault_refuses (fault.Deep at) f = refused_once (of_text small few (deep f))
-
-    of_bytes : ((q : BProgram) × IsRead bytes q) ⊎ ((f : BoogieFault) × IsFault bytes f) → Answer
-    of_bytes (inl (q, h)) = of_types q h (first_ill_typed q) refl
-    of_bytes (inr (f, h)) = fault_refuses f h
+  of_bytes : length bytes ≤ 33554432 → length run ≤ 33554432 → ((q : BProgram) × IsBoogie bytes q) ⊎ ((r : Refusal) × IsBoogieRefusal bytes r) → Answer
+  of_bytes small few (inl (q, a)) = of_header q a few (header_or_place run few)
+  of_bytes small few (inr (r, is)) = refused_once (of_text small few is)
 
   of_run_size : length bytes ≤ 33554432 → (33554432 < length run) ⊎ (length run ≤ 33554432) → Answer
   of_run_size small (inl above) = refused_once (run_size small above)
-  of_run_size small (inr few) = of_bytes small few (some_text_answer bytes (omega (arith, small)))
+  of_run_size small (inr few) = of_bytes small few (boogie_answer bytes small)
 
   of_size : (33554432 < length bytes) ⊎ (length bytes ≤ 33554432) → Answer
   of_size (inl above) = refused_once (size above)

@@ -18,12 +18,13 @@ use Rattle.vb_tool.specs.Accepted as accepted
 use Rattle.vb_tool.specs.Accepted.{IsAccepted}
 use Rattle.vb_tool.specs.AcceptedReplay as replay
 use Rattle.vb_tool.specs.Call as call
-use Rattle.vb_tool.specs.Call.{MissesOf, NamesFile, Refuses, Does, WritesTransfer, HasDone, IsCause, OutAfter, ErrAfter, Causes}
-use Rattle.vb_tool.specs.Command.{Command, Translate, Run, Replay, Make, Asks, files_of}
+use Rattle.vb_tool.specs.Call.{MissesOf, NamesFile, Refuses, Does, WritesTransfer, WritesCondition, HasDone, IsCause, OutAfter, ErrAfter, Causes}
+use Rattle.vb_tool.specs.Command.{Command, Translate, Run, Replay, Make, Condition, Asks, files_of}
+use Rattle.vb_tool.specs.Conditions.{IsStatement}
 use Rattle.vb_tool.specs.Converted.{trouble_of_file}
 use Rattle.vb_tool.specs.Outcome.{status_of, run_status}
 use Rattle.vb_tool.specs.Parts as parts
-use Rattle.vb_tool.specs.Parts.{command_of, Reports, Delivers, OutcomeOf, ReplayOf, SummaryOf}
+use Rattle.vb_tool.specs.Parts.{command_of, Reports, Delivers, OutcomeOf, ReplayOf, SummaryOf, ConditionOf}
 use Rattle.vb_tool.specs.ReplayOutcome.{replay_status}
 use Rattle.vb_tool.specs.Status.{line_of}
 use Rattle.vb_tool.specs.Transfer.{IsTransfer}
@@ -147,6 +148,9 @@ translation_transfers f t r label same failed = absurd (cc)
 pub replay_transfers : {Has : List ℕ → List ℕ → Type 0} {file run_file : List ℕ} {s : Status} {text : List ℕ} → WritesTransfer Has (Replay file run_file) s text
 replay_transfers f t r label same failed = absurd (cc)
 
+pub condition_transfers : {Has : List ℕ → List ℕ → Type 0} {file procedure : List ℕ} {l : Label} {s : Status} {text : List ℕ} → WritesTransfer Has (Condition file procedure l) s text
+condition_transfers f t r label same failed = absurd (cc)
+
 pub making_transfers : {Has : List ℕ → List ℕ → Type 0} {n : ℕ} {s : Status} {text : List ℕ} → WritesTransfer Has (Make n) s text
 making_transfers f t r label same failed = absurd (cc)
 
@@ -160,6 +164,43 @@ pub replay_result_does : (files : Option Files) (file run_file bytes run_bytes :
     IfOk result (λ t. ReplayOf bytes run_bytes t.status t.text.items) → IfOk result (λ t. Does (IsWhole files) (Replay file run_file) t.status t.text.items)
 replay_result_does files file run_file bytes run_bytes (Ok t) whole run_whole o = replay_does files file run_file bytes run_bytes t.text.items t.status whole run_whole o
 replay_result_does files file run_file bytes run_bytes (Err e) whole run_whole o = o
+
+condition_does : (files : Option Files) (file procedure bytes text : List ℕ) (label : Label) (s : Status) → IsWhole files file bytes → ConditionOf bytes procedure label s text →
+    Does (IsWhole files) (Condition file procedure label) s text
+condition_does files file procedure bytes text label s whole o =
+    let Deed : Status → List ℕ → Type 0 = Does (IsWhole files) (Condition file procedure label) in
+    subst (λ x. Deed x text) (sym o.status_is) (subst (Deed status.Done) (sym o.text_is) (call.stated bytes whole o.accepted))
+
+pub condition_result_does : (files : Option Files) (file procedure bytes : List ℕ) (label : Label) (result : Result Ending Trouble) → IsWhole files file bytes →
+    IfOk result (λ t. ConditionOf bytes procedure label t.status t.text.items) → IfOk result (λ t. Does (IsWhole files) (Condition file procedure label) t.status t.text.items)
+condition_result_does files file procedure bytes label (Ok t) whole o = condition_does files file procedure bytes t.text.items label t.status whole o
+condition_result_does files file procedure bytes label (Err e) whole o = o
+
+-- and its text is a condition
+condition_states : (files : Option Files) (file procedure bytes text : List ℕ) (label : Label) (s : Status) → IsWhole files file bytes → ConditionOf bytes procedure label s text →
+    WritesCondition (IsWhole files) (Condition file procedure label) text
+condition_states files file procedure bytes text label s whole o f d l same =
+    let e : file ≡ f = cc in let k : procedure ≡ d = cc in let m : label ≡ l = cc in
+    subst (λ x. IsStatement (IsWhole files) x d l text) e (subst (λ x. IsStatement (IsWhole files) file x l text) k (subst (λ x. IsStatement (IsWhole files) file procedure x text) m
+    (record { bytes = bytes; is = whole; procedure = o.procedure; accepted = o.accepted; condition = o.condition })))
+
+pub condition_result_states : (files : Option Files) (file procedure bytes : List ℕ) (label : Label) (result : Result Ending Trouble) → IsWhole files file bytes →
+    IfOk result (λ t. ConditionOf bytes procedure label t.status t.text.items) → IfOk result (λ t. WritesCondition (IsWhole files) (Condition file procedure label) t.text.items)
+condition_result_states files file procedure bytes label (Ok t) whole o = condition_states files file procedure bytes t.text.items label t.status whole o
+condition_result_states files file procedure bytes label (Err e) whole o = o
+
+-- no other command states a condition
+pub translation_states : {Has : List ℕ → List ℕ → Type 0} {file : List ℕ} {text : List ℕ} → WritesCondition Has (Translate file) text
+translation_states f d l same = absurd (cc)
+
+pub run_states : {Has : List ℕ → List ℕ → Type 0} {file unit run_file : List ℕ} {text : List ℕ} → WritesCondition Has (Run file unit run_file) text
+run_states f d l same = absurd (cc)
+
+pub replay_states : {Has : List ℕ → List ℕ → Type 0} {file run_file : List ℕ} {text : List ℕ} → WritesCondition Has (Replay file run_file) text
+replay_states f d l same = absurd (cc)
+
+pub making_states : {Has : List ℕ → List ℕ → Type 0} {n : ℕ} {text : List ℕ} → WritesCondition Has (Make n) text
+making_states f d l same = absurd (cc)
 
 -- a number that is not out of range is one from 1 on, and not too great
 in_range : (n : ℕ) → (IsOutOfRange n → ⊥) → (1 ≤ n) × (n ≤ 2000)
@@ -176,8 +217,8 @@ pub summary_refused : (files : Option Files) (n : ℕ) (r : Refusal) → (refusa
 summary_refused files n r why = subst (Refuses (IsWhole files) (Make n)) why.0 (call.makes why.1)
 
 pub has_done : {words : List (List ℕ)} {files : Option Files} {command : Command} {s : Status} {text : List ℕ} → Asks words command → Does (IsWhole files) command s text →
-    WritesTransfer (IsWhole files) command s text → HasDone words files s text
-has_done {command = c} asks does transfers = record { command = c; asked = asks; does = does; transfers = transfers }
+    WritesTransfer (IsWhole files) command s text → WritesCondition (IsWhole files) command text → HasDone words files s text
+has_done {command = c} asks does transfers states = record { command = c; asked = asks; does = does; transfers = transfers; states = states }
 
 -- ---- what a status that was reported comes to
 
@@ -254,6 +295,7 @@ does_end (call.translated bytes is accepts) = done
 does_end (call.ran {u = u} bytes run_bytes is run_is accepts there) = run_done (end_of u)
 does_end (call.replayed {o = o} bytes run_bytes is run_is accepts ends) = replay_done o
 does_end (call.made some few accepts) = done
+does_end (call.stated bytes is accepts) = done
 
 done_cause : {words : List (List ℕ)} {files : Option Files} {first last : ℕ} (SinkFailed : Type 0) {s : Status} → IsOutcome s → IsCause words files first last s →
     Causes words files first last SinkFailed s

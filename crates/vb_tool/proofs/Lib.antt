@@ -14,3 +14,5 @@ pub mod MakingLaws
 pub mod WordLaws
 pub mod CallLaws
 pub mod Answered
+pub mod ConditionVerdicts
+pub mod ConditionStages

@@ -17,13 +17,13 @@ use Rattle.vb_tool.specs.declared.status.Refusal.TheVariants as refusal
 -- ---- a run file has one answer
 
 module _ (bytes : List ℕ) (q : p.Program) (n : ℕ) (formed : IsFormed q) where
-  one_run : {a b : ViperRun} → SpellsViperRun bytes q n a → SpellsViperRun bytes q n b → a ≡ b
+  pub one_run : {a b : ViperRun} → SpellsViperRun bytes q n a → SpellsViperRun bytes q n b → a ≡ b
   one_run {a} {b} h k = run_laws.one_run (is_reader q n (names_apart q n formed)) bytes a b h k
 
-  one_wrong : {a b : Pos} → GoesWrongAt bytes q n a → GoesWrongAt bytes q n b → a ≡ b
+  pub one_wrong : {a b : Pos} → GoesWrongAt bytes q n a → GoesWrongAt bytes q n b → a ≡ b
   one_wrong {a} {b} h k = run_laws.one_place (is_reader q n (names_apart q n formed)) bytes a b h k
 
-  never_both : {a : ViperRun} {b : Pos} → SpellsViperRun bytes q n a → GoesWrongAt bytes q n b → ⊥
+  pub never_both : {a : ViperRun} {b : Pos} → SpellsViperRun bytes q n a → GoesWrongAt bytes q n b → ⊥
   never_both {a} {b} h k = run_laws.not_both (is_reader q n (names_apart q n formed)) bytes a b h k
 
 -- ---- what `run` accepts and refuses

@@ -9,11 +9,14 @@ use Rattle.vb_base.specs.declared.labels.Label.{Label}
 use Rattle.viper_core.specs.Program as p
 use Rattle.viper_core.specs.declared.programs.Unit.{Unit}
 use Rattle.boogie_run.specs.Start.{outcome_of}
+use Rattle.boogie_tree.specs.Program.{Proc}
 use Rattle.boogie_run.specs.declared.replaying.BOutcome.{BOutcome}
 use Rattle.enc_stmt.specs.Translates.{text_of}
 use Rattle.vb_tool.specs.Accepted.{IsAccepted, AcceptsRun, IsRefusal, IsRunRefusal}
+use Rattle.vb_tool.specs.AcceptedCondition.{AcceptsCondition, IsConditionRefusal}
 use Rattle.vb_tool.specs.AcceptedReplay.{AcceptsReplay, IsReplayRefusal}
-use Rattle.vb_tool.specs.Command.{Command, Translate, Run, Replay, Make, Asks, IsNoCommand, files_of, limit_of}
+use Rattle.vb_tool.specs.Command.{Command, Translate, Run, Replay, Make, Condition, Asks, IsNoCommand, files_of, limit_of}
+use Rattle.vb_tool.specs.Conditions.{condition_text, IsStatement}
 use Rattle.vb_tool.specs.Outcome.{run_status, run_text}
 use Rattle.vb_tool.specs.Procedures.{ProcedureRun, procedure_end}
 use Rattle.vb_tool.specs.ReplayOutcome.{replay_status, replay_text}
@@ -54,6 +57,8 @@ pub data Refuses (Has : List ℕ → List ℕ → Type 0) : Command → Refusal 
   replays : {file run_file : List ℕ} {r : Refusal} (bytes run_bytes : List ℕ) → Has file bytes → Has run_file run_bytes → IsReplayRefusal bytes run_bytes r →
       Refuses Has (Replay file run_file) r
   makes : {n : ℕ} → IsOutOfRange n → Refuses Has (Make n) Range
+  conditions : {file procedure : List ℕ} {label : Label} {r : Refusal} (bytes : List ℕ) → Has file bytes → IsConditionRefusal bytes procedure r →
+      Refuses Has (Condition file procedure label) r
 
 -- it is accepted, ends with this status and writes this text
 pub data Does (Has : List ℕ → List ℕ → Type 0) : Command → Status → List ℕ → Type 0 where
@@ -63,11 +68,17 @@ pub data Does (Has : List ℕ → List ℕ → Type 0) : Command → Status → 
   replayed : {file run_file : List ℕ} {u : ProcedureRun} {o : BOutcome} (bytes run_bytes : List ℕ) → Has file bytes → Has run_file run_bytes → AcceptsReplay bytes run_bytes u →
       outcome_of (procedure_end u) ≡ Some o → Does Has (Replay file run_file) (replay_status o) (replay_text o)
   made : {n : ℕ} {program : p.Program} → 1 ≤ n → n ≤ max_made_methods → IsAccepted (program_text n) program → Does Has (Make n) Done (made_text n program)
+  stated : {file procedure : List ℕ} {label : Label} {d : Proc} (bytes : List ℕ) → Has file bytes → AcceptsCondition bytes procedure d →
+      Does Has (Condition file procedure label) Done (condition_text d label)
 
 -- where a run of a unit failed, what is written ends with a run of Boogie that fails again
 abbrev pub WritesTransfer : (List ℕ → List ℕ → Type 0) → Command → Status → List ℕ → Type 0
 WritesTransfer Has command status text = (file unit run_file : List ℕ) (label : Label) → command ≡ Run file unit run_file → status ≡ Failed label →
     IsTransfer Has file unit run_file label text
+
+-- what is written of a procedure and a label is a condition for them
+abbrev pub WritesCondition : (List ℕ → List ℕ → Type 0) → Command → List ℕ → Type 0
+WritesCondition Has command text = (file procedure : List ℕ) (label : Label) → command ≡ Condition file procedure label → IsStatement Has file procedure label text
 
 -- The command that the words ask for does this. The bytes are those of its files; where the shelf does not tell its files, they
 -- are any bytes.
@@ -76,6 +87,7 @@ pub record HasDone (words : List (List ℕ)) (files : Option Files) (status : St
   pub asked : Asks words command
   pub does : Does (IsWhole files) command status text
   pub transfers : WritesTransfer (IsWhole files) command status text
+  pub states : WritesCondition (IsWhole files) command text
 
 -- ---- statuses
 

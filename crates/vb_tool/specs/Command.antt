@@ -1,9 +1,11 @@
 -- The commands: what the words of a call ask for, and the files that they name.
-use Rattle.std.specs.Prelude.{◌≡◌, ◌<◌, ◌≤◌, ℕ, IsTrue, List, [], ◌∷◌, length, codes}
+use Rattle.std.specs.Prelude.{◌≡◌, ◌<◌, ◌≤◌, ◌++◌, ℕ, IsTrue, List, [], ◌∷◌, length, codes}
 use Rattle.std.specs.Char.{is_ascii_digit}
 use Rattle.std.specs.List.{list_all}
 use Rattle.std.specs.Str.Parse.{digits_value}
+use Rattle.vb_base.specs.Labels.{Spells}
 use Rattle.vb_base.specs.Limits.{max_viper_bytes, max_boogie_bytes}
+use Rattle.vb_base.specs.declared.labels.Label.{Label}
 
 pub data Command : Type 0 where
   -- `translate FILE`
@@ -14,6 +16,8 @@ pub data Command : Type 0 where
   Replay : List ℕ → List ℕ → Command
   -- `make N`
   Make : ℕ → Command
+  -- `vc BPL PROC AT PART KIND`, where the last three words are a label
+  Condition : List ℕ → List ℕ → Label → Command
 
 -- one to nine digits, and their number. Leading zeros are allowed.
 pub record IsNumber (word : List ℕ) (n : ℕ) : Type 0 where
@@ -28,6 +32,8 @@ pub data Asks (words : List (List ℕ)) : Command → Type 0 where
   run : {file unit run_file : List ℕ} → words ≡ codes "run" ∷ file ∷ unit ∷ run_file ∷ [] → Asks words (Run file unit run_file)
   replay : {file run_file : List ℕ} → words ≡ codes "replay" ∷ file ∷ run_file ∷ [] → Asks words (Replay file run_file)
   make : {word : List ℕ} {n : ℕ} → words ≡ codes "make" ∷ word ∷ [] → IsNumber word n → Asks words (Make n)
+  condition : {file procedure at part kind : List ℕ} {label : Label} → words ≡ codes "vc" ∷ file ∷ procedure ∷ at ∷ part ∷ kind ∷ [] →
+      Spells (at ++ codes " " ++ part ++ codes " " ++ kind) label → Asks words (Condition file procedure label)
 
 -- the words are none of the forms of a command
 pub record IsNoCommand (words : List (List ℕ)) : Type 0 where
@@ -39,6 +45,7 @@ files_of (Translate file) = file ∷ []
 files_of (Run file unit run_file) = file ∷ run_file ∷ []
 files_of (Replay file run_file) = file ∷ run_file ∷ []
 files_of (Make n) = []
+files_of (Condition file procedure label) = file ∷ []
 
 -- the most bytes that each of them may have
 abbrev pub limit_of : Command → ℕ
@@ -46,3 +53,4 @@ limit_of (Translate file) = max_viper_bytes
 limit_of (Run file unit run_file) = max_viper_bytes
 limit_of (Replay file run_file) = max_boogie_bytes
 limit_of (Make n) = 0
+limit_of (Condition file procedure label) = max_boogie_bytes

@@ -13,3 +13,5 @@ pub mod Transfer
 pub mod Verified
 pub mod Call
 pub mod Parts
+pub mod AcceptedCondition
+pub mod Conditions

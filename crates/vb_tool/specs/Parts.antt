@@ -9,11 +9,14 @@ use Rattle.viper_core.specs.Program as p
 use Rattle.viper_core.specs.View.{program_of}
 use Rattle.viper_core.specs.declared.programs.Unit.{Unit}
 use Rattle.boogie_run.specs.Start.{outcome_of}
+use Rattle.boogie_tree.specs.Program.{Proc}
 use Rattle.boogie_run.specs.declared.replaying.BOutcome.{BOutcome}
 use Rattle.enc_stmt.specs.Translates.{text_of}
 use Rattle.vb_tool.specs.Accepted.{IsAccepted, AcceptsRun}
+use Rattle.vb_tool.specs.AcceptedCondition.{AcceptsCondition}
 use Rattle.vb_tool.specs.AcceptedReplay.{AcceptsReplay}
 use Rattle.vb_tool.specs.Command as c
+use Rattle.vb_tool.specs.Conditions.{condition_text, IsCondition}
 use Rattle.vb_tool.specs.Outcome.{run_status, run_text}
 use Rattle.vb_tool.specs.Procedures.{ProcedureRun, procedure_end}
 use Rattle.vb_tool.specs.ReplayOutcome.{replay_status, replay_text}
@@ -34,6 +37,7 @@ command_of (words.Translate file) = c.Translate file.now
 command_of (words.Run file unit run_file) = c.Run file.now unit.now run_file.now
 command_of (words.Replay file run_file) = c.Replay file.now run_file.now
 command_of (words.Make count) = c.Make count
+command_of (words.Condition file procedure label) = c.Condition file.now procedure.now label
 
 -- the line of a status goes to the sink of errors, and the call ends with that status; but for a fault of the sink, after
 -- which the front of the line stands there, and for want of memory
@@ -89,3 +93,11 @@ pub record SummaryOf (n : ℕ) (status : Status) (text : List ℕ) : Type 0 wher
   pub accepted : IsAccepted (program_text n) program
   pub status_is : status ≡ Done
   pub text_is : text ≡ made_text n program
+
+-- the status and the text of `vc`
+pub record ConditionOf (bytes name : List ℕ) (label : Label) (status : Status) (text : List ℕ) : Type 0 where
+  pub procedure : Proc
+  pub accepted : AcceptsCondition bytes name procedure
+  pub status_is : status ≡ Done
+  pub text_is : text ≡ condition_text procedure label
+  pub condition : IsCondition procedure label text

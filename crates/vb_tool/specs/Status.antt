@@ -47,7 +47,7 @@ refusal_text Range = codes "range"
 abbrev pub line_of : Status → List ℕ
 line_of Done = []
 line_of (Refused r) = codes "error: " ++ refusal_text r ++ codes "\n"
-line_of Usage = codes "usage: translate FILE | run FILE UNIT RUNFILE | replay BPL BRUN | make N\n"
+line_of Usage = codes "usage: translate FILE | run FILE UNIT RUNFILE | replay BPL BRUN | make N | vc BPL PROC AT PART KIND\n"
 line_of ReadFault = codes "error: read\n"
 line_of WriteFault = []
 line_of NoMemory = []

@@ -10,7 +10,8 @@ ghost use Rattle.viper_core.specs.Program as p;
 ghost use Rattle.viper_core.specs.View.{program_of};
 ghost use Rattle.enc_stmt.specs.Translates.{Translates, text_of};
 ghost use Rattle.vb_tool.specs.Accepted.{IsAccepted};
-ghost use Rattle.vb_tool.specs.Command.{Command as CommandOf, Run, Asks, IsNoCommand};
+ghost use Rattle.vb_tool.specs.Command.{Command as CommandOf, Run, Condition, Asks, IsNoCommand};
+ghost use Rattle.vb_tool.specs.Conditions.{IsStatement};
 ghost use Rattle.vb_tool.specs.Call.{Misses, Refuses, Does, HasDone, IsCause, Causes, EndsAs, EndsWith, OutAfter, ErrAfter};
 ghost use Rattle.vb_tool.specs.Parts.{CanBeWritten, Reports, Delivers, work_status, work_text};
 ghost use Rattle.vb_tool.specs.Transfer.{IsTransfer};
@@ -32,6 +33,8 @@ use viper_core::Program;
 /// method or a predicate of the file, from the state and on the choices of the run file, and writes the outcome to `out`: how
 /// the run ended, and how many choices it left over; and of a run that failed the run of Boogie that it turns into. `replay BPL BRUN` runs a procedure of a program of Boogie, as the run file
 /// says, and writes how that ended. `make N` generates a program of N methods, translates it, and writes how much that comes to.
+/// `vc BPL PROC AT PART KIND` writes a formula
+/// that is valid exactly where no run of that procedure fails at the label that the last three words are.
 /// Where the words are no command, or a file is refused or cannot be read, or N is out of range, one line goes to `err`, and
 /// nothing to `out`.
 pub fn tool<H: Shelf, O: Sink, E: Sink>(
@@ -64,6 +67,11 @@ pub fn tool<H: Shelf, O: Sink, E: Sink>(
         → result ≡ Status.Failed label
         → (text : List ℕ) × IsTransfer (IsWhole (H.files shelf.old)) file unit run_file label text × Appends (O.written out.old) (O.written out.new) text }
 
+    // What `vc` writes spells just one formula, which is valid exactly where no run of the procedure fails at the label.
+    ensures states { (file procedure : List ℕ) (label : Label) → Asks (map string_bytes words.now.items) (Condition file procedure label)
+        → result ≡ Status.Done
+        → (text : List ℕ) × IsStatement (IsWhole (H.files shelf.old)) file procedure label text × Appends (O.written out.old) (O.written out.new) text }
+
     // What stands afterwards.
     ensures out { OutAfter (O.written out.old) (O.written out.new) (HasDone (map string_bytes words.now.items) (H.files shelf.old)) result }
     ensures err { ErrAfter (E.written err.old) (E.written err.new)
@@ -88,8 +96,10 @@ fn answered<H: Shelf, O: Sink, E: Sink>(
         (IsCause (map string_bytes words.now) (H.files shelf.old) (H.faults shelf.old) (H.faults shelf.new)) result }
     ensures files { H.files shelf.new ≡ H.files shelf.old }
 {
-    let Some(command) = command_of(words) else {
-        return report(alloc, err, Status::Usage);
+    let command = match command_of(alloc, words) {
+        Ok(Some(command)) => command,
+        Ok(None) => return report(alloc, err, Status::Usage),
+        Err(_) => return Status::NoMemory,
     };
     match work(alloc, shelf, command) {
         Ok(work) => deliver(alloc, out, &work),

@@ -1,5 +1,5 @@
 // Laws of the definitions, each the contract of a function with nothing to do.
-ghost use Rattle.std.specs.Prelude.{◌≡◌, ◌≤◌, ℕ, List, Option, Some, slice_get};
+ghost use Rattle.std.specs.Prelude.{◌≡◌, ◌≤◌, ℕ, List, Option, Some, None, slice_get};
 ghost use Rattle.boogie_run.specs.Start.{outcome_of};
 ghost use Rattle.boogie_run.specs.declared.replaying.BOutcome.{BOutcome};
 ghost use Rattle.boogie_tree.specs.Program.{BProgram};
@@ -16,9 +16,12 @@ ghost use Rattle.viper_core.specs.Weight.{weight};
 ghost use Rattle.viper_core.specs.declared.programs.Unit.{Unit};
 ghost use Rattle.viper_state.specs.State.{State};
 ghost use Rattle.viper_meaning.specs.Units.{ViperFails};
+ghost use Rattle.exec_meaning.specs.Frame.{NoExecutionFails};
+ghost use Rattle.exec_words.specs.Unframed.{first_unframed};
 ghost use Rattle.enc_stmt.specs.Translates.{Translates};
 ghost use Rattle.vb_tool.specs.Units.{name_of};
 ghost use Rattle.vb_tool.specs.Accepted.{IsAccepted, AcceptsRun, IsRefusal, IsRunRefusal, HasOneAnswer};
+ghost use Rattle.vb_tool.specs.AcceptedCondition.{AcceptsCondition, IsConditionRefusal};
 ghost use Rattle.vb_tool.specs.AcceptedReplay.{IsBoogie, AcceptsReplay, IsReplayRefusal};
 ghost use Rattle.vb_tool.specs.Procedures.{ProcedureRun, procedure_end};
 ghost use Rattle.vb_tool.specs.Call.{Does};
@@ -33,11 +36,13 @@ pub fn names_of_units_differ()
 {}
 
 /// Bytes are accepted for exactly one program, or refused for exactly one reason, and never both. So it is with the bytes of a
-/// file and a run file, and the name of a unit, and the run that they are; and with the bytes of a file of Boogie and a run file.
+/// file and a run file, and the name of a unit, and the run that they are; with the bytes of a file of Boogie and a run file, or
+/// the name of a procedure.
 pub fn bytes_have_one_answer()
     ensures translate { (bytes : List ℕ) → HasOneAnswer (IsAccepted bytes) (IsRefusal bytes) }
     ensures run { (bytes name run_bytes : List ℕ) → HasOneAnswer (AcceptsRun bytes name run_bytes) (IsRunRefusal bytes name run_bytes) }
     ensures replay { (bytes run_bytes : List ℕ) → HasOneAnswer (AcceptsReplay bytes run_bytes) (IsReplayRefusal bytes run_bytes) }
+    ensures vc { (bytes name : List ℕ) → HasOneAnswer (AcceptsCondition bytes name) (IsConditionRefusal bytes name) }
     ensures boogie { (bytes : List ℕ) (q r : BProgram) → IsBoogie bytes q → IsBoogie bytes r → q ≡ r }
 {}
 
@@ -68,4 +73,12 @@ pub fn where_no_procedure_fails_no_method_does()
     ensures methods { (source : List ℕ) (program : p.Program) (bytes : List ℕ) (t : Translates program bytes) → IsAccepted source program
         → NothingFails t → (b : Bound) (k : ℕ) (m : p.Method) (store : List Value) (s : State) → slice_get program.methods k ≡ Some m
         → SatisfiesPrecondition program m store s → NeverFails (run_from b program m store s) }
+{}
+
+/// Where no run of a translation's procedures fails, no whole execution of the file's methods does, with all that they call and
+/// however often loops turn: from any opening that fits, on any choices that fit, within any budget, with the bound or without it.
+/// The file has none of the words `wildcard`, `inhale` and `assume`.
+pub fn where_no_procedure_fails_no_execution_does()
+    ensures { (source : List ℕ) (program : p.Program) (bytes : List ℕ) (t : Translates program bytes) (accepted : IsAccepted source program)
+        → first_unframed accepted.tokens ≡ None → NothingFails t → (b : Bound) → NoExecutionFails b program }
 {}

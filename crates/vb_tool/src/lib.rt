@@ -4,6 +4,7 @@
 #![tactic(auto)]
 
 mod command;
+mod conditions;
 pub mod laws;
 mod making;
 mod moved;

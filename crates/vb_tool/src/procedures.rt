@@ -17,10 +17,9 @@ use boogie_text::read;
 use boogie_tree::{BProgram, Proc};
 use run_file::{boogie_run_name, read_boogie_run};
 use std::alloc::Global;
-use vb_base::Ident;
 
 /// The well-typed program of a file.
-fn boogie_program(alloc: Global, bytes: &[u8]) -> Result<BProgram, Trouble>
+pub fn boogie_program(alloc: Global, bytes: &[u8]) -> Result<BProgram, Trouble>
     requires { length bytes.now ≤ max_boogie_bytes }
     ensures accepted { IfOk result (λ p. IsBoogie bytes.now (program_of p)) }
     ensures refused { (r : Refusal) → IsErrOf result (Trouble.Refused r) → IsBoogieRefusal bytes.now r }
@@ -34,23 +33,23 @@ fn boogie_program(alloc: Global, bytes: &[u8]) -> Result<BProgram, Trouble>
 }
 
 /// The number of the procedure that has this name.
-fn procedure_named(program: &BProgram, name: &Ident) -> Option<usize>
+pub fn procedure_named(program: &BProgram, name: &[u8]) -> Option<usize>
     ensures { result ≡ procedure_named (program_of program.now) name.now }
 {
     place_of(&program.procs, name)
 }
 
 /// Its place among the procedures.
-fn place_of(procs: &[Proc], name: &Ident) -> Option<usize>
+fn place_of(procs: &[Proc], name: &[u8]) -> Option<usize>
     ensures { result ≡ position (λ d. bytes_eq (proc_of d).name name.now) procs.now }
 {
     procs.iter().position(|proc| is_named(proc, name))
 }
 
-fn is_named(proc: &Proc, name: &Ident) -> bool
+fn is_named(proc: &Proc, name: &[u8]) -> bool
     ensures { result ≡ bytes_eq (proc_of proc.now).name name.now }
 {
-    proc.name.bytes.as_slice() == name.bytes.as_slice()
+    proc.name.bytes.as_slice() == name
 }
 
 /// The outcome of the procedure that a run file names, of the program of a file, on the run of the run file.
@@ -63,7 +62,7 @@ pub fn replayed(alloc: Global, bytes: &[u8], run_bytes: &[u8]) -> Result<Ending,
 {
     let program = boogie_program(alloc, bytes)?;
     let name = boogie_run_name(alloc, run_bytes)?;
-    let Some(number) = procedure_named(&program, &name) else {
+    let Some(number) = procedure_named(&program, &name.bytes) else {
         return Err(Trouble::Refused(Refusal::NoProcedure));
     };
     let run = read_boogie_run(alloc, run_bytes, &program.procs[number])?;

@@ -36,7 +36,7 @@ pub enum Refusal {
     BoogieSyntax(Pos),
     /// Its procedure of this number, from 1 on, is ill-typed, and none before it.
     BoogieType(usize),
-    /// Its program has no procedure of the name in the header of the run file.
+    /// Its program has no procedure of the name in the header of the run file; for `vc`, of the name that is given.
     NoProcedure,
     /// The run file spells no run of the unit or procedure. The place is that of the first line that may not stand where it
     /// does. A wrong header is refused before `NoProcedure`.
@@ -124,7 +124,8 @@ impl fmt::Display for Refusal {
 }
 
 /// The line of the forms of the commands.
-const USAGE: &str = "usage: translate FILE | run FILE UNIT RUNFILE | replay BPL BRUN | make N\n";
+const USAGE: &str =
+    "usage: translate FILE | run FILE UNIT RUNFILE | replay BPL BRUN | make N | vc BPL PROC AT PART KIND\n";
 
 impl fmt::Display for Status {
     ghost use Rattle.vb_tool.specs.Status.{line_of};
@@ -137,9 +138,9 @@ impl fmt::Display for Status {
             Status::Usage => f.write_str(USAGE),
             Status::ReadFault => f.write_str("error: read\n"),
             Status::WriteFault | Status::NoMemory => Ok(()),
-            Status::Done | Status::Failed(_) | Status::Blocked | Status::Short | Status::Over => {
-                Ok(())
-            }
+            Status::Done | Status::Failed(_) | Status::Blocked | Status::Short | Status::Over => Ok(
+                (),
+            ),
         }
     }
 }

@@ -1,10 +1,15 @@
 // The commands that words ask for.
-ghost use Rattle.std.specs.Prelude.{◌≡◌, ℕ, map, MatchOption};
+ghost use Rattle.std.specs.Prelude.{◌≡◌, ◌++◌, ℕ, codes, length, map, IfOk, MatchOption};
 ghost use Rattle.std.specs.Char.{is_ascii_digit};
 ghost use Rattle.std.specs.List.{list_all};
 ghost use Rattle.std.specs.String.{string_bytes};
+ghost use Rattle.vb_base.specs.Labels.{Spells};
+ghost use Rattle.vb_base.specs.declared.labels.Label.{Label as LabelOf};
 ghost use Rattle.vb_tool.specs.Command.{IsNumber, Asks, IsNoCommand};
 ghost use Rattle.vb_tool.specs.Parts.{command_of};
+
+use std::alloc::Global;
+use vb_base::{Label, Memory, read_label};
 
 /// What the words of a call ask for.
 #[derive(Clone, Copy)]
@@ -17,10 +22,65 @@ pub enum Command<'a> {
     Replay(&'a str, &'a str),
     /// `make N`: a generated program of so many methods, and its translation.
     Make(u32),
+    /// `vc BPL PROC AT PART KIND`: the formula that says that a procedure of a file of Boogie has no failing run at a label.
+    Condition(&'a str, &'a str, Label),
 }
 
 /// The command that the words ask for, if they are one.
-pub fn command_of(words: &[String]) -> Option<Command>
+pub fn command_of(alloc: Global, words: &[String]) -> Result<Option<Command>, Memory>
+    ensures { IfOk result (λ found. MatchOption found (IsNoCommand (map string_bytes words.now)) (λ c. Asks (map string_bytes words.now) (command_of c))) }
+{
+    match words.len() {
+        6 => condition_of(alloc, words),
+        _ => Ok(short_command_of(words)),
+    }
+}
+
+/// The command that six words ask for.
+fn condition_of(alloc: Global, words: &[String]) -> Result<Option<Command>, Memory>
+    requires { length words.now ≡ 6 }
+    ensures { IfOk result (λ found. MatchOption found (IsNoCommand (map string_bytes words.now)) (λ c. Asks (map string_bytes words.now) (command_of c))) }
+{
+    match words {
+        [word, file, procedure, at, part, kind] if word.as_str() == "vc" => {
+            match label_of(alloc, at.as_str(), part.as_str(), kind.as_str())? {
+                Some(label) => Ok(Some(Command::Condition(
+                    file.as_str(),
+                    procedure.as_str(),
+                    label,
+                ))),
+                None => Ok(None),
+            }
+        }
+        _ => Ok(None),
+    }
+}
+
+/// The label that three words are, if they are one.
+fn label_of(alloc: Global, at: &str, part: &str, kind: &str) -> Result<Option<Label>, Memory>
+    ensures { IfOk result (λ found. MatchOption found ((l : LabelOf) → Spells (at.now ++ codes " " ++ part.now ++ codes " " ++ kind.now) l → ⊥)
+        (Spells (at.now ++ codes " " ++ part.now ++ codes " " ++ kind.now))) }
+{
+    let text = joined(alloc, at.as_bytes(), part.as_bytes(), kind.as_bytes())?;
+    Ok(read_label(&text))
+}
+
+/// Three words with blanks between them.
+fn joined(alloc: Global, first: &[u8], second: &[u8], third: &[u8]) -> Result<Vec<u8>, Memory>
+    ensures { IfOk result (λ text. text.items ≡ first.now ++ codes " " ++ second.now ++ codes " " ++ third.now) }
+{
+    let mut text = Vec::new(alloc);
+    text.extend_from_slice(first)?;
+    text.push(b' ')?;
+    text.extend_from_slice(second)?;
+    text.push(b' ')?;
+    text.extend_from_slice(third)?;
+    Ok(text)
+}
+
+/// The command that the words ask for, which are not six.
+fn short_command_of(words: &[String]) -> Option<Command>
+    requires { length words.now ≡ 6 → ⊥ }
     ensures { MatchOption result (IsNoCommand (map string_bytes words.now)) (λ c. Asks (map string_bytes words.now) (command_of c)) }
 {
     match words {

@@ -5,11 +5,12 @@ ghost use Rattle.vb_outer.specs.Shelf.{IsMissing, IsWhole, IsLonger};
 ghost use Rattle.viper_core.specs.Formed.{IsFormed};
 ghost use Rattle.viper_core.specs.View.{program_of};
 ghost use Rattle.enc_stmt.specs.Translates.{text_of};
-ghost use Rattle.vb_tool.specs.Call.{Misses, NamesFile, Refuses, Does, WritesTransfer};
-ghost use Rattle.vb_tool.specs.Command.{Translate, Run, Replay, Make};
+ghost use Rattle.vb_tool.specs.Call.{Misses, NamesFile, Refuses, Does, WritesTransfer, WritesCondition};
+ghost use Rattle.vb_tool.specs.Command.{Translate, Run, Replay, Make, Condition};
 ghost use Rattle.vb_tool.specs.Parts.{command_of, work_status, work_text, CanBeWritten};
 ghost use Rattle.vb_tool.specs.declared.status.Refusal.TheVariants as refusal;
 
+use crate::conditions::stated;
 use crate::making::summary;
 use crate::outcome::{Ending, Work};
 use crate::procedures::replayed;
@@ -18,6 +19,7 @@ use crate::status::{Refusal, Status};
 use crate::trouble::Trouble;
 use crate::words::Command;
 use std::alloc::Global;
+use vb_base::Label;
 use vb_base::limits::{MAX_BOOGIE_BYTES, MAX_VIPER_BYTES};
 use vb_outer::{FileFault, Shelf, read_file};
 use viper_core::Program;
@@ -26,6 +28,7 @@ use viper_core::Program;
 pub fn work<H: Shelf>(alloc: Global, shelf: &mut H, command: Command) -> Result<Work, Trouble>
     ensures work { IfOk result (λ w. Does (IsWhole (H.files shelf.old)) (command_of command.entry) (work_status w) (work_text w)) }
     ensures transfers { IfOk result (λ w. WritesTransfer (IsWhole (H.files shelf.old)) (command_of command.entry) (work_status w) (work_text w)) }
+    ensures states { IfOk result (λ w. WritesCondition (IsWhole (H.files shelf.old)) (command_of command.entry) (work_text w)) }
     ensures can_be_written { IfOk result (λ w. CanBeWritten w) }
     ensures refused { (r : Refusal) → IsErrOf result (Trouble.Refused r) → Refuses (IsWhole (H.files shelf.old)) (command_of command.entry) r }
     ensures read { IsErrOf result Trouble.Read → Misses (H.files shelf.old) (command_of command.entry) ⊎ Rose (H.faults shelf.old) (H.faults shelf.new) }
@@ -49,6 +52,12 @@ pub fn work<H: Shelf>(alloc: Global, shelf: &mut H, command: Command) -> Result<
             Ok(told) => Ok(Work::Tell(told)),
             Err(trouble) => Err(trouble),
         },
+        Command::Condition(file, procedure, label) => {
+            match condition(alloc, shelf, file, procedure, label) {
+                Ok(told) => Ok(Work::Tell(told)),
+                Err(trouble) => Err(trouble),
+            }
+        }
     }
 }
 
@@ -98,6 +107,24 @@ fn replay<H: Shelf>(
     let bytes = read_file(alloc, shelf, file, MAX_BOOGIE_BYTES)?;
     let run_bytes = read_run_file(alloc, shelf, run_file, MAX_BOOGIE_BYTES)?;
     replayed(alloc, &bytes, &run_bytes)
+}
+
+/// Reads a file of Boogie, and states the formula of one of its procedures and a label.
+fn condition<H: Shelf>(
+    alloc: Global,
+    shelf: &mut H,
+    file: &str,
+    procedure: &str,
+    label: Label,
+) -> Result<Ending, Trouble>
+    ensures work { IfOk result (λ t. Does (IsWhole (H.files shelf.old)) (Condition file.now procedure.now label) t.status t.text.items) }
+    ensures states { IfOk result (λ t. WritesCondition (IsWhole (H.files shelf.old)) (Condition file.now procedure.now label) t.text.items) }
+    ensures refused { (r : Refusal) → IsErrOf result (Trouble.Refused r) → Refuses (IsWhole (H.files shelf.old)) (Condition file.now procedure.now label) r }
+    ensures read { IsErrOf result Trouble.Read → Misses (H.files shelf.old) (Condition file.now procedure.now label) ⊎ Rose (H.faults shelf.old) (H.faults shelf.new) }
+    ensures files { H.files shelf.new ≡ H.files shelf.old }
+{
+    let bytes = read_file(alloc, shelf, file, MAX_BOOGIE_BYTES)?;
+    stated(alloc, &bytes, procedure, label)
 }
 
 /// Reads a run file, which may have so many bytes.

@@ -1,44 +1,60 @@
-use Rattle.std.proofs.Common.{map, ap, Err}
+use Rattle.std.proofs.Common.{◌≡◌, ℕ, List, Option, Some, None, map, ap, subst, Err}
+use Rattle.std.specs.Option.{MatchOption}
 use Rattle.std.specs.String.{string_bytes}
+use Rattle.vb_tool.specs.declared.words.Command.{Command}
+use Rattle.vb_tool.specs.Command.{Asks, IsNoCommand}
+use Rattle.vb_tool.specs.Parts.{command_of}
 use Rattle.vb_tool.specs.Call.{HasDone, IsCause, usage, read, refused}
 use Rattle.vb_tool.proofs.CallLaws.{usage_line, read_line, refused_line, reported_cause, reported_err, reported_out, has_done, delivered_cause, delivered_out, delivered_err}
 use Rattle.vb_tool.proofs.command.answered.Goals as goal
 
-pub returns-in_default-clause-causes : goal.returns-in_default-clause-causes
-returns-in_default-clause-causes g c = reported_cause _ usage_line c.report.ensures (usage c.in_default.ensures)
+abbrev Found : List (List ℕ) → Option Command → Type 0
+Found words found = MatchOption found (IsNoCommand words) (λ d. Asks words (command_of d))
 
-pub returns-in_default-clause-err : goal.returns-in_default-clause-err
-returns-in_default-clause-err g c = reported_err usage_line c.report.ensures (usage c.in_default.ensures)
+none_found : (words : List (List ℕ)) {found : Option Command} → found ≡ None → Found words found → IsNoCommand words
+none_found words is h = subst (Found words) is h
+
+one_found : (words : List (List ℕ)) {found : Option Command} {d : Command} → found ≡ Some d → Found words found → Asks words (command_of d)
+one_found words is h = subst (Found words) is h
+
+pub returns-in-Ok-None-clause-causes : goal.returns-in-Ok-None-clause-causes
+returns-in-Ok-None-clause-causes g c = reported_cause _ usage_line c.report.ensures (usage (none_found (map string_bytes c.args.words.now) c.in-Ok-None.field-0-is c.in-Ok-None.ensures))
+
+pub returns-in-Ok-None-clause-out : goal.returns-in-Ok-None-clause-out
+returns-in-Ok-None-clause-out g c = reported_out (g.O.Sink.written c.args.out.now) (HasDone (map string_bytes c.args.words.now) (g.H.Shelf.files c.args.shelf.now)) usage_line c.report.ensures
+
+pub returns-in-Ok-None-clause-err : goal.returns-in-Ok-None-clause-err
+returns-in-Ok-None-clause-err g c = reported_err usage_line c.report.ensures (usage (none_found (map string_bytes c.args.words.now) c.in-Ok-None.field-0-is c.in-Ok-None.ensures))
 
 pub returns-in-Err-Read-clause-causes : goal.returns-in-Err-Read-clause-causes
 returns-in-Err-Read-clause-causes g c =
-    reported_cause _ read_line c.report-in-Err-Read.ensures (read c.in-Some.ensures (c.in-Err-Read.ensures.names (ap (λ e. Err e) c.in-Err-Read.field-0-is)) (c.in-Err-Read.ensures.read (ap (λ e. Err e) c.in-Err-Read.field-0-is)))
+    reported_cause _ read_line c.report-in-Err-Read.ensures (read (one_found (map string_bytes c.args.words.now) c.in-Ok-Some.field-0-is c.in-Ok-Some.ensures) (c.in-Err-Read.ensures.names (ap (λ e. Err e) c.in-Err-Read.field-0-is)) (c.in-Err-Read.ensures.read (ap (λ e. Err e) c.in-Err-Read.field-0-is)))
 
 pub returns-in-Err-Read-clause-out : goal.returns-in-Err-Read-clause-out
 returns-in-Err-Read-clause-out g c = reported_out (g.O.Sink.written c.args.out.now) (HasDone (map string_bytes c.args.words.now) (g.H.Shelf.files c.args.shelf.now)) read_line c.report-in-Err-Read.ensures
 
 pub returns-in-Err-Read-clause-err : goal.returns-in-Err-Read-clause-err
 returns-in-Err-Read-clause-err g c =
-    reported_err read_line c.report-in-Err-Read.ensures (read c.in-Some.ensures (c.in-Err-Read.ensures.names (ap (λ e. Err e) c.in-Err-Read.field-0-is)) (c.in-Err-Read.ensures.read (ap (λ e. Err e) c.in-Err-Read.field-0-is)))
+    reported_err read_line c.report-in-Err-Read.ensures (read (one_found (map string_bytes c.args.words.now) c.in-Ok-Some.field-0-is c.in-Ok-Some.ensures) (c.in-Err-Read.ensures.names (ap (λ e. Err e) c.in-Err-Read.field-0-is)) (c.in-Err-Read.ensures.read (ap (λ e. Err e) c.in-Err-Read.field-0-is)))
 
 pub returns-in-Err-Refused-clause-causes : goal.returns-in-Err-Refused-clause-causes
 returns-in-Err-Refused-clause-causes g c =
-    reported_cause _ refused_line c.report-in-Err-Refused.ensures (refused c.in-Some.ensures (c.in-Err-Refused.ensures.refused c.in-Err-Refused.refusal (ap (λ e. Err e) c.in-Err-Refused.field-0-is)))
+    reported_cause _ refused_line c.report-in-Err-Refused.ensures (refused (one_found (map string_bytes c.args.words.now) c.in-Ok-Some.field-0-is c.in-Ok-Some.ensures) (c.in-Err-Refused.ensures.refused c.in-Err-Refused.refusal (ap (λ e. Err e) c.in-Err-Refused.field-0-is)))
 
 pub returns-in-Err-Refused-clause-out : goal.returns-in-Err-Refused-clause-out
 returns-in-Err-Refused-clause-out g c = reported_out (g.O.Sink.written c.args.out.now) (HasDone (map string_bytes c.args.words.now) (g.H.Shelf.files c.args.shelf.now)) refused_line c.report-in-Err-Refused.ensures
 
 pub returns-in-Err-Refused-clause-err : goal.returns-in-Err-Refused-clause-err
 returns-in-Err-Refused-clause-err g c =
-    reported_err refused_line c.report-in-Err-Refused.ensures (refused c.in-Some.ensures (c.in-Err-Refused.ensures.refused c.in-Err-Refused.refusal (ap (λ e. Err e) c.in-Err-Refused.field-0-is)))
+    reported_err refused_line c.report-in-Err-Refused.ensures (refused (one_found (map string_bytes c.args.words.now) c.in-Ok-Some.field-0-is c.in-Ok-Some.ensures) (c.in-Err-Refused.ensures.refused c.in-Err-Refused.refusal (ap (λ e. Err e) c.in-Err-Refused.field-0-is)))
 
 pub returns-in-Ok-clause-causes : goal.returns-in-Ok-clause-causes
-returns-in-Ok-clause-causes g c = delivered_cause _ _ _ c.deliver.ensures (has_done c.in-Some.ensures c.in-Ok.ensures.work c.in-Ok.ensures.transfers)
+returns-in-Ok-clause-causes g c = delivered_cause _ _ _ c.deliver.ensures (has_done (one_found (map string_bytes c.args.words.now) c.in-Ok-Some.field-0-is c.in-Ok-Some.ensures) c.in-Ok.ensures.work c.in-Ok.ensures.transfers c.in-Ok.ensures.states)
 
 pub returns-in-Ok-clause-out : goal.returns-in-Ok-clause-out
-returns-in-Ok-clause-out g c = delivered_out c.deliver.ensures (has_done c.in-Some.ensures c.in-Ok.ensures.work c.in-Ok.ensures.transfers)
+returns-in-Ok-clause-out g c = delivered_out c.deliver.ensures (has_done (one_found (map string_bytes c.args.words.now) c.in-Ok-Some.field-0-is c.in-Ok-Some.ensures) c.in-Ok.ensures.work c.in-Ok.ensures.transfers c.in-Ok.ensures.states)
 
 pub returns-in-Ok-clause-err : goal.returns-in-Ok-clause-err
 returns-in-Ok-clause-err g c =
     delivered_err (g.E.Sink.written c.args.err.now) (IsCause (map string_bytes c.args.words.now) (g.H.Shelf.files c.args.shelf.now) (g.H.Shelf.faults c.args.shelf.now) (g.H.Shelf.faults c.work.new.shelf))
-    c.deliver.ensures (has_done c.in-Some.ensures c.in-Ok.ensures.work c.in-Ok.ensures.transfers)
+    c.deliver.ensures (has_done (one_found (map string_bytes c.args.words.now) c.in-Ok-Some.field-0-is c.in-Ok-Some.ensures) c.in-Ok.ensures.work c.in-Ok.ensures.transfers c.in-Ok.ensures.states)

@@ -1,4 +1,5 @@
 use Rattle.vb_tool.proofs.BoogieVerdicts.{one_boogie, one_replay_answer}
+use Rattle.vb_tool.proofs.ConditionVerdicts.{one_condition_answer}
 use Rattle.vb_tool.proofs.RunVerdicts.{one_run_answer}
 use Rattle.vb_tool.proofs.Verdicts.{one_answer}
 use Rattle.vb_tool.proofs.laws.bytes_have_one_answer.Goals as goal
@@ -11,6 +12,9 @@ returns-clause-run c = one_run_answer
 
 pub returns-clause-replay : goal.returns-clause-replay
 returns-clause-replay c = one_replay_answer
+
+pub returns-clause-vc : goal.returns-clause-vc
+returns-clause-vc c = one_condition_answer
 
 pub returns-clause-boogie : goal.returns-clause-boogie
 returns-clause-boogie c = λ bytes q r h i. one_boogie h i

@@ -1,0 +1,12 @@
+pub mod LabelLaws
+pub mod LiftLaws
+pub mod Total
+pub mod TotalLaws
+pub mod NameLaws
+pub mod BuildLaws
+pub mod FormulaLaws
+pub mod PlacedLaws
+pub mod CodeLaws
+pub mod PrintLaws
+pub mod ProcedureLaws
+pub mod Rows

@@ -1,0 +1,7 @@
+-- What is left of the block makes of the builder what all makes of the first one.
+use Rattle.boogie_wp.specs.View.{builder_of}
+use Rattle.boogie_wp.proofs.CodeLaws.{Left}
+use Rattle.boogie_wp.proofs.build.+building.Given as goal
+
+abbrev pub invariant-build-loop-stmt : goal.invariant-build-loop-stmt
+invariant-build-loop-stmt l = Left l.n l.label l.stmts l.stmt-index (builder_of l.initial.to) (builder_of l.to)

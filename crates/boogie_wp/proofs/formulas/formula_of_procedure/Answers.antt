@@ -1,0 +1,31 @@
+use Rattle.std.proofs.Common.{rules, ◌≡◌, ◌∙◌, ℕ, length, List, [], ◌∷◌, suc, refl, sym, ap}
+use Rattle.std.proofs.lemmas.Result.{IfOk-weaker}
+use Rattle.boogie_tree.specs.declared.programs.BType.{BType}
+use Rattle.boogie_wp.specs.Build.{Builder}
+use Rattle.boogie_wp.specs.View.{builder_of, types_of_all}
+use Rattle.boogie_wp.proofs.ProcedureLaws.{room_there, formula_is}
+use Rattle.boogie_wp.proofs.formulas.formula_of_procedure.Goals as goal
+
+abbrev next : Builder → ℕ
+next b = b.next
+
+length_types : (us : List BType) → length (types_of_all us) ≡ length us
+length_types [] = refl
+length_types (u ∷ us) = ap suc (length_types us)
+
+pub build-requires : goal.build-requires
+build-requires c =
+    let long : length (types_of_all c.in_ok-vars.vars.items) ≡ c.len-n.result = length_types c.in_ok-vars.vars.items ∙ sym c.in_ok-vars.vars.ok.0 ∙ sym c.len-n.ensures in
+    record {
+      names = search rules;
+      room = room_there c.args.proc.now c.requires (types_of_all c.in_ok-vars.vars.items) c.in_ok-vars.ensures c.len-n.result c.in_ok-builder.builder.next c.deref.result.now c.deref-2.result.now long c.deref.ensures.value
+          c.deref-2.ensures.value (ap next (c.in_ok-builder.ensures (types_of_all c.in_ok-vars.vars.items) long));
+    }
+
+pub returns : goal.returns
+returns c =
+    let vars = types_of_all c.in_ok-vars.vars.items in
+    let long : length vars ≡ c.len-n.result = length_types c.in_ok-vars.vars.items ∙ sym c.in_ok-vars.vars.ok.0 ∙ sym c.len-n.ensures in
+    IfOk-weaker c.finish.result _ _ (λ f made. made
+    ∙ formula_is c.args.proc.now c.args.label.now vars c.len-n.result c.deref.result.now c.deref-2.result.now (builder_of c.in_ok-builder.builder) (builder_of c.build.new.to) c.in_ok-vars.ensures long
+    c.deref.ensures.value c.deref-2.ensures.value (c.in_ok-builder.ensures vars long) c.in_ok-build.ensures) c.finish.ensures

@@ -1,0 +1,5 @@
+pub mod Labels
+pub mod Lifted
+pub mod Build
+pub mod View
+pub mod Worked

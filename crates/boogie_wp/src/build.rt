@@ -1,0 +1,173 @@
+// Statements as definitions.
+ghost use Rattle.std.specs.Prelude.{◌≡◌, ◌+◌, ◌<◌, ◌≤◌, ◌^◌, if◌then◌else◌, IfOk, OnOk};
+ghost use Rattle.boogie_tree.specs.Whole.{expr_of, exprs_of, stmt_of, stmts_of};
+ghost use Rattle.boogie_formula.specs.Choices.{slots, slots_stmt};
+ghost use Rattle.boogie_formula.specs.Formula as f;
+ghost use Rattle.boogie_formula.specs.View.{fexpr_of};
+ghost use Rattle.boogie_wp.specs.Build as b;
+ghost use Rattle.boogie_wp.specs.Labels.{same_label};
+ghost use Rattle.boogie_wp.specs.Lifted.{lifted, lifted_all};
+ghost use Rattle.boogie_wp.specs.View.{builder_of};
+
+use crate::builder::Builder;
+use crate::lift::{lift, lift_all, name_of};
+use boogie_formula::FExpr;
+use boogie_tree::{BExpr, BStmt};
+use std::alloc::Global;
+use vb_base::{Label, Memory, boxed};
+
+/// Whether the two are one label.
+fn is_label(a: &Label, b: &Label) -> bool
+    ensures { result ≡ same_label a.now b.now }
+{
+    vb_base::same_label(a, b)
+}
+
+fn assign(alloc: Global, n: usize, local: usize, e: &BExpr, to: &mut Builder) -> Result<(), Memory>
+    requires { n < 2 ^ 63 }
+    ensures { OnOk result (builder_of to.new ≡ b.store n local (lifted (b.named (builder_of to.old)) (expr_of e.now)) (builder_of to.old)) }
+{
+    let value = lift(alloc, &to.versions, e)?;
+    to.store(n, local, Box::into_inner(value))
+}
+
+/// The map with another value at these indices.
+fn updated(
+    alloc: Global,
+    names: &[usize],
+    map: usize,
+    index: &[BExpr],
+    e: &BExpr,
+) -> Result<FExpr, Memory>
+    ensures { IfOk result (λ x. fexpr_of x ≡ f.With (f.Var (b.number_at names.now map)) (lifted_all (b.number_at names.now) (exprs_of index.now))
+        (lifted (b.number_at names.now) (expr_of e.now))) }
+{
+    let old = boxed(alloc, FExpr::Var(name_of(names, map)))?;
+    let keys = lift_all(alloc, names, index)?;
+    Ok(FExpr::With(old, keys, lift(alloc, names, e)?))
+}
+
+fn put(
+    alloc: Global,
+    n: usize,
+    map: usize,
+    index: &[BExpr],
+    e: &BExpr,
+    to: &mut Builder,
+) -> Result<(), Memory>
+    requires { n < 2 ^ 63 }
+    ensures { OnOk result (builder_of to.new ≡ b.store n map (f.With (f.Var (b.named (builder_of to.old) map))
+        (lifted_all (b.named (builder_of to.old)) (exprs_of index.now)) (lifted (b.named (builder_of to.old)) (expr_of e.now))) (builder_of to.old)) }
+{
+    let value = updated(alloc, &to.versions, map, index, e)?;
+    to.store(n, map, value)
+}
+
+fn assume(alloc: Global, n: usize, e: &BExpr, to: &mut Builder) -> Result<(), Memory>
+    requires { n < 2 ^ 63 }
+    ensures { OnOk result (builder_of to.new ≡ b.go_where n (lifted (b.named (builder_of to.old)) (expr_of e.now)) (builder_of to.old)) }
+{
+    let value = lift(alloc, &to.versions, e)?;
+    to.go_where(alloc, n, value)
+}
+
+fn check(alloc: Global, n: usize, e: &BExpr, to: &mut Builder) -> Result<(), Memory>
+    requires { n < 2 ^ 63 }
+    ensures { OnOk result (builder_of to.new ≡ b.fail_unless n (lifted (b.named (builder_of to.old)) (expr_of e.now)) (builder_of to.old)) }
+{
+    let value = lift(alloc, &to.versions, e)?;
+    to.fail_unless(alloc, n, value)
+}
+
+/// The run fails where the assertion has the label, and else it comes no further.
+fn assertion(
+    alloc: Global,
+    n: usize,
+    at: &Label,
+    label: &Label,
+    e: &BExpr,
+    to: &mut Builder,
+) -> Result<(), Memory>
+    requires { n < 2 ^ 63 }
+    ensures { OnOk result (builder_of to.new ≡ (if same_label at.now label.now
+        then b.fail_unless n (lifted (b.named (builder_of to.old)) (expr_of e.now)) (builder_of to.old)
+        else b.go_where n (lifted (b.named (builder_of to.old)) (expr_of e.now)) (builder_of to.old))) }
+{
+    if is_label(at, label) {
+        check(alloc, n, e, to)
+    } else {
+        assume(alloc, n, e, to)
+    }
+}
+
+/// A definition of the condition. What is given back is its name.
+fn condition(alloc: Global, n: usize, e: &BExpr, to: &mut Builder) -> Result<usize, Memory>
+    requires { n < 2 ^ 63 }
+    ensures name { IfOk result (λ c. c ≡ b.fresh n (builder_of to.old)) }
+    ensures goes { OnOk result (builder_of to.new ≡ b.define (lifted (b.named (builder_of to.old)) (expr_of e.now)) (builder_of to.old)) }
+{
+    let name = to.fresh(n);
+    let value = lift(alloc, &to.versions, e)?;
+    to.define(Box::into_inner(value))?;
+    Ok(name)
+}
+
+/// The statement, where there are n variables.
+#[cycle(building)]
+fn build_stmt(
+    alloc: Global,
+    n: usize,
+    label: &Label,
+    stmt: &BStmt,
+    to: &mut Builder,
+) -> Result<(), Memory>
+    requires names { n < 2 ^ 63 }
+    requires room { (builder_of to.old).next + slots_stmt (stmt_of stmt.now) ≤ n }
+    ensures { OnOk result (builder_of to.new ≡ b.built_stmt n label.now (stmt_of stmt.now) (builder_of to.old)) }
+{
+    match stmt {
+        BStmt::Assign(local, e) => assign(alloc, n, *local, e, to),
+        BStmt::Put(map, index, e) => put(alloc, n, *map, index, e, to),
+        BStmt::Havoc(local) => {
+            to.choose(*local);
+            Ok(())
+        }
+        BStmt::Assume(e) => assume(alloc, n, e, to),
+        BStmt::Assert(at, e) => assertion(alloc, n, at, label, e, to),
+        BStmt::If(e, then, other) => {
+            let name = condition(alloc, n, e, to)?;
+            let start = to.enter(alloc, n, name)?;
+            build(alloc, n, label, then, to)?;
+            let first = to.back(alloc, n, name, start)?;
+            build(alloc, n, label, other, to)?;
+            to.join(alloc, n, name, &first)
+        }
+        BStmt::Either(then, other) => {
+            let name = to.pass();
+            let start = to.enter(alloc, n, name)?;
+            build(alloc, n, label, then, to)?;
+            let first = to.back(alloc, n, name, start)?;
+            build(alloc, n, label, other, to)?;
+            to.join(alloc, n, name, &first)
+        }
+    }
+}
+
+/// The statements of a block, one after the other.
+#[cycle(building)]
+pub(crate) fn build(
+    alloc: Global,
+    n: usize,
+    label: &Label,
+    stmts: &[BStmt],
+    to: &mut Builder,
+) -> Result<(), Memory>
+    requires names { n < 2 ^ 63 }
+    requires room { (builder_of to.old).next + slots (stmts_of stmts.now) ≤ n }
+    ensures { OnOk result (builder_of to.new ≡ b.built n label.now (stmts_of stmts.now) (builder_of to.old)) }
+{
+    for stmt in stmts {
+        build_stmt(alloc, n, label, stmt, to)?;
+    }
+    Ok(())
+}

@@ -1,0 +1,96 @@
+// The formula of a procedure.
+ghost use Rattle.std.specs.Prelude.{◌≡◌, ◌<◌, ◌^◌, List, length, slice_get, IfOk, Some};
+ghost use Rattle.boogie_tree.specs.Fits.{FitStmts};
+ghost use Rattle.boogie_tree.specs.Program as p;
+ghost use Rattle.boogie_tree.specs.Whole.{proc_of, program_of};
+ghost use Rattle.boogie_meaning.specs.Programs.{IsTypedProc, IsTypedProgram};
+ghost use Rattle.boogie_formula.specs.Follows.{Follows, IsExact};
+ghost use Rattle.boogie_formula.specs.Printable.{IsPrintableFormula};
+ghost use Rattle.boogie_formula.specs.Types.{IsTypedFormula};
+ghost use Rattle.boogie_formula.specs.View.{formula_of};
+ghost use Rattle.boogie_wp.specs.Build.{finished, formula_for, numbers, started};
+ghost use Rattle.boogie_wp.specs.View.{builder_of, types_in, types_of_all};
+
+use crate::build::build;
+use crate::builder::Builder;
+use crate::variables::variables;
+use boogie_formula::{FExpr, Formula};
+use boogie_tree::{BProgram, BType, Local, Proc};
+use std::alloc::Global;
+use vb_base::{Label, Memory, boxed};
+
+/// The numbers of the locals.
+fn numbers_of(alloc: Global, locals: &[Local]) -> Result<Vec<usize>, Memory>
+    ensures { IfOk result (λ names. names.items ≡ numbers 0 locals.now) }
+{
+    let mut names = Vec::with_capacity(alloc, locals.len())?;
+    for local in 0..locals.len() {
+        names.push(local)?;
+    }
+    Ok(names)
+}
+
+/// The run comes to the first statement, and has not failed. There are n variables.
+fn start(alloc: Global, n: usize, locals: &[Local]) -> Result<Builder, Memory>
+    requires { n < 2 ^ 63 }
+    ensures { (vars : List p.BType) → length vars ≡ n → IfOk result (λ x. builder_of x ≡ started vars (types_in locals.now)) }
+{
+    let versions = numbers_of(alloc, locals)?;
+    let mut start = Builder {
+        lets: Vec::new(alloc),
+        versions,
+        path: n,
+        bad: n + 1,
+        next: locals.len(),
+    };
+    start.define(FExpr::Bool(true))?;
+    start.define(FExpr::Bool(false))?;
+    Ok(start)
+}
+
+/// The goal is that the run has not failed.
+fn finish(alloc: Global, vars: Vec<BType>, end: Builder) -> Result<Formula, Memory>
+    ensures { IfOk result (λ f. formula_of f ≡ finished (types_of_all vars.items) (builder_of end)) }
+{
+    let failed = boxed(alloc, FExpr::Var(end.bad))?;
+    Ok(Formula {
+        vars,
+        lets: end.lets,
+        goal: FExpr::Not(failed),
+    })
+}
+
+fn formula_of_procedure(alloc: Global, proc: &Proc, label: &Label) -> Result<Formula, Memory>
+    requires { IsTypedProc (proc_of proc.now) }
+    ensures { IfOk result (λ f. formula_of f ≡ formula_for (proc_of proc.now) label.now) }
+{
+    let vars = variables(alloc, proc)?;
+    let n = vars.len();
+    let mut builder = start(alloc, n, &proc.locals)?;
+    build(alloc, n, label, &proc.body, &mut builder)?;
+    finish(alloc, vars, builder)
+}
+
+/// The formula of the procedure of this number, from 0 on, of a well-typed program, and of a label. Its goal is false exactly at the
+/// values of its variables at which the procedure fails there, so it is valid exactly where no run of the procedure does. Where the
+/// procedure can be printed, so can the formula.
+pub fn formula(
+    alloc: Global,
+    program: &BProgram,
+    proc: usize,
+    label: &Label,
+) -> Result<Formula, Memory>
+    requires typed { IsTypedProgram (program_of program.now) }
+    requires exists { proc < length (program_of program.now).procs }
+    ensures built { (d : p.Proc) → slice_get (program_of program.now).procs proc ≡ Some d
+        → IfOk result (λ f. formula_of f ≡ formula_for d label.now) }
+    ensures follows { (d : p.Proc) → slice_get (program_of program.now).procs proc ≡ Some d
+        → IfOk result (λ f. Follows d label.now (formula_of f)) }
+    ensures exact { (d : p.Proc) → slice_get (program_of program.now).procs proc ≡ Some d
+        → IfOk result (λ f. IsExact d label.now (formula_of f)) }
+    ensures typed { IfOk result (λ f. IsTypedFormula (formula_of f)) }
+    ensures printable { (d : p.Proc) → slice_get (program_of program.now).procs proc ≡ Some d → FitStmts (length d.locals) d.body
+        → IfOk result (λ f. IsPrintableFormula (formula_of f)) }
+{
+    formula_of_procedure(alloc, &program.procs[proc], label)
+}

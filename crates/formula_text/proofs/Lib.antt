@@ -1,0 +1,11 @@
+mod PlainLaws
+mod Steps
+mod ValueReading
+mod ScopeNames
+mod Clean
+mod OneFormula
+mod ValueShown
+mod FormulaShown
+mod ShortLaws
+mod SpelledLaws
+mod PutLaws
