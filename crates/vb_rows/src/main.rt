@@ -10,6 +10,7 @@ mod row;
 mod table;
 mod text;
 mod trial;
+mod turns;
 
 use std::alloc::Global;
 use std::process::ExitCode;

@@ -43,6 +43,8 @@ pub struct Call {
 pub struct Device {
     pub failing: Vec<u64>,
     pub most: usize,
+    /// Where each call is to fail in turn, how many there are at least.
+    pub in_turn: Option<u64>,
 }
 
 /// How a call ends.
@@ -96,6 +98,28 @@ impl Call {
         })
     }
 
+    /// The same call.
+    pub fn copy(&self, alloc: Global) -> Result<Call, AllocError> {
+        let mut words = Vec::new(alloc);
+        for word in &self.words {
+            words.push(word.as_str().to_string(alloc)?)?;
+        }
+        let mut files = Vec::new(alloc);
+        for file in &self.files {
+            files.push(MemFile {
+                name: file.name.to_vec(alloc)?,
+                bytes: file.bytes.to_vec(alloc)?,
+            })?;
+        }
+        Ok(Call {
+            words,
+            files,
+            shelf: self.shelf.copy(alloc)?,
+            out: self.out.copy(alloc)?,
+            err: self.err.copy(alloc)?,
+        })
+    }
+
     /// Takes what a line says of a device: which calls fail, or how many bytes a call moves.
     pub fn take(&mut self, device: &str, what: &str, rest: &str) -> Result<(), Fault> {
         match device {
@@ -112,7 +136,16 @@ impl Device {
         Device {
             failing: Vec::new(alloc),
             most: MOST,
+            in_turn: None,
         }
+    }
+
+    fn copy(&self, alloc: Global) -> Result<Device, AllocError> {
+        Ok(Device {
+            failing: self.failing.to_vec(alloc)?,
+            most: self.most,
+            in_turn: self.in_turn,
+        })
     }
 
     fn take(&mut self, word: &str, rest: &str) -> Result<(), Fault> {
@@ -121,6 +154,10 @@ impl Device {
                 for number in rest.split_whitespace() {
                     self.failing.push(number.parse()?)?;
                 }
+                Ok(())
+            }
+            "fails-each" => {
+                self.in_turn = Some(rest.parse()?);
                 Ok(())
             }
             "moves" => {

@@ -135,9 +135,7 @@ impl Table {
             "words" => row.call.words = words_of(alloc, rest)?,
             "file" => row.call.files.push(file_of(alloc, rest)?)?,
             _ => match word.split_once('-') {
-                Some((device, what)) if what == "fails" || what == "moves" => {
-                    row.call.take(device, what, rest)?
-                }
+                Some((device, what)) if is_of_device(what) => row.call.take(device, what, rest)?,
                 _ => row.end.take(alloc, word, rest)?,
             },
         }
@@ -156,6 +154,11 @@ impl Table {
             row.put(place, text);
         }
     }
+}
+
+/// Whether a line whose first word ends so says something of a device.
+fn is_of_device(what: &str) -> bool {
+    what == "fails" || what == "fails-each" || what == "moves"
 }
 
 /// What a text after this word is.

@@ -6,6 +6,7 @@ ghost use Rattle.vb_outer.specs.Place.{held};
 use crate::again::{FAILED, ends_otherwise, file_of_run};
 use crate::fault::Fault;
 use crate::row::{Call, End, Row};
+use crate::turns::all_turns_fail;
 use std::alloc::Global;
 use std::io;
 use vb_outer::{MemFile, MemShelf, MemSink};
@@ -26,14 +27,16 @@ struct Tried {
     again: Option<Ended>,
 }
 
-/// Runs a row, and prints what came where it ends otherwise than it says. A run that failed is translated and replayed as well.
+/// Runs a row, and prints what came where it ends otherwise than it says. A run that failed is translated and replayed as well,
+/// and where each call of a device is to fail in turn, so it does.
 pub fn ends_as_said(rt: &impl Print, alloc: Global, row: Row) -> io::Result<bool> {
     let file = file_of_run(alloc, &row);
     let Row { name, call, end } = row;
-    match attempted(alloc, call, file) {
+    match attempted(alloc, &call, file) {
         Ok(Tried { ended, again }) => {
             let as_said = told(rt, name.as_str(), &end, &ended)?;
-            Ok(told_again(rt, name.as_str(), again)? && as_said)
+            let fails_again = told_again(rt, name.as_str(), again)?;
+            Ok(all_turns_fail(rt, alloc, name.as_str(), &call, &ended)? && fails_again && as_said)
         }
         Err(fault) => {
             println!(rt; "{name}: {fault}")?;
@@ -44,10 +47,10 @@ pub fn ends_as_said(rt: &impl Print, alloc: Global, row: Row) -> io::Result<bool
 
 fn attempted(
     alloc: Global,
-    call: Call,
+    call: &Call,
     file: Result<Option<MemFile>, Fault>,
 ) -> Result<Tried, Fault> {
-    let ended = end_of(alloc, call)?;
+    let ended = end_of(alloc, call.copy(alloc)?)?;
     let again = match file? {
         Some(file) if ended.status == FAILED => ends_otherwise(alloc, file, ended.out.written())?,
         _ => None,
@@ -145,7 +148,7 @@ fn has_line(text: &[u8], line: &[u8]) -> bool {
 }
 
 /// The first lines of a text.
-fn shown(text: &[u8]) -> &str {
+pub fn shown(text: &[u8]) -> &str {
     let most = text.len().min(4_000);
     str::from_utf8(&text[..most]).unwrap_or("bytes that are no text")
 }

@@ -1,0 +1,76 @@
+#!/usr/bin/env bash
+# What chosen names cost. Names are looked up by a hash that has no secret, so a file can have names that all stand in one row. This
+# finds such names of seven bytes, and translates files of fields and of variables with them and with other names, and replays texts
+# of Boogie with variables of these names.
+# Each line has the kind of names, the bytes, and the processor seconds of one call with other names and with chosen ones. To find
+# the names takes some five minutes on four cores, and needs `cc`.
+#
+# Give the program, if it is not the proved one: bench/names.sh PROGRAM
+set -eu
+top=$(dirname "$(readlink -f "$0")")/..
+program=${1:-$top/crates/remduska/out/remduska}
+[ $# -gt 0 ] || "$top/remduska" --build
+folder=$(mktemp -d)
+trap 'rm -r "$folder"' EXIT
+
+# The hash goes on byte by byte from the length. A table of up to 2^14 groups begins at the group of its lowest bits, and compares
+# keys where the highest eight are equal too.
+cc -O3 -x c - -o "$folder/find" <<'END'
+#include <stdint.h>
+#include <stdio.h>
+#include <stdlib.h>
+#include <string.h>
+static const uint64_t factor = 0x9e3779b97f4a7c15;
+static const char *letters = "abcdefghijklmnopqrstuvwxyzABCDEFGHIJKLMNOPQRSTUVWXYZ_$0123456789'";
+static long left;
+static char name[8];
+static uint64_t fold(uint64_t a, uint64_t b) {
+    unsigned __int128 product = (unsigned __int128)a * b;
+    return (uint64_t)product ^ (uint64_t)(product >> 64);
+}
+static void find(uint64_t state, int at, int from, int to) {
+    for (int i = from; i < to && left; i++) {
+        uint64_t next = fold(state ^ (uint64_t)letters[i] * 0x010101, factor ^ 2);
+        name[at] = letters[i];
+        if (at < 6) {
+            find(next, at + 1, 0, 65);
+        } else if (((uint32_t)(next ^ next >> 32) & 0xff003fff) == 0x41000000) {
+            puts(name);
+            left--;
+        }
+    }
+}
+int main(int count, char **words) {
+    left = atol(words[1]);
+    find(fold(0x243f6a8885a308d3 ^ 7, factor ^ 16), 0, atoi(words[2]), atoi(words[3]));
+}
+END
+for from in 0 13 26 39; do "$folder/find" 16500 "$from" "$((from + 13))" >"$folder/found$from" & done
+wait
+cat "$folder"/found* >"$folder/chosen"
+seq -f 'v%06.0f' 66000 >"$folder/other"
+echo 'boogie run go' >"$folder/run"
+
+write_text() { # KIND NAMES BYTES
+    case $1 in
+        fields) head -n "$(($3 / 18))" "$2" | sed 's/.*/field &:Int/' ;;
+        Boogie) sed '/^procedure/,$d' "$top/examples/first.bpl"; printf 'procedure go() {\n'
+            head -n "$((($3 - 1000) / 17))" "$2" | sed 's/.*/var &:int;/'; printf '}' ;;
+        variables) printf 'method m() {\n'; head -n "$((($3 - 14) / 16))" "$2" | sed 's/.*/var &:Int/'; printf '}' ;;
+    esac >"$folder/text"
+}
+
+seconds() { # NAMES
+    local TIMEFORMAT='%U'
+    local call=(translate "$folder/text")
+    [ "$kind" != Boogie ] || call=(replay "$folder/text" "$folder/run")
+    write_text "$kind" "$1" "$bytes"
+    { time "$program" "${call[@]}" >/dev/null; } 2>&1
+}
+
+printf '%-9s %9s %9s %9s\n' names bytes other chosen
+for kind in fields variables Boogie; do
+    for bytes in 131072 262144 524288 1048576; do
+        printf '%-9s %9d %9s %9s\n' "$kind" "$bytes" "$(seconds "$folder/other")" "$(seconds "$folder/chosen")"
+    done
+done
