@@ -18,10 +18,24 @@ use Rattle.boogie_grammar.specs.Words.{is_among, is_reserved}
 use Rattle.boogie_grammar.specs.Tests as v
 use Rattle.boogie_grammar.specs.Tests.{Binding, Kind, Value, Test, Passes, the_sign, the_word, the_name, a_new_name, a_variable, a_number, a_real, a_label, a_base, a_key, an_operator, some_free}
 
--- The names of the locals, and the names that the `forall` around binds, or none.
+-- The names of the locals, further names that a bound variable is not to have, though no variable is called by them, and the
+-- names that the `forall` around binds, or none.
 pub record Scope : Type 0 where
   pub locals : List (List ℕ)
+  pub others : List (List ℕ)
   pub bound : List (List ℕ)
+
+-- the scope of what stands in no `forall`, where the names of the locals alone are taken
+abbrev pub outside : List (List ℕ) → Scope
+outside ls = record { locals = ls; others = []; bound = [] }
+
+-- the names that a bound variable is not to have, where these are bound already
+abbrev pub taken_by : Scope → List (List ℕ) → List (List ℕ)
+taken_by x bound = (x.locals ++ x.others) ++ bound
+
+-- the same under a `forall` that binds these
+abbrev pub binding_in : Scope → List (List ℕ) → Scope
+binding_in x bound = record { locals = x.locals; others = x.others; bound = bound }
 
 pub data Symbol : Kind → Type 0 where
   Program : List Proc → Symbol v.procs
@@ -80,21 +94,21 @@ bind b x u = record { names = b.names ++ x ∷ []; types = b.types ++ u ∷ [] }
 abbrev pub conditional : List (List ℕ) → Rule v.stmt
 conditional ls = need (the_word w.If) (λ _. after_sign sign.OpenParen
     (when (the_sign sign.Star) (λ _. after_sign sign.CloseParen (read (Block ls) (λ a. read (Else ls) (λ b. give (s.Either a b)))))
-    (read (Expr (record { locals = ls; bound = [] })) (λ e. after_sign sign.CloseParen (read (Block ls) (λ a. read (Else ls) (λ b. give (s.If e a b))))))))
+    (read (Expr (outside ls)) (λ e. after_sign sign.CloseParen (read (Block ls) (λ a. read (Else ls) (λ b. give (s.If e a b))))))))
 
 -- [ "[" bexpr { "," bexpr } "]" ] ":=" bexpr ";", after a name
 abbrev pub assignment : List (List ℕ) → ℕ → Rule v.stmt
 assignment ls i =
-    when (the_sign sign.OpenBracket) (λ _. read (Exprs (record { locals = ls; bound = [] })) (λ es. after_sign sign.Assign
-    (read (Expr (record { locals = ls; bound = [] })) (λ e. after_sign sign.Semicolon (give (s.Put i (t.exprs es) e))))))
-    (after_sign sign.Assign (read (Expr (record { locals = ls; bound = [] })) (λ e. after_sign sign.Semicolon (give (s.Assign i e)))))
+    when (the_sign sign.OpenBracket) (λ _. read (Exprs (outside ls)) (λ es. after_sign sign.Assign
+    (read (Expr (outside ls)) (λ e. after_sign sign.Semicolon (give (s.Put i (t.exprs es) e))))))
+    (after_sign sign.Assign (read (Expr (outside ls)) (λ e. after_sign sign.Semicolon (give (s.Assign i e)))))
 
 -- "assume" bexpr ";" | "assert" "{" ":" "msg" string "}" bexpr ";"
 abbrev pub checks : List (List ℕ) → Rule v.stmt → Rule v.stmt
 checks ls others =
-    when (the_word w.Assume) (λ _. read (Expr (record { locals = ls; bound = [] })) (λ e. after_sign sign.Semicolon (give (s.Assume e))))
+    when (the_word w.Assume) (λ _. read (Expr (outside ls)) (λ e. after_sign sign.Semicolon (give (s.Assume e))))
     (when (the_word w.Assert) (λ _. after_sign sign.OpenBrace (after_sign sign.Colon (after_word w.Msg (need a_label (λ l. after_sign sign.CloseBrace
-    (read (Expr (record { locals = ls; bound = [] })) (λ e. after_sign sign.Semicolon (give (s.Assert l e)))))))))
+    (read (Expr (outside ls)) (λ e. after_sign sign.Semicolon (give (s.Assert l e)))))))))
     others)
 
 -- "havoc" name ";" | name [ "[" bexpr { "," bexpr } "]" ] ":=" bexpr ";", or a conditional
@@ -160,8 +174,8 @@ abbrev pub no_binding : Binding
 no_binding = record { names = []; types = [] }
 
 -- "::" bexpr ")", after what a `forall` binds
-abbrev pub quantified : List (List ℕ) → Binding → Rule v.expr
-quantified ls b = after_sign sign.Bounds (read (Expr (record { locals = ls; bound = b.names })) (λ a. after_sign sign.CloseParen (give (t.Forall b.types a))))
+abbrev pub quantified : Scope → Binding → Rule v.expr
+quantified x b = after_sign sign.Bounds (read (Expr (binding_in x b.names)) (λ a. after_sign sign.CloseParen (give (t.Forall b.types a))))
 
 -- no `forall` stands in another
 abbrev pub unless_bound : List (List ℕ) → Rule v.expr → Rule v.expr → Rule v.expr
@@ -211,10 +225,10 @@ rule (Else ls) =
 -- bexpr
 rule (Expr x) = simple x (where_true (some_free x.locals) (λ some. when (a_variable x.locals some) (λ i. named x i) (in_parens x)) (in_parens x))
 -- what follows a "(", with its ")"
-rule (InParens x) = prefixed x (unless_bound x.bound (when (the_word w.Forall) (λ _. read (Binders x no_binding) (λ b. quantified x.locals b)) (binary x)) (binary x))
--- name ":" key { "," name ":" key }, whose names differ from each other and from the locals
+rule (InParens x) = prefixed x (unless_bound x.bound (when (the_word w.Forall) (λ _. read (Binders x no_binding) (λ b. quantified x b)) (binary x)) (binary x))
+-- name ":" key { "," name ":" key }, whose names differ from each other, from the locals and from the further names
 rule (Binders x b) =
-    need (a_new_name (x.locals ++ b.names)) (λ q. after_sign sign.Colon (need a_key (λ u.
+    need (a_new_name (taken_by x b.names)) (λ q. after_sign sign.Colon (need a_key (λ u.
     when (the_sign sign.Comma) (λ _. read (Binders x (bind b q u)) give)
     (give (bind b q u)))))
 -- what follows a name and "[", with the "]"

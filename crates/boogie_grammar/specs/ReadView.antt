@@ -22,7 +22,7 @@ use Rattle.boogie_grammar.specs.Greedy.{Reads, Goes, Starts, IsNot}
 use Rattle.boogie_grammar.specs.Grammar as g
 
 abbrev pub scope_of : Scope → g.Scope
-scope_of x = record { locals = x.locals.now; bound = x.bound.now }
+scope_of x = record { locals = x.locals.now; others = x.others.now; bound = x.bound.now }
 
 abbrev pub boxed_of : Box BExpr Global → t.BExpr
 boxed_of b = expr_of b.value
@@ -47,7 +47,7 @@ chosen x = g.read (g.Expr x) (λ a. g.after_word w.Then (g.read (g.Expr x) (λ b
 
 -- what follows "forall", with its ")"
 abbrev pub quantifying : g.Scope → g.Rule v.expr
-quantifying x = g.read (g.Binders x g.no_binding) (λ b. g.quantified x.locals b)
+quantifying x = g.read (g.Binders x g.no_binding) (λ b. g.quantified x b)
 
 -- a leaf was read
 abbrev pub ReadsLeaf : List BToken → t.BExpr → List BToken → Type 0

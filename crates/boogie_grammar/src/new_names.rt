@@ -1,11 +1,12 @@
 // Names that a declaration may have.
 ghost use Rattle.std.specs.Prelude.{◌≡◌, ◌<◌, ◌++◌, length, IfOk};
 ghost use Rattle.boogie_grammar.specs.Greedy.{Takes};
-ghost use Rattle.boogie_grammar.specs.ReadView.{IsNewName};
+ghost use Rattle.boogie_grammar.specs.Grammar.{taken_by};
+ghost use Rattle.boogie_grammar.specs.ReadView.{IsNewName, scope_of};
 ghost use Rattle.boogie_grammar.specs.Tests.{a_new_name};
 
 use crate::eating::Read;
-use crate::scopes::{Names, is_reserved};
+use crate::scopes::{Names, Scope, is_reserved};
 use crate::{BTok, BToken};
 use grammar::Stop;
 use std::alloc::Global;
@@ -35,26 +36,33 @@ pub fn new_name<'a>(alloc: Global, taken: &Names, tokens: &'a [BToken]) -> Read<
     }
 }
 
-/// Whether a name is not reserved, none of the locals, and not yet bound.
-fn is_unbound(locals: &Names, bound: &Names, name: &Ident) -> bool
-    ensures { result ≡ IsNewName (locals.now ++ bound.now) name.now }
+/// Whether a name is not reserved, none of the locals and of the further names.
+fn is_free(scope: Scope<'_>, name: &Ident) -> bool
+    ensures { result ≡ IsNewName (scope.entry.locals.now ++ scope.entry.others.now) name.now }
 {
-    is_new(locals, name) && !bound.has(name)
+    is_new(scope.locals, name) && !scope.others.has(name)
 }
 
-/// A copy of the next name, which must be next, not reserved, none of the locals, and not yet bound.
+/// Whether a name is so, and not yet bound.
+fn is_unbound(scope: Scope<'_>, bound: &Names, name: &Ident) -> bool
+    ensures { result ≡ IsNewName (taken_by (scope_of scope.entry) bound.now) name.now }
+{
+    is_free(scope, name) && !bound.has(name)
+}
+
+/// A copy of the next name, which must be next, not reserved, none of the locals and of the further names, and not yet bound.
 pub fn bound_name<'a>(
     alloc: Global,
-    locals: &Names,
+    scope: Scope<'_>,
     bound: &Names,
     tokens: &'a [BToken],
 ) -> Read<'a, Ident>
     ensures shorter { IfOk result (λ p. length p.1.now < length tokens.now) }
-    ensures takes { Takes (a_new_name (locals.now ++ bound.now)) tokens.now result }
+    ensures takes { Takes (a_new_name (taken_by (scope_of scope.entry) bound.now)) tokens.now result }
 {
     match tokens.split_first() {
         Some((first, rest)) => match &first.tok {
-            BTok::Name(name) if is_unbound(locals, bound, name) => {
+            BTok::Name(name) if is_unbound(scope, bound, name) => {
                 let name = name.copy(alloc)?;
                 Ok((name, rest))
             }

@@ -133,6 +133,8 @@ impl Names {
 #[derive(Clone, Copy)]
 pub struct Scope<'a> {
     pub locals: &'a Names,
+    /// Further names that a bound variable is not to have.
+    pub others: &'a Names,
     pub bound: &'a [Ident],
 }
 

@@ -25,7 +25,7 @@ alike_sym (cons e a) = cons (sym e) (alike_sym a)
 
 -- what they spell
 
-passes_alike : {b : Bool} {r : Kind} (c : Test b r) (k j : BToken) (x : Value r) → k.tok ≡ j.tok → Passes c k x → Passes c j x
+pub passes_alike : {b : Bool} {r : Kind} (c : Test b r) (k j : BToken) (x : Value r) → k.tok ≡ j.tok → Passes c k x → Passes c j x
 passes_alike (v.the_sign o) k j x e p = sym e ∙ p
 passes_alike (v.the_word w) k j x e p = sym e ∙ p
 passes_alike (v.the_name y) k j x e p = sym e ∙ p
@@ -39,14 +39,14 @@ passes_alike v.a_key k j x e p = (sym e ∙ p.0, p.1)
 passes_alike v.an_operator k j x e p = sym e ∙ p
 
 -- the first token, and what follows it
-record First (k : BToken) (ts us : List BToken) : Type 0 where
-  token : BToken
-  rest : List BToken
-  is : us ≡ token ∷ rest
-  same : k.tok ≡ token.tok
-  alike : Alike ts rest
+pub record First (k : BToken) (ts us : List BToken) : Type 0 where
+  pub token : BToken
+  pub rest : List BToken
+  pub is : us ≡ token ∷ rest
+  pub same : k.tok ≡ token.tok
+  pub alike : Alike ts rest
 
-first_of : {k : BToken} {ts us : List BToken} → Alike (k ∷ ts) us → First k ts us
+pub first_of : {k : BToken} {ts us : List BToken} → Alike (k ∷ ts) us → First k ts us
 first_of (cons {j = j} {us = us} e a) = record { token = j; rest = us; is = refl; same = e; alike = a }
 
 pub record Split (ts us vs : List BToken) : Type 0 where

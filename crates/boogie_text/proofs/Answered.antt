@@ -289,7 +289,7 @@ rank (g.Exprs x) = 1
 rank (g.Indices x i) = 2
 rank _ = 0
 
-abbrev ranks : grammar.Ranks boogie
+abbrev pub ranks : grammar.Ranks boogie
 ranks = record { empty = λ s a. empty a; rank = λ s a. rank a }
 
 abbrev Falls : ℕ → (s : Kind) → Rule s → Type 0
@@ -325,13 +325,15 @@ falls (g.BoundRest qs) = falls_rest qs
 falls (g.Exprs x) = ft (omega arith) refl
 falls (g.MoreExprs x es) = fw fn
 
+pub has_answers : grammar.HasAnswers rules ranks
+has_answers = record {
+  try_token = λ b r c k. try_token c k;
+  empty_right = λ s a x d. empty_right a x d;
+  falls = λ s a. falls a;
+}
+
 answered : (ts : List BToken) → IsSpelled rules (rule (g.Program [])) ts ⊎ text.GoesWrong rules (rule (g.Program [])) ts
-answered ts = grammar.some_answer rules laws ranks
-    (record {
-      try_token = λ b r c k. try_token c k;
-      empty_right = λ s a x d. empty_right a x d;
-      falls = λ s a. falls a;
-    })
+answered ts = grammar.some_answer rules laws ranks has_answers
     (g.Program []) (λ us ps d. complete (g.Program []) d) ts
 
 wrong_there : {ts : List BToken} → text.GoesWrong rules (rule (g.Program [])) ts → GoesWrong ts

@@ -29,7 +29,7 @@ use Rattle.boogie_text.proofs.Codes.{code, word_code, sign_code, name_code, word
 
 -- the tokens that pass a test are among its codes
 
-code_at : (k : BToken) (x : BTok) (l : List ℕ) → k.tok ≡ x → among (code x) l ≡ true → among (code k.tok) l ≡ true
+pub code_at : (k : BToken) (x : BTok) (l : List ℕ) → k.tok ≡ x → among (code x) l ≡ true → among (code k.tok) l ≡ true
 code_at k x l e h = subst (λ t. among (code t) l ≡ true) (sym e) h
 
 self : (n : ℕ) → among n (n ∷ []) ≡ true
@@ -197,13 +197,13 @@ read_first n (plain.called {a = a} {ts = []} {y = z} d d') e = let h : None ≡ 
 read_first {k = k} n (plain.called {r = r} {a = a} {ts = j ∷ ts} {y = z} d d') e =
     let same : j ≡ k = cc in (z, ts, subst (λ i. Derives rules r (rule a) (i ∷ ts) z) same d)
 
-name_is : {x y : List ℕ} → tok.Name x ≡ tok.Name y → x ≡ y
+pub name_is : {x y : List ℕ} → tok.Name x ≡ tok.Name y → x ≡ y
 name_is e = cc
 
-not_word : {q : List ℕ} (k : BToken) (x : Word) → is_reserved (word_text x) ≡ true → k.tok ≡ tok.Name q → is_reserved q ≡ false → k.tok ≡ word_tok x → ⊥
+pub not_word : {q : List ℕ} (k : BToken) (x : Word) → is_reserved (word_text x) ≡ true → k.tok ≡ tok.Name q → is_reserved q ≡ false → k.tok ≡ word_tok x → ⊥
 not_word {q = q} k x yes_it_is e free f = let same : q ≡ word_text x = name_is (sym e ∙ f) in both_ways _ (subst (λ y. is_reserved y ≡ false) same free) yes_it_is
 
-not_variable : {q : List ℕ} (k : BToken) (locals : List (List ℕ)) (i : ℕ) → k.tok ≡ tok.Name q → is_among q locals ≡ false → v.IsVariable locals k.tok i → ⊥
+pub not_variable : {q : List ℕ} (k : BToken) (locals : List (List ℕ)) (i : ℕ) → k.tok ≡ tok.Name q → is_among q locals ≡ false → v.IsVariable locals k.tok i → ⊥
 not_variable {q = q} k locals i e new p =
     let same : p.name ≡ q = name_is (sym p.is ∙ e) in
     both_ways _ new (there q locals i (subst (λ y. v.number_of y locals ≡ Some i) same p.there))

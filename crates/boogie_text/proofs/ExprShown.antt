@@ -87,7 +87,7 @@ ends h k l = record { name_ends = h; number_ends = k; point_ends = l }
 
 binary_in : (y : Scope) {ts : List BToken} {e : t.BExpr} → Derives rules v.expr (g.binary y) ts e → Derives rules v.expr (rule (g.InParens y)) ts e
 binary_in y {ts = ts} {e = e} d =
-    passed (passed (passed (by_bound (λ r. Derives rules v.expr r ts e) y.bound (when (the_word w.Forall) (λ _. read (g.Binders y g.no_binding) (λ b. g.quantified y.locals b)) (g.binary y)) (g.binary y) (passed d) d)))
+    passed (passed (passed (by_bound (λ r. Derives rules v.expr r ts e) y.bound (when (the_word w.Forall) (λ _. read (g.Binders y g.no_binding) (λ b. g.quantified y b)) (g.binary y)) (g.binary y) (passed d) d)))
 
 -- what is in scope
 
@@ -97,7 +97,7 @@ pub record IsNew (locals : List (List ℕ)) (q : List ℕ) : Type 0 where
   pub new : is_among q locals ≡ false
 
 abbrev pub scope_of : Naming → Scope
-scope_of x = record { locals = x.locals; bound = x.bound }
+scope_of x = record { locals = x.locals; others = []; bound = x.bound }
 
 -- n locals that can be named, and what a bound variable is not to be named
 pub record Ready (x : Naming) (n : ℕ) : Type 0 where
@@ -410,11 +410,12 @@ binders_end (x ∷ xs) (u ∷ us) rest = refl
 new_among : (q : List ℕ) (locals chosen : List (List ℕ)) → is_among q locals ≡ false → is_among q chosen ≡ false → is_among q (locals ++ chosen) ≡ false
 new_among q locals chosen h k = either q locals chosen ∙ or_from _ _ h k
 
-binder_derives : (y : Scope) (b : Binding) (q : List ℕ) (u : BBase) {ts : List BToken} {z : Binding} → Chosen y.locals b.names q → is_key u ≡ true →
-    Derives rules v.binding (after_binder y (g.bind b q u)) ts z →
-    Derives rules v.binding (rule (g.Binders y b)) (at_start (tok.Name q) ∷ at_start (tok.Sign sign.Colon) ∷ at_start (word_tok (base_word u)) ∷ ts) z
-binder_derives y b q u h key d =
-    needed (record { token = at_start (tok.Name q); is = refl; passes = (refl, h.new.free, new_among q y.locals b.names h.new.new h.other) })
+binder_derives : (x : Naming) (b : Binding) (q : List ℕ) (u : BBase) {ts : List BToken} {z : Binding} → Chosen x.locals b.names q → is_key u ≡ true →
+    Derives rules v.binding (after_binder (scope_of x) (g.bind b q u)) ts z →
+    Derives rules v.binding (rule (g.Binders (scope_of x) b)) (at_start (tok.Name q) ∷ at_start (tok.Sign sign.Colon) ∷ at_start (word_tok (base_word u)) ∷ ts) z
+binder_derives x b q u h key d =
+    let locals_new = new_among q x.locals [] h.new.new refl in
+    needed (record { token = at_start (tok.Name q); is = refl; passes = (refl, h.new.free, new_among q (x.locals ++ []) b.names locals_new h.other) })
     (sign_first (needed {c = a_key} {v = u} (record { token = at_start (word_tok (base_word u)); is = refl; passes = (refl, key) }) d))
 
 binding_is : (a b : Binding) → a.names ≡ b.names → a.types ≡ b.types → a ≡ b
@@ -436,7 +437,7 @@ more_binders x n ready (u ∷ us) b keys short =
     let same = binding_is (with_more x us next) (with_more x (u ∷ us) b) (append_assoc b.names (q ∷ []) _) (append_assoc b.types (u ∷ []) us) in
     record {
       tokens = at_start (tok.Sign sign.Comma) ∷ at_start (tok.Name q) ∷ at_start (tok.Sign sign.Colon) ∷ at_start (word_tok (base_word u)) ∷ more.tokens;
-      spelled = value_at same (sign_taken (tail_derives {a = g.Binders (scope_of x) b} (binder_derives (scope_of x) b q u chosen (head_of (λ w. is_key w ≡ true) u us keys) more.spelled)));
+      spelled = value_at same (sign_taken (tail_derives {a = g.Binders (scope_of x) b} (binder_derives x b q u chosen (head_of (λ w. is_key w ≡ true) u us keys) more.spelled)));
       row = λ rest ts h. simp append_assoc (comma_row (blank_row (free_row q _ chosen.new.form refl (colon_row (blank_row (base_row u _ _ (binders_end _ us rest) (more.row rest ts h)))))));
     }
 
@@ -448,14 +449,14 @@ first_binders x n ready u us keys short =
     let more = more_binders x n ready us (g.bind g.no_binding q u) (tail_of (λ w. is_key w ≡ true) u us keys) (omega (arith, short)) in
     record {
       tokens = at_start (tok.Name q) ∷ at_start (tok.Sign sign.Colon) ∷ at_start (word_tok (base_word u)) ∷ more.tokens;
-      spelled = binder_derives (scope_of x) g.no_binding q u chosen (head_of (λ w. is_key w ≡ true) u us keys) more.spelled;
+      spelled = binder_derives x g.no_binding q u chosen (head_of (λ w. is_key w ≡ true) u us keys) more.spelled;
       row = λ rest ts h. simp append_assoc (free_row q _ chosen.new.form refl (colon_row (blank_row (base_row u _ _ (binders_end _ us rest) (more.row rest ts h)))));
     }
 
-forall_in : (x : Naming) {ts : List BToken} {e : t.BExpr} → x.bound ≡ [] → Derives rules v.expr (read (g.Binders (scope_of x) g.no_binding) (λ b. g.quantified x.locals b)) ts e →
+forall_in : (x : Naming) {ts : List BToken} {e : t.BExpr} → x.bound ≡ [] → Derives rules v.expr (read (g.Binders (scope_of x) g.no_binding) (λ b. g.quantified (scope_of x) b)) ts e →
     Derives rules v.expr (rule (g.InParens (scope_of x))) (at_start (word_tok w.Forall) ∷ ts) e
 forall_in x {ts = ts} {e = e} none d =
-    passed (passed (passed (subst (λ l. Derives rules v.expr (g.unless_bound l (when (the_word w.Forall) (λ _. read (g.Binders (scope_of x) g.no_binding) (λ b. g.quantified x.locals b)) (g.binary (scope_of x))) (g.binary (scope_of x)))
+    passed (passed (passed (subst (λ l. Derives rules v.expr (g.unless_bound l (when (the_word w.Forall) (λ _. read (g.Binders (scope_of x) g.no_binding) (λ b. g.quantified (scope_of x) b)) (g.binary (scope_of x))) (g.binary (scope_of x)))
     (at_start (word_tok w.Forall) ∷ ts) e) (sym none) (word_taken d))))
 
 -- whatever binders and body are made of

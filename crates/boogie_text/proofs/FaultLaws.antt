@@ -19,7 +19,7 @@ use Rattle.boogie_text.proofs.CutLaws.{one_piece, one_cut}
 use Rattle.boogie_text.proofs.AlikeLaws.{one_row, row_of, never_row, derives_alike, shallow_alike}
 use Rattle.boogie_text.proofs.Parsed.{append-same_front}
 
-one_difference : {xs ys s t : List ℕ} → Differs xs ys s → Differs xs ys t → s ≡ t
+pub one_difference : {xs ys s t : List ℕ} → Differs xs ys s → Differs xs ys t → s ≡ t
 one_difference ended ended = refl
 one_difference (other n) (other m) = refl
 one_difference (other n) (later e d) = absurd (n e)
@@ -32,12 +32,12 @@ same_head h = cc
 same_tail : {x y : ℕ} {xs ys : List ℕ} → x ∷ xs ≡ y ∷ ys → xs ≡ ys
 same_tail h = cc
 
-not_begun : {xs ys s : List ℕ} → Differs xs ys s → (rest : List ℕ) → xs ≡ ys ++ rest → ⊥
+pub not_begun : {xs ys s : List ℕ} → Differs xs ys s → (rest : List ℕ) → xs ≡ ys ++ rest → ⊥
 not_begun ended rest e = cc
 not_begun (other n) rest e = n (same_head e)
 not_begun (later f d) rest e = not_begun d rest (same_tail e)
 
-one_stop : {before rest : List ℕ} {p q : Pos} → Stops before rest p → Stops before rest q → p ≡ q
+pub one_stop : {before rest : List ℕ} {p q : Pos} → Stops before rest p → Stops before rest q → p ≡ q
 one_stop (s.here {before = before} {at = p} n a) (s.here {at = q} m b) = one_place_after before p q a b
 one_stop (s.here n a) (s.later p h) = absurd (n _ _ p)
 one_stop (s.later p h) (s.here n a) = absurd (n _ _ p)
@@ -45,13 +45,13 @@ one_stop (s.later {before = before} {bytes = bytes} {b = b} p h) (s.later {at = 
     let At : ℕ → Type 0 = λ n. Stops (before ++ take n (b ∷ bytes)) (drop n (b ∷ bytes)) q in
     one_stop h (subst At (sym (one_piece p r).1) k)
 
-never_both : {before rest : List ℕ} {at : Pos} {ts : List BToken} → Stops before rest at → IsCut before rest ts → ⊥
+pub never_both : {before rest : List ℕ} {at : Pos} {ts : List BToken} → Stops before rest at → IsCut before rest ts → ⊥
 never_both (s.here n a) (piece p b h) = n _ _ p
 never_both (s.later {before = before} {bytes = bytes} {b = b} p h) (piece {tokens = ts} r a k) =
     let At : ℕ → Type 0 = λ n. IsCut (before ++ take n (b ∷ bytes)) (drop n (b ∷ bytes)) ts in
     never_both h (subst At (sym (one_piece p r).1) k)
 
-not_shallow : {ts : List BToken} {at : Pos} → IsTooDeep ts at → IsShallow ts → ⊥
+pub not_shallow : {ts : List BToken} {at : Pos} → IsTooDeep ts at → IsShallow ts → ⊥
 not_shallow d h = let l = h (d.index + 1) in let a = d.above in omega arith
 
 same_token : {k j : BToken} → Some k ≡ Some j → k ≡ j
@@ -64,19 +64,19 @@ one_index d e = elim (cases_order d.index e.index) [
   | inr (inr lt) ↦ absurd (let l = d.before (e.index + 1) (omega arith) in let a = e.above in omega arith)
 ]
 
-one_depth : {ts : List BToken} {p q : Pos} → IsTooDeep ts p → IsTooDeep ts q → p ≡ q
+pub one_depth : {ts : List BToken} {p q : Pos} → IsTooDeep ts p → IsTooDeep ts q → p ≡ q
 one_depth {ts = ts} d e =
     let same = same_token (sym d.here ∙ ap (slice_get ts) (one_index d e) ∙ e.here) in
     sym d.place ∙ ap (λ k. k.pos) same ∙ e.place
 
 -- the same tokens
 
-cut_as : {bytes rest left : List ℕ} {ts us : List BToken} → bytes ≡ prelude ++ rest → bytes ≡ prelude ++ left → IsCut prelude rest ts → IsCut prelude left us → us ≡ ts
+pub cut_as : {bytes rest left : List ℕ} {ts us : List BToken} → bytes ≡ prelude ++ rest → bytes ≡ prelude ++ left → IsCut prelude rest ts → IsCut prelude left us → us ≡ ts
 cut_as {rest = rest} {left = left} {us = us} e f h k =
     let same : left ≡ rest = append-same_front prelude (sym f ∙ e) in
     sym (one_cut h (subst (λ r. IsCut prelude r us) same k))
 
-stop_as : {bytes rest left : List ℕ} {at : Pos} → bytes ≡ prelude ++ rest → bytes ≡ prelude ++ left → Stops prelude left at → Stops prelude rest at
+pub stop_as : {bytes rest left : List ℕ} {at : Pos} → bytes ≡ prelude ++ rest → bytes ≡ prelude ++ left → Stops prelude left at → Stops prelude rest at
 stop_as {at = at} e f h = subst (λ r. Stops prelude r at) (append-same_front prelude (sym f ∙ e)) h
 
 pub one_fault : (bytes : List ℕ) (f g : BoogieFault) → IsFault bytes f → IsFault bytes g → f ≡ g
@@ -102,7 +102,7 @@ one_fault bytes _ _ (no_program {ts = ts} {i = x} {end = p} e h i n j k) (no_pro
     let last : q ≡ p = one_place_after bytes q p w k in
     ap fault.Syntax (sym (ap (λ z. place_at z y q) same ∙ ap (λ z. place_at ts z q) number ∙ ap (λ z. place_at ts x z) last))
 
-row_as : {bytes rest left : List ℕ} {ts : List BToken} → bytes ≡ prelude ++ rest → bytes ≡ prelude ++ left → IsCut prelude left ts → IsRow rest ts
+pub row_as : {bytes rest left : List ℕ} {ts : List BToken} → bytes ≡ prelude ++ rest → bytes ≡ prelude ++ left → IsCut prelude left ts → IsRow rest ts
 row_as {ts = ts} e f h = subst (λ r. IsRow r ts) (append-same_front prelude (sym f ∙ e)) (row_of h)
 
 -- what spells a program is refused for its brackets alone

@@ -266,7 +266,7 @@ fits_expr y =
 fits_binary : (y : g.Scope) → Fits expr_depth ends_in_one 1 1 (g.binary y)
 fits_binary y = (omega arith, λ a _. (tt, λ o. (omega arith, λ b _. (omega arith, λ _. (refl, omega arith, omega arith)))))
 
-fits_forall : (y : g.Scope) → Fits expr_depth ends_in_one 1 1 (when (v.the_word w.Forall) (λ _. read (g.Binders y g.no_binding) (λ b. g.quantified y.locals b)) (g.binary y))
+fits_forall : (y : g.Scope) → Fits expr_depth ends_in_one 1 1 (when (v.the_word w.Forall) (λ _. read (g.Binders y g.no_binding) (λ b. g.quantified y b)) (g.binary y))
 fits_forall y = ((tt, λ _. (omega arith, λ b _. (tt, λ _. (omega arith, λ a _. (omega arith, λ _. (refl, omega arith, omega arith)))))), fits_binary y)
 
 fits_prefixed : (y : g.Scope) (others : Rule v.expr) → Fits expr_depth ends_in_one 1 1 others → Fits expr_depth ends_in_one 1 1 (g.prefixed y others)
@@ -280,7 +280,7 @@ fits_prefixed y others h = (
 
 fits_inside : (y : g.Scope) → Fits expr_depth ends_in_one 1 1 (rule (g.InParens y))
 fits_inside y =
-    let quantifier : Rule v.expr = when (v.the_word w.Forall) (λ _. read (g.Binders y g.no_binding) (λ b. g.quantified y.locals b)) (g.binary y) in
+    let quantifier : Rule v.expr = when (v.the_word w.Forall) (λ _. read (g.Binders y g.no_binding) (λ b. g.quantified y b)) (g.binary y) in
     fits_prefixed y (unless_bound y.bound quantifier (g.binary y)) (fits_unless y.bound quantifier (g.binary y) (fits_forall y) (fits_binary y))
 
 fits_at : (y : g.Scope) (i : ℕ) → Fits expr_depth ends_in_one 1 1 (g.at_indices y i)

@@ -47,7 +47,7 @@ pub record Braced (bytes : List ℕ) {k : Kind} (a : Rule k) (x : Value k) : Typ
 
 -- the scope of a statement
 abbrev outside : List (List ℕ) → g.Scope
-outside names = record { locals = names; bound = [] }
+outside names = g.outside names
 
 abbrev ShownExpr : List (List ℕ) → t.BExpr → Type 0
 ShownExpr names e = Shown (expr_text (naming names) e) (rule (g.Expr (outside names))) e

@@ -379,13 +379,13 @@ prefixed_keeps x others h = (
   ),
 )
 
-quantified_keeps : (x : g.Scope) (b : v.Binding) → inside x.bound ≡ false → Gives (g.Binders x g.no_binding) b → Keeps (Fits x) (g.quantified x.locals b)
+quantified_keeps : (x : g.Scope) (b : v.Binding) → inside x.bound ≡ false → Gives (g.Binders x g.no_binding) b → Keeps (Fits x) (g.quantified x b)
 quantified_keeps x b outside h = λ _ _ _ _. (tt, λ a f. λ _ _ _ _. (outside, h.1, h.0, subst (λ z. FitsExpr (length x.locals) z a) h.2 f))
 
 parens_keep : (x : g.Scope) (qs : List (List ℕ)) → inside x.bound ≡ inside qs →
-    Keeps (Fits x) (g.prefixed x (g.unless_bound qs (when (v.the_word word.Forall) (λ _. read (g.Binders x g.no_binding) (λ b. g.quantified x.locals b)) (g.binary x)) (g.binary x)))
+    Keeps (Fits x) (g.prefixed x (g.unless_bound qs (when (v.the_word word.Forall) (λ _. read (g.Binders x g.no_binding) (λ b. g.quantified x b)) (g.binary x)) (g.binary x)))
 parens_keep x [] e =
-    prefixed_keeps x (when (v.the_word word.Forall) (λ _. read (g.Binders x g.no_binding) (λ b. g.quantified x.locals b)) (g.binary x))
+    prefixed_keeps x (when (v.the_word word.Forall) (λ _. read (g.Binders x g.no_binding) (λ b. g.quantified x b)) (g.binary x))
     ((λ _ _ _ _. (All-nil (λ u. is_key u ≡ true), λ b h. quantified_keeps x b e h)), binary_keeps x)
 parens_keep x (q ∷ qs) e = prefixed_keeps x (g.binary x) (binary_keeps x)
 

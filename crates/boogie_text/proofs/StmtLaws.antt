@@ -1,5 +1,5 @@
 -- The rule of a statement, by what is next.
-use Rattle.std.proofs.Common.{◌≡◌, ◌∙◌, refl, sym, ap, subst, ℕ, Bool, map, true, false, List, ◌∷◌}
+use Rattle.std.proofs.Common.{◌≡◌, ◌∙◌, refl, sym, ap, subst, ℕ, Bool, map, true, false, List, [], ◌∷◌}
 use Rattle.std.specs.declared.alloc.Global.{Global}
 use Rattle.std.specs.declared.vec.Vec.{Vec}
 use Rattle.boogie_tree.specs.Stmt as s
@@ -21,6 +21,11 @@ use Rattle.boogie_grammar.specs.Greedy.{Starts, IsNot, Reads, Goes, Fails}
 use Rattle.boogie_grammar.specs.ReadView.{ReadsVariable, NoVariable}
 use Rattle.boogie_grammar.proofs.Reading.{start, by_need, by_token, by_other, fails_taken, fails_here}
 use Rattle.boogie_text.specs.StmtView.{changing, storing}
+
+-- the scope of what stands in no `forall`
+
+pub outside_is : (ls : List (List ℕ)) {others bound : List (List ℕ)} → others ≡ [] → bound ≡ [] → (let x : g.Scope = record { locals = ls; others = others; bound = bound } in x) ≡ g.outside ls
+outside_is ls e f = λ i. record { locals = ls; others = e i; bound = f i }
 
 -- what was built
 

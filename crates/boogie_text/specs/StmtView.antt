@@ -20,7 +20,7 @@ use Rattle.boogie_grammar.specs.Grammar.{Rule, give, need, when, read, after_sig
 
 -- the scope of what stands in no `forall`
 abbrev pub no_bound : List (List ℕ) → g.Scope
-no_bound ls = record { locals = ls; bound = [] }
+no_bound ls = g.outside ls
 
 -- bexpr ";", after "assume"
 abbrev pub assuming : List (List ℕ) → Rule v.stmt

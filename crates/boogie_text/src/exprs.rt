@@ -235,6 +235,7 @@ fn binding<'a>(
     let (_, after) = sign(BSign::Bounds, rest)?;
     let under = Scope {
         locals: scope.locals,
+        others: scope.others,
         bound: bound.all(),
     };
     let (inner, rest) = expr(alloc, under, after)?;

@@ -28,8 +28,10 @@ pub(crate) fn whole_expr<'a>(alloc: Global, locals: &Names, tokens: &'a [BToken]
     ensures shorter { IfOk result (λ r. length r.1.now < length tokens.now) }
     ensures reads { Parses expr_of (g.rule (g.Expr (no_bound locals.now))) tokens.now result }
 {
+    let others = Names::new(alloc);
     let scope = Scope {
         locals,
+        others: &others,
         bound: none_bound(),
     };
     let (inner, rest) = expr(alloc, scope, tokens)?;
@@ -41,8 +43,10 @@ fn whole_exprs<'a>(alloc: Global, locals: &Names, tokens: &'a [BToken]) -> Read<
     ensures shorter { IfOk result (λ r. length r.1.now < length tokens.now) }
     ensures reads { Parses all_exprs_of (g.rule (g.Exprs (no_bound locals.now))) tokens.now result }
 {
+    let others = Names::new(alloc);
     let scope = Scope {
         locals,
+        others: &others,
         bound: none_bound(),
     };
     exprs(alloc, scope, tokens)

@@ -19,7 +19,7 @@ pub record Table (A : Alphabet) : Type 1 where
 
 -- with which tokens a rule begins, and what it spells where it is empty
 
-abbrev from : {X : Type 0} → Option X → (X → List ℕ) → List ℕ
+abbrev pub from : {X : Type 0} → Option X → (X → List ℕ) → List ℕ
 from None f = []
 from (Some y) f = f y
 

@@ -7,3 +7,5 @@ pub mod Whole
 pub mod Sets
 pub mod Complete
 pub mod Answered
+pub mod Wider
+pub mod WiderLaws

@@ -1,4 +1,4 @@
-use Rattle.std.proofs.Common.{arith}
+use Rattle.std.proofs.Common.{◌++◌, arith}
 use Rattle.boogie_grammar.specs.ReadView.{scope_of, binding_of}
 use Rattle.boogie_grammar.proofs.Reading.{by_need, by_token, by_other}
 use Rattle.boogie_grammar.proofs.Steps.{token_error, tail, whole_as}
@@ -18,7 +18,7 @@ pub returns-in_err-ty-clause-reads : goal.returns-in_err-ty-clause-reads
 returns-in_err-ty-clause-reads c = token_error (binding_of _) _ _ c.from_residual-in_err-ty.ensures.1 (by_need c.in_ok-after.ensures.takes (by_need c.in_ok-name.ensures.takes c.loop-name.invariant.goes)) c.in_err-ty.ensures.takes
 
 pub add-requires : goal.add-requires
-add-requires c = not_bound c.in_ok-name.name c.args.scope.locals.now c.loop-name.bound c.in_ok-name.ensures.takes.passes.2
+add-requires c = not_bound c.in_ok-name.name (c.args.scope.locals.now ++ c.args.scope.others.now) c.loop-name.bound c.in_ok-name.ensures.takes.passes.2
 
 pub returns-in_default-clause-reads : goal.returns-in_default-clause-reads
 returns-in_default-clause-reads c = whole_as (by_other c.in_default.ensures.eats (by_need c.in_ok-ty.ensures.takes (by_need c.in_ok-after.ensures.takes (by_need c.in_ok-name.ensures.takes c.loop-name.invariant.goes)))) (bound_as c.loop-name.bound c.loop-name.types.items c.in_ok-name.name c.in_ok-ty.ty c.in_ok-add.ensures c.in_ok-types.ensures)

@@ -214,15 +214,15 @@ binding-returns-in_err-after-clause-reads t c =
 
 pub binding-returns-in_err-inner-clause-reads : goal.binding-returns-in_err-inner-clause-reads
 binding-returns-in_err-inner-clause-reads t c =
-    part_error boxed_of _ _ c.from_residual-in_err-inner.ensures.1 (by_need c.in_ok-after.ensures.takes (by_part c.in_ok-types.ensures.reads (start (quantifying (scope_of c.args.scope)) c.args.tokens.now))) (symbol_refuses_at (λ bs. g.Expr (record { locals = c.args.scope.locals.now; bound = bs })) _ _ _ _ c.all.ensures c.in_err-inner.ensures.reads)
+    part_error boxed_of _ _ c.from_residual-in_err-inner.ensures.1 (by_need c.in_ok-after.ensures.takes (by_part c.in_ok-types.ensures.reads (start (quantifying (scope_of c.args.scope)) c.args.tokens.now))) (symbol_refuses_at (λ bs. g.Expr (g.binding_in (scope_of c.args.scope) bs)) _ _ _ _ c.all.ensures c.in_err-inner.ensures.reads)
 
 pub binding-returns-in_err-after-2-clause-reads : goal.binding-returns-in_err-after-2-clause-reads
 binding-returns-in_err-after-2-clause-reads t c =
-    token_error boxed_of _ _ c.from_residual-in_err-after-2.ensures.1 (by_part (symbol_at (λ bs. g.Expr (record { locals = c.args.scope.locals.now; bound = bs })) c.all.ensures c.in_ok-inner.ensures.reads) (by_need c.in_ok-after.ensures.takes (by_part c.in_ok-types.ensures.reads (start (quantifying (scope_of c.args.scope)) c.args.tokens.now)))) c.in_err-after-2.ensures.takes
+    token_error boxed_of _ _ c.from_residual-in_err-after-2.ensures.1 (by_part (symbol_at (λ bs. g.Expr (g.binding_in (scope_of c.args.scope) bs)) c.all.ensures c.in_ok-inner.ensures.reads) (by_need c.in_ok-after.ensures.takes (by_part c.in_ok-types.ensures.reads (start (quantifying (scope_of c.args.scope)) c.args.tokens.now)))) c.in_err-after-2.ensures.takes
 
 pub binding-returns-clause-reads : goal.binding-returns-clause-reads
 binding-returns-clause-reads t c =
-    whole_as (by_need c.in_ok-after-2.ensures.takes (by_part (symbol_at (λ bs. g.Expr (record { locals = c.args.scope.locals.now; bound = bs })) c.all.ensures c.in_ok-inner.ensures.reads) (by_need c.in_ok-after.ensures.takes (by_part c.in_ok-types.ensures.reads (start (quantifying (scope_of c.args.scope)) c.args.tokens.now))))) (ap expr_of c.in_ok-whole.ensures)
+    whole_as (by_need c.in_ok-after-2.ensures.takes (by_part (symbol_at (λ bs. g.Expr (g.binding_in (scope_of c.args.scope) bs)) c.all.ensures c.in_ok-inner.ensures.reads) (by_need c.in_ok-after.ensures.takes (by_part c.in_ok-types.ensures.reads (start (quantifying (scope_of c.args.scope)) c.args.tokens.now))))) (ap expr_of c.in_ok-whole.ensures)
 
 -- the tokens that are left
 
