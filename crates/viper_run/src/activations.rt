@@ -12,13 +12,13 @@ use viper_state::State;
 
 /// The values of the variables.
 #[derive(Drop)]
-pub(crate) struct Store {
-    pub(crate) values: Vec<Value>,
+pub struct Store {
+    pub values: Vec<Value>,
 }
 
 impl Store {
     /// Gives a variable a value.
-    pub(crate) fn set(&mut self, variable: u32, value: Value)
+    pub fn set(&mut self, variable: u32, value: Value)
         ensures { self.new.values.items ≡ slice_set self.old.values.items variable value }
     {
         if let Some(slot) = self.values.get_mut(variable as usize) {
@@ -27,7 +27,7 @@ impl Store {
     }
 
     /// Gives variables these values, in their order.
-    pub(crate) fn set_all(&mut self, variables: &[u32], values: &[Value])
+    pub fn set_all(&mut self, variables: &[u32], values: &[Value])
         ensures { self.new.values.items ≡ m.stored self.old.values.items variables.now values.now }
     {
         for i in 0..variables.len().min(values.len()) {
@@ -38,22 +38,22 @@ impl Store {
 
 /// The values of the variables, and the state.
 #[derive(Drop)]
-pub(crate) struct Configuration {
-    pub(crate) store: Store,
-    pub(crate) state: State,
+pub struct Configuration {
+    pub store: Store,
+    pub state: State,
 }
 
 /// The program, the types of the method's variables, and its old state.
 #[derive(Clone, Copy)]
-pub(crate) struct Activation<'a> {
-    pub(crate) program: &'a Program,
-    pub(crate) vars: &'a [Ty],
-    pub(crate) old: &'a State,
+pub struct Activation<'a> {
+    pub program: &'a Program,
+    pub vars: &'a [Ty],
+    pub old: &'a State,
 }
 
 impl<'a> Activation<'a> {
     /// The scene of the step at this place.
-    pub(crate) fn scene(self, store: &'a Store, at: Pos) -> SceneRef<'a>
+    pub fn scene(self, store: &'a Store, at: Pos) -> SceneRef<'a>
         ensures { lent result ≡ record { store = store.entry.now.values.items; old = state_of self.entry.old.now; at = at } }
     {
         SceneRef {

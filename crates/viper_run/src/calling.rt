@@ -59,7 +59,7 @@ fn end_call(
 }
 
 /// A call, once the values of its arguments are known.
-pub(crate) fn call(
+pub fn call(
     alloc: Global,
     activation: Activation,
     at: Pos,

@@ -119,7 +119,7 @@ pub(crate) fn take_value_of(types: &[Ty], number: u32, feed: &mut Feed) -> Resul
 }
 
 /// Takes a value for each of these variables, in their order.
-pub(crate) fn take_values(
+pub fn take_values(
     alloc: Global,
     types: &[Ty],
     variables: &[u32],

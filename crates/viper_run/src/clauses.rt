@@ -40,7 +40,7 @@ pub(crate) fn produce_all(
 }
 
 /// Consumes clauses, one after the other. Each expression is read in the state at the start.
-pub(crate) fn consume_all(
+pub fn consume_all(
     alloc: Global,
     clauses: &[Assertion],
     start: &State,

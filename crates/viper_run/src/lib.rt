@@ -11,4 +11,9 @@ mod statements;
 mod steps;
 mod units;
 
-pub use units::{Run, run_unit};
+pub use activations::{Activation, Configuration, Store};
+pub use calling::call;
+pub use choices::take_values;
+pub use clauses::consume_all;
+pub use statements::run_stmt;
+pub use units::{Run, begin_method, first_store, run_unit};

@@ -22,7 +22,7 @@ use viper_state::Feed;
 
 /// Runs a statement.
 #[cycle(running)]
-fn run_stmt(
+pub fn run_stmt(
     alloc: Global,
     activation: Activation,
     stmt: &Stmt,

@@ -35,7 +35,7 @@ use viper_inhale::{Halt, Stop, produce_in};
 use viper_state::{Choice, Event, Feed, Opening, Outcome, State, copy_state, empty_state};
 
 /// The values of the variables at the start: those given, and defaults for the others.
-fn first_store(alloc: Global, method: &Method, given: &[Value]) -> Result<Store, Memory>
+pub fn first_store(alloc: Global, method: &Method, given: &[Value]) -> Result<Store, Memory>
     ensures { IfOk result (λ store. store.values.items ≡ u.first_store (method_of method.now) given.now) }
 {
     let mut values = Vec::with_capacity(alloc, method.vars.len())?;
@@ -141,7 +141,7 @@ fn run_method(
 }
 
 /// The precondition is produced where nothing is held.
-fn begin_method(
+pub fn begin_method(
     alloc: Global,
     program: &Program,
     method: &Method,
