@@ -17,11 +17,7 @@ use vb_base::boxed;
 
 /// An expression.
 #[cycle(expressions)]
-pub(crate) fn expr<'a>(
-    alloc: Global,
-    scope: Scope<'_>,
-    tokens: &'a [BToken],
-) -> Read<'a, Box<BExpr>>
+pub fn expr<'a>(alloc: Global, scope: Scope<'_>, tokens: &'a [BToken]) -> Read<'a, Box<BExpr>>
     ensures shorter { IfOk result (λ r. length r.1.now < length tokens.now) }
     ensures reads { Parses boxed_of (g.rule (g.Expr (scope_of scope.entry))) tokens.now result }
 {
@@ -129,11 +125,7 @@ fn indices<'a>(
 
 /// `bexpr { "," bexpr } "]"`
 #[cycle(expressions)]
-pub(crate) fn exprs<'a>(
-    alloc: Global,
-    scope: Scope<'_>,
-    tokens: &'a [BToken],
-) -> Read<'a, Vec<BExpr>>
+pub fn exprs<'a>(alloc: Global, scope: Scope<'_>, tokens: &'a [BToken]) -> Read<'a, Vec<BExpr>>
     ensures shorter { IfOk result (λ r. length r.1.now < length tokens.now) }
     ensures reads { Parses all_exprs_of (g.rule (g.Exprs (scope_of scope.entry))) tokens.now result }
 {

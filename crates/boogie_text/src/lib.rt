@@ -4,7 +4,7 @@
 mod asserts;
 mod bounds;
 mod builds;
-mod exprs;
+pub mod exprs;
 mod laws;
 mod locals;
 mod pieces;
@@ -35,8 +35,9 @@ pub use printer::print;
 pub use put_heads::{put_locals, put_type};
 pub use put_leaves::{put, put_binders, put_names, put_number, put_operator, truth_text};
 pub use put_stmts::{put_else, put_end};
-pub use reader::read;
+pub use reader::{end_after, read};
 pub use text_laws::{
     nested_is_shallow, programs_are_written_in_pieces, statements_are_written_in_pieces,
     written_is_spelled,
 };
+pub use types::{pushed, type_of};

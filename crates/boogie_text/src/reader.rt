@@ -57,7 +57,7 @@ fn read_rest(alloc: Global, rest: &[u8]) -> Result<BProgram, BoogieFault>
 
 /// The place past the last byte of the prelude and these bytes.
 #[tactic(auto, unfolding(boogie_tree::specs::Text::prelude))]
-fn end_after(rest: &[u8]) -> Pos
+pub fn end_after(rest: &[u8]) -> Pos
     requires { length rest.now ≤ max_boogie_bytes }
     ensures { IsPlaceAfter (prelude ++ rest.now) result }
 {

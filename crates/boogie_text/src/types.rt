@@ -11,7 +11,7 @@ use boogie_tree::{BBase, BType};
 use std::alloc::{AllocFailed, Global};
 
 /// The list with one more item.
-pub(crate) fn pushed<T: Drop>(mut all: Vec<T>, item: T) -> Result<Vec<T>, AllocFailed<T>>
+pub fn pushed<T: Drop>(mut all: Vec<T>, item: T) -> Result<Vec<T>, AllocFailed<T>>
     ensures { IfOk result (λ v. v.items ≡ all.items ++ (item ∷ [])) }
 {
     all.push(item)?;
@@ -19,7 +19,7 @@ pub(crate) fn pushed<T: Drop>(mut all: Vec<T>, item: T) -> Result<Vec<T>, AllocF
 }
 
 /// The type of a variable.
-pub(crate) fn type_of(alloc: Global, tokens: &[BToken]) -> Read<'_, BType>
+pub fn type_of(alloc: Global, tokens: &[BToken]) -> Read<'_, BType>
     ensures shorter { IfOk result (λ r. length r.1.now < length tokens.now) }
     ensures reads { Parses type_of (g.rule g.TypeOf) tokens.now result }
 {
