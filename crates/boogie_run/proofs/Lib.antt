@@ -1,5 +1,7 @@
 mod AnswerLaws
 mod BlockLaws
+mod BorrowedLaws
+mod ColumnLaws
 mod IndexLaws
 mod KeyLaws
 mod ListLaws

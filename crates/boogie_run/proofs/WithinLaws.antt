@@ -209,7 +209,7 @@ module _ (w : Scope) (s : IsWithinScope w) (env : List BValue) (h : All IsWithin
 
 pub scope_within : (env : List BValue) (x : scopes.Scope) → IsWithinScope (scope_of env x)
 scope_within env scope.Outside = record { bound = λ m h. tt; all = λ us a. truth_gives _ }
-scope_within env (scope.At k) = record { bound = λ m h. get_within m k.now h; all = λ us a. tt }
+scope_within env (scope.At row) = record { bound = λ m h. get_within m row.key.now h; all = λ us a. tt }
 scope_within env scope.Elsewhere = record { bound = λ m h. h.0; all = λ us a. tt }
 
 gives_value : {X : Type 0} (P : X → Type 0) (e : End X) (x : X) → Gives P e → e ≡ Is x → P x

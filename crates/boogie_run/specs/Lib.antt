@@ -2,6 +2,7 @@ pub mod Start
 pub mod Typed
 pub mod Answers
 pub mod Chosen
+pub mod Columns
 pub mod Lazy
 pub mod Operands
 pub mod Ready

@@ -17,6 +17,10 @@ use Rattle.boogie_tree.specs.Values.{fits_key}
 abbrev pub IsSet : Map Key Truth → Type 0
 IsSet m = m.default ≡ false
 
+abbrev pub is_bool : BBase → Truth
+is_bool base.Bool = true
+is_bool _ = false
+
 -- The choices of the bools among these types are more than n. So where n keys or fewer are listed, some choice is in none of them.
 abbrev pub outnumbers : List BBase → ℕ → Truth
 outnumbers [] n = n == 0

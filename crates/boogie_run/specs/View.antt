@@ -31,5 +31,5 @@ left_in f = map choice_of (drop f.next f.choices.now)
 -- under no `forall`, or under one, where its names have these values, or have any that are not marked
 abbrev pub scope_of : List v.BValue → Scope → m.Scope
 scope_of env Outside = outside Bounded env
-scope_of env (At k) = m.under k.now
+scope_of env (At row) = m.under row.key.now
 scope_of env Elsewhere = elsewhere

@@ -3,7 +3,7 @@
 
 ghost use Rattle.std.specs.Prelude.{◌≡◌, All, Bool, IfOk};
 ghost use Rattle.vb_value.specs.Bound.{Bounded};
-ghost use Rattle.sparse.specs.Map.{keys};
+ghost use Rattle.sparse.specs.Map.{borrowed};
 ghost use Rattle.boogie_tree.specs.Expr as t;
 ghost use Rattle.boogie_tree.specs.Value as v;
 ghost use Rattle.boogie_tree.specs.Whole.{expr_of, exprs_of, scalar_of};
@@ -14,30 +14,32 @@ ghost use Rattle.boogie_meaning.specs.Operators.{as_truth};
 ghost use Rattle.boogie_meaning.specs.Quantified as q;
 ghost use Rattle.boogie_meaning.specs.Value as m;
 ghost use Rattle.boogie_run.specs.Answers.{Answers};
-ghost use Rattle.boogie_run.specs.Searched.{IsSet, end_elsewhere, with_key, with_keys};
+ghost use Rattle.boogie_run.specs.Columns.{AreColumns, FitsScope, keys_of_columns};
+ghost use Rattle.boogie_run.specs.Searched.{end_elsewhere, with_key, with_keys};
 ghost use Rattle.boogie_run.specs.View.{values_of, scope_of};
 ghost use Rattle.boogie_run.specs.Within.{IsWithinValue, IsWithinExpr, AreWithinExprs};
 
+use crate::eval_columns::{Column, columns_of, keys_of_all, seek};
 use crate::eval_ends::{Answer, Miss};
 use crate::eval_keys::{has_other, worse};
 use crate::eval_marked::mark;
 use crate::eval_operators::{combined, open, truth, truth_of};
-use crate::eval_sets::{KeySet, set_of};
 use crate::eval_unary::{Unary, applied, as_real, fraction, negated, paired};
-use crate::eval_values::{Scope, part_of, value_at, value_at_bound, variable};
+use crate::eval_values::{Row, Scope, part_of, value_at, value_at_bound, variable};
 use boogie_tree::{BBase, BExpr, BScalar, BValue, fits_key};
 use std::alloc::Global;
 use vb_base::Memory;
 use vb_value::{Content, Frac, Key};
 
-/// The keys that are marked in an expression, each of them once.
-fn marked_keys(alloc: Global, e: &BExpr, env: &[BValue]) -> Result<KeySet, Memory>
-    ensures is_set { IfOk result IsSet }
-    ensures marked { IfOk result (λ set. (k : v.Key) → d.is_listed (keys set) k ≡ d.is_listed (marked (expr_of e.now) (values_of env.now)) k) }
+/// The columns of the maps that an expression indexes by the bound names.
+fn columns_in<'a>(alloc: Global, e: &BExpr, env: &'a [BValue]) -> Result<Vec<Column<'a>>, Memory>
+    ensures columns { IfOk result (λ cs. AreColumns (values_of env.now) cs.items) }
+    ensures marked { IfOk result (λ cs. (k : v.Key) → d.is_listed (keys_of_columns cs.items) k ≡ d.is_listed (marked (expr_of e.now) (values_of env.now)) k) }
 {
-    let mut list = Vec::new(alloc);
-    mark(e, env, &mut list)?;
-    set_of(alloc, &list)
+    let mut numbers = Vec::new(alloc);
+    mark(e, &mut numbers)?;
+    numbers.sort()?;
+    columns_of(alloc, &numbers, env)
 }
 
 /// The value of an expression.
@@ -45,6 +47,7 @@ fn marked_keys(alloc: Global, e: &BExpr, env: &[BValue]) -> Result<KeySet, Memor
 pub(crate) fn eval(alloc: Global, e: &BExpr, env: &[BValue], scope: Scope) -> Answer
     requires e_within { IsWithinExpr (expr_of e.now) }
     requires env_within { All IsWithinValue (values_of env.now) }
+    requires scope_fits { FitsScope (values_of env.now) scope }
     ensures { Answers scalar_of (m.value Bounded (scope_of (values_of env.now) scope.entry) (expr_of e.now) (values_of env.now)) result }
 {
     match e {
@@ -85,6 +88,7 @@ pub(crate) fn eval(alloc: Global, e: &BExpr, env: &[BValue], scope: Scope) -> An
 pub(crate) fn key_of(alloc: Global, es: &[BExpr], env: &[BValue], scope: Scope) -> Result<Key, Miss>
     requires es_within { AreWithinExprs (exprs_of es.now) }
     requires env_within { All IsWithinValue (values_of env.now) }
+    requires scope_fits { FitsScope (values_of env.now) scope }
     ensures { Answers (λ k. k) (m.values Bounded (scope_of (values_of env.now) scope.entry) (exprs_of es.now) (values_of env.now)) result }
 {
     let mut parts = Vec::with_capacity(alloc, es.len())?;
@@ -115,9 +119,10 @@ fn quantified(alloc: Global, bases: &[BBase], a: &BExpr, env: &[BValue]) -> Resu
     requires env_within { All IsWithinValue (values_of env.now) }
     ensures { Answers (λ p. p) (q.quantified Bounded bases.now (expr_of a.now) (values_of env.now)).0 result }
 {
-    let set = marked_keys(alloc, a, env)?;
-    let rest = elsewhere(alloc, bases, a, env, &set);
-    at_keys(alloc, bases, a, env, &set, rest)
+    let columns = columns_in(alloc, a, env)?;
+    let keys = keys_of_all(alloc, &columns)?;
+    let rest = elsewhere(alloc, bases, a, env, &keys);
+    at_keys(alloc, bases, a, env, &keys, &columns, rest)
 }
 
 /// The end of a body at the lists of keys that are not marked, where there are some.
@@ -127,14 +132,13 @@ fn elsewhere(
     bases: &[BBase],
     a: &BExpr,
     env: &[BValue],
-    set: &KeySet,
+    list: &[&Key],
 ) -> Result<bool, Miss>
     requires a_within { IsWithinExpr (expr_of a.now) }
     requires env_within { All IsWithinValue (values_of env.now) }
-    requires is_set { IsSet set.now }
-    ensures { Answers (λ p. p) (end_elsewhere bases.now (expr_of a.now) (values_of env.now) (keys set.now)) result }
+    ensures { Answers (λ p. p) (end_elsewhere bases.now (expr_of a.now) (values_of env.now) (borrowed list.now)) result }
 {
-    if has_other(alloc, bases, set)? {
+    if has_other(alloc, bases, list)? {
         truth_of(eval(alloc, a, env, Scope::Elsewhere))
     } else {
         Ok(true)
@@ -143,22 +147,31 @@ fn elsewhere(
 
 /// The worst end of a body at these keys, and the rest.
 #[cycle(evaluation)]
-fn at_keys(
+fn at_keys<'a>(
     alloc: Global,
     bases: &[BBase],
     a: &BExpr,
     env: &[BValue],
-    set: &KeySet,
+    list: &[&'a Key],
+    columns: &[Column<'a>],
     rest: Result<bool, Miss>,
 ) -> Result<bool, Miss>
     requires a_within { IsWithinExpr (expr_of a.now) }
     requires env_within { All IsWithinValue (values_of env.now) }
+    requires columns { AreColumns (values_of env.now) columns.now }
     ensures { (e : End Bool) → Answers (λ p. p) e rest → Answers (λ p. p)
-        (with_keys bases.now (m.body_at Bounded (expr_of a.now) (values_of env.now)) (keys set.now) e) result }
+        (with_keys bases.now (m.body_at Bounded (expr_of a.now) (values_of env.now)) (borrowed list.now) e) result }
 {
     let mut end = rest;
-    for i in 0..set.len() {
-        end = at_key(alloc, bases, a, env, set.key_at(i), end);
+    let mut nexts = vec![in alloc; 0usize; columns.len()]?;
+    for key in list {
+        seek(columns, &mut nexts, key);
+        let row = Row {
+            key: *key,
+            columns,
+            nexts: &nexts,
+        };
+        end = at_key(alloc, bases, a, env, row, end);
     }
     end
 }
@@ -170,16 +183,18 @@ fn at_key(
     bases: &[BBase],
     a: &BExpr,
     env: &[BValue],
-    key: &Key,
+    row: Row,
     end: Result<bool, Miss>,
 ) -> Result<bool, Miss>
     requires a_within { IsWithinExpr (expr_of a.now) }
     requires env_within { All IsWithinValue (values_of env.now) }
+    requires columns { AreColumns (values_of env.now) row.columns.now }
     ensures { (e : End Bool) → Answers (λ p. p) e end → Answers (λ p. p)
-        (with_key bases.now (m.body_at Bounded (expr_of a.now) (values_of env.now)) key.now e) result }
+        (with_key bases.now (m.body_at Bounded (expr_of a.now) (values_of env.now)) row.entry.key.now e) result }
 {
+    let key = row.key;
     if !fits_key(bases, &key.parts) {
         return end;
     }
-    worse(truth_of(eval(alloc, a, env, Scope::At(key))), end)
+    worse(truth_of(eval(alloc, a, env, Scope::At(row))), end)
 }

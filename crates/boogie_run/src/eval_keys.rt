@@ -2,14 +2,15 @@
 #![tactic(auto, using(crate::specs::Answers::is, crate::specs::Answers::over, crate::specs::Answers::wrong, crate::specs::Answers::no_memory))]
 
 ghost use Rattle.std.specs.Prelude.{◌≡◌, ◌++◌, ◌∷◌, [], Bool, not, IfOk};
-ghost use Rattle.sparse.specs.Map.{keys};
+ghost use Rattle.std.specs.List.{list_all};
+ghost use Rattle.sparse.specs.Map.{borrowed, keys};
 ghost use Rattle.boogie_meaning.specs.Decided as d;
 ghost use Rattle.boogie_meaning.specs.Ends.{End};
 ghost use Rattle.boogie_run.specs.Answers.{Answers};
-ghost use Rattle.boogie_run.specs.Searched.{IsSet, outnumbers};
+ghost use Rattle.boogie_run.specs.Searched.{IsSet, is_bool, outnumbers};
 
 use crate::eval_ends::Miss;
-use crate::eval_sets::{KeySet, has};
+use crate::eval_sets::{KeySet, has, set_of};
 use boogie_tree::{BBase, are_keys};
 use std::alloc::Global;
 use vb_base::Memory;
@@ -62,19 +63,34 @@ fn outnumbers(bases: &[BBase], count: usize) -> bool
     left == 0
 }
 
-/// Whether a key of these types is not in the set.
-pub(crate) fn has_other(alloc: Global, bases: &[BBase], set: &KeySet) -> Result<bool, Memory>
-    requires { IsSet set.now }
-    ensures { IfOk result (λ p. p ≡ d.has_other bases.now (keys set.now)) }
+/// Whether all of these types are bool.
+fn are_bools(bases: &[BBase]) -> bool
+    ensures { result ≡ list_all is_bool bases.now }
 {
-    if outnumbers(bases, set.len()) {
+    for base in bases {
+        if *base != BBase::Bool {
+            return false;
+        }
+    }
+    true
+}
+
+/// Whether a key of these types is none of the list.
+pub(crate) fn has_other(alloc: Global, bases: &[BBase], list: &[&Key]) -> Result<bool, Memory>
+    ensures { IfOk result (λ p. p ≡ d.has_other bases.now (borrowed list.now)) }
+{
+    if !are_bools(bases) {
         return Ok(are_keys(bases));
     }
-    // So there are no more bools, and the calls are no deeper, than a logarithm of the set's length.
+    if outnumbers(bases, list.len()) {
+        return Ok(true);
+    }
+    // So there are no more bools, and the calls are no deeper, than a logarithm of the list's length.
+    let set = set_of(alloc, list)?;
     let front = Key {
         parts: Vec::new(alloc),
     };
-    has_other_from(alloc, &front, bases, set)
+    has_other_from(alloc, &front, bases, &set)
 }
 
 /// Of two ends of truths the first in the order Over, Wrong, false, true.

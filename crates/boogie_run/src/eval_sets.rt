@@ -1,6 +1,6 @@
 // Sets of keys.
 ghost use Rattle.std.specs.Prelude.{◌≡◌, ◌∷◌, IfOk, OnOk};
-ghost use Rattle.sparse.specs.Map.{keys};
+ghost use Rattle.sparse.specs.Map.{borrowed, keys};
 ghost use Rattle.boogie_tree.specs.Value as v;
 ghost use Rattle.boogie_meaning.specs.Decided as d;
 ghost use Rattle.boogie_run.specs.Searched.{IsSet};
@@ -34,9 +34,9 @@ fn add(set: &mut KeySet, key: &Key) -> Result<(), Memory>
 }
 
 /// The set of these keys.
-pub(crate) fn set_of(alloc: Global, list: &[Key]) -> Result<KeySet, Memory>
+pub(crate) fn set_of(alloc: Global, list: &[&Key]) -> Result<KeySet, Memory>
     ensures is_set { IfOk result IsSet }
-    ensures same { IfOk result (λ set. (k : v.Key) → d.is_listed (keys set) k ≡ d.is_listed list.now k) }
+    ensures same { IfOk result (λ set. (k : v.Key) → d.is_listed (keys set) k ≡ d.is_listed (borrowed list.now) k) }
 {
     let Ok(mut set) = Sparse::make(alloc, false) else {
         return Err(Memory);

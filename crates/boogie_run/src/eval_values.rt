@@ -1,7 +1,7 @@
 // The values of variables, and of maps at keys.
 #![tactic(auto, using(crate::specs::Answers::is, crate::specs::Answers::over, crate::specs::Answers::wrong, crate::specs::Answers::no_memory))]
 
-ghost use Rattle.std.specs.Prelude.{◌≡◌, IfOk, slice_get};
+ghost use Rattle.std.specs.Prelude.{◌≡◌, IfOk, IfSome, Some, slice_get};
 ghost use Rattle.sparse.specs.Map.{get};
 ghost use Rattle.vb_value.specs.Key.{key_cmp};
 ghost use Rattle.boogie_tree.specs.Value as v;
@@ -10,21 +10,32 @@ ghost use Rattle.boogie_meaning.specs.Ends.{End, Is, Wrong, then_with, found};
 ghost use Rattle.boogie_meaning.specs.Operators.{part_of};
 ghost use Rattle.boogie_meaning.specs.Value as m;
 ghost use Rattle.boogie_run.specs.Answers.{Answers};
+ghost use Rattle.boogie_run.specs.Columns.{AreColumns, FitsScope, StandsIn, entries_in};
 ghost use Rattle.boogie_run.specs.View.{map_of, values_of, scope_of};
 ghost use Rattle.boogie_run.specs.Within.{IsWithinScalar};
 
+use crate::eval_columns::Column;
 use crate::eval_ends::{Answer, Miss};
 use boogie_tree::{BScalar, BValue};
 use sparse::Sparse;
 use vb_value::{Key, KeyPart};
 
+/// The values of the names of a `forall`, and the maps that its body indexes by them, each with the index in its column at which
+/// the entry of these values is looked for first.
+#[derive(Clone, Copy)]
+pub(crate) struct Row<'a, 'b, 'c> {
+    pub(crate) key: &'a Key,
+    pub(crate) columns: &'b [Column<'a>],
+    pub(crate) nexts: &'c [usize],
+}
+
 /// Where an expression stands.
 #[derive(Clone, Copy)]
-pub(crate) enum Scope<'a> {
+pub(crate) enum Scope<'a, 'b, 'c> {
     /// Under no `forall`.
     Outside,
     /// Under one whose names have these values.
-    At(&'a Key),
+    At(Row<'a, 'b, 'c>),
     /// Under one whose names have values that are not marked: each map has its default there.
     Elsewhere,
 }
@@ -101,6 +112,42 @@ fn default_at(env: &[BValue], number: usize) -> Answer
     default_in(the_map(env, number)?)
 }
 
+/// The value of a column's entry at an index, if it has this key.
+fn value_here<'a>(column: &Column<'a>, at: usize, key: &Key) -> Option<&'a BScalar>
+    ensures { IfSome result (λ x. slice_get (entries_in column.now) at ≡ Some (key.now, x.now)) }
+{
+    let entry = column.entries.get(at)?;
+    if entry.0 == *key {
+        Some(&entry.1)
+    } else {
+        None
+    }
+}
+
+/// The value of the map of a number at the values of the bound names, where its column stands there.
+fn value_in_row<'a>(row: Row<'a, '_, '_>, number: usize) -> Option<&'a BScalar>
+    ensures { IfSome result (λ x. StandsIn row.entry.columns.now number row.entry.key.now x.now) }
+{
+    let at = row.columns.partition_point(|column| column.number < number);
+    let column = row.columns.get(at)?;
+    let next = row.nexts.get(at)?;
+    if column.number == number {
+        value_here(column, *next, row.key)
+    } else {
+        None
+    }
+}
+
+fn value_at_row(env: &[BValue], number: usize, row: Row) -> Answer
+    requires { AreColumns (values_of env.now) row.columns.now }
+    ensures { Answers scalar_of (then_with (m.the_map (values_of env.now) number) (λ n. Is (get key_cmp n row.entry.key.now))) result }
+{
+    match value_in_row(row, number) {
+        Some(value) => copied(value),
+        None => value_at_key(env, number, row.key),
+    }
+}
+
 /// The value of a map at the key that indices make.
 pub(crate) fn value_at(env: &[BValue], number: usize, key: Result<Key, Miss>) -> Answer
     ensures { (e : End v.Key) → Answers (λ k. k) e key
@@ -111,11 +158,12 @@ pub(crate) fn value_at(env: &[BValue], number: usize, key: Result<Key, Miss>) ->
 
 /// The value of a map at the bound names.
 pub(crate) fn value_at_bound(env: &[BValue], number: usize, scope: Scope) -> Answer
+    requires { FitsScope (values_of env.now) scope }
     ensures { Answers scalar_of (then_with (m.the_map (values_of env.now) number) (scope_of (values_of env.now) scope.entry).bound) result }
 {
     match scope {
         Scope::Outside => outside_at(env, number),
-        Scope::At(key) => value_at_key(env, number, key),
+        Scope::At(row) => value_at_row(env, number, row),
         Scope::Elsewhere => default_at(env, number),
     }
 }

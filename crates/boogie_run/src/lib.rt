@@ -2,6 +2,7 @@
 #![tactic(auto)]
 
 mod eval;
+mod eval_columns;
 mod eval_ends;
 mod eval_keys;
 mod eval_marked;
@@ -19,4 +20,4 @@ mod replaying;
 mod typing;
 
 pub use replaying::{BOutcome, replay};
-pub use typing::check_types;
+pub use typing::{base_of_expr, check_types, have_keys, is_assign, is_bool, is_put, same_type};

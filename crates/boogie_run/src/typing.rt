@@ -205,6 +205,13 @@ fn are_of(locals: &[Local], inside: bool, keys: &[BBase], es: &[BExpr], wanted: 
     count == wanted.len()
 }
 
+/// The type of an expression that stands under no `forall`, if it has one.
+pub fn base_of_expr(locals: &[Local], e: &BExpr) -> Option<BBase>
+    ensures { result ≡ base_of (types_in locals.now) None (expr_of e.now) }
+{
+    base_of(locals, false, &[], e)
+}
+
 fn is_base(found: Option<BBase>, wanted: BBase) -> bool
     ensures { result ≡ ty.is_base found wanted }
 {
@@ -215,13 +222,14 @@ fn is_base(found: Option<BBase>, wanted: BBase) -> bool
 }
 
 /// Whether an expression is a bool, under no `forall`.
-fn is_bool(locals: &[Local], e: &BExpr) -> bool
+pub fn is_bool(locals: &[Local], e: &BExpr) -> bool
     ensures { result ≡ ty.is_base (base_of (types_in locals.now) None (expr_of e.now)) base.Bool }
 {
     is_base(base_of(locals, false, &[], e), BBase::Bool)
 }
 
-fn same_type(a: &BType, b: &BType) -> bool
+/// Whether two types are the same.
+pub fn same_type(a: &BType, b: &BType) -> bool
     ensures { result ≡ same_type (type_of a.now) (type_of b.now) }
 {
     same_bases(&a.keys, &b.keys) && same_base(a.base, b.base)
@@ -251,7 +259,7 @@ fn is_plain(locals: &[Local], number: usize, found: Option<BBase>) -> bool
 }
 
 /// Whether an assignment is well-typed.
-fn is_assign(locals: &[Local], number: usize, e: &BExpr) -> bool
+pub fn is_assign(locals: &[Local], number: usize, e: &BExpr) -> bool
     ensures { result ≡ ty.is_type (slice_get (types_in locals.now) number) (ty.side_type (types_in locals.now) (expr_of e.now)) }
 {
     match e {
@@ -261,7 +269,7 @@ fn is_assign(locals: &[Local], number: usize, e: &BExpr) -> bool
 }
 
 /// Whether a map takes the value at the indices.
-fn is_put(locals: &[Local], number: usize, es: &[BExpr], e: &BExpr) -> bool
+pub fn is_put(locals: &[Local], number: usize, es: &[BExpr], e: &BExpr) -> bool
     ensures { result ≡ ty.is_put (slice_get (types_in locals.now) number) (bases_of (types_in locals.now) None (exprs_of es.now))
         (base_of (types_in locals.now) None (expr_of e.now)) }
 {
@@ -324,7 +332,7 @@ fn is_typed_proc(proc: &Proc) -> bool
 }
 
 /// Whether the indices of each map have types of keys.
-fn have_keys(locals: &[Local]) -> bool
+pub fn have_keys(locals: &[Local]) -> bool
     ensures { result ≡ have_keys (types_in locals.now) }
 {
     for local in locals {

@@ -1,20 +1,22 @@
 -- Each exit of an evaluation, by the steps that led to it.
 use Rattle.std.proofs.Common.{rules, refl, sym, ap, ◌∙◌, subst, Ok, IfOk, if◌then◌else◌, ◌++◌, ◌+◌, drop}
-use Rattle.sparse.specs.Map.{keys}
+use Rattle.sparse.specs.Map.{borrowed}
 use Rattle.vb_value.specs.Bound.{Bounded}
 use Rattle.boogie_tree.specs.Whole.{expr_of, exprs_of, scalar_of}
 use Rattle.boogie_tree.specs.declared.exprs.BExpr.{the_lemmas}
 use Rattle.boogie_meaning.specs.Ends.{Is, then_with}
 use Rattle.boogie_meaning.specs.Operators as o
 use Rattle.boogie_meaning.specs.Value.{value, values, body_at}
-use Rattle.boogie_run.specs.Answers.{is}
-use Rattle.boogie_run.specs.Searched.{with_key, with_keys}
+use Rattle.boogie_meaning.specs.Decided.{is_listed}
+use Rattle.boogie_run.specs.Answers.{Answers, is}
+use Rattle.boogie_run.specs.Columns.{keys_of_columns}
+use Rattle.boogie_run.specs.Searched.{end_elsewhere, with_key, with_keys}
 use Rattle.boogie_run.specs.View.{values_of, scope_of}
 use Rattle.boogie_run.specs.Within.{IsWithinExpr, IsWithinScalar}
 use Rattle.boogie_run.proofs.AnswerLaws.{the_value, same_answers, passed, goes_then, stops_then, answer_is}
 use Rattle.boogie_run.proofs.NodeLaws.{at_is, bin_is, if_is, pair_is, neg_is, to_real_is}
 use Rattle.boogie_run.proofs.IndexLaws.{index_goes, index_stops, indices_end}
-use Rattle.boogie_run.proofs.ListLaws.{entry_at}
+use Rattle.boogie_run.proofs.BorrowedLaws.{next_borrowed}
 use Rattle.boogie_run.proofs.SearchLaws.{quantified_is}
 use Rattle.boogie_run.proofs.WithinLaws.{all_within, argument_within}
 use Rattle.boogie_run.proofs.eval.+evaluation.Goals as goal
@@ -80,7 +82,7 @@ eval-returns-in-Ok-eval t c =
 
 pub eval-key_of-requires : goal.eval-key_of-requires
 eval-key_of-requires t c =
-    (search (rules, the_lemmas), (subst IsWithinExpr (at_is c.in-At.es c.in-At.is c.deref-in-At.ensures.value) c.requires.e_within, c.requires.env_within))
+    (search (rules, the_lemmas), (subst IsWithinExpr (at_is c.in-At.es c.in-At.is c.deref-in-At.ensures.value) c.requires.e_within, (c.requires.env_within, c.requires.scope_fits)))
 
 pub eval-returns-in-At : goal.eval-returns-in-At
 eval-returns-in-At t c =
@@ -92,7 +94,7 @@ key_of-eval-requires t c = (
   search (rules, the_lemmas),
   (
     subst (λ a. IsWithinExpr (expr_of a)) (sym c.e-item.is) (argument_within c.args.es.now c.loop-e.e-index c.e-item.result c.loop-e-test.true c.requires.es_within),
-    c.requires.env_within,
+    (c.requires.env_within, c.requires.scope_fits),
   ),
 )
 
@@ -125,15 +127,17 @@ quantified-returns t c =
     let us = c.args.bases.now in
     let a = expr_of c.args.a.now in
     let env = values_of c.args.env.now in
-    same_answers (quantified_is us a env (keys c.in_ok-set.set) c.in_ok-set.ensures.marked) (c.at_keys.ensures _ c.elsewhere-rest.ensures)
+    let ks = borrowed c.in_ok-keys.keys.items in
+    let rest = subst (λ xs. Answers (λ p. p) (end_elsewhere us a env (borrowed xs)) c.elsewhere-rest.result) c.deref-2.ensures.value c.elsewhere-rest.ensures in
+    let all = subst (λ xs. Answers (λ p. p) (with_keys us (body_at Bounded a env) (borrowed xs) (end_elsewhere us a env ks)) c.at_keys.result) c.deref-3.ensures.value (c.at_keys.ensures _ rest) in
+    same_answers (quantified_is us a env ks (λ k. c.in_ok-keys.ensures k ∙ ap (λ cs. is_listed (keys_of_columns cs) k) c.deref.ensures.value ∙ c.in_ok-columns.ensures.marked k)) all
 
-pub at_keys-loop-i-preserved : goal.at_keys-loop-i-preserved
-at_keys-loop-i-preserved t c =
+pub at_keys-loop-key-preserved : goal.at_keys-loop-key-preserved
+at_keys-loop-key-preserved t c =
     let us = c.args.bases.now in
     let body = body_at Bounded (expr_of c.args.a.now) (values_of c.args.env.now) in
-    let ks = keys c.args.set.now in
     record {
       so_far = λ e h.
-          let s = c.loop-i.invariant.so_far e h in
-          (with_key us body c.key_at.result.now s.0, c.at_key-end.ensures s.0 s.1, s.2 ∙ ap (λ xs. with_keys us body xs s.0) (entry_at ks c.loop-i.i c.key_at.result.now c.key_at.ensures.key));
+          let s = c.loop-key.invariant.so_far e h in
+          (with_key us body c.key-item.result.now s.0, c.at_key-end.ensures s.0 s.1, s.2 ∙ ap (λ xs. with_keys us body xs s.0) (next_borrowed c.args.list.now c.loop-key.key-index c.key-item.result c.loop-key-test.true c.key-item.is));
     }

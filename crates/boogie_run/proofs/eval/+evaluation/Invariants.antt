@@ -1,6 +1,6 @@
 -- The keys that are left, and the indices that are left.
 use Rattle.std.proofs.Common.{◌≡◌, ◌++◌, Bool, drop}
-use Rattle.sparse.specs.Map.{keys}
+use Rattle.sparse.specs.Map.{borrowed}
 use Rattle.vb_value.specs.Bound.{Bounded}
 use Rattle.boogie_tree.specs.Whole.{expr_of, exprs_of}
 use Rattle.boogie_meaning.specs.Ends.{End, Is, then_with}
@@ -10,10 +10,10 @@ use Rattle.boogie_run.specs.Searched.{with_keys}
 use Rattle.boogie_run.specs.View.{values_of, scope_of}
 use Rattle.boogie_run.proofs.eval.+evaluation.Given as goal
 
-abbrev pub invariant-at_keys-loop-i : goal.invariant-at_keys-loop-i
-invariant-at_keys-loop-i l = record {
+abbrev pub invariant-at_keys-loop-key : goal.invariant-at_keys-loop-key
+invariant-at_keys-loop-key l = record {
   so_far : (e : End Bool) → Answers (λ p. p) e l.fn.rest → (f : End Bool) × Answers (λ p. p) f l.end ×
-      (with_keys l.bases (body_at Bounded (expr_of l.a) (values_of l.env)) (keys l.set) e ≡ with_keys l.bases (body_at Bounded (expr_of l.a) (values_of l.env)) (drop l.i (keys l.set)) f);
+      (with_keys l.bases (body_at Bounded (expr_of l.a) (values_of l.env)) (borrowed l.list) e ≡ with_keys l.bases (body_at Bounded (expr_of l.a) (values_of l.env)) (drop l.key-index (borrowed l.list)) f);
 }
 
 abbrev pub invariant-key_of-loop-e : goal.invariant-key_of-loop-e
