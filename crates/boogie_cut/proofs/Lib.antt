@@ -7,3 +7,7 @@ pub mod TurnLaws
 pub mod TurningLaws
 pub mod LoopLaws
 pub mod FollowsLaws
+pub mod CodeLaws
+pub mod WriteLaws
+pub mod PlaceLaws
+pub mod ChangedLaws

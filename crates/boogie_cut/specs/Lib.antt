@@ -3,3 +3,4 @@ pub mod Cut
 pub mod Alike
 pub mod Follows
 pub mod Sum
+pub mod View

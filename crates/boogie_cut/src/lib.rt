@@ -2,5 +2,16 @@
 //! fails as well.
 #![tactic(auto)]
 
+mod calls;
+mod changed;
+mod copies;
+mod fresh;
 pub mod laws;
+mod loops;
+mod pieces;
+mod procs;
+mod programs;
+mod statements;
 pub mod worked;
+
+pub use programs::cut;

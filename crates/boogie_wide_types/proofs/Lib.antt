@@ -1,0 +1,4 @@
+pub mod HeadLaws
+pub mod TargetLaws
+pub mod NodeLaws
+pub mod ProgramLaws

@@ -1,0 +1,19 @@
+-- The number of the first ill-typed procedure, one procedure after the other.
+use Rattle.std.proofs.Common.{◌≡◌, ℕ, suc, ◌+◌, true, false, Option, Some, None, List, ◌∷◌, map, refl, ap, arith}
+use Rattle.std.specs.Option.{option_map}
+use Rattle.boogie_wide.specs.Wide as w
+use Rattle.boogie_wide.specs.View.{wproc_of}
+use Rattle.boogie_wide.specs.WideTypes.{is_wide_proc, ill_typed_wide}
+use Rattle.boogie_wide.specs.declared.wide.WProc.{WProc}
+
+number_after : (n : ℕ) (o : Option ℕ) → option_map (λ m. n + m) (option_map suc o) ≡ option_map (λ m. (n + 1) + m) o
+number_after n None = refl
+number_after n (Some m) = ap Some (omega arith)
+
+module _ (ps : List w.WProc) where
+  pub at_ill_typed : (n : ℕ) (d : WProc) (ds : List WProc) → is_wide_proc ps (wproc_of d) ≡ false → option_map (λ m. n + m) (ill_typed_wide ps (map wproc_of (d ∷ ds))) ≡ Some (n + 1)
+  at_ill_typed n d ds h = rw h refl
+
+  pub at_typed : (n : ℕ) (d : WProc) (ds : List WProc) → is_wide_proc ps (wproc_of d) ≡ true →
+      option_map (λ m. n + m) (ill_typed_wide ps (map wproc_of (d ∷ ds))) ≡ option_map (λ m. (n + 1) + m) (ill_typed_wide ps (map wproc_of ds))
+  at_typed n d ds h = rw h (number_after n (ill_typed_wide ps (map wproc_of ds)))

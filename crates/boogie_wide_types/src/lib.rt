@@ -1,0 +1,9 @@
+//! Checks the types of Boogie programs with loops, calls and contracts.
+#![tactic(auto)]
+
+mod blocks;
+mod calls;
+mod heads;
+mod programs;
+
+pub use programs::check_wide;

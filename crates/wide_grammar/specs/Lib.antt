@@ -1,0 +1,5 @@
+pub mod Noting
+pub mod Words
+pub mod Trees
+pub mod Grammar
+pub mod Spells
