@@ -1,0 +1,13 @@
+pub mod WideComplete
+pub mod WideParsed
+pub mod WideAnswered
+pub mod WideFaults
+pub mod NotedNames
+pub mod Steps
+pub mod NameSets
+pub mod ClauseLaws
+pub mod WideStmts
+pub mod ProcedureLaws
+pub mod WideWhole
+pub mod WideReads
+pub mod WideSpelledLaws

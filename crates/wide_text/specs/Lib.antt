@@ -1,0 +1,11 @@
+pub mod Faults
+pub mod Answers
+pub mod Greedy
+pub mod Bound
+pub mod View
+pub mod Words
+pub mod ClauseView
+pub mod Heads
+pub mod Procedures
+pub mod Whole
+pub mod Names

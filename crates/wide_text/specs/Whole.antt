@@ -1,0 +1,41 @@
+-- What the functions answer that read a program from its tokens: the greedy reading up to the end of the tokens.
+use Rattle.std.specs.Prelude.{◌≡◌, ℕ, List, [], Result, Ok, Err}
+use Rattle.std.specs.declared.alloc.Global.{Global}
+use Rattle.std.specs.declared.vec.Vec.{Vec}
+use Rattle.vb_base.specs.declared.places.Pos.{Pos}
+use Rattle.vb_base.specs.Place.{IsPlace}
+use Rattle.grammar.specs.Whole as grammar
+use Rattle.grammar.specs.declared.stop.Stop.{Stop}
+use Rattle.boogie_grammar.specs.declared.faults.BoogieFault.{BoogieFault}
+use Rattle.boogie_grammar.specs.declared.faults.BoogieFault.TheVariants as fault
+use Rattle.boogie_grammar.specs.declared.tokens.BToken.{BToken}
+use Rattle.boogie_grammar.specs.Faults.{place_at}
+use Rattle.boogie_wide.specs.View.{wprogram_of}
+use Rattle.boogie_wide.specs.declared.wide.WProc.{WProc}
+use Rattle.boogie_wide.specs.declared.wide.WProgram.{WProgram}
+use Rattle.wide_grammar.specs.Grammar.{rule, rules, Programs}
+use Rattle.wide_grammar.specs.Spells.{Spells, IsWideProgram}
+use Rattle.wide_text.specs.Greedy.{Reads}
+use Rattle.wide_text.specs.View.{all_wprocs_of}
+
+-- just in front of r a program goes wrong
+abbrev pub FailsWhole : List BToken → List BToken → Type 0
+FailsWhole ts r = grammar.FailsWhole rules (rule (Programs [])) ts r
+
+abbrev pub RefusesWhole : List BToken → Stop BToken → Type 0
+RefusesWhole ts e = grammar.RefusesWhole rules (rule (Programs [])) ts e
+
+abbrev pub ReadsWhole : List BToken → Result (Vec WProc Global) (Stop BToken) → Type 0
+ReadsWhole ts (Ok ps) = Reads _ (rule (Programs [])) ts (all_wprocs_of ps) []
+ReadsWhole ts (Err e) = RefusesWhole ts e
+
+-- memory was refused, or the tokens spell no program, and go wrong at this place
+abbrev pub RefusesTokens : List BToken → Pos → BoogieFault → Type 0
+RefusesTokens ts end fault.Memory = Unit {0}
+RefusesTokens ts end (fault.Syntax at) = (IsWideProgram ts → ⊥) × ((i : ℕ) × IsPlace IsWideProgram ts i × (at ≡ place_at ts i end))
+RefusesTokens ts end (fault.Prelude at) = ⊥
+RefusesTokens ts end (fault.Deep at) = ⊥
+
+abbrev pub ReadsProgram : List BToken → Pos → Result WProgram BoogieFault → Type 0
+ReadsProgram ts end (Ok p) = Spells ts (wprogram_of p)
+ReadsProgram ts end (Err e) = RefusesTokens ts end e

@@ -1,0 +1,148 @@
+// The clauses of a procedure, and the names that are bound in them.
+ghost use Rattle.std.specs.Prelude.{◌≡◌, ◌<◌, ◌≤◌, ◌++◌, [], ℕ, List, length, IfOk, IfSome, OnOk, MatchOption};
+ghost use Rattle.boogie_wide.specs.View.{clause_of};
+ghost use Rattle.wide_grammar.specs.Grammar as g;
+ghost use Rattle.wide_grammar.specs.Trees.{no_clauses};
+ghost use Rattle.wide_text.specs.Bound.{bound_in, binds, BindsNone, Binds};
+ghost use Rattle.wide_text.specs.ClauseView.{ReadsBound, contract_of, adding, ReadsKind, NoKind};
+ghost use Rattle.wide_text.specs.Greedy.{Parses};
+
+use crate::parts::{mark, whole_expr};
+use crate::reserved::Reserved;
+use crate::words::{WideWord, eat_wide};
+use boogie_grammar::eating::{Read, eat_sign, sign};
+use boogie_grammar::scopes::Names;
+use boogie_grammar::{BSign, BTok, BToken};
+use boogie_text::pushed;
+use boogie_wide::Clause;
+use std::alloc::Global;
+use vb_base::{Ident, Memory};
+
+/// The name that a token is, where it stands before a `:`.
+fn named<'a>(token: &'a BToken, rest: &[BToken]) -> Option<&'a Ident>
+    ensures { MatchOption result (BindsNone token.now rest.now) (λ name. Binds token.now rest.now name.now) }
+{
+    match &token.tok {
+        BTok::Name(name) => {
+            let _ = eat_sign(BSign::Colon, rest)?;
+            Some(name)
+        }
+        _ => None,
+    }
+}
+
+/// One name more, if a token is one that stands before a `:`.
+fn push_named(
+    alloc: Global,
+    bound: &mut Vec<Ident>,
+    token: &BToken,
+    rest: &[BToken],
+) -> Result<(), Memory>
+    ensures { OnOk result (bound.new.items ≡ bound.old.items ++ binds token.now.tok rest.now) }
+{
+    if let Some(name) = named(token, rest) {
+        bound.push(name.copy(alloc)?)?;
+    }
+    Ok(())
+}
+
+/// The names before a `:`, behind these.
+fn push_bound(alloc: Global, bound: &mut Vec<Ident>, tokens: &[BToken]) -> Result<(), Memory>
+    ensures { OnOk result (bound.new.items ≡ bound.old.items ++ bound_in tokens.now) }
+{
+    let mut left = tokens;
+    while let Some((first, rest)) = left.split_first() {
+        push_named(alloc, bound, first, rest)?;
+        left = rest;
+    }
+    Ok(())
+}
+
+/// A label and `bexpr ";"`. The names that the expression binds come behind these.
+fn bound_clause<'a>(
+    alloc: Global,
+    locals: &Names,
+    words: &Reserved,
+    bound: &mut Vec<Ident>,
+    tokens: &'a [BToken],
+) -> Read<'a, Clause>
+    ensures shorter { IfOk result (λ r. length r.1.now < length tokens.now) }
+    ensures reads { ReadsBound locals.now bound.old.items bound.new.items tokens.now result }
+{
+    let (label, rest) = mark(tokens)?;
+    let (e, left) = whole_expr(alloc, locals, words, rest)?;
+    let (_, after) = sign(BSign::Semicolon, left)?;
+    push_bound(alloc, bound, &rest[..rest.len() - left.len()])?;
+    Ok((Clause { label, e }, after))
+}
+
+/// The preconditions and postconditions of a procedure.
+#[derive(Drop)]
+pub(crate) struct Clauses {
+    pub(crate) preconditions: Vec<Clause>,
+    pub(crate) postconditions: Vec<Clause>,
+}
+
+/// Which of the two a clause is.
+#[derive(Clone, Copy)]
+enum ClauseKind {
+    Requires,
+    Ensures,
+}
+
+/// The word with which a clause begins, if it is next.
+fn eat_kind(tokens: &[BToken]) -> Option<(ClauseKind, &[BToken])>
+    ensures shorter { IfSome result (λ r. length r.1.now < length tokens.now) }
+    ensures eats { MatchOption result (NoKind tokens.now) (λ r. ReadsKind tokens.now r.0 r.1.now) }
+{
+    if let Some(rest) = eat_wide(WideWord::Requires, tokens) {
+        return Some((ClauseKind::Requires, rest));
+    }
+    let rest = eat_wide(WideWord::Ensures, tokens)?;
+    Some((ClauseKind::Ensures, rest))
+}
+
+/// The clauses with one more.
+fn with_clause(all: Clauses, kind: ClauseKind, clause: Clause) -> Result<Clauses, Memory>
+    ensures { IfOk result (λ r. (bound names : List (List ℕ)) → contract_of (bound ++ names) r ≡ adding kind (contract_of bound all) (clause_of clause) names) }
+{
+    let Clauses {
+        preconditions,
+        postconditions,
+    } = all;
+    match kind {
+        ClauseKind::Requires => Ok(Clauses {
+            preconditions: pushed(preconditions, clause)?,
+            postconditions,
+        }),
+        ClauseKind::Ensures => Ok(Clauses {
+            preconditions,
+            postconditions: pushed(postconditions, clause)?,
+        }),
+    }
+}
+
+/// The clauses of a procedure. The names that they bind come into the empty list.
+pub(crate) fn read_clauses<'a>(
+    alloc: Global,
+    locals: &Names,
+    words: &Reserved,
+    bound: &mut Vec<Ident>,
+    tokens: &'a [BToken],
+) -> Read<'a, Clauses>
+    requires { bound.now.items ≡ [] }
+    ensures shorter { IfOk result (λ r. length r.1.now ≤ length tokens.now) }
+    ensures reads { Parses (contract_of bound.new.items) (g.rule (g.Clauses locals.now no_clauses)) tokens.now result }
+{
+    let mut all = Clauses {
+        preconditions: Vec::new(alloc),
+        postconditions: Vec::new(alloc),
+    };
+    let mut rest = tokens;
+    while let Some((kind, after)) = eat_kind(rest) {
+        let (clause, after) = bound_clause(alloc, locals, words, bound, after)?;
+        all = with_clause(all, kind, clause)?;
+        rest = after;
+    }
+    Ok((all, rest))
+}

@@ -1,0 +1,57 @@
+// A program from its bytes.
+ghost use Rattle.std.specs.Prelude.{◌≤◌, ◌++◌, length, IfErr, IfOk, MatchResult};
+ghost use Rattle.vb_base.specs.Limits.{max_boogie_bytes};
+ghost use Rattle.boogie_tree.specs.Text.{prelude};
+ghost use Rattle.boogie_grammar.specs.declared.faults.BoogieFault.{BoogieFault};
+ghost use Rattle.boogie_text.specs.Answers.{UnlessMemory};
+ghost use Rattle.boogie_wide.specs.View.{wprogram_of};
+ghost use Rattle.boogie_wide.specs.Wide as w;
+ghost use Rattle.wide_grammar.specs.Spells.{WideSpells};
+ghost use Rattle.wide_text.specs.Answers.{IsWideRead, GivesProgram, GivesFault};
+ghost use Rattle.wide_text.specs.Faults.{IsWideFault};
+
+use crate::program::program;
+use boogie_grammar::{BoogieFault, after_prelude, cut, first_too_deep};
+use boogie_text::end_after;
+use boogie_tree::PRELUDE;
+use boogie_wide::WProgram;
+use std::alloc::Global;
+
+/// The program with loops, calls and contracts that these bytes spell, or the first reason for which they are refused.
+///
+/// These are tried in this order. `Prelude` comes exactly where they do not begin with the prelude, `Syntax` where there
+/// is a byte behind it at which neither a token nor a blank begins, `Deep` where too many brackets are unclosed at once, and
+/// `Syntax` again where the tokens spell no program: at the first token with which they begin none, or at the end.
+pub fn read_wide(alloc: Global, bytes: &[u8]) -> Result<WProgram, BoogieFault>
+    requires { length bytes.now ≤ max_boogie_bytes }
+    ensures program { IfOk result (λ b. IsWideRead bytes.now (wprogram_of b)) }
+    ensures fault { IfErr result (UnlessMemory (IsWideFault bytes.now)) }
+
+    // and so no other program, and no other fault
+    ensures only_program { (b : w.WProgram) → WideSpells bytes.now b → GivesProgram b result }
+    ensures only_fault { (f : BoogieFault) → IsWideFault bytes.now f → GivesFault f result }
+{
+    read_text(alloc, bytes)
+}
+
+fn read_text(alloc: Global, bytes: &[u8]) -> Result<WProgram, BoogieFault>
+    requires { length bytes.now ≤ max_boogie_bytes }
+    ensures { MatchResult result (λ b. IsWideRead bytes.now (wprogram_of b)) (UnlessMemory (IsWideFault bytes.now)) }
+{
+    match after_prelude(bytes) {
+        Ok(rest) => read_rest(alloc, rest),
+        Err(at) => Err(BoogieFault::Prelude(at)),
+    }
+}
+
+/// The program that the prelude and these bytes spell.
+fn read_rest(alloc: Global, rest: &[u8]) -> Result<WProgram, BoogieFault>
+    requires { length rest.now ≤ max_boogie_bytes }
+    ensures { MatchResult result (λ b. IsWideRead (prelude ++ rest.now) (wprogram_of b)) (UnlessMemory (IsWideFault (prelude ++ rest.now))) }
+{
+    let tokens = cut(alloc, PRELUDE, rest)?;
+    if let Some(at) = first_too_deep(&tokens) {
+        return Err(BoogieFault::Deep(at));
+    }
+    program(alloc, &tokens, end_after(rest))
+}

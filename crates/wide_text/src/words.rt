@@ -1,0 +1,50 @@
+// The words that are reserved here besides those of the other programs, one at a time.
+ghost use Rattle.std.specs.Prelude.{◌≡◌, ◌<◌, ◌↔◌, length, IsTrue, IfSome, MatchOption};
+ghost use Rattle.boogie_grammar.specs.Greedy.{IsNot, Starts};
+ghost use Rattle.boogie_grammar.specs.Tests.{the_name};
+ghost use Rattle.wide_text.specs.Words.{spelled_as};
+
+use boogie_grammar::{BTok, BToken};
+
+/// A word that is reserved here, though not in the other programs.
+#[derive(Clone, Copy)]
+pub(crate) enum WideWord {
+    While,
+    Call,
+    Invariant,
+    Requires,
+    Ensures,
+    Returns,
+}
+
+/// How a word is spelled.
+pub(crate) fn spelled_as(word: WideWord) -> &'static [u8]
+    ensures { result.now ≡ spelled_as word }
+{
+    match word {
+        WideWord::While => b"while",
+        WideWord::Call => b"call",
+        WideWord::Invariant => b"invariant",
+        WideWord::Requires => b"requires",
+        WideWord::Ensures => b"ensures",
+        WideWord::Returns => b"returns",
+    }
+}
+
+fn same_bytes(a: &[u8], b: &[u8]) -> bool
+    ensures { IsTrue result ↔ (a.now ≡ b.now) }
+{
+    a == b
+}
+
+/// The tokens after this word, if it is next.
+pub(crate) fn eat_wide(wanted: WideWord, tokens: &[BToken]) -> Option<&[BToken]>
+    ensures shorter { IfSome result (λ r. length r.now < length tokens.now) }
+    ensures eats { MatchOption result (IsNot (the_name (spelled_as wanted)) tokens.now) (λ r. Starts (the_name (spelled_as wanted)) tokens.now tt r.now) }
+{
+    let (first, rest) = tokens.split_first()?;
+    match &first.tok {
+        BTok::Name(name) if same_bytes(&name.bytes, spelled_as(wanted)) => Some(rest),
+        _ => None,
+    }
+}
