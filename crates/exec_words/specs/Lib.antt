@@ -1,2 +1,1 @@
-pub mod Unframed
 pub mod Texts

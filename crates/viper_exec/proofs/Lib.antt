@@ -1,0 +1,10 @@
+pub mod TakesLaws
+pub mod AssertLaws
+pub mod FrameLaws
+pub mod MachineLaws
+pub mod EndLaws
+pub mod NeedLaws
+pub mod CallLaws
+pub mod WordLaws
+pub mod BodyLaws
+pub mod OtherLaws
