@@ -12,22 +12,30 @@ use Rattle.boogie_run.specs.declared.replaying.BOutcome.{BOutcome}
 use Rattle.boogie_tree.specs.Program.{Proc}
 use Rattle.enc_stmt.specs.Translates.{text_of}
 use Rattle.viper_core.specs.Program as p
+use Rattle.boogie_wide.specs.Wide.{WProgram}
 use Rattle.viper_core.specs.declared.programs.Unit.{Unit}
 use Rattle.vb_tool.proofs.BoogieVerdicts.{one_replay_refusal, replay_not_refused, one_procedure_run}
 use Rattle.vb_tool.proofs.CallLaws.{IsOutcome, does_end}
 use Rattle.vb_tool.proofs.ConditionVerdicts.{one_condition_refusal, condition_not_refused, one_condition}
+use Rattle.vb_tool.proofs.CutVerdicts.{one_cut_refusal, cut_not_refused, one_cut}
+use Rattle.vb_tool.proofs.ExecutionVerdicts.{one_execution_refusal, execution_not_refused, one_execution}
 use Rattle.vb_tool.proofs.RunVerdicts.{one_run_refusal, run_not_refused, one_unit_run}
 use Rattle.vb_tool.proofs.Verdicts.{one_refusal, accepted_not_refused, one_accepted}
 use Rattle.vb_tool.specs.Accepted as accepted
 use Rattle.vb_tool.specs.Accepted.{IsAccepted, AcceptsRun, IsRefusal, IsRunRefusal}
 use Rattle.vb_tool.specs.AcceptedCondition.{AcceptsCondition, IsConditionRefusal}
+use Rattle.vb_tool.specs.AcceptedCut.{AcceptsCut, IsCutRefusal}
+use Rattle.vb_tool.specs.AcceptedExecution as execution
+use Rattle.vb_tool.specs.AcceptedExecution.{AcceptsExecution, IsExecutionRefusal}
 use Rattle.vb_tool.specs.AcceptedReplay as replay
 use Rattle.vb_tool.specs.AcceptedReplay.{AcceptsReplay, IsReplayRefusal}
 use Rattle.vb_tool.specs.Call as call
-use Rattle.vb_tool.specs.Call.{MissesOf, Misses, first, later, Refuses, translates, too_long, runs, replay_too_long, replays, makes, conditions, Does, translated, ran, replayed, made, stated, HasDone, IsCause, usage, read, refused, Causes, EndsAs, EndsWith, as_expected, no_memory, read_fault, write_fault, OutAfter}
+use Rattle.vb_tool.specs.Call.{MissesOf, Misses, first, later, Refuses, translates, too_long, runs, replay_too_long, replays, makes, over_budget, execution_too_long, executes, cuts, conditions, Does, translated, ran, replayed, made, executed, was_cut, stated, Promises, HasDone, IsCause, usage, read, refused, Causes, EndsAs, EndsWith, as_expected, no_memory, read_fault, write_fault, OutAfter}
 use Rattle.vb_tool.specs.Command as asks
-use Rattle.vb_tool.specs.Command.{Command, Translate, Run, Replay, Make, Condition, Asks, IsNoCommand}
+use Rattle.vb_tool.specs.Command.{Command, Translate, Run, Replay, Make, Execute, Cut, Condition, Asks, IsNoCommand}
 use Rattle.vb_tool.specs.Conditions.{condition_text, IsStatement}
+use Rattle.vb_tool.specs.Cuts.{cut_text, IsCutOfFile}
+use Rattle.vb_tool.specs.Executions.{MethodRun, execution_end, execution_status, execution_text}
 use Rattle.vb_tool.specs.Outcome.{run_status, run_text}
 use Rattle.vb_tool.specs.Procedures.{ProcedureRun, procedure_end}
 use Rattle.vb_tool.specs.ReplayOutcome.{replay_status, replay_text}
@@ -46,6 +54,8 @@ asked_once (asks.translate {file = f} h) (asks.translate {file = g} i) = let e :
 asked_once (asks.translate h) (asks.run i) = absurd (cc)
 asked_once (asks.translate h) (asks.replay i) = absurd (cc)
 asked_once (asks.translate h) (asks.make i l) = absurd (cc)
+asked_once (asks.translate h) (asks.execute i l) = absurd (cc)
+asked_once (asks.translate h) (asks.cut i) = absurd (cc)
 asked_once (asks.translate h) (asks.condition i l) = absurd (cc)
 asked_once (asks.run h) (asks.translate i) = absurd (cc)
 asked_once (asks.run {file = f} {unit = t} {run_file = q} h) (asks.run {file = g} {unit = u} {run_file = r} i) =
@@ -53,23 +63,47 @@ asked_once (asks.run {file = f} {unit = t} {run_file = q} h) (asks.run {file = g
     ap (λ x. Run x t q) d ∙ ap (λ x. Run g x q) e ∙ ap (λ x. Run g u x) k
 asked_once (asks.run h) (asks.replay i) = absurd (cc)
 asked_once (asks.run h) (asks.make i l) = absurd (cc)
+asked_once (asks.run h) (asks.execute i l) = absurd (cc)
+asked_once (asks.run h) (asks.cut i) = absurd (cc)
 asked_once (asks.run h) (asks.condition i l) = absurd (cc)
 asked_once (asks.replay h) (asks.translate i) = absurd (cc)
 asked_once (asks.replay h) (asks.run i) = absurd (cc)
 asked_once (asks.replay {file = f} {run_file = q} h) (asks.replay {file = g} {run_file = r} i) =
     let d : f ≡ g = cc in let k : q ≡ r = cc in ap (λ x. Replay x q) d ∙ ap (λ x. Replay g x) k
 asked_once (asks.replay h) (asks.make i l) = absurd (cc)
+asked_once (asks.replay h) (asks.execute i l) = absurd (cc)
+asked_once (asks.replay h) (asks.cut i) = absurd (cc)
 asked_once (asks.replay h) (asks.condition i l) = absurd (cc)
 asked_once (asks.make h k) (asks.translate i) = absurd (cc)
 asked_once (asks.make h k) (asks.run i) = absurd (cc)
 asked_once (asks.make h k) (asks.replay i) = absurd (cc)
 asked_once (asks.make {word = v} h k) (asks.make {word = w} i l) =
     let e : v ≡ w = cc in ap Make (sym k.value ∙ ap (digits_value 10) e ∙ l.value)
+asked_once (asks.make h k) (asks.execute i l) = absurd (cc)
+asked_once (asks.make h k) (asks.cut i) = absurd (cc)
 asked_once (asks.make h k) (asks.condition i l) = absurd (cc)
+asked_once (asks.execute h k) (asks.translate i) = absurd (cc)
+asked_once (asks.execute h k) (asks.run i) = absurd (cc)
+asked_once (asks.execute h k) (asks.replay i) = absurd (cc)
+asked_once (asks.execute h k) (asks.make i l) = absurd (cc)
+asked_once (asks.execute {file = f} {method = t} {run_file = q} {word = v} {n = m} h k) (asks.execute {file = g} {method = u} {run_file = r} {word = w} i l) =
+    let d : f ≡ g = cc in let e : t ≡ u = cc in let j : q ≡ r = cc in let same : v ≡ w = cc in
+    ap (λ x. Execute x t q m) d ∙ ap (λ x. Execute g x q m) e ∙ ap (λ x. Execute g u x m) j ∙ ap (λ x. Execute g u r x) (sym k.value ∙ ap (digits_value 10) same ∙ l.value)
+asked_once (asks.execute h k) (asks.cut i) = absurd (cc)
+asked_once (asks.execute h k) (asks.condition i l) = absurd (cc)
+asked_once (asks.cut h) (asks.translate i) = absurd (cc)
+asked_once (asks.cut h) (asks.run i) = absurd (cc)
+asked_once (asks.cut h) (asks.replay i) = absurd (cc)
+asked_once (asks.cut h) (asks.make i l) = absurd (cc)
+asked_once (asks.cut h) (asks.execute i l) = absurd (cc)
+asked_once (asks.cut {file = f} h) (asks.cut {file = g} i) = let e : f ≡ g = cc in ap Cut e
+asked_once (asks.cut h) (asks.condition i l) = absurd (cc)
 asked_once (asks.condition h k) (asks.translate i) = absurd (cc)
 asked_once (asks.condition h k) (asks.run i) = absurd (cc)
 asked_once (asks.condition h k) (asks.replay i) = absurd (cc)
 asked_once (asks.condition h k) (asks.make i l) = absurd (cc)
+asked_once (asks.condition h k) (asks.execute i l) = absurd (cc)
+asked_once (asks.condition h k) (asks.cut i) = absurd (cc)
 asked_once (asks.condition {file = f} {procedure = t} {at = a} {part = b} {kind = c} {label = m} h k) (asks.condition {file = g} {procedure = u} {at = x} {part = y} {kind = z} {label = n} i l) =
     let d : f ≡ g = cc in let e : t ≡ u = cc in let j : a ≡ x = cc in let p : b ≡ y = cc in let q : c ≡ z = cc in
     let text : a ++ codes " " ++ b ++ codes " " ++ c ≡ x ++ codes " " ++ y ++ codes " " ++ z = ap (λ v. v ++ codes " " ++ b ++ codes " " ++ c) j ∙ ap (λ v. x ++ codes " " ++ v ++ codes " " ++ c) p ∙ ap (λ v. x ++ codes " " ++ y ++ codes " " ++ v) q in
@@ -94,6 +128,9 @@ not_missing (Some files) name a h i = let same : Some a ≡ None = sym h ∙ i i
 long_refusal : {bytes name run : List ℕ} {r : Refusal} → 1048576 < length bytes → IsRunRefusal bytes name run r → refusal.Size ≡ r
 long_refusal above is = one_run_refusal (accepted.size above) is
 
+long_execution_refusal : {bytes name run : List ℕ} {r : Refusal} → 1048576 < length bytes → IsExecutionRefusal bytes name run r → refusal.Size ≡ r
+long_execution_refusal above is = one_execution_refusal (execution.size above) is
+
 long_replay_refusal : {bytes run : List ℕ} {r : Refusal} → 33554432 < length bytes → IsReplayRefusal bytes run r → refusal.Size ≡ r
 long_replay_refusal above is = one_replay_refusal (replay.size above) is
 
@@ -108,6 +145,18 @@ same_run {a} {d = d} {unit = unit} {u = u} same also is = subst (λ x. AcceptsRu
 
 same_replay : {a b c d : List ℕ} {u : ProcedureRun} → a ≡ b → c ≡ d → AcceptsReplay b d u → AcceptsReplay a c u
 same_replay {a} {d = d} {u = u} same also is = subst (λ x. AcceptsReplay a x u) (sym also) (subst (λ x. AcceptsReplay x d u) (sym same) is)
+
+same_execution_refusal : {a b c d name : List ℕ} {r : Refusal} → a ≡ b → c ≡ d → IsExecutionRefusal b name d r → IsExecutionRefusal a name c r
+same_execution_refusal {a} {d = d} {name = name} {r = r} same also is = subst (λ x. IsExecutionRefusal a name x r) (sym also) (subst (λ x. IsExecutionRefusal x name d r) (sym same) is)
+
+same_execution : {a b c d name : List ℕ} {u : MethodRun} → a ≡ b → c ≡ d → AcceptsExecution b name d u → AcceptsExecution a name c u
+same_execution {a} {d = d} {name = name} {u = u} same also is = subst (λ x. AcceptsExecution a name x u) (sym also) (subst (λ x. AcceptsExecution x name d u) (sym same) is)
+
+same_cut_refusal : {a b : List ℕ} {r : Refusal} → a ≡ b → IsCutRefusal b r → IsCutRefusal a r
+same_cut_refusal {r = r} same is = subst (λ x. IsCutRefusal x r) (sym same) is
+
+same_cut : {a b : List ℕ} {u : WProgram} → a ≡ b → AcceptsCut b u → AcceptsCut a u
+same_cut {u = u} same is = subst (λ x. AcceptsCut x u) (sym same) is
 
 same_condition_refusal : {a b name : List ℕ} {r : Refusal} → a ≡ b → IsConditionRefusal b name r → IsConditionRefusal a name r
 same_condition_refusal {name = name} {r = r} same is = subst (λ x. IsConditionRefusal x name r) (sym same) is
@@ -144,6 +193,18 @@ module _ {Has Had : List ℕ → List ℕ → Type 0} (same : (name a b : List �
   one_refusal_of (replays {file = f} {run_file = g} a b is run_is denied) (replays c d also run_also other) =
       one_replay_refusal denied (same_replay_refusal (same f a c is also) (same g b d run_is run_also) other)
   one_refusal_of (makes out) (makes also) = refl
+  one_refusal_of (over_budget out) (over_budget also) = refl
+  one_refusal_of (over_budget out) (execution_too_long b few also above) = absurd (omega (arith, out, few))
+  one_refusal_of (over_budget out) (executes c d few also run_also other) = absurd (omega (arith, out, few))
+  one_refusal_of (execution_too_long a few is above) (over_budget out) = absurd (omega (arith, out, few))
+  one_refusal_of (execution_too_long a few is above) (execution_too_long b less also other) = refl
+  one_refusal_of (execution_too_long {file = f} a few is above) (executes b c less also there other) = long_execution_refusal above (same_execution_refusal (same f a b is also) refl other)
+  one_refusal_of (executes a b few is there denied) (over_budget out) = absurd (omega (arith, out, few))
+  one_refusal_of (executes {file = f} a b few is there denied) (execution_too_long c less also above) =
+      sym (long_execution_refusal above (same_execution_refusal (sym (same f a c is also)) refl denied))
+  one_refusal_of (executes {file = f} {run_file = g} a b few is run_is denied) (executes c d less also run_also other) =
+      one_execution_refusal denied (same_execution_refusal (same f a c is also) (same g b d run_is run_also) other)
+  one_refusal_of (cuts {file = f} a is denied) (cuts b also other) = one_cut_refusal denied (same_cut_refusal (same f a b is also) other)
   one_refusal_of (conditions {file = f} a is denied) (conditions b also other) = one_condition_refusal denied (same_condition_refusal (same f a b is also) other)
 
   does_not_refuse : {command : Command} {r : Refusal} {s : Status} {text : List ℕ} → Does Has command s text → Refuses Had command r → ⊥
@@ -155,6 +216,11 @@ module _ {Has Had : List ℕ → List ℕ → Type 0} (same : (name a b : List �
   does_not_refuse (replayed {file = f} {run_file = g} a b is run_is accepts ends) (replays c d also run_also denied) =
       replay_not_refused accepts (same_replay_refusal (same f a c is also) (same g b d run_is run_also) denied)
   does_not_refuse (made some few accepts) (makes out) = not_out_of_range some few out
+  does_not_refuse (executed a b few is run_is accepts) (over_budget out) = omega (arith, out, few)
+  does_not_refuse (executed {file = f} a b few is run_is accepts) (execution_too_long c less also above) = omega (arith, above, accepts.framed.accepted.small, ap length (same f a c is also))
+  does_not_refuse (executed {file = f} {run_file = g} a b few is run_is accepts) (executes c d less also run_also denied) =
+      execution_not_refused accepts (same_execution_refusal (same f a c is also) (same g b d run_is run_also) denied)
+  does_not_refuse (was_cut {file = f} a is accepts) (cuts b also denied) = cut_not_refused accepts (same_cut_refusal (same f a b is also) denied)
   does_not_refuse (stated {file = f} a is accepts) (conditions b also denied) = condition_not_refused accepts (same_condition_refusal (same f a b is also) denied)
 
   refuses_not_does : {command : Command} {r : Refusal} {s : Status} {text : List ℕ} → Refuses Has command r → Does Had command s text → ⊥
@@ -166,6 +232,11 @@ module _ {Has Had : List ℕ → List ℕ → Type 0} (same : (name a b : List �
   refuses_not_does (replays {file = f} {run_file = g} a b is run_is denied) (replayed c d also run_also accepts ends) =
       replay_not_refused accepts (same_replay_refusal (sym (same f a c is also)) (sym (same g b d run_is run_also)) denied)
   refuses_not_does (makes out) (made some few accepts) = not_out_of_range some few out
+  refuses_not_does (over_budget out) (executed a b few is run_is accepts) = omega (arith, out, few)
+  refuses_not_does (execution_too_long {file = f} a few is above) (executed b c less also run_also accepts) = omega (arith, above, accepts.framed.accepted.small, ap length (same f a b is also))
+  refuses_not_does (executes {file = f} {run_file = g} a b few is run_is denied) (executed c d less also run_also accepts) =
+      execution_not_refused accepts (same_execution_refusal (sym (same f a c is also)) (sym (same g b d run_is run_also)) denied)
+  refuses_not_does (cuts {file = f} a is denied) (was_cut b also accepts) = cut_not_refused accepts (same_cut_refusal (sym (same f a b is also)) denied)
   refuses_not_does (conditions {file = f} a is denied) (stated b also accepts) = condition_not_refused accepts (same_condition_refusal (sym (same f a b is also)) denied)
 
   does_one : {command : Command} {s t : Status} {text other : List ℕ} → Does Has command s text → Does Had command t other → (s ≡ t) × (text ≡ other)
@@ -177,6 +248,10 @@ module _ {Has Had : List ℕ → List ℕ → Type 0} (same : (name a b : List �
       let e = one_outcome (one_procedure_run accepts (same_replay (same f a c is also) (same g b d run_is run_also) others)) ends end in
       (ap replay_status e, ap replay_text e)
   does_one (made {n = n} some few accepts) (made others_some others_few others) = (refl, ap (made_text n) (one_accepted accepts others))
+  does_one (executed {file = f} {run_file = g} {n = n} a b few is run_is accepts) (executed c d less also run_also others) =
+      let e = one_execution accepts (same_execution (same f a c is also) (same g b d run_is run_also) others) in
+      (ap (λ x. execution_status (execution_end n x)) e, ap (λ x. execution_text (execution_end n x)) e)
+  does_one (was_cut {file = f} a is accepts) (was_cut b also others) = (refl, ap cut_text (one_cut accepts (same_cut (same f a b is also) others)))
   does_one (stated {file = f} {label = l} a is accepts) (stated b also others) = (refl, ap (λ d. condition_text d l) (one_condition accepts (same_condition (same f a b is also) others)))
 
 pub one_deed : (files : Option Files) (command : Command) (s t : Status) (text other : List ℕ) → Does (IsFile files) command s text → Does (IsFile files) command t other →
@@ -203,20 +278,26 @@ module _ {files : Option Files} where
   misses_long {name = name} a is above (later b there small misses) = omega (arith, above, small, ap length (same_file files name b a there is))
 
   misses_not_refused : {command : Command} {r : Refusal} → Misses files command → Refuses (IsWhole files) command r → ⊥
-  misses_not_refused misses (translates bytes is denied) = misses_one bytes is misses
-  misses_not_refused misses (too_long bytes is above) = misses_long bytes is above misses
-  misses_not_refused misses (runs bytes run_bytes is run_is denied) = misses_two bytes run_bytes is run_is misses
-  misses_not_refused misses (replay_too_long bytes is above) = misses_long bytes is above misses
-  misses_not_refused misses (replays bytes run_bytes is run_is denied) = misses_two bytes run_bytes is run_is misses
-  misses_not_refused misses (makes out) = misses_none misses
-  misses_not_refused misses (conditions bytes is denied) = misses_one bytes is misses
+  misses_not_refused misses (translates bytes is denied) = misses_one bytes is misses.1
+  misses_not_refused misses (too_long bytes is above) = misses_long bytes is above misses.1
+  misses_not_refused misses (runs bytes run_bytes is run_is denied) = misses_two bytes run_bytes is run_is misses.1
+  misses_not_refused misses (replay_too_long bytes is above) = misses_long bytes is above misses.1
+  misses_not_refused misses (replays bytes run_bytes is run_is denied) = misses_two bytes run_bytes is run_is misses.1
+  misses_not_refused misses (makes out) = misses_none misses.1
+  misses_not_refused misses (over_budget out) = omega (arith, out, misses.0)
+  misses_not_refused misses (execution_too_long bytes few is above) = misses_long bytes is above misses.1
+  misses_not_refused misses (executes bytes run_bytes few is run_is denied) = misses_two bytes run_bytes is run_is misses.1
+  misses_not_refused misses (cuts bytes is denied) = misses_one bytes is misses.1
+  misses_not_refused misses (conditions bytes is denied) = misses_one bytes is misses.1
 
   misses_not_done : {command : Command} {s : Status} {text : List ℕ} → Misses files command → Does (IsWhole files) command s text → ⊥
-  misses_not_done misses (translated bytes is accepts) = misses_one bytes is misses
-  misses_not_done misses (ran bytes run_bytes is run_is accepts there) = misses_two bytes run_bytes is run_is misses
-  misses_not_done misses (replayed bytes run_bytes is run_is accepts ends) = misses_two bytes run_bytes is run_is misses
-  misses_not_done misses (made some few accepts) = misses_none misses
-  misses_not_done misses (stated bytes is accepts) = misses_one bytes is misses
+  misses_not_done misses (translated bytes is accepts) = misses_one bytes is misses.1
+  misses_not_done misses (ran bytes run_bytes is run_is accepts there) = misses_two bytes run_bytes is run_is misses.1
+  misses_not_done misses (replayed bytes run_bytes is run_is accepts ends) = misses_two bytes run_bytes is run_is misses.1
+  misses_not_done misses (made some few accepts) = misses_none misses.1
+  misses_not_done misses (executed bytes run_bytes few is run_is accepts) = misses_two bytes run_bytes is run_is misses.1
+  misses_not_done misses (was_cut bytes is accepts) = misses_one bytes is misses.1
+  misses_not_done misses (stated bytes is accepts) = misses_one bytes is misses.1
 
 -- ---- statuses
 
@@ -244,25 +325,37 @@ module _ (words : List (List ℕ)) (files : Option Files) where
     written status.Blocked out same = written_this out
     written status.Short out same = written_this out
     written status.Over out same = written_this out
+    written status.Spent out same = written_this out
     written (status.Refused r) out same = no_outcome (λ h. elim h [ ]) (does_end does) same
     written status.Usage out same = no_outcome (λ h. elim h [ ]) (does_end does) same
     written status.ReadFault out same = no_outcome (λ h. elim h [ ]) (does_end does) same
     written status.WriteFault out same = no_outcome (λ h. elim h [ ]) (does_end does) same
     written status.NoMemory out same = no_outcome (λ h. elim h [ ]) (does_end does) same
 
+  -- what is promised of what was written is promised of the command that the words ask for
+  promised_this : {command : Command} {s : Status} {text : List ℕ} → Asks words command → HasDone words files s text → Promises (IsWhole files) command s text
+  promised_this {s = s} {text = t} asks h = subst (λ x. Promises (IsWhole files) x s t) (asked_once h.asked asks) h.promises
+
   -- what is written of a run that failed ends with a run of Boogie that fails again
   pub transfer_comes : (before now : Option (List ℕ)) (s : Status) → OutAfter before now (HasDone words files) s → (file unit run_file : List ℕ) (label : Label) →
       Asks words (Run file unit run_file) → s ≡ status.Failed label → (text : List ℕ) × IsTransfer (IsWhole files) file unit run_file label text × Appends before now text
   transfer_comes before now s out file unit run_file label asks is =
       let written = subst (OutAfter before now (HasDone words files)) is out in
-      (written.0, written.1.transfers file unit run_file label (asked_once written.1.asked asks) refl, written.2)
+      (written.0, promised_this asks written.1 label refl, written.2)
+
+  -- what is written for loops and calls follows them
+  pub cut_comes : (before now : Option (List ℕ)) (s : Status) → OutAfter before now (HasDone words files) s → (file : List ℕ) → Asks words (Cut file) → s ≡ status.Done →
+      (text : List ℕ) × IsCutOfFile (IsWhole files) file text × Appends before now text
+  cut_comes before now s out file asks is =
+      let written = subst (OutAfter before now (HasDone words files)) is out in
+      (written.0, promised_this asks written.1, written.2)
 
   -- what is written of a procedure and a label is a condition for them
   pub statement_comes : (before now : Option (List ℕ)) (s : Status) → OutAfter before now (HasDone words files) s → (file procedure : List ℕ) (label : Label) →
       Asks words (Condition file procedure label) → s ≡ status.Done → (text : List ℕ) × IsStatement (IsWhole files) file procedure label text × Appends before now text
   statement_comes before now s out file procedure label asks is =
       let written = subst (OutAfter before now (HasDone words files)) is out in
-      (written.0, written.1.states file procedure label (asked_once written.1.asked asks), written.2)
+      (written.0, promised_this asks written.1, written.2)
 
   module _ (before now : ℕ) where
     -- what follows from each cause follows from the causes
@@ -278,6 +371,7 @@ module _ (words : List (List ℕ)) (files : Option Files) where
     from_causes expected each SinkFailed status.Blocked cause = each _ cause
     from_causes expected each SinkFailed status.Short cause = each _ cause
     from_causes expected each SinkFailed status.Over cause = each _ cause
+    from_causes expected each SinkFailed status.Spent cause = each _ cause
 
     usage_each : IsNoCommand words → (s : Status) → IsCause words files before now s → EndsAs status.Usage s
     usage_each none s (usage also) = as_expected

@@ -16,18 +16,18 @@ use Rattle.viper_core.specs.declared.programs.Program.{Program}
 use Rattle.vb_tool.proofs.MakingLaws.{few_in_range}
 use Rattle.vb_tool.specs.Accepted as accepted
 use Rattle.vb_tool.specs.Accepted.{IsAccepted}
+use Rattle.vb_tool.specs.AcceptedExecution as execution
 use Rattle.vb_tool.specs.AcceptedReplay as replay
 use Rattle.vb_tool.specs.Call as call
-use Rattle.vb_tool.specs.Call.{MissesOf, NamesFile, Refuses, Does, WritesTransfer, WritesCondition, HasDone, IsCause, OutAfter, ErrAfter, Causes}
-use Rattle.vb_tool.specs.Command.{Command, Translate, Run, Replay, Make, Condition, Asks, files_of}
-use Rattle.vb_tool.specs.Conditions.{IsStatement}
+use Rattle.vb_tool.specs.Call.{MissesOf, Misses, NamesFile, Refuses, Does, Promises, HasDone, IsCause, OutAfter, ErrAfter, Causes}
+use Rattle.vb_tool.specs.Command.{Command, Translate, Run, Replay, Make, Execute, Cut, Condition, Asks, files_of}
 use Rattle.vb_tool.specs.Converted.{trouble_of_file}
 use Rattle.vb_tool.specs.Outcome.{status_of, run_status}
 use Rattle.vb_tool.specs.Parts as parts
-use Rattle.vb_tool.specs.Parts.{command_of, Reports, Delivers, OutcomeOf, ReplayOf, SummaryOf, ConditionOf}
+use Rattle.vb_tool.specs.Executions.{execution_end, execution_status, status_of as status_of_end}
+use Rattle.vb_tool.specs.Parts.{command_of, Reports, Delivers, OutcomeOf, ReplayOf, SummaryOf, ExecutionOf, CutOf, ConditionOf}
 use Rattle.vb_tool.specs.ReplayOutcome.{replay_status}
 use Rattle.vb_tool.specs.Status.{line_of}
-use Rattle.vb_tool.specs.Transfer.{IsTransfer}
 use Rattle.vb_tool.specs.Units.{end_of}
 use Rattle.vb_tool.specs.declared.status.Refusal.{Refusal}
 use Rattle.vb_tool.specs.declared.status.Refusal.TheVariants as refusal
@@ -41,6 +41,10 @@ use Rattle.viper_state.specs.State.{State}
 use Rattle.viper_state.specs.declared.runs.Outcome.{Outcome}
 use Rattle.viper_state.specs.declared.runs.Outcome.TheVariants as outcome
 use Rattle.viper_run.specs.Outcome.{outcome_of}
+use Rattle.exec_meaning.specs.Execution.{Went}
+use Rattle.viper_exec.specs.Outcome.{end_of as end_of_step}
+use Rattle.viper_exec.specs.declared.executions.ExecEnd.{ExecEnd}
+use Rattle.viper_exec.specs.declared.executions.ExecEnd.TheVariants as ends
 
 -- errors are what the results hold
 pub error_is : {T E : Type 0} {r : Result T E} {d e : E} → r ≡ Err d → r ≡ Err e → d ≡ e
@@ -73,18 +77,18 @@ file_unread Cause file.Long failed is = absurd (cc)
 pub rose_later : (first second third : ℕ) → first ≤ second → Rose second third → Rose first third
 rose_later first second third later rose = omega (arith, later, rose)
 
--- the same of the first file that a command reads
-pub first_missing : {files : Option Files} {limit : ℕ} {name : List ℕ} {names : List (List ℕ)} {Cause : Type 0} → IsMissing files name ⊎ Cause →
-    MissesOf files limit (name ∷ names) ⊎ Cause
-first_missing (inl missing) = inl (call.first missing)
-first_missing (inr cause) = inr cause
+-- the same of the first file that a command reads, where it may read it
+pub first_missing : {files : Option Files} {limit : ℕ} {name : List ℕ} {names : List (List ℕ)} {May Cause : Type 0} → May → IsMissing files name ⊎ Cause →
+    (May × MissesOf files limit (name ∷ names)) ⊎ Cause
+first_missing may (inl missing) = inl (may, call.first missing)
+first_missing may (inr cause) = inr cause
 
 -- and of the second
-pub second_missing : (files : Option Files) (file run_file bytes : List ℕ) (limit first second third : ℕ) → IsWhole files file bytes → length bytes ≤ limit → first ≤ second →
-    IsMissing files run_file ⊎ Rose second third → MissesOf files limit (file ∷ run_file ∷ []) ⊎ Rose first third
-second_missing files file run_file bytes limit first second third whole small later (inl missing) =
-    inl (call.later bytes (is_file files file run_file bytes missing whole) small (call.first missing))
-second_missing files file run_file bytes limit first second third whole small later (inr rose) = inr (rose_later first second third later rose)
+pub second_missing : {May : Type 0} → May → (files : Option Files) (file run_file bytes : List ℕ) (limit first second third : ℕ) → IsWhole files file bytes → length bytes ≤ limit →
+    first ≤ second → IsMissing files run_file ⊎ Rose second third → (May × MissesOf files limit (file ∷ run_file ∷ [])) ⊎ Rose first third
+second_missing may files file run_file bytes limit first second third whole small later (inl missing) =
+    inl (may, call.later bytes (is_file files file run_file bytes missing whole) small (call.first missing))
+second_missing may files file run_file bytes limit first second third whole small later (inr rose) = inr (rose_later first second third later rose)
 
 -- a command names the first of its files
 pub names_first : (command : Command) (file : List ℕ) (files : List (List ℕ)) → files_of command ≡ file ∷ files → NamesFile command
@@ -110,6 +114,18 @@ replay_run_too_long files file run_file bytes r whole small is_r longer =
     let (run_bytes, is, above) = long_bytes files run_file 33554432 longer in
     subst (Refuses (IsWhole files) (Replay file run_file)) (sym is_r) (call.replays bytes run_bytes whole is (replay.run_size small above))
 
+pub execution_run_too_long : (files : Option Files) (file method run_file bytes : List ℕ) (n : ℕ) (r : Refusal) → n ≤ 10000 → IsWhole files file bytes → length bytes ≤ 1048576 →
+    r ≡ refusal.RunSize → IsLonger files run_file 1048576 → Refuses (IsWhole files) (Execute file method run_file n) r
+execution_run_too_long files file method run_file bytes n r few whole small is_r longer =
+    let (run_bytes, is, above) = long_bytes files run_file 1048576 longer in
+    subst (Refuses (IsWhole files) (Execute file method run_file n)) (sym is_r) (call.executes bytes run_bytes few whole is (execution.run_size small above))
+
+pub budget_refused : (files : Option Files) (file method run_file : List ℕ) (n : ℕ) (r : Refusal) → 10000 < n → trouble.Refused refusal.Range ≡ trouble.Refused r →
+    Refuses (IsWhole files) (Execute file method run_file n) r
+budget_refused files file method run_file n r out is_r =
+    let same : refusal.Range ≡ r = cc in
+    subst (Refuses (IsWhole files) (Execute file method run_file n)) same (call.over_budget out)
+
 -- ---- what a command does
 
 pub translation_result_does : (files : Option Files) (file bytes : List ℕ) (result : Result Program Trouble) → IsWhole files file bytes →
@@ -129,30 +145,11 @@ run_result_does files file unit run_file bytes run_bytes (Ok t) whole run_whole 
 run_result_does files file unit run_file bytes run_bytes (Err e) whole run_whole o = o
 
 -- where it failed, a run of Boogie stands in the text
-run_transfers : (files : Option Files) (file unit run_file bytes run_bytes text : List ℕ) (s : Status) → IsWhole files file bytes → IsWhole files run_file run_bytes →
-    OutcomeOf bytes unit run_bytes s text → WritesTransfer (IsWhole files) (Run file unit run_file) s text
-run_transfers files file unit run_file bytes run_bytes text s whole run_whole o f t r label same failed =
-    let e : file ≡ f = cc in let d : unit ≡ t = cc in let k : run_file ≡ r = cc in
-    subst (λ x. IsTransfer (IsWhole files) x t r label text) e (subst (λ x. IsTransfer (IsWhole files) file x r label text) d (subst (λ x. IsTransfer (IsWhole files) file unit x label text) k
-    (record { bytes = bytes; run_bytes = run_bytes; is = whole; run_is = run_whole; run = o.run; accepted = o.accepted; transferred = o.transferred label failed })))
-
-pub run_result_transfers : (files : Option Files) (file unit run_file bytes run_bytes : List ℕ) (result : Result Ending Trouble) → IsWhole files file bytes → IsWhole files run_file run_bytes →
-    IfOk result (λ t. OutcomeOf bytes unit run_bytes t.status t.text.items) → IfOk result (λ t. WritesTransfer (IsWhole files) (Run file unit run_file) t.status t.text.items)
-run_result_transfers files file unit run_file bytes run_bytes (Ok t) whole run_whole o = run_transfers files file unit run_file bytes run_bytes t.text.items t.status whole run_whole o
-run_result_transfers files file unit run_file bytes run_bytes (Err e) whole run_whole o = o
-
--- no other command runs a unit
-pub translation_transfers : {Has : List ℕ → List ℕ → Type 0} {file : List ℕ} {s : Status} {text : List ℕ} → WritesTransfer Has (Translate file) s text
-translation_transfers f t r label same failed = absurd (cc)
-
-pub replay_transfers : {Has : List ℕ → List ℕ → Type 0} {file run_file : List ℕ} {s : Status} {text : List ℕ} → WritesTransfer Has (Replay file run_file) s text
-replay_transfers f t r label same failed = absurd (cc)
-
-pub condition_transfers : {Has : List ℕ → List ℕ → Type 0} {file procedure : List ℕ} {l : Label} {s : Status} {text : List ℕ} → WritesTransfer Has (Condition file procedure l) s text
-condition_transfers f t r label same failed = absurd (cc)
-
-pub making_transfers : {Has : List ℕ → List ℕ → Type 0} {n : ℕ} {s : Status} {text : List ℕ} → WritesTransfer Has (Make n) s text
-making_transfers f t r label same failed = absurd (cc)
+pub run_result_promises : (files : Option Files) (file unit run_file bytes run_bytes : List ℕ) (result : Result Ending Trouble) → IsWhole files file bytes → IsWhole files run_file run_bytes →
+    IfOk result (λ t. OutcomeOf bytes unit run_bytes t.status t.text.items) → IfOk result (λ t. Promises (IsWhole files) (Run file unit run_file) t.status t.text.items)
+run_result_promises files file unit run_file bytes run_bytes (Ok t) whole run_whole o = λ label failed.
+    record { bytes = bytes; run_bytes = run_bytes; is = whole; run_is = run_whole; run = o.run; accepted = o.accepted; transferred = o.transferred label failed }
+run_result_promises files file unit run_file bytes run_bytes (Err e) whole run_whole o = o
 
 replay_does : (files : Option Files) (file run_file bytes run_bytes text : List ℕ) (s : Status) → IsWhole files file bytes → IsWhole files run_file run_bytes →
     ReplayOf bytes run_bytes s text → Does (IsWhole files) (Replay file run_file) s text
@@ -164,6 +161,18 @@ pub replay_result_does : (files : Option Files) (file run_file bytes run_bytes :
     IfOk result (λ t. ReplayOf bytes run_bytes t.status t.text.items) → IfOk result (λ t. Does (IsWhole files) (Replay file run_file) t.status t.text.items)
 replay_result_does files file run_file bytes run_bytes (Ok t) whole run_whole o = replay_does files file run_file bytes run_bytes t.text.items t.status whole run_whole o
 replay_result_does files file run_file bytes run_bytes (Err e) whole run_whole o = o
+
+execution_does : (files : Option Files) (file method run_file bytes run_bytes text : List ℕ) (n : ℕ) (s : Status) → n ≤ 10000 → IsWhole files file bytes →
+    IsWhole files run_file run_bytes → ExecutionOf bytes method run_bytes n s text → Does (IsWhole files) (Execute file method run_file n) s text
+execution_does files file method run_file bytes run_bytes text n s few whole run_whole o =
+    let Deed : Status → List ℕ → Type 0 = Does (IsWhole files) (Execute file method run_file n) in
+    subst (λ x. Deed x text) (sym o.status_is) (subst (Deed (execution_status (execution_end n o.run))) (sym o.text_is) (call.executed bytes run_bytes few whole run_whole o.accepted))
+
+pub execution_result_does : (files : Option Files) (file method run_file bytes run_bytes : List ℕ) (n : ℕ) (result : Result Ending Trouble) → n ≤ 10000 → IsWhole files file bytes →
+    IsWhole files run_file run_bytes → IfOk result (λ t. ExecutionOf bytes method run_bytes n t.status t.text.items) →
+    IfOk result (λ t. Does (IsWhole files) (Execute file method run_file n) t.status t.text.items)
+execution_result_does files file method run_file bytes run_bytes n (Ok t) few whole run_whole o = execution_does files file method run_file bytes run_bytes t.text.items n t.status few whole run_whole o
+execution_result_does files file method run_file bytes run_bytes n (Err e) few whole run_whole o = o
 
 condition_does : (files : Option Files) (file procedure bytes text : List ℕ) (label : Label) (s : Status) → IsWhole files file bytes → ConditionOf bytes procedure label s text →
     Does (IsWhole files) (Condition file procedure label) s text
@@ -177,30 +186,26 @@ condition_result_does files file procedure bytes label (Ok t) whole o = conditio
 condition_result_does files file procedure bytes label (Err e) whole o = o
 
 -- and its text is a condition
-condition_states : (files : Option Files) (file procedure bytes text : List ℕ) (label : Label) (s : Status) → IsWhole files file bytes → ConditionOf bytes procedure label s text →
-    WritesCondition (IsWhole files) (Condition file procedure label) text
-condition_states files file procedure bytes text label s whole o f d l same =
-    let e : file ≡ f = cc in let k : procedure ≡ d = cc in let m : label ≡ l = cc in
-    subst (λ x. IsStatement (IsWhole files) x d l text) e (subst (λ x. IsStatement (IsWhole files) file x l text) k (subst (λ x. IsStatement (IsWhole files) file procedure x text) m
-    (record { bytes = bytes; is = whole; procedure = o.procedure; accepted = o.accepted; condition = o.condition })))
+pub condition_result_promises : (files : Option Files) (file procedure bytes : List ℕ) (label : Label) (result : Result Ending Trouble) → IsWhole files file bytes →
+    IfOk result (λ t. ConditionOf bytes procedure label t.status t.text.items) → IfOk result (λ t. Promises (IsWhole files) (Condition file procedure label) t.status t.text.items)
+condition_result_promises files file procedure bytes label (Ok t) whole o = record { bytes = bytes; is = whole; procedure = o.procedure; accepted = o.accepted; condition = o.condition }
+condition_result_promises files file procedure bytes label (Err e) whole o = o
 
-pub condition_result_states : (files : Option Files) (file procedure bytes : List ℕ) (label : Label) (result : Result Ending Trouble) → IsWhole files file bytes →
-    IfOk result (λ t. ConditionOf bytes procedure label t.status t.text.items) → IfOk result (λ t. WritesCondition (IsWhole files) (Condition file procedure label) t.text.items)
-condition_result_states files file procedure bytes label (Ok t) whole o = condition_states files file procedure bytes t.text.items label t.status whole o
-condition_result_states files file procedure bytes label (Err e) whole o = o
+cut_does : (files : Option Files) (file bytes text : List ℕ) (s : Status) → IsWhole files file bytes → CutOf bytes s text → Does (IsWhole files) (Cut file) s text
+cut_does files file bytes text s whole o =
+    let Deed : Status → List ℕ → Type 0 = Does (IsWhole files) (Cut file) in
+    subst (λ x. Deed x text) (sym o.status_is) (subst (Deed status.Done) (sym o.text_is) (call.was_cut bytes whole o.accepted))
 
--- no other command states a condition
-pub translation_states : {Has : List ℕ → List ℕ → Type 0} {file : List ℕ} {text : List ℕ} → WritesCondition Has (Translate file) text
-translation_states f d l same = absurd (cc)
+pub cut_result_does : (files : Option Files) (file bytes : List ℕ) (result : Result Ending Trouble) → IsWhole files file bytes → IfOk result (λ t. CutOf bytes t.status t.text.items) →
+    IfOk result (λ t. Does (IsWhole files) (Cut file) t.status t.text.items)
+cut_result_does files file bytes (Ok t) whole o = cut_does files file bytes t.text.items t.status whole o
+cut_result_does files file bytes (Err e) whole o = o
 
-pub run_states : {Has : List ℕ → List ℕ → Type 0} {file unit run_file : List ℕ} {text : List ℕ} → WritesCondition Has (Run file unit run_file) text
-run_states f d l same = absurd (cc)
-
-pub replay_states : {Has : List ℕ → List ℕ → Type 0} {file run_file : List ℕ} {text : List ℕ} → WritesCondition Has (Replay file run_file) text
-replay_states f d l same = absurd (cc)
-
-pub making_states : {Has : List ℕ → List ℕ → Type 0} {n : ℕ} {text : List ℕ} → WritesCondition Has (Make n) text
-making_states f d l same = absurd (cc)
+-- and its text follows the loops and calls
+pub cut_result_promises : (files : Option Files) (file bytes : List ℕ) (result : Result Ending Trouble) → IsWhole files file bytes → IfOk result (λ t. CutOf bytes t.status t.text.items) →
+    IfOk result (λ t. Promises (IsWhole files) (Cut file) t.status t.text.items)
+cut_result_promises files file bytes (Ok t) whole o = record { bytes = bytes; is = whole; program = o.program; accepted = o.accepted; cut = o.cut }
+cut_result_promises files file bytes (Err e) whole o = o
 
 -- a number that is not out of range is one from 1 on, and not too great
 in_range : (n : ℕ) → (IsOutOfRange n → ⊥) → (1 ≤ n) × (n ≤ 2000)
@@ -217,8 +222,8 @@ pub summary_refused : (files : Option Files) (n : ℕ) (r : Refusal) → (refusa
 summary_refused files n r why = subst (Refuses (IsWhole files) (Make n)) why.0 (call.makes why.1)
 
 pub has_done : {words : List (List ℕ)} {files : Option Files} {command : Command} {s : Status} {text : List ℕ} → Asks words command → Does (IsWhole files) command s text →
-    WritesTransfer (IsWhole files) command s text → WritesCondition (IsWhole files) command text → HasDone words files s text
-has_done {command = c} asks does transfers states = record { command = c; asked = asks; does = does; transfers = transfers; states = states }
+    Promises (IsWhole files) command s text → HasDone words files s text
+has_done {command = c} asks does promises = record { command = c; asked = asks; does = does; promises = promises }
 
 -- ---- what a status that was reported comes to
 
@@ -272,6 +277,7 @@ pub data IsOutcome : Status → Type 0 where
   blocked : IsOutcome status.Blocked
   short : IsOutcome status.Short
   over : IsOutcome status.Over
+  spent : IsOutcome status.Spent
 
 outcome_done : (o : Outcome) → IsOutcome (status_of o)
 outcome_done outcome.Done = done
@@ -290,11 +296,24 @@ replay_done boogie.Blocked = blocked
 replay_done boogie.Short = short
 replay_done boogie.Over = over
 
+end_done : (e : ExecEnd) → IsOutcome (status_of_end e)
+end_done ends.Done = done
+end_done (ends.Failed label) = failed
+end_done ends.Blocked = blocked
+end_done ends.Short = short
+end_done (ends.Over at) = over
+end_done ends.Spent = spent
+
+execution_done : (r : Ran (Went State)) → IsOutcome (execution_status r)
+execution_done (ran events step left) = end_done (end_of_step step)
+
 pub does_end : {Has : List ℕ → List ℕ → Type 0} {command : Command} {s : Status} {text : List ℕ} → Does Has command s text → IsOutcome s
 does_end (call.translated bytes is accepts) = done
 does_end (call.ran {u = u} bytes run_bytes is run_is accepts there) = run_done (end_of u)
 does_end (call.replayed {o = o} bytes run_bytes is run_is accepts ends) = replay_done o
 does_end (call.made some few accepts) = done
+does_end (call.executed {n = n} {u = u} bytes run_bytes few is run_is accepts) = execution_done (execution_end n u)
+does_end (call.was_cut bytes is accepts) = done
 does_end (call.stated bytes is accepts) = done
 
 done_cause : {words : List (List ℕ)} {files : Option Files} {first last : ℕ} (SinkFailed : Type 0) {s : Status} → IsOutcome s → IsCause words files first last s →
@@ -304,6 +323,7 @@ done_cause SinkFailed failed cause = cause
 done_cause SinkFailed blocked cause = cause
 done_cause SinkFailed short cause = cause
 done_cause SinkFailed over cause = cause
+done_cause SinkFailed spent cause = cause
 
 done_out : (before now : Option (List ℕ)) (IsText : Status → List ℕ → Type 0) {s : Status} (text : List ℕ) → IsOutcome s → IsText s text → Appends before now text → OutAfter before now IsText s
 done_out before now IsText text done is appends = (text, is, appends)
@@ -311,6 +331,7 @@ done_out before now IsText text failed is appends = (text, is, appends)
 done_out before now IsText text blocked is appends = (text, is, appends)
 done_out before now IsText text short is appends = (text, is, appends)
 done_out before now IsText text over is appends = (text, is, appends)
+done_out before now IsText text spent is appends = (text, is, appends)
 
 done_err : (err : Option (List ℕ)) (Cause : Status → Type 0) {s : Status} → IsOutcome s → ErrAfter err err Cause s
 done_err err Cause done = refl
@@ -318,6 +339,7 @@ done_err err Cause failed = refl
 done_err err Cause blocked = refl
 done_err err Cause short = refl
 done_err err Cause over = refl
+done_err err Cause spent = refl
 
 module _ {words : List (List ℕ)} {files : Option Files} {before now : Option (List ℕ)} {faults_before faults_now : ℕ} {text : List ℕ} where
   pub delivered_cause : (first last : ℕ) (ErrFailed : Type 0) {s ended : Status} → Delivers before now faults_before faults_now text s ended → HasDone words files s text →

@@ -1,5 +1,5 @@
 -- A file of Boogie and a name are a procedure, or are refused for one reason.
-use Rattle.std.proofs.Common.{◌≡◌, ◌∙◌, ◌⊎◌, inl, inr, ◌<◌, ◌≤◌, ℕ, List, length, Option, Some, None, slice_get, refl, sym, ap, subst, arith}
+use Rattle.std.proofs.Common.{◌≡◌, ◌∙◌, ◌⊎◌, inl, inr, ◌<◌, ◌≤◌, ℕ, List, length, Option, Some, None, slice_get, refl, sym, ap, arith}
 use Rattle.std.proofs.lemmas.Bool.{cases_lt}
 use Rattle.boogie_tree.specs.Program.{Proc, BProgram}
 use Rattle.vb_tool.proofs.BoogieVerdicts.{one_boogie, one_text_refusal, boogie_text, boogie_answer, named_within}

@@ -14,5 +14,10 @@ pub mod MakingLaws
 pub mod WordLaws
 pub mod CallLaws
 pub mod Answered
+pub mod ExecutionUnits
+pub mod ExecutionVerdicts
 pub mod ConditionVerdicts
+pub mod ExecutionStages
 pub mod ConditionStages
+pub mod CutVerdicts
+pub mod CutStages

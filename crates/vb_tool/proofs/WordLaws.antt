@@ -15,7 +15,7 @@ use Rattle.std.proofs.lemmas.Str.Parse.{parse_digits, digits_value_short}
 use Rattle.vb_base.proofs.Numbers.{digits, all_digits}
 use Rattle.vb_base.specs.Labels.{Spells}
 use Rattle.vb_base.specs.declared.labels.Label.{Label}
-use Rattle.vb_tool.specs.Command.{Command, Condition, IsNumber, Asks, translate, run, replay, make, condition, IsNoCommand}
+use Rattle.vb_tool.specs.Command.{Command, Execute, Condition, IsNumber, Asks, translate, run, replay, make, execute, cut, condition, IsNoCommand}
 
 module _ {E : Type 0} (word : List ℕ) (few : length word ≤ 9) (all : IsTrue (list_all is_ascii_digit word)) where
   parsed_by : (r : Result ℕ E) → OkIff r ((0 < length word) × (digits_value 10 word < 2 ^ 32)) (digits_value 10 word) → digits_value 10 word < 10 ^ 9 →
@@ -47,6 +47,8 @@ module _ (words : List (List ℕ)) (no_translate : (file : List ℕ) → words �
     (no_run : (file unit run_file : List ℕ) → words ≡ codes "run" ∷ file ∷ unit ∷ run_file ∷ [] → ⊥)
     (no_replay : (file run_file : List ℕ) → words ≡ codes "replay" ∷ file ∷ run_file ∷ [] → ⊥)
     (no_make : (word : List ℕ) (n : ℕ) → words ≡ codes "make" ∷ word ∷ [] → IsNumber word n → ⊥)
+    (no_execute : (file method run_file word : List ℕ) (n : ℕ) → words ≡ codes "exec" ∷ file ∷ method ∷ run_file ∷ word ∷ [] → IsNumber word n → ⊥)
+    (no_cut : (file : List ℕ) → words ≡ codes "cut" ∷ file ∷ [] → ⊥)
     (no_condition : (file procedure at part kind : List ℕ) (label : Label) → words ≡ codes "vc" ∷ file ∷ procedure ∷ at ∷ part ∷ kind ∷ [] →
     Spells (at ++ codes " " ++ part ++ codes " " ++ kind) label → ⊥) where
   asks_none : (command : Command) → Asks words command → ⊥
@@ -54,6 +56,8 @@ module _ (words : List (List ℕ)) (no_translate : (file : List ℕ) → words �
   asks_none command (run h) = no_run _ _ _ h
   asks_none command (replay h) = no_replay _ _ h
   asks_none command (make h is) = no_make _ _ h is
+  asks_none command (execute h is) = no_execute _ _ _ _ _ h is
+  asks_none command (cut h) = no_cut _ h
   asks_none command (condition h is) = no_condition _ _ _ _ _ _ h is
 
   no_command : IsNoCommand words
@@ -77,46 +81,71 @@ same_length words texts same = sym (length-map words string_bytes) ∙ ap length
 
 module _ (words : List (String Global)) where
   -- a row of another length
-  pub no_words : (length words ≡ 2 → ⊥) → (length words ≡ 3 → ⊥) → (length words ≡ 4 → ⊥) → (length words ≡ 6 → ⊥) → IsNoCommand (map string_bytes words)
-  no_words two three four six =
+  pub no_words : (length words ≡ 2 → ⊥) → (length words ≡ 3 → ⊥) → (length words ≡ 4 → ⊥) → (length words ≡ 5 → ⊥) → (length words ≡ 6 → ⊥) → IsNoCommand (map string_bytes words)
+  no_words two three four five six =
       no_command _ (λ f h. two (same_length words _ h)) (λ f u r h. four (same_length words _ h)) (λ f r h. three (same_length words _ h)) (λ w n h is. two (same_length words _ h))
-      (λ f d a p k l h is. six (same_length words _ h))
+      (λ f m r w n h is. five (same_length words _ h)) (λ f h. two (same_length words _ h)) (λ f d a p k l h is. six (same_length words _ h))
 
   pub few_words : length words < 2 → IsNoCommand (map string_bytes words)
-  few_words few = no_words (λ e. omega (arith, few, e)) (λ e. omega (arith, few, e)) (λ e. omega (arith, few, e)) (λ e. omega (arith, few, e))
+  few_words few = no_words (λ e. omega (arith, few, e)) (λ e. omega (arith, few, e)) (λ e. omega (arith, few, e)) (λ e. omega (arith, few, e)) (λ e. omega (arith, few, e))
 
-  pub many_words : 5 ≤ length words → (length words ≡ 6 → ⊥) → IsNoCommand (map string_bytes words)
-  many_words many six = no_words (λ e. omega (arith, many, e)) (λ e. omega (arith, many, e)) (λ e. omega (arith, many, e)) six
+  pub many_words : 5 ≤ length words → (length words ≡ 5 → ⊥) → (length words ≡ 6 → ⊥) → IsNoCommand (map string_bytes words)
+  many_words many five six = no_words (λ e. omega (arith, many, e)) (λ e. omega (arith, many, e)) (λ e. omega (arith, many, e)) five six
 
   -- the first one is another
   module _ (word : String Global) (is : word ≡ get_or words 0 word) where
-    pub two_others : 2 ≤ length words → length words < 3 → pointwise eqb (string_bytes word) (codes "translate") ≡ false →
+    pub two_others : 2 ≤ length words → length words < 3 → pointwise eqb (string_bytes word) (codes "translate") ≡ false → pointwise eqb (string_bytes word) (codes "cut") ≡ false →
         ((rest : List (List ℕ)) → map string_bytes words ≡ codes "make" ∷ rest → (w : List ℕ) (n : ℕ) → rest ≡ w ∷ [] → IsNumber w n → ⊥) → IsNoCommand (map string_bytes words)
-    two_others two three no_translate no_make =
+    two_others two three no_translate no_cut no_make =
         no_command _ (λ f. not_first words word _ is no_translate _) (λ f u r h. omega (arith, three, same_length words _ h)) (λ f r h. omega (arith, three, same_length words _ h))
-        (λ w n h. no_make _ h w n refl) (λ f d a p k l h j. omega (arith, three, same_length words _ h))
+        (λ w n h. no_make _ h w n refl) (λ f m r w n h k. omega (arith, three, same_length words _ h)) (λ f. not_first words word _ is no_cut _) (λ f d a p k l h j. omega (arith, three, same_length words _ h))
 
     pub three_others : 3 ≤ length words → length words < 4 → pointwise eqb (string_bytes word) (codes "replay") ≡ false → IsNoCommand (map string_bytes words)
     three_others three four no_replay =
         no_command _ (λ f h. omega (arith, three, same_length words _ h)) (λ f u r h. omega (arith, four, same_length words _ h)) (λ f r. not_first words word _ is no_replay _)
-        (λ w n h. omega (arith, three, same_length words _ h)) (λ f d a p k l h j. omega (arith, four, same_length words _ h))
+        (λ w n h. omega (arith, three, same_length words _ h)) (λ f m r w n h k. omega (arith, four, same_length words _ h)) (λ f h. omega (arith, three, same_length words _ h)) (λ f d a p k l h j. omega (arith, four, same_length words _ h))
 
     pub four_others : 4 ≤ length words → length words < 5 → pointwise eqb (string_bytes word) (codes "run") ≡ false → IsNoCommand (map string_bytes words)
     four_others four five no_run =
         no_command _ (λ f h. omega (arith, four, same_length words _ h)) (λ f u r. not_first words word _ is no_run _) (λ f r h. omega (arith, four, same_length words _ h))
-        (λ w n h. omega (arith, four, same_length words _ h)) (λ f d a p k l h j. omega (arith, five, same_length words _ h))
+        (λ w n h. omega (arith, four, same_length words _ h)) (λ f m r w n h k. omega (arith, five, same_length words _ h)) (λ f h. omega (arith, four, same_length words _ h)) (λ f d a p k l h j. omega (arith, five, same_length words _ h))
+
+    pub five_others : length words ≡ 5 → ((rest : List (List ℕ)) → map string_bytes words ≡ codes "exec" ∷ rest → (f m r w : List ℕ) (n : ℕ) → rest ≡ f ∷ m ∷ r ∷ w ∷ [] → IsNumber w n → ⊥) →
+        IsNoCommand (map string_bytes words)
+    five_others five no_execute =
+        no_command _ (λ f h. omega (arith, five, same_length words _ h)) (λ f u r h. omega (arith, five, same_length words _ h)) (λ f r h. omega (arith, five, same_length words _ h))
+        (λ w n h. omega (arith, five, same_length words _ h)) (λ f m r w n h. no_execute _ h f m r w n refl) (λ f h. omega (arith, five, same_length words _ h)) (λ f d a p k l h j. omega (arith, five, same_length words _ h))
 
     pub six_others : length words ≡ 6 → ((rest : List (List ℕ)) → map string_bytes words ≡ codes "vc" ∷ rest → (f d a p k : List ℕ) (l : Label) → rest ≡ f ∷ d ∷ a ∷ p ∷ k ∷ [] →
         Spells (a ++ codes " " ++ p ++ codes " " ++ k) l → ⊥) → IsNoCommand (map string_bytes words)
     six_others six no_condition =
         no_command _ (λ f h. omega (arith, six, same_length words _ h)) (λ f u r h. omega (arith, six, same_length words _ h)) (λ f r h. omega (arith, six, same_length words _ h))
-        (λ w n h. omega (arith, six, same_length words _ h)) (λ f d a p k l h. no_condition _ h f d a p k l refl)
+        (λ w n h. omega (arith, six, same_length words _ h)) (λ f m r w n h k. omega (arith, six, same_length words _ h)) (λ f h. omega (arith, six, same_length words _ h)) (λ f d a p k l h. no_condition _ h f d a p k l refl)
 
 -- the first word is another, so what follows does not count
+pub not_execute : (words : List (String Global)) (word : String Global) → word ≡ get_or words 0 word → pointwise eqb (string_bytes word) (codes "exec") ≡ false →
+    (rest : List (List ℕ)) → map string_bytes words ≡ codes "exec" ∷ rest → (f m r w : List ℕ) (n : ℕ) → rest ≡ f ∷ m ∷ r ∷ w ∷ [] → IsNumber w n → ⊥
+not_execute words word is differs rest h f m r w n row number = not_first words word _ is differs rest h
+
 pub not_condition : (words : List (String Global)) (word : String Global) → word ≡ get_or words 0 word → pointwise eqb (string_bytes word) (codes "vc") ≡ false →
     (rest : List (List ℕ)) → map string_bytes words ≡ codes "vc" ∷ rest → (f d a p k : List ℕ) (l : Label) → rest ≡ f ∷ d ∷ a ∷ p ∷ k ∷ [] →
     Spells (a ++ codes " " ++ p ++ codes " " ++ k) l → ⊥
 not_condition words word is differs rest h f d a p k l row spells = not_first words word _ is differs rest h
+
+-- no number stands last
+pub no_budget : (words : List (String Global)) (word : String Global) → length words ≡ 5 → word ≡ get_or words 4 word → ((n : ℕ) → IsNumber (string_bytes word) n → ⊥) →
+    (rest : List (List ℕ)) → map string_bytes words ≡ codes "exec" ∷ rest → (f m r w : List ℕ) (n : ℕ) → rest ≡ f ∷ m ∷ r ∷ w ∷ [] → IsNumber w n → ⊥
+no_budget (a ∷ b ∷ c ∷ d ∷ e ∷ []) word five is none rest h f m r w n row number =
+    let tail : string_bytes b ∷ string_bytes c ∷ string_bytes d ∷ string_bytes e ∷ [] ≡ rest = cc in
+    let same : string_bytes b ∷ string_bytes c ∷ string_bytes d ∷ string_bytes e ∷ [] ≡ f ∷ m ∷ r ∷ w ∷ [] = tail ∙ row in
+    let last : string_bytes e ≡ w = cc in
+    none n (subst (λ x. IsNumber x n) (sym (ap string_bytes is ∙ last)) number)
+no_budget [] word five is none rest h f m r w n row number = omega (arith, five)
+no_budget (a ∷ []) word five is none rest h f m r w n row number = omega (arith, five)
+no_budget (a ∷ b ∷ []) word five is none rest h f m r w n row number = omega (arith, five)
+no_budget (a ∷ b ∷ c ∷ []) word five is none rest h f m r w n row number = omega (arith, five)
+no_budget (a ∷ b ∷ c ∷ d ∷ []) word five is none rest h f m r w n row number = omega (arith, five)
+no_budget (a ∷ b ∷ c ∷ d ∷ e ∷ x ∷ words) word five is none rest h f m r w n row number = omega (arith, five)
 
 -- the last three words are no label
 pub no_label : (words : List (String Global)) (at part kind : String Global) → length words ≡ 6 → at ≡ get_or words 3 at → part ≡ get_or words 4 part → kind ≡ get_or words 5 kind →
@@ -154,7 +183,25 @@ no_number (a ∷ b ∷ words) word is none rest h w n one number =
     let d : string_bytes b ≡ w = cc in
     none n (subst (λ x. IsNumber x n) (sym (ap string_bytes is ∙ d)) number)
 
--- ---- the longest command
+-- ---- longer commands
+
+pub five_words : (words : List (String Global)) (word file method run_file number : String Global) (n : ℕ) → length words ≡ 5 →
+    word ≡ get_or words 0 word → file ≡ get_or words 1 file → method ≡ get_or words 2 method → run_file ≡ get_or words 3 run_file → number ≡ get_or words 4 number →
+    pointwise eqb (string_bytes word) (codes "exec") ≡ true → IsNumber (string_bytes number) n →
+    Asks (map string_bytes words) (Execute (string_bytes file) (string_bytes method) (string_bytes run_file) n)
+five_words [] word file method run_file number n five h i j k m e is = absurd (omega (arith, five))
+five_words (a ∷ []) word file method run_file number n five h i j k m e is = absurd (omega (arith, five))
+five_words (a ∷ b ∷ []) word file method run_file number n five h i j k m e is = absurd (omega (arith, five))
+five_words (a ∷ b ∷ c ∷ []) word file method run_file number n five h i j k m e is = absurd (omega (arith, five))
+five_words (a ∷ b ∷ c ∷ d ∷ []) word file method run_file number n five h i j k m e is = absurd (omega (arith, five))
+five_words (a ∷ b ∷ c ∷ d ∷ x ∷ y ∷ words) word file method run_file number n five h i j k m e is = absurd (omega (arith, five))
+five_words (a ∷ b ∷ c ∷ d ∷ x ∷ []) word file method run_file number n five h i j k m e is =
+    let first : string_bytes a ≡ codes "exec" = ap string_bytes (sym h) ∙ same_text _ _ e in
+    execute (ap (λ z. z ∷ string_bytes b ∷ string_bytes c ∷ string_bytes d ∷ string_bytes x ∷ []) first
+    ∙ ap (λ z. codes "exec" ∷ string_bytes z ∷ string_bytes c ∷ string_bytes d ∷ string_bytes x ∷ []) (sym i)
+    ∙ ap (λ z. codes "exec" ∷ string_bytes file ∷ string_bytes z ∷ string_bytes d ∷ string_bytes x ∷ []) (sym j)
+    ∙ ap (λ z. codes "exec" ∷ string_bytes file ∷ string_bytes method ∷ string_bytes z ∷ string_bytes x ∷ []) (sym k)
+    ∙ ap (λ z. codes "exec" ∷ string_bytes file ∷ string_bytes method ∷ string_bytes run_file ∷ string_bytes z ∷ []) (sym m)) is
 
 pub six_words : (words : List (String Global)) (word file procedure at part kind : String Global) (label : Label) → length words ≡ 6 →
     word ≡ get_or words 0 word → file ≡ get_or words 1 file → procedure ≡ get_or words 2 procedure → at ≡ get_or words 3 at → part ≡ get_or words 4 part → kind ≡ get_or words 5 kind →

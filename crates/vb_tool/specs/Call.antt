@@ -11,12 +11,18 @@ use Rattle.viper_core.specs.declared.programs.Unit.{Unit}
 use Rattle.boogie_run.specs.Start.{outcome_of}
 use Rattle.boogie_tree.specs.Program.{Proc}
 use Rattle.boogie_run.specs.declared.replaying.BOutcome.{BOutcome}
+use Rattle.boogie_wide.specs.Wide.{WProgram}
 use Rattle.enc_stmt.specs.Translates.{text_of}
 use Rattle.vb_tool.specs.Accepted.{IsAccepted, AcceptsRun, IsRefusal, IsRunRefusal}
 use Rattle.vb_tool.specs.AcceptedCondition.{AcceptsCondition, IsConditionRefusal}
+use Rattle.vb_tool.specs.AcceptedCut.{AcceptsCut, IsCutRefusal}
+use Rattle.vb_tool.specs.AcceptedExecution.{AcceptsExecution, IsExecutionRefusal}
 use Rattle.vb_tool.specs.AcceptedReplay.{AcceptsReplay, IsReplayRefusal}
-use Rattle.vb_tool.specs.Command.{Command, Translate, Run, Replay, Make, Condition, Asks, IsNoCommand, files_of, limit_of}
+use Rattle.vb_tool.specs.Budget.{max_execution_budget}
+use Rattle.vb_tool.specs.Command.{Command, Translate, Run, Replay, Make, Execute, Cut, Condition, Asks, IsNoCommand, files_of, limit_of, HasBudget}
 use Rattle.vb_tool.specs.Conditions.{condition_text, IsStatement}
+use Rattle.vb_tool.specs.Cuts.{cut_text, IsCutOfFile}
+use Rattle.vb_tool.specs.Executions.{MethodRun, execution_end, execution_status, execution_text}
 use Rattle.vb_tool.specs.Outcome.{run_status, run_text}
 use Rattle.vb_tool.specs.Procedures.{ProcedureRun, procedure_end}
 use Rattle.vb_tool.specs.ReplayOutcome.{replay_status, replay_text}
@@ -27,7 +33,7 @@ use Rattle.vb_tool.specs.Units.{UnitRun, end_of}
 use Rattle.vb_tool.specs.declared.status.Refusal.{Refusal}
 use Rattle.vb_tool.specs.declared.status.Refusal.TheVariants.{Size, Range}
 use Rattle.vb_tool.specs.declared.status.Status.{Status}
-use Rattle.vb_tool.specs.declared.status.Status.TheVariants.{Done, Refused, Usage, ReadFault, WriteFault, NoMemory, Failed, Blocked, Short, Over}
+use Rattle.vb_tool.specs.declared.status.Status.TheVariants.{Done, Refused, Usage, ReadFault, WriteFault, NoMemory, Failed, Blocked, Short, Over, Spent}
 
 -- ---- files that are missing
 
@@ -37,9 +43,9 @@ pub data MissesOf (files : Option Files) (limit : ℕ) : List (List ℕ) → Typ
   later : {name : List ℕ} {names : List (List ℕ)} (bytes : List ℕ) → IsFile files name bytes → length bytes ≤ limit → MissesOf files limit names →
       MissesOf files limit (name ∷ names)
 
--- a file of the command is missing, and those before it are there and not too long
+-- a file of the command is missing, and those before it are there and not too long; nothing is refused before they are read
 abbrev pub Misses : Option Files → Command → Type 0
-Misses files command = MissesOf files (limit_of command) (files_of command)
+Misses files command = HasBudget command × MissesOf files (limit_of command) (files_of command)
 
 -- the command names a file
 abbrev pub NamesFile : Command → Type 0
@@ -57,6 +63,12 @@ pub data Refuses (Has : List ℕ → List ℕ → Type 0) : Command → Refusal 
   replays : {file run_file : List ℕ} {r : Refusal} (bytes run_bytes : List ℕ) → Has file bytes → Has run_file run_bytes → IsReplayRefusal bytes run_bytes r →
       Refuses Has (Replay file run_file) r
   makes : {n : ℕ} → IsOutOfRange n → Refuses Has (Make n) Range
+  over_budget : {file method run_file : List ℕ} {n : ℕ} → max_execution_budget < n → Refuses Has (Execute file method run_file n) Range
+  execution_too_long : {file method run_file : List ℕ} {n : ℕ} (bytes : List ℕ) → n ≤ max_execution_budget → Has file bytes → max_viper_bytes < length bytes →
+      Refuses Has (Execute file method run_file n) Size
+  executes : {file method run_file : List ℕ} {n : ℕ} {r : Refusal} (bytes run_bytes : List ℕ) → n ≤ max_execution_budget → Has file bytes → Has run_file run_bytes →
+      IsExecutionRefusal bytes method run_bytes r → Refuses Has (Execute file method run_file n) r
+  cuts : {file : List ℕ} {r : Refusal} (bytes : List ℕ) → Has file bytes → IsCutRefusal bytes r → Refuses Has (Cut file) r
   conditions : {file procedure : List ℕ} {label : Label} {r : Refusal} (bytes : List ℕ) → Has file bytes → IsConditionRefusal bytes procedure r →
       Refuses Has (Condition file procedure label) r
 
@@ -68,17 +80,22 @@ pub data Does (Has : List ℕ → List ℕ → Type 0) : Command → Status → 
   replayed : {file run_file : List ℕ} {u : ProcedureRun} {o : BOutcome} (bytes run_bytes : List ℕ) → Has file bytes → Has run_file run_bytes → AcceptsReplay bytes run_bytes u →
       outcome_of (procedure_end u) ≡ Some o → Does Has (Replay file run_file) (replay_status o) (replay_text o)
   made : {n : ℕ} {program : p.Program} → 1 ≤ n → n ≤ max_made_methods → IsAccepted (program_text n) program → Does Has (Make n) Done (made_text n program)
+  executed : {file method run_file : List ℕ} {n : ℕ} {u : MethodRun} (bytes run_bytes : List ℕ) → n ≤ max_execution_budget → Has file bytes → Has run_file run_bytes →
+      AcceptsExecution bytes method run_bytes u → Does Has (Execute file method run_file n) (execution_status (execution_end n u)) (execution_text (execution_end n u))
+  was_cut : {file : List ℕ} {program : WProgram} (bytes : List ℕ) → Has file bytes → AcceptsCut bytes program → Does Has (Cut file) Done (cut_text program)
   stated : {file procedure : List ℕ} {label : Label} {d : Proc} (bytes : List ℕ) → Has file bytes → AcceptsCondition bytes procedure d →
       Does Has (Condition file procedure label) Done (condition_text d label)
 
--- where a run of a unit failed, what is written ends with a run of Boogie that fails again
-abbrev pub WritesTransfer : (List ℕ → List ℕ → Type 0) → Command → Status → List ℕ → Type 0
-WritesTransfer Has command status text = (file unit run_file : List ℕ) (label : Label) → command ≡ Run file unit run_file → status ≡ Failed label →
-    IsTransfer Has file unit run_file label text
-
--- what is written of a procedure and a label is a condition for them
-abbrev pub WritesCondition : (List ℕ → List ℕ → Type 0) → Command → List ℕ → Type 0
-WritesCondition Has command text = (file procedure : List ℕ) (label : Label) → command ≡ Condition file procedure label → IsStatement Has file procedure label text
+-- What is promised besides of the text that is written: where a run of a unit failed, it ends with a run of Boogie that fails
+-- again; what is written for loops and calls follows them; and what is written of a procedure and a label is a condition for them.
+abbrev pub Promises : (List ℕ → List ℕ → Type 0) → Command → Status → List ℕ → Type 0
+Promises Has (Translate file) status text = ⊤
+Promises Has (Run file unit run_file) status text = (label : Label) → status ≡ Failed label → IsTransfer Has file unit run_file label text
+Promises Has (Replay file run_file) status text = ⊤
+Promises Has (Make n) status text = ⊤
+Promises Has (Execute file method run_file n) status text = ⊤
+Promises Has (Cut file) status text = IsCutOfFile Has file text
+Promises Has (Condition file procedure label) status text = IsStatement Has file procedure label text
 
 -- The command that the words ask for does this. The bytes are those of its files; where the shelf does not tell its files, they
 -- are any bytes.
@@ -86,8 +103,7 @@ pub record HasDone (words : List (List ℕ)) (files : Option Files) (status : St
   pub command : Command
   pub asked : Asks words command
   pub does : Does (IsWhole files) command status text
-  pub transfers : WritesTransfer (IsWhole files) command status text
-  pub states : WritesCondition (IsWhole files) command text
+  pub promises : Promises (IsWhole files) command status text
 
 -- ---- statuses
 
@@ -133,6 +149,7 @@ OutAfter before now IsText (Failed label) = Written before now IsText (Failed la
 OutAfter before now IsText Blocked = Written before now IsText Blocked
 OutAfter before now IsText Short = Written before now IsText Short
 OutAfter before now IsText Over = Written before now IsText Over
+OutAfter before now IsText Spent = Written before now IsText Spent
 OutAfter before now IsText WriteFault = FrontWritten before now IsText
 OutAfter before now IsText NoMemory = FrontWritten before now IsText
 OutAfter before now IsText (Refused r) = now ≡ before

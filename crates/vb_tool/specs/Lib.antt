@@ -13,5 +13,10 @@ pub mod Transfer
 pub mod Verified
 pub mod Call
 pub mod Parts
+pub mod Budget
+pub mod Executions
+pub mod AcceptedExecution
+pub mod AcceptedCut
+pub mod Cuts
 pub mod AcceptedCondition
 pub mod Conditions

@@ -11,12 +11,17 @@ use Rattle.viper_core.specs.declared.programs.Unit.{Unit}
 use Rattle.boogie_run.specs.Start.{outcome_of}
 use Rattle.boogie_tree.specs.Program.{Proc}
 use Rattle.boogie_run.specs.declared.replaying.BOutcome.{BOutcome}
+use Rattle.boogie_wide.specs.Wide.{WProgram}
 use Rattle.enc_stmt.specs.Translates.{text_of}
 use Rattle.vb_tool.specs.Accepted.{IsAccepted, AcceptsRun}
 use Rattle.vb_tool.specs.AcceptedCondition.{AcceptsCondition}
+use Rattle.vb_tool.specs.AcceptedCut.{AcceptsCut}
+use Rattle.vb_tool.specs.AcceptedExecution.{AcceptsExecution}
 use Rattle.vb_tool.specs.AcceptedReplay.{AcceptsReplay}
 use Rattle.vb_tool.specs.Command as c
 use Rattle.vb_tool.specs.Conditions.{condition_text, IsCondition}
+use Rattle.vb_tool.specs.Cuts.{cut_text, IsCutOfProgram}
+use Rattle.vb_tool.specs.Executions.{MethodRun, execution_end, execution_status, execution_text}
 use Rattle.vb_tool.specs.Outcome.{run_status, run_text}
 use Rattle.vb_tool.specs.Procedures.{ProcedureRun, procedure_end}
 use Rattle.vb_tool.specs.ReplayOutcome.{replay_status, replay_text}
@@ -37,6 +42,8 @@ command_of (words.Translate file) = c.Translate file.now
 command_of (words.Run file unit run_file) = c.Run file.now unit.now run_file.now
 command_of (words.Replay file run_file) = c.Replay file.now run_file.now
 command_of (words.Make count) = c.Make count
+command_of (words.Execute file method run_file budget) = c.Execute file.now method.now run_file.now budget
+command_of (words.Cut file) = c.Cut file.now
 command_of (words.Condition file procedure label) = c.Condition file.now procedure.now label
 
 -- the line of a status goes to the sink of errors, and the call ends with that status; but for a fault of the sink, after
@@ -93,6 +100,21 @@ pub record SummaryOf (n : ℕ) (status : Status) (text : List ℕ) : Type 0 wher
   pub accepted : IsAccepted (program_text n) program
   pub status_is : status ≡ Done
   pub text_is : text ≡ made_text n program
+
+-- the status and the text of an execution
+pub record ExecutionOf (bytes name run_bytes : List ℕ) (n : ℕ) (status : Status) (text : List ℕ) : Type 0 where
+  pub run : MethodRun
+  pub accepted : AcceptsExecution bytes name run_bytes run
+  pub status_is : status ≡ execution_status (execution_end n run)
+  pub text_is : text ≡ execution_text (execution_end n run)
+
+-- the status and the text of `cut`
+pub record CutOf (bytes : List ℕ) (status : Status) (text : List ℕ) : Type 0 where
+  pub program : WProgram
+  pub accepted : AcceptsCut bytes program
+  pub status_is : status ≡ Done
+  pub text_is : text ≡ cut_text program
+  pub cut : IsCutOfProgram program text
 
 -- the status and the text of `vc`
 pub record ConditionOf (bytes name : List ℕ) (label : Label) (status : Status) (text : List ℕ) : Type 0 where

@@ -4,9 +4,9 @@ use Rattle.std.specs.Fmt.{decimal}
 use Rattle.vb_base.specs.Labels.{place_text}
 use Rattle.viper_syntax.specs.declared.tokens.LexFault.TheVariants.{BadByte, OpenComment, BigLiteral, Braces, LongGroup, Unsupported, Memory}
 use Rattle.vb_tool.specs.declared.status.Refusal.{Refusal}
-use Rattle.vb_tool.specs.declared.status.Refusal.TheVariants.{Size, RunSize, Lex, Syntax, Rule, Weight, NoUnit, Prelude, Deep, BoogieSyntax, BoogieType, NoProcedure, RunSyntax, Range}
+use Rattle.vb_tool.specs.declared.status.Refusal.TheVariants.{Size, RunSize, Lex, Syntax, Rule, Weight, Unframed, NoUnit, Prelude, Deep, BoogieSyntax, BoogieType, NoProcedure, RunSyntax, Range}
 use Rattle.vb_tool.specs.declared.status.Status.{Status}
-use Rattle.vb_tool.specs.declared.status.Status.TheVariants.{Done, Refused, Usage, ReadFault, WriteFault, NoMemory, Failed, Blocked, Short, Over}
+use Rattle.vb_tool.specs.declared.status.Status.TheVariants.{Done, Refused, Usage, ReadFault, WriteFault, NoMemory, Failed, Blocked, Short, Over, Spent}
 
 abbrev pub number_of : Status → ℕ
 number_of Done = 0
@@ -19,6 +19,7 @@ number_of (Failed label) = 10
 number_of Blocked = 11
 number_of Short = 12
 number_of Over = 13
+number_of Spent = 14
 
 -- a refusal's word, and the place of what is refused
 abbrev pub refusal_text : Refusal → List ℕ
@@ -34,6 +35,7 @@ refusal_text (Lex Memory) = codes "memory"
 refusal_text (Syntax at) = codes "syntax " ++ place_text at
 refusal_text (Rule at n) = codes "type " ++ place_text at ++ codes " rule " ++ decimal n
 refusal_text (Weight n) = codes "weight " ++ decimal n
+refusal_text (Unframed at) = codes "unframed " ++ place_text at
 refusal_text NoUnit = codes "no-unit"
 refusal_text (Prelude at) = codes "prelude " ++ place_text at
 refusal_text (Deep at) = codes "deep " ++ place_text at
@@ -47,7 +49,7 @@ refusal_text Range = codes "range"
 abbrev pub line_of : Status → List ℕ
 line_of Done = []
 line_of (Refused r) = codes "error: " ++ refusal_text r ++ codes "\n"
-line_of Usage = codes "usage: translate FILE | run FILE UNIT RUNFILE | replay BPL BRUN | make N | vc BPL PROC AT PART KIND\n"
+line_of Usage = codes "usage: translate FILE | run FILE UNIT RUNFILE | replay BPL BRUN | make N | exec FILE METHOD RUNFILE N | cut BPL | vc BPL PROC AT PART KIND\n"
 line_of ReadFault = codes "error: read\n"
 line_of WriteFault = []
 line_of NoMemory = []
@@ -55,3 +57,4 @@ line_of (Failed label) = []
 line_of Blocked = []
 line_of Short = []
 line_of Over = []
+line_of Spent = []

@@ -10,8 +10,9 @@ ghost use Rattle.viper_core.specs.Program as p;
 ghost use Rattle.viper_core.specs.View.{program_of};
 ghost use Rattle.enc_stmt.specs.Translates.{Translates, text_of};
 ghost use Rattle.vb_tool.specs.Accepted.{IsAccepted};
-ghost use Rattle.vb_tool.specs.Command.{Command as CommandOf, Run, Condition, Asks, IsNoCommand};
+ghost use Rattle.vb_tool.specs.Command.{Command as CommandOf, Run, Cut, Condition, Asks, IsNoCommand};
 ghost use Rattle.vb_tool.specs.Conditions.{IsStatement};
+ghost use Rattle.vb_tool.specs.Cuts.{IsCutOfFile};
 ghost use Rattle.vb_tool.specs.Call.{Misses, Refuses, Does, HasDone, IsCause, Causes, EndsAs, EndsWith, OutAfter, ErrAfter};
 ghost use Rattle.vb_tool.specs.Parts.{CanBeWritten, Reports, Delivers, work_status, work_text};
 ghost use Rattle.vb_tool.specs.Transfer.{IsTransfer};
@@ -33,7 +34,9 @@ use viper_core::Program;
 /// method or a predicate of the file, from the state and on the choices of the run file, and writes the outcome to `out`: how
 /// the run ended, and how many choices it left over; and of a run that failed the run of Boogie that it turns into. `replay BPL BRUN` runs a procedure of a program of Boogie, as the run file
 /// says, and writes how that ended. `make N` generates a program of N methods, translates it, and writes how much that comes to.
-/// `vc BPL PROC AT PART KIND` writes a formula
+/// `exec FILE METHOD RUNFILE N` executes a method of the file, with the bodies that it calls and the turns of its loops, of which
+/// at most N may begin, and writes how that ended, and how many choices it left over. `cut BPL` writes a program of Boogie without
+/// loops and calls for one with them, which fails wherever a run of the loops does. `vc BPL PROC AT PART KIND` writes a formula
 /// that is valid exactly where no run of that procedure fails at the label that the last three words are.
 /// Where the words are no command, or a file is refused or cannot be read, or N is out of range, one line goes to `err`, and
 /// nothing to `out`.
@@ -66,6 +69,10 @@ pub fn tool<H: Shelf, O: Sink, E: Sink>(
     ensures transfers { (file unit run_file : List ℕ) (label : Label) → Asks (map string_bytes words.now.items) (Run file unit run_file)
         → result ≡ Status.Failed label
         → (text : List ℕ) × IsTransfer (IsWhole (H.files shelf.old)) file unit run_file label text × Appends (O.written out.old) (O.written out.new) text }
+
+    // What `cut` writes spells just one program, whose procedures end as the modular runs do, and fail wherever the turning runs do.
+    ensures cuts { (file : List ℕ) → Asks (map string_bytes words.now.items) (Cut file) → result ≡ Status.Done
+        → (text : List ℕ) × IsCutOfFile (IsWhole (H.files shelf.old)) file text × Appends (O.written out.old) (O.written out.new) text }
 
     // What `vc` writes spells just one formula, which is valid exactly where no run of the procedure fails at the label.
     ensures states { (file procedure : List ℕ) (label : Label) → Asks (map string_bytes words.now.items) (Condition file procedure label)

@@ -1,5 +1,5 @@
 // Laws of the definitions, each the contract of a function with nothing to do.
-ghost use Rattle.std.specs.Prelude.{◌≡◌, ◌≤◌, ℕ, List, Option, Some, None, slice_get};
+ghost use Rattle.std.specs.Prelude.{◌≡◌, ◌≤◌, ℕ, List, Option, Some, slice_get};
 ghost use Rattle.boogie_run.specs.Start.{outcome_of};
 ghost use Rattle.boogie_run.specs.declared.replaying.BOutcome.{BOutcome};
 ghost use Rattle.boogie_tree.specs.Program.{BProgram};
@@ -17,11 +17,12 @@ ghost use Rattle.viper_core.specs.declared.programs.Unit.{Unit};
 ghost use Rattle.viper_state.specs.State.{State};
 ghost use Rattle.viper_meaning.specs.Units.{ViperFails};
 ghost use Rattle.exec_meaning.specs.Frame.{NoExecutionFails};
-ghost use Rattle.exec_words.specs.Unframed.{first_unframed};
+ghost use Rattle.viper_exec.specs.Unframed.{first_unframed};
 ghost use Rattle.enc_stmt.specs.Translates.{Translates};
 ghost use Rattle.vb_tool.specs.Units.{name_of};
 ghost use Rattle.vb_tool.specs.Accepted.{IsAccepted, AcceptsRun, IsRefusal, IsRunRefusal, HasOneAnswer};
 ghost use Rattle.vb_tool.specs.AcceptedCondition.{AcceptsCondition, IsConditionRefusal};
+ghost use Rattle.vb_tool.specs.AcceptedExecution.{AcceptsExecution, IsExecutionRefusal};
 ghost use Rattle.vb_tool.specs.AcceptedReplay.{IsBoogie, AcceptsReplay, IsReplayRefusal};
 ghost use Rattle.vb_tool.specs.Procedures.{ProcedureRun, procedure_end};
 ghost use Rattle.vb_tool.specs.Call.{Does};
@@ -36,12 +37,13 @@ pub fn names_of_units_differ()
 {}
 
 /// Bytes are accepted for exactly one program, or refused for exactly one reason, and never both. So it is with the bytes of a
-/// file and a run file, and the name of a unit, and the run that they are; with the bytes of a file of Boogie and a run file, or
-/// the name of a procedure.
+/// file and a run file, and the name of a unit, and the run that they are, or the name of a method and its execution; with the
+/// bytes of a file of Boogie and a run file, or the name of a procedure.
 pub fn bytes_have_one_answer()
     ensures translate { (bytes : List ℕ) → HasOneAnswer (IsAccepted bytes) (IsRefusal bytes) }
     ensures run { (bytes name run_bytes : List ℕ) → HasOneAnswer (AcceptsRun bytes name run_bytes) (IsRunRefusal bytes name run_bytes) }
     ensures replay { (bytes run_bytes : List ℕ) → HasOneAnswer (AcceptsReplay bytes run_bytes) (IsReplayRefusal bytes run_bytes) }
+    ensures exec { (bytes name run_bytes : List ℕ) → HasOneAnswer (AcceptsExecution bytes name run_bytes) (IsExecutionRefusal bytes name run_bytes) }
     ensures vc { (bytes name : List ℕ) → HasOneAnswer (AcceptsCondition bytes name) (IsConditionRefusal bytes name) }
     ensures boogie { (bytes : List ℕ) (q r : BProgram) → IsBoogie bytes q → IsBoogie bytes r → q ≡ r }
 {}

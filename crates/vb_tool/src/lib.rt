@@ -3,8 +3,11 @@
 //! What a call does is the contract of `tool`. A program connects it to its files and streams.
 #![tactic(auto)]
 
+mod budget;
 mod command;
 mod conditions;
+mod cuts;
+mod executions;
 pub mod laws;
 mod making;
 mod moved;

@@ -11,6 +11,7 @@ ghost use Rattle.moves.specs.Moves.{moves};
 ghost use Rattle.moves.specs.Printable.{IsNamedMove};
 ghost use Rattle.enc_stmt.specs.Opened.{start_settings, IsNamedSetting};
 ghost use Rattle.vb_tool.specs.Accepted.{IsAccepted, IsTextRefusal, IsRunRefusal};
+ghost use Rattle.vb_tool.specs.AcceptedExecution.{IsFramed, IsUnframedRefusal};
 ghost use Rattle.vb_tool.specs.Moved.{moved_text};
 ghost use Rattle.vb_tool.specs.Outcome.{status_of, with_moved};
 ghost use Rattle.vb_tool.specs.Parts.{OutcomeOf};
@@ -24,6 +25,7 @@ use run_file::{ViperRun, read_viper_run};
 use std::alloc::Global;
 use vb_base::{Memory, place_after};
 use viper_core::Program;
+use viper_exec::first_unframed;
 use viper_parse::parse;
 use viper_run::{Run, run_unit};
 use viper_state::{Opening, Outcome};
@@ -42,6 +44,25 @@ pub fn typed_program(alloc: Global, bytes: &[u8]) -> Result<Program, Trouble>
     let source = parse(alloc, &tokens, place_after(bytes))?;
     drop(tokens);
     Ok(check(alloc, &source)?)
+}
+
+/// The same of a file that has none of the words `wildcard`, `inhale` and `assume`.
+pub fn framed_program(alloc: Global, bytes: &[u8]) -> Result<Program, Trouble>
+    requires { length bytes.now ≤ max_viper_bytes }
+    ensures framed { IfOk result (λ p. IsFramed bytes.now (program_of p)) }
+    ensures formed { IfOk result (λ p. IsFormed (program_of p)) }
+    ensures refused { (r : Refusal) → IsErrOf result (Trouble.Refused r) → IsUnframedRefusal bytes.now r }
+    ensures read { IsErrOf result Trouble.Read → ⊥ }
+{
+    let tokens = lex(alloc, bytes)?;
+    let unframed = first_unframed(&tokens);
+    let tree = parse(alloc, &tokens, place_after(bytes))?;
+    drop(tokens);
+    let program = check(alloc, &tree)?;
+    match unframed {
+        Some(at) => Err(Trouble::Refused(Refusal::Unframed(at))),
+        None => Ok(program),
+    }
 }
 
 /// What is told of a run of a unit that ended so: two lines, and where it failed the run of Boogie that it turns into.

@@ -24,7 +24,9 @@ pub enum Refusal {
     Rule(Pos, u32),
     /// Its program is well-typed and weighs more than `MAX_WEIGHT`; the weight is told as `TOO_HEAVY`.
     Weight(u64),
-    /// Its program has no unit of that name.
+    /// Its first token that is `wildcard`, `inhale` or `assume` stands at this place, and `exec` runs no program that has one.
+    Unframed(Pos),
+    /// Its program has no unit of that name; for `exec`, no method of that name that has a body.
     NoUnit,
     /// The file does not begin with the prelude of Boogie. The place is that of the first byte that differs, or the end of
     /// the file.
@@ -41,7 +43,8 @@ pub enum Refusal {
     /// The run file spells no run of the unit or procedure. The place is that of the first line that may not stand where it
     /// does. A wrong header is refused before `NoProcedure`.
     RunSyntax(Pos),
-    /// No program is made of that many methods: there are none, or more than `MAX_MADE_METHODS`.
+    /// No program is made of that many methods: there are none, or more than `MAX_MADE_METHODS`. For `exec`, the budget is
+    /// more than `MAX_EXECUTION_BUDGET`.
     Range,
 }
 
@@ -68,6 +71,8 @@ pub enum Status {
     Short,
     /// A number or a content left its bound in the run.
     Over,
+    /// One more called body or turn of a loop was to begin, and the budget was spent.
+    Spent,
 }
 
 impl Status {
@@ -88,6 +93,7 @@ impl Status {
             Status::Blocked => 11,
             Status::Short => 12,
             Status::Over => 13,
+            Status::Spent => 14,
         }
     }
 }
@@ -111,6 +117,7 @@ impl fmt::Display for Refusal {
             Refusal::Syntax(at) => write!(f, "syntax {at}"),
             Refusal::Rule(at, rule) => write!(f, "type {at} rule {rule}"),
             Refusal::Weight(weight) => write!(f, "weight {weight}"),
+            Refusal::Unframed(at) => write!(f, "unframed {at}"),
             Refusal::NoUnit => f.write_str("no-unit"),
             Refusal::Prelude(at) => write!(f, "prelude {at}"),
             Refusal::Deep(at) => write!(f, "deep {at}"),
@@ -125,7 +132,7 @@ impl fmt::Display for Refusal {
 
 /// The line of the forms of the commands.
 const USAGE: &str =
-    "usage: translate FILE | run FILE UNIT RUNFILE | replay BPL BRUN | make N | vc BPL PROC AT PART KIND\n";
+    "usage: translate FILE | run FILE UNIT RUNFILE | replay BPL BRUN | make N | exec FILE METHOD RUNFILE N | cut BPL | vc BPL PROC AT PART KIND\n";
 
 impl fmt::Display for Status {
     ghost use Rattle.vb_tool.specs.Status.{line_of};
@@ -138,9 +145,12 @@ impl fmt::Display for Status {
             Status::Usage => f.write_str(USAGE),
             Status::ReadFault => f.write_str("error: read\n"),
             Status::WriteFault | Status::NoMemory => Ok(()),
-            Status::Done | Status::Failed(_) | Status::Blocked | Status::Short | Status::Over => Ok(
-                (),
-            ),
+            Status::Done
+            | Status::Failed(_)
+            | Status::Blocked
+            | Status::Short
+            | Status::Over
+            | Status::Spent => Ok(()),
         }
     }
 }

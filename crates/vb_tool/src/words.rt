@@ -22,6 +22,10 @@ pub enum Command<'a> {
     Replay(&'a str, &'a str),
     /// `make N`: a generated program of so many methods, and its translation.
     Make(u32),
+    /// `exec FILE METHOD RUNFILE N`: a method of a file, executed as another file says, with a budget.
+    Execute(&'a str, &'a str, &'a str, u32),
+    /// `cut BPL`: the program of Boogie without loops and calls that is written for a file with them.
+    Cut(&'a str),
     /// `vc BPL PROC AT PART KIND`: the formula that says that a procedure of a file of Boogie has no failing run at a label.
     Condition(&'a str, &'a str, Label),
 }
@@ -31,8 +35,30 @@ pub fn command_of(alloc: Global, words: &[String]) -> Result<Option<Command>, Me
     ensures { IfOk result (λ found. MatchOption found (IsNoCommand (map string_bytes words.now)) (λ c. Asks (map string_bytes words.now) (command_of c))) }
 {
     match words.len() {
+        5 => Ok(execution_of(words)),
         6 => condition_of(alloc, words),
         _ => Ok(short_command_of(words)),
+    }
+}
+
+/// The command that five words ask for.
+fn execution_of(words: &[String]) -> Option<Command>
+    requires { length words.now ≡ 5 }
+    ensures { MatchOption result (IsNoCommand (map string_bytes words.now)) (λ c. Asks (map string_bytes words.now) (command_of c)) }
+{
+    match words {
+        [word, file, method, run_file, number] if word.as_str() == "exec" => {
+            match number_of(number.as_str()) {
+                Some(budget) => Some(Command::Execute(
+                    file.as_str(),
+                    method.as_str(),
+                    run_file.as_str(),
+                    budget,
+                )),
+                None => None,
+            }
+        }
+        _ => None,
     }
 }
 
@@ -78,9 +104,10 @@ fn joined(alloc: Global, first: &[u8], second: &[u8], third: &[u8]) -> Result<Ve
     Ok(text)
 }
 
-/// The command that the words ask for, which are not six.
+/// The command that the words ask for, which are neither five nor six.
 fn short_command_of(words: &[String]) -> Option<Command>
-    requires { length words.now ≡ 6 → ⊥ }
+    requires not_five { length words.now ≡ 5 → ⊥ }
+    requires not_six { length words.now ≡ 6 → ⊥ }
     ensures { MatchOption result (IsNoCommand (map string_bytes words.now)) (λ c. Asks (map string_bytes words.now) (command_of c)) }
 {
     match words {
@@ -93,6 +120,7 @@ fn short_command_of(words: &[String]) -> Option<Command>
         [word, file, run_file] if word.as_str() == "replay" => {
             Some(Command::Replay(file.as_str(), run_file.as_str()))
         }
+        [word, file] if word.as_str() == "cut" => Some(Command::Cut(file.as_str())),
         [word, number] if word.as_str() == "make" => match number_of(number.as_str()) {
             Some(count) => Some(Command::Make(count)),
             None => None,

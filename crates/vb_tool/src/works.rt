@@ -5,12 +5,16 @@ ghost use Rattle.vb_outer.specs.Shelf.{IsMissing, IsWhole, IsLonger};
 ghost use Rattle.viper_core.specs.Formed.{IsFormed};
 ghost use Rattle.viper_core.specs.View.{program_of};
 ghost use Rattle.enc_stmt.specs.Translates.{text_of};
-ghost use Rattle.vb_tool.specs.Call.{Misses, NamesFile, Refuses, Does, WritesTransfer, WritesCondition};
-ghost use Rattle.vb_tool.specs.Command.{Translate, Run, Replay, Make, Condition};
+ghost use Rattle.vb_tool.specs.Budget.{max_execution_budget};
+ghost use Rattle.vb_tool.specs.Call.{Misses, NamesFile, Refuses, Does, Promises};
+ghost use Rattle.vb_tool.specs.Command.{Translate, Run, Replay, Make, Execute, Cut, Condition};
 ghost use Rattle.vb_tool.specs.Parts.{command_of, work_status, work_text, CanBeWritten};
 ghost use Rattle.vb_tool.specs.declared.status.Refusal.TheVariants as refusal;
 
+use crate::budget::MAX_EXECUTION_BUDGET;
 use crate::conditions::stated;
+use crate::cuts::without_loops;
+use crate::executions::executed;
 use crate::making::summary;
 use crate::outcome::{Ending, Work};
 use crate::procedures::replayed;
@@ -27,8 +31,7 @@ use viper_core::Program;
 /// Does what a command asks for, but for writing it.
 pub fn work<H: Shelf>(alloc: Global, shelf: &mut H, command: Command) -> Result<Work, Trouble>
     ensures work { IfOk result (λ w. Does (IsWhole (H.files shelf.old)) (command_of command.entry) (work_status w) (work_text w)) }
-    ensures transfers { IfOk result (λ w. WritesTransfer (IsWhole (H.files shelf.old)) (command_of command.entry) (work_status w) (work_text w)) }
-    ensures states { IfOk result (λ w. WritesCondition (IsWhole (H.files shelf.old)) (command_of command.entry) (work_text w)) }
+    ensures promises { IfOk result (λ w. Promises (IsWhole (H.files shelf.old)) (command_of command.entry) (work_status w) (work_text w)) }
     ensures can_be_written { IfOk result (λ w. CanBeWritten w) }
     ensures refused { (r : Refusal) → IsErrOf result (Trouble.Refused r) → Refuses (IsWhole (H.files shelf.old)) (command_of command.entry) r }
     ensures read { IsErrOf result Trouble.Read → Misses (H.files shelf.old) (command_of command.entry) ⊎ Rose (H.faults shelf.old) (H.faults shelf.new) }
@@ -49,6 +52,16 @@ pub fn work<H: Shelf>(alloc: Global, shelf: &mut H, command: Command) -> Result<
             Err(trouble) => Err(trouble),
         },
         Command::Make(count) => match summary(alloc, count) {
+            Ok(told) => Ok(Work::Tell(told)),
+            Err(trouble) => Err(trouble),
+        },
+        Command::Execute(file, method, run_file, budget) => {
+            match execute(alloc, shelf, file, method, run_file, budget) {
+                Ok(told) => Ok(Work::Tell(told)),
+                Err(trouble) => Err(trouble),
+            }
+        }
+        Command::Cut(file) => match cut(alloc, shelf, file) {
             Ok(told) => Ok(Work::Tell(told)),
             Err(trouble) => Err(trouble),
         },
@@ -82,7 +95,7 @@ fn run<H: Shelf>(
     run_file: &str,
 ) -> Result<Ending, Trouble>
     ensures work { IfOk result (λ t. Does (IsWhole (H.files shelf.old)) (Run file.now unit.now run_file.now) t.status t.text.items) }
-    ensures transfers { IfOk result (λ t. WritesTransfer (IsWhole (H.files shelf.old)) (Run file.now unit.now run_file.now) t.status t.text.items) }
+    ensures promises { IfOk result (λ t. Promises (IsWhole (H.files shelf.old)) (Run file.now unit.now run_file.now) t.status t.text.items) }
     ensures refused { (r : Refusal) → IsErrOf result (Trouble.Refused r) → Refuses (IsWhole (H.files shelf.old)) (Run file.now unit.now run_file.now) r }
     ensures read { IsErrOf result Trouble.Read → Misses (H.files shelf.old) (Run file.now unit.now run_file.now) ⊎ Rose (H.faults shelf.old) (H.faults shelf.new) }
     ensures files { H.files shelf.new ≡ H.files shelf.old }
@@ -109,6 +122,58 @@ fn replay<H: Shelf>(
     replayed(alloc, &bytes, &run_bytes)
 }
 
+/// Reads a file and then a run file, and executes a method with a budget; where that is too great, nothing is read.
+fn execute<H: Shelf>(
+    alloc: Global,
+    shelf: &mut H,
+    file: &str,
+    method: &str,
+    run_file: &str,
+    budget: u32,
+) -> Result<Ending, Trouble>
+    ensures work { IfOk result (λ t. Does (IsWhole (H.files shelf.old)) (Execute file.now method.now run_file.now budget) t.status t.text.items) }
+    ensures refused { (r : Refusal) → IsErrOf result (Trouble.Refused r) → Refuses (IsWhole (H.files shelf.old)) (Execute file.now method.now run_file.now budget) r }
+    ensures read { IsErrOf result Trouble.Read → Misses (H.files shelf.old) (Execute file.now method.now run_file.now budget) ⊎ Rose (H.faults shelf.old) (H.faults shelf.new) }
+    ensures files { H.files shelf.new ≡ H.files shelf.old }
+{
+    if budget > MAX_EXECUTION_BUDGET {
+        return Err(Trouble::Refused(Refusal::Range));
+    }
+    execute_within(alloc, shelf, file, method, run_file, budget)
+}
+
+/// The same with a budget that is not too great.
+fn execute_within<H: Shelf>(
+    alloc: Global,
+    shelf: &mut H,
+    file: &str,
+    method: &str,
+    run_file: &str,
+    budget: u32,
+) -> Result<Ending, Trouble>
+    requires { budget ≤ max_execution_budget }
+    ensures work { IfOk result (λ t. Does (IsWhole (H.files shelf.old)) (Execute file.now method.now run_file.now budget) t.status t.text.items) }
+    ensures refused { (r : Refusal) → IsErrOf result (Trouble.Refused r) → Refuses (IsWhole (H.files shelf.old)) (Execute file.now method.now run_file.now budget) r }
+    ensures read { IsErrOf result Trouble.Read → Misses (H.files shelf.old) (Execute file.now method.now run_file.now budget) ⊎ Rose (H.faults shelf.old) (H.faults shelf.new) }
+    ensures files { H.files shelf.new ≡ H.files shelf.old }
+{
+    let text = read_file(alloc, shelf, file, MAX_VIPER_BYTES)?;
+    let run_text = read_run_file(alloc, shelf, run_file, MAX_VIPER_BYTES)?;
+    executed(alloc, &text, method, &run_text, budget)
+}
+
+/// Reads a file of Boogie with loops and calls, and writes it without them.
+fn cut<H: Shelf>(alloc: Global, shelf: &mut H, file: &str) -> Result<Ending, Trouble>
+    ensures work { IfOk result (λ t. Does (IsWhole (H.files shelf.old)) (Cut file.now) t.status t.text.items) }
+    ensures promises { IfOk result (λ t. Promises (IsWhole (H.files shelf.old)) (Cut file.now) t.status t.text.items) }
+    ensures refused { (r : Refusal) → IsErrOf result (Trouble.Refused r) → Refuses (IsWhole (H.files shelf.old)) (Cut file.now) r }
+    ensures read { IsErrOf result Trouble.Read → Misses (H.files shelf.old) (Cut file.now) ⊎ Rose (H.faults shelf.old) (H.faults shelf.new) }
+    ensures files { H.files shelf.new ≡ H.files shelf.old }
+{
+    let bytes = read_file(alloc, shelf, file, MAX_BOOGIE_BYTES)?;
+    without_loops(alloc, &bytes)
+}
+
 /// Reads a file of Boogie, and states the formula of one of its procedures and a label.
 fn condition<H: Shelf>(
     alloc: Global,
@@ -118,7 +183,7 @@ fn condition<H: Shelf>(
     label: Label,
 ) -> Result<Ending, Trouble>
     ensures work { IfOk result (λ t. Does (IsWhole (H.files shelf.old)) (Condition file.now procedure.now label) t.status t.text.items) }
-    ensures states { IfOk result (λ t. WritesCondition (IsWhole (H.files shelf.old)) (Condition file.now procedure.now label) t.text.items) }
+    ensures promises { IfOk result (λ t. Promises (IsWhole (H.files shelf.old)) (Condition file.now procedure.now label) t.status t.text.items) }
     ensures refused { (r : Refusal) → IsErrOf result (Trouble.Refused r) → Refuses (IsWhole (H.files shelf.old)) (Condition file.now procedure.now label) r }
     ensures read { IsErrOf result Trouble.Read → Misses (H.files shelf.old) (Condition file.now procedure.now label) ⊎ Rose (H.faults shelf.old) (H.faults shelf.new) }
     ensures files { H.files shelf.new ≡ H.files shelf.old }

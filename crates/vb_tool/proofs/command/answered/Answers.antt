@@ -49,12 +49,12 @@ returns-in-Err-Refused-clause-err g c =
     reported_err refused_line c.report-in-Err-Refused.ensures (refused (one_found (map string_bytes c.args.words.now) c.in-Ok-Some.field-0-is c.in-Ok-Some.ensures) (c.in-Err-Refused.ensures.refused c.in-Err-Refused.refusal (ap (λ e. Err e) c.in-Err-Refused.field-0-is)))
 
 pub returns-in-Ok-clause-causes : goal.returns-in-Ok-clause-causes
-returns-in-Ok-clause-causes g c = delivered_cause _ _ _ c.deliver.ensures (has_done (one_found (map string_bytes c.args.words.now) c.in-Ok-Some.field-0-is c.in-Ok-Some.ensures) c.in-Ok.ensures.work c.in-Ok.ensures.transfers c.in-Ok.ensures.states)
+returns-in-Ok-clause-causes g c = delivered_cause _ _ _ c.deliver.ensures (has_done (one_found (map string_bytes c.args.words.now) c.in-Ok-Some.field-0-is c.in-Ok-Some.ensures) c.in-Ok.ensures.work c.in-Ok.ensures.promises)
 
 pub returns-in-Ok-clause-out : goal.returns-in-Ok-clause-out
-returns-in-Ok-clause-out g c = delivered_out c.deliver.ensures (has_done (one_found (map string_bytes c.args.words.now) c.in-Ok-Some.field-0-is c.in-Ok-Some.ensures) c.in-Ok.ensures.work c.in-Ok.ensures.transfers c.in-Ok.ensures.states)
+returns-in-Ok-clause-out g c = delivered_out c.deliver.ensures (has_done (one_found (map string_bytes c.args.words.now) c.in-Ok-Some.field-0-is c.in-Ok-Some.ensures) c.in-Ok.ensures.work c.in-Ok.ensures.promises)
 
 pub returns-in-Ok-clause-err : goal.returns-in-Ok-clause-err
 returns-in-Ok-clause-err g c =
     delivered_err (g.E.Sink.written c.args.err.now) (IsCause (map string_bytes c.args.words.now) (g.H.Shelf.files c.args.shelf.now) (g.H.Shelf.faults c.args.shelf.now) (g.H.Shelf.faults c.work.new.shelf))
-    c.deliver.ensures (has_done (one_found (map string_bytes c.args.words.now) c.in-Ok-Some.field-0-is c.in-Ok-Some.ensures) c.in-Ok.ensures.work c.in-Ok.ensures.transfers c.in-Ok.ensures.states)
+    c.deliver.ensures (has_done (one_found (map string_bytes c.args.words.now) c.in-Ok-Some.field-0-is c.in-Ok-Some.ensures) c.in-Ok.ensures.work c.in-Ok.ensures.promises)

@@ -1,5 +1,5 @@
 use Rattle.enc_stmt.proofs.ProgramLaws.{translates}
-use Rattle.vb_tool.proofs.Answered.{usage_comes, missing_comes, refused_comes, does_comes, transfer_comes, statement_comes}
+use Rattle.vb_tool.proofs.Answered.{usage_comes, missing_comes, refused_comes, does_comes, transfer_comes, cut_comes, statement_comes}
 use Rattle.vb_tool.proofs.Verdicts.{accepted_formed}
 use Rattle.vb_tool.proofs.command.tool.Goals as goal
 
@@ -20,6 +20,9 @@ returns-clause-translates g c = λ bytes program accepted. translates program (a
 
 pub returns-clause-transfers : goal.returns-clause-transfers
 returns-clause-transfers g c = rw (← c.deref.ensures.value) (transfer_comes _ _ _ _ _ c.answered.ensures.out)
+
+pub returns-clause-cuts : goal.returns-clause-cuts
+returns-clause-cuts g c = rw (← c.deref.ensures.value) (cut_comes _ _ _ _ _ c.answered.ensures.out)
 
 pub returns-clause-states : goal.returns-clause-states
 returns-clause-states g c = rw (← c.deref.ensures.value) (statement_comes _ _ _ _ _ c.answered.ensures.out)

@@ -1,5 +1,6 @@
 use Rattle.vb_tool.proofs.BoogieVerdicts.{one_boogie, one_replay_answer}
 use Rattle.vb_tool.proofs.ConditionVerdicts.{one_condition_answer}
+use Rattle.vb_tool.proofs.ExecutionVerdicts.{one_execution_answer}
 use Rattle.vb_tool.proofs.RunVerdicts.{one_run_answer}
 use Rattle.vb_tool.proofs.Verdicts.{one_answer}
 use Rattle.vb_tool.proofs.laws.bytes_have_one_answer.Goals as goal
@@ -12,6 +13,9 @@ returns-clause-run c = one_run_answer
 
 pub returns-clause-replay : goal.returns-clause-replay
 returns-clause-replay c = one_replay_answer
+
+pub returns-clause-exec : goal.returns-clause-exec
+returns-clause-exec c = one_execution_answer
 
 pub returns-clause-vc : goal.returns-clause-vc
 returns-clause-vc c = one_condition_answer

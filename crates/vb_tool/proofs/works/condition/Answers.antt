@@ -2,7 +2,7 @@ use Rattle.std.proofs.Common.{◌∙◌, Err, ap, sym, subst}
 use Rattle.std.proofs.lemmas.Result.{err_from_is_err_and}
 use Rattle.vb_tool.specs.AcceptedCondition as accepted
 use Rattle.vb_tool.specs.Call as call
-use Rattle.vb_tool.proofs.CallLaws.{error_is, file_refusal, file_unread, first_missing, too_long, condition_result_does, condition_result_states}
+use Rattle.vb_tool.proofs.CallLaws.{error_is, file_refusal, file_unread, first_missing, too_long, condition_result_does, condition_result_promises}
 use Rattle.vb_tool.proofs.works.condition.Goals as goal
 
 pub returns-in_err-bytes-clause-refused : goal.returns-in_err-bytes-clause-refused
@@ -16,7 +16,7 @@ returns-in_err-bytes-clause-refused g c r is_r =
 pub returns-in_err-bytes-clause-read : goal.returns-in_err-bytes-clause-read
 returns-in_err-bytes-clause-read g c is_read =
     let p = err_from_is_err_and c.from_residual.result c.from_residual.ensures.1 in
-    first_missing (file_unread _ c.in_err-bytes.field-0.0 (λ failed. c.in_err-bytes.ensures.failed (ap (λ fault. Err fault) failed)) (sym p.2 ∙ error_is p.1 is_read))
+    first_missing tt (file_unread _ c.in_err-bytes.field-0.0 (λ failed. c.in_err-bytes.ensures.failed (ap (λ fault. Err fault) failed)) (sym p.2 ∙ error_is p.1 is_read))
 
 pub returns-clause-refused : goal.returns-clause-refused
 returns-clause-refused g c r is_r =
@@ -28,7 +28,7 @@ returns-clause-work g c =
     condition_result_does (g.H.Shelf.files c.args.shelf.now) c.args.file.now c.args.procedure.now c.in_ok-bytes.bytes.items c.args.label _ c.in_ok-bytes.ensures.whole
     (rw (← c.deref.ensures.value) c.stated.ensures.told)
 
-pub returns-clause-states : goal.returns-clause-states
-returns-clause-states g c =
-    condition_result_states (g.H.Shelf.files c.args.shelf.now) c.args.file.now c.args.procedure.now c.in_ok-bytes.bytes.items c.args.label _ c.in_ok-bytes.ensures.whole
+pub returns-clause-promises : goal.returns-clause-promises
+returns-clause-promises g c =
+    condition_result_promises (g.H.Shelf.files c.args.shelf.now) c.args.file.now c.args.procedure.now c.in_ok-bytes.bytes.items c.args.label _ c.in_ok-bytes.ensures.whole
     (rw (← c.deref.ensures.value) c.stated.ensures.told)

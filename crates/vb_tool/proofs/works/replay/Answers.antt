@@ -17,7 +17,7 @@ returns-in_err-bytes-clause-refused g c r is_r =
 pub returns-in_err-bytes-clause-read : goal.returns-in_err-bytes-clause-read
 returns-in_err-bytes-clause-read g c is_read =
     let p = err_from_is_err_and c.from_residual.result c.from_residual.ensures.1 in
-    first_missing (file_unread _ c.in_err-bytes.field-0.0 (λ failed. c.in_err-bytes.ensures.failed (ap (λ fault. Err fault) failed)) (sym p.2 ∙ error_is p.1 is_read))
+    first_missing tt (file_unread _ c.in_err-bytes.field-0.0 (λ failed. c.in_err-bytes.ensures.failed (ap (λ fault. Err fault) failed)) (sym p.2 ∙ error_is p.1 is_read))
 
 pub returns-in_err-run_bytes-clause-refused : goal.returns-in_err-run_bytes-clause-refused
 returns-in_err-run_bytes-clause-refused g c r is_r =
@@ -31,7 +31,7 @@ pub returns-in_err-run_bytes-clause-read : goal.returns-in_err-run_bytes-clause-
 returns-in_err-run_bytes-clause-read g c is_read =
     let p = err_from_is_err_and c.from_residual-in_err-run_bytes.result c.from_residual-in_err-run_bytes.ensures.1 in
     let files = g.H.Shelf.files c.args.shelf.now in
-    second_missing files c.args.file.now c.args.run_file.now c.in_ok-bytes.bytes.items 33554432 _ _ _ c.in_ok-bytes.ensures.whole c.in_ok-bytes.ensures.within c.in_ok-bytes.ensures.later
+    second_missing tt files c.args.file.now c.args.run_file.now c.in_ok-bytes.bytes.items 33554432 _ _ _ c.in_ok-bytes.ensures.whole c.in_ok-bytes.ensures.within c.in_ok-bytes.ensures.later
     (rw (← c.in_ok-bytes.ensures.same) (c.in_err-run_bytes.ensures.read (ap (λ t. Err t) (sym p.2 ∙ error_is p.1 is_read))))
 
 pub returns-clause-refused : goal.returns-clause-refused

@@ -3,7 +3,7 @@ use Rattle.std.proofs.lemmas.Result.{err_from_is_err_and}
 use Rattle.vb_tool.specs.Accepted as accepted
 use Rattle.vb_outer.specs.Shelf.{IsLonger, IsWhole}
 use Rattle.vb_tool.specs.Call as call
-use Rattle.vb_tool.proofs.CallLaws.{error_is, file_refusal, file_unread, first_missing, second_missing, too_long, run_too_long, run_result_does, run_result_transfers}
+use Rattle.vb_tool.proofs.CallLaws.{error_is, file_refusal, file_unread, first_missing, second_missing, too_long, run_too_long, run_result_does, run_result_promises}
 use Rattle.vb_tool.proofs.works.run.Goals as goal
 
 pub returns-in_err-bytes-clause-refused : goal.returns-in_err-bytes-clause-refused
@@ -17,7 +17,7 @@ returns-in_err-bytes-clause-refused g c r is_r =
 pub returns-in_err-bytes-clause-read : goal.returns-in_err-bytes-clause-read
 returns-in_err-bytes-clause-read g c is_read =
     let p = err_from_is_err_and c.from_residual.result c.from_residual.ensures.1 in
-    first_missing (file_unread _ c.in_err-bytes.field-0.0 (λ failed. c.in_err-bytes.ensures.failed (ap (λ fault. Err fault) failed)) (sym p.2 ∙ error_is p.1 is_read))
+    first_missing tt (file_unread _ c.in_err-bytes.field-0.0 (λ failed. c.in_err-bytes.ensures.failed (ap (λ fault. Err fault) failed)) (sym p.2 ∙ error_is p.1 is_read))
 
 pub returns-in_err-run_bytes-clause-refused : goal.returns-in_err-run_bytes-clause-refused
 returns-in_err-run_bytes-clause-refused g c r is_r =
@@ -31,7 +31,7 @@ pub returns-in_err-run_bytes-clause-read : goal.returns-in_err-run_bytes-clause-
 returns-in_err-run_bytes-clause-read g c is_read =
     let p = err_from_is_err_and c.from_residual-in_err-run_bytes.result c.from_residual-in_err-run_bytes.ensures.1 in
     let files = g.H.Shelf.files c.args.shelf.now in
-    second_missing files c.args.file.now c.args.run_file.now c.in_ok-bytes.bytes.items 1048576 _ _ _ c.in_ok-bytes.ensures.whole c.in_ok-bytes.ensures.within c.in_ok-bytes.ensures.later
+    second_missing tt files c.args.file.now c.args.run_file.now c.in_ok-bytes.bytes.items 1048576 _ _ _ c.in_ok-bytes.ensures.whole c.in_ok-bytes.ensures.within c.in_ok-bytes.ensures.later
     (rw (← c.in_ok-bytes.ensures.same) (c.in_err-run_bytes.ensures.read (ap (λ t. Err t) (sym p.2 ∙ error_is p.1 is_read))))
 
 pub returns-clause-refused : goal.returns-clause-refused
@@ -47,7 +47,7 @@ returns-clause-work g c = run_result_does _ _ _ _ _ _ _ c.in_ok-bytes.ensures.wh
     (subst (λ f. IsWhole f c.args.run_file.now c.in_ok-run_bytes.run_bytes.items) c.in_ok-bytes.ensures.same c.in_ok-run_bytes.ensures.whole)
     (rw (← c.deref.ensures.value, ← c.deref-2.ensures.value) c.outcome.ensures.told)
 
-pub returns-clause-transfers : goal.returns-clause-transfers
-returns-clause-transfers g c = run_result_transfers _ _ _ _ _ _ _ c.in_ok-bytes.ensures.whole
+pub returns-clause-promises : goal.returns-clause-promises
+returns-clause-promises g c = run_result_promises _ _ _ _ _ _ _ c.in_ok-bytes.ensures.whole
     (subst (λ f. IsWhole f c.args.run_file.now c.in_ok-run_bytes.run_bytes.items) c.in_ok-bytes.ensures.same c.in_ok-run_bytes.ensures.whole)
     (rw (← c.deref.ensures.value, ← c.deref-2.ensures.value) c.outcome.ensures.told)

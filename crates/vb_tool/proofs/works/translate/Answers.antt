@@ -16,7 +16,7 @@ returns-in_err-source-clause-refused g c r is_r =
 pub returns-in_err-source-clause-read : goal.returns-in_err-source-clause-read
 returns-in_err-source-clause-read g c is_read =
     let p = err_from_is_err_and c.from_residual.result c.from_residual.ensures.1 in
-    first_missing (file_unread _ c.in_err-source.field-0.0 (λ failed. c.in_err-source.ensures.failed (ap (λ fault. Err fault) failed)) (sym p.2 ∙ error_is p.1 is_read))
+    first_missing tt (file_unread _ c.in_err-source.field-0.0 (λ failed. c.in_err-source.ensures.failed (ap (λ fault. Err fault) failed)) (sym p.2 ∙ error_is p.1 is_read))
 
 pub returns-clause-refused : goal.returns-clause-refused
 returns-clause-refused g c r is_r =

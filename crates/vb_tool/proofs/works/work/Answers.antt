@@ -18,9 +18,17 @@ pub returns-in-Err-replay-clause-names : goal.returns-in-Err-replay-clause-names
 returns-in-Err-replay-clause-names g c is_read =
     names_first (command_of c.args.command) c.in-Replay.file.now (c.in-Replay.run_file.now ∷ []) (ap (λ d. files_of (command_of d)) c.in-Replay.is)
 
+pub returns-in-Err-execute-clause-names : goal.returns-in-Err-execute-clause-names
+returns-in-Err-execute-clause-names g c is_read =
+    names_first (command_of c.args.command) c.in-Execute.file.now (c.in-Execute.run_file.now ∷ []) (ap (λ d. files_of (command_of d)) c.in-Execute.is)
+
 pub returns-in-Err-condition-clause-names : goal.returns-in-Err-condition-clause-names
 returns-in-Err-condition-clause-names g c is_read =
     names_first (command_of c.args.command) c.in-Condition.file.now [] (ap (λ d. files_of (command_of d)) c.in-Condition.is)
+
+pub returns-in-Err-cut-clause-names : goal.returns-in-Err-cut-clause-names
+returns-in-Err-cut-clause-names g c is_read =
+    names_first (command_of c.args.command) c.in-Cut.file.now [] (ap (λ d. files_of (command_of d)) c.in-Cut.is)
 
 pub returns-in-Ok-summary-clause-work : goal.returns-in-Ok-summary-clause-work
 returns-in-Ok-summary-clause-work g c =

@@ -1,0 +1,68 @@
+-- What the stages of an execution refuse, and what they tell.
+use Rattle.std.proofs.Common.{◌≡◌, ◌∙◌, ◌≤◌, ℕ, List, length, Some, None, sym, ap, subst}
+use Rattle.vb_base.specs.declared.places.Pos.{Pos}
+use Rattle.viper_syntax.specs.Decl as d
+use Rattle.viper_syntax.specs.Lexed.{IsLexed}
+use Rattle.viper_syntax.specs.declared.tokens.Token.{Token}
+use Rattle.viper_grammar.specs.Spells.{Spells}
+use Rattle.viper_core.specs.Program as p
+use Rattle.viper_core.specs.Weight.{weight}
+use Rattle.viper_types.specs.Program.{IsProgram}
+use Rattle.viper_exec.specs.Unframed.{first_unframed}
+use Rattle.viper_exec.specs.Outcome.{end_of, EndsExecution}
+use Rattle.viper_exec.specs.declared.executions.Executed.{Executed}
+use Rattle.run_file.specs.Progress.{UnlessMemory}
+use Rattle.run_file.specs.Run.{GoesWrongAt}
+use Rattle.run_file.specs.declared.runs.RunFileFault.{RunFileFault}
+use Rattle.run_file.specs.declared.runs.RunFileFault.TheVariants as fault
+use Rattle.vb_tool.specs.Accepted.{IsAccepted}
+use Rattle.vb_tool.specs.AcceptedExecution.{IsFramed, IsUnframedRefusal, unframed, AcceptsExecution, IsExecutionRefusal, unread, no_method, run_syntax}
+use Rattle.vb_tool.specs.Converted.{trouble_of_run}
+use Rattle.vb_tool.specs.Executions.{body_named, MethodRun, execution_end, status_of, ended_text, execution_status, execution_text}
+use Rattle.vb_tool.specs.Parts.{ExecutionOf}
+use Rattle.vb_tool.specs.declared.status.Refusal.{Refusal}
+use Rattle.vb_tool.specs.declared.status.Refusal.TheVariants as refusal
+use Rattle.vb_tool.specs.declared.status.Status.{Status}
+use Rattle.vb_tool.specs.declared.trouble.Trouble.TheVariants as trouble
+
+pub text_refused : {bytes name run : List ℕ} {r : Refusal} → length bytes ≤ 1048576 → length run ≤ 1048576 → IsUnframedRefusal bytes r → IsExecutionRefusal bytes name run r
+text_refused small few is = unread small few is
+
+pub method_refused : (bytes name run : List ℕ) (q : p.Program) (r : Refusal) → IsFramed bytes q → length run ≤ 1048576 → body_named q name ≡ None →
+    trouble.Refused refusal.NoUnit ≡ trouble.Refused r → IsExecutionRefusal bytes name run r
+method_refused bytes name run q r is few none is_r =
+    let same : refusal.NoUnit ≡ r = cc in
+    subst (IsExecutionRefusal bytes name run) same (no_method is few none)
+
+pub run_refused : (bytes name run : List ℕ) (q : p.Program) (n : ℕ) (f : RunFileFault) (r : Refusal) → IsFramed bytes q → length run ≤ 1048576 → body_named q name ≡ Some n →
+    UnlessMemory (GoesWrongAt run q n) f → trouble_of_run f ≡ trouble.Refused r → IsExecutionRefusal bytes name run r
+run_refused bytes name run q n fault.Memory r is few named wrong is_r = absurd (cc)
+run_refused bytes name run q n (fault.Syntax at) r is few named wrong is_r =
+    let same : refusal.RunSyntax at ≡ r = cc in
+    subst (IsExecutionRefusal bytes name run) same (run_syntax is few named wrong)
+
+pub execution_is : (bytes name run : List ℕ) (u : MethodRun) (n : ℕ) (s : Status) (text : List ℕ) (x : Executed) → AcceptsExecution bytes name run u →
+    EndsExecution (λ k. execution_end k u) n x → s ≡ status_of x.end → text ≡ ended_text x.end x.unused → ExecutionOf bytes name run n s text
+execution_is bytes name run u n s text x accepts ends is_s is_text = record {
+  run = u;
+  accepted = accepts;
+  status_is = is_s ∙ ap status_of ends.end ∙ sym (ap execution_status ends.runs);
+  text_is = is_text ∙ ap (λ e. ended_text e x.unused) ends.end ∙ ap (λ k. ended_text (end_of ends.step) k) ends.unused ∙ sym (ap execution_text ends.runs);
+}
+
+-- ---- the text
+
+abbrev accepts : (bytes : List ℕ) (tokens : List Token) (source : d.SourceProgram) (q : p.Program) → length bytes ≤ 1048576 → IsLexed bytes tokens → Spells tokens source →
+    IsProgram source q × (weight q ≤ 100000) → IsAccepted bytes q
+accepts bytes tokens source q small lexed spelled typed =
+    record { small = small; tokens = tokens; lexed = lexed; source = source; spelled = spelled; is_typed = typed.0; light = typed.1 }
+
+pub framed_is : (bytes : List ℕ) (tokens : List Token) (source : d.SourceProgram) (q : p.Program) → length bytes ≤ 1048576 → IsLexed bytes tokens → Spells tokens source →
+    IsProgram source q × (weight q ≤ 100000) → first_unframed tokens ≡ None → IsFramed bytes q
+framed_is bytes tokens source q small lexed spelled typed none = record { accepted = accepts bytes tokens source q small lexed spelled typed; framed = none }
+
+pub unframed_refused : (bytes : List ℕ) (tokens : List Token) (source : d.SourceProgram) (q : p.Program) (at : Pos) (r : Refusal) → length bytes ≤ 1048576 → IsLexed bytes tokens →
+    Spells tokens source → IsProgram source q × (weight q ≤ 100000) → first_unframed tokens ≡ Some at → trouble.Refused (refusal.Unframed at) ≡ trouble.Refused r → IsUnframedRefusal bytes r
+unframed_refused bytes tokens source q at r small lexed spelled typed there is_r =
+    let same : refusal.Unframed at ≡ r = cc in
+    subst (IsUnframedRefusal bytes) same (unframed (accepts bytes tokens source q small lexed spelled typed) there)

@@ -1,0 +1,46 @@
+// Programs of Boogie with loops and calls, and what is written for them.
+ghost use Rattle.std.specs.Prelude.{◌≡◌, ◌≤◌, length, IfOk, IsErrOf};
+ghost use Rattle.vb_base.specs.Limits.{max_boogie_bytes};
+ghost use Rattle.boogie_wide.specs.View.{wprogram_of};
+ghost use Rattle.vb_tool.specs.AcceptedCut.{AcceptsCut, IsWideRefusal, IsCutRefusal};
+ghost use Rattle.vb_tool.specs.Parts.{CutOf};
+
+use crate::outcome::Ending;
+use crate::status::{Refusal, Status};
+use crate::trouble::Trouble;
+use boogie_cut::cut;
+use boogie_text::print;
+use boogie_wide::WProgram;
+use boogie_wide_types::check_wide;
+use std::alloc::Global;
+use wide_text::read_wide;
+
+/// The well-typed program of a file.
+fn wide_program(alloc: Global, bytes: &[u8]) -> Result<WProgram, Trouble>
+    requires { length bytes.now ≤ max_boogie_bytes }
+    ensures accepted { IfOk result (λ p. AcceptsCut bytes.now (wprogram_of p)) }
+    ensures refused { (r : Refusal) → IsErrOf result (Trouble.Refused r) → IsWideRefusal bytes.now r }
+    ensures read { IsErrOf result Trouble.Read → ⊥ }
+{
+    let program = read_wide(alloc, bytes)?;
+    match check_wide(&program) {
+        Ok(()) => Ok(program),
+        Err(number) => Err(Trouble::Refused(Refusal::BoogieType(number))),
+    }
+}
+
+/// The text of the program without loops and calls that is written for the program of a file.
+pub fn without_loops(alloc: Global, bytes: &[u8]) -> Result<Ending, Trouble>
+    requires { length bytes.now ≤ max_boogie_bytes }
+    ensures told { IfOk result (λ t. CutOf bytes.now t.status t.text.items) }
+    ensures refused { (r : Refusal) → IsErrOf result (Trouble.Refused r) → IsCutRefusal bytes.now r }
+    ensures read { IsErrOf result Trouble.Read → ⊥ }
+{
+    let program = wide_program(alloc, bytes)?;
+    let written = cut(alloc, &program)?;
+    let text = print(alloc, &written)?;
+    Ok(Ending {
+        status: Status::Done,
+        text,
+    })
+}
