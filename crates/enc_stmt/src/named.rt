@@ -40,7 +40,7 @@ fn named_map(map: &Sparse<Key, BScalar>)
 {
     for i in 0..map.len() {
         let key = map.key_at(i);
-        named_key(&key.parts);
+        named_key(key.parts());
         named_scalar(map.get(key));
     }
 }

@@ -155,27 +155,24 @@ fn put(map: &mut Sparse<Key, BScalar>, key: Key, value: BScalar) -> Result<(), M
 }
 
 /// A reference as a key of a heap.
-fn place_key(alloc: Global, reference: u64) -> Result<Key, Memory>
-    ensures { IfOk result (λ key. key ≡ k.place_key reference) }
+fn place_key(reference: u64) -> Key
+    ensures { result ≡ k.place_key reference }
 {
-    let parts = vec![in alloc; KeyPart::Ref(reference)]?;
-    Ok(Key { parts })
+    Key::of_one(KeyPart::Ref(reference))
 }
 
 /// The arguments of an instance as a key of contents: 0 where there are none.
-fn instance_key(alloc: Global, arguments: &Key) -> Result<Key, Memory>
+fn instance_key(arguments: &Key) -> Result<Key, Memory>
     ensures { IfOk result (λ key. key ≡ k.instance_key arguments.now) }
 {
-    if arguments.parts.is_empty() {
-        let parts = vec![in alloc; KeyPart::Int(0)]?;
-        return Ok(Key { parts });
+    if arguments.parts().is_empty() {
+        return Ok(Key::of_one(KeyPart::Int(0)));
     }
     Ok(arguments.clone()?)
 }
 
 /// Puts the entry of this index of a heap into a map.
 fn put_place(
-    alloc: Global,
     heap: &Sparse<u64, Value>,
     i: usize,
     map: &mut Sparse<Key, BScalar>,
@@ -185,8 +182,7 @@ fn put_place(
         ≡ filled (map_of map.new) (entries_from (heap_image heap.now) (i + 1))) }
 {
     let reference = *heap.key_at(i);
-    let key = place_key(alloc, reference)?;
-    put(map, key, scalar(*heap.get(&reference)))
+    put(map, place_key(reference), scalar(*heap.get(&reference)))
 }
 
 /// A heap as a map of Boogie.
@@ -196,14 +192,13 @@ fn heap_map(alloc: Global, heap: &Sparse<u64, Value>) -> Result<Sparse<Key, BSca
 {
     let mut map = unfilled(alloc, scalar(*heap.default()))?;
     for i in 0..heap.len() {
-        put_place(alloc, heap, i, &mut map)?;
+        put_place(heap, i, &mut map)?;
     }
     Ok(map)
 }
 
 /// Puts the entry of this index of contents into a map.
 fn put_instance(
-    alloc: Global,
     contents: &Sparse<Key, Content>,
     i: usize,
     map: &mut Sparse<Key, BScalar>,
@@ -214,7 +209,7 @@ fn put_instance(
 {
     let arguments = contents.key_at(i);
     let content = contents.get(arguments).clone()?;
-    let key = instance_key(alloc, arguments)?;
+    let key = instance_key(arguments)?;
     put(map, key, BScalar::Snap(content))
 }
 
@@ -229,7 +224,7 @@ fn content_map(
     let zero = BScalar::Snap(contents.default().clone()?);
     let mut map = unfilled(alloc, zero)?;
     for i in 0..contents.len() {
-        put_instance(alloc, contents, i, &mut map)?;
+        put_instance(contents, i, &mut map)?;
     }
     Ok(map)
 }

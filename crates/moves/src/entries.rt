@@ -26,20 +26,18 @@ pub fn scalar(value: Value) -> BScalar
 }
 
 /// A reference as a key of a heap.
-fn place_key(alloc: Global, reference: u64) -> Result<Key, Memory>
-    ensures { IfOk result (λ key. key ≡ k.place_key reference) }
+fn place_key(reference: u64) -> Key
+    ensures { result ≡ k.place_key reference }
 {
-    let parts = vec![in alloc; KeyPart::Ref(reference)]?;
-    Ok(Key { parts })
+    Key::of_one(KeyPart::Ref(reference))
 }
 
 /// The arguments of an instance as a key of contents: 0 where there are none.
-fn instance_key(alloc: Global, arguments: &Key) -> Result<Key, Memory>
+fn instance_key(arguments: &Key) -> Result<Key, Memory>
     ensures { IfOk result (λ key. key ≡ k.instance_key arguments.now) }
 {
-    if arguments.parts.is_empty() {
-        let parts = vec![in alloc; KeyPart::Int(0)]?;
-        return Ok(Key { parts });
+    if arguments.parts().is_empty() {
+        return Ok(Key::of_one(KeyPart::Int(0)));
     }
     Ok(arguments.clone()?)
 }
@@ -52,7 +50,7 @@ pub(crate) fn heap_entries(alloc: Global, heap: &Sparse<u64, Value>) -> Result<V
     for i in 0..heap.len() {
         let reference = *heap.key_at(i);
         entries.push(Entry {
-            key: place_key(alloc, reference)?,
+            key: place_key(reference),
             value: scalar(*heap.get(&reference)),
         })?;
     }
@@ -70,7 +68,7 @@ pub(crate) fn content_entries(
     for i in 0..contents.len() {
         let arguments = contents.key_at(i);
         entries.push(Entry {
-            key: instance_key(alloc, arguments)?,
+            key: instance_key(arguments)?,
             value: BScalar::Snap(contents.get(arguments).clone()?),
         })?;
     }

@@ -36,7 +36,7 @@ fn named_entries(entries: &[Entry])
 fn named_entry(entry: &Entry)
     ensures { IsNamedEntry (entry_of entry.now) }
 {
-    named_key(&entry.key.parts);
+    named_key(entry.key.parts());
     named_scalar(&entry.value);
 }
 

@@ -202,7 +202,7 @@ fn put_place(alloc: Global, out: &mut Vec<u8>, key: &Key, value: &BScalar) -> Re
     ensures named { OnOk result (IsNamedKey key.now × IsNamedScalar (scalar_of value.now)) }
 {
     put(out, b"at ")?;
-    put_key(alloc, out, &key.parts)?;
+    put_key(alloc, out, key.parts())?;
     put_scalar(alloc, out, value)?;
     put(out, b"\n")
 }

@@ -66,11 +66,9 @@ pub(crate) fn entry(alloc: Global, words: &[u8]) -> Result<Option<Entry>, Memory
     if parts.is_empty() {
         return Ok(None);
     }
+    let key = Key::new(parts);
     match scalar(alloc, rest)? {
-        Some(value) => Ok(Some(Entry {
-            key: Key { parts },
-            value,
-        })),
+        Some(value) => Ok(Some(Entry { key, value })),
         None => Ok(None),
     }
 }
@@ -112,5 +110,5 @@ pub(crate) fn is_default(value: &BScalar) -> bool
 pub(crate) fn fits_entry(ty: &BType, entry: &Entry) -> bool
     ensures { result ≡ fits_entry (record { keys = ty.now.keys.items; base = ty.now.base }) (entry_of entry.now) }
 {
-    fits_key(&ty.keys, &entry.key.parts) && has_base(&entry.value, ty.base)
+    fits_key(&ty.keys, entry.key.parts()) && has_base(&entry.value, ty.base)
 }

@@ -34,7 +34,7 @@ pub(crate) fn key<'a>(
         parts.push(part)?;
         rest = after;
     }
-    Ok(Some((Key { parts }, rest)))
+    Ok(Some((Key::new(parts), rest)))
 }
 
 /// The argument of this type with which the words of a line begin, and the rest of the line.

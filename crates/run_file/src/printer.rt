@@ -204,7 +204,7 @@ fn put_instance(
     put(out, b"content ")?;
     put(out, &name.bytes)?;
     put(out, b" ")?;
-    put_key(alloc, out, &key.parts)?;
+    put_key(alloc, out, key.parts())?;
     put_content(alloc, out, content)?;
     put(out, b"\n")
 }

@@ -5,6 +5,7 @@ pub mod Euclid
 pub mod Value
 pub mod Layout
 pub mod Key
+pub mod KeyParts
 pub mod Content
 pub mod View
 pub mod KeyOrder

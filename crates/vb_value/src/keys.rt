@@ -1,6 +1,6 @@
 //! The keys of instances: lists of arguments.
 
-ghost use Rattle.std.specs.Prelude.{◌≡◌};
+ghost use Rattle.std.specs.Prelude.{◌≡◌, ◌∷◌, []};
 ghost use Rattle.std.specs.Cmp.{partial_order_from_agreeing_total, partial_equiv_from_equiv, eq_by_cmp_equiv};
 ghost use Rattle.std.specs.Ordering.{as_partial_cmp, eq_by_cmp};
 ghost use Rattle.std.proofs.Common.{refl};
@@ -10,6 +10,7 @@ ghost use Rattle.vb_value.specs.KeyOrder.{key_cmp_total};
 use std::alloc::AllocError;
 use std::cmp::Ordering;
 use std::marker::Model;
+use std::slice;
 
 /// An argument of a predicate. Ints and Refs are in the order of numbers, false is before true, and
 /// parts of different variants are in the order of the variants.
@@ -24,7 +25,14 @@ pub enum KeyPart {
 /// on, and a list is before its extensions.
 #[derive(Debug, Drop)]
 pub struct Key {
-    pub parts: Vec<KeyPart>,
+    parts: Parts,
+}
+
+/// Nearly all keys have one part, which stands in the key itself and takes no memory of its own.
+#[derive(Debug, Drop)]
+enum Parts {
+    One(KeyPart),
+    Listed(Vec<KeyPart>),
 }
 
 impl Model for Key {
@@ -33,15 +41,54 @@ impl Model for Key {
 
     ghost Value = { List KeyPart };
 
-    ghost view = { λ k. k.parts.items };
+    ghost use Rattle.vb_value.specs.KeyParts.{list_of};
+
+    ghost view = { λ k. list_of k.parts };
+}
+
+impl Key {
+    /// The key of these parts. Where there is one, their memory is given back.
+    pub fn new(parts: Vec<KeyPart>) -> Key
+        ensures { result ≡ parts.items }
+    {
+        if parts.len() == 1 {
+            return Key::of_one(parts[0]);
+        }
+        Key {
+            parts: Parts::Listed(parts),
+        }
+    }
+
+    /// The key of one part. It takes no memory.
+    pub fn of_one(part: KeyPart) -> Key
+        ensures { result ≡ part ∷ [] }
+    {
+        Key {
+            parts: Parts::One(part),
+        }
+    }
+
+    /// The parts from the first on.
+    pub fn parts(&self) -> &[KeyPart]
+        ensures { result.now ≡ self.now }
+    {
+        match &self.parts {
+            Parts::One(part) => slice::from_ref(part),
+            Parts::Listed(parts) => parts,
+        }
+    }
 }
 
 impl Clone for Key {
     ghost is_clone = { λ x y. y ≡ x };
 
     fn clone(&self) -> Result<Key, AllocError> {
-        let parts = self.parts.clone()?;
-        Ok(Key { parts })
+        match &self.parts {
+            Parts::One(part) => Ok(Key::of_one(*part)),
+            Parts::Listed(parts) => Ok(Key {
+                parts: Parts::Listed(parts.clone()?),
+            }),
+        }
     }
 }
 
@@ -79,6 +126,9 @@ impl Ord for Key {
     ghost matches_eq = { λ _ _. refl };
 
     fn cmp(&self, other: &Key) -> Ordering {
-        self.parts.cmp(&other.parts)
+        match (&self.parts, &other.parts) {
+            (Parts::One(part), Parts::One(other_part)) => part.cmp(other_part),
+            _ => self.parts().cmp(other.parts()),
+        }
     }
 }

@@ -1,5 +1,5 @@
 -- Keys that are made part by part, and the same steps with what was put together for a call.
-use Rattle.std.proofs.Common.{◌≡◌, refl, sym, ap, ◌∙◌, ℕ, Option, Some, None, List, [], ◌∷◌, ◌++◌, append_assoc, Result}
+use Rattle.std.proofs.Common.{◌≡◌, refl, sym, ap, ◌∙◌, ℕ, ◌<◌, ◌≤◌, length, get_or, Option, Some, None, List, [], ◌∷◌, ◌++◌, append_assoc, Result, arith}
 use Rattle.std.specs.Option.{option_map}
 use Rattle.std.proofs.lemmas.List.{append-nil}
 use Rattle.vb_base.specs.declared.places.Pos.{Pos}
@@ -47,6 +47,32 @@ key_goes vs rest v parts part e h = e ∙ front (key_part v) (key_of rest) parts
 
 pub key_ends : (vs : List Value) (parts : Key) → key_of vs ≡ option_map (λ rest. parts ++ rest) (key_of []) → is parts ≡ found (key_of vs)
 key_ends vs parts e = ap is (sym (append-nil parts)) ∙ ap found (sym e)
+
+one_front : (o : Option KeyPart) (part : KeyPart) → is part ≡ found o → is (part ∷ []) ≡ found (in_front o (Some []))
+one_front (Some x) part h =
+    let same : x ≡ part = cc in
+    ap (λ y. is (y ∷ [])) (sym same)
+one_front None part h = cc
+
+no_one_front : (o : Option KeyPart) (w : Stop) → ends [] (stopped w) ≡ found o → ends [] (stopped w) ≡ found (in_front o (Some []))
+no_one_front (Some x) (stop.Fails l) h = cc
+no_one_front (Some x) stop.Blocked h = cc
+no_one_front (Some x) (stop.Over at) h = cc
+no_one_front None (stop.Fails l) h = cc
+no_one_front None stop.Blocked h = refl
+no_one_front None (stop.Over at) h = cc
+
+-- the key of one value
+pub one_goes : (v : Value) (part : KeyPart) → is part ≡ found (key_part v) → is (part ∷ []) ≡ found (key_of (v ∷ []))
+one_goes v part h = one_front (key_part v) part h
+
+pub one_stops : (v : Value) (w : Stop) → ends [] (stopped w) ≡ found (key_part v) → ends [] (stopped w) ≡ found (key_of (v ∷ []))
+one_stops v w h = no_one_front (key_part v) w h
+
+pub alone : (vs : List Value) (v : Value) → 1 ≤ length vs → length vs < 2 → v ≡ get_or vs 0 v → v ∷ [] ≡ vs
+alone [] v some few is = absurd (omega (arith, some))
+alone (x ∷ []) v some few is = ap (λ y. y ∷ []) is
+alone (x ∷ y ∷ vs) v some few is = absurd (omega (arith, few))
 
 -- ---- the same with what was put together for the call
 

@@ -1,5 +1,5 @@
 // Reading a place, taking from an instance, and filling both from a content.
-ghost use Rattle.std.specs.Prelude.{◌≡◌, []};
+ghost use Rattle.std.specs.Prelude.{◌≡◌, [], ◌∷◌};
 ghost use Rattle.vb_value.specs.Bound.{Bounded};
 ghost use Rattle.vb_value.specs.Content as tree;
 ghost use Rattle.vb_value.specs.Value.{type_of, value_eq, same_type};
@@ -125,15 +125,25 @@ impl Share {
     }
 }
 
+/// The argument of an instance that has one.
+fn key_of_one(value: Value) -> Result<Key, Stop>
+    ensures { ended result ≡ found (p.key_of (value ∷ [])) }
+{
+    Ok(Key::of_one(key_part(value)?))
+}
+
 /// The arguments of an instance.
 pub fn key_of(alloc: Global, values: &[Value]) -> Result<Key, Halt>
     ensures { Answers (λ key. key) [] (found (p.key_of values.now)) [] result }
 {
+    if let [argument] = values {
+        return Ok(key_of_one(*argument)?);
+    }
     let mut parts = Vec::with_capacity(alloc, values.len())?;
     for value in values {
         parts.push(key_part(*value)?)?;
     }
-    Ok(Key { parts })
+    Ok(Key::new(parts))
 }
 
 /// Takes so much of an instance.

@@ -11,5 +11,5 @@ pub returns : goal.returns
 returns c =
     on_ok_weaker c.put.result
     (λ is. put_place c.args.heap.now c.args.i c.key_at.result.now c.get.result.now (map_of c.args.map.now) (map_of c.put.new.map) c.get.ensures.reduced c.key_at.ensures.key c.get.ensures.value
-    (is ∙ (λ j. set key_cmp same_scalar (map_of c.args.map.now) (c.in_ok-key.ensures j) (c.scalar.ensures j))))
+    (is ∙ (λ j. set key_cmp same_scalar (map_of c.args.map.now) (c.place_key.ensures j) (c.scalar.ensures j))))
     c.put.ensures
