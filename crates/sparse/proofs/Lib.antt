@@ -4,3 +4,5 @@ pub mod MapLaws
 pub mod Turns
 pub mod MeaningLaws
 pub mod Rows
+pub mod Halves
+pub mod Ends

@@ -1,3 +1,4 @@
 pub mod Map
 pub mod Meaning
 pub mod Tree
+pub mod Filled

@@ -1,7 +1,8 @@
 -- Balanced search trees (Adelson-Velsky and Landis, An algorithm for the organization of information, 1962).
-use Rattle.std.specs.Prelude.{◌≡◌, ℕ, ◌+◌, ◌≤◌, max, List, [], ◌∷◌, ◌++◌, length}
+use Rattle.std.specs.Prelude.{◌≡◌, ℕ, ◌+◌, ◌*◌, ◌^◌, ◌<◌, ◌≤◌, max, List, [], ◌∷◌, ◌++◌, length, map}
 use Rattle.std.specs.Ordering.{match_ordering}
 use Rattle.std.specs.declared.cmp.Ordering.{Ordering}
+use Rattle.std.specs.declared.rc.Rc.{Rc}
 use Rattle.sparse.specs.declared.tree.Tree.{Tree, Leaf, Fork'}
 
 -- a tree without its pointers: a node has its left side, its entry, its right side, and the height and the number of entries that it keeps
@@ -62,6 +63,17 @@ module _ {K V : Type 0} where
     pub entries_are : entries t ≡ e ∷ entries u
     pub not_higher : height u ≤ height t
     pub at_most_one_lower : height t ≤ height u + 1
+
+  -- what is shared in a list
+  abbrev pub shared : {Z : Type 0} → List (Rc (K × V) Z) → List (K × V)
+  shared {Z} list = map (λ (e : Rc (K × V) Z). e.value) list
+
+  -- t is balanced and has the entries es, and no tree of so many entries is lower
+  pub record IsLowest (es : List (K × V)) (t : Plain K V) : Type 0 where
+    pub balanced : IsBalanced t
+    pub entries_are : entries t ≡ es
+    pub has_room : length es < 2 ^ height t
+    pub not_higher : 2 ^ height t ≤ max 1 (2 * length es)
 
   -- the entries es, with e in the place of an entry with an equal key, or else where it keeps the keys in order
   abbrev pub put_entry : (K → K → Ordering) → List (K × V) → K × V → List (K × V)

@@ -3,9 +3,11 @@
 
 ghost use Rattle.std.specs.Prelude.{◌≡◌, ◌<◌, length, slice_get, IfOk, OnOk, OnErr};
 
+mod builder;
 pub mod laws;
 mod tree;
 
+pub use builder::Builder;
 use std::alloc::{AllocError, AllocFailed, Global};
 use std::marker::Model;
 use tree::Tree;
@@ -56,7 +58,8 @@ impl<K: Ord + Clone, V: Eq + Clone> Model for Sparse<K, V> {
 }
 
 impl<K: Ord + Clone, V: Eq + Clone> Sparse<K, V> {
-    ghost use Rattle.sparse.specs.Map.{empty, get, set, keys, borrowed, IsReduced, IsSame, ClonesAreEqual};
+    ghost use Rattle.std.specs.List.{list_any};
+    ghost use Rattle.sparse.specs.Map.{empty, get, set, keys, values, borrowed, IsReduced, IsSame, ClonesAreEqual};
 
     /// The map in which every key has the default `zero`.
     pub fn make(alloc: Global, zero: V) -> Result<Sparse<K, V>, Memory>
@@ -129,6 +132,14 @@ impl<K: Ord + Clone, V: Eq + Clone> Sparse<K, V> {
         ensures reduced { IsReduced K.cmp V.eq self.now }
     {
         self.root.key_at(i)
+    }
+
+    /// Whether one of the keys that have another value than the default has this value.
+    pub fn has(&self, value: &V) -> bool
+        ensures has { result ≡ list_any (λ w. V.eq w value.now) (values self.now) }
+        ensures reduced { IsReduced K.cmp V.eq self.now }
+    {
+        self.root.has(value)
     }
 
     /// The keys that have another value than the default, in ascending order, each with its value.

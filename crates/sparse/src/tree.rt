@@ -4,7 +4,7 @@ ghost use Rattle.std.specs.BTreeMap.{is_at};
 ghost use Rattle.std.specs.List.Sorted.{IsStrictlySortedBy};
 ghost use Rattle.std.specs.Map.{keys_of, lookup, remove_entry};
 ghost use Rattle.sparse.specs.Map.{borrowed};
-ghost use Rattle.sparse.specs.Tree.{Bare, plain_of, entries, height, DifferByAtMost, IsBalanced, node, IsGrown, IsJoined, IsShrunk, IsSplit, put_entry};
+ghost use Rattle.sparse.specs.Tree.{Bare, plain_of, entries, height, DifferByAtMost, IsBalanced, node, IsGrown, IsJoined, IsShrunk, IsSplit, IsLowest, shared, put_entry};
 
 use crate::Memory;
 use std::alloc::Global;
@@ -74,6 +74,18 @@ impl<K: Drop, V: Drop> Tree<K, V> {
         node.left.list(all)?;
         all.push(&*node.entry)?;
         node.right.list(all)
+    }
+
+    /// Adds the entries to a list that shares them, from left to right.
+    pub(crate) fn list_shared(&self, all: &mut Vec<Rc<(K, V)>>) -> Result<(), Memory>
+        ensures { OnOk result (shared all.new.items ≡ shared all.old.items ++ entries (plain_of self.now)) }
+    {
+        let Tree::Fork(node) = self else {
+            return Ok(());
+        };
+        node.left.list_shared(all)?;
+        all.push(node.entry.clone()?)?;
+        node.right.list_shared(all)
     }
 }
 
@@ -226,6 +238,21 @@ fn joined<K: Drop, V: Drop>(
     }
 }
 
+impl<K: Drop, V: Drop> Tree<K, V> {
+    /// The tree of a list of entries, by halves: as low as a tree of so many entries can be.
+    pub(crate) fn by_halves(alloc: Global, list: &[Rc<(K, V)>]) -> Result<Tree<K, V>, Memory>
+        ensures lowest { IfOk result (λ t. IsLowest (shared list.now) (plain_of t)) }
+    {
+        if list.is_empty() {
+            return Ok(Tree::Leaf);
+        }
+        let middle = list.len() / 2;
+        let left = Tree::by_halves(alloc, &list[..middle])?;
+        let right = Tree::by_halves(alloc, &list[middle + 1..])?;
+        fork(alloc, &left, &list[middle], &right)
+    }
+}
+
 impl<K: Ord + Drop, V: Drop> Tree<K, V> {
     /// The value of the entry with a key, or else `other`.
     pub(crate) fn get_or<'a>(&'a self, key: &K, other: &'a V) -> &'a V
@@ -305,7 +332,19 @@ impl<K: Ord + Drop, V: Drop> Tree<K, V> {
 }
 
 impl<K: Ord + Drop, V: Eq + Drop> Tree<K, V> {
+    ghost use Rattle.std.specs.List.{list_any};
+    ghost use Rattle.std.specs.Map.{values_of};
     ghost use Rattle.sparse.specs.Map.{set, IsSame};
+
+    /// Whether an entry has this value.
+    pub(crate) fn has(&self, value: &V) -> bool
+        ensures { result ≡ list_any (λ w. V.eq w value.now) (values_of (entries (plain_of self.now))) }
+    {
+        let Tree::Fork(node) = self else {
+            return false;
+        };
+        node.left.has(value) || node.entry.1 == *value || node.right.has(value)
+    }
 
     /// The tree of the map in which a key has a value, in a map whose default is `zero`.
     pub(crate) fn changed(

@@ -1,15 +1,18 @@
 -- Fields that are written, and references that are looked for.
-use Rattle.std.proofs.Common.{arith, ap, ◌≡◌, ◌∙◌, sym, refl, ℕ, zero, suc, ◌+◌, ◌≤◌, min, length, drop, Bool, true, false, Option, Some, None, List, [], ◌∷◌, not, slice_get}
+use Rattle.std.proofs.Common.{arith, ap, ◌≡◌, ◌∙◌, sym, refl, ℕ, zero, suc, ◌+◌, ◌≤◌, min, length, drop, Bool, true, false, Option, Some, None, List, [], ◌∷◌, not, slice_get, cond, unwrap_or}
 use Rattle.std.specs.Prelude.{⊤, ◌==◌, ◌||◌, if◌then◌else◌}
 use Rattle.std.specs.List.{list_any}
 use Rattle.std.proofs.Math.Seq.{drop-nil}
 use Rattle.std.proofs.lemmas.Option.{slice_get_within, get_or_from_slice_get}
-use Rattle.sparse.specs.Map.{Map}
+use Rattle.std.specs.BTreeMap.{is_at}
+use Rattle.std.specs.Map.{values_of, lookup}
+use Rattle.std.specs.Ordering.{nat_cmp}
+use Rattle.sparse.specs.Map.{Map, get, values}
 use Rattle.vb_base.specs.declared.labels.Label.{Label}
 use Rattle.vb_base.specs.declared.labels.Kind.TheVariants as kind
 use Rattle.vb_base.specs.declared.places.Pos.{Pos}
 use Rattle.vb_value.specs.Fraction.{Fraction, write}
-use Rattle.vb_value.specs.Value.{fraction_eq}
+use Rattle.vb_value.specs.Value.{fraction_eq, value_eq}
 use Rattle.vb_value.specs.declared.values.Ty.{Ty}
 use Rattle.vb_value.specs.declared.values.Value.{Value}
 use Rattle.vb_value.specs.declared.values.Value.TheVariants as v
@@ -100,3 +103,26 @@ module _ (us : List Ty) (x : ℕ) (fields : List ℕ) (c : Configuration) where
 
   abbrev pub object_begun : List ℕ → ℕ → Run Configuration
   object_begun refs r = if is_fresh r refs c then object_made r else ended blocks
+
+-- ---- a value that a map has nowhere is not found at any key
+
+module _ (w : Value) where
+  elsewhere : (b t : Bool) (u : Value) (rest : Option Value) (d : Value) → (value_eq u w || t) ≡ false → (t ≡ false → value_eq (unwrap_or rest d) w ≡ false) → value_eq (unwrap_or (cond b (Some u) rest) d) w ≡ false
+  elsewhere true t u rest d h later = first (value_eq u w) h
+    where
+      first : (e : Bool) → (e || t) ≡ false → e ≡ false
+      first true h = h
+      first false h = refl
+  elsewhere false t u rest d h later = later (second (value_eq u w) h)
+    where
+      second : (e : Bool) → (e || t) ≡ false → t ≡ false
+      second true h = absurd (cc)
+      second false h = h
+
+  not_looked_up : (test : ℕ → Bool) (es : List (ℕ × Value)) (d : Value) → value_eq d w ≡ false → list_any (λ u. value_eq u w) (values_of es) ≡ false → value_eq (unwrap_or (lookup test es) d) w ≡ false
+  not_looked_up test [] d h none = h
+  not_looked_up test (e ∷ es) d h none = elsewhere (test e.0) (list_any (λ u. value_eq u w) (values_of es)) e.1 (lookup test es) d none (not_looked_up test es d h)
+
+  pub nowhere : (m : Map ℕ Value) → value_eq m.default w ≡ false → list_any (λ u. value_eq u w) (values m) ≡ false → (ks : List ℕ) → list_any (λ k. value_eq (get nat_cmp m k) w) ks ≡ false
+  nowhere m h none [] = refl
+  nowhere m h none (k ∷ ks) = ap (λ b. b || list_any (λ q. value_eq (get nat_cmp m q) w) ks) (not_looked_up (is_at (nat_cmp k)) m.entries m.default h none) ∙ nowhere m h none ks

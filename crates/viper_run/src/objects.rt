@@ -90,8 +90,12 @@ fn is_held(reference: u64, masks: &[Sparse<u64, Frac>]) -> bool
 fn is_in(reference: u64, heap: &Sparse<u64, Value>, mask: &Sparse<u64, Frac>) -> bool
     ensures { result ≡ m.is_stored reference (heap.now ∷ []) (mask.now ∷ []) }
 {
+    let wanted = Value::Ref(reference);
+    if *heap.default() != wanted && !heap.has(&wanted) {
+        return false;
+    }
     for i in 0..mask.len() {
-        if *heap.get(mask.key_at(i)) == Value::Ref(reference) {
+        if *heap.get(mask.key_at(i)) == wanted {
             return true;
         }
     }
