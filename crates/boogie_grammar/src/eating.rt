@@ -81,10 +81,11 @@ fn word_text(word: Word) -> &'static [u8]
     }
 }
 
+/// Whether bytes are the same. Most differ in length, which is tried at once.
 fn same_bytes(a: &[u8], b: &[u8]) -> bool
     ensures { IsTrue result ↔ (a.now ≡ b.now) }
 {
-    a == b
+    a.len() == b.len() && a == b
 }
 
 /// The tokens after this word, if it is next.

@@ -12,7 +12,7 @@ pub mod naming;
 pub mod new_names;
 mod pieces;
 pub mod scopes;
-mod signs;
+pub mod signs;
 mod stops;
 mod tokens;
 

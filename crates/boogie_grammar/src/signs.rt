@@ -1,56 +1,62 @@
 // The signs, by their bytes.
-ghost use Rattle.std.specs.Prelude.{◌≡◌, ◌==◌, find};
-ghost use Rattle.std.specs.List.{starts_with};
+ghost use Rattle.std.specs.Prelude.{◌≡◌, [], ◌∷◌, slice_index};
 ghost use Rattle.boogie_grammar.specs.Pieces.{sign_at};
 ghost use Rattle.boogie_grammar.specs.Words.{sign_text};
 
 use crate::BSign;
 
-/// The signs, longer ones first.
-const SIGNS: [BSign; 26] = [
-    BSign::Iff,
-    BSign::Implies,
-    BSign::Or,
-    BSign::And,
-    BSign::Equal,
-    BSign::NotEqual,
-    BSign::AtMost,
-    BSign::AtLeast,
-    BSign::Assign,
-    BSign::Bounds,
-    BSign::OpenParen,
-    BSign::CloseParen,
-    BSign::OpenBrace,
-    BSign::CloseBrace,
-    BSign::OpenBracket,
-    BSign::CloseBracket,
-    BSign::Comma,
-    BSign::Semicolon,
-    BSign::Colon,
-    BSign::Less,
-    BSign::Greater,
-    BSign::Plus,
-    BSign::Minus,
-    BSign::Star,
-    BSign::Slash,
-    BSign::Not,
-];
-
 /// The longest sign with which a text begins.
 pub fn sign_at(text: &[u8]) -> Option<BSign>
     ensures { result ≡ sign_at text.now }
 {
-    sign_among(&SIGNS, text)
+    sign_of(
+        byte_at(text, 0),
+        byte_at(text, 1),
+        byte_at(text, 2),
+        byte_at(text, 3),
+    )
 }
 
-/// The first of these signs with which a text begins.
-fn sign_among(signs: &[BSign], text: &[u8]) -> Option<BSign>
-    ensures { result ≡ find (λ o. starts_with ◌==◌ text.now (sign_text o)) signs.now }
+/// The longest sign with which these four bytes begin. A 0 stands for a byte past the end, since no sign has it.
+fn sign_of(first: u8, second: u8, third: u8, fourth: u8) -> Option<BSign>
+    ensures { result ≡ sign_at (first ∷ second ∷ third ∷ fourth ∷ []) }
 {
-    signs
-        .iter()
-        .copied()
-        .find(|sign| text.starts_with(sign_text(*sign)))
+    Some(match first {
+        b'(' => BSign::OpenParen,
+        b')' => BSign::CloseParen,
+        b'{' => BSign::OpenBrace,
+        b'}' => BSign::CloseBrace,
+        b'[' => BSign::OpenBracket,
+        b']' => BSign::CloseBracket,
+        b',' => BSign::Comma,
+        b';' => BSign::Semicolon,
+        b':' if second == b':' => BSign::Bounds,
+        b':' if second == b'=' => BSign::Assign,
+        b':' => BSign::Colon,
+        b'<' if second == b'=' && third == b'=' && fourth == b'>' => BSign::Iff,
+        b'<' if second == b'=' => BSign::AtMost,
+        b'<' => BSign::Less,
+        b'=' if second == b'=' && third == b'>' => BSign::Implies,
+        b'=' if second == b'=' => BSign::Equal,
+        b'|' if second == b'|' => BSign::Or,
+        b'&' if second == b'&' => BSign::And,
+        b'!' if second == b'=' => BSign::NotEqual,
+        b'!' => BSign::Not,
+        b'>' if second == b'=' => BSign::AtLeast,
+        b'>' => BSign::Greater,
+        b'+' => BSign::Plus,
+        b'-' => BSign::Minus,
+        b'*' => BSign::Star,
+        b'/' => BSign::Slash,
+        _ => return None,
+    })
+}
+
+/// The byte at an index, or 0 past the end.
+fn byte_at(bytes: &[u8], index: usize) -> u8
+    ensures { result ≡ slice_index bytes.now index }
+{
+    bytes.get(index).copied().unwrap_or(0)
 }
 
 /// How a sign is spelled.

@@ -26,7 +26,7 @@ use Rattle.viper_syntax.specs.Cut.{MAX, IsSmall, IsSound, tokens_at, IsCut, end,
 use Rattle.viper_syntax.specs.Limit.{StaysWithin, IsFirstAbove, KeepsLimits, BreaksLimit, deep_brace, long_group, refused_word, unclosed, in_group, refused}
 use Rattle.viper_syntax.specs.Lexed.{IsLexed, HasFault, in_cut, in_limits}
 use Rattle.viper_syntax.proofs.LimitLaws.{stays_from_fronts, one_more_front}
-use Rattle.viper_syntax.proofs.PieceLaws.{words}
+use Rattle.viper_syntax.specs.First.{words}
 use Rattle.viper_syntax.proofs.WordLaws.{word_looked_up}
 use Rattle.viper_syntax.proofs.LongestLaws.{blank_longest, name_longest, name_form_of_front, number_longest, line_at, closed_at, unclosed_at, sign_longest, no_piece, sign_from_first}
 use Rattle.viper_syntax.proofs.CutLaws.{longest_some}

@@ -15,6 +15,7 @@ use Rattle.viper_syntax.specs.declared.tokens.Tok.{Tok}
 use Rattle.viper_syntax.specs.declared.tokens.Tok.TheVariants as k
 use Rattle.viper_syntax.specs.Spelling.{word_text, sign_text, is_blank, decimal}
 use Rattle.viper_syntax.specs.Piece.{IsDigits, IsToken, word, name, number, sign, Piece, Skipped, Taken, IsComment, line, closed, unclosed, IsPiece, blank, comment, token, HasNoClose, ClosesAt}
+use Rattle.viper_syntax.specs.First.{words}
 use Rattle.viper_syntax.specs.Longest.{signs}
 
 -- first bytes
@@ -119,12 +120,6 @@ some_none : {X : Type 0} {x : X} → None ≡ Some x → ⊥
 some_none e = cc
 
 -- one text is at most one piece
-
-abbrev pub words : List Word
-words =
-    w.Field ∷ w.Predicate ∷ w.Method ∷ w.Returns ∷ w.Requires ∷ w.Ensures ∷ w.Invariant ∷ w.Var ∷ w.New ∷ w.If ∷
-    w.Elseif ∷ w.Else ∷ w.While ∷ w.Inhale ∷ w.Exhale ∷ w.Assert ∷ w.Assume ∷ w.Fold ∷ w.Unfold ∷ w.Unfolding ∷ w.In ∷
-    w.Acc ∷ w.Old ∷ w.Null ∷ w.True ∷ w.False ∷ w.Write ∷ w.None ∷ w.Wildcard ∷ w.Int ∷ w.Bool ∷ w.Ref ∷ w.Perm ∷ []
 
 pub word_found : (v : Word) → find (λ u. bytes_eq (word_text v) (word_text u)) words ≡ Some v
 word_found w.Field = refl

@@ -5,6 +5,7 @@ pub mod View
 pub mod Spelling
 pub mod Piece
 pub mod Cut
+pub mod First
 pub mod Longest
 pub mod Step
 pub mod Limit

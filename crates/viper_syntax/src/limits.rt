@@ -1,5 +1,5 @@
 // The limits that a list of tokens keeps.
-ghost use Rattle.std.specs.Prelude.{◌≡◌, MatchOption, ◌<◌, ◌^◌};
+ghost use Rattle.std.specs.Prelude.{◌≡◌, ◌↔◌, IsTrue, MatchOption, ◌<◌, ◌^◌};
 ghost use Rattle.vb_base.specs.Limits.{max_unclosed_braces, max_group_tokens};
 ghost use Rattle.viper_syntax.specs.Limit.{KeepsLimits, BreaksLimit, StaysWithin, IsFirstAbove, unclosed, unclosed_with, in_group, refused, is_divider, is_refused};
 
@@ -12,7 +12,9 @@ use vb_base::limits::{MAX_GROUP_TOKENS, MAX_UNCLOSED_BRACES};
 pub(crate) fn broken_limit(tokens: &[Token]) -> Option<LexFault>
     ensures { MatchOption result (KeepsLimits tokens.now) (BreaksLimit tokens.now) }
 {
-    if let Some(at) = first_deep_brace(tokens) {
+    if keeps_limits(tokens) {
+        None
+    } else if let Some(at) = first_deep_brace(tokens) {
         Some(LexFault::Braces(at))
     } else if let Some(at) = first_long_group(tokens) {
         Some(LexFault::LongGroup(at))
@@ -21,6 +23,22 @@ pub(crate) fn broken_limit(tokens: &[Token]) -> Option<LexFault>
     } else {
         None
     }
+}
+
+/// Whether tokens keep the limits. One pass tells it, and most texts need no other.
+fn keeps_limits(tokens: &[Token]) -> bool
+    ensures { IsTrue result ↔ KeepsLimits tokens.now }
+{
+    let mut braces: usize = 0;
+    let mut group: usize = 0;
+    for token in tokens {
+        braces = unclosed_with(braces, &token.tok);
+        group = if is_divider(&token.tok) { 0 } else { group + 1 };
+        if braces > MAX_UNCLOSED_BRACES || group > MAX_GROUP_TOKENS || is_refused(&token.tok) {
+            return false;
+        }
+    }
+    true
 }
 
 /// The place of the first `{` that is one too many, if any.

@@ -1,75 +1,14 @@
 // The words of Viper, by their bytes.
-ghost use Rattle.std.specs.Prelude.{◌≡◌, ◌≢◌, MatchOption, find};
+ghost use Rattle.std.specs.Prelude.{◌≡◌, ◌≢◌, MatchOption, find, map};
 ghost use Rattle.std.specs.List.{list_any};
 ghost use Rattle.std.specs.Str.{bytes_eq};
 ghost use Rattle.vb_base.specs.Names.{refused_words};
 ghost use Rattle.viper_syntax.specs.declared.tokens.Word.{Word};
 ghost use Rattle.viper_syntax.specs.Spelling.{word_text};
+ghost use Rattle.viper_syntax.specs.First.{words_from, refused_words_from};
 
 use crate::Word;
-
-const WORDS: [Word; 33] = [
-    Word::Field,
-    Word::Predicate,
-    Word::Method,
-    Word::Returns,
-    Word::Requires,
-    Word::Ensures,
-    Word::Invariant,
-    Word::Var,
-    Word::New,
-    Word::If,
-    Word::Elseif,
-    Word::Else,
-    Word::While,
-    Word::Inhale,
-    Word::Exhale,
-    Word::Assert,
-    Word::Assume,
-    Word::Fold,
-    Word::Unfold,
-    Word::Unfolding,
-    Word::In,
-    Word::Acc,
-    Word::Old,
-    Word::Null,
-    Word::True,
-    Word::False,
-    Word::Write,
-    Word::None,
-    Word::Wildcard,
-    Word::Int,
-    Word::Bool,
-    Word::Ref,
-    Word::Perm,
-];
-
-const REFUSED_WORDS: [&[u8]; 24] = [
-    b"function",
-    b"domain",
-    b"axiom",
-    b"unique",
-    b"import",
-    b"define",
-    b"label",
-    b"goto",
-    b"forall",
-    b"exists",
-    b"forperm",
-    b"let",
-    b"perm",
-    b"epsilon",
-    b"Seq",
-    b"Set",
-    b"Multiset",
-    b"Map",
-    b"Rational",
-    b"package",
-    b"apply",
-    b"applying",
-    b"refute",
-    b"decreases",
-];
+use crate::signs::byte_at;
 
 /// The bytes of a word.
 fn word_text(word: Word) -> &'static [u8]
@@ -112,18 +51,66 @@ fn word_text(word: Word) -> &'static [u8]
     }
 }
 
+/// The words that begin with this byte.
+fn words_from(first: u8) -> &'static [Word]
+    ensures { result.now ≡ words_from first }
+{
+    match first {
+        b'f' => &[Word::Field, Word::Fold, Word::False],
+        b'p' => &[Word::Predicate],
+        b'm' => &[Word::Method],
+        b'r' => &[Word::Returns, Word::Requires],
+        b'e' => &[Word::Ensures, Word::Elseif, Word::Else, Word::Exhale],
+        b'i' => &[Word::Invariant, Word::If, Word::Inhale, Word::In],
+        b'v' => &[Word::Var],
+        b'n' => &[Word::New, Word::Null, Word::None],
+        b'w' => &[Word::While, Word::Write, Word::Wildcard],
+        b'a' => &[Word::Assert, Word::Assume, Word::Acc],
+        b'u' => &[Word::Unfold, Word::Unfolding],
+        b'o' => &[Word::Old],
+        b't' => &[Word::True],
+        b'I' => &[Word::Int],
+        b'B' => &[Word::Bool],
+        b'R' => &[Word::Ref],
+        b'P' => &[Word::Perm],
+        _ => &[],
+    }
+}
+
+/// The refused words that begin with this byte.
+fn refused_words_from(first: u8) -> &'static [&'static [u8]]
+    ensures { map (λ w. w.now) result.now ≡ refused_words_from first }
+{
+    match first {
+        b'f' => &[b"function", b"forall", b"forperm"],
+        b'd' => &[b"domain", b"define", b"decreases"],
+        b'a' => &[b"axiom", b"apply", b"applying"],
+        b'u' => &[b"unique"],
+        b'i' => &[b"import"],
+        b'l' => &[b"label", b"let"],
+        b'g' => &[b"goto"],
+        b'e' => &[b"exists", b"epsilon"],
+        b'p' => &[b"perm", b"package"],
+        b'S' => &[b"Seq", b"Set"],
+        b'M' => &[b"Multiset", b"Map"],
+        b'R' => &[b"Rational"],
+        b'r' => &[b"refute"],
+        _ => &[],
+    }
+}
+
 /// The word with these bytes, if any.
 pub(crate) fn word_of(name: &[u8]) -> Option<Word>
     ensures { MatchOption result ((w : Word) → name.now ≢ word_text w) (λ w. name.now ≡ word_text w) }
 {
-    word_among(&WORDS, name)
+    word_among(words_from(byte_at(name, 0)), name)
 }
 
 /// Whether these bytes are a refused word.
 pub(crate) fn is_refused_word(name: &[u8]) -> bool
     ensures { result ≡ list_any (bytes_eq name.now) refused_words }
 {
-    is_among(&REFUSED_WORDS, name)
+    is_among(refused_words_from(byte_at(name, 0)), name)
 }
 
 /// Whether these bytes are one of the words.
