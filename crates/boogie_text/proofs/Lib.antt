@@ -23,3 +23,7 @@ pub mod ReadLaws
 pub mod LabelAnswers
 pub mod TextAnswers
 pub mod SpelledLaws
+pub mod KnownLaws
+pub mod BeginLaws
+pub mod BexprLaws
+pub mod TokenLaws

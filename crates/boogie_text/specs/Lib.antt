@@ -7,3 +7,6 @@ pub mod Answers
 pub mod Pieces
 pub mod Names
 pub mod Asserts
+pub mod PublicTokens
+pub mod ReadExpr
+pub mod ReadSteps

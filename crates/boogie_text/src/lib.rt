@@ -11,12 +11,15 @@ mod pieces;
 mod printer;
 mod procs;
 mod program;
+mod public_tokens;
 mod put_exprs;
 mod put_heads;
 mod put_leaves;
 mod put_stmts;
 mod reader;
+mod sign_bytes;
 mod simple;
+mod single_expr;
 mod stmts;
 mod text_laws;
 mod types;
@@ -32,10 +35,12 @@ pub use pieces::{
     write_if, write_prelude,
 };
 pub use printer::print;
+pub use public_tokens::{BTok, BToken, tokens_after};
 pub use put_heads::{put_locals, put_type};
 pub use put_leaves::{put, put_binders, put_names, put_number, put_operator, truth_text};
 pub use put_stmts::{put_else, put_end};
 pub use reader::{end_after, read};
+pub use single_expr::{ReadExpr, read_bexpr};
 pub use text_laws::{
     nested_is_shallow, programs_are_written_in_pieces, statements_are_written_in_pieces,
     written_is_spelled,
