@@ -1,9 +1,9 @@
 -- The ways to go on with an answer, one lemma for each.
-use Rattle.std.proofs.Common.{◌≡◌, refl, sym, ap, ◌∙◌, subst, Bool, true, false, Result, Ok, Err, IfErr, IsErrAnd}
+use Rattle.std.proofs.Common.{◌≡◌, refl, sym, ap, ◌∙◌, subst, Bool, true, false, Result, Ok, Err, IsErrAnd}
 use Rattle.std.proofs.lemmas.Result.{err_from_is_err_and}
 use Rattle.vb_value.specs.Bound.{Bounded, value_if}
 use Rattle.vb_value.specs.declared.numbers.Over as numbers
-use Rattle.boogie_meaning.specs.Ends.{End, Is, then_with, fitting}
+use Rattle.boogie_meaning.specs.Ends.{End, Is, Over, Wrong, then_with, fitting}
 use Rattle.boogie_run.specs.Answers.{Answers, no_memory, is, over, wrong}
 use Rattle.boogie_run.specs.declared.eval_ends.Miss.{Miss}
 use Rattle.boogie_run.specs.declared.eval_ends.Miss.TheVariants as miss
@@ -24,6 +24,11 @@ passed {v = v} {e = e} r w given h =
     subst (λ q. Answers v e q) (sym (p.1 ∙ ap Err p.2)) h
 
 -- ---- going on
+
+pub then_then : {X Y Z : Type 0} (e : End X) (f : X → End Y) (go : Y → End Z) → then_with (then_with e f) go ≡ then_with e (λ x. then_with (f x) go)
+then_then (Is x) f go = refl
+then_then Over f go = refl
+then_then Wrong f go = refl
 
 pub goes_then : {X Y Z W : Type 0} {v : X → Y} {u : Z → W} {e : End Y} (go : Y → End W) {x : X} {r : Result Z Miss} → Answers v e (Ok x) → Answers u (go (v x)) r → Answers u (then_with e go) r
 goes_then go (is h) = same_answers (ap (λ f. then_with f go) h)
@@ -46,9 +51,3 @@ fitted_is view f false n x z h same = absurd (cc)
 pub fitted_over : {X Y Z : Type 0} (view : Z → Y) (f : X → Y) (fits : Bool) (n : X) (o : numbers.Over) → Err o ≡ value_if fits n → Answers view (fitting Bounded fits (f n)) (Err miss.Over)
 fitted_over view f true n o h = absurd (cc)
 fitted_over view f false n o h = over refl
-
--- ---- what is said of a value, or of why there is none
-
-pub for_err : {X E : Type 0} {P Q : E → Type 0} (r : Result X E) → ((e : E) → P e → Q e) → IfErr r P → IfErr r Q
-for_err (Ok x) f h = h
-for_err (Err e) f h = f e h

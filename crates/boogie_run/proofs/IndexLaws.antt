@@ -1,5 +1,5 @@
 -- The parts so far, and then those of the indices that are left.
-use Rattle.std.proofs.Common.{◌≡◌, refl, sym, ap, ◌∙◌, ℕ, ◌+◌, ◌<◌, ◌≤◌, length, drop, get_or, List, [], ◌∷◌, ◌++◌, append_assoc, Ok, Err}
+use Rattle.std.proofs.Common.{◌≡◌, refl, sym, ap, ◌∙◌, ℕ, ◌+◌, ◌<◌, ◌≤◌, length, drop, get_or, List, [], ◌∷◌, ◌++◌, append_assoc, Ok, Err, arith}
 use Rattle.std.proofs.lemmas.List.{append-nil}
 use Rattle.vb_value.specs.Bound.{Bounded}
 use Rattle.vb_value.specs.declared.keys.KeyPart.{KeyPart}
@@ -11,18 +11,13 @@ use Rattle.boogie_meaning.specs.Operators.{part_of}
 use Rattle.boogie_meaning.specs.Value.{Scope, value, values}
 use Rattle.boogie_run.specs.Answers.{Answers}
 use Rattle.boogie_run.specs.declared.eval_ends.Miss.{Miss}
-use Rattle.boogie_run.proofs.AnswerLaws.{the_value, same_answers, stops_then}
+use Rattle.boogie_run.proofs.AnswerLaws.{the_value, same_answers, then_then, stops_then}
 use Rattle.boogie_run.proofs.ListLaws.{item_at, none_at}
 
 pub then_is : {X : Type 0} (e : End X) → e ≡ then_with e (λ x. Is x)
 then_is (Is x) = refl
 then_is Over = refl
 then_is Wrong = refl
-
-then_then : {X Y Z : Type 0} (e : End X) (f : X → End Y) (go : Y → End Z) → then_with (then_with e f) go ≡ then_with e (λ x. then_with (f x) go)
-then_then (Is x) f go = refl
-then_then Over f go = refl
-then_then Wrong f go = refl
 
 module _ (w : Scope) (env : List BValue) where
   rest-of : List expr.BExpr → Key → KeyPart → End Key
@@ -61,3 +56,11 @@ module _ (w : Scope) (env : List BValue) where
       values Bounded w (exprs_of es) env ≡ then_with (values Bounded w (exprs_of (drop i es)) env) (λ k. Is (front ++ k)) → values Bounded w (exprs_of es) env ≡ Is front
   indices_end es i front above below so_far =
       so_far ∙ ap (λ xs. then_with (values Bounded w (exprs_of xs) env) (λ k. Is (front ++ k))) (none_at es i above below) ∙ ap Is (append-nil front)
+
+  -- one index alone
+  pub one_goes : (a : expr.BExpr) {p : KeyPart} → Answers (λ p. p) (then_with (value Bounded w (expr_of a) env) part_of) (Ok p) → values Bounded w (exprs_of (a ∷ [])) env ≡ Is (p ∷ [])
+  one_goes a h = index_goes (a ∷ []) 0 a (omega arith) refl [] (then_is _) h
+
+  pub one_stops : (a : expr.BExpr) {X : Type 0} {u : X → Key} {m : Miss} → Answers (λ p. p) (then_with (value Bounded w (expr_of a) env) part_of) (Err m) →
+      Answers u (values Bounded w (exprs_of (a ∷ [])) env) (Err m)
+  one_stops a h = index_stops (a ∷ []) 0 a (omega arith) refl [] (then_is _) h

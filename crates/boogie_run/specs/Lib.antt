@@ -3,11 +3,11 @@ pub mod Typed
 pub mod Answers
 pub mod Chosen
 pub mod Columns
-pub mod Lazy
 pub mod Operands
 pub mod Ready
 pub mod Runs
 pub mod Searched
+pub mod Tests
 pub mod Unary
 pub mod View
 pub mod Within

@@ -20,10 +20,10 @@ use vb_value::{Key, KeyPart};
 fn extended(alloc: Global, front: &Key, part: KeyPart) -> Result<Key, Memory>
     ensures { IfOk result (λ k. k ≡ front.now ++ part ∷ []) }
 {
-    let mut parts = Vec::with_capacity(alloc, front.parts.len() + 1)?;
-    parts.extend_from_slice(&front.parts)?;
+    let mut parts = Vec::with_capacity(alloc, front.parts().len() + 1)?;
+    parts.extend_from_slice(front.parts())?;
     parts.push(part)?;
-    Ok(Key { parts })
+    Ok(Key::new(parts))
 }
 
 /// Whether a key that begins so and goes on with these types is not in the set. No more keys are tried than the set has, and one.
@@ -87,9 +87,7 @@ pub(crate) fn has_other(alloc: Global, bases: &[BBase], list: &[&Key]) -> Result
     }
     // So there are no more bools, and the calls are no deeper, than a logarithm of the list's length.
     let set = set_of(alloc, list)?;
-    let front = Key {
-        parts: Vec::new(alloc),
-    };
+    let front = Key::new(Vec::new(alloc));
     has_other_from(alloc, &front, bases, &set)
 }
 

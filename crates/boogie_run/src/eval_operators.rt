@@ -1,7 +1,7 @@
 // The values of operators.
 #![tactic(auto, using(crate::specs::Answers::is, crate::specs::Answers::over, crate::specs::Answers::wrong, crate::specs::Answers::no_memory))]
 
-ghost use Rattle.std.specs.Prelude.{◌≡◌, ℤ, Bool, pos, neg_ℤ, not, IfOk, IfErr, None, if◌then◌else◌};
+ghost use Rattle.std.specs.Prelude.{◌≡◌, ℤ, Bool, pos, neg_ℤ, not, IfOk, if◌then◌else◌};
 ghost use Rattle.std.specs.Ordering.{int_eq};
 ghost use Rattle.std.specs.Int.{int_div_euclid, int_rem_euclid};
 ghost use Rattle.vb_value.specs.Bound.{Bounded, IsWithin, value_if};
@@ -11,8 +11,8 @@ ghost use Rattle.boogie_tree.specs.Whole.{scalar_of};
 ghost use Rattle.boogie_meaning.specs.Ends.{End, Is, then_with, fitting};
 ghost use Rattle.boogie_meaning.specs.Operators as o;
 ghost use Rattle.boogie_run.specs.Answers.{Answers};
-ghost use Rattle.boogie_run.specs.Lazy as lazy;
 ghost use Rattle.boogie_run.specs.Operands.{operands, AreWithin, sum_in, difference_in, product_in, quotient_in, euclidean_in, order_in, same_in};
+ghost use Rattle.boogie_run.specs.Tests as test;
 ghost use Rattle.boogie_run.specs.Within.{IsWithinScalar};
 
 use crate::eval_ends::{Answer, Miss};
@@ -224,15 +224,15 @@ pub(crate) fn truth(flag: Result<bool, Miss>) -> Answer
 }
 
 /// The opposite of a truth.
-fn untruth(flag: Result<bool, Miss>) -> Answer
-    ensures { (e : End Bool) → Answers (λ p. p) e flag → Answers scalar_of (then_with e (λ p. Is (v.Bool (not p)))) result }
+pub(crate) fn opposite(flag: Result<bool, Miss>) -> Result<bool, Miss>
+    ensures { (e : End Bool) → Answers (λ p. p) e flag → Answers (λ p. p) (then_with e (λ p. Is (not p))) result }
 {
-    Ok(BScalar::Bool(!flag?))
+    Ok(!flag?)
 }
 
 /// Whether the order is the one that a comparison looks for.
 fn tests(op: BOp, order: Ordering) -> bool
-    ensures { result ≡ lazy.tests op order }
+    ensures { result ≡ test.tests op order }
 {
     match op {
         BOp::Lt => order.is_lt(),
@@ -243,7 +243,7 @@ fn tests(op: BOp, order: Ordering) -> bool
 }
 
 fn tested(op: BOp, order: Result<Ordering, Miss>) -> Answer
-    ensures { (e : End Ordering) → Answers (λ n. n) e order → Answers scalar_of (lazy.tested op e) result }
+    ensures { (e : End Ordering) → Answers (λ n. n) e order → Answers scalar_of (test.tested op e) result }
 {
     Ok(BScalar::Bool(tests(op, order?)))
 }
@@ -257,7 +257,7 @@ fn plain(op: BOp, left: &BScalar, right: &BScalar) -> Answer
     match op {
         BOp::Iff => same_truth(left, right),
         BOp::Eq => truth(same(left, right)),
-        BOp::Ne => untruth(same(left, right)),
+        BOp::Ne => truth(opposite(same(left, right))),
         BOp::Lt => tested(op, order(numbers(left, right))),
         BOp::Le => tested(op, order(numbers(left, right))),
         BOp::Gt => tested(op, order(numbers(left, right))),
@@ -272,14 +272,37 @@ fn plain(op: BOp, left: &BScalar, right: &BScalar) -> Answer
     }
 }
 
-fn is_lazy(op: BOp) -> bool
+/// The same of a right side that was evaluated.
+pub(crate) fn plain_with(op: BOp, left: &BScalar, right: Answer) -> Answer
+    requires left_within { IsWithinScalar (scalar_of left.now) }
+    requires right_within { IfOk right (λ w. IsWithinScalar (scalar_of w)) }
+    ensures { (e : End v.BScalar) → Answers scalar_of e right
+        → Answers scalar_of (then_with e (λ w. o.plain Bounded op (scalar_of left.now) w)) result }
+{
+    plain(op, left, &right?)
+}
+
+/// The value of an operator that looks at both sides and is to be a truth.
+pub(crate) fn plain_truth(op: BOp, left: &BScalar, right: &BScalar) -> Result<bool, Miss>
+    requires left_within { IsWithinScalar (scalar_of left.now) }
+    requires right_within { IsWithinScalar (scalar_of right.now) }
+    ensures { Answers (λ p. p) (o.as_truth (o.plain Bounded op (scalar_of left.now) (scalar_of right.now))) result }
+{
+    match op {
+        BOp::Eq => same(left, right),
+        BOp::Ne => opposite(same(left, right)),
+        _ => truth_of(plain(op, left, right)),
+    }
+}
+
+pub(crate) fn is_lazy(op: BOp) -> bool
     ensures { result ≡ o.is_lazy op }
 {
     matches!(op, BOp::Implies | BOp::Or | BOp::And)
 }
 
 /// What a left side that is true or false tells of the value.
-fn settled_truth(op: BOp, left: bool) -> Option<bool>
+pub(crate) fn settled(op: BOp, left: bool) -> Option<bool>
     ensures { result ≡ o.settled op left }
 {
     match op {
@@ -288,54 +311,4 @@ fn settled_truth(op: BOp, left: bool) -> Option<bool>
         BOp::Implies => if left { None } else { Some(true) },
         _ => None,
     }
-}
-
-/// What the left side alone tells of the value.
-fn settled(op: BOp, left: &BScalar) -> Result<Option<bool>, Miss>
-    ensures { Answers (λ d. d) (lazy.settled_by op (scalar_of left.now)) result }
-{
-    if !is_lazy(op) {
-        return Ok(None);
-    }
-    match left {
-        BScalar::Bool(truth) => Ok(settled_truth(op, *truth)),
-        _ => Err(Miss::Wrong),
-    }
-}
-
-/// The left side, where it leaves the value of the operator open, or else that value.
-fn open_value(op: BOp, left: BScalar) -> Result<BScalar, Answer>
-    ensures open { IfOk result (λ v. (v ≡ left) × (lazy.settled_by op (scalar_of left) ≡ Is None)) }
-    ensures settled { IfErr result (λ a. (right : End v.BScalar) → Answers scalar_of (o.binary Bounded op (Is (scalar_of left)) right) a) }
-{
-    match settled(op, &left) {
-        Ok(None) => Ok(left),
-        Ok(Some(truth)) => Err(Ok(BScalar::Bool(truth))),
-        Err(miss) => Err(Err(miss)),
-    }
-}
-
-/// The same of a left side that was evaluated.
-pub(crate) fn open(op: BOp, left: Answer) -> Result<BScalar, Answer>
-    ensures open { IfOk result (λ v. (left ≡ Ok v) × (lazy.settled_by op (scalar_of v) ≡ Is None)) }
-    ensures settled { IfErr result (λ a. (e : End v.BScalar) (right : End v.BScalar) → Answers scalar_of e left
-        → Answers scalar_of (o.binary Bounded op e right) a) }
-{
-    match left {
-        Ok(left) => open_value(op, left),
-        Err(miss) => Err(Err(miss)),
-    }
-}
-
-/// The value of an operator whose left side leaves it open.
-pub(crate) fn combined(op: BOp, left: BScalar, right: Answer) -> Answer
-    requires left_within { IsWithinScalar (scalar_of left) }
-    requires right_within { IfOk right (λ w. IsWithinScalar (scalar_of w)) }
-    ensures { (e : End v.BScalar) → lazy.settled_by op (scalar_of left) ≡ Is None → Answers scalar_of e right
-        → Answers scalar_of (o.binary Bounded op (Is (scalar_of left)) e) result }
-{
-    if is_lazy(op) {
-        return truth(truth_of(right));
-    }
-    plain(op, &left, &right?)
 }

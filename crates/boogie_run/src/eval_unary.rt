@@ -18,10 +18,12 @@ use boogie_tree::BScalar;
 use std::alloc::Global;
 use vb_value::{Content, Frac, PairFault, Value};
 
-/// An operator of one side that computes no number.
+/// An operator of one side.
 #[derive(Clone, Copy)]
 pub(crate) enum Unary {
+    Neg,
     Not,
+    ToReal,
     SInt,
     SBool,
     SRef,
@@ -53,14 +55,6 @@ fn negative(value: BScalar) -> Answer
     }
 }
 
-/// The value of a minus.
-pub(crate) fn negated(value: Answer) -> Answer
-    requires { IfOk value (λ w. IsWithinScalar (scalar_of w)) }
-    ensures { (e : End v.BScalar) → Answers scalar_of e value → Answers scalar_of (then_with e o.negative) result }
-{
-    negative(value?)
-}
-
 fn real_from(value: BScalar) -> Answer
     requires { IsWithinScalar (scalar_of value) }
     ensures { Answers scalar_of (o.real_from (scalar_of value)) result }
@@ -69,14 +63,6 @@ fn real_from(value: BScalar) -> Answer
         BScalar::Int(number) => Ok(BScalar::Real(fraction(number))),
         _ => Err(Miss::Wrong),
     }
-}
-
-/// An Int as a Real.
-pub(crate) fn as_real(value: Answer) -> Answer
-    requires { IfOk value (λ w. IsWithinScalar (scalar_of w)) }
-    ensures { (e : End v.BScalar) → Answers scalar_of e value → Answers scalar_of (then_with e o.real_from) result }
-{
-    real_from(value?)
 }
 
 fn negation(value: BScalar) -> Answer
@@ -125,10 +111,13 @@ fn leaf_perm(value: BScalar) -> Answer
 }
 
 fn value_of(op: Unary, value: BScalar) -> Answer
+    requires { IsWithinScalar (scalar_of value) }
     ensures { Answers scalar_of (unary_of op (scalar_of value)) result }
 {
     match op {
+        Unary::Neg => negative(value),
         Unary::Not => negation(value),
+        Unary::ToReal => real_from(value),
         Unary::SInt => leaf_int(value),
         Unary::SBool => leaf_bool(value),
         Unary::SRef => leaf_ref(value),
@@ -138,6 +127,7 @@ fn value_of(op: Unary, value: BScalar) -> Answer
 
 /// The value of an operator of one side.
 pub(crate) fn applied(op: Unary, value: Answer) -> Answer
+    requires { IfOk value (λ w. IsWithinScalar (scalar_of w)) }
     ensures { (e : End v.BScalar) → Answers scalar_of e value → Answers scalar_of (then_with e (unary_of op)) result }
 {
     value_of(op, value?)

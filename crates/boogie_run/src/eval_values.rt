@@ -3,9 +3,10 @@
 
 ghost use Rattle.std.specs.Prelude.{◌≡◌, IfOk, IfSome, Some, slice_get};
 ghost use Rattle.sparse.specs.Map.{get};
+ghost use Rattle.vb_value.specs.Bound.{Bounded};
 ghost use Rattle.vb_value.specs.Key.{key_cmp};
 ghost use Rattle.boogie_tree.specs.Value as v;
-ghost use Rattle.boogie_tree.specs.Whole.{scalar_of, value_of};
+ghost use Rattle.boogie_tree.specs.Whole.{expr_of, scalar_of, value_of};
 ghost use Rattle.boogie_meaning.specs.Ends.{End, Is, Wrong, then_with, found};
 ghost use Rattle.boogie_meaning.specs.Operators.{part_of};
 ghost use Rattle.boogie_meaning.specs.Value as m;
@@ -16,7 +17,7 @@ ghost use Rattle.boogie_run.specs.Within.{IsWithinScalar};
 
 use crate::eval_columns::Column;
 use crate::eval_ends::{Answer, Miss};
-use boogie_tree::{BScalar, BValue};
+use boogie_tree::{BExpr, BScalar, BValue};
 use sparse::Sparse;
 use vb_value::{Key, KeyPart};
 
@@ -56,6 +57,16 @@ fn scalar_in(value: &BValue) -> Answer
     match value {
         BValue::One(value) => copied(value),
         BValue::Map(_) => Err(Miss::Wrong),
+    }
+}
+
+/// The value of a variable that is no map, where it stands.
+fn one_at(env: &[BValue], number: usize) -> Option<&BScalar>
+    ensures { IfSome result (λ x. then_with (found (slice_get (values_of env.now) number)) m.scalar_in ≡ Is (scalar_of x.now)) }
+{
+    match env.get(number)? {
+        BValue::One(value) => Some(value),
+        BValue::Map(_) => None,
     }
 }
 
@@ -165,6 +176,25 @@ pub(crate) fn value_at_bound(env: &[BValue], number: usize, scope: Scope) -> Ans
         Scope::Outside => outside_at(env, number),
         Scope::At(row) => value_at_row(env, number, row),
         Scope::Elsewhere => default_at(env, number),
+    }
+}
+
+/// The value of an expression, where it stands in the environment.
+pub(crate) fn place<'a>(
+    e: &BExpr,
+    env: &'a [BValue],
+    scope: Scope<'a, '_, '_>,
+) -> Option<&'a BScalar>
+    requires { FitsScope (values_of env.now) scope }
+    ensures { IfSome result (λ x. m.value Bounded (scope_of (values_of env.now) scope.entry) (expr_of e.now) (values_of env.now) ≡ Is (scalar_of x.now)) }
+{
+    match e {
+        BExpr::Var(number) => one_at(env, *number),
+        BExpr::AtBound(number) => match scope {
+            Scope::At(row) => value_in_row(row, *number),
+            _ => None,
+        },
+        _ => None,
     }
 }
 

@@ -14,11 +14,11 @@ ghost use Rattle.boogie_run.specs.Runs.{Takes};
 ghost use Rattle.boogie_run.specs.View.{map_of, left_in};
 
 use crate::replay_ends::{Halt, Stop};
-use crate::replay_values::{copied_scalar, set_at};
+use crate::replay_values::{copied_scalar, fill_at};
 use boogie_tree::{
     BBase, BChoice, BScalar, BType, BValue, Entry, base_of_scalar, default_of, fits_key, same_base,
 };
-use sparse::Sparse;
+use sparse::{Builder, Sparse};
 use std::alloc::Global;
 use vb_base::Memory;
 use vb_value::Key;
@@ -69,7 +69,7 @@ pub(crate) fn take_branch(feed: &mut Feed) -> Result<bool, Halt>
 fn fits_entry(keys: &[BBase], base: BBase, entry: &Entry) -> bool
     ensures { result ≡ (fits_key keys.now (entry_of entry.now).key && same_base (base_of_scalar (entry_of entry.now).value) base) }
 {
-    fits_key(keys, &entry.key.parts) && same_base(base_of_scalar(&entry.value), base)
+    fits_key(keys, entry.key.parts()) && same_base(base_of_scalar(&entry.value), base)
 }
 
 /// Whether each entry is.
@@ -93,24 +93,34 @@ fn copied_key(key: &Key) -> Result<Key, Memory>
     }
 }
 
-/// Sets an entry.
-fn set_entry(map: &mut Sparse<Key, BScalar>, entry: &Entry) -> Result<(), Memory>
+/// Puts an entry into a map that is being filled.
+fn put_entry(map: &mut Builder<Key, BScalar>, entry: &Entry) -> Result<(), Memory>
     ensures { OnOk result (map_of map.new ≡ set key_cmp same_scalar (map_of map.old) (entry_of entry.now).key (entry_of entry.now).value) }
 {
     let key = copied_key(&entry.key)?;
     let value = copied_scalar(&entry.value)?;
-    set_at(map, key, value)
+    fill_at(map, key, value)
 }
 
 /// The map with these entries, one after the other, and the default of its type elsewhere.
 fn filled(alloc: Global, base: BBase, entries: &[Entry]) -> Result<Sparse<Key, BScalar>, Memory>
     ensures { IfOk result (λ n. map_of n ≡ m.filled (empty (default_of base)) (map entry_of entries.now)) }
 {
-    let mut map = empty_map(alloc, base)?;
+    let mut map = Builder::make(alloc, default_of(base));
     for entry in entries {
-        set_entry(&mut map, entry)?;
+        put_entry(&mut map, entry)?;
     }
-    Ok(map)
+    finished(map)
+}
+
+/// A map that was filled.
+fn finished(map: Builder<Key, BScalar>) -> Result<Sparse<Key, BScalar>, Memory>
+    ensures { IfOk result (λ n. n ≡ map) }
+{
+    match map.finish() {
+        Ok(map) => Ok(map),
+        Err(_) => Err(Memory),
+    }
 }
 
 /// The map that has the default of this type at each key.

@@ -18,9 +18,8 @@ ghost use Rattle.boogie_run.specs.Typed.{types_in};
 ghost use Rattle.boogie_run.specs.View.{environment_of, left_in, map_of, values_of};
 ghost use Rattle.boogie_run.specs.Within.{IsWithinValue, IsWithinExpr, AreWithinExprs};
 
-use crate::eval::{eval, key_of};
+use crate::eval::{eval, holds, key_of};
 use crate::eval_ends::{Answer, Miss};
-use crate::eval_operators::truth_of;
 use crate::eval_values::{Scope, the_map};
 use crate::replay_choices::{Feed, take_value};
 use crate::replay_ends::{Halt, Stop};
@@ -179,7 +178,7 @@ pub(crate) fn condition(alloc: Global, e: &BExpr, env: &[BValue]) -> Result<bool
     requires env_within { All IsWithinValue (values_of env.now) }
     ensures { Answers (λ p. p) (as_truth (q.bvalue Bounded (expr_of e.now) (values_of env.now))) result }
 {
-    truth_of(eval(alloc, e, env, Scope::Outside))
+    holds(alloc, e, env, Scope::Outside)
 }
 
 /// Goes on where the expression is true, and is blocked where it is false.

@@ -12,7 +12,7 @@ ghost use Rattle.boogie_run.specs.View.{map_of, values_of, environment_of};
 
 use crate::eval_ends::Miss;
 use boogie_tree::{BScalar, BValue};
-use sparse::Sparse;
+use sparse::{Builder, Sparse};
 use vb_base::Memory;
 use vb_value::Key;
 
@@ -84,6 +84,20 @@ pub(crate) fn whole(env: &[BValue], number: usize) -> Result<BValue, Miss>
 
 /// Gives a map a value at a key.
 pub(crate) fn set_at(map: &mut Sparse<Key, BScalar>, key: Key, value: BScalar) -> Result<(), Memory>
+    ensures { OnOk result (map_of map.new ≡ set key_cmp same_scalar (map_of map.old) key (scalar_of value)) }
+{
+    match map.set(key, value) {
+        Ok(()) => Ok(()),
+        Err(_) => Err(Memory),
+    }
+}
+
+/// The same of a map that is being filled.
+pub(crate) fn fill_at(
+    map: &mut Builder<Key, BScalar>,
+    key: Key,
+    value: BScalar,
+) -> Result<(), Memory>
     ensures { OnOk result (map_of map.new ≡ set key_cmp same_scalar (map_of map.old) key (scalar_of value)) }
 {
     match map.set(key, value) {

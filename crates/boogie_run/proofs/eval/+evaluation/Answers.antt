@@ -1,5 +1,5 @@
 -- Each exit of an evaluation, by the steps that led to it.
-use Rattle.std.proofs.Common.{rules, refl, sym, ap, ◌∙◌, subst, Ok, IfOk, if◌then◌else◌, ◌++◌, ◌+◌, drop}
+use Rattle.std.proofs.Common.{arith, rules, sym, ap, ◌∙◌, subst, ◌++◌, ◌+◌, drop}
 use Rattle.sparse.specs.Map.{borrowed}
 use Rattle.vb_value.specs.Bound.{Bounded}
 use Rattle.boogie_tree.specs.Whole.{expr_of, exprs_of, scalar_of}
@@ -12,73 +12,81 @@ use Rattle.boogie_run.specs.Answers.{Answers, is}
 use Rattle.boogie_run.specs.Columns.{keys_of_columns}
 use Rattle.boogie_run.specs.Searched.{end_elsewhere, with_key, with_keys}
 use Rattle.boogie_run.specs.View.{values_of, scope_of}
-use Rattle.boogie_run.specs.Within.{IsWithinExpr, IsWithinScalar}
-use Rattle.boogie_run.proofs.AnswerLaws.{the_value, same_answers, passed, goes_then, stops_then, answer_is}
-use Rattle.boogie_run.proofs.NodeLaws.{at_is, bin_is, if_is, pair_is, neg_is, to_real_is}
-use Rattle.boogie_run.proofs.IndexLaws.{index_goes, index_stops, indices_end}
+use Rattle.boogie_run.specs.Within.{IsWithinExpr}
+use Rattle.boogie_run.proofs.AnswerLaws.{same_answers, passed, goes_then, answer_is}
+use Rattle.boogie_run.proofs.NodeLaws.{at_is}
+use Rattle.boogie_run.proofs.OperatorLaws.{truth_again, lazy_truth, plain_binary, plain_truth}
+use Rattle.boogie_run.proofs.IndexLaws.{index_goes, index_stops, indices_end, one_goes, one_stops}
 use Rattle.boogie_run.proofs.BorrowedLaws.{next_borrowed}
 use Rattle.boogie_run.proofs.SearchLaws.{quantified_is}
 use Rattle.boogie_run.proofs.WithinLaws.{all_within, argument_within}
 use Rattle.boogie_run.proofs.eval.+evaluation.Goals as goal
 
-pub eval-negated-requires : goal.eval-negated-requires
-eval-negated-requires t c =
-    all_within (values_of c.args.env.now) c.args.scope (expr_of c.deref.result.now) c.requires.env_within (subst IsWithinExpr (neg_is c.in-Neg.is c.deref.ensures) c.requires.e_within) c.eval.ensures
+pub unary-applied-requires : goal.unary-applied-requires
+unary-applied-requires t c = all_within (values_of c.args.env.now) c.args.scope (expr_of c.args.a.now) c.requires.env_within c.requires.a_within c.eval.ensures
 
-pub eval-as_real-requires : goal.eval-as_real-requires
-eval-as_real-requires t c =
-    all_within (values_of c.args.env.now) c.args.scope (expr_of c.deref-in-ToReal.result.now) c.requires.env_within
-    (subst IsWithinExpr (to_real_is c.in-ToReal.is c.deref-in-ToReal.ensures) c.requires.e_within) c.eval-in-ToReal.ensures
+pub binary-plain_with-requires-clause-left_within : goal.binary-plain_with-requires-clause-left_within
+binary-plain_with-requires-clause-left_within t c =
+    all_within (values_of c.args.env.now) c.args.scope (expr_of c.args.x.now) c.requires.env_within c.requires.x_within (answer_is c.in-Ok.is c.eval.ensures)
 
-pub eval-combined-requires-clause-left_within : goal.eval-combined-requires-clause-left_within
-eval-combined-requires-clause-left_within t c =
-    subst (λ r. IfOk r (λ w. IsWithinScalar (scalar_of w))) c.in-Ok.ensures.open.0 (all_within (values_of c.args.env.now) c.args.scope (expr_of c.deref-in-Bin.result.now) c.requires.env_within
-    (subst IsWithinExpr (bin_is c.in-Bin.is c.deref-in-Bin.ensures c.deref-in-Ok.ensures) c.requires.e_within).0 c.eval-in-Bin.ensures)
+pub binary-plain_with-requires-clause-right_within : goal.binary-plain_with-requires-clause-right_within
+binary-plain_with-requires-clause-right_within t c =
+    all_within (values_of c.args.env.now) c.args.scope (expr_of c.args.y.now) c.requires.env_within c.requires.y_within c.eval-in-Ok.ensures
 
-pub eval-combined-requires-clause-right_within : goal.eval-combined-requires-clause-right_within
-eval-combined-requires-clause-right_within t c =
-    all_within (values_of c.args.env.now) c.args.scope (expr_of c.deref-in-Ok.result.now) c.requires.env_within
-    (subst IsWithinExpr (bin_is c.in-Bin.is c.deref-in-Bin.ensures c.deref-in-Ok.ensures) c.requires.e_within).1 c.eval-in-Ok.ensures
-
-pub eval-returns-in-Ok : goal.eval-returns-in-Ok
-eval-returns-in-Ok t c =
+pub binary-returns-in-Ok : goal.binary-returns-in-Ok
+binary-returns-in-Ok t c =
     let env = values_of c.args.env.now in
-    let right = value Bounded (scope_of env c.args.scope) (expr_of c.deref-in-Ok.result.now) env in
-    same_answers (ap (λ e. value Bounded (scope_of env c.args.scope) e env) (bin_is c.in-Bin.is c.deref-in-Bin.ensures c.deref-in-Ok.ensures) ∙
-    ap (λ l. o.binary Bounded c.in-Bin.op l right) (the_value (answer_is c.in-Ok.ensures.open.0 c.eval-in-Bin.ensures)))
-    (c.combined.ensures right c.in-Ok.ensures.open.1 c.eval-in-Ok.ensures)
+    let left = value Bounded (scope_of env c.args.scope) (expr_of c.args.x.now) env in
+    let right = value Bounded (scope_of env c.args.scope) (expr_of c.args.y.now) env in
+    same_answers (plain_binary c.args.op left right (sym c.is_lazy.ensures ∙ c.if-is_lazy.false))
+    (goes_then (λ v. then_with right (λ w. o.plain Bounded c.args.op v w)) (answer_is c.in-Ok.is c.eval.ensures) (c.plain_with.ensures _ c.eval-in-Ok.ensures))
 
-pub eval-returns-in-Ok-true : goal.eval-returns-in-Ok-true
-eval-returns-in-Ok-true t c =
+pub relates-returns-in-None : goal.relates-returns-in-None
+relates-returns-in-None t c =
     let env = values_of c.args.env.now in
-    let w = scope_of env c.args.scope in
-    same_answers (ap (λ e. value Bounded w e env) (if_is c.in-If.is c.deref-in-If.ensures c.deref-in-Ok-true.ensures refl))
-    (goes_then (λ p. if p then value Bounded w (expr_of c.deref-in-Ok-true.result.now) env else value Bounded w (expr_of c.in-If.y.value) env)
-    (answer_is (c.in-Ok-true.is ∙ ap Ok c.in-Ok-true.field-0-test) (c.truth_of.ensures _ c.eval-in-If.ensures)) c.eval-in-Ok-true.ensures)
+    let left = value Bounded (scope_of env c.args.scope) (expr_of c.args.x.now) env in
+    let right = value Bounded (scope_of env c.args.scope) (expr_of c.args.y.now) env in
+    same_answers (lazy_truth c.args.op left right (sym c.is_lazy.ensures ∙ c.if-is_lazy.true))
+    (goes_then (λ p. o.as_truth (o.settled_or (o.settled c.args.op p) right)) (answer_is c.in_ok-holds.was c.holds.ensures)
+    (same_answers (ap (λ d. o.as_truth (o.settled_or d right)) (sym c.settled.ensures ∙ c.in-None.is) ∙ truth_again (o.as_truth right)) c.holds-in-None.ensures))
 
-pub eval-returns-in-Ok-false : goal.eval-returns-in-Ok-false
-eval-returns-in-Ok-false t c =
-    let env = values_of c.args.env.now in
-    let w = scope_of env c.args.scope in
-    same_answers (ap (λ e. value Bounded w e env) (if_is c.in-If.is c.deref-in-If.ensures refl c.deref-in-Ok-false.ensures))
-    (goes_then (λ p. if p then value Bounded w (expr_of c.in-If.x.value) env else value Bounded w (expr_of c.deref-in-Ok-false.result.now) env)
-    (answer_is (c.in-Ok-false.is ∙ ap Ok c.in-Ok-false.field-0-test) (c.truth_of.ensures _ c.eval-in-If.ensures)) c.eval-in-Ok-false.ensures)
+pub relates-relates_to-requires : goal.relates-relates_to-requires
+relates-relates_to-requires t c = (
+  search (rules, the_lemmas),
+  (
+    all_within (values_of c.args.env.now) c.args.scope (expr_of c.args.x.now) c.requires.env_within c.requires.x_within (is c.in-Some-place.ensures),
+    (c.requires.y_within, (c.requires.env_within, c.requires.scope_fits)),
+  ),
+)
 
-pub eval-returns-in-Err-truth_of : goal.eval-returns-in-Err-truth_of
-eval-returns-in-Err-truth_of t c =
-    let env = values_of c.args.env.now in
-    let w = scope_of env c.args.scope in
-    same_answers (ap (λ e. value Bounded w e env) (if_is c.in-If.is c.deref-in-If.ensures refl refl))
-    (stops_then (λ p. if p then value Bounded w (expr_of c.in-If.x.value) env else value Bounded w (expr_of c.in-If.y.value) env)
-    (answer_is c.in-Err-truth_of.is (c.truth_of.ensures _ c.eval-in-If.ensures)))
+pub relates-relates_to-requires-in-Ok : goal.relates-relates_to-requires-in-Ok
+relates-relates_to-requires-in-Ok t c = (
+  search (rules, the_lemmas),
+  (
+    all_within (values_of c.args.env.now) c.args.scope (expr_of c.args.x.now) c.requires.env_within c.requires.x_within (answer_is c.in-Ok.is c.eval.ensures),
+    (c.requires.y_within, (c.requires.env_within, c.requires.scope_fits)),
+  ),
+)
 
-pub eval-returns-in-Ok-eval : goal.eval-returns-in-Ok-eval
-eval-returns-in-Ok-eval t c =
+pub relates-returns-in-Ok : goal.relates-returns-in-Ok
+relates-returns-in-Ok t c =
     let env = values_of c.args.env.now in
-    let w = scope_of env c.args.scope in
-    same_answers (ap (λ e. value Bounded w e env) (pair_is c.in-Pair.is c.deref-in-Pair.ensures c.deref-in-Ok-eval.ensures))
-    (goes_then (λ v. then_with (value Bounded w (expr_of c.deref-in-Ok-eval.result.now) env) (λ u. o.pair_of Bounded v u)) (answer_is c.in-Ok-eval.is c.eval-in-Pair.ensures)
-    (c.paired.ensures _ c.eval-in-Ok-eval.ensures))
+    let left = value Bounded (scope_of env c.args.scope) (expr_of c.args.x.now) env in
+    let right = value Bounded (scope_of env c.args.scope) (expr_of c.args.y.now) env in
+    same_answers (plain_truth c.args.op left right (sym c.is_lazy.ensures ∙ c.if-is_lazy.false))
+    (goes_then (λ v. then_with right (λ w. o.as_truth (o.plain Bounded c.args.op v w))) (answer_is c.in-Ok.is c.eval.ensures) c.relates_to-in-Ok.ensures)
+
+pub relates_to-plain_truth-requires-clause-right_within : goal.relates_to-plain_truth-requires-clause-right_within
+relates_to-plain_truth-requires-clause-right_within t c =
+    all_within (values_of c.args.env.now) c.args.scope (expr_of c.args.y.now) c.requires.env_within c.requires.y_within (is c.in-Some.ensures)
+
+pub relates_to-plain_truth-requires-in-Ok-clause-right_within : goal.relates_to-plain_truth-requires-in-Ok-clause-right_within
+relates_to-plain_truth-requires-in-Ok-clause-right_within t c =
+    all_within (values_of c.args.env.now) c.args.scope (expr_of c.args.y.now) c.requires.env_within c.requires.y_within (answer_is c.in-Ok.is c.eval.ensures)
+
+pub relates_to-returns-in-Ok : goal.relates_to-returns-in-Ok
+relates_to-returns-in-Ok t c =
+    goes_then (λ w. o.as_truth (o.plain Bounded c.args.op (scalar_of c.args.left.now) w)) (answer_is c.in-Ok.is c.eval.ensures) c.plain_truth-in-Ok.ensures
 
 pub eval-key_of-requires : goal.eval-key_of-requires
 eval-key_of-requires t c =
@@ -88,6 +96,15 @@ pub eval-returns-in-At : goal.eval-returns-in-At
 eval-returns-in-At t c =
     let env = values_of c.args.env.now in
     same_answers (ap (λ e. value Bounded (scope_of env c.args.scope) e env) (at_is c.in-At.es c.in-At.is c.deref-in-At.ensures.value)) (c.value_at.ensures _ c.key_of.ensures)
+
+pub key_of-key_of_one-requires : goal.key_of-key_of_one-requires
+key_of-key_of_one-requires t c = (
+  search (rules, the_lemmas),
+  (
+    subst (λ a. IsWithinExpr (expr_of a)) (sym c.index-item.is) (argument_within c.args.es.now 0 c.index-item.result (omega (arith, c.in-len1.len_at_least)) c.requires.es_within),
+    (c.requires.env_within, c.requires.scope_fits),
+  ),
+)
 
 pub key_of-eval-requires : goal.key_of-eval-requires
 key_of-eval-requires t c = (
@@ -120,7 +137,21 @@ key_of-loop-e-preserved t c =
 pub key_of-returns : goal.key_of-returns
 key_of-returns t c =
     let env = values_of c.args.env.now in
-    is (indices_end (scope_of env c.args.scope) env c.args.es.now c.loop-e.e-index c.loop-e.parts.items c.loop-e-test.false c.loop-e.auto.e-index-end c.loop-e.invariant.so_far)
+    is (indices_end (scope_of env c.args.scope) env c.args.es.now c.loop-e.e-index c.loop-e.parts.items c.loop-e-test.false c.loop-e.auto.e-index-end c.loop-e.invariant.so_far ∙ ap Is (sym c.new.ensures))
+
+pub key_of_one-part_of-requires : goal.key_of_one-part_of-requires
+key_of_one-part_of-requires t c =
+    all_within (values_of c.args.env.now) c.args.scope (expr_of c.args.index.now) c.requires.env_within c.requires.index_within c.eval.ensures
+
+pub key_of_one-returns-in_err-part_of : goal.key_of_one-returns-in_err-part_of
+key_of_one-returns-in_err-part_of t c =
+    let env = values_of c.args.env.now in
+    passed _ _ c.from_residual.ensures.1 (one_stops (scope_of env c.args.scope) env c.args.index.now (c.in_err-part_of.ensures _ c.eval.ensures))
+
+pub key_of_one-returns : goal.key_of_one-returns
+key_of_one-returns t c =
+    let env = values_of c.args.env.now in
+    is (one_goes (scope_of env c.args.scope) env c.args.index.now (c.in_ok-part_of.ensures _ c.eval.ensures) ∙ ap Is (sym c.of_one.ensures))
 
 pub quantified-returns : goal.quantified-returns
 quantified-returns t c =

@@ -4,7 +4,7 @@ use Rattle.vb_value.specs.Bound.{Bounded}
 use Rattle.boogie_tree.specs.Whole.{scalar_of}
 use Rattle.boogie_meaning.specs.Operators as o
 use Rattle.boogie_run.specs.Answers.{Answers}
-use Rattle.boogie_run.specs.Lazy.{tested}
+use Rattle.boogie_run.specs.Tests.{tested}
 use Rattle.boogie_run.specs.Operands.{operands, order_in}
 use Rattle.boogie_run.proofs.AnswerLaws.{same_answers}
 use Rattle.boogie_run.proofs.OperatorLaws.{compared_is}
