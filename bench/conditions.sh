@@ -91,7 +91,7 @@ for kind in assigns asserts updates blocks locals nested; do
     case $kind in
         assigns | updates) lengths='125000 250000 500000 1000000' ;;
         asserts | blocks) lengths='50000 100000 200000 400000' ;;
-        locals) lengths='2000 4000 8000 16000' ;;
+        locals) lengths='8000 16000 32000 64000' ;;
         nested) lengths='250 500 1000 2000' ;;
     esac
     for length in $lengths; do measure "$kind" "$length"; done

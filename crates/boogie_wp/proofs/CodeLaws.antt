@@ -1,5 +1,5 @@
 -- What the code's steps say, over plain variables.
-use Rattle.std.proofs.Common.{◌≡◌, ◌∙◌, ◌≤◌, ◌<◌, ◌+◌, ℕ, zero, suc, Bool as Truth, true, false, Some, None, List, [], ◌∷◌, ◌++◌, map, take, drop, get_or, slice_get, slice_set, length, nat_eq, if◌then◌else◌, Vec, Box, refl, sym, ap, subst, arith, append_assoc, append-nil, drop_of_length-le}
+use Rattle.std.proofs.Common.{◌≡◌, ◌∙◌, ◌≤◌, ◌<◌, ◌+◌, ℕ, zero, suc, true, false, Some, None, List, [], ◌∷◌, ◌++◌, map, take, drop, get_or, slice_get, length, Vec, Box, refl, sym, ap, arith, append_assoc, append-nil, drop_of_length-le}
 use Rattle.std.proofs.Math.Numerals.{add-one}
 use Rattle.std.proofs.lemmas.List.{take_all}
 use Rattle.std.specs.declared.alloc.Global.{Global}
@@ -22,7 +22,7 @@ use Rattle.boogie_formula.proofs.ViewLaws.{fexpr_of-At, fexprs_of-map, fexpr_of-
 use Rattle.boogie_formula.specs.Choices.{slots, slots_stmt, own_types, own_types_stmt}
 use Rattle.boogie_wp.proofs.BuildLaws.{next_stmt, next_block}
 use Rattle.boogie_formula.specs.Formula.{FExpr}
-use Rattle.boogie_wp.specs.Build.{Builder, Merged, behind, merge, store, fresh, go_where, join, back, fork, built, built_stmt, define, named, numbers, started}
+use Rattle.boogie_wp.specs.Build.{Builder, fresh, go_where, join, back, fork, built, built_stmt, define, named, numbers, started}
 use Rattle.boogie_wp.specs.View.{types_in}
 use Rattle.boogie_wp.specs.Lifted.{lifted, lifted_all}
 
@@ -42,106 +42,12 @@ pub keys_lifted : (g : ℕ → ℕ) (es : List expr.BExpr) (keys : List fexpr.FE
 keys_lifted g es keys i end same =
     fexprs_of-map keys ∙ ap fexprs (same ∙ ap (map (λ e. lifted g (expr_of e))) (take_all i es end)) ∙ lifted_row g es
 
--- ---- two branches
+-- ---- lists
 
--- what is left to merge from the local i on
-abbrev pub merged_from : ℕ → ℕ → List ℕ → ℕ → Builder → Builder
-merged_from n c vs i b = let m = merge n c (drop i vs) (drop i b.versions) b.lets in record b { versions = take i b.versions ++ m.versions; lets = m.lets }
-
-drop_at : {X : Type 0} (xs : List X) (i : ℕ) (x : X) → slice_get xs i ≡ Some x → drop i xs ≡ x ∷ drop (suc i) xs
+pub drop_at : {X : Type 0} (xs : List X) (i : ℕ) (x : X) → slice_get xs i ≡ Some x → drop i xs ≡ x ∷ drop (suc i) xs
 drop_at [] i x h = absurd (cc)
 drop_at (y ∷ xs) zero x h = let e : y ≡ x = cc in ap (λ z. z ∷ xs) e
 drop_at (y ∷ xs) (suc i) x h = drop_at xs i x h
-
-drop_none : {X : Type 0} (xs : List X) (i : ℕ) → slice_get xs i ≡ None → drop i xs ≡ []
-drop_none [] zero h = refl
-drop_none [] (suc i) h = refl
-drop_none (y ∷ xs) zero h = absurd (cc)
-drop_none (y ∷ xs) (suc i) h = drop_none xs i h
-
-drop_none_next : {X : Type 0} (xs : List X) (i : ℕ) → slice_get xs i ≡ None → drop (suc i) xs ≡ []
-drop_none_next [] zero h = refl
-drop_none_next [] (suc i) h = refl
-drop_none_next (y ∷ xs) zero h = absurd (cc)
-drop_none_next (y ∷ xs) (suc i) h = drop_none_next xs i h
-
-take_at : {X : Type 0} (xs : List X) (i : ℕ) (x : X) → slice_get xs i ≡ Some x → take (suc i) xs ≡ take i xs ++ x ∷ []
-take_at [] i x h = absurd (cc)
-take_at (y ∷ xs) zero x h = let e : y ≡ x = cc in ap (λ z. z ∷ []) e
-take_at (y ∷ xs) (suc i) x h = ap (λ z. y ∷ z) (take_at xs i x h)
-
-take_set : {X : Type 0} (xs : List X) (i : ℕ) (x y : X) → slice_get xs i ≡ Some x → take (suc i) (slice_set xs i y) ≡ take i xs ++ y ∷ []
-take_set [] i x y h = absurd (cc)
-take_set (z ∷ xs) zero x y h = refl
-take_set (z ∷ xs) (suc i) x y h = ap (λ w. z ∷ w) (take_set xs i x y h)
-
-drop_set : {X : Type 0} (xs : List X) (i : ℕ) (y : X) → drop (suc i) (slice_set xs i y) ≡ drop (suc i) xs
-drop_set [] zero y = refl
-drop_set [] (suc i) y = refl
-drop_set (z ∷ xs) zero y = refl
-drop_set (z ∷ xs) (suc i) y = drop_set xs i y
-
-merge_none : (n c : ℕ) (ws : List ℕ) (lets : List FExpr) → merge n c [] ws lets ≡ record { versions = ws; lets = lets }
-merge_none n c [] lets = refl
-merge_none n c (w ∷ ws) lets = refl
-
-abbrev put_back : List ℕ → Builder → Merged → Builder
-put_back front b m = record b { versions = front ++ m.versions; lets = m.lets }
-
-behind_front : (front : List ℕ) (w : ℕ) (b : Builder) (m : Merged) → put_back (front ++ w ∷ []) b m ≡ put_back front b (behind w m)
-behind_front front w b m = ap (λ vs. record b { versions = vs; lets = m.lets }) (append_assoc front (w ∷ []) m.versions)
-
-pub merge_skipped : (n c : ℕ) (vs : List ℕ) (i w : ℕ) (b : Builder) → slice_get vs i ≡ None → slice_get b.versions i ≡ Some w → merged_from n c vs (suc i) b ≡ merged_from n c vs i b
-merge_skipped n c vs i w b none is =
-    let one = drop_none vs i none in
-    let next = drop_none_next vs i none in
-    let ws = drop (suc i) b.versions in
-    ap (λ xs. put_back (take (suc i) b.versions) b (merge n c xs ws b.lets)) next
-    ∙ ap (put_back (take (suc i) b.versions) b) (merge_none n c ws b.lets)
-    ∙ ap (λ front. put_back front b (record { versions = ws; lets = b.lets })) (take_at b.versions i w is)
-    ∙ behind_front (take i b.versions) w b (record { versions = ws; lets = b.lets })
-    ∙ (λ t. put_back (take i b.versions) b (merge n c ((sym one) t) ((sym (drop_at b.versions i w is)) t) b.lets))
-
-if_behind : (p : Truth) (x y m : Merged) → p ≡ true → m ≡ x → m ≡ (if p then x else y)
-if_behind true x y m h e = e
-if_behind false x y m h e = absurd (cc)
-
-if_other : (p : Truth) (x y m : Merged) → p ≡ false → m ≡ y → m ≡ (if p then x else y)
-if_other true x y m h e = absurd (cc)
-if_other false x y m h e = e
-
-abbrev chosen_of : ℕ → ℕ → ℕ → FExpr
-chosen_of c v w = f.If (f.Var c) (f.Var v) (f.Var w)
-
-pub merge_passed : (n c : ℕ) (vs : List ℕ) (i v w : ℕ) (b : Builder) → slice_get vs i ≡ Some v → slice_get b.versions i ≡ Some w → nat_eq v w ≡ true →
-    merged_from n c vs (suc i) b ≡ merged_from n c vs i b
-merge_passed n c vs i v w b first second same =
-    let xs = drop (suc i) vs in
-    let ws = drop (suc i) b.versions in
-    ap (λ front. put_back front b (merge n c xs ws b.lets)) (take_at b.versions i w second)
-    ∙ behind_front (take i b.versions) w b (merge n c xs ws b.lets)
-    ∙ ap (put_back (take i b.versions) b) (if_behind (nat_eq v w) _ (behind (n + length b.lets) (merge n c xs ws (b.lets ++ chosen_of c v w ∷ []))) _ same refl)
-    ∙ (λ t. put_back (take i b.versions) b (merge n c ((sym (drop_at vs i v first)) t) ((sym (drop_at b.versions i w second)) t) b.lets))
-
-pub merge_stored : (n c : ℕ) (vs : List ℕ) (i v w : ℕ) (b : Builder) → slice_get vs i ≡ Some v → slice_get b.versions i ≡ Some w → nat_eq v w ≡ false →
-    merged_from n c vs (suc i) (store n i (chosen_of c v w) b) ≡ merged_from n c vs i b
-merge_stored n c vs i v w b first second other =
-    let xs = drop (suc i) vs in
-    let ws = drop (suc i) b.versions in
-    let lets = b.lets ++ chosen_of c v w ∷ [] in
-    let m = merge n c xs ws lets in
-    (λ t. put_back (take_set b.versions i w (fresh n b) second t) b (merge n c xs (drop_set b.versions i (fresh n b) t) lets))
-    ∙ behind_front (take i b.versions) (fresh n b) b m
-    ∙ ap (put_back (take i b.versions) b) (if_other (nat_eq v w) (behind w (merge n c xs ws b.lets)) _ _ other refl)
-    ∙ (λ t. put_back (take i b.versions) b (merge n c ((sym (drop_at vs i v first)) t) ((sym (drop_at b.versions i w second)) t) b.lets))
-
-pub merge_ended : (n c : ℕ) (vs : List ℕ) (i : ℕ) (b : Builder) → length b.versions ≤ i → merged_from n c vs i b ≡ b
-merge_ended n c vs i b end =
-    (λ t. put_back (take_all i b.versions end t) b (merge n c (drop i vs) (drop_of_length-le b.versions end t) b.lets))
-    ∙ ended (drop i vs)
-  where
-    ended : (xs : List ℕ) → put_back b.versions b (merge n c xs [] b.lets) ≡ b
-    ended xs = ap (λ ws. record b { versions = ws }) (append-nil b.versions)
 
 -- what a read tells
 pub read_there : {X : Type 0} (xs : List X) (i : ℕ) (x : X) → i < length xs → x ≡ get_or xs i x → slice_get xs i ≡ Some x
@@ -158,28 +64,6 @@ pub past_there : {X : Type 0} (xs : List X) (i : ℕ) → length xs ≤ i → sl
 past_there [] i h = refl
 past_there (y ∷ xs) zero h = absurd (omega (arith, h))
 past_there (y ∷ xs) (suc i) h = past_there xs i (omega (arith, h))
-
-set_long : {X : Type 0} (xs : List X) (i : ℕ) (x : X) → length (slice_set xs i x) ≡ length xs
-set_long [] i x = refl
-set_long (y ∷ xs) zero x = refl
-set_long (y ∷ xs) (suc i) x = ap suc (set_long xs i x)
-
-abbrev pub MergeGoesOn : ℕ → ℕ → List ℕ → ℕ → Builder → Builder → Builder → Type 0
-MergeGoesOn n c vs i before b new = (merged_from n c vs (i + 1) new ≡ merged_from n c vs 0 before) × (length new.versions ≡ length b.versions)
-
-module _ (n c : ℕ) (vs : List ℕ) (i w : ℕ) (before b : Builder) (second : slice_get b.versions i ≡ Some w) (invariant : merged_from n c vs i b ≡ merged_from n c vs 0 before) where
-  from_next : (new : Builder) → merged_from n c vs (suc i) new ≡ merged_from n c vs i b → length new.versions ≡ length b.versions → MergeGoesOn n c vs i before b new
-  from_next new h long = (rw add-one (h ∙ invariant), long)
-
-  pub merge_past : slice_get vs i ≡ None → MergeGoesOn n c vs i before b b
-  merge_past none = from_next b (merge_skipped n c vs i w b none second) refl
-
-  by_test : (v : ℕ) → slice_get vs i ≡ Some v → (p : Truth) → nat_eq v w ≡ p → MergeGoesOn n c vs i before b (if p then b else store n i (chosen_of c v w) b)
-  by_test v first true e = from_next b (merge_passed n c vs i v w b first second e) refl
-  by_test v first false e = from_next (store n i (chosen_of c v w) b) (merge_stored n c vs i v w b first second e) (set_long b.versions i (fresh n b))
-
-  pub merge_next : (v : ℕ) → slice_get vs i ≡ Some v → (new : Builder) → new ≡ (if nat_eq v w then b else store n i (chosen_of c v w) b) → MergeGoesOn n c vs i before b new
-  merge_next v first new is = subst (MergeGoesOn n c vs i before b) (sym is) (by_test v first (nat_eq v w) refl)
 
 -- ---- statements
 

@@ -10,14 +10,14 @@ use Rattle.boogie_tree.specs.Values.{AreKeys, is_key, IsEnvironment}
 use Rattle.boogie_meaning.specs.Ends.{Is, then_with}
 use Rattle.boogie_meaning.specs.Operators.{as_truth}
 use Rattle.boogie_meaning.specs.Run.{Run, Stop, Stops, Failed}
-use Rattle.boogie_meaning.specs.Programs.{types_of, HaveKeys, IsTypedProc, brun_proc, default_value}
+use Rattle.boogie_meaning.specs.Programs.{types_of, HaveKeys, IsTypedProc, brun_proc, default_value, FailsAt}
 use Rattle.boogie_meaning.proofs.ValueLaws.{found_typed, default_typed}
 use Rattle.boogie_formula.specs.Formula as f
 use Rattle.boogie_formula.specs.Formula.{FExpr, Formula}
 use Rattle.boogie_formula.specs.Value.{fvalue, formula_value}
 use Rattle.boogie_formula.specs.Types.{IsTypedFormula}
 use Rattle.boogie_formula.specs.Choices.{own_types, own_types_stmt, type_there, variables_of, locals_in, choices_in}
-use Rattle.boogie_formula.specs.Follows.{FailsAt, Follows}
+use Rattle.boogie_formula.specs.Follows.{Follows}
 use Rattle.boogie_wp.specs.Build.{Builder, numbers, started, formula_for, built}
 use Rattle.boogie_wp.proofs.Total.{Point, total}
 use Rattle.boogie_wp.proofs.TotalLaws.{Owns, there_right, there_left, from, Ends, Matches, done, failed, other, awake}

@@ -7,6 +7,7 @@ pub mod BuildLaws
 pub mod FormulaLaws
 pub mod PlacedLaws
 pub mod CodeLaws
+pub mod ChangeLaws
 pub mod PrintLaws
 pub mod ProcedureLaws
 pub mod Rows

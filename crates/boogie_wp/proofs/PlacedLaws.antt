@@ -19,12 +19,12 @@ use Rattle.boogie_meaning.specs.Kept.{KeepsTypes, done, failed, blocked, short, 
 use Rattle.boogie_meaning.specs.Quantified.{bvalue}
 use Rattle.boogie_meaning.specs.Run.{Run, Stop, Done, Stops, Failed, Blocked, Short, Over, Wrong, with_choice, unless_blocked, then_run, picked, chosen, choice_for, entries_of, assumed, asserted, brun_stmt, brun}
 use Rattle.boogie_meaning.specs.Types.{IsTyped, skip, first, IsTypedStmt, assign, put as put_, havoc, assume_, assert_, if_, either}
-use Rattle.boogie_meaning.specs.Programs.{types_of, IsTypedProc, brun_proc, default_value}
+use Rattle.boogie_meaning.specs.Programs.{types_of, IsTypedProc, brun_proc, default_value, FailsAt, ProcFails}
 use Rattle.boogie_meaning.proofs.RunTypedLaws.{stmt_keeps}
 use Rattle.boogie_meaning.proofs.ValueLaws.{chosen_typed}
 use Rattle.boogie_formula.specs.Value.{formula_value, Valid}
 use Rattle.boogie_formula.specs.Choices.{own_types, own_types_stmt, slots, slots_stmt, variables_of, met, met_stmt, takes, where_truth, truth_at, where_done, locals_in, choices_in}
-use Rattle.boogie_formula.specs.Follows.{FailsAt, ProcFails, IsExact}
+use Rattle.boogie_formula.specs.Follows.{IsExact}
 use Rattle.boogie_wp.specs.Build.{formula_for}
 use Rattle.boogie_wp.specs.Labels.{same_label}
 use Rattle.boogie_wp.proofs.LabelLaws.{same_label_itself}

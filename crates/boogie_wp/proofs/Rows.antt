@@ -9,9 +9,9 @@ use Rattle.boogie_tree.specs.Values.{IsEnvironment, IsOfType, one, many, plain_t
 use Rattle.boogie_tree.specs.declared.exprs.BBase.TheVariants as base
 use Rattle.boogie_meaning.specs.Ends.{Is}
 use Rattle.boogie_meaning.specs.Run.{Done, Stop, Stops, Failed, asserted, then_run}
-use Rattle.boogie_meaning.specs.Programs.{brun_proc}
+use Rattle.boogie_meaning.specs.Programs.{brun_proc, FailsAt}
 use Rattle.boogie_formula.specs.Choices.{variables_of, locals_in, choices_in, where_done}
-use Rattle.boogie_formula.specs.Follows.{FailsAt, Follows}
+use Rattle.boogie_formula.specs.Follows.{Follows}
 use Rattle.boogie_formula.specs.Formula.{Formula}
 use Rattle.boogie_formula.specs.Value.{formula_value, Valid}
 use Rattle.boogie_wp.specs.Worked.{bool, chosen, elsewhere, here, int, joining, picking, twice}

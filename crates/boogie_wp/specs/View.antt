@@ -1,15 +1,20 @@
 -- What contracts see of a builder and of types: the plain data of Build.
-use Rattle.std.specs.Prelude.{List, map}
+use Rattle.std.specs.Prelude.{ℕ, List, map}
 use Rattle.boogie_formula.specs.View.{fexpr_of}
 use Rattle.boogie_tree.specs.Program as p
 use Rattle.boogie_tree.specs.Whole.{locals_of, type_of}
 use Rattle.boogie_tree.specs.declared.programs.BType.{BType}
 use Rattle.boogie_tree.specs.declared.programs.Local.{Local}
 use Rattle.boogie_wp.specs.Build as b
+use Rattle.boogie_wp.specs.Changes.{begun}
 use Rattle.boogie_wp.specs.declared.builder.Builder.{Builder}
 
 abbrev pub builder_of : Builder → b.Builder
-builder_of x = record { lets = map fexpr_of x.lets.items; versions = x.versions.items; path = x.path; bad = x.bad; next = x.next }
+builder_of x = record { lets = map fexpr_of x.lets.items; versions = x.names.versions.items; path = x.path; bad = x.bad; next = x.next }
+
+-- the names with which the branch began
+abbrev pub begun_of : Builder → List ℕ
+begun_of x = begun x.names
 
 -- the types of locals, and of variables
 abbrev pub types_in : List Local → List p.BType

@@ -7,7 +7,7 @@ ghost use Rattle.boogie_formula.specs.View.{fexpr_of};
 ghost use Rattle.boogie_wp.specs.Build as b;
 ghost use Rattle.boogie_wp.specs.Labels.{same_label};
 ghost use Rattle.boogie_wp.specs.Lifted.{lifted, lifted_all};
-ghost use Rattle.boogie_wp.specs.View.{builder_of};
+ghost use Rattle.boogie_wp.specs.View.{begun_of, builder_of};
 
 use crate::builder::Builder;
 use crate::lift::{lift, lift_all, name_of};
@@ -25,9 +25,10 @@ fn is_label(a: &Label, b: &Label) -> bool
 
 fn assign(alloc: Global, n: usize, local: usize, e: &BExpr, to: &mut Builder) -> Result<(), Memory>
     requires { n < 2 ^ 63 }
-    ensures { OnOk result (builder_of to.new ≡ b.store n local (lifted (b.named (builder_of to.old)) (expr_of e.now)) (builder_of to.old)) }
+    ensures goes { OnOk result (builder_of to.new ≡ b.store n local (lifted (b.named (builder_of to.old)) (expr_of e.now)) (builder_of to.old)) }
+    ensures begun { OnOk result (begun_of to.new ≡ begun_of to.old) }
 {
-    let value = lift(alloc, &to.versions, e)?;
+    let value = lift(alloc, &to.names.versions, e)?;
     to.store(n, local, Box::into_inner(value))
 }
 
@@ -56,26 +57,29 @@ fn put(
     to: &mut Builder,
 ) -> Result<(), Memory>
     requires { n < 2 ^ 63 }
-    ensures { OnOk result (builder_of to.new ≡ b.store n map (f.With (f.Var (b.named (builder_of to.old) map))
+    ensures goes { OnOk result (builder_of to.new ≡ b.store n map (f.With (f.Var (b.named (builder_of to.old) map))
         (lifted_all (b.named (builder_of to.old)) (exprs_of index.now)) (lifted (b.named (builder_of to.old)) (expr_of e.now))) (builder_of to.old)) }
+    ensures begun { OnOk result (begun_of to.new ≡ begun_of to.old) }
 {
-    let value = updated(alloc, &to.versions, map, index, e)?;
+    let value = updated(alloc, &to.names.versions, map, index, e)?;
     to.store(n, map, value)
 }
 
 fn assume(alloc: Global, n: usize, e: &BExpr, to: &mut Builder) -> Result<(), Memory>
     requires { n < 2 ^ 63 }
-    ensures { OnOk result (builder_of to.new ≡ b.go_where n (lifted (b.named (builder_of to.old)) (expr_of e.now)) (builder_of to.old)) }
+    ensures goes { OnOk result (builder_of to.new ≡ b.go_where n (lifted (b.named (builder_of to.old)) (expr_of e.now)) (builder_of to.old)) }
+    ensures begun { OnOk result (begun_of to.new ≡ begun_of to.old) }
 {
-    let value = lift(alloc, &to.versions, e)?;
+    let value = lift(alloc, &to.names.versions, e)?;
     to.go_where(alloc, n, value)
 }
 
 fn check(alloc: Global, n: usize, e: &BExpr, to: &mut Builder) -> Result<(), Memory>
     requires { n < 2 ^ 63 }
-    ensures { OnOk result (builder_of to.new ≡ b.fail_unless n (lifted (b.named (builder_of to.old)) (expr_of e.now)) (builder_of to.old)) }
+    ensures goes { OnOk result (builder_of to.new ≡ b.fail_unless n (lifted (b.named (builder_of to.old)) (expr_of e.now)) (builder_of to.old)) }
+    ensures begun { OnOk result (begun_of to.new ≡ begun_of to.old) }
 {
-    let value = lift(alloc, &to.versions, e)?;
+    let value = lift(alloc, &to.names.versions, e)?;
     to.fail_unless(alloc, n, value)
 }
 
@@ -89,9 +93,10 @@ fn assertion(
     to: &mut Builder,
 ) -> Result<(), Memory>
     requires { n < 2 ^ 63 }
-    ensures { OnOk result (builder_of to.new ≡ (if same_label at.now label.now
+    ensures goes { OnOk result (builder_of to.new ≡ (if same_label at.now label.now
         then b.fail_unless n (lifted (b.named (builder_of to.old)) (expr_of e.now)) (builder_of to.old)
         else b.go_where n (lifted (b.named (builder_of to.old)) (expr_of e.now)) (builder_of to.old))) }
+    ensures begun { OnOk result (begun_of to.new ≡ begun_of to.old) }
 {
     if is_label(at, label) {
         check(alloc, n, e, to)
@@ -105,9 +110,10 @@ fn condition(alloc: Global, n: usize, e: &BExpr, to: &mut Builder) -> Result<usi
     requires { n < 2 ^ 63 }
     ensures name { IfOk result (λ c. c ≡ b.fresh n (builder_of to.old)) }
     ensures goes { OnOk result (builder_of to.new ≡ b.define (lifted (b.named (builder_of to.old)) (expr_of e.now)) (builder_of to.old)) }
+    ensures begun { OnOk result (begun_of to.new ≡ begun_of to.old) }
 {
     let name = to.fresh(n);
-    let value = lift(alloc, &to.versions, e)?;
+    let value = lift(alloc, &to.names.versions, e)?;
     to.define(Box::into_inner(value))?;
     Ok(name)
 }
@@ -123,32 +129,30 @@ fn build_stmt(
 ) -> Result<(), Memory>
     requires names { n < 2 ^ 63 }
     requires room { (builder_of to.old).next + slots_stmt (stmt_of stmt.now) ≤ n }
-    ensures { OnOk result (builder_of to.new ≡ b.built_stmt n label.now (stmt_of stmt.now) (builder_of to.old)) }
+    ensures goes { OnOk result (builder_of to.new ≡ b.built_stmt n label.now (stmt_of stmt.now) (builder_of to.old)) }
+    ensures begun { OnOk result (begun_of to.new ≡ begun_of to.old) }
 {
     match stmt {
         BStmt::Assign(local, e) => assign(alloc, n, *local, e, to),
         BStmt::Put(map, index, e) => put(alloc, n, *map, index, e, to),
-        BStmt::Havoc(local) => {
-            to.choose(*local);
-            Ok(())
-        }
+        BStmt::Havoc(local) => to.choose(*local),
         BStmt::Assume(e) => assume(alloc, n, e, to),
         BStmt::Assert(at, e) => assertion(alloc, n, at, label, e, to),
         BStmt::If(e, then, other) => {
             let name = condition(alloc, n, e, to)?;
             let start = to.enter(alloc, n, name)?;
             build(alloc, n, label, then, to)?;
-            let first = to.back(alloc, n, name, start)?;
+            let first = to.back(alloc, n, name, start.path)?;
             build(alloc, n, label, other, to)?;
-            to.join(alloc, n, name, &first)
+            to.join(alloc, n, name, start.changes, first)
         }
         BStmt::Either(then, other) => {
             let name = to.pass();
             let start = to.enter(alloc, n, name)?;
             build(alloc, n, label, then, to)?;
-            let first = to.back(alloc, n, name, start)?;
+            let first = to.back(alloc, n, name, start.path)?;
             build(alloc, n, label, other, to)?;
-            to.join(alloc, n, name, &first)
+            to.join(alloc, n, name, start.changes, first)
         }
     }
 }
@@ -164,7 +168,8 @@ pub(crate) fn build(
 ) -> Result<(), Memory>
     requires names { n < 2 ^ 63 }
     requires room { (builder_of to.old).next + slots (stmts_of stmts.now) ≤ n }
-    ensures { OnOk result (builder_of to.new ≡ b.built n label.now (stmts_of stmts.now) (builder_of to.old)) }
+    ensures goes { OnOk result (builder_of to.new ≡ b.built n label.now (stmts_of stmts.now) (builder_of to.old)) }
+    ensures begun { OnOk result (begun_of to.new ≡ begun_of to.old) }
 {
     for stmt in stmts {
         build_stmt(alloc, n, label, stmt, to)?;

@@ -1,11 +1,13 @@
 // The definitions of a formula, as they are built.
-ghost use Rattle.std.specs.Prelude.{◌≡◌, ◌+◌, ◌<◌, ◌^◌, slice_set, nat_eq, if◌then◌else◌, IfOk, OnOk};
+ghost use Rattle.std.specs.Prelude.{◌≡◌, ◌+◌, ◌<◌, ◌^◌, ℕ, List, length, slice_set, nat_eq, if◌then◌else◌, IfOk, OnOk};
 ghost use Rattle.boogie_formula.specs.Formula as f;
 ghost use Rattle.boogie_formula.specs.View.{fexpr_of};
 ghost use Rattle.boogie_tree.specs.declared.exprs.BOp.TheVariants as op;
 ghost use Rattle.boogie_wp.specs.Build as b;
-ghost use Rattle.boogie_wp.specs.View.{builder_of};
+ghost use Rattle.boogie_wp.specs.Changes.{changed, Chosen};
+ghost use Rattle.boogie_wp.specs.View.{begun_of, builder_of};
 
+use crate::names::{Change, Choice, Names};
 use boogie_formula::FExpr;
 use boogie_tree::BOp;
 use std::alloc::Global;
@@ -16,8 +18,7 @@ use vb_base::{Memory, boxed};
 #[derive(Drop)]
 pub(crate) struct Builder {
     pub(crate) lets: Vec<FExpr>,
-    /// The name that holds each local's value.
-    pub(crate) versions: Vec<usize>,
+    pub(crate) names: Names,
     /// The name that says whether the run comes here.
     pub(crate) path: usize,
     /// The name that says whether the run has failed at the label.
@@ -26,10 +27,10 @@ pub(crate) struct Builder {
     pub(crate) next: usize,
 }
 
-/// The names with which a branch begins or ends.
+/// What a branch has changed so far, and the name of its path.
 #[derive(Drop)]
 pub(crate) struct Side {
-    pub(crate) versions: Vec<usize>,
+    pub(crate) changes: Vec<Change>,
     pub(crate) path: usize,
 }
 
@@ -53,7 +54,7 @@ fn lost(alloc: Global, before: usize, after: usize) -> Result<Box<FExpr>, Memory
     boxed(alloc, FExpr::Bin(BOp::And, var(alloc, before)?, after))
 }
 
-fn choice(alloc: Global, condition: usize, first: usize, second: usize) -> Result<FExpr, Memory>
+fn chosen(alloc: Global, condition: usize, first: usize, second: usize) -> Result<FExpr, Memory>
     ensures { IfOk result (λ x. fexpr_of x ≡ f.If (f.Var condition) (f.Var first) (f.Var second)) }
 {
     let condition = var(alloc, condition)?;
@@ -72,38 +73,40 @@ impl Builder {
 
     /// One more definition.
     pub(crate) fn define(&mut self, e: FExpr) -> Result<(), Memory>
-        ensures { OnOk result (builder_of self.new ≡ b.define (fexpr_of e) (builder_of self.old)) }
+        ensures goes { OnOk result (builder_of self.new ≡ b.define (fexpr_of e) (builder_of self.old)) }
+        ensures begun { OnOk result (begun_of self.new ≡ begun_of self.old) }
     {
         Ok(self.lets.push(e)?)
     }
 
     /// Another name holds the value of the local.
-    fn rename(&mut self, local: usize, name: usize)
-        ensures { builder_of self.new ≡ record (builder_of self.old) { versions = slice_set (builder_of self.old).versions local name } }
+    fn rename(&mut self, local: usize, name: usize) -> Result<(), Memory>
+        ensures goes { OnOk result (builder_of self.new ≡ record (builder_of self.old) { versions = slice_set (builder_of self.old).versions local name }) }
+        ensures begun { OnOk result (begun_of self.new ≡ begun_of self.old) }
     {
-        if let Some(version) = self.versions.get_mut(local) {
-            *version = name;
-        }
+        self.names.rename(local, name)
     }
 
     /// The local gets the value.
     pub(crate) fn store(&mut self, n: usize, local: usize, e: FExpr) -> Result<(), Memory>
         requires { n < 2 ^ 63 }
-        ensures { OnOk result (builder_of self.new ≡ b.store n local (fexpr_of e) (builder_of self.old)) }
+        ensures goes { OnOk result (builder_of self.new ≡ b.store n local (fexpr_of e) (builder_of self.old)) }
+        ensures begun { OnOk result (begun_of self.new ≡ begun_of self.old) }
     {
         let name = self.fresh(n);
         self.define(e)?;
-        self.rename(local, name);
-        Ok(())
+        self.rename(local, name)
     }
 
     /// The local gets the value of the next variable.
-    pub(crate) fn choose(&mut self, local: usize)
+    pub(crate) fn choose(&mut self, local: usize) -> Result<(), Memory>
         requires { (builder_of self.old).next < 2 ^ 63 }
-        ensures { builder_of self.new ≡ b.choose local (builder_of self.old) }
+        ensures goes { OnOk result (builder_of self.new ≡ b.choose local (builder_of self.old)) }
+        ensures begun { OnOk result (begun_of self.new ≡ begun_of self.old) }
     {
-        self.rename(local, self.next);
+        self.rename(local, self.next)?;
         self.next += 1;
+        Ok(())
     }
 
     /// The next variable is that of an `if (*)`, whose name is given back.
@@ -111,6 +114,7 @@ impl Builder {
         requires { (builder_of self.old).next < 2 ^ 63 }
         ensures name { result ≡ (builder_of self.old).next }
         ensures goes { builder_of self.new ≡ record (builder_of self.old) { next = (builder_of self.old).next + 1 } }
+        ensures begun { begun_of self.new ≡ begun_of self.old }
     {
         let name = self.next;
         self.next += 1;
@@ -120,7 +124,8 @@ impl Builder {
     /// The run comes further only where this is true.
     pub(crate) fn go_where(&mut self, alloc: Global, n: usize, e: Box<FExpr>) -> Result<(), Memory>
         requires { n < 2 ^ 63 }
-        ensures { OnOk result (builder_of self.new ≡ b.go_where n (fexpr_of e.value) (builder_of self.old)) }
+        ensures goes { OnOk result (builder_of self.new ≡ b.go_where n (fexpr_of e.value) (builder_of self.old)) }
+        ensures begun { OnOk result (begun_of self.new ≡ begun_of self.old) }
     {
         let name = self.fresh(n);
         let came = var(alloc, self.path)?;
@@ -132,7 +137,8 @@ impl Builder {
     /// It fails where it came up to the name `before` and not further.
     fn failing(&mut self, alloc: Global, n: usize, before: usize) -> Result<(), Memory>
         requires { n < 2 ^ 63 }
-        ensures { OnOk result (builder_of self.new ≡ b.failing n before (builder_of self.old)) }
+        ensures goes { OnOk result (builder_of self.new ≡ b.failing n before (builder_of self.old)) }
+        ensures begun { OnOk result (begun_of self.new ≡ begun_of self.old) }
     {
         let name = self.fresh(n);
         let failed = var(alloc, self.bad)?;
@@ -150,56 +156,57 @@ impl Builder {
         e: Box<FExpr>,
     ) -> Result<(), Memory>
         requires { n < 2 ^ 63 }
-        ensures { OnOk result (builder_of self.new ≡ b.fail_unless n (fexpr_of e.value) (builder_of self.old)) }
+        ensures goes { OnOk result (builder_of self.new ≡ b.fail_unless n (fexpr_of e.value) (builder_of self.old)) }
+        ensures begun { OnOk result (begun_of self.new ≡ begun_of self.old) }
     {
         let before = self.path;
         self.go_where(alloc, n, e)?;
         self.failing(alloc, n, before)
     }
 
-    /// Both branches end with these names of the local: one definition chooses, unless they are the same.
+    /// One definition chooses between the names with which the branches end, unless they are the same.
     fn merge_one(
         &mut self,
         alloc: Global,
         n: usize,
         condition: usize,
-        local: usize,
-        first: usize,
-        second: usize,
+        choice: Choice,
     ) -> Result<(), Memory>
         requires { n < 2 ^ 63 }
-        ensures { OnOk result (builder_of self.new ≡ (if nat_eq first second then builder_of self.old
-            else b.store n local (f.If (f.Var condition) (f.Var first) (f.Var second)) (builder_of self.old))) }
+        ensures goes { OnOk result (builder_of self.new ≡ (if nat_eq choice.first choice.second
+            then record (builder_of self.old) { versions = slice_set (builder_of self.old).versions choice.local choice.second }
+            else b.store n choice.local (f.If (f.Var condition) (f.Var choice.first) (f.Var choice.second)) (builder_of self.old))) }
+        ensures begun { OnOk result (begun_of self.new ≡ begun_of self.old) }
     {
-        if first == second {
-            return Ok(());
+        if choice.first == choice.second {
+            return self.rename(choice.local, choice.second);
         }
-        let e = choice(alloc, condition, first, second)?;
-        self.store(n, local, e)
+        let e = chosen(alloc, condition, choice.first, choice.second)?;
+        self.store(n, choice.local, e)
     }
 
-    /// The names after two branches: where they differ, that of the first one where the condition is true.
+    /// The names after two branches, of which these are the choices: where they differ, that of the first one where the condition is true.
     fn merge(
         &mut self,
         alloc: Global,
         n: usize,
         condition: usize,
-        firsts: &[usize],
+        choices: &[Choice],
     ) -> Result<(), Memory>
         requires { n < 2 ^ 63 }
-        ensures { OnOk result (builder_of self.new ≡ b.with_merged (builder_of self.old).path (builder_of self.old)
-            (b.merge n condition firsts.now (builder_of self.old).versions (builder_of self.old).lets)) }
+        ensures goes { (vs ws : List ℕ) → length vs ≡ length (builder_of self.old).versions → length ws ≡ length (builder_of self.old).versions
+            → Chosen (builder_of self.old).versions vs ws 0 choices.now
+            → OnOk result (builder_of self.new ≡ b.with_merged (builder_of self.old).path (builder_of self.old)
+            (b.merge n condition vs ws (builder_of self.old).lets)) }
+        ensures begun { OnOk result (begun_of self.new ≡ begun_of self.old) }
     {
-        for local in 0..self.versions.len() {
-            if let Some(first) = firsts.get(local) {
-                let second = self.versions[local];
-                self.merge_one(alloc, n, condition, local, *first, second)?;
-            }
+        for choice in choices {
+            self.merge_one(alloc, n, condition, *choice)?;
         }
         Ok(())
     }
 
-    /// The first branch begins. What is given back are the names with which the second one begins.
+    /// The first branch begins. What is given back are the changes and the path so far.
     pub(crate) fn enter(
         &mut self,
         alloc: Global,
@@ -207,53 +214,70 @@ impl Builder {
         condition: usize,
     ) -> Result<Side, Memory>
         requires { n < 2 ^ 63 }
-        ensures side { IfOk result (λ side. (side.versions.items ≡ (builder_of self.old).versions) × (side.path ≡ (builder_of self.old).path)) }
+        ensures side { IfOk result (λ side. (changed side.changes.items (builder_of self.old).versions ≡ begun_of self.old) × (side.path ≡ (builder_of self.old).path)) }
         ensures goes { OnOk result (builder_of self.new ≡ b.go_where n (f.Var condition) (builder_of self.old)) }
+        ensures begun { OnOk result (begun_of self.new ≡ (builder_of self.old).versions) }
     {
-        let mut versions = Vec::new(alloc);
-        versions.extend_from_slice(&self.versions)?;
+        let changes = mem::replace(&mut self.names.changes, Vec::new(alloc));
         let path = self.path;
         let came = var(alloc, condition)?;
         self.go_where(alloc, n, came)?;
-        Ok(Side { versions, path })
+        Ok(Side { changes, path })
     }
 
-    /// The second branch begins, with these names. What is given back are the names with which the first one ended.
+    /// The second branch begins, with the names with which the first one did, and with this path. What is given back are the names and
+    /// the path with which the first one ended.
     pub(crate) fn back(
         &mut self,
         alloc: Global,
         n: usize,
         condition: usize,
-        start: Side,
+        path: usize,
     ) -> Result<Side, Memory>
         requires { n < 2 ^ 63 }
-        ensures side { IfOk result (λ side. (side.versions.items ≡ (builder_of self.old).versions) × (side.path ≡ (builder_of self.old).path)) }
+        ensures side { IfOk result (λ side. (changed side.changes.items (begun_of self.old) ≡ (builder_of self.old).versions) × (side.path ≡ (builder_of self.old).path)) }
         ensures goes { OnOk result (builder_of self.new ≡ b.go_where n (f.Not (f.Var condition))
-            (record (builder_of self.old) { versions = start.versions.items; path = start.path })) }
+            (record (builder_of self.old) { versions = begun_of self.old; path = path })) }
+        ensures begun { OnOk result (begun_of self.new ≡ begun_of self.old) }
     {
-        let versions = mem::replace(&mut self.versions, start.versions);
-        let path = mem::replace(&mut self.path, start.path);
+        let changes = self.names.undo(alloc)?;
+        let path = mem::replace(&mut self.path, path);
         let came = negated(alloc, condition)?;
         self.go_where(alloc, n, came)?;
-        Ok(Side { versions, path })
+        Ok(Side { changes, path })
     }
 
-    /// Both branches have ended, the first one with these names.
+    /// A definition of the path behind both branches. What is given back is its name.
+    fn meet(&mut self, alloc: Global, n: usize, first: usize) -> Result<usize, Memory>
+        requires { n < 2 ^ 63 }
+        ensures name { IfOk result (λ name. name ≡ b.fresh n (builder_of self.old)) }
+        ensures goes { OnOk result (builder_of self.new ≡ b.define (f.Bin op.Or (f.Var first) (f.Var (builder_of self.old).path)) (builder_of self.old)) }
+        ensures begun { OnOk result (begun_of self.new ≡ begun_of self.old) }
+    {
+        let name = self.fresh(n);
+        let came = var(alloc, first)?;
+        let other = var(alloc, self.path)?;
+        self.define(FExpr::Bin(BOp::Or, came, other))?;
+        Ok(name)
+    }
+
+    /// Both branches have ended, the first one with these names and this path. Before them there were the changes `before`.
     pub(crate) fn join(
         &mut self,
         alloc: Global,
         n: usize,
         condition: usize,
-        first: &Side,
+        before: Vec<Change>,
+        first: Side,
     ) -> Result<(), Memory>
         requires { n < 2 ^ 63 }
-        ensures { OnOk result (builder_of self.new ≡ b.join n condition first.now.versions.items first.now.path (builder_of self.old)) }
+        ensures goes { OnOk result (builder_of self.new ≡ b.join n condition (changed first.changes.items (begun_of self.old)) first.path (builder_of self.old)) }
+        ensures begun { OnOk result (begun_of self.new ≡ changed before.items (begun_of self.old)) }
     {
-        let name = self.fresh(n);
-        let came = var(alloc, first.path)?;
-        let other = var(alloc, self.path)?;
-        self.define(FExpr::Bin(BOp::Or, came, other))?;
-        self.merge(alloc, n, condition, &first.versions)?;
+        let name = self.meet(alloc, n, first.path)?;
+        let choices = self.names.choices(alloc, first.changes)?;
+        self.names.changes = before;
+        self.merge(alloc, n, condition, &choices)?;
         self.path = name;
         Ok(())
     }

@@ -13,6 +13,7 @@ ghost use Rattle.boogie_wp.specs.View.{builder_of, types_in, types_of_all};
 
 use crate::build::build;
 use crate::builder::Builder;
+use crate::names::Names;
 use crate::variables::variables;
 use boogie_formula::{FExpr, Formula};
 use boogie_tree::{BProgram, BType, Local, Proc};
@@ -38,7 +39,10 @@ fn start(alloc: Global, n: usize, locals: &[Local]) -> Result<Builder, Memory>
     let versions = numbers_of(alloc, locals)?;
     let mut start = Builder {
         lets: Vec::new(alloc),
-        versions,
+        names: Names {
+            versions,
+            changes: Vec::new(alloc),
+        },
         path: n,
         bad: n + 1,
         next: locals.len(),

@@ -5,6 +5,7 @@ mod build;
 mod builder;
 mod formulas;
 mod lift;
+mod names;
 mod variables;
 pub mod worked;
 

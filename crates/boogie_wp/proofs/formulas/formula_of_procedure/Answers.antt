@@ -28,4 +28,4 @@ returns c =
     let long : length vars ≡ c.len-n.result = length_types c.in_ok-vars.vars.items ∙ sym c.in_ok-vars.vars.ok.0 ∙ sym c.len-n.ensures in
     IfOk-weaker c.finish.result _ _ (λ f made. made
     ∙ formula_is c.args.proc.now c.args.label.now vars c.len-n.result c.deref.result.now c.deref-2.result.now (builder_of c.in_ok-builder.builder) (builder_of c.build.new.to) c.in_ok-vars.ensures long
-    c.deref.ensures.value c.deref-2.ensures.value (c.in_ok-builder.ensures vars long) c.in_ok-build.ensures) c.finish.ensures
+    c.deref.ensures.value c.deref-2.ensures.value (c.in_ok-builder.ensures vars long) c.in_ok-build.ensures.goes) c.finish.ensures

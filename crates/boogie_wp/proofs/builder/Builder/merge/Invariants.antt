@@ -1,10 +1,10 @@
--- What is left to merge makes of the builder what all makes of the first one.
-use Rattle.std.proofs.Common.{◌≡◌, length}
-use Rattle.boogie_wp.specs.View.{builder_of}
-use Rattle.boogie_wp.proofs.CodeLaws.{merged_from}
+-- What the choices that are left make of the builder is what all make of the first one.
+use Rattle.std.proofs.Common.{◌≡◌, drop}
+use Rattle.boogie_wp.specs.View.{begun_of, builder_of}
+use Rattle.boogie_wp.proofs.ChangeLaws.{steps_of}
 use Rattle.boogie_wp.proofs.builder.Builder.merge.Given as goal
 
-abbrev pub invariant-loop-local : goal.invariant-loop-local
-invariant-loop-local l =
-    (merged_from l.n l.condition l.firsts l.local (builder_of l.self) ≡ merged_from l.n l.condition l.firsts 0 (builder_of l.initial.self))
-    × (length l.self.versions.items ≡ length l.initial.self.versions.items)
+abbrev pub invariant-loop-choice : goal.invariant-loop-choice
+invariant-loop-choice l =
+    (steps_of l.n l.condition (drop l.choice-index l.choices) (builder_of l.self) ≡ steps_of l.n l.condition l.choices (builder_of l.initial.self))
+    × (begun_of l.self ≡ begun_of l.initial.self)
