@@ -8,7 +8,7 @@ use Rattle.vb_value.specs.Bound.{Unbounded}
 use Rattle.boogie_tree.specs.Program.{BType, Local}
 use Rattle.boogie_tree.specs.Value.{BValue, BChoice}
 use Rattle.boogie_tree.specs.Values.{IsEnvironment, IsReducedChoice}
-use Rattle.boogie_meaning.specs.Programs.{types_of, default_value}
+use Rattle.boogie_meaning.specs.Programs.{types_of, default_value, ProcFails}
 use Rattle.boogie_meaning.specs.Run.{Run, Stop, Stops, Failed}
 use Rattle.boogie_meaning.proofs.ValueLaws.{default_typed}
 use Rattle.boogie_wide.specs.Wide.{WStmts, WProc, WProgram}
@@ -18,7 +18,7 @@ use Rattle.boogie_wide.specs.Turning.{Halts, wrun_proc}
 use Rattle.boogie_wide.specs.WideTypes.{IsWide, IsWideBody, IsWideProc, IsWideProgram}
 use Rattle.boogie_cut.specs.Alike.{EndAlike, done, stops}
 use Rattle.boogie_cut.specs.Cut.{cut, cut_proc, cut_procs, cut_program}
-use Rattle.boogie_cut.specs.Follows.{SomeRunFails, IsCutOf, with_bodies, AreCutOf}
+use Rattle.boogie_cut.specs.Follows.{IsCutOf, with_bodies, AreCutOf}
 use Rattle.boogie_cut.proofs.EnvLaws.{length_env}
 use Rattle.boogie_cut.proofs.BlockLaws.{Callees, written_types, proc_alike, length_map}
 use Rattle.boogie_cut.proofs.LoopLaws.{proc_tells, tells_failed}
@@ -47,7 +47,7 @@ same_stop stops why left h = h
 
 module _ (ps : List WProc) (callees : Callees ps) (d : WProc) (body : WStmts) (typed : IsWideProc ps d) (block : IsWide ps (wide_types d) d.params body) where
   fails_so : (env : List BValue) (cs left : List BChoice) (n : ℕ) (label : Label) → IsEnvironment (wide_types d) env → All IsReducedChoice cs →
-      wrun_proc ps Unbounded d body env cs n ≡ Halts (Failed label) left → SomeRunFails (cut_proc ps d body) label
+      wrun_proc ps Unbounded d body env cs n ≡ Halts (Failed label) left → ProcFails (cut_proc ps d body) label
   fails_so env cs left n label e r h =
       let f = tells_failed (proc_tells ps d body block env cs n e r) label left h in
       let us = (cut ps (wide_types d) body (length d.locals)).locals in
@@ -60,9 +60,11 @@ module _ (ps : List WProc) (callees : Callees ps) (d : WProc) (body : WStmts) (t
         is_environment = whole;
         choices = f.0;
         are_reduced = f.2;
-        left = f.1;
-        fails = same_stop (proc_alike ps callees d body typed block (env ++ map default_value us) f.0 whole f.2) (Failed label) f.1
-            (ap (λ vs. cutrun_proc ps Unbounded d body vs f.0) front ∙ f.3);
+        fails = record {
+          left = f.1;
+          is = same_stop (proc_alike ps callees d body typed block (env ++ map default_value us) f.0 whole f.2) (Failed label) f.1
+              (ap (λ vs. cutrun_proc ps Unbounded d body vs f.0) front ∙ f.3);
+        };
       }
 
   proc_follows : IsCutOf ps d body (cut_proc ps d body)

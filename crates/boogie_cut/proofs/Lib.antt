@@ -11,3 +11,4 @@ pub mod CodeLaws
 pub mod WriteLaws
 pub mod PlaceLaws
 pub mod ChangedLaws
+pub mod TypedLaws

@@ -7,22 +7,13 @@ use Rattle.vb_value.specs.Bound.{Unbounded}
 use Rattle.boogie_tree.specs.Program.{Proc, BProgram}
 use Rattle.boogie_tree.specs.Value.{BValue, BChoice}
 use Rattle.boogie_tree.specs.Values.{IsEnvironment, IsReducedChoice}
-use Rattle.boogie_meaning.specs.Programs.{types_of, brun_proc}
-use Rattle.boogie_meaning.specs.Run.{Stops, Failed}
+use Rattle.boogie_meaning.specs.Programs.{types_of, brun_proc, ProcFails}
+use Rattle.boogie_meaning.specs.Run.{Failed}
 use Rattle.boogie_wide.specs.Wide.{WStmts, WProc, WProgram}
 use Rattle.boogie_wide.specs.Modular.{cutrun_proc}
 use Rattle.boogie_wide.specs.Procedures.{wide_types}
 use Rattle.boogie_wide.specs.Turning.{Halts, wrun_proc}
 use Rattle.boogie_cut.specs.Alike.{EndAlike}
-
--- some run of the procedure fails at the label, from some values of its variables and without a bound
-pub record SomeRunFails (p : Proc) (label : Label) : Type 0 where
-  pub environment : List BValue
-  pub is_environment : IsEnvironment (types_of p) environment
-  pub choices : List BChoice
-  pub are_reduced : All IsReducedChoice choices
-  pub left : List BChoice
-  pub fails : brun_proc Unbounded p environment choices ≡ Stops (Failed label) left
 
 -- The procedure p is written for d, a procedure with this body among the procedures ps.
 pub record IsCutOf (ps : List WProc) (d : WProc) (body : WStmts) (p : Proc) : Type 0 where
@@ -34,7 +25,7 @@ pub record IsCutOf (ps : List WProc) (d : WProc) (body : WStmts) (p : Proc) : Ty
       EndAlike (length d.locals) (brun_proc Unbounded p env cs) (cutrun_proc ps Unbounded d body (take (length d.locals) env) cs)
   -- where the turning run of d fails at a label, with any number of turns, some run of it fails there
   pub fails : (env : List BValue) (cs left : List BChoice) (n : ℕ) (label : Label) → IsEnvironment (wide_types d) env → All IsReducedChoice cs →
-      wrun_proc ps Unbounded d body env cs n ≡ Halts (Failed label) left → SomeRunFails p label
+      wrun_proc ps Unbounded d body env cs n ≡ Halts (Failed label) left → ProcFails p label
 
 -- the procedures that have a body, each with it
 abbrev pub with_bodies : List WProc → List (WProc × WStmts)

@@ -9,7 +9,6 @@ mod fresh;
 pub mod laws;
 mod loops;
 mod pieces;
-mod procs;
 mod programs;
 mod statements;
 pub mod worked;

@@ -1,18 +1,20 @@
 // Procedures and programs.
 ghost use Rattle.std.specs.Prelude.{◌≡◌, ◌++◌, ◌∷◌, [], IfOk, OnOk, map};
 ghost use Rattle.boogie_tree.specs.Whole.{proc_of, program_of, stmts_of};
+ghost use Rattle.boogie_meaning.specs.Programs.{IsTypedProgram};
 ghost use Rattle.boogie_wide.specs.View.{wproc_of, wprogram_of, wstmts_of};
+ghost use Rattle.boogie_wide.specs.WideTypes.{IsWideProgram};
 ghost use Rattle.boogie_cut.specs.Cut as c;
 ghost use Rattle.boogie_cut.specs.Cut.{cut_program};
+ghost use Rattle.boogie_cut.specs.Follows.{AreCutOf};
 ghost use Rattle.boogie_cut.specs.View.{IsBody, types_of_all};
 
 use crate::copies::Names;
 use crate::fresh::with_fresh;
 use crate::pieces::{write_asserts, write_assumes};
-use crate::procs::Procs;
 use crate::statements::{Frame, cut_block};
 use boogie_tree::{BProgram, BStmt, BType, Proc};
-use boogie_wide::{WProc, WProgram, WStmt};
+use boogie_wide::{Procs, WProc, WProgram, WStmt};
 use std::alloc::Global;
 use vb_base::Memory;
 
@@ -65,11 +67,14 @@ fn add_proc(
 }
 
 /// The program without loops and calls. For each procedure that has a body, in their order, one is written under its name: it has the
-/// procedure's own variables, and further ones behind them. The only error is the want of memory.
+/// procedure's own variables, and further ones behind them. The only error is the want of memory. What is written for a well-typed
+/// program is well-typed, and its runs are the modular runs.
 pub fn cut(alloc: Global, program: &WProgram) -> Result<BProgram, Memory>
-    ensures { IfOk result (λ b. program_of b ≡ cut_program (wprogram_of program.now)) }
+    ensures written { IfOk result (λ b. program_of b ≡ cut_program (wprogram_of program.now)) }
+    ensures follows { IsWideProgram (wprogram_of program.now) → IfOk result (λ b. AreCutOf (wprogram_of program.now) (program_of b)) }
+    ensures typed { IsWideProgram (wprogram_of program.now) → IfOk result (λ b. IsTypedProgram (program_of b)) }
 {
-    let procs = Procs::of(alloc, &program.procs)?;
+    let procs = Procs::of(alloc, &program.procs);
     let mut out = Vec::new(alloc);
     for proc in &program.procs {
         add_proc(alloc, &procs, proc, &mut out)?;

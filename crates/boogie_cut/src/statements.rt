@@ -10,9 +10,8 @@ use crate::calls::{add_params, write_call};
 use crate::copies::{copy, copy_all};
 use crate::loops::{write_either, write_if, write_loop};
 use crate::pieces::behind;
-use crate::procs::Procs;
 use boogie_tree::{BExpr, BStmt, BType, Local};
-use boogie_wide::{WProc, WStmt};
+use boogie_wide::{Procs, WProc, WStmt};
 use std::alloc::Global;
 use vb_base::{Label, Memory};
 

@@ -68,6 +68,19 @@ default_by (k ∷ ks) u = Many (empty (default_of u))
 abbrev pub default_value : BType → BValue
 default_value u = default_by u.keys u.base
 
+-- it fails at the label
+pub record FailsAt (label : Label) (r : Run) : Type 0 where
+  pub left : List BChoice
+  pub is : r ≡ Stops (Failed label) left
+
+-- some run of this procedure fails at the label. It starts from any values of the variables, and has no bound.
+pub record ProcFails (d : Proc) (label : Label) : Type 0 where
+  pub environment : List BValue
+  pub is_environment : IsEnvironment (types_of d) environment
+  pub choices : List BChoice
+  pub are_reduced : All IsReducedChoice choices
+  pub fails : FailsAt label (brun_proc Unbounded d environment choices)
+
 -- some run of a procedure of this name fails at the label. It starts from any values of the variables, and has no bound.
 pub record BoogieFails (program : BProgram) (name : List ℕ) (label : Label) : Type 0 where
   pub number : ℕ

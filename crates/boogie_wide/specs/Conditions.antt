@@ -1,5 +1,5 @@
--- What types do not say of a program that has a text: the names that have to differ do, each literal is from 0 to the greatest, and
--- each `forall` binds a variable.
+-- What types do not say of a program that has a text: the names that have to differ do, each is of some kind, each literal is from 0
+-- to the greatest, and each `forall` binds a variable.
 use Rattle.std.specs.Prelude.{⊤, ℕ, List, map, All, Option, Some, None}
 use Rattle.vb_base.specs.Names.{NamesDiffer}
 use Rattle.boogie_tree.specs.Expr as t
@@ -14,6 +14,11 @@ variable_names d = map (λ l. l.name) d.locals
 
 abbrev pub procedure_names : List WProc → List (List ℕ)
 procedure_names ps = map (λ d. d.name) ps
+
+-- the names of a procedure and of its variables are of this kind
+pub record HasNames (IsOfKind : List ℕ → Type 0) (d : WProc) : Type 0 where
+  pub name : IsOfKind d.name
+  pub variables : All IsOfKind (variable_names d)
 
 -- The names of procedures differ, and so do those of the variables of a procedure.
 pub record NamesAreApart (program : WProgram) : Type 0 where

@@ -6,3 +6,4 @@ pub mod Changed
 pub mod Modular
 pub mod Turning
 pub mod Conditions
+pub mod Places

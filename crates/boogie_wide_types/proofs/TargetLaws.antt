@@ -39,22 +39,6 @@ arguments_end ls n ws h = arguments_none ls (drop n ws) ∙ none_left n ws h
 pub targets_end : (ls : List BType) (n : ℕ) (ws : List Local) → n ≤ length ws → are_targets ls [] (types_in (drop n ws)) ≡ nat_eq n (length ws)
 targets_end ls n ws h = targets_none ls (drop n ws) ∙ none_left n ws h
 
--- the procedure of a name, in two ways
-pub named_is : (ds : List WProc) (name : List ℕ) → proc_named (map wproc_of ds) name ≡ option_map wproc_of (find (λ d. bytes_eq (wproc_of d).name name) ds)
-named_is [] name = refl
-named_is (d ∷ ds) name = at (bytes_eq (wproc_of d).name name) (named_is ds name)
-  where
-    at : (p : Truth) → proc_named (map wproc_of ds) name ≡ option_map wproc_of (find (λ d. bytes_eq (wproc_of d).name name) ds) →
-        cond p (Some (wproc_of d)) (proc_named (map wproc_of ds) name) ≡ option_map wproc_of (cond p (Some d) (find (λ d. bytes_eq (wproc_of d).name name) ds))
-    at true h = refl
-    at false h = h
-
-pub is_found : (ds : List WProc) (name : List ℕ) {o : Option WProc} {d : WProc} → o ≡ find (λ d. bytes_eq (wproc_of d).name name) ds → o ≡ Some d → proc_named (map wproc_of ds) name ≡ Some (wproc_of d)
-is_found ds name h g = named_is ds name ∙ ap (option_map wproc_of) (sym h ∙ g)
-
-pub is_missing : (ds : List WProc) (name : List ℕ) {o : Option WProc} → o ≡ find (λ d. bytes_eq (wproc_of d).name name) ds → o ≡ None → proc_named (map wproc_of ds) name ≡ None
-is_missing ds name h g = named_is ds name ∙ ap (option_map wproc_of) (sym h ∙ g)
-
 too_many : (ls : List BType) (is : List ℕ) → 0 < length is → are_targets ls is [] ≡ false
 too_many ls [] h = absurd (omega (arith, h))
 too_many ls (i ∷ is) h = refl

@@ -9,13 +9,13 @@ use crate::calls::is_call;
 use crate::heads::{are_bools, is_guard};
 use boogie_run::{is_assign, is_bool, is_put};
 use boogie_tree::Local;
-use boogie_wide::{WProc, WStmt};
+use boogie_wide::{Procs, WStmt};
 
 /// Whether a statement is well-typed, by the procedures of the program and the variables, the first of which are so many
 /// parameters.
 #[cycle(blocks)]
-fn is_typed_stmt(procs: &[WProc], locals: &[Local], params: usize, stmt: &WStmt) -> bool
-    ensures { result ≡ ty.is_wide_stmt (map wproc_of procs.now) (types_in locals.now) params (wstmt_of stmt.now) }
+fn is_typed_stmt(procs: &Procs<'_>, locals: &[Local], params: usize, stmt: &WStmt) -> bool
+    ensures { result ≡ ty.is_wide_stmt (map wproc_of procs.now.all.now) (types_in locals.now) params (wstmt_of stmt.now) }
 {
     match stmt {
         WStmt::Assign(number, e) => params <= *number && is_assign(locals, *number, e),
@@ -44,8 +44,8 @@ fn is_typed_stmt(procs: &[WProc], locals: &[Local], params: usize, stmt: &WStmt)
 
 /// Whether each statement of a block is.
 #[cycle(blocks)]
-pub(crate) fn is_typed(procs: &[WProc], locals: &[Local], params: usize, stmts: &[WStmt]) -> bool
-    ensures { result ≡ ty.is_wide (map wproc_of procs.now) (types_in locals.now) params (wstmts_of stmts.now) }
+pub(crate) fn is_typed(procs: &Procs<'_>, locals: &[Local], params: usize, stmts: &[WStmt]) -> bool
+    ensures { result ≡ ty.is_wide (map wproc_of procs.now.all.now) (types_in locals.now) params (wstmts_of stmts.now) }
 {
     for stmt in stmts {
         if !is_typed_stmt(procs, locals, params, stmt) {

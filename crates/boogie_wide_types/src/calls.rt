@@ -1,8 +1,6 @@
 // The types of calls.
-ghost use Rattle.std.specs.Prelude.{◌≡◌, ◌==◌, not, nat_le, map, slice_get, Some, find};
+ghost use Rattle.std.specs.Prelude.{◌≡◌, ◌==◌, not, nat_le, map, slice_get, Some, IfOk};
 ghost use Rattle.std.specs.List.{list_all};
-ghost use Rattle.std.specs.Option.{option_map};
-ghost use Rattle.std.specs.Str.{bytes_eq};
 ghost use Rattle.boogie_tree.specs.Whole.{expr_of, exprs_of, type_of};
 ghost use Rattle.boogie_meaning.specs.Types.{is_type};
 ghost use Rattle.boogie_run.specs.Typed.{types_in};
@@ -13,21 +11,10 @@ ghost use Rattle.boogie_wide.specs.WideTypes as ty;
 use crate::heads::{params, returns};
 use boogie_run::{base_of_expr, same_type};
 use boogie_tree::{BExpr, BType, Local, same_base, same_bases};
-use boogie_wide::WProc;
-use vb_base::Ident;
-
-fn is_named(proc: &WProc, name: &Ident) -> bool
-    ensures { result ≡ bytes_eq (wproc_of proc.now).name name.now }
-{
-    proc.name.bytes.as_slice() == name.bytes.as_slice()
-}
-
-/// The first procedure of this name.
-fn proc_named<'a>(procs: &'a [WProc], name: &Ident) -> Option<&'a WProc>
-    ensures { option_map (λ d. d.now) result ≡ find (λ d. bytes_eq (wproc_of d).name name.now) procs.now }
-{
-    procs.iter().find(|proc| is_named(proc, name))
-}
+use boogie_wide::{Procs, WProc};
+use indexmap::IndexSet;
+use std::alloc::Global;
+use vb_base::{Ident, Memory};
 
 /// Whether an expression has this type, which is that of no map.
 fn is_argument(locals: &[Local], e: &BExpr, param: &BType) -> bool
@@ -97,8 +84,22 @@ fn is_none_of(number: usize, others: &[usize]) -> bool
     others.iter().all(|other| number != *other)
 }
 
-/// Whether no number stands twice.
-fn all_differ(numbers: &[usize]) -> bool
+/// Whether no number stands twice, told from a set of them.
+fn all_new(alloc: Global, numbers: &[usize]) -> Result<bool, Memory>
+    ensures { IfOk result (λ b. b ≡ ty.all_differ numbers.now) }
+{
+    let mut seen = IndexSet::new(alloc);
+    for number in numbers {
+        let is_new = seen.insert(*number)?;
+        if !is_new {
+            return Ok(false);
+        }
+    }
+    Ok(true)
+}
+
+/// Whether no number stands twice, told without memory: each is compared with all behind it.
+fn all_apart(numbers: &[usize]) -> bool
     ensures { result ≡ ty.all_differ numbers.now }
 {
     let mut count = 0;
@@ -111,35 +112,45 @@ fn all_differ(numbers: &[usize]) -> bool
     true
 }
 
+/// Whether no number stands twice.
+fn all_differ(alloc: Global, numbers: &[usize]) -> bool
+    ensures { result ≡ ty.all_differ numbers.now }
+{
+    match all_new(alloc, numbers) {
+        Ok(is_so) => is_so,
+        Err(_) => all_apart(numbers),
+    }
+}
+
 /// Whether a call of this procedure is well-typed, among variables of which so many are parameters.
 fn is_call_of(
     locals: &[Local],
     own_params: usize,
-    targets: &[usize],
+    targets: &Vec<usize>,
     es: &[BExpr],
     callee: &WProc,
 ) -> bool
-    ensures { result ≡ ty.is_call_of (types_in locals.now) own_params targets.now (exprs_of es.now) (Some (wproc_of callee.now)) }
+    ensures { result ≡ ty.is_call_of (types_in locals.now) own_params targets.now.items (exprs_of es.now) (Some (wproc_of callee.now)) }
 {
     are_arguments(locals, es, params(callee))
         && are_targets(locals, targets, returns(callee))
         && are_own(own_params, targets)
-        && all_differ(targets)
+        && all_differ(*targets.allocator(), targets)
 }
 
 /// Whether a call is well-typed, among variables of which so many are parameters.
 pub(crate) fn is_call(
-    procs: &[WProc],
+    procs: &Procs<'_>,
     locals: &[Local],
     own_params: usize,
-    targets: &[usize],
+    targets: &Vec<usize>,
     name: &Ident,
     es: &[BExpr],
 ) -> bool
-    ensures { result ≡ ty.is_call_of (types_in locals.now) own_params targets.now (exprs_of es.now)
-        (proc_named (map wproc_of procs.now) name.now) }
+    ensures { result ≡ ty.is_call_of (types_in locals.now) own_params targets.now.items (exprs_of es.now)
+        (proc_named (map wproc_of procs.now.all.now) name.now) }
 {
-    match proc_named(procs, name) {
+    match procs.named(name) {
         Some(callee) => is_call_of(locals, own_params, targets, es, callee),
         None => false,
     }

@@ -1,4 +1,3 @@
-pub mod TypedLaws
 pub mod NameLaws
 pub mod LiteralLaws
 pub mod PrintableLaws

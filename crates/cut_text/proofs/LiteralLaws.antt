@@ -12,7 +12,7 @@ use Rattle.boogie_wide.specs.Changed.{targets}
 use Rattle.boogie_wide.specs.Conditions.{ClauseLiteralsFit, GuardLiteralsFit, WideStmtLiteralsFit, WideLiteralsFit, BodyLiteralsFit, ProcLiteralsFit}
 use Rattle.boogie_wide.specs.Procedures.{proc_named}
 use Rattle.boogie_cut.specs.Cut.{join, alone, asserts, assumes, havocs, assigns, argument_numbers, stands_for, renamed_clauses, cut_call, cut_guard, cut_turn, cut_loop, cut_stmt, cut, cut_body}
-use Rattle.cut_text.proofs.TypedLaws.{found, place_at}
+use Rattle.boogie_cut.proofs.TypedLaws.{found, place_at}
 
 module _ (f : ℕ → ℕ) where
   mutual

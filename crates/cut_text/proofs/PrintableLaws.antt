@@ -15,15 +15,15 @@ use Rattle.boogie_grammar.specs.Grammar.{local_names, proc_names}
 use Rattle.boogie_text.specs.Printable.{IsFreeName, FitsLocal, FitsProc, IsPrintable}
 use Rattle.boogie_wide.specs.Wide as w
 use Rattle.boogie_wide.specs.Wide.{WProc, WProgram}
-use Rattle.boogie_wide.specs.Conditions.{variable_names, procedure_names, BodyLiteralsFit, ProcLiteralsFit}
+use Rattle.boogie_wide.specs.Conditions.{variable_names, procedure_names, HasNames, BodyLiteralsFit, ProcLiteralsFit}
 use Rattle.boogie_wide.specs.Procedures.{wide_types}
 use Rattle.boogie_wide.specs.WideTypes.{IsWide, IsWideBody, IsWideProc}
 use Rattle.boogie_cut.specs.Cut.{cut, cut_body, cut_proc, cut_procs, cut_program}
 use Rattle.boogie_cut.specs.Fresh.{fresh_locals, is_a}
-use Rattle.cut_text.specs.Printable.{HasFreeNames, IsPrintableWide, AreFewLocals}
+use Rattle.cut_text.specs.Printable.{IsPrintableWide, AreFewLocals}
 use Rattle.cut_text.proofs.LiteralLaws.{body_fits}
 use Rattle.cut_text.proofs.NameLaws.{fewer, fresh_fit, all_differ, small_numbers}
-use Rattle.cut_text.proofs.TypedLaws.{at_place, types_of_fresh, block_keys, proc_typed}
+use Rattle.boogie_cut.proofs.TypedLaws.{at_place, types_of_fresh, block_keys, proc_typed}
 
 locals_fit : (ls : List Local) → All IsFreeName (map (λ (l : Local). l.name) ls) → HaveKeys (map (λ (l : Local). l.ty) ls) → All FitsLocal ls
 locals_fit [] h k = All-nil FitsLocal
@@ -34,7 +34,7 @@ locals_fit (l ∷ ls) h k = All-cons FitsLocal l ls
 -- what is said of one procedure
 record Fits (ps : List WProc) (d : WProc) : Type 0 where
   typed : IsWideProc ps d
-  free : HasFreeNames d
+  free : HasNames IsFreeName d
   literals : ProcLiteralsFit d
   differ : NamesDiffer (variable_names d)
 
@@ -98,7 +98,7 @@ module _ (ps : List WProc) where
       at (Some xs) rest = AllPairs-cons (λ x y. x ≢ y) d.name (proc_names (cut_procs ps ds))
           (names_kept (λ y. d.name ≢ y) ds (λ k x within. h 0 (suc k) x (omega arith) (omega (arith, within)))) rest
 
-all_fit : (ps ds : List WProc) → All (IsWideProc ps) ds → All HasFreeNames ds → All ProcLiteralsFit ds → All (λ d. NamesDiffer (variable_names d)) ds → All (Fits ps) ds
+all_fit : (ps ds : List WProc) → All (IsWideProc ps) ds → All (HasNames IsFreeName) ds → All ProcLiteralsFit ds → All (λ d. NamesDiffer (variable_names d)) ds → All (Fits ps) ds
 all_fit ps ds typed free literals differ k d within = record { typed = typed k d within; free = free k d within; literals = literals k d within; differ = differ k d within }
 
 pub printable : (program : WProgram) → IsPrintableWide program → AreFewLocals (cut_program program) → IsPrintable (cut_program program)

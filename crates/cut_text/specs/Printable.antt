@@ -2,19 +2,14 @@
 use Rattle.std.specs.Prelude.{◌<◌, ◌^◌, All, length}
 use Rattle.boogie_tree.specs.Program.{BProgram}
 use Rattle.boogie_text.specs.Printable.{IsFreeName}
-use Rattle.boogie_wide.specs.Wide.{WProc, WProgram}
-use Rattle.boogie_wide.specs.Conditions.{variable_names, NamesAreApart, ProcLiteralsFit}
+use Rattle.boogie_wide.specs.Wide.{WProgram}
+use Rattle.boogie_wide.specs.Conditions.{HasNames, NamesAreApart, ProcLiteralsFit}
 use Rattle.boogie_wide.specs.WideTypes.{IsWideProgram}
-
--- the names of a procedure and of its variables are names that are not reserved
-pub record HasFreeNames (d : WProc) : Type 0 where
-  pub name : IsFreeName d.name
-  pub variables : All IsFreeName (variable_names d)
 
 pub record IsPrintableWide (program : WProgram) : Type 0 where
   pub typed : IsWideProgram program
   pub apart : NamesAreApart program
-  pub free : All HasFreeNames program.procs
+  pub free : All (HasNames IsFreeName) program.procs
   pub literals : All ProcLiteralsFit program.procs
 
 -- each procedure has fewer than 2^64 variables

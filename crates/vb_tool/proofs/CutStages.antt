@@ -23,7 +23,7 @@ use Rattle.boogie_cut.specs.Cut.{cut_program}
 use Rattle.boogie_cut.proofs.FollowsLaws.{program_follows}
 use Rattle.cut_text.specs.Printable.{IsPrintableWide, AreFewLocals}
 use Rattle.cut_text.proofs.PrintableLaws.{printable}
-use Rattle.cut_text.proofs.TypedLaws.{program_typed}
+use Rattle.boogie_cut.proofs.TypedLaws.{program_typed}
 use Rattle.wide_text.specs.Answers.{IsWideRead}
 use Rattle.wide_text.specs.Faults.{IsWideFault}
 use Rattle.wide_text.proofs.WideSpelledLaws.{wide_spelled}
@@ -62,7 +62,7 @@ few_each (d ∷ ds) = All-cons (λ (d : p.Proc). length d.locals < 2 ^ 64) (proc
 printable_wide : (bytes : List ℕ) (q : WProgram) → AcceptsCut bytes q → IsPrintableWide q
 printable_wide bytes q h =
     let is = wide_spelled bytes q h.text.spelled in
-    record { typed = h.is_typed; apart = is.0; free = λ k d within. let f = is.1 k d within in record { name = f.name; variables = f.variables }; literals = is.2 }
+    record { typed = h.is_typed; apart = is.0; free = is.1; literals = is.2 }
 
 -- what is written for the program of a text can be printed
 pub written_printable : (bytes : List ℕ) (q : WProgram) (written : Program) → AcceptsCut bytes q → program_of written ≡ cut_program q → IsPrintable (program_of written)

@@ -1,14 +1,18 @@
 -- A file with loops and calls is one program, or is refused for one reason.
-use Rattle.std.proofs.Common.{◌≡◌, ◌∙◌, ◌⊎◌, inl, inr, ◌<◌, ℕ, suc, List, refl, sym, ap, subst, arith}
-use Rattle.std.proofs.lemmas.Bool.{cases_order}
+use Rattle.std.proofs.Common.{◌≡◌, ◌∙◌, ◌⊎◌, inl, inr, ◌<◌, ◌≤◌, ℕ, suc, List, length, Option, Some, None, refl, sym, ap, subst, arith}
+use Rattle.std.proofs.lemmas.Bool.{cases_lt, cases_order}
 use Rattle.boogie_grammar.specs.declared.faults.BoogieFault.{BoogieFault}
+use Rattle.boogie_grammar.specs.declared.faults.BoogieFault.TheVariants as fault
 use Rattle.boogie_wide.specs.Wide.{WProgram}
-use Rattle.boogie_wide.specs.WideTypes.{IsWideProgram, IsFirstIllTypedWide}
+use Rattle.boogie_wide.specs.WideTypes.{IsWideProgram, IsFirstIllTypedWide, ill_typed_wide}
+use Rattle.boogie_wide.proofs.WideTypeLaws.{none_ill_typed, is_first_wide}
 use Rattle.wide_text.specs.Answers.{IsWideRead}
 use Rattle.wide_text.specs.Faults.{IsWideFault}
 use Rattle.wide_text.proofs.WideFaults.{one_fault, not_refused}
 use Rattle.wide_text.proofs.WideParsed.{one_program}
+use Rattle.wide_text.proofs.WideTextAnswers.{some_text_answer}
 use Rattle.vb_tool.proofs.BoogieVerdicts.{for_fault}
+use Rattle.vb_tool.specs.Accepted.{HasOneAnswer, is_accepted, is_refused}
 use Rattle.vb_tool.specs.AcceptedCut.{AcceptsCut, IsWideRefusal, prelude, deep, syntax, ill_typed, IsCutRefusal, size, of_text}
 use Rattle.vb_tool.specs.declared.status.Refusal.{Refusal}
 use Rattle.vb_tool.specs.declared.status.Refusal.TheVariants as refusal
@@ -71,3 +75,46 @@ module _ {bytes : List ℕ} where
   pub cut_not_refused : {q : WProgram} {r : Refusal} → AcceptsCut bytes q → IsCutRefusal bytes r → ⊥
   cut_not_refused h (size above) = omega (arith, above, h.small)
   cut_not_refused h (of_text small is) = cut_text_refused h is
+
+-- ---- there is an answer
+
+module _ (bytes : List ℕ) where
+  abbrev Text : Type 0
+  Text = ((q : WProgram) × IsWideRead bytes q × IsWideProgram q) ⊎ ((r : Refusal) × IsWideRefusal bytes r)
+
+  of_types : (q : WProgram) → IsWideRead bytes q → (o : Option ℕ) → ill_typed_wide q.procs q.procs ≡ o → Text
+  of_types q h None none = inl (q, h, none_ill_typed q none)
+  of_types q h (Some n) some = inr (_, ill_typed h (is_first_wide q n some))
+
+  no_memory : IsWideFault bytes fault.Memory → ⊥
+  no_memory f = elim f [ ]
+
+  of_fault : (f : BoogieFault) → IsWideFault bytes f → Text
+  of_fault fault.Memory f = absurd (no_memory f)
+  of_fault (fault.Prelude at) f = inr (_, prelude f)
+  of_fault (fault.Syntax at) f = inr (_, syntax f)
+  of_fault (fault.Deep at) f = inr (_, deep f)
+
+  of_read : ((q : WProgram) × IsWideRead bytes q) ⊎ ((f : BoogieFault) × IsWideFault bytes f) → Text
+  of_read (inl (q, h)) = of_types q h (ill_typed_wide q.procs q.procs) refl
+  of_read (inr (f, h)) = of_fault f h
+
+  abbrev Answer : Type 0
+  Answer = HasOneAnswer (AcceptsCut bytes) (IsCutRefusal bytes)
+
+  accepted_once : {q : WProgram} → AcceptsCut bytes q → Answer
+  accepted_once h = is_accepted h (λ other i. one_cut i h) (λ r is. cut_not_refused h is)
+
+  refused_once : {r : Refusal} → IsCutRefusal bytes r → Answer
+  refused_once h = is_refused h (λ other is. one_cut_refusal is h) (λ q accepts. cut_not_refused accepts h)
+
+  of_answer : length bytes ≤ 33554432 → Text → Answer
+  of_answer small (inl (q, h, typed)) = accepted_once (record { small = small; text = h; is_typed = typed })
+  of_answer small (inr (r, is)) = refused_once (of_text small is)
+
+  of_size : (33554432 < length bytes) ⊎ (length bytes ≤ 33554432) → Answer
+  of_size (inl above) = refused_once (size above)
+  of_size (inr small) = of_answer small (of_read (some_text_answer bytes (omega (arith, small))))
+
+pub one_cut_answer : (bytes : List ℕ) → HasOneAnswer (AcceptsCut bytes) (IsCutRefusal bytes)
+one_cut_answer bytes = of_size bytes (cases_lt 33554432 (length bytes))

@@ -22,6 +22,7 @@ ghost use Rattle.enc_stmt.specs.Translates.{Translates};
 ghost use Rattle.vb_tool.specs.Units.{name_of};
 ghost use Rattle.vb_tool.specs.Accepted.{IsAccepted, AcceptsRun, IsRefusal, IsRunRefusal, HasOneAnswer};
 ghost use Rattle.vb_tool.specs.AcceptedCondition.{AcceptsCondition, IsConditionRefusal};
+ghost use Rattle.vb_tool.specs.AcceptedCut.{AcceptsCut, IsCutRefusal};
 ghost use Rattle.vb_tool.specs.AcceptedExecution.{AcceptsExecution, IsExecutionRefusal};
 ghost use Rattle.vb_tool.specs.AcceptedReplay.{IsBoogie, AcceptsReplay, IsReplayRefusal};
 ghost use Rattle.vb_tool.specs.Procedures.{ProcedureRun, procedure_end};
@@ -38,13 +39,14 @@ pub fn names_of_units_differ()
 
 /// Bytes are accepted for exactly one program, or refused for exactly one reason, and never both. So it is with the bytes of a
 /// file and a run file, and the name of a unit, and the run that they are, or the name of a method and its execution; with the
-/// bytes of a file of Boogie and a run file, or the name of a procedure.
+/// bytes of a file of Boogie and a run file, or the name of a procedure; and with the bytes of a file with loops and calls.
 pub fn bytes_have_one_answer()
     ensures translate { (bytes : List ℕ) → HasOneAnswer (IsAccepted bytes) (IsRefusal bytes) }
     ensures run { (bytes name run_bytes : List ℕ) → HasOneAnswer (AcceptsRun bytes name run_bytes) (IsRunRefusal bytes name run_bytes) }
     ensures replay { (bytes run_bytes : List ℕ) → HasOneAnswer (AcceptsReplay bytes run_bytes) (IsReplayRefusal bytes run_bytes) }
     ensures exec { (bytes name run_bytes : List ℕ) → HasOneAnswer (AcceptsExecution bytes name run_bytes) (IsExecutionRefusal bytes name run_bytes) }
     ensures vc { (bytes name : List ℕ) → HasOneAnswer (AcceptsCondition bytes name) (IsConditionRefusal bytes name) }
+    ensures cut { (bytes : List ℕ) → HasOneAnswer (AcceptsCut bytes) (IsCutRefusal bytes) }
     ensures boogie { (bytes : List ℕ) (q r : BProgram) → IsBoogie bytes q → IsBoogie bytes r → q ≡ r }
 {}
 

@@ -21,11 +21,11 @@ pub record WideSpells (bytes : List ℕ) (program : WProgram) : Type 0 where
   pub spells : Spells tokens program
 
 -- the tokens spell some program
-abbrev pub IsWideProgram : List BToken → Type 0
-IsWideProgram ts = (p : WProgram) × Spells ts p
+abbrev pub SpellsWideProgram : List BToken → Type 0
+SpellsWideProgram ts = (p : WProgram) × Spells ts p
 
 -- the tokens spell no program; the number of the first one with which they begin none, or that of all tokens
 pub record GoesWrong (ts : List BToken) : Type 0 where
-  pub none : IsWideProgram ts → ⊥
+  pub none : SpellsWideProgram ts → ⊥
   pub at : ℕ
-  pub place : IsPlace IsWideProgram ts at
+  pub place : IsPlace SpellsWideProgram ts at

@@ -1,6 +1,7 @@
 pub mod WideComplete
 pub mod WideParsed
 pub mod WideAnswered
+pub mod WideTextAnswers
 pub mod WideFaults
 pub mod NotedNames
 pub mod Steps

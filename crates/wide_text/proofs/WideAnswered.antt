@@ -18,7 +18,7 @@ use Rattle.boogie_grammar.specs.Grammar as g
 use Rattle.wide_grammar.specs.Words.{has_no_word}
 use Rattle.wide_grammar.specs.Noting.{Second, noting, noting_rule, second_rules}
 use Rattle.wide_grammar.specs.Grammar.{Kind, Symbol, Programs, Procedure, Parameters, Params, Clauses, BoundClause, Vars, Statements, Statement, Block, Else, Invariants, Targets, Arguments, MoreArguments, telling, wider_boogie, new_names, after_sign, checks, changes, simple, worded, conditional, more_targets, rule, more_rule, rules}
-use Rattle.wide_grammar.specs.Spells.{IsWideProgram, GoesWrong}
+use Rattle.wide_grammar.specs.Spells.{SpellsWideProgram, GoesWrong}
 use Rattle.wide_grammar.proofs.NotedTable.{seconds}
 use Rattle.wide_grammar.proofs.Elements.{laws}
 use Rattle.boogie_text.proofs.Codes.{table}
@@ -90,9 +90,9 @@ wrong_there x = record {
   };
 }
 
-by_answer : {ts : List BToken} → IsSpelled rules (rule (Programs [])) ts ⊎ text.GoesWrong rules (rule (Programs [])) ts → IsWideProgram ts ⊎ GoesWrong ts
+by_answer : {ts : List BToken} → IsSpelled rules (rule (Programs [])) ts ⊎ text.GoesWrong rules (rule (Programs [])) ts → SpellsWideProgram ts ⊎ GoesWrong ts
 by_answer (inl h) = inl (record { procs = h.0 }, h.1)
 by_answer (inr x) = inr (wrong_there x)
 
-pub some_answer : (ts : List BToken) → IsWideProgram ts ⊎ GoesWrong ts
+pub some_answer : (ts : List BToken) → SpellsWideProgram ts ⊎ GoesWrong ts
 some_answer ts = by_answer (answered ts)

@@ -8,7 +8,7 @@ use Rattle.boogie_grammar.specs.declared.faults.BoogieFault.TheVariants as fault
 use Rattle.boogie_grammar.specs.Depth.{IsShallow, IsTooDeep}
 use Rattle.boogie_grammar.specs.Faults.{place_at}
 use Rattle.boogie_wide.specs.Wide.{WProgram}
-use Rattle.wide_grammar.specs.Spells.{WideSpells, IsWideProgram}
+use Rattle.wide_grammar.specs.Spells.{WideSpells, SpellsWideProgram}
 use Rattle.wide_text.specs.Faults.{IsWideFault, no_prelude, no_token, too_deep, no_program}
 use Rattle.boogie_text.proofs.AlikeLaws.{one_row, never_row, shallow_alike}
 use Rattle.boogie_text.proofs.FaultLaws.{one_difference, not_begun, one_stop, never_both, not_shallow, one_depth, cut_as, stop_as, row_as}
@@ -33,7 +33,7 @@ one_fault bytes _ _ (no_program e h i n j k) (no_token f l) = absurd (never_both
 one_fault bytes _ _ (no_program e h i n j k) (too_deep {at = q} f l m) = absurd (not_shallow (subst (λ ts. IsTooDeep ts q) (cut_as e f h l) m) i)
 one_fault bytes _ _ (no_program {ts = ts} {i = x} {end = p} e h i n j k) (no_program {ts = us} {i = y} {end = q} f l m o u w) =
     let same = cut_as e f h l in
-    let number : y ≡ x = one_place IsWideProgram ts y x (subst (λ z. IsPlace IsWideProgram z y) same u) j in
+    let number : y ≡ x = one_place SpellsWideProgram ts y x (subst (λ z. IsPlace SpellsWideProgram z y) same u) j in
     let last : q ≡ p = one_place_after bytes q p w k in
     ap fault.Syntax (sym (ap (λ z. place_at z y q) same ∙ ap (λ z. place_at ts z q) number ∙ ap (λ z. place_at ts x z) last))
 

@@ -30,14 +30,13 @@ use Rattle.boogie_text.proofs.SpelledLaws as plain
 use Rattle.boogie_text.proofs.SpelledLaws.{Proper, AllProper, front_proper, back_proper, row_proper}
 use Rattle.boogie_wide.specs.Wide as wide
 use Rattle.boogie_wide.specs.Wide.{Clause, WStmt, WStmts, WProc, WProgram}
-use Rattle.boogie_wide.specs.Conditions.{variable_names, NamesAreApart, ClauseLiteralsFit, GuardLiteralsFit, WideStmtLiteralsFit, WideLiteralsFit, BodyLiteralsFit, ProcLiteralsFit}
+use Rattle.boogie_wide.specs.Conditions.{HasNames, variable_names, NamesAreApart, ClauseLiteralsFit, GuardLiteralsFit, WideStmtLiteralsFit, WideLiteralsFit, BodyLiteralsFit, ProcLiteralsFit}
 use Rattle.wide_grammar.specs.Words.{wide_words, has_no_word}
 use Rattle.wide_grammar.specs.Trees.{Contract, no_clauses, block_of, plain_local, procedure, procedure_names}
 use Rattle.wide_grammar.specs.Noting.{Second, noting, Noted, noting_rule}
 use Rattle.wide_grammar.specs.Grammar as wg
 use Rattle.wide_grammar.specs.Grammar.{Kind, Value, Symbol, Rule, Programs, Procedure, Parameters, Params, Clauses, BoundClause, Vars, Statements, Statement, Block, Else, Invariants, Targets, Arguments, MoreArguments, telling, wider_boogie, new_names, after_sign, rest_of, assignment, branches, conditional, checks, changes, simple, looping, loop, targeted, call, more_targets, worded, rule, rules}
 use Rattle.wide_grammar.specs.Spells.{WideSpells}
-use Rattle.wide_text.specs.Names.{HasFreeNames}
 use Rattle.wide_text.proofs.WideComplete.{by_where}
 
 -- ---- names
@@ -117,7 +116,7 @@ ContractFits c = ClauseLiteralsFit c.preconditions × ClauseLiteralsFit c.postco
 -- ---- symbols
 
 record Fits (d : WProc) : Type 0 where
-  names : HasFreeNames d
+  names : HasNames IsFreeName d
   differ : NamesDiffer (variable_names d)
   literals : ProcLiteralsFit d
 
@@ -374,7 +373,7 @@ keeps P (called {a = a} {ts = ts} {us = us} {y = y} d e) h proper =
 
 -- ---- programs
 
-pub wide_spelled : (bytes : List ℕ) (program : WProgram) → WideSpells bytes program → (NamesAreApart program) × (All HasFreeNames program.procs) × (All ProcLiteralsFit program.procs)
+pub wide_spelled : (bytes : List ℕ) (program : WProgram) → WideSpells bytes program → (NamesAreApart program) × (All (HasNames IsFreeName) program.procs) × (All ProcLiteralsFit program.procs)
 wide_spelled bytes program h =
     let all = keeps (NewGives (Programs [])) h.spells (new_keep (Programs []) (All-nil Fits, no_names)) (row_proper h.cut) in (
       record { procedures = all.1; variables = λ k d lt. (all.0 k d lt).differ },

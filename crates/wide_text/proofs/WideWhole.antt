@@ -18,7 +18,7 @@ use Rattle.boogie_wide.specs.Wide.{WProc}
 use Rattle.boogie_wide.specs.declared.wide.WProc as d
 use Rattle.wide_grammar.specs.Grammar as g
 use Rattle.wide_grammar.specs.Grammar.{rule, rules, Programs}
-use Rattle.wide_grammar.specs.Spells.{Spells, IsWideProgram}
+use Rattle.wide_grammar.specs.Spells.{Spells, SpellsWideProgram}
 use Rattle.wide_grammar.proofs.Elements.{laws}
 use Rattle.wide_text.specs.Greedy.{Reads, Refuses}
 use Rattle.wide_text.specs.Whole.{FailsWhole, RefusesWhole, ReadsWhole, RefusesTokens}
@@ -52,14 +52,14 @@ whole_read {ts = ts} {us = us} {ps = ps} h none = subst (λ l. Reads (new g.proc
 pub spelled : {ts : List BToken} {ps : List WProc} → Reads (new g.procs) (rule (Programs [])) ts ps [] → Spells ts (record { procs = ps })
 spelled h = grammar.spelled rules laws h
 
-read_as : (ts : List BToken) → IsWideProgram ts → (ps : List WProc) × Reads (new g.procs) (rule (Programs [])) ts ps []
+read_as : (ts : List BToken) → SpellsWideProgram ts → (ps : List WProc) × Reads (new g.procs) (rule (Programs [])) ts ps []
 read_as ts h = (h.0.procs, complete (Programs []) h.1)
 
-none_spelled : (ts r : List BToken) → FailsWhole ts r → IsWideProgram ts → ⊥
-none_spelled ts r f h = grammar.none_spelled rules (rule (Programs [])) IsWideProgram read_as (λ us ps d. (record { procs = ps }, d)) ts r f h
+none_spelled : (ts r : List BToken) → FailsWhole ts r → SpellsWideProgram ts → ⊥
+none_spelled ts r f h = grammar.none_spelled rules (rule (Programs [])) SpellsWideProgram read_as (λ us ps d. (record { procs = ps }, d)) ts r f h
 
-place_of : (ts r : List BToken) → FailsWhole ts r → IsPlace IsWideProgram ts (length ts - length r)
-place_of ts r f = grammar.place_of rules (rule (Programs [])) IsWideProgram read_as (λ us ps d. (record { procs = ps }, d)) ts r f
+place_of : (ts r : List BToken) → FailsWhole ts r → IsPlace SpellsWideProgram ts (length ts - length r)
+place_of ts r f = grammar.place_of rules (rule (Programs [])) SpellsWideProgram read_as (λ us ps d. (record { procs = ps }, d)) ts r f
 
 next_place : (f r : List BToken) (last : Pos) → place_at (f ++ r) (length f) last ≡ place_at r zero last
 next_place [] r last = refl

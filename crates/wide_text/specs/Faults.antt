@@ -9,7 +9,7 @@ use Rattle.boogie_grammar.specs.declared.tokens.BToken.{BToken}
 use Rattle.boogie_grammar.specs.Cut.{IsCut}
 use Rattle.boogie_grammar.specs.Depth.{IsShallow, IsTooDeep}
 use Rattle.boogie_grammar.specs.Faults.{Differs, Stops, place_at}
-use Rattle.wide_grammar.specs.Spells.{IsWideProgram}
+use Rattle.wide_grammar.specs.Spells.{SpellsWideProgram}
 
 -- the bytes are refused so
 pub data IsWideFault (bytes : List ℕ) : BoogieFault → Type 0 where
@@ -17,4 +17,4 @@ pub data IsWideFault (bytes : List ℕ) : BoogieFault → Type 0 where
   no_token : {rest : List ℕ} {at : Pos} → bytes ≡ prelude ++ rest → Stops prelude rest at → IsWideFault bytes (fault.Syntax at)
   too_deep : {rest : List ℕ} {ts : List BToken} {at : Pos} → bytes ≡ prelude ++ rest → IsCut prelude rest ts → IsTooDeep ts at → IsWideFault bytes (fault.Deep at)
   no_program : {rest : List ℕ} {ts : List BToken} {i : ℕ} {end : Pos} → bytes ≡ prelude ++ rest → IsCut prelude rest ts → IsShallow ts →
-      (IsWideProgram ts → ⊥) → IsPlace IsWideProgram ts i → IsPlaceAfter bytes end → IsWideFault bytes (fault.Syntax (place_at ts i end))
+      (SpellsWideProgram ts → ⊥) → IsPlace SpellsWideProgram ts i → IsPlaceAfter bytes end → IsWideFault bytes (fault.Syntax (place_at ts i end))

@@ -8,4 +8,3 @@ pub mod ClauseView
 pub mod Heads
 pub mod Procedures
 pub mod Whole
-pub mod Names

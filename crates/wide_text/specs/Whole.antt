@@ -14,7 +14,7 @@ use Rattle.boogie_wide.specs.View.{wprogram_of}
 use Rattle.boogie_wide.specs.declared.wide.WProc.{WProc}
 use Rattle.boogie_wide.specs.declared.wide.WProgram.{WProgram}
 use Rattle.wide_grammar.specs.Grammar.{rule, rules, Programs}
-use Rattle.wide_grammar.specs.Spells.{Spells, IsWideProgram}
+use Rattle.wide_grammar.specs.Spells.{Spells, SpellsWideProgram}
 use Rattle.wide_text.specs.Greedy.{Reads}
 use Rattle.wide_text.specs.View.{all_wprocs_of}
 
@@ -32,7 +32,7 @@ ReadsWhole ts (Err e) = RefusesWhole ts e
 -- memory was refused, or the tokens spell no program, and go wrong at this place
 abbrev pub RefusesTokens : List BToken → Pos → BoogieFault → Type 0
 RefusesTokens ts end fault.Memory = Unit {0}
-RefusesTokens ts end (fault.Syntax at) = (IsWideProgram ts → ⊥) × ((i : ℕ) × IsPlace IsWideProgram ts i × (at ≡ place_at ts i end))
+RefusesTokens ts end (fault.Syntax at) = (SpellsWideProgram ts → ⊥) × ((i : ℕ) × IsPlace SpellsWideProgram ts i × (at ≡ place_at ts i end))
 RefusesTokens ts end (fault.Prelude at) = ⊥
 RefusesTokens ts end (fault.Deep at) = ⊥
 

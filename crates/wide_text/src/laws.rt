@@ -1,13 +1,15 @@
 // Laws of the text, each the contract of a function with nothing to do.
-ghost use Rattle.std.specs.Prelude.{◌≡◌, ◌⊎◌, List, ℕ, All};
+ghost use Rattle.std.specs.Prelude.{◌≡◌, ◌≤◌, ◌⊎◌, List, ℕ, length, All};
+ghost use Rattle.vb_base.specs.Limits.{max_boogie_bytes};
 ghost use Rattle.boogie_grammar.specs.Depth.{IsShallow};
 ghost use Rattle.boogie_grammar.specs.declared.faults.BoogieFault.{BoogieFault};
 ghost use Rattle.boogie_grammar.specs.declared.tokens.BToken.{BToken};
+ghost use Rattle.boogie_text.specs.Printable.{IsFreeName};
 ghost use Rattle.boogie_wide.specs.Wide as w;
-ghost use Rattle.boogie_wide.specs.Conditions.{NamesAreApart, ProcLiteralsFit};
+ghost use Rattle.boogie_wide.specs.Conditions.{HasNames, NamesAreApart, ProcLiteralsFit};
+ghost use Rattle.wide_text.specs.Answers.{IsWideRead};
 ghost use Rattle.wide_text.specs.Faults.{IsWideFault};
-ghost use Rattle.wide_text.specs.Names.{HasFreeNames};
-ghost use Rattle.wide_grammar.specs.Spells.{Spells, WideSpells, IsWideProgram, GoesWrong};
+ghost use Rattle.wide_grammar.specs.Spells.{Spells, WideSpells, SpellsWideProgram, GoesWrong};
 
 /// No bytes spell two programs.
 pub fn one_program()
@@ -21,7 +23,12 @@ pub fn one_tree()
 
 /// Each list of tokens spells a program, or spells none and goes wrong at a place.
 pub fn some_answer()
-    ensures { (ts : List BToken) → IsWideProgram ts ⊎ GoesWrong ts }
+    ensures { (ts : List BToken) → SpellsWideProgram ts ⊎ GoesWrong ts }
+{}
+
+/// A text that is not too long spells a program whose brackets are not too deep, or is refused.
+pub fn some_text_answer()
+    ensures { (bytes : List ℕ) → length bytes ≤ max_boogie_bytes → ((program : w.WProgram) × IsWideRead bytes program) ⊎ ((f : BoogieFault) × IsWideFault bytes f) }
 {}
 
 /// Bytes are refused in one way at most.
@@ -37,5 +44,5 @@ pub fn not_refused()
 /// What bytes spell keeps the conditions on names and literals: the names that have to differ do, none of them is reserved, each
 /// literal is within the bound, and each `forall` binds a variable.
 pub fn what_is_spelled_can_be_printed()
-    ensures { (bytes : List ℕ) (program : w.WProgram) → WideSpells bytes program → (NamesAreApart program) × (All HasFreeNames program.procs) × (All ProcLiteralsFit program.procs) }
+    ensures { (bytes : List ℕ) (program : w.WProgram) → WideSpells bytes program → (NamesAreApart program) × (All (HasNames IsFreeName) program.procs) × (All ProcLiteralsFit program.procs) }
 {}

@@ -16,6 +16,7 @@ mod words;
 
 pub use boogie_grammar::BoogieFault;
 pub use laws::{
-    not_refused, one_fault, one_program, one_tree, some_answer, what_is_spelled_can_be_printed,
+    not_refused, one_fault, one_program, one_tree, some_answer, some_text_answer,
+    what_is_spelled_can_be_printed,
 };
 pub use reader::read_wide;

@@ -8,7 +8,7 @@ use Rattle.boogie_wide_types.proofs.programs.first_ill_typed.Goals as goal
 
 pub returns-then-not-is_proc : goal.returns-then-not-is_proc
 returns-then-not-is_proc c =
-    let ds = c.args.procs.now in
+    let ds = c.args.procs.now.all.now in
     let ps = map wproc_of ds in
     let i = c.loop-proc.proc-index in
     let d = c.proc-item.result in
@@ -19,7 +19,7 @@ returns-then-not-is_proc c =
 
 pub loop-proc-preserved : goal.loop-proc-preserved
 loop-proc-preserved c =
-    let ds = c.args.procs.now in
+    let ds = c.args.procs.now.all.now in
     let ps = map wproc_of ds in
     let i = c.loop-proc.proc-index in
     let d = c.proc-item.result in

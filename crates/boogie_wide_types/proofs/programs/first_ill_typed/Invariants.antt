@@ -8,6 +8,6 @@ use Rattle.boogie_wide_types.proofs.programs.first_ill_typed.Given as goal
 abbrev pub invariant-loop-proc : goal.invariant-loop-proc
 invariant-loop-proc l = record {
   place : l.number ≡ l.proc-index;
-  so_far : ill_typed_wide (map wproc_of l.procs) (map wproc_of l.procs) ≡
-      option_map (λ n. l.number + n) (ill_typed_wide (map wproc_of l.procs) (map wproc_of (drop l.proc-index l.procs)));
+  so_far : ill_typed_wide (map wproc_of l.procs.all.now) (map wproc_of l.procs.all.now) ≡
+      option_map (λ n. l.number + n) (ill_typed_wide (map wproc_of l.procs.all.now) (map wproc_of (drop l.proc-index l.procs.all.now)));
 }

@@ -12,9 +12,9 @@ returns-in_err-program-clause-refused c r is_r =
 
 pub print-requires : goal.print-requires
 print-requires c =
-    written_printable c.args.bytes.now (wprogram_of c.in_ok-program.program) c.in_ok-written.written c.in_ok-program.ensures.accepted c.in_ok-written.ensures
+    written_printable c.args.bytes.now (wprogram_of c.in_ok-program.program) c.in_ok-written.written c.in_ok-program.ensures.accepted c.in_ok-written.ensures.written
 
 pub returns-clause-told : goal.returns-clause-told
 returns-clause-told c =
-    cut_is c.args.bytes.now (wprogram_of c.in_ok-program.program) c.in_ok-written.written c.in_ok-text.text.items _ c.in_ok-program.ensures.accepted c.in_ok-written.ensures
+    cut_is c.args.bytes.now (wprogram_of c.in_ok-program.program) c.in_ok-written.written c.in_ok-text.text.items _ c.in_ok-program.ensures.accepted c.in_ok-written.ensures.written
     c.in_ok-text.ensures.text c.in_ok-text.ensures.spells refl

@@ -1,5 +1,6 @@
 use Rattle.vb_tool.proofs.BoogieVerdicts.{one_boogie, one_replay_answer}
 use Rattle.vb_tool.proofs.ConditionVerdicts.{one_condition_answer}
+use Rattle.vb_tool.proofs.CutVerdicts.{one_cut_answer}
 use Rattle.vb_tool.proofs.ExecutionVerdicts.{one_execution_answer}
 use Rattle.vb_tool.proofs.RunVerdicts.{one_run_answer}
 use Rattle.vb_tool.proofs.Verdicts.{one_answer}
@@ -19,6 +20,9 @@ returns-clause-exec c = one_execution_answer
 
 pub returns-clause-vc : goal.returns-clause-vc
 returns-clause-vc c = one_condition_answer
+
+pub returns-clause-cut : goal.returns-clause-cut
+returns-clause-cut c = one_cut_answer
 
 pub returns-clause-boogie : goal.returns-clause-boogie
 returns-clause-boogie c = λ bytes q r h i. one_boogie h i
