@@ -5,6 +5,8 @@
 #[cfg(test)]
 mod assertions;
 #[cfg(test)]
+mod bexprs;
+#[cfg(test)]
 mod bodies;
 #[cfg(test)]
 mod codes;

@@ -1,6 +1,6 @@
 // Maps with the default 7.
 use crate::rows::{Rows, boxed, check, halves};
-use sparse::Sparse;
+use sparse::{Builder, Sparse};
 use std::alloc::Global;
 
 /// Changes of keys in turn, and the entries that are there then.
@@ -17,6 +17,21 @@ const CHANGES: &str = "\
 
 /// Entries of a map, changes of a copy, and the entries of the copy then. The map keeps its own.
 const COPIES: &str = "1=10 2=20 -> 2=7 0=1 -> 0=1 1=10";
+
+/// Changes of keys in turn while a map is filled, and the entries that are there then.
+const FILLED: &str = "\
+nothing -> nothing
+100=7 -> nothing
+5=50 -> 5=50
+2=20 4=40 6=60 -> 2=20 4=40 6=60
+1=10 2=20 3=30 4=40 5=50 6=60 8=80 9=90 -> 1=10 2=20 3=30 4=40 5=50 6=60 8=80 9=90
+2=20 4=7 6=60 -> 2=20 6=60
+4=40 6=60 2=20 -> 2=20 4=40 6=60
+4=40 6=60 6=61 -> 4=40 6=61
+4=40 6=60 6=7 -> 4=40
+4=40 6=60 4=7 8=80 -> 6=60 8=80
+4=40 3=30 9=90 9=91 5=50 -> 3=30 4=40 5=50 9=91
+0=0 18446744073709551615=1 -> 0=0 18446744073709551615=1";
 
 fn entry(text: &str) -> Option<(u64, u64)> {
     let (key, value) = halves(text, "=")?;
@@ -42,11 +57,15 @@ fn has_no_others(map: &Sparse<u64, u64>, count: usize) -> bool {
     count == map.len() && *map.get(&100) == 7 && *map.default() == 7
 }
 
+/// The entries that a row tells, apart by spaces.
+fn told(entries: &str) -> &str {
+    if entries == "nothing" { "" } else { entries }
+}
+
 /// Whether the map has these entries and no others.
 fn has(map: &Sparse<u64, u64>, entries: &str) -> Option<bool> {
-    let entries = if entries == "nothing" { "" } else { entries };
     let mut count = 0usize;
-    for text in entries.split_whitespace() {
+    for text in told(entries).split_whitespace() {
         if !has_entry(map, count, text)? {
             return Some(false);
         }
@@ -99,6 +118,31 @@ pub(crate) fn copies_row(alloc: Global, row: &str) -> Option<bool> {
     let is_changed = is_changed_copy(alloc, &map, changes, entries)?;
     let is_kept = has(&map, kept)?;
     Some(is_changed && is_kept)
+}
+
+/// What is filled by the changes.
+fn filled(alloc: Global, changes: &str) -> Option<Box<Builder<u64, u64>>> {
+    let mut builder = boxed(alloc, Some(Builder::make(alloc, 7)))?;
+    for text in told(changes).split_whitespace() {
+        let (key, value) = entry(text)?;
+        builder.set(key, value).ok()?;
+    }
+    Some(builder)
+}
+
+/// Whether the changes give the entries, as a map and as a list.
+pub(crate) fn filled_row(alloc: Global, row: &str) -> Option<bool> {
+    let (changes, entries) = halves(row, " -> ")?;
+    let builder = Box::into_inner(filled(alloc, changes)?);
+    let map = boxed(alloc, builder.finish().ok())?;
+    let builder = Box::into_inner(filled(alloc, changes)?);
+    let list = builder.into_entries().ok()?;
+    Some(has(&map, entries)? && has_entries(&map, &list))
+}
+
+#[test]
+fn maps_are_filled(rt: HostRuntime) {
+    check(&rt, rt.alloc(), Rows::Filled, FILLED);
 }
 
 #[test]

@@ -16,7 +16,7 @@ use std::str;
 use std::test::Fail;
 
 /// The last procedure of a program.
-fn last_procedure(program: Box<BProgram>) -> Option<Proc>
+pub fn last_procedure(program: Box<BProgram>) -> Option<Proc>
     requires { IsPrintable (boogie.program_of program.value) }
     ensures { IfSome result (λ d. FitsProc (boogie.proc_of d)) }
 {

@@ -1,7 +1,7 @@
 // The rows of the tables: what each kind of them tells, and their words.
 use crate::{
-    assertions, bodies, codes, devices, expressions, folds, labels, maps, numbers, programs, runs,
-    sent, statements, states, tokens, values,
+    assertions, bexprs, bodies, codes, devices, expressions, folds, labels, maps, numbers,
+    programs, runs, sent, statements, states, tokens, values,
 };
 use std::alloc::Global;
 use std::process::Abort;
@@ -16,6 +16,7 @@ pub(crate) enum Rows {
     OtherLabel,
     Map,
     MapCopy,
+    Filled,
     Whole,
     Made,
     Fraction,
@@ -42,6 +43,7 @@ fn is_right(alloc: Global, rows: Rows, row: &str) -> Option<bool> {
         Rows::OtherLabel => labels::other_row(row),
         Rows::Map => maps::changes_row(alloc, row),
         Rows::MapCopy => maps::copies_row(alloc, row),
+        Rows::Filled => maps::filled_row(alloc, row),
         Rows::Whole => numbers::whole_row(row),
         Rows::Made => numbers::made_row(row),
         Rows::Fraction => numbers::fraction_row(row),
@@ -84,6 +86,7 @@ pub(crate) enum Ends {
     ProgramText,
     Program,
     Token,
+    Expr,
 }
 
 /// What came of a row, where the row says otherwise. `start` is what stands in the file before the row.
@@ -103,6 +106,7 @@ fn other_end(alloc: Global, ends: Ends, start: &str, row: &str) -> Result<Option
         Ends::ProgramText => programs::wrong_text(alloc, row),
         Ends::Program => programs::wrong_program(alloc, row),
         Ends::Token => tokens::wrong_row(alloc, row),
+        Ends::Expr => bexprs::wrong_row(alloc, row),
     }
 }
 

@@ -91,7 +91,7 @@ pub fn bytes_of(alloc: Global, text: &str) -> Result<Vec<u8>, Fail> {
 }
 
 /// Whether the bytes are few enough for a file.
-fn small(bytes: &[u8]) -> Result<&[u8], Fail>
+pub fn small(bytes: &[u8]) -> Result<&[u8], Fail>
     ensures { IfOk result (λ b. length b.now ≤ 33554432) }
 {
     if bytes.len() > 33_554_432 {

@@ -52,7 +52,7 @@ const TAKEN: &str = "true 5 none none";
 
 fn key(alloc: Global, reference: u64) -> Option<Key> {
     let parts = vec![in alloc; KeyPart::Ref(reference)].ok()?;
-    Some(Key { parts })
+    Some(Key::new(parts))
 }
 
 /// Heaps of one field, which is 7 at the reference 1.
@@ -217,7 +217,7 @@ fn key_of(alloc: Global, text: &str) -> Option<Key> {
     for word in text.split(',') {
         parts.push(KeyPart::Int(number(word)?)).ok()?;
     }
-    Some(Key { parts })
+    Some(Key::new(parts))
 }
 
 fn leaf_of(text: &str) -> Option<Content> {

@@ -51,7 +51,7 @@ fn key(alloc: Global, text: &str) -> Option<Key> {
             parts.push(part(word)?).ok()?;
         }
     }
-    Some(Key { parts })
+    Some(Key::new(parts))
 }
 
 /// Whether a key is equal to its clone.

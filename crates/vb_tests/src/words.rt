@@ -97,7 +97,7 @@ pub fn key(alloc: Global, text: &str) -> Result<Key, Fail>
     for part in text.split(',') {
         parts.push(argument(part)?)?;
     }
-    Ok(Key { parts })
+    Ok(Key::new(parts))
 }
 
 /// Values that stand with a blank between them.
