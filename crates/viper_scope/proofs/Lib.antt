@@ -2,3 +2,4 @@ pub mod Judged
 pub mod ArgumentLaws
 pub mod ScopeLaws
 pub mod NamingLaws
+pub mod ListedLaws

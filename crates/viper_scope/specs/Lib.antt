@@ -3,6 +3,7 @@ pub mod Context
 pub mod Types
 pub mod Scope
 pub mod Target
+pub mod Listed
 pub mod Arguments
 pub mod Clause
 pub mod Naming

@@ -1,11 +1,11 @@
 // The targets of loops.
 ghost use Rattle.std.specs.Prelude.{◌≡◌, IfOk, OnOk};
 ghost use Rattle.viper_core.specs.View.{stmt_of, stmts_of};
+ghost use Rattle.viper_scope.specs.Listed.{ascending};
 ghost use Rattle.viper_scope.specs.Target.{listed};
 ghost use Rattle.viper_scope.specs.Target as t;
 
 use std::alloc::Global;
-use std::collections::BTreeSet;
 use vb_base::Memory;
 use viper_core::Stmt;
 
@@ -13,24 +13,36 @@ use viper_core::Stmt;
 pub fn targets(alloc: Global, lists: bool, below: u32, body: &[Stmt]) -> Result<Vec<u32>, Memory>
     ensures { IfOk result (λ v. v.items ≡ listed lists (t.gathered below (stmts_of body.now))) }
 {
-    let mut found = BTreeSet::new(alloc);
+    let mut found = Vec::new(alloc);
     if lists {
         add_from(&mut found, below, body)?;
     }
-    Ok(found.into_iter().collect(alloc)?)
+    in_order(found)
 }
 
-fn add(found: &mut BTreeSet<u32>, below: u32, x: u32) -> Result<(), Memory>
-    ensures { OnOk result (found.new.keys ≡ t.with_target below found.old.keys x) }
+/// The numbers of a list in ascending order, each once. The sort keeps what ascends already, as the targets of
+/// each loop inside do.
+fn in_order(mut list: Vec<u32>) -> Result<Vec<u32>, Memory>
+    ensures { IfOk result (λ v. v.items ≡ ascending list.items) }
+{
+    list.sort()?;
+    list.dedup();
+    // The list stays in the tree of its loop.
+    list.shrink_to_fit();
+    Ok(list)
+}
+
+fn add(found: &mut Vec<u32>, below: u32, x: u32) -> Result<(), Memory>
+    ensures { OnOk result (ascending found.new.items ≡ t.with_target below (ascending found.old.items) x) }
 {
     if x < below {
-        found.insert(x)?;
+        found.push(x)?;
     }
     Ok(())
 }
 
-fn add_all(found: &mut BTreeSet<u32>, below: u32, xs: &[u32]) -> Result<(), Memory>
-    ensures { OnOk result (found.new.keys ≡ t.with_targets below found.old.keys xs.now) }
+fn add_all(found: &mut Vec<u32>, below: u32, xs: &[u32]) -> Result<(), Memory>
+    ensures { OnOk result (ascending found.new.items ≡ t.with_targets below (ascending found.old.items) xs.now) }
 {
     for x in xs {
         add(found, below, *x)?;
@@ -40,8 +52,8 @@ fn add_all(found: &mut BTreeSet<u32>, below: u32, xs: &[u32]) -> Result<(), Memo
 
 /// A loop inside assigns its own targets, so its body is not seen again.
 #[cycle(targets)]
-fn add_of_stmt(found: &mut BTreeSet<u32>, below: u32, stmt: &Stmt) -> Result<(), Memory>
-    ensures { OnOk result (found.new.keys ≡ t.targets_of_stmt below found.old.keys (stmt_of stmt.now)) }
+fn add_of_stmt(found: &mut Vec<u32>, below: u32, stmt: &Stmt) -> Result<(), Memory>
+    ensures { OnOk result (ascending found.new.items ≡ t.targets_of_stmt below (ascending found.old.items) (stmt_of stmt.now)) }
 {
     match stmt {
         Stmt::Assign(_, x, _) | Stmt::New(_, x, _, _) => add(found, below, *x),
@@ -62,8 +74,8 @@ fn add_of_stmt(found: &mut BTreeSet<u32>, below: u32, stmt: &Stmt) -> Result<(),
 }
 
 #[cycle(targets)]
-fn add_from(found: &mut BTreeSet<u32>, below: u32, body: &[Stmt]) -> Result<(), Memory>
-    ensures { OnOk result (found.new.keys ≡ t.targets_from below found.old.keys (stmts_of body.now)) }
+fn add_from(found: &mut Vec<u32>, below: u32, body: &[Stmt]) -> Result<(), Memory>
+    ensures { OnOk result (ascending found.new.items ≡ t.targets_from below (ascending found.old.items) (stmts_of body.now)) }
 {
     for stmt in body {
         add_of_stmt(found, below, stmt)?;
