@@ -13,6 +13,9 @@ use std::alloc::Global;
 use std::cmp::Ordering;
 use vb_value::Frac;
 
+/// To look a key up in a map takes about as long as to go through so many of its entries.
+const ENTRIES_A_LOOK: usize = 16;
+
 /// The keys of a map.
 pub(crate) fn all_keys<K: Ord + Clone + Drop, V: Eq + Clone + Drop>(
     alloc: Global,
@@ -29,50 +32,53 @@ pub(crate) fn all_keys<K: Ord + Clone + Drop, V: Eq + Clone + Drop>(
     Ok(list)
 }
 
-/// From an index on the first entry whose key is not below this one.
-fn passed<K: Ord, V>(entries: &[&(K, V)], start: usize, key: &K) -> usize {
+/// Looks for a key among entries in ascending order, from an index on: the index where the search for a greater key goes on, and
+/// whether an entry has the key.
+fn sought<K: Ord, V>(entries: &[&(K, V)], start: usize, key: &K) -> (usize, bool)
+    requires { (k q : K) → K.cmp k q ≡ Equal → k ≡ q }
+    ensures { IsTrue result.1 → Contains (keys_of (borrowed entries.now)) key.now }
+{
     for i in start..entries.len() {
-        if key.cmp(&entries[i].0) != Ordering::Greater {
-            return i;
+        match key.cmp(&entries[i].0) {
+            Ordering::Less => return (i, false),
+            Ordering::Equal => return (i + 1, true),
+            Ordering::Greater => {}
         }
     }
-    entries.len()
+    (entries.len(), false)
 }
 
-/// Whether the entry at an index, if there is one, has this key.
-fn stands_at<K: Ord, V>(entries: &[&(K, V)], i: usize, key: &K) -> bool
-    requires { (k q : K) → K.cmp k q ≡ Equal → k ≡ q }
-    ensures { IsTrue result → Contains (keys_of (borrowed entries.now)) key.now }
+/// The entries of a map, among which so many keys are looked for, or none where each key is better looked up by itself.
+fn entries_beside<K: Ord + Clone + Drop>(
+    alloc: Global,
+    map: &Sparse<K, Frac>,
+    sought: usize,
+) -> Result<Vec<&(K, Frac)>, Halt>
+    ensures within { IfOk result (λ list. (k : K) → Contains (keys_of (borrowed list.items)) k → Contains (keys map.now) k) }
+    ensures reduced { IfOk result (λ _. IsReduced K.cmp fraction_eq map.now) }
+    ensures memory { IfErr result (λ h. h ≡ halt.Memory) }
 {
-    let Some(entry) = entries.get(i) else {
-        return false;
-    };
-    match key.cmp(&entry.0) {
-        Ordering::Equal => true,
-        _ => false,
+    if sought < map.len() / ENTRIES_A_LOOK {
+        return Ok(Vec::new(alloc));
     }
+    Ok(map.entries()?)
 }
 
-/// Whether nothing is held at a key. Its entry is looked for at an index first.
-fn is_free<K: Ord + Clone + Drop>(
-    held: &Sparse<K, Frac>,
-    entries: &[&(K, Frac)],
-    i: usize,
-    key: &K,
-) -> bool
+/// Whether nothing is held at a key, which has an entry if `stands`.
+fn is_free<K: Ord + Clone + Drop>(held: &Sparse<K, Frac>, stands: bool, key: &K) -> bool
     requires exact { (k q : K) → K.cmp k q ≡ Equal → k ≡ q }
-    requires entries { borrowed entries.now ≡ held.now.entries }
+    requires stands { IsTrue stands → Contains (keys held.now) key.now }
     requires reduced { IsReduced K.cmp fraction_eq held.now }
     ensures { result ≡ is_free K.cmp held.now key.now }
 {
-    if stands_at(entries, i, key) {
+    if stands {
         return false;
     }
     *held.get(key) == *held.default()
 }
 
 /// The keys of a map at which nothing is held, in ascending order. Both maps are gone through at once, so only what is not held
-/// is looked up.
+/// is looked up; but few keys are each looked up by themselves.
 pub(crate) fn free_keys<'a, K: Ord + Clone + Drop, V: Eq + Clone + Drop>(
     alloc: Global,
     map: &'a Sparse<K, V>,
@@ -85,12 +91,13 @@ pub(crate) fn free_keys<'a, K: Ord + Clone + Drop, V: Eq + Clone + Drop>(
     ensures memory { IfErr result (λ h. h ≡ halt.Memory) }
 {
     let entries = map.entries()?;
-    let all = held.entries()?;
+    let all = entries_beside(alloc, held, entries.len())?;
     let mut list = Vec::new(alloc);
     let mut next = 0;
     for entry in entries.as_slice() {
-        next = passed(&all, next, &entry.0);
-        if is_free(held, &all, next, &entry.0) {
+        let (after, stands) = sought(&all, next, &entry.0);
+        next = after;
+        if is_free(held, stands, &entry.0) {
             list.push(&entry.0)?;
         }
     }

@@ -1,9 +1,16 @@
-use Rattle.std.proofs.Common.{refl, sym, ◌∙◌}
+use Rattle.std.proofs.Common.{refl, sym, subst, Contains, ◌∙◌}
 use Rattle.std.specs.Prelude.{filter}
+use Rattle.std.specs.Map.{keys_of}
+use Rattle.sparse.specs.Map.{borrowed}
 use Rattle.viper_inhale.specs.Free.{is_free}
 use Rattle.viper_inhale.proofs.FreeLaws.{key_pushed, key_skipped, filter_takes, filter_skips}
 use Rattle.viper_inhale.proofs.free_keys.free_keys.Goals as goal
 use Rattle.viper_inhale.proofs.free_keys.free_keys.Goals.{then-is_free+in_ok-push, else-is_free}
+
+pub is_free-requires-clause-stands : goal.is_free-requires-clause-stands
+is_free-requires-clause-stands g c = λ t.
+    let k = c.entry-item.result.now.0 in
+    c.in_ok-all.ensures.within k (subst (λ es. Contains (keys_of (borrowed es)) k) c.deref.ensures.value (c.sought-after.ensures t))
 
 pub loop-entry-preserved : goal.loop-entry-preserved
 loop-entry-preserved g c =
