@@ -115,7 +115,7 @@ reached_start before bytes at h = record {
   stops = λ p c. subst (λ x. Stops x bytes p) (append-nil before) c;
 }
 
-onto_is : (o : Option BTok) (at : Pos) (ts us : List BToken) → ts ++ onto o at us ≡ (ts ++ one_at o at) ++ us
+pub onto_is : (o : Option BTok) (at : Pos) (ts us : List BToken) → ts ++ onto o at us ≡ (ts ++ one_at o at) ++ us
 onto_is None at ts us = ap (λ l. l ++ us) (sym (append-nil ts))
 onto_is (Some t) at ts us = sym (append_assoc ts (record { tok = t; pos = at } ∷ []) us)
 

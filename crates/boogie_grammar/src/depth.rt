@@ -21,7 +21,7 @@ pub fn first_too_deep(tokens: &[BToken]) -> Option<Pos>
 }
 
 /// How many are unclosed after one more token.
-fn unclosed_with(count: usize, tok: &BTok) -> usize
+pub(crate) fn unclosed_with(count: usize, tok: &BTok) -> usize
     requires { count < 2 ^ 32 }
     ensures { result ≡ unclosed_with count tok.now }
 {

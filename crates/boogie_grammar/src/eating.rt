@@ -81,11 +81,11 @@ fn word_text(word: Word) -> &'static [u8]
     }
 }
 
-/// Whether bytes are the same. Most differ in length, which is tried at once.
-fn same_bytes(a: &[u8], b: &[u8]) -> bool
+/// Whether bytes are the same. Most differ in length or in the first byte, which are tried at once.
+pub(crate) fn same_bytes(a: &[u8], b: &[u8]) -> bool
     ensures { IsTrue result ↔ (a.now ≡ b.now) }
 {
-    a.len() == b.len() && a == b
+    a.len() == b.len() && (a.is_empty() || a[0] == b[0]) && a == b
 }
 
 /// The tokens after this word, if it is next.
@@ -188,7 +188,10 @@ fn base_of(bytes: &[u8]) -> Option<BBase>
 fn base_among(bases: &[BBase], bytes: &[u8]) -> Option<BBase>
     ensures { result ≡ find (λ u. bytes_eq bytes.now (base_text u)) bases.now }
 {
-    bases.iter().copied().find(|base| bytes == base_text(*base))
+    bases
+        .iter()
+        .copied()
+        .find(|base| same_bytes(bytes, base_text(*base)))
 }
 
 /// A type, which must be next, and the tokens after it.

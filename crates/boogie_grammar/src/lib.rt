@@ -2,6 +2,7 @@
 //! a single token; and the names that are written for bound variables.
 #![tactic(auto)]
 
+mod blocks;
 mod depth;
 pub mod eating;
 mod faults;
@@ -16,6 +17,7 @@ pub mod signs;
 mod stops;
 mod tokens;
 
+pub use blocks::{Block, first_block};
 pub use depth::first_too_deep;
 pub use faults::BoogieFault;
 pub use front::after_prelude;

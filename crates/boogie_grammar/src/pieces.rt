@@ -18,6 +18,7 @@ use vb_base::{Ident, Memory, read_label};
 pub type Found = (Option<BTok>, usize);
 
 /// The longest piece with which a text begins.
+#[inline(always)]
 pub fn piece(alloc: Global, text: &[u8]) -> Result<Option<Found>, Memory>
     ensures { IfOk result (λ r. MatchOption r (NoPiece text.now) (λ p. IsPiece text.now p.0 p.1)) }
 {

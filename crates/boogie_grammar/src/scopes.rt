@@ -1,10 +1,12 @@
 // The names that an expression may use.
 ghost use Rattle.std.specs.Prelude.{◌≡◌, ◌≢◌, ◌++◌, ◌∷◌, ℕ, [], IfOk, OnOk, MatchOption, Some, false};
-ghost use Rattle.std.specs.List.{list_any};
+ghost use Rattle.std.specs.Char.{is_ascii_alphabetic};
+ghost use Rattle.std.specs.List.{list_any, list_all};
 ghost use Rattle.std.specs.Str.{bytes_eq};
 ghost use Rattle.boogie_grammar.specs.Tests.{number_of, some_free};
 ghost use Rattle.boogie_grammar.specs.Words.{is_among, is_reserved};
 
+use crate::eating::same_bytes;
 use indexmap::IndexSet;
 use std::alloc::Global;
 use std::marker::Model;
@@ -46,18 +48,25 @@ const RESERVED: [&[u8]; 32] = [
     b"sSecond",
 ];
 
-/// Whether a name is reserved.
+/// Whether a name is reserved. Each that is has letters alone, which is tried first: most names of a translation have a `$`.
 pub fn is_reserved(name: &[u8]) -> bool
     ensures { result ≡ is_reserved name.now }
 {
-    is_word_among(&RESERVED, name)
+    are_letters(name) && is_word_among(&RESERVED, name)
+}
+
+/// Whether each byte is a letter.
+fn are_letters(bytes: &[u8]) -> bool
+    ensures { result ≡ list_all is_ascii_alphabetic bytes.now }
+{
+    bytes.iter().all(|byte| byte.is_ascii_alphabetic())
 }
 
 /// Whether a name is one of these words.
 fn is_word_among(words: &[&[u8]], name: &[u8]) -> bool
     ensures { result ≡ list_any (λ w. bytes_eq name.now w.now) words.now }
 {
-    words.iter().any(|word| name == *word)
+    words.iter().any(|word| same_bytes(name, word))
 }
 
 /// Whether one of these names is not reserved.
