@@ -20,6 +20,7 @@ pub mod FaultLaws
 pub mod NestedLaws
 pub mod Whole
 pub mod ReadLaws
+pub mod TailLaws
 pub mod LabelAnswers
 pub mod TextAnswers
 pub mod SpelledLaws

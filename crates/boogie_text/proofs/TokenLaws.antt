@@ -1,7 +1,6 @@
 -- Each token of a text stands for itself, as it is handed out.
 use Rattle.std.proofs.Common.{◌≡◌, ◌∙◌, refl, sym, ap, ℕ, ℤ, List, [], ◌∷◌, Some, None, map, if◌then◌else◌}
 use Rattle.std.specs.Option.{option_map}
-use Rattle.vb_base.specs.Names.{is_name}
 use Rattle.boogie_tree.specs.Literals.{IsLiteral}
 use Rattle.boogie_grammar.specs.declared.tokens.BSign.{BSign}
 use Rattle.boogie_grammar.specs.declared.tokens.BSign.TheVariants as sign

@@ -37,7 +37,7 @@ some_token : (us : List BToken) → false ≡ (length us == 0) → (k : BToken) 
 some_token [] e = absurd (cc)
 some_token (k ∷ vs) e = (k, vs, refl)
 
-no_token : (us : List BToken) → true ≡ (length us == 0) → us ≡ []
+pub no_token : (us : List BToken) → true ≡ (length us == 0) → us ≡ []
 no_token [] e = refl
 no_token (k ∷ vs) e = let h : length (k ∷ vs) ≡ 0 = eqb-true (length (k ∷ vs)) 0 (sym e) in absurd (omega arith)
 

@@ -10,3 +10,4 @@ pub mod Asserts
 pub mod PublicTokens
 pub mod ReadExpr
 pub mod ReadSteps
+pub mod Tail

@@ -1,8 +1,9 @@
 // Laws of the text, each the contract of a function with nothing to do.
-ghost use Rattle.std.specs.Prelude.{◌≡◌, ◌+◌, ◌^◌, ◌<◌, ◌≤◌, ◌⊎◌, List, ℕ, length, take};
+ghost use Rattle.std.specs.Prelude.{◌≡◌, ◌+◌, ◌^◌, ◌<◌, ◌≤◌, ◌⊎◌, ◌++◌, [], List, ℕ, length, take};
 ghost use Rattle.vb_base.specs.Limits.{max_boogie_bytes};
 ghost use Rattle.vb_base.specs.Place.{IsPlace};
 ghost use Rattle.boogie_tree.specs.Program as p;
+ghost use Rattle.boogie_tree.specs.Text.{prelude};
 ghost use Rattle.boogie_tree.specs.Nested.{program_depth};
 ghost use Rattle.boogie_tree.specs.declared.exprs.BBase.{BBase};
 ghost use Rattle.boogie_grammar.specs.declared.tokens.BToken.{BToken};
@@ -14,6 +15,7 @@ ghost use Rattle.boogie_grammar.specs.Spells.{Spells, BSpells, IsProgram, GoesWr
 ghost use Rattle.boogie_text.specs.Answers.{IsRead};
 ghost use Rattle.boogie_text.specs.Fresh.{AreFresh};
 ghost use Rattle.boogie_text.specs.Printable.{IsPrintable};
+ghost use Rattle.boogie_text.specs.Tail.{IsTail};
 
 /// No bytes spell two programs.
 pub fn one_program()
@@ -33,6 +35,11 @@ pub fn one_place()
 /// Each list of tokens spells a program, or spells none and goes wrong at a place.
 pub fn some_answer()
     ensures { (ts : List BToken) → IsProgram ts ⊎ GoesWrong ts }
+{}
+
+/// A text that goes on behind the prelude, as behind no procedure, so that all procedures are these, is read as these.
+pub fn read_by_procedures()
+    ensures { (bytes rest : List ℕ) (ps : List p.Proc) → bytes ≡ prelude ++ rest → IsTail [] rest ps → IsRead bytes (record { procs = ps }) }
 {}
 
 /// A text that is not too long spells a program whose brackets are not too deep, or is refused.

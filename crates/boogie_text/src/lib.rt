@@ -7,6 +7,7 @@ mod builds;
 pub mod exprs;
 mod laws;
 mod locals;
+mod next_proc;
 mod pieces;
 mod printer;
 mod procs;
@@ -28,8 +29,9 @@ pub use asserts::count_asserts;
 pub use boogie_grammar::BoogieFault;
 pub use laws::{
     bound_names_are_fresh, brackets_are_nested, not_refused, one_fault, one_place, one_program,
-    one_tree, some_answer, some_text_answer, spelled_is_printable,
+    one_tree, read_by_procedures, some_answer, some_text_answer, spelled_is_printable,
 };
+pub use next_proc::{Next, next_procedure};
 pub use pieces::{
     EmitFault, Names, put_code, put_head, put_if, write_code, write_else, write_end, write_head,
     write_if, write_prelude,

@@ -17,7 +17,7 @@ use boogie_tree::Proc;
 use std::alloc::Global;
 
 /// A procedure after its word, whose name is none of these.
-fn procedure<'a>(alloc: Global, taken: &Names, tokens: &'a [BToken]) -> Read<'a, Proc>
+pub(crate) fn procedure<'a>(alloc: Global, taken: &Names, tokens: &'a [BToken]) -> Read<'a, Proc>
     ensures shorter { IfOk result (λ r. length r.1.now < length tokens.now) }
     ensures new { IfOk result (λ r. is_among r.0.name taken.now ≡ false) }
     ensures reads { Parses proc_of (g.rule (g.Procedure taken.now)) tokens.now result }
