@@ -1,9 +1,8 @@
 -- The map that is filled is kept exactly.
-use Rattle.std.proofs.Common.{◌≡◌, ◌∙◌, ◌+◌, ℕ, false, List, [], ◌∷◌, ◌++◌, take, map, slice_get, Some, refl, sym, ap}
+use Rattle.std.proofs.Common.{◌≡◌, ◌∙◌, ℕ, false, List, [], ◌∷◌, map, slice_get, Some, refl, sym, ap}
 use Rattle.std.specs.Option.{option_map}
 use Rattle.std.specs.Ordering.{on}
-use Rattle.std.proofs.lemmas.List.{take_more}
-use Rattle.std.proofs.lemmas.Option.{slice_get-map, slice_get_within, get_or_from_slice_get}
+use Rattle.std.proofs.lemmas.Option.{slice_get-map}
 use Rattle.sparse.specs.Map.{Map, get, keys, set, IsReduced, IsSame, ClonesAreEqual}
 use Rattle.sparse.specs.Meaning.{IsExact}
 use Rattle.sparse.proofs.MapLaws.{get-keys}
@@ -15,9 +14,8 @@ use Rattle.boogie_tree.specs.Values.{is_default}
 use Rattle.boogie_tree.specs.Equality.{Decides-same_scalar}
 use Rattle.boogie_tree.specs.Value as v
 use Rattle.boogie_tree.specs.Value.{Key, same_scalar}
-use Rattle.boogie_tree.specs.Whole.{scalar_of, entry_of}
+use Rattle.boogie_tree.specs.Whole.{scalar_of}
 use Rattle.boogie_tree.specs.declared.values.BScalar.{BScalar}
-use Rattle.boogie_tree.specs.declared.values.Entry.{Entry}
 use Rattle.run_file.specs.BoogieRun.{entry_with, entries_of}
 use Rattle.run_file.specs.BoogieView.{filling_of}
 
@@ -34,11 +32,7 @@ pub entry_put : (m after : Map Key BScalar) (k : Key) (x : BScalar) → is_defau
     filling_of after ≡ entry_with (filling_of m) (record { key = k; value = scalar_of x })
 entry_put m after k x other h = rw other (meaning_of-set (IsMeaning-on (λ k. k) scalar_of key_cmp same_scalar) exact_scalars m after k x h)
 
--- ---- the entries of a map, one after the other
-
-map_append : (items : List Entry) (e : Entry) → map entry_of (items ++ e ∷ []) ≡ map entry_of items ++ entry_of e ∷ []
-map_append [] e = refl
-map_append (x ∷ items) e = ap (λ es. entry_of x ∷ es) (map_append items e)
+-- ---- the entries of a map
 
 pub entry_there : (m : Map Key BScalar) (i : ℕ) (k : Key) (x : BScalar) → IsReduced key_cmp (on scalar_of same_scalar) m → slice_get (keys m) i ≡ Some k → x ≡ get key_cmp m k →
     slice_get (entries_of (filling_of m)) i ≡ Some (record { key = k; value = scalar_of x })
@@ -47,13 +41,16 @@ entry_there m i k x reduced here read =
     slice_get-map (λ (e : Key × v.BScalar). record { key = e.0; value = e.1 }) (filling_of m).entries i ∙
     ap (option_map (λ (e : Key × v.BScalar). record { key = e.0; value = e.1 })) (slice_get-map (λ (e : Key × BScalar). (e.0, scalar_of e.1)) m.entries i ∙ ap (option_map (λ (e : Key × BScalar). (e.0, scalar_of e.1))) there)
 
-pub entry_more : (m : Map Key BScalar) (i : ℕ) (items : List Entry) (k q : Key) (x y : BScalar) → IsReduced key_cmp (on scalar_of same_scalar) m → slice_get (keys m) i ≡ Some k →
-    map entry_of items ≡ take i (entries_of (filling_of m)) → q ≡ k → x ≡ get key_cmp m k → scalar_of y ≡ scalar_of x →
-    map entry_of (items ++ record { key = q; value = y } ∷ []) ≡ take (i + 1) (entries_of (filling_of m))
-entry_more m i items k q x y reduced here so_far key read value =
-    let all = entries_of (filling_of m) in
-    let found = entry_there m i k x reduced here read in
-    let e : v.Entry = record { key = k; value = scalar_of x } in
-    map_append items (record { key = q; value = y }) ∙
-    ((λ j. so_far j ++ record { key = key j; value = value j } ∷ []) ∙
-    (ap (λ z. take i all ++ z ∷ []) (sym (get_or_from_slice_get all i e e found)) ∙ sym (take_more all i e (slice_get_within all i e found))))
+-- ---- the entries of a map, moved out one after the other
+
+-- the entry that a key and its value are
+abbrev pub moved : Key × BScalar → v.Entry
+moved e = record { key = e.0; value = scalar_of e.1 }
+
+moved_each : (es : List (Key × BScalar)) → map moved es ≡ map (λ (e : Key × v.BScalar). record { key = e.0; value = e.1 }) (map {B = Key × v.BScalar} (λ (e : Key × BScalar). (e.0, scalar_of e.1)) es)
+moved_each [] = refl
+moved_each (e ∷ es) = ap (λ rest. moved e ∷ rest) (moved_each es)
+
+-- all of them are left
+pub all_left : (m : Map Key BScalar) (pairs left : List (Key × BScalar)) → pairs ≡ m.entries → left ≡ pairs → map moved left ≡ entries_of (filling_of m)
+all_left m pairs left are all = ap (map moved) (all ∙ are) ∙ moved_each m.entries

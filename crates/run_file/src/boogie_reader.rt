@@ -2,7 +2,6 @@
 ghost use Rattle.std.specs.Prelude.{◌≡◌, ◌≤◌, ◌<◌, ◌^◌, List, ℕ, true, false, Some, IfOk, IfErr, OnOk, MatchResult, length, map, option_and_then};
 ghost use Rattle.std.specs.Option.{option_map};
 ghost use Rattle.vb_base.specs.Limits.{max_boogie_bytes};
-ghost use Rattle.sparse.specs.Map.{Map, empty};
 ghost use Rattle.vb_base.specs.Names.{NamesDiffer};
 ghost use Rattle.vb_base.specs.declared.places.Pos.{Pos};
 ghost use Rattle.boogie_tree.specs.Value as v;
@@ -26,7 +25,7 @@ use crate::names::Names;
 use crate::runs::RunFileFault;
 use crate::texts::{is_skipped, next_line};
 use boogie_tree::{BChoice, BRun, BScalar, BSetting, BValue, Entry, Local, Proc, default_of};
-use sparse::Sparse;
+use sparse::Builder;
 use std::alloc::Global;
 use std::collections::BTreeSet;
 use std::mem;
@@ -75,7 +74,7 @@ struct Reader {
     /// The keys that lines have named in the map that is filled.
     keys: BTreeSet<Key>,
     /// The map that is filled.
-    filling: Sparse<Key, BScalar>,
+    filling: Builder<Key, BScalar>,
     run: BRun,
 }
 
@@ -88,7 +87,7 @@ impl Reader {
             stage: Stage::Header,
             named: BTreeSet::new(alloc),
             keys: BTreeSet::new(alloc),
-            filling: unfilled(alloc, nothing())?,
+            filling: Builder::make(alloc, nothing()),
             run: BRun {
                 settings: Vec::new(alloc),
                 choices: Vec::new(alloc),
@@ -200,7 +199,7 @@ impl Reader {
     fn open(&mut self, alloc: Global, next: Stage, zero: BScalar) -> Result<(), Memory>
         ensures { OnOk result (progress_of self.new ≡ progress.opened next (progress_of self.old).named (scalar_of zero) (progress.closed (progress_of self.old))) }
     {
-        let filled = mem::replace(&mut self.filling, unfilled(alloc, zero)?);
+        let filled = mem::replace(&mut self.filling, Builder::make(alloc, zero));
         put_filled(alloc, &mut self.run, self.stage, filled)?;
         self.keys.clear();
         self.stage = next;
@@ -232,13 +231,6 @@ fn nothing() -> BScalar
     BScalar::Snap(Content::Unit)
 }
 
-/// The map in which each key has the default.
-fn unfilled(alloc: Global, zero: BScalar) -> Result<Sparse<Key, BScalar>, Memory>
-    ensures { IfOk result (λ m. filling_of m ≡ empty (scalar_of zero)) }
-{
-    grown(Sparse::make(alloc, zero))
-}
-
 /// The default of the type of the values of a map.
 fn default_at(local: Option<&Local>) -> BScalar
     ensures { scalar_of result ≡ progress.default_at (option_map (λ x. (local_of x.now).ty) local.entry) }
@@ -250,7 +242,7 @@ fn default_at(local: Option<&Local>) -> BScalar
 }
 
 /// Puts an entry into a map, unless its value is the default of its own type.
-fn fill(map: &mut Sparse<Key, BScalar>, entry: Entry) -> Result<(), Memory>
+fn fill(map: &mut Builder<Key, BScalar>, entry: Entry) -> Result<(), Memory>
     ensures { OnOk result (filling_of map.new ≡ r.entry_with (filling_of map.old) (entry_of entry)) }
 {
     if is_default(&entry.value) {
@@ -264,20 +256,21 @@ fn put_filled(
     alloc: Global,
     run: &mut BRun,
     stage: Stage,
-    map: Sparse<Key, BScalar>,
+    map: Builder<Key, BScalar>,
 ) -> Result<(), Memory>
     ensures { OnOk result (run_of run.new ≡ progress.with_filled stage (filling_of map) (run_of run.old)) }
 {
     match stage {
         Stage::Map(var) => put_map(run, var, map),
-        Stage::Entries => put_entries(alloc, run, &map),
+        Stage::Entries => put_entries(alloc, run, map),
         _ => Ok(()),
     }
 }
 
-fn put_map(run: &mut BRun, var: usize, map: Sparse<Key, BScalar>) -> Result<(), Memory>
+fn put_map(run: &mut BRun, var: usize, map: Builder<Key, BScalar>) -> Result<(), Memory>
     ensures { OnOk result (run_of run.new ≡ progress.run_set var (v.Many (filling_of map)) (run_of run.old)) }
 {
+    let map = grown(map.finish())?;
     run.settings.push(BSetting {
         var,
         value: BValue::Map(map),
@@ -285,8 +278,8 @@ fn put_map(run: &mut BRun, var: usize, map: Sparse<Key, BScalar>) -> Result<(), 
     Ok(())
 }
 
-fn put_entries(alloc: Global, run: &mut BRun, map: &Sparse<Key, BScalar>) -> Result<(), Memory>
-    ensures { OnOk result (run_of run.new ≡ progress.run_chosen (v.Entries (r.entries_of (filling_of map.now))) (run_of run.old)) }
+fn put_entries(alloc: Global, run: &mut BRun, map: Builder<Key, BScalar>) -> Result<(), Memory>
+    ensures { OnOk result (run_of run.new ≡ progress.run_chosen (v.Entries (r.entries_of (filling_of map))) (run_of run.old)) }
 {
     let entries = entries_of(alloc, map)?;
     run.choices.push(BChoice::Entries(entries))?;
@@ -294,16 +287,13 @@ fn put_entries(alloc: Global, run: &mut BRun, map: &Sparse<Key, BScalar>) -> Res
 }
 
 /// The entries of a map, in ascending order of the keys.
-fn entries_of(alloc: Global, filled: &Sparse<Key, BScalar>) -> Result<Vec<Entry>, Memory>
-    ensures { IfOk result (λ v. map entry_of v.items ≡ r.entries_of (filling_of filled.now)) }
+fn entries_of(alloc: Global, filled: Builder<Key, BScalar>) -> Result<Vec<Entry>, Memory>
+    ensures { IfOk result (λ list. map entry_of list.items ≡ r.entries_of (filling_of filled)) }
 {
-    let mut entries = Vec::with_capacity(alloc, filled.len())?;
-    for i in 0..filled.len() {
-        let key = filled.key_at(i);
-        entries.push(Entry {
-            key: key.clone()?,
-            value: filled.get(key).clone()?,
-        })?;
+    let pairs = grown(filled.into_entries())?;
+    let mut entries = Vec::with_capacity(alloc, pairs.len())?;
+    for (key, value) in pairs {
+        entries.push(Entry { key, value })?;
     }
     Ok(entries)
 }

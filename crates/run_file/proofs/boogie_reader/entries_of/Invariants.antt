@@ -1,8 +1,10 @@
-use Rattle.std.proofs.Common.{◌≡◌, take, map}
+use Rattle.std.proofs.Common.{◌≡◌, ◌++◌, map}
 use Rattle.boogie_tree.specs.Whole.{entry_of}
 use Rattle.run_file.specs.BoogieRun.{entries_of}
 use Rattle.run_file.specs.BoogieView.{filling_of}
+use Rattle.run_file.proofs.BoogieMapLaws.{moved}
 use Rattle.run_file.proofs.boogie_reader.entries_of.Given as goal
 
-abbrev pub invariant-loop-i : goal.invariant-loop-i
-invariant-loop-i l = map entry_of l.entries.items ≡ take l.i (entries_of (filling_of l.filled))
+-- what was moved and what is left
+abbrev pub invariant-loop-key : goal.invariant-loop-key
+invariant-loop-key l = map entry_of l.entries.items ++ map moved l.key-iterator.rest.items ≡ entries_of (filling_of l.fn.filled)
