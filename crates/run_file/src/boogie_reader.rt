@@ -25,6 +25,7 @@ use crate::names::Names;
 use crate::runs::RunFileFault;
 use crate::texts::{is_skipped, next_line};
 use boogie_tree::{BChoice, BRun, BScalar, BSetting, BValue, Entry, Local, Proc, default_of};
+use rising::Rising;
 use sparse::Builder;
 use std::alloc::Global;
 use std::collections::BTreeSet;
@@ -71,8 +72,8 @@ struct Reader {
     stage: Stage,
     /// The variables that lines have named.
     named: BTreeSet<usize>,
-    /// The keys that lines have named in the map that is filled.
-    keys: BTreeSet<Key>,
+    /// The keys that lines have named in the map that is filled. A printed run gives them in ascending order.
+    keys: Rising<Key>,
     /// The map that is filled.
     filling: Builder<Key, BScalar>,
     run: BRun,
@@ -86,7 +87,7 @@ impl Reader {
         Ok(Reader {
             stage: Stage::Header,
             named: BTreeSet::new(alloc),
-            keys: BTreeSet::new(alloc),
+            keys: Rising::new(alloc),
             filling: Builder::make(alloc, nothing()),
             run: BRun {
                 settings: Vec::new(alloc),

@@ -17,8 +17,8 @@ use crate::memos::{defaults, empty_memo, fill_last, fill_memo};
 use crate::names::{Names, Scope, variables_of};
 use crate::runs::{RunFileFault, ViperRun};
 use crate::texts::{is_skipped, next_line, next_word};
+use rising::Rising;
 use std::alloc::Global;
-use std::collections::BTreeSet;
 use vb_base::{Memory, Pos};
 use vb_value::Value;
 use viper_core::Program;
@@ -70,8 +70,8 @@ enum Stage {
 #[derive(Drop)]
 struct Reader {
     stage: Stage,
-    /// What the lines that fill the same heap and contents have named.
-    named: BTreeSet<Named>,
+    /// What the lines that fill the same heap and contents have named. A printed run does so in ascending order.
+    named: Rising<Named>,
     run: ViperRun,
 }
 
@@ -84,7 +84,7 @@ impl Reader {
         let store = defaults(alloc, scope.types)?;
         Ok(Reader {
             stage: Stage::Header,
-            named: BTreeSet::new(alloc),
+            named: Rising::new(alloc),
             run: ViperRun {
                 opening: Opening { store, memo },
                 choices: Vec::new(alloc),
