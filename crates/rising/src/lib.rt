@@ -76,16 +76,6 @@ impl<K: Ord + Drop> Rising<K> {
         self.listed.clear();
         self.settled.clear();
     }
-
-    /// The keys in ascending order, moved out.
-    pub fn into_keys(self) -> Result<Vec<K>, AllocError>
-        ensures keys { IfOk result (λ list. list.items ≡ self.keys) }
-        ensures ordered { IsOrdered K.cmp self }
-    {
-        let mut keys = self.listed;
-        keys.extend(self.settled)?;
-        Ok(keys)
-    }
 }
 
 /// How a key compares to the last of a list; to an empty list as one above.

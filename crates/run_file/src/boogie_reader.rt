@@ -219,7 +219,7 @@ impl Reader {
                 col: 1,
             }));
         }
-        // They give back their memory before the map takes its own.
+        // The keys give back their memory before the map takes its own.
         drop(self.keys);
         let mut run = self.run;
         put_filled(alloc, &mut run, self.stage, self.filling)?;
