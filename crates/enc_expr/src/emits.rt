@@ -11,6 +11,7 @@ ghost use Rattle.enc_expr.specs.Emits.{emit_of, Emits};
 use crate::blocks::{add, add_all};
 use crate::terms::binary;
 use boogie_tree::{BBase, BExpr, BOp, BStmt, BType, Local};
+use itoa::Buffer;
 use std::alloc::Global;
 use vb_base::{Ident, Memory};
 
@@ -95,8 +96,10 @@ fn under(alloc: Global, guard: Option<usize>, condition: BExpr) -> Result<BExpr,
 fn temporary_name(alloc: Global, number: usize) -> Result<Ident, Memory>
     ensures { IfOk result (λ name. name ≡ codes "t$" ++ decimal number) }
 {
-    let digits = format!(in alloc; "{number}")?;
-    let mut bytes = b"t$".to_vec(alloc)?;
-    bytes.extend_from_slice(digits.as_bytes())?;
+    let mut buffer = Buffer::new();
+    let digits = buffer.format(number).as_bytes();
+    let mut bytes = Vec::with_capacity(alloc, digits.len() + 2)?;
+    bytes.extend_from_slice(b"t$")?;
+    bytes.extend_from_slice(digits)?;
     Ok(Ident { bytes })
 }
