@@ -1,4 +1,5 @@
 pub mod CutLaws
+pub mod DigitLaws
 pub mod AlikeLaws
 pub mod PrintLaws
 pub mod PutLaws

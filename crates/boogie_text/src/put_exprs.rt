@@ -1,10 +1,13 @@
 // The text of expressions.
 ghost use Rattle.std.specs.Prelude.{◌≡◌, ◌++◌, ◌≤◌, OnOk, [], drop, codes, length};
 ghost use Rattle.boogie_tree.specs.Whole as b;
-ghost use Rattle.boogie_grammar.specs.Naming.{naming_of, temporary_name};
+ghost use Rattle.boogie_grammar.specs.Naming.{naming_of};
 ghost use Rattle.boogie_grammar.specs.Printed as text;
 
-use crate::put_leaves::{put, put_binders, put_names, put_number, put_operator, truth_text};
+use crate::put_leaves::{
+    put, put_binders, put_byte, put_names, put_number, put_numbered, put_operator, put_real,
+    truth_text,
+};
 use boogie_grammar::naming::{Naming, bound_names};
 use boogie_tree::{BBase, BExpr};
 use std::alloc::Global;
@@ -21,18 +24,20 @@ pub(crate) fn put_expr(
     ensures { OnOk result (out.new.items ≡ out.old.items ++ text.expr_text (naming_of names.now) (b.expr_of expr.now)) }
 {
     match expr {
-        BExpr::Var(i) => put_name(alloc, out, names, *i),
-        BExpr::Int(n) => put_number(alloc, out, *n, b""),
-        BExpr::Real(n) => put_number(alloc, out, *n, b".0"),
+        BExpr::Var(i) => put_name(out, names, *i),
+        BExpr::Int(n) => put_number(out, *n),
+        BExpr::Real(n) => put_real(out, *n),
         BExpr::Bool(truth) => put(out, truth_text(*truth)),
         BExpr::Null => put(out, b"null"),
         BExpr::Unit => put(out, b"sUnit"),
         BExpr::Neg(a) => put_wrapped(alloc, out, names, b"(- ", a),
         BExpr::Not(a) => put_wrapped(alloc, out, names, b"(! ", a),
         BExpr::Bin(op, a, b) => {
-            put_after(alloc, out, names, b"(", a)?;
+            put_byte(out, b'(')?;
+            put_expr(alloc, out, names, a)?;
             put_operator(out, *op)?;
-            put_wrapped(alloc, out, names, b" ", b)
+            put_byte(out, b' ')?;
+            put_closed(alloc, out, names, b)
         }
         BExpr::If(a, b, c) => {
             put_after(alloc, out, names, b"(if ", a)?;
@@ -50,11 +55,11 @@ pub(crate) fn put_expr(
             put_wrapped(alloc, out, names, b", ", b)
         }
         BExpr::At(i, indices) => {
-            put_map(alloc, out, names, *i)?;
+            put_map(out, names, *i)?;
             put_exprs(alloc, out, names, indices)?;
-            put(out, b"]")
+            put_byte(out, b']')
         }
-        BExpr::AtBound(i) => put_at_bound(alloc, out, names, *i),
+        BExpr::AtBound(i) => put_at_bound(out, names, *i),
     }
 }
 
@@ -85,8 +90,16 @@ fn put_wrapped(
     ensures { OnOk result (out.new.items ≡ out.old.items ++ front.now ++ text.expr_text (naming_of names.now) (b.expr_of a.now) ++ codes ")") }
 {
     put(out, front)?;
+    put_closed(alloc, out, names, a)
+}
+
+/// An expression and a `)`.
+#[cycle(expressions)]
+fn put_closed(alloc: Global, out: &mut Vec<u8>, names: &Naming<'_>, a: &BExpr) -> Result<(), Memory>
+    ensures { OnOk result (out.new.items ≡ out.old.items ++ text.expr_text (naming_of names.now) (b.expr_of a.now) ++ codes ")") }
+{
     put_expr(alloc, out, names, a)?;
-    put(out, b")")
+    put_byte(out, b')')
 }
 
 #[cycle(expressions)]
@@ -109,7 +122,7 @@ fn put_forall(
         ..*names
     };
     put_expr(alloc, out, &inner, body)?;
-    put(out, b")")
+    put_byte(out, b')')
 }
 
 /// Expressions with `, ` between them.
@@ -130,68 +143,40 @@ pub(crate) fn put_exprs(
     Ok(())
 }
 
-fn put_at_bound(
-    alloc: Global,
-    out: &mut Vec<u8>,
-    names: &Naming<'_>,
-    map: usize,
-) -> Result<(), Memory>
+fn put_at_bound(out: &mut Vec<u8>, names: &Naming<'_>, map: usize) -> Result<(), Memory>
     ensures { OnOk result (out.new.items ≡ out.old.items ++ text.name_at (naming_of names.now).locals map ++ codes "[" ++
         text.names_text [] names.now.bound.now ++ codes "]") }
 {
-    put_map(alloc, out, names, map)?;
+    put_map(out, names, map)?;
     put_names(out, names.bound)?;
-    put(out, b"]")
+    put_byte(out, b']')
 }
 
 /// The name of the map of this number, and `[`.
-pub(crate) fn put_map(
-    alloc: Global,
-    out: &mut Vec<u8>,
-    names: &Naming<'_>,
-    i: usize,
-) -> Result<(), Memory>
+pub(crate) fn put_map(out: &mut Vec<u8>, names: &Naming<'_>, i: usize) -> Result<(), Memory>
     ensures { OnOk result (out.new.items ≡ out.old.items ++ text.name_at (naming_of names.now).locals i ++ codes "[") }
 {
-    put_name(alloc, out, names, i)?;
-    put(out, b"[")
+    put_name(out, names, i)?;
+    put_byte(out, b'[')
 }
 
 /// The name of the variable of this number.
-pub(crate) fn put_name(
-    alloc: Global,
-    out: &mut Vec<u8>,
-    names: &Naming<'_>,
-    i: usize,
-) -> Result<(), Memory>
+pub(crate) fn put_name(out: &mut Vec<u8>, names: &Naming<'_>, i: usize) -> Result<(), Memory>
     ensures { OnOk result (out.new.items ≡ out.old.items ++ text.name_at (naming_of names.now).locals i) }
 {
     match names.locals.get(i) {
         Some(local) => put(out, &local.name.bytes),
-        None => put_temporary(alloc, out, names, i),
+        None => put_temporary(out, names, i),
     }
 }
 
 /// The same, where the variable is none of the first ones.
-fn put_temporary(
-    alloc: Global,
-    out: &mut Vec<u8>,
-    names: &Naming<'_>,
-    i: usize,
-) -> Result<(), Memory>
+fn put_temporary(out: &mut Vec<u8>, names: &Naming<'_>, i: usize) -> Result<(), Memory>
     requires { length names.now.locals.now ≤ i }
     ensures { OnOk result (out.new.items ≡ out.old.items ++ text.name_at (naming_of names.now).locals i) }
 {
     if i - names.locals.len() < names.temporaries {
-        return put_numbered(alloc, out, i);
+        return put_numbered(out, i);
     }
     Ok(())
-}
-
-/// `t$` and a number.
-fn put_numbered(alloc: Global, out: &mut Vec<u8>, number: usize) -> Result<(), Memory>
-    ensures { OnOk result (out.new.items ≡ out.old.items ++ temporary_name number) }
-{
-    put(out, b"t$")?;
-    put(out, format!(in alloc; "{number}")?.as_bytes())
 }

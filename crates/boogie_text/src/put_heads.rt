@@ -3,7 +3,7 @@ ghost use Rattle.std.specs.Prelude.{◌≡◌, ◌++◌, OnOk, [], codes};
 ghost use Rattle.boogie_tree.specs.Whole as b;
 ghost use Rattle.boogie_grammar.specs.Printed as text;
 
-use crate::put_leaves::put;
+use crate::put_leaves::{put, put_byte};
 use boogie_grammar::eating::base_text;
 use boogie_tree::{BBase, BType, Local};
 use vb_base::Memory;
@@ -52,9 +52,9 @@ fn put_keys(out: &mut Vec<u8>, keys: &[BBase]) -> Result<(), Memory>
     if keys.is_empty() {
         return Ok(());
     }
-    put(out, b"[")?;
+    put_byte(out, b'[')?;
     put_bases(out, keys)?;
-    put(out, b"]")
+    put_byte(out, b']')
 }
 
 /// Types with `, ` between them.

@@ -7,11 +7,11 @@ ghost use Rattle.boogie_grammar.specs.Printed as text;
 ghost use Rattle.boogie_text.specs.Pieces.{else_text, end_text};
 
 use crate::put_exprs::{put_after, put_exprs, put_map, put_name};
-use crate::put_leaves::put;
+use crate::put_leaves::{put, put_label};
 use boogie_grammar::naming::Naming;
 use boogie_tree::{BExpr, BStmt};
 use std::alloc::Global;
-use vb_base::{Label, Memory, label_text};
+use vb_base::{Label, Memory};
 
 #[cycle(statements)]
 pub(crate) fn put_statements(
@@ -40,7 +40,7 @@ fn put_statement(
     match stmt {
         BStmt::Assign(i, value) => put_assignment(alloc, out, names, *i, value),
         BStmt::Put(i, indices, value) => put_change(alloc, out, names, *i, indices, value),
-        BStmt::Havoc(i) => put_havoc(alloc, out, names, *i),
+        BStmt::Havoc(i) => put_havoc(out, names, *i),
         BStmt::Assume(truth) => put_line(alloc, out, names, b"assume ", truth),
         BStmt::Assert(label, truth) => put_assertion(alloc, out, names, label, truth),
         BStmt::If(truth, a, b) => {
@@ -118,7 +118,7 @@ fn put_assignment(
     ensures { OnOk result (out.new.items ≡ out.old.items ++ text.name_at (naming_of names.now).locals i ++ codes " := " ++
         text.expr_text (naming_of names.now) (b.expr_of value.now) ++ codes ";\n") }
 {
-    put_name(alloc, out, names, i)?;
+    put_name(out, names, i)?;
     put_line(alloc, out, names, b" := ", value)
 }
 
@@ -133,16 +133,16 @@ fn put_change(
     ensures { OnOk result (out.new.items ≡ out.old.items ++ text.name_at (naming_of names.now).locals map ++ codes "[" ++
         text.exprs_text (naming_of names.now) [] (b.exprs_of indices.now) ++ codes "] := " ++ text.expr_text (naming_of names.now) (b.expr_of value.now) ++ codes ";\n") }
 {
-    put_map(alloc, out, names, map)?;
+    put_map(out, names, map)?;
     put_exprs(alloc, out, names, indices)?;
     put_line(alloc, out, names, b"] := ", value)
 }
 
-fn put_havoc(alloc: Global, out: &mut Vec<u8>, names: &Naming<'_>, i: usize) -> Result<(), Memory>
+fn put_havoc(out: &mut Vec<u8>, names: &Naming<'_>, i: usize) -> Result<(), Memory>
     ensures { OnOk result (out.new.items ≡ out.old.items ++ codes "havoc " ++ text.name_at (naming_of names.now).locals i ++ codes ";\n") }
 {
     put(out, b"havoc ")?;
-    put_name(alloc, out, names, i)?;
+    put_name(out, names, i)?;
     put(out, b";\n")
 }
 
@@ -157,6 +157,6 @@ fn put_assertion(
         text.expr_text (naming_of names.now) (b.expr_of truth.now) ++ codes ";\n") }
 {
     put(out, b"assert {:msg \"")?;
-    put(out, &label_text(alloc, label)?)?;
+    put_label(out, *label)?;
     put_line(alloc, out, names, b"\"} ", truth)
 }

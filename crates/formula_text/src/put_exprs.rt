@@ -8,7 +8,7 @@ ghost use Rattle.formula_text.specs.View.{naming_of};
 use crate::scopes::{Scope, put_name};
 use boogie_formula::FExpr;
 use boogie_grammar::naming::bound_names;
-use boogie_text::{put, put_binders, put_names, put_number, put_operator, truth_text};
+use boogie_text::{put, put_binders, put_names, put_number, put_operator, put_real, truth_text};
 use boogie_tree::BBase;
 use std::alloc::Global;
 use vb_base::Memory;
@@ -25,8 +25,8 @@ pub(crate) fn put_expr(
 {
     match expr {
         FExpr::Var(i) => put_name(alloc, out, scope, *i),
-        FExpr::Int(n) => put_number(alloc, out, *n, b""),
-        FExpr::Real(n) => put_number(alloc, out, *n, b".0"),
+        FExpr::Int(n) => put_number(out, *n),
+        FExpr::Real(n) => put_real(out, *n),
         FExpr::Bool(truth) => put(out, truth_text(*truth)),
         FExpr::Null => put(out, b"null"),
         FExpr::Unit => put(out, b"sUnit"),

@@ -17,22 +17,22 @@ at_text x whole i v h = ap (λ y. expr_text x (expr_of y)) h ∙ ap (expr_text x
 
 pub put_expr-returns-in_ok-put_exprs-in-At : goal.put_expr-returns-in_ok-put_exprs-in-At
 put_expr-returns-in_ok-put_exprs-in-At t c =
-    on_ok_weaker c.put-in-At.result (λ h. row_steps c.args.out.now.items (name_at (naming_of c.args.names.now).locals c.in-At.i) (codes "[") (exprs_text (naming_of c.args.names.now) [] (exprs_of c.in-At.indices.items)) (codes "]")
+    on_ok_weaker c.put_byte-in-At.result (λ h. row_steps c.args.out.now.items (name_at (naming_of c.args.names.now).locals c.in-At.i) (codes "[") (exprs_text (naming_of c.args.names.now) [] (exprs_of c.in-At.indices.items)) (codes "]")
     c.in_ok-put_map-in-At.ensures (c.in_ok-put_exprs-in-At.ensures ∙ ap (λ y. c.put_map.new.out.items ++ exprs_text (naming_of c.args.names.now) [] (exprs_of y)) c.deref-in-At.ensures.value) h
-    ∙ ap (λ y. c.args.out.now.items ++ y) (sym (at_text (naming_of c.args.names.now) c.args.expr.now c.in-At.i c.in-At.indices c.in-At.is))) c.put-in-At.ensures
+    ∙ ap (λ y. c.args.out.now.items ++ y) (sym (at_text (naming_of c.args.names.now) c.args.expr.now c.in-At.i c.in-At.indices c.in-At.is))) c.put_byte-in-At.ensures
 
-pub put_expr-returns-in_ok-put_operator-in-Bin : goal.put_expr-returns-in_ok-put_operator-in-Bin
-put_expr-returns-in_ok-put_operator-in-Bin t c =
-    rw c.in-Bin.is (on_ok_weaker c.put_wrapped-in-Bin.result (λ h. three_steps c.args.out.now.items (codes "(") (expr_text (naming_of c.args.names.now) (expr_of c.in-Bin.a.value)) (codes " ") (operator_text c.in-Bin.op) (codes " ") (expr_text (naming_of c.args.names.now) (expr_of c.in-Bin.b.value)) (codes ")")
-    (same_end (naming_of c.args.names.now) (c.args.out.now.items ++ codes "(") c.in-Bin.a.value c.deref-in-Bin.ensures c.in_ok-put_after-in-Bin.ensures) c.in_ok-put_operator-in-Bin.ensures
-    (same_inside (naming_of c.args.names.now) (c.put_operator.new.out.items ++ codes " ") (codes ")") c.in-Bin.b.value c.deref-in-Bin-2.ensures h)) c.put_wrapped-in-Bin.ensures)
+pub put_expr-returns-in_ok-put_byte-in-Bin-2 : goal.put_expr-returns-in_ok-put_byte-in-Bin-2
+put_expr-returns-in_ok-put_byte-in-Bin-2 t c =
+    rw c.in-Bin.is (on_ok_weaker c.put_closed.result (λ h. three_steps c.args.out.now.items (codes "(") (expr_text (naming_of c.args.names.now) (expr_of c.in-Bin.a.value)) (codes " ") (operator_text c.in-Bin.op) (codes " ") (expr_text (naming_of c.args.names.now) (expr_of c.in-Bin.b.value)) (codes ")")
+    (same_end (naming_of c.args.names.now) c.put_byte.new.out.items c.in-Bin.a.value c.deref-in-Bin.ensures c.in_ok-put_expr-in-Bin.ensures ∙ ap (λ m. m ++ expr_text (naming_of c.args.names.now) (expr_of c.in-Bin.a.value)) c.in_ok-put_byte-in-Bin.ensures) c.in_ok-put_operator-in-Bin.ensures
+    (same_inside (naming_of c.args.names.now) c.put_byte-in-Bin.new.out.items (codes ")") c.in-Bin.b.value c.deref-in-Bin-2.ensures h ∙ ap (λ m. m ++ expr_text (naming_of c.args.names.now) (expr_of c.in-Bin.b.value) ++ codes ")") c.in_ok-put_byte-in-Bin-2.ensures)) c.put_closed.ensures)
 
 pub put_expr-returns-in_ok-put_after-in-If-2 : goal.put_expr-returns-in_ok-put_after-in-If-2
 put_expr-returns-in_ok-put_after-in-If-2 t c =
     rw c.in-If.is (on_ok_weaker c.put_wrapped-in-If.result (λ h. three_steps c.args.out.now.items (codes "(if ") (expr_text (naming_of c.args.names.now) (expr_of c.in-If.a.value)) (codes " then ") (expr_text (naming_of c.args.names.now) (expr_of c.in-If.b.value)) (codes " else ") (expr_text (naming_of c.args.names.now) (expr_of c.in-If.c.value)) (codes ")")
     (same_end (naming_of c.args.names.now) (c.args.out.now.items ++ codes "(if ") c.in-If.a.value c.deref-in-If.ensures c.in_ok-put_after-in-If.ensures)
-    (same_end (naming_of c.args.names.now) (c.put_after-in-If.new.out.items ++ codes " then ") c.in-If.b.value c.deref-in-If-2.ensures c.in_ok-put_after-in-If-2.ensures)
-    (same_inside (naming_of c.args.names.now) (c.put_after-in-If-2.new.out.items ++ codes " else ") (codes ")") c.in-If.c.value c.deref-in-If-3.ensures h)) c.put_wrapped-in-If.ensures)
+    (same_end (naming_of c.args.names.now) (c.put_after.new.out.items ++ codes " then ") c.in-If.b.value c.deref-in-If-2.ensures c.in_ok-put_after-in-If-2.ensures)
+    (same_inside (naming_of c.args.names.now) (c.put_after-in-If.new.out.items ++ codes " else ") (codes ")") c.in-If.c.value c.deref-in-If-3.ensures h)) c.put_wrapped-in-If.ensures)
 
 pub put_expr-returns-in_ok-put_after-in-Pair : goal.put_expr-returns-in_ok-put_after-in-Pair
 put_expr-returns-in_ok-put_after-in-Pair t c =
@@ -50,9 +50,9 @@ put_exprs-returns t c =
 
 pub put_forall-returns : goal.put_forall-returns
 put_forall-returns t c =
-    on_ok_weaker c.put-3.result (λ h. forall_steps (naming_of c.args.names.now) c.args.types.now (expr_of c.args.body.now) c.args.out.now.items (codes "(forall ") (codes " :: ") (codes ")") c.in_ok-put.ensures c.in_ok-put_binders.ensures
-    (c.deref.ensures.value ∙ c.in_ok-bound.ensures) c.in_ok-put-2.ensures c.in_ok-put_expr.ensures (c.deref-2.ensures.value ∙ c.in_ok-bound.ensures) h) c.put-3.ensures
+    on_ok_weaker c.put_byte.result (λ h. forall_steps (naming_of c.args.names.now) c.args.types.now (expr_of c.args.body.now) c.args.out.now.items (codes "(forall ") (codes " :: ") (codes ")") c.in_ok-put.ensures c.in_ok-put_binders.ensures
+    (c.deref.ensures.value ∙ c.in_ok-bound.ensures) c.in_ok-put-2.ensures c.in_ok-put_expr.ensures (c.deref-2.ensures.value ∙ c.in_ok-bound.ensures) h) c.put_byte.ensures
 
 pub put_wrapped-returns : goal.put_wrapped-returns
 put_wrapped-returns t c =
-    on_ok_weaker c.put-2.result (λ h. h ∙ ap (λ m. m ++ codes ")") (c.in_ok-put_expr.ensures ∙ ap (λ m. m ++ expr_text (naming_of c.args.names.now) (expr_of c.args.a.now)) c.in_ok-put.ensures)) c.put-2.ensures
+    on_ok_weaker c.put_closed.result (λ h. h ∙ ap (λ m. m ++ expr_text (naming_of c.args.names.now) (expr_of c.args.a.now) ++ codes ")") c.in_ok-put.ensures) c.put_closed.ensures
