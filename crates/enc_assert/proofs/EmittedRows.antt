@@ -1,5 +1,5 @@
 -- What each assertion emits, given what its parts emit.
-use Rattle.std.proofs.Common.{◌≡◌, ◌∙◌, ℕ, ◌+◌, List, [], ◌∷◌, ◌++◌, Some, None, length, ap, sym, subst, append_assoc}
+use Rattle.std.proofs.Common.{◌≡◌, ◌∙◌, ℕ, ◌+◌, List, [], ◌∷◌, ◌++◌, Some, None, length, refl, ap, sym, subst, append_assoc, append-nil}
 use Rattle.std.specs.Prelude.{⊤}
 use Rattle.vb_base.specs.declared.places.Pos.{Pos}
 use Rattle.vb_value.specs.Layout.{Layout}
@@ -169,10 +169,15 @@ pub map_emits : (u : BType) (held source : ℕ) (old mid new : Emit) (own : ℕ)
     Emits (forget_map u held source (from old)) old new tt
 map_emits u held source old mid new own h k = then_emits (declares u) (λ (own : ℕ). puts None (pattern.forget_code u.keys held source own)) old mid new own tt h k
 
-pub map_forgotten : (us : List BBase) (held source own : ℕ) (begin mid new : s.BStmts) → begin ≡ one (s.Havoc own) → mid ≡ join begin (one (pattern.assume_all us (pattern.is_kept held source own))) →
-    new ≡ join mid (one (s.Assign source (t.Var own))) → new ≡ pattern.forget_code us held source own
-map_forgotten us held source own begin mid new h i j =
-    j ∙ ap (λ (z : s.BStmts). join z (one (s.Assign source (t.Var own)))) (i ∙ ap (λ (z : s.BStmts). join z (one (pattern.assume_all us (pattern.is_kept held source own)))) h)
+pub map_forgotten : (us : List BBase) (held source own : ℕ) (old : Emit) {one_more two_more three_more : s.BStmts} → one_more ≡ join old.stmts (one (s.Havoc own)) →
+    two_more ≡ join one_more (one (pattern.assume_all us (pattern.is_kept held source own))) → three_more ≡ join two_more (one (s.Assign source (t.Var own))) →
+    Emits (puts None (pattern.forget_code us held source own) (from old)) old (record { locals = old.locals; stmts = three_more }) tt
+map_forgotten us held source own old h i j = record {
+  locals = sym (append-nil old.locals);
+  next = refl;
+  stmts = then_added old.stmts _ (one (s.Assign source (t.Var own))) (then_added old.stmts (one (s.Havoc own)) _ h i) j;
+  value = refl;
+}
 
 pub map_as : {u w : BType} {a b x y : ℕ} (n : ℕ) {old new : Emit} → u ≡ w → a ≡ b → x ≡ y → Emits (forget_map u a x n) old new tt → Emits (forget_map w b y n) old new tt
 map_as n {old = old} {new = new} hu ha hx m = subst (λ (c : Code ⊤). Emits c old new tt) (λ i. forget_map (hu i) (ha i) (hx i) n) m

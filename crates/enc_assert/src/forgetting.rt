@@ -53,10 +53,9 @@ fn forget_map(
     let keys = copied(alloc, &ty.keys)?;
     let fresh = out.fresh(alloc, ty)?;
     let kept = assume_kept(alloc, keys, held, map, fresh)?;
-    let mut block = vec![in alloc; BStmt::Havoc(fresh)]?;
-    add(&mut block, kept)?;
-    add(&mut block, BStmt::Assign(map, BExpr::Var(fresh)))?;
-    out.put(alloc, None, block)
+    add(&mut out.code, BStmt::Havoc(fresh))?;
+    add(&mut out.code, kept)?;
+    add(&mut out.code, BStmt::Assign(map, BExpr::Var(fresh)))
 }
 
 // ---- all maps
