@@ -10,6 +10,7 @@ pub mod RunStages
 pub mod BoogieRunLaws
 pub mod BoogieVerdicts
 pub mod BoogieStages
+pub mod AloneLaws
 pub mod MakingLaws
 pub mod WordLaws
 pub mod CallLaws

@@ -3,6 +3,7 @@
 //! What a call does is the contract of `tool`. A program connects it to its files and streams.
 #![tactic(auto)]
 
+mod alone;
 mod budget;
 mod command;
 mod conditions;

@@ -8,6 +8,7 @@ ghost use Rattle.vb_tool.specs.AcceptedReplay.{IsBoogie, IsBoogieRefusal, IsRepl
 ghost use Rattle.vb_tool.specs.Parts.{ReplayOf};
 ghost use Rattle.vb_tool.specs.Procedures.{procedure_named};
 
+use crate::alone::replayed_alone;
 use crate::outcome::Ending;
 use crate::replay_outcome::told;
 use crate::status::Refusal;
@@ -46,14 +47,30 @@ fn place_of(procs: &[Proc], name: &[u8]) -> Option<usize>
     procs.iter().position(|proc| is_named(proc, name))
 }
 
-fn is_named(proc: &Proc, name: &[u8]) -> bool
+pub(crate) fn is_named(proc: &Proc, name: &[u8]) -> bool
     ensures { result ≡ bytes_eq (proc_of proc.now).name name.now }
 {
     proc.name.bytes.as_slice() == name
 }
 
 /// The outcome of the procedure that a run file names, of the program of a file, on the run of the run file.
+///
+/// Only that procedure is held, where all is accepted. Where it is not, the whole program is read for the reason.
 pub fn replayed(alloc: Global, bytes: &[u8], run_bytes: &[u8]) -> Result<Ending, Trouble>
+    requires bytes_within { length bytes.now ≤ max_boogie_bytes }
+    requires run_within { length run_bytes.now ≤ max_boogie_bytes }
+    ensures told { IfOk result (λ t. ReplayOf bytes.now run_bytes.now t.status t.text.items) }
+    ensures refused { (r : Refusal) → IsErrOf result (Trouble.Refused r) → IsReplayRefusal bytes.now run_bytes.now r }
+    ensures read { IsErrOf result Trouble.Read → ⊥ }
+{
+    match replayed_alone(alloc, bytes, run_bytes)? {
+        Some(told) => Ok(told),
+        None => replayed_in_whole(alloc, bytes, run_bytes),
+    }
+}
+
+/// The same with the whole program in memory.
+fn replayed_in_whole(alloc: Global, bytes: &[u8], run_bytes: &[u8]) -> Result<Ending, Trouble>
     requires bytes_within { length bytes.now ≤ max_boogie_bytes }
     requires run_within { length run_bytes.now ≤ max_boogie_bytes }
     ensures told { IfOk result (λ t. ReplayOf bytes.now run_bytes.now t.status t.text.items) }

@@ -8,7 +8,7 @@ use Rattle.vb_tool.proofs.BoogieRunLaws.{can_run}
 use Rattle.vb_tool.proofs.BoogieStages.{named_there, names_it, program_within, text_refused, header_refused, name_refused, run_refused, replay_is}
 use Rattle.vb_tool.proofs.BoogieVerdicts.{names_differ}
 use Rattle.vb_tool.proofs.CallLaws.{error_is}
-use Rattle.vb_tool.proofs.procedures.replayed.Goals as goal
+use Rattle.vb_tool.proofs.procedures.replayed_in_whole.Goals as goal
 
 pub returns-in_err-program-clause-refused : goal.returns-in_err-program-clause-refused
 returns-in_err-program-clause-refused c r is_r =
