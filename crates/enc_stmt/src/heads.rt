@@ -1,5 +1,5 @@
 // The first pass over the steps of a unit, which writes the lines of the locals that they declare.
-ghost use Rattle.std.specs.Prelude.{◌≡◌, ◌+◌, ◌≤◌, length, map, All, IfOk, OnOk, OnErr, IsErrOf};
+ghost use Rattle.std.specs.Prelude.{◌≡◌, ◌+◌, ◌≤◌, length, map, All, OnOk, OnErr, IsErrOf};
 ghost use Rattle.vb_outer.specs.Faults.{Rose};
 ghost use Rattle.vb_outer.specs.Sink.{Appends, AppendsPrefix};
 ghost use Rattle.boogie_text.specs.declared.pieces.EmitFault.TheVariants as fault;
@@ -19,24 +19,26 @@ use std::alloc::Global;
 use vb_base::Memory;
 use vb_outer::{Sink, write_all};
 
-/// The lines of the locals that a step declares. `out` keeps no more of them than how many they are.
+/// Makes the lines of the locals that a step declares, in the place of what is in `text`. `out` keeps no more of them than
+/// how many they are.
 fn step_lines(
     alloc: Global,
     writer: Writer,
     step: &Step<'_>,
     out: &mut Emit,
-) -> Result<Vec<u8>, Memory>
+    text: &mut Vec<u8>,
+) -> Result<(), Memory>
     requires { IsStep (step_of step.now) }
-    ensures { IfOk result (λ text. Lists (coder_of writer.entry) (step_of step.now)
-        (length (emit_of out.old).locals) (length (emit_of out.new).locals) text.items) }
+    ensures { OnOk result (Lists (coder_of writer.entry) (step_of step.now)
+        (length (emit_of out.old).locals) (length (emit_of out.new).locals) text.new.items) }
 {
     let before = out.locals.as_slice().len();
     writer.code(alloc, step, out)?;
     out.code.clear();
-    let mut text = Vec::new(alloc);
-    put_locals(&mut text, &out.locals[before..])?;
+    text.clear();
+    put_locals(text, &out.locals[before..])?;
     lighten(alloc, before, &mut out.locals);
-    Ok(text)
+    Ok(())
 }
 
 /// Writes the lines of the locals that the steps of a row declare.
@@ -61,8 +63,9 @@ pub fn write_lines<S: Sink>(
     ensures later { S.faults sink.old ≤ S.faults sink.new }
 {
     let _start = *written;
+    let mut text = Vec::new(alloc);
     for step in row {
-        let text = step_lines(alloc, writer, step, out)?;
+        step_lines(alloc, writer, step, out, &mut text)?;
         write_all(sink, &text)?;
         *written = written.with_text(&text);
     }

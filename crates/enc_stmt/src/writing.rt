@@ -1,5 +1,5 @@
 // The second pass over the steps of a unit, which writes them.
-ghost use Rattle.std.specs.Prelude.{◌≡◌, ◌++◌, ◌≤◌, length, map, All, IfOk, OnOk, OnErr, IsErrOf};
+ghost use Rattle.std.specs.Prelude.{◌≡◌, ◌++◌, ◌≤◌, length, map, All, OnOk, OnErr, IsErrOf};
 ghost use Rattle.vb_outer.specs.Faults.{Rose};
 ghost use Rattle.vb_outer.specs.Sink.{Appends, AppendsPrefix};
 ghost use Rattle.boogie_text.specs.Names.{names_of};
@@ -43,7 +43,8 @@ fn put_bracket(
     }
 }
 
-/// The text of a step. Its code stays in `out` until the next one, and of its locals no more than how many they are.
+/// Makes the text of a step, in the place of what is in `text`. Its code stays in `out` until the next one, and of its
+/// locals no more than how many they are.
 fn step_text(
     alloc: Global,
     writer: Writer,
@@ -51,20 +52,21 @@ fn step_text(
     step: &Step<'_>,
     out: &mut Emit,
     written: &mut Written,
-) -> Result<Vec<u8>, Memory>
+    text: &mut Vec<u8>,
+) -> Result<(), Memory>
     requires { IsStep (step_of step.now) }
-    ensures { IfOk result (λ text. Puts (coder_of writer.entry) (names_of names.now) (step_of step.now)
-        (length (emit_of out.old).locals) (length (emit_of out.new).locals) written.old written.new text.items) }
+    ensures { OnOk result (Puts (coder_of writer.entry) (names_of names.now) (step_of step.now)
+        (length (emit_of out.old).locals) (length (emit_of out.new).locals) written.old written.new text.new.items) }
 {
     out.code.clear();
+    text.clear();
     let before = out.locals.len();
     let bracket = writer.code(alloc, step, out)?;
     lighten(alloc, before, &mut out.locals);
-    let mut text = Vec::new(alloc);
-    put_code(alloc, names, &out.code, &mut text)?;
-    put_bracket(alloc, names, &bracket, &mut text)?;
-    *written = written.with_code(&text, &out.code);
-    Ok(text)
+    put_code(alloc, names, &out.code, text)?;
+    put_bracket(alloc, names, &bracket, text)?;
+    *written = written.with_code(text, &out.code);
+    Ok(())
 }
 
 /// Writes the steps of a row.
@@ -89,8 +91,9 @@ pub fn write_row<S: Sink>(
     ensures later { S.faults sink.old ≤ S.faults sink.new }
 {
     let _start = *written;
+    let mut text = Vec::new(alloc);
     for step in row {
-        let text = step_text(alloc, writer, names, step, out, written)?;
+        step_text(alloc, writer, names, step, out, written, &mut text)?;
         write_all(sink, &text)?;
     }
     Ok(())

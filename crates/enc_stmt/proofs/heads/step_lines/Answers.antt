@@ -10,4 +10,4 @@ returns c =
     let old = c.args.out.now.locals.items in let new = c.code.new.out.locals.items in
     step_listed (coder_of c.args.writer) (step_of c.args.step.now) (emit_of c.args.out.now) (emit_of c.code.new.out) (bracket_of c.in_ok-code.field-0) (length (locals_of c.lighten.new.locals.items)) c.put_locals.new.out.items
     c.in_ok-code.ensures (same_many c.lighten.new.locals.items new c.lighten.ensures)
-    (lines_made old new (length c.as_slice-before.result.now) c.deref.result.now c.new-text.result.items c.put_locals.new.out.items (ap length c.as_slice-before.ensures.value) c.deref.ensures.value c.new-text.ensures.items c.in_ok-put_locals.ensures)
+    (lines_made old new (length c.as_slice-before.result.now) c.deref.result.now c.clear-2.new.self.items c.put_locals.new.out.items (ap length c.as_slice-before.ensures.value) c.deref.ensures.value c.clear-2.ensures.items c.in_ok-put_locals.ensures)

@@ -18,9 +18,9 @@ returns-in_err-write_all-clause-front g c =
     let within : c.loop-step.step-index < length c.args.row.now = omega (arith, c.loop-step-test.true, c.loop-step.auto.step-index-end) in
     let rest = map step_of (drop (c.loop-step.step-index + 1) c.args.row.now) in let k = length (emit_of c.step_text.new.out).locals in
     any_err c.from_residual-in_err-write_all.result
-    (sent_part c.loop-step.invariant.so_far c.in_ok-text.text.items (row_text (coder_of c.args.writer) (names_of c.args.names.now) rest k) (g.S.Sink.written c.write_all.new.sink)
+    (sent_part c.loop-step.invariant.so_far c.step_text.new.text.items (row_text (coder_of c.args.writer) (names_of c.args.names.now) rest k) (g.S.Sink.written c.write_all.new.sink)
     (step_text_first (coder_of c.args.writer) (names_of c.args.names.now) c.args.row.now c.loop-step.step-index c.step-item.result (length (emit_of c.loop-step.out).locals) k
-    c.loop-step.written c.step_text.new.written c.in_ok-text.text.items within c.step-item.is c.in_ok-text.ensures)
+    c.loop-step.written c.step_text.new.written c.step_text.new.text.items within c.step-item.is c.in_ok-step_text.ensures)
     (subst (λ text. AppendsPrefix (g.S.Sink.written c.loop-step.sink) (g.S.Sink.written c.write_all.new.sink) text) c.deref.ensures.value c.in_err-write_all.ensures.failed))
 
 pub loop-step-preserved : goal.loop-step-preserved
@@ -28,10 +28,10 @@ loop-step-preserved g c =
     let within : c.loop-step.step-index < length c.args.row.now = omega (arith, c.loop-step-test.true, c.loop-step.auto.step-index-end) in
     let code = coder_of c.args.writer in let names = names_of c.args.names.now in let rest = map step_of (drop (c.loop-step.step-index + 1) c.args.row.now) in let m = length (emit_of c.loop-step.out).locals in let k = length (emit_of c.step_text.new.out).locals in
     record {
-      so_far = sent_more c.loop-step.invariant.so_far c.in_ok-text.text.items (row_text code names rest k) (asserts_in (code (step_of c.step-item.result) m).stmts) (row_asserts code rest k) (g.S.Sink.written c.write_all.new.sink) c.step_text.new.written
-          (step_text_first code names c.args.row.now c.loop-step.step-index c.step-item.result m k c.loop-step.written c.step_text.new.written c.in_ok-text.text.items within c.step-item.is c.in_ok-text.ensures)
-          (step_asserts_first code names c.args.row.now c.loop-step.step-index c.step-item.result m k c.loop-step.written c.step_text.new.written c.in_ok-text.text.items within c.step-item.is c.in_ok-text.ensures)
+      so_far = sent_more c.loop-step.invariant.so_far c.step_text.new.text.items (row_text code names rest k) (asserts_in (code (step_of c.step-item.result) m).stmts) (row_asserts code rest k) (g.S.Sink.written c.write_all.new.sink) c.step_text.new.written
+          (step_text_first code names c.args.row.now c.loop-step.step-index c.step-item.result m k c.loop-step.written c.step_text.new.written c.step_text.new.text.items within c.step-item.is c.in_ok-step_text.ensures)
+          (step_asserts_first code names c.args.row.now c.loop-step.step-index c.step-item.result m k c.loop-step.written c.step_text.new.written c.step_text.new.text.items within c.step-item.is c.in_ok-step_text.ensures)
           (subst (λ text. Appends (g.S.Sink.written c.loop-step.sink) (g.S.Sink.written c.write_all.new.sink) text) c.deref.ensures.value c.in_ok-write_all.ensures.ok)
-          c.in_ok-text.ensures.counted;
+          c.in_ok-step_text.ensures.counted;
       later = omega (arith, c.loop-step.invariant.later, c.in_ok-write_all.ensures.cause.later);
     }
