@@ -8,6 +8,7 @@ use Rattle.std.proofs.lemmas.Bool.{cond-true, cond-false}
 use Rattle.std.proofs.lemmas.Bool.Decides.{nat_tests}
 use Rattle.std.proofs.lemmas.List.Elements.{All-nil, All-cons, All-append}
 use Rattle.vb_base.specs.Names.{NamesDiffer}
+use Rattle.vb_base.specs.declared.labels.Label.{Label}
 use Rattle.vb_value.specs.Bound.{Bounded}
 use Rattle.boogie_grammar.specs.Grammar.{proc_names}
 use Rattle.boogie_meaning.specs.Programs.{types_of, brun_proc, IsTypedProc, IsTypedProgram}
@@ -15,7 +16,14 @@ use Rattle.boogie_run.specs.Start.{start_of, outcome_of, CanRun, IsWithinProgram
 use Rattle.boogie_run.specs.Within.{AreWithinStmts}
 use Rattle.boogie_run.specs.declared.replaying.BOutcome.{BOutcome}
 use Rattle.boogie_run.proofs.StartLaws.{same_proc}
+use Rattle.boogie_formula.specs.Follows.{Follows, IsExact}
+use Rattle.boogie_formula.specs.Formula.{Formula}
+use Rattle.boogie_formula.specs.Types.{IsTypedFormula}
+use Rattle.boogie_wp.specs.Build.{formula_for}
+use Rattle.formula_text.specs.Printed.{formula_text}
+use Rattle.formula_text.specs.Spells.{SpellsFormula}
 use Rattle.boogie_text.specs.Answers.{IsRead}
+use Rattle.boogie_text.specs.Printable.{FitsProc}
 use Rattle.boogie_text.specs.Tail.{IsTail, BeginsProcedure}
 use Rattle.boogie_text.proofs.TailLaws.{read_whole}
 use Rattle.boogie_tree.specs.Program.{Proc, BProgram}
@@ -30,10 +38,12 @@ use Rattle.run_file.specs.BoogieRun.{SpellsName, SpellsBoogieRun}
 use Rattle.vb_tool.proofs.BoogieRunLaws.{can_run}
 use Rattle.vb_tool.proofs.BoogieStages.{program_within, replay_is}
 use Rattle.vb_tool.proofs.BoogieVerdicts.{all_at, names_differ}
+use Rattle.vb_tool.proofs.ConditionStages.{condition_is, fits_proc}
 use Rattle.vb_tool.specs.Alone.{IsAlone, kept_with}
-use Rattle.vb_tool.specs.Parts.{ReplayOf}
+use Rattle.vb_tool.specs.Parts.{ReplayOf, ConditionOf}
 use Rattle.vb_tool.specs.ReplayOutcome.{replay_status, replay_text}
 use Rattle.vb_tool.specs.declared.status.Status.{Status}
+use Rattle.vb_tool.specs.declared.status.Status.TheVariants as done
 
 -- ---- the first item that passes a test
 
@@ -187,20 +197,20 @@ of_one P e h zero d there = subst P same h where
   same = cc
 of_one P e h (suc n) d there = absurd cc
 
--- ---- what is replayed
+-- ---- what is known of the one that is kept
 
-module _ (bytes rest name run_bytes : List ℕ) (b : whole.BProgram) (is : bytes ≡ prelude ++ rest) (a : IsAlone rest name (program_of b)) where
+module _ (bytes rest name : List ℕ) (b : whole.BProgram) (is : bytes ≡ prelude ++ rest) (a : IsAlone rest name (program_of b)) where
   abbrev all_of : BProgram
   all_of = record { procs = a.procs }
 
   is_read : IsRead bytes all_of
   is_read = read_whole bytes rest a.procs is a.tail
 
+  alone_there : slice_get (program_of b).procs 0 ≡ Some a.procedure
+  alone_there = ap (λ (q : BProgram). slice_get q.procs 0) a.is_alone
+
   pub alone_at : (d : declared.Proc) → d ≡ get_or b.procs.items 0 d → proc_of d ≡ a.procedure
   alone_at d at = first_is b.procs.items d a.procedure (ap (λ (q : BProgram). q.procs) a.is_alone) at
-
-  pub alone_differ : (d : declared.Proc) → d ≡ get_or b.procs.items 0 d → NamesDiffer (known (proc_of d).locals).names
-  alone_differ d at = subst (λ (e : Proc). NamesDiffer (known e.locals).names) (sym (alone_at d at)) (names_differ a.number a.procedure is_read a.is_there)
 
   pub alone_typed : IsTypedProgram (program_of b)
   alone_typed = subst IsTypedProgram (sym a.is_alone) (of_one IsTypedProc a.procedure (a.is_typed a.number a.procedure a.is_there))
@@ -208,19 +218,36 @@ module _ (bytes rest name run_bytes : List ℕ) (b : whole.BProgram) (is : bytes
   pub alone_within : IsWithinProgram (program_of b)
   alone_within = subst IsWithinProgram (sym a.is_alone) (of_one (λ d. AreWithinStmts d.body) a.procedure (program_within bytes all_of is_read a.number a.procedure a.is_there))
 
-  alone_there : slice_get (program_of b).procs 0 ≡ Some a.procedure
-  alone_there = ap (λ (q : BProgram). slice_get q.procs 0) a.is_alone
+  pub alone_differ : (d : declared.Proc) → d ≡ get_or b.procs.items 0 d → NamesDiffer (known (proc_of d).locals).names
+  alone_differ d at = subst (λ (e : Proc). NamesDiffer (known e.locals).names) (sym (alone_at d at)) (names_differ a.number a.procedure is_read a.is_there)
 
-  pub alone_runs : (d : declared.Proc) (run : BRun) → d ≡ get_or b.procs.items 0 d → SpellsBoogieRun run_bytes (proc_of d) run → (e : Proc) → slice_get (program_of b).procs 0 ≡ Some e → CanRun e run
-  alone_runs d run at spelled e there =
+  pub alone_fits : (d : declared.Proc) → d ≡ get_or b.procs.items 0 d → FitsProc (proc_of d)
+  alone_fits d at = subst FitsProc (sym (alone_at d at)) (fits_proc bytes all_of a.number a.procedure is_read a.is_there)
+
+  pub alone_here : (d : declared.Proc) → d ≡ get_or b.procs.items 0 d → slice_get (program_of b).procs 0 ≡ Some (proc_of d)
+  alone_here d at = alone_there ∙ ap (λ (e : Proc). Some e) (sym (alone_at d at))
+
+  -- what is replayed
+
+  pub alone_runs : (run_bytes : List ℕ) (d : declared.Proc) (run : BRun) → d ≡ get_or b.procs.items 0 d → SpellsBoogieRun run_bytes (proc_of d) run → (e : Proc) → slice_get (program_of b).procs 0 ≡ Some e → CanRun e run
+  alone_runs run_bytes d run at spelled e there =
       let can : CanRun a.procedure run = subst (λ f. CanRun f run) (alone_at d at) (can_run run_bytes (proc_of d) run spelled) in
       subst (λ f. CanRun f run) (same_proc alone_there there) can
 
-  pub alone_is : (d : declared.Proc) (run : BRun) (o : BOutcome) (status : Status) (text : List ℕ) → length bytes ≤ 33554432 → length run_bytes ≤ 33554432 → SpellsName run_bytes name →
+  pub alone_is : (run_bytes : List ℕ) (d : declared.Proc) (run : BRun) (o : BOutcome) (status : Status) (text : List ℕ) → length bytes ≤ 33554432 → length run_bytes ≤ 33554432 → SpellsName run_bytes name →
       d ≡ get_or b.procs.items 0 d → SpellsBoogieRun run_bytes (proc_of d) run →
       ((e : Proc) → slice_get (program_of b).procs 0 ≡ Some e → outcome_of (brun_proc Bounded e (start_of (types_of e) run.settings) run.choices) ≡ Some o) →
       status ≡ replay_status o → text ≡ replay_text o → ReplayOf bytes run_bytes status text
-  alone_is d run o status text small few said at spelled ends is_status is_text =
+  alone_is run_bytes d run o status text small few said at spelled ends is_status is_text =
       replay_is bytes run_bytes all_of (record { small = small; text = is_read; is_typed = a.is_typed }) few a.procedure run o status text
       (record { name = name; header = said; number = a.number; named = a.named; is_there = a.is_there }) (subst (λ e. SpellsBoogieRun run_bytes e run) (alone_at d at) spelled)
       (ends a.procedure alone_there) is_status is_text
+
+  -- of which a formula is stated
+
+  pub alone_states : (label : Label) (d : declared.Proc) (f : Formula) (status : Status) (text : List ℕ) → length bytes ≤ 33554432 → d ≡ get_or b.procs.items 0 d →
+      f ≡ formula_for (proc_of d) label → IsTypedFormula f → Follows (proc_of d) label f → IsExact (proc_of d) label f → text ≡ formula_text (proc_of d).name label f → SpellsFormula text (proc_of d).name label f →
+      ((m : List ℕ) (l : Label) (g : Formula) → SpellsFormula text m l g → (m ≡ (proc_of d).name) × (l ≡ label) × (g ≡ f)) → status ≡ done.Done → ConditionOf bytes name label status text
+  alone_states label d f status text small at built typed follows exact is_text spelled only is_done =
+      condition_is bytes name label all_of a.number (proc_of d) f status text (record { small = small; text = is_read; is_typed = a.is_typed }) a.named
+      (a.is_there ∙ ap (λ (e : Proc). Some e) (sym (alone_at d at))) built typed follows exact is_text spelled only is_done

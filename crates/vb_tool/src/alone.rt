@@ -1,4 +1,4 @@
-// A run of a procedure, of which alone the program is kept.
+// A procedure of a program of which no other is kept, and a run of it.
 ghost use Rattle.std.specs.Prelude.{◌≡◌, ◌≤◌, ◌∷◌, [], length, IfOk, IfSome};
 ghost use Rattle.std.specs.Option.{option_map};
 ghost use Rattle.vb_base.specs.Limits.{max_boogie_bytes};
@@ -47,7 +47,7 @@ pub fn replayed_alone(
 }
 
 /// The procedure of this name as a program of its own, where a text behind the prelude is a well-typed program.
-fn alone(alloc: Global, text: &[u8], name: &[u8]) -> Result<Option<BProgram>, Memory>
+pub(crate) fn alone(alloc: Global, text: &[u8], name: &[u8]) -> Result<Option<BProgram>, Memory>
     ensures { IfOk result (λ o. IfSome o (λ b. IsAlone text.now name.now (program_of b))) }
 {
     let mut names = Names::new(alloc);

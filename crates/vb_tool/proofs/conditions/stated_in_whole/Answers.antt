@@ -7,7 +7,7 @@ use Rattle.vb_tool.proofs.BoogieVerdicts.{named_within}
 use Rattle.vb_tool.proofs.CallLaws.{error_is}
 use Rattle.vb_tool.proofs.ConditionStages.{text_refused, name_refused, fits_proc, condition_is}
 use Rattle.vb_tool.specs.Procedures.{procedure_named}
-use Rattle.vb_tool.proofs.conditions.stated.Goals as goal
+use Rattle.vb_tool.proofs.conditions.stated_in_whole.Goals as goal
 
 pub returns-in_err-program-clause-refused : goal.returns-in_err-program-clause-refused
 returns-in_err-program-clause-refused c r is_r =
