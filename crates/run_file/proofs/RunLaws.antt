@@ -16,6 +16,7 @@ use Rattle.run_file.specs.declared.lines.Named.{Named}
 use Rattle.run_file.specs.declared.lines.Named.TheVariants as named
 use Rattle.run_file.specs.declared.reader.Stage.{Stage}
 use Rattle.run_file.specs.declared.reader.Stage.TheVariants as stage
+use Rattle.run_file.proofs.MemoLaws.{last_of}
 use Rattle.run_file.proofs.NamedLaws.{FreshOnce, once_is_fresh, fresh_differs}
 
 abbrev pub at_stage : Stage → List Named → Opening → List Choice → Progress
@@ -27,11 +28,6 @@ some_same e = cc
 -- a name that is new
 new_name : (set : List Named) (n : Named) (st : Progress) → has_named set n ≡ false → cond (has_named set n) None (Some st) ≡ Some st
 new_name set n st h = rw h refl
-
-last_of : (l : Line) (cs : List Choice) (m : Memo) → last_with l (cs ++ Filled m ∷ []) ≡ cs ++ Filled (memo_with m l) ∷ []
-last_of l [] m = refl
-last_of l (c ∷ []) m = refl
-last_of l (c ∷ d ∷ cs) m = ap (λ xs. c ∷ xs) (last_of l (d ∷ cs) m)
 
 -- ---- what lines are is read
 

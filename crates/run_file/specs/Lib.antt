@@ -4,6 +4,7 @@ pub mod Lines
 pub mod NamedOrder
 pub mod Run
 pub mod LineView
+pub mod FillingView
 pub mod Reading
 pub mod Found
 pub mod Progress

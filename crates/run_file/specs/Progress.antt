@@ -4,6 +4,7 @@ use Rattle.std.specs.BTreeSet.{insert_key}
 use Rattle.std.specs.Str.{bytes_eq}
 use Rattle.vb_base.specs.declared.places.Pos.{Pos}
 use Rattle.vb_value.specs.declared.values.Value.{Value}
+use Rattle.viper_state.specs.State.{Memo}
 use Rattle.viper_state.specs.Choice.{Choice, Branch, Took, Amount, Fresh, Filled}
 use Rattle.run_file.specs.Text.{is_skipped, words_of}
 use Rattle.run_file.specs.Lines.{Scope, Line, Var, Heap, Holds, Chosen, Opened}
@@ -50,6 +51,13 @@ run_with stage.Header l run = run
 run_with stage.Opening l run = record run { opening = record { store = run.opening.store; memo = memo_with run.opening.memo l } }
 run_with stage.Filling l run = record run { choices = last_with l run.choices }
 run_with stage.Choosing l run = run
+
+-- the run with the heap and contents that are filled: the opening's, or those of the last choice
+abbrev pub with_filled : Stage → Memo → ViperRun → ViperRun
+with_filled stage.Header m run = record run { opening = record { store = run.opening.store; memo = m } }
+with_filled stage.Opening m run = record run { opening = record { store = run.opening.store; memo = m } }
+with_filled stage.Filling m run = record run { choices = run.choices ++ Filled m ∷ [] }
+with_filled stage.Choosing m run = run
 
 -- a variable's value in the opening
 abbrev pub run_set : ℕ → Value → ViperRun → ViperRun

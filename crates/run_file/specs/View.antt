@@ -3,7 +3,8 @@ use Rattle.std.specs.Prelude.{◌≡◌, ◌⊎◌, map, Result, Ok, Err}
 use Rattle.vb_base.specs.declared.places.Pos.{Pos}
 use Rattle.viper_state.specs.View.{opening_of, choice_of}
 use Rattle.run_file.specs.Run as r
-use Rattle.run_file.specs.Progress.{Progress}
+use Rattle.run_file.specs.FillingView.{filling_of}
+use Rattle.run_file.specs.Progress.{Progress, with_filled}
 use Rattle.run_file.specs.declared.runs.ViperRun.{ViperRun}
 use Rattle.run_file.specs.declared.runs.RunFileFault.{RunFileFault}
 use Rattle.run_file.specs.declared.runs.RunFileFault.TheVariants as fault
@@ -12,8 +13,9 @@ use Rattle.run_file.specs.declared.reader.Reader.{Reader}
 abbrev pub run_of : ViperRun → r.ViperRun
 run_of x = record { opening = opening_of x.opening; choices = map choice_of x.choices.items }
 
+-- the heap and contents that are filled stand in their place in the run
 abbrev pub progress_of : Reader → Progress
-progress_of x = record { stage = x.stage; named = x.named.keys; run = run_of x.run }
+progress_of x = record { stage = x.stage; named = x.named.keys; run = with_filled x.stage (filling_of x.filling) (run_of x.run) }
 
 -- the result is so, unless memory was refused
 abbrev pub Gives : {X : Type 0} → (X → Type 0) → Result X RunFileFault → Type 0

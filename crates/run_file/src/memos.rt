@@ -1,21 +1,21 @@
 // Heaps and contents that lines fill.
-ghost use Rattle.std.specs.Prelude.{◌≡◌, Ok, map, replicate, IfOk, OnOk};
+ghost use Rattle.std.specs.Prelude.{◌≡◌, Ok, None, map, replicate, IfOk, OnOk};
 ghost use Rattle.sparse.specs.Map.{empty};
 ghost use Rattle.vb_value.specs.Content as tree;
 ghost use Rattle.vb_value.specs.Value.{default_of};
-ghost use Rattle.viper_state.specs.View.{memo_of, choice_of, contents_of};
+ghost use Rattle.viper_state.specs.View.{memo_of, contents_of};
 ghost use Rattle.vb_value.specs.View.{content_of};
 ghost use Rattle.run_file.specs.Lines as l;
+ghost use Rattle.run_file.specs.FillingView.{filling_of};
 ghost use Rattle.run_file.specs.LineView.{line_view};
-ghost use Rattle.run_file.specs.Progress.{choice_with, last_with};
 ghost use Rattle.run_file.specs.Run as r;
 
 use crate::lines::Line;
-use sparse::Sparse;
+use sparse::{Builder, Sparse};
 use std::alloc::Global;
 use vb_base::Memory;
 use vb_value::{Content, Key, Layout, Ty, Value};
-use viper_state::{Choice, Memo};
+use viper_state::Memo;
 
 /// The default of each variable.
 pub(crate) fn defaults(alloc: Global, types: &[Ty]) -> Result<Vec<Value>, Memory>
@@ -28,8 +28,130 @@ pub(crate) fn defaults(alloc: Global, types: &[Ty]) -> Result<Vec<Value>, Memory
     Ok(values)
 }
 
+/// A heap and contents that lines fill.
+#[derive(Drop)]
+pub(crate) struct Filling {
+    memo: Memo,
+    /// The field whose heap is filled, where there are `values`.
+    field: usize,
+    /// This heap, which stands for that of the memo.
+    values: Option<Builder<u64, Value>>,
+}
+
+impl Filling {
+    /// Those of no field and of no predicate, which no line can fill.
+    pub(crate) fn none(alloc: Global) -> Filling {
+        Filling {
+            memo: Memo {
+                heap: Vec::new(alloc),
+                content: Vec::new(alloc),
+            },
+            field: 0,
+            values: None,
+        }
+    }
+
+    /// Those in which nothing was named.
+    pub(crate) fn of(alloc: Global, layout: &Layout) -> Result<Filling, Memory>
+        ensures { IfOk result (λ m. filling_of m ≡ r.empty_memo layout.now.fields layout.now.keys) }
+    {
+        let memo = empty_memo(alloc, layout)?;
+        Ok(Filling {
+            memo,
+            field: 0,
+            values: None,
+        })
+    }
+
+    /// Puts what a line gives into the heap and contents.
+    pub(crate) fn fill(&mut self, alloc: Global, line: Line) -> Result<(), Memory>
+        ensures { OnOk result (filling_of self.new ≡ r.memo_with (filling_of self.old) (line_view line)) }
+    {
+        match line {
+            Line::Heap(field, reference, value) => self.set_value(alloc, field, reference, value),
+            Line::Content(predicate, key, content) => self.set_content(predicate, key, content),
+            _ => Ok(()),
+        }
+    }
+
+    fn set_value(
+        &mut self,
+        alloc: Global,
+        field: usize,
+        reference: u64,
+        value: Value,
+    ) -> Result<(), Memory>
+        ensures { OnOk result (filling_of self.new ≡ r.memo_with (filling_of self.old) (l.Heap field reference value)) }
+    {
+        if self.field == field {
+            if let Some(values) = &mut self.values {
+                return grown(values.set(reference, value));
+            }
+        }
+        self.close()?;
+        self.begin(alloc, field, reference, value)
+    }
+
+    /// Gives a field its value at a reference, after which its heap is filled.
+    fn begin(
+        &mut self,
+        alloc: Global,
+        field: usize,
+        reference: u64,
+        value: Value,
+    ) -> Result<(), Memory>
+        requires { self.old.values ≡ None }
+        ensures { OnOk result (filling_of self.new ≡ r.memo_with (filling_of self.old) (l.Heap field reference value)) }
+    {
+        let Some(values) = self.memo.heap.get_mut(field) else {
+            return Ok(());
+        };
+        if values.len() > 0 {
+            return grown(values.set(reference, value));
+        }
+        let mut filled = Builder::make(alloc, *values.default());
+        grown(filled.set(reference, value))?;
+        self.field = field;
+        self.values = Some(filled);
+        Ok(())
+    }
+
+    /// Puts the heap that is filled into the memo.
+    fn close(&mut self) -> Result<(), Memory>
+        ensures same { OnOk result (filling_of self.new ≡ filling_of self.old) }
+        ensures closed { OnOk result (self.new.values ≡ None) }
+    {
+        let Some(values) = self.values.take() else {
+            return Ok(());
+        };
+        let values = grown(values.finish())?;
+        if let Some(heap) = self.memo.heap.get_mut(self.field) {
+            *heap = values;
+        }
+        Ok(())
+    }
+
+    fn set_content(&mut self, predicate: usize, key: Key, content: Content) -> Result<(), Memory>
+        ensures { OnOk result (filling_of self.new ≡ r.memo_with (filling_of self.old) (l.Holds predicate key (content_of content))) }
+    {
+        match self.memo.content.get_mut(predicate) {
+            Some(contents) => grown(contents.set(key, content)),
+            None => Ok(()),
+        }
+    }
+
+    /// The heap and contents, made of what was filled.
+    pub(crate) fn finish(self) -> Result<Memo, Memory>
+        ensures { IfOk result (λ m. memo_of m ≡ filling_of self) }
+    {
+        let mut filling = self;
+        filling.close()?;
+        Ok(filling.memo)
+    }
+}
+
 /// The heap and contents in which nothing was named.
-pub(crate) fn empty_memo(alloc: Global, layout: &Layout) -> Result<Memo, Memory>
+fn empty_memo(alloc: Global, layout: &Layout) -> Result<Memo, Memory>
     ensures { IfOk result (λ m. memo_of m ≡ r.empty_memo layout.now.fields layout.now.keys) }
 {
     let heap = empty_heaps(alloc, &layout.fields)?;
@@ -55,54 +177,6 @@ fn empty_contents(alloc: Global, count: usize) -> Result<Vec<Sparse<Key, Content
         contents.push(grown(Sparse::make(alloc, Content::Unit))?)?;
     }
     Ok(contents)
-}
-
-/// Puts what a line gives into a heap and contents.
-pub(crate) fn fill_memo(memo: &mut Memo, line: Line) -> Result<(), Memory>
-    ensures { OnOk result (memo_of memo.new ≡ r.memo_with (memo_of memo.old) (line_view line)) }
-{
-    match line {
-        Line::Heap(field, reference, value) => set_value(memo, field, reference, value),
-        Line::Content(predicate, key, content) => set_content(memo, predicate, key, content),
-        _ => Ok(()),
-    }
-}
-
-fn set_value(memo: &mut Memo, field: usize, reference: u64, value: Value) -> Result<(), Memory>
-    ensures { OnOk result (memo_of memo.new ≡ r.memo_with (memo_of memo.old) (l.Heap field reference value)) }
-{
-    match memo.heap.get_mut(field) {
-        Some(values) => grown(values.set(reference, value)),
-        None => Ok(()),
-    }
-}
-
-fn set_content(memo: &mut Memo, predicate: usize, key: Key, content: Content) -> Result<(), Memory>
-    ensures { OnOk result (memo_of memo.new ≡ r.memo_with (memo_of memo.old) (l.Holds predicate key (content_of content))) }
-{
-    match memo.content.get_mut(predicate) {
-        Some(contents) => grown(contents.set(key, content)),
-        None => Ok(()),
-    }
-}
-
-/// Puts what a line gives into the last choice.
-pub(crate) fn fill_last(choices: &mut Vec<Choice>, line: Line) -> Result<(), Memory>
-    ensures { OnOk result (map choice_of choices.new.items ≡ last_with (line_view line) (map choice_of choices.old.items)) }
-{
-    match choices.last_mut() {
-        Some(choice) => fill_choice(choice, line),
-        None => Ok(()),
-    }
-}
-
-fn fill_choice(choice: &mut Choice, line: Line) -> Result<(), Memory>
-    ensures { OnOk result (choice_of choice.new ≡ choice_with (line_view line) (choice_of choice.old)) }
-{
-    match choice {
-        Choice::Memo(memo) => fill_memo(memo, line),
-        _ => Ok(()),
-    }
 }
 
 /// The same answer, where memory was refused by the name that it has here.

@@ -1,28 +1,32 @@
 // The reader of run files of Viper.
-ghost use Rattle.std.specs.Prelude.{◌≡◌, ◌≤◌, ◌<◌, ◌^◌, true, false, Some, IfOk, IfErr, OnOk, MatchResult, length};
+ghost use Rattle.std.specs.Prelude.{◌≡◌, ◌≤◌, ◌<◌, ◌^◌, [], true, false, Some, IfOk, IfErr, OnOk, MatchResult, length};
 ghost use Rattle.vb_base.specs.Limits.{max_boogie_bytes};
 ghost use Rattle.vb_base.specs.declared.places.Pos.{Pos};
 ghost use Rattle.viper_core.specs.Formed.{IsFormed};
 ghost use Rattle.viper_core.specs.View.{program_of};
+ghost use Rattle.viper_state.specs.Choice.{Filled};
 ghost use Rattle.viper_state.specs.View.{choice_of};
-ghost use Rattle.run_file.specs.Run.{ViperRun as Plain, SpellsViperRun, GoesWrongAt};
+ghost use Rattle.run_file.specs.FillingView.{filling_of};
+ghost use Rattle.run_file.specs.Run.{ViperRun as Plain, SpellsViperRun, GoesWrongAt, scope_memo};
 ghost use Rattle.run_file.specs.LineView.{line_view, scope_view};
 ghost use Rattle.run_file.specs.Machine.{IsReadBy, StopsBy, Steps};
 ghost use Rattle.run_file.specs.Progress as progress;
 ghost use Rattle.run_file.specs.Text.{lines_of, words_of};
 ghost use Rattle.run_file.specs.View.{progress_of, run_of, Gives, GivesPlace};
+ghost use Rattle.run_file.specs.declared.reader.Stage.TheVariants as stage;
 
 use crate::lines::{Line, Named, line_of};
-use crate::memos::{defaults, empty_memo, fill_last, fill_memo};
+use crate::memos::{Filling, defaults};
 use crate::names::{Names, Scope, variables_of};
 use crate::runs::{RunFileFault, ViperRun};
 use crate::texts::{is_skipped, next_line, next_word};
 use rising::Rising;
 use std::alloc::Global;
+use std::mem;
 use vb_base::{Memory, Pos};
 use vb_value::Value;
 use viper_core::Program;
-use viper_state::{Choice, Opening};
+use viper_state::{Choice, Memo, Opening};
 
 /// The run of a unit that the bytes of a run file spell, or else where they go wrong: at the first line that may not
 /// stand there, or at the last where the header is missing.
@@ -61,7 +65,7 @@ pub fn read_viper_run(
 enum Stage {
     Header,
     Opening,
-    /// A heap and contents are filled, which are the last choice.
+    /// A heap and contents are filled, which are the next choice.
     Filling,
     Choosing,
 }
@@ -72,6 +76,9 @@ struct Reader {
     stage: Stage,
     /// What the lines that fill the same heap and contents have named. A printed run does so in ascending order.
     named: Rising<Named>,
+    /// The heap and contents that are filled.
+    filling: Filling,
+    /// The run without those.
     run: ViperRun,
 }
 
@@ -80,11 +87,16 @@ impl Reader {
     fn new(alloc: Global, scope: Scope) -> Result<Reader, Memory>
         ensures { IfOk result (λ x. progress_of x ≡ progress.begun (scope_view scope.entry)) }
     {
-        let memo = empty_memo(alloc, scope.layout)?;
+        let filling = Filling::of(alloc, scope.layout)?;
         let store = defaults(alloc, scope.types)?;
+        let memo = Memo {
+            heap: Vec::new(alloc),
+            content: Vec::new(alloc),
+        };
         Ok(Reader {
             stage: Stage::Header,
             named: Rising::new(alloc),
+            filling,
             run: ViperRun {
                 opening: Opening { store, memo },
                 choices: Vec::new(alloc),
@@ -109,6 +121,7 @@ impl Reader {
     }
 
     fn read_header(&mut self, text: &[u8]) -> bool
+        requires { self.old.stage ≡ stage.Header }
         ensures { Steps result (progress.header_read (progress_of self.old) (words_of text.now)) (progress_of self.new) }
     {
         let header = is_header(text);
@@ -126,17 +139,14 @@ impl Reader {
             Line::Var(number, value) => self.set_variable(number, value),
             Line::Heap(field, reference, value) => {
                 let named = Named::Place(field, reference);
-                self.set_place(named, Line::Heap(field, reference, value))
+                self.set_place(alloc, named, Line::Heap(field, reference, value))
             }
             Line::Content(predicate, key, content) => {
                 let named = Named::Instance(predicate, key.clone()?);
-                self.set_place(named, Line::Content(predicate, key, content))
+                self.set_place(alloc, named, Line::Content(predicate, key, content))
             }
-            Line::Chosen(choice) => self.choose(Stage::Choosing, choice),
-            Line::State => {
-                let memo = empty_memo(alloc, scope.layout)?;
-                self.choose(Stage::Filling, Choice::Memo(memo))
-            }
+            Line::Chosen(choice) => self.choose(alloc, choice),
+            Line::State => self.open_state(alloc, scope),
         }
     }
 
@@ -154,51 +164,79 @@ impl Reader {
     }
 
     /// Puts a value or content where a heap and contents are filled, once for each place and instance.
-    fn set_place(&mut self, named: Named, line: Line) -> Result<bool, Memory>
+    fn set_place(&mut self, alloc: Global, named: Named, line: Line) -> Result<bool, Memory>
         ensures { IfOk result (λ ok. Steps ok (progress.place_set (progress_of self.old) (line_view line) named) (progress_of self.new)) }
     {
         if !may_place(self.stage) || !self.named.insert(named)? {
             return Ok(false);
         }
-        fill(&mut self.run, self.stage, line)?;
+        self.filling.fill(alloc, line)?;
         Ok(true)
+    }
+
+    /// Takes in a choice.
+    fn choose(&mut self, alloc: Global, choice: Choice) -> Result<bool, Memory>
+        ensures { IfOk result (λ ok. Steps ok (Some (progress.chosen stage.Choosing (progress_of self.old) (choice_of choice))) (progress_of self.new)) }
+    {
+        self.close(alloc)?;
+        self.run.choices.push(choice)?;
+        self.stage = Stage::Choosing;
+        Ok(true)
+    }
+
+    /// Begins to fill a heap and contents, which are a choice.
+    fn open_state(&mut self, alloc: Global, scope: Scope) -> Result<bool, Memory>
+        ensures { IfOk result (λ ok. Steps ok (Some (progress.chosen stage.Filling (progress_of self.old) (Filled (scope_memo (scope_view scope.entry))))) (progress_of self.new)) }
+    {
+        self.close(alloc)?;
+        self.filling = Filling::of(alloc, scope.layout)?;
+        self.stage = Stage::Filling;
+        Ok(true)
+    }
+
+    /// Puts the heap and contents that were filled into the run, and forgets what their lines have named.
+    fn close(&mut self, alloc: Global) -> Result<(), Memory>
+        ensures run { OnOk result (run_of self.new.run ≡ (progress_of self.old).run) }
+        ensures named { OnOk result (self.new.named.keys ≡ []) }
+    {
+        self.named.clear();
+        if let Stage::Choosing = self.stage {
+            return Ok(());
+        }
+        let filled = mem::replace(&mut self.filling, Filling::none(alloc));
+        put_filled(&mut self.run, self.stage, filled)
     }
 
     /// The run, after so many lines, where the header is among them.
     fn finish(self, lines: u32) -> Result<ViperRun, RunFileFault>
         requires { (1 ≤ lines) × (lines < 2 ^ 32) }
-        ensures { MatchResult result (λ run. (progress.is_headed self.stage ≡ true) × (run_of run ≡ run_of self.run))
+        ensures { MatchResult result (λ run. (progress.is_headed self.stage ≡ true) × (run_of run ≡ (progress_of self).run))
             (λ e. progress.UnlessMemory (λ at. (progress.is_headed self.stage ≡ false) × (at.line ≡ lines) × (at.col ≡ 1)) e) }
     {
-        match self.stage {
-            Stage::Header => Err(RunFileFault::Syntax(Pos {
+        if let Stage::Header = self.stage {
+            return Err(RunFileFault::Syntax(Pos {
                 line: lines,
                 col: 1,
-            })),
-            _ => Ok(self.run),
+            }));
         }
-    }
-
-    /// Takes in a choice, after which what may stand is this.
-    fn choose(&mut self, next: Stage, choice: Choice) -> Result<bool, Memory>
-        ensures { IfOk result (λ ok. Steps ok (Some (progress.chosen next (progress_of self.old) (choice_of choice))) (progress_of self.new)) }
-    {
-        self.run.choices.push(choice)?;
-        self.named.clear();
-        self.stage = next;
-        Ok(true)
+        // What was named gives back its memory before the heap and contents take their own.
+        drop(self.named);
+        let mut run = self.run;
+        put_filled(&mut run, self.stage, self.filling)?;
+        Ok(run)
     }
 }
 
-/// Puts what a line gives where a heap and contents are filled.
-fn fill(run: &mut ViperRun, stage: Stage, line: Line) -> Result<(), Memory>
-    ensures { OnOk result (run_of run.new ≡ progress.run_with stage (line_view line) (run_of run.old)) }
+/// Puts a heap and contents that were filled into a run.
+fn put_filled(run: &mut ViperRun, stage: Stage, filling: Filling) -> Result<(), Memory>
+    ensures { OnOk result (run_of run.new ≡ progress.with_filled stage (filling_of filling) (run_of run.old)) }
 {
     match stage {
-        Stage::Opening => fill_memo(&mut run.opening.memo, line),
-        Stage::Filling => fill_last(&mut run.choices, line),
-        _ => Ok(()),
+        Stage::Header | Stage::Opening => run.opening.memo = filling.finish()?,
+        Stage::Filling => run.choices.push(Choice::Memo(filling.finish()?))?,
+        Stage::Choosing => {}
     }
+    Ok(())
 }
 
 /// Whether a variable's line may stand.
