@@ -12,7 +12,9 @@ ghost use Rattle.run_file.specs.BoogieView.{filling_of, found_value, found_value
 ghost use Rattle.run_file.specs.Printed.{named_text, numbered_text};
 
 use crate::boogie_values::is_default;
-use crate::printer::{put, put_content, put_fraction, put_key, put_reference, truth_text};
+use crate::printer::{
+    put, put_content, put_fraction, put_key, put_number, put_reference, truth_text,
+};
 use boogie_tree::{BChoice, BRun, BScalar, BSetting, BValue, Entry, Local, Proc};
 use sparse::Sparse;
 use std::alloc::Global;
@@ -36,7 +38,7 @@ pub fn print_boogie_run(alloc: Global, proc: &Proc, run: &BRun) -> Result<Vec<u8
     put(&mut out, &proc.name.bytes)?;
     put(&mut out, b"\n")?;
     put_variables(alloc, &mut out, &proc.locals, &run.settings)?;
-    put_choices(alloc, &mut out, &run.choices)?;
+    put_choices(&mut out, &run.choices)?;
     Ok(out)
 }
 
@@ -51,7 +53,7 @@ fn put_variables(
         ++ numbered_text text.given_text (known (locals_of locals.now)).names 0 (text.given (length (locals_of locals.now)) (map setting_of settings.now))) }
 {
     let places = last_places(alloc, locals.len(), settings)?;
-    put_settings(alloc, out, locals, settings, &places)
+    put_settings(out, locals, settings, &places)
 }
 
 /// For each of so many variables, where the last of its settings stands.
@@ -88,7 +90,6 @@ fn set_place(places: &mut Vec<Option<usize>>, var: usize, place: usize)
 }
 
 fn put_settings(
-    alloc: Global,
     out: &mut Vec<u8>,
     locals: &[Local],
     settings: &[BSetting],
@@ -97,14 +98,13 @@ fn put_settings(
     ensures { OnOk result (out.new.items ≡ out.old.items ++ numbered_text text.given_text (known (locals_of locals.now)).names 0 (found_values settings.now places.now)) }
 {
     for (i, place) in places.iter().enumerate() {
-        put_placed(alloc, out, locals.get(i), settings, *place)?;
+        put_placed(out, locals.get(i), settings, *place)?;
     }
     Ok(())
 }
 
 /// What the setting at a place gives a variable.
 fn put_placed(
-    alloc: Global,
     out: &mut Vec<u8>,
     local: Option<&Local>,
     settings: &[BSetting],
@@ -113,13 +113,12 @@ fn put_placed(
     ensures { OnOk result (out.new.items ≡ out.old.items ++ named_text text.given_text (option_map (λ x. (local_of x.now).name) local.entry) (found_value settings.now place)) }
 {
     match place {
-        Some(place) => put_given(alloc, out, local, settings.get(place)),
+        Some(place) => put_given(out, local, settings.get(place)),
         None => Ok(()),
     }
 }
 
 fn put_given(
-    alloc: Global,
     out: &mut Vec<u8>,
     local: Option<&Local>,
     setting: Option<&BSetting>,
@@ -131,22 +130,22 @@ fn put_given(
         return Ok(());
     };
     match setting {
-        Some(setting) => put_value(alloc, out, &local.name, &setting.value),
+        Some(setting) => put_value(out, &local.name, &setting.value),
         None => Ok(()),
     }
 }
 
 /// A variable, unless it has its default.
-fn put_value(alloc: Global, out: &mut Vec<u8>, name: &Ident, value: &BValue) -> Result<(), Memory>
+fn put_value(out: &mut Vec<u8>, name: &Ident, value: &BValue) -> Result<(), Memory>
     ensures { OnOk result (out.new.items ≡ out.old.items ++ text.value_text name.now (value_of value.now)) }
 {
     match value {
-        BValue::One(value) => put_one(alloc, out, name, value),
-        BValue::Map(map) => put_map(alloc, out, name, map),
+        BValue::One(value) => put_one(out, name, value),
+        BValue::Map(map) => put_map(out, name, map),
     }
 }
 
-fn put_one(alloc: Global, out: &mut Vec<u8>, name: &Ident, value: &BScalar) -> Result<(), Memory>
+fn put_one(out: &mut Vec<u8>, name: &Ident, value: &BScalar) -> Result<(), Memory>
     ensures { OnOk result (out.new.items ≡ out.old.items ++ text.value_text name.now (v.One (scalar_of value.now))) }
 {
     if is_default(value) {
@@ -155,16 +154,11 @@ fn put_one(alloc: Global, out: &mut Vec<u8>, name: &Ident, value: &BScalar) -> R
     put(out, b"var ")?;
     put(out, &name.bytes)?;
     put(out, b" ")?;
-    put_scalar(alloc, out, value)?;
+    put_scalar(out, value)?;
     put(out, b"\n")
 }
 
-fn put_map(
-    alloc: Global,
-    out: &mut Vec<u8>,
-    name: &Ident,
-    filled: &Sparse<Key, BScalar>,
-) -> Result<(), Memory>
+fn put_map(out: &mut Vec<u8>, name: &Ident, filled: &Sparse<Key, BScalar>) -> Result<(), Memory>
     ensures { OnOk result (out.new.items ≡ out.old.items ++ text.value_text name.now (v.Many (filling_of filled.now))) }
 {
     if filled.len() == 0 {
@@ -173,64 +167,64 @@ fn put_map(
     put(out, b"entries ")?;
     put(out, &name.bytes)?;
     put(out, b"\n")?;
-    put_filled(alloc, out, filled)
+    put_filled(out, filled)
 }
 
 /// The places of a map, in ascending order of the keys.
-fn put_filled(alloc: Global, out: &mut Vec<u8>, filled: &Sparse<Key, BScalar>) -> Result<(), Memory>
+fn put_filled(out: &mut Vec<u8>, filled: &Sparse<Key, BScalar>) -> Result<(), Memory>
     ensures { OnOk result (out.new.items ≡ out.old.items ++ text.entries_text (entries_of (filling_of filled.now))) }
 {
     for i in 0..filled.len() {
         let key = filled.key_at(i);
-        put_place(alloc, out, key, filled.get(key))?;
+        put_place(out, key, filled.get(key))?;
     }
     Ok(())
 }
 
-fn put_entries(alloc: Global, out: &mut Vec<u8>, entries: &[Entry]) -> Result<(), Memory>
+fn put_entries(out: &mut Vec<u8>, entries: &[Entry]) -> Result<(), Memory>
     ensures text { OnOk result (out.new.items ≡ out.old.items ++ text.entries_text (map entry_of entries.now)) }
     ensures named { OnOk result (All IsNamedEntry (map entry_of entries.now)) }
 {
     for entry in entries {
-        put_place(alloc, out, &entry.key, &entry.value)?;
+        put_place(out, &entry.key, &entry.value)?;
     }
     Ok(())
 }
 
-fn put_place(alloc: Global, out: &mut Vec<u8>, key: &Key, value: &BScalar) -> Result<(), Memory>
+fn put_place(out: &mut Vec<u8>, key: &Key, value: &BScalar) -> Result<(), Memory>
     ensures text { OnOk result (out.new.items ≡ out.old.items ++ text.entry_text (record { key = key.now; value = scalar_of value.now })) }
     ensures named { OnOk result (IsNamedKey key.now × IsNamedScalar (scalar_of value.now)) }
 {
     put(out, b"at ")?;
-    put_key(alloc, out, key.parts())?;
-    put_scalar(alloc, out, value)?;
+    put_key(out, key.parts())?;
+    put_scalar(out, value)?;
     put(out, b"\n")
 }
 
-fn put_scalar(alloc: Global, out: &mut Vec<u8>, value: &BScalar) -> Result<(), Memory>
+fn put_scalar(out: &mut Vec<u8>, value: &BScalar) -> Result<(), Memory>
     ensures text { OnOk result (out.new.items ≡ out.old.items ++ text.scalar_text (scalar_of value.now)) }
     ensures named { OnOk result (IsNamedScalar (scalar_of value.now)) }
 {
     match value {
-        BScalar::Int(number) => put(out, format!(in alloc; "{number}")?.as_bytes()),
+        BScalar::Int(number) => put_number(out, *number),
         BScalar::Bool(truth) => put(out, truth_text(*truth)),
-        BScalar::Ref(reference) => put_reference(alloc, out, *reference),
-        BScalar::Real(fraction) => put_fraction(alloc, out, *fraction),
-        BScalar::Snap(content) => put_content(alloc, out, content),
+        BScalar::Ref(reference) => put_reference(out, *reference),
+        BScalar::Real(fraction) => put_fraction(out, *fraction),
+        BScalar::Snap(content) => put_content(out, content),
     }
 }
 
-fn put_choices(alloc: Global, out: &mut Vec<u8>, choices: &[BChoice]) -> Result<(), Memory>
+fn put_choices(out: &mut Vec<u8>, choices: &[BChoice]) -> Result<(), Memory>
     ensures text { OnOk result (out.new.items ≡ out.old.items ++ text.choices_text (map choice_of choices.now)) }
     ensures named { OnOk result (All IsNamedMove (map choice_of choices.now)) }
 {
     for choice in choices {
-        put_choice(alloc, out, choice)?;
+        put_choice(out, choice)?;
     }
     Ok(())
 }
 
-fn put_choice(alloc: Global, out: &mut Vec<u8>, choice: &BChoice) -> Result<(), Memory>
+fn put_choice(out: &mut Vec<u8>, choice: &BChoice) -> Result<(), Memory>
     ensures text { OnOk result (out.new.items ≡ out.old.items ++ text.choice_text (choice_of choice.now)) }
     ensures named { OnOk result (IsNamedMove (choice_of choice.now)) }
 {
@@ -242,12 +236,12 @@ fn put_choice(alloc: Global, out: &mut Vec<u8>, choice: &BChoice) -> Result<(), 
         }
         BChoice::Value(value) => {
             put(out, b"value ")?;
-            put_scalar(alloc, out, value)?;
+            put_scalar(out, value)?;
             put(out, b"\n")
         }
         BChoice::Entries(entries) => {
             put(out, b"entries\n")?;
-            put_entries(alloc, out, entries)
+            put_entries(out, entries)
         }
     }
 }

@@ -1,5 +1,6 @@
 // The text of a run.
 ghost use Rattle.std.specs.Prelude.{◌≡◌, ◌++◌, IfOk, OnOk, map};
+ghost use Rattle.std.specs.Fmt.{signed_decimal};
 ghost use Rattle.std.specs.Option.{option_copied, option_map};
 ghost use Rattle.vb_value.specs.View.{content_of};
 ghost use Rattle.viper_core.specs.Formed.{IsFormed};
@@ -14,6 +15,7 @@ ghost use Rattle.run_file.specs.View.{run_of};
 
 use crate::names::variables_of;
 use crate::runs::ViperRun;
+use itoa::Buffer;
 use sparse::Sparse;
 use std::alloc::Global;
 use vb_base::{Ident, Memory};
@@ -37,33 +39,23 @@ pub fn print_viper_run(
     let (names, _) = variables_of(program, unit);
     let mut out = Vec::new(alloc);
     put(&mut out, b"viper run\n")?;
-    put_variables(alloc, &mut out, names, &run.opening.store)?;
-    put_memo(alloc, &mut out, program, &run.opening.memo)?;
-    put_choices(alloc, &mut out, program, &run.choices)?;
+    put_variables(&mut out, names, &run.opening.store)?;
+    put_memo(&mut out, program, &run.opening.memo)?;
+    put_choices(&mut out, program, &run.choices)?;
     Ok(out)
 }
 
-fn put_variables(
-    alloc: Global,
-    out: &mut Vec<u8>,
-    names: &[Ident],
-    values: &[Value],
-) -> Result<(), Memory>
+fn put_variables(out: &mut Vec<u8>, names: &[Ident], values: &[Value]) -> Result<(), Memory>
     ensures { OnOk result (out.new.items ≡ out.old.items ++ text.numbered_text text.var_text names.now 0 values.now) }
 {
     for (i, value) in values.iter().enumerate() {
-        put_variable(alloc, out, names.get(i), *value)?;
+        put_variable(out, names.get(i), *value)?;
     }
     Ok(())
 }
 
 /// A variable, unless it has its default.
-fn put_variable(
-    alloc: Global,
-    out: &mut Vec<u8>,
-    name: Option<&Ident>,
-    value: Value,
-) -> Result<(), Memory>
+fn put_variable(out: &mut Vec<u8>, name: Option<&Ident>, value: Value) -> Result<(), Memory>
     ensures { OnOk result (out.new.items ≡ out.old.items ++ text.named_text text.var_text (option_copied name.entry) value) }
 {
     let Some(name) = name else {
@@ -75,19 +67,18 @@ fn put_variable(
     put(out, b"var ")?;
     put(out, &name.bytes)?;
     put(out, b" ")?;
-    put_value(alloc, out, value)?;
+    put_value(out, value)?;
     put(out, b"\n")
 }
 
-fn put_memo(alloc: Global, out: &mut Vec<u8>, program: &Program, memo: &Memo) -> Result<(), Memory>
+fn put_memo(out: &mut Vec<u8>, program: &Program, memo: &Memo) -> Result<(), Memory>
     ensures { OnOk result (out.new.items ≡ out.old.items ++ text.memo_text (program_of program.now) (memo_of memo.now)) }
 {
-    put_heaps(alloc, out, &program.fields, &memo.heap)?;
-    put_contents(alloc, out, &program.predicates, &memo.content)
+    put_heaps(out, &program.fields, &memo.heap)?;
+    put_contents(out, &program.predicates, &memo.content)
 }
 
 fn put_heaps(
-    alloc: Global,
     out: &mut Vec<u8>,
     fields: &[Ident],
     heaps: &[Sparse<u64, Value>],
@@ -95,13 +86,12 @@ fn put_heaps(
     ensures { OnOk result (out.new.items ≡ out.old.items ++ text.numbered_text text.heap_text fields.now 0 heaps.now) }
 {
     for (i, heap) in heaps.iter().enumerate() {
-        put_heap(alloc, out, fields.get(i), heap)?;
+        put_heap(out, fields.get(i), heap)?;
     }
     Ok(())
 }
 
 fn put_heap(
-    alloc: Global,
     out: &mut Vec<u8>,
     name: Option<&Ident>,
     heap: &Sparse<u64, Value>,
@@ -109,46 +99,34 @@ fn put_heap(
     ensures { OnOk result (out.new.items ≡ out.old.items ++ text.named_text text.heap_text (option_copied name.entry) heap.now) }
 {
     match name {
-        Some(name) => put_places(alloc, out, name, heap),
+        Some(name) => put_places(out, name, heap),
         None => Ok(()),
     }
 }
 
-fn put_places(
-    alloc: Global,
-    out: &mut Vec<u8>,
-    name: &Ident,
-    heap: &Sparse<u64, Value>,
-) -> Result<(), Memory>
+fn put_places(out: &mut Vec<u8>, name: &Ident, heap: &Sparse<u64, Value>) -> Result<(), Memory>
     ensures { OnOk result (out.new.items ≡ out.old.items ++ text.heap_text name.now heap.now) }
 {
     for i in 0..heap.len() {
         let reference = *heap.key_at(i);
-        put_place(alloc, out, name, reference, *heap.get(&reference))?;
+        put_place(out, name, reference, *heap.get(&reference))?;
     }
     Ok(())
 }
 
-fn put_place(
-    alloc: Global,
-    out: &mut Vec<u8>,
-    name: &Ident,
-    reference: u64,
-    value: Value,
-) -> Result<(), Memory>
+fn put_place(out: &mut Vec<u8>, name: &Ident, reference: u64, value: Value) -> Result<(), Memory>
     ensures { OnOk result (out.new.items ≡ out.old.items ++ text.place_text name.now reference value) }
 {
     put(out, b"heap ")?;
     put(out, &name.bytes)?;
     put(out, b" ")?;
-    put_reference(alloc, out, reference)?;
+    put_reference(out, reference)?;
     put(out, b" ")?;
-    put_value(alloc, out, value)?;
+    put_value(out, value)?;
     put(out, b"\n")
 }
 
 fn put_contents(
-    alloc: Global,
     out: &mut Vec<u8>,
     predicates: &[Predicate],
     contents: &[Sparse<Key, Content>],
@@ -157,13 +135,12 @@ fn put_contents(
         ++ text.numbered_text text.contents_text (map (λ (d : p.Predicate). d.name) (map predicate_of predicates.now)) 0 (map contents_of contents.now)) }
 {
     for (i, map) in contents.iter().enumerate() {
-        put_predicate(alloc, out, predicates.get(i), map)?;
+        put_predicate(out, predicates.get(i), map)?;
     }
     Ok(())
 }
 
 fn put_predicate(
-    alloc: Global,
     out: &mut Vec<u8>,
     predicate: Option<&Predicate>,
     contents: &Sparse<Key, Content>,
@@ -172,13 +149,12 @@ fn put_predicate(
         ++ text.named_text text.contents_text (option_map (λ d. (predicate_of d).name) (option_copied predicate.entry)) (contents_of contents.now)) }
 {
     match predicate {
-        Some(predicate) => put_instances(alloc, out, &predicate.name, contents),
+        Some(predicate) => put_instances(out, &predicate.name, contents),
         None => Ok(()),
     }
 }
 
 fn put_instances(
-    alloc: Global,
     out: &mut Vec<u8>,
     name: &Ident,
     contents: &Sparse<Key, Content>,
@@ -187,52 +163,46 @@ fn put_instances(
 {
     for i in 0..contents.len() {
         let key = contents.key_at(i);
-        put_instance(alloc, out, name, key, contents.get(key))?;
+        put_instance(out, name, key, contents.get(key))?;
     }
     Ok(())
 }
 
-fn put_instance(
-    alloc: Global,
-    out: &mut Vec<u8>,
-    name: &Ident,
-    key: &Key,
-    content: &Content,
-) -> Result<(), Memory>
+fn put_instance(out: &mut Vec<u8>, name: &Ident, key: &Key, content: &Content) -> Result<(), Memory>
     ensures { OnOk result (out.new.items ≡ out.old.items ++ text.instance_text name.now key.now (content_of content.now)) }
 {
     put(out, b"content ")?;
     put(out, &name.bytes)?;
     put(out, b" ")?;
-    put_key(alloc, out, key.parts())?;
-    put_content(alloc, out, content)?;
+    put_key(out, key.parts())?;
+    put_content(out, content)?;
     put(out, b"\n")
 }
 
 /// The arguments of an instance, each with a space behind it.
-pub(crate) fn put_key(alloc: Global, out: &mut Vec<u8>, parts: &[KeyPart]) -> Result<(), Memory>
+pub(crate) fn put_key(out: &mut Vec<u8>, parts: &[KeyPart]) -> Result<(), Memory>
     ensures text { OnOk result (out.new.items ≡ out.old.items ++ text.key_text parts.now) }
     ensures named { OnOk result (IsNamedKey parts.now) }
 {
     for part in parts {
-        put_part(alloc, out, *part)?;
+        put_part(out, *part)?;
         put(out, b" ")?;
     }
     Ok(())
 }
 
-fn put_part(alloc: Global, out: &mut Vec<u8>, part: KeyPart) -> Result<(), Memory>
+fn put_part(out: &mut Vec<u8>, part: KeyPart) -> Result<(), Memory>
     ensures text { OnOk result (out.new.items ≡ out.old.items ++ text.part_text part) }
     ensures named { OnOk result (IsNamedPart part) }
 {
     match part {
-        KeyPart::Int(number) => put(out, format!(in alloc; "{number}")?.as_bytes()),
+        KeyPart::Int(number) => put_number(out, number),
         KeyPart::Bool(truth) => put(out, truth_text(truth)),
-        KeyPart::Ref(reference) => put_reference(alloc, out, reference),
+        KeyPart::Ref(reference) => put_reference(out, reference),
     }
 }
 
-pub(crate) fn put_content(alloc: Global, out: &mut Vec<u8>, content: &Content) -> Result<(), Memory>
+pub(crate) fn put_content(out: &mut Vec<u8>, content: &Content) -> Result<(), Memory>
     ensures text { OnOk result (out.new.items ≡ out.old.items ++ text.content_text (content_of content.now)) }
     ensures named { OnOk result (IsNamedContent (content_of content.now)) }
 {
@@ -240,26 +210,26 @@ pub(crate) fn put_content(alloc: Global, out: &mut Vec<u8>, content: &Content) -
         Content::Unit => put(out, b"unit"),
         Content::Leaf(value) => {
             put(out, b"leaf ")?;
-            put_value(alloc, out, *value)
+            put_value(out, *value)
         }
         Content::Pair(left, right) => {
             put(out, b"pair ")?;
-            put_content(alloc, out, left)?;
+            put_content(out, left)?;
             put(out, b" ")?;
-            put_content(alloc, out, right)
+            put_content(out, right)
         }
     }
 }
 
-fn put_value(alloc: Global, out: &mut Vec<u8>, value: Value) -> Result<(), Memory>
+fn put_value(out: &mut Vec<u8>, value: Value) -> Result<(), Memory>
     ensures text { OnOk result (out.new.items ≡ out.old.items ++ text.value_text value) }
     ensures named { OnOk result (IsNamedValue value) }
 {
     match value {
-        Value::Int(number) => put(out, format!(in alloc; "{number}")?.as_bytes()),
+        Value::Int(number) => put_number(out, number),
         Value::Bool(truth) => put(out, truth_text(truth)),
-        Value::Ref(reference) => put_reference(alloc, out, reference),
-        Value::Perm(fraction) => put_fraction(alloc, out, fraction),
+        Value::Ref(reference) => put_reference(out, reference),
+        Value::Perm(fraction) => put_fraction(out, fraction),
     }
 }
 
@@ -269,45 +239,43 @@ pub(crate) fn truth_text(truth: bool) -> &'static [u8]
     if truth { b"true" } else { b"false" }
 }
 
-pub(crate) fn put_reference(alloc: Global, out: &mut Vec<u8>, reference: u64) -> Result<(), Memory>
+pub(crate) fn put_reference(out: &mut Vec<u8>, reference: u64) -> Result<(), Memory>
     ensures text { OnOk result (out.new.items ≡ out.old.items ++ text.reference_text reference) }
     ensures named { OnOk result (IsNamed reference) }
 {
     if reference == 0 {
         return put(out, b"null");
     }
+    let mut digits = Buffer::new();
     put(out, b"#")?;
-    put(out, format!(in alloc; "{reference}")?.as_bytes())
+    put(out, digits.format(reference).as_bytes())
 }
 
-pub(crate) fn put_fraction(alloc: Global, out: &mut Vec<u8>, fraction: Frac) -> Result<(), Memory>
+pub(crate) fn put_fraction(out: &mut Vec<u8>, fraction: Frac) -> Result<(), Memory>
     ensures { OnOk result (out.new.items ≡ out.old.items ++ text.fraction_text fraction) }
 {
-    let num = Frac::num(fraction);
-    let den = Frac::den(fraction);
-    put(out, format!(in alloc; "{num}/{den}")?.as_bytes())
+    put_number(out, Frac::num(fraction))?;
+    put(out, b"/")?;
+    put_number(out, Frac::den(fraction))
 }
 
-fn put_choices(
-    alloc: Global,
-    out: &mut Vec<u8>,
-    program: &Program,
-    choices: &[Choice],
-) -> Result<(), Memory>
+pub(crate) fn put_number(out: &mut Vec<u8>, number: i128) -> Result<(), Memory>
+    ensures { OnOk result (out.new.items ≡ out.old.items ++ signed_decimal number) }
+{
+    let mut digits = Buffer::new();
+    put(out, digits.format(number).as_bytes())
+}
+
+fn put_choices(out: &mut Vec<u8>, program: &Program, choices: &[Choice]) -> Result<(), Memory>
     ensures { OnOk result (out.new.items ≡ out.old.items ++ text.choices_text (program_of program.now) (map choice_of choices.now)) }
 {
     for choice in choices {
-        put_choice(alloc, out, program, choice)?;
+        put_choice(out, program, choice)?;
     }
     Ok(())
 }
 
-fn put_choice(
-    alloc: Global,
-    out: &mut Vec<u8>,
-    program: &Program,
-    choice: &Choice,
-) -> Result<(), Memory>
+fn put_choice(out: &mut Vec<u8>, program: &Program, choice: &Choice) -> Result<(), Memory>
     ensures { OnOk result (out.new.items ≡ out.old.items ++ text.choice_text (program_of program.now) (choice_of choice.now)) }
 {
     match choice {
@@ -318,22 +286,22 @@ fn put_choice(
         }
         Choice::Took(value) => {
             put(out, b"value ")?;
-            put_value(alloc, out, *value)?;
+            put_value(out, *value)?;
             put(out, b"\n")
         }
         Choice::Amount(amount) => {
             put(out, b"amount ")?;
-            put_fraction(alloc, out, *amount)?;
+            put_fraction(out, *amount)?;
             put(out, b"\n")
         }
         Choice::Fresh(reference) => {
             put(out, b"fresh ")?;
-            put_reference(alloc, out, *reference)?;
+            put_reference(out, *reference)?;
             put(out, b"\n")
         }
         Choice::Memo(memo) => {
             put(out, b"state\n")?;
-            put_memo(alloc, out, program, memo)
+            put_memo(out, program, memo)
         }
     }
 }
