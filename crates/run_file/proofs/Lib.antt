@@ -37,4 +37,5 @@ pub mod HeaderLaws
 pub mod BoogiePrintedLines
 pub mod BoogiePrintedMaps
 pub mod BoogiePrintedRuns
+pub mod MovedPrintLaws
 mod NamedLists

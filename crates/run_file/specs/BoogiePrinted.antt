@@ -53,6 +53,10 @@ given_with vs s = slice_set vs s.var (Some s.value)
 abbrev pub given : ℕ → List BSetting → List (Option BValue)
 given n ss = fold given_with (replicate n None) ss
 
+-- what stands before the choices
+abbrev pub beginning_text : Proc → List BSetting → List ℕ
+beginning_text d ss = codes "boogie run " ++ d.name ++ codes "\n" ++ numbered_text given_text (known d.locals).names 0 (given (length d.locals) ss)
+
 -- the printed text of a run of the procedure
 abbrev pub run_text : Proc → BRun → List ℕ
 run_text d run =

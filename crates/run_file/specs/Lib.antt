@@ -19,3 +19,4 @@ pub mod BoogieProgress
 pub mod BoogieView
 pub mod BoogiePrinted
 pub mod BoogiePrintable
+pub mod MovedView

@@ -34,12 +34,24 @@ pub fn print_boogie_run(alloc: Global, proc: &Proc, run: &BRun) -> Result<Vec<u8
     ensures named { IfOk result (λ out. All IsNamedMove (run_of run.now).choices) }
 {
     let mut out = Vec::new(alloc);
-    put(&mut out, b"boogie run ")?;
-    put(&mut out, &proc.name.bytes)?;
-    put(&mut out, b"\n")?;
-    put_variables(alloc, &mut out, &proc.locals, &run.settings)?;
+    put_beginning(alloc, &mut out, proc, &run.settings)?;
     put_choices(&mut out, &run.choices)?;
     Ok(out)
+}
+
+/// What stands before the choices: the header, and the variables.
+pub(crate) fn put_beginning(
+    alloc: Global,
+    out: &mut Vec<u8>,
+    proc: &Proc,
+    settings: &[BSetting],
+) -> Result<(), Memory>
+    ensures { OnOk result (out.new.items ≡ out.old.items ++ text.beginning_text (proc_of proc.now) (map setting_of settings.now)) }
+{
+    put(out, b"boogie run ")?;
+    put(out, &proc.name.bytes)?;
+    put(out, b"\n")?;
+    put_variables(alloc, out, &proc.locals, settings)
 }
 
 /// The variables other than their default.
@@ -191,7 +203,7 @@ fn put_entries(out: &mut Vec<u8>, entries: &[Entry]) -> Result<(), Memory>
     Ok(())
 }
 
-fn put_place(out: &mut Vec<u8>, key: &Key, value: &BScalar) -> Result<(), Memory>
+pub(crate) fn put_place(out: &mut Vec<u8>, key: &Key, value: &BScalar) -> Result<(), Memory>
     ensures text { OnOk result (out.new.items ≡ out.old.items ++ text.entry_text (record { key = key.now; value = scalar_of value.now })) }
     ensures named { OnOk result (IsNamedKey key.now × IsNamedScalar (scalar_of value.now)) }
 {
@@ -229,19 +241,28 @@ fn put_choice(out: &mut Vec<u8>, choice: &BChoice) -> Result<(), Memory>
     ensures named { OnOk result (IsNamedMove (choice_of choice.now)) }
 {
     match choice {
-        BChoice::Pick(way) => {
-            put(out, b"pick ")?;
-            put(out, truth_text(*way))?;
-            put(out, b"\n")
-        }
-        BChoice::Value(value) => {
-            put(out, b"value ")?;
-            put_scalar(out, value)?;
-            put(out, b"\n")
-        }
+        BChoice::Pick(way) => put_pick(out, *way),
+        BChoice::Value(value) => put_chosen(out, value),
         BChoice::Entries(entries) => {
             put(out, b"entries\n")?;
             put_entries(out, entries)
         }
     }
+}
+
+pub(crate) fn put_pick(out: &mut Vec<u8>, way: bool) -> Result<(), Memory>
+    ensures { OnOk result (out.new.items ≡ out.old.items ++ text.choice_text (v.Pick way)) }
+{
+    put(out, b"pick ")?;
+    put(out, truth_text(way))?;
+    put(out, b"\n")
+}
+
+pub(crate) fn put_chosen(out: &mut Vec<u8>, value: &BScalar) -> Result<(), Memory>
+    ensures text { OnOk result (out.new.items ≡ out.old.items ++ text.choice_text (v.Value (scalar_of value.now))) }
+    ensures named { OnOk result (IsNamedScalar (scalar_of value.now)) }
+{
+    put(out, b"value ")?;
+    put_scalar(out, value)?;
+    put(out, b"\n")
 }

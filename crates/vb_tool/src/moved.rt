@@ -8,9 +8,8 @@ ghost use Rattle.moves.specs.Printable.{IsNamedMove};
 ghost use Rattle.enc_stmt.specs.Opened.{start_settings, IsNamedSetting};
 ghost use Rattle.vb_tool.specs.Moved.{moved_text};
 
-use boogie_tree::BRun;
 use enc_stmt::{front_procedure, start_env};
-use run_file::{moves, print_boogie_run};
+use run_file::print_moved_run;
 use std::alloc::Global;
 use vb_base::Memory;
 use viper_core::{Program, Unit};
@@ -34,7 +33,5 @@ pub fn moved_text(
 {
     let procedure = front_procedure(alloc, program, unit)?;
     let settings = start_env(alloc, program, number, opening)?;
-    let choices = moves(alloc, events, program)?;
-    let run = BRun { settings, choices };
-    print_boogie_run(alloc, &procedure, &run)
+    print_moved_run(alloc, &procedure, &settings, events)
 }
