@@ -12,7 +12,7 @@ ghost use Rattle.run_file.specs.Text.{words_of};
 use crate::boogie_values::{entry, has_base, scalar};
 use crate::lines::{numbered, single};
 use crate::names::Names;
-use crate::texts::next_word;
+use crate::texts::{is_word, next_word};
 use crate::values::truth;
 use boogie_tree::{BChoice, BScalar, Entry, Local};
 use std::alloc::Global;
@@ -119,7 +119,7 @@ fn keyword_among(keywords: &[Keyword], word: &[u8]) -> Option<Keyword>
     keywords
         .iter()
         .copied()
-        .find(|keyword| word == keyword_text(*keyword).as_bytes())
+        .find(|keyword| is_word(word, keyword_text(*keyword).as_bytes()))
 }
 
 fn var_line(alloc: Global, scope: Scope, words: &[u8]) -> Result<Option<Line>, Memory>

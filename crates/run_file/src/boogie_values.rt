@@ -9,7 +9,7 @@ ghost use Rattle.run_file.specs.Text.{words_of};
 
 use crate::contents::whole_content;
 use crate::lines::single;
-use crate::texts::next_word;
+use crate::texts::{is_word, next_word};
 use crate::values::{any_value, argument};
 use boogie_tree::{BBase, BScalar, BType, Entry, base_of_scalar, default_of, fits_key};
 use moves::scalar as as_scalar;
@@ -50,7 +50,9 @@ fn word_scalar(words: &[u8]) -> Option<BScalar>
 fn opens_content(word: &[u8]) -> bool
     ensures { result ≡ reading.opens_content word.now }
 {
-    word == b"unit".as_slice() || word == b"leaf".as_slice() || word == b"pair".as_slice()
+    is_word(word, b"unit".as_slice())
+        || is_word(word, b"leaf".as_slice())
+        || is_word(word, b"pair".as_slice())
 }
 
 /// The key and value that all the words of a line are.

@@ -9,7 +9,7 @@ ghost use Rattle.run_file.specs.Values.{BeginsWithContent};
 ghost use Rattle.run_file.specs.Found.{IsFound, IsLeafFound, IsPairFound};
 ghost use Rattle.run_file.specs.Reading.{argument_from, key_from, whole_content};
 
-use crate::texts::next_word;
+use crate::texts::{is_word, next_word};
 use crate::values::{any_value, argument, value};
 use std::alloc::Global;
 use std::rc::Rc;
@@ -70,11 +70,11 @@ fn content(alloc: Global, words: &[u8], room: u32) -> Result<Option<(Content, &[
     let Some(room) = room.checked_sub(1) else {
         return Ok(None);
     };
-    if word == b"unit".as_slice() {
+    if is_word(word, b"unit".as_slice()) {
         Ok(Some((Content::Unit, rest, room)))
-    } else if word == b"leaf".as_slice() {
+    } else if is_word(word, b"leaf".as_slice()) {
         Ok(leaf(rest, room))
-    } else if word == b"pair".as_slice() {
+    } else if is_word(word, b"pair".as_slice()) {
         pair(alloc, rest, room)
     } else {
         Ok(None)

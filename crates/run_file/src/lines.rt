@@ -10,7 +10,7 @@ ghost use Rattle.run_file.specs.LineView.{line_view, scope_view};
 
 use crate::contents::{key, whole_content};
 use crate::names::{Names, Scope};
-use crate::texts::next_word;
+use crate::texts::{is_word, next_word};
 use crate::values::{any_value, fraction, reference, truth, value};
 use std::alloc::Global;
 use vb_base::Memory;
@@ -131,7 +131,7 @@ fn keyword_among(keywords: &[Keyword], word: &[u8]) -> Option<Keyword>
     keywords
         .iter()
         .copied()
-        .find(|keyword| word == keyword_text(*keyword).as_bytes())
+        .find(|keyword| is_word(word, keyword_text(*keyword).as_bytes()))
 }
 
 /// The one word, where there is no other.

@@ -1,6 +1,7 @@
 // The lines of a file, and the words of a line.
-ghost use Rattle.std.specs.Prelude.{◌≡◌, ◌==◌, ◌∷◌, [], not, MatchOption};
+ghost use Rattle.std.specs.Prelude.{◌≡◌, ◌↔◌, ◌==◌, ◌∷◌, [], not, IsTrue, MatchOption};
 ghost use Rattle.std.specs.List.{prefix_len};
+ghost use Rattle.std.specs.Str.{bytes_eq};
 ghost use Rattle.run_file.specs.Text.{lines_of, lines_left, is_blank, is_skipped, words_of};
 
 /// The first line of a text, and the text behind it, if a byte 10 ends the line.
@@ -24,6 +25,21 @@ pub(crate) fn next_word(line: &[u8]) -> Option<(&[u8], &[u8])>
         return None;
     }
     Some((word, rest))
+}
+
+/// Whether a word is this one.
+pub(crate) fn is_word(word: &[u8], wanted: &[u8]) -> bool
+    ensures { result ≡ bytes_eq word.now wanted.now }
+{
+    if word.len() != wanted.len() {
+        return false;
+    }
+    for (byte, wanted_byte) in word.iter().zip(wanted) {
+        if byte != wanted_byte {
+            return false;
+        }
+    }
+    true
 }
 
 /// How many bytes from the first on are in one line.

@@ -1,10 +1,12 @@
 // The values that words spell.
-ghost use Rattle.std.specs.Prelude.{◌≡◌, ◌==◌, ◌^◌, not, pos, IsTrue};
+ghost use Rattle.std.specs.Prelude.{◌≡◌, ◌==◌, ◌^◌, not, pos, IfSome, IsTrue};
 ghost use Rattle.std.specs.Char.{is_ascii_digit};
 ghost use Rattle.std.specs.List.{list_all, list_any, prefix_len};
 ghost use Rattle.std.specs.Option.{option_map};
+ghost use Rattle.std.specs.Str.Parse.{digits_value};
 ghost use Rattle.run_file.specs.Reading.{natural, magnitude, integer, first_type, truth, numbered, reference, fraction, type_told, value_of, any_value, argument_of};
 
+use crate::texts::is_word;
 use std::str;
 use vb_value::{Frac, KeyPart, Ty, Value};
 
@@ -84,9 +86,9 @@ fn integer(word: &[u8]) -> Option<i128>
 pub(crate) fn truth(word: &[u8]) -> Option<bool>
     ensures { result ≡ truth word.now }
 {
-    if word == b"true".as_slice() {
+    if is_word(word, b"true".as_slice()) {
         Some(true)
-    } else if word == b"false".as_slice() {
+    } else if is_word(word, b"false".as_slice()) {
         Some(false)
     } else {
         None
@@ -97,7 +99,7 @@ pub(crate) fn truth(word: &[u8]) -> Option<bool>
 pub(crate) fn reference(word: &[u8]) -> Option<u64>
     ensures { result ≡ reference word.now }
 {
-    if word == b"null".as_slice() {
+    if is_word(word, b"null".as_slice()) {
         return Some(0);
     }
     match word {
@@ -142,11 +144,27 @@ fn numbered(word: &[u8]) -> Option<u64>
 fn natural(word: &[u8]) -> Option<u128>
     ensures { result ≡ natural (2 ^ 128) word.now }
 {
-    if are_digits(word) {
-        number_of(word)
-    } else {
-        None
+    if word.is_empty() || !are_digits(word) {
+        return None;
     }
+    match short_number(word) {
+        Some(number) => Some(u128::from(number)),
+        None => number_of(word),
+    }
+}
+
+/// The number that digits spell, if it is below 2^64.
+fn short_number(digits: &[u8]) -> Option<u64>
+    requires { IsTrue (list_all is_ascii_digit digits.now) }
+    ensures { IfSome result (λ n. n ≡ digits_value 10 digits.now) }
+{
+    let mut number: u64 = 0;
+    for digit in digits {
+        number = number
+            .checked_mul(10)?
+            .checked_add(u64::from(*digit - b'0'))?;
+    }
+    Some(number)
 }
 
 fn number_of(digits: &[u8]) -> Option<u128>

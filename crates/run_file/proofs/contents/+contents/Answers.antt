@@ -6,9 +6,9 @@ use Rattle.run_file.specs.Text.{words_of}
 use Rattle.run_file.proofs.ContentLaws.{unit_found, no_first_content, no_second_content, pair_found}
 use Rattle.run_file.proofs.contents.+contents.Goals as goal
 
-pub content-returns-then-eq : goal.content-returns-then-eq
-content-returns-then-eq t c =
-    let same : bytes_eq c.in-Some.word.now c.as_slice.result.now ≡ true = sym c.eq.ensures ∙ c.if-eq.true in
+pub content-returns-then-is_word : goal.content-returns-then-is_word
+content-returns-then-is_word t c =
+    let same : bytes_eq c.in-Some.word.now c.as_slice.result.now ≡ true = sym c.is_word.ensures ∙ c.if-is_word.true in
     let named = (bytes_eq-Decides c.in-Some.word.now (codes "unit")).0 (rw c.as_slice.ensures at same) in
     (unit_found c.in-Some.ensures named, omega (arith, c.in-Some-checked_sub.ensures))
 
