@@ -20,7 +20,7 @@ ghost use Rattle.boogie_run.specs.Searched.{end_elsewhere, with_key, with_keys};
 ghost use Rattle.boogie_run.specs.View.{values_of, scope_of};
 ghost use Rattle.boogie_run.specs.Within.{IsWithinScalar, IsWithinValue, IsWithinExpr, AreWithinExprs};
 
-use crate::eval_columns::{Column, columns_of, keys_of_all, seek};
+use crate::eval_columns::{Column, columns_of, keys_of_all, pass};
 use crate::eval_ends::{Answer, Miss};
 use crate::eval_keys::{has_other, worse};
 use crate::eval_marked::mark;
@@ -300,13 +300,13 @@ fn at_keys<'a>(
     let mut end = rest;
     let mut nexts = vec![in alloc; 0usize; columns.len()]?;
     for key in list {
-        seek(columns, &mut nexts, key);
         let row = Row {
             key: *key,
             columns,
             nexts: &nexts,
         };
         end = at_key(alloc, bases, a, env, row, end);
+        pass(columns, &mut nexts, key);
     }
     end
 }

@@ -1,5 +1,5 @@
 // The maps that a body under a `forall` indexes by the bound names, and their keys.
-ghost use Rattle.std.specs.Prelude.{◌≡◌, ◌≤◌, ℕ, ◌++◌, ◌||◌, IfOk, IsTrue, OnOk, Some, drop, length, slice_get};
+ghost use Rattle.std.specs.Prelude.{◌≡◌, ◌<◌, ◌≤◌, ℕ, ◌++◌, ◌||◌, IfOk, IsTrue, OnOk, Some, drop, length, slice_get};
 ghost use Rattle.std.specs.Map.{keys_of};
 ghost use Rattle.sparse.specs.Map.{borrowed, get, keys};
 ghost use Rattle.vb_value.specs.Key.{key_cmp};
@@ -19,7 +19,7 @@ use sparse::Sparse;
 use std::alloc::Global;
 use std::cmp::Ordering;
 use vb_base::Memory;
-use vb_value::Key;
+use vb_value::{Key, KeyPart};
 
 /// A map of an environment, by its number, and its entries in ascending order of the keys.
 #[derive(Drop)]
@@ -87,6 +87,17 @@ pub(crate) fn columns_of<'a>(
     Ok(columns)
 }
 
+/// The order of two keys. Nearly all are one reference or one number, which are told at once.
+pub(crate) fn order(left: &Key, right: &Key) -> Ordering
+    ensures { result ≡ key_cmp left.now right.now }
+{
+    match (left.parts(), right.parts()) {
+        ([KeyPart::Ref(first)], [KeyPart::Ref(second)]) => first.cmp(second),
+        ([KeyPart::Int(first)], [KeyPart::Int(second)]) => first.cmp(second),
+        _ => left.cmp(right),
+    }
+}
+
 /// Adds the keys from an index on that are below a bound. The index after them.
 fn copy_below<'a>(
     keys: &[&'a Key],
@@ -99,7 +110,7 @@ fn copy_below<'a>(
     ensures copied { IfOk result (λ end. borrowed list.new.items ++ drop end (borrowed keys.now) ≡ borrowed list.old.items ++ drop start (borrowed keys.now)) }
 {
     for i in start..keys.len() {
-        if keys[i].cmp(bound) != Ordering::Less {
+        if order(keys[i], bound) != Ordering::Less {
             return Ok(i);
         }
         list.push(keys[i])?;
@@ -116,7 +127,7 @@ fn beyond(keys: &[&Key], at: usize, key: &Key) -> usize
     if at >= keys.len() {
         return at;
     }
-    match keys[at].cmp(key) {
+    match order(keys[at], key) {
         Ordering::Equal => at + 1,
         _ => at,
     }
@@ -164,19 +175,21 @@ pub(crate) fn keys_of_all<'a>(alloc: Global, columns: &[Column<'a>]) -> Result<V
     }
 }
 
-/// From an index on the first entry whose key is not below this one.
-fn passed(entries: &[&(Key, BScalar)], start: usize, key: &Key) -> usize {
-    for i in start..entries.len() {
-        if entries[i].0.cmp(key) != Ordering::Less {
-            return i;
+/// Moves the index of each column behind its entry at this key, if it stands there.
+pub(crate) fn pass(columns: &[Column], nexts: &mut [usize], key: &Key) {
+    for i in 0..columns.len().min(nexts.len()) {
+        if is_at(&columns[i].entries, nexts[i], key) {
+            nexts[i] += 1;
         }
     }
-    entries.len()
 }
 
-/// Moves the index of each column on to its first entry whose key is not below this one.
-pub(crate) fn seek(columns: &[Column], nexts: &mut [usize], key: &Key) {
-    for i in 0..columns.len().min(nexts.len()) {
-        nexts[i] = passed(&columns[i].entries, nexts[i], key);
+/// Whether an entry at an index has this key.
+fn is_at(entries: &[&(Key, BScalar)], at: usize, key: &Key) -> bool
+    ensures { IsTrue result → at < length entries.now }
+{
+    match entries.get(at) {
+        Some(entry) => order(&entry.0, key) == Ordering::Equal,
+        None => false,
     }
 }
