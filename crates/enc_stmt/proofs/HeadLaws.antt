@@ -1,10 +1,10 @@
 -- The lines of locals, step after step, and the names of temporaries.
-use Rattle.std.proofs.Common.{◌≡◌, ◌∙◌, ◌+◌, ◌-◌, ◌++◌, ◌<◌, ℕ, List, [], ◌∷◌, codes, length, map, take, drop, get_or, refl, ap, sym, append_assoc, length-append, arith}
-use Rattle.std.proofs.lemmas.List.{length-map, map-append, drop-map, take_rest}
+use Rattle.std.proofs.Common.{◌≡◌, ◌∙◌, ◌+◌, ◌-◌, ◌++◌, ◌<◌, ℕ, List, [], ◌∷◌, codes, length, map, take, drop, get_or, refl, ap, sym, append_assoc, length-append}
+use Rattle.std.proofs.lemmas.List.{length-map, drop-map, take_rest}
 use Rattle.std.proofs.Math.Seq.{drop-append_seam}
 use Rattle.boogie_grammar.specs.Grammar.{local_names}
 use Rattle.boogie_grammar.specs.Naming.{temporary_name, temporary_names}
-use Rattle.boogie_grammar.specs.Printed.{naming, type_text, locals_text}
+use Rattle.boogie_grammar.specs.Printed.{type_text, locals_text}
 use Rattle.boogie_text.specs.Pieces.{head_text}
 use Rattle.boogie_tree.specs.Program.{BType, Local}
 use Rattle.boogie_tree.specs.Whole.{local_of, locals_of}
@@ -13,7 +13,7 @@ use Rattle.enc_expr.specs.Code.{Emitting}
 use Rattle.enc_expr.specs.Emits.{Emit, Emits, temporaries}
 use Rattle.enc_expr.proofs.EmitLaws.{length-temporaries, temporaries-append}
 use Rattle.enc_stmt.specs.Counts.{Lists}
-use Rattle.enc_stmt.specs.Rows.{row_lines, row_types, laid_locals, laid_names}
+use Rattle.enc_stmt.specs.Rows.{row_lines, row_types, laid_locals}
 use Rattle.enc_stmt.specs.Steps.{Step, Bracket}
 use Rattle.enc_stmt.specs.View.{step_of}
 use Rattle.enc_stmt.specs.declared.steps.Step as declared
@@ -75,26 +75,8 @@ module _ (code : Step → Emitting Bracket) where
         ∙ ap (λ (j : ℕ). text ++ locals_text (temporaries j more)) (sym lists.many)
         ∙ ap (λ (j : ℕ). text ++ locals_text (temporaries k (row_types code rest j))) (sym lists.next)
 
-    pub many_first : m + length (row_types code (map step_of (drop i xs)) m) ≡ k + length (row_types code (map step_of (drop (i + 1) xs)) k)
-    many_first =
-        let rest = map step_of (drop (i + 1) xs) in let here = code (step_of a) m in let more = row_types code rest here.next in
-        ap (λ (row : List Step). m + length (row_types code row m)) (steps_left xs i a within is)
-        ∙ omega (arith, length-append here.locals more, lists.many)
-        ∙ ap (λ (j : ℕ). k + length (row_types code rest j)) (sym lists.next)
-
 -- ---- names
 
-temporaries_named : (n : ℕ) (us : List BType) → local_names (temporaries n us) ≡ temporary_names n (length us)
+pub temporaries_named : (n : ℕ) (us : List BType) → local_names (temporaries n us) ≡ temporary_names n (length us)
 temporaries_named n [] = refl
 temporaries_named n (u ∷ us) = ap (λ (names : List (List ℕ)). temporary_name n ∷ names) (temporaries_named (n + 1) us)
-
--- the names of fixed locals, and of so many temporaries
-pub laid_named : (code : Step → Emitting Bracket) (row : List Step) (fixed : List Local) (ls : List declared_local.Local) (many : ℕ) → locals_of ls ≡ fixed → many ≡ length (row_types code row (length fixed)) →
-    naming (local_names (locals_of ls) ++ temporary_names (length ls) many) ≡ laid_names code fixed row
-laid_named code row fixed ls many are is =
-    let us = row_types code row (length fixed) in let n = length fixed in
-    ap (λ (k : ℕ). naming (local_names (locals_of ls) ++ temporary_names (length ls) k)) is
-    ∙ ap (λ (k : ℕ). naming (local_names (locals_of ls) ++ temporary_names k (length us))) (sym (length-map ls local_of) ∙ ap (λ (fs : List Local). length fs) are)
-    ∙ ap (λ (fs : List Local). naming (local_names fs ++ temporary_names n (length us))) are
-    ∙ ap (λ (names : List (List ℕ)). naming (local_names fixed ++ names)) (sym (temporaries_named n us))
-    ∙ ap naming (sym (map-append (λ (l : Local). l.name) fixed (temporaries n us)))

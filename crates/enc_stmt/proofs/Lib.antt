@@ -62,3 +62,6 @@ pub mod UnitRowLaws
 pub mod StreamLaws
 pub mod BuildLaws
 pub mod TreeLaws
+pub mod MoreNames
+pub mod WideNames
+pub mod HoldLaws

@@ -86,7 +86,7 @@ module _ (p : Program) (formed : IsFormed p) (n : ℕ) (u : Unit) (there : slice
         body = subst (λ ls. IsTyped ls (unit_code p u (length ts)).stmts) (sym (procedure_types p formed u)) piece.stmts;
       }
 
-  procedure_fits : FitsProc (unit_procedure p u)
+  pub procedure_fits : FitsProc (unit_procedure p u)
   procedure_fits =
       let piece = unit_is_typed p formed n u there in let low = few in
       record {

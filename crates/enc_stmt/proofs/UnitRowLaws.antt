@@ -77,7 +77,7 @@ unit_steps p x = steps_then Start (running_row p x) tt (running_steps p x)
 
 -- ---- the procedure
 
-fixed_length : (p : Program) (x : Unit) → IsFormed p → length (fixed_locals p x) ≡ length (fixed_types p x)
+pub fixed_length : (p : Program) (x : Unit) → IsFormed p → length (fixed_locals p x) ≡ length (fixed_types p x)
 fixed_length p x formed = length_named (fixed_names p x) (fixed_types p x) (fixed_good p x formed).as_many
 
 module _ (p : Program) (x : Unit) (formed : IsFormed p) where

@@ -2,6 +2,7 @@
 -- step stands its bracket.
 use Rattle.std.specs.Prelude.{ℕ, ◌+◌, List, [], ◌∷◌, ◌++◌, length}
 use Rattle.boogie_grammar.specs.Grammar.{local_names}
+use Rattle.boogie_grammar.specs.Naming.{temporary_names}
 use Rattle.boogie_grammar.specs.Printed.{Naming, naming, locals_text}
 use Rattle.boogie_text.specs.Asserts.{asserts_in}
 use Rattle.boogie_text.specs.Pieces as piece
@@ -66,6 +67,14 @@ laid_locals code fixed row = fixed ++ temporaries (length fixed) (row_types code
 abbrev pub laid_names : (Step → Emitting Bracket) → List Local → List Step → Naming
 laid_names code fixed row = naming (local_names (laid_locals code fixed row))
 
--- the text of a procedure: its head, the row behind the fixed locals, and its end
+-- what names are written where so many temporaries may stand behind the fixed locals
+abbrev pub names_with : List Local → ℕ → Naming
+names_with fixed many = naming (local_names fixed ++ temporary_names (length fixed) many)
+
+-- the text of a procedure, with these names of locals: its head, the row behind the fixed locals, and its end
+abbrev pub named_text : (Step → Emitting Bracket) → Naming → List ℕ → List Local → List Step → List ℕ
+named_text code names name fixed row = head_text name (laid_locals code fixed row) ++ (row_text code names row (length fixed) ++ end_text)
+
+-- the same with the names of its locals
 abbrev pub laid_text : (Step → Emitting Bracket) → List ℕ → List Local → List Step → List ℕ
-laid_text code name fixed row = head_text name (laid_locals code fixed row) ++ (row_text code (laid_names code fixed row) row (length fixed) ++ end_text)
+laid_text code name fixed row = named_text code (laid_names code fixed row) name fixed row

@@ -1,11 +1,11 @@
-// The first pass over the steps of a unit, which writes the lines of the locals that they declare.
-ghost use Rattle.std.specs.Prelude.{◌≡◌, ◌+◌, ◌≤◌, length, map, All, OnOk, OnErr, IsErrOf};
+// A pass over the steps of a unit that are not held, which writes the lines of the locals that they declare.
+ghost use Rattle.std.specs.Prelude.{◌≡◌, ◌≤◌, length, map, All, OnOk, OnErr, IsErrOf};
 ghost use Rattle.vb_outer.specs.Faults.{Rose};
 ghost use Rattle.vb_outer.specs.Sink.{Appends, AppendsPrefix};
 ghost use Rattle.boogie_text.specs.declared.pieces.EmitFault.TheVariants as fault;
 ghost use Rattle.enc_expr.specs.Emits.{emit_of};
 ghost use Rattle.enc_stmt.specs.Counts.{Lists, counts};
-ghost use Rattle.enc_stmt.specs.Rows.{row_lines, row_types};
+ghost use Rattle.enc_stmt.specs.Rows.{row_lines};
 ghost use Rattle.enc_stmt.specs.View.{coder_of, step_of};
 ghost use Rattle.enc_stmt.specs.Written.{IsStep};
 
@@ -51,8 +51,6 @@ pub fn write_lines<S: Sink>(
     sink: &mut S,
 ) -> Result<(), EmitFault>
     requires { All IsStep (map step_of row.now) }
-    ensures many { OnOk result (length (emit_of out.new).locals
-        ≡ length (emit_of out.old).locals + length (row_types (coder_of writer.entry) (map step_of row.now) (length (emit_of out.old).locals))) }
     ensures ok { OnOk result (Appends (S.written sink.old) (S.written sink.new)
         (row_lines (coder_of writer.entry) (map step_of row.now) (length (emit_of out.old).locals))) }
     ensures counts { OnOk result (written.new ≡ counts written.old

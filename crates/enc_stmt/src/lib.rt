@@ -8,6 +8,7 @@ mod counts;
 mod creations;
 mod fixed;
 mod heads;
+mod holding;
 mod homes;
 mod instances;
 pub mod laws;

@@ -1,17 +1,18 @@
 // The procedure of a unit: its locals, and its text.
-ghost use Rattle.std.specs.Prelude.{◌≡◌, ◌++◌, ◌≤◌, length, map, All, IfOk, OnOk, OnErr, IsErrOf};
+ghost use Rattle.std.specs.Prelude.{◌≡◌, ◌++◌, ◌≤◌, ◌^◌, ℕ, Some, length, map, drop, slice_get, All, IfOk, OnOk, OnErr, IsErrOf};
 ghost use Rattle.vb_outer.specs.Faults.{HasCause, Rose};
 ghost use Rattle.vb_outer.specs.Sink.{Appends, AppendsPrefix};
 ghost use Rattle.viper_core.specs.Formed.{IsFormed};
 ghost use Rattle.viper_core.specs.View.{program_of};
 ghost use Rattle.boogie_grammar.specs.Printed.{proc_text};
 ghost use Rattle.boogie_text.specs.Asserts.{asserts_in};
+ghost use Rattle.boogie_text.specs.Names.{names_of};
 ghost use Rattle.boogie_text.specs.Pieces.{head_text, end_text};
 ghost use Rattle.boogie_text.specs.declared.pieces.EmitFault.TheVariants as fault;
 ghost use Rattle.boogie_tree.specs.Whole.{locals_of};
 ghost use Rattle.enc_expr.specs.Emits.{temporaries};
-ghost use Rattle.enc_stmt.specs.Counts.{counts};
-ghost use Rattle.enc_stmt.specs.Rows.{row_types, row_text, row_asserts, laid_locals, laid_names, laid_text};
+ghost use Rattle.enc_stmt.specs.Counts.{Leaves, counts};
+ghost use Rattle.enc_stmt.specs.Rows.{row_types, row_text, row_asserts, laid_locals, laid_names, names_with, named_text, laid_text};
 ghost use Rattle.enc_stmt.specs.Steps as steps;
 ghost use Rattle.enc_stmt.specs.Units.{unit_procedure};
 ghost use Rattle.enc_stmt.specs.View.{coder_of, step_of};
@@ -20,6 +21,7 @@ ghost use Rattle.enc_stmt.specs.Written.{IsStep};
 use crate::counts::Written;
 use crate::fixed::fixed_locals;
 use crate::heads::write_lines;
+use crate::holding::{Held, emit_behind, hold, plenty};
 use crate::names::unit_name;
 use crate::passes::row_locals;
 use crate::rows::unit_steps;
@@ -105,67 +107,99 @@ fn text_of_end(alloc: Global) -> Result<Vec<u8>, Memory>
     Ok(text)
 }
 
-/// Writes a procedure of this name up to its last local, and tells how many locals stand behind the fixed ones.
+/// Writes a procedure of this name up to its last local, and holds the text of its first steps.
 fn write_head<S: Sink>(
     alloc: Global,
     writer: Writer,
+    names: &Names<'_>,
     name: &Ident,
+    fixed: &[Local],
     row: &[Step<'_>],
     written: &mut Written,
     sink: &mut S,
-) -> Result<usize, EmitFault>
+) -> Result<Held, EmitFault>
     requires { All IsStep (map step_of row.now) }
-    ensures many { IfOk result (λ many. many ≡ length (row_types (coder_of writer.entry) (map step_of row.now) (length (steps.fixed_locals (program_of writer.entry.program.now) writer.entry.unit)))) }
-    ensures ok { OnOk result (Appends (S.written sink.old) (S.written sink.new)
-        (head_text name.now (laid_locals (coder_of writer.entry) (steps.fixed_locals (program_of writer.entry.program.now) writer.entry.unit) (map step_of row.now)))) }
-    ensures counts { OnOk result (written.new ≡ counts written.old
-        (length (head_text name.now (laid_locals (coder_of writer.entry) (steps.fixed_locals (program_of writer.entry.program.now) writer.entry.unit) (map step_of row.now))))
-        0) }
-    ensures front { OnErr result (AppendsPrefix (S.written sink.old) (S.written sink.new)
-        (head_text name.now (laid_locals (coder_of writer.entry) (steps.fixed_locals (program_of writer.entry.program.now) writer.entry.unit) (map step_of row.now)))) }
+    ensures within { IfOk result (λ held. held.steps ≤ length row.now) }
+    ensures held { IfOk result (λ held. Leaves (coder_of writer.entry) (names_of names.now) (map step_of row.now) (length (locals_of fixed.now)) (map step_of (drop held.steps row.now)) held.locals
+        (length (head_text name.now (laid_locals (coder_of writer.entry) (locals_of fixed.now) (map step_of row.now)))) held.text.items written.old written.new) }
+    ensures ok { OnOk result (Appends (S.written sink.old) (S.written sink.new) (head_text name.now (laid_locals (coder_of writer.entry) (locals_of fixed.now) (map step_of row.now)))) }
+    ensures front { OnErr result (AppendsPrefix (S.written sink.old) (S.written sink.new) (head_text name.now (laid_locals (coder_of writer.entry) (locals_of fixed.now) (map step_of row.now)))) }
     ensures failed { IsErrOf result fault.Failed → Rose (S.faults sink.old) (S.faults sink.new) }
     ensures later { S.faults sink.old ≤ S.faults sink.new }
 {
-    let locals = fixed_locals(alloc, writer.program, writer.unit)?;
-    let fixed = locals.len();
-    let head = text_of_head(alloc, name, &locals)?;
-    write_text(&head, written, sink)?;
-    let code = Vec::new(alloc);
-    let mut out = Emit { locals, code };
-    write_lines(alloc, writer, row, &mut out, written, sink)?;
-    Ok(out.locals.len() - fixed)
+    let mut lines = text_of_head(alloc, name, fixed)?;
+    let held = hold(alloc, writer, names, fixed.len(), row, written, &mut lines)?;
+    write_text(&lines, written, sink)?;
+    let mut out = emit_behind(alloc, held.locals)?;
+    write_lines(alloc, writer, &row[held.steps..], &mut out, written, sink)?;
+    Ok(held)
 }
 
-/// Writes the steps behind the fixed locals, where they declare so many locals.
+/// Writes the text that is held, and the steps behind it.
 fn write_steps<S: Sink>(
     alloc: Global,
     writer: Writer,
-    many: usize,
+    names: &Names<'_>,
+    held: &Held,
     row: &[Step<'_>],
     written: &mut Written,
     sink: &mut S,
 ) -> Result<(), EmitFault>
     requires steps { All IsStep (map step_of row.now) }
-    requires many { many ≡ length (row_types (coder_of writer) (map step_of row.now) (length (steps.fixed_locals (program_of writer.program.now) writer.unit))) }
+    requires within { held.now.steps ≤ length row.now }
     ensures ok { OnOk result (Appends (S.written sink.old) (S.written sink.new)
-        (row_text (coder_of writer.entry) (laid_names (coder_of writer.entry) (steps.fixed_locals (program_of writer.entry.program.now) writer.entry.unit) (map step_of row.now)) (map step_of row.now) (length (steps.fixed_locals (program_of writer.entry.program.now) writer.entry.unit)))) }
+        (held.now.text.items ++ row_text (coder_of writer.entry) (names_of names.now) (map step_of (drop held.now.steps row.now)) held.now.locals)) }
     ensures counts { OnOk result (written.new ≡ counts written.old
-        (length (row_text (coder_of writer.entry) (laid_names (coder_of writer.entry) (steps.fixed_locals (program_of writer.entry.program.now) writer.entry.unit) (map step_of row.now)) (map step_of row.now) (length (steps.fixed_locals (program_of writer.entry.program.now) writer.entry.unit))))
-        (row_asserts (coder_of writer.entry) (map step_of row.now) (length (steps.fixed_locals (program_of writer.entry.program.now) writer.entry.unit)))) }
+        (length (held.now.text.items ++ row_text (coder_of writer.entry) (names_of names.now) (map step_of (drop held.now.steps row.now)) held.now.locals))
+        (row_asserts (coder_of writer.entry) (map step_of (drop held.now.steps row.now)) held.now.locals)) }
     ensures front { OnErr result (AppendsPrefix (S.written sink.old) (S.written sink.new)
-        (row_text (coder_of writer.entry) (laid_names (coder_of writer.entry) (steps.fixed_locals (program_of writer.entry.program.now) writer.entry.unit) (map step_of row.now)) (map step_of row.now) (length (steps.fixed_locals (program_of writer.entry.program.now) writer.entry.unit)))) }
+        (held.now.text.items ++ row_text (coder_of writer.entry) (names_of names.now) (map step_of (drop held.now.steps row.now)) held.now.locals)) }
     ensures failed { IsErrOf result fault.Failed → Rose (S.faults sink.old) (S.faults sink.new) }
     ensures later { S.faults sink.old ≤ S.faults sink.new }
 {
-    let fixed = fixed_locals(alloc, writer.program, writer.unit)?;
-    let names = Names::with_temporaries(alloc, &fixed, many)?;
-    let locals = fixed_locals(alloc, writer.program, writer.unit)?;
-    let code = Vec::new(alloc);
-    let mut out = Emit { locals, code };
-    write_row(alloc, writer, &names, row, &mut out, written, sink)
+    write_text(&held.text, written, sink)?;
+    let mut out = emit_behind(alloc, held.locals)?;
+    write_row(
+        alloc,
+        writer,
+        names,
+        &row[held.steps..],
+        &mut out,
+        written,
+        sink,
+    )
 }
 
-/// Writes a procedure of this name.
+/// Writes a procedure of this name, with these names of locals.
+fn write_named<S: Sink>(
+    alloc: Global,
+    writer: Writer,
+    names: &Names<'_>,
+    name: &Ident,
+    fixed: &[Local],
+    row: &[Step<'_>],
+    written: &mut Written,
+    sink: &mut S,
+) -> Result<(), EmitFault>
+    requires { All IsStep (map step_of row.now) }
+    ensures ok { OnOk result (Appends (S.written sink.old) (S.written sink.new)
+        (named_text (coder_of writer.entry) (names_of names.now) name.now (locals_of fixed.now) (map step_of row.now))) }
+    ensures counts { OnOk result (written.new ≡ counts written.old
+        (length (named_text (coder_of writer.entry) (names_of names.now) name.now (locals_of fixed.now) (map step_of row.now)))
+        (row_asserts (coder_of writer.entry) (map step_of row.now) (length (locals_of fixed.now)))) }
+    ensures front { OnErr result (AppendsPrefix (S.written sink.old) (S.written sink.new)
+        (named_text (coder_of writer.entry) (names_of names.now) name.now (locals_of fixed.now) (map step_of row.now))) }
+    ensures failed { IsErrOf result fault.Failed → Rose (S.faults sink.old) (S.faults sink.new) }
+    ensures later { S.faults sink.old ≤ S.faults sink.new }
+{
+    let held = write_head(alloc, writer, names, name, fixed, row, written, sink)?;
+    write_steps(alloc, writer, names, &held, row, written, sink)?;
+    let end = text_of_end(alloc)?;
+    write_text(&end, written, sink)?;
+    Ok(())
+}
+
+/// Writes a procedure of this name. Names of more temporaries than it has change nothing.
 fn write_laid<S: Sink>(
     alloc: Global,
     writer: Writer,
@@ -174,7 +208,10 @@ fn write_laid<S: Sink>(
     written: &mut Written,
     sink: &mut S,
 ) -> Result<(), EmitFault>
-    requires { All IsStep (map step_of row.now) }
+    requires steps { All IsStep (map step_of row.now) }
+    requires names { (many : ℕ) → 2 ^ 60 ≤ many
+        → row_text (coder_of writer) (names_with (steps.fixed_locals (program_of writer.program.now) writer.unit) many) (map step_of row.now) (length (steps.fixed_locals (program_of writer.program.now) writer.unit))
+        ≡ row_text (coder_of writer) (laid_names (coder_of writer) (steps.fixed_locals (program_of writer.program.now) writer.unit) (map step_of row.now)) (map step_of row.now) (length (steps.fixed_locals (program_of writer.program.now) writer.unit)) }
     ensures ok { OnOk result (Appends (S.written sink.old) (S.written sink.new)
         (laid_text (coder_of writer.entry) name.now (steps.fixed_locals (program_of writer.entry.program.now) writer.entry.unit) (map step_of row.now))) }
     ensures counts { OnOk result (written.new ≡ counts written.old
@@ -185,11 +222,9 @@ fn write_laid<S: Sink>(
     ensures failed { IsErrOf result fault.Failed → Rose (S.faults sink.old) (S.faults sink.new) }
     ensures later { S.faults sink.old ≤ S.faults sink.new }
 {
-    let many = write_head(alloc, writer, name, row, written, sink)?;
-    write_steps(alloc, writer, many, row, written, sink)?;
-    let end = text_of_end(alloc)?;
-    write_text(&end, written, sink)?;
-    Ok(())
+    let fixed = fixed_locals(alloc, writer.program, writer.unit)?;
+    let names = Names::with_temporaries(alloc, &fixed, plenty())?;
+    write_named(alloc, writer, &names, name, &fixed, row, written, sink)
 }
 
 /// Writes the procedure of a unit, by what its steps are written by.
@@ -201,6 +236,7 @@ fn write_over<S: Sink>(
 ) -> Result<(), EmitFault>
     requires formed { IsFormed (program_of writer.program.now) }
     requires code { coder_of writer ≡ steps.unit_step (program_of writer.program.now) writer.unit }
+    requires exists { (n : ℕ) × (slice_get (program_of writer.program.now).units n ≡ Some writer.unit) }
     ensures ok { OnOk result (Appends (S.written sink.old) (S.written sink.new) (proc_text (unit_procedure (program_of writer.entry.program.now) writer.entry.unit))) }
     ensures counts { OnOk result (written.new ≡ counts written.old (length (proc_text (unit_procedure (program_of writer.entry.program.now) writer.entry.unit)))
         (asserts_in (unit_procedure (program_of writer.entry.program.now) writer.entry.unit).body)) }
@@ -221,7 +257,8 @@ pub fn write_unit<S: Sink>(
     written: &mut Written,
     sink: &mut S,
 ) -> Result<(), EmitFault>
-    requires { IsFormed (program_of program.now) }
+    requires formed { IsFormed (program_of program.now) }
+    requires exists { (n : ℕ) × (slice_get (program_of program.now).units n ≡ Some unit) }
     ensures ok { OnOk result (Appends (S.written sink.old) (S.written sink.new) (proc_text (unit_procedure (program_of program.now) unit))) }
     ensures counts { OnOk result (written.new ≡ counts written.old (length (proc_text (unit_procedure (program_of program.now) unit)))
         (asserts_in (unit_procedure (program_of program.now) unit).body)) }

@@ -69,7 +69,8 @@ pub fn unit_locals(alloc: Global, program: &Program, unit: u32) -> Result<Vec<Lo
 }
 
 /// Writes the translation of a program to a sink, statement after statement. What is held at once is the program, the
-/// code of one step, the fixed locals of one procedure, and an empty place for each of its other locals.
+/// code of one step, the fixed locals of one procedure, an empty place for each of its other locals, and of its lines and
+/// text the first 4 MiB and what one more step writes.
 ///
 /// At Ok it has appended all of the text, and tells how much that was. At Err it has appended a front of it, which may be nothing:
 /// there was no memory for more, or the sink failed.

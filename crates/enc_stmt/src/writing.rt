@@ -1,4 +1,4 @@
-// The second pass over the steps of a unit, which writes them.
+// The last pass over the steps of a unit that are not held, which writes them.
 ghost use Rattle.std.specs.Prelude.{◌≡◌, ◌++◌, ◌≤◌, length, map, All, OnOk, OnErr, IsErrOf};
 ghost use Rattle.vb_outer.specs.Faults.{Rose};
 ghost use Rattle.vb_outer.specs.Sink.{Appends, AppendsPrefix};
@@ -23,7 +23,7 @@ use vb_base::Memory;
 use vb_outer::{Sink, write_all};
 
 /// Appends a bracket, if there is one.
-fn put_bracket(
+pub(crate) fn put_bracket(
     alloc: Global,
     names: &Names<'_>,
     bracket: &Bracket,

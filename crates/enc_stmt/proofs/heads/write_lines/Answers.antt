@@ -5,7 +5,7 @@ use Rattle.enc_expr.specs.Emits.{emit_of}
 use Rattle.enc_stmt.specs.Counts.{counts}
 use Rattle.enc_stmt.specs.Rows.{row_lines}
 use Rattle.enc_stmt.specs.View.{coder_of, step_of}
-use Rattle.enc_stmt.proofs.HeadLaws.{lines_first, many_first}
+use Rattle.enc_stmt.proofs.HeadLaws.{lines_first}
 use Rattle.enc_stmt.proofs.PassLaws.{step_is}
 use Rattle.enc_stmt.proofs.SentLaws.{any_err, sent_front, sent_more, sent_part}
 use Rattle.enc_stmt.proofs.heads.write_lines.Goals as goal
@@ -39,6 +39,5 @@ loop-step-preserved g c =
           refl
           (subst (λ text. Appends (g.S.Sink.written c.loop-step.sink) (g.S.Sink.written c.write_all.new.sink) text) c.deref.ensures.value c.in_ok-write_all.ensures.ok)
           (c.with_text.ensures ∙ ap (λ text. counts c.loop-step.written (length text) 0) c.deref-in-loop-step.ensures.value);
-      many = c.loop-step.invariant.many ∙ many_first code c.args.row.now c.loop-step.step-index c.step-item.result m k c.step_lines.new.text.items within c.step-item.is c.in_ok-step_lines.ensures;
       later = omega (arith, c.loop-step.invariant.later, c.in_ok-write_all.ensures.cause.later);
     }

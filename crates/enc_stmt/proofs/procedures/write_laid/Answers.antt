@@ -1,53 +1,40 @@
-use Rattle.std.proofs.Common.{◌∙◌, ℕ, List, length, map, subst}
+use Rattle.std.proofs.Common.{◌≡◌, ◌∙◌, OnOk, OnErr, ℕ, List, length, map, ap, subst}
 use Rattle.vb_outer.specs.Sink.{Appends, AppendsPrefix}
-use Rattle.vb_outer.proofs.SinkLaws.{prefix_all}
 use Rattle.viper_core.specs.View.{program_of}
-use Rattle.boogie_text.specs.Pieces.{head_text, end_text}
-use Rattle.enc_stmt.specs.Rows.{row_text, laid_locals, laid_names}
+use Rattle.boogie_text.specs.Names.{names_of}
+use Rattle.boogie_tree.specs.Program.{Local}
+use Rattle.boogie_tree.specs.Whole.{locals_of}
+use Rattle.enc_stmt.specs.Counts.{counts}
+use Rattle.enc_stmt.specs.Rows.{row_asserts, named_text, laid_text}
 use Rattle.enc_stmt.specs.Steps.{fixed_locals}
 use Rattle.enc_stmt.specs.View.{coder_of, step_of}
-use Rattle.enc_stmt.proofs.SentLaws.{any_err, head_front, row_front, end_front, all_three}
+use Rattle.enc_stmt.proofs.HoldLaws.{wide_named, wide_text}
+use Rattle.enc_stmt.proofs.SentLaws.{nothing_sent}
 use Rattle.enc_stmt.proofs.procedures.write_laid.Goals as goal
 
-pub returns-in_err-many-clause-front : goal.returns-in_err-many-clause-front
-returns-in_err-many-clause-front g c =
-    let code = coder_of c.args.writer in let fixed = fixed_locals (program_of c.args.writer.program.now) c.args.writer.unit in let steps = map step_of c.args.row.now in
-    let head = head_text c.args.name.now (laid_locals code fixed steps) in let row = row_text code (laid_names code fixed steps) steps (length fixed) in
-    let before = g.S.Sink.written c.args.sink.now in let one = g.S.Sink.written c.write_head.new.sink in
-    any_err c.from_residual.result (head_front before one one one head row end_text c.in_err-many.ensures.front)
+pub write_named-requires : goal.write_named-requires
+write_named-requires g c = c.requires.steps
 
-pub returns-in_err-write_steps-clause-front : goal.returns-in_err-write_steps-clause-front
-returns-in_err-write_steps-clause-front g c =
-    let code = coder_of c.args.writer in let fixed = fixed_locals (program_of c.args.writer.program.now) c.args.writer.unit in let steps = map step_of c.args.row.now in
-    let head = head_text c.args.name.now (laid_locals code fixed steps) in let row = row_text code (laid_names code fixed steps) steps (length fixed) in
-    let before = g.S.Sink.written c.args.sink.now in let one = g.S.Sink.written c.write_head.new.sink in
-    let two = g.S.Sink.written c.write_steps.new.sink in
-    any_err c.from_residual-in_err-write_steps.result (row_front before one two two head row end_text c.in_ok-many.ensures.ok c.in_err-write_steps.ensures.front)
+pub returns-in_err-fixed-clause-front : goal.returns-in_err-fixed-clause-front
+returns-in_err-fixed-clause-front g c = nothing_sent c.from_residual.result (g.S.Sink.written c.args.sink.now) _
 
-pub returns-in_err-end-clause-front : goal.returns-in_err-end-clause-front
-returns-in_err-end-clause-front g c =
-    let code = coder_of c.args.writer in let fixed = fixed_locals (program_of c.args.writer.program.now) c.args.writer.unit in let steps = map step_of c.args.row.now in
-    let head = head_text c.args.name.now (laid_locals code fixed steps) in let row = row_text code (laid_names code fixed steps) steps (length fixed) in
-    let before = g.S.Sink.written c.args.sink.now in let one = g.S.Sink.written c.write_head.new.sink in
-    let two = g.S.Sink.written c.write_steps.new.sink in
-    any_err c.from_residual-in_err-end.result (row_front before one two two head row end_text c.in_ok-many.ensures.ok (prefix_all one two row c.in_ok-write_steps.ensures.ok))
+pub returns-in_err-names-clause-front : goal.returns-in_err-names-clause-front
+returns-in_err-names-clause-front g c = nothing_sent c.from_residual-in_err-names.result (g.S.Sink.written c.args.sink.now) _
 
-pub returns-in_err-write_text-clause-front : goal.returns-in_err-write_text-clause-front
-returns-in_err-write_text-clause-front g c =
-    let code = coder_of c.args.writer in let fixed = fixed_locals (program_of c.args.writer.program.now) c.args.writer.unit in let steps = map step_of c.args.row.now in
-    let head = head_text c.args.name.now (laid_locals code fixed steps) in let row = row_text code (laid_names code fixed steps) steps (length fixed) in
-    let before = g.S.Sink.written c.args.sink.now in let one = g.S.Sink.written c.write_head.new.sink in
-    let two = g.S.Sink.written c.write_steps.new.sink in
-    let three = g.S.Sink.written c.write_text.new.sink in
-    any_err c.from_residual-in_err-write_text.result (end_front before one two three head row end_text c.in_ok-many.ensures.ok c.in_ok-write_steps.ensures.ok
-    (subst (λ (x : List ℕ). AppendsPrefix two three x) (c.deref.ensures.value ∙ c.in_ok-end.ensures) c.in_err-write_text.ensures.front))
-
-pub returns-clause-ok : goal.returns-clause-ok
-returns-clause-ok g c =
-    let code = coder_of c.args.writer in let fixed = fixed_locals (program_of c.args.writer.program.now) c.args.writer.unit in let steps = map step_of c.args.row.now in
-    let head = head_text c.args.name.now (laid_locals code fixed steps) in let row = row_text code (laid_names code fixed steps) steps (length fixed) in
-    let before = g.S.Sink.written c.args.sink.now in let one = g.S.Sink.written c.write_head.new.sink in
-    let two = g.S.Sink.written c.write_steps.new.sink in
-    let three = g.S.Sink.written c.write_text.new.sink in
-    all_three before one two three head row end_text c.in_ok-many.ensures.ok c.in_ok-write_steps.ensures.ok
-    (subst (λ (x : List ℕ). Appends two three x) (c.deref.ensures.value ∙ c.in_ok-end.ensures) c.in_ok-write_text.ensures.ok)
+pub returns : goal.returns
+returns g c =
+    let code = coder_of c.args.writer in let row = map step_of c.args.row.now in let name = c.args.name.now in let fixed = fixed_locals (program_of c.args.writer.program.now) c.args.writer.unit in
+    let names = names_of c.in_ok-names.names in let locals = locals_of c.deref-2.result.now in let many = c.plenty.result in
+    let are : locals ≡ fixed = ap (λ xs. locals_of xs) c.deref-2.ensures.value ∙ c.in_ok-fixed.ensures in
+    let named = c.in_ok-names.ensures ∙ wide_named fixed c.deref.result.now many (ap (λ xs. locals_of xs) c.deref.ensures.value ∙ c.in_ok-fixed.ensures) in
+    let text : named_text code names name locals row ≡ laid_text code name fixed row = wide_text code row name fixed locals names many are named (c.requires.names many c.plenty.ensures) in
+    let asserts = ap (λ (fs : List Local). row_asserts code row (length fs)) are in
+    let before = g.S.Sink.written c.args.sink.now in let now = g.S.Sink.written c.write_named.new.sink in
+    record {
+      ok = subst (λ (x : List ℕ). OnOk c.write_named.result (Appends before now x)) text c.write_named.ensures.ok;
+      counts = subst (λ (x : List ℕ). OnOk c.write_named.result (c.write_named.new.written ≡ counts c.args.written.now (length x) (row_asserts code row (length fixed)))) text
+          (subst (λ (n : ℕ). OnOk c.write_named.result (c.write_named.new.written ≡ counts c.args.written.now (length (named_text code names name locals row)) n)) asserts c.write_named.ensures.counts);
+      front = subst (λ (x : List ℕ). OnErr c.write_named.result (AppendsPrefix before now x)) text c.write_named.ensures.front;
+      failed = c.write_named.ensures.failed;
+      later = c.write_named.ensures.later;
+    }

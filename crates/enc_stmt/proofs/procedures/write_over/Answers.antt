@@ -10,11 +10,17 @@ use Rattle.enc_stmt.specs.Units.{unit_procedure}
 use Rattle.enc_stmt.specs.View.{coder_of, step_of}
 use Rattle.enc_stmt.proofs.SentLaws.{nothing_sent}
 use Rattle.enc_stmt.proofs.UnitRowLaws.{row_steps, row_asserts_are, laid_is}
+use Rattle.enc_stmt.proofs.WideNames.{row_more}
 use Rattle.enc_stmt.proofs.procedures.write_over.Goals as goal
 
 pub write_laid-requires : goal.write_laid-requires
 write_laid-requires g c =
-    row_steps (program_of c.args.writer.program.now) c.args.writer.unit c.requires.formed (coder_of c.args.writer) c.requires.code (map step_of c.deref.result.now) (ap (map step_of) c.deref.ensures.value ∙ c.in_ok-row.ensures)
+    let p = program_of c.args.writer.program.now in let x = c.args.writer.unit in let code = coder_of c.args.writer in
+    let row = map step_of c.deref.result.now in let is_row = ap (map step_of) c.deref.ensures.value ∙ c.in_ok-row.ensures in
+    record {
+      steps = row_steps p x c.requires.formed code c.requires.code row is_row;
+      names = row_more p c.requires.formed c.requires.exists.0 x c.requires.exists.1 code c.requires.code row is_row;
+    }
 
 pub returns-in_err-row-clause-front : goal.returns-in_err-row-clause-front
 returns-in_err-row-clause-front g c = nothing_sent c.from_residual.result (g.S.Sink.written c.args.sink.now) _

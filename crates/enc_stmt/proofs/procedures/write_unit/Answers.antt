@@ -1,4 +1,4 @@
-use Rattle.std.proofs.Common.{◌≡◌, OnOk, OnErr, length, ap, sym, subst}
+use Rattle.std.proofs.Common.{◌≡◌, OnOk, OnErr, ℕ, Some, length, slice_get, ap, sym, subst}
 use Rattle.vb_outer.specs.Sink.{Appends, AppendsPrefix}
 use Rattle.viper_core.specs.Formed.{IsFormed}
 use Rattle.viper_core.specs.View.{program_of}
@@ -13,8 +13,9 @@ use Rattle.enc_stmt.proofs.procedures.write_unit.Goals as goal
 
 pub write_over-requires : goal.write_over-requires
 write_over-requires g c = record {
-  formed = subst IsFormed (sym (ap program_of c.unit_writer-writer.ensures.program)) c.requires;
+  formed = subst IsFormed (sym (ap program_of c.unit_writer-writer.ensures.program)) c.requires.formed;
   code = unit_writes (coder_of c.unit_writer-writer.result) (ap program_of c.unit_writer-writer.ensures.program) c.unit_writer-writer.ensures.unit c.unit_writer-writer.ensures.code;
+  exists = same_unit (λ p x. (n : ℕ) × (slice_get p.units n ≡ Some x)) (sym (ap program_of c.unit_writer-writer.ensures.program)) (sym c.unit_writer-writer.ensures.unit) c.requires.exists;
 }
 
 pub returns-in_err-home-clause-front : goal.returns-in_err-home-clause-front

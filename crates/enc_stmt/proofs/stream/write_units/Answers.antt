@@ -7,6 +7,12 @@ use Rattle.enc_stmt.proofs.SentLaws.{any_err, sent_nothing, sent_more, sent_part
 use Rattle.enc_stmt.proofs.StreamLaws.{procs_text_first, procs_asserts_first}
 use Rattle.enc_stmt.proofs.stream.write_units.Goals as goal
 
+pub write_unit-requires : goal.write_unit-requires
+write_unit-requires g c = record {
+  formed = c.requires;
+  exists = (c.loop-number.number, subst (λ vs. slice_get vs c.loop-number.number ≡ Some c.unit_at-unit.result) c.deref.ensures.value c.unit_at-unit.ensures);
+}
+
 pub loop-number-init : goal.loop-number-init
 loop-number-init g c = record {
   so_far = sent_nothing _ _ (g.S.Sink.written c.args.sink.now) c.args.written.now (omega arith) (omega arith);
