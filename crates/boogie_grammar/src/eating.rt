@@ -48,7 +48,7 @@ pub fn sign<'a>(wanted: BSign, tokens: &'a [BToken]) -> Read<'a, ()>
 }
 
 /// How a word is spelled.
-fn word_text(word: Word) -> &'static [u8]
+pub(crate) fn word_text(word: Word) -> &'static [u8]
     ensures { result.now ≡ word_text word }
 {
     match word {
@@ -81,11 +81,19 @@ fn word_text(word: Word) -> &'static [u8]
     }
 }
 
-/// Whether bytes are the same. Most differ in length or in the first byte, which are tried at once.
+/// Whether bytes are the same. They are few, so that a loop over them beats a comparison of slices.
 pub(crate) fn same_bytes(a: &[u8], b: &[u8]) -> bool
     ensures { IsTrue result ↔ (a.now ≡ b.now) }
 {
-    a.len() == b.len() && (a.is_empty() || a[0] == b[0]) && a == b
+    if a.len() != b.len() {
+        return false;
+    }
+    for (byte, other) in a.iter().zip(b) {
+        if byte != other {
+            return false;
+        }
+    }
+    true
 }
 
 /// The tokens after this word, if it is next.

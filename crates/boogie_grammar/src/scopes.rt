@@ -1,5 +1,5 @@
 // The names that an expression may use.
-ghost use Rattle.std.specs.Prelude.{◌≡◌, ◌≢◌, ◌++◌, ◌∷◌, ℕ, [], IfOk, OnOk, MatchOption, Some, false};
+ghost use Rattle.std.specs.Prelude.{◌≡◌, ◌≢◌, ◌++◌, ◌∷◌, ℕ, List, [], length, IfOk, OnOk, MatchOption, Some, false};
 ghost use Rattle.std.specs.Char.{is_ascii_alphabetic};
 ghost use Rattle.std.specs.List.{list_any, list_all};
 ghost use Rattle.std.specs.Str.{bytes_eq};
@@ -12,47 +12,32 @@ use std::alloc::Global;
 use std::marker::Model;
 use vb_base::{Ident, Memory};
 
-/// The names that are no names of variables or procedures.
-const RESERVED: [&[u8]; 32] = [
-    b"procedure",
-    b"var",
-    b"havoc",
-    b"assume",
-    b"assert",
-    b"if",
-    b"then",
-    b"else",
-    b"forall",
-    b"true",
-    b"false",
-    b"int",
-    b"bool",
-    b"real",
-    b"div",
-    b"mod",
-    b"Ref",
-    b"null",
-    b"Snap",
-    b"sTag",
-    b"sUnit",
-    b"sInt",
-    b"sBool",
-    b"sRef",
-    b"sPerm",
-    b"sPair",
-    b"sIntOf",
-    b"sBoolOf",
-    b"sRefOf",
-    b"sPermOf",
-    b"sFirst",
-    b"sSecond",
-];
-
 /// Whether a name is reserved. Each that is has letters alone, which is tried first: most names of a translation have a `$`.
 pub fn is_reserved(name: &[u8]) -> bool
     ensures { result ≡ is_reserved name.now }
 {
-    are_letters(name) && is_word_among(&RESERVED, name)
+    are_letters(name) && is_word_among(reserved_of(name.len()), name)
+}
+
+/// The reserved names of a length: those that are no names of variables or procedures.
+fn reserved_of(len: usize) -> &'static [&'static [u8]]
+    ensures { (name : List ℕ) → length name ≡ len → list_any (λ w. bytes_eq name w.now) result.now ≡ is_reserved name }
+{
+    match len {
+        2 => &[b"if"],
+        3 => &[b"var", b"int", b"div", b"mod", b"Ref"],
+        4 => &[
+            b"then", b"else", b"true", b"bool", b"real", b"null", b"Snap", b"sTag", b"sInt",
+            b"sRef",
+        ],
+        5 => &[b"havoc", b"false", b"sUnit", b"sBool", b"sPerm", b"sPair"],
+        6 => &[
+            b"assume", b"assert", b"forall", b"sIntOf", b"sRefOf", b"sFirst",
+        ],
+        7 => &[b"sBoolOf", b"sPermOf", b"sSecond"],
+        9 => &[b"procedure"],
+        _ => &[],
+    }
 }
 
 /// Whether each byte is a letter.
