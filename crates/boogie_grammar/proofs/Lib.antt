@@ -11,4 +11,4 @@ pub mod ScopeLaws
 pub mod Reading
 pub mod Steps
 pub mod DepthLaws
-pub mod BlockLaws
+pub mod PartLaws

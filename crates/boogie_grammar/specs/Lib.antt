@@ -5,7 +5,7 @@ pub mod Tests
 pub mod Grammar
 pub mod Spells
 pub mod Depth
-pub mod Blocks
+pub mod Parts
 pub mod Faults
 pub mod Printed
 pub mod Naming

@@ -2,7 +2,6 @@
 //! a single token; and the names that are written for bound variables.
 #![tactic(auto)]
 
-mod blocks;
 mod depth;
 pub mod eating;
 mod faults;
@@ -11,16 +10,17 @@ pub mod leaves;
 mod lexer;
 pub mod naming;
 pub mod new_names;
+mod parts;
 mod pieces;
 pub mod scopes;
 pub mod signs;
 mod stops;
 mod tokens;
 
-pub use blocks::{Block, first_block};
 pub use depth::first_too_deep;
 pub use faults::BoogieFault;
 pub use front::after_prelude;
 pub use lexer::cut;
+pub use parts::{Part, next_part};
 pub use stops::fault;
 pub use tokens::{BSign, BTok, BToken, Word};

@@ -11,10 +11,11 @@ mod NodeLaws
 mod NumberLaws
 mod OperatorLaws
 mod RunStepLaws
-mod RunWithinLaws
+pub mod RunWithinLaws
 mod SearchLaws
 mod SetLaws
 pub mod SettingLaws
 pub mod StartLaws
+pub mod SteppedLaws
 mod TypingLaws
 mod WithinLaws

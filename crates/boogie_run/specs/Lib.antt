@@ -7,6 +7,7 @@ pub mod Operands
 pub mod Ready
 pub mod Runs
 pub mod Searched
+pub mod Stepped
 pub mod Tests
 pub mod Unary
 pub mod View

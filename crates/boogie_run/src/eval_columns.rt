@@ -88,7 +88,7 @@ pub(crate) fn columns_of<'a>(
 }
 
 /// The order of two keys. Nearly all are one reference or one number, which are told at once.
-pub(crate) fn order(left: &Key, right: &Key) -> Ordering
+fn order(left: &Key, right: &Key) -> Ordering
     ensures { result ≡ key_cmp left.now right.now }
 {
     match (left.parts(), right.parts()) {

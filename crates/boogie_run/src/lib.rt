@@ -17,7 +17,11 @@ mod replay_runs;
 mod replay_steps;
 mod replay_values;
 mod replaying;
+mod stepping;
 mod typing;
 
 pub use replaying::{BOutcome, replay};
-pub use typing::{base_of_expr, check_types, have_keys, is_assign, is_bool, is_put, same_type};
+pub use stepping::Running;
+pub use typing::{
+    base_of_expr, check_types, have_keys, is_assign, is_bool, is_put, is_typed_stmt, same_type,
+};

@@ -1,7 +1,7 @@
 // How runs stop.
 ghost use Rattle.boogie_run.specs.declared.replay_ends.Halt.TheVariants as halt;
 ghost use Rattle.boogie_run.specs.Runs.{halted};
-ghost use Rattle.std.specs.Prelude.{◌≡◌};
+ghost use Rattle.std.specs.Prelude.{◌≡◌, IfOk};
 
 use crate::eval_ends::Miss;
 use vb_base::{Label, Memory};
@@ -26,6 +26,16 @@ pub(crate) enum Halt {
     /// There was no memory.
     Memory,
     Stops(Stop),
+}
+
+/// Why a run stops that does not go on, unless there was no memory.
+pub(crate) fn stop_of(halt: Halt) -> Result<Stop, Memory>
+    ensures { IfOk result (λ stop. halt ≡ Halt.Stops stop) }
+{
+    match halt {
+        Halt::Memory => Err(Memory),
+        Halt::Stops(stop) => Ok(stop),
+    }
 }
 
 impl From<Memory> for Halt {

@@ -20,7 +20,7 @@ use std::alloc::Global;
 
 /// Runs a statement.
 #[cycle(running)]
-fn run_stmt(
+pub(crate) fn run_stmt(
     alloc: Global,
     locals: &[Local],
     stmt: &BStmt,

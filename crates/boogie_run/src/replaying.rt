@@ -5,15 +5,15 @@ ghost use Rattle.boogie_tree.specs.Program as p;
 ghost use Rattle.boogie_tree.specs.Value as v;
 ghost use Rattle.boogie_tree.specs.Whole.{choice_of, proc_of, program_of, run_of, setting_of, type_of, value_of};
 ghost use Rattle.boogie_meaning.specs.Programs.{IsTypedProc, IsTypedProgram, brun_proc, types_of, default_value};
-ghost use Rattle.boogie_meaning.specs.Run.{Run};
-ghost use Rattle.boogie_run.specs.Runs.{Runs};
+ghost use Rattle.boogie_meaning.specs.Run.{Run, Stops};
+ghost use Rattle.boogie_run.specs.Runs.{Runs, why};
 ghost use Rattle.boogie_run.specs.Start.{with_settings, start_of, CanRun, IsWithinProgram, outcome_of};
 ghost use Rattle.boogie_run.specs.Typed.{types_in};
 ghost use Rattle.boogie_run.specs.View.{environment_of, left_in};
 ghost use Rattle.boogie_run.specs.Within.{AreWithinStmts};
 
 use crate::replay_choices::{Feed, empty_map};
-use crate::replay_ends::{Halt, Stop};
+use crate::replay_ends::{Halt, Stop, stop_of};
 use crate::replay_runs::run_block;
 use crate::replay_values::{Environment, copied_value};
 use boogie_tree::{BChoice, BProgram, BRun, BSetting, BType, BValue, Local, Proc, default_of};
@@ -67,7 +67,11 @@ fn set_all(settings: &[BSetting], env: &mut Environment) -> Result<(), Memory>
 }
 
 /// The values of the variables where a run begins.
-fn start(alloc: Global, locals: &[Local], settings: &[BSetting]) -> Result<Environment, Memory>
+pub(crate) fn start(
+    alloc: Global,
+    locals: &[Local],
+    settings: &[BSetting],
+) -> Result<Environment, Memory>
     ensures { IfOk result (λ env. environment_of env ≡ start_of (types_in locals.now) (map setting_of settings.now)) }
 {
     let mut env = defaults(alloc, locals)?;
@@ -76,10 +80,24 @@ fn start(alloc: Global, locals: &[Local], settings: &[BSetting]) -> Result<Envir
 }
 
 /// The choices of a run from the first on.
-fn feed_of(choices: &[BChoice]) -> Feed<'_>
+pub(crate) fn feed_of(choices: &[BChoice]) -> Feed<'_>
     ensures { left_in result ≡ map choice_of choices.entry.now }
 {
     Feed { choices, next: 0 }
+}
+
+/// How a run ended that was stopped, and is not Wrong.
+pub(crate) fn outcome_at(stop: Stop) -> BOutcome
+    requires { stop ≡ Stop.Wrong → ⊥ }
+    ensures { (left : List v.BChoice) → outcome_of (Stops (why stop) left) ≡ Some result }
+{
+    match stop {
+        Stop::Failed(label) => BOutcome::Failed(label),
+        Stop::Blocked => BOutcome::Blocked,
+        Stop::Short => BOutcome::Short,
+        Stop::Over => BOutcome::Over,
+        Stop::Wrong => unreachable!(),
+    }
 }
 
 /// How a run ended that is not Wrong.
@@ -89,12 +107,7 @@ fn outcome(ended: Result<(), Halt>) -> Result<BOutcome, Memory>
 {
     match ended {
         Ok(()) => Ok(BOutcome::Done),
-        Err(Halt::Memory) => Err(Memory),
-        Err(Halt::Stops(Stop::Failed(label))) => Ok(BOutcome::Failed(label)),
-        Err(Halt::Stops(Stop::Blocked)) => Ok(BOutcome::Blocked),
-        Err(Halt::Stops(Stop::Short)) => Ok(BOutcome::Short),
-        Err(Halt::Stops(Stop::Over)) => Ok(BOutcome::Over),
-        Err(Halt::Stops(Stop::Wrong)) => unreachable!(),
+        Err(halt) => Ok(outcome_at(stop_of(halt)?)),
     }
 }
 

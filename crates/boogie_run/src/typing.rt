@@ -281,7 +281,7 @@ pub fn is_put(locals: &[Local], number: usize, es: &[BExpr], e: &BExpr) -> bool
 
 /// Whether a statement is well-typed.
 #[cycle(blocks)]
-fn is_typed_stmt(locals: &[Local], stmt: &BStmt) -> bool
+pub fn is_typed_stmt(locals: &[Local], stmt: &BStmt) -> bool
     ensures { result ≡ ty.is_typed_stmt (types_in locals.now) (stmt_of stmt.now) }
 {
     match stmt {

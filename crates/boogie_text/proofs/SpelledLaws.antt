@@ -7,7 +7,7 @@ use Rattle.std.specs.Option.{option_map}
 use Rattle.std.specs.Str.{bytes_eq}
 use Rattle.std.proofs.lemmas.Bool.{or_left, cond-true}
 use Rattle.std.proofs.lemmas.List.{map-append, length-map}
-use Rattle.std.proofs.lemmas.List.Elements.{All-nil, All-cons, All-append}
+use Rattle.std.proofs.lemmas.List.Elements.{All-nil, All-cons, All-head, All-tail, All-append}
 use Rattle.std.proofs.lemmas.List.Quantifiers.{all_pairs_push}
 use Rattle.std.proofs.lemmas.List.Sums.{take_while-cons}
 use Rattle.std.proofs.lemmas.Slice.Eq.{bytes_eq-Decides}
@@ -19,6 +19,8 @@ use Rattle.boogie_tree.specs.Stmt as s
 use Rattle.boogie_tree.specs.Program.{Local, Proc, BProgram}
 use Rattle.boogie_tree.specs.Values.{is_key, AreKeys}
 use Rattle.boogie_tree.specs.declared.exprs.BBase.{BBase}
+use Rattle.boogie_grammar.specs.Parts.{IsToken}
+use Rattle.boogie_grammar.specs.Step.{IsPiece}
 use Rattle.boogie_grammar.specs.declared.tokens.BTok.{BTok}
 use Rattle.boogie_grammar.specs.declared.tokens.BTok.TheVariants as tok
 use Rattle.boogie_grammar.specs.declared.tokens.BToken.{BToken}
@@ -114,6 +116,14 @@ onto_proper (Some x) at ts h rest = (h, rest)
 pub row_proper : {bytes : List ℕ} {ts : List BToken} → IsRow bytes ts → AllProper ts
 row_proper cut.none = tt
 row_proper (cut.more {bytes = bytes} {b = b} {o = o} at {tokens = ts} piece h) = onto_proper o at ts (piece_proper b bytes refl refl piece) (row_proper h)
+
+token_proper : (bytes : List ℕ) (n : ℕ) (t : BTok) → IsPiece bytes (Some t) n → Proper t
+token_proper [] n t h = absurd h
+token_proper (b ∷ bytes) n t h = piece_proper b bytes refl refl h
+
+pub tokens_proper : (ts : List BToken) → All IsToken ts → AllProper ts
+tokens_proper [] h = tt
+tokens_proper (k ∷ ts) h = let first = All-head IsToken k ts h in (token_proper first.bytes first.len k.tok first.begins, tokens_proper ts (All-tail IsToken k ts h))
 
 -- ---- names
 

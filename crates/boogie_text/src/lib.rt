@@ -5,9 +5,10 @@ mod asserts;
 mod bounds;
 mod builds;
 pub mod exprs;
+mod inside;
 mod laws;
 mod locals;
-mod next_proc;
+mod outside;
 mod pieces;
 mod printer;
 mod procs;
@@ -27,11 +28,12 @@ mod types;
 
 pub use asserts::count_asserts;
 pub use boogie_grammar::BoogieFault;
+pub use inside::{Inside, next_local, next_statement};
 pub use laws::{
     bound_names_are_fresh, brackets_are_nested, not_refused, one_fault, one_place, one_program,
     one_tree, read_by_procedures, some_answer, some_text_answer, spelled_is_printable,
 };
-pub use next_proc::{Next, next_procedure};
+pub use outside::{Outside, next_outside};
 pub use pieces::{
     EmitFault, Names, put_code, put_head, put_if, write_code, write_else, write_end, write_head,
     write_if, write_prelude,

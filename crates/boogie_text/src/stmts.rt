@@ -38,7 +38,7 @@ pub(crate) fn statements<'a>(
 
 /// A statement.
 #[cycle(blocks)]
-fn statement<'a>(alloc: Global, locals: &Names, tokens: &'a [BToken]) -> Read<'a, BStmt>
+pub(crate) fn statement<'a>(alloc: Global, locals: &Names, tokens: &'a [BToken]) -> Read<'a, BStmt>
     ensures shorter { IfOk result (λ r. length r.1.now < length tokens.now) }
     ensures reads { Parses stmt_of (g.rule (g.Statement locals.now)) tokens.now result }
 {

@@ -1,5 +1,5 @@
--- The procedures of a text as a loop comes to them, of which the first of a name is kept.
-use Rattle.std.proofs.Common.{◌≡◌, ◌∙◌, refl, sym, ap, subst, arith, ℕ, suc, ◌+◌, Bool as Truth, true, false, not, cond, nat_lt, List, [], ◌∷◌, ◌++◌, length, map, All, Option, Some, None, slice_get, get_or, zero, ◌≤◌}
+-- The procedures of a text as a loop comes to them, of which something is kept of the first of a name.
+use Rattle.std.proofs.Common.{◌≡◌, ◌∙◌, refl, sym, ap, subst, arith, ℕ, zero, suc, ◌+◌, ◌≤◌, Bool as Truth, true, false, not, cond, nat_lt, List, [], ◌∷◌, ◌++◌, length, get_or, map, All, Option, Some, None, Bor, slice_get}
 use Rattle.std.specs.Prelude.{IfSome}
 use Rattle.std.specs.List.{position, prefix_len}
 use Rattle.std.specs.Option.{option_map}
@@ -7,15 +7,16 @@ use Rattle.std.specs.Str.{bytes_eq}
 use Rattle.std.proofs.lemmas.Bool.{cond-true, cond-false}
 use Rattle.std.proofs.lemmas.Bool.Decides.{nat_tests}
 use Rattle.std.proofs.lemmas.List.Elements.{All-nil, All-cons, All-append}
-use Rattle.vb_base.specs.Names.{NamesDiffer}
-use Rattle.vb_base.specs.declared.labels.Label.{Label}
-use Rattle.vb_value.specs.Bound.{Bounded}
 use Rattle.boogie_grammar.specs.Grammar.{proc_names}
-use Rattle.boogie_meaning.specs.Programs.{types_of, brun_proc, IsTypedProc, IsTypedProgram}
-use Rattle.boogie_run.specs.Start.{start_of, outcome_of, CanRun, IsWithinProgram}
-use Rattle.boogie_run.specs.Within.{AreWithinStmts}
+use Rattle.boogie_meaning.specs.Programs.{IsTypedProc, IsTypedProgram}
 use Rattle.boogie_run.specs.declared.replaying.BOutcome.{BOutcome}
-use Rattle.boogie_run.proofs.StartLaws.{same_proc}
+use Rattle.boogie_text.specs.Tail.{IsTail, BeginsProcedure}
+use Rattle.boogie_tree.specs.Program.{Proc, BProgram}
+use Rattle.boogie_tree.specs.Whole.{program_of}
+use Rattle.boogie_tree.specs.declared.programs.BProgram as whole
+use Rattle.viper_types.proofs.Scopes.{slice_get_append, slice_get_at}
+use Rattle.vb_tool.proofs.BoogieVerdicts.{all_at}
+use Rattle.vb_base.specs.declared.labels.Label.{Label}
 use Rattle.boogie_formula.specs.Follows.{Follows, IsExact}
 use Rattle.boogie_formula.specs.Formula.{Formula}
 use Rattle.boogie_formula.specs.Types.{IsTypedFormula}
@@ -24,26 +25,22 @@ use Rattle.formula_text.specs.Printed.{formula_text}
 use Rattle.formula_text.specs.Spells.{SpellsFormula}
 use Rattle.boogie_text.specs.Answers.{IsRead}
 use Rattle.boogie_text.specs.Printable.{FitsProc}
-use Rattle.boogie_text.specs.Tail.{IsTail, BeginsProcedure}
 use Rattle.boogie_text.proofs.TailLaws.{read_whole}
-use Rattle.boogie_tree.specs.Program.{Proc, BProgram}
 use Rattle.boogie_tree.specs.Text.{prelude}
-use Rattle.boogie_tree.specs.Value.{BRun}
-use Rattle.boogie_tree.specs.Whole.{proc_of, program_of}
-use Rattle.boogie_tree.specs.declared.programs.BProgram as whole
+use Rattle.boogie_tree.specs.Whole.{proc_of}
 use Rattle.boogie_tree.specs.declared.programs.Proc as declared
-use Rattle.viper_types.proofs.Scopes.{slice_get_append, slice_get_at}
-use Rattle.run_file.specs.BoogieLines.{known}
-use Rattle.run_file.specs.BoogieRun.{SpellsName, SpellsBoogieRun}
-use Rattle.vb_tool.proofs.BoogieRunLaws.{can_run}
-use Rattle.vb_tool.proofs.BoogieStages.{program_within, replay_is}
-use Rattle.vb_tool.proofs.BoogieVerdicts.{all_at, names_differ}
+use Rattle.run_file.specs.BoogieRun.{SpellsName}
+use Rattle.vb_tool.proofs.BoogieStages.{replay_is}
 use Rattle.vb_tool.proofs.ConditionStages.{condition_is, fits_proc}
-use Rattle.vb_tool.specs.Alone.{IsAlone, kept_with}
 use Rattle.vb_tool.specs.Parts.{ReplayOf, ConditionOf}
 use Rattle.vb_tool.specs.ReplayOutcome.{replay_status, replay_text}
 use Rattle.vb_tool.specs.declared.status.Status.{Status}
 use Rattle.vb_tool.specs.declared.status.Status.TheVariants as done
+use Rattle.vb_tool.specs.Alone.{IsNamedIn, IsAlone, IsMade, IsMadeAlone, IsPassed, KeepsIf, first_of}
+use Rattle.vb_tool.specs.declared.alone.Made.{Made}
+use Rattle.vb_tool.specs.declared.alone.Made.TheVariants as made
+use Rattle.vb_tool.specs.declared.alone.Task.{Task}
+use Rattle.vb_tool.specs.declared.alone.Task.TheVariants as task
 
 -- ---- the first item that passes a test
 
@@ -106,83 +103,87 @@ module _ {X : Type 0} (test : X → Truth) where
 abbrev has_name : List ℕ → Proc → Truth
 has_name name d = bytes_eq d.name name
 
-pub record Holds (ds : List Proc) (name : List ℕ) (kept : BProgram) : Type 0 where
+-- this is kept of the first procedure of a name
+pub record Holds {X : Type 0} (P : Proc → X → Type 0) (ds : List Proc) (name : List ℕ) (kept : X) : Type 0 where
   pub number : ℕ
   pub named : first_passing (has_name name) ds ≡ Some number
   pub procedure : Proc
   pub is_there : slice_get ds number ≡ Some procedure
-  pub is_alone : kept ≡ record { procs = procedure ∷ [] }
+  pub has : P procedure kept
 
-abbrev IsKept : List Proc → List ℕ → Option BProgram → Type 0
-IsKept ds name None = first_passing (has_name name) ds ≡ None
-IsKept ds name (Some kept) = Holds ds name kept
+abbrev IsKept : {X : Type 0} → (Proc → X → Type 0) → List Proc → List ℕ → Option X → Type 0
+IsKept P ds name None = first_passing (has_name name) ds ≡ None
+IsKept P ds name (Some kept) = Holds P ds name kept
 
-one_kept : (ds : List Proc) (name : List ℕ) (d : Proc) (wanted : Truth) (one : BProgram) (o : Option BProgram) → wanted ≡ has_name name d → one ≡ record { procs = d ∷ [] } →
-    IsKept ds name o → IsKept (ds ++ d ∷ []) name (kept_with o wanted one)
-one_kept ds name d wanted one (Some kept) is alone h = record {
-  number = h.number;
-  named = still_found (has_name name) ds (d ∷ []) h.number h.named;
-  procedure = h.procedure;
-  is_there = slice_get_append ds (d ∷ []) h.number h.procedure h.is_there;
-  is_alone = h.is_alone;
-}
-one_kept ds name d true one None is alone h = record {
-  number = length ds;
-  named = now_found (has_name name) ds d h (sym is);
-  procedure = d;
-  is_there = slice_get_at ds d [];
-  is_alone = alone;
-}
-one_kept ds name d false one None is alone h = not_found (has_name name) ds d h (sym is)
+module _ {X : Type 0} (P : Proc → X → Type 0) where
+  one_kept : (ds : List Proc) (name : List ℕ) (d : Proc) (wanted : Truth) (o one : Option X) → wanted ≡ has_name name d → KeepsIf (P d) wanted one → IsKept P ds name o →
+      IsKept P (ds ++ d ∷ []) name (first_of o one)
+  one_kept ds name d wanted (Some kept) one is keeps h = record {
+    number = h.number;
+    named = still_found (has_name name) ds (d ∷ []) h.number h.named;
+    procedure = h.procedure;
+    is_there = slice_get_append ds (d ∷ []) h.number h.procedure h.is_there;
+    has = h.has;
+  }
+  one_kept ds name d true None (Some x) is keeps h = record { number = length ds; named = now_found (has_name name) ds d h (sym is); procedure = d; is_there = slice_get_at ds d []; has = keeps }
+  one_kept ds name d true None None is keeps h = absurd keeps
+  one_kept ds name d false None (Some x) is keeps h = absurd keeps
+  one_kept ds name d false None None is keeps h = not_found (has_name name) ds d h (sym is)
 
 -- ---- how far a text is read
 
-pub record IsReadTo (text name : List ℕ) (rest : List ℕ) (names : List (List ℕ)) (kept : Option BProgram) : Type 0 where
+pub record IsReadTo {X : Type 0} (P : Proc → X → Type 0) (text name rest : List ℕ) (names : List (List ℕ)) (kept : Option X) : Type 0 where
   pub so_far : List Proc
   pub names_are : proc_names so_far ≡ names
   pub tail : (all : List Proc) → IsTail so_far rest all → IsTail [] text all
   pub are_typed : All IsTypedProc so_far
-  pub is_kept : IsKept so_far name kept
-
-pub read_none : (text name : List ℕ) → IsReadTo text name text [] None
-read_none text name = record { so_far = []; names_are = refl; tail = λ all h. h; are_typed = All-nil IsTypedProc; is_kept = refl }
+  pub is_kept : IsKept P so_far name kept
 
 names_more : (ds : List Proc) (d : Proc) → proc_names (ds ++ d ∷ []) ≡ proc_names ds ++ d.name ∷ []
 names_more [] d = refl
 names_more (e ∷ ds) d = ap (λ ns. e.name ∷ ns) (names_more ds d)
 
-pub read_one : {text name rest after : List ℕ} {names more : List (List ℕ)} {kept now : Option BProgram} (d : Proc) (wanted : Truth) (one : BProgram) → IsReadTo text name rest names kept →
-    BeginsProcedure names rest d after → IsTypedProc d → more ≡ names ++ d.name ∷ [] → wanted ≡ has_name name d → one ≡ record { procs = d ∷ [] } → now ≡ kept_with kept wanted one →
-    IsReadTo text name after more now
-read_one {text} {name} {rest} {after} {names} {more} {kept} {now} d wanted one r next typed one_more is alone keeps = record {
-  so_far = r.so_far ++ d ∷ [];
-  names_are = names_more r.so_far d ∙ ap (λ ns. ns ++ d.name ∷ []) r.names_are ∙ sym one_more;
-  tail = λ all h. r.tail all (next.goes_on r.so_far all r.names_are h);
-  are_typed = All-append IsTypedProc r.so_far (d ∷ []) r.are_typed (All-cons IsTypedProc d [] typed (All-nil IsTypedProc));
-  is_kept = subst (IsKept (r.so_far ++ d ∷ []) name) (sym keeps) (one_kept r.so_far name d wanted one kept is alone r.is_kept);
-}
+module _ {X : Type 0} (P : Proc → X → Type 0) where
+  pub read_none : (text name : List ℕ) → IsReadTo P text name text [] None
+  read_none text name = record { so_far = []; names_are = refl; tail = λ all h. h; are_typed = All-nil IsTypedProc; is_kept = refl }
 
-pub read_all : {text name rest : List ℕ} {names : List (List ℕ)} {kept : BProgram} → IsReadTo text name rest names (Some kept) → ((ds : List Proc) → IsTail ds rest ds) → IsAlone text name kept
-read_all {text} {name} r ends = record {
-  procs = r.so_far;
-  tail = r.tail r.so_far (ends r.so_far);
-  is_typed = λ n d there. all_at IsTypedProc r.so_far n d r.are_typed there;
-  number = r.is_kept.number;
-  named = position_is (has_name name) r.so_far ∙ r.is_kept.named;
-  procedure = r.is_kept.procedure;
-  is_there = r.is_kept.is_there;
-  is_alone = r.is_kept.is_alone;
-}
+  pub read_one : {text name rest inside after : List ℕ} {names more : List (List ℕ)} {kept ended now : Option X} (found : List ℕ) (wanted : Truth) → IsReadTo P text name rest names kept →
+      BeginsProcedure names rest found inside → IsPassed P wanted found inside ended after → more ≡ names ++ found ∷ [] → wanted ≡ bytes_eq found name → now ≡ first_of kept ended →
+      IsReadTo P text name after more now
+  read_one {text} {name} {rest} {inside} {after} {names} {more} {kept} {ended} {now} found wanted r next p one_more is keeps = record {
+    so_far = r.so_far ++ p.procedure ∷ [];
+    names_are = names_more r.so_far p.procedure ∙ ap (λ n. proc_names r.so_far ++ n ∷ []) p.is.is_named ∙ ap (λ ns. ns ++ found ∷ []) r.names_are ∙ sym one_more;
+    tail = λ all h. r.tail all (next.goes_on r.so_far all r.names_are (p.is.goes_on r.so_far all h));
+    are_typed = All-append IsTypedProc r.so_far (p.procedure ∷ []) r.are_typed (All-cons IsTypedProc p.procedure [] p.is.typed (All-nil IsTypedProc));
+    is_kept = subst (IsKept P (r.so_far ++ p.procedure ∷ []) name) (sym keeps)
+        (one_kept P r.so_far name p.procedure wanted kept ended (is ∙ ap (λ n. bytes_eq n name) (sym p.is.is_named)) p.keeps r.is_kept);
+  }
 
-pub read_end : {text name rest : List ℕ} {names : List (List ℕ)} (kept : Option whole.BProgram) → IsReadTo text name rest names (option_map program_of kept) →
-    ((ds : List Proc) → IsTail ds rest ds) → IfSome kept (λ b. IsAlone text name (program_of b))
-read_end None r ends = tt
-read_end (Some b) r ends = read_all r ends
+  -- where the text ends, what is kept is of the procedure of the name
+  pub read_all : {text name rest : List ℕ} {names : List (List ℕ)} {kept : X} → IsReadTo P text name rest names (Some kept) → ((ds : List Proc) → IsTail ds rest ds) →
+      (d : Proc) × IsNamedIn text name d × P d kept
+  read_all {text} {name} r ends = (
+    r.is_kept.procedure,
+    record {
+      procs = r.so_far;
+      tail = r.tail r.so_far (ends r.so_far);
+      is_typed = λ n d there. all_at IsTypedProc r.so_far n d r.are_typed there;
+      number = r.is_kept.number;
+      named = position_is (has_name name) r.so_far ∙ r.is_kept.named;
+      is_there = r.is_kept.is_there;
+    },
+    r.is_kept.has,
+  )
+
+pub is_made_alone : {text name rest : List ℕ} {names : List (List ℕ)} (t : Task) (kept : Option Made) → IsReadTo (IsMade t) text name rest names kept → ((ds : List Proc) → IsTail ds rest ds) →
+    IfSome kept (IsMadeAlone text name t)
+is_made_alone t (Some m) r ends = let h = read_all (IsMade t) r ends in record { procedure = h.0; is_named = h.1; is_made = h.2 }
+is_made_alone t None r ends = tt
+
+pub kept_alone : {text name : List ℕ} {b : whole.BProgram} → IsMadeAlone text name task.Keep (made.Program b) → IsAlone text name (program_of b)
+kept_alone h = record { procedure = h.procedure; is_named = h.is_named; is_alone = h.is_made }
 
 -- ---- a program of one procedure
-
-pub typed_one : (ds : List declared.Proc) (d : declared.Proc) → ds ≡ d ∷ [] → IsTypedProgram (record { procs = map proc_of ds }) → IsTypedProc (proc_of d)
-typed_one ds d one typed = typed 0 (proc_of d) (ap (λ es. slice_get (map proc_of es) 0) one)
 
 first_is : (ds : List declared.Proc) (d : declared.Proc) (e : Proc) → map proc_of ds ≡ e ∷ [] → d ≡ get_or ds 0 d → proc_of d ≡ e
 first_is [] d e one at = absurd cc
@@ -201,10 +202,10 @@ of_one P e h (suc n) d there = absurd cc
 
 module _ (bytes rest name : List ℕ) (b : whole.BProgram) (is : bytes ≡ prelude ++ rest) (a : IsAlone rest name (program_of b)) where
   abbrev all_of : BProgram
-  all_of = record { procs = a.procs }
+  all_of = record { procs = a.is_named.procs }
 
   is_read : IsRead bytes all_of
-  is_read = read_whole bytes rest a.procs is a.tail
+  is_read = read_whole bytes rest a.is_named.procs is a.is_named.tail
 
   alone_there : slice_get (program_of b).procs 0 ≡ Some a.procedure
   alone_there = ap (λ (q : BProgram). slice_get q.procs 0) a.is_alone
@@ -213,35 +214,13 @@ module _ (bytes rest name : List ℕ) (b : whole.BProgram) (is : bytes ≡ prelu
   alone_at d at = first_is b.procs.items d a.procedure (ap (λ (q : BProgram). q.procs) a.is_alone) at
 
   pub alone_typed : IsTypedProgram (program_of b)
-  alone_typed = subst IsTypedProgram (sym a.is_alone) (of_one IsTypedProc a.procedure (a.is_typed a.number a.procedure a.is_there))
-
-  pub alone_within : IsWithinProgram (program_of b)
-  alone_within = subst IsWithinProgram (sym a.is_alone) (of_one (λ d. AreWithinStmts d.body) a.procedure (program_within bytes all_of is_read a.number a.procedure a.is_there))
-
-  pub alone_differ : (d : declared.Proc) → d ≡ get_or b.procs.items 0 d → NamesDiffer (known (proc_of d).locals).names
-  alone_differ d at = subst (λ (e : Proc). NamesDiffer (known e.locals).names) (sym (alone_at d at)) (names_differ a.number a.procedure is_read a.is_there)
+  alone_typed = subst IsTypedProgram (sym a.is_alone) (of_one IsTypedProc a.procedure (a.is_named.is_typed a.is_named.number a.procedure a.is_named.is_there))
 
   pub alone_fits : (d : declared.Proc) → d ≡ get_or b.procs.items 0 d → FitsProc (proc_of d)
-  alone_fits d at = subst FitsProc (sym (alone_at d at)) (fits_proc bytes all_of a.number a.procedure is_read a.is_there)
+  alone_fits d at = subst FitsProc (sym (alone_at d at)) (fits_proc bytes all_of a.is_named.number a.procedure is_read a.is_named.is_there)
 
   pub alone_here : (d : declared.Proc) → d ≡ get_or b.procs.items 0 d → slice_get (program_of b).procs 0 ≡ Some (proc_of d)
   alone_here d at = alone_there ∙ ap (λ (e : Proc). Some e) (sym (alone_at d at))
-
-  -- what is replayed
-
-  pub alone_runs : (run_bytes : List ℕ) (d : declared.Proc) (run : BRun) → d ≡ get_or b.procs.items 0 d → SpellsBoogieRun run_bytes (proc_of d) run → (e : Proc) → slice_get (program_of b).procs 0 ≡ Some e → CanRun e run
-  alone_runs run_bytes d run at spelled e there =
-      let can : CanRun a.procedure run = subst (λ f. CanRun f run) (alone_at d at) (can_run run_bytes (proc_of d) run spelled) in
-      subst (λ f. CanRun f run) (same_proc alone_there there) can
-
-  pub alone_is : (run_bytes : List ℕ) (d : declared.Proc) (run : BRun) (o : BOutcome) (status : Status) (text : List ℕ) → length bytes ≤ 33554432 → length run_bytes ≤ 33554432 → SpellsName run_bytes name →
-      d ≡ get_or b.procs.items 0 d → SpellsBoogieRun run_bytes (proc_of d) run →
-      ((e : Proc) → slice_get (program_of b).procs 0 ≡ Some e → outcome_of (brun_proc Bounded e (start_of (types_of e) run.settings) run.choices) ≡ Some o) →
-      status ≡ replay_status o → text ≡ replay_text o → ReplayOf bytes run_bytes status text
-  alone_is run_bytes d run o status text small few said at spelled ends is_status is_text =
-      replay_is bytes run_bytes all_of (record { small = small; text = is_read; is_typed = a.is_typed }) few a.procedure run o status text
-      (record { name = name; header = said; number = a.number; named = a.named; is_there = a.is_there }) (subst (λ e. SpellsBoogieRun run_bytes e run) (alone_at d at) spelled)
-      (ends a.procedure alone_there) is_status is_text
 
   -- of which a formula is stated
 
@@ -249,5 +228,16 @@ module _ (bytes rest name : List ℕ) (b : whole.BProgram) (is : bytes ≡ prelu
       f ≡ formula_for (proc_of d) label → IsTypedFormula f → Follows (proc_of d) label f → IsExact (proc_of d) label f → text ≡ formula_text (proc_of d).name label f → SpellsFormula text (proc_of d).name label f →
       ((m : List ℕ) (l : Label) (g : Formula) → SpellsFormula text m l g → (m ≡ (proc_of d).name) × (l ≡ label) × (g ≡ f)) → status ≡ done.Done → ConditionOf bytes name label status text
   alone_states label d f status text small at built typed follows exact is_text spelled only is_done =
-      condition_is bytes name label all_of a.number (proc_of d) f status text (record { small = small; text = is_read; is_typed = a.is_typed }) a.named
-      (a.is_there ∙ ap (λ (e : Proc). Some e) (sym (alone_at d at))) built typed follows exact is_text spelled only is_done
+      condition_is bytes name label all_of a.is_named.number (proc_of d) f status text (record { small = small; text = is_read; is_typed = a.is_named.is_typed }) a.is_named.named
+      (a.is_named.is_there ∙ ap (λ (e : Proc). Some e) (sym (alone_at d at))) built typed follows exact is_text spelled only is_done
+
+-- ---- what is known of how one ends
+
+pub ended_is : {bytes rest name : List ℕ} {run_bytes : Bor (List ℕ)} {outcome : BOutcome} (status : Status) (text : List ℕ) → bytes ≡ prelude ++ rest →
+    IsMadeAlone rest name (task.Run run_bytes) (made.Outcome outcome) → length bytes ≤ 33554432 → length run_bytes.now ≤ 33554432 → SpellsName run_bytes.now name → status ≡ replay_status outcome →
+    text ≡ replay_text outcome → ReplayOf bytes run_bytes.now status text
+ended_is {bytes} {rest} {name} {run_bytes} {outcome} status text is e small few said is_status is_text =
+    let n = e.is_named in
+    let whole : IsRead bytes (record { procs = n.procs }) = read_whole bytes rest n.procs is n.tail in
+    replay_is bytes run_bytes.now (record { procs = n.procs }) (record { small = small; text = whole; is_typed = n.is_typed }) few e.procedure e.is_made.run outcome status text
+    (record { name = name; header = said; number = n.number; named = n.named; is_there = n.is_there }) e.is_made.spelled e.is_made.ends is_status is_text

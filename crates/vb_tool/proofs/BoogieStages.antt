@@ -103,7 +103,7 @@ mutual
   exprs_within n b (t.more x xs) h = (expr_within n b x h.0, exprs_within n b xs h.1)
 
 mutual
-  stmt_within : (n : ℕ) (x : s.BStmt) → FitsStmt n x → IsWithinStmt x
+  pub stmt_within : (n : ℕ) (x : s.BStmt) → FitsStmt n x → IsWithinStmt x
   stmt_within n (s.Assign i e) h = expr_within n _ e h.1
   stmt_within n (s.Put i es e) h = (exprs_within n _ es h.2, expr_within n _ e h.3)
   stmt_within n (s.Havoc i) h = tt

@@ -11,6 +11,8 @@ pub mod BoogieRunLaws
 pub mod BoogieVerdicts
 pub mod BoogieStages
 pub mod AloneLaws
+pub mod BegunLaws
+pub mod RunBodyLaws
 pub mod MakingLaws
 pub mod WordLaws
 pub mod CallLaws

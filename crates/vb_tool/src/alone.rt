@@ -1,26 +1,29 @@
-// A procedure of a program of which no other is kept, and a run of it.
-ghost use Rattle.std.specs.Prelude.{◌≡◌, ◌≤◌, ◌∷◌, [], length, IfOk, IfSome};
-ghost use Rattle.std.specs.Option.{option_map};
+// The one procedure that is asked for, of a program that is read part by part.
+ghost use Rattle.std.specs.Prelude.{◌≡◌, ◌≤◌, length, IfOk, IfSome};
+ghost use Rattle.std.specs.Str.{bytes_eq};
 ghost use Rattle.vb_base.specs.Limits.{max_boogie_bytes};
-ghost use Rattle.boogie_meaning.specs.Programs.{IsTypedProc};
-ghost use Rattle.boogie_tree.specs.Whole.{program_of, proc_of};
-ghost use Rattle.vb_tool.specs.Alone.{IsAlone, kept_with};
+ghost use Rattle.vb_base.specs.Names.{NamesDiffer};
+ghost use Rattle.boogie_grammar.specs.Grammar.{local_names};
+ghost use Rattle.boogie_tree.specs.Whole.{proc_of, program_of};
+ghost use Rattle.vb_tool.specs.Alone.{FitsTask, IsAlone, IsDone, IsMade, IsMadeAlone, IsPassed, first_of};
 ghost use Rattle.vb_tool.specs.Parts.{ReplayOf};
+ghost use Rattle.vb_tool.specs.declared.alone.Task.TheVariants as task;
 
+use crate::begun::{Begun, begun_of};
+use crate::bodies::{body, passed, run_body};
 use crate::outcome::Ending;
-use crate::procedures::is_named;
 use crate::replay_outcome::told;
-use boogie_grammar::after_prelude;
 use boogie_grammar::scopes::Names;
-use boogie_run::{check_types, replay};
-use boogie_text::{Next, next_procedure, pushed};
-use boogie_tree::{BProgram, Proc};
+use boogie_grammar::{BToken, after_prelude};
+use boogie_run::BOutcome;
+use boogie_text::{Outside, next_outside, pushed};
+use boogie_tree::BProgram;
 use run_file::{boogie_run_name, read_boogie_run};
 use std::alloc::Global;
-use vb_base::Memory;
+use vb_base::{Ident, Memory};
 
 /// The outcome of the procedure that a run file names, of the program of a file, on the run of the run file, where both
-/// files are accepted. The text is read procedure by procedure, and no other is kept.
+/// files are accepted. Each statement is run as it is read, and none is kept.
 pub fn replayed_alone(
     alloc: Global,
     bytes: &[u8],
@@ -36,60 +39,167 @@ pub fn replayed_alone(
     let Ok(rest) = after_prelude(bytes) else {
         return Ok(None);
     };
-    let Some(program) = alone(alloc, rest, &name.bytes)? else {
-        return Ok(None);
-    };
-    let Ok(run) = read_boogie_run(alloc, run_bytes, &program.procs[0]) else {
-        return Ok(None);
-    };
-    let outcome = replay(alloc, &program, 0, &run)?;
-    Ok(Some(told(alloc, outcome)?))
+    match made_alone(alloc, rest, &name.bytes, Task::Run(run_bytes))? {
+        Some(Made::Outcome(outcome)) => Ok(Some(told(alloc, outcome)?)),
+        _ => Ok(None),
+    }
 }
 
 /// The procedure of this name as a program of its own, where a text behind the prelude is a well-typed program.
 pub(crate) fn alone(alloc: Global, text: &[u8], name: &[u8]) -> Result<Option<BProgram>, Memory>
     ensures { IfOk result (λ o. IfSome o (λ b. IsAlone text.now name.now (program_of b))) }
 {
+    match made_alone(alloc, text, name, Task::Keep)? {
+        Some(Made::Program(program)) => Ok(Some(program)),
+        _ => Ok(None),
+    }
+}
+
+/// What is to be made of a procedure.
+#[derive(Clone, Copy)]
+enum Task<'a> {
+    /// A program of its own.
+    Keep,
+    /// The outcome of a run, which the bytes of a run file spell.
+    Run(&'a [u8]),
+}
+
+/// What was made of a procedure.
+#[derive(Drop)]
+enum Made {
+    Program(BProgram),
+    Outcome(BOutcome),
+}
+
+/// What is made of the procedure of this name, where a text behind the prelude is a well-typed program.
+fn made_alone(
+    alloc: Global,
+    text: &[u8],
+    name: &[u8],
+    task: Task<'_>,
+) -> Result<Option<Made>, Memory>
+    requires { FitsTask task }
+    ensures { IfOk result (λ o. IfSome o (IsMadeAlone text.now name.now task.entry)) }
+{
     let mut names = Names::new(alloc);
+    let mut tokens = Vec::new(alloc);
     let mut kept = None;
     let mut rest = text;
     loop {
-        match next_procedure(alloc, &names, rest)? {
-            Next::End => return Ok(kept),
-            Next::Unread => return Ok(None),
-            Next::Procedure(proc, after) => {
-                names.add(proc.name.copy(alloc)?)?;
-                let wanted = is_named(&proc, name);
-                let Some(program) = typed_alone(alloc, proc)? else {
+        match next_outside(alloc, &names, rest, &mut tokens)? {
+            Outside::End => return Ok(kept),
+            Outside::Unread => return Ok(None),
+            Outside::Procedure(found, inside) => {
+                names.add(found.copy(alloc)?)?;
+                let wanted = is_this(&found, name);
+                let Some((made, after)) = made_of(alloc, task, wanted, found, inside, &mut tokens)?
+                else {
                     return Ok(None);
                 };
-                kept = kept_with(kept, wanted, program);
+                kept = first_of(kept, made);
                 rest = after;
             }
         }
     }
 }
 
-/// A procedure as a program of its own, if it is well-typed.
-fn typed_alone(alloc: Global, proc: Proc) -> Result<Option<BProgram>, Memory>
-    ensures program { IfOk result (λ o. IfSome o (λ b. program_of b ≡ record { procs = proc_of proc ∷ [] })) }
-    ensures is_typed { IfOk result (λ o. IfSome o (λ b. IsTypedProc (proc_of proc))) }
+/// Whether a name is this one.
+fn is_this(found: &Ident, name: &[u8]) -> bool
+    ensures { result ≡ bytes_eq found.now name.now }
 {
-    let procs = pushed(Vec::new(alloc), proc)?;
-    let program = BProgram { procs };
-    match check_types(&program) {
-        Ok(()) => Ok(Some(program)),
-        Err(_) => Ok(None),
-    }
+    found.bytes.as_slice() == name
 }
 
-/// What is kept, if it is so far, or else this program, if it is wanted.
-fn kept_with(kept: Option<BProgram>, wanted: bool, program: BProgram) -> Option<BProgram>
-    ensures { option_map program_of result ≡ kept_with (option_map program_of kept) wanted (program_of program) }
+/// The first of two that is there.
+fn first_of(kept: Option<Made>, made: Option<Made>) -> Option<Made>
+    ensures { result ≡ first_of kept made }
 {
     match kept {
         Some(first) => Some(first),
-        None if wanted => Some(program),
-        None => None,
+        None => made,
+    }
+}
+
+/// What is made of a procedure whose head has this name, if it is wanted, and the text behind it, if it is one and well-typed.
+fn made_of<'a>(
+    alloc: Global,
+    task: Task<'_>,
+    wanted: bool,
+    name: Ident,
+    text: &'a [u8],
+    tokens: &mut Vec<BToken>,
+) -> Result<Option<(Option<Made>, &'a [u8])>, Memory>
+    requires { FitsTask task }
+    ensures { IfOk result (λ o. IfSome o (λ r. IsPassed (IsMade task.entry) wanted name text.now r.0 r.1.now)) }
+{
+    let Some(begun) = begun_of(alloc, name, text, tokens)? else {
+        return Ok(None);
+    };
+    if !wanted {
+        let Some(rest) = passed(alloc, &begun, tokens)? else {
+            return Ok(None);
+        };
+        return Ok(Some((None, rest)));
+    }
+    let Some((made, rest)) = made_by(alloc, task, begun, tokens)? else {
+        return Ok(None);
+    };
+    Ok(Some((Some(made), rest)))
+}
+
+/// What is made of the procedure that is begun, and the text behind it, if its statements are well-typed.
+fn made_by<'a>(
+    alloc: Global,
+    task: Task<'_>,
+    begun: Begun<'a>,
+    tokens: &mut Vec<BToken>,
+) -> Result<Option<(Made, &'a [u8])>, Memory>
+    requires fits { FitsTask task }
+    requires named { local_names (proc_of begun.proc).locals ≡ begun.names }
+    requires differ { NamesDiffer begun.names }
+    ensures { IfOk result (λ o. IfSome o (λ r. IsDone (IsMade task.entry) (proc_of begun.entry.proc) begun.entry.rest.now r.0 r.1.now)) }
+{
+    match task {
+        Task::Keep => kept(alloc, begun, tokens),
+        Task::Run(run_bytes) => ended(alloc, &begun, run_bytes, tokens),
+    }
+}
+
+/// The procedure that is begun as a program of its own, and the text behind it, if its statements are well-typed.
+fn kept<'a>(
+    alloc: Global,
+    begun: Begun<'a>,
+    tokens: &mut Vec<BToken>,
+) -> Result<Option<(Made, &'a [u8])>, Memory>
+    requires { local_names (proc_of begun.proc).locals ≡ begun.names }
+    ensures { IfOk result (λ o. IfSome o (λ r. IsDone (IsMade task.Keep) (proc_of begun.entry.proc) begun.entry.rest.now r.0 r.1.now)) }
+{
+    let Some((body, rest)) = body(alloc, &begun, tokens)? else {
+        return Ok(None);
+    };
+    let mut proc = begun.proc;
+    proc.body = body;
+    let procs = pushed(Vec::new(alloc), proc)?;
+    Ok(Some((Made::Program(BProgram { procs }), rest)))
+}
+
+/// How the procedure that is begun ends on the run of a run file, and the text behind it, if its statements are well-typed.
+fn ended<'a>(
+    alloc: Global,
+    begun: &Begun<'a>,
+    run_bytes: &[u8],
+    tokens: &mut Vec<BToken>,
+) -> Result<Option<(Made, &'a [u8])>, Memory>
+    requires few { length run_bytes.now ≤ max_boogie_bytes }
+    requires named { local_names (proc_of begun.now.proc).locals ≡ begun.now.names }
+    requires differ { NamesDiffer begun.now.names }
+    ensures { IfOk result (λ o. IfSome o (λ r. IsDone (IsMade (task.Run run_bytes.entry)) (proc_of begun.now.proc) begun.now.rest.now r.0 r.1.now)) }
+{
+    let Ok(run) = read_boogie_run(alloc, run_bytes, &begun.proc) else {
+        return Ok(None);
+    };
+    match run_body(alloc, begun, &run, tokens)? {
+        Some((outcome, rest)) => Ok(Some((Made::Outcome(outcome), rest))),
+        None => Ok(None),
     }
 }

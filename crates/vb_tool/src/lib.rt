@@ -4,6 +4,8 @@
 #![tactic(auto)]
 
 mod alone;
+mod begun;
+mod bodies;
 mod budget;
 mod command;
 mod conditions;

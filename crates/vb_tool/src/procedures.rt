@@ -55,7 +55,7 @@ pub(crate) fn is_named(proc: &Proc, name: &[u8]) -> bool
 
 /// The outcome of the procedure that a run file names, of the program of a file, on the run of the run file.
 ///
-/// Only that procedure is held, where all is accepted. Where it is not, the whole program is read for the reason.
+/// Where all is accepted, one statement at a time is held. Where it is not, the whole program is read for the reason.
 pub fn replayed(alloc: Global, bytes: &[u8], run_bytes: &[u8]) -> Result<Ending, Trouble>
     requires bytes_within { length bytes.now ≤ max_boogie_bytes }
     requires run_within { length run_bytes.now ≤ max_boogie_bytes }
