@@ -15,7 +15,7 @@ use vb_base::{Ident, Memory};
 fn is_a(name: &Ident) -> bool
     ensures { result ≡ is_a name.now }
 {
-    match name.bytes.first() {
+    match name.bytes().first() {
         Some(byte) => *byte == b'a',
         None => false,
     }
@@ -32,13 +32,13 @@ struct Taken<'a> {
 }
 
 /// Notes the name where it begins with an `a`. What is given back is how many were noted.
-fn note(alloc: Global, name: &Ident, names: &mut IndexSet<Ident>) -> Result<usize, Memory>
+fn note(name: &Ident, names: &mut IndexSet<Ident>) -> Result<usize, Memory>
     ensures { IfOk result (λ n. IsNoted name.now names.old.keys names.new.keys n) }
 {
     if !is_a(name) {
         return Ok(0);
     }
-    names.insert(name.copy(alloc)?)?;
+    names.insert(name.copy()?)?;
     Ok(1)
 }
 
@@ -50,7 +50,7 @@ impl<'a> Taken<'a> {
         let mut names = IndexSet::new(alloc);
         let mut many = 0;
         for local in locals {
-            let new = note(alloc, &local.name, &mut names)?;
+            let new = note(&local.name, &mut names)?;
             many = behind(many, new)?;
         }
         Ok(Taken {
@@ -78,9 +78,7 @@ fn numbered(alloc: Global, number: usize) -> Result<Ident, Memory>
     ensures { IfOk result (λ name. name ≡ numbered number) }
 {
     let digits = format!(in alloc; "{number}")?;
-    let mut bytes = b"a".to_vec(alloc)?;
-    bytes.extend_from_slice(digits.as_bytes())?;
-    Ok(Ident { bytes })
+    Ident::joined(alloc, b"a", digits.as_bytes())
 }
 
 /// Whether the name of this number is taken.
@@ -127,7 +125,7 @@ fn add_fresh(
 fn copy_local(alloc: Global, local: &Local) -> Result<Local, Memory>
     ensures { IfOk result (λ l. local_of l ≡ local_of local.now) }
 {
-    let name = local.name.copy(alloc)?;
+    let name = local.name.copy()?;
     let keys = bases(alloc, &local.ty.keys)?;
     let base = local.ty.base;
     Ok(Local {

@@ -47,7 +47,7 @@ fn cut_proc(alloc: Global, procs: &Procs<'_>, proc: &WProc, body: &[WStmt]) -> R
     let mut types = Vec::new(alloc);
     let body = cut_body(alloc, procs, proc, body, &mut types)?;
     let locals = with_fresh(alloc, &proc.locals, types)?;
-    let name = proc.name.copy(alloc)?;
+    let name = proc.name.copy()?;
     Ok(Proc { name, locals, body })
 }
 

@@ -13,7 +13,7 @@ ghost use Rattle.boogie_grammar.specs.Words.{word_text, operator_tok};
 use crate::{BSign, BTok, BToken, Word};
 use boogie_tree::{BBase, BOp, is_key};
 use grammar::Stop;
-use vb_base::{Ident, Label};
+use vb_base::{Ident, Label, same_bytes};
 
 /// What was read, and the tokens that are left.
 pub type Read<'a, T> = grammar::Read<'a, BToken, T>;
@@ -81,21 +81,6 @@ pub(crate) fn word_text(word: Word) -> &'static [u8]
     }
 }
 
-/// Whether bytes are the same. They are few, so that a loop over them beats a comparison of slices.
-pub(crate) fn same_bytes(a: &[u8], b: &[u8]) -> bool
-    ensures { IsTrue result ↔ (a.now ≡ b.now) }
-{
-    if a.len() != b.len() {
-        return false;
-    }
-    for (byte, other) in a.iter().zip(b) {
-        if byte != other {
-            return false;
-        }
-    }
-    true
-}
-
 /// The tokens after this word, if it is next.
 pub fn eat_word(wanted: Word, tokens: &[BToken]) -> Option<&[BToken]>
     ensures shorter { IfSome result (λ r. length r.now < length tokens.now) }
@@ -103,7 +88,7 @@ pub fn eat_word(wanted: Word, tokens: &[BToken]) -> Option<&[BToken]>
 {
     let (first, rest) = tokens.split_first()?;
     match &first.tok {
-        BTok::Name(name) if same_bytes(&name.bytes, word_text(wanted)) => Some(rest),
+        BTok::Name(name) if same_bytes(name.bytes(), word_text(wanted)) => Some(rest),
         _ => None,
     }
 }
@@ -119,13 +104,6 @@ pub fn word<'a>(wanted: Word, tokens: &'a [BToken]) -> Read<'a, ()>
     }
 }
 
-/// What a number is.
-fn value_of(number: &i128) -> i128
-    ensures { result ≡ number.now }
-{
-    *number
-}
-
 /// The next number, if one is next, and the tokens after it.
 pub fn eat_number(tokens: &[BToken]) -> Option<(i128, &[BToken])>
     ensures shorter { IfSome result (λ p. length p.1.now < length tokens.now) }
@@ -133,7 +111,7 @@ pub fn eat_number(tokens: &[BToken]) -> Option<(i128, &[BToken])>
 {
     let (first, rest) = tokens.split_first()?;
     match &first.tok {
-        BTok::Number(value) => Some((value_of(value), rest)),
+        BTok::Number(value) => Some((value.value(), rest)),
         _ => None,
     }
 }
@@ -145,7 +123,7 @@ pub fn eat_real(tokens: &[BToken]) -> Option<(i128, &[BToken])>
 {
     let (first, rest) = tokens.split_first()?;
     match &first.tok {
-        BTok::Real(value) => Some((value_of(value), rest)),
+        BTok::Real(value) => Some((value.value(), rest)),
         _ => None,
     }
 }
@@ -220,7 +198,7 @@ fn eat_base(tokens: &[BToken]) -> Option<(BBase, &[BToken])>
     let (first, rest) = tokens.split_first()?;
     match &first.tok {
         BTok::Name(name) => {
-            let base = base_of(&name.bytes)?;
+            let base = base_of(name.bytes())?;
             Some((base, rest))
         }
         _ => None,
@@ -292,7 +270,7 @@ fn operator_of(tok: &BTok) -> Option<BOp>
 {
     match tok {
         BTok::Sign(sign) => sign_operator(*sign),
-        BTok::Name(name) => word_operator(&name.bytes),
+        BTok::Name(name) => word_operator(name.bytes()),
         _ => None,
     }
 }
@@ -322,10 +300,10 @@ pub fn eat_this<'a>(name: &Ident, tokens: &'a [BToken]) -> Option<&'a [BToken]>
     ensures shorter { IfSome result (λ r. length r.now < length tokens.now) }
     ensures eats { MatchOption result (IsNot (the_name name.now) tokens.now) (λ r. Starts (the_name name.now) tokens.now tt r.now) }
 {
-    let wanted: &[u8] = &name.bytes;
+    let wanted: &[u8] = name.bytes();
     let (first, rest) = tokens.split_first()?;
     match &first.tok {
-        BTok::Name(other) if same_bytes(&other.bytes, wanted) => Some(rest),
+        BTok::Name(other) if same_bytes(other.bytes(), wanted) => Some(rest),
         _ => None,
     }
 }

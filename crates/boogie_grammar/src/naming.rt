@@ -29,7 +29,7 @@ pub fn taken_names(alloc: Global, locals: &[Local]) -> Result<Vec<Ident>, Memory
     let mut names = Vec::new(alloc);
     for local in locals {
         if begins_with_q(&local.name) {
-            names.push(local.name.copy(alloc)?)?;
+            names.push(local.name.copy()?)?;
         }
     }
     Ok(names)
@@ -38,7 +38,7 @@ pub fn taken_names(alloc: Global, locals: &[Local]) -> Result<Vec<Ident>, Memory
 fn begins_with_q(name: &Ident) -> bool
     ensures { result ≡ text.is_q name.now }
 {
-    match name.bytes.first() {
+    match name.bytes().first() {
         Some(byte) => *byte == b'q',
         None => false,
     }
@@ -74,8 +74,8 @@ fn free_name(alloc: Global, taken: &[Ident], chosen: &[Ident]) -> Result<Ident, 
 fn bound_name(alloc: Global, n: usize) -> Result<Ident, Memory>
     ensures { IfOk result (λ name. name ≡ text.bound_name n) }
 {
-    let bytes = format!(in alloc; "q{n}")?.into_bytes();
-    Ok(Ident { bytes })
+    let digits = format!(in alloc; "{n}")?;
+    Ident::joined(alloc, b"q", digits.as_bytes())
 }
 
 /// Whether a name is among either of these.
@@ -88,5 +88,5 @@ fn is_either(name: &Ident, taken: &[Ident], chosen: &[Ident]) -> bool
 fn is_among(name: &Ident, names: &[Ident]) -> bool
     ensures { result ≡ is_among name.now names.now }
 {
-    names.iter().any(|other| name.bytes == other.bytes)
+    names.iter().any(|other| name == other)
 }

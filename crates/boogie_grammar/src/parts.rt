@@ -4,12 +4,12 @@ ghost use Rattle.vb_base.specs.Limits.{max_unclosed_brackets};
 ghost use Rattle.boogie_grammar.specs.Parts.{IsNextPart};
 
 use crate::depth::unclosed_with;
-use crate::eating::{same_bytes, word_text};
-use crate::pieces::piece;
+use crate::eating::word_text;
+use crate::pieces::{is_blank, piece};
 use crate::{BSign, BTok, BToken, Word};
 use std::alloc::Global;
 use vb_base::limits::MAX_UNCLOSED_BRACKETS;
-use vb_base::{Memory, Pos};
+use vb_base::{Memory, Pos, same_bytes};
 
 /// What a text goes on with.
 #[derive(Clone, Copy)]
@@ -40,6 +40,11 @@ pub fn next_part<'a>(
     let mut last = Last::Itself;
     let mut rest = text;
     while !rest.is_empty() {
+        if is_blank(rest[0]) {
+            let (_, behind) = rest.split_at(1);
+            rest = behind;
+            continue;
+        }
         let Some((found, len)) = piece(alloc, rest)? else {
             return Ok(Part::Unread);
         };
@@ -93,7 +98,7 @@ enum Last {
 fn may_begin(first: Option<Word>, tok: &BTok) -> bool {
     match (first, tok) {
         (None, _) => true,
-        (Some(word), BTok::Name(name)) => same_bytes(&name.bytes, word_text(word)),
+        (Some(word), BTok::Name(name)) => same_bytes(name.bytes(), word_text(word)),
         _ => false,
     }
 }
@@ -102,8 +107,8 @@ fn may_begin(first: Option<Word>, tok: &BTok) -> bool {
 fn last_behind(first: &BTok) -> Last {
     match first {
         BTok::Sign(BSign::CloseBrace) => Last::Itself,
-        BTok::Name(name) if same_bytes(&name.bytes, b"procedure") => Last::OpenBrace,
-        BTok::Name(name) if same_bytes(&name.bytes, b"if") => Last::CloseBrace,
+        BTok::Name(name) if same_bytes(name.bytes(), b"procedure") => Last::OpenBrace,
+        BTok::Name(name) if same_bytes(name.bytes(), b"if") => Last::CloseBrace,
         _ => Last::Semicolon,
     }
 }
@@ -132,7 +137,7 @@ fn begins_with_else(alloc: Global, text: &[u8]) -> Result<bool, Memory> {
     let mut rest = text;
     while let Some((found, len)) = piece(alloc, rest)? {
         if let Some(tok) = found {
-            return Ok(matches!(tok, BTok::Name(name) if same_bytes(&name.bytes, b"else")));
+            return Ok(matches!(tok, BTok::Name(name) if same_bytes(name.bytes(), b"else")));
         }
         let (_, after) = rest.split_at(len);
         rest = after;

@@ -12,7 +12,7 @@ ghost use Rattle.boogie_grammar.specs.Step.{IsPiece, NoPiece, literal_of};
 use crate::BTok;
 use crate::signs::{sign_at, sign_text};
 use std::alloc::Global;
-use vb_base::{Ident, Memory, read_label};
+use vb_base::{Ident, Literal, Memory, read_label};
 
 /// A token, or none for a blank or a comment, and how many bytes it has.
 pub type Found = (Option<BTok>, usize);
@@ -44,8 +44,8 @@ fn name(alloc: Global, text: &[u8]) -> Result<Found, Memory>
     ensures { IfOk result (λ p. Piece Letter text.now p.0 p.1) }
 {
     let len = name_len(text);
-    let bytes = Vec::from_slice(alloc, &text[..len])?;
-    Ok((Some(BTok::Name(Ident { bytes })), len))
+    let name = Ident::new(alloc, &text[..len])?;
+    Ok((Some(BTok::Name(name)), len))
 }
 
 /// The number or real literal with which a text begins.
@@ -64,9 +64,9 @@ fn literal(value: i128, len: usize, rest: &[u8]) -> Found
     ensures len { result.1 ≡ literal_length (is_point_zero rest.now) len }
 {
     if rest.starts_with(b".0") {
-        (Some(BTok::Real(value)), len + 2)
+        (Some(BTok::Real(Literal::new(value))), len + 2)
     } else {
-        (Some(BTok::Number(value)), len)
+        (Some(BTok::Number(Literal::new(value))), len)
     }
 }
 
@@ -123,7 +123,7 @@ fn unquoted_len(text: &[u8]) -> usize
 }
 
 /// Whether a byte is a blank.
-fn is_blank(byte: u8) -> bool
+pub(crate) fn is_blank(byte: u8) -> bool
     ensures { result ≡ is_blank byte }
 {
     byte == b' ' || byte == b'\n' || byte == b'\r' || byte == b'\t'

@@ -6,11 +6,10 @@ ghost use Rattle.std.specs.Str.{bytes_eq};
 ghost use Rattle.boogie_grammar.specs.Tests.{number_of, some_free};
 ghost use Rattle.boogie_grammar.specs.Words.{is_among, is_reserved};
 
-use crate::eating::same_bytes;
 use indexmap::IndexSet;
 use std::alloc::Global;
 use std::marker::Model;
-use vb_base::{Ident, Memory};
+use vb_base::{Ident, Memory, same_bytes};
 
 /// Whether a name is reserved. Each that is has letters alone, which is tried first: most names of a translation have a `$`.
 pub fn is_reserved(name: &[u8]) -> bool
@@ -58,7 +57,7 @@ fn is_word_among(words: &[&[u8]], name: &[u8]) -> bool
 fn is_some_free(names: &[Ident]) -> bool
     ensures { result ≡ some_free names.now }
 {
-    names.iter().any(|name| !is_reserved(&name.bytes))
+    names.iter().any(|name| !is_reserved(name.bytes()))
 }
 
 /// Names that differ, each with its number. Contracts see the list of them.
@@ -137,7 +136,7 @@ pub fn variable(names: &Names, name: &Ident) -> Option<usize>
     ensures { MatchOption result ((i : ℕ) → is_reserved name.now ≡ false → number_of name.now names.now ≡ Some i → ⊥)
         (λ i. (is_reserved name.now ≡ false) × (number_of name.now names.now ≡ Some i)) }
 {
-    if is_reserved(&name.bytes) {
+    if is_reserved(name.bytes()) {
         return None;
     }
     names.number_of(name)

@@ -1,5 +1,5 @@
 // The tokens of Boogie after the prelude.
-use vb_base::{Ident, Label, Pos};
+use vb_base::{Ident, Label, Literal, Pos};
 
 /// A sign.
 #[derive(Clone, Copy, PartialEq, Eq)]
@@ -79,9 +79,9 @@ pub enum Word {
 pub enum BTok {
     /// A name or a word.
     Name(Ident),
-    Number(i128),
+    Number(Literal),
     /// A real literal: the digits before its `.0`.
-    Real(i128),
+    Real(Literal),
     /// The text of a label between quotes.
     Text(Label),
     Sign(BSign),

@@ -60,7 +60,7 @@ pub(crate) fn binders<'a>(
     let mut types = Vec::new(alloc);
     let mut rest = tokens;
     loop {
-        let (name, after) = bound_name(alloc, scope, bound, rest)?;
+        let (name, after) = bound_name(scope, bound, rest)?;
         let (_, after) = sign(BSign::Colon, after)?;
         let (ty, after) = key(after)?;
         bound.add(name)?;

@@ -86,7 +86,7 @@ fn declaration<'a>(alloc: Global, names: &Names, tokens: &'a [BToken]) -> Read<'
     ensures new { IfOk result (λ r. is_among r.0.name names.now ≡ false) }
     ensures reads { Parses one_local (declaring names.now) tokens.now result }
 {
-    let (name, rest) = new_name(alloc, names, tokens)?;
+    let (name, rest) = new_name(names, tokens)?;
     let (_, rest) = sign(BSign::Colon, rest)?;
     let (ty, rest) = type_of(alloc, rest)?;
     let (_, rest) = sign(BSign::Semicolon, rest)?;

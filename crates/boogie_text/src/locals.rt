@@ -28,11 +28,11 @@ pub(crate) fn locals<'a>(
     let mut all = Vec::new(alloc);
     let mut rest = tokens;
     while let Some(after) = eat_word(Word::Var, rest) {
-        let (name, after) = new_name(alloc, names, after)?;
+        let (name, after) = new_name(names, after)?;
         let (_, after) = sign(BSign::Colon, after)?;
         let (ty, after) = type_of(alloc, after)?;
         let (_, after) = sign(BSign::Semicolon, after)?;
-        names.add(name.copy(alloc)?)?;
+        names.add(name.copy()?)?;
         all = pushed(all, Local { name, ty })?;
         rest = after;
     }

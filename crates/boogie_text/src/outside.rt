@@ -34,7 +34,7 @@ pub fn next_outside<'a>(
 {
     match next_part(alloc, 0, None, text, tokens)? {
         Part::End => Ok(Outside::End),
-        Part::Tokens(rest, 1) => match whole_head(alloc, taken, tokens)? {
+        Part::Tokens(rest, 1) => match whole_head(taken, tokens)? {
             Some(name) => Ok(Outside::Procedure(name, rest)),
             None => Ok(Outside::Unread),
         },
@@ -43,13 +43,13 @@ pub fn next_outside<'a>(
 }
 
 /// The name in the head of a procedure that all of these tokens spell, if they spell one.
-fn whole_head(alloc: Global, taken: &Names, tokens: &[BToken]) -> Result<Option<Ident>, Memory>
+fn whole_head(taken: &Names, tokens: &[BToken]) -> Result<Option<Ident>, Memory>
     ensures { IfOk result (λ o. IfSome o (λ name. SpellsHead taken.now tokens.now name)) }
 {
     let Some(after) = eat_word(Word::Procedure, tokens) else {
         return Ok(None);
     };
-    match head(alloc, taken, after) {
+    match head(taken, after) {
         Ok((name, rest)) if rest.is_empty() => Ok(Some(name)),
         Err(Stop::Memory) => Err(Memory),
         _ => Ok(None),
@@ -57,11 +57,11 @@ fn whole_head(alloc: Global, taken: &Names, tokens: &[BToken]) -> Result<Option<
 }
 
 /// `name "(" ")" "{"` after `procedure`, where the name is none of these.
-fn head<'a>(alloc: Global, taken: &Names, tokens: &'a [BToken]) -> Read<'a, Ident>
+fn head<'a>(taken: &Names, tokens: &'a [BToken]) -> Read<'a, Ident>
     ensures new { IfOk result (λ r. is_among r.0 taken.now ≡ false) }
     ensures reads { Parses (λ x. x) (heading taken.now) tokens.now result }
 {
-    let (name, rest) = new_name(alloc, taken, tokens)?;
+    let (name, rest) = new_name(taken, tokens)?;
     let (_, rest) = sign(BSign::OpenParen, rest)?;
     let (_, rest) = sign(BSign::CloseParen, rest)?;
     let (_, rest) = sign(BSign::OpenBrace, rest)?;

@@ -73,7 +73,7 @@ impl<'a> Names<'a> {
 pub fn put_head(out: &mut Vec<u8>, name: &Ident, locals: &[Local]) -> Result<(), Memory>
     ensures { OnOk result (out.new.items ≡ out.old.items ++ head_text name.now (locals_of locals.now)) }
 {
-    put_header(out, &name.bytes)?;
+    put_header(out, name.bytes())?;
     put_locals(out, locals)
 }
 

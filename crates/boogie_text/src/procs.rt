@@ -22,7 +22,7 @@ pub(crate) fn procedure<'a>(alloc: Global, taken: &Names, tokens: &'a [BToken]) 
     ensures new { IfOk result (λ r. is_among r.0.name taken.now ≡ false) }
     ensures reads { Parses proc_of (g.rule (g.Procedure taken.now)) tokens.now result }
 {
-    let (name, rest) = new_name(alloc, taken, tokens)?;
+    let (name, rest) = new_name(taken, tokens)?;
     let (_, rest) = sign(BSign::OpenParen, rest)?;
     let (_, rest) = sign(BSign::CloseParen, rest)?;
     let (_, rest) = sign(BSign::OpenBrace, rest)?;
@@ -48,7 +48,7 @@ pub(crate) fn procedures<'a>(alloc: Global, tokens: &'a [BToken]) -> Read<'a, Ve
     let mut rest = tokens;
     while let Some(after) = eat_word(Word::Procedure, rest) {
         let (next, after) = procedure(alloc, &names, after)?;
-        names.add(next.name.copy(alloc)?)?;
+        names.add(next.name.copy()?)?;
         all = pushed(all, next)?;
         rest = after;
     }

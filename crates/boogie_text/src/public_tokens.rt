@@ -15,7 +15,7 @@ use boogie_grammar::signs::sign_text;
 use boogie_grammar::{BoogieFault, after_prelude, cut, first_too_deep};
 use boogie_tree::PRELUDE;
 use std::alloc::Global;
-use vb_base::{Ident, Label, Memory, Pos};
+use vb_base::{Ident, Label, Literal, Memory, Pos};
 
 /// What a token is, for those who read expressions by themselves.
 #[derive(Drop)]
@@ -96,14 +96,11 @@ fn shown(alloc: Global, tok: &boogie_grammar::BTok) -> Result<BTok, Memory>
     ensures { IfOk result (λ t. t ≡ shown tok.now) }
 {
     match tok {
-        boogie_grammar::BTok::Name(name) => Ok(BTok::Name(name.copy(alloc)?)),
-        boogie_grammar::BTok::Number(n) => Ok(BTok::Number(*n)),
-        boogie_grammar::BTok::Real(n) => Ok(BTok::RealNumber(*n)),
+        boogie_grammar::BTok::Name(name) => Ok(BTok::Name(name.copy()?)),
+        boogie_grammar::BTok::Number(n) => Ok(BTok::Number(n.value())),
+        boogie_grammar::BTok::Real(n) => Ok(BTok::RealNumber(n.value())),
         boogie_grammar::BTok::Text(label) => Ok(BTok::Text(*label)),
-        boogie_grammar::BTok::Sign(sign) => {
-            let bytes = Vec::from_slice(alloc, sign_text(*sign))?;
-            Ok(BTok::Sign(Ident { bytes }))
-        }
+        boogie_grammar::BTok::Sign(sign) => { Ok(BTok::Sign(Ident::new(alloc, sign_text(*sign))?)) }
     }
 }
 
@@ -113,7 +110,7 @@ pub(crate) fn front(alloc: Global, tokens: &[BToken]) -> Result<Vec<boogie_gramm
 {
     let mut all = Vec::new(alloc);
     for token in tokens {
-        let Some(tok) = stands_for(alloc, &token.tok)? else {
+        let Some(tok) = stands_for(&token.tok)? else {
             return Ok(all);
         };
         let pos = token.pos;
@@ -123,23 +120,23 @@ pub(crate) fn front(alloc: Global, tokens: &[BToken]) -> Result<Vec<boogie_gramm
 }
 
 /// What a token stands for in the grammar, if it stands for a token of it.
-fn stands_for(alloc: Global, tok: &BTok) -> Result<Option<boogie_grammar::BTok>, Memory>
+fn stands_for(tok: &BTok) -> Result<Option<boogie_grammar::BTok>, Memory>
     ensures { IfOk result (λ o. o ≡ stands_for tok.now) }
 {
     match tok {
         BTok::Name(name) => {
-            if !is_name(&name.bytes) {
+            if !is_name(name.bytes()) {
                 return Ok(None);
             }
-            let name = name.copy(alloc)?;
+            let name = name.copy()?;
             Ok(Some(boogie_grammar::BTok::Name(name)))
         }
         BTok::Number(n) if *n < 0 => Ok(None),
-        BTok::Number(n) => Ok(Some(boogie_grammar::BTok::Number(*n))),
+        BTok::Number(n) => Ok(Some(boogie_grammar::BTok::Number(Literal::new(*n)))),
         BTok::RealNumber(n) if *n < 0 => Ok(None),
-        BTok::RealNumber(n) => Ok(Some(boogie_grammar::BTok::Real(*n))),
+        BTok::RealNumber(n) => Ok(Some(boogie_grammar::BTok::Real(Literal::new(*n)))),
         BTok::Text(label) => Ok(Some(boogie_grammar::BTok::Text(*label))),
-        BTok::Sign(sign) => match sign_of(&sign.bytes) {
+        BTok::Sign(sign) => match sign_of(sign.bytes()) {
             Some(sign) => Ok(Some(boogie_grammar::BTok::Sign(sign))),
             None => Ok(None),
         },

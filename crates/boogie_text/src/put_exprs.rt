@@ -165,7 +165,7 @@ pub(crate) fn put_name(out: &mut Vec<u8>, names: &Naming<'_>, i: usize) -> Resul
     ensures { OnOk result (out.new.items ≡ out.old.items ++ text.name_at (naming_of names.now).locals i) }
 {
     match names.locals.get(i) {
-        Some(local) => put(out, &local.name.bytes),
+        Some(local) => put(out, local.name.bytes()),
         None => put_temporary(out, names, i),
     }
 }

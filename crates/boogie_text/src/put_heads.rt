@@ -31,7 +31,7 @@ fn put_local(out: &mut Vec<u8>, local: &Local) -> Result<(), Memory>
     ensures { OnOk result (out.new.items ≡ out.old.items ++ codes "var " ++ local.now.name ++ codes ": " ++ text.type_text (b.type_of local.now.ty) ++ codes ";\n") }
 {
     put(out, b"var ")?;
-    put(out, &local.name.bytes)?;
+    put(out, local.name.bytes())?;
     put(out, b": ")?;
     put_type(out, &local.ty)?;
     put(out, b";\n")

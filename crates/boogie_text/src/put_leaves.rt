@@ -28,7 +28,7 @@ pub fn put_names(out: &mut Vec<u8>, names: &[Ident]) -> Result<(), Memory>
     let mut before: &[u8] = b"";
     for name in names {
         put(out, before)?;
-        put(out, &name.bytes)?;
+        put(out, name.bytes())?;
         before = b", ";
     }
     Ok(())
@@ -53,7 +53,7 @@ fn put_binder(out: &mut Vec<u8>, before: &[u8], name: &Ident, base: BBase) -> Re
     ensures { OnOk result (out.new.items ≡ out.old.items ++ before.now ++ name.now ++ codes ": " ++ text.base_text base) }
 {
     put(out, before)?;
-    put(out, &name.bytes)?;
+    put(out, name.bytes())?;
     put(out, b": ")?;
     put(out, base_text(base))
 }

@@ -99,9 +99,9 @@ fn found_before(
     ensures { IfOk result (λ r. Finds (scope_before (local_names (locals_of locals.now)) known) (map token_of tokens.now) (found_of r.0) r.1) }
 {
     let mut names = Names::new(alloc);
-    add_names(alloc, &mut names, &locals[..known])?;
+    add_names(&mut names, &locals[..known])?;
     let mut others = Names::new(alloc);
-    add_names(alloc, &mut others, &locals[known..])?;
+    add_names(&mut others, &locals[known..])?;
     let scope = Scope {
         locals: &names,
         others: &others,
@@ -111,13 +111,13 @@ fn found_before(
 }
 
 /// The names of these locals, which differ.
-fn add_names(alloc: Global, names: &mut Names, locals: &[Local]) -> Result<(), Memory>
+fn add_names(names: &mut Names, locals: &[Local]) -> Result<(), Memory>
     requires none { names.now ≡ [] }
     requires differ { NamesDiffer (local_names (locals_of locals.now)) }
     ensures { OnOk result (names.new ≡ local_names (locals_of locals.now)) }
 {
     for local in locals {
-        names.add(local.name.copy(alloc)?)?;
+        names.add(local.name.copy()?)?;
     }
     Ok(())
 }
@@ -188,7 +188,7 @@ fn extent(tokens: &[BToken]) -> usize
 /// Whether a token is one of these signs.
 fn is_one_of(token: &BToken, signs: &[&[u8]]) -> bool {
     match &token.tok {
-        BTok::Sign(sign) => signs.iter().any(|bytes| sign.bytes.as_slice() == *bytes),
+        BTok::Sign(sign) => signs.iter().any(|bytes| sign.bytes() == *bytes),
         _ => false,
     }
 }

@@ -14,6 +14,10 @@ use std::alloc::{AllocFailed, Global};
 pub fn pushed<T: Drop>(mut all: Vec<T>, item: T) -> Result<Vec<T>, AllocFailed<T>>
     ensures { IfOk result (λ v. v.items ≡ all.items ++ (item ∷ [])) }
 {
+    if all.is_empty() {
+        // Where memory is refused, the push says so.
+        let _refused = all.reserve_exact(1);
+    }
     all.push(item)?;
     Ok(all)
 }

@@ -52,7 +52,7 @@ fn places_of(alloc: Global, all: &[WProc]) -> Result<IndexMap<Ident, usize>, Mem
     let mut places = IndexMap::new(alloc);
     for later in 0..all.len() {
         let place = all.len() - 1 - later;
-        places.insert(all[place].name.copy(alloc)?, place)?;
+        places.insert(all[place].name.copy()?, place)?;
     }
     Ok(places)
 }
@@ -68,7 +68,7 @@ fn at_place<'a>(table: &IndexMap<Ident, usize>, all: &'a [WProc], name: &Ident) 
 fn is_named(proc: &WProc, name: &Ident) -> bool
     ensures { result ≡ bytes_eq (wproc_of proc.now).name name.now }
 {
-    proc.name.bytes.as_slice() == name.bytes.as_slice()
+    proc.name.bytes() == name.bytes()
 }
 
 fn searched<'a>(all: &'a [WProc], name: &Ident) -> Option<&'a WProc>

@@ -97,9 +97,5 @@ fn temporary_name(alloc: Global, number: usize) -> Result<Ident, Memory>
     ensures { IfOk result (λ name. name ≡ codes "t$" ++ decimal number) }
 {
     let mut buffer = Buffer::new();
-    let digits = buffer.format(number).as_bytes();
-    let mut bytes = Vec::with_capacity(alloc, digits.len() + 2)?;
-    bytes.extend_from_slice(b"t$")?;
-    bytes.extend_from_slice(digits)?;
-    Ok(Ident { bytes })
+    Ident::joined(alloc, b"t$", buffer.format(number).as_bytes())
 }

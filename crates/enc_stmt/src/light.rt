@@ -7,9 +7,7 @@ use vb_base::{Ident, Memory};
 
 /// A local without a name.
 fn light(alloc: Global) -> Local {
-    let name = Ident {
-        bytes: Vec::new(alloc),
-    };
+    let name = Ident::empty();
     let ty = BType {
         keys: Vec::new(alloc),
         base: BBase::Bool,

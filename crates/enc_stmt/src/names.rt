@@ -20,9 +20,7 @@ use viper_core::{Predicate, Program, Unit};
 fn fronted(alloc: Global, front: &[u8], name: &Ident) -> Result<Ident, Memory>
     ensures { IfOk result (λ whole. whole ≡ front.now ++ name.now) }
 {
-    let mut bytes = front.to_vec(alloc)?;
-    bytes.extend_from_slice(&name.bytes)?;
-    Ok(Ident { bytes })
+    Ident::joined(alloc, front, name.bytes())
 }
 
 fn add_each(
@@ -58,9 +56,7 @@ fn numbered(alloc: Global, number: usize) -> Result<Ident, Memory>
     ensures { IfOk result (λ name. name ≡ local.other_name number) }
 {
     let digits = format!(in alloc; "{number}")?;
-    let mut bytes = b"l$".to_vec(alloc)?;
-    bytes.extend_from_slice(digits.as_bytes())?;
-    Ok(Ident { bytes })
+    Ident::joined(alloc, b"l$", digits.as_bytes())
 }
 
 fn add_numbered(
@@ -137,8 +133,7 @@ fn add_old(alloc: Global, program: &Program, out: &mut Vec<Ident>) -> Result<(),
 fn add_zeros(alloc: Global, program: &Program, out: &mut Vec<Ident>) -> Result<(), Memory>
     ensures { OnOk result (out.new.items ≡ out.old.items ++ local.zero_names (program_of program.now)) }
 {
-    let bytes = b"z$".to_vec(alloc)?;
-    add(out, Ident { bytes })?;
+    add(out, Ident::new(alloc, b"z$")?)?;
     add_predicates(alloc, b"z$", &program.predicates, out)
 }
 
@@ -172,15 +167,11 @@ pub fn unit_name(alloc: Global, program: &Program, of: Unit) -> Result<Ident, Me
     match of {
         Unit::Method(n) => match method_at(program, n) {
             Some(method) => fronted(alloc, b"M$", &method.name),
-            None => Ok(Ident {
-                bytes: Vec::new(alloc),
-            }),
+            None => Ok(Ident::empty()),
         },
         Unit::Predicate(n) => match predicate_at(program, n) {
             Some(predicate) => fronted(alloc, b"P$", &predicate.name),
-            None => Ok(Ident {
-                bytes: Vec::new(alloc),
-            }),
+            None => Ok(Ident::empty()),
         },
     }
 }

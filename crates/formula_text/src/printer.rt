@@ -64,7 +64,7 @@ fn put_title(alloc: Global, out: &mut Vec<u8>, name: &Ident, label: &Label) -> R
     ensures { OnOk result (out.new.items ≡ out.old.items ++ codes "vc " ++ name.now ++ codes " " ++ text_of label.now ++ codes "\n") }
 {
     put(out, b"vc ")?;
-    put(out, &name.bytes)?;
+    put(out, name.bytes())?;
     put(out, b" ")?;
     put(out, &label_text(alloc, label)?)?;
     put(out, b"\n")

@@ -28,16 +28,9 @@ pub fn boogie_run_name(alloc: Global, bytes: &[u8]) -> Result<Ident, RunFileFaul
 {
     let (line, text) = first_said(bytes);
     match said_name(text) {
-        Some(name) => Ok(copied(alloc, name)?),
+        Some(name) => Ok(Ident::new(alloc, name)?),
         None => Err(RunFileFault::Syntax(Pos { line, col: 1 })),
     }
-}
-
-fn copied(alloc: Global, name: &[u8]) -> Result<Ident, Memory>
-    ensures { IfOk result (λ x. x ≡ name.now) }
-{
-    let bytes = Vec::from_slice(alloc, name)?;
-    Ok(Ident { bytes })
 }
 
 /// The number of the first line that is not skipped, and the line, or else the number of the last line.

@@ -49,7 +49,7 @@ pub(crate) fn put_beginning(
     ensures { OnOk result (out.new.items ≡ out.old.items ++ text.beginning_text (proc_of proc.now) (map setting_of settings.now)) }
 {
     put(out, b"boogie run ")?;
-    put(out, &proc.name.bytes)?;
+    put(out, proc.name.bytes())?;
     put(out, b"\n")?;
     put_variables(alloc, out, &proc.locals, settings)
 }
@@ -164,7 +164,7 @@ fn put_one(out: &mut Vec<u8>, name: &Ident, value: &BScalar) -> Result<(), Memor
         return Ok(());
     }
     put(out, b"var ")?;
-    put(out, &name.bytes)?;
+    put(out, name.bytes())?;
     put(out, b" ")?;
     put_scalar(out, value)?;
     put(out, b"\n")
@@ -177,7 +177,7 @@ fn put_map(out: &mut Vec<u8>, name: &Ident, filled: &Sparse<Key, BScalar>) -> Re
         return Ok(());
     }
     put(out, b"entries ")?;
-    put(out, &name.bytes)?;
+    put(out, name.bytes())?;
     put(out, b"\n")?;
     put_filled(out, filled)
 }

@@ -335,7 +335,7 @@ fn is_named(name: &Ident, word: Option<&[u8]>) -> bool
     ensures { result ≡ progress.is_named name.now (option_map (λ w. w.now) word.entry) }
 {
     match word {
-        Some(word) => *word == *name.bytes,
+        Some(word) => *word == *name.bytes(),
         None => false,
     }
 }

@@ -40,7 +40,7 @@ impl Names {
     {
         let mut known = IndexSet::new(alloc);
         for name in names {
-            known.insert(name.copy(alloc)?)?;
+            known.insert(name.copy()?)?;
         }
         Ok(Names { names: known })
     }
@@ -52,7 +52,7 @@ impl Names {
     {
         let mut known = IndexSet::new(alloc);
         for predicate in predicates {
-            known.insert(predicate.name.copy(alloc)?)?;
+            known.insert(predicate.name.copy()?)?;
         }
         Ok(Names { names: known })
     }
@@ -64,7 +64,7 @@ impl Names {
     {
         let mut known = IndexSet::new(alloc);
         for local in locals {
-            known.insert(local.name.copy(alloc)?)?;
+            known.insert(local.name.copy()?)?;
         }
         Ok(Names { names: known })
     }
@@ -73,9 +73,7 @@ impl Names {
     pub(crate) fn number_of(&self, alloc: Global, word: &[u8]) -> Result<Option<usize>, Memory>
         ensures { IfOk result (λ n. n ≡ number_of self.now word.now) }
     {
-        let name = Ident {
-            bytes: Vec::from_slice(alloc, word)?,
-        };
+        let name = Ident::new(alloc, word)?;
         Ok(self.names.get_index_of(&name))
     }
 }

@@ -65,7 +65,7 @@ fn put_variable(out: &mut Vec<u8>, name: Option<&Ident>, value: Value) -> Result
         return Ok(());
     }
     put(out, b"var ")?;
-    put(out, &name.bytes)?;
+    put(out, name.bytes())?;
     put(out, b" ")?;
     put_value(out, value)?;
     put(out, b"\n")
@@ -118,7 +118,7 @@ fn put_place(out: &mut Vec<u8>, name: &Ident, reference: u64, value: Value) -> R
     ensures { OnOk result (out.new.items ≡ out.old.items ++ text.place_text name.now reference value) }
 {
     put(out, b"heap ")?;
-    put(out, &name.bytes)?;
+    put(out, name.bytes())?;
     put(out, b" ")?;
     put_reference(out, reference)?;
     put(out, b" ")?;
@@ -172,7 +172,7 @@ fn put_instance(out: &mut Vec<u8>, name: &Ident, key: &Key, content: &Content) -
     ensures { OnOk result (out.new.items ≡ out.old.items ++ text.instance_text name.now key.now (content_of content.now)) }
 {
     put(out, b"content ")?;
-    put(out, &name.bytes)?;
+    put(out, name.bytes())?;
     put(out, b" ")?;
     put_key(out, key.parts())?;
     put_content(out, content)?;

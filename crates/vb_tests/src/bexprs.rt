@@ -74,9 +74,7 @@ const ODD: &str = "\
 0 | x ~ | no token at 3";
 
 fn ident(alloc: Global, bytes: &[u8]) -> Result<Ident, Fail> {
-    Ok(Ident {
-        bytes: bytes.to_vec(alloc)?,
-    })
+    Ok(Ident::new(alloc, bytes)?)
 }
 
 /// What a name stands for.
@@ -91,11 +89,11 @@ fn odd_name(alloc: Global, name: &[u8]) -> Result<BTok, Fail> {
 
 fn odd(alloc: Global, tok: &BTok) -> Result<BTok, Fail> {
     match tok {
-        BTok::Name(name) => odd_name(alloc, &name.bytes),
+        BTok::Name(name) => odd_name(alloc, name.bytes()),
         BTok::Number(number) => Ok(BTok::Number(*number)),
         BTok::RealNumber(number) => Ok(BTok::RealNumber(*number)),
         BTok::Text(label) => Ok(BTok::Text(*label)),
-        BTok::Sign(sign) => Ok(BTok::Sign(ident(alloc, &sign.bytes)?)),
+        BTok::Sign(sign) => Ok(BTok::Sign(ident(alloc, sign.bytes())?)),
     }
 }
 

@@ -83,10 +83,9 @@ fn other_spellings_are_no_labels(rt: HostRuntime) {
 
 /// Whether a name and its copy are equal.
 fn copies_a_name(alloc: Global) -> Option<bool> {
-    let bytes = b"x'$1".to_vec(alloc).ok()?;
-    let name = Ident { bytes };
-    let copy = name.copy(alloc).ok()?;
-    Some(copy == name && copy.bytes.as_slice() == b"x'$1".as_slice())
+    let name = Ident::new(alloc, b"x'$1").ok()?;
+    let copy = name.copy().ok()?;
+    Some(copy == name && copy.bytes() == b"x'$1".as_slice())
 }
 
 #[test]

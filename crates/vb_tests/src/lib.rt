@@ -43,6 +43,8 @@ mod scenes;
 #[cfg(test)]
 mod sent;
 #[cfg(test)]
+mod sizes;
+#[cfg(test)]
 mod statements;
 #[cfg(test)]
 mod states;

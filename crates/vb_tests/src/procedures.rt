@@ -56,7 +56,7 @@ fn put_type(text: &mut Vec<u8>, ty: &BType) -> Result<(), Fail> {
 /// Adds the line of a local.
 fn put_local(text: &mut Vec<u8>, local: &Local) -> Result<(), Fail> {
     text.extend_from_slice(b" var ")?;
-    text.extend_from_slice(&local.name.bytes)?;
+    text.extend_from_slice(local.name.bytes())?;
     text.extend_from_slice(b": ")?;
     put_type(text, &local.ty)?;
     text.push(b';')?;

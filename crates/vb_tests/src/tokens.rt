@@ -120,7 +120,7 @@ fn lexed(alloc: Global, text: &[u8]) -> Result<Vec<Token>, Fail> {
 }
 
 fn named(alloc: Global, name: &Ident) -> Result<String, Fail> {
-    let text = str::from_utf8(name.bytes.as_slice()).ok().ok_or("no name")?;
+    let text = str::from_utf8(name.bytes()).ok().ok_or("no name")?;
     Ok(format!(in alloc; "<{text}>")?)
 }
 
@@ -128,7 +128,7 @@ fn named(alloc: Global, name: &Ident) -> Result<String, Fail> {
 fn shown(alloc: Global, tok: &Tok) -> Result<String, Fail> {
     Ok(match tok {
         Tok::Name(name) => named(alloc, name)?,
-        Tok::Number(number) => format!(in alloc; "#{number}")?,
+        Tok::Number(number) => format!(in alloc; "#{}", number.value())?,
         Tok::Word(word) => format!(in alloc; "{word:?}")?,
         Tok::Sign(sign) => format!(in alloc; "{sign:?}")?,
     })

@@ -39,7 +39,7 @@ pub fn replayed_alone(
     let Ok(rest) = after_prelude(bytes) else {
         return Ok(None);
     };
-    match made_alone(alloc, rest, &name.bytes, Task::Run(run_bytes))? {
+    match made_alone(alloc, rest, name.bytes(), Task::Run(run_bytes))? {
         Some(Made::Outcome(outcome)) => Ok(Some(told(alloc, outcome)?)),
         _ => Ok(None),
     }
@@ -90,7 +90,7 @@ fn made_alone(
             Outside::End => return Ok(kept),
             Outside::Unread => return Ok(None),
             Outside::Procedure(found, inside) => {
-                names.add(found.copy(alloc)?)?;
+                names.add(found.copy()?)?;
                 let wanted = is_this(&found, name);
                 let Some((made, after)) = made_of(alloc, task, wanted, found, inside, &mut tokens)?
                 else {
@@ -107,7 +107,7 @@ fn made_alone(
 fn is_this(found: &Ident, name: &[u8]) -> bool
     ensures { result ≡ bytes_eq found.now name.now }
 {
-    found.bytes.as_slice() == name
+    found.bytes() == name
 }
 
 /// The first of two that is there.

@@ -35,7 +35,7 @@ pub(crate) fn begun_of<'a>(
     let mut locals = Vec::new(alloc);
     let mut rest = text;
     while let Some((local, after)) = next_local(alloc, &names, rest, tokens)? {
-        names.add(local.name.copy(alloc)?)?;
+        names.add(local.name.copy()?)?;
         locals = pushed(locals, local)?;
         rest = after;
     }

@@ -50,7 +50,7 @@ fn place_of(procs: &[Proc], name: &[u8]) -> Option<usize>
 pub(crate) fn is_named(proc: &Proc, name: &[u8]) -> bool
     ensures { result ≡ bytes_eq (proc_of proc.now).name name.now }
 {
-    proc.name.bytes.as_slice() == name
+    proc.name.bytes() == name
 }
 
 /// The outcome of the procedure that a run file names, of the program of a file, on the run of the run file.
@@ -79,7 +79,7 @@ fn replayed_in_whole(alloc: Global, bytes: &[u8], run_bytes: &[u8]) -> Result<En
 {
     let program = boogie_program(alloc, bytes)?;
     let name = boogie_run_name(alloc, run_bytes)?;
-    let Some(number) = procedure_named(&program, &name.bytes) else {
+    let Some(number) = procedure_named(&program, name.bytes()) else {
         return Err(Trouble::Refused(Refusal::NoProcedure));
     };
     let run = read_boogie_run(alloc, run_bytes, &program.procs[number])?;

@@ -76,5 +76,5 @@ fn is_named(program: &Program, unit: Unit, word: &str) -> bool
 fn is_name(name: &Ident, word: &str) -> bool
     ensures { result ≡ bytes_eq name.now word.now }
 {
-    name.bytes.as_slice() == word.as_bytes()
+    name.bytes() == word.as_bytes()
 }

@@ -7,8 +7,8 @@ ghost use Rattle.viper_grammar.specs.View.{part_of, instance_of};
 
 use crate::parts::{Instance, Part, Shape};
 use std::alloc::{AllocError, Global};
-use vb_base::Pos;
-use viper_syntax::{Named, SCall, SRhs, Sign, Term, Word};
+use vb_base::{Literal, Pos};
+use viper_syntax::{Named, SCall, SRhs, SUnfolding, Sign, Term, Word};
 
 /// The shape of a term that ends with a part of this shape.
 fn ending(shape: Shape) -> Shape
@@ -84,7 +84,7 @@ pub fn variable(alloc: Global, name: Named) -> Result<Part, AllocError>
 pub fn number(alloc: Global, value: i128, at: Pos) -> Result<Part, AllocError>
     ensures { IfOk result (λ p. part_of p ≡ g.plain (t.Number value at)) }
 {
-    part(alloc, Shape::Plain, Term::Number(value, at))
+    part(alloc, Shape::Plain, Term::Number(Literal::new(value), at))
 }
 
 /// `true` and so on
@@ -174,11 +174,25 @@ pub fn accessed(
     part(alloc, Shape::Plain, accessed_term(place.term, amount, at))
 }
 
-fn unfolding_term(call: SCall, amount: Option<Box<Term>>, inner: Box<Term>, at: Pos) -> Term
-    ensures { term_of result ≡ t.Unfolding call.name.name (t.terms (map term_of call.args.items)) (amount_of amount) (term_of inner.value) at call.name.pos }
+fn unfolding_term(
+    alloc: Global,
+    call: SCall,
+    amount: Option<Box<Term>>,
+    inner: Box<Term>,
+    at: Pos,
+) -> Result<Term, AllocError>
+    ensures { IfOk result (λ a. term_of a ≡ t.Unfolding call.name.name (t.terms (map term_of call.args.items)) (amount_of amount) (term_of inner.value) at call.name.pos) }
 {
     let SCall { name, args } = call;
-    Term::Unfolding(name.name, args, amount, inner, at, name.pos)
+    let opened = SUnfolding {
+        at,
+        name,
+        args,
+        amount,
+        inner,
+    };
+    let unfolding = Box::new(alloc, opened)?;
+    Ok(Term::Unfolding(unfolding))
 }
 
 /// `unfolding acc(P(a, b), amount) in c`
@@ -186,9 +200,6 @@ pub fn unfolding(alloc: Global, opened: Instance, inner: Part, at: Pos) -> Resul
     ensures { IfOk result (λ p. part_of p ≡ g.unfolded (instance_of opened) (part_of inner) at) }
 {
     let Instance { call, amount } = opened;
-    part(
-        alloc,
-        Shape::Open,
-        unfolding_term(call, amount, inner.term, at),
-    )
+    let term = unfolding_term(alloc, call, amount, inner.term, at)?;
+    part(alloc, Shape::Open, term)
 }

@@ -42,10 +42,14 @@ pub enum WordClass {
     Clause,
 }
 
-/// The list with one more item.
+/// The list with one more item. The first takes room for itself alone, since most lists have one.
 pub fn pushed<T: Drop>(mut all: Vec<T>, item: T) -> Result<Vec<T>, AllocFailed<T>>
     ensures { IfOk result (λ v. v.items ≡ all.items ++ (item ∷ [])) }
 {
+    if all.is_empty() {
+        // Where memory is refused, the push says so.
+        let _refused = all.reserve_exact(1);
+    }
     all.push(item)?;
     Ok(all)
 }

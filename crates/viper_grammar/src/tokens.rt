@@ -6,7 +6,6 @@ ghost use Rattle.viper_grammar.specs.Tests.{a_name, a_number, one_of, a_negation
 
 use crate::parts::WordClass;
 use grammar::Stop;
-use std::alloc::Global;
 use vb_base::{Memory, Pos};
 use viper_syntax::{Named, Sign, Tok, Token, Word};
 
@@ -80,10 +79,7 @@ fn is_of(class: WordClass, word: Word) -> bool
 }
 
 /// A copy of the next name, if one is next, and the tokens after it.
-pub fn eat_name<'a>(
-    alloc: Global,
-    tokens: &'a [Token],
-) -> Result<Option<(Named, &'a [Token])>, Memory>
+pub fn eat_name(tokens: &[Token]) -> Result<Option<(Named, &[Token])>, Memory>
     ensures shorter { IfOk result (λ r. IfSome r (λ p. length p.1.now < length tokens.now)) }
     ensures eats { IfOk result (λ r. MatchOption r (IsNot a_name tokens.now) (λ p. Starts a_name tokens.now p.0 p.1.now)) }
 {
@@ -92,7 +88,7 @@ pub fn eat_name<'a>(
     };
     match &first.tok {
         Tok::Name(name) => {
-            let name = name.copy(alloc)?;
+            let name = name.copy()?;
             Ok(Some((
                 Named {
                     name,
@@ -112,16 +108,9 @@ pub fn eat_number(tokens: &[Token]) -> Option<((i128, Pos), &[Token])>
 {
     let (first, rest) = tokens.split_first()?;
     match &first.tok {
-        Tok::Number(value) => Some(((value_of(value), first.pos), rest)),
+        Tok::Number(value) => Some(((value.value(), first.pos), rest)),
         _ => None,
     }
-}
-
-/// What a number is.
-fn value_of(number: &i128) -> i128
-    ensures { result ≡ number.now }
-{
-    *number
 }
 
 /// Whether a sign is `!` or `-`.
@@ -213,11 +202,11 @@ pub fn one_of<'a>(class: WordClass, tokens: &'a [Token]) -> Read<'a, (Word, Pos)
 }
 
 /// A name, which must be next.
-pub fn name<'a>(alloc: Global, tokens: &'a [Token]) -> Read<'a, Named>
+pub fn name(tokens: &[Token]) -> Read<'_, Named>
     ensures shorter { IfOk result (λ p. length p.1.now < length tokens.now) }
     ensures takes { Takes a_name tokens.now result }
 {
-    match eat_name(alloc, tokens)? {
+    match eat_name(tokens)? {
         Some(eaten) => Ok(eaten),
         None => Err(Stop::Before(tokens)),
     }

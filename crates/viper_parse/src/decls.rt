@@ -25,10 +25,10 @@ fn formals<'a>(alloc: Global, tokens: &'a [Token]) -> Read<'a, Vec<Formal>>
         let none = Vec::new(alloc);
         return Ok((none, rest));
     }
-    let (first, mut rest) = formal(alloc, tokens)?;
+    let (first, mut rest) = formal(tokens)?;
     let mut all = pushed(Vec::new(alloc), first)?;
     while let Some((_, after)) = eat_sign(Sign::Comma, rest) {
-        let (next, after) = formal(alloc, after)?;
+        let (next, after) = formal(after)?;
         all = pushed(all, next)?;
         rest = after;
     }
@@ -88,7 +88,7 @@ fn header<'a>(alloc: Global, tokens: &'a [Token]) -> Read<'a, (Named, Vec<Formal
     ensures shorter { IfOk result (λ r. length r.1.now < length tokens.now) }
     ensures reads { Heads tokens.now result }
 {
-    let (named, rest) = name(alloc, tokens)?;
+    let (named, rest) = name(tokens)?;
     let (_, after) = sign(Sign::OpenParen, rest)?;
     let (params, rest) = formals(alloc, after)?;
     Ok(((named, params), rest))
@@ -140,7 +140,7 @@ fn declaration<'a>(
     ensures reads { Declares tokens.now result }
 {
     if let Some((_, after)) = eat_word(Word::Field, tokens) {
-        let (declared, after) = formal(alloc, after)?;
+        let (declared, after) = formal(after)?;
         let rest = semicolons(after);
         return Ok(Some((Decl::Field(declared), rest)));
     }

@@ -29,19 +29,14 @@ pub fn semicolons<'a>(tokens: &'a [Token]) -> &'a [Token]
 }
 
 /// `{ separator name }` after these names.
-fn separated<'a>(
-    alloc: Global,
-    separator: Sign,
-    first: Vec<Named>,
-    tokens: &'a [Token],
-) -> Read<'a, Vec<Named>>
+fn separated<'a>(separator: Sign, first: Vec<Named>, tokens: &'a [Token]) -> Read<'a, Vec<Named>>
     ensures shorter { IfOk result (λ r. length r.1.now ≤ length tokens.now) }
     ensures reads { Parses names_of (g.rule (g.Separated separator first.items)) tokens.now result }
 {
     let mut names = first;
     let mut rest = tokens;
     while let Some((_, after)) = eat_sign(separator, rest) {
-        let (named, after) = name(alloc, after)?;
+        let (named, after) = name(after)?;
         names = pushed(names, named)?;
         rest = after;
     }
@@ -59,15 +54,15 @@ fn names<'a>(
     ensures reads { Parses names_of (g.rule (g.Separated separator (first ∷ []))) tokens.now result }
 {
     let one = pushed(Vec::new(alloc), first)?;
-    separated(alloc, separator, one, tokens)
+    separated(separator, one, tokens)
 }
 
 /// `name ":" type`
-pub fn formal<'a>(alloc: Global, tokens: &'a [Token]) -> Read<'a, Formal>
+pub fn formal<'a>(tokens: &'a [Token]) -> Read<'a, Formal>
     ensures shorter { IfOk result (λ r. length r.1.now < length tokens.now) }
     ensures reads { Parses (λ x. x) (g.rule g.FormalOf) tokens.now result }
 {
-    let (named, rest) = name(alloc, tokens)?;
+    let (named, rest) = name(tokens)?;
     let (_, after) = sign(Sign::Colon, rest)?;
     let (ty, rest) = one_of(WordClass::Type, after)?;
     Ok((
@@ -112,7 +107,7 @@ fn new_fields<'a>(alloc: Global, at: Pos, tokens: &'a [Token]) -> Read<'a, SRhs>
     ensures shorter { IfOk result (λ r. length r.1.now < length tokens.now) }
     ensures reads { Parses rhs_of (g.new_fields at) tokens.now result }
 {
-    let (named, rest) = name(alloc, tokens)?;
+    let (named, rest) = name(tokens)?;
     let (fields, after) = names(alloc, Sign::Comma, named, rest)?;
     let (_, closed) = sign(Sign::CloseParen, after)?;
     Ok((created(at, false, fields), closed))
@@ -129,7 +124,7 @@ fn variable<'a>(alloc: Global, at: Pos, tokens: &'a [Token]) -> Read<'a, SStmt>
     ensures shorter { IfOk result (λ r. length r.1.now < length tokens.now) }
     ensures reads { Parses stmt_of (g.rule (g.Variable at)) tokens.now result }
 {
-    let (declared, rest) = formal(alloc, tokens)?;
+    let (declared, rest) = formal(tokens)?;
     let Some((_, after)) = eat_sign(Sign::Assign, rest) else {
         return Ok((SStmt::Var(at, declared, None), rest));
     };
@@ -167,9 +162,9 @@ fn targets<'a>(alloc: Global, first: Named, tokens: &'a [Token]) -> Read<'a, SSt
     ensures shorter { IfOk result (λ r. length r.1.now < length tokens.now) }
     ensures reads { Parses stmt_of (g.targets first) tokens.now result }
 {
-    let (second, rest) = name(alloc, tokens)?;
+    let (second, rest) = name(tokens)?;
     let two = pair(alloc, first, second)?;
-    let (all, after) = separated(alloc, Sign::Comma, two, rest)?;
+    let (all, after) = separated(Sign::Comma, two, rest)?;
     let (_, after) = sign(Sign::Assign, after)?;
     let (called, rest) = call(alloc, after)?;
     Ok((SStmt::CallTo(all, called), rest))
@@ -205,7 +200,7 @@ fn statement<'a>(alloc: Global, tokens: &'a [Token]) -> Read<'a, SStmt>
     if let Some((at, rest)) = eat_word(Word::While, tokens) {
         return while_loop(alloc, at, rest);
     }
-    let (named, rest) = name(alloc, tokens)?;
+    let (named, rest) = name(tokens)?;
     after_name(alloc, named, rest)
 }
 

@@ -135,7 +135,7 @@ fn fields<'a>(alloc: Global, first: Part, tokens: &'a [Token]) -> Read<'a, Part>
     let mut part = first;
     let mut rest = tokens;
     while let Some((_, after)) = eat_sign(Sign::Dot, rest) {
-        let (named, after) = name(alloc, after)?;
+        let (named, after) = name(after)?;
         part = field(alloc, part, named)?;
         rest = after;
     }
@@ -148,7 +148,7 @@ fn first<'a>(alloc: Global, tokens: &'a [Token]) -> Read<'a, Part>
     ensures shorter { IfOk result (λ r. length r.1.now < length tokens.now) }
     ensures reads { Parses part_of (g.rule g.First) tokens.now result }
 {
-    if let Some((named, rest)) = eat_name(alloc, tokens)? {
+    if let Some((named, rest)) = eat_name(tokens)? {
         return name_or_call(alloc, named, rest);
     }
     if let Some(((value, at), rest)) = eat_number(tokens) {
@@ -264,7 +264,7 @@ pub fn call<'a>(alloc: Global, tokens: &'a [Token]) -> Read<'a, SCall>
     ensures shorter { IfOk result (λ r. length r.1.now < length tokens.now) }
     ensures reads { Parses call_of (g.rule g.CallOf) tokens.now result }
 {
-    let (named, rest) = name(alloc, tokens)?;
+    let (named, rest) = name(tokens)?;
     let (_, rest) = sign(Sign::OpenParen, rest)?;
     let (args, rest) = arguments(alloc, rest)?;
     Ok((SCall { name: named, args }, rest))

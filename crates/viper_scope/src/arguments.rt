@@ -23,8 +23,8 @@ pub fn start(term: &Term) -> Pos
         | Term::Unary(_, _, at)
         | Term::Old(_, at)
         | Term::Acc(_, _, at)
-        | Term::Inst(_, _, at)
-        | Term::Unfolding(_, _, _, _, at, _) => *at,
+        | Term::Inst(_, _, at) => *at,
+        Term::Unfolding(unfolding) => unfolding.at,
         Term::Binary(_, a, _, _) | Term::Choose(a, _, _, _) | Term::Field(a, _, _) => start(a),
     }
 }

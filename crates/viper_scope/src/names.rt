@@ -46,12 +46,12 @@ impl<V: Copy + Drop> Names<V> {
     }
 
     /// A name that stood for nothing stands for this value.
-    pub fn declare(&mut self, alloc: Global, name: &Ident, value: V) -> Result<(), Memory>
+    pub fn declare(&mut self, name: &Ident, value: V) -> Result<(), Memory>
         requires { find self.old name.now ≡ None }
         ensures ok { OnOk result (self.new ≡ self.old ++ (name.now, value) ∷ []) }
         ensures err { OnErr result (self.new ≡ self.old) }
     {
-        self.entries.insert(name.copy(alloc)?, value)?;
+        self.entries.insert(name.copy()?, value)?;
         Ok(())
     }
 

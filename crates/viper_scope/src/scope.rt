@@ -75,12 +75,12 @@ impl Scope {
     }
 
     /// Adds a variable of a new name.
-    pub fn declare(&mut self, alloc: Global, name: &Ident, variable: Variable) -> Result<(), Memory>
+    pub fn declare(&mut self, name: &Ident, variable: Variable) -> Result<(), Memory>
         requires { find self.old name.now ≡ None }
         ensures { OnOk result (self.new ≡ self.old ++ (name.now, variable) ∷ []) }
     {
         self.refs.reserve(1)?;
-        self.names.declare(alloc, name, variable)?;
+        self.names.declare(name, variable)?;
         if variable.ty == Ty::Ref {
             self.refs.push_reserved(variable.number);
         }

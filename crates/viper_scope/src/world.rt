@@ -60,13 +60,13 @@ impl World {
         }
     }
 
-    fn add_field(&mut self, alloc: Global, field: &Formal) -> Result<(), Memory>
+    fn add_field(&mut self, field: &Formal) -> Result<(), Memory>
         requires { find self.old.roles field.now.name.name ≡ None }
         ensures { OnOk result (world_of self.new ≡ j.with_decl (world_of self.old) (d.Field field.now)) }
     {
         let role = Role::Field(next_number(self.fields.len())?);
         self.fields.push(declared_type(field))?;
-        self.roles.declare(alloc, &field.name.name, role)
+        self.roles.declare(&field.name.name, role)
     }
 
     fn add_predicate(
@@ -84,7 +84,7 @@ impl World {
             params: types_in(alloc, params)?,
             has_body: body.is_some(),
         })?;
-        self.roles.declare(alloc, &name.name, role)
+        self.roles.declare(&name.name, role)
     }
 
     fn add_method(&mut self, alloc: Global, method: &SMethod) -> Result<(), Memory>
@@ -96,7 +96,7 @@ impl World {
             params: types_in(alloc, &method.params)?,
             returns: types_in(alloc, &method.returns)?,
         })?;
-        self.roles.declare(alloc, &method.name.name, role)
+        self.roles.declare(&method.name.name, role)
     }
 
     /// Adds a declaration of a new name, which has the next number of its kind.
@@ -105,7 +105,7 @@ impl World {
         ensures { OnOk result (world_of self.new ≡ j.with_decl (world_of self.old) (decl_of decl.now)) }
     {
         match decl {
-            Decl::Field(field) => self.add_field(alloc, field),
+            Decl::Field(field) => self.add_field(field),
             Decl::Predicate(_, name, params, body) => self.add_predicate(alloc, name, params, body),
             Decl::Method(method) => self.add_method(alloc, method),
         }

@@ -9,6 +9,7 @@ use Rattle.viper_syntax.specs.declared.terms.Term as term
 use Rattle.viper_syntax.specs.declared.terms.Term.TheBlock as tb
 use Rattle.viper_syntax.specs.declared.stmts.SStmt as stmt
 use Rattle.viper_syntax.specs.declared.stmts.SStmt.TheBlock as sb
+use Rattle.viper_syntax.specs.declared.terms.SUnfolding.{SUnfolding}
 use Rattle.viper_syntax.specs.declared.stmts.SBlock.{SBlock}
 use Rattle.viper_syntax.specs.declared.stmts.SArm.{SArm}
 
@@ -32,12 +33,13 @@ pub term_of-Acc : (a : Box term.Term Global) (m : _) (at : _) → term_of (term.
 term_of-Acc a m at = ap (λ n. t.Acc (term_of a.value) n at) (hidden_amount m)
 
 pub term_of-Unfolding :
-    (x : _) (v : Vec term.Term Global) (m : _) (a : Box term.Term Global) (at name_at : _) →
-    term_of (term.Unfolding x v m a at name_at) ≡
-    t.Unfolding x (terms_of v.items) (amount_of m) (term_of a.value) at name_at
-term_of-Unfolding x v m a at name_at =
-    ap (λ args. t.Unfolding x args (held_amount (tb.back-Term-Acc-1 m)) (term_of a.value) at name_at) (hidden_terms v) ∙
-    ap (λ n. t.Unfolding x (terms_of v.items) n (term_of a.value) at name_at) (hidden_amount m)
+    (u : Box SUnfolding Global) →
+    term_of (term.Unfolding u) ≡
+    t.Unfolding u.value.name.name (terms_of u.value.args.items) (amount_of u.value.amount) (term_of u.value.inner.value) u.value.at u.value.name.pos
+term_of-Unfolding u =
+    let v = u.value in
+    ap (λ args. t.Unfolding v.name.name args (held_amount (tb.back-Term-Acc-1 v.amount)) (term_of v.inner.value) v.at v.name.pos) (hidden_terms v.args) ∙
+    ap (λ n. t.Unfolding v.name.name (terms_of v.args.items) n (term_of v.inner.value) v.at v.name.pos) (hidden_amount v.amount)
 
 -- the items of a slice or a `Vec` are those of `terms` over the views
 pub terms_of-map : (v : List term.Term) → terms_of v ≡ t.terms (map term_of v)

@@ -36,8 +36,8 @@ abbrev mutual
   term_of (term.Old' p a at) = t.Old (term_of a) at
   term_of (term.Acc' p a m at) = t.Acc (term_of a) (held_amount m) at
   term_of (term.Inst' x shape args at) = t.Inst x (term_row args) at
-  term_of (term.Unfolding' x shape args m p a at name_at) =
-      t.Unfolding x (term_row args) (held_amount m) (term_of a) at name_at
+  term_of (term.Unfolding' p at x shape args m q a) =
+      t.Unfolding x.name (term_row args) (held_amount m) (term_of a) at x.pos
 
   -- the amount inside a term
   pub held_amount : term.Held-Term-Acc-1 → t.Amount

@@ -8,7 +8,7 @@ ghost use Rattle.viper_syntax.specs.Step.{UnlessMemory};
 ghost use Rattle.viper_syntax.specs.Lexed.{IsLexed, HasFault, IsWellFormed, GivesTokens, GivesFault};
 
 use crate::limits::broken_limit;
-use crate::pieces::piece;
+use crate::pieces::{is_blank, piece};
 use crate::{LexFault, Token};
 use std::alloc::Global;
 use vb_base::{Pos, advance};
@@ -45,6 +45,12 @@ fn cut(alloc: Global, bytes: &[u8]) -> Result<Vec<Token>, LexFault>
     let mut at = Pos { line: 1, col: 1 };
     let mut rest = bytes;
     while !rest.is_empty() {
+        if is_blank(rest[0]) {
+            let (blank, after) = rest.split_at(1);
+            at = advance(at, blank);
+            rest = after;
+            continue;
+        }
         let (tok, len) = piece(alloc, rest, at)?;
         if let Some(tok) = tok {
             tokens.push(Token { tok, pos: at })?;

@@ -18,5 +18,5 @@ pub use faults::ParseFault;
 pub use laws::{one_answer, one_cut, short_groups, some_answer};
 pub use lexer::lex;
 pub use stmts::{Formal, Named, SArm, SBlock, SCall, SFold, SNew, SRhs, SStmt};
-pub use terms::Term;
+pub use terms::{SUnfolding, Term};
 pub use tokens::{LexFault, Sign, Tok, Token, Word};

@@ -134,7 +134,7 @@ fn is_refused(tok: &Tok) -> bool
     ensures { result ≡ is_refused tok.now }
 {
     match tok {
-        Tok::Name(name) => is_refused_word(&name.bytes),
+        Tok::Name(name) => is_refused_word(name.bytes()),
         _ => false,
     }
 }

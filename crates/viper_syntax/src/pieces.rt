@@ -10,8 +10,8 @@ ghost use Rattle.viper_syntax.specs.Step.{BeginsWith, IsFirstClose, IsSignOnly, 
 use crate::signs::{byte_at, sign_at, sign_len};
 use crate::words::word_of;
 use crate::{LexFault, Tok};
-use std::alloc::{AllocError, Global};
-use vb_base::{Ident, Pos};
+use std::alloc::Global;
+use vb_base::{Ident, Literal, Memory, Pos};
 
 /// The longest piece with which a text begins: its token, unless it is a blank or a comment, and its length.
 pub(crate) fn piece(alloc: Global, text: &[u8], at: Pos) -> Result<(Option<Tok>, usize), LexFault>
@@ -36,7 +36,7 @@ pub(crate) fn piece(alloc: Global, text: &[u8], at: Pos) -> Result<(Option<Tok>,
 }
 
 /// The word or name with which a text begins.
-fn name(alloc: Global, text: &[u8]) -> Result<(Tok, usize), AllocError>
+fn name(alloc: Global, text: &[u8]) -> Result<(Tok, usize), Memory>
     requires { BeginsWith is_name_start text.now }
     ensures { IfOk result (λ r. IsLongest text.now r.1 (Taken r.0)) }
 {
@@ -44,9 +44,7 @@ fn name(alloc: Global, text: &[u8]) -> Result<(Tok, usize), AllocError>
     let name = &text[..len];
     let tok = match word_of(name) {
         Some(word) => Tok::Word(word),
-        None => Tok::Name(Ident {
-            bytes: Vec::from_slice(alloc, name)?,
-        }),
+        None => Tok::Name(Ident::new(alloc, name)?),
     };
     Ok((tok, len))
 }
@@ -58,7 +56,7 @@ fn number(text: &[u8], at: Pos) -> Result<(Option<Tok>, usize), LexFault>
 {
     let len = digits_len(text);
     match decimal(&text[..len]) {
-        Some(value) => Ok((Some(Tok::Number(value)), len)),
+        Some(value) => Ok((Some(Tok::Number(Literal::new(value))), len)),
         None => Err(LexFault::BigLiteral(at)),
     }
 }
@@ -122,7 +120,7 @@ fn close_of(text: &[u8]) -> Option<usize>
 }
 
 /// Whether a byte is a blank.
-fn is_blank(byte: u8) -> bool
+pub(crate) fn is_blank(byte: u8) -> bool
     ensures { result ≡ is_blank byte }
 {
     byte == b'\t' || byte == b'\n' || byte == b'\r' || byte == b' '

@@ -2,8 +2,8 @@
 ghost use Rattle.std.specs.Prelude.{◌≡◌};
 ghost use Rattle.viper_syntax.specs.declared.tokens.LexFault.TheVariants.{Memory};
 
-use std::alloc::{AllocError, AllocFailed};
-use vb_base::{Ident, Pos};
+use std::alloc::AllocFailed;
+use vb_base::{Ident, Literal, Pos};
 
 /// A token with the place of its first byte.
 #[derive(Drop)]
@@ -18,7 +18,7 @@ pub enum Tok {
     /// A letter, `_` or `$`, then any of these, digits and `'`; none of the words, and no refused word.
     Name(Ident),
     /// The value of a row of digits, from 0 to 2^127 - 1.
-    Number(i128),
+    Number(Literal),
     Word(Word),
     Sign(Sign),
 }
@@ -145,10 +145,10 @@ pub enum LexFault {
     Memory,
 }
 
-impl From<AllocError> for LexFault {
+impl From<vb_base::Memory> for LexFault {
     ghost from_gives = { λ _ e. e ≡ Memory };
 
-    fn from(_: AllocError) -> LexFault {
+    fn from(_: vb_base::Memory) -> LexFault {
         LexFault::Memory
     }
 }

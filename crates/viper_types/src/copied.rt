@@ -15,7 +15,7 @@ use vb_value::Ty;
 use viper_core::{Assertion, spend, spend_assertion};
 use viper_scope::{World, declared_type};
 use viper_syntax::{
-    Decl, Formal, SArm, SBlock, SCall, SClause, SFold, SMethod, SNew, SRhs, SStmt, Term,
+    Decl, Formal, SArm, SBlock, SCall, SClause, SFold, SMethod, SNew, SRhs, SStmt, SUnfolding, Term,
 };
 
 /// What each part of the program counts at least.
@@ -61,11 +61,18 @@ fn spend_term(budget: u64, world: &World, bodies: &[Option<Assertion>], term: &T
             spend_amount(left, world, bodies, amount)
         }
         Term::Inst(_, args, _) => spend_terms(budget, world, bodies, args),
-        Term::Unfolding(name, args, amount, a, _, _) => {
-            let left = spend_body(budget, world, bodies, name)?;
+        Term::Unfolding(unfolding) => {
+            let SUnfolding {
+                name,
+                args,
+                amount,
+                inner,
+                ..
+            } = &**unfolding;
+            let left = spend_body(budget, world, bodies, &name.name)?;
             let left = spend_terms(left, world, bodies, args)?;
             let left = spend_amount(left, world, bodies, amount)?;
-            spend_term(left, world, bodies, a)
+            spend_term(left, world, bodies, inner)
         }
     }
 }

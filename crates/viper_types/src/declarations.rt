@@ -36,13 +36,13 @@ pub struct Parts {
 }
 
 /// A field.
-fn field(alloc: Global, formal: &Formal) -> Result<Declared, TypeFault>
+fn field(formal: &Formal) -> Result<Declared, TypeFault>
     ensures { Answers declared_of (j.field_typing formal.now) result }
 {
     let Some(ty) = type_of(formal.ty) else {
         return Err(TypeFault::Rule(formal.name.pos, 3));
     };
-    Ok(Declared::Field(formal.name.name.copy(alloc)?, ty))
+    Ok(Declared::Field(formal.name.name.copy()?, ty))
 }
 
 /// A declaration.
@@ -56,7 +56,7 @@ fn declaration(
     ensures { Answers declared_of (j.decl_typing lists (world_of world.now) (optional_bodies_of bodies.now) (decl_of decl.now)) result }
 {
     match decl {
-        Decl::Field(formal) => field(alloc, formal),
+        Decl::Field(formal) => field(formal),
         Decl::Predicate(at, name, params, body) => {
             let predicate = predicate(alloc, world, *at, name, params, body)?;
             Ok(Declared::Predicate(predicate))

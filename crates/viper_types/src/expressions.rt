@@ -18,7 +18,7 @@ use vb_base::{Ident, Pos, boxed, boxed_pair, kept};
 use vb_value::{Frac, Ty};
 use viper_core::{Assertion, Expr, Op, Opened};
 use viper_scope::{Context, Part, PredicateSignature, Scope, TypeFault, World, fitted, start};
-use viper_syntax::{Sign, Term, Word};
+use viper_syntax::{SUnfolding, Sign, Term, Word};
 
 /// A field of a receiver, with its type.
 #[derive(Drop)]
@@ -302,7 +302,7 @@ pub(crate) fn typing(
 {
     match term {
         Term::Name(name, at) => variable(scope, name, *at),
-        Term::Number(n, _) => Ok((Expr::Int(*n), Ty::Int)),
+        Term::Number(n, _) => Ok((Expr::Int(n.value()), Ty::Int)),
         Term::Constant(word, at) => constant(*word, *at),
         Term::Unary(sign, a, at) => unary(alloc, *sign, typing(alloc, context, scope, a)?, *at),
         Term::Binary(sign, a, b, at) => {
@@ -322,12 +322,19 @@ pub(crate) fn typing(
         Term::Field(a, name, at) => field(alloc, place(alloc, context, scope, a, name, *at)?, *at),
         Term::Old(a, at) => old(alloc, context, scope, a, *at),
         Term::Acc(_, _, at) | Term::Inst(_, _, at) => Err(TypeFault::Rule(*at, 4)),
-        Term::Unfolding(name, args, amount, a, at, name_at) => {
-            let (predicate, signature) = opening(context, name, *at, *name_at)?;
-            let args = arguments(alloc, context, scope, args, &signature.params, *name_at)?;
+        Term::Unfolding(unfolding) => {
+            let SUnfolding {
+                at,
+                name,
+                args,
+                amount,
+                inner,
+            } = &**unfolding;
+            let (predicate, signature) = opening(context, &name.name, *at, name.pos)?;
+            let args = arguments(alloc, context, scope, args, &signature.params, name.pos)?;
             let amount = held_permission(alloc, context, scope, amount)?;
-            let inner = typing(alloc, context, scope, a)?;
-            opened(alloc, context, predicate, args, amount, inner, *name_at)
+            let inner = typing(alloc, context, scope, inner)?;
+            opened(alloc, context, predicate, args, amount, inner, name.pos)
         }
     }
 }

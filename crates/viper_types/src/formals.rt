@@ -16,7 +16,6 @@ use viper_syntax::Formal;
 
 /// Adds a formal, which is a Perm only where that is allowed.
 fn formal(
-    alloc: Global,
     frame: &mut Frame,
     allows_perm: bool,
     is_parameter: bool,
@@ -34,13 +33,12 @@ fn formal(
     if !allows_perm && ty == Ty::Perm {
         return Err(TypeFault::Rule(at, 13));
     }
-    frame.declare(alloc, &formal.name.name, ty, is_parameter)?;
+    frame.declare(&formal.name.name, ty, is_parameter)?;
     Ok(())
 }
 
 /// Adds formals in order, as parameters or as returns. They are Perms only where that is allowed.
 pub fn formals(
-    alloc: Global,
     frame: &mut Frame,
     allows_perm: bool,
     is_parameter: bool,
@@ -49,17 +47,17 @@ pub fn formals(
     ensures { Answers (λ _. frame_of frame.new) (j.formals allows_perm is_parameter (frame_of frame.old) formals.now) result }
 {
     for next in formals {
-        formal(alloc, frame, allows_perm, is_parameter, next)?;
+        formal(frame, allows_perm, is_parameter, next)?;
     }
     Ok(())
 }
 
 /// Adds the names of formals in order.
-pub fn add_names(alloc: Global, names: &mut Vec<Ident>, formals: &[Formal]) -> Result<(), Memory>
+pub fn add_names(names: &mut Vec<Ident>, formals: &[Formal]) -> Result<(), Memory>
     ensures { OnOk result (names.new.items ≡ names.old.items ++ map j.name_of formals.now) }
 {
     for formal in formals {
-        names.push(formal.name.name.copy(alloc)?)?;
+        names.push(formal.name.name.copy()?)?;
     }
     Ok(())
 }

@@ -43,13 +43,7 @@ impl Frame {
     }
 
     /// Adds a variable of a new name, which has the next number.
-    pub fn declare(
-        &mut self,
-        alloc: Global,
-        name: &Ident,
-        ty: Ty,
-        is_parameter: bool,
-    ) -> Result<(), Memory>
+    pub fn declare(&mut self, name: &Ident, ty: Ty, is_parameter: bool) -> Result<(), Memory>
         requires { find self.old.scope name.now ≡ None }
         ensures { OnOk result (frame_of self.new ≡ f.with_variable (frame_of self.old) name.now ty is_parameter) }
     {
@@ -60,7 +54,7 @@ impl Frame {
             ty,
             is_parameter,
         };
-        self.scope.declare(alloc, name, variable)
+        self.scope.declare(name, variable)
     }
 
     /// The number of the next variable. With 2^32 variables there is none left.

@@ -128,9 +128,9 @@ fn heading_of(alloc: Global, method: &SMethod) -> Result<Heading, Memory>
     let params = next_number(method.params.len())?;
     let returns = next_number(method.returns.len())?;
     let mut names = Vec::new(alloc);
-    add_names(alloc, &mut names, &method.params)?;
-    add_names(alloc, &mut names, &method.returns)?;
-    let name = method.name.name.copy(alloc)?;
+    add_names(&mut names, &method.params)?;
+    add_names(&mut names, &method.returns)?;
+    let name = method.name.name.copy()?;
     Ok(Heading {
         name,
         names,
@@ -140,20 +140,15 @@ fn heading_of(alloc: Global, method: &SMethod) -> Result<Heading, Memory>
 }
 
 /// Declares the formals of a method. The parameters stand also in a frame of their own.
-fn declare_formals(
-    alloc: Global,
-    params: &mut Frame,
-    frame: &mut Frame,
-    method: &SMethod,
-) -> Result<(), TypeFault>
+fn declare_formals(params: &mut Frame, frame: &mut Frame, method: &SMethod) -> Result<(), TypeFault>
     requires params { frame_of params.old ≡ j.no_frame }
     requires frame { frame_of frame.old ≡ j.no_frame }
     ensures { Answers {X = f.Frame × f.Frame} (λ _. (frame_of params.new, frame_of frame.new)) (then_typed (j.formals true true j.no_frame method.now.params.items) (λ ps.
         then_typed (j.formals true false ps method.now.returns.items) (λ fr. Found (ps, fr)))) result }
 {
-    formals(alloc, params, true, true, &method.params)?;
-    formals(alloc, frame, true, true, &method.params)?;
-    formals(alloc, frame, true, false, &method.returns)
+    formals(params, true, true, &method.params)?;
+    formals(frame, true, true, &method.params)?;
+    formals(frame, true, false, &method.returns)
 }
 
 /// A method whose variables these frames take.
@@ -169,7 +164,7 @@ fn method_in(
     requires frame { frame_of frame.old ≡ j.no_frame }
     ensures { Answers core.method_of (j.method_typing context.now.lists (world_of context.now.world.now) (optional_bodies_of context.now.bodies.now) (method_of method.now)) result }
 {
-    declare_formals(alloc, params, frame, method)?;
+    declare_formals(params, frame, method)?;
     let clauses = clauses(
         alloc,
         context.world,

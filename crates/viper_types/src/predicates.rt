@@ -56,8 +56,8 @@ fn heading_of(alloc: Global, name: &Ident, params: &[Formal]) -> Result<Heading,
     ensures params { IfOk result (λ h. h.params.items ≡ map types.declared_type params.now) }
 {
     let mut names = Vec::with_capacity(alloc, params.len())?;
-    add_names(alloc, &mut names, params)?;
-    let name = name.copy(alloc)?;
+    add_names(&mut names, params)?;
+    let name = name.copy()?;
     let params = types_in(alloc, params)?;
     Ok(Heading {
         name,
@@ -79,7 +79,7 @@ fn predicate_in(
     requires { frame_of frame.old ≡ j.no_frame }
     ensures { Answers core.predicate_of (j.predicate_typing (world_of world.now) at name.now params.now (option_map term_of body.now)) result }
 {
-    formals(alloc, frame, false, true, params)?;
+    formals(frame, false, true, params)?;
     let heading = heading_of(alloc, &name.name, params)?;
     let body = predicate_body(alloc, world, &frame.scope, body)?;
     Ok(Predicate {

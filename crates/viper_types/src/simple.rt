@@ -132,7 +132,7 @@ pub fn variable(
 {
     let target = frame.fresh(formal)?;
     let stmt = declaring(alloc, context, frame, at, target, rhs)?;
-    let declared = frame.declare(alloc, &formal.name.name, target.ty, false);
+    let declared = frame.declare(&formal.name.name, target.ty, false);
     let ((), stmt) = kept(declared, stmt)?;
     Ok(stmt)
 }

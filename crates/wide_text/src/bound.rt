@@ -32,27 +32,22 @@ fn named<'a>(token: &'a BToken, rest: &[BToken]) -> Option<&'a Ident>
 }
 
 /// One name more, if a token is one that stands before a `:`.
-fn push_named(
-    alloc: Global,
-    bound: &mut Vec<Ident>,
-    token: &BToken,
-    rest: &[BToken],
-) -> Result<(), Memory>
+fn push_named(bound: &mut Vec<Ident>, token: &BToken, rest: &[BToken]) -> Result<(), Memory>
     ensures { OnOk result (bound.new.items ≡ bound.old.items ++ binds token.now.tok rest.now) }
 {
     if let Some(name) = named(token, rest) {
-        bound.push(name.copy(alloc)?)?;
+        bound.push(name.copy()?)?;
     }
     Ok(())
 }
 
 /// The names before a `:`, behind these.
-fn push_bound(alloc: Global, bound: &mut Vec<Ident>, tokens: &[BToken]) -> Result<(), Memory>
+fn push_bound(bound: &mut Vec<Ident>, tokens: &[BToken]) -> Result<(), Memory>
     ensures { OnOk result (bound.new.items ≡ bound.old.items ++ bound_in tokens.now) }
 {
     let mut left = tokens;
     while let Some((first, rest)) = left.split_first() {
-        push_named(alloc, bound, first, rest)?;
+        push_named(bound, first, rest)?;
         left = rest;
     }
     Ok(())
@@ -72,7 +67,7 @@ fn bound_clause<'a>(
     let (label, rest) = mark(tokens)?;
     let (e, left) = whole_expr(alloc, locals, words, rest)?;
     let (_, after) = sign(BSign::Semicolon, left)?;
-    push_bound(alloc, bound, &rest[..rest.len() - left.len()])?;
+    push_bound(bound, &rest[..rest.len() - left.len()])?;
     Ok((Clause { label, e }, after))
 }
 

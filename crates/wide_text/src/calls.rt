@@ -111,7 +111,7 @@ fn targeted<'a>(
 {
     if let Some(rest) = eat_sign(BSign::OpenParen, tokens) {
         let (arguments, rest) = given(alloc, locals, words, rest)?;
-        let name = locals.all()[i].copy(alloc)?;
+        let name = locals.all()[i].copy()?;
         let none = Vec::new(alloc);
         return Ok((WStmt::Call(none, name, arguments), rest));
     }

@@ -26,13 +26,13 @@ pub(crate) struct Head {
 }
 
 /// One name more, unless it is there.
-fn add_once(alloc: Global, all: &mut Names, name: &Ident) -> Result<(), Memory>
+fn add_once(all: &mut Names, name: &Ident) -> Result<(), Memory>
     ensures { OnOk result ((x : List ℕ) → is_among x all.new ≡ is_among x (all.old ++ (name.now ∷ []))) }
 {
     if all.has(name) {
         return Ok(());
     }
-    all.add(name.copy(alloc)?)?;
+    all.add(name.copy()?)?;
     Ok(())
 }
 
@@ -43,7 +43,7 @@ fn table(alloc: Global, names: &[Ident]) -> Result<Names, Memory>
     let mut all = Names::new(alloc);
     let mut left = names;
     while let Some((first, rest)) = left.split_first() {
-        add_once(alloc, &mut all, first)?;
+        add_once(&mut all, first)?;
         left = rest;
     }
     Ok(all)
@@ -69,7 +69,7 @@ fn more_params<'a>(
         let (name, after) = new_name(alloc, names, words, rest)?;
         let (_, after) = sign(BSign::Colon, after)?;
         let (base, after) = base(after)?;
-        names.add(name.copy(alloc)?)?;
+        names.add(name.copy()?)?;
         let keys = Vec::new(alloc);
         let ty = BType { keys, base };
         all = pushed(all, Local { name, ty })?;
@@ -156,11 +156,11 @@ pub(crate) fn vars<'a>(
     let mut all = before;
     let mut rest = tokens;
     while let Some(after) = eat_word(Word::Var, rest) {
-        let (name, after) = newer_name(alloc, names, &others, words, after)?;
+        let (name, after) = newer_name(names, &others, words, after)?;
         let (_, after) = sign(BSign::Colon, after)?;
         let (ty, after) = type_of(alloc, after)?;
         let (_, after) = sign(BSign::Semicolon, after)?;
-        names.add(name.copy(alloc)?)?;
+        names.add(name.copy()?)?;
         all = pushed(all, Local { name, ty })?;
         rest = after;
     }

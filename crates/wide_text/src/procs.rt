@@ -108,7 +108,7 @@ pub(crate) fn procedures<'a>(alloc: Global, tokens: &'a [BToken]) -> Read<'a, Ve
     let mut rest = tokens;
     while let Some(after) = eat_word(Word::Procedure, rest) {
         let (next, after) = procedure(alloc, &names, &words, after)?;
-        names.add(next.name.copy(alloc)?)?;
+        names.add(next.name.copy()?)?;
         all = pushed(all, next)?;
         rest = after;
     }

@@ -54,8 +54,7 @@ fn add_word(alloc: Global, names: &mut Names, word: WideWord) -> Result<(), Memo
     requires { is_among (spelled_as word) names.now ≡ false }
     ensures { OnOk result (names.new ≡ names.old ++ (spelled_as word ∷ [])) }
 {
-    let bytes = Vec::from_slice(alloc, spelled_as(word))?;
-    names.add(Ident { bytes })?;
+    names.add(Ident::new(alloc, spelled_as(word))?)?;
     Ok(())
 }
 
@@ -82,12 +81,11 @@ pub(crate) fn new_name<'a>(
         others: words.names(),
         bound: none_bound(),
     };
-    bound_name(alloc, scope, &none, tokens)
+    bound_name(scope, &none, tokens)
 }
 
 /// The same, where it is to be none of two lists of names.
 pub(crate) fn newer_name<'a>(
-    alloc: Global,
     taken: &Names,
     others: &Names,
     words: &Reserved,
@@ -101,5 +99,5 @@ pub(crate) fn newer_name<'a>(
         others,
         bound: none_bound(),
     };
-    bound_name(alloc, scope, words.names(), tokens)
+    bound_name(scope, words.names(), tokens)
 }

@@ -5,6 +5,7 @@ ghost use Rattle.boogie_grammar.specs.Tests.{the_name};
 ghost use Rattle.wide_text.specs.Words.{spelled_as};
 
 use boogie_grammar::{BTok, BToken};
+use vb_base::same_bytes;
 
 /// A word that is reserved here, though not in the other programs.
 #[derive(Clone, Copy)]
@@ -31,12 +32,6 @@ pub(crate) fn spelled_as(word: WideWord) -> &'static [u8]
     }
 }
 
-fn same_bytes(a: &[u8], b: &[u8]) -> bool
-    ensures { IsTrue result ↔ (a.now ≡ b.now) }
-{
-    a == b
-}
-
 /// The tokens after this word, if it is next.
 pub(crate) fn eat_wide(wanted: WideWord, tokens: &[BToken]) -> Option<&[BToken]>
     ensures shorter { IfSome result (λ r. length r.now < length tokens.now) }
@@ -44,7 +39,7 @@ pub(crate) fn eat_wide(wanted: WideWord, tokens: &[BToken]) -> Option<&[BToken]>
 {
     let (first, rest) = tokens.split_first()?;
     match &first.tok {
-        BTok::Name(name) if same_bytes(&name.bytes, spelled_as(wanted)) => Some(rest),
+        BTok::Name(name) if same_bytes(name.bytes(), spelled_as(wanted)) => Some(rest),
         _ => None,
     }
 }

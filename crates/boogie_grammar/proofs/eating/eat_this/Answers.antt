@@ -8,5 +8,5 @@ returns-in-Name-clause-eats c =
     record {
       token = c.in_ok-first.first.now;
       is = c.in_ok-first.ensures.cases.0;
-      passes = c.in-Name.is ∙ ap tok.Name (sym (c.deref.ensures.value ∙ c.other.view_is) ∙ same ∙ c.deref-wanted.ensures.value ∙ c.name.view_is);
+      passes = c.in-Name.is ∙ ap tok.Name (sym c.bytes.ensures ∙ same ∙ c.bytes-wanted.ensures);
     }

@@ -8,4 +8,4 @@ pub returns-in-Some : goal.returns-in-Some
 returns-in-Some c =
     let look = c.in-Some.ensures.lookup in
     let more = temporary_names (length c.args.names.now.locals.now) c.args.names.now.temporaries in
-    subst (λ x. OnOk c.put.result (c.put.new.out.items ≡ c.args.out.now.items ++ x)) (c.deref.ensures.value ∙ ap (λ (l : Local). l.name) c.local.view_is ∙ sym (name_there c.args.names.now.locals.now more c.args.i c.in-Some.local.now look.3.0 look.1)) c.put.ensures
+    subst (λ x. OnOk c.put.result (c.put.new.out.items ≡ c.args.out.now.items ++ x)) (c.bytes.ensures ∙ sym (name_there c.args.names.now.locals.now more c.args.i c.in-Some.local.now look.3.0 look.1)) c.put.ensures

@@ -6,17 +6,17 @@ use Rattle.run_file.specs.declared.runs.RunFileFault.TheVariants as fault
 use Rattle.run_file.proofs.BoogieNameLaws.{named, one_name, never_wrong, wrong, not_named, one_wrong}
 use Rattle.run_file.proofs.boogie_names.boogie_run_name.Goals as goal
 
-pub returns-in_ok-copied-in-Some-clause-name : goal.returns-in_ok-copied-in-Some-clause-name
-returns-in_ok-copied-in-Some-clause-name c =
+pub returns-in_ok-new-in-Some-clause-name : goal.returns-in_ok-new-in-Some-clause-name
+returns-in_ok-new-in-Some-clause-name c =
     let said = sym (rw c.in-Some.is at c.said_name.ensures) in
-    subst (SpellName (lines_of c.args.bytes.now)) (sym c.in_ok-copied-in-Some.ensures)
+    subst (SpellName (lines_of c.args.bytes.now)) (sym c.in_ok-new-in-Some.ensures)
     (named (lines_of c.args.bytes.now) c.first_said-line.result.0 c.first_said-line.result.1 _ c.first_said-line.ensures.1.1 said)
 
-pub returns-in_ok-copied-in-Some-clause-only_name : goal.returns-in_ok-copied-in-Some-clause-only_name
-returns-in_ok-copied-in-Some-clause-only_name c = λ name h. one_name (lines_of c.args.bytes.now) (returns-in_ok-copied-in-Some-clause-name c) h
+pub returns-in_ok-new-in-Some-clause-only_name : goal.returns-in_ok-new-in-Some-clause-only_name
+returns-in_ok-new-in-Some-clause-only_name c = λ name h. one_name (lines_of c.args.bytes.now) (returns-in_ok-new-in-Some-clause-name c) h
 
-pub returns-in_ok-copied-in-Some-clause-only_place : goal.returns-in_ok-copied-in-Some-clause-only_place
-returns-in_ok-copied-in-Some-clause-only_place c = λ at h. never_wrong c.args.bytes.now _ at (returns-in_ok-copied-in-Some-clause-name c) h
+pub returns-in_ok-new-in-Some-clause-only_place : goal.returns-in_ok-new-in-Some-clause-only_place
+returns-in_ok-new-in-Some-clause-only_place c = λ at h. never_wrong c.args.bytes.now _ at (returns-in_ok-new-in-Some-clause-name c) h
 
 pub returns-in-None-clause-fault : goal.returns-in-None-clause-fault
 returns-in-None-clause-fault c =

@@ -8,8 +8,8 @@ use Rattle.vb_tool.specs.declared.alone.Task.TheVariants as task
 pub returns-in-Some-Outcome : goal.returns-in-Some-Outcome
 returns-in-Some-Outcome c =
     let outcome = c.in-Some-Outcome.outcome in
-    let so : IsMadeAlone c.in-Ok-after_prelude.rest.now c.deref.result.now (task.Run c.args.run_bytes) (made.Outcome outcome) =
+    let so : IsMadeAlone c.in-Ok-after_prelude.rest.now c.bytes.result.now (task.Run c.args.run_bytes) (made.Outcome outcome) =
     rw (c.in-Some-Outcome.is, c.in-Some-Outcome.field-0-is) at c.in_ok-outcome.ensures in
-    let named = subst (λ n. IsMadeAlone c.in-Ok-after_prelude.rest.now n (task.Run c.args.run_bytes) (made.Outcome outcome)) (c.deref.ensures.value ∙ c.name.view_is) so in
+    let named = subst (λ n. IsMadeAlone c.in-Ok-after_prelude.rest.now n (task.Run c.args.run_bytes) (made.Outcome outcome)) c.bytes.ensures so in
     ended_is _ _ c.in-Ok-after_prelude.ensures named c.requires.bytes_within c.requires.run_within c.in-Ok.ensures.name
     c.in_ok-told-in-Some-Outcome.ensures.status c.in_ok-told-in-Some-Outcome.ensures.text

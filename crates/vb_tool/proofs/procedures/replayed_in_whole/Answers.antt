@@ -24,17 +24,17 @@ returns-in_err-name-clause-refused c r is_r =
 pub returns-in_default-clause-refused : goal.returns-in_default-clause-refused
 returns-in_default-clause-refused c r is_r =
     name_refused c.args.bytes.now c.args.run_bytes.now (program_of c.in_ok-program.program) c.in_ok-program.ensures.accepted c.requires.run_within
-    c.in_ok-name.name r c.in_ok-name.ensures.name (ap (procedure_named (program_of c.in_ok-program.program)) (sym (c.deref.ensures.value ∙ c.name.view_is)) ∙ sym c.procedure_named.ensures ∙ c.in_default.is) (error_is refl is_r)
+    c.in_ok-name.name r c.in_ok-name.ensures.name (ap (procedure_named (program_of c.in_ok-program.program)) (sym c.bytes.ensures) ∙ sym c.procedure_named.ensures ∙ c.in_default.is) (error_is refl is_r)
 
 pub read_boogie_run-requires-clause-names : goal.read_boogie_run-requires-clause-names
 read_boogie_run-requires-clause-names c =
-    let there = named_there c.in_ok-program.program c.in_ok-name.name c.in-Some.number c.index.result.now (ap (procedure_named (program_of c.in_ok-program.program)) (sym (c.deref.ensures.value ∙ c.name.view_is)) ∙ sym c.procedure_named.ensures ∙ c.in-Some.is) c.index.ensures in
+    let there = named_there c.in_ok-program.program c.in_ok-name.name c.in-Some.number c.index.result.now (ap (procedure_named (program_of c.in_ok-program.program)) (sym c.bytes.ensures) ∙ sym c.procedure_named.ensures ∙ c.in-Some.is) c.index.ensures in
     names_differ c.in-Some.number (proc_of c.index.result.now) c.in_ok-program.ensures.accepted.text there
 
 pub returns-in_err-run-clause-refused : goal.returns-in_err-run-clause-refused
 returns-in_err-run-clause-refused c r is_r =
     let p = err_from_is_err_and c.from_residual-in_err-run.result c.from_residual-in_err-run.ensures.1 in
-    let names = names_it c.args.run_bytes.now c.in_ok-program.program c.in_ok-name.name c.in-Some.number c.index.result.now c.in_ok-name.ensures.name (ap (procedure_named (program_of c.in_ok-program.program)) (sym (c.deref.ensures.value ∙ c.name.view_is)) ∙ sym c.procedure_named.ensures ∙ c.in-Some.is) c.index.ensures in
+    let names = names_it c.args.run_bytes.now c.in_ok-program.program c.in_ok-name.name c.in-Some.number c.index.result.now c.in_ok-name.ensures.name (ap (procedure_named (program_of c.in_ok-program.program)) (sym c.bytes.ensures) ∙ sym c.procedure_named.ensures ∙ c.in-Some.is) c.index.ensures in
     run_refused c.args.bytes.now c.args.run_bytes.now (program_of c.in_ok-program.program) c.in_ok-program.ensures.accepted c.requires.run_within
     (proc_of c.index.result.now) c.in_err-run.field-0.0 r names c.in_err-run.ensures.fault (sym p.2 ∙ error_is p.1 is_r)
 
@@ -43,14 +43,14 @@ replay-requires-clause-within c = program_within c.args.bytes.now (program_of c.
 
 pub replay-requires-clause-can_run : goal.replay-requires-clause-can_run
 replay-requires-clause-can_run c d is_there =
-    let there = named_there c.in_ok-program.program c.in_ok-name.name c.in-Some.number c.index.result.now (ap (procedure_named (program_of c.in_ok-program.program)) (sym (c.deref.ensures.value ∙ c.name.view_is)) ∙ sym c.procedure_named.ensures ∙ c.in-Some.is) c.index.ensures in
+    let there = named_there c.in_ok-program.program c.in_ok-name.name c.in-Some.number c.index.result.now (ap (procedure_named (program_of c.in_ok-program.program)) (sym c.bytes.ensures) ∙ sym c.procedure_named.ensures ∙ c.in-Some.is) c.index.ensures in
     subst (λ e. CanRun e (run_of c.in_ok-run.run')) (same_proc there is_there)
     (can_run c.args.run_bytes.now (proc_of c.index.result.now) (run_of c.in_ok-run.run') c.in_ok-run.ensures.run)
 
 pub returns-clause-told : goal.returns-clause-told
 returns-clause-told c =
-    let names = names_it c.args.run_bytes.now c.in_ok-program.program c.in_ok-name.name c.in-Some.number c.index.result.now c.in_ok-name.ensures.name (ap (procedure_named (program_of c.in_ok-program.program)) (sym (c.deref.ensures.value ∙ c.name.view_is)) ∙ sym c.procedure_named.ensures ∙ c.in-Some.is) c.index.ensures in
-    let there = named_there c.in_ok-program.program c.in_ok-name.name c.in-Some.number c.index.result.now (ap (procedure_named (program_of c.in_ok-program.program)) (sym (c.deref.ensures.value ∙ c.name.view_is)) ∙ sym c.procedure_named.ensures ∙ c.in-Some.is) c.index.ensures in
+    let names = names_it c.args.run_bytes.now c.in_ok-program.program c.in_ok-name.name c.in-Some.number c.index.result.now c.in_ok-name.ensures.name (ap (procedure_named (program_of c.in_ok-program.program)) (sym c.bytes.ensures) ∙ sym c.procedure_named.ensures ∙ c.in-Some.is) c.index.ensures in
+    let there = named_there c.in_ok-program.program c.in_ok-name.name c.in-Some.number c.index.result.now (ap (procedure_named (program_of c.in_ok-program.program)) (sym c.bytes.ensures) ∙ sym c.procedure_named.ensures ∙ c.in-Some.is) c.index.ensures in
     replay_is c.args.bytes.now c.args.run_bytes.now (program_of c.in_ok-program.program) c.in_ok-program.ensures.accepted c.requires.run_within
     (proc_of c.index.result.now) (run_of c.in_ok-run.run') c.in_ok-outcome.outcome _ _ names c.in_ok-run.ensures.run
     (c.in_ok-outcome.ensures (proc_of c.index.result.now) there) c.in_ok-told.ensures.status c.in_ok-told.ensures.text

@@ -9,7 +9,7 @@ use Rattle.viper_syntax.specs.Piece.{word, name, IsLongest, Taken}
 use Rattle.viper_syntax.specs.Step.{BeginsWith}
 use Rattle.viper_syntax.proofs.LongestLaws.{name_longest, name_form_of_front}
 use Rattle.viper_syntax.proofs.pieces.name.Goals as goal
-use Rattle.viper_syntax.proofs.pieces.name.Goals.{in-Some, in-None+in_ok-from_slice-in-None}
+use Rattle.viper_syntax.proofs.pieces.name.Goals.{in-Some, in-None+in_ok-new-in-None}
 
 word_here : (bs : List ℕ) (n : ℕ) (t : Tok) (w : Word) → BeginsWith is_name_start bs → n ≡ prefix_len is_name_byte bs →
     take n bs ≡ word_text w → t ≡ k.Word w → IsLongest bs n (Taken t)
@@ -24,6 +24,6 @@ name_here bs n t x h len no_word text is =
 pub returns : goal.returns
 returns c = elim c.match-word_of.branch [
   | in-Some w ↦ word_here _ _ _ w.in-Some.word c.requires c.name_len-len.ensures w.in-Some.ensures w.tok-is
-  | in-None+in_ok-from_slice-in-None w ↦
-      name_here _ _ _ _ c.requires c.name_len-len.ensures w.in-None.ensures w.in_ok-from_slice-in-None.ensures.items w.tok-is
+  | in-None+in_ok-new-in-None w ↦
+      name_here _ _ _ _ c.requires c.name_len-len.ensures w.in-None.ensures w.in_ok-new-in-None.ensures w.tok-is
 ]

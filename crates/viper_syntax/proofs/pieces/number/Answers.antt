@@ -22,7 +22,7 @@ decimal-requires c = rw c.digits_len-len.ensures (longest_front_passes _ c.args.
 pub returns-in-Some : goal.returns-in-Some
 returns-in-Some c =
     let value = c.in-Some.ensures in
-    rw (value.0, same_value _ value.1) (rw c.digits_len-len.ensures (number_longest c.args.text.now c.requires), small _ value.1)
+    rw (c.new.ensures, value.0, same_value _ value.1) (rw c.digits_len-len.ensures (number_longest c.args.text.now c.requires), small _ value.1)
 
 pub returns-in-None : goal.returns-in-None
 returns-in-None c = big_literal (number_longest c.args.text.now c.requires) (big _ (rw (← c.digits_len-len.ensures) c.in-None.ensures))

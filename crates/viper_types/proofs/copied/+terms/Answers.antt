@@ -16,17 +16,17 @@ spend_term-returns-in-Inst t c =
 pub spend_term-returns-in_err-left-in-Unfolding-2 : goal.spend_term-returns-in_err-left-in-Unfolding-2
 spend_term-returns-in_err-left-in-Unfolding-2 t c =
     leaves_at _ _ _
-    (opened_size (world_of c.args.world.now) (optional_bodies_of c.args.bodies.now) (predicate_at (world_of c.args.world.now) c.in-Unfolding.name) + copied_all (world_of c.args.world.now) (optional_bodies_of c.args.bodies.now) (terms_of c.in-Unfolding.args.items) + copied_amount (world_of c.args.world.now) (optional_bodies_of c.args.bodies.now) (amount_of c.in-Unfolding.amount) + copied (world_of c.args.world.now) (optional_bodies_of c.args.bodies.now) (term_of c.in-Unfolding.a.value))
-    (ap (copied (world_of c.args.world.now) (optional_bodies_of c.args.bodies.now)) (ap term_of c.in-Unfolding.is ∙ term_of-Unfolding c.in-Unfolding.name c.in-Unfolding.args c.in-Unfolding.amount c.in-Unfolding.a c.in-Unfolding.field-4 c.in-Unfolding.field-5)) (search rules)
+    (opened_size (world_of c.args.world.now) (optional_bodies_of c.args.bodies.now) (predicate_at (world_of c.args.world.now) c.in-Unfolding.«unfolding».value.name.name) + copied_all (world_of c.args.world.now) (optional_bodies_of c.args.bodies.now) (terms_of c.in-Unfolding.«unfolding».value.args.items) + copied_amount (world_of c.args.world.now) (optional_bodies_of c.args.bodies.now) (amount_of c.in-Unfolding.«unfolding».value.amount) + copied (world_of c.args.world.now) (optional_bodies_of c.args.bodies.now) (term_of c.in-Unfolding.«unfolding».value.inner.value))
+    (ap (copied (world_of c.args.world.now) (optional_bodies_of c.args.bodies.now)) (ap term_of c.in-Unfolding.is ∙ term_of-Unfolding c.in-Unfolding.«unfolding»)) (search rules)
 
 pub spend_term-returns-in_err-left-in-Unfolding-3 : goal.spend_term-returns-in_err-left-in-Unfolding-3
 spend_term-returns-in_err-left-in-Unfolding-3 t c =
     leaves_at _ _ _
-    (opened_size (world_of c.args.world.now) (optional_bodies_of c.args.bodies.now) (predicate_at (world_of c.args.world.now) c.in-Unfolding.name) + copied_all (world_of c.args.world.now) (optional_bodies_of c.args.bodies.now) (terms_of c.in-Unfolding.args.items) + copied_amount (world_of c.args.world.now) (optional_bodies_of c.args.bodies.now) (amount_of c.in-Unfolding.amount) + copied (world_of c.args.world.now) (optional_bodies_of c.args.bodies.now) (term_of c.in-Unfolding.a.value))
-    (ap (copied (world_of c.args.world.now) (optional_bodies_of c.args.bodies.now)) (ap term_of c.in-Unfolding.is ∙ term_of-Unfolding c.in-Unfolding.name c.in-Unfolding.args c.in-Unfolding.amount c.in-Unfolding.a c.in-Unfolding.field-4 c.in-Unfolding.field-5)) (search rules)
+    (opened_size (world_of c.args.world.now) (optional_bodies_of c.args.bodies.now) (predicate_at (world_of c.args.world.now) c.in-Unfolding.«unfolding».value.name.name) + copied_all (world_of c.args.world.now) (optional_bodies_of c.args.bodies.now) (terms_of c.in-Unfolding.«unfolding».value.args.items) + copied_amount (world_of c.args.world.now) (optional_bodies_of c.args.bodies.now) (amount_of c.in-Unfolding.«unfolding».value.amount) + copied (world_of c.args.world.now) (optional_bodies_of c.args.bodies.now) (term_of c.in-Unfolding.«unfolding».value.inner.value))
+    (ap (copied (world_of c.args.world.now) (optional_bodies_of c.args.bodies.now)) (ap term_of c.in-Unfolding.is ∙ term_of-Unfolding c.in-Unfolding.«unfolding»)) (search rules)
 
 pub spend_term-returns-in_ok-left-in-Unfolding-3 : goal.spend_term-returns-in_ok-left-in-Unfolding-3
 spend_term-returns-in_ok-left-in-Unfolding-3 t c =
     leaves_at _ _ _
-    (opened_size (world_of c.args.world.now) (optional_bodies_of c.args.bodies.now) (predicate_at (world_of c.args.world.now) c.in-Unfolding.name) + copied_all (world_of c.args.world.now) (optional_bodies_of c.args.bodies.now) (terms_of c.in-Unfolding.args.items) + copied_amount (world_of c.args.world.now) (optional_bodies_of c.args.bodies.now) (amount_of c.in-Unfolding.amount) + copied (world_of c.args.world.now) (optional_bodies_of c.args.bodies.now) (term_of c.in-Unfolding.a.value))
-    (ap (copied (world_of c.args.world.now) (optional_bodies_of c.args.bodies.now)) (ap term_of c.in-Unfolding.is ∙ term_of-Unfolding c.in-Unfolding.name c.in-Unfolding.args c.in-Unfolding.amount c.in-Unfolding.a c.in-Unfolding.field-4 c.in-Unfolding.field-5)) (search rules)
+    (opened_size (world_of c.args.world.now) (optional_bodies_of c.args.bodies.now) (predicate_at (world_of c.args.world.now) c.in-Unfolding.«unfolding».value.name.name) + copied_all (world_of c.args.world.now) (optional_bodies_of c.args.bodies.now) (terms_of c.in-Unfolding.«unfolding».value.args.items) + copied_amount (world_of c.args.world.now) (optional_bodies_of c.args.bodies.now) (amount_of c.in-Unfolding.«unfolding».value.amount) + copied (world_of c.args.world.now) (optional_bodies_of c.args.bodies.now) (term_of c.in-Unfolding.«unfolding».value.inner.value))
+    (ap (copied (world_of c.args.world.now) (optional_bodies_of c.args.bodies.now)) (ap term_of c.in-Unfolding.is ∙ term_of-Unfolding c.in-Unfolding.«unfolding»)) (search rules)
