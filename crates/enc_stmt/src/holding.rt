@@ -19,6 +19,9 @@ use vb_base::Memory;
 /// How many bytes of lines and text there are at most before another step of a procedure is held.
 const MOST_HELD: usize = 4_194_304;
 
+/// For how many bytes of text a procedure has room from the first on. Most need no more.
+pub const FIRST_ROOM: usize = 4_096;
+
 /// The text of the first steps of a row, how many these are, and how many locals stand before the next.
 #[derive(Drop)]
 pub struct Held {
@@ -121,7 +124,7 @@ pub fn hold(
         (map step_of (drop held.steps row.now)) held.locals lines.old.items lines.new.items [] held.text.items written.old written.new) }
 {
     let mut out = emit_behind(alloc, fixed)?;
-    let mut text = Vec::new(alloc);
+    let mut text = Vec::with_capacity(alloc, FIRST_ROOM)?;
     let steps = hold_row(
         alloc, writer, names, row, &mut out, written, lines, &mut text,
     )?;

@@ -21,7 +21,7 @@ ghost use Rattle.enc_stmt.specs.Written.{IsStep};
 use crate::counts::Written;
 use crate::fixed::fixed_locals;
 use crate::heads::write_lines;
-use crate::holding::{Held, emit_behind, hold, plenty};
+use crate::holding::{FIRST_ROOM, Held, emit_behind, hold, plenty};
 use crate::names::unit_name;
 use crate::passes::row_locals;
 use crate::rows::unit_steps;
@@ -94,7 +94,7 @@ pub(crate) fn write_text<S: Sink>(
 fn text_of_head(alloc: Global, name: &Ident, locals: &[Local]) -> Result<Vec<u8>, Memory>
     ensures { IfOk result (λ text. text.items ≡ head_text name.now (locals_of locals.now)) }
 {
-    let mut text = Vec::new(alloc);
+    let mut text = Vec::with_capacity(alloc, FIRST_ROOM)?;
     put_head(&mut text, name, locals)?;
     Ok(text)
 }
