@@ -1,3 +1,2 @@
-pub mod MeasuredLaws
 pub mod ContentLaws
 pub mod FoldLaws

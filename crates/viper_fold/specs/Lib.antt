@@ -1,3 +1,2 @@
-pub mod Measured
 pub mod Steps
 pub mod View

@@ -1,5 +1,5 @@
 -- Parts of the meaning that the code has in functions of their own.
-use Rattle.std.specs.Prelude.{ℕ, List, if◌then◌else◌}
+use Rattle.std.specs.Prelude.{ℕ, List, Option, Some, None, if◌then◌else◌}
 use Rattle.vb_base.specs.declared.places.Pos.{Pos}
 use Rattle.vb_value.specs.Bound.{Bounded}
 use Rattle.vb_value.specs.Content.{Content, Unit}
@@ -21,6 +21,10 @@ use Rattle.viper_meaning.specs.Value.{opened}
 -- what is contained where so much is held
 abbrev pub part_of : State → Resource → Fraction → Evaluated Content
 part_of s x q = if is_positive q then found (contained_at s x) else is Unit
+
+-- the content, if a run may have it
+abbrev pub if_small : Content → Option Content
+if_small c = if is_small c then Some c else None
 
 -- what an assertion contains, which has to be small
 abbrev pub small_content_in : Assertion → State → Scene → Pos → Evaluated Content

@@ -11,10 +11,10 @@ ghost use Rattle.viper_meaning.specs.Contents as m;
 ghost use Rattle.viper_meaning.specs.Run as run;
 ghost use Rattle.viper_meaning.specs.Sat.{Has};
 ghost use Rattle.viper_inhale.specs.Answers.{run_of, step_of};
-ghost use Rattle.viper_fold.specs.Measured.{if_small};
+ghost use Rattle.viper_fold.specs.Steps.{if_small};
 ghost use Rattle.viper_fold.specs.View.{contained_of};
 
-use crate::contents::content_in;
+use crate::contents::{content_in, is_small};
 use crate::folding::fold_in;
 use crate::unfolding::unfold_in;
 use std::alloc::Global;
@@ -57,8 +57,8 @@ pub fn content_of(
         events: Vec::new(alloc),
     };
     match content_in(alloc, a, state, SceneRef::of(scene), &mut feed) {
-        Ok(Some(content)) => Ok(Contained::Is(content)),
-        Ok(None) => Ok(Contained::Over),
+        Ok(content) if is_small(&content) => Ok(Contained::Is(content)),
+        Ok(_) => Ok(Contained::Over),
         Err(Halt::Memory) => Err(Memory),
         Err(Halt::Stops(_)) => unreachable!(),
     }

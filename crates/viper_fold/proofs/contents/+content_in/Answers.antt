@@ -5,39 +5,26 @@ use Rattle.viper_state.specs.View.{state_of}
 use Rattle.viper_eval.specs.View.{lent}
 use Rattle.viper_eval.proofs.AnswerLaws.{passed, same_answers, ends_is}
 use Rattle.viper_core.proofs.NodeLaws.{inst_is, and_is, implies_is, choice_is}
-use Rattle.viper_fold.specs.Measured.{measured}
-use Rattle.viper_fold.proofs.ContentLaws.{contained}
-use Rattle.viper_fold.proofs.MeasuredLaws.{part_stops, part_goes, left_stops, right_stops, both_go, condition_stops, so_goes, not_goes}
+use Rattle.viper_fold.proofs.ContentLaws.{contained, left_stops, right_stops, both_go, condition_stops, so_goes, not_goes}
 use Rattle.viper_fold.proofs.contents.+content_in.Goals as goal
 
 pub returns-in-Fact-clause-answers : goal.returns-in-Fact-clause-answers
-returns-in-Fact-clause-answers _ c = same_answers (ap measured (contained (state_of c.args.now.now) (lent c.args.scene) (ap assertion_of c.in-Fact.is))) (ends_is _ _ refl)
+returns-in-Fact-clause-answers _ c = same_answers (contained (state_of c.args.now.now) (lent c.args.scene) (ap assertion_of c.in-Fact.is)) (ends_is _ _ refl)
 
-pub returns-in_err-content-in-Acc-clause-answers : goal.returns-in_err-content-in-Acc-clause-answers
-returns-in_err-content-in-Acc-clause-answers _ c =
-    passed _ _ c.from_residual.ensures.1 (part_stops (contained (state_of c.args.now.now) (lent c.args.scene) (ap assertion_of c.in-Acc.is)) c.in_err-content-in-Acc.ensures.answers)
-
-pub returns-in_ok-content-in-Acc-clause-answers : goal.returns-in_ok-content-in-Acc-clause-answers
-returns-in_ok-content-in-Acc-clause-answers _ c =
-    part_goes (contained (state_of c.args.now.now) (lent c.args.scene) (ap assertion_of c.in-Acc.is)) c.in_ok-content-in-Acc.ensures.answers c.in_ok-content-in-Acc.ensures.small refl
+pub returns-in-Acc-clause-answers : goal.returns-in-Acc-clause-answers
+returns-in-Acc-clause-answers _ c = same_answers (contained (state_of c.args.now.now) (lent c.args.scene) (ap assertion_of c.in-Acc.is)) c.content_of_place.ensures.answers
 
 pub content_of_instance-requires-clause-args_within : goal.content_of_instance-requires-clause-args_within
 content_of_instance-requires-clause-args_within _ c =
     (subst IsWithinAssertion (inst_is c.in-Inst.args c.in-Inst.is c.deref.ensures.value) c.requires.assertion_within).0
 
-pub returns-in_err-content-in-Inst-clause-answers : goal.returns-in_err-content-in-Inst-clause-answers
-returns-in_err-content-in-Inst-clause-answers _ c =
-    passed _ _ c.from_residual-in_err-content-in-Inst.ensures.1
-    (part_stops (contained (state_of c.args.now.now) (lent c.args.scene) (inst_is c.in-Inst.args c.in-Inst.is c.deref.ensures.value)) c.in_err-content-in-Inst.ensures.answers)
-
-pub returns-in_ok-content-in-Inst-clause-answers : goal.returns-in_ok-content-in-Inst-clause-answers
-returns-in_ok-content-in-Inst-clause-answers _ c =
-    part_goes (contained (state_of c.args.now.now) (lent c.args.scene) (inst_is c.in-Inst.args c.in-Inst.is c.deref.ensures.value)) c.in_ok-content-in-Inst.ensures.answers
-    c.in_ok-content-in-Inst.ensures.small refl
+pub returns-in-Inst-clause-answers : goal.returns-in-Inst-clause-answers
+returns-in-Inst-clause-answers _ c =
+    same_answers (contained (state_of c.args.now.now) (lent c.args.scene) (inst_is c.in-Inst.args c.in-Inst.is c.deref.ensures.value)) c.content_of_instance.ensures.answers
 
 pub returns-in_err-left-in-And-clause-answers : goal.returns-in_err-left-in-And-clause-answers
 returns-in_err-left-in-And-clause-answers _ c =
-    passed _ _ c.from_residual-in_err-left-in-And.ensures.1
+    passed _ _ c.from_residual.ensures.1
     (left_stops _ _ (contained (state_of c.args.now.now) (lent c.args.scene) (and_is c.in-And.is c.deref-in-And.ensures refl)) c.in_err-left-in-And.ensures.answers)
 
 pub returns-in_err-right-in-And-clause-answers : goal.returns-in_err-right-in-And-clause-answers
@@ -49,7 +36,7 @@ returns-in_err-right-in-And-clause-answers _ c =
 pub returns-in_ok-right-in-And-clause-answers : goal.returns-in_ok-right-in-And-clause-answers
 returns-in_ok-right-in-And-clause-answers _ c =
     both_go _ _ (contained (state_of c.args.now.now) (lent c.args.scene) (and_is c.in-And.is c.deref-in-And.ensures c.deref-in-And-2.ensures))
-    c.in_ok-left-in-And.ensures.answers c.in_ok-right-in-And.ensures.answers c.joined.ensures
+    c.in_ok-left-in-And.ensures.answers c.in_ok-right-in-And.ensures.answers c.pair_of.ensures
 
 pub returns-in_err-truth_of-in-Implies-clause-answers : goal.returns-in_err-truth_of-in-Implies-clause-answers
 returns-in_err-truth_of-in-Implies-clause-answers _ c =

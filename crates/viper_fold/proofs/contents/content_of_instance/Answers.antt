@@ -22,4 +22,4 @@ pub returns-clause-answers : goal.returns-clause-answers
 returns-clause-answers c =
     amount_goes (amt_of c.args.amount.now) (state_of c.args.now.now) (lent c.args.scene)
     (key_in Bounded (exprs_of c.args.args.now) (state_of c.args.now.now) (lent c.args.scene)) (Instance c.args.predicate) c.in_ok-key.ensures.answers c.in_ok-amount.ensures.answers
-    c.part_of_instance.ensures.content
+    c.part_of_instance.ensures

@@ -22,4 +22,4 @@ pub returns-clause-answers : goal.returns-clause-answers
 returns-clause-answers c =
     amount_goes (amt_of c.args.amount.now) (state_of c.args.now.now) (lent c.args.scene)
     (ref_in Bounded (expr_of c.args.receiver.now) (state_of c.args.now.now) (lent c.args.scene)) (Place c.args.field) c.in_ok-reference.ensures.answers c.in_ok-amount.ensures.answers
-    c.part_of_place.ensures.content
+    c.part_of_place.ensures

@@ -4,12 +4,12 @@ use Rattle.viper_meaning.specs.Ends.{found}
 use Rattle.viper_eval.proofs.AnswerLaws.{passed, if_so, if_not, ends_with, ends_is, stops_with, found_as, found_as_stops}
 use Rattle.viper_fold.proofs.contents.part_of_place.Goals as goal
 
-pub returns-in_err-found-clause-content : goal.returns-in_err-found-clause-content
-returns-in_err-found-clause-content c =
+pub returns-in_err-found : goal.returns-in_err-found
+returns-in_err-found c =
     passed _ _ c.from_residual.ensures.1 (if_so _ _ _ (sym c.if-is_positive.ensures) (stops_with _ (found_as_stops Leaf _ _ (c.in_err-found.ensures ∙ ap found c.value_at.ensures))))
 
-pub returns-in_ok-found-clause-content : goal.returns-in_ok-found-clause-content
-returns-in_ok-found-clause-content c = if_so _ _ _ (sym c.if-is_positive.ensures) (ends_with _ (found_as Leaf _ _ (c.in_ok-found.ensures ∙ ap found c.value_at.ensures)))
+pub returns-in_ok-found : goal.returns-in_ok-found
+returns-in_ok-found c = if_so _ _ _ (sym c.if-is_positive.ensures) (ends_with _ (found_as Leaf _ _ (c.in_ok-found.ensures ∙ ap found c.value_at.ensures)))
 
-pub returns-else-is_positive-clause-content : goal.returns-else-is_positive-clause-content
-returns-else-is_positive-clause-content c = if_not _ _ _ (sym c.if-is_positive.ensures) (ends_is _ _ refl)
+pub returns-else-is_positive : goal.returns-else-is_positive
+returns-else-is_positive c = if_not _ _ _ (sym c.if-is_positive.ensures) (ends_is _ _ refl)
