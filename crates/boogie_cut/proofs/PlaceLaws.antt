@@ -1,19 +1,12 @@
 -- The names that are taken.
-use Rattle.std.proofs.Common.{◌≡◌, ◌∙◌, ◌≤◌, ◌<◌, ◌+◌, ◌-◌, ◌==◌, ◌||◌, ℕ, zero, suc, Bool as Truth, true, false, cond, Option, Some, None, List, [], ◌∷◌, ◌++◌, map, drop, get_or, slice_get, length, if◌then◌else◌, nat_lt, Bor, refl, sym, ap, subst, arith, append_assoc, append-nil}
-use Rattle.std.proofs.lemmas.Bool.Decides.{nat_tests}
+use Rattle.std.proofs.Common.{◌≡◌, ◌∙◌, ◌≤◌, ◌<◌, ◌+◌, ◌-◌, ◌||◌, ℕ, zero, suc, Bool as Truth, true, false, cond, List, [], ◌∷◌, ◌++◌, map, drop, get_or, length, if◌then◌else◌, refl, sym, ap, subst, arith, append_assoc, append-nil}
 use Rattle.std.proofs.lemmas.Slice.Eq.{bytes_eq-Decides}
-use Rattle.std.specs.Cmp.Lexicographic.{pointwise}
 use Rattle.std.specs.List.{filter, list_any}
-use Rattle.std.specs.Map.{lookup}
-use Rattle.std.specs.Option.{option_map, is_some, IfSome}
 use Rattle.std.specs.Str.{bytes_eq}
 use Rattle.boogie_tree.specs.Program as p
 use Rattle.boogie_tree.specs.Whole.{locals_of, type_of}
 use Rattle.boogie_tree.specs.declared.programs.BType.{BType}
 use Rattle.boogie_tree.specs.declared.programs.Local.{Local}
-use Rattle.boogie_wide.specs.Procedures.{proc_named}
-use Rattle.boogie_wide.specs.View.{wproc_of}
-use Rattle.boogie_wide.specs.declared.wide.WProc.{WProc}
 use Rattle.boogie_cut.specs.Fresh.{numbered, is_among, free_number, fresh_locals, is_a}
 use Rattle.boogie_cut.specs.View.{AreNoted, IsNoted, a_names}
 use Rattle.boogie_cut.proofs.CodeLaws.{next_item, none_left}

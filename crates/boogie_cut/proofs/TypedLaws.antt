@@ -1,13 +1,13 @@
 -- What is written for a well-typed program is well-typed.
-use Rattle.std.proofs.Common.{◌≡◌, ◌+◌, ◌<◌, ◌≤◌, ℕ, zero, suc, Bool as Truth, true, false, cond, Option, Some, None, unwrap_or, List, [], ◌∷◌, ◌++◌, map, take, drop, length, All, slice_get, slice_index_or, get_or, refl, sym, ap, subst, ◌∙◌, arith}
-use Rattle.std.specs.List.{AllZip, filter, find, filter_map, cons_option, range_with_len}
+use Rattle.std.proofs.Common.{◌≡◌, ◌+◌, ◌<◌, ℕ, zero, suc, Bool as Truth, true, false, cond, Option, Some, None, unwrap_or, List, [], ◌∷◌, ◌++◌, map, take, drop, length, All, slice_get, refl, sym, ap, subst, ◌∙◌, arith}
+use Rattle.std.specs.List.{AllZip, filter, find, cons_option, range_with_len}
 use Rattle.std.specs.Option.{option_map}
 use Rattle.std.proofs.lemmas.List.{length-map}
 use Rattle.std.proofs.lemmas.List.Elements.{All-nil, All-cons, All-head, All-tail, All-append, All-filter}
 use Rattle.std.proofs.lemmas.List.FromFn.{get_or-range_with_len}
 use Rattle.boogie_tree.specs.Expr as t
 use Rattle.boogie_tree.specs.Stmt as s
-use Rattle.boogie_tree.specs.Program.{BType, Local, Proc, BProgram}
+use Rattle.boogie_tree.specs.Program.{BType, Local}
 use Rattle.boogie_tree.specs.Values.{plain_type, AreKeys}
 use Rattle.boogie_tree.specs.declared.exprs.BBase.{BBase}
 use Rattle.boogie_tree.specs.declared.exprs.BBase.TheVariants as base
@@ -22,7 +22,7 @@ use Rattle.boogie_wide.specs.Conditions.{variable_names}
 use Rattle.boogie_wide.specs.Procedures.{wide_types, param_types, return_types, head_types, proc_named}
 use Rattle.boogie_wide.specs.WideTypes as ty
 use Rattle.boogie_wide.specs.WideTypes.{AreBools, IsGuard, HaveBases, IsCall, IsWideStmt, IsWide, IsWideBody, IsWideProc, IsWideProgram}
-use Rattle.boogie_cut.specs.Cut.{join, alone, asserts, assumes, havocs, assigns, Written, argument_numbers, stands_for, renamed_clauses, cut_call, cut_guard, cut_turn, cut_loop, cut_stmt, cut, cut_body, cut_proc, cut_procs, cut_program}
+use Rattle.boogie_cut.specs.Cut.{join, alone, asserts, assumes, havocs, assigns, argument_numbers, stands_for, renamed_clauses, cut_call, cut_guard, cut_turn, cut_loop, cut_stmt, cut, cut_body, cut_proc, cut_procs, cut_program}
 use Rattle.boogie_cut.specs.Fresh.{fresh_locals, free_number, is_a}
 
 -- ---- places of lists

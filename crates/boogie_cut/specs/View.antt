@@ -1,8 +1,6 @@
 -- What contracts see while a program is written.
-use Rattle.std.specs.Prelude.{◌≡◌, ℕ, ◌||◌, ◌+◌, ◌++◌, ◌==◌, List, [], ◌∷◌, Option, Some, None, map, length, if◌then◌else◌}
-use Rattle.std.specs.Cmp.Lexicographic.{pointwise}
+use Rattle.std.specs.Prelude.{◌≡◌, ℕ, ◌||◌, ◌+◌, ◌++◌, List, [], ◌∷◌, map, length, if◌then◌else◌}
 use Rattle.std.specs.List.{filter, list_any}
-use Rattle.std.specs.Map.{lookup}
 use Rattle.std.specs.Str.{bytes_eq}
 use Rattle.boogie_tree.specs.Program as p
 use Rattle.boogie_tree.specs.Stmt.{BStmts}

@@ -12,7 +12,7 @@ use Rattle.boogie_grammar.specs.Tests.{Kind, the_name, the_word}
 use Rattle.boogie_grammar.specs.Grammar as g
 use Rattle.boogie_grammar.specs.Grammar.{Rule, when, read, give, where_true}
 use Rattle.boogie_grammar.specs.Greedy.{IsNot, Starts, Goes}
-use Rattle.boogie_grammar.specs.ReadView.{IsNewName, ReadsForall, NoForall}
+use Rattle.boogie_grammar.specs.ReadView.{is_new_name, ReadsForall, NoForall}
 use Rattle.boogie_grammar.proofs.Reading.{start, by_token, by_other}
 use Rattle.boogie_grammar.proofs.Steps.{goes_by}
 
@@ -35,11 +35,11 @@ old_either true a b h = refl
 old_either false true b h = refl
 old_either false false b h = absurd (cc)
 
-pub unbound_new : (x : List ℕ) (ls bs : List (List ℕ)) (b : Bool) → true ≡ IsNewName ls x → b ≡ is_among x bs → not b ≡ IsNewName (ls ++ bs) x
+pub unbound_new : (x : List ℕ) (ls bs : List (List ℕ)) (b : Bool) → true ≡ is_new_name ls x → b ≡ is_among x bs → not b ≡ is_new_name (ls ++ bs) x
 unbound_new x ls bs b h e =
     ap not e ∙ new_both (is_reserved x) (is_among x ls) (is_among x bs) h ∙ ap (λ c. not (is_reserved x) && not c) (sym (list_any-append (bytes_eq x) ls bs))
 
-pub bound_old : (x : List ℕ) (ls bs : List (List ℕ)) → false ≡ IsNewName ls x → false ≡ IsNewName (ls ++ bs) x
+pub bound_old : (x : List ℕ) (ls bs : List (List ℕ)) → false ≡ is_new_name ls x → false ≡ is_new_name (ls ++ bs) x
 bound_old x ls bs h =
     old_either (is_reserved x) (is_among x ls) (is_among x bs) h ∙ ap (λ c. not (is_reserved x) && not c) (sym (list_any-append (bytes_eq x) ls bs))
 
@@ -95,22 +95,22 @@ pub no_bound : (x : g.Scope) (bound : List (List ℕ)) (ts : List BToken) → le
 no_bound x [] ts e i = start (g.at_indices x i) ts
 no_bound x (b ∷ bs) ts e i = absurd (omega (arith, e))
 
-may_stand : (x : g.Scope) (i : ℕ) (q : List ℕ) (qs : List (List ℕ)) (ts : List BToken) → IsNewName x.locals q ≡ true → Goes (g.indices x i (q ∷ qs)) ts (first_of x i q qs) ts
+may_stand : (x : g.Scope) (i : ℕ) (q : List ℕ) (qs : List (List ℕ)) (ts : List BToken) → is_new_name x.locals q ≡ true → Goes (g.indices x i (q ∷ qs)) ts (first_of x i q qs) ts
 may_stand x i q qs ts h =
-    where_is (first_of x i q qs) (g.at_indices x i) (IsNewName x.locals q) h (start (g.indices x i (q ∷ qs)) ts)
+    where_is (first_of x i q qs) (g.at_indices x i) (is_new_name x.locals q) h (start (g.indices x i (q ∷ qs)) ts)
 
-may_not_stand : (x : g.Scope) (i : ℕ) (q : List ℕ) (qs : List (List ℕ)) (ts : List BToken) → IsNewName x.locals q ≡ false → Goes (g.indices x i (q ∷ qs)) ts (g.at_indices x i) ts
+may_not_stand : (x : g.Scope) (i : ℕ) (q : List ℕ) (qs : List (List ℕ)) (ts : List BToken) → is_new_name x.locals q ≡ false → Goes (g.indices x i (q ∷ qs)) ts (g.at_indices x i) ts
 may_not_stand x i q qs ts h =
-    where_not (first_of x i q qs) (g.at_indices x i) (IsNewName x.locals q) h (start (g.indices x i (q ∷ qs)) ts)
+    where_not (first_of x i q qs) (g.at_indices x i) (is_new_name x.locals q) h (start (g.indices x i (q ∷ qs)) ts)
 
-pub bound_is_local : (x : g.Scope) (bound : List (List ℕ)) (q : List ℕ) (qs : List (List ℕ)) (ts : List BToken) → bound ≡ q ∷ qs → IsNewName x.locals q ≡ false → (i : ℕ) → Old x i ts bound
+pub bound_is_local : (x : g.Scope) (bound : List (List ℕ)) (q : List ℕ) (qs : List (List ℕ)) (ts : List BToken) → bound ≡ q ∷ qs → is_new_name x.locals q ≡ false → (i : ℕ) → Old x i ts bound
 bound_is_local x bound q qs ts e h i = subst (Old x i ts) (sym e) (may_not_stand x i q qs ts h)
 
-pub bound_is_not : (x : g.Scope) (bound : List (List ℕ)) (q : List ℕ) (qs : List (List ℕ)) (ts : List BToken) → bound ≡ q ∷ qs → IsNewName x.locals q ≡ true →
+pub bound_is_not : (x : g.Scope) (bound : List (List ℕ)) (q : List ℕ) (qs : List (List ℕ)) (ts : List BToken) → bound ≡ q ∷ qs → is_new_name x.locals q ≡ true →
     IsNot (the_name q) ts → (i : ℕ) → Old x i ts bound
 bound_is_not x bound q qs ts e h n i = subst (Old x i ts) (sym e) (by_other n (may_stand x i q qs ts h))
 
-pub bound_is : (x : g.Scope) (bound : List (List ℕ)) (q : List ℕ) (qs : List (List ℕ)) (ts us : List BToken) → bound ≡ q ∷ qs → IsNewName x.locals q ≡ true →
+pub bound_is : (x : g.Scope) (bound : List (List ℕ)) (q : List ℕ) (qs : List (List ℕ)) (ts us : List BToken) → bound ≡ q ∷ qs → is_new_name x.locals q ≡ true →
     Starts (the_name q) ts tt us → (i : ℕ) → New x i ts qs us bound
 bound_is x bound q qs ts us e h p i = subst (New x i ts qs us) (sym e) (by_token p (may_stand x i q qs ts h))
 

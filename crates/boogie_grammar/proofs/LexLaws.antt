@@ -16,7 +16,7 @@ use Rattle.boogie_grammar.specs.declared.tokens.BTok.{BTok}
 use Rattle.boogie_grammar.specs.declared.tokens.BToken.{BToken}
 use Rattle.boogie_grammar.specs.Words.{sign_text}
 use Rattle.boogie_grammar.specs.Pieces as p
-use Rattle.boogie_grammar.specs.Pieces.{Class, Blank, Letter, Digit, Quote, Other, class_of, is_blank, is_in_line, is_unquoted, is_point_zero, literal_length, signs, sign_at, Piece}
+use Rattle.boogie_grammar.specs.Pieces.{Class, Blank, Letter, Digit, Quote, Other, class_of, is_blank, is_in_line, is_unquoted, is_point_zero, literal_length, signs, Piece}
 use Rattle.boogie_grammar.specs.Cut.{IsCut, end, piece, onto}
 use Rattle.boogie_grammar.specs.Faults.{Stops}
 use Rattle.boogie_grammar.specs.Faults as s

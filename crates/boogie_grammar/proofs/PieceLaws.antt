@@ -15,7 +15,7 @@ use Rattle.boogie_grammar.specs.declared.tokens.BTok.TheVariants as tok
 use Rattle.boogie_grammar.specs.Words.{sign_text}
 use Rattle.boogie_grammar.specs.Pieces as p
 use Rattle.boogie_tree.specs.Literals.{max_literal}
-use Rattle.boogie_grammar.specs.Pieces.{Class, Blank, Letter, Digit, Quote, Other, class_of, is_blank, is_in_line, is_unquoted, is_point_zero, digits, literal, literal_length, sign_at, Piece}
+use Rattle.boogie_grammar.specs.Pieces.{Blank, Letter, Digit, Quote, Other, is_blank, is_in_line, is_unquoted, is_point_zero, digits, literal, literal_length, sign_at, Piece}
 use Rattle.boogie_grammar.specs.Step.{IsPiece, literal_of}
 use Rattle.vb_base.proofs.Numbers.{all_digits, digits_of_front}
 use Rattle.boogie_grammar.proofs.WrittenRows.{piece_as}

@@ -22,8 +22,8 @@ pub record IsToken (t : BToken) : Type 0 where
   pub len : ℕ
   pub begins : IsPiece bytes (Some t.tok) len
 
--- A text is these tokens, and then what the rest is: in front of the tokens of the rest, these make the tokens of the text.
--- Where `before` brackets are unclosed before the text, `after` are so before the rest: never are too many, if it is so in the rest.
+-- These tokens are read off a text: in front of the tokens of what is left, they make the tokens of the text. Where `before` brackets
+-- are unclosed before the text, too many are so nowhere in it, if that is so in what is left, counted from `after`.
 pub record IsPart (before : ℕ) (text : List ℕ) (ts : List BToken) (after : ℕ) (rest : List ℕ) : Type 0 where
   pub row : (us : List BToken) → IsRow rest us → IsRow text (ts ++ us)
   pub shallow : (us : List BToken) → IsShallowFrom after us → IsShallowFrom before (ts ++ us)

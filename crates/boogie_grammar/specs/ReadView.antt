@@ -95,8 +95,8 @@ abbrev pub bases_of : Vec BBase Global → List BBase
 bases_of v = v.items
 
 -- whether a name is not reserved and none of these
-abbrev pub IsNewName : List (List ℕ) → List ℕ → Bool
-IsNewName names x = not (is_reserved x) && not (is_among x names)
+abbrev pub is_new_name : List (List ℕ) → List ℕ → Bool
+is_new_name names x = not (is_reserved x) && not (is_among x names)
 
 abbrev pub all_locals_of : Vec declared.Local Global → List Local
 all_locals_of v = locals_of v.items

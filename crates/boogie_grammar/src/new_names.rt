@@ -2,19 +2,18 @@
 ghost use Rattle.std.specs.Prelude.{◌≡◌, ◌<◌, ◌++◌, length, IfOk};
 ghost use Rattle.boogie_grammar.specs.Greedy.{Takes};
 ghost use Rattle.boogie_grammar.specs.Grammar.{taken_by};
-ghost use Rattle.boogie_grammar.specs.ReadView.{IsNewName, scope_of};
+ghost use Rattle.boogie_grammar.specs.ReadView.{is_new_name, scope_of};
 ghost use Rattle.boogie_grammar.specs.Tests.{a_new_name};
 
 use crate::eating::Read;
 use crate::scopes::{Names, Scope, is_reserved};
 use crate::{BTok, BToken};
 use grammar::Stop;
-use std::alloc::Global;
 use vb_base::Ident;
 
 /// Whether a name is not reserved and none of these.
 pub fn is_new(names: &Names, name: &Ident) -> bool
-    ensures { result ≡ IsNewName names.now name.now }
+    ensures { result ≡ is_new_name names.now name.now }
 {
     !is_reserved(name.bytes()) && !names.has(name)
 }
@@ -38,14 +37,14 @@ pub fn new_name<'a>(taken: &Names, tokens: &'a [BToken]) -> Read<'a, Ident>
 
 /// Whether a name is not reserved, none of the locals and of the further names.
 fn is_free(scope: Scope<'_>, name: &Ident) -> bool
-    ensures { result ≡ IsNewName (scope.entry.locals.now ++ scope.entry.others.now) name.now }
+    ensures { result ≡ is_new_name (scope.entry.locals.now ++ scope.entry.others.now) name.now }
 {
     is_new(scope.locals, name) && !scope.others.has(name)
 }
 
 /// Whether a name is so, and not yet bound.
 fn is_unbound(scope: Scope<'_>, bound: &Names, name: &Ident) -> bool
-    ensures { result ≡ IsNewName (taken_by (scope_of scope.entry) bound.now) name.now }
+    ensures { result ≡ is_new_name (taken_by (scope_of scope.entry) bound.now) name.now }
 {
     is_free(scope, name) && !bound.has(name)
 }

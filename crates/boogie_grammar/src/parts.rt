@@ -40,6 +40,7 @@ pub fn next_part<'a>(
     let mut last = Last::Itself;
     let mut rest = text;
     while !rest.is_empty() {
+        // A piece too, but most pieces are blanks, and what `piece` answers takes time to move.
         if is_blank(rest[0]) {
             let (_, behind) = rest.split_at(1);
             rest = behind;

@@ -6,7 +6,7 @@ use Rattle.boogie_meaning.specs.Ends.{End}
 use Rattle.boogie_meaning.specs.Run.{Run, Done, with_end, then_run}
 use Rattle.boogie_run.specs.Answers.{Answers, no_memory, is, over, wrong}
 use Rattle.boogie_run.specs.Runs as runs
-use Rattle.boogie_run.specs.Runs.{Runs, done, stops, Takes, halted, why}
+use Rattle.boogie_run.specs.Runs.{Runs, done, stops, Takes, halted}
 use Rattle.boogie_run.specs.declared.eval_ends.Miss.{Miss}
 use Rattle.boogie_run.specs.declared.replay_ends.Halt.{Halt}
 

@@ -30,7 +30,7 @@ use crate::eval_values::{Row, Scope, part_of, place, value_at, value_at_bound, v
 use boogie_tree::{BBase, BExpr, BOp, BScalar, BValue, fits_key};
 use std::alloc::Global;
 use vb_base::Memory;
-use vb_value::{Content, Frac, Key};
+use vb_value::{Content, Key};
 
 /// The columns of the maps that an expression indexes by the bound names.
 fn columns_in<'a>(alloc: Global, e: &BExpr, env: &'a [BValue]) -> Result<Vec<Column<'a>>, Memory>

@@ -20,9 +20,9 @@ use Rattle.boogie_grammar.specs.declared.tokens.BTok.TheVariants as tok
 use Rattle.boogie_grammar.specs.declared.tokens.BToken.{BToken}
 use Rattle.boogie_grammar.specs.Words.{word_tok, word_text, base_word, operator_tok, is_reserved, is_among}
 use Rattle.boogie_grammar.specs.Tests as v
-use Rattle.boogie_grammar.specs.Tests.{Kind, Value, Test, Passes, number_of, the_sign, the_word, the_name, a_new_name, a_variable, a_number, a_real, a_label, a_base, a_key, an_operator}
+use Rattle.boogie_grammar.specs.Tests.{Kind, Test, Passes, number_of, the_sign, the_word, the_name, a_new_name, a_variable, a_number, a_real, a_label, a_base, a_key, an_operator}
 use Rattle.boogie_grammar.specs.Grammar as g
-use Rattle.boogie_grammar.specs.Grammar.{Symbol, Rule, give, need, when, read, rule, boogie, rules}
+use Rattle.boogie_grammar.specs.Grammar.{Symbol, Rule, give, when, read, rule, boogie, rules}
 use Rattle.boogie_grammar.specs.Spells.{IsProgram, GoesWrong}
 use Rattle.boogie_grammar.proofs.Elements.{laws, operator_at, operator_there}
 use Rattle.boogie_text.proofs.Codes.{sign_code, empty}

@@ -3,7 +3,7 @@ use Rattle.std.proofs.Common.{◌≡◌, refl, sym, subst, ◌∙◌, ℕ, Bool,
 use Rattle.std.proofs.lemmas.Bool.{eq-eqb, both_ways}
 use Rattle.grammar.proofs.Sets.{among, within}
 use Rattle.grammar.proofs.Complete as grammar
-use Rattle.grammar.proofs.Complete.{good_give, good_need, good_when, good_read, te, tn, tw, tr}
+use Rattle.grammar.proofs.Complete.{good_when, te, tn, tw, tr}
 use Rattle.grammar.specs.Spells as plain
 use Rattle.grammar.specs.Spells.{Derives}
 use Rattle.grammar.specs.Greedy.{Reads}
@@ -21,7 +21,7 @@ use Rattle.boogie_grammar.specs.declared.tokens.BTok.TheVariants as tok
 use Rattle.boogie_grammar.specs.declared.tokens.BToken.{BToken}
 use Rattle.boogie_grammar.specs.Words.{word_tok, word_text, base_word, operator_tok, is_reserved, is_among}
 use Rattle.boogie_grammar.specs.Tests as v
-use Rattle.boogie_grammar.specs.Tests.{Binding, Kind, Value, Test, Passes, the_sign, the_word, the_name, a_new_name, a_variable, a_number, a_real, a_label, a_base, a_key, an_operator}
+use Rattle.boogie_grammar.specs.Tests.{Kind, Value, Test, Passes, the_sign, the_word, the_name, a_new_name, a_variable, a_number, a_real, a_label, a_base, a_key, an_operator}
 use Rattle.boogie_grammar.specs.Grammar as g
 use Rattle.boogie_grammar.specs.Grammar.{Symbol, Rule, give, need, when, read, rule, rules}
 use Rattle.boogie_grammar.proofs.NameLaws.{there, free_bound}

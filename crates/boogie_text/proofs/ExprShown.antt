@@ -21,9 +21,9 @@ use Rattle.boogie_grammar.specs.Words.{word_tok, base_word, operator_tok, is_amo
 use Rattle.boogie_tree.specs.Literals.{max_literal, IsLiteral}
 use Rattle.boogie_grammar.specs.Pieces.{is_point_zero}
 use Rattle.boogie_grammar.specs.Tests as v
-use Rattle.boogie_grammar.specs.Tests.{Kind, Value, Test, Binding, the_sign, the_word, the_name, a_new_name, a_variable, a_number, a_real, a_key, an_operator}
+use Rattle.boogie_grammar.specs.Tests.{Kind, Value, Binding, the_sign, the_word, the_name, a_variable, a_key, an_operator}
 use Rattle.boogie_grammar.specs.Grammar as g
-use Rattle.boogie_grammar.specs.Grammar.{Symbol, Rule, Scope, give, need, when, read, rule, rules, boogie}
+use Rattle.boogie_grammar.specs.Grammar.{Symbol, Rule, Scope, give, need, when, read, rule, rules}
 use Rattle.boogie_grammar.specs.Cut.{IsRow}
 use Rattle.boogie_grammar.specs.Printed.{Naming, name_at, base_text, bound_name, free_number, free_name, bound_names, under, names_text, binders_text, expr_text, exprs_text}
 use Rattle.boogie_grammar.proofs.WrittenRows.{at_start, Ends, name_row, free_row, blank_row, open_row, close_row, bracket_row, end_row, comma_row, minus_row, not_row, colon_row, bounds_row, operator_row, number_row, real_row}

@@ -18,9 +18,9 @@ use Rattle.boogie_grammar.specs.declared.tokens.BToken.{BToken}
 use Rattle.boogie_grammar.specs.declared.tokens.Word.TheVariants as w
 use Rattle.boogie_grammar.specs.Words.{word_tok, base_word, is_among}
 use Rattle.boogie_grammar.specs.Tests as v
-use Rattle.boogie_grammar.specs.Tests.{Kind, Value, a_new_name, a_variable, a_label, a_base, a_key, some_free}
+use Rattle.boogie_grammar.specs.Tests.{Kind, Value, a_new_name, a_base, a_key, some_free}
 use Rattle.boogie_grammar.specs.Grammar as g
-use Rattle.boogie_grammar.specs.Grammar.{Rule, give, need, when, read, rule, rules, local_names, proc_names}
+use Rattle.boogie_grammar.specs.Grammar.{Rule, give, read, rule, rules, local_names, proc_names}
 use Rattle.boogie_grammar.specs.Cut.{IsRow}
 use Rattle.boogie_grammar.specs.Cut as cut
 use Rattle.boogie_grammar.specs.Printed.{naming, is_q, name_at, base_text, expr_text, exprs_text, stmt_text, stmts_text, bases_text, type_text, locals_text, proc_text, procs_text, program_text}

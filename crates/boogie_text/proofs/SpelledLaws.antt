@@ -32,7 +32,7 @@ use Rattle.boogie_grammar.specs.Pieces.{Piece, Class, Blank, Letter, Digit, Quot
 use Rattle.boogie_grammar.specs.Cut as cut
 use Rattle.boogie_grammar.specs.Cut.{onto, IsRow}
 use Rattle.boogie_grammar.specs.Tests as v
-use Rattle.boogie_grammar.specs.Tests.{Kind, Value, Test, Passes, IsVariable, number_of, some_free}
+use Rattle.boogie_grammar.specs.Tests.{Kind, Value, Passes, IsVariable, number_of, some_free}
 use Rattle.boogie_grammar.specs.Grammar as g
 use Rattle.boogie_grammar.specs.Grammar.{Symbol, Rule, give, need, when, read, rule, rules, local_names, proc_names}
 use Rattle.boogie_grammar.specs.Spells.{BSpells}

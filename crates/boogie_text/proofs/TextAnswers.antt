@@ -25,7 +25,7 @@ use Rattle.boogie_grammar.specs.Pieces.{Class, Blank, Letter, Digit, Quote, Othe
 use Rattle.boogie_grammar.specs.Cut.{IsCut, end, piece, onto}
 use Rattle.boogie_grammar.specs.Depth.{IsShallow, IsTooDeep, unclosed}
 use Rattle.boogie_grammar.specs.Spells.{IsProgram, GoesWrong}
-use Rattle.boogie_grammar.specs.Faults.{Differs, ended, other, later, Stops, place_at, IsFault, no_prelude, no_token, too_deep, no_program}
+use Rattle.boogie_grammar.specs.Faults.{Differs, ended, other, later, Stops, IsFault, no_prelude, no_token, too_deep, no_program}
 use Rattle.boogie_grammar.specs.Faults as s
 use Rattle.boogie_grammar.proofs.DepthLaws.{one_more_front, shallow_from_fronts}
 use Rattle.boogie_grammar.proofs.LexLaws.{piece_some}

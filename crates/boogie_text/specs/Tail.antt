@@ -55,28 +55,30 @@ pub record IsBodyTail (so_far : List Proc) (name : List ℕ) (ls : List p.Local)
   pub shallow : IsShallowFrom 1 tokens
   pub spells : Derives rules _ (after_statements so_far name ls done) tokens all
 
--- a text begins with the head of a procedure of this name, which is none of these: what follows is then inside of it
+-- the head of a procedure of this name, which is none of these, is read off a text: if what is left goes on inside of it, the text goes
+-- on so
 pub record BeginsProcedure (taken : List (List ℕ)) (text name rest : List ℕ) : Type 0 where
   pub goes_on : (so_far all : List Proc) → proc_names so_far ≡ taken → IsLocalsTail so_far name [] rest all → IsTail so_far text all
   pub new : is_among name taken ≡ false
   pub shorter : length rest < length text
 
--- a text begins with the declaration of a local, whose name is none of these: what follows is then behind one local more
+-- the declaration of a local, whose name is none of these, is read off a text: if what is left goes on behind one local more, the text
+-- goes on so
 pub record BeginsLocal (names : List (List ℕ)) (text : List ℕ) (l : p.Local) (rest : List ℕ) : Type 0 where
   pub goes_on : (so_far : List Proc) (name : List ℕ) (ls : List p.Local) (all : List Proc) → local_names ls ≡ names →
       IsLocalsTail so_far name (ls ++ l ∷ []) rest all → IsLocalsTail so_far name ls text all
   pub new : is_among l.name names ≡ false
   pub shorter : length rest < length text
 
--- a text begins with a statement in which locals of these names may be used, and its literals are literals: what follows is then
--- behind one statement more
+-- a statement in which locals of these names may be used, and whose literals are literals, is read off a text: if what is left goes on
+-- behind one statement more, the text goes on so
 pub record BeginsStatement (names : List (List ℕ)) (text : List ℕ) (a : s.BStmt) (rest : List ℕ) : Type 0 where
   pub goes_on : (so_far : List Proc) (name : List ℕ) (ls : List p.Local) (done : List s.BStmt) (all : List Proc) → local_names ls ≡ names →
       IsBodyTail so_far name ls (done ++ a ∷ []) rest all → IsBodyTail so_far name ls done text all
   pub fits : FitsStmt (length names) a
   pub shorter : length rest < length text
 
--- a text begins with the end of a procedure: what follows is then behind one procedure more
+-- the end of a procedure is read off a text: if what is left goes on behind one procedure more, the text goes on so
 pub record BeginsEnd (text rest : List ℕ) : Type 0 where
   pub goes_on : (so_far : List Proc) (name : List ℕ) (ls : List p.Local) (done : List s.BStmt) (all : List Proc) →
       IsTail (so_far ++ record { name = name; locals = ls; body = s.stmts done } ∷ []) rest all → IsBodyTail so_far name ls done text all

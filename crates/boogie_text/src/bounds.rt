@@ -4,14 +4,13 @@ ghost use Rattle.boogie_grammar.specs.Grammar as g;
 ghost use Rattle.boogie_grammar.specs.Greedy.{Parses};
 ghost use Rattle.boogie_grammar.specs.ReadView.{scope_of, binding_of, ReadsBound, NoBound};
 
-use crate::types::pushed;
 use boogie_grammar::eating::{Read, eat_sign, eat_this, key, sign, this};
 use boogie_grammar::new_names::{bound_name, is_new};
 use boogie_grammar::scopes::{Names, Scope};
 use boogie_grammar::{BSign, BToken};
 use boogie_tree::BBase;
 use std::alloc::Global;
-use vb_base::Ident;
+use vb_base::{Ident, pushed};
 
 /// Where the first bound name is next, as the first index: the other bound names, and the tokens after it.
 pub(crate) fn eat_bound<'a, 'b>(

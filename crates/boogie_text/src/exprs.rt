@@ -6,14 +6,13 @@ ghost use Rattle.boogie_grammar.specs.ReadView.{scope_of, boxed_of, all_exprs_of
 
 use crate::bounds::{binders, bound_rest, eat_bound};
 use crate::builds::{at, wrap};
-use crate::types::pushed;
 use boogie_grammar::eating::{Read, eat_sign, eat_word, operator, sign, word};
 use boogie_grammar::leaves::{Wrap, eat_forall, eat_leaf, eat_variable, eat_wrap};
 use boogie_grammar::scopes::{Names, Scope};
 use boogie_grammar::{BSign, BToken, Word};
 use boogie_tree::BExpr;
 use std::alloc::Global;
-use vb_base::boxed;
+use vb_base::{boxed, pushed};
 
 /// An expression.
 #[cycle(expressions)]

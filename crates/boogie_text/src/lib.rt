@@ -41,7 +41,7 @@ pub use pieces::{
 pub use printer::print;
 pub use public_tokens::{BTok, BToken, tokens_after};
 pub use put_heads::{put_locals, put_type};
-pub use put_leaves::{put, put_binders, put_names, put_number, put_operator, put_real, truth_text};
+pub use put_leaves::{put_binders, put_names, put_number, put_operator, put_real, truth_text};
 pub use put_stmts::{put_else, put_end};
 pub use reader::{end_after, read};
 pub use single_expr::{ReadExpr, read_bexpr};
@@ -49,4 +49,4 @@ pub use text_laws::{
     nested_is_shallow, programs_are_written_in_pieces, statements_are_written_in_pieces,
     written_is_spelled,
 };
-pub use types::{pushed, type_of};
+pub use types::type_of;

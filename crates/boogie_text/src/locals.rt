@@ -6,13 +6,14 @@ ghost use Rattle.boogie_grammar.specs.Grammar.{local_names};
 ghost use Rattle.boogie_grammar.specs.Greedy.{Parses};
 ghost use Rattle.boogie_grammar.specs.ReadView.{all_locals_of};
 
-use crate::types::{pushed, type_of};
+use crate::types::type_of;
 use boogie_grammar::eating::{Read, eat_word, sign};
 use boogie_grammar::new_names::new_name;
 use boogie_grammar::scopes::Names;
 use boogie_grammar::{BSign, BToken, Word};
 use boogie_tree::Local;
 use std::alloc::Global;
+use vb_base::pushed;
 
 /// The locals with which a procedure begins, whose names differ. Their names come into the table.
 pub(crate) fn locals<'a>(

@@ -8,13 +8,13 @@ ghost use Rattle.boogie_text.specs.StmtView.{all_procs_of};
 
 use crate::locals::locals;
 use crate::stmts::statements;
-use crate::types::pushed;
 use boogie_grammar::eating::{Read, eat_word, sign};
 use boogie_grammar::new_names::new_name;
 use boogie_grammar::scopes::Names;
 use boogie_grammar::{BSign, BToken, Word};
 use boogie_tree::Proc;
 use std::alloc::Global;
+use vb_base::pushed;
 
 /// A procedure after its word, whose name is none of these.
 pub(crate) fn procedure<'a>(alloc: Global, taken: &Names, tokens: &'a [BToken]) -> Read<'a, Proc>

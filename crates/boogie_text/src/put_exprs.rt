@@ -5,13 +5,12 @@ ghost use Rattle.boogie_grammar.specs.Naming.{naming_of};
 ghost use Rattle.boogie_grammar.specs.Printed as text;
 
 use crate::put_leaves::{
-    put, put_binders, put_byte, put_names, put_number, put_numbered, put_operator, put_real,
-    truth_text,
+    put_binders, put_byte, put_names, put_number, put_numbered, put_operator, put_real, truth_text,
 };
 use boogie_grammar::naming::{Naming, bound_names};
 use boogie_tree::{BBase, BExpr};
 use std::alloc::Global;
-use vb_base::Memory;
+use vb_base::{Memory, put};
 
 /// An expression.
 #[cycle(expressions)]

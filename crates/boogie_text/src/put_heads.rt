@@ -3,10 +3,10 @@ ghost use Rattle.std.specs.Prelude.{◌≡◌, ◌++◌, OnOk, [], codes};
 ghost use Rattle.boogie_tree.specs.Whole as b;
 ghost use Rattle.boogie_grammar.specs.Printed as text;
 
-use crate::put_leaves::{put, put_byte};
+use crate::put_leaves::put_byte;
 use boogie_grammar::eating::base_text;
 use boogie_tree::{BBase, BType, Local};
-use vb_base::Memory;
+use vb_base::{Memory, put};
 
 /// A procedure up to the `{` of its body.
 pub(crate) fn put_header(out: &mut Vec<u8>, name: &[u8]) -> Result<(), Memory>

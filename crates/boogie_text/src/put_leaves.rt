@@ -8,18 +8,10 @@ ghost use Rattle.boogie_grammar.specs.Printed as text;
 use boogie_grammar::eating::base_text;
 use boogie_tree::{BBase, BOp};
 use itoa::{Buffer, write_digits};
-use vb_base::{Ident, Kind, Label, Memory, Pos};
+use vb_base::{Ident, Kind, Label, Memory, Pos, put};
 
 /// The most bytes of the name of a temporary: 2 and 20 digits.
 const LONGEST_NAME: usize = 22;
-
-/// Appends these bytes.
-pub fn put(out: &mut Vec<u8>, bytes: &[u8]) -> Result<(), Memory>
-    ensures { OnOk result (out.new.items ≡ out.old.items ++ bytes.now) }
-{
-    out.extend_from_slice(bytes)?;
-    Ok(())
-}
 
 /// Appends names with `, ` between them.
 pub fn put_names(out: &mut Vec<u8>, names: &[Ident]) -> Result<(), Memory>

@@ -7,11 +7,11 @@ ghost use Rattle.boogie_grammar.specs.Printed as text;
 ghost use Rattle.boogie_text.specs.Pieces.{else_text, end_text};
 
 use crate::put_exprs::{put_after, put_exprs, put_map, put_name};
-use crate::put_leaves::{put, put_label};
+use crate::put_leaves::put_label;
 use boogie_grammar::naming::Naming;
 use boogie_tree::{BExpr, BStmt};
 use std::alloc::Global;
-use vb_base::{Label, Memory};
+use vb_base::{Label, Memory, put};
 
 #[cycle(statements)]
 pub(crate) fn put_statements(

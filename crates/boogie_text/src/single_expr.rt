@@ -20,7 +20,7 @@ use boogie_grammar::{BSign, BoogieFault};
 use boogie_tree::{BExpr, Local};
 use grammar::Stop;
 use std::alloc::Global;
-use vb_base::{Ident, Memory, Pos};
+use vb_base::{Memory, Pos};
 
 /// An expression, and the number of the first token after it.
 #[derive(Drop)]

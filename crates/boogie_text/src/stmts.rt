@@ -6,13 +6,13 @@ ghost use Rattle.boogie_grammar.specs.Greedy.{Parses};
 ghost use Rattle.boogie_text.specs.StmtView.{all_stmts_of, block_of, unpicked, picked};
 
 use crate::simple::{assertion, assignment, assumption, eat_havoc, whole_expr};
-use crate::types::pushed;
 use boogie_grammar::eating::{Read, eat_sign, eat_word, sign, word};
 use boogie_grammar::leaves::eat_variable;
 use boogie_grammar::scopes::Names;
 use boogie_grammar::{BSign, BToken, Word};
 use boogie_tree::BStmt;
 use std::alloc::Global;
+use vb_base::pushed;
 
 /// `{ bstmt } "}"`
 #[cycle(blocks)]

@@ -1,5 +1,5 @@
 // Types and what a `forall` binds.
-ghost use Rattle.std.specs.Prelude.{◌≡◌, ◌<◌, ◌++◌, ◌∷◌, [], length, IfOk};
+ghost use Rattle.std.specs.Prelude.{◌<◌, ◌∷◌, [], length, IfOk};
 ghost use Rattle.boogie_tree.specs.Whole.{type_of};
 ghost use Rattle.boogie_grammar.specs.Grammar as g;
 ghost use Rattle.boogie_grammar.specs.Greedy.{Parses};
@@ -8,19 +8,8 @@ ghost use Rattle.boogie_grammar.specs.ReadView.{bases_of};
 use boogie_grammar::eating::{Read, base, eat_sign, key, sign};
 use boogie_grammar::{BSign, BToken};
 use boogie_tree::{BBase, BType};
-use std::alloc::{AllocFailed, Global};
-
-/// The list with one more item.
-pub fn pushed<T: Drop>(mut all: Vec<T>, item: T) -> Result<Vec<T>, AllocFailed<T>>
-    ensures { IfOk result (λ v. v.items ≡ all.items ++ (item ∷ [])) }
-{
-    if all.is_empty() {
-        // Where memory is refused, the push says so.
-        let _refused = all.reserve_exact(1);
-    }
-    all.push(item)?;
-    Ok(all)
-}
+use std::alloc::Global;
+use vb_base::pushed;
 
 /// The type of a variable.
 pub fn type_of(alloc: Global, tokens: &[BToken]) -> Read<'_, BType>

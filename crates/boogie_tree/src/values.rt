@@ -7,7 +7,7 @@ ghost use Rattle.boogie_tree.specs.Value.{same_scalar};
 ghost use Rattle.boogie_tree.specs.Whole.{scalar_of};
 
 use sparse::Sparse;
-use std::alloc::{AllocError, Global};
+use std::alloc::AllocError;
 use vb_value::{Content, Frac, Key};
 
 /// A value that is no map.

@@ -1,5 +1,5 @@
 -- The views of the variants that hold a `Vec` in a cycle, where code builds or matches them.
-use Rattle.std.proofs.Common.{◌≡◌, ◌∙◌, refl, ap, List, [], ◌∷◌, map, Option, Vec}
+use Rattle.std.proofs.Common.{◌≡◌, ◌∙◌, refl, ap, map, Option, Vec}
 use Rattle.std.specs.Option.{option_map}
 use Rattle.std.specs.declared.alloc.Global.{Global}
 use Rattle.boogie_tree.specs.Whole.{expr_of}

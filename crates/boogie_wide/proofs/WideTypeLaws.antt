@@ -1,11 +1,10 @@
 -- The functions on types answer what the rules say, and the first ill-typed procedure is the one that the function finds.
-use Rattle.std.proofs.Common.{◌≡◌, ◌≢◌, ◌+◌, ◌<◌, ◌≤◌, ℕ, zero, suc, Bool as Truth, true, false, ◌&&◌, ◌==◌, not, nat_le, Option, Some, None, List, [], ◌∷◌, map, length, All, AllPairs, slice_get, slice_index_or, if◌then◌else◌, refl, sym, ap, subst, ◌∙◌, arith}
+use Rattle.std.proofs.Common.{◌≡◌, ◌≢◌, ◌+◌, ◌<◌, ◌≤◌, ℕ, zero, suc, Bool as Truth, true, false, ◌&&◌, ◌==◌, not, nat_le, Option, Some, None, List, [], ◌∷◌, map, length, All, AllPairs, slice_get, if◌then◌else◌, refl, sym, ap, subst, ◌∙◌, arith}
 use Rattle.std.specs.Bool.{Decides}
 use Rattle.std.specs.List.{AllZip, list_all}
 use Rattle.std.specs.Option.{option_map}
 use Rattle.std.proofs.lemmas.Bool.{leb-true, le-leb}
 use Rattle.std.proofs.lemmas.Bool.Decides.{Decides-eqb}
-use Rattle.std.proofs.lemmas.List.Elements.{All-cons, All-head, All-tail}
 use Rattle.std.proofs.lemmas.List.Kept.{AllPairs-cons}
 use Rattle.sparse.proofs.MapLaws.{Decides-list_all}
 use Rattle.boogie_tree.specs.Expr as t
@@ -15,7 +14,7 @@ use Rattle.boogie_tree.specs.Values.{same_base, same_bases, same_type, plain_typ
 use Rattle.boogie_tree.specs.declared.exprs.BBase.{BBase}
 use Rattle.boogie_tree.specs.declared.exprs.BBase.TheVariants as base
 use Rattle.boogie_meaning.specs.Programs.{HaveKeys, have_keys}
-use Rattle.boogie_meaning.specs.Types.{HasType, IsTypedStmt, then_some, base_of, is_base, is_type, is_typed_stmt}
+use Rattle.boogie_meaning.specs.Types.{HasType, then_some, base_of, is_base, is_type, is_typed_stmt}
 use Rattle.boogie_meaning.specs.Decided.{Decides-same_base}
 use Rattle.boogie_meaning.proofs.TypeLaws.{and_both, and_true, some_same, bases_same, same_base_itself, same_bases_itself, Decides-are_keys, base_of_sound, base_of_complete, stmt_sound, stmt_complete}
 use Rattle.boogie_wide.specs.Wide as w

@@ -1,5 +1,5 @@
 -- Numbers that were seen, and those that are left.
-use Rattle.std.proofs.Common.{◌≡◌, ◌∙◌, ◌==◌, ◌&&◌, ◌+◌, ◌<◌, ◌≤◌, ℕ, suc, Bool as Truth, true, false, not, cond, List, [], ◌∷◌, drop, get_or, length, drop_of_length-le, refl, sym, ap}
+use Rattle.std.proofs.Common.{◌≡◌, ◌∙◌, ◌==◌, ◌&&◌, ◌+◌, ◌<◌, ◌≤◌, ℕ, Bool as Truth, true, false, not, cond, List, [], ◌∷◌, drop, get_or, length, drop_of_length-le, refl, sym, ap}
 use Rattle.std.proofs.Math.Numerals.{add-one}
 use Rattle.std.proofs.Math.Seq.{drop-cons}
 use Rattle.std.specs.List.{list_all, list_any}

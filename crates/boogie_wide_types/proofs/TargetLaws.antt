@@ -1,17 +1,11 @@
 -- No argument and no target is left just where no type is.
-use Rattle.std.proofs.Common.{◌≡◌, ℕ, ◌-◌, ◌≤◌, ◌<◌, drop_of_length-le, Bool as Truth, true, false, Option, Some, None, List, [], ◌∷◌, drop, map, length, length-drop, nat_eq, cond, refl, sym, ap, ◌∙◌, arith}
-use Rattle.std.specs.List.{find}
-use Rattle.std.specs.Option.{option_map}
-use Rattle.std.specs.Str.{bytes_eq}
+use Rattle.std.proofs.Common.{◌≡◌, ℕ, ◌-◌, ◌≤◌, ◌<◌, drop_of_length-le, Bool as Truth, true, false, List, [], ◌∷◌, drop, length, length-drop, nat_eq, refl, sym, ap, ◌∙◌, arith}
 use Rattle.std.proofs.lemmas.Bool.{false_from_ne_true}
 use Rattle.std.proofs.lemmas.Bool.Decides.{Decides-eqb}
 use Rattle.boogie_tree.specs.Expr as t
 use Rattle.boogie_tree.specs.Program.{BType}
 use Rattle.boogie_tree.specs.declared.programs.Local.{Local}
 use Rattle.boogie_run.specs.Typed.{types_in}
-use Rattle.boogie_wide.specs.Procedures.{proc_named}
-use Rattle.boogie_wide.specs.View.{wproc_of}
-use Rattle.boogie_wide.specs.declared.wide.WProc.{WProc}
 use Rattle.boogie_wide.specs.WideTypes.{are_arguments, are_targets}
 
 abbrev none : List Local → Truth

@@ -13,7 +13,6 @@ use Rattle.boogie_meaning.specs.Run.{Run, Stop, Stops, Failed}
 use Rattle.boogie_meaning.specs.Programs.{types_of, HaveKeys, IsTypedProc, brun_proc, default_value, FailsAt}
 use Rattle.boogie_meaning.proofs.ValueLaws.{found_typed, default_typed}
 use Rattle.boogie_formula.specs.Formula as f
-use Rattle.boogie_formula.specs.Formula.{FExpr, Formula}
 use Rattle.boogie_formula.specs.Value.{fvalue, formula_value}
 use Rattle.boogie_formula.specs.Types.{IsTypedFormula}
 use Rattle.boogie_formula.specs.Choices.{own_types, own_types_stmt, type_there, variables_of, locals_in, choices_in}

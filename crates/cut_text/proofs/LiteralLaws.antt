@@ -1,5 +1,5 @@
 -- The literals of what is written can be spelled where those of the program can.
-use Rattle.std.proofs.Common.{◌≡◌, ◌+◌, ℕ, Bool as Truth, Option, Some, None, List, [], ◌∷◌, ◌++◌, map, length, All, refl, subst}
+use Rattle.std.proofs.Common.{◌≡◌, ◌+◌, ℕ, Option, Some, None, List, [], ◌∷◌, ◌++◌, length, All, refl}
 use Rattle.std.proofs.lemmas.List.Elements.{All-nil, All-cons, All-head, All-tail}
 use Rattle.boogie_tree.specs.Expr as t
 use Rattle.boogie_tree.specs.Stmt as s
@@ -9,9 +9,9 @@ use Rattle.boogie_meaning.specs.Renamed.{renamed, renamed_in}
 use Rattle.boogie_wide.specs.Wide as w
 use Rattle.boogie_wide.specs.Wide.{Clause, WProc}
 use Rattle.boogie_wide.specs.Changed.{targets}
-use Rattle.boogie_wide.specs.Conditions.{ClauseLiteralsFit, GuardLiteralsFit, WideStmtLiteralsFit, WideLiteralsFit, BodyLiteralsFit, ProcLiteralsFit}
+use Rattle.boogie_wide.specs.Conditions.{ClauseLiteralsFit, GuardLiteralsFit, WideStmtLiteralsFit, WideLiteralsFit, ProcLiteralsFit}
 use Rattle.boogie_wide.specs.Procedures.{proc_named}
-use Rattle.boogie_cut.specs.Cut.{join, alone, asserts, assumes, havocs, assigns, argument_numbers, stands_for, renamed_clauses, cut_call, cut_guard, cut_turn, cut_loop, cut_stmt, cut, cut_body}
+use Rattle.boogie_cut.specs.Cut.{join, asserts, assumes, havocs, assigns, argument_numbers, stands_for, renamed_clauses, cut_call, cut_guard, cut_turn, cut_loop, cut_stmt, cut, cut_body}
 use Rattle.boogie_cut.proofs.TypedLaws.{found, place_at}
 
 module _ (f : ℕ → ℕ) where

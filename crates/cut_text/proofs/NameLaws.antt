@@ -1,5 +1,5 @@
 -- The names of further locals are names and not reserved, are none of those that are taken, and no two of them are the same.
-use Rattle.std.proofs.Common.{◌≡◌, ◌≢◌, ◌∙◌, refl, sym, ap, subst, arith, ℕ, zero, suc, ◌+◌, ◌*◌, ◌^◌, ◌<◌, ◌≤◌, Bool, true, false, ◌||◌, ◌==◌, List, [], ◌∷◌, ◌++◌, length, length-append, filter, map, All, slice_index_or, if◌then◌else◌}
+use Rattle.std.proofs.Common.{◌≡◌, ◌≢◌, ◌∙◌, refl, sym, ap, subst, arith, ℕ, zero, suc, ◌+◌, ◌*◌, ◌^◌, ◌<◌, ◌≤◌, Bool, true, false, ◌||◌, List, [], ◌∷◌, ◌++◌, length, filter, All, slice_index_or, if◌then◌else◌}
 use Rattle.std.specs.Bool.{⊤}
 use Rattle.std.specs.Char.{is_ascii_digit}
 use Rattle.std.specs.Fmt.{decimal}
@@ -13,12 +13,12 @@ use Rattle.std.proofs.lemmas.List.Elements.{All-nil, All-cons, All-head, All-tai
 use Rattle.std.proofs.lemmas.Nat.{mul-le}
 use Rattle.std.proofs.lemmas.List.Kept.{AllPairs-cons}
 use Rattle.vb_base.proofs.Numbers.{digits, all_digits}
-use Rattle.vb_base.specs.Names.{is_name_start, is_name_byte, is_name, NamesDiffer}
+use Rattle.vb_base.specs.Names.{is_name_start, is_name_byte, NamesDiffer}
 use Rattle.boogie_tree.specs.Program.{BType, Local}
 use Rattle.boogie_tree.specs.Values.{AreKeys}
 use Rattle.boogie_meaning.specs.Programs.{HaveKeys}
 use Rattle.boogie_grammar.specs.Grammar.{local_names}
-use Rattle.boogie_grammar.specs.Words.{is_reserved, reserved}
+use Rattle.boogie_grammar.specs.Words.{reserved}
 use Rattle.boogie_text.specs.Printable.{IsFreeName, FitsLocal}
 use Rattle.boogie_cut.specs.Fresh.{numbered, is_among, free_number, fresh_locals, is_a}
 

@@ -1,24 +1,24 @@
 -- What is written for a program can be printed where its names are free and differ and its literals can be spelled.
-use Rattle.std.proofs.Common.{◌≡◌, ◌≢◌, ◌+◌, ◌<◌, ◌^◌, ℕ, suc, false, Option, Some, None, List, [], ◌∷◌, ◌++◌, map, length, length-append, filter, All, slice_get, refl, sym, ap, subst, ◌∙◌, arith}
+use Rattle.std.proofs.Common.{◌≡◌, ◌≢◌, ◌<◌, ◌^◌, ℕ, suc, Option, Some, None, List, [], ◌∷◌, map, length, length-append, filter, All, slice_get, sym, ap, subst, ◌∙◌, arith}
 use Rattle.std.specs.List.{cons_option}
 use Rattle.std.specs.Option.{option_map}
 use Rattle.std.proofs.lemmas.List.{length-map}
 use Rattle.std.proofs.lemmas.List.Elements.{All-nil, All-cons, All-head, All-tail, All-append}
 use Rattle.std.proofs.lemmas.List.Kept.{AllPairs-cons}
 use Rattle.vb_base.specs.Names.{NamesDiffer}
-use Rattle.boogie_tree.specs.Program.{BType, Local, Proc, BProgram}
+use Rattle.boogie_tree.specs.Program.{BType, Local, Proc}
 use Rattle.boogie_tree.specs.Fits.{FitStmts}
 use Rattle.boogie_tree.specs.Values.{AreKeys}
-use Rattle.boogie_meaning.specs.Programs.{types_of, HaveKeys, IsTypedProc}
+use Rattle.boogie_meaning.specs.Programs.{types_of, HaveKeys}
 use Rattle.boogie_meaning.proofs.FitsLaws.{statements_fit}
-use Rattle.boogie_grammar.specs.Grammar.{local_names, proc_names}
+use Rattle.boogie_grammar.specs.Grammar.{proc_names}
 use Rattle.boogie_text.specs.Printable.{IsFreeName, FitsLocal, FitsProc, IsPrintable}
 use Rattle.boogie_wide.specs.Wide as w
 use Rattle.boogie_wide.specs.Wide.{WProc, WProgram}
 use Rattle.boogie_wide.specs.Conditions.{variable_names, procedure_names, HasNames, BodyLiteralsFit, ProcLiteralsFit}
 use Rattle.boogie_wide.specs.Procedures.{wide_types}
 use Rattle.boogie_wide.specs.WideTypes.{IsWide, IsWideBody, IsWideProc}
-use Rattle.boogie_cut.specs.Cut.{cut, cut_body, cut_proc, cut_procs, cut_program}
+use Rattle.boogie_cut.specs.Cut.{cut, cut_proc, cut_procs, cut_program}
 use Rattle.boogie_cut.specs.Fresh.{fresh_locals, is_a}
 use Rattle.cut_text.specs.Printable.{IsPrintableWide, AreFewLocals}
 use Rattle.cut_text.proofs.LiteralLaws.{body_fits}

@@ -24,7 +24,7 @@ use Rattle.boogie_meaning.specs.Run.{Done, Stops, then_run}
 use Rattle.moves.specs.Moves.{moves, moves_of}
 use Rattle.enc_expr.specs.Coupling.{Env}
 use Rattle.enc_expr.specs.Alike as a
-use Rattle.enc_expr.specs.Alike.{Alike, Follows, IsStopped}
+use Rattle.enc_expr.specs.Alike.{Alike}
 use Rattle.enc_expr.specs.Boundary.{HasEnded}
 use Rattle.enc_expr.proofs.BoundaryLaws.{same_front}
 use Rattle.enc_expr.proofs.AlikeLaws.{moves_append}

@@ -14,14 +14,14 @@ use Rattle.boogie_tree.specs.Expr as t
 use Rattle.boogie_tree.specs.Program.{BType}
 use Rattle.boogie_tree.specs.Stmt.{BStmts}
 use Rattle.boogie_tree.specs.Value as bv
-use Rattle.boogie_tree.specs.Value.{BChoice, BValue, One, Real}
+use Rattle.boogie_tree.specs.Value.{BChoice, One, Real}
 use Rattle.boogie_tree.specs.Values.{plain_type}
 use Rattle.boogie_tree.specs.declared.exprs.BBase.TheVariants as base
 use Rattle.boogie_tree.specs.declared.exprs.BOp.TheVariants as op
 use Rattle.boogie_meaning.specs.Ends as end
 use Rattle.boogie_meaning.specs.Quantified.{bvalue}
 use Rattle.boogie_meaning.specs.Run as r
-use Rattle.boogie_meaning.specs.Run.{Done, Stops, then_run, brun}
+use Rattle.boogie_meaning.specs.Run.{Stops, brun}
 use Rattle.boogie_meaning.proofs.PatternLaws.{set_here}
 use Rattle.enc_expr.specs.Code.{join}
 use Rattle.enc_expr.specs.Pieces.{zero_real}

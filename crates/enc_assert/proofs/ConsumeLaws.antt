@@ -21,7 +21,6 @@ use Rattle.viper_meaning.specs.Value.{perm_in}
 use Rattle.boogie_tree.specs.Expr as t
 use Rattle.boogie_tree.specs.Program.{BType}
 use Rattle.boogie_tree.specs.Stmt as stmt
-use Rattle.boogie_tree.specs.Stmt.{BStmts}
 use Rattle.boogie_tree.specs.Value.{BChoice, One, Real}
 use Rattle.boogie_tree.specs.Values.{plain_type}
 use Rattle.boogie_tree.specs.declared.exprs.BBase.TheVariants as base

@@ -24,7 +24,7 @@ use Rattle.enc_expr.proofs.KeyedCode.{IsKeyed, states_keyed, gives_keyed, then_k
 use Rattle.enc_expr.proofs.TypedPieces.{IsTypedCode, Any, one_typed, gives_typed, then_typed, declares_typed, puts_typed}
 use Rattle.enc_expr.proofs.TypedCode.{more_state_types}
 use Rattle.enc_expr.proofs.ShallowPieces as low
-use Rattle.enc_expr.proofs.ShallowPieces.{IsLowCode, gives_low, then_low, declares_low, puts_low}
+use Rattle.enc_expr.proofs.ShallowPieces.{IsLowCode, gives_low, then_low, declares_low}
 use Rattle.enc_expr.proofs.SmallPieces.{join_nodes}
 use Rattle.enc_assert.specs.Encoding.{forget_map, forget_heaps, forget_contents, forget_code}
 use Rattle.enc_assert.proofs.TypedAssertions.{piece_typed}

@@ -22,7 +22,6 @@ use Rattle.viper_core.specs.Typing.{Context}
 use Rattle.viper_state.specs.Choice as choice
 use Rattle.viper_state.specs.Choice.{Choice}
 use Rattle.viper_state.specs.Event as event
-use Rattle.viper_state.specs.Event.{Event}
 use Rattle.viper_state.specs.Fits.{FitsKey, FitsValue, FitsHeap, FitsContents, FitsAmounts, FitsMemo, FitsState}
 use Rattle.viper_state.proofs.MapLaws.{exact_amounts}
 use Rattle.sparse.proofs.MapLaws.{Contains-keys}
@@ -37,7 +36,7 @@ use Rattle.viper_meaning.proofs.RunWithinLaws.{forget_proper}
 use Rattle.viper_meaning.specs.Run.{given, goes, noting, Goes, ran, on, since}
 use Rattle.boogie_tree.specs.Program.{BType}
 use Rattle.boogie_tree.specs.Value as bv
-use Rattle.boogie_tree.specs.Value.{BScalar, Many, Entry, BChoice}
+use Rattle.boogie_tree.specs.Value.{BScalar, Entry, BChoice}
 use Rattle.boogie_tree.specs.Values as b
 use Rattle.boogie_tree.specs.declared.exprs.BBase.TheVariants as base
 use Rattle.boogie_meaning.specs.Run as r
@@ -60,7 +59,7 @@ use Rattle.enc_assert.specs.Encoding.{forget_heaps, forget_contents, forget_code
 use Rattle.enc_assert.specs.Held.{IsFreeLocalOf, IsForgetting, IsForgotten, HasPlaces, field, predicate}
 use Rattle.enc_assert.proofs.ForgetStep.{default_scalar}
 use Rattle.enc_assert.proofs.ForgetEach as each
-use Rattle.enc_assert.proofs.ForgetEach.{SoFar, CanBe, AreNew, none_new, one_new, WereRead, none_read, one_read, WereGiven, none_given, one_given, WereForgotten, WereTaken, set_from, forget_each, step, choices_for, IsOwn, forward_each, backward_each, stops_each}
+use Rattle.enc_assert.proofs.ForgetEach.{SoFar, CanBe, AreNew, none_new, one_new, WereRead, none_read, one_read, WereGiven, none_given, one_given, WereTaken, set_from, forget_each, step, choices_for, IsOwn, forward_each, backward_each, stops_each}
 use Rattle.enc_assert.proofs.AlongsideLaws.{law_alongside}
 use Rattle.enc_assert.proofs.WayLaws.{both_kept, any_run}
 use Rattle.enc_assert.proofs.ForgetSides.{heap_side, content_side}

@@ -24,7 +24,7 @@ use Rattle.boogie_tree.specs.Values as b
 use Rattle.boogie_tree.specs.declared.exprs.BBase.{BBase}
 use Rattle.boogie_tree.specs.declared.exprs.BBase.TheVariants as base
 use Rattle.boogie_meaning.specs.Patterns as pattern
-use Rattle.boogie_meaning.specs.Patterns.{Agrees, CanForget, with_both, HasForgotten}
+use Rattle.boogie_meaning.specs.Patterns.{Agrees, CanForget, with_both}
 use Rattle.boogie_meaning.specs.Run.{filled, fits_entries, chosen, Done, Stop, Stops, Blocked, Short, brun}
 use Rattle.boogie_tree.specs.Stmt.{BStmts}
 use Rattle.boogie_meaning.proofs.PatternLaws.{set_here, forget_goes, forget_agrees, forget_stops}

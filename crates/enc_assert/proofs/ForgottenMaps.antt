@@ -21,7 +21,6 @@ use Rattle.vb_value.specs.declared.values.Value.{Value}
 use Rattle.viper_state.specs.Choice as choice
 use Rattle.viper_state.specs.Choice.{Choice}
 use Rattle.viper_state.specs.Event as event
-use Rattle.viper_state.specs.Event.{Event}
 use Rattle.viper_state.specs.Fits.{FitsHeap, FitsMask, FitsContents, FitsAmounts, FitsMemo, FitsState, FitsEvent}
 use Rattle.viper_state.specs.State.{Key, Memo, State}
 use Rattle.viper_state.proofs.FitsLaws.{mask_found, amount_found}

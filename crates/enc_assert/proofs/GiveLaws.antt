@@ -18,10 +18,9 @@ use Rattle.vb_value.proofs.ProperLaws.{proper_sum, proper_product}
 use Rattle.viper_core.specs.Typing.{Context}
 use Rattle.viper_state.specs.State.{Key, State}
 use Rattle.viper_meaning.specs.Assertions as meaning
-use Rattle.viper_meaning.specs.Assertions.{given_to, some_given_to}
 use Rattle.viper_meaning.specs.Ends.{Evaluated, is as is_end}
 use Rattle.viper_meaning.specs.Resource as resource
-use Rattle.viper_meaning.specs.Resource.{Resource, held_at, with_held, is_null, is_too_much}
+use Rattle.viper_meaning.specs.Resource.{Resource, held_at, with_held}
 use Rattle.boogie_tree.specs.Expr as t
 use Rattle.boogie_tree.specs.Stmt as stmt
 use Rattle.boogie_tree.specs.Stmt.{BStmts}

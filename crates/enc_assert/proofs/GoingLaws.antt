@@ -6,7 +6,6 @@ use Rattle.viper_meaning.specs.Ends.{Evaluated}
 use Rattle.viper_meaning.specs.Run.{Run, Step, Ran, ran, on, ended, evaluating, then_do}
 use Rattle.boogie_tree.specs.Program.{BType}
 use Rattle.boogie_tree.specs.Stmt as stmt
-use Rattle.boogie_tree.specs.Stmt.{BStmts}
 use Rattle.boogie_tree.specs.Value.{BChoice}
 use Rattle.boogie_meaning.specs.Run as r
 use Rattle.boogie_meaning.specs.Run.{brun}

@@ -27,7 +27,7 @@ use Rattle.boogie_tree.specs.Value.{BChoice, One, Real}
 use Rattle.boogie_tree.specs.Values.{plain_type}
 use Rattle.boogie_tree.specs.declared.exprs.BBase.TheVariants as base
 use Rattle.boogie_meaning.specs.Run as r
-use Rattle.boogie_meaning.specs.Run.{Done, Stops, then_run, brun}
+use Rattle.boogie_meaning.specs.Run.{Done, brun}
 use Rattle.boogie_meaning.proofs.PatternLaws.{set_here}
 use Rattle.moves.specs.Scalars.{scalar}
 use Rattle.enc_expr.specs.Place.{Place, Maps, IsLocalOf}

@@ -8,7 +8,7 @@ use Rattle.vb_value.specs.declared.values.Ty.TheVariants as ty
 use Rattle.viper_core.specs.Expr as e
 use Rattle.viper_core.specs.Formed.{IsFormed}
 use Rattle.viper_core.specs.Typing as y
-use Rattle.viper_core.specs.Typing.{Context, HasType, HaveTypes, IsAmount, IsAssertion}
+use Rattle.viper_core.specs.Typing.{Context, IsAmount, IsAssertion}
 use Rattle.viper_core.proofs.FormedLaws.{predicate_of_typed}
 use Rattle.viper_meaning.proofs.TypedLaws.{keys_at}
 use Rattle.viper_core.proofs.LiteralLaws.{assertion_literals, literals_proper}
@@ -21,7 +21,6 @@ use Rattle.viper_meaning.specs.Ends.{Evaluated, is as is_end, blocks}
 use Rattle.viper_meaning.specs.Kept.{IsAny}
 use Rattle.viper_meaning.specs.KeptRuns.{KeepsRun}
 use Rattle.viper_meaning.specs.Resource as resource
-use Rattle.viper_meaning.specs.Resource.{Resource}
 use Rattle.viper_meaning.specs.Value.{truth_in}
 use Rattle.viper_meaning.proofs.RunFitsLaws.{produce_fits}
 use Rattle.viper_meaning.proofs.RunSignLaws.{produce_sign}
@@ -31,7 +30,7 @@ use Rattle.boogie_tree.specs.Program.{BType}
 use Rattle.boogie_tree.specs.Stmt as stmt
 use Rattle.boogie_tree.specs.Value.{BChoice}
 use Rattle.boogie_meaning.specs.Run as r
-use Rattle.boogie_meaning.specs.Run.{Done, Stops, then_run, brun}
+use Rattle.boogie_meaning.specs.Run.{Done, Stops}
 use Rattle.enc_expr.specs.Place.{Place}
 use Rattle.enc_expr.specs.Kinds.{kinds_in}
 use Rattle.enc_expr.specs.Code.{then_emit, Guard, puts}

@@ -16,7 +16,6 @@ use Rattle.viper_meaning.specs.Ends.{Evaluated, is as is_end, blocks, fails, the
 use Rattle.viper_meaning.specs.Resource.{Resource, held_at, with_held}
 use Rattle.boogie_tree.specs.Expr as t
 use Rattle.boogie_tree.specs.Stmt as stmt
-use Rattle.boogie_tree.specs.Stmt.{BStmts}
 use Rattle.boogie_tree.specs.Program.{BType}
 use Rattle.boogie_tree.specs.Value as bv
 use Rattle.boogie_tree.specs.Value.{BScalar, Many, Real, BChoice, same_scalar}

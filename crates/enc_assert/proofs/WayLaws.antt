@@ -34,7 +34,7 @@ use Rattle.boogie_meaning.specs.Operators as m
 use Rattle.boogie_meaning.specs.Value.{scalar_in}
 use Rattle.boogie_meaning.specs.Quantified.{bvalue}
 use Rattle.boogie_meaning.specs.Run as r
-use Rattle.boogie_meaning.specs.Run.{Done, Stops, then_run, brun}
+use Rattle.boogie_meaning.specs.Run.{Done, brun}
 use Rattle.boogie_meaning.proofs.PatternLaws.{set_here}
 use Rattle.enc_expr.specs.Place.{Place}
 use Rattle.enc_expr.specs.Kinds.{kinds_in}

@@ -17,9 +17,8 @@ use Rattle.viper_meaning.specs.Value.{as_ref, value, values, amount_of, opened}
 use Rattle.boogie_tree.specs.Expr as t
 use Rattle.boogie_tree.specs.Program.{BType}
 use Rattle.boogie_tree.specs.Stmt as stmt
-use Rattle.boogie_tree.specs.Stmt.{BStmts}
 use Rattle.boogie_tree.specs.Value as bv
-use Rattle.boogie_tree.specs.Value.{BChoice, BScalar, Real}
+use Rattle.boogie_tree.specs.Value.{BChoice, Real}
 use Rattle.boogie_meaning.specs.Run.{Run, Done, brun}
 use Rattle.vb_value.specs.Value.{type_of}
 use Rattle.vb_value.specs.declared.values.Value.{Value}

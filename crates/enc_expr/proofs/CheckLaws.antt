@@ -33,7 +33,7 @@ use Rattle.boogie_tree.specs.Program.{BType}
 use Rattle.boogie_tree.specs.Stmt as stmt
 use Rattle.boogie_tree.specs.Stmt.{BStmts}
 use Rattle.boogie_tree.specs.Value as w
-use Rattle.boogie_tree.specs.Value.{Key, BScalar, BChoice}
+use Rattle.boogie_tree.specs.Value.{BChoice}
 use Rattle.boogie_tree.specs.declared.exprs.BOp.TheVariants as op
 use Rattle.boogie_meaning.specs.Ends as end
 use Rattle.boogie_meaning.specs.Operators as m

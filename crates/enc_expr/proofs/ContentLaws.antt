@@ -7,7 +7,7 @@ use Rattle.std.proofs.lemmas.Bool.Decides.{nat_tests}
 use Rattle.vb_base.specs.declared.places.Pos.{Pos}
 use Rattle.vb_value.specs.Bound.{Bound, Bounded, Unbounded, IfBounded}
 use Rattle.vb_value.specs.Content as content
-use Rattle.vb_value.specs.Content.{Content, Leaf, Pair, nodes}
+use Rattle.vb_value.specs.Content.{Content, Leaf, Pair}
 use Rattle.vb_value.specs.Fraction.{Fraction, is_positive, whole, IsProperFraction}
 use Rattle.vb_value.specs.Value.{type_of}
 use Rattle.vb_value.specs.declared.values.Ty.{Ty}

@@ -24,7 +24,6 @@ use Rattle.vb_value.specs.declared.values.Value.TheVariants as v
 use Rattle.vb_value.proofs.ProperLaws.{proper_sum, proper_product}
 use Rattle.viper_core.specs.Typing.{Context}
 use Rattle.viper_state.specs.Event as event
-use Rattle.viper_state.specs.Event.{Event}
 use Rattle.viper_state.specs.Fits.{FitsKey}
 use Rattle.viper_state.specs.Run.{Scene}
 use Rattle.viper_state.specs.State.{State, changed, changed_at, value_at, mask_at, content_at, amount_at, with_value, with_mask, with_content, with_amount}
@@ -59,7 +58,7 @@ use Rattle.enc_expr.specs.Code.{join}
 use Rattle.enc_expr.specs.Encoding.{is_unit, leaf, same_where_held, fill_place_code, fill_instance_code, fill_by}
 use Rattle.enc_expr.specs.Coupling.{Env, IsSound, HasMaps, IsCoupled, heap_kind, mask_kind, amount_kind, content_kind, IsOwn}
 use Rattle.enc_expr.specs.Pieces.{at_one, index, one, label, zero_real, one_real, scaled, check_nonnegative, if_positive, add_to}
-use Rattle.enc_expr.specs.Alike.{Alike, IsStopped, Kept, KeptBut, HasAtom, AreLocated, null, IsScale, IsSource, Follows}
+use Rattle.enc_expr.specs.Alike.{Alike, IsStopped, Kept, KeptBut, HasAtom, AreLocated, null, IsScale, IsSource}
 use Rattle.enc_expr.specs.Alike as alike
 use Rattle.enc_expr.proofs.RunLaws.{join_done, assume_run, atom_value, atom_agrees}
 use Rattle.enc_expr.proofs.AlikeLaws.{is_alike, after_alike, weaken_alike}

@@ -35,7 +35,7 @@ use Rattle.enc_expr.specs.Code.{Emitting, join, then_emit, declares, Guard, guar
 use Rattle.enc_expr.specs.Encoding.{pair_code}
 use Rattle.enc_expr.specs.Coupling.{Env, IsAwake, AreLocals}
 use Rattle.enc_expr.specs.Alike as a
-use Rattle.enc_expr.specs.Alike.{Alike, IsStopped, Kept, Follows, IsScale, IsFilled}
+use Rattle.enc_expr.specs.Alike.{Alike, IsStopped, Kept}
 use Rattle.enc_expr.proofs.Simulated.{IsCounted, Fills}
 use Rattle.enc_expr.proofs.RunLaws.{join_run, guarded_awake, assume_run}
 use Rattle.enc_expr.proofs.AlikeLaws.{after_alike, then_alike, weaken_alike}

@@ -37,7 +37,6 @@ use Rattle.viper_meaning.proofs.SignLaws.{any_events}
 use Rattle.viper_meaning.proofs.KeptLaws.{is_kept, fails_kept, then_kept, found_kept, unless_kept}
 use Rattle.boogie_tree.specs.Expr as t
 use Rattle.boogie_tree.specs.Value as w
-use Rattle.boogie_tree.specs.Value.{BScalar}
 use Rattle.boogie_tree.specs.declared.exprs.BBase.TheVariants as base
 use Rattle.boogie_meaning.specs.Ends as end
 use Rattle.boogie_meaning.specs.Operators as m

@@ -15,7 +15,7 @@ use Rattle.viper_core.specs.declared.exprs.Op.{Op}
 use Rattle.viper_core.specs.Expr as e
 use Rattle.viper_core.specs.Formed.{IsFormed, predicate_context}
 use Rattle.viper_core.specs.Typing as y
-use Rattle.viper_core.specs.Typing.{Context, HasType, Opens, HaveTypes, IsAssertion, IsLiteralPart, is_number, value_type, is_outside_predicates}
+use Rattle.viper_core.specs.Typing.{Context, HasType, Opens, HaveTypes, IsAssertion, IsLiteralPart, value_type, is_outside_predicates}
 use Rattle.viper_core.proofs.FormedLaws.{predicate_of_typed, predicate_body_of_typed}
 use Rattle.viper_core.proofs.LiteralLaws.{typed_literals, exprs_literals, assertion_literals, literals_proper}
 use Rattle.viper_state.specs.Event.{Event}
@@ -36,7 +36,6 @@ use Rattle.boogie_tree.specs.Expr as t
 use Rattle.boogie_tree.specs.Program.{BType}
 use Rattle.boogie_tree.specs.Stmt as stmt
 use Rattle.boogie_tree.specs.Value as w
-use Rattle.boogie_tree.specs.Value.{BChoice}
 use Rattle.boogie_tree.specs.declared.exprs.BBase.TheVariants as base
 use Rattle.boogie_meaning.specs.Ends as end
 use Rattle.enc_expr.specs.Place.{Place, with_now, with_vars}

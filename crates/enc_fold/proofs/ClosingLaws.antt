@@ -26,7 +26,7 @@ use Rattle.viper_meaning.specs.Assertions.{consume}
 use Rattle.viper_meaning.specs.Contents.{content_in, is_small, closed}
 use Rattle.viper_meaning.specs.Ends.{Evaluated, ends, is, then_with, fitting, events_of}
 use Rattle.viper_meaning.specs.Kept as kept
-use Rattle.viper_meaning.specs.Kept.{Keeps, IsAny}
+use Rattle.viper_meaning.specs.Kept.{Keeps}
 use Rattle.viper_meaning.specs.Places.{key_of, fill_held}
 use Rattle.viper_meaning.specs.Run.{ended, then_do}
 use Rattle.viper_meaning.specs.Sat.{Has}
@@ -38,7 +38,7 @@ use Rattle.boogie_tree.specs.Expr as t
 use Rattle.boogie_tree.specs.Program.{BType}
 use Rattle.boogie_tree.specs.Stmt as stmt
 use Rattle.boogie_tree.specs.Value as w
-use Rattle.boogie_tree.specs.Value.{One, BValue, BChoice}
+use Rattle.boogie_tree.specs.Value.{One, BChoice}
 use Rattle.boogie_tree.specs.Values.{plain_type}
 use Rattle.boogie_tree.specs.declared.exprs.BBase.TheVariants as base
 use Rattle.boogie_meaning.specs.Ends as end

@@ -26,7 +26,7 @@ use Rattle.boogie_tree.specs.declared.exprs.BBase.TheVariants as base
 use Rattle.boogie_tree.specs.declared.exprs.BOp.TheVariants as op
 use Rattle.boogie_meaning.specs.Programs.{HaveKeys}
 use Rattle.boogie_meaning.specs.Types as b
-use Rattle.boogie_meaning.specs.Types.{HasType, HaveTypes, IsTyped}
+use Rattle.boogie_meaning.specs.Types.{HasType, HaveTypes}
 use Rattle.moves.specs.Maps.{heap_type, content_type, mask_type, amount_type, index_types}
 use Rattle.moves.specs.Scalars.{base_for}
 use Rattle.enc_expr.specs.Place.{Maps, Place, number, with_now, with_vars}

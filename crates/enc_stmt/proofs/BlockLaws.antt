@@ -10,7 +10,7 @@ use Rattle.viper_core.specs.Part.{Allows}
 use Rattle.viper_core.specs.Scope.{Scope, is_ref}
 use Rattle.viper_core.specs.Stmt as v
 use Rattle.viper_core.specs.Typing as y
-use Rattle.viper_core.specs.Typing.{Elsewhere, inside, IsAssertion, IsStmt, AreStmts, Receive, AreFields}
+use Rattle.viper_core.specs.Typing.{Elsewhere, inside, IsAssertion, IsStmt, AreStmts, Receive}
 use Rattle.viper_core.proofs.TargetLaws.{targets_exist}
 use Rattle.viper_core.proofs.UnitLaws.{lt-below}
 use Rattle.viper_core.proofs.WiderLaws.{typed_among, all_typed_among, assertion_among, fold_among}

@@ -59,7 +59,7 @@ use Rattle.enc_assert.specs.Encoding.{produce_code}
 use Rattle.enc_assert.proofs.AlongsideLaws.{same_alongside}
 use Rattle.enc_stmt.specs.Encoding.{with_body, with_method, method_code}
 use Rattle.enc_stmt.specs.Home.{place, IsHome, HasRoom}
-use Rattle.enc_stmt.specs.Units.{home_of, start_code, kinds_with, with_predicate, running_code, unit_code, further_types, unit_procedure, Holds, HasZeros, started, ProcedureFails, IsExact, Transfers}
+use Rattle.enc_stmt.specs.Units.{home_of, start_code, kinds_with, with_predicate, running_code, unit_code, further_types, unit_procedure, HoldsOpening, HasZeros, started, ProcedureFails, IsExact, Transfers}
 use Rattle.enc_stmt.proofs.BlockLaws.{block_runs}
 use Rattle.enc_stmt.proofs.CountedLaws.{block_counted}
 use Rattle.enc_stmt.proofs.FailLaws.{HasFailed, fails_so, failed_back}
@@ -148,7 +148,7 @@ module _ (b : Bound) (p : Program) (formed : IsFormed p) (us : List BType) (o : 
   -- the start of the procedure of a unit: the opening stands, and the zero maps are zero
   pub record IsStart (u : Unit) (E : Env) : Type 0 where
     pub full : length E ≡ length (fixed_types p u ++ us)
-    pub holds : Holds p u o E
+    pub holds : HoldsOpening p u o E
     pub zeros : HasZeros p u E
     pub fits : FitsOpening p.layout (types_of p u) o
     pub proper : IsProperOpening b o

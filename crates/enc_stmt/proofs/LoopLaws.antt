@@ -22,7 +22,6 @@ use Rattle.boogie_tree.specs.Expr as t
 use Rattle.boogie_tree.specs.Program.{BType}
 use Rattle.boogie_tree.specs.Stmt as stmt
 use Rattle.boogie_tree.specs.Stmt.{BStmts, BStmt}
-use Rattle.boogie_tree.specs.Value.{BChoice}
 use Rattle.boogie_tree.specs.Value as bv
 use Rattle.boogie_meaning.specs.Ends as end
 use Rattle.boogie_meaning.specs.Operators.{negation}

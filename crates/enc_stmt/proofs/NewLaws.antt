@@ -32,7 +32,7 @@ use Rattle.boogie_tree.specs.Expr as t
 use Rattle.boogie_tree.specs.Program.{BType}
 use Rattle.boogie_tree.specs.Stmt as s
 use Rattle.boogie_tree.specs.Value as bv
-use Rattle.boogie_tree.specs.Value.{Key, BScalar, BChoice, One, Many, Real, same_scalar}
+use Rattle.boogie_tree.specs.Value.{One, Many, Real, same_scalar}
 use Rattle.boogie_tree.specs.Values.{plain_type}
 use Rattle.boogie_tree.specs.declared.exprs.BBase.TheVariants as base
 use Rattle.boogie_tree.specs.declared.exprs.BOp.TheVariants as op

@@ -16,7 +16,6 @@ use Rattle.std.proofs.lemmas.List.Elements.{All-head, All-tail}
 use Rattle.sparse.specs.Map.{Map, empty, get, keys}
 use Rattle.sparse.specs.Meaning.{meaning_of}
 use Rattle.vb_value.specs.Content as content
-use Rattle.vb_value.specs.Content.{Content}
 use Rattle.vb_value.specs.Fraction.{none}
 use Rattle.vb_value.specs.Key.{key_cmp}
 use Rattle.vb_value.specs.Value.{default_of, type_of}
@@ -46,7 +45,7 @@ use Rattle.enc_expr.proofs.MapLaws.{IsKind, heap_is_kind, content_is_kind}
 use Rattle.enc_expr.proofs.TypedMore.{get_more}
 use Rattle.enc_assert.proofs.DecodeLaws.{heap_reads, content_reads, read_map}
 use Rattle.enc_assert.proofs.ForgetStep.{default_scalar}
-use Rattle.enc_stmt.specs.Units.{zero_mask, home_of, Holds, HasZeros, started}
+use Rattle.enc_stmt.specs.Units.{zero_mask, home_of, HoldsOpening, HasZeros, started}
 use Rattle.enc_stmt.proofs.StartLaws.{at_same, zip_length}
 use Rattle.enc_stmt.proofs.UnitHomeLaws.{get_mapped, get_from, given_number, given_type, heap_is, content_is, zero_is, zero_amount_is, front_length, fixed_length, now_is, held_on}
 
@@ -147,7 +146,7 @@ module _ (p : Program) (u : Unit) (us : List BType) where
   pub record IsOpened (E : Env) : Type 0 where
     pub opening : Opening
     pub fits : FitsOpening p.layout (types_of p u) opening
-    pub holds : Holds p u opening E
+    pub holds : HoldsOpening p u opening E
 
   -- it is the local of a variable, a heap, contents
   fixed_at : (E : Env) → IsEnvironment ts E → (x i : ℕ) (w : BType) → x ≡ i → slice_get (fixed_types p u) i ≡ Some w → (v : BValue) × ((slice_get E x ≡ Some v) × IsOfType v w)
@@ -296,7 +295,7 @@ module _ (p : Program) (u : Unit) (us : List BType) (o : Opening) (fits : FitsOp
   heaps_length : length heaps ≡ length p.layout.fields
   heaps_length = length-map o.memo.heap (λ h. Many (meaning_of place_key scalar h)) ∙ sym (zip_length FitsHeap p.layout.fields o.memo.heap fits.memo.heap)
 
-  pub opening_holds : Holds p u o start
+  pub opening_holds : HoldsOpening p u o start
   opening_holds = record {
     vars = λ x w there.
         let v = zip_get FitsValue (types_of p u) o.store x w fits.store there in let low = slice_get_within (types_of p u) x w there in

@@ -50,7 +50,7 @@ use Rattle.enc_expr.proofs.TypedMore.{get_more}
 use Rattle.enc_fold.specs.Saved.{copy_held}
 use Rattle.enc_stmt.specs.Encoding.{keep_old}
 use Rattle.enc_stmt.specs.Home.{Home, nothing_held, IsAt}
-use Rattle.enc_stmt.specs.Units.{first_mask, first_old, zero_mask, first_further, home_of, zeros_code, default_code, defaults_code, start_code, Holds, HasZeros}
+use Rattle.enc_stmt.specs.Units.{first_mask, first_old, zero_mask, first_further, home_of, zeros_code, default_code, defaults_code, start_code, HoldsOpening, HasZeros}
 use Rattle.enc_stmt.proofs.UnitHomeLaws.{get_mapped, get_from, number_same, Stands, is_given, is_further, stands, given_number, now_is, now_low, old_low, maps_low, fixed_length, is_apart, is_old_apart, now_sizes, old_sizes, zero_is, zero_amount_is}
 
 -- ---- zero maps
@@ -304,7 +304,7 @@ module _ (b : Bound) (p : Program) (u : Unit) (us : List BType) where
         pub done : (cs : List BChoice) → brun ts b (start_code p u) E cs ≡ Done after cs
         pub at : IsAt ts b first_activation h n first_configuration after
 
-      pub starts : (E : Env) → length E ≡ length ts → Holds p u o E → HasZeros p u E → FitsOpening layout (types_of p u) o → IsProperOpening b o → All (IsProperValue b) store → FitsStore vars store → IsStarted E
+      pub starts : (E : Env) → length E ≡ length ts → HoldsOpening p u o E → HasZeros p u E → FitsOpening layout (types_of p u) o → IsProperOpening b o → All (IsProperValue b) store → FitsStore vars store → IsStarted E
       starts E full holds zeros fits proper store_proper store_fits =
           let within : n ≤ length E = omega (arith, full, length-append (fixed_types p u) us) in
           let others = types_of_others p u in

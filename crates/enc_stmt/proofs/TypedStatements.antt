@@ -15,7 +15,7 @@ use Rattle.viper_core.specs.Program.{Method}
 use Rattle.viper_core.specs.Scope.{Scope, is_ref}
 use Rattle.viper_core.specs.Stmt as v
 use Rattle.viper_core.specs.Typing as y
-use Rattle.viper_core.specs.Typing.{Context, Frame, inside, IsVariable, IsAssertion, IsFold, Receive, AreTargets, AreFields, IsStmt, AreStmts, params_of, returns_of}
+use Rattle.viper_core.specs.Typing.{Context, Frame, inside, IsVariable, IsAssertion, Receive, AreTargets, IsStmt, AreStmts, params_of, returns_of}
 use Rattle.viper_core.proofs.CutLaws.{preconditions_cut, postconditions_cut}
 use Rattle.viper_core.proofs.TargetLaws.{targets_exist}
 use Rattle.viper_meaning.proofs.StatementFitsLaws.{take_both}

@@ -29,7 +29,7 @@ use Rattle.boogie_tree.specs.Expr as t
 use Rattle.boogie_tree.specs.Program.{BType}
 use Rattle.boogie_tree.specs.Stmt as s
 use Rattle.boogie_tree.specs.Value as bv
-use Rattle.boogie_tree.specs.Value.{BChoice, One, Many, same_scalar}
+use Rattle.boogie_tree.specs.Value.{BChoice, Many, same_scalar}
 use Rattle.boogie_tree.specs.declared.exprs.BOp.TheVariants as op
 use Rattle.boogie_meaning.specs.Ends as end
 use Rattle.boogie_meaning.specs.Quantified.{bvalue}

@@ -140,7 +140,7 @@ unit_procedure p u = record { name = unit_name p u; locals = locals_of_unit p u 
 -- ---- where it starts
 
 -- the locals that an opening sets hold it
-pub record Holds (p : Program) (u : Unit) (o : Opening) (E : Env) : Type 0 where
+pub record HoldsOpening (p : Program) (u : Unit) (o : Opening) (E : Env) : Type 0 where
   pub vars : (x : ℕ) (w : Ty) → slice_get (types_of p u) x ≡ Some w → HasVariable w (length (fixed_types p u)) (number (home_of p u).vars x) o.store x E
   pub heap : (f : ℕ) (w : Ty) → slice_get p.layout.fields f ≡ Some w → HasMap (heap_kind w) (length (fixed_types p u)) (number (home_of p u).now.heap f) o.memo.heap f E
   pub content : (q : ℕ) (us : List Ty) → slice_get p.layout.keys q ≡ Some us → HasMap (content_kind us) (length (fixed_types p u)) (number (home_of p u).now.content q) o.memo.content q E

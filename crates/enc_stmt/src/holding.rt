@@ -16,7 +16,7 @@ use enc_expr::Emit;
 use std::alloc::Global;
 use vb_base::Memory;
 
-/// How many bytes of lines and text there are at most before another step of a procedure is held.
+/// Another step of a procedure is held as long as there are fewer bytes of lines and text than these.
 const MOST_HELD: usize = 4_194_304;
 
 /// For how many bytes of text a procedure has room from the first on. Most need no more.

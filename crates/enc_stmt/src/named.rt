@@ -1,15 +1,15 @@
 // Each reference of the code is below 2^64. It is read off the references of values one by one.
 ghost use Rattle.std.specs.Prelude.{All, map};
 ghost use Rattle.sparse.specs.Map.{keys, values};
-ghost use Rattle.vb_value.specs.View.{content_of};
-ghost use Rattle.boogie_tree.specs.Whole.{scalar_of, setting_of, value_of};
-ghost use Rattle.moves.specs.Printable.{IsNamed, IsNamedContent, IsNamedKey, IsNamedPart, IsNamedScalar, IsNamedValue};
+ghost use Rattle.boogie_tree.specs.Whole.{setting_of, value_of};
+ghost use Rattle.moves.specs.Printable.{IsNamedKey, IsNamedScalar};
 ghost use Rattle.enc_stmt.specs.Filled.{map_of};
 ghost use Rattle.enc_stmt.specs.Opened.{IsNamedBValue, IsNamedSetting};
 
 use boogie_tree::{BScalar, BSetting, BValue};
+use moves::{named_key, named_scalar};
 use sparse::Sparse;
-use vb_value::{Content, Key, KeyPart, Value};
+use vb_value::Key;
 
 pub(crate) fn named_settings(settings: &[BSetting])
     ensures { All IsNamedSetting (map setting_of settings.now) }
@@ -44,54 +44,3 @@ fn named_map(map: &Sparse<Key, BScalar>)
         named_scalar(map.get(key));
     }
 }
-
-fn named_key(parts: &[KeyPart])
-    ensures { IsNamedKey parts.now }
-{
-    for part in parts {
-        named_part(*part);
-    }
-}
-
-fn named_part(part: KeyPart)
-    ensures { IsNamedPart part }
-{
-    if let KeyPart::Ref(reference) = part {
-        named(reference);
-    }
-}
-
-fn named_scalar(value: &BScalar)
-    ensures { IsNamedScalar (scalar_of value.now) }
-{
-    match value {
-        BScalar::Ref(reference) => named(*reference),
-        BScalar::Snap(content) => named_content(content),
-        _ => {}
-    }
-}
-
-fn named_content(content: &Content)
-    ensures { IsNamedContent (content_of content.now) }
-{
-    match content {
-        Content::Unit => {}
-        Content::Leaf(value) => named_value(*value),
-        Content::Pair(left, right) => {
-            named_content(left);
-            named_content(right);
-        }
-    }
-}
-
-fn named_value(value: Value)
-    ensures { IsNamedValue value }
-{
-    if let Value::Ref(reference) = value {
-        named(reference);
-    }
-}
-
-fn named(_reference: u64)
-    ensures { IsNamed _reference }
-{}

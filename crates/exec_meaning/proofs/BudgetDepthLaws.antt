@@ -11,7 +11,7 @@ use Rattle.viper_core.specs.Stmt as s
 use Rattle.viper_state.specs.Run.{with_variables}
 use Rattle.viper_state.specs.State.{State}
 use Rattle.viper_meaning.specs.Ends as m
-use Rattle.viper_meaning.specs.Ends.{Evaluated, ends, found}
+use Rattle.viper_meaning.specs.Ends.{ends, found}
 use Rattle.viper_meaning.specs.Kept as kept
 use Rattle.viper_meaning.specs.Kept.{IsAny}
 use Rattle.viper_meaning.specs.KeptRuns.{KeepsRun, at_end, later}

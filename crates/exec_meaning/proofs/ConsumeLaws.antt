@@ -13,7 +13,7 @@ use Rattle.vb_value.specs.declared.values.Ty.TheVariants as ty
 use Rattle.viper_core.specs.Expr as t
 use Rattle.viper_core.specs.Formed.{IsTypedProgram}
 use Rattle.viper_core.specs.Typing as typing
-use Rattle.viper_core.specs.Typing.{Context, HasType, HaveTypes, IsAssertion}
+use Rattle.viper_core.specs.Typing.{Context, HasType, IsAssertion}
 use Rattle.viper_core.specs.Written.{HasNoWildcard}
 use Rattle.viper_state.specs.Choice.{Choice}
 use Rattle.viper_state.specs.Run.{Scene}
@@ -35,7 +35,7 @@ use Rattle.exec_meaning.proofs.SafeLaws.{Leads, together, goes_leads, then_leads
 use Rattle.exec_meaning.proofs.Shares.{gives_nothing, gives_one, gives_both, scaled-one}
 use Rattle.exec_meaning.proofs.TwoLaws.{found_two, truth_two, perm_two, place_two, instance_two, perm_reduced}
 use Rattle.exec_meaning.proofs.Under as under
-use Rattle.exec_meaning.proofs.Under.{Gives, Asks, AskAll, GivesUp, GivesUpAll, scaled, scaled_share}
+use Rattle.exec_meaning.proofs.Under.{Gives, Asks, GivesUp, GivesUpAll, scaled_share}
 
 -- ---- one amount
 

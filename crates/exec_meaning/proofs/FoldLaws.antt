@@ -12,7 +12,7 @@ use Rattle.viper_core.specs.Expr as t
 use Rattle.viper_core.specs.Formed.{IsTypedProgram, predicate_context}
 use Rattle.viper_core.specs.Stmt.{FoldStmt}
 use Rattle.viper_core.specs.Typing as typing
-use Rattle.viper_core.specs.Typing.{Context, HasType, IsAssertion, IsFold}
+use Rattle.viper_core.specs.Typing.{Context, IsAssertion, IsFold}
 use Rattle.viper_core.proofs.BodyLaws.{body_has_no_wildcard}
 use Rattle.viper_core.proofs.FormedLaws.{predicate_body_of_typed}
 use Rattle.viper_core.proofs.LiteralLaws.{exprs_literals, assertion_literals, literals_proper}

@@ -7,7 +7,7 @@ use Rattle.vb_base.specs.declared.places.Pos.{Pos}
 use Rattle.viper_state.specs.Choice.{Choice}
 use Rattle.viper_state.specs.Event.{Event}
 use Rattle.viper_meaning.specs.Ends as m
-use Rattle.viper_meaning.specs.Ends.{Evaluated, ends, Is, Blocked, is, blocks, after}
+use Rattle.viper_meaning.specs.Ends.{Evaluated, ends, Is, Blocked, blocks, after}
 use Rattle.viper_meaning.specs.Run.{Run, ended, takes, goes, before, evaluating, then_do, given, taking, Fails, Step, Ran, ran, since, on}
 use Rattle.viper_meaning.proofs.AgreeLaws as agree
 use Rattle.viper_meaning.proofs.AgreeLaws.{Agrees}

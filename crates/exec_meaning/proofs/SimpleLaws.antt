@@ -16,12 +16,11 @@ use Rattle.vb_value.proofs.SignLaws.{positive_not_negative}
 use Rattle.viper_core.specs.Expr as t
 use Rattle.viper_core.specs.Formed.{IsTypedProgram}
 use Rattle.viper_core.specs.Typing as typing
-use Rattle.viper_core.specs.Typing.{Context, HasType, HaveTypes, IsAssertion}
+use Rattle.viper_core.specs.Typing.{Context, IsAssertion}
 use Rattle.viper_core.specs.Written.{HasNoWildcard}
 use Rattle.viper_state.specs.Choice as choice
 use Rattle.viper_state.specs.Choice.{Choice}
 use Rattle.viper_state.specs.Event as event
-use Rattle.viper_state.specs.Event.{Event}
 use Rattle.viper_state.specs.Fits.{FitsState, FitsMemo, FitsChoice}
 use Rattle.viper_state.specs.Run.{Scene}
 use Rattle.viper_state.specs.State.{Key, Memo, State, value_at, mask_at, content_at, amount_at, with_value, with_mask}

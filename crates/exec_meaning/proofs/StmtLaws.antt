@@ -15,7 +15,7 @@ use Rattle.viper_core.specs.Formed.{IsFormed}
 use Rattle.viper_core.specs.Scope.{Scope}
 use Rattle.viper_core.specs.Stmt as s
 use Rattle.viper_core.specs.Typing as typing
-use Rattle.viper_core.specs.Typing.{Context, Frame, inside, HasType, IsAssertion, IsStmt}
+use Rattle.viper_core.specs.Typing.{Context, Frame, inside, IsAssertion, IsStmt}
 use Rattle.viper_core.specs.Written.{HasNoWildcard}
 use Rattle.viper_state.specs.Choice.{Choice}
 use Rattle.viper_state.specs.Event as event

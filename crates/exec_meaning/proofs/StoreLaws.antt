@@ -13,7 +13,7 @@ use Rattle.viper_core.specs.Program.{Method}
 use Rattle.viper_core.specs.Scope.{Scope, assigns, some_assigns}
 use Rattle.viper_core.specs.Stmt as s
 use Rattle.viper_core.specs.Typing as y
-use Rattle.viper_core.specs.Typing.{Frame, AreTargets, nothing, also, Receive, assigned, declared, IsVariable, IsStmt, AreStmts, params_of, returns_of}
+use Rattle.viper_core.specs.Typing.{Frame, AreTargets, nothing, also, Receive, assigned, declared, IsStmt, AreStmts, params_of, returns_of}
 use Rattle.viper_core.proofs.ScopeLaws.{fresh-scope_after, fresh-stmts_scope}
 use Rattle.viper_state.specs.Fits.{FitsValue, FitsStore}
 use Rattle.viper_state.proofs.Paired.{get_set_same, get_set_other, paired}

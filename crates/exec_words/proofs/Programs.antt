@@ -13,7 +13,7 @@ use Rattle.viper_scope.specs.Scope.{Scope}
 use Rattle.viper_types.specs.Frame.{Frame}
 use Rattle.viper_types.specs.Declaring.{Declared, conditions, no_program}
 use Rattle.viper_types.specs.Program as r
-use Rattle.viper_types.specs.Program.{requires_of, ensures_of, AreClauses, no_clauses, one_clause, IsMethodBody, no_block, block_of, IsMethod, method_of, AreDeclared, no_decls, one_decl, bodies_in, IsProgram, program_of}
+use Rattle.viper_types.specs.Program.{requires_of, ensures_of, AreClauses, no_clauses, one_clause, IsMethodBody, no_block, block_of, IsMethod, method_of, AreDeclared, no_decls, one_decl, IsProgram, program_of}
 use Rattle.viper_types.proofs.Assembled.{methods_in, has_methods}
 use Rattle.exec_meaning.specs.Frame.{IsFramedBody, IsFramedMethod, IsFramedProgram}
 use Rattle.exec_words.specs.Texts.{TextsAreFramed}

@@ -6,7 +6,7 @@ use Rattle.boogie_tree.specs.Expr as t
 use Rattle.boogie_tree.specs.Program.{BType}
 use Rattle.boogie_tree.specs.Values.{AreKeys}
 use Rattle.boogie_grammar.specs.Grammar as g
-use Rattle.boogie_grammar.specs.Grammar.{TypeOf, rule, rules}
+use Rattle.boogie_grammar.specs.Grammar.{TypeOf}
 use Rattle.boogie_grammar.specs.declared.tokens.BToken.{BToken}
 use Rattle.boogie_meaning.specs.Programs.{HaveKeys}
 use Rattle.boogie_text.specs.Printable.{IsFreeName}
@@ -18,7 +18,7 @@ use Rattle.boogie_formula.specs.Printable.{FitsScalar, FitKeys, FitsValue, FitLe
 use Rattle.boogie_formula.specs.Value.{plain, plain_all, two}
 use Rattle.formula_text.specs.Names.{variable_name, definition_name, numbered, names_in_scope}
 use Rattle.formula_text.specs.Spells as s
-use Rattle.formula_text.specs.Spells.{SpellsScalar, SpellsKeys, SpellsValue, Line, SpellsLets, SpellsVars, SpellsFormula}
+use Rattle.formula_text.specs.Spells.{SpellsScalar, SpellsKeys, SpellsValue, SpellsLets, SpellsVars, SpellsFormula}
 
 scalar_fits : {names : List (List ℕ)} {ts : List BToken} {e : FExpr} → SpellsScalar names ts e → AllProper ts → FitsScalar (length names) e
 scalar_fits {names = names} h proper =

@@ -15,10 +15,10 @@ ghost use Rattle.formula_text.specs.View.{naming_of};
 use crate::put_exprs::put_between;
 use crate::scopes::{Scope, put_definition, put_variable};
 use boogie_formula::{FExpr, Formula};
-use boogie_text::{put, put_type};
+use boogie_text::put_type;
 use boogie_tree::BType;
 use std::alloc::Global;
-use vb_base::{Ident, Label, Memory, label_text};
+use vb_base::{Ident, Label, Memory, label_text, put};
 
 /// The text of a formula of the procedure of this name and of this label: a line for each variable and each definition, and one
 /// for the goal. It spells the formula, and no other.

@@ -3,9 +3,8 @@ ghost use Rattle.std.specs.Prelude.{◌≡◌, ◌++◌, OnOk};
 ghost use Rattle.boogie_grammar.specs.Printed.{name_at};
 ghost use Rattle.formula_text.specs.Names.{variable_name, definition_name, names_in_scope};
 
-use boogie_text::put;
 use std::alloc::Global;
-use vb_base::{Ident, Memory};
+use vb_base::{Ident, Memory, put};
 
 /// The names in the scope of an expression.
 #[derive(Clone, Copy)]

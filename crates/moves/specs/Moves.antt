@@ -7,7 +7,7 @@ use Rattle.vb_value.specs.declared.values.Value.{Value}
 use Rattle.viper_state.specs.State.{Memo}
 use Rattle.viper_state.specs.Event.{Event, Branch, Took, Wild, Fresh, Whole, Split, Leaf}
 use Rattle.boogie_tree.specs.Value as b
-use Rattle.boogie_tree.specs.Value.{Key, Entry, BChoice, Pick, Value as Given, Entries}
+use Rattle.boogie_tree.specs.Value.{Key, BChoice, Pick, Value as Given, Entries}
 use Rattle.moves.specs.Scalars.{scalar}
 use Rattle.moves.specs.Maps.{place_key, instance_key}
 

@@ -8,3 +8,4 @@ mod named;
 
 pub use choices::moves;
 pub use entries::scalar;
+pub use named::{named_key, named_scalar};

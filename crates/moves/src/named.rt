@@ -40,7 +40,8 @@ fn named_entry(entry: &Entry)
     named_scalar(&entry.value);
 }
 
-fn named_key(parts: &[KeyPart])
+/// Each reference of a key can be named.
+pub fn named_key(parts: &[KeyPart])
     ensures { IsNamedKey parts.now }
 {
     for part in parts {
@@ -56,7 +57,8 @@ fn named_part(part: KeyPart)
     }
 }
 
-fn named_scalar(value: &BScalar)
+/// Each reference of a value can be named.
+pub fn named_scalar(value: &BScalar)
     ensures { IsNamedScalar (scalar_of value.now) }
 {
     match value {

@@ -148,7 +148,7 @@ impl<K: Ord + Clone, V: Eq + Clone> Sparse<K, V> {
         ensures reduced { IsReduced K.cmp V.eq self.now }
     {
         let mut list = Vec::with_capacity(self.alloc, self.root.size())?;
-        self.root.list(&mut list)?;
+        self.root.list(&mut list);
         Ok(list)
     }
 }

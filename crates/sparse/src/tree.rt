@@ -1,5 +1,5 @@
 //! Balanced trees of entries in the order of their keys. What is not changed is shared by `Rc`.
-ghost use Rattle.std.specs.Prelude.{◌≡◌, ◌<◌, ◌+◌, ◌∷◌, [], ◌++◌, max, length, slice_get, IfOk, OnOk, IfNone, IfSome, unwrap_or};
+ghost use Rattle.std.specs.Prelude.{◌≡◌, ◌<◌, ◌≤◌, ◌+◌, ◌∷◌, [], ◌++◌, max, length, slice_get, IfOk, OnOk, IfNone, IfSome, unwrap_or, vec_len, vec_capacity};
 ghost use Rattle.std.specs.BTreeMap.{is_at};
 ghost use Rattle.std.specs.List.Sorted.{IsStrictlySortedBy};
 ghost use Rattle.std.specs.Map.{keys_of, lookup, remove_entry};
@@ -64,16 +64,19 @@ impl<K: Drop, V: Drop> Tree<K, V> {
         }
     }
 
-    /// Adds the entries to a list, from left to right.
-    pub(crate) fn list<'a>(&'a self, all: &mut Vec<&'a (K, V)>) -> Result<(), Memory>
-        ensures { OnOk result (borrowed all.new.items ≡ borrowed all.old.items ++ entries (plain_of self.now)) }
+    /// Adds the entries to a list that has room for them, from left to right.
+    pub(crate) fn list<'a>(&'a self, all: &mut Vec<&'a (K, V)>)
+        requires { vec_len all.old + length (entries (plain_of self.now)) ≤ vec_capacity all.old }
+        ensures entries { borrowed all.new.items ≡ borrowed all.old.items ++ entries (plain_of self.now) }
+        ensures len { vec_len all.new ≡ vec_len all.old + length (entries (plain_of self.now)) }
+        ensures capacity { vec_capacity all.new ≡ vec_capacity all.old }
     {
         let Tree::Fork(node) = self else {
-            return Ok(());
+            return;
         };
-        node.left.list(all)?;
-        all.push(&*node.entry)?;
-        node.right.list(all)
+        node.left.list(all);
+        all.push_reserved(&*node.entry);
+        node.right.list(all);
     }
 
     /// Adds the entries to a list that shares them, from left to right.

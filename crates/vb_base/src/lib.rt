@@ -1,6 +1,8 @@
-//! Places in a text, names, and the labels of failures: what every crate of the front end speaks of.
+//! What nearly every crate of the front end speaks of: places in a text, names, numbers, limits, the labels of failures, and the
+//! want of memory.
 #![tactic(auto)]
 
+mod bytes;
 mod labels;
 pub mod limits;
 mod literals;
@@ -9,9 +11,10 @@ mod owned;
 mod places;
 mod texts;
 
+pub use bytes::{put, same_bytes};
 pub use labels::{Kind, Label, label_text, one_label, read_label, same_label};
 pub use literals::Literal;
-pub use names::{Ident, Memory, same_bytes};
-pub use owned::{boxed, boxed_pair, kept};
+pub use names::{Ident, Memory};
+pub use owned::{boxed, boxed_pair, kept, pushed};
 pub use places::Pos;
 pub use texts::{advance, place_after};

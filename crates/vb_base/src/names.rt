@@ -1,5 +1,5 @@
 // Names, and the want of memory.
-ghost use Rattle.std.specs.Prelude.{◌≡◌, ◌==◌, ◌++◌, ◌≤◌, ◌↔◌, IsTrue, [], IfOk, length};
+ghost use Rattle.std.specs.Prelude.{◌≡◌, ◌==◌, ◌++◌, ◌≤◌, [], IfOk, length};
 ghost use Rattle.std.specs.Cmp.{partial_equiv_from_equiv};
 ghost use Rattle.std.specs.Cmp.Lexicographic.{pointwise, nat_list_eq_equiv};
 ghost use Rattle.std.specs.Hash as fed;
@@ -7,6 +7,7 @@ ghost use Rattle.std.specs.Cmp.Rules.{hashing};
 ghost use Rattle.std.proofs.Common.{rules};
 ghost use Rattle.vb_base.specs.ShortName.{max_short_name};
 
+use crate::same_bytes;
 use std::alloc::{AllocError, AllocFailed, Global};
 use std::hash::{Hash, Hasher};
 use std::marker::Model;
@@ -112,21 +113,6 @@ fn short(front: &[u8], back: &[u8]) -> Ident
             bytes,
         }),
     }
-}
-
-/// Whether these bytes are those. One by one, since most are few.
-pub fn same_bytes(first: &[u8], second: &[u8]) -> bool
-    ensures { IsTrue result ↔ (first.now ≡ second.now) }
-{
-    if first.len() != second.len() {
-        return false;
-    }
-    for (byte, other) in first.iter().zip(second) {
-        if byte != other {
-            return false;
-        }
-    }
-    true
 }
 
 impl PartialEq for Ident {

@@ -8,7 +8,7 @@ use Rattle.std.proofs.lemmas.Option.{slice_get-map}
 use Rattle.std.specs.declared.alloc.Global.{Global}
 use Rattle.vb_base.specs.Names.{NamesDiffer}
 use Rattle.viper_core.proofs.FormedLaws.{at_item}
-use Rattle.boogie_tree.specs.Whole.{stmts_of, local_of, locals_of, proc_of, program_of}
+use Rattle.boogie_tree.specs.Whole.{stmts_of, local_of, proc_of, program_of}
 use Rattle.boogie_tree.specs.Program as p
 use Rattle.boogie_tree.specs.declared.stmts.BStmt.{BStmt}
 use Rattle.boogie_tree.specs.declared.programs.Proc.{Proc}

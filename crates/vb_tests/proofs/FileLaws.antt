@@ -18,7 +18,7 @@ use Rattle.viper_core.specs.declared.programs.Body.{Body}
 use Rattle.viper_core.specs.declared.programs.Program.{Program}
 use Rattle.viper_core.proofs.FormedLaws.{at_item, at_some}
 use Rattle.viper_meaning.specs.Contents as contents
-use Rattle.viper_meaning.specs.StatementLiterals.{AllPredicateLiterals, AllMethodLiterals, AllBodyLiterals, IsWithinStmt, AreWithinStmts, IsWithinMethod, IsWithinBody, IsWithinProgram}
+use Rattle.viper_meaning.specs.StatementLiterals.{AllPredicateLiterals, IsWithinStmt, AreWithinStmts, IsWithinMethod, IsWithinBody, IsWithinProgram}
 use Rattle.viper_meaning.proofs.FormedLiterals.{program_within}
 
 first_of : (ss : List Stmt) (a : Stmt) → slice_get ss 0 ≡ Some a → (rest : s.Stmts) × (stmts_of ss ≡ s.next (stmt_of a) rest)

@@ -24,7 +24,7 @@ use Rattle.boogie_run.specs.Within.{IsWithinScalar, IsWithinValue, IsWithinEntry
 use Rattle.boogie_run.proofs.SettingLaws.{start_fits}
 use Rattle.moves.specs.Scalars.{scalar}
 use Rattle.run_file.specs.BoogieLines.{SpellsScalar, word, content, SpellsEntry, last, more, known, Line, Var, Map as Opens, At, Chosen, Opened, IsLine, var, opens, at, pick, value, entries}
-use Rattle.run_file.specs.BoogieRun.{entry_with, filled, entries_of, nothing, fits_entry, AreSettings, AreChoices, none, one, many, AreRun, environment, unset, SpellsBoogieRun}
+use Rattle.run_file.specs.BoogieRun.{entry_with, entries_of, nothing, fits_entry, AreSettings, AreChoices, none, one, many, AreRun, environment, unset, SpellsBoogieRun}
 use Rattle.run_file.specs.BoogieRun as choice
 use Rattle.run_file.specs.Lines.{Known}
 use Rattle.moves.specs.Lists.{is_empty}

@@ -19,13 +19,13 @@ use Rattle.vb_tool.specs.Accepted.{IsAccepted}
 use Rattle.vb_tool.specs.AcceptedExecution as execution
 use Rattle.vb_tool.specs.AcceptedReplay as replay
 use Rattle.vb_tool.specs.Call as call
-use Rattle.vb_tool.specs.Call.{MissesOf, Misses, NamesFile, Refuses, Does, Promises, HasDone, IsCause, OutAfter, ErrAfter, Causes}
+use Rattle.vb_tool.specs.Call.{MissesOf, NamesFile, Refuses, Does, Promises, HasDone, IsCause, OutAfter, ErrAfter, Causes}
 use Rattle.vb_tool.specs.Command.{Command, Translate, Run, Replay, Make, Execute, Cut, Condition, Asks, files_of}
 use Rattle.vb_tool.specs.Converted.{trouble_of_file}
 use Rattle.vb_tool.specs.Outcome.{status_of, run_status}
 use Rattle.vb_tool.specs.Parts as parts
 use Rattle.vb_tool.specs.Executions.{execution_end, execution_status, status_of as status_of_end}
-use Rattle.vb_tool.specs.Parts.{command_of, Reports, Delivers, OutcomeOf, ReplayOf, SummaryOf, ExecutionOf, CutOf, ConditionOf}
+use Rattle.vb_tool.specs.Parts.{Reports, Delivers, OutcomeOf, ReplayOf, SummaryOf, ExecutionOf, CutOf, ConditionOf}
 use Rattle.vb_tool.specs.ReplayOutcome.{replay_status}
 use Rattle.vb_tool.specs.Status.{line_of}
 use Rattle.vb_tool.specs.Units.{end_of}

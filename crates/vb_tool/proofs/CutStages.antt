@@ -5,7 +5,6 @@ use Rattle.std.proofs.lemmas.List.Elements.{All-nil, All-cons}
 use Rattle.std.specs.declared.alloc.Global.{Global}
 use Rattle.std.specs.declared.vec.Vec.{Vec}
 use Rattle.boogie_tree.specs.Program as p
-use Rattle.boogie_tree.specs.Program.{BProgram}
 use Rattle.boogie_tree.specs.Whole.{local_of, proc_of, program_of}
 use Rattle.boogie_tree.specs.declared.programs.BProgram.{BProgram as Program}
 use Rattle.boogie_tree.specs.declared.programs.Local.{Local}

@@ -16,11 +16,11 @@ use crate::replay_outcome::told;
 use boogie_grammar::scopes::Names;
 use boogie_grammar::{BToken, after_prelude};
 use boogie_run::BOutcome;
-use boogie_text::{Outside, next_outside, pushed};
+use boogie_text::{Outside, next_outside};
 use boogie_tree::BProgram;
 use run_file::{boogie_run_name, read_boogie_run};
 use std::alloc::Global;
-use vb_base::{Ident, Memory};
+use vb_base::{Ident, Memory, pushed};
 
 /// The outcome of the procedure that a run file names, of the program of a file, on the run of the run file, where both
 /// files are accepted. Each statement is run as it is read, and none is kept.

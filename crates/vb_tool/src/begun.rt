@@ -6,10 +6,10 @@ ghost use Rattle.vb_tool.specs.Alone.{Begins};
 use boogie_grammar::BToken;
 use boogie_grammar::scopes::Names;
 use boogie_run::have_keys;
-use boogie_text::{next_local, pushed};
+use boogie_text::next_local;
 use boogie_tree::Proc;
 use std::alloc::Global;
-use vb_base::{Ident, Memory};
+use vb_base::{Ident, Memory, pushed};
 
 /// A procedure of which no statement is read yet.
 #[derive(Drop)]

@@ -8,10 +8,10 @@ ghost use Rattle.vb_tool.specs.Alone.{HasBody, IsBody, RunsBody};
 use crate::begun::Begun;
 use boogie_grammar::BToken;
 use boogie_run::{BOutcome, Running, is_typed_stmt};
-use boogie_text::{Inside, next_statement, pushed};
+use boogie_text::{Inside, next_statement};
 use boogie_tree::{BRun, BStmt};
 use std::alloc::Global;
-use vb_base::Memory;
+use vb_base::{Memory, pushed};
 
 /// The text behind a procedure that is begun, if its statements are well-typed.
 pub(crate) fn passed<'a>(

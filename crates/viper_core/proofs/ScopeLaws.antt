@@ -6,7 +6,7 @@ use Rattle.std.specs.List.{list_any}
 use Rattle.vb_value.specs.declared.values.Ty.{Ty}
 use Rattle.viper_core.specs.Stmt.{Stmt, Var, Assign, Write, New, Call, Inhale, Exhale, Assert, Fold, Unfold, If, While, loop, Stmts, skip, next}
 use Rattle.viper_core.specs.Scope.{Scope, declared, after_target, after_targets, after_block, scope_after, stmts_scope, assigns, some_assigns}
-use Rattle.viper_core.specs.Typing.{Frame, IsTarget, AreTargets, Receive, nothing, also, assigned, IsStmt, AreStmts}
+use Rattle.viper_core.specs.Typing.{Frame, AreTargets, Receive, nothing, also, assigned, IsStmt, AreStmts}
 use Rattle.viper_core.specs.Typing as s
 
 -- ---- numbers of variables are given once, in ascending order

@@ -1,5 +1,5 @@
 -- How an expression ends, by the ends of its parts: one lemma for each exit of the program.
-use Rattle.std.proofs.Common.{◌≡◌, refl, sym, ap, ℕ, Bool, true, false, Option, Some, None, List, [], Result, Ok, Err, if◌then◌else◌}
+use Rattle.std.proofs.Common.{◌≡◌, refl, sym, ap, ℕ, Bool, true, false, Some, None, List, [], Result, Ok, Err, if◌then◌else◌}
 use Rattle.vb_base.specs.declared.places.Pos.{Pos}
 use Rattle.vb_value.specs.Bound.{Bounded}
 use Rattle.vb_value.specs.Content.{Content}

@@ -1,5 +1,5 @@
 -- An operator looks at its left side, and then at its right side only if the left leaves its value open.
-use Rattle.std.proofs.Common.{◌≡◌, refl, sym, ap, ◌∙◌, Bool, Option, Some, None}
+use Rattle.std.proofs.Common.{◌≡◌, refl, sym, ◌∙◌, Bool, Option, Some, None}
 use Rattle.vb_base.specs.declared.places.Pos.{Pos}
 use Rattle.vb_value.specs.Bound.{Bounded}
 use Rattle.vb_value.specs.declared.values.Value.{Value}

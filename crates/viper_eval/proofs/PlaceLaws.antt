@@ -11,7 +11,7 @@ use Rattle.vb_value.specs.declared.values.Value.{Value}
 use Rattle.viper_state.specs.State.{Key, State}
 use Rattle.viper_state.specs.Event.{Event}
 use Rattle.viper_state.specs.Run.{Scene}
-use Rattle.viper_meaning.specs.Ends.{Evaluated, ends, is, found}
+use Rattle.viper_meaning.specs.Ends.{ends, is, found}
 use Rattle.viper_meaning.specs.Places.{key_part, key_of, in_front, taken, fill_place, fill_instance}
 use Rattle.viper_eval.specs.Answers.{Answers, stopped}
 use Rattle.viper_eval.specs.declared.answers.Stop.{Stop}

@@ -1,5 +1,5 @@
 -- What is evaluated within the bound is within the bound.
-use Rattle.std.proofs.Common.{◌≡◌, sym, ap, ◌∙◌, subst, arith, ℕ, zero, suc, ◌<◌, length, get_or, Option, Some, None, List, [], ◌∷◌, All, IfSome, Ok}
+use Rattle.std.proofs.Common.{◌≡◌, sym, ap, subst, arith, ℕ, zero, suc, ◌<◌, length, get_or, Option, Some, None, List, [], ◌∷◌, All, IfSome, Ok}
 use Rattle.vb_base.specs.declared.places.Pos.{Pos}
 use Rattle.vb_value.specs.Bound.{Bounded}
 use Rattle.vb_value.specs.Content.{Content, IsWithinContent}

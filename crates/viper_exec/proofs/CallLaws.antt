@@ -10,7 +10,7 @@ use Rattle.viper_core.specs.Program.{Method}
 use Rattle.viper_state.specs.Run.{Feed, Scene}
 use Rattle.viper_state.specs.State.{State}
 use Rattle.viper_meaning.specs.Run as run
-use Rattle.viper_meaning.specs.Run.{Run, then_do}
+use Rattle.viper_meaning.specs.Run.{then_do}
 use Rattle.viper_meaning.specs.Statements.{consume_all, taking_values}
 use Rattle.viper_meaning.proofs.ThenLaws.{then_then, then_same, goes_then}
 use Rattle.viper_inhale.specs.Answers.{Does}

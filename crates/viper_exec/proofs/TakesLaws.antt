@@ -7,7 +7,7 @@ use Rattle.viper_state.specs.Choice.{Choice}
 use Rattle.viper_state.specs.Event.{Event}
 use Rattle.viper_state.specs.Run.{Feed}
 use Rattle.viper_meaning.specs.Run as m
-use Rattle.viper_meaning.specs.Run.{Run, ended, then_do, Ran, ran, since, on, then_ran}
+use Rattle.viper_meaning.specs.Run.{Run, then_do, Ran, ran, since, on, then_ran}
 use Rattle.viper_meaning.proofs.RunLaws.{on-then, then-since}
 use Rattle.exec_meaning.specs.Execution.{Went, Still, Spent, with_went, going_on, beginning}
 use Rattle.exec_meaning.specs.Budget.{is_spent}

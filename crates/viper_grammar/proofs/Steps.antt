@@ -9,7 +9,7 @@ use Rattle.grammar.proofs.Steps as grammar
 use Rattle.viper_grammar.specs.Tests as v
 use Rattle.viper_grammar.specs.Tests.{Kind, Value, Part, Test}
 use Rattle.viper_grammar.specs.Grammar as g
-use Rattle.viper_grammar.specs.Grammar.{Symbol, Rule, give, need, when, read, rule, rules, Starts}
+use Rattle.viper_grammar.specs.Grammar.{Symbol, Rule, give, need, read, rule, rules, Starts}
 use Rattle.viper_grammar.specs.Greedy.{IsNot, Reads, given, passed, called, Fails, Goes, Refuses, Parses, Misses}
 use Rattle.viper_grammar.proofs.Reading.{fails_in, fails_called}
 use Rattle.viper_grammar.proofs.Elements.{laws}

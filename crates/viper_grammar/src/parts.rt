@@ -1,7 +1,4 @@
 // A term as it is written.
-ghost use Rattle.std.specs.Prelude.{◌≡◌, [], ◌∷◌, ◌++◌, IfOk};
-
-use std::alloc::AllocFailed;
 use viper_syntax::{SCall, Term};
 
 /// What a term is by its tokens.
@@ -40,16 +37,4 @@ pub enum WordClass {
     Check,
     /// `requires` and `ensures`
     Clause,
-}
-
-/// The list with one more item. The first takes room for itself alone, since most lists have one.
-pub fn pushed<T: Drop>(mut all: Vec<T>, item: T) -> Result<Vec<T>, AllocFailed<T>>
-    ensures { IfOk result (λ v. v.items ≡ all.items ++ (item ∷ [])) }
-{
-    if all.is_empty() {
-        // Where memory is refused, the push says so.
-        let _refused = all.reserve_exact(1);
-    }
-    all.push(item)?;
-    Ok(all)
 }

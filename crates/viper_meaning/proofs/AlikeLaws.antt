@@ -8,7 +8,7 @@ use Rattle.viper_meaning.specs.Alike as ran_alike
 use Rattle.viper_meaning.specs.Alike.{RanAlike}
 use Rattle.viper_meaning.specs.Ends.{Evaluated, ends, Is, Fails, Blocked, Over, after}
 use Rattle.viper_meaning.specs.Kept as kept
-use Rattle.viper_meaning.specs.Kept.{IsAny, Keeps}
+use Rattle.viper_meaning.specs.Kept.{IsAny}
 use Rattle.viper_meaning.specs.KeptRuns as kept_run
 use Rattle.viper_meaning.specs.KeptRuns.{KeepsRun}
 use Rattle.viper_meaning.specs.Run.{Run, ended, takes, goes, before, evaluating, then_do, given, taking, Ran, since, on}

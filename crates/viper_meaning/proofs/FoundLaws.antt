@@ -22,7 +22,6 @@ use Rattle.viper_core.specs.declared.programs.Unit.TheVariants as unit
 use Rattle.viper_state.specs.Choice as choice
 use Rattle.viper_state.specs.Choice.{Choice}
 use Rattle.viper_state.specs.Event as event
-use Rattle.viper_state.specs.Event.{Event}
 use Rattle.viper_state.specs.Fits.{FitsMemo, FitsValue, FitsState, FitsScene, FitsEvent}
 use Rattle.viper_state.specs.Run.{Opening}
 use Rattle.viper_state.specs.State.{Memo, State, mask_at, with_value, with_mask}

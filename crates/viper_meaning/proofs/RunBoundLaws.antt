@@ -14,7 +14,7 @@ use Rattle.viper_state.specs.Event as event
 use Rattle.viper_state.specs.State.{State}
 use Rattle.viper_state.specs.Run.{Scene}
 use Rattle.viper_meaning.specs.Ends as m
-use Rattle.viper_meaning.specs.Ends.{Evaluated, ends, fails, blocks, is}
+use Rattle.viper_meaning.specs.Ends.{Evaluated, ends}
 use Rattle.viper_meaning.specs.Compared as e
 use Rattle.viper_meaning.specs.Compared.{IsNotOver, IsBoundedBy}
 use Rattle.viper_meaning.specs.ComparedRuns.{is_over}

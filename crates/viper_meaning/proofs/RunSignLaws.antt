@@ -12,7 +12,6 @@ use Rattle.vb_value.specs.Layout.{Layout}
 use Rattle.vb_value.proofs.OrderLaws.{order_antisymm}
 use Rattle.vb_value.proofs.SignLaws.{difference_not_negative, positive_not_negative}
 use Rattle.viper_core.specs.Expr as t
-use Rattle.viper_state.specs.Event.{Event}
 use Rattle.viper_state.specs.Event as event
 use Rattle.viper_state.specs.State.{State}
 use Rattle.viper_state.specs.Run.{Scene}

@@ -6,7 +6,7 @@ use Rattle.sparse.specs.Map.{IsReduced}
 use Rattle.vb_value.specs.Bound.{Unbounded, Bounded}
 use Rattle.vb_value.specs.Content.{same_content}
 use Rattle.vb_value.specs.Fraction as fraction
-use Rattle.vb_value.specs.Fraction.{Fraction, none, write}
+use Rattle.vb_value.specs.Fraction.{Fraction, write}
 use Rattle.vb_value.specs.Key.{key_cmp}
 use Rattle.vb_value.specs.Layout.{Layout}
 use Rattle.vb_value.specs.Value.{value_eq}

@@ -49,7 +49,7 @@ use Rattle.viper_meaning.proofs.ForgetLaws.{memo_in_has, forget_kept}
 use Rattle.viper_meaning.proofs.KeptLaws as k
 use Rattle.viper_meaning.proofs.KeptLaws.{IsInt, is_kept, fails_kept, blocks_kept, then_kept, found_kept, unless_kept, if_kept, fitting_kept}
 use Rattle.viper_meaning.proofs.RunKeptLaws as r
-use Rattle.viper_meaning.proofs.RunKeptLaws.{ResourceHas, before_kept, evaluating_kept, then_do_kept, given_kept, taking_kept, if_run_kept}
+use Rattle.viper_meaning.proofs.RunKeptLaws.{before_kept, evaluating_kept, then_do_kept, taking_kept, if_run_kept}
 
 -- a property of contents of any size, which is that of the contents of a run where they are small
 pub record IsClosedContent (b : Bound) (V : Value → Type 0) (C D : Content → Type 0) : Type 0 where

@@ -14,7 +14,7 @@ use Rattle.viper_grammar.specs.declared.parts.WordClass.{WordClass}
 use Rattle.viper_grammar.specs.declared.parts.WordClass.TheVariants as class
 use Rattle.viper_syntax.specs.Stmt as s
 use Rattle.viper_grammar.specs.Tests as v
-use Rattle.viper_grammar.specs.Tests.{Kind, Value, Test, this, a_name, a_number, one_of, a_negation, an_operator, Passes}
+use Rattle.viper_grammar.specs.Tests.{Kind, Value, Test, this, a_name, a_number, one_of, a_negation, an_operator}
 use Rattle.viper_grammar.specs.Grammar as g
 use Rattle.viper_grammar.specs.Grammar.{Symbol, viper}
 

@@ -23,13 +23,13 @@ use Rattle.viper_grammar.specs.declared.parts.WordClass.TheVariants as class
 use Rattle.viper_grammar.specs.Tests as v
 use Rattle.viper_grammar.specs.Tests.{Kind, Value, Part, Test, this, a_name, a_number, one_of, a_negation, an_operator, Passes, is_type, is_constant, is_check, is_clause, is_negation, belongs, level_of}
 use Rattle.viper_grammar.specs.Grammar as g
-use Rattle.viper_grammar.specs.Grammar.{Symbol, Rule, give, need, when, read, rule, rules}
+use Rattle.viper_grammar.specs.Grammar.{Symbol, Rule, give, when, read, rule, rules}
 use Rattle.viper_grammar.specs.Spells as plain
 use Rattle.viper_grammar.specs.Spells.{Derives}
 use Rattle.viper_grammar.specs.Greedy.{Reads}
 use Rattle.grammar.proofs.Sets.{among, apart, within}
 use Rattle.grammar.proofs.Complete as grammar
-use Rattle.grammar.proofs.Complete.{good_give, good_need, good_when, good_read, te, tn, tw, tr}
+use Rattle.grammar.proofs.Complete.{good_give, good_when, good_read, te, tn, tw, tr}
 use Rattle.viper_parse.proofs.Codes.{code, word_code, sign_code, codes, class_codes, first_codes, empty, ext_codes, name_tail, term_tail, reach, sign_reach, bound, Ext, table}
 
 -- the tokens that pass a test are among its codes

@@ -13,7 +13,7 @@ use Rattle.viper_syntax.specs.Good.{amount_terms, rhs_terms, with_fields, target
 use Rattle.viper_grammar.specs.declared.parts.Shape.{Shape}
 use Rattle.viper_grammar.specs.declared.parts.Shape.TheVariants as shape
 use Rattle.viper_grammar.specs.Tests as v
-use Rattle.viper_grammar.specs.Tests.{Kind, Value, Part, Test, this, a_name, a_number, one_of, a_negation, an_operator, Passes}
+use Rattle.viper_grammar.specs.Tests.{Kind, Value, Test, this, a_name, a_number, one_of, a_negation, an_operator, Passes}
 use Rattle.viper_grammar.specs.Grammar as g
 use Rattle.viper_grammar.specs.Grammar.{Symbol, Rule, give, need, when, read, rule}
 use Rattle.viper_grammar.specs.Spells.{Derives, given, needed, taken, passed, called}

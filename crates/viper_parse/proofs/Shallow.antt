@@ -14,7 +14,7 @@ use Rattle.viper_syntax.specs.Decl as d
 use Rattle.viper_grammar.specs.declared.parts.Shape.{Shape}
 use Rattle.viper_grammar.specs.declared.parts.Shape.TheVariants as shape
 use Rattle.viper_grammar.specs.Tests as v
-use Rattle.viper_grammar.specs.Tests.{Kind, Value, Part, Test, this, a_name, a_number, one_of, a_negation, an_operator, Passes, is_constant, is_negation, level_of}
+use Rattle.viper_grammar.specs.Tests.{Kind, Value, Part, Test, Passes, is_constant, is_negation, level_of}
 use Rattle.viper_grammar.specs.Grammar as g
 use Rattle.viper_grammar.specs.Grammar.{Symbol, Rule, give, need, when, read, rule}
 use Rattle.viper_grammar.specs.Spells.{Derives, given, needed, taken, passed, called}

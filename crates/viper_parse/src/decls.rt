@@ -11,9 +11,9 @@ use crate::stmts::{braced, formal, semicolons, statements};
 use crate::terms::term;
 use grammar::Stop;
 use std::alloc::Global;
-use vb_base::Pos;
+use vb_base::{Pos, pushed};
+use viper_grammar::WordClass;
 use viper_grammar::tokens::{Read, eat_one_of, eat_sign, eat_word, name, sign};
-use viper_grammar::{WordClass, pushed};
 use viper_syntax::{Decl, Formal, Named, SBlock, SClause, SMethod, Sign, Token, Word};
 
 /// `[ formal { "," formal } ] ")"`

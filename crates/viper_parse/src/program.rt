@@ -9,7 +9,6 @@ ghost use Rattle.viper_parse.specs.Answers.{IsProgram, GoesWrong, Gives, Refuses
 ghost use Rattle.viper_grammar.specs.Spells.{Spells};
 
 use crate::decls::declarations;
-use grammar::Stop;
 use std::alloc::Global;
 use vb_base::Pos;
 use viper_grammar::fault;

@@ -8,10 +8,10 @@ ghost use Rattle.viper_parse.specs.View.{arguments_of, names_of, stmts_in};
 
 use crate::terms::{arguments, call, group, instance, term};
 use std::alloc::{AllocFailed, Global};
-use vb_base::Pos;
+use vb_base::{Pos, pushed};
 use viper_grammar::build::assigned;
 use viper_grammar::tokens::{Read, eat_one_of, eat_sign, eat_word, name, one_of, sign};
-use viper_grammar::{Instance, Part, WordClass, pushed};
+use viper_grammar::{Instance, Part, WordClass};
 use viper_syntax::{
     Formal, Named, SArm, SBlock, SCall, SFold, SNew, SRhs, SStmt, Sign, Term, Token, Word,
 };

@@ -9,7 +9,7 @@ ghost use Rattle.viper_grammar.specs.View.{part_of, instance_of};
 ghost use Rattle.viper_parse.specs.View.{arguments_of};
 
 use std::alloc::Global;
-use vb_base::Pos;
+use vb_base::{Pos, pushed};
 use viper_grammar::build::{
     accessed, applied, binary, called, chosen, constant, field, number, old, unfolding, variable,
 };
@@ -17,7 +17,7 @@ use viper_grammar::tokens::{
     Read, eat_name, eat_negation, eat_number, eat_one_of, eat_operator, eat_sign, eat_word, name,
     sign, word,
 };
-use viper_grammar::{Instance, Part, Shape, WordClass, pushed, repeats, right_level};
+use viper_grammar::{Instance, Part, Shape, WordClass, repeats, right_level};
 use viper_syntax::{Named, SCall, Sign, Term, Token, Word};
 
 /// A term.

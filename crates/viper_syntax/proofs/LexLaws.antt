@@ -1,5 +1,5 @@
 -- A text has at most one cut and at most one fault, and no text has both.
-use Rattle.std.proofs.Common.{◌≡◌, ◌∙◌, ℕ, ℤ, ◌+◌, ◌<◌, ◌≤◌, refl, ap, sym, subst, arith, inl, inr, List, [], ◌++◌, take, drop, suc, zero, Some}
+use Rattle.std.proofs.Common.{◌≡◌, ◌∙◌, ℕ, ℤ, ◌+◌, ◌<◌, ◌≤◌, refl, ap, sym, subst, arith, inl, inr, List, [], ◌++◌, take, drop, suc, zero}
 use Rattle.std.specs.Prelude.{◌⊎◌, ◌≤ℤ◌, ◌<ℤ◌, slice_get}
 use Rattle.std.proofs.lemmas.Bool.{cases_lt}
 use Rattle.std.proofs.lemmas.Int.{ints}

@@ -45,6 +45,7 @@ fn cut(alloc: Global, bytes: &[u8]) -> Result<Vec<Token>, LexFault>
     let mut at = Pos { line: 1, col: 1 };
     let mut rest = bytes;
     while !rest.is_empty() {
+        // A piece too, but most pieces are blanks, and what `piece` answers takes time to move.
         if is_blank(rest[0]) {
             let (blank, after) = rest.split_at(1);
             at = advance(at, blank);

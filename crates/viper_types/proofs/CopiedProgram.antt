@@ -23,7 +23,7 @@ use Rattle.viper_scope.specs.Types.{type_of, declared_type}
 use Rattle.viper_types.specs.Frame.{Frame, with_variable}
 use Rattle.viper_types.specs.Declaring as j
 use Rattle.viper_scope.specs.Naming.{no_world, naming}
-use Rattle.viper_types.specs.Declaring.{Declared, FieldOf, PredicateOf, MethodOf, no_frame, formals, context_in, clause_of, clauses, conditions, method_body, method_typing, decl_typing, decls_typing, bodies_of, no_program, assembled, program_typing}
+use Rattle.viper_types.specs.Declaring.{Declared, FieldOf, PredicateOf, MethodOf, no_frame, formals, context_in, clause_of, clauses, conditions, method_body, method_typing, decl_typing, decls_typing, bodies_of, no_program, assembled}
 use Rattle.viper_types.specs.Program.{AreNamed, AreDeclared, bodies_in}
 use Rattle.viper_types.proofs.Assembled.{predicates_in, methods_in, has_predicates, has_methods}
 use Rattle.viper_types.proofs.CopiedTerms.{any_told}

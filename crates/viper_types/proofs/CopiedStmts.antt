@@ -20,7 +20,7 @@ use Rattle.viper_scope.specs.declared.context.Variable.{Variable}
 use Rattle.viper_scope.specs.Outcome.{Judged, Found, known}
 use Rattle.viper_scope.specs.Context.{World, Context, method_at, nowhere}
 use Rattle.viper_types.specs.Copied as k
-use Rattle.viper_types.specs.Copied.{copied, copied_amount, copied_all, with_formal, with_formals, copied_by_new, copied_by_rhs, copied_by_init, copied_by_terms, copied_by_fold, refs_after, copied_by, copied_by_block, copied_by_stmts, copied_by_arms, copied_by_arm, copied_by_else}
+use Rattle.viper_types.specs.Copied.{copied, copied_amount, copied_all, with_formal, copied_by_new, copied_by_rhs, copied_by_init, copied_by_terms, copied_by_fold, refs_after, copied_by, copied_by_block, copied_by_stmts, copied_by_arms, copied_by_arm, copied_by_else}
 use Rattle.viper_scope.specs.Scope.{Scope, ref_variables}
 use Rattle.viper_scope.specs.Arguments.{as_many, misfit}
 use Rattle.viper_types.specs.Typing.{with_body, typing_all, permission, expected, arguments, asserting}

@@ -4,7 +4,7 @@ use Rattle.std.specs.List.{AllByRecursion}
 use Rattle.std.proofs.lemmas.List.Elements.{All-head, All-from_recursion}
 use Rattle.viper_core.specs.Expr as e
 use Rattle.viper_core.specs.Formed as g
-use Rattle.viper_core.specs.Formed.{AreNames, HasFewDeclarations, IsTypedProgram, global_names}
+use Rattle.viper_core.specs.Formed.{AreNames, IsTypedProgram}
 use Rattle.viper_core.specs.Program as p
 use Rattle.viper_syntax.specs.Decl as d
 use Rattle.viper_scope.specs.Context.{World}

@@ -7,7 +7,7 @@ use Rattle.vb_value.specs.declared.values.Ty.{Ty}
 use Rattle.vb_value.specs.declared.values.Ty.TheVariants as ty
 use Rattle.viper_core.specs.Expr as e
 use Rattle.viper_core.specs.Scope as cs
-use Rattle.viper_core.specs.Scope.{scope_after, stmts_scope, after_block}
+use Rattle.viper_core.specs.Scope.{scope_after, stmts_scope}
 use Rattle.viper_core.specs.Stmt as c
 use Rattle.viper_core.specs.Typing as g
 use Rattle.viper_core.specs.Typing.{IsStmt, AreStmts, IsAssertion}

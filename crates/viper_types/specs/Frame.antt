@@ -2,7 +2,6 @@
 use Rattle.viper_scope.specs.Types.{declared_type}
 use Rattle.std.specs.Prelude.{ℕ, Bool, false, List, [], ◌∷◌, ◌++◌, length}
 use Rattle.vb_value.specs.declared.values.Ty.{Ty}
-use Rattle.vb_value.specs.declared.values.Ty.TheVariants as ty
 use Rattle.viper_syntax.specs.Stmt as s
 use Rattle.viper_scope.specs.Scope.{Scope}
 

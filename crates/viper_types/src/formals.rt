@@ -8,7 +8,6 @@ ghost use Rattle.viper_scope.specs.Types as types;
 ghost use Rattle.viper_scope.specs.Outcome.{Found};
 
 use crate::frames::Frame;
-use std::alloc::Global;
 use vb_base::{Ident, Memory};
 use vb_value::Ty;
 use viper_scope::{TypeFault, type_of};

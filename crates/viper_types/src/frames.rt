@@ -12,7 +12,7 @@ use std::alloc::Global;
 use vb_base::{Ident, Memory, Pos};
 use vb_value::Ty;
 use viper_scope::{Scope, TypeFault, Variable, next_number, type_of};
-use viper_syntax::{Formal, Word};
+use viper_syntax::Formal;
 
 /// The variables of a method so far.
 #[derive(Drop)]

@@ -17,7 +17,6 @@ use Rattle.boogie_grammar.specs.Words.{operator_tok}
 use Rattle.boogie_grammar.specs.Tests as v
 use Rattle.boogie_grammar.specs.Tests.{Kind, Value, Test, Passes, the_sign, the_word, the_name, a_new_name, a_variable, a_number, a_real, a_label, a_base, a_key, an_operator, some_free}
 use Rattle.boogie_grammar.specs.Grammar as g
-use Rattle.boogie_grammar.specs.Grammar.{boogie}
 use Rattle.wide_grammar.specs.Noting.{noting_rule, second_rules, noted_rules}
 use Rattle.wide_grammar.specs.Grammar.{telling, new_names}
 use Rattle.wide_text.specs.Bound.{is_colon_sign, is_colon, starts_colon, binds, bound_in}

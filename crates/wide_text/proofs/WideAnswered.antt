@@ -2,7 +2,7 @@
 use Rattle.std.proofs.Common.{◌∙◌, sym, ap, refl, ℕ, ◌⊎◌, inl, inr, List, [], ◌++◌, arith}
 use Rattle.std.specs.Option.{option_map}
 use Rattle.grammar.specs.Rules as rules_of
-use Rattle.grammar.specs.Rules.{Alphabet, Rule, Rules, give, need, when, read}
+use Rattle.grammar.specs.Rules.{Rule, give}
 use Rattle.grammar.specs.Whole as text
 use Rattle.grammar.specs.Whole.{IsSpelled}
 use Rattle.grammar.specs.Wider.{Kinds, new, more}

@@ -6,10 +6,10 @@ use Rattle.std.proofs.lemmas.List.Folds.{list_any-append}
 use Rattle.std.proofs.lemmas.Slice.Eq.{bytes_eq-Decides}
 use Rattle.grammar.proofs.Sets.{among, within}
 use Rattle.grammar.proofs.Complete as grammar
-use Rattle.grammar.proofs.Complete.{Table, good_give, good_need, good_when, good_read, te, tn, tw, tr}
+use Rattle.grammar.proofs.Complete.{Table, good_need, good_when, good_read, te, tn, tw, tr}
 use Rattle.grammar.proofs.WiderLaws.{More, wider_table, right_up, all_good}
 use Rattle.grammar.specs.Rules as rules_of
-use Rattle.grammar.specs.Rules.{Alphabet, Rules, give, need, when, read}
+use Rattle.grammar.specs.Rules.{Rules, give, need, when, read}
 use Rattle.grammar.specs.Spells as plain
 use Rattle.grammar.specs.Spells.{Derives}
 use Rattle.grammar.specs.Greedy.{Reads}

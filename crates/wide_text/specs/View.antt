@@ -21,7 +21,7 @@ use Rattle.boogie_wide.specs.declared.wide.Clause.{Clause}
 use Rattle.boogie_wide.specs.declared.wide.WStmt.{WStmt}
 use Rattle.boogie_wide.specs.declared.wide.WProc.{WProc}
 use Rattle.wide_grammar.specs.Grammar as g
-use Rattle.wide_grammar.specs.Grammar.{Rule, rule, Arguments, Block, Else, Clauses, BoundClause, Parameters, Params, after_sign, at_sign, at_word, at_name, an_expr, a_clause, marked, where_true, branches, assignment, conditional, changes, rest_of}
+use Rattle.wide_grammar.specs.Grammar.{Rule, Arguments, after_sign, an_expr, a_clause, marked, where_true, branches, assignment, conditional, changes}
 use Rattle.wide_text.specs.Greedy.{WKind, Goes, Refuses}
 
 abbrev pub all_clauses_of : Vec Clause Global → List w.Clause

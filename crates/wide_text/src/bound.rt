@@ -13,10 +13,9 @@ use crate::words::{WideWord, eat_wide};
 use boogie_grammar::eating::{Read, eat_sign, sign};
 use boogie_grammar::scopes::Names;
 use boogie_grammar::{BSign, BTok, BToken};
-use boogie_text::pushed;
 use boogie_wide::Clause;
 use std::alloc::Global;
-use vb_base::{Ident, Memory};
+use vb_base::{Ident, Memory, pushed};
 
 /// The name that a token is, where it stands before a `:`.
 fn named<'a>(token: &'a BToken, rest: &[BToken]) -> Option<&'a Ident>

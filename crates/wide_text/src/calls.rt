@@ -14,10 +14,10 @@ use boogie_grammar::eating::{Read, eat_sign, sign};
 use boogie_grammar::leaves::eat_variable;
 use boogie_grammar::scopes::Names;
 use boogie_grammar::{BSign, BToken};
-use boogie_text::pushed;
 use boogie_tree::BExpr;
 use boogie_wide::WStmt;
 use std::alloc::Global;
+use vb_base::pushed;
 
 /// `bexpr { "," bexpr } ")"`
 fn more_arguments<'a>(

@@ -12,10 +12,10 @@ use crate::words::{WideWord, eat_wide};
 use boogie_grammar::eating::{Read, base, eat_sign, eat_word, sign};
 use boogie_grammar::scopes::Names;
 use boogie_grammar::{BSign, BToken, Word};
-use boogie_text::{pushed, type_of};
+use boogie_text::type_of;
 use boogie_tree::{BType, Local};
 use std::alloc::Global;
-use vb_base::{Ident, Memory};
+use vb_base::{Ident, Memory, pushed};
 
 /// The parameters and returns of a procedure, of which there are so many, in one list.
 #[derive(Drop)]

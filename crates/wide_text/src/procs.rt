@@ -17,10 +17,10 @@ use crate::stmts::statements;
 use boogie_grammar::eating::{Read, eat_sign, eat_word, sign};
 use boogie_grammar::scopes::Names;
 use boogie_grammar::{BSign, BToken, Word};
-use boogie_text::pushed;
 use boogie_tree::Local;
 use boogie_wide::{WProc, WStmt};
 use std::alloc::Global;
+use vb_base::pushed;
 
 /// What follows the head of a procedure.
 #[derive(Drop)]

@@ -17,9 +17,9 @@ use boogie_grammar::eating::{Read, eat_sign, eat_word, sign, word};
 use boogie_grammar::leaves::eat_variable;
 use boogie_grammar::scopes::Names;
 use boogie_grammar::{BSign, BToken, Word};
-use boogie_text::pushed;
 use boogie_wide::{Clause, WStmt};
 use std::alloc::Global;
+use vb_base::pushed;
 
 /// `{ "invariant" mark bexpr ";" }`
 fn invariants<'a>(

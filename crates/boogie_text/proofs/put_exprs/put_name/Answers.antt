@@ -1,5 +1,4 @@
-use Rattle.std.proofs.Common.{◌≡◌, ◌∙◌, ◌++◌, OnOk, length, sym, ap, subst}
-use Rattle.boogie_tree.specs.declared.programs.Local.{Local}
+use Rattle.std.proofs.Common.{◌≡◌, ◌∙◌, ◌++◌, OnOk, length, sym, subst}
 use Rattle.boogie_grammar.specs.Naming.{temporary_names}
 use Rattle.boogie_text.proofs.PrintLaws.{name_there}
 use Rattle.boogie_text.proofs.put_exprs.put_name.Goals as goal

@@ -1,4 +1,4 @@
-use Rattle.std.proofs.Common.{◌≡◌, [], true, rules, sym, subst, get_or}
+use Rattle.std.proofs.Common.{◌≡◌, [], true, rules, sym, subst}
 use Rattle.boogie_wide.specs.WideTypes.{all_differ}
 use Rattle.boogie_wide_types.proofs.SeenLaws.{none_seen, seen_first, all_new}
 use Rattle.boogie_wide_types.proofs.calls.all_new.Goals as goal

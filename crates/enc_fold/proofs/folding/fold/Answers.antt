@@ -1,7 +1,6 @@
 -- Arguments and amount, the test, and the rest.
 use Rattle.std.proofs.Common.{◌∙◌, None, length, refl, ap}
 use Rattle.std.proofs.lemmas.Result.{on_ok_weaker}
-use Rattle.vb_base.specs.declared.labels.Kind.TheVariants as kind
 use Rattle.viper_core.specs.View.{expr_of as viper, exprs_of, assertion_of, fold_of}
 use Rattle.boogie_tree.specs.Whole.{stmts_of}
 use Rattle.enc_expr.specs.Code.{join}

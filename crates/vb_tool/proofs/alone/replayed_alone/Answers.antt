@@ -1,4 +1,4 @@
-use Rattle.std.proofs.Common.{◌∙◌, subst}
+use Rattle.std.proofs.Common.{subst}
 use Rattle.vb_tool.proofs.AloneLaws.{ended_is}
 use Rattle.vb_tool.proofs.alone.replayed_alone.Goals as goal
 use Rattle.vb_tool.specs.Alone.{IsMadeAlone}

@@ -6,7 +6,6 @@ use mir.Syntax.{w128}
 use Rattle.viper_syntax.specs.Term.{Number}
 use Rattle.viper_grammar.specs.Tests as v
 use Rattle.viper_grammar.specs.Grammar as g
-use Rattle.viper_grammar.specs.Grammar.{give}
 use Rattle.viper_grammar.specs.Greedy.{called, given}
 use Rattle.viper_grammar.specs.View.{part_of, instance_of}
 use Rattle.viper_parse.specs.View.{arguments_of}

@@ -1,7 +1,6 @@
 use Rattle.std.proofs.Common.{arith}
 use Rattle.viper_grammar.specs.Tests as v
 use Rattle.viper_grammar.specs.Grammar as g
-use Rattle.viper_grammar.specs.Grammar.{give}
 use Rattle.viper_grammar.specs.View.{part_of}
 use Rattle.viper_grammar.proofs.Reading.{start, by_need, by_token, by_other, whole}
 use Rattle.viper_grammar.proofs.Steps.{token_error, tail, goes_at}

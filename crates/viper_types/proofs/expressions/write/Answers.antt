@@ -1,6 +1,6 @@
-use Rattle.std.proofs.Common.{refl, ◌≡◌, ◌∙◌, ap, sym, Some, pos}
+use Rattle.std.proofs.Common.{refl, ◌≡◌, ◌∙◌, ap, sym, pos}
 use Rattle.std.proofs.lemmas.Option.{same_Some}
-use Rattle.vb_value.specs.Fraction.{Fraction, reduced, whole}
+use Rattle.vb_value.specs.Fraction.{reduced, whole}
 use Rattle.vb_value.specs.Gcd.{gcd}
 use Rattle.viper_core.specs.Expr as e
 use Rattle.viper_types.proofs.expressions.write.Goals as goal

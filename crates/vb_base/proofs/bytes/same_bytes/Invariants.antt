@@ -1,5 +1,5 @@
 use Rattle.std.proofs.Common.{◌≡◌, ◌↔◌, length}
-use Rattle.vb_base.proofs.names.same_bytes.Given as goal
+use Rattle.vb_base.proofs.bytes.same_bytes.Given as goal
 
 -- what is left is the same just where the whole is
 abbrev pub invariant-loop-byte : goal.invariant-loop-byte
