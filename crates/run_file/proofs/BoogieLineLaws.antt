@@ -24,7 +24,7 @@ use Rattle.run_file.specs.Values.{SpellsValue, IsArgument, BeginsWithContent}
 use Rattle.run_file.specs.Lines.{Known, HasName}
 use Rattle.run_file.specs.BoogieLines as l
 use Rattle.moves.specs.Scalars.{scalar}
-use Rattle.run_file.specs.BoogieLines.{SpellsScalar, SpellsEntry, Line, Var, Map, At, Chosen, Opened, IsLine}
+use Rattle.run_file.specs.BoogieLines.{SpellsScalar, SpellsEntry, Line, Var, Map, At, Chosen, IsLine}
 use Rattle.run_file.specs.Reading.{◌>>=◌, truth, any_value, argument_of, whole_content, number_of, single, magnitude}
 use Rattle.run_file.specs.BoogieReading.{opens_content, scalar_from, content_scalar, word_scalar, part_of, with_part, parts_from, entry_from, keyword_text, keywords, keyword_of, variable_given, variable_line, map_line, named_line, entries_line, pick_line, value_line, keyed_line, line_of}
 use Rattle.run_file.specs.declared.boogie_lines.Keyword.{Keyword}

@@ -21,7 +21,7 @@ use Rattle.moves.specs.Printable.{IsPrintableChoice}
 use Rattle.run_file.specs.BoogiePrintable.{KeepsNames, IsPrintableSetting, IsPrintable}
 use Rattle.run_file.specs.BoogiePrinted.{given_text, given_with, given, run_text}
 use Rattle.run_file.specs.BoogieRun as r
-use Rattle.run_file.specs.BoogieRun.{entries_of, filled, nothing, fits_entry, unset, environment, header, AreSettings, AreChoices, SpellsBoogieRun}
+use Rattle.run_file.specs.BoogieRun.{entries_of, fits_entry, unset, environment, header, AreSettings, AreChoices, SpellsBoogieRun}
 use Rattle.run_file.specs.Lines.{Known}
 use Rattle.run_file.specs.Printed.{numbered_text}
 use Rattle.moves.specs.Lists.{is_empty}

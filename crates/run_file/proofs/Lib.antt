@@ -8,6 +8,7 @@ pub mod MemoLaws
 pub mod ReadLaws
 pub mod LineLaws
 pub mod NamedLaws
+pub mod NamedSetLaws
 pub mod RunLaws
 pub mod FileLaws
 pub mod ScopeLaws

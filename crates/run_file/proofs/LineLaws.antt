@@ -21,9 +21,9 @@ use Rattle.vb_value.specs.declared.values.Value.TheVariants.{Int, Bool as Truth,
 use Rattle.viper_state.specs.State.{Key}
 use Rattle.viper_state.specs.Choice.{Choice, Branch, Took, Amount, Fresh}
 use Rattle.run_file.specs.Values as v
-use Rattle.run_file.specs.Values.{SpellsValue, IsArgument, BeginsWithKey, BeginsWithContent}
+use Rattle.run_file.specs.Values.{SpellsValue, IsArgument, BeginsWithKey}
 use Rattle.run_file.specs.Lines as l
-use Rattle.run_file.specs.Lines.{Scope, Known, HasName, Line, Var, Heap, Holds, Chosen, Opened, IsLine}
+use Rattle.run_file.specs.Lines.{Scope, Known, HasName, Line, Var, Heap, Holds, Chosen, IsLine}
 use Rattle.run_file.specs.Reading.{◌>>=◌, argument_of, key_from, after_parts, number_of, keyword_text, keywords, keyword_of, single, only_value, variable_line, place_line, instance_line, named_line, state_line, keyed_line, line_of, whole_content, value_of, any_value, truth, reference, fraction}
 use Rattle.run_file.specs.declared.lines.Keyword.{Keyword}
 use Rattle.run_file.specs.declared.lines.Keyword.TheVariants as keyword

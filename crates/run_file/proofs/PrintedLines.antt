@@ -19,7 +19,7 @@ use Rattle.viper_state.proofs.FitsLaws.{FitsMap-get, FitsValue-default}
 use Rattle.viper_state.proofs.MapLaws.{exact_values, exact_contents}
 use Rattle.viper_state.proofs.Paired.{paired_back}
 use Rattle.run_file.specs.Lines as l
-use Rattle.run_file.specs.Lines.{Known, HasName, Scope, Line, Var, Heap, Holds, Chosen, Opened, IsLine}
+use Rattle.run_file.specs.Lines.{Scope, Var, Heap, Holds, IsLine}
 use Rattle.moves.specs.Printable.{IsNamed, IsNamedValue, IsNamedKey, IsNamedContent}
 use Rattle.run_file.specs.Printed.{numbered_text, reference_text, value_text, var_text, place_text, places_text, heap_text, instance_text, instances_text, contents_text, key_text, content_text}
 use Rattle.run_file.specs.Values.{SpellsValue, BeginsWithContent}

@@ -8,7 +8,7 @@ use Rattle.std.proofs.lemmas.List.Sums.{fold-append}
 use Rattle.sparse.specs.Map.{Map, empty, get, set, keys, IsReduced}
 use Rattle.sparse.specs.Meaning.{IsExact}
 use Rattle.vb_value.specs.Content as content
-use Rattle.vb_value.specs.Content.{Content, same_content}
+use Rattle.vb_value.specs.Content.{same_content}
 use Rattle.vb_value.specs.Key.{key_cmp}
 use Rattle.vb_value.specs.Layout.{Layout}
 use Rattle.vb_value.specs.Value.{default_of, type_of, value_eq}

@@ -23,7 +23,7 @@ use Rattle.viper_state.specs.State.{Memo}
 use Rattle.viper_state.specs.Within.{IsWithinMemo, IsWithinChoice}
 use Rattle.viper_state.proofs.Paired.{All-found}
 use Rattle.run_file.specs.Lines as l
-use Rattle.run_file.specs.Lines.{Known, Scope, scope_of, method_variables, predicate_variables, unit_variables, Line, Var, Heap, Holds, Chosen, Opened, IsLine}
+use Rattle.run_file.specs.Lines.{Scope, scope_of, method_variables, predicate_variables, unit_variables, Line, Var, Chosen, Opened, IsLine}
 use Rattle.run_file.specs.Printable.{IsNamedMemo, IsNamedChoice, IsPrintable}
 use Rattle.run_file.specs.Printed.{memo_text, choice_text, choices_text, run_text, truth_text, value_text, fraction_text, reference_text}
 use Rattle.run_file.specs.Run.{ViperRun, opening_with, empty_opening, scope_memo, AreChoices, none, one, filled, header, SpellsViperRun}

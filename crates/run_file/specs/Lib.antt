@@ -2,6 +2,7 @@ pub mod Text
 pub mod Values
 pub mod Lines
 pub mod NamedOrder
+pub mod NamedView
 pub mod Run
 pub mod LineView
 pub mod FillingView

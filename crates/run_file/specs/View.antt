@@ -5,6 +5,7 @@ use Rattle.viper_state.specs.View.{opening_of, choice_of}
 use Rattle.run_file.specs.Run as r
 use Rattle.run_file.specs.FillingView.{filling_of}
 use Rattle.run_file.specs.Progress.{Progress, with_filled}
+use Rattle.run_file.specs.NamedView.{named_of}
 use Rattle.run_file.specs.declared.runs.ViperRun.{ViperRun}
 use Rattle.run_file.specs.declared.runs.RunFileFault.{RunFileFault}
 use Rattle.run_file.specs.declared.runs.RunFileFault.TheVariants as fault
@@ -15,7 +16,7 @@ run_of x = record { opening = opening_of x.opening; choices = map choice_of x.ch
 
 -- the heap and contents that are filled stand in their place in the run
 abbrev pub progress_of : Reader → Progress
-progress_of x = record { stage = x.stage; named = x.named.keys; run = with_filled x.stage (filling_of x.filling) (run_of x.run) }
+progress_of x = record { stage = x.stage; named = named_of x.named; run = with_filled x.stage (filling_of x.filling) (run_of x.run) }
 
 -- the result is so, unless memory was refused
 abbrev pub Gives : {X : Type 0} → (X → Type 0) → Result X RunFileFault → Type 0

@@ -13,7 +13,7 @@ ghost use Rattle.run_file.specs.Text.{lines_of, words_of};
 use crate::runs::RunFileFault;
 use crate::texts::{is_skipped, next_line, next_word};
 use std::alloc::Global;
-use vb_base::{Ident, Memory, Pos};
+use vb_base::{Ident, Pos};
 
 /// The name of the procedure on the header line of a run file, or else where the header is wrong: at the first line that is
 /// not skipped, or at the last where there is none.

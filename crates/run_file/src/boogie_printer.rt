@@ -12,13 +12,11 @@ ghost use Rattle.run_file.specs.BoogieView.{filling_of, found_value, found_value
 ghost use Rattle.run_file.specs.Printed.{named_text, numbered_text};
 
 use crate::boogie_values::is_default;
-use crate::printer::{
-    put, put_content, put_fraction, put_key, put_number, put_reference, truth_text,
-};
+use crate::printer::{put_content, put_fraction, put_key, put_number, put_reference, truth_text};
 use boogie_tree::{BChoice, BRun, BScalar, BSetting, BValue, Entry, Local, Proc};
 use sparse::Sparse;
 use std::alloc::Global;
-use vb_base::{Ident, Memory};
+use vb_base::{Ident, Memory, put};
 use vb_value::Key;
 
 /// The text of a run of a procedure: the header, the variables other than their default in order of declaration, and the

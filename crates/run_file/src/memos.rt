@@ -28,26 +28,19 @@ pub(crate) fn defaults(alloc: Global, types: &[Ty]) -> Result<Vec<Value>, Memory
     Ok(values)
 }
 
-/// A heap and contents that lines fill.
+/// A heap and contents that lines fill. Each map is made at once where its keys ascend, whatever is named between them.
 #[derive(Drop)]
 pub(crate) struct Filling {
-    memo: Memo,
-    /// The field whose heap is filled, where there are `values`.
-    field: usize,
-    /// This heap, which stands for that of the memo.
-    values: Option<Builder<u64, Value>>,
+    heap: Vec<Builder<u64, Value>>,
+    content: Vec<Builder<Key, Content>>,
 }
 
 impl Filling {
     /// Those of no field and of no predicate, which no line can fill.
     pub(crate) fn none(alloc: Global) -> Filling {
         Filling {
-            memo: Memo {
-                heap: Vec::new(alloc),
-                content: Vec::new(alloc),
-            },
-            field: 0,
-            values: None,
+            heap: Vec::new(alloc),
+            content: Vec::new(alloc),
         }
     }
 
@@ -55,126 +48,80 @@ impl Filling {
     pub(crate) fn of(alloc: Global, layout: &Layout) -> Result<Filling, Memory>
         ensures { IfOk result (λ m. filling_of m ≡ r.empty_memo layout.now.fields layout.now.keys) }
     {
-        let memo = empty_memo(alloc, layout)?;
-        Ok(Filling {
-            memo,
-            field: 0,
-            values: None,
-        })
+        let heap = empty_heaps(alloc, &layout.fields)?;
+        let content = empty_contents(alloc, layout.keys.len())?;
+        Ok(Filling { heap, content })
     }
 
     /// Puts what a line gives into the heap and contents.
-    pub(crate) fn fill(&mut self, alloc: Global, line: Line) -> Result<(), Memory>
+    pub(crate) fn fill(&mut self, line: Line) -> Result<(), Memory>
         ensures { OnOk result (filling_of self.new ≡ r.memo_with (filling_of self.old) (line_view line)) }
     {
         match line {
-            Line::Heap(field, reference, value) => self.set_value(alloc, field, reference, value),
+            Line::Heap(field, reference, value) => self.set_value(field, reference, value),
             Line::Content(predicate, key, content) => self.set_content(predicate, key, content),
             _ => Ok(()),
         }
     }
 
-    fn set_value(
-        &mut self,
-        alloc: Global,
-        field: usize,
-        reference: u64,
-        value: Value,
-    ) -> Result<(), Memory>
+    fn set_value(&mut self, field: usize, reference: u64, value: Value) -> Result<(), Memory>
         ensures { OnOk result (filling_of self.new ≡ r.memo_with (filling_of self.old) (l.Heap field reference value)) }
     {
-        if self.field == field {
-            if let Some(values) = &mut self.values {
-                return grown(values.set(reference, value));
-            }
+        match self.heap.get_mut(field) {
+            Some(values) => grown(values.set(reference, value)),
+            None => Ok(()),
         }
-        self.close()?;
-        self.begin(alloc, field, reference, value)
-    }
-
-    /// Gives a field its value at a reference, after which its heap is filled.
-    fn begin(
-        &mut self,
-        alloc: Global,
-        field: usize,
-        reference: u64,
-        value: Value,
-    ) -> Result<(), Memory>
-        requires { self.old.values ≡ None }
-        ensures { OnOk result (filling_of self.new ≡ r.memo_with (filling_of self.old) (l.Heap field reference value)) }
-    {
-        let Some(values) = self.memo.heap.get_mut(field) else {
-            return Ok(());
-        };
-        if values.len() > 0 {
-            return grown(values.set(reference, value));
-        }
-        let mut filled = Builder::make(alloc, *values.default());
-        grown(filled.set(reference, value))?;
-        self.field = field;
-        self.values = Some(filled);
-        Ok(())
-    }
-
-    /// Puts the heap that is filled into the memo.
-    fn close(&mut self) -> Result<(), Memory>
-        ensures same { OnOk result (filling_of self.new ≡ filling_of self.old) }
-        ensures closed { OnOk result (self.new.values ≡ None) }
-    {
-        let Some(values) = self.values.take() else {
-            return Ok(());
-        };
-        let values = grown(values.finish())?;
-        if let Some(heap) = self.memo.heap.get_mut(self.field) {
-            *heap = values;
-        }
-        Ok(())
     }
 
     fn set_content(&mut self, predicate: usize, key: Key, content: Content) -> Result<(), Memory>
         ensures { OnOk result (filling_of self.new ≡ r.memo_with (filling_of self.old) (l.Holds predicate key (content_of content))) }
     {
-        match self.memo.content.get_mut(predicate) {
+        match self.content.get_mut(predicate) {
             Some(contents) => grown(contents.set(key, content)),
             None => Ok(()),
         }
     }
 
     /// The heap and contents, made of what was filled.
-    pub(crate) fn finish(self) -> Result<Memo, Memory>
+    pub(crate) fn finish(self, alloc: Global) -> Result<Memo, Memory>
         ensures { IfOk result (λ m. memo_of m ≡ filling_of self) }
     {
-        let mut filling = self;
-        filling.close()?;
-        Ok(filling.memo)
+        let heap = finished(alloc, self.heap)?;
+        let content = finished(alloc, self.content)?;
+        Ok(Memo { heap, content })
     }
 }
 
-/// The heap and contents in which nothing was named.
-fn empty_memo(alloc: Global, layout: &Layout) -> Result<Memo, Memory>
-    ensures { IfOk result (λ m. memo_of m ≡ r.empty_memo layout.now.fields layout.now.keys) }
+/// The maps that were filled.
+fn finished<K: Ord + Clone, V: Eq + Clone>(
+    alloc: Global,
+    filled: Vec<Builder<K, V>>,
+) -> Result<Vec<Sparse<K, V>>, Memory>
+    ensures { IfOk result (λ v. v.items ≡ filled.items) }
 {
-    let heap = empty_heaps(alloc, &layout.fields)?;
-    let content = empty_contents(alloc, layout.keys.len())?;
-    Ok(Memo { heap, content })
+    let mut maps = Vec::with_capacity(alloc, filled.len())?;
+    for map in filled {
+        maps.push(grown(map.finish())?)?;
+    }
+    Ok(maps)
 }
 
-fn empty_heaps(alloc: Global, types: &[Ty]) -> Result<Vec<Sparse<u64, Value>>, Memory>
+fn empty_heaps(alloc: Global, types: &[Ty]) -> Result<Vec<Builder<u64, Value>>, Memory>
     ensures { IfOk result (λ v. v.items ≡ map (λ u. empty (default_of u)) types.now) }
 {
     let mut heaps = Vec::with_capacity(alloc, types.len())?;
     for ty in types {
-        heaps.push(grown(Sparse::make(alloc, Value::default_of(*ty)))?)?;
+        heaps.push(Builder::make(alloc, Value::default_of(*ty)))?;
     }
     Ok(heaps)
 }
 
-fn empty_contents(alloc: Global, count: usize) -> Result<Vec<Sparse<Key, Content>>, Memory>
+fn empty_contents(alloc: Global, count: usize) -> Result<Vec<Builder<Key, Content>>, Memory>
     ensures { IfOk result (λ v. map contents_of v.items ≡ replicate count (empty tree.Unit)) }
 {
     let mut contents = Vec::with_capacity(alloc, count)?;
     for _ in 0..count {
-        contents.push(grown(Sparse::make(alloc, Content::Unit))?)?;
+        contents.push(Builder::make(alloc, Content::Unit))?;
     }
     Ok(contents)
 }

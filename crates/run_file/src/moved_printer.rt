@@ -16,12 +16,12 @@ ghost use Rattle.run_file.specs.Printed.{key_text};
 
 use crate::boogie_printer::{put_beginning, put_chosen, put_pick, put_place};
 use crate::memos::grown;
-use crate::printer::{put, put_content, put_key};
+use crate::printer::{put_content, put_key};
 use boogie_tree::{BScalar, BSetting, Proc};
 use moves::scalar;
 use sparse::Sparse;
 use std::alloc::Global;
-use vb_base::Memory;
+use vb_base::{Memory, put};
 use vb_value::{Content, Key, KeyPart, Value};
 use viper_state::{Event, Memo};
 

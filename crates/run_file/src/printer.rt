@@ -18,7 +18,7 @@ use crate::runs::ViperRun;
 use itoa::Buffer;
 use sparse::Sparse;
 use std::alloc::Global;
-use vb_base::{Ident, Memory};
+use vb_base::{Ident, Memory, put};
 use vb_value::{Content, Frac, Key, KeyPart, Value};
 use viper_core::{Predicate, Program};
 use viper_state::{Choice, Memo};
@@ -304,11 +304,4 @@ fn put_choice(out: &mut Vec<u8>, program: &Program, choice: &Choice) -> Result<(
             put_memo(out, program, memo)
         }
     }
-}
-
-pub(crate) fn put(out: &mut Vec<u8>, bytes: &[u8]) -> Result<(), Memory>
-    ensures { OnOk result (out.new.items ≡ out.old.items ++ bytes.now) }
-{
-    out.extend_from_slice(bytes)?;
-    Ok(())
 }

@@ -11,16 +11,17 @@ ghost use Rattle.run_file.specs.Run.{ViperRun as Plain, SpellsViperRun, GoesWron
 ghost use Rattle.run_file.specs.LineView.{line_view, scope_view};
 ghost use Rattle.run_file.specs.Machine.{IsReadBy, StopsBy, Steps};
 ghost use Rattle.run_file.specs.Progress as progress;
+ghost use Rattle.run_file.specs.NamedView.{named_of};
 ghost use Rattle.run_file.specs.Text.{lines_of, words_of};
 ghost use Rattle.run_file.specs.View.{progress_of, run_of, Gives, GivesPlace};
 ghost use Rattle.run_file.specs.declared.reader.Stage.TheVariants as stage;
 
 use crate::lines::{Line, Named, line_of};
 use crate::memos::{Filling, defaults};
+use crate::named_sets::NamedSets;
 use crate::names::{Names, Scope, variables_of};
 use crate::runs::{RunFileFault, ViperRun};
 use crate::texts::{is_skipped, next_line, next_word};
-use rising::Rising;
 use std::alloc::Global;
 use std::mem;
 use vb_base::{Memory, Pos};
@@ -74,8 +75,8 @@ enum Stage {
 #[derive(Drop)]
 struct Reader {
     stage: Stage,
-    /// What the lines that fill the same heap and contents have named. A printed run does so in ascending order.
-    named: Rising<Named>,
+    /// What the lines that fill the same heap and contents have named.
+    named: NamedSets,
     /// The heap and contents that are filled.
     filling: Filling,
     /// The run without those.
@@ -95,7 +96,7 @@ impl Reader {
         };
         Ok(Reader {
             stage: Stage::Header,
-            named: Rising::new(alloc),
+            named: NamedSets::nothing(alloc),
             filling,
             run: ViperRun {
                 opening: Opening { store, memo },
@@ -136,7 +137,7 @@ impl Reader {
         ensures { IfOk result (λ ok. Steps ok (progress.followed (scope_view scope.entry) (progress_of self.old) (line_view line)) (progress_of self.new)) }
     {
         match line {
-            Line::Var(number, value) => self.set_variable(number, value),
+            Line::Var(number, value) => self.set_variable(alloc, number, value),
             Line::Heap(field, reference, value) => {
                 let named = Named::Place(field, reference);
                 self.set_place(alloc, named, Line::Heap(field, reference, value))
@@ -151,10 +152,10 @@ impl Reader {
     }
 
     /// Gives a variable a value, in the opening and once.
-    fn set_variable(&mut self, number: usize, value: Value) -> Result<bool, Memory>
+    fn set_variable(&mut self, alloc: Global, number: usize, value: Value) -> Result<bool, Memory>
         ensures { IfOk result (λ ok. Steps ok (progress.variable_set (progress_of self.old) number value) (progress_of self.new)) }
     {
-        if !may_set(self.stage) || !self.named.insert(Named::Variable(number))? {
+        if !may_set(self.stage) || !self.named.insert(alloc, Named::Variable(number))? {
             return Ok(false);
         }
         if let Some(slot) = self.run.opening.store.get_mut(number) {
@@ -167,10 +168,10 @@ impl Reader {
     fn set_place(&mut self, alloc: Global, named: Named, line: Line) -> Result<bool, Memory>
         ensures { IfOk result (λ ok. Steps ok (progress.place_set (progress_of self.old) (line_view line) named) (progress_of self.new)) }
     {
-        if !may_place(self.stage) || !self.named.insert(named)? {
+        if !may_place(self.stage) || !self.named.insert(alloc, named)? {
             return Ok(false);
         }
-        self.filling.fill(alloc, line)?;
+        self.filling.fill(line)?;
         Ok(true)
     }
 
@@ -197,18 +198,18 @@ impl Reader {
     /// Puts the heap and contents that were filled into the run, and forgets what their lines have named.
     fn close(&mut self, alloc: Global) -> Result<(), Memory>
         ensures run { OnOk result (run_of self.new.run ≡ (progress_of self.old).run) }
-        ensures named { OnOk result (self.new.named.keys ≡ []) }
+        ensures named { OnOk result (named_of self.new.named ≡ []) }
     {
         self.named.clear();
         if let Stage::Choosing = self.stage {
             return Ok(());
         }
         let filled = mem::replace(&mut self.filling, Filling::none(alloc));
-        put_filled(&mut self.run, self.stage, filled)
+        put_filled(alloc, &mut self.run, self.stage, filled)
     }
 
     /// The run, after so many lines, where the header is among them.
-    fn finish(self, lines: u32) -> Result<ViperRun, RunFileFault>
+    fn finish(self, alloc: Global, lines: u32) -> Result<ViperRun, RunFileFault>
         requires { (1 ≤ lines) × (lines < 2 ^ 32) }
         ensures { MatchResult result (λ run. (progress.is_headed self.stage ≡ true) × (run_of run ≡ (progress_of self).run))
             (λ e. progress.UnlessMemory (λ at. (progress.is_headed self.stage ≡ false) × (at.line ≡ lines) × (at.col ≡ 1)) e) }
@@ -222,18 +223,23 @@ impl Reader {
         // What was named gives back its memory before the heap and contents take their own.
         drop(self.named);
         let mut run = self.run;
-        put_filled(&mut run, self.stage, self.filling)?;
+        put_filled(alloc, &mut run, self.stage, self.filling)?;
         Ok(run)
     }
 }
 
 /// Puts a heap and contents that were filled into a run.
-fn put_filled(run: &mut ViperRun, stage: Stage, filling: Filling) -> Result<(), Memory>
+fn put_filled(
+    alloc: Global,
+    run: &mut ViperRun,
+    stage: Stage,
+    filling: Filling,
+) -> Result<(), Memory>
     ensures { OnOk result (run_of run.new ≡ progress.with_filled stage (filling_of filling) (run_of run.old)) }
 {
     match stage {
-        Stage::Header | Stage::Opening => run.opening.memo = filling.finish()?,
-        Stage::Filling => run.choices.push(Choice::Memo(filling.finish()?))?,
+        Stage::Header | Stage::Opening => run.opening.memo = filling.finish(alloc)?,
+        Stage::Filling => run.choices.push(Choice::Memo(filling.finish(alloc)?))?,
         Stage::Choosing => {}
     }
     Ok(())
@@ -289,5 +295,5 @@ fn read_lines(alloc: Global, scope: Scope, bytes: &[u8]) -> Result<ViperRun, Run
         }
         rest = after;
     }
-    reader.finish(line)
+    reader.finish(alloc, line)
 }

@@ -10,7 +10,7 @@ set-requires c = contents_cloned (λ k q h. h) (λ v w h. h)
 pub returns-in-Some : goal.returns-in-Some
 returns-in-Some c =
     let item = c.in-Some.ensures.item in
-    let there = slice_get_read c.args.self.now.memo.content.items _ c.args.predicate c.in-Some.contents.now refl item.3.0 item.1 in
+    let there = slice_get_read c.args.self.now.content.items _ c.args.predicate c.in-Some.contents.now refl item.3.0 item.1 in
     handed c.set.result c.grown.result c.grown.ensures c.set.ensures.changed (λ h.
     ap (λ maps. record { heap = (filling_of c.args.self.now).heap; content = maps })
-    (contents_changed c.args.self.now.memo.content.items c.args.predicate c.in-Some.contents.now c.set.new.self c.args.key c.args.content there h))
+    (contents_changed c.args.self.now.content.items c.args.predicate c.in-Some.contents.now c.set.new.self c.args.key c.args.content there h))

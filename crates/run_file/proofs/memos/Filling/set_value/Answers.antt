@@ -1,12 +1,14 @@
-use Rattle.std.proofs.Common.{◌≡◌, ap, arith}
-use Rattle.viper_state.proofs.MapLaws.{handed, value_test, exact_values}
+use Rattle.std.proofs.Common.{ap, refl}
+use Rattle.std.proofs.lemmas.Option.{slice_get_read}
+use Rattle.viper_state.proofs.MapLaws.{changed_is, handed, value_test, exact_values}
 use Rattle.run_file.specs.FillingView.{filling_of}
-use Rattle.run_file.proofs.MemoLaws.{changed_again}
 use Rattle.run_file.proofs.memos.Filling.set_value.Goals as goal
 
 pub returns-in-Some : goal.returns-in-Some
 returns-in-Some c =
-    let here : c.args.self.now.field ≡ c.args.field = omega (arith, c.if-self-field.true) in
-    rw c.in-Some.is (rw here (handed c.set.result c.grown.result c.grown.ensures c.set.ensures.changed (λ h.
+    let item = c.in-Some.ensures.item in
+    let heaps = c.args.self.now.heap.items in
+    let there = slice_get_read heaps _ c.args.field c.in-Some.values.now refl item.3.0 item.1 in
+    handed c.set.result c.grown.result c.grown.ensures c.set.ensures.changed (λ h.
     ap (λ maps. record { heap = maps; content = (filling_of c.args.self.now).content })
-    (changed_again value_test exact_values c.args.self.now.memo.heap.items c.args.field c.in-Some.values c.set.new.self c.args.reference c.args.value h))))
+    (changed_is value_test exact_values heaps c.args.field c.in-Some.values.now c.set.new.self c.args.reference c.args.value there h))

@@ -5,7 +5,7 @@ use Rattle.vb_value.specs.Content as tree
 use Rattle.vb_value.specs.Layout.{Layout}
 use Rattle.vb_value.specs.Value.{default_of}
 use Rattle.run_file.proofs.MemoLaws.{replicate_is}
-use Rattle.run_file.proofs.memos.empty_memo.Goals as goal
+use Rattle.run_file.proofs.memos.Filling.of.Goals as goal
 
 pub returns : goal.returns
 returns c =
