@@ -1,0 +1,162 @@
+"""One unit: what z3 says of it, and a confirmed run for each label that can fail.
+
+A label is confirmed where `run` failed at it on the very run file that is told (of a program of Boogie, `replay`). What z3 says
+can fail and no run confirms is told apart: that is a finding about these tools."""
+import os
+from typing import List, NamedTuple, Optional
+
+from .boogie_text import read_procedure
+from .conditions import conditions_of
+from .run_files import ViperRun, boogie_run, read_back, viper_run, with_states
+from .search import PLAIN, WAYS, Search, new_objects
+from .smaller import Smaller, Values
+from .symbolic import Symbolic
+from .walk import Walk
+
+VERIFIED, FAILS, UNDECIDED = "verified", "fails", "undecided"
+
+
+class Failure(NamedTuple):
+    """A label that z3 says can fail. `confirmed` tells whether the program failed there on `run` (of Boogie, on `boogie_run`),
+    `end` is the walk that ends there, and `why` what the program said instead."""
+    label: str
+    confirmed: bool
+    run: Optional[ViperRun]
+    boogie_run: Optional[str]
+    end: Optional[Walk]
+    why: str
+
+
+class Outcome(NamedTuple):
+    """What is known of a unit."""
+    verdict: str
+    why: str
+    failures: List[Failure]
+
+
+class Task(NamedTuple):
+    """A unit that is to be looked at: its file, the whole text of Boogie and its own part, as names of files and a text."""
+    file: str
+    text_file: str
+    text: str
+    bare: frozenset
+    is_boogie: bool
+    seconds: float
+    wants_runs: bool
+
+
+class Examiner:
+    """Looks at one unit. `room` is a folder for its run files."""
+
+    def __init__(self, task, program, solver, room):
+        self.task, self.program, self.solver, self.room = task, program, solver, room
+        self.procedure = read_procedure(task.text)
+        self.conditions = conditions_of(self.procedure)
+        self.symbolic = Symbolic(self.conditions)
+        self.search = Search(self.conditions.vars, new_objects(self.procedure), solver, task.seconds)
+        self.failures = []
+
+    def outcome(self) -> Outcome:
+        """Asks of all labels, tells those that fail, and asks again of the others."""
+        left = self.possible()
+        why = ""
+        while left:
+            said, values = self.search.any_of([it for terms in left.values() for it in terms])
+            if said == "unsat":
+                left = {}
+            elif values is None:
+                left, why = self.one_by_one(left, said)
+                break
+            else:
+                label = self.told(values, left)
+                if label is None:
+                    left, why = self.one_by_one(left, "z3's values lead to no failure")
+                    break
+                del left[label]
+        return self.verdict(left, why)
+
+    def verdict(self, left, why):
+        odd = [it for it in self.failures if not it.confirmed]
+        if any([it.confirmed for it in self.failures]):
+            return Outcome(FAILS, self.undecided(left, why), self.failures)
+        if odd:
+            return Outcome(UNDECIDED, f"z3 says that {odd[0].label} can fail, and no run confirms it: {odd[0].why}", self.failures)
+        if left:
+            return Outcome(UNDECIDED, self.undecided(left, why), [])
+        return Outcome(VERIFIED, "", [])
+
+    def undecided(self, left, why):
+        if not left:
+            return ""
+        first = next(iter(left))
+        return f"{why}, of {first}" + (f" and {len(left) - 1} more" if len(left) > 1 else "")
+
+    def possible(self):
+        """The terms of each label that are not false at once."""
+        found = {}
+        for label, term in self.symbolic.fails:
+            if term is not self.symbolic.logic.false:
+                found.setdefault(label, []).append(term)
+        return found
+
+    def one_by_one(self, left, why):
+        """Asks of each label alone, the last one first. Returns those that are left, and why."""
+        open_ = {}
+        labels = list(left)
+        for n, label in enumerate(reversed(labels)):
+            self.search.open = None
+            ways = WAYS
+            said, values = self.search.any_of(left[label], ways) if self.search.left() > 0 else (why, None)
+            if values is not None and self.told(values, {label: left[label]}) is None:
+                self.failures.append(Failure(label, False, None, None, None, "the values that z3 finds lead elsewhere"))
+            elif values is None and said != "unsat":
+                open_[label], why = left[label], said
+        return {label: open_[label] for label in labels if label in open_}, why
+
+    def told(self, values: Values, left):
+        """Notes the label at which the run of some values fails, with its confirmation; None where it fails at none of these."""
+        end = Walk(self.procedure, values.given).run()
+        if end.how != "failed" or end.label not in left:
+            return None
+        if not self.task.wants_runs:
+            self.failures.append(self.confirmed(values, end.label))
+            return end.label
+        first = Values(values.types, dict(values.scalars), {n: dict(table) for n, table in values.tables.items()})
+        found = self.confirmed(Smaller(self.procedure, values, end.label).found(), end.label)
+        self.failures.append(found if found.confirmed else self.confirmed(first, end.label))
+        return end.label
+
+    def confirmed(self, values, label):
+        """Has the program confirm a run, and returns what it says."""
+        walk = Walk(self.procedure, values.given)
+        walk.run()
+        text = boogie_run(walk)
+        replayed = self.program.replay(self.task.text_file, self.file("run.brun", text))
+        if replayed.out != f"// failed {label}\n":
+            return Failure(label, False, None, text, walk, f"replay says {replayed.first()}")
+        if self.task.is_boogie:
+            return Failure(label, True, None, text, walk, "")
+        run, said = with_states(viper_run(walk, self.task.bare), self.says, self.procedure)
+        if not said.startswith(f"// failed {label}\n"):
+            return Failure(label, False, run, text, walk, f"run says {(said.splitlines() or ['nothing'])[0]}")
+        return self.as_written(label, run, said, text, walk)
+
+    def as_written(self, label, run, said, text, walk):
+        """The failure with the run of Boogie that `run` writes for it, where `replay` confirms that one too."""
+        written = "".join(f"{line}\n" for line in said.splitlines()[2:])
+        if self.program.replay(self.task.text_file, self.file("run.brun", written)).out != f"// failed {label}\n":
+            return Failure(label, False, run, text, walk, "replay does not fail on the run of Boogie that run writes")
+        end = read_back(self.procedure, written)
+        end.run()
+        return Failure(label, True, run, written, end, "")
+
+    def says(self, text):
+        """What the program says of a run of Viper."""
+        said = self.program.run(self.task.file, self.procedure.name[2:], self.file("run.run", text))
+        return said.out + said.error
+
+    def file(self, name, text):
+        path = os.path.join(self.room, name)
+        with open(path, "w", encoding="utf-8") as it:
+            it.write(text)
+        return path
