@@ -1,0 +1,125 @@
+"""The work on files and units, in processes side by side: each has a solver of its own that stays open, and a folder of its own."""
+import atexit
+import concurrent.futures
+import multiprocessing
+import os
+import shutil
+import sys
+import tempfile
+import threading
+import time
+
+from . import files
+from .boogie_text import NotAsWritten
+from .program import NoProgram, Program
+from .results import result_of, undecided
+from .smoke import smoke
+from .solver import NoSolver, Solver
+from .source import Source
+from .units import VERIFIED, Examiner, Task
+
+STACK = 256 * 1024 * 1024
+DEPTH = 200_000
+MINE = None     # what this process keeps from one unit to the next
+
+
+class Mine:
+    """A solver, a folder, and the last file that was looked at."""
+
+    def __init__(self, program):
+        self.program, self.solver = Program(program), Solver()
+        self.room = tempfile.mkdtemp(prefix="verify-")
+        self.path, self.source = None, None
+
+    def end(self):
+        self.solver.stop()
+        shutil.rmtree(self.room, ignore_errors=True)
+
+    def source_of(self, given):
+        if self.path != given.copy:
+            with open(given.copy, "rb") as it:
+                self.path, self.source = given.copy, Source(files.shown_path(given.path), it.read())
+        return self.source
+
+
+def begin(program):
+    """Makes this process ready for units."""
+    global MINE
+    MINE = Mine(program)
+    atexit.register(MINE.end)
+    # A process of the pool ends without the functions of `atexit`, but with those of its own.
+    multiprocessing.util.Finalize(None, MINE.end, exitpriority=10)
+
+
+def deep(function, *values):
+    """Calls a function on a stack that is large enough for all that may be nested."""
+    found = []
+
+    def call():
+        try:
+            found.append((function(*values), None))
+        except BaseException as fault:
+            found.append((None, fault))
+
+    sys.setrecursionlimit(DEPTH)
+    threading.stack_size(STACK)
+    thread = threading.Thread(target=call)
+    thread.start()
+    thread.join()
+    threading.stack_size(0)
+    value, fault = found[0]
+    if fault:
+        raise fault
+    return value
+
+
+def prepared(path, data, room):
+    """A file and its units."""
+    return deep(files.given, path, data, MINE.program, room)
+
+
+def examined(given, unit, options):
+    """What is told of a unit."""
+    return deep(examined_deep, given, unit, options)
+
+
+def examined_deep(given, unit, options):
+    start = time.monotonic()
+    task = Task(given.copy, given.text_file, unit.text, given.bare, given.is_boogie, options.seconds, options.runs)
+    try:
+        examiner = Examiner(task, MINE.program, MINE.solver, MINE.room)
+        outcome = examiner.outcome()
+        found = smoke(examiner) if options.smoke and outcome.verdict == VERIFIED else ("", None)
+        return result_of(unit.name, outcome, MINE.source_of(given), given.is_boogie, found, time.monotonic() - start)
+    except (NoSolver, NotAsWritten, NoProgram, MemoryError, OSError) as why:
+        return undecided(unit.name, f"{why}" or type(why).__name__)
+
+
+class Alone:
+    """Does all work in this process, at once."""
+
+    def __init__(self, program):
+        begin(program)
+
+    def submit(self, function, *values):
+        found = concurrent.futures.Future()
+        try:
+            found.set_result(function(*values))
+        except Exception as fault:
+            found.set_exception(fault)
+        return found
+
+    def shutdown(self):
+        MINE.end()
+
+
+def workers(program, jobs):
+    """So many processes that do work side by side."""
+    if jobs == 1:
+        return Alone(program)
+    context = multiprocessing.get_context("fork")
+    return concurrent.futures.ProcessPoolExecutor(jobs, mp_context=context, initializer=begin, initargs=(program,))
+
+
+def cores():
+    return len(os.sched_getaffinity(0))
