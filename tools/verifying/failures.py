@@ -137,7 +137,7 @@ class Step:
         elif self.kinds == "amount" and is_place:
             found = f"the amount {amount} of {whole} may not be positive".replace("  ", " "), False
         elif self.kinds == "perm" and is_place:
-            found = f"there may be too little permission to {whole}", True
+            found = f"there may be {'no' if amount == '`wildcard`' else 'too little'} permission to {whole}", True
         elif node.kind == "field" and not is_place:
             found = self.access(node, whole, target), False
         return found
@@ -214,7 +214,7 @@ class Step:
         if it.kind in ("fold", "unfold") and self.home.kind == "predicate" and self.is_opened_by(it):
             return self.of_fold(it)
         if it.kind:
-            return self.opened(f"this {it.kind}" if it.kind in (*STEPS, "call") else "an unfolding here")
+            return self.opened("this call" if it.callee is not None else f"this {it.kind}" if it.kind in STEPS else "an unfolding here")
         return None
 
     def of_own(self, it):
@@ -222,9 +222,11 @@ class Step:
         if not found or not found[0]:
             return None
         message, given_up = found
-        if given_up and it.kind in STEPS:
-            message = f"this {it.kind} may fail: {message}"
-        return self.at_part(message)
+        if not given_up or it.kind not in STEPS:
+            return self.at_part(message)
+        step, part = self.source.place(self.at), self.source.place(self.part)
+        notes = [(*step, f"of this {it.kind}")] if step[0] != part[0] else []
+        return self.at_part(f"this {it.kind} may fail: {message}", notes)
 
     def of_call(self, it, clause):
         name = self.source.said(it.callee)
