@@ -147,7 +147,7 @@ def state(walk, source):
         words, held = arguments(key, keys, name, source), scalar(amount, "real")
         told = content_words(source, name, words, walk.env[f"c${name}"].get(key))
         data.append({"predicate": name, "arguments": words, "held": held, "content": told})
-        lines.append(f"{name}({', '.join(words)}){': ' + told if told else ''}, held: {spoken(held)}")
+        lines.append(f"{name}({', '.join(words)}){' {' + told + '}' if told else ''}, held: {spoken(held)}")
     return lines, data
 
 
