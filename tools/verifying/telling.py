@@ -3,6 +3,7 @@ import unicodedata
 
 from .contents import content_words
 from .failures import read
+from .held import held_before
 from .run_files import content, maps_of_state, scalar
 from .sites import sites_of
 
@@ -122,23 +123,23 @@ def shown_variables(walk, source):
             yield local, names[local], base
 
 
-def amounts(walk, local):
+def amounts(held):
     """The keys of a map of permission at which something is held, in order, with how much. Elsewhere nothing is held."""
-    held = walk.env[local]
     return [(key, held.get(key)) for key in sorted(held.changed) if held.get(key) != 0]
 
 
 def state(walk, source):
-    """The state in which a walk ended: lines for people, and plain data. What the step had given up before it failed is not held."""
+    """The state in which the step began at which a walk failed: lines for people, and plain data."""
+    held_then = {**walk.env, **held_before(walk)}
     data = [{"variable": name, "value": word_of(walk.env[local], base)} for local, name, base in shown_variables(walk, source)]
     lines = [", ".join(f"{it['variable']} = {it['value']}" for it in data)] if data else []
     places, instances = [], []
     for number, (local, (keys, base)) in enumerate(walk.procedure.locals.items()):
         kind, _, name = local.partition("$")
         if kind == "h" and f"m${name}" in walk.env:
-            places += [(key, number, name, amount, scalar(walk.env[local].get(key), base)) for key, amount in amounts(walk, f"m${name}")]
+            places += [(key, number, name, amount, scalar(walk.env[local].get(key), base)) for key, amount in amounts(held_then[f"m${name}"])]
         elif kind == "c" and f"a${name}" in walk.env:
-            instances += [(name, key, amount, keys) for key, amount in amounts(walk, f"a${name}")]
+            instances += [(name, key, amount, keys) for key, amount in amounts(held_then[f"a${name}"])]
     for key, _, name, amount, value in sorted(places, key=lambda it: it[:2]):
         place, held = f"{scalar(key[0], 'Ref')}.{name}", scalar(amount, "real")
         data.append({"place": place, "held": held, "value": value})

@@ -85,6 +85,29 @@ class Shown(unittest.TestCase):
         self.assertEqual(len(data), 12)
 
 
+class Held(unittest.TestCase):
+    """A step takes permission away part by part; what is told is what was there before."""
+
+    SOURCE = Source("file.vpr", b"field f: Int\nmethod m(x: Ref) { exhale acc(x.f) && false assert false }")
+    TEXT = """procedure M$m() {{
+var v$x: Ref; var h$f: [Ref]int; var m$f: [Ref]real; var z$: [Ref]real; var t$5: [Ref]int;
+m$f := z$; m$f[v$x] := (m$f[v$x] + 1.0);
+assert {{:msg "2:20 2:33 perm"}} (m$f[v$x] >= 1.0); m$f[v$x] := (m$f[v$x] - 1.0);
+m$f[v$x] := (m$f[v$x] - 0.0); {} assert {{:msg "{}"}} false; }}"""
+
+    def state(self, *parts):
+        walk = read_back(read_procedure(self.TEXT.format(*parts)), "boogie run M$m\nvar v$x #1\n")
+        self.assertEqual(walk.run().label, parts[1])
+        return telling.state(walk, self.SOURCE)[0]
+
+    def test_what_the_failing_step_took_is_told(self):
+        self.assertEqual(self.state("", "2:20 2:39 false"), ["x = #1", "#1.f = 0, held: write"])
+
+    def test_what_a_step_before_took_is_gone(self):
+        self.assertEqual(self.state("", "2:45 2:52 false"), ["x = #1"])
+        self.assertEqual(self.state("h$f := t$5;", "2:20 2:39 false"), ["x = #1"])
+
+
 class Contents(unittest.TestCase):
     SOURCE = Source("file.vpr", b"""field f: Int field g: Ref field h: Perm
 predicate sides(x: Ref, b: Bool) { b ? acc(x.f) && acc(x.g) : acc(x.h) }
