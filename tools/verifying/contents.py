@@ -2,14 +2,14 @@
 from .run_files import content, scalar
 from .terms import Term
 
-MOST = 400      # the most characters that are told of a content
+MOST = 400      # the most characters that people are told of a content
 
 
 class Contents:
     """Goes through contents beside the bodies of predicates, from left to right. Nothing here recurs: a list may be long."""
 
-    def __init__(self, source):
-        self.source, self.words, self.length, self.bodies = source, [], 0, {}
+    def __init__(self, source, most):
+        self.source, self.most, self.words, self.length, self.bodies = source, most, [], 0, {}
 
     def body(self, name):
         """The tree of the body of a predicate and the names of its parameters, or None where it has none."""
@@ -27,7 +27,7 @@ class Contents:
         todo = self.opened(name, arguments, value)
         while todo:
             it = todo.pop()
-            if self.length > MOST:
+            if self.length > self.most:
                 self.say("..")
                 break
             if it is None:
@@ -106,8 +106,6 @@ def joined(words):
     return out
 
 
-def content_words(source, name, arguments, value):
-    """What an instance contains, as one line: `value 3, next null`. Without a file it is told as a run file has it."""
-    if source is None:
-        return content(value)
-    return Contents(source).told(name, arguments, value)
+def content_words(source, name, arguments, value, most=MOST):
+    """What an instance contains, as one line: `value 3, next null`. What is longer than the most is cut."""
+    return Contents(source, most).told(name, arguments, value)

@@ -84,7 +84,7 @@ class Step:
     def __init__(self, source, at, part, kinds):
         self.source, self.at, self.part, self.kinds = source, at, part, kinds
         self.unit, self.home = source.unit_at(at), source.unit_at(part)
-        self.clause = source.clause_at(part)
+        self.clause, self.node = source.clause_at(part), None
         self.word = source.said(at) if source.tokens[at].kind != "name" else "name"
 
     def words(self):
@@ -117,11 +117,13 @@ class Step:
             if term and self.kinds == "false":
                 for node in parts_of(self.source, term):
                     if node.start == self.part:
+                        self.node = node
                         return f"{self.text(node)} may be false", True
             for node, around in nodes_of(term) if term and self.kinds != "false" else ():
                 if node.kind == "unfolding" and self.kinds == "perm" and instance_of(node.parts[0]).at == self.part:
                     return f"{self.text(instance_of(node.parts[0]))} is unfolded, and too little of it may be held", False
                 if node.at == self.part and node.kind in ("field", "call", "binary"):
+                    self.node = node
                     return self.what_of(node, around, target)
         return None
 
@@ -239,7 +241,10 @@ class Step:
         if found[1] and clause == "ensures":
             return None
         how = "may not hold at this call" if found[1] else "may not be well-defined at this call"
-        return self.at_step(f"a {whose} of `{name}` {how}: {found[0]}", f"this part of the {whose}")
+        variables = self.home.variables
+        given = [(formal.name, self.text(node)) for formal, node in zip(self.home.parameters(), it.terms)]
+        given += [(formal.name, f"`{self.source.said(n)}`") for formal, n in zip([v for v in variables if v.role == "return"], it.targets)]
+        return self.at_step(f"a {whose} of `{name}` {how}: {found[0]}", f"this part of the {whose}{self.given(given)}")
 
     def is_opened_by(self, it):
         return bool(it.terms) and self.source.said(instance_of(it.terms[0]).at) == self.home.name
@@ -249,7 +254,14 @@ class Step:
         if not found or not found[0] or found[1] and it.kind == "unfold":
             return None
         how = "this fold may fail" if found[1] else f"the body of `{self.home.name}` may not be well-defined in this {it.kind}"
-        return self.at_step(f"{how}: {found[0]}", f"this part of the body of predicate `{self.home.name}`")
+        given = [(formal.name, self.text(node)) for formal, node in zip(self.home.parameters(), instance_of(it.terms[0]).parts)]
+        return self.at_step(f"{how}: {found[0]}", f"this part of the body of predicate `{self.home.name}`{self.given(given)}")
+
+    def given(self, given):
+        """What stands for the parameters that the part names, where that is not the name itself."""
+        names = {self.source.said(it.at) for it, _ in nodes_of(self.node) if it.kind == "leaf"} if self.node else set()
+        said = [f"`{name}` is {text}" for name, text in given if name in names and text != f"`{name}`"]
+        return f", where {' and '.join(said)}" if said else ""
 
 
 def instance_of(term):

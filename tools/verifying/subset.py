@@ -4,7 +4,8 @@ PAGE = "docs/language.md"
 REFUSED = {     # the refused words of docs/tokens.md
     "function": "functions are", "domain": "domains are", "axiom": "domains and their axioms are",
     "unique": "domains and their unique functions are", "import": "imports are", "define": "macros (define) are",
-    "label": "labels and old[label] are", "goto": "goto is", "forall": "quantifiers and quantified permissions (forall) are", "exists": "quantifiers (exists) are",
+    "label": "labels and old[label] are", "goto": "goto is",
+    "forall": "quantifiers and quantified permissions (forall) are", "exists": "quantifiers (exists) are",
     "forperm": "quantifiers (forperm) are", "let": "let is", "perm": "perm is", "epsilon": "epsilon is", "Seq": "sequences are",
     "Set": "sets are", "Multiset": "multisets are", "Map": "maps are", "Rational": "the type Rational is",
     "package": "magic wands (package) are", "apply": "magic wands (apply) are", "applying": "magic wands (applying) are",
@@ -20,6 +21,7 @@ BYTES = {
     "@": "annotations (@) are", '"': "strings are", "|": "lengths, as |s|, are", "#": "names with # are",
 }
 OPERATORS = ("+", "-", "*", "/", "\\", "%", "<", "<=", ">", ">=", "==", "!=", "&&", "||", "==>", "<==>", "!", "?", ":", ":=", "(", ",")
+WRITTEN = {"and": "&&", "or": "||", "not": "!", "implies": "==>", "iff": "<==>", "div": "\\", "mod": "%"}
 TYPES = ("Int", "Bool", "Ref", "Perm")
 
 
@@ -104,12 +106,27 @@ def hint(source, n):
         return "there are no decimals; a Perm is written as `1/2`"
     if said == "," and source.said(n - 2) == "." and source.tokens[n - 1].kind == "name":
         return "a field is no target of a call"
-    if said in ("<", "<=", ">", ">="):
+    if said in ("<", "<=", ">", ">=") and before not in ("<=", "-"):
         return "comparisons do not stand in a row; join them by &&"
     if before in ("if", "while", "elseif") and said != "(":
         return f"a condition stands in brackets, as in `{before} (b)`"
     if said == "{" and source.block[n] is not None:
         return "a block stands behind `if`, `elseif`, `else` or `while`"
+    return habit(source, n, said, before)
+
+
+def habit(source, n, said, before):
+    """What other languages write as stands at a token, or nothing."""
+    if before in WRITTEN and source.tokens[n - 1].kind == "name":
+        return f"`{before}` is written {WRITTEN[before]}"
+    if source.said(n - 2) == "not" and source.tokens[n - 2].kind == source.tokens[n - 1].kind == "name":
+        return f"`not` is written {WRITTEN['not']}"
+    if any(called_before(source, n, it) for it in ("if", "elseif", "while")):
+        return "a block in braces stands behind a condition"
+    if said == "(" and source.said(n - 2) == "." and source.tokens[n - 1].kind == "name":
+        return f"a method has no receiver; a call is written {before}(..)"
+    if said == ">" and before in ("<=", "-"):
+        return f"there is no {before}>; equivalence is written <==>, and implication ==>"
     return ""
 
 

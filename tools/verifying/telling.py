@@ -8,6 +8,7 @@ from .run_files import content, maps_of_state, scalar
 from .sites import sites_of
 
 WIDTH = 160     # the most bytes of a line of the file that are shown
+ALL = 1 << 40   # no content is so long
 
 
 def error_lines(source, told):
@@ -137,7 +138,8 @@ def state(walk, source):
     for number, (local, (keys, base)) in enumerate(walk.procedure.locals.items()):
         kind, _, name = local.partition("$")
         if kind == "h" and f"m${name}" in walk.env:
-            places += [(key, number, name, amount, scalar(walk.env[local].get(key), base)) for key, amount in amounts(held_then[f"m${name}"])]
+            at, held = walk.env[local], held_then[f"m${name}"]
+            places += [(key, number, name, amount, scalar(at.get(key), base)) for key, amount in amounts(held)]
         elif kind == "c" and f"a${name}" in walk.env:
             instances += [(name, key, amount, keys) for key, amount in amounts(held_then[f"a${name}"])]
     for key, _, name, amount, value in sorted(places, key=lambda it: it[:2]):
@@ -146,8 +148,9 @@ def state(walk, source):
         lines.append(f"{place} = {value}, held: {spoken(held)}")
     for name, key, amount, keys in instances:
         words, held = arguments(key, keys, name, source), scalar(amount, "real")
-        told = content_words(source, name, words, walk.env[f"c${name}"].get(key))
-        data.append({"predicate": name, "arguments": words, "held": held, "content": told})
+        inside = walk.env[f"c${name}"].get(key)
+        told = content_words(source, name, words, inside)
+        data.append({"predicate": name, "arguments": words, "held": held, "content": content_words(source, name, words, inside, ALL)})
         lines.append(f"{name}({', '.join(words)}){' {' + told + '}' if told else ''}, held: {spoken(held)}")
     return lines, data
 

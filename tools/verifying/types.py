@@ -122,8 +122,28 @@ def target_type(source, it):
     return found.pop() if len(found) == 1 else None
 
 
+def result_words(source, n):
+    """A target of another type than what a call or a `new` gives it."""
+    it = statement_around(source, n) if source.clause_at(n) is None else None
+    unit = source.unit_at(n)
+    if it is None or unit is None or n not in it.targets:
+        return None
+    had = {v.type for v in unit.variables if v.name == source.said(n)}
+    called = source.declared.get(source.said(it.callee)) if it.callee is not None else None
+    gives = [v.type for v in called.variables if v.role == "return"] if called is not None else ["Ref"]
+    k = it.targets.index(n)
+    is_new = it.kind == "new" or it.kind == "var" and not it.terms and it.callee is None
+    if len(had) != 1 or k >= len(gives) or called is None and not is_new or not had | {gives[k]} <= set(NAMES):
+        return None
+    who = called.name if called is not None else "a new"
+    return f"{who} gives {NAMES[gives[k]]}, and {source.said(n)} is {NAMES[had.pop()]}"
+
+
 def type_words(source, n):
     """Why what stands at a token has the wrong type."""
+    found = result_words(source, n)
+    if found:
+        return found
     for root, wanted in terms_at(source, n):
         if root is None:
             continue

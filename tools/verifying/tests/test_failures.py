@@ -83,7 +83,7 @@ LIST_CASES = (
     ("13:3 5:12 perm", Told(13, 3, "a precondition of `m` may not hold at this call: there may be too little permission to `list(x)`",
                             [(5, 12, "this part of the precondition")])),
     ("13:3 6:47 div", Told(13, 3, "a postcondition of `m` may not be well-defined at this call: the divisor `k` may be 0",
-                           [(6, 47, "this part of the postcondition")])),
+                           [(6, 47, "this part of the postcondition, where `k` is `0`")])),
     ("13:3 3:58 null", Told(13, 3, "this call opens `list`, whose body may not be well-defined: `x.next` is read, and `x` may be null",
                             [(3, 58, IN_LIST)])),
     ("14:3 15:7 false", Told(15, 7, "this assert may fail: `w > 0` may be false", [(14, 3, "of this assert")])),
@@ -92,7 +92,15 @@ LIST_CASES = (
 )
 SMALL_CASES = (
     ("method m() { inhale null == null fold P(1) }\npredicate P(n: Int) { n > 3 }", "1:34 2:23 false",
-     Told(1, 34, "this fold may fail: `n > 3` may be false", [(2, 23, "this part of the body of predicate `P`")])),
+     Told(1, 34, "this fold may fail: `n > 3` may be false", [(2, 23, "this part of the body of predicate `P`, where `n` is `1`")])),
+    ("method c(a: Int, b: Int) returns (r: Int) requires a > b ensures r \\ a > 0\nmethod m(a: Int) { var x: Int x := c(a, (a + 1)) }",
+     "2:31 1:52 false",
+     Told(2, 31, "a precondition of `c` may not hold at this call: `a > b` may be false",
+          [(1, 52, "this part of the precondition, where `b` is `a + 1`")])),
+    ("method c(a: Int, b: Int) returns (r: Int) requires a > b ensures 1 \\ r > 0\nmethod m(a: Int) { var x: Int x := c(a, (a + 1)) }",
+     "2:31 1:68 div",
+     Told(2, 31, "a postcondition of `c` may not be well-defined at this call: the divisor `r` may be 0",
+          [(1, 68, "this part of the postcondition, where `r` is `x`")])),
     ("field f: Ref method m() { assert null.f == null }", "1:27 1:39 null", Told(1, 39, "`null.f` is read, and `null` is null")),
     ("field f: Int method m(x: Ref) { inhale x.f \\ 2 == 1 assume x.f == 2 }", "1:53 1:62 perm",
      Told(1, 62, "`x.f` is read, and may not be held")),
@@ -147,7 +155,7 @@ class AnyLabel(unittest.TestCase):
     def test_each_pair_of_tokens_has_words(self):
         for source in (CROWDED, LIST):
             places = [f"{it.line}:{it.column}" for it in source.tokens]
-            for at in places[::9]:
+            for at in places[::25]:
                 for part in places:
                     for kind in failures.PLAIN:
                         told = failures.told(source, f"{at} {part} {kind}")
@@ -155,7 +163,7 @@ class AnyLabel(unittest.TestCase):
 
     def test_any_bytes(self):
         chance = random.Random(5)
-        for n in range(300):
+        for n in range(80):
             data = bytearray((CROWDED if n % 2 else LIST).data)
             for _ in range(chance.randrange(1, 40)):
                 at = chance.randrange(len(data))

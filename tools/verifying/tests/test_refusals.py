@@ -45,6 +45,16 @@ SYNTAX = (
     ("method m() { assert ~1 == 2 }", "bad-byte 1:21", "no token begins with `~`"),
     ("method m() { var \xe9: Int }", "bad-byte 1:18", "a byte above 127 may stand in comments alone"),
     ("method m() {\x00 }", "bad-byte 1:13", "no token begins with the byte 0"),
+    ("method m(a: Bool, b: Bool) { assert a and b }", "syntax 1:43", "`b` cannot stand here; `and` is written &&"),
+    ("method m(a: Bool) { assert not a }", "syntax 1:34", "`}` cannot stand here; `not` is written !"),
+    ("method m(a: Int, b: Int) { var c: Int := a div b }", "syntax 1:48", "`b` cannot stand here; `div` is written \\"),
+    ("method m(a: Int) { var c: Int if (a > 0) c := 1 }", "syntax 1:42",
+     "`c` cannot stand here; a block in braces stands behind a condition"),
+    ("method m(a: Ref) { a.run() }", "syntax 1:25", "`(` cannot stand here; a method has no receiver; a call is written run(..)"),
+    ("method m(a: Bool) { assert a <=> a }", "syntax 1:32",
+     "`>` cannot stand here; there is no <=>; equivalence is written <==>, and implication ==>"),
+    ("method m(a: Bool) { assert a -> a }", "syntax 1:31",
+     "`>` cannot stand here; there is no ->; equivalence is written <==>, and implication ==>"),
 )
 RULES = (
     ("method m() { assert x > 0 }", "type 1:21 rule 1", "no variable x is declared here"),
@@ -110,6 +120,17 @@ RULES = (
     ("method m(b: Bool) { if (b) { } " + "elseif (b) { } " * 128 + "}", "type 1:1933 rule 15", "blocks are more than 128 deep here"),
     ("field f: Int predicate Q(x: Ref) { acc(x.f) } predicate P(x: Ref) { Q(x) && unfolding Q(x) in x.f > 0 }", "type 1:77 rule 16",
      "`unfolding` may not stand in the body of a predicate"),
+    ("field f: Int method m(x: Ref) { x.f := x.f / 2 }", "type 1:40 rule 3",
+     "what stands here is to be an Int, and `x.f / 2` is a Perm: / gives a Perm, and \\ divides Ints"),
+    ("method m(i: Int, n: Int) { while (i < n / 2) { } }", "type 1:37 rule 3",
+     "`<` takes two Ints, or two Perms, and here are an Int and a Perm: / gives a Perm, and \\ divides Ints"),
+    ("method c(n: Int) method m(n: Int) { c(n / 2) }", "type 1:39 rule 3",
+     "what stands here is to be an Int, and `n / 2` is a Perm: / gives a Perm, and \\ divides Ints"),
+    ("method c() returns (n: Int) method m() { var x: Ref x := c() }", "type 1:53 rule 3", "c gives an Int, and x is a Ref"),
+    ("method m() { var x: Int x := new() }", "type 1:25 rule 3", "a new gives a Ref, and x is an Int"),
+    ("field f: Int method m(x: Ref) { if (x.f) { } elseif (x.f > 0) { } }", "type 1:37 rule 3",
+     "what stands here is to be a Bool, and `x.f` is an Int"),
+    ("method m() { var x: Bool := 1 }", "type 1:29 rule 3", "what stands here is to be a Bool, and `1` is an Int"),
 )
 
 

@@ -37,8 +37,8 @@ class Tokens(unittest.TestCase):
         self.assertEqual(kinds, {"while": "word", "while$": "name", "method'": "name", "1": "number", "#": "odd", ":=": "sign"})
 
     def test_a_large_file_is_read_in_linear_time(self):
-        small, large = (self.seconds(n) for n in (4_000, 32_000))
-        self.assertLess(large, 40 * small + 1)
+        small, large = (self.seconds(n) for n in (2_000, 16_000))
+        self.assertLess(large, 24 * small + 0.2)
 
     def seconds(self, n):
         begin = time.process_time()
@@ -137,7 +137,7 @@ class Terms(unittest.TestCase):
         self.assertEqual(Term(source, 0).end, 10001)
         chance = random.Random(1)
         words = "x f 1 ( ) , . + ! ? : in unfolding acc old && := { new var P(".split()
-        for _ in range(3000):
+        for _ in range(600):
             source = source_of(" ".join(chance.choices(words, k=chance.randrange(1, 14))))
             for n in range(len(source.tokens)):
                 for node in filter(None, (Term(source, n).node, *Statement(source, n).terms)):

@@ -147,7 +147,8 @@ class Marks(unittest.TestCase):
         return telling.error_lines(Source("a.vpr", data), Told(line, column, "what"))
 
     def test_tabs_and_wide_characters_keep_the_mark_below(self):
-        self.assertEqual(self.lines("\t/* \u00e9\u6f22 */ x".encode(), 1, 14), ["a.vpr:1:14: error: what", "    1 | \t/* \u00e9\u6f22 */ x", "      | \t          ^"])
+        self.assertEqual(self.lines("\t/* \u00e9\u6f22 */ x".encode(), 1, 14), [
+            "a.vpr:1:14: error: what", "    1 | \t/* \u00e9\u6f22 */ x", "      | \t          ^"])
 
     def test_no_byte_moves_the_cursor(self):
         self.assertEqual(self.lines(b"// \x1b[2J\r\nx", 1, 1)[1], "    1 | // \ufffd[2J")
