@@ -22,14 +22,22 @@ class Facts:
     def __init__(self):
         self.known, self.next, self.apart, self.low, self.high, self.under = {}, {}, {}, {}, {}, {}
         self.trail = []
+        self.version, self.unknown = 0, {}  # facts that are others have another version; what had no value under a version
 
     def set(self, table, key, value):
+        self.version += 1
         self.trail.append((table, key, table.get(key)))
         table[key] = value
+
+    def follows(self, condition, value):
+        """Keeps the value of a condition that follows from the facts, which are no others by that."""
+        self.trail.append((self.known, condition, None))
+        self.known[condition] = value
 
     def undo(self, mark):
         """Forgets what was learned since the trail was so long."""
         trail = self.trail
+        self.version += 1
         while len(trail) > mark:
             table, key, old = trail.pop()
             if old is None:

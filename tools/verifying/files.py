@@ -22,10 +22,12 @@ class Unit(NamedTuple):
 
 
 class Given(NamedTuple):
-    """A file: `path` is what it was called, `copy` the file in `room` that has its bytes, `text_file` that of the Boogie program."""
+    """A file: `path` is what it was called, `copy` the file in `room` that has its bytes, `text_file` that of the Boogie program,
+    which begins with `prelude`."""
     path: str
     copy: str
     text_file: str
+    prelude: str
     is_boogie: bool
     bare: frozenset
     units: List[Unit]
@@ -59,12 +61,13 @@ def given(path, data, program, room) -> Given:
         lines = said.error.strip().splitlines()
         reason = lines[-1] if lines else f"the program ended with status {said.status}"
         told = boogie_refusal(reason) if is_boogie else refusals.told(source, reason)
-        return Given(path, copy, text_file, is_boogie, frozenset(), [], told, reason)
+        return Given(path, copy, text_file, "", is_boogie, frozenset(), [], told, reason)
     with open(text_file, "w", encoding="utf-8") as it:
         it.write(said.out)
     bare = frozenset(it.name for it in source.units if it.kind == "predicate" and not it.parameters())
     units = [unit(source, is_boogie, data, *it) for it in procedure_texts(said.out)]
-    return Given(path, copy, text_file, is_boogie, bare, units, None, "")
+    prelude = said.out[:said.out.index("\nprocedure ") + 1] if units else said.out
+    return Given(path, copy, text_file, prelude, is_boogie, bare, units, None, "")
 
 
 def unit(source, is_boogie, data, procedure, text):

@@ -15,6 +15,7 @@ class Logic(Numbers):
 
     def __init__(self):
         self.made, self.facts, self.plainly = {}, Facts(), False
+        self.means = {}     # of a condition that stands for the equality of two terms these, and whether it says that they are equal
         self.true, self.false = self.make("name", "true", (), "bool"), self.make("name", "false", (), "bool")
         self.null, self.unit = self.make("name", "null", (), "Ref"), self.make("con", "sUnit", (), "Snap")
         self.zero = {"int": self.number(0, "int"), "real": self.number(0, "real"), "bool": self.false, "Ref": self.null, "Snap": self.unit}
@@ -68,10 +69,33 @@ class Logic(Numbers):
             return False
         if self.plainly:
             return None
-        known = self.facts.known.get(condition)
-        if known is None and condition.op == "=":
-            known = {"true": True, "false": False}.get(self.equal(*condition.args).data)
+        facts = self.facts
+        known = facts.known.get(condition)
+        if known is not None or condition.op not in ("=", "and", "or", "not") or facts.unknown.get(condition) == facts.version:
+            return known
+        if condition.op == "=":
+            simpler = self.equal(*condition.args)
+            known = True if simpler is self.true else False if simpler is self.false else None
+        elif condition.op == "not":
+            known = self.value_of(condition.args[0])
+            known = None if known is None else not known
+        else:
+            known = self.value_of_all(condition.args, condition.op == "or")
+        if known is None:
+            facts.unknown[condition] = facts.version
+        else:
+            facts.follows(condition, known)
         return known
+
+    def value_of_all(self, parts, decided):
+        """The value of a conjunction, which one false part decides, or of an alternative, which a true one does."""
+        open_ = False
+        for it in parts:
+            known = self.value_of(it)
+            if known is decided:
+                return decided
+            open_ = open_ or known is None
+        return None if open_ else not decided
 
     def equal(self, a, b):
         if a.sort in NUMBERS:
@@ -91,7 +115,10 @@ class Logic(Numbers):
             if one.op == "if" and (one.args[1] is other or one.args[2] is other):
                 way = 1 if one.args[1] is other else 2
                 condition = one.args[0] if way == 1 else self.negated(one.args[0])
-                return self.any([condition, self.equal(one.args[3 - way], other)])
+                found = self.any([condition, self.equal(one.args[3 - way], other)])
+                self.means[found] = (one, other, True)
+                self.means[self.negated(found)] = (one, other, False)
+                return found
         return self.make("=", None, (a, b) if a.number <= b.number else (b, a), "bool")
 
     def same_truth(self, a, b):
@@ -144,6 +171,10 @@ class Logic(Numbers):
             b = b.args[2]
         if a is b:
             return a
+        if a.op == "if" and a.args[2] is b:
+            return self.choice(self.all([condition, a.args[0]]), a.args[1], b)
+        if b.op == "if" and b.args[1] is a:
+            return self.choice(self.any([condition, b.args[0]]), a, b.args[2])
         if a.sort == "bool":
             for one, other, part in ((a, b, self.negated(condition)), (b, a, condition)):
                 if one is self.true:
@@ -176,6 +207,9 @@ class Logic(Numbers):
 
     def consequences(self, it, truth, todo):
         """Puts into `todo` what follows from a condition at once. Returns whether it can be so."""
+        means = self.means.get(it)
+        if means and not (self.merge if truth == means[2] else self.part)(self.facts.find(means[0]), self.facts.find(means[1])):
+            return False
         if it.op in ("and", "or"):
             parts = [part for part in it.args if self.value_of(part) is None]
             if truth == (it.op == "and") or len(parts) == 1:
@@ -195,7 +229,7 @@ class Logic(Numbers):
             elif truth:
                 return self.merge(*it.args)
             else:
-                self.part(*it.args)
+                return self.part(*it.args)
         return True
 
     def bound(self, d, strict):
@@ -242,7 +276,10 @@ class Logic(Numbers):
         return True
 
     def part(self, a, b):
-        """Notes that terms differ."""
+        """Notes that terms differ. Returns whether they can."""
         facts = self.facts
+        if a is b:
+            return False
         for one, other in ((a, b), (b, a)):
             facts.set(facts.apart, one, facts.apart.get(one, frozenset()) | {other})
+        return True

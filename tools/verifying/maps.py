@@ -145,6 +145,15 @@ class Maps:
             amounts[at] = amount
         return Sums(it.base, amounts)
 
+    def now(self, it):
+        """A map with what is known now of its amounts."""
+        if not isinstance(it, Sums):
+            return it
+        amounts = {key: self.logic.now(amount) for key, amount in it.amounts.items()}
+        if all([a is b for a, b in zip(amounts.values(), it.amounts.values())]):
+            return it
+        return Sums(it.base, {key: amount for key, amount in amounts.items() if amount is not self.logic.zero[it.base]})
+
     def chosen(self, condition, a, b):
         """One map where a condition is true, and else another."""
         logic = self.logic

@@ -1,5 +1,6 @@
 """Whether some run of a unit comes to its end. Where none does, that the unit is verified says nothing."""
 from .run_files import viper_run, with_states
+from .units import first_line
 from .walk import Walk
 
 DONE, VAIN = "done", "vain"
@@ -25,5 +26,5 @@ def smoke(examiner):
         return f"the values that z3 finds lead to no end: {end.how}", None
     run, said = with_states(viper_run(walk, examiner.task.bare), examiner.says, examiner.procedure)
     if not said.startswith("// done\n"):
-        return f"run says {(said.splitlines() or ['nothing'])[0]}", None
+        return f"run says {first_line(said)}", None
     return DONE, run.text()

@@ -21,7 +21,7 @@ class Symbolic:
         self.maps, self.paths = Maps(self.logic), Paths(self.logic)
         self.vars, self.lets = conditions.vars, conditions.lets
         # The terms, maps and paths by name, the terms that speak of paths, the names that were read, what a `forall` binds.
-        self.terms, self.known_maps, self.known_paths, self.of_paths, self.read_names, self.bound = {}, {}, {}, {}, set(), {}
+        self.terms, self.known_maps, self.known_paths, self.of_paths, self.read_names, self.bound, self.sides = {}, {}, {}, {}, set(), {}, {}
         for name, (keys, base) in self.vars.items():
             if keys:
                 self.known_maps[name] = Outside(name, base)
@@ -83,12 +83,41 @@ class Symbolic:
             self.known_maps[name] = self.map(e[1])
         elif kind == "with":
             self.known_maps[name] = self.changed(e)
-        elif kind == "if" and e[2][0] == "name" and e[2][1] in self.known_maps:
-            self.known_maps[name] = self.maps.chosen(self.term(e[1]), self.map(e[2][1]), self.map(e[3][1]))
+        elif kind == "if" and e[2][0] == "name" and e[1][0] == "name":
+            self.behind_branch(at, name, e)
         elif kind == "forall" and self.is_assumed(at, name) and self.says_what_a_map_is(e):
             self.terms[name] = self.logic.true
         else:
             self.terms[name] = self.term(e)
+
+    def behind_branch(self, at, name, e):
+        """Notes the choice between the two values of a local behind a branch. Each is looked at where its side of the branch is
+        known to be taken, of all locals at once."""
+        if name not in self.sides:
+            self.sides = self.sides_of_group(at, e[1])
+        condition, (a, b) = self.term(e[1]), self.sides[name]
+        if e[2][1] in self.known_maps:
+            self.known_maps[name] = self.maps.chosen(condition, a, b)
+        else:
+            self.terms[name] = self.logic.choice(condition, a, b)
+
+    def sides_of_group(self, at, condition):
+        """The two values of each local that is chosen by a condition, from a definition on."""
+        group, sides, facts = [], [], self.logic.facts
+        while at < len(self.lets) and self.lets[at][1][0] == "if" and self.lets[at][1][1] == condition:
+            group.append(self.lets[at])
+            at += 1
+        for truth in (True, False):
+            mark = len(facts.trail)
+            self.logic.learn(self.term(condition), truth)
+            sides.append([self.side(e[2] if truth else e[3]) for _, e in group])
+            facts.undo(mark)
+        return {name: (a, b) for (name, _), a, b in zip(group, *sides)}
+
+    def side(self, e):
+        if e[0] == "name" and e[1] in self.known_maps:
+            return self.maps.now(self.map(e[1]))
+        return self.term(e)
 
     def is_assumed(self, at, name):
         """Whether the next definition is the path on which this one holds, at once."""

@@ -35,9 +35,9 @@ class Outcome(NamedTuple):
 
 
 class Task(NamedTuple):
-    """A unit that is to be looked at: its file, the whole text of Boogie and its own part, as names of files and a text."""
+    """A unit that is to be looked at: its file, and the text of its procedure, behind the prelude and alone."""
     file: str
-    text_file: str
+    prelude: str
     text: str
     bare: frozenset
     is_boogie: bool
@@ -55,6 +55,7 @@ class Examiner:
         self.symbolic = Symbolic(self.conditions)
         self.search = Search(self.conditions.vars, new_objects(self.procedure), solver, task.seconds)
         self.failures = []
+        self.text_file = self.file("unit.bpl", task.prelude + task.text)
 
     def outcome(self) -> Outcome:
         """Asks of all labels, tells those that fail, and asks again of the others."""
@@ -127,28 +128,28 @@ class Examiner:
         return end.label
 
     def confirmed(self, values, label):
-        """Has the program confirm a run, and returns what it says."""
+        """Has the program confirm a run, and returns what it says: of Boogie that of the walk, and of Viper that which it comes from,
+        with the run of Boogie that `run` writes for it."""
         walk = Walk(self.procedure, values.given)
         walk.run()
         text = boogie_run(walk)
-        replayed = self.program.replay(self.task.text_file, self.file("run.brun", text))
-        if replayed.out != f"// failed {label}\n":
-            return Failure(label, False, None, text, walk, f"replay says {replayed.first()}")
         if self.task.is_boogie:
-            return Failure(label, True, None, text, walk, "")
+            why = self.replayed(text, label)
+            return Failure(label, not why, None, text, walk, why)
         run, said = with_states(viper_run(walk, self.task.bare), self.says, self.procedure)
         if not said.startswith(f"// failed {label}\n"):
-            return Failure(label, False, run, text, walk, f"run says {(said.splitlines() or ['nothing'])[0]}")
-        return self.as_written(label, run, said, text, walk)
-
-    def as_written(self, label, run, said, text, walk):
-        """The failure with the run of Boogie that `run` writes for it, where `replay` confirms that one too."""
+            why = self.replayed(text, label)
+            return Failure(label, False, run, text, walk, f"run says {first_line(said)}; {why or 'replay fails there'}")
         written = "".join(f"{line}\n" for line in said.splitlines()[2:])
-        if self.program.replay(self.task.text_file, self.file("run.brun", written)).out != f"// failed {label}\n":
-            return Failure(label, False, run, text, walk, "replay does not fail on the run of Boogie that run writes")
+        why = self.replayed(written, label)
         end = read_back(self.procedure, written)
         end.run()
-        return Failure(label, True, run, written, end, "")
+        return Failure(label, True, run, written, end, why and f"of the run of Boogie that run writes, {why}")
+
+    def replayed(self, text, label):
+        """Nothing where `replay` fails at a label, and else what it says."""
+        said = self.program.replay(self.text_file, self.file("run.brun", text))
+        return "" if said.out == f"// failed {label}\n" else f"replay says {said.first()}"
 
     def says(self, text):
         """What the program says of a run of Viper."""
@@ -160,3 +161,7 @@ class Examiner:
         with open(path, "w", encoding="utf-8") as it:
             it.write(text)
         return path
+
+
+def first_line(text):
+    return (text.splitlines() or ["nothing"])[0]

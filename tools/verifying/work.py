@@ -85,7 +85,7 @@ def examined(given, unit, options):
 
 def examined_deep(given, unit, options):
     start = time.monotonic()
-    task = Task(given.copy, given.text_file, unit.text, given.bare, given.is_boogie, options.seconds, options.runs)
+    task = Task(given.copy, given.prelude, unit.text, given.bare, given.is_boogie, options.seconds, options.runs)
     try:
         examiner = Examiner(task, MINE.program, MINE.solver, MINE.room)
         outcome = examiner.outcome()
