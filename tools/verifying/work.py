@@ -2,6 +2,7 @@
 import atexit
 import concurrent.futures
 import multiprocessing
+import multiprocessing.util
 import os
 import shutil
 import sys
