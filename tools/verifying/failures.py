@@ -97,11 +97,11 @@ class Step:
             owner = self.source.brace_of(self.at)
             return self.at_brace(owner, own, clause)
         if self.word == "method":
-            return self.by_itself(clause == "requires" and own, f"the precondition of `{self.unit.name}`")
+            return self.by_itself(clause == "requires" and own, f"the precondition of `{self.unit.name}`", "requires")
         if self.word == "predicate":
-            return self.by_itself(own, f"the body of predicate `{self.unit.name}`")
+            return self.by_itself(own, f"the body of predicate `{self.unit.name}`", "")
         if self.unit.name_at == self.at:
-            return self.by_itself(clause == "ensures" and own, f"the postcondition of `{self.unit.name}`")
+            return self.by_itself(clause == "ensures" and own, f"the postcondition of `{self.unit.name}`", "ensures")
         return self.at_statement(own, clause)
 
     # ---- the part
@@ -167,12 +167,22 @@ class Step:
 
     # ---- a specification
 
-    def by_itself(self, fits, whose):
+    def by_itself(self, fits, whose, word):
         """The check of a specification by itself."""
         found = self.what([self.term()])
         if found and found[0] and fits:
             return self.at_part(f"{whose} may not be well-defined by itself: {found[0]}")
-        return self.opened(whose)
+        return self.opened(whose, self.clauses(self.unit.word, word))
+
+    def clauses(self, first, word):
+        """The terms of the clauses with a word in front of the next `{` behind a token, or up to the end of the unit."""
+        found = []
+        for n in range(first, self.unit.end):
+            if self.source.said(n) == "{":
+                break
+            if word and self.source.said(n) == word:
+                found.append(Term(self.source, n + 1).node)
+        return found
 
     def at_brace(self, owner, own, clause):
         """The end of a body: of a method or of a turn."""
@@ -184,7 +194,8 @@ class Step:
         else:
             return None
         return self.clause_words(fits, f"{whose} may not hold {when}", f"{whose} may not be well-defined {when}",
-                                 "at the end of this body") or self.opened(f"{whose}, {when},")
+                                 "at the end of this body") or self.opened(
+            f"{whose}, {when},", self.clauses(self.source.owner[self.at], "ensures" if owner == "method" else "invariant"))
 
     def clause_words(self, fits, given_up, read_, note):
         found = self.what([self.term()]) if fits else None
@@ -192,15 +203,20 @@ class Step:
             return None
         return self.at_part(f"{given_up if found[1] else read_}: {found[0]}", [(*self.source.place(self.at), note)])
 
-    def opened(self, whose):
-        """A part of a predicate's body that an `unfolding` opens."""
+    def opened(self, whose, terms):
+        """A part of a predicate's body that an `unfolding` of one of some terms opens: it is told there, if that is the only one."""
+        name = self.home.name
         if self.home.kind != "predicate" or self.home is self.unit:
             return None
         found = self.what([self.term()])
         if not found or not found[0] or found[1]:
             return None
-        return self.at_step(f"{whose} opens `{self.home.name}`, whose body may not be well-defined: {found[0]}",
-                            f"in the body of predicate `{self.home.name}`")
+        places = [node.at for term in terms if term for node, _ in nodes_of(term)
+                  if node.kind == "unfolding" and self.source.said(instance_of(node.parts[0]).at) == name]
+        at = places[0] if len(places) == 1 else self.at
+        notes = [(*self.source.place(self.part), f"in the body of predicate `{name}`")]
+        notes += [(*self.source.place(self.at), "at the end of this body")] if self.word == "{" and at != self.at else []
+        return Told(*self.source.place(at), f"{whose} opens `{name}`, whose body may not be well-defined: {found[0]}", notes)
 
     # ---- statements
 
@@ -215,9 +231,10 @@ class Step:
             return self.of_call(it, clause)
         if it.kind in ("fold", "unfold") and self.home.kind == "predicate" and self.is_opened_by(it):
             return self.of_fold(it)
-        if it.kind:
-            return self.opened("this call" if it.callee is not None else f"this {it.kind}" if it.kind in STEPS else "an unfolding here")
-        return None
+        if it.callee is not None:
+            return self.opened("this call", [])
+        more = self.clauses(self.at, "invariant") if it.kind == "while" else []
+        return self.opened(f"this {it.kind}" if it.kind in STEPS else "an unfolding here", it.terms + more) if it.kind else None
 
     def of_own(self, it):
         found = self.what(it.terms, it.targets[0] if it.kind == "assign" and it.targets else None)

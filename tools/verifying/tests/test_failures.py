@@ -65,7 +65,7 @@ CROWDED_CASES = (
 LIST_CASES = (
     ("4:1 5:34 perm", Told(5, 34, "the precondition of `m` may not be well-defined by itself: "
                                   "`list(x)` is unfolded, and too little of it may be held")),
-    ("4:1 3:82 null", Told(4, 1, "the precondition of `m` opens `list`, whose body may not be well-defined: "
+    ("4:1 3:82 null", Told(5, 24, "the precondition of `m` opens `list`, whose body may not be well-defined: "
                                  "`x.next` is read, and `x` may be null", [(3, 82, IN_LIST)])),
     ("8:3 8:14 amount", Told(8, 14, "the amount `1/k` of `list(x)` may not be positive")),
     ("8:3 8:14 perm", Told(8, 14, "this unfold may fail: there may be too little permission to `list(x)`")),
@@ -73,7 +73,7 @@ LIST_CASES = (
                            [(3, 58, OF_LIST)])),
     ("9:3 9:18 perm", Told(9, 18, "`list(x.next)` is unfolded, and too little of it may be held")),
     ("9:3 9:41 null", Told(9, 41, "`x.next.val` is read, and `x.next` may be null")),
-    ("9:3 3:58 perm", Told(9, 3, "an unfolding here opens `list`, whose body may not be well-defined: "
+    ("9:3 3:58 perm", Told(9, 8, "an unfolding here opens `list`, whose body may not be well-defined: "
                                  "`x.next` is read, and may not be held",
                            [(3, 58, IN_LIST)])),
     ("10:3 3:75 perm", Told(10, 3, "this fold may fail: there may be too little permission to `list(x.next)`", [(3, 75, OF_LIST)])),
@@ -87,6 +87,8 @@ LIST_CASES = (
     ("13:3 3:58 null", Told(13, 3, "this call opens `list`, whose body may not be well-defined: `x.next` is read, and `x` may be null",
                             [(3, 58, IN_LIST)])),
     ("14:3 15:7 false", Told(15, 7, "this assert may fail: `w > 0` may be false", [(14, 3, "of this assert")])),
+    ("7:1 3:58 null", Told(6, 23, "a postcondition of `m`, at the end of the body, opens `list`, whose body may not be well-defined: "
+                                  "`x.next` is read, and `x` may be null", [(3, 58, IN_LIST), (7, 1, OF_BODY)])),
     ("7:1 6:23 false", Told(6, 23, "a postcondition of `m` may not hold at the end of the body: "
                                    "`(unfolding acc(list(x), 1/k) in x.val) > v` may be false", [(7, 1, OF_BODY)])),
 )
