@@ -7,7 +7,7 @@ DEEP = 6    # bounds look so deep into choices
 
 def plain(x):
     """A number that is whole, as an int."""
-    return x.numerator if isinstance(x, Fraction) and x.denominator == 1 else x
+    return x.numerator if type(x) is Fraction and x.denominator == 1 else x
 
 
 class Numbers:
@@ -73,7 +73,10 @@ class Numbers:
             return self.bounds_of_sum(term, deep)
         if term.op == "if" and deep:
             (low, high), (its_low, its_high) = self.bounds(term.args[1], deep - 1), self.bounds(term.args[2], deep - 1)
-            return (low and its_low and min(low, its_low)), (high and its_high and max(high, its_high, key=lambda it: (it[0], not it[1])))
+            low = None if low is None or its_low is None else low if low <= its_low else its_low
+            if high is None or its_high is None:
+                return low, None
+            return low, high if (high[0], its_high[1]) >= (its_high[0], high[1]) else its_high
         if self.plainly:
             return None, None
         low, high = self.facts.low.get(term), self.facts.high.get(term)
@@ -103,29 +106,36 @@ class Numbers:
             return self.true
         if high and (high[0] < 0 or high[0] == 0 and (high[1] or strict)):
             return self.false
-        if high and d.op in ("sum", "if"):
-            found = self.without_choice(d, high, strict)
-            if found is not None:
-                return found
+        if high and (d.op == "if" or d.op == "sum" and any([it.op == "if" for it in d.args])):
+            conditions, rest = self.without_choices(d, high, strict)
+            if conditions:
+                return self.all([*conditions, self.at_least_0(rest, strict)])
         term = self.make("gt0" if strict else "ge0", None, (self.reduced(d),), "bool")
         return self.now(term)
 
-    def without_choice(self, d, high, strict):
-        """A number is at least 0 only if a choice in it goes one way: that condition, and what is left."""
-        parts = zip(d.data[1:], d.args) if d.op == "sum" else ((1, d),)
-        for coefficient, it in parts:
-            if it.op != "if":
-                continue
-            whole = self.bounds(it)[1 if coefficient > 0 else 0]
-            for way in (1, 2):
-                arm = self.bounds(it.args[way])[1 if coefficient > 0 else 0]
-                top = high[0] + coefficient * (arm[0] - whole[0])
-                if top < 0 or top == 0 and (strict or arm[1]):
-                    other = it.args[3 - way]
-                    rest = self.add(self.add(d, it, -coefficient), other, coefficient)
-                    condition = self.negated(it.args[0]) if way == 1 else it.args[0]
-                    return self.all([condition, self.at_least_0(rest, strict)])
-        return None
+    def without_choices(self, d, high, strict):
+        """A number is at least 0 only if choices in it go one way: their conditions, and what is left of the number. `high` is the
+        greatest value that it may have."""
+        conditions, total = [], {}
+        const = d.data[0] if d.op == "sum" else 0
+        for coefficient, it in zip(d.data[1:], d.args) if d.op == "sum" else ((1, d),):
+            way, high = self.only_way(it, coefficient, high, strict) if it.op == "if" else (0, high)
+            if way:
+                conditions.append(it.args[0] if way == 1 else self.negated(it.args[0]))
+                it = it.args[way]
+            const = self.into(total, const, coefficient, it)
+        return conditions, self.summed(const, total, d.sort) if conditions else d
+
+    def only_way(self, it, coefficient, high, strict):
+        """The one side of a choice that lets a sum be at least 0, or 0, and the greatest value of the sum."""
+        side = 1 if coefficient > 0 else 0
+        whole = self.bounds(it)[side]
+        for way in (1, 2):
+            other = self.bounds(it.args[3 - way])[side]
+            top = high[0] + coefficient * (other[0] - whole[0])
+            if top < 0 or top == 0 and (strict or other[1]):
+                return way, (high[0] + coefficient * (self.bounds(it.args[way])[side][0] - whole[0]), high[1])
+        return 0, high
 
     def reduced(self, d):
         """A number of the same sign with smaller coefficients."""

@@ -208,5 +208,3 @@ class Command:
             return future.result()
         except concurrent.futures.process.BrokenProcessPool:
             return undecided(unit.name, "the process that looked at it ended by itself")
-        except (RecursionError, MemoryError) as fault:
-            return undecided(unit.name, f"it is too large: {type(fault).__name__}")

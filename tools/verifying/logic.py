@@ -265,21 +265,24 @@ class Logic(Numbers):
         rank_a, rank_b = (it.op not in ("con", "number") and it is not self.null for it in (a, b))
         if (rank_a, a.number) > (rank_b, b.number):
             a, b = b, a
-        apart = facts.apart.get(b, ())
+        apart = facts.apart.get(b, {})
         if a in apart:
             return False
         facts.set(facts.next, b, a)
-        if apart:
-            facts.set(facts.apart, a, facts.apart.get(a, frozenset()) | apart)
-            for it in apart:
-                facts.set(facts.apart, it, facts.apart[it] | {a})
+        for it in apart:
+            self.set_apart(a, it)
         return True
+
+    def set_apart(self, a, b):
+        facts = self.facts
+        for one, other in ((a, b), (b, a)):
+            if one not in facts.apart:
+                facts.set(facts.apart, one, {})
+            facts.set(facts.apart[one], other, True)
 
     def part(self, a, b):
         """Notes that terms differ. Returns whether they can."""
-        facts = self.facts
         if a is b:
             return False
-        for one, other in ((a, b), (b, a)):
-            facts.set(facts.apart, one, facts.apart.get(one, frozenset()) | {other})
+        self.set_apart(a, b)
         return True

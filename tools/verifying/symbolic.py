@@ -5,6 +5,9 @@ assumes holds of all that is defined behind it, up to the next path: those value
 - `forall q :: z[q] == 0.0`, assumed, makes z the zero map;
 - `forall q :: held[q] != 0.0 ==> old[q] == new[q]`, assumed of a new map, makes it the old one but for any values elsewhere;
 - any other that speaks only of where amounts are not zero is a conjunction over the keys of the amounts; the rest is left to z3."""
+import math
+import time
+
 from .logic import Logic
 from .maps import Frame, Maps, Outside, Sums
 from .paths import Paths
@@ -14,9 +17,10 @@ COMPARISONS = ("<", "<=", ">", ">=")
 
 
 class Symbolic:
-    """`fails` has the label of each assertion and the term that says that it fails, and `end` says that a run comes to the end."""
+    """`fails` has the label of each assertion and the term that says that it fails, and `end` says that a run comes to the end. It
+    has to be done before the time `until`."""
 
-    def __init__(self, conditions):
+    def __init__(self, conditions, until=math.inf):
         self.logic = Logic()
         self.maps, self.paths = Maps(self.logic), Paths(self.logic)
         self.vars, self.lets = conditions.vars, conditions.lets
@@ -37,6 +41,8 @@ class Symbolic:
             "null": lambda e: self.logic.null, "unit": lambda e: self.logic.unit,
         }
         for at, (name, e) in enumerate(self.lets):
+            if time.monotonic() > until:
+                raise TooSlow("the time does not suffice to make the question")
             self.define(at, name, e)
         self.paths.move(self.paths.first)
         self.logic.plainly = True
@@ -206,6 +212,10 @@ class Symbolic:
         found = self.term(body)
         self.bound = outer
         return found if not found.open else self.logic.make("forall", e[1], (found,), "bool")
+
+
+class TooSlow(Exception):
+    """The time does not suffice."""
 
 
 class OfPaths(Exception):

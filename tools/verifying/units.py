@@ -52,8 +52,8 @@ class Examiner:
         self.task, self.program, self.solver, self.room = task, program, solver, room
         self.procedure = read_procedure(task.text)
         self.conditions = conditions_of(self.procedure)
-        self.symbolic = Symbolic(self.conditions)
         self.search = Search(self.conditions.vars, new_objects(self.procedure), solver, task.seconds)
+        self.symbolic = Symbolic(self.conditions, self.search.end)
         self.failures = []
         self.text_file = self.file("unit.bpl", task.prelude + task.text)
 

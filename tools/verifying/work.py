@@ -17,6 +17,7 @@ from .results import result_of, undecided
 from .smoke import smoke
 from .solver import NoSolver, Solver
 from .source import Source
+from .symbolic import TooSlow
 from .units import VERIFIED, Examiner, Task
 
 STACK = 256 * 1024 * 1024
@@ -92,7 +93,7 @@ def examined_deep(given, unit, options):
         outcome = examiner.outcome()
         found = smoke(examiner) if options.smoke and outcome.verdict == VERIFIED else ("", None)
         return result_of(unit.name, outcome, MINE.source_of(given), given.is_boogie, found, time.monotonic() - start)
-    except (NoSolver, NotAsWritten, NoProgram, MemoryError, OSError) as why:
+    except (NoSolver, NotAsWritten, NoProgram, TooSlow, RecursionError, MemoryError, OSError) as why:
         return undecided(unit.name, f"{why}" or type(why).__name__)
 
 
