@@ -54,13 +54,13 @@ def joined(source, labels):
     """What is told of several labels: a list of what is told and the labels that it tells of, which are two where null and
     permission are those of one access, and else one."""
     groups = {}
-    for label in labels:
+    for label in dict.fromkeys(labels):
         found = read(label)
         access = (found.at, found.part) if found and found.kinds in ("null", "perm") else label
         groups.setdefault(access, []).append(label)
     result = []
     for access, group in groups.items():
-        if len(group) == 2 and group[0] != group[1]:
+        if len(group) == 2:
             result.append((words_of(source, Label(*access, "null perm")), sorted(group)))
         else:
             result.append((told(source, group[0]), group))

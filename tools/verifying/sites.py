@@ -2,6 +2,8 @@
 
 The sites of a unit are found twice: in the procedure, as its `havoc`s and its `if (*)`s in the order of the text, and in the file of
 Viper, form by form as docs/encoding.md says what is written. Where the two lists differ nothing is said of places."""
+from collections import Counter
+
 from .failures import instance_of
 from .terms import Statement, Term
 from .walk import Walk
@@ -21,7 +23,10 @@ class Sites:
     """Finds the sites of a unit in the file, in the order of the code."""
 
     def __init__(self, source, unit):
-        self.source, self.unit, self.found, self.bodies = source, unit, [], {}
+        self.source, self.unit, self.found, self.bodies, self.named = source, unit, [], {}, {}
+        self.of_line = Counter(it.line for it in source.tokens[unit.word:unit.end] if it.text == "while")
+        for k, it in enumerate(unit.variables):
+            self.named.setdefault(it.name, []).append((f"l${k}" if it.role == "local" else f"v${it.name}", it))
         self.maps = [it.name for kind in ("field", "predicate") for it in source.units if it.kind == kind]
         if unit.kind == "method":
             self.method()
@@ -144,8 +149,7 @@ class Sites:
         elif new:
             self.creation(it, new)
         else:
-            for term in it.terms:
-                self.term(term)
+            self.terms(it)
             if it.kind == "unfold" and it.terms:
                 self.fill(self.source.said(instance_of(it.terms[0]).at))
             if it.kind == "var" and not it.terms:
@@ -170,18 +174,13 @@ class Sites:
 
     def variable(self, n):
         """The variable of Boogie for a name at a token, or nothing."""
-        name = self.source.said(n)
-        for k, it in enumerate(self.unit.variables):
-            if it.name == name and it.at <= n < it.until:
-                return f"l${k}" if it.role == "local" else f"v${name}"
-        return ""
+        return next((local for local, it in self.named.get(self.source.said(n), ()) if it.at <= n < it.until), "")
 
     def value(self, n, words):
         self.add("value", self.variable(n), words)
 
     def call(self, it):
-        for term in it.terms:
-            self.term(term)
+        self.terms(it)
         name, place = self.source.said(it.callee), self.where(it.at)
         called = self.source.declared.get(name)
         end = self.unit.end if called is None else called.brace if called.brace is not None else called.end
@@ -195,8 +194,7 @@ class Sites:
     def branches(self, it):
         """An `if` with all that belongs to it."""
         while True:
-            for term in it.terms:
-                self.term(term)
+            self.terms(it)
             self.block(it.end)
             n = self.source.closing.get(it.end, it.end) + 1
             if self.source.said(n) == "elseif":
@@ -209,6 +207,7 @@ class Sites:
 
     def loop(self, it):
         place, line, brace = self.where(it.at), self.source.place(it.at)[0], it.end
+        line = line if self.of_line[line] == 1 else place
         while brace < self.unit.end and self.source.said(brace) != "{":
             brace += 1
         invariants = self.clauses(it.end, brace, "invariant")
@@ -220,14 +219,14 @@ class Sites:
         self.add("pick", "", (f"one turn of the loop at {line}", f"behind the loop at {line}"))
         self.forget(f"any state, in which a turn of the loop at {line} begins")
         self.each(invariants)
-        self.guard(it)
+        self.terms(it)
         self.block(brace)
         self.each(invariants)
         self.each(invariants)
-        self.guard(it)
+        self.terms(it)
         return end + 1
 
-    def guard(self, it):
+    def terms(self, it):
         for term in it.terms:
             self.term(term)
 

@@ -151,7 +151,8 @@ def state(walk, source):
         inside = walk.env[f"c${name}"].get(key)
         told = content_words(source, name, words, inside)
         data.append({"predicate": name, "arguments": words, "held": held, "content": content_words(source, name, words, inside, ALL)})
-        lines.append(f"{name}({', '.join(words)}){' {' + told + '}' if told else ''}, held: {spoken(held)}")
+        inner = " {" + told + "}" if told else ""
+        lines.append(f"{name}({', '.join(words)}){inner}, held: {spoken(held)}")
     return lines, data
 
 
