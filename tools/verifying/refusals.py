@@ -95,6 +95,8 @@ def rule_words(source, n, rule):
         return type_words(source, n), []
     if rule == 10:
         return target_words(source, n, name), []
+    if rule == 4 and name != "acc" and (name not in source.declared or source.declared[name].kind != "predicate"):
+        return called_words(source, name), []
     unit = source.unit_at(n)
     first = first_declaration(source, n, name) if rule == 2 else None
     notes = [(*source.place(first), "the first declaration")] if first is not None else []
@@ -152,6 +154,14 @@ def unknown_words(source, n, name):
     if role == "predicate":
         words += f"; functions are not in the language ({subset.PAGE})"
     return words, []
+
+
+def called_words(source, name):
+    """A call inside an expression of what is no predicate."""
+    unit = source.declared.get(name)
+    if unit is not None and unit.kind == "method":
+        return f"{name} is a method; a call stands alone, or as a whole right side, and not inside an expression"
+    return f"no predicate {name} is declared; functions are not in the language ({subset.PAGE})"
 
 
 def role_of(source, n):

@@ -39,7 +39,7 @@ def construct(source, n):
         return "magic wands (--*) are"
     if said in ("+", "-") and before == "+" == said:
         return "sequences and their ++ are" if further not in OPERATORS else None
-    if said == "in" and not opens_unfolding(source, n):
+    if said == "in" and ends_operand(source, n - 1) and not opens_unfolding(source, n):
         return called_before(source, n, "asserting") and STATEMENTS["asserting"] or "sets and sequences, and `in` on them, are"
     if said == "!" and source.said(n + 1) == "in":
         return "sets and sequences, and `in` on them, are"
@@ -65,6 +65,10 @@ def bracket(source, n, before):
     if before == "]" or before == ")" or kind == "name":
         return "types with parameters are" if source.said(n - 2) == ":" else "sequences and maps, as s[i], are"
     return "inhale-exhale assertions, as [A, B], are"
+
+
+def ends_operand(source, n):
+    return n >= 0 and (source.tokens[n].kind in ("name", "number") or source.said(n) in (")", "]", "null", "true", "false"))
 
 
 def opens_unfolding(source, n):
@@ -119,6 +123,9 @@ def habit(source, n, said, before):
     """What other languages write as stands at a token, or nothing."""
     if before in WRITTEN and source.tokens[n - 1].kind == "name":
         return f"`{before}` is written {WRITTEN[before]}"
+    names = before in ("method", "predicate", "field", "var") or source.said(n + 1) == ":"
+    if names and source.tokens[n].kind == "word":
+        return f"`{said}` is a word of the language, and no name"
     if source.said(n - 2) == "not" and source.tokens[n - 2].kind == source.tokens[n - 1].kind == "name":
         return f"`not` is written {WRITTEN['not']}"
     if any(called_before(source, n, it) for it in ("if", "elseif", "while")):

@@ -168,7 +168,8 @@ def operator_words(source, types, node, n):
     if not types.wrong(node):
         return None
     parts = [types.of[id(it)] for it in node.parts]
-    here = " and ".join(NAMES.get(it, it) for it in parts[node.kind == "choice" and parts[0] == "Bool":])
+    here = [NAMES.get(it, it) for it in parts[node.kind == "choice" and parts[0] == "Bool":]]
+    here = " and ".join([", ".join(here[:-1])] * (len(here) > 1) + here[-1:])
     if node.kind == "choice":
         words = f"`?:` takes a Bool and two of one type, and here are {here}"
     elif node.kind == "unary":

@@ -55,6 +55,9 @@ SYNTAX = (
      "`>` cannot stand here; there is no <=>; equivalence is written <==>, and implication ==>"),
     ("method m(a: Bool) { assert a -> a }", "syntax 1:31",
      "`>` cannot stand here; there is no ->; equivalence is written <==>, and implication ==>"),
+    ("method fold() { }", "syntax 1:8", "`fold` cannot stand here; `fold` is a word of the language, and no name"),
+    ("method m(in: Int) { }", "syntax 1:10", "`in` cannot stand here; `in` is a word of the language, and no name"),
+    ("method m() { var old: Int }", "syntax 1:18", "`old` cannot stand here; `old` is a word of the language, and no name"),
 )
 RULES = (
     ("method m() { assert x > 0 }", "type 1:21 rule 1", "no variable x is declared here"),
@@ -131,6 +134,12 @@ RULES = (
     ("field f: Int method m(x: Ref) { if (x.f) { } elseif (x.f > 0) { } }", "type 1:37 rule 3",
      "what stands here is to be a Bool, and `x.f` is an Int"),
     ("method m() { var x: Bool := 1 }", "type 1:29 rule 3", "what stands here is to be a Bool, and `1` is an Int"),
+    ("method c(n: Int) returns (r: Int) method m(n: Int) { var k: Int := c(n) + 1 }", "type 1:68 rule 4",
+     "c is a method; a call stands alone, or as a whole right side, and not inside an expression"),
+    ("method m(n: Int) { var k: Int := fac(n) + 1 }", "type 1:34 rule 4",
+     "no predicate fac is declared; functions are not in the language (docs/language.md)"),
+    ("method m(a: Int, r: Ref) { var i: Int := a ? a : r }", "type 1:44 rule 3",
+     "`?:` takes a Bool and two of one type, and here are an Int, an Int and a Ref"),
 )
 
 
