@@ -1,14 +1,18 @@
 """Compares what is told of the examples with what is expected, and has each run that is told confirmed anew.
 
-`examples/verdicts` has a line for each label of an example, `FILE LABEL`, or `FILE verified N`."""
+`examples/verdicts` has a line for each label of an example, `FILE LABEL`, or `FILE verified N`. What README.md and docs/verifying.md
+show behind a call is compared with what that call prints now, where z3 is the version that it was written with: runs are z3's."""
 import io
 import os
 import re
+import subprocess
 import tempfile
 
 from .command import Command
 from .program import TOP, Program, find
 
+SHOWN_BY = "4.8.12"
+SHOWN = re.compile(r"^```\n\$ (tools/verify [^\n]*)\n(.*?)^```", re.M | re.S)
 EXAMPLES = os.path.join(TOP, "examples")
 LABEL = re.compile(r"(\d+):(\d+) (\d+):(\d+) (\w+)")
 
@@ -52,11 +56,29 @@ def not_confirmed(program, file, results, room):
         into.write(program.translate(file).out)
     for result in results:
         for label in result.labels:
-            for run, call in ((label.run, lambda: program.run(file, result.unit, run_file)), (label.boogie_run, lambda: program.replay(text, run_file))):
+            shown = "".join([f"{line}\n" for line in label.shown])     # with its comments, as it is printed
+            calls = [(it, lambda: program.run(file, result.unit, run_file)) for it in (label.run, shown)]
+            for run, call in [*calls, (label.boogie_run, lambda: program.replay(text, run_file))]:
                 with open(run_file, "w", encoding="utf-8") as into:
                     into.write(run or "")
-                if not call().out.startswith(f"// failed {label.label}\n"):
-                    yield f"{label.label}: {call().first()}"
+                said = call()
+                if not said.out.startswith(f"// failed {label.label}\n"):
+                    yield f"{label.label}: {said.first()}"
+
+
+def other_transcripts():
+    """The calls that print something else than the documents show."""
+    said = subprocess.run(["z3", "--version"], stdin=subprocess.DEVNULL, stdout=subprocess.PIPE, universal_newlines=True).stdout
+    if SHOWN_BY not in said:
+        print(f"what the documents show is by z3 {SHOWN_BY}, and was not compared: {said.strip()}")
+        return
+    for page in ("README.md", "docs/verifying.md"):
+        with open(os.path.join(TOP, page), encoding="utf-8") as it:
+            shown = SHOWN.findall(it.read())
+        for call, text in shown:
+            done = subprocess.run(call.split(), cwd=TOP, stdin=subprocess.DEVNULL, stdout=subprocess.PIPE, stderr=subprocess.STDOUT)
+            if done.stdout.decode(errors="replace") != text:
+                yield f"{page}: {call} prints something else than is shown"
 
 
 def check(options):
@@ -77,6 +99,9 @@ def check(options):
                 print(f"{file}: the run for {it}")
                 status = 1
             runs += sum([len(it.labels) for it in results or []])
+    for it in other_transcripts():
+        print(it)
+        status = 1
     if status == 0:
         print(f"the verdicts on {len(files)} examples are as expected, and {runs} runs are confirmed")
     return status

@@ -57,17 +57,17 @@ def places(source, ty, kept=True):
     return [([scalar(part, it) for part, it in zip(key, keys)], spelled(value, base)) for key, value in found]
 
 
-def boogie_run(walk):
-    """The run file of Boogie on which the procedure goes as a walk did."""
+def boogie_run(walk, all_variables):
+    """The run file of Boogie on which the procedure goes as a walk did. Of a unit of Viper, only the variables of its opening are
+    set before others are read."""
     procedure = walk.procedure
     lines = [f"boogie run {procedure.name}"]
-    translated = any("$" in it for it in procedure.locals)
     for name, (keys, base) in procedure.locals.items():
         value = walk.opening[name]
         if keys:
             at = places(value.source, (keys, base))
             lines += [f"entries {name}"] * bool(at) + [f"at {' '.join(key)} {it}" for key, it in at]
-        elif value != DEFAULTS[base] and (name.startswith("v$") or not translated):
+        elif value != DEFAULTS[base] and (all_variables or name.startswith("v$")):
             lines.append(f"var {name} {spelled(value, base)}")
     for it in walk.taken:
         if it.what == "pick":

@@ -132,7 +132,7 @@ class Examiner:
         with the run of Boogie that `run` writes for it."""
         walk = Walk(self.procedure, values.given)
         walk.run()
-        text = boogie_run(walk)
+        text = boogie_run(walk, self.task.is_boogie)
         if self.task.is_boogie:
             why = self.replayed(text, label)
             return Failure(label, not why, None, text, walk, why)
