@@ -1,6 +1,5 @@
 """The command: its words, the order of what is printed, and the status."""
 import argparse
-import concurrent.futures
 import os
 import shutil
 import sys
@@ -14,7 +13,8 @@ from .report import Report
 from .results import undecided
 from .source import Source
 
-AHEAD = 4   # so many files for each process are translated before they are looked at
+AHEAD = 4       # so many files for each process are translated before they are looked at
+SMALL = 120_000 # the units of a single file whose text has fewer characters are looked at one after the other
 
 
 class Options(NamedTuple):
@@ -135,49 +135,63 @@ class Command:
 
     def status(self):
         with tempfile.TemporaryDirectory(prefix="verify-") as room:
-            pool = work.workers(find(), self.options.jobs)
+            for n, file in enumerate(self.files):
+                file.room = os.path.join(room, str(n))
+            self.program, self.pool = find(), None
+            alone = work.Alone(self.program)
+            jobs = self.options.jobs if len(self.files) > 1 else 1
             try:
-                for n, file in enumerate(self.files):
-                    file.room = os.path.join(room, str(n))
-                for n, file in enumerate(self.files):
-                    self.start(pool, n)
-                    self.tell(file)
-                    self.out.flush()
-                    shutil.rmtree(file.room, ignore_errors=True)
-                    file.data = None
+                self.pool = work.side_by_side(self.program, jobs) if jobs > 1 else alone
+                self.go(jobs)
             finally:
                 self.progress.clear()
-                pool.shutdown()
+                self.pool.shutdown()
+                alone.shutdown()
         return self.report.status
 
-    def start(self, pool, n):
-        """Has the files ahead prepared, and the units of those that are looked at."""
-        for file in self.files[n:n + 1 + AHEAD * self.options.jobs * (self.options.jobs > 1)]:
-            if file.data is None and file.fault is None:
-                self.read(pool, file)
-        for file in self.files[n:n + 1 + self.options.jobs * (self.options.jobs > 1)]:
-            if file.prepared and file.given is None and (file is self.files[n] or file.prepared.done()):
-                self.begin(pool, file)
+    def go(self, jobs):
+        for n, file in enumerate(self.files):
+            self.start(n, jobs)
+            self.tell(file)
+            self.out.flush()
+            shutil.rmtree(file.room, ignore_errors=True)
+            file.data = None
 
-    def read(self, pool, file):
+    def start(self, n, jobs):
+        """Has the files ahead prepared, and the units of those that are looked at."""
+        for file in self.files[n:n + 1 + AHEAD * jobs * (jobs > 1)]:
+            if file.data is None and file.fault is None:
+                self.read(file)
+        for file in self.files[n:n + 1 + jobs * (jobs > 1)]:
+            if file.prepared and file.given is None and (file is self.files[n] or file.prepared.done()):
+                self.begin(file)
+
+    def read(self, file):
         try:
             file.data = bytes_of(file.path)
         except OSError as fault:
             file.fault = f"the file cannot be read: {fault.strerror}"
             return
         os.mkdir(file.room)
-        file.prepared = pool.submit(work.prepared, file.path, file.data, file.room)
+        file.prepared = self.pool.submit(work.prepared, file.path, file.data, file.room)
 
-    def begin(self, pool, file):
+    def begin(self, file):
         """Has the units of a file looked at, once it is prepared."""
         self.progress.tell(f"{shown_path(file.path)}: translating")
         file.given = file.prepared.result()
         wanted = [it for it in file.given.units if self.options.unit in (None, it.name)]
         if not file.given.refused and not wanted and self.options.unit is not None:
             file.fault = f"there is no unit `{self.options.unit}` with a procedure of its own"
+        pool = self.pool_for(wanted)
         file.units = [(it, pool.submit(work.examined, file.given, it, self.options)) for it in wanted]
         if self.options.boogie and not file.given.refused:
             file.word = pool.submit(boogie_word.word, file.given.text_file, file.room)
+
+    def pool_for(self, units):
+        """Where units are looked at: side by side, if there is much to do."""
+        if isinstance(self.pool, work.Alone) and min(self.options.jobs, len(units)) > 1 and sum([len(it.text) for it in units]) > SMALL:
+            self.pool = work.side_by_side(self.program, min(self.options.jobs, len(units)))
+        return self.pool
 
     def tell(self, file):
         """Tells of a file, each unit as soon as something is known of it."""
@@ -206,5 +220,7 @@ class Command:
     def result(self, unit, future):
         try:
             return future.result()
-        except concurrent.futures.process.BrokenProcessPool:
+        except RuntimeError as fault:
+            if type(fault).__name__ != "BrokenProcessPool":
+                raise
             return undecided(unit.name, "the process that looked at it ended by itself")

@@ -1,8 +1,5 @@
 """The work on files and units, in processes side by side: each has a solver of its own that stays open, and a folder of its own."""
 import atexit
-import concurrent.futures
-import multiprocessing
-import multiprocessing.util
 import os
 import shutil
 import sys
@@ -49,8 +46,13 @@ def begin(program):
     global MINE
     MINE = Mine(program)
     atexit.register(MINE.end)
-    # A process of the pool ends without the functions of `atexit`, but with those of its own.
-    multiprocessing.util.Finalize(None, MINE.end, exitpriority=10)
+
+
+def begin_in_pool(program):
+    """Makes a process of a pool ready, which ends without the functions of `atexit`, but with those of its own."""
+    from multiprocessing.util import Finalize
+    begin(program)
+    Finalize(None, MINE.end, exitpriority=10)
 
 
 def deep(function, *values):
@@ -95,32 +97,42 @@ def examined_deep(given, unit, options):
         return result_of(unit.name, outcome, MINE.source_of(given), given.is_boogie, found, time.monotonic() - start)
     except (NoSolver, NotAsWritten, NoProgram, TooSlow, RecursionError, MemoryError, OSError) as why:
         return undecided(unit.name, f"{why}" or type(why).__name__)
+    except Exception as fault:      # what these scripts did wrong, so that nothing of the other units is hidden by it
+        return undecided(unit.name, f"tools/verify went wrong: {type(fault).__name__}: {fault}")
+
+
+class Later:
+    """What a call gives, once it is asked for."""
+
+    def __init__(self, function, values):
+        self.call, self.found = (function, values), None
+
+    def result(self):
+        if self.call:
+            (function, values), self.call = self.call, None
+            self.found = function(*values)
+        return self.found
 
 
 class Alone:
-    """Does all work in this process, at once."""
+    """Does all work in this process, when it is asked for."""
 
     def __init__(self, program):
         begin(program)
 
     def submit(self, function, *values):
-        found = concurrent.futures.Future()
-        try:
-            found.set_result(function(*values))
-        except Exception as fault:
-            found.set_exception(fault)
-        return found
+        return Later(function, values)
 
     def shutdown(self):
         MINE.end()
 
 
-def workers(program, jobs):
-    """So many processes that do work side by side."""
-    if jobs == 1:
-        return Alone(program)
+def side_by_side(program, jobs):
+    """So many processes that do work side by side. These modules take long to load, and small files do without."""
+    import concurrent.futures
+    import multiprocessing
     context = multiprocessing.get_context("fork")
-    return concurrent.futures.ProcessPoolExecutor(jobs, mp_context=context, initializer=begin, initargs=(program,))
+    return concurrent.futures.ProcessPoolExecutor(jobs, mp_context=context, initializer=begin_in_pool, initargs=(program,))
 
 
 def cores():
