@@ -60,9 +60,9 @@ class Report:
         file, more = shown_path(given.path), {"smoke": result.smoke, "smoke_run": result.smoke_run} if self.options.smoke else {}
         self.data(file=file, unit=result.unit, verdict=result.verdict, why=result.why, **more)
         for it in result.labels:
-            self.data(file=file, unit=result.unit, label=it.label, confirmed=it.confirmed, message=it.message, line=it.line, column=it.column,
-                      why=it.why, run=it.run if self.options.runs else None, boogie_run=it.boogie_run if self.options.runs else None,
-                      state=it.state)
+            runs = {"run": it.run, "boogie_run": it.boogie_run} if self.options.runs else {"run": None, "boogie_run": None}
+            self.data(file=file, unit=result.unit, label=it.label, confirmed=it.confirmed, message=it.message, line=it.line,
+                      column=it.column, why=it.why, **runs, state=it.state)
 
     def unit_for_people(self, given, unit, result):
         at = f"{shown_path(given.path)}:{unit.line}:{unit.column}"
@@ -73,7 +73,8 @@ class Report:
                 self.run(given, unit, result.labels[numbers[0]])
         for it in result.labels:
             if not it.confirmed:
-                self.line(f"{shown_path(given.path)}:{it.line}:{it.column}: not confirmed: z3 says that this can fail: {it.message}; but {it.why}")
+                place = f"{shown_path(given.path)}:{it.line}:{it.column}"
+                self.line(f"{place}: not confirmed: z3 says that this can fail: {it.message}; but {it.why}")
         if result.why:
             self.line(f"{at}: undecided: `{unit.name}` has no verdict: {result.why}")
         self.smoke(at, unit, result)
@@ -116,7 +117,8 @@ class Report:
         if self.options.json:
             self.data(file=path, boogie=word.labels, slow=word.slow, differences=odd)
             return
-        self.line(f"{path}: Boogie tells of {len(word.labels)} label{'s' * (len(word.labels) != 1)}{''.join(f'; {it}' for it in word.labels)}")
+        count = f"{len(word.labels)} label{'s' * (len(word.labels) != 1)}"
+        self.line(f"{path}: Boogie tells of {count}{''.join(f'; {it}' for it in word.labels)}")
         for it in word.slow:
             self.line(f"{path}: Boogie's time does not suffice for {it}")
         for it in odd:

@@ -25,7 +25,8 @@ class Symbolic:
         self.maps, self.paths = Maps(self.logic), Paths(self.logic)
         self.vars, self.lets = conditions.vars, conditions.lets
         # The terms, maps and paths by name, the terms that speak of paths, the names that were read, what a `forall` binds.
-        self.terms, self.known_maps, self.known_paths, self.of_paths, self.read_names, self.bound, self.sides = {}, {}, {}, {}, set(), {}, {}
+        self.terms, self.known_maps, self.known_paths, self.of_paths, self.read_names, self.bound = {}, {}, {}, {}, set(), {}
+        self.sides = {}     # the values of locals on both sides of the branch that was left last
         for name, (keys, base) in self.vars.items():
             if keys:
                 self.known_maps[name] = Outside(name, base)

@@ -175,7 +175,8 @@ class Walk:
         return self.framed(name, value, behind) if keys else self.part(name, base, value, behind)
 
     def framed(self, name, value, behind):
-        """A map that agrees with another one where a third is not zero, as `assume (forall q :: held[q] != 0.0 ==> old[q] == new[q])` says."""
+        """A map that agrees with another one where a third is not zero, as
+        `assume (forall q :: held[q] != 0.0 ==> old[q] == new[q])` says."""
         found = framing(behind[0], name) if behind else None
         if not found:
             return Outside(value)

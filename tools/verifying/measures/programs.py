@@ -1,4 +1,4 @@
-"""Programs to measure with: many small methods, and a list that is pushed to and popped from many times, right or with a wrong last line."""
+"""Programs to measure with: many small methods, and a list that is pushed to and popped from many times, right or wrong at the end."""
 import sys
 
 LIST = """field value: Int

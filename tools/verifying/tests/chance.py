@@ -5,11 +5,12 @@ from verifying.boogie_text import Procedure
 from verifying.question import reached
 from verifying.walk import DEFAULTS, OPERATORS
 
-REAL, REF, MAP, MASK = ((), "real"), ((), "Ref"), (("Ref",), "Ref"), (("Ref",), "real")
+INT, REAL, REF, SNAP = ((), "int"), ((), "real"), ((), "Ref"), ((), "Snap")
+MAP, MASK = (("Ref",), "Ref"), (("Ref",), "real")
 LOCALS = {
-    "r1": REF, "r2": REF, "r3": REF, "n1": ((), "int"), "n2": ((), "int"), "b1": ((), "bool"), "b2": ((), "bool"), "q1": REAL, "s1": ((), "Snap"),
-    "h": MAP, "k": (("Ref",), "int"), "c": (("Ref",), "Snap"), "m": MASK, "a": (("Ref", "int"), "real"), "z": MASK, "y": (("Ref", "int"), "real"),
-    "l1": ((), "Snap"), "l2": ((), "Snap"), "w": ((), "int"), "g": MAP, "d": (("Ref",), "Snap"), "t": MASK,
+    "r1": REF, "r2": REF, "r3": REF, "n1": INT, "n2": INT, "b1": ((), "bool"), "b2": ((), "bool"), "q1": REAL, "s1": SNAP,
+    "h": MAP, "k": (("Ref",), "int"), "c": (("Ref",), "Snap"), "m": MASK, "a": (("Ref", "int"), "real"), "z": MASK,
+    "y": (("Ref", "int"), "real"), "l1": SNAP, "l2": SNAP, "w": INT, "g": MAP, "d": (("Ref",), "Snap"), "t": MASK,
 }
 KEYS = {"m": ("Ref",), "t": ("Ref",), "a": ("Ref", "int")}
 
@@ -43,8 +44,8 @@ class Chance:
         return found
 
     def step(self, deep):
-        make = self.rng.choice((self.hold, self.hold, self.give, self.store, self.assign, self.assign, self.asserted, self.asserted, self.assumed,
-                                self.forget, self.split, self.fresh, self.branch, self.guarded, self.reset))
+        make = self.rng.choice((self.hold, self.hold, self.give, self.store, self.assign, self.assign, self.asserted, self.asserted,
+                                self.assumed, self.forget, self.split, self.fresh, self.branch, self.guarded, self.reset))
         return make(deep)
 
     def ref(self):
@@ -91,7 +92,8 @@ class Chance:
     def hold(self, deep):
         """What producing a place writes."""
         name = self.rng.choice(("m", "m", "a"))
-        key, amount = self.key(name), self.rng.choice((("real", 1), ("name", "q1"), ("bin", "/", ("real", 1), ("toreal", ("int", 2)))))
+        half = ("bin", "/", ("real", 1), ("toreal", ("int", 2)))
+        key, amount = self.key(name), self.rng.choice((("real", 1), ("name", "q1"), half))
         steps = [("assume", ("bin", ">=", ("at", name, key), ("real", 0))), self.changed(name, key, "+", amount)]
         return steps + [("assume", ("bin", "<=", ("at", name, key), ("real", 1)))] * (self.rng.random() < 0.7)
 
@@ -106,12 +108,13 @@ class Chance:
         return ("assert", f"{self.labels}:1 1:1 false", e)
 
     def store(self, deep):
-        return [self.rng.choice((("put", "h", (self.ref(),), self.ref()), ("put", "k", (self.ref(),), self.int()), ("put", "c", (self.ref(),), self.snap()),
-                                 ("put", "m", (self.ref(),), self.real())))]
+        return [self.rng.choice((("put", "h", (self.ref(),), self.ref()), ("put", "k", (self.ref(),), self.int()),
+                                 ("put", "c", (self.ref(),), self.snap()), ("put", "m", (self.ref(),), self.real())))]
 
     def assign(self, deep):
-        return [self.rng.choice((("assign", "r1", self.ref()), ("assign", "r2", self.ref()), ("assign", "n1", self.int()), ("assign", "b1", self.bool()),
-                                 ("assign", "q1", self.real()), ("assign", "s1", self.snap()), ("havoc", "n2"), ("havoc", "r3"), ("havoc", "b2")))]
+        return [self.rng.choice((("assign", "r1", self.ref()), ("assign", "r2", self.ref()), ("assign", "n1", self.int()),
+                                 ("assign", "b1", self.bool()), ("assign", "q1", self.real()), ("assign", "s1", self.snap()),
+                                 ("havoc", "n2"), ("havoc", "r3"), ("havoc", "b2")))]
 
     def asserted(self, deep):
         return [self.label(self.bool())]
@@ -127,16 +130,18 @@ class Chance:
 
     def split(self, deep):
         if self.rng.random() < 0.5:
-            return [("havoc", "w"), ("assume", ("bin", "==", ("name", "s1"), ("con", "sInt", (("name", "w"),)))), ("assign", "n1", ("name", "w"))]
-        pair = ("con", "sPair", (("name", "l1"), ("name", "l2")))
-        return [("havoc", "l1"), ("havoc", "l2"), ("assume", ("bin", "==", ("name", "s1"), pair)), ("assign", "s1", ("name", self.rng.choice(("l1", "l2"))))]
+            leaf = ("con", "sInt", (("name", "w"),))
+            return [("havoc", "w"), ("assume", ("bin", "==", ("name", "s1"), leaf)), ("assign", "n1", ("name", "w"))]
+        pair, side = ("con", "sPair", (("name", "l1"), ("name", "l2"))), self.rng.choice(("l1", "l2"))
+        return [("havoc", "l1"), ("havoc", "l2"), ("assume", ("bin", "==", ("name", "s1"), pair)), ("assign", "s1", ("name", side))]
 
     def fresh(self, deep):
         key = (("name", "q0"),)
         held = ("bin", "!=", ("at", "m", key), ("real", 0))
         known = ("forall", (("q0", "Ref"),), ("bin", "==>", held, ("bin", "!=", ("at", "h", key), ("name", "r3"))))
-        return [("havoc", "r3"), ("assume", ("bin", "!=", ("name", "r3"), ("null",))), ("assume", ("bin", "==", ("at", "m", (("name", "r3"),)), ("real", 0))),
-                ("assume", known), ("put", "m", (("name", "r3"),), ("real", 1))]
+        new = ("name", "r3")
+        return [("havoc", "r3"), ("assume", ("bin", "!=", new, ("null",))), ("assume", ("bin", "==", ("at", "m", (new,)), ("real", 0))),
+                ("assume", known), ("put", "m", (new,), ("real", 1))]
 
     def branch(self, deep):
         if deep == 0:
@@ -180,6 +185,6 @@ def value_of(it, parts, scalars, tables):
     if op == "sum":
         return it.data[0] + sum([by * part for by, part in zip(it.data[1:], parts)])
     simple = {"if": lambda c, a, b: a if c else b, "and": lambda *its: all(its), "or": lambda *its: any(its), "not": lambda a: not a,
-              "path": lambda a, b: a and b, "=": lambda a, b: a == b, "ge0": lambda a: a >= 0, "gt0": lambda a: a > 0, "eq0": lambda a: a == 0,
-              "real": Fraction}
+              "path": lambda a, b: a and b, "=": lambda a, b: a == b, "ge0": lambda a: a >= 0, "gt0": lambda a: a > 0,
+              "eq0": lambda a: a == 0, "real": Fraction}
     return simple[op](*parts) if op in simple else OPERATORS[op](*parts)

@@ -85,7 +85,8 @@ class ConditionsOfProcedures(unittest.TestCase):
     def test_behind_a_branch_what_either_side_changed_is_chosen(self):
         found = conditions_of(read_procedure("procedure p() { var x: int; var y: int; if (*) { x := 1; } else { y := x; } x := y; }"))
         chosen = [e for _, e in found.lets if e[0] == "if"]
-        self.assertEqual(chosen, [("if", ("name", "v3"), ("name", "d3"), ("name", "v1")), ("if", ("name", "v3"), ("name", "v2"), ("name", "d5"))])
+        self.assertEqual(chosen, [("if", ("name", "v3"), ("name", "d3"), ("name", "v1")),
+                                  ("if", ("name", "v3"), ("name", "v2"), ("name", "d5"))])
 
     def test_a_text_of_conditions_is_read(self):
         text = 'conditions p\nvar v1: int\nlet d1 := true\nlet d2 := (v1 < 3)\nlet d3 := (d1 && (! d2))\nfails 1:2 1:3 false d3\n'
@@ -142,7 +143,8 @@ class Runs(unittest.TestCase):
     def test_a_state_is_put_in_where_there_is_nothing_to_choose(self):
         said = iter(["// blocked\n// unused 1\n", "// failed 1:1 1:1 false\n// unused 0\n"])
         plain = read_procedure("procedure M$m() { var v$x: int; havoc v$x; }")
-        run, last = run_files.with_states(run_files.ViperRun("m", [["viper run"], ["pick true"], ["value 1"]]), lambda text: next(said), plain)
+        first = run_files.ViperRun("m", [["viper run"], ["pick true"], ["value 1"]])
+        run, last = run_files.with_states(first, lambda text: next(said), plain)
         self.assertEqual(run.choices, [["viper run"], ["state"], ["pick true"], ["value 1"]])
         self.assertTrue(last.startswith("// failed"))
 

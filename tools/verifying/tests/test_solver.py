@@ -44,8 +44,8 @@ class Processes(unittest.TestCase):
         self.assertRaises(NoSolver, self.solver.check, 10)
 
     def test_values_lead_to_the_failure(self):
-        procedure = read_procedure('procedure p() { var m: [int, Ref]real; var i: int; var r: Ref; assume (i > 5); m[i, r] := 1.0; havoc i; '
-                                   'assert {:msg "1:1 1:1 false"} ((m[i, r] != 1.0) || (i == 0)); }')
+        procedure = read_procedure('procedure p() { var m: [int, Ref]real; var i: int; var r: Ref; assume (i > 5); m[i, r] := 1.0; '
+                                   'havoc i; assert {:msg "1:1 1:1 false"} ((m[i, r] != 1.0) || (i == 0)); }')
         conditions = conditions_of(procedure)
         terms = [term for _, term in Symbolic(conditions).fails]
         said, values = Search(conditions.vars, [], self.solver, 10).any_of(terms)

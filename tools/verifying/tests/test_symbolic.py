@@ -29,7 +29,9 @@ def random_content(rng, deep):
     kind = rng.randrange(4)
     if deep and kind < 2:
         return ("pair", random_content(rng, deep - 1), random_content(rng, deep - 1))
-    return ("unit",) if kind == 2 else ("leaf", "int", rng.randrange(2)) if kind < 3 or rng.random() < 0.5 else ("leaf", "Ref", rng.randrange(3))
+    if kind == 2:
+        return ("unit",)
+    return ("leaf", "int", rng.randrange(2)) if kind < 2 or rng.random() < 0.5 else ("leaf", "Ref", rng.randrange(3))
 
 
 def random_values(rng, conditions):
