@@ -69,6 +69,16 @@ class Numbers:
         """The least and the greatest value of a number, each with whether it is not reached; None where there is none."""
         if term.op == "number":
             return (term.data, False), (term.data, False)
+        if term.op not in ("sum", "if", "*"):
+            return (None, None) if self.plainly else (self.facts.low.get(term), self.facts.high.get(term))
+        if self.bounds_of != (self.facts.version, self.plainly):
+            self.bounds_of, self.known_bounds = (self.facts.version, self.plainly), {}
+        found = self.known_bounds.get((term, deep))
+        if found is None:
+            found = self.known_bounds[term, deep] = self.bounds_of_parts(term, deep)
+        return found
+
+    def bounds_of_parts(self, term, deep):
         if term.op == "sum":
             return self.bounds_of_sum(term, deep)
         if term.op == "if" and deep:

@@ -15,6 +15,7 @@ class Logic(Numbers):
 
     def __init__(self):
         self.made, self.facts, self.plainly = {}, Facts(), False
+        self.bounds_of, self.known_bounds = None, {}    # the bounds of numbers, and the facts under which they are so
         self.means = {}     # of a condition that stands for the equality of two terms these, and whether it says that they are equal
         self.true, self.false = self.make("name", "true", (), "bool"), self.make("name", "false", (), "bool")
         self.null, self.unit = self.make("name", "null", (), "Ref"), self.make("con", "sUnit", (), "Snap")

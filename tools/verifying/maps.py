@@ -188,10 +188,28 @@ class Maps:
         return ours, theirs, a
 
     def chosen_sums(self, condition, a, b):
+        """One sum or another. Where an amount stands at one key or at another, it stands at the one that is chosen."""
         logic, zero = self.logic, self.logic.zero[a.base]
+        pairs = self.pairs(a.amounts, b.amounts)
+        paired = set(pairs.values())
         amounts = {}
         for key in {**a.amounts, **b.amounts}:
-            amount = logic.choice(condition, a.amounts.get(key, zero), b.amounts.get(key, zero))
-            if amount is not zero:
-                amounts[key] = amount
-        return Sums(a.base, amounts)
+            if key in pairs:
+                at = tuple([logic.choice(condition, one, other) for one, other in zip(key, pairs[key])])
+                amounts[at] = logic.add(a.amounts[key], amounts.get(at, zero))
+            elif key not in paired:
+                amount = logic.choice(condition, a.amounts.get(key, zero), b.amounts.get(key, zero))
+                amounts[key] = logic.add(amount, amounts.get(key, zero))
+        return Sums(a.base, {key: amount for key, amount in amounts.items() if amount is not zero})
+
+    def pairs(self, ours, theirs):
+        """For keys that only one side has those of the other side with the same amounts, in order."""
+        free = {}
+        for key, amount in theirs.items():
+            if key not in ours:
+                free.setdefault(amount, []).append(key)
+        found = {}
+        for key, amount in ours.items():
+            if key not in theirs and free.get(amount):
+                found[key] = free[amount].pop(0)
+        return found

@@ -47,7 +47,7 @@ class Report:
     def unit(self, given, unit, result):
         """A unit of which something is known, or is not."""
         self.worse({VERIFIED: 0, FAILS: 1, UNDECIDED: 2}[result.verdict])
-        if result.why or any([not it.confirmed for it in result.labels]) or result.smoke not in ("", "done", "vain"):
+        if result.why or any([it.why or not it.confirmed for it in result.labels]) or result.smoke not in ("", "done", "vain"):
             self.worse(2)
         if self.options.keep:
             self.keep(given, result)
@@ -72,9 +72,11 @@ class Report:
             if self.options.runs:
                 self.run(given, unit, result.labels[numbers[0]])
         for it in result.labels:
+            place = f"{shown_path(given.path)}:{it.line}:{it.column}"
             if not it.confirmed:
-                place = f"{shown_path(given.path)}:{it.line}:{it.column}"
                 self.line(f"{place}: not confirmed: z3 says that this can fail: {it.message}; but {it.why}")
+            elif it.why:
+                self.line(f"{place}: not confirmed by replay, but by run: {it.why}")
         if result.why:
             self.line(f"{at}: undecided: `{unit.name}` has no verdict: {result.why}")
         self.smoke(at, unit, result)
