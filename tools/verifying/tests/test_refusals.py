@@ -140,6 +140,12 @@ RULES = (
      "no predicate fac is declared; functions are not in the language (docs/language.md)"),
     ("method m(a: Int, r: Ref) { var i: Int := a ? a : r }", "type 1:44 rule 3",
      "`?:` takes a Bool and two of one type, and here are an Int, an Int and a Ref"),
+    ("method m(r: Ref) { assert r * 1 == 1 }", "type 1:29 rule 3",
+     "`*` takes an Int or a Perm on each side, and here are a Ref and an Int"),
+    ("method m(r: Ref) { assert r <= r }", "type 1:29 rule 3", "`<=` takes two Ints, or two Perms, and here are a Ref and a Ref"),
+    ("method m(p: Perm) { assert p \\ 2 == p }", "type 1:30 rule 3", "`\\` takes two Ints, and here are a Perm and an Int"),
+    ("method m(p: Perm, b: Bool) { assert p / b == p }", "type 1:39 rule 3",
+     "`/` takes an Int or a Perm, by an Int, and here are a Perm and a Bool"),
 )
 
 
@@ -169,6 +175,14 @@ class Refusals(unittest.TestCase):
     def test_notes(self):
         told = refusals.told(Source("file.vpr", b"field f: Int\nmethod f()"), "error: type 2:8 rule 2")
         self.assertEqual(told.notes, [(1, 7, "the first declaration")])
+        for text, line, first in (
+                (b"method m(y: Ref, x: Ref, x: Int)", "1:26", (1, 18)), (b"method m(x: Int) returns (x: Int)", "1:27", (1, 10)),
+                (b"method m() { var y: Int if (true) { var y: Int } }", "1:41", (1, 18)),
+                (b"method m() { if (true) { var y: Int } var y: Int var y: Int }", "1:54", (1, 43))):
+            told = refusals.told(Source("file.vpr", text), f"error: type {line} rule 2")
+            self.assertEqual(told.notes, [(*first, "the first declaration")])
+        told = refusals.told(Source("file.vpr", b"field f: Int\nmethod m() { assert f > 0 }"), "error: type 2:21 rule 1")
+        self.assertEqual(told.notes, [(1, 7, "declared here")])
         told = refusals.told(Source("file.vpr", b"method m() {\n  if (true) {"), "error: syntax 2:14")
         self.assertEqual(told.notes, [(2, 13, "this one")])
 

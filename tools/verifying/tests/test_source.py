@@ -106,6 +106,7 @@ class Terms(unittest.TestCase):
     def test_levels_and_sides(self):
         for text, tree in (
                 ("a - b - c * d", ["-", ["-", "a", "b"], ["*", "c", "d"]]),
+                ("Q() && a", ["&&", "Q", "a"]),
                 ("a && b && c ==> d || e", ["==>", ["&&", "a", ["&&", "b", "c"]], ["||", "d", "e"]]),
                 ("-a.f.g == !b", ["==", ["-", ["g", ["f", "a"]]], ["!", "b"]]),
                 ("a ? b ? c : d : e ? f : g", ["?", "a", ["?", "b", "c", "d"], ["?", "e", "f", "g"]]),

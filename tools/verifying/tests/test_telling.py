@@ -113,6 +113,7 @@ class Contents(unittest.TestCase):
 predicate sides(x: Ref, b: Bool) { b ? acc(x.f) && acc(x.g) : acc(x.h) }
 predicate maybe(x: Ref) { acc(x.g) && (x.g != null ==> acc(x.g.f, 1/2)) && x.g != x }
 predicate open(n: Int) predicate both() { open(1) && acc(open(1 + 1)) && true }
+predicate either(x: Ref, b: Bool) { b ? acc(x.f) : open(1) && x != null }
 predicate same(x: Ref, b: Bool) { b ? acc(x.f) : acc(x.h, none) && acc(x.g) }""")
 
     def told(self, name, arguments, value):
@@ -126,6 +127,8 @@ predicate same(x: Ref, b: Bool) { b ? acc(x.f) : acc(x.h, none) && acc(x.g) }"""
         self.assertEqual(self.told("maybe", ["#1"], ("pair", ("leaf", "Ref", 0), ("pair", unit, unit))), "g null")
         self.assertEqual(self.told("both", [], ("pair", int_, ("pair", unit, unit))), "open(1) {leaf 3}, open(1 + 1)")
         self.assertEqual(self.told("same", ["#1", "true"], int_), "f 3")
+        self.assertEqual(self.told("either", ["#1", "true"], int_), "f 3")
+        self.assertEqual(self.told("either", ["#1", "false"], ("pair", int_, unit)), "open(1) {leaf 3}")
 
     def test_what_does_not_fit_is_told_as_a_run_file_has_it(self):
         self.assertEqual(self.told("maybe", ["#1"], ("leaf", "int", 3)), "leaf 3")
