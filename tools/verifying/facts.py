@@ -29,10 +29,10 @@ class Facts:
         self.trail.append((table, key, table.get(key)))
         table[key] = value
 
-    def follows(self, condition, value):
-        """Keeps the value of a condition that follows from the facts, which are no others by that."""
-        self.trail.append((self.known, condition, None))
-        self.known[condition] = value
+    def keep(self, table, key, value):
+        """Keeps what follows from the facts, which are no others by that."""
+        self.trail.append((table, key, table.get(key)))
+        table[key] = value
 
     def undo(self, mark):
         """Forgets what was learned since the trail was so long."""

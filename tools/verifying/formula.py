@@ -8,7 +8,7 @@ from .boogie_text import NotAsWritten
 from .conditions import read_conditions
 from .question import Question
 from .solver import NoSolver, Solver
-from .symbolic import Symbolic
+from .symbolic import symbolic_of
 from .work import deep
 
 ANSWERS = {"unsat": "valid", "sat": "not valid", "unknown": "unknown"}
@@ -20,7 +20,7 @@ def question_of(text):
     if not heading.startswith("vc "):
         raise NotAsWritten("this does not begin as a formula")
     conditions = read_conditions(text)
-    terms = [term for _, term in Symbolic(conditions).fails]
+    terms = [term for _, term in symbolic_of(conditions).fails]
     question = Question(terms, conditions.vars)
     return heading[3:], question.text + f"(assert (or {' '.join(question.asked)}))\n"
 

@@ -85,7 +85,7 @@ class Logic(Numbers):
         if known is None:
             facts.unknown[condition] = facts.version
         else:
-            facts.follows(condition, known)
+            facts.keep(facts.known, condition, known)
         return known
 
     def value_of_all(self, parts, decided):
@@ -117,8 +117,9 @@ class Logic(Numbers):
                 way = 1 if one.args[1] is other else 2
                 condition = one.args[0] if way == 1 else self.negated(one.args[0])
                 found = self.any([condition, self.equal(one.args[3 - way], other)])
-                self.means[found] = (one, other, True)
-                self.means[self.negated(found)] = (one, other, False)
+                if not self.plainly:
+                    self.facts.keep(self.means, found, (one, other, True))
+                    self.facts.keep(self.means, self.negated(found), (one, other, False))
                 return found
         return self.make("=", None, (a, b) if a.number <= b.number else (b, a), "bool")
 

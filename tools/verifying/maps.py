@@ -72,11 +72,15 @@ class Instead(Change):
         return Instead(below, guard, self.other)
 
 
+class Left(Exception):
+    """A map is read as one of which nothing is known, where a path that was left says what it is."""
+
+
 class Maps:
-    """Reads and changes maps with the terms of a logic."""
+    """Reads and changes maps with the terms of a logic. `told` are the maps of which some path says what they are."""
 
     def __init__(self, logic):
-        self.logic = logic
+        self.logic, self.told = logic, set()
 
     def same_key(self, key, other):
         if len(key) == 1:
@@ -115,6 +119,8 @@ class Maps:
     def bottom(self, it, key):
         logic = self.logic
         if isinstance(it, Outside):
+            if it.name in self.told:
+                raise Left(it.name)
             return logic.make("apply", it.name, key, it.base)
         total = {}
         const = 0

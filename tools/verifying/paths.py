@@ -61,12 +61,13 @@ class Paths:
         if not ours or not theirs:
             return common
         logic = self.logic
-        if len(ours) == len(theirs) == 1 and logic.negated(ours[0]) is theirs[0]:
-            return common
         self.move(common)
+        either = logic.negated(ours[0]) is theirs[0]    # the two ways are those of one branch
+        if either and len(ours) == len(theirs) == 1:
+            return common
         ways = [it[0] if len(it) == 1 else logic.make("and", None, tuple(dict.fromkeys(it)), "bool") for it in (ours, theirs)]
         condition = logic.make("or", None, tuple(ways), "bool")
-        under = [self.what_holds(ours), self.what_holds(theirs)]
+        under = [self.what_holds(ours), self.what_holds(theirs)] if either else []
         return Path(common, condition, self.both(common.term, condition), False, [it for it in under if it[2]])
 
     def what_holds(self, way):

@@ -9,7 +9,7 @@ import math
 import time
 
 from .logic import Logic
-from .maps import Frame, Maps, Outside, Sums
+from .maps import Frame, Left, Maps, Outside, Sums
 from .paths import Paths
 from .walk import framing
 
@@ -20,8 +20,8 @@ class Symbolic:
     """`fails` has the label of each assertion and the term that says that it fails, and `end` says that a run comes to the end. It
     has to be done before the time `until`."""
 
-    def __init__(self, conditions, until=math.inf):
-        self.logic = Logic()
+    def __init__(self, conditions, until=math.inf, untold=()):
+        self.logic, self.untold = Logic(), untold
         self.maps, self.paths = Maps(self.logic), Paths(self.logic)
         self.vars, self.lets = conditions.vars, conditions.lets
         # The terms, maps and paths by name, the terms that speak of paths, the names that were read, what a `forall` binds.
@@ -90,12 +90,17 @@ class Symbolic:
             self.known_maps[name] = self.map(e[1])
         elif kind == "with":
             self.known_maps[name] = self.changed(e)
-        elif kind == "if" and e[2][0] == "name" and e[1][0] == "name":
+        elif self.is_choice(e):
             self.behind_branch(at, name, e)
         elif kind == "forall" and self.is_assumed(at, name) and self.says_what_a_map_is(e):
             self.terms[name] = self.logic.true
         else:
             self.terms[name] = self.term(e)
+
+    def is_choice(self, e):
+        """Whether a definition is a choice between two that are known, as behind a branch."""
+        known = (self.terms, self.known_maps)
+        return e[0] == "if" and e[1][0] == "name" and all([it[0] == "name" and any([it[1] in its for its in known]) for it in e[2:]])
 
     def behind_branch(self, at, name, e):
         """Notes the choice between the two values of a local behind a branch. Each is looked at where its side of the branch is
@@ -111,7 +116,7 @@ class Symbolic:
     def sides_of_group(self, at, condition):
         """The two values of each local that is chosen by a condition, from a definition on."""
         group, sides, facts = [], [], self.logic.facts
-        while at < len(self.lets) and self.lets[at][1][0] == "if" and self.lets[at][1][1] == condition:
+        while at < len(self.lets) and self.is_choice(self.lets[at][1]) and self.lets[at][1][1] == condition:
             group.append(self.lets[at])
             at += 1
         for truth in (True, False):
@@ -132,22 +137,27 @@ class Symbolic:
         return e[:2] == ("bin", "&&") and e[3] == ("name", name) and e[2][0] == "name" and self.known_paths.get(e[2][1]) is self.target
 
     def says_what_a_map_is(self, e):
-        """Whether a quantifier that is assumed says what a map is of which nothing was known: that is then noted."""
+        """Whether a quantifier that is assumed says what a map is of which nothing was known: that is then noted, for this path."""
         body = e[2]
         if body[:2] == ("bin", "==") and body[2][0] == "at" and body[3] == ("real", 0) and self.is_new(body[2][1]):
             if self.vars[body[2][1]][1] == "real" and body[2][2] == names_of(e):
-                self.known_maps[body[2][1]] = Sums("real")
+                self.tell(body[2][1], Sums("real"))
                 return True
         if body[:2] == ("bin", "==>") and body[3][0] == "bin" and body[3][3][0] == "at" and self.is_new(body[3][3][1]):
             new = body[3][3][1]
             found = framing(("assume", e), new)
             if found:
-                self.known_maps[new] = Frame(self.map(found[1]), self.logic.true, self.map(found[0]), new)
+                self.tell(new, Frame(self.map(found[1]), self.logic.true, self.map(found[0]), new))
             return found is not None
         return False
 
+    def tell(self, name, it):
+        """Notes what a map is on the path at work, and on those that go on from it."""
+        self.maps.told.add(name)
+        self.logic.facts.set(self.known_maps, name, it)
+
     def is_new(self, name):
-        return name in self.vars and name not in self.read_names
+        return name in self.vars and name not in self.read_names and name not in self.untold
 
     def map(self, name):
         self.read_names.add(name)
@@ -213,6 +223,16 @@ class Symbolic:
         found = self.term(body)
         self.bound = outer
         return found if not found.open else self.logic.make("forall", e[1], (found,), "bool")
+
+
+def symbolic_of(conditions, until=math.inf):
+    """The terms of conditions. Where a map is read that a path which was left says something of, that is left to a quantifier."""
+    untold = set()
+    while True:
+        try:
+            return Symbolic(conditions, until, untold)
+        except Left as it:
+            untold.add(str(it))
 
 
 class TooSlow(Exception):

@@ -10,7 +10,7 @@ from .conditions import conditions_of
 from .run_files import ViperRun, boogie_run, read_back, viper_run, with_states
 from .search import PLAIN, WAYS, Search, new_objects
 from .smaller import Smaller, Values
-from .symbolic import Symbolic
+from .symbolic import symbolic_of
 from .walk import Walk
 
 VERIFIED, FAILS, UNDECIDED = "verified", "fails", "undecided"
@@ -53,7 +53,7 @@ class Examiner:
         self.procedure = read_procedure(task.text)
         self.conditions = conditions_of(self.procedure)
         self.search = Search(self.conditions.vars, new_objects(self.procedure), solver, task.seconds)
-        self.symbolic = Symbolic(self.conditions, self.search.end)
+        self.symbolic = symbolic_of(self.conditions, self.search.end)
         self.failures = []
         self.text_file = self.file("unit.bpl", task.prelude + task.text)
 

@@ -8,7 +8,7 @@ from verifying.conditions import conditions_of, read_conditions
 from verifying.question import Question
 from verifying.search import new_objects
 from verifying.smaller import Smaller, Values
-from verifying.symbolic import Symbolic
+from verifying.symbolic import symbolic_of
 from verifying.walk import Walk
 
 TEXT = """type Ref;
@@ -92,14 +92,14 @@ class ConditionsOfProcedures(unittest.TestCase):
         text = 'conditions p\nvar v1: int\nlet d1 := true\nlet d2 := (v1 < 3)\nlet d3 := (d1 && (! d2))\nfails 1:2 1:3 false d3\n'
         found = read_conditions(text)
         self.assertEqual((found.fails, found.vars), ([("1:2 1:3 false", "d3")], {"v1": ((), "int")}))
-        symbolic = Symbolic(found)
+        symbolic = symbolic_of(found)
         self.assertEqual(Question([symbolic.fails[0][1]], found.vars).asked, ["(>= v1 3)"])
 
     def test_a_formula_of_vc_is_read(self):
         text = ("vc go 1:20 1:27 false\nvar v1: int\nvar v2: int\nlet d1 := true\nlet d2 := false\nlet d3 := (d1 && (v2 < 3))\n"
                 "let d4 := (d2 || (d1 && (! d3)))\ngoal (! d4)\n")
         found = read_conditions(text)
-        self.assertEqual(Question([it for _, it in Symbolic(found).fails], found.vars).asked, ["(>= v2 3)"])
+        self.assertEqual(Question([it for _, it in symbolic_of(found).fails], found.vars).asked, ["(>= v2 3)"])
         self.assertRaises(NotAsWritten, read_conditions, text.replace("goal (! d4)\n", ""))
 
 
@@ -152,7 +152,7 @@ class Runs(unittest.TestCase):
 class Questions(unittest.TestCase):
     def test_no_map_and_no_quantifier_is_left(self):
         found = conditions_of(procedure())
-        symbolic = Symbolic(found)
+        symbolic = symbolic_of(found)
         question = Question([term for _, term in symbolic.fails], found.vars)
         self.assertNotIn("forall", question.text)
         self.assertNotIn("Array", question.text)

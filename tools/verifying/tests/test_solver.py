@@ -7,7 +7,7 @@ from verifying.boogie_text import read_procedure
 from verifying.conditions import conditions_of
 from verifying.search import Search
 from verifying.solver import NoSolver, Solver
-from verifying.symbolic import Symbolic
+from verifying.symbolic import symbolic_of
 from verifying.walk import Walk
 
 HAS_Z3 = shutil.which("z3") is not None
@@ -47,7 +47,7 @@ class Processes(unittest.TestCase):
         procedure = read_procedure('procedure p() { var m: [int, Ref]real; var i: int; var r: Ref; assume (i > 5); m[i, r] := 1.0; '
                                    'havoc i; assert {:msg "1:1 1:1 false"} ((m[i, r] != 1.0) || (i == 0)); }')
         conditions = conditions_of(procedure)
-        terms = [term for _, term in Symbolic(conditions).fails]
+        terms = [term for _, term in symbolic_of(conditions).fails]
         said, values = Search(conditions.vars, [], self.solver, 10).any_of(terms)
         self.assertEqual(said, "sat")
         end = Walk(procedure, values.given).run()

@@ -5,7 +5,7 @@ from fractions import Fraction
 
 from verifying.conditions import conditions_of
 from verifying.question import reached
-from verifying.symbolic import Symbolic
+from verifying.symbolic import symbolic_of
 from verifying.walk import DEFAULTS, Walk
 
 from .chance import Chance, values_of
@@ -65,7 +65,7 @@ class Terms(unittest.TestCase):
             rng = random.Random(seed)
             procedure = Chance(rng).procedure(rng.randrange(3, 14))
             conditions = conditions_of(procedure)
-            symbolic = Symbolic(conditions)
+            symbolic = symbolic_of(conditions)
             if any([it.op == "forall" for it in reached([term for _, term in symbolic.fails] + [symbolic.end])[0]]):
                 continue    # amounts that are no sums: that is for z3
             for _ in range(WALKS):
