@@ -1,0 +1,107 @@
+"""Compares what is told of the examples with what is expected, and has each run that is told confirmed anew.
+
+`examples/verdicts` has a line for each label of an example, `FILE LABEL`, or `FILE verified N`. What README.md and docs/verifying.md
+show behind a call is compared with what that call prints now, where z3 is the version that it was written with: runs are z3's."""
+import io
+import os
+import re
+import subprocess
+import tempfile
+
+from .command import Command
+from .program import TOP, Program, find
+
+SHOWN_BY = "4.8.12"
+SHOWN = re.compile(r"^```\n\$ (tools/verify [^\n]*)\n(.*?)^```", re.M | re.S)
+EXAMPLES = os.path.join(TOP, "examples")
+LABEL = re.compile(r"(\d+):(\d+) (\d+):(\d+) (\w+)")
+
+
+def expected():
+    """What examples/verdicts says of each example, by its name below examples/: `verified N`, or its labels."""
+    found = {}
+    with open(os.path.join(EXAMPLES, "verdicts"), encoding="utf-8") as it:
+        for line in it:
+            if line.strip() and not line.startswith("#"):
+                file, rest = line.split(maxsplit=1)
+                found.setdefault(file, []).append(rest.strip())
+    return found
+
+
+def examples():
+    """The names of the examples below examples/."""
+    found = []
+    for folder, _, names in os.walk(EXAMPLES):
+        found += [os.path.relpath(os.path.join(folder, it), EXAMPLES) for it in names if it.endswith(".vpr")]
+    return sorted(found)
+
+
+def in_order(label):
+    found = LABEL.fullmatch(label)
+    return (*map(int, found.groups()[:4]), found[5])
+
+
+def verdict(results):
+    """What is told of a file, in the words of examples/verdicts; a unit without a verdict is told as such."""
+    odd = [f"undecided: {it.unit}: {it.why}" for it in results if it.why]
+    odd += [f"not confirmed: {label.label}" for it in results for label in it.labels if not label.confirmed]
+    labels = {label.label for it in results for label in it.labels if label.confirmed}
+    return odd + sorted(labels, key=in_order) or [f"verified {len(results)}"]
+
+
+def not_confirmed(program, file, results, room):
+    """What the program does not confirm when it is asked anew: on the file itself, and on the whole text that it writes."""
+    text, run_file = os.path.join(room, "text.bpl"), os.path.join(room, "run")
+    with open(text, "w", encoding="utf-8") as into:
+        into.write(program.translate(file).out)
+    for result in results:
+        for label in result.labels:
+            shown = "".join([f"{line}\n" for line in label.shown])     # with its comments, as it is printed
+            calls = [(it, lambda: program.run(file, result.unit, run_file)) for it in (label.run, shown)]
+            for run, call in [*calls, (label.boogie_run, lambda: program.replay(text, run_file))]:
+                with open(run_file, "w", encoding="utf-8") as into:
+                    into.write(run or "")
+                said = call()
+                if not said.out.startswith(f"// failed {label.label}\n"):
+                    yield f"{label.label}: {said.first()}"
+
+
+def other_transcripts():
+    """The calls that print something else than the documents show."""
+    said = subprocess.run(["z3", "--version"], stdin=subprocess.DEVNULL, stdout=subprocess.PIPE, universal_newlines=True).stdout
+    if SHOWN_BY not in said:
+        print(f"what the documents show is by z3 {SHOWN_BY}, and was not compared: {said.strip()}")
+        return
+    for page in ("README.md", "docs/verifying.md"):
+        with open(os.path.join(TOP, page), encoding="utf-8") as it:
+            shown = SHOWN.findall(it.read())
+        for call, text in shown:
+            done = subprocess.run(call.split(), cwd=TOP, stdin=subprocess.DEVNULL, stdout=subprocess.PIPE, stderr=subprocess.STDOUT)
+            if done.stdout.decode(errors="replace") != text:
+                yield f"{page}: {call} prints something else than is shown"
+
+
+def check(options):
+    """Prints where the examples differ from what is expected, and returns the status."""
+    wanted, files = expected(), examples()
+    command = Command([os.path.join(EXAMPLES, it) for it in files], options, io.StringIO())
+    command.status()
+    told = {os.path.relpath(path, EXAMPLES): results for path, results in command.results}
+    status, runs, program = 0, 0, Program(find())
+    with tempfile.TemporaryDirectory(prefix="verify-") as room:
+        for file in sorted({*files, *wanted}):
+            results = told.get(file)
+            found = ["it is refused, or not there"] if results is None else verdict(results)
+            if found != wanted.get(file):
+                print(f"{file}: {'; '.join(found)}, where examples/verdicts has {'; '.join(wanted.get(file, ['nothing']))}")
+                status = 1
+            for it in not_confirmed(program, os.path.join(EXAMPLES, file), results or [], room):
+                print(f"{file}: the run for {it}")
+                status = 1
+            runs += sum([len(it.labels) for it in results or []])
+    for it in other_transcripts():
+        print(it)
+        status = 1
+    if status == 0:
+        print(f"the verdicts on {len(files)} examples are as expected, and {runs} runs are confirmed")
+    return status

@@ -1,0 +1,106 @@
+"""Makes the values of a run smaller and simpler, as long as the walk fails at the same label. The program confirms what is left."""
+import time
+from fractions import Fraction
+
+from .walk import DEFAULTS, Walk
+
+SECONDS = 0.6       # for one run
+ROUNDS = 3
+INTS = (0, 1, -1, 2, 3, 5, 10)
+REALS = (Fraction(0), Fraction(1), Fraction(1, 2))
+
+
+class Values:
+    """Values of the variables of a procedure, by their numbers: `scalars`, and `tables` with the places of maps. What is not there
+    has the default of its type."""
+
+    def __init__(self, types, scalars, tables):
+        self.types, self.scalars, self.tables = types, scalars, tables
+
+    def given(self, n):
+        """The n-th variable, as a walk takes it."""
+        keys, base = self.types[n]
+        if not keys:
+            return self.scalars.get(n, DEFAULTS[base])
+        table, default = self.tables.get(n, {}), DEFAULTS[base]
+        return lambda key: table.get(key, default)
+
+
+def simpler(value, base):
+    """Simpler values, the simplest first."""
+    if base == "int":
+        found = [*INTS, value // 2, value - 1 if value > 0 else value + 1]
+        return [it for it in dict.fromkeys(found) if (abs(it), it < 0) < (abs(value), value < 0)]
+    if base == "real":
+        return [it for it in REALS if rank(it) < rank(value)]
+    return [False] if value is True else []
+
+
+def rank(value):
+    return abs(value.numerator) + value.denominator, value < 0
+
+
+class Smaller:
+    """Tries simpler values. `fails` says whether a run still fails as before."""
+
+    def __init__(self, procedure, values, label):
+        self.procedure, self.values, self.label = procedure, values, label
+        self.end = time.monotonic() + SECONDS
+
+    def fails(self):
+        end = Walk(self.procedure, self.values.given).run()
+        return end.how == "failed" and end.label == self.label
+
+    def late(self):
+        return time.monotonic() > self.end
+
+    def found(self):
+        """The simplest values that were found."""
+        for _ in range(ROUNDS):
+            changed = any([self.smaller_tables(), self.simpler_scalars(), self.simpler_places()])
+            if not changed or self.late():
+                break
+        return self.values
+
+    def attempt(self, table, key, value):
+        """Sets, or with None removes, an entry of a table. Keeps that if the run fails as before."""
+        old = table.get(key)
+        if value is None:
+            del table[key]
+        else:
+            table[key] = value
+        if not self.late() and self.fails():
+            return True
+        table[key] = old
+        return False
+
+    def smaller_tables(self):
+        changed = False
+        for n, table in list(self.values.tables.items()):
+            del self.values.tables[n]
+            if not self.late() and self.fails():
+                changed = True
+                continue
+            self.values.tables[n] = table
+            for key in list(table):
+                changed = self.attempt(table, key, None) or changed
+        return changed
+
+    def simpler_scalars(self):
+        changed, scalars = False, self.values.scalars
+        for n in list(scalars):
+            base = self.values.types[n][1]
+            changed = base == "Snap" and self.attempt(scalars, n, None) or self.simplified(scalars, n, base) or changed
+        return changed
+
+    def simpler_places(self):
+        changed = False
+        for n, table in self.values.tables.items():
+            for key in list(table):
+                changed = self.simplified(table, key, self.values.types[n][1]) or changed
+        return changed
+
+    def simplified(self, table, key, base):
+        if key not in table:
+            return False
+        return any(self.attempt(table, key, it) for it in simpler(table[key], base))
