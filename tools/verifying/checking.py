@@ -12,7 +12,7 @@ from .command import Command
 from .program import TOP, Program, find
 
 SHOWN_BY = "4.8.12"
-SHOWN = re.compile(r"^```\n\$ (tools/verify [^\n]*)\n(.*?)^```", re.M | re.S)
+SHOWN = re.compile(r"^```\n\$ (?:\./remduska verify|tools/verify) ([^\n]*)\n(.*?)^```", re.M | re.S)
 EXAMPLES = os.path.join(TOP, "examples")
 LABEL = re.compile(r"(\d+):(\d+) (\d+):(\d+) (\w+)")
 
@@ -75,10 +75,10 @@ def other_transcripts():
     for page in ("README.md", "docs/verifying.md"):
         with open(os.path.join(TOP, page), encoding="utf-8") as it:
             shown = SHOWN.findall(it.read())
-        for call, text in shown:
-            done = subprocess.run(call.split(), cwd=TOP, stdin=subprocess.DEVNULL, stdout=subprocess.PIPE, stderr=subprocess.STDOUT)
+        for words, text in shown:
+            done = subprocess.run(["tools/verify", *words.split()], cwd=TOP, stdin=subprocess.DEVNULL, stdout=subprocess.PIPE, stderr=subprocess.STDOUT)
             if done.stdout.decode(errors="replace") != text:
-                yield f"{page}: {call} prints something else than is shown"
+                yield f"{page}: tools/verify {words} prints something else than is shown"
 
 
 def check(options):
