@@ -1,9 +1,10 @@
--- The trees of formulas as plain data. antt has no data that holds a `List` of itself, so lists of keys are a type of their own
+-- The trees of formulas and conditions as plain data. antt has no data that holds a `List` of itself, so lists of keys are a type of their own
 -- beside it.
 use Rattle.std.specs.Prelude.{ℕ, ℤ, Bool as Truth, List, [], ◌∷◌}
 use Rattle.boogie_tree.specs.Program.{BType}
 use Rattle.boogie_tree.specs.declared.exprs.BBase.{BBase}
 use Rattle.boogie_tree.specs.declared.exprs.BOp.{BOp}
+use Rattle.boogie_formula.specs.declared.formulas.Fail.{Fail}
 
 mutual
   -- an expression of a program, with the update of a map beside its forms
@@ -46,3 +47,10 @@ pub record Formula : Type 0 where
   pub vars : List BType
   pub lets : List FExpr
   pub goal : FExpr
+
+-- Typed variables and definitions, numbered as in a formula, and for each assertion, in the order of the text, its label and the
+-- definition that says that it fails.
+pub record Conditions : Type 0 where
+  pub vars : List BType
+  pub lets : List FExpr
+  pub fails : List Fail

@@ -1,12 +1,13 @@
--- Which formulas have a text that is read back as them: literals are from 0 to the greatest, each number names a variable or a
+-- Which formulas and conditions have a text that is read back as them: literals are from 0 to the greatest, each number names a variable or a
 -- definition before it, no `forall` stands in another, lists of keys and of bound variables are what a text can show, and each
 -- map that is changed has a name.
-use Rattle.std.specs.Prelude.{◌≡◌, ◌≢◌, ◌+◌, ◌<◌, ⊤, ℕ, false, List, [], ◌∷◌, Some, length}
+use Rattle.std.specs.Prelude.{◌≡◌, ◌≢◌, ◌+◌, ◌<◌, ◌≤◌, ⊤, ℕ, false, All, List, [], ◌∷◌, Some, length}
 use Rattle.boogie_tree.specs.Expr as t
 use Rattle.boogie_tree.specs.Fits.{FitsExpr, FitExprs}
 use Rattle.boogie_meaning.specs.Programs.{HaveKeys}
 use Rattle.boogie_formula.specs.Formula as f
-use Rattle.boogie_formula.specs.Formula.{FExpr, FExprs, Formula}
+use Rattle.boogie_formula.specs.Formula.{FExpr, FExprs, Formula, Conditions}
+use Rattle.boogie_formula.specs.declared.formulas.Fail.{Fail}
 use Rattle.boogie_formula.specs.Value.{plain, plain_all}
 
 -- an expression of a program that has a text, where n names are in scope
@@ -37,3 +38,13 @@ pub record IsPrintableFormula (x : Formula) : Type 0 where
   pub keys : HaveKeys x.vars
   pub lets : FitLets (length x.vars) x.lets
   pub goal : FitsScalar (length x.vars + length x.lets) x.goal
+
+-- it names a definition
+pub record NamesDefinition (x : Conditions) (a : Fail) : Type 0 where
+  pub behind : length x.vars ≤ a.name
+  pub there : a.name < length x.vars + length x.lets
+
+pub record IsPrintableConditions (x : Conditions) : Type 0 where
+  pub keys : HaveKeys x.vars
+  pub lets : FitLets (length x.vars) x.lets
+  pub fails : All (NamesDefinition x) x.fails

@@ -1,5 +1,5 @@
--- Types of formulas: an expression has the type of the expression of a program that it is, and a definition may be a map.
-use Rattle.std.specs.Prelude.{◌≡◌, List, [], ◌∷◌, ◌++◌, Option, Some, None, slice_get, if◌then◌else◌}
+-- Types of formulas and conditions: an expression has the type of the expression of a program that it is, and a definition may be a map.
+use Rattle.std.specs.Prelude.{◌≡◌, All, List, [], ◌∷◌, ◌++◌, Option, Some, None, slice_get, if◌then◌else◌}
 use Rattle.boogie_tree.specs.Program.{BType}
 use Rattle.boogie_tree.specs.Values.{same_type, plain_type}
 use Rattle.boogie_tree.specs.declared.exprs.BBase.{BBase}
@@ -7,7 +7,8 @@ use Rattle.boogie_tree.specs.declared.exprs.BBase.TheVariants as base
 use Rattle.boogie_meaning.specs.Programs.{HaveKeys}
 use Rattle.boogie_meaning.specs.Types.{then_some, base_of, bases_of, is_base, is_put}
 use Rattle.boogie_formula.specs.Formula as f
-use Rattle.boogie_formula.specs.Formula.{FExpr, FExprs, Formula}
+use Rattle.boogie_formula.specs.Formula.{FExpr, FExprs, Formula, Conditions}
+use Rattle.boogie_formula.specs.declared.formulas.Fail.{Fail}
 use Rattle.boogie_formula.specs.Value.{plain, plain_all}
 
 -- the type of an expression that is no map, by the types of all that is named so far, if it has one
@@ -41,3 +42,14 @@ pub record IsTypedFormula (f : Formula) : Type 0 where
   pub all : List BType
   pub lets : defined_types f.lets f.vars ≡ Some all
   pub goal : fbase all f.goal ≡ Some base.Bool
+
+-- the name is that of a bool
+abbrev pub IsBool : List BType → Fail → Type 0
+IsBool ls a = slice_get ls a.name ≡ Some (plain_type base.Bool)
+
+-- the types of the variables are types, each definition has one, and that which says that an assertion fails is a bool
+pub record IsTypedConditions (x : Conditions) : Type 0 where
+  pub keys : HaveKeys x.vars
+  pub all : List BType
+  pub lets : defined_types x.lets x.vars ≡ Some all
+  pub fails : All (IsBool all) x.fails

@@ -1,6 +1,6 @@
 -- The value of a formula (Leino, This is Boogie 2, section 4): an expression has the value of the expression of a program that it
 -- is, and two forms stand beside these, since a definition may be a map: a map but for one value, and a choice between maps.
-use Rattle.std.specs.Prelude.{◌≡◌, Bool as Truth, true, List, [], ◌∷◌, ◌++◌, Option, Some, None, slice_get, if◌then◌else◌}
+use Rattle.std.specs.Prelude.{◌≡◌, ℕ, Bool as Truth, true, List, [], ◌∷◌, ◌++◌, Option, Some, None, slice_get, if◌then◌else◌}
 use Rattle.std.specs.Option.{option_map}
 use Rattle.sparse.specs.Map.{set}
 use Rattle.vb_value.specs.Bound.{Unbounded}
@@ -13,7 +13,9 @@ use Rattle.boogie_meaning.specs.Operators.{as_truth}
 use Rattle.boogie_meaning.specs.Value.{map_in}
 use Rattle.boogie_meaning.specs.Quantified.{bvalue, bkey, one_of}
 use Rattle.boogie_formula.specs.Formula as f
-use Rattle.boogie_formula.specs.Formula.{FExpr, FExprs, Formula}
+use Rattle.vb_base.specs.declared.labels.Label.{Label}
+use Rattle.boogie_formula.specs.Formula.{FExpr, FExprs, Formula, Conditions}
+use Rattle.boogie_formula.specs.declared.formulas.Fail.{Fail}
 
 -- ---- the expression of a program that an expression is: each but the update of a map
 
@@ -83,3 +85,23 @@ formula_value f env = then_with (defined f.lets env) (λ all. as_truth (fvalue f
 -- it is true at all values of its variables' types
 pub record Valid (f : Formula) : Type 0 where
   pub holds : (env : List BValue) → IsEnvironment f.vars env → formula_value f env ≡ Is true
+
+-- ---- conditions
+
+-- the truth of what has this name, where the variables have these values
+abbrev pub truth_named : Conditions → List BValue → ℕ → End Truth
+truth_named x env j = then_with (defined x.lets env) (λ all. as_truth (fvalue (f.Var j) all))
+
+-- where the variables have these values, an assertion with this label fails
+pub record FailsIn (x : Conditions) (env : List BValue) (label : Label) : Type 0 where
+  pub number : ℕ
+  pub assertion : Fail
+  pub is_there : slice_get x.fails number ≡ Some assertion
+  pub is_labelled : assertion.label ≡ label
+  pub fails : truth_named x env assertion.name ≡ Is true
+
+-- an assertion with this label fails at some values of the variables' types
+pub record CanFail (x : Conditions) (label : Label) : Type 0 where
+  pub values : List BValue
+  pub are_typed : IsEnvironment x.vars values
+  pub fails : FailsIn x values label

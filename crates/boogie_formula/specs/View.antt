@@ -3,6 +3,7 @@ use Rattle.std.specs.Prelude.{List, [], ◌∷◌, map}
 use Rattle.boogie_tree.specs.Whole.{type_of}
 use Rattle.boogie_formula.specs.Formula as f
 use Rattle.boogie_formula.specs.declared.formulas.FExpr as expr
+use Rattle.boogie_formula.specs.declared.formulas.Conditions.{Conditions}
 use Rattle.boogie_formula.specs.declared.formulas.Formula.{Formula}
 
 abbrev mutual
@@ -40,3 +41,6 @@ fexprs_of (e ∷ es) = f.more (fexpr_of e) (fexprs_of es)
 
 abbrev pub formula_of : Formula → f.Formula
 formula_of x = record { vars = map type_of x.vars.items; lets = map fexpr_of x.lets.items; goal = fexpr_of x.goal }
+
+abbrev pub conditions_of : Conditions → f.Conditions
+conditions_of x = record { vars = map type_of x.vars.items; lets = map fexpr_of x.lets.items; fails = x.fails.items }

@@ -1,5 +1,6 @@
-// Formulas and their expressions.
+// Formulas and conditions, and their expressions.
 use boogie_tree::{BBase, BOp, BType};
+use vb_base::Label;
 
 /// An expression of a formula. A variable or a definition stands by its number: variables come first, from 0 on, and then
 /// definitions.
@@ -52,4 +53,20 @@ pub struct Formula {
     pub vars: Vec<BType>,
     pub lets: Vec<FExpr>,
     pub goal: FExpr,
+}
+
+/// An assertion: its label, and the number of the definition that says that it fails.
+#[derive(Clone, Copy)]
+pub struct Fail {
+    pub label: Label,
+    pub name: usize,
+}
+
+/// The conditions of a procedure: typed variables, definitions, each over the variables and the definitions before it, and its
+/// assertions, in the order of the text.
+#[derive(Drop)]
+pub struct Conditions {
+    pub vars: Vec<BType>,
+    pub lets: Vec<FExpr>,
+    pub fails: Vec<Fail>,
 }

@@ -1,5 +1,5 @@
--- What is built stands for what goes on along all paths: each local's name has its value, and the names of path and failure say whether
--- the run comes here and whether it has failed.
+-- What is built stands for what goes on along all paths: each local's name has its value, the name of the path says whether the run
+-- comes here, and of the assertions with a label one fails where the run has failed there.
 use Rattle.std.proofs.Common.{◌≡◌, ◌+◌, ℕ, Bool as Truth, true, false, not, ◌&&◌, ◌||◌, Option, Some, None, List, [], ◌∷◌, ◌++◌, slice_get, slice_set, length, if◌then◌else◌, nat_eq, refl, sym, ap, subst, ◌∙◌, arith}
 use Rattle.std.proofs.lemmas.Bool.{eqb-true}
 use Rattle.sparse.specs.Map.{Map, set}
@@ -17,23 +17,23 @@ use Rattle.boogie_tree.specs.declared.exprs.BOp.TheVariants as op
 use Rattle.boogie_meaning.specs.Ends.{Is, then_with, found}
 use Rattle.boogie_meaning.specs.Operators.{as_truth}
 use Rattle.boogie_meaning.specs.Quantified.{bvalue, one_of, side}
-use Rattle.boogie_meaning.specs.Renamed.{renamed}
 use Rattle.boogie_meaning.specs.Value.{map_in}
 use Rattle.boogie_meaning.proofs.ValueLaws.{set_typed}
 use Rattle.boogie_meaning.specs.Types.{then_some, is_base, HasType, HaveTypes, SideHasType, IsTyped, skip, first, IsTypedStmt, assign, put as put_, havoc, assume_, assert_, if_, either}
-use Rattle.boogie_meaning.proofs.TypeLaws.{some_same, base_of_complete, put_given}
+use Rattle.boogie_meaning.proofs.TypeLaws.{some_same, put_given}
 use Rattle.boogie_formula.specs.Formula as f
 use Rattle.boogie_formula.specs.Formula.{FExpr}
 use Rattle.boogie_formula.specs.Value.{fvalue, fkey, whole}
 use Rattle.boogie_formula.specs.Types.{one_type, whole_type}
+use Rattle.boogie_formula.specs.declared.formulas.Fail.{Fail}
 use Rattle.boogie_formula.specs.Choices.{own_types, own_types_stmt, slots, slots_stmt}
 use Rattle.boogie_wp.specs.Labels.{same_label}
 use Rattle.boogie_wp.specs.Lifted.{lifted, lifted_all}
-use Rattle.boogie_wp.specs.Build.{Builder, named, fresh, define, store, choose, go_where, failing, fail_unless, Merged, behind, merge, join, back, fork, built_stmt, built}
-use Rattle.boogie_wp.proofs.LiftLaws.{truth_there, side_there, one_type_itself, renamed_value, lifted_value, lifted_key, lifted_type, lifted_types, lifted_whole, lifted_whole_type, plain_lifted, renamed_typed, key_there, value_there, map_there}
+use Rattle.boogie_wp.specs.Build.{Builder, named, fresh, define, store, choose, go_where, failing, check, Merged, behind, merge, join, back, fork, built_stmt, built}
+use Rattle.boogie_wp.proofs.LiftLaws.{truth_there, side_there, one_type_itself, lifted_value, lifted_key, lifted_type, lifted_types, lifted_whole, lifted_whole_type, key_there, value_there, map_there}
 use Rattle.boogie_wp.proofs.Total.{Point, stored, put, held, checked, joined, forked, total_stmt, total}
-use Rattle.boogie_wp.proofs.TotalLaws.{Owns, owns_left, owns_right, owns_first, owns_rest, owns_there, slots_own, slots_own_stmt, bool_there, map_put}
-use Rattle.boogie_wp.proofs.NameLaws.{Kept, kept_more, At, at_kept, Holds, no_names, named_so, holds_typed, holds_value, holds_kind, holds_set, holds_kept, Names, names_more, at_new, Says, Truly, says_var, says_and, says_or, says_not, says_value, says_kind}
+use Rattle.boogie_wp.proofs.TotalLaws.{or_false, Owns, owns_left, owns_right, owns_first, owns_rest, owns_there, slots_own, slots_own_stmt, bool_there, map_put}
+use Rattle.boogie_wp.proofs.NameLaws.{Kept, kept_more, At, at_kept, Holds, no_names, named_so, holds_typed, holds_value, holds_kind, holds_set, holds_kept, Names, names_more, at_new, Says, Truly, Truths, truths_kept, truths_more, fails_among, fails_more, says_var, says_and, says_or, says_not, says_value, says_kind}
 
 abbrev pub bool_type : BType
 bool_type = plain_type base.Bool
@@ -41,13 +41,45 @@ bool_type = plain_type base.Bool
 pub truly_fits : (p : Truth) → IsOfType (One (Bool p)) bool_type
 truly_fits p = one (record { typed = refl; reduced = tt })
 
-module _ (n : ℕ) (ls vars : List BType) (values : List BValue) where
+-- ---- the next variable
+
+module _ (n : ℕ) where
+  mutual
+    pub next_stmt : (x : s.BStmt) (b : Builder) (k : ℕ) → b.next ≡ k → (built_stmt n x b).next ≡ k + slots_stmt x
+    next_stmt (s.Assign i e) b k h = omega (arith, h)
+    next_stmt (s.Put i es e) b k h = omega (arith, h)
+    next_stmt (s.Havoc i) b k h = omega (arith, h)
+    next_stmt (s.Assume e) b k h = omega (arith, h)
+    next_stmt (s.Assert l e) b k h = omega (arith, h)
+    next_stmt (s.If e xs ys) b k h =
+        let x = next_block xs (go_where n (f.Var (fresh n b)) (define (lifted (named b) e) b)) k h in
+        next_block ys (back n (fresh n b) (define (lifted (named b) e) b) (built n xs (go_where n (f.Var (fresh n b)) (define (lifted (named b) e) b)))) (k + slots xs) x ∙ (omega arith)
+    next_stmt (s.Either xs ys) b k h =
+        let c : Builder = record b { next = b.next + 1 } in
+        let next : b.next + 1 ≡ k + 1 = ap (λ z. z + 1) h in
+        let x = next_block xs (go_where n (f.Var b.next) c) (k + 1) next in
+        next_block ys (back n b.next c (built n xs (go_where n (f.Var b.next) c))) (k + 1 + slots xs) x ∙ (omega arith)
+
+    pub next_block : (xs : s.BStmts) (b : Builder) (k : ℕ) → b.next ≡ k → (built n xs b).next ≡ k + slots xs
+    next_block s.skip b k h = omega (arith, h)
+    next_block (s.first x xs) b k h =
+        let y = next_stmt x b k h in
+        next_block xs (built_stmt n x b) (k + slots_stmt x) y ∙ (omega arith)
+
+-- where a condition is false, the assertion fails if it has the label
+pub checked_is : (c t : Truth) (p : Point) → held t (record p { bad = p.bad || (c && (p.path && not t)) }) ≡ (if c then checked t p else held t p)
+checked_is true t p = refl
+checked_is false t p = ap (λ q. record { env = p.env; path = p.path && t; bad = q }) (or_false p.bad)
+
+module _ (n : ℕ) (ls vars : List BType) (values : List BValue) (label : Label) where
   -- where these have values and these types
   pub record Stands (b : Builder) (p : Point) (all : List BValue) (kinds : List BType) : Type 0 where
     pub names : Names n vars values b.lets all kinds
     pub holds : Holds all kinds b.versions p.env ls
     pub path : Truly all kinds b.path p.path
-    pub bad : Truly all kinds b.bad p.bad
+    pub truths : List Truth
+    pub fails : Truths all kinds b.fails truths
+    pub bad : fails_among label b.fails truths ≡ p.bad
     pub given : Kept values all
     pub given_kinds : Kept vars kinds
 
@@ -83,7 +115,9 @@ module _ (n : ℕ) (ls vars : List BType) (values : List BValue) where
             names = names_more h.names e v u is typed;
             holds = holds_kept all kinds (all ++ v ∷ []) (kinds ++ u ∷ []) k l h.holds;
             path = at_kept k l h.path;
-            bad = at_kept k l h.bad;
+            truths = h.truths;
+            fails = truths_kept k l h.fails;
+            bad = h.bad;
             given = λ j x i. k j x (h.given j x i);
             given_kinds = λ j x i. l j x (h.given_kinds j x i);
           }
@@ -98,6 +132,8 @@ module _ (n : ℕ) (ls vars : List BType) (values : List BValue) where
             names = d.names;
             holds = holds_set (all ++ v ∷ []) (kinds ++ u ∷ []) d.holds i u l (fresh n b) v new_there;
             path = d.path;
+            truths = d.truths;
+            fails = d.fails;
             bad = d.bad;
             given = d.given;
             given_kinds = d.given_kinds;
@@ -118,6 +154,8 @@ module _ (n : ℕ) (ls vars : List BType) (values : List BValue) where
       names = h.names;
       holds = subst (λ x. Holds all kinds (slice_set b.versions i b.next) x ls) (sym is_env) (holds_set all kinds h.holds i u l b.next v a);
       path = h.path;
+      truths = h.truths;
+      fails = h.fails;
       bad = h.bad;
       given = h.given;
       given_kinds = h.given_kinds;
@@ -136,6 +174,8 @@ module _ (n : ℕ) (ls vars : List BType) (values : List BValue) where
           names = d.names;
           holds = d.holds;
           path = new_there (f.Bin op.And (f.Var b.path) e) v bool_type is typed (truly_fits (p.path && t));
+          truths = d.truths;
+          fails = d.fails;
           bad = d.bad;
           given = d.given;
           given_kinds = d.given_kinds;
@@ -150,29 +190,33 @@ module _ (n : ℕ) (ls vars : List BType) (values : List BValue) where
       stands = stands_where e t g;
     }
 
-    -- it fails where the path was true and is not
-    fails_step : (before : ℕ) (was : Truth) → Truly all kinds before was → Step all kinds (failing n before b) (record p { bad = p.bad || (was && not p.path) })
-    fails_step before was g =
-        let e = f.Bin op.Or (f.Var b.bad) (f.Bin op.And (f.Var before) (f.Not (f.Var b.path))) in
-        let q = p.bad || (was && not p.path) in
-        let x : Says all kinds e q = says_or (says_var h.bad) (says_and (says_var g) (says_not (says_var h.path))) in
+    -- the assertion fails where the run comes here and the condition is false
+    fails_step : (l : Label) (c : ℕ) (t : Truth) → Truly all kinds c t → Step all kinds (failing n l c b) (record p { bad = p.bad || (same_label l label && (p.path && not t)) })
+    fails_step l c t g =
+        let e = f.Bin op.And (f.Var b.path) (f.Not (f.Var c)) in
+        let q = p.path && not t in
+        let x : Says all kinds e q = says_and (says_var h.path) (says_not (says_var g)) in
         let v = One (Bool q) in
         let is : whole e all ≡ Is v = ap one_of (says_value x) in
         let typed : whole_type kinds e ≡ Some bool_type = ap (λ o. then_some o (λ w. Some (plain_type w))) (says_kind x) in
         let d = stands_define e v bool_type is typed (truly_fits q) in
+        let a : Fail = record { label = l; name = fresh n b } in
         record {
           all = all ++ v ∷ [];
           kinds = kinds ++ bool_type ∷ [];
           kept = kept_more all (v ∷ []);
           kept_kinds = kept_more kinds (bool_type ∷ []);
-          stands = record { names = d.names; holds = d.holds; path = d.path; bad = new_there e v bool_type is typed (truly_fits q); given = d.given; given_kinds = d.given_kinds };
+          stands = record {
+            names = d.names;
+            holds = d.holds;
+            path = d.path;
+            truths = d.truths ++ q ∷ [];
+            fails = truths_more d.fails a q (new_there e v bool_type is typed (truly_fits q));
+            bad = fails_more label d.fails a q ∙ ap (λ z. z || (same_label l label && q)) d.bad;
+            given = d.given;
+            given_kinds = d.given_kinds;
+          };
         }
-
-  unless_step : {b : Builder} {p : Point} {all : List BValue} {kinds : List BType} → Stands b p all kinds → (e : FExpr) (t : Truth) → Says all kinds e t →
-      Step all kinds (fail_unless n e b) (checked t p)
-  unless_step {b} h e t g =
-      let x = where_step h e t g in
-      two_steps x (fails_step x.stands b.path _ (at_kept x.kept x.kept_kinds h.path))
 
   -- ---- two branches
 
@@ -300,7 +344,9 @@ module _ (n : ℕ) (ls vars : List BType) (values : List BValue) where
           names = m.names;
           holds = m.holds;
           path = at_kept m.kept m.kept_kinds name;
-          bad = at_kept (λ j a i. m.kept j a (k j a i)) (λ j a i. m.kept_kinds j a (l j a i)) h.bad;
+          truths = h.truths;
+          fails = truths_kept (λ j a i. m.kept j a (k j a i)) (λ j a i. m.kept_kinds j a (l j a i)) h.fails;
+          bad = h.bad;
           given = λ j a i. m.kept j a (k j a (h.given j a i));
           given_kinds = λ j a i. m.kept_kinds j a (l j a (h.given_kinds j a i));
         };
@@ -321,6 +367,8 @@ module _ (n : ℕ) (ls vars : List BType) (values : List BValue) where
         names = x.stands.names;
         holds = holds_kept all kinds wx.all wx.kinds wx.kept wx.kept_kinds h.holds;
         path = at_kept wx.kept wx.kept_kinds h.path;
+        truths = x.stands.truths;
+        fails = x.stands.fails;
         bad = x.stands.bad;
         given = x.stands.given;
         given_kinds = x.stands.given_kinds;
@@ -338,11 +386,6 @@ module _ (n : ℕ) (ls vars : List BType) (values : List BValue) where
   many_there (Some (One v)) m h = absurd (cc)
   many_there None m h = absurd (cc)
 
-  if_step : (c : Truth) {all : List BValue} {kinds : List BType} (x y : Builder) (p q : Point) → Step all kinds x p → Step all kinds y q →
-      Step all kinds (if c then x else y) (if c then p else q)
-  if_step true x y p q h g = h
-  if_step false x y p q h g = g
-
   module _ {b : Builder} {p : Point} {all : List BValue} {kinds : List BType} (h : Stands b p all kinds) where
     is_env : IsEnvironment ls p.env
     is_env = holds_typed all kinds h.holds
@@ -353,18 +396,38 @@ module _ (n : ℕ) (ls vars : List BType) (values : List BValue) where
     types : (i : ℕ) (u : BType) → slice_get ls i ≡ Some u → slice_get kinds (named b i) ≡ Some u
     types = holds_kind all kinds h.holds
 
-    says_lifted : (e : t.BExpr) → HasType ls None e base.Bool → (p' : Truth) × (bvalue Unbounded e p.env ≡ Is (Bool p')) × Says all kinds (lifted (named b) e) p'
-    says_lifted e w =
-        let v = truth_there ls p.env is_env e w in (
-          v.0,
-          v.1,
-          record {
-            tree = renamed (named b) e;
-            is_plain = plain_lifted (named b) e;
-            value = renamed_value ls kinds p.env all (named b) types same e base.Bool w ∙ v.1;
-            typed = base_of_complete (renamed_typed ls kinds (named b) types w);
-          },
-        )
+    -- a condition that has a name
+    record Named (e : t.BExpr) : Type 0 where
+      truth : Truth
+      is : bvalue Unbounded e p.env ≡ Is (Bool truth)
+      step : Step all kinds (define (lifted (named b) e) b) p
+      name : Truly step.all step.kinds (fresh n b) truth
+
+    condition : (e : t.BExpr) → HasType ls None e base.Bool → Named e
+    condition e x =
+        let v = truth_there ls p.env is_env e x in
+        let is = lifted_whole ls kinds p.env all (named b) types same e base.Bool x (Bool v.0) v.1 in
+        let typed = lifted_whole_type ls kinds p.env all (named b) types same e base.Bool x in
+        record {
+          truth = v.0;
+          is = v.1;
+          step = record {
+            all = all ++ One (Bool v.0) ∷ [];
+            kinds = kinds ++ bool_type ∷ [];
+            kept = kept_more all (One (Bool v.0) ∷ []);
+            kept_kinds = kept_more kinds (bool_type ∷ []);
+            stands = stands_define h (lifted (named b) e) (One (Bool v.0)) bool_type is typed (truly_fits v.0);
+          };
+          name = new_there h (lifted (named b) e) (One (Bool v.0)) bool_type is typed (truly_fits v.0);
+        }
+
+    check_step : (l : Label) (e : t.BExpr) (x : HasType ls None e base.Bool) → let c = condition e x in
+        Step all kinds (check n l (lifted (named b) e) b) (if same_label l label then checked c.truth p else held c.truth p)
+    check_step l e x =
+        let c = condition e x in
+        let a = fails_step c.step.stands l (fresh n b) c.truth c.name in
+        let w = where_step a.stands (f.Var (fresh n b)) c.truth (says_var (at_kept a.kept a.kept_kinds c.name)) in
+        subst (λ q. Step all kinds (check n l (lifted (named b) e) b) q) (checked_is (same_label l label) c.truth p) (two_steps c.step (two_steps a w))
 
     put_step : (i : ℕ) (es : t.BExprs) (e : t.BExpr) (u : BBase) (us : List BBase) (w : BBase) → slice_get ls i ≡ Some (map_type u us w) → HaveTypes ls None es (u ∷ us) → HasType ls None e w →
         Step all kinds (store n i (f.With (f.Var (named b i)) (lifted_all (named b) es) (lifted (named b) e)) b) (record p { env = stored i p.env (put i es e p.env) })
@@ -398,75 +461,47 @@ module _ (n : ℕ) (ls vars : List BType) (values : List BValue) where
   -- ---- statements
 
   mutual
-    pub next_stmt : (label : Label) (x : s.BStmt) (b : Builder) (k : ℕ) → b.next ≡ k → (built_stmt n label x b).next ≡ k + slots_stmt x
-    next_stmt label (s.Assign i e) b k h = omega (arith, h)
-    next_stmt label (s.Put i es e) b k h = omega (arith, h)
-    next_stmt label (s.Havoc i) b k h = omega (arith, h)
-    next_stmt label (s.Assume e) b k h = omega (arith, h)
-    next_stmt label (s.Assert l e) b k h = if_next (same_label l label) (fail_unless n (lifted (named b) e) b) (go_where n (lifted (named b) e) b) (omega (arith, h)) (omega (arith, h))
-      where
-        if_next : (c : Truth) (x y : Builder) → x.next ≡ k + 0 → y.next ≡ k + 0 → (if c then x else y).next ≡ k + 0
-        if_next true x y p q = p
-        if_next false x y p q = q
-    next_stmt label (s.If e xs ys) b k h =
-        let x = next_block label xs (go_where n (f.Var (fresh n b)) (define (lifted (named b) e) b)) k h in
-        next_block label ys (back n (fresh n b) (define (lifted (named b) e) b) (built n label xs (go_where n (f.Var (fresh n b)) (define (lifted (named b) e) b)))) (k + slots xs) x ∙ (omega arith)
-    next_stmt label (s.Either xs ys) b k h =
-        let c : Builder = record b { next = b.next + 1 } in
-        let next : b.next + 1 ≡ k + 1 = ap (λ z. z + 1) h in
-        let x = next_block label xs (go_where n (f.Var b.next) c) (k + 1) next in
-        next_block label ys (back n b.next c (built n label xs (go_where n (f.Var b.next) c))) (k + 1 + slots xs) x ∙ (omega arith)
+    stmt_step : {x : s.BStmt} → IsTypedStmt ls x → (k : ℕ) → Owns vars values k (own_types_stmt ls x) → Builds (λ b. built_stmt n x b) (λ p. total_stmt label values x k p) k
+    stmt_step (assign {i = i} {e = e} {u = u} l x) k o b p all kinds next h = assign_step h i e u l x
+    stmt_step (put_ {i = i} {es = es} {e = e} {u = u} {us = us} {w = w} l ks x) k o b p all kinds next h = put_step h i es e u us w l ks x
+    stmt_step (havoc {i = i} {u = u} l) k o b p all kinds next h = let v = owns_there ls i u l o in havoc_step h i u k l next v.0 v.1 v.2 v.3
+    stmt_step (assume_ {e = e} x) k o b p all kinds next h =
+        let c = condition h e x in
+        rw (c.is) (two_steps c.step (where_step c.step.stands (f.Var (fresh n b)) c.truth (says_var c.name)))
+    stmt_step (assert_ {l = l} {e = e} x) k o b p all kinds next h =
+        let c = condition h e x in
+        rw (c.is) (check_step h l e x)
+    stmt_step (if_ {e = e} {xs = xs} {ys = ys} x a c) k o b p all kinds next h =
+        let v = condition h e x in
+        rw (v.is) (two_steps v.step
+        (fork_step (fresh n b) v.truth (λ z. built n xs z) (λ z. built n ys z) (λ q. total label values xs k q) (λ q. total label values ys (k + slots xs) q) k (k + slots xs)
+        (block_step a k (owns_left (own_types ls xs) (own_types ls ys) o)) (λ z. next_block n xs z k)
+        (block_step c (k + slots xs) (owns_right (own_types ls xs) (own_types ls ys) (slots xs) (slots_own a) o))
+        (define (lifted (named b) e) b) p v.step.all v.step.kinds v.name next v.step.stands))
+    stmt_step (either {xs = xs} {ys = ys} a c) k o b p all kinds next h =
+        let w = owns_first (plain_type base.Bool) (own_types ls xs ++ own_types ls ys) o in
+        let v = bool_there w.0 (plain_type base.Bool) w.2 refl in
+        let r = owns_rest (plain_type base.Bool) (own_types ls xs ++ own_types ls ys) o in
+        let is : slice_get values k ≡ Some (One (Bool v.0)) = w.1 ∙ ap Some v.1 in
+        let name : Truly all kinds b.next v.0 = record { value = ap (slice_get all) next ∙ h.given k (One (Bool v.0)) is; kind = ap (slice_get kinds) next ∙ h.given_kinds k bool_type w.3; fits = truly_fits v.0 } in
+        let d : Stands (record b { next = b.next + 1 }) p all kinds = record {
+          names = h.names;
+          holds = h.holds;
+          path = h.path;
+          truths = h.truths;
+          fails = h.fails;
+          bad = h.bad;
+          given = h.given;
+          given_kinds = h.given_kinds;
+        } in
+        rw (is) (fork_step b.next v.0 (λ z. built n xs z) (λ z. built n ys z) (λ q. total label values xs (k + 1) q) (λ q. total label values ys (k + 1 + slots xs) q) (k + 1) (k + 1 + slots xs)
+        (block_step a (k + 1) (owns_left (own_types ls xs) (own_types ls ys) r)) (λ z. next_block n xs z (k + 1))
+        (block_step c (k + 1 + slots xs) (owns_right (own_types ls xs) (own_types ls ys) (slots xs) (slots_own a) r))
+        (record b { next = b.next + 1 }) p all kinds name (ap (λ z. z + 1) next) d)
 
-    pub next_block : (label : Label) (xs : s.BStmts) (b : Builder) (k : ℕ) → b.next ≡ k → (built n label xs b).next ≡ k + slots xs
-    next_block label s.skip b k h = omega (arith, h)
-    next_block label (s.first x xs) b k h =
-        let y = next_stmt label x b k h in
-        next_block label xs (built_stmt n label x b) (k + slots_stmt x) y ∙ (omega arith)
-
-  module _ (label : Label) where
-    mutual
-      stmt_step : {x : s.BStmt} → IsTypedStmt ls x → (k : ℕ) → Owns vars values k (own_types_stmt ls x) → Builds (λ b. built_stmt n label x b) (λ p. total_stmt label values x k p) k
-      stmt_step (assign {i = i} {e = e} {u = u} l x) k o b p all kinds next h = assign_step h i e u l x
-      stmt_step (put_ {i = i} {es = es} {e = e} {u = u} {us = us} {w = w} l ks x) k o b p all kinds next h = put_step h i es e u us w l ks x
-      stmt_step (havoc {i = i} {u = u} l) k o b p all kinds next h = let v = owns_there ls i u l o in havoc_step h i u k l next v.0 v.1 v.2 v.3
-      stmt_step (assume_ {e = e} x) k o b p all kinds next h =
-          let v = says_lifted h e x in
-          rw (v.1) (where_step h (lifted (named b) e) v.0 v.2)
-      stmt_step (assert_ {l = l} {e = e} x) k o b p all kinds next h =
-          let v = says_lifted h e x in
-          rw (v.1) (if_step (same_label l label) _ _ _ _ (unless_step h (lifted (named b) e) v.0 v.2) (where_step h (lifted (named b) e) v.0 v.2))
-      stmt_step (if_ {e = e} {xs = xs} {ys = ys} x a c) k o b p all kinds next h =
-          let v = says_lifted h e x in
-          let is = lifted_whole ls kinds p.env all (named b) (types h) (same h) e base.Bool x (Bool v.0) v.1 in
-          let typed = lifted_whole_type ls kinds p.env all (named b) (types h) (same h) e base.Bool x in
-          let d = stands_define h (lifted (named b) e) (One (Bool v.0)) bool_type is typed (truly_fits v.0) in
-          let name = new_there h (lifted (named b) e) (One (Bool v.0)) bool_type is typed (truly_fits v.0) in
-          rw (v.1) (two_steps (record {
-            all = all ++ One (Bool v.0) ∷ [];
-            kinds = kinds ++ bool_type ∷ [];
-            kept = kept_more all (One (Bool v.0) ∷ []);
-            kept_kinds = kept_more kinds (bool_type ∷ []);
-            stands = d;
-          })
-          (fork_step (fresh n b) v.0 (λ z. built n label xs z) (λ z. built n label ys z) (λ q. total label values xs k q) (λ q. total label values ys (k + slots xs) q) k (k + slots xs)
-          (block_step a k (owns_left (own_types ls xs) (own_types ls ys) o)) (λ z. next_block label xs z k)
-          (block_step c (k + slots xs) (owns_right (own_types ls xs) (own_types ls ys) (slots xs) (slots_own a) o))
-          (define (lifted (named b) e) b) p (all ++ One (Bool v.0) ∷ []) (kinds ++ bool_type ∷ []) name next d))
-      stmt_step (either {xs = xs} {ys = ys} a c) k o b p all kinds next h =
-          let w = owns_first (plain_type base.Bool) (own_types ls xs ++ own_types ls ys) o in
-          let v = bool_there w.0 (plain_type base.Bool) w.2 refl in
-          let r = owns_rest (plain_type base.Bool) (own_types ls xs ++ own_types ls ys) o in
-          let is : slice_get values k ≡ Some (One (Bool v.0)) = w.1 ∙ ap Some v.1 in
-          let name : Truly all kinds b.next v.0 = record { value = ap (slice_get all) next ∙ h.given k (One (Bool v.0)) is; kind = ap (slice_get kinds) next ∙ h.given_kinds k bool_type w.3; fits = truly_fits v.0 } in
-          let d : Stands (record b { next = b.next + 1 }) p all kinds = record { names = h.names; holds = h.holds; path = h.path; bad = h.bad; given = h.given; given_kinds = h.given_kinds } in
-          rw (is) (fork_step b.next v.0 (λ z. built n label xs z) (λ z. built n label ys z) (λ q. total label values xs (k + 1) q) (λ q. total label values ys (k + 1 + slots xs) q) (k + 1) (k + 1 + slots xs)
-          (block_step a (k + 1) (owns_left (own_types ls xs) (own_types ls ys) r)) (λ z. next_block label xs z (k + 1))
-          (block_step c (k + 1 + slots xs) (owns_right (own_types ls xs) (own_types ls ys) (slots xs) (slots_own a) r))
-          (record b { next = b.next + 1 }) p all kinds name (ap (λ z. z + 1) next) d)
-
-      pub block_step : {xs : s.BStmts} → IsTyped ls xs → (k : ℕ) → Owns vars values k (own_types ls xs) → Builds (λ b. built n label xs b) (λ p. total label values xs k p) k
-      block_step skip k o b p all kinds next h = no_step h
-      block_step (first {x = x} {xs = xs} a c) k o b p all kinds next h =
-          let y = stmt_step a k (owns_left (own_types_stmt ls x) (own_types ls xs) o) b p all kinds next h in
-          two_steps y (block_step c (k + slots_stmt x) (owns_right (own_types_stmt ls x) (own_types ls xs) (slots_stmt x) (slots_own_stmt a) o) (built_stmt n label x b)
-          (total_stmt label values x k p) y.all y.kinds (next_stmt label x b k next) y.stands)
+    pub block_step : {xs : s.BStmts} → IsTyped ls xs → (k : ℕ) → Owns vars values k (own_types ls xs) → Builds (λ b. built n xs b) (λ p. total label values xs k p) k
+    block_step skip k o b p all kinds next h = no_step h
+    block_step (first {x = x} {xs = xs} a c) k o b p all kinds next h =
+        let y = stmt_step a k (owns_left (own_types_stmt ls x) (own_types ls xs) o) b p all kinds next h in
+        two_steps y (block_step c (k + slots_stmt x) (owns_right (own_types_stmt ls x) (own_types ls xs) (slots_stmt x) (slots_own_stmt a) o) (built_stmt n x b)
+        (total_stmt label values x k p) y.all y.kinds (next_stmt n x b k next) y.stands)

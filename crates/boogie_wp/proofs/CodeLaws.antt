@@ -1,5 +1,5 @@
 -- What the code's steps say, over plain variables.
-use Rattle.std.proofs.Common.{◌≡◌, ◌∙◌, ◌≤◌, ◌<◌, ◌+◌, ℕ, zero, suc, true, false, Some, None, List, [], ◌∷◌, ◌++◌, map, take, drop, get_or, slice_get, length, Vec, Box, refl, sym, ap, arith, append_assoc, append-nil, drop_of_length-le}
+use Rattle.std.proofs.Common.{◌≡◌, ◌∙◌, ◌≤◌, ◌<◌, ◌+◌, ℕ, zero, suc, true, Some, None, List, [], ◌∷◌, ◌++◌, map, take, drop, get_or, slice_get, length, Vec, Box, refl, sym, ap, arith, append_assoc, append-nil, drop_of_length-le}
 use Rattle.std.proofs.Math.Numerals.{add-one}
 use Rattle.std.proofs.lemmas.List.{take_all}
 use Rattle.std.specs.declared.alloc.Global.{Global}
@@ -18,11 +18,12 @@ use Rattle.boogie_formula.specs.Formula as f
 use Rattle.boogie_formula.specs.Formula.{fexprs}
 use Rattle.boogie_formula.specs.View.{fexpr_of, fexprs_of}
 use Rattle.boogie_formula.specs.declared.formulas.FExpr as fexpr
+use Rattle.boogie_formula.specs.declared.formulas.Fail.{Fail}
 use Rattle.boogie_formula.proofs.ViewLaws.{fexpr_of-At, fexprs_of-map, fexpr_of-With}
 use Rattle.boogie_formula.specs.Choices.{slots, slots_stmt, own_types, own_types_stmt}
 use Rattle.boogie_wp.proofs.BuildLaws.{next_stmt, next_block}
 use Rattle.boogie_formula.specs.Formula.{FExpr}
-use Rattle.boogie_wp.specs.Build.{Builder, fresh, go_where, join, back, fork, built, built_stmt, define, named, numbers, started}
+use Rattle.boogie_wp.specs.Build.{Builder, fresh, go_where, join, back, fork, built, built_stmt, define, named, numbers, started, Chain, linked, chained}
 use Rattle.boogie_wp.specs.View.{types_in}
 use Rattle.boogie_wp.specs.Lifted.{lifted, lifted_all}
 
@@ -89,21 +90,21 @@ room_first n old new more x xs ys is room same = omega (arith, is, room, same)
 pub room_second : (n old mid new more : ℕ) (x : s.BStmt) (xs ys : s.BStmts) → slots_stmt x ≡ more + (slots xs + slots ys) → old + slots_stmt x ≤ n → mid ≡ old + more → new ≡ mid + slots xs → new + slots ys ≤ n
 room_second n old mid new more x xs ys is room same next = omega (arith, is, room, same, next)
 
-module _ (n : ℕ) (label : Label) where
+module _ (n : ℕ) where
   pub fork_made : (c : ℕ) (xs ys : s.BStmts) (b1 b2 b3 b4 b5 b6 : Builder) (starts firsts : List ℕ) (start first : ℕ) → b2 ≡ go_where n (f.Var c) b1 → starts ≡ b1.versions → start ≡ b1.path →
-      b3 ≡ built n label xs b2 → firsts ≡ b3.versions → first ≡ b3.path → b4 ≡ go_where n (f.Not (f.Var c)) (record b3 { versions = starts; path = start }) → b5 ≡ built n label ys b4 →
-      b6 ≡ join n c firsts first b5 → b6 ≡ fork n c (λ z. built n label xs z) (λ z. built n label ys z) b1
+      b3 ≡ built n xs b2 → firsts ≡ b3.versions → first ≡ b3.path → b4 ≡ go_where n (f.Not (f.Var c)) (record b3 { versions = starts; path = start }) → b5 ≡ built n ys b4 →
+      b6 ≡ join n c firsts first b5 → b6 ≡ fork n c (λ z. built n xs z) (λ z. built n ys z) b1
   fork_made c xs ys b1 b2 b3 b4 b5 b6 starts firsts start first e2 v1 p1 e3 v3 p3 e4 e5 e6 =
       e6
       ∙ (λ i. join n c (v3 i) (p3 i) (e5 i))
-      ∙ ap (λ z. join n c b3.versions b3.path (built n label ys z)) e4
-      ∙ (λ i. join n c b3.versions b3.path (built n label ys (go_where n (f.Not (f.Var c)) (record b3 { versions = v1 i; path = p1 i }))))
-      ∙ ap (λ z. join n c z.versions z.path (built n label ys (back n c b1 z))) e3
-      ∙ ap (λ z. let x = built n label xs z in join n c x.versions x.path (built n label ys (back n c b1 x))) e2
+      ∙ ap (λ z. join n c b3.versions b3.path (built n ys z)) e4
+      ∙ (λ i. join n c b3.versions b3.path (built n ys (go_where n (f.Not (f.Var c)) (record b3 { versions = v1 i; path = p1 i }))))
+      ∙ ap (λ z. join n c z.versions z.path (built n ys (back n c b1 z))) e3
+      ∙ ap (λ z. let x = built n xs z in join n c x.versions x.path (built n ys (back n c b1 x))) e2
 
   -- what is left of a block makes of the builder what all makes of the first one, and there is room for it
   pub record Left (stmts : List stmt.BStmt) (i : ℕ) (before b : Builder) : Type 0 where
-    pub same : built n label (stmts_of (drop i stmts)) b ≡ built n label (stmts_of stmts) before
+    pub same : built n (stmts_of (drop i stmts)) b ≡ built n (stmts_of stmts) before
     pub room : b.next + slots (stmts_of (drop i stmts)) ≤ n
 
   pub left_first : (stmts : List stmt.BStmt) (b : Builder) → b.next + slots (stmts_of stmts) ≤ n → Left stmts 0 b b
@@ -115,44 +116,44 @@ module _ (n : ℕ) (label : Label) where
         let e : slots (stmts_of (drop i stmts)) ≡ slots_stmt (stmt_of x) + slots (stmts_of (drop (i + 1) stmts)) = ap (λ xs. slots (stmts_of xs)) (next_item stmts i x lt is) in
         omega (arith, e, left.room)
 
-    pub left_next : (x : stmt.BStmt) → i < length stmts → x ≡ get_or stmts i x → (new : Builder) → new ≡ built_stmt n label (stmt_of x) b → Left stmts (i + 1) before new
+    pub left_next : (x : stmt.BStmt) → i < length stmts → x ≡ get_or stmts i x → (new : Builder) → new ≡ built_stmt n (stmt_of x) b → Left stmts (i + 1) before new
     left_next x lt is new made =
         let at = next_item stmts i x lt is in
         let e : slots (stmts_of (drop i stmts)) ≡ slots_stmt (stmt_of x) + slots (stmts_of (drop (i + 1) stmts)) = ap (λ xs. slots (stmts_of xs)) at in
-        let next : new.next ≡ b.next + slots_stmt (stmt_of x) = ap (λ (z : Builder). z.next) made ∙ next_stmt n [] [] [] label (stmt_of x) b b.next refl in
+        let next : new.next ≡ b.next + slots_stmt (stmt_of x) = ap (λ (z : Builder). z.next) made ∙ next_stmt n (stmt_of x) b b.next refl in
         record {
-          same = ap (λ z. built n label (stmts_of (drop (i + 1) stmts)) z) made ∙ ap (λ xs. built n label (stmts_of xs) b) (sym at) ∙ left.same;
+          same = ap (λ z. built n (stmts_of (drop (i + 1) stmts)) z) made ∙ ap (λ xs. built n (stmts_of xs) b) (sym at) ∙ left.same;
           room = omega (arith, e, next, left.room);
         }
 
-    pub left_last : length stmts ≤ i → b ≡ built n label (stmts_of stmts) before
-    left_last h = ap (λ xs. built n label (stmts_of xs) b) (sym (none_left stmts i h)) ∙ left.same
+    pub left_last : length stmts ≤ i → b ≡ built n (stmts_of stmts) before
+    left_last h = ap (λ xs. built n (stmts_of xs) b) (sym (none_left stmts i h)) ∙ left.same
 
 pub zero_more : (k m : ℕ) → k ≡ m → k ≡ m + 0
 zero_more k m e = omega (arith, e)
 
 -- the statement is an `if`
-module _ (n : ℕ) (label : Label) (e : expr.BExpr) (a o : Vec stmt.BStmt Global) (x : stmt.BStmt) (xs ys : List stmt.BStmt) (is : x ≡ stmt.If e a o) (first : xs ≡ a.items) (second : ys ≡ o.items) where
+module _ (n : ℕ) (e : expr.BExpr) (a o : Vec stmt.BStmt Global) (x : stmt.BStmt) (xs ys : List stmt.BStmt) (is : x ≡ stmt.If e a o) (first : xs ≡ a.items) (second : ys ≡ o.items) where
   if_slots : slots_stmt (stmt_of x) ≡ 0 + (slots (stmts_of xs) + slots (stmts_of ys))
   if_slots = let same = ap slots_stmt (if_is e a o x xs ys is first second) in omega (arith, same)
 
   pub if_room_first : (old b1 b2 : Builder) → old.next + slots_stmt (stmt_of x) ≤ n → b1.next ≡ old.next → b2.next ≡ b1.next → b2.next + slots (stmts_of xs) ≤ n
   if_room_first old b1 b2 room e1 e2 = room_first n old.next b2.next 0 (stmt_of x) (stmts_of xs) (stmts_of ys) if_slots room (omega (arith, e1, e2))
 
-  pub if_room_second : (old b1 b2 b3 b4 : Builder) → old.next + slots_stmt (stmt_of x) ≤ n → b1.next ≡ old.next → b2.next ≡ b1.next → b3 ≡ built n label (stmts_of xs) b2 → b4.next ≡ b3.next →
+  pub if_room_second : (old b1 b2 b3 b4 : Builder) → old.next + slots_stmt (stmt_of x) ≤ n → b1.next ≡ old.next → b2.next ≡ b1.next → b3 ≡ built n (stmts_of xs) b2 → b4.next ≡ b3.next →
       b4.next + slots (stmts_of ys) ≤ n
   if_room_second old b1 b2 b3 b4 room e1 e2 e3 e4 =
-      let grown = ap (λ (z : Builder). z.next) e3 ∙ next_block n [] [] [] label (stmts_of xs) b2 b2.next refl in
+      let grown = ap (λ (z : Builder). z.next) e3 ∙ next_block n (stmts_of xs) b2 b2.next refl in
       room_second n old.next b2.next b4.next 0 (stmt_of x) (stmts_of xs) (stmts_of ys) if_slots room (omega (arith, e1, e2)) (e4 ∙ grown)
 
   pub if_made : (b0 b1 new : Builder) (c : ℕ) → c ≡ fresh n b0 → b1 ≡ define (lifted (named b0) (expr_of e)) b0 →
-      new ≡ fork n c (λ z. built n label (stmts_of xs) z) (λ z. built n label (stmts_of ys) z) b1 → new ≡ built_stmt n label (stmt_of x) b0
+      new ≡ fork n c (λ z. built n (stmts_of xs) z) (λ z. built n (stmts_of ys) z) b1 → new ≡ built_stmt n (stmt_of x) b0
   if_made b0 b1 new c name goes made =
-      made ∙ (λ i. fork n (name i) (λ z. built n label (stmts_of xs) z) (λ z. built n label (stmts_of ys) z) (goes i))
-      ∙ ap (λ z. built_stmt n label z b0) (sym (if_is e a o x xs ys is first second))
+      made ∙ (λ i. fork n (name i) (λ z. built n (stmts_of xs) z) (λ z. built n (stmts_of ys) z) (goes i))
+      ∙ ap (λ z. built_stmt n z b0) (sym (if_is e a o x xs ys is first second))
 
 -- the statement is an `if (*)`
-module _ (n : ℕ) (label : Label) (a o : Vec stmt.BStmt Global) (x : stmt.BStmt) (xs ys : List stmt.BStmt) (is : x ≡ stmt.Either a o) (first : xs ≡ a.items) (second : ys ≡ o.items) where
+module _ (n : ℕ) (a o : Vec stmt.BStmt Global) (x : stmt.BStmt) (xs ys : List stmt.BStmt) (is : x ≡ stmt.Either a o) (first : xs ≡ a.items) (second : ys ≡ o.items) where
   either_slots : slots_stmt (stmt_of x) ≡ 1 + (slots (stmts_of xs) + slots (stmts_of ys))
   either_slots = ap slots_stmt (either_is a o x xs ys is first second)
 
@@ -162,17 +163,31 @@ module _ (n : ℕ) (label : Label) (a o : Vec stmt.BStmt Global) (x : stmt.BStmt
   pub either_room_first : (old b1 b2 : Builder) → old.next + slots_stmt (stmt_of x) ≤ n → b1.next ≡ old.next + 1 → b2.next ≡ b1.next → b2.next + slots (stmts_of xs) ≤ n
   either_room_first old b1 b2 room e1 e2 = room_first n old.next b2.next 1 (stmt_of x) (stmts_of xs) (stmts_of ys) either_slots room (e2 ∙ e1)
 
-  pub either_room_second : (old b1 b2 b3 b4 : Builder) → old.next + slots_stmt (stmt_of x) ≤ n → b1.next ≡ old.next + 1 → b2.next ≡ b1.next → b3 ≡ built n label (stmts_of xs) b2 → b4.next ≡ b3.next →
+  pub either_room_second : (old b1 b2 b3 b4 : Builder) → old.next + slots_stmt (stmt_of x) ≤ n → b1.next ≡ old.next + 1 → b2.next ≡ b1.next → b3 ≡ built n (stmts_of xs) b2 → b4.next ≡ b3.next →
       b4.next + slots (stmts_of ys) ≤ n
   either_room_second old b1 b2 b3 b4 room e1 e2 e3 e4 =
-      let grown = ap (λ (z : Builder). z.next) e3 ∙ next_block n [] [] [] label (stmts_of xs) b2 b2.next refl in
+      let grown = ap (λ (z : Builder). z.next) e3 ∙ next_block n (stmts_of xs) b2 b2.next refl in
       room_second n old.next b2.next b4.next 1 (stmt_of x) (stmts_of xs) (stmts_of ys) either_slots room (e2 ∙ e1) (e4 ∙ grown)
 
   pub either_made : (b0 b1 new : Builder) (c : ℕ) → c ≡ b0.next → b1 ≡ record b0 { next = b0.next + 1 } →
-      new ≡ fork n c (λ z. built n label (stmts_of xs) z) (λ z. built n label (stmts_of ys) z) b1 → new ≡ built_stmt n label (stmt_of x) b0
+      new ≡ fork n c (λ z. built n (stmts_of xs) z) (λ z. built n (stmts_of ys) z) b1 → new ≡ built_stmt n (stmt_of x) b0
   either_made b0 b1 new c name goes made =
-      made ∙ (λ i. fork n (name i) (λ z. built n label (stmts_of xs) z) (λ z. built n label (stmts_of ys) z) (goes i))
-      ∙ ap (λ z. built_stmt n label z b0) (sym (either_is a o x xs ys is first second))
+      made ∙ (λ i. fork n (name i) (λ z. built n (stmts_of xs) z) (λ z. built n (stmts_of ys) z) (goes i))
+      ∙ ap (λ z. built_stmt n z b0) (sym (either_is a o x xs ys is first second))
+
+-- ---- a chain
+
+module _ (n : ℕ) (label : Label) where
+  -- what is left of the assertions makes of the chain what all make of the first one
+  abbrev pub Unlinked : List Fail → ℕ → Chain → Chain → Type 0
+  Unlinked fails i before c = chained n label (drop i fails) c ≡ chained n label fails before
+
+  pub linked_next : (fails : List Fail) (i : ℕ) (a : Fail) (before c new : Chain) → i < length fails → a ≡ get_or fails i a → new ≡ linked n label a c → Unlinked fails i before c → Unlinked fails (i + 1) before new
+  linked_next fails i a before c new lt is made same =
+      ap (λ z. chained n label (drop (i + 1) fails) z) made ∙ ap (λ xs. chained n label xs c) (sym (next_item fails i a lt is)) ∙ same
+
+  pub linked_last : (fails : List Fail) (i : ℕ) (before c : Chain) → length fails ≤ i → Unlinked fails i before c → c ≡ chained n label fails before
+  linked_last fails i before c h same = ap (λ xs. chained n label xs c) (sym (none_left fails i h)) ∙ same
 
 -- ---- variables
 
@@ -235,13 +250,13 @@ length_in : (ls : List Local) → length (types_in ls) ≡ length ls
 length_in [] = refl
 length_in (l ∷ ls) = ap suc (length_in ls)
 
-pub started_is : (n : ℕ) (ls : List Local) (lets : List fexpr.FExpr) (versions : List ℕ) (vars : List p.BType) → length vars ≡ n → lets ≡ [] → versions ≡ numbers 0 ls →
-    define (f.Bool false) (define (f.Bool true) (record { lets = map fexpr_of lets; versions = versions; path = n; bad = n + 1; next = length ls })) ≡ started vars (types_in ls)
-started_is n ls lets versions vars long none names =
+pub started_is : (n : ℕ) (ls : List Local) (lets : List fexpr.FExpr) (versions : List ℕ) (fails : List Fail) (vars : List p.BType) → length vars ≡ n → lets ≡ [] → versions ≡ numbers 0 ls → fails ≡ [] →
+    define (f.Bool true) (record { lets = map fexpr_of lets; versions = versions; path = n; fails = fails; next = length ls }) ≡ started vars (types_in ls)
+started_is n ls lets versions fails vars long none names no_fails =
     let versions_is = names ∙ sym (numbers_in 0 ls) in
     let path_is = sym long in
     let next_is = sym (length_in ls) in
-    λ i. record { lets = (map fexpr_of (none i) ++ f.Bool true ∷ []) ++ f.Bool false ∷ []; versions = versions_is i; path = path_is i; bad = path_is i + 1; next = next_is i }
+    λ i. record { lets = map fexpr_of (none i) ++ f.Bool true ∷ []; versions = versions_is i; path = path_is i; fails = no_fails i; next = next_is i }
 
 pub types_next : (ls : List Local) (i : ℕ) (l : Local) (all old new : List p.BType) → i < length ls → l ≡ get_or ls i l → new ≡ old ++ type_of l.ty ∷ [] → old ++ types_in (drop i ls) ≡ all →
     new ++ types_in (drop (i + 1) ls) ≡ all

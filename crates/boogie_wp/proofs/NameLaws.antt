@@ -1,6 +1,8 @@
--- Definitions, one after the other: what each names has its value and its type, and keeps them while others are added.
+-- Definitions, one after the other: what each names has its value and its type, and keeps them while others are added. So do those
+-- that say that an assertion fails.
 use Rattle.std.proofs.Common.{◌≡◌, ◌+◌, ℕ, zero, suc, Bool as Truth, true, false, not, ◌&&◌, ◌||◌, Option, Some, None, List, [], ◌∷◌, ◌++◌, slice_get, slice_set, length, length-append, refl, sym, ap, subst, ◌∙◌, arith}
 use Rattle.std.specs.Option.{option_map}
+use Rattle.vb_base.specs.declared.labels.Label.{Label}
 use Rattle.vb_value.specs.Bound.{Unbounded}
 use Rattle.boogie_tree.specs.Expr as t
 use Rattle.boogie_tree.specs.Program.{BType}
@@ -17,8 +19,11 @@ use Rattle.boogie_formula.specs.Formula as f
 use Rattle.boogie_formula.specs.Formula.{FExpr}
 use Rattle.boogie_formula.specs.Value.{plain, two, fvalue, whole, defined}
 use Rattle.boogie_formula.specs.Types.{fbase, whole_type, defined_types}
+use Rattle.boogie_formula.specs.declared.formulas.Fail.{Fail}
 use Rattle.boogie_wp.specs.Build.{number_at}
-use Rattle.boogie_wp.proofs.TotalLaws.{there_left, there_right}
+use Rattle.boogie_wp.specs.Labels.{same_label}
+use Rattle.boogie_wp.proofs.LabelLaws.{same_label_is, same_label_itself}
+use Rattle.boogie_wp.proofs.TotalLaws.{there_left, there_right, or_false}
 
 -- ---- names
 
@@ -187,3 +192,81 @@ module _ {all : List BValue} {kinds : List BType} where
 
   pub says_kind : {e : FExpr} {p : Truth} → Says all kinds e p → fbase kinds e ≡ Some base.Bool
   says_kind a = ap (λ o. then_some o (base_of kinds None)) a.is_plain ∙ a.typed
+
+-- ---- assertions
+
+-- what says that each fails is a truth value
+pub data Truths (all : List BValue) (kinds : List BType) : List Fail → List Truth → Type 0 where
+  no_truths : Truths all kinds [] []
+  truth_so : {a : Fail} {fs : List Fail} {p : Truth} {ps : List Truth} → Truly all kinds a.name p → Truths all kinds fs ps → Truths all kinds (a ∷ fs) (p ∷ ps)
+
+pub truths_kept : {all new : List BValue} {kinds news : List BType} {fs : List Fail} {ps : List Truth} → Kept all new → Kept kinds news → Truths all kinds fs ps → Truths new news fs ps
+truths_kept k l no_truths = no_truths
+truths_kept k l (truth_so a h) = truth_so (at_kept k l a) (truths_kept k l h)
+
+-- one more assertion
+pub truths_more : {all : List BValue} {kinds : List BType} {fs : List Fail} {ps : List Truth} → Truths all kinds fs ps → (a : Fail) (p : Truth) → Truly all kinds a.name p →
+    Truths all kinds (fs ++ a ∷ []) (ps ++ p ∷ [])
+truths_more no_truths a p g = truth_so g no_truths
+truths_more (truth_so b h) a p g = truth_so b (truths_more h a p g)
+
+-- the truth value of the assertion of this number
+pub truth_at : {all : List BValue} {kinds : List BType} {fs : List Fail} {ps : List Truth} → Truths all kinds fs ps → (k : ℕ) (a : Fail) → slice_get fs k ≡ Some a →
+    (p : Truth) × (slice_get ps k ≡ Some p) × Truly all kinds a.name p
+truth_at no_truths k a h = absurd (cc)
+truth_at {all} {kinds} (truth_so {a = b} {p = p} g rest) zero a h = let e : b ≡ a = cc in (p, refl, subst (λ (x : Fail). Truly all kinds x.name p) e g)
+truth_at (truth_so g rest) (suc k) a h = truth_at rest k a h
+
+module _ (label : Label) where
+  -- whether one of those with the label is true
+  abbrev pub fails_among : List Fail → List Truth → Truth
+  fails_among [] ps = false
+  fails_among (a ∷ fs) [] = false
+  fails_among (a ∷ fs) (p ∷ ps) = (same_label a.label label && p) || fails_among fs ps
+
+  pub or_assoc : (x y z : Truth) → (x || (y || z)) ≡ ((x || y) || z)
+  or_assoc true y z = refl
+  or_assoc false y z = refl
+
+  pub fails_more : {all : List BValue} {kinds : List BType} {fs : List Fail} {ps : List Truth} → Truths all kinds fs ps → (a : Fail) (p : Truth) →
+      fails_among (fs ++ a ∷ []) (ps ++ p ∷ []) ≡ (fails_among fs ps || (same_label a.label label && p))
+  fails_more no_truths a p = or_false (same_label a.label label && p)
+  fails_more (truth_so {a = b} {fs = fs} {p = q} {ps = ps} g h) a p =
+      ap (λ z. (same_label b.label label && q) || z) (fails_more h a p)
+      ∙ or_assoc (same_label b.label label && q) (fails_among fs ps) (same_label a.label label && p)
+
+  or_right : (x y : Truth) → y ≡ true → (x || y) ≡ true
+  or_right true y h = refl
+  or_right false y h = h
+
+  -- one that fails
+  pub among_true : (fs : List Fail) (ps : List Truth) (k : ℕ) (a : Fail) → slice_get fs k ≡ Some a → slice_get ps k ≡ Some true → a.label ≡ label → fails_among fs ps ≡ true
+  among_true [] ps k a h g e = absurd (cc)
+  among_true (b ∷ fs) [] k a h g e = absurd (cc)
+  among_true (b ∷ fs) (p ∷ ps) zero a h g e =
+      let same : b ≡ a = cc in
+      let is_true : p ≡ true = cc in
+      let here : same_label b.label label ≡ true = ap (λ (x : Fail). same_label x.label label) same ∙ ap (λ x. same_label x label) e ∙ same_label_itself label in
+      (λ i. (here i && is_true i) || fails_among fs ps)
+  among_true (b ∷ fs) (p ∷ ps) (suc k) a h g e = or_right (same_label b.label label && p) (fails_among fs ps) (among_true fs ps k a h g e)
+
+  pub record FailsAmong (all : List BValue) (kinds : List BType) (fs : List Fail) : Type 0 where
+    pub number : ℕ
+    pub assertion : Fail
+    pub is_there : slice_get fs number ≡ Some assertion
+    pub is_labelled : assertion.label ≡ label
+    pub fails : Truly all kinds assertion.name true
+
+  among_more : {all : List BValue} {kinds : List BType} {a : Fail} {fs : List Fail} → FailsAmong all kinds fs → FailsAmong all kinds (a ∷ fs)
+  among_more x = record { number = suc x.number; assertion = x.assertion; is_there = x.is_there; is_labelled = x.is_labelled; fails = x.fails }
+
+  among_first : {all : List BValue} {kinds : List BType} (a : Fail) (fs : List Fail) (rest s q : Truth) → same_label a.label label ≡ s → Truly all kinds a.name q → ((s && q) || rest) ≡ true →
+      (rest ≡ true → FailsAmong all kinds fs) → FailsAmong all kinds (a ∷ fs)
+  among_first a fs rest true true e g h later = record { number = 0; assertion = a; is_there = refl; is_labelled = same_label_is a.label label e; fails = g }
+  among_first a fs rest true false e g h later = among_more (later h)
+  among_first a fs rest false q e g h later = among_more (later h)
+
+  pub among_there : {all : List BValue} {kinds : List BType} {fs : List Fail} {ps : List Truth} → Truths all kinds fs ps → fails_among fs ps ≡ true → FailsAmong all kinds fs
+  among_there no_truths h = absurd (cc)
+  among_there (truth_so {a = a} {fs = fs} {p = p} {ps = ps} g rest) h =
+      among_first a fs (fails_among fs ps) (same_label a.label label) p refl g h (λ e. among_there rest e)

@@ -1,4 +1,5 @@
--- Each run is one at some values of the formula's variables, so the formula is valid just where no run fails.
+-- Each run is one at some values of the variables, so the formula is valid just where no run fails, and an assertion can fail just
+-- where one does.
 use Rattle.std.proofs.Common.{◌≡◌, ◌+◌, ℕ, zero, suc, Bool as Truth, true, false, not, ◌||◌, Option, Some, None, List, [], ◌∷◌, ◌++◌, map, All, take, slice_get, slice_set, length, if◌then◌else◌, refl, sym, ap, subst, ◌∙◌, arith}
 use Rattle.std.specs.Bool.{⊤}
 use Rattle.std.specs.Map.{values_of}
@@ -22,17 +23,17 @@ use Rattle.boogie_meaning.specs.Types.{IsTyped, skip, first, IsTypedStmt, assign
 use Rattle.boogie_meaning.specs.Programs.{types_of, IsTypedProc, brun_proc, default_value, FailsAt, ProcFails}
 use Rattle.boogie_meaning.proofs.RunTypedLaws.{stmt_keeps}
 use Rattle.boogie_meaning.proofs.ValueLaws.{chosen_typed}
-use Rattle.boogie_formula.specs.Value.{formula_value, Valid}
+use Rattle.boogie_formula.specs.Value.{formula_value, Valid, CanFail}
 use Rattle.boogie_formula.specs.Choices.{own_types, own_types_stmt, slots, slots_stmt, variables_of, met, met_stmt, takes, where_truth, truth_at, where_done, locals_in, choices_in}
-use Rattle.boogie_formula.specs.Follows.{IsExact}
-use Rattle.boogie_wp.specs.Build.{formula_for}
+use Rattle.boogie_formula.specs.Follows.{AreExact, IsExact}
+use Rattle.boogie_wp.specs.Build.{conditions_for, formula_for}
 use Rattle.boogie_wp.specs.Labels.{same_label}
 use Rattle.boogie_wp.proofs.LabelLaws.{same_label_itself}
 use Rattle.boogie_wp.proofs.LiftLaws.{value_there, key_there, truth_there, side_is, map_there}
 use Rattle.boogie_wp.proofs.Total.{Point, or_else, stored, held, checked, joined, forked, total_stmt, total}
 use Rattle.boogie_wp.proofs.TotalLaws.{Asleep, asleep, there_left, there_right, slots_own, slots_own_stmt, from}
 use Rattle.boogie_wp.proofs.BuildLaws.{truly_fits}
-use Rattle.boogie_wp.proofs.FormulaLaws.{env_front, length_env, default_env, last, value_is, follows}
+use Rattle.boogie_wp.proofs.FormulaLaws.{env_front, length_env, default_env, last, value_is, fails_in, fail_from, follows}
 
 -- ---- values from the k-th on
 
@@ -310,9 +311,14 @@ module _ (d : Proc) (label : Label) (typed : IsTypedProc d) where
   leads_bad (Stops Over cs) p h g = let e = g.is in absurd (cc)
   leads_bad (Stops Wrong cs) p h g = let e = g.is in absurd (cc)
 
-  -- a run that fails is one at some values, at which the goal is false
-  valid_passes : Valid (formula_for d label) → ProcFails d label → ⊥
-  valid_passes v g =
+  -- a run that fails is one at some values
+  record FailsSomewhere : Type 0 where
+    values : List BValue
+    typed_so : IsEnvironment (variables_of d) values
+    bad : (last d label typed values).bad ≡ true
+
+  fails_somewhere : ProcFails d label → FailsSomewhere
+  fails_somewhere g =
       let env = g.environment in
       let w = placed ls label typed.body env g.choices g.is_environment g.are_reduced in
       let values = env ++ w.values in
@@ -323,9 +329,24 @@ module _ (d : Proc) (label : Label) (typed : IsTypedProc d) where
       let at = w.leads values (length ls) sits in
       let leads : Leads label (brun_proc Unbounded d env g.choices) (last d label typed values) =
       subst (λ e. Leads label (brun_proc Unbounded d env g.choices) (total label values d.body (length ls) (from e))) (sym same) at in
-      let bad = leads_bad (brun_proc Unbounded d env g.choices) (last d label typed values) leads g.fails in
-      let is_false : formula_value (formula_for d label) values ≡ Is false = value_is d label typed values h ∙ ap (λ q. Is (not q)) bad in
-      let is_true = v.holds values h in
+      record { values = values; typed_so = h; bad = leads_bad (brun_proc Unbounded d env g.choices) (last d label typed values) leads g.fails }
+
+  -- what fails at values is a run that fails
+  proc_fails : (values : List BValue) → IsEnvironment (variables_of d) values → FailsAt label (brun_proc Unbounded d (locals_in d values) (choices_in d values)) → ProcFails d label
+  proc_fails values h e = record {
+    environment = locals_in d values;
+    is_environment = env_front ls (own_types ls d.body) values h;
+    choices = choices_in d values;
+    are_reduced = met_reduced (variables_of d) values h ls d.body (length ls) (locals_in d values);
+    fails = e;
+  }
+
+  -- the goal is false there
+  valid_passes : Valid (formula_for d label) → ProcFails d label → ⊥
+  valid_passes v g =
+      let x = fails_somewhere g in
+      let is_false : formula_value (formula_for d label) x.values ≡ Is false = value_is d label typed x.values x.typed_so ∙ ap (λ q. Is (not q)) x.bad in
+      let is_true = v.holds x.values x.typed_so in
       absurd (cc)
 
   passes_valid : (ProcFails d label → ⊥) → Valid (formula_for d label)
@@ -333,13 +354,16 @@ module _ (d : Proc) (label : Label) (typed : IsTypedProc d) where
     where
       at : (values : List BValue) → IsEnvironment (variables_of d) values → (p : Truth) → formula_value (formula_for d label) values ≡ Is p → formula_value (formula_for d label) values ≡ Is true
       at values h true e = e
-      at values h false e = absurd (none (record {
-        environment = locals_in d values;
-        is_environment = env_front ls (own_types ls d.body) values h;
-        choices = choices_in d values;
-        are_reduced = met_reduced (variables_of d) values h ls d.body (length ls) (locals_in d values);
-        fails = ((follows d label typed).falls values h).0 e;
-      }))
+      at values h false e = absurd (none (proc_fails values h (((follows d label typed).falls values h).0 e)))
 
   pub exact : IsExact d label (formula_for d label)
   exact = (valid_passes, passes_valid)
+
+  can_fail : ProcFails d label → CanFail (conditions_for d) label
+  can_fail g = let x = fails_somewhere g in record { values = x.values; are_typed = x.typed_so; fails = fails_in d label typed x.values x.typed_so x.bad }
+
+  fails_so : CanFail (conditions_for d) label → ProcFails d label
+  fails_so x = proc_fails x.values x.are_typed (fail_from d label typed x.values x.are_typed x.fails)
+
+pub are_exact : (d : Proc) → IsTypedProc d → AreExact d (conditions_for d)
+are_exact d typed label = (can_fail d label typed, fails_so d label typed)

@@ -1,4 +1,4 @@
--- The code's steps over a whole procedure, and what its formula says, over plain variables.
+-- The code's steps over a whole procedure, and what its conditions and its formula say, over plain variables.
 use Rattle.std.proofs.Common.{◌≡◌, ◌∙◌, ◌≤◌, ◌<◌, ◌+◌, ℕ, zero, suc, Some, List, [], ◌∷◌, ◌++◌, map, slice_get, length, get_or, refl, sym, ap, subst, arith, length-append}
 use Rattle.vb_base.specs.declared.labels.Label.{Label}
 use Rattle.boogie_tree.specs.Fits.{FitStmts}
@@ -10,16 +10,16 @@ use Rattle.boogie_tree.specs.declared.stmts.BStmt as stmt
 use Rattle.boogie_meaning.specs.Programs.{IsTypedProc}
 use Rattle.boogie_meaning.proofs.TypeLaws.{some_same}
 use Rattle.boogie_formula.specs.Choices.{own_types, slots, variables_of}
-use Rattle.boogie_formula.specs.Follows.{Follows, IsExact}
-use Rattle.boogie_formula.specs.Formula.{Formula}
-use Rattle.boogie_formula.specs.Printable.{IsPrintableFormula}
-use Rattle.boogie_formula.specs.Types.{IsTypedFormula}
-use Rattle.boogie_wp.specs.Build.{Builder, finished, formula_for, started, built}
+use Rattle.boogie_formula.specs.Follows.{AreExact, ConditionsFollow, Follows, IsExact}
+use Rattle.boogie_formula.specs.Formula.{Conditions, Formula}
+use Rattle.boogie_formula.specs.Printable.{IsPrintableConditions, IsPrintableFormula}
+use Rattle.boogie_formula.specs.Types.{IsTypedConditions, IsTypedFormula}
+use Rattle.boogie_wp.specs.Build.{Builder, finished, conditions_for, formula_for, started, built}
 use Rattle.boogie_wp.specs.View.{types_in}
 use Rattle.boogie_wp.proofs.CodeLaws.{read_there}
-use Rattle.boogie_wp.proofs.FormulaLaws.{follows, formula_typed}
-use Rattle.boogie_wp.proofs.PlacedLaws.{exact}
-use Rattle.boogie_wp.proofs.PrintLaws.{printable}
+use Rattle.boogie_wp.proofs.FormulaLaws.{conditions_follow, conditions_typed, follows, formula_typed}
+use Rattle.boogie_wp.proofs.PlacedLaws.{are_exact, exact}
+use Rattle.boogie_wp.proofs.PrintLaws.{conditions_printable, printable}
 use Rattle.boogie_wp.proofs.TotalLaws.{slots_own}
 
 -- ---- steps
@@ -35,12 +35,12 @@ room_there d typed vars is n next locals body long locals_is body_is next_is =
     let e = length-append ls (own_types ls xs) in
     omega (arith, a, b, c, e)
 
-pub formula_is : (d : Proc) (label : Label) (vars : List p.BType) (n : ℕ) (locals : List Local) (body : List stmt.BStmt) (b0 b1 : Builder) → vars ≡ variables_of (proc_of d) → length vars ≡ n →
-    locals ≡ d.locals.items → body ≡ d.body.items → b0 ≡ started vars (types_in locals) → b1 ≡ built n label (stmts_of body) b0 → finished vars b1 ≡ formula_for (proc_of d) label
-formula_is d label vars n locals body b0 b1 is long locals_is body_is start made =
-    ap (finished vars) (made ∙ ap (λ z. built n label (stmts_of body) z) start)
-    ∙ (λ i. finished vars (built ((sym long) i) label (stmts_of (body_is i)) (started vars (types_in (locals_is i)))))
-    ∙ ap (λ v. finished v (built (length v) label (stmts_of d.body.items) (started v (types_in d.locals.items)))) is
+pub conditions_are : (d : Proc) (vars : List p.BType) (n : ℕ) (locals : List Local) (body : List stmt.BStmt) (b0 b1 : Builder) → vars ≡ variables_of (proc_of d) → length vars ≡ n →
+    locals ≡ d.locals.items → body ≡ d.body.items → b0 ≡ started vars (types_in locals) → b1 ≡ built n (stmts_of body) b0 → finished vars b1 ≡ conditions_for (proc_of d)
+conditions_are d vars n locals body b0 b1 is long locals_is body_is start made =
+    ap (finished vars) (made ∙ ap (λ z. built n (stmts_of body) z) start)
+    ∙ (λ i. finished vars (built ((sym long) i) (stmts_of (body_is i)) (started vars (types_in (locals_is i)))))
+    ∙ ap (λ v. finished v (built (length v) (stmts_of d.body.items) (started v (types_in d.locals.items)))) is
 
 -- ---- the procedure of a number
 
@@ -55,6 +55,29 @@ length_procs (d ∷ ds) = ap suc (length_procs ds)
 
 pub proc_there : (ds : List Proc) (i : ℕ) (d : Proc) → i < length (map proc_of ds) → d ≡ get_or ds i d → slice_get (map proc_of ds) i ≡ Some (proc_of d)
 proc_there ds i d lt is = let long = length_procs ds in proc_found ds i d (read_there ds i d (omega (arith, lt, long)) is)
+
+-- ---- what its conditions say
+
+module _ (ds : List Proc) (i : ℕ) (d : Proc) (there : slice_get (map proc_of ds) i ≡ Some (proc_of d)) (typed : IsTypedProc (proc_of d)) (x : Conditions)
+    (is : x ≡ conditions_for (proc_of d)) where
+  this_proc : (e : p.Proc) → slice_get (map proc_of ds) i ≡ Some e → proc_of d ≡ e
+  this_proc e h = some_same (sym there ∙ h)
+
+  pub they_are_built : (e : p.Proc) → slice_get (map proc_of ds) i ≡ Some e → x ≡ conditions_for e
+  they_are_built e h = subst (λ y. x ≡ conditions_for y) (this_proc e h) is
+
+  pub they_follow : (e : p.Proc) → slice_get (map proc_of ds) i ≡ Some e → ConditionsFollow e x
+  they_follow e h = subst (λ y. ConditionsFollow y x) (this_proc e h) (subst (ConditionsFollow (proc_of d)) (sym is) (conditions_follow (proc_of d) typed))
+
+  pub they_are_exact : (e : p.Proc) → slice_get (map proc_of ds) i ≡ Some e → AreExact e x
+  they_are_exact e h = subst (λ y. AreExact y x) (this_proc e h) (subst (AreExact (proc_of d)) (sym is) (are_exact (proc_of d) typed))
+
+  pub they_are_typed : IsTypedConditions x
+  they_are_typed = subst IsTypedConditions (sym is) (conditions_typed (proc_of d) typed)
+
+  pub they_are_printable : (e : p.Proc) → slice_get (map proc_of ds) i ≡ Some e → FitStmts (length e.locals) e.body → IsPrintableConditions x
+  they_are_printable e h fits =
+      subst IsPrintableConditions (sym is) (conditions_printable (proc_of d) typed (subst (λ (y : p.Proc). FitStmts (length y.locals) y.body) (sym (this_proc e h)) fits))
 
 -- ---- what its formula says
 

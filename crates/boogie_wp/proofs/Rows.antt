@@ -11,9 +11,9 @@ use Rattle.boogie_meaning.specs.Ends.{Is}
 use Rattle.boogie_meaning.specs.Run.{Done, Stop, Stops, Failed, asserted, then_run}
 use Rattle.boogie_meaning.specs.Programs.{brun_proc, FailsAt}
 use Rattle.boogie_formula.specs.Choices.{variables_of, locals_in, choices_in, where_done}
-use Rattle.boogie_formula.specs.Follows.{Follows}
-use Rattle.boogie_formula.specs.Formula.{Formula}
-use Rattle.boogie_formula.specs.Value.{formula_value, Valid}
+use Rattle.boogie_formula.specs.Follows.{ConditionsFollow, Follows}
+use Rattle.boogie_formula.specs.Formula.{Conditions, Formula}
+use Rattle.boogie_formula.specs.Value.{formula_value, FailsIn, Valid}
 use Rattle.boogie_wp.specs.Worked.{bool, chosen, elsewhere, here, int, joining, picking, twice}
 
 module _ (d : Proc) (label : Label) (f : Formula) (h : Follows d label f) (values : List BValue) (typed : IsEnvironment (variables_of d) values) where
@@ -29,6 +29,16 @@ module _ (d : Proc) (label : Label) (f : Formula) (h : Follows d label f) (value
       by_truth : (p : Truth) → formula_value f values ≡ Is p → formula_value f values ≡ Is true
       by_truth true e = e
       by_truth false e = absurd (passes ((h.falls values typed_here).0 e))
+
+module _ (d : Proc) (label : Label) (x : Conditions) (h : ConditionsFollow d x) (values : List BValue) (typed : IsEnvironment (variables_of d) values) where
+  so_typed : IsEnvironment x.vars values
+  so_typed = subst (λ us. IsEnvironment us values) (sym h.vars) typed
+
+  fails_there : FailsAt label (brun_proc Unbounded d (locals_in d values) (choices_in d values)) → FailsIn x values label
+  fails_there fails = (h.fail values so_typed label).1 fails
+
+  passes_there : (FailsAt label (brun_proc Unbounded d (locals_in d values) (choices_in d values)) → ⊥) → FailsIn x values label → ⊥
+  passes_there passes g = passes ((h.fail values so_typed label).0 g)
 
 done_passes : (label : Label) (env : List BValue) (cs : List BChoice) → FailsAt label (Done env cs) → ⊥
 done_passes label env cs h = let e = h.is in absurd (cc)
@@ -94,14 +104,14 @@ chosen_elsewhere f h = record {
 
 -- ---- an earlier assertion
 
+here_passes : (left : List BChoice) → Stops (Failed elsewhere) [] ≡ Stops (Failed here) left → ⊥
+here_passes left e =
+    let same : elsewhere ≡ here = label_is elsewhere here (why_is (Failed elsewhere) (Failed here) [] left e) in
+    let kinds : elsewhere.kind ≡ here.kind = ap (λ (l : Label). l.kind) same in
+    absurd (cc)
+
 pub twice_before : (f : Formula) → Follows twice here f → formula_value f (int (pos 7) ∷ []) ≡ Is true
-twice_before f h = is_true twice here f h (int (pos 7) ∷ []) (an_int (pos 7), tt) (λ g. other g.left g.is)
-  where
-    other : (left : List BChoice) → Stops (Failed elsewhere) [] ≡ Stops (Failed here) left → ⊥
-    other left e =
-        let same : elsewhere ≡ here = label_is elsewhere here (why_is (Failed elsewhere) (Failed here) [] left e) in
-        let kinds : elsewhere.kind ≡ here.kind = ap (λ (l : Label). l.kind) same in
-        absurd (cc)
+twice_before f h = is_true twice here f h (int (pos 7) ∷ []) (an_int (pos 7), tt) (λ g. here_passes g.left g.is)
 
 pub twice_at_it : (f : Formula) → Follows twice elsewhere f → formula_value f (int (pos 7) ∷ []) ≡ Is false
 twice_at_it f h = is_false twice elsewhere f h (int (pos 7) ∷ []) (an_int (pos 7), tt) (record { left = []; is = refl })
@@ -121,3 +131,20 @@ picking_taken f h = is_false picking here f h (int (pos 0) ∷ bool true ∷ int
 
 pub picking_skipped : (f : Formula) → Follows picking here f → formula_value f (int (pos 0) ∷ bool false ∷ int (pos 5) ∷ []) ≡ Is true
 picking_skipped f h = is_true picking here f h (int (pos 0) ∷ bool false ∷ int (pos 5) ∷ []) (an_int (pos 0), (a_bool false, (an_int (pos 5), tt))) (done_passes here (int (pos 0) ∷ []) [])
+
+-- ---- the assertions of conditions
+
+pub own_first : (x : Conditions) → ConditionsFollow twice x → FailsIn x (int (pos 7) ∷ []) elsewhere
+own_first x h = fails_there twice elsewhere x h (int (pos 7) ∷ []) (an_int (pos 7), tt) (record { left = []; is = refl })
+
+pub own_not_behind : (x : Conditions) → ConditionsFollow twice x → FailsIn x (int (pos 7) ∷ []) here → ⊥
+own_not_behind x h = passes_there twice here x h (int (pos 7) ∷ []) (an_int (pos 7), tt) (λ g. here_passes g.left g.is)
+
+pub own_none : (x : Conditions) → ConditionsFollow twice x → FailsIn x (int (pos 2) ∷ []) elsewhere → ⊥
+own_none x h = passes_there twice elsewhere x h (int (pos 2) ∷ []) (an_int (pos 2), tt) (done_passes elsewhere (int (pos 2) ∷ []) [])
+
+pub joined_second : (x : Conditions) → ConditionsFollow joining x → FailsIn x (int (pos 4) ∷ []) here
+joined_second x h = fails_there joining here x h (int (pos 4) ∷ []) (an_int (pos 4), tt) (record { left = []; is = refl })
+
+pub joined_not_first : (x : Conditions) → ConditionsFollow joining x → FailsIn x (int (pos 0) ∷ []) here → ⊥
+joined_not_first x h = passes_there joining here x h (int (pos 0) ∷ []) (an_int (pos 0), tt) (done_passes here (int (pos 3) ∷ []) [])

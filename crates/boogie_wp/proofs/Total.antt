@@ -39,7 +39,7 @@ abbrev pub held : Truth → Point → Point
 held t p = record p { path = p.path && t }
 
 abbrev pub checked : Truth → Point → Point
-checked t p = record { env = p.env; path = p.path && t; bad = p.bad || (p.path && not (p.path && t)) }
+checked t p = record { env = p.env; path = p.path && t; bad = p.bad || (p.path && not t) }
 
 abbrev pub joined : Truth → Point → Point → Point
 joined t x y = record { env = if t then x.env else y.env; path = x.path || y.path; bad = y.bad }

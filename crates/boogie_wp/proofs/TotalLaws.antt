@@ -28,7 +28,7 @@ pub record Asleep (q : Truth) (p : Point) : Type 0 where
   pub path : p.path ≡ false
   pub bad : p.bad ≡ q
 
-or_false : (q : Truth) → (q || false) ≡ q
+pub or_false : (q : Truth) → (q || false) ≡ q
 or_false true = refl
 or_false false = refl
 

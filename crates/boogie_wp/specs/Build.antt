@@ -1,5 +1,5 @@
--- How a procedure becomes a formula: all of its statements are turned into definitions, one after the other, on whichever path they
--- stand, and two definitions say at each place whether the run comes here and whether it has failed at the label.
+-- How a procedure becomes conditions and a formula: all of its statements are turned into definitions, one after the other, on
+-- whichever path they stand, and a definition says at each place whether the run comes here.
 use Rattle.std.specs.Prelude.{◌+◌, ℕ, true, false, List, [], ◌∷◌, ◌++◌, slice_get, slice_set, unwrap_or, length, if◌then◌else◌, nat_eq}
 use Rattle.vb_base.specs.declared.labels.Label.{Label}
 use Rattle.boogie_tree.specs.Stmt as s
@@ -7,8 +7,9 @@ use Rattle.boogie_tree.specs.Program.{BType, Proc}
 use Rattle.boogie_tree.specs.declared.exprs.BOp.TheVariants as op
 use Rattle.boogie_meaning.specs.Programs.{types_of}
 use Rattle.boogie_formula.specs.Formula as f
-use Rattle.boogie_formula.specs.Formula.{FExpr, Formula}
+use Rattle.boogie_formula.specs.Formula.{FExpr, Formula, Conditions}
 use Rattle.boogie_formula.specs.Choices.{variables_of}
+use Rattle.boogie_formula.specs.declared.formulas.Fail.{Fail}
 use Rattle.boogie_wp.specs.Labels.{same_label}
 use Rattle.boogie_wp.specs.Lifted.{lifted, lifted_all}
 
@@ -16,9 +17,10 @@ pub record Builder : Type 0 where
   pub lets : List FExpr
   -- the name that holds each local's value
   pub versions : List ℕ
-  -- the names that say whether the run comes here, and whether it has failed at the label
+  -- the name that says whether the run comes here
   pub path : ℕ
-  pub bad : ℕ
+  -- the assertions so far, each with the name that says that it fails
+  pub fails : List Fail
   -- the variable of the next `havoc` or `if (*)`
   pub next : ℕ
 
@@ -50,13 +52,19 @@ choose i b = record b { versions = slice_set b.versions i b.next; next = b.next 
 abbrev pub go_where : ℕ → FExpr → Builder → Builder
 go_where n e b = record b { lets = b.lets ++ f.Bin op.And (f.Var b.path) e ∷ []; path = fresh n b }
 
--- it fails where it came up to the name `before` and not further
-abbrev pub failing : ℕ → ℕ → Builder → Builder
-failing n before b =
-    record b { lets = b.lets ++ f.Bin op.Or (f.Var b.bad) (f.Bin op.And (f.Var before) (f.Not (f.Var b.path))) ∷ []; bad = fresh n b }
+-- the assertion with this label fails where the run comes here and the condition is false
+abbrev pub failing : ℕ → Label → ℕ → Builder → Builder
+failing n l c b = record b {
+  lets = b.lets ++ f.Bin op.And (f.Var b.path) (f.Not (f.Var c)) ∷ [];
+  fails = b.fails ++ record { label = l; name = fresh n b } ∷ [];
+}
 
-abbrev pub fail_unless : ℕ → FExpr → Builder → Builder
-fail_unless n e b = failing n b.path (go_where n e b)
+-- the condition is a definition of its own
+abbrev pub assume : ℕ → FExpr → Builder → Builder
+assume n e b = go_where n (f.Var (fresh n b)) (define e b)
+
+abbrev pub check : ℕ → Label → FExpr → Builder → Builder
+check n l e b = go_where n (f.Var (fresh n b)) (failing n l (fresh n b) (define e b))
 
 -- ---- branches
 
@@ -95,21 +103,18 @@ fork n c first second b =
 -- ---- statements
 
 abbrev mutual
-  pub built_stmt : ℕ → Label → s.BStmt → Builder → Builder
-  built_stmt n label (s.Assign i e) b = store n i (lifted (named b) e) b
-  built_stmt n label (s.Put i es e) b = store n i (f.With (f.Var (named b i)) (lifted_all (named b) es) (lifted (named b) e)) b
-  built_stmt n label (s.Havoc i) b = choose i b
-  built_stmt n label (s.Assume e) b = go_where n (lifted (named b) e) b
-  built_stmt n label (s.Assert l e) b =
-      if same_label l label then fail_unless n (lifted (named b) e) b else go_where n (lifted (named b) e) b
-  built_stmt n label (s.If e xs ys) b =
-      fork n (fresh n b) (λ c. built n label xs c) (λ c. built n label ys c) (define (lifted (named b) e) b)
-  built_stmt n label (s.Either xs ys) b =
-      fork n b.next (λ c. built n label xs c) (λ c. built n label ys c) (record b { next = b.next + 1 })
+  pub built_stmt : ℕ → s.BStmt → Builder → Builder
+  built_stmt n (s.Assign i e) b = store n i (lifted (named b) e) b
+  built_stmt n (s.Put i es e) b = store n i (f.With (f.Var (named b i)) (lifted_all (named b) es) (lifted (named b) e)) b
+  built_stmt n (s.Havoc i) b = choose i b
+  built_stmt n (s.Assume e) b = assume n (lifted (named b) e) b
+  built_stmt n (s.Assert l e) b = check n l (lifted (named b) e) b
+  built_stmt n (s.If e xs ys) b = fork n (fresh n b) (λ c. built n xs c) (λ c. built n ys c) (define (lifted (named b) e) b)
+  built_stmt n (s.Either xs ys) b = fork n b.next (λ c. built n xs c) (λ c. built n ys c) (record b { next = b.next + 1 })
 
-  pub built : ℕ → Label → s.BStmts → Builder → Builder
-  built n label s.skip b = b
-  built n label (s.first x xs) b = built n label xs (built_stmt n label x b)
+  pub built : ℕ → s.BStmts → Builder → Builder
+  built n s.skip b = b
+  built n (s.first x xs) b = built n xs (built_stmt n x b)
 
 -- ---- procedures
 
@@ -118,20 +123,52 @@ abbrev pub numbers : {X : Type 0} → ℕ → List X → List ℕ
 numbers m [] = []
 numbers m (x ∷ xs) = m ∷ numbers (m + 1) xs
 
--- the run comes to the first statement, and has not failed
+-- the run comes to the first statement
 abbrev pub started : List BType → List BType → Builder
 started vars ls = record {
-  lets = f.Bool true ∷ f.Bool false ∷ [];
+  lets = f.Bool true ∷ [];
   versions = numbers 0 ls;
   path = length vars;
-  bad = length vars + 1;
+  fails = [];
   next = length ls;
 }
 
-abbrev pub finished : List BType → Builder → Formula
-finished vars b = record { vars = vars; lets = b.lets; goal = f.Not (f.Var b.bad) }
+abbrev pub finished : List BType → Builder → Conditions
+finished vars b = record { vars = vars; lets = b.lets; fails = b.fails }
+
+abbrev pub conditions_for : Proc → Conditions
+conditions_for d =
+    let vars = variables_of d in
+    finished vars (built (length vars) d.body (started vars (types_of d)))
+
+-- ---- a label
+
+-- definitions, the last of which says whether an assertion so far fails at the label
+pub record Chain : Type 0 where
+  pub lets : List FExpr
+  pub last : ℕ
+
+abbrev pub one_more : ℕ → ℕ → Chain → Chain
+one_more n j c = record { lets = c.lets ++ f.Bin op.Or (f.Var c.last) (f.Var j) ∷ []; last = n + length c.lets }
+
+abbrev pub linked : ℕ → Label → Fail → Chain → Chain
+linked n label a c = if same_label a.label label then one_more n a.name c else c
+
+abbrev pub chained : ℕ → Label → List Fail → Chain → Chain
+chained n label [] c = c
+chained n label (a ∷ rest) c = chained n label rest (linked n label a c)
+
+abbrev pub chain_from : ℕ → List FExpr → Chain
+chain_from n lets = record { lets = lets ++ f.Bool false ∷ []; last = n + length lets }
+
+abbrev pub asking : List BType → Chain → Formula
+asking vars c = record { vars = vars; lets = c.lets; goal = f.Not (f.Var c.last) }
+
+-- the goal is that no assertion fails at the label
+abbrev pub asked : Label → Conditions → Formula
+asked label x =
+    let n = length x.vars in
+    asking x.vars (chained n label x.fails (chain_from n x.lets))
 
 abbrev pub formula_for : Proc → Label → Formula
-formula_for d label =
-    let vars = variables_of d in
-    finished vars (built (length vars) label d.body (started vars (types_of d)))
+formula_for d label = asked label (conditions_for d)

@@ -1,4 +1,4 @@
--- What contracts see of a builder and of types: the plain data of Build.
+-- What contracts see of a builder, a chain and types: the plain data of Build.
 use Rattle.std.specs.Prelude.{ℕ, List, map}
 use Rattle.boogie_formula.specs.View.{fexpr_of}
 use Rattle.boogie_tree.specs.Program as p
@@ -8,9 +8,10 @@ use Rattle.boogie_tree.specs.declared.programs.Local.{Local}
 use Rattle.boogie_wp.specs.Build as b
 use Rattle.boogie_wp.specs.Changes.{begun}
 use Rattle.boogie_wp.specs.declared.builder.Builder.{Builder}
+use Rattle.boogie_wp.specs.declared.chain.Chain.{Chain}
 
 abbrev pub builder_of : Builder → b.Builder
-builder_of x = record { lets = map fexpr_of x.lets.items; versions = x.names.versions.items; path = x.path; bad = x.bad; next = x.next }
+builder_of x = record { lets = map fexpr_of x.lets.items; versions = x.names.versions.items; path = x.path; fails = x.fails.items; next = x.next }
 
 -- the names with which the branch began
 abbrev pub begun_of : Builder → List ℕ
@@ -22,3 +23,6 @@ types_in ls = map (λ l. l.ty) (locals_of ls)
 
 abbrev pub types_of_all : List BType → List p.BType
 types_of_all = map type_of
+
+abbrev pub chain_of : Chain → b.Chain
+chain_of x = record { lets = map fexpr_of x.lets.items; last = x.last }

@@ -1,11 +1,10 @@
 // Statements as definitions.
-ghost use Rattle.std.specs.Prelude.{◌≡◌, ◌+◌, ◌<◌, ◌≤◌, ◌^◌, if◌then◌else◌, IfOk, OnOk};
+ghost use Rattle.std.specs.Prelude.{◌≡◌, ◌+◌, ◌<◌, ◌≤◌, ◌^◌, IfOk, OnOk};
 ghost use Rattle.boogie_tree.specs.Whole.{expr_of, exprs_of, stmt_of, stmts_of};
 ghost use Rattle.boogie_formula.specs.Choices.{slots, slots_stmt};
 ghost use Rattle.boogie_formula.specs.Formula as f;
 ghost use Rattle.boogie_formula.specs.View.{fexpr_of};
 ghost use Rattle.boogie_wp.specs.Build as b;
-ghost use Rattle.boogie_wp.specs.Labels.{same_label};
 ghost use Rattle.boogie_wp.specs.Lifted.{lifted, lifted_all};
 ghost use Rattle.boogie_wp.specs.View.{begun_of, builder_of};
 
@@ -15,13 +14,6 @@ use boogie_formula::FExpr;
 use boogie_tree::{BExpr, BStmt};
 use std::alloc::Global;
 use vb_base::{Label, Memory, boxed};
-
-/// Whether the two are one label.
-fn is_label(a: &Label, b: &Label) -> bool
-    ensures { result ≡ same_label a.now b.now }
-{
-    vb_base::same_label(a, b)
-}
 
 fn assign(alloc: Global, n: usize, local: usize, e: &BExpr, to: &mut Builder) -> Result<(), Memory>
     requires { n < 2 ^ 63 }
@@ -65,46 +57,6 @@ fn put(
     to.store(n, map, value)
 }
 
-fn assume(alloc: Global, n: usize, e: &BExpr, to: &mut Builder) -> Result<(), Memory>
-    requires { n < 2 ^ 63 }
-    ensures goes { OnOk result (builder_of to.new ≡ b.go_where n (lifted (b.named (builder_of to.old)) (expr_of e.now)) (builder_of to.old)) }
-    ensures begun { OnOk result (begun_of to.new ≡ begun_of to.old) }
-{
-    let value = lift(alloc, &to.names.versions, e)?;
-    to.go_where(alloc, n, value)
-}
-
-fn check(alloc: Global, n: usize, e: &BExpr, to: &mut Builder) -> Result<(), Memory>
-    requires { n < 2 ^ 63 }
-    ensures goes { OnOk result (builder_of to.new ≡ b.fail_unless n (lifted (b.named (builder_of to.old)) (expr_of e.now)) (builder_of to.old)) }
-    ensures begun { OnOk result (begun_of to.new ≡ begun_of to.old) }
-{
-    let value = lift(alloc, &to.names.versions, e)?;
-    to.fail_unless(alloc, n, value)
-}
-
-/// The run fails where the assertion has the label, and else it comes no further.
-fn assertion(
-    alloc: Global,
-    n: usize,
-    at: &Label,
-    label: &Label,
-    e: &BExpr,
-    to: &mut Builder,
-) -> Result<(), Memory>
-    requires { n < 2 ^ 63 }
-    ensures goes { OnOk result (builder_of to.new ≡ (if same_label at.now label.now
-        then b.fail_unless n (lifted (b.named (builder_of to.old)) (expr_of e.now)) (builder_of to.old)
-        else b.go_where n (lifted (b.named (builder_of to.old)) (expr_of e.now)) (builder_of to.old))) }
-    ensures begun { OnOk result (begun_of to.new ≡ begun_of to.old) }
-{
-    if is_label(at, label) {
-        check(alloc, n, e, to)
-    } else {
-        assume(alloc, n, e, to)
-    }
-}
-
 /// A definition of the condition. What is given back is its name.
 fn condition(alloc: Global, n: usize, e: &BExpr, to: &mut Builder) -> Result<usize, Memory>
     requires { n < 2 ^ 63 }
@@ -118,18 +70,37 @@ fn condition(alloc: Global, n: usize, e: &BExpr, to: &mut Builder) -> Result<usi
     Ok(name)
 }
 
-/// The statement, where there are n variables.
-#[cycle(building)]
-fn build_stmt(
+fn assume(alloc: Global, n: usize, e: &BExpr, to: &mut Builder) -> Result<(), Memory>
+    requires { n < 2 ^ 63 }
+    ensures goes { OnOk result (builder_of to.new ≡ b.assume n (lifted (b.named (builder_of to.old)) (expr_of e.now)) (builder_of to.old)) }
+    ensures begun { OnOk result (begun_of to.new ≡ begun_of to.old) }
+{
+    let name = condition(alloc, n, e, to)?;
+    to.go_where_true(alloc, n, name)
+}
+
+fn assertion(
     alloc: Global,
     n: usize,
     label: &Label,
-    stmt: &BStmt,
+    e: &BExpr,
     to: &mut Builder,
 ) -> Result<(), Memory>
+    requires { n < 2 ^ 63 }
+    ensures goes { OnOk result (builder_of to.new ≡ b.check n label.now (lifted (b.named (builder_of to.old)) (expr_of e.now)) (builder_of to.old)) }
+    ensures begun { OnOk result (begun_of to.new ≡ begun_of to.old) }
+{
+    let holds = condition(alloc, n, e, to)?;
+    to.failing(alloc, n, label, holds)?;
+    to.go_where_true(alloc, n, holds)
+}
+
+/// The statement, where there are n variables.
+#[cycle(building)]
+fn build_stmt(alloc: Global, n: usize, stmt: &BStmt, to: &mut Builder) -> Result<(), Memory>
     requires names { n < 2 ^ 63 }
     requires room { (builder_of to.old).next + slots_stmt (stmt_of stmt.now) ≤ n }
-    ensures goes { OnOk result (builder_of to.new ≡ b.built_stmt n label.now (stmt_of stmt.now) (builder_of to.old)) }
+    ensures goes { OnOk result (builder_of to.new ≡ b.built_stmt n (stmt_of stmt.now) (builder_of to.old)) }
     ensures begun { OnOk result (begun_of to.new ≡ begun_of to.old) }
 {
     match stmt {
@@ -137,21 +108,21 @@ fn build_stmt(
         BStmt::Put(map, index, e) => put(alloc, n, *map, index, e, to),
         BStmt::Havoc(local) => to.choose(*local),
         BStmt::Assume(e) => assume(alloc, n, e, to),
-        BStmt::Assert(at, e) => assertion(alloc, n, at, label, e, to),
+        BStmt::Assert(label, e) => assertion(alloc, n, label, e, to),
         BStmt::If(e, then, other) => {
             let name = condition(alloc, n, e, to)?;
             let start = to.enter(alloc, n, name)?;
-            build(alloc, n, label, then, to)?;
+            build(alloc, n, then, to)?;
             let first = to.back(alloc, n, name, start.path)?;
-            build(alloc, n, label, other, to)?;
+            build(alloc, n, other, to)?;
             to.join(alloc, n, name, start.changes, first)
         }
         BStmt::Either(then, other) => {
             let name = to.pass();
             let start = to.enter(alloc, n, name)?;
-            build(alloc, n, label, then, to)?;
+            build(alloc, n, then, to)?;
             let first = to.back(alloc, n, name, start.path)?;
-            build(alloc, n, label, other, to)?;
+            build(alloc, n, other, to)?;
             to.join(alloc, n, name, start.changes, first)
         }
     }
@@ -162,17 +133,16 @@ fn build_stmt(
 pub(crate) fn build(
     alloc: Global,
     n: usize,
-    label: &Label,
     stmts: &[BStmt],
     to: &mut Builder,
 ) -> Result<(), Memory>
     requires names { n < 2 ^ 63 }
     requires room { (builder_of to.old).next + slots (stmts_of stmts.now) ≤ n }
-    ensures goes { OnOk result (builder_of to.new ≡ b.built n label.now (stmts_of stmts.now) (builder_of to.old)) }
+    ensures goes { OnOk result (builder_of to.new ≡ b.built n (stmts_of stmts.now) (builder_of to.old)) }
     ensures begun { OnOk result (begun_of to.new ≡ begun_of to.old) }
 {
     for stmt in stmts {
-        build_stmt(alloc, n, label, stmt, to)?;
+        build_stmt(alloc, n, stmt, to)?;
     }
     Ok(())
 }

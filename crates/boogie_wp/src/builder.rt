@@ -1,4 +1,4 @@
-// The definitions of a formula, as they are built.
+// The definitions of conditions, as they are built.
 ghost use Rattle.std.specs.Prelude.{◌≡◌, ◌+◌, ◌<◌, ◌^◌, ℕ, List, length, slice_set, nat_eq, if◌then◌else◌, IfOk, OnOk};
 ghost use Rattle.boogie_formula.specs.Formula as f;
 ghost use Rattle.boogie_formula.specs.View.{fexpr_of};
@@ -8,11 +8,11 @@ ghost use Rattle.boogie_wp.specs.Changes.{changed, Chosen};
 ghost use Rattle.boogie_wp.specs.View.{begun_of, builder_of};
 
 use crate::names::{Change, Choice, Names};
-use boogie_formula::FExpr;
+use boogie_formula::{FExpr, Fail};
 use boogie_tree::BOp;
 use std::alloc::Global;
 use std::mem;
-use vb_base::{Memory, boxed};
+use vb_base::{Label, Memory, boxed};
 
 /// The definitions so far, and the names that say how a run stands after the statements so far.
 #[derive(Drop)]
@@ -21,8 +21,8 @@ pub(crate) struct Builder {
     pub(crate) names: Names,
     /// The name that says whether the run comes here.
     pub(crate) path: usize,
-    /// The name that says whether the run has failed at the label.
-    pub(crate) bad: usize,
+    /// The assertions so far, each with the name that says that it fails.
+    pub(crate) fails: Vec<Fail>,
     /// The variable of the next `havoc` or `if (*)`.
     pub(crate) next: usize,
 }
@@ -34,7 +34,7 @@ pub(crate) struct Side {
     pub(crate) path: usize,
 }
 
-fn var(alloc: Global, name: usize) -> Result<Box<FExpr>, Memory>
+pub(crate) fn var(alloc: Global, name: usize) -> Result<Box<FExpr>, Memory>
     ensures { IfOk result (λ x. fexpr_of x.value ≡ f.Var name) }
 {
     boxed(alloc, FExpr::Var(name))
@@ -47,11 +47,11 @@ fn negated(alloc: Global, name: usize) -> Result<Box<FExpr>, Memory>
 }
 
 /// That the one is true and the other is not.
-fn lost(alloc: Global, before: usize, after: usize) -> Result<Box<FExpr>, Memory>
-    ensures { IfOk result (λ x. fexpr_of x.value ≡ f.Bin op.And (f.Var before) (f.Not (f.Var after))) }
+fn lost(alloc: Global, before: usize, after: usize) -> Result<FExpr, Memory>
+    ensures { IfOk result (λ x. fexpr_of x ≡ f.Bin op.And (f.Var before) (f.Not (f.Var after))) }
 {
-    let after = negated(alloc, after)?;
-    boxed(alloc, FExpr::Bin(BOp::And, var(alloc, before)?, after))
+    let before = var(alloc, before)?;
+    Ok(FExpr::Bin(BOp::And, before, negated(alloc, after)?))
 }
 
 fn chosen(alloc: Global, condition: usize, first: usize, second: usize) -> Result<FExpr, Memory>
@@ -134,34 +134,41 @@ impl Builder {
         Ok(())
     }
 
-    /// It fails where it came up to the name `before` and not further.
-    fn failing(&mut self, alloc: Global, n: usize, before: usize) -> Result<(), Memory>
-        requires { n < 2 ^ 63 }
-        ensures goes { OnOk result (builder_of self.new ≡ b.failing n before (builder_of self.old)) }
-        ensures begun { OnOk result (begun_of self.new ≡ begun_of self.old) }
-    {
-        let name = self.fresh(n);
-        let failed = var(alloc, self.bad)?;
-        let lost = lost(alloc, before, self.path)?;
-        self.define(FExpr::Bin(BOp::Or, failed, lost))?;
-        self.bad = name;
-        Ok(())
-    }
-
-    /// The run fails, unless this is true.
-    pub(crate) fn fail_unless(
+    /// The run comes further only where what has this name is true.
+    pub(crate) fn go_where_true(
         &mut self,
         alloc: Global,
         n: usize,
-        e: Box<FExpr>,
+        condition: usize,
     ) -> Result<(), Memory>
         requires { n < 2 ^ 63 }
-        ensures goes { OnOk result (builder_of self.new ≡ b.fail_unless n (fexpr_of e.value) (builder_of self.old)) }
+        ensures goes { OnOk result (builder_of self.new ≡ b.go_where n (f.Var condition) (builder_of self.old)) }
         ensures begun { OnOk result (begun_of self.new ≡ begun_of self.old) }
     {
-        let before = self.path;
-        self.go_where(alloc, n, e)?;
-        self.failing(alloc, n, before)
+        let came = var(alloc, condition)?;
+        self.go_where(alloc, n, came)
+    }
+
+    /// The assertion with this label fails where the run comes here and what has this name is false.
+    pub(crate) fn failing(
+        &mut self,
+        alloc: Global,
+        n: usize,
+        label: &Label,
+        condition: usize,
+    ) -> Result<(), Memory>
+        requires { n < 2 ^ 63 }
+        ensures goes { OnOk result (builder_of self.new ≡ b.failing n label.now condition (builder_of self.old)) }
+        ensures begun { OnOk result (begun_of self.new ≡ begun_of self.old) }
+    {
+        let name = self.fresh(n);
+        let lost = lost(alloc, self.path, condition)?;
+        self.define(lost)?;
+        let fail = Fail {
+            label: *label,
+            name,
+        };
+        Ok(self.fails.push(fail)?)
     }
 
     /// One definition chooses between the names with which the branches end, unless they are the same.
@@ -220,8 +227,7 @@ impl Builder {
     {
         let changes = mem::replace(&mut self.names.changes, Vec::new(alloc));
         let path = self.path;
-        let came = var(alloc, condition)?;
-        self.go_where(alloc, n, came)?;
+        self.go_where_true(alloc, n, condition)?;
         Ok(Side { changes, path })
     }
 

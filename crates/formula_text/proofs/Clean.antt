@@ -89,7 +89,7 @@ name_bytes (b ∷ bytes) h =
     let parts = and_parts (is_name_start b) (list_all is_name_byte bytes) h in
     and_from _ _ (or_left _ _ (or_left _ _ parts.0)) parts.1
 
-name_clean : (name : List ℕ) → is_name name ≡ true → Clean name
+pub name_clean : (name : List ℕ) → is_name name ≡ true → Clean name
 name_clean name h = bytes_clean name (name_bytes name h)
 
 base_clean : (u : BBase) → Clean (base_text u)

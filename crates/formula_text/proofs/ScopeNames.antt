@@ -17,6 +17,7 @@ use Rattle.boogie_text.proofs.ExprShown.{Ready}
 use Rattle.boogie_text.proofs.VarLaws.{IsVar, equal, unequal}
 use Rattle.formula_text.specs.Names.{variable_name, definition_name, numbered, names_in_scope}
 use Rattle.formula_text.specs.Printed.{scope_naming}
+use Rattle.formula_text.specs.Spells.{IsDefinition}
 
 -- ---- names by their numbers
 
@@ -124,6 +125,22 @@ second_at n k i lt small =
       definition_free (i + 1) (omega (arith, lt, small)),
       number_behind (definition_name (i + 1)) variable_name (λ j. refl) n 1 i more number,
     )
+
+-- the name of a definition, as a word
+pub definition_spelled : (n k i : ℕ) → k < 2 ^ 63 → n ≤ i → i < n + k → IsDefinition n k (name_at (names_in_scope n k) i) i
+definition_spelled n k i some le lt =
+    let more = numbered definition_name 1 k in
+    let j = i - n in
+    let there : j < k = omega (arith, le, lt) in
+    let word : name_at (names_in_scope n k) i ≡ definition_name (j + 1) = second_name n k i le there in
+    let number : number_of (definition_name (j + 1)) more ≡ Some j =
+    ap (number_of (definition_name (j + 1))) (sym (append-nil more)) ∙ number_in definition_name definitions k 1 j [] there (omega (arith, some)) in
+    record {
+      form = ap is_name word ∙ bound_form (j + 1) (omega (arith, there, some));
+      place = j;
+      is_there = ap (λ x. number_of x more) word ∙ number;
+      is = omega (arith, le);
+    }
 
 either_at : (n k i : ℕ) → n < 2 ^ 63 → k < 2 ^ 63 → i < n + k → (i < n) ⊎ (n ≤ i) → IsVar (names_in_scope n k) i
 either_at n k i few some lt (inl h) = first_at n k i h few

@@ -1,4 +1,4 @@
--- The lists of a formula that code holds are no longer than can be numbered.
+-- The lists of a formula and of conditions that code holds are no longer than can be numbered.
 use Rattle.std.proofs.Common.{◌<◌, ◌^◌, arith, List, [], ◌∷◌, length, map}
 use Rattle.std.proofs.lemmas.List.{length-map}
 use Rattle.std.specs.declared.alloc.Global.{Global}
@@ -6,10 +6,11 @@ use Rattle.std.specs.declared.vec.Vec.{Vec}
 use Rattle.boogie_tree.specs.Whole.{type_of}
 use Rattle.boogie_tree.specs.declared.exprs.BBase.{BBase}
 use Rattle.boogie_tree.specs.declared.programs.BType.{BType}
-use Rattle.boogie_formula.specs.View.{fexpr_of, fexpr_row, formula_of}
+use Rattle.boogie_formula.specs.View.{conditions_of, fexpr_of, fexpr_row, formula_of}
 use Rattle.boogie_formula.specs.declared.formulas.FExpr as expr
+use Rattle.boogie_formula.specs.declared.formulas.Conditions.{Conditions}
 use Rattle.boogie_formula.specs.declared.formulas.Formula.{Formula}
-use Rattle.formula_text.specs.Short.{ShortFExpr, ShortFExprs, ShortLets, IsShortFormula}
+use Rattle.formula_text.specs.Short.{ShortFExpr, ShortFExprs, ShortLets, AreShortConditions, IsShortFormula}
 
 few_bases : (v : Vec BBase Global) → length v.items < 2 ^ 63
 few_bases v = omega arith
@@ -57,4 +58,11 @@ short_formula x = record {
   lets = let n = length-map x.lets.items fexpr_of in let few = few_exprs x.lets in omega (arith, n, few);
   values = short_lets x.lets.items;
   goal = short_expr x.goal;
+}
+
+pub short_conditions : (x : Conditions) → AreShortConditions (conditions_of x)
+short_conditions x = record {
+  vars = let n = length-map x.vars.items type_of in let few = few_types x.vars in omega (arith, n, few);
+  lets = let n = length-map x.lets.items fexpr_of in let few = few_exprs x.lets in omega (arith, n, few);
+  values = short_lets x.lets.items;
 }

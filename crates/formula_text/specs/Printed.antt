@@ -1,4 +1,4 @@
--- The text that is written for a formula.
+-- The text that is written for a formula, and for conditions.
 use Rattle.std.specs.Prelude.{◌+◌, ◌++◌, ℕ, List, [], ◌∷◌, length, codes}
 use Rattle.std.specs.Fmt.{signed_decimal}
 use Rattle.vb_base.specs.Labels.{text_of}
@@ -6,7 +6,8 @@ use Rattle.vb_base.specs.declared.labels.Label.{Label}
 use Rattle.boogie_tree.specs.Program.{BType}
 use Rattle.boogie_grammar.specs.Printed.{Naming, name_at, operator_text, truth_text, names_text, binders_text, bound_names, under, type_text}
 use Rattle.boogie_formula.specs.Formula as f
-use Rattle.boogie_formula.specs.Formula.{FExpr, FExprs, Formula}
+use Rattle.boogie_formula.specs.Formula.{FExpr, FExprs, Formula, Conditions}
+use Rattle.boogie_formula.specs.declared.formulas.Fail.{Fail}
 use Rattle.formula_text.specs.Names.{variable_name, definition_name, names_in_scope}
 
 -- the names of n variables and k definitions
@@ -58,3 +59,13 @@ abbrev pub formula_text : List ℕ → Label → Formula → List ℕ
 formula_text name label x =
     codes "vc " ++ name ++ codes " " ++ text_of label ++ codes "\n" ++ variables_text 0 x.vars ++ definitions_text (length x.vars) 0 x.lets ++
     goal_text (length x.vars) (length x.lets) x.goal
+
+-- a line for each assertion, where there are n variables and k definitions
+abbrev pub fails_text : ℕ → ℕ → List Fail → List ℕ
+fails_text n k [] = []
+fails_text n k (a ∷ fs) = codes "fails " ++ text_of a.label ++ codes " " ++ name_at (names_in_scope n k) a.name ++ codes "\n" ++ fails_text n k fs
+
+abbrev pub conditions_text : List ℕ → Conditions → List ℕ
+conditions_text name x =
+    codes "conditions " ++ name ++ codes "\n" ++ variables_text 0 x.vars ++ definitions_text (length x.vars) 0 x.lets ++
+    fails_text (length x.vars) (length x.lets) x.fails

@@ -1,7 +1,7 @@
 -- What is numbered is fewer than 2^63, so that no two numerals are the same: variables, definitions, and what a `forall` binds.
 use Rattle.std.specs.Prelude.{◌^◌, ◌<◌, ⊤, List, [], ◌∷◌, length}
 use Rattle.boogie_formula.specs.Formula as f
-use Rattle.boogie_formula.specs.Formula.{FExpr, FExprs, Formula}
+use Rattle.boogie_formula.specs.Formula.{FExpr, FExprs, Formula, Conditions}
 
 abbrev mutual
   pub ShortFExpr : FExpr → Type 0
@@ -33,3 +33,8 @@ pub record IsShortFormula (x : Formula) : Type 0 where
   pub lets : length x.lets < 2 ^ 63
   pub values : ShortLets x.lets
   pub goal : ShortFExpr x.goal
+
+pub record AreShortConditions (x : Conditions) : Type 0 where
+  pub vars : length x.vars < 2 ^ 63
+  pub lets : length x.lets < 2 ^ 63
+  pub values : ShortLets x.lets

@@ -1,10 +1,12 @@
--- Which bytes spell which formula. A text is lines, each ended by the byte 10: `vc NAME LABEL`, a line for each variable, a line
--- for each definition, and the goal. Types and expressions are those of the language of programs, in its tokens and by its
--- grammar; the names in scope are those of the variables and of the definitions before. Beside these a definition may be the
--- update of a map, or a choice between maps.
+-- Which bytes spell which formula, and which conditions. A text is lines, each ended by the byte 10. That of a formula is
+-- `vc NAME LABEL`, a line for each variable, a line for each definition, and the goal; that of conditions is `conditions NAME`, the
+-- same lines of variables and definitions, and a line for each assertion. Types and expressions are those of the language of
+-- programs, in its tokens and by its grammar; the names in scope are those of the variables and of the definitions before. Beside
+-- these a definition may be the update of a map, or a choice between maps.
 use Rattle.std.specs.Prelude.{◌≡◌, ◌+◌, ◌++◌, ℕ, true, List, [], ◌∷◌, Some, codes}
 use Rattle.std.specs.List.{list_all}
 use Rattle.vb_base.specs.Labels.{text_of}
+use Rattle.vb_base.specs.Names.{is_name}
 use Rattle.vb_base.specs.declared.labels.Label.{Label}
 use Rattle.grammar.specs.Spells.{Derives}
 use Rattle.boogie_tree.specs.Expr as t
@@ -12,7 +14,7 @@ use Rattle.boogie_tree.specs.Program.{BType}
 use Rattle.boogie_grammar.specs.Cut.{IsRow}
 use Rattle.boogie_grammar.specs.Grammar.{Expr, TypeOf, rule, rules}
 use Rattle.boogie_grammar.specs.Pieces.{is_in_line}
-use Rattle.boogie_grammar.specs.Tests.{a_type, expr, IsVariable}
+use Rattle.boogie_grammar.specs.Tests.{a_type, expr, number_of, IsVariable}
 use Rattle.boogie_grammar.specs.Words.{word_tok}
 use Rattle.boogie_grammar.specs.declared.tokens.BSign.TheVariants as sign
 use Rattle.boogie_grammar.specs.declared.tokens.BTok.TheVariants as tok
@@ -20,9 +22,10 @@ use Rattle.boogie_grammar.specs.declared.tokens.BToken.{BToken}
 use Rattle.boogie_grammar.specs.declared.tokens.Word.TheVariants as w
 use Rattle.boogie_text.specs.Printable.{IsFreeName}
 use Rattle.boogie_text.specs.StmtView.{no_bound}
-use Rattle.boogie_formula.specs.Formula.{FExpr, If, With, FExprs, none, more, Formula}
+use Rattle.boogie_formula.specs.Formula.{FExpr, If, With, FExprs, none, more, Formula, Conditions}
 use Rattle.boogie_formula.specs.Value.{plain}
-use Rattle.formula_text.specs.Names.{variable_name, definition_name, names_in_scope}
+use Rattle.boogie_formula.specs.declared.formulas.Fail.{Fail}
+use Rattle.formula_text.specs.Names.{variable_name, definition_name, numbered, names_in_scope}
 
 -- ---- expressions
 
@@ -63,23 +66,50 @@ pub record Line {X : Type 0} (Says : List BToken → X → Type 0) (bytes : List
   pub cut : IsRow bytes tokens
   pub says : Says tokens x
 
--- after n variables and k definitions: `let dK := E` for each further one, and then `goal E`
-pub data SpellsLets (n : ℕ) : ℕ → List ℕ → List FExpr → FExpr → Type 0 where
-  goal : {k : ℕ} {line : List ℕ} {e : FExpr} → Line (SpellsScalar (names_in_scope n k)) line e →
-      SpellsLets n k (codes "goal " ++ line ++ 10 ∷ []) [] e
-  define : {k : ℕ} {line rest : List ℕ} {e g : FExpr} {es : List FExpr} → Line (SpellsValue (names_in_scope n k)) line e →
-      SpellsLets n (k + 1) rest es g → SpellsLets n k (codes "let " ++ definition_name (k + 1) ++ codes " := " ++ line ++ 10 ∷ rest) (e ∷ es) g
+-- after n variables and k definitions: `let dK := E` for each further one, and then what stands at the end
+pub data SpellsLets {X : Type 0} (SpellsEnd : ℕ → ℕ → List ℕ → X → Type 0) (n : ℕ) : ℕ → List ℕ → List FExpr → X → Type 0 where
+  end : {k : ℕ} {bytes : List ℕ} {x : X} → SpellsEnd n k bytes x → SpellsLets SpellsEnd n k bytes [] x
+  define : {k : ℕ} {line rest : List ℕ} {e : FExpr} {x : X} {es : List FExpr} → Line (SpellsValue (names_in_scope n k)) line e →
+      SpellsLets SpellsEnd n (k + 1) rest es x → SpellsLets SpellsEnd n k (codes "let " ++ definition_name (k + 1) ++ codes " := " ++ line ++ 10 ∷ rest) (e ∷ es) x
 
--- after n variables: `var vK: TYPE` for each further one, and then definitions and the goal
-pub data SpellsVars : ℕ → List ℕ → List BType → List FExpr → FExpr → Type 0 where
-  lets : {n : ℕ} {bytes : List ℕ} {es : List FExpr} {g : FExpr} → SpellsLets n 0 bytes es g → SpellsVars n bytes [] es g
-  variable : {n : ℕ} {line rest : List ℕ} {u : BType} {us : List BType} {es : List FExpr} {g : FExpr} →
-      Line (λ ts u. Derives rules a_type (rule TypeOf) ts u) line u → SpellsVars (n + 1) rest us es g →
-      SpellsVars n (codes "var " ++ variable_name (n + 1) ++ codes ": " ++ line ++ 10 ∷ rest) (u ∷ us) es g
+-- after n variables: `var vK: TYPE` for each further one, and then definitions and what stands at the end
+pub data SpellsVars {X : Type 0} (SpellsEnd : ℕ → ℕ → List ℕ → X → Type 0) : ℕ → List ℕ → List BType → List FExpr → X → Type 0 where
+  lets : {n : ℕ} {bytes : List ℕ} {es : List FExpr} {x : X} → SpellsLets SpellsEnd n 0 bytes es x → SpellsVars SpellsEnd n bytes [] es x
+  variable : {n : ℕ} {line rest : List ℕ} {u : BType} {us : List BType} {es : List FExpr} {x : X} →
+      Line (λ ts u. Derives rules a_type (rule TypeOf) ts u) line u → SpellsVars SpellsEnd (n + 1) rest us es x →
+      SpellsVars SpellsEnd n (codes "var " ++ variable_name (n + 1) ++ codes ": " ++ line ++ 10 ∷ rest) (u ∷ us) es x
+
+-- ---- a formula
+
+-- after n variables and k definitions: `goal E`
+pub data SpellsGoal (n k : ℕ) : List ℕ → FExpr → Type 0 where
+  goal : {line : List ℕ} {e : FExpr} → Line (SpellsScalar (names_in_scope n k)) line e → SpellsGoal n k (codes "goal " ++ line ++ 10 ∷ []) e
 
 -- the bytes spell the formula, as that of the procedure of this name and of this label
 pub record SpellsFormula (bytes : List ℕ) (name : List ℕ) (label : Label) (f : Formula) : Type 0 where
   pub rest : List ℕ
   pub text : bytes ≡ codes "vc " ++ name ++ codes " " ++ text_of label ++ 10 ∷ rest
   pub free : IsFreeName name
-  pub lines : SpellsVars 0 rest f.vars f.lets f.goal
+  pub lines : SpellsVars SpellsGoal 0 rest f.vars f.lets f.goal
+
+-- ---- conditions
+
+-- the word is the name of a definition, which has this number
+pub record IsDefinition (n k : ℕ) (word : List ℕ) (number : ℕ) : Type 0 where
+  pub form : is_name word ≡ true
+  pub place : ℕ
+  pub is_there : number_of word (numbered definition_name 1 k) ≡ Some place
+  pub is : number ≡ n + place
+
+-- after n variables and k definitions: `fails LABEL dK` for each assertion
+pub data SpellsFails (n k : ℕ) : List ℕ → List Fail → Type 0 where
+  done : SpellsFails n k [] []
+  fail : {word rest : List ℕ} {a : Fail} {fs : List Fail} → IsDefinition n k word a.name → SpellsFails n k rest fs →
+      SpellsFails n k (codes "fails " ++ text_of a.label ++ codes " " ++ word ++ 10 ∷ rest) (a ∷ fs)
+
+-- the bytes spell the conditions, as those of the procedure of this name
+pub record SpellsConditions (bytes : List ℕ) (name : List ℕ) (x : Conditions) : Type 0 where
+  pub rest : List ℕ
+  pub text : bytes ≡ codes "conditions " ++ name ++ 10 ∷ rest
+  pub free : IsFreeName name
+  pub lines : SpellsVars SpellsFails 0 rest x.vars x.lets x.fails

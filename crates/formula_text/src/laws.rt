@@ -2,11 +2,11 @@
 ghost use Rattle.std.specs.Prelude.{◌≡◌, ℕ, List};
 ghost use Rattle.vb_base.specs.declared.labels.Label.{Label};
 ghost use Rattle.boogie_text.specs.Printable.{IsFreeName};
-ghost use Rattle.boogie_formula.specs.Formula.{Formula};
-ghost use Rattle.boogie_formula.specs.Printable.{IsPrintableFormula};
-ghost use Rattle.formula_text.specs.Printed.{formula_text};
-ghost use Rattle.formula_text.specs.Short.{IsShortFormula};
-ghost use Rattle.formula_text.specs.Spells.{SpellsFormula};
+ghost use Rattle.boogie_formula.specs.Formula.{Conditions, Formula};
+ghost use Rattle.boogie_formula.specs.Printable.{IsPrintableConditions, IsPrintableFormula};
+ghost use Rattle.formula_text.specs.Printed.{conditions_text, formula_text};
+ghost use Rattle.formula_text.specs.Short.{AreShortConditions, IsShortFormula};
+ghost use Rattle.formula_text.specs.Spells.{SpellsConditions, SpellsFormula};
 
 /// No bytes spell two formulas, or one of two procedures or labels.
 pub fn one_formula()
@@ -24,4 +24,20 @@ pub fn written_is_spelled()
 /// before it.
 pub fn spelled_is_printable()
     ensures { (bytes name : List ℕ) (label : Label) (f : Formula) → SpellsFormula bytes name label f → IsFreeName name × IsPrintableFormula f }
+{}
+
+/// No bytes spell the conditions of two procedures, or two of one.
+pub fn one_conditions()
+    ensures { (bytes : List ℕ) (n m : List ℕ) (x y : Conditions) → SpellsConditions bytes n x → SpellsConditions bytes m y → (n ≡ m) × (x ≡ y) }
+{}
+
+/// What is written spells the conditions, if they can be printed and number no more names than differ.
+pub fn written_conditions_are_spelled()
+    ensures { (name : List ℕ) (x : Conditions) → IsFreeName name → IsPrintableConditions x → AreShortConditions x
+        → SpellsConditions (conditions_text name x) name x }
+{}
+
+/// What conditions bytes spell can be printed, and each assertion names a definition.
+pub fn spelled_conditions_are_printable()
+    ensures { (bytes name : List ℕ) (x : Conditions) → SpellsConditions bytes name x → IsFreeName name × IsPrintableConditions x }
 {}

@@ -1,4 +1,4 @@
-//! The text of formulas: what a text spells, and the printer.
+//! The text of formulas and of conditions: what a text spells, and the printer.
 #![tactic(auto)]
 
 mod laws;
@@ -6,5 +6,8 @@ mod printer;
 mod put_exprs;
 mod scopes;
 
-pub use laws::{one_formula, spelled_is_printable, written_is_spelled};
-pub use printer::print_formula;
+pub use laws::{
+    one_conditions, one_formula, spelled_conditions_are_printable, spelled_is_printable,
+    written_conditions_are_spelled, written_is_spelled,
+};
+pub use printer::{print_conditions, print_formula};

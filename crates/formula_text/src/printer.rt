@@ -1,20 +1,20 @@
-// The text of a formula.
+// The text of a formula, and of conditions.
 ghost use Rattle.std.specs.Prelude.{◌≡◌, ◌+◌, ◌++◌, ℕ, List, OnOk, IfOk, codes, map};
 ghost use Rattle.vb_base.specs.Labels.{text_of};
 ghost use Rattle.boogie_tree.specs.Whole.{type_of};
-ghost use Rattle.boogie_grammar.specs.Printed.{type_text};
+ghost use Rattle.boogie_grammar.specs.Printed.{name_at, type_text};
 ghost use Rattle.boogie_text.specs.Printable.{IsFreeName};
 ghost use Rattle.boogie_formula.specs.Formula as f;
-ghost use Rattle.boogie_formula.specs.Printable.{IsPrintableFormula};
-ghost use Rattle.boogie_formula.specs.View.{fexpr_of, formula_of};
-ghost use Rattle.formula_text.specs.Names.{variable_name, definition_name};
-ghost use Rattle.formula_text.specs.Printed.{fexpr_text, variables_text, definitions_text, formula_text};
-ghost use Rattle.formula_text.specs.Spells.{SpellsFormula};
+ghost use Rattle.boogie_formula.specs.Printable.{IsPrintableConditions, IsPrintableFormula};
+ghost use Rattle.boogie_formula.specs.View.{conditions_of, fexpr_of, formula_of};
+ghost use Rattle.formula_text.specs.Names.{variable_name, definition_name, names_in_scope};
+ghost use Rattle.formula_text.specs.Printed.{fexpr_text, variables_text, definitions_text, formula_text, fails_text, conditions_text};
+ghost use Rattle.formula_text.specs.Spells.{SpellsConditions, SpellsFormula};
 ghost use Rattle.formula_text.specs.View.{naming_of};
 
 use crate::put_exprs::put_between;
-use crate::scopes::{Scope, put_definition, put_variable};
-use boogie_formula::{FExpr, Formula};
+use crate::scopes::{Scope, put_definition, put_name, put_variable};
+use boogie_formula::{Conditions, FExpr, Fail, Formula};
 use boogie_text::put_type;
 use boogie_tree::BType;
 use std::alloc::Global;
@@ -36,6 +36,67 @@ pub fn print_formula(
         (n ≡ name.now) × (l ≡ label.now) × (g ≡ formula_of formula.now)) }
 {
     whole_text(alloc, name, label, formula)
+}
+
+/// The text of the conditions of the procedure of this name: a line for each variable and each definition, and one for each
+/// assertion. It spells the conditions, and no others.
+pub fn print_conditions(
+    alloc: Global,
+    name: &Ident,
+    conditions: &Conditions,
+) -> Result<Vec<u8>, Memory>
+    requires free { IsFreeName name.now }
+    requires printable { IsPrintableConditions (conditions_of conditions.now) }
+    ensures text { IfOk result (λ bytes. bytes.items ≡ conditions_text name.now (conditions_of conditions.now)) }
+    ensures spells { IfOk result (λ bytes. SpellsConditions bytes.items name.now (conditions_of conditions.now)) }
+    ensures no_other { IfOk result (λ bytes. (n : List ℕ) (x : f.Conditions) → SpellsConditions bytes.items n x →
+        (n ≡ name.now) × (x ≡ conditions_of conditions.now)) }
+{
+    all_conditions(alloc, name, conditions)
+}
+
+fn all_conditions(alloc: Global, name: &Ident, conditions: &Conditions) -> Result<Vec<u8>, Memory>
+    ensures { IfOk result (λ bytes. bytes.items ≡ conditions_text name.now (conditions_of conditions.now)) }
+{
+    let mut out = Vec::new(alloc);
+    put(&mut out, b"conditions ")?;
+    put(&mut out, name.bytes())?;
+    put(&mut out, b"\n")?;
+    put_variables(alloc, &mut out, &conditions.vars)?;
+    put_definitions(alloc, &mut out, conditions.vars.len(), &conditions.lets)?;
+    let scope = Scope {
+        variables: conditions.vars.len(),
+        definitions: conditions.lets.len(),
+        bound: &[],
+    };
+    put_fails(alloc, &mut out, &scope, &conditions.fails)?;
+    Ok(out)
+}
+
+/// A line for each assertion.
+fn put_fails(
+    alloc: Global,
+    out: &mut Vec<u8>,
+    scope: &Scope<'_>,
+    fails: &[Fail],
+) -> Result<(), Memory>
+    ensures { OnOk result (out.new.items ≡ out.old.items ++ fails_text scope.now.variables scope.now.definitions fails.now) }
+{
+    for fail in fails {
+        put_fail(alloc, out, scope, fail)?;
+    }
+    Ok(())
+}
+
+fn put_fail(alloc: Global, out: &mut Vec<u8>, scope: &Scope<'_>, fail: &Fail) -> Result<(), Memory>
+    ensures { OnOk result (out.new.items ≡ out.old.items ++ codes "fails " ++ text_of fail.now.label ++ codes " " ++
+        name_at (names_in_scope scope.now.variables scope.now.definitions) fail.now.name ++ codes "\n") }
+{
+    put(out, b"fails ")?;
+    put(out, &label_text(alloc, &fail.label)?)?;
+    put(out, b" ")?;
+    put_name(alloc, out, scope, fail.name)?;
+    put(out, b"\n")
 }
 
 fn whole_text(

@@ -5,4 +5,4 @@ use Rattle.boogie_wp.proofs.CodeLaws.{Left}
 use Rattle.boogie_wp.proofs.build.+building.Given as goal
 
 abbrev pub invariant-build-loop-stmt : goal.invariant-build-loop-stmt
-invariant-build-loop-stmt l = Left l.n l.label l.stmts l.stmt-index (builder_of l.initial.to) (builder_of l.to) × (begun_of l.to ≡ begun_of l.initial.to)
+invariant-build-loop-stmt l = Left l.n l.stmts l.stmt-index (builder_of l.initial.to) (builder_of l.to) × (begun_of l.to ≡ begun_of l.initial.to)

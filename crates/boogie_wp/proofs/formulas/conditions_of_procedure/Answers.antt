@@ -1,10 +1,9 @@
 use Rattle.std.proofs.Common.{rules, ◌≡◌, ◌∙◌, ℕ, length, List, [], ◌∷◌, suc, refl, sym, ap}
-use Rattle.std.proofs.lemmas.Result.{IfOk-weaker}
 use Rattle.boogie_tree.specs.declared.programs.BType.{BType}
 use Rattle.boogie_wp.specs.Build.{Builder}
 use Rattle.boogie_wp.specs.View.{builder_of, types_of_all}
-use Rattle.boogie_wp.proofs.ProcedureLaws.{room_there, formula_is}
-use Rattle.boogie_wp.proofs.formulas.formula_of_procedure.Goals as goal
+use Rattle.boogie_wp.proofs.ProcedureLaws.{room_there, conditions_are}
+use Rattle.boogie_wp.proofs.formulas.conditions_of_procedure.Goals as goal
 
 abbrev next : Builder → ℕ
 next b = b.next
@@ -26,6 +25,6 @@ pub returns : goal.returns
 returns c =
     let vars = types_of_all c.in_ok-vars.vars.items in
     let long : length vars ≡ c.len-n.result = length_types c.in_ok-vars.vars.items ∙ sym c.in_ok-vars.vars.ok.0 ∙ sym c.len-n.ensures in
-    IfOk-weaker c.finish.result _ _ (λ f made. made
-    ∙ formula_is c.args.proc.now c.args.label.now vars c.len-n.result c.deref.result.now c.deref-2.result.now (builder_of c.in_ok-builder.builder) (builder_of c.build.new.to) c.in_ok-vars.ensures long
-    c.deref.ensures.value c.deref-2.ensures.value (c.in_ok-builder.ensures vars long) c.in_ok-build.ensures.goes) c.finish.ensures
+    c.finish.ensures
+    ∙ conditions_are c.args.proc.now vars c.len-n.result c.deref.result.now c.deref-2.result.now (builder_of c.in_ok-builder.builder) (builder_of c.build.new.to) c.in_ok-vars.ensures long
+    c.deref.ensures.value c.deref-2.ensures.value (c.in_ok-builder.ensures vars long) c.in_ok-build.ensures.goes

@@ -2,7 +2,7 @@ use Rattle.std.proofs.Common.{◌≡◌, Bool, true, false, refl, subst}
 use Rattle.vb_base.specs.declared.labels.Label.{Label}
 use Rattle.boogie_wp.specs.Labels.{same_label}
 use Rattle.boogie_wp.proofs.LabelLaws.{same_label_is, same_label_itself}
-use Rattle.boogie_wp.proofs.build.is_label.Goals as goal
+use Rattle.boogie_wp.proofs.chain.is_label.Goals as goal
 
 tests_agree : (a b : Label) (p q : Bool) → same_label a b ≡ q → (p ≡ true → a ≡ b) → (a ≡ b → p ≡ true) → p ≡ q
 tests_agree a b true true e h g = refl

@@ -1,0 +1,4 @@
+mod Verdicts
+mod StageLaws
+mod CallLaws
+mod Answered

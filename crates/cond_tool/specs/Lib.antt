@@ -1,0 +1,5 @@
+pub mod Status
+pub mod Accepted
+pub mod Written
+pub mod Call
+pub mod Parts
