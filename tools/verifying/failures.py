@@ -16,10 +16,11 @@ STEPS = ("assert", "exhale", "inhale", "assume", "fold", "unfold")
 
 
 class Told:
-    """What is told of a place, and what is told of others beside it: `notes` has a line, a column and a text for each."""
+    """What is told of a place, and what is told of others beside it: `notes` has a line, a column and a text for each. `whole` tells
+    that it is told of the file as a whole, so that no line of it is shown."""
 
-    def __init__(self, line, column, message, notes=()):
-        self.line, self.column, self.message, self.notes = line, column, message, list(notes)
+    def __init__(self, line, column, message, notes=(), whole=False):
+        self.line, self.column, self.message, self.notes, self.whole = line, column, message, list(notes), whole
 
     def __eq__(self, other):
         return vars(self) == vars(other)

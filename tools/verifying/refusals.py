@@ -50,10 +50,10 @@ def told(source, said):
     """What is told of a line with which the program refuses a file. Of the file as a whole it is told at its first place."""
     found = LINE.fullmatch(said.strip())
     if found is None or found[1] not in REASONS:
-        return Told(1, 1, f"the file is refused: {said.strip()}")
+        return Told(1, 1, f"the file is refused: {said.strip()}", whole=True)
     reason = found[1]
     if found[2] is None:
-        return Told(1, 1, REASONS[reason] or reason)
+        return Told(1, 1, REASONS[reason] or reason, whole=True)
     line, column = max(1, int(found[2])), max(1, int(found[3]))
     n = source.at(line, column)
     message, notes = REASONS[reason], []

@@ -78,7 +78,7 @@ class Report:
             elif it.why:
                 self.line(f"{place}: not confirmed by replay, but by run: {it.why}")
         if result.why:
-            self.line(f"{at}: undecided: `{unit.name}` has no verdict: {result.why}")
+            self.line(f"{at}: undecided: `{unit.name}`: {result.why}")
         self.smoke(at, unit, result)
 
     def smoke(self, at, unit, result):

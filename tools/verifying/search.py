@@ -16,16 +16,17 @@ LEAST = 0.02    # seconds for which it is worth to ask
 
 
 class Way:
-    """A way to ask: `part` is its part of the time that is left, `whole` whether that nothing is found says that there is nothing."""
+    """A way to ask: `part` is its part of the time that is left, where another way comes behind it, and `whole` whether that nothing
+    is found says that there is nothing."""
 
     def __init__(self, name, part, whole, numbers=False, options=()):
         self.name, self.part, self.whole, self.numbers, self.options = name, part, whole, numbers, options
 
 
 PLAIN = Way("plain", 0.4, True)
-NUMBERS = Way("numbers", 0.25, False, True, ("smt.relevancy 0",))
-SMALL_INTS = Way("small", 0.3, False)
-GRID = Way("grid", 0.4, False)
+NUMBERS = Way("numbers", 0.4, False, True, ("smt.relevancy 0",))
+SMALL_INTS = Way("small", 0.5, False)
+GRID = Way("grid", 1, False)
 WAYS = (PLAIN, NUMBERS, SMALL_INTS, GRID)
 
 
@@ -41,11 +42,13 @@ class Search:
     def left(self):
         return self.end - time.monotonic()
 
-    def any_of(self, terms, ways=WAYS):
-        """Values at which one of the terms is true; or `unsat` where there are none, or why nobody knows."""
-        why = "z3 did not find out in time"
+    def any_of(self, terms, ways=WAYS, part=1.0):
+        """Values at which one of the terms is true; or `unsat` where there are none, or why nobody knows. It takes so much of the time
+        that is left."""
+        why, end = "z3 did not find out in time", time.monotonic() + self.left() * part
         for way in ways:
-            said, values = self.ask(way, terms, self.left() * way.part)
+            seconds = end - time.monotonic()
+            said, values = self.ask(way, terms, seconds * way.part if way is not ways[-1] else seconds)
             if values is not None:
                 return "sat", values
             if said == "unsat" and way.whole:

@@ -13,7 +13,8 @@ ALL = 1 << 40   # no content is so long
 
 def error_lines(source, told):
     """An error as editors read it: `FILE:LINE:COL: error: MESSAGE`, the line with a mark, and the notes in the same form."""
-    lines = [f"{source.path}:{told.line}:{told.column}: error: {told.message}", *marked(source, told.line, told.column)]
+    lines = [f"{source.path}:{told.line}:{told.column}: error: {told.message}"]
+    lines += [] if told.whole else marked(source, told.line, told.column)
     for line, column, text in told.notes:
         lines += [f"{source.path}:{line}:{column}: note: {text}", *marked(source, line, column)]
     return lines

@@ -13,6 +13,7 @@ from .smaller import Smaller, Values
 from .symbolic import symbolic_of
 from .walk import Walk
 
+AT_ONCE, ALONE = 0.3, 0.8  # parts of the time that is left, for all labels at once and for each alone
 VERIFIED, FAILS, UNDECIDED = "verified", "fails", "undecided"
 
 
@@ -62,21 +63,20 @@ class Examiner:
         left = self.possible()
         why = ""
         while left:
-            said, values = self.search.any_of([it for terms in left.values() for it in terms])
+            said, values = self.search.any_of([it for terms in left.values() for it in terms], (PLAIN,), AT_ONCE)
+            label = self.told(values, left) if values is not None else None
             if said == "unsat":
                 left = {}
-            elif values is None:
-                left, why = self.one_by_one(left, said)
+            elif label is None:
+                left, why = self.one_by_one(left)
                 break
             else:
-                label = self.told(values, left)
-                if label is None:
-                    left, why = self.one_by_one(left, "z3's values lead to no failure")
-                    break
                 del left[label]
         return self.verdict(left, why)
 
     def verdict(self, left, why):
+        order = {label: n for n, (label, _) in reversed(list(enumerate(self.symbolic.fails)))}
+        self.failures.sort(key=lambda it: order[it.label])
         odd = [it for it in self.failures if not it.confirmed]
         if any([it.confirmed for it in self.failures]):
             return Outcome(FAILS, self.undecided(left, why), self.failures)
@@ -100,19 +100,20 @@ class Examiner:
                 found.setdefault(label, []).append(term)
         return found
 
-    def one_by_one(self, left, why):
-        """Asks of each label alone, the last one first. Returns those that are left, and why."""
-        open_ = {}
-        labels = list(left)
-        for n, label in enumerate(reversed(labels)):
-            self.search.open = None
-            ways = WAYS
-            said, values = self.search.any_of(left[label], ways) if self.search.left() > 0 else (why, None)
-            if values is not None and self.told(values, {label: left[label]}) is None:
-                self.failures.append(Failure(label, False, None, None, None, "the values that z3 finds lead elsewhere"))
-            elif values is None and said != "unsat":
-                open_[label], why = left[label], said
-        return {label: open_[label] for label in labels if label in open_}, why
+    def one_by_one(self, left):
+        """Asks of each label alone, first in the plain way, and then in all. Returns those that are left, and why."""
+        why = ""
+        for ways in ((PLAIN,), WAYS):
+            open_ = {}
+            for n, (label, terms) in enumerate(left.items()):
+                self.search.open = None
+                said, values = self.search.any_of(terms, ways, ALONE / (len(left) - n))
+                if values is not None and self.told(values, {label: terms}) is None:
+                    self.failures.append(Failure(label, False, None, None, None, "the values that z3 finds lead elsewhere"))
+                elif values is None and said != "unsat":
+                    open_[label], why = terms, said
+            left = open_
+        return left, why
 
     def told(self, values: Values, left):
         """Notes the label at which the run of some values fails, with its confirmation; None where it fails at none of these."""

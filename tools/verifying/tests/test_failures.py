@@ -89,6 +89,8 @@ LIST_CASES = (
     ("14:3 15:7 false", Told(15, 7, "this assert may fail: `w > 0` may be false", [(14, 3, "of this assert")])),
     ("7:1 3:58 null", Told(6, 23, "a postcondition of `m`, at the end of the body, opens `list`, whose body may not be well-defined: "
                                   "`x.next` is read, and `x` may be null", [(3, 58, IN_LIST), (7, 1, OF_BODY)])),
+    ("7:1 6:37 perm", Told(6, 37, "a postcondition of `m` may not be well-defined at the end of the body: "
+                                  "`list(x)` is unfolded, and too little of it may be held", [(7, 1, OF_BODY)])),
     ("7:1 6:23 false", Told(6, 23, "a postcondition of `m` may not hold at the end of the body: "
                                    "`(unfolding acc(list(x), 1/k) in x.val) > v` may be false", [(7, 1, OF_BODY)])),
 )

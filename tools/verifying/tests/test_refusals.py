@@ -171,6 +171,7 @@ class Refusals(unittest.TestCase):
         for reason, words in (("size", "the file has more than 1,048,576 bytes"), ("weight 100001", "the program weighs more than")):
             told = refusals.told(source, f"error: {reason}")
             self.assertEqual((told.line, told.column, told.message[:len(words)]), (1, 1, words))
+            self.assertEqual(error_lines(source, told), [f"file.vpr:1:1: error: {told.message}"])
 
     def test_notes(self):
         told = refusals.told(Source("file.vpr", b"field f: Int\nmethod f()"), "error: type 2:8 rule 2")
