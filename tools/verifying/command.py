@@ -88,8 +88,8 @@ def main(words, page):
         print(f"verify: {why}", file=sys.stderr)
         return 2
     except KeyboardInterrupt:
-        print("verify: interrupted", file=sys.stderr)
-        return 130
+        print("verify: interrupted", file=sys.stderr, flush=True)
+        os._exit(130)   # no thread is waited for
     except BrokenPipeError:
         os.dup2(os.open(os.devnull, os.O_WRONLY), 1)
         return 2
@@ -138,15 +138,15 @@ class Command:
             for n, file in enumerate(self.files):
                 file.room = os.path.join(room, str(n))
             self.program, self.pool = find(), None
-            alone = work.Alone(self.program)
+            self.room, alone = room, work.Alone(self.program, room)
             jobs = self.options.jobs if len(self.files) > 1 else 1
             try:
-                self.pool = work.side_by_side(self.program, jobs) if jobs > 1 else alone
+                self.pool = work.SideBySide(self.program, room, jobs) if jobs > 1 else alone
                 self.go(jobs)
             finally:
                 self.progress.clear()
-                self.pool.shutdown()
-                alone.shutdown()
+                self.pool.end()
+                alone.end()
         return self.report.status
 
     def go(self, jobs):
@@ -190,7 +190,7 @@ class Command:
     def pool_for(self, units):
         """Where units are looked at: side by side, if there is much to do."""
         if isinstance(self.pool, work.Alone) and min(self.options.jobs, len(units)) > 1 and sum([len(it.text) for it in units]) > SMALL:
-            self.pool = work.side_by_side(self.program, min(self.options.jobs, len(units)))
+            self.pool = work.SideBySide(self.program, self.room, min(self.options.jobs, len(units)))
         return self.pool
 
     def tell(self, file):

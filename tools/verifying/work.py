@@ -1,7 +1,6 @@
 """The work on files and units, in processes side by side: each has a solver of its own that stays open, and a folder of its own."""
-import atexit
 import os
-import shutil
+import signal
 import sys
 import tempfile
 import threading
@@ -25,14 +24,10 @@ MINE = None     # what this process keeps from one unit to the next
 class Mine:
     """A solver, a folder, and the last file that was looked at."""
 
-    def __init__(self, program):
+    def __init__(self, program, room):
         self.program, self.solver = Program(program), Solver()
-        self.room = tempfile.mkdtemp(prefix="verify-")
+        self.room = tempfile.mkdtemp(dir=room)
         self.path, self.source = None, None
-
-    def end(self):
-        self.solver.stop()
-        shutil.rmtree(self.room, ignore_errors=True)
 
     def source_of(self, given):
         if self.path != given.copy:
@@ -41,18 +36,18 @@ class Mine:
         return self.source
 
 
-def begin(program):
-    """Makes this process ready for units."""
+def begin(program, room):
+    """Makes this process ready for units, with a folder of its own in a room."""
     global MINE
-    MINE = Mine(program)
-    atexit.register(MINE.end)
+    MINE = Mine(program, room)
 
 
-def begin_in_pool(program):
-    """Makes a process of a pool ready, which ends without the functions of `atexit`, but with those of its own."""
+def begin_in_pool(program, room):
+    """Makes a process of a pool ready. Where all is interrupted, the first process ends the others."""
     from multiprocessing.util import Finalize
-    begin(program)
-    Finalize(None, MINE.end, exitpriority=10)
+    signal.signal(signal.SIGINT, signal.SIG_IGN)
+    begin(program, room)
+    Finalize(None, MINE.solver.stop, exitpriority=10)
 
 
 def deep(function, *values):
@@ -117,22 +112,35 @@ class Later:
 class Alone:
     """Does all work in this process, when it is asked for."""
 
-    def __init__(self, program):
-        begin(program)
+    def __init__(self, program, room):
+        begin(program, room)
 
     def submit(self, function, *values):
         return Later(function, values)
 
-    def shutdown(self):
-        MINE.end()
+    def end(self):
+        MINE.solver.stop()
 
 
-def side_by_side(program, jobs):
-    """So many processes that do work side by side. These modules take long to load, and small files do without."""
-    import concurrent.futures
-    import multiprocessing
-    context = multiprocessing.get_context("fork")
-    return concurrent.futures.ProcessPoolExecutor(jobs, mp_context=context, initializer=begin_in_pool, initargs=(program,))
+class SideBySide:
+    """Has work done in so many processes. The modules for it take long to load, and small files do without."""
+
+    def __init__(self, program, room, jobs):
+        import concurrent.futures
+        import multiprocessing
+        context = multiprocessing.get_context("fork")
+        self.before = set(multiprocessing.active_children())
+        self.pool = concurrent.futures.ProcessPoolExecutor(jobs, mp_context=context, initializer=begin_in_pool, initargs=(program, room))
+        self.children = multiprocessing.active_children
+
+    def submit(self, function, *values):
+        return self.pool.submit(function, *values)
+
+    def end(self):
+        """Ends the processes, whatever they do."""
+        for it in set(self.children()) - self.before:
+            it.terminate()
+        self.pool.shutdown(wait=False)
 
 
 def cores():
