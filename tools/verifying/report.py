@@ -87,16 +87,16 @@ class Report:
         elif result.smoke == "done":
             self.line(f"{at}: note: this run of `{unit.name}` is done, as `run` says:")
             for it in result.smoke_run.splitlines() if self.options.runs else ():
-                self.line(f"    {it}")
+                self.line(it)
         elif result.smoke:
             self.line(f"{at}: warning: whether a run of `{unit.name}` comes to its end is not known: {result.smoke}")
 
     def run(self, given, unit, label):
-        """The run that fails, and where it does."""
+        """The run that fails, as a run file has it, and where it does."""
         word = "replay" if given.is_boogie else "run"
         self.line(f"  This run of `{unit.name}` fails there, as `{word}` says:")
         for it in label.shown:
-            self.line(f"    {it}")
+            self.line(it)
         if label.state_lines:
             self.line("  Where it fails:")
             for it in label.state_lines:
