@@ -1,10 +1,8 @@
 -- What the parts of a call, one after the other, make of it.
-use Rattle.std.proofs.Common.{◌≡◌, ◌⊎◌, inl, inr, ◌∙◌, ◌+◌, ◌<◌, ℕ, List, [], ◌∷◌, length, map, replicate, get_or, Option, Some, None, Result, Ok, Err, IfOk, refl, sym, ap, subst, arith}
-use Rattle.std.specs.String.{string_bytes}
+use Rattle.std.proofs.Common.{◌≡◌, ◌⊎◌, inl, inr, ◌∙◌, ◌+◌, ◌<◌, ℕ, List, length, replicate, Option, Some, None, Result, Ok, Err, IfOk, refl, sym, subst, arith}
 use Rattle.std.specs.declared.alloc.Global.{Global}
-use Rattle.std.specs.declared.string.String.{String}
 use Rattle.std.specs.declared.vec.Vec.{Vec}
-use Rattle.std.proofs.lemmas.List.{length-map, length-replicate}
+use Rattle.std.proofs.lemmas.List.{length-replicate}
 use Rattle.vb_outer.specs.Faults.{Rose}
 use Rattle.vb_outer.specs.Shelf.{Files, IsWhole, IsLonger}
 use Rattle.vb_outer.specs.Sink.{Appends, AppendsPrefix}
@@ -65,22 +63,6 @@ written_are files file name bytes (Err e) whole w = w
 pub has_done : {words : List (List ℕ)} {files : Option Files} {file name text : List ℕ} → Asks words file name → Does (IsWhole files) file name text → AreOfFile (IsWhole files) file name text →
     HasDone words files text
 has_done {file = f} {name = n} asks does are = record { file = f; name = n; asked = asks; does = does; conditions = are }
-
--- ---- the words
-
-same_length : (words : List (String Global)) (texts : List (List ℕ)) → map string_bytes words ≡ texts → length words ≡ length texts
-same_length words texts same = sym (length-map words string_bytes) ∙ ap length same
-
-pub not_two : (words : List (String Global)) → (length words ≡ 2 → ⊥) → AskNothing (map string_bytes words)
-not_two words none = λ file name h. none (same_length words _ h)
-
-pub two_words : (words : List (String Global)) (file name : String Global) → length words ≡ 2 → file ≡ get_or words 0 file → name ≡ get_or words 1 name →
-    Asks (map string_bytes words) (string_bytes file) (string_bytes name)
-two_words [] file name two h k = absurd (omega (arith, two))
-two_words (a ∷ []) file name two h k = absurd (omega (arith, two))
-two_words (a ∷ b ∷ c ∷ words) file name two h k = absurd (omega (arith, two))
-two_words (a ∷ b ∷ []) file name two h k =
-    ap (λ x. string_bytes x ∷ string_bytes b ∷ []) (sym h) ∙ ap (λ x. string_bytes file ∷ string_bytes x ∷ []) (sym k)
 
 -- ---- what a status that was reported comes to
 
