@@ -21,6 +21,7 @@ use Rattle.boogie_cut.specs.Cut.{cut, cut_proc, cut_procs, cut_program}
 use Rattle.boogie_cut.specs.Follows.{IsCutOf, with_bodies, AreCutOf}
 use Rattle.boogie_cut.proofs.EnvLaws.{length_env}
 use Rattle.boogie_cut.proofs.BlockLaws.{Callees, written_types, proc_alike, length_map}
+use Rattle.boogie_cut.proofs.BoundLaws.{fails_unbounded}
 use Rattle.boogie_cut.proofs.LoopLaws.{proc_tells, tells_failed}
 
 -- ---- further locals with the defaults of their types
@@ -72,7 +73,7 @@ module _ (ps : List WProc) (callees : Callees ps) (d : WProc) (body : WStmts) (t
     name = refl;
     locals = take_front d.locals _;
     ends = λ env cs e r. proc_alike ps callees d body typed block env cs e r;
-    fails = fails_so;
+    fails = λ b env cs left n label e r is. fails_so env cs left n label e r (fails_unbounded b ps d body env cs left n label is);
   }
 
 -- ---- all of them

@@ -6,6 +6,7 @@ pub mod BlockLaws
 pub mod TurnLaws
 pub mod TurningLaws
 pub mod LoopLaws
+pub mod BoundLaws
 pub mod FollowsLaws
 pub mod CodeLaws
 pub mod WriteLaws

@@ -3,7 +3,7 @@ use Rattle.std.specs.Prelude.{◌≡◌, ℕ, List, length, take, All}
 use Rattle.std.specs.List.{AllZip, filter_map}
 use Rattle.std.specs.Option.{option_map}
 use Rattle.vb_base.specs.declared.labels.Label.{Label}
-use Rattle.vb_value.specs.Bound.{Unbounded}
+use Rattle.vb_value.specs.Bound.{Bound, Unbounded}
 use Rattle.boogie_tree.specs.Program.{Proc, BProgram}
 use Rattle.boogie_tree.specs.Value.{BValue, BChoice}
 use Rattle.boogie_tree.specs.Values.{IsEnvironment, IsReducedChoice}
@@ -23,9 +23,9 @@ pub record IsCutOf (ps : List WProc) (d : WProc) (body : WStmts) (p : Proc) : Ty
   -- from all values of its locals and on all choices it ends as the modular run of d, with the same choices left
   pub ends : (env : List BValue) (cs : List BChoice) → IsEnvironment (types_of p) env → All IsReducedChoice cs →
       EndAlike (length d.locals) (brun_proc Unbounded p env cs) (cutrun_proc ps Unbounded d body (take (length d.locals) env) cs)
-  -- where the turning run of d fails at a label, with any number of turns, some run of it fails there
-  pub fails : (env : List BValue) (cs left : List BChoice) (n : ℕ) (label : Label) → IsEnvironment (wide_types d) env → All IsReducedChoice cs →
-      wrun_proc ps Unbounded d body env cs n ≡ Halts (Failed label) left → ProcFails p label
+  -- where the turning run of d fails at a label, with any number of turns, with the bound or without it, some run of it fails there
+  pub fails : (b : Bound) (env : List BValue) (cs left : List BChoice) (n : ℕ) (label : Label) → IsEnvironment (wide_types d) env → All IsReducedChoice cs →
+      wrun_proc ps b d body env cs n ≡ Halts (Failed label) left → ProcFails p label
 
 -- the procedures that have a body, each with it
 abbrev pub with_bodies : List WProc → List (WProc × WStmts)

@@ -1,3 +1,4 @@
 pub mod NameLaws
 pub mod LiteralLaws
 pub mod PrintableLaws
+pub mod WrittenLaws

@@ -2,3 +2,6 @@
 #![tactic(auto)]
 
 pub mod laws;
+mod printable;
+
+pub use printable::cut_with_text;

@@ -21,4 +21,5 @@ pub mod AssertLaws
 pub mod LoopLaws
 pub mod CallLaws
 pub mod ExecLaws
+pub mod AsksLaws
 pub mod TopLaws

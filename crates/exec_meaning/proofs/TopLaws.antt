@@ -1,9 +1,11 @@
 -- Where no unit fails, no execution does: with the bound an execution that is not Over is the one without it, and the units are
 -- the methods.
-use Rattle.std.proofs.Common.{◌≡◌, sym, ap, ◌∙◌, subst, arith, ◌+◌, ℕ, zero, suc, Option, Some, None, List, [], ◌∷◌, ◌++◌, length, Contains, slice_get, take}
+use Rattle.std.proofs.Common.{◌≡◌, sym, ap, ◌∙◌, subst, arith, ◌+◌, ℕ, zero, suc, Option, Some, None, List, [], ◌∷◌, ◌++◌, length, All, Contains, slice_get, take}
+use Rattle.std.proofs.lemmas.List.{append-nil}
 use Rattle.std.proofs.lemmas.Option.{slice_get_within}
+use Rattle.vb_base.specs.declared.labels.Label.{Label}
 use Rattle.vb_base.specs.declared.places.Pos.{Pos}
-use Rattle.vb_value.specs.Bound.{Bounded, Unbounded}
+use Rattle.vb_value.specs.Bound.{Bound, Bounded, Unbounded}
 use Rattle.vb_value.specs.declared.values.Value.{Value}
 use Rattle.viper_core.specs.declared.programs.Unit as unit
 use Rattle.viper_core.specs.declared.programs.Unit.TheVariants as u
@@ -12,18 +14,23 @@ use Rattle.viper_core.specs.Formed.{methods_among, IsFormed}
 use Rattle.viper_core.specs.Program.{Program, Method, Body}
 use Rattle.viper_core.specs.Stmt as s
 use Rattle.viper_core.proofs.UnitLaws.{lt-below}
+use Rattle.viper_state.specs.Choice.{Choice}
+use Rattle.viper_state.specs.Event.{Event}
+use Rattle.viper_state.specs.Fits.{FitsOpening, FitsChoice}
 use Rattle.viper_state.specs.Run.{Opening, Scene, with_variables}
 use Rattle.viper_state.specs.State.{State, empty_state}
 use Rattle.viper_meaning.specs.ComparedRuns.{is_over}
-use Rattle.viper_meaning.specs.Run.{Run}
+use Rattle.viper_meaning.specs.Run.{Run, Fails, ran, on}
 use Rattle.viper_meaning.specs.Statements.{Configuration, Activation, scene}
 use Rattle.viper_meaning.specs.Units.{first_store, first_scene, run_of_unit, start_method, unit_run}
 use Rattle.viper_meaning.proofs.BoundLaws.{found_bounded, truth_bounded, value_bounded, values_bounded}
 use Rattle.viper_meaning.proofs.RunBoundLaws.{IsBoundedRun, goes_never_over, evaluating_bounded, then_do_bounded, if_run_bounded, goes_bounded, small_run}
 use Rattle.viper_meaning.proofs.StatementBoundLaws.{taking_values_bounded, produce_all_bounded, consume_all_bounded, called_bounded, run_stmt_bounded, unit_run_bounded}
 use Rattle.viper_meaning.proofs.StatementFitsLaws.{method_types_are}
+use Rattle.viper_meaning.proofs.TakenLaws.{passed}
 use Rattle.exec_meaning.specs.Execution.{Went, Still, Spent, with_went, going_on, keeping, beginning, asserting, Bodies, returns_in, exec_called, exec_turns, exec_stmt, exec_block, exec_body, bodies_within, exec}
-use Rattle.exec_meaning.specs.Frame.{NoUnitFails, FramesHold}
+use Rattle.exec_meaning.specs.Frame.{IsFramedProgram, NoUnitFails, FramesHold}
+use Rattle.exec_meaning.proofs.AsksLaws.{exec_asks}
 use Rattle.exec_meaning.proofs.CallLaws.{UnitsSafe}
 use Rattle.exec_meaning.proofs.ExecLaws.{exec_safe}
 use Rattle.exec_meaning.proofs.SafeLaws.{never_fails, safe_on}
@@ -128,9 +135,20 @@ units_safe program formed none k m there o opens =
 
 -- ---- the frame
 
+-- on choices that fit the program
+module _ (program : Program) (formed : IsFormed program) (framed : IsFramedProgram program) (none : NoUnitFails program) (k : ℕ) (m : Method) (body : Body)
+    (there : slice_get program.methods k ≡ Some m) (has : m.body ≡ Some body) (o : Opening) (opens : FitsOpening program.layout (take (m.params + m.returns) m.vars) o) (n : ℕ) where
+  never_on_fitting : (b : Bound) (choices : List Choice) → All (FitsChoice program.layout) choices → (events : List Event) (l : Label) (left : List Choice) →
+      on (exec b program m body o n) choices ≡ ran events (Fails l) left → ⊥
+  never_on_fitting Unbounded choices fit events l left e =
+      never_fails (exec_safe program formed framed (units_safe program formed none) k m body there has o opens n) choices fit events l left e
+  never_on_fitting Bounded choices fit events l left e =
+      let same = small_run (exec_bounded program m body o n) choices (ap is_over e) in
+      never_fails (exec_safe program formed framed (units_safe program formed none) k m body there has o opens n) choices fit events l left (sym same ∙ e)
+
+-- those that it took fit, and on these alone it ends alike
 pub frames_hold : FramesHold
-frames_hold Unbounded program formed framed none k m body there has o opens choices fit n events l left e =
-    never_fails (exec_safe program formed framed (units_safe program formed none) k m body there has o opens n) choices fit events l left e
-frames_hold Bounded program formed framed none k m body there has o opens choices fit n events l left e =
-    let same = small_run (exec_bounded program m body o n) choices (ap is_over e) in
-    never_fails (exec_safe program formed framed (units_safe program formed none) k m body there has o opens n) choices fit events l left (sym same ∙ e)
+frames_hold b program formed framed none k m body there has o opens choices reduced n events l left e =
+    let h = passed program.layout (exec b program m body o n) (exec_asks b program m body o n) choices events (Fails l) left e tt reduced in
+    never_on_fitting program formed framed none k m body there has o opens n b h.0.taken h.1 events l []
+    (subst (λ cs. on (exec b program m body o n) cs ≡ ran events (Fails l) []) (append-nil h.0.taken) (h.0.alike []))

@@ -9,8 +9,9 @@ use Rattle.viper_core.specs.Stmt as s
 use Rattle.viper_core.specs.Written.{HasNoWildcard}
 use Rattle.viper_state.specs.Choice.{Choice}
 use Rattle.viper_state.specs.Event.{Event}
-use Rattle.viper_state.specs.Fits.{FitsOpening, FitsChoice}
+use Rattle.viper_state.specs.Fits.{FitsOpening}
 use Rattle.viper_state.specs.Run.{Opening}
+use Rattle.viper_meaning.specs.Asked.{IsReducedChoice}
 use Rattle.viper_meaning.specs.Run.{Fails, ran, on}
 use Rattle.viper_meaning.specs.Units.{ViperFails}
 use Rattle.exec_meaning.specs.Execution.{exec}
@@ -54,11 +55,12 @@ pub record IsFramedProgram (program : Program) : Type 0 where
 abbrev pub NoUnitFails : Program → Type 0
 NoUnitFails program = (n : ℕ) (l : Label) → ViperFails program n l → ⊥
 
--- no execution of a method with a body fails, from an opening that fits the method, on choices that fit the program, within any budget
+-- No execution of a method with a body fails, from an opening that fits the method, on any choices whose fractions are in lowest terms,
+-- within any budget. A choice that does not fit blocks where it is taken, and one that is not taken counts for nothing.
 abbrev pub NoExecutionFails : Bound → Program → Type 0
 NoExecutionFails b program = (number : ℕ) (m : Method) (body : Body) → slice_get program.methods number ≡ Some m → m.body ≡ Some body
     → (o : Opening) → FitsOpening program.layout (take (m.params + m.returns) m.vars) o
-    → (choices : List Choice) → All (FitsChoice program.layout) choices
+    → (choices : List Choice) → All IsReducedChoice choices
     → (n : ℕ) (events : List Event) (l : Label) (left : List Choice) → on (exec b program m body o n) choices ≡ ran events (Fails l) left → ⊥
 
 abbrev pub FramesHold : Type 0

@@ -1,5 +1,6 @@
-//! `remduska translate FILE` writes the Boogie program of a Viper file to the standard output, `remduska run FILE UNIT RUNFILE`
-//! the outcome of a run of a unit of it, and `remduska replay BPL BRUN` the outcome of a run of a procedure of a Boogie program.
+//! `remduska` does what its words ask for: it translates a Viper file (`translate`), runs a unit of it (`run`) or executes a
+//! method (`exec`), replays a run of a Boogie procedure (`replay`), cuts the loops and calls of a Boogie file (`cut`), states the
+//! condition of a procedure and a label (`vc`), or makes a program to measure with (`make`).
 //!
 //! What a call does is the contract of `vb_tool::tool`; this file only connects it to the process.
 #![tactic(auto)]

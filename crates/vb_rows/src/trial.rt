@@ -5,7 +5,7 @@ ghost use Rattle.vb_outer.specs.Place.{held};
 
 use crate::again::{FAILED, ends_otherwise, file_of_run};
 use crate::fault::Fault;
-use crate::row::{Call, End, Row};
+use crate::row::{Call, End, Row, words_of};
 use crate::turns::all_turns_fail;
 use std::alloc::Global;
 use std::io;
@@ -77,6 +77,20 @@ pub fn end_of(alloc: Global, call: Call) -> Result<Ended, Fault> {
     Ok(Ended { status, out, err })
 }
 
+/// A file with what a command writes over the files of a call: the file's name, and then the words of the command.
+pub fn written(alloc: Global, call: &Call, text: &str) -> Result<MemFile, Fault> {
+    let Some((name, words)) = text.split_once(' ') else {
+        return Err(Fault::Line);
+    };
+    let mut over = call.copy(alloc)?;
+    over.words = words_of(alloc, words)?;
+    let ended = end_of(alloc, over)?;
+    Ok(MemFile {
+        name: name.as_bytes().to_vec(alloc)?,
+        bytes: ended.out.written().to_vec(alloc)?,
+    })
+}
+
 /// Whether no two files have one name.
 fn are_named_apart(files: &[MemFile]) -> bool
     ensures { result ≡ names_differ (map held files.now) }
@@ -139,8 +153,21 @@ fn is_out_as_said(end: &End, out: &[u8]) -> bool {
         out.starts_with(&end.out)
     };
     is_begun
-        && end.has.iter().all(|line| has_line(out, line.as_bytes()))
+        && has_lines(out, &end.has)
         && !end.lacks.iter().any(|line| has_line(out, line.as_bytes()))
+}
+
+/// Whether the lines stand in the text, in this order.
+fn has_lines(text: &[u8], lines: &[String]) -> bool {
+    let mut left = lines;
+    for each in text.split(|byte| *byte == b'\n') {
+        if let [first, rest @ ..] = left {
+            if first.as_bytes() == each {
+                left = rest;
+            }
+        }
+    }
+    left.is_empty()
 }
 
 fn has_line(text: &[u8], line: &[u8]) -> bool {
