@@ -9,7 +9,8 @@ use Rattle.vb_outer.specs.Shelf.{Files, IsFile, IsMissing, IsWhole}
 use Rattle.vb_outer.specs.Sink.{Appends}
 use Rattle.boogie_run.specs.Start.{outcome_of}
 use Rattle.boogie_run.specs.declared.replaying.BOutcome.{BOutcome}
-use Rattle.boogie_tree.specs.Program.{Proc}
+use Rattle.boogie_grammar.specs.Spells.{BSpells}
+use Rattle.boogie_tree.specs.Program.{Proc, BProgram}
 use Rattle.enc_stmt.specs.Translates.{text_of}
 use Rattle.viper_core.specs.Program as p
 use Rattle.boogie_wide.specs.Wide.{WProgram}
@@ -42,6 +43,7 @@ use Rattle.vb_tool.specs.ReplayOutcome.{replay_status, replay_text}
 use Rattle.vb_tool.specs.Summary.{made_text}
 use Rattle.vb_tool.specs.Transfer.{IsTransfer}
 use Rattle.vb_tool.specs.Units.{UnitRun, end_of}
+use Rattle.vb_tool.specs.Verified.{NoProcedureFails}
 use Rattle.vb_tool.specs.declared.status.Refusal.{Refusal}
 use Rattle.vb_tool.specs.declared.status.Refusal.TheVariants as refusal
 use Rattle.vb_tool.specs.declared.status.Status.{Status}
@@ -342,6 +344,15 @@ module _ (words : List (List ℕ)) (files : Option Files) where
   transfer_comes before now s out file unit run_file label asks is =
       let written = subst (OutAfter before now (HasDone words files)) is out in
       (written.0, promised_this asks written.1 label refl, written.2)
+
+  -- an execution does not fail where no procedure of the translation of its file does
+  pub frame_comes : (before now : Option (List ℕ)) (s : Status) → OutAfter before now (HasDone words files) s → (file method run_file bytes : List ℕ) (n : ℕ) (program : p.Program) (boogie : BProgram) (label : Label) →
+      Asks words (Execute file method run_file n) → IsFile files file bytes → IsAccepted bytes program → BSpells (text_of program) boogie → NoProcedureFails boogie → s ≡ status.Failed label → ⊥
+  frame_comes before now s out file method run_file bytes n program boogie label asks is accepted spelled nothing failed =
+      let written = subst (OutAfter before now (HasDone words files)) failed out in
+      let promised = promised_this asks written.1 in
+      let same = one_accepted accepted (same_program (same_file files file bytes promised.bytes is promised.is) promised.accepted.framed.accepted) in
+      promised.framed boogie (subst (λ x. BSpells (text_of x) boogie) same spelled) nothing label refl
 
   -- what is written for loops and calls follows them
   pub cut_comes : (before now : Option (List ℕ)) (s : Status) → OutAfter before now (HasDone words files) s → (file : List ℕ) → Asks words (Cut file) → s ≡ status.Done →

@@ -13,7 +13,9 @@ use Rattle.enc_stmt.specs.Translates.{text_of}
 use Rattle.vb_gen.specs.Generated.{IsOutOfRange}
 use Rattle.viper_core.specs.View.{program_of}
 use Rattle.viper_core.specs.declared.programs.Program.{Program}
+use Rattle.vb_tool.proofs.FramedLaws.{framed_ends}
 use Rattle.vb_tool.proofs.MakingLaws.{few_in_range}
+use Rattle.vb_tool.proofs.ProvedLaws.{decides_named}
 use Rattle.vb_tool.specs.Accepted as accepted
 use Rattle.vb_tool.specs.Accepted.{IsAccepted}
 use Rattle.vb_tool.specs.AcceptedExecution as execution
@@ -174,6 +176,21 @@ pub execution_result_does : (files : Option Files) (file method run_file bytes r
 execution_result_does files file method run_file bytes run_bytes n (Ok t) few whole run_whole o = execution_does files file method run_file bytes run_bytes t.text.items n t.status few whole run_whole o
 execution_result_does files file method run_file bytes run_bytes n (Err e) few whole run_whole o = o
 
+-- and it is framed
+pub execution_result_promises : (files : Option Files) (file method run_file bytes run_bytes : List ℕ) (n : ℕ) (result : Result Ending Trouble) → IsWhole files file bytes →
+    IsWhole files run_file run_bytes → IfOk result (λ t. ExecutionOf bytes method run_bytes n t.status t.text.items) →
+    IfOk result (λ t. Promises (IsWhole files) (Execute file method run_file n) t.status t.text.items)
+execution_result_promises files file method run_file bytes run_bytes n (Ok t) whole run_whole o = record {
+  bytes = bytes;
+  run_bytes = run_bytes;
+  is = whole;
+  run_is = run_whole;
+  run = o.run;
+  accepted = o.accepted;
+  framed = λ boogie spelled nothing label is. framed_ends o.accepted boogie spelled nothing n label (sym o.status_is ∙ is);
+}
+execution_result_promises files file method run_file bytes run_bytes n (Err e) whole run_whole o = o
+
 condition_does : (files : Option Files) (file procedure bytes text : List ℕ) (label : Label) (s : Status) → IsWhole files file bytes → ConditionOf bytes procedure label s text →
     Does (IsWhole files) (Condition file procedure label) s text
 condition_does files file procedure bytes text label s whole o =
@@ -188,7 +205,14 @@ condition_result_does files file procedure bytes label (Err e) whole o = o
 -- and its text is a condition
 pub condition_result_promises : (files : Option Files) (file procedure bytes : List ℕ) (label : Label) (result : Result Ending Trouble) → IsWhole files file bytes →
     IfOk result (λ t. ConditionOf bytes procedure label t.status t.text.items) → IfOk result (λ t. Promises (IsWhole files) (Condition file procedure label) t.status t.text.items)
-condition_result_promises files file procedure bytes label (Ok t) whole o = record { bytes = bytes; is = whole; procedure = o.procedure; accepted = o.accepted; condition = o.condition }
+condition_result_promises files file procedure bytes label (Ok t) whole o = record {
+  bytes = bytes;
+  is = whole;
+  procedure = o.procedure;
+  accepted = o.accepted;
+  condition = o.condition;
+  decides = decides_named bytes o.accepted.program o.accepted.accepted.text.spelled procedure o.accepted.number o.procedure label o.condition.formula o.accepted.named o.accepted.is_there o.condition.exact;
+}
 condition_result_promises files file procedure bytes label (Err e) whole o = o
 
 cut_does : (files : Option Files) (file bytes text : List ℕ) (s : Status) → IsWhole files file bytes → CutOf bytes s text → Does (IsWhole files) (Cut file) s text

@@ -1,27 +1,18 @@
 -- What the stages of `cut` refuse, and what they write.
-use Rattle.std.proofs.Common.{◌≡◌, ◌∙◌, ◌<◌, ◌≤◌, ◌^◌, ℕ, List, [], ◌∷◌, length, map, All, sym, ap, subst, arith}
-use Rattle.std.proofs.lemmas.List.{length-map}
-use Rattle.std.proofs.lemmas.List.Elements.{All-nil, All-cons}
-use Rattle.std.specs.declared.alloc.Global.{Global}
-use Rattle.std.specs.declared.vec.Vec.{Vec}
-use Rattle.boogie_tree.specs.Program as p
-use Rattle.boogie_tree.specs.Whole.{local_of, proc_of, program_of}
+use Rattle.std.proofs.Common.{◌≡◌, ◌∙◌, ◌≤◌, ℕ, List, length, ap, subst}
+use Rattle.boogie_tree.specs.Whole.{program_of}
 use Rattle.boogie_tree.specs.declared.programs.BProgram.{BProgram as Program}
-use Rattle.boogie_tree.specs.declared.programs.Local.{Local}
-use Rattle.boogie_tree.specs.declared.programs.Proc.{Proc}
 use Rattle.boogie_grammar.specs.Printed.{program_text}
 use Rattle.boogie_grammar.specs.Spells.{BSpells}
 use Rattle.boogie_grammar.specs.declared.faults.BoogieFault.{BoogieFault}
 use Rattle.boogie_grammar.specs.declared.faults.BoogieFault.TheVariants as fault
 use Rattle.boogie_text.specs.Answers.{UnlessMemory}
-use Rattle.boogie_text.specs.Printable.{IsPrintable}
 use Rattle.boogie_text.proofs.Parsed.{one_program}
 use Rattle.boogie_wide.specs.Wide.{WProgram}
 use Rattle.boogie_wide.specs.WideTypes.{IsFirstIllTypedWide}
 use Rattle.boogie_cut.specs.Cut.{cut_program}
 use Rattle.boogie_cut.proofs.FollowsLaws.{program_follows}
-use Rattle.cut_text.specs.Printable.{IsPrintableWide, AreFewLocals}
-use Rattle.cut_text.proofs.PrintableLaws.{printable}
+use Rattle.cut_text.specs.Printable.{IsPrintableWide}
 use Rattle.boogie_cut.proofs.TypedLaws.{program_typed}
 use Rattle.wide_text.specs.Answers.{IsWideRead}
 use Rattle.wide_text.specs.Faults.{IsWideFault}
@@ -51,23 +42,11 @@ text_refused small is = of_text small is
 
 -- ---- what is written
 
-few_locals : (v : Vec Local Global) → length (map local_of v.items) < 2 ^ 64
-few_locals v = let same : length (map local_of v.items) ≡ length v.items = length-map v.items local_of in omega (arith, same)
-
-few_each : (ds : List Proc) → All (λ (d : p.Proc). length d.locals < 2 ^ 64) (map proc_of ds)
-few_each [] = All-nil (λ (d : p.Proc). length d.locals < 2 ^ 64)
-few_each (d ∷ ds) = All-cons (λ (d : p.Proc). length d.locals < 2 ^ 64) (proc_of d) (map proc_of ds) (few_locals d.locals) (few_each ds)
-
-printable_wide : (bytes : List ℕ) (q : WProgram) → AcceptsCut bytes q → IsPrintableWide q
+-- what is written for the program of a text can be printed
+pub printable_wide : (bytes : List ℕ) (q : WProgram) → AcceptsCut bytes q → IsPrintableWide q
 printable_wide bytes q h =
     let is = wide_spelled bytes q h.text.spelled in
     record { typed = h.is_typed; apart = is.0; free = is.1; literals = is.2 }
-
--- what is written for the program of a text can be printed
-pub written_printable : (bytes : List ℕ) (q : WProgram) (written : Program) → AcceptsCut bytes q → program_of written ≡ cut_program q → IsPrintable (program_of written)
-written_printable bytes q written h same =
-    let few : AreFewLocals (cut_program q) = subst AreFewLocals same (few_each written.procs.items) in
-    subst IsPrintable (sym same) (printable q (printable_wide bytes q h) few)
 
 pub cut_is : (bytes : List ℕ) (q : WProgram) (written : Program) (text : List ℕ) (s : Status) → AcceptsCut bytes q → program_of written ≡ cut_program q →
     text ≡ program_text (program_of written) → BSpells text (program_of written) → s ≡ status.Done → CutOf bytes s text

@@ -18,6 +18,9 @@ pub mod WordLaws
 pub mod CallLaws
 pub mod Answered
 pub mod ExecutionUnits
+pub mod FramedLaws
+pub mod LabelLaws
+pub mod ProvedLaws
 pub mod ExecutionVerdicts
 pub mod ConditionVerdicts
 pub mod ExecutionStages

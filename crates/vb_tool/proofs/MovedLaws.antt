@@ -88,7 +88,7 @@ events_kept {E = E} {C = C} (later {events = es} {next = next} all h) (c ∷ cho
 
 -- ---- choices
 
-choice_reduced : (layout : Layout) (c : Choice) → FitsChoice layout c → IsReducedChoice c
+pub choice_reduced : (layout : Layout) (c : Choice) → FitsChoice layout c → IsReducedChoice c
 choice_reduced layout (choice.Branch b) fits = tt
 choice_reduced layout (choice.Took x) fits = fits
 choice_reduced layout (choice.Amount q) fits = fits

@@ -1,5 +1,5 @@
 -- Where no procedure of a translation fails, no unit does, and no method from a state that satisfies its precondition.
-use Rattle.std.proofs.Common.{◌≡◌, ◌∙◌, ◌+◌, ◌<◌, ℕ, zero, suc, List, [], ◌∷◌, ◌++◌, map, take, All, Option, None, Some, slice_get, refl, sym, ap, true≢false, arith}
+use Rattle.std.proofs.Common.{◌≡◌, ◌∙◌, ◌+◌, ◌<◌, ℕ, zero, suc, List, [], ◌∷◌, ◌++◌, map, take, All, Option, None, Some, slice_get, refl, sym, ap, subst, true≢false, arith}
 use Rattle.std.proofs.lemmas.List.Elements.{All-append, All-map}
 use Rattle.std.proofs.lemmas.Option.{slice_get_within}
 use Rattle.std.specs.List.{range_with_len}
@@ -30,9 +30,12 @@ use Rattle.viper_meaning.proofs.BoundLaws.{blocks_bounded}
 use Rattle.viper_meaning.proofs.RunBoundLaws.{IsBoundedRun, at_end, goes_never_over, before_bounded, then_do_bounded, taking_bounded, if_run_bounded, small_run, never_over}
 use Rattle.viper_meaning.proofs.StatementBoundLaws.{produce_all_bounded, consume_all_bounded, run_block_bounded, unit_run_bounded}
 use Rattle.viper_meaning.proofs.TakenLaws.{fails_on_fitting}
-use Rattle.enc_stmt.specs.Translates.{Translates}
+use Rattle.boogie_grammar.specs.Spells.{BSpells}
+use Rattle.boogie_tree.specs.Program.{BProgram}
+use Rattle.enc_stmt.proofs.ProgramLaws.{translates}
+use Rattle.enc_stmt.specs.Translates.{Translates, text_of}
 use Rattle.vb_tool.proofs.RunOfUnits.{there_is}
-use Rattle.vb_tool.specs.Verified.{NothingFails, SatisfiesPrecondition, run_from, NeverFails}
+use Rattle.vb_tool.specs.Verified.{NoProcedureFails, NothingFails, SatisfiesPrecondition, run_from, NeverFails, HasNoFailure}
 
 -- ---- no unit fails, since each has its procedure
 
@@ -138,3 +141,14 @@ pub no_method_fails : (program : Program) (bytes : List ℕ) (t : Translates pro
 no_method_fails program bytes t nothing formed b k m store s there h = λ choices events left label reduced same.
     let (n, is_unit) = unit_of_method program formed k m there in
     method_fails program formed (no_unit_fails program bytes t nothing) n k m is_unit there store s h choices reduced events label left (fails_unbounded b program m store s choices events left label same)
+
+-- ---- so nothing of the program fails
+
+pub nothing_fails : (program : Program) (bytes : List ℕ) (t : Translates program bytes) → NothingFails t → IsFormed program → HasNoFailure program
+nothing_fails program bytes t nothing formed = record { units = no_unit_fails program bytes t nothing; methods = no_method_fails program bytes t nothing formed }
+
+-- over any program that the text of the translation spells
+pub text_verified : (program : Program) → IsFormed program → (boogie : BProgram) → BSpells (text_of program) boogie → NoProcedureFails boogie → HasNoFailure program
+text_verified program formed boogie spelled nothing =
+    let t = translates program formed in
+    nothing_fails program (text_of program) t (subst NoProcedureFails (t.only boogie spelled) nothing) formed

@@ -23,6 +23,7 @@ use Rattle.vb_tool.specs.Command.{Command, Translate, Run, Replay, Make, Execute
 use Rattle.vb_tool.specs.Conditions.{condition_text, IsStatement}
 use Rattle.vb_tool.specs.Cuts.{cut_text, IsCutOfFile}
 use Rattle.vb_tool.specs.Executions.{MethodRun, execution_end, execution_status, execution_text}
+use Rattle.vb_tool.specs.Framed.{IsFramedEnd}
 use Rattle.vb_tool.specs.Outcome.{run_status, run_text}
 use Rattle.vb_tool.specs.Procedures.{ProcedureRun, procedure_end}
 use Rattle.vb_tool.specs.ReplayOutcome.{replay_status, replay_text}
@@ -87,13 +88,14 @@ pub data Does (Has : List ℕ → List ℕ → Type 0) : Command → Status → 
       Does Has (Condition file procedure label) Done (condition_text d label)
 
 -- What is promised besides of the text that is written: where a run of a unit failed, it ends with a run of Boogie that fails
--- again; what is written for loops and calls follows them; and what is written of a procedure and a label is a condition for them.
+-- again; an execution does not fail where no procedure of the translation does; what is written for loops and calls follows them; and
+-- what is written of a procedure and a label is a condition for them.
 abbrev pub Promises : (List ℕ → List ℕ → Type 0) → Command → Status → List ℕ → Type 0
 Promises Has (Translate file) status text = ⊤
 Promises Has (Run file unit run_file) status text = (label : Label) → status ≡ Failed label → IsTransfer Has file unit run_file label text
 Promises Has (Replay file run_file) status text = ⊤
 Promises Has (Make n) status text = ⊤
-Promises Has (Execute file method run_file n) status text = ⊤
+Promises Has (Execute file method run_file n) status text = IsFramedEnd Has file method run_file status
 Promises Has (Cut file) status text = IsCutOfFile Has file text
 Promises Has (Condition file procedure label) status text = IsStatement Has file procedure label text
 

@@ -1,10 +1,12 @@
 -- The verification condition of a procedure and a label, as it is written.
-use Rattle.std.specs.Prelude.{◌≡◌, ℕ, List}
+use Rattle.std.specs.Prelude.{◌≡◌, ◌↔◌, ℕ, List}
 use Rattle.vb_base.specs.declared.labels.Label.{Label}
 use Rattle.boogie_tree.specs.Program.{Proc}
 use Rattle.boogie_formula.specs.Follows.{Follows, IsExact}
 use Rattle.boogie_formula.specs.Formula.{Formula}
 use Rattle.boogie_formula.specs.Types.{IsTypedFormula}
+use Rattle.boogie_formula.specs.Value.{Valid}
+use Rattle.boogie_meaning.specs.Programs.{BoogieFails}
 use Rattle.boogie_wp.specs.Build.{formula_for}
 use Rattle.formula_text.specs.Printed.{formula_text}
 use Rattle.formula_text.specs.Spells.{SpellsFormula}
@@ -24,10 +26,12 @@ pub record IsCondition (d : Proc) (label : Label) (text : List ℕ) : Type 0 whe
   pub follows : Follows d label formula
   pub exact : IsExact d label formula
 
--- A file of Boogie has this procedure, and the text is its condition for the label.
+-- A file of Boogie has this procedure, and the text is its condition for the label. Its formula is valid exactly where no run of the
+-- procedure of this name fails at the label: the names of procedures differ, so it is the only one.
 pub record IsStatement (Has : List ℕ → List ℕ → Type 0) (file name : List ℕ) (label : Label) (text : List ℕ) : Type 0 where
   pub bytes : List ℕ
   pub is : Has file bytes
   pub procedure : Proc
   pub accepted : AcceptsCondition bytes name procedure
   pub condition : IsCondition procedure label text
+  pub decides : Valid condition.formula ↔ (BoogieFails accepted.program name label → ⊥)

@@ -21,3 +21,5 @@ pub mod AcceptedCut
 pub mod Cuts
 pub mod AcceptedCondition
 pub mod Conditions
+pub mod Proved
+pub mod Framed

@@ -13,13 +13,18 @@ use Rattle.viper_meaning.specs.Asked.{IsReducedChoice}
 use Rattle.viper_meaning.specs.Run.{Run, Fails, ran, on}
 use Rattle.viper_meaning.specs.Sat.{SatAll, memo_of_state}
 use Rattle.viper_meaning.specs.Units.{first_store, first_scene, run_method}
-use Rattle.boogie_tree.specs.Program.{Proc}
+use Rattle.boogie_tree.specs.Program.{Proc, BProgram}
 use Rattle.boogie_meaning.specs.Programs.{BoogieFails}
+use Rattle.exec_meaning.specs.Frame.{NoUnitFails}
 use Rattle.enc_stmt.specs.Translates.{Translates}
+
+-- no run of any procedure of this program of Boogie fails
+abbrev pub NoProcedureFails : BProgram → Type 0
+NoProcedureFails boogie = (n : ℕ) (d : Proc) (label : Label) → slice_get boogie.procs n ≡ Some d → BoogieFails boogie d.name label → ⊥
 
 -- no run of any procedure of this translation fails
 abbrev pub NothingFails : {program : Program} {bytes : List ℕ} → Translates program bytes → Type 0
-NothingFails t = (n : ℕ) (d : Proc) (label : Label) → slice_get t.boogie.procs n ≡ Some d → BoogieFails t.boogie d.name label → ⊥
+NothingFails t = NoProcedureFails t.boogie
 
 -- With these values of its parameters and returns the state satisfies the precondition of the method: its permissions are
 -- exactly those that the precondition denotes, for some amounts of its wildcards. Where it has no clause, nothing is held.
@@ -37,3 +42,10 @@ run_from b program m store s = run_method b (record { program = program; vars = 
 -- on no choices in lowest terms does the run fail, at whatever label
 abbrev pub NeverFails : Run State → Type 0
 NeverFails r = (choices : List Choice) (events : List Event) (left : List Choice) (label : Label) → All IsReducedChoice choices → on r choices ≡ ran events (Fails label) left → ⊥
+
+-- No run of a method or a predicate of the program fails, from any opening and at any label. And no method fails, with the bound or
+-- without it, from a state that satisfies its precondition.
+pub record HasNoFailure (program : Program) : Type 0 where
+  pub units : NoUnitFails program
+  pub methods : (b : Bound) (k : ℕ) (m : Method) (store : List Value) (s : State) → slice_get program.methods k ≡ Some m → SatisfiesPrecondition program m store s →
+      NeverFails (run_from b program m store s)

@@ -8,14 +8,17 @@ ghost use Rattle.vb_outer.specs.Sink.{Appends};
 ghost use Rattle.viper_core.specs.Formed.{IsFormed};
 ghost use Rattle.viper_core.specs.Program as p;
 ghost use Rattle.viper_core.specs.View.{program_of};
+ghost use Rattle.boogie_grammar.specs.Spells.{BSpells};
+ghost use Rattle.boogie_tree.specs.Program.{BProgram};
 ghost use Rattle.enc_stmt.specs.Translates.{Translates, text_of};
 ghost use Rattle.vb_tool.specs.Accepted.{IsAccepted};
-ghost use Rattle.vb_tool.specs.Command.{Command as CommandOf, Run, Cut, Condition, Asks, IsNoCommand};
+ghost use Rattle.vb_tool.specs.Command.{Command as CommandOf, Run, Execute, Cut, Condition, Asks, IsNoCommand};
 ghost use Rattle.vb_tool.specs.Conditions.{IsStatement};
 ghost use Rattle.vb_tool.specs.Cuts.{IsCutOfFile};
 ghost use Rattle.vb_tool.specs.Call.{Misses, Refuses, Does, HasDone, IsCause, Causes, EndsAs, EndsWith, OutAfter, ErrAfter};
 ghost use Rattle.vb_tool.specs.Parts.{CanBeWritten, Reports, Delivers, work_status, work_text};
 ghost use Rattle.vb_tool.specs.Transfer.{IsTransfer};
+ghost use Rattle.vb_tool.specs.Verified.{NoProcedureFails, HasNoFailure};
 
 use crate::outcome::Work;
 use crate::status::{Refusal, Status, line};
@@ -65,6 +68,16 @@ pub fn tool<H: Shelf, O: Sink, E: Sink>(
     // What `translate` writes for a program translates it.
     ensures translates { (bytes : List ℕ) (program : p.Program) → IsAccepted bytes program → Translates program (text_of program) }
 
+    // Where no procedure of it has a failing run, no run of a method or a predicate of the file fails, from any opening; and no method
+    // fails from a state that satisfies its precondition.
+    ensures verified { (bytes : List ℕ) (program : p.Program) (boogie : BProgram) → IsAccepted bytes program → BSpells (text_of program) boogie
+        → NoProcedureFails boogie → HasNoFailure program }
+
+    // And then `exec` does not fail either, whatever the method, the run file and the budget.
+    ensures frames { (file method run_file bytes : List ℕ) (n : ℕ) (program : p.Program) (boogie : BProgram) (label : Label)
+        → Asks (map string_bytes words.now.items) (Execute file method run_file n) → IsFile (H.files shelf.old) file bytes → IsAccepted bytes program
+        → BSpells (text_of program) boogie → NoProcedureFails boogie → result ≡ Status.Failed label → ⊥ }
+
     // What `run` writes of a run that failed ends with a run of Boogie, which fails at the same label on any translation of the file.
     ensures transfers { (file unit run_file : List ℕ) (label : Label) → Asks (map string_bytes words.now.items) (Run file unit run_file)
         → result ≡ Status.Failed label
@@ -74,7 +87,7 @@ pub fn tool<H: Shelf, O: Sink, E: Sink>(
     ensures cuts { (file : List ℕ) → Asks (map string_bytes words.now.items) (Cut file) → result ≡ Status.Done
         → (text : List ℕ) × IsCutOfFile (IsWhole (H.files shelf.old)) file text × Appends (O.written out.old) (O.written out.new) text }
 
-    // What `vc` writes spells just one formula, which is valid exactly where no run of the procedure fails at the label.
+    // What `vc` writes spells just one formula, which is valid exactly where no run of the procedure of that name fails at the label.
     ensures states { (file procedure : List ℕ) (label : Label) → Asks (map string_bytes words.now.items) (Condition file procedure label)
         → result ≡ Status.Done
         → (text : List ℕ) × IsStatement (IsWhole (H.files shelf.old)) file procedure label text × Appends (O.written out.old) (O.written out.new) text }

@@ -8,10 +8,10 @@ ghost use Rattle.vb_tool.specs.Parts.{CutOf};
 use crate::outcome::Ending;
 use crate::status::{Refusal, Status};
 use crate::trouble::Trouble;
-use boogie_cut::cut;
 use boogie_text::print;
 use boogie_wide::WProgram;
 use boogie_wide_types::check_wide;
+use cut_text::cut_with_text;
 use std::alloc::Global;
 use wide_text::read_wide;
 
@@ -37,7 +37,7 @@ pub fn without_loops(alloc: Global, bytes: &[u8]) -> Result<Ending, Trouble>
     ensures read { IsErrOf result Trouble.Read → ⊥ }
 {
     let program = wide_program(alloc, bytes)?;
-    let written = cut(alloc, &program)?;
+    let written = cut_with_text(alloc, &program)?;
     let text = print(alloc, &written)?;
     Ok(Ending {
         status: Status::Done,

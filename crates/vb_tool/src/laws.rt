@@ -1,8 +1,9 @@
 // Laws of the definitions, each the contract of a function with nothing to do.
-ghost use Rattle.std.specs.Prelude.{◌≡◌, ◌≤◌, ℕ, List, Option, Some, slice_get};
+ghost use Rattle.std.specs.Prelude.{◌≡◌, ◌≤◌, ℕ, List, Contains, Option, Some, slice_get};
 ghost use Rattle.boogie_run.specs.Start.{outcome_of};
 ghost use Rattle.boogie_run.specs.declared.replaying.BOutcome.{BOutcome};
-ghost use Rattle.boogie_tree.specs.Program.{BProgram};
+ghost use Rattle.boogie_tree.specs.Program.{Proc, BProgram};
+ghost use Rattle.boogie_formula.specs.Value.{Valid};
 ghost use Rattle.vb_base.specs.Limits.{max_made_methods};
 ghost use Rattle.vb_base.specs.declared.labels.Label.{Label};
 ghost use Rattle.vb_gen.specs.Generated.{program_text};
@@ -23,12 +24,14 @@ ghost use Rattle.vb_tool.specs.Units.{name_of};
 ghost use Rattle.vb_tool.specs.Accepted.{IsAccepted, AcceptsRun, IsRefusal, IsRunRefusal, HasOneAnswer};
 ghost use Rattle.vb_tool.specs.AcceptedCondition.{AcceptsCondition, IsConditionRefusal};
 ghost use Rattle.vb_tool.specs.AcceptedCut.{AcceptsCut, IsCutRefusal};
-ghost use Rattle.vb_tool.specs.AcceptedExecution.{AcceptsExecution, IsExecutionRefusal};
+ghost use Rattle.vb_tool.specs.AcceptedExecution.{IsFramed, AcceptsExecution, IsExecutionRefusal};
+ghost use Rattle.vb_tool.specs.Conditions.{IsCondition};
 ghost use Rattle.vb_tool.specs.AcceptedReplay.{IsBoogie, AcceptsReplay, IsReplayRefusal};
 ghost use Rattle.vb_tool.specs.Procedures.{ProcedureRun, procedure_end};
 ghost use Rattle.vb_tool.specs.Call.{Does};
 ghost use Rattle.vb_tool.specs.Command.{Command};
-ghost use Rattle.vb_tool.specs.Verified.{NothingFails, SatisfiesPrecondition, run_from, NeverFails};
+ghost use Rattle.vb_tool.specs.Proved.{labels_of, ConditionsHold};
+ghost use Rattle.vb_tool.specs.Verified.{NothingFails, SatisfiesPrecondition, run_from, NeverFails, HasNoFailure};
 ghost use Rattle.vb_tool.specs.declared.status.Status.{Status};
 
 /// No two units of a program have one name.
@@ -80,9 +83,22 @@ pub fn where_no_procedure_fails_no_method_does()
 {}
 
 /// Where no run of a translation's procedures fails, no whole execution of the file's methods does, with all that they call and
-/// however often loops turn: from any opening that fits, on any choices that fit, within any budget, with the bound or without it.
+/// however often loops turn: from any opening that fits, on any choices, within any budget, with the bound or without it.
 /// The file has none of the words `wildcard`, `inhale` and `assume`.
 pub fn where_no_procedure_fails_no_execution_does()
     ensures { (source : List ℕ) (program : p.Program) (bytes : List ℕ) (t : Translates program bytes) (accepted : IsAccepted source program)
         → first_unframed accepted.tokens ≡ None → NothingFails t → (b : Bound) → NoExecutionFails b program }
+{}
+
+/// Where for each procedure of a translation and each label of its assertions the formula that `vc` writes is valid, no procedure has a
+/// failing run. So no method and no predicate of the file fails, and no execution of a method, if the file has none of the words
+/// `wildcard`, `inhale` and `assume`. A formula for a label that no assertion has is valid in any case, so finitely many are enough.
+pub fn where_each_condition_is_valid_nothing_fails()
+    ensures procedures { (program : p.Program) (bytes : List ℕ) (t : Translates program bytes) → ConditionsHold t.boogie → NothingFails t }
+    ensures units { (source : List ℕ) (program : p.Program) (bytes : List ℕ) (t : Translates program bytes) → IsAccepted source program
+        → ConditionsHold t.boogie → HasNoFailure program }
+    ensures executions { (source : List ℕ) (program : p.Program) (bytes : List ℕ) (t : Translates program bytes) → IsFramed source program
+        → ConditionsHold t.boogie → (b : Bound) → NoExecutionFails b program }
+    ensures others { (d : Proc) (label : Label) (text : List ℕ) (c : IsCondition d label text) → (Contains (labels_of d) label → ⊥)
+        → Valid c.formula }
 {}

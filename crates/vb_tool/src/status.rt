@@ -8,7 +8,9 @@ use std::fmt;
 use vb_base::{Label, Pos};
 use viper_syntax::LexFault;
 
-/// Why a command is refused. The reasons of one command are tried in this order.
+/// Why a command is refused. The reasons of one command are tried in this order, with three exceptions: a budget that is out of
+/// range comes first; in a file of Boogie a byte at which no token begins comes before brackets that are too deep; and a wrong
+/// header of a run file comes before the name in it.
 #[derive(Clone, Copy, Debug, PartialEq, Eq)]
 pub enum Refusal {
     /// The file has more bytes than it may have: `MAX_VIPER_BYTES` for a program of Viper, `MAX_BOOGIE_BYTES` for one of Boogie.

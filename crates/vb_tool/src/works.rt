@@ -132,6 +132,7 @@ fn execute<H: Shelf>(
     budget: u32,
 ) -> Result<Ending, Trouble>
     ensures work { IfOk result (λ t. Does (IsWhole (H.files shelf.old)) (Execute file.now method.now run_file.now budget) t.status t.text.items) }
+    ensures promises { IfOk result (λ t. Promises (IsWhole (H.files shelf.old)) (Execute file.now method.now run_file.now budget) t.status t.text.items) }
     ensures refused { (r : Refusal) → IsErrOf result (Trouble.Refused r) → Refuses (IsWhole (H.files shelf.old)) (Execute file.now method.now run_file.now budget) r }
     ensures read { IsErrOf result Trouble.Read → Misses (H.files shelf.old) (Execute file.now method.now run_file.now budget) ⊎ Rose (H.faults shelf.old) (H.faults shelf.new) }
     ensures files { H.files shelf.new ≡ H.files shelf.old }
@@ -153,6 +154,7 @@ fn execute_within<H: Shelf>(
 ) -> Result<Ending, Trouble>
     requires { budget ≤ max_execution_budget }
     ensures work { IfOk result (λ t. Does (IsWhole (H.files shelf.old)) (Execute file.now method.now run_file.now budget) t.status t.text.items) }
+    ensures promises { IfOk result (λ t. Promises (IsWhole (H.files shelf.old)) (Execute file.now method.now run_file.now budget) t.status t.text.items) }
     ensures refused { (r : Refusal) → IsErrOf result (Trouble.Refused r) → Refuses (IsWhole (H.files shelf.old)) (Execute file.now method.now run_file.now budget) r }
     ensures read { IsErrOf result Trouble.Read → Misses (H.files shelf.old) (Execute file.now method.now run_file.now budget) ⊎ Rose (H.faults shelf.old) (H.faults shelf.new) }
     ensures files { H.files shelf.new ≡ H.files shelf.old }

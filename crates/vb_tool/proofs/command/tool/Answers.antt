@@ -1,5 +1,6 @@
 use Rattle.enc_stmt.proofs.ProgramLaws.{translates}
-use Rattle.vb_tool.proofs.Answered.{usage_comes, missing_comes, refused_comes, does_comes, transfer_comes, cut_comes, statement_comes}
+use Rattle.vb_tool.proofs.Answered.{usage_comes, missing_comes, refused_comes, does_comes, transfer_comes, frame_comes, cut_comes, statement_comes}
+use Rattle.vb_tool.proofs.VerifiedLaws.{text_verified}
 use Rattle.vb_tool.proofs.Verdicts.{accepted_formed}
 use Rattle.vb_tool.proofs.command.tool.Goals as goal
 
@@ -17,6 +18,12 @@ returns-clause-does g c = rw (← c.deref.ensures.value) (does_comes _ _ _ _ _ _
 
 pub returns-clause-translates : goal.returns-clause-translates
 returns-clause-translates g c = λ bytes program accepted. translates program (accepted_formed accepted)
+
+pub returns-clause-verified : goal.returns-clause-verified
+returns-clause-verified g c = λ bytes program boogie accepted spelled nothing. text_verified program (accepted_formed accepted) boogie spelled nothing
+
+pub returns-clause-frames : goal.returns-clause-frames
+returns-clause-frames g c = rw (← c.deref.ensures.value) (frame_comes _ _ _ _ _ c.answered.ensures.out)
 
 pub returns-clause-transfers : goal.returns-clause-transfers
 returns-clause-transfers g c = rw (← c.deref.ensures.value) (transfer_comes _ _ _ _ _ c.answered.ensures.out)

@@ -1,7 +1,7 @@
 use Rattle.std.proofs.Common.{◌∙◌, Err, refl, sym, ap}
 use Rattle.std.proofs.lemmas.Result.{err_from_is_err_and}
 use Rattle.boogie_wide.specs.View.{wprogram_of}
-use Rattle.vb_tool.proofs.CutStages.{text_refused, written_printable, cut_is}
+use Rattle.vb_tool.proofs.CutStages.{text_refused, printable_wide, cut_is}
 use Rattle.vb_tool.proofs.CallLaws.{error_is}
 use Rattle.vb_tool.proofs.cuts.without_loops.Goals as goal
 
@@ -12,7 +12,7 @@ returns-in_err-program-clause-refused c r is_r =
 
 pub print-requires : goal.print-requires
 print-requires c =
-    written_printable c.args.bytes.now (wprogram_of c.in_ok-program.program) c.in_ok-written.written c.in_ok-program.ensures.accepted c.in_ok-written.ensures.written
+    c.in_ok-written.ensures.printable (printable_wide c.args.bytes.now (wprogram_of c.in_ok-program.program) c.in_ok-program.ensures.accepted)
 
 pub returns-clause-told : goal.returns-clause-told
 returns-clause-told c =

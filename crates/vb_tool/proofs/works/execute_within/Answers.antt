@@ -3,7 +3,7 @@ use Rattle.std.proofs.lemmas.Result.{err_from_is_err_and}
 use Rattle.vb_tool.specs.AcceptedExecution as accepted
 use Rattle.vb_outer.specs.Shelf.{IsLonger, IsWhole}
 use Rattle.vb_tool.specs.Call as call
-use Rattle.vb_tool.proofs.CallLaws.{error_is, file_refusal, file_unread, first_missing, second_missing, too_long, execution_run_too_long, execution_result_does}
+use Rattle.vb_tool.proofs.CallLaws.{error_is, file_refusal, file_unread, first_missing, second_missing, too_long, execution_run_too_long, execution_result_does, execution_result_promises}
 use Rattle.vb_tool.proofs.works.execute_within.Goals as goal
 
 pub returns-in_err-text-clause-refused : goal.returns-in_err-text-clause-refused
@@ -44,5 +44,10 @@ returns-clause-refused g c r is_r =
 
 pub returns-clause-work : goal.returns-clause-work
 returns-clause-work g c = execution_result_does _ _ _ _ _ _ _ _ c.requires c.in_ok-text.ensures.whole
+    (subst (λ f. IsWhole f c.args.run_file.now c.in_ok-run_text.run_text.items) c.in_ok-text.ensures.same c.in_ok-run_text.ensures.whole)
+    (rw (← c.deref.ensures.value, ← c.deref-2.ensures.value) c.executed.ensures.told)
+
+pub returns-clause-promises : goal.returns-clause-promises
+returns-clause-promises g c = execution_result_promises _ _ _ _ _ _ _ _ c.in_ok-text.ensures.whole
     (subst (λ f. IsWhole f c.args.run_file.now c.in_ok-run_text.run_text.items) c.in_ok-text.ensures.same c.in_ok-run_text.ensures.whole)
     (rw (← c.deref.ensures.value, ← c.deref-2.ensures.value) c.executed.ensures.told)
