@@ -35,11 +35,13 @@ Q.. are as many nodes `==` as are needed, each between two keys, arguments or pl
   apart E          E is c(a..) == d(b..), two constructors: [-E]
   inside E J..     E is a == c(b..), and a is part J, from 0, of part J .. of c(b..), each a content that a constructor makes: [-E]
   split E L M      E is a == b between numbers, L is a <= b, M is b <= a: [E -L -M]
-  sum W L.. 0 W N..   [L..]. Each L is, with its negation: -(a <= b): a - b <= 0, W > 0; (a <= b): b - a < 0, W > 0, and between ints
-                   b - a + 1 <= 0; -(a == b): a - b = 0; (a == b): a - b != 0. Each N is, by what it is: of int, real: N - value = 0; +, -, neg, toreal:
-                   N less what it is; of * with a constant part p/q: q N - p x = 0; of / by a constant p/q: p N - q x = 0, by 0: N = 0.
-                   The sum, each taken W times, has no node left, and is above 0, or 0 where one was `<`, or 0 where one was
-                   `!=` and all others `=`. A constant is int, real, and neg, toreal and / of constants
+  sum W L.. 0 W N..   each L says by its negation, and each N by what it is, how a sum of nodes stands to 0: [L..]
+                   -(a <= b): a - b <= 0; (a <= b): b - a < 0, and between ints b - a + 1 <= 0; -(a == b): a - b = 0;
+                   (a == b): a - b != 0. N of int, real: N - value = 0; of +, -, neg, toreal: N less what it is = 0; of * with a
+                   constant part p/q: q N - p x = 0; of / by a constant p/q: p N - q x = 0, by 0: N = 0. A constant is int, real, and
+                   neg, toreal and / of constants. Each is taken W times, where W is above 0 but for `=`. All together no node is
+                   left, and a number that is above 0; or 0, and one is `<`; or 0, and one is `!=` and all others are `=`; or not 0,
+                   and all are `=`
   over Z E         Z is b == 0; E is ((a / b) * b) == a or (b * (a div b)) + (a mod b) == a: [Z E]
   zero Z E         Z is b == 0; E is (a / b) == 0, (a div b) == 0 or (a mod b) == 0: [-Z E]
   rest L           L is 0 <= (a mod b): [L]
@@ -74,6 +76,7 @@ def check(conditions, certificate):
 
 
 def main(words):
+    """The program, with its words behind its name."""
     if len(words) != 2:
         print("usage: certificate_check.py CONDITIONS CERTIFICATE", file=sys.stderr)
         return 2

@@ -6,6 +6,8 @@ ARITHMETIC = ("+", "-", "*", "/", "div", "mod", "neg", "toreal")
 
 
 class Checker(Nodes):
+    """`step_WORD` is given the numbers of a line, of which nothing is known."""
+
     def op(self, number, *operators):
         """The parts of a node, which has one of these operators."""
         self.type(number)
@@ -53,7 +55,7 @@ class Checker(Nodes):
         return [condition if j else -condition, e]
 
     def read(self, e):
-        """Of an equation about a place of a map with another value: keys of the place, keys and value of the change, the map, the right side."""
+        """Of an equation about a place of a changed map: keys of the place, keys and value of the change, map before, right side."""
         left, right = self.op(e, "==")
         changed, *keys = self.op(left, "at")
         before, *put = self.op(changed, "put")
