@@ -14,7 +14,8 @@ from certificate_conditions import Builder, procedures  # noqa: E402
 from certificate_goals import NoCertificate  # noqa: E402
 from certificate_make import certificate  # noqa: E402
 
-VARIABLES = ("bool", "bool", "int", "int", "real", "real", "Ref", "Ref", "Snap", "Snap", "[Ref]int", "[Ref]int", "[Ref, int]real", "[Ref]bool")
+VARIABLES = ("bool", "bool", "int", "int", "real", "real", "Ref", "Ref", "Snap", "Snap", "[Ref]int", "[Ref]int", "[Ref, int]real",
+    "[Ref]bool")
 
 RIGHT = (
     ("nothing", ["false"]),
@@ -49,7 +50,8 @@ WRONG = (
     ("rational numbers between", ["((v5 < v6) && (v6 < (v5 + 1.0)))"]),
     ("perhaps one key", ["v11[v7 := 1]", "(d1[v8] != v11[v8])"]),
     ("perhaps the other map", ["(if v1 then v11 else v12)", "(d1[v7] != v11[v7])"]),
-    ("everywhere but here", ["(forall q0: Ref :: ((v11[q0] != 0) ==> (v12[q0] == v11[q0])))", "((d1 && (v11[v7] == 0)) && (v12[v7] == 2))"]),
+    ("everywhere but here", ["(forall q0: Ref :: ((v11[q0] != 0) ==> (v12[q0] == v11[q0])))",
+        "((d1 && (v11[v7] == 0)) && (v12[v7] == 2))"]),
     ("contents that may be equal", ["(sPair(v9, sUnit) == sPair(sInt(v3), v10))"]),
     ("division by zero", ["((v3 div v4) == 0)"]),
     ("a choice of numbers", ["((if v1 then v3 else v4) > v3)"]),
@@ -129,6 +131,16 @@ class MakeTest(unittest.TestCase):
 
     def test_conditions(self):
         self.assertEqual(Builder("M$m", procedures(BOOGIE)["M$m"]).text(), WRITTEN)
+
+    def test_where_no_run_comes(self):
+        """Behind `assume v1`, the other side of a branch by v1 has an assertion that does not hold, and so has what comes behind that."""
+        lines = ["conditions p", "var v1: bool", "let d1 := true", "let d2 := (d1 && v1)", "let d3 := (d2 && v1)",
+            "let d4 := (d2 && (! v1))"]
+        lines += ["let d5 := false", "let d6 := (d4 && (! d5))", "let d7 := (d4 && d5)", "let d8 := (d7 && (! d5))", "let d9 := (d7 && d5)"]
+        lines += ["let d10 := (d3 || d9)", "let d11 := (d10 && (! v1))", "let d12 := (d10 && v1)"]
+        text = "\n".join([*lines, "fails a d6", "fails b d8", "fails c d11"]) + "\n"
+        self.assertIsNone(check(Conditions(text), certificate(text)))
+        self.assertEqual(check(Conditions(text + "fails d d12\n"), certificate(text))[1], "d12 is not shown to be false")
 
     def test_branches(self):
         """Forty branches, each of which may add one: paths are many, and steps few."""
