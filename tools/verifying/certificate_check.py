@@ -51,6 +51,8 @@ Q.. are as many nodes `==` as are needed, each between two keys, arguments or pl
   ring E           E is a * b == b * a, (a * b) * c == a * (b * c), (a + b) * c == (a * c) + (b * c), the same with -, or
                    toreal (a * b) == toreal a * toreal b: [E]
   rup L.. 0 C..    [L..]. With each L false, each step C has all its literals false, which ends it, or all but one, which is then true
+A clause has 1,000 literals at most, and a number 100 digits, so a step costs no more than a constant for each word of its line, but for
+the body of a `forall`, and for finding what it names.
 At the end, each definition that `fails` lists has to be a literal L for which a step is just [-L].
 """
 import sys

@@ -7,6 +7,7 @@ from certificate_check_text import CONSTRUCTORS, need, tree
 LEAVES = {"true": "bool", "null": "Ref", "unit": "Snap"}
 NUMBERS = ("int", "real")
 DIGITS = 100
+LITERALS = 1000
 
 
 class Nodes:
@@ -23,6 +24,7 @@ class Nodes:
             self.define(rest)
         elif hasattr(self, "step_" + word):
             clause = getattr(self, "step_" + word)([self.number(it) for it in rest])
+            need(len(clause) <= LITERALS, "more literals than 1000")
             self.clauses.append(clause)
             if len(clause) == 1:
                 self.units.add(clause[0])

@@ -51,6 +51,8 @@ HOSTILE = (
     (["sum 0"], (2, "the sum is no contradiction")),
     (["path"], (2, "no number")),
     (["gate"], (2, "numbers too few or too many")),
+    (["true", "gate 1 0", "rup " + "1 " * 1000 + "0 1"], (5, "d1 is not shown to be false")),
+    (["true", "gate 1 0", "rup " + "1 " * 1001 + "0 1"], (4, "more literals than 1000")),
     (["hit"], (2, "no number")),
     (["same"], (2, "no number")),
     (["var 1", "var 3", "var 4", "if 1 2 3", "gate 4 0"], (6, "no truth values")),
