@@ -129,7 +129,6 @@ class Report:
     def keep(self, given, result):
         """Writes the run files of a unit, and the text of Boogie that those of Boogie belong to."""
         stem = os.path.join(self.options.keep, re.sub(r"[^\w.-]", "_", shown_path(given.path)))
-        os.makedirs(self.options.keep, exist_ok=True)
         with open(given.text_file, "rb") as text, open(f"{stem}.text.bpl", "wb") as into:
             into.write(text.read())
         for it in result.labels:
