@@ -85,8 +85,11 @@ class Report:
         if result.smoke == "vain":
             self.line(f"{at}: warning: `{unit.name}` is verified in vain: {VAIN}")
         elif result.smoke == "done":
+            if not self.options.runs:
+                self.line(f"{at}: note: a run of `{unit.name}` is done, as `run` says")
+                return
             self.line(f"{at}: note: this run of `{unit.name}` is done, as `run` says:")
-            for it in result.smoke_run.splitlines() if self.options.runs else ():
+            for it in result.smoke_run.splitlines():
                 self.line(f"    {it}")
         elif result.smoke:
             self.line(f"{at}: warning: whether a run of `{unit.name}` comes to its end is not known: {result.smoke}")
