@@ -1,6 +1,7 @@
 """A file as it was given: its bytes, what the program makes of it, and its units."""
 import errno
 import os
+import re
 import stat
 import sys
 from typing import List, NamedTuple, Optional
@@ -48,8 +49,14 @@ def bytes_of(path):
         return it.read(MOST)
 
 
-def shown_path(path):
+def name_of(path):
+    """What a file is called."""
     return "<stdin>" if path in ("-", "/dev/stdin") else path
+
+
+def shown_path(path):
+    """What a file is called in a line for people: no character of its name ends the line or moves the cursor."""
+    return re.sub(r"[\x00-\x1f\x7f-\x9f]", lambda it: f"\\x{ord(it[0]):02x}", name_of(path))
 
 
 def given(path, data, program, room) -> Given:

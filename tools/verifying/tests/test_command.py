@@ -137,6 +137,14 @@ class Calls(unittest.TestCase):
                                   env={**os.environ, "REMDUSKA": odd}, universal_newlines=True)
         self.assertEqual((done.returncode, "no program of Boogie" in done.stdout), (2, True))
 
+    def test_the_name_of_a_file_is_one_line_and_in_json_as_it_is(self):
+        with tempfile.TemporaryDirectory() as room:
+            path = os.path.join(room, "a b\n\x1b'\".vpr")
+            with open(path, "w") as it:
+                it.write("method m() { assert true }\n")
+            self.assertEqual(self.verify(path)[1], f"{room}/a b\\x0a\\x1b'\".vpr: verified, 1 unit\n")
+            self.assertEqual(json.loads(self.verify("--json", path)[1])["file"], path)
+
     def test_a_run_that_is_not_shown_is_not_announced(self):
         text = "method m(x: Int) { assert x == x }\n"
         self.assertEqual(self.verify("--smoke", "--no-runs", "-", text=text)[:2],
