@@ -48,7 +48,7 @@ def procedure_texts(text: str) -> List[Tuple[str, str]]:
     """The name and the text of each procedure, which begins a line; what stands before the first is the prelude."""
     starts = [it.start() for it in re.finditer(r"^procedure ", text, re.M)] + [len(text)]
     parts = [text[at:end] for at, end in zip(starts, starts[1:])]
-    return [(part[len("procedure "):part.index("(")].strip(), part) for part in parts]
+    return [(part[len("procedure "):part.find("(")].strip(), part) for part in parts]
 
 
 def read_procedure(text: str) -> Procedure:

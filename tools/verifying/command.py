@@ -7,6 +7,7 @@ import tempfile
 from typing import NamedTuple, Optional
 
 from . import boogie_word, work
+from .boogie_text import NotAsWritten
 from .files import bytes_of, shown_path
 from .program import NoProgram, find
 from .report import Report
@@ -14,6 +15,8 @@ from .results import undecided
 from .source import Source
 
 AHEAD = 4       # so many files for each process are translated before they are looked at
+MOST_SECONDS = 1_000_000
+MOST_JOBS = 512     # all processes are started at once
 SMALL = 120_000 # the units of a single file whose text has fewer characters are looked at one after the other
 
 
@@ -41,10 +44,10 @@ class Words(argparse.ArgumentParser):
         sys.exit(2)
 
 
-def positive(kind):
+def positive(kind, most):
     def read(word):
         value = kind(word)
-        if not 0 < value < 1_000_000:
+        if not 0 < value <= most:
             raise ValueError
         return value
     read.__name__ = "number"
@@ -57,14 +60,48 @@ def parser():
         found.add_argument(f"--{name}", action="store_true")
     found.add_argument("--unit")
     found.add_argument("--keep")
-    found.add_argument("--seconds", type=positive(float), default=20.0)
-    found.add_argument("--jobs", type=positive(int), default=work.cores())
+    found.add_argument("--seconds", type=positive(float, MOST_SECONDS), default=20.0)
+    found.add_argument("--jobs", type=positive(int, MOST_JOBS), default=work.cores())
     found.add_argument("files", nargs="*")
     return found
 
 
 def main(words, page):
     """Does what the words say, and returns the status."""
+    if sys.stdout is None:
+        print("verify: the standard output is closed", file=sys.stderr)
+        return 2
+    for stream in (sys.stdout, sys.stderr):
+        if hasattr(stream, "reconfigure"):      # what cannot be spelled in the reader's encoding is told all the same
+            stream.reconfigure(errors="backslashreplace")
+    try:
+        status = status_of(words, page)
+        sys.stdout.flush()
+        return status
+    except (NoTool, NoProgram) as why:
+        print(f"verify: {why}", file=sys.stderr)
+        return 2
+    except KeyboardInterrupt:
+        print("verify: interrupted", file=sys.stderr, flush=True)
+        os._exit(130)   # no thread is waited for
+    except OSError as fault:
+        return no_output(fault)
+
+
+def no_output(fault):
+    """What was to be told, kept or noted cannot be written. Of a reader that went away nothing is said."""
+    try:
+        sys.stdout.flush()
+    except OSError:
+        os.dup2(os.open(os.devnull, os.O_WRONLY), 1)
+    if not isinstance(fault, BrokenPipeError):
+        place = f"{fault.filename}: " if fault.filename else ""
+        print(f"verify: {place}{fault.strerror}", file=sys.stderr)
+    return 2
+
+
+def status_of(words, page):
+    """Does what the words say. What cannot be read or written, and a tool that is missing, is raised."""
     args = parser().parse_args(words)
     if args.help:
         print(page)
@@ -73,26 +110,18 @@ def main(words, page):
         print(f"verify: a file is missing; {page.splitlines()[0]}", file=sys.stderr)
         return 2
     options = Options(args.seconds, args.jobs, args.json, args.keep, not args.no_runs, args.smoke, args.boogie, args.unit)
-    try:
-        if args.formula:
-            from .formula import tell
-            return tell(args.files, args.seconds, args.print)
-        need("z3")
-        if args.check:
-            from .checking import check
-            return check(options)
-        if args.boogie:
-            need("boogie")
-        return Command(args.files, options, sys.stdout).status()
-    except (NoTool, NoProgram) as why:
-        print(f"verify: {why}", file=sys.stderr)
-        return 2
-    except KeyboardInterrupt:
-        print("verify: interrupted", file=sys.stderr, flush=True)
-        os._exit(130)   # no thread is waited for
-    except BrokenPipeError:
-        os.dup2(os.open(os.devnull, os.O_WRONLY), 1)
-        return 2
+    if args.formula:
+        from .formula import tell
+        return tell(args.files, args.seconds, args.print)
+    need("z3")
+    if args.check:
+        from .checking import check
+        return check(options)
+    if args.boogie:
+        need("boogie")
+    if args.keep:
+        os.makedirs(args.keep, exist_ok=True)
+    return Command(args.files, options, sys.stdout).status()
 
 
 def need(tool):
@@ -104,7 +133,7 @@ class Progress:
     """A line on a terminal that tells what is at work. Nothing of it stays."""
 
     def __init__(self):
-        self.on = sys.stderr.isatty()
+        self.on = sys.stderr is not None and sys.stderr.isatty()
 
     def tell(self, text):
         if self.on:
@@ -178,7 +207,11 @@ class Command:
     def begin(self, file):
         """Has the units of a file looked at, once it is prepared."""
         self.progress.tell(f"{shown_path(file.path)}: translating")
-        file.given = file.prepared.result()
+        try:
+            file.given = file.prepared.result()
+        except (work.Ended, NotAsWritten) as why:
+            file.fault = f"the file cannot be looked at: {why}"
+            return
         wanted = [it for it in file.given.units if self.options.unit in (None, it.name)]
         if not file.given.refused and not wanted and self.options.unit is not None:
             file.fault = f"there is no unit `{self.options.unit}` with a procedure of its own"
@@ -220,7 +253,5 @@ class Command:
     def result(self, unit, future):
         try:
             return future.result()
-        except RuntimeError as fault:
-            if type(fault).__name__ != "BrokenProcessPool":
-                raise
-            return undecided(unit.name, "the process that looked at it ended by itself")
+        except work.Ended as why:
+            return undecided(unit.name, str(why))

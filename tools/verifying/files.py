@@ -1,11 +1,13 @@
 """A file as it was given: its bytes, what the program makes of it, and its units."""
+import errno
 import os
+import re
 import stat
 import sys
 from typing import List, NamedTuple, Optional
 
 from . import refusals
-from .boogie_text import procedure_texts
+from .boogie_text import NotAsWritten, procedure_texts
 from .failures import Told
 from .source import Source
 
@@ -38,6 +40,8 @@ class Given(NamedTuple):
 def bytes_of(path):
     """The bytes of a file, or of the standard input; raises OSError."""
     if path in ("-", "/dev/stdin"):
+        if sys.stdin is None:
+            raise OSError(errno.EBADF, "the standard input is closed")
         return sys.stdin.buffer.read(MOST)
     if stat.S_ISDIR(os.stat(path).st_mode):
         raise IsADirectoryError(21, "this is a folder", path)
@@ -45,8 +49,14 @@ def bytes_of(path):
         return it.read(MOST)
 
 
-def shown_path(path):
+def name_of(path):
+    """What a file is called."""
     return "<stdin>" if path in ("-", "/dev/stdin") else path
+
+
+def shown_path(path):
+    """What a file is called in a line for people: no character of its name ends the line or moves the cursor."""
+    return re.sub(r"[\x00-\x1f\x7f-\x9f]", lambda it: f"\\x{ord(it[0]):02x}", name_of(path))
 
 
 def given(path, data, program, room) -> Given:
@@ -62,6 +72,8 @@ def given(path, data, program, room) -> Given:
         reason = lines[-1] if lines else f"the program ended with status {said.status}"
         told = boogie_refusal(reason) if is_boogie else refusals.told(source, reason)
         return Given(path, copy, text_file, "", is_boogie, frozenset(), [], told, reason)
+    if not said.out.startswith("type Ref;\n"):
+        raise NotAsWritten("what the program writes is no program of Boogie")
     with open(text_file, "w", encoding="utf-8") as it:
         it.write(said.out)
     bare = frozenset(it.name for it in source.units if it.kind == "predicate" and not it.parameters())

@@ -5,7 +5,7 @@ import re
 
 from . import telling
 from .boogie_word import differences
-from .files import shown_path
+from .files import name_of, shown_path
 from .units import FAILS, UNDECIDED, VERIFIED
 
 VAIN = "no run comes to its end: what is required or assumed cannot hold"
@@ -30,7 +30,7 @@ class Report:
         """A file that cannot be read, or has no unit of the name that is asked for."""
         self.worse(2)
         if self.options.json:
-            self.data(file=shown_path(path), refused=why, line=1, column=1, message=why)
+            self.data(file=name_of(path), refused=why, line=1, column=1, message=why)
         else:
             self.line(f"{shown_path(path)}: error: {why}")
 
@@ -39,7 +39,7 @@ class Report:
         self.worse(2)
         told = given.refused
         if self.options.json:
-            self.data(file=shown_path(given.path), refused=given.reason, line=told.line, column=told.column, message=told.message)
+            self.data(file=name_of(given.path), refused=given.reason, line=told.line, column=told.column, message=told.message)
         else:
             for it in telling.error_lines(source, told):
                 self.line(it)
@@ -57,7 +57,7 @@ class Report:
             self.unit_for_people(given, unit, result)
 
     def unit_as_data(self, given, result):
-        file, more = shown_path(given.path), {"smoke": result.smoke, "smoke_run": result.smoke_run} if self.options.smoke else {}
+        file, more = name_of(given.path), {"smoke": result.smoke, "smoke_run": result.smoke_run} if self.options.smoke else {}
         self.data(file=file, unit=result.unit, verdict=result.verdict, why=result.why, **more)
         for it in result.labels:
             runs = {"run": it.run, "boogie_run": it.boogie_run} if self.options.runs else {"run": None, "boogie_run": None}
@@ -85,8 +85,11 @@ class Report:
         if result.smoke == "vain":
             self.line(f"{at}: warning: `{unit.name}` is verified in vain: {VAIN}")
         elif result.smoke == "done":
+            if not self.options.runs:
+                self.line(f"{at}: note: a run of `{unit.name}` is done, as `run` says")
+                return
             self.line(f"{at}: note: this run of `{unit.name}` is done, as `run` says:")
-            for it in result.smoke_run.splitlines() if self.options.runs else ():
+            for it in result.smoke_run.splitlines():
                 self.line(it)
         elif result.smoke:
             self.line(f"{at}: warning: whether a run of `{unit.name}` comes to its end is not known: {result.smoke}")
@@ -117,7 +120,7 @@ class Report:
         self.worse(2 if odd or word.slow else 0)
         path = shown_path(given.path)
         if self.options.json:
-            self.data(file=path, boogie=word.labels, slow=word.slow, differences=odd)
+            self.data(file=name_of(given.path), boogie=word.labels, slow=word.slow, differences=odd)
             return
         count = f"{len(word.labels)} label{'s' * (len(word.labels) != 1)}"
         self.line(f"{path}: Boogie tells of {count}{''.join(f'; {it}' for it in word.labels)}")
@@ -129,7 +132,6 @@ class Report:
     def keep(self, given, result):
         """Writes the run files of a unit, and the text of Boogie that those of Boogie belong to."""
         stem = os.path.join(self.options.keep, re.sub(r"[^\w.-]", "_", shown_path(given.path)))
-        os.makedirs(self.options.keep, exist_ok=True)
         with open(given.text_file, "rb") as text, open(f"{stem}.text.bpl", "wb") as into:
             into.write(text.read())
         for it in result.labels:

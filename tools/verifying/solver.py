@@ -73,10 +73,14 @@ class Solver:
         if not texts:
             return []
         said = self.said(f"(get-value ({' '.join(texts)}))\n" + DONE, time.monotonic() + seconds + GRACE)
-        if said is None or said.startswith("(error"):
+        try:
+            found = [value for _, value in trees(said or "")[0]]
+        except (IndexError, ValueError):
+            found = []
+        if len(found) != len(texts):
             self.stop()
             raise NoSolver("z3 does not tell the values that it found")
-        return [it[1] for it in trees(said)[0]]
+        return found
 
     def said(self, text, end):
         """What z3 prints of a text, or None where it takes too long."""

@@ -122,25 +122,66 @@ class Alone:
         MINE.solver.stop()
 
 
+class Ended(Exception):
+    """A process ended by itself while it did some work: it had too little memory, or somebody ended it."""
+
+
 class SideBySide:
-    """Has work done in so many processes. The modules for it take long to load, and small files do without."""
+    """Has work done in so many processes. The modules for it take long to load, and small files do without. Where one ends by itself
+    the others do too, and all are started anew."""
 
     def __init__(self, program, room, jobs):
+        import multiprocessing
+        self.program, self.room, self.jobs = program, room, jobs
+        self.children = multiprocessing.active_children
+        self.before = set(self.children())
+        self.start()
+
+    def start(self):
         import concurrent.futures
         import multiprocessing
         context = multiprocessing.get_context("fork")
-        self.before = set(multiprocessing.active_children())
-        self.pool = concurrent.futures.ProcessPoolExecutor(jobs, mp_context=context, initializer=begin_in_pool, initargs=(program, room))
-        self.children = multiprocessing.active_children
+        self.pool = concurrent.futures.ProcessPoolExecutor(self.jobs, mp_context=context, initializer=begin_in_pool,
+                                                           initargs=(self.program, self.room))
 
     def submit(self, function, *values):
-        return self.pool.submit(function, *values)
+        return Started(self, (function, *values))
+
+    def started(self, call):
+        """Has a call done by the processes that there are, or by new ones."""
+        try:
+            return self.pool.submit(*call)
+        except RuntimeError:    # of which a broken pool is one
+            self.start()
+            return self.pool.submit(*call)
 
     def end(self):
         """Ends the processes, whatever they do."""
         for it in set(self.children()) - self.before:
             it.terminate()
         self.pool.shutdown(wait=False)
+
+
+class Started:
+    """What a call gives that is done side by side. Where a process ends it is done once more: it may have been another call's."""
+
+    def __init__(self, pool, call):
+        self.pool, self.call = pool, call
+        self.future = pool.started(call)
+
+    def done(self):
+        return self.future.done()
+
+    def result(self):
+        from concurrent.futures.process import BrokenProcessPool
+        try:
+            return self.future.result()
+        except BrokenProcessPool:
+            self.future = self.pool.started(self.call)
+        try:
+            return self.future.result()
+        except BrokenProcessPool:
+            raise Ended("the process that looked at it ended by itself, twice") from None
 
 
 def cores():

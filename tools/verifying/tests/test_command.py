@@ -9,7 +9,7 @@ import tempfile
 import unittest
 from contextlib import redirect_stderr, redirect_stdout
 
-from verifying import boogie_word, checking, command
+from verifying import boogie_word, checking, command, work
 from verifying.program import TOP
 
 READY = bool(os.environ.get("REMDUSKA")) and shutil.which("z3") is not None
@@ -30,9 +30,28 @@ class Words(unittest.TestCase):
         self.assertEqual(called("--help"), (0, "usage: a page\n", ""))
 
     def test_words_that_are_no_call_end_with_status_2_and_a_line(self):
-        for words in ((), ("--nothing", "a.vpr"), ("a.vpr", "--seconds", "0"), ("a.vpr", "--jobs", "many")):
+        for words in ((), ("--nothing", "a.vpr"), ("a.vpr", "--seconds", "0"), ("a.vpr", "--jobs", "many"), ("a.vpr", "--jobs", "100000")):
             status, out, err = called(*words)
             self.assertEqual((status, out, err.count("\n")), (2, "", 1), words)
+
+
+def ends_once(marker):
+    """Ends the process that it is called in, but for the second time."""
+    if not os.path.exists(marker):
+        open(marker, "w").close()
+        os._exit(1)
+    return "done"
+
+
+class Processes(unittest.TestCase):
+    def test_work_is_done_once_more_where_a_process_ends(self):
+        with tempfile.TemporaryDirectory() as room:
+            pool = work.SideBySide("no program", room, 2)
+            calls = [pool.submit(ends_once, os.path.join(room, "marker")), pool.submit(abs, -3)]
+            self.assertEqual([it.result() for it in calls], ["done", 3])
+            self.assertRaises(work.Ended, pool.submit(os._exit, 3).result)
+            self.assertEqual(pool.submit(abs, -4).result(), 4)
+            pool.end()
 
 
 class Boogie(unittest.TestCase):
@@ -93,6 +112,44 @@ class Calls(unittest.TestCase):
         status, out, _ = self.verify("--smoke", "-", text="method m(x: Int) requires x > 0 && x < 0 { assert false }\n")
         self.assertEqual(status, 0)
         self.assertIn("<stdin>:1:8: warning: `m` is verified in vain", out)
+
+    def test_what_cannot_be_written_is_told_in_a_line(self):
+        for words, out in ((("--keep", "/dev/null/there"), os.devnull), (("--no-runs",), "/dev/full"), (("--help",), "/dev/full")):
+            with open(out, "w") as into:
+                done = subprocess.run([sys.executable, f"{TOP}/tools/verify", *words, "examples/list.vpr"], cwd=TOP, stdout=into,
+                                      stderr=subprocess.PIPE, universal_newlines=True)
+            self.assertEqual((done.returncode, done.stderr.count("\n"), done.stderr[:8]), (2, 1, "verify: "), words)
+
+    def test_what_the_encoding_of_the_output_has_not_is_told_by_its_number(self):
+        done = subprocess.run([sys.executable, f"{TOP}/tools/verify", "--no-runs", "-"], cwd=TOP, stdout=subprocess.PIPE,
+                              stderr=subprocess.PIPE, input="method m(x: Int) { assert /* \u00e9 */ x > 0 }\n".encode(),
+                              env={**os.environ, "PYTHONIOENCODING": "ascii"})
+        self.assertEqual((done.returncode, done.stderr), (1, b""))
+        self.assertIn(b"assert /* \\xe9 */ x > 0", done.stdout)
+
+    def test_a_program_that_writes_something_else_is_told(self):
+        with tempfile.TemporaryDirectory() as room:
+            odd = os.path.join(room, "odd")
+            with open(odd, "w") as into:
+                into.write("#!/bin/sh\necho hello\n")
+            os.chmod(odd, 0o755)
+            done = subprocess.run([sys.executable, f"{TOP}/tools/verify", "examples/list.vpr"], cwd=TOP, stdout=subprocess.PIPE,
+                                  env={**os.environ, "REMDUSKA": odd}, universal_newlines=True)
+        self.assertEqual((done.returncode, "no program of Boogie" in done.stdout), (2, True))
+
+    def test_the_name_of_a_file_is_one_line_and_in_json_as_it_is(self):
+        with tempfile.TemporaryDirectory() as room:
+            path = os.path.join(room, "a b\n\x1b'\".vpr")
+            with open(path, "w") as it:
+                it.write("method m() { assert true }\n")
+            self.assertEqual(self.verify(path)[1], f"{room}/a b\\x0a\\x1b'\".vpr: verified, 1 unit\n")
+            self.assertEqual(json.loads(self.verify("--json", path)[1])["file"], path)
+
+    def test_a_run_that_is_not_shown_is_not_announced(self):
+        text = "method m(x: Int) { assert x == x }\n"
+        self.assertEqual(self.verify("--smoke", "--no-runs", "-", text=text)[:2],
+                         (0, "<stdin>:1:8: note: a run of `m` is done, as `run` says\n<stdin>: verified, 1 unit\n"))
+        self.assertIn("this run of `m` is done, as `run` says:\n    viper run\n    pick true\n", self.verify("--smoke", "-", text=text)[1])
 
     def test_a_program_of_boogie_fails_in_replay(self):
         status, out, _ = self.verify("examples/dice_wrong.bpl")

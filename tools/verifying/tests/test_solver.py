@@ -1,5 +1,7 @@
 """A process of z3: what it is asked and says. Skipped where z3 is not installed."""
+import os
 import shutil
+import tempfile
 import time
 import unittest
 
@@ -42,6 +44,18 @@ class Processes(unittest.TestCase):
     def test_what_z3_does_not_understand_is_no_answer(self):
         self.solver.begin("(assert (= 1 true nothing))\n")
         self.assertRaises(NoSolver, self.solver.check, 10)
+
+    def test_values_that_are_not_those_that_were_asked_for_are_no_answer(self):
+        with tempfile.TemporaryDirectory() as room:
+            odd = os.path.join(room, "odd")
+            for answer in ("", "()", ")))(((", "((x 1))", "((x (f y)) (z))"):
+                with open(odd, "w", encoding="utf-8") as it:
+                    it.write(f"#!/bin/sh\necho '{answer}'\necho done\nsleep 5\n")
+                os.chmod(odd, 0o755)
+                solver = Solver(odd)
+                solver.begin("")
+                self.assertRaises(NoSolver, solver.values, ["x", "y"], 10)
+                solver.stop()
 
     def test_values_lead_to_the_failure(self):
         procedure = read_procedure('procedure p() { var m: [int, Ref]real; var i: int; var r: Ref; assume (i > 5); m[i, r] := 1.0; '
