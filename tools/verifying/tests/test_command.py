@@ -149,7 +149,7 @@ class Calls(unittest.TestCase):
         text = "method m(x: Int) { assert x == x }\n"
         self.assertEqual(self.verify("--smoke", "--no-runs", "-", text=text)[:2],
                          (0, "<stdin>:1:8: note: a run of `m` is done, as `run` says\n<stdin>: verified, 1 unit\n"))
-        self.assertIn("this run of `m` is done, as `run` says:\n    viper run\n    pick true\n", self.verify("--smoke", "-", text=text)[1])
+        self.assertIn("this run of `m` is done, as `run` says:\nviper run\npick true\n", self.verify("--smoke", "-", text=text)[1])
 
     def test_a_program_of_boogie_fails_in_replay(self):
         status, out, _ = self.verify("examples/dice_wrong.bpl")
