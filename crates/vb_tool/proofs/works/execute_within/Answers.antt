@@ -48,6 +48,7 @@ returns-clause-work g c = execution_result_does _ _ _ _ _ _ _ _ c.requires c.in_
     (rw (← c.deref.ensures.value, ← c.deref-2.ensures.value) c.executed.ensures.told)
 
 pub returns-clause-promises : goal.returns-clause-promises
-returns-clause-promises g c = execution_result_promises _ _ _ _ _ _ _ _ c.in_ok-text.ensures.whole
+returns-clause-promises g c = execution_result_promises (g.H.Shelf.files c.args.shelf.now) c.args.file.now c.args.method.now c.args.run_file.now
+    c.in_ok-text.text.items c.in_ok-run_text.run_text.items c.args.budget c.executed.result c.in_ok-text.ensures.whole
     (subst (λ f. IsWhole f c.args.run_file.now c.in_ok-run_text.run_text.items) c.in_ok-text.ensures.same c.in_ok-run_text.ensures.whole)
     (rw (← c.deref.ensures.value, ← c.deref-2.ensures.value) c.executed.ensures.told)
