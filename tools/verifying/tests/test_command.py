@@ -151,6 +151,15 @@ class Calls(unittest.TestCase):
                          (0, "<stdin>:1:8: note: a run of `m` is done, as `run` says\n<stdin>: verified, 1 unit\n"))
         self.assertIn("this run of `m` is done, as `run` says:\nviper run\npick true\n", self.verify("--smoke", "-", text=text)[1])
 
+    def test_a_run_that_needs_a_number_beyond_the_bound_is_told_in_words(self):
+        top = (1 << 127) - 1
+        for text, own in ((f"method b(n: Int) returns (r: Int) ensures r <= {top} {{ r := n }}", "run says error: run-syntax 2:1"),
+                          (f"method b(n: Int) requires n <= {top} {{ assert n + {top} < {top} + 5 }}", "run says // over 1:")):
+            status, out, _ = self.verify("-", text=text)
+            words = "but the run needs a number beyond 2^127 - 1 in magnitude, which run files and `run` do not take, so it cannot be confirmed: "
+            self.assertEqual(status, 2)
+            self.assertIn(words + own, out)
+
     def test_a_program_of_boogie_fails_in_replay(self):
         status, out, _ = self.verify("examples/dice_wrong.bpl")
         self.assertEqual(status, 1)
