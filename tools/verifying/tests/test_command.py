@@ -156,9 +156,9 @@ class Calls(unittest.TestCase):
         for text, own in ((f"method b(n: Int) returns (r: Int) ensures r <= {top} {{ r := n }}", "run says error: run-syntax 2:1"),
                           (f"method b(n: Int) requires n <= {top} {{ assert n + {top} < {top} + 5 }}", "run says // over 1:")):
             status, out, _ = self.verify("-", text=text)
-            words = "but the run needs a number beyond 2^127 - 1 in magnitude, which run files and `run` do not take, so it cannot be confirmed: "
+            words = "but the run needs a number beyond 2^127 - 1 in magnitude, which run files and `run` do not take, "
             self.assertEqual(status, 2)
-            self.assertIn(words + own, out)
+            self.assertIn(f"{words}so it cannot be confirmed: {own}", out)
 
     def test_a_program_of_boogie_fails_in_replay(self):
         status, out, _ = self.verify("examples/dice_wrong.bpl")
