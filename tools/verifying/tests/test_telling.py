@@ -9,6 +9,7 @@ from verifying import telling
 from verifying.boogie_text import procedure_texts, read_procedure
 from verifying.contents import content_words
 from verifying.failures import Told
+from verifying.results import told_of_boogie
 from verifying.run_files import ViperRun, read_back
 from verifying.source import Source
 
@@ -143,6 +144,24 @@ predicate same(x: Ref, b: Bool) { b ? acc(x.f) : acc(x.h, none) && acc(x.g) }"""
         words = content_words(source, "list", ["#9"], value)
         self.assertTrue(words.startswith("n #2000, list(#2000) {n #1999, list(#1999) {"))
         self.assertTrue(len(words) < 600 and words.endswith(".."))
+
+
+class OfBoogie(unittest.TestCase):
+    DATA = b"""procedure one() { assert {:msg "1:1 1:1 false"} true; }
+procedure two() {
+  assert {:msg "1:1 1:1 false"} true;
+  assert {:msg "1:1 1:1 false"} false; }
+procedure two$() { assert {:msg "2:1 1:1 false"} true; }
+"""
+
+    def test_a_label_that_stands_at_several_places_is_told_at_each(self):
+        told = told_of_boogie(Source("a.bpl", self.DATA), "1:1 1:1 false", "two")
+        self.assertEqual(((told.line, told.column), [it[:2] for it in told.notes]), ((3, 16), [(4, 16), (1, 32)]))
+
+    def test_a_label_that_stands_once_has_no_notes(self):
+        for unit in ("two", "two$"):
+            told = told_of_boogie(Source("a.bpl", self.DATA), "2:1 1:1 false", unit)
+            self.assertEqual((told.line, told.column, told.notes), (5, 33, []))
 
 
 class Marks(unittest.TestCase):
