@@ -145,6 +145,22 @@ class Calls(unittest.TestCase):
             self.assertEqual(self.verify(path)[1], f"{room}/a b\\x0a\\x1b'\".vpr: verified, 1 unit\n")
             self.assertEqual(json.loads(self.verify("--json", path)[1])["file"], path)
 
+    def test_files_whose_kept_names_would_be_one_are_kept_apart(self):
+        with tempfile.TemporaryDirectory() as room:
+            os.mkdir(os.path.join(room, "a"))
+            paths = [os.path.join(room, it) for it in ("a b.vpr", "a_b.vpr", "a/b.vpr")]
+            for n, path in enumerate(paths):
+                with open(path, "w") as it:
+                    it.write(f"method m(x: Int) {{ assert x != {n + 5} }}\n")
+            kept = os.path.join(room, "kept")
+            self.verify("--no-runs", "--keep", kept, *paths, paths[1])
+            found = {}
+            for name in os.listdir(kept):
+                if name.endswith(".run"):
+                    with open(os.path.join(kept, name)) as it:
+                        found[name[name.rindex("a_b.vpr"):].partition(".1-")[0]] = it.read().splitlines()[1]
+        self.assertEqual(found, {"a_b.vpr": "var x 5", "a_b.vpr-2": "var x 6", "a_b.vpr-3": "var x 7"})
+
     def test_a_run_that_is_not_shown_is_not_announced(self):
         text = "method m(x: Int) { assert x == x }\n"
         self.assertEqual(self.verify("--smoke", "--no-runs", "-", text=text)[:2],
