@@ -115,7 +115,10 @@ predicate sides(x: Ref, b: Bool) { b ? acc(x.f) && acc(x.g) : acc(x.h) }
 predicate maybe(x: Ref) { acc(x.g) && (x.g != null ==> acc(x.g.f, 1/2)) && x.g != x }
 predicate open(n: Int) predicate both() { open(1) && acc(open(1 + 1)) && true }
 predicate either(x: Ref, b: Bool) { b ? acc(x.f) : open(1) && x != null }
-predicate same(x: Ref, b: Bool) { b ? acc(x.f) : acc(x.h, none) && acc(x.g) }""")
+predicate same(x: Ref, b: Bool) { b ? acc(x.f) : acc(x.h, none) && acc(x.g) }
+predicate twin(x: Ref, b: Bool) { (b) ? acc(x.f) : acc(x.k) } field k: Int field c: Bool
+predicate kept(x: Ref) { acc(x.c) && (x.c ? acc(x.f) : acc(x.k)) }
+predicate more(x: Ref, b: Bool) { !b ? acc(x.f) : acc(x.k) }""")
 
     def told(self, name, arguments, value):
         return content_words(self.SOURCE, name, arguments, value)
@@ -130,6 +133,14 @@ predicate same(x: Ref, b: Bool) { b ? acc(x.f) : acc(x.h, none) && acc(x.g) }"""
         self.assertEqual(self.told("same", ["#1", "true"], int_), "f 3")
         self.assertEqual(self.told("either", ["#1", "true"], int_), "f 3")
         self.assertEqual(self.told("either", ["#1", "false"], ("pair", int_, unit)), "open(1) {leaf 3}")
+
+    def test_a_condition_that_is_known_says_which_side_is_meant(self):
+        int_ = ("leaf", "int", 3)
+        for word, name in (("true", "f"), ("false", "k")):
+            self.assertEqual(self.told("twin", ["#1", word], int_), f"{name} 3")
+            self.assertEqual(self.told("kept", ["#1"], ("pair", ("leaf", "bool", word == "true"), int_)), f"c {word}, {name} 3")
+            self.assertEqual(self.told("more", ["#1", word], int_), "leaf 3")
+            self.assertEqual(self.told("twin", ["#1", word], ("pair", int_, int_)), "pair leaf 3 leaf 3")
 
     def test_what_does_not_fit_is_told_as_a_run_file_has_it(self):
         self.assertEqual(self.told("maybe", ["#1"], ("leaf", "int", 3)), "leaf 3")
