@@ -9,7 +9,7 @@ import tempfile
 import unittest
 from contextlib import redirect_stderr, redirect_stdout
 
-from verifying import boogie_word, checking, command, work
+from verifying import boogie_word, checking, command, files, work
 from verifying.program import TOP
 
 READY = bool(os.environ.get("REMDUSKA")) and shutil.which("z3") is not None
@@ -160,6 +160,12 @@ class Calls(unittest.TestCase):
                     with open(os.path.join(kept, name)) as it:
                         found[name[name.rindex("a_b.vpr"):].partition(".1-")[0]] = it.read().splitlines()[1]
         self.assertEqual(found, {"a_b.vpr": "var x 5", "a_b.vpr-2": "var x 6", "a_b.vpr-3": "var x 7"})
+
+    def test_a_file_that_is_too_large_is_refused_without_reading_its_tokens(self):
+        whole = "method m() {}\n//".ljust(files.LARGEST, "-")
+        self.assertEqual(self.verify("-", text=whole)[:2], (0, "<stdin>: verified, 1 unit\n"))
+        self.assertEqual(self.verify("-", text=f"{whole}-")[:2], (2, "<stdin>:1:1: error: the file has more than 1,048,576 bytes\n"))
+        self.assertEqual(files.source_of("a.vpr", f"{whole}-".encode()).tokens, [])
 
     def test_a_run_that_is_not_shown_is_not_announced(self):
         text = "method m(x: Int) { assert x == x }\n"
