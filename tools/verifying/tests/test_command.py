@@ -43,6 +43,18 @@ def ends_once(marker):
     return "done"
 
 
+class Interrupted(unittest.TestCase):
+    def test_an_interruption_while_modules_are_read_ends_quietly(self):
+        for module in ("argparse", "no_module_of_it"):
+            with tempfile.TemporaryDirectory() as room:
+                with open(os.path.join(room, f"{module}.py"), "w") as it:
+                    it.write("import os, signal, time\nos.kill(os.getpid(), signal.SIGINT)\ntime.sleep(10)\n")
+                done = subprocess.run([sys.executable, f"{TOP}/tools/verify", "--help"], stdout=subprocess.PIPE, stderr=subprocess.PIPE,
+                                      env={**os.environ, "PYTHONPATH": room})
+            found = (done.returncode, done.stderr, done.stdout.startswith(b"usage: "))
+            self.assertEqual(found, (0, b"", True) if module == "no_module_of_it" else (130, b"", False), module)
+
+
 class Processes(unittest.TestCase):
     def test_work_is_done_once_more_where_a_process_ends(self):
         with tempfile.TemporaryDirectory() as room:
