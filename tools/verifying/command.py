@@ -8,11 +8,10 @@ from typing import NamedTuple, Optional
 
 from . import boogie_word, work
 from .boogie_text import NotAsWritten
-from .files import bytes_of, shown_path
+from .files import bytes_of, shown_path, source_of
 from .program import NoProgram, find
 from .report import Report
 from .results import undecided
-from .source import Source
 
 AHEAD = 4       # so many files for each process are translated before they are looked at
 MOST_SECONDS = 1_000_000
@@ -234,7 +233,7 @@ class Command:
             return
         if file.given.refused:
             self.progress.clear()
-            self.report.refused(file.given, Source(shown_path(file.path), file.data))
+            self.report.refused(file.given, source_of(file.path, file.data))
             return
         for n, (unit, future) in enumerate(file.units):
             self.progress.tell(f"{shown_path(file.path)}: {unit.name} ({n + 1} of {len(file.units)})")

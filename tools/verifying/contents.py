@@ -1,6 +1,6 @@
 """What an instance of a predicate contains, told as the places and instances of the predicate's body."""
 from .run_files import content, scalar
-from .terms import Term
+from .terms import Term, spelled
 
 MOST = 400      # the most characters that people are told of a content
 
@@ -53,7 +53,7 @@ class Contents:
         if sign == "==>":
             return [(node.parts[1], value, scope)] if value != ("unit",) else []
         if sign == "?" and value != ("unit",):
-            sides = [it for it in node.parts[1:] if self.fits(it, value)]
+            sides = [it for it in self.sides(node, scope) if self.fits(it, value)]
             if len(sides) == 1:
                 return [(sides[0], value, scope)]
         if node.kind == "acc" and node.parts and node.parts[0].kind == "field" and value[0] == "leaf":
@@ -65,6 +65,11 @@ class Contents:
         if value != ("unit",):
             self.say(content(value))
         return []
+
+    def sides(self, node, scope):
+        """The sides of `?:` that may be meant: one where the condition is an argument, or a place that is told."""
+        said = scope.get(spelled(self.source, node.parts[0]))
+        return {"true": node.parts[1:2], "false": node.parts[2:3]}.get(said, node.parts[1:])
 
     def place(self, node, value, scope):
         """Tells the value of a place: of a field of the first parameter by the name of the field, and else as the body spells it."""

@@ -12,6 +12,7 @@ from .failures import Told
 from .source import Source
 
 MOST = 33_554_433   # the program looks at no more bytes of a file
+LARGEST = 1_048_576     # the program refuses a Viper file with more bytes, of which it tells no place
 
 
 class Unit(NamedTuple):
@@ -66,7 +67,7 @@ def given(path, data, program, room) -> Given:
     with open(copy, "wb") as it:
         it.write(data)
     said = program.cut(copy) if is_boogie else program.translate(copy)
-    source = Source(shown_path(path), data)
+    source = source_of(path, data)
     if said.status != 0:
         lines = said.error.strip().splitlines()
         reason = lines[-1] if lines else f"the program ended with status {said.status}"
@@ -80,6 +81,11 @@ def given(path, data, program, room) -> Given:
     units = [unit(source, is_boogie, data, *it) for it in procedure_texts(said.out)]
     prelude = said.out[:said.out.index("\nprocedure ") + 1] if units else said.out
     return Given(path, copy, text_file, prelude, is_boogie, bare, units, None, "")
+
+
+def source_of(path, data):
+    """A file as its tokens. One that is refused for its size has none: nothing of it is told but that."""
+    return Source(shown_path(path), data if path.endswith(".bpl") or len(data) <= LARGEST else b"")
 
 
 def unit(source, is_boogie, data, procedure, text):

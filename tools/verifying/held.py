@@ -33,7 +33,7 @@ def change_of(old, new):
     """Whether from a map of permission something was taken (-1), or nothing (0), or it is another one, or has more (1)."""
     if new.source is not old.source:
         return 1
-    changes = [value - old.get(key) for key, value in new.changed.items() if old.changed.get(key) != value]
+    changes = [value - old.get(key) for key, value in new.changed.items(old.changed) if old.changed.get(key) != value]
     return 1 if any(it > 0 for it in changes) else -1 if any(it < 0 for it in changes) else 0
 
 

@@ -16,6 +16,7 @@ class Report:
 
     def __init__(self, options, out):
         self.options, self.out, self.status = options, out, 0
+        self.stems = {}     # the paths of the files that are kept, by what their names begin with
 
     def line(self, text):
         print(text, file=self.out)
@@ -131,7 +132,7 @@ class Report:
 
     def keep(self, given, result):
         """Writes the run files of a unit, and the text of Boogie that those of Boogie belong to."""
-        stem = os.path.join(self.options.keep, re.sub(r"[^\w.-]", "_", shown_path(given.path)))
+        stem = os.path.join(self.options.keep, self.stem(name_of(given.path)))
         with open(given.text_file, "rb") as text, open(f"{stem}.text.bpl", "wb") as into:
             into.write(text.read())
         for it in result.labels:
@@ -140,3 +141,12 @@ class Report:
                 if text:
                     with open(name + ending, "w", encoding="utf-8") as into:
                         into.write(text)
+
+    def stem(self, path):
+        """What the names of the kept files of a file begin with. Where another file has the same, it gets a number."""
+        plain = re.sub(r"[^\w.-]", "_", shown_path(path))
+        found, number = plain, 1
+        while self.stems.setdefault(found, path) != path:
+            number += 1
+            found = f"{plain}-{number}"
+        return found

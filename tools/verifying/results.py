@@ -1,4 +1,5 @@
 """What is told of a unit, as plain data that goes from one process to another: lines for people, and values for `--json`."""
+import re
 from typing import List, NamedTuple, Optional
 
 from . import failures, telling
@@ -35,18 +36,27 @@ class Result(NamedTuple):
     seconds: float
 
 
-def told_of_boogie(source, label):
-    """What is told of a label of a program of Boogie, at the first place where it stands."""
-    at = source.data.find(f'"{label}"'.encode())
-    front = source.data[:max(at, 0)]
-    line, column = front.count(b"\n") + 1, len(front) - front.rfind(b"\n")
+def told_of_boogie(source, label, procedure):
+    """What is told of a label of a program of Boogie, at the first place where it stands, with notes at the others. The places in
+    the procedure itself come first: a label of a contract stands in another one."""
+    own = re.search(rf"^\s*procedure\s+{re.escape(procedure)}(?![\w$'])", source.text, re.M)
+    behind = re.compile(r"^\s*procedure\s", re.M).search(source.text, own.end()) if own else None
+    inside = range(own.start(), behind.start() if behind else len(source.text)) if own else range(0)
+    found = sorted([it.start() for it in re.finditer(re.escape(f'"{label}"'), source.text)], key=lambda at: (at not in inside, at))
+    (line, column), *others = [place_in(source.data, at) for at in found or [0]]
     kind = label.split()[-1]
-    return Told(line, column, f"the assertion `{label}` may fail: {failures.PLAIN.get(kind, kind)}")
+    notes = [(*it, "an assertion with the same label, of which the same is told") for it in others]
+    return Told(line, column, f"the assertion `{label}` may fail: {failures.PLAIN.get(kind, kind)}", notes)
 
 
-def label_of(failure, source, is_boogie) -> Label:
-    """What is told of a failure."""
-    told = told_of_boogie(source, failure.label) if is_boogie else failures.told(source, failure.label)
+def place_in(data, at):
+    """The line and the column of a byte."""
+    return data.count(b"\n", 0, at) + 1, at - data.rfind(b"\n", 0, at)
+
+
+def label_of(failure, source, unit, is_boogie) -> Label:
+    """What is told of a failure of a unit."""
+    told = told_of_boogie(source, failure.label, unit) if is_boogie else failures.told(source, failure.label)
     run = failure.run.text() if failure.run else None
     shown, state_lines, state = [], [], []
     if failure.confirmed:
@@ -70,11 +80,11 @@ def boogie_state(walk):
     return ([", ".join(f"{it['variable']} = {it['value']}" for it in data)] if data else []), data
 
 
-def errors_of(labels, source, is_boogie):
+def errors_of(labels, source, unit, is_boogie):
     """The lines of each error, and the numbers of its labels: null and permission of one access are one error."""
     confirmed = [it.label for it in labels if it.confirmed]
     number = {it.label: n for n, it in enumerate(labels)}
-    groups = [(told_of_boogie(source, it), [it]) for it in confirmed] if is_boogie else failures.joined(source, confirmed)
+    groups = [(told_of_boogie(source, it, unit), [it]) for it in confirmed] if is_boogie else failures.joined(source, confirmed)
     found = [(told, [number[it] for it in group]) for told, group in groups]
     found.sort(key=lambda it: (it[0].line, it[0].column))
     return [(telling.error_lines(source, told), group) for told, group in found]
@@ -82,8 +92,8 @@ def errors_of(labels, source, is_boogie):
 
 def result_of(unit, outcome, source, is_boogie, smoke, seconds) -> Result:
     """What is told of a unit of which something is known."""
-    labels = [label_of(it, source, is_boogie) for it in outcome.failures]
-    return Result(unit, outcome.verdict, outcome.why, labels, errors_of(labels, source, is_boogie), *smoke, seconds)
+    labels = [label_of(it, source, unit, is_boogie) for it in outcome.failures]
+    return Result(unit, outcome.verdict, outcome.why, labels, errors_of(labels, source, unit, is_boogie), *smoke, seconds)
 
 
 def undecided(unit, why) -> Result:

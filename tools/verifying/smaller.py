@@ -7,6 +7,8 @@ from .walk import DEFAULTS, Walk
 SECONDS = 0.6       # for one run
 ROUNDS = 3
 INTS = (0, 1, -1, 2, 3, 5, 10)
+MOST_PARTS = 64     # so many parts of a content are looked at
+UNIT = ("unit",)
 REALS = (Fraction(0), Fraction(1), Fraction(1, 2))
 
 
@@ -103,4 +105,41 @@ class Smaller:
     def simplified(self, table, key, base):
         if key not in table:
             return False
+        if base == "Snap":
+            return self.simpler_content(table, key)
         return any(self.attempt(table, key, it) for it in simpler(table[key], base))
+
+    def simpler_content(self, table, key):
+        """Makes parts of a content the unit, and the numbers in it smaller. What is opened on the way stays as it is."""
+        changed, todo = False, [()]
+        for _ in range(MOST_PARTS):
+            if not todo or self.late():
+                break
+            path = todo.pop()
+            part = part_at(table[key], path)
+            if part == UNIT:
+                continue
+            tried = [("leaf", part[1], it) for it in simpler(part[2], part[1])] if part[0] == "leaf" else []
+            if any(self.attempt(table, key, with_part(table[key], path, it)) for it in [UNIT, *tried]):
+                changed = True
+            elif part[0] == "pair":
+                todo += [(*path, 2), (*path, 1)]
+        return changed
+
+
+def part_at(value, path):
+    """The part of a content to which a path of sides leads."""
+    for side in path:
+        value = value[side]
+    return value
+
+
+def with_part(value, path, part):
+    """A content with another part at the end of a path of sides."""
+    around = []
+    for side in path:
+        around.append((value, side))
+        value = value[side]
+    for pair, side in reversed(around):
+        part = ("pair", part, pair[2]) if side == 1 else ("pair", pair[1], part)
+    return part

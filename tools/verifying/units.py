@@ -1,8 +1,9 @@
 """One unit: what z3 says of it, and a confirmed run for each label that can fail.
 
 A label is confirmed where `run` failed at it on the very run file that is told (of a program of Boogie, `replay`). What z3 says
-can fail and no run confirms is told apart: that is a finding about these tools."""
+can fail and no run confirms is told apart: that is a finding about these tools, unless the run needs what run files do not take."""
 import os
+import re
 from typing import List, NamedTuple, Optional
 
 from .boogie_text import read_procedure
@@ -13,6 +14,7 @@ from .smaller import Smaller, Values
 from .symbolic import symbolic_of
 from .walk import Walk
 
+MOST, MOST_NODES = (1 << 127) - 1, 4096     # the limits of numbers and contents in docs/run-files.md
 AT_ONCE, ALONE = 0.3, 0.8  # parts of the time that is left, for all labels at once and for each alone
 VERIFIED, FAILS, UNDECIDED = "verified", "fails", "undecided"
 
@@ -136,16 +138,23 @@ class Examiner:
         text = boogie_run(walk, self.task.is_boogie)
         if self.task.is_boogie:
             why = self.replayed(text, label)
-            return Failure(label, not why, None, text, walk, why)
+            return Failure(label, not why, None, text, walk, why and self.explained(text, why))
         run, said = with_states(viper_run(walk, self.task.bare), self.says, self.procedure)
         if not said.startswith(f"// failed {label}\n"):
             why = self.replayed(text, label)
-            return Failure(label, False, run, text, walk, f"run says {first_line(said)}; {why or 'replay fails there'}")
+            words = f"run says {first_line(said)}; {why or 'replay fails there'}"
+            return Failure(label, False, run, text, walk, self.explained(run.text(), words))
         written = "".join(f"{line}\n" for line in said.splitlines()[2:])
         why = self.replayed(written, label)
         end = read_back(self.procedure, written)
         end.run()
         return Failure(label, True, run, written, end, why and f"of the run of Boogie that run writes, {why}")
+
+    def explained(self, text, words):
+        """What the program says of a run, behind what the run needs that the program does not take."""
+        needs = beyond(text, words, any([base == "Snap" for _, base in self.procedure.locals.values()]))
+        word = "replay" if self.task.is_boogie else "run"
+        return f"the run needs {needs}, which run files and `{word}` do not take, so it cannot be confirmed: {words}" if needs else words
 
     def replayed(self, text, label):
         """Nothing where `replay` fails at a label, and else what it says."""
@@ -162,6 +171,16 @@ class Examiner:
         with open(path, "w", encoding="utf-8") as it:
             it.write(text)
         return path
+
+
+def beyond(text, words, has_contents):
+    """What a run needs beyond the limits of run files, by its text and by what the program says of it; or nothing."""
+    number, tree = "a number beyond 2^127 - 1 in magnitude", f"a content of more than {MOST_NODES:,} nodes"
+    if any([int(it) > MOST for it in re.findall("(?<=[ /-])[0-9]+", text)]):
+        return number
+    if any([len(re.findall("unit|leaf|pair", it)) > MOST_NODES for it in text.splitlines()]):
+        return tree
+    return "" if "// over" not in words else f"{number}, or {tree}" if has_contents else number
 
 
 def first_line(text):

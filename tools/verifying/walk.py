@@ -5,6 +5,7 @@ A value is an int (a reference too, where 0 is null), a bool, a Fraction, or a c
 from fractions import Fraction
 
 from .boogie_text import LEAVES
+from .changes import Changes
 
 DEFAULTS = {"int": 0, "bool": False, "Ref": 0, "real": Fraction(0), "Snap": ("unit",)}
 
@@ -31,16 +32,14 @@ class Map:
     __slots__ = ("source", "changed")
 
     def __init__(self, source, changed=None):
-        self.source, self.changed = source, changed or {}
+        self.source, self.changed = source, changed or Changes()
 
     def get(self, key):
         found = self.changed.get(key)
         return self.source.get(key) if found is None else found
 
     def put(self, key, value):
-        found = Map(self.source, dict(self.changed))
-        found.changed[key] = value
-        return found
+        return Map(self.source, self.changed.put(key, value))
 
 
 class End(Exception):

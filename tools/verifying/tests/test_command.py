@@ -9,7 +9,7 @@ import tempfile
 import unittest
 from contextlib import redirect_stderr, redirect_stdout
 
-from verifying import boogie_word, checking, command, work
+from verifying import boogie_word, checking, command, files, work
 from verifying.program import TOP
 
 READY = bool(os.environ.get("REMDUSKA")) and shutil.which("z3") is not None
@@ -41,6 +41,18 @@ def ends_once(marker):
         open(marker, "w").close()
         os._exit(1)
     return "done"
+
+
+class Interrupted(unittest.TestCase):
+    def test_an_interruption_while_modules_are_read_ends_quietly(self):
+        for module in ("argparse", "no_module_of_it"):
+            with tempfile.TemporaryDirectory() as room:
+                with open(os.path.join(room, f"{module}.py"), "w") as it:
+                    it.write("import os, signal, time\nos.kill(os.getpid(), signal.SIGINT)\ntime.sleep(10)\n")
+                done = subprocess.run([sys.executable, f"{TOP}/tools/verify", "--help"], stdout=subprocess.PIPE, stderr=subprocess.PIPE,
+                                      env={**os.environ, "PYTHONPATH": room})
+            found = (done.returncode, done.stderr, done.stdout.startswith(b"usage: "))
+            self.assertEqual(found, (0, b"", True) if module == "no_module_of_it" else (130, b"", False), module)
 
 
 class Processes(unittest.TestCase):
@@ -145,11 +157,42 @@ class Calls(unittest.TestCase):
             self.assertEqual(self.verify(path)[1], f"{room}/a b\\x0a\\x1b'\".vpr: verified, 1 unit\n")
             self.assertEqual(json.loads(self.verify("--json", path)[1])["file"], path)
 
+    def test_files_whose_kept_names_would_be_one_are_kept_apart(self):
+        with tempfile.TemporaryDirectory() as room:
+            os.mkdir(os.path.join(room, "a"))
+            paths = [os.path.join(room, it) for it in ("a b.vpr", "a_b.vpr", "a/b.vpr")]
+            for n, path in enumerate(paths):
+                with open(path, "w") as it:
+                    it.write(f"method m(x: Int) {{ assert x != {n + 5} }}\n")
+            kept = os.path.join(room, "kept")
+            self.verify("--no-runs", "--keep", kept, *paths, paths[1])
+            found = {}
+            for name in os.listdir(kept):
+                if name.endswith(".run"):
+                    with open(os.path.join(kept, name)) as it:
+                        found[name[name.rindex("a_b.vpr"):].partition(".1-")[0]] = it.read().splitlines()[1]
+        self.assertEqual(found, {"a_b.vpr": "var x 5", "a_b.vpr-2": "var x 6", "a_b.vpr-3": "var x 7"})
+
+    def test_a_file_that_is_too_large_is_refused_without_reading_its_tokens(self):
+        whole = "method m() {}\n//".ljust(files.LARGEST, "-")
+        self.assertEqual(self.verify("-", text=whole)[:2], (0, "<stdin>: verified, 1 unit\n"))
+        self.assertEqual(self.verify("-", text=f"{whole}-")[:2], (2, "<stdin>:1:1: error: the file has more than 1,048,576 bytes\n"))
+        self.assertEqual(files.source_of("a.vpr", f"{whole}-".encode()).tokens, [])
+
     def test_a_run_that_is_not_shown_is_not_announced(self):
         text = "method m(x: Int) { assert x == x }\n"
         self.assertEqual(self.verify("--smoke", "--no-runs", "-", text=text)[:2],
                          (0, "<stdin>:1:8: note: a run of `m` is done, as `run` says\n<stdin>: verified, 1 unit\n"))
         self.assertIn("this run of `m` is done, as `run` says:\nviper run\npick true\n", self.verify("--smoke", "-", text=text)[1])
+
+    def test_a_run_that_needs_a_number_beyond_the_bound_is_told_in_words(self):
+        top = (1 << 127) - 1
+        for text, own in ((f"method b(n: Int) returns (r: Int) ensures r <= {top} {{ r := n }}", "run says error: run-syntax 2:1"),
+                          (f"method b(n: Int) requires n <= {top} {{ assert n + {top} < {top} + 5 }}", "run says // over 1:")):
+            status, out, _ = self.verify("-", text=text)
+            words = "but the run needs a number beyond 2^127 - 1 in magnitude, which run files and `run` do not take, "
+            self.assertEqual(status, 2)
+            self.assertIn(f"{words}so it cannot be confirmed: {own}", out)
 
     def test_a_program_of_boogie_fails_in_replay(self):
         status, out, _ = self.verify("examples/dice_wrong.bpl")

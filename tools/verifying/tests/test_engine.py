@@ -131,6 +131,14 @@ class Runs(unittest.TestCase):
         self.assertEqual(found.scalars, {0: 1, 1: 1, 7: True, 8: 4})
         self.assertEqual(found.tables, {})
 
+    def test_contents_are_made_simpler_where_the_run_does_not_open_them(self):
+        opened = read_procedure("""procedure p() { var s: Snap; var l: Snap; var r: Snap; var w: int;
+havoc s; havoc l; havoc r; assume (s == sPair(l, r)); havoc w; assume (l == sInt(w)); assert {:msg "1:1 1:2 false"} (w < 3); }""")
+        types = list(conditions_of(opened).vars.values())
+        inner = ("pair", ("leaf", "int", 8), ("pair", ("leaf", "Ref", 4), ("unit",)))
+        found = Smaller(opened, Values(types, {4: ("pair", ("leaf", "int", 50), inner)}, {}), "1:1 1:2 false").found()
+        self.assertEqual(found.scalars, {4: ("pair", ("leaf", "int", 3), ("unit",))})
+
     def test_contents_are_spelled_and_read(self):
         value = ("pair", ("leaf", "real", Fraction(1, 2)), ("pair", ("unit",), ("leaf", "Ref", 0)))
         words = run_files.content(value)

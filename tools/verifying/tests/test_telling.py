@@ -9,6 +9,7 @@ from verifying import telling
 from verifying.boogie_text import procedure_texts, read_procedure
 from verifying.contents import content_words
 from verifying.failures import Told
+from verifying.results import told_of_boogie
 from verifying.run_files import ViperRun, read_back
 from verifying.source import Source
 
@@ -114,7 +115,10 @@ predicate sides(x: Ref, b: Bool) { b ? acc(x.f) && acc(x.g) : acc(x.h) }
 predicate maybe(x: Ref) { acc(x.g) && (x.g != null ==> acc(x.g.f, 1/2)) && x.g != x }
 predicate open(n: Int) predicate both() { open(1) && acc(open(1 + 1)) && true }
 predicate either(x: Ref, b: Bool) { b ? acc(x.f) : open(1) && x != null }
-predicate same(x: Ref, b: Bool) { b ? acc(x.f) : acc(x.h, none) && acc(x.g) }""")
+predicate same(x: Ref, b: Bool) { b ? acc(x.f) : acc(x.h, none) && acc(x.g) }
+predicate twin(x: Ref, b: Bool) { (b) ? acc(x.f) : acc(x.k) } field k: Int field c: Bool
+predicate kept(x: Ref) { acc(x.c) && (x.c ? acc(x.f) : acc(x.k)) }
+predicate more(x: Ref, b: Bool) { !b ? acc(x.f) : acc(x.k) }""")
 
     def told(self, name, arguments, value):
         return content_words(self.SOURCE, name, arguments, value)
@@ -130,6 +134,14 @@ predicate same(x: Ref, b: Bool) { b ? acc(x.f) : acc(x.h, none) && acc(x.g) }"""
         self.assertEqual(self.told("either", ["#1", "true"], int_), "f 3")
         self.assertEqual(self.told("either", ["#1", "false"], ("pair", int_, unit)), "open(1) {leaf 3}")
 
+    def test_a_condition_that_is_known_says_which_side_is_meant(self):
+        int_ = ("leaf", "int", 3)
+        for word, name in (("true", "f"), ("false", "k")):
+            self.assertEqual(self.told("twin", ["#1", word], int_), f"{name} 3")
+            self.assertEqual(self.told("kept", ["#1"], ("pair", ("leaf", "bool", word == "true"), int_)), f"c {word}, {name} 3")
+            self.assertEqual(self.told("more", ["#1", word], int_), "leaf 3")
+            self.assertEqual(self.told("twin", ["#1", word], ("pair", int_, int_)), "pair leaf 3 leaf 3")
+
     def test_what_does_not_fit_is_told_as_a_run_file_has_it(self):
         self.assertEqual(self.told("maybe", ["#1"], ("leaf", "int", 3)), "leaf 3")
         self.assertEqual(self.told("nobody", ["#1"], ("pair", ("unit",), ("unit",))), "pair unit unit")
@@ -143,6 +155,24 @@ predicate same(x: Ref, b: Bool) { b ? acc(x.f) : acc(x.h, none) && acc(x.g) }"""
         words = content_words(source, "list", ["#9"], value)
         self.assertTrue(words.startswith("n #2000, list(#2000) {n #1999, list(#1999) {"))
         self.assertTrue(len(words) < 600 and words.endswith(".."))
+
+
+class OfBoogie(unittest.TestCase):
+    DATA = b"""procedure one() { assert {:msg "1:1 1:1 false"} true; }
+procedure two() {
+  assert {:msg "1:1 1:1 false"} true;
+  assert {:msg "1:1 1:1 false"} false; }
+procedure two$() { assert {:msg "2:1 1:1 false"} true; }
+"""
+
+    def test_a_label_that_stands_at_several_places_is_told_at_each(self):
+        told = told_of_boogie(Source("a.bpl", self.DATA), "1:1 1:1 false", "two")
+        self.assertEqual(((told.line, told.column), [it[:2] for it in told.notes]), ((3, 16), [(4, 16), (1, 32)]))
+
+    def test_a_label_that_stands_once_has_no_notes(self):
+        for unit in ("two", "two$"):
+            told = told_of_boogie(Source("a.bpl", self.DATA), "2:1 1:1 false", unit)
+            self.assertEqual((told.line, told.column, told.notes), (5, 33, []))
 
 
 class Marks(unittest.TestCase):
