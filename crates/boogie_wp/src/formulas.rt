@@ -75,7 +75,7 @@ fn conditions_of_procedure(alloc: Global, proc: &Proc) -> Result<Conditions, Mem
 
 /// The conditions of the procedure of this number, from 0 on, of a well-typed program. At values of the variables an assertion with
 /// a label fails exactly where the procedure fails there, from the values of its locals and on the choices that the run meets. Where
-/// the procedure can be printed, so can the conditions.
+/// the procedure can be printed, so can the conditions. `Memory` where there is no memory.
 pub fn conditions(alloc: Global, program: &BProgram, proc: usize) -> Result<Conditions, Memory>
     requires typed { IsTypedProgram (program_of program.now) }
     requires exists { proc < length (program_of program.now).procs }
@@ -101,7 +101,7 @@ fn formula_of_procedure(alloc: Global, proc: &Proc, label: &Label) -> Result<For
 
 /// The formula of the procedure of this number, from 0 on, of a well-typed program, and of a label. Its goal is false exactly at the
 /// values of its variables at which the procedure fails there, so it is valid exactly where no run of the procedure does. Where the
-/// procedure can be printed, so can the formula.
+/// procedure can be printed, so can the formula. `Memory` where there is no memory.
 pub fn formula(
     alloc: Global,
     program: &BProgram,

@@ -17,7 +17,7 @@ use vb_value::{Content, Key, Value};
 use viper_core::Program;
 use viper_state::{Event, Memo};
 
-/// The choices of Boogie that the events of a run of a program turn into, in order.
+/// The choices of Boogie that the events of a run of a program turn into, in order. `Memory` where there is no memory.
 pub fn moves(alloc: Global, events: &Vec<Event>, _program: &Program) -> Result<Vec<BChoice>, Memory>
     ensures moves { IfOk result (λ choices. map choice_of choices.items ≡ m.moves (map event_of events.now.items)) }
 

@@ -65,7 +65,7 @@ impl<K: Ord + Clone, V: Eq + Clone> Builder<K, V> {
         self.filled.change(self.alloc, &self.zero, key, value)
     }
 
-    /// The map, made of its entries.
+    /// The map, made of its entries. `Memory` where there is no memory.
     pub fn finish(self) -> Result<Sparse<K, V>, Memory>
         ensures same { IfOk result (λ m. m ≡ self) }
         ensures reduced { IfOk result (IsReduced K.cmp V.eq) }
@@ -78,7 +78,7 @@ impl<K: Ord + Clone, V: Eq + Clone> Builder<K, V> {
         })
     }
 
-    /// The entries in ascending order of their keys, moved out.
+    /// The entries in ascending order of their keys, moved out. `Memory` where there is no memory.
     pub fn into_entries(self) -> Result<Vec<(K, V)>, Memory>
         ensures entries { IfOk result (λ list. list.items ≡ self.entries) }
         ensures reduced { IsReduced K.cmp V.eq self }

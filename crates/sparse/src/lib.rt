@@ -61,7 +61,7 @@ impl<K: Ord + Clone, V: Eq + Clone> Sparse<K, V> {
     ghost use Rattle.std.specs.List.{list_any};
     ghost use Rattle.sparse.specs.Map.{empty, get, set, keys, values, borrowed, IsReduced, IsSame, ClonesAreEqual};
 
-    /// The map in which every key has the default `zero`.
+    /// The map in which every key has the default `zero`. `Memory` where there is no memory.
     pub fn make(alloc: Global, zero: V) -> Result<Sparse<K, V>, Memory>
         ensures empty { IfOk result (λ m. m ≡ empty zero) }
         ensures reduced { IfOk result (IsReduced K.cmp V.eq) }
@@ -102,7 +102,7 @@ impl<K: Ord + Clone, V: Eq + Clone> Sparse<K, V> {
         Ok(())
     }
 
-    /// An equal map, which shares its entries.
+    /// An equal map, which shares its entries. `Memory` where there is no memory.
     pub fn copy(&self) -> Result<Sparse<K, V>, Memory>
         requires { ClonesAreEqual K.cmp V.eq K.is_clone V.is_clone }
         ensures same { IfOk result (IsSame K.cmp V.eq self.now) }
@@ -143,6 +143,7 @@ impl<K: Ord + Clone, V: Eq + Clone> Sparse<K, V> {
     }
 
     /// The keys that have another value than the default, in ascending order, each with its value.
+    /// `Memory` where there is no memory.
     pub fn entries(&self) -> Result<Vec<&(K, V)>, Memory>
         ensures entries { IfOk result (λ list. borrowed list.items ≡ self.now.entries) }
         ensures reduced { IsReduced K.cmp V.eq self.now }

@@ -18,7 +18,7 @@ pub fn same_bytes(first: &[u8], second: &[u8]) -> bool
     true
 }
 
-/// Appends these bytes.
+/// Appends these bytes. `Memory` where there is no memory.
 pub fn put(out: &mut Vec<u8>, bytes: &[u8]) -> Result<(), Memory>
     ensures { OnOk result (out.new.items ≡ out.old.items ++ bytes.now) }
 {

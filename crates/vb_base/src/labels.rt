@@ -83,7 +83,7 @@ impl fmt::Display for Label {
     }
 }
 
-/// The text of a label: `line:col line:col kind`.
+/// The text of a label: `line:col line:col kind`. `Memory` where there is no memory.
 pub fn label_text(alloc: Global, label: &Label) -> Result<Vec<u8>, Memory>
     ensures { IfOk result (λ text. Spells text.items label.now) }
 {

@@ -54,14 +54,14 @@ impl Ident {
         short(&[], &[])
     }
 
-    /// The name of these bytes.
+    /// The name of these bytes. `Memory` where there is no memory.
     pub fn new(alloc: Global, bytes: &[u8]) -> Result<Ident, Memory>
         ensures { IfOk result (λ name. name ≡ bytes.now) }
     {
         Ident::joined(alloc, bytes, &[])
     }
 
-    /// The name of these bytes and, behind them, those.
+    /// The name of these bytes and, behind them, those. `Memory` where there is no memory.
     pub fn joined(alloc: Global, front: &[u8], back: &[u8]) -> Result<Ident, Memory>
         ensures { IfOk result (λ name. name ≡ front.now ++ back.now) }
     {
@@ -86,7 +86,7 @@ impl Ident {
         }
     }
 
-    /// The same name again.
+    /// The same name again. `Memory` where there is no memory.
     pub fn copy(&self) -> Result<Ident, Memory>
         ensures { IfOk result (λ name. name ≡ self.now) }
     {

@@ -98,7 +98,7 @@ fn put_method(alloc: Global, out: &mut Vec<u8>, number: u32) -> Result<(), Alloc
 }
 
 /// A field, and n methods: each odd one adds its number to the field, and each even one calls the one
-/// before it.
+/// before it. `Memory` where there is no memory.
 pub fn make_program(alloc: Global, n: u32) -> Result<Vec<u8>, GenFault>
     ensures text { IfOk result (λ text. text.items ≡ program_text n) }
     ensures range { (result ≡ Err fault.Range) ↔ IsOutOfRange n }

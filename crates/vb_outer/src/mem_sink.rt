@@ -34,6 +34,7 @@ impl Model for MemSink {
 
 impl MemSink {
     /// An empty sink that takes `most` bytes a call and fails the calls whose numbers, from 1 on, stand in `failing`.
+    /// `Memory` where there is no memory.
     pub fn make(alloc: Global, failing: Vec<u64>, most: usize) -> Result<MemSink, Memory>
         requires { 1 ≤ most }
         ensures { IfOk result (λ sink. sink ≡ record {

@@ -49,7 +49,7 @@ const CHUNK: usize = 65536;
 /// Reads the whole of the named file, if it has at most `limit` bytes. At most `limit + 1` bytes are read.
 ///
 /// `Failed` only where the shelf failed or has no file of that name; the latter is no fault of the shelf. `Long` only
-/// where more than `limit` bytes came.
+/// where more than `limit` bytes came. `Memory` where there is no memory.
 pub fn read_file<H: Shelf>(
     alloc: Global,
     shelf: &mut H,

@@ -7,7 +7,7 @@ use std::alloc::Global;
 use vb_base::Memory;
 
 impl Expr {
-    /// The same expression again.
+    /// The same expression again. `Memory` where there is no memory.
     #[cycle(copies)]
     pub fn copy(&self, alloc: Global) -> Result<Expr, Memory>
         ensures { IfOk result (λ e. expr_of e ≡ expr_of self.now) }
@@ -55,7 +55,7 @@ fn copies(alloc: Global, es: &[Expr]) -> Result<Vec<Expr>, Memory>
 }
 
 impl Opened {
-    /// The same instance again.
+    /// The same instance again. `Memory` where there is no memory.
     #[cycle(copies)]
     pub fn copy(&self, alloc: Global) -> Result<Opened, Memory>
         ensures { IfOk result (λ o. opened_of o ≡ opened_of self.now) }
@@ -75,7 +75,7 @@ impl Opened {
 }
 
 impl Amt {
-    /// The same amount again.
+    /// The same amount again. `Memory` where there is no memory.
     #[cycle(copies)]
     pub fn copy(&self, alloc: Global) -> Result<Amt, Memory>
         ensures { IfOk result (λ m. amt_of m ≡ amt_of self.now) }
@@ -88,7 +88,7 @@ impl Amt {
 }
 
 impl Assertion {
-    /// The same assertion again.
+    /// The same assertion again. `Memory` where there is no memory.
     #[cycle(copies)]
     pub fn copy(&self, alloc: Global) -> Result<Assertion, Memory>
         ensures { IfOk result (λ a. assertion_of a ≡ assertion_of self.now) }

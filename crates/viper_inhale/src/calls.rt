@@ -101,7 +101,7 @@ pub fn produce(
 /// next choice, a heap and contents, says what stands there from then on; what is held keeps its value.
 ///
 /// `Goes` leaves the state after forgetting. The events and the choices that are left are exact after each `Step`, where the
-/// choices fit a layout whose maps the state has.
+/// choices fit a layout whose maps the state has. `Memory` where there is no memory.
 pub fn forget(alloc: Global, state: &mut State, feed: &mut Feed) -> Result<Step, Memory>
     ensures step { (l : Layout) → HasMaps l (state_of state.old) → All (FitsChoice l) (feed_of feed.old).left → IfOk result (λ step. run_of
         (forgotten.forget l (state_of state.old)) (feed_of feed.old)

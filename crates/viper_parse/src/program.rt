@@ -17,7 +17,7 @@ use viper_syntax::{ParseFault, SourceProgram, Token};
 /// The program that the tokens of a file spell; `end` is the place past the file's last byte. It is the one tree
 /// that the grammar has for them, and a `Syntax` comes exactly where it has none. Where the tokens are those of a
 /// successful `lex`, no term of it is nested too deep, each of its names is a name and no word, and its
-/// literals are within the bound.
+/// literals are within the bound. `Memory` where there is no memory.
 pub fn parse(alloc: Global, tokens: &Vec<Token>, end: Pos) -> Result<SourceProgram, ParseFault>
     ensures found { IfOk result (λ p. Spells tokens.now.items (program_of p)) }
     ensures only { (p : d.SourceProgram) → Spells tokens.now.items p → Gives result p }

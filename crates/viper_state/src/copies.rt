@@ -13,7 +13,7 @@ use std::alloc::Global;
 use vb_base::Memory;
 use vb_value::{Frac, Layout};
 
-/// The same heap and contents again.
+/// The same heap and contents again. `Memory` where there is no memory.
 pub fn copy_memo(alloc: Global, memo: &Memo) -> Result<Memo, Memory>
     ensures { IfOk result (λ copy. memo_of copy ≡ memo_of memo.now) }
 {
@@ -23,7 +23,7 @@ pub fn copy_memo(alloc: Global, memo: &Memo) -> Result<Memo, Memory>
     })
 }
 
-/// The same state again.
+/// The same state again. `Memory` where there is no memory.
 pub fn copy_state(alloc: Global, state: &State) -> Result<State, Memory>
     ensures { IfOk result (λ copy. state_of copy ≡ state_of state.now) }
 {
@@ -35,7 +35,7 @@ pub fn copy_state(alloc: Global, state: &State) -> Result<State, Memory>
     })
 }
 
-/// The state with this heap and these contents, in which nothing is held.
+/// The state with this heap and these contents, in which nothing is held. `Memory` where there is no memory.
 pub fn empty_state(alloc: Global, layout: &Layout, memo: &Memo) -> Result<State, Memory>
     ensures { IfOk result (λ state. state_of state ≡ s.empty_state layout.now (memo_of memo.now)) }
 {

@@ -42,6 +42,7 @@ impl State {
     }
 
     /// Gives a field at a reference a value. None, and nothing changes, where no field has that number.
+    /// `Memory` where there is no memory.
     pub fn set_value(
         &mut self,
         field: u32,
@@ -55,6 +56,7 @@ impl State {
     }
 
     /// Sets the permission to a field at a reference. None, and nothing changes, where no field has that number.
+    /// `Memory` where there is no memory.
     pub fn set_mask(
         &mut self,
         field: u32,
@@ -68,6 +70,7 @@ impl State {
     }
 
     /// Sets how much of an instance is held. None, and nothing changes, where no predicate has that number.
+    /// `Memory` where there is no memory.
     pub fn set_amount(
         &mut self,
         predicate: u32,
@@ -81,6 +84,7 @@ impl State {
     }
 
     /// Gives an instance a content. None, and nothing changes, where no predicate has that number.
+    /// `Memory` where there is no memory.
     pub fn set_content(
         &mut self,
         predicate: u32,

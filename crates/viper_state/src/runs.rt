@@ -71,7 +71,7 @@ impl Feed {
         Some(mem::replace(slot, Choice::Branch(false)))
     }
 
-    /// Records an event.
+    /// Records an event. `Memory` where there is no memory.
     pub fn record(&mut self, event: Event) -> Result<(), Memory>
         ensures events { OnOk result ((feed_of self.new).events ≡ (feed_of self.old).events ++ event_of event ∷ []) }
         ensures left { (feed_of self.new).left ≡ (feed_of self.old).left }

@@ -16,7 +16,7 @@ use vb_base::{Pos, advance};
 /// The tokens of a text that is not too long.
 ///
 /// Where the cut of the bytes meets a fault, it is the answer. Else the limits on braces and on groups and the
-/// refused words are tried in this order, each over the whole list of tokens.
+/// refused words are tried in this order, each over the whole list of tokens. `Memory` where there is no memory.
 pub fn lex(alloc: Global, bytes: &[u8]) -> Result<Vec<Token>, LexFault>
     requires { length bytes.now ≤ max_viper_bytes }
     ensures tokens { IfOk result (λ v. IsLexed bytes.now v.items) }
