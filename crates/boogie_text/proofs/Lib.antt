@@ -1,5 +1,4 @@
 pub mod CutLaws
-pub mod DigitLaws
 pub mod AlikeLaws
 pub mod PrintLaws
 pub mod PutLaws

@@ -7,11 +7,8 @@ ghost use Rattle.boogie_grammar.specs.Printed as text;
 
 use boogie_grammar::eating::base_text;
 use boogie_tree::{BBase, BOp};
-use itoa::{Buffer, write_digits};
+use digits::Digits;
 use vb_base::{Ident, Kind, Label, Memory, Pos, put};
-
-/// The most bytes of the name of a temporary: 2 and 20 digits.
-const LONGEST_NAME: usize = 22;
 
 /// Appends names with `, ` between them.
 pub fn put_names(out: &mut Vec<u8>, names: &[Ident]) -> Result<(), Memory>
@@ -68,8 +65,7 @@ pub fn put_operator(out: &mut Vec<u8>, op: BOp) -> Result<(), Memory>
 pub fn put_number(out: &mut Vec<u8>, n: i128) -> Result<(), Memory>
     ensures { OnOk result (out.new.items ≡ out.old.items ++ signed_decimal n) }
 {
-    let mut digits = Buffer::new();
-    put(out, digits.format(n).as_bytes())
+    put(out, Digits::of_signed(n).bytes())
 }
 
 /// Appends a number with `.0` behind it.
@@ -84,11 +80,7 @@ pub fn put_real(out: &mut Vec<u8>, n: i128) -> Result<(), Memory>
 pub(crate) fn put_numbered(out: &mut Vec<u8>, number: usize) -> Result<(), Memory>
     ensures { OnOk result (out.new.items ≡ out.old.items ++ temporary_name number) }
 {
-    let mut name = [0; LONGEST_NAME];
-    let start = write_digits(number as u64, &mut name, LONGEST_NAME) - 2;
-    name[start] = b't';
-    name[start + 1] = b'$';
-    put(out, &name[start..])
+    put(out, Digits::behind(b"t$", number as u64).bytes())
 }
 
 /// Appends the text of a label.
@@ -113,8 +105,7 @@ fn put_place(out: &mut Vec<u8>, place: Pos) -> Result<(), Memory>
 fn put_count(out: &mut Vec<u8>, n: u32) -> Result<(), Memory>
     ensures { OnOk result (out.new.items ≡ out.old.items ++ decimal n) }
 {
-    let mut digits = Buffer::new();
-    put(out, digits.format(n).as_bytes())
+    put(out, Digits::of(u64::from(n)).bytes())
 }
 
 /// A blank and the word of a kind.

@@ -11,7 +11,7 @@ ghost use Rattle.enc_expr.specs.Emits.{emit_of, Emits};
 use crate::blocks::{add, add_all};
 use crate::terms::binary;
 use boogie_tree::{BBase, BExpr, BOp, BStmt, BType, Local};
-use itoa::Buffer;
+use digits::Digits;
 use std::alloc::Global;
 use vb_base::{Ident, Memory};
 
@@ -96,6 +96,5 @@ fn under(alloc: Global, guard: Option<usize>, condition: BExpr) -> Result<BExpr,
 fn temporary_name(alloc: Global, number: usize) -> Result<Ident, Memory>
     ensures { IfOk result (λ name. name ≡ codes "t$" ++ decimal number) }
 {
-    let mut buffer = Buffer::new();
-    Ident::joined(alloc, b"t$", buffer.format(number).as_bytes())
+    Ident::joined(alloc, b"t$", Digits::of(number as u64).bytes())
 }

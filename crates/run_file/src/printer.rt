@@ -15,7 +15,7 @@ ghost use Rattle.run_file.specs.View.{run_of};
 
 use crate::names::variables_of;
 use crate::runs::ViperRun;
-use itoa::Buffer;
+use digits::Digits;
 use sparse::Sparse;
 use std::alloc::Global;
 use vb_base::{Ident, Memory, put};
@@ -246,9 +246,8 @@ pub(crate) fn put_reference(out: &mut Vec<u8>, reference: u64) -> Result<(), Mem
     if reference == 0 {
         return put(out, b"null");
     }
-    let mut digits = Buffer::new();
     put(out, b"#")?;
-    put(out, digits.format(reference).as_bytes())
+    put(out, Digits::of(reference).bytes())
 }
 
 pub(crate) fn put_fraction(out: &mut Vec<u8>, fraction: Frac) -> Result<(), Memory>
@@ -262,8 +261,7 @@ pub(crate) fn put_fraction(out: &mut Vec<u8>, fraction: Frac) -> Result<(), Memo
 pub(crate) fn put_number(out: &mut Vec<u8>, number: i128) -> Result<(), Memory>
     ensures { OnOk result (out.new.items ≡ out.old.items ++ signed_decimal number) }
 {
-    let mut digits = Buffer::new();
-    put(out, digits.format(number).as_bytes())
+    put(out, Digits::of_signed(number).bytes())
 }
 
 fn put_choices(out: &mut Vec<u8>, program: &Program, choices: &[Choice]) -> Result<(), Memory>
