@@ -74,7 +74,7 @@ pub fn cut(alloc: Global, program: &WProgram) -> Result<BProgram, Memory>
     ensures follows { IsWideProgram (wprogram_of program.now) → IfOk result (λ b. AreCutOf (wprogram_of program.now) (program_of b)) }
     ensures typed { IsWideProgram (wprogram_of program.now) → IfOk result (λ b. IsTypedProgram (program_of b)) }
 {
-    let procs = Procs::of(alloc, &program.procs);
+    let procs = Procs::of(alloc, &program.procs)?;
     let mut out = Vec::new(alloc);
     for proc in &program.procs {
         add_proc(alloc, &procs, proc, &mut out)?;

@@ -4,7 +4,7 @@ use Rattle.std.specs.Str.{bytes_eq}
 use Rattle.std.proofs.lemmas.List.Folds.{list_any-append}
 use Rattle.boogie_tree.specs.Expr as t
 use Rattle.boogie_tree.specs.declared.exprs.BBase.{BBase}
-use Rattle.boogie_grammar.specs.declared.tokens.BToken.{BToken}
+use Rattle.boogie_grammar.specs.declared.tokens.PlacedLexeme.{PlacedLexeme}
 use Rattle.boogie_grammar.specs.declared.tokens.Word.TheVariants as w
 use Rattle.boogie_grammar.specs.Words.{is_reserved, is_among}
 use Rattle.boogie_grammar.specs.Tests as v
@@ -49,12 +49,12 @@ pub bound_as : {more : List (List ℕ)} {wider : List BBase} (names : List (List
     (let b : v.Binding = record { names = more; types = wider } in b) ≡ g.bind (record { names = names; types = types }) n u
 bound_as names types n u e f = λ i. record { names = e i; types = f i }
 
-pub bound_more : (x : g.Scope) {a : Rule v.binding} {ts us : List BToken} {more : List (List ℕ)} {wider : List BBase} (names : List (List ℕ)) (types : List BBase) (n : List ℕ) (u : BBase) →
+pub bound_more : (x : g.Scope) {a : Rule v.binding} {ts us : List PlacedLexeme} {more : List (List ℕ)} {wider : List BBase} (names : List (List ℕ)) (types : List BBase) (n : List ℕ) (u : BBase) →
     more ≡ names ++ (n ∷ []) → wider ≡ types ++ (u ∷ []) →
     Goes a ts (g.rule (g.Binders x (g.bind (record { names = names; types = types }) n u))) us → Goes a ts (g.rule (g.Binders x (record { names = more; types = wider }))) us
 bound_more x names types n u e f h = goes_by (λ b. g.rule (g.Binders x b)) (bound_as names types n u e f) h
 
-pub none_bound : (x : g.Scope) {names : List (List ℕ)} {types : List BBase} {ts : List BToken} → names ≡ [] → types ≡ [] →
+pub none_bound : (x : g.Scope) {names : List (List ℕ)} {types : List BBase} {ts : List PlacedLexeme} → names ≡ [] → types ≡ [] →
     Goes (g.rule (g.Binders x g.no_binding)) ts (g.rule (g.Binders x (record { names = names; types = types }))) ts
 none_bound x {names = names} {types = types} {ts = ts} e f =
     let same : (let b : v.Binding = record { names = names; types = types } in b) ≡ g.no_binding = λ i. record { names = e i; types = f i } in
@@ -62,22 +62,22 @@ none_bound x {names = names} {types = types} {ts = ts} e f =
 
 -- `forall`, where nothing is bound
 
-pub forall_goes : (bound : List (List ℕ)) (ts : List BToken) (o : Option (Bor (List BToken))) → length bound ≡ 0 →
+pub forall_goes : (bound : List (List ℕ)) (ts : List PlacedLexeme) (o : Option (Bor (List PlacedLexeme))) → length bound ≡ 0 →
     MatchOption o (IsNot (the_word w.Forall) ts) (λ r. Starts (the_word w.Forall) ts tt r.now) → MatchOption o (NoForall bound ts) (λ r. ReadsForall bound ts r.now)
 forall_goes [] ts None e h = λ first other. by_other h (start (when (the_word w.Forall) (λ _. first) other) ts)
 forall_goes [] ts (Some r) e h = λ first other. by_token h (start (when (the_word w.Forall) (λ _. first) other) ts)
 forall_goes (b ∷ bs) ts o e h = absurd (omega (arith, e))
 
-pub no_forall : {bound others : List (List ℕ)} {b : List ℕ} (ts : List BToken) → bound ≡ b ∷ others → NoForall bound ts
+pub no_forall : {bound others : List (List ℕ)} {b : List ℕ} (ts : List PlacedLexeme) → bound ≡ b ∷ others → NoForall bound ts
 no_forall {others = others} {b = b} ts e = subst (λ l. NoForall l ts) (sym e) (λ first other. start other ts)
 
 -- the bound names as indices
 
-pub where_not : {s : Kind} {a : Rule s} {ts us : List BToken} (r other : Rule s) (b : Bool) → b ≡ false → Goes a ts (where_true b (λ _. r) other) us → Goes a ts other us
+pub where_not : {s : Kind} {a : Rule s} {ts us : List PlacedLexeme} (r other : Rule s) (b : Bool) → b ≡ false → Goes a ts (where_true b (λ _. r) other) us → Goes a ts other us
 where_not r other true e h = absurd (cc)
 where_not r other false e h = h
 
-pub where_is : {s : Kind} {a : Rule s} {ts us : List BToken} (r other : Rule s) (b : Bool) → b ≡ true → Goes a ts (where_true b (λ _. r) other) us → Goes a ts r us
+pub where_is : {s : Kind} {a : Rule s} {ts us : List PlacedLexeme} (r other : Rule s) (b : Bool) → b ≡ true → Goes a ts (where_true b (λ _. r) other) us → Goes a ts r us
 where_is r other true e h = h
 where_is r other false e h = absurd (cc)
 
@@ -85,32 +85,32 @@ where_is r other false e h = absurd (cc)
 abbrev first_of : g.Scope → ℕ → List ℕ → List (List ℕ) → Rule v.expr
 first_of x i q qs = when (the_name q) (λ _. read (g.BoundRest qs) (λ _. give (t.AtBound i))) (g.at_indices x i)
 
-abbrev Old : g.Scope → ℕ → List BToken → List (List ℕ) → Type 0
+abbrev Old : g.Scope → ℕ → List PlacedLexeme → List (List ℕ) → Type 0
 Old x i ts bound = Goes (g.indices x i bound) ts (g.at_indices x i) ts
 
-abbrev New : g.Scope → ℕ → List BToken → List (List ℕ) → List BToken → List (List ℕ) → Type 0
+abbrev New : g.Scope → ℕ → List PlacedLexeme → List (List ℕ) → List PlacedLexeme → List (List ℕ) → Type 0
 New x i ts qs us bound = Goes (g.indices x i bound) ts (read (g.BoundRest qs) (λ _. give (t.AtBound i))) us
 
-pub no_bound : (x : g.Scope) (bound : List (List ℕ)) (ts : List BToken) → length bound ≡ 0 → (i : ℕ) → Old x i ts bound
+pub no_bound : (x : g.Scope) (bound : List (List ℕ)) (ts : List PlacedLexeme) → length bound ≡ 0 → (i : ℕ) → Old x i ts bound
 no_bound x [] ts e i = start (g.at_indices x i) ts
 no_bound x (b ∷ bs) ts e i = absurd (omega (arith, e))
 
-may_stand : (x : g.Scope) (i : ℕ) (q : List ℕ) (qs : List (List ℕ)) (ts : List BToken) → is_new_name x.locals q ≡ true → Goes (g.indices x i (q ∷ qs)) ts (first_of x i q qs) ts
+may_stand : (x : g.Scope) (i : ℕ) (q : List ℕ) (qs : List (List ℕ)) (ts : List PlacedLexeme) → is_new_name x.locals q ≡ true → Goes (g.indices x i (q ∷ qs)) ts (first_of x i q qs) ts
 may_stand x i q qs ts h =
     where_is (first_of x i q qs) (g.at_indices x i) (is_new_name x.locals q) h (start (g.indices x i (q ∷ qs)) ts)
 
-may_not_stand : (x : g.Scope) (i : ℕ) (q : List ℕ) (qs : List (List ℕ)) (ts : List BToken) → is_new_name x.locals q ≡ false → Goes (g.indices x i (q ∷ qs)) ts (g.at_indices x i) ts
+may_not_stand : (x : g.Scope) (i : ℕ) (q : List ℕ) (qs : List (List ℕ)) (ts : List PlacedLexeme) → is_new_name x.locals q ≡ false → Goes (g.indices x i (q ∷ qs)) ts (g.at_indices x i) ts
 may_not_stand x i q qs ts h =
     where_not (first_of x i q qs) (g.at_indices x i) (is_new_name x.locals q) h (start (g.indices x i (q ∷ qs)) ts)
 
-pub bound_is_local : (x : g.Scope) (bound : List (List ℕ)) (q : List ℕ) (qs : List (List ℕ)) (ts : List BToken) → bound ≡ q ∷ qs → is_new_name x.locals q ≡ false → (i : ℕ) → Old x i ts bound
+pub bound_is_local : (x : g.Scope) (bound : List (List ℕ)) (q : List ℕ) (qs : List (List ℕ)) (ts : List PlacedLexeme) → bound ≡ q ∷ qs → is_new_name x.locals q ≡ false → (i : ℕ) → Old x i ts bound
 bound_is_local x bound q qs ts e h i = subst (Old x i ts) (sym e) (may_not_stand x i q qs ts h)
 
-pub bound_is_not : (x : g.Scope) (bound : List (List ℕ)) (q : List ℕ) (qs : List (List ℕ)) (ts : List BToken) → bound ≡ q ∷ qs → is_new_name x.locals q ≡ true →
+pub bound_is_not : (x : g.Scope) (bound : List (List ℕ)) (q : List ℕ) (qs : List (List ℕ)) (ts : List PlacedLexeme) → bound ≡ q ∷ qs → is_new_name x.locals q ≡ true →
     IsNot (the_name q) ts → (i : ℕ) → Old x i ts bound
 bound_is_not x bound q qs ts e h n i = subst (Old x i ts) (sym e) (by_other n (may_stand x i q qs ts h))
 
-pub bound_is : (x : g.Scope) (bound : List (List ℕ)) (q : List ℕ) (qs : List (List ℕ)) (ts us : List BToken) → bound ≡ q ∷ qs → is_new_name x.locals q ≡ true →
+pub bound_is : (x : g.Scope) (bound : List (List ℕ)) (q : List ℕ) (qs : List (List ℕ)) (ts us : List PlacedLexeme) → bound ≡ q ∷ qs → is_new_name x.locals q ≡ true →
     Starts (the_name q) ts tt us → (i : ℕ) → New x i ts qs us bound
 bound_is x bound q qs ts us e h p i = subst (New x i ts qs us) (sym e) (by_token p (may_stand x i q qs ts h))
 

@@ -11,9 +11,9 @@ use Rattle.boogie_tree.specs.declared.exprs.BBase.TheVariants as base
 use Rattle.boogie_tree.specs.declared.exprs.BOp.{BOp}
 use Rattle.boogie_tree.specs.declared.exprs.BOp.TheVariants as op
 use Rattle.boogie_grammar.specs.declared.tokens.BSign.TheVariants as sign
-use Rattle.boogie_grammar.specs.declared.tokens.BTok.{BTok}
-use Rattle.boogie_grammar.specs.declared.tokens.BTok.TheVariants as tok
-use Rattle.boogie_grammar.specs.declared.tokens.BToken.{BToken}
+use Rattle.boogie_grammar.specs.declared.tokens.Lexeme.{Lexeme}
+use Rattle.boogie_grammar.specs.declared.tokens.Lexeme.TheVariants as tok
+use Rattle.boogie_grammar.specs.declared.tokens.PlacedLexeme.{PlacedLexeme}
 use Rattle.boogie_grammar.specs.declared.tokens.Word.TheVariants as w
 use Rattle.boogie_grammar.specs.Words.{word_tok, word_text, base_word, operator_tok, is_reserved, is_among}
 use Rattle.boogie_grammar.specs.Tests.{Kind, Value, Test, Passes, IsVariable, number_of, the_sign, the_word, the_name, a_new_name, a_variable, a_number, a_real, a_label, a_base, a_key, an_operator}
@@ -24,10 +24,10 @@ use Rattle.boogie_grammar.proofs.NameLaws.{new_name, new_is_free, new_is_new, so
 some_place : Pos
 some_place = record { line = 1; col = 1; line_in_range = (omega arith, omega arith); col_in_range = (omega arith, omega arith) }
 
-pub token_of : BTok → BToken
+pub token_of : Lexeme → PlacedLexeme
 token_of t = record { tok = t; pos = some_place }
 
-token_is : (t : BTok) → (token_of t).tok ≡ t
+token_is : (t : Lexeme) → (token_of t).tok ≡ t
 unfolding token_of
 token_is t = refl
 
@@ -137,7 +137,7 @@ name_is e = cc
 one_base : (u v : BBase) → word_tok (base_word u) ≡ word_tok (base_word v) → u ≡ v
 one_base u v e = some_is (sym (base_there u) ∙ ap base_at (name_is e) ∙ base_there v)
 
-unfoldable pub operator_at : BTok → Option BOp
+unfoldable pub operator_at : Lexeme → Option BOp
 operator_at (tok.Sign sign.Iff) = Some op.Iff
 operator_at (tok.Sign sign.Implies) = Some op.Implies
 operator_at (tok.Sign sign.Or) = Some op.Or
@@ -177,12 +177,12 @@ operator_there op.IntMod = refl
 one_operator : (o q : BOp) → operator_tok o ≡ operator_tok q → o ≡ q
 one_operator o q e = some_is (sym (operator_there o) ∙ ap operator_at e ∙ operator_there q)
 
-one_variable : (names : List (List ℕ)) (k : BTok) (i j : ℕ) → IsVariable names k i → IsVariable names k j → i ≡ j
+one_variable : (names : List (List ℕ)) (k : Lexeme) (i j : ℕ) → IsVariable names k i → IsVariable names k j → i ≡ j
 one_variable names k i j p q =
     let same : p.name ≡ q.name = name_is (sym p.is ∙ q.is) in
     some_is (sym p.there ∙ ap (λ x. number_of x names) same ∙ q.there)
 
-one_value : {b : Bool} {r : Kind} (c : Test b r) (k : BToken) (v w : Value r) → Passes c k v → Passes c k w → v ≡ w
+one_value : {b : Bool} {r : Kind} (c : Test b r) (k : PlacedLexeme) (v w : Value r) → Passes c k v → Passes c k w → v ≡ w
 one_value (the_sign o) k v w p q = refl
 one_value (the_word x) k v w p q = refl
 one_value (the_name x) k v w p q = refl

@@ -12,8 +12,8 @@ use Rattle.vb_base.specs.Rows.{behind}
 use Rattle.vb_base.proofs.PlaceLaws.{line_after-le, col_after-le}
 use Rattle.boogie_grammar.specs.declared.tokens.BSign.{BSign}
 use Rattle.boogie_grammar.specs.declared.tokens.BSign.TheVariants as sign
-use Rattle.boogie_grammar.specs.declared.tokens.BTok.{BTok}
-use Rattle.boogie_grammar.specs.declared.tokens.BToken.{BToken}
+use Rattle.boogie_grammar.specs.declared.tokens.Lexeme.{Lexeme}
+use Rattle.boogie_grammar.specs.declared.tokens.PlacedLexeme.{PlacedLexeme}
 use Rattle.boogie_grammar.specs.Words.{sign_text}
 use Rattle.boogie_grammar.specs.Pieces as p
 use Rattle.boogie_grammar.specs.Pieces.{Class, Blank, Letter, Digit, Quote, Other, class_of, is_blank, is_in_line, is_unquoted, is_point_zero, literal_length, signs, Piece}
@@ -44,7 +44,7 @@ literal_within : (text : List ℕ) (n : ℕ) (b : Bool) → is_point_zero (drop 
 literal_within text n true e le = let two = starts_within (drop n text) (46 ∷ 48 ∷ []) e in let l = length-drop n text in omega (arith, two, l, le)
 literal_within text n false e le = le
 
-pub piece_within : {c : Class} {bytes : List ℕ} {o : Option BTok} {n : ℕ} → Piece c bytes o n → n ≤ length bytes
+pub piece_within : {c : Class} {bytes : List ℕ} {o : Option Lexeme} {n : ℕ} → Piece c bytes o n → n ≤ length bytes
 piece_within (p.blank {rest = rest}) = omega arith
 piece_within (p.name {bytes = bytes}) = prefix_len-le-length is_name_byte bytes
 piece_within (p.number {bytes = bytes} small) =
@@ -79,7 +79,7 @@ literal_some : (b : Bool) (n : ℕ) → 0 < n → 0 < literal_length b n
 literal_some true n lt = omega (arith, lt)
 literal_some false n lt = lt
 
-some_of : {c : Class} {text : List ℕ} {o : Option BTok} {n : ℕ} (b : ℕ) (bytes : List ℕ) → text ≡ b ∷ bytes → class_of b ≡ c → Piece c text o n → 0 < n
+some_of : {c : Class} {text : List ℕ} {o : Option Lexeme} {n : ℕ} (b : ℕ) (bytes : List ℕ) → text ≡ b ∷ bytes → class_of b ≡ c → Piece c text o n → 0 < n
 some_of b bytes e class p.blank = omega arith
 some_of b bytes e class (p.name {bytes = text}) =
     let start = letter_at (is_blank b) (is_name_start b) (is_ascii_digit b) (b == 34) class in
@@ -91,18 +91,18 @@ some_of b bytes e class (p.text spelled f) = omega arith
 some_of b bytes e class p.comment = omega arith
 some_of b bytes e class (p.sign {o = o} h k) = sign_some o
 
-pub piece_some : (text : List ℕ) (o : Option BTok) (n : ℕ) → IsPiece text o n → (0 < n) × (n ≤ length text)
+pub piece_some : (text : List ℕ) (o : Option Lexeme) (n : ℕ) → IsPiece text o n → (0 < n) × (n ≤ length text)
 piece_some [] o n h = absurd h
 piece_some (b ∷ bytes) o n h = (some_of b bytes refl refl h, piece_within h)
 
 -- how far the cut has come
 
-pub record IsReached (before bytes rest : List ℕ) (line col : ℕ) (ts : List BToken) : Type 0 where
+pub record IsReached (before bytes rest : List ℕ) (line col : ℕ) (ts : List PlacedLexeme) : Type 0 where
   pub front : List ℕ
   pub splits : front ++ rest ≡ bytes
   pub line_is : line ≡ line_after (before ++ front)
   pub col_is : col ≡ col_after (before ++ front)
-  pub cut : (us : List BToken) → IsCut (before ++ front) rest us → IsCut before bytes (ts ++ us)
+  pub cut : (us : List PlacedLexeme) → IsCut (before ++ front) rest us → IsCut before bytes (ts ++ us)
   pub stops : (at : Pos) → Stops (before ++ front) rest at → Stops before bytes at
 
 pub reached_start : (before bytes : List ℕ) (at : Pos) → IsPlaceAfter before at → IsReached before bytes bytes at.line at.col []
@@ -115,16 +115,16 @@ reached_start before bytes at h = record {
   stops = λ p c. subst (λ x. Stops x bytes p) (append-nil before) c;
 }
 
-pub onto_is : (o : Option BTok) (at : Pos) (ts us : List BToken) → ts ++ onto o at us ≡ (ts ++ one_at o at) ++ us
+pub onto_is : (o : Option Lexeme) (at : Pos) (ts us : List PlacedLexeme) → ts ++ onto o at us ≡ (ts ++ one_at o at) ++ us
 onto_is None at ts us = ap (λ l. l ++ us) (sym (append-nil ts))
 onto_is (Some t) at ts us = sym (append_assoc ts (record { tok = t; pos = at } ∷ []) us)
 
-piece_cut : {before : List ℕ} (text : List ℕ) (o : Option BTok) (n : ℕ) {at : Pos} {us : List BToken} → IsPiece text o n → IsPlaceAfter before at →
+piece_cut : {before : List ℕ} (text : List ℕ) (o : Option Lexeme) (n : ℕ) {at : Pos} {us : List PlacedLexeme} → IsPiece text o n → IsPlaceAfter before at →
     IsCut (before ++ take n text) (drop n text) us → IsCut before text (onto o at us)
 piece_cut [] o n h a c = absurd h
 piece_cut (b ∷ bytes) o n h a c = piece h a c
 
-piece_stops : {before : List ℕ} (text : List ℕ) (o : Option BTok) (n : ℕ) {at : Pos} → IsPiece text o n → Stops (before ++ take n text) (drop n text) at → Stops before text at
+piece_stops : {before : List ℕ} (text : List ℕ) (o : Option Lexeme) (n : ℕ) {at : Pos} → IsPiece text o n → Stops (before ++ take n text) (drop n text) at → Stops before text at
 piece_stops [] o n h c = absurd h
 piece_stops (b ∷ bytes) o n h c = s.later h c
 
@@ -132,7 +132,7 @@ here_stops : {before : List ℕ} (text : List ℕ) {at : Pos} → (text ≡ [] �
 here_stops [] some none a = absurd (some refl)
 here_stops (b ∷ bytes) some none a = s.here none a
 
-pub reached_more : {before bytes rest back : List ℕ} {line col : ℕ} {ts us : List BToken} (n : ℕ) (o : Option BTok) (at next : Pos) → IsReached before bytes rest line col ts →
+pub reached_more : {before bytes rest back : List ℕ} {line col : ℕ} {ts us : List PlacedLexeme} (n : ℕ) (o : Option Lexeme) (at next : Pos) → IsReached before bytes rest line col ts →
     at.line ≡ line → at.col ≡ col → IsPiece rest o n → ((b : List ℕ) → IsPlaceAfter b at → IsPlaceAfter (b ++ take n rest) next) → back ≡ drop n rest → us ≡ ts ++ one_at o at →
     IsReached before bytes back next.line next.col us
 reached_more {before = before} {bytes = bytes} {rest = rest} {ts = ts} n o at next r line_at col_at h moves back_is us_is =
@@ -148,17 +148,17 @@ reached_more {before = before} {bytes = bytes} {rest = rest} {ts = ts} n o at ne
       stops = λ p c. r.stops p (piece_stops rest o n h (subst (λ x. Stops x (drop n rest) p) (sym assoc) c));
     })
 
-pub reached_end : {before bytes : List ℕ} {line col : ℕ} {ts : List BToken} → IsReached before bytes [] line col ts → IsCut before bytes ts
+pub reached_end : {before bytes : List ℕ} {line col : ℕ} {ts : List PlacedLexeme} → IsReached before bytes [] line col ts → IsCut before bytes ts
 reached_end {before = before} {bytes = bytes} {ts = ts} r = subst (λ l. IsCut before bytes l) (append-nil ts) (r.cut [] end)
 
-pub reached_stop : {before bytes rest : List ℕ} {line col : ℕ} {ts : List BToken} (at : Pos) → IsReached before bytes rest line col ts → at.line ≡ line → at.col ≡ col →
+pub reached_stop : {before bytes rest : List ℕ} {line col : ℕ} {ts : List PlacedLexeme} (at : Pos) → IsReached before bytes rest line col ts → at.line ≡ line → at.col ≡ col →
     (rest ≡ [] → ⊥) → NoPiece rest → Stops before bytes at
 reached_stop {rest = rest} at r line_at col_at some none = r.stops at (here_stops rest some none record { line = line_at ∙ r.line_is; col = col_at ∙ r.col_is })
 
-pub reached_line : {before bytes rest : List ℕ} {line col : ℕ} {ts : List BToken} → IsReached before bytes rest line col ts → (1 ≤ line) × (line + length rest ≤ length before + length bytes + 1)
+pub reached_line : {before bytes rest : List ℕ} {line col : ℕ} {ts : List PlacedLexeme} → IsReached before bytes rest line col ts → (1 ≤ line) × (line + length rest ≤ length before + length bytes + 1)
 reached_line {before = before} {rest = rest} r =
     (omega (arith, r.line_is), omega (arith, r.line_is, line_after-le (before ++ r.front), ap length r.splits, length-append r.front rest, length-append before r.front))
 
-pub reached_col : {before bytes rest : List ℕ} {line col : ℕ} {ts : List BToken} → IsReached before bytes rest line col ts → (1 ≤ col) × (col + length rest ≤ length before + length bytes + 1)
+pub reached_col : {before bytes rest : List ℕ} {line col : ℕ} {ts : List PlacedLexeme} → IsReached before bytes rest line col ts → (1 ≤ col) × (col + length rest ≤ length before + length bytes + 1)
 reached_col {before = before} {rest = rest} r =
     (omega (arith, r.col_is), omega (arith, r.col_is, col_after-le (before ++ r.front), ap length r.splits, length-append r.front rest, length-append before r.front))

@@ -8,8 +8,8 @@ use Rattle.std.proofs.lemmas.List.Elements.{All-nil, All-cons, All-append}
 use Rattle.std.proofs.lemmas.List.Sums.{fold_push, fold-append}
 use Rattle.std.proofs.Math.Seq.{take-append-add}
 use Rattle.vb_base.specs.declared.places.Pos.{Pos}
-use Rattle.boogie_grammar.specs.declared.tokens.BTok.{BTok}
-use Rattle.boogie_grammar.specs.declared.tokens.BToken.{BToken}
+use Rattle.boogie_grammar.specs.declared.tokens.Lexeme.{Lexeme}
+use Rattle.boogie_grammar.specs.declared.tokens.PlacedLexeme.{PlacedLexeme}
 use Rattle.boogie_grammar.specs.Cut.{IsRow, none, more, onto}
 use Rattle.boogie_grammar.specs.Depth.{unclosed_with}
 use Rattle.boogie_grammar.specs.Parts.{IsPart, IsShallowFrom, IsToken, unclosed_from}
@@ -18,19 +18,19 @@ use Rattle.boogie_grammar.proofs.LexLaws.{onto_is}
 use Rattle.boogie_grammar.proofs.WrittenRows.{start}
 
 -- the tokens so far, how many brackets are unclosed after them, and the text after them
-pub record IsBegun (before : ℕ) (text rest : List ℕ) (count : ℕ) (ts : List BToken) : Type 0 where
-  pub row : (us : List BToken) → IsRow rest us → IsRow text (ts ++ us)
+pub record IsBegun (before : ℕ) (text rest : List ℕ) (count : ℕ) (ts : List PlacedLexeme) : Type 0 where
+  pub row : (us : List PlacedLexeme) → IsRow rest us → IsRow text (ts ++ us)
   pub counted : count ≡ unclosed_from before ts
   pub within : (n : ℕ) → n ≤ length ts → unclosed_from before (take n ts) ≤ 2048
   pub are_tokens : All IsToken ts
   pub shorter : length rest ≤ length text
 
-pub few : {before : ℕ} {text rest : List ℕ} {count : ℕ} {ts : List BToken} → IsBegun before text rest count ts → count < 4294967296
+pub few : {before : ℕ} {text rest : List ℕ} {count : ℕ} {ts : List PlacedLexeme} → IsBegun before text rest count ts → count < 4294967296
 few {before = before} {ts = ts} b =
     let last = subst (λ us. unclosed_from before us ≤ 2048) (take_all (length ts) ts (omega arith)) (b.within (length ts) (omega arith)) in
     omega (arith, b.counted, last)
 
-pub begun_start : {before : ℕ} (text : List ℕ) {ts : List BToken} → before ≤ 2048 → ts ≡ [] → IsBegun before text text before ts
+pub begun_start : {before : ℕ} (text : List ℕ) {ts : List PlacedLexeme} → before ≤ 2048 → ts ≡ [] → IsBegun before text text before ts
 begun_start {before} text most none_yet = rw none_yet (record {
   row = λ us r. r;
   counted = refl;
@@ -39,18 +39,18 @@ begun_start {before} text most none_yet = rw none_yet (record {
   shorter = omega arith;
 })
 
-piece_row : (text : List ℕ) (o : Option BTok) (n : ℕ) (at : Pos) {us : List BToken} → IsPiece text o n → IsRow (drop n text) us → IsRow text (onto o at us)
+piece_row : (text : List ℕ) (o : Option Lexeme) (n : ℕ) (at : Pos) {us : List PlacedLexeme} → IsPiece text o n → IsRow (drop n text) us → IsRow text (onto o at us)
 piece_row [] o n at h r = absurd h
 piece_row (b ∷ bytes) o n at h r = more at h r
 
 -- the row goes on with a piece
-row_more : {text : List ℕ} (rest : List ℕ) (ts : List BToken) (o : Option BTok) (n : ℕ) (at : Pos) → ((us : List BToken) → IsRow rest us → IsRow text (ts ++ us)) → IsPiece rest o n →
-    (us : List BToken) → IsRow (drop n rest) us → IsRow text ((ts ++ one_at o at) ++ us)
+row_more : {text : List ℕ} (rest : List ℕ) (ts : List PlacedLexeme) (o : Option Lexeme) (n : ℕ) (at : Pos) → ((us : List PlacedLexeme) → IsRow rest us → IsRow text (ts ++ us)) → IsPiece rest o n →
+    (us : List PlacedLexeme) → IsRow (drop n rest) us → IsRow text ((ts ++ one_at o at) ++ us)
 row_more {text} rest ts o n at row h us r = subst (IsRow text) (onto_is o at ts us) (row (onto o at us) (piece_row rest o n at h r))
 
 -- a blank
 
-pub begun_blank : {before : ℕ} {text rest back : List ℕ} {count : ℕ} {ts : List BToken} (n : ℕ) → IsBegun before text rest count ts → IsPiece rest None n → back ≡ drop n rest →
+pub begun_blank : {before : ℕ} {text rest back : List ℕ} {count : ℕ} {ts : List PlacedLexeme} (n : ℕ) → IsBegun before text rest count ts → IsPiece rest None n → back ≡ drop n rest →
     IsBegun before text back count ts
 begun_blank {before} {text} {rest} {back} {count} {ts} n b h is =
     let l = length-drop n rest in
@@ -64,10 +64,10 @@ begun_blank {before} {text} {rest} {back} {count} {ts} n b h is =
 
 -- a token
 
-unclosed_push : (before : ℕ) (ts : List BToken) (t : BToken) → unclosed_from before (ts ++ t ∷ []) ≡ unclosed_with (unclosed_from before ts) t.tok
+unclosed_push : (before : ℕ) (ts : List PlacedLexeme) (t : PlacedLexeme) → unclosed_from before (ts ++ t ∷ []) ≡ unclosed_with (unclosed_from before ts) t.tok
 unclosed_push before ts t = fold_push (λ n u. unclosed_with n u.tok) before ts t
 
-within_push : (before : ℕ) (ts : List BToken) (t : BToken) → ((n : ℕ) → n ≤ length ts → unclosed_from before (take n ts) ≤ 2048) → unclosed_from before (ts ++ t ∷ []) ≤ 2048 →
+within_push : (before : ℕ) (ts : List PlacedLexeme) (t : PlacedLexeme) → ((n : ℕ) → n ≤ length ts → unclosed_from before (take n ts) ≤ 2048) → unclosed_from before (ts ++ t ∷ []) ≤ 2048 →
     (n : ℕ) → n ≤ length (ts ++ t ∷ []) → unclosed_from before (take n (ts ++ t ∷ [])) ≤ 2048
 within_push before ts t within last n le = by_case (cases_lt (length ts) n) where
   by_case : (length ts < n) ⊎ (n ≤ length ts) → unclosed_from before (take n (ts ++ t ∷ [])) ≤ 2048
@@ -76,7 +76,7 @@ within_push before ts t within last n le = by_case (cases_lt (length ts) n) wher
       subst (λ us. unclosed_from before us ≤ 2048) (sym (take_all n (ts ++ t ∷ []) (omega (arith, past, l)))) last
   by_case (inr below) = subst (λ us. unclosed_from before us ≤ 2048) (sym (take-append-le n ts (t ∷ []) below)) (within n below)
 
-pub begun_token : {before : ℕ} {text rest back : List ℕ} {count : ℕ} {ts vs us : List BToken} (k : BToken) (n : ℕ) → IsBegun before text rest count ts → IsPiece rest (Some k.tok) n →
+pub begun_token : {before : ℕ} {text rest back : List ℕ} {count : ℕ} {ts vs us : List PlacedLexeme} (k : PlacedLexeme) (n : ℕ) → IsBegun before text rest count ts → IsPiece rest (Some k.tok) n →
     back ≡ drop n rest → us ≡ vs ++ k ∷ [] → vs ≡ ts → unclosed_with count k.tok ≤ 2048 → IsBegun before text back (unclosed_with count k.tok) us
 begun_token {before} {text} {rest} {back} {count} {ts} {vs} {us} k n b h is pushed same small =
     let l = length-drop n rest in
@@ -91,7 +91,7 @@ begun_token {before} {text} {rest} {back} {count} {ts} {vs} {us} k n b h is push
 
 -- behind the part, the count goes on
 
-shallow_on : (before count : ℕ) (ts us : List BToken) → count ≡ unclosed_from before ts → ((n : ℕ) → n ≤ length ts → unclosed_from before (take n ts) ≤ 2048) →
+shallow_on : (before count : ℕ) (ts us : List PlacedLexeme) → count ≡ unclosed_from before ts → ((n : ℕ) → n ≤ length ts → unclosed_from before (take n ts) ≤ 2048) →
     IsShallowFrom count us → IsShallowFrom before (ts ++ us)
 shallow_on before count ts us counted within shallow n = by_case (cases_lt (length ts) n) where
   by_case : (length ts < n) ⊎ (n ≤ length ts) → unclosed_from before (take n (ts ++ us)) ≤ 2048
@@ -104,7 +104,7 @@ shallow_on before count ts us counted within shallow n = by_case (cases_lt (leng
       subst (λ k. k ≤ 2048) (sym (ap (unclosed_from before) front ∙ on)) (shallow m)
   by_case (inr below) = subst (λ vs. unclosed_from before vs ≤ 2048) (sym (take-append-le n ts us below)) (within n below)
 
-pub part : {before : ℕ} {text rest : List ℕ} {count : ℕ} {ts : List BToken} → IsBegun before text rest count ts → length rest < length text → IsPart before text ts count rest
+pub part : {before : ℕ} {text rest : List ℕ} {count : ℕ} {ts : List PlacedLexeme} → IsBegun before text rest count ts → length rest < length text → IsPart before text ts count rest
 part {before = before} {count = count} {ts = ts} b shorter = record { row = b.row; shallow = λ us shallow. shallow_on before count ts us b.counted b.within shallow; are_tokens = b.are_tokens; shorter = shorter }
 
 -- a text that is blank
@@ -113,5 +113,5 @@ pub empty : {X : Type 0} (xs : List X) → true ≡ (length xs == 0) → xs ≡ 
 empty [] h = refl
 empty (x ∷ xs) h = absurd (grind (arith, nat_tests))
 
-pub blank : {before : ℕ} {text rest : List ℕ} {count : ℕ} {ts : List BToken} → rest ≡ [] → ts ≡ [] → IsBegun before text rest count ts → IsRow text []
+pub blank : {before : ℕ} {text rest : List ℕ} {count : ℕ} {ts : List PlacedLexeme} → rest ≡ [] → ts ≡ [] → IsBegun before text rest count ts → IsRow text []
 blank {before} {text} {rest} {count} {ts} ended none_read b = rw (append-nil ts, none_read) at (b.row [] (rw ended none))

@@ -10,8 +10,8 @@ use Rattle.vb_base.specs.Labels.{Spells}
 use Rattle.vb_base.specs.Names.{is_name_byte}
 use Rattle.vb_base.specs.Rows.{behind}
 use Rattle.boogie_grammar.specs.declared.tokens.BSign.{BSign}
-use Rattle.boogie_grammar.specs.declared.tokens.BTok.{BTok}
-use Rattle.boogie_grammar.specs.declared.tokens.BTok.TheVariants as tok
+use Rattle.boogie_grammar.specs.declared.tokens.Lexeme.{Lexeme}
+use Rattle.boogie_grammar.specs.declared.tokens.Lexeme.TheVariants as tok
 use Rattle.boogie_grammar.specs.Words.{sign_text}
 use Rattle.boogie_grammar.specs.Pieces as p
 use Rattle.boogie_tree.specs.Literals.{max_literal}
@@ -65,7 +65,7 @@ pub comment_piece : (text : List ℕ) (n : ℕ) → starts_with ◌==◌ text (4
 comment_piece text n h len =
     subst (λ x. Piece Other x None (n + 2)) (sym (slashes text h)) (piece_as p.comment refl refl (ap (λ k. k + 2) (sym len)))
 
-pub no_sign : (text : List ℕ) → starts_with ◌==◌ text (47 ∷ 47 ∷ []) ≡ false → sign_at text ≡ None → (o : Option BTok) (n : ℕ) → Piece Other text o n → ⊥
+pub no_sign : (text : List ℕ) → starts_with ◌==◌ text (47 ∷ 47 ∷ []) ≡ false → sign_at text ≡ None → (o : Option Lexeme) (n : ℕ) → Piece Other text o n → ⊥
 no_sign text h none o n p.comment = cc
 no_sign text h none o n (p.sign _ k) = let e = sym none ∙ k in cc
 
@@ -112,7 +112,7 @@ literal_is : (b : Bool) (n : ℕ) → literal b n ≡ literal_of b (pos n)
 literal_is true n = refl
 literal_is false n = refl
 
-pub number_piece : (text rest : List ℕ) (len : ℕ) (value : ℤ) (o : Option BTok) (n : ℕ) → len ≡ prefix_len is_ascii_digit text → rest ≡ drop len text →
+pub number_piece : (text rest : List ℕ) (len : ℕ) (value : ℤ) (o : Option Lexeme) (n : ℕ) → len ≡ prefix_len is_ascii_digit text → rest ≡ drop len text →
     (value ≡ pos (digits_value 10 (take len text))) × (digits_value 10 (take len text) ≤ max_literal) →
     o ≡ Some (literal_of (is_point_zero rest) value) → n ≡ literal_length (is_point_zero rest) len → Piece Digit text o n
 number_piece text rest len value o n e is small token count =

@@ -19,9 +19,9 @@ use Rattle.vb_base.proofs.RowLaws.{prefix_len-append, front-append, behind-appen
 use Rattle.boogie_tree.specs.declared.exprs.BOp.{BOp}
 use Rattle.boogie_tree.specs.declared.exprs.BOp.TheVariants as op
 use Rattle.boogie_grammar.specs.declared.tokens.BSign.TheVariants as sign
-use Rattle.boogie_grammar.specs.declared.tokens.BTok.{BTok}
-use Rattle.boogie_grammar.specs.declared.tokens.BTok.TheVariants as tok
-use Rattle.boogie_grammar.specs.declared.tokens.BToken.{BToken}
+use Rattle.boogie_grammar.specs.declared.tokens.Lexeme.{Lexeme}
+use Rattle.boogie_grammar.specs.declared.tokens.Lexeme.TheVariants as tok
+use Rattle.boogie_grammar.specs.declared.tokens.PlacedLexeme.{PlacedLexeme}
 use Rattle.boogie_grammar.specs.Words.{operator_tok}
 use Rattle.boogie_grammar.specs.Pieces as p
 use Rattle.boogie_tree.specs.Literals.{max_literal}
@@ -33,11 +33,11 @@ pub start : Pos
 start = record { line = 1; col = 1; line_in_range = (omega arith, omega arith); col_in_range = (omega arith, omega arith) }
 
 -- a token at some place
-abbrev pub at_start : BTok → BToken
+abbrev pub at_start : Lexeme → PlacedLexeme
 at_start t = record { tok = t; pos = start }
 
 -- a piece, told by its class, its token and its length
-pub piece_as : {c d : Class} {bytes : List ℕ} {n m : ℕ} {o q : Option BTok} → Piece c bytes o n → d ≡ c → o ≡ q → n ≡ m → Piece d bytes q m
+pub piece_as : {c d : Class} {bytes : List ℕ} {n m : ℕ} {o q : Option Lexeme} → Piece c bytes o n → d ≡ c → o ≡ q → n ≡ m → Piece d bytes q m
 piece_as {c = c} {d = d} {bytes = bytes} {n = n} {m = m} {o = o} {q = q} piece class token len =
     subst (λ k. Piece d bytes q k) len (subst (λ x. Piece d bytes x n) token (subst (λ k. Piece k bytes o n) (sym class) piece))
 
@@ -67,7 +67,7 @@ letter_class b start_byte =
     let no_blank : is_blank b ≡ false = false_from_ne_true (is_blank b) (λ h. both_ways (is_name_start b) (blank_not_start b h) start_byte) in
     cond-false (is_blank b) _ _ no_blank ∙ cond-true (is_name_start b) _ _ start_byte
 
-pub name_row : (b : ℕ) (bytes rest : List ℕ) {ts : List BToken} → is_name (b ∷ bytes) ≡ true → prefix_len is_name_byte rest ≡ 0 → IsRow rest ts →
+pub name_row : (b : ℕ) (bytes rest : List ℕ) {ts : List PlacedLexeme} → is_name (b ∷ bytes) ≡ true → prefix_len is_name_byte rest ≡ 0 → IsRow rest ts →
     IsRow (b ∷ (bytes ++ rest)) (at_start (tok.Name (b ∷ bytes)) ∷ ts)
 name_row b bytes rest {ts} form ends h =
     let parts = and_parts (is_name_start b) (list_all is_name_byte bytes) form in
@@ -75,68 +75,68 @@ name_row b bytes rest {ts} form ends h =
     more start (piece_as p.name (letter_class b parts.0) (ap (λ x. Some (tok.Name x)) (front-append is_name_byte (b ∷ bytes) rest all ends)) refl)
     (subst (λ r. IsRow r ts) (sym (behind-append is_name_byte (b ∷ bytes) rest all ends)) h)
 
-pub free_row : (name rest : List ℕ) {ts : List BToken} → is_name name ≡ true → prefix_len is_name_byte rest ≡ 0 → IsRow rest ts → IsRow (name ++ rest) (at_start (tok.Name name) ∷ ts)
+pub free_row : (name rest : List ℕ) {ts : List PlacedLexeme} → is_name name ≡ true → prefix_len is_name_byte rest ≡ 0 → IsRow rest ts → IsRow (name ++ rest) (at_start (tok.Name name) ∷ ts)
 free_row [] rest form ends h = absurd (cc)
 free_row (b ∷ bytes) rest form ends h = name_row b bytes rest form ends h
 
 -- blanks
 
-pub blank_row : {rest : List ℕ} {ts : List BToken} → IsRow rest ts → IsRow (32 ∷ rest) ts
+pub blank_row : {rest : List ℕ} {ts : List PlacedLexeme} → IsRow rest ts → IsRow (32 ∷ rest) ts
 blank_row h = more start p.blank h
 
-pub line_row : {rest : List ℕ} {ts : List BToken} → IsRow rest ts → IsRow (10 ∷ rest) ts
+pub line_row : {rest : List ℕ} {ts : List PlacedLexeme} → IsRow rest ts → IsRow (10 ∷ rest) ts
 line_row h = more start p.blank h
 
 -- signs
 
-pub open_row : {rest : List ℕ} {ts : List BToken} → IsRow rest ts → IsRow (40 ∷ rest) (at_start (tok.Sign sign.OpenParen) ∷ ts)
+pub open_row : {rest : List ℕ} {ts : List PlacedLexeme} → IsRow rest ts → IsRow (40 ∷ rest) (at_start (tok.Sign sign.OpenParen) ∷ ts)
 open_row h = more start (p.sign refl refl) h
 
-pub close_row : {rest : List ℕ} {ts : List BToken} → IsRow rest ts → IsRow (41 ∷ rest) (at_start (tok.Sign sign.CloseParen) ∷ ts)
+pub close_row : {rest : List ℕ} {ts : List PlacedLexeme} → IsRow rest ts → IsRow (41 ∷ rest) (at_start (tok.Sign sign.CloseParen) ∷ ts)
 close_row h = more start (p.sign refl refl) h
 
-pub bracket_row : {rest : List ℕ} {ts : List BToken} → IsRow rest ts → IsRow (91 ∷ rest) (at_start (tok.Sign sign.OpenBracket) ∷ ts)
+pub bracket_row : {rest : List ℕ} {ts : List PlacedLexeme} → IsRow rest ts → IsRow (91 ∷ rest) (at_start (tok.Sign sign.OpenBracket) ∷ ts)
 bracket_row h = more start (p.sign refl refl) h
 
-pub end_row : {rest : List ℕ} {ts : List BToken} → IsRow rest ts → IsRow (93 ∷ rest) (at_start (tok.Sign sign.CloseBracket) ∷ ts)
+pub end_row : {rest : List ℕ} {ts : List PlacedLexeme} → IsRow rest ts → IsRow (93 ∷ rest) (at_start (tok.Sign sign.CloseBracket) ∷ ts)
 end_row h = more start (p.sign refl refl) h
 
-pub begin_row : {rest : List ℕ} {ts : List BToken} → IsRow rest ts → IsRow (123 ∷ rest) (at_start (tok.Sign sign.OpenBrace) ∷ ts)
+pub begin_row : {rest : List ℕ} {ts : List PlacedLexeme} → IsRow rest ts → IsRow (123 ∷ rest) (at_start (tok.Sign sign.OpenBrace) ∷ ts)
 begin_row h = more start (p.sign refl refl) h
 
-pub finish_row : {rest : List ℕ} {ts : List BToken} → IsRow rest ts → IsRow (125 ∷ rest) (at_start (tok.Sign sign.CloseBrace) ∷ ts)
+pub finish_row : {rest : List ℕ} {ts : List PlacedLexeme} → IsRow rest ts → IsRow (125 ∷ rest) (at_start (tok.Sign sign.CloseBrace) ∷ ts)
 finish_row h = more start (p.sign refl refl) h
 
-pub comma_row : {rest : List ℕ} {ts : List BToken} → IsRow rest ts → IsRow (44 ∷ rest) (at_start (tok.Sign sign.Comma) ∷ ts)
+pub comma_row : {rest : List ℕ} {ts : List PlacedLexeme} → IsRow rest ts → IsRow (44 ∷ rest) (at_start (tok.Sign sign.Comma) ∷ ts)
 comma_row h = more start (p.sign refl refl) h
 
-pub semicolon_row : {rest : List ℕ} {ts : List BToken} → IsRow rest ts → IsRow (59 ∷ rest) (at_start (tok.Sign sign.Semicolon) ∷ ts)
+pub semicolon_row : {rest : List ℕ} {ts : List PlacedLexeme} → IsRow rest ts → IsRow (59 ∷ rest) (at_start (tok.Sign sign.Semicolon) ∷ ts)
 semicolon_row h = more start (p.sign refl refl) h
 
-pub star_row : {rest : List ℕ} {ts : List BToken} → IsRow rest ts → IsRow (42 ∷ rest) (at_start (tok.Sign sign.Star) ∷ ts)
+pub star_row : {rest : List ℕ} {ts : List PlacedLexeme} → IsRow rest ts → IsRow (42 ∷ rest) (at_start (tok.Sign sign.Star) ∷ ts)
 star_row h = more start (p.sign refl refl) h
 
-pub minus_row : {rest : List ℕ} {ts : List BToken} → IsRow rest ts → IsRow (45 ∷ rest) (at_start (tok.Sign sign.Minus) ∷ ts)
+pub minus_row : {rest : List ℕ} {ts : List PlacedLexeme} → IsRow rest ts → IsRow (45 ∷ rest) (at_start (tok.Sign sign.Minus) ∷ ts)
 minus_row h = more start (p.sign refl refl) h
 
 -- `!`, `:`, `::` and `:=` before a blank, and `:` before `msg`
 
-pub not_row : {rest : List ℕ} {ts : List BToken} → IsRow (32 ∷ rest) ts → IsRow (33 ∷ 32 ∷ rest) (at_start (tok.Sign sign.Not) ∷ ts)
+pub not_row : {rest : List ℕ} {ts : List PlacedLexeme} → IsRow (32 ∷ rest) ts → IsRow (33 ∷ 32 ∷ rest) (at_start (tok.Sign sign.Not) ∷ ts)
 not_row h = more start (p.sign refl refl) h
 
-pub colon_row : {rest : List ℕ} {ts : List BToken} → IsRow (32 ∷ rest) ts → IsRow (58 ∷ 32 ∷ rest) (at_start (tok.Sign sign.Colon) ∷ ts)
+pub colon_row : {rest : List ℕ} {ts : List PlacedLexeme} → IsRow (32 ∷ rest) ts → IsRow (58 ∷ 32 ∷ rest) (at_start (tok.Sign sign.Colon) ∷ ts)
 colon_row h = more start (p.sign refl refl) h
 
-pub mark_row : {rest : List ℕ} {ts : List BToken} → IsRow (109 ∷ rest) ts → IsRow (58 ∷ 109 ∷ rest) (at_start (tok.Sign sign.Colon) ∷ ts)
+pub mark_row : {rest : List ℕ} {ts : List PlacedLexeme} → IsRow (109 ∷ rest) ts → IsRow (58 ∷ 109 ∷ rest) (at_start (tok.Sign sign.Colon) ∷ ts)
 mark_row h = more start (p.sign refl refl) h
 
-pub bounds_row : {rest : List ℕ} {ts : List BToken} → IsRow (32 ∷ rest) ts → IsRow (58 ∷ 58 ∷ 32 ∷ rest) (at_start (tok.Sign sign.Bounds) ∷ ts)
+pub bounds_row : {rest : List ℕ} {ts : List PlacedLexeme} → IsRow (32 ∷ rest) ts → IsRow (58 ∷ 58 ∷ 32 ∷ rest) (at_start (tok.Sign sign.Bounds) ∷ ts)
 bounds_row h = more start (p.sign refl refl) h
 
-pub assign_row : {rest : List ℕ} {ts : List BToken} → IsRow (32 ∷ rest) ts → IsRow (58 ∷ 61 ∷ 32 ∷ rest) (at_start (tok.Sign sign.Assign) ∷ ts)
+pub assign_row : {rest : List ℕ} {ts : List PlacedLexeme} → IsRow (32 ∷ rest) ts → IsRow (58 ∷ 61 ∷ 32 ∷ rest) (at_start (tok.Sign sign.Assign) ∷ ts)
 assign_row h = more start (p.sign refl refl) h
 
-pub operator_row : (o : BOp) {rest : List ℕ} {ts : List BToken} → IsRow (32 ∷ rest) ts → IsRow (operator_text o ++ (32 ∷ rest)) (at_start (operator_tok o) ∷ ts)
+pub operator_row : (o : BOp) {rest : List ℕ} {ts : List PlacedLexeme} → IsRow (32 ∷ rest) ts → IsRow (operator_text o ++ (32 ∷ rest)) (at_start (operator_tok o) ∷ ts)
 operator_row op.Iff h = more start (p.sign refl refl) h
 operator_row op.Implies h = more start (p.sign refl refl) h
 operator_row op.Or h = more start (p.sign refl refl) h
@@ -171,7 +171,7 @@ digit_class b h =
 literal_is : {r s : Bool} {v w : ℕ} → r ≡ s → v ≡ w → Some (literal r v) ≡ Some (literal s w)
 literal_is {r = r} {s = s} {v = v} {w = w} e f = ap (λ b. Some (literal b v)) e ∙ ap (λ n. Some (literal s n)) f
 
-number_of_digits : (ds rest : List ℕ) {ts : List BToken} → 0 < length ds → list_all is_ascii_digit ds ≡ true → digits_value 10 ds ≤ max_literal → prefix_len is_ascii_digit rest ≡ 0 →
+number_of_digits : (ds rest : List ℕ) {ts : List PlacedLexeme} → 0 < length ds → list_all is_ascii_digit ds ≡ true → digits_value 10 ds ≤ max_literal → prefix_len is_ascii_digit rest ≡ 0 →
     is_point_zero rest ≡ false → IsRow rest ts → IsRow (ds ++ rest) (at_start (tok.Number (pos (digits_value 10 ds))) ∷ ts)
 number_of_digits [] rest some all small ends point h = absurd (omega (arith, some))
 number_of_digits (d ∷ ds) rest {ts} some all small ends point h =
@@ -182,7 +182,7 @@ number_of_digits (d ∷ ds) rest {ts} some all small ends point h =
     (literal_is no_point (ap (digits_value 10) is_front)) (ap (λ b. literal_length b (prefix_len is_ascii_digit (d ∷ (ds ++ rest)))) no_point))
     (subst (λ r. IsRow r ts) (sym is_behind) h)
 
-real_of_digits : (ds rest : List ℕ) {ts : List BToken} → 0 < length ds → list_all is_ascii_digit ds ≡ true → digits_value 10 ds ≤ max_literal → IsRow rest ts →
+real_of_digits : (ds rest : List ℕ) {ts : List PlacedLexeme} → 0 < length ds → list_all is_ascii_digit ds ≡ true → digits_value 10 ds ≤ max_literal → IsRow rest ts →
     IsRow (ds ++ (46 ∷ 48 ∷ rest)) (at_start (tok.Real (pos (digits_value 10 ds))) ∷ ts)
 real_of_digits [] rest some all small h = absurd (omega (arith, some))
 real_of_digits (d ∷ ds) rest {ts} some all small h =
@@ -198,14 +198,14 @@ real_of_digits (d ∷ ds) rest {ts} some all small h =
 decimal_digits : (n : ℕ) → n < 10 ^ 64 → list_all is_ascii_digit (decimal n) ≡ true
 decimal_digits n small = all_digits (decimal n) ∙ digits.from (decimal n) (decimal_is_IsNumeral_wide n small).0.1
 
-pub number_row : (n : ℕ) (rest : List ℕ) {ts : List BToken} → n ≤ max_literal → Ends rest → IsRow rest ts → IsRow (decimal n ++ rest) (at_start (tok.Number (pos n)) ∷ ts)
+pub number_row : (n : ℕ) (rest : List ℕ) {ts : List PlacedLexeme} → n ≤ max_literal → Ends rest → IsRow rest ts → IsRow (decimal n ++ rest) (at_start (tok.Number (pos n)) ∷ ts)
 number_row n rest {ts} small ends h =
     let wide : n < 10 ^ 64 = omega (arith, small) in
     let numeral = decimal_is_IsNumeral_wide n wide in
     subst (λ m. IsRow (decimal n ++ rest) (at_start (tok.Number (pos m)) ∷ ts)) numeral.1
     (number_of_digits (decimal n) rest numeral.0.0 (decimal_digits n wide) (subst (λ m. m ≤ max_literal) (sym numeral.1) small) ends.number_ends ends.point_ends h)
 
-pub real_row : (n : ℕ) (rest : List ℕ) {ts : List BToken} → n ≤ max_literal → IsRow rest ts → IsRow (decimal n ++ (46 ∷ 48 ∷ rest)) (at_start (tok.Real (pos n)) ∷ ts)
+pub real_row : (n : ℕ) (rest : List ℕ) {ts : List PlacedLexeme} → n ≤ max_literal → IsRow rest ts → IsRow (decimal n ++ (46 ∷ 48 ∷ rest)) (at_start (tok.Real (pos n)) ∷ ts)
 real_row n rest {ts} small h =
     let wide : n < 10 ^ 64 = omega (arith, small) in
     let numeral = decimal_is_IsNumeral_wide n wide in
@@ -256,7 +256,7 @@ unquoted l =
     let before_kind = list_all-append is_unquoted (place_text l.at ++ codes " " ++ place_text l.part) (codes " ") before_space refl in
     list_all-append is_unquoted (place_text l.at ++ codes " " ++ place_text l.part ++ codes " ") (kind_text l.kind) before_kind (kind_unquoted l.kind)
 
-quoted_row : (text rest : List ℕ) (l : Label) {ts : List BToken} → Spells text l → list_all is_unquoted text ≡ true → IsRow rest ts →
+quoted_row : (text rest : List ℕ) (l : Label) {ts : List PlacedLexeme} → Spells text l → list_all is_unquoted text ≡ true → IsRow rest ts →
     IsRow (34 ∷ (text ++ (34 ∷ rest))) (at_start (tok.Text l) ∷ ts)
 quoted_row text rest l {ts} spelled all h =
     let is_front = front-append is_unquoted text (34 ∷ rest) all refl in
@@ -266,5 +266,5 @@ quoted_row text rest l {ts} spelled all h =
     more start (p.text (subst (λ x. Spells x l) (sym is_front) spelled) (behind-append is_unquoted text (34 ∷ rest) all refl))
     (subst (λ n. IsRow (drop n (34 ∷ (text ++ (34 ∷ rest)))) ts) two (subst (λ r. IsRow r ts) (sym whole) h))
 
-pub text_row : (l : Label) (rest : List ℕ) {ts : List BToken} → IsRow rest ts → IsRow (34 ∷ (text_of l ++ (34 ∷ rest))) (at_start (tok.Text l) ∷ ts)
+pub text_row : (l : Label) (rest : List ℕ) {ts : List PlacedLexeme} → IsRow rest ts → IsRow (34 ∷ (text_of l ++ (34 ∷ rest))) (at_start (tok.Text l) ∷ ts)
 text_row l rest h = quoted_row (text_of l) rest l (record { text = refl }) (unquoted l) h

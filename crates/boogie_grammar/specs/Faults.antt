@@ -7,8 +7,8 @@ use Rattle.grammar.specs.declared.stop.Stop.TheVariants as stop
 use Rattle.boogie_tree.specs.Text.{prelude}
 use Rattle.boogie_grammar.specs.declared.faults.BoogieFault.{BoogieFault}
 use Rattle.boogie_grammar.specs.declared.faults.BoogieFault.TheVariants as fault
-use Rattle.boogie_grammar.specs.declared.tokens.BTok.{BTok}
-use Rattle.boogie_grammar.specs.declared.tokens.BToken.{BToken}
+use Rattle.boogie_grammar.specs.declared.tokens.Lexeme.{Lexeme}
+use Rattle.boogie_grammar.specs.declared.tokens.PlacedLexeme.{PlacedLexeme}
 use Rattle.boogie_grammar.specs.Pieces.{Piece, class_of}
 use Rattle.boogie_grammar.specs.Cut.{IsCut}
 use Rattle.boogie_grammar.specs.Depth.{IsShallow, IsTooDeep}
@@ -23,18 +23,18 @@ pub data Differs : List ℕ → List ℕ → List ℕ → Type 0 where
 -- after the bytes `before`, the rest of the text is a row of pieces up to a byte at this place, at which none begins
 pub data Stops : List ℕ → List ℕ → Pos → Type 0 where
   here : {before bytes : List ℕ} {b : ℕ} {at : Pos} →
-      ((o : Option BTok) (n : ℕ) → Piece (class_of b) (b ∷ bytes) o n → ⊥) → IsPlaceAfter before at → Stops before (b ∷ bytes) at
-  later : {before bytes : List ℕ} {b n : ℕ} {o : Option BTok} {at : Pos} →
+      ((o : Option Lexeme) (n : ℕ) → Piece (class_of b) (b ∷ bytes) o n → ⊥) → IsPlaceAfter before at → Stops before (b ∷ bytes) at
+  later : {before bytes : List ℕ} {b n : ℕ} {o : Option Lexeme} {at : Pos} →
       Piece (class_of b) (b ∷ bytes) o n → Stops (before ++ take n (b ∷ bytes)) (drop n (b ∷ bytes)) at → Stops before (b ∷ bytes) at
 
 -- the place of the token of this number, or the end where the tokens have no such token
-abbrev pub place_at : List BToken → ℕ → Pos → Pos
+abbrev pub place_at : List PlacedLexeme → ℕ → Pos → Pos
 place_at [] i end = end
 place_at (k ∷ ts) zero end = k.pos
 place_at (k ∷ ts) (suc i) end = place_at ts i end
 
 -- the fault that a stop is
-abbrev pub fault_of : Stop BToken → Pos → BoogieFault
+abbrev pub fault_of : Stop PlacedLexeme → Pos → BoogieFault
 fault_of stop.Memory end = fault.Memory
 fault_of (stop.Before r) end = fault.Syntax (place_at r.now zero end)
 
@@ -42,6 +42,6 @@ fault_of (stop.Before r) end = fault.Syntax (place_at r.now zero end)
 pub data IsFault (bytes : List ℕ) : BoogieFault → Type 0 where
   no_prelude : {same : List ℕ} {at : Pos} → Differs bytes prelude same → IsPlaceAfter same at → IsFault bytes (fault.Prelude at)
   no_token : {rest : List ℕ} {at : Pos} → bytes ≡ prelude ++ rest → Stops prelude rest at → IsFault bytes (fault.Syntax at)
-  too_deep : {rest : List ℕ} {ts : List BToken} {at : Pos} → bytes ≡ prelude ++ rest → IsCut prelude rest ts → IsTooDeep ts at → IsFault bytes (fault.Deep at)
-  no_program : {rest : List ℕ} {ts : List BToken} {i : ℕ} {end : Pos} → bytes ≡ prelude ++ rest → IsCut prelude rest ts → IsShallow ts →
+  too_deep : {rest : List ℕ} {ts : List PlacedLexeme} {at : Pos} → bytes ≡ prelude ++ rest → IsCut prelude rest ts → IsTooDeep ts at → IsFault bytes (fault.Deep at)
+  no_program : {rest : List ℕ} {ts : List PlacedLexeme} {i : ℕ} {end : Pos} → bytes ≡ prelude ++ rest → IsCut prelude rest ts → IsShallow ts →
       (IsProgram ts → ⊥) → IsPlace IsProgram ts i → IsPlaceAfter bytes end → IsFault bytes (fault.Syntax (place_at ts i end))

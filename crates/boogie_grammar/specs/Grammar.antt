@@ -11,7 +11,7 @@ use Rattle.boogie_tree.specs.Program.{Local, Proc}
 use Rattle.boogie_tree.specs.declared.exprs.BBase.{BBase}
 use Rattle.boogie_grammar.specs.declared.tokens.BSign.{BSign}
 use Rattle.boogie_grammar.specs.declared.tokens.BSign.TheVariants as sign
-use Rattle.boogie_grammar.specs.declared.tokens.BToken.{BToken}
+use Rattle.boogie_grammar.specs.declared.tokens.PlacedLexeme.{PlacedLexeme}
 use Rattle.boogie_grammar.specs.declared.tokens.Word.{Word}
 use Rattle.boogie_grammar.specs.declared.tokens.Word.TheVariants as w
 use Rattle.boogie_grammar.specs.Words.{is_among, is_reserved}
@@ -58,7 +58,7 @@ pub data Symbol : Kind → Type 0 where
 -- what the grammar is made of
 abbrev pub boogie : Alphabet
 boogie = record {
-  Token = BToken;
+  Token = PlacedLexeme;
   Kind = Kind;
   Value = Value;
   Test = Test;

@@ -10,8 +10,8 @@ use Rattle.vb_base.specs.Names.{is_name_start, is_name_byte}
 use Rattle.vb_base.specs.Rows.{front, behind}
 use Rattle.boogie_grammar.specs.declared.tokens.BSign.{BSign}
 use Rattle.boogie_grammar.specs.declared.tokens.BSign.TheVariants as s
-use Rattle.boogie_grammar.specs.declared.tokens.BTok.{BTok}
-use Rattle.boogie_grammar.specs.declared.tokens.BTok.TheVariants as tok
+use Rattle.boogie_grammar.specs.declared.tokens.Lexeme.{Lexeme}
+use Rattle.boogie_grammar.specs.declared.tokens.Lexeme.TheVariants as tok
 use Rattle.boogie_tree.specs.Literals.{max_literal}
 use Rattle.boogie_grammar.specs.Words.{sign_text}
 
@@ -52,7 +52,7 @@ is_point_zero bytes = starts_with ◌==◌ bytes (46 ∷ 48 ∷ [])
 abbrev pub digits : List ℕ → List ℕ
 digits bytes = front is_ascii_digit bytes
 
-abbrev pub literal : Bool → ℕ → BTok
+abbrev pub literal : Bool → ℕ → Lexeme
 literal real n = if real then tok.Real (pos n) else tok.Number (pos n)
 
 abbrev pub literal_length : Bool → ℕ → ℕ
@@ -60,7 +60,7 @@ literal_length real n = if real then n + 2 else n
 
 -- The longest piece with which the bytes begin, a token or (None) a blank or a comment, and how many bytes it has. A row
 -- of digits that is above the greatest literal begins none, and so does a quote in front of what is no label.
-pub data Piece : Class → List ℕ → Option BTok → ℕ → Type 0 where
+pub data Piece : Class → List ℕ → Option Lexeme → ℕ → Type 0 where
   blank : {b : ℕ} {rest : List ℕ} → Piece Blank (b ∷ rest) None 1
   name : {bytes : List ℕ} → Piece Letter bytes (Some (tok.Name (front is_name_byte bytes))) (prefix_len is_name_byte bytes)
   number : {bytes : List ℕ} → digits_value 10 (digits bytes) ≤ max_literal →

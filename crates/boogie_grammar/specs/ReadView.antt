@@ -14,7 +14,7 @@ use Rattle.boogie_grammar.specs.declared.scopes.Scope.{Scope}
 use Rattle.boogie_grammar.specs.declared.leaves.Wrap.{Wrap}
 use Rattle.boogie_grammar.specs.declared.leaves.Wrap.TheVariants as wrap
 use Rattle.boogie_grammar.specs.declared.tokens.BSign.TheVariants as sign
-use Rattle.boogie_grammar.specs.declared.tokens.BToken.{BToken}
+use Rattle.boogie_grammar.specs.declared.tokens.PlacedLexeme.{PlacedLexeme}
 use Rattle.boogie_grammar.specs.declared.tokens.Word.TheVariants as w
 use Rattle.boogie_grammar.specs.Tests as v
 use Rattle.boogie_grammar.specs.Tests.{some_free, a_variable}
@@ -50,38 +50,38 @@ abbrev pub quantifying : g.Scope → g.Rule v.expr
 quantifying x = g.read (g.Binders x g.no_binding) (λ b. g.quantified x b)
 
 -- a leaf was read
-abbrev pub ReadsLeaf : List BToken → t.BExpr → List BToken → Type 0
+abbrev pub ReadsLeaf : List PlacedLexeme → t.BExpr → List PlacedLexeme → Type 0
 ReadsLeaf ts e us = (others : g.Rule v.expr) → Reads v.expr (g.leaves others) ts e us
 
-abbrev pub NoLeaf : List BToken → Type 0
+abbrev pub NoLeaf : List PlacedLexeme → Type 0
 NoLeaf ts = (others : g.Rule v.expr) → Goes (g.leaves others) ts others ts
 
 -- the word of a form with parentheses was read
-abbrev pub ReadsWrap : List BToken → Wrap → List BToken → Type 0
+abbrev pub ReadsWrap : List PlacedLexeme → Wrap → List PlacedLexeme → Type 0
 ReadsWrap ts k us = (x : g.Scope) (others : g.Rule v.expr) → Goes (g.wraps x others) ts (g.wrapped x (wrap_of k)) us
 
-abbrev pub NoWrap : List BToken → Type 0
+abbrev pub NoWrap : List PlacedLexeme → Type 0
 NoWrap ts = (x : g.Scope) (others : g.Rule v.expr) → Goes (g.wraps x others) ts others ts
 
 -- a variable was read
-abbrev pub ReadsVariable : List (List ℕ) → List BToken → ℕ → List BToken → Type 0
+abbrev pub ReadsVariable : List (List ℕ) → List PlacedLexeme → ℕ → List PlacedLexeme → Type 0
 ReadsVariable names ts i us = (some_free names ≡ true) × ((some : some_free names ≡ true) → Starts (a_variable names some) ts i us)
 
-abbrev pub NoVariable : List (List ℕ) → List BToken → Type 0
+abbrev pub NoVariable : List (List ℕ) → List PlacedLexeme → Type 0
 NoVariable names ts = (some : some_free names ≡ true) → IsNot (a_variable names some) ts
 
 -- "forall" was read, where it may stand
-abbrev pub ReadsForall : List (List ℕ) → List BToken → List BToken → Type 0
+abbrev pub ReadsForall : List (List ℕ) → List PlacedLexeme → List PlacedLexeme → Type 0
 ReadsForall bound ts us = (first other : g.Rule v.expr) → Goes (g.unless_bound bound (g.when (v.the_word w.Forall) (λ _. first) other) other) ts first us
 
-abbrev pub NoForall : List (List ℕ) → List BToken → Type 0
+abbrev pub NoForall : List (List ℕ) → List PlacedLexeme → Type 0
 NoForall bound ts = (first other : g.Rule v.expr) → Goes (g.unless_bound bound (g.when (v.the_word w.Forall) (λ _. first) other) other) ts other ts
 
 -- the first of the bound names was read where indices stand, and these names are to follow
-abbrev pub ReadsBound : g.Scope → List BToken → List (List ℕ) → List BToken → Type 0
+abbrev pub ReadsBound : g.Scope → List PlacedLexeme → List (List ℕ) → List PlacedLexeme → Type 0
 ReadsBound x ts qs us = (i : ℕ) → Goes (g.indices x i x.bound) ts (g.read (g.BoundRest qs) (λ _. g.give (t.AtBound i))) us
 
-abbrev pub NoBound : g.Scope → List BToken → Type 0
+abbrev pub NoBound : g.Scope → List PlacedLexeme → Type 0
 NoBound x ts = (i : ℕ) → Goes (g.indices x i x.bound) ts (g.at_indices x i) ts
 
 abbrev pub all_exprs_of : Vec BExpr Global → List t.BExpr

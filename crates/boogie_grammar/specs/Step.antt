@@ -8,24 +8,24 @@ use Rattle.boogie_grammar.specs.declared.faults.BoogieFault.{BoogieFault}
 use Rattle.boogie_grammar.specs.declared.faults.BoogieFault.TheVariants as fault
 use Rattle.boogie_grammar.specs.declared.tokens.BSign.{BSign}
 use Rattle.boogie_grammar.specs.declared.tokens.BSign.TheVariants as sign
-use Rattle.boogie_grammar.specs.declared.tokens.BTok.{BTok}
-use Rattle.boogie_grammar.specs.declared.tokens.BTok.TheVariants as tok
-use Rattle.boogie_grammar.specs.declared.tokens.BToken.{BToken}
+use Rattle.boogie_grammar.specs.declared.tokens.Lexeme.{Lexeme}
+use Rattle.boogie_grammar.specs.declared.tokens.Lexeme.TheVariants as tok
+use Rattle.boogie_grammar.specs.declared.tokens.PlacedLexeme.{PlacedLexeme}
 use Rattle.boogie_grammar.specs.Pieces.{Piece, class_of}
 use Rattle.boogie_grammar.specs.Cut.{IsCut}
 use Rattle.boogie_grammar.specs.Faults.{Stops, Differs}
 
 -- the bytes begin with this piece, a token or a blank, of so many bytes
-abbrev pub IsPiece : List ℕ → Option BTok → ℕ → Type 0
+abbrev pub IsPiece : List ℕ → Option Lexeme → ℕ → Type 0
 IsPiece [] o n = ⊥
 IsPiece (b ∷ bytes) o n = Piece (class_of b) (b ∷ bytes) o n
 
 -- they begin with none
 abbrev pub NoPiece : List ℕ → Type 0
-NoPiece bytes = (o : Option BTok) (n : ℕ) → IsPiece bytes o n → ⊥
+NoPiece bytes = (o : Option Lexeme) (n : ℕ) → IsPiece bytes o n → ⊥
 
 -- the token, if there is one, at this place
-abbrev pub one_at : Option BTok → Pos → List BToken
+abbrev pub one_at : Option Lexeme → Pos → List PlacedLexeme
 one_at None at = []
 one_at (Some t) at = record { tok = t; pos = at } ∷ []
 
@@ -36,12 +36,12 @@ CutFails before bytes (fault.Syntax at) = Stops before bytes at
 CutFails before bytes (fault.Prelude at) = ⊥
 CutFails before bytes (fault.Deep at) = ⊥
 
-abbrev pub Cuts : List ℕ → List ℕ → Result (List BToken) BoogieFault → Type 0
+abbrev pub Cuts : List ℕ → List ℕ → Result (List PlacedLexeme) BoogieFault → Type 0
 Cuts before bytes (Ok ts) = IsCut before bytes ts
 Cuts before bytes (Err e) = CutFails before bytes e
 
 -- a literal of this value, real or not
-abbrev pub literal_of : Bool → ℤ → BTok
+abbrev pub literal_of : Bool → ℤ → Lexeme
 literal_of true n = tok.Real n
 literal_of false n = tok.Number n
 

@@ -12,9 +12,9 @@ use Rattle.boogie_tree.specs.Values.{is_key}
 use Rattle.boogie_tree.specs.declared.exprs.BBase.{BBase}
 use Rattle.boogie_tree.specs.declared.exprs.BOp.{BOp}
 use Rattle.boogie_grammar.specs.declared.tokens.BSign.{BSign}
-use Rattle.boogie_grammar.specs.declared.tokens.BTok.{BTok}
-use Rattle.boogie_grammar.specs.declared.tokens.BTok.TheVariants as tok
-use Rattle.boogie_grammar.specs.declared.tokens.BToken.{BToken}
+use Rattle.boogie_grammar.specs.declared.tokens.Lexeme.{Lexeme}
+use Rattle.boogie_grammar.specs.declared.tokens.Lexeme.TheVariants as tok
+use Rattle.boogie_grammar.specs.declared.tokens.PlacedLexeme.{PlacedLexeme}
 use Rattle.boogie_grammar.specs.declared.tokens.Word.{Word}
 use Rattle.boogie_grammar.specs.Words.{is_among, is_reserved, word_tok, base_word, operator_tok}
 
@@ -92,14 +92,14 @@ pub data Test : Bool → Kind → Type 0 where
   an_operator : Test true operator
 
 -- the token is a name that is not reserved, and of these the first that is so has this number
-pub record IsVariable (names : List (List ℕ)) (k : BTok) (i : ℕ) : Type 0 where
+pub record IsVariable (names : List (List ℕ)) (k : Lexeme) (i : ℕ) : Type 0 where
   pub name : List ℕ
   pub is : k ≡ tok.Name name
   pub free : is_reserved name ≡ false
   pub there : number_of name names ≡ Some i
 
 -- a token passes a test, and this is what is taken from it
-abbrev pub Passes : {b : Bool} {r : Kind} → Test b r → BToken → Value r → Type 0
+abbrev pub Passes : {b : Bool} {r : Kind} → Test b r → PlacedLexeme → Value r → Type 0
 Passes (the_sign o) k v = k.tok ≡ tok.Sign o
 Passes (the_word w) k v = k.tok ≡ word_tok w
 Passes (the_name x) k v = k.tok ≡ tok.Name x

@@ -8,8 +8,8 @@ use Rattle.boogie_tree.specs.declared.exprs.BOp.{BOp}
 use Rattle.boogie_tree.specs.declared.exprs.BOp.TheVariants as op
 use Rattle.boogie_grammar.specs.declared.tokens.BSign.{BSign}
 use Rattle.boogie_grammar.specs.declared.tokens.BSign.TheVariants as sign
-use Rattle.boogie_grammar.specs.declared.tokens.BTok.{BTok}
-use Rattle.boogie_grammar.specs.declared.tokens.BTok.TheVariants as tok
+use Rattle.boogie_grammar.specs.declared.tokens.Lexeme.{Lexeme}
+use Rattle.boogie_grammar.specs.declared.tokens.Lexeme.TheVariants as tok
 use Rattle.boogie_grammar.specs.declared.tokens.Word.{Word}
 use Rattle.boogie_grammar.specs.declared.tokens.Word.TheVariants as w
 
@@ -85,7 +85,7 @@ sign_text sign.Slash = codes "/"
 sign_text sign.Not = codes "!"
 
 -- a word as a token
-abbrev pub word_tok : Word → BTok
+abbrev pub word_tok : Word → Lexeme
 word_tok w = tok.Name (word_text w)
 
 -- the word of a type
@@ -97,7 +97,7 @@ base_word base.Real = w.Real
 base_word base.Snap = w.Snap
 
 -- the token of an operator: a sign, but for `div` and `mod`
-abbrev pub operator_tok : BOp → BTok
+abbrev pub operator_tok : BOp → Lexeme
 operator_tok op.Iff = tok.Sign sign.Iff
 operator_tok op.Implies = tok.Sign sign.Implies
 operator_tok op.Or = tok.Sign sign.Or

@@ -2,12 +2,12 @@
 ghost use Rattle.std.specs.Prelude.{◌≡◌, ◌<◌, ◌^◌, MatchOption};
 ghost use Rattle.boogie_grammar.specs.Depth.{IsShallow, IsTooDeep, unclosed_with};
 
-use crate::{BSign, BTok, BToken};
+use crate::{BSign, Lexeme, PlacedLexeme};
 use vb_base::Pos;
 use vb_base::limits::MAX_UNCLOSED_BRACKETS;
 
 /// The place of the first `(`, `[` or `{` with which more than `MAX_UNCLOSED_BRACKETS` are unclosed, if there is one.
-pub fn first_too_deep(tokens: &[BToken]) -> Option<Pos>
+pub fn first_too_deep(tokens: &[PlacedLexeme]) -> Option<Pos>
     ensures { MatchOption result (IsShallow tokens.now) (IsTooDeep tokens.now) }
 {
     let mut count: usize = 0;
@@ -21,13 +21,13 @@ pub fn first_too_deep(tokens: &[BToken]) -> Option<Pos>
 }
 
 /// How many are unclosed after one more token.
-pub(crate) fn unclosed_with(count: usize, tok: &BTok) -> usize
+pub(crate) fn unclosed_with(count: usize, tok: &Lexeme) -> usize
     requires { count < 2 ^ 32 }
     ensures { result ≡ unclosed_with count tok.now }
 {
     match tok {
-        BTok::Sign(BSign::OpenParen | BSign::OpenBracket | BSign::OpenBrace) => count + 1,
-        BTok::Sign(BSign::CloseParen | BSign::CloseBracket | BSign::CloseBrace) => {
+        Lexeme::Sign(BSign::OpenParen | BSign::OpenBracket | BSign::OpenBrace) => count + 1,
+        Lexeme::Sign(BSign::CloseParen | BSign::CloseBracket | BSign::CloseBrace) => {
             count.saturating_sub(1)
         }
         _ => count,

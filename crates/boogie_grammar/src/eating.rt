@@ -3,20 +3,20 @@ ghost use Rattle.std.specs.Prelude.{◌≡◌, ◌<◌, ◌↔◌, find, length,
 ghost use Rattle.std.specs.Str.{bytes_eq};
 ghost use Rattle.boogie_tree.specs.declared.exprs.BBase.{BBase};
 ghost use Rattle.boogie_tree.specs.declared.exprs.BOp.{BOp};
-ghost use Rattle.boogie_grammar.specs.declared.tokens.BTok.TheVariants as tok;
+ghost use Rattle.boogie_grammar.specs.declared.tokens.Lexeme.TheVariants as tok;
 ghost use Rattle.boogie_grammar.specs.Greedy.{IsNot, Starts, Takes};
 ghost use Rattle.boogie_grammar.specs.Printed.{base_text};
 ghost use Rattle.boogie_grammar.specs.Step.{sign_operator};
 ghost use Rattle.boogie_grammar.specs.Tests.{the_sign, the_word, the_name, a_number, a_real, a_label, a_base, a_key, an_operator};
 ghost use Rattle.boogie_grammar.specs.Words.{word_text, operator_tok};
 
-use crate::{BSign, BTok, BToken, Word};
+use crate::{BSign, Lexeme, PlacedLexeme, Word};
 use boogie_tree::{BBase, BOp, is_key};
 use grammar::Stop;
 use vb_base::{Ident, Label, same_bytes};
 
 /// What was read, and the tokens that are left.
-pub type Read<'a, T> = grammar::Read<'a, BToken, T>;
+pub type Read<'a, T> = grammar::Read<'a, PlacedLexeme, T>;
 
 fn same_sign(a: BSign, b: BSign) -> bool
     ensures { IsTrue result ↔ (a ≡ b) }
@@ -25,19 +25,19 @@ fn same_sign(a: BSign, b: BSign) -> bool
 }
 
 /// The tokens after this sign, if it is next.
-pub fn eat_sign(wanted: BSign, tokens: &[BToken]) -> Option<&[BToken]>
+pub fn eat_sign(wanted: BSign, tokens: &[PlacedLexeme]) -> Option<&[PlacedLexeme]>
     ensures shorter { IfSome result (λ r. length r.now < length tokens.now) }
     ensures eats { MatchOption result (IsNot (the_sign wanted) tokens.now) (λ r. Starts (the_sign wanted) tokens.now tt r.now) }
 {
     let (first, rest) = tokens.split_first()?;
     match first.tok {
-        BTok::Sign(sign) if same_sign(sign, wanted) => Some(rest),
+        Lexeme::Sign(sign) if same_sign(sign, wanted) => Some(rest),
         _ => None,
     }
 }
 
 /// The tokens after this sign, which must be next.
-pub fn sign<'a>(wanted: BSign, tokens: &'a [BToken]) -> Read<'a, ()>
+pub fn sign<'a>(wanted: BSign, tokens: &'a [PlacedLexeme]) -> Read<'a, ()>
     ensures shorter { IfOk result (λ p. length p.1.now < length tokens.now) }
     ensures takes { Takes (the_sign wanted) tokens.now result }
 {
@@ -82,19 +82,19 @@ pub(crate) fn word_text(word: Word) -> &'static [u8]
 }
 
 /// The tokens after this word, if it is next.
-pub fn eat_word(wanted: Word, tokens: &[BToken]) -> Option<&[BToken]>
+pub fn eat_word(wanted: Word, tokens: &[PlacedLexeme]) -> Option<&[PlacedLexeme]>
     ensures shorter { IfSome result (λ r. length r.now < length tokens.now) }
     ensures eats { MatchOption result (IsNot (the_word wanted) tokens.now) (λ r. Starts (the_word wanted) tokens.now tt r.now) }
 {
     let (first, rest) = tokens.split_first()?;
     match &first.tok {
-        BTok::Name(name) if same_bytes(name.bytes(), word_text(wanted)) => Some(rest),
+        Lexeme::Name(name) if same_bytes(name.bytes(), word_text(wanted)) => Some(rest),
         _ => None,
     }
 }
 
 /// The tokens after this word, which must be next.
-pub fn word<'a>(wanted: Word, tokens: &'a [BToken]) -> Read<'a, ()>
+pub fn word<'a>(wanted: Word, tokens: &'a [PlacedLexeme]) -> Read<'a, ()>
     ensures shorter { IfOk result (λ p. length p.1.now < length tokens.now) }
     ensures takes { Takes (the_word wanted) tokens.now result }
 {
@@ -105,37 +105,37 @@ pub fn word<'a>(wanted: Word, tokens: &'a [BToken]) -> Read<'a, ()>
 }
 
 /// The next number, if one is next, and the tokens after it.
-pub fn eat_number(tokens: &[BToken]) -> Option<(i128, &[BToken])>
+pub fn eat_number(tokens: &[PlacedLexeme]) -> Option<(i128, &[PlacedLexeme])>
     ensures shorter { IfSome result (λ p. length p.1.now < length tokens.now) }
     ensures eats { MatchOption result (IsNot a_number tokens.now) (λ p. Starts a_number tokens.now p.0 p.1.now) }
 {
     let (first, rest) = tokens.split_first()?;
     match &first.tok {
-        BTok::Number(value) => Some((value.value(), rest)),
+        Lexeme::Number(value) => Some((value.value(), rest)),
         _ => None,
     }
 }
 
 /// The digits of the next real literal, if one is next, and the tokens after it.
-pub fn eat_real(tokens: &[BToken]) -> Option<(i128, &[BToken])>
+pub fn eat_real(tokens: &[PlacedLexeme]) -> Option<(i128, &[PlacedLexeme])>
     ensures shorter { IfSome result (λ p. length p.1.now < length tokens.now) }
     ensures eats { MatchOption result (IsNot a_real tokens.now) (λ p. Starts a_real tokens.now p.0 p.1.now) }
 {
     let (first, rest) = tokens.split_first()?;
     match &first.tok {
-        BTok::Real(value) => Some((value.value(), rest)),
+        Lexeme::Real(value) => Some((value.value(), rest)),
         _ => None,
     }
 }
 
 /// The label of the next text, which must be next, and the tokens after it.
-pub fn label(tokens: &[BToken]) -> Read<'_, Label>
+pub fn label(tokens: &[PlacedLexeme]) -> Read<'_, Label>
     ensures shorter { IfOk result (λ p. length p.1.now < length tokens.now) }
     ensures takes { Takes a_label tokens.now result }
 {
     match tokens.split_first() {
         Some((first, rest)) => match &first.tok {
-            BTok::Text(label) => Ok((*label, rest)),
+            Lexeme::Text(label) => Ok((*label, rest)),
             _ => Err(Stop::Before(tokens)),
         },
         None => Err(Stop::Before(tokens)),
@@ -181,7 +181,7 @@ fn base_among(bases: &[BBase], bytes: &[u8]) -> Option<BBase>
 }
 
 /// A type, which must be next, and the tokens after it.
-pub fn base(tokens: &[BToken]) -> Read<'_, BBase>
+pub fn base(tokens: &[PlacedLexeme]) -> Read<'_, BBase>
     ensures shorter { IfOk result (λ p. length p.1.now < length tokens.now) }
     ensures takes { Takes a_base tokens.now result }
 {
@@ -191,13 +191,13 @@ pub fn base(tokens: &[BToken]) -> Read<'_, BBase>
     }
 }
 
-fn eat_base(tokens: &[BToken]) -> Option<(BBase, &[BToken])>
+fn eat_base(tokens: &[PlacedLexeme]) -> Option<(BBase, &[PlacedLexeme])>
     ensures shorter { IfSome result (λ p. length p.1.now < length tokens.now) }
     ensures eats { MatchOption result (IsNot a_base tokens.now) (λ p. Starts a_base tokens.now p.0 p.1.now) }
 {
     let (first, rest) = tokens.split_first()?;
     match &first.tok {
-        BTok::Name(name) => {
+        Lexeme::Name(name) => {
             let base = base_of(name.bytes())?;
             Some((base, rest))
         }
@@ -242,7 +242,7 @@ fn word_operator(bytes: &[u8]) -> Option<BOp>
 }
 
 /// A type of keys, which must be next, and the tokens after it.
-pub fn key(tokens: &[BToken]) -> Read<'_, BBase>
+pub fn key(tokens: &[PlacedLexeme]) -> Read<'_, BBase>
     ensures shorter { IfOk result (λ p. length p.1.now < length tokens.now) }
     ensures takes { Takes a_key tokens.now result }
 {
@@ -252,7 +252,7 @@ pub fn key(tokens: &[BToken]) -> Read<'_, BBase>
     }
 }
 
-fn eat_key(tokens: &[BToken]) -> Option<(BBase, &[BToken])>
+fn eat_key(tokens: &[PlacedLexeme]) -> Option<(BBase, &[PlacedLexeme])>
     ensures shorter { IfSome result (λ p. length p.1.now < length tokens.now) }
     ensures eats { MatchOption result (IsNot a_key tokens.now) (λ p. Starts a_key tokens.now p.0 p.1.now) }
 {
@@ -265,18 +265,18 @@ fn eat_key(tokens: &[BToken]) -> Option<(BBase, &[BToken])>
 }
 
 /// The operator that a token is, if it is one.
-fn operator_of(tok: &BTok) -> Option<BOp>
+fn operator_of(tok: &Lexeme) -> Option<BOp>
     ensures { MatchOption result ((o : BOp) → tok.now ≡ operator_tok o → ⊥) (λ o. tok.now ≡ operator_tok o) }
 {
     match tok {
-        BTok::Sign(sign) => sign_operator(*sign),
-        BTok::Name(name) => word_operator(name.bytes()),
+        Lexeme::Sign(sign) => sign_operator(*sign),
+        Lexeme::Name(name) => word_operator(name.bytes()),
         _ => None,
     }
 }
 
 /// An operator, which must be next, and the tokens after it.
-pub fn operator(tokens: &[BToken]) -> Read<'_, BOp>
+pub fn operator(tokens: &[PlacedLexeme]) -> Read<'_, BOp>
     ensures shorter { IfOk result (λ p. length p.1.now < length tokens.now) }
     ensures takes { Takes an_operator tokens.now result }
 {
@@ -286,7 +286,7 @@ pub fn operator(tokens: &[BToken]) -> Read<'_, BOp>
     }
 }
 
-fn eat_operator(tokens: &[BToken]) -> Option<(BOp, &[BToken])>
+fn eat_operator(tokens: &[PlacedLexeme]) -> Option<(BOp, &[PlacedLexeme])>
     ensures shorter { IfSome result (λ p. length p.1.now < length tokens.now) }
     ensures eats { MatchOption result (IsNot an_operator tokens.now) (λ p. Starts an_operator tokens.now p.0 p.1.now) }
 {
@@ -296,20 +296,20 @@ fn eat_operator(tokens: &[BToken]) -> Option<(BOp, &[BToken])>
 }
 
 /// The tokens after this name, if it is next.
-pub fn eat_this<'a>(name: &Ident, tokens: &'a [BToken]) -> Option<&'a [BToken]>
+pub fn eat_this<'a>(name: &Ident, tokens: &'a [PlacedLexeme]) -> Option<&'a [PlacedLexeme]>
     ensures shorter { IfSome result (λ r. length r.now < length tokens.now) }
     ensures eats { MatchOption result (IsNot (the_name name.now) tokens.now) (λ r. Starts (the_name name.now) tokens.now tt r.now) }
 {
     let wanted: &[u8] = name.bytes();
     let (first, rest) = tokens.split_first()?;
     match &first.tok {
-        BTok::Name(other) if same_bytes(other.bytes(), wanted) => Some(rest),
+        Lexeme::Name(other) if same_bytes(other.bytes(), wanted) => Some(rest),
         _ => None,
     }
 }
 
 /// The tokens after this name, which must be next.
-pub fn this<'a>(name: &Ident, tokens: &'a [BToken]) -> Read<'a, ()>
+pub fn this<'a>(name: &Ident, tokens: &'a [PlacedLexeme]) -> Read<'a, ()>
     ensures shorter { IfOk result (λ p. length p.1.now < length tokens.now) }
     ensures takes { Takes (the_name name.now) tokens.now result }
 {

@@ -5,7 +5,7 @@ ghost use Rattle.boogie_grammar.specs.ReadView.{ReadsLeaf, NoLeaf, ReadsWrap, No
 
 use crate::eating::{eat_number, eat_real, eat_word};
 use crate::scopes::{Names, Scope, variable};
-use crate::{BTok, BToken, Word};
+use crate::{Lexeme, PlacedLexeme, Word};
 use boogie_tree::BExpr;
 
 /// A form with one expression, in parentheses with what tells the form.
@@ -28,7 +28,7 @@ pub enum Wrap {
 }
 
 /// An expression of one token, if one is next, and the tokens after it.
-pub fn eat_leaf(tokens: &[BToken]) -> Option<(BExpr, &[BToken])>
+pub fn eat_leaf(tokens: &[PlacedLexeme]) -> Option<(BExpr, &[PlacedLexeme])>
     ensures shorter { IfSome result (λ p. length p.1.now < length tokens.now) }
     ensures eats { MatchOption result (NoLeaf tokens.now) (λ p. ReadsLeaf tokens.now (expr_of p.0) p.1.now) }
 {
@@ -52,7 +52,7 @@ pub fn eat_leaf(tokens: &[BToken]) -> Option<(BExpr, &[BToken])>
 }
 
 /// The word of a form with one expression in parentheses, if one is next, and the tokens after it.
-pub fn eat_wrap(tokens: &[BToken]) -> Option<(Wrap, &[BToken])>
+pub fn eat_wrap(tokens: &[PlacedLexeme]) -> Option<(Wrap, &[PlacedLexeme])>
     ensures shorter { IfSome result (λ p. length p.1.now < length tokens.now) }
     ensures eats { MatchOption result (NoWrap tokens.now) (λ p. ReadsWrap tokens.now p.0 p.1.now) }
 {
@@ -73,13 +73,16 @@ pub fn eat_wrap(tokens: &[BToken]) -> Option<(Wrap, &[BToken])>
 }
 
 /// The number of the next variable, if one is next, and the tokens after it.
-pub fn eat_variable<'a>(names: &Names, tokens: &'a [BToken]) -> Option<(usize, &'a [BToken])>
+pub fn eat_variable<'a>(
+    names: &Names,
+    tokens: &'a [PlacedLexeme],
+) -> Option<(usize, &'a [PlacedLexeme])>
     ensures shorter { IfSome result (λ p. length p.1.now < length tokens.now) }
     ensures eats { MatchOption result (NoVariable names.now tokens.now) (λ p. ReadsVariable names.now tokens.now p.0 p.1.now) }
 {
     let (first, rest) = tokens.split_first()?;
     match &first.tok {
-        BTok::Name(name) => {
+        Lexeme::Name(name) => {
             let i = variable(names, name)?;
             Some((i, rest))
         }
@@ -88,7 +91,7 @@ pub fn eat_variable<'a>(names: &Names, tokens: &'a [BToken]) -> Option<(usize, &
 }
 
 /// The tokens after `forall`, if it is next and may stand here.
-pub fn eat_forall<'a>(scope: Scope<'_>, tokens: &'a [BToken]) -> Option<&'a [BToken]>
+pub fn eat_forall<'a>(scope: Scope<'_>, tokens: &'a [PlacedLexeme]) -> Option<&'a [PlacedLexeme]>
     ensures shorter { IfSome result (λ r. length r.now < length tokens.now) }
     ensures eats { MatchOption result (NoForall scope.entry.bound.now tokens.now) (λ r. ReadsForall scope.entry.bound.now tokens.now r.now) }
 {

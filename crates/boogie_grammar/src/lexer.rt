@@ -5,12 +5,12 @@ ghost use Rattle.vb_base.specs.Limits.{max_boogie_bytes};
 ghost use Rattle.boogie_grammar.specs.Step.{Cuts, one_at};
 
 use crate::pieces::piece;
-use crate::{BTok, BToken, BoogieFault};
+use crate::{BoogieFault, Lexeme, PlacedLexeme};
 use std::alloc::Global;
 use vb_base::{Memory, Pos, advance, place_after};
 
 /// The tokens of a text that stands after these bytes, or the place of the first byte at which none begins.
-pub fn cut(alloc: Global, before: &[u8], bytes: &[u8]) -> Result<Vec<BToken>, BoogieFault>
+pub fn cut(alloc: Global, before: &[u8], bytes: &[u8]) -> Result<Vec<PlacedLexeme>, BoogieFault>
     requires before { length before.now ≤ max_boogie_bytes }
     requires bytes { length bytes.now ≤ max_boogie_bytes }
     ensures { Cuts before.now bytes.now (result_map_both (λ v. v.items) (λ e. e) result) }
@@ -31,11 +31,11 @@ pub fn cut(alloc: Global, before: &[u8], bytes: &[u8]) -> Result<Vec<BToken>, Bo
 }
 
 /// One token more, if there is one.
-fn push_at(tokens: &mut Vec<BToken>, tok: Option<BTok>, pos: Pos) -> Result<(), Memory>
+fn push_at(tokens: &mut Vec<PlacedLexeme>, tok: Option<Lexeme>, pos: Pos) -> Result<(), Memory>
     ensures { OnOk result (tokens.new.items ≡ tokens.old.items ++ one_at tok pos) }
 {
     if let Some(tok) = tok {
-        tokens.push(BToken { tok, pos })?;
+        tokens.push(PlacedLexeme { tok, pos })?;
     }
     Ok(())
 }

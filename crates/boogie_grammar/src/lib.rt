@@ -23,4 +23,4 @@ pub use front::after_prelude;
 pub use lexer::cut;
 pub use parts::{Part, next_part};
 pub use stops::fault;
-pub use tokens::{BSign, BTok, BToken, Word};
+pub use tokens::{BSign, Lexeme, PlacedLexeme, Word};

@@ -7,7 +7,7 @@ ghost use Rattle.boogie_grammar.specs.Tests.{a_new_name};
 
 use crate::eating::Read;
 use crate::scopes::{Names, Scope, is_reserved};
-use crate::{BTok, BToken};
+use crate::{Lexeme, PlacedLexeme};
 use grammar::Stop;
 use vb_base::Ident;
 
@@ -19,13 +19,13 @@ pub fn is_new(names: &Names, name: &Ident) -> bool
 }
 
 /// A copy of the next name, which must be next, not reserved, and none of these.
-pub fn new_name<'a>(taken: &Names, tokens: &'a [BToken]) -> Read<'a, Ident>
+pub fn new_name<'a>(taken: &Names, tokens: &'a [PlacedLexeme]) -> Read<'a, Ident>
     ensures shorter { IfOk result (λ p. length p.1.now < length tokens.now) }
     ensures takes { Takes (a_new_name taken.now) tokens.now result }
 {
     match tokens.split_first() {
         Some((first, rest)) => match &first.tok {
-            BTok::Name(name) if is_new(taken, name) => {
+            Lexeme::Name(name) if is_new(taken, name) => {
                 let name = name.copy()?;
                 Ok((name, rest))
             }
@@ -50,13 +50,17 @@ fn is_unbound(scope: Scope<'_>, bound: &Names, name: &Ident) -> bool
 }
 
 /// A copy of the next name, which must be next, not reserved, none of the locals and of the further names, and not yet bound.
-pub fn bound_name<'a>(scope: Scope<'_>, bound: &Names, tokens: &'a [BToken]) -> Read<'a, Ident>
+pub fn bound_name<'a>(
+    scope: Scope<'_>,
+    bound: &Names,
+    tokens: &'a [PlacedLexeme],
+) -> Read<'a, Ident>
     ensures shorter { IfOk result (λ p. length p.1.now < length tokens.now) }
     ensures takes { Takes (a_new_name (taken_by (scope_of scope.entry) bound.now)) tokens.now result }
 {
     match tokens.split_first() {
         Some((first, rest)) => match &first.tok {
-            BTok::Name(name) if is_unbound(scope, bound, name) => {
+            Lexeme::Name(name) if is_unbound(scope, bound, name) => {
                 let name = name.copy()?;
                 Ok((name, rest))
             }

@@ -6,7 +6,7 @@ ghost use Rattle.boogie_grammar.specs.Parts.{IsNextPart};
 use crate::depth::unclosed_with;
 use crate::eating::word_text;
 use crate::pieces::{is_blank, piece};
-use crate::{BSign, BTok, BToken, Word};
+use crate::{BSign, Lexeme, PlacedLexeme, Word};
 use std::alloc::Global;
 use vb_base::limits::MAX_UNCLOSED_BRACKETS;
 use vb_base::{Memory, Pos, same_bytes};
@@ -30,7 +30,7 @@ pub fn next_part<'a>(
     before: usize,
     first: Option<Word>,
     text: &'a [u8],
-    tokens: &mut Vec<BToken>,
+    tokens: &mut Vec<PlacedLexeme>,
 ) -> Result<Part<'a>, Memory>
     requires { before ≤ max_unclosed_brackets }
     ensures { IfOk result (IsNextPart before text.now tokens.new.items) }
@@ -67,7 +67,7 @@ pub fn next_part<'a>(
         let ends = is_last(alloc, last, count <= before, &tok, rest)?;
         // With room for it, the token is made where it stays, and is not moved there.
         tokens.reserve(1)?;
-        tokens.push_reserved(BToken { tok, pos: START });
+        tokens.push_reserved(PlacedLexeme { tok, pos: START });
         if ends {
             return Ok(Part::Tokens(rest, count));
         }
@@ -96,20 +96,20 @@ enum Last {
 }
 
 /// Whether a token is the word that is asked for, if one is.
-fn may_begin(first: Option<Word>, tok: &BTok) -> bool {
+fn may_begin(first: Option<Word>, tok: &Lexeme) -> bool {
     match (first, tok) {
         (None, _) => true,
-        (Some(word), BTok::Name(name)) => same_bytes(name.bytes(), word_text(word)),
+        (Some(word), Lexeme::Name(name)) => same_bytes(name.bytes(), word_text(word)),
         _ => false,
     }
 }
 
 /// The last token of a part that begins with this one.
-fn last_behind(first: &BTok) -> Last {
+fn last_behind(first: &Lexeme) -> Last {
     match first {
-        BTok::Sign(BSign::CloseBrace) => Last::Itself,
-        BTok::Name(name) if same_bytes(name.bytes(), b"procedure") => Last::OpenBrace,
-        BTok::Name(name) if same_bytes(name.bytes(), b"if") => Last::CloseBrace,
+        Lexeme::Sign(BSign::CloseBrace) => Last::Itself,
+        Lexeme::Name(name) if same_bytes(name.bytes(), b"procedure") => Last::OpenBrace,
+        Lexeme::Name(name) if same_bytes(name.bytes(), b"if") => Last::CloseBrace,
         _ => Last::Semicolon,
     }
 }
@@ -119,14 +119,14 @@ fn is_last(
     alloc: Global,
     last: Last,
     closed: bool,
-    tok: &BTok,
+    tok: &Lexeme,
     rest: &[u8],
 ) -> Result<bool, Memory> {
     match (last, tok) {
         (Last::Itself, _) => Ok(true),
-        (Last::OpenBrace, BTok::Sign(BSign::OpenBrace)) => Ok(true),
-        (Last::Semicolon, BTok::Sign(BSign::Semicolon)) => Ok(true),
-        (Last::CloseBrace, BTok::Sign(BSign::CloseBrace)) if closed => {
+        (Last::OpenBrace, Lexeme::Sign(BSign::OpenBrace)) => Ok(true),
+        (Last::Semicolon, Lexeme::Sign(BSign::Semicolon)) => Ok(true),
+        (Last::CloseBrace, Lexeme::Sign(BSign::CloseBrace)) if closed => {
             Ok(!begins_with_else(alloc, rest)?)
         }
         _ => Ok(false),
@@ -138,7 +138,7 @@ fn begins_with_else(alloc: Global, text: &[u8]) -> Result<bool, Memory> {
     let mut rest = text;
     while let Some((found, len)) = piece(alloc, rest)? {
         if let Some(tok) = found {
-            return Ok(matches!(tok, BTok::Name(name) if same_bytes(name.bytes(), b"else")));
+            return Ok(matches!(tok, Lexeme::Name(name) if same_bytes(name.bytes(), b"else")));
         }
         let (_, after) = rest.split_at(len);
         rest = after;

@@ -4,18 +4,18 @@ ghost use Rattle.std.specs.Char.{is_ascii_digit};
 ghost use Rattle.std.specs.List.{prefix_len, list_all};
 ghost use Rattle.std.specs.Str.Parse.{digits_value};
 ghost use Rattle.vb_base.specs.Names.{is_name_start, is_name_byte};
-ghost use Rattle.boogie_grammar.specs.declared.tokens.BTok.{BTok};
+ghost use Rattle.boogie_grammar.specs.declared.tokens.Lexeme.{Lexeme};
 ghost use Rattle.boogie_tree.specs.Literals.{max_literal};
 ghost use Rattle.boogie_grammar.specs.Pieces.{Piece, Letter, Digit, Quote, Other, is_blank, is_in_line, is_unquoted, is_point_zero, literal_length};
 ghost use Rattle.boogie_grammar.specs.Step.{IsPiece, NoPiece, literal_of};
 
-use crate::BTok;
+use crate::Lexeme;
 use crate::signs::{sign_at, sign_text};
 use std::alloc::Global;
 use vb_base::{Ident, Literal, Memory, read_label};
 
 /// A token, or none for a blank or a comment, and how many bytes it has.
-pub type Found = (Option<BTok>, usize);
+pub type Found = (Option<Lexeme>, usize);
 
 /// The longest piece with which a text begins.
 #[inline(always)]
@@ -45,12 +45,12 @@ fn name(alloc: Global, text: &[u8]) -> Result<Found, Memory>
 {
     let len = name_len(text);
     let name = Ident::new(alloc, &text[..len])?;
-    Ok((Some(BTok::Name(name)), len))
+    Ok((Some(Lexeme::Name(name)), len))
 }
 
 /// The number or real literal with which a text begins.
 fn number(text: &[u8]) -> Option<Found>
-    ensures { MatchOption result ((o : Option BTok) (n : ℕ) → Piece Digit text.now o n → ⊥) (λ p. Piece Digit text.now p.0 p.1) }
+    ensures { MatchOption result ((o : Option Lexeme) (n : ℕ) → Piece Digit text.now o n → ⊥) (λ p. Piece Digit text.now p.0 p.1) }
 {
     let len = digits_len(text);
     let value = decimal(&text[..len])?;
@@ -64,33 +64,33 @@ fn literal(value: i128, len: usize, rest: &[u8]) -> Found
     ensures len { result.1 ≡ literal_length (is_point_zero rest.now) len }
 {
     if rest.starts_with(b".0") {
-        (Some(BTok::Real(Literal::new(value))), len + 2)
+        (Some(Lexeme::Real(Literal::new(value))), len + 2)
     } else {
-        (Some(BTok::Number(Literal::new(value))), len)
+        (Some(Lexeme::Number(Literal::new(value))), len)
     }
 }
 
 /// The label between quotes of which the first stands before these bytes.
 fn quoted(rest: &[u8]) -> Option<Found>
-    ensures { MatchOption result ((o : Option BTok) (n : ℕ) → Piece Quote (34 ∷ rest.now) o n → ⊥) (λ p. Piece Quote (34 ∷ rest.now) p.0 p.1) }
+    ensures { MatchOption result ((o : Option Lexeme) (n : ℕ) → Piece Quote (34 ∷ rest.now) o n → ⊥) (λ p. Piece Quote (34 ∷ rest.now) p.0 p.1) }
 {
     let len = unquoted_len(rest);
     if len == rest.len() {
         return None;
     }
     let label = read_label(&rest[..len])?;
-    Some((Some(BTok::Text(label)), len + 2))
+    Some((Some(Lexeme::Text(label)), len + 2))
 }
 
 /// The comment or sign with which a text begins.
 fn other(text: &[u8]) -> Option<Found>
-    ensures { MatchOption result ((o : Option BTok) (n : ℕ) → Piece Other text.now o n → ⊥) (λ p. Piece Other text.now p.0 p.1) }
+    ensures { MatchOption result ((o : Option Lexeme) (n : ℕ) → Piece Other text.now o n → ⊥) (λ p. Piece Other text.now p.0 p.1) }
 {
     if text.starts_with(b"//") {
         return Some((None, line_len(&text[2..]) + 2));
     }
     let sign = sign_at(text)?;
-    Some((Some(BTok::Sign(sign)), sign_text(sign).len()))
+    Some((Some(Lexeme::Sign(sign)), sign_text(sign).len()))
 }
 
 /// How many bytes from the first on can stand in a name.

@@ -2,12 +2,12 @@
 ghost use Rattle.std.specs.Prelude.{◌≡◌};
 ghost use Rattle.boogie_grammar.specs.Faults.{place_at, fault_of};
 
-use crate::{BToken, BoogieFault};
+use crate::{BoogieFault, PlacedLexeme};
 use grammar::Stop;
 use vb_base::Pos;
 
 /// The fault that a stop is, where the tokens end at this place.
-pub fn fault(stop: Stop<'_, BToken>, end: Pos) -> BoogieFault
+pub fn fault(stop: Stop<'_, PlacedLexeme>, end: Pos) -> BoogieFault
     ensures { result ≡ fault_of stop.entry end }
 {
     match stop {
@@ -17,7 +17,7 @@ pub fn fault(stop: Stop<'_, BToken>, end: Pos) -> BoogieFault
 }
 
 /// The place of the next token, or the end.
-fn place_of(tokens: &[BToken], end: Pos) -> Pos
+fn place_of(tokens: &[PlacedLexeme], end: Pos) -> Pos
     ensures { result ≡ place_at tokens.now 0 end }
 {
     match tokens.first() {

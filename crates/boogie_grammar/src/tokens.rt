@@ -74,9 +74,9 @@ pub enum Word {
     Msg,
 }
 
-/// What a token is.
+/// What a token of the grammar is.
 #[derive(Drop)]
-pub enum BTok {
+pub enum Lexeme {
     /// A name or a word.
     Name(Ident),
     Number(Literal),
@@ -87,9 +87,9 @@ pub enum BTok {
     Sign(BSign),
 }
 
-/// A token at its place.
+/// A token of the grammar at its place.
 #[derive(Drop)]
-pub struct BToken {
-    pub tok: BTok,
+pub struct PlacedLexeme {
+    pub tok: Lexeme,
     pub pos: Pos,
 }

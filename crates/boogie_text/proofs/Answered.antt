@@ -15,9 +15,9 @@ use Rattle.boogie_tree.specs.declared.exprs.BOp.{BOp}
 use Rattle.boogie_tree.specs.declared.exprs.BOp.TheVariants as op
 use Rattle.boogie_grammar.specs.declared.tokens.BSign.{BSign}
 use Rattle.boogie_grammar.specs.declared.tokens.BSign.TheVariants as sign
-use Rattle.boogie_grammar.specs.declared.tokens.BTok.{BTok}
-use Rattle.boogie_grammar.specs.declared.tokens.BTok.TheVariants as tok
-use Rattle.boogie_grammar.specs.declared.tokens.BToken.{BToken}
+use Rattle.boogie_grammar.specs.declared.tokens.Lexeme.{Lexeme}
+use Rattle.boogie_grammar.specs.declared.tokens.Lexeme.TheVariants as tok
+use Rattle.boogie_grammar.specs.declared.tokens.PlacedLexeme.{PlacedLexeme}
 use Rattle.boogie_grammar.specs.Words.{word_tok, word_text, base_word, operator_tok, is_reserved, is_among}
 use Rattle.boogie_grammar.specs.Tests as v
 use Rattle.boogie_grammar.specs.Tests.{Kind, Test, Passes, number_of, the_sign, the_word, the_name, a_new_name, a_variable, a_number, a_real, a_label, a_base, a_key, an_operator}
@@ -31,7 +31,7 @@ use Rattle.boogie_text.proofs.Complete.{by_where, by_bound, empty_right, complet
 abbrev Decided : Type 0 → Type 0
 Decided X = X ⊎ (X → ⊥)
 
-abbrev Tried : {b : Bool} {r : Kind} → Test b r → BToken → Type 0
+abbrev Tried : {b : Bool} {r : Kind} → Test b r → PlacedLexeme → Type 0
 Tried c k = grammar.Tried boogie c k
 
 name_is : {x y : List ℕ} → tok.Name x ≡ tok.Name y → x ≡ y
@@ -98,14 +98,14 @@ decided_by f g (inr n) = inr (λ b. n (g b))
 sign_is : {o q : BSign} → tok.Sign o ≡ tok.Sign q → o ≡ q
 sign_is e = cc
 
-same_sign : (t : BTok) (o : BSign) → Decided (t ≡ tok.Sign o)
+same_sign : (t : Lexeme) (o : BSign) → Decided (t ≡ tok.Sign o)
 same_sign (tok.Sign q) o = decided_by (λ e. ap tok.Sign (one_sign q o e)) (λ e. ap sign_code (sign_is e)) (same_number (sign_code q) (sign_code o))
 same_sign (tok.Name x) o = inr (λ e. cc)
 same_sign (tok.Number n) o = inr (λ e. cc)
 same_sign (tok.Real n) o = inr (λ e. cc)
 same_sign (tok.Text l) o = inr (λ e. cc)
 
-same_name : (t : BTok) (x : List ℕ) → Decided (t ≡ tok.Name x)
+same_name : (t : Lexeme) (x : List ℕ) → Decided (t ≡ tok.Name x)
 same_name (tok.Name y) x = decided_by (λ e. ap tok.Name e) (λ e. name_is e) (same_bytes y x)
 same_name (tok.Number n) x = inr (λ e. cc)
 same_name (tok.Real n) x = inr (λ e. cc)
@@ -134,7 +134,7 @@ find_base P d = five (d base.Int) (d base.Bool) (d base.Ref) (d base.Real) (d ba
   five (inr a) (inr b) (inr c) (inr d) (inl h) = inl (base.Snap, h)
   five (inr a) (inr b) (inr c) (inr d) (inr e) = inr (none a b c d e)
 
-no_operator : (t : BTok) → operator_at t ≡ None → (o : BOp) → t ≡ operator_tok o → ⊥
+no_operator : (t : Lexeme) → operator_at t ≡ None → (o : BOp) → t ≡ operator_tok o → ⊥
 no_operator t n o e = let h : None ≡ Some o = sym n ∙ ap operator_at e ∙ operator_there o in cc
 
 sign_operator : (o : BSign) → Found (λ q. tok.Sign o ≡ operator_tok q)
@@ -189,7 +189,7 @@ name_operator x (inl e) d = inl (op.IntDiv, ap tok.Name e)
 name_operator x (inr m) (inl e) = inl (op.IntMod, ap tok.Name e)
 name_operator x (inr m) (inr n) = inr (not_operator x m n)
 
-find_operator : (t : BTok) → Found (λ q. t ≡ operator_tok q)
+find_operator : (t : Lexeme) → Found (λ q. t ≡ operator_tok q)
 unfolding operator_at
 find_operator (tok.Sign o) = sign_operator o
 find_operator (tok.Name x) = name_operator x (same_bytes x (codes "div")) (same_bytes x (codes "mod"))
@@ -199,59 +199,59 @@ find_operator (tok.Text l) = inr (no_operator (tok.Text l) refl)
 
 -- whether a token passes a test
 
-try_found : {r : Kind} {c : Test true r} {k : BToken} → Found (λ x. Passes c k x) → Tried c k
+try_found : {r : Kind} {c : Test true r} {k : PlacedLexeme} → Found (λ x. Passes c k x) → Tried c k
 try_found (inl h) = right h.0 h.1
 try_found (inr n) = wrong n
 
-try_equal : {c : Test true v.nothing} {k : BToken} → Decided (Passes c k tt) → Tried c k
+try_equal : {c : Test true v.nothing} {k : PlacedLexeme} → Decided (Passes c k tt) → Tried c k
 try_equal (inl h) = right tt h
 try_equal (inr n) = wrong (λ x h. n h)
 
-tok_is : {t u w : BTok} → t ≡ u → t ≡ w → u ≡ w
+tok_is : {t u w : Lexeme} → t ≡ u → t ≡ w → u ≡ w
 tok_is e f = sym e ∙ f
 
 truth : (b : Bool) → b ≡ true → b ≡ false → ⊥
 truth b h e = cc
 
-try_new : (taken : List (List ℕ)) (k : BToken) (x : List ℕ) (b c : Bool) → k.tok ≡ tok.Name x → is_reserved x ≡ b → is_among x taken ≡ c → Tried (a_new_name taken) k
+try_new : (taken : List (List ℕ)) (k : PlacedLexeme) (x : List ℕ) (b c : Bool) → k.tok ≡ tok.Name x → is_reserved x ≡ b → is_among x taken ≡ c → Tried (a_new_name taken) k
 try_new taken k x false false e h i = right x (e, h, i)
 try_new taken k x true c e h i = wrong (λ y p. let same : x ≡ y = name_is (tok_is e p.0) in truth (is_reserved x) h (subst (λ z. is_reserved z ≡ false) (sym same) p.1))
 try_new taken k x false true e h i = wrong (λ y p. let same : x ≡ y = name_is (tok_is e p.0) in truth (is_among x taken) i (subst (λ z. is_among z taken ≡ false) (sym same) p.2))
 
-try_new_name : (taken : List (List ℕ)) (k : BToken) (t : BTok) → k.tok ≡ t → Tried (a_new_name taken) k
+try_new_name : (taken : List (List ℕ)) (k : PlacedLexeme) (t : Lexeme) → k.tok ≡ t → Tried (a_new_name taken) k
 try_new_name taken k (tok.Name x) e = try_new taken k x (is_reserved x) (is_among x taken) e refl refl
 try_new_name taken k (tok.Number n) e = wrong (λ y p. let no_name = tok_is e p.0 in cc)
 try_new_name taken k (tok.Real n) e = wrong (λ y p. let no_name = tok_is e p.0 in cc)
 try_new_name taken k (tok.Text l) e = wrong (λ y p. let no_name = tok_is e p.0 in cc)
 try_new_name taken k (tok.Sign o) e = wrong (λ y p. let no_name = tok_is e p.0 in cc)
 
-try_there : (names : List (List ℕ)) (some : v.some_free names ≡ true) (k : BToken) (x : List ℕ) (b : Bool) (o : Option ℕ) → k.tok ≡ tok.Name x → is_reserved x ≡ b → number_of x names ≡ o → Tried (a_variable names some) k
+try_there : (names : List (List ℕ)) (some : v.some_free names ≡ true) (k : PlacedLexeme) (x : List ℕ) (b : Bool) (o : Option ℕ) → k.tok ≡ tok.Name x → is_reserved x ≡ b → number_of x names ≡ o → Tried (a_variable names some) k
 try_there names some k x false (Some i) e h n = right i (record { name = x; is = e; free = h; there = n })
 try_there names some k x true o e h n = wrong (λ i p. let same : x ≡ p.name = name_is (tok_is e p.is) in truth (is_reserved x) h (subst (λ z. is_reserved z ≡ false) (sym same) p.free))
 try_there names some k x false None e h n = wrong (λ i p. let same : x ≡ p.name = name_is (tok_is e p.is) in let gone : None ≡ Some i = sym n ∙ ap (λ z. number_of z names) same ∙ p.there in cc)
 
-try_variable : (names : List (List ℕ)) (some : v.some_free names ≡ true) (k : BToken) (t : BTok) → k.tok ≡ t → Tried (a_variable names some) k
+try_variable : (names : List (List ℕ)) (some : v.some_free names ≡ true) (k : PlacedLexeme) (t : Lexeme) → k.tok ≡ t → Tried (a_variable names some) k
 try_variable names some k (tok.Name x) e = try_there names some k x (is_reserved x) (number_of x names) e refl refl
 try_variable names some k (tok.Number n) e = wrong (λ i p. let no_name = tok_is e p.is in cc)
 try_variable names some k (tok.Real n) e = wrong (λ i p. let no_name = tok_is e p.is in cc)
 try_variable names some k (tok.Text l) e = wrong (λ i p. let no_name = tok_is e p.is in cc)
 try_variable names some k (tok.Sign o) e = wrong (λ i p. let no_name = tok_is e p.is in cc)
 
-try_number : (k : BToken) (t : BTok) → k.tok ≡ t → Tried a_number k
+try_number : (k : PlacedLexeme) (t : Lexeme) → k.tok ≡ t → Tried a_number k
 try_number k (tok.Number n) e = right n e
 try_number k (tok.Name x) e = wrong (λ y p. let other = tok_is e p in cc)
 try_number k (tok.Real n) e = wrong (λ y p. let other = tok_is e p in cc)
 try_number k (tok.Text l) e = wrong (λ y p. let other = tok_is e p in cc)
 try_number k (tok.Sign o) e = wrong (λ y p. let other = tok_is e p in cc)
 
-try_real : (k : BToken) (t : BTok) → k.tok ≡ t → Tried a_real k
+try_real : (k : PlacedLexeme) (t : Lexeme) → k.tok ≡ t → Tried a_real k
 try_real k (tok.Real n) e = right n e
 try_real k (tok.Name x) e = wrong (λ y p. let other = tok_is e p in cc)
 try_real k (tok.Number n) e = wrong (λ y p. let other = tok_is e p in cc)
 try_real k (tok.Text l) e = wrong (λ y p. let other = tok_is e p in cc)
 try_real k (tok.Sign o) e = wrong (λ y p. let other = tok_is e p in cc)
 
-try_label : (k : BToken) (t : BTok) → k.tok ≡ t → Tried a_label k
+try_label : (k : PlacedLexeme) (t : Lexeme) → k.tok ≡ t → Tried a_label k
 try_label k (tok.Text l) e = right l e
 try_label k (tok.Name x) e = wrong (λ y p. let other = tok_is e p in cc)
 try_label k (tok.Number n) e = wrong (λ y p. let other = tok_is e p in cc)
@@ -267,7 +267,7 @@ both_decided (inl a) (inl b) = inl (a, b)
 both_decided (inr n) d = inr (λ h. n h.0)
 both_decided (inl a) (inr n) = inr (λ h. n h.1)
 
-try_token : {b : Bool} {r : Kind} (c : Test b r) (k : BToken) → Tried c k
+try_token : {b : Bool} {r : Kind} (c : Test b r) (k : PlacedLexeme) → Tried c k
 try_token (the_sign o) k = try_equal (same_sign k.tok o)
 try_token (the_word x) k = try_equal (same_name k.tok (word_text x))
 try_token (the_name x) k = try_equal (same_name k.tok x)
@@ -332,11 +332,11 @@ has_answers = record {
   falls = λ s a. falls a;
 }
 
-answered : (ts : List BToken) → IsSpelled rules (rule (g.Program [])) ts ⊎ text.GoesWrong rules (rule (g.Program [])) ts
+answered : (ts : List PlacedLexeme) → IsSpelled rules (rule (g.Program [])) ts ⊎ text.GoesWrong rules (rule (g.Program [])) ts
 answered ts = grammar.some_answer rules laws ranks has_answers
     (g.Program []) (λ us ps d. complete (g.Program []) d) ts
 
-wrong_there : {ts : List BToken} → text.GoesWrong rules (rule (g.Program [])) ts → GoesWrong ts
+wrong_there : {ts : List PlacedLexeme} → text.GoesWrong rules (rule (g.Program [])) ts → GoesWrong ts
 wrong_there x = record {
   none = λ p. x.none (p.0.procs, p.1);
   at = x.at;
@@ -347,9 +347,9 @@ wrong_there x = record {
   };
 }
 
-by_answer : {ts : List BToken} → IsSpelled rules (rule (g.Program [])) ts ⊎ text.GoesWrong rules (rule (g.Program [])) ts → IsProgram ts ⊎ GoesWrong ts
+by_answer : {ts : List PlacedLexeme} → IsSpelled rules (rule (g.Program [])) ts ⊎ text.GoesWrong rules (rule (g.Program [])) ts → IsProgram ts ⊎ GoesWrong ts
 by_answer (inl h) = inl (record { procs = h.0 }, h.1)
 by_answer (inr x) = inr (wrong_there x)
 
-pub some_answer : (ts : List BToken) → IsProgram ts ⊎ GoesWrong ts
+pub some_answer : (ts : List PlacedLexeme) → IsProgram ts ⊎ GoesWrong ts
 some_answer ts = by_answer (answered ts)

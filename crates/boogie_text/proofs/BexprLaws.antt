@@ -13,8 +13,8 @@ use Rattle.boogie_tree.specs.Text.{prelude}
 use Rattle.boogie_tree.specs.Whole.{expr_of}
 use Rattle.boogie_grammar.specs.declared.faults.BoogieFault.{BoogieFault}
 use Rattle.boogie_grammar.specs.declared.faults.BoogieFault.TheVariants as fault
-use Rattle.boogie_grammar.specs.declared.tokens.BTok.{BTok}
-use Rattle.boogie_grammar.specs.declared.tokens.BToken.{BToken}
+use Rattle.boogie_grammar.specs.declared.tokens.Lexeme.{Lexeme}
+use Rattle.boogie_grammar.specs.declared.tokens.PlacedLexeme.{PlacedLexeme}
 use Rattle.boogie_grammar.specs.Grammar.{Scope}
 use Rattle.boogie_grammar.specs.Step.{CutFails}
 use Rattle.boogie_text.specs.declared.public_tokens.BToken as handed
@@ -33,7 +33,7 @@ use Rattle.boogie_text.proofs.BeginLaws.{begins_more, none_more, one_begin, one_
 
 -- what the first tokens begin with, all of them begin with
 
-pub finds_more : (x : Scope) (os ws : List (Option BToken)) (o : Option t.BExpr) (n : ℕ) → Finds x os o n → n < length os → Finds x (os ++ ws) o n
+pub finds_more : (x : Scope) (os ws : List (Option PlacedLexeme)) (o : Option t.BExpr) (n : ℕ) → Finds x os o n → n < length os → Finds x (os ++ ws) o n
 finds_more x os ws (Some e) n h lt = begins_more h lt ws
 finds_more x os ws None n h lt = none_more h lt ws
 
@@ -132,30 +132,30 @@ place_past (x ∷ ts) (suc i) end h = place_past ts i end (omega (arith, h))
 dropped_at : (ts : List handed.BToken) (i : ℕ) (k : handed.BToken) → i < length ts → k ≡ get_or ts i k → drop i ts ≡ k ∷ drop (i + 1) ts
 dropped_at ts i k lt e = rw add-one (drop-cons ts i k lt ∙ ap (λ x. x ∷ drop (suc i) ts) (sym e))
 
-here_is : (ts : List handed.BToken) (i : ℕ) (k : handed.BToken) (o : Option BTok) → i < length ts → k ≡ get_or ts i k → stands_for k.tok ≡ o →
+here_is : (ts : List handed.BToken) (i : ℕ) (k : handed.BToken) (o : Option Lexeme) → i < length ts → k ≡ get_or ts i k → stands_for k.tok ≡ o →
     map token_of (drop i ts) ≡ option_map (λ t. record { tok = t; pos = k.pos }) o ∷ map token_of (drop (i + 1) ts)
 here_is ts i k o lt e is = ap (map token_of) (dropped_at ts i k lt e) ∙ ap (λ z. option_map (λ t. record { tok = t; pos = k.pos }) z ∷ map token_of (drop (i + 1) ts)) is
 
-pub front_more : (ts : List handed.BToken) (us : List BToken) (i : ℕ) (k : handed.BToken) (t : BTok) → map Some us ++ map token_of (drop i ts) ≡ map token_of ts → i < length ts → k ≡ get_or ts i k → stands_for k.tok ≡ Some t →
+pub front_more : (ts : List handed.BToken) (us : List PlacedLexeme) (i : ℕ) (k : handed.BToken) (t : Lexeme) → map Some us ++ map token_of (drop i ts) ≡ map token_of ts → i < length ts → k ≡ get_or ts i k → stands_for k.tok ≡ Some t →
     map Some (us ++ (record { tok = t; pos = k.pos } ∷ [])) ++ map token_of (drop (i + 1) ts) ≡ map token_of ts
 front_more ts us i k t h lt e is =
     ap (λ l. l ++ map token_of (drop (i + 1) ts)) (map-append Some us (record { tok = t; pos = k.pos } ∷ [])) ∙
     append_assoc (map Some us) (Some (record { tok = t; pos = k.pos }) ∷ []) (map token_of (drop (i + 1) ts)) ∙
     ap (λ l. map Some us ++ l) (sym (here_is ts i k (Some t) lt e is)) ∙ h
 
-pub front_stops : (ts : List handed.BToken) (us : List BToken) (i : ℕ) (k : handed.BToken) → map Some us ++ map token_of (drop i ts) ≡ map token_of ts → i < length ts → k ≡ get_or ts i k → stands_for k.tok ≡ None →
+pub front_stops : (ts : List handed.BToken) (us : List PlacedLexeme) (i : ℕ) (k : handed.BToken) → map Some us ++ map token_of (drop i ts) ≡ map token_of ts → i < length ts → k ≡ get_or ts i k → stands_for k.tok ≡ None →
     IsFront (map token_of ts) us
 front_stops ts us i k h lt e is = record { rest = map token_of (drop i ts); whole = sym h; ends = subst NoToken (sym (here_is ts i k None lt e is)) broken }
 
-pub front_ends : (ts : List handed.BToken) (us : List BToken) (i : ℕ) → map Some us ++ map token_of (drop i ts) ≡ map token_of ts → length ts ≤ i → IsFront (map token_of ts) us
+pub front_ends : (ts : List handed.BToken) (us : List PlacedLexeme) (i : ℕ) → map Some us ++ map token_of (drop i ts) ≡ map token_of ts → length ts ≤ i → IsFront (map token_of ts) us
 front_ends ts us i h past = record { rest = map token_of (drop i ts); whole = sym h; ends = subst (λ l. NoToken (map token_of l)) (sym (drop_all i ts past)) ended }
 
 -- what is found of the tokens of the grammar is found of the tokens
 
-pub found_some : (x : Scope) (os : List (Option BToken)) (us : List BToken) (n : ℕ) {e : t.BExpr} → IsFront os us → ((rest : List (Option BToken)) → NoToken rest → BeginsExpr x (map Some us ++ rest) n e) → BeginsExpr x os n e
+pub found_some : (x : Scope) (os : List (Option PlacedLexeme)) (us : List PlacedLexeme) (n : ℕ) {e : t.BExpr} → IsFront os us → ((rest : List (Option PlacedLexeme)) → NoToken rest → BeginsExpr x (map Some us ++ rest) n e) → BeginsExpr x os n e
 found_some x os us n {e = e} f h = subst (λ l. BeginsExpr x l n e) (sym f.whole) (h f.rest f.ends)
 
-pub found_none : (x : Scope) (os : List (Option BToken)) (us : List BToken) (n : ℕ) → IsFront os us → ((rest : List (Option BToken)) → NoToken rest → BeginsNone x (map Some us ++ rest) n) → BeginsNone x os n
+pub found_none : (x : Scope) (os : List (Option PlacedLexeme)) (us : List PlacedLexeme) (n : ℕ) → IsFront os us → ((rest : List (Option PlacedLexeme)) → NoToken rest → BeginsNone x (map Some us ++ rest) n) → BeginsNone x os n
 found_none x os us n f h = subst (λ l. BeginsNone x l n) (sym f.whole) (h f.rest f.ends)
 
 -- what comes of the parts

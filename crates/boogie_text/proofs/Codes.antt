@@ -7,8 +7,8 @@ use Rattle.grammar.proofs.Complete.{Table}
 use Rattle.boogie_tree.specs.Stmt as s
 use Rattle.boogie_grammar.specs.declared.tokens.BSign.{BSign}
 use Rattle.boogie_grammar.specs.declared.tokens.BSign.TheVariants as sign
-use Rattle.boogie_grammar.specs.declared.tokens.BTok.{BTok}
-use Rattle.boogie_grammar.specs.declared.tokens.BTok.TheVariants as tok
+use Rattle.boogie_grammar.specs.declared.tokens.Lexeme.{Lexeme}
+use Rattle.boogie_grammar.specs.declared.tokens.Lexeme.TheVariants as tok
 use Rattle.boogie_grammar.specs.declared.tokens.Word.{Word}
 use Rattle.boogie_grammar.specs.declared.tokens.Word.TheVariants as w
 use Rattle.boogie_grammar.specs.Words.{word_text, is_reserved, is_among, reserved}
@@ -80,7 +80,7 @@ code_in x (y ∷ ys) n = if bytes_eq x y then n else code_in x ys (n + 1)
 abbrev pub name_code : List ℕ → ℕ
 name_code x = code_in x reserved 10
 
-abbrev pub code : BTok → ℕ
+abbrev pub code : Lexeme → ℕ
 code (tok.Name x) = name_code x
 code (tok.Number n) = 2
 code (tok.Real n) = 3

@@ -16,9 +16,9 @@ use Rattle.boogie_tree.specs.declared.exprs.BOp.TheVariants as op
 use Rattle.boogie_grammar.specs.declared.tokens.BSign.TheVariants as sign
 use Rattle.boogie_grammar.specs.declared.tokens.Word.{Word}
 use Rattle.boogie_grammar.specs.declared.tokens.Word.TheVariants as w
-use Rattle.boogie_grammar.specs.declared.tokens.BTok.{BTok}
-use Rattle.boogie_grammar.specs.declared.tokens.BTok.TheVariants as tok
-use Rattle.boogie_grammar.specs.declared.tokens.BToken.{BToken}
+use Rattle.boogie_grammar.specs.declared.tokens.Lexeme.{Lexeme}
+use Rattle.boogie_grammar.specs.declared.tokens.Lexeme.TheVariants as tok
+use Rattle.boogie_grammar.specs.declared.tokens.PlacedLexeme.{PlacedLexeme}
 use Rattle.boogie_grammar.specs.Words.{word_tok, word_text, base_word, operator_tok, is_reserved, is_among}
 use Rattle.boogie_grammar.specs.Tests as v
 use Rattle.boogie_grammar.specs.Tests.{Kind, Value, Test, Passes, the_sign, the_word, the_name, a_new_name, a_variable, a_number, a_real, a_label, a_base, a_key, an_operator}
@@ -29,16 +29,16 @@ use Rattle.boogie_text.proofs.Codes.{code, word_code, sign_code, name_code, word
 
 -- the tokens that pass a test are among its codes
 
-pub code_at : (k : BToken) (x : BTok) (l : List ℕ) → k.tok ≡ x → among (code x) l ≡ true → among (code k.tok) l ≡ true
+pub code_at : (k : PlacedLexeme) (x : Lexeme) (l : List ℕ) → k.tok ≡ x → among (code x) l ≡ true → among (code k.tok) l ≡ true
 code_at k x l e h = subst (λ t. among (code t) l ≡ true) (sym e) h
 
 self : (n : ℕ) → among n (n ∷ []) ≡ true
 self n = subst (λ z. cond z true false ≡ true) (sym (eq-eqb n n refl)) refl
 
-word_at : (k : BToken) (x : _) (l : List ℕ) → k.tok ≡ word_tok x → among (word_code x) l ≡ true → among (code k.tok) l ≡ true
+word_at : (k : PlacedLexeme) (x : _) (l : List ℕ) → k.tok ≡ word_tok x → among (word_code x) l ≡ true → among (code k.tok) l ≡ true
 word_at k x l e h = code_at k (word_tok x) l e (subst (λ n. among n l ≡ true) (sym (word_is x)) h)
 
-free_at : (k : BToken) (x : List ℕ) → k.tok ≡ tok.Name x → is_reserved x ≡ false → among (code k.tok) names ≡ true
+free_at : (k : PlacedLexeme) (x : List ℕ) → k.tok ≡ tok.Name x → is_reserved x ≡ false → among (code k.tok) names ≡ true
 free_at k x e free = code_at k (tok.Name x) names e (subst (λ n. among n names ≡ true) (sym (free_code x free)) refl)
 
 base_codes : (u : BBase) → among (word_code (base_word u)) bases ≡ true
@@ -73,7 +73,7 @@ operator_codes op.Divide = refl
 operator_codes op.IntDiv = refl
 operator_codes op.IntMod = refl
 
-passes_codes : {b : Bool} {r : Kind} (c : Test b r) (k : BToken) (v : Value r) → Passes c k v → among (code k.tok) (codes c) ≡ true
+passes_codes : {b : Bool} {r : Kind} (c : Test b r) (k : PlacedLexeme) (v : Value r) → Passes c k v → among (code k.tok) (codes c) ≡ true
 passes_codes (the_sign o) k v p = code_at k (tok.Sign o) (codes (the_sign o)) p (self (sign_code o))
 passes_codes (the_word x) k v p = word_at k x (codes (the_word x)) p (self (word_code x))
 passes_codes (the_name x) k v p = code_at k (tok.Name x) (codes (the_name x)) p (self (name_code x))
@@ -182,17 +182,17 @@ empty_right a x d = sym (empty_ok a) ∙ grammar.ends_right rules table right d 
 
 -- a name that is not reserved and no local begins no expression
 
-pass_by : {b : Bool} {r s : Kind} {c : Test b r} {go : Value r → Rule s} {other : Rule s} {ts us : List BToken} {x : Value s} {k : BToken} →
+pass_by : {b : Bool} {r s : Kind} {c : Test b r} {go : Value r → Rule s} {other : Rule s} {ts us : List PlacedLexeme} {x : Value s} {k : PlacedLexeme} →
     Derives rules s (when c go other) ts x → ts ≡ k ∷ us → ((v : Value r) → Passes c k v → ⊥) → Derives rules s other ts x
 pass_by {c = c} {k = k} (plain.taken {v = v} q d) e n = let same : q.token ≡ k = cc in absurd (n v (subst (λ j. Passes c j v) same q.passes))
 pass_by (plain.passed d) e n = d
 
-no_need : {r s : Kind} {c : Test true r} {go : Value r → Rule s} {ts us : List BToken} {x : Value s} {k : BToken} →
+no_need : {r s : Kind} {c : Test true r} {go : Value r → Rule s} {ts us : List PlacedLexeme} {x : Value s} {k : PlacedLexeme} →
     Derives rules s (need c go) ts x → ts ≡ k ∷ us → ((v : Value r) → Passes c k v → ⊥) → ⊥
 no_need {c = c} {k = k} (plain.needed {v = v} q d) e n = let same : q.token ≡ k = cc in n v (subst (λ j. Passes c j v) same q.passes)
 
-read_first : {r s : Kind} {a : Symbol r} {go : Value r → Rule s} {ts us : List BToken} {x : Value s} {k : BToken} → empty a ≡ None →
-    Derives rules s (read a go) ts x → ts ≡ k ∷ us → (z : Value r) × (vs : List BToken) × Derives rules r (rule a) (k ∷ vs) z
+read_first : {r s : Kind} {a : Symbol r} {go : Value r → Rule s} {ts us : List PlacedLexeme} {x : Value s} {k : PlacedLexeme} → empty a ≡ None →
+    Derives rules s (read a go) ts x → ts ≡ k ∷ us → (z : Value r) × (vs : List PlacedLexeme) × Derives rules r (rule a) (k ∷ vs) z
 read_first n (plain.called {a = a} {ts = []} {y = z} d d') e = let h : None ≡ Some z = sym n ∙ empty_right a z d in absurd (cc)
 read_first {k = k} n (plain.called {r = r} {a = a} {ts = j ∷ ts} {y = z} d d') e =
     let same : j ≡ k = cc in (z, ts, subst (λ i. Derives rules r (rule a) (i ∷ ts) z) same d)
@@ -200,15 +200,15 @@ read_first {k = k} n (plain.called {r = r} {a = a} {ts = j ∷ ts} {y = z} d d')
 pub name_is : {x y : List ℕ} → tok.Name x ≡ tok.Name y → x ≡ y
 name_is e = cc
 
-pub not_word : {q : List ℕ} (k : BToken) (x : Word) → is_reserved (word_text x) ≡ true → k.tok ≡ tok.Name q → is_reserved q ≡ false → k.tok ≡ word_tok x → ⊥
+pub not_word : {q : List ℕ} (k : PlacedLexeme) (x : Word) → is_reserved (word_text x) ≡ true → k.tok ≡ tok.Name q → is_reserved q ≡ false → k.tok ≡ word_tok x → ⊥
 not_word {q = q} k x yes_it_is e free f = let same : q ≡ word_text x = name_is (sym e ∙ f) in both_ways _ (subst (λ y. is_reserved y ≡ false) same free) yes_it_is
 
-pub not_variable : {q : List ℕ} (k : BToken) (locals : List (List ℕ)) (i : ℕ) → k.tok ≡ tok.Name q → is_among q locals ≡ false → v.IsVariable locals k.tok i → ⊥
+pub not_variable : {q : List ℕ} (k : PlacedLexeme) (locals : List (List ℕ)) (i : ℕ) → k.tok ≡ tok.Name q → is_among q locals ≡ false → v.IsVariable locals k.tok i → ⊥
 not_variable {q = q} k locals i e new p =
     let same : p.name ≡ q = name_is (sym p.is ∙ e) in
     both_ways _ new (there q locals i (subst (λ y. v.number_of y locals ≡ Some i) same p.there))
 
-not_first : (x : g.Scope) {q : List ℕ} {k : BToken} {ts us : List BToken} {e : t.BExpr} → Derives rules v.expr (rule (g.Expr x)) ts e → ts ≡ k ∷ us →
+not_first : (x : g.Scope) {q : List ℕ} {k : PlacedLexeme} {ts us : List PlacedLexeme} {e : t.BExpr} → Derives rules v.expr (rule (g.Expr x)) ts e → ts ≡ k ∷ us →
     k.tok ≡ tok.Name q → is_reserved q ≡ false → is_among q x.locals ≡ false → ⊥
 not_first x {q = q} {k = k} {ts = ts} {e = e} d is name free new =
     let d = pass_by d is (λ v p. let no_number : tok.Number v ≡ tok.Name q = sym p ∙ name in cc) in
@@ -227,12 +227,12 @@ not_first x {q = q} {k = k} {ts = ts} {e = e} d is name free new =
     (λ some. when (a_variable x.locals some) (λ i. g.named x i) (g.in_parens x)) (g.in_parens x)
     (λ some h. no_paren x (pass_by h is (λ i p. not_variable k x.locals i name new p)) is name)
     (λ h. no_paren x h is name) d where
-      no_paren : (x : g.Scope) {q : List ℕ} {k : BToken} {ts us : List BToken} {e : t.BExpr} → Derives rules v.expr (g.in_parens x) ts e → ts ≡ k ∷ us → k.tok ≡ tok.Name q → ⊥
+      no_paren : (x : g.Scope) {q : List ℕ} {k : PlacedLexeme} {ts us : List PlacedLexeme} {e : t.BExpr} → Derives rules v.expr (g.in_parens x) ts e → ts ≡ k ∷ us → k.tok ≡ tok.Name q → ⊥
       no_paren x {q = q} d is name = no_need d is (λ v p. let no_sign : tok.Sign sign.OpenParen ≡ tok.Name q = sym p ∙ name in cc)
 
 -- the next token tells how to read on
 
-abbrev Good : (s : Kind) → (Value s → BToken → Type 0) → Rule s → Type 0
+abbrev Good : (s : Kind) → (Value s → PlacedLexeme → Type 0) → Rule s → Type 0
 Good s E a = grammar.Good rules table s E a
 
 abbrev Tells : (s : Kind) → (Value s → List ℕ) → Rule s → Type 0
@@ -327,5 +327,5 @@ good (g.BoundRest qs) = tells_good (ext_codes (g.BoundRest qs)) (tells_rest qs)
 good (g.Exprs x) = tells_good (ext_codes (g.Exprs x)) (tr (λ z k h. h) (λ z. refl) (λ a. tr (λ z k h. h) (λ z. refl) (λ z. te)))
 good (g.MoreExprs x es) = tells_good (ext_codes (g.MoreExprs x es)) (tw refl (λ _. tr (λ z k h. h) (λ z. refl) (λ a. tr (λ z k h. h) (λ z. refl) (λ z. te))) (tn (λ _. te)))
 
-pub complete : {s : Kind} (a : Symbol s) {ts : List BToken} {x : Value s} → Derives rules s (rule a) ts x → Reads rules s (rule a) ts x []
+pub complete : {s : Kind} (a : Symbol s) {ts : List PlacedLexeme} {x : Value s} → Derives rules s (rule a) ts x → Reads rules s (rule a) ts x []
 complete a d = grammar.complete rules table (λ s b. good b) a d

@@ -2,9 +2,9 @@
 use Rattle.std.proofs.Common.{◌≡◌, ◌∙◌, ℕ, List, ◌∷◌, ◌++◌, Option, Some, take, drop, length, refl, sym, ap, subst}
 use Rattle.vb_base.proofs.Fronts.{one_label}
 use Rattle.vb_base.proofs.PlaceLaws.{one_place_after}
-use Rattle.boogie_grammar.specs.declared.tokens.BTok.{BTok}
-use Rattle.boogie_grammar.specs.declared.tokens.BTok.TheVariants as tok
-use Rattle.boogie_grammar.specs.declared.tokens.BToken.{BToken}
+use Rattle.boogie_grammar.specs.declared.tokens.Lexeme.{Lexeme}
+use Rattle.boogie_grammar.specs.declared.tokens.Lexeme.TheVariants as tok
+use Rattle.boogie_grammar.specs.declared.tokens.PlacedLexeme.{PlacedLexeme}
 use Rattle.boogie_grammar.specs.Words.{sign_text}
 use Rattle.boogie_grammar.specs.Pieces.{Class, Piece, blank, name, number, text, comment, sign}
 use Rattle.boogie_grammar.specs.Cut.{IsCut, end, piece, onto}
@@ -12,7 +12,7 @@ use Rattle.boogie_grammar.specs.Cut.{IsCut, end, piece, onto}
 same_some : {X : Type 0} {x y : X} → Some x ≡ Some y → x ≡ y
 same_some h = cc
 
-pub one_piece : {c : Class} {bytes : List ℕ} {o q : Option BTok} {n m : ℕ} → Piece c bytes o n → Piece c bytes q m → (o ≡ q) × (n ≡ m)
+pub one_piece : {c : Class} {bytes : List ℕ} {o q : Option Lexeme} {n m : ℕ} → Piece c bytes o n → Piece c bytes q m → (o ≡ q) × (n ≡ m)
 one_piece blank blank = (refl, refl)
 one_piece name name = (refl, refl)
 one_piece (number h) (number k) = (refl, refl)
@@ -22,7 +22,7 @@ one_piece comment (sign n k) = absurd (cc)
 one_piece (sign n h) comment = absurd (cc)
 one_piece (sign _ h) (sign _ k) = let same = same_some (sym h ∙ k) in (ap (λ o. Some (tok.Sign o)) same, ap (λ o. length (sign_text o)) same)
 
-pub one_cut : {before rest : List ℕ} {ts us : List BToken} → IsCut before rest ts → IsCut before rest us → ts ≡ us
+pub one_cut : {before rest : List ℕ} {ts us : List PlacedLexeme} → IsCut before rest ts → IsCut before rest us → ts ≡ us
 one_cut end end = refl
 one_cut (piece {before = before} {bytes = bytes} {b = b} {o = o} {at = at} {tokens = ts} p a h) (piece {o = q} {at = place} {tokens = us} r c k) =
     let same = one_piece p r in

@@ -1,7 +1,7 @@
 -- The rule of an expression, by what is next.
 use Rattle.std.proofs.Common.{◌≡◌, sym, subst, List}
 use Rattle.boogie_tree.specs.Expr as t
-use Rattle.boogie_grammar.specs.declared.tokens.BToken.{BToken}
+use Rattle.boogie_grammar.specs.declared.tokens.PlacedLexeme.{PlacedLexeme}
 use Rattle.boogie_grammar.specs.declared.tokens.Word.TheVariants as w
 use Rattle.boogie_grammar.specs.Tests as v
 use Rattle.boogie_grammar.specs.Tests.{the_word, a_variable, some_free}
@@ -22,11 +22,11 @@ at_pair x = when (the_word w.SPair) (λ _. g.paired x) (at_variable x)
 abbrev pub at_wrap : g.Scope → Rule v.expr
 at_wrap x = g.wraps x (at_pair x)
 
-pub one_leaf : (x : g.Scope) {ts us : List BToken} {e f : t.BExpr} → ReadsLeaf ts e us → f ≡ e → Reads v.expr (g.rule (g.Expr x)) ts f us
+pub one_leaf : (x : g.Scope) {ts us : List PlacedLexeme} {e f : t.BExpr} → ReadsLeaf ts e us → f ≡ e → Reads v.expr (g.rule (g.Expr x)) ts f us
 one_leaf x {ts = ts} {us = us} h same = subst (λ y. Reads v.expr (g.rule (g.Expr x)) ts y us) (sym same) (h (at_wrap x))
 
-pub no_leaf : (x : g.Scope) {ts : List BToken} → NoLeaf ts → Goes (g.rule (g.Expr x)) ts (at_wrap x) ts
+pub no_leaf : (x : g.Scope) {ts : List PlacedLexeme} → NoLeaf ts → Goes (g.rule (g.Expr x)) ts (at_wrap x) ts
 no_leaf x n = n (at_wrap x)
 
-pub no_wrap : (x : g.Scope) {ts : List BToken} → NoLeaf ts → NoWrap ts → Goes (g.rule (g.Expr x)) ts (at_pair x) ts
+pub no_wrap : (x : g.Scope) {ts : List PlacedLexeme} → NoLeaf ts → NoWrap ts → Goes (g.rule (g.Expr x)) ts (at_pair x) ts
 no_wrap x n m = goes_then (no_leaf x n) (m x (at_pair x))

@@ -13,8 +13,8 @@ use Rattle.boogie_tree.specs.declared.exprs.BBase.TheVariants as base
 use Rattle.boogie_tree.specs.declared.exprs.BOp.{BOp}
 use Rattle.boogie_grammar.specs.declared.tokens.BSign.{BSign}
 use Rattle.boogie_grammar.specs.declared.tokens.BSign.TheVariants as sign
-use Rattle.boogie_grammar.specs.declared.tokens.BTok.TheVariants as tok
-use Rattle.boogie_grammar.specs.declared.tokens.BToken.{BToken}
+use Rattle.boogie_grammar.specs.declared.tokens.Lexeme.TheVariants as tok
+use Rattle.boogie_grammar.specs.declared.tokens.PlacedLexeme.{PlacedLexeme}
 use Rattle.boogie_grammar.specs.declared.tokens.Word.{Word}
 use Rattle.boogie_grammar.specs.declared.tokens.Word.TheVariants as w
 use Rattle.boogie_grammar.specs.Words.{word_tok, base_word, operator_tok, is_among, is_reserved}
@@ -36,35 +36,35 @@ use Rattle.boogie_text.proofs.VarLaws.{IsVar, some_is_free, head_of, tail_of}
 
 -- a text is cut into tokens that are derived from a rule, in front of anything that ends it
 pub record Shown (bytes : List ℕ) {s : Kind} (a : Rule s) (x : Value s) : Type 0 where
-  pub tokens : List BToken
+  pub tokens : List PlacedLexeme
   pub spelled : Derives rules s a tokens x
-  pub row : (rest : List ℕ) (ts : List BToken) → Ends rest → IsRow rest ts → IsRow (bytes ++ rest) (tokens ++ ts)
+  pub row : (rest : List ℕ) (ts : List PlacedLexeme) → Ends rest → IsRow rest ts → IsRow (bytes ++ rest) (tokens ++ ts)
 
 -- derivations whose tokens stand at some place
 
-pub sign_first : {s : Kind} {o : BSign} {go : Value v.nothing → Rule s} {us : List BToken} {x : Value s} → Derives rules s (go tt) us x →
+pub sign_first : {s : Kind} {o : BSign} {go : Value v.nothing → Rule s} {us : List PlacedLexeme} {x : Value s} → Derives rules s (go tt) us x →
     Derives rules s (need (the_sign o) go) (at_start (tok.Sign o) ∷ us) x
 sign_first {o = o} d = needed (record { token = at_start (tok.Sign o); is = refl; passes = refl }) d
 
-pub sign_taken : {s : Kind} {o : BSign} {go : Value v.nothing → Rule s} {other : Rule s} {us : List BToken} {x : Value s} → Derives rules s (go tt) us x →
+pub sign_taken : {s : Kind} {o : BSign} {go : Value v.nothing → Rule s} {other : Rule s} {us : List PlacedLexeme} {x : Value s} → Derives rules s (go tt) us x →
     Derives rules s (when (the_sign o) go other) (at_start (tok.Sign o) ∷ us) x
 sign_taken {o = o} d = taken (record { token = at_start (tok.Sign o); is = refl; passes = refl }) d
 
-pub word_first : {s : Kind} {a : Word} {go : Value v.nothing → Rule s} {us : List BToken} {x : Value s} → Derives rules s (go tt) us x →
+pub word_first : {s : Kind} {a : Word} {go : Value v.nothing → Rule s} {us : List PlacedLexeme} {x : Value s} → Derives rules s (go tt) us x →
     Derives rules s (need (the_word a) go) (at_start (word_tok a) ∷ us) x
 word_first {a = a} d = needed (record { token = at_start (word_tok a); is = refl; passes = refl }) d
 
-pub word_taken : {s : Kind} {a : Word} {go : Value v.nothing → Rule s} {other : Rule s} {us : List BToken} {x : Value s} → Derives rules s (go tt) us x →
+pub word_taken : {s : Kind} {a : Word} {go : Value v.nothing → Rule s} {other : Rule s} {us : List PlacedLexeme} {x : Value s} → Derives rules s (go tt) us x →
     Derives rules s (when (the_word a) go other) (at_start (word_tok a) ∷ us) x
 word_taken {a = a} d = taken (record { token = at_start (word_tok a); is = refl; passes = refl }) d
 
-pub tail_derives : {s : Kind} {a : Symbol s} {ts : List BToken} {x : Value s} → Derives rules s (rule a) ts x → Derives rules s (read a give) ts x
+pub tail_derives : {s : Kind} {a : Symbol s} {ts : List PlacedLexeme} {x : Value s} → Derives rules s (rule a) ts x → Derives rules s (read a give) ts x
 tail_derives {s = s} {a = a} {ts = ts} {x = x} d = subst (λ l. Derives rules s (read a give) l x) (append-nil ts) (called {a = a} {go = give} d given)
 
-pub simple_passed : (y : Scope) {others : Rule v.expr} {ts : List BToken} {e : t.BExpr} → Derives rules v.expr others ts e → Derives rules v.expr (g.simple y others) ts e
+pub simple_passed : (y : Scope) {others : Rule v.expr} {ts : List PlacedLexeme} {e : t.BExpr} → Derives rules v.expr others ts e → Derives rules v.expr (g.simple y others) ts e
 simple_passed y d = passed (passed (passed (passed (passed (passed (passed (passed (passed (passed (passed (passed d)))))))))))
 
-parens : (y : Scope) {ts : List BToken} {e : t.BExpr} → Derives rules v.expr (rule (g.InParens y)) ts e → Derives rules v.expr (rule (g.Expr y)) (at_start (tok.Sign sign.OpenParen) ∷ ts) e
+parens : (y : Scope) {ts : List PlacedLexeme} {e : t.BExpr} → Derives rules v.expr (rule (g.InParens y)) ts e → Derives rules v.expr (rule (g.Expr y)) (at_start (tok.Sign sign.OpenParen) ∷ ts) e
 parens y {ts = ts} {e = e} d =
     let inner : Derives rules v.expr (g.in_parens y) (at_start (tok.Sign sign.OpenParen) ∷ ts) e = sign_first (tail_derives {a = g.InParens y} d) in
     simple_passed y (by_where (λ r. Derives rules v.expr r (at_start (tok.Sign sign.OpenParen) ∷ ts) e) (v.some_free y.locals)
@@ -75,7 +75,7 @@ pub where_yes : {s : Kind} (P : Rule s → Type 0) (b : Truth) (some : b ≡ tru
 where_yes P true some other e f = f refl
 where_yes P false some other e f = absurd (cc)
 
-variable : (y : Scope) (i : ℕ) {ts : List BToken} {e : t.BExpr} → IsVar y.locals i → Derives rules v.expr (g.named y i) ts e →
+variable : (y : Scope) (i : ℕ) {ts : List PlacedLexeme} {e : t.BExpr} → IsVar y.locals i → Derives rules v.expr (g.named y i) ts e →
     Derives rules v.expr (rule (g.Expr y)) (at_start (tok.Name (name_at y.locals i)) ∷ ts) e
 variable y i {ts = ts} {e = e} h d =
     simple_passed y (where_yes (λ r. Derives rules v.expr r (at_start (tok.Name (name_at y.locals i)) ∷ ts) e) (v.some_free y.locals)
@@ -85,7 +85,7 @@ variable y i {ts = ts} {e = e} h d =
 pub ends : {b : ℕ} {rest : List ℕ} → prefix_len is_name_byte (b ∷ rest) ≡ 0 → prefix_len is_ascii_digit (b ∷ rest) ≡ 0 → is_point_zero (b ∷ rest) ≡ false → Ends (b ∷ rest)
 ends h k l = record { name_ends = h; number_ends = k; point_ends = l }
 
-binary_in : (y : Scope) {ts : List BToken} {e : t.BExpr} → Derives rules v.expr (g.binary y) ts e → Derives rules v.expr (rule (g.InParens y)) ts e
+binary_in : (y : Scope) {ts : List PlacedLexeme} {e : t.BExpr} → Derives rules v.expr (g.binary y) ts e → Derives rules v.expr (rule (g.InParens y)) ts e
 binary_in y {ts = ts} {e = e} d =
     passed (passed (passed (by_bound (λ r. Derives rules v.expr r ts e) y.bound (when (the_word w.Forall) (λ _. read (g.Binders y g.no_binding) (λ b. g.quantified y b)) (g.binary y)) (g.binary y) (passed d) d)))
 
@@ -250,11 +250,11 @@ list_exprs (t.more a es) = ap (t.more a) (list_exprs es)
 
 -- what is written up to a `]`, in front of the `]`
 pub record Listed (bytes : List ℕ) {s : Kind} (a : Rule s) (x : Value s) : Type 0 where
-  pub tokens : List BToken
+  pub tokens : List PlacedLexeme
   pub spelled : Derives rules s a tokens x
-  pub row : (rest : List ℕ) (ts : List BToken) → IsRow rest ts → IsRow (bytes ++ (93 ∷ rest)) (tokens ++ ts)
+  pub row : (rest : List ℕ) (ts : List PlacedLexeme) → IsRow rest ts → IsRow (bytes ++ (93 ∷ rest)) (tokens ++ ts)
 
-pub value_at : {s : Kind} {a : Rule s} {ts : List BToken} {x y : Value s} → x ≡ y → Derives rules s a ts x → Derives rules s a ts y
+pub value_at : {s : Kind} {a : Rule s} {ts : List PlacedLexeme} {x y : Value s} → x ≡ y → Derives rules s a ts x → Derives rules s a ts y
 value_at {s = s} {a = a} {ts = ts} e d = subst (λ z. Derives rules s a ts z) e d
 
 no_more : (x : Naming) (all : List t.BExpr) → Listed (exprs_text x (codes ", ") t.none) (rule (g.MoreExprs (scope_of x) all)) (all ++ [])
@@ -286,13 +286,13 @@ first_shown x a es h i = record {
   row = λ rest ts k. simp append_assoc (h.row _ _ (more_ends x es rest) (i.row rest ts k));
 }
 
-at_derives : (y : Scope) (i : ℕ) (qs : List (List ℕ)) {ts : List BToken} {e : t.BExpr} → Derives rules v.expr (g.at_indices y i) ts e → Derives rules v.expr (g.indices y i qs) ts e
+at_derives : (y : Scope) (i : ℕ) (qs : List (List ℕ)) {ts : List PlacedLexeme} {e : t.BExpr} → Derives rules v.expr (g.at_indices y i) ts e → Derives rules v.expr (g.indices y i qs) ts e
 at_derives y i [] d = d
 at_derives y i (q ∷ qs) {ts = ts} {e = e} d =
     by_where (λ r. Derives rules v.expr r ts e) (not (is_reserved q) && not (is_among q y.locals))
     (λ _. when (the_name q) (λ _. read (g.BoundRest qs) (λ _. give (t.AtBound i))) (g.at_indices y i)) (g.at_indices y i) (λ h. passed d) d
 
-named_at : (x : Naming) (i : ℕ) {ts : List BToken} {e : t.BExpr} → Derives rules v.expr (rule (g.Indices (scope_of x) i)) ts e →
+named_at : (x : Naming) (i : ℕ) {ts : List PlacedLexeme} {e : t.BExpr} → Derives rules v.expr (rule (g.Indices (scope_of x) i)) ts e →
     Derives rules v.expr (g.named (scope_of x) i) (at_start (tok.Sign sign.OpenBracket) ∷ ts) e
 named_at x i d = sign_taken (tail_derives {a = g.Indices (scope_of x) i} d)
 
@@ -324,7 +324,7 @@ rest_shown locals (q ∷ qs) h =
       names_end [] rest = refl
       names_end (q ∷ qs) rest = refl
 
-bound_derives : (y : Scope) (i : ℕ) (q : List ℕ) (qs : List (List ℕ)) {ts : List BToken} → IsNew y.locals q → Derives rules v.nothing (rule (g.BoundRest qs)) ts tt →
+bound_derives : (y : Scope) (i : ℕ) (q : List ℕ) (qs : List (List ℕ)) {ts : List PlacedLexeme} → IsNew y.locals q → Derives rules v.nothing (rule (g.BoundRest qs)) ts tt →
     Derives rules v.expr (g.indices y i (q ∷ qs)) (at_start (tok.Name q) ∷ (ts ++ [])) (t.AtBound i)
 bound_derives y i q qs {ts = ts} new d =
     where_yes (λ r. Derives rules v.expr r (at_start (tok.Name q) ∷ (ts ++ [])) (t.AtBound i)) (not (is_reserved q) && not (is_among q y.locals))
@@ -340,7 +340,7 @@ at_bound_shown : (x : Naming) (i : ℕ) (q : List ℕ) (qs : List (List ℕ)) �
 at_bound_shown x i q qs same new h =
     let more = rest_shown x.locals qs (tail_of (IsNew x.locals) q qs new) in
     let first_new = head_of (IsNew x.locals) q qs new in
-    let tokens : List BToken = at_start (tok.Name (name_at x.locals i)) ∷ at_start (tok.Sign sign.OpenBracket) ∷ at_start (tok.Name q) ∷ (more.tokens ++ []) in
+    let tokens : List PlacedLexeme = at_start (tok.Name (name_at x.locals i)) ∷ at_start (tok.Sign sign.OpenBracket) ∷ at_start (tok.Name q) ∷ (more.tokens ++ []) in
     record {
       tokens = tokens;
       spelled = variable (scope_of x) i h (named_at x i (subst (λ l. Derives rules v.expr (g.indices (scope_of x) i l) (at_start (tok.Name q) ∷ (more.tokens ++ [])) (t.AtBound i)) (sym same)
@@ -384,9 +384,9 @@ new_bounds x n ready (u ∷ us) chosen short =
 
 -- what is written up to a blank, in front of the blank
 record Spaced (bytes : List ℕ) {s : Kind} (a : Rule s) (x : Value s) : Type 0 where
-  tokens : List BToken
+  tokens : List PlacedLexeme
   spelled : Derives rules s a tokens x
-  row : (rest : List ℕ) (ts : List BToken) → IsRow (32 ∷ rest) ts → IsRow (bytes ++ (32 ∷ rest)) (tokens ++ ts)
+  row : (rest : List ℕ) (ts : List PlacedLexeme) → IsRow (32 ∷ rest) ts → IsRow (bytes ++ (32 ∷ rest)) (tokens ++ ts)
 
 -- what follows a bound variable
 abbrev after_binder : Scope → Binding → Rule v.binding
@@ -395,7 +395,7 @@ after_binder y b = when (the_sign sign.Comma) (λ _. read (g.Binders y b) give) 
 abbrev with_more : Naming → List BBase → Binding → Binding
 with_more x us b = record { names = b.names ++ bound_names x.taken b.names us; types = b.types ++ us }
 
-pub base_row : (u : BBase) (rest : List ℕ) (ts : List BToken) → prefix_len is_name_byte rest ≡ 0 → IsRow rest ts → IsRow (base_text u ++ rest) (at_start (word_tok (base_word u)) ∷ ts)
+pub base_row : (u : BBase) (rest : List ℕ) (ts : List PlacedLexeme) → prefix_len is_name_byte rest ≡ 0 → IsRow rest ts → IsRow (base_text u ++ rest) (at_start (word_tok (base_word u)) ∷ ts)
 base_row base.Int rest ts e h = name_row 105 (codes "nt") rest refl e h
 base_row base.Bool rest ts e h = name_row 98 (codes "ool") rest refl e h
 base_row base.Ref rest ts e h = name_row 82 (codes "ef") rest refl e h
@@ -410,7 +410,7 @@ binders_end (x ∷ xs) (u ∷ us) rest = refl
 new_among : (q : List ℕ) (locals chosen : List (List ℕ)) → is_among q locals ≡ false → is_among q chosen ≡ false → is_among q (locals ++ chosen) ≡ false
 new_among q locals chosen h k = either q locals chosen ∙ or_from _ _ h k
 
-binder_derives : (x : Naming) (b : Binding) (q : List ℕ) (u : BBase) {ts : List BToken} {z : Binding} → Chosen x.locals b.names q → is_key u ≡ true →
+binder_derives : (x : Naming) (b : Binding) (q : List ℕ) (u : BBase) {ts : List PlacedLexeme} {z : Binding} → Chosen x.locals b.names q → is_key u ≡ true →
     Derives rules v.binding (after_binder (scope_of x) (g.bind b q u)) ts z →
     Derives rules v.binding (rule (g.Binders (scope_of x) b)) (at_start (tok.Name q) ∷ at_start (tok.Sign sign.Colon) ∷ at_start (word_tok (base_word u)) ∷ ts) z
 binder_derives x b q u h key d =
@@ -453,15 +453,15 @@ first_binders x n ready u us keys short =
       row = λ rest ts h. simp append_assoc (free_row q _ chosen.new.form refl (colon_row (blank_row (base_row u _ _ (binders_end _ us rest) (more.row rest ts h)))));
     }
 
-forall_in : (x : Naming) {ts : List BToken} {e : t.BExpr} → x.bound ≡ [] → Derives rules v.expr (read (g.Binders (scope_of x) g.no_binding) (λ b. g.quantified (scope_of x) b)) ts e →
+forall_in : (x : Naming) {ts : List PlacedLexeme} {e : t.BExpr} → x.bound ≡ [] → Derives rules v.expr (read (g.Binders (scope_of x) g.no_binding) (λ b. g.quantified (scope_of x) b)) ts e →
     Derives rules v.expr (rule (g.InParens (scope_of x))) (at_start (word_tok w.Forall) ∷ ts) e
 forall_in x {ts = ts} {e = e} none d =
     passed (passed (passed (subst (λ l. Derives rules v.expr (g.unless_bound l (when (the_word w.Forall) (λ _. read (g.Binders (scope_of x) g.no_binding) (λ b. g.quantified (scope_of x) b)) (g.binary (scope_of x))) (g.binary (scope_of x)))
     (at_start (word_tok w.Forall) ∷ ts) e) (sym none) (word_taken d))))
 
 -- whatever binders and body are made of
-forall_row : (binders body : List ℕ) (us vs : List BToken) → ((rest : List ℕ) (ts : List BToken) → IsRow (32 ∷ rest) ts → IsRow (binders ++ (32 ∷ rest)) (us ++ ts)) →
-    ((rest : List ℕ) (ts : List BToken) → Ends rest → IsRow rest ts → IsRow (body ++ rest) (vs ++ ts)) → (rest : List ℕ) (ts : List BToken) → IsRow rest ts →
+forall_row : (binders body : List ℕ) (us vs : List PlacedLexeme) → ((rest : List ℕ) (ts : List PlacedLexeme) → IsRow (32 ∷ rest) ts → IsRow (binders ++ (32 ∷ rest)) (us ++ ts)) →
+    ((rest : List ℕ) (ts : List PlacedLexeme) → Ends rest → IsRow rest ts → IsRow (body ++ rest) (vs ++ ts)) → (rest : List ℕ) (ts : List PlacedLexeme) → IsRow rest ts →
     IsRow ((codes "(forall " ++ binders ++ codes " :: " ++ body ++ codes ")") ++ rest)
     ((at_start (tok.Sign sign.OpenParen) ∷ at_start (word_tok w.Forall) ∷ (us ++ at_start (tok.Sign sign.Bounds) ∷ (vs ++ at_start (tok.Sign sign.CloseParen) ∷ []))) ++ ts)
 forall_row binders body us vs f h rest ts k =

@@ -9,7 +9,7 @@ use Rattle.boogie_tree.specs.Program.{BProgram}
 use Rattle.boogie_tree.specs.Text.{prelude}
 use Rattle.boogie_grammar.specs.declared.faults.BoogieFault.{BoogieFault}
 use Rattle.boogie_grammar.specs.declared.faults.BoogieFault.TheVariants as fault
-use Rattle.boogie_grammar.specs.declared.tokens.BToken.{BToken}
+use Rattle.boogie_grammar.specs.declared.tokens.PlacedLexeme.{PlacedLexeme}
 use Rattle.boogie_grammar.specs.Cut.{IsCut, IsRow, piece}
 use Rattle.boogie_grammar.specs.Depth.{IsShallow, IsTooDeep}
 use Rattle.boogie_grammar.specs.Spells.{BSpells, IsProgram}
@@ -45,33 +45,33 @@ one_stop (s.later {before = before} {bytes = bytes} {b = b} p h) (s.later {at = 
     let At : ℕ → Type 0 = λ n. Stops (before ++ take n (b ∷ bytes)) (drop n (b ∷ bytes)) q in
     one_stop h (subst At (sym (one_piece p r).1) k)
 
-pub never_both : {before rest : List ℕ} {at : Pos} {ts : List BToken} → Stops before rest at → IsCut before rest ts → ⊥
+pub never_both : {before rest : List ℕ} {at : Pos} {ts : List PlacedLexeme} → Stops before rest at → IsCut before rest ts → ⊥
 never_both (s.here n a) (piece p b h) = n _ _ p
 never_both (s.later {before = before} {bytes = bytes} {b = b} p h) (piece {tokens = ts} r a k) =
     let At : ℕ → Type 0 = λ n. IsCut (before ++ take n (b ∷ bytes)) (drop n (b ∷ bytes)) ts in
     never_both h (subst At (sym (one_piece p r).1) k)
 
-pub not_shallow : {ts : List BToken} {at : Pos} → IsTooDeep ts at → IsShallow ts → ⊥
+pub not_shallow : {ts : List PlacedLexeme} {at : Pos} → IsTooDeep ts at → IsShallow ts → ⊥
 not_shallow d h = let l = h (d.index + 1) in let a = d.above in omega arith
 
-same_token : {k j : BToken} → Some k ≡ Some j → k ≡ j
+same_token : {k j : PlacedLexeme} → Some k ≡ Some j → k ≡ j
 same_token e = cc
 
-one_index : {ts : List BToken} {p q : Pos} (d : IsTooDeep ts p) (e : IsTooDeep ts q) → d.index ≡ e.index
+one_index : {ts : List PlacedLexeme} {p q : Pos} (d : IsTooDeep ts p) (e : IsTooDeep ts q) → d.index ≡ e.index
 one_index d e = elim (cases_order d.index e.index) [
   | inl same ↦ same
   | inr (inl lt) ↦ absurd (let l = e.before (d.index + 1) (omega arith) in let a = d.above in omega arith)
   | inr (inr lt) ↦ absurd (let l = d.before (e.index + 1) (omega arith) in let a = e.above in omega arith)
 ]
 
-pub one_depth : {ts : List BToken} {p q : Pos} → IsTooDeep ts p → IsTooDeep ts q → p ≡ q
+pub one_depth : {ts : List PlacedLexeme} {p q : Pos} → IsTooDeep ts p → IsTooDeep ts q → p ≡ q
 one_depth {ts = ts} d e =
     let same = same_token (sym d.here ∙ ap (slice_get ts) (one_index d e) ∙ e.here) in
     sym d.place ∙ ap (λ k. k.pos) same ∙ e.place
 
 -- the same tokens
 
-pub cut_as : {bytes rest left : List ℕ} {ts us : List BToken} → bytes ≡ prelude ++ rest → bytes ≡ prelude ++ left → IsCut prelude rest ts → IsCut prelude left us → us ≡ ts
+pub cut_as : {bytes rest left : List ℕ} {ts us : List PlacedLexeme} → bytes ≡ prelude ++ rest → bytes ≡ prelude ++ left → IsCut prelude rest ts → IsCut prelude left us → us ≡ ts
 cut_as {rest = rest} {left = left} {us = us} e f h k =
     let same : left ≡ rest = append-same_front prelude (sym f ∙ e) in
     sym (one_cut h (subst (λ r. IsCut prelude r us) same k))
@@ -102,7 +102,7 @@ one_fault bytes _ _ (no_program {ts = ts} {i = x} {end = p} e h i n j k) (no_pro
     let last : q ≡ p = one_place_after bytes q p w k in
     ap fault.Syntax (sym (ap (λ z. place_at z y q) same ∙ ap (λ z. place_at ts z q) number ∙ ap (λ z. place_at ts x z) last))
 
-pub row_as : {bytes rest left : List ℕ} {ts : List BToken} → bytes ≡ prelude ++ rest → bytes ≡ prelude ++ left → IsCut prelude left ts → IsRow rest ts
+pub row_as : {bytes rest left : List ℕ} {ts : List PlacedLexeme} → bytes ≡ prelude ++ rest → bytes ≡ prelude ++ left → IsCut prelude left ts → IsRow rest ts
 row_as {ts = ts} e f h = subst (λ r. IsRow r ts) (append-same_front prelude (sym f ∙ e)) (row_of h)
 
 -- what spells a program is refused for its brackets alone

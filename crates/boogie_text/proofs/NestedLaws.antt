@@ -12,8 +12,8 @@ use Rattle.boogie_tree.specs.declared.exprs.BOp.{BOp}
 use Rattle.boogie_tree.specs.declared.exprs.BOp.TheVariants as op
 use Rattle.boogie_grammar.specs.declared.tokens.BSign.{BSign}
 use Rattle.boogie_grammar.specs.declared.tokens.BSign.TheVariants as sign
-use Rattle.boogie_grammar.specs.declared.tokens.BTok.TheVariants as tok
-use Rattle.boogie_grammar.specs.declared.tokens.BToken.{BToken}
+use Rattle.boogie_grammar.specs.declared.tokens.Lexeme.TheVariants as tok
+use Rattle.boogie_grammar.specs.declared.tokens.PlacedLexeme.{PlacedLexeme}
 use Rattle.boogie_grammar.specs.declared.tokens.Word.TheVariants as w
 use Rattle.boogie_grammar.specs.Words.{operator_tok, is_reserved, is_among}
 use Rattle.boogie_grammar.specs.Tests as v
@@ -26,15 +26,15 @@ use Rattle.boogie_grammar.specs.Spells.{Spells}
 -- ---- tokens
 
 -- from n unclosed brackets on, these tokens leave m, and never more than b
-data Runs (b : ℕ) : ℕ → List BToken → ℕ → Type 0 where
+data Runs (b : ℕ) : ℕ → List PlacedLexeme → ℕ → Type 0 where
   end : {n : ℕ} → n ≤ b → Runs b n [] n
-  step : {n m : ℕ} {k : BToken} {ts : List BToken} → n ≤ b → Runs b (unclosed_with n k.tok) ts m → Runs b n (k ∷ ts) m
+  step : {n m : ℕ} {k : PlacedLexeme} {ts : List PlacedLexeme} → n ≤ b → Runs b (unclosed_with n k.tok) ts m → Runs b n (k ∷ ts) m
 
-both : {b n m k : ℕ} {ts us : List BToken} → Runs b n ts m → Runs b m us k → Runs b n (ts ++ us) k
+both : {b n m k : ℕ} {ts us : List PlacedLexeme} → Runs b n ts m → Runs b m us k → Runs b n (ts ++ us) k
 both (end le) h = h
 both (step le h) i = step le (both h i)
 
-within : {b n m : ℕ} {ts : List BToken} → Runs b n ts m → (i : ℕ) → fold (λ n (k : BToken). unclosed_with n k.tok) n (take i ts) ≤ b
+within : {b n m : ℕ} {ts : List PlacedLexeme} → Runs b n ts m → (i : ℕ) → fold (λ n (k : PlacedLexeme). unclosed_with n k.tok) n (take i ts) ≤ b
 within (end le) zero = le
 within (end le) (suc i) = le
 within (step le h) zero = le
@@ -114,7 +114,7 @@ operator_after op.Divide n = refl
 operator_after op.IntDiv n = refl
 operator_after op.IntMod n = refl
 
-token_after : {b : Truth} {r : Kind} (c : Test b r) (k : BToken) (x : Value r) (n j : ℕ) → Passes c k x → Can (does c) j → unclosed_with (n + j) k.tok ≡ n + after (does c) j
+token_after : {b : Truth} {r : Kind} (c : Test b r) (k : PlacedLexeme) (x : Value r) (n j : ℕ) → Passes c k x → Can (does c) j → unclosed_with (n + j) k.tok ≡ n + after (does c) j
 token_after (v.the_sign o) k x n j p can = rw p (sign_after o n j can)
 token_after (v.the_word w) k x n j p can = rw p refl
 token_after (v.the_name y) k x n j p can = rw p refl
@@ -370,12 +370,12 @@ all_fit (g.MoreExprs y es) = (
 -- ---- derivations
 
 -- what follows for the tokens that are derived from a rule
-record Nests (k : Kind) (depth : Value k → ℕ) (grown : Value k → Type 0) (j d : ℕ) (ts : List BToken) (x : Value k) : Type 0 where
+record Nests (k : Kind) (depth : Value k → ℕ) (grown : Value k → Type 0) (j d : ℕ) (ts : List PlacedLexeme) (x : Value k) : Type 0 where
   within : d ≤ depth x
   grows : grown x
   runs : (n b : ℕ) → n + depth x ≤ b → Runs b (n + j) ts n
 
-first_token : {p : Truth} {r : Kind} {c : Test p r} {ts us : List BToken} {x : Value r} (h : Starts boogie c ts x us) (b n j m : ℕ) → Can (does c) j → n + j ≤ b →
+first_token : {p : Truth} {r : Kind} {c : Test p r} {ts us : List PlacedLexeme} {x : Value r} (h : Starts boogie c ts x us) (b n j m : ℕ) → Can (does c) j → n + j ≤ b →
     Runs b (n + after (does c) j) us m → Runs b (n + j) ts m
 first_token {c = c} {us = us} {x = x} h b n j m can le r =
     subst (λ l. Runs b (n + j) l m) (sym h.is) (step le (subst (λ i. Runs b i us m) (sym (token_after c h.token x n j h.passes can)) r))
@@ -383,10 +383,10 @@ first_token {c = c} {us = us} {x = x} h b n j m can le r =
 nothing : (b n j : ℕ) → j ≡ 0 → n ≤ b → Runs b (n + j) [] n
 nothing b n j none le = let same : n ≡ n + j = omega (arith, none) in subst (λ m. Runs b m [] n) same (end le)
 
-from_there : {b n : ℕ} {ts : List BToken} (i j : ℕ) → i ≡ j → Runs b i ts n → Runs b j ts n
+from_there : {b n : ℕ} {ts : List PlacedLexeme} (i j : ℕ) → i ≡ j → Runs b i ts n → Runs b j ts n
 from_there {b = b} {n = n} {ts = ts} i j same h = subst (λ m. Runs b m ts n) same h
 
-nests : {k : Kind} {a : Rule k} {ts : List BToken} {x : Value k} (depth : Value k → ℕ) (grown : Value k → Type 0) (j d : ℕ) → j ≤ d → Derives rules k a ts x →
+nests : {k : Kind} {a : Rule k} {ts : List PlacedLexeme} {x : Value k} (depth : Value k → ℕ) (grown : Value k → Type 0) (j d : ℕ) → j ≤ d → Derives rules k a ts x →
     Fits depth grown j d a → Nests k depth grown j d ts x
 nests depth grown j d le given fits = record { within = fits.1; grows = fits.2; runs = λ n b room. nothing b n j fits.0 (omega (arith, room)) }
 nests depth grown j d le (needed {c = c} {v = v} h e) fits =
@@ -408,11 +408,11 @@ nests depth grown j d le (called {a = a} {y = y} e f) fits =
       runs = λ n b room. both (from_there (n + i + closes a) (n + j) (omega (arith, fits.0)) (part.runs (n + i) b (omega (arith, room, r.within)))) (r.runs n b room);
     }
 
-pub nested : (ts : List BToken) (p : BProgram) → Spells ts p → (n : ℕ) → unclosed (take n ts) ≤ program_depth p
+pub nested : (ts : List PlacedLexeme) (p : BProgram) → Spells ts p → (n : ℕ) → unclosed (take n ts) ≤ program_depth p
 nested ts p h n =
     let whole = nests procs_depth (λ x. procs_depth [] ≤ procs_depth x) 0 0 (omega arith) h (all_fit (g.Program [])) in
     within (whole.runs 0 (program_depth p) (omega arith)) n
 
 -- so those of a program that is not nested too deep are not unclosed too deep
-pub shallow : (ts : List BToken) (p : BProgram) → Spells ts p → program_depth p ≤ 2048 → IsShallow ts
+pub shallow : (ts : List PlacedLexeme) (p : BProgram) → Spells ts p → program_depth p ≤ 2048 → IsShallow ts
 shallow ts p h small n = let le = nested ts p h n in omega (arith, le, small)

@@ -3,7 +3,7 @@ use Rattle.std.proofs.Common.{◌≡◌, ◌∙◌, ℕ, List, ◌∷◌, [], �
 use Rattle.grammar.proofs.Reading.{one_reading}
 use Rattle.boogie_tree.specs.Program.{BProgram}
 use Rattle.boogie_tree.specs.Text.{prelude}
-use Rattle.boogie_grammar.specs.declared.tokens.BToken.{BToken}
+use Rattle.boogie_grammar.specs.declared.tokens.PlacedLexeme.{PlacedLexeme}
 use Rattle.boogie_grammar.specs.Cut.{IsRow}
 use Rattle.boogie_grammar.specs.Grammar as g
 use Rattle.boogie_grammar.specs.Grammar.{rules}
@@ -15,7 +15,7 @@ use Rattle.boogie_text.proofs.Complete.{complete}
 program_is : (p q : BProgram) → p.procs ≡ q.procs → p ≡ q
 program_is p q e = λ t. record { procs = e t }
 
-pub one_tree : (ts : List BToken) (p q : BProgram) → Spells ts p → Spells ts q → p ≡ q
+pub one_tree : (ts : List PlacedLexeme) (p q : BProgram) → Spells ts p → Spells ts q → p ≡ q
 one_tree ts p q a b = program_is p q (one_reading rules laws (complete (g.Program []) a) (complete (g.Program []) b)).0
 
 same_rest : {x : ℕ} {ys zs : List ℕ} → x ∷ ys ≡ x ∷ zs → ys ≡ zs

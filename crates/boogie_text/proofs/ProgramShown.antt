@@ -13,8 +13,8 @@ use Rattle.boogie_tree.specs.Program.{Local, Proc, BProgram}
 use Rattle.boogie_tree.specs.Values.{is_key, AreKeys}
 use Rattle.boogie_tree.specs.declared.exprs.BBase.{BBase}
 use Rattle.boogie_grammar.specs.declared.tokens.BSign.TheVariants as sign
-use Rattle.boogie_grammar.specs.declared.tokens.BTok.TheVariants as tok
-use Rattle.boogie_grammar.specs.declared.tokens.BToken.{BToken}
+use Rattle.boogie_grammar.specs.declared.tokens.Lexeme.TheVariants as tok
+use Rattle.boogie_grammar.specs.declared.tokens.PlacedLexeme.{PlacedLexeme}
 use Rattle.boogie_grammar.specs.declared.tokens.Word.TheVariants as w
 use Rattle.boogie_grammar.specs.Words.{word_tok, base_word, is_among}
 use Rattle.boogie_grammar.specs.Tests as v
@@ -35,15 +35,15 @@ use Rattle.boogie_text.proofs.ExprShown.{Shown, Listed, Ready, sign_first, sign_
 
 -- a text is cut into tokens that are derived from a rule, whatever follows
 pub record Closed (bytes : List ℕ) {k : Kind} (a : Rule k) (x : Value k) : Type 0 where
-  pub tokens : List BToken
+  pub tokens : List PlacedLexeme
   pub spelled : Derives rules k a tokens x
-  pub row : (rest : List ℕ) (ts : List BToken) → IsRow rest ts → IsRow (bytes ++ rest) (tokens ++ ts)
+  pub row : (rest : List ℕ) (ts : List PlacedLexeme) → IsRow rest ts → IsRow (bytes ++ rest) (tokens ++ ts)
 
 -- what is written up to a `}`, in front of it
 pub record Braced (bytes : List ℕ) {k : Kind} (a : Rule k) (x : Value k) : Type 0 where
-  pub tokens : List BToken
+  pub tokens : List PlacedLexeme
   pub spelled : Derives rules k a tokens x
-  pub row : (rest : List ℕ) (ts : List BToken) → IsRow rest ts → IsRow (bytes ++ (125 ∷ rest)) (tokens ++ ts)
+  pub row : (rest : List ℕ) (ts : List PlacedLexeme) → IsRow rest ts → IsRow (bytes ++ (125 ∷ rest)) (tokens ++ ts)
 
 -- the scope of a statement
 abbrev outside : List (List ℕ) → g.Scope
@@ -57,12 +57,12 @@ ShownStmt names a = Closed (stmt_text (naming names) a) (rule (g.Statement names
 
 -- statements without blocks
 
-changed : (names : List (List ℕ)) {ts : List BToken} {a : s.BStmt} → some_free names ≡ true → ((h : some_free names ≡ true) → Derives rules v.stmt (g.changes names h) ts a) →
+changed : (names : List (List ℕ)) {ts : List PlacedLexeme} {a : s.BStmt} → some_free names ≡ true → ((h : some_free names ≡ true) → Derives rules v.stmt (g.changes names h) ts a) →
     Derives rules v.stmt (rule (g.Statement names)) ts a
 changed names {ts = ts} {a = a} some f =
     passed (passed (where_yes (λ r. Derives rules v.stmt r ts a) (some_free names) (λ h. g.changes names h) (g.conditional names) some f))
 
-at_variable : (names : List (List ℕ)) (i : ℕ) {ts : List BToken} {a : s.BStmt} → IsVar names i → Derives rules v.stmt (g.assignment names i) ts a →
+at_variable : (names : List (List ℕ)) (i : ℕ) {ts : List PlacedLexeme} {a : s.BStmt} → IsVar names i → Derives rules v.stmt (g.assignment names i) ts a →
     Derives rules v.stmt (rule (g.Statement names)) (at_start (tok.Name (name_at names i)) ∷ ts) a
 at_variable names i h d =
     changed names (some_is_free h) (λ some. passed (taken
@@ -75,9 +75,9 @@ assign_shown names i e h k = record {
   row = λ rest ts r. simp append_assoc (free_row (name_at names i) _ h.form refl (blank_row (assign_row (blank_row (k.row _ _ (ends refl refl refl) (semicolon_row (line_row r)))))));
 }
 
-put_row : (name indices value : List ℕ) (us vs : List BToken) → ((rest : List ℕ) (ts : List BToken) → prefix_len is_name_byte rest ≡ 0 → IsRow rest ts → IsRow (name ++ rest) (at_start (tok.Name name) ∷ ts)) →
-    ((rest : List ℕ) (ts : List BToken) → IsRow rest ts → IsRow (indices ++ (93 ∷ rest)) (us ++ ts)) →
-    ((rest : List ℕ) (ts : List BToken) → Ends rest → IsRow rest ts → IsRow (value ++ rest) (vs ++ ts)) → (rest : List ℕ) (ts : List BToken) → IsRow rest ts →
+put_row : (name indices value : List ℕ) (us vs : List PlacedLexeme) → ((rest : List ℕ) (ts : List PlacedLexeme) → prefix_len is_name_byte rest ≡ 0 → IsRow rest ts → IsRow (name ++ rest) (at_start (tok.Name name) ∷ ts)) →
+    ((rest : List ℕ) (ts : List PlacedLexeme) → IsRow rest ts → IsRow (indices ++ (93 ∷ rest)) (us ++ ts)) →
+    ((rest : List ℕ) (ts : List PlacedLexeme) → Ends rest → IsRow rest ts → IsRow (value ++ rest) (vs ++ ts)) → (rest : List ℕ) (ts : List PlacedLexeme) → IsRow rest ts →
     IsRow ((name ++ codes "[" ++ indices ++ codes "] := " ++ value ++ codes ";\n") ++ rest)
     ((at_start (tok.Name name) ∷ at_start (tok.Sign sign.OpenBracket) ∷ (us ++ at_start (tok.Sign sign.Assign) ∷ (vs ++ at_start (tok.Sign sign.Semicolon) ∷ []))) ++ ts)
 put_row name indices value us vs n f h rest ts r =
@@ -108,10 +108,10 @@ assume_shown names e k = record {
 }
 
 -- a label between quotes, whatever its text is made of
-marked : (text : List ℕ) (l : Label) (expression : List ℕ) (tokens : List BToken) →
-    ((rest : List ℕ) (ts : List BToken) → IsRow rest ts → IsRow (34 ∷ (text ++ (34 ∷ rest))) (at_start (tok.Text l) ∷ ts)) →
-    ((rest : List ℕ) (ts : List BToken) → Ends rest → IsRow rest ts → IsRow (expression ++ rest) (tokens ++ ts)) →
-    (rest : List ℕ) (ts : List BToken) → IsRow rest ts →
+marked : (text : List ℕ) (l : Label) (expression : List ℕ) (tokens : List PlacedLexeme) →
+    ((rest : List ℕ) (ts : List PlacedLexeme) → IsRow rest ts → IsRow (34 ∷ (text ++ (34 ∷ rest))) (at_start (tok.Text l) ∷ ts)) →
+    ((rest : List ℕ) (ts : List PlacedLexeme) → Ends rest → IsRow rest ts → IsRow (expression ++ rest) (tokens ++ ts)) →
+    (rest : List ℕ) (ts : List PlacedLexeme) → IsRow rest ts →
     IsRow ((codes "assert {:msg \"" ++ text ++ codes "\"} " ++ expression ++ codes ";\n") ++ rest)
     ((at_start (word_tok w.Assert) ∷ at_start (tok.Sign sign.OpenBrace) ∷ at_start (tok.Sign sign.Colon) ∷ at_start (word_tok w.Msg) ∷ at_start (tok.Text l) ∷ at_start (tok.Sign sign.CloseBrace) ∷
     (tokens ++ at_start (tok.Sign sign.Semicolon) ∷ [])) ++ ts)
@@ -149,8 +149,8 @@ skip_shown names all = record {
   row = λ rest ts r. finish_row r;
 }
 
-first_row : (one others : List ℕ) (us vs : List BToken) → ((rest : List ℕ) (ts : List BToken) → IsRow rest ts → IsRow (one ++ rest) (us ++ ts)) →
-    ((rest : List ℕ) (ts : List BToken) → IsRow rest ts → IsRow (others ++ (125 ∷ rest)) (vs ++ ts)) → (rest : List ℕ) (ts : List BToken) → IsRow rest ts →
+first_row : (one others : List ℕ) (us vs : List PlacedLexeme) → ((rest : List ℕ) (ts : List PlacedLexeme) → IsRow rest ts → IsRow (one ++ rest) (us ++ ts)) →
+    ((rest : List ℕ) (ts : List PlacedLexeme) → IsRow rest ts → IsRow (others ++ (125 ∷ rest)) (vs ++ ts)) → (rest : List ℕ) (ts : List PlacedLexeme) → IsRow rest ts →
     IsRow ((one ++ others) ++ (125 ∷ rest)) ((us ++ vs) ++ ts)
 first_row one others us vs f h rest ts r = simp append_assoc (f _ _ (h rest ts r))
 
@@ -162,7 +162,7 @@ first_shown names all a rest h k = record {
 }
 
 -- the last part of a rule
-last_derives : {r k : Kind} (a : g.Symbol r) (make : Value r → Value k) {ts : List BToken} {y : Value r} → Derives rules r (rule a) ts y → Derives rules k (read a (λ z. give (make z))) ts (make y)
+last_derives : {r k : Kind} (a : g.Symbol r) (make : Value r → Value k) {ts : List PlacedLexeme} {y : Value r} → Derives rules r (rule a) ts y → Derives rules k (read a (λ z. give (make z))) ts (make y)
 last_derives {k = k} a make {ts = ts} {y = y} d =
     subst (λ l. Derives rules k (read a (λ z. give (make z))) l (make y)) (append-nil ts) (called {a = a} {go = λ z. give (make z)} d given)
 
@@ -173,25 +173,25 @@ else_derives : (names : List (List ℕ)) (ss : s.BStmts) (h : ShownStmts names [
     Derives rules v.block (rule (g.Else names)) (at_start (word_tok w.Else) ∷ at_start (tok.Sign sign.OpenBrace) ∷ h.tokens) ss
 else_derives names ss h = word_taken (tail_derives {a = g.Block names} (block_derives names ss h))
 
-abbrev blocks : List BToken → List BToken → List BToken
+abbrev blocks : List PlacedLexeme → List PlacedLexeme → List PlacedLexeme
 blocks us vs = at_start (tok.Sign sign.OpenBrace) ∷ (us ++ at_start (word_tok w.Else) ∷ at_start (tok.Sign sign.OpenBrace) ∷ vs)
 
-blocks_row : (a b : List ℕ) (us vs : List BToken) → ((rest : List ℕ) (ts : List BToken) → IsRow rest ts → IsRow (a ++ (125 ∷ rest)) (us ++ ts)) →
-    ((rest : List ℕ) (ts : List BToken) → IsRow rest ts → IsRow (b ++ (125 ∷ rest)) (vs ++ ts)) → (rest : List ℕ) (ts : List BToken) → IsRow rest ts →
+blocks_row : (a b : List ℕ) (us vs : List PlacedLexeme) → ((rest : List ℕ) (ts : List PlacedLexeme) → IsRow rest ts → IsRow (a ++ (125 ∷ rest)) (us ++ ts)) →
+    ((rest : List ℕ) (ts : List PlacedLexeme) → IsRow rest ts → IsRow (b ++ (125 ∷ rest)) (vs ++ ts)) → (rest : List ℕ) (ts : List PlacedLexeme) → IsRow rest ts →
     IsRow ((codes " {\n" ++ a ++ codes "} else {\n" ++ b ++ codes "}\n") ++ rest) (blocks us vs ++ ts)
 blocks_row a b us vs f h rest ts r =
     simp append_assoc (blank_row (begin_row (line_row (f _ _ (blank_row (name_row 101 (codes "lse") _ refl refl (blank_row (begin_row (line_row (h _ _ (line_row r)))))))))))
 
-if_row : (e a b : List ℕ) (us vs ws : List BToken) → ((rest : List ℕ) (ts : List BToken) → Ends rest → IsRow rest ts → IsRow (e ++ rest) (us ++ ts)) →
-    ((rest : List ℕ) (ts : List BToken) → IsRow rest ts → IsRow (a ++ (125 ∷ rest)) (vs ++ ts)) →
-    ((rest : List ℕ) (ts : List BToken) → IsRow rest ts → IsRow (b ++ (125 ∷ rest)) (ws ++ ts)) → (rest : List ℕ) (ts : List BToken) → IsRow rest ts →
+if_row : (e a b : List ℕ) (us vs ws : List PlacedLexeme) → ((rest : List ℕ) (ts : List PlacedLexeme) → Ends rest → IsRow rest ts → IsRow (e ++ rest) (us ++ ts)) →
+    ((rest : List ℕ) (ts : List PlacedLexeme) → IsRow rest ts → IsRow (a ++ (125 ∷ rest)) (vs ++ ts)) →
+    ((rest : List ℕ) (ts : List PlacedLexeme) → IsRow rest ts → IsRow (b ++ (125 ∷ rest)) (ws ++ ts)) → (rest : List ℕ) (ts : List PlacedLexeme) → IsRow rest ts →
     IsRow ((codes "if (" ++ e ++ codes ") {\n" ++ a ++ codes "} else {\n" ++ b ++ codes "}\n") ++ rest)
     ((at_start (word_tok w.If) ∷ at_start (tok.Sign sign.OpenParen) ∷ (us ++ at_start (tok.Sign sign.CloseParen) ∷ blocks vs ws)) ++ ts)
 if_row e a b us vs ws f h i rest ts r =
     simp append_assoc (name_row 105 (codes "f") _ refl refl (blank_row (open_row (f _ _ (ends refl refl refl) (close_row (blank_row (begin_row (line_row
     (h _ _ (blank_row (name_row 101 (codes "lse") _ refl refl (blank_row (begin_row (line_row (i _ _ (line_row r))))))))))))))))
 
-conditional : (names : List (List ℕ)) {ts : List BToken} {a : s.BStmt} → Derives rules v.stmt (g.conditional names) ts a → Derives rules v.stmt (rule (g.Statement names)) ts a
+conditional : (names : List (List ℕ)) {ts : List PlacedLexeme} {a : s.BStmt} → Derives rules v.stmt (g.conditional names) ts a → Derives rules v.stmt (rule (g.Statement names)) ts a
 conditional names {ts = ts} {a = a} d = passed (passed (by_free (some_free names) (λ h. passed (passed d)))) where
   by_free : (b : Truth) {f : b ≡ true → Rule v.stmt} → ((h : b ≡ true) → Derives rules v.stmt (f h) ts a) → Derives rules v.stmt (g.where_true b f (g.conditional names)) ts a
   by_free true f = f refl
@@ -205,7 +205,7 @@ if_shown names e a b k h i = record {
   row = if_row (expr_text (naming names) e) (stmts_text (naming names) a) (stmts_text (naming names) b) k.tokens h.tokens i.tokens k.row h.row i.row;
 }
 
-star_if_row : (both : List ℕ) (vs : List BToken) → ((rest : List ℕ) (ts : List BToken) → IsRow rest ts → IsRow (both ++ rest) (vs ++ ts)) → (rest : List ℕ) (ts : List BToken) → IsRow rest ts →
+star_if_row : (both : List ℕ) (vs : List PlacedLexeme) → ((rest : List ℕ) (ts : List PlacedLexeme) → IsRow rest ts → IsRow (both ++ rest) (vs ++ ts)) → (rest : List ℕ) (ts : List PlacedLexeme) → IsRow rest ts →
     IsRow ((codes "if (*)" ++ both) ++ rest) ((at_start (word_tok w.If) ∷ at_start (tok.Sign sign.OpenParen) ∷ at_start (tok.Sign sign.Star) ∷ at_start (tok.Sign sign.CloseParen) ∷ vs) ++ ts)
 star_if_row both vs h rest ts r = simp append_assoc (name_row 105 (codes "f") _ refl refl (blank_row (open_row (star_row (close_row (h rest ts r))))))
 
@@ -257,11 +257,11 @@ more_keys_shown (u ∷ us) all keys =
       row = λ rest ts r. simp append_assoc (comma_row (blank_row (base_row u _ _ (keys_end us rest) (more.row rest ts r))));
     }
 
-map_row : (first more base_name : List ℕ) (k u : BToken) (us : List BToken) →
-    ((rest : List ℕ) (ts : List BToken) → prefix_len is_name_byte rest ≡ 0 → IsRow rest ts → IsRow (first ++ rest) (k ∷ ts)) → ((rest : List ℕ) → prefix_len is_name_byte (more ++ (93 ∷ rest)) ≡ 0) →
-    ((rest : List ℕ) (ts : List BToken) → IsRow rest ts → IsRow (more ++ (93 ∷ rest)) (us ++ ts)) →
-    ((rest : List ℕ) (ts : List BToken) → prefix_len is_name_byte rest ≡ 0 → IsRow rest ts → IsRow (base_name ++ rest) (u ∷ ts)) →
-    (rest : List ℕ) (ts : List BToken) → Ends rest → IsRow rest ts →
+map_row : (first more base_name : List ℕ) (k u : PlacedLexeme) (us : List PlacedLexeme) →
+    ((rest : List ℕ) (ts : List PlacedLexeme) → prefix_len is_name_byte rest ≡ 0 → IsRow rest ts → IsRow (first ++ rest) (k ∷ ts)) → ((rest : List ℕ) → prefix_len is_name_byte (more ++ (93 ∷ rest)) ≡ 0) →
+    ((rest : List ℕ) (ts : List PlacedLexeme) → IsRow rest ts → IsRow (more ++ (93 ∷ rest)) (us ++ ts)) →
+    ((rest : List ℕ) (ts : List PlacedLexeme) → prefix_len is_name_byte rest ≡ 0 → IsRow rest ts → IsRow (base_name ++ rest) (u ∷ ts)) →
+    (rest : List ℕ) (ts : List PlacedLexeme) → Ends rest → IsRow rest ts →
     IsRow (((codes "[" ++ ([] ++ first ++ more) ++ codes "]") ++ base_name) ++ rest) ((at_start (tok.Sign sign.OpenBracket) ∷ k ∷ (us ++ u ∷ [])) ++ ts)
 map_row first more base_name k u us f e h i rest ts end r = simp append_assoc (bracket_row (f _ _ (e _) (h _ _ (i _ _ end.name_ends r))))
 
@@ -281,10 +281,10 @@ type_shown (k ∷ ks) base keys =
           (λ rest ts e r. base_row k rest ts e r) (keys_end ks) more.row (λ rest ts e r. base_row base rest ts e r);
     }
 
-local_row : (name type others : List ℕ) (us vs : List BToken) →
-    ((rest : List ℕ) (ts : List BToken) → prefix_len is_name_byte rest ≡ 0 → IsRow rest ts → IsRow (name ++ rest) (at_start (tok.Name name) ∷ ts)) →
-    ((rest : List ℕ) (ts : List BToken) → Ends rest → IsRow rest ts → IsRow (type ++ rest) (us ++ ts)) → ((rest : List ℕ) (ts : List BToken) → IsRow rest ts → IsRow (others ++ rest) (vs ++ ts)) →
-    (rest : List ℕ) (ts : List BToken) → IsRow rest ts →
+local_row : (name type others : List ℕ) (us vs : List PlacedLexeme) →
+    ((rest : List ℕ) (ts : List PlacedLexeme) → prefix_len is_name_byte rest ≡ 0 → IsRow rest ts → IsRow (name ++ rest) (at_start (tok.Name name) ∷ ts)) →
+    ((rest : List ℕ) (ts : List PlacedLexeme) → Ends rest → IsRow rest ts → IsRow (type ++ rest) (us ++ ts)) → ((rest : List ℕ) (ts : List PlacedLexeme) → IsRow rest ts → IsRow (others ++ rest) (vs ++ ts)) →
+    (rest : List ℕ) (ts : List PlacedLexeme) → IsRow rest ts →
     IsRow ((codes "var " ++ name ++ codes ": " ++ type ++ codes ";\n" ++ others) ++ rest)
     ((at_start (word_tok w.Var) ∷ at_start (tok.Name name) ∷ at_start (tok.Sign sign.Colon) ∷ (us ++ at_start (tok.Sign sign.Semicolon) ∷ vs)) ++ ts)
 local_row name type others us vs n f h rest ts r =
@@ -325,14 +325,14 @@ locals_ready ls fit differ short = record {
 
 -- after `procedure`
 record ShownProc (seen : List (List ℕ)) (p : Proc) : Type 0 where
-  tokens : List BToken
+  tokens : List PlacedLexeme
   spelled : Derives rules v.proc (rule (g.Procedure seen)) tokens p
-  row : (rest : List ℕ) (ts : List BToken) → IsRow rest ts → IsRow (proc_text p ++ rest) (at_start (word_tok w.Procedure) ∷ (tokens ++ ts))
+  row : (rest : List ℕ) (ts : List PlacedLexeme) → IsRow rest ts → IsRow (proc_text p ++ rest) (at_start (word_tok w.Procedure) ∷ (tokens ++ ts))
 
-proc_row : (name locals body : List ℕ) (us vs : List BToken) →
-    ((rest : List ℕ) (ts : List BToken) → prefix_len is_name_byte rest ≡ 0 → IsRow rest ts → IsRow (name ++ rest) (at_start (tok.Name name) ∷ ts)) →
-    ((rest : List ℕ) (ts : List BToken) → IsRow rest ts → IsRow (locals ++ rest) (us ++ ts)) → ((rest : List ℕ) (ts : List BToken) → IsRow rest ts → IsRow (body ++ (125 ∷ rest)) (vs ++ ts)) →
-    (rest : List ℕ) (ts : List BToken) → IsRow rest ts →
+proc_row : (name locals body : List ℕ) (us vs : List PlacedLexeme) →
+    ((rest : List ℕ) (ts : List PlacedLexeme) → prefix_len is_name_byte rest ≡ 0 → IsRow rest ts → IsRow (name ++ rest) (at_start (tok.Name name) ∷ ts)) →
+    ((rest : List ℕ) (ts : List PlacedLexeme) → IsRow rest ts → IsRow (locals ++ rest) (us ++ ts)) → ((rest : List ℕ) (ts : List PlacedLexeme) → IsRow rest ts → IsRow (body ++ (125 ∷ rest)) (vs ++ ts)) →
+    (rest : List ℕ) (ts : List PlacedLexeme) → IsRow rest ts →
     IsRow ((codes "procedure " ++ name ++ codes "() {\n" ++ locals ++ body ++ codes "}\n") ++ rest)
     (at_start (word_tok w.Procedure) ∷ ((at_start (tok.Name name) ∷ at_start (tok.Sign sign.OpenParen) ∷ at_start (tok.Sign sign.CloseParen) ∷ at_start (tok.Sign sign.OpenBrace) ∷ (us ++ vs)) ++ ts))
 proc_row name locals body us vs n f h rest ts r =
@@ -353,8 +353,8 @@ proc_shown seen p fit short new =
       row = proc_row p.name (locals_text p.locals) (stmts_text (naming names) p.body) locals.tokens body.tokens (λ rest ts e r. free_row p.name rest fit.name.form e r) locals.row body.row;
     }
 
-procs_row : (one others : List ℕ) (us vs : List BToken) → ((rest : List ℕ) (ts : List BToken) → IsRow rest ts → IsRow (one ++ rest) (at_start (word_tok w.Procedure) ∷ (us ++ ts))) →
-    ((rest : List ℕ) (ts : List BToken) → IsRow rest ts → IsRow (others ++ rest) (vs ++ ts)) → (rest : List ℕ) (ts : List BToken) → IsRow rest ts →
+procs_row : (one others : List ℕ) (us vs : List PlacedLexeme) → ((rest : List ℕ) (ts : List PlacedLexeme) → IsRow rest ts → IsRow (one ++ rest) (at_start (word_tok w.Procedure) ∷ (us ++ ts))) →
+    ((rest : List ℕ) (ts : List PlacedLexeme) → IsRow rest ts → IsRow (others ++ rest) (vs ++ ts)) → (rest : List ℕ) (ts : List PlacedLexeme) → IsRow rest ts →
     IsRow ((one ++ others) ++ rest) ((at_start (word_tok w.Procedure) ∷ (us ++ vs)) ++ ts)
 procs_row one others us vs f h rest ts r = simp append_assoc (f _ _ (h rest ts r))
 
@@ -382,5 +382,5 @@ program_spelled program h short =
       cut = whole (procs_text program.procs) all.tokens (all.row [] [] cut.none);
       spells = all.spelled;
     } where
-      whole : (text : List ℕ) (tokens : List BToken) → IsRow (text ++ []) (tokens ++ []) → IsRow text tokens
+      whole : (text : List ℕ) (tokens : List PlacedLexeme) → IsRow (text ++ []) (tokens ++ []) → IsRow text tokens
       whole text tokens r = subst (λ ts. IsRow text ts) (append-nil tokens) (subst (λ bytes. IsRow bytes (tokens ++ [])) (append-nil text) r)

@@ -21,9 +21,9 @@ use Rattle.boogie_tree.specs.Values.{is_key, AreKeys}
 use Rattle.boogie_tree.specs.declared.exprs.BBase.{BBase}
 use Rattle.boogie_grammar.specs.Parts.{IsToken}
 use Rattle.boogie_grammar.specs.Step.{IsPiece}
-use Rattle.boogie_grammar.specs.declared.tokens.BTok.{BTok}
-use Rattle.boogie_grammar.specs.declared.tokens.BTok.TheVariants as tok
-use Rattle.boogie_grammar.specs.declared.tokens.BToken.{BToken}
+use Rattle.boogie_grammar.specs.declared.tokens.Lexeme.{Lexeme}
+use Rattle.boogie_grammar.specs.declared.tokens.Lexeme.TheVariants as tok
+use Rattle.boogie_grammar.specs.declared.tokens.PlacedLexeme.{PlacedLexeme}
 use Rattle.boogie_grammar.specs.declared.tokens.Word.TheVariants as word
 use Rattle.boogie_grammar.specs.Words.{is_among, is_reserved}
 use Rattle.boogie_grammar.specs.Pieces as p
@@ -51,26 +51,26 @@ neither false b e = (refl, e)
 -- ---- tokens
 
 -- a name has the form of one, and a literal is within the bound
-abbrev pub Proper : BTok → Type 0
+abbrev pub Proper : Lexeme → Type 0
 Proper (tok.Name x) = is_name x ≡ true
 Proper (tok.Number n) = IsLiteral n
 Proper (tok.Real n) = IsLiteral n
 Proper (tok.Text l) = ⊤
 Proper (tok.Sign o) = ⊤
 
-abbrev ProperPiece : Option BTok → Type 0
+abbrev ProperPiece : Option Lexeme → Type 0
 ProperPiece None = ⊤
 ProperPiece (Some x) = Proper x
 
-abbrev pub AllProper : List BToken → Type 0
+abbrev pub AllProper : List PlacedLexeme → Type 0
 AllProper [] = ⊤
 AllProper (k ∷ ts) = Proper k.tok × AllProper ts
 
-pub front_proper : (ts us : List BToken) → AllProper (ts ++ us) → AllProper ts
+pub front_proper : (ts us : List PlacedLexeme) → AllProper (ts ++ us) → AllProper ts
 front_proper [] us h = tt
 front_proper (k ∷ ts) us h = (h.0, front_proper ts us h.1)
 
-pub back_proper : (ts us : List BToken) → AllProper (ts ++ us) → AllProper us
+pub back_proper : (ts us : List PlacedLexeme) → AllProper (ts ++ us) → AllProper us
 back_proper [] us h = h
 back_proper (k ∷ ts) us h = back_proper ts us h.1
 
@@ -100,7 +100,7 @@ literal_proper : (real : Truth) (n : ℕ) → n ≤ max_literal → Proper (lite
 literal_proper true n h = record { natural = n; is = refl; within = h }
 literal_proper false n h = record { natural = n; is = refl; within = h }
 
-piece_proper : {c : Class} {text : List ℕ} {o : Option BTok} {n : ℕ} (b : ℕ) (bytes : List ℕ) → text ≡ b ∷ bytes → class_of b ≡ c → Piece c text o n → ProperPiece o
+piece_proper : {c : Class} {text : List ℕ} {o : Option Lexeme} {n : ℕ} (b : ℕ) (bytes : List ℕ) → text ≡ b ∷ bytes → class_of b ≡ c → Piece c text o n → ProperPiece o
 piece_proper b bytes e class p.blank = tt
 piece_proper b bytes e class (p.name {bytes = text}) =
     subst (λ x. is_name (front is_name_byte x) ≡ true) (sym e) (name_form b bytes (letter_at (is_blank b) (is_name_start b) (is_ascii_digit b) (b == 34) class))
@@ -109,19 +109,19 @@ piece_proper b bytes e class (p.text spelled f) = tt
 piece_proper b bytes e class p.comment = tt
 piece_proper b bytes e class (p.sign h k) = tt
 
-onto_proper : (o : Option BTok) (at : _) (ts : List BToken) → ProperPiece o → AllProper ts → AllProper (onto o at ts)
+onto_proper : (o : Option Lexeme) (at : _) (ts : List PlacedLexeme) → ProperPiece o → AllProper ts → AllProper (onto o at ts)
 onto_proper None at ts h rest = rest
 onto_proper (Some x) at ts h rest = (h, rest)
 
-pub row_proper : {bytes : List ℕ} {ts : List BToken} → IsRow bytes ts → AllProper ts
+pub row_proper : {bytes : List ℕ} {ts : List PlacedLexeme} → IsRow bytes ts → AllProper ts
 row_proper cut.none = tt
 row_proper (cut.more {bytes = bytes} {b = b} {o = o} at {tokens = ts} piece h) = onto_proper o at ts (piece_proper b bytes refl refl piece) (row_proper h)
 
-token_proper : (bytes : List ℕ) (n : ℕ) (t : BTok) → IsPiece bytes (Some t) n → Proper t
+token_proper : (bytes : List ℕ) (n : ℕ) (t : Lexeme) → IsPiece bytes (Some t) n → Proper t
 token_proper [] n t h = absurd h
 token_proper (b ∷ bytes) n t h = piece_proper b bytes refl refl h
 
-pub tokens_proper : (ts : List BToken) → All IsToken ts → AllProper ts
+pub tokens_proper : (ts : List PlacedLexeme) → All IsToken ts → AllProper ts
 tokens_proper [] h = tt
 tokens_proper (k ∷ ts) h = let first = All-head IsToken k ts h in (token_proper first.bytes first.len k.tok first.begins, tokens_proper ts (All-tail IsToken k ts h))
 
@@ -136,7 +136,7 @@ number_within : (x : List ℕ) (names : List (List ℕ)) (i : ℕ) → number_of
 number_within x [] i e = absurd cc
 number_within x (y ∷ ys) i e = number_at (bytes_eq x y) (number_of x ys) i (length ys) e (number_within x ys)
 
-pub variable_within : {names : List (List ℕ)} {k : BTok} {i : ℕ} → IsVariable names k i → i < length names
+pub variable_within : {names : List (List ℕ)} {k : Lexeme} {i : ℕ} → IsVariable names k i → i < length names
 variable_within {names} {i = i} h = number_within h.name names i h.there
 
 unequal : (x y : List ℕ) → bytes_eq x y ≡ false → y ≡ x → ⊥
@@ -229,8 +229,8 @@ Gives (g.MoreExprs y es) x = SomeFit y x
 -- what a rule gives, of proper tokens, has the property
 abbrev pub Keeps : {k : Kind} → (Value k → Type 0) → Rule k → Type 0
 Keeps P (give x) = P x
-Keeps P (need c go) = (j : BToken) (x : _) → Proper j.tok → Passes c j x → Keeps P (go x)
-Keeps P (when c go other) = ((j : BToken) (x : _) → Proper j.tok → Passes c j x → Keeps P (go x)) × Keeps P other
+Keeps P (need c go) = (j : PlacedLexeme) (x : _) → Proper j.tok → Passes c j x → Keeps P (go x)
+Keeps P (when c go other) = ((j : PlacedLexeme) (x : _) → Proper j.tok → Passes c j x → Keeps P (go x)) × Keeps P other
 Keeps P (read a go) = Held a × ((y : _) → Gives a y → Keeps P (go y))
 
 procedures_keep : (ps : List Proc) → Held (g.Program ps) → Keeps (Gives (g.Program ps)) (rule (g.Program ps))
@@ -445,7 +445,7 @@ all_keep (g.BoundRest qs) held = rest_keeps qs
 all_keep (g.Exprs x) held = exprs_keep x
 all_keep (g.MoreExprs x es) held = more_exprs_keep x es held
 
-pub keeps : {k : Kind} (P : Value k → Type 0) {a : Rule k} {ts : List BToken} {x : Value k} → Derives rules k a ts x → Keeps P a → AllProper ts → P x
+pub keeps : {k : Kind} (P : Value k → Type 0) {a : Rule k} {ts : List PlacedLexeme} {x : Value k} → Derives rules k a ts x → Keeps P a → AllProper ts → P x
 keeps P given h proper = h
 keeps P (needed {v = y} q d) h proper = let all = subst AllProper q.is proper in keeps P d (h q.token y all.0 q.passes) all.1
 keeps P (taken {v = y} q d) h proper = let all = subst AllProper q.is proper in keeps P d (h.0 q.token y all.0 q.passes) all.1

@@ -8,9 +8,9 @@ use Rattle.boogie_tree.specs.Whole.{expr_of, stmt_of}
 use Rattle.boogie_tree.specs.declared.exprs.BExpr.{BExpr}
 use Rattle.boogie_tree.specs.declared.stmts.BStmt as stmt
 use Rattle.boogie_tree.proofs.WholeLaws.{exprs_of-map}
-use Rattle.boogie_grammar.specs.declared.tokens.BTok.{BTok}
+use Rattle.boogie_grammar.specs.declared.tokens.Lexeme.{Lexeme}
 use Rattle.boogie_grammar.specs.declared.tokens.BSign.TheVariants as sign
-use Rattle.boogie_grammar.specs.declared.tokens.BToken.{BToken}
+use Rattle.boogie_grammar.specs.declared.tokens.PlacedLexeme.{PlacedLexeme}
 use Rattle.boogie_grammar.specs.declared.tokens.Word.TheVariants as w
 use Rattle.boogie_grammar.specs.Words.{word_tok}
 use Rattle.boogie_grammar.specs.Tests as v
@@ -29,7 +29,7 @@ outside_is ls e f = λ i. record { locals = ls; others = e i; bound = f i }
 
 -- what was built
 
-pub read_as : {k : Kind} {a : Rule k} {ts us : List BToken} {x y : Value k} → x ≡ y → Reads k a ts y us → Reads k a ts x us
+pub read_as : {k : Kind} {a : Rule k} {ts us : List PlacedLexeme} {x y : Value k} → x ≡ y → Reads k a ts y us → Reads k a ts x us
 read_as {k = k} {a = a} {ts = ts} {us = us} e h = subst (λ z. Reads k a ts z us) (sym e) h
 
 pub stmt_of-Put : (i : ℕ) (es : Vec BExpr Global) (e : BExpr) → stmt_of (stmt.Put i es e) ≡ s.Put i (t.exprs (map expr_of es.items)) (expr_of e)
@@ -37,52 +37,52 @@ stmt_of-Put i es e = ap (λ x. s.Put i x (expr_of e)) (exprs_of-map es.items)
 
 -- no `havoc`
 
-storing_at : {ts : List BToken} (b : Bool) (changes stores : b ≡ true → Rule v.stmt) (other : Rule v.stmt) →
+storing_at : {ts : List PlacedLexeme} (b : Bool) (changes stores : b ≡ true → Rule v.stmt) (other : Rule v.stmt) →
     ((h : b ≡ true) → Goes (changes h) ts (stores h) ts) → Goes (where_true b changes other) ts (where_true b stores other) ts
 storing_at true changes stores other h = h refl
 storing_at {ts = ts} false changes stores other h = start other ts
 
-pub no_havoc : (ls : List (List ℕ)) {ts : List BToken} → IsNot (the_word w.Havoc) ts → Goes (changing ls) ts (storing ls) ts
+pub no_havoc : (ls : List (List ℕ)) {ts : List PlacedLexeme} → IsNot (the_word w.Havoc) ts → Goes (changing ls) ts (storing ls) ts
 no_havoc ls {ts = ts} n =
     storing_at (some_free ls) (λ some. g.changes ls some) (λ some. when (a_variable ls some) (λ i. g.assignment ls i) (g.conditional ls)) (g.conditional ls)
     (λ some. by_other n (start (g.changes ls some) ts))
 
 -- `havoc` and a variable
 
-changed_at : {ts us : List BToken} {r : Rule v.stmt} (b : Bool) (changes : b ≡ true → Rule v.stmt) (other : Rule v.stmt) → b ≡ true →
+changed_at : {ts us : List PlacedLexeme} {r : Rule v.stmt} (b : Bool) (changes : b ≡ true → Rule v.stmt) (other : Rule v.stmt) → b ≡ true →
     ((h : b ≡ true) → Goes (changes h) ts r us) → Goes (where_true b changes other) ts r us
 changed_at true changes other e h = h refl
 changed_at false changes other e h = absurd (cc)
 
-pub havoc_goes : (ls : List (List ℕ)) {ts us vs : List BToken} {i : _} → Starts (the_word w.Havoc) ts tt us → ReadsVariable ls us i vs →
+pub havoc_goes : (ls : List (List ℕ)) {ts us vs : List PlacedLexeme} {i : _} → Starts (the_word w.Havoc) ts tt us → ReadsVariable ls us i vs →
     Goes (changing ls) ts (after_sign sign.Semicolon (give (s.Havoc i))) vs
 havoc_goes ls {ts = ts} p h =
     changed_at (some_free ls) (λ some. g.changes ls some) (g.conditional ls) h.0 (λ some. by_need (h.1 some) (by_token p (start (g.changes ls some) ts)))
 
 -- `havoc` and no variable
 
-fails_at : {ts z : List BToken} (b : Bool) (changes : b ≡ true → Rule v.stmt) (other : Rule v.stmt) → b ≡ true → ((h : b ≡ true) → Fails (changes h) ts z) →
+fails_at : {ts z : List PlacedLexeme} (b : Bool) (changes : b ≡ true → Rule v.stmt) (other : Rule v.stmt) → b ≡ true → ((h : b ≡ true) → Fails (changes h) ts z) →
     Fails (where_true b changes other) ts z
 fails_at true changes other e h = h refl
 fails_at false changes other e h = absurd (cc)
 
-fails_else : {ts z : List BToken} (b : Bool) (changes : b ≡ true → Rule v.stmt) (other : Rule v.stmt) → b ≡ false → Fails other ts z → Fails (where_true b changes other) ts z
+fails_else : {ts z : List PlacedLexeme} (b : Bool) (changes : b ≡ true → Rule v.stmt) (other : Rule v.stmt) → b ≡ false → Fails other ts z → Fails (where_true b changes other) ts z
 fails_else true changes other e h = absurd (cc)
 fails_else false changes other e h = h
 
-pub havoc_fails : (ls : List (List ℕ)) {ts us : List BToken} → Starts (the_word w.Havoc) ts tt us → NoVariable ls us → some_free ls ≡ true → Fails (changing ls) ts us
+pub havoc_fails : (ls : List (List ℕ)) {ts us : List PlacedLexeme} → Starts (the_word w.Havoc) ts tt us → NoVariable ls us → some_free ls ≡ true → Fails (changing ls) ts us
 havoc_fails ls p n e =
     fails_at (some_free ls) (λ some. g.changes ls some) (g.conditional ls) e (λ some. fails_taken p (fails_here (n some)))
 
-same_token : {k l : BToken} {ts us : List BToken} → k ∷ ts ≡ l ∷ us → k ≡ l
+same_token : {k l : PlacedLexeme} {ts us : List PlacedLexeme} → k ∷ ts ≡ l ∷ us → k ≡ l
 same_token h = cc
 
-no_if : (k : BTok) → k ≡ word_tok w.Havoc → k ≡ word_tok w.If → ⊥
+no_if : (k : Lexeme) → k ≡ word_tok w.Havoc → k ≡ word_tok w.If → ⊥
 no_if k e f = let h : word_tok w.Havoc ≡ word_tok w.If = sym e ∙ f in cc
 
-pub havoc_is_no_if : {ts us : List BToken} → Starts (the_word w.Havoc) ts tt us → IsNot (the_word w.If) ts
-havoc_is_no_if p = record { none = λ v vs q. no_if p.token.tok p.passes (ap (λ (k : BToken). k.tok) (same_token (sym p.is ∙ q.is)) ∙ q.passes) }
+pub havoc_is_no_if : {ts us : List PlacedLexeme} → Starts (the_word w.Havoc) ts tt us → IsNot (the_word w.If) ts
+havoc_is_no_if p = record { none = λ v vs q. no_if p.token.tok p.passes (ap (λ (k : PlacedLexeme). k.tok) (same_token (sym p.is ∙ q.is)) ∙ q.passes) }
 
-pub havoc_stands_nowhere : (ls : List (List ℕ)) {ts us : List BToken} → Starts (the_word w.Havoc) ts tt us → some_free ls ≡ false → Fails (changing ls) ts ts
+pub havoc_stands_nowhere : (ls : List (List ℕ)) {ts us : List PlacedLexeme} → Starts (the_word w.Havoc) ts tt us → some_free ls ≡ false → Fails (changing ls) ts ts
 havoc_stands_nowhere ls p e =
     fails_else (some_free ls) (λ some. g.changes ls some) (g.conditional ls) e (fails_here (havoc_is_no_if p))

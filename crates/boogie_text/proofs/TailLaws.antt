@@ -8,7 +8,7 @@ use Rattle.boogie_tree.specs.Program as p
 use Rattle.boogie_tree.specs.Program.{Proc}
 use Rattle.boogie_tree.specs.Text.{prelude}
 use Rattle.boogie_grammar.specs.declared.tokens.BSign.TheVariants as sign
-use Rattle.boogie_grammar.specs.declared.tokens.BToken.{BToken}
+use Rattle.boogie_grammar.specs.declared.tokens.PlacedLexeme.{PlacedLexeme}
 use Rattle.boogie_grammar.specs.declared.tokens.Word.TheVariants as w
 use Rattle.boogie_grammar.specs.Cut.{IsRow}
 use Rattle.boogie_grammar.specs.Depth.{unclosed, IsShallow}
@@ -34,17 +34,17 @@ ends row so_far = record { tokens = []; cut = row; shallow = none_shallow; spell
 
 -- the tokens of one part
 
-pub spells_head : {names : List (List ℕ)} {tokens after rest : List BToken} {name : List ℕ} → Starts (the_word w.Procedure) tokens tt after →
+pub spells_head : {names : List (List ℕ)} {tokens after rest : List PlacedLexeme} {name : List ℕ} → Starts (the_word w.Procedure) tokens tt after →
     Reads v.name (heading names) after name rest → rest ≡ [] → is_among name names ≡ false → SpellsHead names tokens name
 spells_head {names} {tokens} {after} {rest} {name} begins reads none new =
     record { after = after; begins = begins; spells = grammar.spelled rules laws (subst (Reads v.name (heading names) after name) none reads); new = new }
 
-pub spells_local : {names : List (List ℕ)} {tokens after rest : List BToken} {l : p.Local} → Starts (the_word w.Var) tokens tt after →
+pub spells_local : {names : List (List ℕ)} {tokens after rest : List PlacedLexeme} {l : p.Local} → Starts (the_word w.Var) tokens tt after →
     Reads v.locals (declaring names) after (l ∷ []) rest → rest ≡ [] → is_among l.name names ≡ false → SpellsLocal names tokens l
 spells_local {names} {tokens} {after} {rest} {l} begins reads none new =
     record { after = after; begins = begins; spells = grammar.spelled rules laws (subst (Reads v.locals (declaring names) after (l ∷ [])) none reads); new = new }
 
-pub spells_statement : {names : List (List ℕ)} {tokens rest : List BToken} {a : s.BStmt} → Reads v.stmt (rule (g.Statement names)) tokens a rest → rest ≡ [] →
+pub spells_statement : {names : List (List ℕ)} {tokens rest : List PlacedLexeme} {a : s.BStmt} → Reads v.stmt (rule (g.Statement names)) tokens a rest → rest ≡ [] →
     SpellsStatement names tokens a
 spells_statement {names} {tokens} {rest} {a} reads none = grammar.spelled rules laws (subst (Reads v.stmt (rule (g.Statement names)) tokens a) none reads)
 
@@ -55,10 +55,10 @@ followed (need c go) f = need c (λ v. followed (go v) f)
 followed (when c go other) f = when c (λ v. followed (go v) f) (followed other f)
 followed (read a go) f = read a (λ y. followed (go y) f)
 
-starts_on : {b : Bool} {r : Kind} {c : Test b r} {x : Value r} {ts us : List BToken} (vs : List BToken) → Starts c ts x us → Starts c (ts ++ vs) x (us ++ vs)
+starts_on : {b : Bool} {r : Kind} {c : Test b r} {x : Value r} {ts us : List PlacedLexeme} (vs : List PlacedLexeme) → Starts c ts x us → Starts c (ts ++ vs) x (us ++ vs)
 starts_on vs h = record { token = h.token; is = ap (λ l. l ++ vs) h.is; passes = h.passes }
 
-derives_on : {r s : Kind} {a : Rule r} (f : Value r → Rule s) {ts us : List BToken} {x : Value r} {y : Value s} → Derives rules r a ts x → Derives rules s (f x) us y →
+derives_on : {r s : Kind} {a : Rule r} (f : Value r → Rule s) {ts us : List PlacedLexeme} {x : Value r} {y : Value s} → Derives rules r a ts x → Derives rules s (f x) us y →
     Derives rules s (followed a f) (ts ++ us) y
 derives_on f given h = h
 derives_on f {us = us} (needed {c = c} begins d) h = needed (starts_on {c = c} us begins) (derives_on f d h)
@@ -68,19 +68,19 @@ derives_on {s = s} f {us = us} {y = y} (called {a = a} {go = go} {ts = ts} {us =
     subst (λ l. Derives rules s (read a (λ z. followed (go z) f)) l y) (sym (append_assoc ts vs us)) (called d (derives_on f e h))
 
 -- the tokens of a symbol, and those behind
-record Called {r s : Kind} (a : Symbol r) (go : Value r → Rule s) (ts : List BToken) (x : Value s) : Type 0 where
-  front : List BToken
-  back : List BToken
+record Called {r s : Kind} (a : Symbol r) (go : Value r → Rule s) (ts : List PlacedLexeme) (x : Value s) : Type 0 where
+  front : List PlacedLexeme
+  back : List PlacedLexeme
   is : ts ≡ front ++ back
   value : Value r
   first : Derives rules r (rule a) front value
   next : Derives rules s (go value) back x
 
-calls : {r s : Kind} {a : Symbol r} {go : Value r → Rule s} {ts : List BToken} {x : Value s} → Derives rules s (read a go) ts x → Called a go ts x
+calls : {r s : Kind} {a : Symbol r} {go : Value r → Rule s} {ts : List PlacedLexeme} {x : Value s} → Derives rules s (read a go) ts x → Called a go ts x
 calls (called {ts = ts} {us = us} {y = y} d e) = record { front = ts; back = us; is = refl; value = y; first = d; next = e }
 
 -- at its end a rule asks for nothing more
-last_of : {r : Kind} (a : Symbol r) {ts : List BToken} {x : Value r} → Derives rules r (rule a) ts x → Derives rules r (read a give) ts x
+last_of : {r : Kind} (a : Symbol r) {ts : List PlacedLexeme} {x : Value r} → Derives rules r (rule a) ts x → Derives rules r (read a give) ts x
 last_of {r} a {ts} {x} d = subst (λ l. Derives rules r (read a give) l x) (append-nil ts) (called {a = a} {go = give} d given)
 
 -- what a procedure is behind its head
@@ -89,10 +89,10 @@ after_heading name = read (g.Locals []) (λ locals. read (g.Statements (local_na
 
 -- the grammar goes on behind a part
 
-rejoined : (hs ls ss back more us : List BToken) → us ≡ ls ++ more → more ≡ ss ++ back → (hs ++ (ls ++ (ss ++ []))) ++ back ≡ hs ++ us
+rejoined : (hs ls ss back more us : List PlacedLexeme) → us ≡ ls ++ more → more ≡ ss ++ back → (hs ++ (ls ++ (ss ++ []))) ++ back ≡ hs ++ us
 rejoined hs ls ss back more us e d = rw (e, d) (simp (append-nil, append_assoc))
 
-behind_head : (so_far all : List Proc) (tokens us : List BToken) (name : List ℕ) → SpellsHead (proc_names so_far) tokens name →
+behind_head : (so_far all : List Proc) (tokens us : List PlacedLexeme) (name : List ℕ) → SpellsHead (proc_names so_far) tokens name →
     Derives rules v.procs (after_locals so_far name []) us all → Derives rules v.procs (rule (g.Program so_far)) (tokens ++ us) all
 behind_head so_far all tokens us name h d =
     let ls = calls d in
@@ -106,7 +106,7 @@ behind_head so_far all tokens us name h d =
     taken {r = v.nothing} {s = v.procs} {go = λ _. read (g.Procedure (proc_names so_far)) (λ q. read (g.Program (so_far ++ q ∷ [])) give)} {other = give so_far} (starts_on {c = the_word w.Procedure} us h.begins)
     (subst (λ l. Derives rules v.procs (read (g.Procedure (proc_names so_far)) (λ q. read (g.Program (so_far ++ q ∷ [])) give)) l all) same (called {a = g.Procedure (proc_names so_far)} {go = λ q. read (g.Program (so_far ++ q ∷ [])) give} whole ss.next))
 
-behind_local : (so_far all : List Proc) (name : List ℕ) (ls : List p.Local) (l : p.Local) (tokens us : List BToken) → SpellsLocal (local_names ls) tokens l →
+behind_local : (so_far all : List Proc) (name : List ℕ) (ls : List p.Local) (l : p.Local) (tokens us : List PlacedLexeme) → SpellsLocal (local_names ls) tokens l →
     Derives rules v.procs (after_locals so_far name (ls ++ l ∷ [])) us all → Derives rules v.procs (after_locals so_far name ls) (tokens ++ us) all
 behind_local so_far all name ls l tokens us h d =
     let more = calls d in
@@ -116,7 +116,7 @@ behind_local so_far all name ls l tokens us h d =
     let same : (tokens ++ more.front) ++ more.back ≡ tokens ++ us = append_assoc tokens more.front more.back ∙ ap (λ m. tokens ++ m) (sym more.is) in
     subst (λ m. Derives rules v.procs (after_locals so_far name ls) m all) same (called {a = g.Locals ls} {go = λ locals. after_statements so_far name locals []} whole more.next)
 
-behind_statement : (so_far all : List Proc) (name : List ℕ) (ls : List p.Local) (done : List s.BStmt) (a : s.BStmt) (tokens us : List BToken) →
+behind_statement : (so_far all : List Proc) (name : List ℕ) (ls : List p.Local) (done : List s.BStmt) (a : s.BStmt) (tokens us : List PlacedLexeme) →
     SpellsStatement (local_names ls) tokens a → Derives rules v.procs (after_statements so_far name ls (done ++ a ∷ [])) us all →
     Derives rules v.procs (after_statements so_far name ls done) (tokens ++ us) all
 behind_statement so_far all name ls done a tokens us h d =
@@ -127,7 +127,7 @@ behind_statement so_far all name ls done a tokens us h d =
     subst (λ m. Derives rules v.procs (after_statements so_far name ls done) m all) same
     (called {a = g.Statements (local_names ls) done} {go = λ body. read (g.Program (so_far ++ record { name = name; locals = ls; body = s.stmts body } ∷ [])) give} whole more.next)
 
-behind_end : (so_far all : List Proc) (name : List ℕ) (ls : List p.Local) (done : List s.BStmt) (tokens us : List BToken) → Starts (the_sign sign.CloseBrace) tokens tt [] →
+behind_end : (so_far all : List Proc) (name : List ℕ) (ls : List p.Local) (done : List s.BStmt) (tokens us : List PlacedLexeme) → Starts (the_sign sign.CloseBrace) tokens tt [] →
     Derives rules v.procs (rule (g.Program (so_far ++ record { name = name; locals = ls; body = s.stmts done } ∷ []))) us all →
     Derives rules v.procs (after_statements so_far name ls done) (tokens ++ us) all
 behind_end so_far all name ls done tokens us begins d =
@@ -137,7 +137,7 @@ behind_end so_far all name ls done tokens us begins d =
 
 -- a text goes on behind a part
 
-pub begins_procedure : {names : List (List ℕ)} {text rest : List ℕ} {tokens : List BToken} {name : List ℕ} → IsPart 0 text tokens 1 rest → SpellsHead names tokens name →
+pub begins_procedure : {names : List (List ℕ)} {text rest : List ℕ} {tokens : List PlacedLexeme} {name : List ℕ} → IsPart 0 text tokens 1 rest → SpellsHead names tokens name →
     BeginsProcedure names text name rest
 begins_procedure {names} {text} {rest} {tokens} {name} part h = record {
   goes_on = λ so_far all same tail. record {
@@ -150,7 +150,7 @@ begins_procedure {names} {text} {rest} {tokens} {name} part h = record {
   shorter = part.shorter;
 }
 
-pub begins_local : {names : List (List ℕ)} {text rest : List ℕ} {tokens : List BToken} {l : p.Local} → IsPart 1 text tokens 1 rest → SpellsLocal names tokens l →
+pub begins_local : {names : List (List ℕ)} {text rest : List ℕ} {tokens : List PlacedLexeme} {l : p.Local} → IsPart 1 text tokens 1 rest → SpellsLocal names tokens l →
     BeginsLocal names text l rest
 begins_local {names} {text} {rest} {tokens} {l} part h = record {
   goes_on = λ so_far name ls all same tail. record {
@@ -163,7 +163,7 @@ begins_local {names} {text} {rest} {tokens} {l} part h = record {
   shorter = part.shorter;
 }
 
-pub begins_statement : {names : List (List ℕ)} {text rest : List ℕ} {tokens : List BToken} {a : s.BStmt} → IsPart 1 text tokens 1 rest → SpellsStatement names tokens a →
+pub begins_statement : {names : List (List ℕ)} {text rest : List ℕ} {tokens : List PlacedLexeme} {a : s.BStmt} → IsPart 1 text tokens 1 rest → SpellsStatement names tokens a →
     BeginsStatement names text a rest
 begins_statement {names} {text} {rest} {tokens} {a} part h = record {
   goes_on = λ so_far name ls done all same tail. record {
@@ -176,7 +176,7 @@ begins_statement {names} {text} {rest} {tokens} {a} part h = record {
   shorter = part.shorter;
 }
 
-pub begins_end : {text rest : List ℕ} {tokens : List BToken} → IsPart 1 text tokens 0 rest → Starts (the_sign sign.CloseBrace) tokens tt [] → BeginsEnd text rest
+pub begins_end : {text rest : List ℕ} {tokens : List PlacedLexeme} → IsPart 1 text tokens 0 rest → Starts (the_sign sign.CloseBrace) tokens tt [] → BeginsEnd text rest
 begins_end {text} {rest} {tokens} part begins = record {
   goes_on = λ so_far name ls done all tail. record {
     tokens = tokens ++ tail.tokens;

@@ -17,8 +17,8 @@ use Rattle.boogie_tree.specs.Program.{BProgram}
 use Rattle.boogie_tree.specs.Text.{prelude}
 use Rattle.boogie_grammar.specs.declared.faults.BoogieFault.{BoogieFault}
 use Rattle.boogie_grammar.specs.declared.tokens.BSign.{BSign}
-use Rattle.boogie_grammar.specs.declared.tokens.BTok.{BTok}
-use Rattle.boogie_grammar.specs.declared.tokens.BToken.{BToken}
+use Rattle.boogie_grammar.specs.declared.tokens.Lexeme.{Lexeme}
+use Rattle.boogie_grammar.specs.declared.tokens.PlacedLexeme.{PlacedLexeme}
 use Rattle.boogie_grammar.specs.Pieces as p
 use Rattle.boogie_tree.specs.Literals.{max_literal}
 use Rattle.boogie_grammar.specs.Pieces.{Class, Blank, Letter, Digit, Quote, Other, Piece, class_of, is_blank, is_unquoted, digits, sign_at}
@@ -38,9 +38,9 @@ use Rattle.boogie_text.proofs.ReadLaws.{is_read}
 -- a piece begins here, or none
 
 abbrev Found : Class → List ℕ → Type 0
-Found c bytes = ((o : Option BTok) × (n : ℕ) × Piece c bytes o n) ⊎ ((o : Option BTok) (n : ℕ) → Piece c bytes o n → ⊥)
+Found c bytes = ((o : Option Lexeme) × (n : ℕ) × Piece c bytes o n) ⊎ ((o : Option Lexeme) (n : ℕ) → Piece c bytes o n → ⊥)
 
-too_large : {bytes : List ℕ} {o : Option BTok} {n : ℕ} → max_literal < digits_value 10 (digits bytes) → Piece Digit bytes o n → ⊥
+too_large : {bytes : List ℕ} {o : Option Lexeme} {n : ℕ} → max_literal < digits_value 10 (digits bytes) → Piece Digit bytes o n → ⊥
 too_large lt (p.number small) = omega (arith, lt, small)
 
 number_found : (bytes : List ℕ) → Found Digit bytes
@@ -49,10 +49,10 @@ number_found bytes = by_case (cases_lt max_literal (digits_value 10 (digits byte
   by_case (inl lt) = inr (λ o n h. too_large lt h)
   by_case (inr small) = inl (_, _, p.number small)
 
-no_label : {bytes : List ℕ} {o : Option BTok} {n : ℕ} → ((l : Label) → Spells (front is_unquoted bytes) l → ⊥) → Piece Quote (34 ∷ bytes) o n → ⊥
+no_label : {bytes : List ℕ} {o : Option Lexeme} {n : ℕ} → ((l : Label) → Spells (front is_unquoted bytes) l → ⊥) → Piece Quote (34 ∷ bytes) o n → ⊥
 no_label none (p.text h e) = none _ h
 
-no_end : {bytes : List ℕ} {o : Option BTok} {n : ℕ} → ((rest : List ℕ) → behind is_unquoted bytes ≡ 34 ∷ rest → ⊥) → Piece Quote (34 ∷ bytes) o n → ⊥
+no_end : {bytes : List ℕ} {o : Option Lexeme} {n : ℕ} → ((rest : List ℕ) → behind is_unquoted bytes ≡ 34 ∷ rest → ⊥) → Piece Quote (34 ∷ bytes) o n → ⊥
 no_end none (p.text h e) = none _ e
 
 quote_first : (bytes : List ℕ) → ((rest : List ℕ) × (bytes ≡ 34 ∷ rest)) ⊎ ((rest : List ℕ) → bytes ≡ 34 ∷ rest → ⊥)
@@ -115,9 +115,9 @@ some_place before most = (
 )
 
 abbrev Cuts : List ℕ → List ℕ → Type 0
-Cuts before bytes = ((ts : List BToken) × IsCut before bytes ts) ⊎ ((at : Pos) × Stops before bytes at)
+Cuts before bytes = ((ts : List PlacedLexeme) × IsCut before bytes ts) ⊎ ((at : Pos) × Stops before bytes at)
 
-goes_on : {before bytes : List ℕ} {b n : ℕ} {o : Option BTok} {at : Pos} → Piece (class_of b) (b ∷ bytes) o n → IsPlaceAfter before at →
+goes_on : {before bytes : List ℕ} {b n : ℕ} {o : Option Lexeme} {at : Pos} → Piece (class_of b) (b ∷ bytes) o n → IsPlaceAfter before at →
     Cuts (before ++ take n (b ∷ bytes)) (drop n (b ∷ bytes)) → Cuts before (b ∷ bytes)
 goes_on {o = o} {at = at} h place (inl (ts, c)) = inl (onto o at ts, piece h place c)
 goes_on h place (inr (at, c)) = inr (at, s.later h c)
@@ -156,22 +156,22 @@ item [] i lt = absurd (omega (arith, lt))
 item (x ∷ xs) zero lt = (x, refl)
 item (x ∷ xs) (suc i) lt = item xs i (omega (arith, lt))
 
-abbrev Deep : List BToken → Type 0
+abbrev Deep : List PlacedLexeme → Type 0
 Deep ts = (at : Pos) × IsTooDeep ts at
 
-deep_by : (ts : List BToken) (i : ℕ) → i ≤ length ts → ((n : ℕ) → n ≤ i → unclosed (take n ts) ≤ 2048) ⊎ Deep ts
+deep_by : (ts : List PlacedLexeme) (i : ℕ) → i ≤ length ts → ((n : ℕ) → n ≤ i → unclosed (take n ts) ≤ 2048) ⊎ Deep ts
 deep_by ts zero le = inl (λ n h. by_zero n h) where
   by_zero : (n : ℕ) → n ≤ 0 → unclosed (take n ts) ≤ 2048
   by_zero zero h = omega arith
   by_zero (suc n) h = absurd (omega (arith, h))
 deep_by ts (suc i) le = by_case (deep_by ts i (omega (arith, le))) (cases_lt 2048 (unclosed (take (i + 1) ts))) (item ts i (omega (arith, le))) where
   by_case : ((n : ℕ) → n ≤ i → unclosed (take n ts) ≤ 2048) ⊎ Deep ts → (2048 < unclosed (take (i + 1) ts)) ⊎ (unclosed (take (i + 1) ts) ≤ 2048) →
-      (t : BToken) × (slice_get ts i ≡ Some t) → ((n : ℕ) → n ≤ suc i → unclosed (take n ts) ≤ 2048) ⊎ Deep ts
+      (t : PlacedLexeme) × (slice_get ts i ≡ Some t) → ((n : ℕ) → n ≤ suc i → unclosed (take n ts) ≤ 2048) ⊎ Deep ts
   by_case (inr d) above t = inr d
   by_case (inl h) (inl above) (t, e) = inr (t.pos, record { index = i; token = t; here = e; place = refl; above = above; before = h })
   by_case (inl h) (inr within) t = inl (λ n le. one_more_front ts i h within n (omega (arith, le)))
 
-deep_or_not : (ts : List BToken) → IsShallow ts ⊎ Deep ts
+deep_or_not : (ts : List PlacedLexeme) → IsShallow ts ⊎ Deep ts
 deep_or_not ts = by_case (deep_by ts (length ts) (omega arith)) where
   by_case : ((n : ℕ) → n ≤ length ts → unclosed (take n ts) ≤ 2048) ⊎ Deep ts → IsShallow ts ⊎ Deep ts
   by_case (inl h) = inl (shallow_from_fronts ts h)
@@ -186,11 +186,11 @@ prelude_short : length prelude ≤ 1048576
 unfolding prelude
 prelude_short = omega arith
 
-by_tokens : {rest : List ℕ} {ts : List BToken} → IsCut prelude rest ts → IsShallow ts → (last : Pos) × IsPlaceAfter (prelude ++ rest) last → IsProgram ts ⊎ GoesWrong ts → Answer (prelude ++ rest)
+by_tokens : {rest : List ℕ} {ts : List PlacedLexeme} → IsCut prelude rest ts → IsShallow ts → (last : Pos) × IsPlaceAfter (prelude ++ rest) last → IsProgram ts ⊎ GoesWrong ts → Answer (prelude ++ rest)
 by_tokens c shallow last (inl (b, h)) = inl (b, is_read c shallow h)
 by_tokens c shallow (last, place) (inr h) = inr (_, no_program refl c shallow h.none h.place place)
 
-by_depth : {rest : List ℕ} {ts : List BToken} → IsCut prelude rest ts → (last : Pos) × IsPlaceAfter (prelude ++ rest) last → IsShallow ts ⊎ Deep ts → Answer (prelude ++ rest)
+by_depth : {rest : List ℕ} {ts : List PlacedLexeme} → IsCut prelude rest ts → (last : Pos) × IsPlaceAfter (prelude ++ rest) last → IsShallow ts ⊎ Deep ts → Answer (prelude ++ rest)
 by_depth {ts = ts} c last (inl shallow) = by_tokens c shallow last (some_answer ts)
 by_depth c last (inr (at, d)) = inr (_, too_deep refl c d)
 

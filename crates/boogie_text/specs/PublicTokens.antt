@@ -11,9 +11,9 @@ use Rattle.boogie_tree.specs.Text.{prelude}
 use Rattle.boogie_grammar.specs.declared.faults.BoogieFault.{BoogieFault}
 use Rattle.boogie_grammar.specs.declared.faults.BoogieFault.TheVariants as fault
 use Rattle.boogie_grammar.specs.declared.tokens.BSign.{BSign}
-use Rattle.boogie_grammar.specs.declared.tokens.BTok.{BTok}
-use Rattle.boogie_grammar.specs.declared.tokens.BTok.TheVariants as tok
-use Rattle.boogie_grammar.specs.declared.tokens.BToken.{BToken}
+use Rattle.boogie_grammar.specs.declared.tokens.Lexeme.{Lexeme}
+use Rattle.boogie_grammar.specs.declared.tokens.Lexeme.TheVariants as tok
+use Rattle.boogie_grammar.specs.declared.tokens.PlacedLexeme.{PlacedLexeme}
 use Rattle.boogie_grammar.specs.Words.{sign_text}
 use Rattle.boogie_grammar.specs.Pieces.{signs}
 use Rattle.boogie_grammar.specs.Cut.{IsCut}
@@ -24,14 +24,14 @@ use Rattle.boogie_text.specs.declared.public_tokens.BTok.TheVariants as variant
 use Rattle.boogie_text.specs.declared.public_tokens.BToken as handed
 
 -- a token of the grammar as it is handed out
-abbrev pub shown : BTok → public.BTok
+abbrev pub shown : Lexeme → public.BTok
 shown (tok.Name x) = variant.Name x
 shown (tok.Number n) = variant.Number n
 shown (tok.Real n) = variant.RealNumber n
 shown (tok.Text l) = variant.Text l
 shown (tok.Sign o) = variant.Sign (sign_text o)
 
-abbrev pub shown_token : BToken → handed.BToken
+abbrev pub shown_token : PlacedLexeme → handed.BToken
 shown_token k = record { tok = shown k.tok; pos = k.pos }
 
 -- the sign that has these bytes
@@ -39,26 +39,26 @@ abbrev pub sign_of : List ℕ → Option BSign
 sign_of bytes = find (λ o. bytes_eq bytes (sign_text o)) signs
 
 -- a literal, of a number from 0 on
-abbrev pub literal_of : (ℤ → BTok) → ℤ → Option BTok
+abbrev pub literal_of : (ℤ → Lexeme) → ℤ → Option Lexeme
 literal_of make (pos n) = Some (make (pos n))
 literal_of make (negsuc n) = None
 
 -- The token of the grammar that a token stands for: none, where the bytes of a name are no name, those of a sign no sign, or
 -- a number is below 0.
-abbrev pub stands_for : public.BTok → Option BTok
+abbrev pub stands_for : public.BTok → Option Lexeme
 stands_for (variant.Name x) = if is_name x then Some (tok.Name x) else None
 stands_for (variant.Number n) = literal_of tok.Number n
 stands_for (variant.RealNumber n) = literal_of tok.Real n
 stands_for (variant.Text l) = Some (tok.Text l)
 stands_for (variant.Sign x) = option_map tok.Sign (sign_of x)
 
-abbrev pub token_of : handed.BToken → Option BToken
+abbrev pub token_of : handed.BToken → Option PlacedLexeme
 token_of k = option_map (λ t. record { tok = t; pos = k.pos }) (stands_for k.tok)
 
 -- these are the tokens after the prelude, each of which stands for itself, and never are too many brackets unclosed
 pub record AreTokens (bytes : List ℕ) (ts : List handed.BToken) : Type 0 where
   pub rest : List ℕ
-  pub tokens : List BToken
+  pub tokens : List PlacedLexeme
   pub text : bytes ≡ prelude ++ rest
   pub cut : IsCut prelude rest tokens
   pub shallow : IsShallow tokens
@@ -69,7 +69,7 @@ pub record AreTokens (bytes : List ℕ) (ts : List handed.BToken) : Type 0 where
 pub data IsTokenFault (bytes : List ℕ) : BoogieFault → Type 0 where
   no_prelude : {same : List ℕ} {at : Pos} → Differs bytes prelude same → IsPlaceAfter same at → IsTokenFault bytes (fault.Prelude at)
   no_token : {rest : List ℕ} {at : Pos} → bytes ≡ prelude ++ rest → Stops prelude rest at → IsTokenFault bytes (fault.Syntax at)
-  too_deep : {rest : List ℕ} {ts : List BToken} {at : Pos} → bytes ≡ prelude ++ rest → IsCut prelude rest ts → IsTooDeep ts at → IsTokenFault bytes (fault.Deep at)
+  too_deep : {rest : List ℕ} {ts : List PlacedLexeme} {at : Pos} → bytes ≡ prelude ++ rest → IsCut prelude rest ts → IsTooDeep ts at → IsTokenFault bytes (fault.Deep at)
 
 -- the answer is these tokens, unless memory was refused
 abbrev pub GivesTokens : List handed.BToken → Result (Vec handed.BToken Global) BoogieFault → Type 0

@@ -8,8 +8,8 @@ use Rattle.boogie_tree.specs.Whole.{expr_of}
 use Rattle.boogie_grammar.specs.declared.faults.BoogieFault.{BoogieFault}
 use Rattle.boogie_grammar.specs.declared.faults.BoogieFault.TheVariants as fault
 use Rattle.boogie_grammar.specs.declared.tokens.BSign.TheVariants as sign
-use Rattle.boogie_grammar.specs.declared.tokens.BTok.TheVariants as tok
-use Rattle.boogie_grammar.specs.declared.tokens.BToken.{BToken}
+use Rattle.boogie_grammar.specs.declared.tokens.Lexeme.TheVariants as tok
+use Rattle.boogie_grammar.specs.declared.tokens.PlacedLexeme.{PlacedLexeme}
 use Rattle.boogie_grammar.specs.Grammar.{Scope, Expr, rule, rules}
 use Rattle.boogie_text.specs.declared.public_tokens.BToken as handed
 use Rattle.boogie_text.specs.declared.single_expr.ReadExpr.{ReadExpr}
@@ -20,38 +20,38 @@ abbrev pub scope_before : List (List ℕ) → ℕ → Scope
 scope_before names known = record { locals = take known names; others = drop known names; bound = [] }
 
 -- each of these is a token, and they spell the expression
-pub record SpellsExpr (x : Scope) (os : List (Option BToken)) (e : t.BExpr) : Type 0 where
-  pub tokens : List BToken
+pub record SpellsExpr (x : Scope) (os : List (Option PlacedLexeme)) (e : t.BExpr) : Type 0 where
+  pub tokens : List PlacedLexeme
   pub all : os ≡ map Some tokens
   pub spells : Derives rules _ (rule (Expr x)) tokens e
 
 -- they spell some expression
-abbrev pub IsExpr : Scope → List (Option BToken) → Type 0
+abbrev pub IsExpr : Scope → List (Option PlacedLexeme) → Type 0
 IsExpr x os = (e : t.BExpr) × SpellsExpr x os e
 
 -- a `[` is next
-pub record StartsIndex (os : List (Option BToken)) : Type 0 where
-  pub token : BToken
-  pub rest : List (Option BToken)
+pub record StartsIndex (os : List (Option PlacedLexeme)) : Type 0 where
+  pub token : PlacedLexeme
+  pub rest : List (Option PlacedLexeme)
   pub is : os ≡ Some token ∷ rest
   pub bracket : token.tok ≡ tok.Sign sign.OpenBracket
 
 -- so many of them spell the expression, from the first one on, and no `[` is next
-pub record BeginsExpr (x : Scope) (os : List (Option BToken)) (n : ℕ) (e : t.BExpr) : Type 0 where
-  pub front : List (Option BToken)
-  pub rest : List (Option BToken)
+pub record BeginsExpr (x : Scope) (os : List (Option PlacedLexeme)) (n : ℕ) (e : t.BExpr) : Type 0 where
+  pub front : List (Option PlacedLexeme)
+  pub rest : List (Option PlacedLexeme)
   pub whole : os ≡ front ++ rest
   pub size : n ≡ length front
   pub spells : SpellsExpr x front e
   pub ends : StartsIndex rest → ⊥
 
 -- that is so of no expression; the number of the first one through which they begin none, or that of all of them
-pub record BeginsNone (x : Scope) (os : List (Option BToken)) (i : ℕ) : Type 0 where
+pub record BeginsNone (x : Scope) (os : List (Option PlacedLexeme)) (i : ℕ) : Type 0 where
   pub none : (n : ℕ) (e : t.BExpr) → BeginsExpr x os n e → ⊥
   pub place : IsPlace (IsExpr x) os i
 
 -- what is found: an expression and how many tokens it has, or that there is none and where
-abbrev pub Finds : Scope → List (Option BToken) → Option t.BExpr → ℕ → Type 0
+abbrev pub Finds : Scope → List (Option PlacedLexeme) → Option t.BExpr → ℕ → Type 0
 Finds x os (Some e) n = BeginsExpr x os n e
 Finds x os None n = BeginsNone x os n
 

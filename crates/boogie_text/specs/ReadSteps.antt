@@ -8,27 +8,27 @@ use Rattle.grammar.specs.declared.stop.Stop.{Stop}
 use Rattle.grammar.specs.declared.stop.Stop.TheVariants as stop
 use Rattle.boogie_tree.specs.Expr as t
 use Rattle.boogie_tree.specs.declared.exprs.BExpr.{BExpr}
-use Rattle.boogie_grammar.specs.declared.tokens.BToken.{BToken}
+use Rattle.boogie_grammar.specs.declared.tokens.PlacedLexeme.{PlacedLexeme}
 use Rattle.boogie_grammar.specs.Grammar.{Scope}
 use Rattle.boogie_grammar.specs.ReadView.{boxed_of}
 use Rattle.boogie_text.specs.ReadExpr.{BeginsExpr, BeginsNone}
 
 -- no token is next
-pub data NoToken : List (Option BToken) → Type 0 where
+pub data NoToken : List (Option PlacedLexeme) → Type 0 where
   ended : NoToken []
-  broken : {os : List (Option BToken)} → NoToken (None ∷ os)
+  broken : {os : List (Option PlacedLexeme)} → NoToken (None ∷ os)
 
 -- up to the first that is none, the tokens are these
-pub record IsFront (os : List (Option BToken)) (ts : List BToken) : Type 0 where
-  pub rest : List (Option BToken)
+pub record IsFront (os : List (Option PlacedLexeme)) (ts : List PlacedLexeme) : Type 0 where
+  pub rest : List (Option PlacedLexeme)
   pub whole : os ≡ map Some ts ++ rest
   pub ends : NoToken rest
 
 -- what these tokens begin with, where no token comes behind them, from what is read and what is left
-abbrev pub ReadsAlone : Scope → List BToken → Result (Box BExpr Global × Bor (List BToken)) (Stop BToken) → Type 0
-ReadsAlone x ts (Ok r) = (length r.1.now ≤ length ts) × ((os : List (Option BToken)) → NoToken os → BeginsExpr x (map Some ts ++ os) (length ts - length r.1.now) (boxed_of r.0))
+abbrev pub ReadsAlone : Scope → List PlacedLexeme → Result (Box BExpr Global × Bor (List PlacedLexeme)) (Stop PlacedLexeme) → Type 0
+ReadsAlone x ts (Ok r) = (length r.1.now ≤ length ts) × ((os : List (Option PlacedLexeme)) → NoToken os → BeginsExpr x (map Some ts ++ os) (length ts - length r.1.now) (boxed_of r.0))
 ReadsAlone x ts (Err stop.Memory) = Unit {0}
-ReadsAlone x ts (Err (stop.Before r)) = (length r.now ≤ length ts) × ((os : List (Option BToken)) → NoToken os → BeginsNone x (map Some ts ++ os) (length ts - length r.now))
+ReadsAlone x ts (Err (stop.Before r)) = (length r.now ≤ length ts) × ((os : List (Option PlacedLexeme)) → NoToken os → BeginsNone x (map Some ts ++ os) (length ts - length r.now))
 
 -- the tree that was found
 abbrev pub found_of : Option (Box BExpr Global) → Option t.BExpr

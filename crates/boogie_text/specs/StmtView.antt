@@ -10,7 +10,7 @@ use Rattle.boogie_tree.specs.Whole.{stmt_of, stmts_of, proc_of}
 use Rattle.boogie_tree.specs.declared.programs.Proc as declared
 use Rattle.boogie_tree.specs.declared.stmts.BStmt.{BStmt}
 use Rattle.boogie_grammar.specs.declared.tokens.BSign.TheVariants as sign
-use Rattle.boogie_grammar.specs.declared.tokens.BToken.{BToken}
+use Rattle.boogie_grammar.specs.declared.tokens.PlacedLexeme.{PlacedLexeme}
 use Rattle.boogie_grammar.specs.declared.tokens.Word.TheVariants as w
 use Rattle.boogie_grammar.specs.Tests as v
 use Rattle.boogie_grammar.specs.Tests.{some_free, a_variable, a_label}
@@ -56,7 +56,7 @@ abbrev pub block_of : Vec BStmt Global → s.BStmts
 block_of v = stmts_of v.items
 
 -- a `havoc` with its variable, or none
-abbrev pub EatsHavoc : List (List ℕ) → List BToken → Result (Option (ℕ × Bor (List BToken))) (Stop BToken) → Type 0
+abbrev pub EatsHavoc : List (List ℕ) → List PlacedLexeme → Result (Option (ℕ × Bor (List PlacedLexeme))) (Stop PlacedLexeme) → Type 0
 EatsHavoc ls ts (Ok None) = Goes (changing ls) ts (storing ls) ts
 EatsHavoc ls ts (Ok (Some p)) = Goes (changing ls) ts (after_sign sign.Semicolon (give (s.Havoc p.0))) p.1.now
 EatsHavoc ls ts (Err e) = Refuses (changing ls) ts e

@@ -9,7 +9,7 @@ use Rattle.boogie_tree.specs.Fits.{FitsStmt}
 use Rattle.boogie_tree.specs.Whole.{local_of, stmt_of}
 use Rattle.boogie_tree.specs.declared.programs.Local.{Local}
 use Rattle.boogie_grammar.specs.declared.tokens.BSign.TheVariants as sign
-use Rattle.boogie_grammar.specs.declared.tokens.BToken.{BToken}
+use Rattle.boogie_grammar.specs.declared.tokens.PlacedLexeme.{PlacedLexeme}
 use Rattle.boogie_grammar.specs.declared.tokens.Word.TheVariants as w
 use Rattle.boogie_grammar.specs.Cut.{IsRow}
 use Rattle.boogie_grammar.specs.Depth.{IsShallow}
@@ -26,7 +26,7 @@ use Rattle.boogie_text.specs.declared.outside.Outside.TheVariants as outside
 
 -- after these procedures the text goes on so that all of the program are those, and never are too many brackets unclosed
 pub record IsTail (so_far : List Proc) (text : List ℕ) (all : List Proc) : Type 0 where
-  pub tokens : List BToken
+  pub tokens : List PlacedLexeme
   pub cut : IsRow text tokens
   pub shallow : IsShallow tokens
   pub spells : Derives rules _ (rule (g.Program so_far)) tokens all
@@ -43,14 +43,14 @@ after_locals so_far name ls = read (g.Locals ls) (λ locals. after_statements so
 -- In a procedure of this name, behind these of its locals, the text goes on so that all procedures of the program are those: the
 -- procedures before, that one, and what follows it. One bracket is unclosed there, and never are too many.
 pub record IsLocalsTail (so_far : List Proc) (name : List ℕ) (ls : List p.Local) (text : List ℕ) (all : List Proc) : Type 0 where
-  pub tokens : List BToken
+  pub tokens : List PlacedLexeme
   pub cut : IsRow text tokens
   pub shallow : IsShallowFrom 1 tokens
   pub spells : Derives rules _ (after_locals so_far name ls) tokens all
 
 -- the same behind all of its locals, which are these, and these statements of its body
 pub record IsBodyTail (so_far : List Proc) (name : List ℕ) (ls : List p.Local) (done : List s.BStmt) (text : List ℕ) (all : List Proc) : Type 0 where
-  pub tokens : List BToken
+  pub tokens : List PlacedLexeme
   pub cut : IsRow text tokens
   pub shallow : IsShallowFrom 1 tokens
   pub spells : Derives rules _ (after_statements so_far name ls done) tokens all
@@ -105,21 +105,21 @@ abbrev pub declaring : List (List ℕ) → Rule v.locals
 declaring names = need (a_new_name names) (λ x. after_sign sign.Colon (read g.TypeOf (λ u. after_sign sign.Semicolon (give (record { name = x; ty = u } ∷ [])))))
 
 -- the tokens are the head of a procedure of this name, which is none of these
-pub record SpellsHead (taken : List (List ℕ)) (tokens : List BToken) (name : List ℕ) : Type 0 where
-  pub after : List BToken
+pub record SpellsHead (taken : List (List ℕ)) (tokens : List PlacedLexeme) (name : List ℕ) : Type 0 where
+  pub after : List PlacedLexeme
   pub begins : Starts boogie (the_word w.Procedure) tokens tt after
   pub spells : Derives rules _ (heading taken) after name
   pub new : is_among name taken ≡ false
 
 -- the tokens declare a local, whose name is none of these
-pub record SpellsLocal (names : List (List ℕ)) (tokens : List BToken) (l : p.Local) : Type 0 where
-  pub after : List BToken
+pub record SpellsLocal (names : List (List ℕ)) (tokens : List PlacedLexeme) (l : p.Local) : Type 0 where
+  pub after : List PlacedLexeme
   pub begins : Starts boogie (the_word w.Var) tokens tt after
   pub spells : Derives rules _ (declaring names) after (l ∷ [])
   pub new : is_among l.name names ≡ false
 
 -- the tokens are a statement in which locals of these names may be used
-abbrev pub SpellsStatement : List (List ℕ) → List BToken → s.BStmt → Type 0
+abbrev pub SpellsStatement : List (List ℕ) → List PlacedLexeme → s.BStmt → Type 0
 SpellsStatement names tokens a = Derives rules v.stmt (rule (g.Statement names)) tokens a
 
 -- a local as the list of it alone

@@ -7,7 +7,7 @@ ghost use Rattle.boogie_grammar.specs.ReadView.{scope_of, binding_of, ReadsBound
 use boogie_grammar::eating::{Read, eat_sign, eat_this, key, sign, this};
 use boogie_grammar::new_names::{bound_name, is_new};
 use boogie_grammar::scopes::{Names, Scope};
-use boogie_grammar::{BSign, BToken};
+use boogie_grammar::{BSign, PlacedLexeme};
 use boogie_tree::BBase;
 use std::alloc::Global;
 use vb_base::{Ident, pushed};
@@ -15,8 +15,8 @@ use vb_base::{Ident, pushed};
 /// Where the first bound name is next, as the first index: the other bound names, and the tokens after it.
 pub(crate) fn eat_bound<'a, 'b>(
     scope: Scope<'b>,
-    tokens: &'a [BToken],
-) -> Option<(&'b [Ident], &'a [BToken])>
+    tokens: &'a [PlacedLexeme],
+) -> Option<(&'b [Ident], &'a [PlacedLexeme])>
     ensures shorter { IfSome result (λ r. length r.1.now < length tokens.now) }
     ensures eats { MatchOption result (NoBound (scope_of scope.entry) tokens.now) (λ r. ReadsBound (scope_of scope.entry) tokens.now r.0.now r.1.now) }
 {
@@ -29,7 +29,7 @@ pub(crate) fn eat_bound<'a, 'b>(
 }
 
 /// The tokens after these names, each behind a `,`, and a `]`.
-pub(crate) fn bound_rest<'a>(names: &[Ident], tokens: &'a [BToken]) -> Read<'a, ()>
+pub(crate) fn bound_rest<'a>(names: &[Ident], tokens: &'a [PlacedLexeme]) -> Read<'a, ()>
     ensures shorter { IfOk result (λ r. length r.1.now < length tokens.now) }
     ensures reads { Parses (λ u. u) (g.rule (g.BoundRest names.now)) tokens.now result }
 {
@@ -50,7 +50,7 @@ pub(crate) fn binders<'a>(
     alloc: Global,
     scope: Scope<'_>,
     bound: &mut Names,
-    tokens: &'a [BToken],
+    tokens: &'a [PlacedLexeme],
 ) -> Read<'a, Vec<BBase>>
     requires { bound.now ≡ [] }
     ensures shorter { IfOk result (λ r. length r.1.now < length tokens.now) }

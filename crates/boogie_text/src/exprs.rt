@@ -9,14 +9,14 @@ use crate::builds::{at, wrap};
 use boogie_grammar::eating::{Read, eat_sign, eat_word, operator, sign, word};
 use boogie_grammar::leaves::{Wrap, eat_forall, eat_leaf, eat_variable, eat_wrap};
 use boogie_grammar::scopes::{Names, Scope};
-use boogie_grammar::{BSign, BToken, Word};
+use boogie_grammar::{BSign, PlacedLexeme, Word};
 use boogie_tree::BExpr;
 use std::alloc::Global;
 use vb_base::{boxed, pushed};
 
 /// An expression.
 #[cycle(expressions)]
-pub fn expr<'a>(alloc: Global, scope: Scope<'_>, tokens: &'a [BToken]) -> Read<'a, Box<BExpr>>
+pub fn expr<'a>(alloc: Global, scope: Scope<'_>, tokens: &'a [PlacedLexeme]) -> Read<'a, Box<BExpr>>
     ensures shorter { IfOk result (λ r. length r.1.now < length tokens.now) }
     ensures reads { Parses boxed_of (g.rule (g.Expr (scope_of scope.entry))) tokens.now result }
 {
@@ -42,7 +42,7 @@ fn wrapped<'a>(
     alloc: Global,
     scope: Scope<'_>,
     form: Wrap,
-    tokens: &'a [BToken],
+    tokens: &'a [PlacedLexeme],
 ) -> Read<'a, Box<BExpr>>
     ensures shorter { IfOk result (λ r. length r.1.now < length tokens.now) }
     ensures reads { Parses boxed_of (g.wrapped (scope_of scope.entry) (wrap_of form)) tokens.now result }
@@ -57,7 +57,7 @@ fn closed<'a>(
     alloc: Global,
     scope: Scope<'_>,
     form: Wrap,
-    tokens: &'a [BToken],
+    tokens: &'a [PlacedLexeme],
 ) -> Read<'a, Box<BExpr>>
     ensures shorter { IfOk result (λ r. length r.1.now < length tokens.now) }
     ensures reads { Parses boxed_of (closing (scope_of scope.entry) (wrap_of form)) tokens.now result }
@@ -70,7 +70,7 @@ fn closed<'a>(
 
 /// `"(" bexpr "," bexpr ")"` after `sPair`.
 #[cycle(expressions)]
-fn paired<'a>(alloc: Global, scope: Scope<'_>, tokens: &'a [BToken]) -> Read<'a, Box<BExpr>>
+fn paired<'a>(alloc: Global, scope: Scope<'_>, tokens: &'a [PlacedLexeme]) -> Read<'a, Box<BExpr>>
     ensures shorter { IfOk result (λ r. length r.1.now < length tokens.now) }
     ensures reads { Parses boxed_of (g.paired (scope_of scope.entry)) tokens.now result }
 {
@@ -89,7 +89,7 @@ fn named<'a>(
     alloc: Global,
     scope: Scope<'_>,
     i: usize,
-    tokens: &'a [BToken],
+    tokens: &'a [PlacedLexeme],
 ) -> Read<'a, Box<BExpr>>
     ensures shorter { IfOk result (λ r. length r.1.now ≤ length tokens.now) }
     ensures reads { Parses boxed_of (g.named (scope_of scope.entry) i) tokens.now result }
@@ -107,7 +107,7 @@ fn indices<'a>(
     alloc: Global,
     scope: Scope<'_>,
     i: usize,
-    tokens: &'a [BToken],
+    tokens: &'a [PlacedLexeme],
 ) -> Read<'a, Box<BExpr>>
     ensures shorter { IfOk result (λ r. length r.1.now < length tokens.now) }
     ensures reads { Parses boxed_of (g.rule (g.Indices (scope_of scope.entry) i)) tokens.now result }
@@ -124,7 +124,11 @@ fn indices<'a>(
 
 /// `bexpr { "," bexpr } "]"`
 #[cycle(expressions)]
-pub fn exprs<'a>(alloc: Global, scope: Scope<'_>, tokens: &'a [BToken]) -> Read<'a, Vec<BExpr>>
+pub fn exprs<'a>(
+    alloc: Global,
+    scope: Scope<'_>,
+    tokens: &'a [PlacedLexeme],
+) -> Read<'a, Vec<BExpr>>
     ensures shorter { IfOk result (λ r. length r.1.now < length tokens.now) }
     ensures reads { Parses all_exprs_of (g.rule (g.Exprs (scope_of scope.entry))) tokens.now result }
 {
@@ -141,7 +145,11 @@ pub fn exprs<'a>(alloc: Global, scope: Scope<'_>, tokens: &'a [BToken]) -> Read<
 
 /// A form in parentheses.
 #[cycle(expressions)]
-fn in_parens<'a>(alloc: Global, scope: Scope<'_>, tokens: &'a [BToken]) -> Read<'a, Box<BExpr>>
+fn in_parens<'a>(
+    alloc: Global,
+    scope: Scope<'_>,
+    tokens: &'a [PlacedLexeme],
+) -> Read<'a, Box<BExpr>>
     ensures shorter { IfOk result (λ r. length r.1.now < length tokens.now) }
     ensures reads { Parses boxed_of (g.in_parens (scope_of scope.entry)) tokens.now result }
 {
@@ -151,7 +159,7 @@ fn in_parens<'a>(alloc: Global, scope: Scope<'_>, tokens: &'a [BToken]) -> Read<
 
 /// What follows a `(`, with its `)`.
 #[cycle(expressions)]
-fn inside<'a>(alloc: Global, scope: Scope<'_>, tokens: &'a [BToken]) -> Read<'a, Box<BExpr>>
+fn inside<'a>(alloc: Global, scope: Scope<'_>, tokens: &'a [PlacedLexeme]) -> Read<'a, Box<BExpr>>
     ensures shorter { IfOk result (λ r. length r.1.now < length tokens.now) }
     ensures reads { Parses boxed_of (g.rule (g.InParens (scope_of scope.entry))) tokens.now result }
 {
@@ -172,7 +180,7 @@ fn inside<'a>(alloc: Global, scope: Scope<'_>, tokens: &'a [BToken]) -> Read<'a,
 
 /// `bexpr "then" bexpr "else" bexpr ")"` after `if`.
 #[cycle(expressions)]
-fn choice<'a>(alloc: Global, scope: Scope<'_>, tokens: &'a [BToken]) -> Read<'a, Box<BExpr>>
+fn choice<'a>(alloc: Global, scope: Scope<'_>, tokens: &'a [PlacedLexeme]) -> Read<'a, Box<BExpr>>
     ensures shorter { IfOk result (λ r. length r.1.now < length tokens.now) }
     ensures reads { Parses boxed_of (chosen (scope_of scope.entry)) tokens.now result }
 {
@@ -188,7 +196,7 @@ fn choice<'a>(alloc: Global, scope: Scope<'_>, tokens: &'a [BToken]) -> Read<'a,
 
 /// `bexpr bop bexpr ")"`
 #[cycle(expressions)]
-fn binary<'a>(alloc: Global, scope: Scope<'_>, tokens: &'a [BToken]) -> Read<'a, Box<BExpr>>
+fn binary<'a>(alloc: Global, scope: Scope<'_>, tokens: &'a [PlacedLexeme]) -> Read<'a, Box<BExpr>>
     ensures shorter { IfOk result (λ r. length r.1.now < length tokens.now) }
     ensures reads { Parses boxed_of (g.binary (scope_of scope.entry)) tokens.now result }
 {
@@ -202,7 +210,11 @@ fn binary<'a>(alloc: Global, scope: Scope<'_>, tokens: &'a [BToken]) -> Read<'a,
 
 /// What a `forall` binds and says, after the word, with its `)`.
 #[cycle(expressions)]
-fn quantified<'a>(alloc: Global, scope: Scope<'_>, tokens: &'a [BToken]) -> Read<'a, Box<BExpr>>
+fn quantified<'a>(
+    alloc: Global,
+    scope: Scope<'_>,
+    tokens: &'a [PlacedLexeme],
+) -> Read<'a, Box<BExpr>>
     ensures shorter { IfOk result (λ r. length r.1.now < length tokens.now) }
     ensures reads { Parses boxed_of (quantifying (scope_of scope.entry)) tokens.now result }
 {
@@ -216,7 +228,7 @@ fn binding<'a>(
     alloc: Global,
     scope: Scope<'_>,
     bound: &mut Names,
-    tokens: &'a [BToken],
+    tokens: &'a [PlacedLexeme],
 ) -> Read<'a, Box<BExpr>>
     requires { bound.now ≡ [] }
     ensures shorter { IfOk result (λ r. length r.1.now < length tokens.now) }

@@ -12,7 +12,7 @@ use crate::types::type_of;
 use boogie_grammar::eating::{Read, eat_sign, eat_word, sign};
 use boogie_grammar::new_names::new_name;
 use boogie_grammar::scopes::Names;
-use boogie_grammar::{BSign, BToken, Part, Word, next_part};
+use boogie_grammar::{BSign, Part, PlacedLexeme, Word, next_part};
 use boogie_tree::{BStmt, Local};
 use grammar::Stop;
 use std::alloc::Global;
@@ -24,7 +24,7 @@ pub fn next_local<'a>(
     alloc: Global,
     names: &Names,
     text: &'a [u8],
-    tokens: &mut Vec<BToken>,
+    tokens: &mut Vec<PlacedLexeme>,
 ) -> Result<Option<(Local, &'a [u8])>, Memory>
     ensures { IfOk result (λ o. IfSome o (λ r. BeginsLocal names.now text.now (local_of r.0) r.1.now)) }
 {
@@ -53,7 +53,7 @@ pub fn next_statement<'a>(
     alloc: Global,
     locals: &Names,
     text: &'a [u8],
-    tokens: &mut Vec<BToken>,
+    tokens: &mut Vec<PlacedLexeme>,
 ) -> Result<Inside<'a>, Memory>
     ensures { IfOk result (FindsInside locals.now text.now) }
 {
@@ -68,7 +68,11 @@ pub fn next_statement<'a>(
 }
 
 /// The local that all of these tokens declare, if they declare one, whose name is none of these.
-fn whole_local(alloc: Global, names: &Names, tokens: &[BToken]) -> Result<Option<Local>, Memory>
+fn whole_local(
+    alloc: Global,
+    names: &Names,
+    tokens: &[PlacedLexeme],
+) -> Result<Option<Local>, Memory>
     ensures { IfOk result (λ o. IfSome o (λ l. SpellsLocal names.now tokens.now (local_of l))) }
 {
     let Some(after) = eat_word(Word::Var, tokens) else {
@@ -82,7 +86,7 @@ fn whole_local(alloc: Global, names: &Names, tokens: &[BToken]) -> Result<Option
 }
 
 /// `name ":" btype ";"` after `var`, where the name is none of these.
-fn declaration<'a>(alloc: Global, names: &Names, tokens: &'a [BToken]) -> Read<'a, Local>
+fn declaration<'a>(alloc: Global, names: &Names, tokens: &'a [PlacedLexeme]) -> Read<'a, Local>
     ensures new { IfOk result (λ r. is_among r.0.name names.now ≡ false) }
     ensures reads { Parses one_local (declaring names.now) tokens.now result }
 {
@@ -97,7 +101,7 @@ fn declaration<'a>(alloc: Global, names: &Names, tokens: &'a [BToken]) -> Read<'
 fn whole_statement(
     alloc: Global,
     locals: &Names,
-    tokens: &[BToken],
+    tokens: &[PlacedLexeme],
 ) -> Result<Option<BStmt>, Memory>
     ensures { IfOk result (λ o. IfSome o (λ a. SpellsStatement locals.now tokens.now (stmt_of a))) }
 {
@@ -109,7 +113,7 @@ fn whole_statement(
 }
 
 /// Whether a `}` is the only token.
-fn is_end(tokens: &[BToken]) -> bool
+fn is_end(tokens: &[PlacedLexeme]) -> bool
     ensures { IsTrue result → Starts (the_sign sign.CloseBrace) tokens.now tt [] }
 {
     match eat_sign(BSign::CloseBrace, tokens) {

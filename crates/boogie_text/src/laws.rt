@@ -6,7 +6,7 @@ ghost use Rattle.boogie_tree.specs.Program as p;
 ghost use Rattle.boogie_tree.specs.Text.{prelude};
 ghost use Rattle.boogie_tree.specs.Nested.{program_depth};
 ghost use Rattle.boogie_tree.specs.declared.exprs.BBase.{BBase};
-ghost use Rattle.boogie_grammar.specs.declared.tokens.BToken.{BToken};
+ghost use Rattle.boogie_grammar.specs.declared.tokens.PlacedLexeme.{PlacedLexeme};
 ghost use Rattle.boogie_grammar.specs.declared.faults.BoogieFault.{BoogieFault};
 ghost use Rattle.boogie_grammar.specs.Depth.{IsShallow, unclosed};
 ghost use Rattle.boogie_grammar.specs.Faults.{IsFault};
@@ -24,17 +24,17 @@ pub fn one_program()
 
 /// A list of tokens spells at most one program.
 pub fn one_tree()
-    ensures { (ts : List BToken) (a : p.BProgram) (b : p.BProgram) → Spells ts a → Spells ts b → a ≡ b }
+    ensures { (ts : List PlacedLexeme) (a : p.BProgram) (b : p.BProgram) → Spells ts a → Spells ts b → a ≡ b }
 {}
 
 /// A list of tokens goes wrong at one place at most.
 pub fn one_place()
-    ensures { (ts : List BToken) (i j : ℕ) → IsPlace IsProgram ts i → IsPlace IsProgram ts j → i ≡ j }
+    ensures { (ts : List PlacedLexeme) (i j : ℕ) → IsPlace IsProgram ts i → IsPlace IsProgram ts j → i ≡ j }
 {}
 
 /// Each list of tokens spells a program, or spells none and goes wrong at a place.
 pub fn some_answer()
-    ensures { (ts : List BToken) → IsProgram ts ⊎ GoesWrong ts }
+    ensures { (ts : List PlacedLexeme) → IsProgram ts ⊎ GoesWrong ts }
 {}
 
 /// A text that goes on behind the prelude, as behind no procedure, so that all procedures are these, is read as these.
@@ -59,7 +59,7 @@ pub fn not_refused()
 
 /// The tokens of a program have no more brackets unclosed at once than the program is nested.
 pub fn brackets_are_nested()
-    ensures { (ts : List BToken) (p : p.BProgram) → Spells ts p → (n : ℕ) → unclosed (take n ts) ≤ program_depth p }
+    ensures { (ts : List PlacedLexeme) (p : p.BProgram) → Spells ts p → (n : ℕ) → unclosed (take n ts) ≤ program_depth p }
 {}
 
 /// What bytes spell can be printed: names are names that are not reserved and differ where they have to, literals are within

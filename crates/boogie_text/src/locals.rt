@@ -10,7 +10,7 @@ use crate::types::type_of;
 use boogie_grammar::eating::{Read, eat_word, sign};
 use boogie_grammar::new_names::new_name;
 use boogie_grammar::scopes::Names;
-use boogie_grammar::{BSign, BToken, Word};
+use boogie_grammar::{BSign, PlacedLexeme, Word};
 use boogie_tree::Local;
 use std::alloc::Global;
 use vb_base::pushed;
@@ -19,7 +19,7 @@ use vb_base::pushed;
 pub(crate) fn locals<'a>(
     alloc: Global,
     names: &mut Names,
-    tokens: &'a [BToken],
+    tokens: &'a [PlacedLexeme],
 ) -> Read<'a, Vec<Local>>
     requires { names.now ≡ [] }
     ensures shorter { IfOk result (λ r. length r.1.now ≤ length tokens.now) }

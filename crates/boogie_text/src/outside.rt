@@ -7,7 +7,7 @@ ghost use Rattle.boogie_text.specs.Tail.{FindsOutside, SpellsHead, heading};
 use boogie_grammar::eating::{Read, eat_word, sign};
 use boogie_grammar::new_names::new_name;
 use boogie_grammar::scopes::Names;
-use boogie_grammar::{BSign, BToken, Part, Word, next_part};
+use boogie_grammar::{BSign, Part, PlacedLexeme, Word, next_part};
 use grammar::Stop;
 use std::alloc::Global;
 use vb_base::{Ident, Memory};
@@ -28,7 +28,7 @@ pub fn next_outside<'a>(
     alloc: Global,
     taken: &Names,
     text: &'a [u8],
-    tokens: &mut Vec<BToken>,
+    tokens: &mut Vec<PlacedLexeme>,
 ) -> Result<Outside<'a>, Memory>
     ensures { IfOk result (FindsOutside taken.now text.now) }
 {
@@ -43,7 +43,7 @@ pub fn next_outside<'a>(
 }
 
 /// The name in the head of a procedure that all of these tokens spell, if they spell one.
-fn whole_head(taken: &Names, tokens: &[BToken]) -> Result<Option<Ident>, Memory>
+fn whole_head(taken: &Names, tokens: &[PlacedLexeme]) -> Result<Option<Ident>, Memory>
     ensures { IfOk result (λ o. IfSome o (λ name. SpellsHead taken.now tokens.now name)) }
 {
     let Some(after) = eat_word(Word::Procedure, tokens) else {
@@ -57,7 +57,7 @@ fn whole_head(taken: &Names, tokens: &[BToken]) -> Result<Option<Ident>, Memory>
 }
 
 /// `name "(" ")" "{"` after `procedure`, where the name is none of these.
-fn head<'a>(taken: &Names, tokens: &'a [BToken]) -> Read<'a, Ident>
+fn head<'a>(taken: &Names, tokens: &'a [PlacedLexeme]) -> Read<'a, Ident>
     ensures new { IfOk result (λ r. is_among r.0 taken.now ≡ false) }
     ensures reads { Parses (λ x. x) (heading taken.now) tokens.now result }
 {

@@ -11,13 +11,17 @@ use crate::stmts::statements;
 use boogie_grammar::eating::{Read, eat_word, sign};
 use boogie_grammar::new_names::new_name;
 use boogie_grammar::scopes::Names;
-use boogie_grammar::{BSign, BToken, Word};
+use boogie_grammar::{BSign, PlacedLexeme, Word};
 use boogie_tree::Proc;
 use std::alloc::Global;
 use vb_base::pushed;
 
 /// A procedure after its word, whose name is none of these.
-pub(crate) fn procedure<'a>(alloc: Global, taken: &Names, tokens: &'a [BToken]) -> Read<'a, Proc>
+pub(crate) fn procedure<'a>(
+    alloc: Global,
+    taken: &Names,
+    tokens: &'a [PlacedLexeme],
+) -> Read<'a, Proc>
     ensures shorter { IfOk result (λ r. length r.1.now < length tokens.now) }
     ensures new { IfOk result (λ r. is_among r.0.name taken.now ≡ false) }
     ensures reads { Parses proc_of (g.rule (g.Procedure taken.now)) tokens.now result }
@@ -40,7 +44,7 @@ pub(crate) fn procedure<'a>(alloc: Global, taken: &Names, tokens: &'a [BToken]) 
 }
 
 /// The procedures of a program, whose names differ, and the tokens after them.
-pub(crate) fn procedures<'a>(alloc: Global, tokens: &'a [BToken]) -> Read<'a, Vec<Proc>>
+pub(crate) fn procedures<'a>(alloc: Global, tokens: &'a [PlacedLexeme]) -> Read<'a, Vec<Proc>>
     ensures reads { Parses all_procs_of (g.rule (g.Program [])) tokens.now result }
 {
     let mut names = Names::new(alloc);

@@ -79,7 +79,7 @@ fn rest_tokens(alloc: Global, bytes: &[u8], rest: &[u8]) -> Result<Vec<BToken>, 
 }
 
 /// These tokens as they are handed out.
-fn all_shown(alloc: Global, tokens: &[boogie_grammar::BToken]) -> Result<Vec<BToken>, Memory>
+fn all_shown(alloc: Global, tokens: &[boogie_grammar::PlacedLexeme]) -> Result<Vec<BToken>, Memory>
     ensures { IfOk result (λ v. v.items ≡ map shown_token tokens.now) }
 {
     let mut all = Vec::new(alloc);
@@ -92,20 +92,25 @@ fn all_shown(alloc: Global, tokens: &[boogie_grammar::BToken]) -> Result<Vec<BTo
 }
 
 /// A token as it is handed out.
-fn shown(alloc: Global, tok: &boogie_grammar::BTok) -> Result<BTok, Memory>
+fn shown(alloc: Global, tok: &boogie_grammar::Lexeme) -> Result<BTok, Memory>
     ensures { IfOk result (λ t. t ≡ shown tok.now) }
 {
     match tok {
-        boogie_grammar::BTok::Name(name) => Ok(BTok::Name(name.copy()?)),
-        boogie_grammar::BTok::Number(n) => Ok(BTok::Number(n.value())),
-        boogie_grammar::BTok::Real(n) => Ok(BTok::RealNumber(n.value())),
-        boogie_grammar::BTok::Text(label) => Ok(BTok::Text(*label)),
-        boogie_grammar::BTok::Sign(sign) => { Ok(BTok::Sign(Ident::new(alloc, sign_text(*sign))?)) }
+        boogie_grammar::Lexeme::Name(name) => Ok(BTok::Name(name.copy()?)),
+        boogie_grammar::Lexeme::Number(n) => Ok(BTok::Number(n.value())),
+        boogie_grammar::Lexeme::Real(n) => Ok(BTok::RealNumber(n.value())),
+        boogie_grammar::Lexeme::Text(label) => Ok(BTok::Text(*label)),
+        boogie_grammar::Lexeme::Sign(sign) => {
+            Ok(BTok::Sign(Ident::new(alloc, sign_text(*sign))?))
+        }
     }
 }
 
 /// The tokens that these stand for, up to the first that stands for none.
-pub(crate) fn front(alloc: Global, tokens: &[BToken]) -> Result<Vec<boogie_grammar::BToken>, Memory>
+pub(crate) fn front(
+    alloc: Global,
+    tokens: &[BToken],
+) -> Result<Vec<boogie_grammar::PlacedLexeme>, Memory>
     ensures { IfOk result (λ v. IsFront (map token_of tokens.now) v.items) }
 {
     let mut all = Vec::new(alloc);
@@ -114,13 +119,13 @@ pub(crate) fn front(alloc: Global, tokens: &[BToken]) -> Result<Vec<boogie_gramm
             return Ok(all);
         };
         let pos = token.pos;
-        all.push(boogie_grammar::BToken { tok, pos })?;
+        all.push(boogie_grammar::PlacedLexeme { tok, pos })?;
     }
     Ok(all)
 }
 
 /// What a token stands for in the grammar, if it stands for a token of it.
-fn stands_for(tok: &BTok) -> Result<Option<boogie_grammar::BTok>, Memory>
+fn stands_for(tok: &BTok) -> Result<Option<boogie_grammar::Lexeme>, Memory>
     ensures { IfOk result (λ o. o ≡ stands_for tok.now) }
 {
     match tok {
@@ -129,15 +134,15 @@ fn stands_for(tok: &BTok) -> Result<Option<boogie_grammar::BTok>, Memory>
                 return Ok(None);
             }
             let name = name.copy()?;
-            Ok(Some(boogie_grammar::BTok::Name(name)))
+            Ok(Some(boogie_grammar::Lexeme::Name(name)))
         }
         BTok::Number(n) if *n < 0 => Ok(None),
-        BTok::Number(n) => Ok(Some(boogie_grammar::BTok::Number(Literal::new(*n)))),
+        BTok::Number(n) => Ok(Some(boogie_grammar::Lexeme::Number(Literal::new(*n)))),
         BTok::RealNumber(n) if *n < 0 => Ok(None),
-        BTok::RealNumber(n) => Ok(Some(boogie_grammar::BTok::Real(Literal::new(*n)))),
-        BTok::Text(label) => Ok(Some(boogie_grammar::BTok::Text(*label))),
+        BTok::RealNumber(n) => Ok(Some(boogie_grammar::Lexeme::Real(Literal::new(*n)))),
+        BTok::Text(label) => Ok(Some(boogie_grammar::Lexeme::Text(*label))),
         BTok::Sign(sign) => match sign_of(sign.bytes()) {
-            Some(sign) => Ok(Some(boogie_grammar::BTok::Sign(sign))),
+            Some(sign) => Ok(Some(boogie_grammar::Lexeme::Sign(sign))),
             None => Ok(None),
         },
     }

@@ -10,7 +10,7 @@ use crate::exprs::{expr, exprs};
 use boogie_grammar::eating::{Read, eat_sign, eat_word, label, sign, word};
 use boogie_grammar::leaves::eat_variable;
 use boogie_grammar::scopes::{Names, Scope};
-use boogie_grammar::{BSign, BToken, Word};
+use boogie_grammar::{BSign, PlacedLexeme, Word};
 use boogie_tree::{BExpr, BStmt};
 use grammar::Stop;
 use std::alloc::Global;
@@ -24,7 +24,11 @@ fn none_bound<'a>() -> &'a [Ident]
 }
 
 /// An expression that stands in no `forall`.
-pub(crate) fn whole_expr<'a>(alloc: Global, locals: &Names, tokens: &'a [BToken]) -> Read<'a, BExpr>
+pub(crate) fn whole_expr<'a>(
+    alloc: Global,
+    locals: &Names,
+    tokens: &'a [PlacedLexeme],
+) -> Read<'a, BExpr>
     ensures shorter { IfOk result (λ r. length r.1.now < length tokens.now) }
     ensures reads { Parses expr_of (g.rule (g.Expr (no_bound locals.now))) tokens.now result }
 {
@@ -39,7 +43,11 @@ pub(crate) fn whole_expr<'a>(alloc: Global, locals: &Names, tokens: &'a [BToken]
 }
 
 /// Indices that stand in no `forall`, with the `]`.
-fn whole_exprs<'a>(alloc: Global, locals: &Names, tokens: &'a [BToken]) -> Read<'a, Vec<BExpr>>
+fn whole_exprs<'a>(
+    alloc: Global,
+    locals: &Names,
+    tokens: &'a [PlacedLexeme],
+) -> Read<'a, Vec<BExpr>>
     ensures shorter { IfOk result (λ r. length r.1.now < length tokens.now) }
     ensures reads { Parses all_exprs_of (g.rule (g.Exprs (no_bound locals.now))) tokens.now result }
 {
@@ -53,7 +61,11 @@ fn whole_exprs<'a>(alloc: Global, locals: &Names, tokens: &'a [BToken]) -> Read<
 }
 
 /// `bexpr ";"` after `assume`.
-pub(crate) fn assumption<'a>(alloc: Global, locals: &Names, tokens: &'a [BToken]) -> Read<'a, BStmt>
+pub(crate) fn assumption<'a>(
+    alloc: Global,
+    locals: &Names,
+    tokens: &'a [PlacedLexeme],
+) -> Read<'a, BStmt>
     ensures shorter { IfOk result (λ r. length r.1.now < length tokens.now) }
     ensures reads { Parses stmt_of (assuming locals.now) tokens.now result }
 {
@@ -63,7 +75,11 @@ pub(crate) fn assumption<'a>(alloc: Global, locals: &Names, tokens: &'a [BToken]
 }
 
 /// `"{" ":" "msg" string "}" bexpr ";"` after `assert`.
-pub(crate) fn assertion<'a>(alloc: Global, locals: &Names, tokens: &'a [BToken]) -> Read<'a, BStmt>
+pub(crate) fn assertion<'a>(
+    alloc: Global,
+    locals: &Names,
+    tokens: &'a [PlacedLexeme],
+) -> Read<'a, BStmt>
     ensures shorter { IfOk result (λ r. length r.1.now < length tokens.now) }
     ensures reads { Parses stmt_of (asserting locals.now) tokens.now result }
 {
@@ -82,7 +98,7 @@ pub(crate) fn assignment<'a>(
     alloc: Global,
     locals: &Names,
     i: usize,
-    tokens: &'a [BToken],
+    tokens: &'a [PlacedLexeme],
 ) -> Read<'a, BStmt>
     ensures shorter { IfOk result (λ r. length r.1.now < length tokens.now) }
     ensures reads { Parses stmt_of (g.assignment locals.now i) tokens.now result }
@@ -103,8 +119,8 @@ pub(crate) fn assignment<'a>(
 /// The variable after `havoc`, if the word is next; then a variable must follow it.
 pub(crate) fn eat_havoc<'a>(
     locals: &Names,
-    tokens: &'a [BToken],
-) -> Result<Option<(usize, &'a [BToken])>, Stop<'a, BToken>>
+    tokens: &'a [PlacedLexeme],
+) -> Result<Option<(usize, &'a [PlacedLexeme])>, Stop<'a, PlacedLexeme>>
     ensures shorter { IfOk result (λ o. IfSome o (λ r. length r.1.now < length tokens.now)) }
     ensures eats { EatsHavoc locals.now tokens.now result }
 {

@@ -150,7 +150,7 @@ fn found_in(alloc: Global, scope: Scope<'_>, tokens: &[BToken]) -> Result<Found,
 fn alone<'a>(
     alloc: Global,
     scope: Scope<'_>,
-    tokens: &'a [boogie_grammar::BToken],
+    tokens: &'a [boogie_grammar::PlacedLexeme],
 ) -> Read<'a, Box<BExpr>>
     ensures { ReadsAlone (scope_of scope.entry) tokens.now result }
 {

@@ -9,7 +9,7 @@ use crate::simple::{assertion, assignment, assumption, eat_havoc, whole_expr};
 use boogie_grammar::eating::{Read, eat_sign, eat_word, sign, word};
 use boogie_grammar::leaves::eat_variable;
 use boogie_grammar::scopes::Names;
-use boogie_grammar::{BSign, BToken, Word};
+use boogie_grammar::{BSign, PlacedLexeme, Word};
 use boogie_tree::BStmt;
 use std::alloc::Global;
 use vb_base::pushed;
@@ -19,7 +19,7 @@ use vb_base::pushed;
 pub(crate) fn statements<'a>(
     alloc: Global,
     locals: &Names,
-    tokens: &'a [BToken],
+    tokens: &'a [PlacedLexeme],
 ) -> Read<'a, Vec<BStmt>>
     ensures shorter { IfOk result (λ r. length r.1.now < length tokens.now) }
     ensures reads { Parses all_stmts_of (g.rule (g.Statements locals.now [])) tokens.now result }
@@ -38,7 +38,11 @@ pub(crate) fn statements<'a>(
 
 /// A statement.
 #[cycle(blocks)]
-pub(crate) fn statement<'a>(alloc: Global, locals: &Names, tokens: &'a [BToken]) -> Read<'a, BStmt>
+pub(crate) fn statement<'a>(
+    alloc: Global,
+    locals: &Names,
+    tokens: &'a [PlacedLexeme],
+) -> Read<'a, BStmt>
     ensures shorter { IfOk result (λ r. length r.1.now < length tokens.now) }
     ensures reads { Parses stmt_of (g.rule (g.Statement locals.now)) tokens.now result }
 {
@@ -60,7 +64,7 @@ pub(crate) fn statement<'a>(alloc: Global, locals: &Names, tokens: &'a [BToken])
 
 /// `"if" "(" ( bexpr | "*" ) ")" bblock [ "else" bblock ]`
 #[cycle(blocks)]
-fn conditional<'a>(alloc: Global, locals: &Names, tokens: &'a [BToken]) -> Read<'a, BStmt>
+fn conditional<'a>(alloc: Global, locals: &Names, tokens: &'a [PlacedLexeme]) -> Read<'a, BStmt>
     ensures shorter { IfOk result (λ r. length r.1.now < length tokens.now) }
     ensures reads { Parses stmt_of (g.conditional locals.now) tokens.now result }
 {
@@ -74,7 +78,7 @@ fn conditional<'a>(alloc: Global, locals: &Names, tokens: &'a [BToken]) -> Read<
 
 /// What follows the `*` of an `if`.
 #[cycle(blocks)]
-fn either<'a>(alloc: Global, locals: &Names, tokens: &'a [BToken]) -> Read<'a, BStmt>
+fn either<'a>(alloc: Global, locals: &Names, tokens: &'a [PlacedLexeme]) -> Read<'a, BStmt>
     ensures shorter { IfOk result (λ r. length r.1.now < length tokens.now) }
     ensures reads { Parses stmt_of (unpicked locals.now) tokens.now result }
 {
@@ -86,7 +90,7 @@ fn either<'a>(alloc: Global, locals: &Names, tokens: &'a [BToken]) -> Read<'a, B
 
 /// What follows the `(` of an `if`, where it is no `*`.
 #[cycle(blocks)]
-fn choice<'a>(alloc: Global, locals: &Names, tokens: &'a [BToken]) -> Read<'a, BStmt>
+fn choice<'a>(alloc: Global, locals: &Names, tokens: &'a [PlacedLexeme]) -> Read<'a, BStmt>
     ensures shorter { IfOk result (λ r. length r.1.now < length tokens.now) }
     ensures reads { Parses stmt_of (picked locals.now) tokens.now result }
 {
@@ -99,7 +103,7 @@ fn choice<'a>(alloc: Global, locals: &Names, tokens: &'a [BToken]) -> Read<'a, B
 
 /// `"{" { bstmt } "}"`
 #[cycle(blocks)]
-fn block<'a>(alloc: Global, locals: &Names, tokens: &'a [BToken]) -> Read<'a, Vec<BStmt>>
+fn block<'a>(alloc: Global, locals: &Names, tokens: &'a [PlacedLexeme]) -> Read<'a, Vec<BStmt>>
     ensures shorter { IfOk result (λ r. length r.1.now < length tokens.now) }
     ensures reads { Parses block_of (g.rule (g.Block locals.now)) tokens.now result }
 {
@@ -110,7 +114,7 @@ fn block<'a>(alloc: Global, locals: &Names, tokens: &'a [BToken]) -> Read<'a, Ve
 
 /// `[ "else" bblock ]`
 #[cycle(blocks)]
-fn otherwise<'a>(alloc: Global, locals: &Names, tokens: &'a [BToken]) -> Read<'a, Vec<BStmt>>
+fn otherwise<'a>(alloc: Global, locals: &Names, tokens: &'a [PlacedLexeme]) -> Read<'a, Vec<BStmt>>
     ensures shorter { IfOk result (λ r. length r.1.now ≤ length tokens.now) }
     ensures reads { Parses block_of (g.rule (g.Else locals.now)) tokens.now result }
 {

@@ -15,23 +15,25 @@ use vb_base::{Ident, Memory};
 #[derive(Drop)]
 pub struct Procs<'a> {
     pub all: &'a [WProc],
-    /// The place of the first one of each name. Where memory was short there is no table, and a name is searched for.
+    /// The place of the first one of each name. Where there is no table, a name is searched for.
     places: Option<IndexMap<Ident, usize>>,
     ghost are_at_places: { ForSome places (λ table. AreAtPlaces table.entries all.now) },
 }
 
 impl<'a> Procs<'a> {
-    /// These procedures.
-    pub fn of(alloc: Global, all: &'a [WProc]) -> Procs<'a>
+    /// These procedures, with a table. `Memory` where there is no memory for it.
+    pub fn of(alloc: Global, all: &'a [WProc]) -> Result<Procs<'a>, Memory>
+        ensures { IfOk result (λ procs. procs.all.now ≡ all.now) }
+    {
+        let places = Some(places_of(alloc, all)?);
+        Ok(Procs { all, places })
+    }
+
+    /// These procedures, without a table, which takes no memory.
+    pub fn without_table(all: &'a [WProc]) -> Procs<'a>
         ensures { result.all.now ≡ all.now }
     {
-        match places_of(alloc, all) {
-            Ok(table) => Procs {
-                all,
-                places: Some(table),
-            },
-            Err(_) => Procs { all, places: None },
-        }
+        Procs { all, places: None }
     }
 
     /// The first procedure of this name.

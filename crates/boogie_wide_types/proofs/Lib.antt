@@ -2,4 +2,4 @@ pub mod HeadLaws
 pub mod TargetLaws
 pub mod NodeLaws
 pub mod ProgramLaws
-pub mod SeenLaws
+pub mod MarkLaws

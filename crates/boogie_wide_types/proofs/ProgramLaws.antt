@@ -1,10 +1,11 @@
 -- The number of the first ill-typed procedure, one procedure after the other.
-use Rattle.std.proofs.Common.{◌≡◌, ℕ, suc, ◌+◌, true, false, Option, Some, None, List, ◌∷◌, map, refl, ap, arith}
+use Rattle.std.proofs.Common.{◌≡◌, ◌∙◌, ◌↔◌, ℕ, suc, ◌+◌, true, false, Option, Some, None, IfSome, IsNone, List, ◌∷◌, map, refl, sym, ap, arith}
 use Rattle.std.specs.Option.{option_map}
 use Rattle.boogie_wide.specs.Wide as w
 use Rattle.boogie_wide.specs.View.{wproc_of}
-use Rattle.boogie_wide.specs.WideTypes.{is_wide_proc, ill_typed_wide}
+use Rattle.boogie_wide.specs.WideTypes.{IsWideProgram, IsFirstIllTypedWide, is_wide_proc, ill_typed_wide}
 use Rattle.boogie_wide.specs.declared.wide.WProc.{WProc}
+use Rattle.boogie_wide.proofs.WideTypeLaws.{none_ill_typed, none_ill_typed_back, is_first_wide}
 
 number_after : (n : ℕ) (o : Option ℕ) → option_map (λ m. n + m) (option_map suc o) ≡ option_map (λ m. (n + 1) + m) o
 number_after n None = refl
@@ -17,3 +18,15 @@ module _ (ps : List w.WProc) where
   pub at_typed : (n : ℕ) (d : WProc) (ds : List WProc) → is_wide_proc ps (wproc_of d) ≡ true →
       option_map (λ m. n + m) (ill_typed_wide ps (map wproc_of (d ∷ ds))) ≡ option_map (λ m. (n + 1) + m) (ill_typed_wide ps (map wproc_of ds))
   at_typed n d ds h = rw h (number_after n (ill_typed_wide ps (map wproc_of ds)))
+
+-- what is answered of a program whose procedures these are
+module _ (program : w.WProgram) (o : Option ℕ) (is : o ≡ ill_typed_wide program.procs program.procs) where
+  pub none_where_typed : IsNone o ↔ IsWideProgram program
+  none_where_typed = ((λ none. none_ill_typed program (sym is ∙ none)), (λ typed. is ∙ none_ill_typed_back program typed))
+
+  pub some_is_first : IfSome o (IsFirstIllTypedWide program)
+  some_is_first = at o is
+    where
+      at : (o : Option ℕ) → o ≡ ill_typed_wide program.procs program.procs → IfSome o (IsFirstIllTypedWide program)
+      at None h = tt
+      at (Some number) h = is_first_wide program number (sym h)

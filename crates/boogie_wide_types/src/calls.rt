@@ -1,5 +1,5 @@
 // The types of calls.
-ghost use Rattle.std.specs.Prelude.{◌≡◌, ◌==◌, not, nat_le, map, slice_get, Some, IfOk};
+ghost use Rattle.std.specs.Prelude.{◌≡◌, nat_le, map, slice_get, Some};
 ghost use Rattle.std.specs.List.{list_all};
 ghost use Rattle.boogie_tree.specs.Whole.{expr_of, exprs_of, type_of};
 ghost use Rattle.boogie_meaning.specs.Types.{is_type};
@@ -9,12 +9,11 @@ ghost use Rattle.boogie_wide.specs.View.{wproc_of};
 ghost use Rattle.boogie_wide.specs.WideTypes as ty;
 
 use crate::heads::{params, returns};
+use crate::marks::Marks;
 use boogie_run::{base_of_expr, same_type};
 use boogie_tree::{BExpr, BType, Local, same_base, same_bases};
 use boogie_wide::{Procs, WProc};
-use indexmap::IndexSet;
-use std::alloc::Global;
-use vb_base::{Ident, Memory};
+use vb_base::Ident;
 
 /// Whether an expression has this type, which is that of no map.
 fn is_argument(locals: &[Local], e: &BExpr, param: &BType) -> bool
@@ -77,81 +76,38 @@ fn are_own(params: usize, targets: &[usize]) -> bool
     targets.iter().all(|target| params <= *target)
 }
 
-/// Whether a number is none of these.
-fn is_none_of(number: usize, others: &[usize]) -> bool
-    ensures { result ≡ list_all (λ j. not (number == j)) others.now }
-{
-    others.iter().all(|other| number != *other)
-}
-
-/// Whether no number stands twice, told from a set of them.
-fn all_new(alloc: Global, numbers: &[usize]) -> Result<bool, Memory>
-    ensures { IfOk result (λ b. b ≡ ty.all_differ numbers.now) }
-{
-    let mut seen = IndexSet::new(alloc);
-    for number in numbers {
-        let is_new = seen.insert(*number)?;
-        if !is_new {
-            return Ok(false);
-        }
-    }
-    Ok(true)
-}
-
-/// Whether no number stands twice, told without memory: each is compared with all behind it.
-fn all_apart(numbers: &[usize]) -> bool
-    ensures { result ≡ ty.all_differ numbers.now }
-{
-    let mut count = 0;
-    for number in numbers {
-        count += 1;
-        if !is_none_of(*number, &numbers[count..]) {
-            return false;
-        }
-    }
-    true
-}
-
-/// Whether no number stands twice.
-fn all_differ(alloc: Global, numbers: &[usize]) -> bool
-    ensures { result ≡ ty.all_differ numbers.now }
-{
-    match all_new(alloc, numbers) {
-        Ok(is_so) => is_so,
-        Err(_) => all_apart(numbers),
-    }
-}
-
 /// Whether a call of this procedure is well-typed, among variables of which so many are parameters.
 fn is_call_of(
+    marks: &mut Marks,
     locals: &[Local],
     own_params: usize,
-    targets: &Vec<usize>,
+    targets: &[usize],
     es: &[BExpr],
     callee: &WProc,
 ) -> bool
-    ensures { result ≡ ty.is_call_of (types_in locals.now) own_params targets.now.items (exprs_of es.now) (Some (wproc_of callee.now)) }
+    ensures { result ≡ ty.is_call_of (types_in locals.now) own_params targets.now (exprs_of es.now) (Some (wproc_of callee.now)) }
 {
     are_arguments(locals, es, params(callee))
         && are_targets(locals, targets, returns(callee))
         && are_own(own_params, targets)
-        && all_differ(*targets.allocator(), targets)
+        && marks.all_differ(targets)
 }
 
 /// Whether a call is well-typed, among variables of which so many are parameters.
 pub(crate) fn is_call(
     procs: &Procs<'_>,
+    marks: &mut Marks,
     locals: &[Local],
     own_params: usize,
-    targets: &Vec<usize>,
+    targets: &[usize],
     name: &Ident,
     es: &[BExpr],
 ) -> bool
-    ensures { result ≡ ty.is_call_of (types_in locals.now) own_params targets.now.items (exprs_of es.now)
+    ensures { result ≡ ty.is_call_of (types_in locals.now) own_params targets.now (exprs_of es.now)
         (proc_named (map wproc_of procs.now.all.now) name.now) }
 {
     match procs.named(name) {
-        Some(callee) => is_call_of(locals, own_params, targets, es, callee),
+        Some(callee) => is_call_of(marks, locals, own_params, targets, es, callee),
         None => false,
     }
 }

@@ -4,6 +4,7 @@
 mod blocks;
 mod calls;
 mod heads;
+mod marks;
 mod programs;
 
-pub use programs::check_wide;
+pub use programs::{check_wide, first_ill_typed_wide};

@@ -13,7 +13,7 @@ use Rattle.boogie_grammar.specs.Cut.{IsRow}
 use Rattle.boogie_grammar.specs.Grammar.{TypeOf, rule, rules}
 use Rattle.boogie_grammar.specs.Pieces.{is_in_line}
 use Rattle.boogie_grammar.specs.Tests.{a_type}
-use Rattle.boogie_grammar.specs.declared.tokens.BToken.{BToken}
+use Rattle.boogie_grammar.specs.declared.tokens.PlacedLexeme.{PlacedLexeme}
 use Rattle.boogie_grammar.proofs.Elements.{laws}
 use Rattle.boogie_text.proofs.AlikeLaws.{Alike, one_row, derives_alike}
 use Rattle.boogie_text.proofs.Complete.{complete}
@@ -53,7 +53,7 @@ one_line line other h k e = split_at is_in_line 10 refl line other h k e
 
 -- ---- what a line spells
 
-line_alike : {X : Type 0} {Says : List BToken → X → Type 0} {bytes other : List ℕ} {x y : X} → bytes ≡ other → (h : Line Says bytes x) (k : Line Says other y) → Alike k.tokens h.tokens
+line_alike : {X : Type 0} {Says : List PlacedLexeme → X → Type 0} {bytes other : List ℕ} {x y : X} → bytes ≡ other → (h : Line Says bytes x) (k : Line Says other y) → Alike k.tokens h.tokens
 line_alike {other = other} e h k = one_row (subst (λ l. IsRow l k.tokens) (sym e) k.cut) h.cut
 
 value_line : {names : List (List ℕ)} {bytes other : List ℕ} {d e : FExpr} → bytes ≡ other → Line (SpellsValue names) bytes d → Line (SpellsValue names) other e → d ≡ e
@@ -62,7 +62,7 @@ value_line {names = names} {d = d} {e = e} same h k = one_definition names h.tok
 scalar_line : {names : List (List ℕ)} {bytes : List ℕ} {e : FExpr} → Line (SpellsScalar names) bytes e → Line (SpellsValue names) bytes e
 scalar_line h = record { tokens = h.tokens; in_line = h.in_line; cut = h.cut; says = scalar h.says }
 
-abbrev SpellsType : List BToken → BType → Type 0
+abbrev SpellsType : List PlacedLexeme → BType → Type 0
 SpellsType ts u = Derives rules a_type (rule TypeOf) ts u
 
 type_line : {bytes other : List ℕ} {u w : BType} → bytes ≡ other → Line SpellsType bytes u → Line SpellsType other w → u ≡ w

@@ -10,7 +10,7 @@ use Rattle.boogie_tree.specs.Values.{AreKeys}
 use Rattle.boogie_grammar.specs.Grammar as g
 use Rattle.boogie_grammar.specs.Grammar.{TypeOf}
 use Rattle.boogie_grammar.specs.Tests.{number_of}
-use Rattle.boogie_grammar.specs.declared.tokens.BToken.{BToken}
+use Rattle.boogie_grammar.specs.declared.tokens.PlacedLexeme.{PlacedLexeme}
 use Rattle.boogie_meaning.specs.Programs.{HaveKeys}
 use Rattle.boogie_text.specs.Printable.{IsFreeName}
 use Rattle.boogie_text.specs.StmtView.{no_bound}
@@ -25,7 +25,7 @@ use Rattle.formula_text.specs.Spells as s
 use Rattle.formula_text.specs.Spells.{SpellsScalar, SpellsKeys, SpellsValue, SpellsLets, SpellsVars, SpellsGoal, SpellsFormula, SpellsFails, SpellsConditions}
 use Rattle.formula_text.proofs.PlainLaws.{map_parts}
 
-scalar_fits : {names : List (List ℕ)} {ts : List BToken} {e : FExpr} → SpellsScalar names ts e → AllProper ts → FitsScalar (length names) e
+scalar_fits : {names : List (List ℕ)} {ts : List PlacedLexeme} {e : FExpr} → SpellsScalar names ts e → AllProper ts → FitsScalar (length names) e
 scalar_fits {names = names} h proper =
     let x = no_bound names in
     record { tree = h.tree; is = h.is; fits = keeps (Gives (g.Expr x)) h.derived (all_keep (g.Expr x) tt) proper }
@@ -36,7 +36,7 @@ some_trees e = cc
 both_plain : (a : FExpr) (es : FExprs) {b : t.BExpr} {bs : t.BExprs} → plain a ≡ Some b → plain_all es ≡ Some bs → plain_all (more a es) ≡ Some (t.more b bs)
 both_plain a es {b = b} h i = ap (λ o. two t.more o (plain_all es)) h ∙ ap (λ o. two t.more (Some b) o) i
 
-keys_fit : {names : List (List ℕ)} {ts : List BToken} {es : FExprs} → SpellsKeys names ts es → AllProper ts → FitKeys (length names) es
+keys_fit : {names : List (List ℕ)} {ts : List PlacedLexeme} {es : FExprs} → SpellsKeys names ts es → AllProper ts → FitKeys (length names) es
 keys_fit (s.last {e = a} h) proper =
     let one = scalar_fits h proper in
     record { trees = t.more one.tree t.none; is = both_plain a none one.is refl; some = some_trees; fits = (one.fits, tt) }
@@ -45,7 +45,7 @@ keys_fit (s.before {ts = ts} {us = us} comma {e = a} {es = es} h c rest) proper 
     let others = keys_fit rest (back_proper ts (comma ∷ us) proper).1 in
     record { trees = t.more one.tree others.trees; is = both_plain a es one.is others.is; some = some_trees; fits = (one.fits, others.fits) }
 
-value_fits : {names : List (List ℕ)} {ts : List BToken} {e : FExpr} → SpellsValue names ts e → AllProper ts → FitsValue (length names) e
+value_fits : {names : List (List ℕ)} {ts : List PlacedLexeme} {e : FExpr} → SpellsValue names ts e → AllProper ts → FitsValue (length names) e
 value_fits (s.scalar h) proper = fits.scalar (scalar_fits h proper)
 value_fits (s.update {ts = ts} {us = us} name opening assign closing is o keys a h c) proper =
     let rest = back_proper ts (assign ∷ (us ++ closing ∷ [])) proper.1.1 in

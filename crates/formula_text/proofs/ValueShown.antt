@@ -7,8 +7,8 @@ use Rattle.boogie_grammar.specs.Cut.{IsRow, none}
 use Rattle.boogie_grammar.specs.Printed.{Naming, name_at, operator_text, binders_text, bound_names, under, expr_text, exprs_text}
 use Rattle.boogie_grammar.specs.Words.{word_tok}
 use Rattle.boogie_grammar.specs.declared.tokens.BSign.TheVariants as sign
-use Rattle.boogie_grammar.specs.declared.tokens.BTok.TheVariants as tok
-use Rattle.boogie_grammar.specs.declared.tokens.BToken.{BToken}
+use Rattle.boogie_grammar.specs.declared.tokens.Lexeme.TheVariants as tok
+use Rattle.boogie_grammar.specs.declared.tokens.PlacedLexeme.{PlacedLexeme}
 use Rattle.boogie_grammar.specs.declared.tokens.Word.TheVariants as w
 use Rattle.boogie_grammar.proofs.WrittenRows.{at_start, Ends, name_row, free_row, blank_row, open_row, close_row, bracket_row, end_row, comma_row, assign_row}
 use Rattle.boogie_text.specs.Short.{ShortExpr, ShortExprs}
@@ -129,20 +129,20 @@ mutual
 
 -- ---- one line, in front of anything that ends it
 
-pub record Shown {X : Type 0} (Says : List BToken → X → Type 0) (bytes : List ℕ) (e : X) : Type 0 where
-  pub tokens : List BToken
+pub record Shown {X : Type 0} (Says : List PlacedLexeme → X → Type 0) (bytes : List ℕ) (e : X) : Type 0 where
+  pub tokens : List PlacedLexeme
   pub spelled : Says tokens e
-  pub row : (rest : List ℕ) (ts : List BToken) → Ends rest → IsRow rest ts → IsRow (bytes ++ rest) (tokens ++ ts)
+  pub row : (rest : List ℕ) (ts : List PlacedLexeme) → Ends rest → IsRow rest ts → IsRow (bytes ++ rest) (tokens ++ ts)
   pub clean : Clean bytes
 
 -- in front of a blank
-record Spaced {X : Type 0} (Says : List BToken → X → Type 0) (bytes : List ℕ) (e : X) : Type 0 where
-  tokens : List BToken
+record Spaced {X : Type 0} (Says : List PlacedLexeme → X → Type 0) (bytes : List ℕ) (e : X) : Type 0 where
+  tokens : List PlacedLexeme
   spelled : Says tokens e
-  row : (rest : List ℕ) (ts : List BToken) → IsRow (32 ∷ rest) ts → IsRow (bytes ++ 32 ∷ rest) (tokens ++ ts)
+  row : (rest : List ℕ) (ts : List PlacedLexeme) → IsRow (32 ∷ rest) ts → IsRow (bytes ++ 32 ∷ rest) (tokens ++ ts)
   clean : Clean bytes
 
-pub line_of : {X : Type 0} {Says : List BToken → X → Type 0} {bytes : List ℕ} {e : X} → Shown Says bytes e → Line Says bytes e
+pub line_of : {X : Type 0} {Says : List PlacedLexeme → X → Type 0} {bytes : List ℕ} {e : X} → Shown Says bytes e → Line Says bytes e
 line_of {bytes = bytes} h = record {
   tokens = h.tokens;
   in_line = h.clean;
@@ -194,17 +194,17 @@ keys_shown n k few a (f.more b es) bs h short is fit others_short =
       clean = both (fexpr_text x a) (codes ", " ++ fexpr_text x b ++ fexprs_text x (codes ", ") es) one.clean
           (subst Clean (sym (append_assoc (codes ", ") (fexpr_text x b) (fexprs_text x (codes ", ") es))) (both (codes ", ") (fexpr_text x b ++ fexprs_text x (codes ", ") es) refl more.clean));
     } where
-      keys_row : (first second others : List ℕ) (us vs : List BToken) → ((rest : List ℕ) (ts : List BToken) → Ends rest → IsRow rest ts → IsRow (first ++ rest) (us ++ ts)) →
-          ((rest : List ℕ) (ts : List BToken) → IsRow (32 ∷ rest) ts → IsRow ((second ++ others) ++ 32 ∷ rest) (vs ++ ts)) →
-          (rest : List ℕ) (ts : List BToken) → IsRow (32 ∷ rest) ts → IsRow ((first ++ (codes ", " ++ second ++ others)) ++ 32 ∷ rest) ((us ++ at_start (tok.Sign sign.Comma) ∷ vs) ++ ts)
+      keys_row : (first second others : List ℕ) (us vs : List PlacedLexeme) → ((rest : List ℕ) (ts : List PlacedLexeme) → Ends rest → IsRow rest ts → IsRow (first ++ rest) (us ++ ts)) →
+          ((rest : List ℕ) (ts : List PlacedLexeme) → IsRow (32 ∷ rest) ts → IsRow ((second ++ others) ++ 32 ∷ rest) (vs ++ ts)) →
+          (rest : List ℕ) (ts : List PlacedLexeme) → IsRow (32 ∷ rest) ts → IsRow ((first ++ (codes ", " ++ second ++ others)) ++ 32 ∷ rest) ((us ++ at_start (tok.Sign sign.Comma) ∷ vs) ++ ts)
       keys_row first second others us vs f g rest ts r =
           simp append_assoc (f _ _ (ends refl refl refl) (comma_row (blank_row (simp append_assoc at (g rest ts r)))))
 
-update_row : (name keys value : List ℕ) (us vs : List BToken) →
-    ((rest : List ℕ) (ts : List BToken) → IsRow (91 ∷ rest) ts → IsRow (name ++ 91 ∷ rest) (at_start (tok.Name name) ∷ ts)) →
-    ((rest : List ℕ) (ts : List BToken) → IsRow (32 ∷ rest) ts → IsRow (keys ++ 32 ∷ rest) (us ++ ts)) →
-    ((rest : List ℕ) (ts : List BToken) → Ends rest → IsRow rest ts → IsRow (value ++ rest) (vs ++ ts)) →
-    (rest : List ℕ) (ts : List BToken) → Ends rest → IsRow rest ts → IsRow ((name ++ codes "[" ++ keys ++ codes " := " ++ value ++ codes "]") ++ rest)
+update_row : (name keys value : List ℕ) (us vs : List PlacedLexeme) →
+    ((rest : List ℕ) (ts : List PlacedLexeme) → IsRow (91 ∷ rest) ts → IsRow (name ++ 91 ∷ rest) (at_start (tok.Name name) ∷ ts)) →
+    ((rest : List ℕ) (ts : List PlacedLexeme) → IsRow (32 ∷ rest) ts → IsRow (keys ++ 32 ∷ rest) (us ++ ts)) →
+    ((rest : List ℕ) (ts : List PlacedLexeme) → Ends rest → IsRow rest ts → IsRow (value ++ rest) (vs ++ ts)) →
+    (rest : List ℕ) (ts : List PlacedLexeme) → Ends rest → IsRow rest ts → IsRow ((name ++ codes "[" ++ keys ++ codes " := " ++ value ++ codes "]") ++ rest)
     ((at_start (tok.Name name) ∷ at_start (tok.Sign sign.OpenBracket) ∷ (us ++ at_start (tok.Sign sign.Assign) ∷ (vs ++ at_start (tok.Sign sign.CloseBracket) ∷ []))) ++ ts)
 update_row name keys value us vs n f g rest ts end r =
     simp append_assoc (n _ _ (bracket_row (f _ _ (blank_row (assign_row (blank_row (g _ _ (ends refl refl refl) (end_row r))))))))
@@ -224,11 +224,11 @@ update_shown n k few i es e named keys value =
           (between (name ++ codes "[") (fexprs_text x [] es) (codes " := ") (both name (codes "[") (scope_clean n k few.0 few.1 i) refl) keys.clean refl) value.clean refl;
     }
 
-choice_row : (first second third : List ℕ) (us vs zs : List BToken) →
-    ((rest : List ℕ) (ts : List BToken) → Ends rest → IsRow rest ts → IsRow (first ++ rest) (us ++ ts)) →
-    ((rest : List ℕ) (ts : List BToken) → Ends rest → IsRow rest ts → IsRow (second ++ rest) (vs ++ ts)) →
-    ((rest : List ℕ) (ts : List BToken) → Ends rest → IsRow rest ts → IsRow (third ++ rest) (zs ++ ts)) →
-    (rest : List ℕ) (ts : List BToken) → Ends rest → IsRow rest ts → IsRow ((codes "(if " ++ first ++ codes " then " ++ second ++ codes " else " ++ third ++ codes ")") ++ rest)
+choice_row : (first second third : List ℕ) (us vs zs : List PlacedLexeme) →
+    ((rest : List ℕ) (ts : List PlacedLexeme) → Ends rest → IsRow rest ts → IsRow (first ++ rest) (us ++ ts)) →
+    ((rest : List ℕ) (ts : List PlacedLexeme) → Ends rest → IsRow rest ts → IsRow (second ++ rest) (vs ++ ts)) →
+    ((rest : List ℕ) (ts : List PlacedLexeme) → Ends rest → IsRow rest ts → IsRow (third ++ rest) (zs ++ ts)) →
+    (rest : List ℕ) (ts : List PlacedLexeme) → Ends rest → IsRow rest ts → IsRow ((codes "(if " ++ first ++ codes " then " ++ second ++ codes " else " ++ third ++ codes ")") ++ rest)
     ((at_start (tok.Sign sign.OpenParen) ∷ at_start (word_tok w.If) ∷ (us ++ at_start (word_tok w.Then) ∷ (vs ++ at_start (word_tok w.Else) ∷ (zs ++ at_start (tok.Sign sign.CloseParen) ∷ [])))) ++ ts)
 choice_row first second third us vs zs f g h rest ts end r =
     simp append_assoc (open_row (name_row 105 (codes "f") _ refl refl (blank_row (f _ _ (ends refl refl refl)

@@ -17,8 +17,8 @@ use Rattle.boogie_grammar.specs.Pieces.{is_in_line}
 use Rattle.boogie_grammar.specs.Tests.{a_type, expr, number_of, IsVariable}
 use Rattle.boogie_grammar.specs.Words.{word_tok}
 use Rattle.boogie_grammar.specs.declared.tokens.BSign.TheVariants as sign
-use Rattle.boogie_grammar.specs.declared.tokens.BTok.TheVariants as tok
-use Rattle.boogie_grammar.specs.declared.tokens.BToken.{BToken}
+use Rattle.boogie_grammar.specs.declared.tokens.Lexeme.TheVariants as tok
+use Rattle.boogie_grammar.specs.declared.tokens.PlacedLexeme.{PlacedLexeme}
 use Rattle.boogie_grammar.specs.declared.tokens.Word.TheVariants as w
 use Rattle.boogie_text.specs.Printable.{IsFreeName}
 use Rattle.boogie_text.specs.StmtView.{no_bound}
@@ -30,28 +30,28 @@ use Rattle.formula_text.specs.Names.{variable_name, definition_name, numbered, n
 -- ---- expressions
 
 -- the tokens spell an expression of a program
-pub record SpellsScalar (names : List (List ℕ)) (ts : List BToken) (e : FExpr) : Type 0 where
+pub record SpellsScalar (names : List (List ℕ)) (ts : List PlacedLexeme) (e : FExpr) : Type 0 where
   pub tree : t.BExpr
   pub derived : Derives rules expr (rule (Expr (no_bound names))) ts tree
   pub is : plain e ≡ Some tree
 
 -- bexpr { "," bexpr }
-pub data SpellsKeys (names : List (List ℕ)) : List BToken → FExprs → Type 0 where
-  last : {ts : List BToken} {e : FExpr} → SpellsScalar names ts e → SpellsKeys names ts (more e none)
-  before : {ts us : List BToken} (comma : BToken) {e : FExpr} {es : FExprs} →
+pub data SpellsKeys (names : List (List ℕ)) : List PlacedLexeme → FExprs → Type 0 where
+  last : {ts : List PlacedLexeme} {e : FExpr} → SpellsScalar names ts e → SpellsKeys names ts (more e none)
+  before : {ts us : List PlacedLexeme} (comma : PlacedLexeme) {e : FExpr} {es : FExprs} →
       SpellsScalar names ts e → comma.tok ≡ tok.Sign sign.Comma → SpellsKeys names us es →
       SpellsKeys names (ts ++ comma ∷ us) (more e es)
 
 -- value = bexpr
 --       | name "[" bexpr { "," bexpr } ":=" bexpr "]"
 --       | "(" "if" bexpr "then" value "else" value ")"
-pub data SpellsValue (names : List (List ℕ)) : List BToken → FExpr → Type 0 where
-  scalar : {ts : List BToken} {e : FExpr} → SpellsScalar names ts e → SpellsValue names ts e
-  update : {ts us : List BToken} (name opening assign closing : BToken) {i : ℕ} {es : FExprs} {e : FExpr} →
+pub data SpellsValue (names : List (List ℕ)) : List PlacedLexeme → FExpr → Type 0 where
+  scalar : {ts : List PlacedLexeme} {e : FExpr} → SpellsScalar names ts e → SpellsValue names ts e
+  update : {ts us : List PlacedLexeme} (name opening assign closing : PlacedLexeme) {i : ℕ} {es : FExprs} {e : FExpr} →
       IsVariable names name.tok i → opening.tok ≡ tok.Sign sign.OpenBracket → SpellsKeys names ts es →
       assign.tok ≡ tok.Sign sign.Assign → SpellsScalar names us e → closing.tok ≡ tok.Sign sign.CloseBracket →
       SpellsValue names (name ∷ opening ∷ (ts ++ assign ∷ (us ++ closing ∷ []))) (With (FExpr.Var i) es e)
-  choice : {ts us vs : List BToken} (opening word_if word_then word_else closing : BToken) {c x y : FExpr} →
+  choice : {ts us vs : List PlacedLexeme} (opening word_if word_then word_else closing : PlacedLexeme) {c x y : FExpr} →
       opening.tok ≡ tok.Sign sign.OpenParen → word_if.tok ≡ word_tok w.If → SpellsScalar names ts c →
       word_then.tok ≡ word_tok w.Then → SpellsValue names us x →
       word_else.tok ≡ word_tok w.Else → SpellsValue names vs y → closing.tok ≡ tok.Sign sign.CloseParen →
@@ -60,8 +60,8 @@ pub data SpellsValue (names : List (List ℕ)) : List BToken → FExpr → Type 
 -- ---- lines
 
 -- the bytes have no byte that ends a line, and are tokens and blanks that spell this
-pub record Line {X : Type 0} (Says : List BToken → X → Type 0) (bytes : List ℕ) (x : X) : Type 0 where
-  pub tokens : List BToken
+pub record Line {X : Type 0} (Says : List PlacedLexeme → X → Type 0) (bytes : List ℕ) (x : X) : Type 0 where
+  pub tokens : List PlacedLexeme
   pub in_line : list_all is_in_line bytes ≡ true
   pub cut : IsRow bytes tokens
   pub says : Says tokens x

@@ -14,7 +14,7 @@ use crate::bodies::{body, passed, run_body};
 use crate::outcome::Ending;
 use crate::replay_outcome::told;
 use boogie_grammar::scopes::Names;
-use boogie_grammar::{BToken, after_prelude};
+use boogie_grammar::{PlacedLexeme, after_prelude};
 use boogie_run::BOutcome;
 use boogie_text::{Outside, next_outside};
 use boogie_tree::BProgram;
@@ -127,7 +127,7 @@ fn made_of<'a>(
     wanted: bool,
     name: Ident,
     text: &'a [u8],
-    tokens: &mut Vec<BToken>,
+    tokens: &mut Vec<PlacedLexeme>,
 ) -> Result<Option<(Option<Made>, &'a [u8])>, Memory>
     requires { FitsTask task }
     ensures { IfOk result (λ o. IfSome o (λ r. IsPassed (IsMade task.entry) wanted name text.now r.0 r.1.now)) }
@@ -152,7 +152,7 @@ fn made_by<'a>(
     alloc: Global,
     task: Task<'_>,
     begun: Begun<'a>,
-    tokens: &mut Vec<BToken>,
+    tokens: &mut Vec<PlacedLexeme>,
 ) -> Result<Option<(Made, &'a [u8])>, Memory>
     requires fits { FitsTask task }
     requires named { local_names (proc_of begun.proc).locals ≡ begun.names }
@@ -169,7 +169,7 @@ fn made_by<'a>(
 fn kept<'a>(
     alloc: Global,
     begun: Begun<'a>,
-    tokens: &mut Vec<BToken>,
+    tokens: &mut Vec<PlacedLexeme>,
 ) -> Result<Option<(Made, &'a [u8])>, Memory>
     requires { local_names (proc_of begun.proc).locals ≡ begun.names }
     ensures { IfOk result (λ o. IfSome o (λ r. IsDone (IsMade task.Keep) (proc_of begun.entry.proc) begun.entry.rest.now r.0 r.1.now)) }
@@ -188,7 +188,7 @@ fn ended<'a>(
     alloc: Global,
     begun: &Begun<'a>,
     run_bytes: &[u8],
-    tokens: &mut Vec<BToken>,
+    tokens: &mut Vec<PlacedLexeme>,
 ) -> Result<Option<(Made, &'a [u8])>, Memory>
     requires few { length run_bytes.now ≤ max_boogie_bytes }
     requires named { local_names (proc_of begun.now.proc).locals ≡ begun.now.names }

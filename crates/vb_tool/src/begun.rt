@@ -3,7 +3,7 @@ ghost use Rattle.std.specs.Prelude.{IfOk, IfSome};
 ghost use Rattle.boogie_tree.specs.Whole.{proc_of};
 ghost use Rattle.vb_tool.specs.Alone.{Begins};
 
-use boogie_grammar::BToken;
+use boogie_grammar::PlacedLexeme;
 use boogie_grammar::scopes::Names;
 use boogie_run::have_keys;
 use boogie_text::next_local;
@@ -27,7 +27,7 @@ pub(crate) fn begun_of<'a>(
     alloc: Global,
     name: Ident,
     text: &'a [u8],
-    tokens: &mut Vec<BToken>,
+    tokens: &mut Vec<PlacedLexeme>,
 ) -> Result<Option<Begun<'a>>, Memory>
     ensures { IfOk result (λ o. IfSome o (λ f. Begins name text.now (proc_of f.proc) f.names f.rest.now)) }
 {

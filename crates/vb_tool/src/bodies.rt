@@ -6,7 +6,7 @@ ghost use Rattle.boogie_run.specs.Start.{CanRun};
 ghost use Rattle.vb_tool.specs.Alone.{HasBody, IsBody, RunsBody};
 
 use crate::begun::Begun;
-use boogie_grammar::BToken;
+use boogie_grammar::PlacedLexeme;
 use boogie_run::{BOutcome, Running, is_typed_stmt};
 use boogie_text::{Inside, next_statement};
 use boogie_tree::{BRun, BStmt};
@@ -17,7 +17,7 @@ use vb_base::{Memory, pushed};
 pub(crate) fn passed<'a>(
     alloc: Global,
     begun: &Begun<'a>,
-    tokens: &mut Vec<BToken>,
+    tokens: &mut Vec<PlacedLexeme>,
 ) -> Result<Option<&'a [u8]>, Memory>
     requires { local_names (proc_of begun.now.proc).locals ≡ begun.now.names }
     ensures { IfOk result (λ o. IfSome o (λ rest. HasBody (proc_of begun.now.proc).locals begun.now.rest.now rest.now)) }
@@ -39,7 +39,7 @@ pub(crate) fn passed<'a>(
 pub(crate) fn body<'a>(
     alloc: Global,
     begun: &Begun<'a>,
-    tokens: &mut Vec<BToken>,
+    tokens: &mut Vec<PlacedLexeme>,
 ) -> Result<Option<(Vec<BStmt>, &'a [u8])>, Memory>
     requires { local_names (proc_of begun.now.proc).locals ≡ begun.now.names }
     ensures { IfOk result (λ o. IfSome o (λ r. IsBody (proc_of begun.now.proc).locals begun.now.rest.now (map stmt_of r.0.items) r.1.now)) }
@@ -65,7 +65,7 @@ pub(crate) fn run_body<'a>(
     alloc: Global,
     begun: &Begun<'a>,
     run: &BRun,
-    tokens: &mut Vec<BToken>,
+    tokens: &mut Vec<PlacedLexeme>,
 ) -> Result<Option<(BOutcome, &'a [u8])>, Memory>
     requires named { local_names (proc_of begun.now.proc).locals ≡ begun.now.names }
     requires begins { CanRun (proc_of begun.now.proc) (run_of run.now) }

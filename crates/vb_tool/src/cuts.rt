@@ -10,7 +10,7 @@ use crate::status::{Refusal, Status};
 use crate::trouble::Trouble;
 use boogie_text::print;
 use boogie_wide::WProgram;
-use boogie_wide_types::check_wide;
+use boogie_wide_types::first_ill_typed_wide;
 use cut_text::cut_with_text;
 use std::alloc::Global;
 use wide_text::read_wide;
@@ -23,9 +23,10 @@ fn wide_program(alloc: Global, bytes: &[u8]) -> Result<WProgram, Trouble>
     ensures read { IsErrOf result Trouble.Read → ⊥ }
 {
     let program = read_wide(alloc, bytes)?;
-    match check_wide(&program) {
-        Ok(()) => Ok(program),
-        Err(number) => Err(Trouble::Refused(Refusal::BoogieType(number))),
+    let first = first_ill_typed_wide(alloc, &program)?;
+    match first {
+        None => Ok(program),
+        Some(number) => Err(Trouble::Refused(Refusal::BoogieType(number))),
     }
 }
 

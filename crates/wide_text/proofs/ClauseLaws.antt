@@ -3,9 +3,9 @@ use Rattle.std.proofs.Common.{◌≡◌, ◌∙◌, refl, sym, ap, ℕ, Bool, tr
 use Rattle.std.proofs.lemmas.List.{append-nil}
 use Rattle.boogie_grammar.specs.declared.tokens.BSign.{BSign}
 use Rattle.boogie_grammar.specs.declared.tokens.BSign.TheVariants as sign
-use Rattle.boogie_grammar.specs.declared.tokens.BTok.{BTok}
-use Rattle.boogie_grammar.specs.declared.tokens.BTok.TheVariants as tok
-use Rattle.boogie_grammar.specs.declared.tokens.BToken.{BToken}
+use Rattle.boogie_grammar.specs.declared.tokens.Lexeme.{Lexeme}
+use Rattle.boogie_grammar.specs.declared.tokens.Lexeme.TheVariants as tok
+use Rattle.boogie_grammar.specs.declared.tokens.PlacedLexeme.{PlacedLexeme}
 use Rattle.boogie_grammar.specs.Greedy.{Starts, IsNot}
 use Rattle.boogie_grammar.specs.Tests.{the_sign}
 use Rattle.boogie_wide.specs.Wide as w
@@ -18,24 +18,24 @@ sign_is : (o : BSign) → is_colon_sign o ≡ true → o ≡ sign.Colon
 sign_is sign.Colon h = refl
 sign_is _ h = absurd (cc)
 
-colon_is : (k : BTok) → is_colon k ≡ true → k ≡ tok.Sign sign.Colon
+colon_is : (k : Lexeme) → is_colon k ≡ true → k ≡ tok.Sign sign.Colon
 colon_is (tok.Sign o) h = ap tok.Sign (sign_is o h)
 colon_is (tok.Name x) h = absurd (cc)
 colon_is (tok.Number n) h = absurd (cc)
 colon_is (tok.Real n) h = absurd (cc)
 colon_is (tok.Text l) h = absurd (cc)
 
-no_colon : (ts : List BToken) → IsNot (the_sign sign.Colon) ts → starts_colon ts ≡ false
+no_colon : (ts : List PlacedLexeme) → IsNot (the_sign sign.Colon) ts → starts_colon ts ≡ false
 no_colon [] n = refl
 no_colon (k ∷ ts) n = by_case (is_colon k.tok) refl where
   by_case : (b : Bool) → is_colon k.tok ≡ b → is_colon k.tok ≡ false
   by_case false e = e
   by_case true e = absurd (n.none tt ts (record { token = k; is = refl; passes = colon_is k.tok e }))
 
-pub binds_none : (k : BTok) (x : List ℕ) (ts : List BToken) → k ≡ tok.Name x → IsNot (the_sign sign.Colon) ts → binds k ts ≡ []
+pub binds_none : (k : Lexeme) (x : List ℕ) (ts : List PlacedLexeme) → k ≡ tok.Name x → IsNot (the_sign sign.Colon) ts → binds k ts ≡ []
 binds_none k x ts e n = ap (λ t. binds t ts) e ∙ ap (λ (b : Bool). if b then x ∷ [] else []) (no_colon ts n)
 
-pub binds_name : (k : BTok) (x : List ℕ) (ts : List BToken) {us : List BToken} → k ≡ tok.Name x → Starts (the_sign sign.Colon) ts tt us → binds k ts ≡ x ∷ []
+pub binds_name : (k : Lexeme) (x : List ℕ) (ts : List PlacedLexeme) {us : List PlacedLexeme} → k ≡ tok.Name x → Starts (the_sign sign.Colon) ts tt us → binds k ts ≡ x ∷ []
 binds_name k x ts e p = ap (λ t. binds t ts) e ∙ ap (λ (b : Bool). if b then x ∷ [] else []) (ap starts_colon p.is ∙ ap is_colon p.passes)
 
 -- names behind others
@@ -44,11 +44,11 @@ pub none_left : {T : Type 0} (l : List T) → length l ≡ 0 → l ≡ []
 none_left [] e = refl
 none_left (x ∷ xs) e = absurd (omega (arith, e))
 
-pub one_token : (now more start : List (List ℕ)) (left rest : List BToken) (k : BToken) → left ≡ k ∷ rest → more ≡ now ++ binds k.tok rest → now ++ bound_in left ≡ start → more ++ bound_in rest ≡ start
+pub one_token : (now more start : List (List ℕ)) (left rest : List PlacedLexeme) (k : PlacedLexeme) → left ≡ k ∷ rest → more ≡ now ++ binds k.tok rest → now ++ bound_in left ≡ start → more ++ bound_in rest ≡ start
 one_token now more start left rest k e f h =
     ap (λ l. l ++ bound_in rest) f ∙ append_assoc now (binds k.tok rest) (bound_in rest) ∙ ap (λ l. now ++ bound_in l) (sym e) ∙ h
 
-pub no_tokens : (now start : List (List ℕ)) (left : List BToken) → left ≡ [] → now ++ bound_in left ≡ start → now ≡ start
+pub no_tokens : (now start : List (List ℕ)) (left : List PlacedLexeme) → left ≡ [] → now ++ bound_in left ≡ start → now ≡ start
 no_tokens now start left e h = sym (append-nil now) ∙ ap (λ l. now ++ bound_in l) (sym e) ∙ h
 
 -- contracts

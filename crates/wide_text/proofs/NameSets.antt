@@ -5,7 +5,7 @@ use Rattle.std.proofs.lemmas.List.Folds.{list_any-append}
 use Rattle.grammar.specs.declared.stop.Stop.{Stop}
 use Rattle.grammar.specs.declared.stop.Stop.TheVariants as stop
 use Rattle.boogie_tree.specs.Program as p
-use Rattle.boogie_grammar.specs.declared.tokens.BToken.{BToken}
+use Rattle.boogie_grammar.specs.declared.tokens.PlacedLexeme.{PlacedLexeme}
 use Rattle.boogie_grammar.specs.Words.{is_among}
 use Rattle.boogie_grammar.specs.Tests.{a_new_name}
 use Rattle.boogie_grammar.specs.Greedy.{Starts, Takes, Misses}
@@ -42,10 +42,10 @@ one_more {names = names} {ls = ls} x u a n e f = record {
 
 -- lists that hold the same names
 
-pub same_start : {as_ bs : List (List ℕ)} {ts us : List BToken} {x : List ℕ} → ((y : List ℕ) → is_among y as_ ≡ is_among y bs) → Starts (a_new_name as_) ts x us → Starts (a_new_name bs) ts x us
+pub same_start : {as_ bs : List (List ℕ)} {ts us : List PlacedLexeme} {x : List ℕ} → ((y : List ℕ) → is_among y as_ ≡ is_among y bs) → Starts (a_new_name as_) ts x us → Starts (a_new_name bs) ts x us
 same_start {x = x} e h = record { token = h.token; is = h.is; passes = (h.passes.0, h.passes.1, sym (e x) ∙ h.passes.2) }
 
-pub same_misses : (as_ bs : List (List ℕ)) (ts : List BToken) (w : Stop BToken) → ((y : List ℕ) → is_among y as_ ≡ is_among y bs) → Misses (a_new_name as_) ts w → Misses (a_new_name bs) ts w
+pub same_misses : (as_ bs : List (List ℕ)) (ts : List PlacedLexeme) (w : Stop PlacedLexeme) → ((y : List ℕ) → is_among y as_ ≡ is_among y bs) → Misses (a_new_name as_) ts w → Misses (a_new_name bs) ts w
 same_misses as_ bs ts stop.Memory e h = tt
 same_misses as_ bs ts (stop.Before r) e h = (record { none = λ x us i. h.0.none x us (same_start (λ y. sym (e y)) i) }, h.1)
 
@@ -56,13 +56,13 @@ same_among as_ bs cs ws e y =
 
 -- a list in the place of an equal one
 
-pub named_at : {as_ bs : List (List ℕ)} {ts us : List BToken} {x : List ℕ} → as_ ≡ bs → Starts (a_new_name as_) ts x us → Starts (a_new_name bs) ts x us
+pub named_at : {as_ bs : List (List ℕ)} {ts us : List PlacedLexeme} {x : List ℕ} → as_ ≡ bs → Starts (a_new_name as_) ts x us → Starts (a_new_name bs) ts x us
 named_at {ts = ts} {us = us} {x = x} e h = subst (λ z. Starts (a_new_name z) ts x us) e h
 
-pub unnamed_at : (as_ bs : List (List ℕ)) (ts : List BToken) (w : Stop BToken) → as_ ≡ bs → Misses (a_new_name as_) ts w → Misses (a_new_name bs) ts w
+pub unnamed_at : (as_ bs : List (List ℕ)) (ts : List PlacedLexeme) (w : Stop PlacedLexeme) → as_ ≡ bs → Misses (a_new_name as_) ts w → Misses (a_new_name bs) ts w
 unnamed_at as_ bs ts w e h = subst (λ z. Misses (a_new_name z) ts w) e h
 
-pub takes_at : (as_ bs : List (List ℕ)) (ts : List BToken) (res : Result (List ℕ × Bor (List BToken)) (Stop BToken)) → as_ ≡ bs → Takes (a_new_name as_) ts res → Takes (a_new_name bs) ts res
+pub takes_at : (as_ bs : List (List ℕ)) (ts : List PlacedLexeme) (res : Result (List ℕ × Bor (List PlacedLexeme)) (Stop PlacedLexeme)) → as_ ≡ bs → Takes (a_new_name as_) ts res → Takes (a_new_name bs) ts res
 takes_at as_ bs ts res e h = subst (λ z. Takes (a_new_name z) ts res) e h
 
 -- a parameter

@@ -10,9 +10,9 @@ use Rattle.grammar.proofs.Wider as wide
 use Rattle.grammar.proofs.Whole.{count}
 use Rattle.boogie_tree.specs.declared.exprs.BOp.TheVariants as op
 use Rattle.boogie_grammar.specs.declared.tokens.BSign.TheVariants as sign
-use Rattle.boogie_grammar.specs.declared.tokens.BTok.{BTok}
-use Rattle.boogie_grammar.specs.declared.tokens.BTok.TheVariants as tok
-use Rattle.boogie_grammar.specs.declared.tokens.BToken.{BToken}
+use Rattle.boogie_grammar.specs.declared.tokens.Lexeme.{Lexeme}
+use Rattle.boogie_grammar.specs.declared.tokens.Lexeme.TheVariants as tok
+use Rattle.boogie_grammar.specs.declared.tokens.PlacedLexeme.{PlacedLexeme}
 use Rattle.boogie_grammar.specs.Words.{operator_tok}
 use Rattle.boogie_grammar.specs.Tests as v
 use Rattle.boogie_grammar.specs.Tests.{Kind, Value, Test, Passes, the_sign, the_word, the_name, a_new_name, a_variable, a_number, a_real, a_label, a_base, a_key, an_operator, some_free}
@@ -142,7 +142,7 @@ operator_no_colon op.Divide = refl
 operator_no_colon op.IntDiv = refl
 operator_no_colon op.IntMod = refl
 
-token_no_colon : {b : Bool} {r : Kind} (c : Test b r) (k : BToken) (x : Value r) → Plain c → Passes c k x → is_colon k.tok ≡ false
+token_no_colon : {b : Bool} {r : Kind} (c : Test b r) (k : PlacedLexeme) (x : Value r) → Plain c → Passes c k x → is_colon k.tok ≡ false
 token_no_colon (the_sign o) k x h p = ap is_colon p ∙ h
 token_no_colon (the_word w) k x h p = ap is_colon p
 token_no_colon (the_name n) k x h p = ap is_colon p
@@ -160,38 +160,38 @@ token_no_colon an_operator k o h p = ap is_colon p ∙ operator_no_colon o
 binds_at : (x : List ℕ) (b c : Bool) → b ≡ c → (if b then x ∷ [] else []) ≡ (if c then x ∷ [] else [])
 binds_at x b c e = ap (λ (d : Bool). if d then x ∷ [] else []) e
 
-binds_as : (k : BTok) (ts us : List BToken) → starts_colon ts ≡ starts_colon us → binds k ts ≡ binds k us
+binds_as : (k : Lexeme) (ts us : List PlacedLexeme) → starts_colon ts ≡ starts_colon us → binds k ts ≡ binds k us
 binds_as (tok.Name x) ts us e = binds_at x (starts_colon ts) (starts_colon us) e
 binds_as (tok.Number n) ts us e = refl
 binds_as (tok.Real n) ts us e = refl
 binds_as (tok.Text l) ts us e = refl
 binds_as (tok.Sign o) ts us e = refl
 
-no_bind : (k : BTok) (ts : List BToken) → starts_colon ts ≡ false → binds k ts ≡ []
+no_bind : (k : Lexeme) (ts : List PlacedLexeme) → starts_colon ts ≡ false → binds k ts ≡ []
 no_bind (tok.Name x) ts e = binds_at x (starts_colon ts) false e
 no_bind (tok.Number n) ts e = refl
 no_bind (tok.Real n) ts e = refl
 no_bind (tok.Text l) ts e = refl
 no_bind (tok.Sign o) ts e = refl
 
-starts_both : (ts us : List BToken) → starts_colon ts ≡ false → starts_colon us ≡ false → starts_colon (ts ++ us) ≡ false
+starts_both : (ts us : List PlacedLexeme) → starts_colon ts ≡ false → starts_colon us ≡ false → starts_colon (ts ++ us) ≡ false
 starts_both [] us h i = i
 starts_both (k ∷ ts) us h i = h
 
-starts_first : (ts us : List BToken) → starts_colon us ≡ false → starts_colon (ts ++ us) ≡ starts_colon ts
+starts_first : (ts us : List PlacedLexeme) → starts_colon us ≡ false → starts_colon (ts ++ us) ≡ starts_colon ts
 starts_first [] us i = i
 starts_first (k ∷ ts) us i = refl
 
-bound_append : (ts us : List BToken) → starts_colon us ≡ false → bound_in (ts ++ us) ≡ bound_in ts ++ bound_in us
+bound_append : (ts us : List PlacedLexeme) → starts_colon us ≡ false → bound_in (ts ++ us) ≡ bound_in ts ++ bound_in us
 bound_append [] us h = refl
 bound_append (k ∷ ts) us h =
     ap (λ l. l ++ bound_in (ts ++ us)) (binds_as k.tok (ts ++ us) ts (starts_first ts us h)) ∙ ap (λ l. binds k.tok ts ++ l) (bound_append ts us h) ∙
     sym (append_assoc (binds k.tok ts) (bound_in ts) (bound_in us))
 
-bound_after : (k : BToken) (ts : List BToken) → starts_colon ts ≡ false → bound_in (k ∷ ts) ≡ bound_in ts
+bound_after : (k : PlacedLexeme) (ts : List PlacedLexeme) → starts_colon ts ≡ false → bound_in (k ∷ ts) ≡ bound_in ts
 bound_after k ts h = ap (λ l. l ++ bound_in ts) (no_bind k.tok ts h)
 
-bound_named : (k j : BToken) (x : List ℕ) (ts : List BToken) → k.tok ≡ tok.Name x → j.tok ≡ tok.Sign sign.Colon → bound_in (k ∷ j ∷ ts) ≡ x ∷ bound_in ts
+bound_named : (k j : PlacedLexeme) (x : List ℕ) (ts : List PlacedLexeme) → k.tok ≡ tok.Name x → j.tok ≡ tok.Sign sign.Colon → bound_in (k ∷ j ∷ ts) ≡ x ∷ bound_in ts
 bound_named k j x ts e f =
     let first : binds k.tok (j ∷ ts) ≡ x ∷ [] = ap (λ t. binds t (j ∷ ts)) e ∙ binds_at x (is_colon j.tok) true (ap is_colon f) in
     let second : binds j.tok ts ≡ [] = ap (λ t. binds t ts) f in
@@ -202,19 +202,19 @@ bound_named k j x ts e f =
 abbrev telling_rules : Rules telling
 telling_rules = noted_rules new_names g.rules
 
-abbrev Second : {s : Kind} → g.Rule s → List (List ℕ) → List BToken → Value s → List (List ℕ) → List BToken → Type 0
+abbrev Second : {s : Kind} → g.Rule s → List (List ℕ) → List PlacedLexeme → Value s → List (List ℕ) → List PlacedLexeme → Type 0
 Second {s} a ns ts x more us = greedy.Reads telling_rules (new s) (noting_rule new_names ns a) ts (x, more) us
 
-pub record Noted {s : Kind} (a : g.Rule s) (ns : List (List ℕ)) (ts : List BToken) (x : Value s) (us : List BToken) : Type 0 where
-  pub front : List BToken
+pub record Noted {s : Kind} (a : g.Rule s) (ns : List (List ℕ)) (ts : List PlacedLexeme) (x : Value s) (us : List PlacedLexeme) : Type 0 where
+  pub front : List PlacedLexeme
   pub is : ts ≡ front ++ us
   pub quiet : starts_colon front ≡ false
   pub reads : Second a ns ts x (ns ++ bound_in front) us
 
-second_at : {s : Kind} (a : g.Rule s) (ns : List (List ℕ)) {ts us : List BToken} {x : Value s} {l m : List (List ℕ)} → l ≡ m → Second a ns ts x l us → Second a ns ts x m us
+second_at : {s : Kind} (a : g.Rule s) (ns : List (List ℕ)) {ts us : List PlacedLexeme} {x : Value s} {l m : List (List ℕ)} → l ≡ m → Second a ns ts x l us → Second a ns ts x m us
 second_at a ns {ts = ts} {us = us} {x = x} e h = subst (λ l. Second a ns ts x l us) e h
 
-noted_at : {s : Kind} (a : g.Rule s) {ns ms : List (List ℕ)} {ts us : List BToken} {x : Value s} → ns ≡ ms → Noted a ns ts x us → Noted a ms ts x us
+noted_at : {s : Kind} (a : g.Rule s) {ns ms : List (List ℕ)} {ts us : List PlacedLexeme} {x : Value s} → ns ≡ ms → Noted a ns ts x us → Noted a ms ts x us
 noted_at a {ts = ts} {us = us} {x = x} e h = subst (λ l. Noted a l ts x us) e h
 
 -- one plain token more
@@ -225,7 +225,7 @@ after_plain ns note more more' e f = ap (λ l. (ns ++ l) ++ more) e ∙ ap (λ l
 after_name : (ns more more' : List (List ℕ)) (x : List ℕ) → more' ≡ x ∷ more → ((ns ++ (x ∷ [])) ++ []) ++ more ≡ ns ++ more'
 after_name ns more more' x f = ap (λ l. l ++ more) (append-nil (ns ++ (x ∷ []))) ∙ append_assoc ns (x ∷ []) more ∙ ap (λ l. ns ++ l) (sym f)
 
-noted : {s : Kind} {a : g.Rule s} {ts us : List BToken} {x : Value s} → Quiet a → greedy.Reads g.rules s a ts x us → (ns : List (List ℕ)) → Noted a ns ts x us
+noted : {s : Kind} {a : g.Rule s} {ts us : List PlacedLexeme} {x : Value s} → Quiet a → greedy.Reads g.rules s a ts x us → (ns : List (List ℕ)) → Noted a ns ts x us
 noted qg (given {x = x}) ns = record { front = []; is = refl; quiet = refl; reads = second_at (give x) ns (sym (append-nil ns)) given }
 noted (qn q f) (needed {r = r} {c = c} {go = go} {v = y} p h) ns =
     let i = noted (f y) h (ns ++ new_names true r c y) in
@@ -273,10 +273,10 @@ noted (qr e f) (called {a = a} {go = go} {y = y} h k) ns =
 front_taken : {T : Type 0} (f r : List T) → take (length (f ++ r) - length r) (f ++ r) ≡ f
 front_taken f r = ap (λ n. take n (f ++ r)) (count f r) ∙ take-append_seam f r
 
-abbrev pub eaten : List BToken → List BToken → List BToken
+abbrev pub eaten : List PlacedLexeme → List PlacedLexeme → List PlacedLexeme
 eaten ts us = take (length ts - length us) ts
 
-pub expr_noted : (x : g.Scope) {ts us : List BToken} {e : _} → greedy.Reads g.rules v.expr (g.rule (g.Expr x)) ts e us →
+pub expr_noted : (x : g.Scope) {ts us : List PlacedLexeme} {e : _} → greedy.Reads g.rules v.expr (g.rule (g.Expr x)) ts e us →
     greedy.Reads telling_rules (new v.expr) (noting_rule new_names [] (g.rule (g.Expr x))) ts (e, bound_in (eaten ts us)) us
 expr_noted x {ts = ts} {us = us} {e = e} h =
     let i = noted (quiet_of (g.Expr x) tt) h [] in

@@ -11,7 +11,7 @@ use Rattle.grammar.specs.Wider.{old, new, was, more}
 use Rattle.grammar.proofs.Reading as grammar
 use Rattle.grammar.proofs.Steps as steps
 use Rattle.grammar.proofs.Wider as wide
-use Rattle.boogie_grammar.specs.declared.tokens.BToken.{BToken}
+use Rattle.boogie_grammar.specs.declared.tokens.PlacedLexeme.{PlacedLexeme}
 use Rattle.boogie_grammar.specs.Greedy as narrow
 use Rattle.boogie_grammar.specs.Tests as v
 use Rattle.boogie_grammar.specs.Tests.{Kind, Value, Test, a_variable, some_free}
@@ -30,176 +30,176 @@ use Rattle.wide_text.proofs.NotedNames.{eaten, expr_noted}
 abbrev telling_rules : Rules telling
 telling_rules = noted_rules new_names g.rules
 
-starts_up : {b : Bool} {r : Kind} {c : Test b r} {ts us : List BToken} {x : Value r} → narrow.Starts c ts x us → Starts wider_boogie {b = b} {r = old (old r)} c ts x us
+starts_up : {b : Bool} {r : Kind} {c : Test b r} {ts us : List PlacedLexeme} {x : Value r} → narrow.Starts c ts x us → Starts wider_boogie {b = b} {r = old (old r)} c ts x us
 starts_up p = wide.starts_up telling_rules (λ s a. more_rule a) (wide.starts_up g.rules (second_rules new_names g.rules) p)
 
-isnot_up : {b : Bool} {r : Kind} {c : Test b r} {ts : List BToken} → narrow.IsNot c ts → greedy.IsNot wider_boogie {b = b} {r = old (old r)} c ts
+isnot_up : {b : Bool} {r : Kind} {c : Test b r} {ts : List PlacedLexeme} → narrow.IsNot c ts → greedy.IsNot wider_boogie {b = b} {r = old (old r)} c ts
 isnot_up n = wide.isnot_up telling_rules (λ s a. more_rule a) (wide.isnot_up g.rules (second_rules new_names g.rules) n)
 
-reads_up : {s : Kind} (a : g.Symbol s) {ts us : List BToken} {x : Value s} → narrow.Reads s (g.rule a) ts x us → Reads (old (old s)) (rules _ (was (was a))) ts x us
+reads_up : {s : Kind} (a : g.Symbol s) {ts us : List PlacedLexeme} {x : Value s} → narrow.Reads s (g.rule a) ts x us → Reads (old (old s)) (rules _ (was (was a))) ts x us
 reads_up a h = wide.reads_up telling_rules (λ s a. more_rule a) (wide.reads_up g.rules (second_rules new_names g.rules) h)
 
-fails_up : {s : Kind} (a : g.Symbol s) {ts r : List BToken} → narrow.Fails (g.rule a) ts r → Fails {s = old (old s)} (rules _ (was (was a))) ts r
+fails_up : {s : Kind} (a : g.Symbol s) {ts r : List PlacedLexeme} → narrow.Fails (g.rule a) ts r → Fails {s = old (old s)} (rules _ (was (was a))) ts r
 fails_up a f = wide.fails_up telling_rules (λ s a. more_rule a) _ (wide.fails_up g.rules (second_rules new_names g.rules) (g.rule a) f)
 
 -- steps
 
-pub start : {s : WKind} (a : Rule s) (ts : List BToken) → Goes a ts a ts
+pub start : {s : WKind} (a : Rule s) (ts : List PlacedLexeme) → Goes a ts a ts
 start a ts = grammar.start rules laws a ts
 
-pub by_need : {r : Kind} {s : WKind} {a : Rule s} {c : Test true r} {go : Value r → Rule s} {ts us vs : List BToken} {x : Value r} →
+pub by_need : {r : Kind} {s : WKind} {a : Rule s} {c : Test true r} {go : Value r → Rule s} {ts us vs : List PlacedLexeme} {x : Value r} →
     narrow.Starts c us x vs → Goes a ts (need {r = old (old r)} c go) us → Goes a ts (go x) vs
 by_need p g = grammar.by_need rules laws (starts_up p) g
 
-pub by_token : {b : Bool} {r : Kind} {s : WKind} {a : Rule s} {c : Test b r} {go : Value r → Rule s} {other : Rule s} {ts us vs : List BToken} {x : Value r} →
+pub by_token : {b : Bool} {r : Kind} {s : WKind} {a : Rule s} {c : Test b r} {go : Value r → Rule s} {other : Rule s} {ts us vs : List PlacedLexeme} {x : Value r} →
     narrow.Starts c us x vs → Goes a ts (when {b = b} {r = old (old r)} c go other) us → Goes a ts (go x) vs
 by_token p g = grammar.by_token rules laws (starts_up p) g
 
-pub by_other : {b : Bool} {r : Kind} {s : WKind} {a : Rule s} {c : Test b r} {go : Value r → Rule s} {other : Rule s} {ts us : List BToken} →
+pub by_other : {b : Bool} {r : Kind} {s : WKind} {a : Rule s} {c : Test b r} {go : Value r → Rule s} {other : Rule s} {ts us : List PlacedLexeme} →
     narrow.IsNot c us → Goes a ts (when {b = b} {r = old (old r)} c go other) us → Goes a ts other us
 by_other n g = grammar.by_other rules laws (isnot_up n) g
 
 -- a symbol of the other programs
-pub by_old : {r : Kind} {s : WKind} {a : Rule s} {b : g.Symbol r} {go : Value r → Rule s} {ts us vs : List BToken} {y : Value r} →
+pub by_old : {r : Kind} {s : WKind} {a : Rule s} {b : g.Symbol r} {go : Value r → Rule s} {ts us vs : List PlacedLexeme} {y : Value r} →
     narrow.Reads r (g.rule b) us y vs → Goes a ts (read {r = old (old r)} (was (was b)) go) us → Goes a ts (go y) vs
 by_old {b = b} h g = grammar.by_part rules laws (reads_up b h) g
 
-pub by_part : {r s : WKind} {a : Rule s} {b : Symbol r} {go : WValue r → Rule s} {ts us vs : List BToken} {y : WValue r} →
+pub by_part : {r s : WKind} {a : Rule s} {b : Symbol r} {go : WValue r → Rule s} {ts us vs : List PlacedLexeme} {y : WValue r} →
     Reads r (rule b) us y vs → Goes a ts (read (more b) go) us → Goes a ts (go y) vs
 by_part h g = grammar.by_part rules laws h g
 
 -- an expression, and the names that are bound in it
-pub by_noted : {s : WKind} {a : Rule s} (x : g.Scope) {go : _ → Rule s} {ts us vs : List BToken} {e : _} →
+pub by_noted : {s : WKind} {a : Rule s} (x : g.Scope) {go : _ → Rule s} {ts us vs : List PlacedLexeme} {e : _} →
     narrow.Reads v.expr (g.rule (g.Expr x)) us e vs → Goes a ts (read {r = old (new v.expr)} (was (more (noting (g.Expr x)))) go) us → Goes a ts (go (e, bound_in (eaten us vs))) vs
 by_noted x h g = grammar.by_part rules laws (wide.reads_up telling_rules (λ s a. more_rule a) (expr_noted x h)) g
 
-pub whole : {s : WKind} {a : Rule s} {ts us : List BToken} {x : WValue s} → Goes a ts (give x) us → Reads s a ts x us
+pub whole : {s : WKind} {a : Rule s} {ts us : List PlacedLexeme} {x : WValue s} → Goes a ts (give x) us → Reads s a ts x us
 whole g = grammar.whole rules laws g
 
-pub fails_taken : {b : Bool} {r : Kind} {s : WKind} {c : Test b r} {go : Value r → Rule s} {other : Rule s} {ts us z : List BToken} {x : Value r} →
+pub fails_taken : {b : Bool} {r : Kind} {s : WKind} {c : Test b r} {go : Value r → Rule s} {other : Rule s} {ts us z : List PlacedLexeme} {x : Value r} →
     narrow.Starts c ts x us → Fails (go x) us z → Fails (when {b = b} {r = old (old r)} c go other) ts z
 fails_taken p f = grammar.fails_taken rules laws (starts_up p) f
 
-pub fails_here : {r : Kind} {s : WKind} {c : Test true r} {go : Value r → Rule s} {ts : List BToken} → narrow.IsNot c ts → Fails (need {r = old (old r)} c go) ts ts
+pub fails_here : {r : Kind} {s : WKind} {c : Test true r} {go : Value r → Rule s} {ts : List PlacedLexeme} → narrow.IsNot c ts → Fails (need {r = old (old r)} c go) ts ts
 fails_here n = grammar.fails_here rules laws (isnot_up n)
 
 -- an error at a `?`
 
-pub error_as : {r s : WKind} {R : Type 0} (view : R → WValue s) {b : Rule r} {a : Rule s} {us ts : List BToken} (w : Stop BToken)
-    (res : Result (R × Bor (List BToken)) (Stop BToken)) → IsErrAnd res (λ x. x ≡ w) →
-    ((z : List BToken) → Fails b us z → Fails a ts z) → Refuses b us w → Parses view a ts res
+pub error_as : {r s : WKind} {R : Type 0} (view : R → WValue s) {b : Rule r} {a : Rule s} {us ts : List PlacedLexeme} (w : Stop PlacedLexeme)
+    (res : Result (R × Bor (List PlacedLexeme)) (Stop PlacedLexeme)) → IsErrAnd res (λ x. x ≡ w) →
+    ((z : List PlacedLexeme) → Fails b us z → Fails a ts z) → Refuses b us w → Parses view a ts res
 error_as view w res e f h = steps.error_as rules laws view w res e f h
 
 -- what is left of the rule goes wrong
-pub rest_error : {s : WKind} {R : Type 0} (view : R → WValue s) {b a : Rule s} {us ts : List BToken} (w : Stop BToken)
-    (res : Result (R × Bor (List BToken)) (Stop BToken)) → IsErrAnd res (λ x. x ≡ w) → Goes a ts b us → Refuses b us w → Parses view a ts res
+pub rest_error : {s : WKind} {R : Type 0} (view : R → WValue s) {b a : Rule s} {us ts : List PlacedLexeme} (w : Stop PlacedLexeme)
+    (res : Result (R × Bor (List PlacedLexeme)) (Stop PlacedLexeme)) → IsErrAnd res (λ x. x ≡ w) → Goes a ts b us → Refuses b us w → Parses view a ts res
 rest_error view w res e g h = error_as view w res e (λ z f. g.fails z f) h
 
-pub part_error : {r s : WKind} {R : Type 0} (view : R → WValue s) {b : Symbol r} {go : WValue r → Rule s} {a : Rule s} {us ts : List BToken} (w : Stop BToken)
-    (res : Result (R × Bor (List BToken)) (Stop BToken)) → IsErrAnd res (λ x. x ≡ w) → Goes a ts (read (more b) go) us → Refuses (rule b) us w → Parses view a ts res
+pub part_error : {r s : WKind} {R : Type 0} (view : R → WValue s) {b : Symbol r} {go : WValue r → Rule s} {a : Rule s} {us ts : List PlacedLexeme} (w : Stop PlacedLexeme)
+    (res : Result (R × Bor (List PlacedLexeme)) (Stop PlacedLexeme)) → IsErrAnd res (λ x. x ≡ w) → Goes a ts (read (more b) go) us → Refuses (rule b) us w → Parses view a ts res
 part_error view w res e g h = steps.part_error rules laws view w res e g h
 
-refuses_up : {s : Kind} (a : g.Symbol s) (us : List BToken) (w : Stop BToken) → narrow.Refuses (g.rule a) us w → Refuses {s = old (old s)} (rules _ (was (was a))) us w
+refuses_up : {s : Kind} (a : g.Symbol s) (us : List PlacedLexeme) (w : Stop PlacedLexeme) → narrow.Refuses (g.rule a) us w → Refuses {s = old (old s)} (rules _ (was (was a))) us w
 refuses_up a us stop.Memory h = tt
 refuses_up a us (stop.Before r) h = fails_up a h
 
-pub old_error : {r : Kind} {s : WKind} {R : Type 0} (view : R → WValue s) {b : g.Symbol r} {go : Value r → Rule s} {a : Rule s} {us ts : List BToken} (w : Stop BToken)
-    (res : Result (R × Bor (List BToken)) (Stop BToken)) → IsErrAnd res (λ x. x ≡ w) → Goes a ts (read {r = old (old r)} (was (was b)) go) us →
+pub old_error : {r : Kind} {s : WKind} {R : Type 0} (view : R → WValue s) {b : g.Symbol r} {go : Value r → Rule s} {a : Rule s} {us ts : List PlacedLexeme} (w : Stop PlacedLexeme)
+    (res : Result (R × Bor (List PlacedLexeme)) (Stop PlacedLexeme)) → IsErrAnd res (λ x. x ≡ w) → Goes a ts (read {r = old (old r)} (was (was b)) go) us →
     narrow.Refuses (g.rule b) us w → Parses view a ts res
 old_error view {b = b} {us = us} w res e g h = steps.part_error rules laws view w res e g (refuses_up b us w h)
 
-noted_refuses : (x : g.Scope) (us : List BToken) (w : Stop BToken) → narrow.Refuses (g.rule (g.Expr x)) us w → Refuses {s = old (new v.expr)} (rules _ (was (more (noting (g.Expr x))))) us w
+noted_refuses : (x : g.Scope) (us : List PlacedLexeme) (w : Stop PlacedLexeme) → narrow.Refuses (g.rule (g.Expr x)) us w → Refuses {s = old (new v.expr)} (rules _ (was (more (noting (g.Expr x))))) us w
 noted_refuses x us stop.Memory h = tt
 noted_refuses x us (stop.Before r) h = wide.fails_up telling_rules (λ s a. more_rule a) _ (fails_noted new_names g.rules (g.rule (g.Expr x)) [] h)
 
-misses_up : {b : Bool} {r : Kind} (c : Test b r) (us : List BToken) (w : Stop BToken) → narrow.Misses c us w → greedy.Misses wider_boogie {b = b} {r = old (old r)} c us w
+misses_up : {b : Bool} {r : Kind} (c : Test b r) (us : List PlacedLexeme) (w : Stop PlacedLexeme) → narrow.Misses c us w → greedy.Misses wider_boogie {b = b} {r = old (old r)} c us w
 misses_up c us w h = wide.misses_up telling_rules (λ s a. more_rule a) c us w (wide.misses_up g.rules (second_rules new_names g.rules) c us w h)
 
-pub token_error : {r : Kind} {s : WKind} {R : Type 0} (view : R → WValue s) {c : Test true r} {go : Value r → Rule s} {a : Rule s} {us ts : List BToken} (w : Stop BToken)
-    (res : Result (R × Bor (List BToken)) (Stop BToken)) → IsErrAnd res (λ x. x ≡ w) → Goes a ts (need {r = old (old r)} c go) us → narrow.Misses c us w → Parses view a ts res
+pub token_error : {r : Kind} {s : WKind} {R : Type 0} (view : R → WValue s) {c : Test true r} {go : Value r → Rule s} {a : Rule s} {us ts : List PlacedLexeme} (w : Stop PlacedLexeme)
+    (res : Result (R × Bor (List PlacedLexeme)) (Stop PlacedLexeme)) → IsErrAnd res (λ x. x ≡ w) → Goes a ts (need {r = old (old r)} c go) us → narrow.Misses c us w → Parses view a ts res
 token_error view {c = c} {us = us} w res e g h = steps.token_error rules laws view w res e g (misses_up c us w h)
 
 -- the same, where the answer is that the rule goes wrong
 
-pub at_error : {T : Type 0} (P : Result T (Stop BToken) → Type 0) (res : Result T (Stop BToken)) (w : Stop BToken) → IsErrAnd res (λ x. x ≡ w) → P (Err w) → P res
+pub at_error : {T : Type 0} (P : Result T (Stop PlacedLexeme) → Type 0) (res : Result T (Stop PlacedLexeme)) (w : Stop PlacedLexeme) → IsErrAnd res (λ x. x ≡ w) → P (Err w) → P res
 at_error P res w e h = let y = err_from_is_err_and res e in subst P (sym y.1) (subst (λ x. P (Err x)) (sym y.2) h)
 
-pub token_refuses : {r : Kind} {s : WKind} {c : Test true r} {go : Value r → Rule s} {a : Rule s} {us ts : List BToken} (w : Stop BToken) → Goes a ts (need {r = old (old r)} c go) us →
+pub token_refuses : {r : Kind} {s : WKind} {c : Test true r} {go : Value r → Rule s} {a : Rule s} {us ts : List PlacedLexeme} (w : Stop PlacedLexeme) → Goes a ts (need {r = old (old r)} c go) us →
     narrow.Misses c us w → Refuses a ts w
 token_refuses stop.Memory g h = tt
 token_refuses {a = a} {ts = ts} (stop.Before r) g h = subst (λ z. Fails a ts z) (sym h.1) (grammar.wrong_token rules laws (isnot_up h.0) g)
 
-pub old_refuses : {r : Kind} {s : WKind} {b : g.Symbol r} {go : Value r → Rule s} {a : Rule s} {us ts : List BToken} (w : Stop BToken) → Goes a ts (read {r = old (old r)} (was (was b)) go) us →
+pub old_refuses : {r : Kind} {s : WKind} {b : g.Symbol r} {go : Value r → Rule s} {a : Rule s} {us ts : List PlacedLexeme} (w : Stop PlacedLexeme) → Goes a ts (read {r = old (old r)} (was (was b)) go) us →
     narrow.Refuses (g.rule b) us w → Refuses a ts w
 old_refuses stop.Memory g h = tt
 old_refuses {b = b} (stop.Before r) g h = grammar.wrong_part rules laws (fails_up b h) g
 
-pub noted_refuses_in : {s : WKind} (x : g.Scope) {go : _ → Rule s} {a : Rule s} {us ts : List BToken} (w : Stop BToken) → Goes a ts (read {r = old (new v.expr)} (was (more (noting (g.Expr x)))) go) us →
+pub noted_refuses_in : {s : WKind} (x : g.Scope) {go : _ → Rule s} {a : Rule s} {us ts : List PlacedLexeme} (w : Stop PlacedLexeme) → Goes a ts (read {r = old (new v.expr)} (was (more (noting (g.Expr x)))) go) us →
     narrow.Refuses (g.rule (g.Expr x)) us w → Refuses a ts w
 noted_refuses_in x {us = us} stop.Memory g h = tt
 noted_refuses_in x {us = us} (stop.Before r) g h = grammar.wrong_part rules laws (noted_refuses x us (stop.Before r) h) g
 
-pub part_refuses : {r s : WKind} {b : Symbol r} {go : WValue r → Rule s} {a : Rule s} {us ts : List BToken} (w : Stop BToken) → Goes a ts (read (more b) go) us → Refuses (rule b) us w → Refuses a ts w
+pub part_refuses : {r s : WKind} {b : Symbol r} {go : WValue r → Rule s} {a : Rule s} {us ts : List PlacedLexeme} (w : Stop PlacedLexeme) → Goes a ts (read (more b) go) us → Refuses (rule b) us w → Refuses a ts w
 part_refuses stop.Memory g h = tt
 part_refuses (stop.Before r) g h = grammar.wrong_part rules laws h g
 
-pub rest_refuses : {s : WKind} {b a : Rule s} {us ts : List BToken} (w : Stop BToken) → Goes a ts b us → Refuses b us w → Refuses a ts w
+pub rest_refuses : {s : WKind} {b a : Rule s} {us ts : List PlacedLexeme} (w : Stop PlacedLexeme) → Goes a ts b us → Refuses b us w → Refuses a ts w
 rest_refuses stop.Memory g h = tt
 rest_refuses (stop.Before r) g h = g.fails _ h
 
 -- the last call of a function
 
-pub tail : {s : WKind} {a : Rule s} {b : Symbol s} {ts us : List BToken} → Goes a ts (read (more b) give) us → Goes a ts (rule b) us
+pub tail : {s : WKind} {a : Rule s} {b : Symbol s} {ts us : List PlacedLexeme} → Goes a ts (read (more b) give) us → Goes a ts (rule b) us
 tail g = steps.tail rules laws g
 
-pub pass_on : {s : WKind} {R : Type 0} (view : R → WValue s) {b a : Rule s} {us ts : List BToken} (res : Result (R × Bor (List BToken)) (Stop BToken)) →
+pub pass_on : {s : WKind} {R : Type 0} (view : R → WValue s) {b a : Rule s} {us ts : List PlacedLexeme} (res : Result (R × Bor (List PlacedLexeme)) (Stop PlacedLexeme)) →
     Goes a ts b us → Parses view b us res → Parses view a ts res
 pass_on view res g h = steps.pass_on rules laws view res g h
 
 -- what was built is what the rule gives
 
-pub whole_as : {s : WKind} {a : Rule s} {ts us : List BToken} {x y : WValue s} → Goes a ts (give y) us → x ≡ y → Reads s a ts x us
+pub whole_as : {s : WKind} {a : Rule s} {ts us : List PlacedLexeme} {x y : WValue s} → Goes a ts (give y) us → x ≡ y → Reads s a ts x us
 whole_as g e = steps.whole_as rules laws g e
 
-pub goes_at : {s : WKind} (r : WKind) (f : WValue r → Rule s) {a : Rule s} {ts us : List BToken} {x y : WValue r} → x ≡ y → Goes a ts (f y) us → Goes a ts (f x) us
+pub goes_at : {s : WKind} (r : WKind) (f : WValue r → Rule s) {a : Rule s} {ts us : List PlacedLexeme} {x y : WValue r} → x ≡ y → Goes a ts (f y) us → Goes a ts (f x) us
 goes_at r f e g = steps.goes_at rules laws r f e g
 
-pub goes_by : {A : Type 0} {s : WKind} (f : A → Rule s) {a : Rule s} {ts us : List BToken} {x y : A} → x ≡ y → Goes a ts (f y) us → Goes a ts (f x) us
+pub goes_by : {A : Type 0} {s : WKind} (f : A → Rule s) {a : Rule s} {ts us : List PlacedLexeme} {x y : A} → x ≡ y → Goes a ts (f y) us → Goes a ts (f x) us
 goes_by f e g = steps.goes_by rules laws f e g
 
-pub goes_then : {s : WKind} {a b c : Rule s} {ts us vs : List BToken} → Goes a ts b us → Goes b us c vs → Goes a ts c vs
+pub goes_then : {s : WKind} {a b c : Rule s} {ts us vs : List PlacedLexeme} → Goes a ts b us → Goes b us c vs → Goes a ts c vs
 goes_then g h = steps.goes_then rules laws g h
 
 -- a symbol with an equal list
 
-pub symbol_at : {A : Type 0} {r : WKind} (f : A → Symbol r) {x y : A} {z : WValue r} {ts us : List BToken} → x ≡ y → Reads r (rule (f x)) ts z us → Reads r (rule (f y)) ts z us
+pub symbol_at : {A : Type 0} {r : WKind} (f : A → Symbol r) {x y : A} {z : WValue r} {ts us : List PlacedLexeme} → x ≡ y → Reads r (rule (f x)) ts z us → Reads r (rule (f y)) ts z us
 symbol_at {r = r} f {z = z} {ts = ts} {us = us} e h = subst (λ k. Reads r (rule (f k)) ts z us) e h
 
-pub symbol_refuses_at : {A : Type 0} {r : WKind} (f : A → Symbol r) (x y : A) (us : List BToken) (w : Stop BToken) → x ≡ y → Refuses (rule (f x)) us w → Refuses (rule (f y)) us w
+pub symbol_refuses_at : {A : Type 0} {r : WKind} (f : A → Symbol r) (x y : A) (us : List PlacedLexeme) (w : Stop PlacedLexeme) → x ≡ y → Refuses (rule (f x)) us w → Refuses (rule (f y)) us w
 symbol_refuses_at f x y us w e h = subst (λ k. Refuses (rule (f k)) us w) e h
 
 -- variables, which can be named only where some name is free
 
-variable_at : {r : Kind} {k : WKind} {a : Rule k} (go : Value r → Rule k) (other : Rule k) {ts us vs : List BToken} {i : Value r} (b : Bool) (test : b ≡ true → Test true r) → b ≡ true →
+variable_at : {r : Kind} {k : WKind} {a : Rule k} (go : Value r → Rule k) (other : Rule k) {ts us vs : List PlacedLexeme} {i : Value r} (b : Bool) (test : b ≡ true → Test true r) → b ≡ true →
     ((h : b ≡ true) → narrow.Starts (test h) us i vs) → Goes a ts (where_true b (λ h. when {b = true} {r = old (old r)} (test h) go other) other) us → Goes a ts (go i) vs
 variable_at go other true test holds h g = by_token (h refl) g
 variable_at go other false test holds h g = absurd (cc)
 
-pub by_variable : {k : WKind} {a : Rule k} (go : ℕ → Rule k) (other : Rule k) {names : List (List ℕ)} {ts us vs : List BToken} {i : ℕ} → ReadsVariable names us i vs →
+pub by_variable : {k : WKind} {a : Rule k} (go : ℕ → Rule k) (other : Rule k) {names : List (List ℕ)} {ts us vs : List PlacedLexeme} {i : ℕ} → ReadsVariable names us i vs →
     Goes a ts (where_true (some_free names) (λ some. when {b = true} {r = old (old v.variable)} (a_variable names some) go other) other) us → Goes a ts (go i) vs
 by_variable go other {names = names} h g = variable_at go other (some_free names) (λ some. a_variable names some) h.0 h.1 g
 
-no_variable_at : {r : Kind} {k : WKind} {a : Rule k} (go : Value r → Rule k) (other : Rule k) {ts us : List BToken} (b : Bool) (test : b ≡ true → Test true r) →
+no_variable_at : {r : Kind} {k : WKind} {a : Rule k} (go : Value r → Rule k) (other : Rule k) {ts us : List PlacedLexeme} (b : Bool) (test : b ≡ true → Test true r) →
     ((h : b ≡ true) → narrow.IsNot (test h) us) → Goes a ts (where_true b (λ h. when {b = true} {r = old (old r)} (test h) go other) other) us → Goes a ts other us
 no_variable_at go other true test n g = by_other (n refl) g
 no_variable_at go other false test n g = g
 
-pub by_no_variable : {k : WKind} {a : Rule k} (go : ℕ → Rule k) (other : Rule k) {names : List (List ℕ)} {ts us : List BToken} → NoVariable names us →
+pub by_no_variable : {k : WKind} {a : Rule k} (go : ℕ → Rule k) (other : Rule k) {names : List (List ℕ)} {ts us : List PlacedLexeme} → NoVariable names us →
     Goes a ts (where_true (some_free names) (λ some. when {b = true} {r = old (old v.variable)} (a_variable names some) go other) other) us → Goes a ts other us
 by_no_variable go other {names = names} n g = no_variable_at go other (some_free names) (λ some. a_variable names some) n g
 
 -- where a test is true
 
-pub where_holds : {k : WKind} {a : Rule k} {ts us : List BToken} (b : Bool) (some : b ≡ true → Rule k) (other : Rule k) (h : b ≡ true) → Goes a ts (where_true b some other) us → (e : b ≡ true) × Goes a ts (some e) us
+pub where_holds : {k : WKind} {a : Rule k} {ts us : List PlacedLexeme} (b : Bool) (some : b ≡ true → Rule k) (other : Rule k) (h : b ≡ true) → Goes a ts (where_true b some other) us → (e : b ≡ true) × Goes a ts (some e) us
 where_holds true some other h g = (refl, g)
 where_holds false some other h g = absurd (cc)

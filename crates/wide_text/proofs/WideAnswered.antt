@@ -10,7 +10,7 @@ use Rattle.grammar.proofs.Complete as complete
 use Rattle.grammar.proofs.Answered as grammar
 use Rattle.grammar.proofs.Answered.{fg, fn, fw, fr, ft}
 use Rattle.grammar.proofs.WiderLaws.{wider_ranks, answers_up}
-use Rattle.boogie_grammar.specs.declared.tokens.BToken.{BToken}
+use Rattle.boogie_grammar.specs.declared.tokens.PlacedLexeme.{PlacedLexeme}
 use Rattle.boogie_grammar.specs.Tests as v
 use Rattle.boogie_grammar.specs.Tests.{some_free}
 use Rattle.boogie_grammar.specs.declared.tokens.BSign.TheVariants as sign
@@ -76,10 +76,10 @@ all_answers : grammar.HasAnswers rules all_ranks
 all_answers = answers_up telling_rules (λ s a. more_rule a) telling_ranks further telling_answers
     (λ s a x d. sym (wide_right.empty_ok s a) ∙ complete.ends_right rules wide_table wide_right d refl) (λ s a. falls_of a)
 
-answered : (ts : List BToken) → IsSpelled rules (rule (Programs [])) ts ⊎ text.GoesWrong rules (rule (Programs [])) ts
+answered : (ts : List PlacedLexeme) → IsSpelled rules (rule (Programs [])) ts ⊎ text.GoesWrong rules (rule (Programs [])) ts
 answered ts = grammar.some_answer rules laws all_ranks all_answers (more (Programs [])) (λ us ps d. wide.complete (Programs []) d) ts
 
-wrong_there : {ts : List BToken} → text.GoesWrong rules (rule (Programs [])) ts → GoesWrong ts
+wrong_there : {ts : List PlacedLexeme} → text.GoesWrong rules (rule (Programs [])) ts → GoesWrong ts
 wrong_there x = record {
   none = λ p. x.none (p.0.procs, p.1);
   at = x.at;
@@ -90,9 +90,9 @@ wrong_there x = record {
   };
 }
 
-by_answer : {ts : List BToken} → IsSpelled rules (rule (Programs [])) ts ⊎ text.GoesWrong rules (rule (Programs [])) ts → SpellsWideProgram ts ⊎ GoesWrong ts
+by_answer : {ts : List PlacedLexeme} → IsSpelled rules (rule (Programs [])) ts ⊎ text.GoesWrong rules (rule (Programs [])) ts → SpellsWideProgram ts ⊎ GoesWrong ts
 by_answer (inl h) = inl (record { procs = h.0 }, h.1)
 by_answer (inr x) = inr (wrong_there x)
 
-pub some_answer : (ts : List BToken) → SpellsWideProgram ts ⊎ GoesWrong ts
+pub some_answer : (ts : List PlacedLexeme) → SpellsWideProgram ts ⊎ GoesWrong ts
 some_answer ts = by_answer (answered ts)

@@ -17,8 +17,8 @@ use Rattle.grammar.specs.Wider.{Kinds, old, new, more}
 use Rattle.boogie_tree.specs.Program.{Local}
 use Rattle.boogie_grammar.specs.declared.tokens.BSign.TheVariants as sign
 use Rattle.boogie_grammar.specs.declared.tokens.Word.TheVariants as w
-use Rattle.boogie_grammar.specs.declared.tokens.BTok.TheVariants as tok
-use Rattle.boogie_grammar.specs.declared.tokens.BToken.{BToken}
+use Rattle.boogie_grammar.specs.declared.tokens.Lexeme.TheVariants as tok
+use Rattle.boogie_grammar.specs.declared.tokens.PlacedLexeme.{PlacedLexeme}
 use Rattle.boogie_grammar.specs.Words.{is_reserved, is_among}
 use Rattle.boogie_grammar.specs.Tests as v
 use Rattle.boogie_grammar.specs.Tests.{some_free, a_variable}
@@ -192,41 +192,41 @@ wide_right = right_up telling_rules (λ s a. more_rule a) telling_table further 
 abbrev WRule : Kinds telling Kind → Type 0
 WRule s = rules_of.Rule wider_boogie s
 
-abbrev From : {s : Kinds telling Kind} → WRule s → List BToken → wider_boogie.Value s → Type 0
+abbrev From : {s : Kinds telling Kind} → WRule s → List PlacedLexeme → wider_boogie.Value s → Type 0
 From a ts x = Derives rules _ a ts x
 
-pass_by : {b : Bool} {r s : Kinds telling Kind} {c : wider_boogie.Test b r} {go : wider_boogie.Value r → WRule s} {other : WRule s} {ts us : List BToken} {x : wider_boogie.Value s} {k : BToken} →
+pass_by : {b : Bool} {r s : Kinds telling Kind} {c : wider_boogie.Test b r} {go : wider_boogie.Value r → WRule s} {other : WRule s} {ts us : List PlacedLexeme} {x : wider_boogie.Value s} {k : PlacedLexeme} →
     From (when c go other) ts x → ts ≡ k ∷ us → ((y : wider_boogie.Value r) → wider_boogie.Passes b r c k y → ⊥) → From other ts x
 pass_by {b = b} {r = r} {c = c} {k = k} (plain.taken {v = y} q d) e n = let same : q.token ≡ k = cc in absurd (n y (subst (λ j. wider_boogie.Passes b r c j y) same q.passes))
 pass_by (plain.passed d) e n = d
 
-no_need : {r s : Kinds telling Kind} {c : wider_boogie.Test true r} {go : wider_boogie.Value r → WRule s} {ts us : List BToken} {x : wider_boogie.Value s} {k : BToken} →
+no_need : {r s : Kinds telling Kind} {c : wider_boogie.Test true r} {go : wider_boogie.Value r → WRule s} {ts us : List PlacedLexeme} {x : wider_boogie.Value s} {k : PlacedLexeme} →
     From (need c go) ts x → ts ≡ k ∷ us → ((y : wider_boogie.Value r) → wider_boogie.Passes true r c k y → ⊥) → ⊥
 no_need {r = r} {c = c} {k = k} (plain.needed {v = y} q d) e n = let same : q.token ≡ k = cc in n y (subst (λ j. wider_boogie.Passes true r c j y) same q.passes)
 
-no_give : {s : Kinds telling Kind} {y x : wider_boogie.Value s} {ts us : List BToken} {k : BToken} → From (give y) ts x → ts ≡ k ∷ us → ⊥
+no_give : {s : Kinds telling Kind} {y x : wider_boogie.Value s} {ts us : List PlacedLexeme} {k : PlacedLexeme} → From (give y) ts x → ts ≡ k ∷ us → ⊥
 no_give plain.given e = cc
 
-no_sign : {q : List ℕ} (k : BToken) (o : _) → k.tok ≡ tok.Name q → k.tok ≡ tok.Sign o → ⊥
+no_sign : {q : List ℕ} (k : PlacedLexeme) (o : _) → k.tok ≡ tok.Name q → k.tok ≡ tok.Sign o → ⊥
 no_sign {q = q} k o name e = let h : tok.Sign o ≡ tok.Name q = sym e ∙ name in cc
 
-other_name : {q p : List ℕ} (k : BToken) → bytes_eq q p ≡ false → k.tok ≡ tok.Name q → k.tok ≡ tok.Name p → ⊥
+other_name : {q p : List ℕ} (k : PlacedLexeme) → bytes_eq q p ≡ false → k.tok ≡ tok.Name q → k.tok ≡ tok.Name p → ⊥
 other_name {q = q} {p = p} k n name e = both_ways (bytes_eq q p) n ((bytes_eq-Decides q p).1 (name_is (sym name ∙ e)))
 
 -- neither a clause nor what follows clauses begins with another name
 
-no_clauses_first : (ls : List (List ℕ)) (c : Contract) {q : List ℕ} {k : BToken} {ts us : List BToken} {x : Contract} → From (rule (Clauses ls c)) ts x → ts ≡ k ∷ us →
+no_clauses_first : (ls : List (List ℕ)) (c : Contract) {q : List ℕ} {k : PlacedLexeme} {ts us : List PlacedLexeme} {x : Contract} → From (rule (Clauses ls c)) ts x → ts ≡ k ∷ us →
     k.tok ≡ tok.Name q → bytes_eq q requires_word ≡ false → bytes_eq q ensures_word ≡ false → ⊥
 no_clauses_first ls c {k = k} d is name n m = no_give (pass_by (pass_by d is (λ _ p. other_name k n name p)) is (λ _ p. other_name k m name p)) is
 
-after_clauses : (ls : List (List ℕ)) {s : Kinds telling Kind} (go : Contract → WRule s) {q : List ℕ} {k : BToken} {ts us : List BToken} {x : wider_boogie.Value s} {c : Contract} →
+after_clauses : (ls : List (List ℕ)) {s : Kinds telling Kind} (go : Contract → WRule s) {q : List ℕ} {k : PlacedLexeme} {ts us : List PlacedLexeme} {x : wider_boogie.Value s} {c : Contract} →
     From (read (more (Clauses ls c)) go) ts x → ts ≡ k ∷ us → k.tok ≡ tok.Name q → bytes_eq q requires_word ≡ false → bytes_eq q ensures_word ≡ false →
-    ((y : Contract) (vs : List BToken) → From (go y) vs x → vs ≡ k ∷ us → ⊥) → ⊥
+    ((y : Contract) (vs : List PlacedLexeme) → From (go y) vs x → vs ≡ k ∷ us → ⊥) → ⊥
 after_clauses ls go (plain.called {ts = []} {us = vs} {y = y} d d') is name n m f = f y vs d' is
 after_clauses ls go {q = q} {k = k} {c = c} (plain.called {ts = j ∷ ts} d d') is name n m f =
-    let same : j ≡ k = cc in no_clauses_first ls c d refl (subst (λ (i : BToken). i.tok ≡ tok.Name q) (sym same) name) n m
+    let same : j ≡ k = cc in no_clauses_first ls c d refl (subst (λ (i : PlacedLexeme). i.tok ≡ tok.Name q) (sym same) name) n m
 
-no_rest : (x : List ℕ) (params head : List Local) {k : BToken} {us : List BToken} {d : wide.WProc} → From (rest_of x params head) (k ∷ us) d → k.tok ≡ tok.Name returns_word → ⊥
+no_rest : (x : List ℕ) (params head : List Local) {k : PlacedLexeme} {us : List PlacedLexeme} {d : wide.WProc} → From (rest_of x params head) (k ∷ us) d → k.tok ≡ tok.Name returns_word → ⊥
 no_rest x params head {k = k} h name =
     after_clauses (g.local_names head) _ (pass_by h refl (λ _ p. no_sign k sign.Semicolon name p)) refl name refl refl
     (λ y vs d is. no_need d is (λ _ p. no_sign k sign.OpenBrace name p))
@@ -241,7 +241,7 @@ not_among_words q (y ∷ ys) i h = by_case (bytes_eq q y) (is_among y wide_words
   by_case true false e f g rest = absurd (both_ways (is_among y wide_words) f (subst (λ z. is_among z wide_words ≡ true) ((bytes_eq-Decides q y).0 e) i))
   by_case false false e f g rest = rest g
 
-no_simple : (ls : List (List ℕ)) {q : List ℕ} {k : BToken} {us : List BToken} {x : wide.WStmt} → From (simple ls) (k ∷ us) x → k.tok ≡ tok.Name q → is_reserved q ≡ false → is_among q ls ≡ false → ⊥
+no_simple : (ls : List (List ℕ)) {q : List ℕ} {k : PlacedLexeme} {us : List PlacedLexeme} {x : wide.WStmt} → From (simple ls) (k ∷ us) x → k.tok ≡ tok.Name q → is_reserved q ≡ false → is_among q ls ≡ false → ⊥
 no_simple ls {q = q} {k = k} {us = us} {x = x} d name free fresh =
     let d = pass_by d refl (λ _ p. not_word k w.Assume refl name free p) in
     let d = pass_by d refl (λ _ p. not_word k w.Assert refl name free p) in
@@ -253,7 +253,7 @@ no_simple ls {q = q} {k = k} {us = us} {x = x} d name free fresh =
 
 -- the next token tells how to read on
 
-abbrev Good : (s : Kinds telling Kind) → (wider_boogie.Value s → BToken → Type 0) → WRule s → Type 0
+abbrev Good : (s : Kinds telling Kind) → (wider_boogie.Value s → PlacedLexeme → Type 0) → WRule s → Type 0
 Good s E a = grammar.Good rules wide_table s E a
 
 abbrev After : List ℕ → {s : Kinds telling Kind} → WRule s → Type 0
@@ -304,7 +304,7 @@ either_false : (a b : Bool) → (a || b) ≡ false → a ≡ false
 either_false true b h = cc
 either_false false b h = refl
 
-no_variable_new : (ls : List (List ℕ)) (k : BToken) (i : ℕ) (x : List ℕ) → v.IsVariable ls k.tok i → k.tok ≡ tok.Name x → is_among x (ls ++ wide_words) ≡ false → ⊥
+no_variable_new : (ls : List (List ℕ)) (k : PlacedLexeme) (i : ℕ) (x : List ℕ) → v.IsVariable ls k.tok i → k.tok ≡ tok.Name x → is_among x (ls ++ wide_words) ≡ false → ⊥
 no_variable_new ls k i x p name none =
     let same : p.name ≡ x = name_is (sym p.is ∙ name) in
     let none_here : is_among x ls ≡ false = either_false (is_among x ls) (is_among x wide_words) (sym (list_any-append (bytes_eq x) ls wide_words) ∙ none) in
@@ -384,5 +384,5 @@ wide_good (MoreArguments ls es) = tells_good [] (tr (λ z k h. h) (λ z. refl) (
 every_good : (s : Kinds telling Kind) (a : wider_boogie.Symbol s) → grammar.Good rules wide_table s (wide_table.Ext s a) (rules s a)
 every_good = all_good telling_rules (λ s a. more_rule a) telling_table further telling_good (λ s a. wide_good a)
 
-pub complete : {s : Kinds telling Kind} (a : Symbol s) {ts : List BToken} {x : wider_boogie.Value s} → Derives rules s (rule a) ts x → Reads rules s (rule a) ts x []
+pub complete : {s : Kinds telling Kind} (a : Symbol s) {ts : List PlacedLexeme} {x : wider_boogie.Value s} → Derives rules s (rule a) ts x → Reads rules s (rule a) ts x []
 complete a d = grammar.complete rules wide_table every_good (more a) d

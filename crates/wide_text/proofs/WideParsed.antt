@@ -6,7 +6,7 @@ use Rattle.grammar.specs.Spells.{Derives, given, needed, taken, passed, called}
 use Rattle.grammar.specs.Wider.{Kinds, old, new}
 use Rattle.grammar.proofs.Reading.{one_reading}
 use Rattle.boogie_tree.specs.Text.{prelude}
-use Rattle.boogie_grammar.specs.declared.tokens.BToken.{BToken}
+use Rattle.boogie_grammar.specs.declared.tokens.PlacedLexeme.{PlacedLexeme}
 use Rattle.boogie_grammar.specs.Cut.{IsRow}
 use Rattle.boogie_wide.specs.Wide.{WProgram}
 use Rattle.wide_grammar.specs.Grammar.{Kind, Programs, telling, wider_boogie, rules}
@@ -17,22 +17,22 @@ use Rattle.wide_text.proofs.WideComplete.{complete}
 
 -- tokens that differ in their places alone spell the same
 
-wide_passes_alike : (b : Bool) (r : Kinds telling Kind) (c : wider_boogie.Test b r) (k j : BToken) (x : wider_boogie.Value r) → k.tok ≡ j.tok → wider_boogie.Passes b r c k x → wider_boogie.Passes b r c j x
+wide_passes_alike : (b : Bool) (r : Kinds telling Kind) (c : wider_boogie.Test b r) (k j : PlacedLexeme) (x : wider_boogie.Value r) → k.tok ≡ j.tok → wider_boogie.Passes b r c k x → wider_boogie.Passes b r c j x
 wide_passes_alike b (old (old r)) c k j x e p = passes_alike c k j x e p
 wide_passes_alike b (old (new r)) c k j x e p = absurd c
 wide_passes_alike b (new r) c k j x e p = absurd c
 
-record Starting (b : Bool) (r : Kinds telling Kind) (c : wider_boogie.Test b r) (ts us : List BToken) (x : wider_boogie.Value r) : Type 0 where
-  rest : List BToken
+record Starting (b : Bool) (r : Kinds telling Kind) (c : wider_boogie.Test b r) (ts us : List PlacedLexeme) (x : wider_boogie.Value r) : Type 0 where
+  rest : List PlacedLexeme
   starts : Starts wider_boogie c ts x rest
   alike : Alike us rest
 
-starting : {b : Bool} {r : Kinds telling Kind} {c : wider_boogie.Test b r} {ts us vs : List BToken} {x : wider_boogie.Value r} → Starts wider_boogie c ts x us → Alike ts vs → Starting b r c vs us x
+starting : {b : Bool} {r : Kinds telling Kind} {c : wider_boogie.Test b r} {ts us vs : List PlacedLexeme} {x : wider_boogie.Value r} → Starts wider_boogie c ts x us → Alike ts vs → Starting b r c vs us x
 starting {b = b} {r = r} {c = c} {us = us} {vs = vs} {x = x} h a =
     let f = first_of (subst (λ l. Alike l vs) h.is a) in
     record { rest = f.rest; starts = record { token = f.token; is = f.is; passes = wide_passes_alike b r c h.token f.token x f.same h.passes }; alike = f.alike }
 
-pub derives_alike : {s : Kinds telling Kind} {a : rules_of.Rule wider_boogie s} {ts us : List BToken} {x : wider_boogie.Value s} → Derives rules s a ts x → Alike ts us → Derives rules s a us x
+pub derives_alike : {s : Kinds telling Kind} {a : rules_of.Rule wider_boogie s} {ts us : List PlacedLexeme} {x : wider_boogie.Value s} → Derives rules s a ts x → Alike ts us → Derives rules s a us x
 derives_alike given nil = given
 derives_alike (needed h d) a = let s = starting h a in needed s.starts (derives_alike d s.alike)
 derives_alike (taken h d) a = let s = starting h a in taken s.starts (derives_alike d s.alike)
@@ -46,7 +46,7 @@ derives_alike {x = x} (called {a = b} {go = go} {ts = ts} h d) a =
 program_is : (p q : WProgram) → p.procs ≡ q.procs → p ≡ q
 program_is p q e = λ t. record { procs = e t }
 
-pub one_tree : (ts : List BToken) (p q : WProgram) → Spells ts p → Spells ts q → p ≡ q
+pub one_tree : (ts : List PlacedLexeme) (p q : WProgram) → Spells ts p → Spells ts q → p ≡ q
 one_tree ts p q a b = program_is p q (one_reading rules laws (complete (Programs []) a) (complete (Programs []) b)).0
 
 same_rest : {x : ℕ} {ys zs : List ℕ} → x ∷ ys ≡ x ∷ zs → ys ≡ zs

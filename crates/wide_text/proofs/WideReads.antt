@@ -10,7 +10,7 @@ use Rattle.boogie_wide.specs.View.{wprogram_of}
 use Rattle.boogie_wide.specs.declared.wide.WProgram.{WProgram}
 use Rattle.boogie_grammar.specs.declared.faults.BoogieFault.{BoogieFault}
 use Rattle.boogie_grammar.specs.declared.faults.BoogieFault.TheVariants as fault
-use Rattle.boogie_grammar.specs.declared.tokens.BToken.{BToken}
+use Rattle.boogie_grammar.specs.declared.tokens.PlacedLexeme.{PlacedLexeme}
 use Rattle.boogie_grammar.specs.Cut.{IsCut}
 use Rattle.boogie_grammar.specs.Depth.{IsShallow}
 use Rattle.wide_text.specs.Faults.{IsWideFault, no_token, no_program}
@@ -23,7 +23,7 @@ use Rattle.boogie_text.proofs.AlikeLaws.{row_of}
 use Rattle.wide_text.proofs.WideFaults.{one_fault, not_refused, too_deep_only}
 use Rattle.wide_text.proofs.WideParsed.{one_program}
 
-pub is_read : {rest : List ℕ} {ts : List BToken} {b : p.WProgram} → IsCut prelude rest ts → IsShallow ts → Spells ts b → IsWideRead (prelude ++ rest) b
+pub is_read : {rest : List ℕ} {ts : List PlacedLexeme} {b : p.WProgram} → IsCut prelude rest ts → IsShallow ts → Spells ts b → IsWideRead (prelude ++ rest) b
 is_read {rest = rest} {ts = ts} cut shallow spells = record {
   spelled = record { rest = rest; tokens = ts; text = refl; cut = row_of cut; spells = spells };
   shallow = shallow;
@@ -35,7 +35,7 @@ cut_refused rest (fault.Syntax at) h = no_token refl h
 cut_refused rest (fault.Prelude at) h = absurd h
 cut_refused rest (fault.Deep at) h = absurd h
 
-pub tokens_refused : {rest : List ℕ} {ts : List BToken} {end : Pos} (f : BoogieFault) → IsCut prelude rest ts → IsShallow ts → IsPlaceAfter (prelude ++ rest) end →
+pub tokens_refused : {rest : List ℕ} {ts : List PlacedLexeme} {end : Pos} (f : BoogieFault) → IsCut prelude rest ts → IsShallow ts → IsPlaceAfter (prelude ++ rest) end →
     RefusesTokens ts end f → UnlessMemory (IsWideFault (prelude ++ rest)) f
 tokens_refused fault.Memory cut shallow last h = tt
 tokens_refused {rest = rest} (fault.Syntax at) cut shallow last h =
@@ -51,7 +51,7 @@ cut_error rest f res e h =
     let y = err_from_is_err_and res e in
     subst (λ o. ReadsText (prelude ++ rest) o) (sym y.1) (subst (λ x. UnlessMemory (IsWideFault (prelude ++ rest)) x) (sym y.2) (cut_refused rest f h))
 
-pub reads_rest : {rest : List ℕ} {ts : List BToken} {end : Pos} (res : Result WProgram BoogieFault) → IsCut prelude rest ts → IsShallow ts → IsPlaceAfter (prelude ++ rest) end →
+pub reads_rest : {rest : List ℕ} {ts : List PlacedLexeme} {end : Pos} (res : Result WProgram BoogieFault) → IsCut prelude rest ts → IsShallow ts → IsPlaceAfter (prelude ++ rest) end →
     ReadsProgram ts end res → ReadsText (prelude ++ rest) res
 reads_rest (Ok b) cut shallow last h = is_read cut shallow h
 reads_rest (Err f) cut shallow last h = tokens_refused f cut shallow last h

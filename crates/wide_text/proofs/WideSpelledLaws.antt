@@ -19,7 +19,7 @@ use Rattle.boogie_tree.specs.Program.{Local}
 use Rattle.boogie_tree.specs.Fits.{FitsExpr, FitExprs}
 use Rattle.boogie_tree.specs.Literals.{LiteralsFit, IndexLiteralsFit}
 use Rattle.boogie_grammar.specs.declared.tokens.BSign.TheVariants as sign
-use Rattle.boogie_grammar.specs.declared.tokens.BToken.{BToken}
+use Rattle.boogie_grammar.specs.declared.tokens.PlacedLexeme.{PlacedLexeme}
 use Rattle.boogie_grammar.specs.Words.{is_among}
 use Rattle.boogie_grammar.specs.Tests as v
 use Rattle.boogie_grammar.specs.Tests.{some_free, a_variable}
@@ -162,8 +162,8 @@ Gives (more a) x = NewGives a x
 -- what a rule gives, of proper tokens, has the property
 abbrev Keeps : {s : Kinds telling Kind} → (wider_boogie.Value s → Type 0) → Rule s → Type 0
 Keeps P (give x) = P x
-Keeps P (need {r = r} c go) = (j : BToken) (x : wider_boogie.Value r) → Proper j.tok → wider_boogie.Passes true r c j x → Keeps P (go x)
-Keeps P (when {b = b} {r = r} c go other) = ((j : BToken) (x : wider_boogie.Value r) → Proper j.tok → wider_boogie.Passes b r c j x → Keeps P (go x)) × Keeps P other
+Keeps P (need {r = r} c go) = (j : PlacedLexeme) (x : wider_boogie.Value r) → Proper j.tok → wider_boogie.Passes true r c j x → Keeps P (go x)
+Keeps P (when {b = b} {r = r} c go other) = ((j : PlacedLexeme) (x : wider_boogie.Value r) → Proper j.tok → wider_boogie.Passes b r c j x → Keeps P (go x)) × Keeps P other
 Keeps P (read {r = r} a go) = Held a × ((y : wider_boogie.Value r) → Gives a y → Keeps P (go y))
 
 -- ---- the rules of the other programs
@@ -363,7 +363,7 @@ all_keep (was (was a)) held = told_keeps (plain.Gives a) (g.rule a) (plain.all_k
 all_keep (was (more (noting a))) held = noted_keeps (plain.Gives a) [] (g.rule a) (plain.all_keep a held)
 all_keep (more a) held = new_keep a held
 
-keeps : {s : Kinds telling Kind} (P : wider_boogie.Value s → Type 0) {a : Rule s} {ts : List BToken} {x : wider_boogie.Value s} → Derives rules s a ts x → Keeps P a → AllProper ts → P x
+keeps : {s : Kinds telling Kind} (P : wider_boogie.Value s → Type 0) {a : Rule s} {ts : List PlacedLexeme} {x : wider_boogie.Value s} → Derives rules s a ts x → Keeps P a → AllProper ts → P x
 keeps P given h proper = h
 keeps P (needed {v = y} q d) h proper = let all = subst AllProper q.is proper in keeps P d (h q.token y all.0 q.passes) all.1
 keeps P (taken {v = y} q d) h proper = let all = subst AllProper q.is proper in keeps P d (h.0 q.token y all.0 q.passes) all.1

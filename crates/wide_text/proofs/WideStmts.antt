@@ -12,7 +12,7 @@ use Rattle.boogie_tree.specs.Whole.{expr_of}
 use Rattle.boogie_tree.specs.declared.exprs.BExpr.{BExpr}
 use Rattle.boogie_tree.proofs.WholeLaws.{exprs_of-map}
 use Rattle.boogie_grammar.specs.declared.tokens.BSign.TheVariants as sign
-use Rattle.boogie_grammar.specs.declared.tokens.BToken.{BToken}
+use Rattle.boogie_grammar.specs.declared.tokens.PlacedLexeme.{PlacedLexeme}
 use Rattle.boogie_grammar.specs.declared.tokens.Word.TheVariants as word
 use Rattle.boogie_grammar.specs.Tests as v
 use Rattle.boogie_grammar.specs.Tests.{some_free, the_sign, the_word, a_variable, number_of}
@@ -39,7 +39,7 @@ scope_is ls e f = λ i. record { locals = ls; others = e i; bound = f i }
 
 -- what was built
 
-pub read_as : {k : WKind} {a : Rule k} {ts us : List BToken} {x y : WValue k} → x ≡ y → Reads k a ts y us → Reads k a ts x us
+pub read_as : {k : WKind} {a : Rule k} {ts us : List PlacedLexeme} {x y : WValue k} → x ≡ y → Reads k a ts y us → Reads k a ts x us
 read_as {k = k} {a = a} {ts = ts} {us = us} e h = subst (λ z. Reads k a ts z us) (sym e) h
 
 pub wstmt_of-Put : (i : ℕ) (es : Vec BExpr Global) (e : BExpr) → wstmt_of (stmt.Put i es e) ≡ w.Put i (t.exprs (map expr_of es.items)) (expr_of e)
@@ -54,60 +54,60 @@ wstmts_of-map (x ∷ xs) = ap (w.first (wstmt_of x)) (wstmts_of-map xs)
 
 -- a statement, where no variable has one of the words as its name
 
-pub at_worded : (ls : List (List ℕ)) (ts : List BToken) → has_no_word ls ≡ true → Goes (rule (Statement ls)) ts (worded ls) ts
+pub at_worded : (ls : List (List ℕ)) (ts : List PlacedLexeme) → has_no_word ls ≡ true → Goes (rule (Statement ls)) ts (worded ls) ts
 at_worded ls ts h = (where_holds (has_no_word ls) (λ _. worded ls) (simple ls) h (start (rule (Statement ls)) ts)).1
 
 -- no `havoc`
 
-storing_at : {ts : List BToken} (b : Bool) (some stores : b ≡ true → Rule (new wide.stmt)) (other : Rule (new wide.stmt)) →
+storing_at : {ts : List PlacedLexeme} (b : Bool) (some stores : b ≡ true → Rule (new wide.stmt)) (other : Rule (new wide.stmt)) →
     ((h : b ≡ true) → Goes (some h) ts (stores h) ts) → Goes (where_true b some other) ts (where_true b stores other) ts
 storing_at true some stores other h = h refl
 storing_at {ts = ts} false some stores other h = start other ts
 
-pub no_havoc : (ls : List (List ℕ)) {ts : List BToken} → narrow.IsNot (the_word word.Havoc) ts → Goes (changing ls) ts (storing ls) ts
+pub no_havoc : (ls : List (List ℕ)) {ts : List PlacedLexeme} → narrow.IsNot (the_word word.Havoc) ts → Goes (changing ls) ts (storing ls) ts
 no_havoc ls {ts = ts} n =
     storing_at (some_free ls) (λ some. changes ls some) (λ some. when {b = true} {r = old (old v.variable)} (a_variable ls some) (λ i. assignment ls i) (conditional ls)) (conditional ls)
     (λ some. by_other n (start (changes ls some) ts))
 
 -- `havoc` and a variable
 
-changed_at : {ts us : List BToken} {r : Rule (new wide.stmt)} (b : Bool) (some : b ≡ true → Rule (new wide.stmt)) (other : Rule (new wide.stmt)) → b ≡ true →
+changed_at : {ts us : List PlacedLexeme} {r : Rule (new wide.stmt)} (b : Bool) (some : b ≡ true → Rule (new wide.stmt)) (other : Rule (new wide.stmt)) → b ≡ true →
     ((h : b ≡ true) → Goes (some h) ts r us) → Goes (where_true b some other) ts r us
 changed_at true some other e h = h refl
 changed_at false some other e h = absurd (cc)
 
-pub havoc_goes : (ls : List (List ℕ)) {ts us vs : List BToken} {i : ℕ} → narrow.Starts (the_word word.Havoc) ts tt us → ReadsVariable ls us i vs →
+pub havoc_goes : (ls : List (List ℕ)) {ts us vs : List PlacedLexeme} {i : ℕ} → narrow.Starts (the_word word.Havoc) ts tt us → ReadsVariable ls us i vs →
     Goes (changing ls) ts (after_sign sign.Semicolon (give (w.Havoc i))) vs
 havoc_goes ls {ts = ts} p h =
     changed_at (some_free ls) (λ some. changes ls some) (conditional ls) h.0 (λ some. by_need (h.1 some) (by_token p (start (changes ls some) ts)))
 
 -- `havoc` and no variable
 
-fails_at : {ts z : List BToken} (b : Bool) (some : b ≡ true → Rule (new wide.stmt)) (other : Rule (new wide.stmt)) → b ≡ true → ((h : b ≡ true) → Fails (some h) ts z) →
+fails_at : {ts z : List PlacedLexeme} (b : Bool) (some : b ≡ true → Rule (new wide.stmt)) (other : Rule (new wide.stmt)) → b ≡ true → ((h : b ≡ true) → Fails (some h) ts z) →
     Fails (where_true b some other) ts z
 fails_at true some other e h = h refl
 fails_at false some other e h = absurd (cc)
 
-fails_else : {ts z : List BToken} (b : Bool) (some : b ≡ true → Rule (new wide.stmt)) (other : Rule (new wide.stmt)) → b ≡ false → Fails other ts z → Fails (where_true b some other) ts z
+fails_else : {ts z : List PlacedLexeme} (b : Bool) (some : b ≡ true → Rule (new wide.stmt)) (other : Rule (new wide.stmt)) → b ≡ false → Fails other ts z → Fails (where_true b some other) ts z
 fails_else true some other e h = absurd (cc)
 fails_else false some other e h = h
 
-pub havoc_fails : (ls : List (List ℕ)) {ts us : List BToken} → narrow.Starts (the_word word.Havoc) ts tt us → NoVariable ls us → some_free ls ≡ true → Fails (changing ls) ts us
+pub havoc_fails : (ls : List (List ℕ)) {ts us : List PlacedLexeme} → narrow.Starts (the_word word.Havoc) ts tt us → NoVariable ls us → some_free ls ≡ true → Fails (changing ls) ts us
 havoc_fails ls p n e =
     fails_at (some_free ls) (λ some. changes ls some) (conditional ls) e (λ some. fails_taken p (fails_here (n some)))
 
-pub havoc_stands_nowhere : (ls : List (List ℕ)) {ts us : List BToken} → narrow.Starts (the_word word.Havoc) ts tt us → some_free ls ≡ false → Fails (changing ls) ts ts
+pub havoc_stands_nowhere : (ls : List (List ℕ)) {ts us : List PlacedLexeme} → narrow.Starts (the_word word.Havoc) ts tt us → some_free ls ≡ false → Fails (changing ls) ts ts
 havoc_stands_nowhere ls p e =
     fails_else (some_free ls) (λ some. changes ls some) (conditional ls) e (fails_here (havoc_is_no_if p))
 
 -- the targets of a call
 
-pub next_target : (ls : List (List ℕ)) (is : List ℕ) {a : Rule (new wide.numbers)} {ts us vs : List BToken} → some_free ls ≡ true → narrow.Starts (the_sign sign.Comma) us tt vs →
+pub next_target : (ls : List (List ℕ)) (is : List ℕ) {a : Rule (new wide.numbers)} {ts us vs : List PlacedLexeme} → some_free ls ≡ true → narrow.Starts (the_sign sign.Comma) us tt vs →
     Goes a ts (rule (Targets ls is)) us →
     (some : some_free ls ≡ true) × Goes a ts (need {r = old (old v.variable)} (a_variable ls some) (λ i. read (more (Targets ls (is ++ (i ∷ [])))) give)) vs
 next_target ls is h p g = let m = where_holds (some_free ls) (λ some. wide.more_targets ls is some) (after_sign sign.Assign (give is)) h g in (m.0, by_token p m.1)
 
-pub last_target : (ls : List (List ℕ)) (is : List ℕ) {a : Rule (new wide.numbers)} {ts us : List BToken} → some_free ls ≡ true → narrow.IsNot (the_sign sign.Comma) us →
+pub last_target : (ls : List (List ℕ)) (is : List ℕ) {a : Rule (new wide.numbers)} {ts us : List PlacedLexeme} → some_free ls ≡ true → narrow.IsNot (the_sign sign.Comma) us →
     Goes a ts (rule (Targets ls is)) us → Goes a ts (after_sign sign.Assign (give is)) us
 last_target ls is h n g = by_other n (where_holds (some_free ls) (λ some. wide.more_targets ls is some) (after_sign sign.Assign (give is)) h g).1
 
@@ -122,7 +122,7 @@ pub within : (x : List ℕ) (names : List (List ℕ)) (i : ℕ) → number_of x 
 within x [] i h = absurd (cc)
 within x (y ∷ ys) i h = within_at (bytes_eq x y) (number_of x ys) i (length ys) h (λ j e. within x ys j e)
 
-pub variable_within : {names : List (List ℕ)} {ts us : List BToken} {i : ℕ} → ReadsVariable names ts i us → i < length names
+pub variable_within : {names : List (List ℕ)} {ts us : List PlacedLexeme} {i : ℕ} → ReadsVariable names ts i us → i < length names
 variable_within {names = names} {i = i} h = let p = (h.1 h.0).passes in within p.name names i p.there
 
 pub name_got : (names : List (List ℕ)) (i : ℕ) (d : List ℕ) → i < length names → get_or names i d ≡ name_at names i

@@ -6,7 +6,7 @@ use Rattle.vb_base.specs.Place.{IsPlaceAfter, line_after, col_after}
 use Rattle.vb_base.proofs.PlaceLaws.{line_after-le, col_after-le}
 use Rattle.boogie_tree.specs.Text.{prelude}
 use Rattle.boogie_grammar.specs.declared.faults.BoogieFault.{BoogieFault}
-use Rattle.boogie_grammar.specs.declared.tokens.BToken.{BToken}
+use Rattle.boogie_grammar.specs.declared.tokens.PlacedLexeme.{PlacedLexeme}
 use Rattle.boogie_grammar.specs.Cut.{IsCut, IsRow, end, piece, none, more, onto}
 use Rattle.boogie_grammar.specs.Depth.{IsShallow}
 use Rattle.boogie_grammar.specs.Faults as f
@@ -35,7 +35,7 @@ place_after before most = (
   record { line = refl; col = refl },
 )
 
-placed : (before : List ℕ) {bytes : List ℕ} {ts : List BToken} → IsRow bytes ts → length before + length bytes < 2 ^ 32 - 1 → (us : List BToken) × IsCut before bytes us
+placed : (before : List ℕ) {bytes : List ℕ} {ts : List PlacedLexeme} → IsRow bytes ts → length before + length bytes < 2 ^ 32 - 1 → (us : List PlacedLexeme) × IsCut before bytes us
 placed before none most = ([], end)
 placed before (more {bytes = bytes} {b = b} {n = n} {o = o} at p h) most =
     let (place, after) = place_after before (omega (arith, most)) in
@@ -47,12 +47,12 @@ placed before (more {bytes = bytes} {b = b} {n = n} {o = o} at p h) most =
 -- Bytes have tokens whose brackets are not too deep, or are refused, whether a program has loops and calls or not.
 
 module _ {bytes : List ℕ} (most : length bytes < 2 ^ 32 - 1) where
-  of_tokens : {rest : List ℕ} {ts : List BToken} → bytes ≡ prelude ++ rest → IsCut prelude rest ts → IsShallow ts → SpellsWideProgram ts ⊎ GoesWrong ts → Answer bytes
+  of_tokens : {rest : List ℕ} {ts : List PlacedLexeme} → bytes ≡ prelude ++ rest → IsCut prelude rest ts → IsShallow ts → SpellsWideProgram ts ⊎ GoesWrong ts → Answer bytes
   of_tokens {rest} {ts} text cut shallow (inl (program, h)) =
       inl (program, record { spelled = record { rest = rest; tokens = ts; text = text; cut = row_of cut; spells = h }; shallow = shallow })
   of_tokens text cut shallow (inr h) = let (last, place) = place_after bytes most in inr (_, no_program text cut shallow h.none h.place place)
 
-  of_row : {rest : List ℕ} {ts : List BToken} → bytes ≡ prelude ++ rest → IsRow rest ts → IsShallow ts → Answer bytes
+  of_row : {rest : List ℕ} {ts : List PlacedLexeme} → bytes ≡ prelude ++ rest → IsRow rest ts → IsShallow ts → Answer bytes
   of_row {rest} text row shallow =
       let whole = ap length text ∙ length-append prelude rest in
       let (us, cut) = placed prelude row (omega (arith, most, whole)) in

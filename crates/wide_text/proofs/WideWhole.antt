@@ -12,7 +12,7 @@ use Rattle.grammar.specs.declared.stop.Stop.TheVariants as stop
 use Rattle.grammar.proofs.Whole as grammar
 use Rattle.grammar.proofs.Whole.{split, count}
 use Rattle.grammar.specs.Wider.{new}
-use Rattle.boogie_grammar.specs.declared.tokens.BToken.{BToken}
+use Rattle.boogie_grammar.specs.declared.tokens.PlacedLexeme.{PlacedLexeme}
 use Rattle.boogie_grammar.specs.Faults.{place_at, fault_of}
 use Rattle.boogie_wide.specs.Wide.{WProc}
 use Rattle.boogie_wide.specs.declared.wide.WProc as d
@@ -25,7 +25,7 @@ use Rattle.wide_text.specs.Whole.{FailsWhole, RefusesWhole, ReadsWhole, RefusesT
 use Rattle.wide_text.proofs.Steps.{start}
 use Rattle.wide_text.proofs.WideComplete.{complete}
 
-pub whole_error : (ts : List BToken) (w : Stop BToken) (res : Result (Vec d.WProc Global) (Stop BToken)) → IsErrAnd res (λ x. x ≡ w) → Refuses (rule (Programs [])) ts w → ReadsWhole ts res
+pub whole_error : (ts : List PlacedLexeme) (w : Stop PlacedLexeme) (res : Result (Vec d.WProc Global) (Stop PlacedLexeme)) → IsErrAnd res (λ x. x ≡ w) → Refuses (rule (Programs [])) ts w → ReadsWhole ts res
 whole_error ts w res e h =
     let y = err_from_is_err_and res e in
     let refuses : RefusesWhole ts w = grammar.whole_refuses w (start (rule (Programs [])) ts) h in
@@ -33,42 +33,42 @@ whole_error ts w res e h =
 
 -- the procedures end, and a token is left
 
-some_token : (us : List BToken) → false ≡ (length us == 0) → (k : BToken) × (vs : List BToken) × (us ≡ k ∷ vs)
+some_token : (us : List PlacedLexeme) → false ≡ (length us == 0) → (k : PlacedLexeme) × (vs : List PlacedLexeme) × (us ≡ k ∷ vs)
 some_token [] e = absurd (cc)
 some_token (k ∷ vs) e = (k, vs, refl)
 
-no_token : (us : List BToken) → true ≡ (length us == 0) → us ≡ []
+no_token : (us : List PlacedLexeme) → true ≡ (length us == 0) → us ≡ []
 no_token [] e = refl
 no_token (k ∷ vs) e = let h : length (k ∷ vs) ≡ 0 = eqb-true (length (k ∷ vs)) 0 (sym e) in absurd (omega arith)
 
-pub left_over : {ts us : List BToken} {ps : List WProc} → Reads (new g.procs) (rule (Programs [])) ts ps us → false ≡ (length us == 0) → FailsWhole ts us
+pub left_over : {ts us : List PlacedLexeme} {ps : List WProc} → Reads (new g.procs) (rule (Programs [])) ts ps us → false ≡ (length us == 0) → FailsWhole ts us
 left_over {us = us} h some = let t = some_token us some in grammar.left_over rules laws h t.0 t.1 t.2
 
-pub whole_read : {ts us : List BToken} {ps : List WProc} → Reads (new g.procs) (rule (Programs [])) ts ps us → true ≡ (length us == 0) → Reads (new g.procs) (rule (Programs [])) ts ps []
+pub whole_read : {ts us : List PlacedLexeme} {ps : List WProc} → Reads (new g.procs) (rule (Programs [])) ts ps us → true ≡ (length us == 0) → Reads (new g.procs) (rule (Programs [])) ts ps []
 whole_read {ts = ts} {us = us} {ps = ps} h none = subst (λ l. Reads (new g.procs) (rule (Programs [])) ts ps l) (no_token us none) h
 
 -- what is read is spelled, and where reading stops the tokens go wrong
 
-pub spelled : {ts : List BToken} {ps : List WProc} → Reads (new g.procs) (rule (Programs [])) ts ps [] → Spells ts (record { procs = ps })
+pub spelled : {ts : List PlacedLexeme} {ps : List WProc} → Reads (new g.procs) (rule (Programs [])) ts ps [] → Spells ts (record { procs = ps })
 spelled h = grammar.spelled rules laws h
 
-read_as : (ts : List BToken) → SpellsWideProgram ts → (ps : List WProc) × Reads (new g.procs) (rule (Programs [])) ts ps []
+read_as : (ts : List PlacedLexeme) → SpellsWideProgram ts → (ps : List WProc) × Reads (new g.procs) (rule (Programs [])) ts ps []
 read_as ts h = (h.0.procs, complete (Programs []) h.1)
 
-none_spelled : (ts r : List BToken) → FailsWhole ts r → SpellsWideProgram ts → ⊥
+none_spelled : (ts r : List PlacedLexeme) → FailsWhole ts r → SpellsWideProgram ts → ⊥
 none_spelled ts r f h = grammar.none_spelled rules (rule (Programs [])) SpellsWideProgram read_as (λ us ps d. (record { procs = ps }, d)) ts r f h
 
-place_of : (ts r : List BToken) → FailsWhole ts r → IsPlace SpellsWideProgram ts (length ts - length r)
+place_of : (ts r : List PlacedLexeme) → FailsWhole ts r → IsPlace SpellsWideProgram ts (length ts - length r)
 place_of ts r f = grammar.place_of rules (rule (Programs [])) SpellsWideProgram read_as (λ us ps d. (record { procs = ps }, d)) ts r f
 
-next_place : (f r : List BToken) (last : Pos) → place_at (f ++ r) (length f) last ≡ place_at r zero last
+next_place : (f r : List PlacedLexeme) (last : Pos) → place_at (f ++ r) (length f) last ≡ place_at r zero last
 next_place [] r last = refl
 next_place (k ∷ f) r last = next_place f r last
 
-pub refuses_there : (ts : List BToken) (last : Pos) (w : Stop BToken) → RefusesWhole ts w → RefusesTokens ts last (fault_of w last)
+pub refuses_there : (ts : List PlacedLexeme) (last : Pos) (w : Stop PlacedLexeme) → RefusesWhole ts w → RefusesTokens ts last (fault_of w last)
 refuses_there ts last stop.Memory h = tt
 refuses_there ts last (stop.Before r) h =
     let q = split h.opens.front in
-    let At : List BToken → Type 0 = λ l. place_at l (length l - length r.now) last ≡ place_at r.now zero last in
+    let At : List PlacedLexeme → Type 0 = λ l. place_at l (length l - length r.now) last ≡ place_at r.now zero last in
     let there : At (q.front ++ r.now) = ap (λ n. place_at (q.front ++ r.now) n last) (count q.front r.now) ∙ next_place q.front r.now last in
     (none_spelled ts r.now h, (length ts - length r.now, place_of ts r.now h, sym (subst At (sym q.left) there)))

@@ -8,7 +8,7 @@ use Rattle.boogie_tree.specs.Program as p
 use Rattle.boogie_tree.specs.Whole.{locals_of}
 use Rattle.boogie_grammar.specs.Grammar.{local_names}
 use Rattle.boogie_grammar.specs.declared.tokens.BSign.TheVariants as sign
-use Rattle.boogie_grammar.specs.declared.tokens.BToken.{BToken}
+use Rattle.boogie_grammar.specs.declared.tokens.PlacedLexeme.{PlacedLexeme}
 use Rattle.wide_grammar.specs.Grammar as g
 use Rattle.wide_grammar.specs.Grammar.{Rule, after_sign, at_name, rest_of}
 use Rattle.wide_grammar.specs.Words.{has_no_word, returns_word}
@@ -27,6 +27,6 @@ heading x = after_sign sign.OpenParen (read (more g.Parameters) (λ params.
     (rest_of x params params)))
 
 -- the parameters and returns of a procedure, of which so many are parameters
-abbrev pub ReadsHead : List BToken → Result (Head × Bor (List BToken)) (Stop BToken) → Type 0
+abbrev pub ReadsHead : List PlacedLexeme → Result (Head × Bor (List PlacedLexeme)) (Stop PlacedLexeme) → Type 0
 ReadsHead ts (Ok r) = (params : List p.Local) × (length params ≡ r.0.params) × (length (locals_of r.0.locals.items) - length params ≡ r.0.returns) × ((x : List ℕ) → Goes (heading x) ts (rest_of x params (locals_of r.0.locals.items)) r.1.now)
 ReadsHead ts (Err e) = (x : List ℕ) → Refuses (heading x) ts e

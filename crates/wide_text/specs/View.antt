@@ -10,7 +10,7 @@ use Rattle.grammar.specs.Wider.{old, new, more}
 use Rattle.boogie_tree.specs.Expr as t
 use Rattle.boogie_tree.specs.declared.exprs.BExpr.{BExpr}
 use Rattle.boogie_grammar.specs.declared.tokens.BSign.TheVariants as sign
-use Rattle.boogie_grammar.specs.declared.tokens.BToken.{BToken}
+use Rattle.boogie_grammar.specs.declared.tokens.PlacedLexeme.{PlacedLexeme}
 use Rattle.boogie_grammar.specs.Tests as v
 use Rattle.boogie_grammar.specs.Tests.{some_free, a_variable}
 use Rattle.boogie_grammar.specs.Greedy as narrow
@@ -41,11 +41,11 @@ numbers_of v = v.items
 
 -- what a function answers that reads the front of a rule, whatever follows it
 
-abbrev pub ReadsMark : List BToken → Result (Label × Bor (List BToken)) (Stop BToken) → Type 0
+abbrev pub ReadsMark : List PlacedLexeme → Result (Label × Bor (List PlacedLexeme)) (Stop PlacedLexeme) → Type 0
 ReadsMark ts (Ok r) = (s : WKind) (go : Label → Rule s) → Goes (marked go) ts (go r.0) r.1.now
 ReadsMark ts (Err e) = (s : WKind) (go : Label → Rule s) → Refuses (marked go) ts e
 
-abbrev pub ReadsClause : List (List ℕ) → List BToken → Result (Clause × Bor (List BToken)) (Stop BToken) → Type 0
+abbrev pub ReadsClause : List (List ℕ) → List PlacedLexeme → Result (Clause × Bor (List PlacedLexeme)) (Stop PlacedLexeme) → Type 0
 ReadsClause ls ts (Ok r) = (s : WKind) (go : w.Clause → Rule s) → Goes (a_clause ls go) ts (go (clause_of r.0)) r.1.now
 ReadsClause ls ts (Err e) = (s : WKind) (go : w.Clause → Rule s) → Refuses (a_clause ls go) ts e
 
@@ -66,13 +66,13 @@ abbrev pub storing : List (List ℕ) → Rule (new g.stmt)
 storing ls = where_true (some_free ls) (λ some. when {b = true} {r = old (old v.variable)} (a_variable ls some) (λ i. assignment ls i) (conditional ls)) (conditional ls)
 
 -- a `havoc` with its variable, or none
-abbrev pub EatsHavoc : List (List ℕ) → List BToken → Result (Option (ℕ × Bor (List BToken))) (Stop BToken) → Type 0
+abbrev pub EatsHavoc : List (List ℕ) → List PlacedLexeme → Result (Option (ℕ × Bor (List PlacedLexeme))) (Stop PlacedLexeme) → Type 0
 EatsHavoc ls ts (Ok None) = Goes (changing ls) ts (storing ls) ts
 EatsHavoc ls ts (Ok (Some r)) = Goes (changing ls) ts (after_sign sign.Semicolon (give (w.Havoc r.0))) r.1.now
 EatsHavoc ls ts (Err e) = Refuses (changing ls) ts e
 
 -- a variable, which must be next
-abbrev pub TakesVariable : List (List ℕ) → List BToken → Result (ℕ × Bor (List BToken)) (Stop BToken) → Type 0
+abbrev pub TakesVariable : List (List ℕ) → List PlacedLexeme → Result (ℕ × Bor (List PlacedLexeme)) (Stop PlacedLexeme) → Type 0
 TakesVariable ls ts result = (some : some_free ls ≡ true) → narrow.Takes (a_variable ls some) ts result
 
 -- bexpr ")" block [ "else" block ], after "if" "("

@@ -8,7 +8,7 @@ use Rattle.grammar.specs.Whole as grammar
 use Rattle.grammar.specs.declared.stop.Stop.{Stop}
 use Rattle.boogie_grammar.specs.declared.faults.BoogieFault.{BoogieFault}
 use Rattle.boogie_grammar.specs.declared.faults.BoogieFault.TheVariants as fault
-use Rattle.boogie_grammar.specs.declared.tokens.BToken.{BToken}
+use Rattle.boogie_grammar.specs.declared.tokens.PlacedLexeme.{PlacedLexeme}
 use Rattle.boogie_grammar.specs.Faults.{place_at}
 use Rattle.boogie_wide.specs.View.{wprogram_of}
 use Rattle.boogie_wide.specs.declared.wide.WProc.{WProc}
@@ -19,23 +19,23 @@ use Rattle.wide_text.specs.Greedy.{Reads}
 use Rattle.wide_text.specs.View.{all_wprocs_of}
 
 -- just in front of r a program goes wrong
-abbrev pub FailsWhole : List BToken → List BToken → Type 0
+abbrev pub FailsWhole : List PlacedLexeme → List PlacedLexeme → Type 0
 FailsWhole ts r = grammar.FailsWhole rules (rule (Programs [])) ts r
 
-abbrev pub RefusesWhole : List BToken → Stop BToken → Type 0
+abbrev pub RefusesWhole : List PlacedLexeme → Stop PlacedLexeme → Type 0
 RefusesWhole ts e = grammar.RefusesWhole rules (rule (Programs [])) ts e
 
-abbrev pub ReadsWhole : List BToken → Result (Vec WProc Global) (Stop BToken) → Type 0
+abbrev pub ReadsWhole : List PlacedLexeme → Result (Vec WProc Global) (Stop PlacedLexeme) → Type 0
 ReadsWhole ts (Ok ps) = Reads _ (rule (Programs [])) ts (all_wprocs_of ps) []
 ReadsWhole ts (Err e) = RefusesWhole ts e
 
 -- memory was refused, or the tokens spell no program, and go wrong at this place
-abbrev pub RefusesTokens : List BToken → Pos → BoogieFault → Type 0
+abbrev pub RefusesTokens : List PlacedLexeme → Pos → BoogieFault → Type 0
 RefusesTokens ts end fault.Memory = Unit {0}
 RefusesTokens ts end (fault.Syntax at) = (SpellsWideProgram ts → ⊥) × ((i : ℕ) × IsPlace SpellsWideProgram ts i × (at ≡ place_at ts i end))
 RefusesTokens ts end (fault.Prelude at) = ⊥
 RefusesTokens ts end (fault.Deep at) = ⊥
 
-abbrev pub ReadsProgram : List BToken → Pos → Result WProgram BoogieFault → Type 0
+abbrev pub ReadsProgram : List PlacedLexeme → Pos → Result WProgram BoogieFault → Type 0
 ReadsProgram ts end (Ok p) = Spells ts (wprogram_of p)
 ReadsProgram ts end (Err e) = RefusesTokens ts end e

@@ -12,17 +12,17 @@ use crate::reserved::Reserved;
 use crate::words::{WideWord, eat_wide};
 use boogie_grammar::eating::{Read, eat_sign, sign};
 use boogie_grammar::scopes::Names;
-use boogie_grammar::{BSign, BTok, BToken};
+use boogie_grammar::{BSign, Lexeme, PlacedLexeme};
 use boogie_wide::Clause;
 use std::alloc::Global;
 use vb_base::{Ident, Memory, pushed};
 
 /// The name that a token is, where it stands before a `:`.
-fn named<'a>(token: &'a BToken, rest: &[BToken]) -> Option<&'a Ident>
+fn named<'a>(token: &'a PlacedLexeme, rest: &[PlacedLexeme]) -> Option<&'a Ident>
     ensures { MatchOption result (BindsNone token.now rest.now) (λ name. Binds token.now rest.now name.now) }
 {
     match &token.tok {
-        BTok::Name(name) => {
+        Lexeme::Name(name) => {
             let _ = eat_sign(BSign::Colon, rest)?;
             Some(name)
         }
@@ -31,7 +31,11 @@ fn named<'a>(token: &'a BToken, rest: &[BToken]) -> Option<&'a Ident>
 }
 
 /// One name more, if a token is one that stands before a `:`.
-fn push_named(bound: &mut Vec<Ident>, token: &BToken, rest: &[BToken]) -> Result<(), Memory>
+fn push_named(
+    bound: &mut Vec<Ident>,
+    token: &PlacedLexeme,
+    rest: &[PlacedLexeme],
+) -> Result<(), Memory>
     ensures { OnOk result (bound.new.items ≡ bound.old.items ++ binds token.now.tok rest.now) }
 {
     if let Some(name) = named(token, rest) {
@@ -41,7 +45,7 @@ fn push_named(bound: &mut Vec<Ident>, token: &BToken, rest: &[BToken]) -> Result
 }
 
 /// The names before a `:`, behind these.
-fn push_bound(bound: &mut Vec<Ident>, tokens: &[BToken]) -> Result<(), Memory>
+fn push_bound(bound: &mut Vec<Ident>, tokens: &[PlacedLexeme]) -> Result<(), Memory>
     ensures { OnOk result (bound.new.items ≡ bound.old.items ++ bound_in tokens.now) }
 {
     let mut left = tokens;
@@ -58,7 +62,7 @@ fn bound_clause<'a>(
     locals: &Names,
     words: &Reserved,
     bound: &mut Vec<Ident>,
-    tokens: &'a [BToken],
+    tokens: &'a [PlacedLexeme],
 ) -> Read<'a, Clause>
     ensures shorter { IfOk result (λ r. length r.1.now < length tokens.now) }
     ensures reads { ReadsBound locals.now bound.old.items bound.new.items tokens.now result }
@@ -85,7 +89,7 @@ enum ClauseKind {
 }
 
 /// The word with which a clause begins, if it is next.
-fn eat_kind(tokens: &[BToken]) -> Option<(ClauseKind, &[BToken])>
+fn eat_kind(tokens: &[PlacedLexeme]) -> Option<(ClauseKind, &[PlacedLexeme])>
     ensures shorter { IfSome result (λ r. length r.1.now < length tokens.now) }
     ensures eats { MatchOption result (NoKind tokens.now) (λ r. ReadsKind tokens.now r.0 r.1.now) }
 {
@@ -122,7 +126,7 @@ pub(crate) fn read_clauses<'a>(
     locals: &Names,
     words: &Reserved,
     bound: &mut Vec<Ident>,
-    tokens: &'a [BToken],
+    tokens: &'a [PlacedLexeme],
 ) -> Read<'a, Clauses>
     requires { bound.now.items ≡ [] }
     ensures shorter { IfOk result (λ r. length r.1.now ≤ length tokens.now) }

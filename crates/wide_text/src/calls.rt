@@ -13,7 +13,7 @@ use crate::simple::variable;
 use boogie_grammar::eating::{Read, eat_sign, sign};
 use boogie_grammar::leaves::eat_variable;
 use boogie_grammar::scopes::Names;
-use boogie_grammar::{BSign, BToken};
+use boogie_grammar::{BSign, PlacedLexeme};
 use boogie_tree::BExpr;
 use boogie_wide::WStmt;
 use std::alloc::Global;
@@ -24,7 +24,7 @@ fn more_arguments<'a>(
     alloc: Global,
     locals: &Names,
     words: &Reserved,
-    tokens: &'a [BToken],
+    tokens: &'a [PlacedLexeme],
 ) -> Read<'a, Vec<BExpr>>
     ensures shorter { IfOk result (λ r. length r.1.now < length tokens.now) }
     ensures reads { Parses all_exprs_of (g.rule (g.MoreArguments locals.now [])) tokens.now result }
@@ -47,7 +47,7 @@ fn arguments<'a>(
     alloc: Global,
     locals: &Names,
     words: &Reserved,
-    tokens: &'a [BToken],
+    tokens: &'a [PlacedLexeme],
 ) -> Read<'a, Vec<BExpr>>
     ensures shorter { IfOk result (λ r. length r.1.now < length tokens.now) }
     ensures reads { Parses all_exprs_of (g.rule (g.Arguments locals.now)) tokens.now result }
@@ -64,7 +64,7 @@ fn given<'a>(
     alloc: Global,
     locals: &Names,
     words: &Reserved,
-    tokens: &'a [BToken],
+    tokens: &'a [PlacedLexeme],
 ) -> Read<'a, Vec<BExpr>>
     ensures shorter { IfOk result (λ r. length r.1.now < length tokens.now) }
     ensures reads { (targets name : List ℕ) → Parses (call_of targets name) (giving locals.now targets name) tokens.now result }
@@ -79,7 +79,7 @@ fn targets<'a>(
     alloc: Global,
     locals: &Names,
     first: usize,
-    tokens: &'a [BToken],
+    tokens: &'a [PlacedLexeme],
 ) -> Read<'a, Vec<usize>>
     requires { some_free locals.now ≡ true }
     ensures shorter { IfOk result (λ r. length r.1.now < length tokens.now) }
@@ -102,7 +102,7 @@ fn targeted<'a>(
     locals: &Names,
     words: &Reserved,
     i: usize,
-    tokens: &'a [BToken],
+    tokens: &'a [PlacedLexeme],
 ) -> Read<'a, WStmt>
     requires free { some_free locals.now ≡ true }
     requires there { i < length locals.now }
@@ -128,7 +128,7 @@ pub(crate) fn call<'a>(
     alloc: Global,
     locals: &Names,
     words: &Reserved,
-    tokens: &'a [BToken],
+    tokens: &'a [PlacedLexeme],
 ) -> Read<'a, WStmt>
     ensures shorter { IfOk result (λ r. length r.1.now < length tokens.now) }
     ensures reads { Parses wstmt_of (g.call locals.now) tokens.now result }

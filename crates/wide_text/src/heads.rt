@@ -11,7 +11,7 @@ use crate::reserved::{Reserved, new_name, newer_name};
 use crate::words::{WideWord, eat_wide};
 use boogie_grammar::eating::{Read, base, eat_sign, eat_word, sign};
 use boogie_grammar::scopes::Names;
-use boogie_grammar::{BSign, BToken, Word};
+use boogie_grammar::{BSign, PlacedLexeme, Word};
 use boogie_text::type_of;
 use boogie_tree::{BType, Local};
 use std::alloc::Global;
@@ -55,7 +55,7 @@ fn more_params<'a>(
     names: &mut Names,
     words: &Reserved,
     before: Vec<Local>,
-    tokens: &'a [BToken],
+    tokens: &'a [PlacedLexeme],
 ) -> Read<'a, Vec<Local>>
     requires { AreNames names.now (locals_of before.items) }
     ensures shorter { IfOk result (λ r. length r.1.now < length tokens.now) }
@@ -86,7 +86,7 @@ fn parameters<'a>(
     alloc: Global,
     names: &mut Names,
     words: &Reserved,
-    tokens: &'a [BToken],
+    tokens: &'a [PlacedLexeme],
 ) -> Read<'a, Vec<Local>>
     requires { names.now ≡ [] }
     ensures shorter { IfOk result (λ r. length r.1.now < length tokens.now) }
@@ -105,7 +105,7 @@ pub(crate) fn read_head<'a>(
     alloc: Global,
     names: &mut Names,
     words: &Reserved,
-    tokens: &'a [BToken],
+    tokens: &'a [PlacedLexeme],
 ) -> Read<'a, Head>
     requires { names.now ≡ [] }
     ensures shorter { IfOk result (λ r. length r.1.now < length tokens.now) }
@@ -145,7 +145,7 @@ pub(crate) fn vars<'a>(
     words: &Reserved,
     bound: &[Ident],
     before: Vec<Local>,
-    tokens: &'a [BToken],
+    tokens: &'a [PlacedLexeme],
 ) -> Read<'a, Vec<Local>>
     requires { AreNames names.now (locals_of before.items) }
     ensures shorter { IfOk result (λ r. length r.1.now ≤ length tokens.now) }

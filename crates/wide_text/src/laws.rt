@@ -3,7 +3,7 @@ ghost use Rattle.std.specs.Prelude.{◌≡◌, ◌≤◌, ◌⊎◌, List, ℕ, 
 ghost use Rattle.vb_base.specs.Limits.{max_boogie_bytes};
 ghost use Rattle.boogie_grammar.specs.Depth.{IsShallow};
 ghost use Rattle.boogie_grammar.specs.declared.faults.BoogieFault.{BoogieFault};
-ghost use Rattle.boogie_grammar.specs.declared.tokens.BToken.{BToken};
+ghost use Rattle.boogie_grammar.specs.declared.tokens.PlacedLexeme.{PlacedLexeme};
 ghost use Rattle.boogie_text.specs.Printable.{IsFreeName};
 ghost use Rattle.boogie_wide.specs.Wide as w;
 ghost use Rattle.boogie_wide.specs.Conditions.{HasNames, NamesAreApart, ProcLiteralsFit};
@@ -18,12 +18,12 @@ pub fn one_program()
 
 /// A list of tokens spells at most one program.
 pub fn one_tree()
-    ensures { (ts : List BToken) (a : w.WProgram) (b : w.WProgram) → Spells ts a → Spells ts b → a ≡ b }
+    ensures { (ts : List PlacedLexeme) (a : w.WProgram) (b : w.WProgram) → Spells ts a → Spells ts b → a ≡ b }
 {}
 
 /// Each list of tokens spells a program, or spells none and goes wrong at a place.
 pub fn some_answer()
-    ensures { (ts : List BToken) → SpellsWideProgram ts ⊎ GoesWrong ts }
+    ensures { (ts : List PlacedLexeme) → SpellsWideProgram ts ⊎ GoesWrong ts }
 {}
 
 /// A text that is not too long spells a program whose brackets are not too deep, or is refused.

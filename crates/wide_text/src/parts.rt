@@ -10,7 +10,7 @@ ghost use Rattle.wide_text.specs.View.{ReadsMark, ReadsClause};
 use crate::reserved::{Reserved, none_bound};
 use boogie_grammar::eating::{Read, label, sign, word};
 use boogie_grammar::scopes::{Names, Scope};
-use boogie_grammar::{BSign, BToken, Word};
+use boogie_grammar::{BSign, PlacedLexeme, Word};
 use boogie_text::exprs::{expr, exprs};
 use boogie_tree::BExpr;
 use boogie_wide::Clause;
@@ -22,7 +22,7 @@ pub(crate) fn whole_expr<'a>(
     alloc: Global,
     locals: &Names,
     words: &Reserved,
-    tokens: &'a [BToken],
+    tokens: &'a [PlacedLexeme],
 ) -> Read<'a, BExpr>
     ensures shorter { IfOk result (λ r. length r.1.now < length tokens.now) }
     ensures reads { Parses expr_of (g.rule (g.Expr (scope locals.now))) tokens.now result }
@@ -41,7 +41,7 @@ pub(crate) fn whole_exprs<'a>(
     alloc: Global,
     locals: &Names,
     words: &Reserved,
-    tokens: &'a [BToken],
+    tokens: &'a [PlacedLexeme],
 ) -> Read<'a, Vec<BExpr>>
     ensures shorter { IfOk result (λ r. length r.1.now < length tokens.now) }
     ensures reads { Parses all_exprs_of (g.rule (g.Exprs (scope locals.now))) tokens.now result }
@@ -55,7 +55,7 @@ pub(crate) fn whole_exprs<'a>(
 }
 
 /// `"{" ":" "msg" string "}"`
-pub(crate) fn mark(tokens: &[BToken]) -> Read<'_, Label>
+pub(crate) fn mark(tokens: &[PlacedLexeme]) -> Read<'_, Label>
     ensures shorter { IfOk result (λ r. length r.1.now < length tokens.now) }
     ensures reads { ReadsMark tokens.now result }
 {
@@ -72,7 +72,7 @@ pub(crate) fn read_clause<'a>(
     alloc: Global,
     locals: &Names,
     words: &Reserved,
-    tokens: &'a [BToken],
+    tokens: &'a [PlacedLexeme],
 ) -> Read<'a, Clause>
     ensures shorter { IfOk result (λ r. length r.1.now < length tokens.now) }
     ensures reads { ReadsClause locals.now tokens.now result }

@@ -16,7 +16,7 @@ use crate::reserved::{Reserved, new_name};
 use crate::stmts::statements;
 use boogie_grammar::eating::{Read, eat_sign, eat_word, sign};
 use boogie_grammar::scopes::Names;
-use boogie_grammar::{BSign, BToken, Word};
+use boogie_grammar::{BSign, PlacedLexeme, Word};
 use boogie_tree::Local;
 use boogie_wide::{WProc, WStmt};
 use std::alloc::Global;
@@ -37,7 +37,7 @@ fn read_contents<'a>(
     names: &mut Names,
     words: &Reserved,
     head: Vec<Local>,
-    tokens: &'a [BToken],
+    tokens: &'a [PlacedLexeme],
 ) -> Read<'a, Contents>
     requires { AreNames names.now (locals_of head.items) }
     ensures shorter { IfOk result (λ r. length r.1.now ≤ length tokens.now) }
@@ -74,7 +74,7 @@ fn procedure<'a>(
     alloc: Global,
     taken: &Names,
     words: &Reserved,
-    tokens: &'a [BToken],
+    tokens: &'a [PlacedLexeme],
 ) -> Read<'a, WProc>
     ensures shorter { IfOk result (λ r. length r.1.now < length tokens.now) }
     ensures new { IfOk result (λ r. is_among r.0.name taken.now ≡ false) }
@@ -99,7 +99,7 @@ fn procedure<'a>(
 }
 
 /// The procedures of a program, whose names differ, and the tokens after them.
-pub(crate) fn procedures<'a>(alloc: Global, tokens: &'a [BToken]) -> Read<'a, Vec<WProc>>
+pub(crate) fn procedures<'a>(alloc: Global, tokens: &'a [PlacedLexeme]) -> Read<'a, Vec<WProc>>
     ensures reads { Parses all_wprocs_of (g.rule (g.Programs [])) tokens.now result }
 {
     let words = Reserved::new(alloc)?;

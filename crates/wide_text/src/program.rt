@@ -2,7 +2,7 @@
 ghost use Rattle.wide_text.specs.Whole.{ReadsWhole, ReadsProgram};
 
 use crate::procs::procedures;
-use boogie_grammar::{BToken, BoogieFault, fault};
+use boogie_grammar::{BoogieFault, PlacedLexeme, fault};
 use boogie_wide::{WProc, WProgram};
 use grammar::Stop;
 use std::alloc::Global;
@@ -10,7 +10,11 @@ use vb_base::Pos;
 
 /// The program that these tokens spell, or the place of the first one with which they begin none; `end` is the place
 /// past the last byte.
-pub(crate) fn program(alloc: Global, tokens: &[BToken], end: Pos) -> Result<WProgram, BoogieFault>
+pub(crate) fn program(
+    alloc: Global,
+    tokens: &[PlacedLexeme],
+    end: Pos,
+) -> Result<WProgram, BoogieFault>
     ensures { ReadsProgram tokens.now end result }
 {
     match all_procedures(alloc, tokens) {
@@ -20,7 +24,10 @@ pub(crate) fn program(alloc: Global, tokens: &[BToken], end: Pos) -> Result<WPro
 }
 
 /// The procedures that these tokens spell, up to the last token.
-fn all_procedures(alloc: Global, tokens: &[BToken]) -> Result<Vec<WProc>, Stop<'_, BToken>>
+fn all_procedures(
+    alloc: Global,
+    tokens: &[PlacedLexeme],
+) -> Result<Vec<WProc>, Stop<'_, PlacedLexeme>>
     ensures { ReadsWhole tokens.now result }
 {
     let (procs, rest) = procedures(alloc, tokens)?;

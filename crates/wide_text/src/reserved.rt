@@ -7,7 +7,7 @@ ghost use Rattle.wide_grammar.specs.Words.{wide_words};
 ghost use Rattle.wide_text.specs.Words.{spelled_as};
 
 use crate::words::{WideWord, spelled_as};
-use boogie_grammar::BToken;
+use boogie_grammar::PlacedLexeme;
 use boogie_grammar::eating::Read;
 use boogie_grammar::new_names::bound_name;
 use boogie_grammar::scopes::{Names, Scope};
@@ -70,7 +70,7 @@ pub(crate) fn new_name<'a>(
     alloc: Global,
     taken: &Names,
     words: &Reserved,
-    tokens: &'a [BToken],
+    tokens: &'a [PlacedLexeme],
 ) -> Read<'a, Ident>
     ensures shorter { IfOk result (λ r. length r.1.now < length tokens.now) }
     ensures takes { Takes (a_new_name (taken.now ++ wide_words)) tokens.now result }
@@ -89,7 +89,7 @@ pub(crate) fn newer_name<'a>(
     taken: &Names,
     others: &Names,
     words: &Reserved,
-    tokens: &'a [BToken],
+    tokens: &'a [PlacedLexeme],
 ) -> Read<'a, Ident>
     ensures shorter { IfOk result (λ r. length r.1.now < length tokens.now) }
     ensures takes { Takes (a_new_name ((taken.now ++ others.now) ++ wide_words)) tokens.now result }

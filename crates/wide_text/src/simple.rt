@@ -10,7 +10,7 @@ use crate::reserved::Reserved;
 use boogie_grammar::eating::{Read, eat_sign, eat_word, sign};
 use boogie_grammar::leaves::eat_variable;
 use boogie_grammar::scopes::Names;
-use boogie_grammar::{BSign, BToken, Word};
+use boogie_grammar::{BSign, PlacedLexeme, Word};
 use boogie_wide::WStmt;
 use grammar::Stop;
 use std::alloc::Global;
@@ -20,7 +20,7 @@ pub(crate) fn assumption<'a>(
     alloc: Global,
     locals: &Names,
     words: &Reserved,
-    tokens: &'a [BToken],
+    tokens: &'a [PlacedLexeme],
 ) -> Read<'a, WStmt>
     ensures shorter { IfOk result (λ r. length r.1.now < length tokens.now) }
     ensures reads { Parses wstmt_of (assuming locals.now) tokens.now result }
@@ -35,7 +35,7 @@ pub(crate) fn assertion<'a>(
     alloc: Global,
     locals: &Names,
     words: &Reserved,
-    tokens: &'a [BToken],
+    tokens: &'a [PlacedLexeme],
 ) -> Read<'a, WStmt>
     ensures shorter { IfOk result (λ r. length r.1.now < length tokens.now) }
     ensures reads { Parses wstmt_of (asserting locals.now) tokens.now result }
@@ -50,7 +50,7 @@ pub(crate) fn assignment<'a>(
     locals: &Names,
     words: &Reserved,
     i: usize,
-    tokens: &'a [BToken],
+    tokens: &'a [PlacedLexeme],
 ) -> Read<'a, WStmt>
     ensures shorter { IfOk result (λ r. length r.1.now < length tokens.now) }
     ensures reads { Parses wstmt_of (g.assignment locals.now i) tokens.now result }
@@ -69,7 +69,7 @@ pub(crate) fn assignment<'a>(
 }
 
 /// The number of the next variable, which must be next.
-pub(crate) fn variable<'a>(locals: &Names, tokens: &'a [BToken]) -> Read<'a, usize>
+pub(crate) fn variable<'a>(locals: &Names, tokens: &'a [PlacedLexeme]) -> Read<'a, usize>
     ensures shorter { IfOk result (λ r. length r.1.now < length tokens.now) }
     ensures takes { TakesVariable locals.now tokens.now result }
 {
@@ -82,8 +82,8 @@ pub(crate) fn variable<'a>(locals: &Names, tokens: &'a [BToken]) -> Read<'a, usi
 /// The variable after `havoc`, if the word is next; then a variable must follow it.
 pub(crate) fn eat_havoc<'a>(
     locals: &Names,
-    tokens: &'a [BToken],
-) -> Result<Option<(usize, &'a [BToken])>, Stop<'a, BToken>>
+    tokens: &'a [PlacedLexeme],
+) -> Result<Option<(usize, &'a [PlacedLexeme])>, Stop<'a, PlacedLexeme>>
     ensures shorter { IfOk result (λ o. IfSome o (λ r. length r.1.now < length tokens.now)) }
     ensures eats { EatsHavoc locals.now tokens.now result }
 {

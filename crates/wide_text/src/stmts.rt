@@ -16,7 +16,7 @@ use crate::words::{WideWord, eat_wide};
 use boogie_grammar::eating::{Read, eat_sign, eat_word, sign, word};
 use boogie_grammar::leaves::eat_variable;
 use boogie_grammar::scopes::Names;
-use boogie_grammar::{BSign, BToken, Word};
+use boogie_grammar::{BSign, PlacedLexeme, Word};
 use boogie_wide::{Clause, WStmt};
 use std::alloc::Global;
 use vb_base::pushed;
@@ -26,7 +26,7 @@ fn invariants<'a>(
     alloc: Global,
     locals: &Names,
     words: &Reserved,
-    tokens: &'a [BToken],
+    tokens: &'a [PlacedLexeme],
 ) -> Read<'a, Vec<Clause>>
     ensures shorter { IfOk result (λ r. length r.1.now ≤ length tokens.now) }
     ensures reads { Parses all_clauses_of (g.rule (g.Invariants locals.now [])) tokens.now result }
@@ -47,7 +47,7 @@ pub(crate) fn statements<'a>(
     alloc: Global,
     locals: &Names,
     words: &Reserved,
-    tokens: &'a [BToken],
+    tokens: &'a [PlacedLexeme],
 ) -> Read<'a, Vec<WStmt>>
     requires { has_no_word locals.now ≡ true }
     ensures shorter { IfOk result (λ r. length r.1.now < length tokens.now) }
@@ -71,7 +71,7 @@ fn statement<'a>(
     alloc: Global,
     locals: &Names,
     words: &Reserved,
-    tokens: &'a [BToken],
+    tokens: &'a [PlacedLexeme],
 ) -> Read<'a, WStmt>
     requires { has_no_word locals.now ≡ true }
     ensures shorter { IfOk result (λ r. length r.1.now < length tokens.now) }
@@ -92,7 +92,7 @@ fn unworded<'a>(
     alloc: Global,
     locals: &Names,
     words: &Reserved,
-    tokens: &'a [BToken],
+    tokens: &'a [PlacedLexeme],
 ) -> Read<'a, WStmt>
     requires { has_no_word locals.now ≡ true }
     ensures shorter { IfOk result (λ r. length r.1.now < length tokens.now) }
@@ -120,7 +120,7 @@ fn conditional<'a>(
     alloc: Global,
     locals: &Names,
     words: &Reserved,
-    tokens: &'a [BToken],
+    tokens: &'a [PlacedLexeme],
 ) -> Read<'a, WStmt>
     requires { has_no_word locals.now ≡ true }
     ensures shorter { IfOk result (λ r. length r.1.now < length tokens.now) }
@@ -140,7 +140,7 @@ fn either<'a>(
     alloc: Global,
     locals: &Names,
     words: &Reserved,
-    tokens: &'a [BToken],
+    tokens: &'a [PlacedLexeme],
 ) -> Read<'a, WStmt>
     requires { has_no_word locals.now ≡ true }
     ensures shorter { IfOk result (λ r. length r.1.now < length tokens.now) }
@@ -158,7 +158,7 @@ fn choice<'a>(
     alloc: Global,
     locals: &Names,
     words: &Reserved,
-    tokens: &'a [BToken],
+    tokens: &'a [PlacedLexeme],
 ) -> Read<'a, WStmt>
     requires { has_no_word locals.now ≡ true }
     ensures shorter { IfOk result (λ r. length r.1.now < length tokens.now) }
@@ -177,7 +177,7 @@ fn looped<'a>(
     alloc: Global,
     locals: &Names,
     words: &Reserved,
-    tokens: &'a [BToken],
+    tokens: &'a [PlacedLexeme],
 ) -> Read<'a, WStmt>
     requires { has_no_word locals.now ≡ true }
     ensures shorter { IfOk result (λ r. length r.1.now < length tokens.now) }
@@ -199,7 +199,7 @@ fn turns<'a>(
     alloc: Global,
     locals: &Names,
     words: &Reserved,
-    tokens: &'a [BToken],
+    tokens: &'a [PlacedLexeme],
 ) -> Read<'a, (Vec<Clause>, Vec<WStmt>)>
     requires { has_no_word locals.now ≡ true }
     ensures shorter { IfOk result (λ r. length r.1.now < length tokens.now) }
@@ -217,7 +217,7 @@ fn block<'a>(
     alloc: Global,
     locals: &Names,
     words: &Reserved,
-    tokens: &'a [BToken],
+    tokens: &'a [PlacedLexeme],
 ) -> Read<'a, Vec<WStmt>>
     requires { has_no_word locals.now ≡ true }
     ensures shorter { IfOk result (λ r. length r.1.now < length tokens.now) }
@@ -234,7 +234,7 @@ fn otherwise<'a>(
     alloc: Global,
     locals: &Names,
     words: &Reserved,
-    tokens: &'a [BToken],
+    tokens: &'a [PlacedLexeme],
 ) -> Read<'a, Vec<WStmt>>
     requires { has_no_word locals.now ≡ true }
     ensures shorter { IfOk result (λ r. length r.1.now ≤ length tokens.now) }

@@ -4,7 +4,7 @@ ghost use Rattle.boogie_grammar.specs.Greedy.{IsNot, Starts};
 ghost use Rattle.boogie_grammar.specs.Tests.{the_name};
 ghost use Rattle.wide_text.specs.Words.{spelled_as};
 
-use boogie_grammar::{BTok, BToken};
+use boogie_grammar::{Lexeme, PlacedLexeme};
 use vb_base::same_bytes;
 
 /// A word that is reserved here, though not in the other programs.
@@ -33,13 +33,13 @@ pub(crate) fn spelled_as(word: WideWord) -> &'static [u8]
 }
 
 /// The tokens after this word, if it is next.
-pub(crate) fn eat_wide(wanted: WideWord, tokens: &[BToken]) -> Option<&[BToken]>
+pub(crate) fn eat_wide(wanted: WideWord, tokens: &[PlacedLexeme]) -> Option<&[PlacedLexeme]>
     ensures shorter { IfSome result (λ r. length r.now < length tokens.now) }
     ensures eats { MatchOption result (IsNot (the_name (spelled_as wanted)) tokens.now) (λ r. Starts (the_name (spelled_as wanted)) tokens.now tt r.now) }
 {
     let (first, rest) = tokens.split_first()?;
     match &first.tok {
-        BTok::Name(name) if same_bytes(name.bytes(), spelled_as(wanted)) => Some(rest),
+        Lexeme::Name(name) if same_bytes(name.bytes(), spelled_as(wanted)) => Some(rest),
         _ => None,
     }
 }

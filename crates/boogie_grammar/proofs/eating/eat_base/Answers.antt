@@ -1,5 +1,5 @@
 use Rattle.std.proofs.Common.{◌∙◌, sym, ap}
-use Rattle.boogie_grammar.specs.declared.tokens.BTok.TheVariants as tok
+use Rattle.boogie_grammar.specs.declared.tokens.Lexeme.TheVariants as tok
 use Rattle.boogie_grammar.proofs.eating.eat_base.Goals as goal
 
 pub returns-in_ok-base-in-Name-clause-eats : goal.returns-in_ok-base-in-Name-clause-eats

@@ -1,5 +1,5 @@
 use Rattle.std.proofs.Common.{◌∙◌, refl, sym, ap}
-use Rattle.boogie_grammar.specs.declared.tokens.BTok.TheVariants as tok
+use Rattle.boogie_grammar.specs.declared.tokens.Lexeme.TheVariants as tok
 use Rattle.boogie_grammar.proofs.eating.eat_word.Goals as goal
 
 pub returns-in-Name-clause-eats : goal.returns-in-Name-clause-eats

@@ -1,5 +1,5 @@
 use Rattle.std.proofs.Common.{◌≡◌, ◌∙◌, sym, ap, subst, true}
-use Rattle.boogie_grammar.specs.declared.tokens.BTok.TheVariants as tok
+use Rattle.boogie_grammar.specs.declared.tokens.Lexeme.TheVariants as tok
 use Rattle.boogie_grammar.specs.Grammar.{taken_by}
 use Rattle.boogie_grammar.specs.ReadView.{is_new_name, scope_of}
 use Rattle.boogie_grammar.proofs.NameLaws.{free_bound}

@@ -1,5 +1,5 @@
 use Rattle.std.proofs.Common.{◌≡◌, ◌∙◌, sym, ap, subst, true}
-use Rattle.boogie_grammar.specs.declared.tokens.BTok.TheVariants as tok
+use Rattle.boogie_grammar.specs.declared.tokens.Lexeme.TheVariants as tok
 use Rattle.boogie_grammar.specs.ReadView.{is_new_name}
 use Rattle.boogie_grammar.proofs.NameLaws.{free_bound}
 use Rattle.boogie_grammar.proofs.new_names.new_name.Goals as goal

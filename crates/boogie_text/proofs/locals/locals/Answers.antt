@@ -2,7 +2,7 @@ use Rattle.std.proofs.Common.{◌≡◌, ◌∙◌, ◌++◌, [], ◌∷◌, ref
 use Rattle.std.proofs.lemmas.List.{map-append}
 use Rattle.boogie_tree.specs.Program as p
 use Rattle.boogie_tree.specs.Whole.{local_of, locals_of}
-use Rattle.boogie_grammar.specs.declared.tokens.BToken.{BToken}
+use Rattle.boogie_grammar.specs.declared.tokens.PlacedLexeme.{PlacedLexeme}
 use Rattle.grammar.specs.declared.stop.Stop.{Stop}
 use Rattle.boogie_grammar.specs.Tests as v
 use Rattle.boogie_grammar.specs.Tests.{a_new_name}
@@ -14,10 +14,10 @@ use Rattle.boogie_grammar.proofs.Reading.{by_need, by_token, by_other, by_part, 
 use Rattle.boogie_grammar.proofs.Steps.{token_error, part_error, tail, goes_at, pushed_more}
 use Rattle.boogie_text.proofs.locals.locals.Goals as goal
 
-named_at : {x y : List (List ℕ)} {ts us : List BToken} {n : List ℕ} → x ≡ y → Starts (a_new_name x) ts n us → Starts (a_new_name y) ts n us
+named_at : {x y : List (List ℕ)} {ts us : List PlacedLexeme} {n : List ℕ} → x ≡ y → Starts (a_new_name x) ts n us → Starts (a_new_name y) ts n us
 named_at {ts = ts} {us = us} {n = n} e h = subst (λ z. Starts (a_new_name z) ts n us) e h
 
-unnamed_at : (x y : List (List ℕ)) (ts : List BToken) (w : Stop BToken) → x ≡ y → Misses (a_new_name x) ts w → Misses (a_new_name y) ts w
+unnamed_at : (x y : List (List ℕ)) (ts : List PlacedLexeme) (w : Stop PlacedLexeme) → x ≡ y → Misses (a_new_name x) ts w → Misses (a_new_name y) ts w
 unnamed_at x y ts w e h = subst (λ z. Misses (a_new_name z) ts w) e h
 
 one_more_name : (names : List (List ℕ)) (ls more : List p.Local) (x : List ℕ) (u : p.BType) → names ≡ local_names ls → more ≡ ls ++ (record { name = x; ty = u } ∷ []) → names ++ (x ∷ []) ≡ local_names more

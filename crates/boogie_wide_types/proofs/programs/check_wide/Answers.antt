@@ -9,18 +9,18 @@ returns-in-Some-clause-typed c = (
   λ e. absurd (cc),
   λ h.
       let none = none_ill_typed_back (wprogram_of c.args.program.now) h in
-      let some = sym (ap (λ ds. ill_typed_wide (map wproc_of ds) (map wproc_of ds)) (c.of-procs.ensures ∙ c.deref.ensures.value)) ∙ sym c.first_ill_typed.ensures ∙ c.in-Some.is in
+      let some = sym (ap (λ ds. ill_typed_wide (map wproc_of ds) (map wproc_of ds)) (c.without_table-procs.ensures ∙ c.deref.ensures.value)) ∙ sym c.first_of.ensures ∙ c.in-Some.is in
       let apart : None ≡ Some c.in-Some.number = sym none ∙ some in absurd (cc),
 )
 
 pub returns-in-Some-clause-first : goal.returns-in-Some-clause-first
 returns-in-Some-clause-first c =
     is_first_wide (wprogram_of c.args.program.now) c.in-Some.number
-    (sym (ap (λ ds. ill_typed_wide (map wproc_of ds) (map wproc_of ds)) (c.of-procs.ensures ∙ c.deref.ensures.value)) ∙ sym c.first_ill_typed.ensures ∙ c.in-Some.is)
+    (sym (ap (λ ds. ill_typed_wide (map wproc_of ds) (map wproc_of ds)) (c.without_table-procs.ensures ∙ c.deref.ensures.value)) ∙ sym c.first_of.ensures ∙ c.in-Some.is)
 
 pub returns-clause-typed : goal.returns-clause-typed
 returns-clause-typed c = (
   λ e. none_ill_typed (wprogram_of c.args.program.now)
-      (sym (ap (λ ds. ill_typed_wide (map wproc_of ds) (map wproc_of ds)) (c.of-procs.ensures ∙ c.deref.ensures.value)) ∙ sym c.first_ill_typed.ensures ∙ c.in-None.is),
+      (sym (ap (λ ds. ill_typed_wide (map wproc_of ds) (map wproc_of ds)) (c.without_table-procs.ensures ∙ c.deref.ensures.value)) ∙ sym c.first_of.ensures ∙ c.in-None.is),
   λ h. refl,
 )

@@ -4,7 +4,7 @@ use Rattle.std.proofs.lemmas.List.{drop_more}
 use Rattle.boogie_wide.specs.View.{wproc_of}
 use Rattle.boogie_wide.specs.WideTypes.{ill_typed_wide}
 use Rattle.boogie_wide_types.proofs.ProgramLaws.{at_ill_typed, at_typed}
-use Rattle.boogie_wide_types.proofs.programs.first_ill_typed.Goals as goal
+use Rattle.boogie_wide_types.proofs.programs.first_of.Goals as goal
 
 pub returns-then-not-is_proc : goal.returns-then-not-is_proc
 returns-then-not-is_proc c =

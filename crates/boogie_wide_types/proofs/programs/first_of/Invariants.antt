@@ -3,7 +3,7 @@ use Rattle.std.proofs.Common.{◌≡◌, ◌+◌, drop, map}
 use Rattle.std.specs.Option.{option_map}
 use Rattle.boogie_wide.specs.View.{wproc_of}
 use Rattle.boogie_wide.specs.WideTypes.{ill_typed_wide}
-use Rattle.boogie_wide_types.proofs.programs.first_ill_typed.Given as goal
+use Rattle.boogie_wide_types.proofs.programs.first_of.Given as goal
 
 abbrev pub invariant-loop-proc : goal.invariant-loop-proc
 invariant-loop-proc l = record {
