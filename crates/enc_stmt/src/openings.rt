@@ -28,17 +28,19 @@ use viper_state::Opening;
 /// defaults where a run begins.
 pub fn start_env(
     alloc: Global,
-    _program: &Program,
-    _unit: u32,
+    program: &Program,
+    unit: u32,
     opening: &Opening,
 ) -> Result<Vec<BSetting>, Memory>
     // so no two instances of a predicate have one key
-    requires opens { Opens (program_of _program.now) _unit (opening_of opening.now) }
+    requires opens { Opens (program_of program.now) unit (opening_of opening.now) }
     ensures settings { IfOk result (λ settings. map setting_of settings.items ≡ start_settings (opening_of opening.now)) }
 
     // each reference of the code is below 2^64
     ensures named { IfOk result (λ settings. All IsNamedSetting (map setting_of settings.items)) }
 {
+    // The opening, which fits the unit, holds all that is asked of them.
+    let _ = (program, unit);
     let values = front_values(alloc, opening)?;
     let settings = numbered(alloc, values)?;
     named_settings(&settings);

@@ -7,7 +7,7 @@ use Rattle.viper_syntax.specs.declared.tokens.Word.{Word}
 use Rattle.viper_syntax.specs.Term as t
 use Rattle.viper_syntax.specs.Stmt as s
 use Rattle.viper_syntax.specs.Decl as d
-use Rattle.viper_exec.specs.Unframed.{is_unframed}
+use Rattle.exec_words.specs.Unframed.{is_unframed}
 
 -- a word that is none of them
 abbrev pub IsFramedWord : Word → Type 0

@@ -1,6 +1,7 @@
 pub mod Each
 pub mod Framed
 pub mod Spelled
+pub mod WordLaws
 pub mod Terms
 pub mod Statements
 pub mod Programs

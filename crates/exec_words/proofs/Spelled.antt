@@ -11,7 +11,7 @@ use Rattle.viper_grammar.specs.Tests.{Kind, Value, Test, this, a_name, a_number,
 use Rattle.viper_grammar.specs.Grammar as g
 use Rattle.viper_grammar.specs.Grammar.{Symbol, Rule, give, need, when, read, rule}
 use Rattle.viper_grammar.specs.Spells.{Derives, Spells, given, needed, taken, passed, called}
-use Rattle.viper_exec.specs.Unframed.{is_unframed, first_unframed}
+use Rattle.exec_words.specs.Unframed.{is_unframed, first_unframed}
 use Rattle.exec_words.proofs.Each.{each_more, front, back}
 use Rattle.exec_words.proofs.Framed.{IsFramedWord, IsFramedToken, IsFramedTerm, IsFramedAmount, IsFramedSource, IsFramedBlock, IsFramedArm, IsFramedClause, IsFramedDecl, framed_terms, framed_stmts, framed_arms}
 

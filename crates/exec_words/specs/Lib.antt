@@ -1,1 +1,2 @@
+pub mod Unframed
 pub mod Texts

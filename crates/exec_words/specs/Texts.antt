@@ -6,7 +6,7 @@ use Rattle.viper_grammar.specs.Spells.{Spells}
 use Rattle.viper_core.specs.Program.{Program}
 use Rattle.viper_types.specs.Program.{IsProgram}
 use Rattle.exec_meaning.specs.Frame.{IsFramedProgram}
-use Rattle.viper_exec.specs.Unframed.{first_unframed}
+use Rattle.exec_words.specs.Unframed.{first_unframed}
 
 abbrev pub TextsAreFramed : Type 0
 TextsAreFramed = (tokens : List Token) (source : SourceProgram) (program : Program) → first_unframed tokens ≡ None → Spells tokens source → IsProgram source program

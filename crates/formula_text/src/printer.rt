@@ -4,7 +4,7 @@ ghost use Rattle.vb_base.specs.Labels.{text_of};
 ghost use Rattle.boogie_tree.specs.Whole.{type_of};
 ghost use Rattle.boogie_grammar.specs.Printed.{name_at, type_text};
 ghost use Rattle.boogie_text.specs.Printable.{IsFreeName};
-ghost use Rattle.boogie_formula.specs.Formula as f;
+ghost use Rattle.boogie_formula.specs.Formula as formulas;
 ghost use Rattle.boogie_formula.specs.Printable.{IsPrintableConditions, IsPrintableFormula};
 ghost use Rattle.boogie_formula.specs.View.{conditions_of, fexpr_of, formula_of};
 ghost use Rattle.formula_text.specs.Names.{variable_name, definition_name, names_in_scope};
@@ -26,16 +26,16 @@ pub fn print_formula(
     alloc: Global,
     name: &Ident,
     label: &Label,
-    formula: &Formula,
+    f: &Formula,
 ) -> Result<Vec<u8>, Memory>
     requires free { IsFreeName name.now }
-    requires printable { IsPrintableFormula (formula_of formula.now) }
-    ensures text { IfOk result (λ bytes. bytes.items ≡ formula_text name.now label.now (formula_of formula.now)) }
-    ensures spells { IfOk result (λ bytes. SpellsFormula bytes.items name.now label.now (formula_of formula.now)) }
-    ensures no_other { IfOk result (λ bytes. (n : List ℕ) (l : Label) (g : f.Formula) → SpellsFormula bytes.items n l g →
-        (n ≡ name.now) × (l ≡ label.now) × (g ≡ formula_of formula.now)) }
+    requires printable { IsPrintableFormula (formula_of f.now) }
+    ensures text { IfOk result (λ bytes. bytes.items ≡ formula_text name.now label.now (formula_of f.now)) }
+    ensures spells { IfOk result (λ bytes. SpellsFormula bytes.items name.now label.now (formula_of f.now)) }
+    ensures no_other { IfOk result (λ bytes. (n : List ℕ) (l : Label) (g : formulas.Formula) → SpellsFormula bytes.items n l g →
+        (n ≡ name.now) × (l ≡ label.now) × (g ≡ formula_of f.now)) }
 {
-    whole_text(alloc, name, label, formula)
+    whole_text(alloc, name, label, f)
 }
 
 /// The text of the conditions of the procedure of this name: a line for each variable and each definition, and one for each
@@ -49,7 +49,7 @@ pub fn print_conditions(
     requires printable { IsPrintableConditions (conditions_of conditions.now) }
     ensures text { IfOk result (λ bytes. bytes.items ≡ conditions_text name.now (conditions_of conditions.now)) }
     ensures spells { IfOk result (λ bytes. SpellsConditions bytes.items name.now (conditions_of conditions.now)) }
-    ensures no_other { IfOk result (λ bytes. (n : List ℕ) (x : f.Conditions) → SpellsConditions bytes.items n x →
+    ensures no_other { IfOk result (λ bytes. (n : List ℕ) (x : formulas.Conditions) → SpellsConditions bytes.items n x →
         (n ≡ name.now) × (x ≡ conditions_of conditions.now)) }
 {
     all_conditions(alloc, name, conditions)

@@ -18,12 +18,14 @@ use viper_core::Program;
 use viper_state::{Event, Memo};
 
 /// The choices of Boogie that the events of a run of a program turn into, in order. `Memory` where there is no memory.
-pub fn moves(alloc: Global, events: &Vec<Event>, _program: &Program) -> Result<Vec<BChoice>, Memory>
+pub fn moves(alloc: Global, events: &Vec<Event>, program: &Program) -> Result<Vec<BChoice>, Memory>
     ensures moves { IfOk result (λ choices. map choice_of choices.items ≡ m.moves (map event_of events.now.items)) }
 
     // each reference of the code is below 2^64, so that of what is printable this need not be asked of the moves
     ensures named { IfOk result (λ choices. All IsNamedMove (map choice_of choices.items)) }
 {
+    // The events hold all that is asked of the program.
+    let _ = program;
     let mut choices = Vec::with_capacity(alloc, events.len())?;
     for event in events.as_slice() {
         add_moves(alloc, event, &mut choices)?;

@@ -8,7 +8,7 @@ use Rattle.viper_grammar.specs.Spells.{Spells}
 use Rattle.viper_core.specs.Program as p
 use Rattle.viper_core.specs.Weight.{weight}
 use Rattle.viper_types.specs.Program.{IsProgram}
-use Rattle.viper_exec.specs.Unframed.{first_unframed}
+use Rattle.exec_words.specs.Unframed.{first_unframed}
 use Rattle.viper_exec.specs.Outcome.{end_of, EndsExecution}
 use Rattle.viper_exec.specs.declared.executions.Executed.{Executed}
 use Rattle.run_file.specs.Progress.{UnlessMemory}

@@ -6,7 +6,7 @@ use Rattle.viper_core.specs.Formed.{IsFormed}
 use Rattle.viper_core.specs.Program as p
 use Rattle.viper_core.specs.declared.programs.Unit.TheVariants as u
 use Rattle.viper_syntax.proofs.LexLaws.{one_lexed}
-use Rattle.viper_exec.specs.Unframed.{first_unframed}
+use Rattle.exec_words.specs.Unframed.{first_unframed}
 use Rattle.run_file.specs.Run.{ViperRun, SpellsViperRun, GoesWrongAt}
 use Rattle.run_file.proofs.AnswerLaws as run_laws
 use Rattle.run_file.proofs.FileLaws.{is_reader}

@@ -18,7 +18,7 @@ ghost use Rattle.viper_core.specs.declared.programs.Unit.{Unit};
 ghost use Rattle.viper_state.specs.State.{State};
 ghost use Rattle.viper_meaning.specs.Units.{ViperFails};
 ghost use Rattle.exec_meaning.specs.Frame.{NoExecutionFails};
-ghost use Rattle.viper_exec.specs.Unframed.{first_unframed};
+ghost use Rattle.exec_words.specs.Unframed.{first_unframed};
 ghost use Rattle.enc_stmt.specs.Translates.{Translates};
 ghost use Rattle.vb_tool.specs.Units.{name_of};
 ghost use Rattle.vb_tool.specs.Accepted.{IsAccepted, AcceptsRun, IsRefusal, IsRunRefusal, HasOneAnswer};

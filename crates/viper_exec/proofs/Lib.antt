@@ -5,6 +5,5 @@ pub mod MachineLaws
 pub mod EndLaws
 pub mod NeedLaws
 pub mod CallLaws
-pub mod WordLaws
 pub mod BodyLaws
 pub mod OtherLaws

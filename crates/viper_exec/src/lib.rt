@@ -8,7 +8,5 @@ mod calls;
 mod executions;
 mod frames;
 mod machine;
-mod words;
 
 pub use executions::{ExecEnd, Executed, exec_method};
-pub use words::first_unframed;

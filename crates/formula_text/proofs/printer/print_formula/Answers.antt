@@ -12,14 +12,14 @@ if_ok (Err e) Q f h = h
 
 pub returns-clause-spells : goal.returns-clause-spells
 returns-clause-spells c =
-    let formula = formula_of c.args.formula.now in
-    let spelled = formula_spelled c.args.name.now c.args.label.now formula c.requires.free c.requires.printable (short_formula c.args.formula.now) in
+    let formula = formula_of c.args.f.now in
+    let spelled = formula_spelled c.args.name.now c.args.label.now formula c.requires.free c.requires.printable (short_formula c.args.f.now) in
     if_ok c.whole_text.result _ (λ bytes e. subst (λ text. SpellsFormula text c.args.name.now c.args.label.now formula) (sym e) spelled) c.whole_text.ensures
 
 pub returns-clause-no_other : goal.returns-clause-no_other
 returns-clause-no_other c =
-    let formula = formula_of c.args.formula.now in
-    let spelled = formula_spelled c.args.name.now c.args.label.now formula c.requires.free c.requires.printable (short_formula c.args.formula.now) in
+    let formula = formula_of c.args.f.now in
+    let spelled = formula_spelled c.args.name.now c.args.label.now formula c.requires.free c.requires.printable (short_formula c.args.f.now) in
     if_ok c.whole_text.result _
     (λ bytes e n l g h. one_formula bytes.items n c.args.name.now l c.args.label.now g formula h
     (subst (λ text. SpellsFormula text c.args.name.now c.args.label.now formula) (sym e) spelled)) c.whole_text.ensures

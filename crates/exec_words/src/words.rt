@@ -1,6 +1,6 @@
 // The words for which a whole execution may fail where no unit does.
 ghost use Rattle.std.specs.Prelude.{◌≡◌};
-ghost use Rattle.viper_exec.specs.Unframed as unframed;
+ghost use Rattle.exec_words.specs.Unframed as unframed;
 
 use vb_base::Pos;
 use viper_syntax::{Tok, Token, Word};
