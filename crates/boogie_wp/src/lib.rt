@@ -11,4 +11,6 @@ mod names;
 mod variables;
 pub mod worked;
 
+pub use boogie_formula::{Conditions, FExpr, Fail, Formula};
+pub use formula_text::{print_conditions, print_formula};
 pub use formulas::{conditions, formula};
