@@ -125,7 +125,7 @@ fn replay_proc(alloc: Global, proc: &Proc, run: &BRun) -> Result<BOutcome, Memor
 }
 
 /// Runs the procedure of this number, from 0 on, of a well-typed program on the settings and choices of a run. Every number is
-/// within the bound of runs, and a run that leaves the bound is `Over`.
+/// within the bound of runs, and a run that leaves the bound is `Over`. `Memory` where there is no memory.
 pub fn replay(
     alloc: Global,
     program: &BProgram,

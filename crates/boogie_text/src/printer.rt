@@ -14,7 +14,7 @@ use vb_base::Memory;
 
 /// The text of a program: the prelude, and then a line for each local, statement and bracket of a block. It spells the
 /// program. A bound variable is written as `q` and a number, the least that makes it the name of no local and of none
-/// before it in its `forall`.
+/// before it in its `forall`. `Memory` where there is no memory.
 pub fn print(alloc: Global, program: &BProgram) -> Result<Vec<u8>, Memory>
     requires { IsPrintable (b.program_of program.now) }
     ensures text { IfOk result (λ bytes. bytes.items ≡ text.program_text (b.program_of program.now)) }

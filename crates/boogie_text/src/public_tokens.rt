@@ -42,6 +42,7 @@ pub struct BToken {
 ///
 /// These are tried in this order. `Prelude` comes exactly where they do not begin with the prelude, `Syntax` where there
 /// is a byte behind it at which neither a token nor a blank begins, and `Deep` where too many brackets are unclosed at once.
+/// `Memory` where there is no memory.
 pub fn tokens_after(alloc: Global, bytes: &[u8]) -> Result<Vec<BToken>, BoogieFault>
     requires { length bytes.now ≤ max_boogie_bytes }
     ensures tokens { IfOk result (λ v. AreTokens bytes.now v.items) }

@@ -21,6 +21,7 @@ use vb_base::{Pos, advance, place_after};
 /// These are tried in this order. `Prelude` comes exactly where they do not begin with the prelude, `Syntax` where there
 /// is a byte behind it at which neither a token nor a blank begins, `Deep` where too many brackets are unclosed at once, and
 /// `Syntax` again where the tokens spell no program: at the first token with which they begin none, or at the end.
+/// `Memory` where there is no memory.
 pub fn read(alloc: Global, bytes: &[u8]) -> Result<BProgram, BoogieFault>
     requires { length bytes.now ≤ max_boogie_bytes }
     ensures program { IfOk result (λ b. IsRead bytes.now (program_of b)) }

@@ -38,7 +38,7 @@ type Found = (Option<Box<BExpr>>, usize);
 /// Its free names are among the first `known` locals. What a `forall` binds has the name of no local, and no reserved one.
 /// A token that no text has stands in no expression: a name or a sign whose bytes are none, and a number below 0.
 /// `Syntax` comes exactly where there is no such expression: at the first token such that the tokens from `from` through it
-/// begin none, or at `end` where all of them begin one.
+/// begin none, or at `end` where all of them begin one. `Memory` where there is no memory.
 pub fn read_bexpr(
     alloc: Global,
     tokens: &Vec<BToken>,

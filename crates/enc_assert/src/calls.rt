@@ -19,7 +19,7 @@ use viper_core::Assertion;
 
 /// Writes the code that consumes an assertion: its expressions are read at a place, and permission is taken from other maps, by
 /// amounts times a scale, but for those of `wildcard`. The types of variables, fields and predicates are read off the locals that
-/// the place names.
+/// the place names. `Memory` where there is no memory.
 pub fn consume_code(
     alloc: Global,
     a: &Assertion,
@@ -38,6 +38,7 @@ pub fn consume_code(
 }
 
 /// Writes the code that produces an assertion at a place, its amounts times a scale. The types are read off as in `consume_code`.
+/// `Memory` where there is no memory.
 pub fn produce_code(
     alloc: Global,
     a: &Assertion,
@@ -54,7 +55,7 @@ pub fn produce_code(
 }
 
 /// Writes the code that gives any values to heaps and contents of the present state where nothing is held. The types are read off
-/// as in `consume_code`.
+/// as in `consume_code`. `Memory` where there is no memory.
 pub fn forget_code(alloc: Global, place: &Place, out: &mut Emit) -> Result<(), Memory>
     ensures { OnOk result (Emits (forget_call (types_in (emit_of out.old)) (place_of place.entry.now) (length (emit_of out.old).locals))
         (emit_of out.old) (emit_of out.new) tt) }

@@ -19,6 +19,7 @@ use viper_core::Expr;
 
 /// Writes the checks of an expression, which is read at a place, and answers the expression of Boogie that has its value. The types
 /// of variables, fields and predicates are read off the locals that the place names.
+/// `Memory` where there is no memory.
 pub fn checked(alloc: Global, e: &Expr, place: &Place, out: &mut Emit) -> Result<BExpr, Memory>
     ensures { IfOk result (λ x. Checks (kinds_at (place_of place.entry.now) (types_in (emit_of out.old))) (place_of place.entry.now)
         (viper.expr_of e.now) (emit_of out.old) (emit_of out.new) (expr_of x)) }

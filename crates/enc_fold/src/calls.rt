@@ -26,6 +26,7 @@ pub fn body_of(program: &Program, predicate: u32) -> Option<&Assertion>
 }
 
 /// Writes the code of `fold` at a place. The types of variables are read off the locals that the place names.
+/// `Memory` where there is no memory.
 pub fn fold_code(
     alloc: Global,
     program: &Program,
@@ -50,6 +51,7 @@ pub fn fold_code(
 }
 
 /// Writes the code of `unfold` at a place. The types are read off as in `fold_code`.
+/// `Memory` where there is no memory.
 pub fn unfold_code(
     alloc: Global,
     program: &Program,

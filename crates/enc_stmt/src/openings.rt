@@ -25,7 +25,7 @@ use viper_core::Program;
 use viper_state::Opening;
 
 /// The variables that an opening of a unit, by its number, sets in the unit's procedure, with their values. All others have their
-/// defaults where a run begins.
+/// defaults where a run begins. `Memory` where there is no memory.
 pub fn start_env(
     alloc: Global,
     program: &Program,

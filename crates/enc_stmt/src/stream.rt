@@ -57,7 +57,7 @@ fn write_units<S: Sink>(
     Ok(())
 }
 
-/// The locals of the procedure of the unit with this number.
+/// The locals of the procedure of the unit with this number. `Memory` where there is no memory.
 pub fn unit_locals(alloc: Global, program: &Program, unit: u32) -> Result<Vec<Local>, Memory>
     requires formed { IsFormed (program_of program.now) }
     requires exists { unit < length (program_of program.now).units }

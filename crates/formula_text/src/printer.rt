@@ -21,7 +21,7 @@ use std::alloc::Global;
 use vb_base::{Ident, Label, Memory, label_text, put};
 
 /// The text of a formula of the procedure of this name and of this label: a line for each variable and each definition, and one
-/// for the goal. It spells the formula, and no other.
+/// for the goal. It spells the formula, and no other. `Memory` where there is no memory.
 pub fn print_formula(
     alloc: Global,
     name: &Ident,
@@ -39,7 +39,7 @@ pub fn print_formula(
 }
 
 /// The text of the conditions of the procedure of this name: a line for each variable and each definition, and one for each
-/// assertion. It spells the conditions, and no others.
+/// assertion. It spells the conditions, and no others. `Memory` where there is no memory.
 pub fn print_conditions(
     alloc: Global,
     name: &Ident,

@@ -16,7 +16,7 @@ use std::alloc::Global;
 use vb_base::{Ident, Pos};
 
 /// The name of the procedure on the header line of a run file, or else where the header is wrong: at the first line that is
-/// not skipped, or at the last where there is none.
+/// not skipped, or at the last where there is none. `Memory` where there is no memory.
 pub fn boogie_run_name(alloc: Global, bytes: &[u8]) -> Result<Ident, RunFileFault>
     requires { length bytes.now ≤ max_boogie_bytes }
     ensures name { IfOk result (λ x. SpellsName bytes.now x) }

@@ -34,7 +34,7 @@ use vb_base::{Ident, Memory, Pos};
 use vb_value::{Content, Key};
 
 /// The run of a procedure that the bytes of a run file spell, or else where they go wrong: at the first line that may not
-/// stand there, or at the last where the header is missing.
+/// stand there, or at the last where the header is missing. `Memory` where there is no memory.
 pub fn read_boogie_run(alloc: Global, bytes: &[u8], proc: &Proc) -> Result<BRun, RunFileFault>
     requires few { length bytes.now ≤ max_boogie_bytes }
     requires names { NamesDiffer (known (proc_of proc.now).locals).names }

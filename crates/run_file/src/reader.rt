@@ -30,7 +30,7 @@ use viper_core::Program;
 use viper_state::{Choice, Memo, Opening};
 
 /// The run of a unit that the bytes of a run file spell, or else where they go wrong: at the first line that may not
-/// stand there, or at the last where the header is missing.
+/// stand there, or at the last where the header is missing. `Memory` where there is no memory.
 pub fn read_viper_run(
     alloc: Global,
     bytes: &[u8],

@@ -1,4 +1,4 @@
-// The calls that other crates make.
+// Evaluation and opening for callers outside of these crates, by a state and a scene.
 ghost use Rattle.std.specs.Prelude.{◌≡◌, [], List, IfOk};
 ghost use Rattle.vb_value.specs.Bound.{Bounded};
 ghost use Rattle.vb_value.specs.Content.{IsWithinContent};

@@ -1,4 +1,4 @@
-// The calls that other crates make.
+// Contents, folding and unfolding for callers outside of these crates.
 ghost use Rattle.std.specs.Prelude.{◌≡◌, IfOk, Some};
 ghost use Rattle.vb_value.specs.Bound.{Bounded};
 ghost use Rattle.vb_value.specs.Content as tree;

@@ -1,4 +1,4 @@
-// The calls that other crates make.
+// Consuming, producing and forgetting for callers outside of these crates, each ended by a step.
 ghost use Rattle.std.specs.Prelude.{◌≡◌, All, IfOk, true};
 ghost use Rattle.vb_value.specs.Bound.{Bounded};
 ghost use Rattle.vb_value.specs.Fraction.{is_positive};

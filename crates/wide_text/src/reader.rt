@@ -22,6 +22,7 @@ use std::alloc::Global;
 /// These are tried in this order. `Prelude` comes exactly where they do not begin with the prelude, `Syntax` where there
 /// is a byte behind it at which neither a token nor a blank begins, `Deep` where too many brackets are unclosed at once, and
 /// `Syntax` again where the tokens spell no program: at the first token with which they begin none, or at the end.
+/// `Memory` where there is no memory.
 pub fn read_wide(alloc: Global, bytes: &[u8]) -> Result<WProgram, BoogieFault>
     requires { length bytes.now ≤ max_boogie_bytes }
     ensures program { IfOk result (λ b. IsWideRead bytes.now (wprogram_of b)) }
