@@ -40,7 +40,8 @@ pub fn start_env(
     ensures named { IfOk result (λ settings. All IsNamedSetting (map setting_of settings.items)) }
 {
     // The opening, which fits the unit, holds all that is asked of them.
-    let _ = (program, unit);
+    let _ = program;
+    let _ = unit;
     let values = front_values(alloc, opening)?;
     let settings = numbered(alloc, values)?;
     named_settings(&settings);
