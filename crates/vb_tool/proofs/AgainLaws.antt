@@ -42,7 +42,7 @@ use Rattle.enc_stmt.specs.Opened.{front_procedure, settings_from, start_settings
 use Rattle.vb_tool.specs.Procedures.{ProcedureRun}
 use Rattle.vb_tool.specs.Transfer.{FailsAgain}
 use Rattle.vb_tool.specs.Moved.{moved_run, moved_text}
-use Rattle.vb_tool.proofs.BoogieRunLaws.{settings_are}
+use Rattle.run_fits.proofs.BoogieRunLaws.{settings_are}
 use Rattle.vb_tool.proofs.BoogieVerdicts.{all_at}
 
 -- ---- settings of the first variables

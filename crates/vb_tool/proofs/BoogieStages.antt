@@ -1,14 +1,10 @@
 -- What the stages of a replay refuse, and what they tell.
-use Rattle.std.proofs.Common.{◌≡◌, ◌+◌, ◌≤◌, ℕ, ℤ, Bool as Truth, not, cond, List, [], ◌∷◌, length, get_or, map, Some, None, slice_get, refl, sym, ap, subst, arith}
+use Rattle.std.proofs.Common.{◌≡◌, ◌+◌, ◌≤◌, ℕ, Bool as Truth, not, cond, List, [], ◌∷◌, length, get_or, map, Some, None, slice_get, refl, sym, ap, subst}
 use Rattle.std.specs.List.{position, prefix_len}
 use Rattle.std.specs.Str.{bytes_eq}
-use Rattle.std.proofs.lemmas.Int.{ints}
 use Rattle.std.proofs.lemmas.List.{length-map}
-use Rattle.vb_value.specs.Bound.{IsWithin}
-use Rattle.boogie_tree.specs.Expr as t
 use Rattle.boogie_tree.specs.Program as p
 use Rattle.boogie_tree.specs.Program.{BProgram}
-use Rattle.boogie_tree.specs.Stmt as s
 use Rattle.boogie_tree.specs.Value.{BRun}
 use Rattle.boogie_tree.specs.Whole.{proc_of, program_of}
 use Rattle.boogie_tree.specs.declared.programs.BProgram.{BProgram as Program}
@@ -18,19 +14,14 @@ use Rattle.boogie_grammar.specs.Faults.{IsFault}
 use Rattle.boogie_grammar.specs.declared.faults.BoogieFault.{BoogieFault}
 use Rattle.boogie_grammar.specs.declared.faults.BoogieFault.TheVariants as fault
 use Rattle.boogie_text.specs.Answers.{IsRead, UnlessMemory}
-use Rattle.boogie_tree.specs.Literals.{IsLiteral}
-use Rattle.boogie_tree.specs.Fits.{FitsExpr, FitExprs, FitsStmt, FitStmts}
-use Rattle.boogie_text.specs.Printable.{FitsProc}
-use Rattle.boogie_text.proofs.SpelledLaws.{spelled_printable}
-use Rattle.boogie_run.specs.Start.{start_of, outcome_of, IsWithinProgram}
-use Rattle.boogie_run.specs.Within.{IsWithinExpr, AreWithinExprs, IsWithinStmt, AreWithinStmts}
+use Rattle.boogie_run.specs.Start.{start_of, outcome_of}
 use Rattle.boogie_run.specs.declared.replaying.BOutcome.{BOutcome}
 use Rattle.run_file.specs.BoogieRun.{NamesNothingAt, SpellsName, SpellsBoogieRun, GoesWrongAt}
 use Rattle.run_file.specs.Progress as run_file
 use Rattle.run_file.specs.declared.runs.RunFileFault.{RunFileFault}
 use Rattle.run_file.specs.declared.runs.RunFileFault.TheVariants as run
 use Rattle.boogie_run.proofs.StartLaws.{is_there, proc_there}
-use Rattle.vb_tool.proofs.BoogieVerdicts.{all_at, named_within}
+use Rattle.vb_tool.proofs.BoogieVerdicts.{named_within}
 use Rattle.vb_tool.specs.AcceptedReplay.{IsBoogie, NamesProcedure, IsBoogieRefusal, prelude, deep, syntax, ill_typed, header, no_procedure, run_syntax, IsReplayRefusal, of_text, of_run}
 use Rattle.vb_tool.specs.Converted.{trouble_of_boogie, trouble_of_run}
 use Rattle.vb_tool.specs.Parts.{ReplayOf}
@@ -70,56 +61,6 @@ named_there b name n d named at = proc_there b.procs.items n d (is_there b.procs
 pub names_it : (run_bytes : List ℕ) (b : Program) (name : List ℕ) (n : ℕ) (d : Proc) → SpellsName run_bytes name → procedure_named (program_of b) name ≡ Some n → d ≡ get_or b.procs.items n d →
     NamesProcedure run_bytes (program_of b) (proc_of d)
 names_it run_bytes b name n d said named at = record { name = name; header = said; number = n; named = named; is_there = named_there b name n d named at }
-
--- ---- literals
-
-literal_within : {n : ℤ} → IsLiteral n → IsWithin n
-literal_within {n} h = omega (arith, ints, h.is, h.within)
-
-mutual
-  expr_within : (n : ℕ) (b : Truth) (e : t.BExpr) → FitsExpr n b e → IsWithinExpr e
-  expr_within n b (t.Var i) h = tt
-  expr_within n b (t.Int k) h = literal_within h
-  expr_within n b (t.Real k) h = literal_within h
-  expr_within n b (t.Bool c) h = tt
-  expr_within n b t.Null h = tt
-  expr_within n b t.Unit h = tt
-  expr_within n b (t.Neg x) h = expr_within n b x h
-  expr_within n b (t.Not x) h = expr_within n b x h
-  expr_within n b (t.Bin o x y) h = (expr_within n b x h.0, expr_within n b y h.1)
-  expr_within n b (t.If x y z) h = (expr_within n b x h.0, expr_within n b y h.1, expr_within n b z h.2)
-  expr_within n b (t.Forall us x) h = expr_within n _ x h.3
-  expr_within n b (t.ToReal x) h = expr_within n b x h
-  expr_within n b (t.SInt x) h = expr_within n b x h
-  expr_within n b (t.SBool x) h = expr_within n b x h
-  expr_within n b (t.SRef x) h = expr_within n b x h
-  expr_within n b (t.SPerm x) h = expr_within n b x h
-  expr_within n b (t.Pair x y) h = (expr_within n b x h.0, expr_within n b y h.1)
-  expr_within n b (t.At i xs) h = exprs_within n b xs h.2
-  expr_within n b (t.AtBound i) h = tt
-
-  exprs_within : (n : ℕ) (b : Truth) (es : t.BExprs) → FitExprs n b es → AreWithinExprs es
-  exprs_within n b t.none h = tt
-  exprs_within n b (t.more x xs) h = (expr_within n b x h.0, exprs_within n b xs h.1)
-
-mutual
-  pub stmt_within : (n : ℕ) (x : s.BStmt) → FitsStmt n x → IsWithinStmt x
-  stmt_within n (s.Assign i e) h = expr_within n _ e h.1
-  stmt_within n (s.Put i es e) h = (exprs_within n _ es h.2, expr_within n _ e h.3)
-  stmt_within n (s.Havoc i) h = tt
-  stmt_within n (s.Assume e) h = expr_within n _ e h
-  stmt_within n (s.Assert l e) h = expr_within n _ e h
-  stmt_within n (s.If e a b) h = (expr_within n _ e h.0, stmts_within n a h.1, stmts_within n b h.2)
-  stmt_within n (s.Either a b) h = (stmts_within n a h.0, stmts_within n b h.1)
-
-  stmts_within : (n : ℕ) (xs : s.BStmts) → FitStmts n xs → AreWithinStmts xs
-  stmts_within n s.skip h = tt
-  stmts_within n (s.first x xs) h = (stmt_within n x h.0, stmts_within n xs h.1)
-
-pub program_within : (bytes : List ℕ) (q : BProgram) → IsRead bytes q → IsWithinProgram q
-program_within bytes q h n d there =
-    let fits = all_at FitsProc q.procs n d (spelled_printable bytes q h.spelled).procs there in
-    stmts_within (length d.locals) d.body fits.body
 
 -- ---- the run
 

@@ -34,7 +34,7 @@ use Rattle.run_file.proofs.AnswerLaws as answers
 use Rattle.run_file.proofs.BoogieFileLaws.{is_reader}
 use Rattle.run_file.proofs.BoogieNameLaws.{one_name, never_wrong}
 use Rattle.run_file.proofs.HeaderLaws.{header_or_place, one_header_place}
-use Rattle.vb_tool.proofs.BoogieRunLaws.{start_is, can_run}
+use Rattle.run_fits.proofs.BoogieRunLaws.{start_is, can_run}
 use Rattle.vb_tool.specs.Accepted.{HasOneAnswer, is_accepted, is_refused}
 use Rattle.vb_tool.specs.AcceptedReplay.{IsBoogie, NamesProcedure, AcceptsReplay, IsBoogieRefusal, prelude, deep, syntax, ill_typed, IsBoogieRunRefusal, header, no_procedure, run_syntax, IsReplayRefusal, size, run_size, of_text, of_run}
 use Rattle.vb_tool.specs.Procedures.{procedure_named, ProcedureRun, procedure_end}

@@ -1,5 +1,5 @@
 -- The unit of a method that has a body.
-use Rattle.std.proofs.Common.{◌≡◌, ◌∙◌, ◌<◌, ◌&&◌, ◌+◌, ℕ, Bool, true, List, length, Option, None, Some, is_some, slice_get, get_or, take, refl, sym, ap, subst}
+use Rattle.std.proofs.Common.{◌≡◌, ◌∙◌, ◌<◌, ◌&&◌, ℕ, Bool, true, List, length, Option, None, Some, is_some, slice_get, get_or, refl, sym, ap, subst}
 use Rattle.std.proofs.lemmas.Bool.{and_parts}
 use Rattle.std.proofs.lemmas.List.Quantifiers.{position-Some}
 use Rattle.std.proofs.lemmas.Option.{get_or_from_slice_get}
@@ -7,9 +7,8 @@ use Rattle.viper_core.specs.Program as p
 use Rattle.viper_core.specs.declared.programs.Unit as unit
 use Rattle.viper_core.specs.declared.programs.Unit.TheVariants as u
 use Rattle.exec_meaning.specs.Execution.{CanExecute}
-use Rattle.run_file.specs.Lines.{method_variables, unit_variables, scope_of}
-use Rattle.viper_state.specs.Fits.{FitsOpening}
-use Rattle.viper_state.specs.Run.{Opening}
+use Rattle.run_file.specs.Run.{ViperRun, SpellsViperRun}
+use Rattle.run_fits.proofs.MethodLaws as methods
 use Rattle.vb_tool.proofs.RunOfUnits.{there_is}
 use Rattle.vb_tool.specs.Executions.{body_named, has_body, is_with_body}
 use Rattle.vb_tool.specs.Units.{is_name, name_of}
@@ -29,12 +28,6 @@ of_unit q (u.Predicate k) there = absurd (cc)
 
 method_same : {w : unit.Unit} {j k : ℕ} → w ≡ u.Method j → w ≡ u.Method k → j ≡ k
 method_same {w} {j} {k} is other = let e : u.Method j ≡ u.Method k = sym is ∙ other in cc
-
--- what opens the unit of a method has values for its parameters and returns
-method_fits : (q : p.Program) (n k : ℕ) (m : p.Method) → slice_get q.units n ≡ Some (u.Method k) → slice_get q.methods k ≡ Some m → (o : Opening) →
-    FitsOpening q.layout (scope_of q n).variables.types o → FitsOpening q.layout (take (m.params + m.returns) m.vars) o
-method_fits q n k m unit_is method_is o fits =
-    subst (λ x. FitsOpening q.layout (method_variables x).types o) method_is (subst (λ x. FitsOpening q.layout (unit_variables q x).types o) unit_is fits)
 
 module _ (q : p.Program) (word : List ℕ) (n : ℕ) (named : body_named q word ≡ Some n) where
   abbrev Named : unit.Unit → Bool
@@ -68,10 +61,10 @@ module _ (q : p.Program) (word : List ℕ) (n : ℕ) (named : body_named q word 
       (k, same, is ∙ ap (λ x. Some x) (sym same))
 
   -- and it can be executed
-  pub can_execute : (w : unit.Unit) (k : ℕ) → w ≡ get_or q.units n w → w ≡ u.Method k → (o : Opening) → FitsOpening q.layout (scope_of q n).variables.types o → CanExecute q k o
-  can_execute w k at is o fits =
+  pub can_execute : (w : unit.Unit) (k : ℕ) → w ≡ get_or q.units n w → w ≡ u.Method k → (bytes : List ℕ) (run : ViperRun) → SpellsViperRun bytes q n run → CanExecute q k run.opening
+  can_execute w k at is bytes run spelled =
       let there = (unit_is w at).2 in
       let (j, m, body, unit_is, method_is, body_is) = method_there w there in
       let same : j ≡ k = method_same unit_is is in
       let its = subst (λ x. slice_get q.methods x ≡ Some m) same method_is in
-      record { method = m; body = body; exists = its; has_body = body_is; fits = method_fits q n k m (there ∙ ap (λ x. Some x) is) its o fits }
+      methods.can_execute bytes q n k m body run (there ∙ ap (λ x. Some x) is) its body_is spelled

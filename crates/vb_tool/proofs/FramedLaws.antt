@@ -60,7 +60,7 @@ module _ {bytes name run_bytes : List ℕ} {r : MethodRun} (h : AcceptsExecution
   executes : CanExecute r.program r.number r.run.opening
   executes =
       can_execute r.program name r.unit h.named (u.Method r.number) r.number (sym (get_or_from_slice_get r.program.units r.unit (u.Method r.number) (u.Method r.number) h.is_method)) refl
-      r.run.opening (spelled_good run_bytes r.program r.unit r.run h.spelled).opening_fits
+      run_bytes r.run h.spelled
 
   reduced : All IsReducedChoice r.run.choices
   reduced =

@@ -7,7 +7,6 @@ pub mod AgainLaws
 pub mod MovedLaws
 pub mod TransferLaws
 pub mod RunStages
-pub mod BoogieRunLaws
 pub mod BoogieVerdicts
 pub mod BoogieStages
 pub mod AloneLaws

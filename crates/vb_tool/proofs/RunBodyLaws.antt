@@ -23,7 +23,7 @@ use Rattle.boogie_text.specs.Tail.{BeginsEnd, BeginsStatement}
 use Rattle.boogie_meaning.specs.Types.{IsTypedStmt}
 use Rattle.vb_tool.proofs.BegunLaws.{IsGone, gone_none, gone_one, gone_all}
 use Rattle.run_file.specs.BoogieRun.{SpellsBoogieRun}
-use Rattle.vb_tool.proofs.BoogieStages.{stmt_within}
+use Rattle.run_fits.proofs.LiteralLaws.{stmt_within}
 use Rattle.vb_tool.specs.Alone.{IsDone, IsMade, RunsBody}
 use Rattle.vb_tool.specs.declared.alone.Made.TheVariants as made
 use Rattle.vb_tool.specs.declared.alone.Task.TheVariants as task

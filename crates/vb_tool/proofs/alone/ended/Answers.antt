@@ -1,7 +1,7 @@
 use Rattle.std.proofs.Common.{sym, subst}
 use Rattle.vb_base.specs.Names.{NamesDiffer}
 use Rattle.boogie_tree.specs.Whole.{proc_of, run_of}
-use Rattle.vb_tool.proofs.BoogieRunLaws.{can_run}
+use Rattle.run_fits.proofs.BoogieRunLaws.{can_run}
 use Rattle.vb_tool.proofs.RunBodyLaws.{ended_so}
 use Rattle.vb_tool.proofs.alone.ended.Goals as goal
 use Rattle.vb_tool.specs.Alone.{RunsBody}

@@ -8,7 +8,7 @@ use Rattle.boogie_run.specs.Stepped.{run_in}
 use Rattle.boogie_run.specs.Typed.{types_in}
 use Rattle.boogie_text.specs.Tail.{BeginsStatement}
 use Rattle.vb_tool.proofs.BegunLaws.{stmt_typed}
-use Rattle.vb_tool.proofs.BoogieStages.{stmt_within}
+use Rattle.run_fits.proofs.LiteralLaws.{stmt_within}
 use Rattle.vb_tool.proofs.RunBodyLaws.{run_none, run_one, run_ready, never_wrong, types_then}
 use Rattle.vb_tool.proofs.bodies.run_body.Goals as goal
 

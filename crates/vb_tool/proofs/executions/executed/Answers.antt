@@ -35,7 +35,7 @@ pub exec_method-requires-clause-opens : goal.exec_method-requires-clause-opens
 exec_method-requires-clause-opens c =
     let q = program_of c.in_ok-program.program in
     can_execute q c.args.name.now c.in-Some.unit (sym c.body_named.ensures ∙ c.in-Some.is) c.index.result.now c.in-Method.method c.index.ensures c.in-Method.is
-    (run_of c.in_ok-run.run').opening (spelled_good c.args.run_bytes.now q c.in-Some.unit (run_of c.in_ok-run.run') c.in_ok-run.ensures.run).opening_fits
+    c.args.run_bytes.now (run_of c.in_ok-run.run') c.in_ok-run.ensures.run
 
 pub exec_method-requires-clause-opening_within : goal.exec_method-requires-clause-opening_within
 exec_method-requires-clause-opening_within c = (spelled_good c.args.run_bytes.now (program_of c.in_ok-program.program) c.in-Some.unit (run_of c.in_ok-run.run') c.in_ok-run.ensures.run).opening_within

@@ -3,9 +3,10 @@ use Rattle.std.proofs.lemmas.Result.{err_from_is_err_and}
 use Rattle.boogie_tree.specs.Whole.{program_of, proc_of, run_of}
 use Rattle.boogie_run.specs.Start.{CanRun}
 use Rattle.boogie_run.proofs.StartLaws.{same_proc}
+use Rattle.run_fits.proofs.LiteralLaws.{program_within}
 use Rattle.vb_tool.specs.Procedures.{procedure_named}
-use Rattle.vb_tool.proofs.BoogieRunLaws.{can_run}
-use Rattle.vb_tool.proofs.BoogieStages.{named_there, names_it, program_within, text_refused, header_refused, name_refused, run_refused, replay_is}
+use Rattle.run_fits.proofs.BoogieRunLaws.{can_run}
+use Rattle.vb_tool.proofs.BoogieStages.{named_there, names_it, text_refused, header_refused, name_refused, run_refused, replay_is}
 use Rattle.vb_tool.proofs.BoogieVerdicts.{names_differ}
 use Rattle.vb_tool.proofs.CallLaws.{error_is}
 use Rattle.vb_tool.proofs.procedures.replayed_in_whole.Goals as goal

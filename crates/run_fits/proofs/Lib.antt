@@ -1,0 +1,3 @@
+pub mod BoogieRunLaws
+pub mod LiteralLaws
+pub mod MethodLaws
