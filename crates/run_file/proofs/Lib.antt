@@ -40,3 +40,6 @@ pub mod BoogiePrintedMaps
 pub mod BoogiePrintedRuns
 pub mod MovedPrintLaws
 mod NamedLists
+pub mod NamedMaps
+pub mod NamedFits
+pub mod BoogieNamedLaws

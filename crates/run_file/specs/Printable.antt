@@ -1,5 +1,6 @@
 -- The runs that a printed text spells: they fit the program, are within the bound, and have references that a run file can name.
 use Rattle.std.specs.Prelude.{⊤, ℕ, All}
+use Rattle.sparse.specs.Map.{Map, keys, values}
 use Rattle.viper_core.specs.Program.{Program}
 use Rattle.viper_state.specs.Choice.{Choice, Branch, Took, Amount, Fresh, Filled}
 use Rattle.viper_state.specs.Fits.{FitsOpening, FitsChoice}
@@ -22,8 +23,34 @@ IsNamedChoice (Amount q) = ⊤
 IsNamedChoice (Fresh r) = IsNamed r
 IsNamedChoice (Filled m) = IsNamedMemo m
 
+-- ---- what the references of the code give of this by themselves: it is said of the keys and values of each map, and not of
+-- its default
+
+pub record AreNamed {K V : Type 0} (P : K → Type 0) (Q : V → Type 0) (m : Map K V) : Type 0 where
+  pub keys : All P (keys m)
+  pub values : All Q (values m)
+
+pub record NamesMemo (m : Memo) : Type 0 where
+  pub heap : All (AreNamed IsNamed IsNamedValue) m.heap
+  pub content : All (AreNamed IsNamedKey IsNamedContent) m.content
+
+abbrev pub NamesChoice : Choice → Type 0
+NamesChoice (Branch b) = ⊤
+NamesChoice (Took v) = IsNamedValue v
+NamesChoice (Amount q) = ⊤
+NamesChoice (Fresh r) = IsNamed r
+NamesChoice (Filled m) = NamesMemo m
+
 -- ---- runs
 
+-- the opening fits the unit, the choices fit the program, and all is within the bound
+pub record FitsWithin (p : Program) (n : ℕ) (run : ViperRun) : Type 0 where
+  pub opening_fits : FitsOpening p.layout (scope_of p n).variables.types run.opening
+  pub choices_fit : All (FitsChoice p.layout) run.choices
+  pub opening_within : IsWithinOpening run.opening
+  pub choices_within : All IsWithinChoice run.choices
+
+-- so is this run, and its references are below 2^64
 pub record IsPrintable (p : Program) (n : ℕ) (run : ViperRun) : Type 0 where
   pub opening_fits : FitsOpening p.layout (scope_of p n).variables.types run.opening
   pub choices_fit : All (FitsChoice p.layout) run.choices

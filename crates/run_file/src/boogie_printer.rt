@@ -5,13 +5,14 @@ ghost use Rattle.boogie_tree.specs.Value as v;
 ghost use Rattle.boogie_tree.specs.Whole.{choice_of, entry_of, locals_of, local_of, proc_of, run_of, scalar_of, setting_of, value_of};
 ghost use Rattle.moves.specs.Printable.{IsNamedEntry, IsNamedKey, IsNamedMove, IsNamedScalar};
 ghost use Rattle.run_file.specs.BoogieLines.{known};
-ghost use Rattle.run_file.specs.BoogiePrintable.{IsPrintable, KeepsNames};
+ghost use Rattle.run_file.specs.BoogiePrintable.{FitsWithin, KeepsNames};
 ghost use Rattle.run_file.specs.BoogiePrinted as text;
 ghost use Rattle.run_file.specs.BoogieRun.{entries_of, SpellsBoogieRun};
 ghost use Rattle.run_file.specs.BoogieView.{filling_of, found_value, found_values};
 ghost use Rattle.run_file.specs.Printed.{named_text, numbered_text};
 
 use crate::boogie_values::is_default;
+use crate::named::named_settings;
 use crate::printer::{put_content, put_fraction, put_key, put_number, put_reference, truth_text};
 use boogie_tree::{BChoice, BRun, BScalar, BSetting, BValue, Entry, Local, Proc};
 use sparse::Sparse;
@@ -20,12 +21,12 @@ use vb_base::{Ident, Memory, put};
 use vb_value::Key;
 
 /// The text of a run of a procedure: the header, the variables other than their default in order of declaration, and the
-/// choices in order. Where settings name a variable twice, the last counts.
+/// choices in order. Where settings name a variable twice, the last counts. `Memory` where there is no memory.
 pub fn print_boogie_run(alloc: Global, proc: &Proc, run: &BRun) -> Result<Vec<u8>, Memory>
     ensures bytes { IfOk result (λ out. out.items ≡ text.run_text (proc_of proc.now) (run_of run.now)) }
 
-    // and so they spell the run
-    ensures spells { IfOk result (λ out. KeepsNames (proc_of proc.now) → IsPrintable (proc_of proc.now) (run_of run.now) →
+    // and so they spell the run, where its settings give variables values of their types, and all is within the bound
+    ensures spells { IfOk result (λ out. KeepsNames (proc_of proc.now) → FitsWithin (proc_of proc.now) (run_of run.now) →
         SpellsBoogieRun out.items (proc_of proc.now) (run_of run.now)) }
 
     // each reference of the code is below 2^64, so that of what is printable this need not be asked of the choices
@@ -34,6 +35,7 @@ pub fn print_boogie_run(alloc: Global, proc: &Proc, run: &BRun) -> Result<Vec<u8
     let mut out = Vec::new(alloc);
     put_beginning(alloc, &mut out, proc, &run.settings)?;
     put_choices(&mut out, &run.choices)?;
+    named_settings(&run.settings);
     Ok(out)
 }
 

@@ -14,6 +14,7 @@ pub mod laws;
 mod lines;
 mod memos;
 mod moved_printer;
+mod named;
 mod named_sets;
 mod names;
 mod printer;

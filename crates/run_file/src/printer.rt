@@ -8,11 +8,12 @@ ghost use Rattle.viper_core.specs.Program as p;
 ghost use Rattle.viper_core.specs.View.{predicate_of, program_of};
 ghost use Rattle.viper_state.specs.View.{choice_of, contents_of, memo_of};
 ghost use Rattle.moves.specs.Printable.{IsNamed, IsNamedContent, IsNamedKey, IsNamedPart, IsNamedValue};
-ghost use Rattle.run_file.specs.Printable.{IsPrintable};
+ghost use Rattle.run_file.specs.Printable.{FitsWithin};
 ghost use Rattle.run_file.specs.Printed as text;
 ghost use Rattle.run_file.specs.Run.{SpellsViperRun};
 ghost use Rattle.run_file.specs.View.{run_of};
 
+use crate::named::named_run;
 use crate::names::variables_of;
 use crate::runs::ViperRun;
 use digits::Digits;
@@ -23,7 +24,7 @@ use vb_value::{Content, Frac, Key, KeyPart, Value};
 use viper_core::{Predicate, Program};
 use viper_state::{Choice, Memo};
 
-/// The text of a run of a unit: the header, the variables other than their default, heap and contents, and the choices.
+/// The text of a run of a unit: the header, the variables other than their default, heap and contents, and the choices. `Memory` where there is no memory.
 pub fn print_viper_run(
     alloc: Global,
     program: &Program,
@@ -32,8 +33,8 @@ pub fn print_viper_run(
 ) -> Result<Vec<u8>, Memory>
     ensures bytes { IfOk result (λ out. out.items ≡ text.run_text (program_of program.now) unit (run_of run.now)) }
 
-    // and so they spell the run
-    ensures spells { IfOk result (λ out. IsFormed (program_of program.now) → IsPrintable (program_of program.now) unit (run_of run.now) →
+    // and so they spell the run, where its opening fits the unit, its choices fit the program, and all is within the bound
+    ensures spells { IfOk result (λ out. IsFormed (program_of program.now) → FitsWithin (program_of program.now) unit (run_of run.now) →
         SpellsViperRun out.items (program_of program.now) unit (run_of run.now)) }
 {
     let (names, _) = variables_of(program, unit);
@@ -42,6 +43,7 @@ pub fn print_viper_run(
     put_variables(&mut out, names, &run.opening.store)?;
     put_memo(&mut out, program, &run.opening.memo)?;
     put_choices(&mut out, program, &run.choices)?;
+    named_run(run);
     Ok(out)
 }
 

@@ -1,13 +1,18 @@
 use Rattle.std.proofs.Common.{rules, sym, subst}
 use Rattle.boogie_tree.specs.Whole.{proc_of, run_of}
 use Rattle.run_file.specs.BoogieRun.{SpellsBoogieRun}
+use Rattle.run_file.proofs.BoogieNamedLaws.{printable}
 use Rattle.run_file.proofs.BoogiePrintedRuns.{run_spelled}
 use Rattle.run_file.proofs.boogie_printer.print_boogie_run.Goals as goal
 
 pub returns-clause-bytes : goal.returns-clause-bytes
 returns-clause-bytes c = search rules
 
+pub returns-clause-named : goal.returns-clause-named
+returns-clause-named c = search rules
+
 pub returns-clause-spells : goal.returns-clause-spells
 returns-clause-spells c = λ names h.
+    let good = printable (proc_of c.args.proc.now) (run_of c.args.run.now) h c.named_settings.ensures (returns-clause-named c) in
     subst (λ bytes. SpellsBoogieRun bytes (proc_of c.args.proc.now) (run_of c.args.run.now)) (sym (returns-clause-bytes c))
-    (run_spelled (proc_of c.args.proc.now) (run_of c.args.run.now) names h)
+    (run_spelled (proc_of c.args.proc.now) (run_of c.args.run.now) names good)
