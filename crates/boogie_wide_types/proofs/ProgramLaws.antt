@@ -1,5 +1,5 @@
 -- The number of the first ill-typed procedure, one procedure after the other.
-use Rattle.std.proofs.Common.{◌≡◌, ◌∙◌, ◌↔◌, ℕ, suc, ◌+◌, true, false, Option, Some, None, IfSome, IsNone, List, ◌∷◌, map, refl, sym, ap, arith}
+use Rattle.std.proofs.Common.{◌≡◌, ◌∙◌, ◌↔◌, ℕ, suc, ◌+◌, true, false, Option, Some, None, IfSome, IsNone, is_some, List, ◌∷◌, map, refl, sym, ap, arith}
 use Rattle.std.specs.Option.{option_map}
 use Rattle.boogie_wide.specs.Wide as w
 use Rattle.boogie_wide.specs.View.{wproc_of}
@@ -19,10 +19,14 @@ module _ (ps : List w.WProc) where
       option_map (λ m. n + m) (ill_typed_wide ps (map wproc_of (d ∷ ds))) ≡ option_map (λ m. (n + 1) + m) (ill_typed_wide ps (map wproc_of ds))
   at_typed n d ds h = rw h (number_after n (ill_typed_wide ps (map wproc_of ds)))
 
+none_is : {X : Type 0} (o : Option X) → IsNone o → o ≡ None
+none_is None h = refl
+none_is (Some x) h = absurd (cc)
+
 -- what is answered of a program whose procedures these are
 module _ (program : w.WProgram) (o : Option ℕ) (is : o ≡ ill_typed_wide program.procs program.procs) where
   pub none_where_typed : IsNone o ↔ IsWideProgram program
-  none_where_typed = ((λ none. none_ill_typed program (sym is ∙ none)), (λ typed. is ∙ none_ill_typed_back program typed))
+  none_where_typed = ((λ none. none_ill_typed program (sym is ∙ none_is o none)), (λ typed. ap is_some (is ∙ none_ill_typed_back program typed)))
 
   pub some_is_first : IfSome o (IsFirstIllTypedWide program)
   some_is_first = at o is

@@ -1,5 +1,6 @@
-use Rattle.std.proofs.Common.{rules, sym, subst}
-use Rattle.boogie_tree.specs.Whole.{proc_of, run_of}
+use Rattle.std.proofs.Common.{rules, sym, subst, map, All}
+use Rattle.boogie_tree.specs.Whole.{proc_of, run_of, setting_of}
+use Rattle.run_file.specs.BoogiePrintable.{IsNamedSetting}
 use Rattle.run_file.specs.BoogieRun.{SpellsBoogieRun}
 use Rattle.run_file.proofs.BoogieNamedLaws.{printable}
 use Rattle.run_file.proofs.BoogiePrintedRuns.{run_spelled}
@@ -13,6 +14,7 @@ returns-clause-named c = search rules
 
 pub returns-clause-spells : goal.returns-clause-spells
 returns-clause-spells c = λ names h.
-    let good = printable (proc_of c.args.proc.now) (run_of c.args.run.now) h c.named_settings.ensures (returns-clause-named c) in
+    let named = subst (λ settings. All IsNamedSetting (map setting_of settings)) c.deref-3.ensures.value c.named_settings.ensures in
+    let good = printable (proc_of c.args.proc.now) (run_of c.args.run.now) h named (returns-clause-named c) in
     subst (λ bytes. SpellsBoogieRun bytes (proc_of c.args.proc.now) (run_of c.args.run.now)) (sym (returns-clause-bytes c))
     (run_spelled (proc_of c.args.proc.now) (run_of c.args.run.now) names good)
