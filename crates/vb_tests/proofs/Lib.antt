@@ -1,3 +1,4 @@
 pub mod CodeLaws
 pub mod FileLaws
 pub mod FitsLaws
+pub mod RunLaws

@@ -13,6 +13,8 @@ mod codes;
 #[cfg(test)]
 mod devices;
 #[cfg(test)]
+mod executions;
+#[cfg(test)]
 mod expressions;
 #[cfg(test)]
 mod files;
@@ -34,6 +36,8 @@ mod numbers;
 mod procedures;
 #[cfg(test)]
 mod programs;
+#[cfg(test)]
+mod replays;
 #[cfg(test)]
 mod rows;
 #[cfg(test)]

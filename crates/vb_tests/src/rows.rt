@@ -1,7 +1,7 @@
 // The rows of the tables: what each kind of them tells, and their words.
 use crate::{
-    assertions, bexprs, bodies, codes, devices, expressions, folds, labels, maps, numbers,
-    programs, runs, sent, statements, states, tokens, values,
+    assertions, bexprs, bodies, codes, devices, executions, expressions, folds, labels, maps,
+    numbers, programs, replays, runs, sent, statements, states, tokens, values,
 };
 use std::alloc::Global;
 use std::process::Abort;
@@ -87,6 +87,8 @@ pub(crate) enum Ends {
     Program,
     Token,
     Expr,
+    Replay,
+    Execution,
 }
 
 /// What came of a row, where the row says otherwise. `start` is what stands in the file before the row.
@@ -107,6 +109,8 @@ fn other_end(alloc: Global, ends: Ends, start: &str, row: &str) -> Result<Option
         Ends::Program => programs::wrong_program(alloc, row),
         Ends::Token => tokens::wrong_row(alloc, row),
         Ends::Expr => bexprs::wrong_row(alloc, row),
+        Ends::Replay => replays::wrong_row(alloc, start, row),
+        Ends::Execution => executions::wrong_row(alloc, start, row),
     }
 }
 
