@@ -1,0 +1,15 @@
+pub mod ClauseLaws
+pub mod EquationLaws
+pub mod HeadLaws
+pub mod PlaceLaws
+pub mod RefuteLaws
+pub mod GateLaws
+pub mod EqualityLaws
+pub mod ContentLaws
+pub mod ListLaws
+pub mod OrderLaws
+pub mod FractionLaws
+pub mod ScalarLaws
+pub mod NumberValues
+pub mod NumberReasons
+pub mod ProductReasons

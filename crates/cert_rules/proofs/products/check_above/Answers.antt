@@ -1,0 +1,7 @@
+use Rattle.cert_rules.proofs.ProductReasons.{above_is_law}
+use Rattle.cert_rules.proofs.products.check_above.Goals as goal
+
+pub returns : goal.returns
+returns c =
+    let sums = c.in_ok-check_crossed.ensures in
+    above_is_law _ _ c.in_ok-truth.ensures c.in_ok-truth-2.ensures c.in_ok-truth-3.ensures c.in_ok-one.ensures c.in_ok-two.ensures c.in_ok-sums.ensures sums.less sums.more

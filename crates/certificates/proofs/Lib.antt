@@ -1,0 +1,4 @@
+pub mod EndLaws
+pub mod KindLaws
+pub mod ShownLaws
+pub mod TheoremLaws
