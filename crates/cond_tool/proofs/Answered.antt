@@ -18,11 +18,11 @@ first_same e = cc
 second_same : {x y z w : List ℕ} → x ∷ y ∷ [] ≡ z ∷ w ∷ [] → y ≡ w
 second_same e = cc
 
-same_file : (files : Option Files) (file a b : List ℕ) → IsFile files file a → IsWhole files file b → a ≡ b
+pub same_file : (files : Option Files) (file a b : List ℕ) → IsFile files file a → IsWhole files file b → a ≡ b
 same_file None file a b is also = absurd is
 same_file (Some files) file a b is also = let e : Some a ≡ Some b = sym is ∙ also in cc
 
-not_missing : (files : Option Files) (file a : List ℕ) → IsWhole files file a → IsMissing files file → ⊥
+pub not_missing : (files : Option Files) (file a : List ℕ) → IsWhole files file a → IsMissing files file → ⊥
 not_missing None file a is missing = missing
 not_missing (Some files) file a is missing = let e : Some a ≡ None = sym is ∙ missing in absurd (cc)
 

@@ -29,7 +29,7 @@ error_is {d = d} {e = e} first other = let same : Err d ≡ Err e = sym first �
 -- ---- the file
 
 -- some bytes that are too long
-long_bytes : (files : Option Files) (name : List ℕ) (limit : ℕ) → IsLonger files name limit → (bytes : List ℕ) × IsWhole files name bytes × (limit < length bytes)
+pub long_bytes : (files : Option Files) (name : List ℕ) (limit : ℕ) → IsLonger files name limit → (bytes : List ℕ) × IsWhole files name bytes × (limit < length bytes)
 long_bytes None name limit longer = (replicate (limit + 1) 0, tt, omega (arith, length-replicate {A = ℕ} (limit + 1) 0))
 long_bytes (Some files) name limit longer = longer
 

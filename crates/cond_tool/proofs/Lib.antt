@@ -1,4 +1,4 @@
-mod Verdicts
+pub mod Verdicts
 mod StageLaws
-mod CallLaws
-mod Answered
+pub mod CallLaws
+pub mod Answered

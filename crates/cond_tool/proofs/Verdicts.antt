@@ -80,7 +80,7 @@ nobody = record { name = []; locals = []; body = skip }
 pub named_within : (q : BProgram) (name : List ℕ) (n : ℕ) → procedure_named q name ≡ Some n → n < length q.procs
 named_within q name n e = (position-Some (λ (d : Proc). bytes_eq d.name name) q.procs n nobody e).0
 
-there_is : {X : Type 0} (xs : List X) (n : ℕ) → n < length xs → (x : X) × (slice_get xs n ≡ Some x)
+pub there_is : {X : Type 0} (xs : List X) (n : ℕ) → n < length xs → (x : X) × (slice_get xs n ≡ Some x)
 there_is [] n lt = absurd (omega (arith, lt))
 there_is (x ∷ xs) zero lt = (x, refl)
 there_is (x ∷ xs) (suc n) lt = there_is xs n (omega (arith, lt))

@@ -11,4 +11,6 @@ mod status;
 mod trouble;
 
 pub use command::tool;
+pub use stages::accepted;
 pub use status::{Refusal, Status};
+pub use trouble::Trouble;

@@ -1,5 +1,5 @@
 // From a file to the text of the conditions of one of its procedures.
-ghost use Rattle.std.specs.Prelude.{◌≡◌, ◌⊎◌, ◌≤◌, length, IfOk, IsErrOf, position};
+ghost use Rattle.std.specs.Prelude.{◌≡◌, ◌⊎◌, ◌≤◌, length, Some, IfOk, IsErrOf, position};
 ghost use Rattle.std.specs.Str.{bytes_eq};
 ghost use Rattle.vb_base.specs.Limits.{max_boogie_bytes};
 ghost use Rattle.vb_outer.specs.Faults.{Rose};
@@ -54,6 +54,23 @@ fn is_named(proc: &Proc, name: &[u8]) -> bool
     proc.name.bytes() == name
 }
 
+/// The well-typed program of a file, and the number of its procedure of this name.
+///
+/// A file that is refused is `Refused`, for the reason that the contract tells. `Memory` where there is no memory.
+pub fn accepted(alloc: Global, bytes: &[u8], name: &str) -> Result<(BProgram, usize), Trouble>
+    requires { length bytes.now ≤ max_boogie_bytes }
+    ensures accepted { IfOk result (λ r. IsBoogie bytes.now (program_of r.0)) }
+    ensures named { IfOk result (λ r. procedure_named (program_of r.0) name.now ≡ Some r.1) }
+    ensures refused { (r : Refusal) → IsErrOf result (Trouble.Refused r) → IsRefusal bytes.now name.now r }
+    ensures read { IsErrOf result Trouble.Read → ⊥ }
+{
+    let program = boogie_program(alloc, bytes)?;
+    match procedure_named(&program, name.as_bytes()) {
+        Some(number) => Ok((program, number)),
+        None => Err(Trouble::Refused(Refusal::NoProcedure)),
+    }
+}
+
 /// The text of the conditions of the procedure of this name, of the program of a file.
 fn stated(alloc: Global, bytes: &[u8], name: &str) -> Result<Vec<u8>, Trouble>
     requires { length bytes.now ≤ max_boogie_bytes }
@@ -61,10 +78,7 @@ fn stated(alloc: Global, bytes: &[u8], name: &str) -> Result<Vec<u8>, Trouble>
     ensures refused { (r : Refusal) → IsErrOf result (Trouble.Refused r) → IsRefusal bytes.now name.now r }
     ensures read { IsErrOf result Trouble.Read → ⊥ }
 {
-    let program = boogie_program(alloc, bytes)?;
-    let Some(number) = procedure_named(&program, name.as_bytes()) else {
-        return Err(Trouble::Refused(Refusal::NoProcedure));
-    };
+    let (program, number) = accepted(alloc, bytes, name)?;
     let made = conditions(alloc, &program, number)?;
     let text = print_conditions(alloc, &program.procs[number].name, &made)?;
     Ok(text)

@@ -1,0 +1,3 @@
+mod StageLaws
+mod CallLaws
+mod Answered

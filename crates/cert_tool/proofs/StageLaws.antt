@@ -1,0 +1,91 @@
+-- What the steps from two files to what is shown come to.
+use Rattle.std.proofs.Common.{◌≡◌, ◌⊎◌, inl, inr, ◌<◌, ◌≤◌, ℕ, List, length, Option, Some, Result, Ok, Err, IfOk, slice_get, refl, subst}
+use Rattle.vb_outer.specs.Shelf.{Files, IsMissing, IsWhole, IsLonger}
+use Rattle.vb_outer.specs.Faults.{Rose}
+use Rattle.vb_outer.specs.declared.fault.FileFault.{FileFault}
+use Rattle.vb_outer.specs.declared.fault.FileFault.TheVariants as file
+use Rattle.vb_outer.proofs.FaultLaws.{rose_earlier}
+use Rattle.boogie_tree.specs.Program.{Proc, BProgram}
+use Rattle.boogie_tree.specs.Whole.{program_of}
+use Rattle.boogie_tree.specs.declared.programs.BProgram.{BProgram as Program}
+use Rattle.cond_tool.specs.Accepted.{Accepts, IsBoogie, procedure_named}
+use Rattle.cond_tool.specs.Call.{Refuses}
+use Rattle.cond_tool.specs.declared.status.Refusal as b
+use Rattle.cond_tool.specs.declared.trouble.Trouble as bt
+use Rattle.cond_tool.specs.declared.trouble.Trouble.TheVariants as boogie
+use Rattle.cond_tool.proofs.CallLaws.{long_bytes}
+use Rattle.cond_tool.proofs.Verdicts.{named_within, there_is}
+use Rattle.certificates.specs.declared.unshown.Unshown.{Unshown}
+use Rattle.certificates.specs.declared.unshown.Unshown.TheVariants as unshown
+use Rattle.cert_tool.specs.Call.{HasProcedure, HasCertificate, IsOfLine, of_line, IsOfCertificate, large, IsRefused, of_boogie, IsUnread, no_certificate, failed, IsShown}
+use Rattle.cert_tool.specs.Parts.{trouble_of_file, trouble_of_boogie, trouble_of_certificate, IsFound}
+use Rattle.cert_tool.specs.Shown.{NeverFails}
+use Rattle.cert_tool.specs.declared.status.Refusal.{Refusal}
+use Rattle.cert_tool.specs.declared.status.Refusal.TheVariants as refusal
+use Rattle.cert_tool.specs.declared.trouble.Trouble.TheVariants as trouble
+
+-- ---- what a fault of a part comes to
+
+pub line_refused : (u : Unshown) (r : Refusal) → trouble_of_certificate u ≡ trouble.Refused r → IsOfLine r
+line_refused unshown.Memory r is_r = absurd (cc)
+line_refused (unshown.Refused n why) r is_r = let same : refusal.Certificate n why ≡ r = cc in subst IsOfLine same of_line
+
+pub line_unread : (u : Unshown) → trouble_of_certificate u ≡ trouble.Read → ⊥
+line_unread unshown.Memory is = absurd (cc)
+line_unread (unshown.Refused n why) is = absurd (cc)
+
+-- a certificate that is refused unread is too large
+pub size_refused : (files : Option Files) (certificate : List ℕ) (fault : FileFault) (r : Refusal) → (fault ≡ file.Long → IsLonger files certificate 33554432) →
+    trouble_of_file fault ≡ trouble.Refused r → IsOfCertificate files certificate r
+size_refused files certificate file.Memory r long is_r = absurd (cc)
+size_refused files certificate file.Failed r long is_r = absurd (cc)
+size_refused files certificate file.Long r long is_r =
+    let same : refusal.CertificateSize ≡ r = cc in
+    let (text, is, above) = long_bytes files certificate 33554432 (long refl) in
+    subst (IsOfCertificate files certificate) same (large (record { text = text; is = is; large = above }))
+
+-- the first file is refused as it is for its conditions
+pub boogie_refused : (files : Option Files) (path name certificate : List ℕ) (t : bt.Trouble) (r : Refusal) → ((q : b.Refusal) → t ≡ boogie.Refused q → Refuses (IsWhole files) path name q) →
+    trouble_of_boogie t ≡ trouble.Refused r → IsRefused files path name certificate r
+boogie_refused files path name certificate boogie.Memory r refuses is_r = absurd (cc)
+boogie_refused files path name certificate boogie.Read r refuses is_r = absurd (cc)
+boogie_refused files path name certificate (boogie.Refused q) r refuses is_r =
+    let same : refusal.Boogie q ≡ r = cc in
+    subst (IsRefused files path name certificate) same (of_boogie (refuses q refl))
+
+-- ---- what both files come to
+
+pub are_found : (files : Option Files) (path name bytes : List ℕ) (result : Result (Program × ℕ) bt.Trouble) → IsWhole files path bytes → IfOk result (λ r. IsBoogie bytes (program_of r.0)) →
+    IfOk result (λ r. procedure_named (program_of r.0) name ≡ Some r.1) → IfOk result (λ r. IsFound (IsWhole files) path name (program_of r.0) r.1)
+are_found files path name bytes (Ok r) is accepted named = record { bytes = bytes; is = is; accepted = accepted; named = named }
+are_found files path name bytes (Err e) is accepted named = tt
+
+module _ (files : Option Files) {path name : List ℕ} {program : BProgram} {number : ℕ} (found : IsFound (IsWhole files) path name program number) where
+  found_within : number < length program.procs
+  found_within = named_within program name number found.named
+
+  found_there : (d : Proc) × (slice_get program.procs number ≡ Some d)
+  found_there = there_is program.procs number found_within
+
+  found_accepts : Accepts found.bytes name found_there.0
+  found_accepts = record { program = program; accepted = found.accepted; number = number; named = found.named; is_there = found_there.1 }
+
+  pub found_procedure : HasProcedure (IsWhole files) path name
+  found_procedure = record {
+    bytes = found.bytes;
+    is = found.is;
+    procedure = found_there.0;
+    accepted = found_accepts;
+  }
+
+  pub found_shown : {certificate : List ℕ} → ((d : Proc) → slice_get program.procs number ≡ Some d → NeverFails d) → HasCertificate (IsWhole files) certificate → IsShown files path name certificate
+  found_shown never there = record {
+    verified = record { bytes = found.bytes; is = found.is; procedure = found_there.0; accepted = found_accepts; holds = never found_there.0 found_there.1 };
+    is_there = there;
+  }
+
+-- the certificate is looked for after the first file, among the same files
+pub is_unread : {files also : Option Files} {path name certificate : List ℕ} {first middle last : ℕ} → also ≡ files → HasProcedure (IsWhole files) path name → first ≤ middle →
+    IsMissing also certificate ⊎ Rose middle last → IsUnread files path name certificate first last
+is_unread {certificate = certificate} same has later (inl missing) = no_certificate has (subst (λ f. IsMissing f certificate) same missing)
+is_unread {first = first} {middle} {last} same has later (inr rose) = failed (rose_earlier first middle last later rose)

@@ -1,0 +1,4 @@
+pub mod Status
+pub mod Shown
+pub mod Call
+pub mod Parts

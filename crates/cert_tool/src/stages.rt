@@ -1,0 +1,97 @@
+// From a file of Boogie and a certificate to what is shown.
+ghost use Rattle.std.specs.Prelude.{◌≡◌, ◌⊎◌, ◌<◌, ◌≤◌, length, Some, slice_get, IfOk, IsOk, IsErrOf};
+ghost use Rattle.vb_outer.specs.Faults.{Rose};
+ghost use Rattle.vb_outer.specs.Shelf.{IsMissing, IsWhole};
+ghost use Rattle.boogie_tree.specs.Program as p;
+ghost use Rattle.boogie_tree.specs.Whole.{program_of};
+ghost use Rattle.boogie_meaning.specs.Programs.{IsTypedProgram};
+ghost use Rattle.cond_tool.specs.Call.{Refuses};
+ghost use Rattle.cond_tool.specs.declared.status.Refusal as b;
+ghost use Rattle.cond_tool.specs.declared.trouble.Trouble.TheVariants as boogie;
+ghost use Rattle.cert_tool.specs.Call.{HasCertificate, IsOfLine, IsOfCertificate, IsRefused, IsUnread, IsShown};
+ghost use Rattle.cert_tool.specs.Parts.{IsFound};
+ghost use Rattle.cert_tool.specs.Shown.{NeverFails};
+
+use crate::status::Refusal;
+use crate::trouble::{Trouble, unread};
+use boogie_tree::BProgram;
+use boogie_wp::conditions;
+use certificates::check;
+use cond_tool::accepted;
+use std::alloc::Global;
+use vb_base::limits::MAX_BOOGIE_BYTES;
+use vb_outer::{Shelf, read_file};
+
+/// What a call asks for.
+#[derive(Clone, Copy)]
+pub(crate) struct Asked<'a> {
+    pub(crate) file: &'a str,
+    pub(crate) procedure: &'a str,
+    pub(crate) certificate: &'a str,
+}
+
+/// The program of a file of Boogie, and the number of its procedure of this name.
+fn found<H: Shelf>(
+    alloc: Global,
+    shelf: &mut H,
+    file: &str,
+    name: &str,
+) -> Result<(BProgram, usize), cond_tool::Trouble>
+    ensures found { IfOk result (λ r. IsFound (IsWhole (H.files shelf.old)) file.now name.now (program_of r.0) r.1) }
+    ensures refused { (r : b.Refusal) → IsErrOf result (boogie.Refused r) → Refuses (IsWhole (H.files shelf.old)) file.now name.now r }
+    ensures read { IsErrOf result boogie.Read → IsMissing (H.files shelf.old) file.now ⊎ Rose (H.faults shelf.old) (H.faults shelf.new) }
+    ensures later { H.faults shelf.old ≤ H.faults shelf.new }
+    ensures files { H.files shelf.new ≡ H.files shelf.old }
+{
+    let bytes = read_file(alloc, shelf, file, MAX_BOOGIE_BYTES)?;
+    accepted(alloc, &bytes, name)
+}
+
+/// Checks a certificate against the conditions of the procedure of this number.
+fn show(alloc: Global, program: &BProgram, number: usize, text: &[u8]) -> Result<(), Trouble>
+    requires typed { IsTypedProgram (program_of program.now) }
+    requires exists { number < length (program_of program.now).procs }
+    ensures shown { IsOk result → (d : p.Proc) → slice_get (program_of program.now).procs number ≡ Some d → NeverFails d }
+    ensures refused { (r : Refusal) → IsErrOf result (Trouble.Refused r) → IsOfLine r }
+    ensures read { IsErrOf result Trouble.Read → ⊥ }
+{
+    let made = conditions(alloc, program, number)?;
+    check(alloc, program.procs[number].name.bytes(), &made, text)?;
+    Ok(())
+}
+
+/// Reads a certificate, and checks it against the conditions of the procedure of this number.
+fn certified<H: Shelf>(
+    alloc: Global,
+    shelf: &mut H,
+    certificate: &str,
+    program: &BProgram,
+    number: usize,
+) -> Result<(), Trouble>
+    requires typed { IsTypedProgram (program_of program.now) }
+    requires exists { number < length (program_of program.now).procs }
+    ensures shown { IsOk result → (d : p.Proc) → slice_get (program_of program.now).procs number ≡ Some d → NeverFails d }
+    ensures is_there { IsOk result → HasCertificate (IsWhole (H.files shelf.old)) certificate.now }
+    ensures refused { (r : Refusal) → IsErrOf result (Trouble.Refused r) → IsOfCertificate (H.files shelf.old) certificate.now r }
+    ensures read { IsErrOf result Trouble.Read → IsMissing (H.files shelf.old) certificate.now ⊎ Rose (H.faults shelf.old) (H.faults shelf.new) }
+    ensures later { H.faults shelf.old ≤ H.faults shelf.new }
+    ensures files { H.files shelf.new ≡ H.files shelf.old }
+{
+    match read_file(alloc, shelf, certificate, MAX_BOOGIE_BYTES) {
+        Ok(text) => show(alloc, program, number, &text),
+        Err(fault) => Err(unread(fault)),
+    }
+}
+
+/// Reads a file of Boogie and a certificate, and checks it.
+pub(crate) fn work<H: Shelf>(alloc: Global, shelf: &mut H, asked: Asked) -> Result<(), Trouble>
+    ensures shown { IsOk result → IsShown (H.files shelf.old) asked.entry.file.now asked.entry.procedure.now asked.entry.certificate.now }
+    ensures refused { (r : Refusal) → IsErrOf result (Trouble.Refused r)
+        → IsRefused (H.files shelf.old) asked.entry.file.now asked.entry.procedure.now asked.entry.certificate.now r }
+    ensures read { IsErrOf result Trouble.Read
+        → IsUnread (H.files shelf.old) asked.entry.file.now asked.entry.procedure.now asked.entry.certificate.now (H.faults shelf.old) (H.faults shelf.new) }
+    ensures files { H.files shelf.new ≡ H.files shelf.old }
+{
+    let (program, number) = found(alloc, shelf, asked.file, asked.procedure)?;
+    certified(alloc, shelf, asked.certificate, &program, number)
+}
