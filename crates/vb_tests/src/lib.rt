@@ -61,4 +61,6 @@ mod trees;
 #[cfg(test)]
 mod values;
 #[cfg(test)]
+mod wides;
+#[cfg(test)]
 mod words;

@@ -1,7 +1,7 @@
 // The rows of the tables: what each kind of them tells, and their words.
 use crate::{
     assertions, bexprs, bodies, codes, devices, executions, expressions, folds, labels, maps,
-    numbers, programs, replays, runs, sent, statements, states, tokens, values,
+    numbers, programs, replays, runs, sent, statements, states, tokens, values, wides,
 };
 use std::alloc::Global;
 use std::process::Abort;
@@ -89,6 +89,7 @@ pub(crate) enum Ends {
     Expr,
     Replay,
     Execution,
+    Wide,
 }
 
 /// What came of a row, where the row says otherwise. `start` is what stands in the file before the row.
@@ -111,6 +112,7 @@ fn other_end(alloc: Global, ends: Ends, start: &str, row: &str) -> Result<Option
         Ends::Expr => bexprs::wrong_row(alloc, row),
         Ends::Replay => replays::wrong_row(alloc, start, row),
         Ends::Execution => executions::wrong_row(alloc, start, row),
+        Ends::Wide => wides::wrong_row(alloc, row),
     }
 }
 
