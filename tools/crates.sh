@@ -1,13 +1,20 @@
-# Read by ./remduska, tools/program and tools/build: which crates the program stands on, whether it was built from their sources, and
-# which program is started.
+# Read by ./remduska, tools/program and tools/build: which programs there are, which crates each stands on, whether it was built from
+# their sources, and which file is started.
 top=$(dirname "$(readlink -f "${BASH_SOURCE[0]}")")/..
 top=$(readlink -f "$top")
-program=$top/crates/remduska/out/remduska
-unproved=$top/crates/remduska/out/unproved/remduska-unproved
+programs=(remduska conditions certify)
 declare -A below=()     # the crates that a crate stands on
-needed=()               # the crates that the program stands on, itself the last
+needed=()               # the crates that programs stand on, each behind those that it stands on itself
 
 say() { echo "remduska: $*" >&2; }
+
+proved_file() { # PROGRAM
+    echo "$top/crates/$1/out/$1"
+}
+
+unproved_file() { # PROGRAM
+    echo "$top/crates/$1/out/unproved/$1-unproved"
+}
 
 has_python() {
     command -v python3 >/dev/null || { say "python3 is not on the path; Debian has it as the package python3"; return 1; }
@@ -39,25 +46,28 @@ need() {
     needed+=("$1")
 }
 
-# A program is there, and none of the sources is newer.
-is_current() { # PROGRAM
-    [ -x "$1" ] && [ -z "$(cd "$top/crates" && find "${needed[@]}" "$top/crates.txt" -name out -prune -o \
-        \( -name '*.rt' -o -name '*.antt' -o -name crates.txt \) -newer "$1" -print -quit)" ]
+# A file of a program is there, and none of its sources is newer.
+is_current() { # PROGRAM FILE
+    local needed=()
+    need "$1"
+    [ -x "$2" ] && [ -z "$(cd "$top/crates" && find "${needed[@]}" "$top/crates.txt" -name out -prune -o \
+        \( -name '*.rt' -o -name '*.antt' -o -name crates.txt \) -newer "$2" -print -quit)" ]
 }
 
-# Sets `chosen` to the program that is started: the proved one, else the unproved one, which is compiled where it is not current.
-choose_program() {
+# Sets `chosen` to the file of a program that is started: the proved one, else the unproved one, which is compiled where it is not
+# current.
+choose_program() { # PROGRAM
     local compiler status
-    chosen=$program
-    ! is_current "$program" || return 0
-    chosen=$unproved
-    if is_current "$unproved"; then
-        say "this program is compiled from today's sources and not proved"
+    chosen=$(proved_file "$1")
+    ! is_current "$1" "$chosen" || return 0
+    chosen=$(unproved_file "$1")
+    if is_current "$1" "$chosen"; then
+        say "$1 is compiled from today's sources and not proved"
         return 0
     fi
     has_python || return 70
     trap 'kill "$compiler" 2>/dev/null; wait "$compiler"; exit 130' INT TERM HUP
-    "$top/tools/build-unproved" "$unproved" &
+    "$top/tools/build-unproved" "$1" "$chosen" &
     compiler=$!
     wait "$compiler"
     status=$?
@@ -66,4 +76,3 @@ choose_program() {
 }
 
 read_crates
-need remduska

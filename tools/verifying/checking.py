@@ -45,6 +45,7 @@ def verdict(results):
     """What is told of a file, in the words of examples/verdicts; a unit without a verdict is told as such."""
     odd = [f"undecided: {it.unit}: {it.why}" for it in results if it.why]
     odd += [f"not confirmed: {label.label}" for it in results for label in it.labels if not label.confirmed]
+    odd += [f"without a certificate: {it.unit}: {it.certified.why}" for it in results if it.certified and not it.is_checked()]
     labels = {label.label for it in results for label in it.labels if label.confirmed}
     return odd + sorted(labels, key=in_order) or [f"verified {len(results)}"]
 

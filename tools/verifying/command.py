@@ -26,6 +26,7 @@ class Options(NamedTuple):
     json: bool
     keep: Optional[str]
     runs: bool
+    certificates: bool
     smoke: bool
     boogie: bool
     unit: Optional[str]
@@ -55,7 +56,7 @@ def positive(kind, most):
 
 def parser():
     found = Words(add_help=False, allow_abbrev=False)
-    for name in ("help", "json", "no-runs", "smoke", "boogie", "check", "formula", "print"):
+    for name in ("help", "json", "no-runs", "no-certificates", "smoke", "boogie", "check", "formula", "print"):
         found.add_argument(f"--{name}", action="store_true")
     found.add_argument("--unit")
     found.add_argument("--keep")
@@ -108,7 +109,7 @@ def status_of(words, page):
     if not args.files and not args.check:
         print(f"verify: a file is missing; {page.splitlines()[0]}", file=sys.stderr)
         return 2
-    options = Options(args.seconds, args.jobs, args.json, args.keep, not args.no_runs, args.smoke, args.boogie, args.unit)
+    options = Options(args.seconds, args.jobs, args.json, args.keep, not args.no_runs, not args.no_certificates, args.smoke, args.boogie, args.unit)
     if args.formula:
         from .formula import tell
         return tell(args.files, args.seconds, args.print)
@@ -165,7 +166,7 @@ class Command:
         with tempfile.TemporaryDirectory(prefix="verify-") as room:
             for n, file in enumerate(self.files):
                 file.room = os.path.join(room, str(n))
-            self.program, self.pool = find(), None
+            self.program, self.pool = find("conditions", *["certify"] * self.options.certificates), None
             self.room, alone = room, work.Alone(self.program, room)
             jobs = self.options.jobs if len(self.files) > 1 else 1
             try:

@@ -59,7 +59,8 @@ class Report:
 
     def unit_as_data(self, given, result):
         file, more = name_of(given.path), {"smoke": result.smoke, "smoke_run": result.smoke_run} if self.options.smoke else {}
-        self.data(file=file, unit=result.unit, verdict=result.verdict, why=result.why, **more)
+        why = result.why or (result.certified.why if result.certified else "")
+        self.data(file=file, unit=result.unit, verdict=result.verdict, checked=result.is_checked(), why=why, **more)
         for it in result.labels:
             runs = {"run": it.run, "boogie_run": it.boogie_run} if self.options.runs else {"run": None, "boogie_run": None}
             self.data(file=file, unit=result.unit, label=it.label, confirmed=it.confirmed, message=it.message, line=it.line,
@@ -80,6 +81,8 @@ class Report:
                 self.line(f"{place}: not confirmed by replay, but by run: {it.why}")
         if result.why:
             self.line(f"{at}: undecided: `{unit.name}`: {result.why}")
+        if result.certified and not result.is_checked():
+            self.line(f"{at}: note: `{unit.name}` is verified on z3's word: {result.certified.why}")
         self.smoke(at, unit, result)
 
     def smoke(self, at, unit, result):
@@ -112,8 +115,16 @@ class Report:
             return
         verified = sum([it.verdict == VERIFIED for it in results])
         units = f"{len(results)} unit{'s' * (len(results) != 1)}"
-        path = shown_path(given.path)
-        self.line(f"{path}: verified, {units}" if verified == len(results) else f"{path}: {verified} of {units} verified")
+        word = "verified" if self.options.certificates or not verified else "verified on z3's word"
+        told = f"{word}, {units}" if verified == len(results) else f"{verified} of {units} {word}"
+        self.line(f"{shown_path(given.path)}: {told}{self.by_certificates(verified, results)}")
+
+    def by_certificates(self, verified, results):
+        """How many of the verified units are so by a certificate that the proved program accepted."""
+        checked = sum([it.is_checked() for it in results])
+        if not verified or not self.options.certificates:
+            return ""
+        return f", {'each' if checked == verified else checked if checked else 'none'} by a certificate"
 
     def boogie(self, given, word, results):
         """Boogie's word, and where it differs."""
@@ -131,10 +142,13 @@ class Report:
             self.line(f"{path}: the two disagree: {it}")
 
     def keep(self, given, result):
-        """Writes the run files of a unit, and the text of Boogie that those of Boogie belong to."""
+        """Writes the run files of a unit, its certificate, and the text of Boogie that it and the runs of Boogie belong to."""
         stem = os.path.join(self.options.keep, self.stem(name_of(given.path)))
         with open(given.text_file, "rb") as text, open(f"{stem}.text.bpl", "wb") as into:
             into.write(text.read())
+        if result.is_checked():
+            with open(f"{stem}.{result.unit}.cert", "w", encoding="utf-8") as into:
+                into.write(result.certified.certificate)
         for it in result.labels:
             name = f"{stem}.{re.sub(r'[: ]', '-', it.label)}"
             for ending, text in ((".run", it.run), (".brun", it.boogie_run)):

@@ -3,6 +3,7 @@ import re
 from typing import List, NamedTuple, Optional
 
 from . import failures, telling
+from .certifying import Certified
 from .failures import Told
 from .run_files import scalar
 from .units import UNDECIDED
@@ -25,7 +26,7 @@ class Label(NamedTuple):
 
 class Result(NamedTuple):
     """What is told of a unit. `errors` has the lines of each error and the numbers of the labels that it tells of; `smoke` is what
-    was found of its ends, and `smoke_run` a run that is done."""
+    was found of its ends, and `smoke_run` a run that is done; `certified` is there of a verified unit whose certificate was asked for."""
     unit: str
     verdict: str
     why: str
@@ -33,7 +34,12 @@ class Result(NamedTuple):
     errors: list
     smoke: str
     smoke_run: Optional[str]
+    certified: Optional[Certified]
     seconds: float
+
+    def is_checked(self):
+        """Whether the proved program accepted a certificate of it."""
+        return self.certified is not None and self.certified.certificate is not None
 
 
 def told_of_boogie(source, label, procedure):
@@ -90,12 +96,12 @@ def errors_of(labels, source, unit, is_boogie):
     return [(telling.error_lines(source, told), group) for told, group in found]
 
 
-def result_of(unit, outcome, source, is_boogie, smoke, seconds) -> Result:
+def result_of(unit, outcome, source, is_boogie, smoke, certified, seconds) -> Result:
     """What is told of a unit of which something is known."""
     labels = [label_of(it, source, unit, is_boogie) for it in outcome.failures]
-    return Result(unit, outcome.verdict, outcome.why, labels, errors_of(labels, source, unit, is_boogie), *smoke, seconds)
+    return Result(unit, outcome.verdict, outcome.why, labels, errors_of(labels, source, unit, is_boogie), *smoke, certified, seconds)
 
 
 def undecided(unit, why) -> Result:
     """What is told of a unit of which nothing is known."""
-    return Result(unit, UNDECIDED, why, [], [], "", None, 0.0)
+    return Result(unit, UNDECIDED, why, [], [], "", None, None, 0.0)

@@ -6,8 +6,8 @@ import os
 import re
 from typing import List, NamedTuple, Optional
 
-from .boogie_text import read_procedure
-from .conditions import conditions_of
+from .boogie_text import NotAsWritten, read_procedure
+from .conditions import read_conditions
 from .run_files import ViperRun, boogie_run, read_back, viper_run, with_states
 from .search import PLAIN, WAYS, Search, new_objects
 from .smaller import Smaller, Values
@@ -54,11 +54,19 @@ class Examiner:
     def __init__(self, task, program, solver, room):
         self.task, self.program, self.solver, self.room = task, program, solver, room
         self.procedure = read_procedure(task.text)
-        self.conditions = conditions_of(self.procedure)
+        self.text_file = self.file("unit.bpl", task.prelude + task.text)
+        self.text = self.conditions_text()
+        self.conditions = read_conditions(self.text)
         self.search = Search(self.conditions.vars, new_objects(self.procedure), solver, task.seconds)
         self.symbolic = symbolic_of(self.conditions, self.search.end)
         self.failures = []
-        self.text_file = self.file("unit.bpl", task.prelude + task.text)
+
+    def conditions_text(self):
+        """The text of the procedure's conditions, as the program writes it."""
+        said = self.program.conditions(self.text_file, self.procedure.name)
+        if said.status != 0:
+            raise NotAsWritten(f"conditions says {said.first()}")
+        return said.out
 
     def outcome(self) -> Outcome:
         """Asks of all labels, tells those that fail, and asks again of the others."""

@@ -8,6 +8,7 @@ import time
 
 from . import files
 from .boogie_text import NotAsWritten
+from .certifying import certified
 from .program import NoProgram, Program
 from .results import result_of, undecided
 from .smoke import smoke
@@ -88,8 +89,10 @@ def examined_deep(given, unit, options):
     try:
         examiner = Examiner(task, MINE.program, MINE.solver, MINE.room)
         outcome = examiner.outcome()
-        found = smoke(examiner) if options.smoke and outcome.verdict == VERIFIED else ("", None)
-        return result_of(unit.name, outcome, MINE.source_of(given), given.is_boogie, found, time.monotonic() - start)
+        is_verified = outcome.verdict == VERIFIED
+        found = smoke(examiner) if options.smoke and is_verified else ("", None)
+        shown = certified(examiner) if options.certificates and is_verified else None
+        return result_of(unit.name, outcome, MINE.source_of(given), given.is_boogie, found, shown, time.monotonic() - start)
     except (NoSolver, NotAsWritten, NoProgram, TooSlow, RecursionError, MemoryError, OSError) as why:
         return undecided(unit.name, f"{why}" or type(why).__name__)
     except Exception as fault:      # what these scripts did wrong, so that nothing of the other units is hidden by it

@@ -1,5 +1,5 @@
 """Certificates by hand, with the changes that are refused, for `test_certificate_check.py`, of quotients and products."""
-from certificate_cases import Case
+from .certificate_cases import Case
 
 OF_PRODUCTS = (
     Case("a quotient", ["((v6 != 0.0) && (((v5 / v6) * v6) != v5))"], [

@@ -1,18 +1,12 @@
-"""Certificates by hand, each reason at least once, and the same with something changed, which is refused at its line: no z3 is needed.
-
-`python3 -m unittest discover -s tools/verifying/tests`"""
-import os
-import sys
+"""Certificates by hand, each reason at least once, and the same with something changed, which is refused at its line: no z3 is needed."""
 import unittest
 
-sys.dont_write_bytecode = True
-HERE = os.path.dirname(os.path.realpath(__file__))
-sys.path[:0] = [HERE, os.path.dirname(HERE)]
+from verifying.certificates.check import check
+from verifying.certificates.check_text import Conditions
 
-from certificate_cases import CASES  # noqa: E402
-from certificate_check import check  # noqa: E402
-from certificate_check_text import Conditions  # noqa: E402
-from certificate_product_cases import OF_PRODUCTS  # noqa: E402
+from .certificate_cases import CASES
+from .certificate_product_cases import OF_PRODUCTS
+
 
 VARIABLES = ("bool", "bool", "int", "int", "real", "real", "Ref", "Ref", "Snap", "Snap", "[Ref]int", "[Ref]int", "[Ref, int]real",
 "[Ref]bool")

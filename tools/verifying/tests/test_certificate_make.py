@@ -1,18 +1,10 @@
-"""Makes certificates for conditions that are right by hand, and has them checked; for wrong ones none is made. No z3 is needed.
-
-`python3 -m unittest discover -s tools/verifying/tests`"""
-import os
-import sys
+"""Makes certificates for conditions that are right by hand, and has them checked; for wrong ones none is made. No z3 is needed."""
 import unittest
 
-sys.dont_write_bytecode = True
-sys.path.insert(0, os.path.dirname(os.path.dirname(os.path.realpath(__file__))))
-
-from certificate_check import check  # noqa: E402
-from certificate_check_text import Conditions  # noqa: E402
-from certificate_conditions import Builder, procedures  # noqa: E402
-from certificate_goals import NoCertificate  # noqa: E402
-from certificate_make import certificate  # noqa: E402
+from verifying.certificates.check import check
+from verifying.certificates.check_text import Conditions
+from verifying.certificates.goals import NoCertificate
+from verifying.certificates.make import certificate
 
 VARIABLES = ("bool", "bool", "int", "int", "real", "real", "Ref", "Ref", "Snap", "Snap", "[Ref]int", "[Ref]int", "[Ref, int]real",
     "[Ref]bool")
@@ -41,6 +33,8 @@ RIGHT = (
     ("the square of a sum", ["(((v3 + 1) * (v3 + 1)) != (((v3 * v3) + (2 * v3)) + 1))"]),
     ("a part of a part", ["(((v5 > 0.0) && (v6 > 0.0)) && ((v6 < 1.0) && ((v5 * v6) >= v5)))"]),
     ("a quotient", ["((v6 > 0.0) && (((v5 / v6) * v6) != v5))"]),
+    ("a difference", ["(((v3 - v4) > 0) && (v3 < v4))"]),
+    ("null", ["((v7 == null) && (sRef(v7) != sRef(null)))"]),
 )
 
 WRONG = (
@@ -56,58 +50,6 @@ WRONG = (
     ("division by zero", ["((v3 div v4) == 0)"]),
     ("a choice of numbers", ["((if v1 then v3 else v4) > v3)"]),
 )
-
-BOOGIE = """procedure M$m() {
-var x: int;
-var m: [Ref]int;
-var r: Ref;
-assume (forall q0: Ref :: (m[q0] == 0));
-m[r] := (x + 1);
-if (*) {
-havoc x;
-assert {:msg "1:2 3:4 false"} (m[r] != 0);
-} else {
-}
-if ((x > 0)) {
-x := 1;
-} else {
-r := null;
-}
-assert {:msg "5:6 7:8 null"} (r != null);
-}
-"""
-
-WRITTEN = """conditions M$m
-var v1: int
-var v2: [Ref]int
-var v3: Ref
-var v4: bool
-var v5: int
-let d1 := true
-let d2 := (forall q0: Ref :: (v2[q0] == 0))
-let d3 := (d1 && d2)
-let d4 := v2[v3 := (v1 + 1)]
-let d5 := (d3 && v4)
-let d6 := (d4[v3] != 0)
-let d7 := (d5 && (! d6))
-let d8 := (d5 && d6)
-let d9 := (d3 && (! v4))
-let d10 := (d8 || d9)
-let d11 := (if v4 then v5 else v1)
-let d12 := (d11 > 0)
-let d13 := (d10 && d12)
-let d14 := 1
-let d15 := (d10 && (! d12))
-let d16 := null
-let d17 := (d13 || d15)
-let d18 := (if d12 then d14 else d11)
-let d19 := (if d12 then v3 else d16)
-let d20 := (d19 != null)
-let d21 := (d17 && (! d20))
-let d22 := (d17 && d20)
-fails 1:2 3:4 false d7
-fails 5:6 7:8 null d21
-"""
 
 
 def conditions(lets):
@@ -128,9 +70,6 @@ class MakeTest(unittest.TestCase):
         for name, lets in WRONG:
             with self.subTest(name):
                 self.assertRaises(NoCertificate, certificate, conditions(lets))
-
-    def test_conditions(self):
-        self.assertEqual(Builder("M$m", procedures(BOOGIE)["M$m"]).text(), WRITTEN)
 
     def test_where_no_run_comes(self):
         """Behind `assume v1`, the other side of a branch by v1 has an assertion that does not hold, and so has what comes behind that."""

@@ -10,7 +10,7 @@ import unittest
 from contextlib import redirect_stderr, redirect_stdout
 
 from verifying import boogie_word, checking, command, files, work
-from verifying.program import TOP
+from verifying.program import TOP, find
 
 READY = bool(os.environ.get("REMDUSKA")) and shutil.which("z3") is not None
 
@@ -114,11 +114,29 @@ class Calls(unittest.TestCase):
         lines = [it for it in out.splitlines() if not it.startswith(" ")]
         self.assertTrue(lines[0].startswith("there is none.vpr: error: "), out)
         self.assertTrue(lines[1].startswith("<stdin>:1:21: error: "), out)
-        self.assertEqual(lines[2], "examples/list.vpr: verified, 6 units")
+        self.assertEqual(lines[2], "examples/list.vpr: verified, 6 units, each by a certificate")
+
+    def test_certificates_are_kept_and_accepted_for_the_whole_text(self):
+        with tempfile.TemporaryDirectory() as room:
+            status, out, _ = self.verify("--json", "--keep", room, "examples/list.vpr")
+            units = [json.loads(it) for it in out.splitlines()]
+            self.assertEqual((status, [it["checked"] for it in units]), (0, [True] * 6))
+            stem, certify = os.path.join(room, "examples_list.vpr"), find("certify").certify
+            for unit, letter in ((it["unit"], "P" if it["unit"] in ("cell", "list") else "M") for it in units):
+                words = [certify, f"{stem}.text.bpl", f"{letter}${unit}", f"{stem}.{unit}.cert"]
+                self.assertEqual(subprocess.run(words, stdout=subprocess.PIPE).stdout, b"accepted\n", unit)
+
+    def test_what_has_no_certificate_is_told_as_the_word_of_z3(self):
+        status, out, _ = self.verify("--no-certificates", "examples/list.vpr")
+        self.assertEqual((status, out), (0, "examples/list.vpr: verified on z3's word, 6 units\n"))
+        product = "method m(x: Int) requires x % 2 == 0 && x % 3 == 0 ensures x % 6 == 0 { }\n"
+        status, out, _ = self.verify("-", text=product)
+        self.assertEqual((status, out), (0, "<stdin>:1:8: note: `m` is verified on z3's word: no certificate was found\n"
+                                            "<stdin>: verified, 1 unit, none by a certificate\n"))
 
     def test_one_unit_alone_is_looked_at(self):
         status, out, _ = self.verify("--unit", "head", "examples/list_wrong.vpr")
-        self.assertEqual((status, out), (0, "examples/list_wrong.vpr: verified, 1 unit\n"))
+        self.assertEqual((status, out), (0, "examples/list_wrong.vpr: verified, 1 unit, each by a certificate\n"))
 
     def test_what_is_assumed_in_vain_is_told(self):
         status, out, _ = self.verify("--smoke", "-", text="method m(x: Int) requires x > 0 && x < 0 { assert false }\n")
@@ -154,7 +172,7 @@ class Calls(unittest.TestCase):
             path = os.path.join(room, "a b\n\x1b'\".vpr")
             with open(path, "w") as it:
                 it.write("method m() { assert true }\n")
-            self.assertEqual(self.verify(path)[1], f"{room}/a b\\x0a\\x1b'\".vpr: verified, 1 unit\n")
+            self.assertEqual(self.verify(path)[1], f"{room}/a b\\x0a\\x1b'\".vpr: verified, 1 unit, each by a certificate\n")
             self.assertEqual(json.loads(self.verify("--json", path)[1])["file"], path)
 
     def test_files_whose_kept_names_would_be_one_are_kept_apart(self):
@@ -175,14 +193,14 @@ class Calls(unittest.TestCase):
 
     def test_a_file_that_is_too_large_is_refused_without_reading_its_tokens(self):
         whole = "method m() {}\n//".ljust(files.LARGEST, "-")
-        self.assertEqual(self.verify("-", text=whole)[:2], (0, "<stdin>: verified, 1 unit\n"))
+        self.assertEqual(self.verify("-", text=whole)[:2], (0, "<stdin>: verified, 1 unit, each by a certificate\n"))
         self.assertEqual(self.verify("-", text=f"{whole}-")[:2], (2, "<stdin>:1:1: error: the file has more than 1,048,576 bytes\n"))
         self.assertEqual(files.source_of("a.vpr", f"{whole}-".encode()).tokens, [])
 
     def test_a_run_that_is_not_shown_is_not_announced(self):
         text = "method m(x: Int) { assert x == x }\n"
         self.assertEqual(self.verify("--smoke", "--no-runs", "-", text=text)[:2],
-                         (0, "<stdin>:1:8: note: a run of `m` is done, as `run` says\n<stdin>: verified, 1 unit\n"))
+                         (0, "<stdin>:1:8: note: a run of `m` is done, as `run` says\n<stdin>: verified, 1 unit, each by a certificate\n"))
         self.assertIn("this run of `m` is done, as `run` says:\nviper run\npick true\n", self.verify("--smoke", "-", text=text)[1])
 
     def test_a_run_that_needs_a_number_beyond_the_bound_is_told_in_words(self):

@@ -4,12 +4,14 @@ from fractions import Fraction
 
 from verifying import run_files, solver
 from verifying.boogie_text import NotAsWritten, procedure_texts, read_procedure
-from verifying.conditions import conditions_of, read_conditions
+from verifying.conditions import read_conditions
 from verifying.question import Question
 from verifying.search import new_objects
 from verifying.smaller import Smaller, Values
 from verifying.symbolic import symbolic_of
 from verifying.walk import Walk
+
+from .building import conditions_of
 
 TEXT = """type Ref;
 procedure P$a() {
@@ -94,6 +96,13 @@ class ConditionsOfProcedures(unittest.TestCase):
         self.assertEqual((found.fails, found.vars), ([("1:2 1:3 false", "d3")], {"v1": ((), "int")}))
         symbolic = symbolic_of(found)
         self.assertEqual(Question([symbolic.fails[0][1]], found.vars).asked, ["(>= v1 3)"])
+
+    def test_the_path_at_the_end_of_a_text_is_known(self):
+        text = ("conditions p\nvar v1: bool\nvar v2: bool\nlet d1 := true\nlet d2 := (v1 && v2)\nlet d3 := (d1 && v2)\nlet d4 := (v1 || v2)\n"
+                "let d5 := (d1 && (! v2))\nlet d6 := (d3 || d5)\nlet d7 := (d6 && (! d4))\nfails 1:2 1:3 false d7\n")
+        self.assertEqual(read_conditions(text).ends, "d6")
+        self.assertEqual(read_conditions(text.replace("fails", "let d8 := (d6 && d4)\nfails")).ends, "d8")
+        self.assertEqual(read_conditions("conditions p\nlet d1 := true\n").ends, "d1")
 
     def test_a_formula_of_vc_is_read(self):
         text = ("vc go 1:20 1:27 false\nvar v1: int\nvar v2: int\nlet d1 := true\nlet d2 := false\nlet d3 := (d1 && (v2 < 3))\n"

@@ -6,11 +6,12 @@ import time
 import unittest
 
 from verifying.boogie_text import read_procedure
-from verifying.conditions import conditions_of
 from verifying.search import Search
 from verifying.solver import NoSolver, Solver
 from verifying.symbolic import symbolic_of
 from verifying.walk import Walk
+
+from .building import conditions_of
 
 HAS_Z3 = shutil.which("z3") is not None
 HARD = "(declare-const x Int)(declare-const y Int)(declare-const z Int)(assert (= (+ (* x x x) (* y y y) (* z z z)) 114))\n"

@@ -3,11 +3,11 @@ import random
 import unittest
 from fractions import Fraction
 
-from verifying.conditions import conditions_of
 from verifying.question import reached
 from verifying.symbolic import symbolic_of
 from verifying.walk import DEFAULTS, Walk
 
+from .building import conditions_of
 from .chance import Chance, values_of
 
 PROCEDURES, WALKS = 150, 25

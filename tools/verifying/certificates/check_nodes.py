@@ -2,7 +2,7 @@
 import re
 from fractions import Fraction
 
-from certificate_check_text import CONSTRUCTORS, need, tree
+from .check_text import CONSTRUCTORS, need, tree
 
 LEAVES = {"true": "bool", "null": "Ref", "unit": "Snap"}
 NUMBERS = ("int", "real")

@@ -1,22 +1,26 @@
 """Shows that a failing name is false: what it needs is looked at from there, and definitions come in as they are met."""
-from certificate_clauses import Search, Steps
-from certificate_equality import Equality
-from certificate_numbers import Numbers
-from certificate_paths import Explained, Paths
-from certificate_products import Products
-from certificate_truths import Truths
+import math
+import time
+
+from .clauses import Search, Steps
+from .equality import Equality
+from .numbers import Numbers
+from .paths import Explained, Paths
+from .products import Products
+from .truths import Truths
 
 MOST_BRANCHES = 40
 
 
 class NoCertificate(Exception):
-    """Values may be left at which an assertion fails."""
+    """Values may be left at which an assertion fails, or the time is over."""
 
 
 class Prover(Truths):
     """`found` of a round is a literal to decide; `seen` what was looked at in it."""
 
-    def __init__(self, conditions):
+    def __init__(self, conditions, until=math.inf):
+        self.until = until
         self.conditions, self.terms, self.steps = conditions, conditions.terms, Steps()
         self.search = Search(self.steps)
         self.search.theory = self
@@ -95,6 +99,8 @@ class Prover(Truths):
         search, self.bounded = self.search, set()
         conflict = self.gate(abs(failing)) or search.propagate()
         while True:
+            if time.monotonic() > self.until:
+                raise NoCertificate()
             if conflict:
                 if not search.resolve(conflict, len(self.bases)):
                     return search.empty

@@ -1,6 +1,6 @@
 """Why terms are equal, or cannot be: the steps that say it of what is assigned."""
-from certificate_classes import Classes
-from certificate_sums import sum_step
+from .classes import Classes
+from .sums import sum_step
 
 
 class Lemma:

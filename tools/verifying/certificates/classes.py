@@ -1,5 +1,5 @@
 """Classes of terms that are equal by what is assigned, which are undone as the search goes back."""
-from certificate_terms import CONSTRUCTORS, LINEAR
+from .terms import CONSTRUCTORS, LINEAR
 
 APPLIED = ("at", "*", "/", "div", "mod", *LINEAR, *CONSTRUCTORS)
 FOLDED = ("+", "-", "neg", "toreal", "*", "/")

@@ -1,6 +1,6 @@
 """The steps of a certificate, for its checker: each method gives the clause of one reason, or refuses it."""
-from certificate_check_nodes import NUMBERS, Nodes
-from certificate_check_text import CONSTRUCTORS, Refused, need, tree
+from .check_nodes import NUMBERS, Nodes
+from .check_text import CONSTRUCTORS, Refused, need, tree
 
 ARITHMETIC = ("+", "-", "*", "/", "div", "mod", "neg", "toreal")
 

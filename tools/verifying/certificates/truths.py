@@ -1,5 +1,5 @@
 """What a literal needs to be so: its parts are looked at, and what is open is decided where no term decides it."""
-from certificate_places import Places
+from .places import Places
 
 NAMES = {"&&": "and", "==": "equal", "<=": "less"}
 

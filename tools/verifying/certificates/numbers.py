@@ -2,9 +2,9 @@
 from fractions import Fraction
 from math import gcd
 
-from certificate_equality import Lemma
-from certificate_sums import Row, Simplex, Solved, needed, sum_step
-from certificate_terms import NUMBERS
+from .equality import Lemma
+from .sums import Row, Simplex, Solved, needed, sum_step
+from .terms import NUMBERS
 
 
 class Numbers:

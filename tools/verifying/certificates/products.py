@@ -1,5 +1,5 @@
 """What a certificate may say of products, quotients and remainders of what is not known."""
-from certificate_sums import sum_step
+from .sums import sum_step
 
 
 class Products:

@@ -1,5 +1,5 @@
 """What the terms of a literal are: places of maps, choices, and what a `forall` says of places."""
-from certificate_terms import CONSTRUCTORS, NUMBERS
+from .terms import CONSTRUCTORS, NUMBERS
 
 
 class Places:

@@ -1,18 +1,14 @@
-#!/usr/bin/env python3
-"""Makes a certificate for a text of conditions.
+"""Makes a certificate for a text of conditions. It searches by itself, and needs no solver."""
+import math
 
-    certificate_make.py CONDITIONS
-"""
-import sys
-
-from certificate_goals import NoCertificate, Prover
-from certificate_terms import Conditions
+from .goals import Prover
+from .terms import Conditions
 
 
-def certificate(text):
-    """A certificate's text; NoCertificate where none was found."""
+def certificate(text, until=math.inf):
+    """A certificate's text; NoCertificate where none was found before that time."""
     conditions = Conditions(text)
-    prover = Prover(conditions)
+    prover = Prover(conditions, until)
     wanted = [prover.refute(conditions.lets[name]) for name in conditions.fails]
     return written(conditions, prover.steps, wanted)
 
@@ -85,23 +81,3 @@ class Writer:
             found = [self.number(it) for it in rest]
         self.places[step] = len(self.places) + 1
         self.lines.append(" ".join([word, *map(str, found)]))
-
-
-def main(words):
-    """The program, with its words behind its name."""
-    if len(words) != 1:
-        print("usage: certificate_make.py CONDITIONS", file=sys.stderr)
-        return 2
-    with open(words[0], encoding="utf-8") as file:
-        text = file.read()
-    try:
-        sys.stdout.write(certificate(text))
-    except NoCertificate:
-        print("no certificate", file=sys.stderr)
-        return 1
-    return 0
-
-
-if __name__ == "__main__":
-    sys.setrecursionlimit(100000)
-    sys.exit(main(sys.argv[1:]))
