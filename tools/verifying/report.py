@@ -124,7 +124,8 @@ class Report:
         checked = sum([it.is_checked() for it in results])
         if not verified or not self.options.certificates:
             return ""
-        return f", {'each' if checked == verified else checked if checked else 'none'} by a certificate"
+        many = "each " if checked == verified else f"{checked} " if checked else "none "
+        return f", {many if verified > 1 or not checked else ''}by a certificate"
 
     def boogie(self, given, word, results):
         """Boogie's word, and where it differs."""

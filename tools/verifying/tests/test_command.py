@@ -136,7 +136,7 @@ class Calls(unittest.TestCase):
 
     def test_one_unit_alone_is_looked_at(self):
         status, out, _ = self.verify("--unit", "head", "examples/list_wrong.vpr")
-        self.assertEqual((status, out), (0, "examples/list_wrong.vpr: verified, 1 unit, each by a certificate\n"))
+        self.assertEqual((status, out), (0, "examples/list_wrong.vpr: verified, 1 unit, by a certificate\n"))
 
     def test_what_is_assumed_in_vain_is_told(self):
         status, out, _ = self.verify("--smoke", "-", text="method m(x: Int) requires x > 0 && x < 0 { assert false }\n")
@@ -172,7 +172,7 @@ class Calls(unittest.TestCase):
             path = os.path.join(room, "a b\n\x1b'\".vpr")
             with open(path, "w") as it:
                 it.write("method m() { assert true }\n")
-            self.assertEqual(self.verify(path)[1], f"{room}/a b\\x0a\\x1b'\".vpr: verified, 1 unit, each by a certificate\n")
+            self.assertEqual(self.verify(path)[1], f"{room}/a b\\x0a\\x1b'\".vpr: verified, 1 unit, by a certificate\n")
             self.assertEqual(json.loads(self.verify("--json", path)[1])["file"], path)
 
     def test_files_whose_kept_names_would_be_one_are_kept_apart(self):
@@ -193,14 +193,14 @@ class Calls(unittest.TestCase):
 
     def test_a_file_that_is_too_large_is_refused_without_reading_its_tokens(self):
         whole = "method m() {}\n//".ljust(files.LARGEST, "-")
-        self.assertEqual(self.verify("-", text=whole)[:2], (0, "<stdin>: verified, 1 unit, each by a certificate\n"))
+        self.assertEqual(self.verify("-", text=whole)[:2], (0, "<stdin>: verified, 1 unit, by a certificate\n"))
         self.assertEqual(self.verify("-", text=f"{whole}-")[:2], (2, "<stdin>:1:1: error: the file has more than 1,048,576 bytes\n"))
         self.assertEqual(files.source_of("a.vpr", f"{whole}-".encode()).tokens, [])
 
     def test_a_run_that_is_not_shown_is_not_announced(self):
         text = "method m(x: Int) { assert x == x }\n"
         self.assertEqual(self.verify("--smoke", "--no-runs", "-", text=text)[:2],
-                         (0, "<stdin>:1:8: note: a run of `m` is done, as `run` says\n<stdin>: verified, 1 unit, each by a certificate\n"))
+                         (0, "<stdin>:1:8: note: a run of `m` is done, as `run` says\n<stdin>: verified, 1 unit, by a certificate\n"))
         self.assertIn("this run of `m` is done, as `run` says:\nviper run\npick true\n", self.verify("--smoke", "-", text=text)[1])
 
     def test_a_run_that_needs_a_number_beyond_the_bound_is_told_in_words(self):
