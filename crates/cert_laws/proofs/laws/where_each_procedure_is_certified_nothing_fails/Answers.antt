@@ -16,3 +16,6 @@ returns-clause-executions c source program bytes t framed each b =
     let a = framed.accepted in
     frames_hold b program (accepted_formed a) (texts_are_framed a.tokens a.source program framed.framed a.spelled a.is_typed)
     (no_unit_fails program bytes t (no_procedure_fails bytes t.boogie t.spelled each))
+
+pub returns-clause-calls : goal.returns-clause-calls
+returns-clause-calls c files file name v = (v.bytes, v.is, record { procedure = v.procedure; accepted = v.accepted; holds = v.holds })
