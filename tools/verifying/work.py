@@ -91,7 +91,7 @@ def examined_deep(given, unit, options):
         outcome = examiner.outcome()
         is_verified = outcome.verdict == VERIFIED
         found = smoke(examiner) if options.smoke and is_verified else ("", None)
-        shown = certified(examiner) if options.certificates and is_verified else None
+        shown = certified(examiner, given.text_file) if options.certificates and is_verified else None
         return result_of(unit.name, outcome, MINE.source_of(given), given.is_boogie, found, shown, time.monotonic() - start)
     except (NoSolver, NotAsWritten, NoProgram, TooSlow, RecursionError, MemoryError, OSError) as why:
         return undecided(unit.name, f"{why}" or type(why).__name__)
