@@ -1,6 +1,7 @@
 -- What is written for a block, and for a procedure, ends as the modular run.
-use Rattle.std.proofs.Common.{◌≡◌, ◌+◌, ◌≤◌, ℕ, zero, suc, Bool as Truth, true, false, cond, Some, List, [], ◌∷◌, ◌++◌, length, map, All, take, drop, slice_get, refl, sym, ap, subst, ◌∙◌, arith, length-append}
+use Rattle.std.proofs.Common.{◌≡◌, ◌+◌, ◌≤◌, ℕ, suc, Bool as Truth, true, false, cond, Some, List, [], ◌∷◌, ◌++◌, length, map, All, take, drop, slice_get, refl, sym, ap, subst, ◌∙◌, arith, length-append}
 use Rattle.std.specs.List.{AllZip, filter, range_with_len}
+use Rattle.lemmas.proofs.Lists.{take_there, head_there, map_append}
 use Rattle.vb_value.specs.Bound.{Unbounded}
 use Rattle.boogie_tree.specs.Stmt as s
 use Rattle.boogie_tree.specs.Program.{BType, Local}
@@ -126,23 +127,6 @@ module _ (ps : List WProc) (params : ℕ) (callees : Callees ps) (ls all : List 
         (block_runs hxs (n + length a.locals) (k + length a.locals) (omega (arith, at)) (omega (arith, room, long)))
 
 -- ---- procedures
-
-take_there : {X : Type 0} (n : ℕ) (xs : List X) (i : ℕ) (x : X) → slice_get (take n xs) i ≡ Some x → slice_get xs i ≡ Some x
-take_there zero xs i x h = absurd (cc)
-take_there (suc n) [] i x h = absurd (cc)
-take_there (suc n) (y ∷ xs) zero x h = h
-take_there (suc n) (y ∷ xs) (suc i) x h = take_there n xs i x h
-
-head_there : {X : Type 0} (n r : ℕ) (xs : List X) (i : ℕ) (x : X) → slice_get (take n xs ++ take r (drop n xs)) i ≡ Some x → slice_get xs i ≡ Some x
-head_there zero r xs i x h = take_there r xs i x h
-head_there (suc n) zero [] i x h = absurd (cc)
-head_there (suc n) (suc r) [] i x h = absurd (cc)
-head_there (suc n) r (y ∷ xs) zero x h = h
-head_there (suc n) r (y ∷ xs) (suc i) x h = head_there n r xs i x h
-
-map_append : {X Y : Type 0} (f : X → Y) (xs ys : List X) → map f (xs ++ ys) ≡ map f xs ++ map f ys
-map_append f [] ys = refl
-map_append f (x ∷ xs) ys = ap (λ zs. f x ∷ zs) (map_append f xs ys)
 
 fresh_types : (taken : List (List ℕ)) (n : ℕ) (us : List BType) → map (λ (l : Local). l.ty) (fresh_locals taken n us) ≡ us
 fresh_types taken n [] = refl

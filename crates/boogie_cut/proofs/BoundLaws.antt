@@ -9,9 +9,9 @@ use Rattle.boogie_tree.specs.Value.{BValue, BChoice}
 use Rattle.boogie_meaning.specs.Compared.{IsBoundedBy, same as alike, over as is_over, IsNotOver, StaysWithin, RunIsBoundedBy, same, over}
 use Rattle.boogie_meaning.specs.Ends as ends
 use Rattle.boogie_meaning.specs.Ends.{End, Is}
-use Rattle.boogie_meaning.specs.Run.{Run, Done, Stops, Failed, Blocked, Short, Over, Wrong, with_end, unless_blocked, with_choice, then_run, picked}
+use Rattle.boogie_meaning.specs.Run.{Run, Done, Stops, Failed, Blocked, Short, Over, Wrong, picked}
 use Rattle.boogie_meaning.proofs.BoundLaws.{then_bounded, found_bounded, as_truth_bounded, bvalue_bounded, side_bounded}
-use Rattle.boogie_meaning.proofs.RunBoundLaws.{run_not_over, stmt_bounded}
+use Rattle.boogie_meaning.proofs.RunBoundLaws.{end_bounded, choice_bounded, then_bounded as run_then, if_bounded, stmt_bounded}
 use Rattle.boogie_wide.specs.Wide as w
 use Rattle.boogie_wide.specs.Wide.{Clause, WProc}
 use Rattle.boogie_wide.specs.Procedures.{wide_types, proc_named}
@@ -19,51 +19,6 @@ use Rattle.boogie_wide.specs.Changed.{targets}
 use Rattle.boogie_wide.specs.Modular.{assert_all, assume_all, havoc_all, arguments, values_at, called, with_guard, looped, cutrun_stmt, cutrun, cutrun_proc}
 use Rattle.boogie_wide.specs.Turning.{Turned, Goes, Halts, Spent, then_turned, plainly, turned_end, turned_unless, turned_choice, turned_guard, take_turn, turns, wrun_stmt, wrun, wrun_proc}
 use Rattle.boogie_cut.specs.Bounded.{TurnsWithin, IsTurnedBoundedBy, same as turned_same, over as turned_over}
-
--- ---- ways to go on
-
-end_within : {X : Type 0} (e : End X) (cs : List BChoice) (go : X → Run) → IsNotOver e → ((x : X) → StaysWithin (go x)) → StaysWithin (with_end e cs go)
-end_within (Is x) cs go h g = g x
-end_within ends.Over cs go h g = absurd h
-end_within ends.Wrong cs go h g = tt
-
-end_bounded : {X : Type 0} {e f : End X} (cs : List BChoice) (go to : X → Run) → IsBoundedBy e f → ((x : X) → RunIsBoundedBy (go x) (to x)) → RunIsBoundedBy (with_end e cs go) (with_end f cs to)
-end_bounded {e = Is x} cs go to (alike h) g = g x
-end_bounded {e = ends.Over} cs go to (alike h) g = absurd h
-end_bounded {e = ends.Wrong} cs go to (alike h) g = same tt
-end_bounded {f = f} cs go to (is_over h) g = over (end_within f cs to h (λ x. run_not_over (g x)))
-
-unless_bounded : {X : Type 0} (o : Option X) (rest : List BChoice) (go to : X → List BChoice → Run) → ((x : X) (cs : List BChoice) → RunIsBoundedBy (go x cs) (to x cs)) →
-    RunIsBoundedBy (unless_blocked o rest go) (unless_blocked o rest to)
-unless_bounded (Some x) rest go to h = h x rest
-unless_bounded None rest go to h = same tt
-
-choice_bounded : {X : Type 0} (cs : List BChoice) (kind : BChoice → Option X) (go to : X → List BChoice → Run) → ((x : X) (cs : List BChoice) → RunIsBoundedBy (go x cs) (to x cs)) →
-    RunIsBoundedBy (with_choice cs kind go) (with_choice cs kind to)
-choice_bounded [] kind go to h = same tt
-choice_bounded (c ∷ rest) kind go to h = unless_bounded (kind c) rest go to h
-
-then_within : (r : Run) (go : List BValue → List BChoice → Run) → StaysWithin r → ((env : List BValue) (cs : List BChoice) → StaysWithin (go env cs)) → StaysWithin (then_run r go)
-then_within (Done env cs) go h g = g env cs
-then_within (Stops (Failed l) cs) go h g = tt
-then_within (Stops Blocked cs) go h g = tt
-then_within (Stops Short cs) go h g = tt
-then_within (Stops Over cs) go h g = absurd h
-then_within (Stops Wrong cs) go h g = tt
-
-run_then : {r q : Run} (go to : List BValue → List BChoice → Run) → RunIsBoundedBy r q → ((env : List BValue) (cs : List BChoice) → RunIsBoundedBy (go env cs) (to env cs)) →
-    RunIsBoundedBy (then_run r go) (then_run q to)
-run_then {r = Done env cs} go to (same h) g = g env cs
-run_then {r = Stops (Failed l) cs} go to (same h) g = same tt
-run_then {r = Stops Blocked cs} go to (same h) g = same tt
-run_then {r = Stops Short cs} go to (same h) g = same tt
-run_then {r = Stops Over cs} go to (same h) g = absurd h
-run_then {r = Stops Wrong cs} go to (same h) g = same tt
-run_then {q = q} go to (over h) g = over (then_within q to h (λ env cs. run_not_over (g env cs)))
-
-if_bounded : (p : Truth) {r q u v : Run} → RunIsBoundedBy r q → RunIsBoundedBy u v → RunIsBoundedBy (if p then r else u) (if p then q else v)
-if_bounded true h g = h
-if_bounded false h g = g
 
 -- ---- conditions and calls
 

@@ -2,6 +2,7 @@
 use Rattle.std.proofs.Common.{◌≡◌, ◌+◌, ◌<◌, ◌≤◌, ◌⊎◌, inl, inr, ℕ, zero, suc, Some, None, unwrap_or, List, [], ◌∷◌, ◌++◌, length, map, slice_get, slice_set, refl, sym, ap, subst, ◌∙◌, arith}
 use Rattle.std.specs.List.{AllZip}
 use Rattle.std.proofs.lemmas.List.Elements.{All-head, All-tail}
+use Rattle.lemmas.proofs.Lists.{there_split}
 use Rattle.vb_value.specs.Bound.{Unbounded}
 use Rattle.boogie_tree.specs.Expr as t
 use Rattle.boogie_tree.specs.Program.{BType}
@@ -24,16 +25,6 @@ use Rattle.boogie_cut.proofs.EnvLaws.{there_left, there_right, there_within, wit
 use Rattle.boogie_cut.proofs.AlikeLaws.{Alike, Runs, run_join, then_alike, join_runs, same, Same, asserts_alike, assumes_alike, havocs_runs}
 
 -- ---- look-ups
-
-there_split : {X : Type 0} (xs ys : List X) (i : ℕ) (x : X) → slice_get (xs ++ ys) i ≡ Some x → (slice_get xs i ≡ Some x) ⊎ ((j : ℕ) × (i ≡ length xs + j) × (slice_get ys j ≡ Some x))
-there_split [] ys i x h = inr (i, omega arith, h)
-there_split (y ∷ xs) ys zero x h = inl h
-there_split (y ∷ xs) ys (suc i) x h = up (there_split xs ys i x h)
-  where
-    up : (slice_get xs i ≡ Some x) ⊎ ((j : ℕ) × (i ≡ length xs + j) × (slice_get ys j ≡ Some x)) →
-        (slice_get (y ∷ xs) (suc i) ≡ Some x) ⊎ ((j : ℕ) × (suc i ≡ suc (length xs) + j) × (slice_get ys j ≡ Some x))
-    up (inl e) = inl e
-    up (inr r) = let e = r.1 in inr (r.0, omega (arith, e), r.2)
 
 zip_there : {X Y : Type 0} (R : X → Y → Type 0) (xs : List X) (ys : List Y) (j : ℕ) (y : Y) → AllZip R xs ys → slice_get ys j ≡ Some y → (x : X) × (slice_get xs j ≡ Some x) × R x y
 zip_there R [] [] j y h l = absurd (cc)

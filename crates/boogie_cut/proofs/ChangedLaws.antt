@@ -6,13 +6,14 @@ use Rattle.std.specs.Bool.{⊤}
 use Rattle.std.specs.List.{filter, list_any, range_with_len, Contains}
 use Rattle.std.specs.List.Sorted.{IsStrictlyIncreasing}
 use Rattle.std.specs.declared.alloc.Global.{Global}
+use Rattle.lemmas.proofs.Lists.{next_item, next_number, none_left}
+use Rattle.lemmas.proofs.Tests.{or_assoc, or_false}
 use Rattle.boogie_tree.specs.declared.exprs.BExpr.{BExpr}
 use Rattle.boogie_wide.specs.Changed.{changes, changes_stmt}
 use Rattle.boogie_wide.specs.View.{wstmt_of, wstmts_of}
 use Rattle.boogie_wide.specs.Wide as w
 use Rattle.boogie_wide.specs.declared.wide.WStmt as wstmt
 use Rattle.boogie_cut.specs.View.{changed_by, changed_by_stmt}
-use Rattle.boogie_cut.proofs.CodeLaws.{next_item, next_number_item, none_left}
 use Rattle.boogie_cut.proofs.WriteLaws.{if_is, either_is}
 
 abbrev pub has : List ℕ → ℕ → Truth
@@ -20,23 +21,15 @@ has xs j = list_any (λ i. i == j) xs
 
 -- ---- members
 
-or_assoc : (a b c : Truth) → ((a || b) || c) ≡ (a || (b || c))
-or_assoc true b c = refl
-or_assoc false b c = refl
-
 has_append : (xs ys : List ℕ) (j : ℕ) → has (xs ++ ys) j ≡ (has xs j || has ys j)
 has_append [] ys j = refl
 has_append (x ∷ xs) ys j = ap (λ b. (x == j) || b) (has_append xs ys j) ∙ sym (or_assoc (x == j) (has xs j) (has ys j))
 
-or_none : (b : Truth) → (b || false) ≡ b
-or_none true = refl
-or_none false = refl
-
 mutual
   has_stmt : (x : w.WStmt) (j : ℕ) → has (changed_by_stmt x) j ≡ changes_stmt x j
-  has_stmt (w.Assign i e) j = or_none (i == j)
-  has_stmt (w.Put i es e) j = or_none (i == j)
-  has_stmt (w.Havoc i) j = or_none (i == j)
+  has_stmt (w.Assign i e) j = or_false (i == j)
+  has_stmt (w.Put i es e) j = or_false (i == j)
+  has_stmt (w.Havoc i) j = or_false (i == j)
   has_stmt (w.Assume e) j = refl
   has_stmt (w.Assert l e) j = refl
   has_stmt (w.If e xs ys) j = let a = has_block xs j in let b = has_block ys j in has_append (changed_by xs) (changed_by ys) j ∙ (λ i. a i || b i)
@@ -182,7 +175,7 @@ in_range test (suc m) k n xs e r h =
         let there : has (y ∷ ys) k ≡ true = h k (omega arith) ∙ (λ i. t i && below i) in
         let from = r.0 in
         let rest : has ys k ≡ false = rising_less ys (y + 1) k r.1 (omega (arith, from)) in
-        let same : y ≡ k = same_number y k (sym (or_none (y == k)) ∙ ap (λ b. (y == k) || b) (sym rest) ∙ there) in
+        let same : y ≡ k = same_number y k (sym (or_false (y == k)) ∙ ap (λ b. (y == k) || b) (sym rest) ∙ there) in
         let rises : Rising (k + 1) ys = subst (λ z. Rising (z + 1) ys) same r.1 in
         let those : AreThose test (k + 1) n ys = λ j l. ap (λ b. b || has ys j) (sym (differ y j (omega (arith, same, l)))) ∙ h j (omega (arith, l)) in
         let rest_is = later ys rises those in
@@ -211,7 +204,7 @@ module _ (test : ℕ → Truth) (xs : List ℕ) (i : ℕ) (lt : i < length xs) (
   rest = filter test (drop (i + 1) xs)
 
   by_first : (b : Truth) → test x ≡ b → old ++ cond b (x ∷ rest) rest ≡ all
-  by_first b e = ap (λ c. old ++ cond c (x ∷ rest) rest) (sym e) ∙ ap (λ ys. old ++ filter test ys) (sym (next_number_item xs i lt)) ∙ so_far
+  by_first b e = ap (λ c. old ++ cond c (x ∷ rest) rest) (sym e) ∙ ap (λ ys. old ++ filter test ys) (sym (next_number xs i lt)) ∙ so_far
 
   pub kept_next : test x ≡ true → (new : List ℕ) → new ≡ old ++ x ∷ [] → new ++ rest ≡ all
   kept_next e new push = ap (λ z. z ++ rest) push ∙ append_assoc old (x ∷ []) rest ∙ by_first true e

@@ -1,7 +1,5 @@
 -- What the code's steps say, over plain variables.
-use Rattle.std.proofs.Common.{◌≡◌, ◌∙◌, ◌≤◌, ◌<◌, ◌+◌, ℕ, suc, List, [], ◌∷◌, ◌++◌, map, take, drop, get_or, length, Vec, refl, sym, ap, drop_of_length-le}
-use Rattle.std.proofs.Math.Numerals.{add-one}
-use Rattle.std.proofs.Math.Seq.{drop-cons}
+use Rattle.std.proofs.Common.{◌≡◌, ◌∙◌, ◌≤◌, ◌+◌, ℕ, List, [], ◌∷◌, ◌++◌, map, take, length, Vec, refl, sym, ap}
 use Rattle.std.proofs.lemmas.List.{take_all}
 use Rattle.std.specs.declared.alloc.Global.{Global}
 use Rattle.boogie_tree.specs.Expr as t
@@ -12,15 +10,6 @@ use Rattle.boogie_tree.specs.declared.stmts.BStmt as stmt
 use Rattle.boogie_tree.proofs.WholeLaws.{expr_of-At, exprs_of-map}
 use Rattle.boogie_meaning.specs.Renamed.{renamed, renamed_in}
 use Rattle.boogie_cut.specs.Cut.{join}
-
-pub next_item : {X : Type 0} (xs : List X) (i : ℕ) (x : X) → i < length xs → x ≡ get_or xs i x → drop i xs ≡ x ∷ drop (i + 1) xs
-next_item xs i x lt is = rw add-one (drop-cons xs i x lt ∙ ap (λ y. y ∷ drop (suc i) xs) (sym is))
-
-pub next_number_item : (xs : List ℕ) (i : ℕ) → i < length xs → drop i xs ≡ get_or xs i 0 ∷ drop (i + 1) xs
-next_number_item xs i lt = rw add-one (drop-cons xs i 0 lt)
-
-pub none_left : {X : Type 0} (xs : List X) (i : ℕ) → length xs ≤ i → drop i xs ≡ []
-none_left xs i h = drop_of_length-le xs h
 
 -- ---- expressions
 

@@ -1,6 +1,7 @@
 -- Where a turning run fails, so does some modular run, and so some run of what is written.
 use Rattle.std.proofs.Common.{◌≡◌, ℕ, zero, suc, Bool as Truth, true, false, Option, Some, None, List, [], ◌∷◌, ◌++◌, All, if◌then◌else◌, refl, sym, ap, subst, ◌∙◌}
 use Rattle.std.proofs.lemmas.List.Elements.{All-nil, All-cons, All-head, All-tail, All-append}
+use Rattle.std.proofs.lemmas.Bool.{or_parts as neither}
 use Rattle.vb_base.specs.declared.labels.Label.{Label}
 use Rattle.vb_value.specs.Bound.{Unbounded}
 use Rattle.boogie_tree.specs.Expr as t
@@ -21,7 +22,7 @@ use Rattle.boogie_wide.specs.WideTypes.{IsWideStmt, assign, put, havoc, assume_,
 use Rattle.boogie_wide.specs.Modular.{assert_all, assume_all, havoc_all, arguments, called, with_guard, turned, looped, cutrun_stmt, cutrun, cutrun_proc}
 use Rattle.boogie_wide.specs.Turning.{Turned, Goes, Halts, Spent, then_turned, plainly, turned_end, turned_unless, turned_choice, turned_guard, take_turn, turns, wrun_stmt, wrun, wrun_proc}
 use Rattle.boogie_cut.proofs.CallLaws.{passed}
-use Rattle.boogie_cut.proofs.TurnLaws.{neither, Leads, at_once, leads_on, Failing, Frame, Tells, goes, fails, halts, spent, wider, led, halted, then_tells, Plain, then_plain, any_tells}
+use Rattle.boogie_cut.proofs.TurnLaws.{Leads, at_once, leads_on, Failing, Frame, Tells, goes, fails, halts, spent, wider, led, halted, then_tells, Plain, then_plain, any_tells}
 use Rattle.boogie_cut.proofs.TurningLaws.{asserts_tell, assumes_tell, Clauses, hold, stop, clauses_at, assign_tells, put_tells, havoc_tells, truth_tells, called_tells, head_leads}
 
 -- ---- branches

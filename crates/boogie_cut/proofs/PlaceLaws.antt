@@ -3,13 +3,14 @@ use Rattle.std.proofs.Common.{◌≡◌, ◌∙◌, ◌≤◌, ◌<◌, ◌+◌,
 use Rattle.std.proofs.lemmas.Slice.Eq.{bytes_eq-Decides}
 use Rattle.std.specs.List.{filter, list_any}
 use Rattle.std.specs.Str.{bytes_eq}
+use Rattle.lemmas.proofs.Lists.{next_item, none_left}
+use Rattle.lemmas.proofs.Tests.{or_false, cond_or}
 use Rattle.boogie_tree.specs.Program as p
 use Rattle.boogie_tree.specs.Whole.{locals_of, type_of}
 use Rattle.boogie_tree.specs.declared.programs.BType.{BType}
 use Rattle.boogie_tree.specs.declared.programs.Local.{Local}
 use Rattle.boogie_cut.specs.Fresh.{numbered, is_among, free_number, fresh_locals, is_a}
 use Rattle.boogie_cut.specs.View.{AreNoted, IsNoted, a_names}
-use Rattle.boogie_cut.proofs.CodeLaws.{next_item, none_left}
 
 -- ---- names that are taken
 
@@ -25,10 +26,6 @@ or_swap : (a b c : Truth) → ((a || b) || c) ≡ (b || (a || c))
 or_swap true true c = refl
 or_swap true false c = refl
 or_swap false b c = refl
-
-cond_or : (a b : Truth) → cond a true b ≡ (a || b)
-cond_or true b = refl
-cond_or false b = refl
 
 pub noted : (name key : List ℕ) (old new : List (List ℕ)) → is_a name ≡ true → key ≡ name → ((other : List ℕ) → list_any (bytes_eq other) new ≡ cond (bytes_eq key other) true (list_any (bytes_eq other) old)) → IsNoted name old new 1
 noted name key old new is same inserted = record {
@@ -71,16 +68,12 @@ noted_next ls i l all old new many n next lt is sum so_far h =
     subst (λ k. NotedSoFar new k (a_names (drop (i + 1) ls)) all) (sym sum)
     (noted_first l.name (a_names (drop (i + 1) ls)) all old new many n (is_a l.name) refl (subst (λ xs. NotedSoFar old many (a_names xs) all) (next_item ls i l lt is) so_far) h)
 
-or_none : (b : Truth) → (b || false) ≡ b
-or_none true = refl
-or_none false = refl
-
 pub all_noted : (ls : List Local) (i many : ℕ) (keys all : List (List ℕ)) → length ls ≤ i → NotedSoFar keys many (a_names (drop i ls)) all → AreNoted keys many all
 all_noted ls i many keys all end h =
     let none = none_left ls i end in
     let g = subst (λ xs. NotedSoFar keys many (a_names xs) all) none h in
     let long = g.count in
-    record { are = λ name. sym (or_none (list_any (bytes_eq name) keys)) ∙ g.are name; count = omega (arith, long) }
+    record { are = λ name. sym (or_false (list_any (bytes_eq name) keys)) ∙ g.are name; count = omega (arith, long) }
 
 -- ---- the first free number
 

@@ -1,20 +1,19 @@
 -- What expressions that are well-typed mean without a bound: they have a value, and it is theirs wherever the variables that they
 -- look at have the same values.
-use Rattle.std.proofs.Common.{◌≡◌, ℕ, Option, Some, None, List, slice_get, refl, sym, ap, ◌∙◌}
+use Rattle.std.proofs.Common.{◌≡◌, ℕ, Some, None, List, slice_get, refl, sym, ap, ◌∙◌}
 use Rattle.vb_value.specs.Bound.{Unbounded}
 use Rattle.boogie_tree.specs.Expr as t
 use Rattle.boogie_tree.specs.Program.{BType}
 use Rattle.boogie_tree.specs.Value.{BValue}
-use Rattle.boogie_tree.specs.Values.{plain_type, map_type, IsEnvironment, IsOfType}
+use Rattle.boogie_tree.specs.Values.{plain_type, IsEnvironment, IsOfType}
 use Rattle.boogie_tree.specs.declared.exprs.BBase.{BBase}
-use Rattle.boogie_meaning.specs.Compared.{IsNotOver}
-use Rattle.boogie_meaning.specs.Ends.{End, Is, found, Keeps, value as has, over}
+use Rattle.boogie_meaning.specs.Ends.{Is, found}
 use Rattle.boogie_meaning.specs.Quantified.{bvalue, bkey, one_of, side}
-use Rattle.boogie_meaning.specs.Renamed.{renamed, renamed_in, AllVariables, AllVariablesIn}
-use Rattle.boogie_meaning.specs.Types.{HasType, var, int, real, bool, null, unit, neg, not_, binary, choose, forall_, to_real, s_int, s_bool, s_ref, s_perm, pair, at, at_bound, HaveTypes, none, more, SideHasType, whole as whole_variable, value as expression}
-use Rattle.boogie_meaning.proofs.RenamedLaws.{bvalue_same, bkey_same}
+use Rattle.boogie_meaning.specs.Renamed.{renamed, renamed_in}
+use Rattle.boogie_meaning.specs.Types.{HasType, var, at, HaveTypes, none, more, SideHasType, whole as whole_variable, value as expression}
+use Rattle.boogie_meaning.proofs.RenamedLaws.{bvalue_same, bkey_same, variables, variables_in}
 use Rattle.boogie_meaning.proofs.TypedLaws.{side_keeps}
-use Rattle.boogie_meaning.proofs.BoundLaws.{goes_not_over, side_bounded}
+use Rattle.boogie_meaning.proofs.BoundLaws.{is_value, goes_not_over, side_bounded}
 
 -- ---- the same numbers
 
@@ -47,40 +46,7 @@ mutual
   renamed_own_in t.none = refl
   renamed_own_in (t.more a es) = let p = renamed_own a in let q = renamed_own_in es in λ i. t.more (p i) (q i)
 
--- ---- what holds of the variables that are declared holds of those of a typed expression
-
-module _ (ls : List BType) (P : ℕ → Type 0) (h : (i : ℕ) (u : BType) → slice_get ls i ≡ Some u → P i) where
-  mutual
-    pub variables : {o : Option (List BBase)} {e : t.BExpr} {u : BBase} → HasType ls o e u → AllVariables P e
-    variables (var {i = i} {u = u} l) = h i (plain_type u) l
-    variables int = tt
-    variables real = tt
-    variables bool = tt
-    variables null = tt
-    variables unit = tt
-    variables (neg n a) = variables a
-    variables (not_ a) = variables a
-    variables (binary e a b) = (variables a, variables b)
-    variables (choose c a b) = (variables c, variables a, variables b)
-    variables (forall_ k a) = variables a
-    variables (to_real a) = variables a
-    variables (s_int a) = variables a
-    variables (s_bool a) = variables a
-    variables (s_ref a) = variables a
-    variables (s_perm a) = variables a
-    variables (pair a b) = (variables a, variables b)
-    variables (at {m = m} {u = u} {us = us} {w = w} l es) = (h m (map_type u us w) l, variables_in es)
-    variables (at_bound {m = m} {u = u} {us = us} {w = w} l) = h m (map_type u us w) l
-
-    pub variables_in : {o : Option (List BBase)} {es : t.BExprs} {us : List BBase} → HaveTypes ls o es us → AllVariablesIn P es
-    variables_in none = tt
-    variables_in (more k a es) = (variables a, variables_in es)
-
 -- ---- without a bound there is a value
-
-is_value : {X : Type 0} {P : X → Type 0} {e : End X} → Keeps P e → IsNotOver e → (x : X) × (e ≡ Is x) × P x
-is_value (has {x = x} p) n = (x, refl, p)
-is_value over n = absurd n
 
 module _ (ls : List BType) (env : List BValue) (h : IsEnvironment ls env) where
   pub side_there : (e : t.BExpr) (u : BType) → SideHasType ls e u → (v : BValue) × (side Unbounded e env ≡ Is v) × IsOfType v u

@@ -1,6 +1,6 @@
 -- Where a turning run fails, so does some modular run from the same values: to the last head of each loop it gets by its havocked
 -- targets.
-use Rattle.std.proofs.Common.{◌≡◌, ◌==◌, ◌||◌, ℕ, zero, suc, Bool as Truth, true, false, Option, Some, None, List, [], ◌∷◌, ◌++◌, All, slice_get, slice_set, refl, sym, ap, subst, ◌∙◌, append_assoc}
+use Rattle.std.proofs.Common.{◌≡◌, ◌==◌, ℕ, zero, suc, Bool as Truth, false, Option, Some, None, List, [], ◌∷◌, ◌++◌, All, slice_get, slice_set, refl, sym, ap, subst, ◌∙◌, append_assoc}
 use Rattle.std.specs.Map.{values_of}
 use Rattle.std.proofs.lemmas.Bool.Decides.{Decides-eqb}
 use Rattle.std.proofs.lemmas.List.Elements.{All-nil, All-cons, All-head, All-tail, All-append}
@@ -40,10 +40,6 @@ module _ {X : Type 0} where
 
 pub apart : (i j : ℕ) → (i == j) ≡ false → i ≡ j → ⊥
 apart i j h e = let t = (Decides-eqb i j).1 e in absurd (cc)
-
-pub neither : (p q : Truth) → (p || q) ≡ false → (p ≡ false) × (q ≡ false)
-neither false q h = (refl, h)
-neither true q h = absurd (cc)
 
 -- ---- the choice that gives a value
 

@@ -3,6 +3,7 @@ use Rattle.std.proofs.Common.{◌≡◌, ◌+◌, ◌<◌, ◌≤◌, ◌==◌, 
 use Rattle.std.specs.List.{AllZip, filter, range_with_len, list_any}
 use Rattle.std.proofs.lemmas.Bool.Decides.{Decides-eqb}
 use Rattle.std.proofs.lemmas.List.Elements.{All-nil, All-cons}
+use Rattle.std.proofs.lemmas.Bool.{or_parts as neither}
 use Rattle.vb_value.specs.Bound.{Unbounded}
 use Rattle.boogie_tree.specs.Expr as t
 use Rattle.boogie_tree.specs.Stmt as s
@@ -23,7 +24,7 @@ use Rattle.boogie_wide.specs.Changed.{changes, targets}
 use Rattle.boogie_wide.specs.Modular.{assert_all, assume_all, havoc_all, values_at, called}
 use Rattle.boogie_cut.proofs.EnvLaws.{length_env}
 use Rattle.boogie_cut.proofs.BlockLaws.{targets_declared}
-use Rattle.boogie_cut.proofs.TurnLaws.{get_set_other, get_set_same, same_lists, apart, neither, choice_reduced, Frame, Plain, done_tells, stop_tells, run_tells, end_tells, choice_tells}
+use Rattle.boogie_cut.proofs.TurnLaws.{get_set_other, get_set_same, same_lists, apart, choice_reduced, Frame, Plain, done_tells, stop_tells, run_tells, end_tells, choice_tells}
 
 abbrev Any : {X : Type 0} → X → Type 0
 Any x = Unit {0}

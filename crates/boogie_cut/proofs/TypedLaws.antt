@@ -1,10 +1,11 @@
 -- What is written for a well-typed program is well-typed.
-use Rattle.std.proofs.Common.{◌≡◌, ◌+◌, ◌<◌, ℕ, zero, suc, Bool as Truth, true, false, cond, Option, Some, None, unwrap_or, List, [], ◌∷◌, ◌++◌, map, take, drop, length, All, slice_get, refl, sym, ap, subst, ◌∙◌, arith}
+use Rattle.std.proofs.Common.{◌≡◌, ◌+◌, ◌<◌, ℕ, zero, suc, Bool as Truth, true, false, cond, Option, Some, None, List, [], ◌∷◌, ◌++◌, map, length, All, slice_get, refl, sym, ap, subst, ◌∙◌, arith}
 use Rattle.std.specs.List.{AllZip, filter, find, cons_option, range_with_len}
 use Rattle.std.specs.Option.{option_map}
 use Rattle.std.proofs.lemmas.List.{length-map}
 use Rattle.std.proofs.lemmas.List.Elements.{All-nil, All-cons, All-head, All-tail, All-append, All-filter}
 use Rattle.std.proofs.lemmas.List.FromFn.{get_or-range_with_len}
+use Rattle.lemmas.proofs.Lists.{take_there as first, head_there, there_left as left, item_there as exists, each_there, at_item}
 use Rattle.boogie_tree.specs.Expr as t
 use Rattle.boogie_tree.specs.Stmt as s
 use Rattle.boogie_tree.specs.Program.{BType, Local}
@@ -27,20 +28,10 @@ use Rattle.boogie_cut.specs.Fresh.{fresh_locals, free_number, is_a}
 
 -- ---- places of lists
 
-pub left : {X : Type 0} (xs ys : List X) (i : ℕ) (x : X) → slice_get xs i ≡ Some x → slice_get (xs ++ ys) i ≡ Some x
-left [] ys i x h = absurd (cc)
-left (z ∷ xs) ys zero x h = h
-left (z ∷ xs) ys (suc i) x h = left xs ys i x h
-
 pub right : {X : Type 0} (xs ys : List X) (i k : ℕ) (x : X) → k ≡ length xs + i → slice_get ys i ≡ Some x → slice_get (xs ++ ys) k ≡ Some x
 right [] ys i k x e h = ap (slice_get ys) (omega (arith, e)) ∙ h
 right (z ∷ xs) ys i zero x e h = absurd (omega (arith, e))
 right (z ∷ xs) ys i (suc k) x e h = right xs ys i k x (omega (arith, e)) h
-
-exists : {X : Type 0} (xs : List X) (i : ℕ) → i < length xs → (x : X) × (slice_get xs i ≡ Some x)
-exists [] i h = absurd (omega (arith, h))
-exists (x ∷ xs) zero h = (x, refl)
-exists (x ∷ xs) (suc i) h = exists xs i (omega (arith, h))
 
 pub found : {X : Type 0} (test : X → Truth) (xs : List X) (x : X) → find test xs ≡ Some x → (n : ℕ) × (slice_get xs n ≡ Some x)
 found test [] x h = absurd (cc)
@@ -49,20 +40,6 @@ found test (y ∷ xs) x h = at (test y) h (found test xs x)
     at : (p : Truth) → cond p (Some y) (find test xs) ≡ Some x → (find test xs ≡ Some x → (n : ℕ) × (slice_get xs n ≡ Some x)) → (n : ℕ) × (slice_get (y ∷ xs) n ≡ Some x)
     at true g rest = (0, g)
     at false g rest = let r = rest g in (suc r.0, r.1)
-
-first : {X : Type 0} (r : ℕ) (xs : List X) (i : ℕ) (x : X) → slice_get (take r xs) i ≡ Some x → slice_get xs i ≡ Some x
-first zero [] i x h = absurd (cc)
-first zero (y ∷ xs) i x h = absurd (cc)
-first (suc r) [] i x h = absurd (cc)
-first (suc r) (y ∷ xs) zero x h = h
-first (suc r) (y ∷ xs) (suc i) x h = first r xs i x h
-
-in_head : {X : Type 0} (p r : ℕ) (xs : List X) (i : ℕ) (x : X) → slice_get (take p xs ++ take r (drop p xs)) i ≡ Some x → slice_get xs i ≡ Some x
-in_head zero r [] i x h = first r [] i x h
-in_head zero r (y ∷ xs) i x h = first r (y ∷ xs) i x h
-in_head (suc p) r [] i x h = first r [] i x h
-in_head (suc p) r (y ∷ xs) zero x h = h
-in_head (suc p) r (y ∷ xs) (suc i) x h = in_head p r xs i x h
 
 -- ---- expressions over other variables
 
@@ -372,7 +349,7 @@ module _ (ps : List WProc) (typed : (n : ℕ) (d : WProc) → slice_get ps n ≡
       let long : length ls ≡ length d.locals = length-map d.locals (λ l. l.ty) in
       let there : Extends ls ms = λ i u k. left ls a.locals i u k in
       let held : Holds ms (length d.locals) a.locals = λ j k u e g. right ls a.locals j k u (omega (arith, e, long)) g in
-      let heads : Extends (head_types d) ms = λ i u k. there i u (in_head d.params d.returns ls i u k) in
+      let heads : Extends (head_types d) ms = λ i u k. there i u (head_there d.params d.returns ls i u k) in
       record {
         keys = subst HaveKeys (sym types) (All-append (λ u. AreKeys u.keys) ls a.locals h.keys (block_keys ps ls d.params (length d.locals) body_typed));
         body = subst (λ us. IsTyped us (cut_body d a.stmts)) (sym types)
@@ -390,20 +367,8 @@ module _ (ps : List WProc) (typed : (n : ℕ) (d : WProc) → slice_get ps n ≡
       at None head body rest = rest
       at (Some body) head typed_body rest = All-cons IsTypedProc (cut_proc ps d body) (cut_procs ps ds) (proc_typed d body head typed_body) rest
 
-pub at_place : {X : Type 0} (P : X → Type 0) (xs : List X) → ((n : ℕ) (x : X) → slice_get xs n ≡ Some x → P x) → All P xs
-at_place P [] h = All-nil P
-at_place P (x ∷ xs) h = All-cons P x xs (h 0 x refl) (at_place P xs (λ n y there. h (suc n) y there))
-
-pub place_at : {X : Type 0} (P : X → Type 0) (xs : List X) → All P xs → (n : ℕ) (x : X) → slice_get xs n ≡ Some x → P x
-place_at P [] h n x there = absurd (cc)
-place_at P (y ∷ xs) h zero x there = subst P (same there) (All-head P y xs h)
-  where
-    same : {X : Type 0} {x y : X} → Some y ≡ Some x → y ≡ x
-    same {x = x} h = ap (λ o. unwrap_or o x) h
-place_at P (y ∷ xs) h (suc n) x there = place_at P xs (All-tail P y xs h) n x there
-
 pub procs_typed : (program : WProgram) → IsWideProgram program → All IsTypedProc (cut_procs program.procs program.procs)
-procs_typed program h = bodies_typed program.procs h program.procs (at_place (IsWideProc program.procs) program.procs h)
+procs_typed program h = bodies_typed program.procs h program.procs (each_there (IsWideProc program.procs) program.procs h)
 
 pub program_typed : (program : WProgram) → IsWideProgram program → IsTypedProgram (cut_program program)
-program_typed program h = place_at IsTypedProc (cut_procs program.procs program.procs) (procs_typed program h)
+program_typed program h = at_item IsTypedProc (cut_procs program.procs program.procs) (procs_typed program h)

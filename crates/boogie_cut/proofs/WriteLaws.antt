@@ -3,6 +3,7 @@ use Rattle.std.proofs.Common.{◌≡◌, ◌∙◌, ◌≤◌, ◌<◌, ◌+◌,
 use Rattle.std.specs.List.{filter, filter_map, range_with_len}
 use Rattle.std.specs.Option.{option_map}
 use Rattle.std.specs.declared.alloc.Global.{Global}
+use Rattle.lemmas.proofs.Lists.{map_taken as taken, next_item, none_left, next_number as next_number_item}
 use Rattle.boogie_tree.specs.Expr as t
 use Rattle.boogie_tree.specs.Stmt as s
 use Rattle.boogie_tree.specs.Program as p
@@ -23,7 +24,7 @@ use Rattle.boogie_wide.proofs.ViewLaws.{wstmt_of-If, wstmt_of-Either, wstmt_of-W
 use Rattle.boogie_cut.specs.Cut.{Written, plainly, join, alone, asserts, assumes, havocs, assigns, argument_numbers, stands_for, renamed_clauses, cut_call, cut_guard, cut_turn, cut_loop, cut_stmt, cut, cut_proc, cut_procs}
 use Rattle.boogie_cut.specs.Fresh.{fresh_locals}
 use Rattle.boogie_cut.specs.View.{IsBody, IsWritten, a_names, clauses_of, types_in}
-use Rattle.boogie_cut.proofs.CodeLaws.{next_item, none_left, join_skip, join_join, stmts_append, pushed, next_number_item}
+use Rattle.boogie_cut.proofs.CodeLaws.{join_skip, join_join, stmts_append, pushed}
 use Rattle.boogie_cut.proofs.PlaceLaws.{names_are}
 use Rattle.boogie_cut.proofs.TermLaws.{renamed_own}
 
@@ -247,12 +248,6 @@ call_joined is es n d numbers lent before posts b0 b1 b2 b3 b4 are same pre post
     four_joined b0 b1 b2 b3 b4 _ _ _ _ h g f e
     ∙ (λ i. join b0 (join (assigns n (exprs_of es)) (join (asserts (renamed_clauses (stands_for (names i)) (clauses_of (pre i))))
     (join (havocs is) (assumes (renamed_clauses (stands_for (names i)) (clauses_of (post i))))))))
-
-taken : {X Y : Type 0} (f : X → Y) (n : ℕ) (xs : List X) → map f (take n xs) ≡ take n (map f xs)
-taken f zero [] = refl
-taken f zero (x ∷ xs) = refl
-taken f (suc n) [] = refl
-taken f (suc n) (x ∷ xs) = ap (λ ys. f x ∷ ys) (taken f n xs)
 
 types_are : (ls : List Local) (d : WProc) → ls ≡ d.locals.items → types_in ls ≡ wide_types (wproc_of d)
 types_are ls d e = ap types_in e ∙ by d.locals.items

@@ -13,8 +13,8 @@ use Rattle.boogie_grammar.specs.Grammar as g
 use Rattle.boogie_grammar.specs.Grammar.{Rule, when, read, give, where_true}
 use Rattle.boogie_grammar.specs.Greedy.{IsNot, Starts, Goes}
 use Rattle.boogie_grammar.specs.ReadView.{is_new_name, ReadsForall, NoForall}
-use Rattle.boogie_grammar.proofs.Reading.{start, by_token, by_other}
-use Rattle.boogie_grammar.proofs.Steps.{goes_by}
+use Rattle.boogie_grammar.proofs.Reading.{boogie_steps}
+open boogie_steps use {start, by_token, by_other, goes_by}
 
 -- names that are none of two lists
 

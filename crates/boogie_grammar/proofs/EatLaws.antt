@@ -10,7 +10,8 @@ use Rattle.boogie_grammar.specs.ReadView.{ReadsVariable, NoVariable}
 use Rattle.boogie_grammar.specs.Tests as v
 use Rattle.boogie_grammar.specs.Tests.{Kind, Value, Test, a_base, a_key, a_variable, some_free}
 use Rattle.boogie_grammar.proofs.Elements.{laws}
-use Rattle.boogie_grammar.proofs.Reading.{by_token, by_other}
+use Rattle.boogie_grammar.proofs.Reading.{boogie_steps}
+open boogie_steps use {by_token, by_other}
 
 as_base : {ts us : List PlacedLexeme} {u : BBase} → Starts a_key ts u us → Starts a_base ts u us
 as_base h = record { token = h.token; is = h.is; passes = h.passes.0 }

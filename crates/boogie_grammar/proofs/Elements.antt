@@ -1,8 +1,9 @@
 -- Each test has a token that passes it, in one way, and each symbol spells something.
 use Rattle.std.proofs.Common.{◌≡◌, ◌∙◌, refl, sym, ap, ℕ, pos, Bool, true, false, not, ◌&&◌, List, [], ◌∷◌, Option, Some, None, if◌then◌else◌, arith, codes}
 use Rattle.std.specs.Str.{bytes_eq}
+use Rattle.lemmas.proofs.Options.{some_same}
 use Rattle.grammar.proofs.Laws as grammar
-use Rattle.grammar.proofs.Laws.{Example}
+use Rattle.grammar.proofs.Laws.{Example, el_give, el_other, el_read}
 use Rattle.vb_base.specs.declared.places.Pos.{Pos}
 use Rattle.vb_base.specs.declared.labels.Label.{Label}
 use Rattle.vb_base.specs.declared.labels.Kind.TheVariants as kind
@@ -53,20 +54,11 @@ example an_operator = record { token = token_of (tok.Sign sign.Iff); value = op.
 abbrev Element : {s : Kind} → Rule s → Type 0
 Element a = grammar.Element rules a
 
-el_give : {s : Kind} {x : Value s} → Element (give x)
-el_give = grammar.el_give rules
-
 el_need : {r s : Kind} {c : Test true r} {go : Value r → Rule s} → ((v : Value r) → Element (go v)) → Element (need c go)
-el_need {c = c} f = grammar.el_need rules (example c) f
+el_need {c = c} f = grammar.el_need (example c) f
 
 el_taken : {r s : Kind} {c : Test true r} {go : Value r → Rule s} {other : Rule s} → ((v : Value r) → Element (go v)) → Element (when c go other)
-el_taken {c = c} f = let k = example c in grammar.el_taken rules k.token k.value k.passes (f k.value)
-
-el_other : {b : Bool} {r s : Kind} {c : Test b r} {go : Value r → Rule s} {other : Rule s} → Element other → Element (when c go other)
-el_other e = grammar.el_other rules e
-
-el_read : {r s : Kind} {a : Symbol r} {go : Value r → Rule s} → Element (rule a) → ((y : Value r) → Element (go y)) → Element (read a go)
-el_read e f = grammar.el_read rules e f
+el_taken {c = c} f = let k = example c in grammar.el_taken k.token k.value k.passes (f k.value)
 
 el_expr : (x : g.Scope) → Element (rule (g.Expr x))
 el_expr x = el_taken (λ n. el_give)
@@ -128,14 +120,11 @@ base_there base.Ref = refl
 base_there base.Real = refl
 base_there base.Snap = refl
 
-some_is : {X : Type 0} {x y : X} → Some x ≡ Some y → x ≡ y
-some_is e = cc
-
-name_is : {x y : List ℕ} → tok.Name x ≡ tok.Name y → x ≡ y
+pub name_is : {x y : List ℕ} → tok.Name x ≡ tok.Name y → x ≡ y
 name_is e = cc
 
 one_base : (u v : BBase) → word_tok (base_word u) ≡ word_tok (base_word v) → u ≡ v
-one_base u v e = some_is (sym (base_there u) ∙ ap base_at (name_is e) ∙ base_there v)
+one_base u v e = some_same (sym (base_there u) ∙ ap base_at (name_is e) ∙ base_there v)
 
 unfoldable pub operator_at : Lexeme → Option BOp
 operator_at (tok.Sign sign.Iff) = Some op.Iff
@@ -175,12 +164,12 @@ operator_there op.IntDiv = refl
 operator_there op.IntMod = refl
 
 one_operator : (o q : BOp) → operator_tok o ≡ operator_tok q → o ≡ q
-one_operator o q e = some_is (sym (operator_there o) ∙ ap operator_at e ∙ operator_there q)
+one_operator o q e = some_same (sym (operator_there o) ∙ ap operator_at e ∙ operator_there q)
 
 one_variable : (names : List (List ℕ)) (k : Lexeme) (i j : ℕ) → IsVariable names k i → IsVariable names k j → i ≡ j
 one_variable names k i j p q =
     let same : p.name ≡ q.name = name_is (sym p.is ∙ q.is) in
-    some_is (sym p.there ∙ ap (λ x. number_of x names) same ∙ q.there)
+    some_same (sym p.there ∙ ap (λ x. number_of x names) same ∙ q.there)
 
 one_value : {b : Bool} {r : Kind} (c : Test b r) (k : PlacedLexeme) (v w : Value r) → Passes c k v → Passes c k w → v ≡ w
 one_value (the_sign o) k v w p q = refl

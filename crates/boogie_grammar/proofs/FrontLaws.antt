@@ -1,19 +1,11 @@
 -- Bytes that begin with others, or differ from them.
 use Rattle.std.proofs.Common.{◌≡◌, ◌≢◌, ◌∙◌, refl, sym, ap, subst, arith, ℕ, zero, suc, ◌+◌, ◌<◌, ◌≤◌, List, [], ◌∷◌, ◌++◌, length, take, drop, get_or, add-one}
 use Rattle.std.proofs.lemmas.List.{take-append-drop, take_all}
+use Rattle.lemmas.proofs.Lists.{same_head, same_tail, cons_same}
 use Rattle.vb_base.specs.declared.places.Pos.{Pos}
 use Rattle.vb_base.specs.Place.{IsPlaceAfter}
 use Rattle.boogie_grammar.specs.Faults.{Differs, ended, other, later}
 use Rattle.boogie_grammar.specs.Step.{LacksFront}
-
-same_head : {x y : ℕ} {xs ys : List ℕ} → x ∷ xs ≡ y ∷ ys → x ≡ y
-same_head h = cc
-
-same_tail : {x y : ℕ} {xs ys : List ℕ} → x ∷ xs ≡ y ∷ ys → xs ≡ ys
-same_tail h = cc
-
-cons_same : {x y : ℕ} {xs ys : List ℕ} → x ≡ y → xs ≡ ys → x ∷ xs ≡ y ∷ ys
-cons_same {y = y} {xs = xs} e f = ap (λ z. z ∷ xs) e ∙ ap (λ zs. y ∷ zs) f
 
 pub one_more_same : (xs ys : List ℕ) (i : ℕ) → i < length xs → i < length ys → take i xs ≡ take i ys → get_or xs i 0 ≡ get_or ys i 0 → take (i + 1) xs ≡ take (i + 1) ys
 one_more_same [] ys i lt k h e = absurd (omega (arith, lt))

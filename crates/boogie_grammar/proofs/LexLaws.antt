@@ -54,7 +54,7 @@ piece_within (p.text {bytes = bytes} {rest = rest} spelled e) =
 piece_within (p.comment {bytes = bytes}) = let le = prefix_len-le-length is_in_line bytes in omega (arith, le)
 piece_within (p.sign {bytes = bytes} {o = o} h k) = starts_within bytes (sign_text o) (found_passes (λ x. starts_with ◌==◌ bytes (sign_text x)) signs o k)
 
-letter_at : (x y z w : Bool) → (if x then Blank else (if y then Letter else (if z then Digit else (if w then Quote else Other)))) ≡ Letter → y ≡ true
+pub letter_at : (x y z w : Bool) → (if x then Blank else (if y then Letter else (if z then Digit else (if w then Quote else Other)))) ≡ Letter → y ≡ true
 letter_at true y z w e = absurd (cc)
 letter_at false true z w e = refl
 letter_at false false true w e = absurd (cc)

@@ -8,7 +8,7 @@ pub mod EatLaws
 pub mod BoundLaws
 pub mod FrontLaws
 pub mod ScopeLaws
+pub mod FirstPassing
 pub mod Reading
-pub mod Steps
 pub mod DepthLaws
 pub mod PartLaws

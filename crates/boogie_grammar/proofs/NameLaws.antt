@@ -3,7 +3,7 @@ use Rattle.std.proofs.Common.{◌≡◌, ℕ, suc, ◌+◌, ◌<◌, Bool, true,
 use Rattle.std.specs.Option.{option_map}
 use Rattle.std.specs.Str.{bytes_eq}
 use Rattle.std.proofs.lemmas.Slice.Eq.{bytes_eq-Decides}
-use Rattle.std.proofs.lemmas.Bool.{and_parts, or_left, or_right}
+use Rattle.std.proofs.lemmas.Bool.{and_parts, or_left, or_right, or_from}
 use Rattle.std.proofs.lemmas.List.{length-replicate}
 use Rattle.boogie_grammar.specs.Words.{is_among, is_reserved, reserved}
 use Rattle.boogie_grammar.specs.Tests.{number_of, some_free}
@@ -22,13 +22,9 @@ differs : (b : Bool) (x y : List ℕ) → bytes_eq x y ≡ b → length y < leng
 differs true x y e lt = let same : x ≡ y = (bytes_eq-Decides x y).0 e in let l : length x ≡ length y = ap length same in absurd (omega arith)
 differs false x y e lt = refl
 
-or_false : (a b : Bool) → a ≡ false → b ≡ false → (a || b) ≡ false
-or_false true b h i = cc
-or_false false b h i = i
-
 pub too_long : (x : List ℕ) (xs : List (List ℕ)) → all_short (length x) xs → is_among x xs ≡ false
 too_long x [] h = refl
-too_long x (y ∷ ys) h = or_false (bytes_eq x y) (is_among x ys) (differs (bytes_eq x y) x y refl h.0) (too_long x ys h.1)
+too_long x (y ∷ ys) h = or_from (bytes_eq x y) (is_among x ys) (differs (bytes_eq x y) x y refl h.0) (too_long x ys h.1)
 
 short_total : (n : ℕ) (xs : List (List ℕ)) → total xs < n → all_short n xs
 short_total n [] h = tt

@@ -5,6 +5,7 @@ use Rattle.std.specs.List.{prefix_len, starts_with, list_all}
 use Rattle.std.specs.Str.Parse.{digits_value, digits_value_after}
 use Rattle.std.proofs.lemmas.Bool.{cond-true, eqb-true, and_parts}
 use Rattle.std.proofs.lemmas.Bool.Decides.{nat_tests}
+use Rattle.lemmas.proofs.Numbers.{one_more}
 use Rattle.vb_base.specs.declared.labels.Label.{Label}
 use Rattle.vb_base.specs.Labels.{Spells}
 use Rattle.vb_base.specs.Names.{is_name_byte}
@@ -25,9 +26,6 @@ name_piece text bytes n len is =
     piece_as p.name refl (ap (λ x. Some (tok.Name x)) (sym (is ∙ ap (λ k. take k text) len))) (sym len)
 
 -- labels
-
-one_more : (n : ℕ) → 1 + n ≡ suc n
-one_more n = omega arith
 
 quote_at : (b : ℕ) (bytes : List ℕ) (t : Bool) → is_unquoted b ≡ t → (cond t (1 + prefix_len is_unquoted bytes) 0 ≡ suc (length bytes) → ⊥) →
     ((prefix_len is_unquoted bytes ≡ length bytes → ⊥) → (r : List ℕ) × (behind is_unquoted bytes ≡ 34 ∷ r)) →

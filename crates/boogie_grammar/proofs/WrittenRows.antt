@@ -7,6 +7,7 @@ use Rattle.std.specs.List.{prefix_len, list_all}
 use Rattle.std.proofs.lemmas.Fmt.{decimal_is_IsNumeral_wide}
 use Rattle.std.specs.Str.Parse.{digits_value}
 use Rattle.std.proofs.lemmas.Bool.{or_cases, eqb-true, false_from_ne_true, both_ways, and_parts, and_from, or_left, or_right, ne_eqb, or_from, and_left, not_from_false, lt-leb, cond-true, cond-false, leb-true}
+use Rattle.lemmas.proofs.Lists.{list_all_append}
 use Rattle.vb_base.specs.declared.labels.Label.{Label}
 use Rattle.vb_base.specs.Labels.{text_of, place_text, kind_text, Spells}
 use Rattle.vb_base.specs.declared.places.Pos.{Pos}
@@ -225,10 +226,6 @@ bound_form n small = digits_in_name (decimal n) (decimal_digits n (omega (arith,
 
 -- labels
 
-list_all-append : (p : ℕ → Bool) (xs ys : List ℕ) → list_all p xs ≡ true → list_all p ys ≡ true → list_all p (xs ++ ys) ≡ true
-list_all-append p [] ys h k = k
-list_all-append p (x ∷ xs) ys h k = let parts = and_parts (p x) (list_all p xs) h in and_from _ _ parts.0 (list_all-append p xs ys parts.1 k)
-
 digits_unquoted : (ds : List ℕ) → list_all is_ascii_digit ds ≡ true → list_all is_unquoted ds ≡ true
 digits_unquoted [] h = refl
 digits_unquoted (d ∷ ds) h =
@@ -237,8 +234,8 @@ digits_unquoted (d ∷ ds) h =
 
 place_unquoted : (p : Pos) → list_all is_unquoted (place_text p) ≡ true
 place_unquoted p =
-    list_all-append is_unquoted (decimal p.line ++ codes ":") (decimal p.col)
-    (list_all-append is_unquoted (decimal p.line) (codes ":") (digits_unquoted (decimal p.line) (decimal_digits p.line (omega (arith, p.line_in_range.1)))) refl)
+    list_all_append is_unquoted (decimal p.line ++ codes ":") (decimal p.col)
+    (list_all_append is_unquoted (decimal p.line) (codes ":") (digits_unquoted (decimal p.line) (decimal_digits p.line (omega (arith, p.line_in_range.1)))) refl)
     (digits_unquoted (decimal p.col) (decimal_digits p.col (omega (arith, p.col_in_range.1))))
 
 kind_unquoted : (k : Kind) → list_all is_unquoted (kind_text k) ≡ true
@@ -251,10 +248,10 @@ kind_unquoted kind.Amount = refl
 
 unquoted : (l : Label) → list_all is_unquoted (text_of l) ≡ true
 unquoted l =
-    let before_part = list_all-append is_unquoted (place_text l.at) (codes " ") (place_unquoted l.at) refl in
-    let before_space = list_all-append is_unquoted (place_text l.at ++ codes " ") (place_text l.part) before_part (place_unquoted l.part) in
-    let before_kind = list_all-append is_unquoted (place_text l.at ++ codes " " ++ place_text l.part) (codes " ") before_space refl in
-    list_all-append is_unquoted (place_text l.at ++ codes " " ++ place_text l.part ++ codes " ") (kind_text l.kind) before_kind (kind_unquoted l.kind)
+    let before_part = list_all_append is_unquoted (place_text l.at) (codes " ") (place_unquoted l.at) refl in
+    let before_space = list_all_append is_unquoted (place_text l.at ++ codes " ") (place_text l.part) before_part (place_unquoted l.part) in
+    let before_kind = list_all_append is_unquoted (place_text l.at ++ codes " " ++ place_text l.part) (codes " ") before_space refl in
+    list_all_append is_unquoted (place_text l.at ++ codes " " ++ place_text l.part ++ codes " ") (kind_text l.kind) before_kind (kind_unquoted l.kind)
 
 quoted_row : (text rest : List ℕ) (l : Label) {ts : List PlacedLexeme} → Spells text l → list_all is_unquoted text ≡ true → IsRow rest ts →
     IsRow (34 ∷ (text ++ (34 ∷ rest))) (at_start (tok.Text l) ∷ ts)

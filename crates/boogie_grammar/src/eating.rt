@@ -37,7 +37,7 @@ pub fn eat_sign(wanted: BSign, tokens: &[PlacedLexeme]) -> Option<&[PlacedLexeme
 }
 
 /// The tokens after this sign, which must be next.
-pub fn sign<'a>(wanted: BSign, tokens: &'a [PlacedLexeme]) -> Read<'a, ()>
+pub fn need_sign<'a>(wanted: BSign, tokens: &'a [PlacedLexeme]) -> Read<'a, ()>
     ensures shorter { IfOk result (λ p. length p.1.now < length tokens.now) }
     ensures takes { Takes (the_sign wanted) tokens.now result }
 {
@@ -94,7 +94,7 @@ pub fn eat_word(wanted: Word, tokens: &[PlacedLexeme]) -> Option<&[PlacedLexeme]
 }
 
 /// The tokens after this word, which must be next.
-pub fn word<'a>(wanted: Word, tokens: &'a [PlacedLexeme]) -> Read<'a, ()>
+pub fn need_word<'a>(wanted: Word, tokens: &'a [PlacedLexeme]) -> Read<'a, ()>
     ensures shorter { IfOk result (λ p. length p.1.now < length tokens.now) }
     ensures takes { Takes (the_word wanted) tokens.now result }
 {
@@ -129,7 +129,7 @@ pub fn eat_real(tokens: &[PlacedLexeme]) -> Option<(i128, &[PlacedLexeme])>
 }
 
 /// The label of the next text, which must be next, and the tokens after it.
-pub fn label(tokens: &[PlacedLexeme]) -> Read<'_, Label>
+pub fn need_label(tokens: &[PlacedLexeme]) -> Read<'_, Label>
     ensures shorter { IfOk result (λ p. length p.1.now < length tokens.now) }
     ensures takes { Takes a_label tokens.now result }
 {
@@ -181,7 +181,7 @@ fn base_among(bases: &[BBase], bytes: &[u8]) -> Option<BBase>
 }
 
 /// A type, which must be next, and the tokens after it.
-pub fn base(tokens: &[PlacedLexeme]) -> Read<'_, BBase>
+pub fn need_base(tokens: &[PlacedLexeme]) -> Read<'_, BBase>
     ensures shorter { IfOk result (λ p. length p.1.now < length tokens.now) }
     ensures takes { Takes a_base tokens.now result }
 {
@@ -242,7 +242,7 @@ fn word_operator(bytes: &[u8]) -> Option<BOp>
 }
 
 /// A type of keys, which must be next, and the tokens after it.
-pub fn key(tokens: &[PlacedLexeme]) -> Read<'_, BBase>
+pub fn need_key(tokens: &[PlacedLexeme]) -> Read<'_, BBase>
     ensures shorter { IfOk result (λ p. length p.1.now < length tokens.now) }
     ensures takes { Takes a_key tokens.now result }
 {
@@ -276,7 +276,7 @@ fn operator_of(tok: &Lexeme) -> Option<BOp>
 }
 
 /// An operator, which must be next, and the tokens after it.
-pub fn operator(tokens: &[PlacedLexeme]) -> Read<'_, BOp>
+pub fn need_operator(tokens: &[PlacedLexeme]) -> Read<'_, BOp>
     ensures shorter { IfOk result (λ p. length p.1.now < length tokens.now) }
     ensures takes { Takes an_operator tokens.now result }
 {
@@ -296,7 +296,7 @@ fn eat_operator(tokens: &[PlacedLexeme]) -> Option<(BOp, &[PlacedLexeme])>
 }
 
 /// The tokens after this name, if it is next.
-pub fn eat_this<'a>(name: &Ident, tokens: &'a [PlacedLexeme]) -> Option<&'a [PlacedLexeme]>
+pub fn eat_given_name<'a>(name: &Ident, tokens: &'a [PlacedLexeme]) -> Option<&'a [PlacedLexeme]>
     ensures shorter { IfSome result (λ r. length r.now < length tokens.now) }
     ensures eats { MatchOption result (IsNot (the_name name.now) tokens.now) (λ r. Starts (the_name name.now) tokens.now tt r.now) }
 {
@@ -309,11 +309,11 @@ pub fn eat_this<'a>(name: &Ident, tokens: &'a [PlacedLexeme]) -> Option<&'a [Pla
 }
 
 /// The tokens after this name, which must be next.
-pub fn this<'a>(name: &Ident, tokens: &'a [PlacedLexeme]) -> Read<'a, ()>
+pub fn need_given_name<'a>(name: &Ident, tokens: &'a [PlacedLexeme]) -> Read<'a, ()>
     ensures shorter { IfOk result (λ p. length p.1.now < length tokens.now) }
     ensures takes { Takes (the_name name.now) tokens.now result }
 {
-    match eat_this(name, tokens) {
+    match eat_given_name(name, tokens) {
         Some(rest) => Ok(((), rest)),
         None => Err(Stop::Before(tokens)),
     }

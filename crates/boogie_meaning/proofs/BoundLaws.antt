@@ -11,7 +11,7 @@ use Rattle.boogie_tree.specs.Value.{Key, BScalar, Int, Bool, Ref, Real, Snap, BV
 use Rattle.boogie_tree.specs.declared.exprs.BBase.{BBase}
 use Rattle.boogie_tree.specs.declared.exprs.BOp.{BOp}
 use Rattle.boogie_tree.specs.declared.exprs.BOp.TheVariants as op
-use Rattle.boogie_meaning.specs.Ends.{End, Is, Over, Wrong, then_with, found, fitting}
+use Rattle.boogie_meaning.specs.Ends.{End, Is, Over, Wrong, then_with, found, fitting, Keeps, value as has, over as none_kept}
 use Rattle.boogie_tree.specs.Values.{same_base, base_of_scalar}
 use Rattle.boogie_meaning.specs.Operators.{truth_of, int_of, ref_of, real_of, snap_of, part_of, as_truth, as_bool, negative, pair_of, sum_of, difference_of, product_of, quotient_of, euclidean, compared, equal, same_truth, plain, is_lazy, settled, settled_or, binary}
 use Rattle.boogie_meaning.specs.Value.{Scope, scalar_in, map_in, the_map, value, values, under, body_at}
@@ -25,6 +25,11 @@ use Rattle.boogie_meaning.proofs.ForallLaws.{one_forall, same_bodies, truth_not_
 pub goes_not_over : {X : Type 0} {e f : End X} → IsBoundedBy e f → IsNotOver f
 goes_not_over (same h) = h
 goes_not_over (over h) = h
+
+-- what has a property and is not Over is a value that has it
+pub is_value : {X : Type 0} {P : X → Type 0} {e : End X} → Keeps P e → IsNotOver e → (x : X) × (e ≡ Is x) × P x
+is_value (has {x = x} p) n = (x, refl, p)
+is_value none_kept n = absurd n
 
 pub then_not_over : {X Y : Type 0} (e : End X) (go : X → End Y) → IsNotOver e → ((x : X) → IsNotOver (go x)) → IsNotOver (then_with e go)
 then_not_over (Is x) go h g = g x

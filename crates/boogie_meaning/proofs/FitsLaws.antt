@@ -1,6 +1,7 @@
 -- What is well-typed has its variables and its indices, and names bound variables only under a `forall`. So where its literals
 -- can be spelled, it can be.
-use Rattle.std.proofs.Common.{◌≡◌, ◌≢◌, ◌<◌, ℕ, zero, suc, false, List, [], ◌∷◌, Option, Some, None, is_some, slice_get, length, refl, arith}
+use Rattle.std.proofs.Common.{◌≢◌, false, List, ◌∷◌, Option, Some, None, is_some, length, refl}
+use Rattle.std.proofs.lemmas.Option.{slice_get_within as exists}
 use Rattle.boogie_tree.specs.Expr as t
 use Rattle.boogie_tree.specs.Stmt as s
 use Rattle.boogie_tree.specs.Program.{BType}
@@ -9,11 +10,6 @@ use Rattle.boogie_meaning.specs.Types as b
 use Rattle.boogie_meaning.specs.Types.{HasType, HaveTypes, SideHasType, IsTypedStmt, IsTyped}
 use Rattle.boogie_tree.specs.Fits.{FitsExpr, FitExprs, FitsStmt, FitStmts}
 use Rattle.boogie_tree.specs.Literals.{LiteralsFit, IndexLiteralsFit, StmtLiteralsFit, BlockLiteralsFit}
-
-exists : {X : Type 0} (xs : List X) (i : ℕ) (x : X) → slice_get xs i ≡ Some x → i < length xs
-exists [] i x h = absurd cc
-exists (y ∷ xs) zero x h = omega arith
-exists (y ∷ xs) (suc i) x h = let rest = exists xs i x h in omega (arith, rest)
 
 module _ (ts : List BType) where
   some_index : (o : Option (List BBase)) (es : t.BExprs) (u : BBase) (us : List BBase) → HaveTypes ts o es (u ∷ us) → es ≢ t.none

@@ -12,3 +12,4 @@ pub mod RunTypedLaws
 pub mod RenamedLaws
 pub mod AssumeLaws
 pub mod PatternLaws
+pub mod NodeLaws

@@ -44,7 +44,7 @@ at_bound env m k = then_with (the_map env m) (λ n. Is (get key_cmp n k))
 at_bound_is : (env : List BValue) (m : ℕ) (n : Map Key BScalar) (k : Key) → slice_get env m ≡ Some (Many n) → at_bound env m k ≡ Is (get key_cmp n k)
 at_bound_is env m n k h = rw h refl
 
-is_inj : {X : Type 0} {x y : X} → Is x ≡ Is y → x ≡ y
+pub is_inj : {X : Type 0} {x y : X} → Is x ≡ Is y → x ≡ y
 is_inj {x = x} h = ap (λ e. value-of x e) h
   where
     value-of : {X : Type 0} → X → End X → X

@@ -2,21 +2,23 @@
 use Rattle.std.proofs.Common.{◌≡◌, ◌<◌, ℕ, zero, suc, Bool as Truth, true, false, Option, Some, None, List, [], ◌∷◌, slice_get, if◌then◌else◌, refl, sym, ap, subst, ◌∙◌, arith}
 use Rattle.std.specs.Bool.{Decides}
 use Rattle.std.specs.Option.{option_map}
+use Rattle.lemmas.proofs.Options.{some_same}
+use Rattle.lemmas.proofs.Tests.{and_parts}
 use Rattle.sparse.proofs.MapLaws.{Decides-list_all}
 use Rattle.boogie_tree.specs.Program.{BType, Proc, BProgram}
 use Rattle.boogie_tree.specs.Values.{AreKeys, are_keys}
 use Rattle.boogie_meaning.specs.Types.{is_typed}
 use Rattle.boogie_meaning.specs.Programs.{types_of, HaveKeys, have_keys, IsTypedProc, is_typed_proc, IsTypedProgram, ill_typed_among, first_ill_typed, IsFirstIllTyped}
-use Rattle.boogie_meaning.proofs.TypeLaws.{Decides-is_typed, Decides-are_keys, and_both, and_true, some_same}
+use Rattle.boogie_meaning.proofs.TypeLaws.{Decides-is_typed, Decides-are_keys, and_true}
 
-Decides-have_keys : (ls : List BType) → Decides (have_keys ls) (HaveKeys ls)
+pub Decides-have_keys : (ls : List BType) → Decides (have_keys ls) (HaveKeys ls)
 Decides-have_keys ls = Decides-list_all (λ u. are_keys u.keys) (λ u. AreKeys u.keys) (λ u. Decides-are_keys u.keys) ls
 
 Decides-is_typed_proc : (d : Proc) → Decides (is_typed_proc d) (IsTypedProc d)
 Decides-is_typed_proc d =
     let keys = Decides-have_keys (types_of d) in
     let body = Decides-is_typed (types_of d) d.body in (
-      λ h. let p = and_both (have_keys (types_of d)) (is_typed (types_of d) d.body) h in record { keys = keys.0 p.0; body = body.0 p.1 },
+      λ h. let p = and_parts (have_keys (types_of d)) (is_typed (types_of d) d.body) h in record { keys = keys.0 p.0; body = body.0 p.1 },
       λ t. and_true (keys.1 t.keys) (body.1 t.body),
     )
 

@@ -1,16 +1,19 @@
 -- An expression looks at its own variables alone, whatever their numbers are.
-use Rattle.std.proofs.Common.{◌≡◌, ℕ, List, ◌∷◌, slice_get, if◌then◌else◌, refl, ap}
+use Rattle.std.proofs.Common.{◌≡◌, ℕ, Option, Some, List, ◌∷◌, slice_get, if◌then◌else◌, refl, ap}
 use Rattle.sparse.specs.Map.{Map, get}
 use Rattle.vb_value.specs.Bound.{Bound}
 use Rattle.vb_value.specs.Key.{key_cmp}
 use Rattle.boogie_tree.specs.Expr as t
+use Rattle.boogie_tree.specs.Program.{BType}
 use Rattle.boogie_tree.specs.Value.{Key, BScalar, BValue}
+use Rattle.boogie_tree.specs.Values.{plain_type, map_type}
 use Rattle.boogie_tree.specs.declared.exprs.BBase.{BBase}
 use Rattle.boogie_meaning.specs.Ends.{Is, then_with, found}
 use Rattle.boogie_meaning.specs.Operators.{as_truth, as_bool, part_of, binary, negative, negation, real_from, leaf_int, leaf_bool, leaf_ref, leaf_perm, pair_of}
 use Rattle.boogie_meaning.specs.Value.{Scope, scalar_in, map_in, the_map, value, values, under, body_at}
 use Rattle.boogie_meaning.specs.Quantified.{quantified, outside, bvalue, bkey}
 use Rattle.boogie_meaning.specs.Renamed.{renamed, renamed_in, AllVariables, AllVariablesIn}
+use Rattle.boogie_meaning.specs.Types.{HasType, var, int, real, bool, null, unit, neg, not_, binary as two_sides, choose, forall_, to_real, s_int, s_bool, s_ref, s_perm, pair, at, at_bound, HaveTypes, none, more}
 use Rattle.boogie_meaning.proofs.ForallLaws.{one_forall, same_bodies}
 
 module _ (b : Bound) (f : ℕ → ℕ) (env env' : List BValue) where
@@ -78,3 +81,32 @@ module _ (b : Bound) (f : ℕ → ℕ) (env env' : List BValue) where
 
   pub bkey_same : (es : t.BExprs) → AllVariablesIn Same es → bkey b (renamed_in f es) env' ≡ bkey b es env
   bkey_same es h = values_same (outside b env) (outside b env') (λ m. refl) (λ us a h. ap as_bool (quantified_same us a h)) es h
+
+-- ---- what holds of the variables that are declared holds of those of a typed expression
+
+module _ (ls : List BType) (P : ℕ → Type 0) (h : (i : ℕ) (u : BType) → slice_get ls i ≡ Some u → P i) where
+  mutual
+    pub variables : {o : Option (List BBase)} {e : t.BExpr} {u : BBase} → HasType ls o e u → AllVariables P e
+    variables (var {i = i} {u = u} l) = h i (plain_type u) l
+    variables int = tt
+    variables real = tt
+    variables bool = tt
+    variables null = tt
+    variables unit = tt
+    variables (neg n a) = variables a
+    variables (not_ a) = variables a
+    variables (two_sides e a b) = (variables a, variables b)
+    variables (choose c a b) = (variables c, variables a, variables b)
+    variables (forall_ k a) = variables a
+    variables (to_real a) = variables a
+    variables (s_int a) = variables a
+    variables (s_bool a) = variables a
+    variables (s_ref a) = variables a
+    variables (s_perm a) = variables a
+    variables (pair a b) = (variables a, variables b)
+    variables (at {m = m} {u = u} {us = us} {w = w} l es) = (h m (map_type u us w) l, variables_in es)
+    variables (at_bound {m = m} {u = u} {us = us} {w = w} l) = h m (map_type u us w) l
+
+    pub variables_in : {o : Option (List BBase)} {es : t.BExprs} {us : List BBase} → HaveTypes ls o es us → AllVariablesIn P es
+    variables_in none = tt
+    variables_in (more k a es) = (variables a, variables_in es)

@@ -19,7 +19,7 @@ end_within (Is x) cs go h g = g x
 end_within ends.Over cs go h g = absurd h
 end_within ends.Wrong cs go h g = tt
 
-end_bounded : {X : Type 0} {e f : End X} (cs : List BChoice) (go to : X → Run) → IsBoundedBy e f → ((x : X) → RunIsBoundedBy (go x) (to x)) → RunIsBoundedBy (with_end e cs go) (with_end f cs to)
+pub end_bounded : {X : Type 0} {e f : End X} (cs : List BChoice) (go to : X → Run) → IsBoundedBy e f → ((x : X) → RunIsBoundedBy (go x) (to x)) → RunIsBoundedBy (with_end e cs go) (with_end f cs to)
 end_bounded {e = Is x} cs go to (alike h) g = g x
 end_bounded {e = ends.Over} cs go to (alike h) g = absurd h
 end_bounded {e = ends.Wrong} cs go to (alike h) g = same tt
@@ -30,7 +30,7 @@ unless_bounded : {X : Type 0} (o : Option X) (rest : List BChoice) (go to : X �
 unless_bounded (Some x) rest go to h = h x rest
 unless_bounded None rest go to h = same tt
 
-choice_bounded : {X : Type 0} (cs : List BChoice) (kind : BChoice → Option X) (go to : X → List BChoice → Run) → ((x : X) (cs : List BChoice) → RunIsBoundedBy (go x cs) (to x cs)) →
+pub choice_bounded : {X : Type 0} (cs : List BChoice) (kind : BChoice → Option X) (go to : X → List BChoice → Run) → ((x : X) (cs : List BChoice) → RunIsBoundedBy (go x cs) (to x cs)) →
     RunIsBoundedBy (with_choice cs kind go) (with_choice cs kind to)
 choice_bounded [] kind go to h = same tt
 choice_bounded (c ∷ rest) kind go to h = unless_bounded (kind c) rest go to h
@@ -43,7 +43,7 @@ then_within (Stops Short cs) go h g = tt
 then_within (Stops Over cs) go h g = absurd h
 then_within (Stops Wrong cs) go h g = tt
 
-then_bounded : {r q : Run} (go to : List BValue → List BChoice → Run) → RunIsBoundedBy r q → ((env : List BValue) (cs : List BChoice) → RunIsBoundedBy (go env cs) (to env cs)) →
+pub then_bounded : {r q : Run} (go to : List BValue → List BChoice → Run) → RunIsBoundedBy r q → ((env : List BValue) (cs : List BChoice) → RunIsBoundedBy (go env cs) (to env cs)) →
     RunIsBoundedBy (then_run r go) (then_run q to)
 then_bounded {r = Done env cs} go to (same h) g = g env cs
 then_bounded {r = Stops (Failed l) cs} go to (same h) g = same tt
@@ -53,7 +53,7 @@ then_bounded {r = Stops Over cs} go to (same h) g = absurd h
 then_bounded {r = Stops Wrong cs} go to (same h) g = same tt
 then_bounded {q = q} go to (over h) g = over (then_within q to h (λ env cs. run_not_over (g env cs)))
 
-if_bounded : (p : Truth) {r q t u : Run} → RunIsBoundedBy r q → RunIsBoundedBy t u → RunIsBoundedBy (if p then r else t) (if p then q else u)
+pub if_bounded : (p : Truth) {r q t u : Run} → RunIsBoundedBy r q → RunIsBoundedBy t u → RunIsBoundedBy (if p then r else t) (if p then q else u)
 if_bounded true h g = h
 if_bounded false h g = g
 

@@ -64,7 +64,7 @@ module _ (ls : List BType) (b : Bound) where
     stmts_keep env cs skip h r = done h r
     stmts_keep env cs (first x xs) h r = then_keeps _ (stmt_keeps env cs x h r) (λ env' rest g q. stmts_keep env' rest xs g q)
 
-not_wrong : {ls : List BType} {r : Run} (cs : List BChoice) → KeepsTypes ls r → r ≡ Stops Wrong cs → ⊥
+pub not_wrong : {ls : List BType} {r : Run} (cs : List BChoice) → KeepsTypes ls r → r ≡ Stops Wrong cs → ⊥
 not_wrong cs (done h q) e = absurd (cc)
 not_wrong cs failed e = absurd (cc)
 not_wrong cs blocked e = absurd (cc)

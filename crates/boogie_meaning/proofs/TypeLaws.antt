@@ -3,6 +3,8 @@ use Rattle.std.proofs.Common.{◌≡◌, ℕ, Bool as Truth, true, false, ◌&&�
 use Rattle.std.specs.Bool.{Decides}
 use Rattle.std.specs.Option.{is_some}
 use Rattle.std.proofs.lemmas.List.Sums.{AllPass-from_list_all, list_all-from_AllPass}
+use Rattle.lemmas.proofs.Tests.{and_parts}
+use Rattle.lemmas.proofs.Options.{some_same}
 use Rattle.boogie_tree.specs.Expr as t
 use Rattle.boogie_tree.specs.Stmt as s
 use Rattle.boogie_tree.specs.Program.{BType}
@@ -14,14 +16,7 @@ use Rattle.boogie_meaning.specs.Types.{answer_of, HasType, var, int, real, bool,
 
 -- ---- what an answer tells of its parts
 
-pub some_same : {X : Type 0} {x y : X} → Some x ≡ Some y → x ≡ y
-some_same {x = x} h = ap (λ o. or-else o x) h
-  where
-    or-else : {X : Type 0} → Option X → X → X
-    or-else (Some z) d = z
-    or-else None d = d
-
-from_then : {X Y : Type 0} (o : Option X) (go : X → Option Y) (y : Y) → then_some o go ≡ Some y → (x : X) × (o ≡ Some x) × (go x ≡ Some y)
+pub from_then : {X Y : Type 0} (o : Option X) (go : X → Option Y) (y : Y) → then_some o go ≡ Some y → (x : X) × (o ≡ Some x) × (go x ≡ Some y)
 from_then (Some x) go y h = (x, refl, h)
 from_then None go y h = absurd (cc)
 
@@ -29,20 +24,16 @@ if_some : {X : Type 0} (p : Truth) (x y : X) → (if p then Some x else None) �
 if_some true x y h = (refl, some_same h)
 if_some false x y h = absurd (cc)
 
-from_if : {X : Type 0} (p : Truth) (o : Option X) (x : X) → (if p then o else None) ≡ Some x → (p ≡ true) × (o ≡ Some x)
+pub from_if : {X : Type 0} (p : Truth) (o : Option X) (x : X) → (if p then o else None) ≡ Some x → (p ≡ true) × (o ≡ Some x)
 from_if true o x h = (refl, h)
 from_if false o x h = absurd (cc)
 
-from_given : (u w v x : BBase) → given u w v ≡ Some x → (v ≡ u) × (w ≡ x)
+pub from_given : (u w v x : BBase) → given u w v ≡ Some x → (v ≡ u) × (w ≡ x)
 from_given u w v x h = let p = if_some (same_base v u) w x h in ((Decides-same_base v u).0 p.0, p.1)
 
 from_plain : (ks : List BBase) (u w : BBase) → plain_base ks u ≡ Some w → (ks ≡ []) × (u ≡ w)
 from_plain [] u w h = (refl, some_same h)
 from_plain (k ∷ ks) u w h = absurd (cc)
-
-pub and_both : (p q : Truth) → (p && q) ≡ true → (p ≡ true) × (q ≡ true)
-and_both true q h = (refl, h)
-and_both false q h = absurd (cc)
 
 pub Decides-are_keys : (us : List BBase) → Decides (are_keys us) (AreKeys us)
 Decides-are_keys us = (AllPass-from_list_all is_key us, list_all-from_AllPass is_key us)
@@ -55,7 +46,7 @@ bases_same [] [] h = refl
 bases_same [] (w ∷ ws) h = absurd (cc)
 bases_same (u ∷ us) [] h = absurd (cc)
 bases_same (u ∷ us) (w ∷ ws) h =
-    let p = and_both (same_base u w) (same_bases us ws) h in
+    let p = and_parts (same_base u w) (same_bases us ws) h in
     let a = (Decides-same_base u w).0 p.0 in
     let b = bases_same us ws p.1 in
     λ i. a i ∷ b i
@@ -199,17 +190,17 @@ mutual
 
 -- ---- statements
 
-type_same : (u w : BType) → same_type u w ≡ true → u ≡ w
+pub type_same : (u w : BType) → same_type u w ≡ true → u ≡ w
 type_same u w h =
-    let p = and_both (same_bases u.keys w.keys) (same_base u.base w.base) h in
+    let p = and_parts (same_bases u.keys w.keys) (same_base u.base w.base) h in
     let k = bases_same u.keys w.keys p.0 in
     let b = (Decides-same_base u.base w.base).0 p.1 in
     λ i. record { keys = k i; base = b i }
 
-same_type_itself : (u : BType) → same_type u u ≡ true
+pub same_type_itself : (u : BType) → same_type u u ≡ true
 same_type_itself u = and_true (same_bases_itself u.keys) (same_base_itself u.base)
 
-from_base : (o : Option BBase) (u : BBase) → is_base o u ≡ true → o ≡ Some u
+pub from_base : (o : Option BBase) (u : BBase) → is_base o u ≡ true → o ≡ Some u
 from_base (Some w) u h = ap Some ((Decides-same_base w u).0 h)
 from_base None u h = absurd (cc)
 
@@ -265,14 +256,14 @@ mutual
   stmt_sound ls (s.Assume e) h = assume_ (base_of_sound ls None e base.Bool (from_base _ base.Bool h))
   stmt_sound ls (s.Assert l e) h = assert_ (base_of_sound ls None e base.Bool (from_base _ base.Bool h))
   stmt_sound ls (s.If e xs ys) h =
-      let p = and_both (is_base (base_of ls None e) base.Bool) (is_typed ls xs && is_typed ls ys) h in
-      let q = and_both (is_typed ls xs) (is_typed ls ys) p.1 in
+      let p = and_parts (is_base (base_of ls None e) base.Bool) (is_typed ls xs && is_typed ls ys) h in
+      let q = and_parts (is_typed ls xs) (is_typed ls ys) p.1 in
       if_ (base_of_sound ls None e base.Bool (from_base _ base.Bool p.0)) (stmts_sound ls xs q.0) (stmts_sound ls ys q.1)
-  stmt_sound ls (s.Either xs ys) h = let q = and_both (is_typed ls xs) (is_typed ls ys) h in either (stmts_sound ls xs q.0) (stmts_sound ls ys q.1)
+  stmt_sound ls (s.Either xs ys) h = let q = and_parts (is_typed ls xs) (is_typed ls ys) h in either (stmts_sound ls xs q.0) (stmts_sound ls ys q.1)
 
   pub stmts_sound : (ls : List BType) (xs : s.BStmts) → is_typed ls xs ≡ true → IsTyped ls xs
   stmts_sound ls s.skip h = skip
-  stmts_sound ls (s.first x xs) h = let q = and_both (is_typed_stmt ls x) (is_typed ls xs) h in first (stmt_sound ls x q.0) (stmts_sound ls xs q.1)
+  stmts_sound ls (s.first x xs) h = let q = and_parts (is_typed_stmt ls x) (is_typed ls xs) h in first (stmt_sound ls x q.0) (stmts_sound ls xs q.1)
 
 base_given : {o : Option BBase} {u : BBase} → o ≡ Some u → is_base o u ≡ true
 base_given {u = u} h = rw h (same_base_itself u)

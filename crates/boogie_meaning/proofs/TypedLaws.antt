@@ -69,14 +69,14 @@ snap_fits c h = record { typed = refl; reduced = h }
 apart : {u w : BBase} → same_base u w ≡ false → u ≡ w → ⊥
 apart {u} {w} h e = let s : same_base u w ≡ true = subst (λ x. same_base u x ≡ true) e (same_base_itself u) in absurd (cc)
 
-as_int : (v : BScalar) → FitsScalar base.Int v → (n : ℤ) × (v ≡ Int n)
+pub as_int : (v : BScalar) → FitsScalar base.Int v → (n : ℤ) × (v ≡ Int n)
 as_int (Int n) f = (n, refl)
 as_int (Bool p) f = absurd (apart {u = base.Bool} {w = base.Int} refl f.typed)
 as_int (Ref r) f = absurd (apart {u = base.Ref} {w = base.Int} refl f.typed)
 as_int (Real q) f = absurd (apart {u = base.Real} {w = base.Int} refl f.typed)
 as_int (Snap c) f = absurd (apart {u = base.Snap} {w = base.Int} refl f.typed)
 
-as_truth_value : (v : BScalar) → FitsScalar base.Bool v → (p : Truth) × (v ≡ Bool p)
+pub as_truth_value : (v : BScalar) → FitsScalar base.Bool v → (p : Truth) × (v ≡ Bool p)
 as_truth_value (Int n) f = absurd (apart {u = base.Int} {w = base.Bool} refl f.typed)
 as_truth_value (Bool p) f = (p, refl)
 as_truth_value (Ref r) f = absurd (apart {u = base.Ref} {w = base.Bool} refl f.typed)

@@ -10,6 +10,7 @@ use Rattle.std.proofs.lemmas.Map.{lookup-none}
 use Rattle.std.proofs.lemmas.Map.Keys.{IsDistinct-from_sorted, sorted_tail}
 use Rattle.std.proofs.lemmas.Map.Entries.{none_past_head}
 use Rattle.std.proofs.lemmas.List.Elements.{All-nil, All-head, All-tail}
+use Rattle.lemmas.proofs.Tests.{and_parts}
 use Rattle.sparse.specs.Map.{Map, empty, get, set, IsReduced}
 use Rattle.sparse.specs.Meaning.{IsExact}
 use Rattle.sparse.proofs.MapLaws.{IsReduced-empty, IsReduced-set, get-All, All-values-set, All-keys-set, map_from_get, get-set_is}
@@ -77,15 +78,11 @@ stored_typed (l ∷ ls) (w ∷ ws) (suc i) u v h there t = (h.0, stored_typed ls
 
 -- ---- what a choice gives
 
-and_both : (p q : Truth) → (p && q) ≡ true → (p ≡ true) × (q ≡ true)
-and_both true q h = (refl, h)
-and_both false q h = absurd (cc)
-
 filled_typed : (us : List BBase) (u : BBase) (es : List Entry) (m : Map Key BScalar) → IsMapOf us u m → fits_entries us u es ≡ true → All IsReducedEntry es → IsMapOf us u (filled m es)
 filled_typed us u [] m h f r = h
 filled_typed us u (e ∷ es) m h f r =
-    let p = and_both (fits_key us e.key && same_base (base_of_scalar e.value) u) (fits_entries us u es) f in
-    let q = and_both (fits_key us e.key) (same_base (base_of_scalar e.value) u) p.0 in
+    let p = and_parts (fits_key us e.key && same_base (base_of_scalar e.value) u) (fits_entries us u es) f in
+    let q = and_parts (fits_key us e.key) (same_base (base_of_scalar e.value) u) p.0 in
     let k = (Decides-fits_key us e.key).0 q.0 in
     let v : FitsScalar u e.value = record { typed = (Decides-same_base (base_of_scalar e.value) u).0 q.1; reduced = All-head IsReducedEntry e es r } in
     filled_typed us u es (set key_cmp same_scalar m e.key e.value) (set_typed h e.key e.value k v) p.1 (All-tail IsReducedEntry e es r)

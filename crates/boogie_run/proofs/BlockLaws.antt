@@ -1,5 +1,6 @@
 -- The statements of a block, one after the other.
 use Rattle.std.proofs.Common.{◌≡◌, ap, ◌∙◌, ℕ, ◌+◌, ◌<◌, ◌≤◌, length, drop, get_or, List, Ok, Err}
+use Rattle.lemmas.proofs.Lists.{next_item, none_at}
 use Rattle.vb_value.specs.Bound.{Bounded}
 use Rattle.boogie_tree.specs.Program.{BType}
 use Rattle.boogie_tree.specs.Value.{BValue, BChoice}
@@ -8,12 +9,11 @@ use Rattle.boogie_tree.specs.declared.stmts.BStmt as stmt
 use Rattle.boogie_meaning.specs.Run.{Run, Done, then_run, brun, brun_stmt}
 use Rattle.boogie_run.specs.Runs.{Runs}
 use Rattle.boogie_run.specs.declared.replay_ends.Halt.{Halt}
-use Rattle.boogie_run.proofs.ListLaws.{item_at, none_at}
 use Rattle.boogie_run.proofs.RunStepLaws.{same_run, run_goes, run_stops}
 
 module _ (ls : List BType) (xs : List stmt.BStmt) (i : ℕ) (env : List BValue) (cs : List BChoice) (start : Run) (so_far : start ≡ brun ls Bounded (stmts_of (drop i xs)) env cs) where
   from-here : (x : stmt.BStmt) → i < length xs → x ≡ get_or xs i x → start ≡ then_run (brun_stmt ls Bounded (stmt_of x) env cs) (λ new rest. brun ls Bounded (stmts_of (drop (i + 1) xs)) new rest)
-  from-here x lt here = so_far ∙ ap (λ ys. brun ls Bounded (stmts_of ys) env cs) (item_at xs i x lt here)
+  from-here x lt here = so_far ∙ ap (λ ys. brun ls Bounded (stmts_of ys) env cs) (next_item xs i x lt here)
 
   pub block_goes : (x : stmt.BStmt) → i < length xs → x ≡ get_or xs i x → {new : List BValue} {rest : List BChoice} {a : Unit {0}} → Runs (brun_stmt ls Bounded (stmt_of x) env cs) new rest (Ok a) →
       start ≡ brun ls Bounded (stmts_of (drop (i + 1) xs)) new rest

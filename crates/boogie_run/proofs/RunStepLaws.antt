@@ -4,10 +4,10 @@ use Rattle.std.proofs.lemmas.Result.{err_from_is_err_and}
 use Rattle.boogie_tree.specs.Value.{BValue, BChoice}
 use Rattle.boogie_meaning.specs.Ends.{End}
 use Rattle.boogie_meaning.specs.Run.{Run, Done, with_end, then_run}
-use Rattle.boogie_run.specs.Answers.{Answers, no_memory, is, over, wrong}
+use Rattle.boogie_eval.specs.Answers.{Answers, no_memory, is, over, wrong}
 use Rattle.boogie_run.specs.Runs as runs
 use Rattle.boogie_run.specs.Runs.{Runs, done, stops, Takes, halted}
-use Rattle.boogie_run.specs.declared.eval_ends.Miss.{Miss}
+use Rattle.boogie_eval.specs.declared.eval_ends.Miss.{Miss}
 use Rattle.boogie_run.specs.declared.replay_ends.Halt.{Halt}
 
 pub same_run : {r q : Run} {env : List BValue} {left : List BChoice} {a : Result (Unit {0}) Halt} → r ≡ q → Runs q env left a → Runs r env left a

@@ -21,9 +21,9 @@ use Rattle.boogie_meaning.specs.Value.{the_map}
 use Rattle.boogie_tree.specs.Values.{default_of, same_base, base_of_scalar}
 use Rattle.boogie_run.specs.Ready.{IsReady, KeepsReady}
 use Rattle.boogie_run.specs.Runs.{Runs, done, Takes, goes}
-use Rattle.boogie_run.specs.Within.{IsWithinScalar, IsWithinValue, IsWithinEntry, IsWithinChoice, IsWithinExpr, IsWithinStmt, AreWithinStmts, Gives}
-use Rattle.boogie_run.specs.declared.eval_values.Scope.TheVariants as scope
-use Rattle.boogie_run.proofs.WithinLaws.{then_gives, found_gives, the_map_gives, value_gives, scope_within}
+use Rattle.boogie_eval.specs.Within.{IsWithinScalar, IsWithinValue, IsWithinEntry, IsWithinChoice, IsWithinExpr, IsWithinStmt, AreWithinStmts, Gives}
+use Rattle.boogie_eval.specs.declared.eval_values.Scope.TheVariants as scope
+use Rattle.boogie_eval.proofs.WithinLaws.{then_gives, found_gives, the_map_gives, value_gives, scope_within}
 
 abbrev Any : {X : Type 0} → X → Type 0
 Any x = Unit {0}
@@ -64,10 +64,10 @@ side_gives (t.AtBound m) env g h = one_gives (bvalue Bounded (t.AtBound m) env) 
 
 -- ---- maps and choices
 
-set_within : (m : Map Key BScalar) (k : Key) (v : BScalar) → IsWithinValue (Many m) → IsWithinScalar v → IsWithinValue (Many (set key_cmp same_scalar m k v))
+pub set_within : (m : Map Key BScalar) (k : Key) (v : BScalar) → IsWithinValue (Many m) → IsWithinScalar v → IsWithinValue (Many (set key_cmp same_scalar m k v))
 set_within m k v h g = (h.0, All-values-set key_cmp same_scalar m k v IsWithinScalar h.1 g)
 
-default_within : (u : BBase) → IsWithinScalar (default_of u)
+pub default_within : (u : BBase) → IsWithinScalar (default_of u)
 default_within base.Int = omega arith
 default_within base.Bool = tt
 default_within base.Ref = tt

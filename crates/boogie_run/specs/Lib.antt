@@ -1,14 +1,6 @@
 pub mod Start
-pub mod Typed
-pub mod Answers
 pub mod Chosen
-pub mod Columns
-pub mod Operands
 pub mod Ready
 pub mod Runs
-pub mod Searched
 pub mod Stepped
-pub mod Tests
-pub mod Unary
 pub mod View
-pub mod Within

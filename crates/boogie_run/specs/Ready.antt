@@ -2,7 +2,7 @@
 use Rattle.std.specs.Prelude.{List, All}
 use Rattle.boogie_tree.specs.Value.{BValue, BChoice}
 use Rattle.boogie_meaning.specs.Run.{Run, Done, Stops}
-use Rattle.boogie_run.specs.Within.{IsWithinValue, IsWithinChoice}
+use Rattle.boogie_eval.specs.Within.{IsWithinValue, IsWithinChoice}
 
 -- the numbers of the environment and of the choices that are left are within the bound
 pub record IsReady (env : List BValue) (cs : List BChoice) : Type 0 where

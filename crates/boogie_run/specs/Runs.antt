@@ -3,8 +3,8 @@ use Rattle.std.specs.Prelude.{◌≡◌, Result, Ok, Err, List}
 use Rattle.boogie_tree.specs.Value.{BValue, BChoice}
 use Rattle.boogie_meaning.specs.Run as m
 use Rattle.boogie_meaning.specs.Run.{Run, Done, Stops}
-use Rattle.boogie_run.specs.declared.eval_ends.Miss.{Miss}
-use Rattle.boogie_run.specs.declared.eval_ends.Miss.TheVariants as miss
+use Rattle.boogie_eval.specs.declared.eval_ends.Miss.{Miss}
+use Rattle.boogie_eval.specs.declared.eval_ends.Miss.TheVariants as miss
 use Rattle.boogie_run.specs.declared.replay_ends.Stop.{Stop}
 use Rattle.boogie_run.specs.declared.replay_ends.Stop.TheVariants as stop
 use Rattle.boogie_run.specs.declared.replay_ends.Halt.{Halt}

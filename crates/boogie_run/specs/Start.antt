@@ -6,7 +6,7 @@ use Rattle.boogie_meaning.specs.Programs.{types_of, default_value}
 use Rattle.boogie_meaning.specs.Run.{Run, Done, Stops, Failed, Blocked, Short, Over, Wrong}
 use Rattle.boogie_tree.specs.Values.{IsEnvironment, IsOfType, IsReducedChoice}
 use Rattle.boogie_run.specs.Ready.{IsReady}
-use Rattle.boogie_run.specs.Within.{AreWithinStmts}
+use Rattle.boogie_eval.specs.Within.{AreWithinStmts}
 use Rattle.boogie_run.specs.declared.replaying.BOutcome.{BOutcome}
 use Rattle.boogie_run.specs.declared.replaying.BOutcome.TheVariants as outcome
 

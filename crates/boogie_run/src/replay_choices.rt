@@ -11,10 +11,11 @@ ghost use Rattle.boogie_tree.specs.Whole.{choice_of, entry_of, scalar_of, type_o
 ghost use Rattle.boogie_meaning.specs.Run as m;
 ghost use Rattle.boogie_tree.specs.Values.{default_of, fits_key, same_base, base_of_scalar};
 ghost use Rattle.boogie_run.specs.Runs.{Takes};
-ghost use Rattle.boogie_run.specs.View.{map_of, left_in};
+ghost use Rattle.boogie_eval.specs.View.{map_of};
+ghost use Rattle.boogie_run.specs.View.{left_in};
 
 use crate::replay_ends::{Halt, Stop};
-use crate::replay_values::{copied_scalar, fill_at};
+use crate::replay_values::fill_at;
 use boogie_tree::{
     BBase, BChoice, BScalar, BType, BValue, Entry, base_of_scalar, default_of, fits_key, same_base,
 };
@@ -98,7 +99,7 @@ fn put_entry(map: &mut Builder<Key, BScalar>, entry: &Entry) -> Result<(), Memor
     ensures { OnOk result (map_of map.new ≡ set key_cmp same_scalar (map_of map.old) (entry_of entry.now).key (entry_of entry.now).value) }
 {
     let key = copied_key(&entry.key)?;
-    let value = copied_scalar(&entry.value)?;
+    let value = entry.value.clone()?;
     fill_at(map, key, value)
 }
 
@@ -155,7 +156,7 @@ fn chosen_value(base: BBase, value: &BScalar) -> Result<Option<BValue>, Memory>
     if !same_base(base_of_scalar(value), base) {
         return Ok(None);
     }
-    Ok(Some(BValue::One(copied_scalar(value)?)))
+    Ok(Some(BValue::One(value.clone()?)))
 }
 
 /// The value that a choice gives a variable of this type.

@@ -3,7 +3,7 @@ ghost use Rattle.boogie_run.specs.declared.replay_ends.Halt.TheVariants as halt;
 ghost use Rattle.boogie_run.specs.Runs.{halted};
 ghost use Rattle.std.specs.Prelude.{◌≡◌, IfOk};
 
-use crate::eval_ends::Miss;
+use boogie_eval::Miss;
 use vb_base::{Label, Memory};
 
 /// Why a run stops.

@@ -7,9 +7,9 @@ ghost use Rattle.boogie_tree.specs.Whole.{stmt_of, stmts_of};
 ghost use Rattle.boogie_meaning.specs.Run.{brun, brun_stmt};
 ghost use Rattle.boogie_run.specs.Ready.{IsReady};
 ghost use Rattle.boogie_run.specs.Runs.{Runs};
-ghost use Rattle.boogie_run.specs.Typed.{types_in};
+ghost use Rattle.boogie_types.specs.Typed.{types_in};
 ghost use Rattle.boogie_run.specs.View.{environment_of, left_in};
-ghost use Rattle.boogie_run.specs.Within.{IsWithinStmt, AreWithinStmts};
+ghost use Rattle.boogie_eval.specs.Within.{IsWithinStmt, AreWithinStmts};
 
 use crate::replay_choices::{Feed, take_branch};
 use crate::replay_ends::Halt;

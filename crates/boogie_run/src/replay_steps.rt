@@ -12,18 +12,17 @@ ghost use Rattle.boogie_meaning.specs.Quantified as q;
 ghost use Rattle.boogie_meaning.specs.Run as m;
 ghost use Rattle.boogie_meaning.specs.Run.{Done, with_end, with_truth, with_choice};
 ghost use Rattle.boogie_meaning.specs.Value as w;
-ghost use Rattle.boogie_run.specs.Answers.{Answers};
+ghost use Rattle.boogie_eval.specs.Answers.{Answers};
 ghost use Rattle.boogie_run.specs.Runs.{Runs};
-ghost use Rattle.boogie_run.specs.Typed.{types_in};
-ghost use Rattle.boogie_run.specs.View.{environment_of, left_in, map_of, values_of};
-ghost use Rattle.boogie_run.specs.Within.{IsWithinValue, IsWithinExpr, AreWithinExprs};
+ghost use Rattle.boogie_types.specs.Typed.{types_in};
+ghost use Rattle.boogie_eval.specs.View.{map_of, values_of};
+ghost use Rattle.boogie_run.specs.View.{environment_of, left_in};
+ghost use Rattle.boogie_eval.specs.Within.{IsWithinValue, IsWithinExpr, AreWithinExprs};
 
-use crate::eval::{eval, holds, key_of};
-use crate::eval_ends::{Answer, Miss};
-use crate::eval_values::{Scope, the_map};
 use crate::replay_choices::{Feed, take_value};
 use crate::replay_ends::{Halt, Stop};
 use crate::replay_values::{Environment, copied_map, set_at, whole};
+use boogie_eval::{Answer, Miss, Scope, eval, holds, key_of, the_map};
 use boogie_tree::{BExpr, BScalar, BType, BValue, Local};
 use sparse::Sparse;
 use std::alloc::Global;
@@ -31,7 +30,7 @@ use vb_base::Label;
 use vb_value::Key;
 
 /// A value that is no map.
-#[tactic(auto, using(crate::specs::Answers::is, crate::specs::Answers::over, crate::specs::Answers::wrong, crate::specs::Answers::no_memory))]
+#[tactic(auto, using(boogie_eval::specs::Answers::is, boogie_eval::specs::Answers::over, boogie_eval::specs::Answers::wrong, boogie_eval::specs::Answers::no_memory))]
 fn one_of(value: Answer) -> Result<BValue, Miss>
     ensures { (e : End v.BScalar) → Answers scalar_of e value → Answers value_of (q.one_of e) result }
 {
@@ -68,21 +67,18 @@ pub(crate) fn assign(
 }
 
 /// A copy of the map of this number.
-#[tactic(auto, using(crate::specs::Answers::is, crate::specs::Answers::over, crate::specs::Answers::wrong, crate::specs::Answers::no_memory))]
+#[tactic(auto, using(boogie_eval::specs::Answers::is, boogie_eval::specs::Answers::over, boogie_eval::specs::Answers::wrong, boogie_eval::specs::Answers::no_memory))]
 fn map_copy(env: &[BValue], number: usize) -> Result<Sparse<Key, BScalar>, Miss>
     ensures { Answers map_of (w.the_map (values_of env.now) number) result }
 {
     copy_of(the_map(env, number)?)
 }
 
-#[tactic(auto, using(crate::specs::Answers::is, crate::specs::Answers::over, crate::specs::Answers::wrong, crate::specs::Answers::no_memory))]
+#[tactic(auto, using(boogie_eval::specs::Answers::is, boogie_eval::specs::Answers::over, boogie_eval::specs::Answers::wrong, boogie_eval::specs::Answers::no_memory))]
 fn copy_of(map: &Sparse<Key, BScalar>) -> Result<Sparse<Key, BScalar>, Miss>
     ensures { (e : End (Map v.Key v.BScalar)) → Answers (λ n. n) e (Ok (map_of map.now)) → Answers map_of e result }
 {
-    match copied_map(map) {
-        Ok(copy) => Ok(copy),
-        Err(_) => Err(Miss::Memory),
-    }
+    Ok(copied_map(map)?)
 }
 
 /// Gives the map of this number a value at a key.

@@ -1,5 +1,5 @@
 // The values of variables, and their changes.
-#![tactic(auto, using(crate::specs::Answers::is, crate::specs::Answers::over, crate::specs::Answers::wrong, crate::specs::Answers::no_memory))]
+#![tactic(auto, using(boogie_eval::specs::Answers::is, boogie_eval::specs::Answers::over, boogie_eval::specs::Answers::wrong, boogie_eval::specs::Answers::no_memory))]
 
 ghost use Rattle.std.specs.Prelude.{◌≡◌, slice_get, slice_set, IfOk, OnOk};
 ghost use Rattle.sparse.specs.Map.{set};
@@ -7,10 +7,11 @@ ghost use Rattle.vb_value.specs.Key.{key_cmp};
 ghost use Rattle.boogie_tree.specs.Value.{same_scalar};
 ghost use Rattle.boogie_tree.specs.Whole.{scalar_of, value_of};
 ghost use Rattle.boogie_meaning.specs.Ends.{Is, found};
-ghost use Rattle.boogie_run.specs.Answers.{Answers};
-ghost use Rattle.boogie_run.specs.View.{map_of, values_of, environment_of};
+ghost use Rattle.boogie_eval.specs.Answers.{Answers};
+ghost use Rattle.boogie_eval.specs.View.{map_of, values_of};
+ghost use Rattle.boogie_run.specs.View.{environment_of};
 
-use crate::eval_ends::Miss;
+use boogie_eval::Miss;
 use boogie_tree::{BScalar, BValue};
 use sparse::{Builder, Sparse};
 use vb_base::Memory;
@@ -33,32 +34,19 @@ impl Environment {
     }
 }
 
-/// An equal value of its own.
-pub(crate) fn copied_scalar(value: &BScalar) -> Result<BScalar, Memory>
-    ensures { IfOk result (λ w. scalar_of w ≡ scalar_of value.now) }
-{
-    match value.clone() {
-        Ok(copy) => Ok(copy),
-        Err(_) => Err(Memory),
-    }
-}
-
 /// An equal map of its own, which shares its entries.
 pub(crate) fn copied_map(map: &Sparse<Key, BScalar>) -> Result<Sparse<Key, BScalar>, Memory>
     ensures { IfOk result (λ n. map_of n ≡ map_of map.now) }
 {
-    match map.copy() {
-        Ok(copy) => Ok(copy),
-        Err(_) => Err(Memory),
-    }
+    map.copy().map_err(|_| Memory)
 }
 
-/// The same of a value that may be a map.
+/// An equal value of its own, which may be a map.
 pub(crate) fn copied_value(value: &BValue) -> Result<BValue, Memory>
     ensures { IfOk result (λ w. value_of w ≡ value_of value.now) }
 {
     match value {
-        BValue::One(value) => Ok(BValue::One(copied_scalar(value)?)),
+        BValue::One(value) => Ok(BValue::One(value.clone()?)),
         BValue::Map(map) => Ok(BValue::Map(copied_map(map)?)),
     }
 }
@@ -66,10 +54,7 @@ pub(crate) fn copied_value(value: &BValue) -> Result<BValue, Memory>
 fn whole_value(value: &BValue) -> Result<BValue, Miss>
     ensures { Answers value_of (Is (value_of value.now)) result }
 {
-    match copied_value(value) {
-        Ok(copy) => Ok(copy),
-        Err(_) => Err(Miss::Memory),
-    }
+    Ok(copied_value(value)?)
 }
 
 /// The value of a variable, which may be a map.
@@ -86,10 +71,7 @@ pub(crate) fn whole(env: &[BValue], number: usize) -> Result<BValue, Miss>
 pub(crate) fn set_at(map: &mut Sparse<Key, BScalar>, key: Key, value: BScalar) -> Result<(), Memory>
     ensures { OnOk result (map_of map.new ≡ set key_cmp same_scalar (map_of map.old) key (scalar_of value)) }
 {
-    match map.set(key, value) {
-        Ok(()) => Ok(()),
-        Err(_) => Err(Memory),
-    }
+    map.set(key, value).map_err(|_| Memory)
 }
 
 /// The same of a map that is being filled.
@@ -100,8 +82,5 @@ pub(crate) fn fill_at(
 ) -> Result<(), Memory>
     ensures { OnOk result (map_of map.new ≡ set key_cmp same_scalar (map_of map.old) key (scalar_of value)) }
 {
-    match map.set(key, value) {
-        Ok(()) => Ok(()),
-        Err(_) => Err(Memory),
-    }
+    map.set(key, value).map_err(|_| Memory)
 }

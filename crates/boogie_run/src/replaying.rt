@@ -8,9 +8,9 @@ ghost use Rattle.boogie_meaning.specs.Programs.{IsTypedProc, IsTypedProgram, bru
 ghost use Rattle.boogie_meaning.specs.Run.{Run, Stops};
 ghost use Rattle.boogie_run.specs.Runs.{Runs, why};
 ghost use Rattle.boogie_run.specs.Start.{with_settings, start_of, CanRun, IsWithinProgram, outcome_of};
-ghost use Rattle.boogie_run.specs.Typed.{types_in};
+ghost use Rattle.boogie_types.specs.Typed.{types_in};
 ghost use Rattle.boogie_run.specs.View.{environment_of, left_in};
-ghost use Rattle.boogie_run.specs.Within.{AreWithinStmts};
+ghost use Rattle.boogie_eval.specs.Within.{AreWithinStmts};
 
 use crate::replay_choices::{Feed, empty_map};
 use crate::replay_ends::{Halt, Stop, stop_of};

@@ -8,8 +8,8 @@ ghost use Rattle.boogie_meaning.specs.Run.{Done, Stops, then_run, brun_stmt};
 ghost use Rattle.boogie_run.specs.Ready.{KeepsReady};
 ghost use Rattle.boogie_run.specs.Start.{start_of, outcome_of};
 ghost use Rattle.boogie_run.specs.Stepped.{run_in};
-ghost use Rattle.boogie_run.specs.Typed.{types_in};
-ghost use Rattle.boogie_run.specs.Within.{IsWithinStmt};
+ghost use Rattle.boogie_types.specs.Typed.{types_in};
+ghost use Rattle.boogie_eval.specs.Within.{IsWithinStmt};
 
 use crate::replay_choices::Feed;
 use crate::replay_ends::{Stop, stop_of};

@@ -2,9 +2,10 @@
 use Rattle.std.proofs.Common.{◌≡◌, ◌∙◌, refl, sym, ap, subst, ℕ, ◌-◌, ◌⊎◌, inl, inr, Bool, true, false, not, ◌&&◌, List, [], ◌∷◌, Some, None, Option, slice_get, codes, arith}
 use Rattle.std.specs.Str.{bytes_eq}
 use Rattle.std.proofs.lemmas.Slice.Eq.{bytes_eq-Decides}
-use Rattle.std.proofs.lemmas.Bool.{cases_order}
+use Rattle.lemmas.proofs.Options.{some_same}
 use Rattle.grammar.specs.Whole as text
 use Rattle.grammar.specs.Whole.{IsSpelled}
+use Rattle.grammar.proofs.Decided.{Decided, same_number, decided_by}
 use Rattle.grammar.proofs.Answered as grammar
 use Rattle.grammar.proofs.Answered.{right, wrong, fg, fn, fw, fr, ft}
 use Rattle.boogie_tree.specs.Expr as t
@@ -24,18 +25,12 @@ use Rattle.boogie_grammar.specs.Tests.{Kind, Test, Passes, number_of, the_sign, 
 use Rattle.boogie_grammar.specs.Grammar as g
 use Rattle.boogie_grammar.specs.Grammar.{Symbol, Rule, give, when, read, rule, boogie, rules}
 use Rattle.boogie_grammar.specs.Spells.{IsProgram, GoesWrong}
-use Rattle.boogie_grammar.proofs.Elements.{laws, operator_at, operator_there}
-use Rattle.boogie_text.proofs.Codes.{sign_code, empty}
-use Rattle.boogie_text.proofs.Complete.{by_where, by_bound, empty_right, complete}
-
-abbrev Decided : Type 0 → Type 0
-Decided X = X ⊎ (X → ⊥)
+use Rattle.boogie_grammar.proofs.Elements.{laws, operator_at, operator_there, name_is}
+use Rattle.boogie_print.proofs.Codes.{sign_code, empty}
+use Rattle.boogie_print.proofs.Complete.{by_where, by_bound, empty_right, complete}
 
 abbrev Tried : {b : Bool} {r : Kind} → Test b r → PlacedLexeme → Type 0
 Tried c k = grammar.Tried boogie c k
-
-name_is : {x y : List ℕ} → tok.Name x ≡ tok.Name y → x ≡ y
-name_is e = cc
 
 same_bytes_at : (x y : List ℕ) (b : Bool) → bytes_eq x y ≡ b → Decided (x ≡ y)
 same_bytes_at x y true e = inl ((bytes_eq-Decides x y).0 e)
@@ -78,22 +73,8 @@ sign_there sign.Star = refl
 sign_there sign.Slash = refl
 sign_there sign.Not = refl
 
-some_is : {X : Type 0} {x y : X} → Some x ≡ Some y → x ≡ y
-some_is e = cc
-
 one_sign : (o q : BSign) → sign_code o ≡ sign_code q → o ≡ q
-one_sign o q e = some_is (sym (sign_there o) ∙ ap (λ n. slice_get all_signs (n - 50)) e ∙ sign_there q)
-
-same_number : (m n : ℕ) → Decided (m ≡ n)
-same_number m n = elim (cases_order m n) [
-  | inl e ↦ inl e
-  | inr (inl lt) ↦ inr (λ e. omega (arith, lt, e))
-  | inr (inr lt) ↦ inr (λ e. omega (arith, lt, e))
-]
-
-decided_by : {A B : Type 0} → (A → B) → (B → A) → Decided A → Decided B
-decided_by f g (inl a) = inl (f a)
-decided_by f g (inr n) = inr (λ b. n (g b))
+one_sign o q e = some_same (sym (sign_there o) ∙ ap (λ n. slice_get all_signs (n - 50)) e ∙ sign_there q)
 
 sign_is : {o q : BSign} → tok.Sign o ≡ tok.Sign q → o ≡ q
 sign_is e = cc

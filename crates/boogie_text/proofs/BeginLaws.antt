@@ -13,7 +13,6 @@ use Rattle.grammar.specs.declared.stop.Stop.TheVariants as stop
 use Rattle.grammar.proofs.Sets.{among}
 use Rattle.grammar.proofs.Fronts.{same_self}
 use Rattle.grammar.proofs.Complete as grammar
-use Rattle.grammar.proofs.Reading.{derivation, one_reading, start}
 use Rattle.grammar.proofs.Whole as whole
 use Rattle.grammar.proofs.Whole.{split, count}
 use Rattle.boogie_tree.specs.Expr as t
@@ -27,10 +26,12 @@ use Rattle.boogie_grammar.specs.Grammar as g
 use Rattle.boogie_grammar.specs.Grammar.{rule, rules}
 use Rattle.boogie_grammar.specs.Greedy.{Reads, Fails, Refuses, IsNot, Starts}
 use Rattle.boogie_grammar.proofs.Elements.{laws}
+use Rattle.boogie_grammar.proofs.Reading.{boogie_steps}
 use Rattle.boogie_text.specs.ReadExpr.{SpellsExpr, IsExpr, StartsIndex, BeginsExpr, BeginsNone}
 use Rattle.boogie_text.specs.ReadSteps.{NoToken, ended, broken, ReadsAlone}
-use Rattle.boogie_text.proofs.Codes.{code, code_in, ext_codes, table}
-use Rattle.boogie_text.proofs.Complete.{complete, good}
+use Rattle.boogie_print.proofs.Codes.{code, code_in, ext_codes, table}
+use Rattle.boogie_print.proofs.Complete.{complete, good}
+open boogie_steps use {derivation, one_reading, start}
 
 -- a `[` by its code
 
@@ -100,11 +101,11 @@ reads_on x d us free =
 no_front : (x : g.Scope) {ts : List PlacedLexeme} {e f : t.BExpr} (k : PlacedLexeme) (us : List PlacedLexeme) → Derived x ts e → Derived x (ts ++ (k ∷ us)) f → (k.tok ≡ tok.Sign sign.OpenBracket → ⊥) → ⊥
 no_front x {ts = ts} k us d h n =
     let i = reads_on x d (k ∷ us) (λ j vs is b. n (let same : k ≡ j = cc in subst (λ z. z.tok ≡ tok.Sign sign.OpenBracket) (sym same) b)) in
-    let same = (one_reading rules laws i (complete (g.Expr x) h)).1 in
+    let same = (one_reading i (complete (g.Expr x) h)).1 in
     cc
 
 same_expr : (x : g.Scope) {ts us : List PlacedLexeme} {e f : t.BExpr} → ts ≡ us → Derived x ts e → Derived x us f → e ≡ f
-same_expr x {us = us} {e = e} is d h = (one_reading rules laws (complete (g.Expr x) (subst (λ l. Derived x l e) is d)) (complete (g.Expr x) h)).0
+same_expr x {us = us} {e = e} is d h = (one_reading (complete (g.Expr x) (subst (λ l. Derived x l e) is d)) (complete (g.Expr x) h)).0
 
 -- lists of tokens
 
@@ -266,7 +267,7 @@ none_of x ts r h seam =
 -- reading stops
 pub none_where_stopped : (x : g.Scope) (ts r : List PlacedLexeme) → Fails (rule (g.Expr x)) ts r →
     (length r ≤ length ts) × ((os : List (Option PlacedLexeme)) → NoToken os → BeginsNone x (somes ts ++ os) (length ts - length r))
-none_where_stopped x ts r h = none_of x ts r (whole.whole_fails (start rules laws (rule (g.Expr x)) ts) h) (λ f is e d free.
+none_where_stopped x ts r h = none_of x ts r (whole.whole_fails (start (rule (g.Expr x)) ts) h) (λ f is e d free.
     let s = h.stuck r (same_self r) in
     let q = split s.front in
     let same : f ++ r ≡ s.all = sym is ∙ q.left ∙ sym q.right in
@@ -281,7 +282,7 @@ none_at_bracket x ts r k vs h is b = none_of x ts r (whole.left_over rules laws 
 pub some_of : (x : g.Scope) (ts r : List PlacedLexeme) {e : t.BExpr} → Reads v.expr (rule (g.Expr x)) ts e r → Free r →
     (length r ≤ length ts) × ((os : List (Option PlacedLexeme)) → NoToken os → BeginsExpr x (somes ts ++ os) (length ts - length r) e)
 some_of x ts r {e = e} h free =
-    let d = derivation rules laws h in
+    let d = derivation h in
     let size : length ts - length r ≡ length d.front = ap (λ l. length l - length r) d.is ∙ count d.front r in (
       omega (arith, ap length d.is, length-append d.front r),
       λ os last. record {

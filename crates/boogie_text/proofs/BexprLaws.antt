@@ -4,31 +4,25 @@ use Rattle.std.specs.declared.alloc.Global.{Global}
 use Rattle.std.specs.declared.vec.Vec.{Vec}
 use Rattle.std.specs.Option.{option_map}
 use Rattle.std.proofs.lemmas.List.{map-append, take-append-drop, length-map, drop_all, take_all, length-take-le}
-use Rattle.std.specs.Result.{IsErrAnd}
-use Rattle.std.proofs.lemmas.Result.{err_from_is_err_and}
 use Rattle.std.proofs.Math.Seq.{drop-cons}
 use Rattle.vb_base.specs.declared.places.Pos.{Pos}
 use Rattle.boogie_tree.specs.Expr as t
-use Rattle.boogie_tree.specs.Text.{prelude}
 use Rattle.boogie_tree.specs.Whole.{expr_of}
 use Rattle.boogie_grammar.specs.declared.faults.BoogieFault.{BoogieFault}
 use Rattle.boogie_grammar.specs.declared.faults.BoogieFault.TheVariants as fault
 use Rattle.boogie_grammar.specs.declared.tokens.Lexeme.{Lexeme}
 use Rattle.boogie_grammar.specs.declared.tokens.PlacedLexeme.{PlacedLexeme}
 use Rattle.boogie_grammar.specs.Grammar.{Scope}
-use Rattle.boogie_grammar.specs.Step.{CutFails}
 use Rattle.boogie_text.specs.declared.public_tokens.BToken as handed
 use Rattle.boogie_text.specs.declared.single_expr.ReadExpr.{ReadExpr}
 use Rattle.boogie_text.specs.Answers.{UnlessMemory}
-use Rattle.boogie_text.specs.PublicTokens.{AreTokens, IsTokenFault, no_prelude, no_token, too_deep, GivesTokens, GivesTokenFault, stands_for, token_of, shown_token}
+use Rattle.boogie_text.specs.PublicTokens.{AreTokens, IsTokenFault, GivesTokens, GivesTokenFault, stands_for, token_of, shown_token}
+use Rattle.boogie_text.specs.Texts.{HasTokens}
 use Rattle.boogie_text.specs.ReadExpr.{BeginsExpr, BeginsNone, Finds, IsReadExpr, IsExprFault, no_expr, scope_before, place_in, GivesExpr, GivesExprFault}
 use Rattle.boogie_text.specs.ReadSteps.{NoToken, ended, broken, IsFront}
 use Rattle.boogie_tree.specs.declared.programs.Local.{Local}
 use Rattle.boogie_text.proofs.KnownLaws.{names_of, names_taken, names_dropped, all_behind}
-use Rattle.boogie_text.proofs.FaultLaws.{one_difference, not_begun, one_stop, never_both, not_shallow, one_depth, cut_as, stop_as}
-use Rattle.vb_base.specs.Place.{IsPlaceAfter}
-use Rattle.vb_base.proofs.PlaceLaws.{one_place_after}
-use Rattle.boogie_grammar.specs.Depth.{IsTooDeep}
+use Rattle.boogie_text.proofs.FaultLaws.{cut_as, one_token_fault, never_tokens as never_placed}
 use Rattle.boogie_text.proofs.BeginLaws.{begins_more, none_more, one_begin, one_end}
 
 -- what the first tokens begin with, all of them begin with
@@ -75,31 +69,14 @@ gives_expr_fault x ts from end f (Err (fault.Deep at)) fails h = inl (one_expr_f
 abbrev pub ReadsTokens : List ℕ → Result (Vec handed.BToken Global) BoogieFault → Type 0
 ReadsTokens bytes res = MatchResult res (λ v. AreTokens bytes v.items) (UnlessMemory (IsTokenFault bytes))
 
-pub cut_refused : (bytes rest : List ℕ) (f : BoogieFault) → bytes ≡ prelude ++ rest → CutFails prelude rest f → UnlessMemory (IsTokenFault bytes) f
-cut_refused bytes rest fault.Memory e h = tt
-cut_refused bytes rest (fault.Syntax at) e h = no_token e h
-cut_refused bytes rest (fault.Prelude at) e h = absurd h
-cut_refused bytes rest (fault.Deep at) e h = absurd h
-
 pub one_tokens : {bytes : List ℕ} {ts us : List handed.BToken} → AreTokens bytes ts → AreTokens bytes us → ts ≡ us
 one_tokens a b = a.shown ∙ ap (map shown_token) (sym (cut_as a.text b.text a.cut b.cut)) ∙ sym b.shown
 
-pub never_tokens : {bytes : List ℕ} {ts : List handed.BToken} (f : BoogieFault) → IsTokenFault bytes f → AreTokens bytes ts → ⊥
-never_tokens _ (no_prelude d p) a = not_begun d a.rest a.text
-never_tokens _ (no_token e h) a = never_both (stop_as a.text e h) a.cut
-never_tokens _ (too_deep {at = at} e h d) a = not_shallow (subst (λ ts. IsTooDeep ts at) (cut_as a.text e a.cut h) d) a.shallow
+has_tokens : {bytes : List ℕ} {ts : List handed.BToken} (a : AreTokens bytes ts) → HasTokens bytes a.tokens
+has_tokens a = record { rest = a.rest; text = a.text; cut = a.cut; shallow = a.shallow }
 
-pub one_token_fault : (bytes : List ℕ) (f h : BoogieFault) → IsTokenFault bytes f → IsTokenFault bytes h → f ≡ h
-one_token_fault bytes _ _ (no_prelude {at = p} d a) (no_prelude {at = q} e b) =
-    ap fault.Prelude (one_place_after _ p q a (subst (λ l. IsPlaceAfter l q) (sym (one_difference d e)) b))
-one_token_fault bytes _ _ (no_prelude d a) (no_token e h) = absurd (not_begun d _ e)
-one_token_fault bytes _ _ (no_prelude d a) (too_deep e h i) = absurd (not_begun d _ e)
-one_token_fault bytes _ _ (no_token e h) (no_prelude d a) = absurd (not_begun d _ e)
-one_token_fault bytes _ _ (no_token e h) (no_token f k) = ap fault.Syntax (one_stop h (stop_as e f k))
-one_token_fault bytes _ _ (no_token e h) (too_deep f k i) = absurd (never_both (stop_as f e h) k)
-one_token_fault bytes _ _ (too_deep e h i) (no_prelude d a) = absurd (not_begun d _ e)
-one_token_fault bytes _ _ (too_deep e h i) (no_token f k) = absurd (never_both (stop_as e f k) h)
-one_token_fault bytes _ _ (too_deep e h i) (too_deep {at = q} f k j) = ap fault.Deep (one_depth i (subst (λ ts. IsTooDeep ts q) (cut_as e f h k) j))
+never_tokens : {bytes : List ℕ} {ts : List handed.BToken} (f : BoogieFault) → IsTokenFault bytes f → AreTokens bytes ts → ⊥
+never_tokens f h a = never_placed f h (has_tokens a)
 
 pub gives_tokens : (bytes : List ℕ) (ts : List handed.BToken) (res : Result (Vec handed.BToken Global) BoogieFault) → ReadsTokens bytes res → AreTokens bytes ts → GivesTokens ts res
 gives_tokens bytes ts (Ok v) read h = one_tokens read h
@@ -178,8 +155,3 @@ pub reads_as : (ls ks : List Local) (known : ℕ) (ts us : List handed.BToken) (
     ReadsExpr (scope_before (names_of ls) known) ts from end res → ReadsExpr (scope_before (names_of ks) known) us from end res
 reads_as ls ks known ts us from end res e f h =
     subst (λ (l : List Local). ReadsExpr (scope_before (names_of l) known) us from end res) e (subst (λ l. ReadsExpr (scope_before (names_of ls) known) l from end res) f h)
-
-pub tokens_error : (bytes rest : List ℕ) (f : BoogieFault) (res : Result (Vec handed.BToken Global) BoogieFault) → bytes ≡ prelude ++ rest → IsErrAnd res (λ x. x ≡ f) → CutFails prelude rest f → ReadsTokens bytes res
-tokens_error bytes rest f res e is h =
-    let y = err_from_is_err_and res is in
-    subst (λ o. ReadsTokens bytes o) (sym y.1) (subst (λ x. UnlessMemory (IsTokenFault bytes) x) (sym y.2) (cut_refused bytes rest f e h))

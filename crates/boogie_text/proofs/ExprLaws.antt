@@ -9,7 +9,8 @@ use Rattle.boogie_grammar.specs.Grammar as g
 use Rattle.boogie_grammar.specs.Grammar.{Rule, when, where_true}
 use Rattle.boogie_grammar.specs.Greedy.{Reads, Goes}
 use Rattle.boogie_grammar.specs.ReadView.{ReadsLeaf, NoLeaf, NoWrap}
-use Rattle.boogie_grammar.proofs.Steps.{goes_then}
+use Rattle.boogie_grammar.proofs.Reading.{boogie_steps}
+open boogie_steps use {goes_then}
 
 -- what is left of the rule behind leaves, behind the words of forms, and behind pairs
 

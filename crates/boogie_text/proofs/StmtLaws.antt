@@ -1,7 +1,9 @@
 -- The rule of a statement, by what is next.
-use Rattle.std.proofs.Common.{◌≡◌, ◌∙◌, refl, sym, ap, subst, ℕ, Bool, map, true, false, List, [], ◌∷◌}
+use Rattle.std.proofs.Common.{◌≡◌, ◌∙◌, refl, sym, ap, subst, ℕ, Bool, map, true, false, inl, inr, List, [], ◌∷◌, Err}
 use Rattle.std.specs.declared.alloc.Global.{Global}
 use Rattle.std.specs.declared.vec.Vec.{Vec}
+use Rattle.grammar.specs.declared.stop.Stop.{Stop}
+use Rattle.grammar.specs.declared.stop.Stop.TheVariants as stop
 use Rattle.boogie_tree.specs.Stmt as s
 use Rattle.boogie_tree.specs.Expr as t
 use Rattle.boogie_tree.specs.Whole.{expr_of, stmt_of}
@@ -17,10 +19,12 @@ use Rattle.boogie_grammar.specs.Tests as v
 use Rattle.boogie_grammar.specs.Tests.{Kind, Value, some_free, the_word, a_variable}
 use Rattle.boogie_grammar.specs.Grammar as g
 use Rattle.boogie_grammar.specs.Grammar.{Rule, when, give, after_sign, where_true}
-use Rattle.boogie_grammar.specs.Greedy.{Starts, IsNot, Reads, Goes, Fails}
+use Rattle.boogie_grammar.specs.Greedy.{Starts, IsNot, Reads, Goes, Fails, Refuses}
 use Rattle.boogie_grammar.specs.ReadView.{ReadsVariable, NoVariable}
-use Rattle.boogie_grammar.proofs.Reading.{start, by_need, by_token, by_other, fails_taken, fails_here}
-use Rattle.boogie_text.specs.StmtView.{changing, storing}
+use Rattle.boogie_grammar.proofs.Reading.{boogie_failing, boogie_steps}
+use Rattle.boogie_text.specs.StmtView.{changing, storing, EatsHavoc}
+open boogie_failing use {fails_taken, fails_here}
+open boogie_steps use {start, by_need, by_token, by_other}
 
 -- the scope of what stands in no `forall`
 
@@ -54,7 +58,7 @@ changed_at : {ts us : List PlacedLexeme} {r : Rule v.stmt} (b : Bool) (changes :
 changed_at true changes other e h = h refl
 changed_at false changes other e h = absurd (cc)
 
-pub havoc_goes : (ls : List (List ℕ)) {ts us vs : List PlacedLexeme} {i : _} → Starts (the_word w.Havoc) ts tt us → ReadsVariable ls us i vs →
+havoc_goes : (ls : List (List ℕ)) {ts us vs : List PlacedLexeme} {i : _} → Starts (the_word w.Havoc) ts tt us → ReadsVariable ls us i vs →
     Goes (changing ls) ts (after_sign sign.Semicolon (give (s.Havoc i))) vs
 havoc_goes ls {ts = ts} p h =
     changed_at (some_free ls) (λ some. g.changes ls some) (g.conditional ls) h.0 (λ some. by_need (h.1 some) (by_token p (start (g.changes ls some) ts)))
@@ -70,7 +74,7 @@ fails_else : {ts z : List PlacedLexeme} (b : Bool) (changes : b ≡ true → Rul
 fails_else true changes other e h = absurd (cc)
 fails_else false changes other e h = h
 
-pub havoc_fails : (ls : List (List ℕ)) {ts us : List PlacedLexeme} → Starts (the_word w.Havoc) ts tt us → NoVariable ls us → some_free ls ≡ true → Fails (changing ls) ts us
+havoc_fails : (ls : List (List ℕ)) {ts us : List PlacedLexeme} → Starts (the_word w.Havoc) ts tt us → NoVariable ls us → some_free ls ≡ true → Fails (changing ls) ts us
 havoc_fails ls p n e =
     fails_at (some_free ls) (λ some. g.changes ls some) (g.conditional ls) e (λ some. fails_taken p (fails_here (n some)))
 
@@ -83,6 +87,17 @@ no_if k e f = let h : word_tok w.Havoc ≡ word_tok w.If = sym e ∙ f in cc
 pub havoc_is_no_if : {ts us : List PlacedLexeme} → Starts (the_word w.Havoc) ts tt us → IsNot (the_word w.If) ts
 havoc_is_no_if p = record { none = λ v vs q. no_if p.token.tok p.passes (ap (λ (k : PlacedLexeme). k.tok) (same_token (sym p.is ∙ q.is)) ∙ q.passes) }
 
-pub havoc_stands_nowhere : (ls : List (List ℕ)) {ts us : List PlacedLexeme} → Starts (the_word w.Havoc) ts tt us → some_free ls ≡ false → Fails (changing ls) ts ts
+havoc_stands_nowhere : (ls : List (List ℕ)) {ts us : List PlacedLexeme} → Starts (the_word w.Havoc) ts tt us → some_free ls ≡ false → Fails (changing ls) ts ts
 havoc_stands_nowhere ls p e =
     fails_else (some_free ls) (λ some. g.changes ls some) (g.conditional ls) e (fails_here (havoc_is_no_if p))
+
+-- what `eat_havoc` answers, of the rule
+
+pub havoc_next : (ls : List (List ℕ)) {ts vs : List PlacedLexeme} {i : ℕ} → (us : List PlacedLexeme) × Starts (the_word w.Havoc) ts tt us × ReadsVariable ls us i vs →
+    Goes (changing ls) ts (after_sign sign.Semicolon (give (s.Havoc i))) vs
+havoc_next ls h = havoc_goes ls h.1 h.2
+
+pub havoc_refuses : (ls : List (List ℕ)) (ts : List PlacedLexeme) (e : Stop PlacedLexeme) → EatsHavoc ls ts (Err e) → Refuses (changing ls) ts e
+havoc_refuses ls ts stop.Memory h = tt
+havoc_refuses ls ts (stop.Before r) (us, starts, inl (some, none, e)) = subst (λ l. Fails (changing ls) ts l) (sym e) (havoc_fails ls starts none some)
+havoc_refuses ls ts (stop.Before r) (us, starts, inr (none, e)) = subst (λ l. Fails (changing ls) ts l) (sym e) (havoc_stands_nowhere ls starts none)

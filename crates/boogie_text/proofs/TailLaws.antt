@@ -20,8 +20,8 @@ use Rattle.boogie_grammar.specs.Tests as v
 use Rattle.boogie_grammar.specs.Tests.{Kind, Value, Test, the_sign, the_word}
 use Rattle.boogie_grammar.specs.Words.{is_among}
 use Rattle.boogie_grammar.proofs.Elements.{laws}
-use Rattle.boogie_text.specs.Answers.{IsRead}
-use Rattle.boogie_text.proofs.SpelledLaws.{Gives, keeps, all_keep, tokens_proper}
+use Rattle.boogie_print.specs.Read.{IsRead}
+use Rattle.boogie_print.proofs.SpelledLaws.{Gives, keeps, all_keep, tokens_proper}
 use Rattle.boogie_text.specs.Tail.{IsTail, IsLocalsTail, IsBodyTail, after_statements, after_locals, heading, declaring, SpellsHead, SpellsLocal, SpellsStatement, BeginsProcedure, BeginsLocal, BeginsStatement, BeginsEnd}
 
 -- a text with no token

@@ -6,11 +6,12 @@ use Rattle.std.specs.List.{starts_with}
 use Rattle.std.specs.Str.Parse.{digits_value}
 use Rattle.std.proofs.lemmas.Bool.{cases_lt, cases_order, eqb-true}
 use Rattle.std.proofs.lemmas.List.{take-append-drop}
+use Rattle.lemmas.proofs.Lists.{item_there as item}
 use Rattle.vb_base.specs.declared.places.Pos.{Pos}
 use Rattle.vb_base.specs.Labels.{Spells}
 use Rattle.vb_base.specs.declared.labels.Label.{Label}
 use Rattle.vb_base.specs.Names.{is_name_start}
-use Rattle.vb_base.specs.Place.{IsPlaceAfter, line_after, col_after}
+use Rattle.vb_base.specs.Place.{IsPlace, IsPlaceAfter, line_after, col_after}
 use Rattle.vb_base.specs.Rows.{front, behind}
 use Rattle.vb_base.proofs.PlaceLaws.{line_after-le, col_after-le}
 use Rattle.boogie_tree.specs.Program.{BProgram}
@@ -25,13 +26,16 @@ use Rattle.boogie_grammar.specs.Pieces.{Class, Blank, Letter, Digit, Quote, Othe
 use Rattle.boogie_grammar.specs.Cut.{IsCut, end, piece, onto}
 use Rattle.boogie_grammar.specs.Depth.{IsShallow, IsTooDeep, unclosed}
 use Rattle.boogie_grammar.specs.Spells.{IsProgram, GoesWrong}
-use Rattle.boogie_grammar.specs.Faults.{Differs, ended, other, later, Stops, IsFault, no_prelude, no_token, too_deep, no_program}
+use Rattle.boogie_grammar.specs.Faults.{Differs, ended, other, later, Stops, IsFault}
 use Rattle.boogie_grammar.specs.Faults as s
 use Rattle.boogie_grammar.proofs.DepthLaws.{one_more_front, shallow_from_fronts}
 use Rattle.boogie_grammar.proofs.LexLaws.{piece_some}
 use Rattle.boogie_grammar.proofs.PieceLaws.{comment_piece, no_sign}
-use Rattle.boogie_text.specs.Answers.{IsRead}
+use Rattle.boogie_print.specs.Read.{IsRead}
+use Rattle.boogie_text.specs.PublicTokens.{IsTokenFault, no_prelude, no_token, too_deep}
+use Rattle.boogie_text.specs.Texts.{HasTokens, IsRefused, no_tokens, no_program}
 use Rattle.boogie_text.proofs.Answered.{some_answer}
+use Rattle.boogie_text.proofs.FaultLaws.{is_fault}
 use Rattle.boogie_text.proofs.LabelAnswers.{label_or_not}
 use Rattle.boogie_text.proofs.ReadLaws.{is_read}
 
@@ -151,11 +155,6 @@ front_or_not (a ∷ bytes) (b ∷ begin) = by_case (cases_order a b) (front_or_n
 
 -- the brackets are too deep, or not
 
-item : {X : Type 0} (xs : List X) (i : ℕ) → i < length xs → (x : X) × (slice_get xs i ≡ Some x)
-item [] i lt = absurd (omega (arith, lt))
-item (x ∷ xs) zero lt = (x, refl)
-item (x ∷ xs) (suc i) lt = item xs i (omega (arith, lt))
-
 abbrev Deep : List PlacedLexeme → Type 0
 Deep ts = (at : Pos) × IsTooDeep ts at
 
@@ -177,34 +176,63 @@ deep_or_not ts = by_case (deep_by ts (length ts) (omega arith)) where
   by_case (inl h) = inl (shallow_from_fronts ts h)
   by_case (inr d) = inr d
 
--- what a text is
+-- a text has tokens, or there is a reason for which it has none
 
-abbrev pub Answer : List ℕ → Type 0
-Answer bytes = ((b : BProgram) × IsRead bytes b) ⊎ ((f : BoogieFault) × IsFault bytes f)
+abbrev Tokens : List ℕ → Type 0
+Tokens bytes = ((ts : List PlacedLexeme) × HasTokens bytes ts) ⊎ ((f : BoogieFault) × IsTokenFault bytes f)
 
 prelude_short : length prelude ≤ 1048576
 unfolding prelude
 prelude_short = omega arith
 
-by_tokens : {rest : List ℕ} {ts : List PlacedLexeme} → IsCut prelude rest ts → IsShallow ts → (last : Pos) × IsPlaceAfter (prelude ++ rest) last → IsProgram ts ⊎ GoesWrong ts → Answer (prelude ++ rest)
-by_tokens c shallow last (inl (b, h)) = inl (b, is_read c shallow h)
-by_tokens c shallow (last, place) (inr h) = inr (_, no_program refl c shallow h.none h.place place)
+by_depth : {rest : List ℕ} {ts : List PlacedLexeme} → IsCut prelude rest ts → IsShallow ts ⊎ Deep ts → Tokens (prelude ++ rest)
+by_depth {rest = rest} {ts = ts} c (inl shallow) = inl (ts, record { rest = rest; text = refl; cut = c; shallow = shallow })
+by_depth c (inr (at, d)) = inr (_, too_deep refl c d)
 
-by_depth : {rest : List ℕ} {ts : List PlacedLexeme} → IsCut prelude rest ts → (last : Pos) × IsPlaceAfter (prelude ++ rest) last → IsShallow ts ⊎ Deep ts → Answer (prelude ++ rest)
-by_depth {ts = ts} c last (inl shallow) = by_tokens c shallow last (some_answer ts)
-by_depth c last (inr (at, d)) = inr (_, too_deep refl c d)
+by_cut : {rest : List ℕ} → Cuts prelude rest → Tokens (prelude ++ rest)
+by_cut (inl (ts, c)) = by_depth c (deep_or_not ts)
+by_cut (inr (at, h)) = inr (_, no_token refl h)
 
-by_cut : {rest : List ℕ} → (last : Pos) × IsPlaceAfter (prelude ++ rest) last → Cuts prelude rest → Answer (prelude ++ rest)
-by_cut last (inl (ts, c)) = by_depth c last (deep_or_not ts)
-by_cut last (inr (at, h)) = inr (_, no_token refl h)
-
-rest_answer : (rest : List ℕ) → length (prelude ++ rest) < 2 ^ 32 - 1 → Answer (prelude ++ rest)
-rest_answer rest most =
+rest_tokens : (rest : List ℕ) → length (prelude ++ rest) < 2 ^ 32 - 1 → Tokens (prelude ++ rest)
+rest_tokens rest most =
     let whole = length-append prelude rest in
-    by_cut (some_place (prelude ++ rest) most) (cut_by (suc (length rest)) prelude rest (omega arith) (omega (arith, most, whole)))
+    by_cut (cut_by (suc (length rest)) prelude rest (omega arith) (omega (arith, most, whole)))
+
+some_tokens : (bytes : List ℕ) → length bytes < 2 ^ 32 - 1 → Tokens bytes
+some_tokens bytes most = by_case (front_or_not bytes prelude) where
+  by_case : ((rest : List ℕ) × (bytes ≡ prelude ++ rest)) ⊎ ((same : List ℕ) × Differs bytes prelude same × (length same ≤ length prelude)) → Tokens bytes
+  by_case (inl (rest, e)) = subst Tokens (sym e) (rest_tokens rest (subst (λ x. length x < 2 ^ 32 - 1) e most))
+  by_case (inr (same, d, le)) = let at = some_place same (omega (arith, le, prelude_short)) in inr (_, no_prelude d at.1)
+
+-- P holds of its tokens, or it is refused
+
+abbrev pub SomeText : (List PlacedLexeme → Type 0) → List ℕ → Type 0
+SomeText P bytes = ((ts : List PlacedLexeme) × HasTokens bytes ts × P ts) ⊎ ((f : BoogieFault) × IsRefused P bytes f)
+
+abbrev pub HoldsOrNot : (List PlacedLexeme → Type 0) → List PlacedLexeme → Type 0
+HoldsOrNot P ts = P ts ⊎ ((P ts → ⊥) × ((i : ℕ) × IsPlace P ts i))
+
+pub some_text : (P : List PlacedLexeme → Type 0) → ((ts : List PlacedLexeme) → HoldsOrNot P ts) → (bytes : List ℕ) → length bytes < 2 ^ 32 - 1 → SomeText P bytes
+some_text P holds bytes most = by_tokens (some_tokens bytes most) where
+  by_answer : (ts : List PlacedLexeme) → HasTokens bytes ts → HoldsOrNot P ts → SomeText P bytes
+  by_answer ts has (inl h) = inl (ts, has, h)
+  by_answer ts has (inr wrong) = let last = some_place bytes most in inr (_, no_program has wrong.0 wrong.1.1 last.1)
+
+  by_tokens : Tokens bytes → SomeText P bytes
+  by_tokens (inl (ts, has)) = by_answer ts has (holds ts)
+  by_tokens (inr (f, h)) = inr (f, no_tokens h)
+
+-- what a text is
+
+abbrev pub Answer : List ℕ → Type 0
+Answer bytes = ((b : BProgram) × IsRead bytes b) ⊎ ((f : BoogieFault) × IsFault bytes f)
+
+program_or_not : (ts : List PlacedLexeme) → IsProgram ts ⊎ GoesWrong ts → HoldsOrNot IsProgram ts
+program_or_not ts (inl program) = inl program
+program_or_not ts (inr wrong) = inr (wrong.none, (wrong.at, wrong.place))
 
 pub some_text_answer : (bytes : List ℕ) → length bytes < 2 ^ 32 - 1 → Answer bytes
-some_text_answer bytes most = by_case (front_or_not bytes prelude) where
-  by_case : ((rest : List ℕ) × (bytes ≡ prelude ++ rest)) ⊎ ((same : List ℕ) × Differs bytes prelude same × (length same ≤ length prelude)) → Answer bytes
-  by_case (inl (rest, e)) = subst Answer (sym e) (rest_answer rest (subst (λ x. length x < 2 ^ 32 - 1) e most))
-  by_case (inr (same, d, le)) = let at = some_place same (omega (arith, le, prelude_short)) in inr (_, no_prelude d at.1)
+some_text_answer bytes most = by_case (some_text IsProgram (λ ts. program_or_not ts (some_answer ts)) bytes most) where
+  by_case : SomeText IsProgram bytes → Answer bytes
+  by_case (inl (ts, has, (b, h))) = inl (b, is_read has h)
+  by_case (inr (f, h)) = inr (f, is_fault bytes f h)

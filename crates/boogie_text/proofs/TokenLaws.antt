@@ -10,8 +10,8 @@ use Rattle.boogie_grammar.specs.declared.tokens.PlacedLexeme.{PlacedLexeme}
 use Rattle.boogie_grammar.specs.Cut.{IsCut}
 use Rattle.boogie_grammar.specs.Words.{sign_text}
 use Rattle.boogie_text.specs.PublicTokens.{shown, shown_token, sign_of, literal_of, stands_for, token_of}
-use Rattle.boogie_text.proofs.AlikeLaws.{row_of}
-use Rattle.boogie_text.proofs.SpelledLaws.{Proper, AllProper, row_proper}
+use Rattle.boogie_print.proofs.AlikeLaws.{row_of}
+use Rattle.boogie_print.proofs.SpelledLaws.{Proper, AllProper, row_proper}
 
 sign_stands : (o : BSign) → sign_of (sign_text o) ≡ Some o
 sign_stands sign.OpenParen = refl

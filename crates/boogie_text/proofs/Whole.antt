@@ -13,6 +13,7 @@ use Rattle.grammar.proofs.Whole as grammar
 use Rattle.grammar.proofs.Whole.{split, count}
 use Rattle.boogie_tree.specs.Program.{Proc}
 use Rattle.boogie_tree.specs.declared.programs.Proc as d
+use Rattle.boogie_grammar.specs.declared.faults.BoogieFault.TheVariants as fault
 use Rattle.boogie_grammar.specs.declared.tokens.PlacedLexeme.{PlacedLexeme}
 use Rattle.boogie_grammar.specs.Tests as v
 use Rattle.boogie_grammar.specs.Grammar as g
@@ -21,9 +22,11 @@ use Rattle.boogie_grammar.specs.Greedy.{Reads, Refuses}
 use Rattle.boogie_grammar.specs.Spells.{Spells, IsProgram}
 use Rattle.boogie_grammar.specs.Faults.{place_at, fault_of}
 use Rattle.boogie_grammar.proofs.Elements.{laws}
-use Rattle.boogie_grammar.proofs.Reading.{start}
-use Rattle.boogie_text.specs.Whole.{FailsWhole, RefusesWhole, ReadsWhole, RefusesTokens}
-use Rattle.boogie_text.proofs.Complete.{complete}
+use Rattle.boogie_grammar.proofs.Reading.{boogie_steps}
+use Rattle.boogie_text.specs.Texts.{RefusesTokens}
+use Rattle.boogie_text.specs.Whole.{FailsWhole, RefusesWhole, ReadsWhole}
+use Rattle.boogie_print.proofs.Complete.{complete}
+open boogie_steps use {start}
 
 pub whole_error : (ts : List PlacedLexeme) (w : Stop PlacedLexeme) (res : Result (Vec d.Proc Global) (Stop PlacedLexeme)) → IsErrAnd res (λ x. x ≡ w) → Refuses (rule (g.Program [])) ts w → ReadsWhole ts res
 whole_error ts w res e h =
@@ -33,7 +36,7 @@ whole_error ts w res e h =
 
 -- the procedures end, and a token is left
 
-some_token : (us : List PlacedLexeme) → false ≡ (length us == 0) → (k : PlacedLexeme) × (vs : List PlacedLexeme) × (us ≡ k ∷ vs)
+pub some_token : (us : List PlacedLexeme) → false ≡ (length us == 0) → (k : PlacedLexeme) × (vs : List PlacedLexeme) × (us ≡ k ∷ vs)
 some_token [] e = absurd (cc)
 some_token (k ∷ vs) e = (k, vs, refl)
 
@@ -65,10 +68,15 @@ next_place : (f r : List PlacedLexeme) (last : Pos) → place_at (f ++ r) (lengt
 next_place [] r last = refl
 next_place (k ∷ f) r last = next_place f r last
 
-pub refuses_there : (ts : List PlacedLexeme) (last : Pos) (w : Stop PlacedLexeme) → RefusesWhole ts w → RefusesTokens ts last (fault_of w last)
+pub refuses_at : (P : List PlacedLexeme → Type 0) (ts front r : List PlacedLexeme) (last : Pos) → ts ≡ front ++ r → (P ts → ⊥) → IsPlace P ts (length ts - length r) →
+    RefusesTokens P ts last (fault.Syntax (place_at r zero last))
+refuses_at P ts front r last is none place =
+    let At : List PlacedLexeme → Type 0 = λ l. place_at l (length l - length r) last ≡ place_at r zero last in
+    let there : At (front ++ r) = ap (λ n. place_at (front ++ r) n last) (count front r) ∙ next_place front r last in
+    (none, (length ts - length r, place, sym (subst At (sym is) there)))
+
+pub refuses_there : (ts : List PlacedLexeme) (last : Pos) (w : Stop PlacedLexeme) → RefusesWhole ts w → RefusesTokens IsProgram ts last (fault_of w last)
 refuses_there ts last stop.Memory h = tt
 refuses_there ts last (stop.Before r) h =
     let q = split h.opens.front in
-    let At : List PlacedLexeme → Type 0 = λ l. place_at l (length l - length r.now) last ≡ place_at r.now zero last in
-    let there : At (q.front ++ r.now) = ap (λ n. place_at (q.front ++ r.now) n last) (count q.front r.now) ∙ next_place q.front r.now last in
-    (none_spelled ts r.now h, (length ts - length r.now, place_of ts r.now h, sym (subst At (sym q.left) there)))
+    refuses_at IsProgram ts q.front r.now last q.left (none_spelled ts r.now h) (place_of ts r.now h)

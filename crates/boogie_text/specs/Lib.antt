@@ -1,12 +1,7 @@
-pub mod Printable
-pub mod Short
-pub mod Fresh
 pub mod StmtView
+pub mod Texts
 pub mod Whole
 pub mod Answers
-pub mod Pieces
-pub mod Names
-pub mod Asserts
 pub mod PublicTokens
 pub mod ReadExpr
 pub mod ReadSteps

@@ -1,9 +1,10 @@
 -- What contracts of the reader of statements see.
-use Rattle.std.specs.Prelude.{ℕ, List, map, Option, Some, None, Result, Ok, Err}
+use Rattle.std.specs.Prelude.{◌≡◌, ◌⊎◌, true, false, ℕ, List, map, Option, Some, None, Result, Ok, Err}
 use Rattle.std.specs.Borrow.{Bor}
 use Rattle.std.specs.declared.alloc.Global.{Global}
 use Rattle.std.specs.declared.vec.Vec.{Vec}
 use Rattle.grammar.specs.declared.stop.Stop.{Stop}
+use Rattle.grammar.specs.declared.stop.Stop.TheVariants as stop
 use Rattle.boogie_tree.specs.Stmt as s
 use Rattle.boogie_tree.specs.Program as p
 use Rattle.boogie_tree.specs.Whole.{stmt_of, stmts_of, proc_of}
@@ -13,8 +14,9 @@ use Rattle.boogie_grammar.specs.declared.tokens.BSign.TheVariants as sign
 use Rattle.boogie_grammar.specs.declared.tokens.PlacedLexeme.{PlacedLexeme}
 use Rattle.boogie_grammar.specs.declared.tokens.Word.TheVariants as w
 use Rattle.boogie_grammar.specs.Tests as v
-use Rattle.boogie_grammar.specs.Tests.{some_free, a_variable, a_label}
-use Rattle.boogie_grammar.specs.Greedy.{Goes, Refuses}
+use Rattle.boogie_grammar.specs.Tests.{some_free, a_variable, a_label, the_word}
+use Rattle.boogie_grammar.specs.Greedy.{IsNot, Starts}
+use Rattle.boogie_grammar.specs.ReadView.{ReadsVariable, NoVariable}
 use Rattle.boogie_grammar.specs.Grammar as g
 use Rattle.boogie_grammar.specs.Grammar.{Rule, give, need, when, read, after_sign, after_word, where_true}
 
@@ -55,8 +57,13 @@ all_procs_of v = map proc_of v.items
 abbrev pub block_of : Vec BStmt Global → s.BStmts
 block_of v = stmts_of v.items
 
+-- the word `havoc` stands here, and no variable behind it: it goes wrong there, or at the word where no variable can be named
+abbrev pub HavocAlone : List (List ℕ) → List PlacedLexeme → List PlacedLexeme → List PlacedLexeme → Type 0
+HavocAlone ls ts us r = ((some_free ls ≡ true) × NoVariable ls us × (r ≡ us)) ⊎ ((some_free ls ≡ false) × (r ≡ ts))
+
 -- a `havoc` with its variable, or none
 abbrev pub EatsHavoc : List (List ℕ) → List PlacedLexeme → Result (Option (ℕ × Bor (List PlacedLexeme))) (Stop PlacedLexeme) → Type 0
-EatsHavoc ls ts (Ok None) = Goes (changing ls) ts (storing ls) ts
-EatsHavoc ls ts (Ok (Some p)) = Goes (changing ls) ts (after_sign sign.Semicolon (give (s.Havoc p.0))) p.1.now
-EatsHavoc ls ts (Err e) = Refuses (changing ls) ts e
+EatsHavoc ls ts (Ok None) = IsNot (the_word w.Havoc) ts
+EatsHavoc ls ts (Ok (Some p)) = (us : List PlacedLexeme) × Starts (the_word w.Havoc) ts tt us × ReadsVariable ls us p.0 p.1.now
+EatsHavoc ls ts (Err stop.Memory) = Unit {0}
+EatsHavoc ls ts (Err (stop.Before r)) = (us : List PlacedLexeme) × Starts (the_word w.Havoc) ts tt us × HavocAlone ls ts us r.now

@@ -4,7 +4,9 @@ ghost use Rattle.boogie_grammar.specs.Grammar as g;
 ghost use Rattle.boogie_grammar.specs.Greedy.{Parses};
 ghost use Rattle.boogie_grammar.specs.ReadView.{scope_of, binding_of, ReadsBound, NoBound};
 
-use boogie_grammar::eating::{Read, eat_sign, eat_this, key, sign, this};
+use boogie_grammar::eating::{
+    Read, eat_given_name, eat_sign, need_given_name, need_key, need_sign,
+};
 use boogie_grammar::new_names::{bound_name, is_new};
 use boogie_grammar::scopes::{Names, Scope};
 use boogie_grammar::{BSign, PlacedLexeme};
@@ -24,7 +26,7 @@ pub(crate) fn eat_bound<'a, 'b>(
     if !is_new(scope.locals, first) {
         return None;
     }
-    let rest = eat_this(first, tokens)?;
+    let rest = eat_given_name(first, tokens)?;
     Some((others, rest))
 }
 
@@ -36,12 +38,12 @@ pub(crate) fn bound_rest<'a>(names: &[Ident], tokens: &'a [PlacedLexeme]) -> Rea
     let mut left = names;
     let mut rest = tokens;
     while let Some((name, others)) = left.split_first() {
-        let (_, after) = sign(BSign::Comma, rest)?;
-        let (_, after) = this(name, after)?;
+        let (_, after) = need_sign(BSign::Comma, rest)?;
+        let (_, after) = need_given_name(name, after)?;
         left = others;
         rest = after;
     }
-    let (_, after) = sign(BSign::CloseBracket, rest)?;
+    let (_, after) = need_sign(BSign::CloseBracket, rest)?;
     Ok(((), after))
 }
 
@@ -60,8 +62,8 @@ pub(crate) fn binders<'a>(
     let mut rest = tokens;
     loop {
         let (name, after) = bound_name(scope, bound, rest)?;
-        let (_, after) = sign(BSign::Colon, after)?;
-        let (ty, after) = key(after)?;
+        let (_, after) = need_sign(BSign::Colon, after)?;
+        let (ty, after) = need_key(after)?;
         bound.add(name)?;
         types = pushed(types, ty)?;
         let Some(next) = eat_sign(BSign::Comma, after) else {

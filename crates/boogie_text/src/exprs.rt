@@ -6,7 +6,7 @@ ghost use Rattle.boogie_grammar.specs.ReadView.{scope_of, boxed_of, all_exprs_of
 
 use crate::bounds::{binders, bound_rest, eat_bound};
 use crate::builds::{at, wrap};
-use boogie_grammar::eating::{Read, eat_sign, eat_word, operator, sign, word};
+use boogie_grammar::eating::{Read, eat_sign, eat_word, need_operator, need_sign, need_word};
 use boogie_grammar::leaves::{Wrap, eat_forall, eat_leaf, eat_variable, eat_wrap};
 use boogie_grammar::scopes::{Names, Scope};
 use boogie_grammar::{BSign, PlacedLexeme, Word};
@@ -47,7 +47,7 @@ fn wrapped<'a>(
     ensures shorter { IfOk result (λ r. length r.1.now < length tokens.now) }
     ensures reads { Parses boxed_of (g.wrapped (scope_of scope.entry) (wrap_of form)) tokens.now result }
 {
-    let (_, rest) = sign(BSign::OpenParen, tokens)?;
+    let (_, rest) = need_sign(BSign::OpenParen, tokens)?;
     closed(alloc, scope, form, rest)
 }
 
@@ -63,7 +63,7 @@ fn closed<'a>(
     ensures reads { Parses boxed_of (closing (scope_of scope.entry) (wrap_of form)) tokens.now result }
 {
     let (inner, rest) = expr(alloc, scope, tokens)?;
-    let (_, after) = sign(BSign::CloseParen, rest)?;
+    let (_, after) = need_sign(BSign::CloseParen, rest)?;
     let whole = wrap(alloc, form, inner)?;
     Ok((whole, after))
 }
@@ -74,11 +74,11 @@ fn paired<'a>(alloc: Global, scope: Scope<'_>, tokens: &'a [PlacedLexeme]) -> Re
     ensures shorter { IfOk result (λ r. length r.1.now < length tokens.now) }
     ensures reads { Parses boxed_of (g.paired (scope_of scope.entry)) tokens.now result }
 {
-    let (_, rest) = sign(BSign::OpenParen, tokens)?;
+    let (_, rest) = need_sign(BSign::OpenParen, tokens)?;
     let (first, rest) = expr(alloc, scope, rest)?;
-    let (_, after) = sign(BSign::Comma, rest)?;
+    let (_, after) = need_sign(BSign::Comma, rest)?;
     let (second, rest) = expr(alloc, scope, after)?;
-    let (_, after) = sign(BSign::CloseParen, rest)?;
+    let (_, after) = need_sign(BSign::CloseParen, rest)?;
     let whole = boxed(alloc, BExpr::Pair(first, second))?;
     Ok((whole, after))
 }
@@ -139,7 +139,7 @@ pub fn exprs<'a>(
         all = pushed(all, Box::into_inner(next))?;
         rest = after;
     }
-    let (_, after) = sign(BSign::CloseBracket, rest)?;
+    let (_, after) = need_sign(BSign::CloseBracket, rest)?;
     Ok((all, after))
 }
 
@@ -153,7 +153,7 @@ fn in_parens<'a>(
     ensures shorter { IfOk result (λ r. length r.1.now < length tokens.now) }
     ensures reads { Parses boxed_of (g.in_parens (scope_of scope.entry)) tokens.now result }
 {
-    let (_, rest) = sign(BSign::OpenParen, tokens)?;
+    let (_, rest) = need_sign(BSign::OpenParen, tokens)?;
     inside(alloc, scope, rest)
 }
 
@@ -185,11 +185,11 @@ fn choice<'a>(alloc: Global, scope: Scope<'_>, tokens: &'a [PlacedLexeme]) -> Re
     ensures reads { Parses boxed_of (chosen (scope_of scope.entry)) tokens.now result }
 {
     let (condition, rest) = expr(alloc, scope, tokens)?;
-    let (_, after) = word(Word::Then, rest)?;
+    let (_, after) = need_word(Word::Then, rest)?;
     let (first, rest) = expr(alloc, scope, after)?;
-    let (_, after) = word(Word::Else, rest)?;
+    let (_, after) = need_word(Word::Else, rest)?;
     let (second, rest) = expr(alloc, scope, after)?;
-    let (_, after) = sign(BSign::CloseParen, rest)?;
+    let (_, after) = need_sign(BSign::CloseParen, rest)?;
     let whole = boxed(alloc, BExpr::If(condition, first, second))?;
     Ok((whole, after))
 }
@@ -201,9 +201,9 @@ fn binary<'a>(alloc: Global, scope: Scope<'_>, tokens: &'a [PlacedLexeme]) -> Re
     ensures reads { Parses boxed_of (g.binary (scope_of scope.entry)) tokens.now result }
 {
     let (left, rest) = expr(alloc, scope, tokens)?;
-    let (op, after) = operator(rest)?;
+    let (op, after) = need_operator(rest)?;
     let (right, rest) = expr(alloc, scope, after)?;
-    let (_, after) = sign(BSign::CloseParen, rest)?;
+    let (_, after) = need_sign(BSign::CloseParen, rest)?;
     let whole = boxed(alloc, BExpr::Bin(op, left, right))?;
     Ok((whole, after))
 }
@@ -235,14 +235,14 @@ fn binding<'a>(
     ensures reads { Parses boxed_of (quantifying (scope_of scope.entry)) tokens.now result }
 {
     let (types, rest) = binders(alloc, scope, bound, tokens)?;
-    let (_, after) = sign(BSign::Bounds, rest)?;
+    let (_, after) = need_sign(BSign::Bounds, rest)?;
     let under = Scope {
         locals: scope.locals,
         others: scope.others,
         bound: bound.all(),
     };
     let (inner, rest) = expr(alloc, under, after)?;
-    let (_, after) = sign(BSign::CloseParen, rest)?;
+    let (_, after) = need_sign(BSign::CloseParen, rest)?;
     let whole = boxed(alloc, BExpr::Forall(types, inner))?;
     Ok((whole, after))
 }

@@ -9,7 +9,7 @@ ghost use Rattle.boogie_text.specs.Tail.{FindsInside, BeginsLocal, SpellsLocal, 
 
 use crate::stmts::statement;
 use crate::types::type_of;
-use boogie_grammar::eating::{Read, eat_sign, eat_word, sign};
+use boogie_grammar::eating::{Read, eat_sign, eat_word, need_sign};
 use boogie_grammar::new_names::new_name;
 use boogie_grammar::scopes::Names;
 use boogie_grammar::{BSign, Part, PlacedLexeme, Word, next_part};
@@ -91,9 +91,9 @@ fn declaration<'a>(alloc: Global, names: &Names, tokens: &'a [PlacedLexeme]) -> 
     ensures reads { Parses one_local (declaring names.now) tokens.now result }
 {
     let (name, rest) = new_name(names, tokens)?;
-    let (_, rest) = sign(BSign::Colon, rest)?;
+    let (_, rest) = need_sign(BSign::Colon, rest)?;
     let (ty, rest) = type_of(alloc, rest)?;
-    let (_, rest) = sign(BSign::Semicolon, rest)?;
+    let (_, rest) = need_sign(BSign::Semicolon, rest)?;
     Ok((Local { name, ty }, rest))
 }
 

@@ -1,20 +1,17 @@
 // Laws of the text, each the contract of a function with nothing to do.
-ghost use Rattle.std.specs.Prelude.{◌≡◌, ◌+◌, ◌^◌, ◌<◌, ◌≤◌, ◌⊎◌, ◌++◌, [], List, ℕ, length, take};
+ghost use Rattle.std.specs.Prelude.{◌≡◌, ◌≤◌, ◌⊎◌, ◌++◌, [], List, ℕ, length, take};
 ghost use Rattle.vb_base.specs.Limits.{max_boogie_bytes};
 ghost use Rattle.vb_base.specs.Place.{IsPlace};
 ghost use Rattle.boogie_tree.specs.Program as p;
 ghost use Rattle.boogie_tree.specs.Text.{prelude};
 ghost use Rattle.boogie_tree.specs.Nested.{program_depth};
-ghost use Rattle.boogie_tree.specs.declared.exprs.BBase.{BBase};
 ghost use Rattle.boogie_grammar.specs.declared.tokens.PlacedLexeme.{PlacedLexeme};
 ghost use Rattle.boogie_grammar.specs.declared.faults.BoogieFault.{BoogieFault};
 ghost use Rattle.boogie_grammar.specs.Depth.{IsShallow, unclosed};
 ghost use Rattle.boogie_grammar.specs.Faults.{IsFault};
-ghost use Rattle.boogie_grammar.specs.Printed.{naming, under};
 ghost use Rattle.boogie_grammar.specs.Spells.{Spells, BSpells, IsProgram, GoesWrong};
-ghost use Rattle.boogie_text.specs.Answers.{IsRead};
-ghost use Rattle.boogie_text.specs.Fresh.{AreFresh};
-ghost use Rattle.boogie_text.specs.Printable.{IsPrintable};
+ghost use Rattle.boogie_print.specs.Read.{IsRead};
+ghost use Rattle.boogie_print.specs.Printable.{IsPrintable};
 ghost use Rattle.boogie_text.specs.Tail.{IsTail};
 
 /// No bytes spell two programs.
@@ -66,10 +63,4 @@ pub fn brackets_are_nested()
 /// the bound, and the number of each variable exists.
 pub fn spelled_is_printable()
     ensures { (bytes : List ℕ) (b : p.BProgram) → BSpells bytes b → IsPrintable b }
-{}
-
-/// What is written for the variables that a `forall` binds, where they and the locals are fewer than 2^63: for each of them
-/// `q` and a number, a name that no local has, and no two the same.
-pub fn bound_names_are_fresh()
-    ensures { (locals : List (List ℕ)) (types : List BBase) → length locals + length types < 2 ^ 63 → AreFresh locals types (under (naming locals) types).bound }
 {}

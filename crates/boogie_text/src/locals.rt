@@ -7,7 +7,7 @@ ghost use Rattle.boogie_grammar.specs.Greedy.{Parses};
 ghost use Rattle.boogie_grammar.specs.ReadView.{all_locals_of};
 
 use crate::types::type_of;
-use boogie_grammar::eating::{Read, eat_word, sign};
+use boogie_grammar::eating::{Read, eat_word, need_sign};
 use boogie_grammar::new_names::new_name;
 use boogie_grammar::scopes::Names;
 use boogie_grammar::{BSign, PlacedLexeme, Word};
@@ -30,9 +30,9 @@ pub(crate) fn locals<'a>(
     let mut rest = tokens;
     while let Some(after) = eat_word(Word::Var, rest) {
         let (name, after) = new_name(names, after)?;
-        let (_, after) = sign(BSign::Colon, after)?;
+        let (_, after) = need_sign(BSign::Colon, after)?;
         let (ty, after) = type_of(alloc, after)?;
-        let (_, after) = sign(BSign::Semicolon, after)?;
+        let (_, after) = need_sign(BSign::Semicolon, after)?;
         names.add(name.copy()?)?;
         all = pushed(all, Local { name, ty })?;
         rest = after;

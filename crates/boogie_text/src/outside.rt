@@ -4,7 +4,7 @@ ghost use Rattle.boogie_grammar.specs.Greedy.{Parses};
 ghost use Rattle.boogie_grammar.specs.Words.{is_among};
 ghost use Rattle.boogie_text.specs.Tail.{FindsOutside, SpellsHead, heading};
 
-use boogie_grammar::eating::{Read, eat_word, sign};
+use boogie_grammar::eating::{Read, eat_word, need_sign};
 use boogie_grammar::new_names::new_name;
 use boogie_grammar::scopes::Names;
 use boogie_grammar::{BSign, Part, PlacedLexeme, Word, next_part};
@@ -62,8 +62,8 @@ fn head<'a>(taken: &Names, tokens: &'a [PlacedLexeme]) -> Read<'a, Ident>
     ensures reads { Parses (λ x. x) (heading taken.now) tokens.now result }
 {
     let (name, rest) = new_name(taken, tokens)?;
-    let (_, rest) = sign(BSign::OpenParen, rest)?;
-    let (_, rest) = sign(BSign::CloseParen, rest)?;
-    let (_, rest) = sign(BSign::OpenBrace, rest)?;
+    let (_, rest) = need_sign(BSign::OpenParen, rest)?;
+    let (_, rest) = need_sign(BSign::CloseParen, rest)?;
+    let (_, rest) = need_sign(BSign::OpenBrace, rest)?;
     Ok((name, rest))
 }

@@ -8,7 +8,7 @@ ghost use Rattle.boogie_text.specs.StmtView.{all_procs_of};
 
 use crate::locals::locals;
 use crate::stmts::statements;
-use boogie_grammar::eating::{Read, eat_word, sign};
+use boogie_grammar::eating::{Read, eat_word, need_sign};
 use boogie_grammar::new_names::new_name;
 use boogie_grammar::scopes::Names;
 use boogie_grammar::{BSign, PlacedLexeme, Word};
@@ -27,9 +27,9 @@ pub(crate) fn procedure<'a>(
     ensures reads { Parses proc_of (g.rule (g.Procedure taken.now)) tokens.now result }
 {
     let (name, rest) = new_name(taken, tokens)?;
-    let (_, rest) = sign(BSign::OpenParen, rest)?;
-    let (_, rest) = sign(BSign::CloseParen, rest)?;
-    let (_, rest) = sign(BSign::OpenBrace, rest)?;
+    let (_, rest) = need_sign(BSign::OpenParen, rest)?;
+    let (_, rest) = need_sign(BSign::CloseParen, rest)?;
+    let (_, rest) = need_sign(BSign::OpenBrace, rest)?;
     let mut names = Names::new(alloc);
     let (vars, rest) = locals(alloc, &mut names, rest)?;
     let (body, rest) = statements(alloc, &names, rest)?;

@@ -1,9 +1,8 @@
 // The tokens that are handed out.
-ghost use Rattle.std.specs.Prelude.{◌≡◌, ◌≤◌, ◌++◌, IfErr, IfOk, List, MatchResult, length, map};
+ghost use Rattle.std.specs.Prelude.{◌≡◌, ◌≤◌, IfErr, IfOk, List, MatchResult, length, map};
 ghost use Rattle.std.specs.List.{list_all};
 ghost use Rattle.vb_base.specs.Limits.{max_boogie_bytes};
 ghost use Rattle.vb_base.specs.Names.{is_name, is_name_byte, is_name_start};
-ghost use Rattle.boogie_tree.specs.Text.{prelude};
 ghost use Rattle.boogie_grammar.specs.declared.faults.BoogieFault.{BoogieFault};
 ghost use Rattle.boogie_text.specs.declared.public_tokens.BToken as handed;
 ghost use Rattle.boogie_text.specs.Answers.{UnlessMemory};
@@ -11,9 +10,9 @@ ghost use Rattle.boogie_text.specs.PublicTokens.{AreTokens, GivesTokenFault, Giv
 ghost use Rattle.boogie_text.specs.ReadSteps.{IsFront};
 
 use crate::sign_bytes::sign_of;
+use crate::texts::placed_tokens;
+use boogie_grammar::BoogieFault;
 use boogie_grammar::signs::sign_text;
-use boogie_grammar::{BoogieFault, after_prelude, cut, first_too_deep};
-use boogie_tree::PRELUDE;
 use std::alloc::Global;
 use vb_base::{Ident, Label, Literal, Memory, Pos};
 
@@ -59,22 +58,7 @@ fn text_tokens(alloc: Global, bytes: &[u8]) -> Result<Vec<BToken>, BoogieFault>
     requires { length bytes.now ≤ max_boogie_bytes }
     ensures { MatchResult result (λ v. AreTokens bytes.now v.items) (UnlessMemory (IsTokenFault bytes.now)) }
 {
-    match after_prelude(bytes) {
-        Ok(rest) => rest_tokens(alloc, bytes, rest),
-        Err(at) => Err(BoogieFault::Prelude(at)),
-    }
-}
-
-/// The tokens of the bytes after the prelude.
-fn rest_tokens(alloc: Global, bytes: &[u8], rest: &[u8]) -> Result<Vec<BToken>, BoogieFault>
-    requires whole { bytes.now ≡ prelude ++ rest.now }
-    requires few { length rest.now ≤ max_boogie_bytes }
-    ensures { MatchResult result (λ v. AreTokens bytes.now v.items) (UnlessMemory (IsTokenFault bytes.now)) }
-{
-    let tokens = cut(alloc, PRELUDE, rest)?;
-    if let Some(at) = first_too_deep(&tokens) {
-        return Err(BoogieFault::Deep(at));
-    }
+    let tokens = placed_tokens(alloc, bytes)?;
     let all = all_shown(alloc, &tokens)?;
     Ok(all)
 }

@@ -8,10 +8,12 @@ ghost use Rattle.boogie_tree.specs.Whole.{program_of};
 ghost use Rattle.boogie_grammar.specs.declared.faults.BoogieFault.{BoogieFault};
 ghost use Rattle.boogie_grammar.specs.Faults.{IsFault};
 ghost use Rattle.boogie_grammar.specs.Spells.{BSpells};
-ghost use Rattle.boogie_text.specs.Answers.{IsRead, UnlessMemory, GivesProgram, GivesFault};
+ghost use Rattle.boogie_print.specs.Read.{IsRead};
+ghost use Rattle.boogie_text.specs.Answers.{UnlessMemory, GivesProgram, GivesFault};
 
 use crate::program::program;
-use boogie_grammar::{BoogieFault, after_prelude, cut, first_too_deep};
+use crate::texts::placed_tokens;
+use boogie_grammar::BoogieFault;
 use boogie_tree::{BProgram, PRELUDE};
 use std::alloc::Global;
 use vb_base::{Pos, advance, place_after};
@@ -38,22 +40,8 @@ fn read_text(alloc: Global, bytes: &[u8]) -> Result<BProgram, BoogieFault>
     requires { length bytes.now ≤ max_boogie_bytes }
     ensures { MatchResult result (λ b. IsRead bytes.now (program_of b)) (UnlessMemory (IsFault bytes.now)) }
 {
-    match after_prelude(bytes) {
-        Ok(rest) => read_rest(alloc, rest),
-        Err(at) => Err(BoogieFault::Prelude(at)),
-    }
-}
-
-/// The program that the prelude and these bytes spell.
-fn read_rest(alloc: Global, rest: &[u8]) -> Result<BProgram, BoogieFault>
-    requires { length rest.now ≤ max_boogie_bytes }
-    ensures { MatchResult result (λ b. IsRead (prelude ++ rest.now) (program_of b)) (UnlessMemory (IsFault (prelude ++ rest.now))) }
-{
-    let tokens = cut(alloc, PRELUDE, rest)?;
-    if let Some(at) = first_too_deep(&tokens) {
-        return Err(BoogieFault::Deep(at));
-    }
-    program(alloc, &tokens, end_after(rest))
+    let tokens = placed_tokens(alloc, bytes)?;
+    program(alloc, &tokens, place_after(bytes))
 }
 
 /// The place past the last byte of the prelude and these bytes.

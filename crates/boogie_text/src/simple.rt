@@ -1,18 +1,16 @@
 // Statements without blocks.
-ghost use Rattle.std.specs.Prelude.{◌≡◌, ◌<◌, [], length, IfOk, IfSome};
+ghost use Rattle.std.specs.Prelude.{◌≡◌, ◌<◌, [], length, IfOk};
 ghost use Rattle.boogie_tree.specs.Whole.{expr_of, stmt_of};
 ghost use Rattle.boogie_grammar.specs.Grammar as g;
 ghost use Rattle.boogie_grammar.specs.Greedy.{Parses};
 ghost use Rattle.boogie_grammar.specs.ReadView.{all_exprs_of};
-ghost use Rattle.boogie_text.specs.StmtView.{no_bound, assuming, asserting, EatsHavoc};
+ghost use Rattle.boogie_text.specs.StmtView.{no_bound, assuming, asserting};
 
 use crate::exprs::{expr, exprs};
-use boogie_grammar::eating::{Read, eat_sign, eat_word, label, sign, word};
-use boogie_grammar::leaves::eat_variable;
+use boogie_grammar::eating::{Read, eat_sign, need_label, need_sign, need_word};
 use boogie_grammar::scopes::{Names, Scope};
 use boogie_grammar::{BSign, PlacedLexeme, Word};
 use boogie_tree::{BExpr, BStmt};
-use grammar::Stop;
 use std::alloc::Global;
 use vb_base::Ident;
 
@@ -70,7 +68,7 @@ pub(crate) fn assumption<'a>(
     ensures reads { Parses stmt_of (assuming locals.now) tokens.now result }
 {
     let (claim, rest) = whole_expr(alloc, locals, tokens)?;
-    let (_, after) = sign(BSign::Semicolon, rest)?;
+    let (_, after) = need_sign(BSign::Semicolon, rest)?;
     Ok((BStmt::Assume(claim), after))
 }
 
@@ -83,13 +81,13 @@ pub(crate) fn assertion<'a>(
     ensures shorter { IfOk result (λ r. length r.1.now < length tokens.now) }
     ensures reads { Parses stmt_of (asserting locals.now) tokens.now result }
 {
-    let (_, rest) = sign(BSign::OpenBrace, tokens)?;
-    let (_, rest) = sign(BSign::Colon, rest)?;
-    let (_, rest) = word(Word::Msg, rest)?;
-    let (text, rest) = label(rest)?;
-    let (_, rest) = sign(BSign::CloseBrace, rest)?;
+    let (_, rest) = need_sign(BSign::OpenBrace, tokens)?;
+    let (_, rest) = need_sign(BSign::Colon, rest)?;
+    let (_, rest) = need_word(Word::Msg, rest)?;
+    let (text, rest) = need_label(rest)?;
+    let (_, rest) = need_sign(BSign::CloseBrace, rest)?;
     let (claim, rest) = whole_expr(alloc, locals, rest)?;
-    let (_, after) = sign(BSign::Semicolon, rest)?;
+    let (_, after) = need_sign(BSign::Semicolon, rest)?;
     Ok((BStmt::Assert(text, claim), after))
 }
 
@@ -105,33 +103,13 @@ pub(crate) fn assignment<'a>(
 {
     if let Some(rest) = eat_sign(BSign::OpenBracket, tokens) {
         let (indices, rest) = whole_exprs(alloc, locals, rest)?;
-        let (_, rest) = sign(BSign::Assign, rest)?;
+        let (_, rest) = need_sign(BSign::Assign, rest)?;
         let (value, rest) = whole_expr(alloc, locals, rest)?;
-        let (_, after) = sign(BSign::Semicolon, rest)?;
+        let (_, after) = need_sign(BSign::Semicolon, rest)?;
         return Ok((BStmt::Put(i, indices, value), after));
     }
-    let (_, rest) = sign(BSign::Assign, tokens)?;
+    let (_, rest) = need_sign(BSign::Assign, tokens)?;
     let (value, rest) = whole_expr(alloc, locals, rest)?;
-    let (_, after) = sign(BSign::Semicolon, rest)?;
+    let (_, after) = need_sign(BSign::Semicolon, rest)?;
     Ok((BStmt::Assign(i, value), after))
-}
-
-/// The variable after `havoc`, if the word is next; then a variable must follow it.
-pub(crate) fn eat_havoc<'a>(
-    locals: &Names,
-    tokens: &'a [PlacedLexeme],
-) -> Result<Option<(usize, &'a [PlacedLexeme])>, Stop<'a, PlacedLexeme>>
-    ensures shorter { IfOk result (λ o. IfSome o (λ r. length r.1.now < length tokens.now)) }
-    ensures eats { EatsHavoc locals.now tokens.now result }
-{
-    let Some(rest) = eat_word(Word::Havoc, tokens) else {
-        return Ok(None);
-    };
-    if let Some(eaten) = eat_variable(locals, rest) {
-        return Ok(Some(eaten));
-    }
-    if locals.some_free() {
-        return Err(Stop::Before(rest));
-    }
-    Err(Stop::Before(tokens))
 }

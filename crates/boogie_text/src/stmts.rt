@@ -5,8 +5,9 @@ ghost use Rattle.boogie_grammar.specs.Grammar as g;
 ghost use Rattle.boogie_grammar.specs.Greedy.{Parses};
 ghost use Rattle.boogie_text.specs.StmtView.{all_stmts_of, block_of, unpicked, picked};
 
-use crate::simple::{assertion, assignment, assumption, eat_havoc, whole_expr};
-use boogie_grammar::eating::{Read, eat_sign, eat_word, sign, word};
+use crate::havoc::eat_havoc;
+use crate::simple::{assertion, assignment, assumption, whole_expr};
+use boogie_grammar::eating::{Read, eat_sign, eat_word, need_sign, need_word};
 use boogie_grammar::leaves::eat_variable;
 use boogie_grammar::scopes::Names;
 use boogie_grammar::{BSign, PlacedLexeme, Word};
@@ -53,7 +54,7 @@ pub(crate) fn statement<'a>(
         return assertion(alloc, locals, rest);
     }
     if let Some((i, rest)) = eat_havoc(locals, tokens)? {
-        let (_, after) = sign(BSign::Semicolon, rest)?;
+        let (_, after) = need_sign(BSign::Semicolon, rest)?;
         return Ok((BStmt::Havoc(i), after));
     }
     if let Some((i, rest)) = eat_variable(locals, tokens) {
@@ -68,8 +69,8 @@ fn conditional<'a>(alloc: Global, locals: &Names, tokens: &'a [PlacedLexeme]) ->
     ensures shorter { IfOk result (λ r. length r.1.now < length tokens.now) }
     ensures reads { Parses stmt_of (g.conditional locals.now) tokens.now result }
 {
-    let (_, rest) = word(Word::If, tokens)?;
-    let (_, rest) = sign(BSign::OpenParen, rest)?;
+    let (_, rest) = need_word(Word::If, tokens)?;
+    let (_, rest) = need_sign(BSign::OpenParen, rest)?;
     if let Some(rest) = eat_sign(BSign::Star, rest) {
         return either(alloc, locals, rest);
     }
@@ -82,7 +83,7 @@ fn either<'a>(alloc: Global, locals: &Names, tokens: &'a [PlacedLexeme]) -> Read
     ensures shorter { IfOk result (λ r. length r.1.now < length tokens.now) }
     ensures reads { Parses stmt_of (unpicked locals.now) tokens.now result }
 {
-    let (_, rest) = sign(BSign::CloseParen, tokens)?;
+    let (_, rest) = need_sign(BSign::CloseParen, tokens)?;
     let (first, rest) = block(alloc, locals, rest)?;
     let (second, rest) = otherwise(alloc, locals, rest)?;
     Ok((BStmt::Either(first, second), rest))
@@ -95,7 +96,7 @@ fn choice<'a>(alloc: Global, locals: &Names, tokens: &'a [PlacedLexeme]) -> Read
     ensures reads { Parses stmt_of (picked locals.now) tokens.now result }
 {
     let (condition, rest) = whole_expr(alloc, locals, tokens)?;
-    let (_, rest) = sign(BSign::CloseParen, rest)?;
+    let (_, rest) = need_sign(BSign::CloseParen, rest)?;
     let (first, rest) = block(alloc, locals, rest)?;
     let (second, rest) = otherwise(alloc, locals, rest)?;
     Ok((BStmt::If(condition, first, second), rest))
@@ -107,7 +108,7 @@ fn block<'a>(alloc: Global, locals: &Names, tokens: &'a [PlacedLexeme]) -> Read<
     ensures shorter { IfOk result (λ r. length r.1.now < length tokens.now) }
     ensures reads { Parses block_of (g.rule (g.Block locals.now)) tokens.now result }
 {
-    let (_, rest) = sign(BSign::OpenBrace, tokens)?;
+    let (_, rest) = need_sign(BSign::OpenBrace, tokens)?;
     let (all, rest) = statements(alloc, locals, rest)?;
     Ok((all, rest))
 }

@@ -5,7 +5,7 @@ ghost use Rattle.boogie_grammar.specs.Grammar as g;
 ghost use Rattle.boogie_grammar.specs.Greedy.{Parses};
 ghost use Rattle.boogie_grammar.specs.ReadView.{bases_of};
 
-use boogie_grammar::eating::{Read, base, eat_sign, key, sign};
+use boogie_grammar::eating::{Read, eat_sign, need_base, need_key, need_sign};
 use boogie_grammar::{BSign, PlacedLexeme};
 use boogie_tree::{BBase, BType};
 use std::alloc::Global;
@@ -17,13 +17,13 @@ pub fn type_of(alloc: Global, tokens: &[PlacedLexeme]) -> Read<'_, BType>
     ensures reads { Parses type_of (g.rule g.TypeOf) tokens.now result }
 {
     let Some(rest) = eat_sign(BSign::OpenBracket, tokens) else {
-        let (base, rest) = base(tokens)?;
+        let (base, rest) = need_base(tokens)?;
         let keys = Vec::new(alloc);
         return Ok((BType { keys, base }, rest));
     };
-    let (first, rest) = key(rest)?;
+    let (first, rest) = need_key(rest)?;
     let (keys, rest) = more_keys(alloc, first, rest)?;
-    let (base, rest) = base(rest)?;
+    let (base, rest) = need_base(rest)?;
     Ok((BType { keys, base }, rest))
 }
 
@@ -35,10 +35,10 @@ fn more_keys(alloc: Global, first: BBase, tokens: &[PlacedLexeme]) -> Read<'_, V
     let mut all = pushed(Vec::new(alloc), first)?;
     let mut rest = tokens;
     while let Some(after) = eat_sign(BSign::Comma, rest) {
-        let (next, after) = key(after)?;
+        let (next, after) = need_key(after)?;
         all = pushed(all, next)?;
         rest = after;
     }
-    let (_, after) = sign(BSign::CloseBracket, rest)?;
+    let (_, after) = need_sign(BSign::CloseBracket, rest)?;
     Ok((all, after))
 }

@@ -1,2 +1,3 @@
 mod BaseLaws
 pub mod WholeLaws
+pub mod LiteralLaws

@@ -1,7 +1,53 @@
--- What types do not say of a tree that has a text: each literal is from 0 to the greatest, and each `forall` binds a variable.
-use Rattle.std.specs.Prelude.{◌≡◌, ◌≢◌, ◌≤◌, ◌^◌, ◌-◌, pos, ℕ, ℤ, ⊤, []}
+-- What types do not say of the literals of a tree and of the variables that each `forall` binds. In a tree that has a text each
+-- literal is from 0 to the greatest, and each `forall` binds a variable.
+use Rattle.std.specs.Prelude.{◌≡◌, ◌≢◌, ◌≤◌, ◌^◌, ◌-◌, pos, ℕ, ℤ, ⊤, List, []}
 use Rattle.boogie_tree.specs.Expr as t
 use Rattle.boogie_tree.specs.Stmt as s
+use Rattle.boogie_tree.specs.declared.exprs.BBase.{BBase}
+
+-- ---- each literal has one property, and the variables that each `forall` binds have another
+
+abbrev mutual
+  pub ExprHas : (ℤ → Type 0) → (List BBase → Type 0) → t.BExpr → Type 0
+  ExprHas N B (t.Var i) = ⊤
+  ExprHas N B (t.Int n) = N n
+  ExprHas N B (t.Real n) = N n
+  ExprHas N B (t.Bool p) = ⊤
+  ExprHas N B t.Null = ⊤
+  ExprHas N B t.Unit = ⊤
+  ExprHas N B (t.Neg a) = ExprHas N B a
+  ExprHas N B (t.Not a) = ExprHas N B a
+  ExprHas N B (t.Bin o a b) = ExprHas N B a × ExprHas N B b
+  ExprHas N B (t.If a b c) = ExprHas N B a × ExprHas N B b × ExprHas N B c
+  ExprHas N B (t.Forall us a) = B us × ExprHas N B a
+  ExprHas N B (t.ToReal a) = ExprHas N B a
+  ExprHas N B (t.SInt a) = ExprHas N B a
+  ExprHas N B (t.SBool a) = ExprHas N B a
+  ExprHas N B (t.SRef a) = ExprHas N B a
+  ExprHas N B (t.SPerm a) = ExprHas N B a
+  ExprHas N B (t.Pair a b) = ExprHas N B a × ExprHas N B b
+  ExprHas N B (t.At i es) = IndexHas N B es
+  ExprHas N B (t.AtBound i) = ⊤
+
+  pub IndexHas : (ℤ → Type 0) → (List BBase → Type 0) → t.BExprs → Type 0
+  IndexHas N B t.none = ⊤
+  IndexHas N B (t.more a es) = ExprHas N B a × IndexHas N B es
+
+abbrev mutual
+  pub StmtHas : (ℤ → Type 0) → (List BBase → Type 0) → s.BStmt → Type 0
+  StmtHas N B (s.Assign i a) = ExprHas N B a
+  StmtHas N B (s.Put i es a) = IndexHas N B es × ExprHas N B a
+  StmtHas N B (s.Havoc i) = ⊤
+  StmtHas N B (s.Assume a) = ExprHas N B a
+  StmtHas N B (s.Assert l a) = ExprHas N B a
+  StmtHas N B (s.If a xs ys) = ExprHas N B a × BlockHas N B xs × BlockHas N B ys
+  StmtHas N B (s.Either xs ys) = BlockHas N B xs × BlockHas N B ys
+
+  pub BlockHas : (ℤ → Type 0) → (List BBase → Type 0) → s.BStmts → Type 0
+  BlockHas N B s.skip = ⊤
+  BlockHas N B (s.first x xs) = StmtHas N B x × BlockHas N B xs
+
+-- ---- in a tree that has a text
 
 -- the greatest literal
 abbrev pub max_literal : ℕ
@@ -13,42 +59,17 @@ pub record IsLiteral (n : ℤ) : Type 0 where
   pub is : n ≡ pos natural
   pub within : natural ≤ max_literal
 
-abbrev mutual
-  pub LiteralsFit : t.BExpr → Type 0
-  LiteralsFit (t.Var i) = ⊤
-  LiteralsFit (t.Int n) = IsLiteral n
-  LiteralsFit (t.Real n) = IsLiteral n
-  LiteralsFit (t.Bool p) = ⊤
-  LiteralsFit t.Null = ⊤
-  LiteralsFit t.Unit = ⊤
-  LiteralsFit (t.Neg a) = LiteralsFit a
-  LiteralsFit (t.Not a) = LiteralsFit a
-  LiteralsFit (t.Bin o a b) = LiteralsFit a × LiteralsFit b
-  LiteralsFit (t.If a b c) = LiteralsFit a × LiteralsFit b × LiteralsFit c
-  LiteralsFit (t.Forall us a) = (us ≢ []) × LiteralsFit a
-  LiteralsFit (t.ToReal a) = LiteralsFit a
-  LiteralsFit (t.SInt a) = LiteralsFit a
-  LiteralsFit (t.SBool a) = LiteralsFit a
-  LiteralsFit (t.SRef a) = LiteralsFit a
-  LiteralsFit (t.SPerm a) = LiteralsFit a
-  LiteralsFit (t.Pair a b) = LiteralsFit a × LiteralsFit b
-  LiteralsFit (t.At i es) = IndexLiteralsFit es
-  LiteralsFit (t.AtBound i) = ⊤
+abbrev pub AreBound : List BBase → Type 0
+AreBound us = us ≢ []
 
-  pub IndexLiteralsFit : t.BExprs → Type 0
-  IndexLiteralsFit t.none = ⊤
-  IndexLiteralsFit (t.more a es) = LiteralsFit a × IndexLiteralsFit es
+abbrev pub LiteralsFit : t.BExpr → Type 0
+LiteralsFit = ExprHas IsLiteral AreBound
 
-abbrev mutual
-  pub StmtLiteralsFit : s.BStmt → Type 0
-  StmtLiteralsFit (s.Assign i a) = LiteralsFit a
-  StmtLiteralsFit (s.Put i es a) = IndexLiteralsFit es × LiteralsFit a
-  StmtLiteralsFit (s.Havoc i) = ⊤
-  StmtLiteralsFit (s.Assume a) = LiteralsFit a
-  StmtLiteralsFit (s.Assert l a) = LiteralsFit a
-  StmtLiteralsFit (s.If a xs ys) = LiteralsFit a × BlockLiteralsFit xs × BlockLiteralsFit ys
-  StmtLiteralsFit (s.Either xs ys) = BlockLiteralsFit xs × BlockLiteralsFit ys
+abbrev pub IndexLiteralsFit : t.BExprs → Type 0
+IndexLiteralsFit = IndexHas IsLiteral AreBound
 
-  pub BlockLiteralsFit : s.BStmts → Type 0
-  BlockLiteralsFit s.skip = ⊤
-  BlockLiteralsFit (s.first x xs) = StmtLiteralsFit x × BlockLiteralsFit xs
+abbrev pub StmtLiteralsFit : s.BStmt → Type 0
+StmtLiteralsFit = StmtHas IsLiteral AreBound
+
+abbrev pub BlockLiteralsFit : s.BStmts → Type 0
+BlockLiteralsFit = BlockHas IsLiteral AreBound

@@ -1,20 +1,17 @@
 -- The places of procedures by their names, and the first procedure of a name in two ways.
-use Rattle.std.proofs.Common.{◌≡◌, ◌∙◌, ◌≤◌, ◌<◌, ◌+◌, ◌-◌, ◌==◌, ℕ, zero, suc, Bool as Truth, true, false, cond, Option, Some, None, List, [], ◌∷◌, map, drop, get_or, slice_get, length, nat_lt, Bor, refl, sym, ap, arith}
-use Rattle.std.proofs.Math.Numerals.{add-one}
-use Rattle.std.proofs.Math.Seq.{drop-cons}
+use Rattle.std.proofs.Common.{◌≡◌, ◌∙◌, ◌≤◌, ◌<◌, ◌+◌, ◌-◌, ◌==◌, ℕ, suc, Bool as Truth, true, false, cond, Option, Some, None, List, [], ◌∷◌, map, drop, get_or, slice_get, length, nat_lt, Bor, refl, sym, ap, arith}
 use Rattle.std.proofs.lemmas.Bool.Decides.{nat_tests}
 use Rattle.std.specs.Cmp.Lexicographic.{pointwise}
 use Rattle.std.specs.List.{find}
 use Rattle.std.specs.Map.{lookup}
 use Rattle.std.specs.Option.{option_map, is_some, IfSome}
 use Rattle.std.specs.Str.{bytes_eq}
+use Rattle.std.proofs.lemmas.Option.{slice_get_past}
+use Rattle.lemmas.proofs.Lists.{next_item, item_at}
 use Rattle.boogie_wide.specs.Places.{place_from, AreAtPlaces}
 use Rattle.boogie_wide.specs.Procedures.{proc_named}
 use Rattle.boogie_wide.specs.View.{wproc_of}
 use Rattle.boogie_wide.specs.declared.wide.WProc.{WProc}
-
-next_item : {X : Type 0} (xs : List X) (i : ℕ) (x : X) → i < length xs → x ≡ get_or xs i x → drop i xs ≡ x ∷ drop (i + 1) xs
-next_item xs i x lt is = rw add-one (drop-cons xs i x lt ∙ ap (λ y. y ∷ drop (suc i) xs) (sym is))
 
 -- ---- places
 
@@ -78,20 +75,10 @@ none_from (d ∷ ds) i name h = none_step ds i d name (bytes_eq d.name name) ref
 pub none_there : (ds : List WProc) (name : List ℕ) → place_from 0 ds name ≡ None → proc_named (map wproc_of ds) name ≡ None
 none_there ds name h = none_from ds 0 name h
 
-past_there : {X : Type 0} (xs : List X) (i : ℕ) → length xs ≤ i → slice_get xs i ≡ None
-past_there [] i h = refl
-past_there (y ∷ xs) zero h = absurd (omega (arith, h))
-past_there (y ∷ xs) (suc i) h = past_there xs i (omega (arith, h))
-
-read_there : {X : Type 0} (xs : List X) (i : ℕ) (x : X) → i < length xs → x ≡ get_or xs i x → slice_get xs i ≡ Some x
-read_there [] i x lt is = absurd (omega (arith, lt))
-read_there (y ∷ xs) zero x lt is = ap Some (sym is)
-read_there (y ∷ xs) (suc i) x lt is = read_there xs i x (omega (arith, lt)) is
-
 pub got : (ds : List WProc) (i : ℕ) (o : Option (Bor WProc)) → is_some o ≡ nat_lt i (length ds) → IfSome o (λ x. x.now ≡ get_or ds i x.now) →
     option_map (λ (d : Bor WProc). wproc_of d.now) o ≡ option_map wproc_of (slice_get ds i)
-got ds i None h is = let past : length ds ≤ i = grind (arith, nat_tests, h) in ap (option_map wproc_of) (sym (past_there ds i past))
-got ds i (Some d) h is = let within : i < length ds = grind (arith, nat_tests, h) in ap (option_map wproc_of) (sym (read_there ds i d.now within is))
+got ds i None h is = let past : length ds ≤ i = grind (arith, nat_tests, h) in ap (option_map wproc_of) (sym (slice_get_past ds i past))
+got ds i (Some d) h is = let within : i < length ds = grind (arith, nat_tests, h) in ap (option_map wproc_of) (sym (item_at ds i d.now within is))
 
 -- the procedure of a name, in two ways
 named_is : (ds : List WProc) (name : List ℕ) → proc_named (map wproc_of ds) name ≡ option_map wproc_of (find (λ d. bytes_eq (wproc_of d).name name) ds)

@@ -6,43 +6,28 @@ use Rattle.std.specs.Option.{option_map}
 use Rattle.std.proofs.lemmas.Bool.{leb-true, le-leb}
 use Rattle.std.proofs.lemmas.Bool.Decides.{Decides-eqb}
 use Rattle.std.proofs.lemmas.List.Kept.{AllPairs-cons}
+use Rattle.boogie_meaning.proofs.ProgramLaws.{Decides-have_keys}
+use Rattle.lemmas.proofs.Options.{some_same}
+use Rattle.lemmas.proofs.Tests.{and_parts}
 use Rattle.sparse.proofs.MapLaws.{Decides-list_all}
 use Rattle.boogie_tree.specs.Expr as t
 use Rattle.boogie_tree.specs.Stmt as s
 use Rattle.boogie_tree.specs.Program.{BType}
-use Rattle.boogie_tree.specs.Values.{same_base, same_bases, same_type, plain_type, AreKeys, are_keys}
+use Rattle.boogie_tree.specs.Values.{same_type, plain_type}
 use Rattle.boogie_tree.specs.declared.exprs.BBase.{BBase}
 use Rattle.boogie_tree.specs.declared.exprs.BBase.TheVariants as base
-use Rattle.boogie_meaning.specs.Programs.{HaveKeys, have_keys}
-use Rattle.boogie_meaning.specs.Types.{HasType, then_some, base_of, is_base, is_type, is_typed_stmt}
-use Rattle.boogie_meaning.specs.Decided.{Decides-same_base}
-use Rattle.boogie_meaning.proofs.TypeLaws.{and_both, and_true, some_same, bases_same, same_base_itself, same_bases_itself, Decides-are_keys, base_of_sound, base_of_complete, stmt_sound, stmt_complete}
+use Rattle.boogie_meaning.specs.Programs.{have_keys}
+use Rattle.boogie_meaning.specs.Types.{HasType, then_some, base_of, is_type, is_typed_stmt}
+use Rattle.boogie_meaning.proofs.TypeLaws.{and_true, base_of_sound, base_of_complete, type_same, same_type_itself, from_base, stmt_sound, stmt_complete}
 use Rattle.boogie_wide.specs.Wide as w
 use Rattle.boogie_wide.specs.Wide.{Clause, WProc, WProgram}
 use Rattle.boogie_wide.specs.Procedures.{wide_types, param_types, return_types, head_types, proc_named}
 use Rattle.boogie_wide.specs.WideTypes as ty
 use Rattle.boogie_wide.specs.WideTypes.{AreBools, IsGuard, HaveBases, IsCall, IsWideStmt, IsWide, IsWideBody, IsWideProc, IsWideProgram, IsFirstIllTypedWide, is_bool, are_bools, is_guard, is_argument, are_arguments, are_targets, all_differ, is_call_of, is_wide_stmt, is_wide, is_wide_body, is_plain, is_wide_head, is_wide_proc, ill_typed_wide}
 
-from_base : (o : Option BBase) (u : BBase) → is_base o u ≡ true → o ≡ Some u
-from_base (Some w) u h = ap Some ((Decides-same_base w u).0 h)
-from_base None u h = absurd (cc)
-
-type_same : (u w : BType) → same_type u w ≡ true → u ≡ w
-type_same u w h =
-    let p = and_both (same_bases u.keys w.keys) (same_base u.base w.base) h in
-    let k = bases_same u.keys w.keys p.0 in
-    let b = (Decides-same_base u.base w.base).0 p.1 in
-    λ i. record { keys = k i; base = b i }
-
-same_type_itself : (u : BType) → same_type u u ≡ true
-same_type_itself u = and_true (same_bases_itself u.keys) (same_base_itself u.base)
-
 from_type : (o : Option BType) (u : BType) → is_type o (Some u) ≡ true → o ≡ Some u
 from_type (Some w) u h = ap Some (type_same w u h)
 from_type None u h = absurd (cc)
-
-Decides-have_keys : (ls : List BType) → Decides (have_keys ls) (HaveKeys ls)
-Decides-have_keys ls = Decides-list_all (λ u. are_keys u.keys) (λ u. AreKeys u.keys) (λ u. Decides-are_keys u.keys) ls
 
 Decides-is_bool : (ls : List BType) (e : t.BExpr) → Decides (is_bool ls e) (HasType ls None e base.Bool)
 Decides-is_bool ls e = (λ h. base_of_sound ls None e base.Bool (from_base _ base.Bool h), λ h. rw (base_of_complete h) refl)
@@ -76,7 +61,7 @@ from_arguments ls t.none [] h = record { bases = []; plain = refl; typed = ty.no
 from_arguments ls t.none (u ∷ us) h = absurd (cc)
 from_arguments ls (t.more a es) [] h = absurd (cc)
 from_arguments ls (t.more a es) (u ∷ us) h =
-    let p = and_both (is_argument ls a u) (are_arguments ls es us) h in
+    let p = and_parts (is_argument ls a u) (are_arguments ls es us) h in
     let x = from_argument ls a u p.0 in
     let rest = from_arguments ls es us p.1 in
     record { bases = x.0 ∷ rest.bases; plain = λ i. x.1 i ∷ rest.plain i; typed = ty.more x.2 rest.typed }
@@ -90,7 +75,7 @@ from_targets ls [] [] h = tt
 from_targets ls [] (u ∷ us) h = absurd (cc)
 from_targets ls (i ∷ is) [] h = absurd (cc)
 from_targets ls (i ∷ is) (u ∷ us) h =
-    let p = and_both (is_type (slice_get ls i) (Some u)) (are_targets ls is us) h in
+    let p = and_parts (is_type (slice_get ls i) (Some u)) (are_targets ls is us) h in
     (from_type (slice_get ls i) u p.0, from_targets ls is us p.1)
 
 targets_given : (ls : List BType) (is : List ℕ) (us : List BType) → AllZip (λ i u. slice_get ls i ≡ Some u) is us → are_targets ls is us ≡ true
@@ -118,7 +103,7 @@ Decides-other i is = Decides-list_all (λ j. not (i == j)) (λ j. i ≢ j) (not_
 from_differ : (is : List ℕ) → all_differ is ≡ true → AllPairs (λ i j. i ≢ j) is
 from_differ [] h = λ i j d below within. absurd (omega (arith, within))
 from_differ (i ∷ is) h =
-    let p = and_both (list_all (λ j. not (i == j)) is) (all_differ is) h in
+    let p = and_parts (list_all (λ j. not (i == j)) is) (all_differ is) h in
     AllPairs-cons (λ i j. i ≢ j) i is ((Decides-other i is).0 p.0) (from_differ is p.1)
 
 differ_given : (is : List ℕ) → AllPairs (λ i j. i ≢ j) is → all_differ is ≡ true
@@ -131,9 +116,9 @@ call_sound : (ps : List WProc) (ls : List BType) (params : ℕ) (is name : List 
     is_call_of ls params is es o ≡ true → IsCall ps ls params is name es
 call_sound ps ls params is name es None e h = absurd (cc)
 call_sound ps ls params is name es (Some d) e h =
-    let p = and_both (are_arguments ls es (param_types d)) _ h in
-    let q = and_both (are_targets ls is (return_types d)) _ p.1 in
-    let r = and_both (list_all (nat_le params) is) (all_differ is) q.1 in
+    let p = and_parts (are_arguments ls es (param_types d)) _ h in
+    let q = and_parts (are_targets ls is (return_types d)) _ p.1 in
+    let r = and_parts (list_all (nat_le params) is) (all_differ is) q.1 in
     let a = from_arguments ls es (param_types d) p.0 in
     record {
       callee = d;
@@ -164,28 +149,28 @@ module _ (ps : List WProc) (ls : List BType) (params : ℕ) where
 
   mutual
     stmt_is_sound : (x : w.WStmt) → is_wide_stmt ps ls params x ≡ true → IsWideStmt ps ls params x
-    stmt_is_sound (w.Assign i e) h = let p = and_both (nat_le params i) (is_typed_stmt ls (s.Assign i e)) h in ty.assign (own_sound i p.0) (stmt_sound ls (s.Assign i e) p.1)
-    stmt_is_sound (w.Put i es e) h = let p = and_both (nat_le params i) (is_typed_stmt ls (s.Put i es e)) h in ty.put (own_sound i p.0) (stmt_sound ls (s.Put i es e) p.1)
-    stmt_is_sound (w.Havoc i) h = let p = and_both (nat_le params i) (is_typed_stmt ls (s.Havoc i)) h in ty.havoc (own_sound i p.0) (stmt_sound ls (s.Havoc i) p.1)
+    stmt_is_sound (w.Assign i e) h = let p = and_parts (nat_le params i) (is_typed_stmt ls (s.Assign i e)) h in ty.assign (own_sound i p.0) (stmt_sound ls (s.Assign i e) p.1)
+    stmt_is_sound (w.Put i es e) h = let p = and_parts (nat_le params i) (is_typed_stmt ls (s.Put i es e)) h in ty.put (own_sound i p.0) (stmt_sound ls (s.Put i es e) p.1)
+    stmt_is_sound (w.Havoc i) h = let p = and_parts (nat_le params i) (is_typed_stmt ls (s.Havoc i)) h in ty.havoc (own_sound i p.0) (stmt_sound ls (s.Havoc i) p.1)
     stmt_is_sound (w.Assume e) h = ty.assume_ ((Decides-is_bool ls e).0 h)
     stmt_is_sound (w.Assert l e) h = ty.assert_ ((Decides-is_bool ls e).0 h)
     stmt_is_sound (w.If e xs ys) h =
-        let p = and_both (is_bool ls e) (is_wide ps ls params xs && is_wide ps ls params ys) h in
-        let q = and_both (is_wide ps ls params xs) (is_wide ps ls params ys) p.1 in
+        let p = and_parts (is_bool ls e) (is_wide ps ls params xs && is_wide ps ls params ys) h in
+        let q = and_parts (is_wide ps ls params xs) (is_wide ps ls params ys) p.1 in
         ty.if_ ((Decides-is_bool ls e).0 p.0) (block_is_sound xs q.0) (block_is_sound ys q.1)
     stmt_is_sound (w.Either xs ys) h =
-        let q = and_both (is_wide ps ls params xs) (is_wide ps ls params ys) h in
+        let q = and_parts (is_wide ps ls params xs) (is_wide ps ls params ys) h in
         ty.either (block_is_sound xs q.0) (block_is_sound ys q.1)
     stmt_is_sound (w.While g invariants xs) h =
-        let p = and_both (is_guard ls g) (are_bools ls invariants && is_wide ps ls params xs) h in
-        let q = and_both (are_bools ls invariants) (is_wide ps ls params xs) p.1 in
+        let p = and_parts (is_guard ls g) (are_bools ls invariants && is_wide ps ls params xs) h in
+        let q = and_parts (are_bools ls invariants) (is_wide ps ls params xs) p.1 in
         ty.while_ ((Decides-is_guard ls g).0 p.0) ((Decides-are_bools ls invariants).0 q.0) (block_is_sound xs q.1)
     stmt_is_sound (w.Call is name es) h = ty.call_ (call_sound ps ls params is name es (proc_named ps name) refl h)
 
     block_is_sound : (xs : w.WStmts) → is_wide ps ls params xs ≡ true → IsWide ps ls params xs
     block_is_sound w.skip h = ty.skip
     block_is_sound (w.first x xs) h =
-        let q = and_both (is_wide_stmt ps ls params x) (is_wide ps ls params xs) h in
+        let q = and_parts (is_wide_stmt ps ls params x) (is_wide ps ls params xs) h in
         ty.first (stmt_is_sound x q.0) (block_is_sound xs q.1)
 
   mutual
@@ -227,11 +212,11 @@ Decides-is_wide_proc ps d =
     let after = Decides-are_bools (head_types d) d.postconditions in
     let body = Decides-is_body ps (wide_types d) d.params d.body in (
       λ h.
-          let p = and_both (have_keys (wide_types d)) _ h in
-          let q = and_both (is_wide_head d) _ p.1 in
-          let r = and_both (nat_le (d.params + d.returns) (length d.locals)) _ q.0 in
-          let x = and_both (list_all is_plain (head_types d)) _ r.1 in
-          let y = and_both (are_bools (param_types d) d.preconditions) (are_bools (head_types d) d.postconditions) x.1 in
+          let p = and_parts (have_keys (wide_types d)) _ h in
+          let q = and_parts (is_wide_head d) _ p.1 in
+          let r = and_parts (nat_le (d.params + d.returns) (length d.locals)) _ q.0 in
+          let x = and_parts (list_all is_plain (head_types d)) _ r.1 in
+          let y = and_parts (are_bools (param_types d) d.preconditions) (are_bools (head_types d) d.postconditions) x.1 in
           record {
             keys = keys.0 p.0;
             there = there.0 r.0;

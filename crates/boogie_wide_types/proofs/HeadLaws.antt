@@ -3,22 +3,17 @@ use Rattle.std.proofs.Common.{◌≡◌, ◌∙◌, refl, sym, ap, ℕ, zero, su
 use Rattle.std.specs.Option.{option_map}
 use Rattle.std.specs.declared.alloc.Global.{Global}
 use Rattle.std.proofs.Math.Seq.{take-add}
+use Rattle.lemmas.proofs.Lists.{map_taken as taken}
 use Rattle.boogie_tree.specs.Whole.{type_of}
 use Rattle.boogie_tree.specs.declared.programs.Local.{Local}
-use Rattle.boogie_run.specs.Typed.{types_in}
-use Rattle.boogie_run.proofs.StartLaws.{types_are}
+use Rattle.boogie_types.specs.Typed.{types_in}
+use Rattle.boogie_types.proofs.TypingLaws.{types_are}
 use Rattle.boogie_wide.specs.Procedures.{wide_types, param_types, return_types, head_types}
 use Rattle.boogie_wide.specs.Wide as w
 use Rattle.boogie_wide.specs.View.{wproc_of, wstmts_of}
 use Rattle.boogie_wide.specs.WideTypes.{is_wide, is_wide_body}
 use Rattle.boogie_wide.specs.declared.wide.WStmt as stmt
 use Rattle.boogie_wide.specs.declared.wide.WProc.{WProc}
-
-taken : {X Y : Type 0} (f : X → Y) (n : ℕ) (xs : List X) → map f (take n xs) ≡ take n (map f xs)
-taken f zero [] = refl
-taken f zero (x ∷ xs) = refl
-taken f (suc n) [] = refl
-taken f (suc n) (x ∷ xs) = ap (λ ys. f x ∷ ys) (taken f n xs)
 
 dropped : {X Y : Type 0} (f : X → Y) (n : ℕ) (xs : List X) → map f (drop n xs) ≡ drop n (map f xs)
 dropped f zero [] = refl

@@ -1,5 +1,5 @@
 -- What a node of the program is as plain data, given what its parts were borrowed as.
-use Rattle.std.proofs.Common.{◌≡◌, sym, ap, ◌∙◌, Bool as Truth, true, false, ◌&&◌, List, Option, map, Vec}
+use Rattle.std.proofs.Common.{◌≡◌, sym, ap, ◌∙◌, List, Option, map, Vec}
 use Rattle.std.specs.Option.{option_map}
 use Rattle.std.specs.declared.alloc.Global.{Global}
 use Rattle.boogie_tree.specs.Whole.{expr_of}
@@ -9,13 +9,6 @@ use Rattle.boogie_wide.specs.View.{clause_of, wstmt_of, wstmts_of}
 use Rattle.boogie_wide.specs.declared.wide.Clause.{Clause}
 use Rattle.boogie_wide.specs.declared.wide.WStmt as stmt
 use Rattle.boogie_wide.proofs.ViewLaws.{wstmt_of-If, wstmt_of-Either, wstmt_of-While}
-
--- a test of which the last part is left, or a part before it is false
-pub last_of_two : {p q r : Truth} → p ≡ true → r ≡ q → r ≡ (p && q)
-last_of_two h g = rw h g
-
-pub first_of_two : {p r : Truth} (q : Truth) → r ≡ p → r ≡ false → r ≡ (p && q)
-first_of_two q h g = g ∙ sym (ap (λ x. x && q) (sym h ∙ g))
 
 module _ {x : stmt.WStmt} where
   pub if_is : {e : BExpr} (v u : Vec stmt.WStmt Global) {xs ys : List stmt.WStmt} → x ≡ stmt.If e v u → xs ≡ v.items → ys ≡ u.items → wstmt_of x ≡ w.If (expr_of e) (wstmts_of xs) (wstmts_of ys)

@@ -1,15 +1,12 @@
 -- The number of the first ill-typed procedure, one procedure after the other.
-use Rattle.std.proofs.Common.{◌≡◌, ◌∙◌, ◌↔◌, ℕ, suc, ◌+◌, true, false, Option, Some, None, IfSome, IsNone, is_some, List, ◌∷◌, map, refl, sym, ap, arith}
+use Rattle.std.proofs.Common.{◌≡◌, ◌∙◌, ◌↔◌, ℕ, ◌+◌, true, false, Option, Some, None, IfSome, IsNone, is_some, List, ◌∷◌, map, refl, sym, ap}
 use Rattle.std.specs.Option.{option_map}
+use Rattle.lemmas.proofs.Options.{number_after}
 use Rattle.boogie_wide.specs.Wide as w
 use Rattle.boogie_wide.specs.View.{wproc_of}
 use Rattle.boogie_wide.specs.WideTypes.{IsWideProgram, IsFirstIllTypedWide, is_wide_proc, ill_typed_wide}
 use Rattle.boogie_wide.specs.declared.wide.WProc.{WProc}
 use Rattle.boogie_wide.proofs.WideTypeLaws.{none_ill_typed, none_ill_typed_back, is_first_wide}
-
-number_after : (n : ℕ) (o : Option ℕ) → option_map (λ m. n + m) (option_map suc o) ≡ option_map (λ m. (n + 1) + m) o
-number_after n None = refl
-number_after n (Some m) = ap Some (omega arith)
 
 module _ (ps : List w.WProc) where
   pub at_ill_typed : (n : ℕ) (d : WProc) (ds : List WProc) → is_wide_proc ps (wproc_of d) ≡ false → option_map (λ m. n + m) (ill_typed_wide ps (map wproc_of (d ∷ ds))) ≡ Some (n + 1)

@@ -1,15 +1,15 @@
 // The types of statements.
 ghost use Rattle.std.specs.Prelude.{◌≡◌, map, nat_le, ◌&&◌};
 ghost use Rattle.boogie_tree.specs.Whole.{expr_of};
-ghost use Rattle.boogie_run.specs.Typed.{types_in};
+ghost use Rattle.boogie_types.specs.Typed.{types_in};
 ghost use Rattle.boogie_wide.specs.View.{wproc_of, wstmt_of, wstmts_of};
 ghost use Rattle.boogie_wide.specs.WideTypes as ty;
 
 use crate::calls::is_call;
 use crate::heads::{are_bools, is_guard};
 use crate::marks::Marks;
-use boogie_run::{is_assign, is_bool, is_put};
 use boogie_tree::Local;
+use boogie_types::{is_assign, is_bool, is_put};
 use boogie_wide::{Procs, WStmt};
 
 /// Whether a statement is well-typed, by the procedures of the program and the variables, the first of which are so many

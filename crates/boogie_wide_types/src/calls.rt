@@ -3,15 +3,15 @@ ghost use Rattle.std.specs.Prelude.{◌≡◌, nat_le, map, slice_get, Some};
 ghost use Rattle.std.specs.List.{list_all};
 ghost use Rattle.boogie_tree.specs.Whole.{expr_of, exprs_of, type_of};
 ghost use Rattle.boogie_meaning.specs.Types.{is_type};
-ghost use Rattle.boogie_run.specs.Typed.{types_in};
+ghost use Rattle.boogie_types.specs.Typed.{types_in};
 ghost use Rattle.boogie_wide.specs.Procedures.{proc_named};
 ghost use Rattle.boogie_wide.specs.View.{wproc_of};
 ghost use Rattle.boogie_wide.specs.WideTypes as ty;
 
 use crate::heads::{params, returns};
 use crate::marks::Marks;
-use boogie_run::{base_of_expr, same_type};
 use boogie_tree::{BExpr, BType, Local, same_base, same_bases};
+use boogie_types::{base_of_expr, same_type};
 use boogie_wide::{Procs, WProc};
 use vb_base::Ident;
 

@@ -3,13 +3,13 @@ ghost use Rattle.std.specs.Prelude.{◌≡◌, ◌≤◌, ◌+◌, ◌&&◌, map
 ghost use Rattle.std.specs.List.{list_all};
 ghost use Rattle.std.specs.Option.{option_map};
 ghost use Rattle.boogie_tree.specs.Whole.{expr_of, type_of};
-ghost use Rattle.boogie_run.specs.Typed.{types_in};
+ghost use Rattle.boogie_types.specs.Typed.{types_in};
 ghost use Rattle.boogie_wide.specs.Procedures.{param_types, return_types, head_types};
 ghost use Rattle.boogie_wide.specs.View.{clause_of, wproc_of};
 ghost use Rattle.boogie_wide.specs.WideTypes as ty;
 
-use boogie_run::is_bool;
 use boogie_tree::{BExpr, BType, Local, same_base, same_bases};
+use boogie_types::is_bool;
 use boogie_wide::{Clause, WProc};
 
 /// So many of the locals, or all where there are fewer.

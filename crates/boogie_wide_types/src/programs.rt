@@ -8,7 +8,7 @@ ghost use Rattle.boogie_wide.specs.WideTypes.{IsWideProgram, IsFirstIllTypedWide
 use crate::blocks::is_typed;
 use crate::heads::is_head;
 use crate::marks::Marks;
-use boogie_run::have_keys;
+use boogie_types::have_keys;
 use boogie_wide::{Procs, WProc, WProgram};
 use std::alloc::Global;
 use vb_base::Memory;

@@ -2,6 +2,8 @@
 -- comes here, and of the assertions with a label one fails where the run has failed there.
 use Rattle.std.proofs.Common.{◌≡◌, ◌+◌, ℕ, Bool as Truth, true, false, not, ◌&&◌, ◌||◌, Option, Some, None, List, [], ◌∷◌, ◌++◌, slice_get, slice_set, length, if◌then◌else◌, nat_eq, refl, sym, ap, subst, ◌∙◌, arith}
 use Rattle.std.proofs.lemmas.Bool.{eqb-true}
+use Rattle.lemmas.proofs.Tests.{or_false}
+use Rattle.lemmas.proofs.Options.{some_same}
 use Rattle.sparse.specs.Map.{Map, set}
 use Rattle.vb_value.specs.Key.{key_cmp}
 use Rattle.vb_base.specs.declared.labels.Label.{Label}
@@ -20,7 +22,7 @@ use Rattle.boogie_meaning.specs.Quantified.{bvalue, one_of, side}
 use Rattle.boogie_meaning.specs.Value.{map_in}
 use Rattle.boogie_meaning.proofs.ValueLaws.{set_typed}
 use Rattle.boogie_meaning.specs.Types.{then_some, is_base, HasType, HaveTypes, SideHasType, IsTyped, skip, first, IsTypedStmt, assign, put as put_, havoc, assume_, assert_, if_, either}
-use Rattle.boogie_meaning.proofs.TypeLaws.{some_same, put_given}
+use Rattle.boogie_meaning.proofs.TypeLaws.{put_given}
 use Rattle.boogie_formula.specs.Formula as f
 use Rattle.boogie_formula.specs.Formula.{FExpr}
 use Rattle.boogie_formula.specs.Value.{fvalue, fkey, whole}
@@ -32,7 +34,7 @@ use Rattle.boogie_wp.specs.Lifted.{lifted, lifted_all}
 use Rattle.boogie_wp.specs.Build.{Builder, named, fresh, define, store, choose, go_where, failing, check, Merged, behind, merge, join, back, fork, built_stmt, built}
 use Rattle.boogie_wp.proofs.LiftLaws.{truth_there, side_there, one_type_itself, lifted_value, lifted_key, lifted_type, lifted_types, lifted_whole, lifted_whole_type, key_there, value_there, map_there}
 use Rattle.boogie_wp.proofs.Total.{Point, stored, put, held, checked, joined, forked, total_stmt, total}
-use Rattle.boogie_wp.proofs.TotalLaws.{or_false, Owns, owns_left, owns_right, owns_first, owns_rest, owns_there, slots_own, slots_own_stmt, bool_there, map_put}
+use Rattle.boogie_wp.proofs.TotalLaws.{Owns, owns_left, owns_right, owns_first, owns_rest, owns_there, slots_own, slots_own_stmt, bool_there, map_put}
 use Rattle.boogie_wp.proofs.NameLaws.{Kept, kept_more, At, at_kept, Holds, no_names, named_so, holds_typed, holds_value, holds_kind, holds_set, holds_kept, Names, names_more, at_new, Says, Truly, Truths, truths_kept, truths_more, fails_among, fails_more, says_var, says_and, says_or, says_not, says_value, says_kind}
 
 abbrev pub bool_type : BType

@@ -7,6 +7,7 @@ use Rattle.std.proofs.lemmas.List.Elements.{Contains-append_left, Contains-appen
 use Rattle.std.specs.Bool.{⊤}
 use Rattle.std.specs.List.{Contains}
 use Rattle.std.specs.List.Sorted.{IsStrictlyIncreasing}
+use Rattle.lemmas.proofs.Lists.{set_length}
 use Rattle.boogie_tree.specs.declared.exprs.BOp.TheVariants as op
 use Rattle.boogie_formula.specs.Formula as f
 use Rattle.boogie_formula.specs.Formula.{FExpr}
@@ -27,11 +28,6 @@ set_past : {X : Type 0} (xs : List X) (i : ℕ) (x : X) → slice_get xs i ≡ N
 set_past [] i x h = refl
 set_past (z ∷ xs) zero x h = absurd (cc)
 set_past (z ∷ xs) (suc i) x h = ap (λ ws. z ∷ ws) (set_past xs i x h)
-
-set_long : {X : Type 0} (xs : List X) (i : ℕ) (x : X) → length (slice_set xs i x) ≡ length xs
-set_long [] i x = refl
-set_long (y ∷ xs) zero x = refl
-set_long (y ∷ xs) (suc i) x = ap suc (set_long xs i x)
 
 get_other : {X : Type 0} (xs : List X) (i j : ℕ) (x : X) → (i ≡ j → ⊥) → slice_get (slice_set xs i x) j ≡ slice_get xs j
 get_other [] i j x h = refl
@@ -85,7 +81,7 @@ last_undone xs x vs all is = sym (ap (λ zs. changed zs vs) is ∙ changed_more 
 
 pub changed_long : (xs : List Change) (vs : List ℕ) → length (changed xs vs) ≡ length vs
 changed_long [] vs = refl
-changed_long (x ∷ xs) vs = set_long (changed xs vs) x.local x.name ∙ changed_long xs vs
+changed_long (x ∷ xs) vs = set_length (changed xs vs) x.local x.name ∙ changed_long xs vs
 
 here : (x : ℕ) (xs : List ℕ) (k : ℕ) → x ≡ k → Contains (x ∷ xs) k
 here x xs k e = (0, omega arith, e)
@@ -258,8 +254,8 @@ module _ (n c : ℕ) (vs ws : List ℕ) where
   stepped_long i v w b = by (nat_eq v w)
     where
       by : (p : Truth) → length (if p then record b { versions = slice_set b.versions i w } else store n i (chosen_by c v w) b).versions ≡ length b.versions
-      by true = set_long b.versions i w
-      by false = set_long b.versions i (fresh n b)
+      by true = set_length b.versions i w
+      by false = set_length b.versions i (fresh n b)
 
   stepped_else : (i v w : ℕ) (b : Builder) (k : ℕ) → (i ≡ k → ⊥) → slice_get (stepped i v w b).versions k ≡ slice_get b.versions k
   stepped_else i v w b k h = by (nat_eq v w)

@@ -1,9 +1,9 @@
 -- What the code's steps say, over plain variables.
-use Rattle.std.proofs.Common.{◌≡◌, ◌∙◌, ◌≤◌, ◌<◌, ◌+◌, ℕ, zero, suc, true, Some, None, List, [], ◌∷◌, ◌++◌, map, take, drop, get_or, slice_get, length, Vec, Box, refl, sym, ap, arith, append_assoc, append-nil, drop_of_length-le}
+use Rattle.std.proofs.Common.{◌≡◌, ◌∙◌, ◌≤◌, ◌<◌, ◌+◌, ℕ, zero, suc, true, Some, None, List, [], ◌∷◌, ◌++◌, map, take, drop, get_or, slice_get, length, Vec, Box, refl, sym, ap, arith, append_assoc, append-nil}
 use Rattle.std.proofs.Math.Numerals.{add-one}
 use Rattle.std.proofs.lemmas.List.{take_all}
 use Rattle.std.specs.declared.alloc.Global.{Global}
-use Rattle.std.proofs.Math.Seq.{drop-cons}
+use Rattle.lemmas.proofs.Lists.{next_item, none_left, item_there}
 use Rattle.vb_base.specs.declared.labels.Label.{Label}
 use Rattle.boogie_tree.specs.Stmt as s
 use Rattle.boogie_tree.specs.declared.stmts.BStmt as stmt
@@ -50,29 +50,7 @@ drop_at [] i x h = absurd (cc)
 drop_at (y ∷ xs) zero x h = let e : y ≡ x = cc in ap (λ z. z ∷ xs) e
 drop_at (y ∷ xs) (suc i) x h = drop_at xs i x h
 
--- what a read tells
-pub read_there : {X : Type 0} (xs : List X) (i : ℕ) (x : X) → i < length xs → x ≡ get_or xs i x → slice_get xs i ≡ Some x
-read_there [] i x lt is = absurd (omega (arith, lt))
-read_there (y ∷ xs) zero x lt is = ap Some (sym is)
-read_there (y ∷ xs) (suc i) x lt is = read_there xs i x (omega (arith, lt)) is
-
-pub within_there : {X : Type 0} (xs : List X) (i : ℕ) → i < length xs → (x : X) × (slice_get xs i ≡ Some x)
-within_there [] i lt = absurd (omega (arith, lt))
-within_there (y ∷ xs) zero lt = (y, refl)
-within_there (y ∷ xs) (suc i) lt = within_there xs i (omega (arith, lt))
-
-pub past_there : {X : Type 0} (xs : List X) (i : ℕ) → length xs ≤ i → slice_get xs i ≡ None
-past_there [] i h = refl
-past_there (y ∷ xs) zero h = absurd (omega (arith, h))
-past_there (y ∷ xs) (suc i) h = past_there xs i (omega (arith, h))
-
 -- ---- statements
-
-pub next_item : {X : Type 0} (xs : List X) (i : ℕ) (x : X) → i < length xs → x ≡ get_or xs i x → drop i xs ≡ x ∷ drop (i + 1) xs
-next_item xs i x lt is = rw add-one (drop-cons xs i x lt ∙ ap (λ y. y ∷ drop (suc i) xs) (sym is))
-
-pub none_left : {X : Type 0} (xs : List X) (i : ℕ) → length xs ≤ i → drop i xs ≡ []
-none_left xs i h = drop_of_length-le xs h
 
 pub with_is : (m : ℕ) (keys : Vec fexpr.FExpr Global) (g : ℕ → ℕ) (index : List expr.BExpr) (e : FExpr) (b : Box fexpr.FExpr Global) (a : Box fexpr.FExpr Global) →
     fexpr_of b.value ≡ f.Var m → fexprs_of keys.items ≡ lifted_all g (exprs_of index) → fexpr_of a.value ≡ e → fexpr_of (fexpr.With b keys a) ≡ f.With (f.Var m) (lifted_all g (exprs_of index)) e
@@ -232,7 +210,7 @@ module _ (ls : List p.BType) where
 pub numbers_next : {X : Type 0} (xs : List X) (i : ℕ) (names new all : List ℕ) → i < length xs → new ≡ names ++ i ∷ [] → names ++ numbers i (drop i xs) ≡ all →
     new ++ numbers (i + 1) (drop (i + 1) xs) ≡ all
 numbers_next xs i names new all lt made same =
-    let x = within_there xs i lt in
+    let x = item_there xs i lt in
     let at : drop i xs ≡ x.0 ∷ drop (i + 1) xs = rw add-one (drop_at xs i x.0 x.1) in
     ap (λ z. z ++ numbers (i + 1) (drop (i + 1) xs)) made ∙ append_assoc names (i ∷ []) (numbers (i + 1) (drop (i + 1) xs)) ∙ ap (λ z. names ++ numbers i z) (sym at) ∙ same
 

@@ -1,6 +1,8 @@
 -- What the conditions of a procedure, and its formula for a label, say of it.
 use Rattle.std.proofs.Common.{◌≡◌, ◌+◌, ℕ, zero, suc, Bool as Truth, true, false, not, ◌&&◌, ◌||◌, All, if◌then◌else◌, Option, Some, None, List, [], ◌∷◌, ◌++◌, map, take, slice_get, length, refl, sym, ap, subst, ◌∙◌, arith, append-nil}
 use Rattle.std.proofs.lemmas.List.Elements.{All-append, All-push, All-nil, All-head, All-tail}
+use Rattle.lemmas.proofs.Tests.{or_false}
+use Rattle.lemmas.proofs.Lists.{take_there, there_right, there_left}
 use Rattle.vb_base.specs.declared.labels.Label.{Label}
 use Rattle.vb_value.specs.Bound.{Unbounded}
 use Rattle.boogie_tree.specs.Stmt as s
@@ -26,7 +28,7 @@ use Rattle.boogie_wp.specs.Labels.{same_label}
 use Rattle.boogie_wp.specs.Worked.{here}
 use Rattle.boogie_wp.specs.Build.{Builder, numbers, started, conditions_for, formula_for, built, Chain, one_more, chained, chain_from}
 use Rattle.boogie_wp.proofs.Total.{Point, total}
-use Rattle.boogie_wp.proofs.TotalLaws.{or_false, Owns, there_right, there_left, from, Ends, Matches, done, failed, other, awake}
+use Rattle.boogie_wp.proofs.TotalLaws.{Owns, from, Ends, Matches, done, failed, other, awake}
 use Rattle.boogie_wp.proofs.NameLaws.{Kept, kept_more, Holds, no_names, named_so, Names, names_more, at_new, Truly, Says, Truths, no_truths, truth_so, truths_kept, truth_at, fails_among, or_assoc, among_true, among_there, says_var, says_or, says_not, says_value, says_kind}
 use Rattle.boogie_wp.proofs.BuildLaws.{Stands, Step, block_step, bool_type, truly_fits}
 
@@ -36,12 +38,6 @@ pub env_front : (ls us : List BType) (vs : List BValue) → IsEnvironment (ls ++
 env_front [] us vs h = tt
 env_front (l ∷ ls) us [] h = absurd h
 env_front (l ∷ ls) us (v ∷ vs) h = (h.0, env_front ls us vs h.1)
-
-take_there : {X : Type 0} (m : ℕ) (xs : List X) (j : ℕ) (x : X) → slice_get (take m xs) j ≡ Some x → slice_get xs j ≡ Some x
-take_there zero xs j x h = absurd (cc)
-take_there (suc m) [] j x h = absurd (cc)
-take_there (suc m) (y ∷ xs) zero x h = h
-take_there (suc m) (y ∷ xs) (suc j) x h = take_there m xs j x h
 
 pub length_env : (ls : List BType) (vs : List BValue) → IsEnvironment ls vs → length vs ≡ length ls
 length_env [] [] h = refl

@@ -6,22 +6,21 @@ use Rattle.sparse.specs.Map.{Map}
 use Rattle.vb_value.specs.Bound.{Unbounded}
 use Rattle.boogie_tree.specs.Expr as t
 use Rattle.boogie_tree.specs.Program.{BType}
-use Rattle.boogie_tree.specs.Value.{Key, BScalar, BValue, One, Many, Int, Bool, Ref, Real, Snap}
-use Rattle.boogie_tree.specs.Values.{plain_type, map_type, IsEnvironment, FitsScalar, FitsKey, IsMapOf, IsOfType, one, same_type}
+use Rattle.boogie_tree.specs.Value.{Key, BScalar, BValue, One, Many, Bool}
+use Rattle.boogie_tree.specs.Values.{plain_type, map_type, IsEnvironment, FitsScalar, FitsKey, IsMapOf, IsOfType, one}
 use Rattle.boogie_tree.specs.declared.exprs.BBase.{BBase}
 use Rattle.boogie_tree.specs.declared.exprs.BBase.TheVariants as base
-use Rattle.boogie_meaning.specs.Compared.{IsNotOver}
-use Rattle.boogie_meaning.specs.Ends.{End, Is, Over, Wrong, then_with, found, Keeps, value as has, over}
+use Rattle.boogie_meaning.specs.Ends.{End, Is, Over, Wrong, then_with, found, value as has}
 use Rattle.boogie_meaning.specs.Operators.{as_truth}
 use Rattle.boogie_meaning.specs.Value.{scalar_in, the_map}
 use Rattle.boogie_meaning.specs.Quantified.{bvalue, bkey, one_of, side}
-use Rattle.boogie_meaning.specs.Renamed.{renamed, renamed_in, AllVariables, AllVariablesIn}
+use Rattle.boogie_meaning.specs.Renamed.{renamed, renamed_in}
 use Rattle.boogie_meaning.specs.Types.{HasType, var, int, real, bool, null, unit, neg, not_, binary, choose, forall_, to_real, s_int, s_bool, s_ref, s_perm, pair, at, at_bound, HaveTypes, none, more, SideHasType, whole as whole_variable, value as expression, then_some, base_of, bases_of, is_base}
-use Rattle.boogie_meaning.proofs.RenamedLaws.{bvalue_same, bkey_same}
-use Rattle.boogie_meaning.proofs.TypeLaws.{base_of_complete, bases_of_complete, same_base_itself, same_bases_itself, and_true}
+use Rattle.boogie_meaning.proofs.RenamedLaws.{bvalue_same, bkey_same, variables, variables_in}
+use Rattle.boogie_meaning.proofs.TypeLaws.{base_of_complete, bases_of_complete, same_type_itself}
 use Rattle.boogie_meaning.proofs.ValueLaws.{found_typed}
-use Rattle.boogie_meaning.proofs.TypedLaws.{bvalue_keeps, bkey_keeps, side_keeps, the_map_keeps}
-use Rattle.boogie_meaning.proofs.BoundLaws.{goes_not_over, bvalue_bounded, bkey_bounded, side_bounded, the_map_bounded}
+use Rattle.boogie_meaning.proofs.TypedLaws.{bvalue_keeps, bkey_keeps, side_keeps, the_map_keeps, as_truth_value}
+use Rattle.boogie_meaning.proofs.BoundLaws.{is_value, goes_not_over, bvalue_bounded, bkey_bounded, side_bounded, the_map_bounded}
 use Rattle.boogie_formula.specs.Value.{plain, plain_all, two, three, fvalue, fkey, whole}
 use Rattle.boogie_formula.specs.Types.{fbase, fbases, one_type, whole_type}
 use Rattle.boogie_wp.specs.Lifted.{lifted, lifted_all}
@@ -55,35 +54,6 @@ module _ (g : ℕ → ℕ) where
     plain_lifted_all t.none = refl
     plain_lifted_all (t.more a es) = let p = plain_lifted a in let q = plain_lifted_all es in λ i. two t.more (p i) (q i)
 
--- ---- what holds of the variables that are declared holds of those of a typed expression
-
-module _ (ls : List BType) (P : ℕ → Type 0) (h : (i : ℕ) (u : BType) → slice_get ls i ≡ Some u → P i) where
-  mutual
-    pub variables : {o : Option (List BBase)} {e : t.BExpr} {u : BBase} → HasType ls o e u → AllVariables P e
-    variables (var {i = i} {u = u} l) = h i (plain_type u) l
-    variables int = tt
-    variables real = tt
-    variables bool = tt
-    variables null = tt
-    variables unit = tt
-    variables (neg n a) = variables a
-    variables (not_ a) = variables a
-    variables (binary e a b) = (variables a, variables b)
-    variables (choose c a b) = (variables c, variables a, variables b)
-    variables (forall_ k a) = variables a
-    variables (to_real a) = variables a
-    variables (s_int a) = variables a
-    variables (s_bool a) = variables a
-    variables (s_ref a) = variables a
-    variables (s_perm a) = variables a
-    variables (pair a b) = (variables a, variables b)
-    variables (at {m = m} {u = u} {us = us} {w = w} l es) = (h m (map_type u us w) l, variables_in es)
-    variables (at_bound {m = m} {u = u} {us = us} {w = w} l) = h m (map_type u us w) l
-
-    pub variables_in : {o : Option (List BBase)} {es : t.BExprs} {us : List BBase} → HaveTypes ls o es us → AllVariablesIn P es
-    variables_in none = tt
-    variables_in (more k a es) = (variables a, variables_in es)
-
 -- ---- types under other numbers
 
 module _ (ls ks : List BType) (g : ℕ → ℕ) (h : (i : ℕ) (u : BType) → slice_get ls i ≡ Some u → slice_get ks (g i) ≡ Some u) where
@@ -115,17 +85,6 @@ module _ (ls ks : List BType) (g : ℕ → ℕ) (h : (i : ℕ) (u : BType) → s
 
 -- ---- without a bound a typed expression has a value
 
-pub as_bool : (v : BScalar) → FitsScalar base.Bool v → (p : Truth) × (v ≡ Bool p)
-as_bool (Bool p) f = (p, refl)
-as_bool (Int n) f = let e : base.Int ≡ base.Bool = f.typed in absurd (cc)
-as_bool (Ref n) f = let e : base.Ref ≡ base.Bool = f.typed in absurd (cc)
-as_bool (Real n) f = let e : base.Real ≡ base.Bool = f.typed in absurd (cc)
-as_bool (Snap n) f = let e : base.Snap ≡ base.Bool = f.typed in absurd (cc)
-
-is_value : {X : Type 0} {P : X → Type 0} {e : End X} → Keeps P e → IsNotOver e → (x : X) × (e ≡ Is x) × P x
-is_value (has {x = x} p) n = (x, refl, p)
-is_value over n = absurd n
-
 module _ (ls : List BType) (env : List BValue) (h : IsEnvironment ls env) where
   pub value_there : (e : t.BExpr) (u : BBase) → HasType ls None e u → (v : BScalar) × (bvalue Unbounded e env ≡ Is v) × FitsScalar u v
   value_there e u w = is_value (bvalue_keeps Unbounded ls env h e u w) (goes_not_over (bvalue_bounded e env))
@@ -134,7 +93,7 @@ module _ (ls : List BType) (env : List BValue) (h : IsEnvironment ls env) where
   key_there es us w = is_value (bkey_keeps Unbounded ls env h es us w) (goes_not_over (bkey_bounded es env))
 
   pub truth_there : (e : t.BExpr) → HasType ls None e base.Bool → (p : Truth) × (bvalue Unbounded e env ≡ Is (Bool p))
-  truth_there e w = let v = value_there e base.Bool w in let a = as_bool v.0 v.2 in (a.0, v.1 ∙ ap Is a.1)
+  truth_there e w = let v = value_there e base.Bool w in let a = as_truth_value v.0 v.2 in (a.0, v.1 ∙ ap Is a.1)
 
   pub side_is : (e : t.BExpr) (u : BType) → SideHasType ls e u → (v : BValue) × (side Unbounded e env ≡ Is v) × IsOfType v u
   side_is e u w = is_value (side_keeps Unbounded ls env h e u w) (goes_not_over (side_bounded e env))
@@ -159,9 +118,6 @@ choose_whole : (p : Truth) (a b : End BScalar) (x y : End BValue) (v : BScalar) 
     (if p then a else b) ≡ Is v → (if p then x else y) ≡ Is (One v)
 choose_whole true a b x y v f g h = f h
 choose_whole false a b x y v f g h = g h
-
-same_type_itself : (u : BType) → same_type u u ≡ true
-same_type_itself u = and_true (same_bases_itself u.keys) (same_base_itself u.base)
 
 pub one_type_itself : (u : BType) → one_type u u ≡ Some u
 one_type_itself u = rw (same_type_itself u) refl

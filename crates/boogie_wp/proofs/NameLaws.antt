@@ -2,6 +2,8 @@
 -- that say that an assertion fails.
 use Rattle.std.proofs.Common.{◌≡◌, ◌+◌, ℕ, zero, suc, Bool as Truth, true, false, not, ◌&&◌, ◌||◌, Option, Some, None, List, [], ◌∷◌, ◌++◌, slice_get, slice_set, length, length-append, refl, sym, ap, subst, ◌∙◌, arith}
 use Rattle.std.specs.Option.{option_map}
+use Rattle.lemmas.proofs.Tests.{or_false}
+use Rattle.lemmas.proofs.Lists.{there_left, there_right}
 use Rattle.vb_base.specs.declared.labels.Label.{Label}
 use Rattle.vb_value.specs.Bound.{Unbounded}
 use Rattle.boogie_tree.specs.Expr as t
@@ -23,7 +25,6 @@ use Rattle.boogie_formula.specs.declared.formulas.Fail.{Fail}
 use Rattle.boogie_wp.specs.Build.{number_at}
 use Rattle.boogie_wp.specs.Labels.{same_label}
 use Rattle.boogie_wp.proofs.LabelLaws.{same_label_is, same_label_itself}
-use Rattle.boogie_wp.proofs.TotalLaws.{there_left, there_right, or_false}
 
 -- ---- names
 

@@ -5,6 +5,7 @@ use Rattle.std.specs.Bool.{⊤}
 use Rattle.std.specs.Map.{values_of}
 use Rattle.std.proofs.Math.Seq.{take-append_seam}
 use Rattle.std.proofs.lemmas.List.Elements.{All-append, All-push, All-nil, All-head, All-tail}
+use Rattle.lemmas.proofs.Lists.{there_left, there_right}
 use Rattle.vb_base.specs.declared.labels.Label.{Label}
 use Rattle.vb_value.specs.Bound.{Unbounded}
 use Rattle.boogie_tree.specs.Stmt as s
@@ -31,7 +32,7 @@ use Rattle.boogie_wp.specs.Labels.{same_label}
 use Rattle.boogie_wp.proofs.LabelLaws.{same_label_itself}
 use Rattle.boogie_wp.proofs.LiftLaws.{value_there, key_there, truth_there, side_is, map_there}
 use Rattle.boogie_wp.proofs.Total.{Point, or_else, stored, held, checked, joined, forked, total_stmt, total}
-use Rattle.boogie_wp.proofs.TotalLaws.{Asleep, asleep, there_left, there_right, slots_own, slots_own_stmt, from}
+use Rattle.boogie_wp.proofs.TotalLaws.{Asleep, asleep, slots_own, slots_own_stmt, from}
 use Rattle.boogie_wp.proofs.BuildLaws.{truly_fits}
 use Rattle.boogie_wp.proofs.FormulaLaws.{env_front, length_env, default_env, last, value_is, fails_in, fail_from, follows}
 

@@ -1,5 +1,7 @@
 -- The code's steps over a whole procedure, and what its conditions and its formula say, over plain variables.
 use Rattle.std.proofs.Common.{◌≡◌, ◌∙◌, ◌≤◌, ◌<◌, ◌+◌, ℕ, zero, suc, Some, List, [], ◌∷◌, ◌++◌, map, slice_get, length, get_or, refl, sym, ap, subst, arith, length-append}
+use Rattle.lemmas.proofs.Lists.{item_at}
+use Rattle.lemmas.proofs.Options.{some_same}
 use Rattle.vb_base.specs.declared.labels.Label.{Label}
 use Rattle.boogie_tree.specs.Fits.{FitStmts}
 use Rattle.boogie_tree.specs.Program as p
@@ -8,7 +10,6 @@ use Rattle.boogie_tree.specs.declared.programs.Local.{Local}
 use Rattle.boogie_tree.specs.declared.programs.Proc.{Proc}
 use Rattle.boogie_tree.specs.declared.stmts.BStmt as stmt
 use Rattle.boogie_meaning.specs.Programs.{IsTypedProc}
-use Rattle.boogie_meaning.proofs.TypeLaws.{some_same}
 use Rattle.boogie_formula.specs.Choices.{own_types, slots, variables_of}
 use Rattle.boogie_formula.specs.Follows.{AreExact, ConditionsFollow, Follows, IsExact}
 use Rattle.boogie_formula.specs.Formula.{Conditions, Formula}
@@ -16,7 +17,6 @@ use Rattle.boogie_formula.specs.Printable.{IsPrintableConditions, IsPrintableFor
 use Rattle.boogie_formula.specs.Types.{IsTypedConditions, IsTypedFormula}
 use Rattle.boogie_wp.specs.Build.{Builder, finished, conditions_for, formula_for, started, built}
 use Rattle.boogie_wp.specs.View.{types_in}
-use Rattle.boogie_wp.proofs.CodeLaws.{read_there}
 use Rattle.boogie_wp.proofs.FormulaLaws.{conditions_follow, conditions_typed, follows, formula_typed}
 use Rattle.boogie_wp.proofs.PlacedLaws.{are_exact, exact}
 use Rattle.boogie_wp.proofs.PrintLaws.{conditions_printable, printable}
@@ -54,7 +54,7 @@ length_procs [] = refl
 length_procs (d ∷ ds) = ap suc (length_procs ds)
 
 pub proc_there : (ds : List Proc) (i : ℕ) (d : Proc) → i < length (map proc_of ds) → d ≡ get_or ds i d → slice_get (map proc_of ds) i ≡ Some (proc_of d)
-proc_there ds i d lt is = let long = length_procs ds in proc_found ds i d (read_there ds i d (omega (arith, lt, long)) is)
+proc_there ds i d lt is = let long = length_procs ds in proc_found ds i d (item_at ds i d (omega (arith, lt, long)) is)
 
 -- ---- what its conditions say
 

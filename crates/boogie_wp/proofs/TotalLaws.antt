@@ -1,5 +1,8 @@
 -- What goes on along all paths is the run, where it comes here, and nothing else.
-use Rattle.std.proofs.Common.{◌≡◌, ◌+◌, ℕ, zero, suc, Bool as Truth, true, false, ◌&&◌, ◌||◌, Some, None, List, [], ◌∷◌, ◌++◌, slice_get, length, length-append, if◌then◌else◌, refl, sym, ap, subst, ◌∙◌, arith, append_assoc, append-nil, zero-add}
+use Rattle.std.proofs.Common.{◌≡◌, ◌+◌, ℕ, suc, Bool as Truth, true, false, ◌&&◌, ◌||◌, Some, None, List, [], ◌∷◌, ◌++◌, slice_get, length, length-append, if◌then◌else◌, refl, sym, ap, subst, ◌∙◌, arith, append_assoc, append-nil}
+use Rattle.boogie_meaning.proofs.TypedLaws.{as_truth_value}
+use Rattle.lemmas.proofs.Lists.{there_left, there_right}
+use Rattle.lemmas.proofs.Tests.{or_false}
 use Rattle.sparse.specs.Map.{set}
 use Rattle.vb_value.specs.Key.{key_cmp}
 use Rattle.vb_base.specs.declared.labels.Label.{Label}
@@ -19,7 +22,7 @@ use Rattle.boogie_meaning.proofs.ValueLaws.{stored_typed, set_typed, choice_give
 use Rattle.boogie_formula.specs.Choices.{own_types, own_types_stmt, type_there, slots, slots_stmt, met, met_stmt, truth_at, where_done}
 use Rattle.boogie_wp.specs.Labels.{same_label}
 use Rattle.boogie_wp.proofs.LabelLaws.{same_label_is, same_label_itself}
-use Rattle.boogie_wp.proofs.LiftLaws.{as_bool, value_there, key_there, truth_there, side_is, map_there}
+use Rattle.boogie_wp.proofs.LiftLaws.{value_there, key_there, truth_there, side_is, map_there}
 use Rattle.boogie_wp.proofs.Total.{Point, or_else, truth, stored, put, held, checked, joined, forked, total_stmt, total}
 
 -- ---- where the run does not come, nothing fails
@@ -27,10 +30,6 @@ use Rattle.boogie_wp.proofs.Total.{Point, or_else, truth, stored, put, held, che
 pub record Asleep (q : Truth) (p : Point) : Type 0 where
   pub path : p.path ≡ false
   pub bad : p.bad ≡ q
-
-pub or_false : (q : Truth) → (q || false) ≡ q
-or_false true = refl
-or_false false = refl
 
 asleep_either : (t : Truth) (x y : Point) (q : Truth) → x.path ≡ false → Asleep q y → Asleep q (joined t x y)
 asleep_either t x y q h a = record { path = rw (h) a.path; bad = a.bad }
@@ -78,17 +77,6 @@ module _ (label : Label) (vs : List BValue) where
 -- they stand from the k-th on, and are of these types
 pub record Owns (vars : List BType) (vs : List BValue) (k : ℕ) (ts : List BType) : Type 0 where
   pub there : (j : ℕ) (u : BType) → slice_get ts j ≡ Some u → (v : BValue) × (slice_get vs (k + j) ≡ Some v) × IsOfType v u × (slice_get vars (k + j) ≡ Some u)
-
-pub there_left : {X : Type 0} (xs ys : List X) (j : ℕ) (x : X) → slice_get xs j ≡ Some x → slice_get (xs ++ ys) j ≡ Some x
-there_left [] ys j x h = absurd (cc)
-there_left (y ∷ xs) ys zero x h = h
-there_left (y ∷ xs) ys (suc j) x h = there_left xs ys j x h
-
-pub there_right : {X : Type 0} (xs ys : List X) (j : ℕ) → slice_get (xs ++ ys) (length xs + j) ≡ slice_get ys j
-there_right [] ys j = ap (slice_get ys) (zero-add j)
-there_right (y ∷ xs) ys j =
-    let e : suc (length xs) + j ≡ suc (length xs + j) = omega (arith) in
-    ap (slice_get (y ∷ (xs ++ ys))) e ∙ there_right xs ys j
 
 moved : (vars : List BType) (vs : List BValue) (i j : ℕ) (u : BType) → j ≡ i → (v : BValue) × (slice_get vs i ≡ Some v) × IsOfType v u × (slice_get vars i ≡ Some u) →
     (v : BValue) × (slice_get vs j ≡ Some v) × IsOfType v u × (slice_get vars j ≡ Some u)
@@ -250,7 +238,7 @@ then_ends label rest run m more go _ _ _ _ y (other {env = env} n) f g h =
     subst (λ cs. Ends label rest (then_run (run (cs ++ rest)) go) y) (sym (append-nil m)) (other_then label rest rest (run (m ++ rest)) env go y (f rest) (h refl))
 
 pub bool_there : (v : BValue) (u : BType) → IsOfType v u → u ≡ plain_type base.Bool → (p : Truth) × (v ≡ One (Bool p))
-bool_there _ _ (one {v = v} f) e = let a = as_bool v (subst (λ x. FitsScalar x v) (ap (λ x. x.base) e) f) in (a.0, ap One a.1)
+bool_there _ _ (one {v = v} f) e = let a = as_truth_value v (subst (λ x. FitsScalar x v) (ap (λ x. x.base) e) f) in (a.0, ap One a.1)
 bool_there _ _ (many {u = u} {us = us} m) e = let n : u ∷ us ≡ [] = ap (λ x. x.keys) e in absurd (cc)
 
 module _ (ls vars : List BType) (label : Label) (vs : List BValue) where

@@ -2,7 +2,7 @@
 use Rattle.std.specs.Prelude.{◌≡◌, ℕ, List, [], ◌∷◌, Some, slice_get}
 use Rattle.boogie_tree.specs.Program.{Proc, BProgram}
 use Rattle.boogie_grammar.specs.Spells.{BSpells}
-use Rattle.cond_tool.specs.Accepted.{Accepts}
+use Rattle.boogie_file.specs.Accepted.{Accepts}
 use Rattle.cert_tool.specs.Shown.{NeverFails}
 
 -- what `certify` shows where it accepts a certificate: the bytes are the text of a well-typed program, and no run of its procedure

@@ -6,7 +6,7 @@ ghost use Rattle.viper_core.specs.Program as p;
 ghost use Rattle.boogie_tree.specs.Program.{BProgram};
 ghost use Rattle.boogie_grammar.specs.Spells.{BSpells};
 ghost use Rattle.exec_meaning.specs.Frame.{NoExecutionFails};
-ghost use Rattle.enc_stmt.specs.Translates.{Translates};
+ghost use Rattle.enc_units.specs.Translates.{Translates};
 ghost use Rattle.vb_tool.specs.Accepted.{IsAccepted};
 ghost use Rattle.vb_tool.specs.AcceptedExecution.{IsFramed};
 ghost use Rattle.vb_tool.specs.Verified.{NoProcedureFails, HasNoFailure};

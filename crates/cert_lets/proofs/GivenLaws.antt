@@ -1,5 +1,6 @@
 -- Where definitions have values one after the other, each has its value at all of them, whatever values stand behind.
 use Rattle.std.proofs.Common.{◌≡◌, ◌+◌, ℕ, zero, suc, Bool as Truth, true, false, Option, Some, None, List, [], ◌∷◌, ◌++◌, length, length-append, slice_get, if◌then◌else◌, refl, sym, ap, subst, ◌∙◌, arith}
+use Rattle.lemmas.proofs.Lists.{there_right}
 use Rattle.sparse.specs.Map.{Map, get, set}
 use Rattle.vb_value.specs.Bound.{Unbounded}
 use Rattle.vb_value.specs.Key.{key_cmp}
@@ -17,7 +18,6 @@ use Rattle.boogie_formula.specs.Formula as f
 use Rattle.boogie_formula.specs.Formula.{FExpr, FExprs, Conditions}
 use Rattle.boogie_formula.specs.Value.{plain, plain_all, fvalue, fkey, whole, defined}
 use Rattle.cert_terms.proofs.KeptLaws.{Kept, Below, kept_more, of_kept, map_kept}
-use Rattle.cert_terms.proofs.TableLaws.{there_right}
 use Rattle.cert_lets.specs.Defined.{Holds}
 use Rattle.cert_lets.specs.Told.{AreDefined}
 

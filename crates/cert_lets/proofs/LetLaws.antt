@@ -27,7 +27,7 @@ use Rattle.cert_terms.specs.declared.terms.Term.{Term}
 use Rattle.cert_terms.specs.declared.terms.Term.TheVariants as term
 use Rattle.cert_terms.proofs.ValueLaws.{fkey_there}
 use Rattle.cert_terms.proofs.LiteralLaws.{truth_value, value_name, holds_first, holds_more, IsTruthValue}
-use Rattle.cert_terms.proofs.MeaningLaws.{at, key_at, chosen, whole_scalar, told_there}
+use Rattle.cert_terms.proofs.MeaningLaws.{at, key_at, chosen, whole_scalar, told_there, one_scalar}
 use Rattle.cert_lets.specs.Texts.{Told, own, plainly, put_text, is_text, are_texts, is_whole}
 use Rattle.cert_lets.specs.Defined.{Holds, IsToldRightly}
 use Rattle.cert_lets.proofs.TextLaws.{and_both, if_parts, AreRight, IsBound, own_is, name_is, plain_whole}
@@ -140,11 +140,6 @@ from_bool (Is true) h = refl
 from_bool (Is false) h = absurd (cc)
 from_bool Over h = absurd (cc)
 from_bool Wrong h = absurd (cc)
-
-one_scalar : (e : End BScalar) → then_with (one_of e) scalar_in ≡ e
-one_scalar (Is v) = refl
-one_scalar Over = refl
-one_scalar Wrong = refl
 
 same_end : (p q : Truth) → Is p ≡ Is q → p ≡ q
 same_end true true h = refl

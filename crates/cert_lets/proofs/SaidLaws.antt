@@ -1,6 +1,7 @@
 -- The value of an expression is that of a literal which is what its text says.
 use Rattle.std.proofs.Common.{◌≡◌, Bool as Truth, true, false, not, ◌&&◌, Option, Some, None, List, [], ◌∷◌, slice_get, if◌then◌else◌, refl, sym, ap, subst, ◌∙◌}
 use Rattle.std.specs.Option.{option_map}
+use Rattle.lemmas.proofs.Tests.{not_twice}
 use Rattle.sparse.specs.Map.{get}
 use Rattle.vb_value.specs.Bound.{Unbounded}
 use Rattle.vb_value.specs.Key.{key_cmp}
@@ -23,22 +24,18 @@ use Rattle.cert_terms.specs.Terms.{operand, IsModel}
 use Rattle.cert_terms.specs.declared.terms.Literal.{Literal}
 use Rattle.cert_terms.specs.declared.terms.Term.{Term}
 use Rattle.cert_terms.specs.declared.terms.Term.TheVariants as term
-use Rattle.cert_terms.proofs.ValueLaws.{from_is_base}
+use Rattle.boogie_meaning.proofs.TypeLaws.{from_base as from_is_base}
 use Rattle.cert_terms.proofs.LiteralLaws.{truth_value}
 use Rattle.cert_terms.proofs.MeaningLaws.{at, of, key_at, key_more, chosen, paired, got_at, bool_value, null_value, unit_value, int_value, real_value, neg_value, bin_value, if_value, to_real_value, s_int_value, s_bool_value, s_ref_value, s_perm_value, pair_value, at_value}
 use Rattle.cert_terms.proofs.PartLaws.{bin_typed}
 use Rattle.cert_lets.specs.Texts.{Told, core, is_turned, left_of, right_of, suits, own, same_keys, is_name, plainly, is_text, are_texts}
 use Rattle.cert_lets.proofs.OperatorLaws.{signed_end, put_by_core}
-use Rattle.cert_lets.proofs.TextLaws.{and_both, beq_is, literals_are, int_is, real_is, bool_is, null_is, unit_is, neg_part, real_part, s_int_part, s_bool_part, s_ref_part, s_perm_part, pair_parts, bin_parts, if_parts, at_parts, plain_at, signed_at, AreRight, IsBound, own_is, scalar_is, map_is}
+use Rattle.cert_lets.proofs.TextLaws.{beq_is, and_both, literals_are, int_is, real_is, bool_is, null_is, unit_is, neg_part, real_part, s_int_part, s_bool_part, s_ref_part, s_perm_part, pair_parts, bin_parts, if_parts, at_parts, plain_at, signed_at, AreRight, IsBound, own_is, scalar_is, map_is}
 
 bool_signed : (s p : Truth) → signed_end s (Is (Bool (if s then not p else p))) ≡ Is (Bool p)
 bool_signed true true = refl
 bool_signed true false = refl
 bool_signed false p = refl
-
-not_twice : (p : Truth) → not (not p) ≡ p
-not_twice true = refl
-not_twice false = refl
 
 then_same : {X Y : Type 0} (e : End X) (go to : X → End Y) → ((x : X) → go x ≡ to x) → then_with e go ≡ then_with e to
 then_same (Is x) go to h = h x

@@ -2,6 +2,7 @@
 use Rattle.std.proofs.Common.{◌≡◌, ◌⊎◌, inl, inr, ◌==◌, ℕ, ℤ, Bool as Truth, true, false, not, ◌&&◌, ◌||◌, Option, Some, None, List, [], ◌∷◌, slice_get, if◌then◌else◌, refl, sym, ap, ◌∙◌}
 use Rattle.std.specs.Bool.{beq}
 use Rattle.std.proofs.lemmas.Bool.Decides.{Decides-int_eq, Decides-eqb}
+use Rattle.lemmas.proofs.Tests.{false_from_not}
 use Rattle.sparse.specs.Map.{Map, get}
 use Rattle.vb_value.specs.Key.{key_cmp}
 use Rattle.boogie_tree.specs.Value.{Key, BScalar, BValue}
@@ -27,10 +28,6 @@ and_both {p = false} h = absurd (cc)
 or_either : (p q : Truth) → (p || q) ≡ true → (p ≡ true) ⊎ (q ≡ true)
 or_either true q h = inl refl
 or_either false q h = inr h
-
-not_true : (p : Truth) → not p ≡ true → p ≡ false
-not_true true h = absurd (cc)
-not_true false h = refl
 
 pub beq_is : (p q : Truth) → beq p q ≡ true → p ≡ q
 beq_is true true h = refl
@@ -184,7 +181,7 @@ module _ (t : Told) (values : List BValue) where
         by_name : (not l.negated && ((l.name == i) || is_same i (slice_get t.terms l.name))) ≡ true → whole (operand l) values ≡ found (slice_get values i)
         by_name a =
             let p = and_both a in
-            plain_whole l.name l.negated values (not_true l.negated p.0)
+            plain_whole l.name l.negated values (false_from_not l.negated p.0)
             ∙ elim (or_either (l.name == i) (is_same i (slice_get t.terms l.name)) p.1) [
               | inl e ↦ ap (λ n. found (slice_get values n)) ((Decides-eqb l.name i).0 e)
               | inr e ↦ ap found (same_value t.terms values model l.name i (same_term i (slice_get t.terms l.name) e))

@@ -8,7 +8,7 @@ use Rattle.boogie_meaning.proofs.TypeLaws.{bases_same}
 use Rattle.boogie_formula.specs.Formula as f
 use Rattle.boogie_formula.specs.Formula.{FExpr, Conditions}
 use Rattle.boogie_formula.specs.Types.{fbases}
-use Rattle.cert_terms.specs.Kinds.{are_bases}
+use Rattle.boogie_types.specs.Typed.{are_bases}
 use Rattle.cert_terms.specs.Lawful.{terms_of, types_of}
 use Rattle.cert_terms.specs.Literals.{turned}
 use Rattle.cert_terms.specs.Terms.{operands, IsModel, IsTruth}

@@ -11,7 +11,7 @@ use Rattle.boogie_meaning.specs.Types.{is_base}
 use Rattle.boogie_formula.specs.Formula as f
 use Rattle.boogie_formula.specs.Formula.{FExpr, FExprs}
 use Rattle.boogie_formula.specs.Types.{fbase, fbases}
-use Rattle.cert_terms.specs.Kinds.{are_bases}
+use Rattle.boogie_types.specs.Typed.{are_bases}
 use Rattle.cert_terms.specs.Literals.{turned}
 use Rattle.cert_terms.specs.Terms.{operand, operands}
 use Rattle.cert_terms.specs.declared.terms.Literal.{Literal}

@@ -1,52 +1,21 @@
 // Definitions that are a `forall`, at keys.
 ghost use Rattle.std.specs.Prelude.{◌≡◌, Some, [], ◌∷◌, IfOk};
-ghost use Rattle.boogie_formula.specs.Types.{fbases};
 ghost use Rattle.boogie_formula.specs.View.{fexpr_of, conditions_of};
 ghost use Rattle.cert_lets.specs.Texts as t;
 ghost use Rattle.cert_lets.specs.Told.{AreTold, HoldsDefined};
 ghost use Rattle.cert_lets.specs.View.{told_of};
-ghost use Rattle.cert_terms.specs.Kinds.{are_bases, is_index};
 ghost use Rattle.cert_terms.specs.Lawful.{terms_of, types_of};
 ghost use Rattle.cert_terms.specs.Literals.{turned};
-ghost use Rattle.cert_terms.specs.Terms.{operands};
 
 use crate::definitions::{alias_of, definition_at, name_of};
 use crate::sizes::behind;
 use crate::texts::is_text;
 use boogie_formula::{Conditions, FExpr};
-use boogie_tree::{BBase, is_key, same_base};
 use cert_terms::{Fault, Literal, Refusal, Table};
 use std::alloc::Global;
 
 /// The most parts of a `forall` that is read at keys, so that a step costs no more than a constant for each number of its line.
 const MOST_PARTS: usize = 1000;
-
-/// Whether a key has this type, which is a key type.
-fn is_index(found: Option<BBase>, key: BBase) -> bool
-    ensures { result ≡ is_index found key }
-{
-    match found {
-        Some(base) => same_base(base, key) && is_key(base),
-        None => false,
-    }
-}
-
-/// Whether keys have these types.
-fn are_of(table: &Table, keys: &[Literal], wanted: &[BBase]) -> bool
-    ensures { result ≡ are_bases (fbases (types_of table.now) (operands keys.now)) wanted.now }
-{
-    let mut count = 0;
-    for key in keys {
-        let Some(base) = wanted.get(count) else {
-            return false;
-        };
-        if !is_index(table.base(*key), *base) {
-            return false;
-        }
-        count += 1;
-    }
-    count == wanted.len()
-}
 
 /// Whether a definition is a `forall`, and its body at these keys is the literal.
 fn is_instance(
@@ -60,7 +29,7 @@ fn is_instance(
 {
     match definition {
         FExpr::Forall(bases, body) => {
-            are_of(table, keys, bases) && is_text(table, aliases, true, keys, body, literal)
+            table.are_of(keys, bases) && is_text(table, aliases, true, keys, body, literal)
         }
         _ => false,
     }

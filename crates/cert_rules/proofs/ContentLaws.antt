@@ -1,7 +1,9 @@
 -- Contents, which constructors make.
-use Rattle.std.proofs.Common.{◌≡◌, ℕ, zero, suc, ◌+◌, ◌<◌, ◌≤◌, true, Some, None, List, [], ◌∷◌, slice_get, arith, refl, sym, ap, subst, ◌∙◌}
+use Rattle.std.proofs.Common.{◌≡◌, ℕ, zero, suc, ◌+◌, ◌<◌, ◌≤◌, true, Some, List, [], ◌∷◌, slice_get, arith, refl, sym, ap, subst, ◌∙◌}
 use Rattle.std.specs.Option.{option_map}
 use Rattle.std.proofs.lemmas.Option.{slice_get-map}
+use Rattle.boogie_meaning.proofs.PatternLaws.{is_inj}
+use Rattle.lemmas.proofs.Options.{none_some, some_turned}
 use Rattle.vb_value.specs.Content as content
 use Rattle.vb_value.specs.Content.{Content, nodes}
 use Rattle.vb_value.specs.declared.values.Value.TheVariants as leaf
@@ -21,7 +23,7 @@ use Rattle.cert_rules.specs.declared.heads.Head.TheVariants as head
 use Rattle.cert_rules.proofs.ClauseLaws.{holds_second}
 use Rattle.cert_rules.proofs.EquationLaws.{Compared, compared, same, other}
 use Rattle.cert_rules.proofs.EqualityLaws.{value_there}
-use Rattle.cert_rules.proofs.HeadLaws.{from_is, made_value}
+use Rattle.cert_rules.proofs.HeadLaws.{made_value}
 
 -- what a constructor makes of these values
 data Makes (values : List BValue) : Head → List (End BScalar) → BScalar → Type 0 where
@@ -33,7 +35,7 @@ data Makes (values : List BValue) : Head → List (End BScalar) → BScalar → 
   pair : {c d : Content} → Makes values head.Pair (Is (Snap c) ∷ Is (Snap d) ∷ []) (Snap (content.Pair c d))
 
 int_leaf : (values : List BValue) (e : End BScalar) (v : BScalar) → then_with e leaf_int ≡ Is v → Makes values head.SInt (e ∷ []) v
-int_leaf values (Is (Int n)) v h = subst (Makes values head.SInt (Is (Int n) ∷ [])) (from_is h) int
+int_leaf values (Is (Int n)) v h = subst (Makes values head.SInt (Is (Int n) ∷ [])) (is_inj h) int
 int_leaf values (Is (Bool p)) v h = absurd (cc)
 int_leaf values (Is (Ref r)) v h = absurd (cc)
 int_leaf values (Is (Real q)) v h = absurd (cc)
@@ -42,7 +44,7 @@ int_leaf values Over v h = absurd (cc)
 int_leaf values Wrong v h = absurd (cc)
 
 truth_leaf : (values : List BValue) (e : End BScalar) (v : BScalar) → then_with e leaf_bool ≡ Is v → Makes values head.SBool (e ∷ []) v
-truth_leaf values (Is (Bool p)) v h = subst (Makes values head.SBool (Is (Bool p) ∷ [])) (from_is h) truth
+truth_leaf values (Is (Bool p)) v h = subst (Makes values head.SBool (Is (Bool p) ∷ [])) (is_inj h) truth
 truth_leaf values (Is (Int p)) v h = absurd (cc)
 truth_leaf values (Is (Ref r)) v h = absurd (cc)
 truth_leaf values (Is (Real q)) v h = absurd (cc)
@@ -51,7 +53,7 @@ truth_leaf values Over v h = absurd (cc)
 truth_leaf values Wrong v h = absurd (cc)
 
 ref_leaf : (values : List BValue) (e : End BScalar) (v : BScalar) → then_with e leaf_ref ≡ Is v → Makes values head.SRef (e ∷ []) v
-ref_leaf values (Is (Ref r)) v h = subst (Makes values head.SRef (Is (Ref r) ∷ [])) (from_is h) ref
+ref_leaf values (Is (Ref r)) v h = subst (Makes values head.SRef (Is (Ref r) ∷ [])) (is_inj h) ref
 ref_leaf values (Is (Int p)) v h = absurd (cc)
 ref_leaf values (Is (Bool r)) v h = absurd (cc)
 ref_leaf values (Is (Real q)) v h = absurd (cc)
@@ -60,7 +62,7 @@ ref_leaf values Over v h = absurd (cc)
 ref_leaf values Wrong v h = absurd (cc)
 
 perm_leaf : (values : List BValue) (e : End BScalar) (v : BScalar) → then_with e leaf_perm ≡ Is v → Makes values head.SPerm (e ∷ []) v
-perm_leaf values (Is (Real q)) v h = subst (Makes values head.SPerm (Is (Real q) ∷ [])) (from_is h) perm
+perm_leaf values (Is (Real q)) v h = subst (Makes values head.SPerm (Is (Real q) ∷ [])) (is_inj h) perm
 perm_leaf values (Is (Int p)) v h = absurd (cc)
 perm_leaf values (Is (Bool r)) v h = absurd (cc)
 perm_leaf values (Is (Ref q)) v h = absurd (cc)
@@ -69,7 +71,7 @@ perm_leaf values Over v h = absurd (cc)
 perm_leaf values Wrong v h = absurd (cc)
 
 both_snaps : (values : List BValue) (e f : End BScalar) (v : BScalar) → applied values head.Pair (e ∷ f ∷ []) ≡ Is v → Makes values head.Pair (e ∷ f ∷ []) v
-both_snaps values (Is (Snap c)) (Is (Snap d)) v h = subst (Makes values head.Pair (Is (Snap c) ∷ Is (Snap d) ∷ [])) (from_is h) pair
+both_snaps values (Is (Snap c)) (Is (Snap d)) v h = subst (Makes values head.Pair (Is (Snap c) ∷ Is (Snap d) ∷ [])) (is_inj h) pair
 both_snaps values (Is (Snap c)) (Is (Int d)) v h = absurd (cc)
 both_snaps values (Is (Snap c)) (Is (Bool d)) v h = absurd (cc)
 both_snaps values (Is (Snap c)) (Is (Ref d)) v h = absurd (cc)
@@ -92,7 +94,7 @@ both_snaps values Over f v h = absurd (cc)
 both_snaps values Wrong f v h = absurd (cc)
 
 makes : (values : List BValue) (h : Head) (es : List (End BScalar)) (v : BScalar) → is_constructor h ≡ true → applied values h es ≡ Is v → Makes values h es v
-makes values head.Unit [] v c e = subst (Makes values head.Unit []) (from_is e) unit
+makes values head.Unit [] v c e = subst (Makes values head.Unit []) (is_inj e) unit
 makes values head.Unit (x ∷ es) v c e = absurd (cc)
 makes values head.SInt [] v c e = absurd (cc)
 makes values head.SInt (x ∷ []) v c e = int_leaf values x v e
@@ -147,24 +149,18 @@ makes_head ref = refl
 makes_head perm = refl
 makes_head pair = refl
 
-none_some : {X : Type 0} {x : X} → None ≡ Some x → ⊥
-none_some h = absurd (cc)
-
-some_is : {X : Type 0} {x y : X} → Some x ≡ Some y → y ≡ x
-some_is h = cc
-
 makes_part : {values : List BValue} {h : Head} {es : List (End BScalar)} {v : BScalar} → Makes values h es v → (i : ℕ) (e : End BScalar) → slice_get es i ≡ Some e → e ≡ Is (part_in v i)
 makes_part unit i e h = absurd (none_some h)
-makes_part int zero e h = some_is h
+makes_part int zero e h = some_turned h
 makes_part int (suc i) e h = absurd (none_some h)
-makes_part truth zero e h = some_is h
+makes_part truth zero e h = some_turned h
 makes_part truth (suc i) e h = absurd (none_some h)
-makes_part ref zero e h = some_is h
+makes_part ref zero e h = some_turned h
 makes_part ref (suc i) e h = absurd (none_some h)
-makes_part perm zero e h = some_is h
+makes_part perm zero e h = some_turned h
 makes_part perm (suc i) e h = absurd (none_some h)
-makes_part pair zero e h = some_is h
-makes_part pair (suc zero) e h = some_is h
+makes_part pair zero e h = some_turned h
+makes_part pair (suc zero) e h = some_turned h
 makes_part pair (suc (suc i)) e h = absurd (none_some h)
 
 positive : (c : Content) → 0 < nodes c
@@ -189,7 +185,7 @@ module _ (terms : List Term) (types : List BType) (values : List BValue) (typed 
 
   part_value : (l : Literal) (h : Head) (ps : List Literal) (v : BScalar) → IsConstructed terms l h ps → value_of values l ≡ Is v → (i : ℕ) (a : Literal) (x : BScalar) → slice_get ps i ≡ Some a →
       value_of values a ≡ Is x → x ≡ part_in v i
-  part_value l h ps v c e i a x there g = from_is (makes_part (made_by l h ps v c e) i (Is x) (value_there terms types values ps i a x there g))
+  part_value l h ps v c e i a x there g = is_inj (makes_part (made_by l h ps v c e) i (Is x) (value_there terms types values ps i a x there g))
 
   pub part_law : (e q : ℕ) (l r a b : Literal) (h g : Head) (ps qs : List Literal) → IsEquation terms types e l r → IsConstructed terms l h ps → IsConstructed terms r g qs →
       IsEquation terms types q a b → IsAmong ps qs a b → HoldsIn values (no e ∷ yes q ∷ [])
@@ -247,5 +243,5 @@ module _ (terms : List Term) (types : List BType) where
       by (other y z m k t) = holds_first values (no e) _ t
       by (same {v = v} y z t) =
           let a = b values typed model v z in
-          let one : a.value ≡ v = from_is (sym a.value_is ∙ ap (value_of values) s ∙ y) in
+          let one : a.value ≡ v = is_inj (sym a.value_is ∙ ap (value_of values) s ∙ y) in
           absurd (too_small (size a.value) (size v) (ap size one) a.less)

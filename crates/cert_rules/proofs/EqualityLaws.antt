@@ -4,6 +4,7 @@ use Rattle.std.proofs.Math.Seq.{take-suc}
 use Rattle.std.proofs.lemmas.List.{take_all}
 use Rattle.std.specs.Option.{option_map}
 use Rattle.std.proofs.lemmas.Option.{slice_get-map}
+use Rattle.boogie_meaning.proofs.PatternLaws.{is_inj}
 use Rattle.sparse.specs.Map.{get}
 use Rattle.vb_value.specs.Key.{key_cmp}
 use Rattle.boogie_tree.specs.Program.{BType}
@@ -17,7 +18,7 @@ use Rattle.cert_rules.specs.Heads.{applied, key_of, IsMade}
 use Rattle.cert_rules.specs.declared.heads.Head.{Head}
 use Rattle.cert_rules.proofs.ClauseLaws.{holds_longer, holds_last, holds_second}
 use Rattle.cert_rules.proofs.EquationLaws.{Compared, compared, same, other}
-use Rattle.cert_rules.proofs.HeadLaws.{from_is, made_value}
+use Rattle.cert_rules.proofs.HeadLaws.{made_value}
 use Rattle.cert_rules.proofs.PlaceLaws.{at_there, put_there, put_hit, put_miss, keys_same}
 use Rattle.cert_terms.proofs.LiteralLaws.{holds_first}
 
@@ -92,7 +93,7 @@ module _ (terms : List Term) (types : List BType) where
       by : HoldsIn values clause ⊎ (values_of values ps ≡ values_of values qs) → HoldsIn values (clause ++ yes e ∷ [])
       by (inl x) = holds_longer clause (yes e ∷ []) x
       by (inr x) =
-          holds_last clause (yes e) (true_if_same values e l r (compared terms types values typed model e l r q) (λ v w y z. from_is (sym y ∙ one x ∙ z)))
+          holds_last clause (yes e) (true_if_same values e l r (compared terms types values typed model e l r q) (λ v w y z. is_inj (sym y ∙ one x ∙ z)))
 
   -- an equation of what equations lead to
   pub path_law : (clause : List Literal) (e : ℕ) (l r : Literal) → IsEquation terms types e l r → Law clause (λ values. value_of values l ≡ value_of values r) → IsLaw terms types (clause ++ yes e ∷ [])
@@ -100,7 +101,7 @@ module _ (terms : List Term) (types : List BType) where
     where
       by : HoldsIn values clause ⊎ (value_of values l ≡ value_of values r) → HoldsIn values (clause ++ yes e ∷ [])
       by (inl x) = holds_longer clause (yes e ∷ []) x
-      by (inr x) = holds_last clause (yes e) (true_if_same values e l r (compared terms types values typed model e l r q) (λ v w y z. from_is (sym y ∙ x ∙ z)))
+      by (inr x) = holds_last clause (yes e) (true_if_same values e l r (compared terms types values typed model e l r q) (λ v w y z. is_inj (sym y ∙ x ∙ z)))
 
   -- one equation more of a path
   pub path_more : (clause : List Literal) (start at next : Literal) (q : ℕ) (l r : Literal) → IsEquation terms types q l r → ((l ≡ at) × (r ≡ next)) ⊎ ((r ≡ at) × (l ≡ next)) →
@@ -126,8 +127,8 @@ module _ (terms : List Term) (types : List BType) where
       one x v w y z =
           let a = at_there terms values model l i ls v p y in
           let b = put_there terms values model i m ks r a.map c a.map_is in
-          let s : b.key ≡ a.key = from_is (sym b.key_is ∙ ap key_of x ∙ a.key_is) in
-          sym a.value_is ∙ put_hit types values typed m ks r a.map b a.key s ∙ from_is (sym b.value_is ∙ z)
+          let s : b.key ≡ a.key = is_inj (sym b.key_is ∙ ap key_of x ∙ a.key_is) in
+          sym a.value_is ∙ put_hit types values typed m ks r a.map b a.key s ∙ is_inj (sym b.value_is ∙ z)
 
       by : HoldsIn values clause ⊎ (values_of values ks ≡ values_of values ls) → HoldsIn values (clause ++ yes e ∷ [])
       by (inl x) = holds_longer clause (yes e ∷ []) x
@@ -152,8 +153,8 @@ module _ (terms : List Term) (types : List BType) where
           let t = at_there terms values model l i ls y p f in
           let o = at_there terms values model r m ls z n j in
           let u = put_there terms values model i m ks x t.map c t.map_is in
-          let same_key : t.key ≡ o.key = from_is (sym t.key_is ∙ o.key_is) in
-          let same_map : u.map ≡ o.map = from_is (sym u.map_is ∙ o.map_is) in
+          let same_key : t.key ≡ o.key = is_inj (sym t.key_is ∙ o.key_is) in
+          let same_map : u.map ≡ o.map = is_inj (sym u.map_is ∙ o.map_is) in
           sym t.value_is ∙ put_miss types values typed m ks x t.map u t.key (λ e. d (keys_apart values ks ls t.key a b v w s h g (u.key_is ∙ ap Is e) t.key_is))
           ∙ (λ i. get key_cmp (same_map i) (same_key i)) ∙ o.value_is
 

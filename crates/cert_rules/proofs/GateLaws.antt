@@ -2,6 +2,7 @@
 use Rattle.std.proofs.Common.{◌≡◌, ◌⊎◌, inl, inr, ℕ, Bool as Truth, true, false, not, Some, List, [], ◌∷◌, Vec, slice_get, refl, sym, ap, subst, ◌∙◌}
 use Rattle.std.specs.Bool.{beq}
 use Rattle.std.specs.declared.alloc.Global.{Global}
+use Rattle.boogie_meaning.proofs.PatternLaws.{is_inj}
 use Rattle.sparse.specs.Map.{Map, get}
 use Rattle.vb_value.specs.Bound.{Unbounded}
 use Rattle.vb_value.specs.Key.{key_cmp}
@@ -25,7 +26,6 @@ use Rattle.cert_rules.specs.Reasons.{yes, value_of, IsEquation, IsNamed, IsPlace
 use Rattle.cert_rules.specs.Gates.{HasTruth, IsAnd, both, neither, IsEqual, equal, IsIf, yes as if_yes, no as if_no}
 use Rattle.cert_rules.proofs.ClauseLaws.{holds_second, holds_third}
 use Rattle.cert_rules.proofs.EquationLaws.{Compared, compared, same, other}
-use Rattle.cert_rules.proofs.HeadLaws.{from_is}
 use Rattle.cert_rules.proofs.PlaceLaws.{IsAt, at_there}
 
 -- ---- signs
@@ -182,10 +182,10 @@ module _ (terms : List Term) (types : List BType) (values : List BValue) (typed 
     where
       by : (p q : Truth) → HasTruth values a p → HasTruth values b q → Compared values n a b → IsEqual values (yes n) a b
       by p q h g (same {v = v} l r y) =
-          let s : p ≡ q = truth_is (from_is (sym h ∙ l ∙ sym r ∙ g)) in
+          let s : p ≡ q = truth_is (is_inj (sym h ∙ l ∙ sym r ∙ g)) in
           equal (y ∙ ap (λ x. Is (Bool x)) (sym (ap (λ x. beq p x) (sym s) ∙ beq_itself p))) h g
       by p q h g (other {v = v} {w = w} l r d y z) =
-          equal (y ∙ ap (λ x. Is (Bool x)) (sym (beq_apart p q (λ s. d (from_is (sym l ∙ h ∙ ap (λ x. Is (Bool x)) s ∙ sym g ∙ r)))))) h g
+          equal (y ∙ ap (λ x. Is (Bool x)) (sym (beq_apart p q (λ s. d (is_inj (sym l ∙ h ∙ ap (λ x. Is (Bool x)) s ∙ sym g ∙ r)))))) h g
 
 -- ---- choices
 
@@ -196,7 +196,7 @@ module _ (values : List BValue) (e : ℕ) (l x c : Literal) where
   case_left (other {v = v} p q d y z) h = by (h v p)
     where
       by : (value_of values x ≡ Is v) ⊎ (value_of values c ≡ Is (Bool false)) → HoldsIn values (turned c ∷ yes e ∷ [])
-      by (inl k) = absurd (d (from_is (sym k ∙ q)))
+      by (inl k) = absurd (d (is_inj (sym k ∙ q)))
       by (inr k) = holds_first values (turned c) _ (turned_false values c k)
 
   pub case_right : Compared values e l x → ((v : BScalar) → value_of values l ≡ Is v → (value_of values x ≡ Is v) ⊎ (value_of values c ≡ Is (Bool true))) → HoldsIn values (c ∷ yes e ∷ [])
@@ -204,7 +204,7 @@ module _ (values : List BValue) (e : ℕ) (l x c : Literal) where
   case_right (other {v = v} p q d y z) h = by (h v p)
     where
       by : (value_of values x ≡ Is v) ⊎ (value_of values c ≡ Is (Bool true)) → HoldsIn values (c ∷ yes e ∷ [])
-      by (inl k) = absurd (d (from_is (sym k ∙ q)))
+      by (inl k) = absurd (d (is_inj (sym k ∙ q)))
       by (inr k) = holds_first values c _ k
 
 module _ (terms : List Term) (types : List BType) (values : List BValue) (typed : IsEnvironment types values) (model : IsModel terms values) where
@@ -238,8 +238,8 @@ module _ (terms : List Term) (types : List BType) (values : List BValue) (typed 
   one_place : (m : ℕ) (ks : List Literal) (l r : Literal) (i : ℕ) (v : BScalar) (p : IsAt values i ks v) → IsPlace terms r m ks → the_map values m ≡ Is p.map → (w : BScalar) → value_of values r ≡ Is w → w ≡ v
   one_place m ks l r i v p q h w g =
       let o = at_there terms values model r m ks w q g in
-      let a : o.map ≡ p.map = from_is (sym o.map_is ∙ h) in
-      let b : o.key ≡ p.key = from_is (sym o.key_is ∙ p.key_is) in
+      let a : o.map ≡ p.map = is_inj (sym o.map_is ∙ h) in
+      let b : o.key ≡ p.key = is_inj (sym o.key_is ∙ p.key_is) in
       sym o.value_is ∙ ap (λ x. get key_cmp x o.key) a ∙ ap (get key_cmp p.map) b ∙ p.value_is
 
   there_or : (e : ℕ) (l r c : Literal) (m : ℕ) (ks : List Literal) (i : ℕ) (s : Truth) → IsEquation terms types e l r → IsPlace terms l i ks → IsPlace terms r m ks →

@@ -22,9 +22,6 @@ then_is (Is x) go y h = (x, refl, h)
 then_is Over go y h = absurd (cc)
 then_is Wrong go y h = absurd (cc)
 
-pub from_is : {X : Type 0} {x y : X} → Is x ≡ Is y → x ≡ y
-from_is h = cc
-
 pub is_same : {X : Type 0} {e : End X} {x y : X} → e ≡ Is x → e ≡ Is y → x ≡ y
 is_same h g = let e = sym h ∙ g in cc
 

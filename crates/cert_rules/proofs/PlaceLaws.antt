@@ -1,5 +1,6 @@
 -- Maps at keys, maps but for one value, and choices.
 use Rattle.std.proofs.Common.{◌≡◌, ◌≢◌, ℕ, zero, suc, Option, Some, None, List, [], ◌∷◌, slice_get, refl, sym, ap, subst, ◌∙◌}
+use Rattle.boogie_meaning.proofs.PatternLaws.{is_inj}
 use Rattle.sparse.specs.Map.{Map, get, set, IsReduced}
 use Rattle.sparse.proofs.MapLaws.{get-set_same, get-set_other}
 use Rattle.vb_value.specs.Key.{key_cmp}
@@ -22,7 +23,7 @@ use Rattle.cert_terms.specs.declared.terms.Term.TheVariants as term
 use Rattle.cert_rules.specs.Reasons.{value_of, values_of, IsPlace, IsChange}
 use Rattle.cert_rules.specs.Heads.{key_of, IsMade}
 use Rattle.cert_rules.specs.declared.heads.Head.TheVariants as head
-use Rattle.cert_rules.proofs.HeadLaws.{then_is, from_is, is_same, key_value, made_value}
+use Rattle.cert_rules.proofs.HeadLaws.{then_is, is_same, key_value, made_value}
 
 -- ---- keys
 
@@ -33,9 +34,9 @@ scalar_of (part.Ref r) = Ref r
 
 -- a part of a key tells its value
 part_from : (v : BScalar) (p : KeyPart) → part_of v ≡ Is p → v ≡ scalar_of p
-part_from (Int n) p h = ap scalar_of (from_is h)
-part_from (Bool b) p h = ap scalar_of (from_is h)
-part_from (Ref r) p h = ap scalar_of (from_is h)
+part_from (Int n) p h = ap scalar_of (is_inj h)
+part_from (Bool b) p h = ap scalar_of (is_inj h)
+part_from (Ref r) p h = ap scalar_of (is_inj h)
 part_from (Real q) p h = absurd (cc)
 part_from (Snap c) p h = absurd (cc)
 
@@ -53,7 +54,7 @@ key_more e es k h =
     let v = then_is e (λ v. then_with (part_of v) (λ p. then_with (key_of es) (λ k. Is (p ∷ k)))) k h in
     let p = then_is (part_of v.0) (λ p. then_with (key_of es) (λ k. Is (p ∷ k))) k v.2 in
     let r = then_is (key_of es) (λ k. Is (p.0 ∷ k)) k p.2 in
-    record { value = v.0; first = p.0; rest = r.0; value_is = v.1; first_is = p.1; rest_is = r.1; key_is = from_is r.2 }
+    record { value = v.0; first = p.0; rest = r.0; value_is = v.1; first_is = p.1; rest_is = r.1; key_is = is_inj r.2 }
 
 -- where the keys are one, so are the values at a place
 pub keys_same : (es fs : List (End BScalar)) (k : Key) → key_of es ≡ Is k → key_of fs ≡ Is k → (i : ℕ) (v w : BScalar) → slice_get es i ≡ Some (Is v) → slice_get fs i ≡ Some (Is w) → v ≡ w
@@ -130,7 +131,7 @@ module _ (terms : List Term) (values : List BValue) (model : IsModel terms value
       let e = sym (made_value terms values model l (head.At m) ks (place_made l m ks p)) ∙ h in
       let k = then_is (key_of (values_of values ks)) (λ k. then_with (the_map values m) (λ n. Is (get key_cmp n k))) v e in
       let n = then_is (the_map values m) (λ n. Is (get key_cmp n k.0)) v k.2 in
-      record { map = n.0; key = k.0; map_is = n.1; key_is = k.1; value_is = from_is n.2 }
+      record { map = n.0; key = k.0; map_is = n.1; key_is = k.1; value_is = is_inj n.2 }
 
   pub put_there : (n m : ℕ) (ks : List Literal) (e : Literal) (x : Map Key BScalar) → IsChange terms n m ks e → the_map values n ≡ Is x → IsPut values m ks e x
   put_there n m ks e x c h =

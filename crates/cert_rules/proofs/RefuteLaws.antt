@@ -1,12 +1,13 @@
 -- What follows where the literals of a clause are false.
-use Rattle.std.proofs.Common.{◌≡◌, ◌⊎◌, inl, inr, ℕ, ◌+◌, ◌<◌, Bool as Truth, true, false, not, All, Option, Some, None, List, [], ◌∷◌, ◌++◌, Vec, slice_get, get_or, take, length, nat_eq, ◌&&◌, add-one, refl, sym, subst, ◌∙◌}
-use Rattle.std.proofs.lemmas.List.Elements.{All-get_or, All-nil, All-cons, All-append}
+use Rattle.std.proofs.Common.{◌≡◌, ◌⊎◌, inl, inr, ℕ, ◌+◌, ◌<◌, Bool as Truth, true, false, not, All, Option, Some, None, List, [], ◌∷◌, ◌++◌, Vec, get_or, take, length, nat_eq, ◌&&◌, add-one, refl, sym, subst, ◌∙◌}
+use Rattle.std.proofs.lemmas.List.Elements.{All-nil, All-cons, All-append}
 use Rattle.std.proofs.lemmas.Bool.Decides.{Decides-eqb}
 use Rattle.std.proofs.Math.Seq.{take-suc}
 use Rattle.std.specs.Bool.{beq}
-use Rattle.std.proofs.lemmas.Option.{slice_get_within, get_or_from_slice_get}
 use Rattle.std.specs.BTreeMap.{BTreeMap}
 use Rattle.std.specs.declared.alloc.Global.{Global}
+use Rattle.lemmas.proofs.Tests.{and_parts}
+use Rattle.lemmas.proofs.Lists.{all_at}
 use Rattle.boogie_tree.specs.Program.{BType}
 use Rattle.boogie_tree.specs.Value.{BValue, BScalar, Bool}
 use Rattle.boogie_meaning.specs.Ends.{End, Is, then_with}
@@ -30,9 +31,6 @@ module _ (values : List BValue) (known new : BTreeMap ℕ Truth) (l : Literal) (
       by (inl k) = a m k
       by (inr e) = subst (λ x. IsTrueIn values (turned x)) (sym e) h
 
-pub All-there : {X : Type 0} (P : X → Type 0) (xs : List X) (i : ℕ) (x : X) → All P xs → slice_get xs i ≡ Some x → P x
-All-there P xs i x h e = subst P (get_or_from_slice_get xs i x x e) (All-get_or P xs i x (slice_get_within xs i x e) h)
-
 signed : (e : End BScalar) → e ≡ Is (Bool true) → then_with e negation ≡ Is (Bool true) → ⊥
 signed e h g = let a : then_with e negation ≡ Is (Bool false) = rw h refl in let b = sym a ∙ g in absurd (cc)
 
@@ -47,7 +45,7 @@ not_both values l h g = both_signs values l.name l.negated h g
 -- the one literal of a step that is left is true
 pub left_true : (known : BTreeMap ℕ Truth) (step : List Literal) (left : Option Literal) (values : List BValue) → All (λ l. IsNoted known l ⊎ (left ≡ Some l)) step → AreFalse known values →
     HoldsIn values step → (l : Literal) × (left ≡ Some l) × IsTrueIn values l
-left_true known step left values h a s = by (All-there (λ l. IsNoted known l ⊎ (left ≡ Some l)) step s.place s.literal h s.is_there)
+left_true known step left values h a s = by (all_at (λ l. IsNoted known l ⊎ (left ≡ Some l)) step s.place s.literal h s.is_there)
   where
     by : IsNoted known s.literal ⊎ (left ≡ Some s.literal) → (l : Literal) × (left ≡ Some l) × IsTrueIn values l
     by (inl n) = absurd (not_both values s.literal s.is_true (a s.literal n))
@@ -55,7 +53,7 @@ left_true known step left values h a s = by (All-there (λ l. IsNoted known l �
 
 -- a step of these clauses holds where they do
 step_holds : (values : List BValue) (clauses : List (Vec Literal Global)) (n : ℕ) (step : List Literal) → IsStep clauses n step → All (λ (c : Vec Literal Global). HoldsIn values c.items) clauses → HoldsIn values step
-step_holds values clauses n step s h = subst (HoldsIn values) s.items_are (All-there (λ (c : Vec Literal Global). HoldsIn values c.items) clauses n s.step h s.is_there)
+step_holds values clauses n step s h = subst (HoldsIn values) s.items_are (all_at (λ (c : Vec Literal Global). HoldsIn values c.items) clauses n s.step h s.is_there)
 
 module _ (types : List BType) where
   module _ (clauses : List (Vec Literal Global)) where
@@ -119,22 +117,18 @@ remaining_more known step i left new lt a c h =
         none e = absurd (cc)
     by (inr n) (inr e) = inr (n ∙ e)
 
-and_both : (p q : Truth) → (p && q) ≡ true → (p ≡ true) × (q ≡ true)
-and_both true q h = (refl, h)
-and_both false q h = absurd (cc)
-
-signs_same : (s t : Truth) → beq s t ≡ true → s ≡ t
-signs_same true true h = refl
-signs_same true false h = absurd (cc)
-signs_same false true h = absurd (cc)
-signs_same false false h = refl
+beq_is : (p q : Truth) → beq p q ≡ true → p ≡ q
+beq_is true true h = refl
+beq_is true false h = absurd (cc)
+beq_is false true h = absurd (cc)
+beq_is false false h = refl
 
 -- what the test of literals tells
 pub literals_same : (l m : Literal) → (nat_eq l.name m.name && beq l.negated m.negated) ≡ true → l ≡ m
 literals_same l m h =
-    let b = and_both (nat_eq l.name m.name) (beq l.negated m.negated) h in
+    let b = and_parts (nat_eq l.name m.name) (beq l.negated m.negated) h in
     let n = (Decides-eqb l.name m.name).0 b.0 in
-    let s = signs_same l.negated m.negated b.1 in
+    let s = beq_is l.negated m.negated b.1 in
     λ i. record { name = n i; negated = s i }
 
 pub not_apart : (p q : Truth) → p ≡ not q → p ≡ false → q ≡ true

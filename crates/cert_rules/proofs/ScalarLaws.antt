@@ -5,6 +5,7 @@ use Rattle.std.specs.Ordering.{int_cmp, int_eq, is_le}
 use Rattle.std.proofs.lemmas.Int.{ints}
 use Rattle.std.proofs.lemmas.Bool.Decides.{Decides-int_eq}
 use Rattle.std.proofs.Math.IntN.{*ℤ_comm}
+use Rattle.lemmas.proofs.Numbers.{apart_from_zero}
 use Rattle.vb_value.specs.Bound.{Unbounded}
 use Rattle.vb_value.specs.Fraction.{Fraction, none, quotient}
 use Rattle.vb_value.specs.Equality.{Decides-fraction_eq}
@@ -140,13 +141,6 @@ split_law (reals_are a b) in_a in_b e l m hp hq = sym (same_truth e) ∙ (Decide
 -- a test for 0 that fails
 nonzero : (b : ℤ) → int_eq b (pos 0) ≡ false → b ≢ pos 0
 nonzero b e z = let f : true ≡ false = sym ((Decides-int_eq b (pos 0)).1 z) ∙ e in cc
-
-apart_from_zero : (b : ℤ) → b ≢ pos 0 → int_eq b (pos 0) ≡ false
-apart_from_zero b ne = by_test (int_eq b (pos 0)) refl
-  where
-    by_test : (s : Truth) → int_eq b (pos 0) ≡ s → s ≡ false
-    by_test true t = absurd (ne ((Decides-int_eq b (pos 0)).0 t))
-    by_test false t = refl
 
 unless_zero : (f : ℤ → ℤ → ℤ) (a b : ℤ) → int_eq b (pos 0) ≡ false → (if int_eq b (pos 0) then pos 0 else f a b) ≡ f a b
 unless_zero f a b e = ap (λ s. if s then pos 0 else f a b) e

@@ -3,6 +3,7 @@ use Rattle.std.proofs.Common.{◌≡◌, ◌≢◌, ℕ, ◌+◌, ◌*◌, ◌/�
 use Rattle.std.proofs.lemmas.Int.{ints}
 use Rattle.std.proofs.Math.Nat.{mul-le-mul_right}
 use Rattle.std.specs.Ordering.{is_le}
+use Rattle.boogie_meaning.proofs.TypedLaws.{as_int}
 use borrow.Author.Differences.{up, down}
 use Rattle.vb_value.specs.Bound.{Unbounded}
 use Rattle.vb_value.specs.Fraction.{Fraction, whole, none, is_none, product, quotient, order}
@@ -26,7 +27,7 @@ use Rattle.cert_sums.specs.Rows.{number_type, named, times, two, three, equation
 use Rattle.cert_sums.proofs.NumberLaws.{number-equal, number-apart, number-compared}
 use Rattle.cert_sums.proofs.PartLaws.{number_reduced, parts_are}
 use Rattle.cert_sums.proofs.RatioLaws.{parts-sum, parts-difference, parts-product, parts-quotient, parts-neg, parts-whole, fractions_same, parts_at_most, parts_above, above_from}
-use Rattle.cert_sums.proofs.ValueLaws.{from_two, not_true, fits_int, numeric_fits, numeric_is, number_is, number_in-sum, number_in-difference, number_in-product, number_in-quotient, number_in-neg, number_in-to_real}
+use Rattle.cert_sums.proofs.ValueLaws.{from_two, not_true, numeric_fits, numeric_is, number_is, number_in-sum, number_in-difference, number_in-product, number_in-quotient, number_in-neg, number_in-to_real}
 
 -- ---- differences that stand to 0
 
@@ -92,7 +93,7 @@ module _ (terms : List Term) (types : List BType) (values : List BValue) (typed 
       (parts values b +ℤ pos (common values)) ≤ℤ parts values a
   int_above n a b h t number =
       let m = compared_is n a b false h t in
-      let i = fits_int m.0 (numeric_fits types values typed a true m.0 number m.2) in
+      let i = as_int m.0 (numeric_fits types values typed a true m.0 number m.2) in
       let both = int_compared m.1 i.0 (subst (λ v. compared Unbounded is_le v m.1 ≡ Is (Bool false)) i.1 m.4) in
       let first : parts values a ≡ i.0 *ℤ pos (common values) = whole_parts a i.0 (number_is values a m.0 m.2 ∙ ap number_of i.1) in
       let second : parts values b ≡ both.0 *ℤ pos (common values) = whole_parts b both.0 (number_is values b m.1 m.3 ∙ ap number_of both.1) in

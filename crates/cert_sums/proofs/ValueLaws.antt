@@ -50,13 +50,6 @@ not_true Wrong h = absurd (cc)
 
 -- ---- numbers of names
 
-pub fits_int : (v : BScalar) → FitsScalar base.Int v → (n : ℤ) × (v ≡ Int n)
-fits_int (Int n) h = (n, refl)
-fits_int (Bool x) h = let e : base.Bool ≡ base.Int = h.typed in absurd (cc)
-fits_int (Ref x) h = let e : base.Ref ≡ base.Int = h.typed in absurd (cc)
-fits_int (Real x) h = let e : base.Real ≡ base.Int = h.typed in absurd (cc)
-fits_int (Snap x) h = let e : base.Snap ≡ base.Int = h.typed in absurd (cc)
-
 fits_number : (p : Truth) (v : BScalar) → FitsScalar (number_type p) v → IsNumber v
 fits_number p (Int n) h = int
 fits_number p (Real n) h = real

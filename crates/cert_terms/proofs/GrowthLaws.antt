@@ -1,12 +1,13 @@
 -- Typed values of the conditions' names lead to values of all names of a table at which each is what its term says, and a law stays
 -- a law where terms are added.
-use Rattle.std.proofs.Common.{◌≡◌, ◌⊎◌, inl, inr, ◌+◌, ℕ, zero, suc, true, Option, Some, None, List, [], ◌∷◌, ◌++◌, slice_get, take, length, append_assoc, append-nil, refl, sym, ap, subst, ◌∙◌, arith}
+use Rattle.std.proofs.Common.{◌≡◌, inl, inr, ◌+◌, ℕ, zero, suc, true, Option, Some, None, List, [], ◌∷◌, ◌++◌, slice_get, take, length, append_assoc, append-nil, refl, sym, ap, subst, ◌∙◌, arith}
+use Rattle.lemmas.proofs.Tests.{and_parts}
+use Rattle.lemmas.proofs.Lists.{there_split as split}
 use Rattle.boogie_tree.specs.Program.{BType}
 use Rattle.boogie_tree.specs.Value.{BValue, Bool}
 use Rattle.boogie_tree.specs.Values.{IsEnvironment, IsOfType}
 use Rattle.boogie_meaning.specs.Ends.{Is, found}
 use Rattle.boogie_meaning.specs.Programs.{default_value}
-use Rattle.boogie_meaning.proofs.TypeLaws.{and_both}
 use Rattle.boogie_meaning.proofs.ValueLaws.{found_typed, default_typed}
 use Rattle.boogie_formula.specs.Formula.{FExpr}
 use Rattle.boogie_formula.specs.Value.{whole}
@@ -104,7 +105,7 @@ extends before (t ∷ ts) (u ∷ us) h values typed = behind (value_of before va
     (λ v f. extends (before ++ u ∷ []) ts us p.1 (values ++ v ∷ []) (env_more before (u ∷ []) values (v ∷ []) typed (f, tt)))
   where
     p : (is_of_type (meaning t) before u ≡ true) × (are_of_types (before ++ u ∷ []) ts us ≡ true)
-    p = and_both (is_of_type (meaning t) before u) (are_of_types (before ++ u ∷ []) ts us) h
+    p = and_parts (is_of_type (meaning t) before u) (are_of_types (before ++ u ∷ []) ts us) h
 
     behind : (v : BValue) × IsOfType v u × ((e : FExpr) → meaning t ≡ Some e → whole e values ≡ Is v) → ((v : BValue) → IsOfType v u → Extends (values ++ v ∷ []) ts us) →
         Extends values (t ∷ ts) (u ∷ us)
@@ -118,11 +119,6 @@ extends before (t ∷ ts) (u ∷ us) h values typed = behind (value_of before va
             let same : t ≡ x = cc in
             meaning_kept values (values ++ w.0 ∷ rest.added) (kept_more values (w.0 ∷ rest.added)) x e m w.0 (w.2 e (ap meaning same ∙ m))
         at_place (suc n) x e l m = ap (whole e) (sym (one_more values rest.added w.0)) ∙ rest.agrees n x e l m
-
-split : {X : Type 0} (xs ys : List X) (n : ℕ) (x : X) → slice_get (xs ++ ys) n ≡ Some x → (slice_get xs n ≡ Some x) ⊎ ((j : ℕ) × (n ≡ length xs + j) × (slice_get ys j ≡ Some x))
-split [] ys n x h = inr (n, omega (arith), h)
-split (y ∷ xs) ys zero x h = inl h
-split (y ∷ xs) ys (suc n) x h = elim (split xs ys n x h) [ inl a ↦ inl a | inr a ↦ inr (a.0, (let e = a.1 in omega (arith, e)), a.2) ]
 
 givens_given : (us : List BType) (n : ℕ) (t : Term) (e : FExpr) → slice_get (givens us) n ≡ Some t → meaning t ≡ Some e → ⊥
 givens_given [] n t e l m = absurd (cc)

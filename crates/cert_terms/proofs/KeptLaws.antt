@@ -24,7 +24,7 @@ use Rattle.cert_terms.specs.declared.terms.Literal.{Literal}
 use Rattle.cert_terms.specs.declared.terms.Term.{Term}
 use Rattle.cert_terms.specs.declared.terms.Term.TheVariants as term
 use Rattle.cert_terms.specs.Terms.{operand, meaning}
-use Rattle.cert_terms.proofs.ValueLaws.{from_then}
+use Rattle.boogie_meaning.proofs.TypeLaws.{from_then}
 use Rattle.cert_terms.proofs.MeaningLaws.{at, of, key_at, key_more, told, whole_told}
 
 -- what is there stays there

@@ -1,19 +1,19 @@
 -- The types of keys, one after the other, and of terms by those of their parts.
-use Rattle.std.proofs.Common.{◌≡◌, ℕ, ◌+◌, ◌-◌, ◌<◌, ◌≤◌, add-one, get_or, drop-cons, drop_of_length-le, Bool as Truth, true, false, ◌&&◌, Option, Some, None, List, [], ◌∷◌, drop, length, length-drop, nat_eq, slice_get, if◌then◌else◌, ◌++◌, map, refl, sym, ap, subst, ◌∙◌, arith}
+use Rattle.std.proofs.Common.{◌≡◌, ℕ, ◌+◌, ◌<◌, ◌≤◌, add-one, get_or, drop-cons, drop_of_length-le, Bool as Truth, true, false, ◌&&◌, Option, Some, None, List, [], ◌∷◌, drop, length, slice_get, if◌then◌else◌, ◌++◌, map, refl, sym, ap, subst, ◌∙◌}
 use Rattle.std.proofs.lemmas.List.{map-append}
-use Rattle.std.proofs.lemmas.Bool.{false_from_ne_true}
-use Rattle.std.proofs.lemmas.Bool.Decides.{Decides-eqb}
+use Rattle.lemmas.proofs.Options.{some_turned}
+use Rattle.lemmas.proofs.Tests.{and_parts}
 use Rattle.boogie_tree.specs.Program.{BType}
 use Rattle.boogie_tree.specs.declared.programs.BType as declared
-use Rattle.boogie_tree.specs.Values.{same_base, same_bases, same_type, is_key, plain_type}
+use Rattle.boogie_tree.specs.Values.{same_base, same_type, is_key, plain_type}
 use Rattle.boogie_tree.specs.declared.exprs.BBase.{BBase}
 use Rattle.boogie_tree.specs.declared.exprs.BBase.TheVariants as base
 use Rattle.boogie_meaning.specs.Types.{then_some, is_base}
-use Rattle.boogie_meaning.proofs.TypeLaws.{and_both}
 use Rattle.boogie_formula.specs.Formula as f
 use Rattle.boogie_formula.specs.Formula.{FExpr, FExprs}
 use Rattle.boogie_formula.specs.Types.{fbase, fbases, whole_type}
-use Rattle.cert_terms.specs.Kinds.{are_bases, is_index, indexed_by, plain_kind, HasKind}
+use Rattle.boogie_types.specs.Typed.{are_bases, is_index, indexed_by}
+use Rattle.cert_terms.specs.Kinds.{plain_kind, HasKind}
 use Rattle.cert_terms.specs.Terms.{operand, operands, meaning}
 use Rattle.cert_terms.specs.declared.terms.Literal.{Literal}
 use Rattle.cert_terms.specs.declared.terms.Term.{Term}
@@ -23,17 +23,9 @@ use Rattle.cert_terms.specs.declared.terms.Named.{Named}
 use Rattle.cert_terms.specs.Tables.{is_of_type, IsTable, Adds, givens}
 use Rattle.cert_terms.specs.View.{terms_in, types_in}
 use Rattle.cert_terms.proofs.TableLaws.{is_type_itself, typed_push}
-use Rattle.cert_terms.proofs.MeaningLaws.{plain_operand, plain_operands, from_meaning}
+use Rattle.cert_terms.proofs.MeaningLaws.{plain_operand, plain_operands}
 
 -- ---- keys
-
-ended-step : (n : ℕ) (ws d : List BBase) → n ≤ length ws → length d ≡ length ws - n → same_bases [] d ≡ nat_eq n (length ws)
-ended-step n ws [] h e = sym ((Decides-eqb n (length ws)).1 (omega (arith, h, e)))
-ended-step n ws (w ∷ rest) h e = sym (false_from_ne_true (nat_eq n (length ws)) (λ t. let s = (Decides-eqb n (length ws)).0 t in absurd (omega (arith, h, e, s))))
-
--- no key is left just where no type is
-pub ended : (n : ℕ) (ws : List BBase) → n ≤ length ws → same_bases [] (drop n ws) ≡ nat_eq n (length ws)
-ended n ws h = ended-step n ws (drop n ws) h (length-drop n ws)
 
 pub fbases_more : (ls : List BType) (k : Literal) (ks : List Literal) →
     fbases ls (operands (k ∷ ks)) ≡ then_some (fbase ls (operand k)) (λ u. then_some (fbases ls (operands ks)) (λ us. if is_key u then Some (u ∷ us) else None))
@@ -44,7 +36,7 @@ first_fits : (o : Option BBase) (rest : Option (List BBase)) (w : BBase) (ws : L
     are_bases (then_some o (λ u. then_some rest (λ us. if is_key u then Some (u ∷ us) else None))) (w ∷ ws) ≡ are_bases rest ws
 first_fits None rest w ws h = absurd (cc)
 first_fits (Some u) None w ws h = refl
-first_fits (Some u) (Some us) w ws h = let p = and_both (same_base u w) (is_key u) h in rw (p.1) (rw (p.0) refl)
+first_fits (Some u) (Some us) w ws h = let p = and_parts (same_base u w) (is_key u) h in rw (p.1) (rw (p.0) refl)
 
 pub key_fits : (ls : List BType) (k : Literal) (ks : List Literal) (w : BBase) (ws : List BBase) → is_index (fbase ls (operand k)) w ≡ true →
     are_bases (fbases ls (operands (k ∷ ks))) (w ∷ ws) ≡ are_bases (fbases ls (operands ks)) ws
@@ -113,21 +105,21 @@ plain_whole o u h = rw h refl
 pub kind_is : (ls : List BType) (x : Term) (u : BBase) (e : FExpr) → plain_kind ls x ≡ Some u → meaning x ≡ Some e → whole_type ls e ≡ Some (plain_type u)
 kind_is ls term.Given u e h m = absurd (cc)
 kind_is ls (term.Same n) u e h m = absurd (cc)
-kind_is ls (term.Bool p) u e h m = rw (from_meaning m) (plain_whole (plain_kind ls (term.Bool p)) u h)
-kind_is ls term.Null u e h m = rw (from_meaning m) (plain_whole (plain_kind ls term.Null) u h)
-kind_is ls term.Unit u e h m = rw (from_meaning m) (plain_whole (plain_kind ls term.Unit) u h)
-kind_is ls (term.Int n) u e h m = rw (from_meaning m) (plain_whole (plain_kind ls (term.Int n)) u h)
-kind_is ls (term.Real n) u e h m = rw (from_meaning m) (plain_whole (plain_kind ls (term.Real n)) u h)
-kind_is ls (term.Neg a) u e h m = rw (from_meaning m) (rw (plain_operand a) (plain_whole _ u (rw (plain_operand a) at h)))
-kind_is ls (term.Bin o a b) u e h m = rw (from_meaning m) (rw (plain_operand a, plain_operand b) (plain_whole _ u (rw (plain_operand a, plain_operand b) at h)))
+kind_is ls (term.Bool p) u e h m = rw (some_turned m) (plain_whole (plain_kind ls (term.Bool p)) u h)
+kind_is ls term.Null u e h m = rw (some_turned m) (plain_whole (plain_kind ls term.Null) u h)
+kind_is ls term.Unit u e h m = rw (some_turned m) (plain_whole (plain_kind ls term.Unit) u h)
+kind_is ls (term.Int n) u e h m = rw (some_turned m) (plain_whole (plain_kind ls (term.Int n)) u h)
+kind_is ls (term.Real n) u e h m = rw (some_turned m) (plain_whole (plain_kind ls (term.Real n)) u h)
+kind_is ls (term.Neg a) u e h m = rw (some_turned m) (rw (plain_operand a) (plain_whole _ u (rw (plain_operand a) at h)))
+kind_is ls (term.Bin o a b) u e h m = rw (some_turned m) (rw (plain_operand a, plain_operand b) (plain_whole _ u (rw (plain_operand a, plain_operand b) at h)))
 kind_is ls (term.If c a b) u e h m = absurd (cc)
-kind_is ls (term.ToReal a) u e h m = rw (from_meaning m) (rw (plain_operand a) (plain_whole _ u (rw (plain_operand a) at h)))
-kind_is ls (term.SInt a) u e h m = rw (from_meaning m) (rw (plain_operand a) (plain_whole _ u (rw (plain_operand a) at h)))
-kind_is ls (term.SBool a) u e h m = rw (from_meaning m) (rw (plain_operand a) (plain_whole _ u (rw (plain_operand a) at h)))
-kind_is ls (term.SRef a) u e h m = rw (from_meaning m) (rw (plain_operand a) (plain_whole _ u (rw (plain_operand a) at h)))
-kind_is ls (term.SPerm a) u e h m = rw (from_meaning m) (rw (plain_operand a) (plain_whole _ u (rw (plain_operand a) at h)))
-kind_is ls (term.Pair a b) u e h m = rw (from_meaning m) (rw (plain_operand a, plain_operand b) (plain_whole _ u (rw (plain_operand a, plain_operand b) at h)))
-kind_is ls (term.At n ks) u e h m = rw (from_meaning m) (rw (plain_operands ks.items) (plain_whole _ u (rw (plain_operands ks.items) at h)))
+kind_is ls (term.ToReal a) u e h m = rw (some_turned m) (rw (plain_operand a) (plain_whole _ u (rw (plain_operand a) at h)))
+kind_is ls (term.SInt a) u e h m = rw (some_turned m) (rw (plain_operand a) (plain_whole _ u (rw (plain_operand a) at h)))
+kind_is ls (term.SBool a) u e h m = rw (some_turned m) (rw (plain_operand a) (plain_whole _ u (rw (plain_operand a) at h)))
+kind_is ls (term.SRef a) u e h m = rw (some_turned m) (rw (plain_operand a) (plain_whole _ u (rw (plain_operand a) at h)))
+kind_is ls (term.SPerm a) u e h m = rw (some_turned m) (rw (plain_operand a) (plain_whole _ u (rw (plain_operand a) at h)))
+kind_is ls (term.Pair a b) u e h m = rw (some_turned m) (rw (plain_operand a, plain_operand b) (plain_whole _ u (rw (plain_operand a, plain_operand b) at h)))
+kind_is ls (term.At n ks) u e h m = rw (some_turned m) (rw (plain_operands ks.items) (plain_whole _ u (rw (plain_operands ks.items) at h)))
 kind_is ls (term.Put n ks a) u e h m = absurd (cc)
 
 -- ---- terms that may be maps

@@ -1,6 +1,7 @@
 -- Literals that are truth values, and clauses of them.
 use Rattle.std.proofs.Common.{◌≡◌, ◌⊎◌, inl, inr, ℕ, suc, Bool as Truth, true, false, not, All, Option, Some, None, List, [], ◌∷◌, slice_get, refl, sym, ap, ◌∙◌}
 use Rattle.std.proofs.lemmas.List.Elements.{All-nil, All-cons, All-head, All-tail}
+use Rattle.lemmas.proofs.Tests.{not_twice}
 use Rattle.boogie_tree.specs.Expr as t
 use Rattle.boogie_tree.specs.Program.{BType}
 use Rattle.boogie_tree.specs.Value.{BValue, BScalar, One, Many, Bool}
@@ -54,10 +55,6 @@ name_truth ls l h = name_truth_of ls l.name l.negated h
 
 pub turned_truth : (ls : List BType) (l : Literal) → IsTruth ls l → IsTruth ls (turned l)
 turned_truth ls l h = name_truth ls (turned l) (truth_name ls l h)
-
-not_twice : (s : Truth) → not (not s) ≡ s
-not_twice true = refl
-not_twice false = refl
 
 pub turned_twice : (l : Literal) → turned (turned l) ≡ l
 turned_twice l = let e = not_twice l.negated in λ i. record { name = l.name; negated = e i }

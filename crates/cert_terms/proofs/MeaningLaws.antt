@@ -1,5 +1,6 @@
 -- What each form of term says of the value of its name, by the values of its parts.
 use Rattle.std.proofs.Common.{◌≡◌, ℕ, ℤ, Bool as Truth, true, false, Option, Some, None, List, [], ◌∷◌, slice_get, if◌then◌else◌, refl, sym, ap, ◌∙◌}
+use Rattle.lemmas.proofs.Options.{some_turned}
 use Rattle.sparse.specs.Map.{Map, get, set}
 use Rattle.vb_value.specs.Bound.{Unbounded}
 use Rattle.vb_value.specs.Content as content
@@ -116,33 +117,26 @@ told (term.At m ks) values = one_of (got_at (the_map values m) (key_at ks.items 
 told (term.Put m ks a) values = then_with (found (slice_get values m)) (λ w. then_with (map_in w) (λ n. then_with (key_at ks.items values) (λ k. then_with (at a values) (λ v.
     Is (Many (set key_cmp same_scalar n k v))))))
 
-pub from_meaning : {X : Type 0} {e g : X} → Some e ≡ Some g → g ≡ e
-from_meaning {e = e} h = sym (ap (λ o. or_else o e) h)
-  where
-    or_else : {X : Type 0} → Option X → X → X
-    or_else (Some z) d = z
-    or_else None d = d
-
 -- the value of what a term means
 pub whole_told : (x : Term) (e : FExpr) (values : List BValue) → meaning x ≡ Some e → whole e values ≡ told x values
 whole_told term.Given e values h = absurd (cc)
-whole_told (term.Same n) e values h = rw (from_meaning h) refl
-whole_told (term.Bool p) e values h = rw (from_meaning h) refl
-whole_told term.Null e values h = rw (from_meaning h) refl
-whole_told term.Unit e values h = rw (from_meaning h) refl
-whole_told (term.Int n) e values h = rw (from_meaning h) refl
-whole_told (term.Real n) e values h = rw (from_meaning h) refl
-whole_told (term.Neg a) e values h = rw (from_meaning h) (rw (plain_operand a) refl)
-whole_told (term.Bin o a b) e values h = rw (from_meaning h) (rw (plain_operand a, plain_operand b) refl)
-whole_told (term.If c a b) e values h = rw (from_meaning h) refl
-whole_told (term.ToReal a) e values h = rw (from_meaning h) (rw (plain_operand a) refl)
-whole_told (term.SInt a) e values h = rw (from_meaning h) (rw (plain_operand a) refl)
-whole_told (term.SBool a) e values h = rw (from_meaning h) (rw (plain_operand a) refl)
-whole_told (term.SRef a) e values h = rw (from_meaning h) (rw (plain_operand a) refl)
-whole_told (term.SPerm a) e values h = rw (from_meaning h) (rw (plain_operand a) refl)
-whole_told (term.Pair a b) e values h = rw (from_meaning h) (rw (plain_operand a, plain_operand b) refl)
-whole_told (term.At m ks) e values h = rw (from_meaning h) (rw (plain_operands ks.items) refl)
-whole_told (term.Put m ks a) e values h = rw (from_meaning h) refl
+whole_told (term.Same n) e values h = rw (some_turned h) refl
+whole_told (term.Bool p) e values h = rw (some_turned h) refl
+whole_told term.Null e values h = rw (some_turned h) refl
+whole_told term.Unit e values h = rw (some_turned h) refl
+whole_told (term.Int n) e values h = rw (some_turned h) refl
+whole_told (term.Real n) e values h = rw (some_turned h) refl
+whole_told (term.Neg a) e values h = rw (some_turned h) (rw (plain_operand a) refl)
+whole_told (term.Bin o a b) e values h = rw (some_turned h) (rw (plain_operand a, plain_operand b) refl)
+whole_told (term.If c a b) e values h = rw (some_turned h) refl
+whole_told (term.ToReal a) e values h = rw (some_turned h) (rw (plain_operand a) refl)
+whole_told (term.SInt a) e values h = rw (some_turned h) (rw (plain_operand a) refl)
+whole_told (term.SBool a) e values h = rw (some_turned h) (rw (plain_operand a) refl)
+whole_told (term.SRef a) e values h = rw (some_turned h) (rw (plain_operand a) refl)
+whole_told (term.SPerm a) e values h = rw (some_turned h) (rw (plain_operand a) refl)
+whole_told (term.Pair a b) e values h = rw (some_turned h) (rw (plain_operand a, plain_operand b) refl)
+whole_told (term.At m ks) e values h = rw (some_turned h) (rw (plain_operands ks.items) refl)
+whole_told (term.Put m ks a) e values h = rw (some_turned h) refl
 
 -- ---- in a model
 
@@ -152,7 +146,7 @@ found_same (Some x) None h = absurd (cc)
 found_same None (Some y) h = absurd (cc)
 found_same None None h = refl
 
-one_scalar : (e : End BScalar) → then_with (one_of e) scalar_in ≡ e
+pub one_scalar : (e : End BScalar) → then_with (one_of e) scalar_in ≡ e
 one_scalar (Is v) = refl
 one_scalar Over = refl
 one_scalar Wrong = refl

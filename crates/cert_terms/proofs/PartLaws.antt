@@ -1,20 +1,19 @@
 -- The types of the operands of a term that a table has.
 use Rattle.std.proofs.Common.{◌≡◌, ℕ, Some, List, slice_get, refl, sym, ap, ◌∙◌}
 use Rattle.boogie_tree.specs.Program.{BType}
-use Rattle.boogie_tree.specs.Values.{same_base, plain_type}
+use Rattle.boogie_tree.specs.Values.{plain_type}
 use Rattle.boogie_tree.specs.declared.exprs.BBase.{BBase}
 use Rattle.boogie_tree.specs.declared.exprs.BOp.{BOp}
-use Rattle.boogie_meaning.specs.Decided.{Decides-same_base}
 use Rattle.boogie_meaning.specs.Types.{then_some, given, answer_of}
+use Rattle.boogie_meaning.proofs.TypeLaws.{from_then, from_given}
 use Rattle.boogie_formula.specs.Formula as f
 use Rattle.boogie_formula.specs.Types.{fbase}
-use Rattle.cert_terms.specs.Kinds.{answer_at}
+use Rattle.boogie_types.specs.Typed.{answer_at}
 use Rattle.cert_terms.specs.Tables.{IsTable}
 use Rattle.cert_terms.specs.Terms.{operand}
 use Rattle.cert_terms.specs.declared.terms.Literal.{Literal}
 use Rattle.cert_terms.specs.declared.terms.Term.{Term}
 use Rattle.cert_terms.specs.declared.terms.Term.TheVariants as term
-use Rattle.cert_terms.proofs.ValueLaws.{some_same, from_then, from_if}
 use Rattle.cert_terms.proofs.MeaningLaws.{plain_operand}
 use Rattle.cert_terms.proofs.TableLaws.{typed_there}
 
@@ -25,9 +24,6 @@ pub record TakesBoth (types : List BType) (o : BOp) (a b : Literal) : Type 0 whe
   pub left : fbase types (operand a) ≡ Some kind
   pub right : fbase types (operand b) ≡ Some kind
   pub takes : answer_of o kind ≡ Some answer
-
-from_given : (u w v x : BBase) → given u w v ≡ Some x → (v ≡ u) × (w ≡ x)
-from_given u w v x h = let p = from_if (same_base v u) (Some w) x h in ((Decides-same_base v u).0 p.0, some_same p.1)
 
 pub bin_kind : (types : List BType) (o : BOp) (a b : Literal) → fbase types (f.Bin o (operand a) (operand b)) ≡ answer_at o (fbase types (operand a)) (fbase types (operand b))
 bin_kind types o a b = rw (plain_operand a, plain_operand b) refl

@@ -1,25 +1,19 @@
 -- Tables: a term has the type of its meaning, given values lead to values of all names, and a law stays one where terms are added.
 use Rattle.std.proofs.Common.{◌≡◌, ◌+◌, ℕ, zero, suc, true, Option, Some, None, List, [], ◌∷◌, ◌++◌, slice_get, take, length, append_assoc, append-nil, refl, sym, ap, subst, ◌∙◌, arith}
+use Rattle.lemmas.proofs.Tests.{and_parts}
 use Rattle.boogie_tree.specs.Program.{BType}
 use Rattle.boogie_tree.specs.Value.{BValue}
 use Rattle.boogie_tree.specs.Values.{IsEnvironment}
 use Rattle.boogie_meaning.specs.Types.{is_type}
-use Rattle.boogie_meaning.proofs.TypeLaws.{and_both, and_true, same_base_itself, same_bases_itself}
+use Rattle.boogie_meaning.proofs.TypeLaws.{and_true, type_same, same_base_itself, same_bases_itself}
 use Rattle.boogie_formula.specs.Formula.{FExpr}
 use Rattle.boogie_formula.specs.Types.{whole_type}
 use Rattle.cert_terms.specs.declared.terms.Term.{Term}
 use Rattle.cert_terms.specs.Terms.{meaning}
 use Rattle.cert_terms.specs.Tables.{is_of_type, are_of_types, IsTable}
-use Rattle.cert_terms.proofs.ValueLaws.{type_same}
 use Rattle.cert_terms.proofs.KeptLaws.{Kept, whole_type_kept}
 
 -- ---- lists
-
-pub there_right : {X : Type 0} (xs ys : List X) (j : ℕ) → slice_get (xs ++ ys) (length xs + j) ≡ slice_get ys j
-there_right [] ys j = let e : 0 + j ≡ j = omega (arith) in ap (slice_get ys) e
-there_right (y ∷ xs) ys j =
-    let e : suc (length xs) + j ≡ suc (length xs + j) = omega (arith) in
-    ap (slice_get (y ∷ (xs ++ ys))) e ∙ there_right xs ys j
 
 pub one_more : {X : Type 0} (xs ys : List X) (x : X) → (xs ++ x ∷ []) ++ ys ≡ xs ++ (x ∷ ys)
 one_more xs ys x = append_assoc xs (x ∷ []) ys
@@ -74,12 +68,12 @@ pub typed_at : (before : List BType) (ts : List Term) (us : List BType) → are_
 typed_at before [] us h n t e l m = absurd (cc)
 typed_at before (x ∷ ts) [] h n t e l m = absurd (cc)
 typed_at before (x ∷ ts) (u ∷ us) h zero t e l m =
-    let p = and_both (is_of_type (meaning x) before u) (are_of_types (before ++ u ∷ []) ts us) h in
+    let p = and_parts (is_of_type (meaning x) before u) (are_of_types (before ++ u ∷ []) ts us) h in
     let same : x ≡ t = cc in
     let of_it : is_type (whole_type before e) (Some u) ≡ true = subst (λ o. is_of_type o before u ≡ true) (ap meaning same ∙ m) p.0 in
     (u, refl, ap (λ b. whole_type b e) (append-nil before) ∙ from_is_type (whole_type before e) u of_it)
 typed_at before (x ∷ ts) (u ∷ us) h (suc n) t e l m =
-    let p = and_both (is_of_type (meaning x) before u) (are_of_types (before ++ u ∷ []) ts us) h in
+    let p = and_parts (is_of_type (meaning x) before u) (are_of_types (before ++ u ∷ []) ts us) h in
     let r = typed_at (before ++ u ∷ []) ts us p.1 n t e l m in
     (r.0, r.1, ap (λ b. whole_type b e) (sym (one_more before (take n us) u)) ∙ r.2)
 
@@ -88,7 +82,7 @@ pub as_long : (before : List BType) (ts : List Term) (us : List BType) → are_o
 as_long before [] [] h = refl
 as_long before [] (u ∷ us) h = absurd (cc)
 as_long before (t ∷ ts) [] h = absurd (cc)
-as_long before (t ∷ ts) (u ∷ us) h = ap suc (as_long (before ++ u ∷ []) ts us (and_both (is_of_type (meaning t) before u) (are_of_types (before ++ u ∷ []) ts us) h).1)
+as_long before (t ∷ ts) (u ∷ us) h = ap suc (as_long (before ++ u ∷ []) ts us (and_parts (is_of_type (meaning t) before u) (are_of_types (before ++ u ∷ []) ts us) h).1)
 
 -- one more term
 pub typed_push : (before : List BType) (ts : List Term) (us : List BType) → are_of_types before ts us ≡ true → (t : Term) (u : BType) → is_of_type (meaning t) (before ++ us) u ≡ true →
@@ -97,7 +91,7 @@ typed_push before [] [] h t u g = and_true (subst (λ b. is_of_type (meaning t) 
 typed_push before [] (w ∷ us) h t u g = absurd (cc)
 typed_push before (x ∷ ts) [] h t u g = absurd (cc)
 typed_push before (x ∷ ts) (w ∷ us) h t u g =
-    let p = and_both (is_of_type (meaning x) before w) (are_of_types (before ++ w ∷ []) ts us) h in
+    let p = and_parts (is_of_type (meaning x) before w) (are_of_types (before ++ w ∷ []) ts us) h in
     and_true p.0 (typed_push (before ++ w ∷ []) ts us p.1 t u (subst (λ b. is_of_type (meaning t) b u ≡ true) (sym (one_more before us w)) g))
 
 -- the terms behind others
@@ -107,7 +101,7 @@ typed_behind before [] more [] mores l h = subst (λ b. are_of_types b more more
 typed_behind before [] more (u ∷ us) mores l h = absurd (omega (arith, l))
 typed_behind before (t ∷ ts) more [] mores l h = absurd (omega (arith, l))
 typed_behind before (t ∷ ts) more (u ∷ us) mores l h =
-    let p = and_both (is_of_type (meaning t) before u) (are_of_types (before ++ u ∷ []) (ts ++ more) (us ++ mores)) h in
+    let p = and_parts (is_of_type (meaning t) before u) (are_of_types (before ++ u ∷ []) (ts ++ more) (us ++ mores)) h in
     let same : length ts ≡ length us = omega (arith, l) in
     subst (λ b. are_of_types b more mores ≡ true) (one_more before us u) (typed_behind (before ++ u ∷ []) ts more us mores same p.1)
 

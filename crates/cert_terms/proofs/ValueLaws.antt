@@ -1,70 +1,30 @@
 -- Without a bound an expression of a formula that has a type has a value of this type.
 use Rattle.std.proofs.Common.{◌≡◌, ℕ, Bool as Truth, true, false, Option, Some, None, List, ◌∷◌, slice_get, if◌then◌else◌, refl, ap, ◌∙◌, sym, subst, []}
+use Rattle.lemmas.proofs.Options.{some_same}
 use Rattle.sparse.specs.Map.{Map, set}
 use Rattle.vb_value.specs.Bound.{Unbounded}
 use Rattle.boogie_tree.specs.Expr as t
 use Rattle.boogie_tree.specs.Program.{BType}
-use Rattle.boogie_tree.specs.Value.{Key, BScalar, BValue, Int, Bool, Ref, Real, Snap, Many, One, same_scalar}
-use Rattle.boogie_tree.specs.Values.{same_base, same_bases, same_type, map_type, IsEnvironment, FitsScalar, FitsKey, IsMapOf, IsOfType, plain_type, one, many}
+use Rattle.boogie_tree.specs.Value.{Key, BScalar, BValue, Bool, Many, One, same_scalar}
+use Rattle.boogie_tree.specs.Values.{same_bases, same_type, map_type, IsEnvironment, FitsScalar, FitsKey, IsMapOf, IsOfType, plain_type, one, many}
 use Rattle.boogie_tree.specs.declared.exprs.BBase.{BBase}
 use Rattle.boogie_tree.specs.declared.exprs.BBase.TheVariants as base
-use Rattle.boogie_meaning.specs.Compared.{IsNotOver}
-use Rattle.boogie_meaning.specs.Decided.{Decides-same_base}
-use Rattle.boogie_meaning.specs.Ends.{End, Is, then_with, found, Keeps, value as has, over}
+use Rattle.boogie_meaning.specs.Ends.{End, Is, then_with, found, value as has}
 use Rattle.boogie_meaning.specs.Value.{the_map}
 use Rattle.boogie_meaning.specs.Quantified.{bvalue, bkey, one_of}
 use Rattle.boogie_meaning.specs.Types.{then_some, base_of, bases_of, is_base, indexed, is_put}
 use Rattle.vb_value.specs.Key.{key_cmp}
 use Rattle.boogie_meaning.specs.Operators.{as_truth}
-use Rattle.boogie_meaning.proofs.TypeLaws.{and_both, bases_same, base_of_sound, bases_of_sound}
+use Rattle.boogie_meaning.proofs.TypeLaws.{from_then, from_if, from_base as from_is_base, type_same, bases_same, base_of_sound, bases_of_sound}
 use Rattle.boogie_meaning.proofs.ValueLaws.{found_typed, set_typed}
-use Rattle.boogie_meaning.proofs.TypedLaws.{bvalue_keeps, bkey_keeps, the_map_keeps}
-use Rattle.boogie_meaning.proofs.BoundLaws.{goes_not_over, bvalue_bounded, bkey_bounded, the_map_bounded}
+use Rattle.boogie_meaning.proofs.TypedLaws.{bvalue_keeps, bkey_keeps, the_map_keeps, as_truth_value}
+use Rattle.boogie_meaning.proofs.BoundLaws.{is_value, goes_not_over, bvalue_bounded, bkey_bounded, the_map_bounded}
 use Rattle.boogie_formula.specs.Formula as f
 use Rattle.boogie_formula.specs.Formula.{FExpr, FExprs}
 use Rattle.boogie_formula.specs.Value.{plain, plain_all, fvalue, fkey, whole}
 use Rattle.boogie_formula.specs.Types.{fbase, fbases, whole_type}
 
--- ---- what an answer tells of its parts
-
-pub some_same : {X : Type 0} {x y : X} → Some x ≡ Some y → x ≡ y
-some_same {x = x} h = ap (λ o. or-else o x) h
-  where
-    or-else : {X : Type 0} → Option X → X → X
-    or-else (Some z) d = z
-    or-else None d = d
-
-pub from_then : {X Y : Type 0} (o : Option X) (go : X → Option Y) (y : Y) → then_some o go ≡ Some y → (x : X) × (o ≡ Some x) × (go x ≡ Some y)
-from_then (Some x) go y h = (x, refl, h)
-from_then None go y h = absurd (cc)
-
-pub from_if : {X : Type 0} (p : Truth) (o : Option X) (x : X) → (if p then o else None) ≡ Some x → (p ≡ true) × (o ≡ Some x)
-from_if true o x h = (refl, h)
-from_if false o x h = absurd (cc)
-
-pub from_is_base : (o : Option BBase) (u : BBase) → is_base o u ≡ true → o ≡ Some u
-from_is_base (Some w) u h = ap Some ((Decides-same_base w u).0 h)
-from_is_base None u h = absurd (cc)
-
-pub type_same : (u w : BType) → same_type u w ≡ true → u ≡ w
-type_same u w h =
-    let p = and_both (same_bases u.keys w.keys) (same_base u.base w.base) h in
-    let k = bases_same u.keys w.keys p.0 in
-    let b = (Decides-same_base u.base w.base).0 p.1 in
-    λ i. record { keys = k i; base = b i }
-
 -- ---- values
-
-is_value : {X : Type 0} {P : X → Type 0} {e : End X} → Keeps P e → IsNotOver e → (x : X) × (e ≡ Is x) × P x
-is_value (has {x = x} p) n = (x, refl, p)
-is_value over n = absurd n
-
-pub as_truth_value : (v : BScalar) → FitsScalar base.Bool v → (p : Truth) × (v ≡ Bool p)
-as_truth_value (Bool p) f = (p, refl)
-as_truth_value (Int n) f = let e : base.Int ≡ base.Bool = f.typed in absurd (cc)
-as_truth_value (Ref n) f = let e : base.Ref ≡ base.Bool = f.typed in absurd (cc)
-as_truth_value (Real n) f = let e : base.Real ≡ base.Bool = f.typed in absurd (cc)
-as_truth_value (Snap n) f = let e : base.Snap ≡ base.Bool = f.typed in absurd (cc)
 
 module _ (ls : List BType) (env : List BValue) (h : IsEnvironment ls env) where
   tree_there : (o : Option t.BExpr) (u : BBase) → then_some o (base_of ls None) ≡ Some u → (v : BScalar) × (then_with (found o) (λ a. bvalue Unbounded a env) ≡ Is v) × FitsScalar u v

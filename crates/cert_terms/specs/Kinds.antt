@@ -1,36 +1,15 @@
 -- The type of a term by those of its parts.
-use Rattle.std.specs.Prelude.{◌≡◌, Bool as Truth, false, ◌&&◌, List, Option, Some, None, slice_get}
+use Rattle.std.specs.Prelude.{◌≡◌, List, Option, Some, None, slice_get}
 use Rattle.boogie_tree.specs.Program.{BType}
-use Rattle.boogie_tree.specs.Values.{same_base, same_bases, is_key}
 use Rattle.boogie_tree.specs.declared.exprs.BBase.{BBase}
 use Rattle.boogie_tree.specs.declared.exprs.BBase.TheVariants as base
-use Rattle.boogie_tree.specs.declared.exprs.BOp.{BOp}
-use Rattle.boogie_meaning.specs.Types.{then_some, given, negated, answer_of, indexed}
+use Rattle.boogie_meaning.specs.Types.{then_some, given, negated}
+use Rattle.boogie_types.specs.Typed.{answer_at, pair_at, indexed_by}
 use Rattle.boogie_formula.specs.Formula.{FExpr}
 use Rattle.boogie_formula.specs.Types.{fbase, fbases, whole_type}
 use Rattle.cert_terms.specs.declared.terms.Term.{Term}
 use Rattle.cert_terms.specs.declared.terms.Term.TheVariants as term
 use Rattle.cert_terms.specs.Terms.{operand, operands, meaning}
-
-abbrev pub answer_at : BOp → Option BBase → Option BBase → Option BBase
-answer_at o a b = then_some a (λ u. then_some b (λ w. then_some (given u u w) (answer_of o)))
-
-abbrev pub pair_at : Option BBase → Option BBase → Option BBase
-pair_at a b = then_some a (λ u. then_some (given base.Snap base.Snap u) (λ p. then_some b (given base.Snap base.Snap)))
-
--- the keys have these types
-abbrev pub are_bases : Option (List BBase) → List BBase → Truth
-are_bases (Some us) ks = same_bases us ks
-are_bases None ks = false
-
--- the type of a map's values at keys of these types
-abbrev pub indexed_by : Option BType → Option (List BBase) → Option BBase
-indexed_by l us = then_some us (λ us. then_some l (λ l. indexed l.keys l.base us))
-
--- a key has this type, which is a key type
-abbrev pub is_index : Option BBase → BBase → Truth
-is_index (Some u) k = same_base u k && is_key u
-is_index None k = false
 
 -- the type of a term that is never a map
 abbrev pub plain_kind : List BType → Term → Option BBase

@@ -3,7 +3,6 @@
 
 mod faults;
 mod growing;
-mod kinds;
 mod parts;
 mod readers;
 mod table;

@@ -2,14 +2,15 @@
 ghost use Rattle.std.specs.Prelude.{◌≡◌, slice_get};
 ghost use Rattle.boogie_formula.specs.Formula as f;
 ghost use Rattle.boogie_formula.specs.Types.{fbase, fbases};
-ghost use Rattle.cert_terms.specs.Kinds.{are_bases, indexed_by, plain_kind};
+ghost use Rattle.cert_terms.specs.Kinds.{plain_kind};
+ghost use Rattle.boogie_types.specs.Typed.{are_bases, indexed_by};
 ghost use Rattle.cert_terms.specs.Lawful.{types_of};
 ghost use Rattle.cert_terms.specs.Terms.{operand, operands};
 
-use crate::kinds::{answer, given, is_index, negated, pair};
 use crate::table::Table;
 use crate::terms::{Literal, Term};
 use boogie_tree::BBase;
+use boogie_types::{answer, given, is_index, negated, pair};
 
 impl Table {
     /// The type of a name that is no map.
@@ -37,7 +38,7 @@ impl Table {
     }
 
     /// Whether keys have these types.
-    pub(crate) fn are_of(&self, keys: &[Literal], wanted: &[BBase]) -> bool
+    pub fn are_of(&self, keys: &[Literal], wanted: &[BBase]) -> bool
         ensures { result ≡ are_bases (fbases (types_of self.now) (operands keys.now)) wanted.now }
     {
         let mut count = 0;

@@ -9,10 +9,10 @@ ghost use Rattle.cert_terms.specs.Lawful.{types_of};
 ghost use Rattle.cert_terms.specs.Terms.{operand, operands};
 
 use crate::faults::{Fault, Refusal};
-use crate::kinds::same_type;
 use crate::table::Table;
 use crate::terms::{Literal, Term};
 use boogie_tree::{BBase, BType, same_base};
+use boogie_types::same_type;
 use std::alloc::Global;
 
 /// The most keys of a map that a term is, so that a table takes no more than a constant for each word of its lines.

@@ -1,16 +1,18 @@
 -- Where a cause stands its status comes, since files have one answer.
 use Rattle.std.proofs.Common.{◌≡◌, ◌∙◌, ◌<◌, ℕ, List, [], ◌∷◌, length, Option, sym, subst, refl, arith}
 use Rattle.vb_outer.specs.Shelf.{Files, IsMissing, IsFile, IsWhole}
-use Rattle.cond_tool.specs.Accepted.{IsRefusal, Accepts}
-use Rattle.cond_tool.specs.Call.{Refuses}
-use Rattle.cond_tool.specs.declared.status.Refusal as b
-use Rattle.cond_tool.proofs.Answered.{same_file, not_missing}
-use Rattle.cond_tool.proofs.Verdicts.{one_refusal, accepted_not_refused}
-use Rattle.cert_tool.specs.Call.{Asks, AskNothing, HasProcedure, HasCertificate, HasLarge, large, line, of_boogie, of_certificate, IsShown, HasShown, IsCause, usage, read, refused, done, Causes, EndsAs, as_expected, no_memory, read_fault, write_fault}
+use Rattle.boogie_file.specs.Files.{Refuses, HasProcedure}
+use Rattle.boogie_file.specs.declared.refusal.Refusal as b
+use Rattle.boogie_file.proofs.FileAnswers.{refused_not_there, procedure_not_there, refusals_same, refused_not_accepted, accepted_not_refused_again}
+use Rattle.tool_words.specs.Ends.{as_expected, fault}
+use Rattle.tool_words.specs.declared.status.Status.{Status}
+use Rattle.tool_words.specs.declared.status.Status.TheVariants as status
+use Rattle.tool_words.proofs.EndLaws.{from_causes}
+use Rattle.tool_words.proofs.FileLaws.{same_file, not_missing}
+use Rattle.cert_tool.specs.Call.{Asks, AskNothing, HasCertificate, HasLarge, large, line, of_boogie, of_certificate, IsShown, HasShown, IsCause, usage, read, refused, done, Causes, EndsAs}
 use Rattle.cert_tool.specs.Shown.{IsVerified}
-use Rattle.cert_tool.specs.declared.status.Refusal.TheVariants as refusal
-use Rattle.cert_tool.specs.declared.status.Status.{Status}
-use Rattle.cert_tool.specs.declared.status.Status.TheVariants as status
+use Rattle.cert_tool.specs.declared.refusal.Refusal.{Refusal}
+use Rattle.cert_tool.specs.declared.refusal.Refusal.TheVariants as refusal
 
 -- ---- words have one reading
 
@@ -33,12 +35,6 @@ module _ (words : List (List ℕ)) {file name certificate : List ℕ} (asks : As
 -- ---- files have one answer
 
 module _ (files : Option Files) where
-  refused_not_there : {file name : List ℕ} {r : b.Refusal} → IsMissing files file → Refuses (IsWhole files) file name r → ⊥
-  refused_not_there {file} missing h = not_missing files file h.bytes h.is missing
-
-  procedure_not_there : {file name : List ℕ} → IsMissing files file → HasProcedure (IsWhole files) file name → ⊥
-  procedure_not_there {file} missing h = not_missing files file h.bytes h.is missing
-
   certificate_not_there : {certificate : List ℕ} → IsMissing files certificate → HasCertificate (IsWhole files) certificate → ⊥
   certificate_not_there {certificate} missing h = not_missing files certificate h.text h.is missing
 
@@ -52,34 +48,15 @@ module _ (files : Option Files) where
       let above = subst (λ t. 33554432 < length t) same h.large in
       omega (arith, small, above)
 
-  refusals_same : {file name : List ℕ} {r q : b.Refusal} → Refuses (IsFile files) file name r → Refuses (IsWhole files) file name q → r ≡ q
-  refusals_same {file} {name} {r} h g = one_refusal (subst (λ x. IsRefusal x name r) (same_file files file h.bytes g.bytes h.is g.is) h.refused) g.refused
-
-  refused_not_accepted : {file name : List ℕ} {r : b.Refusal} → Refuses (IsFile files) file name r → HasProcedure (IsWhole files) file name → ⊥
-  refused_not_accepted {file} {name} {r} h g = accepted_not_refused g.accepted (subst (λ x. IsRefusal x name r) (same_file files file h.bytes g.bytes h.is g.is) h.refused)
-
-  accepted_not_again : {file name : List ℕ} {r : b.Refusal} → HasProcedure (IsFile files) file name → Refuses (IsWhole files) file name r → ⊥
-  accepted_not_again {file} {name} h g = accepted_not_refused (subst (λ x. Accepts x name h.procedure) (same_file files file h.bytes g.bytes h.is g.is) h.accepted) g.refused
-
   shown_procedure : {file name certificate : List ℕ} → IsShown files file name certificate → HasProcedure (IsWhole files) file name
   shown_procedure h = let v = h.verified in record { bytes = v.bytes; is = v.is; procedure = v.procedure; accepted = v.accepted }
 
 -- ---- statuses
 
 module _ (words : List (List ℕ)) (files : Option Files) (before now : ℕ) where
-  -- what follows from each cause follows from the causes
-  from_causes : (expected : Status) → ((s : Status) → IsCause words files before now s → EndsAs expected s) → (SinkFailed : Type 0) (s : Status) → Causes words files before now SinkFailed s →
-      EndsAs expected s
-  from_causes expected each SinkFailed status.Done cause = each _ cause
-  from_causes expected each SinkFailed (status.Refused r) cause = each _ cause
-  from_causes expected each SinkFailed status.Usage cause = each _ cause
-  from_causes expected each SinkFailed status.ReadFault cause = each _ cause
-  from_causes expected each SinkFailed status.WriteFault cause = write_fault
-  from_causes expected each SinkFailed status.NoMemory cause = no_memory
-
-  usage_each : AskNothing words → (s : Status) → IsCause words files before now s → EndsAs status.Usage s
+  usage_each : AskNothing words → (s : Status Refusal) → IsCause words files before now s → EndsAs status.Usage s
   usage_each none s (usage also) = as_expected
-  usage_each none s (read asks why) = read_fault
+  usage_each none s (read asks why) = fault tt
   usage_each none s (refused asks why) = absurd (none _ _ _ asks)
   usage_each none s (done h) = absurd (none _ _ _ h.asked)
 
@@ -99,61 +76,61 @@ module _ (words : List (List ℕ)) (files : Option Files) (before now : ℕ) whe
     shown_this : HasShown words files → IsShown files file name certificate
     shown_this h = this_call words asks (λ f n c. IsShown files f n c) h.asked h.shown
 
-    missing_each : IsMissing files file → (s : Status) → IsCause words files before now s → EndsAs status.ReadFault s
+    missing_each : IsMissing files file → (s : Status Refusal) → IsCause words files before now s → EndsAs status.ReadFault s
     missing_each missing s (usage none) = absurd (none _ _ _ asks)
     missing_each missing s (read other why) = as_expected
     missing_each missing s (refused other (of_boogie g)) = absurd (refused_not_there files missing (boogie_this other g))
     missing_each missing s (refused other (of_certificate has why)) = absurd (procedure_not_there files missing (procedure_this other has))
     missing_each missing s (done h) = absurd (procedure_not_there files missing (shown_procedure files (shown_this h)))
 
-    refused_each : {r : b.Refusal} → Refuses (IsFile files) file name r → (s : Status) → IsCause words files before now s → EndsAs (status.Refused (refusal.Boogie r)) s
+    refused_each : {r : b.Refusal} → Refuses (IsFile files) file name r → (s : Status Refusal) → IsCause words files before now s → EndsAs (status.Refused (refusal.Boogie r)) s
     refused_each refuses s (usage none) = absurd (none _ _ _ asks)
-    refused_each refuses s (read other why) = read_fault
+    refused_each refuses s (read other why) = fault tt
     refused_each {r} refuses s (refused other (of_boogie g)) =
         subst (λ x. EndsAs (status.Refused (refusal.Boogie r)) (status.Refused (refusal.Boogie x))) (refusals_same files refuses (boogie_this other g)) as_expected
     refused_each refuses s (refused other (of_certificate has why)) = absurd (refused_not_accepted files refuses (procedure_this other has))
     refused_each refuses s (done h) = absurd (refused_not_accepted files refuses (shown_procedure files (shown_this h)))
 
-    uncertified_each : HasProcedure (IsFile files) file name → IsMissing files certificate → (s : Status) → IsCause words files before now s → EndsAs status.ReadFault s
+    uncertified_each : HasProcedure (IsFile files) file name → IsMissing files certificate → (s : Status Refusal) → IsCause words files before now s → EndsAs status.ReadFault s
     uncertified_each accepts missing s (usage none) = absurd (none _ _ _ asks)
     uncertified_each accepts missing s (read other why) = as_expected
-    uncertified_each accepts missing s (refused other (of_boogie g)) = absurd (accepted_not_again files accepts (boogie_this other g))
+    uncertified_each accepts missing s (refused other (of_boogie g)) = absurd (accepted_not_refused_again files accepts (boogie_this other g))
     uncertified_each accepts missing s (refused other (of_certificate has (large h))) = absurd (large_not_there files missing (large_this other h))
     uncertified_each accepts missing s (refused other (of_certificate has (line h at))) = absurd (certificate_not_there files missing (certificate_this other h))
     uncertified_each accepts missing s (done h) = let shown = shown_this h in absurd (certificate_not_there files missing shown.is_there)
 
-    large_each : HasProcedure (IsFile files) file name → HasLarge (IsFile files) certificate → (s : Status) → IsCause words files before now s → EndsAs (status.Refused refusal.CertificateSize) s
+    large_each : HasProcedure (IsFile files) file name → HasLarge (IsFile files) certificate → (s : Status Refusal) → IsCause words files before now s → EndsAs (status.Refused refusal.CertificateSize) s
     large_each accepts above s (usage none) = absurd (none _ _ _ asks)
-    large_each accepts above s (read other why) = read_fault
-    large_each accepts above s (refused other (of_boogie g)) = absurd (accepted_not_again files accepts (boogie_this other g))
+    large_each accepts above s (read other why) = fault tt
+    large_each accepts above s (refused other (of_boogie g)) = absurd (accepted_not_refused_again files accepts (boogie_this other g))
     large_each accepts above s (refused other (of_certificate has (large h))) = as_expected
     large_each accepts above s (refused other (of_certificate has (line h at))) = absurd (large_not_small files above (certificate_this other h))
     large_each accepts above s (done h) = let shown = shown_this h in absurd (large_not_small files above shown.is_there)
 
-  of_done : (s : Status) → s ≡ status.Done → IsCause words files before now s → HasShown words files
+  of_done : (s : Status Refusal) → s ≡ status.Done → IsCause words files before now s → HasShown words files
   of_done s is (usage none) = absurd (cc)
   of_done s is (read other why) = absurd (cc)
   of_done s is (refused other why) = absurd (cc)
   of_done s is (done h) = h
 
-  module _ (SinkFailed : Type 0) (s : Status) (causes : Causes words files before now SinkFailed s) where
+  module _ (SinkFailed : Type 0) (s : Status Refusal) (causes : Causes words files before now SinkFailed s) where
     pub verified_comes : (file name certificate : List ℕ) → Asks words file name certificate → s ≡ status.Done → IsVerified (IsWhole files) file name
     verified_comes file name certificate asks is =
         let shown = shown_this asks (of_done status.Done refl (subst (Causes words files before now SinkFailed) is causes)) in
         shown.verified
 
     pub usage_comes : AskNothing words → EndsAs status.Usage s
-    usage_comes none = from_causes _ (usage_each none) SinkFailed s causes
+    usage_comes none = from_causes (IsCause words files before now) _ (usage_each none) SinkFailed s causes
 
     pub missing_comes : (file name certificate : List ℕ) → Asks words file name certificate → IsMissing files file → EndsAs status.ReadFault s
-    missing_comes file name certificate asks missing = from_causes _ (missing_each asks missing) SinkFailed s causes
+    missing_comes file name certificate asks missing = from_causes (IsCause words files before now) _ (missing_each asks missing) SinkFailed s causes
 
     pub refused_comes : (file name certificate : List ℕ) (r : b.Refusal) → Asks words file name certificate → Refuses (IsFile files) file name r → EndsAs (status.Refused (refusal.Boogie r)) s
-    refused_comes file name certificate r asks refuses = from_causes _ (refused_each asks refuses) SinkFailed s causes
+    refused_comes file name certificate r asks refuses = from_causes (IsCause words files before now) _ (refused_each asks refuses) SinkFailed s causes
 
     pub uncertified_comes : (file name certificate : List ℕ) → Asks words file name certificate → HasProcedure (IsFile files) file name → IsMissing files certificate → EndsAs status.ReadFault s
-    uncertified_comes file name certificate asks accepts missing = from_causes _ (uncertified_each asks accepts missing) SinkFailed s causes
+    uncertified_comes file name certificate asks accepts missing = from_causes (IsCause words files before now) _ (uncertified_each asks accepts missing) SinkFailed s causes
 
     pub large_comes : (file name certificate : List ℕ) → Asks words file name certificate → HasProcedure (IsFile files) file name → HasLarge (IsFile files) certificate →
         EndsAs (status.Refused refusal.CertificateSize) s
-    large_comes file name certificate asks accepts above = from_causes _ (large_each asks accepts above) SinkFailed s causes
+    large_comes file name certificate asks accepts above = from_causes (IsCause words files before now) _ (large_each asks accepts above) SinkFailed s causes

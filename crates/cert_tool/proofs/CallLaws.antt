@@ -1,76 +1,60 @@
 -- What the parts of a call, one after the other, make of it.
-use Rattle.std.proofs.Common.{◌⊎◌, inl, inr, ℕ, List, Option, refl}
+use Rattle.std.proofs.Common.{◌≡◌, ◌⊎◌, inl, inr, ℕ, List, Option, Result, Ok, Err, MatchResult, refl, sym, subst}
+use Rattle.std.specs.Prelude.{⊤, IsOk}
 use Rattle.vb_outer.specs.Faults.{Rose}
 use Rattle.vb_outer.specs.Shelf.{Files}
-use Rattle.vb_outer.specs.Sink.{Appends}
+use Rattle.vb_outer.specs.Sink.{Appends, AppendsPrefix}
+use Rattle.tool_words.specs.Ends.{Stops}
+use Rattle.tool_words.specs.Status.{kind_of}
+use Rattle.tool_words.specs.Written.{Delivers, Reports}
+use Rattle.tool_words.specs.declared.status.Status.{Status}
+use Rattle.tool_words.specs.declared.status.Status.TheVariants as status
+use Rattle.tool_words.proofs.EndLaws.{delivered_cause, delivered_out, delivered_err, reported_cause, reported_out, reported_err, quiet}
 use Rattle.cert_tool.specs.Call as call
-use Rattle.cert_tool.specs.Call.{Asks, IsShown, HasShown, IsCause, Causes, OutAfter, ErrAfter}
-use Rattle.cert_tool.specs.Parts as parts
-use Rattle.cert_tool.specs.Parts.{Reports, Delivers}
-use Rattle.cert_tool.specs.Status.{line_of}
-use Rattle.cert_tool.specs.declared.status.Refusal.{Refusal}
-use Rattle.cert_tool.specs.declared.status.Status.{Status}
-use Rattle.cert_tool.specs.declared.status.Status.TheVariants as status
+use Rattle.cert_tool.specs.Call.{Asks, IsRefused, IsUnread, IsShown, HasShown, IsCause, Causes, accepted_text, OutAfter, ErrAfter}
+use Rattle.cert_tool.specs.Parts.{status_of}
+use Rattle.cert_tool.specs.Status.{refusal_text, line_of}
+use Rattle.cert_tool.specs.declared.refusal.Refusal.{Refusal}
+use Rattle.cert_tool.specs.declared.trouble.Trouble.{Trouble}
+use Rattle.cert_tool.specs.declared.trouble.Trouble.TheVariants as trouble
 
 pub has_shown : {words : List (List ℕ)} {files : Option Files} {file name certificate : List ℕ} → Asks words file name certificate → IsShown files file name certificate → HasShown words files
 has_shown {file = f} {name = n} {certificate = c} asks shown = record { file = f; name = n; certificate = c; asked = asks; shown = shown }
 
--- ---- what a status that was reported comes to
+-- a trouble is told by the status that has its cause
+pub trouble_stops : (words : List (List ℕ)) (files : Option Files) (first last : ℕ) {file name certificate : List ℕ} → Asks words file name certificate → (t : Trouble) (s : Status Refusal) →
+    status_of t ≡ s → (t ≡ trouble.Read → IsUnread files file name certificate first last) → ((r : Refusal) → t ≡ trouble.Refused r → IsRefused files file name certificate r) →
+    Stops kind_of (IsCause words files first last) s
+trouble_stops words files first last asks trouble.Memory s is read refused = subst (Stops kind_of (IsCause words files first last)) is tt
+trouble_stops words files first last asks trouble.Read s is read refused = subst (Stops kind_of (IsCause words files first last)) is (call.read asks (read refl))
+trouble_stops words files first last asks (trouble.Refused r) s is read refused = subst (Stops kind_of (IsCause words files first last)) is (call.refused asks (refused r refl))
 
--- a status that has a line
-pub data HasLine : Status → Type 0 where
-  usage_line : HasLine status.Usage
-  read_line : HasLine status.ReadFault
-  refused_line : {r : Refusal} → HasLine (status.Refused r)
+-- ---- how the call ends
 
-module _ {words : List (List ℕ)} {files : Option Files} {first last : ℕ} where
-  line_cause : (SinkFailed : Type 0) {s : Status} → HasLine s → IsCause words files first last s → Causes words files first last SinkFailed s
-  line_cause SinkFailed usage_line cause = cause
-  line_cause SinkFailed read_line cause = cause
-  line_cause SinkFailed refused_line cause = cause
+module _ (words : List (List ℕ)) (files : Option Files) (first last : ℕ) (out_before out_now err_before err_now : Option (List ℕ)) (out_first out_last err_first err_last : ℕ) (ended : Status Refusal) where
+  -- the line of acceptance is written, or the one that says why there is none
+  abbrev pub Ended : Result ⊤ (Status Refusal) → Type 0
+  Ended shown = MatchResult shown
+      (λ _. Delivers kind_of out_before out_now out_first out_last accepted_text status.Done ended × (err_now ≡ err_before))
+      (λ s. Reports kind_of err_before err_now err_first err_last (line_of s) s ended × (out_now ≡ out_before))
 
-line_appended : (before now : Option (List ℕ)) (Cause : Status → Type 0) {s : Status} → HasLine s → Appends before now (line_of s) → ErrAfter before now Cause s
-line_appended before now Cause usage_line appends = appends
-line_appended before now Cause read_line appends = appends
-line_appended before now Cause refused_line appends = appends
+  pub shown_cause : (r : Result ⊤ (Status Refusal)) → Ended r → (IsOk r → HasShown words files) → ((s : Status Refusal) → r ≡ Err s → Stops kind_of (IsCause words files first last) s) →
+      Causes words files first last (Rose out_first out_last ⊎ Rose err_first err_last) ended
+  shown_cause (Ok t) e h stops = delivered_cause {kind = kind_of} {s = status.Done} refl (IsCause words files first last) (Rose err_first err_last) e.0 (call.done (h refl))
+  shown_cause (Err s) e h stops = reported_cause (IsCause words files first last) (Rose out_first out_last) e.0 (stops s refl)
 
-nothing_written : (before : Option (List ℕ)) (Shown : Type 0) {s : Status} → HasLine s → OutAfter before before Shown s
-nothing_written before Shown usage_line = refl
-nothing_written before Shown read_line = refl
-nothing_written before Shown refused_line = refl
+  pub shown_out : (r : Result ⊤ (Status Refusal)) → Ended r → (IsOk r → HasShown words files) → ((s : Status Refusal) → r ≡ Err s → Stops kind_of (IsCause words files first last) s) →
+      OutAfter out_before out_now (HasShown words files) ended
+  shown_out (Ok t) e h stops =
+      delivered_out {kind = kind_of} {s = status.Done} refl (λ s. Appends out_before out_now accepted_text) (out_now ≡ out_before)
+      ((out_now ≡ out_before) ⊎ (HasShown words files × AppendsPrefix out_before out_now accepted_text)) (out_now ≡ out_before) e.0
+      (λ appends. appends) (λ front. inr (h refl, front))
+  shown_out (Err s) e h stops =
+      reported_out (IsCause words files first last) (λ s. Appends out_before out_now accepted_text)
+      {Unfinished = (out_now ≡ out_before) ⊎ (HasShown words files × AppendsPrefix out_before out_now accepted_text)} {Forgotten = out_now ≡ out_before}
+      e.0 (stops s refl) e.1 (inl e.1) e.1
 
-module _ {words : List (List ℕ)} {files : Option Files} {first last : ℕ} {before now : Option (List ℕ)} {faults_before faults_now : ℕ} where
-  pub reported_cause : (OutFailed : Type 0) {s ended : Status} → HasLine s → Reports before now faults_before faults_now s ended → IsCause words files first last s →
-      Causes words files first last (OutFailed ⊎ Rose faults_before faults_now) ended
-  reported_cause OutFailed line (parts.reported appends) cause = line_cause _ line cause
-  reported_cause OutFailed line (parts.unwritten front rose) cause = inr rose
-  reported_cause OutFailed line (parts.no_memory same) cause = tt
-
-  pub reported_err : {s ended : Status} → HasLine s → Reports before now faults_before faults_now s ended → IsCause words files first last s →
-      ErrAfter before now (IsCause words files first last) ended
-  reported_err line (parts.reported appends) cause = line_appended _ _ _ line appends
-  reported_err {s = s} line (parts.unwritten front rose) cause = inr (s, cause, front)
-  reported_err line (parts.no_memory same) cause = same
-
-pub reported_out : {before now : Option (List ℕ)} {faults_before faults_now : ℕ} (out : Option (List ℕ)) (Shown : Type 0) {s ended : Status} → HasLine s →
-    Reports before now faults_before faults_now s ended → OutAfter out out Shown ended
-reported_out out Shown line (parts.reported appends) = nothing_written out Shown line
-reported_out out Shown line (parts.unwritten front rose) = inl refl
-reported_out out Shown line (parts.no_memory same) = refl
-
--- ---- what an acceptance that was delivered comes to
-
-module _ {words : List (List ℕ)} {files : Option Files} {before now : Option (List ℕ)} {faults_before faults_now : ℕ} where
-  pub delivered_cause : (first last : ℕ) (ErrFailed : Type 0) {ended : Status} → Delivers before now faults_before faults_now ended → HasShown words files →
-      Causes words files first last (Rose faults_before faults_now ⊎ ErrFailed) ended
-  delivered_cause first last ErrFailed (parts.delivered appends) h = call.done h
-  delivered_cause first last ErrFailed (parts.unwritten front rose) h = inl rose
-
-  pub delivered_out : {ended : Status} → Delivers before now faults_before faults_now ended → HasShown words files → OutAfter before now (HasShown words files) ended
-  delivered_out (parts.delivered appends) h = appends
-  delivered_out (parts.unwritten front rose) h = inr (h, front)
-
-pub delivered_err : {before now : Option (List ℕ)} {faults_before faults_now : ℕ} (err : Option (List ℕ)) (Cause : Status → Type 0) {ended : Status} →
-    Delivers before now faults_before faults_now ended → ErrAfter err err Cause ended
-delivered_err err Cause (parts.delivered appends) = refl
-delivered_err err Cause (parts.unwritten front rose) = inl refl
+  pub shown_err : (r : Result ⊤ (Status Refusal)) → Ended r → (IsOk r → HasShown words files) → ((s : Status Refusal) → r ≡ Err s → Stops kind_of (IsCause words files first last) s) →
+      ErrAfter err_before err_now (IsCause words files first last) ended
+  shown_err (Ok t) e h stops = subst (λ x. ErrAfter err_before x (IsCause words files first last) ended) (sym e.1) (delivered_err {kind = kind_of} {s = status.Done} refl line_of err_before (IsCause words files first last) e.0)
+  shown_err (Err s) e h stops = reported_err (IsCause words files first last) line_of (quiet refusal_text _) e.0 (stops s refl)

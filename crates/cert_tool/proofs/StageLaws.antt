@@ -1,27 +1,24 @@
 -- What the steps from two files to what is shown come to.
-use Rattle.std.proofs.Common.{◌≡◌, ◌⊎◌, inl, inr, ◌<◌, ◌≤◌, ℕ, List, length, Option, Some, Result, Ok, Err, IfOk, slice_get, refl, subst}
+use Rattle.std.proofs.Common.{◌≡◌, ◌⊎◌, inl, inr, ◌<◌, ◌≤◌, ℕ, List, Option, Some, slice_get, refl, subst}
 use Rattle.vb_outer.specs.Shelf.{Files, IsMissing, IsWhole, IsLonger}
 use Rattle.vb_outer.specs.Faults.{Rose}
 use Rattle.vb_outer.specs.declared.fault.FileFault.{FileFault}
 use Rattle.vb_outer.specs.declared.fault.FileFault.TheVariants as file
 use Rattle.vb_outer.proofs.FaultLaws.{rose_earlier}
 use Rattle.boogie_tree.specs.Program.{Proc, BProgram}
-use Rattle.boogie_tree.specs.Whole.{program_of}
-use Rattle.boogie_tree.specs.declared.programs.BProgram.{BProgram as Program}
-use Rattle.cond_tool.specs.Accepted.{Accepts, IsBoogie, procedure_named}
-use Rattle.cond_tool.specs.Call.{Refuses}
-use Rattle.cond_tool.specs.declared.status.Refusal as b
-use Rattle.cond_tool.specs.declared.trouble.Trouble as bt
-use Rattle.cond_tool.specs.declared.trouble.Trouble.TheVariants as boogie
-use Rattle.cond_tool.proofs.CallLaws.{long_bytes}
-use Rattle.cond_tool.proofs.Verdicts.{named_within, there_is}
+use Rattle.boogie_file.specs.Files.{Refuses, HasProcedure, IsFound}
+use Rattle.boogie_file.specs.declared.refusal.Refusal as b
+use Rattle.boogie_file.specs.declared.trouble.Trouble as bt
+use Rattle.boogie_file.specs.declared.trouble.Trouble.TheVariants as boogie
+use Rattle.boogie_file.proofs.FileLaws.{found_there, found_accepts}
+use Rattle.tool_words.proofs.FileLaws.{long_bytes}
 use Rattle.certificates.specs.declared.unshown.Unshown.{Unshown}
 use Rattle.certificates.specs.declared.unshown.Unshown.TheVariants as unshown
-use Rattle.cert_tool.specs.Call.{HasProcedure, HasCertificate, IsOfLine, of_line, IsOfCertificate, large, IsRefused, of_boogie, IsUnread, no_certificate, failed, IsShown}
-use Rattle.cert_tool.specs.Parts.{trouble_of_file, trouble_of_boogie, trouble_of_certificate, IsFound}
+use Rattle.cert_tool.specs.Call.{HasCertificate, IsOfLine, of_line, IsOfCertificate, large, IsRefused, of_boogie, IsUnread, no_certificate, failed, IsShown}
+use Rattle.cert_tool.specs.Parts.{trouble_of_file, trouble_of_boogie, trouble_of_certificate}
 use Rattle.cert_tool.specs.Shown.{NeverFails}
-use Rattle.cert_tool.specs.declared.status.Refusal.{Refusal}
-use Rattle.cert_tool.specs.declared.status.Refusal.TheVariants as refusal
+use Rattle.cert_tool.specs.declared.refusal.Refusal.{Refusal}
+use Rattle.cert_tool.specs.declared.refusal.Refusal.TheVariants as refusal
 use Rattle.cert_tool.specs.declared.trouble.Trouble.TheVariants as trouble
 
 -- ---- what a fault of a part comes to
@@ -55,32 +52,10 @@ boogie_refused files path name certificate (boogie.Refused q) r refuses is_r =
 
 -- ---- what both files come to
 
-pub are_found : (files : Option Files) (path name bytes : List ℕ) (result : Result (Program × ℕ) bt.Trouble) → IsWhole files path bytes → IfOk result (λ r. IsBoogie bytes (program_of r.0)) →
-    IfOk result (λ r. procedure_named (program_of r.0) name ≡ Some r.1) → IfOk result (λ r. IsFound (IsWhole files) path name (program_of r.0) r.1)
-are_found files path name bytes (Ok r) is accepted named = record { bytes = bytes; is = is; accepted = accepted; named = named }
-are_found files path name bytes (Err e) is accepted named = tt
-
 module _ (files : Option Files) {path name : List ℕ} {program : BProgram} {number : ℕ} (found : IsFound (IsWhole files) path name program number) where
-  found_within : number < length program.procs
-  found_within = named_within program name number found.named
-
-  found_there : (d : Proc) × (slice_get program.procs number ≡ Some d)
-  found_there = there_is program.procs number found_within
-
-  found_accepts : Accepts found.bytes name found_there.0
-  found_accepts = record { program = program; accepted = found.accepted; number = number; named = found.named; is_there = found_there.1 }
-
-  pub found_procedure : HasProcedure (IsWhole files) path name
-  found_procedure = record {
-    bytes = found.bytes;
-    is = found.is;
-    procedure = found_there.0;
-    accepted = found_accepts;
-  }
-
   pub found_shown : {certificate : List ℕ} → ((d : Proc) → slice_get program.procs number ≡ Some d → NeverFails d) → HasCertificate (IsWhole files) certificate → IsShown files path name certificate
   found_shown never there = record {
-    verified = record { bytes = found.bytes; is = found.is; procedure = found_there.0; accepted = found_accepts; holds = never found_there.0 found_there.1 };
+    verified = record { bytes = found.bytes; is = found.is; procedure = (found_there found).0; accepted = found_accepts found (found_there found).0 (found_there found).1; holds = never (found_there found).0 (found_there found).1 };
     is_there = there;
   }
 

@@ -1,20 +1,21 @@
 -- What a call does: when each status comes, and what stands in the sinks afterwards.
-use Rattle.std.specs.Prelude.{⊤, ◌≡◌, ◌⊎◌, ◌<◌, ◌≤◌, ℕ, List, [], ◌∷◌, length, Option, codes}
+use Rattle.std.specs.Prelude.{◌≡◌, ◌⊎◌, ◌<◌, ◌≤◌, ℕ, List, [], ◌∷◌, length, Option, codes}
 use Rattle.vb_base.specs.Limits.{max_boogie_bytes}
 use Rattle.vb_outer.specs.Faults.{Rose}
 use Rattle.vb_outer.specs.Shelf.{Files, IsMissing, IsWhole}
 use Rattle.vb_outer.specs.Sink.{Appends, AppendsPrefix}
-use Rattle.boogie_tree.specs.Program.{Proc}
-use Rattle.cond_tool.specs.Accepted.{Accepts}
-use Rattle.cond_tool.specs.Call.{Refuses}
-use Rattle.cond_tool.specs.declared.status.Refusal as b
+use Rattle.boogie_file.specs.Files.{Refuses, HasProcedure}
+use Rattle.boogie_file.specs.declared.refusal.Refusal as b
 use Rattle.cert_terms.specs.declared.faults.Refusal as t
+use Rattle.tool_words.specs.Ends as ends
+use Rattle.tool_words.specs.Ends.{OutOf}
+use Rattle.tool_words.specs.Status.{kind_of}
+use Rattle.tool_words.specs.declared.status.Status.{Status}
+use Rattle.tool_words.specs.declared.status.Status.TheVariants.{Done, Refused, Usage, ReadFault}
 use Rattle.cert_tool.specs.Shown.{IsVerified}
 use Rattle.cert_tool.specs.Status.{line_of}
-use Rattle.cert_tool.specs.declared.status.Refusal.{Refusal}
-use Rattle.cert_tool.specs.declared.status.Refusal.TheVariants.{Boogie, CertificateSize, Certificate}
-use Rattle.cert_tool.specs.declared.status.Status.{Status}
-use Rattle.cert_tool.specs.declared.status.Status.TheVariants.{Done, Refused, Usage, ReadFault, WriteFault, NoMemory}
+use Rattle.cert_tool.specs.declared.refusal.Refusal.{Refusal}
+use Rattle.cert_tool.specs.declared.refusal.Refusal.TheVariants.{Boogie, CertificateSize, Certificate}
 
 -- ---- the words
 
@@ -27,13 +28,6 @@ abbrev pub AskNothing : List (List ℕ) → Type 0
 AskNothing words = (file name certificate : List ℕ) → Asks words file name certificate → ⊥
 
 -- ---- files, where these are their bytes by their names
-
--- the file is accepted, and has a procedure of this name
-pub record HasProcedure (Has : List ℕ → List ℕ → Type 0) (file name : List ℕ) : Type 0 where
-  pub bytes : List ℕ
-  pub is : Has file bytes
-  pub procedure : Proc
-  pub accepted : Accepts bytes name procedure
 
 -- the certificate is there, within the limit of a file
 pub record HasCertificate (Has : List ℕ → List ℕ → Type 0) (certificate : List ℕ) : Type 0 where
@@ -86,7 +80,7 @@ pub record HasShown (words : List (List ℕ)) (files : Option Files) : Type 0 wh
 -- ---- statuses
 
 -- when a status comes, where no sink failed and there was memory
-pub data IsCause (words : List (List ℕ)) (files : Option Files) (before now : ℕ) : Status → Type 0 where
+pub data IsCause (words : List (List ℕ)) (files : Option Files) (before now : ℕ) : Status Refusal → Type 0 where
   usage : AskNothing words → IsCause words files before now Usage
   read : {file name certificate : List ℕ} → Asks words file name certificate → IsUnread files file name certificate before now → IsCause words files before now ReadFault
   refused : {file name certificate : List ℕ} {r : Refusal} → Asks words file name certificate → IsRefused files file name certificate r →
@@ -94,17 +88,12 @@ pub data IsCause (words : List (List ℕ)) (files : Option Files) (before now : 
   done : HasShown words files → IsCause words files before now Done
 
 -- the cause of each status
-abbrev pub Causes : List (List ℕ) → Option Files → ℕ → ℕ → Type 0 → Status → Type 0
-Causes words files before now SinkFailed NoMemory = ⊤
-Causes words files before now SinkFailed WriteFault = SinkFailed
-Causes words files before now SinkFailed status = IsCause words files before now status
+abbrev pub Causes : List (List ℕ) → Option Files → ℕ → ℕ → Type 0 → Status Refusal → Type 0
+Causes words files before now SinkFailed status = ends.Causes kind_of (IsCause words files before now) SinkFailed status
 
 -- the status, unless memory was refused or a device failed
-pub data EndsAs (expected : Status) : Status → Type 0 where
-  as_expected : EndsAs expected expected
-  no_memory : EndsAs expected NoMemory
-  read_fault : EndsAs expected ReadFault
-  write_fault : EndsAs expected WriteFault
+abbrev pub EndsAs : Status Refusal → Status Refusal → Type 0
+EndsAs expected status = ends.EndsAs kind_of expected status
 
 -- ---- sinks
 
@@ -114,19 +103,10 @@ accepted_text = codes "accepted\n"
 
 -- what stands in the sink of the output: one more line where the call is done, and else what stood there before; after a fault of a
 -- sink, a front of that line at most, and only where the certificate is accepted
-abbrev pub OutAfter : Option (List ℕ) → Option (List ℕ) → Type 0 → Status → Type 0
-OutAfter before now Shown Done = Appends before now accepted_text
-OutAfter before now Shown WriteFault = (now ≡ before) ⊎ (Shown × AppendsPrefix before now accepted_text)
-OutAfter before now Shown NoMemory = now ≡ before
-OutAfter before now Shown (Refused r) = now ≡ before
-OutAfter before now Shown Usage = now ≡ before
-OutAfter before now Shown ReadFault = now ≡ before
+abbrev pub OutAfter : Option (List ℕ) → Option (List ℕ) → Type 0 → Status Refusal → Type 0
+OutAfter before now Shown status =
+    OutOf (kind_of status) (Appends before now accepted_text) (now ≡ before) ((now ≡ before) ⊎ (Shown × AppendsPrefix before now accepted_text)) (now ≡ before)
 
 -- what stands in the sink of errors: one more line, where the status has one; after a fault of a sink the front of such a line
-abbrev pub ErrAfter : Option (List ℕ) → Option (List ℕ) → (Status → Type 0) → Status → Type 0
-ErrAfter before now Cause (Refused r) = Appends before now (line_of (Refused r))
-ErrAfter before now Cause Usage = Appends before now (line_of Usage)
-ErrAfter before now Cause ReadFault = Appends before now (line_of ReadFault)
-ErrAfter before now Cause WriteFault = (now ≡ before) ⊎ ((status : Status) × Cause status × AppendsPrefix before now (line_of status))
-ErrAfter before now Cause Done = now ≡ before
-ErrAfter before now Cause NoMemory = now ≡ before
+abbrev pub ErrAfter : Option (List ℕ) → Option (List ℕ) → (Status Refusal → Type 0) → Status Refusal → Type 0
+ErrAfter before now Cause status = ends.ErrAfter kind_of line_of before now Cause status

@@ -3,7 +3,7 @@ use Rattle.std.specs.Prelude.{ℕ, List}
 use Rattle.vb_base.specs.declared.labels.Label.{Label}
 use Rattle.boogie_tree.specs.Program.{Proc}
 use Rattle.boogie_meaning.specs.Programs.{ProcFails}
-use Rattle.cond_tool.specs.Accepted.{Accepts}
+use Rattle.boogie_file.specs.Accepted.{Accepts}
 
 -- no run of the procedure fails, at any label
 abbrev pub NeverFails : Proc → Type 0

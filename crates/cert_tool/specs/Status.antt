@@ -1,21 +1,13 @@
--- The numbers of statuses, and the lines that go to the error stream.
-use Rattle.std.specs.Prelude.{◌++◌, ℕ, List, [], codes}
+-- The lines that go to the error stream.
+use Rattle.std.specs.Prelude.{◌++◌, ℕ, List, codes}
 use Rattle.std.specs.Fmt.{decimal}
-use Rattle.cond_tool.specs.Status as boogie
+use Rattle.boogie_file.specs.Refusals as boogie
 use Rattle.cert_terms.specs.declared.faults.Refusal as r
 use Rattle.cert_terms.specs.declared.faults.Refusal.TheVariants as reason
-use Rattle.cert_tool.specs.declared.status.Refusal.{Refusal}
-use Rattle.cert_tool.specs.declared.status.Refusal.TheVariants.{Boogie, CertificateSize, Certificate}
-use Rattle.cert_tool.specs.declared.status.Status.{Status}
-use Rattle.cert_tool.specs.declared.status.Status.TheVariants.{Done, Refused, Usage, ReadFault, WriteFault, NoMemory}
-
-abbrev pub number_of : Status → ℕ
-number_of Done = 0
-number_of (Refused r) = 1
-number_of Usage = 2
-number_of ReadFault = 3
-number_of WriteFault = 4
-number_of NoMemory = 5
+use Rattle.cert_tool.specs.declared.refusal.Refusal.{Refusal}
+use Rattle.cert_tool.specs.declared.refusal.Refusal.TheVariants.{Boogie, CertificateSize, Certificate}
+use Rattle.tool_words.specs.Status as tool
+use Rattle.tool_words.specs.declared.status.Status.{Status}
 
 -- the word of a reason for which a line of a certificate is refused
 abbrev pub word_of : r.Refusal → List ℕ
@@ -43,10 +35,5 @@ refusal_text CertificateSize = codes "certificate-size"
 refusal_text (Certificate n r) = codes "certificate " ++ decimal n ++ codes " " ++ word_of r
 
 -- one line, or nothing where the status writes none
-abbrev pub line_of : Status → List ℕ
-line_of Done = []
-line_of (Refused r) = codes "error: " ++ refusal_text r ++ codes "\n"
-line_of Usage = codes "usage: certify BPL PROC CERTIFICATE\n"
-line_of ReadFault = codes "error: read\n"
-line_of WriteFault = []
-line_of NoMemory = []
+abbrev pub line_of : Status Refusal → List ℕ
+line_of status = tool.line_of refusal_text (codes "usage: certify BPL PROC CERTIFICATE\n") status

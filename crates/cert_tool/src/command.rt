@@ -1,19 +1,23 @@
 // From the words of a call to what it writes and the status it ends with.
-ghost use Rattle.std.specs.Prelude.{◌≡◌, ◌⊎◌, ℕ, List, map, MatchOption};
+ghost use Rattle.std.specs.Prelude.{◌≡◌, ◌⊎◌, ℕ, List, map, IsOk, IsErrOf, MatchOption, MatchResult};
 ghost use Rattle.std.specs.String.{string_bytes};
 ghost use Rattle.vb_outer.specs.Faults.{Rose};
 ghost use Rattle.vb_outer.specs.Shelf.{IsFile, IsMissing, IsWhole};
-ghost use Rattle.cond_tool.specs.Call.{Refuses};
-ghost use Rattle.cond_tool.specs.declared.status.Refusal as b;
-ghost use Rattle.cert_tool.specs.Call.{Asks, AskNothing, HasProcedure, HasLarge, HasShown, IsCause, Causes, EndsAs, OutAfter, ErrAfter};
-ghost use Rattle.cert_tool.specs.Parts.{Reports, Delivers};
+ghost use Rattle.boogie_file.specs.Files.{Refuses, HasProcedure};
+ghost use Rattle.boogie_file.specs.declared.refusal.Refusal as b;
+ghost use Rattle.tool_words.specs.Ends.{Stops};
+ghost use Rattle.tool_words.specs.Status.{kind_of};
+ghost use Rattle.tool_words.specs.Written.{Delivers, Reports};
+ghost use Rattle.cert_tool.specs.Call.{Asks, AskNothing, HasLarge, HasShown, IsCause, Causes, EndsAs, accepted_text, OutAfter, ErrAfter};
 ghost use Rattle.cert_tool.specs.Shown.{IsVerified};
+ghost use Rattle.cert_tool.specs.Status.{line_of};
 
+use crate::lines::line;
+use crate::refusal::Refusal;
 use crate::stages::{Asked, work};
-use crate::status::{Refusal, Status, line};
-use crate::trouble::Trouble;
 use std::alloc::Global;
-use vb_outer::{Shelf, Sink, write_all};
+use tool_words::{Status, deliver, report};
+use vb_outer::{Shelf, Sink};
 
 /// Checks a certificate that no run of a procedure of a file of Boogie fails, `BPL PROC CERTIFICATE`, and answers how it ended. The
 /// words leave out the program's own name.
@@ -26,7 +30,7 @@ pub fn tool<H: Shelf, O: Sink, E: Sink>(
     shelf: &mut H,
     out: &mut O,
     err: &mut E,
-) -> Status
+) -> Status<Refusal>
     // Where the call is done, no run of the procedure fails.
     ensures verified { (file name certificate : List ℕ) → Asks (map string_bytes words.now.items) file name certificate
         → result ≡ Status.Done → IsVerified (IsWhole (H.files shelf.old)) file name }
@@ -53,33 +57,22 @@ pub fn tool<H: Shelf, O: Sink, E: Sink>(
         (IsCause (map string_bytes words.now.items) (H.files shelf.old) (H.faults shelf.old) (H.faults shelf.new)) result }
     ensures files { H.files shelf.new ≡ H.files shelf.old }
 {
-    answered(alloc, words, shelf, out, err)
+    let answer = shown(alloc, words, shelf);
+    ended(alloc, answer, out, err)
 }
 
-/// The same. Files have one answer, so which status comes where a cause stands follows from the causes.
-fn answered<H: Shelf, O: Sink, E: Sink>(
-    alloc: Global,
-    words: &[String],
-    shelf: &mut H,
-    out: &mut O,
-    err: &mut E,
-) -> Status
-    ensures causes { Causes (map string_bytes words.now) (H.files shelf.old) (H.faults shelf.old) (H.faults shelf.new)
-        (Rose (O.faults out.old) (O.faults out.new) ⊎ Rose (E.faults err.old) (E.faults err.new)) result }
-    ensures out { OutAfter (O.written out.old) (O.written out.new) (HasShown (map string_bytes words.now) (H.files shelf.old)) result }
-    ensures err { ErrAfter (E.written err.old) (E.written err.new)
-        (IsCause (map string_bytes words.now) (H.files shelf.old) (H.faults shelf.old) (H.faults shelf.new)) result }
+/// What the words ask for is shown, or the status that tells why it is not.
+fn shown<H: Shelf>(alloc: Global, words: &[String], shelf: &mut H) -> Result<(), Status<Refusal>>
+    ensures shown { IsOk result → HasShown (map string_bytes words.now) (H.files shelf.old) }
+    ensures stops { (s : Status Refusal) → IsErrOf result s
+        → Stops kind_of (IsCause (map string_bytes words.now) (H.files shelf.old) (H.faults shelf.old) (H.faults shelf.new)) s }
     ensures files { H.files shelf.new ≡ H.files shelf.old }
 {
     let Some(call) = call_of(words) else {
-        return report(alloc, err, Status::Usage);
+        return Err(Status::Usage);
     };
-    match work(alloc, shelf, call) {
-        Ok(()) => deliver(out),
-        Err(Trouble::Memory) => Status::NoMemory,
-        Err(Trouble::Read) => report(alloc, err, Status::ReadFault),
-        Err(Trouble::Refused(refusal)) => report(alloc, err, Status::Refused(refusal)),
-    }
+    work(alloc, shelf, call)?;
+    Ok(())
 }
 
 /// The file, the procedure and the certificate, where the words are three.
@@ -97,25 +90,21 @@ fn call_of(words: &[String]) -> Option<Asked>
     }
 }
 
-/// Writes the line of acceptance.
-fn deliver<O: Sink>(out: &mut O) -> Status
-    ensures { Delivers (O.written out.old) (O.written out.new) (O.faults out.old) (O.faults out.new) result }
+/// Writes the line of acceptance, or the one that says why there is none.
+fn ended<O: Sink, E: Sink>(
+    alloc: Global,
+    shown: Result<(), Status<Refusal>>,
+    out: &mut O,
+    err: &mut E,
+) -> Status<Refusal>
+    ensures { MatchResult shown
+        (λ _. Delivers kind_of (O.written out.old) (O.written out.new) (O.faults out.old) (O.faults out.new) accepted_text Status.Done result
+        × (E.written err.new ≡ E.written err.old))
+        (λ s. Reports kind_of (E.written err.old) (E.written err.new) (E.faults err.old) (E.faults err.new) (line_of s) s result
+        × (O.written out.new ≡ O.written out.old)) }
 {
-    match write_all(out, b"accepted\n") {
-        Ok(()) => Status::Done,
-        Err(_) => Status::WriteFault,
-    }
-}
-
-/// Writes the line of a status, which is then the answer.
-fn report<E: Sink>(alloc: Global, err: &mut E, status: Status) -> Status
-    ensures { Reports (E.written err.old) (E.written err.new) (E.faults err.old) (E.faults err.new) status result }
-{
-    match line(alloc, status) {
-        Ok(text) => match write_all(err, text.as_bytes()) {
-            Ok(()) => status,
-            Err(_) => Status::WriteFault,
-        },
-        Err(_) => Status::NoMemory,
+    match shown {
+        Ok(()) => deliver(out, b"accepted\n", Status::Done),
+        Err(status) => report(err, line(alloc, status), status),
     }
 }

@@ -4,9 +4,11 @@
 #![tactic(auto)]
 
 mod command;
+mod lines;
+mod refusal;
 mod stages;
-mod status;
 mod trouble;
 
 pub use command::tool;
-pub use status::{Refusal, Status};
+pub use refusal::Refusal;
+pub use tool_words::Status;

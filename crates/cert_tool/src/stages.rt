@@ -1,23 +1,19 @@
 // From a file of Boogie and a certificate to what is shown.
-ghost use Rattle.std.specs.Prelude.{◌≡◌, ◌⊎◌, ◌<◌, ◌≤◌, length, Some, slice_get, IfOk, IsOk, IsErrOf};
+ghost use Rattle.std.specs.Prelude.{◌≡◌, ◌⊎◌, ◌<◌, ◌≤◌, length, Some, slice_get, IsOk, IsErrOf};
 ghost use Rattle.vb_outer.specs.Faults.{Rose};
 ghost use Rattle.vb_outer.specs.Shelf.{IsMissing, IsWhole};
 ghost use Rattle.boogie_tree.specs.Program as p;
 ghost use Rattle.boogie_tree.specs.Whole.{program_of};
 ghost use Rattle.boogie_meaning.specs.Programs.{IsTypedProgram};
-ghost use Rattle.cond_tool.specs.Call.{Refuses};
-ghost use Rattle.cond_tool.specs.declared.status.Refusal as b;
-ghost use Rattle.cond_tool.specs.declared.trouble.Trouble.TheVariants as boogie;
 ghost use Rattle.cert_tool.specs.Call.{HasCertificate, IsOfLine, IsOfCertificate, IsRefused, IsUnread, IsShown};
-ghost use Rattle.cert_tool.specs.Parts.{IsFound};
 ghost use Rattle.cert_tool.specs.Shown.{NeverFails};
 
-use crate::status::Refusal;
+use crate::refusal::Refusal;
 use crate::trouble::{Trouble, unread};
+use boogie_file::found;
 use boogie_tree::BProgram;
 use boogie_wp::conditions;
 use certificates::check;
-use cond_tool::accepted;
 use std::alloc::Global;
 use vb_base::limits::MAX_BOOGIE_BYTES;
 use vb_outer::{Shelf, read_file};
@@ -28,23 +24,6 @@ pub(crate) struct Asked<'a> {
     pub(crate) file: &'a str,
     pub(crate) procedure: &'a str,
     pub(crate) certificate: &'a str,
-}
-
-/// The program of a file of Boogie, and the number of its procedure of this name.
-fn found<H: Shelf>(
-    alloc: Global,
-    shelf: &mut H,
-    file: &str,
-    name: &str,
-) -> Result<(BProgram, usize), cond_tool::Trouble>
-    ensures found { IfOk result (λ r. IsFound (IsWhole (H.files shelf.old)) file.now name.now (program_of r.0) r.1) }
-    ensures refused { (r : b.Refusal) → IsErrOf result (boogie.Refused r) → Refuses (IsWhole (H.files shelf.old)) file.now name.now r }
-    ensures read { IsErrOf result boogie.Read → IsMissing (H.files shelf.old) file.now ⊎ Rose (H.faults shelf.old) (H.faults shelf.new) }
-    ensures later { H.faults shelf.old ≤ H.faults shelf.new }
-    ensures files { H.files shelf.new ≡ H.files shelf.old }
-{
-    let bytes = read_file(alloc, shelf, file, MAX_BOOGIE_BYTES)?;
-    accepted(alloc, &bytes, name)
 }
 
 /// Checks a certificate against the conditions of the procedure of this number.

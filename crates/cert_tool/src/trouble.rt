@@ -1,10 +1,11 @@
 // Why a certificate is not accepted.
 ghost use Rattle.std.specs.Prelude.{◌≡◌};
-ghost use Rattle.cert_tool.specs.Parts.{trouble_of_boogie, trouble_of_file, trouble_of_certificate};
+ghost use Rattle.cert_tool.specs.Parts.{trouble_of_boogie, trouble_of_file, trouble_of_certificate, status_of};
 ghost use Rattle.cert_tool.specs.declared.trouble.Trouble.TheVariants as trouble;
 
-use crate::status::Refusal;
+use crate::refusal::Refusal;
 use certificates::Unshown;
+use tool_words::Status;
 use vb_base::Memory;
 use vb_outer::FileFault;
 
@@ -17,22 +18,14 @@ pub enum Trouble {
     Refused(Refusal),
 }
 
-impl From<Memory> for Trouble {
-    ghost from_gives = { λ _ e. e ≡ trouble.Memory };
-
-    fn from(_: Memory) -> Trouble {
-        Trouble::Memory
-    }
-}
-
-impl From<cond_tool::Trouble> for Trouble {
+impl From<boogie_file::Trouble> for Trouble {
     ghost from_gives = { λ t e. e ≡ trouble_of_boogie t };
 
-    fn from(trouble: cond_tool::Trouble) -> Trouble {
+    fn from(trouble: boogie_file::Trouble) -> Trouble {
         match trouble {
-            cond_tool::Trouble::Memory => Trouble::Memory,
-            cond_tool::Trouble::Read => Trouble::Read,
-            cond_tool::Trouble::Refused(refusal) => Trouble::Refused(Refusal::Boogie(refusal)),
+            boogie_file::Trouble::Memory => Trouble::Memory,
+            boogie_file::Trouble::Read => Trouble::Read,
+            boogie_file::Trouble::Refused(refusal) => Trouble::Refused(Refusal::Boogie(refusal)),
         }
     }
 }
@@ -44,6 +37,26 @@ impl From<Unshown> for Trouble {
         match unshown {
             Unshown::Memory => Trouble::Memory,
             Unshown::Refused(line, why) => Trouble::Refused(Refusal::Certificate(line, why)),
+        }
+    }
+}
+
+impl From<Memory> for Trouble {
+    ghost from_gives = { λ _ e. e ≡ trouble.Memory };
+
+    fn from(_: Memory) -> Trouble {
+        Trouble::Memory
+    }
+}
+
+impl From<Trouble> for Status<Refusal> {
+    ghost from_gives = { λ trouble e. e ≡ status_of trouble };
+
+    fn from(trouble: Trouble) -> Status<Refusal> {
+        match trouble {
+            Trouble::Memory => Status::NoMemory,
+            Trouble::Read => Status::ReadFault,
+            Trouble::Refused(refusal) => Status::Refused(refusal),
         }
     }
 }

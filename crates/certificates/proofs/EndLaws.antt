@@ -1,15 +1,14 @@
 -- What is noted at the end of a certificate.
-use Rattle.std.proofs.Common.{◌≡◌, ◌⊎◌, inl, inr, ◌∙◌, ℕ, ◌+◌, ◌<◌, ◌≤◌, Bool as Truth, Option, All, List, [], ◌∷◌, ◌++◌, get_or, take, length, add-one, sym, ap, subst}
-use Rattle.std.proofs.lemmas.List.{take_all}
+use Rattle.std.proofs.Common.{◌≡◌, ◌⊎◌, inl, inr, ◌∙◌, ℕ, ◌+◌, ◌<◌, Bool as Truth, Option, List, [], ◌∷◌, ◌++◌, get_or, take, length, add-one, sym, ap, subst}
 use Rattle.std.proofs.Math.Seq.{take-suc}
 use Rattle.std.specs.BTreeMap.{BTreeMap}
 use Rattle.std.specs.declared.alloc.Global.{Global}
 use Rattle.std.specs.declared.vec.Vec.{Vec}
+use Rattle.lemmas.proofs.Lists.{there_right}
 use Rattle.boogie_formula.specs.declared.formulas.Fail.{Fail}
 use Rattle.cert_terms.specs.Literals.{turned}
 use Rattle.cert_terms.specs.declared.terms.Literal.{Literal}
 use Rattle.cert_terms.proofs.KeptLaws.{kept_more}
-use Rattle.cert_terms.proofs.TableLaws.{there_right}
 use Rattle.certificates.specs.Ends.{AreAlone, IsAlone, IsDenied, IsNoted, IsOpposed}
 
 alone_longer : (clauses more : List (Vec Literal Global)) (l : Literal) → IsAlone clauses l → IsAlone (clauses ++ more) l
@@ -40,7 +39,3 @@ alone_noted clauses i d units new m lt h is more l n = subst (λ cs. IsAlone cs 
 pub opposed_denied : (clauses : List (Vec Literal Global)) (aliases : List (Option Literal)) (units : BTreeMap ℕ Truth) (a : Fail) → AreAlone units clauses → IsOpposed units aliases a.name →
     IsDenied clauses aliases a
 opposed_denied clauses aliases units a h o = record { literal = o.0; is_told = o.1; is_alone = h (turned o.0) o.2 }
-
--- what holds of as many as there are holds of all
-pub All-whole : {X : Type 0} (P : X → Type 0) (xs : List X) (i : ℕ) → length xs ≤ i → All P (take i xs) → All P xs
-All-whole P xs i h a = subst (All P) (take_all i xs h) a

@@ -1,8 +1,8 @@
 -- Where what says that each assertion fails is true at no values that are read off the variables', no assertion can fail.
 use Rattle.std.proofs.Common.{◌≡◌, ◌∙◌, ℕ, zero, suc, Bool as Truth, true, false, not, All, List, [], ◌∷◌, ◌++◌, get_or, Option, Some, None, Result, Ok, Err, IfOk, slice_get, if◌then◌else◌, refl, sym, ap, subst}
-use Rattle.std.proofs.lemmas.Option.{slice_get_within, get_or_from_slice_get}
 use Rattle.std.specs.declared.alloc.Global.{Global}
 use Rattle.std.specs.declared.vec.Vec.{Vec}
+use Rattle.lemmas.proofs.Lists.{there_left, all_at}
 use Rattle.boogie_tree.specs.Program.{BType}
 use Rattle.boogie_tree.specs.Value.{BScalar, BValue, One, Int, Bool, Ref, Real, Snap}
 use Rattle.boogie_tree.specs.Values.{IsEnvironment}
@@ -30,9 +30,6 @@ use Rattle.certificates.specs.Ends.{IsAlone, IsDenied}
 use Rattle.certificates.specs.Shown.{IsShown, AreShown, IsTableOf, IsRefuted, IsRight, NeverFails}
 use Rattle.certificates.specs.declared.progress.Progress.{Progress}
 use Rattle.certificates.proofs.KindLaws.{first_type}
-
-all_at : {X : Type 0} (P : X → Type 0) (xs : List X) (n : ℕ) (x : X) → All P xs → slice_get xs n ≡ Some x → P x
-all_at P xs n x h e = subst P (get_or_from_slice_get xs n x x e) (h n x (slice_get_within xs n x e))
 
 -- ---- clauses
 
@@ -101,11 +98,6 @@ denied_refuted x terms types shown right h = λ k a lt.
     refuted_by x terms types shown.aliases.items there d.literal right.aliases d.is_told (alone_shown x terms types shown.clauses.items (turned d.literal) right.clauses d.is_alone)
 
 -- ---- values of all names
-
-there_left : {X : Type 0} (xs ys : List X) (n : ℕ) (x : X) → slice_get xs n ≡ Some x → slice_get (xs ++ ys) n ≡ Some x
-there_left [] ys n x h = absurd (cc)
-there_left (y ∷ xs) ys zero x h = h
-there_left (y ∷ xs) ys (suc n) x h = there_left xs ys n x h
 
 defined_typed : (lets : List FExpr) (ls all : List BType) (env known : List BValue) → IsEnvironment ls env → defined_types lets ls ≡ Some all → defined lets env ≡ Is known →
     IsEnvironment all known

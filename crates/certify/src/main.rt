@@ -4,31 +4,14 @@
 #![tactic(auto)]
 
 use cert_tool::{Status, tool};
-use std::env;
-use std::io::ErrorKind;
 use std::process::ExitCode;
-use vb_base::Memory;
-use vb_outer::{DiskShelf, StdSink};
+use tool_words::Process;
 
 fn main(rt: HostRuntime) -> ExitCode {
-    let status = match words(&rt) {
-        Ok(words) => {
-            let mut disk = DiskShelf::make(rt);
-            let mut out = StdSink::make(rt.stdout());
-            let mut err = StdSink::make(rt.stderr());
-            tool(rt.alloc(), &words, &mut disk, &mut out, &mut err)
-        }
+    let alloc = rt.alloc();
+    let status = match Process::of(rt) {
+        Ok(mut it) => tool(alloc, &it.words, &mut it.disk, &mut it.out, &mut it.err),
         Err(_) => Status::NoMemory,
     };
     ExitCode::from(status.number())
-}
-
-/// The words after the program's own name; none, where one of them is no UTF-8.
-fn words(rt: &HostRuntime) -> Result<Vec<String>, Memory> {
-    let alloc = rt.alloc();
-    match env::args(rt) {
-        Ok(arguments) => Ok(arguments.skip(1).collect(alloc)?),
-        Err(error) if error.kind() == ErrorKind::OutOfMemory => Err(Memory),
-        Err(_) => Ok(Vec::new(alloc)),
-    }
 }

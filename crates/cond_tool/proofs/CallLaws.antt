@@ -1,125 +1,96 @@
 -- What the parts of a call, one after the other, make of it.
-use Rattle.std.proofs.Common.{◌≡◌, ◌⊎◌, inl, inr, ◌∙◌, ◌+◌, ◌<◌, ℕ, List, length, replicate, Option, Some, None, Result, Ok, Err, IfOk, refl, sym, subst, arith}
+use Rattle.std.proofs.Common.{◌≡◌, ◌∙◌, ◌⊎◌, inl, inr, ℕ, List, Option, Some, Result, Ok, Err, IfOk, MatchResult, slice_get, refl, sym, ap, subst}
 use Rattle.std.specs.declared.alloc.Global.{Global}
 use Rattle.std.specs.declared.vec.Vec.{Vec}
-use Rattle.std.proofs.lemmas.List.{length-replicate}
 use Rattle.vb_outer.specs.Faults.{Rose}
-use Rattle.vb_outer.specs.Shelf.{Files, IsWhole, IsLonger}
-use Rattle.vb_outer.specs.Sink.{Appends, AppendsPrefix}
-use Rattle.vb_outer.specs.declared.fault.FileFault.{FileFault}
-use Rattle.vb_outer.specs.declared.fault.FileFault.TheVariants as file
-use Rattle.cond_tool.specs.Accepted.{size}
+use Rattle.vb_outer.specs.Shelf.{Files, IsMissing, IsWhole}
+use Rattle.vb_outer.specs.Sink.{Appends}
+use Rattle.boogie_tree.specs.Program.{Proc, BProgram}
+use Rattle.boogie_formula.specs.Follows.{AreExact, ConditionsFollow}
+use Rattle.boogie_formula.specs.Formula.{Conditions}
+use Rattle.boogie_formula.specs.Types.{IsTypedConditions}
+use Rattle.boogie_wp.specs.Build.{conditions_for}
+use Rattle.formula_text.specs.Printed.{conditions_text}
+use Rattle.formula_text.specs.Spells.{SpellsConditions}
+use Rattle.boogie_file.specs.Files.{IsFound, Refuses}
+use Rattle.boogie_file.specs.Parts.{status_of}
+use Rattle.boogie_file.specs.Refusals.{refusal_text}
+use Rattle.boogie_file.specs.declared.refusal.Refusal.{Refusal}
+use Rattle.boogie_file.specs.declared.trouble.Trouble.{Trouble}
+use Rattle.boogie_file.specs.declared.trouble.Trouble.TheVariants as trouble
+use Rattle.boogie_file.proofs.FileLaws.{found_there, found_accepts}
+use Rattle.tool_words.specs.Ends.{Stops, FrontWritten}
+use Rattle.tool_words.specs.Status.{kind_of}
+use Rattle.tool_words.specs.Written.{Delivers, Reports}
+use Rattle.tool_words.specs.declared.status.Status.{Status}
+use Rattle.tool_words.specs.declared.status.Status.TheVariants as status
+use Rattle.tool_words.proofs.EndLaws.{delivered_cause, delivered_out, delivered_err, reported_cause, reported_out, reported_err, quiet}
 use Rattle.cond_tool.specs.Call as call
-use Rattle.cond_tool.specs.Call.{Asks, AskNothing, Refuses, Does, HasDone, IsCause, Causes, OutAfter, ErrAfter}
-use Rattle.cond_tool.specs.Parts as parts
-use Rattle.cond_tool.specs.Parts.{Reports, Delivers, trouble_of_file}
+use Rattle.cond_tool.specs.Call.{Asks, Does, HasDone, IsCause, Causes, OutAfter, ErrAfter}
 use Rattle.cond_tool.specs.Status.{line_of}
 use Rattle.cond_tool.specs.Written.{AreOfFile, IsWritten}
-use Rattle.cond_tool.specs.declared.status.Refusal.{Refusal}
-use Rattle.cond_tool.specs.declared.status.Refusal.TheVariants as refusal
-use Rattle.cond_tool.specs.declared.status.Status.{Status}
-use Rattle.cond_tool.specs.declared.status.Status.TheVariants as status
-use Rattle.cond_tool.specs.declared.trouble.Trouble.{Trouble}
-use Rattle.cond_tool.specs.declared.trouble.Trouble.TheVariants as trouble
-
--- errors are what the results hold
-pub error_is : {T E : Type 0} {r : Result T E} {d e : E} → r ≡ Err d → r ≡ Err e → d ≡ e
-error_is {d = d} {e = e} first other = let same : Err d ≡ Err e = sym first ∙ other in cc
-
--- ---- the file
-
--- some bytes that are too long
-pub long_bytes : (files : Option Files) (name : List ℕ) (limit : ℕ) → IsLonger files name limit → (bytes : List ℕ) × IsWhole files name bytes × (limit < length bytes)
-long_bytes None name limit longer = (replicate (limit + 1) 0, tt, omega (arith, length-replicate {A = ℕ} (limit + 1) 0))
-long_bytes (Some files) name limit longer = longer
-
--- a file that could not be read is refused for its length, or is missing, or the shelf failed
-pub file_refusal : (files : Option Files) (path name : List ℕ) (fault : FileFault) (r : Refusal) → (fault ≡ file.Long → IsLonger files path 33554432) →
-    trouble_of_file fault ≡ trouble.Refused r → Refuses (IsWhole files) path name r
-file_refusal files path name file.Memory r long is_r = absurd (cc)
-file_refusal files path name file.Failed r long is_r = absurd (cc)
-file_refusal files path name file.Long r long is_r =
-    let same : refusal.Size ≡ r = cc in
-    let (bytes, is, above) = long_bytes files path 33554432 (long refl) in
-    subst (Refuses (IsWhole files) path name) same (record { bytes = bytes; is = is; refused = size above })
-
-pub file_unread : (Cause : Type 0) (fault : FileFault) → (fault ≡ file.Failed → Cause) → trouble_of_file fault ≡ trouble.Read → Cause
-file_unread Cause file.Memory failed is = absurd (cc)
-file_unread Cause file.Failed failed is = failed refl
-file_unread Cause file.Long failed is = absurd (cc)
 
 -- ---- what is written
 
-pub written_does : (files : Option Files) (file name bytes : List ℕ) (result : Result (Vec ℕ Global) Trouble) → IsWhole files file bytes →
-    IfOk result (λ t. IsWritten bytes name t.items) → IfOk result (λ t. Does (IsWhole files) file name t.items)
-written_does files file name bytes (Ok t) whole w = record { bytes = bytes; is = whole; procedure = w.procedure; accepted = w.accepted; text_is = w.text_is }
-written_does files file name bytes (Err e) whole w = w
+pub is_written : (d : Proc) (x : Conditions) (text : List ℕ) → x ≡ conditions_for d → IsTypedConditions x → ConditionsFollow d x → AreExact d x → text ≡ conditions_text d.name x →
+    SpellsConditions text d.name x → ((m : List ℕ) (y : Conditions) → SpellsConditions text m y → (m ≡ d.name) × (y ≡ x)) → IsWritten d text
+is_written d x text built typed follows exact is_text spelled only = record {
+  text_is = is_text ∙ ap (conditions_text d.name) built;
+  conditions = record { conditions = x; typed = typed; spelled = spelled; only = only; follows = follows; exact = exact };
+}
 
-pub written_are : (files : Option Files) (file name bytes : List ℕ) (result : Result (Vec ℕ Global) Trouble) → IsWhole files file bytes →
-    IfOk result (λ t. IsWritten bytes name t.items) → IfOk result (λ t. AreOfFile (IsWhole files) file name t.items)
-written_are files file name bytes (Ok t) whole w = record { bytes = bytes; is = whole; procedure = w.procedure; accepted = w.accepted; conditions = w.conditions }
-written_are files file name bytes (Err e) whole w = w
+module _ {Has : List ℕ → List ℕ → Type 0} {file name text : List ℕ} {q : BProgram} {n : ℕ} (found : IsFound Has file name q n)
+    (written : (d : Proc) → slice_get q.procs n ≡ Some d → IsWritten d text) where
+  pub written_does : Does Has file name text
+  written_does =
+      let there = (found_there found).1 in
+      let w = written (found_there found).0 there in
+      record { bytes = found.bytes; is = found.is; procedure = (found_there found).0; accepted = found_accepts found (found_there found).0 there; text_is = w.text_is }
+
+  pub written_are : AreOfFile Has file name text
+  written_are =
+      let there = (found_there found).1 in
+      let w = written (found_there found).0 there in
+      record { bytes = found.bytes; is = found.is; procedure = (found_there found).0; accepted = found_accepts found (found_there found).0 there; conditions = w.conditions }
 
 pub has_done : {words : List (List ℕ)} {files : Option Files} {file name text : List ℕ} → Asks words file name → Does (IsWhole files) file name text → AreOfFile (IsWhole files) file name text →
     HasDone words files text
 has_done {file = f} {name = n} asks does are = record { file = f; name = n; asked = asks; does = does; conditions = are }
 
--- ---- what a status that was reported comes to
+-- ---- how the call ends
 
--- a status that has a line
-pub data HasLine : Status → Type 0 where
-  usage_line : HasLine status.Usage
-  read_line : HasLine status.ReadFault
-  refused_line : {r : Refusal} → HasLine (status.Refused r)
+-- a trouble is told by the status that has its cause
+pub trouble_stops : (words : List (List ℕ)) (files : Option Files) (first last : ℕ) {file name : List ℕ} → Asks words file name → (t : Trouble) (s : Status Refusal) → status_of t ≡ s →
+    (t ≡ trouble.Read → IsMissing files file ⊎ Rose first last) → ((r : Refusal) → t ≡ trouble.Refused r → Refuses (IsWhole files) file name r) →
+    Stops kind_of (IsCause words files first last) s
+trouble_stops words files first last asks trouble.Memory s is read refused = subst (Stops kind_of (IsCause words files first last)) is tt
+trouble_stops words files first last asks trouble.Read s is read refused = subst (Stops kind_of (IsCause words files first last)) is (call.read asks (read refl))
+trouble_stops words files first last asks (trouble.Refused r) s is read refused = subst (Stops kind_of (IsCause words files first last)) is (call.refused asks (refused r refl))
 
-module _ {words : List (List ℕ)} {files : Option Files} {first last : ℕ} where
-  line_cause : (SinkFailed : Type 0) {s : Status} → HasLine s → IsCause words files first last s → Causes words files first last SinkFailed s
-  line_cause SinkFailed usage_line cause = cause
-  line_cause SinkFailed read_line cause = cause
-  line_cause SinkFailed refused_line cause = cause
+module _ (words : List (List ℕ)) (files : Option Files) (first last : ℕ) (out_before out_now err_before err_now : Option (List ℕ)) (out_first out_last err_first err_last : ℕ) (ended : Status Refusal) where
+  -- what was made is written, or the line that says why nothing was
+  abbrev pub Ended : Result (Vec ℕ Global) (Status Refusal) → Type 0
+  Ended made = MatchResult made
+      (λ t. Delivers kind_of out_before out_now out_first out_last t.items status.Done ended × (err_now ≡ err_before))
+      (λ s. Reports kind_of err_before err_now err_first err_last (line_of s) s ended × (out_now ≡ out_before))
 
-line_appended : (before now : Option (List ℕ)) (Cause : Status → Type 0) {s : Status} → HasLine s → Appends before now (line_of s) → ErrAfter before now Cause s
-line_appended before now Cause usage_line appends = appends
-line_appended before now Cause read_line appends = appends
-line_appended before now Cause refused_line appends = appends
+  pub made_cause : (r : Result (Vec ℕ Global) (Status Refusal)) → Ended r → IfOk r (λ t. HasDone words files t.items) →
+      ((s : Status Refusal) → r ≡ Err s → Stops kind_of (IsCause words files first last) s) → Causes words files first last (Rose out_first out_last ⊎ Rose err_first err_last) ended
+  made_cause (Ok t) e h stops = delivered_cause {kind = kind_of} {s = status.Done} refl (IsCause words files first last) (Rose err_first err_last) e.0 (call.done h)
+  made_cause (Err s) e h stops = reported_cause (IsCause words files first last) (Rose out_first out_last) e.0 (stops s refl)
 
-nothing_written : (before : Option (List ℕ)) (IsText : List ℕ → Type 0) {s : Status} → HasLine s → OutAfter before before IsText s
-nothing_written before IsText usage_line = refl
-nothing_written before IsText read_line = refl
-nothing_written before IsText refused_line = refl
+  pub made_out : (r : Result (Vec ℕ Global) (Status Refusal)) → Ended r → IfOk r (λ t. HasDone words files t.items) →
+      ((s : Status Refusal) → r ≡ Err s → Stops kind_of (IsCause words files first last) s) → OutAfter out_before out_now (HasDone words files) ended
+  made_out (Ok t) e h stops =
+      delivered_out {kind = kind_of} {s = status.Done} refl (λ s. (text : List ℕ) × HasDone words files text × Appends out_before out_now text) (out_now ≡ out_before)
+      (FrontWritten out_before out_now (HasDone words files)) (FrontWritten out_before out_now (HasDone words files)) e.0
+      (λ appends. (t.items, h, appends)) (λ front. inr (t.items, h, front))
+  made_out (Err s) e h stops =
+      reported_out (IsCause words files first last) (λ s. (text : List ℕ) × HasDone words files text × Appends out_before out_now text)
+      {Unfinished = FrontWritten out_before out_now (HasDone words files)} {Forgotten = FrontWritten out_before out_now (HasDone words files)}
+      e.0 (stops s refl) e.1 (inl e.1) (inl e.1)
 
-module _ {words : List (List ℕ)} {files : Option Files} {first last : ℕ} {before now : Option (List ℕ)} {faults_before faults_now : ℕ} where
-  pub reported_cause : (OutFailed : Type 0) {s ended : Status} → HasLine s → Reports before now faults_before faults_now s ended → IsCause words files first last s →
-      Causes words files first last (OutFailed ⊎ Rose faults_before faults_now) ended
-  reported_cause OutFailed line (parts.reported appends) cause = line_cause _ line cause
-  reported_cause OutFailed line (parts.unwritten front rose) cause = inr rose
-  reported_cause OutFailed line (parts.no_memory same) cause = tt
-
-  pub reported_err : {s ended : Status} → HasLine s → Reports before now faults_before faults_now s ended → IsCause words files first last s →
-      ErrAfter before now (IsCause words files first last) ended
-  reported_err line (parts.reported appends) cause = line_appended _ _ _ line appends
-  reported_err {s = s} line (parts.unwritten front rose) cause = inr (s, cause, front)
-  reported_err line (parts.no_memory same) cause = same
-
-pub reported_out : {before now : Option (List ℕ)} {faults_before faults_now : ℕ} (out : Option (List ℕ)) (IsText : List ℕ → Type 0) {s ended : Status} → HasLine s →
-    Reports before now faults_before faults_now s ended → OutAfter out out IsText ended
-reported_out out IsText line (parts.reported appends) = nothing_written out IsText line
-reported_out out IsText line (parts.unwritten front rose) = inl refl
-reported_out out IsText line (parts.no_memory same) = inl refl
-
--- ---- what a text that was delivered comes to
-
-module _ {words : List (List ℕ)} {files : Option Files} {before now : Option (List ℕ)} {faults_before faults_now : ℕ} {bytes text : List ℕ} (same : bytes ≡ text) where
-  pub delivered_cause : (first last : ℕ) (ErrFailed : Type 0) {ended : Status} → Delivers before now faults_before faults_now bytes ended → HasDone words files text →
-      Causes words files first last (Rose faults_before faults_now ⊎ ErrFailed) ended
-  delivered_cause first last ErrFailed (parts.delivered appends) h = call.done h
-  delivered_cause first last ErrFailed (parts.unwritten front rose) h = inl rose
-
-  pub delivered_out : {ended : Status} → Delivers before now faults_before faults_now bytes ended → HasDone words files text → OutAfter before now (HasDone words files) ended
-  delivered_out (parts.delivered appends) h = (text, h, subst (Appends before now) same appends)
-  delivered_out (parts.unwritten front rose) h = inr (text, h, subst (AppendsPrefix before now) same front)
-
-pub delivered_err : {before now : Option (List ℕ)} {faults_before faults_now : ℕ} {bytes : List ℕ} (err : Option (List ℕ)) (Cause : Status → Type 0) {ended : Status} →
-    Delivers before now faults_before faults_now bytes ended → ErrAfter err err Cause ended
-delivered_err err Cause (parts.delivered appends) = refl
-delivered_err err Cause (parts.unwritten front rose) = inl refl
+  pub made_err : (r : Result (Vec ℕ Global) (Status Refusal)) → Ended r → IfOk r (λ t. HasDone words files t.items) →
+      ((s : Status Refusal) → r ≡ Err s → Stops kind_of (IsCause words files first last) s) → ErrAfter err_before err_now (IsCause words files first last) ended
+  made_err (Ok t) e h stops = subst (λ x. ErrAfter err_before x (IsCause words files first last) ended) (sym e.1) (delivered_err {kind = kind_of} {s = status.Done} refl line_of err_before (IsCause words files first last) e.0)
+  made_err (Err s) e h stops = reported_err (IsCause words files first last) line_of (quiet refusal_text _) e.0 (stops s refl)

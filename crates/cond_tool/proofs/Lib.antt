@@ -1,4 +1,2 @@
-pub mod Verdicts
-mod StageLaws
 pub mod CallLaws
 pub mod Answered

@@ -1,15 +1,19 @@
 -- What a call does: when each status comes, and what stands in the sinks afterwards.
-use Rattle.std.specs.Prelude.{⊤, ◌≡◌, ◌⊎◌, ℕ, List, [], ◌∷◌, Option}
+use Rattle.std.specs.Prelude.{◌≡◌, ◌⊎◌, ℕ, List, [], ◌∷◌, Option}
 use Rattle.vb_outer.specs.Faults.{Rose}
 use Rattle.vb_outer.specs.Shelf.{Files, IsMissing, IsWhole}
-use Rattle.vb_outer.specs.Sink.{Appends, AppendsPrefix}
+use Rattle.vb_outer.specs.Sink.{Appends}
 use Rattle.boogie_tree.specs.Program.{Proc}
-use Rattle.cond_tool.specs.Accepted.{Accepts, IsRefusal}
+use Rattle.boogie_file.specs.Accepted.{Accepts}
+use Rattle.boogie_file.specs.Files.{Refuses}
+use Rattle.boogie_file.specs.declared.refusal.Refusal.{Refusal}
+use Rattle.tool_words.specs.Ends as ends
+use Rattle.tool_words.specs.Ends.{OutOf, FrontWritten}
+use Rattle.tool_words.specs.Status.{kind_of}
+use Rattle.tool_words.specs.declared.status.Status.{Status}
+use Rattle.tool_words.specs.declared.status.Status.TheVariants.{Done, Refused, Usage, ReadFault}
 use Rattle.cond_tool.specs.Status.{line_of}
 use Rattle.cond_tool.specs.Written.{written_of, AreOfFile}
-use Rattle.cond_tool.specs.declared.status.Refusal.{Refusal}
-use Rattle.cond_tool.specs.declared.status.Status.{Status}
-use Rattle.cond_tool.specs.declared.status.Status.TheVariants.{Done, Refused, Usage, ReadFault, WriteFault, NoMemory}
 
 -- ---- the words
 
@@ -22,12 +26,6 @@ abbrev pub AskNothing : List (List ℕ) → Type 0
 AskNothing words = (file name : List ℕ) → Asks words file name → ⊥
 
 -- ---- what a call does, where these are the bytes of files by their names
-
--- it is refused for this reason
-pub record Refuses (Has : List ℕ → List ℕ → Type 0) (file name : List ℕ) (r : Refusal) : Type 0 where
-  pub bytes : List ℕ
-  pub is : Has file bytes
-  pub refused : IsRefusal bytes name r
 
 -- it is accepted, and writes this text
 pub record Does (Has : List ℕ → List ℕ → Type 0) (file name text : List ℕ) : Type 0 where
@@ -49,50 +47,32 @@ pub record HasDone (words : List (List ℕ)) (files : Option Files) (text : List
 -- ---- statuses
 
 -- when a status comes, where no sink failed and there was memory; the counts are those of the shelf's faults
-pub data IsCause (words : List (List ℕ)) (files : Option Files) (before now : ℕ) : Status → Type 0 where
+pub data IsCause (words : List (List ℕ)) (files : Option Files) (before now : ℕ) : Status Refusal → Type 0 where
   usage : AskNothing words → IsCause words files before now Usage
   read : {file name : List ℕ} → Asks words file name → IsMissing files file ⊎ Rose before now → IsCause words files before now ReadFault
   refused : {file name : List ℕ} {r : Refusal} → Asks words file name → Refuses (IsWhole files) file name r → IsCause words files before now (Refused r)
   done : {text : List ℕ} → HasDone words files text → IsCause words files before now Done
 
 -- the cause of each status
-abbrev pub Causes : List (List ℕ) → Option Files → ℕ → ℕ → Type 0 → Status → Type 0
-Causes words files before now SinkFailed NoMemory = ⊤
-Causes words files before now SinkFailed WriteFault = SinkFailed
-Causes words files before now SinkFailed status = IsCause words files before now status
+abbrev pub Causes : List (List ℕ) → Option Files → ℕ → ℕ → Type 0 → Status Refusal → Type 0
+Causes words files before now SinkFailed status = ends.Causes kind_of (IsCause words files before now) SinkFailed status
 
 -- the status, unless memory was refused or a device failed
-pub data EndsAs (expected : Status) : Status → Type 0 where
-  as_expected : EndsAs expected expected
-  no_memory : EndsAs expected NoMemory
-  read_fault : EndsAs expected ReadFault
-  write_fault : EndsAs expected WriteFault
+abbrev pub EndsAs : Status Refusal → Status Refusal → Type 0
+EndsAs expected status = ends.EndsAs kind_of expected status
 
 -- and where it is done, this text was appended to the output
-abbrev pub EndsWith : Option (List ℕ) → Option (List ℕ) → List ℕ → Status → Type 0
+abbrev pub EndsWith : Option (List ℕ) → Option (List ℕ) → List ℕ → Status Refusal → Type 0
 EndsWith before now text status = EndsAs Done status × (status ≡ Done → Appends before now text)
 
 -- ---- sinks
 
--- the front of such a text was appended, or nothing
-abbrev pub FrontWritten : Option (List ℕ) → Option (List ℕ) → (List ℕ → Type 0) → Type 0
-FrontWritten before now IsText = (now ≡ before) ⊎ ((text : List ℕ) × IsText text × AppendsPrefix before now text)
-
 -- what stands in the sink of the output: what the call writes, or what stood there before; after a fault of a sink, and for want of
 -- memory, the front of what it writes
-abbrev pub OutAfter : Option (List ℕ) → Option (List ℕ) → (List ℕ → Type 0) → Status → Type 0
-OutAfter before now IsText Done = (text : List ℕ) × IsText text × Appends before now text
-OutAfter before now IsText WriteFault = FrontWritten before now IsText
-OutAfter before now IsText NoMemory = FrontWritten before now IsText
-OutAfter before now IsText (Refused r) = now ≡ before
-OutAfter before now IsText Usage = now ≡ before
-OutAfter before now IsText ReadFault = now ≡ before
+abbrev pub OutAfter : Option (List ℕ) → Option (List ℕ) → (List ℕ → Type 0) → Status Refusal → Type 0
+OutAfter before now IsText status =
+    OutOf (kind_of status) ((text : List ℕ) × IsText text × Appends before now text) (now ≡ before) (FrontWritten before now IsText) (FrontWritten before now IsText)
 
 -- what stands in the sink of errors: one more line, where the status has one; after a fault of a sink the front of such a line
-abbrev pub ErrAfter : Option (List ℕ) → Option (List ℕ) → (Status → Type 0) → Status → Type 0
-ErrAfter before now Cause (Refused r) = Appends before now (line_of (Refused r))
-ErrAfter before now Cause Usage = Appends before now (line_of Usage)
-ErrAfter before now Cause ReadFault = Appends before now (line_of ReadFault)
-ErrAfter before now Cause WriteFault = (now ≡ before) ⊎ ((status : Status) × Cause status × AppendsPrefix before now (line_of status))
-ErrAfter before now Cause Done = now ≡ before
-ErrAfter before now Cause NoMemory = now ≡ before
+abbrev pub ErrAfter : Option (List ℕ) → Option (List ℕ) → (Status Refusal → Type 0) → Status Refusal → Type 0
+ErrAfter before now Cause status = ends.ErrAfter kind_of line_of before now Cause status

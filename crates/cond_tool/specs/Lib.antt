@@ -1,5 +1,3 @@
 pub mod Status
-pub mod Accepted
 pub mod Written
 pub mod Call
-pub mod Parts

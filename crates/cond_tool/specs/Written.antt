@@ -7,7 +7,7 @@ use Rattle.boogie_formula.specs.Types.{IsTypedConditions}
 use Rattle.boogie_wp.specs.Build.{conditions_for}
 use Rattle.formula_text.specs.Printed.{conditions_text}
 use Rattle.formula_text.specs.Spells.{SpellsConditions}
-use Rattle.cond_tool.specs.Accepted.{Accepts}
+use Rattle.boogie_file.specs.Accepted.{Accepts}
 
 -- the text that is written of it
 abbrev pub written_of : Proc → List ℕ
@@ -23,12 +23,10 @@ pub record AreConditions (d : Proc) (text : List ℕ) : Type 0 where
   pub follows : ConditionsFollow d conditions
   pub exact : AreExact d conditions
 
--- the bytes of a file have this procedure, and the text is what is written of it
-pub record IsWritten (bytes name text : List ℕ) : Type 0 where
-  pub procedure : Proc
-  pub accepted : Accepts bytes name procedure
-  pub text_is : text ≡ written_of procedure
-  pub conditions : AreConditions procedure text
+-- the text is what is written of the procedure
+pub record IsWritten (d : Proc) (text : List ℕ) : Type 0 where
+  pub text_is : text ≡ written_of d
+  pub conditions : AreConditions d text
 
 -- a file has a procedure of this name, and the text is its conditions
 pub record AreOfFile (Has : List ℕ → List ℕ → Type 0) (file name text : List ℕ) : Type 0 where

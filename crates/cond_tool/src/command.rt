@@ -1,18 +1,23 @@
 // From the words of a call to what it writes and the status it ends with.
-ghost use Rattle.std.specs.Prelude.{◌≡◌, ◌⊎◌, ℕ, List, map, MatchOption};
+ghost use Rattle.std.specs.Prelude.{◌≡◌, ◌⊎◌, ℕ, List, map, IfOk, IsErrOf, MatchOption, MatchResult};
 ghost use Rattle.std.specs.String.{string_bytes};
 ghost use Rattle.vb_outer.specs.Faults.{Rose};
 ghost use Rattle.vb_outer.specs.Shelf.{IsFile, IsMissing, IsWhole};
 ghost use Rattle.vb_outer.specs.Sink.{Appends};
-ghost use Rattle.cond_tool.specs.Call.{Asks, AskNothing, Refuses, Does, HasDone, IsCause, Causes, EndsAs, EndsWith, OutAfter, ErrAfter};
-ghost use Rattle.cond_tool.specs.Parts.{Reports, Delivers};
+ghost use Rattle.boogie_file.specs.Files.{Refuses};
+ghost use Rattle.tool_words.specs.Ends.{Stops};
+ghost use Rattle.tool_words.specs.Status.{kind_of};
+ghost use Rattle.tool_words.specs.Written.{Delivers, Reports};
+ghost use Rattle.cond_tool.specs.Call.{Asks, AskNothing, Does, HasDone, IsCause, Causes, EndsAs, EndsWith, OutAfter, ErrAfter};
+ghost use Rattle.cond_tool.specs.Status.{line_of};
 ghost use Rattle.cond_tool.specs.Written.{AreOfFile};
 
+use crate::lines::line;
 use crate::stages::work;
-use crate::status::{Refusal, Status, line};
-use crate::trouble::Trouble;
+use boogie_file::Refusal;
 use std::alloc::Global;
-use vb_outer::{Shelf, Sink, write_all};
+use tool_words::{Status, deliver, report};
+use vb_outer::{Shelf, Sink};
 
 /// What the words of a call ask for.
 #[derive(Clone, Copy)]
@@ -31,7 +36,11 @@ pub fn tool<H: Shelf, O: Sink, E: Sink>(
     shelf: &mut H,
     out: &mut O,
     err: &mut E,
-) -> Status
+) -> Status<Refusal>
+    // What is written spells just one procedure's conditions, which say of each label where the procedure fails there.
+    ensures conditions { (file name : List ℕ) → Asks (map string_bytes words.now.items) file name → result ≡ Status.Done
+        → (text : List ℕ) × AreOfFile (IsWhole (H.files shelf.old)) file name text × Appends (O.written out.old) (O.written out.new) text }
+
     // Each status has its cause.
     ensures causes { Causes (map string_bytes words.now.items) (H.files shelf.old) (H.faults shelf.old) (H.faults shelf.new)
         (Rose (O.faults out.old) (O.faults out.new) ⊎ Rose (E.faults err.old) (E.faults err.new)) result }
@@ -47,43 +56,32 @@ pub fn tool<H: Shelf, O: Sink, E: Sink>(
     ensures does { (file name text : List ℕ) → Asks (map string_bytes words.now.items) file name
         → Does (IsFile (H.files shelf.old)) file name text → EndsWith (O.written out.old) (O.written out.new) text result }
 
-    // It spells just one procedure's conditions, which say of each label where the procedure fails there.
-    ensures conditions { (file name : List ℕ) → Asks (map string_bytes words.now.items) file name → result ≡ Status.Done
-        → (text : List ℕ) × AreOfFile (IsWhole (H.files shelf.old)) file name text × Appends (O.written out.old) (O.written out.new) text }
-
     // What stands afterwards.
     ensures out { OutAfter (O.written out.old) (O.written out.new) (HasDone (map string_bytes words.now.items) (H.files shelf.old)) result }
     ensures err { ErrAfter (E.written err.old) (E.written err.new)
         (IsCause (map string_bytes words.now.items) (H.files shelf.old) (H.faults shelf.old) (H.faults shelf.new)) result }
     ensures files { H.files shelf.new ≡ H.files shelf.old }
 {
-    answered(alloc, words, shelf, out, err)
+    let answer = made(alloc, words, shelf);
+    ended(alloc, answer, out, err)
 }
 
-/// The same. Files have one answer, so which status comes where a cause stands follows from the causes.
-fn answered<H: Shelf, O: Sink, E: Sink>(
+/// The text that the words ask for, or the status that tells why there is none.
+fn made<H: Shelf>(
     alloc: Global,
     words: &[String],
     shelf: &mut H,
-    out: &mut O,
-    err: &mut E,
-) -> Status
-    ensures causes { Causes (map string_bytes words.now) (H.files shelf.old) (H.faults shelf.old) (H.faults shelf.new)
-        (Rose (O.faults out.old) (O.faults out.new) ⊎ Rose (E.faults err.old) (E.faults err.new)) result }
-    ensures out { OutAfter (O.written out.old) (O.written out.new) (HasDone (map string_bytes words.now) (H.files shelf.old)) result }
-    ensures err { ErrAfter (E.written err.old) (E.written err.new)
-        (IsCause (map string_bytes words.now) (H.files shelf.old) (H.faults shelf.old) (H.faults shelf.new)) result }
+) -> Result<Vec<u8>, Status<Refusal>>
+    ensures done { IfOk result (λ text. HasDone (map string_bytes words.now) (H.files shelf.old) text.items) }
+    ensures stops { (s : Status Refusal) → IsErrOf result s
+        → Stops kind_of (IsCause (map string_bytes words.now) (H.files shelf.old) (H.faults shelf.old) (H.faults shelf.new)) s }
     ensures files { H.files shelf.new ≡ H.files shelf.old }
 {
     let Some(call) = call_of(words) else {
-        return report(alloc, err, Status::Usage);
+        return Err(Status::Usage);
     };
-    match work(alloc, shelf, call.file, call.procedure) {
-        Ok(text) => deliver(out, &text),
-        Err(Trouble::Memory) => Status::NoMemory,
-        Err(Trouble::Read) => report(alloc, err, Status::ReadFault),
-        Err(Trouble::Refused(refusal)) => report(alloc, err, Status::Refused(refusal)),
-    }
+    let text = work(alloc, shelf, call.file, call.procedure)?;
+    Ok(text)
 }
 
 /// The file and the procedure, where the words are two.
@@ -99,25 +97,21 @@ fn call_of(words: &[String]) -> Option<Asked>
     }
 }
 
-/// Writes a whole text.
-fn deliver<O: Sink>(out: &mut O, text: &[u8]) -> Status
-    ensures { Delivers (O.written out.old) (O.written out.new) (O.faults out.old) (O.faults out.new) text.now result }
+/// Writes the text, or the line that says why there is none.
+fn ended<O: Sink, E: Sink>(
+    alloc: Global,
+    text: Result<Vec<u8>, Status<Refusal>>,
+    out: &mut O,
+    err: &mut E,
+) -> Status<Refusal>
+    ensures { MatchResult text
+        (λ t. Delivers kind_of (O.written out.old) (O.written out.new) (O.faults out.old) (O.faults out.new) t.items Status.Done result
+        × (E.written err.new ≡ E.written err.old))
+        (λ s. Reports kind_of (E.written err.old) (E.written err.new) (E.faults err.old) (E.faults err.new) (line_of s) s result
+        × (O.written out.new ≡ O.written out.old)) }
 {
-    match write_all(out, text) {
-        Ok(()) => Status::Done,
-        Err(_) => Status::WriteFault,
-    }
-}
-
-/// Writes the line of a status, which is then the answer.
-fn report<E: Sink>(alloc: Global, err: &mut E, status: Status) -> Status
-    ensures { Reports (E.written err.old) (E.written err.new) (E.faults err.old) (E.faults err.new) status result }
-{
-    match line(alloc, status) {
-        Ok(text) => match write_all(err, text.as_bytes()) {
-            Ok(()) => status,
-            Err(_) => Status::WriteFault,
-        },
-        Err(_) => Status::NoMemory,
+    match text {
+        Ok(text) => deliver(out, &text, Status::Done),
+        Err(status) => report(err, line(alloc, status), status),
     }
 }

@@ -5,12 +5,9 @@
 #![tactic(auto)]
 
 mod command;
-pub mod laws;
+mod lines;
 mod stages;
-mod status;
-mod trouble;
 
+pub use boogie_file::{Refusal, Trouble, accepted, laws};
 pub use command::tool;
-pub use stages::accepted;
-pub use status::{Refusal, Status};
-pub use trouble::Trouble;
+pub use tool_words::Status;

@@ -1,85 +1,31 @@
 // From a file to the text of the conditions of one of its procedures.
-ghost use Rattle.std.specs.Prelude.{◌≡◌, ◌⊎◌, ◌≤◌, length, Some, IfOk, IsErrOf, position};
-ghost use Rattle.std.specs.Str.{bytes_eq};
-ghost use Rattle.vb_base.specs.Limits.{max_boogie_bytes};
+ghost use Rattle.std.specs.Prelude.{◌≡◌, ◌⊎◌, ◌<◌, length, Some, slice_get, IfOk, IsErrOf};
 ghost use Rattle.vb_outer.specs.Faults.{Rose};
 ghost use Rattle.vb_outer.specs.Shelf.{IsMissing, IsWhole};
-ghost use Rattle.boogie_tree.specs.Whole.{program_of, proc_of};
-ghost use Rattle.cond_tool.specs.Accepted.{IsBoogie, IsTextRefusal, IsRefusal, procedure_named};
-ghost use Rattle.cond_tool.specs.Call.{Does, Refuses};
+ghost use Rattle.boogie_tree.specs.Program as p;
+ghost use Rattle.boogie_tree.specs.Whole.{program_of};
+ghost use Rattle.boogie_print.specs.Printable.{FitsProc};
+ghost use Rattle.boogie_meaning.specs.Programs.{IsTypedProgram};
+ghost use Rattle.boogie_file.specs.Files.{Refuses};
+ghost use Rattle.cond_tool.specs.Call.{Does};
 ghost use Rattle.cond_tool.specs.Written.{AreOfFile, IsWritten};
 
-use crate::status::Refusal;
-use crate::trouble::Trouble;
-use boogie_run::check_types;
-use boogie_text::read;
-use boogie_tree::{BProgram, Proc};
+use boogie_file::{Refusal, Trouble, found};
+use boogie_tree::BProgram;
 use boogie_wp::conditions;
 use formula_text::print_conditions;
 use std::alloc::Global;
-use vb_base::limits::MAX_BOOGIE_BYTES;
-use vb_outer::{Shelf, read_file};
+use vb_base::Memory;
+use vb_outer::Shelf;
 
-/// The well-typed program of a file.
-fn boogie_program(alloc: Global, bytes: &[u8]) -> Result<BProgram, Trouble>
-    requires { length bytes.now ≤ max_boogie_bytes }
-    ensures accepted { IfOk result (λ p. IsBoogie bytes.now (program_of p)) }
-    ensures refused { (r : Refusal) → IsErrOf result (Trouble.Refused r) → IsTextRefusal bytes.now r }
-    ensures read { IsErrOf result Trouble.Read → ⊥ }
+/// The text of the conditions of the procedure of this number.
+fn stated(alloc: Global, program: &BProgram, number: usize) -> Result<Vec<u8>, Memory>
+    requires typed { IsTypedProgram (program_of program.now) }
+    requires exists { number < length (program_of program.now).procs }
+    requires fits { (d : p.Proc) → slice_get (program_of program.now).procs number ≡ Some d → FitsProc d }
+    ensures { (d : p.Proc) → slice_get (program_of program.now).procs number ≡ Some d → IfOk result (λ text. IsWritten d text.items) }
 {
-    let program = read(alloc, bytes)?;
-    match check_types(&program) {
-        Ok(()) => Ok(program),
-        Err(number) => Err(Trouble::Refused(Refusal::BoogieType(number))),
-    }
-}
-
-/// The number of the procedure that has this name.
-fn procedure_named(program: &BProgram, name: &[u8]) -> Option<usize>
-    ensures { result ≡ procedure_named (program_of program.now) name.now }
-{
-    place_of(&program.procs, name)
-}
-
-/// Its place among the procedures.
-fn place_of(procs: &[Proc], name: &[u8]) -> Option<usize>
-    ensures { result ≡ position (λ d. bytes_eq (proc_of d).name name.now) procs.now }
-{
-    procs.iter().position(|proc| is_named(proc, name))
-}
-
-fn is_named(proc: &Proc, name: &[u8]) -> bool
-    ensures { result ≡ bytes_eq (proc_of proc.now).name name.now }
-{
-    proc.name.bytes() == name
-}
-
-/// The well-typed program of a file, and the number of its procedure of this name.
-///
-/// A file that is refused is `Refused`, for the reason that the contract tells. `Memory` where there is no memory.
-pub fn accepted(alloc: Global, bytes: &[u8], name: &str) -> Result<(BProgram, usize), Trouble>
-    requires { length bytes.now ≤ max_boogie_bytes }
-    ensures accepted { IfOk result (λ r. IsBoogie bytes.now (program_of r.0)) }
-    ensures named { IfOk result (λ r. procedure_named (program_of r.0) name.now ≡ Some r.1) }
-    ensures refused { (r : Refusal) → IsErrOf result (Trouble.Refused r) → IsRefusal bytes.now name.now r }
-    ensures read { IsErrOf result Trouble.Read → ⊥ }
-{
-    let program = boogie_program(alloc, bytes)?;
-    match procedure_named(&program, name.as_bytes()) {
-        Some(number) => Ok((program, number)),
-        None => Err(Trouble::Refused(Refusal::NoProcedure)),
-    }
-}
-
-/// The text of the conditions of the procedure of this name, of the program of a file.
-fn stated(alloc: Global, bytes: &[u8], name: &str) -> Result<Vec<u8>, Trouble>
-    requires { length bytes.now ≤ max_boogie_bytes }
-    ensures told { IfOk result (λ text. IsWritten bytes.now name.now text.items) }
-    ensures refused { (r : Refusal) → IsErrOf result (Trouble.Refused r) → IsRefusal bytes.now name.now r }
-    ensures read { IsErrOf result Trouble.Read → ⊥ }
-{
-    let (program, number) = accepted(alloc, bytes, name)?;
-    let made = conditions(alloc, &program, number)?;
+    let made = conditions(alloc, program, number)?;
     let text = print_conditions(alloc, &program.procs[number].name, &made)?;
     Ok(text)
 }
@@ -97,6 +43,7 @@ pub fn work<H: Shelf>(
     ensures read { IsErrOf result Trouble.Read → IsMissing (H.files shelf.old) file.now ⊎ Rose (H.faults shelf.old) (H.faults shelf.new) }
     ensures files { H.files shelf.new ≡ H.files shelf.old }
 {
-    let bytes = read_file(alloc, shelf, file, MAX_BOOGIE_BYTES)?;
-    stated(alloc, &bytes, name)
+    let (program, number) = found(alloc, shelf, file, name)?;
+    let text = stated(alloc, &program, number)?;
+    Ok(text)
 }

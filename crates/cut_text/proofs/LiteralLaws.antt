@@ -1,6 +1,7 @@
 -- The literals of what is written can be spelled where those of the program can.
 use Rattle.std.proofs.Common.{◌≡◌, ◌+◌, ℕ, Option, Some, None, List, [], ◌∷◌, ◌++◌, length, All, refl}
 use Rattle.std.proofs.lemmas.List.Elements.{All-nil, All-cons, All-head, All-tail}
+use Rattle.lemmas.proofs.Lists.{at_item}
 use Rattle.boogie_tree.specs.Expr as t
 use Rattle.boogie_tree.specs.Stmt as s
 use Rattle.boogie_tree.specs.Literals.{LiteralsFit, IndexLiteralsFit, StmtLiteralsFit, BlockLiteralsFit}
@@ -12,7 +13,7 @@ use Rattle.boogie_wide.specs.Changed.{targets}
 use Rattle.boogie_wide.specs.Conditions.{ClauseLiteralsFit, GuardLiteralsFit, WideStmtLiteralsFit, WideLiteralsFit, ProcLiteralsFit}
 use Rattle.boogie_wide.specs.Procedures.{proc_named}
 use Rattle.boogie_cut.specs.Cut.{join, asserts, assumes, havocs, assigns, argument_numbers, stands_for, renamed_clauses, cut_call, cut_guard, cut_turn, cut_loop, cut_stmt, cut, cut_body}
-use Rattle.boogie_cut.proofs.TypedLaws.{found, place_at}
+use Rattle.boogie_cut.proofs.TypedLaws.{found}
 
 module _ (f : ℕ → ℕ) where
   mutual
@@ -86,7 +87,7 @@ module _ (ps : List WProc) (fit : All ProcLiteralsFit ps) (ls : List BType) wher
   call_fits is name es n (Some d) e h =
       let f = stands_for (argument_numbers n es ++ is) in
       let at = found (λ (x : WProc). _) ps d e in
-      let callee = place_at ProcLiteralsFit ps fit at.0 d at.1 in
+      let callee = at_item ProcLiteralsFit ps fit at.0 d at.1 in
       join_fits (assigns n es) _ (assigns_fit n es h)
       (join_fits (asserts (renamed_clauses f d.preconditions)) _ (asserts_fit (renamed_clauses f d.preconditions) (clauses_fit f d.preconditions callee.preconditions))
       (join_fits (havocs is) _ (havocs_fit is) (assumes_fit (renamed_clauses f d.postconditions) (clauses_fit f d.postconditions callee.postconditions))))

@@ -8,10 +8,12 @@ use Rattle.std.specs.Str.{bytes_eq}
 use Rattle.std.specs.Str.Parse.{digits_value}
 use Rattle.std.proofs.lemmas.Slice.Eq.{bytes_eq-Decides}
 use Rattle.std.proofs.lemmas.Fmt.{decimal_is_IsNumeral_wide}
-use Rattle.std.proofs.lemmas.Bool.{or_left, or_right, or_from, both_ways, and_parts, and_from}
+use Rattle.std.proofs.lemmas.Bool.{or_left, or_right, or_from, both_ways, and_parts, and_from, or_parts}
 use Rattle.std.proofs.lemmas.List.Elements.{All-nil, All-cons, All-head, All-tail, All-append}
 use Rattle.std.proofs.lemmas.Nat.{mul-le}
 use Rattle.std.proofs.lemmas.List.Kept.{AllPairs-cons}
+use Rattle.lemmas.proofs.Bytes.{same_bytes}
+use Rattle.lemmas.proofs.Lists.{same_rest}
 use Rattle.vb_base.proofs.Numbers.{digits, all_digits}
 use Rattle.vb_base.specs.Names.{is_name_start, is_name_byte, NamesDiffer}
 use Rattle.boogie_tree.specs.Program.{BType, Local}
@@ -19,20 +21,15 @@ use Rattle.boogie_tree.specs.Values.{AreKeys}
 use Rattle.boogie_meaning.specs.Programs.{HaveKeys}
 use Rattle.boogie_grammar.specs.Grammar.{local_names}
 use Rattle.boogie_grammar.specs.Words.{reserved}
-use Rattle.boogie_text.specs.Printable.{IsFreeName, FitsLocal}
+use Rattle.boogie_print.specs.Printable.{IsFreeName, FitsLocal}
+use Rattle.boogie_print.proofs.NumberedNames as fresh
 use Rattle.boogie_cut.specs.Fresh.{numbered, is_among, free_number, fresh_locals, is_a}
 
 -- ---- numbered names
 
-same_bytes : (x y : List ℕ) → bytes_eq x y ≡ true → x ≡ y
-same_bytes x y e = (bytes_eq-Decides x y).0 e
-
-same_tail : {x : ℕ} {xs ys : List ℕ} → x ∷ xs ≡ x ∷ ys → xs ≡ ys
-same_tail h = cc
-
 one_number : (m n : ℕ) → m < 10 ^ 64 → n < 10 ^ 64 → numbered m ≡ numbered n → m ≡ n
 one_number m n small less e =
-    let tails : decimal m ≡ decimal n = same_tail e in
+    let tails : decimal m ≡ decimal n = same_rest e in
     sym (decimal_is_IsNumeral_wide m small).1 ∙ (ap (digits_value 10) tails ∙ (decimal_is_IsNumeral_wide n less).1)
 
 decimal_digits : (n : ℕ) → n < 10 ^ 64 → list_all is_ascii_digit (decimal n) ≡ true
@@ -52,10 +49,6 @@ numbered_has_digit : (ds : List ℕ) → 0 < length ds → list_all is_ascii_dig
 numbered_has_digit [] some h = absurd (omega (arith, some))
 numbered_has_digit (d ∷ ds) some h = (and_parts (is_ascii_digit d) (list_all is_ascii_digit ds) h).0
 
-or_none : (a b : Bool) → (a || b) ≡ false → (a ≡ false) × (b ≡ false)
-or_none true b h = absurd (cc)
-or_none false b h = (refl, h)
-
 differs_from : (x w : List ℕ) (b : Bool) → bytes_eq x w ≡ b → has_digit x ≡ true → has_digit w ≡ false → b ≡ false
 differs_from x w true e h k = absurd (let same = same_bytes x w e in both_ways (has_digit w) k (sym (ap has_digit same) ∙ h))
 differs_from x w false e h k = refl
@@ -63,7 +56,7 @@ differs_from x w false e h k = refl
 none_of : (x : List ℕ) (words : List (List ℕ)) → has_digit x ≡ true → list_any has_digit words ≡ false → is_among x words ≡ false
 none_of x [] h k = refl
 none_of x (w ∷ words) h k =
-    let parts = or_none (has_digit w) (list_any has_digit words) k in
+    let parts = or_parts (has_digit w) (list_any has_digit words) k in
     or_from _ _ (differs_from x w (bytes_eq x w) refl h parts.0) (none_of x words h parts.1)
 
 numbered_free : (n : ℕ) → n < 10 ^ 64 → IsFreeName (numbered n)
@@ -75,105 +68,19 @@ numbered_free n small =
       free = none_of (numbered n) reserved (numbered_has_digit (decimal n) numeral.0.0 ds) refl;
     }
 
--- ---- the names without one
-
-abbrev without : List ℕ → List (List ℕ) → List (List ℕ)
-without x [] = []
-without x (y ∷ ys) = if bytes_eq x y then without x ys else (y ∷ without x ys)
-
-no_longer_at : (b : Bool) (n m : ℕ) (ys : List (List ℕ)) (y : List ℕ) → length ys ≤ n → length (if b then ys else (y ∷ ys)) ≤ suc n
-no_longer_at true n m ys y le = omega (arith, le)
-no_longer_at false n m ys y le = omega (arith, le)
-
-no_longer : (x : List ℕ) (ys : List (List ℕ)) → length (without x ys) ≤ length ys
-no_longer x [] = omega arith
-no_longer x (y ∷ ys) = no_longer_at (bytes_eq x y) (length ys) 0 (without x ys) y (no_longer x ys)
-
-shorter_at : (b c : Bool) (n : ℕ) (ys : List (List ℕ)) (y : List ℕ) → (b || c) ≡ true → length ys ≤ n → (c ≡ true → length ys < n) → length (if b then ys else (y ∷ ys)) < suc n
-shorter_at true c n ys y e le lt = omega (arith, le)
-shorter_at false c n ys y e le lt = let h = lt e in omega (arith, h)
-
-shorter : (x : List ℕ) (ys : List (List ℕ)) → is_among x ys ≡ true → length (without x ys) < length ys
-shorter x [] e = absurd (cc)
-shorter x (y ∷ ys) e = shorter_at (bytes_eq x y) (is_among x ys) (length ys) (without x ys) y e (no_longer x ys) (shorter x ys)
-
-stays_at : (b c d : Bool) (y z : List ℕ) (ys : List (List ℕ)) → bytes_eq z y ≡ c → (c || d) ≡ true → (b ≡ true → c ≡ false) → (d ≡ true → is_among z ys ≡ true) →
-    is_among z (if b then ys else (y ∷ ys)) ≡ true
-stays_at true true d y z ys e h no_both rest = absurd (let f = no_both refl in cc)
-stays_at true false d y z ys e h no_both rest = rest h
-stays_at false true d y z ys e h no_both rest = or_left (bytes_eq z y) (is_among z ys) e
-stays_at false false d y z ys e h no_both rest = or_right (bytes_eq z y) (is_among z ys) (rest h)
-
-not_both : (x y z : List ℕ) (c : Bool) → (z ≡ x → ⊥) → bytes_eq z y ≡ c → bytes_eq x y ≡ true → c ≡ false
-not_both x y z true differ e f = absurd (differ (same_bytes z y e ∙ sym (same_bytes x y f)))
-not_both x y z false differ e f = refl
-
-stays : (x z : List ℕ) (ys : List (List ℕ)) → (z ≡ x → ⊥) → is_among z ys ≡ true → is_among z (without x ys) ≡ true
-stays x z [] differ h = absurd (cc)
-stays x z (y ∷ ys) differ h =
-    stays_at (bytes_eq x y) (bytes_eq z y) (is_among z ys) y z (without x ys) refl h (not_both x y z (bytes_eq z y) differ refl) (stays x z ys differ)
-
--- ---- the search
-
--- of the names from the number n on, those among all are among the rest
-abbrev Rest : ℕ → List (List ℕ) → List (List ℕ) → Type 0
-Rest n all rest = (m : ℕ) → n ≤ m → m < 10 ^ 64 → is_among (numbered m) all ≡ true → is_among (numbered m) rest ≡ true
-
-none_left : (n : ℕ) (all rest : List (List ℕ)) (b : Bool) → is_among (numbered n) all ≡ b → n < 10 ^ 64 → length rest ≤ 0 → Rest n all rest → b ≡ false
-none_left n all [] true e lt le h = let f = h n (omega arith) lt e in absurd (cc)
-none_left n all (y ∷ ys) true e lt le h = absurd (omega (arith, le))
-none_left n all rest false e lt le h = refl
-
-rest_later : (n : ℕ) (all rest : List (List ℕ)) → n < 10 ^ 64 → Rest n all rest → Rest (n + 1) all (without (numbered n) rest)
-rest_later n all rest small h m le lt e =
-    stays (numbered n) (numbered m) rest (λ f. let same = one_number m n lt small f in omega (arith, le, same)) (h m (omega (arith, le)) lt e)
-
-found_at : (n later : ℕ) (all : List (List ℕ)) (b : Bool) → is_among (numbered n) all ≡ b → (b ≡ true → is_among (numbered later) all ≡ false) →
-    is_among (numbered (if b then later else n)) all ≡ false
-found_at n later all true e h = h refl
-found_at n later all false e h = e
-
-found : (k n : ℕ) (all rest : List (List ℕ)) → n + k < 10 ^ 64 → length rest ≤ k → Rest n all rest → is_among (numbered (free_number k n all)) all ≡ false
-found zero n all rest small le h = none_left n all rest (is_among (numbered n) all) refl (omega (arith, small)) le h
-found (suc k) n all rest small le h =
-    found_at n (free_number k (n + 1) all) all (is_among (numbered n) all) refl
-    (λ e.
-    let less = shorter (numbered n) rest (h n (omega arith) (omega (arith, small)) e) in
-    found k (n + 1) all (without (numbered n) rest) (omega (arith, small)) (omega (arith, less, le)) (rest_later n all rest (omega (arith, small)) h))
+-- ---- the search, and the names that begin otherwise
 
 free_is_new : (n : ℕ) (all : List (List ℕ)) → n + length all < 10 ^ 64 → is_among (numbered (free_number (length all) n all)) all ≡ false
-free_is_new n all small = found (length all) n all all small (omega arith) (λ m le lt e. e)
-
-within_at : (b : Bool) (n k later : ℕ) → n + 1 ≤ later → later ≤ n + 1 + k → (n ≤ (if b then later else n)) × ((if b then later else n) ≤ n + suc k)
-within_at true n k later ge le = (omega (arith, ge), omega (arith, le))
-within_at false n k later ge le = (omega arith, omega arith)
+free_is_new n all small = fresh.free_is_new numbered free_number (λ i a. refl) (λ k i a. refl) (10 ^ 64) one_number n all small
 
 free_within : (k n : ℕ) (all : List (List ℕ)) → (n ≤ free_number k n all) × (free_number k n all ≤ n + k)
-free_within zero n all = (omega arith, omega arith)
-free_within (suc k) n all = let h = free_within k (n + 1) all in within_at (is_among (numbered n) all) n k (free_number k (n + 1) all) h.0 h.1
+free_within k n all = fresh.free_within numbered free_number (λ i a. refl) (λ j i a. refl) k n all
 
--- ---- the names that begin otherwise
+avoided : (n : ℕ) (others : List (List ℕ)) → is_among (numbered n) (filter is_a others) ≡ false → is_among (numbered n) others ≡ false
+avoided n others h = fresh.avoided is_a (numbered n) refl others h
 
-differ_from_a : (b c : Bool) (n : ℕ) (y : List ℕ) → bytes_eq (numbered n) y ≡ b → is_a y ≡ c → c ≡ false → b ≡ false
-differ_from_a true c n y e f g = absurd (let same = same_bytes (numbered n) y e in let a : is_a y ≡ true = ap is_a (sym same) in both_ways (is_a y) (f ∙ g) a)
-differ_from_a false c n y e f g = refl
-
-avoided_at : (n : ℕ) (y : List ℕ) (rest : List (List ℕ)) (among : Bool) (c : Bool) → is_a y ≡ c → is_among (numbered n) (if c then y ∷ rest else rest) ≡ false →
-    (is_among (numbered n) rest ≡ false → among ≡ false) → (bytes_eq (numbered n) y || among) ≡ false
-avoided_at n y rest among true e h ih = let parts = or_none (bytes_eq (numbered n) y) (is_among (numbered n) rest) h in or_from _ _ parts.0 (ih parts.1)
-avoided_at n y rest among false e h ih = or_from _ _ (differ_from_a (bytes_eq (numbered n) y) (is_a y) n y refl refl e) (ih h)
-
-avoided : (n : ℕ) (names : List (List ℕ)) → is_among (numbered n) (filter is_a names) ≡ false → is_among (numbered n) names ≡ false
-avoided n [] h = refl
-avoided n (y ∷ ys) h = avoided_at n y (filter is_a ys) (is_among (numbered n) ys) (is_a y) refl h (avoided n ys)
-
-fewer_at : (b : Bool) (n : ℕ) (x : List ℕ) (xs : List (List ℕ)) → length xs ≤ n → length (if b then (x ∷ xs) else xs) ≤ suc n
-fewer_at true n x xs le = omega (arith, le)
-fewer_at false n x xs le = omega (arith, le)
-
-pub fewer : (names : List (List ℕ)) → length (filter is_a names) ≤ length names
-fewer [] = omega arith
-fewer (x ∷ xs) = fewer_at (is_a x) (length xs) x (filter is_a xs) (fewer xs)
+pub fewer : (others : List (List ℕ)) → length (filter is_a others) ≤ length others
+fewer others = fresh.fewer is_a others
 
 -- ---- fresh locals
 
@@ -224,11 +131,11 @@ module _ (taken : List (List ℕ)) where
 
   other_at : (x : List ℕ) (names : List (List ℕ)) (n : ℕ) → is_among (numbered n) (x ∷ names) ≡ false → x ≢ numbered n
   other_at x names n h e =
-      let parts = or_none (bytes_eq (numbered n) x) (is_among (numbered n) names) h in
+      let parts = or_parts (bytes_eq (numbered n) x) (is_among (numbered n) names) h in
       both_ways (bytes_eq (numbered n) x) parts.0 ((bytes_eq-Decides (numbered n) x).1 (sym e))
 
   rest_other : (x : List ℕ) (names : List (List ℕ)) (n : ℕ) → is_among (numbered n) (x ∷ names) ≡ false → is_among (numbered n) names ≡ false
-  rest_other x names n h = (or_none (bytes_eq (numbered n) x) (is_among (numbered n) names) h).1
+  rest_other x names n h = (or_parts (bytes_eq (numbered n) x) (is_among (numbered n) names) h).1
 
   -- each fresh name is none of these
   abbrev AreOther : List (List ℕ) → ℕ → List BType → Type 0

@@ -5,6 +5,7 @@ use Rattle.std.specs.Option.{option_map}
 use Rattle.std.proofs.lemmas.List.{length-map}
 use Rattle.std.proofs.lemmas.List.Elements.{All-nil, All-cons, All-head, All-tail, All-append}
 use Rattle.std.proofs.lemmas.List.Kept.{AllPairs-cons}
+use Rattle.lemmas.proofs.Lists.{each_there}
 use Rattle.vb_base.specs.Names.{NamesDiffer}
 use Rattle.boogie_tree.specs.Program.{BType, Local, Proc}
 use Rattle.boogie_tree.specs.Fits.{FitStmts}
@@ -12,7 +13,7 @@ use Rattle.boogie_tree.specs.Values.{AreKeys}
 use Rattle.boogie_meaning.specs.Programs.{types_of, HaveKeys}
 use Rattle.boogie_meaning.proofs.FitsLaws.{statements_fit}
 use Rattle.boogie_grammar.specs.Grammar.{proc_names}
-use Rattle.boogie_text.specs.Printable.{IsFreeName, FitsLocal, FitsProc, IsPrintable}
+use Rattle.boogie_print.specs.Printable.{IsFreeName, FitsLocal, FitsProc, IsPrintable}
 use Rattle.boogie_wide.specs.Wide as w
 use Rattle.boogie_wide.specs.Wide.{WProc, WProgram}
 use Rattle.boogie_wide.specs.Conditions.{variable_names, procedure_names, HasNames, BodyLiteralsFit, ProcLiteralsFit}
@@ -23,7 +24,7 @@ use Rattle.boogie_cut.specs.Fresh.{fresh_locals, is_a}
 use Rattle.cut_text.specs.Printable.{IsPrintableWide, AreFewLocals}
 use Rattle.cut_text.proofs.LiteralLaws.{body_fits}
 use Rattle.cut_text.proofs.NameLaws.{fewer, fresh_fit, all_differ, small_numbers}
-use Rattle.boogie_cut.proofs.TypedLaws.{at_place, types_of_fresh, block_keys, proc_typed}
+use Rattle.boogie_cut.proofs.TypedLaws.{types_of_fresh, block_keys, proc_typed}
 
 locals_fit : (ls : List Local) → All IsFreeName (map (λ (l : Local). l.name) ls) → HaveKeys (map (λ (l : Local). l.ty) ls) → All FitsLocal ls
 locals_fit [] h k = All-nil FitsLocal
@@ -105,6 +106,6 @@ pub printable : (program : WProgram) → IsPrintableWide program → AreFewLocal
 printable program h few =
     let ps = program.procs in
     record {
-      procs = procs_fit ps h.typed h.literals ps (all_fit ps ps (at_place (IsWideProc ps) ps h.typed) h.free h.literals h.apart.variables) few;
+      procs = procs_fit ps h.typed h.literals ps (all_fit ps ps (each_there (IsWideProc ps) ps h.typed) h.free h.literals h.apart.variables) few;
       procs_differ = names_differ ps ps h.apart.procedures;
     }

@@ -9,7 +9,7 @@ use Rattle.boogie_tree.specs.Whole.{local_of, proc_of, program_of}
 use Rattle.boogie_tree.specs.declared.programs.BProgram.{BProgram as Program}
 use Rattle.boogie_tree.specs.declared.programs.Local.{Local}
 use Rattle.boogie_tree.specs.declared.programs.Proc.{Proc}
-use Rattle.boogie_text.specs.Printable.{IsPrintable}
+use Rattle.boogie_print.specs.Printable.{IsPrintable}
 use Rattle.boogie_wide.specs.Wide.{WProgram}
 use Rattle.boogie_cut.specs.Cut.{cut_program}
 use Rattle.cut_text.specs.Printable.{IsPrintableWide, AreFewLocals}

@@ -1,7 +1,7 @@
 -- Which programs with loops, calls and contracts are written as programs that have a text.
 use Rattle.std.specs.Prelude.{◌<◌, ◌^◌, All, length}
 use Rattle.boogie_tree.specs.Program.{BProgram}
-use Rattle.boogie_text.specs.Printable.{IsFreeName}
+use Rattle.boogie_print.specs.Printable.{IsFreeName}
 use Rattle.boogie_wide.specs.Wide.{WProgram}
 use Rattle.boogie_wide.specs.Conditions.{HasNames, NamesAreApart, ProcLiteralsFit}
 use Rattle.boogie_wide.specs.WideTypes.{IsWideProgram}

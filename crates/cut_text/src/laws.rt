@@ -1,7 +1,7 @@
 //! Laws of what is written, each as the contract of a function that does nothing.
 
 ghost use Rattle.boogie_meaning.specs.Programs.{IsTypedProgram};
-ghost use Rattle.boogie_text.specs.Printable.{IsPrintable};
+ghost use Rattle.boogie_print.specs.Printable.{IsPrintable};
 ghost use Rattle.boogie_wide.specs.Wide.{WProgram};
 ghost use Rattle.boogie_wide.specs.WideTypes.{IsWideProgram};
 ghost use Rattle.boogie_cut.specs.Cut.{cut_program};

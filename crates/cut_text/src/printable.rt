@@ -1,6 +1,6 @@
 // The program without loops and calls of one whose parts can be spelled.
 ghost use Rattle.std.specs.Prelude.{◌≡◌, IfOk};
-ghost use Rattle.boogie_text.specs.Printable.{IsPrintable};
+ghost use Rattle.boogie_print.specs.Printable.{IsPrintable};
 ghost use Rattle.boogie_tree.specs.Whole.{program_of};
 ghost use Rattle.boogie_wide.specs.View.{wprogram_of};
 ghost use Rattle.boogie_cut.specs.Cut.{cut_program};

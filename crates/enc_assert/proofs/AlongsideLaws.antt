@@ -2,6 +2,7 @@
 use Rattle.std.specs.Bool.{⊤}
 use Rattle.std.proofs.Common.{◌≡◌, ℕ, Option, Some, None, List, [], ◌∷◌, ◌++◌, All, refl, sym, ap, subst, ◌∙◌, append_assoc, append-nil}
 use Rattle.std.proofs.lemmas.List.Elements.{All-nil, All-cons, All-head, All-tail, All-append}
+use Rattle.viper_meaning.proofs.FoundLaws.{since_nothing}
 use Rattle.vb_base.specs.declared.labels.Label.{Label}
 use Rattle.vb_value.specs.Bound.{Bound, Bounded}
 use Rattle.vb_value.specs.Layout.{Layout}
@@ -113,9 +114,6 @@ same_goes {x = x} h = ap (λ s. the_value x s) h
     the_value : {X : Type 0} → X → Step X → X
     the_value d (Goes x) = x
     the_value d _ = d
-
-since_nothing : {X : Type 0} (o : Ran X) → since [] o ≡ o
-since_nothing (ran es step left) = refl
 
 -- A choice of Viper with one move, for one step of a run: the choices that it takes, what is recorded, and the move. Fine is what is
 -- known of what is chosen.

@@ -7,12 +7,13 @@ use Rattle.std.specs.Prelude.{unwrap_or}
 use Rattle.std.specs.List.{AllByRecursion}
 use Rattle.std.specs.List.Sorted.{IsStrictlySortedBy}
 use Rattle.std.specs.Ordering.{is_eq}
-use Rattle.std.specs.Cmp.{IsTotalOrder, Equal-is}
+use Rattle.std.specs.Cmp.{Equal-is}
 use Rattle.std.specs.declared.cmp.Ordering.TheVariants.{Less}
 use Rattle.std.proofs.lemmas.Bool.{true≢false}
-use Rattle.std.proofs.lemmas.Cmp.{tied_itself}
 use Rattle.std.proofs.lemmas.Option.{same_Some, none-some}
 use Rattle.std.proofs.lemmas.List.Elements.{All-nil, All-cons, All-head, All-tail}
+use Rattle.enc_expr.proofs.FillLaws.{scalar_same}
+use Rattle.lemmas.proofs.Orders.{at_itself}
 use Rattle.sparse.specs.Map.{Map, empty, get, set, keys, values, IsReduced}
 use Rattle.sparse.proofs.MapLaws.{IsReduced-empty, IsReduced-set, get-set_same, get-set_other, All-keys-set, All-values-set}
 use Rattle.vb_value.specs.Content.{Content, IsReducedContent}
@@ -39,9 +40,6 @@ use Rattle.moves.specs.Maps.{place_key, instance_key, index_types}
 use Rattle.enc_expr.specs.Coupling.{MapKind, heap_kind, content_kind}
 use Rattle.enc_expr.proofs.MapLaws.{IsKind}
 
-at_itself : {K : Type 0} {cmp : K → K → _} (o : IsTotalOrder cmp) (a : K) → is_at (cmp a) a ≡ true
-at_itself o a = ap is_eq (tied_itself o a)
-
 -- ---- reading keys and values of Boogie back
 
 -- a key that counts, and a value, if there is one
@@ -63,13 +61,6 @@ value_of ty.Bool (bv.Bool p) = Some (v.Bool p)
 value_of ty.Ref (bv.Ref r) = Some (v.Ref r)
 value_of ty.Perm (bv.Real q) = Some (v.Perm q)
 value_of _ _ = None
-
-scalar_same : (x y : Value) → scalar x ≡ scalar y → x ≡ y
-scalar_same (v.Int x) (v.Int y) h = cc
-scalar_same (v.Bool x) (v.Bool y) h = cc
-scalar_same (v.Ref x) (v.Ref y) h = cc
-scalar_same (v.Perm x) (v.Perm y) h = cc
-scalar_same _ _ h = absurd cc
 
 pub heap_reads : (u : Ty) → Reads (heap_kind u) (FitsValue u)
 heap_reads u = record {

@@ -5,6 +5,7 @@ use Rattle.std.specs.List.{AllZip}
 use Rattle.std.specs.Map.{values_of}
 use Rattle.std.proofs.lemmas.Option.{same_Some}
 use Rattle.std.proofs.lemmas.List.Elements.{All-nil, All-cons, All-head, All-tail}
+use Rattle.lemmas.proofs.Lists.{zip_length}
 use Rattle.sparse.specs.Map.{Map, empty, get}
 use Rattle.vb_value.specs.Bound.{Bound, Unbounded, Bounded, IfBounded, IsWithin}
 use Rattle.vb_value.specs.Content as content
@@ -82,12 +83,6 @@ set_behind ps (x ∷ xs) (h ∷ hs) e =
 
 set_all : {K V : Type 0} (xs hs : List (Map K V)) → length xs ≡ length hs → set_from xs 0 hs ≡ hs
 set_all xs hs e = set_behind [] xs hs e
-
-zip_length : {A B : Type 0} (R : A → B → Type 0) (xs : List A) (ys : List B) → AllZip R xs ys → length xs ≡ length ys
-zip_length R [] [] h = refl
-zip_length R [] (y ∷ ys) h = absurd h
-zip_length R (x ∷ xs) [] h = absurd h
-zip_length R (x ∷ xs) (y ∷ ys) h = omega (arith, zip_length R xs ys h.1)
 
 -- what is held is held at keys of instances
 held_key : (keys_of_all : List (List Ty)) (amounts : List (Map Key Fraction)) (q : ℕ) (us : List Ty) (held : Map Key Fraction) → AllZip FitsAmounts keys_of_all amounts → slice_get keys_of_all q ≡ Some us → slice_get amounts q ≡ Some held →

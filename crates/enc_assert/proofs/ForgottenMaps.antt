@@ -7,6 +7,7 @@ use Rattle.std.specs.Ordering.{nat_cmp}
 use Rattle.std.specs.declared.cmp.Ordering.{Ordering}
 use Rattle.std.proofs.lemmas.Option.{same_Some}
 use Rattle.std.proofs.lemmas.List.Elements.{Contains-append_right}
+use Rattle.viper_meaning.proofs.PartLaws.{is_none_itself}
 use Rattle.sparse.specs.Map.{Map, get, set, keys, IsReduced}
 use Rattle.sparse.specs.Meaning.{IsExact}
 use Rattle.sparse.proofs.MapLaws.{set-get, get-key}
@@ -31,7 +32,6 @@ use Rattle.viper_meaning.specs.Kept as kept
 use Rattle.viper_meaning.specs.KeptRuns.{KeepsRun, at_end, later}
 use Rattle.viper_meaning.specs.Run.{given, goes, noting}
 use Rattle.viper_meaning.proofs.ForgottenLaws.{forget_fits, value_left, content_left}
-use Rattle.enc_assert.proofs.GiveLaws.{none_is}
 
 -- ---- a memo that fits is taken
 
@@ -55,7 +55,7 @@ some_held : (q : Fraction) → fraction.IsReduced q → (q ≡ none → ⊥) →
 some_held q h some = by_test (is_none q) refl
   where
     by_test : (t : Truth) → is_none q ≡ t → t ≡ false
-    by_test true e = absurd (some (none_is q h e))
+    by_test true e = absurd (some (is_none_itself q h e))
     by_test false e = refl
 
 pub own_value : (l : Layout) (s : State) (m : Memo) → FitsState l s → FitsMemo l m → (f : ℕ) (u : Ty) → slice_get l.fields f ≡ Some u → (own new : Map ℕ Value) (held : Map ℕ Fraction) → slice_get s.heap f ≡ Some own →

@@ -1,14 +1,15 @@
 -- Rows of producing an amount: the code ends as the meaning does.
-use Rattle.std.proofs.Common.{◌≡◌, ◌*◌, ◌==◌, ℕ, ℤ, pos, negsuc, suc, neg_ℤ, ◌+ℤ◌, ◌*ℤ◌, Bool as Truth, true, false, not, ◌&&◌, List, Some, slice_get, slice_set, if◌then◌else◌, refl, sym, ap, subst, ◌∙◌, arith}
+use Rattle.std.proofs.Common.{◌≡◌, ◌*◌, ◌==◌, ℕ, ℤ, pos, negsuc, suc, neg_ℤ, ◌+ℤ◌, ◌*ℤ◌, Bool as Truth, true, false, not, List, Some, slice_get, slice_set, if◌then◌else◌, refl, sym, ap, subst, ◌∙◌, arith}
 use Rattle.std.proofs.lemmas.Int.{ints}
 use Rattle.std.proofs.Math.IntN.{*ℤ_comm}
 use Rattle.std.proofs.lemmas.Option.{slice_get_within}
+use Rattle.std.proofs.lemmas.Bool.{and_from as both}
+use Rattle.viper_meaning.proofs.PartLaws.{is_none_itself}
 use Rattle.sparse.proofs.MapLaws.{get-set_same}
 use Rattle.boogie_meaning.proofs.ValueLaws.{exact}
 use Rattle.sparse.specs.Map.{set}
 use Rattle.vb_base.specs.declared.places.Pos.{Pos}
 use Rattle.vb_value.specs.Bound.{Bound, Bounded, Unbounded, IfBounded, IsWithin}
-use Rattle.vb_value.specs.Equality.{Decides-fraction_eq}
 use Rattle.vb_value.specs.Fraction.{Fraction, IsReduced, IsProperFraction, IsWithinFraction, none, is_none, is_negative, is_positive, is_above_one, sum, product, fits_product, fits_sum}
 use Rattle.vb_value.specs.Key.{key_cmp}
 use Rattle.vb_value.proofs.IntLaws.{*ℤ_one}
@@ -40,7 +41,7 @@ use Rattle.enc_expr.specs.Alike.{Alike, KeptBut, HasAtom, IsScale}
 use Rattle.enc_expr.proofs.RunLaws.{join_done, assume_run, atom_value}
 use Rattle.enc_expr.proofs.AlikeLaws.{is_alike}
 use Rattle.enc_expr.proofs.FrameLaws.{but_set}
-use Rattle.enc_expr.proofs.AmountLaws.{fits_is, positive_test, none_alone, one_is, one_test, scaled_value, added_alike, add_to_run, at_value}
+use Rattle.enc_expr.proofs.AmountLaws.{fits_is, positive_test, one_is, one_test, scaled_value, added_alike, add_to_run, at_value}
 use Rattle.enc_expr.proofs.OperatorLaws.{plain_value}
 use Rattle.enc_expr.proofs.OpeningLaws.{alike_run, found_alike, unless_alike}
 use Rattle.enc_expr.proofs.FillLaws.{atom_put, stopped_first, positive_unless_none, implies_value, reference_key}
@@ -52,12 +53,9 @@ use Rattle.enc_assert.proofs.TargetLaws.{IsHere}
 
 -- ---- an amount of none
 
-pub none_is : (q : Fraction) → IsReduced q → is_none q ≡ true → q ≡ none
-none_is q h e = (Decides-fraction_eq q none).0 (none_alone q h ∙ e)
-
 -- it adds nothing
 nothing_more : (k w held : Fraction) → IsReduced k → IsReduced w → IsReduced held → is_none w ≡ true → sum held (product k w) ≡ held
-nothing_more k w held ik iw ih e = ap (sum held) (ap (product k) (none_is w iw e) ∙ product_comm k none ∙ product-zero k ik.positive) ∙ sum-zero held ih
+nothing_more k w held ik iw ih e = ap (sum held) (ap (product k) (is_none_itself w iw e) ∙ product_comm k none ∙ product-zero k ik.positive) ∙ sum-zero held ih
 
 pub record IsGrown (c : Context) (l : Maps) (n m : ℕ) (E : Env) (s : State) (F : Env) : Type 0 where
   pub kept : KeptBut (IsHeldLocalOf c.program.layout l) n E F
@@ -74,9 +72,6 @@ times_zero z = *ℤ_comm z (pos 0) ∙ zero_times z
     zero_times : (z : ℤ) → pos 0 *ℤ z ≡ pos 0
     zero_times (pos n) = ap pos (omega arith)
     zero_times (negsuc n) = neg_zero (0 * suc n) (omega arith)
-
-both : (p q : Truth) → p ≡ true → q ≡ true → (p && q) ≡ true
-both p q h g = rw (h, g) refl
 
 product_none_fits : (k : Fraction) → IsWithinFraction k → fits_product k none ≡ true
 product_none_fits k h =
@@ -98,7 +93,7 @@ fits_nothing : (b : Bound) (k w held : Fraction) → IsProperFraction b k → Is
     IfBounded b (fits_product k w ≡ true) × IfBounded b (fits_sum held (product k w) ≡ true)
 fits_nothing Unbounded k w held ik iw ih e = (tt, tt)
 fits_nothing Bounded k w held ik iw ih e =
-    let no : w ≡ none = none_is w iw.reduced e in
+    let no : w ≡ none = is_none_itself w iw.reduced e in
     let zero : product k w ≡ none = ap (product k) no ∙ product_comm k none ∙ product-zero k ik.reduced.positive in
     (ap (fits_product k) no ∙ product_none_fits k ik.within, ap (fits_sum held) zero ∙ sum_none_fits held ih.within)
 

@@ -4,7 +4,7 @@ use Rattle.viper_core.specs.Expr as e
 use Rattle.viper_core.specs.Formed.{IsFormed}
 use Rattle.viper_core.specs.Typing.{Context, IsAssertion}
 use Rattle.boogie_tree.specs.Expr as t
-use Rattle.boogie_tree.specs.Literals.{LiteralsFit}
+use Rattle.boogie_tree.specs.Literals.{AreBound, LiteralsFit}
 use Rattle.boogie_tree.specs.Program.{BType}
 use Rattle.boogie_tree.specs.declared.exprs.BBase.TheVariants as base
 use Rattle.boogie_meaning.specs.Types.{HasType}
@@ -19,17 +19,17 @@ use Rattle.enc_expr.proofs.PrintedCode.{body_literals, block_fits}
 use Rattle.enc_assert.specs.Calls.{scale_code, produce_call, consume_call, forget_call}
 use Rattle.enc_assert.specs.Encoding.{produce_code, consume_code}
 use Rattle.enc_assert.specs.Typed.{HasHeldTypes}
-use Rattle.enc_assert.proofs.LiteralAssertions.{produce_fits, consume_fits, forget_fits}
+use Rattle.enc_assert.proofs.LiteralAssertions.{produce_fits, consume_fits, forget_fits, keys_bound}
 use Rattle.enc_assert.proofs.TypedCalls.{produce_call_typed, consume_call_typed, forget_call_typed}
 
-scale_fits : (x : t.BExpr) → LiteralsFit x → EmittingFits LiteralsFit (scale_code x)
-scale_fits x h = then_fits (atomic_fits (record { expr = x; base = base.Real }) h) (λ a k. then_fits {go = λ u. gives a.expr} (puts_fits None a.sets k.sets) (λ u any. gives_fits k.expr))
+scale_fits : (x : t.BExpr) → LiteralsFit x → EmittingFits AreBound LiteralsFit (scale_code x)
+scale_fits x h = then_fits AreBound (atomic_fits AreBound (record { expr = x; base = base.Real }) h) (λ a k. then_fits AreBound {go = λ u. gives a.expr} (puts_fits AreBound None a.sets k.sets) (λ u any. gives_fits AreBound k.expr))
 
-produce_call_fits : (us : List BType) (p : Place) (x : t.BExpr) (a : e.Assertion) → AssertionLiteralsFit a → LiteralsFit x → EmittingFits Any (produce_call us p x a)
-produce_call_fits us p x a l h = then_fits {go = λ q. produce_code (kinds_at p us) p None q a} (scale_fits x h) (λ q k. record { stmts = λ n. produce_fits (kinds_at p us) p None q a n l k; value = λ n. tt })
+produce_call_fits : (us : List BType) (p : Place) (x : t.BExpr) (a : e.Assertion) → AssertionLiteralsFit a → LiteralsFit x → EmittingFits AreBound Any (produce_call us p x a)
+produce_call_fits us p x a l h = then_fits AreBound {go = λ q. produce_code (kinds_at p us) p None q a} (scale_fits x h) (λ q k. produce_fits AreBound (kinds_at p us) p None q a l k)
 
-consume_call_fits : (us : List BType) (p : Place) (left : Maps) (x : t.BExpr) (a : e.Assertion) → AssertionLiteralsFit a → LiteralsFit x → EmittingFits Any (consume_call us p left x a)
-consume_call_fits us p left x a l h = then_fits {go = λ q. consume_code (kinds_at p us) p left None q a} (scale_fits x h) (λ q k. record { stmts = λ n. consume_fits (kinds_at p us) p left None q a n l k; value = λ n. tt })
+consume_call_fits : (us : List BType) (p : Place) (left : Maps) (x : t.BExpr) (a : e.Assertion) → AssertionLiteralsFit a → LiteralsFit x → EmittingFits AreBound Any (consume_call us p left x a)
+consume_call_fits us p left x a l h = then_fits AreBound {go = λ q. consume_code (kinds_at p us) p left None q a} (scale_fits x h) (λ q k. consume_fits AreBound (kinds_at p us) p left None q a l k)
 
 module _ (c : Context) (p : Place) (us : List BType) (formed : IsFormed c.program) (x : t.BExpr) (a : e.Assertion) (typed : IsAssertion c a) (h : HasPlaceTypes c p us) (many : HasNumbers c p)
     (scales : HasType us None x base.Real) (literals : LiteralsFit x) where
@@ -46,4 +46,4 @@ module _ (c : Context) (p : Place) (us : List BType) (formed : IsFormed c.progra
 
 pub forget_call_printed : (c : Context) (p : Place) (us : List BType) → IsFormed c.program → HasPlaceTypes c p us → HasNumbers c p → FitsPiece (length us) (forget_call us p (length us))
 forget_call_printed c p us formed h many =
-    let m = forget_call us p (length us) in block_fits us m.locals m.stmts (forget_call_typed c p us formed h many).stmts (forget_fits (kinds_at p us).layout p.now (length us))
+    let m = forget_call us p (length us) in block_fits us m.locals m.stmts (forget_call_typed c p us formed h many).stmts ((forget_fits AreBound (kinds_at p us).layout p.now (keys_bound (kinds_at p us).layout.keys)).stmts (length us))

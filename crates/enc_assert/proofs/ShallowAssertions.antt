@@ -93,7 +93,7 @@ record IsLowAim (d : ℕ) (x : Aimed) : Type 0 where
   key : exprs_depth (key_of x.target) ≤ 0
   sets : stmts_depth x.sets ≤ d
 
-plainly : {d : ℕ} {u : Ty} (x : Operand) → IsLow d u x → expr_depth x.expr ≤ d
+pub plainly : {d : ℕ} {u : Ty} (x : Operand) → IsLow d u x → expr_depth x.expr ≤ d
 plainly x h = let a = h.low in omega (arith, a)
 
 module _ (top : ℕ) where

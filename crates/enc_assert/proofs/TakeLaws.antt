@@ -24,7 +24,7 @@ use Rattle.boogie_meaning.specs.Ends as end
 use Rattle.boogie_meaning.specs.Operators as calculus
 use Rattle.boogie_meaning.specs.Quantified.{bvalue}
 use Rattle.boogie_meaning.specs.Run as r
-use Rattle.boogie_meaning.specs.Run.{Run, Done, Stops, brun}
+use Rattle.boogie_meaning.specs.Run.{Done, Stops, brun}
 use Rattle.enc_expr.specs.Place.{Place, Maps}
 use Rattle.enc_expr.specs.Code.{join}
 use Rattle.enc_expr.specs.Pieces.{one, label, zero_real, scaled, check_nonnegative}
@@ -38,16 +38,11 @@ use Rattle.enc_expr.proofs.AmountLaws as laws
 use Rattle.enc_expr.proofs.AmountLaws.{fits_is, some_test, enough_test, scaled_value, put_run, at_value, check_nonnegative_run, then_again}
 use Rattle.enc_expr.proofs.OperatorLaws.{plain_value}
 use Rattle.enc_expr.proofs.OpeningLaws.{alike_run, alike_of, found_alike, fitting_alike, unless_alike, fails_alike, stops_first}
-use Rattle.enc_expr.proofs.FillLaws.{stopped_first}
+use Rattle.enc_expr.proofs.FillLaws.{stopped_first, unless_then_alike}
 use Rattle.enc_assert.specs.Target.{Target, held_in, key_of}
 use Rattle.enc_assert.specs.Encoding.{takes_code}
 use Rattle.enc_assert.proofs.TargetLaws.{IsHere}
 use Rattle.enc_assert.proofs.GiveLaws.{IsGrown}
-
-unless_then : {b : Bound} {X Y : Type 0} {Q : Y → Env → Type 0} {cs : List BChoice} {run : Run} (instead a : Evaluated X) (go : X → Evaluated Y) (test : Truth) → (test ≡ true → Alike Q b (then_with instead go) cs run) →
-    (test ≡ false → Alike Q b (then_with a go) cs run) → Alike Q b (then_with (unless test instead a) go) cs run
-unless_then instead a go true f h = f refl
-unless_then instead a go false f h = h refl
 
 module _ (ts : List BType) (b : Bound) (c : Context) (p : Place) (left : Maps) (n m : ℕ) (u : State) (sc : Scene) (E : Env) (same_at : p.at ≡ sc.at) (at : Pos) {y : Target} {x : Resource} (h : IsHere b c.program.layout m left u E y x) where
   abbrev held : t.BExpr
@@ -90,7 +85,7 @@ module _ (ts : List BType) (b : Bound) (c : Context) (p : Place) (left : Maps) (
       let asked : bvalue b enough E ≡ end.fitting b (fits_order h.held some) (bv.Bool (not (is_lt (order h.held some)))) = (λ k. calculus.binary b op.Ge (held_value k) (value k)) ∙ enough_test b h.held some in
       alike_of (then_again (fitting b (fits_order h.held some) at (is_lt (order h.held some))) (λ less. unless less (fails sc at kind.Perm) (fitting b (fits_difference h.held some) at (difference h.held some))) last) (
       fitting_alike b (fits_order h.held some) at (is_lt (order h.held some)) _ (bv.Bool (not (is_lt (order h.held some)))) (bvalue b enough E) asked (λ is_asked.
-      unless_then (fails sc at kind.Perm) (fitting b (fits_difference h.held some) at (difference h.held some)) last (is_lt (order h.held some))
+      unless_then_alike (fails sc at kind.Perm) (fitting b (fits_difference h.held some) at (difference h.held some)) last (is_lt (order h.held some))
       (λ less. alike_run (assert_run ts b missing enough false rest E cs (is_asked ∙ ap (λ z. end.Is (bv.Bool (not z))) less)) (fails_alike p sc at kind.Perm same_at))
       (λ less. alike_run (assert_run ts b missing enough true rest E cs (is_asked ∙ ap (λ z. end.Is (bv.Bool (not z))) less)) (subtract_alike amount some some_proper.reduced value cs))))))))
 

@@ -1,6 +1,7 @@
 -- The code of producing and consuming an assertion is well-typed, and the maps that it declares have indices of key types.
 use Rattle.std.specs.Bool.{⊤}
 use Rattle.std.proofs.Common.{◌≡◌, ℕ, List, [], ◌++◌, Some, None, slice_get, length, sym, subst, append-nil}
+use Rattle.lemmas.proofs.Lists.{there_left}
 use Rattle.vb_base.specs.declared.places.Pos.{Pos}
 use Rattle.vb_value.specs.Layout.{Layout}
 use Rattle.vb_value.specs.declared.values.Ty.TheVariants as ty
@@ -28,7 +29,7 @@ use Rattle.enc_expr.proofs.KeyedCode.{IsKeyed, states_keyed, code_keyed, gives_k
 use Rattle.enc_expr.proofs.TypedPieces.{IsTypedCode, Any, join_typed, one_typed, then_typed, declares_typed, puts_typed, guards_typed, atomic_typed}
 use Rattle.enc_expr.proofs.TypedForms.{own_type, choose_typed}
 use Rattle.enc_expr.proofs.TypedCode.{code_typed, codes_typed, amount_typed, new_locals, more_place_types, more_guard_type}
-use Rattle.enc_expr.proofs.TypedMore.{get_more, type_with_more}
+use Rattle.enc_expr.proofs.TypedMore.{type_with_more}
 use Rattle.enc_assert.specs.Target.{Target, Field, Instance, Aimed}
 use Rattle.enc_assert.specs.Encoding.{field_target, instance_target, produce_code, consume_code}
 use Rattle.enc_assert.specs.Typed.{HasHeldTypes}
@@ -99,7 +100,7 @@ walk_keyed k p w g (e.ChooseAssertion a d f) h = then_keyed (code_keyed k p g a 
 -- ---- behind the locals that there are
 
 pub more_held_types : (ts us : List BType) (layout : Layout) (m : Maps) → HasHeldTypes layout m ts → HasHeldTypes layout m (ts ++ us)
-more_held_types ts us layout m h = record { mask = λ f u there. get_more ts us _ _ (h.mask f u there); amount = λ q ks there. get_more ts us _ _ (h.amount q ks there) }
+more_held_types ts us layout m h = record { mask = λ f u there. there_left ts us _ _ (h.mask f u there); amount = λ q ks there. there_left ts us _ _ (h.amount q ks there) }
 
 -- of a state whose other maps have their types too
 pub held_types : (ts : List BType) (layout : Layout) (m : Maps) → HasStateTypes layout m ts → HasHeldTypes layout m ts

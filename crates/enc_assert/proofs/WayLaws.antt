@@ -2,6 +2,7 @@
 use Rattle.std.specs.Bool.{⊤}
 use Rattle.std.proofs.Common.{◌≡◌, ◌≢◌, ◌+◌, ◌<◌, ◌≤◌, ℕ, Bool as Truth, true, false, not, List, [], ◌++◌, All, Some, length, slice_get, slice_set, if◌then◌else◌, refl, sym, ap, subst, ◌∙◌, arith}
 use Rattle.std.proofs.lemmas.Option.{slice_get_within}
+use Rattle.enc_expr.proofs.Simulation.{both_laws, any_law}
 use Rattle.vb_value.specs.Bound.{Bound}
 use Rattle.vb_value.specs.Value.{type_of}
 use Rattle.vb_value.specs.declared.values.Ty.{Ty}
@@ -17,7 +18,7 @@ use Rattle.viper_state.specs.State.{Key, State}
 use Rattle.viper_state.specs.Run.{Scene}
 use Rattle.viper_meaning.specs.Ends.{Evaluated, is as is_end, found, then_with}
 use Rattle.viper_meaning.specs.Kept as kept
-use Rattle.viper_meaning.specs.Kept.{Keeps, IsAny}
+use Rattle.viper_meaning.specs.Kept.{IsAny}
 use Rattle.viper_meaning.specs.KeptRuns.{KeepsRun, at_end, later}
 use Rattle.viper_meaning.specs.Operators.{truth_of}
 use Rattle.viper_meaning.specs.Places as places
@@ -104,24 +105,12 @@ choice_run ts b c p g s sc x left right both q n E cs here ready =
 
 -- ---- what a run keeps
 
-both_ends : {X : Type 0} {V W : Event → Type 0} {P Q : X → Type 0} {a : Evaluated X} → Keeps V P a → Keeps W Q a → Keeps IsAny (λ x. P x × Q x) a
-both_ends (kept.value h p) (kept.value i q) = kept.value (any_events _) (p, q)
-both_ends (kept.failure h) k = kept.failure (any_events _)
-both_ends (kept.blocked h) k = kept.blocked (any_events _)
-both_ends (kept.over h) k = kept.over (any_events _)
-
 pub both_kept : {X : Type 0} {V W : Event → Type 0} {C D G : Choice → Type 0} {P Q : X → Type 0} {run : Run X} → ((c : Choice) → G c → C c × D c) → KeepsRun V C P run → KeepsRun W D Q run → KeepsRun IsAny G (λ x. P x × Q x) run
-both_kept f (at_end h) (at_end g) = at_end (both_ends h g)
+both_kept f (at_end h) (at_end g) = at_end (both_laws h g)
 both_kept f (later h k) (later i g) = later (any_events _) (λ c p. let q = f c p in both_kept f (k c q.0) (g c q.1))
 
-any_ends : {X : Type 0} {V : Event → Type 0} {P Q : X → Type 0} {a : Evaluated X} → ((x : X) → P x → Q x) → Keeps V P a → Keeps IsAny Q a
-any_ends f (kept.value h p) = kept.value (any_events _) (f _ p)
-any_ends f (kept.failure h) = kept.failure (any_events _)
-any_ends f (kept.blocked h) = kept.blocked (any_events _)
-any_ends f (kept.over h) = kept.over (any_events _)
-
 pub any_run : {X : Type 0} {V : Event → Type 0} {C G : Choice → Type 0} {P Q : X → Type 0} {run : Run X} → ((c : Choice) → G c → C c) → ((x : X) → P x → Q x) → KeepsRun V C P run → KeepsRun IsAny G Q run
-any_run f g (at_end h) = at_end (any_ends g h)
+any_run f g (at_end h) = at_end (any_law g h)
 any_run f g (later h k) = later (any_events _) (λ c p. any_run f g (k c (f c p)))
 
 -- ---- a way of running assertions

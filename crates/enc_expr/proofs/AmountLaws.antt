@@ -1,9 +1,10 @@
 -- Amounts: tests with 0 and 1 are never beyond the bound, and sums, differences and products are those of Viper.
-use Rattle.std.proofs.Common.{◌≡◌, ◌∙◌, ℕ, ℤ, pos, unsigned_abs, Bool, true, false, not, ◌&&◌, ◌==◌, List, [], ◌++◌, append_assoc, Some, slice_get, slice_set, refl, ap, sym, if◌then◌else◌}
+use Rattle.std.proofs.Common.{◌≡◌, ◌∙◌, ℕ, ℤ, pos, unsigned_abs, Bool, true, false, not, ◌==◌, List, [], ◌++◌, append_assoc, Some, slice_get, slice_set, refl, ap, sym, if◌then◌else◌}
 use Rattle.std.specs.Ordering.{int_eq, is_lt, is_le, is_gt, is_ge}
 use Rattle.std.specs.declared.cmp.Ordering.{Ordering}
 use Rattle.std.specs.declared.cmp.Ordering.TheVariants.{Less, Equal, Greater}
 use Rattle.std.proofs.lemmas.Bool.Decides.{Decides-int_eq, Decides-eqb}
+use Rattle.lemmas.proofs.Tests.{first_decides}
 use Rattle.sparse.specs.Map.{Map, get, set}
 use Rattle.vb_base.specs.declared.labels.Label.{Label}
 use Rattle.vb_base.specs.declared.places.Pos.{Pos}
@@ -63,11 +64,6 @@ nonnegative_test b q h = fits_is b (fits_order q none) (v.Bool (is_ge (order q n
 
 pub positive_test : (b : Bound) (q : Fraction) → IsProperFraction b q → m.plain b op.Gt (Real q) (Real none) ≡ Is (v.Bool (is_positive q))
 positive_test b q h = fits_is b (fits_order q none) (v.Bool (is_gt (order q none))) (if_both b (fits_order-none q) h.within) ∙ ap (λ (z : Bool). Is (v.Bool z)) (sym (is_positive-order q))
-
--- of the fractions in lowest terms only 0/1 is none
-first_decides : (p q : Bool) → (p ≡ true → q ≡ true) → (p && q) ≡ p
-first_decides true q h = h refl
-first_decides false q h = refl
 
 pub none_alone : (q : Fraction) → IsReduced q → fraction_eq q none ≡ is_none q
 none_alone q h = first_decides (is_none q) (q.den == 1) (λ e. (Decides-eqb q.den 1).1 (one_below ((Decides-int_eq q.num (pos 0)).0 e)))

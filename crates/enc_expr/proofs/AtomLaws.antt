@@ -13,7 +13,7 @@ use Rattle.boogie_tree.specs.Value.{BScalar, BValue, One}
 use Rattle.boogie_tree.specs.Values.{plain_type}
 use Rattle.boogie_meaning.specs.Ends.{Is}
 use Rattle.boogie_meaning.specs.Quantified.{bvalue}
-use Rattle.boogie_meaning.proofs.PatternLaws.{set_here}
+use Rattle.boogie_meaning.proofs.PatternLaws.{set_here, is_inj}
 use Rattle.moves.specs.Scalars.{scalar}
 use Rattle.enc_expr.specs.Code.{Code, join, gives}
 use Rattle.enc_expr.specs.Pieces.{Operand, is_atom, Atom, in_local, atomic, Located, located_from, located}
@@ -21,7 +21,7 @@ use Rattle.enc_expr.specs.Coupling.{Env, AreLocals}
 use Rattle.enc_expr.specs.Alike.{Agree, AreValues, none, more, HasAtom, variable, int, real, truth, null, AreLocated}
 use Rattle.enc_expr.specs.Alike as alike
 use Rattle.enc_expr.proofs.Simulated.{Sets}
-use Rattle.enc_expr.proofs.RunLaws.{is_same, there_is, join_done, assign_run}
+use Rattle.enc_expr.proofs.RunLaws.{there_is, join_done, assign_run}
 use Rattle.enc_expr.proofs.FrameLaws.{kept_itself, kept_then, kept_set, locals_first, locals_rest}
 use Rattle.enc_expr.proofs.CodeLaws.{from_counted, located_counted}
 
@@ -68,10 +68,10 @@ holds_more within same h = record { value = λ G agree. h.value G (λ i below. a
 
 holds_atom : {b : Bound} {n : ℕ} {E : Env} {w : BScalar} (x : t.BExpr) → is_atom x ≡ true → Holds b n x E w → HasAtom n E x w
 holds_atom (t.Var i) h holds = variable (holds_below holds) (holds_there holds)
-holds_atom {E = E} (t.Int z) h holds = subst (HasAtom _ E (t.Int z)) (is_same (holds.value E (λ j below. refl))) int
-holds_atom {E = E} (t.Real z) h holds = subst (HasAtom _ E (t.Real z)) (is_same (holds.value E (λ j below. refl))) real
-holds_atom {E = E} (t.Bool p) h holds = subst (HasAtom _ E (t.Bool p)) (is_same (holds.value E (λ j below. refl))) truth
-holds_atom {E = E} t.Null h holds = subst (HasAtom _ E t.Null) (is_same (holds.value E (λ j below. refl))) null
+holds_atom {E = E} (t.Int z) h holds = subst (HasAtom _ E (t.Int z)) (is_inj (holds.value E (λ j below. refl))) int
+holds_atom {E = E} (t.Real z) h holds = subst (HasAtom _ E (t.Real z)) (is_inj (holds.value E (λ j below. refl))) real
+holds_atom {E = E} (t.Bool p) h holds = subst (HasAtom _ E (t.Bool p)) (is_inj (holds.value E (λ j below. refl))) truth
+holds_atom {E = E} t.Null h holds = subst (HasAtom _ E t.Null) (is_inj (holds.value E (λ j below. refl))) null
 holds_atom _ h holds = absurd (cc)
 
 -- the statements of an atom run through, and then it has the value

@@ -4,6 +4,7 @@ use Rattle.std.specs.Option.{option_map}
 use Rattle.std.proofs.lemmas.Bool.Decides.{Decides-int_eq}
 use Rattle.std.proofs.lemmas.Option.{get_or_from_slice_get}
 use Rattle.std.proofs.lemmas.Bool.Decides.{nat_tests}
+use Rattle.boogie_meaning.proofs.PatternLaws.{is_inj}
 use Rattle.vb_base.specs.declared.places.Pos.{Pos}
 use Rattle.vb_value.specs.Bound.{Bound, Bounded, Unbounded, IfBounded}
 use Rattle.vb_value.specs.Content as content
@@ -41,7 +42,6 @@ use Rattle.enc_expr.specs.Pieces.{at_one, zero_real, is_one}
 use Rattle.enc_expr.specs.Encoding.{leaf}
 use Rattle.enc_expr.specs.Plain.{plain, plain_index, plain_amount, contained_by, content_expr}
 use Rattle.enc_expr.specs.Coupling.{Env, IsCoupled, heap_kind, content_kind}
-use Rattle.enc_expr.proofs.RunLaws.{is_same}
 use Rattle.enc_expr.proofs.AmountLaws.{positive_test}
 use Rattle.enc_expr.proofs.OperatorLaws as operator
 use Rattle.enc_expr.proofs.Simulation.{both_laws, any_law, proper_amount}
@@ -56,7 +56,7 @@ real_same p q h = cc
 
 -- the literal 1 is positive
 one_positive : (b : Bound) (x : t.BExpr) (q : Fraction) (E : Env) → is_one x ≡ true → bvalue b x E ≡ end.Is (w.Real q) → is_positive q ≡ true
-one_positive b (t.Real z) q E one here = ap is_positive (sym (real_same _ _ (is_same here)) ∙ ap whole ((Decides-int_eq z (pos 1)).0 one))
+one_positive b (t.Real z) q E one here = ap is_positive (sym (real_same _ _ (is_inj here)) ∙ ap whole ((Decides-int_eq z (pos 1)).0 one))
 one_positive b x q E one here = absurd cc
 
 -- the value of a place as its content

@@ -4,6 +4,7 @@ use Rattle.std.specs.List.{range_with_len}
 use Rattle.std.proofs.lemmas.Option.{slice_get_within}
 use Rattle.std.proofs.lemmas.List.{length-map}
 use Rattle.std.proofs.lemmas.List.FromFn.{get_or-range_with_len, length-range_with_len}
+use Rattle.lemmas.proofs.Lists.{item_there}
 use Rattle.sparse.specs.Map.{Map}
 use Rattle.vb_base.specs.declared.places.Pos.{Pos}
 use Rattle.vb_value.specs.Bound.{Bound}
@@ -30,7 +31,7 @@ use Rattle.enc_expr.specs.Pieces.{Operand, Atom, atomic, Located, located, index
 use Rattle.enc_expr.specs.Alike.{Alike, Kept, KeptBut, AreValues}
 use Rattle.enc_expr.proofs.Simulated.{Sets}
 use Rattle.enc_expr.proofs.RunLaws.{copy_run, join_done}
-use Rattle.enc_expr.proofs.FrameLaws.{kept_itself, kept_then, set_length, but_from, but_less, but_then, but_none, own_apart, map_moved, map_kept, exists_at, maps_below, singles_kept}
+use Rattle.enc_expr.proofs.FrameLaws.{kept_itself, kept_then, set_length, but_from, but_less, but_then, but_none, own_apart, map_moved, map_kept, maps_below, singles_kept}
 use Rattle.enc_expr.proofs.CodeLaws.{located_counted, atomic_counted}
 use Rattle.enc_expr.proofs.MapLaws.{same_heap, same_mask, same_amount, same_content}
 use Rattle.enc_expr.proofs.AtomLaws.{sets_then, Holds}
@@ -123,7 +124,7 @@ module _ {U K V : Type 0} (ts : List BType) (b : Bound) (kind : U → MapKind K 
         beside = λ c d low high same. beside c d (omega (arith, low, long)) (omega (arith, high, long)) (same ∙ ap (number ys) (omega arith));
         within = λ c low. omega (arith, below c (omega (arith, low, long)), within);
         there = λ d low.
-            let u = exists_at us d (omega (arith, low, long)) in
+            let u = item_there us d (omega (arith, low, long)) in
             let map = h d u.0 u.1 in (Many map.image, ap (λ k. slice_get E (number ys k)) (omega arith) ∙ map.here);
       }) in
       record {
@@ -146,7 +147,7 @@ module _ {U K V : Type 0} (ts : List BType) (b : Bound) (kind : U → MapKind K 
       let k = length us in let xs = range_with_len x k in
       let moved = maps_moved n (x + k) xs ys maps E (length-range_with_len x k) h
       (λ c d low high same. omega (arith, number_range x k c low, number_range x k d high, same))
-      (λ c d low high same. let u = exists_at us d high in omega (arith, number_range x k c low, (h d u.0 u.1).below, before, same))
+      (λ c d low high same. let u = item_there us d high in omega (arith, number_range x k c low, (h d u.0 u.1).below, before, same))
       (λ c low. omega (arith, number_range x k c low, low)) within in
       record {
         after = moved.after;

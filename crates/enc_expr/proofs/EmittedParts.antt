@@ -5,6 +5,7 @@ use Rattle.std.proofs.lemmas.Bool.Decides.{Decides-eqb}
 use Rattle.std.proofs.lemmas.List.{length-map}
 use Rattle.std.proofs.Math.Numerals.{add-one}
 use Rattle.std.proofs.Math.Seq.{drop-cons}
+use Rattle.lemmas.proofs.Lists.{no_items}
 use Rattle.boogie_tree.specs.Expr as t
 use Rattle.boogie_tree.specs.Stmt as s
 use Rattle.boogie_tree.specs.Program.{BType, Local}
@@ -29,11 +30,6 @@ use Rattle.enc_expr.proofs.RunLaws.{join_skip, join_assoc}
 use Rattle.enc_expr.proofs.EmitLaws.{gives_emits, length-temporaries, temporaries-append}
 use Rattle.enc_expr.proofs.BlockLaws.{then_added}
 use Rattle.enc_expr.proofs.EmittedForms.{valued, ending, behind, behind_assoc, located_emits, operand_emits}
-
--- ---- the item of a slice at which a loop is
-
-pub next_item : {X : Type 0} (xs : List X) (i : ℕ) (x : X) → i < length xs → x ≡ get_or xs i x → drop i xs ≡ x ∷ drop (i + 1) xs
-next_item xs i x lt is = rw add-one (drop-cons xs i x lt ∙ ap (λ y. y ∷ drop (suc i) xs) (sym is))
 
 -- ---- locals
 
@@ -185,10 +181,6 @@ dropped_all (suc n) [] h = refl
 dropped_all zero (x ∷ xs) h = absurd (omega (arith, h))
 dropped_all (suc n) (x ∷ xs) h = dropped_all n xs (omega (arith, h))
 
-pub no_items : {X : Type 0} (xs : List X) → length xs ≡ 0 → xs ≡ []
-no_items [] h = refl
-no_items (x ∷ xs) h = absurd (omega (arith, h))
-
 -- some item is at an index
 pub record Next {X : Type 0} (xs : List X) (i : ℕ) : Type 0 where
   pub item : X
@@ -319,9 +311,6 @@ empty_is xs h = no_items xs ((Decides-eqb (length xs) 0).0 h)
 pub other_list : {X : Type 0} (xs : List X) → (length xs == 0) ≡ false → xs ≡ [] → ⊥
 other_list [] h e = absurd cc
 other_list (x ∷ xs) h e = absurd cc
-
-pub next_number : (xs : List ℕ) (i : ℕ) → i < length xs → drop i xs ≡ get_or xs i 0 ∷ drop (i + 1) xs
-next_number xs i lt = rw add-one (drop-cons xs i 0 lt)
 
 -- ---- loops over expressions
 

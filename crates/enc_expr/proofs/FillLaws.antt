@@ -2,9 +2,10 @@
 use Rattle.std.proofs.Common.{◌≡◌, ◌+◌, ◌<◌, ◌≤◌, ℕ, ℤ, pos, negsuc, zero, suc, Bool as Truth, true, false, not, ◌==◌, List, [], ◌∷◌, ◌++◌, Option, Some, None, IfSome, slice_get, slice_set, length, ◌⊎◌, inl, inr, refl, sym, ap, subst, ◌∙◌, arith, if◌then◌else◌}
 use Rattle.std.specs.Ordering.{nat_cmp, int_eq}
 use Rattle.std.specs.declared.cmp.Ordering.{Ordering}
-use Rattle.std.proofs.lemmas.Bool.{true≢false}
+use Rattle.std.proofs.lemmas.Bool.{true≢false, false_from_ne_true}
 use Rattle.std.proofs.lemmas.Bool.Decides.{Decides-int_eq}
 use Rattle.std.proofs.lemmas.Option.{slice_get_within, same_Some}
+use Rattle.lemmas.proofs.Lists.{set_there as slice_set_same}
 use Rattle.sparse.specs.Map.{Map, get, set, IsReduced as IsTidy}
 use Rattle.sparse.specs.Meaning.{IsExact}
 use Rattle.sparse.proofs.MapLaws.{set-get, get-set_same}
@@ -107,13 +108,9 @@ unit_alike {Q} ts b from d go xs E cs here h = by_content d value h
 
 -- ---- by an amount
 
-false_of : (q : Truth) → (q ≡ true → ⊥) → q ≡ false
-false_of true h = absurd (h refl)
-false_of false h = refl
-
 sign_left : (z : ℤ) → is_below_zero z ≡ false → is_above_zero z ≡ not (int_eq z (pos 0))
 sign_left (pos zero) h = refl
-sign_left (pos (suc n)) h = ap not (sym (false_of (int_eq (pos (suc n)) (pos 0)) (λ e. not_zero ((Decides-int_eq (pos (suc n)) (pos 0)).0 e))))
+sign_left (pos (suc n)) h = ap not (sym (false_from_ne_true (int_eq (pos (suc n)) (pos 0)) (λ e. not_zero ((Decides-int_eq (pos (suc n)) (pos 0)).0 e))))
   where
     not_zero : pos (suc n) ≡ pos 0 → ⊥
     not_zero e = cc
@@ -178,11 +175,6 @@ held_cases {Q} ts b false true new s go test xs E cs value is_same h =
     alike_run (assume_run ts b test true xs E cs value) (alike_of (after_nothing (go s)) (subst (λ t. Alike Q b (go t) cs (brun ts b xs E cs)) (is_same refl) h))
 held_cases ts b false false new s go test xs E cs value is_same h = alike_run (assume_run ts b test false xs E cs value) (stopped_first cs)
 
-slice_set_same : {X : Type 0} (xs : List X) (i : ℕ) (x : X) → slice_get xs i ≡ Some x → slice_set xs i x ≡ xs
-slice_set_same [] i x h = refl
-slice_set_same (y ∷ xs) zero x h = ap (λ z. z ∷ xs) (sym (same_Some _ _ h))
-slice_set_same (y ∷ xs) (suc i) x h = ap (λ zs. y ∷ zs) (slice_set_same xs i x h)
-
 -- nothing changes where the value is put that is there
 pub changed_same : {K V : Type 0} {cmp : K → K → Ordering} {eq : V → V → Truth} (exact : IsExact cmp eq) (maps : List (Map K V)) (i : ℕ) (a : K) (m : Map K V) → slice_get maps i ≡ Some m → IsTidy cmp eq m →
     changed_at cmp eq maps i a (get cmp m a) ≡ maps
@@ -191,7 +183,7 @@ changed_same {cmp = cmp} {eq = eq} exact maps i a m there tidy =
 
 -- ---- values
 
-scalar_same : (x y : Value) → scalar x ≡ scalar y → x ≡ y
+pub scalar_same : (x y : Value) → scalar x ≡ scalar y → x ≡ y
 scalar_same (v.Int x) (v.Int y) h = cc
 scalar_same (v.Bool x) (v.Bool y) h = cc
 scalar_same (v.Ref x) (v.Ref y) h = cc
@@ -203,14 +195,14 @@ scalar_test x y = by_test (value_eq y x) refl
   where
     by_test : (q : Truth) → value_eq y x ≡ q → same_scalar (scalar x) (scalar y) ≡ q
     by_test true e = (Decides-same_scalar (scalar x) (scalar y)).1 (ap scalar (sym ((Decides-value_eq y x).0 e)))
-    by_test false e = false_of _ (λ same. true≢false (sym ((Decides-value_eq y x).1 (sym (scalar_same x y ((Decides-same_scalar (scalar x) (scalar y)).0 same)))) ∙ e))
+    by_test false e = false_from_ne_true _ (λ same. true≢false (sym ((Decides-value_eq y x).1 (sym (scalar_same x y ((Decides-same_scalar (scalar x) (scalar y)).0 same)))) ∙ e))
 
 content_test : (x y : Content) → same_content x y ≡ same_content y x
 content_test x y = by_test (same_content y x) refl
   where
     by_test : (q : Truth) → same_content y x ≡ q → same_content x y ≡ q
     by_test true e = (Decides-same_content x y).1 (sym ((Decides-same_content y x).0 e))
-    by_test false e = false_of _ (λ same. true≢false (sym ((Decides-same_content y x).1 (sym ((Decides-same_content x y).0 same))) ∙ e))
+    by_test false e = false_from_ne_true _ (λ same. true≢false (sym ((Decides-same_content y x).1 (sym ((Decides-same_content x y).0 same))) ∙ e))
 
 same_base_itself : (x y : Value) → type_of x ≡ type_of y → same_base (base_of_scalar (scalar x)) (base_of_scalar (scalar y)) ≡ true
 same_base_itself (v.Int x) (v.Int y) h = refl
@@ -270,7 +262,7 @@ stray_leaf w (ends es how) cs run h stopped = alike.stray (λ rest k. h (moves e
 value_same : (x y : BScalar) (xs ys : List BChoice) → bv.Value x ∷ xs ≡ bv.Value y ∷ ys → x ≡ y
 value_same x y xs ys h = cc
 
-first_same : (c d : BChoice) (xs ys : List BChoice) → c ∷ xs ≡ d ∷ ys → c ≡ d
+pub first_same : (c d : BChoice) (xs ys : List BChoice) → c ∷ xs ≡ d ∷ ys → c ≡ d
 first_same c d xs ys h = cc
 
 leaf_same : (x y : Value) → Leaf x ≡ Leaf y → x ≡ y
@@ -355,7 +347,7 @@ module _ (ts : List BType) (b : Bound) (u : Ty) (i from : ℕ) (d : Content) (ys
         none_some : {x : BValue} → None ≡ Some x → ⊥
         none_some h = cc
 
-unless_then_alike : {b : Bound} {X Y : Type 0} {Q : Y → Env → Type 0} {cs : List BChoice} {r : Run} (instead e : Evaluated X) (go : X → Evaluated Y) (test : Truth) → (test ≡ true → Alike Q b (then_with instead go) cs r) →
+pub unless_then_alike : {b : Bound} {X Y : Type 0} {Q : Y → Env → Type 0} {cs : List BChoice} {r : Run} (instead e : Evaluated X) (go : X → Evaluated Y) (test : Truth) → (test ≡ true → Alike Q b (then_with instead go) cs r) →
     (test ≡ false → Alike Q b (then_with e go) cs r) → Alike Q b (then_with (unless test instead e) go) cs r
 unless_then_alike instead e go true f g = f refl
 unless_then_alike instead e go false f g = g refl

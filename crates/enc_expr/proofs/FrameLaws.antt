@@ -1,6 +1,7 @@
 -- What stays where nothing but some locals was changed: maps, variables, atoms, and the coupling.
 use Rattle.std.proofs.Common.{refl, ap, sym, subst, ◌∙◌, ◌≡◌, ◌≢◌, ◌+◌, ◌<◌, ◌≤◌, ℕ, zero, suc, List, [], ◌∷◌, ◌++◌, length, Some, None, Contains, slice_get, slice_set, arith}
 use Rattle.std.proofs.lemmas.Option.{slice_get_within, same_Some}
+use Rattle.lemmas.proofs.Lists.{item_there}
 use Rattle.sparse.specs.Map.{Map}
 use Rattle.vb_value.specs.Layout.{Layout}
 use Rattle.vb_value.specs.Bound.{Bound}
@@ -178,24 +179,19 @@ coupled_kept b c n m p s sc E F within kept h = coupled_framed b c n m p s sc E 
 
 -- ---- the locals of a state
 
-pub exists_at : {U : Type 0} (us : List U) (i : ℕ) → i < length us → (u : U) × (slice_get us i ≡ Some u)
-exists_at [] i h = absurd (omega (arith, h))
-exists_at (u ∷ us) zero h = (u, refl)
-exists_at (u ∷ us) (suc i) h = exists_at us i (omega (arith, h))
-
 -- each is below the next one
 pub maps_below : (layout : Layout) (n : ℕ) (m : Maps) (s : State) (E : Env) → HasMaps layout n m s E → (i : Spot) → IsSpot layout i → local_at m i < n
-maps_below layout n m s E h (Heap f) there = let u = exists_at layout.fields f there in (h.heap f u.0 u.1).below
-maps_below layout n m s E h (Mask f) there = let u = exists_at layout.fields f there in (h.mask f u.0 u.1).below
-maps_below layout n m s E h (Amount q) there = let u = exists_at layout.keys q there in (h.amount q u.0 u.1).below
-maps_below layout n m s E h (Content q) there = let u = exists_at layout.keys q there in (h.content q u.0 u.1).below
+maps_below layout n m s E h (Heap f) there = let u = item_there layout.fields f there in (h.heap f u.0 u.1).below
+maps_below layout n m s E h (Mask f) there = let u = item_there layout.fields f there in (h.mask f u.0 u.1).below
+maps_below layout n m s E h (Amount q) there = let u = item_there layout.keys q there in (h.amount q u.0 u.1).below
+maps_below layout n m s E h (Content q) there = let u = item_there layout.keys q there in (h.content q u.0 u.1).below
 
 -- each holds a map
 pub map_there : (layout : Layout) (n : ℕ) (m : Maps) (s : State) (E : Env) → HasMaps layout n m s E → (i : Spot) → IsSpot layout i → (map : Map Key BScalar) × (slice_get E (local_at m i) ≡ Some (Many map))
-map_there layout n m s E h (Heap f) there = let u = exists_at layout.fields f there in let map = h.heap f u.0 u.1 in (map.image, map.here)
-map_there layout n m s E h (Mask f) there = let u = exists_at layout.fields f there in let map = h.mask f u.0 u.1 in (map.image, map.here)
-map_there layout n m s E h (Amount q) there = let u = exists_at layout.keys q there in let map = h.amount q u.0 u.1 in (map.image, map.here)
-map_there layout n m s E h (Content q) there = let u = exists_at layout.keys q there in let map = h.content q u.0 u.1 in (map.image, map.here)
+map_there layout n m s E h (Heap f) there = let u = item_there layout.fields f there in let map = h.heap f u.0 u.1 in (map.image, map.here)
+map_there layout n m s E h (Mask f) there = let u = item_there layout.fields f there in let map = h.mask f u.0 u.1 in (map.image, map.here)
+map_there layout n m s E h (Amount q) there = let u = item_there layout.keys q there in let map = h.amount q u.0 u.1 in (map.image, map.here)
+map_there layout n m s E h (Content q) there = let u = item_there layout.keys q there in let map = h.content q u.0 u.1 in (map.image, map.here)
 
 pub one_is_no_map : (E : Env) (y i : ℕ) (map : Map Key BScalar) (w : BScalar) → slice_get E y ≡ Some (Many map) → slice_get E i ≡ Some (One w) → y ≢ i
 one_is_no_map E y i map w there here e = no_map (same_Some _ _ (sym there ∙ ap (λ j. slice_get E j) e ∙ here))

@@ -1,18 +1,18 @@
 -- The names of the locals that hold an opening are names, no two of them are the same, and each has a type.
-use Rattle.std.proofs.Common.{◌≡◌, ◌≢◌, ◌∙◌, ◌+◌, ◌≤◌, ℕ, suc, Bool, true, false, ◌&&◌, not, List, [], ◌∷◌, ◌++◌, map, All, Contains, IsTrue, Option, Some, None, length, length-append, slice_get, slice_index_or, refl, sym, ap, subst, arith}
+use Rattle.std.proofs.Common.{◌≡◌, ◌≢◌, ◌∙◌, ◌+◌, ℕ, suc, Bool, true, false, ◌&&◌, not, List, [], ◌∷◌, ◌++◌, map, All, Contains, IsTrue, Option, Some, None, length, length-append, slice_get, slice_index_or, refl, sym, ap, subst, arith}
 use Rattle.std.proofs.lemmas.Bool.{and_parts}
 use Rattle.std.proofs.lemmas.List.{length-map, length-take-le, get_or_append_left, get_or-append-add}
 use Rattle.std.proofs.lemmas.List.Elements.{All-nil, All-cons, All-head, All-tail, All-append, All-map, All-weaker}
 use Rattle.std.proofs.lemmas.List.Kept.{AllPairs-cons}
 use Rattle.std.specs.List.{list_all}
+use Rattle.viper_core.proofs.PartLaws.{at_least}
+use Rattle.lemmas.proofs.Lists.{drop_two}
 use Rattle.vb_base.specs.Names.{is_name_start, is_name_byte, is_name, is_word, is_viper_name, NamesDiffer}
-use Rattle.viper_core.specs.Formed.{AreNames, IsFormed, IsTypedProgram, method_scope, variables_of}
-use Rattle.viper_core.specs.Program.{Program, Predicate, Method, Body}
-use Rattle.viper_core.specs.Scope.{Scope}
+use Rattle.viper_core.specs.Formed.{AreNames, IsFormed, IsTypedProgram, method_scope}
+use Rattle.viper_core.specs.Program.{Program, Predicate, Method}
 use Rattle.viper_core.specs.declared.programs.Unit.{Unit}
 use Rattle.viper_core.specs.declared.programs.Unit.TheVariants as unit
 use Rattle.viper_core.proofs.FormedLaws.{predicate_of_typed, method_of_typed}
-use Rattle.viper_core.proofs.ScopeLaws.{fresh-stmts_scope}
 use Rattle.moves.specs.Scalars.{variable_type}
 use Rattle.moves.specs.Maps.{heap_type, content_type}
 use Rattle.enc_expr.specs.Front.{variable_name, heap_name, content_name, names_of_method, names_of_predicate, types_of_method, types_of_predicate, names_of, types_of, HasFront}
@@ -89,9 +89,6 @@ begins b x = slice_index_or x 0 0 ≡ b
 kinds_apart : (a b : ℕ) → a ≢ b → (x y : List ℕ) → begins a x → begins b y → x ≢ y
 kinds_apart a b other x y h k e = other (sym h ∙ (ap (λ (z : List ℕ). slice_index_or z 0 0) e ∙ k))
 
-drop_two : (a b : ℕ) (x y : List ℕ) → (a ∷ b ∷ x) ≡ (a ∷ b ∷ y) → x ≡ y
-drop_two a b x y e = cc
-
 marked_at : (a : ℕ) (x : List ℕ) → Contains (a ∷ 36 ∷ x) 36
 marked_at a x = (1, omega arith, refl)
 
@@ -113,10 +110,6 @@ unit_names p h (unit.Method n) = method_names p h n (slice_get p.methods n) refl
 unit_names p h (unit.Predicate n) = predicate_names p h n (slice_get p.predicates n) refl
 
 -- ---- as many types
-
-pub at_least : (sc : Scope) (b : Option Body) → sc.fresh ≤ variables_of sc b
-at_least sc None = omega arith
-at_least sc (Some b) = fresh-stmts_scope sc b.stmts
 
 method_as_many : (p : Program) → IsTypedProgram p → (n : ℕ) (o : Option Method) → slice_get p.methods n ≡ o → length (types_of_method o) ≡ length (names_of_method o)
 method_as_many p h n None is = refl

@@ -1,6 +1,7 @@
 -- The values of an opening have the types of the locals that hold them.
 use Rattle.std.proofs.Common.{List, [], ◌∷◌, ◌++◌, map}
 use Rattle.std.specs.List.{AllZip}
+use Rattle.lemmas.proofs.Lists.{zip_append}
 use Rattle.sparse.specs.Map.{Map}
 use Rattle.sparse.specs.Meaning.{meaning_of}
 use Rattle.vb_value.specs.declared.values.Ty.{Ty}
@@ -19,12 +20,6 @@ use Rattle.enc_expr.specs.Front.{types_of, front_types, front_values}
 use Rattle.moves.proofs.MapLaws.{scalar_of_type, heap_of_type, contents_of_type}
 
 -- ---- lists side by side
-
-zip_append : {A B : Type 0} (R : A → B → Type 0) (xs us : List A) (ys ws : List B) → AllZip R xs ys → AllZip R us ws → AllZip R (xs ++ us) (ys ++ ws)
-zip_append R [] us [] ws h k = k
-zip_append R (x ∷ xs) us (y ∷ ys) ws h k = (h.0, zip_append R xs us ys ws h.1 k)
-zip_append R [] us (y ∷ ys) ws h k = absurd h
-zip_append R (x ∷ xs) us [] ws h k = absurd h
 
 zip_map : {A B C D : Type 0} (R : A → B → Type 0) (S : C → D → Type 0) (f : A → C) (g : B → D) → ((x : A) (y : B) → R x y → S (f x) (g y)) → (xs : List A) (ys : List B) → AllZip R xs ys → AllZip S (map f xs) (map g ys)
 zip_map R S f g go [] [] h = tt

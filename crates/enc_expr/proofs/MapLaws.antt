@@ -1,5 +1,5 @@
 -- Maps that are coupled: their values, what is put into them, and what stands beside.
-use Rattle.std.proofs.Common.{◌≡◌, ◌≢◌, ◌<◌, ℕ, Bool, true, false, List, [], ◌∷◌, Option, Some, None, slice_get, slice_set, ◌⊎◌, inl, inr, zero, suc, refl, sym, ap, subst, ◌∙◌, arith}
+use Rattle.std.proofs.Common.{◌≡◌, ◌≢◌, ◌<◌, ℕ, Bool, true, false, List, [], ◌∷◌, Option, Some, None, slice_get, slice_set, inl, inr, refl, sym, ap, subst, ◌∙◌}
 use Rattle.std.specs.BTreeMap.{is_at}
 use Rattle.std.specs.Option.{option_map}
 use Rattle.std.specs.declared.cmp.Ordering.{Ordering}
@@ -10,6 +10,7 @@ use Rattle.std.specs.Cmp.{IsTotalOrder, Equal-is}
 use Rattle.std.specs.Ordering.{is_eq}
 use Rattle.std.proofs.lemmas.Cmp.{tied_itself}
 use Rattle.std.proofs.lemmas.Bool.{true≢false}
+use Rattle.lemmas.proofs.Numbers.{same_or_not}
 use Rattle.sparse.proofs.MapLaws.{IsReduced-set, get-set_same, get-set_other, All-keys-set, All-values-set}
 use Rattle.vb_value.specs.Bound.{Bound}
 use Rattle.vb_value.specs.Key.{key_cmp}
@@ -72,12 +73,6 @@ amount_is_kind us = record { exact = exact_amounts; apart = instance_apart us; f
 
 pub content_is_kind : (us : List Ty) → IsKind (content_kind us)
 content_is_kind us = record { exact = exact_contents; apart = instance_apart us; fits = instance_fits us }
-
-same_or : (i j : ℕ) → (i ≡ j) ⊎ (i ≢ j)
-same_or zero zero = inl refl
-same_or zero (suc j) = inr (λ e. omega (arith, e))
-same_or (suc i) zero = inr (λ e. omega (arith, e))
-same_or (suc i) (suc j) = elim (same_or i j) [ inl e ↦ inl (ap suc e) | inr n ↦ inr (λ e. n (omega (arith, e))) ]
 
 -- the maps after a change
 changed_here : {K V : Type 0} (cmp : K → K → Ordering) (eq : V → V → Bool) (maps : List (Map K V)) (i : ℕ) (a : K) (v : V) (m : Map K V) → slice_get maps i ≡ Some m →
@@ -164,7 +159,7 @@ module _ {K V : Type 0} (k : MapKind K V) where
 -- what is so at one element and at the others
 pub at_each : {U : Type 0} (us : List U) (P : ℕ → U → Type 0) (i : ℕ) (u : U) → slice_get us i ≡ Some u → P i u → ((j : ℕ) (w : U) → slice_get us j ≡ Some w → i ≢ j → P j w) →
     (j : ℕ) (w : U) → slice_get us j ≡ Some w → P j w
-at_each {U} us P i u there here others j w has = elim (same_or i j) [
+at_each {U} us P i u there here others j w has = elim (same_or_not i j) [
   | inl e ↦ subst (λ j. (w : U) → slice_get us j ≡ Some w → P j w) e (λ w has. subst (P i) (same_Some u w (sym there ∙ has)) here) w has
   | inr n ↦ others j w has n
 ]

@@ -3,6 +3,7 @@ use Rattle.std.proofs.Common.{Bool as Truth, true, false, not, ◌≡◌, ◌+�
 use Rattle.std.specs.Bool.{⊤}
 use Rattle.std.proofs.lemmas.Option.{slice_get_within, same_Some}
 use Rattle.std.specs.Ordering.{is_lt}
+use Rattle.lemmas.proofs.Tests.{false_from_not, true_from_not}
 use Rattle.sparse.specs.Map.{Map, get, set}
 use Rattle.vb_base.specs.declared.labels.Kind.{Kind}
 use Rattle.vb_base.specs.declared.labels.Kind.TheVariants as kind
@@ -80,14 +81,6 @@ pub unless_alike : {b : Bound} {X : Type 0} {Q : X → Env → Type 0} {instead 
     Alike Q b (unless test instead go) cs r
 unless_alike true f g = f refl
 unless_alike false f g = g refl
-
-pub true_not : (q : Truth) → not q ≡ false → q ≡ true
-true_not true h = refl
-true_not false h = sym h
-
-pub false_not : (q : Truth) → not q ≡ true → q ≡ false
-false_not true h = sym h
-false_not false h = refl
 
 -- the same failure
 pub fails_alike : {b : Bound} {X : Type 0} {Q : X → Env → Type 0} {cs : List BChoice} (p : Place) (sc : Scene) (part : Pos) (kind : Kind) → p.at ≡ sc.at → Alike Q b (fails sc part kind) cs (Stops (Failed (label p part kind)) cs)
@@ -204,14 +197,14 @@ module _ (ts : List BType) (b : Bound) (c : Context) (x : ℕ) (p : Place) (s : 
       let tests = stmt.first (stmt.Assert missing enough) rest in
       let check = check_positive_run ts b x none_asked amount w E cs atom proper in
       unless_alike (not (is_positive w))
-      (λ test. alike_run (stops_first ts b (check_positive none_asked amount) tests E (Failed none_asked) cs cs (check.1 (false_not _ test))) (fails_alike p sc at kind.Amount coupled.at))
-      (λ test. alike_run (join_done ts b (check_positive none_asked amount) tests E E cs cs (check.0 (true_not _ test))) (
+      (λ test. alike_run (stops_first ts b (check_positive none_asked amount) tests E (Failed none_asked) cs cs (check.1 (false_from_not _ test))) (fails_alike p sc at kind.Amount coupled.at))
+      (λ test. alike_run (join_done ts b (check_positive none_asked amount) tests E E cs cs (check.0 (true_from_not _ test))) (
       found_alike (amount_at s q key) held _ is_held (
       fitting_alike b (fits_order held w) at (is_lt (order held w)) _ (Bool (not (is_lt (order held w)))) (bvalue b enough E) asked (λ value.
       unless_alike (is_lt (order held w))
       (λ less. alike_run (assert_run ts b missing enough false rest E cs (value ∙ ap (λ z. end.Is (Bool (not z))) less)) (fails_alike p sc at kind.Perm coupled.at))
       (λ less. alike_run (assert_run ts b missing enough true rest E cs (value ∙ ap (λ z. end.Is (Bool (not z))) less) ∙
-      join_done ts b sets changes E provides.after cs cs (provides.done cs)) (changes_alike cs within (true_not _ test)))))))
+      join_done ts b sets changes E provides.after cs cs (provides.done cs)) (changes_alike cs within (true_from_not _ test)))))))
 
   -- and what is left is sound
   abbrev TakenSoundly : State → Env → Type 0

@@ -1,10 +1,9 @@
 -- Operators of Viper have the values of those of Boogie.
 use Rattle.std.proofs.Common.{if◌then◌else◌, ◌≡◌, ◌≢◌, ℤ, pos, ◌+ℤ◌, ◌-ℤ◌, ◌*ℤ◌, Bool, true, false, not, Some, refl, ap, sym, ◌∙◌}
-use Rattle.std.specs.Ordering.{int_eq, is_lt, is_le, is_gt, is_ge}
+use Rattle.std.specs.Ordering.{is_lt, is_le, is_gt, is_ge}
 use Rattle.std.specs.declared.cmp.Ordering.{Ordering}
-use Rattle.std.proofs.lemmas.Bool.Decides.{Decides-int_eq}
-use Rattle.std.proofs.lemmas.Bool.{false_from_ne_true}
 use Rattle.std.specs.Int.{int_div_euclid, int_rem_euclid}
+use Rattle.lemmas.proofs.Numbers.{apart_from_zero}
 use Rattle.vb_base.specs.declared.places.Pos.{Pos}
 use Rattle.vb_value.specs.Bound.{Bound, Bounded, Unbounded, IfBounded, IsWithin, is_within}
 use Rattle.vb_value.specs.Fraction.{Fraction, IsWithinFraction, whole, none, fits_quotient, fits_quotient_by, fits_order, fits_sum, fits_difference, fits_product, order, sum, difference, product, quotient, quotient_by}
@@ -136,10 +135,6 @@ plain_computes b o x y v w at u plain typed left right = absurd cc
 
 -- ---- divisions
 
--- a divisor other than 0
-other_than_zero : (d : ℤ) → d ≢ pos 0 → int_eq d (pos 0) ≡ false
-other_than_zero d some = false_from_ne_true (int_eq d (pos 0)) (λ t. some ((Decides-int_eq d (pos 0)).0 t))
-
 -- its quotient is that of Viper, and so are the numbers that are to fit
 same_fits : (b : Bound) (p : Fraction) (d : ℤ) → IfBounded b (IsWithinFraction p) → fitting b (fits_quotient p (whole d)) (s.Real (quotient_by p d)) ≡ fitting b (fits_quotient_by p d) (s.Real (quotient_by p d))
 same_fits Unbounded p d within = refl
@@ -148,13 +143,13 @@ same_fits Bounded p d within = ap (λ (f : Bool). fitting Bounded f (s.Real (quo
 real_quotient : (b : Bound) (p : Fraction) (d : ℤ) → IfBounded b (IsWithinFraction p) → d ≢ pos 0 →
     r.plain b op.Divide (s.Real p) (s.Real (whole d)) ≡ fitting b (fits_quotient_by p d) (s.Real (quotient_by p d))
 real_quotient b p d within some =
-    ap (λ (z : Bool). if z then Is (s.Real none) else fitting b (fits_quotient p (whole d)) (s.Real (quotient p (whole d)))) (other_than_zero d some)
+    ap (λ (z : Bool). if z then Is (s.Real none) else fitting b (fits_quotient p (whole d)) (s.Real (quotient p (whole d)))) (apart_from_zero d some)
     ∙ ap (λ (q : Fraction). fitting b (fits_quotient p (whole d)) (s.Real q)) (quotient-whole p d) ∙ same_fits b p d within
 
 quotient_computes : (b : Bound) (sc : Scene) (l y : t.BExpr) (p : Fraction) (d : ℤ) (at : Pos) (K : Env → Type 0) → IfBounded b (IsWithinFraction p) → d ≢ pos 0 →
     ((E : Env) → K E → bvalue b l E ≡ Is (s.Real p)) → ((E : Env) → K E → bvalue b y E ≡ Is (s.Int d)) →
     Computes b ty.Perm (record { expr = t.Bin op.Divide l (real y); base = base.Real }) K (m.fraction_by b sc p d at)
-quotient_computes b sc l y p d at K within some h i = rw (other_than_zero d some)
+quotient_computes b sc l y p d at K within some h i = rw (apart_from_zero d some)
     (fitting_computes b ty.Perm (record { expr = t.Bin op.Divide l (real y); base = base.Real }) K (fits_quotient_by p d) at (Perm (quotient_by p d)) refl refl
     (λ E k. plain_value b op.Divide l (real y) _ _ E refl (h E k) (real_value b y d E (i E k)) ∙ real_quotient b p d within some))
 
@@ -174,9 +169,9 @@ over_computes b sc x y v d at u typed left proper some = absurd cc
 euclidean_computes : (b : Bound) (sc : Scene) (f : ℤ → ℤ → ℤ) (g : BOp) (x y : Operand) (v : Value) (d : ℤ) (at : Pos) (u : Ty) → r.is_lazy g ≡ false →
     ((p q : BScalar) → r.plain b g p q ≡ r.euclidean f p q) → value_type o.IntDiv (type_of v) ty.Int ≡ Some u → d ≢ pos 0 →
     Computes b u (record { expr = t.Bin g x.expr y.expr; base = base.Int }) (HaveBoth b x y v (Int d)) (m.euclidean sc f v (Int d) at)
-euclidean_computes b sc f g x y (Int n) d at u lazy same typed some = let h : ty.Int ≡ u = cc in rw (other_than_zero d some)
+euclidean_computes b sc f g x y (Int n) d at u lazy same typed some = let h : ty.Int ≡ u = cc in rw (apart_from_zero d some)
     (value h (ap base_for h) (λ E k. plain_value b g x.expr y.expr _ _ E lazy k.left.value k.right.value ∙ same _ _
-    ∙ ap (λ (z : Bool). Is (s.Int (if z then pos 0 else f n d))) (other_than_zero d some)))
+    ∙ ap (λ (z : Bool). Is (s.Int (if z then pos 0 else f n d))) (apart_from_zero d some)))
 euclidean_computes b sc f g x y v d at u lazy same typed some = absurd cc
 
 -- a divisor other than 0. The dividend has to be proper, since `/` of Boogie tests its numerator too.

@@ -3,6 +3,7 @@ use Rattle.std.proofs.Common.{◌≡◌, ◌+◌, ◌<◌, ◌≤◌, ℕ, nat_l
 use Rattle.std.specs.Bool.{⊤}
 use Rattle.std.proofs.lemmas.Bool.{true≢false, lt-ltb}
 use Rattle.std.proofs.lemmas.Option.{slice_get_within}
+use Rattle.enc_expr.proofs.FillLaws.{first_same}
 use Rattle.vb_value.specs.Bound.{Bound, Bounded, Unbounded}
 use Rattle.vb_value.specs.Content.{Content, Unit, Leaf, Pair, nodes, same_content, IsReducedContent, IsProperContent}
 use Rattle.vb_value.specs.Equality.{Decides-same_content}
@@ -58,9 +59,6 @@ content_choice (w.Entries es) = inr refl
 
 none_given : {x : BValue} → None ≡ Some x → ⊥
 none_given h = cc
-
-first_same : (c d : BChoice) (xs ys : List BChoice) → c ∷ xs ≡ d ∷ ys → c ≡ d
-first_same c d xs ys h = cc
 
 second_same : (c d e f : BChoice) (xs ys : List BChoice) → c ∷ (d ∷ xs) ≡ e ∷ (f ∷ ys) → d ≡ f
 second_same c d e f xs ys h = cc

@@ -14,7 +14,7 @@ use Rattle.boogie_tree.specs.declared.exprs.BBase.{BBase}
 use Rattle.boogie_tree.specs.declared.exprs.BBase.TheVariants as base
 use Rattle.boogie_tree.specs.Values.{plain_type}
 use Rattle.boogie_meaning.specs.Types as b
-use Rattle.boogie_tree.specs.Literals.{IsLiteral, LiteralsFit, BlockLiteralsFit}
+use Rattle.boogie_tree.specs.Literals.{IsLiteral, AreBound, LiteralsFit, BlockLiteralsFit}
 use Rattle.boogie_tree.specs.Fits.{FitsExpr, FitStmts}
 use Rattle.enc_expr.specs.Place.{Place}
 use Rattle.moves.specs.Scalars.{base_for}
@@ -62,7 +62,7 @@ pub expression_printed : (c : Context) (p : Place) (g : Guard) (a : e.Expr) (u :
 expression_printed c p g a u ts formed typed h guard =
     let m = code (kinds_in c) p g a (length ts) in
     let k = expression_typed c p g a u ts formed typed h guard in
-    let l = code_fits (kinds_in c) p g a (expression_literals c a u formed typed) in
+    let l = code_fits AreBound (kinds_in c) p g a (expression_literals c a u formed typed) in
     record { stmts = block_fits ts m.locals m.stmts k.piece.stmts (l.stmts (length ts)); value = value_fits ts m.locals m.value.expr (base_for u) k.value.typed (l.value (length ts)) }
 
 pub body_printed : (c : Context) (p : Place) (g : Guard) (scale : t.BExpr) (a : e.Assertion) (from : ℕ) (ts : List BType) → IsFormed c.program → IsAssertion c a → HasPlaceTypes c p ts → HasGuardType g ts →
@@ -70,4 +70,4 @@ pub body_printed : (c : Context) (p : Place) (g : Guard) (scale : t.BExpr) (a : 
 body_printed c p g scale a from ts formed typed h guard typed_scale literals content =
     let m = body_code (kinds_in c) p g scale a from (length ts) in
     let k = filling_typed c p g scale a from ts formed typed h guard typed_scale content in
-    block_fits ts m.locals m.stmts k.stmts ((body_fits (kinds_in c) p g scale a from (body_literals c a formed typed) literals).stmts (length ts))
+    block_fits ts m.locals m.stmts k.stmts ((body_fits AreBound (kinds_in c) p g scale a from (body_literals c a formed typed) literals).stmts (length ts))

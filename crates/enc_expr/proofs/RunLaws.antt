@@ -1,5 +1,6 @@
 -- Runs of pieces of code.
 use Rattle.std.proofs.Common.{◌≡◌, ℕ, Bool as Truth, true, false, List, Option, Some, None, slice_get, slice_set, if◌then◌else◌, refl, ap, ◌∙◌}
+use Rattle.boogie_meaning.proofs.PatternLaws.{is_inj}
 use Rattle.vb_base.specs.declared.labels.Label.{Label}
 use Rattle.vb_value.specs.Bound.{Bound}
 use Rattle.boogie_tree.specs.Expr as t
@@ -9,7 +10,7 @@ use Rattle.boogie_tree.specs.Program.{BType}
 use Rattle.boogie_tree.specs.Value as v
 use Rattle.boogie_tree.specs.Value.{BScalar, BValue, One, Many, BChoice}
 use Rattle.boogie_tree.specs.declared.exprs.BOp.TheVariants as op
-use Rattle.boogie_meaning.specs.Ends.{End, Is, Over, Wrong, then_with, found}
+use Rattle.boogie_meaning.specs.Ends.{Is, Wrong, then_with, found}
 use Rattle.boogie_meaning.specs.Operators.{binary}
 use Rattle.boogie_meaning.specs.Value.{scalar_in}
 use Rattle.boogie_meaning.specs.Quantified.{bvalue, one_of, side}
@@ -33,20 +34,12 @@ pub then_done : (r : Run) → then_run r (λ F rest. Done F rest) ≡ r
 then_done (Done E cs) = refl
 then_done (Stops why cs) = refl
 
-pub is_same : {X : Type 0} {x y : X} → Is x ≡ Is y → x ≡ y
-is_same {X} {x} h = ap (λ e. the_value x e) h
-  where
-    the_value : {X : Type 0} → X → End X → X
-    the_value d (Is x) = x
-    the_value d Over = d
-    the_value d Wrong = d
-
 wrong_is : {X : Type 0} {x : X} → Wrong ≡ Is x → ⊥
 wrong_is h = cc
 
 -- a local with a value holds it
 pub there_is : (o : Option BValue) (w : BScalar) → then_with (found o) scalar_in ≡ Is w → o ≡ Some (One w)
-there_is (Some (One v)) w h = ap (λ v. Some (One v)) (is_same h)
+there_is (Some (One v)) w h = ap (λ v. Some (One v)) (is_inj h)
 there_is (Some (Many m)) w h = absurd (wrong_is h)
 there_is None w h = absurd (wrong_is h)
 

@@ -10,6 +10,7 @@ use Rattle.viper_core.specs.Formed.{IsFormed, predicate_context}
 use Rattle.viper_core.specs.Program.{Predicate}
 use Rattle.viper_core.specs.Typing as y
 use Rattle.std.specs.Prelude.{IsTrue}
+use Rattle.lemmas.proofs.Lists.{get_middle, there_left}
 use Rattle.viper_core.specs.Typing.{Context, IsAssertion, IsAmount, Opens}
 use Rattle.viper_core.proofs.FormedLaws.{predicate_of_typed, predicate_body_of_typed}
 use Rattle.viper_meaning.proofs.TypedLaws.{keys_at}
@@ -32,7 +33,7 @@ use Rattle.enc_expr.specs.Coupling.{AreLocals}
 use Rattle.enc_expr.specs.Typed.{HasStateTypes, HasPlaceTypes, HasGuardType, IsOperand, AreOperands, none, more, IsTypedPiece, IsTypedExpression}
 use Rattle.enc_expr.proofs.KeyedCode.{states_keyed, code_keyed, body_keyed}
 use Rattle.enc_expr.proofs.TypedPieces.{IsTypedCode, Any, join_typed, gives_typed, then_typed, declares_typed, declares_all_typed, puts_typed, atomic_typed, AreVariables, located_typed, variable_at, index_typed, own_types, copy_state_typed}
-use Rattle.enc_expr.proofs.TypedMore.{get_more, type_with_more}
+use Rattle.enc_expr.proofs.TypedMore.{type_with_more}
 use Rattle.enc_expr.proofs.TypedForms.{own_type, binary_typed, choose_typed, chosen_typed, read_typed, only_unit_typed, fact_typed, pair_typed, acc_typed, instance_typed, taking_typed}
 
 module _ (ts : List BType) where
@@ -113,14 +114,10 @@ module _ (ts : List BType) where
 
 -- ---- after the locals that there are
 
-get_next : {X : Type 0} (xs : List X) (x : X) (ys : List X) → slice_get (xs ++ x ∷ ys) (length xs) ≡ Some x
-get_next [] x ys = refl
-get_next (y ∷ xs) x ys = get_next xs x ys
-
 -- new locals stand behind those that there are
 pub new_locals : (ts us : List BType) → AreLocals (ts ++ us) (length ts) us
 new_locals ts [] = tt
-new_locals ts (u ∷ us) = (get_next ts u us, subst (λ (n : ℕ). AreLocals (ts ++ u ∷ us) n us) longer (subst (λ (l : List BType). AreLocals l (length (ts ++ u ∷ [])) us) (append_assoc ts (u ∷ []) us) (new_locals (ts ++ u ∷ []) us)))
+new_locals ts (u ∷ us) = (get_middle ts u us, subst (λ (n : ℕ). AreLocals (ts ++ u ∷ us) n us) longer (subst (λ (l : List BType). AreLocals l (length (ts ++ u ∷ [])) us) (append_assoc ts (u ∷ []) us) (new_locals (ts ++ u ∷ []) us)))
   where
     longer : length (ts ++ u ∷ []) ≡ length ts + 1
     longer = simp length-append (omega arith)
@@ -128,22 +125,22 @@ new_locals ts (u ∷ us) = (get_next ts u us, subst (λ (n : ℕ). AreLocals (ts
 -- and those keep their types
 pub more_state_types : (ts us : List BType) (layout : Layout) (m : Maps) → HasStateTypes layout m ts → HasStateTypes layout m (ts ++ us)
 more_state_types ts us layout m h = record {
-  heap = λ f u there. get_more ts us _ _ (h.heap f u there);
-  mask = λ f u there. get_more ts us _ _ (h.mask f u there);
-  amount = λ q ks there. get_more ts us _ _ (h.amount q ks there);
-  content = λ q ks there. get_more ts us _ _ (h.content q ks there);
+  heap = λ f u there. there_left ts us _ _ (h.heap f u there);
+  mask = λ f u there. there_left ts us _ _ (h.mask f u there);
+  amount = λ q ks there. there_left ts us _ _ (h.amount q ks there);
+  content = λ q ks there. there_left ts us _ _ (h.content q ks there);
 }
 
 pub more_place_types : (ts us : List BType) (c : Context) (p : Place) → HasPlaceTypes c p ts → HasPlaceTypes c p (ts ++ us)
 more_place_types ts us c p h = record {
-  vars = λ x u visible there. get_more ts us _ _ (h.vars x u visible there);
+  vars = λ x u visible there. there_left ts us _ _ (h.vars x u visible there);
   now = more_state_types ts us c.program.layout p.now h.now;
   old = more_state_types ts us c.program.layout p.old h.old;
 }
 
 pub more_guard_type : (ts us : List BType) (g : Guard) → HasGuardType g ts → HasGuardType g (ts ++ us)
 more_guard_type ts us None h = tt
-more_guard_type ts us (Some i) h = get_more ts us i _ h
+more_guard_type ts us (Some i) h = there_left ts us i _ h
 
 -- what is written for an expression, and for a body, among all locals
 pub expression_typed : (c : Context) (p : Place) (g : Guard) (a : e.Expr) (u : Ty) (ts : List BType) → IsFormed c.program → y.HasType c a u → HasPlaceTypes c p ts → HasGuardType g ts →
@@ -158,7 +155,7 @@ pub filling_typed : (c : Context) (p : Place) (g : Guard) (scale : t.BExpr) (a :
     HasType ts None scale base.Real → slice_get ts from ≡ Some (plain_type base.Snap) → IsTypedPiece ts (body_code (kinds_in c) p g scale a from (length ts))
 filling_typed c p g scale a from ts formed typed h guard scaled there =
     let m = body_code (kinds_in c) p g scale a from (length ts) in
-    let k = body_typed (ts ++ m.locals) c p g scale a from formed typed (more_place_types ts m.locals c p h) (more_guard_type ts m.locals g guard) (type_with_more ts m.locals scaled) (get_more ts m.locals from _ there) in
+    let k = body_typed (ts ++ m.locals) c p g scale a from formed typed (more_place_types ts m.locals c p h) (more_guard_type ts m.locals g guard) (type_with_more ts m.locals scaled) (there_left ts m.locals from _ there) in
     record {
       keys = (body_keyed (kinds_in c) p g scale a from (states_keyed c.program formed.typed)).keys (length ts);
       stmts = k.stmts (length ts) [] (subst (λ (us : List BType). AreLocals (ts ++ m.locals) (length ts) us) (sym (append-nil m.locals)) (new_locals ts m.locals));

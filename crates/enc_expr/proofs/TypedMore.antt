@@ -1,5 +1,6 @@
 -- What is well-typed stays so when locals are added.
-use Rattle.std.proofs.Common.{◌≡◌, ℕ, zero, suc, List, [], ◌∷◌, ◌++◌, Option, Some, slice_get}
+use Rattle.std.proofs.Common.{List, ◌++◌, Option, Some}
+use Rattle.lemmas.proofs.Lists.{there_left}
 use Rattle.boogie_tree.specs.Expr as t
 use Rattle.boogie_tree.specs.Stmt as s
 use Rattle.boogie_tree.specs.Program.{BType}
@@ -7,15 +8,10 @@ use Rattle.boogie_tree.specs.declared.exprs.BBase.{BBase}
 use Rattle.boogie_meaning.specs.Types as b
 use Rattle.boogie_meaning.specs.Types.{HasType, HaveTypes, SideHasType, IsTypedStmt, IsTyped}
 
-pub get_more : {X : Type 0} (xs ys : List X) (i : ℕ) (x : X) → slice_get xs i ≡ Some x → slice_get (xs ++ ys) i ≡ Some x
-get_more [] ys i x h = absurd cc
-get_more (y ∷ xs) ys zero x h = h
-get_more (y ∷ xs) ys (suc i) x h = get_more xs ys i x h
-
 module _ (ts us : List BType) where
   mutual
     typed_more : (o : Option (List BBase)) (e : t.BExpr) (u : BBase) → HasType ts o e u → HasType (ts ++ us) o e u
-    typed_more o (t.Var i) u (b.var h) = b.var (get_more ts us _ _ h)
+    typed_more o (t.Var i) u (b.var h) = b.var (there_left ts us _ _ h)
     typed_more o (t.Int n) _ b.int = b.int
     typed_more o (t.Real n) _ b.real = b.real
     typed_more o (t.Bool p) _ b.bool = b.bool
@@ -32,8 +28,8 @@ module _ (ts us : List BType) where
     typed_more o (t.SRef a) _ (b.s_ref h) = b.s_ref (typed_more o a _ h)
     typed_more o (t.SPerm a) _ (b.s_perm h) = b.s_perm (typed_more o a _ h)
     typed_more o (t.Pair a c) _ (b.pair h i) = b.pair (typed_more o a _ h) (typed_more o c _ i)
-    typed_more o (t.At i es) u (b.at l h) = b.at (get_more ts us _ _ l) (indices_more o es _ h)
-    typed_more _ (t.AtBound i) u (b.at_bound l) = b.at_bound (get_more ts us _ _ l)
+    typed_more o (t.At i es) u (b.at l h) = b.at (there_left ts us _ _ l) (indices_more o es _ h)
+    typed_more _ (t.AtBound i) u (b.at_bound l) = b.at_bound (there_left ts us _ _ l)
 
     indices_more : (o : Option (List BBase)) (es : t.BExprs) (ws : List BBase) → HaveTypes ts o es ws → HaveTypes (ts ++ us) o es ws
     indices_more o t.none _ b.none = b.none
@@ -46,14 +42,14 @@ module _ (ts us : List BType) where
   types_with_more {o = o} {es = es} {ws = ws} h = indices_more o es ws h
 
   side_with_more : {e : t.BExpr} {u : BType} → SideHasType ts e u → SideHasType (ts ++ us) e u
-  side_with_more (b.whole l) = b.whole (get_more ts us _ _ l)
+  side_with_more (b.whole l) = b.whole (there_left ts us _ _ l)
   side_with_more (b.value h) = b.value (type_with_more h)
 
   mutual
     pub stmt_with_more : {x : s.BStmt} → IsTypedStmt ts x → IsTypedStmt (ts ++ us) x
-    stmt_with_more (b.assign l h) = b.assign (get_more ts us _ _ l) (side_with_more h)
-    stmt_with_more (b.put l h i) = b.put (get_more ts us _ _ l) (types_with_more h) (type_with_more i)
-    stmt_with_more (b.havoc l) = b.havoc (get_more ts us _ _ l)
+    stmt_with_more (b.assign l h) = b.assign (there_left ts us _ _ l) (side_with_more h)
+    stmt_with_more (b.put l h i) = b.put (there_left ts us _ _ l) (types_with_more h) (type_with_more i)
+    stmt_with_more (b.havoc l) = b.havoc (there_left ts us _ _ l)
     stmt_with_more (b.assume_ h) = b.assume_ (type_with_more h)
     stmt_with_more (b.assert_ h) = b.assert_ (type_with_more h)
     stmt_with_more (b.if_ h i j) = b.if_ (type_with_more h) (stmts_with_more i) (stmts_with_more j)

@@ -1,6 +1,8 @@
 -- The code of `fold` goes alongside it, from arguments and amount on.
 use Rattle.std.specs.Bool.{⊤}
-use Rattle.std.proofs.Common.{◌≡◌, ◌≤◌, ◌++◌, ℕ, List, length, All, true, not, Option, Some, None, IfSome, slice_get, refl, sym, ap, subst, ◌∙◌, arith}
+use Rattle.std.proofs.Common.{◌≡◌, ◌≤◌, ◌++◌, ℕ, List, length, All, true, not, Some, None, IfSome, slice_get, refl, sym, ap, subst, ◌∙◌, arith}
+use Rattle.viper_meaning.proofs.BeginLaws.{evaluating_found}
+use Rattle.lemmas.proofs.Tests.{true_from_not, false_from_not}
 use Rattle.vb_base.specs.declared.labels.Kind.TheVariants as kind
 use Rattle.vb_value.specs.Bound.{Bound}
 use Rattle.vb_value.specs.Fraction.{Fraction, is_positive, IsProperFraction}
@@ -30,7 +32,6 @@ use Rattle.viper_meaning.proofs.FormedLiterals.{program_proper}
 use Rattle.viper_meaning.proofs.StatementFitsLaws.{fold_instance_fits}
 use Rattle.viper_meaning.proofs.StatementKeptLaws.{fold_instance_proper}
 use Rattle.viper_meaning.proofs.StatementSignLaws.{fold_instance_sign}
-use Rattle.viper_meaning.proofs.ThenLaws.{before_nothing}
 use Rattle.viper_meaning.proofs.TypedLaws.{keys_at, key_fits}
 use Rattle.boogie_tree.specs.Expr as t
 use Rattle.boogie_tree.specs.Program.{BType}
@@ -52,7 +53,7 @@ use Rattle.enc_expr.proofs.CodeLaws.{code_counted, codes_counted, atomic_counted
 use Rattle.enc_expr.proofs.FillLaws.{IsChanged, changed_coupled}
 use Rattle.enc_expr.proofs.FrameLaws.{kept_then, kept_but_then, coupled_kept, locals_first, locals_rest, ready_rest}
 use Rattle.enc_expr.proofs.InsideLaws.{values_fit}
-use Rattle.enc_expr.proofs.OpeningLaws.{alike_run, unless_alike, fails_alike, true_not, false_not}
+use Rattle.enc_expr.proofs.OpeningLaws.{alike_run, unless_alike, fails_alike}
 use Rattle.enc_expr.proofs.RunLaws.{join_done}
 use Rattle.enc_expr.proofs.Simulation.{expression, arguments, proper_value, proper_values}
 use Rattle.enc_expr.proofs.UnfoldingLaws.{located_quiet, atomic_quiet, perm_alike, key_exists}
@@ -63,10 +64,6 @@ use Rattle.enc_assert.proofs.WayLaws.{both_kept, any_run}
 use Rattle.enc_fold.specs.Encoding.{closing_code, fold_code}
 use Rattle.enc_fold.proofs.ClosingLaws.{closing_alongside}
 use Rattle.enc_fold.proofs.CountedLaws.{fold_counted}
-
--- what there is, in a run
-found_run : {X Y : Type 0} (o : Option X) (x : X) (go : X → Run Y) → o ≡ Some x → evaluating (found o) go ≡ go x
-found_run o x go there = ap (λ o. evaluating (found o) go) there ∙ before_nothing (go x)
 
 -- the amount was tested to be positive, and arguments and amount are where the code names them
 record IsPaid (n x : ℕ) (locals : List ℕ) (amount : t.BExpr) (vs : List Value) (z : Fraction) (E : Env) (asked : Fraction) (F : Env) : Type 0 where
@@ -124,13 +121,13 @@ module _ (ts : List BType) (b : Bound) (c : Context) (formed : IsFormed c.progra
         let tested = check_positive_run ts b x to a.value.expr z G cs put.atom proper in
         alike_run (join_done ts b l.value.sets (join a.value.sets check) E F cs cs (set.sets.done cs) ∙ join_done ts b a.value.sets check F G cs cs (put.sets.done cs)) (
         unless_alike (not (is_positive z))
-        (λ test. alike_run (tested.1 (false_not _ test)) (fails_alike p sc f.place kind.Amount coupled.at))
-        (λ test. alike_run (tested.0 (true_not _ test)) (is_alike (record {
+        (λ test. alike_run (tested.1 (false_from_not _ test)) (fails_alike p sc f.place kind.Amount coupled.at))
+        (λ test. alike_run (tested.0 (true_from_not _ test)) (is_alike (record {
           same = refl;
           kept = kept_then {F = F} {G = G} before set.sets.kept put.sets.kept;
           located = located_more (omega (arith, (atomic_counted m).next l.next)) put.sets.kept.same set.located;
           atom = put.atom;
-          positive = true_not _ test;
+          positive = true_from_not _ test;
         }))))
 
     fits_key : FitsKey d.params key
@@ -192,9 +189,9 @@ module _ (ts : List BType) (b : Bound) (c : Context) (formed : IsFormed c.progra
       (λ z G o.
       let ready2 = ready_rest ts None n1 n2 m.locals last.locals F G (counted2.next n1) o.0.kept ready1 in
       same_alongside ⊤ b c.program.layout
-      (found_run (key_of vs) key.0 (λ key. evaluating (found (body_of c.program f.predicate)) (λ body. evaluating (positive_amount sc f.place z) (λ q.
+      (evaluating_found (key_of vs) key.0 (λ key. evaluating (found (body_of c.program f.predicate)) (λ body. evaluating (positive_amount sc f.place z) (λ q.
       then_do (consume b body s (with_variables vs sc) q s) (λ left. ended (closed b body s (with_variables vs sc) f.predicate key q f.place left))))) (sym key.1)
-      ∙ found_run (body_of c.program f.predicate) body (λ body. evaluating (positive_amount sc f.place z) (λ q.
+      ∙ evaluating_found (body_of c.program f.predicate) body (λ body. evaluating (positive_amount sc f.place z) (λ q.
       then_do (consume b body s (with_variables vs sc) q s) (λ left. ended (closed b body s (with_variables vs sc) f.predicate key.0 q f.place left)))) (body_found c f typed)) (
       weaken_alongside ⊤ b c.program.layout (λ u H changed. record { kept = kept_but_then {F = F} low h.0.kept (kept_but_then {F = G} high o.0.kept changed.kept); now = changed.now })
       (amount_alongside n2 y.value m.value G (coupled_kept b c n1 n2 p s sc F G high o.0.kept coupled1) ready2.full vs (values_more high o.0.kept.same h.0.values) h.1 key.0 key.1 z (record { value = o.0.here }) o.1 ready2))))

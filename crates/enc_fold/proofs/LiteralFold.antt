@@ -12,10 +12,11 @@ use Rattle.viper_core.specs.Typing.{Context, IsFold}
 use Rattle.viper_core.proofs.FormedLaws.{predicate_body_of_typed}
 use Rattle.viper_meaning.specs.Operators.{Class, Lazy, Division, Plain, class_of}
 use Rattle.boogie_tree.specs.Expr as t
-use Rattle.boogie_tree.specs.Literals.{IsLiteral, LiteralsFit, IndexLiteralsFit, BlockLiteralsFit}
+use Rattle.boogie_tree.specs.Literals.{IsLiteral, AreBound}
 use Rattle.boogie_tree.specs.Program.{BType}
 use Rattle.boogie_tree.specs.Stmt as s
 use Rattle.boogie_tree.specs.Values.{plain_type}
+use Rattle.boogie_tree.specs.declared.exprs.BBase.{BBase}
 use Rattle.boogie_tree.specs.declared.exprs.BBase.TheVariants as base
 use Rattle.boogie_tree.specs.declared.exprs.BOp.TheVariants as op
 use Rattle.enc_expr.specs.Fits.{FitsPiece}
@@ -28,7 +29,7 @@ use Rattle.enc_expr.specs.Encoding.{copies, held_check, taken_amount, taking, le
 use Rattle.enc_expr.specs.Plain.{plain_by, plain, plain_more, plain_index, plain_amount, contained_by, content_expr}
 use Rattle.enc_expr.specs.Typed.{HasPlaceTypes}
 use Rattle.enc_expr.proofs.LiteralCode.{operand_fits, quotient_fits, code_fits, codes_fit, body_fits}
-use Rattle.enc_expr.proofs.LiteralPieces.{zero_fits, one_fits, join_fits, index_fits, check_positive_fits, copies_fit, fill_instance_fits, Any, OperandFits, EmittingFits, gives_fits, then_fits, declares_fits, declares_all_fits, puts_fits, atomic_fits, located_fits}
+use Rattle.enc_expr.proofs.LiteralPieces.{zero_fits, one_fits, join_fits, index_fits, check_positive_fits, copies_fit, fill_instance_fits, Any, OperandFits, EmittingFits, ExprFits, IndexFits, BlockFits, gives_fits, then_fits, declares_fits, declares_all_fits, puts_fits, atomic_fits, located_fits}
 use Rattle.enc_expr.proofs.PrintedCode.{literals_hold, body_literals, expression_literals, block_fits}
 use Rattle.viper_core.proofs.LiteralLaws.{exprs_literals}
 use Rattle.enc_assert.specs.Encoding.{consume_code}
@@ -38,109 +39,104 @@ use Rattle.enc_fold.specs.Encoding.{closing_code, fold_code, unfold_code}
 use Rattle.enc_fold.specs.Spelled.{FoldLiteralsFit}
 use Rattle.enc_fold.proofs.TypedFold.{fold_typed, unfold_typed}
 
--- ---- values without checks
+module _ (B : List BBase → Type 0) where
+  -- ---- values without checks
 
-class_fits : (q : Class) (f : Op) (x z : Operand) → OperandFits x → OperandFits z → OperandFits (plain_by q f x z)
-class_fits Lazy f x z h i = (h, i)
-class_fits Division f x z h i = quotient_fits f x z.expr h i
-class_fits Plain f x z h i = operand_fits f x z h i
+  class_fits : (q : Class) (f : Op) (x z : Operand) → OperandFits B x → OperandFits B z → OperandFits B (plain_by q f x z)
+  class_fits Lazy f x z h i = (h, i)
+  class_fits Division f x z h i = quotient_fits B f x z.expr h i
+  class_fits Plain f x z h i = operand_fits B f x z h i
 
-mutual
-  plain_fits : (k : Kinds) (p : Place) (a : e.Expr) → ViperLiteralsFit a → OperandFits (plain k p a)
-  plain_fits k p (e.Var x) h = tt
-  plain_fits k p (e.Int n) h = h
-  plain_fits k p (e.Bool b) h = tt
-  plain_fits k p e.Null h = tt
-  plain_fits k p (e.Part q) h = h
-  plain_fits k p (e.Neg a) h = plain_fits k p a h
-  plain_fits k p (e.Not a) h = plain_fits k p a h
-  plain_fits k p (e.Bin f a b at) h = class_fits (class_of f) f (plain k p a) (plain k p b) (plain_fits k p a h.0) (plain_fits k p b h.1)
-  plain_fits k p (e.Choose a b c) h = (plain_fits k p a h.0, plain_fits k p b h.1, plain_fits k p c h.2)
-  plain_fits k p (e.Field a f at) h = (plain_fits k p a h, tt)
-  plain_fits k p (e.Old a) h = plain_fits k (with_now p.old p) a h
-  plain_fits k p (e.Unfolding (e.opened q args amount body inner at)) h = plain_fits k p inner h.3
+  mutual
+    plain_fits : (k : Kinds) (p : Place) (a : e.Expr) → ViperLiteralsFit a → OperandFits B (plain k p a)
+    plain_fits k p (e.Var x) h = tt
+    plain_fits k p (e.Int n) h = h
+    plain_fits k p (e.Bool b) h = tt
+    plain_fits k p e.Null h = tt
+    plain_fits k p (e.Part q) h = h
+    plain_fits k p (e.Neg a) h = plain_fits k p a h
+    plain_fits k p (e.Not a) h = plain_fits k p a h
+    plain_fits k p (e.Bin f a b at) h = class_fits (class_of f) f (plain k p a) (plain k p b) (plain_fits k p a h.0) (plain_fits k p b h.1)
+    plain_fits k p (e.Choose a b c) h = (plain_fits k p a h.0, plain_fits k p b h.1, plain_fits k p c h.2)
+    plain_fits k p (e.Field a f at) h = (plain_fits k p a h, tt)
+    plain_fits k p (e.Old a) h = plain_fits k (with_now p.old p) a h
+    plain_fits k p (e.Unfolding (e.opened q args amount body inner at)) h = plain_fits k p inner h.3
 
-more_fit : (k : Kinds) (p : Place) (xs : e.Exprs) → AllExprsLiterals IsLiteral (λ q. IsLiteral q.num) xs → IndexLiteralsFit (plain_more k p xs)
-more_fit k p e.none h = tt
-more_fit k p (e.more a rest) h = (plain_fits k p a h.0, more_fit k p rest h.1)
+  more_fit : (k : Kinds) (p : Place) (xs : e.Exprs) → AllExprsLiterals IsLiteral (λ q. IsLiteral q.num) xs → IndexFits B (plain_more k p xs)
+  more_fit k p e.none h = tt
+  more_fit k p (e.more a rest) h = (plain_fits k p a h.0, more_fit k p rest h.1)
 
-index_of_fits : (k : Kinds) (p : Place) (xs : e.Exprs) → AllExprsLiterals IsLiteral (λ q. IsLiteral q.num) xs → IndexLiteralsFit (plain_index k p xs)
-index_of_fits k p e.none h = (zero_fits, tt)
-index_of_fits k p (e.more a rest) h = more_fit k p (e.more a rest) h
+  index_of_fits : (k : Kinds) (p : Place) (xs : e.Exprs) → AllExprsLiterals IsLiteral (λ q. IsLiteral q.num) xs → IndexFits B (plain_index k p xs)
+  index_of_fits k p e.none h = (zero_fits, tt)
+  index_of_fits k p (e.more a rest) h = more_fit k p (e.more a rest) h
 
-amount_of_fits : (k : Kinds) (p : Place) (m : e.Amt) → AllAmountLiterals IsLiteral (λ q. IsLiteral q.num) m → LiteralsFit (plain_amount k p m)
-amount_of_fits k p (e.Is a) h = plain_fits k p a h
-amount_of_fits k p e.Wildcard h = zero_fits
+  amount_of_fits : (k : Kinds) (p : Place) (m : e.Amt) → AllAmountLiterals IsLiteral (λ q. IsLiteral q.num) m → ExprFits B (plain_amount k p m)
+  amount_of_fits k p (e.Is a) h = plain_fits k p a h
+  amount_of_fits k p e.Wildcard h = zero_fits
 
-contained_fits : (x z : t.BExpr) → LiteralsFit x → LiteralsFit z → LiteralsFit (contained_by x z)
-contained_fits x z h i = by_literal (is_one x)
-  where
-    by_literal : (one : Truth) → LiteralsFit (if one then z else t.If (t.Bin op.Gt x zero_real) z t.Unit)
-    by_literal true = i
-    by_literal false = ((h, zero_fits), i, tt)
+  contained_fits : (x z : t.BExpr) → ExprFits B x → ExprFits B z → ExprFits B (contained_by x z)
+  contained_fits x z h i = by_literal (is_one x)
+    where
+      by_literal : (one : Truth) → ExprFits B (if one then z else t.If (t.Bin op.Gt x zero_real) z t.Unit)
+      by_literal true = i
+      by_literal false = ((h, zero_fits), i, tt)
 
-leaf_fits : (u : Ty) (x : t.BExpr) → LiteralsFit x → LiteralsFit (leaf u x)
-leaf_fits ty.Int x h = h
-leaf_fits ty.Bool x h = h
-leaf_fits ty.Ref x h = h
-leaf_fits ty.Perm x h = h
+  leaf_fits : (u : Ty) (x : t.BExpr) → ExprFits B x → ExprFits B (leaf u x)
+  leaf_fits ty.Int x h = h
+  leaf_fits ty.Bool x h = h
+  leaf_fits ty.Ref x h = h
+  leaf_fits ty.Perm x h = h
 
-content_fits : (k : Kinds) (p : Place) (a : e.Assertion) → AssertionLiteralsFit a → LiteralsFit (content_expr k p a)
-content_fits k p (e.Fact a at) h = tt
-content_fits k p (e.Acc a f m at) h =
-    let x = at_one (number p.now.heap f) (plain k p a).expr in
-    contained_fits (plain_amount k p m) (leaf (type_at k.layout.fields f) x) (amount_of_fits k p m h.1) (leaf_fits (type_at k.layout.fields f) x (plain_fits k p a h.0, tt))
-content_fits k p (e.Inst q args m at) h = contained_fits (plain_amount k p m) (t.At (number p.now.content q) (plain_index k p args)) (amount_of_fits k p m h.1) (index_of_fits k p args h.0)
-content_fits k p (e.And a b) h = (content_fits k p a h.0, content_fits k p b h.1)
-content_fits k p (e.Implies a b) h = (plain_fits k p a h.0, content_fits k p b h.1, tt)
-content_fits k p (e.ChooseAssertion a b c) h = (plain_fits k p a h.0, content_fits k p b h.1, content_fits k p c h.2)
+  content_fits : (k : Kinds) (p : Place) (a : e.Assertion) → AssertionLiteralsFit a → ExprFits B (content_expr k p a)
+  content_fits k p (e.Fact a at) h = tt
+  content_fits k p (e.Acc a f m at) h =
+      let x = at_one (number p.now.heap f) (plain k p a).expr in
+      contained_fits (plain_amount k p m) (leaf (type_at k.layout.fields f) x) (amount_of_fits k p m h.1) (leaf_fits (type_at k.layout.fields f) x (plain_fits k p a h.0, tt))
+  content_fits k p (e.Inst q args m at) h = contained_fits (plain_amount k p m) (t.At (number p.now.content q) (plain_index k p args)) (amount_of_fits k p m h.1) (index_of_fits k p args h.0)
+  content_fits k p (e.And a b) h = (content_fits k p a h.0, content_fits k p b h.1)
+  content_fits k p (e.Implies a b) h = (plain_fits k p a h.0, content_fits k p b h.1, tt)
+  content_fits k p (e.ChooseAssertion a b c) h = (plain_fits k p a h.0, content_fits k p b h.1, content_fits k p c h.2)
 
--- ---- folding and unfolding
+  -- ---- folding and unfolding
 
-saving_fits : (k : Kinds) (m : Maps) → EmittingFits Any (saving k.layout m)
-saving_fits k m = then_fits (declares_all_fits (held_types k.layout)) (λ n any. then_fits {go = λ u. gives (held_from k.layout m n)}
-    (puts_fits None (copy_held (held_from k.layout m n) m) (join_fits (copies (held_from k.layout m n).mask m.mask 0) (copies (held_from k.layout m n).amount m.amount 0)
-    (copies_fit (held_from k.layout m n).mask m.mask 0) (copies_fit (held_from k.layout m n).amount m.amount 0))) (λ u any. gives_fits {x = held_from k.layout m n} tt))
+  pub saving_fits : (k : Kinds) (m : Maps) → EmittingFits B Any (saving k.layout m)
+  saving_fits k m = then_fits B (declares_all_fits B (held_types k.layout)) (λ n any. then_fits B {go = λ u. gives (held_from k.layout m n)}
+      (puts_fits B None (copy_held (held_from k.layout m n) m) (join_fits B (copies (held_from k.layout m n).mask m.mask 0) (copies (held_from k.layout m n).amount m.amount 0)
+      (copies_fit B (held_from k.layout m n).mask m.mask 0) (copies_fit B (held_from k.layout m n).amount m.amount 0))) (λ u any. gives_fits B {x = held_from k.layout m n} tt))
 
-module _ (k : Kinds) (p : Place) where
-  closing_fits : (q : ℕ) (body : e.Assertion) (is : List ℕ) (amount : t.BExpr) → AssertionLiteralsFit body → LiteralsFit amount → EmittingFits Any (closing_code k p q body is amount)
-  closing_fits q body is amount h i =
-      then_fits (saving_fits k p.now) (λ start any.
-      let place = with_vars is (with_now start p) in
-      let consumed : EmittingFits Any (consume_code (body_kinds k q) place p.now None amount body) = record { stmts = λ n. consume_fits (body_kinds k q) place p.now None amount body n h i; value = λ n. tt } in
-      then_fits {P = Any} consumed (λ u any. then_fits (declares_fits (plain_type base.Snap)) (λ x any.
-      puts_fits None (s.first (s.Assign x (content_expr (body_kinds k q) place body)) (fill_instance_code p one_real q (index is) amount x))
-      (content_fits (body_kinds k q) place body h, fill_instance_fits p one_real q (index is) amount x one_fits (index_fits is) i))))
+  module _ (k : Kinds) (p : Place) where
+    closing_fits : (q : ℕ) (body : e.Assertion) (is : List ℕ) (amount : t.BExpr) → AssertionLiteralsFit body → ExprFits B amount → EmittingFits B Any (closing_code k p q body is amount)
+    closing_fits q body is amount h i =
+        then_fits B (saving_fits k p.now) (λ start any.
+        let place = with_vars is (with_now start p) in
+        let consumed : EmittingFits B Any (consume_code (body_kinds k q) place p.now None amount body) = consume_fits B (body_kinds k q) place p.now None amount body h i in
+        then_fits B {P = Any} consumed (λ u any. then_fits B (declares_fits B (plain_type base.Snap)) (λ x any.
+        puts_fits B None (s.first (s.Assign x (content_expr (body_kinds k q) place body)) (fill_instance_code p one_real q (index is) amount x))
+        (content_fits (body_kinds k q) place body h, fill_instance_fits B p one_real q (index is) amount x one_fits (index_fits B is) i))))
 
-  fold_code_fits : (f : FoldStmt) (body : e.Assertion) → FoldLiteralsFit f → AssertionLiteralsFit body → EmittingFits Any (fold_code k p f body)
-  fold_code_fits f body h i =
-      then_fits (codes_fit k p None f.args h.args) (λ xs j. then_fits (code_fits k p None f.amount h.amount) (λ m l. then_fits (located_fits xs j) (λ z q. then_fits (atomic_fits m l) (λ a r.
-      let check = check_positive (label p f.place kind.Amount) a.expr in
-      then_fits (puts_fits None (join z.sets (join a.sets check)) (join_fits z.sets (join a.sets check) q (join_fits a.sets check r.sets (check_positive_fits (label p f.place kind.Amount) a.expr r.expr)))) (λ u any.
-      closing_fits f.predicate body z.locals a.expr i r.expr)))))
+    pub fold_code_fits : (f : FoldStmt) (body : e.Assertion) → FoldLiteralsFit f → AssertionLiteralsFit body → EmittingFits B Any (fold_code k p f body)
+    fold_code_fits f body h i =
+        then_fits B (codes_fit B k p None f.args h.args) (λ xs j. then_fits B (code_fits B k p None f.amount h.amount) (λ m l. then_fits B (located_fits B xs j) (λ z q. then_fits B (atomic_fits B m l) (λ a r.
+        let check = check_positive (label p f.place kind.Amount) a.expr in
+        then_fits B (puts_fits B None (join z.sets (join a.sets check)) (join_fits B z.sets (join a.sets check) q (join_fits B a.sets check r.sets (check_positive_fits B (label p f.place kind.Amount) a.expr r.expr)))) (λ u any.
+        closing_fits f.predicate body z.locals a.expr i r.expr)))))
 
-  unfold_code_fits : (f : FoldStmt) (body : e.Assertion) → FoldLiteralsFit f → AssertionLiteralsFit body → EmittingFits Any (unfold_code k p f body)
-  unfold_code_fits f body h i =
-      then_fits (codes_fit k p None f.args h.args) (λ xs j. then_fits (code_fits k p None f.amount h.amount) (λ m l. then_fits (located_fits xs j) (λ z q. then_fits (atomic_fits m l) (λ a r.
-      then_fits (declares_fits (plain_type base.Snap)) (λ from any.
-      let key = index z.locals in let fits = index_fits z.locals in
-      let check = check_positive (label p f.place kind.Amount) a.expr in let held = held_check (label p f.place kind.Perm) (number p.now.amount f.predicate) key a.expr in
-      let taken = taken_amount (number p.now.amount f.predicate) key a.expr in let last = one (s.Assign from (t.At (number p.now.content f.predicate) key)) in
-      let take = taking p p.now s.skip f.predicate key a.expr from f.place in
-      let takes : BlockLiteralsFit take = join_fits check (join held (join s.skip (join taken last))) (check_positive_fits (label p f.place kind.Amount) a.expr r.expr)
-      (join_fits held (join s.skip (join taken last)) ((fits, r.expr), tt) (join_fits taken last ((fits, (fits, r.expr)), tt) (fits, tt))) in
-      then_fits (puts_fits None (join z.sets (join a.sets take)) (join_fits z.sets (join a.sets take) q (join_fits a.sets take r.sets takes))) (λ u any.
-      body_fits (body_kinds k f.predicate) (with_vars z.locals p) None a.expr body from i r.expr))))))
-
-pub fold_fits : (k : Kinds) (p : Place) (f : FoldStmt) (body : e.Assertion) (n : ℕ) → FoldLiteralsFit f → AssertionLiteralsFit body → BlockLiteralsFit (fold_code k p f body n).stmts
-fold_fits k p f body n h i = (fold_code_fits k p f body h i).stmts n
-
-pub unfold_fits : (k : Kinds) (p : Place) (f : FoldStmt) (body : e.Assertion) (n : ℕ) → FoldLiteralsFit f → AssertionLiteralsFit body → BlockLiteralsFit (unfold_code k p f body n).stmts
-unfold_fits k p f body n h i = (unfold_code_fits k p f body h i).stmts n
+    pub unfold_code_fits : (f : FoldStmt) (body : e.Assertion) → FoldLiteralsFit f → AssertionLiteralsFit body → EmittingFits B Any (unfold_code k p f body)
+    unfold_code_fits f body h i =
+        then_fits B (codes_fit B k p None f.args h.args) (λ xs j. then_fits B (code_fits B k p None f.amount h.amount) (λ m l. then_fits B (located_fits B xs j) (λ z q. then_fits B (atomic_fits B m l) (λ a r.
+        then_fits B (declares_fits B (plain_type base.Snap)) (λ from any.
+        let key = index z.locals in let fits = index_fits B z.locals in
+        let check = check_positive (label p f.place kind.Amount) a.expr in let held = held_check (label p f.place kind.Perm) (number p.now.amount f.predicate) key a.expr in
+        let taken = taken_amount (number p.now.amount f.predicate) key a.expr in let last = one (s.Assign from (t.At (number p.now.content f.predicate) key)) in
+        let take = taking p p.now s.skip f.predicate key a.expr from f.place in
+        let takes : BlockFits B take = join_fits B check (join held (join s.skip (join taken last))) (check_positive_fits B (label p f.place kind.Amount) a.expr r.expr)
+        (join_fits B held (join s.skip (join taken last)) ((fits, r.expr), tt) (join_fits B taken last ((fits, (fits, r.expr)), tt) (fits, tt))) in
+        then_fits B (puts_fits B None (join z.sets (join a.sets take)) (join_fits B z.sets (join a.sets take) q (join_fits B a.sets take r.sets takes))) (λ u any.
+        body_fits B (body_kinds k f.predicate) (with_vars z.locals p) None a.expr body from i r.expr))))))
 
 -- ---- what is promised
 
-module _ (c : Context) (p : Place) (f : FoldStmt) (ts : List BType) (formed : IsFormed c.program) (typed : IsFold c f) (h : HasPlaceTypes c p ts) where
+module _ (c : Context) (p : Place) (f : FoldStmt) (formed : IsFormed c.program) (typed : IsFold c f) where
   statement_fits : FoldLiteralsFit f
   statement_fits = record {
     args = exprs_literals IsLiteral (λ q. IsLiteral q.num) literals_hold c formed.typed typed.args;
@@ -151,12 +147,19 @@ module _ (c : Context) (p : Place) (f : FoldStmt) (ts : List BType) (formed : Is
   the_body_fits = body_literals (predicate_context c.program typed.predicate) typed.body formed
       (predicate_body_of_typed c.program formed.typed f.predicate typed.predicate typed.body typed.exists typed.has_body)
 
+  pub fold_fits : (B : List BBase → Type 0) → EmittingFits B Any (fold_code (kinds_in c) p f typed.body)
+  fold_fits B = fold_code_fits B (kinds_in c) p f typed.body statement_fits the_body_fits
+
+  pub unfold_fits : (B : List BBase → Type 0) → EmittingFits B Any (unfold_code (kinds_in c) p f typed.body)
+  unfold_fits B = unfold_code_fits B (kinds_in c) p f typed.body statement_fits the_body_fits
+
+module _ (c : Context) (p : Place) (f : FoldStmt) (ts : List BType) (formed : IsFormed c.program) (typed : IsFold c f) (h : HasPlaceTypes c p ts) where
   pub fold_printed : FitsPiece (length ts) (fold_code (kinds_in c) p f typed.body (length ts))
   fold_printed =
       let m = fold_code (kinds_in c) p f typed.body (length ts) in
-      block_fits ts m.locals m.stmts (fold_typed c p f ts formed typed h).stmts (fold_fits (kinds_in c) p f typed.body (length ts) statement_fits the_body_fits)
+      block_fits ts m.locals m.stmts (fold_typed c p f ts formed typed h).stmts ((fold_fits c p f formed typed AreBound).stmts (length ts))
 
   pub unfold_printed : FitsPiece (length ts) (unfold_code (kinds_in c) p f typed.body (length ts))
   unfold_printed =
       let m = unfold_code (kinds_in c) p f typed.body (length ts) in
-      block_fits ts m.locals m.stmts (unfold_typed c p f ts formed typed h).stmts (unfold_fits (kinds_in c) p f typed.body (length ts) statement_fits the_body_fits)
+      block_fits ts m.locals m.stmts (unfold_typed c p f ts formed typed h).stmts ((unfold_fits c p f formed typed AreBound).stmts (length ts))

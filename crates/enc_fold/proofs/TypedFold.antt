@@ -1,8 +1,9 @@
 -- The code of folding and unfolding is well-typed, and the maps that it declares have indices of key types.
-use Rattle.std.proofs.Common.{◌≡◌, ◌≢◌, ◌+◌, ◌++◌, ℕ, Bool as Truth, true, false, List, [], ◌∷◌, All, length, map, if◌then◌else◌, Some, None, slice_get, refl, sym, ap, subst, ◌∙◌}
+use Rattle.std.proofs.Common.{◌≡◌, ◌≢◌, ◌+◌, ◌++◌, ℕ, Bool as Truth, true, false, List, All, length, map, if◌then◌else◌, Some, None, slice_get, refl, sym, ap, subst, ◌∙◌}
 use Rattle.std.proofs.lemmas.List.{length-map as mapped_length}
-use Rattle.std.proofs.lemmas.List.Elements.{All-nil, All-cons, All-head, All-tail, All-append}
+use Rattle.std.proofs.lemmas.List.Elements.{All-head, All-tail, All-append}
 use Rattle.std.proofs.lemmas.Option.{get_or_from_slice_get}
+use Rattle.lemmas.proofs.Lists.{all_left, all_right}
 use Rattle.vb_base.specs.declared.labels.Kind.TheVariants as kind
 use Rattle.vb_value.specs.Layout.{Layout}
 use Rattle.vb_value.specs.declared.values.Ty.{Ty}
@@ -200,21 +201,13 @@ module _ (ts : List BType) (c : Context) (p : Place) (formed : IsFormed c.progra
 
 -- ---- the types of indices
 
-all_first : {X : Type 0} (P : X → Type 0) (xs ys : List X) → All P (xs ++ ys) → All P xs
-all_first P [] ys h = All-nil P
-all_first P (x ∷ xs) ys h = All-cons P x xs (All-head P x (xs ++ ys) h) (all_first P xs ys (All-tail P x (xs ++ ys) h))
-
-all_rest : {X : Type 0} (P : X → Type 0) (xs ys : List X) → All P (xs ++ ys) → All P ys
-all_rest P [] ys h = h
-all_rest P (x ∷ xs) ys h = all_rest P xs ys (All-tail P x (xs ++ ys) h)
-
 -- those of masks and amounts are among those of all maps
 held_keyed : (p : Program) → IsTypedProgram p → HaveKeys (held_types p.layout)
 held_keyed p typed =
     let heaps = map heap_type p.layout.fields in let masks = map mask_type p.layout.fields in let amounts = map amount_type p.layout.keys in let contents = map content_type p.layout.keys in
-    let three : All (λ (u : BType). AreKeys u.keys) (heaps ++ masks ++ amounts) = all_first (λ (u : BType). AreKeys u.keys) (heaps ++ masks ++ amounts) contents (states_keyed p typed) in
+    let three : All (λ (u : BType). AreKeys u.keys) (heaps ++ masks ++ amounts) = all_left (λ (u : BType). AreKeys u.keys) (heaps ++ masks ++ amounts) contents (states_keyed p typed) in
     All-append (λ (u : BType). AreKeys u.keys) masks amounts
-    (all_rest (λ (u : BType). AreKeys u.keys) heaps masks (all_first (λ (u : BType). AreKeys u.keys) (heaps ++ masks) amounts three)) (all_rest (λ (u : BType). AreKeys u.keys) (heaps ++ masks) amounts three)
+    (all_right (λ (u : BType). AreKeys u.keys) heaps masks (all_left (λ (u : BType). AreKeys u.keys) (heaps ++ masks) amounts three)) (all_right (λ (u : BType). AreKeys u.keys) (heaps ++ masks) amounts three)
 
 saving_keyed : (p : Program) (m : Maps) → IsTypedProgram p → IsKeyed (saving p.layout m)
 saving_keyed p m typed =

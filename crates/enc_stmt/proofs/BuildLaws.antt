@@ -2,7 +2,7 @@
 -- pieces so far build.
 use Rattle.std.proofs.Common.{◌≡◌, ◌∙◌, ◌++◌, ℕ, List, [], ◌∷◌, Option, Some, None, length, map, reverse, refl, ap, sym}
 use Rattle.std.proofs.lemmas.List.{map-append, reverse-append}
-use Rattle.boogie_text.specs.Pieces.{Piece, Else, End}
+use Rattle.boogie_print.specs.Pieces.{Piece, Else, End}
 use Rattle.boogie_tree.specs.Expr as t
 use Rattle.boogie_tree.specs.Stmt as s
 use Rattle.boogie_tree.specs.Stmt.{BStmts}
@@ -14,10 +14,10 @@ use Rattle.enc_expr.specs.Pieces.{one}
 use Rattle.enc_expr.proofs.BlockLaws.{added}
 use Rattle.enc_expr.proofs.RunLaws.{join_skip, join_assoc}
 use Rattle.enc_stmt.specs.Built.{Around, Built, if_code, opened, turned, closed, with_piece, with_pieces, condition_of, branch_of, around_of, built_of}
-use Rattle.enc_stmt.specs.Forms as f
-use Rattle.enc_stmt.specs.Forms.{Forms}
-use Rattle.enc_stmt.specs.Rows.{bracket_pieces, row_pieces}
-use Rattle.enc_stmt.specs.Steps.{Step, Bracket}
+use Rattle.enc_units.specs.Forms as f
+use Rattle.enc_units.specs.Forms.{Forms}
+use Rattle.enc_units.specs.Rows.{bracket_pieces, row_pieces}
+use Rattle.enc_units.specs.Steps.{Step, Bracket}
 use Rattle.enc_stmt.specs.declared.building.Branch.{Branch}
 
 -- ---- pieces

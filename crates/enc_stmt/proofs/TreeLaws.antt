@@ -5,7 +5,7 @@ use Rattle.viper_core.specs.Formed.{IsFormed}
 use Rattle.viper_core.specs.Program.{Program}
 use Rattle.viper_core.specs.declared.programs.Unit.{Unit}
 use Rattle.boogie_grammar.specs.Printed.{program_text}
-use Rattle.boogie_text.specs.Printable.{IsPrintable}
+use Rattle.boogie_print.specs.Printable.{IsPrintable}
 use Rattle.boogie_tree.specs.Program.{BProgram, Proc}
 use Rattle.boogie_tree.specs.Whole.{proc_of}
 use Rattle.boogie_tree.specs.declared.programs.Proc as declared
@@ -13,13 +13,13 @@ use Rattle.enc_expr.specs.Code.{Emitting}
 use Rattle.enc_expr.specs.Locals.{fixed_names, fixed_types}
 use Rattle.enc_text.proofs.NameLaws.{length_named, fixed_good}
 use Rattle.enc_stmt.specs.Built.{built_of, with_pieces}
-use Rattle.enc_stmt.specs.Rows.{row_pieces}
-use Rattle.enc_stmt.specs.Steps.{Step, Bracket, unit_row, unit_step, fixed_locals}
-use Rattle.enc_stmt.specs.Translates.{program_code, Translates}
-use Rattle.enc_stmt.specs.Units.{unit_procedure}
+use Rattle.enc_units.specs.Rows.{row_pieces}
+use Rattle.enc_units.specs.Steps.{Step, Bracket, unit_row, unit_step, fixed_locals}
+use Rattle.enc_units.specs.Translates.{program_code, Translates}
+use Rattle.enc_units.specs.Units.{unit_procedure}
 use Rattle.enc_stmt.proofs.BuildLaws.{formed_block}
-use Rattle.enc_stmt.proofs.LayLaws.{unit_lays}
-use Rattle.enc_stmt.proofs.ProgramLaws.{printable, translates}
+use Rattle.enc_units.proofs.LayLaws.{unit_lays}
+use Rattle.enc_units.proofs.ProgramLaws.{printable, translates}
 
 -- ---- the procedure of a unit
 

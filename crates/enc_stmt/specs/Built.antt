@@ -3,8 +3,8 @@
 use Rattle.std.specs.Prelude.{List, [], ◌∷◌, Option, Some, None, map, reverse}
 use Rattle.std.specs.declared.alloc.Global.{Global}
 use Rattle.std.specs.declared.boxed.Box.{Box}
-use Rattle.boogie_text.specs.Pieces as piece
-use Rattle.boogie_text.specs.Pieces.{Piece}
+use Rattle.boogie_print.specs.Pieces as piece
+use Rattle.boogie_print.specs.Pieces.{Piece}
 use Rattle.boogie_tree.specs.Expr as t
 use Rattle.boogie_tree.specs.Stmt as s
 use Rattle.boogie_tree.specs.Stmt.{BStmts}

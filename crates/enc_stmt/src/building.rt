@@ -3,14 +3,13 @@ ghost use Rattle.std.specs.Prelude.{◌≡◌, ◌++◌, [], length, map, All, O
 ghost use Rattle.boogie_tree.specs.Whole.{stmt_of, stmts_of};
 ghost use Rattle.enc_expr.specs.Emits.{emit_of, temporaries};
 ghost use Rattle.enc_stmt.specs.Built.{around_of, built_of, closed, condition_of, if_code, opened, turned, with_pieces};
-ghost use Rattle.enc_stmt.specs.Rows.{bracket_pieces, row_pieces, row_types};
-ghost use Rattle.enc_stmt.specs.View.{bracket_of, coder_of, step_of};
-ghost use Rattle.enc_stmt.specs.Written.{IsStep};
+ghost use Rattle.enc_units.specs.Rows.{bracket_pieces, row_pieces, row_types};
+ghost use Rattle.enc_units.specs.View.{bracket_of, coder_of, step_of};
+ghost use Rattle.enc_units.specs.Written.{IsStep};
 
-use crate::steps::{Bracket, Step};
-use crate::writers::Writer;
 use boogie_tree::{BExpr, BStmt};
 use enc_expr::{Emit, add};
+use enc_units::{Bracket, Step, Writer};
 use std::alloc::Global;
 use std::mem;
 use vb_base::Memory;

@@ -1,58 +1,15 @@
-//! Statements, methods and predicates as code of Boogie, whose runs go alongside those of Viper.
+//! The translation of a program, as a tree and as text, and all that it is made of.
 #![tactic(auto)]
 
 mod building;
-mod calls;
-mod clauses;
-mod counts;
-mod creations;
-mod fixed;
-mod heads;
-mod holding;
-mod homes;
-mod instances;
-pub mod laws;
-mod light;
-mod local_types;
-mod lookups;
-mod loops;
-mod methods;
-mod named;
-mod names;
-mod numbers;
-pub mod opening_laws;
-mod openings;
-mod passes;
-mod procedures;
-pub mod program_laws;
-pub mod row_laws;
-mod rows;
-mod states;
-mod stepping;
-mod steps;
-mod stream;
 mod trees;
-mod types;
-mod units;
-mod writers;
-mod writes;
-mod writing;
 
-pub use calls::call;
-pub use clauses::{assert, assert_all, consume_all, exhale, exhale_all, produce_all};
-pub use counts::Written;
-pub use creations::create;
-pub use fixed::front_procedure;
-pub use homes::{Home, Setting};
-pub use instances::{fold_instance, unfold_instance};
-pub use loops::{after_loop, loop_head, turn_end, turn_head};
-pub use methods::{method_check, method_end, method_start};
-pub use openings::start_env;
-pub use states::{any_state, havoc, keep_old, stop};
-pub use stepping::step_code;
-pub use steps::{Bracket, Step};
-pub use stream::{encode_to, unit_locals};
+pub use enc_block::{
+    Home, Setting, after_loop, any_state, assert, assert_all, assign, call, consume_all, create,
+    exhale, exhale_all, fold_instance, havoc, keep_old, loop_head, method_check, method_end,
+    method_start, produce_all, stop, turn_end, turn_head, unfold_instance, write,
+};
+pub use enc_locals::{front_procedure, front_types, other_types, start_env};
+pub use enc_stream::{Written, encode_to, unit_locals};
+pub use enc_units::{Bracket, Step, start, step_code, unit_home};
 pub use trees::encode;
-pub use types::{front_types, other_types};
-pub use units::{start, unit_home};
-pub use writes::{assign, write};

@@ -7,6 +7,8 @@ use Rattle.std.proofs.lemmas.List.Elements.{All-nil, All-cons, All-head, All-tai
 use Rattle.std.proofs.lemmas.List.Kept.{AllPairs-cons}
 use Rattle.std.proofs.lemmas.List.{length-map, length-drop}
 use Rattle.std.specs.List.{list_all}
+use Rattle.viper_core.proofs.PartLaws.{at_least}
+use Rattle.lemmas.proofs.Lists.{drop_two}
 use Rattle.vb_base.specs.Names.{is_name, is_name_byte, is_word, is_viper_name, NamesDiffer}
 use Rattle.vb_value.specs.declared.values.Ty.{Ty}
 use Rattle.viper_core.specs.Formed.{IsFormed, IsTypedProgram, method_scope}
@@ -22,22 +24,19 @@ use Rattle.boogie_grammar.specs.Grammar.{local_names}
 use Rattle.boogie_grammar.specs.Printed.{bound_name}
 use Rattle.boogie_grammar.specs.Words.{is_reserved}
 use Rattle.boogie_grammar.proofs.WrittenRows.{bound_form}
-use Rattle.boogie_text.specs.Printable.{IsFreeName, FitsLocal}
+use Rattle.boogie_print.specs.Printable.{IsFreeName, FitsLocal}
 use Rattle.moves.specs.Scalars.{variable_type}
 use Rattle.moves.specs.Maps.{heap_type, mask_type, amount_type, content_type}
 use Rattle.enc_expr.specs.Emits.{temporary, temporaries}
 use Rattle.enc_expr.specs.Front.{variable_name, heap_name, content_name, names_of, types_of, front_names, front_types}
 use Rattle.enc_expr.specs.Locals.{mask_name, amount_name, old_heap_name, old_mask_name, old_amount_name, old_content_name, zero_name, other_name, predicate_names, first_of_method, others_of_method, first_other, types_of_others, names_from, state_names, old_names, zero_names, fixed_names, fixed_types, named, locals_of_unit}
-use Rattle.enc_expr.proofs.FrontLaws.{front, differ_left, differ_right, all_left, all_right, no_names, first_differs, rest_differ, map_differ, append_differ, bytes_of_name, at_least}
+use Rattle.enc_expr.proofs.FrontLaws.{front, differ_left, differ_right, all_left, all_right, no_names, first_differs, rest_differ, map_differ, append_differ, bytes_of_name}
 use Rattle.enc_expr.proofs.KeyedCode.{states_keyed}
 
 abbrev has_keys : BType → Type 0
 has_keys u = AreKeys u.keys
 
 -- ---- temporaries
-
-drop_two : (a b : ℕ) (x y : List ℕ) → (a ∷ b ∷ x) ≡ (a ∷ b ∷ y) → x ≡ y
-drop_two a b x y e = cc
 
 two_temporaries : (m n : ℕ) (u w : BType) → m < n → n < 2 ^ 64 → (temporary m u).name ≢ (temporary n w).name
 two_temporaries m n u w below small e = let same = decimal_injective m n (omega (arith, below, small)) small (drop_two 116 36 (decimal m) (decimal n) e) in omega (arith, below, same)
@@ -50,10 +49,6 @@ temporaries_fit n [] h small = All-nil FitsLocal
 temporaries_fit n (u ∷ us) h small = All-cons FitsLocal (temporary n u) (temporaries (n + 1) us)
     (record { name = temporary_free n u (omega (arith, small)); keys = All-head has_keys u us h })
     (temporaries_fit (n + 1) us (All-tail has_keys u us h) (omega (arith, small)))
-
-pub length_temporaries : (n : ℕ) (us : List BType) → length (temporaries n us) ≡ length us
-length_temporaries n [] = refl
-length_temporaries n (u ∷ us) = ap suc (length_temporaries (n + 1) us)
 
 later_differ : (m n : ℕ) (u : BType) (us : List BType) → m < n → n + length us ≤ 2 ^ 64 → All (λ y. (temporary m u).name ≢ y) (local_names (temporaries n us))
 later_differ m n u [] below small = All-nil (λ y. (temporary m u).name ≢ y)

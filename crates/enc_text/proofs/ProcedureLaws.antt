@@ -1,6 +1,7 @@
 -- A procedure that consists of the code of an expression or body can be printed.
 use Rattle.std.proofs.Common.{◌≡◌, ◌+◌, ◌≤◌, ◌^◌, ◌++◌, ℕ, List, Some, None, slice_get, length, length-append, subst, arith}
 use Rattle.std.proofs.lemmas.List.Elements.{All-append}
+use Rattle.enc_expr.proofs.EmitLaws.{length-temporaries}
 use Rattle.vb_value.specs.declared.values.Ty.{Ty}
 use Rattle.viper_core.specs.Expr as e
 use Rattle.viper_core.specs.Formed.{IsFormed}
@@ -15,7 +16,7 @@ use Rattle.boogie_tree.specs.Values.{plain_type, AreKeys}
 use Rattle.boogie_meaning.specs.Programs.{HaveKeys}
 use Rattle.boogie_meaning.specs.Types as b
 use Rattle.boogie_tree.specs.Fits.{FitStmts}
-use Rattle.boogie_text.specs.Printable.{IsFreeName, FitsProc}
+use Rattle.boogie_print.specs.Printable.{IsFreeName, FitsProc}
 use Rattle.enc_expr.specs.Place.{Place}
 use Rattle.enc_expr.specs.Kinds.{kinds_in}
 use Rattle.enc_expr.specs.Code.{Code, Guard}
@@ -27,7 +28,7 @@ use Rattle.enc_expr.proofs.TypedCode.{expression_typed, filling_typed}
 use Rattle.boogie_tree.specs.Literals.{LiteralsFit}
 use Rattle.enc_expr.specs.Fits.{FitsPiece}
 use Rattle.enc_text.specs.Fits.{types_before, procedure_of}
-use Rattle.enc_text.proofs.NameLaws.{length_named, length_temporaries, fixed_good, locals_fit, locals_differ}
+use Rattle.enc_text.proofs.NameLaws.{length_named, fixed_good, locals_fit, locals_differ}
 use Rattle.enc_expr.proofs.PrintedCode.{expression_printed, body_printed}
 
 abbrev has_keys : BType → Type 0
@@ -53,7 +54,7 @@ of_piece name p i us m free formed keyed own small h = record {
       length-append us m.locals,
       length-append (named (fixed_names p i) (fixed_types p i)) (temporaries (length (fixed_types p i)) (us ++ m.locals)),
       length_named (fixed_names p i) (fixed_types p i) (fixed_good p i formed).as_many,
-      length_temporaries (length (fixed_types p i)) (us ++ m.locals),
+      length-temporaries (length (fixed_types p i)) (us ++ m.locals),
     )
 
 pub expression_procedure : (name : List ℕ) (i : Unit) (us : List BType) (c : Context) (p : Place) (g : Guard) (a : e.Expr) (u : Ty) → IsFreeName name → IsFormed c.program → HaveKeys us → y.HasType c a u →

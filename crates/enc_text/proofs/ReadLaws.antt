@@ -12,8 +12,8 @@ use Rattle.boogie_tree.specs.Expr as t
 use Rattle.boogie_tree.specs.Nested.{expr_depth, proc_depth, procs_depth}
 use Rattle.boogie_tree.specs.Program.{BType, Proc, BProgram}
 use Rattle.boogie_grammar.specs.Spells.{BSpells}
-use Rattle.boogie_text.specs.Answers.{IsRead}
-use Rattle.boogie_text.proofs.NestedLaws.{shallow}
+use Rattle.boogie_print.specs.Read.{IsRead}
+use Rattle.boogie_print.proofs.NestedLaws.{shallow}
 use Rattle.enc_expr.specs.Place.{Place}
 use Rattle.enc_expr.specs.Kinds.{kinds_in}
 use Rattle.enc_expr.specs.Code.{Guard}

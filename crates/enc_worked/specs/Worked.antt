@@ -49,9 +49,9 @@ use Rattle.moves.specs.Maps.{heap_type, mask_type, amount_type, content_type}
 use Rattle.moves.specs.Moves.{moves}
 use Rattle.enc_expr.specs.Code.{Code}
 use Rattle.enc_expr.specs.Worked.{image, variable, heap, mask, amount, contents, stale, held, known, half_held, leaf_int, leaf_ref, int, all, half, above}
-use Rattle.enc_stmt.specs.Home.{Home}
-use Rattle.enc_stmt.specs.Encoding.{block_code}
-use Rattle.enc_stmt.specs.Units.{unit_procedure}
+use Rattle.enc_block.specs.Home.{Home}
+use Rattle.enc_block.specs.Encoding.{block_code}
+use Rattle.enc_units.specs.Units.{unit_procedure}
 
 -- ---- places
 

@@ -1,99 +1,26 @@
 -- What an execution asks for: any choice that it did not ask for blocks it at once. So the choices that it took fit the program.
-use Rattle.std.proofs.Common.{◌≡◌, ◌⊎◌, inl, inr, refl, ap, ◌++◌, ℕ, zero, suc, Bool, true, false, Option, Some, None, List, [], ◌∷◌, slice_get, if◌then◌else◌}
-use Rattle.std.specs.Bool.{Decides}
+use Rattle.std.proofs.Common.{◌++◌, ℕ, zero, suc, Option, Some, None, List, slice_get}
 use Rattle.vb_base.specs.declared.places.Pos.{Pos}
 use Rattle.vb_value.specs.Bound.{Bound}
-use Rattle.vb_value.specs.Fraction.{write}
 use Rattle.vb_value.specs.Layout.{Layout}
-use Rattle.vb_value.specs.Value.{type_of, same_type}
-use Rattle.vb_value.specs.declared.values.Ty.{Ty}
 use Rattle.vb_value.specs.declared.values.Value.{Value}
-use Rattle.vb_value.proofs.ReducedLaws.{Decides-same_type}
 use Rattle.viper_core.specs.Expr as t
 use Rattle.viper_core.specs.Program.{Program, Method, Body}
 use Rattle.viper_core.specs.Stmt as s
-use Rattle.viper_state.specs.Choice as choice
-use Rattle.viper_state.specs.Choice.{Choice}
-use Rattle.viper_state.specs.Event as event
-use Rattle.viper_state.specs.Event.{Event}
 use Rattle.viper_state.specs.Run.{Opening, Scene, with_variables}
 use Rattle.viper_state.specs.State.{State}
-use Rattle.viper_meaning.specs.Asked.{AValue, IsAsked, Asks, at_end, later}
-use Rattle.viper_meaning.specs.Ends as m
-use Rattle.viper_meaning.specs.Ends.{Evaluated, ends, is, blocks, found}
-use Rattle.viper_meaning.specs.Run.{Run, ended, before, noting, evaluating, then_do, given}
-use Rattle.viper_meaning.specs.Statements.{value_in, taking_value, taking_values, Configuration, Activation, scene, produce_all, consume_all, called}
+use Rattle.viper_meaning.specs.Asked.{Asks, at_end}
+use Rattle.viper_meaning.specs.Ends.{is, found}
+use Rattle.viper_meaning.specs.Run.{Run}
+use Rattle.viper_meaning.specs.Statements.{Configuration, Activation, scene}
 use Rattle.viper_meaning.specs.Units.{first_store, first_scene}
 use Rattle.viper_meaning.specs.Value.{values, truth_in}
-use Rattle.viper_meaning.proofs.AskedLaws.{produce_asks, consume_asks, forget_asks, stmt_asks}
+use Rattle.viper_meaning.proofs.AskedLaws.{asks_evaluating, asks_then, asks_if, produce_all_asks, consume_all_asks, values_asks, called_asks, stmt_asks}
 use Rattle.exec_meaning.specs.Execution.{Went, Still, Spent, with_went, going_on, keeping, beginning, asserting, Bodies, returns_in, exec_called, exec_turns, exec_stmt, exec_block, exec_body, bodies_within, exec}
 
--- ---- ways to go on
-
-still_blocked : {X Y : Type 0} {P : Type 0} (n : Run X) (go : X → Run Y) → P ⊎ (n ≡ ended blocks) → P ⊎ (then_do n go ≡ ended blocks)
-still_blocked n go (inl i) = inl i
-still_blocked n go (inr e) = inr (ap (λ r. then_do r go) e)
-
-asked_where : {K X : Type 0} {P : Type 0} (b : Bool) (k : K) (go : K → Run X) → Decides b P → P ⊎ (given (if b then Some k else None) go ≡ ended blocks)
-asked_where true k go d = inl (d.0 refl)
-asked_where false k go d = inr refl
+-- ---- the budget
 
 module _ {l : Layout} where
-  asks_before : {X : Type 0} (es : List Event) {r : Run X} → Asks l r → Asks l (before es r)
-  asks_before es at_end = at_end
-  asks_before es (later w h k) = later w h k
-
-  asks_evaluating : {X Y : Type 0} (e : Evaluated X) {go : X → Run Y} → ((x : X) → Asks l (go x)) → Asks l (evaluating e go)
-  asks_evaluating (ends es (m.Is x)) g = asks_before es (g x)
-  asks_evaluating (ends es (m.Fails f)) g = at_end
-  asks_evaluating (ends es m.Blocked) g = at_end
-  asks_evaluating (ends es (m.Over at)) g = at_end
-
-  asks_then : {X Y : Type 0} {r : Run X} {go : X → Run Y} → Asks l r → ((x : X) → Asks l (go x)) → Asks l (then_do r go)
-  asks_then (at_end {e = e}) g = asks_evaluating e g
-  asks_then {go = go} (later {next = next} w h k) g = later w (λ c. still_blocked (next c) go (h c)) (λ c i. asks_then (k c i) g)
-
-  asks_if : {X : Type 0} (b : Bool) {r n : Run X} → Asks l r → Asks l n → Asks l (if b then r else n)
-  asks_if true h g = h
-  asks_if false h g = g
-
-  asks_where : {K X : Type 0} (b : Bool) (k : K) (go : K → Run X) → Asks l (go k) → Asks l (given (if b then Some k else None) go)
-  asks_where true k go h = h
-  asks_where false k go h = at_end
-
-  asks_value : {X : Type 0} (w : Ty) {go : Value → Run X} → ((v : Value) → Asks l (go v)) → Asks l (taking_value w go)
-  asks_value {X} w {go} g = later (AValue w) by_kind goes_on
-    where
-      by_kind : (c : Choice) → IsAsked l (AValue w) c ⊎ (given (value_in w c) (λ v. noting (event.Took v) (go v)) ≡ ended blocks)
-      by_kind (choice.Took x) = asked_where (same_type (type_of x) w) x (λ v. noting (event.Took v) (go v)) (Decides-same_type (type_of x) w)
-      by_kind (choice.Amount q) = inr refl
-      by_kind (choice.Fresh r) = inr refl
-      by_kind (choice.Branch b) = inr refl
-      by_kind (choice.Filled memo) = inr refl
-
-      goes_on : (c : Choice) → IsAsked l (AValue w) c → Asks l (given (value_in w c) (λ v. noting (event.Took v) (go v)))
-      goes_on (choice.Took x) i = asks_where (same_type (type_of x) w) x (λ v. noting (event.Took v) (go v)) (asks_before (event.Took x ∷ []) (g x))
-      goes_on (choice.Amount q) i = at_end
-      goes_on (choice.Fresh r) i = at_end
-      goes_on (choice.Branch b) i = at_end
-      goes_on (choice.Filled memo) i = at_end
-
-  -- ---- clauses and values
-
-  produce_all_asks : (b : Bound) (clauses : List t.Assertion) (sc : Scene) (x : State) → Asks l (produce_all b clauses sc x)
-  produce_all_asks b [] sc x = at_end
-  produce_all_asks b (a ∷ rest) sc x = asks_then (produce_asks b a sc write x) (produce_all_asks b rest sc)
-
-  consume_all_asks : (b : Bound) (clauses : List t.Assertion) (start : State) (sc : Scene) (x : State) → Asks l (consume_all b clauses start sc x)
-  consume_all_asks b [] start sc x = at_end
-  consume_all_asks b (a ∷ rest) start sc x = asks_then (consume_asks b a start sc write x) (consume_all_asks b rest start sc)
-
-  values_asks : (us : List Ty) (xs : List ℕ) → Asks l (taking_values us xs)
-  values_asks us [] = at_end
-  values_asks us (x ∷ xs) = asks_evaluating (found (slice_get us x)) (λ w. asks_value w (λ v. asks_then (values_asks us xs) (λ vs. at_end)))
-
-  -- ---- the budget
-
   asks_going : {X Y : Type 0} {r : Run (Went X)} {go : ℕ → X → Run (Went Y)} → Asks l r → ((n : ℕ) (x : X) → Asks l (go n x)) → Asks l (going_on r go)
   asks_going {X} {Y} {go = go} h g = asks_then h by
     where
@@ -112,12 +39,6 @@ module _ {l : Layout} where
   asks_asserting b clauses x sc h = asks_then (consume_all_asks b clauses x sc x) (λ left. h)
 
 -- ---- statements
-
-called_asks : (b : Bound) (k : Activation) (targets : List ℕ) (callee : Method) (args : List Value) (at : Pos) (c : Configuration) → Asks k.program.layout (called b k targets callee args at c)
-called_asks b k targets callee args at c =
-    asks_then (asks_then (consume_all_asks b callee.preconditions c.state (with_variables args (scene k c at)) c.state) forget_asks) (λ x.
-    asks_then (values_asks k.vars targets) (λ vs.
-    asks_then (produce_all_asks b callee.postconditions (record { store = args ++ vs; old = c.state; at = at }) x) (λ y. at_end)))
 
 -- each body asks so
 abbrev EachAsks : Layout → Bodies → Type 0

@@ -1,7 +1,9 @@
 -- Bodies that may nest deeper than the budget lasts change nothing: what is left is never more than there was, and each body that is
 -- called takes one.
-use Rattle.std.proofs.Common.{◌≡◌, refl, ap, ◌∙◌, arith, slice_get, ℕ, zero, suc, ◌+◌, ◌<◌, ◌≤◌, Bool, true, false, Option, Some, None, List, ◌++◌, if◌then◌else◌}
+use Rattle.std.proofs.Common.{◌≡◌, refl, ap, ◌∙◌, arith, slice_get, ℕ, zero, suc, ◌+◌, ◌<◌, ◌≤◌, Option, Some, None, List, ◌++◌}
 use Rattle.std.specs.Prelude.{⊤}
+use Rattle.viper_meaning.proofs.ChangeLaws.{any_run}
+use Rattle.lemmas.proofs.Tests.{if_same}
 use Rattle.vb_base.specs.declared.places.Pos.{Pos}
 use Rattle.vb_value.specs.Bound.{Bound}
 use Rattle.vb_value.specs.declared.values.Value.{Value}
@@ -11,7 +13,7 @@ use Rattle.viper_core.specs.Stmt as s
 use Rattle.viper_state.specs.Run.{with_variables}
 use Rattle.viper_state.specs.State.{State}
 use Rattle.viper_meaning.specs.Ends as m
-use Rattle.viper_meaning.specs.Ends.{ends, found}
+use Rattle.viper_meaning.specs.Ends.{found}
 use Rattle.viper_meaning.specs.Kept as kept
 use Rattle.viper_meaning.specs.Kept.{IsAny}
 use Rattle.viper_meaning.specs.KeptRuns.{KeepsRun, at_end, later}
@@ -21,7 +23,6 @@ use Rattle.viper_meaning.specs.Units.{first_store}
 use Rattle.viper_meaning.specs.Value.{values, truth_in}
 use Rattle.viper_meaning.proofs.KeptLaws.{is_kept}
 use Rattle.viper_meaning.proofs.RunKeptLaws.{then_do_kept, if_run_kept}
-use Rattle.viper_meaning.proofs.SignLaws.{any_events}
 use Rattle.viper_meaning.proofs.ThenLaws.{then_same}
 use Rattle.exec_meaning.specs.Execution.{Went, Still, Spent, with_went, going_on, keeping, beginning, asserting, Bodies, returns_in, exec_called, exec_turns, exec_stmt, exec_block, exec_body, bodies_within}
 
@@ -34,13 +35,6 @@ IsLeft n Spent = ⊤
 -- no more is left than this
 abbrev pub LeavesAtMost : {X : Type 0} → ℕ → Run (Went X) → Type 0
 LeavesAtMost n r = KeepsRun IsAny IsAny (IsLeft n) r
-
-any_run : {X : Type 0} (r : Run X) → KeepsRun IsAny IsAny IsAny r
-any_run (ended (ends events (m.Is x))) = at_end (kept.value (any_events events) tt)
-any_run (ended (ends events (m.Fails l))) = at_end (kept.failure (any_events events))
-any_run (ended (ends events m.Blocked)) = at_end (kept.blocked (any_events events))
-any_run (ended (ends events (m.Over at))) = at_end (kept.over (any_events events))
-any_run (takes events next) = later (any_events events) (λ c h. any_run (next c))
 
 pub any_then : {X Y : Type 0} {n : ℕ} (r : Run X) {go : X → Run (Went Y)} → ((x : X) → LeavesAtMost n (go x)) → LeavesAtMost n (then_do r go)
 any_then r h = then_do_kept (any_run r) (λ x i. h x)
@@ -63,7 +57,7 @@ keeping_left n bound le r = any_then r (λ x. still_left n x le)
 
 -- ---- runs after a run
 
-same_after : {X Y : Type 0} {P : X → Type 0} {r : Run X} {f g : X → Run Y} → KeepsRun IsAny IsAny P r → ((x : X) → P x → f x ≡ g x) → then_do r f ≡ then_do r g
+pub same_after : {X Y : Type 0} {P : X → Type 0} {r : Run X} {f g : X → Run Y} → KeepsRun IsAny IsAny P r → ((x : X) → P x → f x ≡ g x) → then_do r f ≡ then_do r g
 same_after (at_end (kept.value h p)) e = ap (before _) (e _ p)
 same_after (at_end (kept.failure h)) e = refl
 same_after (at_end (kept.blocked h)) e = refl
@@ -79,10 +73,6 @@ going_same {k = k} {r = r} {u = u} {f = f} {g = g} same h e = both
 
     both : going_on r f ≡ going_on u g
     both = same_after h by ∙ ap (λ z. then_do z (λ w. with_went w g)) same
-
-if_same : {X : Type 0} (b : Bool) {r u p q : X} → r ≡ p → u ≡ q → (if b then r else u) ≡ (if b then p else q)
-if_same true e f = e
-if_same false e f = f
 
 -- ---- loops
 

@@ -3,6 +3,7 @@
 use Rattle.std.proofs.Common.{◌≡◌, refl, sym, ◌∙◌, subst, arith, ◌<◌, ◌≤◌, ◌+◌, ℕ, true, false, Option, Some, None, List, ◌++◌, length, All, IsTrue, slice_get, take, if◌then◌else◌}
 use Rattle.std.proofs.lemmas.Bool.{true≢false}
 use Rattle.std.proofs.lemmas.Slice.Zip.{AllZip-long}
+use Rattle.lemmas.proofs.Lists.{front_at}
 use Rattle.vb_base.specs.declared.places.Pos.{Pos}
 use Rattle.vb_value.specs.Bound.{Unbounded}
 use Rattle.vb_value.specs.declared.values.Value.{Value}
@@ -39,7 +40,7 @@ use Rattle.exec_meaning.proofs.MoveLaws.{starts, begins_again, comes_back}
 use Rattle.exec_meaning.proofs.SafeLaws.{Safely, goes_safe, then_safe, first_safe, safe_goes}
 use Rattle.exec_meaning.proofs.StepLaws.{EndsIn, going_safe, beginning_safe, safe_forget, safe_branch, safe_values, values_safe}
 use Rattle.exec_meaning.proofs.StmtLaws.{from}
-use Rattle.exec_meaning.proofs.StoreLaws.{arguments_fit, returned_fit, get_first, given_back_fit, targets_fit, values_long, params_long, first_same, returns_same}
+use Rattle.exec_meaning.proofs.StoreLaws.{arguments_fit, returned_fit, given_back_fit, targets_fit, values_long, params_long, first_same, returns_same}
 use Rattle.exec_meaning.proofs.Under.{Gives, besides, AskAll}
 
 -- ---- bodies
@@ -160,7 +161,7 @@ module _ (program : Program) (formed : IsFormed program) (units : UnitsSafe prog
         let scene_is : FitsScene program.layout c.vars su = record { store = given_back_fit callee vs e.store vs_fit ends.stands.more.store; old = stands.less.state } in
         let agree : ScenesAgree c su sd = record {
           proper = scene_proper program.layout c.vars su scene_is;
-          seen = λ x i. returns_same callee vs e.store long (λ z low. ends.params z low ∙ get_first vs ws z (omega (arith, low, long))) x (below-lt (callee.params + callee.returns) x i);
+          seen = λ x i. returns_same callee vs e.store long (λ z low. ends.params z low ∙ front_at vs ws z (omega (arith, low, long))) x (below-lt (callee.params + callee.returns) x i);
           old = λ allowed. under_close stands.under;
         } in
         let values = safe_values program.layout m.vars targets rs taken (first_safe (taking_values m.vars targets) (with_values s) (safe_forget program.layout left memo memo_is h)) in

@@ -3,6 +3,7 @@ use Rattle.std.proofs.Common.{◌≡◌, refl, sym, ◌∙◌, subst, arith, ◌
 use Rattle.std.specs.Prelude.{⊤}
 use Rattle.std.proofs.lemmas.List.{length-take-le}
 use Rattle.std.proofs.lemmas.Slice.Zip.{AllZip-long}
+use Rattle.lemmas.proofs.Lists.{at_item, front_at}
 use Rattle.vb_base.specs.declared.places.Pos.{Pos}
 use Rattle.vb_value.specs.Bound.{Unbounded}
 use Rattle.vb_value.specs.declared.values.Ty.TheVariants as ty
@@ -14,7 +15,7 @@ use Rattle.viper_core.specs.Program.{Program, Method, Body}
 use Rattle.viper_core.specs.Scope.{Scope, scope_after, stmts_scope, after_block, after_targets}
 use Rattle.viper_core.specs.Stmt as s
 use Rattle.viper_core.specs.Typing.{HasType, HaveTypes, IsAssertion, Frame, inside, Receive, params_of, returns_of, IsStmt, calls, loops}
-use Rattle.viper_core.proofs.FormedLaws.{at_item, at_some, method_of_typed}
+use Rattle.viper_core.proofs.FormedLaws.{at_some, method_of_typed}
 use Rattle.viper_core.proofs.PartLaws.{stmts_parts}
 use Rattle.viper_core.proofs.ScopeLaws.{later-stmts_scope}
 use Rattle.viper_core.proofs.StmtParts.{first_part, rest_part, condition_part, then_part, else_part, turn_part}
@@ -53,7 +54,7 @@ use Rattle.exec_meaning.proofs.LoopLaws.{loop_safe}
 use Rattle.exec_meaning.proofs.SafeLaws.{Safely, goes_safe, before_safe, evaluating_safe, then_safe, weaker_safe, first_evaluated, first_safe, safe_goes, agrees_safe, leads_safe}
 use Rattle.exec_meaning.proofs.StepLaws.{EndsIn, going_safe, keeping_safe, ends_weaker, keep_end, keep_safe, each_kept, safe_found}
 use Rattle.exec_meaning.proofs.StmtLaws.{from, IsSimple}
-use Rattle.exec_meaning.proofs.StoreLaws.{get_first, params_unassigned}
+use Rattle.exec_meaning.proofs.StoreLaws.{params_unassigned}
 use Rattle.exec_meaning.proofs.TwoLaws.{truth_two}
 
 -- goes on as the test of both says
@@ -194,7 +195,7 @@ module _ (program : Program) (formed : IsFormed program) (framed : IsFramedProgr
         left = z.0;
         asked = z.2.asked;
         gives = z.2.given;
-        params = λ x low. sym (ended.seen x (lt-below (m.params + m.returns) x (omega (arith, low)))) ∙ r.goes.1 (x, low) ∙ get_first given _ x (omega (arith, low, given_long k m there given st.given_fits));
+        params = λ x low. sym (ended.seen x (lt-below (m.params + m.returns) x (omega (arith, low)))) ∙ r.goes.1 (x, low) ∙ front_at given _ x (omega (arith, low, given_long k m there given st.given_fits));
       })))
     where
       given_long : (k : ℕ) (m : Method) → slice_get program.methods k ≡ Some m → (given : List Value) → FitsStore (take (m.params + m.returns) m.vars) given → length given ≡ m.params + m.returns

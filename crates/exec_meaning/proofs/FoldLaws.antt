@@ -1,5 +1,5 @@
 -- What an assertion contains with less permission and with more, and how an instance is folded and unfolded with both.
-use Rattle.std.proofs.Common.{◌≡◌, refl, sym, ap, ◌∙◌, subst, ℕ, true, Option, Some, None, List, [], All}
+use Rattle.std.proofs.Common.{◌≡◌, refl, sym, ap, ◌∙◌, subst, ℕ, Option, Some, None, List, [], All}
 use Rattle.std.specs.Option.{option_map}
 use Rattle.vb_base.specs.declared.places.Pos.{Pos}
 use Rattle.vb_value.specs.Bound.{Unbounded}
@@ -7,7 +7,6 @@ use Rattle.vb_value.specs.Content.{Leaf, AllValues, IsProperContent}
 use Rattle.vb_value.specs.Fraction.{Fraction, IsReduced, is_positive, write}
 use Rattle.vb_value.specs.Value.{IsProperValue}
 use Rattle.vb_value.specs.declared.values.Value.{Value}
-use Rattle.vb_value.proofs.SignLaws.{positive_not_negative}
 use Rattle.viper_core.specs.Expr as t
 use Rattle.viper_core.specs.Formed.{IsTypedProgram, predicate_context}
 use Rattle.viper_core.specs.Stmt.{FoldStmt}
@@ -31,7 +30,7 @@ use Rattle.viper_meaning.specs.Value.{values}
 use Rattle.viper_meaning.proofs.AgreeLaws.{failed, blocked, IsSame, is_agrees, after_agrees, then_agrees, then_same, if_agrees}
 use Rattle.viper_meaning.proofs.FoldLaws.{body_found}
 use Rattle.viper_meaning.proofs.MoreLaws.{ScenesAgree, typed_values_two, typed_opened_two}
-use Rattle.viper_meaning.proofs.OpenedLaws.{AreClose, then_proper, found_same, where_holds, taken_two, fill_held_two, content_same, content_proper}
+use Rattle.viper_meaning.proofs.OpenedLaws.{AreClose, then_proper, found_same, where_holds, taken_two, fill_held_two, content_same, content_proper, amount_is}
 use Rattle.viper_meaning.proofs.PartLaws.{IsAmount, amount_write}
 use Rattle.viper_meaning.proofs.ReadLaws.{values_proper}
 use Rattle.viper_meaning.proofs.StatementKeptLaws.{content_in_proper}
@@ -70,11 +69,8 @@ module _ (F : Rest) (c : Context) (typed : IsTypedProgram c.program) (s w : Stat
 
 -- ---- fold and unfold
 
-amount_of_positive : (q : Fraction) → IsReduced q → is_positive q ≡ true → IsAmount q
-amount_of_positive q h e = record { reduced = h; not_negative = positive_not_negative q e }
-
 positive_two : (sc sd : Scene) (at : Pos) (q : Fraction) → IsReduced q → AreClose (λ x y. (x ≡ y) × IsAmount x) (positive_amount sc at q) (positive_amount sd at q)
-positive_two sc sd at q reduced = where_holds (is_positive q) failed (λ positive. is_agrees (refl, amount_of_positive q reduced positive))
+positive_two sc sd at q reduced = where_holds (is_positive q) failed (λ positive. is_agrees (refl, amount_is q reduced positive))
 
 amount_leads : {C : Choice → Type 0} {Z W : Type 0} {S : Z → W → Type 0} {e f : Evaluated Fraction} {go : Fraction → Run Z} {to : Fraction → Run W} → AreClose (λ x y. (x ≡ y) × IsAmount x) e f →
     ((x : Fraction) → IsAmount x → Leads C S (go x) (to x)) → Leads C S (evaluating e go) (evaluating f to)
@@ -115,4 +111,4 @@ module _ (F : Rest) (c : Context) (typed : IsTypedProgram c.program) (s w : Stat
       found_by (key_of vs) (λ key keyed. found_by (body_of c.program f.predicate) (λ body there.
       then_agrees (taken_two F sc sd f.predicate key q f.place reduced h) (λ less more under.
       then_proper (IsProperContent Unbounded) (content_same F f.predicate key h) (content_proper {E = IsProperEvent Unbounded} f.predicate key h.less) (λ d proper.
-      typed_opened_two F (predicate_context c.program i.predicate) typed less more (with_variables vs sc) (with_variables vs sd) under.0 (body_scenes vs in_vs) d q (body_typed body there) proper (amount_of_positive q reduced under.1)))))))
+      typed_opened_two F (predicate_context c.program i.predicate) typed less more (with_variables vs sc) (with_variables vs sd) under.0 (body_scenes vs in_vs) d q (body_typed body there) proper (amount_is q reduced under.1)))))))

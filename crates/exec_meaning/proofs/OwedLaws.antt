@@ -15,7 +15,7 @@ use Rattle.viper_meaning.specs.Resource.{Resource, Place, Instance, held_at, is_
 use Rattle.viper_meaning.specs.Sat.{Share}
 use Rattle.viper_meaning.proofs.ArriveLaws.{part_total}
 use Rattle.viper_meaning.proofs.HeldLaws.{held_amount}
-use Rattle.viper_meaning.proofs.PartLaws.{part_not_above, is_none_itself, IsAmount, IsPartOf, amount_write, part_sum, part_added, part_trans, part_taken, part_some, part_from_enough, enough_from_part, above_by_order, whole_amount}
+use Rattle.viper_meaning.proofs.PartLaws.{is_none_itself, IsAmount, IsPartOf, amount_write, part_sum, part_added, part_trans, part_taken, part_some, part_from_enough, enough_from_part, above_by_order, whole_amount}
 use Rattle.viper_meaning.proofs.UnderLaws.{Rest, Owes, Under, FramedPart, IsAmountShare, Framed}
 
 -- ---- without what is owed
@@ -61,10 +61,6 @@ module _ (w : State) (h : HoldsAtMostWhole w) where
   pub nothing_of_null : (x : Resource) (q : Fraction) → held_at w x ≡ Some q → is_null x ≡ true → is_none q ≡ true
   nothing_of_null (Place f r) q e null = (of_place f r q e).1 ((Decides-eqb r 0).0 null)
   nothing_of_null (Instance p k) q e null = cc
-
-pub not_too_much_part : (x : Resource) {p q : Fraction} → IsPartOf p q → is_too_much x q ≡ false → is_too_much x p ≡ false
-not_too_much_part (Place f r) h e = part_not_above h e
-not_too_much_part (Instance p k) h e = refl
 
 -- where all is held, and no more than all can be, nobody else holds anything
 pub record IsAlone (f b : Fraction) : Type 0 where

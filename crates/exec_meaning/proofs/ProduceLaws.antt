@@ -32,7 +32,7 @@ use Rattle.viper_meaning.specs.Sat.{Has, Share, is_same}
 use Rattle.viper_meaning.specs.Statements.{produce_all}
 use Rattle.viper_meaning.specs.Value.{perm_in, ref_in, key_in}
 use Rattle.viper_meaning.proofs.AgreeLaws.{is_agrees, after_agrees}
-use Rattle.viper_meaning.proofs.ArriveLaws.{same_self}
+use Rattle.viper_meaning.proofs.ArriveLaws.{same_self, too_much_part}
 use Rattle.viper_meaning.proofs.HeldLaws.{held_amount, held_with, same_resource, with_held_values, with_held_contents}
 use Rattle.viper_meaning.proofs.MoreLaws.{ScenesAgree}
 use Rattle.viper_meaning.proofs.NearLaws.{full_with_held}
@@ -42,7 +42,7 @@ use Rattle.viper_meaning.proofs.TypedLaws.{keys_at}
 use Rattle.viper_meaning.proofs.UnderLaws.{Rest, Owes, Under, FramedPart, IsAmountShare, own_part, framed_at}
 use Rattle.exec_meaning.proofs.TwoLaws.{truth_two, perm_two, place_two, instance_two}
 use Rattle.exec_meaning.proofs.KnownLaws.{then_alone, evaluating_alone}
-use Rattle.exec_meaning.proofs.OwedLaws.{owes_under, not_too_much_part, not_too_much, nothing_of_null}
+use Rattle.exec_meaning.proofs.OwedLaws.{owes_under, not_too_much, nothing_of_null}
 use Rattle.exec_meaning.proofs.SafeLaws.{Safely, safe_goes, Leads, together, goes_leads, then_leads, leads_safe}
 use Rattle.exec_meaning.proofs.Under as under
 use Rattle.exec_meaning.proofs.Under.{Asks, AskAll}
@@ -107,7 +107,7 @@ module _ (F : Rest) (s w : State) (x : Resource) (q : Fraction) (more : List Sha
         own_part (framed_at (owes_under (owes_next a e)) x (sum a q) b now g)
 
     small_enough : is_too_much x (sum a q) ≡ false
-    small_enough = not_too_much_part x together_part (not_too_much w most x b g)
+    small_enough = too_much_part x together_part (not_too_much w most x b g)
 
     -- of null nothing is held, and so nothing is owed
     no_null : is_none q ≡ false → is_null x ≡ true → ⊥

@@ -3,6 +3,7 @@ use Rattle.std.proofs.Common.{◌≡◌, refl, sym, ap, ◌∙◌, subst, Bool, 
 use Rattle.std.proofs.lemmas.List.Elements.{All-nil, All-cons, All-head, All-tail, All-append}
 use Rattle.std.specs.Option.{option_map}
 use Rattle.std.specs.Ordering.{is_lt}
+use Rattle.viper_meaning.proofs.SatProduceLaws.{total_append}
 use Rattle.vb_value.specs.Fraction.{Fraction, none, write, sum, product, difference, order}
 use Rattle.vb_value.proofs.OperationLaws.{sum_comm, sum_assoc, sum-zero, sum-difference, product-one}
 use Rattle.viper_state.specs.State.{State}
@@ -16,10 +17,6 @@ use Rattle.viper_meaning.proofs.UnderLaws.{IsAmountShare}
 use Rattle.exec_meaning.proofs.Under.{Gives, scaled_share, scaled}
 
 -- ---- sums
-
-pub total-append : (x : Resource) (h : Fraction) (xs ys : List Share) → total_from x h (xs ++ ys) ≡ total_from x (total_from x h xs) ys
-total-append x h [] ys = refl
-total-append x h (share ∷ xs) ys = total-append x (if is_same x share.of then sum h share.amount else h) xs ys
 
 module _ (x : Resource) (f : Fraction) (a : IsAmount f) where
   step_beside : (b : Bool) (h q : Fraction) → IsAmount h → IsAmount q → (if b then sum (sum f h) q else sum f h) ≡ sum f (if b then sum h q else h)
@@ -120,4 +117,4 @@ gives_both {s} {t} {u} {xs} {ys} h g = record {
   where
     by : (x : Resource) (o : Option Fraction) → ((q : Fraction) → o ≡ Some q → IsAmount q) → option_map (λ z. total_from x z xs) (option_map (λ z. total_from x z ys) o) ≡ option_map (λ z. total_from x z (xs ++ ys)) o
     by x None own = refl
-    by x (Some q) own = ap Some (total_swap x q ys xs (own q refl) g.amounts h.amounts ∙ sym (total-append x q xs ys))
+    by x (Some q) own = ap Some (total_swap x q ys xs (own q refl) g.amounts h.amounts ∙ sym (total_append x q xs ys))

@@ -4,6 +4,8 @@ use Rattle.std.proofs.Common.{◌≡◌, refl, sym, ap, ◌∙◌, subst, ℕ, �
 use Rattle.std.proofs.lemmas.Bool.{true≢false}
 use Rattle.std.proofs.lemmas.List.Elements.{All-head, All-tail}
 use Rattle.std.specs.Bool.{Decides}
+use Rattle.viper_meaning.proofs.ArriveLaws.{too_much_part}
+use Rattle.lemmas.proofs.Tests.{true_from_not as negated}
 use Rattle.vb_base.specs.declared.places.Pos.{Pos}
 use Rattle.vb_value.specs.Bound.{Unbounded}
 use Rattle.vb_value.specs.Fraction.{Fraction, IsReduced, is_negative, is_positive, is_none, write, sum}
@@ -47,7 +49,7 @@ use Rattle.viper_meaning.proofs.UnderLaws.{Rest, FramedPart, Under, Framed, own_
 use Rattle.exec_meaning.proofs.ConsumeLaws.{consume_one, consume_each}
 use Rattle.exec_meaning.proofs.KnownLaws.{same_leads, found_leads}
 use Rattle.exec_meaning.proofs.LeftLaws.{after_fits, value_new, value_own, content_new, content_own}
-use Rattle.exec_meaning.proofs.OwedLaws.{none_and_whole, IsAlone, alone, not_too_much_part, not_too_much}
+use Rattle.exec_meaning.proofs.OwedLaws.{none_and_whole, IsAlone, alone, not_too_much}
 use Rattle.exec_meaning.proofs.TwoLaws.{found_two, truth_two, perm_two, place_two, instance_two, perm_reduced}
 use Rattle.exec_meaning.proofs.SafeLaws.{weaker_leads, Leads, together, lost_then, answered, goes_leads, before_leads, then_leads, taking_leads, if_leads}
 
@@ -57,7 +59,7 @@ module _ (F : Rest) where
   more_held_two : {s w : State} (scale : Fraction) (x : Resource) (at : Pos) (q : Fraction) → IsAmount scale → IsAmount q → Under F s w → AreClose (Under F) (more_held Unbounded scale x at s q) (more_held Unbounded scale x at w q)
   more_held_two scale x at q i j h =
       where_not (is_null x) blocked (λ there. then_agrees (found_parts F x h) (λ a b parts. then_agrees (added_two (F.held x) a b scale q at parts i j) (λ d e more.
-      blocks_last (is_too_much x d) (is_too_much x e) (not_too_much_part x (own_part more)) (is_agrees (under_held h x d e more)))))
+      blocks_last (is_too_much x d) (is_too_much x e) (too_much_part x (own_part more)) (is_agrees (under_held h x d e more)))))
 
   given_two : {s w : State} (sc sd : Scene) (scale : Fraction) (x : Resource) (at : Pos) (q : Fraction) → IsAmount scale → IsReduced q → Under F s w →
       AreClose (Under F) (given_to Unbounded sc scale x at s q) (given_to Unbounded sd scale x at w q)
@@ -218,10 +220,6 @@ module _ (F : Rest) (l : Layout) (s w : State) (h : Under F s w) (less : FitsSta
   forget_two = answered answer answer_fits answer_leads
 
 -- ---- writing a field
-
-negated : (b : Bool) → not b ≡ false → b ≡ true
-negated true e = refl
-negated false e = absurd (true≢false e)
 
 pub written_two : (F : Rest) {s w : State} (sc sd : Scene) (f : ℕ) (at : Pos) (r : ℕ) (x : Value) → IsProperValue Unbounded x → HoldsAtMostWhole w → Under F s w →
     AreClose (Under F) (field_written sc s f at r x) (field_written sd w f at r x)

@@ -1,12 +1,13 @@
 -- The variables of a method and of a call: which values fit them, which are the same in two stores, and what is never assigned.
 use Rattle.std.proofs.Common.{◌≡◌, ◌≢◌, ◌⊎◌, inl, inr, refl, sym, ap, ◌∙◌, subst, arith, ◌<◌, ◌≤◌, ◌+◌, ◌==◌, ◌||◌, ℕ, zero, suc, Bool, true, false, Some, List, [], ◌∷◌, ◌++◌, length, All, Contains, slice_get, slice_set, take, drop}
-use Rattle.std.proofs.lemmas.Bool.{true≢false}
+use Rattle.std.proofs.lemmas.Bool.{true≢false, or_from}
 use Rattle.std.proofs.lemmas.Bool.Decides.{Decides-eqb}
 use Rattle.std.proofs.lemmas.List.Elements.{All-head, All-tail}
 use Rattle.std.proofs.lemmas.List.{length-take-le}
 use Rattle.std.proofs.lemmas.Slice.Zip.{AllZip-long}
 use Rattle.std.specs.Bool.{Decides}
 use Rattle.std.specs.List.{AllZip, list_any, range_with_len}
+use Rattle.lemmas.proofs.Lists.{there_right, drop_here, front_at}
 use Rattle.vb_value.specs.declared.values.Ty.{Ty}
 use Rattle.vb_value.specs.declared.values.Value.{Value}
 use Rattle.viper_core.specs.Program.{Method}
@@ -24,11 +25,6 @@ use Rattle.exec_meaning.specs.Execution.{returns_in, returned}
 
 -- ---- parts of lists
 
-drop_here : {X : Type 0} (us : List X) (p : ℕ) (x : X) → slice_get us p ≡ Some x → drop p us ≡ x ∷ drop (p + 1) us
-drop_here [] p x e = cc
-drop_here (u ∷ us) zero x e = let same : u ≡ x = cc in let one : 0 + 1 ≡ suc zero = omega arith in ap (λ z. z ∷ us) same ∙ ap (λ n. x ∷ drop n (u ∷ us)) (sym one)
-drop_here (u ∷ us) (suc p) x e = let one : suc p + 1 ≡ suc (p + 1) = omega arith in drop_here us p x e ∙ ap (λ n. x ∷ drop n (u ∷ us)) (sym one)
-
 part_drops : (us : List Ty) (vs : List Value) (p : ℕ) → FitsStore us vs → FitsStore (drop p us) (drop p vs)
 part_drops us vs zero h = h
 part_drops [] [] (suc p) h = tt
@@ -42,15 +38,6 @@ part_takes [] [] (suc r) h = tt
 part_takes [] (w ∷ vs) (suc r) h = absurd h
 part_takes (u ∷ us) [] (suc r) h = absurd h
 part_takes (u ∷ us) (w ∷ vs) (suc r) h = (h.0, part_takes us vs r h.1)
-
-pub get_first : {X : Type 0} (xs ys : List X) (x : ℕ) → x < length xs → slice_get (xs ++ ys) x ≡ slice_get xs x
-get_first [] ys x h = absurd (omega (arith, h))
-get_first (a ∷ xs) ys zero h = refl
-get_first (a ∷ xs) ys (suc x) h = get_first xs ys x (omega (arith, h))
-
-get_second : {X : Type 0} (xs ys : List X) (i : ℕ) → slice_get (xs ++ ys) (length xs + i) ≡ slice_get ys i
-get_second [] ys i = let same : 0 + i ≡ i = omega arith in ap (slice_get ys) same
-get_second (a ∷ xs) ys i = let same : suc (length xs) + i ≡ suc (length xs + i) = omega arith in ap (slice_get (a ∷ xs ++ ys)) same ∙ get_second xs ys i
 
 get_taken : {X : Type 0} (xs : List X) (n x : ℕ) → x < n → slice_get (take n xs) x ≡ slice_get xs x
 get_taken xs zero x h = absurd (omega (arith, h))
@@ -117,7 +104,7 @@ params_long m vs le h = AllZip-long FitsValue (params_of m) vs h ∙ length-take
 pub first_same : (m : Method) (vs ws : List Value) (x : ℕ) → x < length vs → slice_get (first_store m (vs ++ ws)) x ≡ slice_get vs x
 first_same m vs ws x h =
     let longer : x < length (vs ++ ws) = longer_both vs ws x h in
-    get_first (vs ++ ws) _ x longer ∙ get_first vs ws x h
+    front_at (vs ++ ws) _ x longer ∙ front_at vs ws x h
   where
     longer_both : (vs ws : List Value) (x : ℕ) → x < length vs → x < length (vs ++ ws)
     longer_both [] ws x h = absurd (omega (arith, h))
@@ -135,11 +122,11 @@ returns_same m vs store long kept x h = by (below_or m.params x)
     below_or (suc p) (suc x) = elim (below_or p x) [ inl low ↦ inl (omega (arith, low)) | inr high ↦ inr (high.0, omega (arith, high.1)) ]
 
     by : (x < m.params) ⊎ ((i : ℕ) × (x ≡ m.params + i)) → slice_get (vs ++ returned m store) x ≡ slice_get store x
-    by (inl low) = let within : x < length vs = omega (arith, low, long) in get_first vs (returned m store) x within ∙ sym (kept x low)
+    by (inl low) = let within : x < length vs = omega (arith, low, long) in front_at vs (returned m store) x within ∙ sym (kept x low)
     by (inr high) =
         let at : x ≡ length vs + high.0 = omega (arith, high.1, long) in
         let few : high.0 < m.returns = omega (arith, high.1, h) in
-        ap (slice_get (vs ++ returned m store)) at ∙ get_second vs (returned m store) high.0 ∙ get_taken (drop m.params store) m.returns high.0 few ∙ get_dropped store m.params high.0 ∙ ap (slice_get store) (sym high.1)
+        ap (slice_get (vs ++ returned m store)) at ∙ there_right vs (returned m store) high.0 ∙ get_taken (drop m.params store) m.returns high.0 few ∙ get_dropped store m.params high.0 ∙ ap (slice_get store) (sym high.1)
 
 -- ---- no parameter is assigned
 
@@ -163,10 +150,6 @@ from_none : (b : Bool) → b || false ≡ false → b ≡ false
 from_none true e = absurd (true≢false e)
 from_none false e = refl
 
-both_none : (b c : Bool) → b ≡ false → c ≡ false → b || c ≡ false
-both_none true c e f = absurd (true≢false e)
-both_none false c e f = f
-
 mutual
   param_unassigned : {m : Frame} {sc : Scope} {a : s.Stmt} (x : ℕ) → x < m.params → m.params ≤ sc.fresh → IsStmt m sc a → assigns x a ≡ false
   param_unassigned x low le (y.declares is typed) = refl
@@ -181,13 +164,13 @@ mutual
   param_unassigned x low le (y.folds h) = refl
   param_unassigned x low le (y.unfolds h) = refl
   param_unassigned {m} {sc} x low le (y.branches {then_block = first} {else_block = second} h i j) =
-      both_none (some_assigns x first) (some_assigns x second) (params_unassigned x low le i) (params_unassigned x low (omega (arith, le, fresh-stmts_scope sc first)) j)
+      or_from (some_assigns x first) (some_assigns x second) (params_unassigned x low le i) (params_unassigned x low (omega (arith, le, fresh-stmts_scope sc first)) j)
   param_unassigned x low le (y.loops h is i same) = params_unassigned x low le i
 
   pub params_unassigned : {m : Frame} {sc : Scope} {block : s.Stmts} (x : ℕ) → x < m.params → m.params ≤ sc.fresh → AreStmts m sc block → some_assigns x block ≡ false
   params_unassigned x low le y.ends = refl
   params_unassigned {m} {sc} x low le (y.goes_on {a = a} {rest = rest} i j) =
-      both_none (assigns x a) (some_assigns x rest) (param_unassigned x low le i) (params_unassigned x low (omega (arith, le, fresh-scope_after sc a)) j)
+      or_from (assigns x a) (some_assigns x rest) (param_unassigned x low le i) (params_unassigned x low (omega (arith, le, fresh-scope_after sc a)) j)
 
 -- ---- the targets of a loop
 

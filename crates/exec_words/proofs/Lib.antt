@@ -1,4 +1,3 @@
-pub mod Each
 pub mod Framed
 pub mod Spelled
 pub mod WordLaws

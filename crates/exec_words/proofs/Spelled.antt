@@ -9,10 +9,12 @@ use Rattle.viper_syntax.specs.Decl as d
 use Rattle.viper_grammar.specs.Tests as v
 use Rattle.viper_grammar.specs.Tests.{Kind, Value, Test, this, a_name, a_number, one_of, a_negation, an_operator, Passes}
 use Rattle.viper_grammar.specs.Grammar as g
-use Rattle.viper_grammar.specs.Grammar.{Symbol, Rule, give, need, when, read, rule}
-use Rattle.viper_grammar.specs.Spells.{Derives, Spells, given, needed, taken, passed, called}
+use Rattle.viper_grammar.specs.Grammar.{Symbol, Rule, rule, viper, rules}
+use Rattle.viper_grammar.specs.Spells.{Spells}
 use Rattle.exec_words.specs.Unframed.{is_unframed, first_unframed}
-use Rattle.exec_words.proofs.Each.{each_more, front, back}
+use Rattle.grammar.proofs.Each.{each_more}
+use Rattle.grammar.proofs.Made as made
+use Rattle.grammar.proofs.Made.{mg, mn, mw, mr, makes_cond, holds}
 use Rattle.exec_words.proofs.Framed.{IsFramedWord, IsFramedToken, IsFramedTerm, IsFramedAmount, IsFramedSource, IsFramedBlock, IsFramedArm, IsFramedClause, IsFramedDecl, framed_terms, framed_stmts, framed_arms}
 
 -- what is built, and what a symbol has so far, has none of the words
@@ -46,19 +48,8 @@ Held (g.MoreArguments es) = AllByRecursion IsFramedTerm es
 Held _ = ⊤
 
 -- a rule that gives only such values, where it takes only such values
-data Makes (s : Kind) : Rule s → Type 0 where
-  mg : {x : Value s} → Holds s x → Makes s (give x)
-  mn : {r : Kind} {c : Test true r} {go : Value r → Rule s} → ((x : Value r) → Holds r x → Makes s (go x)) → Makes s (need c go)
-  mw : {b : Bool} {r : Kind} {c : Test b r} {go : Value r → Rule s} {other : Rule s} → ((x : Value r) → Holds r x → Makes s (go x)) → Makes s other → Makes s (when c go other)
-  mr : {r : Kind} {a : Symbol r} {go : Value r → Rule s} → Held a → ((y : Value r) → Holds r y → Makes s (go y)) → Makes s (read a go)
-
-makes_cond : {s : Kind} (b : Bool) {x y : Rule s} → Makes s x → Makes s y → Makes s (cond b x y)
-makes_cond true h i = h
-makes_cond false h i = i
-
-makes_if : {s : Kind} (b : Bool) {x y : Rule s} → Makes s x → Makes s y → Makes s (if b then x else y)
-makes_if true h i = h
-makes_if false h i = i
+abbrev Makes : (s : Kind) → Rule s → Type 0
+Makes s a = made.Makes {A = viper} Holds (λ r b. Held b) s a
 
 makes : {s : Kind} (a : Symbol s) → Held a → Makes s (rule a)
 makes (g.Program ds) h =
@@ -111,7 +102,7 @@ makes (g.Level zero) h = mr tt (λ p i. mg i)
 makes (g.Level (suc n)) h = mr tt (λ p i. mr i (λ q j. mg j))
 makes (g.Chain n p) h =
     makes_cond (g.is_open p.shape) (mg h)
-    (mw (λ o _. mr tt (λ q i. makes_if (g.repeats n) (mr (h, i) (λ r j. mg j)) (mg (h, i)))) (mg h))
+    (mw (λ o _. mr tt (λ q i. makes_cond (g.repeats n) (mr (h, i) (λ r j. mg j)) (mg (h, i)))) (mg h))
 makes g.Unary h =
     mw (λ o _. mr tt (λ p i. mg i))
     (mw (λ at _. mr tt (λ i j. mn (λ _ _. mr tt (λ p l. mg (framed_terms i.call.args j.0, j.1, l)))))
@@ -134,12 +125,11 @@ token_holds (one_of y) token x q h = subst (λ (tok : Tok). is_unframed tok ≡ 
 token_holds a_negation token x q h = tt
 token_holds (an_operator n) token x q h = tt
 
-holds : {s : Kind} {a : Rule s} {ts : List Token} {x : Value s} → Makes s a → Derives s a ts x → AllByRecursion IsFramedToken ts → Holds s x
-holds (mg h) given r = h
-holds (mn {c = c} f) (needed {us = us} {v = y} q d) r = let h = subst (AllByRecursion IsFramedToken) q.is r in holds (f y (token_holds c q.token y q.passes h.0)) d h.1
-holds (mw {c = c} f o) (taken {us = us} {v = y} q d) r = let h = subst (AllByRecursion IsFramedToken) q.is r in holds (f y (token_holds c q.token y q.passes h.0)) d h.1
-holds (mw f o) (passed d) r = holds o d r
-holds (mr {a = a} h f) (called {ts = ts} {us = us} {y = y} d e) r = holds (f y (holds (makes a h) d (front IsFramedToken ts us r))) e (back IsFramedToken ts us r)
+making : made.Making rules Holds (λ s a. Held a) IsFramedToken
+making = record {
+  of_token = λ b r c k x p h. token_holds c k x p h;
+  of_symbol = λ s a h. makes a h;
+}
 
 -- a list of tokens in which none of the words is found has none
 
@@ -153,4 +143,4 @@ framed_tokens (token ∷ rest) h = let both = not_found (is_unframed token.tok) 
 
 -- the declarations that such tokens spell
 pub spelled : {ts : List Token} {source : d.SourceProgram} → first_unframed ts ≡ None → Spells ts source → AllByRecursion IsFramedDecl source.decls
-spelled {ts} none h = holds (makes (g.Program []) tt) h (framed_tokens ts none)
+spelled {ts} none h = holds making (makes (g.Program []) tt) h (framed_tokens ts none)

@@ -22,8 +22,8 @@ use Rattle.boogie_tree.specs.declared.exprs.BOp.{BOp}
 use Rattle.boogie_tree.specs.declared.exprs.BOp.TheVariants as op
 use Rattle.boogie_grammar.specs.Pieces.{is_in_line}
 use Rattle.boogie_grammar.specs.Printed.{Naming, name_at, base_text, operator_text, truth_text, free_name, bound_names, under, names_text, binders_text, expr_text, exprs_text, bases_text, keys_text, type_text}
-use Rattle.boogie_text.specs.Short.{ShortExpr, ShortExprs}
-use Rattle.boogie_text.proofs.FreshLaws.{free_form}
+use Rattle.boogie_print.specs.Short.{ShortExpr, ShortExprs}
+use Rattle.boogie_print.proofs.FreshLaws.{free_form}
 use Rattle.formula_text.specs.Names.{variable_name, definition_name, numbered, names_in_scope}
 use Rattle.formula_text.specs.Printed.{scope_naming}
 use Rattle.formula_text.proofs.ScopeNames.{digits_only}

@@ -10,9 +10,9 @@ use Rattle.boogie_grammar.specs.Grammar.{TypeOf, rule, rules}
 use Rattle.boogie_grammar.specs.Printed.{name_at, type_text}
 use Rattle.boogie_grammar.specs.Tests.{a_type}
 use Rattle.boogie_meaning.specs.Programs.{HaveKeys}
-use Rattle.boogie_text.specs.Printable.{IsFreeName}
-use Rattle.boogie_text.proofs.ProgramShown.{type_shown}
-use Rattle.boogie_text.proofs.VarLaws.{head_of, tail_of}
+use Rattle.boogie_print.specs.Printable.{IsFreeName}
+use Rattle.boogie_print.proofs.ProgramShown.{type_shown}
+use Rattle.boogie_print.proofs.VarLaws.{head_of, tail_of}
 use Rattle.boogie_formula.specs.Formula.{FExpr, Formula, Conditions}
 use Rattle.boogie_formula.specs.Printable.{FitsScalar, FitLets, NamesDefinition, IsPrintableConditions, IsPrintableFormula}
 use Rattle.boogie_formula.specs.declared.formulas.Fail.{Fail}

@@ -2,6 +2,7 @@
 use Rattle.std.proofs.Common.{◌≡◌, ◌∙◌, refl, sym, ap, subst, arith, ℕ, ◌+◌, Bool, true, false, Some, List, [], ◌∷◌, ◌++◌, codes, append_assoc}
 use Rattle.std.specs.List.{list_all}
 use Rattle.std.proofs.lemmas.Bool.{and_parts, both_ways}
+use Rattle.lemmas.proofs.Lists.{same_head as heads, same_tail as tails, same_behind}
 use Rattle.grammar.specs.Spells.{Derives}
 use Rattle.grammar.proofs.Reading.{one_reading}
 use Rattle.vb_base.specs.Labels.{text_of}
@@ -15,8 +16,8 @@ use Rattle.boogie_grammar.specs.Pieces.{is_in_line}
 use Rattle.boogie_grammar.specs.Tests.{a_type}
 use Rattle.boogie_grammar.specs.declared.tokens.PlacedLexeme.{PlacedLexeme}
 use Rattle.boogie_grammar.proofs.Elements.{laws}
-use Rattle.boogie_text.proofs.AlikeLaws.{Alike, one_row, derives_alike}
-use Rattle.boogie_text.proofs.Complete.{complete}
+use Rattle.boogie_print.proofs.AlikeLaws.{Alike, one_row, derives_alike}
+use Rattle.boogie_print.proofs.Complete.{complete}
 use Rattle.boogie_formula.specs.Formula.{FExpr, Formula, Conditions}
 use Rattle.boogie_formula.specs.declared.formulas.Fail.{Fail}
 use Rattle.boogie_grammar.specs.Tests.{number_of}
@@ -26,16 +27,6 @@ use Rattle.formula_text.proofs.Clean.{Clean, both, name_bytes, name_clean, label
 use Rattle.formula_text.proofs.ValueReading.{one_definition, value_alike}
 
 -- ---- bytes up to the first that ends them
-
-heads : {x y : ℕ} {xs ys : List ℕ} → x ∷ xs ≡ y ∷ ys → x ≡ y
-heads h = cc
-
-tails : {x y : ℕ} {xs ys : List ℕ} → x ∷ xs ≡ y ∷ ys → xs ≡ ys
-tails h = cc
-
-same_behind : (xs : List ℕ) {ys zs : List ℕ} → xs ++ ys ≡ xs ++ zs → ys ≡ zs
-same_behind [] h = h
-same_behind (x ∷ xs) h = same_behind xs (tails h)
 
 stops : (p : ℕ → Bool) (b y : ℕ) (ys : List ℕ) → p b ≡ false → list_all p (y ∷ ys) ≡ true → b ≡ y → ⊥
 stops p b y ys miss all e = both_ways (p y) (subst (λ z. p z ≡ false) e miss) (and_parts (p y) (list_all p ys) all).0

@@ -1,6 +1,7 @@
 -- An expression of a formula is that of one expression of a program at most.
 use Rattle.std.proofs.Common.{◌≡◌, ◌∙◌, refl, sym, ap, Option, Some, None}
 use Rattle.std.specs.Option.{option_map}
+use Rattle.lemmas.proofs.Options.{some_same}
 use Rattle.boogie_tree.specs.Expr as t
 use Rattle.boogie_formula.specs.Formula as f
 use Rattle.boogie_formula.specs.Formula.{FExpr, FExprs}
@@ -50,21 +51,18 @@ abbrev mutual
   inject_all t.none = f.none
   inject_all (t.more a es) = f.more (inject a) (inject_all es)
 
-same_some : {X : Type 0} {x y : X} → Some x ≡ Some y → x ≡ y
-same_some h = cc
-
 one_part : (make : t.BExpr → t.BExpr) (form : FExpr → FExpr) (a : FExpr) {b : t.BExpr} → ((x : t.BExpr) → inject (make x) ≡ form (inject x)) →
     ((x : t.BExpr) → plain a ≡ Some x → inject x ≡ a) → option_map make (plain a) ≡ Some b → inject b ≡ form a
 one_part make form a is same h = let p = map_parts make (plain a) h in ap inject (sym p.2) ∙ is p.0 ∙ ap form (same p.0 p.1)
 
 mutual
   inject_plain : (e : FExpr) (b : t.BExpr) → plain e ≡ Some b → inject b ≡ e
-  inject_plain (f.Var i) b h = ap inject (sym (same_some h))
-  inject_plain (f.Int n) b h = ap inject (sym (same_some h))
-  inject_plain (f.Real n) b h = ap inject (sym (same_some h))
-  inject_plain (f.Bool p) b h = ap inject (sym (same_some h))
-  inject_plain f.Null b h = ap inject (sym (same_some h))
-  inject_plain f.Unit b h = ap inject (sym (same_some h))
+  inject_plain (f.Var i) b h = ap inject (sym (some_same h))
+  inject_plain (f.Int n) b h = ap inject (sym (some_same h))
+  inject_plain (f.Real n) b h = ap inject (sym (some_same h))
+  inject_plain (f.Bool p) b h = ap inject (sym (some_same h))
+  inject_plain f.Null b h = ap inject (sym (some_same h))
+  inject_plain f.Unit b h = ap inject (sym (some_same h))
   inject_plain (f.Neg a) b h = one_part t.Neg f.Neg a (λ x. refl) (inject_plain a) h
   inject_plain (f.Not a) b h = one_part t.Not f.Not a (λ x. refl) (inject_plain a) h
   inject_plain (f.Bin o x y) b h =
@@ -86,11 +84,11 @@ mutual
   inject_plain (f.At i es) b h =
       let p = map_parts (t.At i) (plain_all es) h in
       ap inject (sym p.2) ∙ ap (f.At i) (inject_plain_all es p.0 p.1)
-  inject_plain (f.AtBound i) b h = ap inject (sym (same_some h))
+  inject_plain (f.AtBound i) b h = ap inject (sym (some_same h))
   inject_plain (f.With m es e) b h = absurd (cc)
 
   inject_plain_all : (es : FExprs) (bs : t.BExprs) → plain_all es ≡ Some bs → inject_all bs ≡ es
-  inject_plain_all f.none bs h = ap inject_all (sym (same_some h))
+  inject_plain_all f.none bs h = ap inject_all (sym (some_same h))
   inject_plain_all (f.more a es) bs h =
       let p = two_parts t.more (plain a) (plain_all es) h in
       ap inject_all (sym p.4) ∙ ap (λ z. f.more z (inject_all p.1)) (inject_plain a p.0 p.2) ∙ ap (f.more a) (inject_plain_all es p.1 p.3)

@@ -1,10 +1,11 @@
 -- What calls that write one after the other have written together.
 use Rattle.std.proofs.Common.{◌≡◌, ◌∙◌, ◌++◌, ◌<◌, ◌≤◌, ◌+◌, sym, ap, ℕ, suc, List, [], ◌∷◌, length, get_or, drop, codes, add-one, append_assoc, drop-cons}
 use Rattle.std.proofs.lemmas.List.{append-nil, at_drop_all}
+use Rattle.lemmas.proofs.Lists.{in_front}
 use Rattle.boogie_tree.specs.declared.exprs.BBase.{BBase}
 use Rattle.boogie_grammar.specs.Printed as text
 use Rattle.boogie_grammar.specs.Printed.{Naming, binders_text}
-use Rattle.boogie_text.proofs.PutLaws.{two_steps}
+use Rattle.boogie_print.proofs.PutLaws.{two_steps}
 use Rattle.boogie_formula.specs.Formula as f
 use Rattle.boogie_formula.specs.View.{fexpr_of, fexprs_of}
 use Rattle.boogie_formula.specs.declared.formulas.FExpr as e
@@ -34,9 +35,6 @@ forall_steps x us a o u v w {named = named} {names = names} h i same j k same_bo
     ∙ ap (λ y. o ++ u ++ binders_text [] (text.bound_names x.taken [] us) us ++ v ++ fexpr_text (record { locals = x.locals; taken = x.taken; bound = y }) a) same_bound)
 
 -- a list of expressions
-
-in_front : (o u a v : List ℕ) → o ++ u ++ a ++ v ≡ o ++ (u ++ a ++ v)
-in_front o u a v = ap (λ x. x ++ v) (append_assoc o u a) ∙ append_assoc o (u ++ a) v
 
 pub one_more_put : (x : Naming) (es : List e.FExpr) (i : ℕ) (a : e.FExpr) (o before : List ℕ) {n : List ℕ} → i < length es → a ≡ get_or es i a → n ≡ o ++ before ++ fexpr_text x (fexpr_of a) →
     n ++ fexprs_text x (codes ", ") (fexprs_of (drop (i + 1) es)) ≡ o ++ fexprs_text x before (fexprs_of (drop i es))

@@ -7,14 +7,16 @@ use Rattle.std.specs.Option.{option_map}
 use Rattle.std.specs.Str.{bytes_eq}
 use Rattle.std.proofs.lemmas.Bool.{or_from, and_parts, cond-true, cond-false, both_ways, cases_lt}
 use Rattle.std.proofs.lemmas.Fmt.{decimal_injective, decimal_is_IsNumeral_wide}
+use Rattle.lemmas.proofs.Bytes.{same_itself as equal}
+use Rattle.lemmas.proofs.Lists.{same_rest}
 use Rattle.vb_base.proofs.Numbers.{digits, all_digits}
 use Rattle.vb_base.specs.Names.{is_name}
 use Rattle.boogie_grammar.specs.Printed.{bound_name, name_at}
 use Rattle.boogie_grammar.specs.Tests.{number_of}
 use Rattle.boogie_grammar.specs.Words.{is_among, is_reserved}
 use Rattle.boogie_grammar.proofs.WrittenRows.{bound_form}
-use Rattle.boogie_text.proofs.ExprShown.{Ready}
-use Rattle.boogie_text.proofs.VarLaws.{IsVar, equal, unequal}
+use Rattle.boogie_print.proofs.ExprShown.{Ready}
+use Rattle.boogie_print.proofs.VarLaws.{IsVar, unequal}
 use Rattle.formula_text.specs.Names.{variable_name, definition_name, numbered, names_in_scope}
 use Rattle.formula_text.specs.Printed.{scope_naming}
 use Rattle.formula_text.specs.Spells.{IsDefinition}
@@ -60,26 +62,23 @@ no_letter b ds bs all miss e =
     let whole : list_all is_ascii_digit (b ∷ bs) ≡ true = subst (λ x. list_all is_ascii_digit x ≡ true) e all in
     both_ways (is_ascii_digit b) miss (and_parts (is_ascii_digit b) (list_all is_ascii_digit bs) whole).0
 
-same_tail : {x : ℕ} {xs ys : List ℕ} → x ∷ xs ≡ x ∷ ys → xs ≡ ys
-same_tail h = cc
-
 variable_free : (k : ℕ) → k < 2 ^ 64 → is_reserved (variable_name k) ≡ false
 variable_free k lt =
-    or_from _ _ (unequal (variable_name k) (codes "var") (λ e. no_letter 97 (decimal k) (codes "r") (digits_only k (omega (arith, lt))) refl (same_tail e))) refl
+    or_from _ _ (unequal (variable_name k) (codes "var") (λ e. no_letter 97 (decimal k) (codes "r") (digits_only k (omega (arith, lt))) refl (same_rest e))) refl
 
 definition_free : (k : ℕ) → k < 2 ^ 64 → is_reserved (definition_name k) ≡ false
 definition_free k lt =
-    or_from _ _ (unequal (definition_name k) (codes "div") (λ e. no_letter 105 (decimal k) (codes "v") (digits_only k (omega (arith, lt))) refl (same_tail e))) refl
+    or_from _ _ (unequal (definition_name k) (codes "div") (λ e. no_letter 105 (decimal k) (codes "v") (digits_only k (omega (arith, lt))) refl (same_rest e))) refl
 
 -- a way to name that names each number in a way of its own
 record Names (name : ℕ → List ℕ) : Type 0 where
   differ : (j k : ℕ) → j < 2 ^ 64 → k < 2 ^ 64 → name j ≡ name k → j ≡ k
 
 variables : Names variable_name
-variables = record { differ = λ j k lt le e. decimal_injective j k lt le (same_tail e) }
+variables = record { differ = λ j k lt le e. decimal_injective j k lt le (same_rest e) }
 
 definitions : Names definition_name
-definitions = record { differ = λ j k lt le e. decimal_injective j k lt le (same_tail e) }
+definitions = record { differ = λ j k lt le e. decimal_injective j k lt le (same_rest e) }
 
 number_in : (name : ℕ → List ℕ) → Names name → (n k i : ℕ) (more : List (List ℕ)) → i < n → k + n < 2 ^ 64 →
     number_of (name (i + k)) (numbered name k n ++ more) ≡ Some i

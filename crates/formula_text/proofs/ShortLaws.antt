@@ -3,17 +3,14 @@ use Rattle.std.proofs.Common.{◌<◌, ◌^◌, arith, List, [], ◌∷◌, leng
 use Rattle.std.proofs.lemmas.List.{length-map}
 use Rattle.std.specs.declared.alloc.Global.{Global}
 use Rattle.std.specs.declared.vec.Vec.{Vec}
+use Rattle.boogie_print.proofs.ShortLaws.{few_bases}
 use Rattle.boogie_tree.specs.Whole.{type_of}
-use Rattle.boogie_tree.specs.declared.exprs.BBase.{BBase}
 use Rattle.boogie_tree.specs.declared.programs.BType.{BType}
 use Rattle.boogie_formula.specs.View.{conditions_of, fexpr_of, fexpr_row, formula_of}
 use Rattle.boogie_formula.specs.declared.formulas.FExpr as expr
 use Rattle.boogie_formula.specs.declared.formulas.Conditions.{Conditions}
 use Rattle.boogie_formula.specs.declared.formulas.Formula.{Formula}
 use Rattle.formula_text.specs.Short.{ShortFExpr, ShortFExprs, ShortLets, AreShortConditions, IsShortFormula}
-
-few_bases : (v : Vec BBase Global) → length v.items < 2 ^ 63
-few_bases v = omega arith
 
 few_types : (v : Vec BType Global) → length v.items < 2 ^ 63
 few_types v = omega arith

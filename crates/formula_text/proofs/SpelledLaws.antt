@@ -1,7 +1,6 @@
 -- What is spelled can be printed, a formula as well as conditions.
 use Rattle.std.proofs.Common.{◌≡◌, ◌∙◌, refl, ap, subst, arith, ℕ, zero, suc, ◌+◌, ◌<◌, ◌≤◌, Bool, true, false, if◌then◌else◌, All, List, [], ◌∷◌, ◌++◌, Some, length, length-append}
 use Rattle.std.specs.Option.{option_map}
-use Rattle.std.specs.Str.{bytes_eq}
 use Rattle.std.proofs.lemmas.List.Elements.{All-nil, All-cons, All-weaker}
 use Rattle.vb_base.specs.declared.labels.Label.{Label}
 use Rattle.boogie_tree.specs.Expr as t
@@ -12,9 +11,8 @@ use Rattle.boogie_grammar.specs.Grammar.{TypeOf}
 use Rattle.boogie_grammar.specs.Tests.{number_of}
 use Rattle.boogie_grammar.specs.declared.tokens.PlacedLexeme.{PlacedLexeme}
 use Rattle.boogie_meaning.specs.Programs.{HaveKeys}
-use Rattle.boogie_text.specs.Printable.{IsFreeName}
-use Rattle.boogie_text.specs.StmtView.{no_bound}
-use Rattle.boogie_text.proofs.SpelledLaws.{AllProper, Gives, front_proper, back_proper, row_proper, variable_within, all_keep, keeps}
+use Rattle.boogie_print.specs.Printable.{IsFreeName}
+use Rattle.boogie_print.proofs.SpelledLaws.{AllProper, Gives, front_proper, back_proper, row_proper, variable_within, all_keep, keeps, number_within}
 use Rattle.boogie_formula.specs.Formula.{FExpr, FExprs, none, more, Formula, Conditions}
 use Rattle.boogie_formula.specs.declared.formulas.Fail.{Fail}
 use Rattle.boogie_formula.specs.Printable as fits
@@ -27,7 +25,7 @@ use Rattle.formula_text.proofs.PlainLaws.{map_parts}
 
 scalar_fits : {names : List (List ℕ)} {ts : List PlacedLexeme} {e : FExpr} → SpellsScalar names ts e → AllProper ts → FitsScalar (length names) e
 scalar_fits {names = names} h proper =
-    let x = no_bound names in
+    let x = g.outside names in
     record { tree = h.tree; is = h.is; fits = keeps (Gives (g.Expr x)) h.derived (all_keep (g.Expr x) tt) proper }
 
 some_trees : {b : t.BExpr} {bs : t.BExprs} → t.more b bs ≡ t.none → ⊥
@@ -128,10 +126,6 @@ within_first x ys i false h f =
     let e : suc p.0 ≡ i = p.2 in
     omega (arith, lt, e)
 
-is_within : (x : List ℕ) (names : List (List ℕ)) (i : ℕ) → number_of x names ≡ Some i → i < length names
-is_within x [] i h = absurd (cc)
-is_within x (y ∷ ys) i h = within_first x ys i (bytes_eq x y) h (λ j e. is_within x ys j e)
-
 record Within (n m : ℕ) (a : Fail) : Type 0 where
   behind : n ≤ a.name
   there : a.name < m
@@ -139,7 +133,7 @@ record Within (n m : ℕ) (a : Fail) : Type 0 where
 fails_fit : (n k : ℕ) {bytes : List ℕ} {fs : List Fail} → SpellsFails n k bytes fs → All (Within n (n + k)) fs
 fails_fit n k s.done = All-nil (Within n (n + k))
 fails_fit n k (s.fail {word = word} {a = a} {fs = fs} h rest) =
-    let lt = is_within word (numbered definition_name 1 k) h.place h.is_there in
+    let lt = number_within word (numbered definition_name 1 k) h.place h.is_there in
     let long = so_many definition_name 1 k in
     let is = h.is in
     All-cons (Within n (n + k)) a fs (record { behind = omega (arith, is); there = omega (arith, is, lt, long) }) (fails_fit n k rest)

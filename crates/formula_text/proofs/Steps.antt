@@ -13,9 +13,8 @@ use Rattle.boogie_grammar.specs.Greedy.{IsNot, Reads, Starts, given, needed, tak
 use Rattle.boogie_grammar.specs.Tests as v
 use Rattle.boogie_grammar.specs.Tests.{Kind, Value, Test, Passes, IsVariable, the_sign, the_word, a_number, a_real, a_variable, some_free}
 use Rattle.boogie_grammar.proofs.Elements.{laws}
-use Rattle.boogie_text.specs.StmtView.{no_bound}
-use Rattle.boogie_text.proofs.Codes.{codes}
-use Rattle.boogie_text.proofs.Complete.{right, by_where}
+use Rattle.boogie_print.proofs.Codes.{codes}
+use Rattle.boogie_print.proofs.Complete.{right, by_where}
 
 -- ---- one step of any rule
 
@@ -79,7 +78,7 @@ not_by {b = b} {d = d} {r = r} {s = s} c e {x = x} p h = record {
 -- ---- expressions
 
 abbrev pub ReadsExpr : List (List ℕ) → List PlacedLexeme → t.BExpr → List PlacedLexeme → Type 0
-ReadsExpr names ts e us = Reads v.expr (rule (g.Expr (no_bound names))) ts e us
+ReadsExpr names ts e us = Reads v.expr (rule (g.Expr (g.outside names))) ts e us
 
 -- no literal and no word is next
 others_read : {b : Bool} {r : Kind} (y : g.Scope) (c : Test b r) {others : Rule v.expr} {ts us vs : List PlacedLexeme} {z : Value r} {e : t.BExpr} → Starts c ts z us →
@@ -106,9 +105,9 @@ others_read y c p h1 h2 h3 h4 h5 h6 h7 h8 h9 h10 h11 h12 r =
 
 -- after a `(`
 pub parens_read : (names : List (List ℕ)) {ts us vs : List PlacedLexeme} {e : t.BExpr} → Starts (the_sign sign.OpenParen) ts tt us → ReadsExpr names ts e vs →
-    Reads v.expr (rule (g.InParens (no_bound names))) us e vs
+    Reads v.expr (rule (g.InParens (g.outside names))) us e vs
 parens_read names {ts = ts} {us = us} {vs = vs} {e = e} p h =
-    let y = no_bound names in
+    let y = g.outside names in
     let c = the_sign sign.OpenParen in
     by_where (λ r. Reads v.expr r ts e vs → Reads v.expr (rule (g.InParens y)) us e vs) (some_free names)
     (λ some. when (a_variable names some) (λ i. g.named y i) (g.in_parens y)) (g.in_parens y)
@@ -117,11 +116,11 @@ parens_read names {ts = ts} {us = us} {vs = vs} {e = e} p h =
 
 -- after `(if`
 abbrev pub choosing : List (List ℕ) → Rule v.expr
-choosing names = read (g.Expr (no_bound names)) (λ a. g.after_word w.Then (read (g.Expr (no_bound names)) (λ b. g.after_word w.Else
-    (read (g.Expr (no_bound names)) (λ c. g.after_sign sign.CloseParen (give (t.If a b c)))))))
+choosing names = read (g.Expr (g.outside names)) (λ a. g.after_word w.Then (read (g.Expr (g.outside names)) (λ b. g.after_word w.Else
+    (read (g.Expr (g.outside names)) (λ c. g.after_sign sign.CloseParen (give (t.If a b c)))))))
 
 pub if_read : (names : List (List ℕ)) {ts us vs : List PlacedLexeme} {e : t.BExpr} → Starts (the_word w.If) ts tt us →
-    Reads v.expr (rule (g.InParens (no_bound names))) ts e vs → Reads v.expr (choosing names) us e vs
+    Reads v.expr (rule (g.InParens (g.outside names))) ts e vs → Reads v.expr (choosing names) us e vs
 if_read names p h =
     let h = pass_read h (not_by (the_word w.If) (the_sign sign.Minus) p refl) in
     let h = pass_read h (not_by (the_word w.If) (the_sign sign.Not) p refl) in
@@ -130,9 +129,9 @@ if_read names p h =
 -- after the name of a map and `[`
 pub at_read : (names : List (List ℕ)) {i : ℕ} {k : PlacedLexeme} {ts us vs : List PlacedLexeme} {e : t.BExpr} → IsVariable names k.tok i →
     some_free names ≡ true → Starts (the_sign sign.OpenBracket) ts tt us → ReadsExpr names (k ∷ ts) e vs →
-    Reads v.expr (g.at_indices (no_bound names) i) us e vs
+    Reads v.expr (g.at_indices (g.outside names) i) us e vs
 at_read names {i = i} {k = k} {ts = ts} {us = us} {vs = vs} {e = e} is free p h =
-    let y = no_bound names in
+    let y = g.outside names in
     let start : (some : some_free names ≡ true) → Starts (a_variable names some) (k ∷ ts) i ts = λ some. next (a_variable names some) is in
     by_where (λ r. Reads v.expr r (k ∷ ts) e vs → Reads v.expr (g.at_indices y i) us e vs) (some_free names)
     (λ some. when (a_variable names some) (λ j. g.named y j) (g.in_parens y)) (g.in_parens y)

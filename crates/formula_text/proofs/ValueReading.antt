@@ -18,10 +18,9 @@ use Rattle.boogie_grammar.specs.Tests as v
 use Rattle.boogie_grammar.specs.Tests.{IsVariable, some_free, the_sign, the_word, a_variable}
 use Rattle.boogie_grammar.proofs.Elements.{laws}
 use Rattle.boogie_grammar.proofs.NameLaws.{there, free_among}
-use Rattle.boogie_text.specs.StmtView.{no_bound}
-use Rattle.boogie_text.proofs.AlikeLaws.{Alike, nil, cons, split_of, derives_alike}
-use Rattle.boogie_text.proofs.Codes.{code, signs, ext_codes, table}
-use Rattle.boogie_text.proofs.Complete.{good}
+use Rattle.boogie_print.proofs.AlikeLaws.{Alike, nil, cons, split_of, derives_alike}
+use Rattle.boogie_print.proofs.Codes.{code, signs, ext_codes, table}
+use Rattle.boogie_print.proofs.Complete.{good}
 use Rattle.boogie_formula.specs.Formula as f
 use Rattle.boogie_formula.specs.Formula.{FExpr, FExprs}
 use Rattle.boogie_formula.specs.Value.{plain, three}
@@ -80,13 +79,13 @@ one_keys {names} (before {us = us} {vs = vs} {e = d} {es = ds} h p c r) (before 
 
 -- keys in front of `:=` are no index list
 no_index_list : (names : List (List ℕ)) {ts us vs ws : List PlacedLexeme} {es : FExprs} {k : PlacedLexeme} {as' : List PlacedLexeme} {a : t.BExpr} {l m : List t.BExpr} → ReadsKeys names ts es us → us ≡ k ∷ as' →
-    k.tok ≡ tok.Sign sign.Assign → ReadsExpr names ts a vs → Reads v.exprs (rule (g.MoreExprs (no_bound names) l)) vs m ws → ⊥
+    k.tok ≡ tok.Sign sign.Assign → ReadsExpr names ts a vs → Reads v.exprs (rule (g.MoreExprs (g.outside names) l)) vs m ws → ⊥
 no_index_list names {ws = ws} {k = k} {as' = as'} {l = l} {m = m} (last h p) e is i r =
     let at = next (the_sign sign.Assign) {us = as'} is in
-    let r = subst (λ z. Reads v.exprs (rule (g.MoreExprs (no_bound names) l)) z m ws) (sym (one_expr h i).1 ∙ e) r in
+    let r = subst (λ z. Reads v.exprs (rule (g.MoreExprs (g.outside names) l)) z m ws) (sym (one_expr h i).1 ∙ e) r in
     no_need (pass_read r (not_by (the_sign sign.Assign) (the_sign sign.Comma) at refl)) (not_by (the_sign sign.Assign) (the_sign sign.CloseBracket) at refl)
 no_index_list names {ws = ws} {l = l} {m = m} (before {us = us} h p c more) e is i r =
-    let r = subst (λ z. Reads v.exprs (rule (g.MoreExprs (no_bound names) l)) z m ws) (sym (one_expr h i).1) r in
+    let r = subst (λ z. Reads v.exprs (rule (g.MoreExprs (g.outside names) l)) z m ws) (sym (one_expr h i).1) r in
     let part = part_read (take_read r (next (the_sign sign.Comma) {us = us} c)) in
     no_index_list names {l = l ++ (part.value ∷ [])} more e is part.first (last_read part.second)
 
@@ -113,7 +112,7 @@ agree names {vs = ws} {b = e} (choice {us = us} {vs = vs} {zs = zs} {word_then =
     let r = if_read names (next (the_word w.If) is) (parens_read names (next (the_sign sign.OpenParen) o) i) in
     let part = part_read (need_read (read_on r h) (next (the_word w.Then) then_is)) in
     let one = agree names first part.first in
-    let At : List PlacedLexeme → Type 0 = λ l. Reads v.expr (g.after_word w.Else (read (g.Expr (no_bound names)) (λ z. g.after_sign sign.CloseParen (give (t.If b part.value z))))) l e ws in
+    let At : List PlacedLexeme → Type 0 = λ l. Reads v.expr (g.after_word w.Else (read (g.Expr (g.outside names)) (λ z. g.after_sign sign.CloseParen (give (t.If b part.value z))))) l e ws in
     let rest = part_read (need_read (subst At (sym one.1) part.second) (next (the_word w.Else) else_is)) in
     let two = agree names second rest.first in
     let Of : List PlacedLexeme → Type 0 = λ l. Reads v.expr (g.after_sign sign.CloseParen (give (t.If b part.value rest.value))) l e ws in
@@ -163,7 +162,7 @@ calm {k = k} x is other b = record {
 
 scalar_reads : {names : List (List ℕ)} {ts us : List PlacedLexeme} {e : FExpr} (h : SpellsScalar names ts e) → Calm us → ReadsExpr names (ts ++ us) h.tree us
 scalar_reads {names = names} {us = us} h free =
-    reads_all rules table (λ s a. good a) (λ x k. among (code k.tok) (ext_codes (g.Expr (no_bound names))) ≡ true) (good (g.Expr (no_bound names))) h.derived us (free h.tree)
+    reads_all rules table (λ s a. good a) (λ x k. among (code k.tok) (ext_codes (g.Expr (g.outside names))) ≡ true) (good (g.Expr (g.outside names))) h.derived us (free h.tree)
 
 keys_read : {names : List (List ℕ)} {ts us : List PlacedLexeme} {es : FExprs} → SpellsKeys names ts es → Calm us → ReadsKeys names (ts ++ us) es us
 keys_read (s.last h) free = last (scalar_reads h free) h.is

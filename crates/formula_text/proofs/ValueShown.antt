@@ -1,6 +1,7 @@
 -- What is written for a definition spells it.
 use Rattle.std.proofs.Common.{◌≡◌, ◌∙◌, refl, sym, ap, subst, ℕ, ◌+◌, ◌^◌, ◌<◌, false, List, [], ◌∷◌, ◌++◌, Some, codes, append_assoc, append-nil}
 use Rattle.std.specs.Option.{option_map}
+use Rattle.lemmas.proofs.Options.{some_same}
 use Rattle.boogie_tree.specs.Expr as t
 use Rattle.boogie_tree.specs.Fits.{FitExprs}
 use Rattle.boogie_grammar.specs.Cut.{IsRow, none}
@@ -11,9 +12,9 @@ use Rattle.boogie_grammar.specs.declared.tokens.Lexeme.TheVariants as tok
 use Rattle.boogie_grammar.specs.declared.tokens.PlacedLexeme.{PlacedLexeme}
 use Rattle.boogie_grammar.specs.declared.tokens.Word.TheVariants as w
 use Rattle.boogie_grammar.proofs.WrittenRows.{at_start, Ends, name_row, free_row, blank_row, open_row, close_row, bracket_row, end_row, comma_row, assign_row}
-use Rattle.boogie_text.specs.Short.{ShortExpr, ShortExprs}
-use Rattle.boogie_text.proofs.ExprShown.{ends, expr_shown}
-use Rattle.boogie_text.proofs.VarLaws.{IsVar}
+use Rattle.boogie_print.specs.Short.{ShortExpr, ShortExprs}
+use Rattle.boogie_print.proofs.ExprShown.{ends, expr_shown}
+use Rattle.boogie_print.proofs.VarLaws.{IsVar}
 use Rattle.boogie_formula.specs.Formula as f
 use Rattle.boogie_formula.specs.Formula.{FExpr, FExprs}
 use Rattle.boogie_formula.specs.Printable as fits
@@ -30,9 +31,6 @@ use Rattle.formula_text.proofs.ScopeNames.{ready}
 
 -- ---- the text of an expression of a program
 
-same_some : {X : Type 0} {x y : X} → Some x ≡ Some y → x ≡ y
-same_some h = cc
-
 wrapped : (x : Naming) (make : t.BExpr → t.BExpr) (front : List ℕ) (a : FExpr) {b : t.BExpr} →
     ((d : t.BExpr) → expr_text x (make d) ≡ front ++ expr_text x d ++ codes ")") → ((d : t.BExpr) → plain a ≡ Some d → fexpr_text x a ≡ expr_text x d) →
     option_map make (plain a) ≡ Some b → front ++ fexpr_text x a ++ codes ")" ≡ expr_text x b
@@ -42,12 +40,12 @@ wrapped x make front a is same h =
 
 mutual
   text_plain : (x : Naming) (e : FExpr) (b : t.BExpr) → plain e ≡ Some b → fexpr_text x e ≡ expr_text x b
-  text_plain x (f.Var i) b h = ap (expr_text x) (same_some h)
-  text_plain x (f.Int n) b h = ap (expr_text x) (same_some h)
-  text_plain x (f.Real n) b h = ap (expr_text x) (same_some h)
-  text_plain x (f.Bool p) b h = ap (expr_text x) (same_some h)
-  text_plain x f.Null b h = ap (expr_text x) (same_some h)
-  text_plain x f.Unit b h = ap (expr_text x) (same_some h)
+  text_plain x (f.Var i) b h = ap (expr_text x) (some_same h)
+  text_plain x (f.Int n) b h = ap (expr_text x) (some_same h)
+  text_plain x (f.Real n) b h = ap (expr_text x) (some_same h)
+  text_plain x (f.Bool p) b h = ap (expr_text x) (some_same h)
+  text_plain x f.Null b h = ap (expr_text x) (some_same h)
+  text_plain x f.Unit b h = ap (expr_text x) (some_same h)
   text_plain x (f.Neg a) b h = wrapped x t.Neg (codes "(- ") a (λ d. refl) (text_plain x a) h
   text_plain x (f.Not a) b h = wrapped x t.Not (codes "(! ") a (λ d. refl) (text_plain x a) h
   text_plain x (f.Bin o a d) b h =
@@ -74,11 +72,11 @@ mutual
   text_plain x (f.At i es) b h =
       let p = map_parts (t.At i) (plain_all es) h in
       ap (λ z. name_at x.locals i ++ codes "[" ++ z ++ codes "]") (texts_plain x [] es p.0 p.1) ∙ ap (expr_text x) p.2
-  text_plain x (f.AtBound i) b h = ap (expr_text x) (same_some h)
+  text_plain x (f.AtBound i) b h = ap (expr_text x) (some_same h)
   text_plain x (f.With m es e) b h = absurd (cc)
 
   texts_plain : (x : Naming) (before : List ℕ) (es : FExprs) (bs : t.BExprs) → plain_all es ≡ Some bs → fexprs_text x before es ≡ exprs_text x before bs
-  texts_plain x before f.none bs h = ap (exprs_text x before) (same_some h)
+  texts_plain x before f.none bs h = ap (exprs_text x before) (some_same h)
   texts_plain x before (f.more a es) bs h =
       let p = two_parts t.more (plain a) (plain_all es) h in
       ap (λ z. before ++ z ++ fexprs_text x (codes ", ") es) (text_plain x a p.0 p.2) ∙
@@ -92,12 +90,12 @@ one_short make a is short h = let p = map_parts make (plain a) h in subst ShortE
 
 mutual
   short_plain : (e : FExpr) (b : t.BExpr) → ShortFExpr e → plain e ≡ Some b → ShortExpr b
-  short_plain (f.Var i) b s h = subst ShortExpr (same_some h) tt
-  short_plain (f.Int n) b s h = subst ShortExpr (same_some h) tt
-  short_plain (f.Real n) b s h = subst ShortExpr (same_some h) tt
-  short_plain (f.Bool p) b s h = subst ShortExpr (same_some h) tt
-  short_plain f.Null b s h = subst ShortExpr (same_some h) tt
-  short_plain f.Unit b s h = subst ShortExpr (same_some h) tt
+  short_plain (f.Var i) b s h = subst ShortExpr (some_same h) tt
+  short_plain (f.Int n) b s h = subst ShortExpr (some_same h) tt
+  short_plain (f.Real n) b s h = subst ShortExpr (some_same h) tt
+  short_plain (f.Bool p) b s h = subst ShortExpr (some_same h) tt
+  short_plain f.Null b s h = subst ShortExpr (some_same h) tt
+  short_plain f.Unit b s h = subst ShortExpr (some_same h) tt
   short_plain (f.Neg a) b s h = one_short t.Neg a (λ d k. k) (λ d k. short_plain a d s k) h
   short_plain (f.Not a) b s h = one_short t.Not a (λ d k. k) (λ d k. short_plain a d s k) h
   short_plain (f.Bin o a d) b s h =
@@ -118,11 +116,11 @@ mutual
   short_plain (f.At i es) b s h =
       let p = map_parts (t.At i) (plain_all es) h in
       subst ShortExpr p.2 (shorts_plain es p.0 s p.1)
-  short_plain (f.AtBound i) b s h = subst ShortExpr (same_some h) tt
+  short_plain (f.AtBound i) b s h = subst ShortExpr (some_same h) tt
   short_plain (f.With m es e) b s h = absurd (cc)
 
   shorts_plain : (es : FExprs) (bs : t.BExprs) → ShortFExprs es → plain_all es ≡ Some bs → ShortExprs bs
-  shorts_plain f.none bs s h = subst ShortExprs (same_some h) tt
+  shorts_plain f.none bs s h = subst ShortExprs (some_same h) tt
   shorts_plain (f.more a es) bs s h =
       let p = two_parts t.more (plain a) (plain_all es) h in
       subst ShortExprs p.4 (short_plain a p.0 s.0 p.2, shorts_plain es p.1 s.1 p.3)
@@ -256,7 +254,7 @@ as_value n k e h = record { tokens = h.tokens; spelled = s.scalar h.spelled; row
 
 some_keys : (n k : ℕ) → Few n k → (es : FExprs) → FitKeys (n + k) es → ShortFExprs es →
     Spaced (SpellsKeys (names_in_scope n k)) (fexprs_text (scope_naming n k) [] es) es
-some_keys n k few f.none h s = absurd (h.some (sym (same_some h.is)))
+some_keys n k few f.none h s = absurd (h.some (sym (some_same h.is)))
 some_keys n k few (f.more a es) h s =
     let p = two_parts t.more (plain a) (plain_all es) h.is in
     let fits : FitExprs (n + k) false (t.more p.0 p.1) = subst (FitExprs (n + k) false) (sym p.4) h.fits in

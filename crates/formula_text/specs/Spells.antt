@@ -12,7 +12,7 @@ use Rattle.grammar.specs.Spells.{Derives}
 use Rattle.boogie_tree.specs.Expr as t
 use Rattle.boogie_tree.specs.Program.{BType}
 use Rattle.boogie_grammar.specs.Cut.{IsRow}
-use Rattle.boogie_grammar.specs.Grammar.{Expr, TypeOf, rule, rules}
+use Rattle.boogie_grammar.specs.Grammar.{Expr, TypeOf, outside, rule, rules}
 use Rattle.boogie_grammar.specs.Pieces.{is_in_line}
 use Rattle.boogie_grammar.specs.Tests.{a_type, expr, number_of, IsVariable}
 use Rattle.boogie_grammar.specs.Words.{word_tok}
@@ -20,8 +20,7 @@ use Rattle.boogie_grammar.specs.declared.tokens.BSign.TheVariants as sign
 use Rattle.boogie_grammar.specs.declared.tokens.Lexeme.TheVariants as tok
 use Rattle.boogie_grammar.specs.declared.tokens.PlacedLexeme.{PlacedLexeme}
 use Rattle.boogie_grammar.specs.declared.tokens.Word.TheVariants as w
-use Rattle.boogie_text.specs.Printable.{IsFreeName}
-use Rattle.boogie_text.specs.StmtView.{no_bound}
+use Rattle.boogie_print.specs.Printable.{IsFreeName}
 use Rattle.boogie_formula.specs.Formula.{FExpr, If, With, FExprs, none, more, Formula, Conditions}
 use Rattle.boogie_formula.specs.Value.{plain}
 use Rattle.boogie_formula.specs.declared.formulas.Fail.{Fail}
@@ -32,7 +31,7 @@ use Rattle.formula_text.specs.Names.{variable_name, definition_name, numbered, n
 -- the tokens spell an expression of a program
 pub record SpellsScalar (names : List (List ℕ)) (ts : List PlacedLexeme) (e : FExpr) : Type 0 where
   pub tree : t.BExpr
-  pub derived : Derives rules expr (rule (Expr (no_bound names))) ts tree
+  pub derived : Derives rules expr (rule (Expr (outside names))) ts tree
   pub is : plain e ≡ Some tree
 
 -- bexpr { "," bexpr }

@@ -1,7 +1,7 @@
 // Laws of the text, each the contract of a function with nothing to do.
 ghost use Rattle.std.specs.Prelude.{◌≡◌, ℕ, List};
 ghost use Rattle.vb_base.specs.declared.labels.Label.{Label};
-ghost use Rattle.boogie_text.specs.Printable.{IsFreeName};
+ghost use Rattle.boogie_print.specs.Printable.{IsFreeName};
 ghost use Rattle.boogie_formula.specs.Formula.{Conditions, Formula};
 ghost use Rattle.boogie_formula.specs.Printable.{IsPrintableConditions, IsPrintableFormula};
 ghost use Rattle.formula_text.specs.Printed.{conditions_text, formula_text};

@@ -3,7 +3,7 @@ ghost use Rattle.std.specs.Prelude.{◌≡◌, ◌+◌, ◌++◌, ℕ, List, OnO
 ghost use Rattle.vb_base.specs.Labels.{text_of};
 ghost use Rattle.boogie_tree.specs.Whole.{type_of};
 ghost use Rattle.boogie_grammar.specs.Printed.{name_at, type_text};
-ghost use Rattle.boogie_text.specs.Printable.{IsFreeName};
+ghost use Rattle.boogie_print.specs.Printable.{IsFreeName};
 ghost use Rattle.boogie_formula.specs.Formula as formulas;
 ghost use Rattle.boogie_formula.specs.Printable.{IsPrintableConditions, IsPrintableFormula};
 ghost use Rattle.boogie_formula.specs.View.{conditions_of, fexpr_of, formula_of};
@@ -15,7 +15,7 @@ ghost use Rattle.formula_text.specs.View.{naming_of};
 use crate::put_exprs::put_between;
 use crate::scopes::{Scope, put_definition, put_name, put_variable};
 use boogie_formula::{Conditions, FExpr, Fail, Formula};
-use boogie_text::put_type;
+use boogie_print::put_type;
 use boogie_tree::BType;
 use std::alloc::Global;
 use vb_base::{Ident, Label, Memory, label_text, put};

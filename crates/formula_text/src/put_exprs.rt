@@ -8,7 +8,7 @@ ghost use Rattle.formula_text.specs.View.{naming_of};
 use crate::scopes::{Scope, put_name};
 use boogie_formula::FExpr;
 use boogie_grammar::naming::bound_names;
-use boogie_text::{put_binders, put_names, put_number, put_operator, put_real, truth_text};
+use boogie_print::{put_binders, put_names, put_number, put_operator, put_real, truth_text};
 use boogie_tree::BBase;
 use std::alloc::Global;
 use vb_base::{Memory, put};

@@ -6,7 +6,8 @@ use Rattle.grammar.specs.Spells.{Derives}
 use Rattle.grammar.specs.Greedy.{IsNot, Reads, given, needed, taken, passed, called, Fails}
 use Rattle.grammar.specs.Whole.{IsSpelled, FailsWhole, GoesWrong}
 use Rattle.grammar.proofs.Laws.{Laws}
-use Rattle.grammar.proofs.Reading.{derivation, fails_needed, fails_taken, fails_passed, fails_called, fails_in, fails_here, start}
+use Rattle.grammar.proofs.Reading.{derivation, Failing, failing}
+use Rattle.grammar.proofs.Steps.{steps}
 use Rattle.grammar.proofs.Whole.{place_of, none_spelled, left_over, spelled, whole_fails}
 
 -- whether a token passes a test
@@ -57,31 +58,34 @@ pub record HasAnswers {A : Alphabet} (rule : Rules A) (ranks : Ranks A) : Type 0
   pub falls : (s : A.Kind) (a : A.Symbol s) → Falls ranks (ranks.rank s a) s (rule s a)
 
 module _ {A : Alphabet} (rule : Rules A) (laws : Laws rule) (ranks : Ranks A) (has : HasAnswers rule ranks) where
+  open failing laws use {fails_needed, fails_taken, fails_passed, fails_called, fails_in, fails_here}
+  open steps laws use {start}
+
   pub next : {b : Bool} {r : A.Kind} (c : A.Test b r) (ts : List A.Token) → Next A c ts
   next c [] = is_not (record { none = λ v us q. absurd (cc (q.is)) })
   next c (k ∷ ts) = next_is ts (has.try_token _ _ c k)
 
   needed_as : {r s : A.Kind} {c : A.Test true r} {go : A.Value r → Rule A s} {ts us : List A.Token} {v : A.Value r} → Starts A c ts v us → Answer rule s (go v) us → Answer rule s (need c go) ts
   needed_as p (reads x vs h) = reads x vs (needed p h)
-  needed_as p (goes_wrong z f) = goes_wrong z (fails_needed rule laws p f)
+  needed_as p (goes_wrong z f) = goes_wrong z (fails_needed p f)
 
   taken_as : {b : Bool} {r s : A.Kind} {c : A.Test b r} {go : A.Value r → Rule A s} {other : Rule A s} {ts us : List A.Token} {v : A.Value r} →
       Starts A c ts v us → Answer rule s (go v) us → Answer rule s (when c go other) ts
   taken_as p (reads x vs h) = reads x vs (taken p h)
-  taken_as p (goes_wrong z f) = goes_wrong z (fails_taken rule laws p f)
+  taken_as p (goes_wrong z f) = goes_wrong z (fails_taken p f)
 
   passed_as : {b : Bool} {r s : A.Kind} {c : A.Test b r} {go : A.Value r → Rule A s} {other : Rule A s} {ts : List A.Token} → IsNot A c ts → Answer rule s other ts → Answer rule s (when c go other) ts
   passed_as n (reads x vs h) = reads x vs (passed n h)
-  passed_as n (goes_wrong z f) = goes_wrong z (fails_passed rule laws n f)
+  passed_as n (goes_wrong z f) = goes_wrong z (fails_passed n f)
 
   called_as : {r s : A.Kind} {a : A.Symbol r} {go : A.Value r → Rule A s} {ts us : List A.Token} {y : A.Value r} → Reads rule r (rule _ a) ts y us → Answer rule s (go y) us → Answer rule s (read a go) ts
   called_as p (reads x vs h) = reads x vs (called p h)
-  called_as p (goes_wrong z f) = goes_wrong z (fails_called rule laws p f)
+  called_as p (goes_wrong z f) = goes_wrong z (fails_called p f)
 
   at_need : {r s : A.Kind} {c : A.Test true r} {go : A.Value r → Rule A s} {ts : List A.Token} → Next A c ts →
       ((v : A.Value r) (us : List A.Token) → length us < length ts → Answer rule s (go v) us) → Answer rule s (need c go) ts
   at_need (is_next v us p) f = needed_as p (f v us (start_shorter p))
-  at_need (is_not n) f = goes_wrong _ (fails_here rule laws n)
+  at_need (is_not n) f = goes_wrong _ (fails_here n)
 
   at_when : {b : Bool} {r s : A.Kind} {c : A.Test b r} {go : A.Value r → Rule A s} {other : Rule A s} {ts : List A.Token} → Next A c ts →
       ((v : A.Value r) (us : List A.Token) → length us < length ts → Answer rule s (go v) us) → Answer rule s other ts → Answer rule s (when c go other) ts
@@ -91,7 +95,7 @@ module _ {A : Alphabet} (rule : Rules A) (laws : Laws rule) (ranks : Ranks A) (h
   at_read : {r s : A.Kind} {a : A.Symbol r} {go : A.Value r → Rule A s} {ts : List A.Token} → Answer rule r (rule _ a) ts →
       ((y : A.Value r) (us : List A.Token) → Reads rule r (rule _ a) ts y us → Answer rule s (go y) us) → Answer rule s (read a go) ts
   at_read (reads y us h) f = called_as h (f y us h)
-  at_read (goes_wrong z w) f = goes_wrong z (fails_in rule laws w)
+  at_read (goes_wrong z w) f = goes_wrong z (fails_in w)
 
   -- what is left after a rule is no more than there was, and less where the rule spells nothing empty
 
@@ -158,7 +162,7 @@ module _ {A : Alphabet} (rule : Rules A) (laws : Laws rule) (ranks : Ranks A) (h
       {ts : List A.Token} → Answer rule s a ts → IsSpelled rule a ts ⊎ GoesWrong rule a ts
   by_answer all (reads x [] h) = inl (x, spelled rule laws h)
   by_answer all (reads x (k ∷ us) h) = inr (goes_wrong_there all (k ∷ us) (left_over rule laws h k us refl))
-  by_answer {a = a} all {ts = ts} (goes_wrong r f) = inr (goes_wrong_there all r (whole_fails (start rule laws a ts) f))
+  by_answer {a = a} all {ts = ts} (goes_wrong r f) = inr (goes_wrong_there all r (whole_fails (start a ts) f))
 
   pub some_answer : {s : A.Kind} (a : A.Symbol s) → ((ts : List A.Token) (x : A.Value s) → Derives rule s (rule s a) ts x → Reads rule s (rule s a) ts x []) →
       (ts : List A.Token) → IsSpelled rule (rule s a) ts ⊎ GoesWrong rule (rule s a) ts

@@ -23,7 +23,7 @@ pub record Laws {A : Alphabet} (rule : Rules A) : Type 0 where
 
 -- how an element is built
 
-module _ {A : Alphabet} (rule : Rules A) where
+module _ {A : Alphabet} {rule : Rules A} where
   pub el_give : {s : A.Kind} {x : A.Value s} → Element rule (give x)
   el_give {x = x} = record { tokens = []; tree = x; derives = given }
 
@@ -48,10 +48,10 @@ module _ {A : Alphabet} (rule : Rules A) where
 -- each rule has one
 
 pub element : {A : Alphabet} (rule : Rules A) → Laws rule → {s : A.Kind} (a : Rule A s) → Element rule a
-element rule laws (give x) = el_give rule
-element rule laws (need {r = r} c go) = el_need rule (laws.example r c) (λ v. element rule laws (go v))
-element rule laws (when c go other) = el_other rule (element rule laws other)
-element rule laws (read {r = r} a go) = el_read rule (laws.element_of r a) (λ y. element rule laws (go y))
+element rule laws (give x) = el_give
+element rule laws (need {r = r} c go) = el_need (laws.example r c) (λ v. element rule laws (go v))
+element rule laws (when c go other) = el_other (element rule laws other)
+element rule laws (read {r = r} a go) = el_read (laws.element_of r a) (λ y. element rule laws (go y))
 
 pub one_start : {A : Alphabet} {rule : Rules A} → Laws rule → {b : Bool} {r : A.Kind} {c : A.Test b r} {ts us vs : List A.Token} {v w : A.Value r} →
     Starts A c ts v us → Starts A c ts w vs → (v ≡ w) × (us ≡ vs)

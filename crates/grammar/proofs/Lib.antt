@@ -9,3 +9,7 @@ pub mod Complete
 pub mod Answered
 pub mod Wider
 pub mod WiderLaws
+pub mod Pushed
+pub mod Each
+pub mod Made
+pub mod Decided

@@ -7,6 +7,18 @@ use Rattle.grammar.specs.Greedy.{IsNot, Reads, given, needed, taken, passed, cal
 use Rattle.grammar.proofs.Fronts.{front_then, front_first, front_append, front_after, isnot_same}
 use Rattle.grammar.proofs.Laws.{Laws, element, one_start}
 
+-- what is read is derived
+pub record Derived {A : Alphabet} (rule : Rules A) {s : A.Kind} (a : Rule A s) (ts : List A.Token) (x : A.Value s) (us : List A.Token) : Type 0 where
+  pub front : List A.Token
+  pub is : ts ≡ front ++ us
+  pub derives : Derives rule s a front x
+
+-- what is read in front of us is read in front of vs, which begins with the same token
+pub record Moved {A : Alphabet} (rule : Rules A) {s : A.Kind} (a : Rule A s) (us vs ts : List A.Token) (x : A.Value s) : Type 0 where
+  pub all : List A.Token
+  pub front : Front us vs ts all
+  pub reads : Reads rule s a all x vs
+
 module _ {A : Alphabet} (rule : Rules A) (laws : Laws rule) where
   -- the same tokens are read in one way
   reads_at : {s : A.Kind} (r : A.Kind) (go : A.Value r → Rule A s) {v w : A.Value r} {us ws vs : List A.Token} {x : A.Value s} →
@@ -23,13 +35,7 @@ module _ {A : Alphabet} (rule : Rules A) (laws : Laws rule) where
   one_reading (passed n h) (passed m i) = one_reading h i
   one_reading (called {go = go} h h') (called i i') = let e = one_reading h i in one_reading (reads_at _ go e.0 e.1 h') i'
 
-  -- what is read is derived
-  pub record Derived {s : A.Kind} (a : Rule A s) (ts : List A.Token) (x : A.Value s) (us : List A.Token) : Type 0 where
-    pub front : List A.Token
-    pub is : ts ≡ front ++ us
-    pub derives : Derives rule s a front x
-
-  pub derivation : {s : A.Kind} {a : Rule A s} {ts us : List A.Token} {x : A.Value s} → Reads rule s a ts x us → Derived a ts x us
+  pub derivation : {s : A.Kind} {a : Rule A s} {ts us : List A.Token} {x : A.Value s} → Reads rule s a ts x us → Derived rule a ts x us
   derivation given = record { front = []; is = refl; derives = plain.given }
   derivation (needed q h) =
       let d = derivation h in
@@ -43,17 +49,11 @@ module _ {A : Alphabet} (rule : Rules A) (laws : Laws rule) where
       let e = derivation i in
       record { front = d.front ++ e.front; is = d.is ∙ ap (λ vs. d.front ++ vs) e.is ∙ sym (append_assoc d.front e.front _); derives = plain.called d.derives e.derives }
 
-  -- what is read in front of us is read in front of vs, which begins with the same token
-  pub record Moved {s : A.Kind} (a : Rule A s) (us vs ts : List A.Token) (x : A.Value s) : Type 0 where
-    pub all : List A.Token
-    pub front : Front us vs ts all
-    pub reads : Reads rule s a all x vs
-
   start_first : {b : Bool} {r : A.Kind} {c : A.Test b r} {v : A.Value r} {ts us vs ws : List A.Token} (p : Starts A c ts v us) →
       (all : List A.Token) → Front vs ws us all → Front vs ws ts (p.token ∷ all)
   start_first {vs = vs} {ws = ws} p all f = let At : List A.Token → Type 0 = λ ts. Front vs ws ts (p.token ∷ all) in subst At (sym p.is) (step f)
 
-  pub move : {s : A.Kind} {a : Rule A s} {ts us : List A.Token} {x : A.Value s} → Reads rule s a ts x us → (vs : List A.Token) → SameFirst us vs → Moved a us vs ts x
+  pub move : {s : A.Kind} {a : Rule A s} {ts us : List A.Token} {x : A.Value s} → Reads rule s a ts x us → (vs : List A.Token) → SameFirst us vs → Moved rule a us vs ts x
   move given vs same = record { all = vs; front = here; reads = given }
   move (needed p h) vs same =
       let m = move h vs same in
@@ -112,35 +112,41 @@ module _ {A : Alphabet} (rule : Rules A) (laws : Laws rule) where
       IsNot A c all → Reads rule s (need c go) all x vs → ⊥
   no_need n (needed p h) = n.none _ _ p
 
+-- how a rule goes wrong where a part of it does
+pub record Failing {A : Alphabet} (rule : Rules A) : Type 0 where
   pub fails_needed : {r s : A.Kind} {c : A.Test true r} {go : A.Value r → Rule A s} {ts us z : List A.Token} {v : A.Value r} →
       Starts A c ts v us → Fails rule (go v) us z → Fails rule (need c go) ts z
-  fails_needed {go = go} p f = on_token p (λ k q all vs x h. back_needed go k q all vs x h) (λ k q all x h. plain.needed (starts_with k q all) h) f
-
   pub fails_taken : {b : Bool} {r s : A.Kind} {c : A.Test b r} {go : A.Value r → Rule A s} {other : Rule A s} {ts us z : List A.Token} {v : A.Value r} →
       Starts A c ts v us → Fails rule (go v) us z → Fails rule (when c go other) ts z
-  fails_taken {go = go} p f = on_token p (λ k q all vs x h. back_taken go k q all vs x h) (λ k q all x h. plain.taken (starts_with k q all) h) f
-
   pub fails_passed : {b : Bool} {r s : A.Kind} {c : A.Test b r} {go : A.Value r → Rule A s} {other : Rule A s} {ts z : List A.Token} →
       IsNot A c ts → Fails rule other ts z → Fails rule (when c go other) ts z
-  fails_passed n f = record {
-    stuck = λ z same.
-        let k = f.stuck z same in
-        record { all = k.all; front = k.front; none = λ x us h. k.none x us (back_passed (isnot_same (front_first k.front same) n) h) };
-    opens = let o = f.opens in record { rest = o.rest; all = o.all; front = o.front; tree = o.tree; derives = plain.passed o.derives };
-  }
-
   -- the part in front is read, and what follows it goes wrong
   pub fails_called : {r s : A.Kind} {a : A.Symbol r} {go : A.Value r → Rule A s} {ts us z : List A.Token} {y : A.Value r} →
       Reads rule r (rule _ a) ts y us → Fails rule (go y) us z → Fails rule (read a go) ts z
-  fails_called {go = go} {z = z} h f = record {
+  -- the part in front goes wrong
+  pub fails_in : {r s : A.Kind} {a : A.Symbol r} {go : A.Value r → Rule A s} {ts z : List A.Token} → Fails rule (rule _ a) ts z → Fails rule (read a go) ts z
+  -- the next token is the wrong one
+  pub fails_here : {r s : A.Kind} {c : A.Test true r} {go : A.Value r → Rule A s} {ts : List A.Token} → IsNot A c ts → Fails rule (need c go) ts ts
+
+pub failing : {A : Alphabet} {rule : Rules A} → Laws rule → Failing rule
+failing {rule = rule} laws = record {
+  fails_needed = λ {go = go} p f. on_token rule laws p (λ k q all vs x h. back_needed rule laws go k q all vs x h) (λ k q all x h. plain.needed (starts_with rule laws k q all) h) f;
+  fails_taken = λ {go = go} p f. on_token rule laws p (λ k q all vs x h. back_taken rule laws go k q all vs x h) (λ k q all x h. plain.taken (starts_with rule laws k q all) h) f;
+  fails_passed = λ n f. record {
     stuck = λ z same.
         let k = f.stuck z same in
-        let m = move h k.all (front_first k.front same) in
-        record { all = m.all; front = front_then m.front k.front; none = λ x us i. k.none x us (back_called go m.reads i) };
+        record { all = k.all; front = k.front; none = λ x us h. k.none x us (back_passed rule laws (isnot_same (front_first k.front same) n) h) };
+    opens = let o = f.opens in record { rest = o.rest; all = o.all; front = o.front; tree = o.tree; derives = plain.passed o.derives };
+  };
+  fails_called = λ {go = go} {z = z} h f. record {
+    stuck = λ z same.
+        let k = f.stuck z same in
+        let m = move rule laws h k.all (front_first k.front same) in
+        record { all = m.all; front = front_then m.front k.front; none = λ x us i. k.none x us (back_called rule laws go m.reads i) };
     opens =
         let o = f.opens in
-        let d = derivation h in
-        let At : List A.Token → Type 0 = λ ts. Front z o.rest ts (d.front ++ o.all) in
+        let d = derivation rule laws h in
+        let At : List _ → Type 0 = λ ts. Front z o.rest ts (d.front ++ o.all) in
         record {
           rest = o.rest;
           all = d.front ++ o.all;
@@ -148,14 +154,11 @@ module _ {A : Alphabet} (rule : Rules A) (laws : Laws rule) where
           tree = o.tree;
           derives = plain.called d.derives o.derives;
         };
-  }
-
-  -- the part in front goes wrong
-  pub fails_in : {r s : A.Kind} {a : A.Symbol r} {go : A.Value r → Rule A s} {ts z : List A.Token} → Fails rule (rule _ a) ts z → Fails rule (read a go) ts z
-  fails_in {go = go} f = record {
+  };
+  fails_in = λ {go = go} f. record {
     stuck = λ z same.
         let k = f.stuck z same in
-        record { all = k.all; front = k.front; none = λ x us h. let g = first_called h in k.none g.0 g.1 g.2 };
+        record { all = k.all; front = k.front; none = λ x us h. let g = first_called rule laws h in k.none g.0 g.1 g.2 };
     opens =
         let o = f.opens in
         let e = element rule laws (go o.tree) in
@@ -166,45 +169,11 @@ module _ {A : Alphabet} (rule : Rules A) (laws : Laws rule) where
           tree = e.tree;
           derives = plain.called o.derives e.derives;
         };
-  }
-
-  -- the next token is the wrong one
-  pub fails_here : {r s : A.Kind} {c : A.Test true r} {go : A.Value r → Rule A s} {ts : List A.Token} → IsNot A c ts → Fails rule (need c go) ts ts
-  fails_here {c = c} {go = go} n = record {
-    stuck = λ z same. record { all = z; front = here; none = λ x us h. no_need (isnot_same same n) h };
+  };
+  fails_here = λ {c = c} {go = go} n. record {
+    stuck = λ z same. record { all = z; front = here; none = λ x us h. no_need rule laws (isnot_same same n) h };
     opens =
         let e = element rule laws (need c go) in
         record { rest = e.tokens; all = e.tokens; front = here; tree = e.tree; derives = e.derives };
-  }
-
-  -- steps of a reader
-
-  pub start : {s : A.Kind} (a : Rule A s) (ts : List A.Token) → Goes rule a ts a ts
-  start a ts = record { reads = λ x vs h. h; fails = λ r f. f }
-
-  pub by_need : {r s : A.Kind} {a : Rule A s} {c : A.Test true r} {go : A.Value r → Rule A s} {ts us vs : List A.Token} {v : A.Value r} →
-      Starts A c us v vs → Goes rule a ts (need c go) us → Goes rule a ts (go v) vs
-  by_need p g = record { reads = λ x ws h. g.reads x ws (needed p h); fails = λ r f. g.fails r (fails_needed p f) }
-
-  pub by_token : {b : Bool} {r s : A.Kind} {a : Rule A s} {c : A.Test b r} {go : A.Value r → Rule A s} {other : Rule A s} {ts us vs : List A.Token} {v : A.Value r} →
-      Starts A c us v vs → Goes rule a ts (when c go other) us → Goes rule a ts (go v) vs
-  by_token p g = record { reads = λ x ws h. g.reads x ws (taken p h); fails = λ r f. g.fails r (fails_taken p f) }
-
-  pub by_other : {b : Bool} {r s : A.Kind} {a : Rule A s} {c : A.Test b r} {go : A.Value r → Rule A s} {other : Rule A s} {ts us : List A.Token} →
-      IsNot A c us → Goes rule a ts (when c go other) us → Goes rule a ts other us
-  by_other n g = record { reads = λ x ws h. g.reads x ws (passed n h); fails = λ r f. g.fails r (fails_passed n f) }
-
-  pub by_part : {r s : A.Kind} {a : Rule A s} {b : A.Symbol r} {go : A.Value r → Rule A s} {ts us vs : List A.Token} {y : A.Value r} →
-      Reads rule r (rule _ b) us y vs → Goes rule a ts (read b go) us → Goes rule a ts (go y) vs
-  by_part h g = record { reads = λ x ws i. g.reads x ws (called h i); fails = λ r f. g.fails r (fails_called h f) }
-
-  pub whole : {s : A.Kind} {a : Rule A s} {ts us : List A.Token} {x : A.Value s} → Goes rule a ts (give x) us → Reads rule s a ts x us
-  whole g = g.reads _ _ given
-
-  pub wrong_token : {r s : A.Kind} {a : Rule A s} {c : A.Test true r} {go : A.Value r → Rule A s} {ts us : List A.Token} →
-      IsNot A c us → Goes rule a ts (need c go) us → Fails rule a ts us
-  wrong_token n g = g.fails _ (fails_here n)
-
-  pub wrong_part : {r s : A.Kind} {a : Rule A s} {b : A.Symbol r} {go : A.Value r → Rule A s} {ts us z : List A.Token} →
-      Fails rule (rule _ b) us z → Goes rule a ts (read b go) us → Fails rule a ts z
-  wrong_part f g = g.fails _ (fails_in f)
+  };
+}

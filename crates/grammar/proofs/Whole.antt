@@ -1,7 +1,8 @@
 -- Whole texts: what is read up to the end of the tokens, and the place of a refusal.
 use Rattle.std.proofs.Common.{◌≡◌, refl, sym, ap, subst, ◌∙◌, ◌<◌, ◌+◌, ◌-◌, List, [], ◌∷◌, ◌++◌, length, take, arith, append_assoc}
 use Rattle.std.proofs.lemmas.List.{append-nil, length-append}
-use Rattle.std.proofs.Math.Seq.{take-append_seam, take-append-add}
+use Rattle.std.proofs.Math.Seq.{take-append-add}
+use Rattle.lemmas.proofs.Lists.{front_taken}
 use Rattle.vb_base.specs.Place.{Begins, IsPlace}
 use Rattle.grammar.specs.declared.stop.Stop.{Stop}
 use Rattle.grammar.specs.declared.stop.Stop.TheVariants as stop
@@ -24,9 +25,6 @@ split (step {k = k} f) = let p = split f in record { front = k ∷ p.front; left
 
 pub count : {T : Type 0} (f r : List T) → length (f ++ r) - length r ≡ length f
 count f r = omega (arith, length-append f r)
-
-front_taken : {T : Type 0} (f r : List T) → take (length (f ++ r) - length r) (f ++ r) ≡ f
-front_taken f r = ap (λ n. take n (f ++ r)) (count f r) ∙ take-append_seam f r
 
 one_more : {T : Type 0} (f : List T) (k : T) (r : List T) → take (length (f ++ (k ∷ r)) - length (k ∷ r) + 1) (f ++ (k ∷ r)) ≡ f ++ (k ∷ [])
 one_more f k r = ap (λ n. take (n + 1) (f ++ (k ∷ r))) (count f (k ∷ r)) ∙ take-append-add f (k ∷ r) 1

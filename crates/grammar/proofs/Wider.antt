@@ -1,5 +1,6 @@
 -- What a symbol spells in a wider grammar is what it spells in its own.
 use Rattle.std.proofs.Common.{◌≡◌, refl, sym, ap, subst, Bool, true, List, [], ◌++◌, Option, Some, None, Result, Ok, Err, Bor}
+use Rattle.lemmas.proofs.Options.{some_same}
 use Rattle.grammar.specs.declared.stop.Stop.{Stop}
 use Rattle.grammar.specs.declared.stop.Stop.TheVariants as stop
 use Rattle.grammar.specs.Rules.{Alphabet, Rule, give, need, when, read, Rules, Starts}
@@ -7,9 +8,6 @@ use Rattle.grammar.specs.Spells as plain
 use Rattle.grammar.specs.Spells.{Derives}
 use Rattle.grammar.specs.Greedy.{IsNot, Reads, given, needed, taken, passed, called, Fails, Refuses, Parses, Misses}
 use Rattle.grammar.specs.Wider.{Kinds, old, new, ValueOf, TestOf, Symbols, wider, lifted, all_rules}
-
-some_is : {X : Type 0} {x y : X} → Some x ≡ Some y → x ≡ y
-some_is e = cc
 
 module _ {A : Alphabet} {K : Type 0} {V : K → Type 0} {S : Kinds A K → Type 0} (rule : Rules A) (others : (r : Kinds A K) → S r → Rule (wider A K V S) r) where
   abbrev pub W : Alphabet
@@ -97,31 +95,31 @@ module _ {A : Alphabet} {K : Type 0} {V : K → Type 0} {S : Kinds A K → Type 
   CallRead {s} ts x vs n = (y : ValueOf A V n.0) × (us : Tokens) × Down n.0 (all n.0 n.1) ts y us × Down (old s) (n.2 y) us x vs
 
   give_down : {s : A.Kind} {ts : Tokens} (x : A.Value s) (a : Rule A s) → Some x ≡ given_by {k = old s} (lifted a) → Reads rule s a ts x ts
-  give_down {s = s} {ts = ts} x (give y) e = subst (λ z. Reads rule s (give y) ts z ts) (sym (some_is e)) given
+  give_down {s = s} {ts = ts} x (give y) e = subst (λ z. Reads rule s (give y) ts z ts) (sym (some_same e)) given
   give_down x (need c go) e = absurd (cc)
   give_down x (when c go other) e = absurd (cc)
   give_down x (read a go) e = absurd (cc)
 
   need_down : {s : A.Kind} {ts vs : Tokens} {x : A.Value s} (n : Needs (old s)) → NeedRead ts x vs n → (a : Rule A s) → Some n ≡ needs_of {k = old s} (lifted a) → Reads rule s a ts x vs
-  need_down n d (need c go) e = let i = subst (NeedRead _ _ _) (some_is e) d in needed (starts_down i.2) (i.3 (go i.0) refl)
+  need_down n d (need c go) e = let i = subst (NeedRead _ _ _) (some_same e) d in needed (starts_down i.2) (i.3 (go i.0) refl)
   need_down n d (give y) e = absurd (cc)
   need_down n d (when c go other) e = absurd (cc)
   need_down n d (read a go) e = absurd (cc)
 
   taken_down : {s : A.Kind} {ts vs : Tokens} {x : A.Value s} (n : Choices (old s)) → TakenRead ts x vs n → (a : Rule A s) → Some n ≡ choices_of {k = old s} (lifted a) → Reads rule s a ts x vs
-  taken_down n d (when c go other) e = let i = subst (TakenRead _ _ _) (some_is e) d in taken (starts_down i.2) (i.3 (go i.0) refl)
+  taken_down n d (when c go other) e = let i = subst (TakenRead _ _ _) (some_same e) d in taken (starts_down i.2) (i.3 (go i.0) refl)
   taken_down n d (give y) e = absurd (cc)
   taken_down n d (need c go) e = absurd (cc)
   taken_down n d (read a go) e = absurd (cc)
 
   passed_down : {s : A.Kind} {ts vs : Tokens} {x : A.Value s} (n : Choices (old s)) → PassedRead ts x vs n → (a : Rule A s) → Some n ≡ choices_of {k = old s} (lifted a) → Reads rule s a ts x vs
-  passed_down n d (when c go other) e = let i = subst (PassedRead _ _ _) (some_is e) d in passed (isnot_down i.0) (i.1 other refl)
+  passed_down n d (when c go other) e = let i = subst (PassedRead _ _ _) (some_same e) d in passed (isnot_down i.0) (i.1 other refl)
   passed_down n d (give y) e = absurd (cc)
   passed_down n d (need c go) e = absurd (cc)
   passed_down n d (read a go) e = absurd (cc)
 
   call_down : {s : A.Kind} {ts vs : Tokens} {x : A.Value s} (n : Calls (old s)) → CallRead ts x vs n → (a : Rule A s) → Some n ≡ calls_of {k = old s} (lifted a) → Reads rule s a ts x vs
-  call_down n d (read {r = r} a go) e = let i = subst (CallRead _ _ _) (some_is e) d in called (i.2 (rule r a) refl) (i.3 (go i.0) refl)
+  call_down n d (read {r = r} a go) e = let i = subst (CallRead _ _ _) (some_same e) d in called (i.2 (rule r a) refl) (i.3 (go i.0) refl)
   call_down n d (give y) e = absurd (cc)
   call_down n d (need c go) e = absurd (cc)
   call_down n d (when c go other) e = absurd (cc)
@@ -153,19 +151,19 @@ module _ {A : Alphabet} {K : Type 0} {V : K → Type 0} {S : Kinds A K → Type 
   CallDerived {s} ts us x n = (y : ValueOf A V n.0) × Under n.0 (all n.0 n.1) ts y × Under (old s) (n.2 y) us x
 
   give_under : {s : A.Kind} (x : A.Value s) (a : Rule A s) → Some x ≡ given_by {k = old s} (lifted a) → Derives rule s a [] x
-  give_under {s = s} x (give y) e = subst (λ z. Derives rule s (give y) [] z) (sym (some_is e)) plain.given
+  give_under {s = s} x (give y) e = subst (λ z. Derives rule s (give y) [] z) (sym (some_same e)) plain.given
   give_under x (need c go) e = absurd (cc)
   give_under x (when c go other) e = absurd (cc)
   give_under x (read a go) e = absurd (cc)
 
   need_under : {s : A.Kind} {ts : Tokens} {x : A.Value s} (n : Needs (old s)) → NeedDerived ts x n → (a : Rule A s) → Some n ≡ needs_of {k = old s} (lifted a) → Derives rule s a ts x
-  need_under n d (need c go) e = let i = subst (NeedDerived _ _) (some_is e) d in plain.needed (starts_down i.2) (i.3 (go i.0) refl)
+  need_under n d (need c go) e = let i = subst (NeedDerived _ _) (some_same e) d in plain.needed (starts_down i.2) (i.3 (go i.0) refl)
   need_under n d (give y) e = absurd (cc)
   need_under n d (when c go other) e = absurd (cc)
   need_under n d (read a go) e = absurd (cc)
 
   taken_under : {s : A.Kind} {ts : Tokens} {x : A.Value s} (n : Choices (old s)) → TakenDerived ts x n → (a : Rule A s) → Some n ≡ choices_of {k = old s} (lifted a) → Derives rule s a ts x
-  taken_under n d (when c go other) e = let i = subst (TakenDerived _ _) (some_is e) d in plain.taken (starts_down i.2) (i.3 (go i.0) refl)
+  taken_under n d (when c go other) e = let i = subst (TakenDerived _ _) (some_same e) d in plain.taken (starts_down i.2) (i.3 (go i.0) refl)
   taken_under n d (give y) e = absurd (cc)
   taken_under n d (need c go) e = absurd (cc)
   taken_under n d (read a go) e = absurd (cc)
@@ -173,13 +171,13 @@ module _ {A : Alphabet} {K : Type 0} {V : K → Type 0} {S : Kinds A K → Type 
   passed_under : {s : A.Kind} {ts : Tokens} {x : A.Value s} (n : Choices (old s)) → Under (old s) n.4 ts x → (a : Rule A s) → Some n ≡ choices_of {k = old s} (lifted a) → Derives rule s a ts x
   passed_under {s = s} {ts = ts} {x = x} n d (when c go other) e =
       let At : Choices (old s) → Type 0 = λ m. Under (old s) m.4 ts x in
-      plain.passed ((subst At (some_is e) d) other refl)
+      plain.passed ((subst At (some_same e) d) other refl)
   passed_under n d (give y) e = absurd (cc)
   passed_under n d (need c go) e = absurd (cc)
   passed_under n d (read a go) e = absurd (cc)
 
   call_under : {s : A.Kind} (ts us : Tokens) {x : A.Value s} (n : Calls (old s)) → CallDerived ts us x n → (a : Rule A s) → Some n ≡ calls_of {k = old s} (lifted a) → Derives rule s a (ts ++ us) x
-  call_under ts us n d (read {r = r} a go) e = let i = subst (CallDerived _ _ _) (some_is e) d in plain.called (i.1 (rule r a) refl) (i.2 (go i.0) refl)
+  call_under ts us n d (read {r = r} a go) e = let i = subst (CallDerived _ _ _) (some_same e) d in plain.called (i.1 (rule r a) refl) (i.2 (go i.0) refl)
   call_under ts us n d (give y) e = absurd (cc)
   call_under ts us n d (need c go) e = absurd (cc)
   call_under ts us n d (when c go other) e = absurd (cc)

@@ -1,4 +1,3 @@
 pub mod MapLaws
 mod ListLaws
-mod PrintableLaws
-pub mod NamedLists
+pub mod PrintableLaws

@@ -1,10 +1,11 @@
 -- Lists that are written one after the other: the entries of a map, and the choices of maps and events.
-use Rattle.std.proofs.Common.{◌≡◌, ◌∙◌, ◌+◌, ℕ, Bool, List, [], ◌∷◌, ◌++◌, take, map, slice_get, Some, refl, sym, ap}
+use Rattle.std.proofs.Common.{◌≡◌, ◌∙◌, ◌+◌, ℕ, Bool, List, [], ◌∷◌, ◌++◌, take, map, slice_get, Some, sym, ap}
 use Rattle.std.specs.Option.{option_map}
 use Rattle.std.specs.Ordering.{nat_cmp, on}
 use Rattle.std.proofs.lemmas.Cmp.{nat_cmp_total}
 use Rattle.std.proofs.lemmas.List.{take_more}
 use Rattle.std.proofs.lemmas.Option.{slice_get-map, slice_get_within, get_or_from_slice_get}
+use Rattle.lemmas.proofs.Lists.{map_append}
 use Rattle.sparse.specs.Map.{Map, get, keys, IsReduced}
 use Rattle.sparse.proofs.MapLaws.{get-keys}
 use Rattle.vb_value.specs.Content as tree
@@ -23,10 +24,6 @@ use Rattle.moves.specs.Scalars.{scalar}
 use Rattle.moves.specs.Maps.{place_key, instance_key}
 
 -- ---- what is pushed
-
-pub map_append : {X Y : Type 0} (f : X → Y) (xs ys : List X) → map f (xs ++ ys) ≡ map f xs ++ map f ys
-map_append f [] ys = refl
-map_append f (x ∷ xs) ys = ap (λ zs. f x ∷ zs) (map_append f xs ys)
 
 -- one more of the items of a list
 pub one_more : {X : Type 0} (f : X → b.Entry) (xs : List X) (i : ℕ) (x : X) (items : List Entry) (e : Entry) → slice_get xs i ≡ Some x → map entry_of items ≡ take i (map f xs) →

@@ -1,10 +1,11 @@
 -- The moves of events can be printed.
 use Rattle.std.specs.Prelude.{⊤}
-use Rattle.std.proofs.Common.{◌≡◌, ◌∙◌, ℕ, false, pos, List, [], ◌∷◌, ◌++◌, map, All, refl, sym, ap, subst, arith}
+use Rattle.std.proofs.Common.{◌≡◌, ◌∙◌, ℕ, false, pos, List, [], ◌∷◌, map, All, refl, sym, ap, subst, arith}
 use Rattle.std.proofs.lemmas.List.Elements.{All-nil, All-cons, All-head, All-tail, All-append}
 use Rattle.std.specs.List.{AllZip}
 use Rattle.std.specs.List.Sorted.{IsStrictlySortedBy}
 use Rattle.std.specs.Map.{keys_of, values_of}
+use Rattle.lemmas.proofs.Lists.{all_left, all_right}
 use Rattle.sparse.specs.Map.{Map, keys, values}
 use Rattle.vb_value.specs.Bound.{IsWithin}
 use Rattle.vb_value.specs.Content.{Content, IsReducedContent, IsWithinContent, same_content}
@@ -35,17 +36,9 @@ both : {X : Type 0} (P Q : X → Type 0) (xs : List X) → All P xs → All Q xs
 both P Q [] h k = All-nil (λ x. P x × Q x)
 both P Q (x ∷ xs) h k = All-cons (λ y. P y × Q y) x xs (All-head P x xs h, All-head Q x xs k) (both P Q xs (All-tail P x xs h) (All-tail Q x xs k))
 
-first_part : {X : Type 0} (P : X → Type 0) (xs ys : List X) → All P (xs ++ ys) → All P xs
-first_part P [] ys h = All-nil P
-first_part P (x ∷ xs) ys h = All-cons P x xs (All-head P x (xs ++ ys) h) (first_part P xs ys (All-tail P x (xs ++ ys) h))
-
-last_part : {X : Type 0} (P : X → Type 0) (xs ys : List X) → All P (xs ++ ys) → All P ys
-last_part P [] ys h = h
-last_part P (x ∷ xs) ys h = last_part P xs ys (All-tail P x (xs ++ ys) h)
-
 -- ---- values
 
-scalar_reduced : (x : Value) → IsReducedValue x → IsReducedScalar (scalar x)
+pub scalar_reduced : (x : Value) → IsReducedValue x → IsReducedScalar (scalar x)
 scalar_reduced (value.Int n) h = tt
 scalar_reduced (value.Bool t) h = tt
 scalar_reduced (value.Ref r) h = tt
@@ -89,13 +82,13 @@ all_anything : {X : Type 0} (xs : List X) → All anything xs
 all_anything [] = All-nil anything
 all_anything (x ∷ xs) = All-cons anything x xs tt (all_anything xs)
 
-place_within : (r : ℕ) → IsWithinKey (place_key r)
+pub place_within : (r : ℕ) → IsWithinKey (place_key r)
 place_within r = All-cons IsWithinPart (part.Ref r) [] tt (All-nil IsWithinPart)
 
 zero_within : IsWithin (pos 0)
 zero_within = omega arith
 
-instance_within : (k : Key) → IsWithinKey k → IsWithinKey (instance_key k)
+pub instance_within : (k : Key) → IsWithinKey k → IsWithinKey (instance_key k)
 instance_within [] h = All-cons IsWithinPart (part.Int (pos 0)) [] zero_within (All-nil IsWithinPart)
 instance_within (a ∷ k) h = h
 
@@ -125,7 +118,7 @@ heap_printable u m h w named =
           (λ r x p q n. ((place_within r, n.0), scalar_spellable x q.0.reduced q.1 n.1)) es (all_anything (keys m)) (both (FitsValue u) IsWithinValue (values m) h.values w.others) named;
     }
 
-contents_printable : (us : List Ty) (m : Map Key Content) → FitsContents us m → HasEntries IsWithinKey IsWithinContent m → IsNamedMove (content_choice m) → IsPrintableChoice (content_choice m)
+pub contents_printable : (us : List Ty) (m : Map Key Content) → FitsContents us m → HasEntries IsWithinKey IsWithinContent m → IsNamedMove (content_choice m) → IsPrintableChoice (content_choice m)
 contents_printable us m h w named =
     let es = m.entries in
     let all = listed instance_key Snap es in
@@ -150,7 +143,7 @@ maps_each F W choice N R go (u ∷ us) (m ∷ ms) h w n =
 
 -- ---- events
 
-event_reduced : (layout : Layout) (e : Event) → FitsEvent layout e → All IsReducedChoice (moves_of e)
+pub event_reduced : (layout : Layout) (e : Event) → FitsEvent layout e → All IsReducedChoice (moves_of e)
 event_reduced layout (Branch p) h = All-cons IsReducedChoice (b.Pick p) [] tt (All-nil IsReducedChoice)
 event_reduced layout (Took x) h = All-cons IsReducedChoice (b.Value (scalar x)) [] (scalar_reduced x h) (All-nil IsReducedChoice)
 event_reduced layout (Wild q) h = All-cons IsReducedChoice (b.Value (b.Real q)) [] h (All-nil IsReducedChoice)
@@ -167,22 +160,22 @@ moves_reduced layout [] h = All-nil IsReducedChoice
 moves_reduced layout (e ∷ es) h =
     All-append IsReducedChoice (moves_of e) (moves es) (event_reduced layout e (All-head (FitsEvent layout) e es h)) (moves_reduced layout es (All-tail (FitsEvent layout) e es h))
 
-one_printable : (c : BChoice) → IsPrintableChoice c → All IsPrintableChoice (c ∷ [])
+pub one_printable : (c : BChoice) → IsPrintableChoice c → All IsPrintableChoice (c ∷ [])
 one_printable c h = All-cons IsPrintableChoice c [] h (All-nil IsPrintableChoice)
 
 named_first : (c : BChoice) (cs : List BChoice) → All IsNamedMove (c ∷ cs) → IsNamedMove c
 named_first c cs h = All-head IsNamedMove c cs h
 
-event_printable : (layout : Layout) (e : Event) → FitsEvent layout e → IsWithinEvent e → All IsNamedMove (moves_of e) → All IsPrintableChoice (moves_of e)
+pub event_printable : (layout : Layout) (e : Event) → FitsEvent layout e → IsWithinEvent e → All IsNamedMove (moves_of e) → All IsPrintableChoice (moves_of e)
 event_printable layout (Branch p) h w n = one_printable (b.Pick p) tt
 event_printable layout (Took x) h w n = one_printable (b.Value (scalar x)) (scalar_spellable x h w (named_first (b.Value (scalar x)) [] n))
 event_printable layout (Wild q) h w n = one_printable (b.Value (b.Real q)) (h, w)
 event_printable layout (Fresh r) h w n = one_printable (b.Value (b.Ref r)) (named_first (b.Value (b.Ref r)) [] n)
 event_printable layout (Whole m) h w n =
     All-append IsPrintableChoice (map heap_choice m.heap) (map content_choice m.content)
-    (maps_each FitsHeap (HasValues IsWithinValue) heap_choice IsNamedMove IsPrintableChoice heap_printable layout.fields m.heap h.heap w.heap (first_part IsNamedMove (map heap_choice m.heap) (map content_choice m.content) n))
+    (maps_each FitsHeap (HasValues IsWithinValue) heap_choice IsNamedMove IsPrintableChoice heap_printable layout.fields m.heap h.heap w.heap (all_left IsNamedMove (map heap_choice m.heap) (map content_choice m.content) n))
     (maps_each FitsContents (HasEntries IsWithinKey IsWithinContent) content_choice IsNamedMove IsPrintableChoice contents_printable layout.keys m.content h.content w.content
-    (last_part IsNamedMove (map heap_choice m.heap) (map content_choice m.content) n))
+    (all_right IsNamedMove (map heap_choice m.heap) (map content_choice m.content) n))
 event_printable layout (Split c d) h w n =
     let rest = b.Value (Snap d) ∷ [] in
     All-cons IsPrintableChoice (b.Value (Snap c)) rest (h.0, w.0, named_first (b.Value (Snap c)) rest n)
@@ -193,8 +186,8 @@ pub moves_printable : (layout : Layout) (es : List Event) → All (FitsEvent lay
 moves_printable layout [] h w n = All-nil IsPrintableChoice
 moves_printable layout (e ∷ es) h w n =
     All-append IsPrintableChoice (moves_of e) (moves es)
-    (event_printable layout e (All-head (FitsEvent layout) e es h) (All-head IsWithinEvent e es w) (first_part IsNamedMove (moves_of e) (moves es) n))
-    (moves_printable layout es (All-tail (FitsEvent layout) e es h) (All-tail IsWithinEvent e es w) (last_part IsNamedMove (moves_of e) (moves es) n))
+    (event_printable layout e (All-head (FitsEvent layout) e es h) (All-head IsWithinEvent e es w) (all_left IsNamedMove (moves_of e) (moves es) n))
+    (moves_printable layout es (All-tail (FitsEvent layout) e es h) (All-tail IsWithinEvent e es w) (all_right IsNamedMove (moves_of e) (moves es) n))
 
 -- ---- within the bound
 

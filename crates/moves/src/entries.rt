@@ -26,14 +26,14 @@ pub fn scalar(value: Value) -> BScalar
 }
 
 /// A reference as a key of a heap.
-fn place_key(reference: u64) -> Key
+pub fn place_key(reference: u64) -> Key
     ensures { result ≡ k.place_key reference }
 {
     Key::of_one(KeyPart::Ref(reference))
 }
 
 /// The arguments of an instance as a key of contents: 0 where there are none.
-fn instance_key(arguments: &Key) -> Result<Key, Memory>
+pub fn instance_key(arguments: &Key) -> Result<Key, Memory>
     ensures { IfOk result (λ key. key ≡ k.instance_key arguments.now) }
 {
     if arguments.parts().is_empty() {

@@ -7,5 +7,5 @@ pub mod laws;
 mod named;
 
 pub use choices::moves;
-pub use entries::scalar;
+pub use entries::{instance_key, place_key, scalar};
 pub use named::{named_key, named_scalar};

@@ -6,22 +6,24 @@ use Rattle.std.specs.Str.{bytes_eq}
 use Rattle.std.proofs.lemmas.Bool.{and_parts}
 use Rattle.std.proofs.lemmas.Slice.Eq.{bytes_eq-Decides}
 use Rattle.viper_core.specs.Program.{Program}
-use Rattle.run_file.specs.Machine.{IsReadBy, StopsBy}
-use Rattle.run_file.specs.Text.{lines_of, is_skipped, words_of}
+use Rattle.run_words.specs.Machine.{IsReadBy, StopsBy}
+use Rattle.run_words.specs.Text.{lines_of, is_skipped, words_of}
 use Rattle.run_file.specs.View.{run_of}
 use Rattle.run_file.specs.Lines.{Scope, scope_of, Line, Var, Heap, Holds, Chosen, Opened, IsLine}
 use Rattle.run_file.specs.Run.{ViperRun, header, AreRun, SpellRun}
-use Rattle.run_file.specs.Reading.{◌>>=◌, line_of}
+use Rattle.run_words.specs.Reading.{◌>>=◌}
+use Rattle.run_file.specs.Reading.{line_of}
 use Rattle.run_file.specs.NamedOrder.{named_cmp}
-use Rattle.run_file.specs.Progress.{Progress, is_header, stepped, followed, has_named, once, may_set, may_place, run_set, run_with, read_line, is_headed, reader, UnlessMemory}
+use Rattle.run_file.specs.Progress.{Progress, is_header, stepped, followed, has_named, once, may_set, may_place, run_set, run_with, read_line, is_headed, reader}
+use Rattle.run_words.specs.Answers.{UnlessMemory}
 use Rattle.run_file.specs.declared.lines.Named.{Named}
 use Rattle.run_file.specs.declared.lines.Named.TheVariants as named
-use Rattle.run_file.specs.declared.runs.RunFileFault.{RunFileFault}
+use Rattle.run_words.specs.declared.faults.RunFileFault.{RunFileFault}
 use Rattle.run_file.specs.declared.runs.ViperRun.{ViperRun as Code}
 use Rattle.run_file.specs.declared.reader.Stage.{Stage}
 use Rattle.run_file.specs.declared.reader.Stage.TheVariants as stage
-use Rattle.run_file.proofs.AnswerLaws.{IsReader, Answered, answered}
-use Rattle.run_file.proofs.HeadedLaws.{Reads, HeadedIn, file_read, read_file, goes_wrong, stops}
+use Rattle.run_words.proofs.AnswerLaws.{IsReader, Answered, answered}
+use Rattle.run_words.proofs.HeadedLaws.{Reads, HeadedIn, file_read, read_file, goes_wrong, stops}
 use Rattle.run_file.proofs.LineLaws.{NamesApart, line_spelled, spelled_line}
 use Rattle.run_file.proofs.RunLaws.{opened, run_read, read_run}
 

@@ -1,23 +1,18 @@
 -- What lines of Viper name is told apart by its order.
-use Rattle.std.proofs.Common.{◌≡◌, ◌≢◌, ℕ, List, [], AllPairs, refl, sym, ap}
-use Rattle.std.specs.Ordering.{nat_cmp, ordering_then}
-use Rattle.std.specs.Cmp.{nat_cmp_is}
-use Rattle.std.specs.declared.cmp.Ordering.{Ordering}
-use Rattle.std.specs.declared.cmp.Ordering.TheVariants.{Less, Equal, Greater}
+use Rattle.std.proofs.Common.{◌≡◌, ◌≢◌, List, [], AllPairs, ap}
+use Rattle.std.specs.Ordering.{nat_cmp}
+use Rattle.std.specs.declared.cmp.Ordering.TheVariants.{Equal}
 use Rattle.std.proofs.lemmas.Map.Lookups.{exact_unsigned}
+use Rattle.lemmas.proofs.Orders.{both_equal}
 use Rattle.vb_value.specs.Key.{key_cmp}
 use Rattle.vb_value.proofs.KeyLaws.{same_from_key_cmp, key_cmp_self}
 use Rattle.run_file.specs.NamedOrder.{named_cmp}
 use Rattle.run_file.specs.declared.lines.Named.{Named}
 use Rattle.run_file.specs.declared.lines.Named.TheVariants.{Variable, Place, Instance}
-use Rattle.run_file.proofs.OnceLaws as once
+use Rattle.run_words.proofs.OnceLaws as once
+use Rattle.run_words.proofs.OnceLaws.{nat_self}
 
 -- ---- the order tells names apart
-
-both_equal : (a b : Ordering) → ordering_then a b ≡ Equal → (a ≡ Equal) × (b ≡ Equal)
-both_equal Less b e = absurd cc
-both_equal Equal b e = (refl, e)
-both_equal Greater b e = absurd cc
 
 same_from_named : (x y : Named) → named_cmp x y ≡ Equal → x ≡ y
 same_from_named (Variable n) (Variable m) e = ap Variable (exact_unsigned n m e)
@@ -28,9 +23,6 @@ same_from_named (Instance f r) (Instance g q) e =
     let both = both_equal (nat_cmp f g) (key_cmp r q) e in
     let a = exact_unsigned f g both.0 in let b = same_from_key_cmp r q both.1 in λ i. Instance (a i) (b i)
 same_from_named _ _ e = absurd cc
-
-pub nat_self : (n : ℕ) → nat_cmp n n ≡ Equal
-nat_self n = sym (nat_cmp_is n n Equal refl)
 
 named_self : (x : Named) → named_cmp x x ≡ Equal
 named_self (Variable n) = nat_self n

@@ -11,12 +11,12 @@ use Rattle.std.specs.declared.cmp.Ordering.TheVariants.{Less, Equal, Greater}
 use Rattle.std.proofs.lemmas.List.{length-map, map-append, map-set, get_or-map}
 use Rattle.vb_value.specs.Key.{key_cmp}
 use Rattle.viper_state.specs.State.{Key}
-use Rattle.run_file.specs.Machine.{among}
+use Rattle.run_words.specs.Machine.{among}
 use Rattle.run_file.specs.NamedOrder.{named_cmp}
 use Rattle.run_file.specs.NamedView.{keys_of, with_key, names_from}
 use Rattle.run_file.specs.declared.lines.Named.{Named}
 use Rattle.run_file.specs.declared.lines.Named.TheVariants.{Variable, Place, Instance}
-use Rattle.run_file.proofs.NamedLaws.{nat_self}
+use Rattle.run_words.proofs.OnceLaws.{nat_self}
 
 -- ---- a key above a list, and below one
 

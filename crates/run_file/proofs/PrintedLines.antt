@@ -5,6 +5,7 @@ use Rattle.std.specs.List.{AllZip}
 use Rattle.std.specs.Ordering.{nat_cmp}
 use Rattle.std.proofs.lemmas.List.{append-nil}
 use Rattle.std.proofs.lemmas.List.Elements.{All-head, All-tail}
+use Rattle.lemmas.proofs.Lists.{all_at as found}
 use Rattle.sparse.specs.Map.{Map, get, keys}
 use Rattle.vb_value.specs.Content.{Content, IsReducedContent, IsWithinContent}
 use Rattle.vb_value.specs.Key.{key_cmp, IsWithinKey}
@@ -21,12 +22,13 @@ use Rattle.viper_state.proofs.Paired.{paired_back}
 use Rattle.run_file.specs.Lines as l
 use Rattle.run_file.specs.Lines.{Scope, Var, Heap, Holds, IsLine}
 use Rattle.moves.specs.Printable.{IsNamed, IsNamedValue, IsNamedKey, IsNamedContent}
-use Rattle.run_file.specs.Printed.{numbered_text, reference_text, value_text, var_text, place_text, places_text, heap_text, instance_text, instances_text, contents_text, key_text, content_text}
-use Rattle.run_file.specs.Values.{SpellsValue, BeginsWithContent}
-use Rattle.run_file.proofs.PrintedWords.{IsWord, word_text, text_then, front_then, blank_behind}
-use Rattle.run_file.proofs.PrintedValues.{value_is_spelled, value_word, reference_spelled, key_spelled, content_spelled, key_words, content_words}
+use Rattle.run_words.specs.Printed.{numbered_text, reference_text, value_text, key_text, content_text}
+use Rattle.run_file.specs.Printed.{var_text, place_text, places_text, heap_text, instance_text, instances_text, contents_text}
+use Rattle.run_words.specs.Values.{SpellsValue, BeginsWithContent}
+use Rattle.run_words.proofs.PrintedWords.{var_word, IsWord, word_text, text_then, front_then, blank_behind}
+use Rattle.run_words.proofs.PrintedValues.{value_is_spelled, value_word, reference_spelled, key_spelled, content_spelled, key_words, content_words}
 use Rattle.run_file.proofs.PrintedMemos.{entry_lines, map_lines, var_lines}
-use Rattle.run_file.proofs.SaidLines.{Says, says_nothing, says_then, line_said, keyword, HasNames, NamedAt, named_at, found, numbered, numbered_said}
+use Rattle.run_words.proofs.SaidLines.{Says, says_nothing, says_then, line_said, keyword, HasNames, NamedAt, named_at, numbered, numbered_said}
 
 -- ---- values
 
@@ -37,9 +39,6 @@ pub record GoodValue (u : Ty) (w : Value) : Type 0 where
 
 pub good_spelled : {u : Ty} {w : Value} → GoodValue u w → SpellsValue u (value_text w) w
 good_spelled {u} {w} h = subst (λ t. SpellsValue t (value_text w) w) h.fits.typed (value_is_spelled w h.fits.reduced h.within h.named)
-
-pub var_word : IsWord (codes "var")
-var_word = record { some = omega arith; bytes = refl }
 
 heap_word : IsWord (codes "heap")
 heap_word = record { some = omega arith; bytes = refl }

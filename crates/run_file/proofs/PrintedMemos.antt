@@ -19,8 +19,8 @@ use Rattle.viper_state.specs.State.{Key, Memo, changed_at}
 use Rattle.viper_state.proofs.MapLaws.{exact_values, exact_contents}
 use Rattle.run_file.specs.Lines.{Line, Var, Heap, Holds, Chosen, Opened}
 use Rattle.run_file.specs.Run.{memo_with, opening_with, empty_memo, IsPlaceLine, IsSetting}
-use Rattle.run_file.proofs.SaidLines.{numbered}
-use Rattle.run_file.proofs.PrintedMaps.{refilled, refilled_is, changed_middle}
+use Rattle.run_words.proofs.SaidLines.{numbered}
+use Rattle.run_words.proofs.PrintedMaps.{refilled, refilled_is, changed_middle}
 
 -- ---- lines
 

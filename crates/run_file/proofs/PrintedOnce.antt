@@ -1,13 +1,12 @@
 -- No two of the lines that are printed of an opening, or of a heap and contents, name the same.
-use Rattle.std.proofs.Common.{◌≡◌, ◌≢◌, ◌∙◌, ◌+◌, ◌≤◌, ℕ, Bool, true, false, cond, List, [], ◌∷◌, ◌++◌, append_assoc, All, AllPairs, refl, sym, ap, subst, arith}
+use Rattle.std.proofs.Common.{◌≡◌, ◌≢◌, ◌+◌, ◌≤◌, ℕ, Bool, true, false, cond, List, [], ◌∷◌, ◌++◌, append_assoc, All, AllPairs, refl, sym, subst, arith}
 use Rattle.std.specs.Prelude.{⊤}
 use Rattle.std.specs.Cmp.{IsTotalOrder}
 use Rattle.std.specs.List.{AllByRecursion, AllZip}
 use Rattle.std.specs.List.Sorted.{IsStrictlySortedBy}
 use Rattle.std.specs.Ordering.{nat_cmp}
 use Rattle.std.specs.declared.cmp.Ordering.{Ordering}
-use Rattle.std.specs.declared.cmp.Ordering.TheVariants.{Less, Equal}
-use Rattle.std.proofs.lemmas.Cmp.{tied_itself}
+use Rattle.std.specs.declared.cmp.Ordering.TheVariants.{Less}
 use Rattle.std.proofs.lemmas.List.{append-nil}
 use Rattle.std.proofs.lemmas.List.Elements.{All-nil, All-cons, All-weaker}
 use Rattle.std.proofs.lemmas.List.Kept.{AllPairs-cons}
@@ -24,7 +23,8 @@ use Rattle.run_file.specs.Lines.{Line, Var, Heap, Holds}
 use Rattle.run_file.specs.Run.{names_of, all_names, NamedOnce}
 use Rattle.run_file.specs.declared.lines.Named.{Named}
 use Rattle.run_file.specs.declared.lines.Named.TheVariants.{Variable, Place, Instance}
-use Rattle.run_file.proofs.SaidLines.{numbered}
+use Rattle.run_words.proofs.OnceLaws.{less_itself}
+use Rattle.run_words.proofs.SaidLines.{numbered}
 use Rattle.run_file.proofs.PrintedMemos.{entry_lines, map_lines, memo_lines, var_lines, opening_lines}
 
 -- what lines name from a number on, each once
@@ -54,11 +54,6 @@ record Names {K V : Type 0} (line : ℕ → K → V → Line) (name : ℕ → K 
   from : (n : ℕ) (k : K) → From n (name n k)
   more : (n : ℕ) (x : Named) → From (n + 1) x → From n x
   apart : (n : ℕ) (k : K) (x : Named) → From (n + 1) x → name n k ≢ x
-
-pub less_itself : {K : Type 0} {cmp : K → K → Ordering} → IsTotalOrder cmp → (k q : K) → cmp k q ≡ Less → k ≢ q
-less_itself {cmp = cmp} o k q less same = not_both (sym (tied_itself o k) ∙ (ap (cmp k) same ∙ less)) where
-  not_both : Equal ≡ Less → ⊥
-  not_both e = cc
 
 module _ {K V : Type 0} {cmp : K → K → Ordering} (o : IsTotalOrder cmp) (line : ℕ → K → V → Line) (name : ℕ → K → Named) (From : ℕ → Named → Type 0) (h : Names line name From) where
   head_apart : (n : ℕ) (m : Map K V) (k : K) (ks : List K) (ls : List Line) → AllByRecursion (λ q. cmp k q ≡ Less) ks → All (From (n + 1)) (all_names ls) →

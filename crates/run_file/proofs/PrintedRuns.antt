@@ -1,13 +1,12 @@
 -- The text that is printed of a run spells that run.
 use Rattle.std.proofs.Common.{◌≡◌, ◌∙◌, ◌+◌, ℕ, Bool, true, false, not, cond, List, [], ◌∷◌, ◌++◌, append_assoc, length, length-append, map, All, Option, Some, None, IsTrue, IfSome, slice_get, slice_set, refl, sym, ap, subst, arith}
 use Rattle.std.specs.Prelude.{fold, codes}
-use Rattle.std.specs.List.{list_all}
 use Rattle.std.proofs.lemmas.Bool.{and_parts}
-use Rattle.std.proofs.lemmas.Bool.Decides.{nat_tests}
 use Rattle.std.proofs.lemmas.List.{length-map, length-take}
 use Rattle.std.proofs.lemmas.List.Elements.{All-nil, All-cons, All-head, All-tail}
 use Rattle.std.proofs.lemmas.List.Sums.{fold-append}
-use Rattle.vb_base.specs.Names.{is_name, is_name_start, is_name_byte, is_viper_name, is_word}
+use Rattle.lemmas.proofs.Lists.{all_left, all_right}
+use Rattle.vb_base.specs.Names.{is_name, is_viper_name, is_word}
 use Rattle.vb_value.specs.Equality.{Decides-value_eq}
 use Rattle.vb_value.specs.Value.{default_of, type_of, value_eq}
 use Rattle.vb_value.specs.declared.values.Ty.{Ty}
@@ -25,32 +24,18 @@ use Rattle.viper_state.proofs.Paired.{All-found}
 use Rattle.run_file.specs.Lines as l
 use Rattle.run_file.specs.Lines.{Scope, scope_of, method_variables, predicate_variables, unit_variables, Line, Var, Chosen, Opened, IsLine}
 use Rattle.run_file.specs.Printable.{IsNamedMemo, IsNamedChoice, IsPrintable}
-use Rattle.run_file.specs.Printed.{memo_text, choice_text, choices_text, run_text, truth_text, value_text, fraction_text, reference_text}
+use Rattle.run_file.specs.Printed.{memo_text, choice_text, choices_text, run_text}
+use Rattle.run_words.specs.Printed.{truth_text, value_text, fraction_text, reference_text}
 use Rattle.run_file.specs.Run.{ViperRun, opening_with, empty_opening, scope_memo, AreChoices, none, one, filled, header, SpellsViperRun}
-use Rattle.run_file.proofs.PrintedWords.{all_of, is_word_byte, IsWord, word_text, text_then, blank_behind, Tells, tells_then, line_told}
-use Rattle.run_file.proofs.PrintedValues.{value_is_spelled, value_word, truth_spelled, reference_spelled, fraction_spelled}
-use Rattle.run_file.proofs.PrintedMaps.{set_middle}
+use Rattle.run_words.proofs.PrintedWords.{pick_word, value_keyword, run_word, name_word, IsWord, word_text, text_then, blank_behind, Tells, tells_then, line_told}
+use Rattle.run_words.proofs.PrintedValues.{value_is_spelled, value_word, truth_spelled, reference_spelled, fraction_spelled}
+use Rattle.run_words.proofs.PrintedMaps.{set_middle}
 use Rattle.run_file.proofs.PrintedMemos.{memo_lines, var_lines, opening_lines, places_alone, settings_alone, memo_filled, places_open}
 use Rattle.run_file.proofs.PrintedOnce.{memo_once, opening_once}
 use Rattle.run_file.proofs.PrintedLines.{variables_said, heaps_said, contents_said}
-use Rattle.run_file.proofs.SaidLines.{Says, says_nothing, says_then, line_said, all_told, HasNames, numbered}
+use Rattle.run_words.proofs.SaidLines.{Says, says_nothing, says_then, line_said, all_told, HasNames, numbered}
 
 -- ---- the names of a formed program are words
-
-name_byte : (b : ℕ) → is_name_byte b ≡ true → is_word_byte b ≡ true
-name_byte b is = grind (arith, nat_tests)
-
-start_byte : (b : ℕ) → is_name_start b ≡ true → is_word_byte b ≡ true
-start_byte b is = grind (arith, nat_tests)
-
-pub name_word : (name : List ℕ) → is_name name ≡ true → IsWord name
-name_word [] is = absurd cc
-name_word (b ∷ bs) is =
-    let parts = and_parts (is_name_start b) (list_all is_name_byte bs) is in
-    record { some = omega arith; bytes = word_bytes (start_byte b parts.0) (all_of is_name_byte is_word_byte name_byte bs parts.1) }
-  where
-    word_bytes : is_word_byte b ≡ true → list_all is_word_byte bs ≡ true → list_all is_word_byte (b ∷ bs) ≡ true
-    word_bytes e f = rw (e, f) refl
 
 viper_word : (name : List ℕ) → IsTrue (is_viper_name name) → IsWord name
 viper_word name is = name_word name (and_parts (is_name name) (not (is_word name)) is).0
@@ -58,14 +43,6 @@ viper_word name is = name_word name (and_parts (is_name name) (not (is_word name
 viper_words : (names : List (List ℕ)) → All (λ x. IsTrue (is_viper_name x)) names → All IsWord names
 viper_words [] h = All-nil IsWord
 viper_words (x ∷ xs) h = All-cons IsWord x xs (viper_word x (All-head (λ x. IsTrue (is_viper_name x)) x xs h)) (viper_words xs (All-tail (λ x. IsTrue (is_viper_name x)) x xs h))
-
-all_left : {X : Type 0} (P : X → Type 0) (xs ys : List X) → All P (xs ++ ys) → All P xs
-all_left P [] ys h = All-nil P
-all_left P (x ∷ xs) ys h = All-cons P x xs (All-head P x (xs ++ ys) h) (all_left P xs ys (All-tail P x (xs ++ ys) h))
-
-all_right : {X : Type 0} (P : X → Type 0) (xs ys : List X) → All P (xs ++ ys) → All P ys
-all_right P [] ys h = h
-all_right P (x ∷ xs) ys h = all_right P xs ys (All-tail P x (xs ++ ys) h)
 
 method_names : (p : Program) (o : Option Method) (n : ℕ) → slice_get p.methods n ≡ o → All (IsMethod p) p.methods → HasNames (method_variables o)
 method_names p None n is h = record { as_many = omega arith; words = All-nil IsWord }
@@ -121,12 +98,6 @@ choice_lines (Filled m) = Opened ∷ memo_lines m
 abbrev choices_lines : List Choice → List Line
 choices_lines [] = []
 choices_lines (c ∷ cs) = choice_lines c ++ choices_lines cs
-
-pub pick_word : IsWord (codes "pick")
-pick_word = record { some = omega arith; bytes = refl }
-
-pub value_keyword : IsWord (codes "value")
-value_keyword = record { some = omega arith; bytes = refl }
 
 amount_word : IsWord (codes "amount")
 amount_word = record { some = omega arith; bytes = refl }
@@ -210,9 +181,6 @@ opening_set p n o store memo =
 
 viper_text : IsWord (codes "viper")
 viper_text = record { some = omega arith; bytes = refl }
-
-pub run_word : IsWord (codes "run")
-run_word = record { some = omega arith; bytes = refl }
 
 header_told : Tells (codes "viper run\n") (header ∷ [])
 header_told = line_told (codes "viper run") (codes "viper") (codes "run" ∷ []) (text_then (blank_behind (word_text viper_text)) (word_text run_word)) refl

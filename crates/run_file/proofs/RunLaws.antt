@@ -4,12 +4,13 @@ use Rattle.std.specs.Prelude.{fold}
 use Rattle.std.specs.List.{AllByRecursion}
 use Rattle.std.specs.BTreeSet.{insert_key}
 use Rattle.std.proofs.lemmas.List.{append-nil}
+use Rattle.lemmas.proofs.Options.{some_same}
 use Rattle.viper_state.specs.State.{Memo}
 use Rattle.viper_state.specs.Run.{Opening}
 use Rattle.viper_state.specs.Choice.{Choice, Filled}
 use Rattle.run_file.specs.Lines.{Scope, Line, Var, Heap, Holds, Chosen, Opened}
 use Rattle.run_file.specs.Run.{ViperRun, scope_memo, empty_opening, memo_with, opening_with, IsPlaceLine, IsSetting, names_of, all_names, AreChoices, AreRun, none, one, filled}
-use Rattle.run_file.specs.Machine.{all_steps}
+use Rattle.run_words.specs.Machine.{all_steps}
 use Rattle.run_file.specs.NamedOrder.{named_cmp}
 use Rattle.run_file.specs.Progress.{Progress, last_with, has_named, followed}
 use Rattle.run_file.specs.declared.lines.Named.{Named}
@@ -21,9 +22,6 @@ use Rattle.run_file.proofs.NamedLaws.{FreshOnce, once_is_fresh, fresh_differs}
 
 abbrev pub at_stage : Stage → List Named → Opening → List Choice → Progress
 at_stage g set o cs = record { stage = g; named = set; run = record { opening = o; choices = cs } }
-
-some_same : {A : Type 0} {x y : A} → Some x ≡ Some y → x ≡ y
-some_same e = cc
 
 -- a name that is new
 new_name : (set : List Named) (n : Named) (st : Progress) → has_named set n ≡ false → cond (has_named set n) None (Some st) ≡ Some st

@@ -1,10 +1,11 @@
 -- What a run file spells fits the program, is within the bound, and has references below 2^64.
-use Rattle.std.proofs.Common.{◌≡◌, ◌∙◌, ◌≤◌, ℕ, ℤ, zero, suc, List, [], ◌∷◌, ◌++◌, map, All, Option, Some, slice_get, slice_set, refl, sym, subst, arith}
+use Rattle.std.proofs.Common.{◌≡◌, ◌≤◌, ℕ, ℤ, zero, suc, List, [], ◌∷◌, ◌++◌, map, All, Some, slice_get, slice_set, refl, sym, subst, arith}
 use Rattle.std.specs.Prelude.{⊤, fold}
 use Rattle.std.specs.List.{AllZip}
 use Rattle.std.specs.Ordering.{nat_cmp}
 use Rattle.std.proofs.lemmas.Int.{ints}
 use Rattle.std.proofs.lemmas.List.Elements.{All-nil, All-cons, All-set}
+use Rattle.lemmas.proofs.Options.{one_item}
 use Rattle.sparse.specs.Map.{Map, empty}
 use Rattle.vb_value.specs.Bound.{IsWithin}
 use Rattle.vb_value.specs.Content as content
@@ -32,7 +33,7 @@ use Rattle.run_file.specs.Lines.{Scope, scope_of, Line, Var, Heap, Holds, Chosen
 use Rattle.moves.specs.Printable.{IsNamed, IsNamedValue, IsNamedPart, IsNamedKey, IsNamedContent}
 use Rattle.run_file.specs.Printable.{IsNamedMemo, IsNamedChoice, IsPrintable}
 use Rattle.run_file.specs.Run.{ViperRun, memo_with, opening_with, scope_memo, empty_opening, AreChoices, none as no_choice, one, filled, SpellsViperRun}
-use Rattle.run_file.specs.Values.{SpellsInt, plain, negative, SpellsValue, int, truth, falsehood, null, reference, perm, IsArgument, int as int_argument, truth as truth_argument, reference as reference_argument, BeginsWithKey, none as no_key, more, BeginsWithContent, unit, leaf, pair}
+use Rattle.run_words.specs.Values.{SpellsInt, plain, negative, SpellsValue, int, truth, falsehood, null, reference, perm, IsArgument, int as int_argument, truth as truth_argument, reference as reference_argument, BeginsWithKey, none as no_key, more, BeginsWithContent, unit, leaf, pair}
 
 -- ---- values
 
@@ -153,13 +154,10 @@ record GoodMemo (s : Scope) (m : Memo) : Type 0 where
   within : IsWithinMemo m
   named : IsNamedMemo m
 
-same_item : {X : Type 0} {o : Option X} {x y : X} → o ≡ Some x → o ≡ Some y → x ≡ y
-same_item {x = x} {y} e f = let g : Some x ≡ Some y = sym e ∙ f in cc
-
 heap_with : {s : Scope} {m : Memo} (f r : ℕ) (w : Value) → GoodMemo s m → Gives s (Heap f r w) → GoodMemo s (memo_with m (Heap f r w))
 heap_with {s} {m} f r w h (u, at, small, g) = record {
   fits = record {
-    heap = paired_changed nat_cmp value_eq FitsHeap s.fields.types m.heap f r w h.fits.heap (λ t n e i. FitsMap-set exact_values.total n r w i tt (subst (λ x. FitsValue x w) (same_item at e) g.fits));
+    heap = paired_changed nat_cmp value_eq FitsHeap s.fields.types m.heap f r w h.fits.heap (λ t n e i. FitsMap-set exact_values.total n r w i tt (subst (λ x. FitsValue x w) (one_item at e) g.fits));
     content = h.fits.content;
   };
   within = record {
@@ -176,7 +174,7 @@ content_with : {s : Scope} {m : Memo} (q : ℕ) (k : Key) (c : Content) → Good
 content_with {s} {m} q k c h (us, at, key, g, few) = record {
   fits = record {
     heap = h.fits.heap;
-    content = paired_changed key_cmp same_content FitsContents s.predicates.types m.content q k c h.fits.content (λ t n e i. FitsMap-set exact_contents.total n k c i (subst (λ x. FitsKey x k) (same_item at e) key.fits) g.reduced);
+    content = paired_changed key_cmp same_content FitsContents s.predicates.types m.content q k c h.fits.content (λ t n e i. FitsMap-set exact_contents.total n k c i (subst (λ x. FitsKey x k) (one_item at e) key.fits) g.reduced);
   };
   within = record {
     heap = h.within.heap;

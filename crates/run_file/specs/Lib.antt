@@ -1,5 +1,3 @@
-pub mod Text
-pub mod Values
 pub mod Lines
 pub mod NamedOrder
 pub mod NamedView
@@ -7,17 +5,7 @@ pub mod Run
 pub mod LineView
 pub mod FillingView
 pub mod Reading
-pub mod Found
 pub mod Progress
 pub mod View
 pub mod Printed
 pub mod Printable
-pub mod Machine
-pub mod BoogieLines
-pub mod BoogieReading
-pub mod BoogieRun
-pub mod BoogieProgress
-pub mod BoogieView
-pub mod BoogiePrinted
-pub mod BoogiePrintable
-pub mod MovedView

@@ -4,6 +4,7 @@ use Rattle.std.specs.Borrow.{Bor}
 use Rattle.vb_value.specs.declared.values.Ty.{Ty}
 use Rattle.vb_value.specs.View.{content_of}
 use Rattle.viper_state.specs.View.{choice_of}
+use Rattle.run_words.specs.Known.{Known}
 use Rattle.run_file.specs.Lines as l
 use Rattle.run_file.specs.declared.lines.Line.{Line}
 use Rattle.run_file.specs.declared.lines.Line.TheVariants as line
@@ -24,5 +25,5 @@ scope_view s = record {
 }
 
 -- names and types that are lent
-abbrev pub lent_names : Bor (List (List ℕ)) × Bor (List Ty) → l.Known Ty
+abbrev pub lent_names : Bor (List (List ℕ)) × Bor (List Ty) → Known Ty
 lent_names x = record { names = x.0.now; types = x.1.now }

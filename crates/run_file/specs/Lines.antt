@@ -1,5 +1,5 @@
 -- What a line of a run file of Viper says.
-use Rattle.std.specs.Prelude.{◌≡◌, ◌≤◌, ◌+◌, ℕ, Bool, List, [], ◌∷◌, Option, Some, None, codes, map, slice_get, take}
+use Rattle.std.specs.Prelude.{◌≤◌, ◌+◌, ℕ, Bool, List, [], ◌∷◌, Option, Some, None, codes, map, slice_get, take}
 use Rattle.vb_base.specs.Limits.{max_content_nodes}
 use Rattle.vb_value.specs.Content.{Content, nodes}
 use Rattle.vb_value.specs.declared.values.Ty.{Ty}
@@ -12,22 +12,10 @@ use Rattle.viper_core.specs.declared.programs.Unit.{Unit}
 use Rattle.viper_core.specs.declared.programs.Unit.TheVariants as unit
 use Rattle.viper_state.specs.State.{Key}
 use Rattle.viper_state.specs.Choice.{Choice, Branch, Took, Amount, Fresh}
-use Rattle.run_file.specs.Values.{SpellsValue, BeginsWithKey, BeginsWithContent}
+use Rattle.run_words.specs.Values.{SpellsValue, BeginsWithKey, BeginsWithContent}
+use Rattle.run_words.specs.Known.{Known, HasName, nothing_known}
 
 -- ---- what lines may name
-
--- the names of one kind in order, each with its type
-pub record Known (T : Type 0) : Type 0 where
-  pub names : List (List ℕ)
-  pub types : List T
-
--- the one of this number has this name and type
-pub record HasName {T : Type 0} (k : Known T) (n : ℕ) (name : List ℕ) (t : T) : Type 0 where
-  pub named : slice_get k.names n ≡ Some name
-  pub typed : slice_get k.types n ≡ Some t
-
-abbrev pub nothing_known : {T : Type 0} → Known T
-nothing_known = record { names = []; types = [] }
 
 -- the parameters, and then the returns
 abbrev pub method_variables : Option Method → Known Ty

@@ -1,6 +1,5 @@
 -- The runs that a printed text spells: they fit the program, are within the bound, and have references that a run file can name.
 use Rattle.std.specs.Prelude.{⊤, ℕ, All}
-use Rattle.sparse.specs.Map.{Map, keys, values}
 use Rattle.viper_core.specs.Program.{Program}
 use Rattle.viper_state.specs.Choice.{Choice, Branch, Took, Amount, Fresh, Filled}
 use Rattle.viper_state.specs.Fits.{FitsOpening, FitsChoice}
@@ -9,6 +8,7 @@ use Rattle.viper_state.specs.Within.{HasEntries, IsWithinOpening, IsWithinChoice
 use Rattle.moves.specs.Printable.{IsNamed, IsNamedValue, IsNamedKey, IsNamedContent}
 use Rattle.run_file.specs.Lines.{scope_of}
 use Rattle.run_file.specs.Run.{ViperRun}
+use Rattle.run_words.specs.Named.{AreNamed}
 
 -- ---- references below 2^64
 
@@ -25,10 +25,6 @@ IsNamedChoice (Filled m) = IsNamedMemo m
 
 -- ---- what the references of the code give of this by themselves: it is said of the keys and values of each map, and not of
 -- its default
-
-pub record AreNamed {K V : Type 0} (P : K → Type 0) (Q : V → Type 0) (m : Map K V) : Type 0 where
-  pub keys : All P (keys m)
-  pub values : All Q (values m)
 
 pub record NamesMemo (m : Memo) : Type 0 where
   pub heap : All (AreNamed IsNamed IsNamedValue) m.heap

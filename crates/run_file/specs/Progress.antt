@@ -1,21 +1,19 @@
 -- How a run file is read line by line. That this is the run that the lines spell is shown in `proofs/`.
-use Rattle.std.specs.Prelude.{⊤, ℕ, Bool, true, false, ◌&&◌, List, [], ◌∷◌, ◌++◌, Option, Some, None, codes, slice_set, if◌then◌else◌}
+use Rattle.std.specs.Prelude.{ℕ, Bool, true, false, ◌&&◌, List, [], ◌∷◌, ◌++◌, Option, Some, None, codes, slice_set, if◌then◌else◌}
 use Rattle.std.specs.BTreeSet.{insert_key}
 use Rattle.std.specs.Str.{bytes_eq}
-use Rattle.vb_base.specs.declared.places.Pos.{Pos}
 use Rattle.vb_value.specs.declared.values.Value.{Value}
 use Rattle.viper_state.specs.State.{Memo}
 use Rattle.viper_state.specs.Choice.{Choice, Branch, Took, Amount, Fresh, Filled}
-use Rattle.run_file.specs.Text.{is_skipped, words_of}
+use Rattle.run_words.specs.Text.{is_skipped, words_of}
 use Rattle.run_file.specs.Lines.{Scope, Line, Var, Heap, Holds, Chosen, Opened}
-use Rattle.run_file.specs.Reading.{◌>>=◌, line_of}
+use Rattle.run_words.specs.Reading.{◌>>=◌}
+use Rattle.run_file.specs.Reading.{line_of}
 use Rattle.run_file.specs.Run.{ViperRun, scope_memo, empty_opening, memo_with}
-use Rattle.run_file.specs.Machine.{Machine, among}
+use Rattle.run_words.specs.Machine.{Machine, among}
 use Rattle.run_file.specs.NamedOrder.{named_cmp}
 use Rattle.run_file.specs.declared.lines.Named.{Named}
 use Rattle.run_file.specs.declared.lines.Named.TheVariants as named
-use Rattle.run_file.specs.declared.runs.RunFileFault.{RunFileFault}
-use Rattle.run_file.specs.declared.runs.RunFileFault.TheVariants as fault
 use Rattle.run_file.specs.declared.reader.Stage.{Stage}
 use Rattle.run_file.specs.declared.reader.Stage.TheVariants as stage
 
@@ -121,8 +119,3 @@ is_headed _ = true
 -- the reader of the run files of a unit with this scope
 abbrev pub reader : Scope → Machine Progress ViperRun
 reader s = record { begun = begun s; step = read_line s; is_headed = λ st. is_headed st.stage; run = λ st. st.run }
-
--- the fact about the place, unless memory was refused
-abbrev pub UnlessMemory : (Pos → Type 0) → RunFileFault → Type 0
-UnlessMemory P fault.Memory = ⊤
-UnlessMemory P (fault.Syntax at) = P at

@@ -13,9 +13,9 @@ use Rattle.viper_core.specs.Program.{Program}
 use Rattle.viper_state.specs.State.{Memo, changed_at}
 use Rattle.viper_state.specs.Run.{Opening}
 use Rattle.viper_state.specs.Choice.{Choice, Filled}
-use Rattle.run_file.specs.Text.{lines_of}
+use Rattle.run_words.specs.Text.{lines_of}
 use Rattle.run_file.specs.Lines.{Scope, scope_of, Line, Var, Heap, Holds, Chosen, Opened, IsLine}
-use Rattle.run_file.specs.Machine.{Headed, WrongAt}
+use Rattle.run_words.specs.Machine.{Headed, WrongAt}
 use Rattle.run_file.specs.declared.lines.Named.{Named}
 use Rattle.run_file.specs.declared.lines.Named.TheVariants as named
 

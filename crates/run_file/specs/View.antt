@@ -1,14 +1,11 @@
 -- The plain data that contracts see of a run, and of how far a file is read.
-use Rattle.std.specs.Prelude.{◌≡◌, ◌⊎◌, map, Result, Ok, Err}
-use Rattle.vb_base.specs.declared.places.Pos.{Pos}
+use Rattle.std.specs.Prelude.{map}
 use Rattle.viper_state.specs.View.{opening_of, choice_of}
 use Rattle.run_file.specs.Run as r
 use Rattle.run_file.specs.FillingView.{filling_of}
 use Rattle.run_file.specs.Progress.{Progress, with_filled}
 use Rattle.run_file.specs.NamedView.{named_of}
 use Rattle.run_file.specs.declared.runs.ViperRun.{ViperRun}
-use Rattle.run_file.specs.declared.runs.RunFileFault.{RunFileFault}
-use Rattle.run_file.specs.declared.runs.RunFileFault.TheVariants as fault
 use Rattle.run_file.specs.declared.reader.Reader.{Reader}
 
 abbrev pub run_of : ViperRun → r.ViperRun
@@ -17,13 +14,3 @@ run_of x = record { opening = opening_of x.opening; choices = map choice_of x.ch
 -- the heap and contents that are filled stand in their place in the run
 abbrev pub progress_of : Reader → Progress
 progress_of x = record { stage = x.stage; named = named_of x.named; run = with_filled x.stage (filling_of x.filling) (run_of x.run) }
-
--- the result is so, unless memory was refused
-abbrev pub Gives : {X : Type 0} → (X → Type 0) → Result X RunFileFault → Type 0
-Gives P (Ok x) = P x
-Gives P (Err e) = e ≡ fault.Memory
-
--- the result is this place, unless memory was refused
-abbrev pub GivesPlace : {X : Type 0} → Pos → Result X RunFileFault → Type 0
-GivesPlace at (Ok x) = ⊥
-GivesPlace at (Err e) = (e ≡ fault.Syntax at) ⊎ (e ≡ fault.Memory)

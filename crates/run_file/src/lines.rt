@@ -1,17 +1,18 @@
 // The lines of a run file of Viper.
-ghost use Rattle.std.specs.Prelude.{◌≡◌, IfOk, MatchOption, Some, find};
+ghost use Rattle.std.specs.Prelude.{◌≡◌, IfOk, MatchOption, Some};
 ghost use Rattle.std.specs.Option.{option_map, option_copied};
-ghost use Rattle.std.specs.Str.{bytes_eq};
 ghost use Rattle.viper_state.specs.View.{choice_of};
-ghost use Rattle.run_file.specs.Text.{words_of};
+ghost use Rattle.run_words.specs.Reading.{named_line};
+ghost use Rattle.run_words.specs.Text.{words_of};
 ghost use Rattle.run_file.specs.Lines as l;
 ghost use Rattle.run_file.specs.Reading as reading;
 ghost use Rattle.run_file.specs.LineView.{line_view, scope_view};
 
-use crate::contents::{key, whole_content};
-use crate::names::{Names, Scope};
-use crate::texts::{is_word, next_word};
-use crate::values::{any_value, fraction, reference, truth, value};
+use crate::names::Scope;
+use run_words::{
+    FirstWord, any_value, first_word, fraction, key, next_word, numbered, reference, single, truth,
+    value, whole_content,
+};
 use std::alloc::Global;
 use vb_base::Memory;
 use vb_value::{Content, Key, Ty, Value};
@@ -36,6 +37,23 @@ enum Keyword {
     Amount,
     Fresh,
     State,
+}
+
+impl FirstWord for Keyword {
+    ghost spelled = { reading.keyword_text };
+
+    fn text(self) -> &'static str {
+        match self {
+            Keyword::Var => "var",
+            Keyword::Heap => "heap",
+            Keyword::Content => "content",
+            Keyword::Pick => "pick",
+            Keyword::Value => "value",
+            Keyword::Amount => "amount",
+            Keyword::Fresh => "fresh",
+            Keyword::State => "state",
+        }
+    }
 }
 
 const KEYWORDS: [Keyword; 8] = [
@@ -68,11 +86,8 @@ pub(crate) enum Line {
 pub(crate) fn line_of(alloc: Global, scope: Scope, words: &[u8]) -> Result<Option<Line>, Memory>
     ensures { IfOk result (λ l. option_map line_view l ≡ reading.line_of (scope_view scope.entry) (words_of words.now)) }
 {
-    let Some((word, rest)) = next_word(words) else {
-        return Ok(None);
-    };
-    match keyword_of(word) {
-        Some(keyword) => keyed_line(alloc, scope, keyword, rest),
+    match first_word(&KEYWORDS, words) {
+        Some((keyword, rest)) => keyed_line(alloc, scope, keyword, rest),
         None => Ok(None),
     }
 }
@@ -104,47 +119,6 @@ fn chosen(choice: Option<Choice>) -> Option<Line>
     Some(Line::Chosen(choice?))
 }
 
-fn keyword_text(keyword: Keyword) -> &'static str
-    ensures { result.now ≡ reading.keyword_text keyword }
-{
-    match keyword {
-        Keyword::Var => "var",
-        Keyword::Heap => "heap",
-        Keyword::Content => "content",
-        Keyword::Pick => "pick",
-        Keyword::Value => "value",
-        Keyword::Amount => "amount",
-        Keyword::Fresh => "fresh",
-        Keyword::State => "state",
-    }
-}
-
-fn keyword_of(word: &[u8]) -> Option<Keyword>
-    ensures { result ≡ reading.keyword_of word.now }
-{
-    keyword_among(&KEYWORDS, word)
-}
-
-fn keyword_among(keywords: &[Keyword], word: &[u8]) -> Option<Keyword>
-    ensures { result ≡ find (λ k. bytes_eq word.now (reading.keyword_text k)) keywords.now }
-{
-    keywords
-        .iter()
-        .copied()
-        .find(|keyword| is_word(word, keyword_text(*keyword).as_bytes()))
-}
-
-/// The one word, where there is no other.
-pub(crate) fn single(words: &[u8]) -> Option<&[u8]>
-    ensures { option_map (λ w. w.now) result ≡ reading.single (words_of words.now) }
-{
-    let (word, rest) = next_word(words)?;
-    match next_word(rest) {
-        Some(_) => None,
-        None => Some(word),
-    }
-}
-
 /// The value of a type that is the one word.
 fn only_value(ty: Ty, words: &[u8]) -> Option<Value>
     ensures { result ≡ reading.only_value ty (words_of words.now) }
@@ -152,25 +126,8 @@ fn only_value(ty: Ty, words: &[u8]) -> Option<Value>
     value(ty, single(words)?)
 }
 
-/// The name with which the words of a line begin, as its number, and the rest of the line.
-pub(crate) fn numbered<'a>(
-    alloc: Global,
-    names: &Names,
-    words: &'a [u8],
-) -> Result<Option<(usize, &'a [u8])>, Memory>
-    ensures { IfOk result (λ r. option_map (λ x. (x.0, words_of x.1.now)) r ≡ reading.numbered_name names.now (words_of words.now)) }
-{
-    let Some((name, rest)) = next_word(words) else {
-        return Ok(None);
-    };
-    match names.number_of(alloc, name)? {
-        Some(number) => Ok(Some((number, rest))),
-        None => Ok(None),
-    }
-}
-
 fn var_line(alloc: Global, scope: Scope, words: &[u8]) -> Result<Option<Line>, Memory>
-    ensures { IfOk result (λ l. option_map line_view l ≡ reading.named_line reading.variable_line (scope_view scope.entry).variables (words_of words.now)) }
+    ensures { IfOk result (λ l. option_map line_view l ≡ named_line reading.variable_line (scope_view scope.entry).variables (words_of words.now)) }
 {
     match numbered(alloc, scope.variables, words)? {
         Some((number, rest)) => Ok(variable_line(number, scope.types.get(number), rest)),
@@ -185,7 +142,7 @@ fn variable_line(number: usize, ty: Option<&Ty>, words: &[u8]) -> Option<Line>
 }
 
 fn heap_line(alloc: Global, scope: Scope, words: &[u8]) -> Result<Option<Line>, Memory>
-    ensures { IfOk result (λ l. option_map line_view l ≡ reading.named_line reading.place_line (scope_view scope.entry).fields (words_of words.now)) }
+    ensures { IfOk result (λ l. option_map line_view l ≡ named_line reading.place_line (scope_view scope.entry).fields (words_of words.now)) }
 {
     match numbered(alloc, scope.fields, words)? {
         Some((number, rest)) => {
@@ -205,7 +162,7 @@ fn place_line(number: usize, ty: Option<&Ty>, words: &[u8]) -> Option<Line>
 }
 
 fn content_line(alloc: Global, scope: Scope, words: &[u8]) -> Result<Option<Line>, Memory>
-    ensures { IfOk result (λ l. option_map line_view l ≡ reading.named_line reading.instance_line (scope_view scope.entry).predicates (words_of words.now)) }
+    ensures { IfOk result (λ l. option_map line_view l ≡ named_line reading.instance_line (scope_view scope.entry).predicates (words_of words.now)) }
 {
     let Some((number, rest)) = numbered(alloc, scope.predicates, words)? else {
         return Ok(None);

@@ -11,6 +11,7 @@ ghost use Rattle.run_file.specs.LineView.{line_view};
 ghost use Rattle.run_file.specs.Run as r;
 
 use crate::lines::Line;
+use run_words::grown;
 use sparse::{Builder, Sparse};
 use std::alloc::Global;
 use vb_base::Memory;
@@ -124,14 +125,4 @@ fn empty_contents(alloc: Global, count: usize) -> Result<Vec<Builder<Key, Conten
         contents.push(Builder::make(alloc, Content::Unit))?;
     }
     Ok(contents)
-}
-
-/// The same answer, where memory was refused by the name that it has here.
-pub(crate) fn grown<T>(answer: Result<T, sparse::Memory>) -> Result<T, Memory>
-    ensures { IfOk result (λ x. answer ≡ Ok x) }
-{
-    match answer {
-        Ok(value) => Ok(value),
-        Err(_) => Err(Memory),
-    }
 }

@@ -1,18 +1,15 @@
 // Each reference of the code is below 2^64. It is read off the references of a run one by one.
 ghost use Rattle.std.specs.Prelude.{All, map};
-ghost use Rattle.sparse.specs.Map.{keys, values};
+ghost use Rattle.sparse.specs.Map.{values};
 ghost use Rattle.vb_value.specs.View.{content_of};
-ghost use Rattle.boogie_tree.specs.Whole.{setting_of, value_of};
 ghost use Rattle.viper_state.specs.View.{choice_of, contents_of, memo_of};
-ghost use Rattle.moves.specs.Printable.{IsNamed, IsNamedContent, IsNamedKey, IsNamedScalar, IsNamedValue};
-ghost use Rattle.run_file.specs.BoogiePrintable as boogie;
-ghost use Rattle.run_file.specs.BoogieView.{filling_of};
-ghost use Rattle.run_file.specs.Printable.{AreNamed, NamesChoice, NamesMemo};
+ghost use Rattle.moves.specs.Printable.{IsNamed, IsNamedContent, IsNamedKey, IsNamedValue};
+ghost use Rattle.run_words.specs.Named.{AreNamed};
+ghost use Rattle.run_file.specs.Printable.{NamesChoice, NamesMemo};
 ghost use Rattle.run_file.specs.View.{run_of};
 
 use crate::runs::ViperRun;
-use boogie_tree::{BScalar, BSetting, BValue};
-use moves::{named_key, named_scalar};
+use moves::named_key;
 use sparse::Sparse;
 use vb_value::{Content, Key, Value};
 use viper_state::{Choice, Memo};
@@ -94,33 +91,6 @@ fn named_choice(choice: &Choice)
         Choice::Fresh(reference) => named_reference(*reference),
         Choice::Memo(memo) => named_memo(memo),
         _ => {}
-    }
-}
-
-pub(crate) fn named_settings(settings: &[BSetting])
-    ensures { All boogie.IsNamedSetting (map setting_of settings.now) }
-{
-    for setting in settings {
-        named_setting(&setting.value);
-    }
-}
-
-fn named_setting(value: &BValue)
-    ensures { boogie.IsNamedBValue (value_of value.now) }
-{
-    match value {
-        BValue::One(value) => named_scalar(value),
-        BValue::Map(map) => named_map(map),
-    }
-}
-
-fn named_map(map: &Sparse<Key, BScalar>)
-    ensures { All IsNamedKey (keys (filling_of map.now)) × All IsNamedScalar (values (filling_of map.now)) }
-{
-    for i in 0..map.len() {
-        let key = map.key_at(i);
-        named_key(key.parts());
-        named_scalar(map.get(key));
     }
 }
 

@@ -1,7 +1,7 @@
 // What lines have named.
 ghost use Rattle.std.specs.Prelude.{◌≡◌, [], IfOk, OnOk, get_or, map, not};
 ghost use Rattle.std.specs.BTreeSet.{insert_key};
-ghost use Rattle.run_file.specs.Machine.{among};
+ghost use Rattle.run_words.specs.Machine.{among};
 ghost use Rattle.run_file.specs.NamedOrder.{named_cmp};
 ghost use Rattle.run_file.specs.NamedView.{named_of, keys_of, with_key};
 

@@ -1,13 +1,12 @@
 // The text of a run.
 ghost use Rattle.std.specs.Prelude.{◌≡◌, ◌++◌, IfOk, OnOk, map};
-ghost use Rattle.std.specs.Fmt.{signed_decimal};
 ghost use Rattle.std.specs.Option.{option_copied, option_map};
 ghost use Rattle.vb_value.specs.View.{content_of};
 ghost use Rattle.viper_core.specs.Formed.{IsFormed};
 ghost use Rattle.viper_core.specs.Program as p;
 ghost use Rattle.viper_core.specs.View.{predicate_of, program_of};
 ghost use Rattle.viper_state.specs.View.{choice_of, contents_of, memo_of};
-ghost use Rattle.moves.specs.Printable.{IsNamed, IsNamedContent, IsNamedKey, IsNamedPart, IsNamedValue};
+ghost use Rattle.run_words.specs.Printed.{named_text, numbered_text};
 ghost use Rattle.run_file.specs.Printable.{FitsWithin};
 ghost use Rattle.run_file.specs.Printed as text;
 ghost use Rattle.run_file.specs.Run.{SpellsViperRun};
@@ -16,11 +15,11 @@ ghost use Rattle.run_file.specs.View.{run_of};
 use crate::named::named_run;
 use crate::names::variables_of;
 use crate::runs::ViperRun;
-use digits::Digits;
+use run_words::{put_content, put_fraction, put_key, put_reference, put_value, truth_text};
 use sparse::Sparse;
 use std::alloc::Global;
 use vb_base::{Ident, Memory, put};
-use vb_value::{Content, Frac, Key, KeyPart, Value};
+use vb_value::{Content, Key, Value};
 use viper_core::{Predicate, Program};
 use viper_state::{Choice, Memo};
 
@@ -48,7 +47,7 @@ pub fn print_viper_run(
 }
 
 fn put_variables(out: &mut Vec<u8>, names: &[Ident], values: &[Value]) -> Result<(), Memory>
-    ensures { OnOk result (out.new.items ≡ out.old.items ++ text.numbered_text text.var_text names.now 0 values.now) }
+    ensures { OnOk result (out.new.items ≡ out.old.items ++ numbered_text text.var_text names.now 0 values.now) }
 {
     for (i, value) in values.iter().enumerate() {
         put_variable(out, names.get(i), *value)?;
@@ -58,7 +57,7 @@ fn put_variables(out: &mut Vec<u8>, names: &[Ident], values: &[Value]) -> Result
 
 /// A variable, unless it has its default.
 fn put_variable(out: &mut Vec<u8>, name: Option<&Ident>, value: Value) -> Result<(), Memory>
-    ensures { OnOk result (out.new.items ≡ out.old.items ++ text.named_text text.var_text (option_copied name.entry) value) }
+    ensures { OnOk result (out.new.items ≡ out.old.items ++ named_text text.var_text (option_copied name.entry) value) }
 {
     let Some(name) = name else {
         return Ok(());
@@ -85,7 +84,7 @@ fn put_heaps(
     fields: &[Ident],
     heaps: &[Sparse<u64, Value>],
 ) -> Result<(), Memory>
-    ensures { OnOk result (out.new.items ≡ out.old.items ++ text.numbered_text text.heap_text fields.now 0 heaps.now) }
+    ensures { OnOk result (out.new.items ≡ out.old.items ++ numbered_text text.heap_text fields.now 0 heaps.now) }
 {
     for (i, heap) in heaps.iter().enumerate() {
         put_heap(out, fields.get(i), heap)?;
@@ -98,7 +97,7 @@ fn put_heap(
     name: Option<&Ident>,
     heap: &Sparse<u64, Value>,
 ) -> Result<(), Memory>
-    ensures { OnOk result (out.new.items ≡ out.old.items ++ text.named_text text.heap_text (option_copied name.entry) heap.now) }
+    ensures { OnOk result (out.new.items ≡ out.old.items ++ named_text text.heap_text (option_copied name.entry) heap.now) }
 {
     match name {
         Some(name) => put_places(out, name, heap),
@@ -134,7 +133,7 @@ fn put_contents(
     contents: &[Sparse<Key, Content>],
 ) -> Result<(), Memory>
     ensures { OnOk result (out.new.items ≡ out.old.items
-        ++ text.numbered_text text.contents_text (map (λ (d : p.Predicate). d.name) (map predicate_of predicates.now)) 0 (map contents_of contents.now)) }
+        ++ numbered_text text.contents_text (map (λ (d : p.Predicate). d.name) (map predicate_of predicates.now)) 0 (map contents_of contents.now)) }
 {
     for (i, map) in contents.iter().enumerate() {
         put_predicate(out, predicates.get(i), map)?;
@@ -148,7 +147,7 @@ fn put_predicate(
     contents: &Sparse<Key, Content>,
 ) -> Result<(), Memory>
     ensures { OnOk result (out.new.items ≡ out.old.items
-        ++ text.named_text text.contents_text (option_map (λ d. (predicate_of d).name) (option_copied predicate.entry)) (contents_of contents.now)) }
+        ++ named_text text.contents_text (option_map (λ d. (predicate_of d).name) (option_copied predicate.entry)) (contents_of contents.now)) }
 {
     match predicate {
         Some(predicate) => put_instances(out, &predicate.name, contents),
@@ -179,91 +178,6 @@ fn put_instance(out: &mut Vec<u8>, name: &Ident, key: &Key, content: &Content) -
     put_key(out, key.parts())?;
     put_content(out, content)?;
     put(out, b"\n")
-}
-
-/// The arguments of an instance, each with a space behind it.
-pub(crate) fn put_key(out: &mut Vec<u8>, parts: &[KeyPart]) -> Result<(), Memory>
-    ensures text { OnOk result (out.new.items ≡ out.old.items ++ text.key_text parts.now) }
-    ensures named { OnOk result (IsNamedKey parts.now) }
-{
-    for part in parts {
-        put_part(out, *part)?;
-        put(out, b" ")?;
-    }
-    Ok(())
-}
-
-fn put_part(out: &mut Vec<u8>, part: KeyPart) -> Result<(), Memory>
-    ensures text { OnOk result (out.new.items ≡ out.old.items ++ text.part_text part) }
-    ensures named { OnOk result (IsNamedPart part) }
-{
-    match part {
-        KeyPart::Int(number) => put_number(out, number),
-        KeyPart::Bool(truth) => put(out, truth_text(truth)),
-        KeyPart::Ref(reference) => put_reference(out, reference),
-    }
-}
-
-pub(crate) fn put_content(out: &mut Vec<u8>, content: &Content) -> Result<(), Memory>
-    ensures text { OnOk result (out.new.items ≡ out.old.items ++ text.content_text (content_of content.now)) }
-    ensures named { OnOk result (IsNamedContent (content_of content.now)) }
-{
-    match content {
-        Content::Unit => put(out, b"unit"),
-        Content::Leaf(value) => {
-            put(out, b"leaf ")?;
-            put_value(out, *value)
-        }
-        Content::Pair(left, right) => {
-            put(out, b"pair ")?;
-            put_content(out, left)?;
-            put(out, b" ")?;
-            put_content(out, right)
-        }
-    }
-}
-
-fn put_value(out: &mut Vec<u8>, value: Value) -> Result<(), Memory>
-    ensures text { OnOk result (out.new.items ≡ out.old.items ++ text.value_text value) }
-    ensures named { OnOk result (IsNamedValue value) }
-{
-    match value {
-        Value::Int(number) => put_number(out, number),
-        Value::Bool(truth) => put(out, truth_text(truth)),
-        Value::Ref(reference) => put_reference(out, reference),
-        Value::Perm(fraction) => put_fraction(out, fraction),
-    }
-}
-
-pub(crate) fn truth_text(truth: bool) -> &'static [u8]
-    ensures { result.now ≡ text.truth_text truth }
-{
-    if truth { b"true" } else { b"false" }
-}
-
-pub(crate) fn put_reference(out: &mut Vec<u8>, reference: u64) -> Result<(), Memory>
-    ensures text { OnOk result (out.new.items ≡ out.old.items ++ text.reference_text reference) }
-    ensures named { OnOk result (IsNamed reference) }
-{
-    if reference == 0 {
-        return put(out, b"null");
-    }
-    put(out, b"#")?;
-    put(out, Digits::of(reference).bytes())
-}
-
-pub(crate) fn put_fraction(out: &mut Vec<u8>, fraction: Frac) -> Result<(), Memory>
-    ensures { OnOk result (out.new.items ≡ out.old.items ++ text.fraction_text fraction) }
-{
-    put_number(out, Frac::num(fraction))?;
-    put(out, b"/")?;
-    put_number(out, Frac::den(fraction))
-}
-
-pub(crate) fn put_number(out: &mut Vec<u8>, number: i128) -> Result<(), Memory>
-    ensures { OnOk result (out.new.items ≡ out.old.items ++ signed_decimal number) }
-{
-    put(out, Digits::of_signed(number).bytes())
 }
 
 fn put_choices(out: &mut Vec<u8>, program: &Program, choices: &[Choice]) -> Result<(), Memory>

@@ -9,19 +9,21 @@ ghost use Rattle.viper_state.specs.View.{choice_of};
 ghost use Rattle.run_file.specs.FillingView.{filling_of};
 ghost use Rattle.run_file.specs.Run.{ViperRun as Plain, SpellsViperRun, GoesWrongAt, scope_memo};
 ghost use Rattle.run_file.specs.LineView.{line_view, scope_view};
-ghost use Rattle.run_file.specs.Machine.{IsReadBy, StopsBy, Steps};
+ghost use Rattle.run_words.specs.Machine.{IsReadBy, StopsBy, Steps};
 ghost use Rattle.run_file.specs.Progress as progress;
+ghost use Rattle.run_words.specs.Answers.{UnlessMemory};
 ghost use Rattle.run_file.specs.NamedView.{named_of};
-ghost use Rattle.run_file.specs.Text.{lines_of, words_of};
-ghost use Rattle.run_file.specs.View.{progress_of, run_of, Gives, GivesPlace};
+ghost use Rattle.run_words.specs.Text.{lines_of, words_of};
+ghost use Rattle.run_file.specs.View.{progress_of, run_of};
+ghost use Rattle.run_words.specs.Answers.{Gives, GivesPlace};
 ghost use Rattle.run_file.specs.declared.reader.Stage.TheVariants as stage;
 
 use crate::lines::{Line, Named, line_of};
 use crate::memos::{Filling, defaults};
 use crate::named_sets::NamedSets;
-use crate::names::{Names, Scope, variables_of};
-use crate::runs::{RunFileFault, ViperRun};
-use crate::texts::{is_skipped, next_line, next_word};
+use crate::names::{Scope, predicate_names, variables_of};
+use crate::runs::ViperRun;
+use run_words::{LineReader, Names, RunFileFault, is_skipped, next_word, read_lines};
 use std::alloc::Global;
 use std::mem;
 use vb_base::{Memory, Pos};
@@ -41,7 +43,7 @@ pub fn read_viper_run(
     requires formed { IsFormed (program_of program.now) }
     requires unit { unit < length (program_of program.now).units }
     ensures run { IfOk result (λ run. SpellsViperRun bytes.now (program_of program.now) unit (run_of run)) }
-    ensures fault { IfErr result (progress.UnlessMemory (GoesWrongAt bytes.now (program_of program.now) unit)) }
+    ensures fault { IfErr result (UnlessMemory (GoesWrongAt bytes.now (program_of program.now) unit)) }
 
     // and so no other run, and no other place
     ensures only_run { (run : Plain) → SpellsViperRun bytes.now (program_of program.now) unit run → Gives (λ x. run_of x ≡ run) result }
@@ -50,7 +52,7 @@ pub fn read_viper_run(
     let (names, types) = variables_of(program, unit);
     let variables = Names::of(alloc, names)?;
     let fields = Names::of(alloc, &program.fields)?;
-    let predicates = Names::of_predicates(alloc, &program.predicates)?;
+    let predicates = predicate_names(alloc, &program.predicates)?;
     let scope = Scope {
         variables: &variables,
         types,
@@ -58,7 +60,7 @@ pub fn read_viper_run(
         predicates: &predicates,
         layout: &program.layout,
     };
-    read_lines(alloc, scope, bytes)
+    read_run(alloc, scope, bytes)
 }
 
 /// What may stand next in a file.
@@ -212,7 +214,7 @@ impl Reader {
     fn finish(self, alloc: Global, lines: u32) -> Result<ViperRun, RunFileFault>
         requires { (1 ≤ lines) × (lines < 2 ^ 32) }
         ensures { MatchResult result (λ run. (progress.is_headed self.stage ≡ true) × (run_of run ≡ (progress_of self).run))
-            (λ e. progress.UnlessMemory (λ at. (progress.is_headed self.stage ≡ false) × (at.line ≡ lines) × (at.col ≡ 1)) e) }
+            (λ e. UnlessMemory (λ at. (progress.is_headed self.stage ≡ false) × (at.line ≡ lines) × (at.col ≡ 1)) e) }
     {
         if let Stage::Header = self.stage {
             return Err(RunFileFault::Syntax(Pos {
@@ -278,22 +280,41 @@ fn is_header(line: &[u8]) -> bool
     first == b"viper".as_slice() && second == b"run".as_slice() && next_word(rest).is_none()
 }
 
+/// A reader, and what the lines of its file may name.
+#[derive(Drop)]
+struct Scoped<'a> {
+    reader: Reader,
+    scope: Scope<'a>,
+}
+
+impl LineReader for Scoped<'_> {
+    type Run = ViperRun;
+
+    ghost State = { progress.Progress };
+
+    ghost Plain = { Plain };
+
+    ghost machine = { λ x. progress.reader (scope_view x.scope) };
+
+    ghost state = { λ x. progress_of x.reader };
+
+    ghost plain = { run_of };
+
+    fn read_line(&mut self, alloc: Global, text: &[u8]) -> Result<bool, Memory> {
+        self.reader.read_line(alloc, self.scope, text)
+    }
+
+    fn finish(self, alloc: Global, lines: u32) -> Result<ViperRun, RunFileFault> {
+        self.reader.finish(alloc, lines)
+    }
+}
+
 /// The run that the lines of a text are, or where it goes wrong.
-fn read_lines(alloc: Global, scope: Scope, bytes: &[u8]) -> Result<ViperRun, RunFileFault>
+fn read_run(alloc: Global, scope: Scope, bytes: &[u8]) -> Result<ViperRun, RunFileFault>
     requires { length bytes.now ≤ max_boogie_bytes }
     ensures { MatchResult result (λ run. IsReadBy (progress.reader (scope_view scope.entry)) (lines_of bytes.now) (run_of run))
-        (progress.UnlessMemory (StopsBy (progress.reader (scope_view scope.entry)) (lines_of bytes.now))) }
+        (UnlessMemory (StopsBy (progress.reader (scope_view scope.entry)) (lines_of bytes.now))) }
 {
-    let mut reader = Reader::new(alloc, scope)?;
-    let mut rest = Some(bytes);
-    let mut line = 0;
-    while let Some(text) = rest {
-        let (text, after) = next_line(text);
-        line += 1;
-        if !reader.read_line(alloc, scope, text)? {
-            return Err(RunFileFault::Syntax(Pos { line, col: 1 }));
-        }
-        rest = after;
-    }
-    reader.finish(alloc, line)
+    let reader = Reader::new(alloc, scope)?;
+    read_lines(alloc, Scoped { reader, scope }, bytes)
 }

@@ -1,10 +1,13 @@
 -- What a run file of Boogie spells can be run: each variable begins with a value of its type, fractions are in lowest terms,
 -- and numbers are within the bound.
-use Rattle.std.proofs.Common.{◌≡◌, ◌∙◌, ℕ, Bool as Truth, true, false, ◌&&◌, List, [], ◌∷◌, ◌++◌, map, All, IsTrue, Some, slice_get, slice_set, refl, sym, ap, subst, arith, if◌then◌else◌}
+use Rattle.std.proofs.Common.{◌≡◌, ◌∙◌, ℕ, Bool as Truth, true, false, List, [], ◌∷◌, ◌++◌, map, All, IsTrue, Some, slice_get, slice_set, refl, sym, ap, subst, if◌then◌else◌}
 use Rattle.std.specs.Prelude.{⊤, fold}
 use Rattle.std.specs.List.{AllZip}
 use Rattle.std.specs.Map.{values_of}
 use Rattle.std.proofs.lemmas.List.Elements.{All-nil, All-cons, All-head, All-tail, All-set}
+use Rattle.boogie_run.proofs.RunWithinLaws.{set_within, default_within}
+use Rattle.lemmas.proofs.Tests.{and_parts}
+use Rattle.lemmas.proofs.Options.{some_same}
 use Rattle.sparse.specs.Map.{Map, empty, set, values}
 use Rattle.sparse.proofs.MapLaws.{All-values-set}
 use Rattle.vb_value.specs.Key.{key_cmp}
@@ -20,13 +23,13 @@ use Rattle.boogie_meaning.specs.Decided.{Decides-same_base, Decides-fits_key}
 use Rattle.boogie_meaning.specs.Programs.{types_of, default_value, default_by}
 use Rattle.boogie_meaning.proofs.ValueLaws.{empty_typed, set_typed}
 use Rattle.boogie_run.specs.Start.{with_settings, start_of, FitsSetting, CanRun}
-use Rattle.boogie_run.specs.Within.{IsWithinScalar, IsWithinValue, IsWithinEntry, IsWithinChoice}
+use Rattle.boogie_eval.specs.Within.{IsWithinScalar, IsWithinValue, IsWithinEntry, IsWithinChoice}
 use Rattle.boogie_run.proofs.SettingLaws.{start_fits}
 use Rattle.moves.specs.Scalars.{scalar}
-use Rattle.run_file.specs.BoogieLines.{SpellsScalar, word, content, SpellsEntry, last, more, known, Line, Var, Map as Opens, At, Chosen, Opened, IsLine, var, opens, at, pick, value, entries}
-use Rattle.run_file.specs.BoogieRun.{entry_with, entries_of, nothing, fits_entry, AreSettings, AreChoices, none, one, many, AreRun, environment, unset, SpellsBoogieRun}
-use Rattle.run_file.specs.BoogieRun as choice
-use Rattle.run_file.specs.Lines.{Known}
+use Rattle.run_boogie.specs.BoogieLines.{SpellsScalar, word, content, SpellsEntry, last, more, known, Line, Var, Map as Opens, At, Chosen, Opened, IsLine, var, opens, at, pick, value, entries}
+use Rattle.run_boogie.specs.BoogieRun.{entry_with, entries_of, nothing, fits_entry, AreSettings, AreChoices, none, one, many, AreRun, environment, unset, SpellsBoogieRun}
+use Rattle.run_boogie.specs.BoogieRun as choice
+use Rattle.run_words.specs.Known.{Known}
 use Rattle.moves.specs.Lists.{is_empty}
 use Rattle.run_file.proofs.SpelledLaws.{Good, good_value, good_content}
 
@@ -99,10 +102,6 @@ block_good k (e ∷ es) h = (h.0, block_good k es h.1)
 
 -- ---- maps that lines fill
 
-and_both : (p q : Truth) → (p && q) ≡ true → (p ≡ true) × (q ≡ true)
-and_both true q h = (refl, h)
-and_both false q h = absurd cc
-
 -- a property of maps that setting keeps is kept by each entry
 entry_keeps : (P : Map Key BScalar → Type 0) (m : Map Key BScalar) (e : Entry) (b : Truth) → is_default e.value ≡ b → P m → P (set key_cmp same_scalar m e.key e.value) →
     P (if b then m else set key_cmp same_scalar m e.key e.value)
@@ -114,21 +113,11 @@ filled_typed : (us : List BBase) (u : BBase) (es : List Entry) (m : Map Key BSca
 filled_typed us u [] m h fits good = h
 filled_typed us u (e ∷ es) m h fits good =
     let Fits : Entry → Type 0 = λ e. IsTrue (fits_entry (record { keys = us; base = u }) e) in
-    let both = and_both (fits_key us e.key) (same_base (base_of_scalar e.value) u) (All-head Fits e es fits) in
+    let both = and_parts (fits_key us e.key) (same_base (base_of_scalar e.value) u) (All-head Fits e es fits) in
     let v : FitsScalar u e.value = record { typed = (Decides-same_base (base_of_scalar e.value) u).0 both.1; reduced = good.0.reduced } in
     filled_typed us u es (entry_with m e)
     (entry_keeps (IsMapOf us u) m e (is_default e.value) refl h (set_typed h e.key e.value ((Decides-fits_key us e.key).0 both.0) v))
     (All-tail Fits e es fits) good.1
-
-default_within : (u : BBase) → IsWithinScalar (default_of u)
-default_within base.Int = omega arith
-default_within base.Bool = tt
-default_within base.Ref = tt
-default_within base.Real = tt
-default_within base.Snap = tt
-
-set_within : (m : Map Key BScalar) (k : Key) (v : BScalar) → IsWithinValue (Many m) → IsWithinScalar v → IsWithinValue (Many (set key_cmp same_scalar m k v))
-set_within m k v h g = (h.0, All-values-set key_cmp same_scalar m k v IsWithinScalar h.1 g)
 
 filled_within : (es : List Entry) (m : Map Key BScalar) → IsWithinValue (Many m) → AllGood es → IsWithinValue (Many (fold entry_with m es))
 filled_within [] m h good = h
@@ -179,9 +168,6 @@ of_map u m some typed = of_keys u.keys refl some where
       let same : map_type k ks u.base ≡ u = λ i. record { keys = sym is i; base = u.base } in
       subst (IsOfType (Many m)) same (of_many (subst (λ us. IsMapOf us u.base m) is typed))
 
-same_item : {X : Type 0} {x y : X} → Some x ≡ Some y → x ≡ y
-same_item e = cc
-
 settings_good : {k : Known BType} {ls : List Line} {ss : List BSetting} → AreSettings k ls ss → AllGive k ls → All (GoodSetting k.types) ss
 settings_good {k} none h = All-nil (GoodSetting k.types)
 settings_good {k} (one {n = n} {v = v} {ls = ls} {ss = ss} rest) ((u, there, empty, typed, good), others) =
@@ -192,7 +178,7 @@ settings_good {k} (many {n = n} {u = u} block {ls = ls} {ss = ss} there fits onc
     let good = block_good k block (front_gives k (map At block) ls others) in
     let full = fold entry_with (empty (default_of u.base)) block in
     let typed = filled_typed u.keys u.base block (empty (default_of u.base)) empty_typed fits good in
-    let same : w ≡ u = same_item (sym also ∙ there) in
+    let same : w ≡ u = some_same (sym also ∙ there) in
     All-cons (GoodSetting k.types) (record { var = n; value = Many full }) ss
     (record {
       fits = record { type = u; is_there = there; is_of_type = of_map u full (subst (λ x. is_empty x.keys ≡ false) same some) typed };

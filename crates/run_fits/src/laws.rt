@@ -6,10 +6,10 @@ ghost use Rattle.viper_core.specs.declared.programs.Unit.TheVariants as unit;
 ghost use Rattle.exec_meaning.specs.Execution.{CanExecute};
 ghost use Rattle.boogie_tree.specs.Program.{BProgram, Proc};
 ghost use Rattle.boogie_tree.specs.Value.{BRun};
-ghost use Rattle.boogie_text.specs.Answers.{IsRead};
+ghost use Rattle.boogie_print.specs.Read.{IsRead};
 ghost use Rattle.boogie_run.specs.Start.{CanRun, IsWithinProgram};
 ghost use Rattle.run_file.specs.Run.{ViperRun, SpellsViperRun};
-ghost use Rattle.run_file.specs.BoogieRun.{SpellsBoogieRun};
+ghost use Rattle.run_boogie.specs.BoogieRun.{SpellsBoogieRun};
 
 /// No literal of a program of Boogie that is read is outside the bound of runs.
 pub fn what_is_read_is_within()

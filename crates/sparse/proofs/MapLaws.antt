@@ -19,6 +19,7 @@ use Rattle.std.proofs.lemmas.List.Elements.{All-nil, All-cons, All-head, All-tai
 use Rattle.std.proofs.lemmas.Bool.{true≢false, false_from_ne_true}
 use Rattle.std.proofs.lemmas.Bool.Decides.{Decides-and, Decides-by_and}
 use Rattle.std.specs.Bool.{Decides}
+use Rattle.lemmas.proofs.Orders.{is_equal}
 use Rattle.sparse.specs.Map.{Map, empty, keys, values, get, set, IsReduced, is_ascending, is_reduced, IsSame, ClonesAreEqual}
 use Rattle.sparse.specs.Meaning.{IsExact}
 use Rattle.sparse.specs.Tree.{put_entry}
@@ -97,18 +98,13 @@ module _ {X : Type 0} where
   unwrap_or-cond true s t z = refl
   unwrap_or-cond false s t z = refl
 
-is_eq-true : (r : Ordering) → is_eq r ≡ true → r ≡ Equal
-is_eq-true Less e = absurd (true≢false (sym e))
-is_eq-true Equal e = refl
-is_eq-true Greater e = absurd (true≢false (sym e))
-
 module _ {K V : Type 0} {R : K → K → Ordering} (o : IsTotalOrder R) (k q : K) (v : V) where
   lookup-match : (e : K × V) (es : List (K × V)) (r : Ordering) → R k e.0 ≡ r → lookup (is_at (R q)) (insert_entry R es k v) ≡ cond (is_at (R q) k) (Some v) (lookup (is_at (R q)) es) → lookup (is_at (R q)) (match_ordering r ((k, v) ∷ e ∷ es) ((e.0, v) ∷ es) (e ∷ insert_entry R es k v)) ≡ cond (is_at (R q) k) (Some v) (lookup (is_at (R q)) (e ∷ es))
   lookup-match e es Less h ih = refl
   lookup-match e es Equal h ih = cond-same (is_eq (R q k)) (is_eq (R q e.0)) (Some v) (Some e.1) (lookup (is_at (R q)) es) (ap is_eq (alike_right o k e.0 q h))
   lookup-match e es Greater h ih =
       let apart : is_eq (R q k) ≡ true → is_eq (R q e.0) ≡ true → ⊥ = λ a b.
-      let tied : R k e.0 ≡ Equal = sym (o.congr q k e.0 (is_eq-true (R q k) a)) ∙ is_eq-true (R q e.0) b in cc in
+      let tied : R k e.0 ≡ Equal = sym (o.congr q k e.0 (is_equal (R q k) a)) ∙ is_equal (R q e.0) b in cc in
       ap (λ t. cond (is_eq (R q e.0)) (Some e.1) t) ih ∙ cond-swap (is_eq (R q k)) (is_eq (R q e.0)) (Some v) (Some e.1) (lookup (is_at (R q)) es) apart
 
   pub lookup-insert_entry : (es : List (K × V)) → lookup (is_at (R q)) (insert_entry R es k v) ≡ cond (is_at (R q) k) (Some v) (lookup (is_at (R q)) es)
@@ -340,7 +336,7 @@ module _ {K V : Type 0} {cmp : K → K → Ordering} {eq : V → V → Bool} (x 
   given-is z v false e = refl
 
   apart : (k q : K) → k ≢ q → is_at (cmp q) k ≡ false
-  apart k q n = false_from_ne_true (is_eq (cmp q k)) (λ e. n (sym (x.keys q k (is_eq-true (cmp q k) e))))
+  apart k q n = false_from_ne_true (is_eq (cmp q k)) (λ e. n (sym (x.keys q k (is_equal (cmp q k) e))))
 
   module _ (m : Map K V) (r : IsReduced cmp eq m) where
     -- after a change the key has the new value
@@ -394,12 +390,12 @@ module _ {K V : Type 0} {cmp : K → K → Ordering} {eq : V → V → Bool} (x 
     set-set_other k l v w n = map_from_get (set cmp eq (set cmp eq m k v) l w) (set cmp eq (set cmp eq m l w) k v) (reduced_by (set cmp eq m k v) (reduced_by m r k v) l w) (reduced_by (set cmp eq m l w) (reduced_by m r l w) k v) refl (λ q.
         get-set_is (set cmp eq m k v) (reduced_by m r k v) l q w
         ∙ ap (λ y. cond (is_at (cmp q) l) w y) (get-set_is m r k q v)
-        ∙ cond-swap (is_at (cmp q) k) (is_at (cmp q) l) v w (get cmp m q) (λ a b. n (sym (x.keys q k (is_eq-true (cmp q k) a)) ∙ x.keys q l (is_eq-true (cmp q l) b)))
+        ∙ cond-swap (is_at (cmp q) k) (is_at (cmp q) l) v w (get cmp m q) (λ a b. n (sym (x.keys q k (is_equal (cmp q k) a)) ∙ x.keys q l (is_equal (cmp q l) b)))
         ∙ ap (λ y. cond (is_at (cmp q) k) v y) (sym (get-set_is m r l q w))
         ∙ sym (get-set_is (set cmp eq m l w) (reduced_by m r l w) k q v))
 
     kept-by : (k q : K) (b : Bool) → is_at (cmp q) k ≡ b → cond b (get cmp m k) (get cmp m q) ≡ get cmp m q
-    kept-by k q true e = ap (λ p. get cmp m p) (sym (x.keys q k (is_eq-true (cmp q k) e)))
+    kept-by k q true e = ap (λ p. get cmp m p) (sym (x.keys q k (is_equal (cmp q k) e)))
     kept-by k q false e = refl
 
     -- a key that is given the value it has changes nothing
@@ -408,7 +404,7 @@ module _ {K V : Type 0} {cmp : K → K → Ordering} {eq : V → V → Bool} (x 
         get-set_is m r k q (get cmp m k) ∙ kept-by k q (is_at (cmp q) k) refl)
 
     equal_at : (q k : K) → eq_by_cmp cmp q k ≡ true → q ≡ k
-    equal_at q k e = x.keys q k (is_eq-true (cmp q k) e)
+    equal_at q k e = x.keys q k (is_equal (cmp q k) e)
 
     some_by : (s : Option V) → unwrap_or s m.default ≢ m.default → IsSome s
     some_by None n = absurd (n refl)

@@ -3,6 +3,7 @@ use Rattle.std.proofs.Common.{◌≡◌, ◌∙◌, ℕ, List, ◌∷◌, ◌++�
 use Rattle.vb_base.specs.declared.labels.Kind.TheVariants.{Null, Perm, Fact, Div, Negative, Amount}
 use Rattle.std.specs.Fmt.{decimal}
 use Rattle.std.proofs.lemmas.Fmt.{decimal_injective}
+use Rattle.lemmas.proofs.Lists.{same_rest}
 use Rattle.vb_base.specs.declared.places.Pos.{Pos}
 use Rattle.vb_base.specs.declared.labels.Label.{Label}
 use Rattle.vb_base.specs.declared.labels.Kind.{Kind}
@@ -16,9 +17,6 @@ one_number {n = n} {m = m} h k =
     let a = number_is_front h in
     let b = number_is_front k in
     (decimal_injective n m (omega (arith, h.in_reach)) (omega (arith, k.in_reach)) (sym a.front ∙ b.front), sym a.behind ∙ b.behind)
-
-same_rest : {byte : ℕ} {xs ys : List ℕ} → byte ∷ xs ≡ byte ∷ ys → xs ≡ ys
-same_rest h = cc
 
 pub number_at : {bytes other rest : List ℕ} {n : ℕ} → bytes ≡ other → StartsWithNumber bytes n rest → StartsWithNumber other n rest
 number_at e h = record { from_one = h.from_one; in_reach = h.in_reach; text = sym e ∙ h.text; ends = h.ends }

@@ -12,6 +12,7 @@ use Rattle.std.proofs.lemmas.Fmt.{digits_decimal, digits_value-decimal, decimal-
 use Rattle.std.proofs.lemmas.Str.Parse.{IsNumeralModel, numerals_by_value, parse_digits, tells_all_ascii_digits}
 use Rattle.std.proofs.lemmas.List.{take-append-drop}
 use Rattle.std.proofs.Math.Seq.{take-append_seam, drop-append_seam}
+use Rattle.lemmas.proofs.Numbers.{one_more}
 use Rattle.vb_base.proofs.RowLaws.{prefix_len-append}
 use Rattle.vb_base.specs.Reading.{digit_count, IsNumber, StartsWithNumber}
 
@@ -19,17 +20,13 @@ use Rattle.vb_base.specs.Reading.{digit_count, IsNumber, StartsWithNumber}
 pub digits : IsNumeralModel (λ ds. all_ascii_digits ds ≡ true) (digits_value 10)
 digits = numerals_by_value _ tells_all_ascii_digits
 
--- one more
-suc_is : (n : ℕ) → 1 + n ≡ suc n
-suc_is n = omega arith
-
 pub all_digits : (ds : List ℕ) → list_all is_ascii_digit ds ≡ all_ascii_digits ds
 all_digits [] = refl
 all_digits (d ∷ ds) = ap (λ t. is_ascii_digit d && t) (all_digits ds)
 
 digits_of_front_by : (b : ℕ) (bs : List ℕ) (t : Bool) → is_ascii_digit b ≡ t → all_ascii_digits (take (digit_count bs) bs) ≡ true →
     all_ascii_digits (take (cond t (1 + digit_count bs) 0) (b ∷ bs)) ≡ true
-digits_of_front_by b bs true is front = rw suc_is (and_from _ _ is front)
+digits_of_front_by b bs true is front = rw one_more (and_from _ _ is front)
 digits_of_front_by b bs false is front = refl
 
 pub digits_of_front : (bytes : List ℕ) → all_ascii_digits (take (digit_count bytes) bytes) ≡ true
@@ -39,7 +36,7 @@ digits_of_front (b ∷ bs) = digits_of_front_by b bs (is_ascii_digit b) refl (di
 -- behind the digits at the front stands no digit
 digit_count-drop_by : (b : ℕ) (bs : List ℕ) (t : Bool) → is_ascii_digit b ≡ t → digit_count (drop (digit_count bs) bs) ≡ 0 →
     digit_count (drop (cond t (1 + digit_count bs) 0) (b ∷ bs)) ≡ 0
-digit_count-drop_by b bs true is rest = rw suc_is rest
+digit_count-drop_by b bs true is rest = rw one_more rest
 digit_count-drop_by b bs false is rest = cond-false (is_ascii_digit b) _ 0 is
 
 pub digit_count-drop : (bytes : List ℕ) → digit_count (drop (digit_count bytes) bytes) ≡ 0

@@ -10,6 +10,9 @@ use Rattle.std.proofs.lemmas.List.{append_assoc, length-append, length-take, tak
 use Rattle.std.proofs.lemmas.List.Sums.{prefix_len-le-length}
 use Rattle.std.proofs.lemmas.Option.{same_Some}
 use Rattle.std.proofs.lemmas.Slice.Eq.{bytes_eq-Decides}
+use Rattle.viper_syntax.proofs.LongestLaws.{blank_longest}
+use Rattle.lemmas.proofs.Options.{none_some}
+use Rattle.lemmas.proofs.Tests.{false_from_not as off}
 use Rattle.vb_base.specs.declared.places.Pos.{Pos}
 use Rattle.vb_base.specs.Limits.{max_viper_bytes}
 use Rattle.vb_base.specs.Place.{IsPlaceAfter}
@@ -25,7 +28,7 @@ use Rattle.viper_syntax.specs.Piece.{IsDigits, IsToken, word, name, number, sign
 use Rattle.viper_syntax.specs.Longest.{signs}
 use Rattle.viper_syntax.specs.Step.{piece_of}
 use Rattle.viper_syntax.specs.Cut.{IsSmall, IsSound, IsCut, end, piece}
-use Rattle.vb_made.proofs.Fronts.{goes_on, longest_of_piece, longest_blank}
+use Rattle.vb_made.proofs.Fronts.{goes_on, longest_of_piece}
 use Rattle.vb_made.proofs.Trees.{placed}
 
 -- a text is cut into these tokens, wherever they stand
@@ -116,10 +119,6 @@ passed : {X : Type 0} (b : Bool) (o : Option X) (x : X) → only_if b o ≡ Some
 passed true o x h = (refl, h)
 passed false o x h = cc
 
-off : (b : Bool) → not b ≡ true → b ≡ false
-off true h = cc
-off false h = refl
-
 ended_first : (bs : List ℕ) (n : ℕ) (t : Tok) (r : ℕ × Option Tok) → n ≤ length bs → IsToken (take n bs) t → IsSmall t → ended bs n t ≡ Some r → IsFirst bs r
 ended_first bs n t r within is small h =
     let e = passed (not (goes_on (take (suc n) bs))) (Some (n, Some t)) r h in
@@ -136,11 +135,8 @@ word_found : (v : Word) → word_of (word_text v) ≡ Some v
 word_found w.Field = refl
 word_found _ = refl
 
-some_none : {X : Type 0} {x : X} → None ≡ Some x → ⊥
-some_none e = cc
-
 no_word : (bs : List ℕ) → word_of bs ≡ None → (v : Word) → bs ≡ word_text v → ⊥
-no_word bs none v e = some_none (sym none ∙ ap word_of e ∙ word_found v)
+no_word bs none v e = none_some (sym none ∙ ap word_of e ∙ word_found v)
 
 named_first : (bs : List ℕ) (n : ℕ) (o : Option Word) (r : ℕ × Option Tok) → n ≤ length bs → word_of (take n bs) ≡ o → named bs n o ≡ Some r → IsFirst bs r
 named_first bs n None r within none h =
@@ -172,7 +168,7 @@ signed_first bs (Some o) r found h =
     ended_first bs n (k.Sign o) r (omega (arith, ap length is, length-take n bs)) (sign o is) tt h
 
 piece_first : (b : ℕ) (bs : List ℕ) (blank letter digit : Bool) (r : ℕ × Option Tok) → is_blank b ≡ blank → first_piece blank letter digit (b ∷ bs) ≡ Some r → IsFirst (b ∷ bs) r
-piece_first b bs true letter digit r e h = subst (λ x. IsFirst (b ∷ bs) x) (same_Some (1, None) r h) (longest_blank (b ∷ bs) e, tt)
+piece_first b bs true letter digit r e h = subst (λ x. IsFirst (b ∷ bs) x) (same_Some (1, None) r h) (blank_longest (b ∷ bs) e, tt)
 piece_first b bs false true digit r e h = named_first (b ∷ bs) _ _ r (prefix_len-le-length is_name_byte (b ∷ bs)) refl h
 piece_first b bs false false true r e h = numbered_first (b ∷ bs) _ r (prefix_len-le-length is_ascii_digit (b ∷ bs)) h
 piece_first b bs false false false r e h = signed_first (b ∷ bs) _ r refl h

@@ -6,15 +6,13 @@ use Rattle.std.specs.List.{list_all, list_any}
 use Rattle.std.proofs.lemmas.Bool.{cases_lt, and_from, and_parts}
 use Rattle.std.proofs.lemmas.Bool.Decides.{nat_tests}
 use Rattle.std.proofs.lemmas.List.{take-take}
+use Rattle.viper_syntax.proofs.PieceLaws.{not_start_from_digit, word_form}
 use Rattle.vb_base.specs.Names.{is_name, is_name_start, is_name_byte}
 use Rattle.viper_syntax.specs.declared.tokens.Sign.{Sign}
 use Rattle.viper_syntax.specs.declared.tokens.Sign.TheVariants as s
-use Rattle.viper_syntax.specs.declared.tokens.Word.{Word}
-use Rattle.viper_syntax.specs.declared.tokens.Word.TheVariants as w
 use Rattle.viper_syntax.specs.Spelling.{word_text, sign_text, is_blank}
-use Rattle.viper_syntax.specs.Piece.{IsDigits, word, name, number, sign, Piece, Skipped, line, closed, unclosed, IsPiece, blank, comment, token, IsLongest}
+use Rattle.viper_syntax.specs.Piece.{IsDigits, word, name, number, sign, Piece, line, closed, unclosed, IsPiece, blank, comment, token, IsLongest}
 use Rattle.viper_syntax.specs.Longest.{signs}
-use Rattle.viper_syntax.specs.Step.{BeginsWith}
 
 abbrev begins : List ℕ → List ℕ → Bool
 begins [] vs = true
@@ -38,9 +36,6 @@ all_in_front p zero xs h = refl
 all_in_front p (suc k) [] h = refl
 all_in_front p (suc k) (x ∷ xs) h = let parts = and_parts (p x) (list_all p xs) h in and_from _ _ parts.0 (all_in_front p k xs parts.1)
 
-pub no_start_of_digit : (b : ℕ) → is_ascii_digit b ≡ true → is_name_start b ≡ false
-no_start_of_digit b h = grind (arith, nat_tests)
-
 name_goes_on : (us : List ℕ) (k : ℕ) → is_name us ≡ true → goes_on (take k us) ≡ true
 name_goes_on [] k h = cc
 name_goes_on (b ∷ bs) zero h = refl
@@ -57,7 +52,7 @@ number_goes_on (b ∷ bs) (suc zero) h = refl
 number_goes_on (b ∷ []) (suc (suc k)) h = refl
 number_goes_on (b ∷ c ∷ bs) (suc (suc k)) h =
     let parts = and_parts (is_ascii_digit b) (list_all is_ascii_digit (c ∷ bs)) h in
-    rw (no_start_of_digit b parts.0, parts.0) (all_in_front is_ascii_digit (suc k) (c ∷ bs) parts.1)
+    rw (not_start_from_digit b parts.0, parts.0) (all_in_front is_ascii_digit (suc k) (c ∷ bs) parts.1)
 
 sign_goes_on : (o : Sign) (k : ℕ) → goes_on (take k (sign_text o)) ≡ true
 sign_goes_on s.OpenParen zero = refl
@@ -72,10 +67,6 @@ sign_goes_on s.OpenParen (suc (suc (suc (suc zero)))) = refl
 sign_goes_on _ (suc (suc (suc (suc zero)))) = refl
 sign_goes_on s.OpenParen (suc (suc (suc (suc (suc k))))) = refl
 sign_goes_on _ (suc (suc (suc (suc (suc k))))) = refl
-
-word_is_name : (v : Word) → is_name (word_text v) ≡ true
-word_is_name w.Field = refl
-word_is_name _ = refl
 
 line_goes_on : (text : List ℕ) (k : ℕ) → goes_on (take k (47 ∷ 47 ∷ text)) ≡ true
 line_goes_on text zero = refl
@@ -97,7 +88,7 @@ piece_goes_on us k q (blank b e h) = rw e (blank_goes_on b k)
 piece_goes_on us k q (comment (line text e h)) = rw e (line_goes_on text k)
 piece_goes_on us k q (comment (closed text e h)) = rw e (comment_goes_on _ k)
 piece_goes_on us k q (comment (unclosed text e h)) = rw e (comment_goes_on text k)
-piece_goes_on us k q (token (word v e)) = rw e (name_goes_on (word_text v) k (word_is_name v))
+piece_goes_on us k q (token (word v e)) = rw e (name_goes_on (word_text v) k (word_form v))
 piece_goes_on us k q (token (name h none)) = name_goes_on us k h
 piece_goes_on us k q (token (number h)) = number_goes_on us k h
 piece_goes_on us k q (token (sign o e)) = rw e (sign_goes_on o k)
@@ -125,8 +116,3 @@ blank_ends b c h = by_case (blank_cases b h) where
   by_case (inr (inl e)) = rw e refl
   by_case (inr (inr (inl e))) = rw e refl
   by_case (inr (inr (inr e))) = rw e refl
-
-pub longest_blank : (bs : List ℕ) → BeginsWith is_blank bs → IsLongest bs 1 Skipped
-longest_blank [] h = absurd h
-longest_blank (b ∷ []) h = record { within = omega arith; piece = blank b refl h; longest = λ m q le piece. le }
-longest_blank (b ∷ c ∷ bs) h = longest_of_piece (b ∷ c ∷ bs) 1 Skipped (omega arith) (blank b refl h) (blank_ends b c h)

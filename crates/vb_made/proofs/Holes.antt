@@ -10,6 +10,7 @@ use Rattle.std.proofs.lemmas.Fmt.{decimal_nonempty, digits_decimal, digits_value
 use Rattle.std.proofs.lemmas.Int.{ints}
 use Rattle.std.proofs.lemmas.List.{length-append}
 use Rattle.std.proofs.lemmas.Str.Parse.{IsNumeralModel, numerals_by_fold, tells_all_ascii_digits}
+use Rattle.viper_syntax.proofs.PieceLaws.{not_start_from_digit}
 use Rattle.vb_base.specs.Names.{is_name_start, is_name_byte}
 use Rattle.vb_base.proofs.Numbers.{digits, all_digits}
 use Rattle.viper_syntax.specs.declared.tokens.Tok.{Tok}
@@ -20,7 +21,7 @@ use Rattle.viper_syntax.specs.Spelling as spelling
 use Rattle.viper_syntax.specs.Spelling.{word_text}
 use Rattle.viper_syntax.specs.Piece.{IsDigits, IsToken, name, number, Taken, IsPiece, token, IsLongest}
 use Rattle.viper_syntax.specs.Cut.{IsSmall}
-use Rattle.vb_made.proofs.Fronts.{goes_on, no_start_of_digit, longest_of_piece}
+use Rattle.vb_made.proofs.Fronts.{goes_on, longest_of_piece}
 use Rattle.vb_made.proofs.CutRun.{Lexes, next}
 use Rattle.vb_made.proofs.Trees.{m_name}
 
@@ -61,7 +62,7 @@ from_digits (d ∷ ds) long h = h
 
 digit_ends : (d : ℕ) (us : List ℕ) → is_ascii_digit d ≡ true → list_all is_ascii_digit us ≡ false → goes_on (d ∷ us) ≡ false
 digit_ends d [] h none = cc
-digit_ends d (u ∷ us) h none = rw (no_start_of_digit d h, h) none
+digit_ends d (u ∷ us) h none = rw (not_start_from_digit d h, h) none
 
 digits_end : (ds : List ℕ) (c : ℕ) → IsDigits ds → is_ascii_digit c ≡ false → goes_on (ds ++ c ∷ []) ≡ false
 digits_end [] c h none = absurd h

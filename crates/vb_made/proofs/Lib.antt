@@ -11,5 +11,5 @@ mod Short
 mod Worlds
 mod TypedTrees
 mod MethodTyped
-mod Weighed
+pub mod Weighed
 pub mod MadePrograms

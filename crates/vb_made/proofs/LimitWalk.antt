@@ -6,6 +6,7 @@ use Rattle.std.proofs.lemmas.Bool.Decides.{nat_tests}
 use Rattle.std.proofs.lemmas.List.{append_assoc, append-nil, length_push, take-append-le, take_all}
 use Rattle.std.proofs.lemmas.List.Sums.{sum_by_push, fold_push}
 use Rattle.std.proofs.lemmas.Option.{same_Some}
+use Rattle.lemmas.proofs.Tests.{false_from_not as off}
 use Rattle.vb_base.specs.declared.places.Pos.{Pos}
 use Rattle.vb_base.specs.Limits.{max_unclosed_braces, max_group_tokens}
 use Rattle.vb_base.proofs.PlaceLaws.{suffix_len_push}
@@ -49,10 +50,6 @@ record Fits (t : Tok) (a g : ℕ) : Type 0 where
 
 abbrev fits : Tok → ℕ → ℕ → Bool
 fits t a g = nat_le a max_unclosed_braces && (nat_le g max_group_tokens && not (is_refused t))
-
-off : (b : Bool) → not b ≡ true → b ≡ false
-off true h = cc
-off false h = refl
 
 at_most : (m n : ℕ) → nat_le m n ≡ true → m ≤ n
 at_most m n h = grind (arith, nat_tests)

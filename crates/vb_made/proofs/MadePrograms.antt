@@ -1,8 +1,8 @@
 -- Each generated program is typed, within all limits.
 use Rattle.std.proofs.Common.{◌++◌, ℕ, ◌≤◌}
-use Rattle.vb_base.specs.Limits.{max_made_methods, max_weight}
+use Rattle.vb_base.specs.Limits.{max_made_methods}
 use Rattle.viper_types.proofs.ProgramLaws.{found_program}
-use Rattle.vb_made.specs.Made.{generated_weight, IsMade}
+use Rattle.vb_made.specs.Made.{IsMade}
 use Rattle.vb_made.proofs.LimitWalk.{program_limits}
 use Rattle.vb_made.proofs.MethodTyped.{program_found}
 use Rattle.vb_made.proofs.Short.{program_short}
@@ -10,7 +10,7 @@ use Rattle.vb_made.proofs.Spelled.{program_spelled}
 use Rattle.vb_made.proofs.TextCut.{program_cut}
 use Rattle.vb_made.proofs.Trees.{placed, field_toks, methods_toks, source_of}
 use Rattle.vb_made.proofs.TypedTrees.{typed_program}
-use Rattle.vb_made.proofs.Weighed.{program_weighs, light}
+use Rattle.vb_made.proofs.Weighed.{program_weighs}
 
 pub is_made : (n : ℕ) → n ≤ max_made_methods → IsMade n
 is_made n few =
@@ -26,6 +26,3 @@ is_made n few =
       is_typed = found_program (source_of places n) (program_found places n few);
       weighs = program_weighs places n;
     }
-
-pub is_light : (n : ℕ) → n ≤ max_made_methods → generated_weight n ≤ max_weight
-is_light = light

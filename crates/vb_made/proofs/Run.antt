@@ -1,6 +1,7 @@
 -- A reader of grammars that takes the first alternative whose token passes: where it answers, the tokens are derived.
 use Rattle.std.proofs.Common.{◌≡◌, ◌∙◌, refl, sym, ap, subst, ℕ, zero, suc, Bool, true, List, [], ◌∷◌, ◌++◌, Option, Some, None, append_assoc, append-nil}
 use Rattle.std.proofs.lemmas.Option.{same_Some}
+use Rattle.lemmas.proofs.Options.{none_some as nothing}
 use Rattle.grammar.specs.Rules.{Alphabet, Rule, give, need, when, read, Rules, Starts}
 use Rattle.grammar.specs.Spells.{Derives, given, needed, taken, passed, called}
 
@@ -35,9 +36,6 @@ pub record IsRead {A : Alphabet} (rule : Rules A) {s : A.Kind} (a : Rule A s) (t
 -- what a reader with so many steps promises
 abbrev Promise : {A : Alphabet} (rule : Rules A) (try : Try A) → ℕ → Type 0
 Promise {A} rule try n = (s : A.Kind) (a : Rule A s) (ts : List A.Token) (x : A.Value s) (us : List A.Token) → run rule try n s a ts ≡ Some (x, us) → IsRead rule a ts x us
-
-nothing : {X : Type 0} {x : X} → None ≡ Some x → ⊥
-nothing e = cc
 
 module _ {A : Alphabet} (rule : Rules A) (try : Try A) (so : Sound A try) (n : ℕ) (rest : Promise rule try n) where
   starts : {b : Bool} {r : A.Kind} (c : A.Test b r) (k : A.Token) (ts : List A.Token) (v : A.Value r) → try b r c k ≡ Some v → Starts A c (k ∷ ts) v ts

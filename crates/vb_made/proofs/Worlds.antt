@@ -2,7 +2,7 @@
 use Rattle.std.proofs.Common.{◌≡◌, ◌∙◌, refl, sym, ap, subst, ℕ, zero, suc, ◌<◌, ◌≤◌, ◌⊎◌, inl, inr, Bool, true, false, cond, not, arith, Some, None, is_some, List, [], ◌∷◌, ◌++◌, length, drop, slice_get}
 use Rattle.std.specs.Prelude.{◌==◌}
 use Rattle.std.specs.Cmp.Lexicographic.{pointwise}
-use Rattle.std.proofs.lemmas.Bool.{cases_lt}
+use Rattle.std.proofs.lemmas.Bool.{cases_lt, false_from_ne_true}
 use Rattle.std.proofs.lemmas.Fmt.{decimal_injective}
 use Rattle.std.proofs.lemmas.List.{length_push}
 use Rattle.std.proofs.lemmas.Slice.Eq.{bytes_eq-Decides}
@@ -52,12 +52,8 @@ name_injective i j small few e = decimal_injective i j (omega arith) (omega arit
 abbrev same : List ℕ → List ℕ → Bool
 same x y = pointwise ◌==◌ x y
 
-false_from_not : (b : Bool) → (b ≡ true → ⊥) → b ≡ false
-false_from_not true h = absurd (h refl)
-false_from_not false h = refl
-
 names_differ : (i j : ℕ) → i ≤ max_made_methods → j ≤ max_made_methods → (i ≡ j → ⊥) → same (m_name i) (m_name j) ≡ false
-names_differ i j small few differ = false_from_not _ (λ e. differ (name_injective i j small few ((bytes_eq-Decides (m_name i) (m_name j)).0 e)))
+names_differ i j small few differ = false_from_ne_true _ (λ e. differ (name_injective i j small few ((bytes_eq-Decides (m_name i) (m_name j)).0 e)))
 
 name_same : (i : ℕ) → same (m_name i) (m_name i) ≡ true
 name_same i = (bytes_eq-Decides (m_name i) (m_name i)).1 refl

@@ -1,16 +1,15 @@
 -- Where the names differ, each file is found under its own name.
-use Rattle.std.proofs.Common.{◌≡◌, ℕ, Bool, true, false, cond, List, [], ◌∷◌, Some, is_none, ◌&&◌, refl, sym, ap, ◌∙◌}
+use Rattle.std.proofs.Common.{◌≡◌, ℕ, Bool, true, false, cond, List, [], ◌∷◌, Some, is_none, refl, sym, ap, ◌∙◌}
 use Rattle.std.specs.List.{AllByRecursion}
 use Rattle.std.specs.Str.{bytes_eq}
 use Rattle.std.proofs.lemmas.Bool.{false≢true}
 use Rattle.std.proofs.lemmas.Slice.Eq.{bytes_eq-Decides}
+use Rattle.lemmas.proofs.Bytes.{same_itself}
+use Rattle.lemmas.proofs.Tests.{and_parts as both}
 use Rattle.vb_outer.specs.MemShelf.{file_named, names_differ}
 
 abbrev File : Type 0
 File = List ℕ × List ℕ
-
-same_name : (name : List ℕ) → bytes_eq name name ≡ true
-same_name name = (bytes_eq-Decides name name).1 refl
 
 -- a file in front of another name changes nothing for the files behind
 behind : (file : File) (files some : List File) → is_none (file_named files file.0) ≡ true → AllByRecursion (λ f. file_named files f.0 ≡ Some f.1) some → AllByRecursion (λ f. file_named (file ∷ files) f.0 ≡ Some f.1) some
@@ -24,12 +23,8 @@ behind file files (f ∷ fs) none told = (go (bytes_eq file.0 f.0) refl, behind 
         absurd (false≢true clash)
     go false e = told.0
 
-both : (a b : Bool) → (a && b) ≡ true → (a ≡ true) × (b ≡ true)
-both true b h = (refl, h)
-both false b h = absurd (false≢true h)
-
 pub each_told : (files : List File) → names_differ files ≡ true → AllByRecursion (λ f. file_named files f.0 ≡ Some f.1) files
 each_told [] differ = tt
 each_told (file ∷ files) differ =
     let parts = both (is_none (file_named files file.0)) (names_differ files) differ in
-    (ap (λ same. cond same (Some file.1) (file_named files file.0)) (same_name file.0), behind file files files parts.0 (each_told files parts.1))
+    (ap (λ same. cond same (Some file.1) (file_named files file.0)) (same_itself file.0), behind file files files parts.0 (each_told files parts.1))

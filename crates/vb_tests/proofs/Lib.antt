@@ -1,4 +1,1 @@
-pub mod CodeLaws
-pub mod FileLaws
-pub mod FitsLaws
 pub mod RunLaws

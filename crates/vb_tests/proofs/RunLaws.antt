@@ -1,7 +1,8 @@
 -- What a row runs can be run: the first procedure of a program of Boogie, and a method of a program of Viper.
-use Rattle.std.proofs.Common.{◌≡◌, ◌∙◌, ◌<◌, ◌==◌, ap, refl, subst, ℕ, false, List, [], ◌∷◌, Some, length, map, slice_get, get_or, arith}
-use Rattle.std.specs.Option.{option_map}
+use Rattle.std.proofs.Common.{◌≡◌, ◌∙◌, ◌<◌, ◌==◌, ap, refl, sym, subst, ℕ, false, List, [], ◌∷◌, Option, Some, None, IfSome, Bor, length, map, slice_get, get_or, arith}
+use Rattle.std.specs.Option.{option_map, option_copied}
 use Rattle.std.proofs.lemmas.Option.{slice_get-map, slice_get_read}
+use Rattle.lemmas.proofs.Lists.{at_item}
 use Rattle.vb_base.specs.Names.{NamesDiffer}
 use Rattle.viper_core.specs.View.{body_of, method_of, program_of as viper_of}
 use Rattle.viper_core.specs.declared.programs.Body.{Body}
@@ -9,7 +10,6 @@ use Rattle.viper_core.specs.declared.programs.Method.{Method}
 use Rattle.viper_core.specs.declared.programs.Program.{Program}
 use Rattle.viper_core.specs.declared.programs.Unit.{Unit as Part}
 use Rattle.viper_core.specs.declared.programs.Unit.TheVariants as part
-use Rattle.viper_core.proofs.FormedLaws.{at_item}
 use Rattle.exec_meaning.specs.Execution.{CanExecute}
 use Rattle.boogie_tree.specs.Program as p
 use Rattle.boogie_tree.specs.Value.{BRun}
@@ -17,13 +17,19 @@ use Rattle.boogie_tree.specs.Whole.{proc_of, program_of}
 use Rattle.boogie_tree.specs.declared.programs.BProgram.{BProgram}
 use Rattle.boogie_tree.specs.declared.programs.Proc.{Proc}
 use Rattle.boogie_grammar.specs.Grammar.{local_names}
-use Rattle.boogie_text.specs.Printable.{FitsProc, IsPrintable}
+use Rattle.boogie_print.specs.Printable.{FitsProc, IsPrintable}
 use Rattle.boogie_run.specs.Start.{CanRun}
 use Rattle.boogie_run.proofs.StartLaws.{is_there, proc_there, same_proc}
-use Rattle.run_file.specs.BoogieRun.{SpellsBoogieRun}
+use Rattle.run_boogie.specs.BoogieRun.{SpellsBoogieRun}
 use Rattle.run_file.specs.Run.{ViperRun, SpellsViperRun}
 use Rattle.run_fits.proofs.BoogieRunLaws.{can_run}
 use Rattle.run_fits.proofs.MethodLaws as methods
+
+pub first_differs : (b : BProgram) → IsPrintable (program_of b) → (r : Option (Bor Proc)) → option_copied r ≡ slice_get b.procs.items 0 → IfSome r (λ d. NamesDiffer (local_names (proc_of d.now).locals))
+first_differs b h None is = tt
+first_differs b h (Some d) is =
+    let there = slice_get-map proc_of b.procs.items 0 ∙ ap (option_map proc_of) (sym is) in
+    (at_item FitsProc (map proc_of b.procs.items) h.procs 0 (proc_of d.now) there).locals_differ
 
 some_procs : (ds : List Proc) → (length ds == 0) ≡ false → 0 < length (map proc_of ds)
 some_procs [] is = absurd (cc)

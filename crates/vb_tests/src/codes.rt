@@ -5,17 +5,16 @@ ghost use Rattle.std.specs.Prelude.{IfOk};
 ghost use Rattle.viper_core.specs.Formed.{IsFormed};
 ghost use Rattle.viper_core.specs.View as viper;
 
-use crate::files::{first_stmt, program};
-use crate::procedures::{if_wrong, nothing, procedure, told};
-use crate::rows::{Ends, check_ends};
-use crate::told::other_than;
-use crate::words::parts;
+use crate::emitted::{if_wrong, nothing, told};
+use crate::rows::none_other;
 use boogie_tree::{BBase, BExpr, BOp, BStmt};
 use enc_assert::{consume_code, forget_code, produce_code};
 use enc_expr::{Emit, Kinds, Maps, OwnKinds, Place, Reading, checked, content_of, plain};
 use enc_fold::{fold_code, unfold_code};
 use std::alloc::Global;
 use std::test::Fail;
+use test_rows::{first_other, other_than, three};
+use test_viper::files::{first_stmt, program};
 use vb_base::Pos;
 use viper_core::{Assertion, Expr, Program, Stmt};
 
@@ -264,29 +263,31 @@ fn told_of(alloc: Global, call: &str, handed: &str) -> Result<String, Fail> {
     let start = format!(in alloc; "{START} {before}")?;
     let program = program(alloc, start.as_str(), handed)?;
     let out = written(alloc, call, &program)?;
-    told(alloc, &*procedure(alloc, out)?)
+    told(alloc, out)
 }
 
 /// What came of a row, where the row says otherwise.
-pub fn wrong_text(alloc: Global, row: &str) -> Result<Option<String>, Fail> {
-    let (call, rest) = parts(row, " ; ")?;
-    let (handed, want) = parts(rest, " ; ")?;
+fn wrong_text(alloc: Global, row: &str) -> Result<Option<String>, Fail> {
+    let (call, handed, want) = three(row)?;
     Ok(other_than(want, told_of(alloc, call, handed)?))
 }
 
 /// What is wrong with the code that the call writes for what it is handed.
-pub fn wrong_code(alloc: Global, call: &str, handed: &str) -> Result<Option<String>, Fail> {
+fn wrong_code(alloc: Global, call: &str, handed: &str) -> Result<Option<String>, Fail> {
     Ok(if_wrong(told_of(alloc, call, handed)?))
 }
 
 /// What is written is what the rows say, is well-typed and is read back.
 #[test]
 fn code_is_well_typed_and_read_back(rt: HostRuntime) -> Result<(), Fail> {
+    let alloc = rt.alloc();
     for table in [TEXTS, FOLDED, PLAIN] {
-        check_ends(&rt, rt.alloc(), Ends::Text, "", table)?;
+        let other = first_other(alloc, table, |row| wrong_text(alloc, row))?;
+        none_other(&rt, other);
     }
     for call in ["check", "plain"] {
-        check_ends(&rt, rt.alloc(), Ends::Code, call, CHECKED)?;
+        let other = first_other(alloc, CHECKED, |row| wrong_code(alloc, call, row))?;
+        none_other(&rt, other);
     }
     for call in [
         "produce",
@@ -295,10 +296,12 @@ fn code_is_well_typed_and_read_back(rt: HostRuntime) -> Result<(), Fail> {
         "consume by p",
         "content",
     ] {
-        check_ends(&rt, rt.alloc(), Ends::Code, call, ASSERTIONS)?;
+        let other = first_other(alloc, ASSERTIONS, |row| wrong_code(alloc, call, row))?;
+        none_other(&rt, other);
     }
     for call in ["fold", "unfold"] {
-        check_ends(&rt, rt.alloc(), Ends::Code, call, INSTANCES)?;
+        let other = first_other(alloc, INSTANCES, |row| wrong_code(alloc, call, row))?;
+        none_other(&rt, other);
     }
     Ok(())
 }

@@ -3,15 +3,13 @@
 ghost use Rattle.viper_core.specs.Formed.{IsFormed};
 ghost use Rattle.viper_core.specs.View.{program_of};
 
-use crate::files::checked;
-use crate::rows::{Ends, check_ends};
-use crate::runs::{bytes_of, small};
-use crate::scenes::is_changed;
-use crate::told::other_than;
-use crate::words::parts;
+use crate::rows::none_other;
 use run_file::{ViperRun, read_viper_run};
 use std::alloc::Global;
 use std::test::Fail;
+use test_rows::{bytes_of, first_other, four, other_than, small};
+use test_viper::files::checked;
+use test_viper::scenes::is_changed;
 use viper_core::{Program, Unit};
 use viper_exec::{ExecEnd, Executed, exec_method};
 
@@ -110,17 +108,12 @@ fn told(alloc: Global, executed: &Executed, state: &str) -> Result<String, Fail>
 }
 
 /// What came of a row, where the row says otherwise.
-pub fn wrong_row(alloc: Global, file: &str, row: &str) -> Result<Option<String>, Fail> {
-    let (unit, rest) = parts(row, " ; ")?;
-    let (text, rest) = parts(rest, " ; ")?;
-    let (budget, rest) = parts(rest, " ; ")?;
-    let (want, state) = match rest.split_once(" ; ") {
-        Some((want, state)) => (want, state),
-        None => (rest, ""),
-    };
+fn wrong_row(alloc: Global, file: &str, row: &str) -> Result<Option<String>, Fail> {
+    let (unit, text, budget, rest) = four(row)?;
+    let (want, state) = rest.split_once(" ; ").unwrap_or((rest, ""));
     let unit = unit.parse::<u32>().ok().ok_or("no number")?;
     let budget = budget.parse::<u64>().ok().ok_or("no number")?;
-    let program = Box::new(alloc, checked(alloc, file.as_bytes())?)?;
+    let program = checked(alloc, file.as_bytes())?;
     let bytes = bytes_of(alloc, text)?;
     let executed = Box::new(alloc, executed(alloc, &program, unit, &bytes, budget)?)?;
     Ok(other_than(want, told(alloc, &executed, state)?))
@@ -129,5 +122,8 @@ pub fn wrong_row(alloc: Global, file: &str, row: &str) -> Result<Option<String>,
 /// Each execution ends as its row says.
 #[test]
 fn executions_end_as_the_table_says(rt: HostRuntime) -> Result<(), Fail> {
-    check_ends(&rt, rt.alloc(), Ends::Execution, FILE, ENDS)
+    let alloc = rt.alloc();
+    let other = first_other(alloc, ENDS, |row| wrong_row(alloc, FILE, row))?;
+    none_other(&rt, other);
+    Ok(())
 }

@@ -4,15 +4,15 @@ ghost use Rattle.std.specs.Prelude.{IfOk, length};
 ghost use Rattle.viper_core.specs.Formed.{IsFormed};
 ghost use Rattle.viper_core.specs.View.{program_of};
 
-use crate::files::checked;
-use crate::runs::{boogie_program, bytes_of, shown};
-use crate::told::other_than;
-use crate::words::parts;
+use crate::rows::none_other;
 use boogie_tree::BRun;
 use run_file::{ViperRun, moves, print_boogie_run, read_viper_run};
 use sparse::Sparse;
 use std::alloc::Global;
 use std::test::Fail;
+use test_boogie::procedures::boogie_program;
+use test_rows::{bytes_of, first_other, other_lines, two};
+use test_viper::files::checked;
 use vb_value::{Content, Key};
 use viper_core::Program;
 use viper_state::{Choice, Event, copy_memo};
@@ -99,21 +99,18 @@ fn printed(alloc: Global, program: &Program, events: &Vec<Event>) -> Result<Vec<
 
 /// What came of a row, where the row says otherwise.
 fn wrong_row(alloc: Global, row: &str) -> Result<Option<String>, Fail> {
-    let (text, want) = parts(row, " ; ")?;
+    let (text, want) = two(row)?;
     let program = checked(alloc, PROGRAM.as_bytes())?;
     let events = events_of(alloc, &run_of(alloc, &program, text)?)?;
     let came = printed(alloc, &program, &events)?;
-    let want = bytes_of(alloc, want)?;
-    Ok(other_than(shown(alloc, &want)?.as_str(), shown(alloc, &came)?))
+    other_lines(alloc, want, &came)
 }
 
 /// Events turn into the moves that the rows say.
 #[test]
 fn events_turn_into_moves(rt: HostRuntime) -> Result<(), Fail> {
-    for row in ROWS.lines() {
-        if let Some(came) = wrong_row(rt.alloc(), row)? {
-            panic!(rt; "{row}: {came}");
-        }
-    }
+    let alloc = rt.alloc();
+    let other = first_other(alloc, ROWS, |row| wrong_row(alloc, row))?;
+    none_other(&rt, other);
     Ok(())
 }

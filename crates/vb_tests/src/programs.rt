@@ -3,18 +3,17 @@
 ghost use Rattle.viper_core.specs.Formed.{IsFormed};
 ghost use Rattle.viper_core.specs.View.{program_of};
 
-use crate::files::checked;
-use crate::procedures::{header, if_wrong};
-use crate::rows::{Ends, check_ends};
-use crate::runs::{boogie_program, bytes_of, shown};
-use crate::told::other_than;
-use crate::words::parts;
+use crate::emitted::if_wrong;
+use crate::rows::none_other;
 use boogie_run::check_types;
 use boogie_text::print;
 use boogie_tree::{PRELUDE, Proc};
 use enc_stmt::{Written, encode_to, unit_locals};
 use std::alloc::Global;
 use std::test::Fail;
+use test_boogie::procedures::{boogie_program, head_text};
+use test_rows::{first_other, other_lines, shown, two};
+use test_viper::files::checked;
 use vb_outer::MemSink;
 use viper_core::Program;
 
@@ -65,7 +64,7 @@ fn has_locals(alloc: Global, program: &Program, unit: u32, proc: &Proc) -> Resul
         return Ok(false);
     }
     let locals = unit_locals(alloc, program, unit)?;
-    Ok(header(alloc, &locals)? == header(alloc, &proc.locals)?)
+    Ok(head_text(alloc, &locals)? == head_text(alloc, &proc.locals)?)
 }
 
 /// Whether each unit has a procedure, with its locals.
@@ -99,26 +98,29 @@ fn told(alloc: Global, program: &Program, text: &[u8]) -> Result<String, Fail>
 
 /// What came of a program, or `ill-typed` or `another text`.
 fn told_of(alloc: Global, file: &str) -> Result<String, Fail> {
-    let program = Box::new(alloc, checked(alloc, file.as_bytes())?)?;
+    let program = checked(alloc, file.as_bytes())?;
     let text = written(alloc, &program)?;
     told(alloc, &program, text.as_bytes())
 }
 
 /// What came of a row, where the row says otherwise.
-pub fn wrong_text(alloc: Global, row: &str) -> Result<Option<String>, Fail> {
-    let (file, want) = parts(row, " ; ")?;
-    let want = bytes_of(alloc, want)?;
-    Ok(other_than(shown(alloc, &want)?.as_str(), told_of(alloc, file)?))
+fn wrong_text(alloc: Global, row: &str) -> Result<Option<String>, Fail> {
+    let (file, want) = two(row)?;
+    other_lines(alloc, want, told_of(alloc, file)?.as_bytes())
 }
 
 /// What is wrong with what is written of a program.
-pub fn wrong_program(alloc: Global, file: &str) -> Result<Option<String>, Fail> {
+fn wrong_program(alloc: Global, file: &str) -> Result<Option<String>, Fail> {
     Ok(if_wrong(told_of(alloc, file)?))
 }
 
 /// What is written of programs is what the rows say, is well-typed and is read back.
 #[test]
 fn programs_are_written_as_the_tables_say(rt: HostRuntime) -> Result<(), Fail> {
-    check_ends(&rt, rt.alloc(), Ends::ProgramText, "", TEXTS)?;
-    check_ends(&rt, rt.alloc(), Ends::Program, "", PROGRAMS)
+    let alloc = rt.alloc();
+    let other = first_other(alloc, TEXTS, |row| wrong_text(alloc, row))?;
+    none_other(&rt, other);
+    let other = first_other(alloc, PROGRAMS, |row| wrong_program(alloc, row))?;
+    none_other(&rt, other);
+    Ok(())
 }

@@ -2,17 +2,16 @@
 // on it.
 ghost use Rattle.boogie_tree.specs.Whole as boogie;
 ghost use Rattle.boogie_meaning.specs.Programs.{IsTypedProgram};
-ghost use Rattle.boogie_text.specs.Printable.{IsPrintable};
+ghost use Rattle.boogie_print.specs.Printable.{IsPrintable};
 
-use crate::rows::{Ends, check_ends};
-use crate::runs::{boogie_program, bytes_of, small};
-use crate::told::other_than;
-use crate::words::parts;
+use crate::rows::none_other;
 use boogie_run::{BOutcome, check_types, replay};
 use boogie_tree::BProgram;
 use run_file::read_boogie_run;
 use std::alloc::Global;
 use std::test::Fail;
+use test_boogie::procedures::boogie_program;
+use test_rows::{bytes_of, first_other, other_than, small, two};
 
 /// A map of one place, and a number that is added to it or squared. The square of 13043817825332782212 is the last within the
 /// bound.
@@ -84,8 +83,8 @@ fn told(alloc: Global, end: BOutcome) -> Result<String, Fail> {
 }
 
 /// What came of a row, where the row says otherwise.
-pub fn wrong_row(alloc: Global, file: &str, row: &str) -> Result<Option<String>, Fail> {
-    let (text, want) = parts(row, " ; ")?;
+fn wrong_row(alloc: Global, file: &str, row: &str) -> Result<Option<String>, Fail> {
+    let (text, want) = two(row)?;
     let program = boogie_program(alloc, file.as_bytes())?;
     let end = ended(alloc, &program, &bytes_of(alloc, text)?)?;
     Ok(other_than(want, told(alloc, end)?))
@@ -94,8 +93,10 @@ pub fn wrong_row(alloc: Global, file: &str, row: &str) -> Result<Option<String>,
 /// Each run ends as its row says.
 #[test]
 fn runs_of_procedures_end_as_the_tables_say(rt: HostRuntime) -> Result<(), Fail> {
+    let alloc = rt.alloc();
     for (file, table) in [PLACE, MAPS] {
-        check_ends(&rt, rt.alloc(), Ends::Replay, file, table)?;
+        let other = first_other(alloc, table, |row| wrong_row(alloc, file, row))?;
+        none_other(&rt, other);
     }
     Ok(())
 }

@@ -1,24 +1,21 @@
 // Run files that are read, printed and read again: each row is a run with a bar between its lines, and the run as it is
 // printed. A run of Viper has the number of its unit in front.
-ghost use Rattle.std.specs.Prelude.{◌<◌, ◌≤◌, length, IfOk, IfSome};
+ghost use Rattle.std.specs.Prelude.{◌<◌, length, IfSome};
 ghost use Rattle.vb_base.specs.Names.{NamesDiffer};
 ghost use Rattle.viper_core.specs.Formed.{IsFormed};
 ghost use Rattle.viper_core.specs.View.{program_of};
 ghost use Rattle.boogie_tree.specs.Whole as boogie;
 ghost use Rattle.boogie_grammar.specs.Grammar.{local_names};
-ghost use Rattle.boogie_text.specs.Printable.{IsPrintable};
+ghost use Rattle.boogie_print.specs.Printable.{IsPrintable};
 
-use crate::files::checked;
-use crate::rows::{Ends, check_ends};
-use crate::told::other_than;
-use crate::words::parts;
-use boogie_grammar::BoogieFault;
-use boogie_text::read;
-use boogie_tree::{BProgram, PRELUDE, Proc};
+use crate::rows::none_other;
+use boogie_tree::{BProgram, Proc};
 use run_file::{print_boogie_run, print_viper_run, read_boogie_run, read_viper_run};
 use std::alloc::Global;
-use std::str;
 use std::test::Fail;
+use test_boogie::procedures::boogie_program;
+use test_rows::{bytes_of, first_other, other_lines, small, three, two};
+use test_viper::files::checked;
 use viper_core::Program;
 
 /// A method over a number, and its runs.
@@ -80,36 +77,6 @@ boogie run go | var n #3 | var r 2/4 | var b true | entries c | at 3 true pair u
 boogie run go | entries m | pick false | value 6/4 | entries | at #9 1 | at #8 0 | value unit | entries | pick true ; boogie run go | pick false | value 3/2 | entries | at #9 1 | value unit | entries | pick true",
 );
 
-/// The bytes of lines that stand with a bar between them.
-pub fn bytes_of(alloc: Global, text: &str) -> Result<Vec<u8>, Fail> {
-    let mut bytes = Vec::new(alloc);
-    for line in text.split(" | ") {
-        bytes.extend_from_slice(line.as_bytes())?;
-        bytes.push(b'\n')?;
-    }
-    Ok(bytes)
-}
-
-/// Whether the bytes are few enough for a file.
-pub fn small(bytes: &[u8]) -> Result<&[u8], Fail>
-    ensures { IfOk result (λ b. length b.now ≤ 33554432) }
-{
-    if bytes.len() > 33_554_432 {
-        return Err("a long file")?;
-    }
-    Ok(bytes)
-}
-
-/// Bytes as a text, for a message.
-pub fn shown(alloc: Global, bytes: &[u8]) -> Result<String, Fail> {
-    Ok(
-        str::from_utf8(bytes)
-            .ok()
-            .ok_or("no text")?
-            .to_string(alloc)?,
-    )
-}
-
 /// The run of Viper that the bytes spell, printed.
 fn printed(alloc: Global, program: &Program, unit: u32, bytes: &[u8]) -> Result<Vec<u8>, Fail>
     requires formed { IsFormed (program_of program.now) }
@@ -135,34 +102,12 @@ fn printed_twice(alloc: Global, program: &Program, unit: u32, text: &str) -> Res
 }
 
 /// What came of a row of Viper, where the row says otherwise.
-pub fn wrong_viper_row(alloc: Global, file: &str, row: &str) -> Result<Option<String>, Fail> {
-    let (unit, rest) = parts(row, " ; ")?;
-    let (text, want) = parts(rest, " ; ")?;
+fn wrong_viper_row(alloc: Global, file: &str, row: &str) -> Result<Option<String>, Fail> {
+    let (unit, text, want) = three(row)?;
     let unit = unit.parse::<u32>().ok().ok_or("no number")?;
     let program = checked(alloc, file.as_bytes())?;
     let came = printed_twice(alloc, &program, unit, text)?;
-    let want = bytes_of(alloc, want)?;
-    Ok(other_than(shown(alloc, &want)?.as_str(), shown(alloc, &came)?))
-}
-
-/// A program of Boogie that is read can be printed.
-fn boogie_read(alloc: Global, bytes: &[u8]) -> Result<BProgram, BoogieFault>
-    requires { length bytes.now ≤ 33554432 }
-    ensures { IfOk result (λ p. IsPrintable (boogie.program_of p)) }
-{
-    read(alloc, bytes)
-}
-
-/// The program of Boogie that stands behind the prelude.
-pub fn boogie_program(alloc: Global, text: &[u8]) -> Result<Box<BProgram>, Fail>
-    ensures { IfOk result (λ p. IsPrintable (boogie.program_of p.value)) }
-{
-    let mut bytes = PRELUDE.to_vec(alloc)?;
-    bytes.extend_from_slice(text)?;
-    match boogie_read(alloc, small(&bytes)?) {
-        Ok(program) => Ok(Box::new(alloc, program)?),
-        Err(_) => Err("no program")?,
-    }
+    other_lines(alloc, want, &came)
 }
 
 /// The first procedure of a program.
@@ -194,23 +139,25 @@ fn printed_boogie_twice(alloc: Global, proc: &Proc, text: &str) -> Result<Vec<u8
 }
 
 /// What came of a row of Boogie, where the row says otherwise.
-pub fn wrong_boogie_row(alloc: Global, file: &str, row: &str) -> Result<Option<String>, Fail> {
-    let (text, want) = parts(row, " ; ")?;
+fn wrong_boogie_row(alloc: Global, file: &str, row: &str) -> Result<Option<String>, Fail> {
+    let (text, want) = two(row)?;
     let program = boogie_program(alloc, file.as_bytes())?;
     let proc = first_procedure(&program).ok_or("no procedure")?;
     let came = printed_boogie_twice(alloc, proc, text)?;
-    let want = bytes_of(alloc, want)?;
-    Ok(other_than(shown(alloc, &want)?.as_str(), shown(alloc, &came)?))
+    other_lines(alloc, want, &came)
 }
 
 /// Each run is printed as its row says, and read again.
 #[test]
 fn runs_are_printed_and_read_back(rt: HostRuntime) -> Result<(), Fail> {
+    let alloc = rt.alloc();
     for (file, table) in [NUMBER, PLACE, LIST, ALL] {
-        check_ends(&rt, rt.alloc(), Ends::ViperRun, file, table)?;
+        let other = first_other(alloc, table, |row| wrong_viper_row(alloc, file, row))?;
+        none_other(&rt, other);
     }
     for (file, table) in [ASSERTED, TYPES] {
-        check_ends(&rt, rt.alloc(), Ends::BoogieRun, file, table)?;
+        let other = first_other(alloc, table, |row| wrong_boogie_row(alloc, file, row))?;
+        none_other(&rt, other);
     }
     Ok(())
 }

@@ -3,18 +3,17 @@
 // with a bar between the lines. A place in line 2 is a column of the statement, and one in line 1 stands in a predicate or in the
 // clauses of a method.
 ghost use Rattle.std.specs.Prelude.{IfOk};
-ghost use Rattle.enc_stmt.specs.View as view;
-ghost use Rattle.enc_stmt.specs.Written.{IsStep};
+ghost use Rattle.enc_units.specs.View as view;
+ghost use Rattle.enc_units.specs.Written.{IsStep};
 
-use crate::files::program;
-use crate::procedures::{if_wrong, nothing, procedure, told};
-use crate::rows::{Ends, check_ends};
-use crate::told::other_than;
-use crate::words::parts;
+use crate::emitted::{if_wrong, nothing, told};
+use crate::rows::none_other;
 use enc_expr::{Emit, Kinds};
 use enc_stmt::{Setting, Step, step_code, unit_home};
 use std::alloc::Global;
 use std::test::Fail;
+use test_rows::{first_other, other_than, two};
+use test_viper::files::program;
 use viper_core::{Method, Program, Stmt};
 
 /// What stands before the statement.
@@ -100,23 +99,27 @@ fn told_of(alloc: Global, statement: &str) -> Result<String, Fail> {
     let method = last_method(&program).ok_or("no method")?;
     let mut out = nothing(alloc, LOCALS)?;
     write(alloc, &program, method, &mut out)?;
-    told(alloc, &*procedure(alloc, out)?)
+    told(alloc, out)
 }
 
 /// What came of a row, where the row says otherwise.
-pub fn wrong_text(alloc: Global, row: &str) -> Result<Option<String>, Fail> {
-    let (statement, want) = parts(row, " ; ")?;
+fn wrong_text(alloc: Global, row: &str) -> Result<Option<String>, Fail> {
+    let (statement, want) = two(row)?;
     Ok(other_than(want, told_of(alloc, statement)?))
 }
 
 /// What is wrong with the code of a statement.
-pub fn wrong_code(alloc: Global, statement: &str) -> Result<Option<String>, Fail> {
+fn wrong_code(alloc: Global, statement: &str) -> Result<Option<String>, Fail> {
     Ok(if_wrong(told_of(alloc, statement)?))
 }
 
 /// What is written of statements is what the rows say, is well-typed and is read back.
 #[test]
 fn statements_are_written_as_the_table_says(rt: HostRuntime) -> Result<(), Fail> {
-    check_ends(&rt, rt.alloc(), Ends::StatementText, "", TEXTS)?;
-    check_ends(&rt, rt.alloc(), Ends::Statement, "", STATEMENTS)
+    let alloc = rt.alloc();
+    let other = first_other(alloc, TEXTS, |row| wrong_text(alloc, row))?;
+    none_other(&rt, other);
+    let other = first_other(alloc, STATEMENTS, |row| wrong_code(alloc, row))?;
+    none_other(&rt, other);
+    Ok(())
 }

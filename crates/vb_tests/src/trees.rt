@@ -2,12 +2,12 @@
 ghost use Rattle.viper_core.specs.Formed.{IsFormed};
 ghost use Rattle.viper_core.specs.View.{program_of};
 
-use crate::files::checked;
 use crate::programs::PROGRAMS;
 use boogie_text::print;
 use enc_stmt::{encode, encode_to};
 use std::alloc::Global;
 use std::test::Fail;
+use test_viper::files::checked;
 use vb_outer::MemSink;
 use viper_core::Program;
 
@@ -76,7 +76,7 @@ fn is_sent(alloc: Global, program: &Program) -> Result<bool, Fail>
 
 /// Whether what is sent of the program of a file is what is printed of its tree.
 fn is_file_sent(alloc: Global, file: &str) -> Result<bool, Fail> {
-    let program = Box::new(alloc, checked(alloc, file.as_bytes())?)?;
+    let program = checked(alloc, file.as_bytes())?;
     is_sent(alloc, &program)
 }
 

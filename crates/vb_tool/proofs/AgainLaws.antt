@@ -8,6 +8,8 @@ use Rattle.std.proofs.lemmas.List.Elements.{All-map, All-weaker}
 use Rattle.std.proofs.lemmas.List.Sums.{position_or_len_is}
 use Rattle.std.proofs.lemmas.Option.{get_or_from_slice_get, slice_get-get_or, slice_get-map, slice_get_within}
 use Rattle.std.proofs.lemmas.Slice.Eq.{bytes_eq-Decides}
+use Rattle.lemmas.proofs.Tests.{refuted}
+use Rattle.lemmas.proofs.Lists.{front_at, all_at}
 use Rattle.vb_base.specs.Limits.{max_boogie_bytes}
 use Rattle.vb_base.specs.Names.{is_name, NamesDiffer}
 use Rattle.vb_base.specs.declared.labels.Label.{Label}
@@ -22,28 +24,27 @@ use Rattle.boogie_tree.specs.Value.{BValue, BSetting}
 use Rattle.boogie_meaning.specs.Programs.{types_of, default_value, brun_proc}
 use Rattle.boogie_meaning.specs.Run.{Stops, Failed}
 use Rattle.boogie_grammar.specs.Grammar.{proc_names}
-use Rattle.boogie_text.specs.Printable.{FitsProc, FitsLocal}
-use Rattle.boogie_text.proofs.SpelledLaws.{spelled_printable}
+use Rattle.boogie_print.specs.Printable.{FitsProc, FitsLocal}
+use Rattle.boogie_print.proofs.SpelledLaws.{spelled_printable}
 use Rattle.boogie_run.specs.Start.{start_of}
 use Rattle.moves.specs.Moves.{moves}
 use Rattle.moves.specs.Printable.{IsPrintableChoice}
-use Rattle.run_file.specs.BoogieLines.{known}
-use Rattle.run_file.specs.BoogiePrintable.{KeepsNames, IsPrintableSetting}
-use Rattle.run_file.specs.BoogiePrinted.{given_text, given, choices_text, run_text}
-use Rattle.run_file.specs.BoogieRun.{SpellsBoogieRun}
-use Rattle.run_file.specs.Printed.{named_text, numbered_text}
-use Rattle.run_file.proofs.BoogiePrintedRuns.{run_spelled}
-use Rattle.run_file.proofs.NumberLaws.{refuted}
+use Rattle.run_boogie.specs.BoogieLines.{known}
+use Rattle.run_boogie.specs.BoogiePrintable.{KeepsNames, IsPrintableSetting}
+use Rattle.run_boogie.specs.BoogiePrinted.{given_text, given, choices_text, run_text}
+use Rattle.run_boogie.specs.BoogieRun.{SpellsBoogieRun}
+use Rattle.run_words.specs.Printed.{named_text, numbered_text}
+use Rattle.run_boogie.proofs.BoogiePrintedRuns.{run_spelled}
 use Rattle.enc_expr.specs.Front.{front_values}
-use Rattle.enc_stmt.specs.Translates.{front_locals, IsProcedureOf, Translates}
-use Rattle.enc_stmt.specs.Units.{started}
+use Rattle.enc_locals.specs.Procedure.{front_locals, front_procedure}
+use Rattle.enc_units.specs.Translates.{IsProcedureOf, Translates}
+use Rattle.enc_units.specs.Units.{started}
 use Rattle.vb_tool.specs.AcceptedReplay.{AcceptsReplay}
-use Rattle.enc_stmt.specs.Opened.{front_procedure, settings_from, start_settings}
+use Rattle.enc_locals.specs.Opened.{settings_from, start_settings}
 use Rattle.vb_tool.specs.Procedures.{ProcedureRun}
 use Rattle.vb_tool.specs.Transfer.{FailsAgain}
 use Rattle.vb_tool.specs.Moved.{moved_run, moved_text}
 use Rattle.run_fits.proofs.BoogieRunLaws.{settings_are}
-use Rattle.vb_tool.proofs.BoogieVerdicts.{all_at}
 
 -- ---- settings of the first variables
 
@@ -80,11 +81,6 @@ unsets_text names n (suc k) =
 front_given : (names : List (List ℕ)) (n : ℕ) (os : List (Option BValue)) (k : ℕ) → numbered_text given_text names n (os ++ replicate k None) ≡ numbered_text given_text names n os
 front_given names n [] k = unsets_text names n k
 front_given names n (o ∷ os) k = ap (λ text. named_text given_text (slice_get names n) o ++ text) (front_given names (n + 1) os k)
-
-front_at : {X : Type 0} (xs ys : List X) (n : ℕ) → n < length xs → slice_get (xs ++ ys) n ≡ slice_get xs n
-front_at [] ys n within = absurd (omega (arith, within))
-front_at (x ∷ xs) ys zero within = refl
-front_at (x ∷ xs) ys (suc n) within = front_at xs ys n (omega (arith, within))
 
 -- names behind do not count
 front_named : (names others : List (List ℕ)) (n : ℕ) (os : List (Option BValue)) → n + length os ≤ length names →

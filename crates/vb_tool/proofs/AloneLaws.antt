@@ -1,21 +1,17 @@
 -- The procedures of a text as a loop comes to them, of which something is kept of the first of a name.
-use Rattle.std.proofs.Common.{◌≡◌, ◌∙◌, refl, sym, ap, subst, arith, ℕ, zero, suc, ◌+◌, ◌≤◌, Bool as Truth, true, false, not, cond, nat_lt, List, [], ◌∷◌, ◌++◌, length, get_or, map, All, Option, Some, None, Bor, slice_get}
+use Rattle.std.proofs.Common.{◌≡◌, ◌∙◌, refl, sym, ap, subst, ℕ, zero, suc, ◌+◌, ◌≤◌, Bool as Truth, true, false, List, [], ◌∷◌, ◌++◌, length, get_or, map, All, Option, Some, None, Bor, slice_get}
 use Rattle.std.specs.Prelude.{IfSome}
-use Rattle.std.specs.List.{position, prefix_len}
-use Rattle.std.specs.Option.{option_map}
 use Rattle.std.specs.Str.{bytes_eq}
-use Rattle.std.proofs.lemmas.Bool.{cond-true, cond-false}
-use Rattle.std.proofs.lemmas.Bool.Decides.{nat_tests}
 use Rattle.std.proofs.lemmas.List.Elements.{All-nil, All-cons, All-append}
+use Rattle.lemmas.proofs.Lists.{there_left, get_middle, all_at}
 use Rattle.boogie_grammar.specs.Grammar.{proc_names}
+use Rattle.boogie_grammar.proofs.FirstPassing.{first_passing, position_is, still_found, now_found, not_found}
 use Rattle.boogie_meaning.specs.Programs.{IsTypedProc, IsTypedProgram}
 use Rattle.boogie_run.specs.declared.replaying.BOutcome.{BOutcome}
 use Rattle.boogie_text.specs.Tail.{IsTail, BeginsProcedure}
 use Rattle.boogie_tree.specs.Program.{Proc, BProgram}
 use Rattle.boogie_tree.specs.Whole.{program_of}
 use Rattle.boogie_tree.specs.declared.programs.BProgram as whole
-use Rattle.viper_types.proofs.Scopes.{slice_get_append, slice_get_at}
-use Rattle.vb_tool.proofs.BoogieVerdicts.{all_at}
 use Rattle.vb_base.specs.declared.labels.Label.{Label}
 use Rattle.boogie_formula.specs.Follows.{Follows, IsExact}
 use Rattle.boogie_formula.specs.Formula.{Formula}
@@ -23,15 +19,16 @@ use Rattle.boogie_formula.specs.Types.{IsTypedFormula}
 use Rattle.boogie_wp.specs.Build.{formula_for}
 use Rattle.formula_text.specs.Printed.{formula_text}
 use Rattle.formula_text.specs.Spells.{SpellsFormula}
-use Rattle.boogie_text.specs.Answers.{IsRead}
-use Rattle.boogie_text.specs.Printable.{FitsProc}
+use Rattle.boogie_print.specs.Read.{IsRead}
+use Rattle.boogie_print.specs.Printable.{FitsProc}
 use Rattle.boogie_text.proofs.TailLaws.{read_whole}
 use Rattle.boogie_tree.specs.Text.{prelude}
 use Rattle.boogie_tree.specs.Whole.{proc_of}
 use Rattle.boogie_tree.specs.declared.programs.Proc as declared
-use Rattle.run_file.specs.BoogieRun.{SpellsName}
+use Rattle.run_boogie.specs.BoogieRun.{SpellsName}
 use Rattle.vb_tool.proofs.BoogieStages.{replay_is}
-use Rattle.vb_tool.proofs.ConditionStages.{condition_is, fits_proc}
+use Rattle.boogie_file.proofs.StageLaws.{fits_proc}
+use Rattle.vb_tool.proofs.ConditionStages.{condition_is}
 use Rattle.vb_tool.specs.Parts.{ReplayOf, ConditionOf}
 use Rattle.vb_tool.specs.ReplayOutcome.{replay_status, replay_text}
 use Rattle.vb_tool.specs.declared.status.Status.{Status}
@@ -41,62 +38,6 @@ use Rattle.vb_tool.specs.declared.alone.Made.{Made}
 use Rattle.vb_tool.specs.declared.alone.Made.TheVariants as made
 use Rattle.vb_tool.specs.declared.alone.Task.{Task}
 use Rattle.vb_tool.specs.declared.alone.Task.TheVariants as task
-
--- ---- the first item that passes a test
-
-module _ {X : Type 0} (test : X → Truth) where
-  abbrev first_passing : List X → Option ℕ
-  first_passing [] = None
-  first_passing (x ∷ xs) = cond (test x) (Some 0) (option_map suc (first_passing xs))
-
-  later_at : (l n : ℕ) (b : Truth) → nat_lt l n ≡ b → cond (nat_lt (1 + l) (suc n)) (Some (1 + l)) None ≡ option_map suc (cond b (Some l) None)
-  later_at l n true e =
-      let h : nat_lt (1 + l) (suc n) ≡ true = grind (arith, nat_tests) in
-      let one : 1 + l ≡ suc l = omega arith in
-      cond-true (nat_lt (1 + l) (suc n)) (Some (1 + l)) None h ∙ ap (λ k. Some k) one
-  later_at l n false e =
-      let h : nat_lt (1 + l) (suc n) ≡ false = grind (arith, nat_tests) in
-      cond-false (nat_lt (1 + l) (suc n)) (Some (1 + l)) None h
-
-  first_at : (n : ℕ) → cond {A = Option ℕ} (nat_lt 0 (suc n)) (Some 0) None ≡ Some 0
-  first_at n = let h : nat_lt 0 (suc n) ≡ true = grind (arith, nat_tests) in cond-true {A = Option ℕ} (nat_lt 0 (suc n)) (Some 0) None h
-
-  by_first : (b : Truth) (l n : ℕ) (o : Option ℕ) → cond (nat_lt l n) (Some l) None ≡ o →
-      cond (nat_lt (cond (not b) (1 + l) 0) (suc n)) (Some (cond (not b) (1 + l) 0)) None ≡ cond b (Some 0) (option_map suc o)
-  by_first true l n o h = first_at n
-  by_first false l n o h = later_at l n (nat_lt l n) refl ∙ ap (option_map suc) h
-
-  position_is : (xs : List X) → position test xs ≡ first_passing xs
-  position_is [] = refl
-  position_is (x ∷ xs) = by_first (test x) (prefix_len (λ y. not (test y)) xs) (length xs) (first_passing xs) (position_is xs)
-
-  -- with one item more
-
-  found_at : (b : Truth) (o p : Option ℕ) (n : ℕ) → ((m : ℕ) → o ≡ Some m → p ≡ Some m) → cond b (Some 0) (option_map suc o) ≡ Some n → cond b (Some 0) (option_map suc p) ≡ Some n
-  found_at true o p n later h = h
-  found_at false (Some m) p n later h = ap (option_map suc) (later m refl) ∙ h
-  found_at false None p n later h = absurd cc
-
-  still_found : (xs ys : List X) (n : ℕ) → first_passing xs ≡ Some n → first_passing (xs ++ ys) ≡ Some n
-  still_found [] ys n h = absurd cc
-  still_found (x ∷ xs) ys n h = found_at (test x) (first_passing xs) (first_passing (xs ++ ys)) n (λ m. still_found xs ys m) h
-
-  none_at : (b : Truth) (o : Option ℕ) → cond b (Some 0) (option_map suc o) ≡ None → (b ≡ false) × (o ≡ None)
-  none_at true o h = absurd cc
-  none_at false (Some m) h = absurd cc
-  none_at false None h = (refl, refl)
-
-  now_found : (xs : List X) (x : X) → first_passing xs ≡ None → test x ≡ true → first_passing (xs ++ x ∷ []) ≡ Some (length xs)
-  now_found [] x h passes = cond-true (test x) (Some 0) None passes
-  now_found (y ∷ ys) x h passes =
-      let parts = none_at (test y) (first_passing ys) h in
-      cond-false (test y) (Some 0) (option_map suc (first_passing (ys ++ x ∷ []))) parts.0 ∙ ap (option_map suc) (now_found ys x parts.1 passes)
-
-  not_found : (xs : List X) (x : X) → first_passing xs ≡ None → test x ≡ false → first_passing (xs ++ x ∷ []) ≡ None
-  not_found [] x h fails = cond-false (test x) (Some 0) None fails
-  not_found (y ∷ ys) x h fails =
-      let parts = none_at (test y) (first_passing ys) h in
-      cond-false (test y) (Some 0) (option_map suc (first_passing (ys ++ x ∷ []))) parts.0 ∙ ap (option_map suc) (not_found ys x parts.1 fails)
 
 -- ---- what is kept of procedures
 
@@ -122,10 +63,10 @@ module _ {X : Type 0} (P : Proc → X → Type 0) where
     number = h.number;
     named = still_found (has_name name) ds (d ∷ []) h.number h.named;
     procedure = h.procedure;
-    is_there = slice_get_append ds (d ∷ []) h.number h.procedure h.is_there;
+    is_there = there_left ds (d ∷ []) h.number h.procedure h.is_there;
     has = h.has;
   }
-  one_kept ds name d true None (Some x) is keeps h = record { number = length ds; named = now_found (has_name name) ds d h (sym is); procedure = d; is_there = slice_get_at ds d []; has = keeps }
+  one_kept ds name d true None (Some x) is keeps h = record { number = length ds; named = now_found (has_name name) ds d h (sym is); procedure = d; is_there = get_middle ds d []; has = keeps }
   one_kept ds name d true None None is keeps h = absurd keeps
   one_kept ds name d false None (Some x) is keeps h = absurd keeps
   one_kept ds name d false None None is keeps h = not_found (has_name name) ds d h (sym is)

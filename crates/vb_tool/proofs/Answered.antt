@@ -5,18 +5,23 @@ use Rattle.vb_base.proofs.Fronts.{one_label}
 use Rattle.vb_base.specs.Labels.{Spells}
 use Rattle.vb_base.specs.declared.labels.Label.{Label}
 use Rattle.vb_gen.specs.Generated.{IsOutOfRange}
-use Rattle.vb_outer.specs.Shelf.{Files, IsFile, IsMissing, IsWhole}
+use Rattle.vb_outer.specs.Shelf.{Files, IsFile, IsWhole}
 use Rattle.vb_outer.specs.Sink.{Appends}
 use Rattle.boogie_run.specs.Start.{outcome_of}
 use Rattle.boogie_run.specs.declared.replaying.BOutcome.{BOutcome}
 use Rattle.boogie_grammar.specs.Spells.{BSpells}
 use Rattle.boogie_tree.specs.Program.{Proc, BProgram}
-use Rattle.enc_stmt.specs.Translates.{text_of}
+use Rattle.enc_units.specs.Translates.{text_of}
 use Rattle.viper_core.specs.Program as p
 use Rattle.boogie_wide.specs.Wide.{WProgram}
 use Rattle.viper_core.specs.declared.programs.Unit.{Unit}
 use Rattle.vb_tool.proofs.BoogieVerdicts.{one_replay_refusal, replay_not_refused, one_procedure_run}
-use Rattle.vb_tool.proofs.CallLaws.{IsOutcome, does_end}
+use Rattle.tool_words.specs.Ends.{as_expected, fault}
+use Rattle.tool_words.specs.Kind as kind
+use Rattle.tool_words.proofs.EndLaws.{from_causes}
+use Rattle.tool_words.proofs.FileLaws.{same_file, not_missing}
+use Rattle.vb_tool.proofs.CallLaws.{does_end}
+use Rattle.vb_tool.specs.Status.{kind_of}
 use Rattle.vb_tool.proofs.ConditionVerdicts.{one_condition_refusal, condition_not_refused, one_condition}
 use Rattle.vb_tool.proofs.CutVerdicts.{one_cut_refusal, cut_not_refused, one_cut}
 use Rattle.vb_tool.proofs.ExecutionVerdicts.{one_execution_refusal, execution_not_refused, one_execution}
@@ -31,7 +36,7 @@ use Rattle.vb_tool.specs.AcceptedExecution.{AcceptsExecution, IsExecutionRefusal
 use Rattle.vb_tool.specs.AcceptedReplay as replay
 use Rattle.vb_tool.specs.AcceptedReplay.{AcceptsReplay, IsReplayRefusal}
 use Rattle.vb_tool.specs.Call as call
-use Rattle.vb_tool.specs.Call.{MissesOf, Misses, first, later, Refuses, translates, too_long, runs, replay_too_long, replays, makes, over_budget, execution_too_long, executes, cuts, conditions, Does, translated, ran, replayed, made, executed, was_cut, stated, Promises, HasDone, IsCause, usage, read, refused, Causes, EndsAs, EndsWith, as_expected, no_memory, read_fault, write_fault, OutAfter}
+use Rattle.vb_tool.specs.Call.{MissesOf, Misses, first, later, Refuses, translates, too_long, runs, replay_too_long, replays, makes, over_budget, execution_too_long, executes, cuts, conditions, Does, translated, ran, replayed, made, executed, was_cut, stated, Promises, HasDone, IsCause, usage, read, refused, Causes, EndsAs, EndsWith, OutAfter}
 use Rattle.vb_tool.specs.Command as asks
 use Rattle.vb_tool.specs.Command.{Command, Translate, Run, Replay, Make, Execute, Cut, Condition, Asks, IsNoCommand}
 use Rattle.vb_tool.specs.Conditions.{condition_text, IsStatement}
@@ -113,17 +118,9 @@ asked_once (asks.condition {file = f} {procedure = t} {at = a} {part = b} {kind 
 
 -- ---- a name is one file
 
-same_file : (files : Option Files) (name a b : List ℕ) → IsFile files name a → IsWhole files name b → a ≡ b
-same_file None name a b h i = absurd h
-same_file (Some files) name a b h i = let same : Some a ≡ Some b = sym h ∙ i in cc
-
 one_file : (files : Option Files) (name a b : List ℕ) → IsFile files name a → IsFile files name b → a ≡ b
 one_file None name a b h i = absurd h
 one_file (Some files) name a b h i = let same : Some a ≡ Some b = sym h ∙ i in cc
-
-not_missing : (files : Option Files) (name a : List ℕ) → IsWhole files name a → IsMissing files name → ⊥
-not_missing None name a h i = absurd i
-not_missing (Some files) name a h i = let same : Some a ≡ None = sym h ∙ i in absurd (cc)
 
 -- ---- a command does one thing
 
@@ -304,8 +301,8 @@ module _ {files : Option Files} where
 -- ---- statuses
 
 -- a call ended with no outcome of a command
-no_outcome : {s expected : Status} {X : Type 0} → (IsOutcome s → ⊥) → IsOutcome expected → s ≡ expected → X
-no_outcome none is same = absurd (none (subst IsOutcome (sym same) is))
+no_outcome : {s expected : Status} {X : Type 0} → (kind_of s ≡ kind.Answered → ⊥) → kind_of expected ≡ kind.Answered → s ≡ expected → X
+no_outcome none is same = absurd (none (subst (λ x. kind_of x ≡ kind.Answered) (sym same) is))
 
 module _ (words : List (List ℕ)) (files : Option Files) where
   -- the command that the words ask for does this
@@ -328,11 +325,11 @@ module _ (words : List (List ℕ)) (files : Option Files) where
     written status.Short out same = written_this out
     written status.Over out same = written_this out
     written status.Spent out same = written_this out
-    written (status.Refused r) out same = no_outcome (λ h. elim h [ ]) (does_end does) same
-    written status.Usage out same = no_outcome (λ h. elim h [ ]) (does_end does) same
-    written status.ReadFault out same = no_outcome (λ h. elim h [ ]) (does_end does) same
-    written status.WriteFault out same = no_outcome (λ h. elim h [ ]) (does_end does) same
-    written status.NoMemory out same = no_outcome (λ h. elim h [ ]) (does_end does) same
+    written (status.Refused r) out same = no_outcome (λ h. cc) (does_end does) same
+    written status.Usage out same = no_outcome (λ h. cc) (does_end does) same
+    written status.ReadFault out same = no_outcome (λ h. cc) (does_end does) same
+    written status.WriteFault out same = no_outcome (λ h. cc) (does_end does) same
+    written status.NoMemory out same = no_outcome (λ h. cc) (does_end does) same
 
   -- what is promised of what was written is promised of the command that the words ask for
   promised_this : {command : Command} {s : Status} {text : List ℕ} → Asks words command → HasDone words files s text → Promises (IsWhole files) command s text
@@ -369,24 +366,9 @@ module _ (words : List (List ℕ)) (files : Option Files) where
       (written.0, promised_this asks written.1, written.2)
 
   module _ (before now : ℕ) where
-    -- what follows from each cause follows from the causes
-    from_causes : (expected : Status) → ((s : Status) → IsCause words files before now s → EndsAs expected s) → (SinkFailed : Type 0) (s : Status) → Causes words files before now SinkFailed s →
-        EndsAs expected s
-    from_causes expected each SinkFailed status.Done cause = each _ cause
-    from_causes expected each SinkFailed (status.Refused r) cause = each _ cause
-    from_causes expected each SinkFailed status.Usage cause = each _ cause
-    from_causes expected each SinkFailed status.ReadFault cause = each _ cause
-    from_causes expected each SinkFailed status.WriteFault cause = write_fault
-    from_causes expected each SinkFailed status.NoMemory cause = no_memory
-    from_causes expected each SinkFailed (status.Failed label) cause = each _ cause
-    from_causes expected each SinkFailed status.Blocked cause = each _ cause
-    from_causes expected each SinkFailed status.Short cause = each _ cause
-    from_causes expected each SinkFailed status.Over cause = each _ cause
-    from_causes expected each SinkFailed status.Spent cause = each _ cause
-
     usage_each : IsNoCommand words → (s : Status) → IsCause words files before now s → EndsAs status.Usage s
     usage_each none s (usage also) = as_expected
-    usage_each none s (read asks names why) = read_fault
+    usage_each none s (read asks names why) = fault tt
     usage_each none s (refused {command = c} asks why) = absurd (none.asks_none c asks)
     usage_each none s (call.done h) = absurd (none.asks_none h.command h.asked)
 
@@ -398,7 +380,7 @@ module _ (words : List (List ℕ)) (files : Option Files) where
 
     refused_each : {command : Command} {r : Refusal} → Asks words command → Refuses (IsFile files) command r → (s : Status) → IsCause words files before now s → EndsAs (status.Refused r) s
     refused_each {command = c} asks refuses s (usage none) = absurd (none.asks_none c asks)
-    refused_each asks refuses s (read other names why) = read_fault
+    refused_each asks refuses s (read other names why) = fault tt
     refused_each {r = r} asks refuses s (refused other why) =
         subst (λ x. EndsAs (status.Refused r) (status.Refused x)) (one_refusal_of (same_file files) refuses (refuses_this asks other why)) as_expected
     refused_each asks refuses s (call.done h) = absurd (refuses_not_does (same_file files) refuses (does_this asks h))
@@ -406,7 +388,7 @@ module _ (words : List (List ℕ)) (files : Option Files) where
     does_each : {command : Command} {expected : Status} {text : List ℕ} → Asks words command → Does (IsFile files) command expected text → (s : Status) → IsCause words files before now s →
         EndsAs expected s
     does_each {command = c} asks does s (usage none) = absurd (none.asks_none c asks)
-    does_each asks does s (read other names why) = read_fault
+    does_each asks does s (read other names why) = fault tt
     does_each asks does s (refused other why) = absurd (does_not_refuse (same_file files) does (refuses_this asks other why))
     does_each {expected = e} asks does s (call.done h) = subst (EndsAs e) (does_one (same_file files) does (does_this asks h)).0 as_expected
 
@@ -414,15 +396,15 @@ module _ (words : List (List ℕ)) (files : Option Files) where
 
     module _ (SinkFailed : Type 0) (s : Status) (causes : Causes words files before now SinkFailed s) where
       pub usage_comes : IsNoCommand words → EndsAs status.Usage s
-      usage_comes none = from_causes _ (usage_each none) SinkFailed s causes
+      usage_comes none = from_causes (IsCause words files before now) _ (usage_each none) SinkFailed s causes
 
       pub missing_comes : (command : Command) → Asks words command → Misses files command → EndsAs status.ReadFault s
-      missing_comes command asks misses = from_causes _ (missing_each asks misses) SinkFailed s causes
+      missing_comes command asks misses = from_causes (IsCause words files before now) _ (missing_each asks misses) SinkFailed s causes
 
       pub refused_comes : (command : Command) (r : Refusal) → Asks words command → Refuses (IsFile files) command r → EndsAs (status.Refused r) s
-      refused_comes command r asks refuses = from_causes _ (refused_each asks refuses) SinkFailed s causes
+      refused_comes command r asks refuses = from_causes (IsCause words files before now) _ (refused_each asks refuses) SinkFailed s causes
 
       pub does_comes : (out_before out_now : Option (List ℕ)) → OutAfter out_before out_now (HasDone words files) s →
           (command : Command) (expected : Status) (text : List ℕ) → Asks words command → Does (IsFile files) command expected text → EndsWith out_before out_now expected text s
       does_comes out_before out_now out command expected text asks does =
-          (from_causes _ (does_each asks does) SinkFailed s causes, written asks does out_before out_now s out)
+          (from_causes (IsCause words files before now) _ (does_each asks does) SinkFailed s causes, written asks does out_before out_now s out)

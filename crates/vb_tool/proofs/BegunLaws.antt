@@ -1,9 +1,7 @@
 -- A procedure that is read part by part, behind its head.
-use Rattle.std.proofs.Common.{◌≡◌, ◌≢◌, ◌∙◌, refl, sym, ap, subst, arith, ℕ, zero, suc, ◌+◌, ◌<◌, ◌≤◌, Bool as Truth, true, false, ◌||◌, List, [], ◌∷◌, ◌++◌, length, get_or, map, Some, None}
-use Rattle.std.specs.Str.{bytes_eq}
+use Rattle.std.proofs.Common.{◌≡◌, ◌∙◌, refl, sym, ap, subst, arith, ℕ, ◌+◌, ◌≤◌, true, false, List, [], ◌∷◌, ◌++◌, length, map, Some, None}
 use Rattle.std.proofs.lemmas.List.{map-append}
-use Rattle.std.proofs.lemmas.List.Quantifiers.{all_pairs_push}
-use Rattle.std.proofs.lemmas.Slice.Eq.{bytes_eq-Decides}
+use Rattle.boogie_print.proofs.SpelledLaws.{names_more}
 use Rattle.sparse.proofs.MapLaws.{Decides-list_all}
 use Rattle.vb_base.specs.Names.{NamesDiffer}
 use Rattle.boogie_tree.specs.Program.{BType, Local, Proc}
@@ -16,12 +14,11 @@ use Rattle.boogie_tree.specs.declared.programs.Local as declared
 use Rattle.boogie_tree.specs.declared.programs.Proc as whole
 use Rattle.boogie_tree.specs.declared.stmts.BStmt as stmt
 use Rattle.boogie_grammar.specs.Grammar.{local_names}
-use Rattle.boogie_grammar.specs.Words.{is_among}
 use Rattle.boogie_meaning.specs.Programs.{HaveKeys, have_keys, types_of}
 use Rattle.boogie_meaning.specs.Types.{IsTyped, IsTypedStmt, is_typed_stmt, skip, first}
 use Rattle.boogie_meaning.proofs.TypeLaws.{Decides-are_keys, stmt_sound}
-use Rattle.boogie_run.specs.Typed.{types_in}
-use Rattle.boogie_run.proofs.StartLaws.{types_are}
+use Rattle.boogie_types.specs.Typed.{types_in}
+use Rattle.boogie_types.proofs.TypingLaws.{types_are}
 use Rattle.boogie_text.specs.Tail.{IsTail, IsLocalsTail, IsBodyTail, BeginsLocal, BeginsStatement, BeginsEnd}
 use Rattle.boogie_text.proofs.TailLaws.{body_begins}
 use Rattle.vb_tool.specs.declared.alone.Made.{Made}
@@ -30,21 +27,6 @@ use Rattle.vb_tool.specs.declared.alone.Task.TheVariants as task
 use Rattle.vb_tool.specs.Alone.{Begins, IsBody, IsDone, IsMade, IsPassed, IsProcedure, HasBody, with_body}
 
 -- ---- names that differ
-
-neither : (a b : Truth) → (a || b) ≡ false → (a ≡ false) × (b ≡ false)
-neither true b e = absurd cc
-neither false b e = (refl, e)
-
-unequal : (x y : List ℕ) → bytes_eq x y ≡ false → y ≡ x → ⊥
-unequal x y e same = let yes = (bytes_eq-Decides x y).1 (sym same) in let no : true ≡ false = sym yes ∙ e in cc
-
-not_among : (x : List ℕ) (names : List (List ℕ)) → is_among x names ≡ false → (k : ℕ) (d : List ℕ) → k < length names → get_or names k d ≢ x
-not_among x [] h k d lt = absurd (omega (arith, lt))
-not_among x (y ∷ ys) h zero d lt = unequal x y (neither (bytes_eq x y) (is_among x ys) h).0
-not_among x (y ∷ ys) h (suc k) d lt = not_among x ys (neither (bytes_eq x y) (is_among x ys) h).1 k d (omega (arith, lt))
-
-one_name_more : (names : List (List ℕ)) (x : List ℕ) → NamesDiffer names → is_among x names ≡ false → NamesDiffer (names ++ x ∷ [])
-one_name_more names x h new = all_pairs_push (λ a b. a ≢ b) names x h (not_among x names new)
 
 no_names : NamesDiffer []
 no_names = λ i j d lt within. absurd (omega (arith, within))
@@ -68,7 +50,7 @@ pub begun_one : {text rest after : List ℕ} {ls with : List Local} {names more 
     more ≡ names ++ l.name ∷ [] → IsBegunTo text after with more
 begun_one {text} {rest} {after} {ls} {with} {names} {more} l f next is one = subst (λ ks. IsBegunTo text after ks more) (sym is) (record {
   names_are = names_with ls l ∙ ap (λ ns. ns ++ l.name ∷ []) f.names_are ∙ sym one;
-  differ = subst NamesDiffer (sym one) (one_name_more names l.name f.differ next.new);
+  differ = subst NamesDiffer (sym one) (names_more names l.name f.differ next.new);
   goes_on = λ so_far name all h. f.goes_on so_far name all (next.goes_on so_far name ls all f.names_are h);
   not_longer = let a = next.shorter in let b = f.not_longer in omega (arith, a, b);
 })

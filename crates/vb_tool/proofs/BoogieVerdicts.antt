@@ -1,51 +1,42 @@
 -- Two files are a run of a procedure of Boogie, or are refused for one reason.
-use Rattle.std.proofs.Common.{◌≡◌, ◌∙◌, ◌⊎◌, inl, inr, ◌<◌, ◌≤◌, ℕ, zero, suc, List, [], ◌∷◌, length, All, Option, Some, None, slice_get, refl, sym, ap, subst, arith}
+use Rattle.std.proofs.Common.{◌≡◌, ◌∙◌, ◌⊎◌, inl, inr, ◌<◌, ◌≤◌, ℕ, List, length, All, Option, Some, None, slice_get, refl, sym, ap, subst, arith}
 use Rattle.std.proofs.lemmas.Bool.{cases_lt}
-use Rattle.std.proofs.lemmas.List.Quantifiers.{position-Some}
-use Rattle.std.proofs.lemmas.Option.{slice_get_within, get_or_from_slice_get}
-use Rattle.std.specs.Str.{bytes_eq}
+use Rattle.lemmas.proofs.Lists.{all_at, item_there}
+use Rattle.lemmas.proofs.Options.{some_same, none_some}
 use Rattle.vb_base.specs.Names.{NamesDiffer}
 use Rattle.vb_base.specs.declared.places.Pos.{Pos}
 use Rattle.vb_value.specs.Bound.{Bounded}
 use Rattle.boogie_tree.specs.Program.{Proc, BProgram}
-use Rattle.boogie_tree.specs.Stmt.{skip}
 use Rattle.boogie_tree.specs.Value.{BChoice, BRun}
 use Rattle.boogie_tree.specs.Values.{IsEnvironment, IsReducedChoice}
-use Rattle.boogie_meaning.specs.Programs.{types_of, IsTypedProgram, IsFirstIllTyped, first_ill_typed}
+use Rattle.boogie_meaning.specs.Programs.{types_of}
 use Rattle.boogie_meaning.specs.Run.{Run, Done, Stops, Failed, Blocked, Short, Over, Wrong}
-use Rattle.boogie_meaning.proofs.ProgramLaws.{is_first, is_first_back, no_ill_typed}
 use Rattle.boogie_meaning.proofs.RunTypedLaws as runs
-use Rattle.boogie_grammar.specs.Faults.{IsFault}
 use Rattle.boogie_grammar.specs.declared.faults.BoogieFault.{BoogieFault}
 use Rattle.boogie_grammar.specs.declared.faults.BoogieFault.TheVariants as fault
-use Rattle.boogie_text.specs.Answers.{IsRead}
-use Rattle.boogie_text.specs.Printable.{FitsProc}
-use Rattle.boogie_text.proofs.FaultLaws.{one_fault, not_refused}
-use Rattle.boogie_text.proofs.Parsed.{one_program}
-use Rattle.boogie_text.proofs.SpelledLaws.{spelled_printable}
-use Rattle.boogie_text.proofs.TextAnswers.{some_text_answer}
+use Rattle.boogie_print.specs.Read.{IsRead}
+use Rattle.boogie_print.specs.Printable.{FitsProc}
+use Rattle.boogie_print.proofs.SpelledLaws.{spelled_printable}
 use Rattle.boogie_run.specs.Start.{start_of, outcome_of}
 use Rattle.boogie_run.specs.declared.replaying.BOutcome.{BOutcome}
 use Rattle.boogie_run.specs.declared.replaying.BOutcome.TheVariants as outcome
-use Rattle.run_file.specs.BoogieLines.{known}
-use Rattle.run_file.specs.BoogieRun.{SpellsName, NamesNothingAt, SpellsBoogieRun, GoesWrongAt}
-use Rattle.run_file.specs.Text.{lines_of}
-use Rattle.run_file.proofs.AnswerLaws as answers
-use Rattle.run_file.proofs.BoogieFileLaws.{is_reader}
-use Rattle.run_file.proofs.BoogieNameLaws.{one_name, never_wrong}
-use Rattle.run_file.proofs.HeaderLaws.{header_or_place, one_header_place}
+use Rattle.run_boogie.specs.BoogieLines.{known}
+use Rattle.run_boogie.specs.BoogieRun.{SpellsName, NamesNothingAt, SpellsBoogieRun, GoesWrongAt}
+use Rattle.run_words.specs.Text.{lines_of}
+use Rattle.run_words.proofs.AnswerLaws as answers
+use Rattle.run_boogie.proofs.BoogieFileLaws.{is_reader}
+use Rattle.run_boogie.proofs.BoogieNameLaws.{one_name, never_wrong}
+use Rattle.run_boogie.proofs.HeaderLaws.{header_or_place, one_header_place}
 use Rattle.run_fits.proofs.BoogieRunLaws.{start_is, can_run}
+use Rattle.boogie_file.specs.Accepted.{IsBoogie, procedure_named, IsTextRefusal}
+use Rattle.boogie_file.specs.declared.refusal.Refusal as why
+use Rattle.boogie_file.proofs.Verdicts.{one_boogie, one_text_refusal, boogie_text, boogie_answer, named_within}
+use Rattle.vb_tool.specs.BoogieRefusals.{refusal_of_boogie}
 use Rattle.vb_tool.specs.Accepted.{HasOneAnswer, is_accepted, is_refused}
-use Rattle.vb_tool.specs.AcceptedReplay.{IsBoogie, NamesProcedure, AcceptsReplay, IsBoogieRefusal, prelude, deep, syntax, ill_typed, IsBoogieRunRefusal, header, no_procedure, run_syntax, IsReplayRefusal, size, run_size, of_text, of_run}
-use Rattle.vb_tool.specs.Procedures.{procedure_named, ProcedureRun, procedure_end}
+use Rattle.vb_tool.specs.AcceptedReplay.{NamesProcedure, AcceptsReplay, IsBoogieRefusal, of_boogie, IsBoogieRunRefusal, header, no_procedure, run_syntax, IsReplayRefusal, size, run_size, of_text, of_run}
+use Rattle.vb_tool.specs.Procedures.{ProcedureRun, procedure_end}
 use Rattle.vb_tool.specs.declared.status.Refusal.{Refusal}
 use Rattle.vb_tool.specs.declared.status.Refusal.TheVariants as refusal
-
-some_same : {X : Type 0} {x y : X} → Some x ≡ Some y → x ≡ y
-some_same e = cc
-
-none_some : {X : Type 0} {x : X} → None ≡ Some x → ⊥
-none_some e = cc
 
 -- ---- the text of a program
 
@@ -56,50 +47,14 @@ for_fault (fault.Prelude at) = refusal.Prelude at
 for_fault (fault.Syntax at) = refusal.BoogieSyntax at
 for_fault (fault.Deep at) = refusal.Deep at
 
-one_text : {bytes : List ℕ} {q r : BProgram} → IsRead bytes q → IsRead bytes r → q ≡ r
-one_text {bytes} {q} {r} h i = one_program bytes q r h.spelled i.spelled
-
-pub one_boogie : {bytes : List ℕ} {q r : BProgram} → IsBoogie bytes q → IsBoogie bytes r → q ≡ r
-one_boogie h i = one_text h.text i.text
-
-read_refused : {bytes : List ℕ} {q : BProgram} (f : BoogieFault) → IsRead bytes q → IsFault bytes f → ⊥
-read_refused {bytes} {q} f h k = not_refused bytes f q h.spelled h.shallow k
-
-one_number : {q r : BProgram} {n m : ℕ} → q ≡ r → IsFirstIllTyped q n → IsFirstIllTyped r m → n ≡ m
-one_number {q} {r} {n} {m} same h i = some_same (sym (is_first_back q n h) ∙ ap first_ill_typed same ∙ is_first_back r m i)
-
-typed_and_not : {q r : BProgram} {n : ℕ} → q ≡ r → IsTypedProgram q → IsFirstIllTyped r n → ⊥
-typed_and_not same typed i = i.is_ill_typed (subst IsTypedProgram same typed i.place i.procedure i.is_there)
-
 module _ {bytes : List ℕ} where
-  pub one_text_refusal : {r q : Refusal} → IsBoogieRefusal bytes r → IsBoogieRefusal bytes q → r ≡ q
-  one_text_refusal (prelude f) (prelude g) = ap for_fault (one_fault bytes _ _ f g)
-  one_text_refusal (prelude f) (deep g) = ap for_fault (one_fault bytes _ _ f g)
-  one_text_refusal (prelude f) (syntax g) = ap for_fault (one_fault bytes _ _ f g)
-  one_text_refusal (prelude f) (ill_typed h i) = absurd (read_refused _ h f)
-  one_text_refusal (deep f) (prelude g) = ap for_fault (one_fault bytes _ _ f g)
-  one_text_refusal (deep f) (deep g) = ap for_fault (one_fault bytes _ _ f g)
-  one_text_refusal (deep f) (syntax g) = ap for_fault (one_fault bytes _ _ f g)
-  one_text_refusal (deep f) (ill_typed h i) = absurd (read_refused _ h f)
-  one_text_refusal (syntax f) (prelude g) = ap for_fault (one_fault bytes _ _ f g)
-  one_text_refusal (syntax f) (deep g) = ap for_fault (one_fault bytes _ _ f g)
-  one_text_refusal (syntax f) (syntax g) = ap for_fault (one_fault bytes _ _ f g)
-  one_text_refusal (syntax f) (ill_typed h i) = absurd (read_refused _ h f)
-  one_text_refusal (ill_typed h i) (prelude g) = absurd (read_refused _ h g)
-  one_text_refusal (ill_typed h i) (deep g) = absurd (read_refused _ h g)
-  one_text_refusal (ill_typed h i) (syntax g) = absurd (read_refused _ h g)
-  one_text_refusal (ill_typed h i) (ill_typed k j) = ap refusal.BoogieType (one_number (one_text h k) i j)
+  pub one_boogie_refusal : {r q : Refusal} → IsBoogieRefusal bytes r → IsBoogieRefusal bytes q → r ≡ q
+  one_boogie_refusal (of_boogie is) (of_boogie also) = ap refusal_of_boogie (one_text_refusal is also)
 
-  pub boogie_text : {q : BProgram} {r : Refusal} → IsBoogie bytes q → IsBoogieRefusal bytes r → ⊥
-  boogie_text h (prelude f) = read_refused _ h.text f
-  boogie_text h (deep f) = read_refused _ h.text f
-  boogie_text h (syntax f) = read_refused _ h.text f
-  boogie_text h (ill_typed k i) = typed_and_not (one_text h.text k) h.is_typed i
+  pub boogie_not_refused : {q : BProgram} {r : Refusal} → IsBoogie bytes q → IsBoogieRefusal bytes r → ⊥
+  boogie_not_refused h (of_boogie is) = boogie_text h is
 
 -- ---- the procedure that a run file names
-
-pub all_at : {X : Type 0} (P : X → Type 0) (xs : List X) (n : ℕ) (x : X) → All P xs → slice_get xs n ≡ Some x → P x
-all_at P xs n x h e = subst P (get_or_from_slice_get xs n x x e) (h n x (slice_get_within xs n x e))
 
 pub names_differ : {bytes : List ℕ} {q : BProgram} (n : ℕ) (d : Proc) → IsRead bytes q → slice_get q.procs n ≡ Some d → NamesDiffer (known d.locals).names
 names_differ {bytes} {q} n d h there = (all_at FitsProc q.procs n d (spelled_printable bytes q h.spelled).procs there).locals_differ
@@ -154,17 +109,17 @@ module _ {bytes run : List ℕ} where
   one_replay_refusal (run_size small more) (of_run a few is) = absurd (omega (arith, more, few))
   one_replay_refusal (of_text small few is) (size above) = absurd (omega (arith, above, small))
   one_replay_refusal (of_text small few is) (run_size also more) = absurd (omega (arith, more, few))
-  one_replay_refusal (of_text small few is) (of_text also less other) = one_text_refusal is other
-  one_replay_refusal (of_text small few is) (of_run a less other) = absurd (boogie_text a is)
+  one_replay_refusal (of_text small few is) (of_text also less other) = one_boogie_refusal is other
+  one_replay_refusal (of_text small few is) (of_run a less other) = absurd (boogie_not_refused a is)
   one_replay_refusal (of_run a few is) (size above) = absurd (omega (arith, above, a.small))
   one_replay_refusal (of_run a few is) (run_size also more) = absurd (omega (arith, more, few))
-  one_replay_refusal (of_run a few is) (of_text also less other) = absurd (boogie_text a other)
+  one_replay_refusal (of_run a few is) (of_text also less other) = absurd (boogie_not_refused a other)
   one_replay_refusal (of_run a few is) (of_run b less other) = one_run_refusal a (one_boogie a b) is other
 
   pub replay_not_refused : {u : ProcedureRun} {r : Refusal} → AcceptsReplay bytes run u → IsReplayRefusal bytes run r → ⊥
   replay_not_refused h (size above) = omega (arith, above, h.accepted.small)
   replay_not_refused h (run_size small more) = omega (arith, more, h.small)
-  replay_not_refused h (of_text small few is) = boogie_text h.accepted is
+  replay_not_refused h (of_text small few is) = boogie_not_refused h.accepted is
   replay_not_refused h (of_run a few is) = run_not_refused h.accepted (one_boogie h.accepted a) h.names h.spelled is
 
 same_run : (v w : ProcedureRun) → v.program ≡ w.program → v.procedure ≡ w.procedure → v.environment ≡ w.environment → v.choices ≡ w.choices → v ≡ w
@@ -182,38 +137,6 @@ one_procedure_run {run = run} {v} {w} h i =
     same_run v w program procedure environment (h.takes ∙ same.choices ∙ sym i.takes)
 
 -- ---- there is an answer
-
-there_is : {X : Type 0} (xs : List X) (n : ℕ) → n < length xs → (x : X) × (slice_get xs n ≡ Some x)
-there_is [] n lt = absurd (omega (arith, lt))
-there_is (x ∷ xs) zero lt = (x, refl)
-there_is (x ∷ xs) (suc n) lt = there_is xs n (omega (arith, lt))
-
-nobody : Proc
-nobody = record { name = []; locals = []; body = skip }
-
-pub named_within : (q : BProgram) (name : List ℕ) (n : ℕ) → procedure_named q name ≡ Some n → n < length q.procs
-named_within q name n e = (position-Some (λ (d : Proc). bytes_eq d.name name) q.procs n nobody e).0
-
--- a text is a well-typed program, or is refused
-pub boogie_answer : (bytes : List ℕ) → length bytes ≤ 33554432 → ((q : BProgram) × IsBoogie bytes q) ⊎ ((r : Refusal) × IsBoogieRefusal bytes r)
-boogie_answer bytes small = of_cut (some_text_answer bytes (omega (arith, small)))
-  where
-    of_types : (q : BProgram) → IsRead bytes q → (o : Option ℕ) → first_ill_typed q ≡ o → ((q : BProgram) × IsBoogie bytes q) ⊎ ((r : Refusal) × IsBoogieRefusal bytes r)
-    of_types q h None none = inl (q, record { small = small; text = h; is_typed = no_ill_typed q none })
-    of_types q h (Some n) some = inr (_, ill_typed h (is_first q n some))
-
-    no_memory : IsFault bytes fault.Memory → ⊥
-    no_memory f = elim f [ ]
-
-    of_fault : (f : BoogieFault) → IsFault bytes f → ((q : BProgram) × IsBoogie bytes q) ⊎ ((r : Refusal) × IsBoogieRefusal bytes r)
-    of_fault fault.Memory f = absurd (no_memory f)
-    of_fault (fault.Prelude at) f = inr (_, prelude f)
-    of_fault (fault.Syntax at) f = inr (_, syntax f)
-    of_fault (fault.Deep at) f = inr (_, deep f)
-
-    of_cut : ((q : BProgram) × IsRead bytes q) ⊎ ((f : BoogieFault) × IsFault bytes f) → ((q : BProgram) × IsBoogie bytes q) ⊎ ((r : Refusal) × IsBoogieRefusal bytes r)
-    of_cut (inl (q, h)) = of_types q h (first_ill_typed q) refl
-    of_cut (inr (f, h)) = of_fault f h
 
 module _ (bytes run : List ℕ) where
   abbrev Answer : Type 0
@@ -235,7 +158,7 @@ module _ (bytes run : List ℕ) where
     of_name : (name : List ℕ) → SpellsName run name → (o : Option ℕ) → procedure_named q name ≡ o → Answer
     of_name name h None none = refused_once (of_run a few (no_procedure h none))
     of_name name h (Some n) named =
-        let (d, there) = there_is q.procs n (named_within q name n named) in
+        let (d, there) = item_there q.procs n (named_within q name n named) in
         let k : NamesProcedure run q d = record { name = name; header = h; number = n; named = named; is_there = there } in
         of_lines d k (answers.run_or_place (is_reader d (names_differ n d a.text there)) run few)
 
@@ -243,9 +166,9 @@ module _ (bytes run : List ℕ) where
     of_header (inl (name, h)) = of_name name h (procedure_named q name) refl
     of_header (inr (at, wrong)) = refused_once (of_run a few (header wrong))
 
-  of_bytes : length bytes ≤ 33554432 → length run ≤ 33554432 → ((q : BProgram) × IsBoogie bytes q) ⊎ ((r : Refusal) × IsBoogieRefusal bytes r) → Answer
+  of_bytes : length bytes ≤ 33554432 → length run ≤ 33554432 → ((q : BProgram) × IsBoogie bytes q) ⊎ ((r : why.Refusal) × IsTextRefusal bytes r) → Answer
   of_bytes small few (inl (q, a)) = of_header q a few (header_or_place run few)
-  of_bytes small few (inr (r, is)) = refused_once (of_text small few is)
+  of_bytes small few (inr (r, is)) = refused_once (of_text small few (of_boogie is))
 
   of_run_size : length bytes ≤ 33554432 → (33554432 < length run) ⊎ (length run ≤ 33554432) → Answer
   of_run_size small (inl above) = refused_once (run_size small above)

@@ -1,15 +1,19 @@
 -- What the parts of a call, one after the other, make of it.
-use Rattle.std.proofs.Common.{◌≡◌, ◌⊎◌, inl, inr, ◌∙◌, ◌+◌, ◌<◌, ◌≤◌, ℕ, zero, suc, List, [], ◌∷◌, length, replicate, Contains, Option, Some, None, Result, Ok, Err, IfOk, refl, sym, subst, arith}
-use Rattle.std.proofs.lemmas.List.{length-replicate}
+use Rattle.std.proofs.Common.{◌≡◌, ◌⊎◌, inl, inr, ◌∙◌, ◌<◌, ◌≤◌, ℕ, zero, suc, List, [], ◌∷◌, length, Contains, Option, Some, None, Result, Ok, Err, IfOk, MatchResult, refl, sym, subst, arith}
 use Rattle.vb_base.specs.declared.labels.Label.{Label}
 use Rattle.vb_outer.specs.Faults.{Rose}
 use Rattle.vb_outer.specs.Shelf.{Files, IsFile, IsMissing, IsWhole, IsLonger}
-use Rattle.vb_outer.specs.Sink.{Appends}
+use Rattle.vb_outer.proofs.FaultLaws.{rose_earlier}
+use Rattle.tool_words.specs.Ends.{Stops}
+use Rattle.tool_words.specs.Kind as kind
+use Rattle.tool_words.specs.Written.{Reports}
+use Rattle.tool_words.proofs.EndLaws.{delivered_cause, delivered_out, delivered_err, reported_cause, reported_out, reported_err}
+use Rattle.tool_words.proofs.FileLaws.{long_bytes}
 use Rattle.vb_outer.specs.declared.fault.FileFault.{FileFault}
 use Rattle.vb_outer.specs.declared.fault.FileFault.TheVariants as file
 use Rattle.boogie_run.specs.declared.replaying.BOutcome.{BOutcome}
 use Rattle.boogie_run.specs.declared.replaying.BOutcome.TheVariants as boogie
-use Rattle.enc_stmt.specs.Translates.{text_of}
+use Rattle.enc_units.specs.Translates.{text_of}
 use Rattle.vb_gen.specs.Generated.{IsOutOfRange}
 use Rattle.viper_core.specs.View.{program_of}
 use Rattle.viper_core.specs.declared.programs.Program.{Program}
@@ -21,21 +25,22 @@ use Rattle.vb_tool.specs.Accepted.{IsAccepted}
 use Rattle.vb_tool.specs.AcceptedExecution as execution
 use Rattle.vb_tool.specs.AcceptedReplay as replay
 use Rattle.vb_tool.specs.Call as call
-use Rattle.vb_tool.specs.Call.{MissesOf, NamesFile, Refuses, Does, Promises, HasDone, IsCause, OutAfter, ErrAfter, Causes}
+use Rattle.vb_tool.specs.Call.{MissesOf, Misses, NamesFile, Refuses, Does, Promises, HasDone, IsCause, OutAfter, ErrAfter, Causes}
 use Rattle.vb_tool.specs.Command.{Command, Translate, Run, Replay, Make, Execute, Cut, Condition, Asks, files_of}
-use Rattle.vb_tool.specs.Converted.{trouble_of_file}
+use Rattle.vb_tool.specs.Converted.{trouble_of_file, status_of_trouble}
 use Rattle.vb_tool.specs.Outcome.{status_of, run_status}
 use Rattle.vb_tool.specs.Parts as parts
 use Rattle.vb_tool.specs.Executions.{execution_end, execution_status, status_of as status_of_end}
-use Rattle.vb_tool.specs.Parts.{Reports, Delivers, OutcomeOf, ReplayOf, SummaryOf, ExecutionOf, CutOf, ConditionOf}
+use Rattle.vb_tool.specs.Parts.{Delivers, work_status, work_text, OutcomeOf, ReplayOf, SummaryOf, ExecutionOf, CutOf, ConditionOf}
 use Rattle.vb_tool.specs.ReplayOutcome.{replay_status}
-use Rattle.vb_tool.specs.Status.{line_of}
+use Rattle.vb_tool.specs.Status.{kind_of, line_of}
 use Rattle.vb_tool.specs.Units.{end_of}
 use Rattle.vb_tool.specs.declared.status.Refusal.{Refusal}
 use Rattle.vb_tool.specs.declared.status.Refusal.TheVariants as refusal
 use Rattle.vb_tool.specs.declared.status.Status.{Status}
 use Rattle.vb_tool.specs.declared.status.Status.TheVariants as status
 use Rattle.vb_tool.specs.declared.outcome.Ending.{Ending}
+use Rattle.vb_tool.specs.declared.outcome.Work.{Work}
 use Rattle.vb_tool.specs.declared.trouble.Trouble.{Trouble}
 use Rattle.vb_tool.specs.declared.trouble.Trouble.TheVariants as trouble
 use Rattle.viper_meaning.specs.Run.{Ran, ran}
@@ -48,20 +53,11 @@ use Rattle.viper_exec.specs.Outcome.{end_of as end_of_step}
 use Rattle.viper_exec.specs.declared.executions.ExecEnd.{ExecEnd}
 use Rattle.viper_exec.specs.declared.executions.ExecEnd.TheVariants as ends
 
--- errors are what the results hold
-pub error_is : {T E : Type 0} {r : Result T E} {d e : E} → r ≡ Err d → r ≡ Err e → d ≡ e
-error_is {d = d} {e = e} first other = let same : Err d ≡ Err e = sym first ∙ other in cc
-
 -- ---- files that are read
 
 is_file : (files : Option Files) (name other bytes : List ℕ) → IsMissing files other → IsWhole files name bytes → IsFile files name bytes
 is_file None name other bytes missing whole = absurd missing
 is_file (Some files) name other bytes missing whole = whole
-
--- some bytes that are too long
-long_bytes : (files : Option Files) (name : List ℕ) (limit : ℕ) → IsLonger files name limit → (bytes : List ℕ) × IsWhole files name bytes × (limit < length bytes)
-long_bytes None name limit longer = (replicate (limit + 1) 0, tt, omega (arith, length-replicate {A = ℕ} (limit + 1) 0))
-long_bytes (Some files) name limit longer = longer
 
 -- a file that could not be read is refused for its length, or is missing, or the shelf failed
 pub file_refusal : (files : Option Files) (name : List ℕ) (limit : ℕ) (fault : FileFault) (r : Refusal) → (fault ≡ file.Long → IsLonger files name limit) →
@@ -75,10 +71,6 @@ file_unread Cause file.Memory failed is = absurd (cc)
 file_unread Cause file.Failed failed is = failed refl
 file_unread Cause file.Long failed is = absurd (cc)
 
--- a count that rises later has risen
-pub rose_later : (first second third : ℕ) → first ≤ second → Rose second third → Rose first third
-rose_later first second third later rose = omega (arith, later, rose)
-
 -- the same of the first file that a command reads, where it may read it
 pub first_missing : {files : Option Files} {limit : ℕ} {name : List ℕ} {names : List (List ℕ)} {May Cause : Type 0} → May → IsMissing files name ⊎ Cause →
     (May × MissesOf files limit (name ∷ names)) ⊎ Cause
@@ -90,7 +82,7 @@ pub second_missing : {May : Type 0} → May → (files : Option Files) (file run
     first ≤ second → IsMissing files run_file ⊎ Rose second third → (May × MissesOf files limit (file ∷ run_file ∷ [])) ⊎ Rose first third
 second_missing may files file run_file bytes limit first second third whole small later (inl missing) =
     inl (may, call.later bytes (is_file files file run_file bytes missing whole) small (call.first missing))
-second_missing may files file run_file bytes limit first second third whole small later (inr rose) = inr (rose_later first second third later rose)
+second_missing may files file run_file bytes limit first second third whole small later (inr rose) = inr (rose_earlier first second third later rose)
 
 -- a command names the first of its files
 pub names_first : (command : Command) (file : List ℕ) (files : List (List ℕ)) → files_of command ≡ file ∷ files → NamesFile command
@@ -249,136 +241,97 @@ pub has_done : {words : List (List ℕ)} {files : Option Files} {command : Comma
     Promises (IsWhole files) command s text → HasDone words files s text
 has_done {command = c} asks does promises = record { command = c; asked = asks; does = does; promises = promises }
 
--- ---- what a status that was reported comes to
+-- a trouble is told by the status that has its cause
+pub trouble_stops : (words : List (List ℕ)) (files : Option Files) (first last : ℕ) {command : Command} → Asks words command → (t : Trouble) (s : Status) → status_of_trouble t ≡ s →
+    (t ≡ trouble.Read → NamesFile command) → (t ≡ trouble.Read → Misses files command ⊎ Rose first last) → ((r : Refusal) → t ≡ trouble.Refused r → Refuses (IsWhole files) command r) →
+    Stops kind_of (IsCause words files first last) s
+trouble_stops words files first last asks trouble.Memory s is names read refused = subst (Stops kind_of (IsCause words files first last)) is tt
+trouble_stops words files first last asks trouble.Read s is names read refused = subst (Stops kind_of (IsCause words files first last)) is (call.read asks (names refl) (read refl))
+trouble_stops words files first last asks (trouble.Refused r) s is names read refused = subst (Stops kind_of (IsCause words files first last)) is (call.refused asks (refused r refl))
 
--- a status that has a line
-pub data HasLine : Status → Type 0 where
-  usage_line : HasLine status.Usage
-  read_line : HasLine status.ReadFault
-  refused_line : {r : Refusal} → HasLine (status.Refused r)
+-- ---- how the call ends
 
-module _ {words : List (List ℕ)} {files : Option Files} {first last : ℕ} where
-  line_cause : (SinkFailed : Type 0) {s : Status} → HasLine s → IsCause words files first last s → Causes words files first last SinkFailed s
-  line_cause SinkFailed usage_line cause = cause
-  line_cause SinkFailed read_line cause = cause
-  line_cause SinkFailed refused_line cause = cause
+outcome_done : (o : Outcome) → kind_of (status_of o) ≡ kind.Answered
+outcome_done outcome.Done = refl
+outcome_done (outcome.Failed label) = refl
+outcome_done outcome.Blocked = refl
+outcome_done outcome.Short = refl
+outcome_done (outcome.Over at) = refl
 
-line_appended : (before now : Option (List ℕ)) (Cause : Status → Type 0) {s : Status} → HasLine s → Appends before now (line_of s) → ErrAfter before now Cause s
-line_appended before now Cause usage_line appends = appends
-line_appended before now Cause read_line appends = appends
-line_appended before now Cause refused_line appends = appends
-
-nothing_written : (before : Option (List ℕ)) (IsText : Status → List ℕ → Type 0) {s : Status} → HasLine s → OutAfter before before IsText s
-nothing_written before IsText usage_line = refl
-nothing_written before IsText read_line = refl
-nothing_written before IsText refused_line = refl
-
-module _ {words : List (List ℕ)} {files : Option Files} {first last : ℕ} {before now : Option (List ℕ)} {faults_before faults_now : ℕ} where
-  pub reported_cause : (OutFailed : Type 0) {s ended : Status} → HasLine s → Reports before now faults_before faults_now s ended → IsCause words files first last s →
-      Causes words files first last (OutFailed ⊎ Rose faults_before faults_now) ended
-  reported_cause OutFailed line (parts.reported appends) cause = line_cause _ line cause
-  reported_cause OutFailed line (parts.unwritten front rose) cause = inr rose
-  reported_cause OutFailed line (parts.no_memory same) cause = tt
-
-  pub reported_err : {s ended : Status} → HasLine s → Reports before now faults_before faults_now s ended → IsCause words files first last s →
-      ErrAfter before now (IsCause words files first last) ended
-  reported_err line (parts.reported appends) cause = line_appended _ _ _ line appends
-  reported_err {s = s} line (parts.unwritten front rose) cause = inr (s, cause, front)
-  reported_err line (parts.no_memory same) cause = same
-
-pub reported_out : {before now : Option (List ℕ)} {faults_before faults_now : ℕ} (out : Option (List ℕ)) (IsText : Status → List ℕ → Type 0) {s ended : Status} → HasLine s →
-    Reports before now faults_before faults_now s ended → OutAfter out out IsText ended
-reported_out out IsText line (parts.reported appends) = nothing_written out IsText line
-reported_out out IsText line (parts.unwritten front rose) = inl refl
-reported_out out IsText line (parts.no_memory same) = inl refl
-
--- ---- what a text that was delivered comes to
-
--- a status of work that was done
-pub data IsOutcome : Status → Type 0 where
-  done : IsOutcome status.Done
-  failed : {label : Label} → IsOutcome (status.Failed label)
-  blocked : IsOutcome status.Blocked
-  short : IsOutcome status.Short
-  over : IsOutcome status.Over
-  spent : IsOutcome status.Spent
-
-outcome_done : (o : Outcome) → IsOutcome (status_of o)
-outcome_done outcome.Done = done
-outcome_done (outcome.Failed label) = failed
-outcome_done outcome.Blocked = blocked
-outcome_done outcome.Short = short
-outcome_done (outcome.Over at) = over
-
-run_done : (r : Ran State) → IsOutcome (run_status r)
+run_done : (r : Ran State) → kind_of (run_status r) ≡ kind.Answered
 run_done (ran events step left) = outcome_done (outcome_of step)
 
-replay_done : (o : BOutcome) → IsOutcome (replay_status o)
-replay_done boogie.Done = done
-replay_done (boogie.Failed label) = failed
-replay_done boogie.Blocked = blocked
-replay_done boogie.Short = short
-replay_done boogie.Over = over
+replay_done : (o : BOutcome) → kind_of (replay_status o) ≡ kind.Answered
+replay_done boogie.Done = refl
+replay_done (boogie.Failed label) = refl
+replay_done boogie.Blocked = refl
+replay_done boogie.Short = refl
+replay_done boogie.Over = refl
 
-end_done : (e : ExecEnd) → IsOutcome (status_of_end e)
-end_done ends.Done = done
-end_done (ends.Failed label) = failed
-end_done ends.Blocked = blocked
-end_done ends.Short = short
-end_done (ends.Over at) = over
-end_done ends.Spent = spent
+end_done : (e : ExecEnd) → kind_of (status_of_end e) ≡ kind.Answered
+end_done ends.Done = refl
+end_done (ends.Failed label) = refl
+end_done ends.Blocked = refl
+end_done ends.Short = refl
+end_done (ends.Over at) = refl
+end_done ends.Spent = refl
 
-execution_done : (r : Ran (Went State)) → IsOutcome (execution_status r)
+execution_done : (r : Ran (Went State)) → kind_of (execution_status r) ≡ kind.Answered
 execution_done (ran events step left) = end_done (end_of_step step)
 
-pub does_end : {Has : List ℕ → List ℕ → Type 0} {command : Command} {s : Status} {text : List ℕ} → Does Has command s text → IsOutcome s
-does_end (call.translated bytes is accepts) = done
+-- what a command does ends with an answer
+pub does_end : {Has : List ℕ → List ℕ → Type 0} {command : Command} {s : Status} {text : List ℕ} → Does Has command s text → kind_of s ≡ kind.Answered
+does_end (call.translated bytes is accepts) = refl
 does_end (call.ran {u = u} bytes run_bytes is run_is accepts there) = run_done (end_of u)
 does_end (call.replayed {o = o} bytes run_bytes is run_is accepts ends) = replay_done o
-does_end (call.made some few accepts) = done
+does_end (call.made some few accepts) = refl
 does_end (call.executed {n = n} {u = u} bytes run_bytes few is run_is accepts) = execution_done (execution_end n u)
-does_end (call.was_cut bytes is accepts) = done
-does_end (call.stated bytes is accepts) = done
+does_end (call.was_cut bytes is accepts) = refl
+does_end (call.stated bytes is accepts) = refl
 
-done_cause : {words : List (List ℕ)} {files : Option Files} {first last : ℕ} (SinkFailed : Type 0) {s : Status} → IsOutcome s → IsCause words files first last s →
-    Causes words files first last SinkFailed s
-done_cause SinkFailed done cause = cause
-done_cause SinkFailed failed cause = cause
-done_cause SinkFailed blocked cause = cause
-done_cause SinkFailed short cause = cause
-done_cause SinkFailed over cause = cause
-done_cause SinkFailed spent cause = cause
+quiet : (s : Status) → kind_of s ≡ kind.NoMemory → line_of s ≡ []
+quiet status.NoMemory is = refl
+quiet (status.Refused r) is = absurd (cc)
+quiet status.Usage is = absurd (cc)
+quiet status.ReadFault is = absurd (cc)
+quiet status.WriteFault is = refl
+quiet status.Done is = refl
+quiet (status.Failed label) is = refl
+quiet status.Blocked is = refl
+quiet status.Short is = refl
+quiet status.Over is = refl
+quiet status.Spent is = refl
 
-done_out : (before now : Option (List ℕ)) (IsText : Status → List ℕ → Type 0) {s : Status} (text : List ℕ) → IsOutcome s → IsText s text → Appends before now text → OutAfter before now IsText s
-done_out before now IsText text done is appends = (text, is, appends)
-done_out before now IsText text failed is appends = (text, is, appends)
-done_out before now IsText text blocked is appends = (text, is, appends)
-done_out before now IsText text short is appends = (text, is, appends)
-done_out before now IsText text over is appends = (text, is, appends)
-done_out before now IsText text spent is appends = (text, is, appends)
+module _ (words : List (List ℕ)) (files : Option Files) (first last : ℕ) (out_before out_now err_before err_now : Option (List ℕ)) (out_first out_last err_first err_last : ℕ) where
+  -- what was done is written, or the line that says why nothing was
+  abbrev pub Ended : Status → Result Work Status → Type 0
+  Ended ended done = MatchResult done
+      (λ w. Delivers out_before out_now out_first out_last (work_text w) (work_status w) ended × (err_now ≡ err_before))
+      (λ s. Reports kind_of err_before err_now err_first err_last (line_of s) s ended × (out_now ≡ out_before))
 
-done_err : (err : Option (List ℕ)) (Cause : Status → Type 0) {s : Status} → IsOutcome s → ErrAfter err err Cause s
-done_err err Cause done = refl
-done_err err Cause failed = refl
-done_err err Cause blocked = refl
-done_err err Cause short = refl
-done_err err Cause over = refl
-done_err err Cause spent = refl
+  abbrev IsDone : Result Work Status → Type 0
+  IsDone done = IfOk done (λ w. HasDone words files (work_status w) (work_text w))
 
-module _ {words : List (List ℕ)} {files : Option Files} {before now : Option (List ℕ)} {faults_before faults_now : ℕ} {text : List ℕ} where
-  pub delivered_cause : (first last : ℕ) (ErrFailed : Type 0) {s ended : Status} → Delivers before now faults_before faults_now text s ended → HasDone words files s text →
-      Causes words files first last (Rose faults_before faults_now ⊎ ErrFailed) ended
-  delivered_cause first last ErrFailed (parts.delivered appends) h = done_cause _ (does_end h.does) (call.done h)
-  delivered_cause first last ErrFailed (parts.unwritten front rose) h = inl rose
-  delivered_cause first last ErrFailed (parts.no_memory front) h = tt
+  abbrev IsStop : Result Work Status → Type 0
+  IsStop done = (s : Status) → done ≡ Err s → Stops kind_of (IsCause words files first last) s
 
-  pub delivered_out : {s ended : Status} → Delivers before now faults_before faults_now text s ended → HasDone words files s text → OutAfter before now (HasDone words files) ended
-  delivered_out (parts.delivered appends) h = done_out before now (HasDone words files) text (does_end h.does) h appends
-  delivered_out {s = s} (parts.unwritten front rose) h = inr (s, text, h, front)
-  delivered_out {s = s} (parts.no_memory front) h = inr (s, text, h, front)
+  pub done_cause : (ended : Status) (r : Result Work Status) → Ended ended r → IsDone r → IsStop r → Causes words files first last (Rose out_first out_last ⊎ Rose err_first err_last) ended
+  done_cause ended (Ok w) (parts.of_text d, same) h stops = delivered_cause {kind = kind_of} (does_end h.does) (IsCause words files first last) (Rose err_first err_last) d (call.done h)
+  done_cause _ (Ok w) (parts.no_memory front, same) h stops = tt
+  done_cause ended (Err s) e h stops = reported_cause (IsCause words files first last) (Rose out_first out_last) e.0 (stops s refl)
 
-  pub delivered_err : (err : Option (List ℕ)) (Cause : Status → Type 0) {s ended : Status} → Delivers before now faults_before faults_now text s ended → HasDone words files s text →
-      ErrAfter err err Cause ended
-  delivered_err err Cause (parts.delivered appends) h = done_err err Cause (does_end h.does)
-  delivered_err err Cause (parts.unwritten front rose) h = inl refl
-  delivered_err err Cause (parts.no_memory front) h = refl
+  pub done_out : (ended : Status) (r : Result Work Status) → Ended ended r → IsDone r → IsStop r → OutAfter out_before out_now (HasDone words files) ended
+  done_out ended (Ok w) (parts.of_text d, same) h stops =
+      delivered_out {kind = kind_of} (does_end h.does) (call.Written out_before out_now (HasDone words files)) (out_now ≡ out_before)
+      (call.FrontWritten out_before out_now (HasDone words files)) (call.FrontWritten out_before out_now (HasDone words files)) d
+      (λ appends. (work_text w, h, appends)) (λ front. inr (work_status w, work_text w, h, front))
+  done_out _ (Ok w) (parts.no_memory front, same) h stops = inr (work_status w, work_text w, h, front)
+  done_out ended (Err s) e h stops =
+      reported_out (IsCause words files first last) (call.Written out_before out_now (HasDone words files))
+      {Unfinished = call.FrontWritten out_before out_now (HasDone words files)} {Forgotten = call.FrontWritten out_before out_now (HasDone words files)} e.0 (stops s refl) e.1 (inl e.1) (inl e.1)
+
+  pub done_err : (ended : Status) (r : Result Work Status) → Ended ended r → IsDone r → IsStop r → ErrAfter err_before err_now (IsCause words files first last) ended
+  done_err ended (Ok w) (parts.of_text d, same) h stops =
+      subst (λ x. ErrAfter err_before x (IsCause words files first last) ended) (sym same) (delivered_err {kind = kind_of} (does_end h.does) line_of err_before (IsCause words files first last) d)
+  done_err _ (Ok w) (parts.no_memory front, same) h stops = same
+  done_err ended (Err s) e h stops = reported_err (IsCause words files first last) line_of quiet e.0 (stops s refl)

@@ -7,7 +7,7 @@ use Rattle.boogie_grammar.specs.Spells.{BSpells}
 use Rattle.boogie_grammar.specs.declared.faults.BoogieFault.{BoogieFault}
 use Rattle.boogie_grammar.specs.declared.faults.BoogieFault.TheVariants as fault
 use Rattle.boogie_text.specs.Answers.{UnlessMemory}
-use Rattle.boogie_text.proofs.Parsed.{one_program}
+use Rattle.boogie_print.proofs.Parsed.{one_program}
 use Rattle.boogie_wide.specs.Wide.{WProgram}
 use Rattle.boogie_wide.specs.WideTypes.{IsFirstIllTypedWide}
 use Rattle.boogie_cut.specs.Cut.{cut_program}

@@ -3,6 +3,7 @@ use Rattle.std.proofs.Common.{◌≡◌, ◌∙◌, ◌⊎◌, inl, inr, ◌<◌
 use Rattle.std.proofs.lemmas.Bool.{cases_lt, cases_order}
 use Rattle.boogie_grammar.specs.declared.faults.BoogieFault.{BoogieFault}
 use Rattle.boogie_grammar.specs.declared.faults.BoogieFault.TheVariants as fault
+use Rattle.boogie_text.specs.Texts.{no_tokens}
 use Rattle.boogie_wide.specs.Wide.{WProgram}
 use Rattle.boogie_wide.specs.WideTypes.{IsWideProgram, IsFirstIllTypedWide, ill_typed_wide}
 use Rattle.boogie_wide.proofs.WideTypeLaws.{none_ill_typed, is_first_wide}
@@ -87,7 +88,7 @@ module _ (bytes : List ℕ) where
   of_types q h (Some n) some = inr (_, ill_typed h (is_first_wide q n some))
 
   no_memory : IsWideFault bytes fault.Memory → ⊥
-  no_memory f = elim f [ ]
+  no_memory (no_tokens f) = elim f [ ]
 
   of_fault : (f : BoogieFault) → IsWideFault bytes f → Text
   of_fault fault.Memory f = absurd (no_memory f)

@@ -11,10 +11,10 @@ use Rattle.viper_types.specs.Program.{IsProgram}
 use Rattle.exec_words.specs.Unframed.{first_unframed}
 use Rattle.viper_exec.specs.Outcome.{end_of, EndsExecution}
 use Rattle.viper_exec.specs.declared.executions.Executed.{Executed}
-use Rattle.run_file.specs.Progress.{UnlessMemory}
+use Rattle.run_words.specs.Answers.{UnlessMemory}
 use Rattle.run_file.specs.Run.{GoesWrongAt}
-use Rattle.run_file.specs.declared.runs.RunFileFault.{RunFileFault}
-use Rattle.run_file.specs.declared.runs.RunFileFault.TheVariants as fault
+use Rattle.run_words.specs.declared.faults.RunFileFault.{RunFileFault}
+use Rattle.run_words.specs.declared.faults.RunFileFault.TheVariants as fault
 use Rattle.vb_tool.specs.Accepted.{IsAccepted}
 use Rattle.vb_tool.specs.AcceptedExecution.{IsFramed, IsUnframedRefusal, unframed, AcceptsExecution, IsExecutionRefusal, unread, no_method, run_syntax}
 use Rattle.vb_tool.specs.Converted.{trouble_of_run}

@@ -3,13 +3,13 @@ use Rattle.std.proofs.Common.{◌≡◌, ◌∙◌, ◌<◌, ◌&&◌, ℕ, Bool
 use Rattle.std.proofs.lemmas.Bool.{and_parts}
 use Rattle.std.proofs.lemmas.List.Quantifiers.{position-Some}
 use Rattle.std.proofs.lemmas.Option.{get_or_from_slice_get}
+use Rattle.lemmas.proofs.Lists.{item_there}
 use Rattle.viper_core.specs.Program as p
 use Rattle.viper_core.specs.declared.programs.Unit as unit
 use Rattle.viper_core.specs.declared.programs.Unit.TheVariants as u
 use Rattle.exec_meaning.specs.Execution.{CanExecute}
 use Rattle.run_file.specs.Run.{ViperRun, SpellsViperRun}
 use Rattle.run_fits.proofs.MethodLaws as methods
-use Rattle.vb_tool.proofs.RunOfUnits.{there_is}
 use Rattle.vb_tool.specs.Executions.{body_named, has_body, is_with_body}
 use Rattle.vb_tool.specs.Units.{is_name, name_of}
 
@@ -49,7 +49,7 @@ module _ (q : p.Program) (word : List ℕ) (n : ℕ) (named : body_named q word 
   -- and its number
   pub number_there : (k : ℕ) × (slice_get q.units n ≡ Some (u.Method k))
   number_there =
-      let (w, is) = there_is q.units n body_named_exists in
+      let (w, is) = item_there q.units n body_named_exists in
       let (k, m, body, unit_is, method_is, body_is) = method_there w is in
       (k, is ∙ ap (λ x. Some x) unit_is)
 

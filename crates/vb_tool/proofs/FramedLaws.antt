@@ -6,8 +6,8 @@ use Rattle.vb_base.specs.declared.labels.Label.{Label}
 use Rattle.vb_value.specs.Bound.{Bounded}
 use Rattle.boogie_grammar.specs.Spells.{BSpells}
 use Rattle.boogie_tree.specs.Program.{BProgram}
-use Rattle.enc_stmt.specs.Translates.{Translates, text_of}
-use Rattle.enc_stmt.proofs.ProgramLaws.{translates}
+use Rattle.enc_units.specs.Translates.{Translates, text_of}
+use Rattle.enc_units.proofs.ProgramLaws.{translates}
 use Rattle.exec_meaning.proofs.TopLaws.{frames_hold}
 use Rattle.exec_meaning.specs.Execution.{Went, Still, Spent, CanExecute, exec}
 use Rattle.exec_meaning.specs.Frame.{NoExecutionFails}

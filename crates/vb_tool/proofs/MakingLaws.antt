@@ -1,9 +1,10 @@
 -- Each generated program is accepted, so `make` refuses a number alone.
 use Rattle.std.proofs.Common.{◌≡◌, ◌≤◌, ◌<◌, ◌⊎◌, inl, inr, ℕ, List, length, sym, subst}
 use Rattle.std.proofs.lemmas.Bool.{cases_lt}
+use Rattle.vb_made.proofs.Weighed.{light as is_light}
 use Rattle.vb_gen.specs.Generated.{program_text, IsOutOfRange}
 use Rattle.vb_made.specs.Made.{generated_weight, IsMade}
-use Rattle.vb_made.proofs.MadePrograms.{is_made, is_light}
+use Rattle.vb_made.proofs.MadePrograms.{is_made}
 use Rattle.viper_core.specs.Program as p
 use Rattle.viper_core.specs.Weight.{weight}
 use Rattle.vb_tool.proofs.Verdicts.{accepted_text}

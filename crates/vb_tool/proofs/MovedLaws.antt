@@ -1,6 +1,6 @@
 -- A run that `run` accepts opens its unit, and is within the bound. What it records fits the program, so its moves and the values
 -- of its opening can be printed.
-use Rattle.std.proofs.Common.{◌≡◌, ◌∙◌, ◌+◌, ℕ, suc, pos, false, List, [], ◌∷◌, ◌++◌, map, length, All, Option, Some, None, slice_get, get_or, refl, sym, ap, subst, arith}
+use Rattle.std.proofs.Common.{◌≡◌, ◌∙◌, ◌+◌, ℕ, suc, false, List, [], ◌∷◌, ◌++◌, map, length, All, Option, Some, None, slice_get, get_or, refl, sym, ap, subst, arith}
 use Rattle.std.specs.Prelude.{⊤}
 use Rattle.std.specs.List.{AllZip}
 use Rattle.std.specs.List.Sorted.{IsStrictlySortedBy}
@@ -8,14 +8,15 @@ use Rattle.std.specs.Map.{keys_of, values_of}
 use Rattle.std.proofs.lemmas.List.{length-map, map-append}
 use Rattle.std.proofs.lemmas.List.Elements.{All-nil, All-cons, All-head, All-tail, All-append, All-map, All-weaker}
 use Rattle.std.proofs.lemmas.Slice.Zip.{AllZip-long}
+use Rattle.moves.proofs.PrintableLaws.{place_within, instance_within, one_printable as alone, moves_printable as all_printable}
+use Rattle.lemmas.proofs.Lists.{there_left}
 use Rattle.sparse.specs.Map.{Map, keys, values}
 use Rattle.sparse.specs.Meaning.{meaning_of}
 use Rattle.vb_value.specs.Bound.{Bounded}
 use Rattle.vb_value.specs.Content.{Content, IsWithinContent}
-use Rattle.vb_value.specs.Key.{key_cmp, IsWithinKey, IsWithinPart}
+use Rattle.vb_value.specs.Key.{key_cmp, IsWithinKey}
 use Rattle.vb_value.specs.Layout.{Layout}
 use Rattle.vb_value.specs.Value.{IsReducedValue, IsWithinValue}
-use Rattle.vb_value.specs.declared.keys.KeyPart.TheVariants as part
 use Rattle.vb_value.specs.declared.values.Ty.{Ty}
 use Rattle.vb_value.specs.declared.values.Value as v
 use Rattle.vb_value.specs.declared.values.Value.TheVariants as value
@@ -25,9 +26,8 @@ use Rattle.viper_core.specs.declared.programs.Unit as unit
 use Rattle.viper_core.specs.declared.programs.Unit.TheVariants as w
 use Rattle.viper_state.specs.Choice as choice
 use Rattle.viper_state.specs.Choice.{Choice}
-use Rattle.viper_state.specs.Event as event
 use Rattle.viper_state.specs.Event.{Event}
-use Rattle.viper_state.specs.Fits.{FitsHeap, FitsContents, FitsOpening, FitsChoice, FitsEvent}
+use Rattle.viper_state.specs.Fits.{FitsHeap, FitsOpening, FitsChoice, FitsEvent}
 use Rattle.viper_state.specs.Run.{Opening}
 use Rattle.viper_state.specs.State.{State}
 use Rattle.viper_state.specs.Within.{HasValues, HasEntries, IsWithinOpening, IsWithinChoice, IsWithinEvent}
@@ -39,20 +39,18 @@ use Rattle.viper_meaning.specs.Units.{Opens}
 use Rattle.viper_meaning.proofs.FormedLiterals.{program_within}
 use Rattle.viper_meaning.proofs.StatementFitsLaws.{unit_run_fits}
 use Rattle.viper_meaning.proofs.StatementKeptLaws.{unit_run_within}
-use Rattle.viper_types.proofs.GoodLists.{all_left, all_right}
-use Rattle.viper_types.proofs.Scopes.{slice_get_append}
 use Rattle.boogie_tree.specs.Program.{BType, Local, Proc}
-use Rattle.boogie_tree.specs.Value.{Key, BScalar, Int, Bool, Ref, Real, Snap, same_scalar, BValue, One, Many, Entry, BChoice, Pick, Value as Given, BSetting}
+use Rattle.boogie_tree.specs.Value.{Key, BScalar, Int, Bool, Ref, Real, Snap, same_scalar, BValue, One, Many, Entry, BChoice, Value as Given, BSetting}
 use Rattle.boogie_tree.specs.Values.{IsReducedScalar, FitsScalar, default_of, is_default, FitsKey, IsMapOf, IsOfType, one, many, IsEnvironment}
 use Rattle.boogie_tree.specs.declared.exprs.BBase.{BBase}
 use Rattle.moves.specs.Lists.{is_empty}
 use Rattle.moves.specs.Maps.{place_key, instance_key}
-use Rattle.moves.specs.Moves.{heap_choice, content_choice, moves_of, moves}
+use Rattle.moves.specs.Moves.{heap_choice, moves}
 use Rattle.moves.specs.Printable.{IsNamedScalar, IsNamedEntry, IsNamedMove, IsWithinScalar, IsSpellable, IsSpellableKey, ArePrintableEntries, IsPrintableChoice}
 use Rattle.moves.specs.Scalars.{scalar}
-use Rattle.moves.proofs.MapLaws.{scalar_fits, heap_of_type, contents_of_type}
-use Rattle.run_file.specs.BoogieLines.{known}
-use Rattle.run_file.specs.BoogiePrintable.{IsSpellableValue, IsPrintableSetting}
+use Rattle.moves.proofs.MapLaws.{scalar_fits, heap_of_type}
+use Rattle.run_boogie.specs.BoogieLines.{known}
+use Rattle.run_boogie.specs.BoogiePrintable.{IsSpellableValue, IsPrintableSetting}
 use Rattle.run_file.specs.Lines.{method_variables, predicate_variables, unit_variables}
 use Rattle.run_file.specs.Printable.{IsPrintable}
 use Rattle.run_file.proofs.SpelledLaws.{spelled_good}
@@ -60,11 +58,12 @@ use Rattle.enc_expr.specs.Front.{types_of_method, types_of_predicate, types_of, 
 use Rattle.enc_expr.specs.Locals.{named}
 use Rattle.enc_expr.proofs.FrontLaws.{front}
 use Rattle.enc_expr.proofs.FrontValues.{front_fits}
-use Rattle.enc_stmt.specs.Translates.{front_locals, IsProcedureOf}
+use Rattle.enc_locals.specs.Procedure.{front_locals}
+use Rattle.enc_units.specs.Translates.{IsProcedureOf}
 use Rattle.vb_tool.proofs.RunOfUnits.{named_exists, opens}
 use Rattle.vb_tool.proofs.Verdicts.{accepted_formed}
 use Rattle.vb_tool.specs.Accepted.{AcceptsRun}
-use Rattle.enc_stmt.specs.Opened.{settings_from, start_settings, IsNamedBValue, IsNamedSetting}
+use Rattle.enc_locals.specs.Opened.{settings_from, start_settings, IsNamedBValue, IsNamedSetting}
 use Rattle.vb_tool.specs.Units.{UnitRun, end_of}
 
 -- ---- the events of a run
@@ -141,13 +140,6 @@ scalar_within (value.Int n) h = h
 scalar_within (value.Bool b) h = tt
 scalar_within (value.Ref r) h = tt
 scalar_within (value.Perm q) h = h
-
-place_within : (r : ℕ) → IsWithinKey (place_key r)
-place_within r = All-cons IsWithinPart (part.Ref r) [] tt (All-nil IsWithinPart)
-
-instance_within : (k : Key) → IsWithinKey k → IsWithinKey (instance_key k)
-instance_within [] h = All-cons IsWithinPart (part.Int (pos 0)) [] (omega arith) (All-nil IsWithinPart)
-instance_within (a ∷ k) h = h
 
 -- what follows for the keys and values of what a map means
 module _ {K V M N : Type 0} (f : K → M) (g : V → N) where
@@ -226,10 +218,6 @@ module _ {K V : Type 0} (f : K → Key) (g : V → BScalar) where
 heap_printable : (u : Ty) (m : Map ℕ v.Value) → FitsHeap u m → HasValues IsWithinValue m → IsNamedMove (heap_choice m) → IsPrintableChoice (heap_choice m)
 heap_printable u m fits within named = map_printable place_key scalar m (heap_of_type u m fits) (heap_within m within) named
 
-content_printable : (us : List Ty) (m : Map Key Content) → FitsContents us m → HasEntries IsWithinKey IsWithinContent m → IsNamedMove (content_choice m) → IsPrintableChoice (content_choice m)
-content_printable [] m fits within named = map_printable instance_key Snap m (contents_of_type [] m fits) (content_within m within) named
-content_printable (u ∷ us) m fits within named = map_printable instance_key Snap m (contents_of_type (u ∷ us) m fits) (content_within m within) named
-
 -- all maps of a kind
 each_map : {U M : Type 0} (F : U → M → Type 0) (W : M → Type 0) (code : M → BChoice) → ((u : U) (m : M) → F u m → W m → IsNamedMove (code m) → IsPrintableChoice (code m)) → (us : List U) (ms : List M) →
     AllZip F us ms → All W ms → All IsNamedMove (map code ms) → All IsPrintableChoice (map code ms)
@@ -240,34 +228,9 @@ each_map F W code go (u ∷ us) (m ∷ ms) fits within named =
     All-cons IsPrintableChoice (code m) (map code ms) (go u m fits.0 (All-head W m ms within) (All-head IsNamedMove (code m) (map code ms) named))
     (each_map F W code go us ms fits.1 (All-tail W m ms within) (All-tail IsNamedMove (code m) (map code ms) named))
 
-alone : (c : BChoice) → IsPrintableChoice c → All IsPrintableChoice (c ∷ [])
-alone c h = All-cons IsPrintableChoice c [] h (All-nil IsPrintableChoice)
-
 value_printable : (x : v.Value) → IsReducedValue x → IsWithinValue x → All IsNamedMove (Given (scalar x) ∷ []) → All IsPrintableChoice (Given (scalar x) ∷ [])
 value_printable x fits within named =
     alone (Given (scalar x)) (scalar_spellable (scalar x) (scalar_fits x fits).reduced (scalar_within x within) (All-head IsNamedMove (Given (scalar x)) [] named))
-
-event_printable : (layout : Layout) (e : Event) → FitsEvent layout e → IsWithinEvent e → All IsNamedMove (moves_of e) → All IsPrintableChoice (moves_of e)
-event_printable layout (event.Branch b) fits within named = alone (Pick b) tt
-event_printable layout (event.Took x) fits within named = value_printable x fits within named
-event_printable layout (event.Wild q) fits within named = alone (Given (Real q)) (fits, within)
-event_printable layout (event.Fresh r) fits within named = alone (Given (Ref r)) (All-head IsNamedMove (Given (Ref r)) [] named)
-event_printable layout (event.Whole m) fits within named =
-    let heaps = map heap_choice m.heap in let contents = map content_choice m.content in
-    All-append IsPrintableChoice heaps contents (each_map FitsHeap (HasValues IsWithinValue) heap_choice heap_printable layout.fields m.heap fits.heap within.heap (all_left IsNamedMove heaps contents named))
-    (each_map FitsContents (HasEntries IsWithinKey IsWithinContent) content_choice content_printable layout.keys m.content fits.content within.content (all_right IsNamedMove heaps contents named))
-event_printable layout (event.Split c d) fits within named =
-    let first = Given (Snap c) in let last = Given (Snap d) in
-    All-cons IsPrintableChoice first (last ∷ []) (fits.0, within.0, All-head IsNamedMove first (last ∷ []) named)
-    (alone last (fits.1, within.1, All-head IsNamedMove last [] (All-tail IsNamedMove first (last ∷ []) named)))
-event_printable layout (event.Leaf x) fits within named = value_printable x fits within named
-
-all_printable : (layout : Layout) (es : List Event) → All (FitsEvent layout) es → All IsWithinEvent es → All IsNamedMove (moves es) → All IsPrintableChoice (moves es)
-all_printable layout [] fits within named = All-nil IsPrintableChoice
-all_printable layout (e ∷ es) fits within named =
-    All-append IsPrintableChoice (moves_of e) (moves es)
-    (event_printable layout e (All-head (FitsEvent layout) e es fits) (All-head IsWithinEvent e es within) (all_left IsNamedMove (moves_of e) (moves es) named))
-    (all_printable layout es (All-tail (FitsEvent layout) e es fits) (All-tail IsWithinEvent e es within) (all_right IsNamedMove (moves_of e) (moves es) named))
 
 -- ---- the locals that an opening sets
 
@@ -290,7 +253,7 @@ module _ (q : p.Program) (formed : IsFormed q) (n : unit.Unit) where
       let others = map type_of h.others in
       let types : map type_of d.locals ≡ front_types q n ++ others =
       ap (map type_of) h.front ∙ (map-append type_of (front_locals q n) h.others ∙ ap (λ (ts : List BType). ts ++ others) front_types_are) in
-      subst (λ (ts : List BType). slice_get ts i ≡ Some t) (sym types) (slice_get_append (front_types q n) others i t at)
+      subst (λ (ts : List BType). slice_get ts i ≡ Some t) (sym types) (there_left (front_types q n) others i t at)
 
 -- the variables that an opening sets are those that the run file may name
 scope_types : (q : p.Program) (n : unit.Unit) → (unit_variables q (Some n)).types ≡ types_of q n

@@ -1,28 +1,28 @@
 -- The statements of a procedure that are run as they are read.
 use Rattle.std.proofs.Common.{◌≡◌, ◌∙◌, sym, ap, subst, ℕ, List, [], ◌∷◌, ◌++◌, length, map, Some, Bor}
+use Rattle.boogie_meaning.proofs.RunTypedLaws.{not_wrong}
 use Rattle.vb_value.specs.Bound.{Bounded}
 use Rattle.boogie_tree.specs.Program.{BType, Local, Proc}
 use Rattle.boogie_tree.specs.Stmt.{BStmt, stmts}
 use Rattle.boogie_tree.specs.Value.{BChoice, BRun}
 use Rattle.boogie_tree.specs.Whole.{locals_of}
 use Rattle.boogie_tree.specs.declared.programs.Local as declared
-use Rattle.boogie_meaning.specs.Kept.{KeepsTypes, done, failed, blocked, short, over}
 use Rattle.boogie_grammar.specs.Grammar.{local_names}
 use Rattle.boogie_meaning.specs.Programs.{types_of}
 use Rattle.boogie_meaning.specs.Run.{Run, Done, Stops, Wrong, brun, brun_stmt, then_run}
 use Rattle.boogie_meaning.proofs.RunTypedLaws as typed
 use Rattle.boogie_run.specs.Ready.{KeepsReady}
 use Rattle.boogie_run.specs.Start.{start_of, outcome_of, CanRun}
-use Rattle.boogie_run.specs.Within.{AreWithinStmts, IsWithinStmt}
+use Rattle.boogie_eval.specs.Within.{AreWithinStmts, IsWithinStmt}
 use Rattle.boogie_run.specs.declared.replaying.BOutcome.{BOutcome}
 use Rattle.boogie_run.proofs.RunWithinLaws as ready
-use Rattle.boogie_run.proofs.StartLaws.{types_are}
+use Rattle.boogie_types.proofs.TypingLaws.{types_are}
 use Rattle.boogie_run.proofs.SteppedLaws.{one_more}
-use Rattle.boogie_run.specs.Typed.{types_in}
+use Rattle.boogie_types.specs.Typed.{types_in}
 use Rattle.boogie_text.specs.Tail.{BeginsEnd, BeginsStatement}
 use Rattle.boogie_meaning.specs.Types.{IsTypedStmt}
 use Rattle.vb_tool.proofs.BegunLaws.{IsGone, gone_none, gone_one, gone_all}
-use Rattle.run_file.specs.BoogieRun.{SpellsBoogieRun}
+use Rattle.run_boogie.specs.BoogieRun.{SpellsBoogieRun}
 use Rattle.run_fits.proofs.LiteralLaws.{stmt_within}
 use Rattle.vb_tool.specs.Alone.{IsDone, IsMade, RunsBody}
 use Rattle.vb_tool.specs.declared.alone.Made.TheVariants as made
@@ -64,13 +64,6 @@ run_one {ls} {names} {run = run} a same r begins typed is = record {
 
 pub run_ready : {begun : Proc} {text rest : List ℕ} {run : BRun} {now : Run} → CanRun begun run → IsRun begun.locals text rest run now → KeepsReady now
 run_ready {begun} {run = run} can r = subst KeepsReady (sym r.is) (ready.stmts_keep (types_of begun) (stmts r.body) (start_of (types_of begun) run.settings) run.choices r.within can.within)
-
-not_wrong : {us : List BType} {r : Run} (left : List BChoice) → KeepsTypes us r → r ≡ Stops Wrong left → ⊥
-not_wrong left (done h q) e = absurd (cc)
-not_wrong left failed e = absurd (cc)
-not_wrong left blocked e = absurd (cc)
-not_wrong left short e = absurd (cc)
-not_wrong left over e = absurd (cc)
 
 pub never_wrong : {begun : Proc} {text rest : List ℕ} {run : BRun} {now : Run} {left : List BChoice} → CanRun begun run → IsRun begun.locals text rest run now → now ≡ Stops Wrong left → ⊥
 never_wrong {begun} {run = run} {left = left} can r e =

@@ -1,8 +1,9 @@
 -- The units of a formed program: they are few, and what a run file names opens them.
-use Rattle.std.proofs.Common.{◌≡◌, ◌∙◌, ◌+◌, ◌<◌, ◌≤◌, ◌⊎◌, inl, inr, ℕ, zero, suc, List, [], ◌∷◌, length, Option, Some, None, is_some, slice_get, refl, ap, subst, cond, arith}
+use Rattle.std.proofs.Common.{◌≡◌, ◌∙◌, ◌+◌, ◌<◌, ◌≤◌, ◌⊎◌, inl, inr, ℕ, suc, List, [], ◌∷◌, length, Option, Some, None, is_some, slice_get, refl, ap, subst, cond, arith}
 use Rattle.std.proofs.lemmas.List.FromFn.{length-range_with_len, get_or-range_with_len}
 use Rattle.std.proofs.lemmas.List.Quantifiers.{position-Some}
 use Rattle.std.proofs.lemmas.Option.{slice_get_within, get_or_from_slice_get}
+use Rattle.lemmas.proofs.Lists.{item_there}
 use Rattle.viper_core.specs.Expr.{Assertion}
 use Rattle.viper_core.specs.Formed.{IsFormed, methods_among, predicates_among, with_body_from, below}
 use Rattle.viper_core.specs.Program as p
@@ -12,6 +13,7 @@ use Rattle.viper_core.specs.declared.programs.Unit.TheVariants as u
 use Rattle.viper_meaning.specs.Units.{opening_types, Opens}
 use Rattle.viper_state.specs.Fits.{FitsOpening}
 use Rattle.viper_state.specs.Run.{Opening}
+use Rattle.enc_units.proofs.UnitNames.{first_or_later, method_among, predicate_among}
 use Rattle.run_file.specs.Lines.{unit_variables, scope_of}
 use Rattle.vb_tool.specs.Units.{is_name, name_of, unit_named}
 
@@ -50,31 +52,11 @@ named_exists q word n is = (position-Some (λ w. is_name word (name_of q w)) q.u
 
 -- ---- what a run file names is an opening
 
-pub method_among : (us : List unit.Unit) (n k : ℕ) → slice_get us n ≡ Some (u.Method k) → (i : ℕ) × (slice_get (methods_among us) i ≡ Some k)
-method_among [] n k is = absurd (cc)
-method_among (u.Method j ∷ us) zero k is = let same : j ≡ k = cc in (0, ap (λ x. Some x) same)
-method_among (u.Predicate j ∷ us) zero k is = absurd (cc)
-method_among (u.Method j ∷ us) (suc n) k is = let (i, e) = method_among us n k is in (suc i, e)
-method_among (u.Predicate j ∷ us) (suc n) k is = method_among us n k is
-
-pub predicate_among : (us : List unit.Unit) (n k : ℕ) → slice_get us n ≡ Some (u.Predicate k) → (i : ℕ) × (slice_get (predicates_among us) i ≡ Some k)
-predicate_among [] n k is = absurd (cc)
-predicate_among (u.Method j ∷ us) zero k is = absurd (cc)
-predicate_among (u.Predicate j ∷ us) zero k is = let same : j ≡ k = cc in (0, ap (λ x. Some x) same)
-predicate_among (u.Method j ∷ us) (suc n) k is = predicate_among us n k is
-predicate_among (u.Predicate j ∷ us) (suc n) k is = let (i, e) = predicate_among us n k is in (suc i, e)
-
 below_within : (m i k : ℕ) → slice_get (below m) i ≡ Some k → k < m
 below_within m i k is =
     let within = slice_get_within (below m) i k is in
     let at = get_or_from_slice_get (below m) i k 0 is in
     omega (arith, within, at, length-range_with_len 0 m, get_or-range_with_len 0 m i 0)
-
--- a number that is the first, or one of the others
-pub first_or_later : (n k : ℕ) (body : Option Assertion) (rest : List ℕ) (i : ℕ) → slice_get (cond (is_some body) (n ∷ rest) rest) i ≡ Some k → (n ≡ k) ⊎ ((j : ℕ) × (slice_get rest j ≡ Some k))
-first_or_later n k None rest i is = inr (i, is)
-first_or_later n k (Some a) rest zero is = let same : n ≡ k = cc in inl same
-first_or_later n k (Some a) rest (suc i) is = inr (i, is)
 
 within_more : (n k m : ℕ) (rest : List ℕ) → ((j : ℕ) → slice_get rest j ≡ Some k → (n + 1 ≤ k) × (k < n + 1 + m)) → (n ≡ k) ⊎ ((j : ℕ) × (slice_get rest j ≡ Some k)) →
     (n ≤ k) × (k < n + suc m)
@@ -86,25 +68,20 @@ body_among n [] i k is = absurd (cc)
 body_among n (d ∷ ds) i k is =
     within_more n k (length ds) (with_body_from (n + 1) ds) (λ j e. body_among (n + 1) ds j k e) (first_or_later n k d.body (with_body_from (n + 1) ds) i is)
 
-pub there_is : {X : Type 0} (xs : List X) (k : ℕ) → k < length xs → (x : X) × (slice_get xs k ≡ Some x)
-there_is [] k h = absurd (omega (arith, h))
-there_is (x ∷ xs) zero h = (x, refl)
-there_is (x ∷ xs) (suc k) h = there_is xs k (omega (arith, h))
-
 typed_unit : (q : p.Program) → IsFormed q → (n : ℕ) (w : unit.Unit) → slice_get q.units n ≡ Some w → opening_types q w ≡ Some (unit_variables q (Some w)).types
 typed_unit q h n (u.Method k) is =
     let (i, e) = method_among q.units n k is in
-    let (m, there) = there_is q.methods k (below_within (length q.methods) i k (subst (λ ks. slice_get ks i ≡ Some k) h.typed.units.methods e)) in
+    let (m, there) = item_there q.methods k (below_within (length q.methods) i k (subst (λ ks. slice_get ks i ≡ Some k) h.typed.units.methods e)) in
     rw there refl
 typed_unit q h n (u.Predicate k) is =
     let (i, e) = predicate_among q.units n k is in
     let within = body_among 0 q.predicates i k (subst (λ ks. slice_get ks i ≡ Some k) h.typed.units.predicates e) in
-    let (d, there) = there_is q.predicates k (omega (arith, within.1)) in
+    let (d, there) = item_there q.predicates k (omega (arith, within.1)) in
     rw there refl
 
 pub opens : (q : p.Program) → IsFormed q → (n : ℕ) → n < length q.units → (o : Opening) → FitsOpening q.layout (scope_of q n).variables.types o → Opens q n o
 opens q h n within o fits =
-    let (w, is) = there_is q.units n within in
+    let (w, is) = item_there q.units n within in
     record {
       unit = w;
       types = (unit_variables q (Some w)).types;

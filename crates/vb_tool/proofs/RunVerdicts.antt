@@ -5,7 +5,7 @@ use Rattle.vb_base.specs.declared.places.Pos.{Pos}
 use Rattle.viper_core.specs.Formed.{IsFormed}
 use Rattle.viper_core.specs.Program as p
 use Rattle.run_file.specs.Run.{ViperRun, SpellsViperRun, GoesWrongAt}
-use Rattle.run_file.proofs.AnswerLaws as run_laws
+use Rattle.run_words.proofs.AnswerLaws as run_laws
 use Rattle.run_file.proofs.FileLaws.{is_reader}
 use Rattle.run_file.proofs.ScopeLaws.{names_apart}
 use Rattle.vb_tool.proofs.Verdicts.{one_accepted, accepted_text, accepted_formed, one_text_refusal, text_answer}

@@ -7,8 +7,8 @@ use Rattle.viper_state.specs.Choice.{Choice}
 use Rattle.viper_state.specs.Event.{Event}
 use Rattle.moves.specs.Moves.{moves}
 use Rattle.moves.specs.Printable.{IsNamedMove}
-use Rattle.enc_stmt.specs.Opened.{start_settings, IsNamedSetting}
-use Rattle.enc_stmt.specs.Translates.{Translates}
+use Rattle.enc_locals.specs.Opened.{start_settings, IsNamedSetting}
+use Rattle.enc_units.specs.Translates.{Translates}
 use Rattle.vb_tool.proofs.AgainLaws.{fails_again_by}
 use Rattle.vb_tool.proofs.MovedLaws.{run_opens, run_within, run_reduced, moves_printable, settings_printable, front_length}
 use Rattle.vb_tool.specs.Accepted.{AcceptsRun}

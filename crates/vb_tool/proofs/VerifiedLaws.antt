@@ -3,6 +3,7 @@ use Rattle.std.proofs.Common.{◌≡◌, ◌∙◌, ◌+◌, ◌<◌, ℕ, zero,
 use Rattle.std.proofs.lemmas.List.Elements.{All-append, All-map}
 use Rattle.std.proofs.lemmas.Option.{slice_get_within}
 use Rattle.std.specs.List.{range_with_len}
+use Rattle.lemmas.proofs.Lists.{item_there}
 use Rattle.vb_base.specs.declared.labels.Label.{Label}
 use Rattle.vb_base.specs.declared.places.Pos.{Pos}
 use Rattle.vb_value.specs.Bound.{Bound, Bounded, Unbounded}
@@ -32,9 +33,8 @@ use Rattle.viper_meaning.proofs.StatementBoundLaws.{produce_all_bounded, consume
 use Rattle.viper_meaning.proofs.TakenLaws.{fails_on_fitting}
 use Rattle.boogie_grammar.specs.Spells.{BSpells}
 use Rattle.boogie_tree.specs.Program.{BProgram}
-use Rattle.enc_stmt.proofs.ProgramLaws.{translates}
-use Rattle.enc_stmt.specs.Translates.{Translates, text_of}
-use Rattle.vb_tool.proofs.RunOfUnits.{there_is}
+use Rattle.enc_units.proofs.ProgramLaws.{translates}
+use Rattle.enc_units.specs.Translates.{Translates, text_of}
 use Rattle.vb_tool.specs.Verified.{NoProcedureFails, NothingFails, SatisfiesPrecondition, run_from, NeverFails, HasNoFailure}
 
 -- ---- no unit fails, since each has its procedure
@@ -42,7 +42,7 @@ use Rattle.vb_tool.specs.Verified.{NoProcedureFails, NothingFails, SatisfiesPrec
 pub no_unit_fails : (program : Program) (bytes : List ℕ) (t : Translates program bytes) → NothingFails t → (n : ℕ) (label : Label) → ViperFails program n label → ⊥
 no_unit_fails program bytes t nothing n label h =
     let within = slice_get_within program.units n h.opens.unit h.opens.exists in
-    let (d, there) = there_is t.boogie.procs n (omega (arith, within, t.as_many)) in
+    let (d, there) = item_there t.boogie.procs n (omega (arith, within, t.as_many)) in
     nothing n d label there ((t.exact n d there label).1 h)
 
 -- ---- each method is a unit

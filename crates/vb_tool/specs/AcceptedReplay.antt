@@ -6,21 +6,15 @@ use Rattle.vb_base.specs.Limits.{max_boogie_bytes}
 use Rattle.vb_base.specs.declared.places.Pos.{Pos}
 use Rattle.boogie_tree.specs.Program.{Proc, BProgram}
 use Rattle.boogie_tree.specs.Value.{BRun}
-use Rattle.boogie_meaning.specs.Programs.{types_of, IsTypedProgram, IsFirstIllTyped}
-use Rattle.boogie_grammar.specs.Faults.{IsFault}
-use Rattle.boogie_grammar.specs.declared.faults.BoogieFault.TheVariants as fault
-use Rattle.boogie_text.specs.Answers.{IsRead}
+use Rattle.boogie_meaning.specs.Programs.{types_of}
+use Rattle.boogie_file.specs.Accepted.{IsBoogie, procedure_named, IsTextRefusal}
+use Rattle.boogie_file.specs.declared.refusal.Refusal as b
 use Rattle.boogie_run.specs.Start.{start_of}
-use Rattle.run_file.specs.BoogieRun.{SpellsName, NamesNothingAt, SpellsBoogieRun, GoesWrongAt}
-use Rattle.vb_tool.specs.Procedures.{procedure_named, ProcedureRun}
+use Rattle.run_boogie.specs.BoogieRun.{SpellsName, NamesNothingAt, SpellsBoogieRun, GoesWrongAt}
+use Rattle.vb_tool.specs.Procedures.{ProcedureRun}
+use Rattle.vb_tool.specs.BoogieRefusals.{refusal_of_boogie}
 use Rattle.vb_tool.specs.declared.status.Refusal.{Refusal}
-use Rattle.vb_tool.specs.declared.status.Refusal.TheVariants.{Size, RunSize, Prelude, Deep, BoogieSyntax, BoogieType, NoProcedure, RunSyntax}
-
--- the bytes are the text of this well-typed program, within the limits of a file and of brackets
-pub record IsBoogie (bytes : List ℕ) (program : BProgram) : Type 0 where
-  pub small : length bytes ≤ max_boogie_bytes
-  pub text : IsRead bytes program
-  pub is_typed : IsTypedProgram program
+use Rattle.vb_tool.specs.declared.status.Refusal.TheVariants.{Size, RunSize, NoProcedure, RunSyntax}
 
 -- the run file names this procedure of the program
 pub record NamesProcedure (run_bytes : List ℕ) (program : BProgram) (procedure : Proc) : Type 0 where
@@ -43,12 +37,9 @@ pub record AcceptsReplay (bytes run_bytes : List ℕ) (u : ProcedureRun) : Type 
 
 -- ---- refusals
 
--- a text is refused for its prelude, its tokens or its brackets, or because it is ill-typed
+-- a text is refused as that of a file of Boogie is
 pub data IsBoogieRefusal (bytes : List ℕ) : Refusal → Type 0 where
-  prelude : {at : Pos} → IsFault bytes (fault.Prelude at) → IsBoogieRefusal bytes (Prelude at)
-  deep : {at : Pos} → IsFault bytes (fault.Deep at) → IsBoogieRefusal bytes (Deep at)
-  syntax : {at : Pos} → IsFault bytes (fault.Syntax at) → IsBoogieRefusal bytes (BoogieSyntax at)
-  ill_typed : {program : BProgram} {number : ℕ} → IsRead bytes program → IsFirstIllTyped program number → IsBoogieRefusal bytes (BoogieType number)
+  of_boogie : {r : b.Refusal} → IsTextRefusal bytes r → IsBoogieRefusal bytes (refusal_of_boogie r)
 
 -- a run file is refused for its header, because the program has no procedure of that name, or for its other lines
 pub data IsBoogieRunRefusal (program : BProgram) (run_bytes : List ℕ) : Refusal → Type 0 where

@@ -13,8 +13,8 @@ use Rattle.boogie_meaning.specs.Types.{IsTyped}
 use Rattle.boogie_run.specs.Start.{start_of, outcome_of}
 use Rattle.boogie_run.specs.declared.replaying.BOutcome.{BOutcome}
 use Rattle.boogie_text.specs.Tail.{IsTail, IsLocalsTail, IsBodyTail}
-use Rattle.run_file.specs.BoogieRun.{SpellsBoogieRun}
-use Rattle.vb_tool.specs.Procedures.{procedure_named}
+use Rattle.run_boogie.specs.BoogieRun.{SpellsBoogieRun}
+use Rattle.boogie_file.specs.Accepted.{procedure_named}
 use Rattle.vb_tool.specs.declared.alone.Made.{Made}
 use Rattle.vb_tool.specs.declared.alone.Made.TheVariants as made
 use Rattle.vb_tool.specs.declared.alone.Task.{Task}

@@ -12,7 +12,7 @@ use Rattle.boogie_run.specs.Start.{outcome_of}
 use Rattle.boogie_tree.specs.Program.{Proc}
 use Rattle.boogie_run.specs.declared.replaying.BOutcome.{BOutcome}
 use Rattle.boogie_wide.specs.Wide.{WProgram}
-use Rattle.enc_stmt.specs.Translates.{text_of}
+use Rattle.enc_units.specs.Translates.{text_of}
 use Rattle.vb_tool.specs.Accepted.{IsAccepted, AcceptsRun, IsRefusal, IsRunRefusal}
 use Rattle.vb_tool.specs.AcceptedCondition.{AcceptsCondition, IsConditionRefusal}
 use Rattle.vb_tool.specs.AcceptedCut.{AcceptsCut, IsCutRefusal}
@@ -27,14 +27,16 @@ use Rattle.vb_tool.specs.Framed.{IsFramedEnd}
 use Rattle.vb_tool.specs.Outcome.{run_status, run_text}
 use Rattle.vb_tool.specs.Procedures.{ProcedureRun, procedure_end}
 use Rattle.vb_tool.specs.ReplayOutcome.{replay_status, replay_text}
-use Rattle.vb_tool.specs.Status.{line_of}
+use Rattle.tool_words.specs.Ends as ends
+use Rattle.tool_words.specs.Ends.{OutOf}
+use Rattle.vb_tool.specs.Status.{kind_of, line_of}
 use Rattle.vb_tool.specs.Summary.{made_text}
 use Rattle.vb_tool.specs.Transfer.{IsTransfer}
 use Rattle.vb_tool.specs.Units.{UnitRun, end_of}
 use Rattle.vb_tool.specs.declared.status.Refusal.{Refusal}
 use Rattle.vb_tool.specs.declared.status.Refusal.TheVariants.{Size, Range}
 use Rattle.vb_tool.specs.declared.status.Status.{Status}
-use Rattle.vb_tool.specs.declared.status.Status.TheVariants.{Done, Refused, Usage, ReadFault, WriteFault, NoMemory, Failed, Blocked, Short, Over, Spent}
+use Rattle.vb_tool.specs.declared.status.Status.TheVariants.{Done, Refused, Usage, ReadFault, Failed}
 
 -- ---- files that are missing
 
@@ -118,16 +120,11 @@ pub data IsCause (words : List (List ℕ)) (files : Option Files) (before now : 
 
 -- the cause of each status
 abbrev pub Causes : List (List ℕ) → Option Files → ℕ → ℕ → Type 0 → Status → Type 0
-Causes words files before now SinkFailed NoMemory = ⊤
-Causes words files before now SinkFailed WriteFault = SinkFailed
-Causes words files before now SinkFailed status = IsCause words files before now status
+Causes words files before now SinkFailed status = ends.Causes kind_of (IsCause words files before now) SinkFailed status
 
 -- the status, unless memory was refused or a device failed
-pub data EndsAs (expected : Status) : Status → Type 0 where
-  as_expected : EndsAs expected expected
-  no_memory : EndsAs expected NoMemory
-  read_fault : EndsAs expected ReadFault
-  write_fault : EndsAs expected WriteFault
+abbrev pub EndsAs : Status → Status → Type 0
+EndsAs expected status = ends.EndsAs kind_of expected status
 
 -- and where it ends so, this text was appended to the output
 abbrev pub EndsWith : Option (List ℕ) → Option (List ℕ) → Status → List ℕ → Status → Type 0
@@ -146,22 +143,8 @@ FrontWritten before now IsText = (now ≡ before) ⊎ ((status : Status) × (tex
 -- what stands in the sink of the output: what the command writes, or what stood there before; after a fault of a sink, and for
 -- want of memory, the front of what the command writes
 abbrev pub OutAfter : Option (List ℕ) → Option (List ℕ) → (Status → List ℕ → Type 0) → Status → Type 0
-OutAfter before now IsText Done = Written before now IsText Done
-OutAfter before now IsText (Failed label) = Written before now IsText (Failed label)
-OutAfter before now IsText Blocked = Written before now IsText Blocked
-OutAfter before now IsText Short = Written before now IsText Short
-OutAfter before now IsText Over = Written before now IsText Over
-OutAfter before now IsText Spent = Written before now IsText Spent
-OutAfter before now IsText WriteFault = FrontWritten before now IsText
-OutAfter before now IsText NoMemory = FrontWritten before now IsText
-OutAfter before now IsText (Refused r) = now ≡ before
-OutAfter before now IsText Usage = now ≡ before
-OutAfter before now IsText ReadFault = now ≡ before
+OutAfter before now IsText status = OutOf (kind_of status) (Written before now IsText status) (now ≡ before) (FrontWritten before now IsText) (FrontWritten before now IsText)
 
 -- what stands in the sink of errors: one more line, where the status has one; after a fault of a sink the front of such a line
 abbrev pub ErrAfter : Option (List ℕ) → Option (List ℕ) → (Status → Type 0) → Status → Type 0
-ErrAfter before now Cause (Refused r) = Appends before now (line_of (Refused r))
-ErrAfter before now Cause Usage = Appends before now (line_of Usage)
-ErrAfter before now Cause ReadFault = Appends before now (line_of ReadFault)
-ErrAfter before now Cause WriteFault = (now ≡ before) ⊎ ((status : Status) × Cause status × AppendsPrefix before now (line_of status))
-ErrAfter before now Cause status = now ≡ before
+ErrAfter before now Cause status = ends.ErrAfter kind_of line_of before now Cause status

@@ -3,7 +3,7 @@ use Rattle.std.specs.Prelude.{◌≡◌, ℕ, List}
 use Rattle.vb_base.specs.declared.labels.Label.{Label}
 use Rattle.boogie_grammar.specs.Spells.{BSpells}
 use Rattle.boogie_tree.specs.Program.{BProgram}
-use Rattle.enc_stmt.specs.Translates.{text_of}
+use Rattle.enc_units.specs.Translates.{text_of}
 use Rattle.vb_tool.specs.AcceptedExecution.{AcceptsExecution}
 use Rattle.vb_tool.specs.Executions.{MethodRun}
 use Rattle.vb_tool.specs.Verified.{NoProcedureFails}

@@ -1,4 +1,5 @@
 pub mod Status
+pub mod BoogieRefusals
 pub mod Converted
 pub mod Command
 pub mod Summary

@@ -6,8 +6,9 @@ use Rattle.viper_state.specs.Event.{Event}
 use Rattle.viper_state.specs.Run.{Opening}
 use Rattle.boogie_tree.specs.Value.{BRun}
 use Rattle.moves.specs.Moves.{moves}
-use Rattle.run_file.specs.BoogiePrinted.{run_text}
-use Rattle.enc_stmt.specs.Opened.{front_procedure, start_settings}
+use Rattle.run_boogie.specs.BoogiePrinted.{run_text}
+use Rattle.enc_locals.specs.Procedure.{front_procedure}
+use Rattle.enc_locals.specs.Opened.{start_settings}
 
 -- a run of a unit as one of its procedure: from the opening, and on the moves of what was recorded
 abbrev pub moved_run : Opening → List Event → BRun

@@ -1,8 +1,7 @@
 -- What the parts of a call do, one after the other.
 use Rattle.std.specs.Prelude.{⊤, ◌≡◌, ℕ, List, Option, Some, slice_get}
 use Rattle.vb_base.specs.declared.labels.Label.{Label}
-use Rattle.vb_outer.specs.Faults.{Rose}
-use Rattle.vb_outer.specs.Sink.{Appends, AppendsPrefix}
+use Rattle.vb_outer.specs.Sink.{AppendsPrefix}
 use Rattle.vb_gen.specs.Generated.{program_text, IsOutOfRange}
 use Rattle.viper_core.specs.Formed.{IsFormed}
 use Rattle.viper_core.specs.Program as p
@@ -12,7 +11,7 @@ use Rattle.boogie_run.specs.Start.{outcome_of}
 use Rattle.boogie_tree.specs.Program.{Proc}
 use Rattle.boogie_run.specs.declared.replaying.BOutcome.{BOutcome}
 use Rattle.boogie_wide.specs.Wide.{WProgram}
-use Rattle.enc_stmt.specs.Translates.{text_of}
+use Rattle.enc_units.specs.Translates.{text_of}
 use Rattle.vb_tool.specs.Accepted.{IsAccepted, AcceptsRun}
 use Rattle.vb_tool.specs.AcceptedCondition.{AcceptsCondition}
 use Rattle.vb_tool.specs.AcceptedCut.{AcceptsCut}
@@ -25,14 +24,15 @@ use Rattle.vb_tool.specs.Executions.{MethodRun, execution_end, execution_status,
 use Rattle.vb_tool.specs.Outcome.{run_status, run_text}
 use Rattle.vb_tool.specs.Procedures.{ProcedureRun, procedure_end}
 use Rattle.vb_tool.specs.ReplayOutcome.{replay_status, replay_text}
-use Rattle.vb_tool.specs.Status.{line_of}
+use Rattle.tool_words.specs.Written as written
+use Rattle.vb_tool.specs.Status.{kind_of}
 use Rattle.vb_tool.specs.Summary.{made_text}
 use Rattle.vb_tool.specs.Transfer.{IsTransferred}
 use Rattle.vb_tool.specs.Units.{UnitRun, end_of}
 use Rattle.vb_tool.specs.declared.outcome.Work.{Work}
 use Rattle.vb_tool.specs.declared.outcome.Work.TheVariants.{Translate, Tell}
 use Rattle.vb_tool.specs.declared.status.Status.{Status}
-use Rattle.vb_tool.specs.declared.status.Status.TheVariants.{Done, Failed, WriteFault, NoMemory}
+use Rattle.vb_tool.specs.declared.status.Status.TheVariants.{Done, Failed, NoMemory}
 use Rattle.vb_tool.specs.declared.words.Command.{Command}
 use Rattle.vb_tool.specs.declared.words.Command.TheVariants as words
 
@@ -45,13 +45,6 @@ command_of (words.Make count) = c.Make count
 command_of (words.Execute file method run_file budget) = c.Execute file.now method.now run_file.now budget
 command_of (words.Cut file) = c.Cut file.now
 command_of (words.Condition file procedure label) = c.Condition file.now procedure.now label
-
--- the line of a status goes to the sink of errors, and the call ends with that status; but for a fault of the sink, after
--- which the front of the line stands there, and for want of memory
-pub data Reports (before now : Option (List ℕ)) (faults_before faults_now : ℕ) (status : Status) : Status → Type 0 where
-  reported : Appends before now (line_of status) → Reports before now faults_before faults_now status status
-  unwritten : AppendsPrefix before now (line_of status) → Rose faults_before faults_now → Reports before now faults_before faults_now status WriteFault
-  no_memory : now ≡ before → Reports before now faults_before faults_now status NoMemory
 
 -- the status of a work that is done, and the text that is written
 abbrev pub work_status : Work → Status
@@ -70,8 +63,7 @@ CanBeWritten (Tell told) = ⊤
 -- a text goes to the sink of the output, and the call ends with this status; but for a fault of the sink and for want of
 -- memory, after which a front of the text stands there
 pub data Delivers (before now : Option (List ℕ)) (faults_before faults_now : ℕ) (text : List ℕ) (status : Status) : Status → Type 0 where
-  delivered : Appends before now text → Delivers before now faults_before faults_now text status status
-  unwritten : AppendsPrefix before now text → Rose faults_before faults_now → Delivers before now faults_before faults_now text status WriteFault
+  of_text : {ended : Status} → written.Delivers kind_of before now faults_before faults_now text status ended → Delivers before now faults_before faults_now text status ended
   no_memory : AppendsPrefix before now text → Delivers before now faults_before faults_now text status NoMemory
 
 -- the status and the text of the run that the bytes of two files are

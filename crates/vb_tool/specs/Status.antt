@@ -1,8 +1,10 @@
--- The numbers of statuses, and the lines that go to the error stream.
+-- The numbers and the kinds of statuses, and the lines that go to the error stream.
 use Rattle.std.specs.Prelude.{◌++◌, ℕ, List, [], codes}
 use Rattle.std.specs.Fmt.{decimal}
 use Rattle.vb_base.specs.Labels.{place_text}
 use Rattle.viper_syntax.specs.declared.tokens.LexFault.TheVariants.{BadByte, OpenComment, BigLiteral, Braces, LongGroup, Unsupported, Memory}
+use Rattle.tool_words.specs.Kind as kind
+use Rattle.tool_words.specs.Kind.{Kind}
 use Rattle.vb_tool.specs.declared.status.Refusal.{Refusal}
 use Rattle.vb_tool.specs.declared.status.Refusal.TheVariants.{Size, RunSize, Lex, Syntax, Rule, Weight, Unframed, NoUnit, Prelude, Deep, BoogieSyntax, BoogieType, NoProcedure, RunSyntax, Range}
 use Rattle.vb_tool.specs.declared.status.Status.{Status}
@@ -20,6 +22,19 @@ number_of Blocked = 11
 number_of Short = 12
 number_of Over = 13
 number_of Spent = 14
+
+abbrev pub kind_of : Status → Kind
+kind_of (Refused r) = kind.Refused
+kind_of Usage = kind.Refused
+kind_of ReadFault = kind.Unread
+kind_of WriteFault = kind.Unwritten
+kind_of NoMemory = kind.NoMemory
+kind_of Done = kind.Answered
+kind_of (Failed label) = kind.Answered
+kind_of Blocked = kind.Answered
+kind_of Short = kind.Answered
+kind_of Over = kind.Answered
+kind_of Spent = kind.Answered
 
 -- a refusal's word, and the place of what is refused
 abbrev pub refusal_text : Refusal → List ℕ

@@ -1,8 +1,8 @@
 -- What `make` tells of a generated program and its translation.
 use Rattle.std.specs.Prelude.{◌++◌, ◌-◌, ◌^◌, ℕ, List, codes, length, min}
 use Rattle.std.specs.Fmt.{decimal}
-use Rattle.boogie_text.specs.Asserts.{asserts_in_program}
-use Rattle.enc_stmt.specs.Translates.{program_code, text_of}
+use Rattle.boogie_print.specs.Asserts.{asserts_in_program}
+use Rattle.enc_units.specs.Translates.{program_code, text_of}
 use Rattle.viper_core.specs.Program as p
 use Rattle.viper_core.specs.Weight.{weight}
 

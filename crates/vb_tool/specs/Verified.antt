@@ -16,7 +16,7 @@ use Rattle.viper_meaning.specs.Units.{first_store, first_scene, run_method}
 use Rattle.boogie_tree.specs.Program.{Proc, BProgram}
 use Rattle.boogie_meaning.specs.Programs.{BoogieFails}
 use Rattle.exec_meaning.specs.Frame.{NoUnitFails}
-use Rattle.enc_stmt.specs.Translates.{Translates}
+use Rattle.enc_units.specs.Translates.{Translates}
 
 -- no run of any procedure of this program of Boogie fails
 abbrev pub NoProcedureFails : BProgram → Type 0

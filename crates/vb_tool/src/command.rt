@@ -1,5 +1,5 @@
 // The tool: from the words of a command line to what it writes and the status it ends with.
-ghost use Rattle.std.specs.Prelude.{◌≡◌, ◌⊎◌, ℕ, List, map};
+ghost use Rattle.std.specs.Prelude.{◌≡◌, ◌⊎◌, ℕ, List, map, IfOk, IsErrOf, MatchResult};
 ghost use Rattle.std.specs.String.{string_bytes};
 ghost use Rattle.vb_base.specs.declared.labels.Label.{Label};
 ghost use Rattle.vb_outer.specs.Faults.{Rose};
@@ -10,25 +10,28 @@ ghost use Rattle.viper_core.specs.Program as p;
 ghost use Rattle.viper_core.specs.View.{program_of};
 ghost use Rattle.boogie_grammar.specs.Spells.{BSpells};
 ghost use Rattle.boogie_tree.specs.Program.{BProgram};
-ghost use Rattle.enc_stmt.specs.Translates.{Translates, text_of};
+ghost use Rattle.tool_words.specs.Ends.{Stops};
+ghost use Rattle.tool_words.specs.Written.{Reports};
+ghost use Rattle.enc_units.specs.Translates.{Translates, text_of};
 ghost use Rattle.vb_tool.specs.Accepted.{IsAccepted};
 ghost use Rattle.vb_tool.specs.Command.{Command as CommandOf, Run, Execute, Cut, Condition, Asks, IsNoCommand};
 ghost use Rattle.vb_tool.specs.Conditions.{IsStatement};
 ghost use Rattle.vb_tool.specs.Cuts.{IsCutOfFile};
 ghost use Rattle.vb_tool.specs.Call.{Misses, Refuses, Does, HasDone, IsCause, Causes, EndsAs, EndsWith, OutAfter, ErrAfter};
-ghost use Rattle.vb_tool.specs.Parts.{CanBeWritten, Reports, Delivers, work_status, work_text};
+ghost use Rattle.vb_tool.specs.Parts.{CanBeWritten, Delivers, work_status, work_text};
+ghost use Rattle.vb_tool.specs.Status.{kind_of, line_of};
 ghost use Rattle.vb_tool.specs.Transfer.{IsTransfer};
 ghost use Rattle.vb_tool.specs.Verified.{NoProcedureFails, HasNoFailure};
 
 use crate::outcome::Work;
 use crate::status::{Refusal, Status, line};
-use crate::trouble::Trouble;
 use crate::words::command_of;
 use crate::works::work;
 use boogie_text::EmitFault;
-use enc_stmt::encode_to;
+use enc_stream::encode_to;
 use std::alloc::Global;
-use vb_outer::{Shelf, Sink, write_all};
+use tool_words::{deliver, report};
+use vb_outer::{Shelf, Sink};
 use viper_core::Program;
 
 /// Does what the words ask for, and answers how it ended. The words leave out the program's own name.
@@ -98,45 +101,55 @@ pub fn tool<H: Shelf, O: Sink, E: Sink>(
         (IsCause (map string_bytes words.now.items) (H.files shelf.old) (H.faults shelf.old) (H.faults shelf.new)) result }
     ensures files { H.files shelf.new ≡ H.files shelf.old }
 {
-    answered(alloc, words, shelf, out, err)
+    let answer = done(alloc, words, shelf);
+    ended(alloc, answer, out, err)
 }
 
-/// The same. Files have one answer, so which status comes where a cause stands follows from the causes.
-fn answered<H: Shelf, O: Sink, E: Sink>(
-    alloc: Global,
-    words: &[String],
-    shelf: &mut H,
-    out: &mut O,
-    err: &mut E,
-) -> Status
-    ensures causes { Causes (map string_bytes words.now) (H.files shelf.old) (H.faults shelf.old) (H.faults shelf.new)
-        (Rose (O.faults out.old) (O.faults out.new) ⊎ Rose (E.faults err.old) (E.faults err.new)) result }
-    ensures out { OutAfter (O.written out.old) (O.written out.new) (HasDone (map string_bytes words.now) (H.files shelf.old)) result }
-    ensures err { ErrAfter (E.written err.old) (E.written err.new)
-        (IsCause (map string_bytes words.now) (H.files shelf.old) (H.faults shelf.old) (H.faults shelf.new)) result }
+/// What the words ask for is done, but for writing it, or the status that tells why it is not.
+fn done<H: Shelf>(alloc: Global, words: &[String], shelf: &mut H) -> Result<Work, Status>
+    ensures done { IfOk result (λ w. HasDone (map string_bytes words.now) (H.files shelf.old) (work_status w) (work_text w)) }
+    ensures can_be_written { IfOk result (λ w. CanBeWritten w) }
+    ensures stops { (s : Status) → IsErrOf result s
+        → Stops kind_of (IsCause (map string_bytes words.now) (H.files shelf.old) (H.faults shelf.old) (H.faults shelf.new)) s }
     ensures files { H.files shelf.new ≡ H.files shelf.old }
 {
     let command = match command_of(alloc, words) {
         Ok(Some(command)) => command,
-        Ok(None) => return report(alloc, err, Status::Usage),
-        Err(_) => return Status::NoMemory,
+        Ok(None) => return Err(Status::Usage),
+        Err(_) => return Err(Status::NoMemory),
     };
-    match work(alloc, shelf, command) {
-        Ok(work) => deliver(alloc, out, &work),
-        Err(Trouble::Memory) => Status::NoMemory,
-        Err(Trouble::Read) => report(alloc, err, Status::ReadFault),
-        Err(Trouble::Refused(refusal)) => report(alloc, err, Status::Refused(refusal)),
+    let work = work(alloc, shelf, command)?;
+    Ok(work)
+}
+
+/// Writes the text of what was done, or the line that says why nothing was.
+fn ended<O: Sink, E: Sink>(
+    alloc: Global,
+    done: Result<Work, Status>,
+    out: &mut O,
+    err: &mut E,
+) -> Status
+    requires { IfOk done (λ w. CanBeWritten w) }
+    ensures { MatchResult done
+        (λ w. Delivers (O.written out.old) (O.written out.new) (O.faults out.old) (O.faults out.new) (work_text w) (work_status w) result
+        × (E.written err.new ≡ E.written err.old))
+        (λ s. Reports kind_of (E.written err.old) (E.written err.new) (E.faults err.old) (E.faults err.new) (line_of s) s result
+        × (O.written out.new ≡ O.written out.old)) }
+{
+    match done {
+        Ok(work) => deliver_work(alloc, out, &work),
+        Err(status) => report(err, line(alloc, status), status),
     }
 }
 
 /// Writes the text of a work, whose status is then the answer.
-fn deliver<O: Sink>(alloc: Global, out: &mut O, work: &Work) -> Status
+fn deliver_work<O: Sink>(alloc: Global, out: &mut O, work: &Work) -> Status
     requires { CanBeWritten work.now }
     ensures { Delivers (O.written out.old) (O.written out.new) (O.faults out.old) (O.faults out.new) (work_text work.now) (work_status work.now) result }
 {
     match work {
         Work::Translate(program) => deliver_translation(alloc, out, program),
-        Work::Tell(told) => deliver_text(out, &told.text, told.status),
+        Work::Tell(told) => deliver(out, &told.text, told.status),
     }
 }
 
@@ -149,28 +162,5 @@ fn deliver_translation<O: Sink>(alloc: Global, out: &mut O, program: &Program) -
         Ok(_) => Status::Done,
         Err(EmitFault::Memory) => Status::NoMemory,
         Err(EmitFault::Failed) => Status::WriteFault,
-    }
-}
-
-/// Writes a whole text, whose status is then the answer.
-fn deliver_text<O: Sink>(out: &mut O, text: &[u8], status: Status) -> Status
-    ensures { Delivers (O.written out.old) (O.written out.new) (O.faults out.old) (O.faults out.new) text.now status result }
-{
-    match write_all(out, text) {
-        Ok(()) => status,
-        Err(_) => Status::WriteFault,
-    }
-}
-
-/// Writes the line of a status, which is then the answer.
-fn report<E: Sink>(alloc: Global, err: &mut E, status: Status) -> Status
-    ensures { Reports (E.written err.old) (E.written err.new) (E.faults err.old) (E.faults err.new) status result }
-{
-    match line(alloc, status) {
-        Ok(text) => match write_all(err, text.as_bytes()) {
-            Ok(()) => status,
-            Err(_) => Status::WriteFault,
-        },
-        Err(_) => Status::NoMemory,
     }
 }

@@ -1,7 +1,7 @@
 // What `make` does: a generated program is translated, and how much that comes to is told.
 ghost use Rattle.std.specs.Prelude.{◌≡◌, ◌++◌, IfOk, OnOk, IsErrOf, None, length};
-ghost use Rattle.boogie_text.specs.Asserts.{asserts_in_program};
-ghost use Rattle.enc_stmt.specs.Translates.{program_code, text_of};
+ghost use Rattle.boogie_print.specs.Asserts.{asserts_in_program};
+ghost use Rattle.enc_units.specs.Translates.{program_code, text_of};
 ghost use Rattle.vb_gen.specs.Generated.{IsOutOfRange, program_text};
 ghost use Rattle.viper_core.specs.Formed.{IsFormed};
 ghost use Rattle.viper_core.specs.View.{program_of};
@@ -14,7 +14,7 @@ use crate::outcome::Ending;
 use crate::stages::typed_program;
 use crate::status::{Refusal, Status};
 use crate::trouble::Trouble;
-use enc_stmt::{Written, encode_to};
+use enc_stream::{Written, encode_to};
 use std::alloc::{AllocError, Global};
 use vb_base::Memory;
 use vb_gen::make_program;

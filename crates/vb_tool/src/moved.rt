@@ -5,10 +5,10 @@ ghost use Rattle.viper_meaning.specs.Units.{Opens};
 ghost use Rattle.viper_state.specs.View.{event_of, opening_of};
 ghost use Rattle.moves.specs.Moves.{moves};
 ghost use Rattle.moves.specs.Printable.{IsNamedMove};
-ghost use Rattle.enc_stmt.specs.Opened.{start_settings, IsNamedSetting};
+ghost use Rattle.enc_locals.specs.Opened.{start_settings, IsNamedSetting};
 ghost use Rattle.vb_tool.specs.Moved.{moved_text};
 
-use enc_stmt::{front_procedure, start_env};
+use enc_locals::{front_procedure, start_env};
 use run_file::print_moved_run;
 use std::alloc::Global;
 use vb_base::Memory;

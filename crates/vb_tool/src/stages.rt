@@ -9,7 +9,7 @@ ghost use Rattle.viper_meaning.specs.Units.{Opens};
 ghost use Rattle.viper_state.specs.View.{event_of, opening_of};
 ghost use Rattle.moves.specs.Moves.{moves};
 ghost use Rattle.moves.specs.Printable.{IsNamedMove};
-ghost use Rattle.enc_stmt.specs.Opened.{start_settings, IsNamedSetting};
+ghost use Rattle.enc_locals.specs.Opened.{start_settings, IsNamedSetting};
 ghost use Rattle.vb_tool.specs.Accepted.{IsAccepted, IsTextRefusal, IsRunRefusal};
 ghost use Rattle.vb_tool.specs.AcceptedExecution.{IsFramed, IsUnframedRefusal};
 ghost use Rattle.vb_tool.specs.Moved.{moved_text};

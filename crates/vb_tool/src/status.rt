@@ -5,6 +5,7 @@ ghost use Rattle.vb_tool.specs.Status.{line_of};
 
 use std::alloc::{AllocError, Global};
 use std::fmt;
+use tool_words::CallStatus;
 use vb_base::{Label, Pos};
 use viper_syntax::LexFault;
 
@@ -154,6 +155,37 @@ impl fmt::Display for Status {
             | Status::Over
             | Status::Spent => Ok(()),
         }
+    }
+}
+
+impl From<boogie_file::Refusal> for Refusal {
+    ghost use Rattle.vb_tool.specs.BoogieRefusals.{refusal_of_boogie};
+
+    ghost from_gives = { λ refusal e. e ≡ refusal_of_boogie refusal };
+
+    fn from(refusal: boogie_file::Refusal) -> Refusal {
+        match refusal {
+            boogie_file::Refusal::Size => Refusal::Size,
+            boogie_file::Refusal::Prelude(at) => Refusal::Prelude(at),
+            boogie_file::Refusal::Deep(at) => Refusal::Deep(at),
+            boogie_file::Refusal::BoogieSyntax(at) => Refusal::BoogieSyntax(at),
+            boogie_file::Refusal::BoogieType(number) => Refusal::BoogieType(number),
+            boogie_file::Refusal::NoProcedure => Refusal::NoProcedure,
+        }
+    }
+}
+
+impl CallStatus for Status {
+    ghost use Rattle.vb_tool.specs.Status.{kind_of};
+
+    ghost kind = { kind_of };
+
+    fn write_fault() -> Self {
+        Status::WriteFault
+    }
+
+    fn no_memory() -> Self {
+        Status::NoMemory
     }
 }
 

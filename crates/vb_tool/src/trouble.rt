@@ -1,9 +1,9 @@
 // Why a command did not do its work.
 ghost use Rattle.std.specs.Prelude.{◌≡◌};
 ghost use Rattle.vb_tool.specs.declared.trouble.Trouble.TheVariants as trouble;
-ghost use Rattle.vb_tool.specs.Converted.{trouble_of_file, trouble_of_lex, trouble_of_parse, trouble_of_types, trouble_of_boogie, trouble_of_run, trouble_of_making};
+ghost use Rattle.vb_tool.specs.Converted.{trouble_of_file, trouble_of_lex, trouble_of_parse, trouble_of_types, trouble_of_boogie, trouble_of_boogie_file, trouble_of_run, trouble_of_making, status_of_trouble};
 
-use crate::status::Refusal;
+use crate::status::{Refusal, Status};
 use boogie_text::BoogieFault;
 use run_file::RunFileFault;
 use vb_base::Memory;
@@ -19,26 +19,6 @@ pub enum Trouble {
     /// One of them could not be read.
     Read,
     Refused(Refusal),
-}
-
-impl From<Memory> for Trouble {
-    ghost from_gives = { λ _ e. e ≡ trouble.Memory };
-
-    fn from(_: Memory) -> Trouble {
-        Trouble::Memory
-    }
-}
-
-impl From<FileFault> for Trouble {
-    ghost from_gives = { λ fault e. e ≡ trouble_of_file fault };
-
-    fn from(fault: FileFault) -> Trouble {
-        match fault {
-            FileFault::Memory => Trouble::Memory,
-            FileFault::Failed => Trouble::Read,
-            FileFault::Long => Trouble::Refused(Refusal::Size),
-        }
-    }
 }
 
 impl From<LexFault> for Trouble {
@@ -106,6 +86,50 @@ impl From<GenFault> for Trouble {
         match fault {
             GenFault::Memory => Trouble::Memory,
             GenFault::Range => Trouble::Refused(Refusal::Range),
+        }
+    }
+}
+
+impl From<boogie_file::Trouble> for Trouble {
+    ghost from_gives = { λ trouble e. e ≡ trouble_of_boogie_file trouble };
+
+    fn from(trouble: boogie_file::Trouble) -> Trouble {
+        match trouble {
+            boogie_file::Trouble::Memory => Trouble::Memory,
+            boogie_file::Trouble::Read => Trouble::Read,
+            boogie_file::Trouble::Refused(refusal) => Trouble::Refused(Refusal::from(refusal)),
+        }
+    }
+}
+
+impl From<FileFault> for Trouble {
+    ghost from_gives = { λ fault e. e ≡ trouble_of_file fault };
+
+    fn from(fault: FileFault) -> Trouble {
+        match fault {
+            FileFault::Memory => Trouble::Memory,
+            FileFault::Failed => Trouble::Read,
+            FileFault::Long => Trouble::Refused(Refusal::Size),
+        }
+    }
+}
+
+impl From<Memory> for Trouble {
+    ghost from_gives = { λ _ e. e ≡ trouble.Memory };
+
+    fn from(_: Memory) -> Trouble {
+        Trouble::Memory
+    }
+}
+
+impl From<Trouble> for Status {
+    ghost from_gives = { λ trouble e. e ≡ status_of_trouble trouble };
+
+    fn from(trouble: Trouble) -> Status {
+        match trouble {
+            Trouble::Memory => Status::NoMemory,
+            Trouble::Read => Status::ReadFault,
+            Trouble::Refused(refusal) => Status::Refused(refusal),
         }
     }
 }

@@ -4,7 +4,7 @@ ghost use Rattle.vb_outer.specs.Faults.{Rose};
 ghost use Rattle.vb_outer.specs.Shelf.{IsMissing, IsWhole, IsLonger};
 ghost use Rattle.viper_core.specs.Formed.{IsFormed};
 ghost use Rattle.viper_core.specs.View.{program_of};
-ghost use Rattle.enc_stmt.specs.Translates.{text_of};
+ghost use Rattle.enc_units.specs.Translates.{text_of};
 ghost use Rattle.vb_tool.specs.Budget.{max_execution_budget};
 ghost use Rattle.vb_tool.specs.Call.{Misses, NamesFile, Refuses, Does, Promises};
 ghost use Rattle.vb_tool.specs.Command.{Translate, Run, Replay, Make, Execute, Cut, Condition};

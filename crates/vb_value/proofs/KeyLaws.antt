@@ -1,8 +1,7 @@
 -- The order of keys tells them apart exactly.
 use Rattle.std.proofs.Common.{◌≡◌, List, [], ◌∷◌, refl, ap}
-use Rattle.std.specs.Ordering.{is_eq, ordering_then, nat_cmp, bool_cmp}
-use Rattle.std.specs.declared.cmp.Ordering.{Ordering}
-use Rattle.std.specs.declared.cmp.Ordering.TheVariants.{Less, Equal, Greater}
+use Rattle.std.specs.Ordering.{is_eq, nat_cmp, bool_cmp}
+use Rattle.std.specs.declared.cmp.Ordering.TheVariants.{Equal}
 use Rattle.std.proofs.lemmas.Cmp.{ranked, tied_itself}
 use Rattle.std.proofs.lemmas.Bool.Decides.{Decides-int_eq}
 use Rattle.vb_value.specs.Key.{part_cmp, key_cmp}
@@ -12,6 +11,7 @@ use Rattle.vb_value.specs.declared.keys.KeyPart.TheVariants.{Int, Bool as Truth,
 use Rattle.std.specs.Prelude.{ℕ, Bool, true, false}
 use Rattle.std.specs.Ordering.{MatchOrdering}
 use Rattle.std.proofs.Common.{subst, ◌<◌}
+use Rattle.lemmas.proofs.Orders.{both_equal}
 
 same_from_nat_cmp : (a b : ℕ) → nat_cmp a b ≡ Equal → a ≡ b
 same_from_nat_cmp a b e = subst (λ o. MatchOrdering o (a < b) (a ≡ b) (b < a)) e (ranked a b (nat_cmp a b) refl)
@@ -27,11 +27,6 @@ same_from_part_cmp (Int a) (Int b) e = ap Int ((Decides-int_eq a b).0 (ap is_eq 
 same_from_part_cmp (Truth a) (Truth b) e = ap Truth (same_from_bool_cmp a b e)
 same_from_part_cmp (Ref a) (Ref b) e = ap Ref (same_from_nat_cmp a b e)
 same_from_part_cmp _ _ e = cc
-
-both_equal : (a b : Ordering) → ordering_then a b ≡ Equal → (a ≡ Equal) × (b ≡ Equal)
-both_equal Less b e = cc
-both_equal Equal b e = (refl, e)
-both_equal Greater b e = cc
 
 pub same_from_key_cmp : (xs ys : List KeyPart) → key_cmp xs ys ≡ Equal → xs ≡ ys
 same_from_key_cmp [] [] e = refl

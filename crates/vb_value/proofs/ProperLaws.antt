@@ -1,8 +1,9 @@
 -- Operations on proper fractions give proper ones, where they fit.
-use Rattle.std.proofs.Common.{◌≡◌, ◌≢◌, ap, ◌∙◌, arith, true, ℤ, pos, neg_ℤ, ◌*ℤ◌, unsigned_abs}
+use Rattle.std.proofs.Common.{◌≡◌, ◌≢◌, ap, ◌∙◌, arith, true, ℤ, pos, neg_ℤ, ◌*ℤ◌}
 use Rattle.std.proofs.lemmas.Int.{ints}
 use Rattle.std.proofs.Math.IntN.{*ℤ_comm}
 use Rattle.std.proofs.Math.Nat.{mul-pos}
+use Rattle.lemmas.proofs.Numbers.{size_of_negative}
 use Rattle.vb_value.specs.Bound.{Bound, Unbounded, Bounded, IfBounded, IsWithin}
 use Rattle.vb_value.specs.Fraction.{Fraction, IsReduced, IsProperFraction, IsRepresentable, whole, sum, difference, product, quotient, quotient_by, fits_sum, fits_difference, fits_product, fits_quotient, fits_quotient_by}
 use Rattle.vb_value.specs.Gcd.{gcd}
@@ -29,11 +30,8 @@ pub IsReduced-quotient_by : (p : Fraction) (n : ℤ) → IsReduced p → n ≢ p
 IsReduced-quotient_by p n in_p nonzero =
     IsReduced-ratio p.num (pos p.den *ℤ n) (λ e. *ℤ_nonzero n p.den in_p.positive nonzero (*ℤ_comm n (pos p.den) ∙ e))
 
-size-negative : (z : ℤ) → unsigned_abs (neg_ℤ z) ≡ unsigned_abs z
-size-negative z = omega (arith, ints)
-
 pub IsReduced-negative : (q : Fraction) → IsReduced q → IsReduced (record { num = neg_ℤ q.num; den = q.den })
-IsReduced-negative q h = record { positive = h.positive; coprime = ap (λ m. gcd m q.den) (size-negative q.num) ∙ h.coprime }
+IsReduced-negative q h = record { positive = h.positive; coprime = ap (λ m. gcd m q.den) (size_of_negative q.num) ∙ h.coprime }
 
 -- ---- and the bound, where there is one
 
@@ -44,7 +42,7 @@ pub proper_whole : (b : Bound) (n : ℤ) → IfBounded b (IsWithin n) → IsProp
 proper_whole Unbounded n w = record { reduced = IsReduced-whole n; within = tt }
 proper_whole Bounded n w = record { reduced = IsReduced-whole n; within = record { num = w; den = omega arith } }
 
-negative_within : (n : ℤ) → IsWithin n → IsWithin (neg_ℤ n)
+pub negative_within : (n : ℤ) → IsWithin n → IsWithin (neg_ℤ n)
 negative_within n h = omega (arith, ints)
 
 pub proper_negative : (b : Bound) (q : Fraction) → IsProperFraction b q → IsProperFraction b (record { num = neg_ℤ q.num; den = q.den })

@@ -1,8 +1,10 @@
 -- An operation whose products fit keeps the bound, and some operations always fit.
-use Rattle.std.proofs.Common.{◌≡◌, ℕ, ◌*◌, ◌<◌, ◌^◌, refl, sym, ap, subst, ◌∙◌, arith, ℤ, pos, negsuc, neg_ℤ, ◌+ℤ◌, ◌-ℤ◌, ◌*ℤ◌, unsigned_abs, Bool, true, false, ◌&&◌, ◌≢◌}
+use Rattle.std.proofs.Common.{◌≡◌, ℕ, ◌*◌, ◌<◌, ◌^◌, sym, ap, subst, ◌∙◌, arith, ℤ, pos, negsuc, neg_ℤ, ◌+ℤ◌, ◌-ℤ◌, ◌*ℤ◌, unsigned_abs, true, ◌&&◌, ◌≢◌}
 use Rattle.std.proofs.lemmas.Int.{ints}
 use Rattle.std.proofs.Math.Nat.{mul-pos}
 use Rattle.std.proofs.Math.IntN.{*ℤ_comm}
+use Rattle.std.proofs.lemmas.Bool.{and_from}
+use Rattle.lemmas.proofs.Tests.{and_parts as parts}
 use borrow.Author.Tests.{ltb-true, lt-ltb}
 use Rattle.vb_value.specs.Bound.{IsWithin, is_within}
 use Rattle.vb_value.specs.Fraction.{Fraction, IsWithinFraction, IsRepresentable, ratio, whole, none, write, sum, difference, product, quotient, quotient_by, fits_sum, fits_difference, fits_product, fits_quotient, fits_quotient_by, fits_order}
@@ -14,13 +16,6 @@ within_from z e = ltb-true (unsigned_abs z) (2 ^ 127) e
 
 pub is_within_from : (z : ℤ) → IsWithin z → is_within z ≡ true
 is_within_from z h = lt-ltb (unsigned_abs z) (2 ^ 127) h
-
-parts : (s t : Bool) → (s && t) ≡ true → (s ≡ true) × (t ≡ true)
-parts true t e = (refl, e)
-parts false t e = cc
-
-both_true : (s t : Bool) → s ≡ true → t ≡ true → (s && t) ≡ true
-both_true s t e f = rw (e, f) refl
 
 -- ---- results within the bound
 
@@ -65,16 +60,16 @@ IsRepresentable-quotient_by p n in_p num nonzero fits =
 -- a comparison with none or with write
 pub fits_order-none : (q : Fraction) → IsWithinFraction q → fits_order q none ≡ true
 fits_order-none q h =
-    both_true _ _ (is_within_from (q.num *ℤ pos 1) (subst IsWithin (sym (*ℤ_one q.num)) h.num)) (is_within_from (pos 0 *ℤ pos q.den) (omega arith))
+    and_from _ _ (is_within_from (q.num *ℤ pos 1) (subst IsWithin (sym (*ℤ_one q.num)) h.num)) (is_within_from (pos 0 *ℤ pos q.den) (omega arith))
 
 pub fits_order-write : (q : Fraction) → IsWithinFraction q → fits_order q write ≡ true
 fits_order-write q h =
-    both_true _ _ (is_within_from (q.num *ℤ pos 1) (subst IsWithin (sym (*ℤ_one q.num)) h.num)) (is_within_from (pos 1 *ℤ pos q.den) (omega (arith, h.den)))
+    and_from _ _ (is_within_from (q.num *ℤ pos 1) (subst IsWithin (sym (*ℤ_one q.num)) h.num)) (is_within_from (pos 1 *ℤ pos q.den) (omega (arith, h.den)))
 
 -- a product with write
 pub fits_product-write : (q : Fraction) → IsWithinFraction q → fits_product write q ≡ true
 fits_product-write q h =
-    both_true _ _ (is_within_from (pos 1 *ℤ q.num) (subst IsWithin (sym (one-*ℤ q.num)) h.num)) (is_within_from (pos (1 * q.den)) (omega (arith, h.den)))
+    and_from _ _ (is_within_from (pos 1 *ℤ q.num) (subst IsWithin (sym (one-*ℤ q.num)) h.num)) (is_within_from (pos (1 * q.den)) (omega (arith, h.den)))
 
 -- a quotient by a whole number fits where that by its fraction does
 pub fits_quotient-whole : (p : Fraction) (n : ℤ) → IsWithinFraction p → fits_quotient_by p n ≡ fits_quotient p (whole n)

@@ -1,8 +1,8 @@
 -- Laws of the signs of amounts: a comparison tells them, and what is added, multiplied, or taken where enough is there, is not negative.
 use Rattle.std.proofs.Common.{◌≡◌, ℕ, zero, suc, ◌*◌, refl, sym, ap, ◌∙◌, arith, ℤ, pos, negsuc, ◌+ℤ◌, ◌-ℤ◌, ◌*ℤ◌, ◌≤ℤ◌, true, false}
 use Rattle.std.proofs.lemmas.Int.{ints}
-use Rattle.std.proofs.lemmas.Cmp.{int_ranked, by_ranked}
 use Rattle.std.specs.Ordering.{int_cmp, is_lt, is_eq, is_gt}
+use Rattle.lemmas.proofs.Numbers.{not_less}
 use Rattle.vb_value.specs.Fraction.{Fraction, reduced, sum, difference, product, order, is_below_zero, is_above_zero, is_negative, is_positive, is_none, is_above_one, none, write}
 use Rattle.vb_value.proofs.IntLaws.{*ℤ_one, one-*ℤ}
 use Rattle.vb_value.proofs.OrderLaws.{is_greater}
@@ -24,10 +24,6 @@ not_below-product : (x y : ℤ) → is_below_zero x ≡ false → is_below_zero 
 not_below-product (pos m) (pos n) e f = refl
 not_below-product (pos m) (negsuc n) e f = cc
 not_below-product (negsuc m) y e f = cc
-
-not_less : (x y : ℤ) → is_lt (int_cmp x y) ≡ false → y ≤ℤ x
-not_less x y e =
-    by_ranked _ _ _ (int_cmp x y) (int_ranked x y (int_cmp x y) refl) (λ less h. let f : true ≡ false = ap is_lt (sym less) ∙ e in cc) (λ equal h. omega (arith, ints)) (λ greater h. omega (arith, ints))
 
 -- lowest terms keep the sign
 not_below-reduced : (n : ℤ) (d : ℕ) → is_below_zero n ≡ false → is_negative (reduced n d) ≡ false

@@ -1,15 +1,12 @@
 -- What a formed program keeps, said of one of its parts.
 use Rattle.std.proofs.Common.{◌≡◌, ℕ, List, Option, Some, All, IfSome, IsTrue, not, slice_get, get_or, subst}
 use Rattle.std.proofs.lemmas.Bool.{and_parts}
-use Rattle.std.proofs.lemmas.Option.{slice_get_within, get_or_from_slice_get}
+use Rattle.lemmas.proofs.Lists.{at_item}
 use Rattle.vb_base.specs.Names.{is_name, is_word}
 use Rattle.viper_core.specs.Expr as t
 use Rattle.viper_core.specs.Program.{Program, Predicate, Method, Body}
 use Rattle.viper_core.specs.Typing.{IsAssertion}
 use Rattle.viper_core.specs.Formed.{predicate_context, IsPredicate, IsMethod, IsBody, AreNames, IsTypedProgram}
-
-pub at_item : {X : Type 0} (P : X → Type 0) (xs : List X) → All P xs → (k : ℕ) (x : X) → slice_get xs k ≡ Some x → P x
-at_item P xs all k x is = subst P (get_or_from_slice_get xs k x x is) (all k x (slice_get_within xs k x is))
 
 pub at_some : {X : Type 0} (P : X → Type 0) (o : Option X) → IfSome o P → (x : X) → o ≡ Some x → P x
 at_some {X} P o held x is = let Q : Option X → Type 0 = λ p. IfSome p P in subst Q is held

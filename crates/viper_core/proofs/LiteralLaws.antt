@@ -72,7 +72,7 @@ assertion_literals I F z c h i = in_assertion I F z (in_bodies I F z c h) i
 
 -- ---- they are proper, and within the bound
 
-if_bounded : {P : Type 0} (b : Bound) → P → IfBounded b P
+pub if_bounded : {P : Type 0} (b : Bound) → P → IfBounded b P
 if_bounded Unbounded h = tt
 if_bounded Bounded h = h
 

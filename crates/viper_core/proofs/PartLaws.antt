@@ -25,7 +25,7 @@ predicate_has_context p h k d exists = record {
   few = (predicate_of_typed p h.typed k d exists).few;
 }
 
-at_least : (sc : Scope) (b : Option Body) → sc.fresh ≤ variables_of sc b
+pub at_least : (sc : Scope) (b : Option Body) → sc.fresh ≤ variables_of sc b
 at_least sc None = omega arith
 at_least sc (Some b) = fresh-stmts_scope sc b.stmts
 

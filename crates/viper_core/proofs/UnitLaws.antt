@@ -1,6 +1,7 @@
 -- The units of a program are its methods and its predicates with a body.
 use Rattle.std.proofs.Common.{◌≡◌, ◌<◌, ◌+◌, ℕ, zero, suc, Bool, true, false, if◌then◌else◌, List, [], ◌∷◌, Option, Some, None, is_some, slice_get, Contains, length, refl, subst, arith}
 use Rattle.std.proofs.lemmas.List.FromFn.{length-range_with_len, get_or-range_with_len}
+use Rattle.lemmas.proofs.Lists.{item_there}
 use Rattle.viper_core.specs.declared.programs.Unit as u
 use Rattle.viper_core.specs.declared.programs.Unit.TheVariants as unit
 use Rattle.viper_core.specs.Expr as t
@@ -36,14 +37,9 @@ method_among (unit.Predicate n ∷ units) zero k is = absurd (cc)
 method_among (unit.Method n ∷ units) (suc i) k is = contains_next n k (methods_among units) (method_among units i k is)
 method_among (unit.Predicate n ∷ units) (suc i) k is = method_among units i k is
 
-some_at : {X : Type 0} (xs : List X) (k : ℕ) → k < length xs → (x : X) × (slice_get xs k ≡ Some x)
-some_at [] k within = absurd (omega (arith, within))
-some_at (x ∷ xs) zero within = (x, refl)
-some_at (x ∷ xs) (suc k) within = some_at xs k (omega (arith, within))
-
 pub unit_method : (p : Program) → HasUnits p → (i k : ℕ) → slice_get p.units i ≡ Some (unit.Method k) → (m : Method) × (slice_get p.methods k ≡ Some m)
 unit_method p h i k is =
-    some_at p.methods k (below-lt (length p.methods) k (subst (λ ns. Contains ns k) h.methods (method_among p.units i k is)))
+    item_there p.methods k (below-lt (length p.methods) k (subst (λ ns. Contains ns k) h.methods (method_among p.units i k is)))
 
 -- ---- predicates with a body
 

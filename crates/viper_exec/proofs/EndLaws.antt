@@ -1,14 +1,14 @@
 -- Where an execution begins, and how it ended.
-use Rattle.std.proofs.Common.{◌≡◌, refl, sym, ap, ◌∙◌, subst, arith, inl, inr, ◌⊎◌, ℕ, zero, suc, ◌+◌, ◌-◌, ◌<◌, ◌≤◌, length, drop, map, true, false, List, [], Result, Ok, Err, IsErr, slice_get, if◌then◌else◌}
+use Rattle.std.proofs.Common.{◌≡◌, refl, sym, ap, ◌∙◌, subst, arith, inl, inr, ◌⊎◌, ℕ, zero, suc, ◌+◌, ◌-◌, ◌<◌, ◌≤◌, length, true, false, List, [], Result, Ok, Err, IsErr, slice_get, if◌then◌else◌}
 use Rattle.std.specs.Prelude.{⊤}
-use Rattle.std.proofs.lemmas.List.{length-drop, length-map}
+use Rattle.viper_run.proofs.UnitLaws.{all_left}
+use Rattle.viper_meaning.proofs.FoundLaws.{since_nothing}
 use Rattle.vb_base.specs.declared.names.Memory.{Memory}
 use Rattle.vb_value.specs.Bound.{Bounded}
 use Rattle.viper_core.specs.Program.{Program, Method, Body}
 use Rattle.viper_state.specs.Run.{Feed, Opening}
 use Rattle.viper_state.specs.State.{State}
-use Rattle.viper_state.specs.View.{choice_of, feed_of, state_of}
-use Rattle.viper_state.specs.declared.runs.Choice.{Choice as ChoiceOf}
+use Rattle.viper_state.specs.View.{feed_of, state_of}
 use Rattle.viper_state.specs.declared.runs.Feed.{Feed as FeedOf}
 use Rattle.viper_meaning.specs.Ends.{found, is}
 use Rattle.viper_meaning.specs.Run as m
@@ -121,9 +121,6 @@ module _ {X : Type 0} {f : Feed} {r : ℕ → Run (Went X)} {n left : ℕ} {last
 
 -- ---- how it ended
 
-since_nothing : {X : Type 0} (n : Ran X) → since [] n ≡ n
-since_nothing (ran es step left) = refl
-
 stopped_alike : (X Y : Type 0) (w : End) → end_of (stopped {X = Went X} w) ≡ end_of (stopped {X = Went Y} w)
 stopped_alike X Y (stop.Fails l) = refl
 stopped_alike X Y stop.Blocked = refl
@@ -153,9 +150,6 @@ same_told a b h = cc
 
 no_error : (o : ExecEnd) → IsErr {T = ExecEnd} {E = Memory} (Ok o) → ⊥
 no_error o h = cc
-
-all_left : (cs : List ChoiceOf) (n : ℕ) → length cs - n ≡ length (map choice_of (drop n cs))
-all_left cs n = sym (length-map (drop n cs) choice_of ∙ length-drop n cs)
 
 module _ (f : Feed) (r : ℕ → Run (Went State)) (n : ℕ) (g : FeedOf) (left : ℕ) (x : Executed) (first : f.events ≡ []) (taken : x.spent ≡ n - left) (unused : x.unused ≡ length g.choices.items - g.next) where
   ran_is : {q : Ran (Went State)} → run_of (r n) f ≡ q → on (r n) f.left ≡ q

@@ -1,5 +1,6 @@
 -- Blocks, loops and calls unfold as if bodies could nest without end, and loops turn without end: a budget is deep enough for itself.
 use Rattle.std.proofs.Common.{◌≡◌, refl, sym, ap, ◌∙◌, arith, ℕ, zero, suc, ◌+◌, ◌-◌, ◌≤◌, Bool, true, false, List, ◌∷◌, ◌++◌, slice_get, if◌then◌else◌}
+use Rattle.lemmas.proofs.Tests.{if_same}
 use Rattle.vb_base.specs.declared.places.Pos.{Pos}
 use Rattle.vb_value.specs.Bound.{Bounded}
 use Rattle.vb_value.specs.declared.values.Value.{Value}
@@ -8,16 +9,13 @@ use Rattle.viper_core.specs.Program.{Method, Body}
 use Rattle.viper_core.specs.Stmt as s
 use Rattle.viper_state.specs.Run.{with_variables}
 use Rattle.viper_meaning.specs.Ends.{found}
-use Rattle.viper_meaning.specs.Kept as kept
-use Rattle.viper_meaning.specs.Kept.{IsAny}
-use Rattle.viper_meaning.specs.KeptRuns.{KeepsRun, at_end, later}
-use Rattle.viper_meaning.specs.Run.{Run, ended, takes, goes, before, then_do}
+use Rattle.viper_meaning.specs.Run.{Run, ended, goes, then_do}
 use Rattle.viper_meaning.specs.Statements.{Activation, Configuration, scene, consume_all, taking_values, called, run_stmt}
 use Rattle.viper_meaning.specs.Units.{first_store}
 use Rattle.viper_meaning.specs.Value.{values, truth_in}
 use Rattle.viper_meaning.proofs.ThenLaws.{then_then, then_same, goes_then}
 use Rattle.exec_meaning.specs.Execution.{Went, Still, Spent, with_went, going_on, keeping, beginning, asserting, Bodies, returns_in, exec_call, exec_called, exec_turns, exec_stmt, exec_block, bodies_within}
-use Rattle.exec_meaning.proofs.BudgetDepthLaws.{IsLeft, LeavesAtMost, stmt_left, block_left, within_left, deeper_block}
+use Rattle.exec_meaning.proofs.BudgetDepthLaws.{IsLeft, LeavesAtMost, stmt_left, block_left, within_left, deeper_block, same_after}
 use Rattle.viper_exec.specs.Frames.{Caller, Frame, Block, Turn, End, Return, Machine, bodies, block, turns, turned, configuration_at, resume, doing, doing_plain, turning, calling, calling_bare}
 use Rattle.viper_exec.specs.Steps.{call_begun, returns_taken, entry_of}
 
@@ -40,17 +38,6 @@ begun_same (suc n) e = e n
 
 keeping_then : {X Y : Type 0} (n : ℕ) (r : Run X) (go : ℕ → X → Run (Went Y)) → going_on (keeping n r) go ≡ then_do r (go n)
 keeping_then n r go = then_then r (λ x. goes (Still n x)) (λ w. with_went w go) ∙ then_same r (λ x. goes_then (Still n x) (λ w. with_went w go))
-
-if_same : {X : Type 0} (b : Bool) {r u p q : X} → r ≡ p → u ≡ q → (if b then r else u) ≡ (if b then p else q)
-if_same true e f = e
-if_same false e f = f
-
-same_after : {X Y : Type 0} {P : X → Type 0} {r : Run X} {f g : X → Run Y} → KeepsRun IsAny IsAny P r → ((x : X) → P x → f x ≡ g x) → then_do r f ≡ then_do r g
-same_after (at_end (kept.value h p)) e = ap (before _) (e _ p)
-same_after (at_end (kept.failure h)) e = refl
-same_after (at_end (kept.blocked h)) e = refl
-same_after (at_end (kept.over h)) e = refl
-same_after (later {events = es} h k) e = λ i. takes es (λ c. same_after (k c tt) e i)
 
 going_same : {X Y : Type 0} (r : Run (Went X)) {f g : ℕ → X → Run (Went Y)} → ((n : ℕ) (x : X) → f n x ≡ g n x) → going_on r f ≡ going_on r g
 going_same r {f = f} {g = g} e = then_same r by

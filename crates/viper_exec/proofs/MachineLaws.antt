@@ -32,7 +32,7 @@ use Rattle.viper_exec.specs.declared.answers.Quit.{Quit}
 use Rattle.viper_exec.specs.declared.answers.Quit.TheVariants as quit
 use Rattle.viper_exec.specs.declared.frames.Frame as frame
 use Rattle.viper_exec.specs.Answers.{Executes, Advances, HasBegun, Steps, goes_on, ends}
-use Rattle.viper_exec.specs.Frames.{Caller, Frame, Block, Turn, End, Return, Machine, IsReadyMachine, IsReadyFrame, AreReady, bodies, resume, going, doing, doing_plain, turning, calling, calling_bare, returned_to, activation_at, frame_steps, steps_of, steps_in, steps_left}
+use Rattle.viper_exec.specs.Frames.{Caller, Frame, Block, Turn, End, Return, Machine, IsReadyMachine, IsReadyFrame, AreReady, bodies, resume, going, doing, doing_plain, turning, turning_from, calling, calling_bare, returned_to, activation_at, frame_steps, steps_of, steps_in, steps_left}
 use Rattle.viper_exec.specs.Steps.{IsReadyBody, asserted, call_begun, entry_of}
 use Rattle.viper_exec.specs.View.{frame_of, frames_over}
 use Rattle.viper_exec.proofs.TakesLaws.{Reaches, takes_after, same_runs, after, then_executes, first_goes, first_stops, begins, nothing_left}
@@ -185,20 +185,23 @@ module _ (k : Activation) (c : Configuration) (frames : List Frame) where
     abbrev w : s.Loop
     w = s.loop at guard invariants body turn targets
 
+    -- the invariants are asserted, before the loop and at the end of a turn
+    module _ {f g : Feed} (n : ℕ) (from : Pos) where
+      pub invariants_stop : {q : Halt} → Does {X = ⊤} (λ x. x) f (asserted invariants c.state (scene k c from)) g (Err q) → Executes {X = Configuration} (λ c. c) f n (turning_from here from w) g n (Err (quit.Halts q))
+      invariants_stop h = assert_stops invariants c.state (scene k c from) (turning here w) (λ j. refl) n h
+
+      pub invariants_hold : {X : Type 0} {h : Feed} {left most : ℕ} {there : Machine} {q : Result X Quit} {x : ⊤} → Does (λ x. x) f (asserted invariants c.state (scene k c from)) g (Ok x) →
+          Steps g n (turning here w) most h left there q → Steps f n (turning_from here from w) most h left there q
+      invariants_hold d i = then_steps (asserts invariants c.state (scene k c from) (turning here w) (λ j. refl) n d) (omega arith) i
+
+    module _ {f h : Feed} (n : ℕ) {X : Type 0} {left most : ℕ} {there : Machine} {q : Result X Quit} where
+      pub entered : Steps f n (turning_from here at w) most h left there q → Steps f n (doing here (s.While w)) most h left there q
+      entered i = then_steps (same_runs n (loop_entered k frames c at guard invariants body turn targets)) (omega arith) i
+
+      pub turned_on : Steps f n (turning_from here turn w) most h left there q → Steps f n (λ n. resume (Turn w ∷ frames) k n c) most h left there q
+      turned_on i = then_steps (same_runs n (turn_ended k frames c at guard invariants body turn targets)) (omega arith) i
+
     module _ {f g : Feed} (n : ℕ) where
-      pub entering_stops : {q : Halt} → Does {X = ⊤} (λ x. x) f (asserted invariants c.state (scene k c at)) g (Err q) → Executes {X = Configuration} (λ c. c) f n (doing here (s.While w)) g n (Err (quit.Halts q))
-      entering_stops h = assert_stops invariants c.state (scene k c at) (turning here w) (loop_entered k frames c at guard invariants body turn targets) n h
-
-      pub ending_stops : {q : Halt} → Does {X = ⊤} (λ x. x) f (asserted invariants c.state (scene k c turn)) g (Err q) → Executes {X = Configuration} (λ c. c) f n (λ n. resume (Turn w ∷ frames) k n c) g n (Err (quit.Halts q))
-      ending_stops h = assert_stops invariants c.state (scene k c turn) (turning here w) (turn_ended k frames c at guard invariants body turn targets) n h
-
-      module _ {X : Type 0} {h : Feed} {left most : ℕ} {there : Machine} {q : Result X Quit} {x : ⊤} where
-        pub entered : Does (λ x. x) f (asserted invariants c.state (scene k c at)) g (Ok x) → Steps g n (turning here w) most h left there q → Steps f n (doing here (s.While w)) most h left there q
-        entered d i = then_steps (asserts invariants c.state (scene k c at) (turning here w) (loop_entered k frames c at guard invariants body turn targets) n d) (omega arith) i
-
-        pub turned_on : Does (λ x. x) f (asserted invariants c.state (scene k c turn)) g (Ok x) → Steps g n (turning here w) most h left there q → Steps f n (λ n. resume (Turn w ∷ frames) k n c) most h left there q
-        turned_on d i = then_steps (asserts invariants c.state (scene k c turn) (turning here w) (turn_ended k frames c at guard invariants body turn targets) n d) (omega arith) i
-
       pub guard_stops : {q : Halt} → Does {X = Bool} (λ b. b) f (ended (truth_in Bounded guard c.state (scene k c at))) g (Err q) → Executes {X = Configuration} (λ c. c) f n (turning here w) g n (Err (quit.Halts q))
       guard_stops h = first_stops n (turn_or_end k frames c at guard invariants body turn targets) (turn_next k frames c at guard invariants body turn targets) h
 

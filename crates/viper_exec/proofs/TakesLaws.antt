@@ -1,36 +1,24 @@
 -- How an execution goes on, for each budget.
-use Rattle.std.proofs.Common.{◌≡◌, refl, sym, ap, ◌∙◌, subst, arith, inl, inr, ◌⊎◌, ℕ, zero, suc, ◌+◌, ◌-◌, ◌<◌, ◌≤◌, true, List, Result, Ok, Err, IsErrAnd}
+use Rattle.std.proofs.Common.{◌≡◌, refl, sym, ap, ◌∙◌, subst, arith, inl, inr, ◌⊎◌, ℕ, zero, suc, ◌+◌, ◌-◌, ◌<◌, ◌≤◌, true, Result, Ok, Err, IsErrAnd}
 use Rattle.std.proofs.lemmas.Bool.{false≢true, cases_lt}
 use Rattle.std.proofs.lemmas.List.{append-nil}
 use Rattle.std.proofs.lemmas.Result.{err_from_is_err_and}
-use Rattle.viper_state.specs.Choice.{Choice}
-use Rattle.viper_state.specs.Event.{Event}
+use Rattle.viper_inhale.proofs.DoesLaws.{run_then, stopped_then}
 use Rattle.viper_state.specs.Run.{Feed}
 use Rattle.viper_meaning.specs.Run as m
-use Rattle.viper_meaning.specs.Run.{Run, then_do, Ran, ran, since, on, then_ran}
-use Rattle.viper_meaning.proofs.RunLaws.{on-then, then-since}
+use Rattle.viper_meaning.specs.Run.{Run, then_do, Ran, ran, on, then_ran}
+use Rattle.viper_meaning.proofs.RunLaws.{on-then}
 use Rattle.exec_meaning.specs.Execution.{Went, Still, Spent, with_went, going_on, beginning}
 use Rattle.exec_meaning.specs.Budget.{is_spent}
 use Rattle.exec_meaning.proofs.BudgetCutLaws.{spent_since}
 use Rattle.viper_inhale.specs.Answers as run_answers
-use Rattle.viper_inhale.specs.Answers.{run_of, stopped, Does}
+use Rattle.viper_inhale.specs.Answers.{run_of, Does}
 use Rattle.viper_inhale.specs.declared.answers.Halt.{Halt}
-use Rattle.viper_inhale.specs.declared.answers.Stop.{Stop}
-use Rattle.viper_inhale.specs.declared.answers.Stop.TheVariants as stop
 use Rattle.viper_exec.specs.declared.answers.Quit.{Quit}
 use Rattle.viper_exec.specs.declared.answers.Quit.TheVariants as quit
 use Rattle.viper_exec.specs.Answers.{Takes, Executes, no_memory, goes, stops, spent}
 
 -- ---- runs after runs
-
-run_then : {X Y : Type 0} (r : Run X) (go : X → Run Y) (f : Feed) → run_of (then_do r go) f ≡ then_ran (run_of r f) (λ x. on (go x))
-run_then r go f = ap (since f.events) (on-then r go f.left) ∙ sym (then-since f.events (on r f.left) (λ x. on (go x)))
-
-stopped_then : {X Y : Type 0} (events : List Event) (w : Stop) (left : List Choice) (go : X → List Choice → Ran Y) → then_ran (ran events (stopped w) left) go ≡ ran events (stopped w) left
-stopped_then events (stop.Fails l) left go = refl
-stopped_then events stop.Blocked left go = refl
-stopped_then events stop.Short left go = refl
-stopped_then events (stop.Over at) left go = refl
 
 -- whether it is spent, of two that go on alike
 spent_alike : {X : Type 0} (r u : Run (Went X)) (f g : Feed) → run_of r f ≡ run_of u g → is_spent (on u g.left) ≡ true → is_spent (on r f.left) ≡ true

@@ -87,6 +87,11 @@ doing_plain m a n = going_on (keeping n (run_stmt Bounded m.activation a m.confi
 abbrev pub turning : Machine → s.Loop → ℕ → Run (Went Configuration)
 turning m w n = going_on (turns m.activation w n m.configuration) (resume m.frames m.activation)
 
+-- the invariants of a loop are asserted by the step at this place, and then come its turns and the frames
+abbrev pub turning_from : Machine → Pos → s.Loop → ℕ → Run (Went Configuration)
+turning_from m from (s.loop at guard invariants body turn targets) n =
+    asserting Bounded invariants m.configuration.state (scene m.activation m.configuration from) (turning m (s.loop at guard invariants body turn targets) n)
+
 -- a call, once the values of its arguments are known, and then the frames
 abbrev pub calling : Machine → Pos → List ℕ → Method → Body → List Value → ℕ → Run (Went Configuration)
 calling m at targets callee body args n = going_on (exec_call Bounded (bodies m.activation n) m.activation targets callee body args at n m.configuration) (resume m.frames m.activation)

@@ -5,7 +5,7 @@ ghost use Rattle.viper_core.specs.View.{expr_of, loop_of, stmt_of, stmts_of};
 ghost use Rattle.viper_state.specs.View.{feed_of};
 ghost use Rattle.viper_meaning.specs.StatementLiterals.{AreWithinStmts, IsWithinStmt};
 ghost use Rattle.viper_exec.specs.Answers.{Steps, StepsFree};
-ghost use Rattle.viper_exec.specs.Frames.{Block, IsReadyMachine, Turn, doing, doing_plain, resume, steps_in, steps_left, steps_of, turning};
+ghost use Rattle.viper_exec.specs.Frames.{Block, IsReadyMachine, doing, doing_plain, resume, steps_in, steps_left, steps_of, turning, turning_from};
 ghost use Rattle.viper_exec.specs.View.{machine_of};
 
 use crate::answers::{Quit, begin};
@@ -16,7 +16,7 @@ use std::alloc::Global;
 use vb_base::Pos;
 use viper_core::{Expr, Loop, Stmt};
 use viper_eval::truth_of;
-use viper_run::{Activation, run_stmt};
+use viper_run::{Activation, Invocation, run_stmt};
 use viper_state::Feed;
 
 /// The first statement of a block is begun.
@@ -55,10 +55,12 @@ fn step_stmt<'a>(
 {
     match stmt {
         Stmt::Call(at, targets, method, args) => {
-            step_call(alloc, machine, *at, targets, *method, args, budget, feed)
+            let method = *method;
+            let invocation = Invocation { method, args };
+            step_call(alloc, machine, *at, targets, invocation, budget, feed)
         }
         Stmt::If(at, e, a, b) => step_if(alloc, machine, *at, e, a, b, feed),
-        Stmt::While(turns) => enter_loop(alloc, machine, turns, budget, feed),
+        Stmt::While(turns) => assert_turn(alloc, machine, turns, turns.at, budget, feed),
         _ => step_other(alloc, machine, stmt, feed),
     }
 }
@@ -112,41 +114,23 @@ fn chosen<'a>(holds: bool, first: &'a [Stmt], second: &'a [Stmt]) -> &'a [Stmt]
     if holds { first } else { second }
 }
 
-/// The invariants of a loop are asserted, and its first turn is begun where the guard holds.
-fn enter_loop<'a>(
+/// The invariants of a loop are asserted by the step at this place, before the loop or at the end of a turn, and a turn is begun
+/// where the guard holds.
+pub(crate) fn assert_turn<'a>(
     alloc: Global,
     machine: &mut Machine<'a>,
     turns: &'a Loop,
+    at: Pos,
     budget: &mut u64,
     feed: &mut Feed,
 ) -> Result<(), Quit>
     requires turns_within { IsWithinStmt (s.While (loop_of turns.now)) }
     requires ready { IsReadyMachine (machine_of machine.old) (feed_of feed.old) }
-    ensures { Steps (feed_of feed.old) budget.old (doing (machine_of machine.old) (s.While (loop_of turns.now)))
+    ensures { Steps (feed_of feed.old) budget.old (turning_from (machine_of machine.old) at (loop_of turns.now))
         (1 + steps_left (machine_of machine.old).frames) (feed_of feed.new) budget.new (machine_of machine.new) result }
 {
     let state = &machine.configuration.state;
-    let scene = machine.scene(turns.at);
-    assert_all(alloc, &turns.invariants, state, scene, feed)?;
-    begin_turn(alloc, machine, turns, budget, feed)
-}
-
-/// The invariants of a loop are asserted at the end of a turn, and the next is begun where the guard holds.
-pub(crate) fn end_turn<'a>(
-    alloc: Global,
-    machine: &mut Machine<'a>,
-    turns: &'a Loop,
-    budget: &mut u64,
-    feed: &mut Feed,
-) -> Result<(), Quit>
-    requires turns_within { IsWithinStmt (s.While (loop_of turns.now)) }
-    requires ready { IsReadyMachine (machine_of machine.old) (feed_of feed.old) }
-    ensures { Steps (feed_of feed.old) budget.old
-        (λ n. resume (Turn (loop_of turns.now) ∷ (machine_of machine.old).frames) (machine_of machine.old).activation n (machine_of machine.old).configuration)
-        (1 + steps_left (machine_of machine.old).frames) (feed_of feed.new) budget.new (machine_of machine.new) result }
-{
-    let state = &machine.configuration.state;
-    let scene = machine.scene(turns.turn);
+    let scene = machine.scene(at);
     assert_all(alloc, &turns.invariants, state, scene, feed)?;
     begin_turn(alloc, machine, turns, budget, feed)
 }

@@ -18,9 +18,9 @@ use std::alloc::Global;
 use std::mem;
 use vb_base::Pos;
 use vb_value::Value;
-use viper_core::{Body, Expr, Method};
+use viper_core::{Body, Method};
 use viper_eval::{eval_all, found};
-use viper_run::{Activation, call, first_store};
+use viper_run::{Activation, Called, Invocation, call, first_store};
 use viper_state::{Feed, copy_state};
 
 /// A call is begun. Where the method has no body, the call stands for what its contract allows.
@@ -29,27 +29,27 @@ pub(crate) fn step_call<'a>(
     machine: &mut Machine<'a>,
     at: Pos,
     targets: &'a [u32],
-    method: u32,
-    args: &[Expr],
+    invocation: Invocation,
     budget: &mut u64,
     feed: &mut Feed,
 ) -> Result<(), Quit>
-    requires args_within { AreWithinExprs (exprs_of args.now) }
+    requires args_within { AreWithinExprs (exprs_of invocation.args.now) }
     requires ready { IsReadyMachine (machine_of machine.old) (feed_of feed.old) }
-    ensures { Steps (feed_of feed.old) budget.old (doing (machine_of machine.old) (s.Call at targets.now method (exprs_of args.now)))
+    ensures { Steps (feed_of feed.old) budget.old (doing (machine_of machine.old) (s.Call at targets.now invocation.entry.method (exprs_of invocation.entry.args.now)))
         (1 + steps_left (machine_of machine.old).frames) (feed_of feed.new) budget.new (machine_of machine.new) result }
 {
     let state = &machine.configuration.state;
-    let args = eval_all(alloc, args, state, machine.scene(at), feed)?;
+    let args = eval_all(alloc, invocation.args, state, machine.scene(at), feed)?;
     let program = machine.program;
-    let callee = found(program.methods.get(method as usize))?;
+    let callee = found(program.methods.get(invocation.method as usize))?;
+    let called = Called {
+        at,
+        targets,
+        callee,
+    };
     match &callee.body {
-        Some(body) => {
-            begin_body(
-                alloc, machine, at, targets, callee, body, args, budget, feed,
-            )
-        }
-        None => call_bare(alloc, machine, at, targets, callee, args, feed),
+        Some(body) => begin_body(alloc, machine, called, body, args, budget, feed),
+        None => call_bare(alloc, machine, called, args, feed),
     }
 }
 
@@ -57,16 +57,14 @@ pub(crate) fn step_call<'a>(
 fn call_bare(
     alloc: Global,
     machine: &mut Machine,
-    at: Pos,
-    targets: &[u32],
-    callee: &Method,
+    called: Called,
     args: Vec<Value>,
     feed: &mut Feed,
 ) -> Result<(), Quit>
-    requires callee_within { IsWithinMethod (method_of callee.now) }
+    requires callee_within { IsWithinMethod (method_of called.callee.now) }
     requires args_within { All IsWithinValue args.items }
     requires ready { IsReadyMachine (machine_of machine.old) (feed_of feed.old) }
-    ensures { StepsFree (feed_of feed.old) (calling_bare (machine_of machine.old) at targets.now (method_of callee.now) args.items)
+    ensures { StepsFree (feed_of feed.old) (calling_bare (machine_of machine.old) called.entry.at called.entry.targets.now (method_of called.entry.callee.now) args.items)
         (1 + steps_left (machine_of machine.old).frames) (feed_of feed.new) (machine_of machine.new) result }
 {
     let activation = Activation {
@@ -75,34 +73,23 @@ fn call_bare(
         old: &machine.start,
     };
     let configuration = &mut machine.configuration;
-    Ok(call(
-        alloc,
-        activation,
-        at,
-        targets,
-        callee,
-        args,
-        configuration,
-        feed,
-    )?)
+    Ok(call(alloc, activation, called, args, configuration, feed)?)
 }
 
 /// The body of a method that is called is begun: it runs on the state, with a store of its own.
 fn begin_body<'a>(
     alloc: Global,
     machine: &mut Machine<'a>,
-    at: Pos,
-    targets: &'a [u32],
-    callee: &'a Method,
+    called: Called<'a>,
     body: &'a Body,
     args: Vec<Value>,
     budget: &mut u64,
     feed: &mut Feed,
 ) -> Result<(), Quit>
-    requires callee { IsReadyBody (machine_of machine.old).activation.program (method_of callee.now) (body_of body.now) }
+    requires callee { IsReadyBody (machine_of machine.old).activation.program (method_of called.callee.now) (body_of body.now) }
     requires args_within { All IsWithinValue args.items }
     requires ready { IsReadyMachine (machine_of machine.old) (feed_of feed.old) }
-    ensures { Steps (feed_of feed.old) budget.old (calling (machine_of machine.old) at targets.now (method_of callee.now) (body_of body.now) args.items)
+    ensures { Steps (feed_of feed.old) budget.old (calling (machine_of machine.old) called.entry.at called.entry.targets.now (method_of called.entry.callee.now) (body_of body.now) args.items)
         (1 + steps_left (machine_of machine.old).frames) (feed_of feed.new) budget.new (machine_of machine.new) result }
 {
     let activation = Activation {
@@ -110,6 +97,11 @@ fn begin_body<'a>(
         vars: machine.vars,
         old: &machine.start,
     };
+    let Called {
+        at,
+        targets,
+        callee,
+    } = called;
     let configuration = &machine.configuration;
     let given = begin_call(alloc, activation, at, callee, args, configuration, feed)?;
     begin(budget)?;

@@ -13,7 +13,7 @@ ghost use Rattle.viper_exec.specs.Steps.{IsReadyBody, body_from, entry_of};
 ghost use Rattle.viper_exec.specs.View.{frame_of, machine_of};
 
 use crate::answers::Quit;
-use crate::blocks::{end_turn, step_block};
+use crate::blocks::{assert_turn, step_block};
 use crate::bodies::{end_body, return_to};
 use crate::frames::{Frame, Machine, add_frame};
 use std::alloc::Global;
@@ -37,7 +37,7 @@ fn step<'a>(
 {
     match frame {
         Frame::Block(stmts) => step_block(alloc, machine, stmts, budget, feed),
-        Frame::Turn(turns) => end_turn(alloc, machine, turns, budget, feed),
+        Frame::Turn(turns) => assert_turn(alloc, machine, turns, turns.turn, budget, feed),
         Frame::End(method, turn) => end_body(alloc, machine, method, turn, feed),
         Frame::Return(caller) => {
             return_to(machine, Box::into_inner(caller));

@@ -47,51 +47,65 @@ fn positive_amount(scene: SceneRef, at: Pos, amount: Frac) -> Result<Frac, Stop>
     }
 }
 
+/// The body of a predicate, and what is seen in it: the variables are its arguments.
+#[derive(Clone, Copy)]
+struct Inside<'a> {
+    body: &'a Assertion,
+    scene: SceneRef<'a>,
+}
+
+/// The values of the arguments, and the amount, of a `fold` or `unfold`.
+#[derive(Clone, Copy)]
+pub(crate) struct FoldValues<'a> {
+    pub args: &'a [Value],
+    pub amount: Frac,
+}
+
 /// Holds so much more of an instance, which takes what its body contained at the start.
 fn close(
     alloc: Global,
-    body: &Assertion,
+    inside: Inside,
     start: &State,
-    scene: SceneRef,
     instance: Instance,
     share: Share,
     left: &mut State,
     feed: &mut Feed,
 ) -> Result<(), viper_eval::Halt>
-    requires body_within { IsWithinAssertion (assertion_of body.now) }
+    requires body_within { IsWithinAssertion (assertion_of inside.body.now) }
     requires start_within { IsWithinState (state_of start.now) }
-    requires scene_within { IsWithinScene (lent scene) }
+    requires scene_within { IsWithinScene (lent inside.scene) }
     requires whole { share.scale ≡ write }
     ensures answers { reading.Answers (λ _. state_of left.new) (feed_of feed.old).events
-        (m.closed Bounded (assertion_of body.now) (state_of start.now) (lent scene.entry) instance.predicate instance.key share.amount share.at (state_of left.old))
+        (m.closed Bounded (assertion_of inside.entry.body.now) (state_of start.now) (lent inside.entry.scene) instance.predicate instance.key share.amount share.at (state_of left.old))
         (feed_of feed.new).events result }
     ensures left { (feed_of feed.new).left ≡ (feed_of feed.old).left }
 {
+    let Inside { body, scene } = inside;
     let content = small_content(alloc, body, start, scene, share.at, feed)?;
     fill_held(alloc, left, instance, share, &content)
 }
 
-/// Folds an instance whose body is known. The variables of the scene are the arguments.
+/// Folds an instance whose body is known.
 fn fold_by(
     alloc: Global,
-    body: &Assertion,
-    scene: SceneRef,
+    inside: Inside,
     instance: Instance,
     share: Share,
     state: &mut State,
     feed: &mut Feed,
 ) -> Result<(), Halt>
-    requires body_within { IsWithinAssertion (assertion_of body.now) }
+    requires body_within { IsWithinAssertion (assertion_of inside.body.now) }
     requires state_within { IsWithinState (state_of state.old) }
-    requires scene_within { IsWithinScene (lent scene) }
+    requires scene_within { IsWithinScene (lent inside.scene) }
     requires whole { share.scale ≡ write }
     ensures { Does (λ _. state_of state.new) (feed_of feed.old)
-        (folded_by (assertion_of body.now) (lent scene.entry) instance.predicate instance.key share.amount share.at (state_of state.old))
+        (folded_by (assertion_of inside.entry.body.now) (lent inside.entry.scene) instance.predicate instance.key share.amount share.at (state_of state.old))
         (feed_of feed.new) result }
 {
     let start = copy_state(alloc, state)?;
+    let Inside { body, scene } = inside;
     consume_in(alloc, body, &start, state, scene, share.amount, feed)?;
-    Ok(close(alloc, body, &start, scene, instance, share, state, feed)?)
+    Ok(close(alloc, inside, &start, instance, share, state, feed)?)
 }
 
 /// The same once the values of the arguments and the amount are known.
@@ -99,26 +113,25 @@ fn fold_at(
     alloc: Global,
     program: &Program,
     s: &FoldStmt,
-    args: &[Value],
-    amount: Frac,
+    values: FoldValues,
     state: &mut State,
     scene: SceneRef,
     feed: &mut Feed,
 ) -> Result<(), Halt>
     requires body_within { (body : t.Assertion) → m.body_of (program_of program.now) s.now.predicate ≡ Some body → IsWithinAssertion body }
-    requires args_within { All IsWithinValue args.now }
+    requires args_within { All IsWithinValue values.args.now }
     requires state_within { IsWithinState (state_of state.old) }
     requires scene_within { IsWithinScene (lent scene) }
     ensures { Does (λ _. state_of state.new) (feed_of feed.old)
-        (folded_at (program_of program.now) (fold_of s.now) args.now amount (state_of state.old) (lent scene.entry)) (feed_of feed.new) result }
+        (folded_at (program_of program.now) (fold_of s.now) values.entry.args.now values.entry.amount (state_of state.old) (lent scene.entry)) (feed_of feed.new) result }
 {
-    let key = key_of(alloc, args)?;
+    let key = key_of(alloc, values.args)?;
     let body = found(body_of(program, s.predicate))?;
-    let amount = positive_amount(scene, s.place, amount)?;
+    let amount = positive_amount(scene, s.place, values.amount)?;
     let instance = Instance::of(s.predicate, key);
     let share = Share::of(amount, Frac::write(), s.place);
-    let inside = scene.with_variables(args);
-    fold_by(alloc, body, inside, instance, share, state, feed)
+    let scene = scene.with_variables(values.args);
+    fold_by(alloc, Inside { body, scene }, instance, share, state, feed)
 }
 
 /// Folds an instance: consumes the body of the predicate, each amount in it times that of the `fold`, and holds the instance
@@ -146,5 +159,9 @@ pub fn fold_in(
 {
     let args = eval_all(alloc, &s.args, state, scene, feed)?;
     let amount = permission_of(alloc, &s.amount, state, scene, feed)?;
-    fold_at(alloc, program, s, &args, amount, state, scene, feed)
+    let values = FoldValues {
+        args: &args,
+        amount,
+    };
+    fold_at(alloc, program, s, values, state, scene, feed)
 }

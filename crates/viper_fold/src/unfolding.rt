@@ -18,9 +18,9 @@ ghost use Rattle.viper_eval.specs.View.{lent};
 ghost use Rattle.viper_inhale.specs.Answers.{Does};
 ghost use Rattle.viper_fold.specs.Steps.{unfolded_at};
 
-use crate::folding::body_of;
+use crate::folding::{FoldValues, body_of};
 use std::alloc::Global;
-use vb_value::{Content, Frac, Key, Memory, Value};
+use vb_value::{Content, Key, Memory};
 use viper_core::{FoldStmt, Program};
 use viper_eval::{Instance, SceneRef, eval_all, found, key_of, open_in, permission_of, take};
 use viper_inhale::Halt;
@@ -46,20 +46,20 @@ fn unfold_at(
     alloc: Global,
     program: &Program,
     s: &FoldStmt,
-    args: &[Value],
-    amount: Frac,
+    values: FoldValues,
     state: &mut State,
     scene: SceneRef,
     feed: &mut Feed,
 ) -> Result<(), viper_eval::Halt>
     requires body_within { (body : t.Assertion) → m.body_of (program_of program.now) s.now.predicate ≡ Some body → IsWithinAssertion body }
-    requires args_within { All IsWithinValue args.now }
+    requires args_within { All IsWithinValue values.args.now }
     requires state_within { IsWithinState (state_of state.old) }
     requires scene_within { IsWithinScene (lent scene) }
     ensures answers { reading.Answers (λ _. state_of state.new) (feed_of feed.old).events
-        (unfolded_at (program_of program.now) (fold_of s.now) args.now amount (state_of state.old) (lent scene.entry)) (feed_of feed.new).events result }
+        (unfolded_at (program_of program.now) (fold_of s.now) values.entry.args.now values.entry.amount (state_of state.old) (lent scene.entry)) (feed_of feed.new).events result }
     ensures left { (feed_of feed.new).left ≡ (feed_of feed.old).left }
 {
+    let FoldValues { args, amount } = values;
     let key = key_of(alloc, args)?;
     let body = found(body_of(program, s.predicate))?;
     let content = content_at(alloc, state, s.predicate, &key)?;
@@ -95,5 +95,9 @@ pub fn unfold_in(
 {
     let args = eval_all(alloc, &s.args, state, scene, feed)?;
     let amount = permission_of(alloc, &s.amount, state, scene, feed)?;
-    Ok(unfold_at(alloc, program, s, &args, amount, state, scene, feed)?)
+    let values = FoldValues {
+        args: &args,
+        amount,
+    };
+    Ok(unfold_at(alloc, program, s, values, state, scene, feed)?)
 }

@@ -15,7 +15,7 @@ use Rattle.viper_grammar.specs.Tests.{Kind, Value, Part, Test, this, a_name, a_n
 use Rattle.viper_grammar.specs.Grammar as g
 use Rattle.viper_grammar.specs.Grammar.{Symbol, Rule, give, need, when, read, rule, viper, rules}
 use Rattle.grammar.proofs.Laws as grammar
-use Rattle.grammar.proofs.Laws.{Example}
+use Rattle.grammar.proofs.Laws.{Example, el_give, el_other, el_read}
 
 some_place : Pos
 some_place = record { line = 1; col = 1; line_in_range = (omega arith, omega arith); col_in_range = (omega arith, omega arith) }
@@ -40,23 +40,14 @@ example a_negation = record { token = record { tok = tok.Sign sign.Not; pos = so
 abbrev Element : {s : Kind} → Rule s → Type 0
 Element a = grammar.Element rules a
 
-el_give : {s : Kind} {x : Value s} → Element (give x)
-el_give = grammar.el_give rules
-
 el_need : {r s : Kind} {c : Test true r} {go : Value r → Rule s} → ((v : Value r) → Element (go v)) → Element (need c go)
-el_need {c = c} f = grammar.el_need rules (example c) f
+el_need {c = c} f = grammar.el_need (example c) f
 
 el_taken : {r s : Kind} {c : Test true r} {go : Value r → Rule s} {other : Rule s} → ((v : Value r) → Element (go v)) → Element (when c go other)
-el_taken {c = c} f = let k = example c in grammar.el_taken rules k.token k.value k.passes (f k.value)
-
-el_other : {b : Bool} {r s : Kind} {c : Test b r} {go : Value r → Rule s} {other : Rule s} → Element other → Element (when c go other)
-el_other e = grammar.el_other rules e
-
-el_read : {r s : Kind} {a : Symbol r} {go : Value r → Rule s} → Element (rule a) → ((y : Value r) → Element (go y)) → Element (read a go)
-el_read e f = grammar.el_read rules e f
+el_taken {c = c} f = let k = example c in grammar.el_taken k.token k.value k.passes (f k.value)
 
 el_unless : (p : Part) {further : Rule v.part} → Element further → Element (g.unless_open p further)
-el_unless p e = grammar.el_cond rules (g.is_open p.shape) el_give e
+el_unless p e = grammar.el_cond (g.is_open p.shape) el_give e
 
 -- terms: a name is one
 el_first : Element (rule g.First)

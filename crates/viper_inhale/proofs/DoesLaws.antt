@@ -44,7 +44,7 @@ leaving_stopped events (end.Over at) left = refl
 pub run_then : {X Y : Type 0} (r : Run X) (go : X → Run Y) (f : Feed) → run_of (then_do r go) f ≡ then_ran (run_of r f) (λ x. on (go x))
 run_then r go f = ap (since f.events) (on-then r go f.left) ∙ sym (then-since f.events (on r f.left) (λ x. on (go x)))
 
-stopped_then : {X Y : Type 0} (events : List Event) (w : Stop) (left : List Choice) (go : X → List Choice → Ran Y) → then_ran (ran events (stopped w) left) go ≡ ran events (stopped w) left
+pub stopped_then : {X Y : Type 0} (events : List Event) (w : Stop) (left : List Choice) (go : X → List Choice → Ran Y) → then_ran (ran events (stopped w) left) go ≡ ran events (stopped w) left
 stopped_then events (stop.Fails l) left go = refl
 stopped_then events stop.Blocked left go = refl
 stopped_then events stop.Short left go = refl

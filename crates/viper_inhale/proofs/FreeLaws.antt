@@ -10,10 +10,10 @@ use Rattle.std.specs.Option.{option_map}
 use Rattle.std.proofs.lemmas.Option.{slice_get-map, slice_get_read, slice_get-get_or, slice_get_within, get_or_from_slice_get}
 use Rattle.std.specs.BTreeMap.{is_at}
 use Rattle.std.specs.Map.{keys_of, values_of, lookup}
-use Rattle.std.specs.Ordering.{is_eq, on}
+use Rattle.std.specs.Ordering.{on}
 use Rattle.std.specs.declared.cmp.Ordering.{Ordering}
-use Rattle.std.specs.declared.cmp.Ordering.TheVariants.{Less, Equal, Greater}
 use Rattle.std.proofs.lemmas.List.Elements.{All-head, All-tail}
+use Rattle.lemmas.proofs.Orders.{is_equal}
 use Rattle.sparse.specs.Map.{Map, borrowed, get, set, keys, IsReduced, IsSame}
 use Rattle.sparse.specs.Meaning.{IsExact}
 use Rattle.sparse.proofs.MeaningLaws.{meaning_of-same, IsMeaning-on}
@@ -37,14 +37,9 @@ module _ {K : Type 0} (cmp : K → K → Ordering) where
   listed [] q = false
   listed (k ∷ ks) q = is_at (cmp q) k || listed ks q
 
-at_equal : (o : Ordering) → is_eq o ≡ true → o ≡ Equal
-at_equal Less h = absurd (cc)
-at_equal Equal h = refl
-at_equal Greater h = absurd (cc)
-
 module _ {K V : Type 0} {cmp : K → K → Ordering} {eq : V → V → Bool} (x : IsExact cmp eq) where
   same_at : (q k : K) → is_at (cmp q) k ≡ true → q ≡ k
-  same_at q k h = x.keys q k (at_equal (cmp q k) h)
+  same_at q k h = x.keys q k (is_equal (cmp q k) h)
 
   values_step : (b l : Bool) (v w y : V) → (b ≡ true → v ≡ w) → cond l w (cond b v y) ≡ cond (b || l) w y
   values_step true true v w y h = refl

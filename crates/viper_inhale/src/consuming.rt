@@ -19,24 +19,31 @@ use viper_core::{Amt, Assertion};
 use viper_eval::{SceneRef, failure, permission_of, truth_of};
 use viper_state::{Feed, State};
 
+/// What expressions are read in: the state at the start, and what they see besides it.
+#[derive(Clone, Copy)]
+struct Reading<'a> {
+    start: &'a State,
+    scene: SceneRef<'a>,
+}
+
 /// Consumes an amount of a resource.
 fn consume_amount(
     alloc: Global,
     amount: &Amt,
-    start: &State,
-    scene: SceneRef,
+    reading: Reading,
     share: Share,
     left: &mut State,
     resource: Resource,
     feed: &mut Feed,
 ) -> Result<(), Halt>
     requires amount_within { IsWithinAmount (amt_of amount.now) }
-    requires start_within { IsWithinState (state_of start.now) }
-    requires scene_within { IsWithinScene (lent scene) }
+    requires start_within { IsWithinState (state_of reading.start.now) }
+    requires scene_within { IsWithinScene (lent reading.scene) }
     ensures { Does (λ _. state_of left.new) (feed_of feed.old)
-        (m.consume_amount Bounded (amt_of amount.now) (state_of start.now) (lent scene.entry) share.scale share.at (state_of left.old) (resource_of resource))
+        (m.consume_amount Bounded (amt_of amount.now) (state_of reading.entry.start.now) (lent reading.entry.scene) share.scale share.at (state_of left.old) (resource_of resource))
         (feed_of feed.new) result }
 {
+    let Reading { start, scene } = reading;
     match amount {
         Amt::Is(e) => {
             let amount = permission_of(alloc, e, start, scene, feed)?;
@@ -66,6 +73,7 @@ pub fn consume_in(
     ensures { Does (λ _. state_of left.new) (feed_of feed.old)
         (m.consume Bounded (assertion_of assertion.now) (state_of start.now) (lent scene.entry) scale (state_of left.old)) (feed_of feed.new) result }
 {
+    let reading = Reading { start, scene };
     match assertion {
         Assertion::Fact(e, at) => {
             if truth_of(alloc, e, start, scene, feed)? {
@@ -77,12 +85,12 @@ pub fn consume_in(
         Assertion::Acc(e, field, amount, at) => {
             let resource = place(alloc, e, *field, start, scene, feed)?;
             let share = Share::of(scale, *at);
-            consume_amount(alloc, amount, start, scene, share, left, resource, feed)
+            consume_amount(alloc, amount, reading, share, left, resource, feed)
         }
         Assertion::Inst(predicate, args, amount, at) => {
             let resource = instance(alloc, *predicate, args, start, scene, feed)?;
             let share = Share::of(scale, *at);
-            consume_amount(alloc, amount, start, scene, share, left, resource, feed)
+            consume_amount(alloc, amount, reading, share, left, resource, feed)
         }
         Assertion::And(a, b) => {
             consume_in(alloc, a, start, left, scene, scale, feed)?;

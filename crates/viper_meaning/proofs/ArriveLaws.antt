@@ -7,6 +7,7 @@ use Rattle.std.proofs.lemmas.List.Elements.{All-nil, All-cons, All-head, All-tai
 use Rattle.std.specs.Option.{option_map}
 use Rattle.std.specs.Ordering.{nat_cmp, is_eq}
 use Rattle.std.specs.declared.cmp.Ordering.{Ordering}
+use Rattle.lemmas.proofs.Lists.{all_left, all_right}
 use Rattle.sparse.specs.Map.{Map, get}
 use Rattle.sparse.specs.Meaning.{IsExact}
 use Rattle.sparse.proofs.MapLaws.{map_from_get}
@@ -150,7 +151,7 @@ same_self (Instance p k) = both_true (p == p) (is_eq (key_cmp k k)) ((Decides-eq
     both_true : (a b : Bool) → a ≡ true → b ≡ true → a && b ≡ true
     both_true a b e g = ap (λ z. z && b) e ∙ g
 
-too_much_part : (x : Resource) {p q : Fraction} → IsPartOf p q → is_too_much x q ≡ false → is_too_much x p ≡ false
+pub too_much_part : (x : Resource) {p q : Fraction} → IsPartOf p q → is_too_much x q ≡ false → is_too_much x p ≡ false
 too_much_part (Place f r) h e = part_not_above h e
 too_much_part (Instance p k) h e = refl
 
@@ -206,14 +207,6 @@ module _ {u s : State} (x : Resource) (q : Fraction) (is_amount : IsAmount q) (m
       let there : held_at u x ≡ Some all = b.grown x ∙ ap (option_map (λ h. total_from x (if is_same x x then sum h q else h) more)) e ∙ ap (λ same. Some (total_from x (if same then sum held q else held) more)) (same_self x) in
       too_much_part x (part_total x (sum held q) more (amount_sum (held_amount b.full.whole x held e) is_amount) still_amounts) (capped x all there)
 
-All-left : {X : Type 0} (P : X → Type 0) (xs ys : List X) → All P (xs ++ ys) → All P xs
-All-left P [] ys h = All-nil P
-All-left P (x ∷ xs) ys h = All-cons P x xs (All-head P x (xs ++ ys) h) (All-left P xs ys (All-tail P x (xs ++ ys) h))
-
-All-right : {X : Type 0} (P : X → Type 0) (xs ys : List X) → All P (xs ++ ys) → All P ys
-All-right P [] ys h = h
-All-right P (x ∷ xs) ys h = All-right P xs ys (All-tail P x (xs ++ ys) h)
-
 -- the amounts of what is denoted
 module _ (u : State) (proper : IsProperState Unbounded u) (sc : Scene) (in_sc : IsProperScene Unbounded sc) where
   reduced_there : (e : t.Expr) → IsProperExpr Unbounded e → (q : Fraction) → Has q (perm_in Unbounded e u sc) → IsReduced q
@@ -228,7 +221,7 @@ module _ (u : State) (proper : IsProperState Unbounded u) (sc : Scene) (in_sc : 
   amounts_of (sat.fact has) i h = All-nil IsAmountShare
   amounts_of (sat.place has d) i h = amounts_of_share d i.1 h
   amounts_of (sat.instance has d) i h = amounts_of_share d i.1 h
-  amounts_of (sat.both {ps = ps} {qs = qs} {xs = xs} {ys = ys} d g) i h = All-append IsAmountShare xs ys (amounts_of d i.0 (All-left IsReduced ps qs h)) (amounts_of g i.1 (All-right IsReduced ps qs h))
+  amounts_of (sat.both {ps = ps} {qs = qs} {xs = xs} {ys = ys} d g) i h = All-append IsAmountShare xs ys (amounts_of d i.0 (all_left IsReduced ps qs h)) (amounts_of g i.1 (all_right IsReduced ps qs h))
   amounts_of (sat.counts has d) i h = amounts_of d i.1 h
   amounts_of (sat.does_not_count has) i h = All-nil IsAmountShare
   amounts_of (sat.first has d) i h = amounts_of d i.1 h
@@ -319,8 +312,8 @@ module _ (u : State) (full : IsFull u) (capped : (x : Resource) (q : Fraction) �
         let choices : map choice.Amount ps ++ mid ≡ map choice.Amount (ps ++ qs) ++ left = sym (ap (λ cs. cs ++ left) (map-append choice.Amount ps qs) ∙ append_assoc (map choice.Amount ps) (map choice.Amount qs) left) in
         subst (λ cs. Arrives (λ t. Before u t more) left (on (produce Unbounded (t.And x y) sc write s) cs)) choices
         (arrives_then (λ t. Before u t (ys ++ more)) (λ t. Before u t more) (map choice.Amount ps ++ mid) mid left (produce Unbounded x sc write s) (produce Unbounded y sc write)
-        (arrives d i.0 (All-left IsReduced ps qs h) s (ys ++ more) mid (subst (Before u s) (append_assoc xs ys more) b))
-        (λ t c. arrives g i.1 (All-right IsReduced ps qs h) t more left c))
+        (arrives d i.0 (all_left IsReduced ps qs h) s (ys ++ more) mid (subst (Before u s) (append_assoc xs ys more) b))
+        (λ t c. arrives g i.1 (all_right IsReduced ps qs h) t more left c))
     arrives (sat.counts {e = e} {a = x} {qs = qs} has d) i h s more left b =
         arrives_evaluating (λ t. Before u t more) left (map choice.Amount qs ++ left) true (λ holds. if holds then produce Unbounded x sc write s else goes s) (truth_known e s i.0 b) has (arrives d i.1 h s more left b)
     arrives (sat.does_not_count {e = e} {a = x} has) i h s more left b =

@@ -52,17 +52,17 @@ module _ {l : Layout} where
   asks_before es at_end = at_end
   asks_before es (later w h k) = later w h k
 
-  asks_evaluating : {X Y : Type 0} (e : Evaluated X) {go : X → Run Y} → ((x : X) → Asks l (go x)) → Asks l (evaluating e go)
+  pub asks_evaluating : {X Y : Type 0} (e : Evaluated X) {go : X → Run Y} → ((x : X) → Asks l (go x)) → Asks l (evaluating e go)
   asks_evaluating (ends es (m.Is x)) g = asks_before es (g x)
   asks_evaluating (ends es (m.Fails f)) g = at_end
   asks_evaluating (ends es m.Blocked) g = at_end
   asks_evaluating (ends es (m.Over at)) g = at_end
 
-  asks_then : {X Y : Type 0} {r : Run X} {go : X → Run Y} → Asks l r → ((x : X) → Asks l (go x)) → Asks l (then_do r go)
+  pub asks_then : {X Y : Type 0} {r : Run X} {go : X → Run Y} → Asks l r → ((x : X) → Asks l (go x)) → Asks l (then_do r go)
   asks_then (at_end {e = e}) g = asks_evaluating e g
   asks_then {go = go} (later {next = next} w h k) g = later w (λ c. still_blocked (next c) go (h c)) (λ c i. asks_then (k c i) g)
 
-  asks_if : {X : Type 0} (b : Bool) {r n : Run X} → Asks l r → Asks l n → Asks l (if b then r else n)
+  pub asks_if : {X : Type 0} (b : Bool) {r n : Run X} → Asks l r → Asks l n → Asks l (if b then r else n)
   asks_if true h g = h
   asks_if false h g = g
 
@@ -185,11 +185,11 @@ module _ {l : Layout} where
   pub forget_asks : (x : State) → Asks l (forget l x)
   forget_asks x = asks_memo (λ memo. at_end)
 
-  produce_all_asks : (b : Bound) (clauses : List t.Assertion) (sc : Scene) (x : State) → Asks l (produce_all b clauses sc x)
+  pub produce_all_asks : (b : Bound) (clauses : List t.Assertion) (sc : Scene) (x : State) → Asks l (produce_all b clauses sc x)
   produce_all_asks b [] sc x = at_end
   produce_all_asks b (a ∷ rest) sc x = asks_then (produce_asks b a sc write x) (produce_all_asks b rest sc)
 
-  consume_all_asks : (b : Bound) (clauses : List t.Assertion) (start : State) (sc : Scene) (x : State) → Asks l (consume_all b clauses start sc x)
+  pub consume_all_asks : (b : Bound) (clauses : List t.Assertion) (start : State) (sc : Scene) (x : State) → Asks l (consume_all b clauses start sc x)
   consume_all_asks b [] start sc x = at_end
   consume_all_asks b (a ∷ rest) start sc x = asks_then (consume_asks b a start sc write x) (consume_all_asks b rest start sc)
 
@@ -201,7 +201,7 @@ module _ {l : Layout} where
 
   -- ---- statements
 
-  values_asks : (us : List Ty) (xs : List ℕ) → Asks l (taking_values us xs)
+  pub values_asks : (us : List Ty) (xs : List ℕ) → Asks l (taking_values us xs)
   values_asks us [] = at_end
   values_asks us (x ∷ xs) = asks_evaluating (found (slice_get us x)) (λ w. asks_value w (λ v. asks_then (values_asks us xs) (λ vs. at_end)))
 
@@ -220,7 +220,7 @@ asks_state program g = asks_memo (λ memo. asks_before (event.Whole memo ∷ [])
 vain_asks : {l : Layout} {X Y : Type 0} {r : Run X} → Asks l r → Asks {X = Y} l (in_vain r)
 vain_asks h = asks_then h (λ x. at_end)
 
-called_asks : (b : Bound) (k : Activation) (targets : List ℕ) (callee : Method) (args : List Value) (at : Pos) (c : Configuration) → Asks k.program.layout (called b k targets callee args at c)
+pub called_asks : (b : Bound) (k : Activation) (targets : List ℕ) (callee : Method) (args : List Value) (at : Pos) (c : Configuration) → Asks k.program.layout (called b k targets callee args at c)
 called_asks b k targets callee args at c =
     asks_then (exhale_all_asks b k.program callee.preconditions c.state (with_variables args (scene k c at))) (λ x.
     asks_then (values_asks k.vars targets) (λ vs.

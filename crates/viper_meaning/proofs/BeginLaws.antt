@@ -159,7 +159,7 @@ begin_whole b program m o = all_whole m.preconditions (empty_state program.layou
 
 -- ---- a unit that is a method begins, and then runs
 
-evaluating_found : {X Y : Type 0} (o : Option X) (x : X) (go : X → Run Y) → o ≡ Some x → evaluating (found o) go ≡ go x
+pub evaluating_found : {X Y : Type 0} (o : Option X) (x : X) (go : X → Run Y) → o ≡ Some x → evaluating (found o) go ≡ go x
 evaluating_found o x go e = ap (λ p. evaluating (found p) go) e ∙ before_nothing (go x)
 
 pub unit_begins : (b : Bound) (program : Program) (n k : ℕ) (m : Method) (o : Opening) (choices : List Choice) → slice_get program.units n ≡ Some (u.Method k) → slice_get program.methods k ≡ Some m →

@@ -12,12 +12,12 @@ use Rattle.vb_value.specs.Value.{IsWithinValue, IsProperValue}
 use Rattle.vb_value.specs.declared.keys.KeyPart.{KeyPart}
 use Rattle.vb_value.specs.declared.values.Value.{Value}
 use Rattle.vb_value.specs.declared.values.Value.TheVariants.{Int, Bool as Truth, Ref, Perm}
-use Rattle.vb_value.proofs.ProperLaws.{IsReduced-sum, IsReduced-difference, IsReduced-product, proper_whole, proper_negative, proper_quotient_by}
+use Rattle.vb_value.proofs.ProperLaws.{IsReduced-sum, IsReduced-difference, IsReduced-product, proper_whole, proper_negative, proper_quotient_by, negative_within}
 use Rattle.vb_value.proofs.RepresentableLaws.{within_from}
 use Rattle.viper_state.specs.State.{Key}
 use Rattle.viper_meaning.specs.Places.{key_part, in_front, key_of}
 use Rattle.viper_meaning.specs.Kept.{IsAny}
-use Rattle.viper_meaning.proofs.ResultLaws.{negative_within, whole_within, sum_within, difference_within, product_within, quotient_within, div_within, mod_within, left_within, right_within}
+use Rattle.viper_meaning.proofs.ResultLaws.{whole_within, sum_within, difference_within, product_within, quotient_within, div_within, mod_within, left_within, right_within}
 
 -- S is what the operations ask of fractions
 pub record IsClosed (b : Bound) (F S : Fraction → Type 0) (V : Value → Type 0) (K : Key → Type 0) (C : Content → Type 0) : Type 0 where
@@ -116,7 +116,7 @@ within_closed = record {
 
 -- ---- proper
 
-if_bounded : {P Q : Type 0} (b : Bound) → (P → Q) → IfBounded b P → IfBounded b Q
+pub if_bounded : {P Q : Type 0} (b : Bound) → (P → Q) → IfBounded b P → IfBounded b Q
 if_bounded Unbounded f h = tt
 if_bounded Bounded f h = f h
 

@@ -33,7 +33,7 @@ kept_value (kept.failure h) same = cc
 kept_value (kept.blocked h) same = cc
 kept_value (kept.over h) same = cc
 
-after_end : {X : Type 0} (es : List Event) (e : Evaluated X) (x : X) → Has x (after es e) → Has x e
+pub after_end : {X : Type 0} (es : List Event) (e : Evaluated X) (x : X) → Has x (after es e) → Has x e
 after_end es (ends fs end) x h = h
 
 -- ---- one lemma for each way to go on

@@ -44,7 +44,7 @@ use Rattle.viper_meaning.proofs.UnblockedLaws.{IsUnblocked, unblocked, ended_unb
 pub found_then : {X Y : Type 0} (o : Option X) (go : X → Run Y) (x : X) → o ≡ Some x → evaluating (found o) go ≡ go x
 found_then o go x e = ap (λ p. evaluating (found p) go) e ∙ goes_then x go
 
-since_nothing : {X : Type 0} (r : Ran X) → since [] r ≡ r
+pub since_nothing : {X : Type 0} (r : Ran X) → since [] r ≡ r
 since_nothing (ran events step left) = refl
 
 -- ---- values that are taken

@@ -1,12 +1,13 @@
 -- The test of a new reference tells just where a method knows nothing of it.
 use Rattle.std.proofs.Common.{◌≡◌, ◌≢◌, refl, sym, ap, ◌∙◌, subst, ℕ, zero, suc, ◌==◌, Bool, true, false, not, ◌||◌, Option, Some, None, List, [], ◌∷◌, pos, All, Contains, slice_get, get_or}
-use Rattle.std.proofs.lemmas.Bool.{true≢false, or_parts, not-true}
+use Rattle.std.proofs.lemmas.Bool.{true≢false, or_parts, not-true, or_from}
 use Rattle.std.proofs.lemmas.Bool.Decides.{Decides-and, Decides-not, Decides-eqb}
 use Rattle.std.proofs.lemmas.List.Elements.{All-nil, All-cons, All-head, All-tail, All-contains, All-contains_itself}
 use Rattle.std.proofs.lemmas.List.Folds.{list_any_none}
 use Rattle.std.specs.List.{list_any}
 use Rattle.std.specs.Ordering.{nat_cmp}
 use Rattle.std.specs.Bool.{Decides}
+use Rattle.lemmas.proofs.Tests.{true_from_not as negated, refuted}
 use Rattle.sparse.specs.Map.{Map, get, keys}
 use Rattle.sparse.proofs.MapLaws.{Contains-keys, get-key, get-All}
 use Rattle.vb_value.specs.Fraction.{Fraction, IsReduced, is_none}
@@ -26,16 +27,8 @@ use Rattle.viper_meaning.specs.Statements.{Configuration, is_named, is_held, is_
 
 -- ---- tests
 
-false_of : {P : Type 0} (b : Bool) → Decides b P → (P → ⊥) → b ≡ false
-false_of true d n = absurd (n (d.0 refl))
-false_of false d n = refl
-
 not_both : {P : Type 0} (b : Bool) → Decides b P → b ≡ false → P → ⊥
 not_both b d e h = true≢false (sym (d.1 h) ∙ e)
-
-or_none : (b c : Bool) → b ≡ false → c ≡ false → (b || c) ≡ false
-or_none true c h g = absurd (true≢false h)
-or_none false c h g = g
 
 from_none : (b : Bool) → (b || false) ≡ true → b ≡ true
 from_none true h = refl
@@ -49,10 +42,6 @@ or_right : (b c : Bool) → (b || c) ≡ ((b || false) || c)
 or_right true c = refl
 or_right false c = refl
 
-negated : (b : Bool) → not b ≡ false → b ≡ true
-negated true h = refl
-negated false h = absurd (true≢false h)
-
 all_false : {X : Type 0} (p : X → Bool) (xs : List X) → list_any p xs ≡ false → All (λ x. p x ≡ false) xs
 all_false p [] h = All-nil (λ x. p x ≡ false)
 all_false p (x ∷ xs) h = let both = or_parts (p x) (list_any p xs) h in All-cons (λ x. p x ≡ false) x xs both.0 (all_false p xs both.1)
@@ -60,7 +49,7 @@ all_false p (x ∷ xs) h = let both = or_parts (p x) (list_any p xs) h in All-co
 Decides-none : {X : Type 0} (p : X → Bool) (P : X → Type 0) → ((x : X) → Decides (p x) (P x)) → (xs : List X) → Decides (not (list_any p xs)) ((x : X) → Contains xs x → P x → ⊥)
 Decides-none p P each xs = (
   λ e x c. not_both (p x) (each x) (All-contains (λ x. p x ≡ false) xs x (all_false p xs (not-true (list_any p xs) e)) c),
-  λ g. ap not (list_any_none p xs (λ k d within. false_of (p _) (each _) (g _ (All-contains_itself xs k d within)))),
+  λ g. ap not (list_any_none p xs (λ k d within. refuted (p _) (each _) (g _ (All-contains_itself xs k d within)))),
 )
 
 -- ---- variables
@@ -99,7 +88,7 @@ module _ (r : ℕ) where
 
   none_held : (masks : List (Map ℕ Fraction)) → ((f : ℕ) (q : Fraction) → found_at nat_cmp masks f r ≡ Some q → is_none q ≡ true) → is_held r masks ≡ false
   none_held [] g = refl
-  none_held (m ∷ masks) g = or_none (not (is_none (get nat_cmp m r))) (is_held r masks) (ap not (g 0 (get nat_cmp m r) refl)) (none_held masks (λ f q e. g (suc f) q e))
+  none_held (m ∷ masks) g = or_from (not (is_none (get nat_cmp m r))) (is_held r masks) (ap not (g 0 (get nat_cmp m r) refl)) (none_held masks (λ f q e. g (suc f) q e))
 
   Decides-held : (masks : List (Map ℕ Fraction)) → Decides (not (is_held r masks)) ((f : ℕ) (q : Fraction) → found_at nat_cmp masks f r ≡ Some q → is_none q ≡ true)
   Decides-held masks = (λ e. nothing_held masks (not-true (is_held r masks) e), λ g. ap not (none_held masks g))
@@ -144,10 +133,10 @@ module _ (r : ℕ) where
   none_stored [] masks a g = refl
   none_stored (heap ∷ heaps) [] a g = refl
   none_stored (heap ∷ heaps) (m ∷ masks) a g =
-      or_none (list_any (λ k. value_eq (get nat_cmp heap k) (v.Ref r)) (keys m)) (is_stored r heaps masks)
+      or_from (list_any (λ k. value_eq (get nat_cmp heap k) (v.Ref r)) (keys m)) (is_stored r heaps masks)
       (list_any_none (λ k. value_eq (get nat_cmp heap k) (v.Ref r)) (keys m) (λ i d within.
       let k : ℕ = get_or (keys m) i d in
-      false_of (value_eq (get nat_cmp heap k) (v.Ref r)) (at_key heap k) (λ same. g 0 k (get nat_cmp m k) refl ((All-head IsMask m masks a).held k (All-contains_itself (keys m) i d within)) (ap Some same))))
+      refuted (value_eq (get nat_cmp heap k) (v.Ref r)) (at_key heap k) (λ same. g 0 k (get nat_cmp m k) refl ((All-head IsMask m masks a).held k (All-contains_itself (keys m) i d within)) (ap Some same))))
       (none_stored heaps masks (All-tail IsMask m masks a) (λ f k q e n. g (suc f) k q e n))
 
   Decides-stored : (heaps : List (Map ℕ Value)) (masks : List (Map ℕ Fraction)) → All IsMask masks →

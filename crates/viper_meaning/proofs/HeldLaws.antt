@@ -5,10 +5,10 @@ use Rattle.std.specs.Bool.{Decides}
 use Rattle.std.specs.Option.{option_map}
 use Rattle.std.specs.Ordering.{nat_cmp, is_eq}
 use Rattle.std.specs.declared.cmp.Ordering.{Ordering}
-use Rattle.std.specs.declared.cmp.Ordering.TheVariants.{Less, Equal, Greater}
 use Rattle.std.proofs.lemmas.Bool.{true≢false}
 use Rattle.std.proofs.lemmas.Bool.Decides.{Decides-eqb}
 use Rattle.std.proofs.lemmas.List.Elements.{All-nil, All-cons}
+use Rattle.lemmas.proofs.Orders.{is_equal}
 use Rattle.sparse.specs.Map.{Map, empty, get, IsReduced}
 use Rattle.sparse.specs.Meaning.{IsExact}
 use Rattle.sparse.proofs.MapLaws.{IsReduced-empty, IsReduced-set}
@@ -86,13 +86,8 @@ reduced_held {K} {cmp} maps n each = weaker (slice_get maps n) (All-found (IsHel
     weaker (Some m) h = h.reduced
     weaker None h = tt
 
-equal_keys : (o : Ordering) → is_eq o ≡ true → o ≡ Equal
-equal_keys Less e = cc
-equal_keys Equal e = refl
-equal_keys Greater e = cc
-
 pub Decides-key : (k l : Key) → Decides (is_eq (key_cmp k l)) (k ≡ l)
-Decides-key k l = (λ e. same_from_key_cmp k l (equal_keys (key_cmp k l) e), λ e. ap is_eq (ap (key_cmp k) (sym e) ∙ key_cmp_self k))
+Decides-key k l = (λ e. same_from_key_cmp k l (is_equal (key_cmp k l) e), λ e. ap is_eq (ap (key_cmp k) (sym e) ∙ key_cmp_self k))
 
 -- the old and the new amounts of every resource
 pub held_with : {s : State} → IsWhole s → (x : Resource) (new : Fraction) (y : Resource) → held_at (with_held s x new) y ≡ option_map (λ h. if is_same y x then new else h) (held_at s y)

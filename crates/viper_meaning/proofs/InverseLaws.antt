@@ -1,9 +1,12 @@
 -- To produce a body from what it contains is to produce it: the same end, whatever is held.
-use Rattle.std.proofs.Common.{◌≡◌, refl, sym, ap, ◌∙◌, subst, ℕ, zero, suc, Bool, true, false, not, Option, Some, None, List, [], ◌∷◌, ◌++◌, ◌==◌, All, IfSome, slice_get, slice_set, if◌then◌else◌}
+use Rattle.std.proofs.Common.{◌≡◌, refl, sym, ap, ◌∙◌, subst, ℕ, Bool, true, false, not, Option, Some, None, List, [], ◌∷◌, ◌++◌, ◌==◌, All, IfSome, slice_get, slice_set, if◌then◌else◌}
 use Rattle.std.proofs.lemmas.Bool.{true≢false}
 use Rattle.std.specs.Option.{option_map}
 use Rattle.std.specs.Ordering.{nat_cmp}
 use Rattle.std.specs.declared.cmp.Ordering.{Ordering}
+use Rattle.viper_meaning.proofs.FoldLaws.{end_after, found_has}
+use Rattle.viper_meaning.proofs.EveryLaws.{after_end}
+use Rattle.lemmas.proofs.Lists.{set_there}
 use Rattle.sparse.specs.Map.{Map, IsReduced, get, set}
 use Rattle.sparse.specs.Meaning.{IsExact}
 use Rattle.sparse.proofs.MapLaws.{set-get}
@@ -22,7 +25,6 @@ use Rattle.viper_core.specs.Plain.{OpensNothing, OpenNothing, AmountOpensNothing
 use Rattle.viper_core.specs.declared.exprs.Op.{Op}
 use Rattle.viper_core.specs.Written.{IsWritten, HasNoWildcard}
 use Rattle.viper_state.specs.Event as event
-use Rattle.viper_state.specs.Event.{Event}
 use Rattle.viper_state.specs.Run.{Scene}
 use Rattle.viper_state.specs.State.{Key, State, found_at, changed, changed_at, value_at, mask_at, content_at, amount_at, with_value, with_mask, with_content, with_amount}
 use Rattle.vb_value.specs.Layout.{Layout}
@@ -54,14 +56,8 @@ only (ends es (Fails l)) x y h g = cc
 only (ends es Blocked) x y h g = cc
 only (ends es (Over at)) x y h g = cc
 
-end_after : {X : Type 0} (es : List Event) (e : Evaluated X) → the_end (after es e) ≡ the_end e
-end_after es (ends fs end) = refl
-
-before_has : {X : Type 0} (es : List Event) (e : Evaluated X) (x : X) → Has x (after es e) → Has x e
-before_has es (ends fs end) x h = h
-
 went : {X Y : Type 0} (e : Evaluated X) (go : X → Evaluated Y) (y : Y) → Has y (then_with e go) → (x : X) × (Has x e × Has y (go x))
-went (ends es (Is x)) go y h = (x, (refl, before_has es (go x) y h))
+went (ends es (Is x)) go y h = (x, (refl, after_end es (go x) y h))
 went (ends es (Fails l)) go y h = cc
 went (ends es Blocked) go y h = cc
 went (ends es (Over at)) go y h = cc
@@ -90,10 +86,6 @@ same_class Plain b sc o l m r n at h g = same_then l m _ _ h (λ v. same_then r 
 found_is : {X : Type 0} (o : Option X) (x : X) → Has x (found o) → o ≡ Some x
 found_is (Some y) x h = let same : y ≡ x = cc in ap Some same
 found_is None x h = cc
-
-found_has : {X : Type 0} (o : Option X) (x : X) → o ≡ Some x → Has x (found o)
-found_has (Some y) x e = let same : y ≡ x = cc in ap Is same
-found_has None x e = cc
 
 passed : {X : Type 0} (b : Bool) (sc : Scene) (at : Pos) (k : _) (e : Evaluated X) (x : X) → Has x (unless b (fails sc at k) e) → Has x e
 passed true sc at k e x h = cc
@@ -147,11 +139,6 @@ module _ (b : Bound) (s u : State) (sc : Scene) (heap : s.heap ≡ u.heap) where
   same_amount t.Wildcard x q c h i j = cc
 
 -- ---- setting what is there changes nothing
-
-set_there : {X : Type 0} (xs : List X) (n : ℕ) (x : X) → slice_get xs n ≡ Some x → slice_set xs n x ≡ xs
-set_there [] n x e = refl
-set_there (y ∷ xs) zero x e = let same : x ≡ y = cc in ap (λ z. z ∷ xs) same
-set_there (y ∷ xs) (suc n) x e = ap (λ zs. y ∷ zs) (set_there xs n x e)
 
 unchanged : {K V : Type 0} {cmp : K → K → Ordering} {eq : V → V → Bool} (x : IsExact cmp eq) (maps : List (Map K V)) (n : ℕ) (k : K) (v : V) → All (IsReduced cmp eq) maps → found_at cmp maps n k ≡ Some v → changed_at cmp eq maps n k v ≡ maps
 unchanged {K} {V} {cmp} {eq} x maps n k v reduced e = by (slice_get maps n) refl e (All-found (IsReduced cmp eq) maps n reduced)
@@ -294,7 +281,7 @@ module _ (s : State) where
   evaluating_as : {X : Type 0} (e : Evaluated X) (go : X → Run State) (to : X → Evaluated State) → ((x : X) → Has x e → IsProduced s (go x) (to x)) → IsProduced s (evaluating e go) (then_with e to)
   evaluating_as (ends es (Is x)) go to g =
       let h = g x refl in
-      record { evaluated = after es h.evaluated; run = ap (before es) h.run; same_end = end_after es h.evaluated ∙ h.same_end ∙ sym (end_after es (to x)); keeps = λ t i. h.keeps t (before_has es h.evaluated t i) }
+      record { evaluated = after es h.evaluated; run = ap (before es) h.run; same_end = end_after es h.evaluated ∙ h.same_end ∙ sym (end_after es (to x)); keeps = λ t i. h.keeps t (after_end es h.evaluated t i) }
   evaluating_as (ends es (Fails l)) go to g = ended_as (ends es (Fails l)) (ends es (Fails l)) refl (λ t i. cc)
   evaluating_as (ends es Blocked) go to g = ended_as (ends es Blocked) (ends es Blocked) refl (λ t i. cc)
   evaluating_as (ends es (Over at)) go to g = ended_as (ends es (Over at)) (ends es (Over at)) refl (λ t i. cc)
@@ -303,7 +290,7 @@ module _ (s : State) where
   made_as : {X Y : Type 0} (e : Evaluated X) (y : X → Y) (go : Y → Run State) (to : X → Evaluated State) → ((x : X) → Has x e → IsProduced s (go (y x)) (to x)) → IsProduced s (evaluating (then_with e (λ x. is (y x))) go) (then_with e to)
   made_as (ends es (Is x)) y go to g =
       let h = g x refl in
-      record { evaluated = after (es ++ []) h.evaluated; run = ap (before (es ++ [])) h.run; same_end = end_after (es ++ []) h.evaluated ∙ h.same_end ∙ sym (end_after es (to x)); keeps = λ t i. h.keeps t (before_has (es ++ []) h.evaluated t i) }
+      record { evaluated = after (es ++ []) h.evaluated; run = ap (before (es ++ [])) h.run; same_end = end_after (es ++ []) h.evaluated ∙ h.same_end ∙ sym (end_after es (to x)); keeps = λ t i. h.keeps t (after_end (es ++ []) h.evaluated t i) }
   made_as (ends es (Fails l)) y go to g = ended_as (ends es (Fails l)) (ends es (Fails l)) refl (λ t i. cc)
   made_as (ends es Blocked) y go to g = ended_as (ends es Blocked) (ends es Blocked) refl (λ t i. cc)
   made_as (ends es (Over at)) y go to g = ended_as (ends es (Over at)) (ends es (Over at)) refl (λ t i. cc)
@@ -322,7 +309,7 @@ then_as : (s : State) (e f : Evaluated State) (go : State → Run State) (to : S
     IsProduced s (evaluating e go) (then_with f to)
 then_as s (ends es (Is t)) f go to same keeps g =
     let h = g t refl in
-    record { evaluated = after es h.evaluated; run = ap (before es) h.run; same_end = end_after es h.evaluated ∙ h.same_end ∙ sym (goes_on f to t (sym same)); keeps = λ w i. stays_on s t w (keeps t refl) (h.keeps w (before_has es h.evaluated w i)) }
+    record { evaluated = after es h.evaluated; run = ap (before es) h.run; same_end = end_after es h.evaluated ∙ h.same_end ∙ sym (goes_on f to t (sym same)); keeps = λ w i. stays_on s t w (keeps t refl) (h.keeps w (after_end es h.evaluated w i)) }
 then_as s (ends es (Fails l)) f go to same keeps g =
     record { evaluated = ends es (Fails l); run = refl; same_end = same ∙ sym (stopped f to (λ y i. let no : Fails l ≡ Is y = same ∙ i in cc)); keeps = λ w i. cc }
 then_as s (ends es Blocked) f go to same keeps g =

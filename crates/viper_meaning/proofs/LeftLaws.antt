@@ -5,16 +5,13 @@ use Rattle.std.proofs.lemmas.Int.{ints}
 use Rattle.std.proofs.lemmas.Bool.Decides.{Decides-int_eq}
 use Rattle.std.proofs.lemmas.Cmp.{int_ranked, by_ranked}
 use Rattle.std.specs.Ordering.{int_cmp, is_lt, is_gt}
+use Rattle.lemmas.proofs.Numbers.{not_less}
 use Rattle.vb_value.specs.Fraction.{Fraction, reduced, difference, order, is_below_zero, is_negative, is_none, is_above_one}
 use Rattle.vb_value.specs.Gcd.{gcd}
 
 no_more : (x y : ℤ) → is_gt (int_cmp x y) ≡ false → x ≤ℤ y
 no_more x y e =
     by_ranked _ _ _ (int_cmp x y) (int_ranked x y (int_cmp x y) refl) (λ less h. omega (arith, ints)) (λ equal h. omega (arith, ints)) (λ greater h. let f : true ≡ false = ap is_gt (sym greater) ∙ e in cc)
-
-no_less : (x y : ℤ) → is_lt (int_cmp x y) ≡ false → y ≤ℤ x
-no_less x y e =
-    by_ranked _ _ _ (int_cmp x y) (int_ranked x y (int_cmp x y) refl) (λ less h. let f : true ≡ false = ap is_lt (sym less) ∙ e in cc) (λ equal h. omega (arith, ints)) (λ greater h. omega (arith, ints))
 
 at_most : (x y : ℤ) → x ≤ℤ y → is_gt (int_cmp x y) ≡ false
 at_most x y h =
@@ -55,4 +52,4 @@ left_of_zero x (negsuc c) d e z f h = cc
 pub nothing_left : (p q : Fraction) → is_none p ≡ true → is_negative q ≡ false → is_lt (order p q) ≡ false → is_none (difference p q) ≡ true
 nothing_left p q z f h =
     reduced_none (p.num *ℤ pos q.den -ℤ q.num *ℤ pos p.den) (p.den * q.den)
-    (left_of_zero p.num q.num p.den q.den ((Decides-int_eq p.num (pos 0)).0 z) f (no_less (p.num *ℤ pos q.den) (q.num *ℤ pos p.den) h))
+    (left_of_zero p.num q.num p.den q.den ((Decides-int_eq p.num (pos 0)).0 z) f (not_less (p.num *ℤ pos q.den) (q.num *ℤ pos p.den) h))

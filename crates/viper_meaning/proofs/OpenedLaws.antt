@@ -209,7 +209,7 @@ one_old a sc sd h at old =
 
 -- ---- expressions and bodies
 
-amount_is : (q : Fraction) → IsReduced q → is_positive q ≡ true → IsAmount q
+pub amount_is : (q : Fraction) → IsReduced q → is_positive q ≡ true → IsAmount q
 amount_is q h e = record { reduced = h; not_negative = positive_not_negative q e }
 
 pub content_same : (F : Rest) {s w : State} (p : ℕ) (key : Key) → Under F s w → AreClose IsSame (found (content_at s p key)) (found (content_at w p key))

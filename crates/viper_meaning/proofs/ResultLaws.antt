@@ -1,8 +1,9 @@
 -- Results of operations are within the bound where their parts are.
-use Rattle.std.proofs.Common.{◌≡◌, ◌≢◌, refl, arith, suc, zero, ◌/◌, ◌*◌, ℤ, pos, negsuc, neg_ℤ, ◌+ℤ◌, ◌-ℤ◌, ◌*ℤ◌, Bool, true, false, ◌&&◌}
-use Rattle.std.proofs.lemmas.Int.{ints}
+use Rattle.std.proofs.Common.{◌≡◌, ◌≢◌, refl, arith, suc, zero, ◌/◌, ◌*◌, ℤ, pos, negsuc, neg_ℤ, ◌+ℤ◌, ◌-ℤ◌, ◌*ℤ◌, true}
 use Rattle.std.proofs.Math.Nat.{div-le_self}
 use Rattle.std.specs.Int.{int_div_euclid, int_rem_euclid}
+use Rattle.vb_value.proofs.ProperLaws.{negative_within}
+use Rattle.lemmas.proofs.Tests.{and_parts as parts}
 use Rattle.vb_value.specs.Bound.{IsWithin}
 use Rattle.vb_value.specs.Content.{Content, Pair, IsWithinContent}
 use Rattle.vb_value.specs.Fraction.{Fraction, IsWithinFraction, ratio, whole, sum, difference, product, quotient_by, fits_sum, fits_difference, fits_product, fits_quotient_by}
@@ -10,13 +11,6 @@ use Rattle.vb_value.proofs.FractionLaws.{IsWithinFraction-reduced}
 use Rattle.vb_value.proofs.RepresentableLaws.{within_from}
 
 -- ---- numbers
-
-parts : (s t : Bool) → (s && t) ≡ true → (s ≡ true) × (t ≡ true)
-parts true t e = (refl, e)
-parts false t e = cc
-
-pub negative_within : (n : ℤ) → IsWithin n → IsWithin (neg_ℤ n)
-negative_within n h = omega (arith, ints)
 
 pub whole_within : (n : ℤ) → IsWithin n → IsWithinFraction (whole n)
 whole_within n h = record { num = h; den = omega arith }

@@ -1,8 +1,9 @@
 -- A run from what fits the program goes to what fits it.
-use Rattle.std.proofs.Common.{◌≡◌, inl, ℕ, not, Option, Some, None, List, [], ◌∷◌, IfSome, slice_get, subst}
+use Rattle.std.proofs.Common.{◌≡◌, inl, ℕ, not, Some, List, [], ◌∷◌, IfSome, slice_get}
 use Rattle.std.proofs.lemmas.List.Elements.{All-nil, All-cons}
 use Rattle.std.specs.Ordering.{is_lt}
 use Rattle.std.specs.Prelude.{⊤}
+use Rattle.lemmas.proofs.Options.{if_there}
 use Rattle.vb_base.specs.declared.labels.Kind.TheVariants as kind
 use Rattle.vb_base.specs.declared.places.Pos.{Pos}
 use Rattle.vb_value.specs.Bound.{Bound}
@@ -38,10 +39,6 @@ use Rattle.viper_meaning.proofs.TypedLaws.{keeps, truth_typed, perm_typed, ref_t
 abbrev pub ResourceFits : Layout → Resource → Type 0
 ResourceFits l (Place f r) = (u : Ty) × (slice_get l.fields f ≡ Some u)
 ResourceFits l (Instance p key) = (us : List Ty) × ((slice_get l.keys p ≡ Some us) × FitsKey us key)
-
-if_there : {X : Type 0} {P : X → Type 0} (o : Option X) → (x : X) × ((o ≡ Some x) × P x) → IfSome o P
-if_there {P = P} (Some y) (x, (e, p)) = let same : x ≡ y = cc in subst P same p
-if_there None found = tt
 
 -- ---- what is held
 

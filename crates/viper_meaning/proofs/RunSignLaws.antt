@@ -1,9 +1,10 @@
 -- No run makes a permission negative.
-use Rattle.std.proofs.Common.{◌≡◌, refl, sym, ap, ◌∙◌, Bool, true, false, not, Option, Some, None, [], ◌∷◌, IfSome}
+use Rattle.std.proofs.Common.{◌≡◌, refl, sym, ap, ◌∙◌, Bool, true, false, not, [], ◌∷◌, IfSome}
 use Rattle.std.proofs.lemmas.Bool.{true≢false}
 use Rattle.std.specs.Ordering.{is_lt, ordering_reverse}
 use Rattle.std.specs.declared.cmp.Ordering.{Ordering}
 use Rattle.std.specs.declared.cmp.Ordering.TheVariants.{Less, Equal, Greater}
+use Rattle.viper_meaning.proofs.ClosedLaws.{any_found}
 use Rattle.vb_base.specs.declared.labels.Kind.TheVariants as kind
 use Rattle.vb_base.specs.declared.places.Pos.{Pos}
 use Rattle.vb_value.specs.Bound.{Bound}
@@ -36,12 +37,8 @@ SignKept r = KeepsRun IsAny IsAny IsNonnegative r
 then_any : {X : Type 0} (e : Evaluated X) {go : X → Run State} → ((x : X) → SignKept (go x)) → SignKept (evaluating e go)
 then_any e g = evaluating_kept (any_value e) (λ x u. g x)
 
-any_choice : {X : Type 0} (o : Option X) → IfSome o IsAny
-any_choice (Some x) = tt
-any_choice None = tt
-
 chosen_any : {go : Fraction → Run State} → ((q : Fraction) → SignKept (go q)) → SignKept (taking_amount go)
-chosen_any g = taking_kept {Q = IsAny} amount_in (λ c u. any_choice (amount_in c)) (λ q u. before_kept (event.Wild q ∷ []) (any_events (event.Wild q ∷ [])) (g q))
+chosen_any g = taking_kept {Q = IsAny} amount_in (λ c u. any_found (amount_in c)) (λ q u. before_kept (event.Wild q ∷ []) (any_events (event.Wild q ∷ [])) (g q))
 
 held_sign : {s : State} → IsNonnegative s → (x : Resource) → IfSome (held_at s x) IsNotNegative
 held_sign h (Place f r) = mask_not_negative h f r
@@ -118,5 +115,5 @@ consume_sign b (t.ChooseAssertion e x y) start sc k left h = then_any (truth_in 
 
 -- forgetting changes no mask and no amount
 pub forget_sign : (layout : Layout) (s : State) → IsNonnegative s → SignKept (forget layout s)
-forget_sign layout s h = taking_kept {Q = IsAny} (memo_in layout) (λ c u. any_choice (memo_in layout c)) (λ m u.
+forget_sign layout s h = taking_kept {Q = IsAny} (memo_in layout) (λ c u. any_found (memo_in layout c)) (λ m u.
     before_kept (event.Whole (forgotten s m) ∷ []) (any_events (event.Whole (forgotten s m) ∷ [])) (at_end (is_kept (record { mask = h.mask; amount = h.amount }))))

@@ -4,6 +4,7 @@ use Rattle.std.proofs.lemmas.List.{take-append-drop}
 use Rattle.std.proofs.lemmas.List.Elements.{All-nil, All-cons, All-head, All-tail}
 use Rattle.std.specs.Option.{option_map}
 use Rattle.std.specs.Prelude.{⊤, ◌+◌, ◌==◌}
+use Rattle.lemmas.proofs.Options.{if_there}
 use Rattle.vb_base.specs.declared.labels.Kind.TheVariants as kind
 use Rattle.vb_base.specs.declared.places.Pos.{Pos}
 use Rattle.vb_value.specs.Bound.{Bound}
@@ -38,7 +39,6 @@ use Rattle.viper_state.specs.State.{Key, State, value_at, mask_at, content_at, a
 use Rattle.viper_state.proofs.FitsLaws.{FitsValue-default, with_value_fits, with_mask_fits, with_amount_fits, value_found, content_found, amount_found, empty_state_fits}
 use Rattle.viper_meaning.specs.Configurations.{FitsConfiguration}
 use Rattle.viper_meaning.specs.Contents.{contained_at, content_by, content_in, is_small, body_among, body_of, closed, fold_instance, unfold_instance}
-use Rattle.viper_meaning.specs.Ends.{found}
 use Rattle.viper_meaning.specs.Forgotten.{memo_in}
 use Rattle.viper_meaning.specs.Kept.{IsAny, Keeps}
 use Rattle.viper_meaning.specs.KeptRuns.{KeepsRun, at_end}
@@ -61,10 +61,6 @@ use Rattle.viper_meaning.proofs.TypedLaws.{keeps, ref_typed, key_fits, keys_at, 
 itself : {X : Type 0} (o : Option X) → IfSome o (λ x. o ≡ Some x)
 itself (Some x) = refl
 itself None = tt
-
-there_is : {X : Type 0} {P : X → Type 0} (o : Option X) → (x : X) × ((o ≡ Some x) × P x) → IfSome o P
-there_is {P = P} (Some y) (x, (e, p)) = let same : x ≡ y = cc in subst P same p
-there_is None found = tt
 
 -- the values of these variables, each of its type
 abbrev pub ValuesOf : List Ty → List ℕ → List Value → Type 0
@@ -214,12 +210,12 @@ module _ (b : Bound) (c : Context) (formed : IsFormed c.program) where
   exhale_all_fits list s sc w h g = then_do_kept (consume_all_fits list s sc s w h h g) (λ x i. forget_fits c.program.layout x i)
 
   contained_reduced : {s : State} → FitsState c.program.layout s → (x : Resource) → ResourceFits c.program.layout x → IfSome (contained_at s x) IsReducedContent
-  contained_reduced {s} h (Place f n) i = leaf (value_at s f n) (there_is (value_at s f n) (value_found h f n i.0 i.1))
+  contained_reduced {s} h (Place f n) i = leaf (value_at s f n) (if_there (value_at s f n) (value_found h f n i.0 i.1))
     where
       leaf : (o : Option Value) → IfSome o (FitsValue i.0) → IfSome (option_map Leaf o) IsReducedContent
       leaf (Some w) p = p.reduced
       leaf None p = tt
-  contained_reduced {s} h (Instance p key) i = there_is (content_at s p key) (content_found h p key i.0 i.1.0)
+  contained_reduced {s} h (Instance p key) i = if_there (content_at s p key) (content_found h p key i.0 i.1.0)
 
   content_by_fits : (m : t.Amt) (s : State) (sc : Scene) (x : Resource) → IsAmount c m → FitsState c.program.layout s → FitsScene c.program.layout c.vars sc → ResourceFits c.program.layout x →
       Keeps (FitsEvent c.program.layout) IsReducedContent (content_by b m s sc x)
@@ -239,11 +235,11 @@ module _ (b : Bound) (c : Context) (formed : IsFormed c.program) where
   fill_held_fits : (p : ℕ) (us : List Ty) (key : Key) (q : Fraction) (d : Content) (at : Pos) (s : State) → slice_get c.program.layout.keys p ≡ Some us → FitsKey us key → IsReduced q → IsReducedContent d →
       FitsState c.program.layout s → Keeps (FitsEvent c.program.layout) (FitsState c.program.layout) (fill_held b write p key q d at s)
   fill_held_fits p us key q d at s e k i j h =
-      then_kept (found_kept (amount_at s p key) (there_is (amount_at s p key) (amount_found h p key us e))) (λ held o. then_kept (keeps (contained_typed c.program.layout {B = ⊤} tt s p us key d held e k j h)) (λ x w.
+      then_kept (found_kept (amount_at s p key) (if_there (amount_at s p key) (amount_found h p key us e))) (λ held o. then_kept (keeps (contained_typed c.program.layout {B = ⊤} tt s p us key d held e k j h)) (λ x w.
       then_kept (keeps (added_typed c.program.layout {B = ⊤} b held write q at o write_reduced i)) (λ all a. is_kept (with_amount_fits w p us key all e k a))))
 
   body_there : (p : ℕ) (d : Predicate) (body : t.Assertion) → slice_get c.program.predicates p ≡ Some d → d.body ≡ Some body → IfSome (body_of c.program p) (λ x. body ≡ x)
-  body_there p d body e h = there_is (body_of c.program p) (body, (ap body_among e ∙ h, refl))
+  body_there p d body e h = if_there (body_of c.program p) (body, (ap body_among e ∙ h, refl))
 
 -- the body of a predicate stands in a context of its own
 module _ (b : Bound) (c : Context) (formed : IsFormed c.program) where
@@ -273,7 +269,7 @@ module _ (b : Bound) (c : Context) (formed : IsFormed c.program) where
       then_kept (keeps (values_typed b {B = ⊤} c formed f.args w.predicate.params s sc w.args tt h g)) (λ vs i. then_kept (r.perm_fits b c formed f.amount s sc w.amount h g) (λ q j.
       then_kept (found_kept (key_of vs) (key_fits w.predicate.params vs i)) (λ key k. then_kept (found_kept (body_of c.program f.predicate) (body_there b c formed f.predicate w.predicate w.body w.exists w.has_body)) (λ body same.
       then_kept (keeps (taken_typed c.program.layout {B = ⊤} b sc s f.predicate w.predicate.params key q f.place keys k j h)) (λ less n.
-      then_kept (found_kept (content_at s f.predicate key) (there_is (content_at s f.predicate key) (content_found h f.predicate key w.predicate.params keys))) (λ d o.
+      then_kept (found_kept (content_at s f.predicate key) (if_there (content_at s f.predicate key) (content_found h f.predicate key w.predicate.params keys))) (λ d o.
       keeps (opened_typed b {B = ⊤} (predicate_context c.program w.predicate) formed body d less (with_variables vs sc) q (body_typed f w body same) tt o n (record { store = i; old = g.old }) j)))))))
 
 -- ---- statements
@@ -347,7 +343,7 @@ module _ (b : Bound) (m : Frame) (formed : IsFormed m.program) (old : State) (ol
         (at_end blocks_kept))
     run_stmt_fits sc (s.Call at targets k args) c (calls callee there i j) h =
         evaluating_kept (keeps (values_typed b {B = ⊤} (inside m sc) formed args (params_of callee) c.state (scene running c at) i tt h.state (scene_fits c at h))) (λ vs a.
-        evaluating_kept (found_kept {P = λ x. callee ≡ x} (slice_get m.program.methods k) (there_is (slice_get m.program.methods k) (callee, (there, refl)))) (λ other same.
+        evaluating_kept (found_kept {P = λ x. callee ≡ x} (slice_get m.program.methods k) (if_there (slice_get m.program.methods k) (callee, (there, refl)))) (λ other same.
         subst (λ x. StmtGoes Fit (called b running targets x vs at c)) same (called_fits sc targets k callee vs at c there a j h)))
     run_stmt_fits sc (s.Inhale at a) c (inhales i) h = then_do_kept (produce_fits b (inside m sc) formed a (scene running c at) write c.state i h.state (scene_fits c at h) write_reduced) (λ w o. at_end (is_kept (record { store = h.store; state = o })))
     run_stmt_fits sc (s.Exhale at a) c (exhales i) h =
@@ -424,5 +420,5 @@ module _ (b : Bound) (program : Program) (formed : IsFormed program) where
       evaluating_kept (found_kept {P = λ body. d.body ≡ Some body} d.body (itself d.body)) (λ body has. start_predicate_fits k d body o there has (subst (λ z. FitsOpening program.layout z o) equal h)))
 
   pub unit_run_fits : (n : ℕ) (o : Opening) → Opens program n o → UnitGoes (unit_run b program n o)
-  unit_run_fits n o h = evaluating_kept (found_kept {P = λ x. h.unit ≡ x} (slice_get program.units n) (there_is (slice_get program.units n) (h.unit, (h.exists, refl)))) (λ x same.
+  unit_run_fits n o h = evaluating_kept (found_kept {P = λ x. h.unit ≡ x} (slice_get program.units n) (if_there (slice_get program.units n) (h.unit, (h.exists, refl)))) (λ x same.
       run_of_unit_fits x h.types o (ap (opening_types program) (sym same) ∙ h.typed) h.fits)

@@ -4,9 +4,11 @@ use Rattle.std.specs.Prelude.{⊤, ◌+◌, ◌==◌}
 use Rattle.std.specs.Option.{option_map}
 use Rattle.std.proofs.lemmas.Bool.{ltb-true}
 use Rattle.std.proofs.lemmas.List.Elements.{All-nil, All-cons, All-append, All-head, All-tail}
+use Rattle.viper_state.proofs.ProperLaws.{none_proper}
+use Rattle.viper_core.proofs.LiteralLaws.{if_bounded as in_bound}
 use Rattle.vb_base.specs.declared.labels.Kind.TheVariants as kind
 use Rattle.vb_base.specs.declared.places.Pos.{Pos}
-use Rattle.vb_value.specs.Bound.{Bound, Unbounded, Bounded, IfBounded}
+use Rattle.vb_value.specs.Bound.{Bound, Bounded, IfBounded}
 use Rattle.vb_value.specs.Content.{Content, Unit, Leaf, Pair, AllValues, nodes, IsWithinContent, IsProperContent}
 use Rattle.vb_value.specs.Fraction.{Fraction, none, write, is_positive, IsReduced, IsWithinFraction, IsProperFraction}
 use Rattle.vb_value.specs.Key.{IsWithinKey, IsProperKey}
@@ -44,7 +46,7 @@ use Rattle.viper_meaning.specs.StatementLiterals.{AllStmtLiterals, AllStmtsLiter
 use Rattle.viper_meaning.specs.Statements.{Configuration, Activation, scene, with_state, with_variable, stored, branch_in, fresh_in, value_in, taking_branch, taking_fresh, taking_value, taking_values, taking_state, in_vain, produce_all, consume_all, exhale_all, field_written, is_fresh, created, called, after_loop, run_turn, run_loop, run_stmt, run_block}
 use Rattle.viper_meaning.specs.Units.{first_store, check_postcondition, run_body, run_method, start_method, start_predicate, run_of_unit, unit_run}
 use Rattle.vb_value.proofs.FractionLaws.{IsReduced-whole}
-use Rattle.viper_meaning.proofs.ClosedLaws.{IsClosed, any_found, within_closed, proper_closed}
+use Rattle.viper_meaning.proofs.ClosedLaws.{IsClosed, any_found, within_closed, proper_closed, if_bounded}
 use Rattle.viper_meaning.proofs.ForgetLaws.{memo_in_has, forget_kept}
 use Rattle.viper_meaning.proofs.KeptLaws as k
 use Rattle.viper_meaning.proofs.KeptLaws.{IsInt, is_kept, fails_kept, blocks_kept, then_kept, found_kept, unless_kept, if_kept, fitting_kept}
@@ -359,19 +361,11 @@ within_none = record { num = omega arith; den = omega arith }
 within_write : IsWithinFraction write
 within_write = record { num = omega arith; den = omega arith }
 
-within_default : (ty : Ty) → IsWithinValue (default_of ty)
+pub within_default : (ty : Ty) → IsWithinValue (default_of ty)
 within_default type.Int = omega arith
 within_default type.Bool = tt
 within_default type.Ref = tt
 within_default type.Perm = within_none
-
-if_bounded : {P Q : Type 0} (b : Bound) → (P → Q) → IfBounded b P → IfBounded b Q
-if_bounded Unbounded f h = tt
-if_bounded Bounded f h = f h
-
-in_bound : {P : Type 0} (b : Bound) → P → IfBounded b P
-in_bound Unbounded h = tt
-in_bound Bounded h = h
 
 proper_contents : (b : Bound) → IsClosedContent b (IsProperValue b) (IsProperContent b) (AllValues (IsProperValue b))
 proper_contents b = record {
@@ -382,9 +376,6 @@ proper_contents b = record {
   small = λ c few h. record { small = if_bounded b (small_nodes c) few; values = h };
 }
 
-pub proper_none : (b : Bound) → IsProperFraction b none
-proper_none b = record { reduced = IsReduced-whole (pos 0); within = in_bound b within_none }
-
 pub proper_write : (b : Bound) → IsProperFraction b write
 proper_write b = record { reduced = IsReduced-whole (pos 1); within = in_bound b within_write }
 
@@ -392,7 +383,7 @@ proper_default : (b : Bound) (ty : Ty) → IsProperValue b (default_of ty)
 proper_default b type.Int = in_bound b (omega arith)
 proper_default b type.Bool = tt
 proper_default b type.Ref = tt
-proper_default b type.Perm = proper_none b
+proper_default b type.Perm = none_proper b
 
 -- ---- within the bound
 
@@ -462,64 +453,64 @@ unit_run_within program w o h = unit_run_kept Bounded IsWithinFraction (λ q. �
 -- ---- proper
 
 pub taking_values_proper : (b : Bound) (tys : List Ty) (xs : List ℕ) → KeepsRun (IsProperEvent b) (IsProperChoice b) (All (IsProperValue b)) (taking_values tys xs)
-taking_values_proper b tys xs = taking_values_kept b (IsProperFraction b) IsReduced (IsProperValue b) (IsProperKey b) (IsProperContent b) (AllValues (IsProperValue b)) (proper_closed b) (proper_contents b) (proper_write b) (proper_none b) tys xs
+taking_values_proper b tys xs = taking_values_kept b (IsProperFraction b) IsReduced (IsProperValue b) (IsProperKey b) (IsProperContent b) (AllValues (IsProperValue b)) (proper_closed b) (proper_contents b) (proper_write b) (none_proper b) tys xs
 
 pub branch_proper : (b : Bound) {X : Type 0} {P : X → Type 0} {go : Bool → Run X} → ((x : Bool) → KeepsRun (IsProperEvent b) (IsProperChoice b) P (go x)) → KeepsRun (IsProperEvent b) (IsProperChoice b) P (taking_branch go)
-branch_proper b g = branch_kept b (IsProperFraction b) IsReduced (IsProperValue b) (IsProperKey b) (IsProperContent b) (AllValues (IsProperValue b)) (proper_closed b) (proper_contents b) (proper_write b) (proper_none b) g
+branch_proper b g = branch_kept b (IsProperFraction b) IsReduced (IsProperValue b) (IsProperKey b) (IsProperContent b) (AllValues (IsProperValue b)) (proper_closed b) (proper_contents b) (proper_write b) (none_proper b) g
 
 pub fresh_proper : (b : Bound) {X : Type 0} {P : X → Type 0} {go : ℕ → Run X} → ((r : ℕ) → KeepsRun (IsProperEvent b) (IsProperChoice b) P (go r)) → KeepsRun (IsProperEvent b) (IsProperChoice b) P (taking_fresh go)
-fresh_proper b g = fresh_kept b (IsProperFraction b) IsReduced (IsProperValue b) (IsProperKey b) (IsProperContent b) (AllValues (IsProperValue b)) (proper_closed b) (proper_contents b) (proper_write b) (proper_none b) g
+fresh_proper b g = fresh_kept b (IsProperFraction b) IsReduced (IsProperValue b) (IsProperKey b) (IsProperContent b) (AllValues (IsProperValue b)) (proper_closed b) (proper_contents b) (proper_write b) (none_proper b) g
 
 pub took_proper : (b : Bound) {X : Type 0} {P : X → Type 0} (ty : Ty) {go : Value → Run X} → ((v : Value) → IsProperValue b v → KeepsRun (IsProperEvent b) (IsProperChoice b) P (go v)) → KeepsRun (IsProperEvent b) (IsProperChoice b) P (taking_value ty go)
-took_proper b ty g = took_kept b (IsProperFraction b) IsReduced (IsProperValue b) (IsProperKey b) (IsProperContent b) (AllValues (IsProperValue b)) (proper_closed b) (proper_contents b) (proper_write b) (proper_none b) ty g
+took_proper b ty g = took_kept b (IsProperFraction b) IsReduced (IsProperValue b) (IsProperKey b) (IsProperContent b) (AllValues (IsProperValue b)) (proper_closed b) (proper_contents b) (proper_write b) (none_proper b) ty g
 
 pub state_proper : (b : Bound) {X : Type 0} {P : X → Type 0} (program : Program) {go : State → Run X} → ((s : State) → IsProperState b s → KeepsRun (IsProperEvent b) (IsProperChoice b) P (go s)) → KeepsRun (IsProperEvent b) (IsProperChoice b) P (taking_state program go)
-state_proper b program g = state_kept b (IsProperFraction b) IsReduced (IsProperValue b) (IsProperKey b) (IsProperContent b) (AllValues (IsProperValue b)) (proper_closed b) (proper_contents b) (proper_write b) (proper_none b) program g
+state_proper b program g = state_kept b (IsProperFraction b) IsReduced (IsProperValue b) (IsProperKey b) (IsProperContent b) (AllValues (IsProperValue b)) (proper_closed b) (proper_contents b) (proper_write b) (none_proper b) program g
 
 pub produce_all_proper : (b : Bound) (list : List t.Assertion) (sc : Scene) (s : State) → All (IsProperAssertion b) list → IsProperState b s → IsProperScene b sc → KeepsRun (IsProperEvent b) (IsProperChoice b) (IsProperState b) (produce_all b list sc s)
-produce_all_proper b = produce_all_kept b (IsProperFraction b) IsReduced (IsProperValue b) (IsProperKey b) (IsProperContent b) (AllValues (IsProperValue b)) (proper_closed b) (proper_contents b) (proper_write b) (proper_none b)
+produce_all_proper b = produce_all_kept b (IsProperFraction b) IsReduced (IsProperValue b) (IsProperKey b) (IsProperContent b) (AllValues (IsProperValue b)) (proper_closed b) (proper_contents b) (proper_write b) (none_proper b)
 
 pub consume_all_proper : (b : Bound) (list : List t.Assertion) (start : State) (sc : Scene) (left : State) → All (IsProperAssertion b) list → IsProperState b start → IsProperState b left → IsProperScene b sc → KeepsRun (IsProperEvent b) (IsProperChoice b) (IsProperState b) (consume_all b list start sc left)
-consume_all_proper b = consume_all_kept b (IsProperFraction b) IsReduced (IsProperValue b) (IsProperKey b) (IsProperContent b) (AllValues (IsProperValue b)) (proper_closed b) (proper_contents b) (proper_write b) (proper_none b)
+consume_all_proper b = consume_all_kept b (IsProperFraction b) IsReduced (IsProperValue b) (IsProperKey b) (IsProperContent b) (AllValues (IsProperValue b)) (proper_closed b) (proper_contents b) (proper_write b) (none_proper b)
 
 pub exhale_all_proper : (b : Bound) (program : Program) (list : List t.Assertion) (s : State) (sc : Scene) → All (IsProperAssertion b) list → IsProperState b s → IsProperScene b sc → KeepsRun (IsProperEvent b) (IsProperChoice b) (IsProperState b) (exhale_all b program list s sc)
-exhale_all_proper b = exhale_all_kept b (IsProperFraction b) IsReduced (IsProperValue b) (IsProperKey b) (IsProperContent b) (AllValues (IsProperValue b)) (proper_closed b) (proper_contents b) (proper_write b) (proper_none b)
+exhale_all_proper b = exhale_all_kept b (IsProperFraction b) IsReduced (IsProperValue b) (IsProperKey b) (IsProperContent b) (AllValues (IsProperValue b)) (proper_closed b) (proper_contents b) (proper_write b) (none_proper b)
 
 pub content_in_proper : (b : Bound) (a : t.Assertion) (s : State) (sc : Scene) → IsProperAssertion b a → IsProperState b s → IsProperScene b sc → Keeps (IsProperEvent b) (AllValues (IsProperValue b)) (content_in b a s sc)
-content_in_proper b = content_in_kept b (IsProperFraction b) IsReduced (IsProperValue b) (IsProperKey b) (IsProperContent b) (AllValues (IsProperValue b)) (proper_closed b) (proper_contents b) (proper_write b) (proper_none b)
+content_in_proper b = content_in_kept b (IsProperFraction b) IsReduced (IsProperValue b) (IsProperKey b) (IsProperContent b) (AllValues (IsProperValue b)) (proper_closed b) (proper_contents b) (proper_write b) (none_proper b)
 
 pub closed_proper : (b : Bound) (body : t.Assertion) (start : State) (sc : Scene) (p : ℕ) (key : Key) (q : Fraction) (at : Pos) (left : State) → IsProperAssertion b body → IsProperState b start → IsProperState b left → IsProperScene b sc → IsProperKey b key → IsProperFraction b q → Keeps (IsProperEvent b) (IsProperState b) (c.closed b body start sc p key q at left)
-closed_proper b = closed_kept b (IsProperFraction b) IsReduced (IsProperValue b) (IsProperKey b) (IsProperContent b) (AllValues (IsProperValue b)) (proper_closed b) (proper_contents b) (proper_write b) (proper_none b)
+closed_proper b = closed_kept b (IsProperFraction b) IsReduced (IsProperValue b) (IsProperKey b) (IsProperContent b) (AllValues (IsProperValue b)) (proper_closed b) (proper_contents b) (proper_write b) (none_proper b)
 
 pub fold_instance_proper : (b : Bound) (program : Program) (f : s.FoldStmt) (s : State) (sc : Scene) → IsProperProgram b program → AreProperExprs b f.args → IsProperExpr b f.amount → IsProperState b s → IsProperScene b sc → KeepsRun (IsProperEvent b) (IsProperChoice b) (IsProperState b) (fold_instance b program f s sc)
-fold_instance_proper b = fold_instance_kept b (IsProperFraction b) IsReduced (IsProperValue b) (IsProperKey b) (IsProperContent b) (AllValues (IsProperValue b)) (proper_closed b) (proper_contents b) (proper_write b) (proper_none b)
+fold_instance_proper b = fold_instance_kept b (IsProperFraction b) IsReduced (IsProperValue b) (IsProperKey b) (IsProperContent b) (AllValues (IsProperValue b)) (proper_closed b) (proper_contents b) (proper_write b) (none_proper b)
 
 pub unfold_instance_proper : (b : Bound) (program : Program) (f : s.FoldStmt) (s : State) (sc : Scene) → IsProperProgram b program → AreProperExprs b f.args → IsProperExpr b f.amount → IsProperState b s → IsProperScene b sc → Keeps (IsProperEvent b) (IsProperState b) (unfold_instance b program f s sc)
-unfold_instance_proper b = unfold_instance_kept b (IsProperFraction b) IsReduced (IsProperValue b) (IsProperKey b) (IsProperContent b) (AllValues (IsProperValue b)) (proper_closed b) (proper_contents b) (proper_write b) (proper_none b)
+unfold_instance_proper b = unfold_instance_kept b (IsProperFraction b) IsReduced (IsProperValue b) (IsProperKey b) (IsProperContent b) (AllValues (IsProperValue b)) (proper_closed b) (proper_contents b) (proper_write b) (none_proper b)
 
 pub field_written_proper : (b : Bound) (sc : Scene) (s : State) (f : ℕ) (at : Pos) (r : ℕ) (v : Value) → IsProperState b s → IsProperValue b v → Keeps (IsProperEvent b) (IsProperState b) (field_written sc s f at r v)
-field_written_proper b = field_written_kept b (IsProperFraction b) IsReduced (IsProperValue b) (IsProperKey b) (IsProperContent b) (AllValues (IsProperValue b)) (proper_closed b) (proper_contents b) (proper_write b) (proper_none b)
+field_written_proper b = field_written_kept b (IsProperFraction b) IsReduced (IsProperValue b) (IsProperKey b) (IsProperContent b) (AllValues (IsProperValue b)) (proper_closed b) (proper_contents b) (proper_write b) (none_proper b)
 
 pub created_proper : (b : Bound) (tys : List Ty) (r : ℕ) (fs : List ℕ) (s : State) → IsProperState b s → KeepsRun (IsProperEvent b) (IsProperChoice b) (IsProperState b) (created tys r fs s)
-created_proper b = created_kept b (IsProperFraction b) IsReduced (IsProperValue b) (IsProperKey b) (IsProperContent b) (AllValues (IsProperValue b)) (proper_closed b) (proper_contents b) (proper_write b) (proper_none b)
+created_proper b = created_kept b (IsProperFraction b) IsReduced (IsProperValue b) (IsProperKey b) (IsProperContent b) (AllValues (IsProperValue b)) (proper_closed b) (proper_contents b) (proper_write b) (none_proper b)
 
 pub called_proper : (b : Bound) (a : Activation) → IsProperProgram b a.program → IsProperState b a.old → (targets : List ℕ) (callee : Method) (args : List Value) (at : Pos) (c : Configuration) → IsProperMethod b callee → All (IsProperValue b) args → IsProperConfiguration b c → KeepsRun (IsProperEvent b) (IsProperChoice b) (IsProperConfiguration b) (called b a targets callee args at c)
-called_proper b = called_kept b (IsProperFraction b) IsReduced (IsProperValue b) (IsProperKey b) (IsProperContent b) (AllValues (IsProperValue b)) (proper_closed b) (proper_contents b) (proper_write b) (proper_none b)
+called_proper b = called_kept b (IsProperFraction b) IsReduced (IsProperValue b) (IsProperKey b) (IsProperContent b) (AllValues (IsProperValue b)) (proper_closed b) (proper_contents b) (proper_write b) (none_proper b)
 
 pub after_loop_proper : (b : Bound) (a : Activation) → IsProperProgram b a.program → IsProperState b a.old → (at : Pos) (guard : t.Expr) (invariants : List t.Assertion) (c : Configuration) → IsProperExpr b guard → All (IsProperAssertion b) invariants → IsProperConfiguration b c → KeepsRun (IsProperEvent b) (IsProperChoice b) (IsProperConfiguration b) (after_loop b a at guard invariants c)
-after_loop_proper b = after_loop_kept b (IsProperFraction b) IsReduced (IsProperValue b) (IsProperKey b) (IsProperContent b) (AllValues (IsProperValue b)) (proper_closed b) (proper_contents b) (proper_write b) (proper_none b)
+after_loop_proper b = after_loop_kept b (IsProperFraction b) IsReduced (IsProperValue b) (IsProperKey b) (IsProperContent b) (AllValues (IsProperValue b)) (proper_closed b) (proper_contents b) (proper_write b) (none_proper b)
 
 pub run_stmt_proper : (b : Bound) (a : Activation) → IsProperProgram b a.program → IsProperState b a.old → (x : s.Stmt) (c : Configuration) → IsProperStmt b x → IsProperConfiguration b c → KeepsRun (IsProperEvent b) (IsProperChoice b) (IsProperConfiguration b) (run_stmt b a x c)
-run_stmt_proper b = run_stmt_kept b (IsProperFraction b) IsReduced (IsProperValue b) (IsProperKey b) (IsProperContent b) (AllValues (IsProperValue b)) (proper_closed b) (proper_contents b) (proper_write b) (proper_none b)
+run_stmt_proper b = run_stmt_kept b (IsProperFraction b) IsReduced (IsProperValue b) (IsProperKey b) (IsProperContent b) (AllValues (IsProperValue b)) (proper_closed b) (proper_contents b) (proper_write b) (none_proper b)
 
 pub run_block_proper : (b : Bound) (a : Activation) → IsProperProgram b a.program → IsProperState b a.old → (xs : s.Stmts) (c : Configuration) → AreProperStmts b xs → IsProperConfiguration b c → KeepsRun (IsProperEvent b) (IsProperChoice b) (IsProperConfiguration b) (run_block b a xs c)
-run_block_proper b = run_block_kept b (IsProperFraction b) IsReduced (IsProperValue b) (IsProperKey b) (IsProperContent b) (AllValues (IsProperValue b)) (proper_closed b) (proper_contents b) (proper_write b) (proper_none b)
+run_block_proper b = run_block_kept b (IsProperFraction b) IsReduced (IsProperValue b) (IsProperKey b) (IsProperContent b) (AllValues (IsProperValue b)) (proper_closed b) (proper_contents b) (proper_write b) (none_proper b)
 
 pub check_postcondition_proper : (b : Bound) (a : Activation) → IsProperProgram b a.program → IsProperState b a.old → (m : Method) (store : List Value) → IsProperMethod b m → All (IsProperValue b) store → KeepsRun (IsProperEvent b) (IsProperChoice b) (IsProperState b) (check_postcondition b a m store)
-check_postcondition_proper b = check_kept b (IsProperFraction b) IsReduced (IsProperValue b) (IsProperKey b) (IsProperContent b) (AllValues (IsProperValue b)) (proper_closed b) (proper_contents b) (proper_write b) (proper_none b)
+check_postcondition_proper b = check_kept b (IsProperFraction b) IsReduced (IsProperValue b) (IsProperKey b) (IsProperContent b) (AllValues (IsProperValue b)) (proper_closed b) (proper_contents b) (proper_write b) (none_proper b)
 
 pub run_body_proper : (b : Bound) (a : Activation) → IsProperProgram b a.program → IsProperState b a.old → (m : Method) (body : Body) (c : Configuration) → IsProperMethod b m → IsProperBody b body → IsProperConfiguration b c → KeepsRun (IsProperEvent b) (IsProperChoice b) (IsProperState b) (run_body b a m body c)
-run_body_proper b = run_body_kept b (IsProperFraction b) IsReduced (IsProperValue b) (IsProperKey b) (IsProperContent b) (AllValues (IsProperValue b)) (proper_closed b) (proper_contents b) (proper_write b) (proper_none b)
+run_body_proper b = run_body_kept b (IsProperFraction b) IsReduced (IsProperValue b) (IsProperKey b) (IsProperContent b) (AllValues (IsProperValue b)) (proper_closed b) (proper_contents b) (proper_write b) (none_proper b)
 
 pub unit_run_proper : (b : Bound) (program : Program) → IsProperProgram b program → (o : Opening) → IsProperOpening b o → (n : ℕ) → KeepsRun (IsProperEvent b) (IsProperChoice b) (IsProperState b) (unit_run b program n o)
-unit_run_proper b program w o h = unit_run_kept b (IsProperFraction b) IsReduced (IsProperValue b) (IsProperKey b) (IsProperContent b) (AllValues (IsProperValue b)) (proper_closed b) (proper_contents b) (proper_write b) (proper_none b) program w (proper_default b) o h
+unit_run_proper b program w o h = unit_run_kept b (IsProperFraction b) IsReduced (IsProperValue b) (IsProperKey b) (IsProperContent b) (AllValues (IsProperValue b)) (proper_closed b) (proper_contents b) (proper_write b) (none_proper b) program w (proper_default b) o h

@@ -1,12 +1,13 @@
 -- A typed expression has a value of its type, and blocks nowhere but in an `unfolding`.
-use Rattle.std.proofs.Common.{◌≡◌, ◌≢◌, ◌⊎◌, inl, inr, refl, sym, ap, subst, ◌∙◌, ℕ, ℤ, pos, ◌==◌, Bool, true, false, not, ◌&&◌, Option, Some, None, List, [], ◌∷◌, All, IfSome, slice_get, map, if◌then◌else◌}
+use Rattle.std.proofs.Common.{◌≡◌, ◌≢◌, ◌⊎◌, inl, inr, refl, sym, ap, subst, ◌∙◌, ℕ, ℤ, pos, ◌==◌, Bool, true, false, not, ◌&&◌, Option, Some, None, List, [], ◌∷◌, All, IfSome, slice_get, if◌then◌else◌}
 use Rattle.std.proofs.lemmas.Bool.{true≢false}
 use Rattle.std.proofs.lemmas.Bool.Decides.{Decides-int_eq}
 use Rattle.std.proofs.lemmas.List.Elements.{All-nil, All-cons, All-append}
 use Rattle.std.specs.Int.{int_div_euclid, int_rem_euclid}
 use Rattle.std.specs.Ordering.{int_eq, is_lt, is_le, is_gt, is_ge}
-use Rattle.std.specs.Prelude.{⊤, IsTrue, zero, suc}
+use Rattle.std.specs.Prelude.{⊤, IsTrue}
 use Rattle.std.specs.declared.cmp.Ordering.{Ordering}
+use Rattle.lemmas.proofs.Lists.{mapped_at}
 use Rattle.vb_base.specs.declared.labels.Kind.{Kind}
 use Rattle.vb_base.specs.declared.labels.Kind.TheVariants as kind
 use Rattle.vb_base.specs.declared.labels.Label.{Label}
@@ -283,11 +284,6 @@ key_fits [] [] h = tt
 key_fits [] (v ∷ vs) h = absurd h
 key_fits (u ∷ us) [] h = absurd h
 key_fits (u ∷ us) (v ∷ vs) h = in_front_fits u us (key_part v) (key_of vs) (key_part_fits u v h.0) (key_fits us vs h.1)
-
-mapped_at : {X Y : Type 0} (f : X → Y) (xs : List X) (n : ℕ) (x : X) → slice_get xs n ≡ Some x → slice_get (map f xs) n ≡ Some (f x)
-mapped_at f [] n x e = cc
-mapped_at f (y ∷ xs) zero x e = let same : y ≡ x = cc in ap (λ z. Some (f z)) same
-mapped_at f (y ∷ xs) (suc n) x e = mapped_at f xs n x e
 
 -- the types of the arguments of a predicate, in the layout of its program
 pub keys_at : (c : Context) → IsFormed c.program → (p : ℕ) (d : Predicate) → slice_get c.program.predicates p ≡ Some d → slice_get c.program.layout.keys p ≡ Some d.params

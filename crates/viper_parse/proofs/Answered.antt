@@ -1,7 +1,7 @@
 -- Each list of tokens is read, or goes wrong somewhere: by the number of its tokens, and then by the rank of the symbol.
 use Rattle.std.proofs.Common.{◌≡◌, refl, sym, ap, subst, ◌∙◌, ℕ, ℤ, pos, negsuc, zero, suc, ◌+◌, ◌-◌, ◌⊎◌, inl, inr, Bool, true, false, List, [], ◌∷◌, Some, slice_get, arith}
-use Rattle.std.proofs.lemmas.Bool.{cases_order}
 use Rattle.std.proofs.lemmas.Option.{same_Some}
+use Rattle.lemmas.proofs.Lists.{cons_same}
 use Rattle.viper_syntax.specs.declared.tokens.Token.{Token}
 use Rattle.viper_syntax.specs.declared.tokens.Tok.{Tok}
 use Rattle.viper_syntax.specs.declared.tokens.Tok.TheVariants as tok
@@ -14,6 +14,7 @@ use Rattle.viper_grammar.specs.Tests.{Kind, Test, this, a_name, a_number, one_of
 use Rattle.viper_grammar.specs.Grammar as g
 use Rattle.viper_grammar.specs.Grammar.{Symbol, Rule, rule, viper, rules}
 use Rattle.grammar.specs.Whole.{IsSpelled, GoesWrong}
+use Rattle.grammar.proofs.Decided.{Decided, same_number, decided_by}
 use Rattle.grammar.proofs.Answered as grammar
 use Rattle.grammar.proofs.Answered.{right, wrong, fg, fn, fw, fr, ft}
 use Rattle.viper_parse.proofs.Codes.{word_code, sign_code, empty}
@@ -22,25 +23,8 @@ use Rattle.viper_parse.proofs.Complete.{empty_right, complete}
 
 -- whether two tokens are the same
 
-abbrev Decided : Type 0 → Type 0
-Decided A = A ⊎ (A → ⊥)
-
-same_number : (m n : ℕ) → Decided (m ≡ n)
-same_number m n = elim (cases_order m n) [
-  | inl e ↦ inl e
-  | inr (inl lt) ↦ inr (λ e. omega (arith, lt, e))
-  | inr (inr lt) ↦ inr (λ e. omega (arith, lt, e))
-]
-
-decided_by : {A B : Type 0} → (A → B) → (B → A) → Decided A → Decided B
-decided_by f g (inl a) = inl (f a)
-decided_by f g (inr n) = inr (λ b. n (g b))
-
-cons_is : {x y : ℕ} {xs ys : List ℕ} → x ≡ y → xs ≡ ys → x ∷ xs ≡ y ∷ ys
-cons_is e f = cc
-
 same_cons : {x y : ℕ} {xs ys : List ℕ} → Decided (x ≡ y) → Decided (xs ≡ ys) → Decided (x ∷ xs ≡ y ∷ ys)
-same_cons (inl e) (inl f) = inl (cons_is e f)
+same_cons (inl e) (inl f) = inl (cons_same e f)
 same_cons (inr n) d = inr (λ e. n (cc))
 same_cons d (inr n) = inr (λ e. n (cc))
 

@@ -84,10 +84,10 @@ counts g.First =
     cw (λ x. cw (λ _. cr (λ es m h. cg (omega arith))) (cg (omega arith))) (cw (λ n. cg (omega arith)) (cw (λ w. cg (omega arith))
     (cw (λ at. cr (λ p m h. cg (omega arith))) (cw (λ at. cn (λ _. cr (λ p m h. cr (λ a m' h'. cg (omega arith))))) (cr (λ p m h. cg (omega arith)))))))
 
-one_longer : (n w : ℕ) (ts us : List Token) (k : Token) → ts ≡ k ∷ us → w ≤ n + 1 + length us → w ≤ n + length ts
+pub one_longer : (n w : ℕ) (ts us : List Token) (k : Token) → ts ≡ k ∷ us → w ≤ n + 1 + length us → w ≤ n + length ts
 one_longer n w ts us k e h = let l : length ts ≡ length (k ∷ us) = ap length e in omega arith
 
-longer_by : (n w : ℕ) (ts us : List Token) → w ≤ n + length ts + length us → w ≤ n + length (ts ++ us)
+pub longer_by : (n w : ℕ) (ts us : List Token) → w ≤ n + length ts + length us → w ≤ n + length (ts ++ us)
 longer_by n w ts us h = let l : length (ts ++ us) ≡ length ts + length us = length-append ts us in omega arith
 
 counted : {s : Kind} {a : Rule s} {n : ℕ} {ts : List Token} {x : Value s} → Counts s n a → Derives s a ts x → length (names_in s x) ≤ n + length ts

@@ -11,8 +11,9 @@ use Rattle.viper_syntax.specs.declared.stmts.Formal.{Formal}
 use Rattle.viper_grammar.specs.Tests.{Kind, Value}
 use Rattle.viper_grammar.specs.Grammar.{Rule}
 use Rattle.viper_grammar.specs.Greedy.{Goes, Refuses, Parses}
-use Rattle.viper_grammar.proofs.Steps.{error_as, goes_then}
+use Rattle.viper_grammar.proofs.Reading.{viper_steps}
 use Rattle.viper_parse.specs.Header.{header, Heads}
+open viper_steps use {error_as, goes_then}
 
 pub header_error : (ts : List Token) (w : Stop Token) (res : Result ((Named × Vec Formal Global) × Bor (List Token)) (Stop Token)) →
     IsErrAnd res (λ x. x ≡ w) → ((s : Kind) (go : Named → List Formal → Rule s) → Refuses (header s go) ts w) → Heads ts res

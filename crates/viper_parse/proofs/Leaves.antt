@@ -1,6 +1,10 @@
 -- The names and literals of a program are those of its tokens.
 use Rattle.std.proofs.Common.{◌≡◌, refl, sym, ap, subst, ◌∙◌, ℕ, zero, suc, Bool, true, false, cond, List, [], ◌∷◌, ◌++◌, append_assoc, if◌then◌else◌}
 use Rattle.std.proofs.lemmas.List.{append-nil}
+use Rattle.std.specs.List.{AllByRecursion}
+use Rattle.grammar.proofs.Each.{each_append, front, back}
+use Rattle.grammar.proofs.Made as made
+use Rattle.grammar.proofs.Made.{mg, mn, mw, mr, makes_cond, holds}
 use Rattle.viper_syntax.specs.declared.tokens.Token.{Token}
 use Rattle.viper_syntax.specs.declared.tokens.Tok.{Tok}
 use Rattle.viper_syntax.specs.declared.tokens.Tok.TheVariants as k
@@ -15,28 +19,15 @@ use Rattle.viper_grammar.specs.declared.parts.Shape.TheVariants as shape
 use Rattle.viper_grammar.specs.Tests as v
 use Rattle.viper_grammar.specs.Tests.{Kind, Value, Test, this, a_name, a_number, one_of, a_negation, an_operator, Passes}
 use Rattle.viper_grammar.specs.Grammar as g
-use Rattle.viper_grammar.specs.Grammar.{Symbol, Rule, give, need, when, read, rule}
-use Rattle.viper_grammar.specs.Spells.{Derives, given, needed, taken, passed, called}
+use Rattle.viper_grammar.specs.Grammar.{Symbol, Rule, rule, viper, rules}
+use Rattle.viper_grammar.specs.Spells.{Derives}
 
 -- a property of each element
 abbrev pub Each : {X : Type 0} → (X → Type 0) → List X → Type 0
-Each P [] = Unit {0}
-Each P (x ∷ xs) = P x × Each P xs
-
-pub each_append : {X : Type 0} (P : X → Type 0) (xs ys : List X) → Each P xs → Each P ys → Each P (xs ++ ys)
-each_append P [] ys h i = i
-each_append P (x ∷ xs) ys h i = (h.0, each_append P xs ys h.1 i)
+Each P xs = AllByRecursion P xs
 
 pub each_by : {X : Type 0} (P : X → Type 0) {xs ys : List X} → ys ≡ xs → Each P xs → Each P ys
 each_by P e h = subst (λ l. Each P l) (sym e) h
-
-front : {X : Type 0} (P : X → Type 0) (xs ys : List X) → Each P (xs ++ ys) → Each P xs
-front P [] ys h = tt
-front P (x ∷ xs) ys h = (h.0, front P xs ys h.1)
-
-back : {X : Type 0} (P : X → Type 0) (xs ys : List X) → Each P (xs ++ ys) → Each P ys
-back P [] ys h = h
-back P (x ∷ xs) ys h = back P xs ys h.1
 
 each_map : {X : Type 0} {P Q : X → Type 0} → ((x : X) → P x → Q x) → (xs : List X) → Each P xs → Each Q xs
 each_map f [] h = tt
@@ -280,19 +271,8 @@ holding h i j = record { terms = h; names = i; uses = j }
 having : {s : Kind} {a : Symbol s} → Each HasLeaves (held_terms a) → Each IsName (held_names a) → Each IsName (held_uses a) → Held a
 having h i j = record { terms = h; names = i; uses = j }
 
-data Makes (s : Kind) : Rule s → Type 0 where
-  mg : {x : Value s} → Holds s x → Makes s (give x)
-  mn : {r : Kind} {c : Test true r} {go : Value r → Rule s} → ((x : Value r) → Holds r x → Makes s (go x)) → Makes s (need c go)
-  mw : {b : Bool} {r : Kind} {c : Test b r} {go : Value r → Rule s} {other : Rule s} → ((x : Value r) → Holds r x → Makes s (go x)) → Makes s other → Makes s (when c go other)
-  mr : {r : Kind} {a : Symbol r} {go : Value r → Rule s} → Held a → ((y : Value r) → Holds r y → Makes s (go y)) → Makes s (read a go)
-
-makes_cond : {s : Kind} (b : Bool) {x y : Rule s} → Makes s x → Makes s y → Makes s (cond b x y)
-makes_cond true h i = h
-makes_cond false h i = i
-
-makes_if : {s : Kind} (b : Bool) {x y : Rule s} → Makes s x → Makes s y → Makes s (if b then x else y)
-makes_if true h i = h
-makes_if false h i = i
+abbrev Makes : (s : Kind) → Rule s → Type 0
+Makes s a = made.Makes {A = viper} Holds (λ r b. Held b) s a
 
 -- lists with one more
 
@@ -377,7 +357,7 @@ makes (g.Level zero) h = mr (having tt tt tt) (λ p i. mg i)
 makes (g.Level (suc n)) h = mr (having tt tt tt) (λ p i. mr (having i.terms tt tt) (λ q j. mg j))
 makes (g.Chain n p) h =
     makes_cond (g.is_open p.shape) (mg (holding h.terms tt tt))
-    (mw (λ o _. mr (having tt tt tt) (λ q i. makes_if (g.repeats n) (mr (having ((h.terms.0, i.terms.0), tt) tt tt) (λ r j. mg j)) (mg (holding ((h.terms.0, i.terms.0), tt) tt tt)))) (mg (holding h.terms tt tt)))
+    (mw (λ o _. mr (having tt tt tt) (λ q i. makes_cond (g.repeats n) (mr (having ((h.terms.0, i.terms.0), tt) tt tt) (λ r j. mg j)) (mg (holding ((h.terms.0, i.terms.0), tt) tt tt)))) (mg (holding h.terms tt tt)))
 makes g.Unary h =
     mw (λ o _. mr (having tt tt tt) (λ p i. mg (holding i.terms tt tt)))
     (mw (λ at _. mr (having tt tt tt) (λ i j. mn (λ _ _. mr (having tt tt tt) (λ p l.
@@ -404,12 +384,11 @@ token_holds (an_operator n) token x q h = holding tt tt tt
 abbrev pub rights : List Token → Type 0
 rights ts = Each (λ (token : Token). IsRight token.tok) ts
 
-holds : {s : Kind} {a : Rule s} {ts : List Token} {x : Value s} → Makes s a → Derives s a ts x → rights ts → Holds s x
-holds (mg h) given r = h
-holds (mn {c = c} f) (needed {us = us} {v = y} q d) r = let h = subst rights q.is r in holds (f y (token_holds c q.token y q.passes h.0)) d h.1
-holds (mw {c = c} f o) (taken {us = us} {v = y} q d) r = let h = subst rights q.is r in holds (f y (token_holds c q.token y q.passes h.0)) d h.1
-holds (mw f o) (passed d) r = holds o d r
-holds (mr {a = a} h f) (called {ts = ts} {us = us} {y = y} d e) r = holds (f y (holds (makes a h) d (front (λ (token : Token). IsRight token.tok) ts us r))) e (back (λ (token : Token). IsRight token.tok) ts us r)
+making : made.Making rules Holds (λ s a. Held a) (λ (token : Token). IsRight token.tok)
+making = record {
+  of_token = λ b r c k x p h. token_holds c k x p h;
+  of_symbol = λ s a h. makes a h;
+}
 
 pub record HasRightLeaves (ds : List d.Decl) : Type 0 where
   pub literals : Each HasLiterals (decls_terms ds)
@@ -420,5 +399,5 @@ pub record HasRightLeaves (ds : List d.Decl) : Type 0 where
 -- the literals and names of a program are those of its tokens
 pub all_hold : {ts : List Token} {ds : List d.Decl} → Derives v.decls (rule (g.Program [])) ts ds → rights ts → HasRightLeaves ds
 all_hold {ds = ds} h r =
-    let all = holds (makes (g.Program []) (having tt tt tt)) h r in
+    let all = holds making (makes (g.Program []) (having tt tt tt)) h r in
     record { literals = each_map term_literals (decls_terms ds) all.terms; declared = all.names; in_terms = each_map term_names (decls_terms ds) all.terms; used = all.uses }

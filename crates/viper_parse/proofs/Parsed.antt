@@ -19,9 +19,10 @@ use Rattle.viper_grammar.specs.Greedy.{Reads}
 use Rattle.viper_parse.specs.Whole.{FailsWhole, RefusesWhole}
 use Rattle.viper_grammar.specs.Stops.{place_at, fault_of}
 use Rattle.viper_parse.specs.Answers.{IsProgram, GoesWrong, Gives, Refuses}
-use Rattle.viper_grammar.proofs.Reading.{derivation, one_reading}
+use Rattle.viper_grammar.proofs.Reading.{viper_steps}
 use Rattle.viper_parse.proofs.Complete.{complete}
 use Rattle.viper_parse.proofs.Answered.{answered}
+open viper_steps use {derivation, one_reading}
 
 program_is : (p q : d.SourceProgram) → p.decls ≡ q.decls → p ≡ q
 program_is p q e = λ t. record { decls = e t }

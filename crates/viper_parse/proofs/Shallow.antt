@@ -2,6 +2,7 @@
 use Rattle.std.proofs.Common.{◌≡◌, refl, sym, ap, subst, ◌∙◌, ℕ, zero, suc, ◌+◌, ◌≤◌, max, Bool, true, false, cond, List, [], ◌∷◌, ◌++◌, length, append_assoc, arith, if◌then◌else◌, IsTrue}
 use Rattle.std.proofs.lemmas.List.{append-nil, length-append}
 use Rattle.std.proofs.lemmas.Option.{slice_get_within}
+use Rattle.viper_parse.proofs.Counted.{one_longer, longer_by}
 use Rattle.viper_syntax.specs.declared.tokens.Token.{Token}
 use Rattle.viper_syntax.specs.declared.tokens.Word.{Word}
 use Rattle.viper_syntax.specs.declared.tokens.Word.TheVariants as word
@@ -20,7 +21,8 @@ use Rattle.viper_grammar.specs.Grammar.{Symbol, Rule, give, need, when, read, ru
 use Rattle.viper_grammar.specs.Spells.{Derives, given, needed, taken, passed, called}
 use Rattle.viper_syntax.specs.Good.{depth, amount_depth, terms_depth, amount_terms, rhs_terms, with_fields, target_terms, option_terms, block_terms, arm_terms, arms_terms, clauses_terms, decls_terms}
 use Rattle.viper_syntax.specs.Limit.{is_divider, is_dividing_word, is_dividing_sign, IsUndivided}
-use Rattle.viper_parse.proofs.Leaves.{Each, each_append, each_by, terms_in, held_terms, decls_terms_more, stmts_terms_more, arms_terms_more, clauses_more}
+use Rattle.grammar.proofs.Each.{each_append}
+use Rattle.viper_parse.proofs.Leaves.{Each, each_by, terms_in, held_terms, decls_terms_more, stmts_terms_more, arms_terms_more, clauses_more}
 
 -- tokens without a divider among them, wherever they stand, are at most n
 pub record HasShortRows (n : ℕ) (ts : List Token) : Type 0 where
@@ -203,12 +205,6 @@ undivided (j ∷ ts) h (suc i) k e = undivided ts h.1 i k e
 record Bounded (s : Kind) (n : ℕ) (ts : List Token) (x : Value s) : Type 0 where
   small : weight s x ≤ n + length ts
   row : Each InRow ts
-
-one_longer : (n w : ℕ) (ts us : List Token) (k : Token) → ts ≡ k ∷ us → w ≤ n + 1 + length us → w ≤ n + length ts
-one_longer n w ts us k e h = let l : length ts ≡ length (k ∷ us) = ap length e in omega arith
-
-longer_by : (n w : ℕ) (ts us : List Token) → w ≤ n + length ts + length us → w ≤ n + length (ts ++ us)
-longer_by n w ts us h = let l : length (ts ++ us) ≡ length ts + length us = length-append ts us in omega arith
 
 bounded : {s : Kind} {a : Rule s} {n : ℕ} {ts : List Token} {x : Value s} → Costs s n a → Derives s a ts x → Bounded s n ts x
 bounded (cg h) given = record { small = omega arith; row = tt }

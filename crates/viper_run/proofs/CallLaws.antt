@@ -2,10 +2,10 @@
 use Rattle.std.proofs.Common.{◌≡◌, refl, sym, ap, ◌∙◌, subst, ℕ, Option, Some, None, List, [], ◌++◌, length, get_or, map, All, IfSome, is_some, slice_get, Result, Ok, Err}
 use Rattle.std.specs.Prelude.{⊤, nat_lt}
 use Rattle.std.specs.Borrow.{Bor}
-use Rattle.std.proofs.lemmas.Bool.{ltb-true, ltb-false}
 use Rattle.std.proofs.lemmas.List.Elements.{All-append}
 use Rattle.std.specs.Option.{option_map, option_copied}
-use Rattle.std.proofs.lemmas.Option.{slice_get-map, slice_get-get_or, slice_get_past}
+use Rattle.std.proofs.lemmas.Option.{slice_get-map}
+use Rattle.lemmas.proofs.Options.{looked_at}
 use Rattle.vb_base.specs.declared.places.Pos.{Pos}
 use Rattle.vb_value.specs.Bound.{Bounded}
 use Rattle.vb_value.specs.Value.{IsWithinValue}
@@ -39,18 +39,18 @@ pub joined_within : (args vs : List Value) {store : List Value} {before : State}
     IsWithinScene (record { store = store; old = before; at = at })
 joined_within args vs same a v b = record { store = subst (All IsWithinValue) (sym same) (All-append IsWithinValue args vs a v); old = b }
 
-module _ (at : Pos) (targets : List ℕ) (posts : List t.Assertion) (args vs : List Value) (before : State) (c : Configuration) {store : List Value} (joined : store ≡ args ++ vs) where
+module _ (at : Pos) (targets : List ℕ) (posts : List t.Assertion) (args vs : List Value) (before : State) (c : Configuration) {store : List Value} (joined : store ≡ args ++ vs) {promised : List t.Assertion} (all_promised : promised ≡ posts) where
   abbrev with_targets : State → Run Configuration
   with_targets s = run.goes (record { store = stored c.store targets vs; state = s })
 
-  call_ends : call_ended at targets posts args vs before c ≡ then_do (produce_all Bounded posts (record { store = store; old = before; at = at }) c.state) with_targets
-  call_ends i = then_do (produce_all Bounded posts (record { store = sym joined i; old = before; at = at }) c.state) with_targets
+  call_ends : call_ended at targets posts args vs before c ≡ then_do (produce_all Bounded promised (record { store = store; old = before; at = at }) c.state) with_targets
+  call_ends i = then_do (produce_all Bounded (sym all_promised i) (record { store = sym joined i; old = before; at = at }) c.state) with_targets
 
-  pub end_stops : {X Z : Type 0} {v : X → State} {u : Z → Configuration} {f g : Feed} {w : Halt} → Does v f (produce_all Bounded posts (record { store = store; old = before; at = at }) c.state) g (Err w) →
+  pub end_stops : {X Z : Type 0} {v : X → State} {u : Z → Configuration} {f g : Feed} {w : Halt} → Does v f (produce_all Bounded promised (record { store = store; old = before; at = at }) c.state) g (Err w) →
       Does u f (call_ended at targets posts args vs before c) g (Err w)
   end_stops {v = v} h = first_stops {v = v} with_targets call_ends h
 
-  pub end_goes : {f g : Feed} {x z : ⊤} (after : List Value) (s : State) → after ≡ stored c.store targets vs → Does (λ x. s) f (produce_all Bounded posts (record { store = store; old = before; at = at }) c.state) g (Ok x) →
+  pub end_goes : {f g : Feed} {x z : ⊤} (after : List Value) (s : State) → after ≡ stored c.store targets vs → Does (λ x. s) f (produce_all Bounded promised (record { store = store; old = before; at = at }) c.state) g (Ok x) →
       Does (λ z. record { store = after; state = s }) f (call_ended at targets posts args vs before c) g (Ok z)
   end_goes {z = z} after s set h = both_go with_targets call_ends h (goes_at_once (record { store = stored c.store targets vs; state = s }) z (ap (λ st. record { store = st; state = s }) set))
 
@@ -75,17 +75,12 @@ module _ (k : Activation) (targets : List ℕ) (callee : Method) (args : List Va
       pub values_stop : {X Z : Type 0} {v : X → List Value} {u : Z → Configuration} {g : Feed} {w : Halt} → Does v m (taking_values k.vars targets) g (Err w) → Does u f (called Bounded k targets callee args at c) g (Err w)
       values_stop {v = v} h = both_go to_values called_is given (first_stops {v = v} (to_end s) refl h)
 
-      pub call_goes : {X Z : Type 0} {v : X → List Value} {u : Z → Configuration} {n g : Feed} {y : X} {q : Result Z Halt} {before : State} {promised : List t.Assertion} → before ≡ c.state → promised ≡ callee.postconditions →
-          Does v m (taking_values k.vars targets) n (Ok y) → Does u n (call_ended at targets promised args (v y) before (record { store = c.store; state = s })) g q → Does u f (called Bounded k targets callee args at c) g q
-      call_goes {v = v} {y = y} copied all_promised h i =
-          both_go to_values called_is given (both_go {v = v} (to_end s) refl h (same_run (λ j. call_ended at targets (sym all_promised j) args (v y) (sym copied j) (record { store = c.store; state = s })) i))
+      pub call_goes : {X Z : Type 0} {v : X → List Value} {u : Z → Configuration} {n g : Feed} {y : X} {q : Result Z Halt} {before : State} → before ≡ c.state →
+          Does v m (taking_values k.vars targets) n (Ok y) → Does u n (call_ended at targets callee.postconditions args (v y) before (record { store = c.store; state = s })) g q → Does u f (called Bounded k targets callee args at c) g q
+      call_goes {v = v} {y = y} copied h i =
+          both_go to_values called_is given (both_go {v = v} (to_end s) refl h (same_run (λ j. call_ended at targets callee.postconditions args (v y) (sym copied j) (record { store = c.store; state = s })) i))
 
 -- ---- the statement: the arguments are read, and the method is found
-
--- what is looked up
-pub looked_at : {A : Type 0} (o : Option (Bor A)) (xs : List A) (n : ℕ) → is_some o ≡ nat_lt n (length xs) → IfSome o (λ x. x.now ≡ get_or xs n x.now) → option_copied o ≡ slice_get xs n
-looked_at None xs n is there = sym (slice_get_past xs n (ltb-false n (length xs) (sym is)))
-looked_at (Some x) xs n is there = sym (slice_get-get_or xs n x.now (ltb-true n (length xs) (sym is)) ∙ ap Some (sym there))
 
 -- as plain data
 pub borrowed : {A B : Type 0} (view : A → B) (o : Option (Bor A)) {p : Option A} → option_copied o ≡ p → option_map (λ x. view x.now) o ≡ option_map view p

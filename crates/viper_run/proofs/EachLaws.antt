@@ -1,23 +1,12 @@
 -- One after the other: what is done with each item of a list, in their order.
-use Rattle.std.proofs.Common.{◌≡◌, sym, ap, ◌∙◌, arith, ℕ, suc, ◌+◌, ◌<◌, ◌≤◌, length, drop, get_or, List, [], ◌∷◌, Ok, Err}
-use Rattle.std.proofs.Math.Numerals.{add-one}
-use Rattle.std.proofs.Math.Seq.{drop-cons, drop-length}
+use Rattle.std.proofs.Common.{◌≡◌, ap, ◌∙◌, ℕ, ◌+◌, ◌≤◌, length, drop, List, [], ◌∷◌, Ok, Err}
+use Rattle.lemmas.proofs.Lists.{none_at}
 use Rattle.viper_state.specs.Run.{Feed}
 use Rattle.viper_meaning.specs.Run as run
 use Rattle.viper_meaning.specs.Run.{Run, then_do, on, then_ran}
 use Rattle.viper_inhale.specs.Answers.{run_of, Does, goes}
 use Rattle.viper_inhale.specs.declared.answers.Halt.{Halt}
 use Rattle.viper_inhale.proofs.DoesLaws.{run_then, does_at, then_stops, goes_at_once}
-
--- the item at an index, and those after it
-pub item_at : {A : Type 0} (xs : List A) (i : ℕ) (a : A) → i < length xs → a ≡ get_or xs i a → drop i xs ≡ a ∷ drop (i + 1) xs
-item_at xs i a lt is = rw add-one (drop-cons xs i a lt ∙ ap (λ x. x ∷ drop (suc i) xs) (sym is))
-
-pub number_at : (xs : List ℕ) (i : ℕ) → i < length xs → drop i xs ≡ get_or xs i 0 ∷ drop (i + 1) xs
-number_at xs i lt = rw add-one (drop-cons xs i 0 lt)
-
-pub none_at : {A : Type 0} (xs : List A) (i : ℕ) → length xs ≤ i → i ≤ length xs → drop i xs ≡ []
-none_at xs i above below = let end : i ≡ length xs = omega arith in rw end (drop-length xs)
 
 module _ {A S : Type 0} (all : List A → S → Run S) (one : A → S → Run S) (none : (s : S) → all [] s ≡ run.goes s) (more : (a : A) (rest : List A) (s : S) → all (a ∷ rest) s ≡ then_do (one a s) (all rest)) (xs : List A) (i : ℕ) where
   split_off : (a : A) (s : S) (m : Feed) → drop i xs ≡ a ∷ drop (i + 1) xs → run_of (all (drop i xs) s) m ≡ run_of (then_do (one a s) (all (drop (i + 1) xs))) m

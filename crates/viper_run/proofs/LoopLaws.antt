@@ -5,6 +5,8 @@ use Rattle.vb_value.specs.Bound.{Bounded}
 use Rattle.vb_value.specs.declared.values.Value.{Value}
 use Rattle.viper_core.specs.Expr as t
 use Rattle.viper_core.specs.Stmt as s
+use Rattle.viper_core.specs.View.{assertions_of, expr_of, stmts_of}
+use Rattle.viper_core.specs.declared.stmts.Loop.{Loop}
 use Rattle.viper_state.specs.Event as event
 use Rattle.viper_state.specs.Run.{Feed, Scene}
 use Rattle.viper_state.specs.State.{State, empty_state}
@@ -56,7 +58,7 @@ module _ (k : Activation) (at : Pos) (guard : t.Expr) (invariants : List t.Asser
   if_guarded true d = goes_then d turned
   if_guarded false d = refl
 
-  guarded_then : (c : Configuration) (any : State) → then_do (guarded k at guard invariants c any) turned ≡
+  guarded_then : (c : Configuration) (any : State) → then_do (guarded true k at guard invariants c any) turned ≡
       then_do (produce_all Bounded invariants (scene k c at) any) (λ s. evaluating (truth_in Bounded guard s (scene k c at)) (λ holds. if holds then turned (with_state c s) else ended blocks))
   guarded_then c any =
       then_then (produce_all Bounded invariants (scene k c at) any) (λ s. evaluating (truth_in Bounded guard s (scene k c at)) (λ holds. if holds then goes (with_state c s) else ended blocks)) turned
@@ -65,8 +67,8 @@ module _ (k : Activation) (at : Pos) (guard : t.Expr) (invariants : List t.Asser
 
   turn_runs : (c : Configuration) → run_turn Bounded k at guard invariants body turn c ≡ then_do (turn_begun k at guard invariants c) turned
   turn_runs c =
-      sym (taking_then (memo_in k.program.layout) (λ m. noting (event.Whole m) (guarded k at guard invariants c (empty_state k.program.layout m))) turned
-      ∙ (λ i. taking (memo_in k.program.layout) (λ m. before_then (event.Whole m ∷ []) (guarded k at guard invariants c (empty_state k.program.layout m)) turned i))
+      sym (taking_then (memo_in k.program.layout) (λ m. noting (event.Whole m) (guarded true k at guard invariants c (empty_state k.program.layout m))) turned
+      ∙ (λ i. taking (memo_in k.program.layout) (λ m. before_then (event.Whole m ∷ []) (guarded true k at guard invariants c (empty_state k.program.layout m)) turned i))
       ∙ (λ i. taking_state k.program (λ any. guarded_then c any i)))
 
   abbrev pub in_vain_ended : Configuration → Run Configuration
@@ -79,6 +81,36 @@ module _ (k : Activation) (at : Pos) (guard : t.Expr) (invariants : List t.Asser
   turn_is c =
       ap (λ r. in_vain r) (turn_runs c) ∙ then_then (turn_begun k at guard invariants c) turned (λ x. ended blocks)
       ∙ then_same (turn_begun k at guard invariants c) (λ d. then_then (body d) turn_ended (λ x. ended blocks))
+
+-- ---- a loop of the program
+
+module _ (k : Activation) (w : Loop) where
+  abbrev guard_of : t.Expr
+  guard_of = expr_of w.guard
+
+  abbrev invariants_of : List t.Assertion
+  invariants_of = assertions_of w.invariants.items
+
+  abbrev body_of : Configuration → Run Configuration
+  body_of = runs k (stmts_of w.body.items)
+
+  abbrev pub ways_of : Configuration → Bool → Run Configuration
+  ways_of = ways k w.at guard_of invariants_of body_of w.turn
+
+  abbrev pub turn_or_leave_of : Configuration → Run Configuration
+  turn_or_leave_of = turn_or_leave k w.at guard_of invariants_of body_of w.turn
+
+  abbrev pub in_vain_ended_of : Configuration → Run Configuration
+  in_vain_ended_of = in_vain_ended k w.at guard_of invariants_of body_of w.turn
+
+  abbrev pub body_then_of : Configuration → Run Configuration
+  body_then_of = body_then k w.at guard_of invariants_of body_of w.turn
+
+  pub loop_begins : (c : Configuration) → run_loop Bounded k w.at guard_of invariants_of body_of w.turn w.targets.items c ≡ then_do (loop_entered k w.at invariants_of w.targets.items c) turn_or_leave_of
+  loop_begins c = loop_is k w.at guard_of invariants_of body_of w.turn w.targets.items c
+
+  pub turn_begins : (c : Configuration) → in_vain {Y = Configuration} (run_turn Bounded k w.at guard_of invariants_of body_of w.turn c) ≡ then_do (turn_begun k w.at guard_of invariants_of c) body_then_of
+  turn_begins c = turn_is k w.at guard_of invariants_of body_of w.turn c
 
 -- ---- the end of a turn: the invariant is consumed in vain
 

@@ -1,5 +1,5 @@
 -- What the parts of a loop leave, so that its run can go on.
-use Rattle.std.proofs.Common.{ℕ, zero, suc, List, [], ◌∷◌, All, slice_set}
+use Rattle.std.proofs.Common.{ℕ, zero, suc, true, List, [], ◌∷◌, All, slice_set}
 use Rattle.std.specs.Prelude.{⊤}
 use Rattle.std.proofs.lemmas.List.Elements.{All-nil, All-head, All-tail, All-cons}
 use Rattle.vb_base.specs.declared.places.Pos.{Pos}
@@ -49,7 +49,7 @@ module _ (k : Activation) (old : IsWithinState k.old) (at : Pos) (invariants : L
       at_end (is_kept (record { store = stored_within c.store targets vs h.store j; state = i }))))
 
   pub guarded_within : (guard : t.Expr) (c : Configuration) (any : State) → IsWithinExpr guard → All IsWithinValue c.store → IsWithinState any →
-      KeepsRun IsWithinEvent IsWithinChoice IsWithinConfiguration (guarded k at guard invariants c any)
+      KeepsRun IsWithinEvent IsWithinChoice IsWithinConfiguration (guarded true k at guard invariants c any)
   guarded_within guard c any w h i =
       then_do_kept (produce_all_within invariants (scene k c at) any clauses i (record { store = h; old = old })) (λ s j.
       evaluating_kept (truth_within guard s (scene k c at) w j (record { store = h; old = old })) (λ holds u. if_run_kept holds (at_end (is_kept (record { store = h; state = j }))) (at_end blocks_kept)))
@@ -61,7 +61,7 @@ module _ (k : Activation) (at : Pos) (invariants : List t.Assertion) where
   pub entered_shape : (targets : List ℕ) (c : Configuration) → HasMaps k.program.layout c.state → KeepsRun IsAny IsAny (OfState (HasMaps k.program.layout)) (loop_entered k at invariants targets c)
   entered_shape targets c h = then_do_kept (exhale_all_shape Bounded k.program invariants c.state (scene k c at) h) (λ s i. then_do_kept (values_any k.vars targets) (λ vs j. at_end (is_kept i)))
 
-  pub guarded_shape : (guard : t.Expr) (c : Configuration) (any : State) → HasMaps k.program.layout any → KeepsRun IsAny IsAny (OfState (HasMaps k.program.layout)) (guarded k at guard invariants c any)
+  pub guarded_shape : (guard : t.Expr) (c : Configuration) (any : State) → HasMaps k.program.layout any → KeepsRun IsAny IsAny (OfState (HasMaps k.program.layout)) (guarded true k at guard invariants c any)
   guarded_shape guard c any h =
       then_do_kept (produce_all_shape Bounded k.program invariants (scene k c at) any h) (λ s i.
       then_any (truth_in Bounded guard s (scene k c at)) (λ holds. if_run_kept holds (at_end (is_kept i)) (at_end blocks_kept)))

@@ -7,10 +7,10 @@ use Rattle.vb_value.specs.declared.values.Value.{Value}
 use Rattle.viper_core.specs.Expr as t
 use Rattle.viper_state.specs.Run.{Feed, Scene}
 use Rattle.viper_state.specs.State.{State}
-use Rattle.viper_meaning.specs.Ends.{ends, is, blocks}
+use Rattle.viper_meaning.specs.Ends.{ends, is}
 use Rattle.viper_meaning.specs.Run as run
 use Rattle.viper_meaning.specs.Run.{Run, evaluating, then_do}
-use Rattle.viper_meaning.specs.Statements.{Activation, Configuration, scene, stored, with_state, taking_values, produce_all, exhale_all, after_loop}
+use Rattle.viper_meaning.specs.Statements.{Activation, Configuration, scene, stored, with_state, taking_values, produce_all, exhale_all}
 use Rattle.viper_meaning.specs.Value.{truth_in}
 use Rattle.viper_eval.specs.Answers.{Answers, stopped}
 use Rattle.viper_eval.specs.Steps.{assumed}
@@ -21,16 +21,14 @@ use Rattle.viper_inhale.specs.Answers.{Does, run_halt}
 use Rattle.viper_inhale.specs.declared.answers.Halt.{Halt}
 use Rattle.viper_inhale.proofs.DoesLaws.{goes_at_once}
 use Rattle.viper_inhale.proofs.FormLaws.{part_stops, part_goes, first_stops, both_go, calm_stops, calm_goes}
-use Rattle.viper_run.specs.Steps.{loop_entered, guarded}
+use Rattle.viper_run.specs.Steps.{loop_entered, goes_when, guarded}
 
--- to go on under a condition is to assume it
-if_assumed : {X : Type 0} (holds : Bool) (x : X) → (if holds then run.goes x else run.ended blocks) ≡ evaluating (assumed holds) (λ u. run.goes x)
-if_assumed true x = refl
-if_assumed false x = refl
-
-if_not_assumed : {X : Type 0} (holds : Bool) (x : X) → (if holds then run.ended blocks else run.goes x) ≡ evaluating (assumed (not holds)) (λ u. run.goes x)
-if_not_assumed true x = refl
-if_not_assumed false x = refl
+-- to go on where something is so is to assume it
+when_assumed : {X : Type 0} (wanted holds : Bool) (x : X) → goes_when wanted holds x ≡ evaluating (assumed (if wanted then holds else not holds)) (λ u. run.goes x)
+when_assumed true true x = refl
+when_assumed true false x = refl
+when_assumed false true x = refl
+when_assumed false false x = refl
 
 module _ (k : Activation) (c : Configuration) {at : Pos} {sc : Scene} (here : sc ≡ scene k c at) {listed : List t.Assertion} (invariants : List t.Assertion) (same : listed ≡ invariants) where
   -- ---- before the loop
@@ -55,53 +53,29 @@ module _ (k : Activation) (c : Configuration) {at : Pos} {sc : Scene} (here : sc
           both_go {v = λ x. s} take_values entered_is given (both_go {v = v} (λ vs. run.goes (record { store = stored c.store targets vs; state = s })) refl h
           (goes_at_once (record { store = stored c.store targets (v y); state = s }) z (ap (λ st. record { store = st; state = s }) set)))
 
-  -- ---- the invariant is produced, and the guard assumed, or that it does not hold
+  -- ---- the invariant is produced, and it is assumed that the guard holds, or that it does not
 
-  module _ (guard : t.Expr) where
+  module _ (wanted : Bool) (guard : t.Expr) where
     abbrev if_so : State → Run Configuration
-    if_so s = evaluating (truth_in Bounded guard s sc) (λ holds. if holds then run.goes (with_state c s) else run.ended blocks)
+    if_so s = evaluating (truth_in Bounded guard s sc) (λ holds. goes_when wanted holds (with_state c s))
 
-    abbrev if_not : State → Run Configuration
-    if_not s = evaluating (truth_in Bounded guard s sc) (λ holds. if holds then run.ended blocks else run.goes (with_state c s))
+    guarded_is : guarded wanted k at guard invariants c c.state ≡ then_do (produce_all Bounded listed sc c.state) if_so
+    guarded_is i = then_do (produce_all Bounded (sym same i) (sym here i) c.state) (λ s. evaluating (truth_in Bounded guard s (sym here i)) (λ holds. goes_when wanted holds (with_state c s)))
 
-    guarded_is : (any : State) → guarded k at guard invariants c any ≡ then_do (produce_all Bounded listed sc any) if_so
-    guarded_is any i = then_do (produce_all Bounded (sym same i) (sym here i) any) (λ s. evaluating (truth_in Bounded guard s (sym here i)) (λ holds. if holds then run.goes (with_state c s) else run.ended blocks))
+    pub guarded_stops : {X Z : Type 0} {v : X → State} {u : Z → Configuration} {f g : Feed} {w : Halt} → Does v f (produce_all Bounded listed sc c.state) g (Err w) →
+        Does u f (guarded wanted k at guard invariants c c.state) g (Err w)
+    guarded_stops {v = v} h = first_stops {v = v} if_so guarded_is h
 
-    left_is : after_loop Bounded k at guard invariants c ≡ then_do (produce_all Bounded listed sc c.state) if_not
-    left_is i = then_do (produce_all Bounded (sym same i) (sym here i) c.state) (λ s. evaluating (truth_in Bounded guard s (sym here i)) (λ holds. if holds then run.ended blocks else run.goes (with_state c s)))
+    module _ {f m : Feed} (s : State) {x : ⊤} (produced : Does (λ x. s) f (produce_all Bounded listed sc c.state) m (Ok x)) where
+      pub guard_stops : {Z : Type 0} {u : Z → Configuration} {g : Feed} {w : HaltOfReading} → Answers {X = Bool} (λ b. b) m.events (truth_in Bounded guard s sc) g.events (Err w) → g.left ≡ m.left →
+          Does u f (guarded wanted k at guard invariants c c.state) g (Err (run_halt w))
+      guard_stops h left = both_go {v = λ x. s} if_so guarded_is produced (part_stops {X = Bool} {v = λ b. b} _ refl h left)
 
-    module _ {X Z : Type 0} {v : X → State} {u : Z → Configuration} {f g : Feed} {w : Halt} where
-      pub guarded_stops : (any : State) → Does v f (produce_all Bounded listed sc any) g (Err w) → Does u f (guarded k at guard invariants c any) g (Err w)
-      guarded_stops any h = first_stops {v = v} if_so (guarded_is any) h
+      pub guard_blocks : {Z : Type 0} {u : Z → Configuration} {g : Feed} {holds : Bool} (w : Stop) → Answers (λ b. b) m.events (truth_in Bounded guard s sc) g.events (Ok holds) → g.left ≡ m.left →
+          ends [] (stopped w) ≡ assumed (if wanted then holds else not holds) → Does u f (guarded wanted k at guard invariants c c.state) g (Err (run_halt (halt.Stops w)))
+      guard_blocks {holds = holds} w h left i = both_go {v = λ x. s} if_so guarded_is produced (part_goes {v = λ b. b} _ refl h left (calm_stops (λ x. run.goes (with_state c s)) (when_assumed wanted holds (with_state c s)) w i))
 
-      pub leaving_stops : Does v f (produce_all Bounded listed sc c.state) g (Err w) → Does u f (after_loop Bounded k at guard invariants c) g (Err w)
-      leaving_stops h = first_stops {v = v} if_not left_is h
-
-    module _ {f m : Feed} (s : State) {x : ⊤} where
-      module _ (any : State) (produced : Does (λ x. s) f (produce_all Bounded listed sc any) m (Ok x)) where
-        pub guard_stops : {Z : Type 0} {u : Z → Configuration} {g : Feed} {w : HaltOfReading} → Answers {X = Bool} (λ b. b) m.events (truth_in Bounded guard s sc) g.events (Err w) → g.left ≡ m.left →
-            Does u f (guarded k at guard invariants c any) g (Err (run_halt w))
-        guard_stops h left = both_go {v = λ x. s} if_so (guarded_is any) produced (part_stops {X = Bool} {v = λ b. b} _ refl h left)
-
-        pub guard_blocks : {Z : Type 0} {u : Z → Configuration} {g : Feed} {holds : Bool} (w : Stop) → Answers (λ b. b) m.events (truth_in Bounded guard s sc) g.events (Ok holds) → g.left ≡ m.left → ends [] (stopped w) ≡ assumed holds →
-            Does u f (guarded k at guard invariants c any) g (Err (run_halt (halt.Stops w)))
-        guard_blocks {holds = holds} w h left i = both_go {v = λ x. s} if_so (guarded_is any) produced (part_goes {v = λ b. b} _ refl h left (calm_stops (λ x. run.goes (with_state c s)) (if_assumed holds (with_state c s)) w i))
-
-        pub guard_holds : {g : Feed} {holds : Bool} {z : ⊤} → Answers (λ b. b) m.events (truth_in Bounded guard s sc) g.events (Ok holds) → g.left ≡ m.left → is tt ≡ assumed holds →
-            Does (λ z. with_state c s) f (guarded k at guard invariants c any) g (Ok z)
-        guard_holds {holds = holds} {z = z} h left i = both_go {v = λ x. s} if_so (guarded_is any) produced (part_goes {v = λ b. b} _ refl h left
-            (calm_goes (λ x. run.goes (with_state c s)) (if_assumed holds (with_state c s)) i (goes_at_once (with_state c s) z refl)))
-
-      module _ (produced : Does (λ x. s) f (produce_all Bounded listed sc c.state) m (Ok x)) where
-        pub leaving_guard_stops : {Z : Type 0} {u : Z → Configuration} {g : Feed} {w : HaltOfReading} → Answers {X = Bool} (λ b. b) m.events (truth_in Bounded guard s sc) g.events (Err w) → g.left ≡ m.left →
-            Does u f (after_loop Bounded k at guard invariants c) g (Err (run_halt w))
-        leaving_guard_stops h left = both_go {v = λ x. s} if_not left_is produced (part_stops {X = Bool} {v = λ b. b} _ refl h left)
-
-        pub leaving_blocks : {Z : Type 0} {u : Z → Configuration} {g : Feed} {holds : Bool} (w : Stop) → Answers (λ b. b) m.events (truth_in Bounded guard s sc) g.events (Ok holds) → g.left ≡ m.left →
-            ends [] (stopped w) ≡ assumed (not holds) → Does u f (after_loop Bounded k at guard invariants c) g (Err (run_halt (halt.Stops w)))
-        leaving_blocks {holds = holds} w h left i = both_go {v = λ x. s} if_not left_is produced (part_goes {v = λ b. b} _ refl h left (calm_stops (λ x. run.goes (with_state c s)) (if_not_assumed holds (with_state c s)) w i))
-
-        pub left_behind : {g : Feed} {holds : Bool} {z : ⊤} → Answers (λ b. b) m.events (truth_in Bounded guard s sc) g.events (Ok holds) → g.left ≡ m.left → is tt ≡ assumed (not holds) →
-            Does (λ z. with_state c s) f (after_loop Bounded k at guard invariants c) g (Ok z)
-        left_behind {holds = holds} {z = z} h left i = both_go {v = λ x. s} if_not left_is produced (part_goes {v = λ b. b} _ refl h left
-            (calm_goes (λ x. run.goes (with_state c s)) (if_not_assumed holds (with_state c s)) i (goes_at_once (with_state c s) z refl)))
+      pub guard_goes : {g : Feed} {holds : Bool} {z : ⊤} → Answers (λ b. b) m.events (truth_in Bounded guard s sc) g.events (Ok holds) → g.left ≡ m.left → is tt ≡ assumed (if wanted then holds else not holds) →
+          Does (λ z. with_state c s) f (guarded wanted k at guard invariants c c.state) g (Ok z)
+      guard_goes {holds = holds} {z = z} h left i = both_go {v = λ x. s} if_so guarded_is produced (part_goes {v = λ b. b} _ refl h left
+          (calm_goes (λ x. run.goes (with_state c s)) (when_assumed wanted holds (with_state c s)) i (goes_at_once (with_state c s) z refl)))

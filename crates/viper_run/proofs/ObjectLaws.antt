@@ -7,6 +7,7 @@ use Rattle.std.proofs.lemmas.Option.{slice_get_within, get_or_from_slice_get}
 use Rattle.std.specs.BTreeMap.{is_at}
 use Rattle.std.specs.Map.{values_of, lookup}
 use Rattle.std.specs.Ordering.{nat_cmp}
+use Rattle.lemmas.proofs.Lists.{next_item}
 use Rattle.sparse.specs.Map.{Map, get, values}
 use Rattle.vb_base.specs.declared.labels.Label.{Label}
 use Rattle.vb_base.specs.declared.labels.Kind.TheVariants as kind
@@ -26,7 +27,6 @@ use Rattle.viper_meaning.proofs.ThenLaws.{goes_then}
 use Rattle.viper_eval.specs.Steps.{assumed}
 use Rattle.viper_run.specs.Steps.{held_whole}
 use Rattle.viper_run.proofs.ChoiceLaws.{value_then_step}
-use Rattle.viper_run.proofs.EachLaws.{item_at}
 
 -- ---- writing a field, once it is held whole
 
@@ -63,7 +63,7 @@ module _ {A : Type 0} (p : A → Bool) (xs : List A) (i : ℕ) where
   any_later a here h = sym (ap (list_any p) here ∙ ap (λ b. b || list_any p (drop (i + 1) xs)) h)
 
 pub key_here : (ks : List ℕ) (i k : ℕ) → slice_get ks i ≡ Some k → drop i ks ≡ k ∷ drop (i + 1) ks
-key_here ks i k h = item_at ks i k (slice_get_within ks i k h) (sym (get_or_from_slice_get ks i k k h))
+key_here ks i k h = next_item ks i k (slice_get_within ks i k h) (sym (get_or_from_slice_get ks i k k h))
 
 -- past the fields of a state
 

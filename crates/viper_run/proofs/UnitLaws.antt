@@ -3,12 +3,12 @@ use Rattle.std.proofs.Common.{◌≡◌, refl, sym, ap, ◌∙◌, subst, arith,
 use Rattle.std.specs.Prelude.{⊤}
 use Rattle.std.proofs.lemmas.List.{append-nil, drop_all, drop_more, length-drop, length-map}
 use Rattle.std.proofs.lemmas.List.Elements.{All-nil, All-cons, All-append}
+use Rattle.viper_meaning.proofs.FoundLaws.{since_nothing}
 use Rattle.vb_base.specs.declared.names.Memory.{Memory}
 use Rattle.vb_value.specs.Bound.{Bounded}
 use Rattle.vb_value.specs.Fraction.{Fraction, none, write, IsWithinFraction}
 use Rattle.vb_value.specs.Value.{default_of, IsWithinValue}
 use Rattle.vb_value.specs.declared.values.Ty.{Ty}
-use Rattle.vb_value.specs.declared.values.Ty.TheVariants as type
 use Rattle.vb_value.specs.declared.values.Value.{Value}
 use Rattle.viper_core.specs.Expr as t
 use Rattle.viper_core.specs.Program.{Program, Predicate, Method, Body}
@@ -32,7 +32,7 @@ use Rattle.viper_meaning.specs.Ends.{ends, is, found, blocks}
 use Rattle.viper_meaning.specs.Kept.{IsAny}
 use Rattle.viper_meaning.specs.KeptRuns.{KeepsRun, at_end}
 use Rattle.viper_meaning.specs.Run as run
-use Rattle.viper_meaning.specs.Run.{Run, ended, evaluating, then_do, Goes, Blocked, Ran, ran, since, on}
+use Rattle.viper_meaning.specs.Run.{Run, ended, evaluating, then_do, Goes, Blocked, ran, since, on}
 use Rattle.viper_meaning.specs.StatementLiterals.{IsWithinMethod, IsWithinProgram}
 use Rattle.viper_meaning.specs.Statements.{Activation, Configuration, scene, taking_branch, taking_state, in_vain, produce_all, consume_all, run_block}
 use Rattle.viper_meaning.specs.Units.{first_store, check_postcondition, run_body, run_method, start_method, start_predicate, run_of_unit, unit_run}
@@ -40,7 +40,7 @@ use Rattle.viper_meaning.proofs.KeptLaws.{is_kept}
 use Rattle.viper_meaning.proofs.RunKeptLaws.{then_do_kept}
 use Rattle.viper_meaning.proofs.ShapeLaws.{produce_all_shape}
 use Rattle.viper_meaning.proofs.StateKeptLaws.{OfState}
-use Rattle.viper_meaning.proofs.StatementKeptLaws.{produce_all_within}
+use Rattle.viper_meaning.proofs.StatementKeptLaws.{produce_all_within, within_default}
 use Rattle.viper_meaning.proofs.ThenLaws.{then_then, then_same, goes_then}
 use Rattle.viper_eval.specs.Answers as reading
 use Rattle.viper_eval.specs.declared.answers.Stop.{Stop as EndOfReading}
@@ -81,15 +81,9 @@ default_end ts i vs past = ap (λ us. vs ++ map default_of us) (drop_all i ts pa
 none_within : IsWithinFraction none
 none_within = record { num = omega arith; den = omega arith }
 
-default_within : (u : Ty) → IsWithinValue (default_of u)
-default_within type.Int = omega arith
-default_within type.Bool = tt
-default_within type.Ref = tt
-default_within type.Perm = none_within
-
 defaults_within : (ts : List Ty) → All IsWithinValue (map default_of ts)
 defaults_within [] = All-nil IsWithinValue
-defaults_within (u ∷ ts) = All-cons IsWithinValue (default_of u) (map default_of ts) (default_within u) (defaults_within ts)
+defaults_within (u ∷ ts) = All-cons IsWithinValue (default_of u) (map default_of ts) (within_default u) (defaults_within ts)
 
 pub first_store_within : (m : Method) (given : List Value) → All IsWithinValue given → All IsWithinValue (first_store m given)
 first_store_within m given h = All-append IsWithinValue given (map default_of (drop (m.params + m.returns) m.vars)) h (defaults_within (drop (m.params + m.returns) m.vars))
@@ -266,9 +260,6 @@ module _ (p : Program) (n : ℕ) (o : Opening) where
     a_unit x y h same i = calm_goes (λ x. run_of_unit Bounded p x o) refl h (same_run (ap (λ x. run_of_unit Bounded p x o) same) i)
 
 -- ---- how a run ended
-
-since_nothing : {X : Type 0} (n : Ran X) → since [] n ≡ n
-since_nothing (ran es step left) = refl
 
 stopped_alike : (X Y : Type 0) (w : End) → outcome_of (stopped {X = X} w) ≡ outcome_of (stopped {X = Y} w)
 stopped_alike X Y (stop.Fails l) = refl

@@ -1,5 +1,5 @@
 -- Parts of the meaning that the code has in functions of their own.
-use Rattle.std.specs.Prelude.{⊤, ℕ, not, List, ◌++◌, slice_get, ◌==◌, if◌then◌else◌}
+use Rattle.std.specs.Prelude.{⊤, ℕ, Bool, true, false, not, List, ◌++◌, slice_get, ◌==◌, if◌then◌else◌}
 use Rattle.vb_base.specs.declared.labels.Kind.TheVariants as kind
 use Rattle.vb_base.specs.declared.places.Pos.{Pos}
 use Rattle.vb_value.specs.Bound.{Bounded}
@@ -32,15 +32,20 @@ loop_entered k at invariants targets c =
     then_do (exhale_all Bounded k.program invariants c.state (scene k c at)) (λ s.
     then_do (taking_values k.vars targets) (λ vs. goes (record { store = stored c.store targets vs; state = s })))
 
--- the invariant is produced, and the guard assumed
-abbrev pub guarded : Activation → Pos → t.Expr → List t.Assertion → Configuration → State → Run Configuration
-guarded k at guard invariants c any =
+-- goes on where something holds, or where it does not
+abbrev pub goes_when : {X : Type 0} → Bool → Bool → X → Run X
+goes_when true holds x = if holds then goes x else ended blocks
+goes_when false holds x = if holds then ended blocks else goes x
+
+-- the invariant is produced, and it is assumed that the guard holds, or that it does not
+abbrev pub guarded : Bool → Activation → Pos → t.Expr → List t.Assertion → Configuration → State → Run Configuration
+guarded wanted k at guard invariants c any =
     then_do (produce_all Bounded invariants (scene k c at) any) (λ s.
-    evaluating (truth_in Bounded guard s (scene k c at)) (λ holds. if holds then goes (with_state c s) else ended blocks))
+    evaluating (truth_in Bounded guard s (scene k c at)) (λ holds. goes_when wanted holds (with_state c s)))
 
 -- a turn begins in any state
 abbrev pub turn_begun : Activation → Pos → t.Expr → List t.Assertion → Configuration → Run Configuration
-turn_begun k at guard invariants c = taking_state k.program (guarded k at guard invariants c)
+turn_begun k at guard invariants c = taking_state k.program (guarded true k at guard invariants c)
 
 -- after a call: its postconditions are produced, in which `old` speaks of the state before it, and the targets take the values
 abbrev pub call_ended : Pos → List ℕ → List t.Assertion → List Value → List Value → State → Configuration → Run Configuration

@@ -12,7 +12,7 @@ mod steps;
 mod units;
 
 pub use activations::{Activation, Configuration, Store};
-pub use calling::call;
+pub use calling::{Called, Invocation, call};
 pub use choices::take_values;
 pub use clauses::consume_all;
 pub use statements::run_stmt;

@@ -46,11 +46,12 @@ pub(crate) fn enter_loop(
     Ok(())
 }
 
-/// The invariant is produced, and the guard is assumed.
-fn assume_guard(
+/// The invariant is produced on top of what is held. A turn goes on where the guard holds, and the loop is left where it does not.
+pub(crate) fn assume_guard(
     alloc: Global,
     activation: Activation,
     turns: &Loop,
+    wanted: bool,
     configuration: &mut Configuration,
     feed: &mut Feed,
 ) -> Result<(), Halt>
@@ -58,7 +59,7 @@ fn assume_guard(
     requires invariants_within { All IsWithinAssertion (assertions_of turns.now.invariants.items) }
     requires ready { IsReady (activation_of activation) (configuration_of configuration.old) (feed_of feed.old) }
     ensures { Does (λ _. configuration_of configuration.new) (feed_of feed.old)
-        (guarded (activation_of activation.entry) turns.now.at (expr_of turns.now.guard) (assertions_of turns.now.invariants.items) (configuration_of configuration.old) (configuration_of configuration.old).state)
+        (guarded wanted (activation_of activation.entry) turns.now.at (expr_of turns.now.guard) (assertions_of turns.now.invariants.items) (configuration_of configuration.old) (configuration_of configuration.old).state)
         (feed_of feed.new) result }
 {
     let scene = activation.scene(&configuration.store, turns.at);
@@ -69,7 +70,8 @@ fn assume_guard(
         &mut configuration.state,
         feed,
     )?;
-    Ok(assumed(truth_of(alloc, &turns.guard, &configuration.state, scene, feed)?)?)
+    let holds = truth_of(alloc, &turns.guard, &configuration.state, scene, feed)?;
+    Ok(assumed(if wanted { holds } else { !holds })?)
 }
 
 /// A turn begins in any state that the invariant and the guard allow, in which nothing else is held.
@@ -88,7 +90,7 @@ pub(crate) fn begin_turn(
         (feed_of feed.new) result }
 {
     configuration.state = take_state(alloc, activation.program, feed)?;
-    assume_guard(alloc, activation, turns, configuration, feed)
+    assume_guard(alloc, activation, turns, true, configuration, feed)
 }
 
 /// A turn ends with the invariant. Nothing goes on after it.
@@ -117,30 +119,4 @@ pub(crate) fn end_turn(
         feed,
     )?;
     Err(Halt::Stops(Stop::Blocked))
-}
-
-/// After the loop the invariant holds again on top of what is held, and the guard does not.
-pub(crate) fn leave_loop(
-    alloc: Global,
-    activation: Activation,
-    turns: &Loop,
-    configuration: &mut Configuration,
-    feed: &mut Feed,
-) -> Result<(), Halt>
-    requires guard_within { IsWithinExpr (expr_of turns.now.guard) }
-    requires invariants_within { All IsWithinAssertion (assertions_of turns.now.invariants.items) }
-    requires ready { IsReady (activation_of activation) (configuration_of configuration.old) (feed_of feed.old) }
-    ensures { Does (λ _. configuration_of configuration.new) (feed_of feed.old)
-        (m.after_loop Bounded (activation_of activation.entry) turns.now.at (expr_of turns.now.guard) (assertions_of turns.now.invariants.items) (configuration_of configuration.old))
-        (feed_of feed.new) result }
-{
-    let scene = activation.scene(&configuration.store, turns.at);
-    produce_all(
-        alloc,
-        &turns.invariants,
-        scene,
-        &mut configuration.state,
-        feed,
-    )?;
-    Ok(assumed(!truth_of(alloc, &turns.guard, &configuration.state, scene, feed)?)?)
 }

@@ -13,8 +13,17 @@ use crate::choices::take_value_of;
 use sparse::Sparse;
 use vb_base::{Kind, Pos};
 use vb_value::{Frac, Ty, Value};
+use viper_core::Expr;
 use viper_eval::{Halt, SceneRef, Stop, failure, found};
 use viper_state::{Feed, State};
+
+/// A field of what an expression is, `e.f`, and where its name stands.
+#[derive(Clone, Copy)]
+pub(crate) struct FieldPlace<'a> {
+    pub receiver: &'a Expr,
+    pub field: u32,
+    pub at: Pos,
+}
 
 /// The whole permission to a field is held, whose name is at this place.
 fn hold_whole(

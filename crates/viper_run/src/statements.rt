@@ -10,8 +10,10 @@ ghost use Rattle.viper_run.specs.Ready.{IsReady};
 ghost use Rattle.viper_run.specs.View.{activation_of, configuration_of};
 
 use crate::activations::{Activation, Configuration};
+use crate::calling::Invocation;
 use crate::choices::take_branch;
-use crate::loops::{begin_turn, end_turn, enter_loop, leave_loop};
+use crate::loops::{assume_guard, begin_turn, end_turn, enter_loop};
+use crate::objects::FieldPlace;
 use crate::steps;
 use std::alloc::Global;
 use vb_base::Pos;
@@ -19,6 +21,13 @@ use viper_core::{Expr, Loop, Stmt};
 use viper_eval::truth_of;
 use viper_inhale::Halt;
 use viper_state::Feed;
+
+/// The two blocks of an `if`.
+#[derive(Clone, Copy)]
+struct Blocks<'a> {
+    first: &'a [Stmt],
+    second: &'a [Stmt],
+}
 
 /// Runs a statement.
 #[cycle(running)]
@@ -39,20 +48,26 @@ pub fn run_stmt(
             steps::declare_variable(alloc, activation, *at, *x, init, configuration, feed)
         }
         Stmt::Assign(at, x, e) => steps::assign(alloc, activation, *at, *x, e, configuration, feed),
-        Stmt::Write(at, e, f, name, d) => {
-            steps::write(alloc, activation, *at, e, *f, *name, d, configuration, feed)
+        Stmt::Write(at, receiver, field, name, d) => {
+            let place = FieldPlace {
+                receiver,
+                field: *field,
+                at: *name,
+            };
+            steps::write(alloc, activation, *at, place, d, configuration, feed)
         }
         Stmt::New(_, x, fields, refs) => {
             steps::make_new(activation, *x, fields, refs, configuration, feed)
         }
         Stmt::Call(at, targets, method, args) => {
+            let method = *method;
+            let invocation = Invocation { method, args };
             steps::call(
                 alloc,
                 activation,
                 *at,
                 targets,
-                *method,
-                args,
+                invocation,
                 configuration,
                 feed,
             )
@@ -62,7 +77,10 @@ pub fn run_stmt(
         Stmt::Assert(at, a) => steps::check(alloc, activation, *at, a, configuration, feed),
         Stmt::Fold(instance) => steps::fold(alloc, activation, instance, configuration, feed),
         Stmt::Unfold(instance) => steps::unfold(alloc, activation, instance, configuration, feed),
-        Stmt::If(at, e, a, b) => run_if(alloc, activation, *at, e, a, b, configuration, feed),
+        Stmt::If(at, e, first, second) => {
+            let blocks = Blocks { first, second };
+            run_if(alloc, activation, *at, e, blocks, configuration, feed)
+        }
         Stmt::While(turns) => run_loop(alloc, activation, turns, configuration, feed),
     }
 }
@@ -74,22 +92,21 @@ fn run_if(
     activation: Activation,
     at: Pos,
     e: &Expr,
-    first: &[Stmt],
-    second: &[Stmt],
+    blocks: Blocks,
     configuration: &mut Configuration,
     feed: &mut Feed,
 ) -> Result<(), Halt>
-    requires if_within { IsWithinStmt (s.If at (expr_of e.now) (stmts_of first.now) (stmts_of second.now)) }
+    requires if_within { IsWithinStmt (s.If at (expr_of e.now) (stmts_of blocks.first.now) (stmts_of blocks.second.now)) }
     requires ready { IsReady (activation_of activation) (configuration_of configuration.old) (feed_of feed.old) }
     ensures { Does (λ _. configuration_of configuration.new) (feed_of feed.old)
-        (m.run_stmt Bounded (activation_of activation.entry) (s.If at (expr_of e.now) (stmts_of first.now) (stmts_of second.now)) (configuration_of configuration.old))
+        (m.run_stmt Bounded (activation_of activation.entry) (s.If at (expr_of e.now) (stmts_of blocks.entry.first.now) (stmts_of blocks.entry.second.now)) (configuration_of configuration.old))
         (feed_of feed.new) result }
 {
     let scene = activation.scene(&configuration.store, at);
     if truth_of(alloc, e, &configuration.state, scene, feed)? {
-        run_block(alloc, activation, first, configuration, feed)
+        run_block(alloc, activation, blocks.first, configuration, feed)
     } else {
-        run_block(alloc, activation, second, configuration, feed)
+        run_block(alloc, activation, blocks.second, configuration, feed)
     }
 }
 
@@ -131,7 +148,7 @@ fn run_loop(
     if take_branch(feed)? {
         run_turn(alloc, activation, turns, configuration, feed)
     } else {
-        leave_loop(alloc, activation, turns, configuration, feed)
+        assume_guard(alloc, activation, turns, false, configuration, feed)
     }
 }
 

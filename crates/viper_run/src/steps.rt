@@ -14,9 +14,9 @@ ghost use Rattle.viper_run.specs.Ready.{IsReady};
 ghost use Rattle.viper_run.specs.View.{activation_of, configuration_of};
 
 use crate::activations::{Activation, Configuration};
-use crate::calling;
+use crate::calling::{self, Called, Invocation};
 use crate::choices::{take_fresh, take_value_of};
-use crate::objects::{create, is_fresh, write_field};
+use crate::objects::{FieldPlace, create, is_fresh, write_field};
 use std::alloc::Global;
 use vb_base::Pos;
 use vb_value::{Frac, Value};
@@ -91,28 +91,26 @@ pub(crate) fn write(
     alloc: Global,
     activation: Activation,
     at: Pos,
-    e: &Expr,
-    field: u32,
-    place: Pos,
+    place: FieldPlace,
     d: &Expr,
     configuration: &mut Configuration,
     feed: &mut Feed,
 ) -> Result<(), Halt>
-    requires e_within { IsWithinExpr (expr_of e.now) }
+    requires receiver_within { IsWithinExpr (expr_of place.receiver.now) }
     requires d_within { IsWithinExpr (expr_of d.now) }
     requires ready { IsReady (activation_of activation) (configuration_of configuration.old) (feed_of feed.old) }
     ensures { Does (λ _. configuration_of configuration.new) (feed_of feed.old)
-        (m.run_stmt Bounded (activation_of activation.entry) (s.Write at (expr_of e.now) field place (expr_of d.now)) (configuration_of configuration.old))
+        (m.run_stmt Bounded (activation_of activation.entry) (s.Write at (expr_of place.entry.receiver.now) place.entry.field place.entry.at (expr_of d.now)) (configuration_of configuration.old))
         (feed_of feed.new) result }
 {
     let scene = activation.scene(&configuration.store, at);
-    let reference = reference_of(alloc, e, &configuration.state, scene, feed)?;
+    let reference = reference_of(alloc, place.receiver, &configuration.state, scene, feed)?;
     let value = eval_in(alloc, d, &configuration.state, scene, feed)?;
     Ok(write_field(
         scene,
         &mut configuration.state,
-        field,
-        place,
+        place.field,
+        place.at,
         reference,
         value,
     )?)
@@ -151,30 +149,26 @@ pub(crate) fn call(
     activation: Activation,
     at: Pos,
     targets: &[u32],
-    method: u32,
-    args: &[Expr],
+    invocation: Invocation,
     configuration: &mut Configuration,
     feed: &mut Feed,
 ) -> Result<(), Halt>
-    requires args_within { AreWithinExprs (exprs_of args.now) }
+    requires args_within { AreWithinExprs (exprs_of invocation.args.now) }
     requires ready { IsReady (activation_of activation) (configuration_of configuration.old) (feed_of feed.old) }
     ensures { Does (λ _. configuration_of configuration.new) (feed_of feed.old)
-        (m.run_stmt Bounded (activation_of activation.entry) (s.Call at targets.now method (exprs_of args.now)) (configuration_of configuration.old))
+        (m.run_stmt Bounded (activation_of activation.entry) (s.Call at targets.now invocation.entry.method (exprs_of invocation.entry.args.now)) (configuration_of configuration.old))
         (feed_of feed.new) result }
 {
     let scene = activation.scene(&configuration.store, at);
-    let args = eval_all(alloc, args, &configuration.state, scene, feed)?;
-    let callee = found(activation.program.methods.get(method as usize))?;
-    calling::call(
-        alloc,
-        activation,
+    let args = eval_all(alloc, invocation.args, &configuration.state, scene, feed)?;
+    let methods = &activation.program.methods;
+    let callee = found(methods.get(invocation.method as usize))?;
+    let called = Called {
         at,
         targets,
         callee,
-        args,
-        configuration,
-        feed,
-    )
+    };
+    calling::call(alloc, activation, called, args, configuration, feed)
 }
 
 /// `inhale A`

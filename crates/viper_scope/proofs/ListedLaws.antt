@@ -1,5 +1,5 @@
 -- A list that is sorted, and then left by what stands twice, is the list in ascending order.
-use Rattle.std.proofs.Common.{◌≡◌, ◌∙◌, ℕ, Bool, true, false, ◌||◌, eqb, List, [], ◌∷◌, refl, sym, ap}
+use Rattle.std.proofs.Common.{◌≡◌, ◌∙◌, ℕ, true, ◌||◌, eqb, List, [], ◌∷◌, refl, sym, ap}
 use Rattle.std.specs.List.{fold, list_any, dedup, Contains, AllByRecursion}
 use Rattle.std.specs.List.Sorted.{IsPermutation, IsSorted, IsStrictlySortedBy}
 use Rattle.std.specs.BTreeMap.{is_at}
@@ -14,27 +14,11 @@ use Rattle.std.proofs.lemmas.Map.Keys.{IsStrictlyIncreasing-dedup, sorted_from_s
 use Rattle.std.proofs.lemmas.List.Sorted.{Contains-permutation, IsPermutation-sym}
 use Rattle.std.proofs.lemmas.Map.Lookups.{btree_set_from_contains, exact_unsigned}
 use Rattle.std.proofs.lemmas.Map.Views.{Contains-from_any, list_any-from_Contains}
+use Rattle.lemmas.proofs.Orders.{is_equal}
+use Rattle.lemmas.proofs.Tests.{or_false, or_twice, or_turned, or_moved}
 use Rattle.viper_scope.specs.Listed.{ascending}
 
 -- ---- one more key
-
-or_twice : (a b : Bool) → (a || b) ≡ (a || (a || b))
-or_twice true b = refl
-or_twice false b = refl
-
-or_turned : (a b d : Bool) → (a || (b || d)) ≡ (b || (a || d))
-or_turned true true d = refl
-or_turned true false d = refl
-or_turned false b d = refl
-
-or_moved : (a b d : Bool) → (b || (a || d)) ≡ ((a || b) || d)
-or_moved true true d = refl
-or_moved true false d = refl
-or_moved false b d = refl
-
-or_nothing : (a : Bool) → (a || false) ≡ a
-or_nothing true = refl
-or_nothing false = refl
 
 module _ {K : Type 0} {R : K → K → Ordering} (o : IsTotalOrder R) where
   -- a query finds the keys that were there, and the new one
@@ -83,11 +67,6 @@ module _ {K : Type 0} {R : K → K → Ordering} (o : IsTotalOrder R) where
 
 -- ---- numbers
 
-is_equal : (r : Ordering) → is_eq r ≡ true → r ≡ Equal
-is_equal Less h = cc
-is_equal Equal h = refl
-is_equal Greater h = cc
-
 found : (q : ℕ) (ns : List ℕ) → list_any (is_at (nat_cmp q)) ns ≡ true → Contains ns q
 found q ns h = Contains-from_any (λ x y is. exact_unsigned x y (is_equal (nat_cmp x y) is)) q ns h
 
@@ -103,4 +82,4 @@ in_order listed sorted kept moved rises is =
     (λ h. there q listed (Contains-permutation sorted listed q (IsPermutation-sym listed sorted moved) (Contains-from_dedup eqb sorted q (found q (dedup eqb sorted) h))))
     (λ h. there q (dedup eqb sorted) (Contains-dedup_nat sorted q (Contains-permutation listed sorted q moved (found q listed h)))) in
     is ∙ btree_set_from_contains nat_cmp_total (record { keys = dedup eqb sorted }) (record { keys = ascending listed }) (sorted_from_strictly_increasing (dedup eqb sorted) (IsStrictlyIncreasing-dedup sorted rises)) (sorted_fold nat_cmp_total listed [] tt)
-    (λ q. same q ∙ sym (or_nothing (list_any (is_at (nat_cmp q)) listed)) ∙ sym (any_fold nat_cmp_total q listed [])) exact_unsigned
+    (λ q. same q ∙ sym (or_false (list_any (is_at (nat_cmp q)) listed)) ∙ sym (any_fold nat_cmp_total q listed [])) exact_unsigned

@@ -1,3 +1,4 @@
+pub mod Rules
 pub mod Outcome
 pub mod Context
 pub mod Types

@@ -6,6 +6,7 @@ ghost use Rattle.viper_scope.specs.Arguments as a;
 ghost use Rattle.viper_scope.specs.Outcome.{Found};
 
 use crate::faults::TypeFault;
+use crate::rules::{ARGUMENT_COUNT, WRONG_TYPE};
 use std::alloc::Global;
 use vb_base::Pos;
 use vb_value::Ty;
@@ -66,10 +67,10 @@ pub fn fitted(
     ensures { Answers argument_exprs_of (a.fitted (terms_of args.now) params.now at (typings_of typed)) result }
 {
     if !as_many(&typed, params) {
-        return Err(TypeFault::Rule(at, 9));
+        return Err(TypeFault::Rule(at, ARGUMENT_COUNT));
     }
     if let Some(place) = misfit(args, &typed, params) {
-        return Err(TypeFault::Rule(place, 3));
+        return Err(TypeFault::Rule(place, WRONG_TYPE));
     }
     exprs_in(alloc, typed)
 }

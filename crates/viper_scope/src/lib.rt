@@ -8,6 +8,7 @@ mod context;
 mod faults;
 mod loops;
 mod names;
+pub mod rules;
 mod scope;
 mod types;
 mod world;

@@ -12,6 +12,7 @@ ghost use Rattle.viper_scope.specs.Types as f;
 use crate::context::{MethodTypes, PredicateSignature, Role, World};
 use crate::faults::TypeFault;
 use crate::names::Names;
+use crate::rules::DECLARED_TWICE;
 use crate::types::declared_type;
 use std::alloc::Global;
 use vb_base::Memory;
@@ -119,7 +120,7 @@ fn declare_all(world: &mut World, alloc: Global, decls: &[Decl]) -> Result<(), T
     for decl in decls {
         let name = decl_name(decl);
         if world.roles.find(&name.name).is_some() {
-            return Err(TypeFault::Rule(name.pos, 2));
+            return Err(TypeFault::Rule(name.pos, DECLARED_TWICE));
         }
         world.declare(alloc, decl)?;
     }

@@ -31,11 +31,6 @@ All-found P [] n h = tt
 All-found P (x ∷ xs) zero h = All-head P x xs h
 All-found P (x ∷ xs) (suc n) h = All-found P xs n (All-tail P x xs h)
 
-pub All-both : {X : Type 0} (P Q R : X → Type 0) → ((x : X) → P x → Q x → R x) → (xs : List X) → All P xs → All Q xs → All R xs
-All-both P Q R go [] p q = All-nil R
-All-both P Q R go (x ∷ xs) p q =
-    All-cons R x xs (go x (All-head P x xs p) (All-head Q x xs q)) (All-both P Q R go xs (All-tail P x xs p) (All-tail Q x xs q))
-
 pub All-all : {X : Type 0} (P : X → Type 0) → ((x : X) → P x) → (xs : List X) → All P xs
 All-all P go [] = All-nil P
 All-all P go (x ∷ xs) = All-cons P x xs (go x) (All-all P go xs)

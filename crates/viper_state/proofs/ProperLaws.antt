@@ -3,6 +3,7 @@ use Rattle.std.proofs.Common.{ℕ, pos, Bool, List, All, subst, sym, arith}
 use Rattle.std.specs.List.{AllZip}
 use Rattle.std.specs.declared.cmp.Ordering.{Ordering}
 use Rattle.std.proofs.lemmas.List.Elements.{All-weaker}
+use Rattle.lemmas.proofs.Lists.{all_both}
 use Rattle.sparse.specs.Map.{Map, keys, values}
 use Rattle.vb_value.specs.Bound.{Bound, Unbounded, Bounded, IfBounded}
 use Rattle.vb_value.specs.Content.{Content, Unit, IsProperContent}
@@ -22,38 +23,38 @@ use Rattle.viper_state.specs.Fits.{FitsMap, FitsValue, FitsHeap, FitsMask, FitsC
 use Rattle.viper_state.specs.Within.{HasValues, HasEntries, AllOfMemo, AllOfState, AllOfScene, AllOfOpening, AllOfChoice, AllOfEvent, IsWithinMemo, IsWithinState, IsWithinScene, IsWithinOpening, IsWithinChoice, IsWithinEvent, IsWithinFeed, IsProperMemo, IsProperState, IsProperScene, IsProperOpening, IsProperChoice, IsProperEvent, IsProperFeed}
 use Rattle.viper_state.proofs.EachLaws.{empty_state_has}
 use Rattle.viper_state.proofs.FitsLaws.{FitsValue-default}
-use Rattle.viper_state.proofs.Paired.{All-both, All-paired}
+use Rattle.viper_state.proofs.Paired.{All-paired}
 
 -- ---- what holds of two at once
 
 module _ {V : Type 0} {P Q R : V → Type 0} (go : (v : V) → P v → Q v → R v) where
   both_values : {K : Type 0} (m : Map K V) → HasValues P m → HasValues Q m → HasValues R m
-  both_values m p q = record { default = go m.default p.default q.default; others = All-both P Q R go (values m) p.others q.others }
+  both_values m p q = record { default = go m.default p.default q.default; others = all_both P Q R go (values m) p.others q.others }
 
   both_entries : {K : Type 0} {A B C : K → Type 0} → ((k : K) → A k → B k → C k) → (m : Map K V) → HasEntries A P m → HasEntries B Q m → HasEntries C R m
-  both_entries {A = A} {B} {C} each m p q = record { keys = All-both A B C each (keys m) p.keys q.keys; values = both_values m p.values q.values }
+  both_entries {A = A} {B} {C} each m p q = record { keys = all_both A B C each (keys m) p.keys q.keys; values = both_values m p.values q.values }
 
 module _ {V W X : Value → Type 0} {K L M : Key → Type 0} {C D E : Content → Type 0} (of_values : (v : Value) → V v → W v → X v) (of_keys : (k : Key) → K k → L k → M k) (contents : (c : Content) → C c → D c → E c) where
   pub both_memo : (m : Memo) → AllOfMemo V K C m → AllOfMemo W L D m → AllOfMemo X M E m
   both_memo m p q = record {
-    heap = All-both (HasValues V) (HasValues W) (HasValues X) (both_values of_values) m.heap p.heap q.heap;
-    content = All-both (HasEntries K C) (HasEntries L D) (HasEntries M E) (both_entries contents of_keys) m.content p.content q.content;
+    heap = all_both (HasValues V) (HasValues W) (HasValues X) (both_values of_values) m.heap p.heap q.heap;
+    content = all_both (HasEntries K C) (HasEntries L D) (HasEntries M E) (both_entries contents of_keys) m.content p.content q.content;
   }
 
   pub both_opening : (o : Opening) → AllOfOpening V K C o → AllOfOpening W L D o → AllOfOpening X M E o
-  both_opening o p q = record { store = All-both V W X of_values o.store p.store q.store; memo = both_memo o.memo p.memo q.memo }
+  both_opening o p q = record { store = all_both V W X of_values o.store p.store q.store; memo = both_memo o.memo p.memo q.memo }
 
 module _ {F G H : Fraction → Type 0} {V W X : Value → Type 0} {K L M : Key → Type 0} {C D E : Content → Type 0} (fractions : (q : Fraction) → F q → G q → H q) (of_values : (v : Value) → V v → W v → X v) (of_keys : (k : Key) → K k → L k → M k) (contents : (c : Content) → C c → D c → E c) where
   pub both_state : (s : State) → AllOfState F V K C s → AllOfState G W L D s → AllOfState H X M E s
   both_state s p q = record {
-    heap = All-both (HasValues V) (HasValues W) (HasValues X) (both_values of_values) s.heap p.heap q.heap;
-    content = All-both (HasEntries K C) (HasEntries L D) (HasEntries M E) (both_entries contents of_keys) s.content p.content q.content;
-    mask = All-both (HasValues F) (HasValues G) (HasValues H) (both_values fractions) s.mask p.mask q.mask;
-    amount = All-both (HasEntries K F) (HasEntries L G) (HasEntries M H) (both_entries fractions of_keys) s.amount p.amount q.amount;
+    heap = all_both (HasValues V) (HasValues W) (HasValues X) (both_values of_values) s.heap p.heap q.heap;
+    content = all_both (HasEntries K C) (HasEntries L D) (HasEntries M E) (both_entries contents of_keys) s.content p.content q.content;
+    mask = all_both (HasValues F) (HasValues G) (HasValues H) (both_values fractions) s.mask p.mask q.mask;
+    amount = all_both (HasEntries K F) (HasEntries L G) (HasEntries M H) (both_entries fractions of_keys) s.amount p.amount q.amount;
   }
 
   pub both_scene : (sc : Scene) → AllOfScene F V K C sc → AllOfScene G W L D sc → AllOfScene H X M E sc
-  both_scene sc p q = record { store = All-both V W X of_values sc.store p.store q.store; old = both_state sc.old p.old q.old }
+  both_scene sc p q = record { store = all_both V W X of_values sc.store p.store q.store; old = both_state sc.old p.old q.old }
 
   pub both_choice : (c : choice.Choice) → AllOfChoice F V K C c → AllOfChoice G W L D c → AllOfChoice H X M E c
   both_choice (choice.Branch b) p q = tt
@@ -159,8 +160,8 @@ bounded_event = both_event bounded_fraction bounded_value bounded_key bounded_co
 
 pub bounded_feed : (f : Feed) → IsProperFeed Unbounded f → IsWithinFeed f → IsProperFeed Bounded f
 bounded_feed f p w = record {
-  left = All-both (IsProperChoice Unbounded) IsWithinChoice (IsProperChoice Bounded) bounded_choice f.left p.left w.left;
-  events = All-both (IsProperEvent Unbounded) IsWithinEvent (IsProperEvent Bounded) bounded_event f.events p.events w.events;
+  left = all_both (IsProperChoice Unbounded) IsWithinChoice (IsProperChoice Bounded) bounded_choice f.left p.left w.left;
+  events = all_both (IsProperEvent Unbounded) IsWithinEvent (IsProperEvent Bounded) bounded_event f.events p.events w.events;
 }
 
 -- ---- and what is proper under the bound is within it
@@ -225,7 +226,7 @@ feed_proper_by Bounded l f h w = bounded_feed f (feed_proper l f h) w
 
 -- ---- where nothing is held
 
-none_proper : (b : Bound) → IsProperFraction b none
+pub none_proper : (b : Bound) → IsProperFraction b none
 none_proper Unbounded = proper_whole Unbounded (pos 0) tt
 none_proper Bounded = proper_whole Bounded (pos 0) (omega arith)
 

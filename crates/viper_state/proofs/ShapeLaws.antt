@@ -1,8 +1,9 @@
 -- A state that fits has the maps of the program, and setting keeps them.
-use Rattle.std.proofs.Common.{◌≡◌, refl, ap, ◌∙◌, Bool, ℕ, zero, suc, Option, Some, None, List, [], ◌∷◌, length, replicate, slice_get, slice_set}
+use Rattle.std.proofs.Common.{◌≡◌, refl, ap, ◌∙◌, Bool, ℕ, zero, suc, Option, Some, None, List, length, replicate, slice_get}
 use Rattle.std.proofs.lemmas.Slice.Zip.{AllZip-long}
 use Rattle.std.specs.Ordering.{nat_cmp}
 use Rattle.std.specs.declared.cmp.Ordering.{Ordering}
+use Rattle.lemmas.proofs.Lists.{set_length}
 use Rattle.sparse.specs.Map.{Map, empty, set}
 use Rattle.vb_value.specs.Content.{Content, same_content}
 use Rattle.vb_value.specs.Fraction.{Fraction, none}
@@ -24,17 +25,12 @@ state_has_maps l s h = record {
 pub memo_has_maps : (l : Layout) (m : Memo) → FitsMemo l m → MemoHasMaps l m
 memo_has_maps l m h = record { heap = AllZip-long FitsHeap l.fields m.heap h.heap; content = AllZip-long FitsContents l.keys m.content h.content }
 
-length-slice_set : {X : Type 0} (xs : List X) (n : ℕ) (x : X) → length (slice_set xs n x) ≡ length xs
-length-slice_set [] n x = refl
-length-slice_set (y ∷ xs) zero x = refl
-length-slice_set (y ∷ xs) (suc n) x = ap suc (length-slice_set xs n x)
-
 pub length-changed : {K V : Type 0} (cmp : K → K → Ordering) (eq : V → V → Bool) (maps : List (Map K V)) (n : ℕ) (k : K) (v : V) → length (changed_at cmp eq maps n k v) ≡ length maps
 length-changed {K} {V} cmp eq maps n k v = by (slice_get maps n)
   where
     by : (o : Option (Map K V)) → length (changed cmp eq maps n k v o) ≡ length maps
     by None = refl
-    by (Some m) = length-slice_set maps n (set cmp eq m k v)
+    by (Some m) = set_length maps n (set cmp eq m k v)
 
 module _ {l : Layout} {s : State} (h : HasMaps l s) where
   pub with_value_has_maps : (f r : ℕ) (v : Value) → HasMaps l (with_value s f r v)

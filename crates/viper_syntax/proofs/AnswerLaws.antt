@@ -4,9 +4,10 @@ use Rattle.std.specs.Prelude.{slice_get, ◌⊎◌, ◌≤ℤ◌, ◌<ℤ◌, �
 use Rattle.std.specs.Char.{is_ascii_digit}
 use Rattle.std.specs.List.{prefix_len}
 use Rattle.std.specs.Str.{bytes_eq}
-use Rattle.std.proofs.lemmas.Bool.{cases_lt, cases_order}
+use Rattle.std.proofs.lemmas.Bool.{cases_lt}
 use Rattle.std.proofs.lemmas.Int.{ints}
 use Rattle.std.proofs.lemmas.List.{length-append, length-drop, length-take-le}
+use Rattle.lemmas.proofs.Numbers.{same_or_not}
 use Rattle.vb_base.specs.declared.places.Pos.{Pos}
 use Rattle.vb_base.specs.Names.{is_name, is_name_start, is_name_byte}
 use Rattle.vb_base.specs.Place.{IsPlaceAfter}
@@ -30,13 +31,6 @@ use Rattle.viper_syntax.specs.First.{words}
 use Rattle.viper_syntax.proofs.WordLaws.{word_looked_up}
 use Rattle.viper_syntax.proofs.LongestLaws.{blank_longest, name_longest, name_form_of_front, number_longest, line_at, closed_at, unclosed_at, sign_longest, no_piece, sign_from_first}
 use Rattle.viper_syntax.proofs.CutLaws.{longest_some}
-
-same_or_not : (m n : ℕ) → (m ≡ n) ⊎ (m ≢ n)
-same_or_not m n = by_case (cases_order m n) where
-  by_case : (m ≡ n) ⊎ ((m < n) ⊎ (n < m)) → (m ≡ n) ⊎ (m ≢ n)
-  by_case (inl same) = inl same
-  by_case (inr (inl lt)) = inr (λ e. omega arith)
-  by_case (inr (inr lt)) = inr (λ e. omega arith)
 
 -- the first `*/` of a text, if any
 

@@ -1,9 +1,9 @@
 pub mod ViewLaws
 mod LimitLaws
 mod Rows
-mod PieceLaws
+pub mod PieceLaws
 mod WordLaws
-mod LongestLaws
+pub mod LongestLaws
 pub mod CutLaws
 pub mod LexLaws
 pub mod FormLaws

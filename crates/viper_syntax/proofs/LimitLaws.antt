@@ -1,24 +1,13 @@
 -- How the counts of a list of tokens go on with one more token, and the first token above a limit.
-use Rattle.std.proofs.Common.{◌≡◌, ◌∙◌, ℕ, ◌+◌, ◌<◌, ◌≤◌, Bool, true, false, cond, not, refl, ap, sym, subst, arith, inl, inr, List, [], ◌∷◌, ◌++◌, length, take, get_or, Some, suc, zero, add-one}
+use Rattle.std.proofs.Common.{◌≡◌, ◌∙◌, ℕ, ◌+◌, ◌<◌, ◌≤◌, Bool, true, false, cond, not, refl, ap, subst, arith, inl, inr, List, length, take, Some}
 use Rattle.std.specs.Prelude.{slice_get, ◌⊎◌}
 use Rattle.std.proofs.lemmas.Bool.{cases_lt}
 use Rattle.std.proofs.lemmas.List.{take_all}
 use Rattle.std.proofs.lemmas.List.Sums.{sum_by_push, fold_push}
+use Rattle.lemmas.proofs.Lists.{take_through}
 use Rattle.viper_syntax.specs.declared.tokens.Token.{Token}
 use Rattle.viper_syntax.specs.Limit.{unclosed, unclosed_with, in_group, refused, is_divider, is_refused, StaysWithin}
 use Rattle.vb_base.proofs.PlaceLaws.{suffix_len_push}
-
--- what a loop reads at an index is the element there
-pub item_at : {X : Type 0} (xs : List X) (i : ℕ) (x : X) → i < length xs → x ≡ get_or xs i x → slice_get xs i ≡ Some x
-item_at [] i x lt e = absurd (omega arith)
-item_at (y ∷ ys) zero x lt e = ap (λ z. Some z) (sym e)
-item_at (y ∷ ys) (suc i) x lt e = item_at ys i x (omega arith) e
-
--- the element at an index ends the front through it
-pub take_through : {X : Type 0} (xs : List X) (i : ℕ) (x : X) → slice_get xs i ≡ Some x → take (i + 1) xs ≡ take i xs ++ x ∷ []
-take_through [] i x h = cc
-take_through (y ∷ ys) zero x h = cc
-take_through (y ∷ ys) (suc i) x h = rw (add-one (suc i)) (ap (λ zs. y ∷ zs) (rw (add-one i) at (take_through ys i x h)))
 
 pub unclosed_more : (ts : List Token) (i : ℕ) (t : Token) → slice_get ts i ≡ Some t → unclosed (take (i + 1) ts) ≡ unclosed_with (unclosed (take i ts)) t.tok
 unclosed_more ts i t h = ap unclosed (take_through ts i t h) ∙ fold_push (λ n u. unclosed_with n u.tok) 0 (take i ts) t

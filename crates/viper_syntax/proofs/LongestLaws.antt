@@ -8,8 +8,11 @@ use Rattle.std.proofs.lemmas.Bool.{cases_lt, and_from, and_parts}
 use Rattle.std.proofs.lemmas.Bool.Decides.{nat_tests}
 use Rattle.std.proofs.lemmas.List.{drop_more, length-take, length-take-le, take_all, append_assoc, length-append}
 use Rattle.std.proofs.lemmas.List.Sums.{prefix_len-le-length}
-use Rattle.std.proofs.lemmas.Option.{same_Some}
+use Rattle.std.proofs.lemmas.Option.{same_Some, slice_get_within}
 use Rattle.std.proofs.lemmas.Slice.Eq.{bytes_eq-Decides}
+use Rattle.lemmas.proofs.Tests.{left_true}
+use Rattle.lemmas.proofs.Numbers.{one_more}
+use Rattle.lemmas.proofs.Lists.{take_there, take_through}
 use Rattle.vb_base.specs.Names.{is_name, is_name_start, is_name_byte}
 use Rattle.viper_syntax.specs.declared.tokens.Sign.{Sign}
 use Rattle.viper_syntax.specs.declared.tokens.Tok.{Tok}
@@ -18,7 +21,6 @@ use Rattle.viper_syntax.specs.Spelling.{sign_text, is_blank, decimal, decimal_fr
 use Rattle.viper_syntax.specs.Piece.{IsDigits, IsToken, number, sign, Piece, Skipped, Unclosed, Taken, line, closed, unclosed, IsPiece, blank, comment, token, HasNoClose, ClosesAt, IsLongest, BeginsNoPiece}
 use Rattle.viper_syntax.specs.Longest.{signs, longest_sign}
 use Rattle.viper_syntax.specs.Step.{BeginsWith, IsSignOnly, IsFirstClose}
-use Rattle.viper_syntax.proofs.LimitLaws.{take_through}
 use Rattle.viper_syntax.proofs.PieceLaws.{Other, class, Kind, kind_of, piece_not_empty, blank_class, start_class, digit_class, slash_sign, sign_found}
 
 pub false_true : false ≡ true → ⊥
@@ -26,16 +28,9 @@ false_true e = cc
 
 -- fronts that pass a test
 
-left_true : (p q : Bool) → (p && q) ≡ true → p ≡ true
-left_true true q h = refl
-left_true false q h = cc
-
 right_true : (p q : Bool) → (p && q) ≡ true → q ≡ true
 right_true true q h = h
 right_true false q h = cc
-
-one_more : (n : ℕ) → 1 + n ≡ suc n
-one_more n = omega arith
 
 -- a front that passes is no longer than the longest
 front_passes : (p : ℕ → Bool) (m : ℕ) (bs : List ℕ) → m ≤ length bs → list_all p (take m bs) ≡ true → m ≤ prefix_len p bs
@@ -113,17 +108,6 @@ number_longest (b ∷ bs) h =
 
 -- elements of fronts
 
-slice_get_within : {X : Type 0} (xs : List X) (i : ℕ) (x : X) → slice_get xs i ≡ Some x → i < length xs
-slice_get_within [] i x h = cc
-slice_get_within (y ∷ ys) zero x h = omega arith
-slice_get_within (y ∷ ys) (suc i) x h = omega (arith, slice_get_within ys i x h)
-
-slice_get-take : {X : Type 0} (n : ℕ) (xs : List X) (i : ℕ) (x : X) → slice_get (take n xs) i ≡ Some x → slice_get xs i ≡ Some x
-slice_get-take zero xs i x h = cc
-slice_get-take (suc n) [] i x h = cc
-slice_get-take (suc n) (y ∷ ys) zero x h = h
-slice_get-take (suc n) (y ∷ ys) (suc i) x h = slice_get-take n ys i x h
-
 slice_get_in_take : {X : Type 0} (n : ℕ) (xs : List X) (i : ℕ) (x : X) → i < n → slice_get xs i ≡ Some x → slice_get (take n xs) i ≡ Some x
 slice_get_in_take zero xs i x lt h = absurd (omega arith)
 slice_get_in_take (suc n) [] i x lt h = cc
@@ -189,7 +173,7 @@ before_close : (bs : List ℕ) (i : ℕ) → IsFirstClose bs i → HasNoClose (t
 before_close bs i h j at =
     let front = rw (← take_through bs i 42 h.0.0) at at in
     let inside = slice_get_within (take (i + 1) bs) (j + 1) 47 front.1 in
-    h.1 j (omega (arith, inside, length-take (i + 1) bs)) (slice_get-take (i + 1) bs j 42 front.0, slice_get-take (i + 1) bs (j + 1) 47 front.1)
+    h.1 j (omega (arith, inside, length-take (i + 1) bs)) (take_there (i + 1) bs j 42 front.0, take_there (i + 1) bs (j + 1) 47 front.1)
 
 -- bytes that go past a close have it
 has_close : (bs us : List ℕ) (m i : ℕ) → ClosesAt bs i → i + 2 ≤ m → take m bs ≡ us → ClosesAt us i
@@ -319,7 +303,7 @@ only_sign b bs m q h piece = by_kind q (subst (λ c. Kind c (b ∷ take m bs) q)
   other = rw (h.0, h.1, h.2) refl
 
   no_second : (c : ℕ) → ((slice_get bs 0 ≡ Some c) → ⊥) → (us : List ℕ) → b ∷ take m bs ≡ 47 ∷ c ∷ us → ⊥
-  no_second c not_there us e = not_there (slice_get-take m bs 0 c (ap (λ vs. slice_get (drop 1 vs) 0) e))
+  no_second c not_there us e = not_there (take_there m bs 0 c (ap (λ vs. slice_get (drop 1 vs) 0) e))
 
   first : {c : ℕ} {us : List ℕ} → b ∷ take m bs ≡ c ∷ us → b ≡ c
   first e = cc

@@ -1,11 +1,13 @@
 -- What a piece can be by its first byte, and that bytes are at most one piece.
-use Rattle.std.proofs.Common.{◌≡◌, ◌∙◌, ◌≢◌, ℕ, Bool, true, false, cond, refl, ap, sym, subst, arith, inl, inr, List, [], ◌∷◌, ◌++◌, length, drop, Some, None, suc, add-one, pos}
+use Rattle.std.proofs.Common.{◌≡◌, ◌∙◌, ◌≢◌, ℕ, true, false, cond, refl, ap, sym, subst, arith, inl, inr, List, [], ◌∷◌, ◌++◌, length, drop, Some, suc, add-one, pos}
 use Rattle.std.specs.Prelude.{slice_get, ◌⊎◌, ◌&&◌, find, nat_eq, nat_lt}
 use Rattle.std.specs.Char.{is_ascii_digit}
 use Rattle.std.specs.List.{list_all}
 use Rattle.std.specs.Str.{bytes_eq}
 use Rattle.std.proofs.lemmas.Bool.Decides.{nat_tests}
 use Rattle.std.proofs.lemmas.Option.{same_Some}
+use Rattle.lemmas.proofs.Tests.{left_true}
+use Rattle.lemmas.proofs.Options.{none_some}
 use Rattle.vb_base.specs.Names.{is_name, is_name_start}
 use Rattle.viper_syntax.specs.declared.tokens.Sign.{Sign}
 use Rattle.viper_syntax.specs.declared.tokens.Sign.TheVariants as s
@@ -41,7 +43,7 @@ sign_class : (v : Sign) → class (head_of (sign_text v)) ≡ Other
 sign_class s.OpenParen = refl
 sign_class _ = refl
 
-word_form : (v : Word) → is_name (word_text v) ≡ true
+pub word_form : (v : Word) → is_name (word_text v) ≡ true
 word_form w.Field = refl
 word_form _ = refl
 
@@ -54,7 +56,7 @@ not_blank_from_start b h = grind (arith, nat_tests)
 not_blank_from_digit : (b : ℕ) → is_ascii_digit b ≡ true → is_blank b ≡ false
 not_blank_from_digit b h = grind (arith, nat_tests)
 
-not_start_from_digit : (b : ℕ) → is_ascii_digit b ≡ true → is_name_start b ≡ false
+pub not_start_from_digit : (b : ℕ) → is_ascii_digit b ≡ true → is_name_start b ≡ false
 not_start_from_digit b h = grind (arith, nat_tests)
 
 pub start_class : (b : ℕ) → is_name_start b ≡ true → class b ≡ Letter
@@ -74,10 +76,6 @@ Kind Blank bs p = (length bs ≡ 1) × (p ≡ Skipped)
 Kind Letter bs p = (is_name bs ≡ true) × IsNamed bs p
 Kind Digit bs p = IsDigits bs × (p ≡ Taken (k.Number (pos (decimal bs))))
 Kind Other bs p = IsComment bs p ⊎ ((v : Sign) × (bs ≡ sign_text v) × (p ≡ Taken (k.Sign v)))
-
-left_true : (p q : Bool) → (p && q) ≡ true → p ≡ true
-left_true true q h = refl
-left_true false q h = cc
 
 kind_of_token : (b : ℕ) (bs : List ℕ) (t : Tok) → IsToken (b ∷ bs) t → Kind (class b) (b ∷ bs) (Taken t)
 kind_of_token b bs t (word v e) =
@@ -115,9 +113,6 @@ piece_not_empty p (token (word v e)) = false_true (ap is_name e ∙ word_form v)
 piece_not_empty p (token (name h no_word)) = false_true h
 piece_not_empty p (token (number h)) = h
 piece_not_empty p (token (sign v e)) = false_true (ap (λ us. nat_lt 0 (length us)) e ∙ sign_long v)
-
-some_none : {X : Type 0} {x : X} → None ≡ Some x → ⊥
-some_none e = cc
 
 -- one text is at most one piece
 
@@ -158,8 +153,8 @@ no_comment_and_sign b bs p v h e = too_short (comment_second (b ∷ bs) p h) whe
   rest_empty = slash_sign v bs (ap (λ x. x ∷ bs) (sym (comment_first b bs p h)) ∙ e)
 
   too_short : (slice_get (b ∷ bs) 1 ≡ Some 47) ⊎ (slice_get (b ∷ bs) 1 ≡ Some 42) → ⊥
-  too_short (inl f) = absurd (some_none (rw rest_empty at f))
-  too_short (inr f) = absurd (some_none (rw rest_empty at f))
+  too_short (inl f) = absurd (none_some (rw rest_empty at f))
+  too_short (inr f) = absurd (none_some (rw rest_empty at f))
 
 closed_is_closed : (us text : List ℕ) → us ≡ text ++ 42 ∷ 47 ∷ [] → HasNoClose us → ⊥
 closed_is_closed us text e h = h (length text) (rw e (close_at_end text)) where

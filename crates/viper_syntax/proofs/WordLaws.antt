@@ -3,7 +3,7 @@ use Rattle.std.proofs.Common.{◌≡◌, ◌∙◌, ◌≢◌, ℕ, Bool, true, 
 use Rattle.std.specs.Prelude.{◌==◌, ◌||◌, MatchOption, find, slice_index}
 use Rattle.std.specs.List.{filter, list_any}
 use Rattle.std.specs.Str.{bytes_eq}
-use Rattle.std.proofs.lemmas.Bool.{false≢true}
+use Rattle.std.proofs.lemmas.Bool.{false≢true, false_from_ne_true}
 use Rattle.std.proofs.lemmas.Bool.Decides.{nat_tests}
 use Rattle.std.proofs.lemmas.Slice.Eq.{bytes_eq-Decides}
 use Rattle.vb_base.specs.Names.{is_word, refused_words}
@@ -61,15 +61,11 @@ refused_looked_up_from text x xs h =
     any_of_map (bytes_eq x) text xs ∙ ap (list_any (bytes_eq x)) h ∙
     any_in_filter (bytes_eq x) (λ w. slice_index w 0 == slice_index x 0) (same_first x) refused_words
 
-false_from_not : (b : Bool) → (b ≡ true → ⊥) → b ≡ false
-false_from_not true h = absurd (h refl)
-false_from_not false h = refl
-
 none_of : (x : List ℕ) (ws : List Word) → ((w : Word) → x ≢ word_text w) → list_any (bytes_eq x) refused_words ≡ false →
     list_any (bytes_eq x) (map word_text ws ++ refused_words) ≡ false
 none_of x [] h none = none
-none_of x (w ∷ ws) h none = rw (false_from_not (bytes_eq x (word_text w)) (λ e. h w ((bytes_eq-Decides x (word_text w)).0 e))) (none_of x ws h none)
+none_of x (w ∷ ws) h none = rw (false_from_ne_true (bytes_eq x (word_text w)) (λ e. h w ((bytes_eq-Decides x (word_text w)).0 e))) (none_of x ws h none)
 
 pub no_word : (x : List ℕ) → ((w : Word) → x ≢ word_text w) → (list_any (bytes_eq x) refused_words ≡ true → ⊥) → is_word x ≡ false
 unfolding is_word
-no_word x h none = none_of x words h (false_from_not (list_any (bytes_eq x) refused_words) none)
+no_word x h none = none_of x words h (false_from_ne_true (list_any (bytes_eq x) refused_words) none)

@@ -1,6 +1,8 @@
 -- The statements of a block and the arms of an `if`, gone through from the front.
-use Rattle.std.proofs.Common.{◌≡◌, ◌∙◌, refl, sym, ap, ℕ, ◌+◌, ◌<◌, ◌≤◌, arith, Bool, List, [], ◌++◌, append_assoc, length, get_or, take, drop}
+use Rattle.std.proofs.Common.{◌≡◌, ◌∙◌, sym, ap, ℕ, ◌+◌, ◌<◌, ◌≤◌, arith, Bool, List, [], ◌++◌, append_assoc, length, get_or, take, drop}
 use Rattle.std.proofs.lemmas.List.{append-nil, at_drop_all, length-take, take-append-le}
+use Rattle.viper_types.proofs.Scopes.{vars_after}
+use Rattle.lemmas.proofs.Lists.{next_item}
 use Rattle.vb_value.specs.declared.values.Ty.{Ty}
 use Rattle.viper_syntax.specs.Stmt as s
 use Rattle.viper_syntax.specs.View.{arm_of, arms_of, stmt_of, stmts_of}
@@ -11,20 +13,8 @@ use Rattle.viper_scope.specs.Outcome.{Found, then_more}
 use Rattle.viper_scope.specs.Scope.{Scope}
 use Rattle.viper_types.specs.Frame.{Frame, declared, declared_in, declared_in_arm, declared_in_arms, frame_after, with_hidden}
 use Rattle.viper_types.specs.Stepping.{stepping, stepping_all, branch, branches}
-use Rattle.viper_types.proofs.Turns.{left_at}
 
 -- ---- statements
-
-after_vars : (fr : Frame) (a : s.SStmt) → (frame_after fr a).vars ≡ fr.vars ++ declared a
-after_vars fr (s.Var at f rhs) = refl
-after_vars fr (s.Assign xs rhs) = sym (append-nil fr.vars)
-after_vars fr (s.CallTo xs call) = sym (append-nil fr.vars)
-after_vars fr (s.Call call) = sym (append-nil fr.vars)
-after_vars fr (s.Check w at a) = sym (append-nil fr.vars)
-after_vars fr (s.Fold f) = sym (append-nil fr.vars)
-after_vars fr (s.Unfold f) = sym (append-nil fr.vars)
-after_vars fr (s.If arms other) = refl
-after_vars fr (s.While at a is b) = refl
 
 still_first : (first sc more : Scope) → take (length first) sc ≡ first → take (length first) (sc ++ more) ≡ first
 still_first first sc more h =
@@ -46,8 +36,8 @@ pub next_vars : (fr gr : Frame) (items : List SStmt) (i : ℕ) (a : SStmt) (all 
     fr.vars ++ declared_in (stmts_of (drop i items)) ≡ all → gr.vars ++ declared_in (stmts_of (drop (i + 1) items)) ≡ all
 next_vars fr gr items i a all within is after so_far =
     let rest = declared_in (stmts_of (drop (i + 1) items)) in
-    ap (λ hr. hr.vars ++ rest) after ∙ ap (λ us. us ++ rest) (after_vars fr (stmt_of a)) ∙ append_assoc fr.vars (declared (stmt_of a)) rest ∙
-    ap (λ ss. fr.vars ++ declared_in (stmts_of ss)) (sym (left_at items i a within is)) ∙ so_far
+    ap (λ hr. hr.vars ++ rest) after ∙ ap (λ us. us ++ rest) (vars_after fr (stmt_of a)) ∙ append_assoc fr.vars (declared (stmt_of a)) rest ∙
+    ap (λ ss. fr.vars ++ declared_in (stmts_of ss)) (sym (next_item items i a within is)) ∙ so_far
 
 pub next_visible : (fr gr : Frame) (a : SStmt) (first : Scope) → gr ≡ frame_after fr (stmt_of a) → take (length first) fr.scope ≡ first → take (length first) gr.scope ≡ first
 next_visible fr gr a first after so_far = ap (λ hr. take (length first) hr.scope) after ∙ after_visible fr (stmt_of a) first so_far
@@ -55,7 +45,7 @@ next_visible fr gr a first after so_far = ap (λ hr. take (length first) hr.scop
 pub next_stmt : (lists : Bool) (k : Context) (d : ℕ) (fr gr : Frame) (items : List SStmt) (i : ℕ) (a : SStmt) → i < length items → a ≡ get_or items i a → gr ≡ frame_after fr (stmt_of a) →
     stepping_all lists k d fr (stmts_of (drop i items)) ≡ then_more (stepping lists k d fr (stmt_of a)) (stepping_all lists k d gr (stmts_of (drop (i + 1) items)))
 next_stmt lists k d fr gr items i a within is after =
-    ap (λ ss. stepping_all lists k d fr (stmts_of ss)) (left_at items i a within is) ∙
+    ap (λ ss. stepping_all lists k d fr (stmts_of ss)) (next_item items i a within is) ∙
     ap (λ hr. then_more (stepping lists k d fr (stmt_of a)) (stepping_all lists k d hr (stmts_of (drop (i + 1) items)))) (sym after)
 
 pub no_stmt : (lists : Bool) (k : Context) (d : ℕ) (fr : Frame) (items : List SStmt) (i : ℕ) → length items ≤ i → stepping_all lists k d fr (stmts_of (drop i items)) ≡ Found []
@@ -71,13 +61,13 @@ pub next_arm_vars : (fr gr : Frame) (items : List SArm) (i : ℕ) (a : SArm) (al
 next_arm_vars fr gr items i a all within is after so_far =
     let rest = declared_in_arms (arms_of (drop (i + 1) items)) in
     ap (λ hr. hr.vars ++ rest) after ∙ append_assoc fr.vars (declared_in_arm (arm_of a)) rest ∙
-    ap (λ arms. fr.vars ++ declared_in_arms (arms_of arms)) (sym (left_at items i a within is)) ∙ so_far
+    ap (λ arms. fr.vars ++ declared_in_arms (arms_of arms)) (sym (next_item items i a within is)) ∙ so_far
 
 pub next_arm : (lists : Bool) (k : Context) (d : ℕ) (fr gr : Frame) (items : List SArm) (i : ℕ) (a : SArm) → i < length items → a ≡ get_or items i a → gr ≡ with_hidden fr (declared_in_arm (arm_of a)) →
     branches lists k (d + i) fr (arms_of (drop i items)) ≡ then_more (branch lists k (d + i) fr (arm_of a)) (branches lists k (d + (i + 1)) gr (arms_of (drop (i + 1) items)))
 next_arm lists k d fr gr items i a within is after =
     let deeper : d + i + 1 ≡ d + (i + 1) = omega arith in
-    ap (λ arms. branches lists k (d + i) fr (arms_of arms)) (left_at items i a within is) ∙
+    ap (λ arms. branches lists k (d + i) fr (arms_of arms)) (next_item items i a within is) ∙
     ap (λ hr. then_more (branch lists k (d + i) fr (arm_of a)) (branches lists k (d + i + 1) hr (arms_of (drop (i + 1) items)))) (sym after) ∙
     ap (λ n. then_more (branch lists k (d + i) fr (arm_of a)) (branches lists k n gr (arms_of (drop (i + 1) items)))) deeper
 

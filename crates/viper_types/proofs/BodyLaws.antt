@@ -36,7 +36,7 @@ pub data Bodied : List Signature → List (Option e.Assertion) → Type 0 where
   one_body : {s : Signature} {b : Option e.Assertion} {ss : List Signature} {bs : List (Option e.Assertion)} → s.has_body ≡ is_some b →
       Bodied ss bs → Bodied (s ∷ ss) (b ∷ bs)
 
-some_body : (b : Option e.Assertion) → is_some b ≡ true → (body : e.Assertion) × (b ≡ Some body)
+pub some_body : (b : Option e.Assertion) → is_some b ≡ true → (body : e.Assertion) × (b ≡ Some body)
 some_body (Some body) h = (body, refl)
 some_body None h = absurd (cc)
 
@@ -56,7 +56,7 @@ pub numbered_is : {X : Type 0} (m n : ℕ) (x : X) (o : Option X) → numbered m
 numbered_is m n x None h = absurd (cc)
 numbered_is m n x (Some y) h = let same = same_Some _ _ h in (ap (λ z. z.0) same, ap (λ z. Some z.1) same)
 
-predicate_is : (ss : List Signature) (o : Option Role) (n : ℕ) (s : Signature) → predicate_in ss o ≡ Some (n, s) → slice_get ss n ≡ Some s
+pub predicate_is : (ss : List Signature) (o : Option Role) (n : ℕ) (s : Signature) → predicate_in ss o ≡ Some (n, s) → slice_get ss n ≡ Some s
 predicate_is ss None n s h = absurd (cc)
 predicate_is ss (Some (role.Field m)) n s h = absurd (cc)
 predicate_is ss (Some (role.Predicate m)) n s h = let is = numbered_is m n s (slice_get ss m) h in subst (λ x. slice_get ss x ≡ Some s) is.0 is.1

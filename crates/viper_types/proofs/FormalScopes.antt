@@ -2,6 +2,7 @@
 use Rattle.std.proofs.Common.{◌≡◌, ◌≢◌, ◌∙◌, ◌||◌, ℕ, zero, suc, ◌+◌, ◌≤◌, Bool, true, false, not, List, [], ◌∷◌, ◌++◌, Contains, length, map, sym, ap, subst, arith, append_assoc, append-nil}
 use Rattle.std.specs.List.{AllByRecursion, range_with_len}
 use Rattle.std.proofs.lemmas.List.{length_push}
+use Rattle.lemmas.proofs.Lists.{get_middle}
 use Rattle.vb_value.specs.Value.{same_type}
 use Rattle.vb_value.specs.declared.values.Ty.{Ty}
 use Rattle.vb_value.specs.declared.values.Ty.TheVariants as ty
@@ -14,7 +15,7 @@ use Rattle.viper_types.specs.Frame.{Frame}
 use Rattle.viper_types.specs.Program.{AreFormals, no_formals, one_formal}
 use Rattle.viper_types.proofs.TermTypes.{Describes, Resolves}
 use Rattle.viper_types.proofs.Rising.{Rising}
-use Rattle.viper_types.proofs.Scopes.{Extends, AreVariables, numbers, numbers_push, slice_get_at, variables_stay, variables_push, found}
+use Rattle.viper_types.proofs.Scopes.{Extends, AreVariables, numbers, numbers_push, variables_stay, variables_push, found}
 use Rattle.viper_types.proofs.StmtTypes.{type_is}
 
 -- ---- numbers in order
@@ -56,7 +57,7 @@ formals_are_variables params no_formals le h = h
 formals_are_variables {is_parameter = is_parameter} params (one_formal {fr = fr} {f = f} {u = u} new is allowed more) le h =
     formals_are_variables params more (λ i. omega (arith, le i, length_push fr.vars u))
     (variables_push params (fr.vars ++ u ∷ []) fr.scope (f.name.name, record { number = length fr.vars; ty = u; is_parameter = is_parameter })
-    (variables_stay params fr.vars (u ∷ []) fr.scope h) (record { typed = slice_get_at fr.vars u []; no_parameter = le }))
+    (variables_stay params fr.vars (u ∷ []) fr.scope h) (record { typed = get_middle fr.vars u []; no_parameter = le }))
 
 not_perm : (u : Ty) → (false || not (same_type u ty.Perm)) ≡ true → u ≢ ty.Perm
 not_perm ty.Int h = λ is. absurd (cc)

@@ -2,6 +2,7 @@
 use Rattle.std.proofs.Common.{◌≡◌, ◌∙◌, ℕ, ◌+◌, ◌<◌, ◌≤◌, ◌^◌, Option, List, [], ◌∷◌, ◌++◌, All, length, map, refl, sym, ap, subst, arith, append_assoc, length-append}
 use Rattle.std.specs.List.{AllByRecursion}
 use Rattle.std.proofs.lemmas.List.Elements.{All-head, All-from_recursion}
+use Rattle.lemmas.proofs.Lists.{all_left, all_right}
 use Rattle.viper_core.specs.Expr as e
 use Rattle.viper_core.specs.Formed as g
 use Rattle.viper_core.specs.Formed.{AreNames, IsTypedProgram}
@@ -14,7 +15,7 @@ use Rattle.viper_syntax.specs.Good.{HasLiterals, decl_terms, decls_terms, decl_n
 use Rattle.viper_types.specs.Program as r
 use Rattle.viper_types.specs.Program.{AreNamed, IsPredicate, predicate_of, IsMethod, method_of, AreDeclared, no_decls, one_decl, bodies_in, IsProgram, program_of}
 use Rattle.viper_types.proofs.TermTypes.{Describes}
-use Rattle.viper_types.proofs.GoodLists.{IsShallow, all_left, all_right}
+use Rattle.viper_types.proofs.GoodLists.{IsShallow}
 use Rattle.viper_types.proofs.NamesApart.{Apart, IsNew, decl_bytes, decls_apart, differ_from_apart, all_among, apart_among}
 use Rattle.viper_types.proofs.PredicateFormed.{IsName, IsGoodDecl, predicate_is_formed}
 use Rattle.viper_types.proofs.MethodFormed.{method_is_formed}

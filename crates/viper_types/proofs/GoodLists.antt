@@ -1,15 +1,8 @@
 -- What holds of each of some terms, of those of a part.
-use Rattle.std.proofs.Common.{◌≤◌, List, [], ◌∷◌, ◌++◌, All, length, refl, subst, arith}
-use Rattle.std.proofs.lemmas.List.{take_at, drop_at}
-use Rattle.std.proofs.lemmas.List.Elements.{All-take, All-drop, All-head, All-tail}
+use Rattle.std.proofs.Common.{◌≤◌, List, [], ◌∷◌, All, arith}
+use Rattle.std.proofs.lemmas.List.Elements.{All-head, All-tail}
 use Rattle.viper_syntax.specs.Term as t
 use Rattle.viper_syntax.specs.Good.{depth, terms_depth, amount_depth, amount_terms, HasLiterals, HaveLiterals, AmountHasLiterals}
-
-pub all_left : {X : Type 0} (P : X → Type 0) (xs ys : List X) → All P (xs ++ ys) → All P xs
-all_left P xs ys h = subst (λ zs. All P zs) (take_at xs ys (length xs) refl) (All-take P (length xs) (xs ++ ys) h)
-
-pub all_right : {X : Type 0} (P : X → Type 0) (xs ys : List X) → All P (xs ++ ys) → All P ys
-all_right P xs ys h = subst (λ zs. All P zs) (drop_at xs ys (length xs) refl) (All-drop P (length xs) (xs ++ ys) h)
 
 abbrev pub IsShallow : t.Term → Type 0
 IsShallow a = depth a ≤ 1024

@@ -4,7 +4,6 @@ mod Unfoldings
 mod Listing
 mod Differ
 mod Loops
-mod Turns
 mod TargetLaws
 mod CallLaws
 mod PlaceLaws
@@ -39,7 +38,7 @@ pub mod Assembled
 pub mod WorldLaws
 pub mod FormedProgram
 mod Lean
-mod CopiedTerms
+pub mod CopiedTerms
 mod CopiedStmts
 mod CopiedProgram
 mod CheckLaws

@@ -4,6 +4,7 @@ use Rattle.std.specs.List.{AllByRecursion}
 use Rattle.std.specs.Option.{IfSome}
 use Rattle.std.proofs.lemmas.List.{length-map}
 use Rattle.std.proofs.lemmas.List.Elements.{All-nil, All-cons, All-head, All-tail, All-append}
+use Rattle.lemmas.proofs.Lists.{all_left, all_right}
 use Rattle.vb_base.specs.Names.{NamesDiffer}
 use Rattle.vb_value.specs.declared.values.Ty.{Ty}
 use Rattle.viper_core.specs.Depth.{assertion_depths}
@@ -28,7 +29,7 @@ use Rattle.viper_types.specs.Declaring.{no_frame, name_of, context_in, condition
 use Rattle.viper_types.specs.Program.{AreFormals, requires_of, ensures_of, AreClauses, no_clauses, one_clause, IsMethodBody, no_block, block_of, IsMethod, method_of}
 use Rattle.viper_types.proofs.TermTypes.{Describes, Resolves, is_assertion}
 use Rattle.viper_types.proofs.TermDepth as depths
-use Rattle.viper_types.proofs.GoodLists.{IsShallow, all_left, all_right}
+use Rattle.viper_types.proofs.GoodLists.{IsShallow}
 use Rattle.viper_types.proofs.NamesApart.{Apart, IsUnknown, differ_from_apart, formals_apart}
 use Rattle.viper_types.proofs.Scopes.{Extends, AreVariables, IsSound, numbers, core_scope, same_scope, extends_less}
 use Rattle.viper_types.proofs.StmtTypes.{GoAll, block_goes}

@@ -15,13 +15,13 @@ use Rattle.viper_types.specs.Stepping.{dotted, last_place}
 -- the place of these further names after a place
 abbrev pub dotted_on : World → Located → Pos → List Named → Judged Located
 dotted_on w l at [] = Found l
-dotted_on w l at (g ∷ gs) = dotted w (e.Field l.receiver l.field at, l.ty) (g ∷ gs)
+dotted_on w l at (g ∷ gs) = dotted w (e.Field l.receiver l.field at, l.ty) g gs
 
-pub dotted_found : (w : World) (x : Typing) (f : Named) (gs : List Named) (l : Located) → located w f.name f.pos x ≡ Found l → dotted w x (f ∷ gs) ≡ dotted_on w l f.pos gs
+pub dotted_found : (w : World) (x : Typing) (f : Named) (gs : List Named) (l : Located) → located w f.name f.pos x ≡ Found l → dotted w x f gs ≡ dotted_on w l f.pos gs
 dotted_found w x f [] l h = h
 dotted_found w x f (g ∷ gs) l h = rw h refl
 
-pub dotted_refused : (w : World) (x : Typing) (f : Named) (gs : List Named) (t : TypeFault) → Refuses (located w f.name f.pos x) t → Refuses (dotted w x (f ∷ gs)) t
+pub dotted_refused : (w : World) (x : Typing) (f : Named) (gs : List Named) (t : TypeFault) → Refuses (located w f.name f.pos x) t → Refuses (dotted w x f gs) t
 dotted_refused w x f gs Memory h = tt
 dotted_refused w x f [] (Rule p n) h = h
 dotted_refused w x f (g ∷ gs) (Rule p n) h = rw h refl

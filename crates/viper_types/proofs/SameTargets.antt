@@ -8,6 +8,7 @@ use Rattle.std.specs.declared.cmp.Ordering.TheVariants as ordering
 use Rattle.std.proofs.lemmas.Bool.{cases_lt, cases_order, eqb-true, eq-eqb, ne_eqb, lt-ltb, le-ltb}
 use Rattle.std.proofs.lemmas.List.Folds.{list_any_at}
 use Rattle.std.proofs.lemmas.Map.Views.{any-filter_same}
+use Rattle.lemmas.proofs.Tests.{or_false, first_decides, or_twice, or_turned, or_moved}
 use Rattle.viper_core.specs.Scope as cs
 use Rattle.viper_core.specs.Scope.{assigns, some_assigns, loop_targets}
 use Rattle.viper_core.specs.Stmt as c
@@ -33,26 +34,6 @@ there_already k z zs is = ap (λ o. match_ordering o (k ∷ z ∷ zs) (z ∷ zs)
 
 further_on : (k z : ℕ) (zs : List ℕ) → z < k → insert_key nat_cmp (z ∷ zs) k ≡ z ∷ insert_key nat_cmp zs k
 further_on k z zs gt = ap (λ o. match_ordering o (k ∷ z ∷ zs) (z ∷ zs) (z ∷ insert_key nat_cmp zs k)) (sym (nat_cmp_is k z ordering.Greater gt))
-
-or_turned : (a b d : Bool) → (a || (b || d)) ≡ (b || (a || d))
-or_turned true true d = refl
-or_turned true false d = refl
-or_turned false true d = refl
-or_turned false false d = refl
-
-or_twice : (a d : Bool) → (a || d) ≡ (a || (a || d))
-or_twice true d = refl
-or_twice false d = refl
-
-or_moved : (a b d : Bool) → (b || (a || d)) ≡ ((a || b) || d)
-or_moved true true d = refl
-or_moved true false d = refl
-or_moved false true d = refl
-or_moved false false d = refl
-
-or_nothing : (a : Bool) → (a || false) ≡ a
-or_nothing true = refl
-or_nothing false = refl
 
 or_true : (a : Bool) → (a || true) ≡ true
 or_true true = refl
@@ -104,15 +85,11 @@ contained xs x h = list_any_at (λ y. y == x) xs h.0 x h.1 (eq-eqb _ x h.2)
 has_filter : (p : ℕ → Bool) (xs : List ℕ) (z : ℕ) → has (filter p xs) z ≡ (p z && has xs z)
 has_filter p xs z = any-filter_same (λ y. y == z) p (p z) (λ k i. ap p (eqb-true k z i)) xs
 
-visible_or_not : (a b : Bool) → (a ≡ true → b ≡ true) → (a && b) ≡ a
-visible_or_not true b h = h refl
-visible_or_not false b h = refl
-
 -- the listed targets of a typed loop are what it assigns of what was there before
 listed : {m : g.Frame} {sc : cs.Scope} {body : c.Stmts} (below z : ℕ) → g.AreStmts m sc body → below ≤ sc.fresh → z < below →
     has (loop_targets sc body) z ≡ some_assigns z body
 listed {m} {sc} {body} below z h le lt =
-    has_filter (λ x. some_assigns x body) sc.visible z ∙ visible_or_not (some_assigns z body) (has sc.visible z)
+    has_filter (λ x. some_assigns x body) sc.visible z ∙ first_decides (some_assigns z body) (has sc.visible z)
     (λ is. elim (some_old_or_new z h is) [ inl old ↦ contained sc.visible z old | inr new ↦ absurd (omega (arith, new, le, lt)) ])
 
 -- ---- the variables below a number
@@ -206,7 +183,7 @@ gathered_targets below body h =
     let those : Rising 0 below (targets below body) = rising_targets_of below body in
     same_rising 0 below (gathered below body) (targets below body) all those (λ z.
     elim (cases_lt z below) [
-      | inl lt ↦ stmts_targets below z lt [] h ∙ or_nothing (some_assigns z body) ∙ sym (has_target_of below z body lt)
+      | inl lt ↦ stmts_targets below z lt [] h ∙ or_false (some_assigns z body) ∙ sym (has_target_of below z body lt)
       | inr le ↦ has_above 0 below (gathered below body) z all le ∙ sym (has_above 0 below (targets below body) z those le)
     ])
 

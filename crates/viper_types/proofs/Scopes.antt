@@ -1,9 +1,10 @@
 -- The variables that names stand for, as the numbers of the core's scopes.
-use Rattle.std.proofs.Common.{◌≡◌, ◌∙◌, ◌⊎◌, inl, inr, ◌==◌, ℕ, zero, suc, ◌≤◌, Bool, true, false, cond, Option, Some, List, [], ◌∷◌, ◌++◌, Contains, length, slice_get, refl, sym, ap, subst, arith, append-nil, length-append}
+use Rattle.std.proofs.Common.{◌≡◌, ◌∙◌, ◌⊎◌, inl, inr, ◌==◌, ℕ, ◌≤◌, Bool, true, false, cond, Option, Some, List, [], ◌∷◌, ◌++◌, Contains, length, slice_get, refl, sym, ap, subst, arith, append-nil, length-append}
 use Rattle.std.specs.Cmp.Lexicographic.{pointwise}
 use Rattle.std.proofs.lemmas.List.{length_push}
 use Rattle.std.proofs.lemmas.List.Elements.{Contains-append_right}
 use Rattle.std.proofs.lemmas.Option.{same_Some}
+use Rattle.lemmas.proofs.Lists.{there_left, get_middle}
 use Rattle.vb_value.specs.declared.values.Ty.{Ty}
 use Rattle.viper_core.specs.Scope as cs
 use Rattle.viper_core.specs.Typing as g
@@ -17,21 +18,12 @@ use Rattle.viper_types.proofs.Rising.{Rising, rising_push, rising_wider}
 
 -- ---- places in lists
 
-pub slice_get_append : {X : Type 0} (xs ys : List X) (n : ℕ) (x : X) → slice_get xs n ≡ Some x → slice_get (xs ++ ys) n ≡ Some x
-slice_get_append [] ys n x h = absurd (cc)
-slice_get_append (y ∷ xs) ys zero x h = h
-slice_get_append (y ∷ xs) ys (suc n) x h = slice_get_append xs ys n x h
-
-pub slice_get_at : {X : Type 0} (xs : List X) (x : X) (ys : List X) → slice_get (xs ++ x ∷ ys) (length xs) ≡ Some x
-slice_get_at [] x ys = refl
-slice_get_at (y ∷ xs) x ys = slice_get_at xs x ys
-
 -- the first list goes on as the second
 pub record Extends (some all : List Ty) : Type 0 where
   pub at : (n : ℕ) (u : Ty) → slice_get some n ≡ Some u → slice_get all n ≡ Some u
 
 pub extends_less : (some more all : List Ty) → Extends (some ++ more) all → Extends some all
-extends_less some more all h = record { at = λ n u i. h.at n u (slice_get_append some more n u i) }
+extends_less some more all h = record { at = λ n u i. h.at n u (there_left some more n u i) }
 
 -- ---- scopes
 
@@ -60,7 +52,7 @@ pub record IsSound (params : ℕ) (fr : Frame) : Type 0 where
 pub variables_stay : (params : ℕ) (vars more : List Ty) (sc : Scope) → AreVariables params vars sc → AreVariables params (vars ++ more) sc
 variables_stay params vars more [] h = tt
 variables_stay params vars more (x ∷ xs) h =
-    (record { typed = slice_get_append vars more x.1.number x.1.ty h.0.typed; no_parameter = h.0.no_parameter }, variables_stay params vars more xs h.1)
+    (record { typed = there_left vars more x.1.number x.1.ty h.0.typed; no_parameter = h.0.no_parameter }, variables_stay params vars more xs h.1)
 
 pub variables_push : (params : ℕ) (vars : List Ty) (sc : Scope) (x : List ℕ × Variable) → AreVariables params vars sc → IsVariable params vars x.1 →
     AreVariables params vars (sc ++ x ∷ [])
@@ -82,7 +74,7 @@ pub sound_variable : (params : ℕ) (fr : Frame) (x : List ℕ) (u : Ty) (is_par
 sound_variable params fr x u is_parameter h = record {
   variables =
       variables_push params (fr.vars ++ u ∷ []) fr.scope (x, record { number = length fr.vars; ty = u; is_parameter = is_parameter })
-      (variables_stay params fr.vars (u ∷ []) fr.scope h.variables) (record { typed = slice_get_at fr.vars u []; no_parameter = λ i. h.params_first });
+      (variables_stay params fr.vars (u ∷ []) fr.scope h.variables) (record { typed = get_middle fr.vars u []; no_parameter = λ i. h.params_first });
   rising =
       rw (length_push fr.vars u, numbers_push fr.scope (x, record { number = length fr.vars; ty = u; is_parameter = is_parameter }))
       (rising_push 0 (length fr.vars) (numbers fr.scope) h.rising);

@@ -2,6 +2,7 @@
 use Rattle.std.proofs.Common.{◌≡◌, ◌⊎◌, inl, inr, ℕ, ◌+◌, ◌≤◌, Option, Some, List, [], ◌∷◌, ◌++◌, All, refl, subst, arith}
 use Rattle.std.proofs.lemmas.Bool.{leb-true}
 use Rattle.std.proofs.lemmas.List.Elements.{All-head, All-tail}
+use Rattle.lemmas.proofs.Lists.{all_left, all_right}
 use Rattle.vb_base.specs.declared.places.Pos.{Pos}
 use Rattle.viper_core.specs.Expr as e
 use Rattle.viper_core.specs.Stmt as c
@@ -20,7 +21,7 @@ use Rattle.viper_types.specs.Stepping.{Target, Branch, nested, alone, arm_count}
 use Rattle.viper_types.specs.Stepped as r
 use Rattle.viper_types.specs.Stepped.{Stepped, Blocked, SteppedAll, Branches, Otherwise}
 use Rattle.viper_types.proofs.TermDepth.{expr_depth, exprs_depth, permission_amount_depth, assertion_depth}
-use Rattle.viper_types.proofs.GoodLists.{IsShallow, all_left, all_right, terms_are_shallow, amount_is_shallow}
+use Rattle.viper_types.proofs.GoodLists.{IsShallow, terms_are_shallow, amount_is_shallow}
 
 -- ---- statements without blocks
 
@@ -44,7 +45,7 @@ declaration_is_flat (r.value {a = a} h) l = record { shallow = omega (arith, exp
 declaration_is_flat (r.Declares.returned h) l = call_is_flat h l
 declaration_is_flat (r.Declares.created is h) l = new_is_flat h
 
-place_depth : {k : Context} {sc : Scope} {a : t.Term} {fs : List Named} {l : Located} → r.IsPlace k sc a fs l → g.depth l.receiver ≤ depth (with_fields a fs)
+place_depth : {k : Context} {sc : Scope} {a : t.Term} {f : Named} {fs : List Named} {l : Located} → r.IsPlace k sc a f fs l → g.depth l.receiver ≤ depth (with_fields a (f ∷ fs))
 place_depth (r.of_field h i) = omega (arith, expr_depth h)
 place_depth (r.of_further h) = place_depth h
 

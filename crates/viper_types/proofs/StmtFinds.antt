@@ -88,14 +88,14 @@ on_the_way (Found x) k m n = once_on_the_way (k x) m n where
   once_on_the_way (Found y) m n = refl
   once_on_the_way (Broken p r) m n = refl
 
-place_finds : {k : Context} {sc : Scope} {a : t.Term} {fs : List Named} {l : Located} → IsPlace k sc a fs l →
-    then_typed (typing k sc a) (λ y. j.dotted k.world y fs) ≡ Found l
+place_finds : {k : Context} {sc : Scope} {a : t.Term} {f : Named} {fs : List Named} {l : Located} → IsPlace k sc a f fs l →
+    then_typed (typing k sc a) (λ y. j.dotted k.world y f fs) ≡ Found l
 place_finds (of_field h i) = rw (typing_finds h, i) refl
 place_finds {k} {sc} (of_further {a = a} {f = f} {g = g} {gs = gs} h) =
-    sym (on_the_way (typing k sc a) (located k.world f.name f.pos) (λ l. (e.Field l.receiver l.field f.pos, l.ty)) (λ y. j.dotted k.world y (g ∷ gs))) ∙ place_finds h
+    sym (on_the_way (typing k sc a) (located k.world f.name f.pos) (λ l. (e.Field l.receiver l.field f.pos, l.ty)) (λ y. j.dotted k.world y g gs)) ∙ place_finds h
 
-target_place_finds : {k : Context} {sc : Scope} {x : Named} {fs : List Named} {l : Located} → IsPlace k sc (t.Name x.name x.pos) fs l →
-    j.target_place k sc x fs ≡ Found l
+target_place_finds : {k : Context} {sc : Scope} {x f : Named} {fs : List Named} {l : Located} → IsPlace k sc (t.Name x.name x.pos) f fs l →
+    j.target_place k sc x f fs ≡ Found l
 target_place_finds h = place_finds h
 
 declaring_finds : {k : Context} (fr : Frame) {at : Pos} {v : Target} {rhs : Option s.SRhs} {x : c.Stmt} →

@@ -10,6 +10,7 @@ use Rattle.viper_syntax.specs.Term as t
 use Rattle.viper_syntax.specs.Stmt as s
 use Rattle.viper_syntax.specs.View.{arms_of}
 use Rattle.viper_syntax.specs.declared.stmts.SArm.{SArm}
+use Rattle.viper_scope.specs.Rules.{wrong_type, too_deep}
 use Rattle.viper_scope.specs.declared.faults.TypeFault.{TypeFault}
 use Rattle.viper_scope.specs.Answers.{Refuses}
 use Rattle.viper_scope.specs.Context.{Context, nowhere}
@@ -43,11 +44,11 @@ if_arms_refused lists k d fr arms other f h = failed f (branches lists k (d + 1)
 -- once the arms are typed
 pub if_arms : (lists : Bool) (k : Context) (d : ℕ) (fr : Frame) (arms : s.SArms) (other : s.SElse) (bs : List Branch) (n : ℕ) (gr : Frame) → branches lists k (d + 1) fr arms ≡ Found bs →
     n ≡ arm_count arms → gr ≡ with_hidden fr (declared_in_arms arms) →
-    stepping lists k d fr (s.If arms other) ≡ then_typed (otherwise lists k (d + n) gr other) (λ ss. known (nested bs ss) nowhere 3 Found)
+    stepping lists k d fr (s.If arms other) ≡ then_typed (otherwise lists k (d + n) gr other) (λ ss. known (nested bs ss) nowhere wrong_type Found)
 if_arms lists k d fr arms other bs n gr h is after =
-    ap (λ j. then_typed j (λ cs. then_typed (otherwise lists k (d + arm_count arms) (with_hidden fr (declared_in_arms arms)) other) (λ ss. known (nested cs ss) nowhere 3 Found))) h ∙
-    ap (λ m. then_typed (otherwise lists k (d + m) (with_hidden fr (declared_in_arms arms)) other) (λ ss. known (nested bs ss) nowhere 3 Found)) (sym is) ∙
-    ap (λ hr. then_typed (otherwise lists k (d + n) hr other) (λ ss. known (nested bs ss) nowhere 3 Found)) (sym after)
+    ap (λ j. then_typed j (λ cs. then_typed (otherwise lists k (d + arm_count arms) (with_hidden fr (declared_in_arms arms)) other) (λ ss. known (nested cs ss) nowhere wrong_type Found))) h ∙
+    ap (λ m. then_typed (otherwise lists k (d + m) (with_hidden fr (declared_in_arms arms)) other) (λ ss. known (nested bs ss) nowhere wrong_type Found)) (sym is) ∙
+    ap (λ hr. then_typed (otherwise lists k (d + n) hr other) (λ ss. known (nested bs ss) nowhere wrong_type Found)) (sym after)
 
 -- ---- a loop
 
@@ -70,4 +71,4 @@ loop_typed lists k d fr at a is b p h =
 pub block_typed : (lists : Bool) (k : Context) (d : ℕ) (fr : Frame) (at : Pos) (ss : s.SStmts) (xs : List c.Stmt) → d ≤ 128 → stepping_all lists k d fr ss ≡ Found xs → blocking lists k d fr (s.block at ss) ≡ Found (c.stmts xs)
 block_typed lists k d fr at ss xs le h =
     let shallow : leb d 128 ≡ true = search (rules, nat_tests) in
-    ap (λ b. obeys b at 15 (then_typed (stepping_all lists k d fr ss) as_block)) shallow ∙ ap (λ j. then_typed j as_block) h
+    ap (λ b. obeys b at too_deep (then_typed (stepping_all lists k d fr ss) as_block)) shallow ∙ ap (λ j. then_typed j as_block) h

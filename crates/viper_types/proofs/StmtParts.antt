@@ -1,14 +1,15 @@
 -- The parts of a statement over numbered variables: its targets, a call, a creation, a place, the instance of a fold.
-use Rattle.std.proofs.Common.{◌≡◌, ◌≢◌, ◌∙◌, ◌==◌, ℕ, ◌+◌, ◌<◌, true, false, Option, Some, None, List, [], ◌∷◌, ◌++◌, All, AllPairs, Contains, length, slice_get, get_or, is_some, refl, sym, ap, subst, arith}
+use Rattle.std.proofs.Common.{◌≡◌, ◌≢◌, ◌∙◌, ◌==◌, ℕ, ◌+◌, ◌<◌, true, false, Some, List, [], ◌∷◌, ◌++◌, All, AllPairs, Contains, length, slice_get, get_or, refl, sym, ap, subst, arith}
 use Rattle.std.specs.List.{filter, range_with_len}
 use Rattle.std.proofs.lemmas.Bool.{ne_eqb, eq-eqb}
 use Rattle.std.proofs.lemmas.List.Elements.{All-cons, All-nil, All-contains}
 use Rattle.std.proofs.lemmas.List.FromFn.{length-range_with_len, get_or-range_with_len}
 use Rattle.std.proofs.lemmas.Option.{slice_get_within}
+use Rattle.viper_types.proofs.BodyLaws.{some_body}
+use Rattle.lemmas.proofs.Lists.{all_left, all_right}
 use Rattle.vb_value.specs.Value.{same_type}
 use Rattle.vb_value.specs.declared.values.Ty.{Ty}
 use Rattle.vb_value.specs.declared.values.Ty.TheVariants as ty
-use Rattle.viper_core.specs.Expr as e
 use Rattle.viper_core.specs.Program as p
 use Rattle.viper_core.specs.Scope as cs
 use Rattle.viper_core.specs.Stmt as c
@@ -25,7 +26,7 @@ use Rattle.viper_types.specs.Frame.{Frame}
 use Rattle.viper_types.specs.Stepping.{Target, numbers_in}
 use Rattle.viper_types.specs.Stepped as r
 use Rattle.viper_types.proofs.TermTypes.{Describes, Resolves, has_type, have_types, permission_has_type}
-use Rattle.viper_types.proofs.GoodLists.{all_left, all_right, have_literals, amount_has_literals}
+use Rattle.viper_types.proofs.GoodLists.{have_literals, amount_has_literals}
 use Rattle.viper_types.proofs.Differ.{differ_none, one_differs}
 use Rattle.viper_types.proofs.Rising.{Rising, rising_bounds}
 use Rattle.viper_types.proofs.Scopes.{Extends, numbers, core_scope, AreVariables, IsSound, found, resolves}
@@ -175,17 +176,13 @@ pub record IsPlaceOf (c : g.Context) (l : Located) : Type 0 where
   pub receiver : HasType c l.receiver ty.Ref
   pub field : slice_get c.program.layout.fields l.field ≡ Some l.ty
 
-pub place_is : {k : Context} {sc : Scope} {c : g.Context} {a : t.Term} {fs : List Named} {l : Located} → Resolves k sc c → r.IsPlace k sc a fs l →
+pub place_is : {k : Context} {sc : Scope} {c : g.Context} {a : t.Term} {f : Named} {fs : List Named} {l : Located} → Resolves k sc c → r.IsPlace k sc a f fs l →
     HasLiterals a →
     IsPlaceOf c l
 place_is z (r.of_field {f = f} {n = n} {u = u} h i) l = record { receiver = has_type z h l; field = z.declarations.field f.name n u i }
 place_is z (r.of_further h) l = place_is z h l
 
 -- ---- instances
-
-some_body : (b : Option e.Assertion) → is_some b ≡ true → (body : e.Assertion) × (b ≡ Some body)
-some_body (Some body) h = (body, refl)
-some_body None h = absurd (cc)
 
 pub fold_is : {k : Context} {sc : Scope} {ctx : g.Context} {f : s.SFold} {x : c.FoldStmt} → Resolves k sc ctx → r.IsFold k sc f x →
     All HasLiterals (f.call.args ++ amount_terms f.amount) →

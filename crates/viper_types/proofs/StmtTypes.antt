@@ -2,6 +2,7 @@
 use Rattle.std.proofs.Common.{◌≡◌, ◌∙◌, ℕ, Option, Some, List, [], ◌∷◌, ◌++◌, All, length, slice_get, refl, sym, ap, subst, append_assoc, append-nil}
 use Rattle.std.proofs.lemmas.List.Elements.{All-cons, All-nil, All-head, All-tail}
 use Rattle.std.proofs.lemmas.Option.{same_Some}
+use Rattle.lemmas.proofs.Lists.{all_left, all_right, get_middle}
 use Rattle.vb_base.specs.declared.places.Pos.{Pos}
 use Rattle.vb_value.specs.declared.values.Ty.{Ty}
 use Rattle.vb_value.specs.declared.values.Ty.TheVariants as ty
@@ -25,8 +26,7 @@ use Rattle.viper_types.specs.Stepping.{Target, Branch, nested, alone}
 use Rattle.viper_types.specs.Stepped as r
 use Rattle.viper_types.specs.Stepped.{Stepped, Blocked, SteppedAll, Branches, Otherwise}
 use Rattle.viper_types.proofs.TermTypes.{Describes, Resolves, has_type, is_assertion}
-use Rattle.viper_types.proofs.GoodLists.{all_left, all_right}
-use Rattle.viper_types.proofs.Scopes.{Extends, extends_less, slice_get_at, numbers, core_scope, IsSound, sound_after, sound_hidden, declared_scope, hidden_scope, vars_after, same_scope}
+use Rattle.viper_types.proofs.Scopes.{Extends, extends_less, numbers, core_scope, IsSound, sound_after, sound_hidden, declared_scope, hidden_scope, vars_after, same_scope}
 use Rattle.viper_types.proofs.StmtParts.{Stands, Takes, names_in, target_is, take_targets, no_targets, one_target, received, stays, all_stay, declares, call_is, call_scope, new_is, new_scope, place_is, fold_is}
 use Rattle.viper_types.proofs.SameTargets.{same_targets}
 
@@ -65,7 +65,7 @@ var_goes : {k : Context} {m : g.Frame} {fr : Frame} {at : Pos} {f : Formal} {v :
     All HasLiterals (option_terms rhs_terms rhs) →
     Goes m (core_scope fr) (cs.declared (core_scope fr)) x
 var_goes {fr = fr} {f = f} z more (r.fresh {u = u} i is) h l =
-    declaration_goes z refl (more.at (length fr.vars) (declared_type f) (slice_get_at fr.vars (declared_type f) []) ∙ ap (λ w. Some w) (type_is f u is)) h l
+    declaration_goes z refl (more.at (length fr.vars) (declared_type f) (get_middle fr.vars (declared_type f) []) ∙ ap (λ w. Some w) (type_is f u is)) h l
 
 -- ---- assignments
 

@@ -1,5 +1,6 @@
 -- What a typing that finds something tells of it. Each way to go on keeps this.
 use Rattle.std.proofs.Common.{◌≡◌, ◌∙◌, ℕ, Bool, true, false, Option, Some, None, if◌then◌else◌, refl, sym, is_some, not, subst}
+use Rattle.viper_scope.proofs.Judged.{found_same}
 use Rattle.vb_base.specs.declared.places.Pos.{Pos}
 use Rattle.vb_value.specs.Value.{same_type}
 use Rattle.vb_value.specs.declared.values.Ty.{Ty}
@@ -37,16 +38,13 @@ pub tell_if : {Y : Type 0} {Q : Y → Type 0} (b : Bool) {j k : Judged Y} → (b
 tell_if true h g = h refl
 tell_if false h g = g refl
 
-same_found : {X : Type 0} {x y : X} → Found x ≡ Found y → x ≡ y
-same_found h = cc
-
 pub told : {X : Type 0} {P : X → Type 0} {j : Judged X} {x : X} → Tells P j → j ≡ Found x → P x
-told {P = P} (tells h) is = subst P (same_found is) h
+told {P = P} (tells h) is = subst P (found_same is) h
 told broken is = absurd (cc)
 
 -- two things that one typing finds are one
 pub one_found : {X : Type 0} {j : Judged X} {x y : X} → j ≡ Found x → j ≡ Found y → x ≡ y
-one_found h g = same_found (sym h ∙ g)
+one_found h g = found_same (sym h ∙ g)
 
 -- tests of types
 

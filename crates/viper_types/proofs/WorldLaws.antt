@@ -13,13 +13,13 @@ use Rattle.viper_syntax.specs.declared.stmts.Named.{Named}
 use Rattle.viper_syntax.specs.declared.stmts.Formal.{Formal}
 use Rattle.viper_scope.specs.declared.context.Role.{Role}
 use Rattle.viper_scope.specs.declared.context.Role.TheVariants as role
-use Rattle.viper_scope.specs.Context.{World, Signature, MethodSignature, find, numbered, field_in, predicate_in, method_in}
+use Rattle.viper_scope.specs.Context.{World, Signature, MethodSignature, find, numbered, field_in, method_in}
 use Rattle.viper_scope.specs.Types.{declared_type}
 use Rattle.viper_types.specs.Declaring.{Declared, locals}
 use Rattle.viper_types.specs.Program as r
 use Rattle.viper_types.specs.Program.{AreNamed, no_names, one_name, IsPredicateBody, IsPredicate, predicate_of, IsMethod, method_of, AreDeclared, no_decls, one_decl}
 use Rattle.viper_types.proofs.TermTypes.{HasPredicate, HasMethod, Describes}
-use Rattle.viper_types.proofs.BodyLaws.{numbered_is}
+use Rattle.viper_types.proofs.BodyLaws.{numbered_is, predicate_is}
 use Rattle.viper_types.proofs.FormalScopes.{formals_vars}
 use Rattle.viper_types.proofs.StmtTypes.{type_is}
 use Rattle.viper_types.proofs.Assembled.{field_types, predicates_in, methods_in, body_in}
@@ -99,12 +99,6 @@ field_there us (Some (role.Field m)) n u h = listed_at us m n u h
 field_there us (Some (role.Predicate m)) n u h = absurd (cc)
 field_there us (Some (role.Method m)) n u h = absurd (cc)
 
-predicate_there : (ss : List Signature) (o : Option Role) (n : ℕ) (s : Signature) → predicate_in ss o ≡ Some (n, s) → slice_get ss n ≡ Some s
-predicate_there ss None n s h = absurd (cc)
-predicate_there ss (Some (role.Field m)) n s h = absurd (cc)
-predicate_there ss (Some (role.Predicate m)) n s h = listed_at ss m n s h
-predicate_there ss (Some (role.Method m)) n s h = absurd (cc)
-
 method_there : (ss : List MethodSignature) (o : Option Role) (n : ℕ) (s : MethodSignature) → method_in ss o ≡ Some (n, s) → slice_get ss n ≡ Some s
 method_there ss None n s h = absurd (cc)
 method_there ss (Some (role.Field m)) n s h = absurd (cc)
@@ -138,7 +132,7 @@ pub describes : (w : World) (bodies : List (Option e.Assertion)) (q : p.Program)
     Describes w bodies q
 describes w bodies q fields predicates methods same many = record {
   field = λ x n u i. subst (λ us. slice_get us n ≡ Some u) fields (field_there w.fields (find w.roles x) n u i);
-  predicate = λ x n s i. has_predicate q n s (subst (λ ss. slice_get ss n ≡ Some s) predicates (predicate_there w.predicates (find w.roles x) n s i));
+  predicate = λ x n s i. has_predicate q n s (subst (λ ss. slice_get ss n ≡ Some s) predicates (predicate_is w.predicates (find w.roles x) n s i));
   method = λ x n s i. has_method q n s (subst (λ ss. slice_get ss n ≡ Some s) methods (method_there w.methods (find w.roles x) n s i));
   body = λ n b d i k. same_there q.predicates n b d (subst (λ bs. slice_get bs n ≡ Some (Some b)) same i) k;
   world_fields = ap (λ us. length us) fields ∙ many;

@@ -1,6 +1,7 @@
 -- The walk through a file: what it is, or the first rule that it breaks. First the names of the shared space are gone through,
 -- and then the declarations from first to last, each from left to right. Which program a file is, without any order, is said by
 -- the judgement in `Program`.
+use Rattle.viper_scope.specs.Rules.{declared_twice, wrong_type, perm_parameter}
 use Rattle.viper_scope.specs.Naming.{no_world, naming}
 use Rattle.std.specs.Prelude.{ℕ, Bool, true, false, not, ◌||◌, Option, Some, None, List, [], ◌∷◌, ◌++◌, length, map, is_some, if◌then◌else◌}
 use Rattle.vb_base.specs.declared.places.Pos.{Pos}
@@ -37,8 +38,8 @@ no_frame = record { vars = []; scope = [] }
 -- a formal: its name is new (2), its word is a type (3), and it is a Perm only where that is allowed (13)
 abbrev pub formal : Bool → Frame → Formal → Judged Frame → Judged Frame
 formal allows_perm fr f go =
-    obeys (not (is_some (find fr.scope f.name.name))) f.name.pos 2 (obeys (is_some (type_of f.ty)) f.name.pos 3 (
-    obeys (allows_perm || not (same_type (declared_type f) ty.Perm)) f.name.pos 13 go))
+    obeys (not (is_some (find fr.scope f.name.name))) f.name.pos declared_twice (obeys (is_some (type_of f.ty)) f.name.pos wrong_type (
+    obeys (allows_perm || not (same_type (declared_type f) ty.Perm)) f.name.pos perm_parameter go))
 
 -- formals in order, as parameters or as returns
 abbrev pub formals : Bool → Bool → Frame → List Formal → Judged Frame
@@ -72,7 +73,7 @@ context_in w bodies u = record { world = w; bodies = bodies; part = u }
 abbrev pub clause_of : World → List (Option e.Assertion) → Scope → Scope → Word → t.Term → Judged (Bool × e.Assertion)
 clause_of w bodies params all word.Requires a = then_typed (asserting (context_in w bodies part.Precondition) params a) (λ x. Found (true, x))
 clause_of w bodies params all word.Ensures a = then_typed (asserting (context_in w bodies part.Elsewhere) all a) (λ x. Found (false, x))
-clause_of w bodies params all _ a = Broken (start a) 3
+clause_of w bodies params all _ a = Broken (start a) wrong_type
 
 abbrev pub clauses : World → List (Option e.Assertion) → Scope → Scope → List d.SClause → Judged (List (Bool × e.Assertion))
 clauses w bodies params all [] = Found []
@@ -92,11 +93,10 @@ abbrev pub locals : Option s.SBlock → List Ty
 locals None = []
 locals (Some b) = declared_in_block b
 
-abbrev pub method_typing : Bool → World → List (Option e.Assertion) → d.SMethod → Judged p.Method
-method_typing lists w bodies m =
-    then_typed (formals true true no_frame m.params) (λ ps. then_typed (formals true false ps m.returns) (λ fr.
-    then_typed (clauses w bodies ps.scope fr.scope m.clauses) (λ cs. then_typed (method_body lists (context_in w bodies part.Elsewhere) fr m.body) (λ b.
-    Found (record {
+-- a method with these variables of its heading, these clauses and this body. The variables of its body come last.
+abbrev pub method_from : d.SMethod → Frame → List (Bool × e.Assertion) → Option p.Body → p.Method
+method_from m fr cs b =
+    record {
       name = m.name.name;
       at = m.at;
       name_at = m.name.pos;
@@ -107,7 +107,13 @@ method_typing lists w bodies m =
       preconditions = conditions true cs;
       postconditions = conditions false cs;
       body = b;
-    })))))
+    }
+
+abbrev pub method_typing : Bool → World → List (Option e.Assertion) → d.SMethod → Judged p.Method
+method_typing lists w bodies m =
+    then_typed (formals true true no_frame m.params) (λ ps. then_typed (formals true false ps m.returns) (λ fr.
+    then_typed (clauses w bodies ps.scope fr.scope m.clauses) (λ cs. then_typed (method_body lists (context_in w bodies part.Elsewhere) fr m.body) (λ b.
+    Found (method_from m fr cs b)))))
 
 -- programs
 
@@ -118,7 +124,7 @@ pub data Declared : Type 0 where
   MethodOf : p.Method → Declared
 
 abbrev pub field_typing : Formal → Judged Declared
-field_typing f = obeys (is_some (type_of f.ty)) f.name.pos 3 (Found (FieldOf f.name.name (declared_type f)))
+field_typing f = obeys (is_some (type_of f.ty)) f.name.pos wrong_type (Found (FieldOf f.name.name (declared_type f)))
 
 abbrev pub decl_typing : Bool → World → List (Option e.Assertion) → d.Decl → Judged Declared
 decl_typing lists w bodies (d.Field f) = field_typing f

@@ -1,5 +1,5 @@
 -- The typing of programs (Viper tutorial, "The structure of Viper programs"): which typed program a file is.
-use Rattle.std.specs.Prelude.{◌≡◌, Bool, true, false, not, ◌||◌, Option, Some, None, List, [], ◌∷◌, ◌++◌, length, map}
+use Rattle.std.specs.Prelude.{◌≡◌, Bool, true, false, not, ◌||◌, Option, Some, None, List, [], ◌∷◌, map}
 use Rattle.vb_base.specs.declared.places.Pos.{Pos}
 use Rattle.vb_value.specs.Value.{same_type}
 use Rattle.vb_value.specs.declared.values.Ty.{Ty}
@@ -22,7 +22,7 @@ use Rattle.viper_types.specs.Frame.{Frame, with_variable}
 use Rattle.viper_types.specs.Stepping.{opening_of}
 use Rattle.viper_types.specs.Stepped.{Blocked}
 use Rattle.viper_scope.specs.Naming.{decl_name, no_world, with_decl}
-use Rattle.viper_types.specs.Declaring.{no_frame, name_of, body_context, context_in, conditions, locals, Declared, FieldOf, PredicateOf, MethodOf, no_program, assembled}
+use Rattle.viper_types.specs.Declaring.{no_frame, name_of, body_context, context_in, method_from, Declared, FieldOf, PredicateOf, MethodOf, no_program, assembled}
 
 -- the names of the shared space are all different; what they stand for
 pub data AreNamed : World → List d.Decl → World → Type 0 where
@@ -65,18 +65,7 @@ pub data IsMethod (w : World) (bodies : List (Option e.Assertion)) (m : d.SMetho
   method_of : {ps fr : Frame} {cs : List (Bool × e.Assertion)} {b : Option p.Body} →
       AreFormals true true no_frame m.params ps → AreFormals true false ps m.returns fr → AreClauses w bodies ps.scope fr.scope m.clauses cs →
       IsMethodBody (context_in w bodies part.Elsewhere) fr m.body b →
-      IsMethod w bodies m (record {
-        name = m.name.name;
-        at = m.at;
-        name_at = m.name.pos;
-        names = map name_of m.params ++ map name_of m.returns;
-        params = length m.params;
-        returns = length m.returns;
-        vars = fr.vars ++ locals m.body;
-        preconditions = conditions true cs;
-        postconditions = conditions false cs;
-        body = b;
-      })
+      IsMethod w bodies m (method_from m fr cs b)
 
 pub data IsDeclared (w : World) (bodies : List (Option e.Assertion)) : d.Decl → Declared → Type 0 where
   field : {f : Formal} {u : Ty} → type_of f.ty ≡ Some u → IsDeclared w bodies (d.Field f) (FieldOf f.name.name u)

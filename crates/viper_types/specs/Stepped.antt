@@ -63,10 +63,10 @@ pub data IsNew (w : World) (sc : Scope) (at : Pos) (n : ℕ) (new : s.SNew) : c.
   new_of : {ns : List ℕ} → ChoosesFields w new ns → IsNew w sc at n new (c.New at n ns (ref_variables sc))
 
 -- `a.f.g` is a place: the receiver is a Ref, and so is each field but the last
-pub data IsPlace (k : Context) (sc : Scope) : t.Term → List Named → Located → Type 0 where
+pub data IsPlace (k : Context) (sc : Scope) : t.Term → Named → List Named → Located → Type 0 where
   of_field : {a : t.Term} {f : Named} {x : e.Expr} {n : ℕ} {u : Ty} → Typed k sc a x ty.Ref → field_at k.world f.name ≡ Some (n, u) →
-      IsPlace k sc a (f ∷ []) (record { receiver = x; field = n; ty = u })
-  of_further : {a : t.Term} {f g : Named} {gs : List Named} {l : Located} → IsPlace k sc (t.Field a f.name f.pos) (g ∷ gs) l → IsPlace k sc a (f ∷ g ∷ gs) l
+      IsPlace k sc a f [] (record { receiver = x; field = n; ty = u })
+  of_further : {a : t.Term} {f g : Named} {gs : List Named} {l : Located} → IsPlace k sc (t.Field a f.name f.pos) g gs l → IsPlace k sc a f (g ∷ gs) l
 
 -- what a declaration gives its variable
 pub data Declares (k : Context) (sc : Scope) (at : Pos) (v : Target) : Option s.SRhs → c.Stmt → Type 0 where
@@ -80,8 +80,8 @@ pub data Sets (k : Context) (sc : Scope) : List Named → s.SRhs → c.Stmt → 
   variable : {x : Named} {v : Target} {a : t.Term} {y : e.Expr} → IsTarget sc x v → Typed k sc a y v.ty → Sets k sc (x ∷ []) (s.TermRhs a) (c.Assign x.pos v.number y)
   returned : {x : Named} {v : Target} {call : s.SCall} {y : c.Stmt} → IsTarget sc x v → IsCall k sc x.pos (v ∷ []) call y → Sets k sc (x ∷ []) (s.CallRhs call) y
   created : {x : Named} {v : Target} {new : s.SNew} {y : c.Stmt} → IsTarget sc x v → v.ty ≡ ty.Ref → IsNew k.world sc x.pos v.number new y → Sets k sc (x ∷ []) (s.NewRhs new) y
-  field : {x f : Named} {fs : List Named} {l : Located} {a : t.Term} {y : e.Expr} → IsPlace k sc (t.Name x.name x.pos) (f ∷ fs) l → Typed k sc a y l.ty →
-      Sets k sc (x ∷ f ∷ fs) (s.TermRhs a) (c.Write x.pos l.receiver l.field (last_place x (f ∷ fs)) y)
+  field : {x f : Named} {fs : List Named} {l : Located} {a : t.Term} {y : e.Expr} → IsPlace k sc (t.Name x.name x.pos) f fs l → Typed k sc a y l.ty →
+      Sets k sc (x ∷ f ∷ fs) (s.TermRhs a) (c.Write x.pos l.receiver l.field (last_place f fs) y)
 
 -- `inhale`, `exhale`, `assert` and `assume`, the last with an expression
 pub data Checks (k : Context) (sc : Scope) (at : Pos) (a : t.Term) : Word → c.Stmt → Type 0 where

@@ -12,6 +12,7 @@ use std::alloc::Global;
 use vb_base::{Ident, Pos, boxed, kept};
 use vb_value::Ty;
 use viper_core::{Amt, Assertion};
+use viper_scope::rules::{MISPLACED_WILDCARD, NO_RESOURCE, UNKNOWN_NAME};
 use viper_scope::{Context, Scope, TypeFault, start};
 use viper_syntax::{Sign, Term, Word};
 
@@ -28,7 +29,7 @@ fn amount(
         None => Ok(Amt::Is(write())),
         Some(Term::Constant(Word::Wildcard, at)) => {
             if !allows_permission_forms(context.part) {
-                return Err(TypeFault::Rule(*at, 6));
+                return Err(TypeFault::Rule(*at, MISPLACED_WILDCARD));
             }
             Ok(Amt::Wildcard)
         }
@@ -49,7 +50,7 @@ fn instance(
     ensures { Answers assertion_of (j.instance (context_of context.now) scope.now name.now (terms_of args.now) (lent_amount_of share.entry) at) result }
 {
     let Some((predicate, signature)) = context.world.predicate(name) else {
-        return Err(TypeFault::Rule(at, 1));
+        return Err(TypeFault::Rule(at, UNKNOWN_NAME));
     };
     let args = arguments(alloc, context, scope, args, &signature.params, at)?;
     let share = amount(alloc, context, scope, share)?;
@@ -76,7 +77,7 @@ fn access(
         Term::Inst(name, args, name_at) => {
             instance(alloc, context, scope, name, args, share, *name_at)
         }
-        _ => Err(TypeFault::Rule(at, 12)),
+        _ => Err(TypeFault::Rule(at, NO_RESOURCE)),
     }
 }
 

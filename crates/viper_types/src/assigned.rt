@@ -11,6 +11,7 @@ use indexmap::IndexSet;
 use std::alloc::Global;
 use vb_base::{Memory, Pos};
 use vb_value::Ty;
+use viper_scope::rules::{PARAMETER_AS_TARGET, TARGET_TWICE, UNKNOWN_NAME, WRONG_TYPE};
 use viper_scope::{Scope, TypeFault, Variable};
 use viper_syntax::Named;
 
@@ -19,7 +20,7 @@ pub fn target(scope: &Scope, x: &Named) -> Result<Target, TypeFault>
     ensures { Answers target_of (s.target scope.now x.now) result }
 {
     let Some(variable) = scope.find(&x.name) else {
-        return Err(TypeFault::Rule(x.pos, 1));
+        return Err(TypeFault::Rule(x.pos, UNKNOWN_NAME));
     };
     assigned(variable, x.pos)
 }
@@ -29,10 +30,10 @@ pub fn ref_target(scope: &Scope, x: &Named) -> Result<Target, TypeFault>
     ensures { Answers target_of (s.ref_target scope.now x.now) result }
 {
     let Some(variable) = scope.find(&x.name) else {
-        return Err(TypeFault::Rule(x.pos, 1));
+        return Err(TypeFault::Rule(x.pos, UNKNOWN_NAME));
     };
     if variable.ty != Ty::Ref {
-        return Err(TypeFault::Rule(x.pos, 3));
+        return Err(TypeFault::Rule(x.pos, WRONG_TYPE));
     }
     assigned(variable, x.pos)
 }
@@ -41,7 +42,7 @@ fn assigned(variable: Variable, at: Pos) -> Result<Target, TypeFault>
     ensures { Answers target_of (obeys (not variable.is_parameter) at 8 (Found (record { number = variable.number; ty = variable.ty; at = at }))) result }
 {
     if variable.is_parameter {
-        return Err(TypeFault::Rule(at, 8));
+        return Err(TypeFault::Rule(at, PARAMETER_AS_TARGET));
     }
     let Variable { number, ty, .. } = variable;
     Ok(Target { number, ty, at })
@@ -56,7 +57,7 @@ pub fn call_targets(alloc: Global, scope: &Scope, names: &[Named]) -> Result<Vec
     for x in names {
         let target = target(scope, x)?;
         if !list_new(&mut seen, target.number)? {
-            return Err(TypeFault::Rule(x.pos, 11));
+            return Err(TypeFault::Rule(x.pos, TARGET_TWICE));
         }
         targets.push(target)?;
     }

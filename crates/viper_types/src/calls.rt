@@ -16,6 +16,7 @@ use std::alloc::Global;
 use vb_base::Pos;
 use vb_value::Ty;
 use viper_core::{Expr, Stmt};
+use viper_scope::rules::{ARGUMENT_COUNT, TARGET_COUNT, UNKNOWN_NAME, WRONG_TYPE};
 use viper_scope::{Context, MethodTypes, Scope, TypeFault, as_many, exprs_in, misfit};
 use viper_syntax::SCall;
 
@@ -53,16 +54,16 @@ fn called(
 {
     let name_at = call.name.pos;
     if !as_many(&typed, &method.params) {
-        return Err(TypeFault::Rule(name_at, 9));
+        return Err(TypeFault::Rule(name_at, ARGUMENT_COUNT));
     }
     if !as_many(targets, &method.returns) {
-        return Err(TypeFault::Rule(name_at, 10));
+        return Err(TypeFault::Rule(name_at, TARGET_COUNT));
     }
     if let Some(place) = mistarget(targets, &method.returns) {
-        return Err(TypeFault::Rule(place, 3));
+        return Err(TypeFault::Rule(place, WRONG_TYPE));
     }
     if let Some(place) = first_misfit(call, &typed, &method.params) {
-        return Err(TypeFault::Rule(place, 3));
+        return Err(TypeFault::Rule(place, WRONG_TYPE));
     }
     let numbers = numbers_in(alloc, targets)?;
     Ok(Stmt::Call(at, numbers, number, exprs_in(alloc, typed)?))
@@ -80,7 +81,7 @@ pub fn calling(
     ensures { Answers stmt_of (s.calling (context_of context.now) scope.now at (map target_of targets.now) (call_of call.now)) result }
 {
     let Some((number, method)) = context.world.method(&call.name.name) else {
-        return Err(TypeFault::Rule(call.name.pos, 1));
+        return Err(TypeFault::Rule(call.name.pos, UNKNOWN_NAME));
     };
     let typed = typed_arguments(alloc, context, scope, call)?;
     called(alloc, at, targets, call, number, method, typed)
@@ -111,11 +112,11 @@ pub fn calling_into_field(
 {
     let name_at = call.name.pos;
     let Some((_, method)) = context.world.method(&call.name.name) else {
-        return Err(TypeFault::Rule(name_at, 1));
+        return Err(TypeFault::Rule(name_at, UNKNOWN_NAME));
     };
     let typed = typed_arguments(alloc, context, scope, call)?;
     if !as_many(&typed, &method.params) {
-        return Err(TypeFault::Rule(name_at, 9));
+        return Err(TypeFault::Rule(name_at, ARGUMENT_COUNT));
     }
-    Err(TypeFault::Rule(name_at, 10))
+    Err(TypeFault::Rule(name_at, TARGET_COUNT))
 }

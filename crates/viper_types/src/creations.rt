@@ -14,6 +14,7 @@ use indexmap::IndexSet;
 use std::alloc::Global;
 use vb_base::{Memory, Pos};
 use viper_core::Stmt;
+use viper_scope::rules::{FIELD_TWICE, UNKNOWN_NAME};
 use viper_scope::{Context, Scope, TypeFault, World};
 use viper_syntax::{Named, SNew};
 
@@ -24,10 +25,10 @@ fn new_fields(alloc: Global, world: &World, names: &[Named]) -> Result<Vec<u32>,
     let mut fields = IndexSet::new(alloc);
     for name in names {
         let Some((field, _)) = world.field(&name.name) else {
-            return Err(TypeFault::Rule(name.pos, 1));
+            return Err(TypeFault::Rule(name.pos, UNKNOWN_NAME));
         };
         if !list_new(&mut fields, field)? {
-            return Err(TypeFault::Rule(name.pos, 14));
+            return Err(TypeFault::Rule(name.pos, FIELD_TWICE));
         }
     }
     Ok(fields.into_iter().collect(alloc)?)

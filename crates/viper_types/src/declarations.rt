@@ -13,6 +13,7 @@ use std::alloc::Global;
 use vb_base::{Ident, Memory, kept};
 use vb_value::{Layout, Ty};
 use viper_core::{Assertion, Method, Predicate, Program, Unit};
+use viper_scope::rules::WRONG_TYPE;
 use viper_scope::{TypeFault, World, next_number, type_of};
 use viper_syntax::{Decl, Formal};
 
@@ -40,7 +41,7 @@ fn field(formal: &Formal) -> Result<Declared, TypeFault>
     ensures { Answers declared_of (j.field_typing formal.now) result }
 {
     let Some(ty) = type_of(formal.ty) else {
-        return Err(TypeFault::Rule(formal.name.pos, 3));
+        return Err(TypeFault::Rule(formal.name.pos, WRONG_TYPE));
     };
     Ok(Declared::Field(formal.name.name.copy()?, ty))
 }

@@ -17,6 +17,10 @@ use std::alloc::Global;
 use vb_base::{Ident, Pos, boxed, boxed_pair, kept};
 use vb_value::{Frac, Ty};
 use viper_core::{Assertion, Expr, Op, Opened};
+use viper_scope::rules::{
+    MISPLACED_OLD, MISPLACED_UNFOLDING, MISPLACED_WILDCARD, MISSING_BODY, PERMISSION_IN_EXPRESSION,
+    UNKNOWN_NAME, WRONG_TYPE,
+};
 use viper_scope::{Context, Part, PredicateSignature, Scope, TypeFault, World, fitted, start};
 use viper_syntax::{SUnfolding, Sign, Term, Word};
 
@@ -98,11 +102,11 @@ fn constant(word: Word, at: Pos) -> Result<(Expr, Ty), TypeFault>
     ensures { Answers typing_of (j.constant word at) result }
 {
     if matches!(word, Word::Wildcard) {
-        return Err(TypeFault::Rule(at, 6));
+        return Err(TypeFault::Rule(at, MISPLACED_WILDCARD));
     }
     match literal(word) {
         Some(typed) => Ok(typed),
-        None => Err(TypeFault::Rule(at, 3)),
+        None => Err(TypeFault::Rule(at, WRONG_TYPE)),
     }
 }
 
@@ -111,7 +115,7 @@ fn variable(scope: &Scope, name: &Ident, at: Pos) -> Result<(Expr, Ty), TypeFaul
 {
     match scope.find(name) {
         Some(variable) => Ok((Expr::Var(variable.number), variable.ty)),
-        None => Err(TypeFault::Rule(at, 1)),
+        None => Err(TypeFault::Rule(at, UNKNOWN_NAME)),
     }
 }
 
@@ -124,7 +128,7 @@ fn unary(alloc: Global, sign: Sign, operand: (Expr, Ty), at: Pos) -> Result<(Exp
             Ok((Expr::Neg(Box::new(alloc, operand)?), ty))
         }
         Sign::Not if matches!(ty, Ty::Bool) => Ok((Expr::Not(Box::new(alloc, operand)?), Ty::Bool)),
-        _ => Err(TypeFault::Rule(at, 3)),
+        _ => Err(TypeFault::Rule(at, WRONG_TYPE)),
     }
 }
 
@@ -140,10 +144,10 @@ fn applied(
     let (left, left_ty) = left;
     let (right, right_ty) = right;
     let Some(op) = operator(sign) else {
-        return Err(TypeFault::Rule(at, 3));
+        return Err(TypeFault::Rule(at, WRONG_TYPE));
     };
     let Some(ty) = op.value_type(left_ty, right_ty) else {
-        return Err(TypeFault::Rule(at, 3));
+        return Err(TypeFault::Rule(at, WRONG_TYPE));
     };
     let (left, right) = boxed_pair(alloc, left, right)?;
     Ok((Expr::Bin(op, left, right, at), ty))
@@ -162,7 +166,7 @@ fn chosen(
     let (first, ty) = first;
     let (second, second_ty) = second;
     if condition_ty != Ty::Bool || ty != second_ty {
-        return Err(TypeFault::Rule(at, 3));
+        return Err(TypeFault::Rule(at, WRONG_TYPE));
     }
     let condition = boxed(alloc, condition);
     let (condition, (first, second)) = kept(condition, (first, second))?;
@@ -181,10 +185,10 @@ pub(crate) fn located(
 {
     let (receiver, receiver_ty) = receiver;
     let Some((field, ty)) = world.field(name) else {
-        return Err(TypeFault::Rule(at, 1));
+        return Err(TypeFault::Rule(at, UNKNOWN_NAME));
     };
     if receiver_ty != Ty::Ref {
-        return Err(TypeFault::Rule(at, 3));
+        return Err(TypeFault::Rule(at, WRONG_TYPE));
     }
     Ok(FieldPlace {
         receiver,
@@ -207,7 +211,7 @@ fn of_type(ty: Ty, term: &Term, typed: (Expr, Ty)) -> Result<Expr, TypeFault>
 {
     let (e, found) = typed;
     if found != ty {
-        return Err(TypeFault::Rule(start(term), 3));
+        return Err(TypeFault::Rule(start(term), WRONG_TYPE));
     }
     Ok(e)
 }
@@ -221,10 +225,10 @@ pub(crate) fn with_body<'a>(
     ensures { Answers numbered_signature_of (j.with_body (world_of world.now) name.now at) result }
 {
     let Some((predicate, signature)) = world.predicate(name) else {
-        return Err(TypeFault::Rule(at, 1));
+        return Err(TypeFault::Rule(at, UNKNOWN_NAME));
     };
     if !signature.has_body {
-        return Err(TypeFault::Rule(at, 7));
+        return Err(TypeFault::Rule(at, MISSING_BODY));
     }
     Ok((predicate, signature))
 }
@@ -246,7 +250,7 @@ fn opening<'a>(
     ensures { Answers numbered_signature_of (j.opening (context_of context.now) name.now at name_at) result }
 {
     if !allows_permission_forms(context.part) {
-        return Err(TypeFault::Rule(at, 16));
+        return Err(TypeFault::Rule(at, MISPLACED_UNFOLDING));
     }
     with_body(context.world, name, name_at)
 }
@@ -321,7 +325,10 @@ pub(crate) fn typing(
         }
         Term::Field(a, name, at) => field(alloc, place(alloc, context, scope, a, name, *at)?, *at),
         Term::Old(a, at) => old(alloc, context, scope, a, *at),
-        Term::Acc(_, _, at) | Term::Inst(_, _, at) => Err(TypeFault::Rule(*at, 4)),
+        Term::Acc(_, _, at) | Term::Inst(_, _, at) => Err(TypeFault::Rule(
+            *at,
+            PERMISSION_IN_EXPRESSION,
+        )),
         Term::Unfolding(unfolding) => {
             let SUnfolding {
                 at,
@@ -350,7 +357,7 @@ fn old(
     ensures { Answers typing_of (j.typing (context_of context.now) scope.now (t.Old (term_of term.now) at)) result }
 {
     if !matches!(context.part, Part::Elsewhere) {
-        return Err(TypeFault::Rule(at, 5));
+        return Err(TypeFault::Rule(at, MISPLACED_OLD));
     }
     let (e, ty) = typing(alloc, context, scope, term)?;
     Ok((Expr::Old(Box::new(alloc, e)?), ty))

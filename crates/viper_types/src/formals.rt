@@ -10,6 +10,7 @@ ghost use Rattle.viper_scope.specs.Outcome.{Found};
 use crate::frames::Frame;
 use vb_base::{Ident, Memory};
 use vb_value::Ty;
+use viper_scope::rules::{DECLARED_TWICE, PERM_PARAMETER, WRONG_TYPE};
 use viper_scope::{TypeFault, type_of};
 use viper_syntax::Formal;
 
@@ -24,13 +25,13 @@ fn formal(
 {
     let at = formal.name.pos;
     if frame.scope.find(&formal.name.name).is_some() {
-        return Err(TypeFault::Rule(at, 2));
+        return Err(TypeFault::Rule(at, DECLARED_TWICE));
     }
     let Some(ty) = type_of(formal.ty) else {
-        return Err(TypeFault::Rule(at, 3));
+        return Err(TypeFault::Rule(at, WRONG_TYPE));
     };
     if !allows_perm && ty == Ty::Perm {
-        return Err(TypeFault::Rule(at, 13));
+        return Err(TypeFault::Rule(at, PERM_PARAMETER));
     }
     frame.declare(&formal.name.name, ty, is_parameter)?;
     Ok(())

@@ -11,6 +11,7 @@ ghost use Rattle.viper_types.specs.Stepping as s;
 use std::alloc::Global;
 use vb_base::{Ident, Memory, Pos};
 use vb_value::Ty;
+use viper_scope::rules::{DECLARED_TWICE, WRONG_TYPE};
 use viper_scope::{Scope, TypeFault, Variable, next_number, type_of};
 use viper_syntax::Formal;
 
@@ -72,10 +73,10 @@ impl Frame {
     {
         let at = formal.name.pos;
         if self.scope.find(&formal.name.name).is_some() {
-            return Err(TypeFault::Rule(at, 2));
+            return Err(TypeFault::Rule(at, DECLARED_TWICE));
         }
         let Some(ty) = type_of(formal.ty) else {
-            return Err(TypeFault::Rule(at, 3));
+            return Err(TypeFault::Rule(at, WRONG_TYPE));
         };
         let number = self.next_number()?;
         Ok(Target { number, ty, at })

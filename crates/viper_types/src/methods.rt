@@ -18,6 +18,7 @@ use std::alloc::Global;
 use std::mem;
 use vb_base::{Ident, Memory};
 use viper_core::{Assertion, Body, Method};
+use viper_scope::rules::WRONG_TYPE;
 use viper_scope::{Context, Part, Scope, TypeFault, World, next_number, seen, start};
 use viper_syntax::{SBlock, SClause, SMethod};
 
@@ -34,7 +35,7 @@ fn clause(
 {
     let term = &clause.term;
     let Some((part, scope)) = seen(clause.word, params, all) else {
-        return Err(TypeFault::Rule(start(term), 3));
+        return Err(TypeFault::Rule(start(term), WRONG_TYPE));
     };
     let context = Context {
         world,

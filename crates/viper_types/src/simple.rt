@@ -22,6 +22,7 @@ use std::slice;
 use vb_base::{Pos, kept};
 use vb_value::Ty;
 use viper_core::{Assertion, Expr, FoldStmt, Stmt};
+use viper_scope::rules::{TARGET_COUNT, UNKNOWN_NAME, WRONG_TYPE};
 use viper_scope::{Context, Scope, TypeFault, World, start};
 use viper_syntax::{Formal, Named, SFold, SRhs, Term, Word};
 
@@ -45,13 +46,11 @@ fn dotted(
     alloc: Global,
     world: &World,
     receiver: (Expr, Ty),
-    fields: &[Named],
+    first: &Named,
+    rest: &[Named],
 ) -> Result<FieldPlace, TypeFault>
-    ensures { Answers place_of (s.dotted (world_of world.now) (typing_of receiver) fields.now) result }
+    ensures { Answers place_of (s.dotted (world_of world.now) (typing_of receiver) first.now rest.now) result }
 {
-    let [first, rest @ ..] = fields else {
-        return Err(TypeFault::Rule(nowhere(), 3));
-    };
     let mut place = located(world, &first.name, first.pos, receiver)?;
     let mut at = first.pos;
     for field in rest {
@@ -67,15 +66,16 @@ fn target_place(
     context: &Context,
     scope: &Scope,
     x: &Named,
-    fields: &[Named],
+    first: &Named,
+    rest: &[Named],
 ) -> Result<FieldPlace, TypeFault>
-    ensures { Answers place_of (s.target_place (context_of context.now) scope.now x.now fields.now) result }
+    ensures { Answers place_of (s.target_place (context_of context.now) scope.now x.now first.now rest.now) result }
 {
     let Some(variable) = scope.find(&x.name) else {
-        return Err(TypeFault::Rule(x.pos, 1));
+        return Err(TypeFault::Rule(x.pos, UNKNOWN_NAME));
     };
     let receiver = (Expr::Var(variable.number), variable.ty);
-    dotted(alloc, context.world, receiver, fields)
+    dotted(alloc, context.world, receiver, first, rest)
 }
 
 /// The place of the last name.
@@ -111,7 +111,7 @@ pub fn declaring(
         }
         Some(SRhs::New(new)) => {
             if target.ty != Ty::Ref {
-                return Err(TypeFault::Rule(target.at, 3));
+                return Err(TypeFault::Rule(target.at, WRONG_TYPE));
             }
             creating(alloc, context, scope, at, target.number, new)
         }
@@ -170,20 +170,21 @@ fn writing(
     context: &Context,
     scope: &Scope,
     x: &Named,
-    fields: &[Named],
+    first: &Named,
+    rest: &[Named],
     rhs: &SRhs,
 ) -> Result<Stmt, TypeFault>
-    ensures { Answers stmt_of (s.writing (context_of context.now) scope.now x.now fields.now (rhs_of rhs.now)) result }
+    ensures { Answers stmt_of (s.writing (context_of context.now) scope.now x.now first.now rest.now (rhs_of rhs.now)) result }
 {
-    let place = target_place(alloc, context, scope, x, fields)?;
+    let place = target_place(alloc, context, scope, x, first, rest)?;
     match rhs {
         SRhs::Term(term) => {
             let value = expected(alloc, context, scope, place.ty, term)?;
-            let at = last_place(x, fields);
+            let at = last_place(first, rest);
             Ok(Stmt::Write(x.pos, place.receiver, place.field, at, value))
         }
         SRhs::Call(call) => calling_into_field(alloc, context, scope, call),
-        SRhs::New(new) => Err(TypeFault::Rule(new.at, 10)),
+        SRhs::New(new) => Err(TypeFault::Rule(new.at, TARGET_COUNT)),
     }
 }
 
@@ -198,9 +199,9 @@ pub fn setting(
     ensures { Answers stmt_of (s.setting context.now.lists (context_of context.now) scope.now names.now (rhs_of rhs.now)) result }
 {
     match names {
-        [] => Err(TypeFault::Rule(nowhere(), 3)),
+        [] => Err(TypeFault::Rule(nowhere(), WRONG_TYPE)),
         [x] => assigning(alloc, context, scope, x, rhs),
-        [x, fields @ ..] => writing(alloc, context, scope, x, fields, rhs),
+        [x, first, rest @ ..] => writing(alloc, context, scope, x, first, rest, rhs),
     }
 }
 
@@ -223,7 +224,7 @@ pub fn checking(
             let condition = expected(alloc, context, scope, Ty::Bool, term)?;
             Ok(Stmt::Inhale(at, Assertion::Fact(condition, start(term))))
         }
-        _ => Err(TypeFault::Rule(at, 3)),
+        _ => Err(TypeFault::Rule(at, WRONG_TYPE)),
     }
 }
 

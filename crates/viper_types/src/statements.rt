@@ -9,6 +9,7 @@ ghost use Rattle.viper_types.specs.Answers.{block_stmts_of, branch_of, branches_
 ghost use Rattle.viper_scope.specs.Context.{nowhere};
 ghost use Rattle.viper_types.specs.Frame as f;
 ghost use Rattle.viper_scope.specs.Outcome.{Found, known, then_typed};
+ghost use Rattle.viper_scope.specs.Rules.{wrong_type};
 ghost use Rattle.viper_types.specs.Stepping as s;
 ghost use Rattle.viper_scope.specs.Target as v;
 ghost use Rattle.viper_types.specs.Typing as j;
@@ -25,6 +26,7 @@ use vb_base::Pos;
 use vb_base::limits::MAX_BLOCK_DEPTH;
 use vb_value::Ty;
 use viper_core::{Assertion, Expr, Loop, Stmt};
+use viper_scope::rules::{TOO_DEEP, WRONG_TYPE};
 use viper_scope::{Context, Scope, TypeFault, targets};
 use viper_syntax::{Named, SArm, SBlock, SStmt, Term};
 
@@ -61,11 +63,11 @@ fn loop_statement(turns: Loop) -> Stmt
 
 /// An `if` for all arms, each further one alone in the second block of the one before.
 fn nested(alloc: Global, branches: Vec<TypedArm>, other: Vec<Stmt>) -> Result<Stmt, TypeFault>
-    ensures { Answers core.stmt_of (known (s.nested (branches_of branches) (block_stmts_of other)) nowhere 3 Found) result }
+    ensures { Answers core.stmt_of (known (s.nested (branches_of branches) (block_stmts_of other)) nowhere wrong_type Found) result }
 {
     let mut branches = branches;
     let Some(last) = branches.pop() else {
-        return Err(TypeFault::Rule(nowhere(), 3));
+        return Err(TypeFault::Rule(nowhere(), WRONG_TYPE));
     };
     let mut stmt = if_statement(last, other);
     while let Some(branch) = branches.pop() {
@@ -173,7 +175,7 @@ pub fn blocking(
     ensures answers { Answers block_stmts_of (s.blocking context.now.lists (context_of context.now) depth (frame_of frame.old) (block_of block.now)) result }
 {
     if depth > MAX_BLOCK_DEPTH {
-        return Err(TypeFault::Rule(block.at, 15));
+        return Err(TypeFault::Rule(block.at, TOO_DEEP));
     }
     let visible = frame.scope.extent();
     let stmts = stepping_all(alloc, context, depth, frame, &block.stmts)?;

@@ -26,23 +26,23 @@ abbrev El : {s : Kinds telling Kind} → Rule wider_boogie s → Type 0
 El a = Element rules a
 
 el_give : {s : Kinds telling Kind} {x : wider_boogie.Value s} → El (give x)
-el_give = grammar.el_give rules
+el_give = grammar.el_give
 
 el_need : {r : v.Kind} {s : Kinds telling Kind} {c : Test true r} {go : v.Value r → Rule wider_boogie s} → ((x : v.Value r) → El (go x)) → El (need {r = old (old r)} c go)
-el_need {c = c} f = grammar.el_need rules (example c) f
+el_need {c = c} f = grammar.el_need (example c) f
 
 el_taken : {r : v.Kind} {s : Kinds telling Kind} {c : Test true r} {go : v.Value r → Rule wider_boogie s} {other : Rule wider_boogie s} → ((x : v.Value r) → El (go x)) →
     El (when {b = true} {r = old (old r)} c go other)
-el_taken {c = c} f = let k = example c in grammar.el_taken rules k.token k.value k.passes (f k.value)
+el_taken {c = c} f = let k = example c in grammar.el_taken k.token k.value k.passes (f k.value)
 
 el_other : {r : v.Kind} {s : Kinds telling Kind} {c : Test true r} {go : v.Value r → Rule wider_boogie s} {other : Rule wider_boogie s} → El other → El (when {b = true} {r = old (old r)} c go other)
-el_other e = grammar.el_other rules e
+el_other e = grammar.el_other e
 
 el_more : {r s : Kinds telling Kind} {a : Symbol r} {go : wider_boogie.Value r → Rule wider_boogie s} → El (rule a) → ((y : wider_boogie.Value r) → El (go y)) → El (read (more a) go)
-el_more e f = grammar.el_read rules e f
+el_more e f = grammar.el_read e f
 
 el_was : {r : telling.Kind} {s : Kinds telling Kind} (a : telling.Symbol r) {go : telling.Value r → Rule wider_boogie s} → ((y : telling.Value r) → El (go y)) → El (read {r = old r} (was a) go)
-el_was a f = grammar.el_read rules (element_up (noted_rules new_names g.rules) (λ s b. more_rule b) (telling_laws.element_of _ a)) f
+el_was a f = grammar.el_read (element_up (noted_rules new_names g.rules) (λ s b. more_rule b) (telling_laws.element_of _ a)) f
 
 el_where : {s : Kinds telling Kind} (b : Bool) {some : b ≡ true → Rule wider_boogie s} {other : Rule wider_boogie s} → ((h : b ≡ true) → El (some h)) → El other → El (where_true b some other)
 el_where true f e = f refl

@@ -1,3 +1,4 @@
 pub mod Noting
 pub mod NotedTable
 pub mod Elements
+pub mod Reading

@@ -1,6 +1,7 @@
 -- The second form of a symbol spells what the symbol spells.
 use Rattle.std.proofs.Common.{◌≡◌, refl, sym, ap, subst, Bool, true, List, [], ◌++◌, Option, Some, None, append_assoc}
 use Rattle.std.proofs.lemmas.List.{append-nil}
+use Rattle.lemmas.proofs.Options.{some_same}
 use Rattle.grammar.specs.Rules.{Alphabet, Rule, give, need, when, read, Rules, Starts}
 use Rattle.grammar.specs.Spells as plain
 use Rattle.grammar.specs.Spells.{Derives}
@@ -10,9 +11,6 @@ use Rattle.wide_grammar.specs.Noting.{Notes, Noted, Second, noting, noted, notin
 use Rattle.grammar.proofs.Laws.{Element, Laws}
 use Rattle.grammar.proofs.Wider as wide
 use Rattle.grammar.proofs.WiderLaws.{laws_up}
-
-some_is : {X : Type 0} {x y : X} → Some x ≡ Some y → x ≡ y
-some_is e = cc
 
 module _ {A : Alphabet} {N : Type 0} (note : Notes A N) (rule : Rules A) where
   abbrev W : Alphabet
@@ -116,31 +114,31 @@ module _ {A : Alphabet} {N : Type 0} (note : Notes A N) (rule : Rules A) where
   CallRead {s} ts y vs n = (z : Val n.0) × (us : Tokens) × Down n.0 (all n.0 n.1) ts z us × Down (new s) (n.2 z) us y vs
 
   give_down : {s : A.Kind} {ts : Tokens} (y : Noted A N s) (a : Rule A s) (ns : List N) → Some y ≡ given_by {k = new s} (noting_rule note ns a) → Reads rule s a ts y.0 ts
-  give_down {s = s} {ts = ts} y (give x) ns e = subst (λ z. Reads rule s (give x) ts z ts) (sym (ap (λ z. z.0) (some_is e))) given
+  give_down {s = s} {ts = ts} y (give x) ns e = subst (λ z. Reads rule s (give x) ts z ts) (sym (ap (λ z. z.0) (some_same e))) given
   give_down y (need c go) ns e = absurd (cc)
   give_down y (when c go other) ns e = absurd (cc)
   give_down y (read a go) ns e = absurd (cc)
 
   need_down : {s : A.Kind} {ts vs : Tokens} (y : Noted A N s) (n : Needs (new s)) → NeedRead ts y vs n → (a : Rule A s) (ns : List N) → Some n ≡ needs_of {k = new s} (noting_rule note ns a) → Reads rule s a ts y.0 vs
-  need_down y n d (need c go) ns e = let i = subst (NeedRead _ y _) (some_is e) d in needed (wide.starts_down rule (second_rules note rule) i.2) (i.3 (go i.0) _ refl)
+  need_down y n d (need c go) ns e = let i = subst (NeedRead _ y _) (some_same e) d in needed (wide.starts_down rule (second_rules note rule) i.2) (i.3 (go i.0) _ refl)
   need_down y n d (give x) ns e = absurd (cc)
   need_down y n d (when c go other) ns e = absurd (cc)
   need_down y n d (read a go) ns e = absurd (cc)
 
   taken_down : {s : A.Kind} {ts vs : Tokens} (y : Noted A N s) (n : Choices (new s)) → TakenRead ts y vs n → (a : Rule A s) (ns : List N) → Some n ≡ choices_of {k = new s} (noting_rule note ns a) → Reads rule s a ts y.0 vs
-  taken_down y n d (when c go other) ns e = let i = subst (TakenRead _ y _) (some_is e) d in taken (wide.starts_down rule (second_rules note rule) i.2) (i.3 (go i.0) _ refl)
+  taken_down y n d (when c go other) ns e = let i = subst (TakenRead _ y _) (some_same e) d in taken (wide.starts_down rule (second_rules note rule) i.2) (i.3 (go i.0) _ refl)
   taken_down y n d (give x) ns e = absurd (cc)
   taken_down y n d (need c go) ns e = absurd (cc)
   taken_down y n d (read a go) ns e = absurd (cc)
 
   passed_down : {s : A.Kind} {ts vs : Tokens} (y : Noted A N s) (n : Choices (new s)) → PassedRead ts y vs n → (a : Rule A s) (ns : List N) → Some n ≡ choices_of {k = new s} (noting_rule note ns a) → Reads rule s a ts y.0 vs
-  passed_down y n d (when c go other) ns e = let i = subst (PassedRead _ y _) (some_is e) d in passed (wide.isnot_down rule (second_rules note rule) i.0) (i.1 other _ refl)
+  passed_down y n d (when c go other) ns e = let i = subst (PassedRead _ y _) (some_same e) d in passed (wide.isnot_down rule (second_rules note rule) i.0) (i.1 other _ refl)
   passed_down y n d (give x) ns e = absurd (cc)
   passed_down y n d (need c go) ns e = absurd (cc)
   passed_down y n d (read a go) ns e = absurd (cc)
 
   call_down : {s : A.Kind} {ts vs : Tokens} (y : Noted A N s) (n : Calls (new s)) → CallRead ts y vs n → (a : Rule A s) (ns : List N) → Some n ≡ calls_of {k = new s} (noting_rule note ns a) → Reads rule s a ts y.0 vs
-  call_down y n d (read {r = r} a go) ns e = let i = subst (CallRead _ y _) (some_is e) d in called (i.2 (rule r a) [] refl) (i.3 (go i.0.0) _ refl)
+  call_down y n d (read {r = r} a go) ns e = let i = subst (CallRead _ y _) (some_same e) d in called (i.2 (rule r a) [] refl) (i.3 (go i.0.0) _ refl)
   call_down y n d (give x) ns e = absurd (cc)
   call_down y n d (need c go) ns e = absurd (cc)
   call_down y n d (when c go other) ns e = absurd (cc)
@@ -173,31 +171,31 @@ module _ {A : Alphabet} {N : Type 0} (note : Notes A N) (rule : Rules A) where
   CallDerived {s} ts us y n = (z : Val n.0) × Under n.0 (all n.0 n.1) ts z × Under (new s) (n.2 z) us y
 
   give_under : {s : A.Kind} (y : Noted A N s) (a : Rule A s) (ns : List N) → Some y ≡ given_by {k = new s} (noting_rule note ns a) → Derives rule s a [] y.0
-  give_under {s = s} y (give x) ns e = subst (λ z. Derives rule s (give x) [] z) (sym (ap (λ z. z.0) (some_is e))) plain.given
+  give_under {s = s} y (give x) ns e = subst (λ z. Derives rule s (give x) [] z) (sym (ap (λ z. z.0) (some_same e))) plain.given
   give_under y (need c go) ns e = absurd (cc)
   give_under y (when c go other) ns e = absurd (cc)
   give_under y (read a go) ns e = absurd (cc)
 
   need_under : {s : A.Kind} {ts : Tokens} (y : Noted A N s) (n : Needs (new s)) → NeedDerived ts y n → (a : Rule A s) (ns : List N) → Some n ≡ needs_of {k = new s} (noting_rule note ns a) → Derives rule s a ts y.0
-  need_under y n d (need c go) ns e = let i = subst (NeedDerived _ y) (some_is e) d in plain.needed (wide.starts_down rule (second_rules note rule) i.2) (i.3 (go i.0) _ refl)
+  need_under y n d (need c go) ns e = let i = subst (NeedDerived _ y) (some_same e) d in plain.needed (wide.starts_down rule (second_rules note rule) i.2) (i.3 (go i.0) _ refl)
   need_under y n d (give x) ns e = absurd (cc)
   need_under y n d (when c go other) ns e = absurd (cc)
   need_under y n d (read a go) ns e = absurd (cc)
 
   taken_under : {s : A.Kind} {ts : Tokens} (y : Noted A N s) (n : Choices (new s)) → TakenDerived ts y n → (a : Rule A s) (ns : List N) → Some n ≡ choices_of {k = new s} (noting_rule note ns a) → Derives rule s a ts y.0
-  taken_under y n d (when c go other) ns e = let i = subst (TakenDerived _ y) (some_is e) d in plain.taken (wide.starts_down rule (second_rules note rule) i.2) (i.3 (go i.0) _ refl)
+  taken_under y n d (when c go other) ns e = let i = subst (TakenDerived _ y) (some_same e) d in plain.taken (wide.starts_down rule (second_rules note rule) i.2) (i.3 (go i.0) _ refl)
   taken_under y n d (give x) ns e = absurd (cc)
   taken_under y n d (need c go) ns e = absurd (cc)
   taken_under y n d (read a go) ns e = absurd (cc)
 
   passed_under : {s : A.Kind} {ts : Tokens} (y : Noted A N s) (n : Choices (new s)) → PassedDerived ts y n → (a : Rule A s) (ns : List N) → Some n ≡ choices_of {k = new s} (noting_rule note ns a) → Derives rule s a ts y.0
-  passed_under {s = s} {ts = ts} y n d (when c go other) ns e = plain.passed ((subst (PassedDerived {s = s} ts y) (some_is e) d) other _ refl)
+  passed_under {s = s} {ts = ts} y n d (when c go other) ns e = plain.passed ((subst (PassedDerived {s = s} ts y) (some_same e) d) other _ refl)
   passed_under y n d (give x) ns e = absurd (cc)
   passed_under y n d (need c go) ns e = absurd (cc)
   passed_under y n d (read a go) ns e = absurd (cc)
 
   call_under : {s : A.Kind} (ts us : Tokens) (y : Noted A N s) (n : Calls (new s)) → CallDerived ts us y n → (a : Rule A s) (ns : List N) → Some n ≡ calls_of {k = new s} (noting_rule note ns a) → Derives rule s a (ts ++ us) y.0
-  call_under ts us y n d (read {r = r} a go) ns e = let i = subst (CallDerived _ _ y) (some_is e) d in plain.called (i.1 (rule r a) [] refl) (i.2 (go i.0.0) _ refl)
+  call_under ts us y n d (read {r = r} a go) ns e = let i = subst (CallDerived _ _ y) (some_same e) d in plain.called (i.1 (rule r a) [] refl) (i.2 (go i.0.0) _ refl)
   call_under ts us y n d (give x) ns e = absurd (cc)
   call_under ts us y n d (need c go) ns e = absurd (cc)
   call_under ts us y n d (when c go other) ns e = absurd (cc)

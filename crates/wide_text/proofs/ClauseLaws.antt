@@ -1,5 +1,5 @@
 -- Clauses, and the names that are bound in them.
-use Rattle.std.proofs.Common.{◌≡◌, ◌∙◌, refl, sym, ap, ℕ, Bool, true, false, List, [], ◌∷◌, ◌++◌, append_assoc, if◌then◌else◌, length, arith}
+use Rattle.std.proofs.Common.{◌≡◌, ◌∙◌, refl, sym, ap, ℕ, Bool, true, false, List, [], ◌∷◌, ◌++◌, append_assoc, if◌then◌else◌}
 use Rattle.std.proofs.lemmas.List.{append-nil}
 use Rattle.boogie_grammar.specs.declared.tokens.BSign.{BSign}
 use Rattle.boogie_grammar.specs.declared.tokens.BSign.TheVariants as sign
@@ -39,10 +39,6 @@ pub binds_name : (k : Lexeme) (x : List ℕ) (ts : List PlacedLexeme) {us : List
 binds_name k x ts e p = ap (λ t. binds t ts) e ∙ ap (λ (b : Bool). if b then x ∷ [] else []) (ap starts_colon p.is ∙ ap is_colon p.passes)
 
 -- names behind others
-
-pub none_left : {T : Type 0} (l : List T) → length l ≡ 0 → l ≡ []
-none_left [] e = refl
-none_left (x ∷ xs) e = absurd (omega (arith, e))
 
 pub one_token : (now more start : List (List ℕ)) (left rest : List PlacedLexeme) (k : PlacedLexeme) → left ≡ k ∷ rest → more ≡ now ++ binds k.tok rest → now ++ bound_in left ≡ start → more ++ bound_in rest ≡ start
 one_token now more start left rest k e f h =

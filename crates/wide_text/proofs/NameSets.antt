@@ -12,14 +12,11 @@ use Rattle.boogie_grammar.specs.Greedy.{Starts, Takes, Misses}
 use Rattle.boogie_grammar.specs.Grammar.{local_names}
 use Rattle.std.proofs.lemmas.List.{map-append, append-nil}
 use Rattle.std.proofs.lemmas.Slice.Eq.{bytes_eq-Decides}
+use Rattle.std.proofs.lemmas.Bool.{or_parts}
 use Rattle.boogie_tree.specs.declared.exprs.BBase.{BBase}
 use Rattle.wide_grammar.specs.Trees.{plain_local}
 use Rattle.wide_grammar.specs.Words.{wide_words, has_no_word}
 use Rattle.wide_text.specs.Heads.{AreNames}
-
-or_parts : (a b : Bool) → (a || b) ≡ false → (a ≡ false) × (b ≡ false)
-or_parts true b h = absurd (cc)
-or_parts false b h = (refl, h)
 
 pub of_neither : (x : List ℕ) (as_ bs : List (List ℕ)) → is_among x (as_ ++ bs) ≡ false → (is_among x as_ ≡ false) × (is_among x bs ≡ false)
 of_neither x as_ bs h = or_parts (is_among x as_) (is_among x bs) (sym (list_any-append (bytes_eq x) as_ bs) ∙ h)

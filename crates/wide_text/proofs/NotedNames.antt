@@ -1,13 +1,12 @@
 -- The names that are noted while an expression is read are those before a `:`.
 use Rattle.std.proofs.Common.{◌≡◌, ◌∙◌, refl, sym, ap, subst, ℕ, Bool, true, false, List, [], ◌∷◌, ◌++◌, append_assoc, if◌then◌else◌, length, take, ◌-◌}
 use Rattle.std.proofs.lemmas.List.{append-nil}
-use Rattle.std.proofs.Math.Seq.{take-append_seam}
+use Rattle.lemmas.proofs.Lists.{front_taken}
 use Rattle.grammar.specs.Rules.{Rules, give, need, when, read}
 use Rattle.grammar.specs.Greedy as greedy
 use Rattle.grammar.specs.Greedy.{given, needed, taken, passed, called}
 use Rattle.grammar.specs.Wider.{new}
 use Rattle.grammar.proofs.Wider as wide
-use Rattle.grammar.proofs.Whole.{count}
 use Rattle.boogie_tree.specs.declared.exprs.BOp.TheVariants as op
 use Rattle.boogie_grammar.specs.declared.tokens.BSign.TheVariants as sign
 use Rattle.boogie_grammar.specs.declared.tokens.Lexeme.{Lexeme}
@@ -269,9 +268,6 @@ noted (qr e f) (called {a = a} {go = go} {y = y} h k) ns =
     }
 
 -- the tokens that were read
-
-front_taken : {T : Type 0} (f r : List T) → take (length (f ++ r) - length r) (f ++ r) ≡ f
-front_taken f r = ap (λ n. take n (f ++ r)) (count f r) ∙ take-append_seam f r
 
 abbrev pub eaten : List PlacedLexeme → List PlacedLexeme → List PlacedLexeme
 eaten ts us = take (length ts - length us) ts

@@ -8,8 +8,6 @@ use Rattle.grammar.specs.declared.stop.Stop.TheVariants as stop
 use Rattle.grammar.specs.Rules.{Rules, Starts, give, need, when, read}
 use Rattle.grammar.specs.Greedy as greedy
 use Rattle.grammar.specs.Wider.{old, new, was, more}
-use Rattle.grammar.proofs.Reading as grammar
-use Rattle.grammar.proofs.Steps as steps
 use Rattle.grammar.proofs.Wider as wide
 use Rattle.boogie_grammar.specs.declared.tokens.PlacedLexeme.{PlacedLexeme}
 use Rattle.boogie_grammar.specs.Greedy as narrow
@@ -19,11 +17,12 @@ use Rattle.boogie_grammar.specs.Grammar as g
 use Rattle.boogie_grammar.specs.ReadView.{ReadsVariable, NoVariable}
 use Rattle.wide_grammar.specs.Noting.{noting, second_rules, noted_rules}
 use Rattle.wide_grammar.specs.Grammar.{Symbol, Rule, telling, wider_boogie, new_names, more_rule, rule, rules, where_true}
-use Rattle.wide_grammar.proofs.Elements.{laws}
+use Rattle.wide_grammar.proofs.Reading.{wide_failing, wide_steps}
 use Rattle.wide_grammar.proofs.Noting.{fails_noted}
 use Rattle.wide_text.specs.Greedy.{WKind, WValue, Reads, Fails, Goes, Refuses, Parses}
 use Rattle.wide_text.specs.Bound.{bound_in}
 use Rattle.wide_text.proofs.NotedNames.{eaten, expr_noted}
+open wide_steps use {error_as}
 
 -- from the grammar of the other programs
 
@@ -44,51 +43,40 @@ fails_up a f = wide.fails_up telling_rules (λ s a. more_rule a) _ (wide.fails_u
 
 -- steps
 
-pub start : {s : WKind} (a : Rule s) (ts : List PlacedLexeme) → Goes a ts a ts
-start a ts = grammar.start rules laws a ts
-
 pub by_need : {r : Kind} {s : WKind} {a : Rule s} {c : Test true r} {go : Value r → Rule s} {ts us vs : List PlacedLexeme} {x : Value r} →
     narrow.Starts c us x vs → Goes a ts (need {r = old (old r)} c go) us → Goes a ts (go x) vs
-by_need p g = grammar.by_need rules laws (starts_up p) g
+by_need p g = wide_steps.by_need (starts_up p) g
 
 pub by_token : {b : Bool} {r : Kind} {s : WKind} {a : Rule s} {c : Test b r} {go : Value r → Rule s} {other : Rule s} {ts us vs : List PlacedLexeme} {x : Value r} →
     narrow.Starts c us x vs → Goes a ts (when {b = b} {r = old (old r)} c go other) us → Goes a ts (go x) vs
-by_token p g = grammar.by_token rules laws (starts_up p) g
+by_token p g = wide_steps.by_token (starts_up p) g
 
 pub by_other : {b : Bool} {r : Kind} {s : WKind} {a : Rule s} {c : Test b r} {go : Value r → Rule s} {other : Rule s} {ts us : List PlacedLexeme} →
     narrow.IsNot c us → Goes a ts (when {b = b} {r = old (old r)} c go other) us → Goes a ts other us
-by_other n g = grammar.by_other rules laws (isnot_up n) g
+by_other n g = wide_steps.by_other (isnot_up n) g
 
 -- a symbol of the other programs
 pub by_old : {r : Kind} {s : WKind} {a : Rule s} {b : g.Symbol r} {go : Value r → Rule s} {ts us vs : List PlacedLexeme} {y : Value r} →
     narrow.Reads r (g.rule b) us y vs → Goes a ts (read {r = old (old r)} (was (was b)) go) us → Goes a ts (go y) vs
-by_old {b = b} h g = grammar.by_part rules laws (reads_up b h) g
+by_old {b = b} h g = wide_steps.by_part (reads_up b h) g
 
 pub by_part : {r s : WKind} {a : Rule s} {b : Symbol r} {go : WValue r → Rule s} {ts us vs : List PlacedLexeme} {y : WValue r} →
     Reads r (rule b) us y vs → Goes a ts (read (more b) go) us → Goes a ts (go y) vs
-by_part h g = grammar.by_part rules laws h g
+by_part h g = wide_steps.by_part h g
 
 -- an expression, and the names that are bound in it
 pub by_noted : {s : WKind} {a : Rule s} (x : g.Scope) {go : _ → Rule s} {ts us vs : List PlacedLexeme} {e : _} →
     narrow.Reads v.expr (g.rule (g.Expr x)) us e vs → Goes a ts (read {r = old (new v.expr)} (was (more (noting (g.Expr x)))) go) us → Goes a ts (go (e, bound_in (eaten us vs))) vs
-by_noted x h g = grammar.by_part rules laws (wide.reads_up telling_rules (λ s a. more_rule a) (expr_noted x h)) g
-
-pub whole : {s : WKind} {a : Rule s} {ts us : List PlacedLexeme} {x : WValue s} → Goes a ts (give x) us → Reads s a ts x us
-whole g = grammar.whole rules laws g
+by_noted x h g = wide_steps.by_part (wide.reads_up telling_rules (λ s a. more_rule a) (expr_noted x h)) g
 
 pub fails_taken : {b : Bool} {r : Kind} {s : WKind} {c : Test b r} {go : Value r → Rule s} {other : Rule s} {ts us z : List PlacedLexeme} {x : Value r} →
     narrow.Starts c ts x us → Fails (go x) us z → Fails (when {b = b} {r = old (old r)} c go other) ts z
-fails_taken p f = grammar.fails_taken rules laws (starts_up p) f
+fails_taken p f = wide_failing.fails_taken (starts_up p) f
 
 pub fails_here : {r : Kind} {s : WKind} {c : Test true r} {go : Value r → Rule s} {ts : List PlacedLexeme} → narrow.IsNot c ts → Fails (need {r = old (old r)} c go) ts ts
-fails_here n = grammar.fails_here rules laws (isnot_up n)
+fails_here n = wide_failing.fails_here (isnot_up n)
 
 -- an error at a `?`
-
-pub error_as : {r s : WKind} {R : Type 0} (view : R → WValue s) {b : Rule r} {a : Rule s} {us ts : List PlacedLexeme} (w : Stop PlacedLexeme)
-    (res : Result (R × Bor (List PlacedLexeme)) (Stop PlacedLexeme)) → IsErrAnd res (λ x. x ≡ w) →
-    ((z : List PlacedLexeme) → Fails b us z → Fails a ts z) → Refuses b us w → Parses view a ts res
-error_as view w res e f h = steps.error_as rules laws view w res e f h
 
 -- what is left of the rule goes wrong
 pub rest_error : {s : WKind} {R : Type 0} (view : R → WValue s) {b a : Rule s} {us ts : List PlacedLexeme} (w : Stop PlacedLexeme)
@@ -97,7 +85,7 @@ rest_error view w res e g h = error_as view w res e (λ z f. g.fails z f) h
 
 pub part_error : {r s : WKind} {R : Type 0} (view : R → WValue s) {b : Symbol r} {go : WValue r → Rule s} {a : Rule s} {us ts : List PlacedLexeme} (w : Stop PlacedLexeme)
     (res : Result (R × Bor (List PlacedLexeme)) (Stop PlacedLexeme)) → IsErrAnd res (λ x. x ≡ w) → Goes a ts (read (more b) go) us → Refuses (rule b) us w → Parses view a ts res
-part_error view w res e g h = steps.part_error rules laws view w res e g h
+part_error view w res e g h = wide_steps.part_error view w res e g h
 
 refuses_up : {s : Kind} (a : g.Symbol s) (us : List PlacedLexeme) (w : Stop PlacedLexeme) → narrow.Refuses (g.rule a) us w → Refuses {s = old (old s)} (rules _ (was (was a))) us w
 refuses_up a us stop.Memory h = tt
@@ -106,7 +94,7 @@ refuses_up a us (stop.Before r) h = fails_up a h
 pub old_error : {r : Kind} {s : WKind} {R : Type 0} (view : R → WValue s) {b : g.Symbol r} {go : Value r → Rule s} {a : Rule s} {us ts : List PlacedLexeme} (w : Stop PlacedLexeme)
     (res : Result (R × Bor (List PlacedLexeme)) (Stop PlacedLexeme)) → IsErrAnd res (λ x. x ≡ w) → Goes a ts (read {r = old (old r)} (was (was b)) go) us →
     narrow.Refuses (g.rule b) us w → Parses view a ts res
-old_error view {b = b} {us = us} w res e g h = steps.part_error rules laws view w res e g (refuses_up b us w h)
+old_error view {b = b} {us = us} w res e g h = wide_steps.part_error view w res e g (refuses_up b us w h)
 
 noted_refuses : (x : g.Scope) (us : List PlacedLexeme) (w : Stop PlacedLexeme) → narrow.Refuses (g.rule (g.Expr x)) us w → Refuses {s = old (new v.expr)} (rules _ (was (more (noting (g.Expr x))))) us w
 noted_refuses x us stop.Memory h = tt
@@ -117,7 +105,7 @@ misses_up c us w h = wide.misses_up telling_rules (λ s a. more_rule a) c us w (
 
 pub token_error : {r : Kind} {s : WKind} {R : Type 0} (view : R → WValue s) {c : Test true r} {go : Value r → Rule s} {a : Rule s} {us ts : List PlacedLexeme} (w : Stop PlacedLexeme)
     (res : Result (R × Bor (List PlacedLexeme)) (Stop PlacedLexeme)) → IsErrAnd res (λ x. x ≡ w) → Goes a ts (need {r = old (old r)} c go) us → narrow.Misses c us w → Parses view a ts res
-token_error view {c = c} {us = us} w res e g h = steps.token_error rules laws view w res e g (misses_up c us w h)
+token_error view {c = c} {us = us} w res e g h = wide_steps.token_error view w res e g (misses_up c us w h)
 
 -- the same, where the answer is that the rule goes wrong
 
@@ -127,21 +115,21 @@ at_error P res w e h = let y = err_from_is_err_and res e in subst P (sym y.1) (s
 pub token_refuses : {r : Kind} {s : WKind} {c : Test true r} {go : Value r → Rule s} {a : Rule s} {us ts : List PlacedLexeme} (w : Stop PlacedLexeme) → Goes a ts (need {r = old (old r)} c go) us →
     narrow.Misses c us w → Refuses a ts w
 token_refuses stop.Memory g h = tt
-token_refuses {a = a} {ts = ts} (stop.Before r) g h = subst (λ z. Fails a ts z) (sym h.1) (grammar.wrong_token rules laws (isnot_up h.0) g)
+token_refuses {a = a} {ts = ts} (stop.Before r) g h = subst (λ z. Fails a ts z) (sym h.1) (wide_steps.wrong_token (isnot_up h.0) g)
 
 pub old_refuses : {r : Kind} {s : WKind} {b : g.Symbol r} {go : Value r → Rule s} {a : Rule s} {us ts : List PlacedLexeme} (w : Stop PlacedLexeme) → Goes a ts (read {r = old (old r)} (was (was b)) go) us →
     narrow.Refuses (g.rule b) us w → Refuses a ts w
 old_refuses stop.Memory g h = tt
-old_refuses {b = b} (stop.Before r) g h = grammar.wrong_part rules laws (fails_up b h) g
+old_refuses {b = b} (stop.Before r) g h = wide_steps.wrong_part (fails_up b h) g
 
 pub noted_refuses_in : {s : WKind} (x : g.Scope) {go : _ → Rule s} {a : Rule s} {us ts : List PlacedLexeme} (w : Stop PlacedLexeme) → Goes a ts (read {r = old (new v.expr)} (was (more (noting (g.Expr x)))) go) us →
     narrow.Refuses (g.rule (g.Expr x)) us w → Refuses a ts w
 noted_refuses_in x {us = us} stop.Memory g h = tt
-noted_refuses_in x {us = us} (stop.Before r) g h = grammar.wrong_part rules laws (noted_refuses x us (stop.Before r) h) g
+noted_refuses_in x {us = us} (stop.Before r) g h = wide_steps.wrong_part (noted_refuses x us (stop.Before r) h) g
 
 pub part_refuses : {r s : WKind} {b : Symbol r} {go : WValue r → Rule s} {a : Rule s} {us ts : List PlacedLexeme} (w : Stop PlacedLexeme) → Goes a ts (read (more b) go) us → Refuses (rule b) us w → Refuses a ts w
 part_refuses stop.Memory g h = tt
-part_refuses (stop.Before r) g h = grammar.wrong_part rules laws h g
+part_refuses (stop.Before r) g h = wide_steps.wrong_part h g
 
 pub rest_refuses : {s : WKind} {b a : Rule s} {us ts : List PlacedLexeme} (w : Stop PlacedLexeme) → Goes a ts b us → Refuses b us w → Refuses a ts w
 rest_refuses stop.Memory g h = tt
@@ -150,25 +138,7 @@ rest_refuses (stop.Before r) g h = g.fails _ h
 -- the last call of a function
 
 pub tail : {s : WKind} {a : Rule s} {b : Symbol s} {ts us : List PlacedLexeme} → Goes a ts (read (more b) give) us → Goes a ts (rule b) us
-tail g = steps.tail rules laws g
-
-pub pass_on : {s : WKind} {R : Type 0} (view : R → WValue s) {b a : Rule s} {us ts : List PlacedLexeme} (res : Result (R × Bor (List PlacedLexeme)) (Stop PlacedLexeme)) →
-    Goes a ts b us → Parses view b us res → Parses view a ts res
-pass_on view res g h = steps.pass_on rules laws view res g h
-
--- what was built is what the rule gives
-
-pub whole_as : {s : WKind} {a : Rule s} {ts us : List PlacedLexeme} {x y : WValue s} → Goes a ts (give y) us → x ≡ y → Reads s a ts x us
-whole_as g e = steps.whole_as rules laws g e
-
-pub goes_at : {s : WKind} (r : WKind) (f : WValue r → Rule s) {a : Rule s} {ts us : List PlacedLexeme} {x y : WValue r} → x ≡ y → Goes a ts (f y) us → Goes a ts (f x) us
-goes_at r f e g = steps.goes_at rules laws r f e g
-
-pub goes_by : {A : Type 0} {s : WKind} (f : A → Rule s) {a : Rule s} {ts us : List PlacedLexeme} {x y : A} → x ≡ y → Goes a ts (f y) us → Goes a ts (f x) us
-goes_by f e g = steps.goes_by rules laws f e g
-
-pub goes_then : {s : WKind} {a b c : Rule s} {ts us vs : List PlacedLexeme} → Goes a ts b us → Goes b us c vs → Goes a ts c vs
-goes_then g h = steps.goes_then rules laws g h
+tail g = wide_steps.tail g
 
 -- a symbol with an equal list
 

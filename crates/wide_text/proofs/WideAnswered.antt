@@ -21,7 +21,7 @@ use Rattle.wide_grammar.specs.Grammar.{Kind, Symbol, Programs, Procedure, Parame
 use Rattle.wide_grammar.specs.Spells.{SpellsWideProgram, GoesWrong}
 use Rattle.wide_grammar.proofs.NotedTable.{seconds}
 use Rattle.wide_grammar.proofs.Elements.{laws}
-use Rattle.boogie_text.proofs.Codes.{table}
+use Rattle.boogie_print.proofs.Codes.{table}
 use Rattle.boogie_text.proofs.Answered.{ranks, has_answers}
 use Rattle.wide_text.proofs.WideComplete as wide
 use Rattle.wide_text.proofs.WideComplete.{telling_rules, telling_table, telling_right, further, wide_table, wide_right, by_where}

@@ -4,6 +4,7 @@ use Rattle.std.specs.Str.{bytes_eq}
 use Rattle.std.proofs.lemmas.Bool.{both_ways}
 use Rattle.std.proofs.lemmas.List.Folds.{list_any-append}
 use Rattle.std.proofs.lemmas.Slice.Eq.{bytes_eq-Decides}
+use Rattle.boogie_grammar.proofs.Elements.{name_is}
 use Rattle.grammar.proofs.Sets.{among, within}
 use Rattle.grammar.proofs.Complete as grammar
 use Rattle.grammar.proofs.Complete.{Table, good_need, good_when, good_read, te, tn, tw, tr}
@@ -31,9 +32,9 @@ use Rattle.wide_grammar.specs.Trees.{Contract, requiring, ensuring}
 use Rattle.wide_grammar.specs.Noting.{Second, noting, second_rules, noted_rules}
 use Rattle.wide_grammar.specs.Grammar.{Kind, Value, a_name, a_clause, bound_clause, contract, Symbol, Programs, Procedure, Parameters, Params, Clauses, BoundClause, Vars, Statements, Statement, Block, Else, Invariants, Targets, Arguments, MoreArguments, telling, wider_boogie, new_names, where_true, after_sign, at_name, rest_of, headed, checks, changes, simple, worded, loop, looping, call, targeted, called, more_targets, assignment, branches, conditional, rule, more_rule, rules}
 use Rattle.wide_grammar.proofs.NotedTable.{seconds, noted_table, right_noted, good_noted}
-use Rattle.boogie_text.proofs.Codes.{code, names, words, signs, statement_starts, expr_starts, table}
+use Rattle.boogie_print.proofs.Codes.{code, names, words, signs, statement_starts, expr_starts, table}
 use Rattle.boogie_text.proofs.Answered.{ranks}
-use Rattle.boogie_text.proofs.Complete.{right, good, not_word, not_variable, code_at, name_is}
+use Rattle.boogie_print.proofs.Complete.{right, good, not_word, not_variable, code_at}
 
 -- the grammar of the other programs, with the second forms
 

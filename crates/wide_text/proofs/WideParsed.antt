@@ -1,5 +1,6 @@
 -- Bytes spell one program with loops, calls and contracts at most.
 use Rattle.std.proofs.Common.{◌≡◌, ◌∙◌, ℕ, Bool, List, [], ◌∷◌, ◌++◌, sym, subst}
+use Rattle.lemmas.proofs.Lists.{same_behind}
 use Rattle.grammar.specs.Rules as rules_of
 use Rattle.grammar.specs.Rules.{Starts, read}
 use Rattle.grammar.specs.Spells.{Derives, given, needed, taken, passed, called}
@@ -12,7 +13,7 @@ use Rattle.boogie_wide.specs.Wide.{WProgram}
 use Rattle.wide_grammar.specs.Grammar.{Kind, Programs, telling, wider_boogie, rules}
 use Rattle.wide_grammar.specs.Spells.{Spells, WideSpells}
 use Rattle.wide_grammar.proofs.Elements.{laws}
-use Rattle.boogie_text.proofs.AlikeLaws.{Alike, nil, passes_alike, first_of, split_of, one_row}
+use Rattle.boogie_print.proofs.AlikeLaws.{Alike, nil, passes_alike, first_of, split_of, one_row}
 use Rattle.wide_text.proofs.WideComplete.{complete}
 
 -- tokens that differ in their places alone spell the same
@@ -49,15 +50,8 @@ program_is p q e = λ t. record { procs = e t }
 pub one_tree : (ts : List PlacedLexeme) (p q : WProgram) → Spells ts p → Spells ts q → p ≡ q
 one_tree ts p q a b = program_is p q (one_reading rules laws (complete (Programs []) a) (complete (Programs []) b)).0
 
-same_rest : {x : ℕ} {ys zs : List ℕ} → x ∷ ys ≡ x ∷ zs → ys ≡ zs
-same_rest h = cc
-
-append-same_front : (xs : List ℕ) {ys zs : List ℕ} → xs ++ ys ≡ xs ++ zs → ys ≡ zs
-append-same_front [] h = h
-append-same_front (x ∷ xs) h = append-same_front xs (same_rest h)
-
 pub one_program : (bytes : List ℕ) (a b : WProgram) → WideSpells bytes a → WideSpells bytes b → a ≡ b
 one_program bytes a b p q =
-    let rest : q.rest ≡ p.rest = append-same_front prelude (sym q.text ∙ p.text) in
+    let rest : q.rest ≡ p.rest = same_behind prelude (sym q.text ∙ p.text) in
     let row : IsRow p.rest q.tokens = subst (λ r. IsRow r q.tokens) rest q.cut in
     one_tree p.tokens a b p.spells (derives_alike q.spells (one_row row p.cut))

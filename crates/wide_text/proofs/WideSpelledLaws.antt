@@ -1,13 +1,12 @@
 -- What is spelled keeps the conditions on names and literals: each rule gives what keeps them, from names that are names and
 -- literals within the bound. What the other programs have too keeps them as it does there.
-use Rattle.std.proofs.Common.{◌≡◌, ◌≢◌, sym, subst, ◌∙◌, ℕ, Bool, true, false, List, [], ◌∷◌, ◌++◌, length, Option, Some, None, All, arith}
+use Rattle.std.proofs.Common.{◌≡◌, ◌≢◌, sym, subst, ◌∙◌, ℕ, true, false, List, [], ◌∷◌, ◌++◌, length, Option, Some, None, All, arith}
 use Rattle.std.specs.Prelude.{⊤}
 use Rattle.std.specs.Str.{bytes_eq}
 use Rattle.std.proofs.lemmas.Bool.{both_ways, or_parts}
 use Rattle.std.proofs.lemmas.List.{map-append}
 use Rattle.std.proofs.lemmas.List.Elements.{All-nil, All-cons, All-push}
 use Rattle.std.proofs.lemmas.List.Folds.{list_any-append}
-use Rattle.std.proofs.lemmas.List.Quantifiers.{all_pairs_push}
 use Rattle.std.proofs.lemmas.Slice.Eq.{bytes_eq-Decides}
 use Rattle.grammar.specs.Rules as rules_of
 use Rattle.grammar.specs.Rules.{give, need, when, read}
@@ -16,8 +15,8 @@ use Rattle.grammar.specs.Wider.{Kinds, old, new, Symbols, was, more, lifted}
 use Rattle.vb_base.specs.Names.{NamesDiffer}
 use Rattle.boogie_tree.specs.Expr as t
 use Rattle.boogie_tree.specs.Program.{Local}
-use Rattle.boogie_tree.specs.Fits.{FitsExpr, FitExprs}
 use Rattle.boogie_tree.specs.Literals.{LiteralsFit, IndexLiteralsFit}
+use Rattle.boogie_tree.proofs.LiteralLaws.{literals_fit, all_literals_fit}
 use Rattle.boogie_grammar.specs.declared.tokens.BSign.TheVariants as sign
 use Rattle.boogie_grammar.specs.declared.tokens.PlacedLexeme.{PlacedLexeme}
 use Rattle.boogie_grammar.specs.Words.{is_among}
@@ -25,9 +24,9 @@ use Rattle.boogie_grammar.specs.Tests as v
 use Rattle.boogie_grammar.specs.Tests.{some_free, a_variable}
 use Rattle.boogie_grammar.specs.Grammar as g
 use Rattle.boogie_grammar.specs.Grammar.{boogie, local_names}
-use Rattle.boogie_text.specs.Printable.{IsFreeName}
-use Rattle.boogie_text.proofs.SpelledLaws as plain
-use Rattle.boogie_text.proofs.SpelledLaws.{Proper, AllProper, front_proper, back_proper, row_proper}
+use Rattle.boogie_print.specs.Printable.{IsFreeName}
+use Rattle.boogie_print.proofs.SpelledLaws as plain
+use Rattle.boogie_print.proofs.SpelledLaws.{Proper, AllProper, front_proper, back_proper, row_proper, names_more}
 use Rattle.boogie_wide.specs.Wide as wide
 use Rattle.boogie_wide.specs.Wide.{Clause, WStmt, WStmts, WProc, WProgram}
 use Rattle.boogie_wide.specs.Conditions.{HasNames, variable_names, NamesAreApart, ClauseLiteralsFit, GuardLiteralsFit, WideStmtLiteralsFit, WideLiteralsFit, BodyLiteralsFit, ProcLiteralsFit}
@@ -50,9 +49,6 @@ none_is x (y ∷ ys) fresh =
     let parts = or_parts (bytes_eq x y) (is_among x ys) fresh in
     All-cons (λ y. y ≢ x) y ys (not_the_same x y parts.0) (none_is x ys parts.1)
 
-names_more : (names : List (List ℕ)) (x : List ℕ) → NamesDiffer names → is_among x names ≡ false → NamesDiffer (names ++ x ∷ [])
-names_more names x differ fresh = all_pairs_push (λ a b. a ≢ b) names x differ (none_is x names fresh)
-
 no_names : NamesDiffer []
 no_names = λ i j d lt within. absurd (omega (arith, within))
 
@@ -72,32 +68,6 @@ named_more ls l named free fresh =
     (All-push IsFreeName (local_names ls) l.name named.0 free, names_more (local_names ls) l.name named.1 fresh)
 
 -- ---- literals
-
-mutual
-  literals_fit : (n : ℕ) (b : Bool) (e : t.BExpr) → FitsExpr n b e → LiteralsFit e
-  literals_fit n b (t.Var i) h = tt
-  literals_fit n b (t.Int k) h = h
-  literals_fit n b (t.Real k) h = h
-  literals_fit n b (t.Bool p) h = tt
-  literals_fit n b t.Null h = tt
-  literals_fit n b t.Unit h = tt
-  literals_fit n b (t.Neg x) h = literals_fit n b x h
-  literals_fit n b (t.Not x) h = literals_fit n b x h
-  literals_fit n b (t.Bin o x y) h = (literals_fit n b x h.0, literals_fit n b y h.1)
-  literals_fit n b (t.If x y z) h = (literals_fit n b x h.0, literals_fit n b y h.1, literals_fit n b z h.2)
-  literals_fit n b (t.Forall us x) h = (h.1, literals_fit n true x h.3)
-  literals_fit n b (t.ToReal x) h = literals_fit n b x h
-  literals_fit n b (t.SInt x) h = literals_fit n b x h
-  literals_fit n b (t.SBool x) h = literals_fit n b x h
-  literals_fit n b (t.SRef x) h = literals_fit n b x h
-  literals_fit n b (t.SPerm x) h = literals_fit n b x h
-  literals_fit n b (t.Pair x y) h = (literals_fit n b x h.0, literals_fit n b y h.1)
-  literals_fit n b (t.At i xs) h = all_literals_fit n b xs h.2
-  literals_fit n b (t.AtBound i) h = tt
-
-  all_literals_fit : (n : ℕ) (b : Bool) (es : t.BExprs) → FitExprs n b es → IndexLiteralsFit es
-  all_literals_fit n b t.none h = tt
-  all_literals_fit n b (t.more e es) h = (literals_fit n b e h.0, all_literals_fit n b es h.1)
 
 exprs_more : (es : List t.BExpr) (e : t.BExpr) → IndexLiteralsFit (t.exprs es) → LiteralsFit e → IndexLiteralsFit (t.exprs (es ++ e ∷ []))
 exprs_more [] e h fits = (fits, tt)

@@ -1,10 +1,11 @@
 -- The rule of a statement, by what is next, and statements as they are built.
-use Rattle.std.proofs.Common.{◌≡◌, ◌∙◌, refl, sym, ap, subst, ℕ, zero, suc, ◌<◌, Bool, true, false, List, [], ◌∷◌, ◌++◌, map, length, arith, Option, Some, None, if◌then◌else◌, get_or}
-use Rattle.std.specs.Option.{option_map}
-use Rattle.std.specs.Str.{bytes_eq}
+use Rattle.std.proofs.Common.{◌≡◌, ◌∙◌, refl, sym, ap, subst, ℕ, zero, suc, ◌<◌, Bool, true, false, List, [], ◌∷◌, ◌++◌, map, length, arith, get_or, inl, inr, Err}
 use Rattle.std.specs.declared.alloc.Global.{Global}
 use Rattle.std.specs.declared.vec.Vec.{Vec}
+use Rattle.boogie_print.proofs.SpelledLaws.{number_within as within}
 use Rattle.vb_base.specs.declared.labels.Label.{Label}
+use Rattle.grammar.specs.declared.stop.Stop.{Stop}
+use Rattle.grammar.specs.declared.stop.Stop.TheVariants as stop
 use Rattle.grammar.specs.Rules.{give, need, when, read}
 use Rattle.grammar.specs.Wider.{new, old, more}
 use Rattle.boogie_tree.specs.Expr as t
@@ -15,10 +16,11 @@ use Rattle.boogie_grammar.specs.declared.tokens.BSign.TheVariants as sign
 use Rattle.boogie_grammar.specs.declared.tokens.PlacedLexeme.{PlacedLexeme}
 use Rattle.boogie_grammar.specs.declared.tokens.Word.TheVariants as word
 use Rattle.boogie_grammar.specs.Tests as v
-use Rattle.boogie_grammar.specs.Tests.{some_free, the_sign, the_word, a_variable, number_of}
+use Rattle.boogie_grammar.specs.Tests.{some_free, the_sign, the_word, a_variable}
 use Rattle.boogie_grammar.specs.Greedy as narrow
 use Rattle.boogie_grammar.specs.Grammar as g
 use Rattle.boogie_grammar.specs.ReadView.{ReadsVariable, NoVariable}
+use Rattle.boogie_text.specs.StmtView.{EatsHavoc}
 use Rattle.boogie_text.proofs.StmtLaws.{havoc_is_no_if}
 use Rattle.boogie_wide.specs.Wide as w
 use Rattle.boogie_wide.specs.View.{wstmt_of, wstmts_of}
@@ -28,9 +30,11 @@ use Rattle.wide_grammar.specs.Trees as trees
 use Rattle.wide_grammar.specs.Trees.{name_at}
 use Rattle.wide_grammar.specs.Grammar.{Rule, rule, Statement, Targets, scope, where_true, changes, conditional, assignment, simple, worded, after_sign}
 use Rattle.wide_grammar.specs.Grammar as wide
-use Rattle.wide_text.specs.Greedy.{WKind, WValue, Reads, Goes, Fails}
+use Rattle.wide_text.specs.Greedy.{WKind, WValue, Reads, Goes, Fails, Refuses}
 use Rattle.wide_text.specs.View.{changing, storing, call_of}
-use Rattle.wide_text.proofs.Steps.{start, by_need, by_token, by_other, fails_taken, fails_here, where_holds}
+use Rattle.wide_grammar.proofs.Reading.{wide_steps}
+use Rattle.wide_text.proofs.Steps.{by_need, by_token, by_other, fails_taken, fails_here, where_holds}
+open wide_steps use {start}
 
 -- the scope of what stands in no `forall`
 
@@ -76,7 +80,7 @@ changed_at : {ts us : List PlacedLexeme} {r : Rule (new wide.stmt)} (b : Bool) (
 changed_at true some other e h = h refl
 changed_at false some other e h = absurd (cc)
 
-pub havoc_goes : (ls : List (List ℕ)) {ts us vs : List PlacedLexeme} {i : ℕ} → narrow.Starts (the_word word.Havoc) ts tt us → ReadsVariable ls us i vs →
+havoc_goes : (ls : List (List ℕ)) {ts us vs : List PlacedLexeme} {i : ℕ} → narrow.Starts (the_word word.Havoc) ts tt us → ReadsVariable ls us i vs →
     Goes (changing ls) ts (after_sign sign.Semicolon (give (w.Havoc i))) vs
 havoc_goes ls {ts = ts} p h =
     changed_at (some_free ls) (λ some. changes ls some) (conditional ls) h.0 (λ some. by_need (h.1 some) (by_token p (start (changes ls some) ts)))
@@ -92,13 +96,24 @@ fails_else : {ts z : List PlacedLexeme} (b : Bool) (some : b ≡ true → Rule (
 fails_else true some other e h = absurd (cc)
 fails_else false some other e h = h
 
-pub havoc_fails : (ls : List (List ℕ)) {ts us : List PlacedLexeme} → narrow.Starts (the_word word.Havoc) ts tt us → NoVariable ls us → some_free ls ≡ true → Fails (changing ls) ts us
+havoc_fails : (ls : List (List ℕ)) {ts us : List PlacedLexeme} → narrow.Starts (the_word word.Havoc) ts tt us → NoVariable ls us → some_free ls ≡ true → Fails (changing ls) ts us
 havoc_fails ls p n e =
     fails_at (some_free ls) (λ some. changes ls some) (conditional ls) e (λ some. fails_taken p (fails_here (n some)))
 
-pub havoc_stands_nowhere : (ls : List (List ℕ)) {ts us : List PlacedLexeme} → narrow.Starts (the_word word.Havoc) ts tt us → some_free ls ≡ false → Fails (changing ls) ts ts
+havoc_stands_nowhere : (ls : List (List ℕ)) {ts us : List PlacedLexeme} → narrow.Starts (the_word word.Havoc) ts tt us → some_free ls ≡ false → Fails (changing ls) ts ts
 havoc_stands_nowhere ls p e =
     fails_else (some_free ls) (λ some. changes ls some) (conditional ls) e (fails_here (havoc_is_no_if p))
+
+-- what `eat_havoc` answers, of the rule
+
+pub havoc_next : (ls : List (List ℕ)) {ts vs : List PlacedLexeme} {i : ℕ} → (us : List PlacedLexeme) × narrow.Starts (the_word word.Havoc) ts tt us × ReadsVariable ls us i vs →
+    Goes (changing ls) ts (after_sign sign.Semicolon (give (w.Havoc i))) vs
+havoc_next ls h = havoc_goes ls h.1 h.2
+
+pub havoc_refuses : (ls : List (List ℕ)) (ts : List PlacedLexeme) (e : Stop PlacedLexeme) → EatsHavoc ls ts (Err e) → Refuses (changing ls) ts e
+havoc_refuses ls ts stop.Memory h = tt
+havoc_refuses ls ts (stop.Before r) (us, starts, inl (some, none, e)) = subst (λ l. Fails (changing ls) ts l) (sym e) (havoc_fails ls starts none some)
+havoc_refuses ls ts (stop.Before r) (us, starts, inr (none, e)) = subst (λ l. Fails (changing ls) ts l) (sym e) (havoc_stands_nowhere ls starts none)
 
 -- the targets of a call
 
@@ -112,15 +127,6 @@ pub last_target : (ls : List (List ℕ)) (is : List ℕ) {a : Rule (new wide.num
 last_target ls is h n g = by_other n (where_holds (some_free ls) (λ some. wide.more_targets ls is some) (after_sign sign.Assign (give is)) h g).1
 
 -- the name of a variable
-
-within_at : (b : Bool) (o : Option ℕ) (i n : ℕ) → (if b then Some 0 else option_map suc o) ≡ Some i → ((j : ℕ) → o ≡ Some j → j < n) → i < suc n
-within_at true o i n h rest = let z : 0 ≡ i = cc in omega arith
-within_at false None i n h rest = absurd (cc)
-within_at false (Some j) i n h rest = let same : suc j ≡ i = cc in let l = rest j refl in omega (arith, l, same)
-
-pub within : (x : List ℕ) (names : List (List ℕ)) (i : ℕ) → number_of x names ≡ Some i → i < length names
-within x [] i h = absurd (cc)
-within x (y ∷ ys) i h = within_at (bytes_eq x y) (number_of x ys) i (length ys) h (λ j e. within x ys j e)
 
 pub variable_within : {names : List (List ℕ)} {ts us : List PlacedLexeme} {i : ℕ} → ReadsVariable names ts i us → i < length names
 variable_within {names = names} {i = i} h = let p = (h.1 h.0).passes in within p.name names i p.there

@@ -10,7 +10,7 @@ use Rattle.vb_base.specs.Place.{IsPlace}
 use Rattle.grammar.specs.declared.stop.Stop.{Stop}
 use Rattle.grammar.specs.declared.stop.Stop.TheVariants as stop
 use Rattle.grammar.proofs.Whole as grammar
-use Rattle.grammar.proofs.Whole.{split, count}
+use Rattle.grammar.proofs.Whole.{split}
 use Rattle.grammar.specs.Wider.{new}
 use Rattle.boogie_grammar.specs.declared.tokens.PlacedLexeme.{PlacedLexeme}
 use Rattle.boogie_grammar.specs.Faults.{place_at, fault_of}
@@ -21,9 +21,12 @@ use Rattle.wide_grammar.specs.Grammar.{rule, rules, Programs}
 use Rattle.wide_grammar.specs.Spells.{Spells, SpellsWideProgram}
 use Rattle.wide_grammar.proofs.Elements.{laws}
 use Rattle.wide_text.specs.Greedy.{Reads, Refuses}
-use Rattle.wide_text.specs.Whole.{FailsWhole, RefusesWhole, ReadsWhole, RefusesTokens}
-use Rattle.wide_text.proofs.Steps.{start}
+use Rattle.boogie_text.specs.Texts.{RefusesTokens}
+use Rattle.boogie_text.proofs.Whole.{some_token, no_token, refuses_at}
+use Rattle.wide_text.specs.Whole.{FailsWhole, RefusesWhole, ReadsWhole}
+use Rattle.wide_grammar.proofs.Reading.{wide_steps}
 use Rattle.wide_text.proofs.WideComplete.{complete}
+open wide_steps use {start}
 
 pub whole_error : (ts : List PlacedLexeme) (w : Stop PlacedLexeme) (res : Result (Vec d.WProc Global) (Stop PlacedLexeme)) → IsErrAnd res (λ x. x ≡ w) → Refuses (rule (Programs [])) ts w → ReadsWhole ts res
 whole_error ts w res e h =
@@ -32,14 +35,6 @@ whole_error ts w res e h =
     subst (λ o. ReadsWhole ts o) (sym y.1) (subst (λ x. RefusesWhole ts x) (sym y.2) refuses)
 
 -- the procedures end, and a token is left
-
-some_token : (us : List PlacedLexeme) → false ≡ (length us == 0) → (k : PlacedLexeme) × (vs : List PlacedLexeme) × (us ≡ k ∷ vs)
-some_token [] e = absurd (cc)
-some_token (k ∷ vs) e = (k, vs, refl)
-
-no_token : (us : List PlacedLexeme) → true ≡ (length us == 0) → us ≡ []
-no_token [] e = refl
-no_token (k ∷ vs) e = let h : length (k ∷ vs) ≡ 0 = eqb-true (length (k ∷ vs)) 0 (sym e) in absurd (omega arith)
 
 pub left_over : {ts us : List PlacedLexeme} {ps : List WProc} → Reads (new g.procs) (rule (Programs [])) ts ps us → false ≡ (length us == 0) → FailsWhole ts us
 left_over {us = us} h some = let t = some_token us some in grammar.left_over rules laws h t.0 t.1 t.2
@@ -61,14 +56,8 @@ none_spelled ts r f h = grammar.none_spelled rules (rule (Programs [])) SpellsWi
 place_of : (ts r : List PlacedLexeme) → FailsWhole ts r → IsPlace SpellsWideProgram ts (length ts - length r)
 place_of ts r f = grammar.place_of rules (rule (Programs [])) SpellsWideProgram read_as (λ us ps d. (record { procs = ps }, d)) ts r f
 
-next_place : (f r : List PlacedLexeme) (last : Pos) → place_at (f ++ r) (length f) last ≡ place_at r zero last
-next_place [] r last = refl
-next_place (k ∷ f) r last = next_place f r last
-
-pub refuses_there : (ts : List PlacedLexeme) (last : Pos) (w : Stop PlacedLexeme) → RefusesWhole ts w → RefusesTokens ts last (fault_of w last)
+pub refuses_there : (ts : List PlacedLexeme) (last : Pos) (w : Stop PlacedLexeme) → RefusesWhole ts w → RefusesTokens SpellsWideProgram ts last (fault_of w last)
 refuses_there ts last stop.Memory h = tt
 refuses_there ts last (stop.Before r) h =
     let q = split h.opens.front in
-    let At : List PlacedLexeme → Type 0 = λ l. place_at l (length l - length r.now) last ≡ place_at r.now zero last in
-    let there : At (q.front ++ r.now) = ap (λ n. place_at (q.front ++ r.now) n last) (count q.front r.now) ∙ next_place q.front r.now last in
-    (none_spelled ts r.now h, (length ts - length r.now, place_of ts r.now h, sym (subst At (sym q.left) there)))
+    refuses_at SpellsWideProgram ts q.front r.now last q.left (none_spelled ts r.now h) (place_of ts r.now h)

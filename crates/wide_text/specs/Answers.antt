@@ -1,8 +1,8 @@
 -- What it is that bytes are read as.
-use Rattle.std.specs.Prelude.{◌≡◌, ◌⊎◌, ℕ, List, Result, Ok, Err}
+use Rattle.std.specs.Prelude.{ℕ, List, Result}
 use Rattle.boogie_grammar.specs.Depth.{IsShallow}
 use Rattle.boogie_grammar.specs.declared.faults.BoogieFault.{BoogieFault}
-use Rattle.boogie_grammar.specs.declared.faults.BoogieFault.TheVariants as fault
+use Rattle.boogie_text.specs.Answers.{Gives}
 use Rattle.boogie_wide.specs.Wide.{WProgram}
 use Rattle.boogie_wide.specs.View.{wprogram_of}
 use Rattle.boogie_wide.specs.declared.wide.WProgram as declared
@@ -15,13 +15,4 @@ pub record IsWideRead (bytes : List ℕ) (program : WProgram) : Type 0 where
 
 -- the answer is this program, unless memory was refused or the brackets are too deep
 abbrev pub GivesProgram : WProgram → Result declared.WProgram BoogieFault → Type 0
-GivesProgram program (Ok b) = wprogram_of b ≡ program
-GivesProgram program (Err fault.Memory) = Unit {0}
-GivesProgram program (Err (fault.Prelude at)) = ⊥
-GivesProgram program (Err (fault.Syntax at)) = ⊥
-GivesProgram program (Err (fault.Deep at)) = Unit {0}
-
--- the answer is this fault, unless memory was refused
-abbrev pub GivesFault : BoogieFault → Result declared.WProgram BoogieFault → Type 0
-GivesFault f (Ok b) = ⊥
-GivesFault f (Err e) = (e ≡ f) ⊎ (e ≡ fault.Memory)
+GivesProgram program result = Gives wprogram_of program result

@@ -1,5 +1,5 @@
 -- What contracts of the reader see.
-use Rattle.std.specs.Prelude.{◌≡◌, true, ℕ, List, map, Option, Some, None, Result, Ok, Err}
+use Rattle.std.specs.Prelude.{◌≡◌, true, ℕ, List, map, Option, Result, Ok, Err}
 use Rattle.std.specs.Borrow.{Bor}
 use Rattle.std.specs.declared.alloc.Global.{Global}
 use Rattle.std.specs.declared.vec.Vec.{Vec}
@@ -64,12 +64,6 @@ changing ls = where_true (some_free ls) (λ some. changes ls some) (conditional 
 
 abbrev pub storing : List (List ℕ) → Rule (new g.stmt)
 storing ls = where_true (some_free ls) (λ some. when {b = true} {r = old (old v.variable)} (a_variable ls some) (λ i. assignment ls i) (conditional ls)) (conditional ls)
-
--- a `havoc` with its variable, or none
-abbrev pub EatsHavoc : List (List ℕ) → List PlacedLexeme → Result (Option (ℕ × Bor (List PlacedLexeme))) (Stop PlacedLexeme) → Type 0
-EatsHavoc ls ts (Ok None) = Goes (changing ls) ts (storing ls) ts
-EatsHavoc ls ts (Ok (Some r)) = Goes (changing ls) ts (after_sign sign.Semicolon (give (w.Havoc r.0))) r.1.now
-EatsHavoc ls ts (Err e) = Refuses (changing ls) ts e
 
 -- a variable, which must be next
 abbrev pub TakesVariable : List (List ℕ) → List PlacedLexeme → Result (ℕ × Bor (List PlacedLexeme)) (Stop PlacedLexeme) → Type 0

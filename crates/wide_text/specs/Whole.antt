@@ -1,15 +1,13 @@
 -- What the functions answer that read a program from its tokens: the greedy reading up to the end of the tokens.
-use Rattle.std.specs.Prelude.{◌≡◌, ℕ, List, [], Result, Ok, Err}
+use Rattle.std.specs.Prelude.{List, [], Result, Ok, Err}
 use Rattle.std.specs.declared.alloc.Global.{Global}
 use Rattle.std.specs.declared.vec.Vec.{Vec}
 use Rattle.vb_base.specs.declared.places.Pos.{Pos}
-use Rattle.vb_base.specs.Place.{IsPlace}
 use Rattle.grammar.specs.Whole as grammar
 use Rattle.grammar.specs.declared.stop.Stop.{Stop}
 use Rattle.boogie_grammar.specs.declared.faults.BoogieFault.{BoogieFault}
-use Rattle.boogie_grammar.specs.declared.faults.BoogieFault.TheVariants as fault
 use Rattle.boogie_grammar.specs.declared.tokens.PlacedLexeme.{PlacedLexeme}
-use Rattle.boogie_grammar.specs.Faults.{place_at}
+use Rattle.boogie_text.specs.Texts.{ReadsTokens}
 use Rattle.boogie_wide.specs.View.{wprogram_of}
 use Rattle.boogie_wide.specs.declared.wide.WProc.{WProc}
 use Rattle.boogie_wide.specs.declared.wide.WProgram.{WProgram}
@@ -29,13 +27,5 @@ abbrev pub ReadsWhole : List PlacedLexeme → Result (Vec WProc Global) (Stop Pl
 ReadsWhole ts (Ok ps) = Reads _ (rule (Programs [])) ts (all_wprocs_of ps) []
 ReadsWhole ts (Err e) = RefusesWhole ts e
 
--- memory was refused, or the tokens spell no program, and go wrong at this place
-abbrev pub RefusesTokens : List PlacedLexeme → Pos → BoogieFault → Type 0
-RefusesTokens ts end fault.Memory = Unit {0}
-RefusesTokens ts end (fault.Syntax at) = (SpellsWideProgram ts → ⊥) × ((i : ℕ) × IsPlace SpellsWideProgram ts i × (at ≡ place_at ts i end))
-RefusesTokens ts end (fault.Prelude at) = ⊥
-RefusesTokens ts end (fault.Deep at) = ⊥
-
 abbrev pub ReadsProgram : List PlacedLexeme → Pos → Result WProgram BoogieFault → Type 0
-ReadsProgram ts end (Ok p) = Spells ts (wprogram_of p)
-ReadsProgram ts end (Err e) = RefusesTokens ts end e
+ReadsProgram ts end result = ReadsTokens (λ us p. Spells us (wprogram_of p)) SpellsWideProgram ts end result

@@ -8,13 +8,11 @@ ghost use Rattle.wide_text.specs.ClauseView.{ReadsBound, contract_of, adding, Re
 ghost use Rattle.wide_text.specs.Greedy.{Parses};
 
 use crate::parts::{mark, whole_expr};
-use crate::reserved::Reserved;
+use crate::reserved::Within;
 use crate::words::{WideWord, eat_wide};
-use boogie_grammar::eating::{Read, eat_sign, sign};
-use boogie_grammar::scopes::Names;
+use boogie_grammar::eating::{Read, eat_sign, need_sign};
 use boogie_grammar::{BSign, Lexeme, PlacedLexeme};
 use boogie_wide::Clause;
-use std::alloc::Global;
 use vb_base::{Ident, Memory, pushed};
 
 /// The name that a token is, where it stands before a `:`.
@@ -58,18 +56,16 @@ fn push_bound(bound: &mut Vec<Ident>, tokens: &[PlacedLexeme]) -> Result<(), Mem
 
 /// A label and `bexpr ";"`. The names that the expression binds come behind these.
 fn bound_clause<'a>(
-    alloc: Global,
-    locals: &Names,
-    words: &Reserved,
+    within: Within<'_>,
     bound: &mut Vec<Ident>,
     tokens: &'a [PlacedLexeme],
 ) -> Read<'a, Clause>
     ensures shorter { IfOk result (λ r. length r.1.now < length tokens.now) }
-    ensures reads { ReadsBound locals.now bound.old.items bound.new.items tokens.now result }
+    ensures reads { ReadsBound within.entry.locals.now bound.old.items bound.new.items tokens.now result }
 {
     let (label, rest) = mark(tokens)?;
-    let (e, left) = whole_expr(alloc, locals, words, rest)?;
-    let (_, after) = sign(BSign::Semicolon, left)?;
+    let (e, left) = whole_expr(within, rest)?;
+    let (_, after) = need_sign(BSign::Semicolon, left)?;
     push_bound(bound, &rest[..rest.len() - left.len()])?;
     Ok((Clause { label, e }, after))
 }
@@ -122,23 +118,21 @@ fn with_clause(all: Clauses, kind: ClauseKind, clause: Clause) -> Result<Clauses
 
 /// The clauses of a procedure. The names that they bind come into the empty list.
 pub(crate) fn read_clauses<'a>(
-    alloc: Global,
-    locals: &Names,
-    words: &Reserved,
+    within: Within<'_>,
     bound: &mut Vec<Ident>,
     tokens: &'a [PlacedLexeme],
 ) -> Read<'a, Clauses>
     requires { bound.now.items ≡ [] }
     ensures shorter { IfOk result (λ r. length r.1.now ≤ length tokens.now) }
-    ensures reads { Parses (contract_of bound.new.items) (g.rule (g.Clauses locals.now no_clauses)) tokens.now result }
+    ensures reads { Parses (contract_of bound.new.items) (g.rule (g.Clauses within.entry.locals.now no_clauses)) tokens.now result }
 {
     let mut all = Clauses {
-        preconditions: Vec::new(alloc),
-        postconditions: Vec::new(alloc),
+        preconditions: Vec::new(within.alloc),
+        postconditions: Vec::new(within.alloc),
     };
     let mut rest = tokens;
     while let Some((kind, after)) = eat_kind(rest) {
-        let (clause, after) = bound_clause(alloc, locals, words, bound, after)?;
+        let (clause, after) = bound_clause(within, bound, after)?;
         all = with_clause(all, kind, clause)?;
         rest = after;
     }

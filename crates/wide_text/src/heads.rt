@@ -9,7 +9,7 @@ ghost use Rattle.wide_text.specs.Heads.{AreNames, ReadsHead};
 
 use crate::reserved::{Reserved, new_name, newer_name};
 use crate::words::{WideWord, eat_wide};
-use boogie_grammar::eating::{Read, base, eat_sign, eat_word, sign};
+use boogie_grammar::eating::{Read, eat_sign, eat_word, need_base, need_sign};
 use boogie_grammar::scopes::Names;
 use boogie_grammar::{BSign, PlacedLexeme, Word};
 use boogie_text::type_of;
@@ -67,14 +67,14 @@ fn more_params<'a>(
     let mut rest = tokens;
     loop {
         let (name, after) = new_name(alloc, names, words, rest)?;
-        let (_, after) = sign(BSign::Colon, after)?;
-        let (base, after) = base(after)?;
+        let (_, after) = need_sign(BSign::Colon, after)?;
+        let (base, after) = need_base(after)?;
         names.add(name.copy()?)?;
         let keys = Vec::new(alloc);
         let ty = BType { keys, base };
         all = pushed(all, Local { name, ty })?;
         let Some(more) = eat_sign(BSign::Comma, after) else {
-            let (_, end) = sign(BSign::CloseParen, after)?;
+            let (_, end) = need_sign(BSign::CloseParen, after)?;
             return Ok((all, end));
         };
         rest = more;
@@ -112,7 +112,7 @@ pub(crate) fn read_head<'a>(
     ensures names { IfOk result (λ r. AreNames names.new (locals_of r.0.locals.items)) }
     ensures reads { ReadsHead tokens.now result }
 {
-    let (_, rest) = sign(BSign::OpenParen, tokens)?;
+    let (_, rest) = need_sign(BSign::OpenParen, tokens)?;
     let (locals, rest) = parameters(alloc, names, words, rest)?;
     let params = locals.len();
     let Some(after) = eat_wide(WideWord::Returns, rest) else {
@@ -125,7 +125,7 @@ pub(crate) fn read_head<'a>(
             rest,
         ));
     };
-    let (_, after) = sign(BSign::OpenParen, after)?;
+    let (_, after) = need_sign(BSign::OpenParen, after)?;
     let (all, rest) = more_params(alloc, names, words, locals, after)?;
     Ok((
         Head {
@@ -157,9 +157,9 @@ pub(crate) fn vars<'a>(
     let mut rest = tokens;
     while let Some(after) = eat_word(Word::Var, rest) {
         let (name, after) = newer_name(names, &others, words, after)?;
-        let (_, after) = sign(BSign::Colon, after)?;
+        let (_, after) = need_sign(BSign::Colon, after)?;
         let (ty, after) = type_of(alloc, after)?;
-        let (_, after) = sign(BSign::Semicolon, after)?;
+        let (_, after) = need_sign(BSign::Semicolon, after)?;
         names.add(name.copy()?)?;
         all = pushed(all, Local { name, ty })?;
         rest = after;

@@ -4,7 +4,7 @@ ghost use Rattle.vb_base.specs.Limits.{max_boogie_bytes};
 ghost use Rattle.boogie_grammar.specs.Depth.{IsShallow};
 ghost use Rattle.boogie_grammar.specs.declared.faults.BoogieFault.{BoogieFault};
 ghost use Rattle.boogie_grammar.specs.declared.tokens.PlacedLexeme.{PlacedLexeme};
-ghost use Rattle.boogie_text.specs.Printable.{IsFreeName};
+ghost use Rattle.boogie_print.specs.Printable.{IsFreeName};
 ghost use Rattle.boogie_wide.specs.Wide as w;
 ghost use Rattle.boogie_wide.specs.Conditions.{HasNames, NamesAreApart, ProcLiteralsFit};
 ghost use Rattle.wide_text.specs.Answers.{IsWideRead};

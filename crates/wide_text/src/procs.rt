@@ -12,9 +12,9 @@ ghost use Rattle.wide_text.specs.View.{all_wprocs_of};
 
 use crate::bound::{Clauses, read_clauses};
 use crate::heads::{read_head, vars};
-use crate::reserved::{Reserved, new_name};
+use crate::reserved::{Reserved, Within, new_name};
 use crate::stmts::statements;
-use boogie_grammar::eating::{Read, eat_sign, eat_word, sign};
+use boogie_grammar::eating::{Read, eat_sign, eat_word, need_sign};
 use boogie_grammar::scopes::Names;
 use boogie_grammar::{BSign, PlacedLexeme, Word};
 use boogie_tree::Local;
@@ -45,7 +45,12 @@ fn read_contents<'a>(
 {
     let mut bound = Vec::new(alloc);
     if let Some(rest) = eat_sign(BSign::Semicolon, tokens) {
-        let (contract, rest) = read_clauses(alloc, names, words, &mut bound, rest)?;
+        let within = Within {
+            alloc,
+            locals: names,
+            words,
+        };
+        let (contract, rest) = read_clauses(within, &mut bound, rest)?;
         return Ok((
             Contents {
                 locals: head,
@@ -55,10 +60,20 @@ fn read_contents<'a>(
             rest,
         ));
     }
-    let (contract, rest) = read_clauses(alloc, names, words, &mut bound, tokens)?;
-    let (_, rest) = sign(BSign::OpenBrace, rest)?;
+    let within = Within {
+        alloc,
+        locals: names,
+        words,
+    };
+    let (contract, rest) = read_clauses(within, &mut bound, tokens)?;
+    let (_, rest) = need_sign(BSign::OpenBrace, rest)?;
     let (locals, rest) = vars(alloc, names, words, &bound, head, rest)?;
-    let (body, rest) = statements(alloc, names, words, rest)?;
+    let within = Within {
+        alloc,
+        locals: names,
+        words,
+    };
+    let (body, rest) = statements(within, rest)?;
     Ok((
         Contents {
             locals,

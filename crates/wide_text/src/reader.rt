@@ -1,21 +1,20 @@
 // A program from its bytes.
-ghost use Rattle.std.specs.Prelude.{◌≤◌, ◌++◌, length, IfErr, IfOk, MatchResult};
+ghost use Rattle.std.specs.Prelude.{◌≤◌, length, IfErr, IfOk, MatchResult};
 ghost use Rattle.vb_base.specs.Limits.{max_boogie_bytes};
-ghost use Rattle.boogie_tree.specs.Text.{prelude};
 ghost use Rattle.boogie_grammar.specs.declared.faults.BoogieFault.{BoogieFault};
-ghost use Rattle.boogie_text.specs.Answers.{UnlessMemory};
+ghost use Rattle.boogie_text.specs.Answers.{UnlessMemory, GivesFault};
 ghost use Rattle.boogie_wide.specs.View.{wprogram_of};
 ghost use Rattle.boogie_wide.specs.Wide as w;
 ghost use Rattle.wide_grammar.specs.Spells.{WideSpells};
-ghost use Rattle.wide_text.specs.Answers.{IsWideRead, GivesProgram, GivesFault};
+ghost use Rattle.wide_text.specs.Answers.{IsWideRead, GivesProgram};
 ghost use Rattle.wide_text.specs.Faults.{IsWideFault};
 
 use crate::program::program;
-use boogie_grammar::{BoogieFault, after_prelude, cut, first_too_deep};
-use boogie_text::end_after;
-use boogie_tree::PRELUDE;
+use boogie_grammar::BoogieFault;
+use boogie_text::texts::placed_tokens;
 use boogie_wide::WProgram;
 use std::alloc::Global;
+use vb_base::place_after;
 
 /// The program with loops, calls and contracts that these bytes spell, or the first reason for which they are refused.
 ///
@@ -39,20 +38,6 @@ fn read_text(alloc: Global, bytes: &[u8]) -> Result<WProgram, BoogieFault>
     requires { length bytes.now ≤ max_boogie_bytes }
     ensures { MatchResult result (λ b. IsWideRead bytes.now (wprogram_of b)) (UnlessMemory (IsWideFault bytes.now)) }
 {
-    match after_prelude(bytes) {
-        Ok(rest) => read_rest(alloc, rest),
-        Err(at) => Err(BoogieFault::Prelude(at)),
-    }
-}
-
-/// The program that the prelude and these bytes spell.
-fn read_rest(alloc: Global, rest: &[u8]) -> Result<WProgram, BoogieFault>
-    requires { length rest.now ≤ max_boogie_bytes }
-    ensures { MatchResult result (λ b. IsWideRead (prelude ++ rest.now) (wprogram_of b)) (UnlessMemory (IsWideFault (prelude ++ rest.now))) }
-{
-    let tokens = cut(alloc, PRELUDE, rest)?;
-    if let Some(at) = first_too_deep(&tokens) {
-        return Err(BoogieFault::Deep(at));
-    }
-    program(alloc, &tokens, end_after(rest))
+    let tokens = placed_tokens(alloc, bytes)?;
+    program(alloc, &tokens, place_after(bytes))
 }

@@ -49,6 +49,15 @@ impl Reserved {
     }
 }
 
+/// What the parts of a procedure are read with.
+#[derive(Clone, Copy)]
+pub(crate) struct Within<'a> {
+    pub(crate) alloc: Global,
+    /// The variables that can be named.
+    pub(crate) locals: &'a Names,
+    pub(crate) words: &'a Reserved,
+}
+
 /// One word more, which is none of these names.
 fn add_word(alloc: Global, names: &mut Names, word: WideWord) -> Result<(), Memory>
     requires { is_among (spelled_as word) names.now ≡ false }

@@ -1,5 +1,6 @@
 use Rattle.std.proofs.Common.{◌≡◌, refl, arith, take, ◌+◌}
-use Rattle.boogie_grammar.proofs.DepthLaws.{item_at, unclosed_more, one_more_front}
+use Rattle.lemmas.proofs.Lists.{item_at}
+use Rattle.boogie_grammar.proofs.DepthLaws.{unclosed_more, one_more_front}
 use Rattle.boogie_grammar.specs.Depth.{unclosed}
 use Rattle.boogie_grammar.proofs.depth.first_too_deep.Goals as goal
 

@@ -1,12 +1,12 @@
 use Rattle.std.proofs.Common.{◌≡◌, ap, arith}
 use Rattle.boogie_tree.specs.Expr as t
 use Rattle.boogie_grammar.specs.Grammar as g
-use Rattle.boogie_grammar.proofs.Reading.{start, by_token, by_other, whole}
-use Rattle.boogie_grammar.proofs.Steps.{whole_as}
+use Rattle.boogie_grammar.proofs.Reading.{boogie_steps}
 use Rattle.std.proofs.lemmas.Int.{to_z-of_z}
 use mir.Val.{to_z, of_z}
 use mir.Syntax.{w128}
 use Rattle.boogie_grammar.proofs.leaves.eat_leaf.Goals as goal
+open boogie_steps use {start, by_token, by_other, whole, whole_as}
 
 pub returns-in-Some-clause-eats : goal.returns-in-Some-clause-eats
 returns-in-Some-clause-eats c others =

@@ -1,6 +1,7 @@
 use Rattle.boogie_grammar.specs.Grammar as g
-use Rattle.boogie_grammar.proofs.Reading.{start, by_token, by_other}
+use Rattle.boogie_grammar.proofs.Reading.{boogie_steps}
 use Rattle.boogie_grammar.proofs.leaves.eat_wrap.Goals as goal
+open boogie_steps use {start, by_token, by_other}
 
 pub returns-in-Some-clause-eats : goal.returns-in-Some-clause-eats
 returns-in-Some-clause-eats c x others = by_token c.in-Some.ensures.eats (start (g.wraps x others) c.args.tokens.now)

@@ -4,7 +4,7 @@ use Rattle.sparse.specs.Map.{empty}
 use Rattle.boogie_tree.specs.Whole.{entry_of}
 use Rattle.boogie_meaning.specs.Run.{filled}
 use Rattle.boogie_tree.specs.Values.{default_of}
-use Rattle.boogie_run.specs.View.{map_of}
+use Rattle.boogie_eval.specs.View.{map_of}
 use Rattle.boogie_run.proofs.replay_choices.filled.Given as goal
 
 abbrev pub invariant-loop-entry : goal.invariant-loop-entry

@@ -7,12 +7,13 @@ use Rattle.boogie_meaning.specs.Operators.{as_truth}
 use Rattle.boogie_meaning.specs.Quantified.{bvalue}
 use Rattle.boogie_meaning.specs.Run.{brun, brun_stmt}
 use Rattle.boogie_run.specs.Runs.{done}
-use Rattle.boogie_run.specs.Typed.{types_in}
-use Rattle.boogie_run.specs.View.{environment_of, left_in, values_of}
-use Rattle.boogie_run.specs.Within.{IsWithinStmt}
-use Rattle.boogie_run.proofs.AnswerLaws.{same_answers, answer_is}
+use Rattle.boogie_types.specs.Typed.{types_in}
+use Rattle.boogie_eval.specs.View.{values_of}
+use Rattle.boogie_run.specs.View.{environment_of, left_in}
+use Rattle.boogie_eval.specs.Within.{IsWithinStmt}
+use Rattle.boogie_eval.proofs.AnswerLaws.{same_answers, answer_is}
 use Rattle.boogie_run.proofs.BlockLaws.{block_goes, block_stops, block_ends}
-use Rattle.boogie_run.proofs.NodeLaws.{put_is, if_stmt_is, either_is}
+use Rattle.boogie_meaning.proofs.NodeLaws.{put_is, if_stmt_is, either_is}
 use Rattle.boogie_run.proofs.RunStepLaws.{same_run, run_passed, end_goes, take_goes, take_is}
 use Rattle.boogie_run.proofs.RunWithinLaws.{stays_ready, stmt_keeps, take_ready, statement_within}
 use Rattle.boogie_run.proofs.replay_runs.+running.Goals as goal

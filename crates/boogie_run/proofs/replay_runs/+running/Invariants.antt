@@ -4,7 +4,7 @@ use Rattle.vb_value.specs.Bound.{Bounded}
 use Rattle.boogie_tree.specs.Whole.{stmts_of}
 use Rattle.boogie_meaning.specs.Run.{brun}
 use Rattle.boogie_run.specs.Ready.{IsReady}
-use Rattle.boogie_run.specs.Typed.{types_in}
+use Rattle.boogie_types.specs.Typed.{types_in}
 use Rattle.boogie_run.specs.View.{environment_of, left_in}
 use Rattle.boogie_run.proofs.replay_runs.+running.Given as goal
 

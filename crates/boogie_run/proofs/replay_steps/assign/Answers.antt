@@ -4,8 +4,9 @@ use Rattle.boogie_tree.specs.Whole.{expr_of}
 use Rattle.boogie_meaning.specs.Quantified.{side}
 use Rattle.boogie_meaning.specs.Run.{Done}
 use Rattle.boogie_run.specs.Runs.{done}
-use Rattle.boogie_run.specs.View.{environment_of, values_of}
-use Rattle.boogie_run.proofs.AnswerLaws.{same_answers}
+use Rattle.boogie_eval.specs.View.{values_of}
+use Rattle.boogie_run.specs.View.{environment_of}
+use Rattle.boogie_eval.proofs.AnswerLaws.{same_answers}
 use Rattle.boogie_run.proofs.RunStepLaws.{run_passed, end_goes, end_stops}
 use Rattle.boogie_run.proofs.replay_steps.assign.Goals as goal
 

@@ -4,7 +4,7 @@ use Rattle.boogie_meaning.specs.Ends.{found}
 use Rattle.boogie_meaning.specs.Run.{Done, with_end, with_choice, chosen}
 use Rattle.boogie_run.specs.Runs.{stops}
 use Rattle.boogie_run.specs.View.{environment_of, left_in}
-use Rattle.boogie_run.proofs.LookupLaws.{past_end}
+use Rattle.boogie_eval.proofs.LookupLaws.{past_end}
 use Rattle.boogie_run.proofs.replay_steps.havoc.Goals as goal
 
 pub returns-in-None : goal.returns-in-None

@@ -4,8 +4,9 @@ use Rattle.boogie_tree.specs.Whole.{scalar_of}
 use Rattle.boogie_meaning.specs.Run.{Done, put_value}
 use Rattle.boogie_meaning.specs.Value.{the_map}
 use Rattle.boogie_run.specs.Runs.{done}
-use Rattle.boogie_run.specs.View.{environment_of, values_of}
-use Rattle.boogie_run.proofs.AnswerLaws.{same_answers}
+use Rattle.boogie_eval.specs.View.{values_of}
+use Rattle.boogie_run.specs.View.{environment_of}
+use Rattle.boogie_eval.proofs.AnswerLaws.{same_answers}
 use Rattle.boogie_run.proofs.RunStepLaws.{end_goes}
 use Rattle.boogie_run.proofs.replay_steps.put_value.Goals as goal
 

@@ -1,8 +1,9 @@
-use Rattle.boogie_run.proofs.MapLaws.{clones, set_is}
+use Rattle.boogie_eval.proofs.MapLaws.{clones, set_is}
+use Rattle.boogie_run.proofs.CopyLaws.{kept_on}
 use Rattle.boogie_run.proofs.replay_values.set_at.Goals as goal
 
 pub set-requires : goal.set-requires
 set-requires c = clones (λ k q h. h) (λ v w h. h)
 
-pub returns-in-Ok : goal.returns-in-Ok
-returns-in-Ok c = set_is c.args.map.now c.set.new.self c.args.key c.args.value c.in-Ok.ensures.changed
+pub returns : goal.returns
+returns c = kept_on _ c.set.result c.map_err.result c.map_err.ensures.cases c.set.ensures.changed (set_is c.args.map.now c.set.new.self c.args.key c.args.value)

@@ -1,9 +1,9 @@
 use Rattle.std.proofs.Common.{◌++◌, arith}
 use Rattle.boogie_grammar.specs.ReadView.{scope_of, binding_of}
-use Rattle.boogie_grammar.proofs.Reading.{by_need, by_token, by_other}
-use Rattle.boogie_grammar.proofs.Steps.{token_error, tail, whole_as}
+use Rattle.boogie_grammar.proofs.Reading.{boogie_steps}
 use Rattle.boogie_grammar.proofs.BoundLaws.{not_bound, bound_as, bound_more, none_bound}
 use Rattle.boogie_text.proofs.bounds.binders.Goals as goal
+open boogie_steps use {by_need, by_token, by_other, token_error, tail, whole_as}
 
 pub loop-name-init : goal.loop-name-init
 loop-name-init c = record { shorter = omega arith; goes = none_bound (scope_of c.args.scope) c.requires c.new-types.ensures.items }

@@ -1,9 +1,9 @@
 use Rattle.std.proofs.Common.{sym, arith}
 use Rattle.boogie_grammar.specs.Grammar as g
-use Rattle.boogie_grammar.proofs.Reading.{start, by_need, whole}
-use Rattle.boogie_grammar.proofs.Steps.{token_error, tail, goes_by}
+use Rattle.boogie_grammar.proofs.Reading.{boogie_steps}
 use Rattle.boogie_grammar.proofs.BoundLaws.{rest_of}
 use Rattle.boogie_text.proofs.bounds.bound_rest.Goals as goal
+open boogie_steps use {start, by_need, whole, token_error, tail, goes_by}
 
 pub loop-name-init : goal.loop-name-init
 loop-name-init c = record { shorter = omega arith; goes = start (g.rule (g.BoundRest c.args.names.now)) c.args.tokens.now }

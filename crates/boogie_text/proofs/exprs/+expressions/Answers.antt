@@ -3,12 +3,13 @@ use Rattle.boogie_tree.specs.Whole.{expr_of}
 use Rattle.boogie_grammar.specs.Tests as v
 use Rattle.boogie_grammar.specs.Grammar as g
 use Rattle.boogie_grammar.specs.ReadView.{scope_of, boxed_of, all_exprs_of, wrap_of, closing, chosen, quantifying}
-use Rattle.boogie_grammar.proofs.Reading.{start, by_need, by_token, by_other, by_part, whole}
-use Rattle.boogie_grammar.proofs.Steps.{token_error, part_error, tail, pass_on, whole_as, goes_at, goes_then, pushed_first, pushed_more, symbol_at, symbol_refuses_at}
+use Rattle.boogie_grammar.proofs.Reading.{boogie_steps}
+use Rattle.grammar.proofs.Pushed.{pushed_first, pushed_more}
 use Rattle.boogie_grammar.proofs.EatLaws.{by_variable, by_no_variable}
 use Rattle.boogie_text.proofs.ExprLaws.{at_pair, one_leaf, no_leaf, no_wrap}
 use Rattle.grammar.proofs.LessLaws.{less, less_on, at_most_on, no_more_on}
 use Rattle.boogie_text.proofs.exprs.+expressions.Goals as goal
+open boogie_steps use {start, by_need, by_token, by_other, by_part, whole, token_error, part_error, tail, pass_on, whole_as, goes_at, goes_then, symbol_at, symbol_refuses_at}
 
 pub expr-returns-in-Some-clause-reads : goal.expr-returns-in-Some-clause-reads
 expr-returns-in-Some-clause-reads t c =

@@ -1,7 +1,7 @@
-use Rattle.boogie_grammar.proofs.Reading.{start, by_need, by_part, whole}
-use Rattle.boogie_grammar.proofs.Steps.{token_error, part_error}
+use Rattle.boogie_grammar.proofs.Reading.{boogie_steps}
 use Rattle.boogie_text.specs.Tail.{declaring, one_local}
 use Rattle.boogie_text.proofs.inside.declaration.Goals as goal
+open boogie_steps use {start, by_need, by_part, whole, token_error, part_error}
 
 pub returns-in_err-name-clause-reads : goal.returns-in_err-name-clause-reads
 returns-in_err-name-clause-reads c = token_error one_local _ _ c.from_residual.ensures.1 (start (declaring c.args.names.now) c.args.tokens.now) c.in_err-name.ensures.takes

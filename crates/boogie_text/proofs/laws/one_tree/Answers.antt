@@ -1,4 +1,4 @@
-use Rattle.boogie_text.proofs.Parsed.{one_tree}
+use Rattle.boogie_print.proofs.Parsed.{one_tree}
 use Rattle.boogie_text.proofs.laws.one_tree.Goals as goal
 
 pub returns : goal.returns

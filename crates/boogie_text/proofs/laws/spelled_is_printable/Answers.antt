@@ -1,4 +1,4 @@
-use Rattle.boogie_text.proofs.SpelledLaws.{spelled_printable}
+use Rattle.boogie_print.proofs.SpelledLaws.{spelled_printable}
 use Rattle.boogie_text.proofs.laws.spelled_is_printable.Goals as goal
 
 pub returns : goal.returns

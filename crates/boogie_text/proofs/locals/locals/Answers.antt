@@ -10,9 +10,10 @@ use Rattle.boogie_grammar.specs.Grammar as g
 use Rattle.boogie_grammar.specs.Grammar.{local_names}
 use Rattle.boogie_grammar.specs.Greedy.{Starts, Misses}
 use Rattle.boogie_grammar.specs.ReadView.{all_locals_of}
-use Rattle.boogie_grammar.proofs.Reading.{by_need, by_token, by_other, by_part, whole}
-use Rattle.boogie_grammar.proofs.Steps.{token_error, part_error, tail, goes_at, pushed_more}
+use Rattle.boogie_grammar.proofs.Reading.{boogie_steps}
+use Rattle.grammar.proofs.Pushed.{pushed_more}
 use Rattle.boogie_text.proofs.locals.locals.Goals as goal
+open boogie_steps use {by_need, by_token, by_other, by_part, whole, token_error, part_error, tail, goes_at}
 
 named_at : {x y : List (List ℕ)} {ts us : List PlacedLexeme} {n : List ℕ} → x ≡ y → Starts (a_new_name x) ts n us → Starts (a_new_name y) ts n us
 named_at {ts = ts} {us = us} {n = n} e h = subst (λ z. Starts (a_new_name z) ts n us) e h

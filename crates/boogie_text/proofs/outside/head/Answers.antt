@@ -1,7 +1,7 @@
-use Rattle.boogie_grammar.proofs.Reading.{start, by_need, whole}
-use Rattle.boogie_grammar.proofs.Steps.{token_error}
+use Rattle.boogie_grammar.proofs.Reading.{boogie_steps}
 use Rattle.boogie_text.specs.Tail.{heading}
 use Rattle.boogie_text.proofs.outside.head.Goals as goal
+open boogie_steps use {start, by_need, whole, token_error}
 
 pub returns-in_err-name-clause-reads : goal.returns-in_err-name-clause-reads
 returns-in_err-name-clause-reads c = token_error (λ x. x) _ _ c.from_residual.ensures.1 (start (heading c.args.taken.now) c.args.tokens.now) c.in_err-name.ensures.takes

@@ -1,11 +1,11 @@
 use Rattle.std.proofs.Common.{[]}
 use Rattle.boogie_tree.specs.Whole.{proc_of, locals_of}
 use Rattle.boogie_grammar.specs.Grammar as g
-use Rattle.boogie_grammar.proofs.Reading.{start, by_need, by_part}
-use Rattle.boogie_grammar.proofs.Steps.{token_error, part_error, whole_as, symbol_at, symbol_refuses_at}
+use Rattle.boogie_grammar.proofs.Reading.{boogie_steps}
 use Rattle.boogie_text.proofs.ProcLaws.{procedure_is}
 use Rattle.grammar.proofs.LessLaws.{less, less_end}
 use Rattle.boogie_text.proofs.procs.procedure.Goals as goal
+open boogie_steps use {start, by_need, by_part, token_error, part_error, whole_as, symbol_at, symbol_refuses_at}
 
 pub returns-in_err-name-clause-reads : goal.returns-in_err-name-clause-reads
 returns-in_err-name-clause-reads c =

@@ -3,11 +3,12 @@ use Rattle.boogie_tree.specs.Whole.{proc_of}
 use Rattle.boogie_grammar.specs.Words.{is_among}
 use Rattle.boogie_grammar.specs.Tests as v
 use Rattle.boogie_grammar.specs.Grammar as g
-use Rattle.boogie_grammar.proofs.Reading.{by_token, by_other, by_part, whole}
-use Rattle.boogie_grammar.proofs.Steps.{part_error, tail, goes_at, pushed_more, symbol_at, symbol_refuses_at}
+use Rattle.boogie_grammar.proofs.Reading.{boogie_steps}
+use Rattle.grammar.proofs.Pushed.{pushed_more}
 use Rattle.boogie_text.specs.StmtView.{all_procs_of}
 use Rattle.boogie_text.proofs.ProcLaws.{one_more_proc}
 use Rattle.boogie_text.proofs.procs.procedures.Goals as goal
+open boogie_steps use {by_token, by_other, by_part, whole, part_error, tail, goes_at, symbol_at, symbol_refuses_at}
 
 pub returns-in_err-next : goal.returns-in_err-next
 returns-in_err-next c =

@@ -1,5 +1,6 @@
 use Rattle.std.proofs.Common.{sym, subst}
-use Rattle.boogie_text.specs.Whole.{RefusesTokens}
+use Rattle.boogie_grammar.specs.Spells.{IsProgram}
+use Rattle.boogie_text.specs.Texts.{RefusesTokens}
 use Rattle.boogie_text.proofs.Whole.{spelled, refuses_there}
 use Rattle.boogie_text.proofs.program.program.Goals as goal
 
@@ -7,4 +8,4 @@ pub returns-in-Ok : goal.returns-in-Ok
 returns-in-Ok c = spelled c.in-Ok.ensures
 
 pub returns-in-Err : goal.returns-in-Err
-returns-in-Err c = subst (λ f. RefusesTokens c.args.tokens.now c.args.end f) (sym c.fault.ensures) (refuses_there c.args.tokens.now c.args.end c.in-Err.stop c.in-Err.ensures)
+returns-in-Err c = subst (λ f. RefusesTokens IsProgram c.args.tokens.now c.args.end f) (sym c.fault.ensures) (refuses_there c.args.tokens.now c.args.end c.in-Err.stop c.in-Err.ensures)

@@ -1,5 +1,18 @@
-use Rattle.boogie_grammar.specs.Faults.{no_prelude}
+use Rattle.std.proofs.Common.{subst}
+use Rattle.boogie_tree.specs.Whole.{program_of}
+use Rattle.boogie_grammar.specs.Faults.{IsFault}
+use Rattle.boogie_print.specs.Read.{IsRead}
+use Rattle.boogie_text.specs.Whole.{ReadsProgram}
+use Rattle.boogie_text.proofs.ReadLaws.{reads_text, tokens_refused}
+use Rattle.boogie_text.proofs.TextLaws.{same_refusal}
 use Rattle.boogie_text.proofs.reader.read_text.Goals as goal
 
-pub returns-in-Err : goal.returns-in-Err
-returns-in-Err c = let h = c.in-Err.ensures in no_prelude h.1 h.2
+pub returns-in_err-tokens : goal.returns-in_err-tokens
+returns-in_err-tokens c =
+    same_refusal (λ b. IsRead c.args.bytes.now (program_of b)) (IsFault c.args.bytes.now) _ c.from_residual.result c.from_residual.ensures.1
+    (tokens_refused c.args.bytes.now _ c.in_err-tokens.ensures)
+
+pub returns : goal.returns
+returns c =
+    reads_text c.program.result c.in_ok-tokens.ensures c.place_after.ensures
+    (subst (λ ts. ReadsProgram ts c.place_after.result c.program.result) c.deref.ensures.value c.program.ensures)

@@ -1,9 +1,9 @@
 use Rattle.boogie_tree.specs.Whole.{stmt_of}
-use Rattle.boogie_grammar.proofs.Reading.{start, by_need, by_part, whole}
-use Rattle.boogie_grammar.proofs.Steps.{token_error, part_error}
+use Rattle.boogie_grammar.proofs.Reading.{boogie_steps}
 use Rattle.boogie_text.specs.StmtView.{asserting}
 use Rattle.grammar.proofs.LessLaws.{less}
 use Rattle.boogie_text.proofs.simple.assertion.Goals as goal
+open boogie_steps use {start, by_need, by_part, whole, token_error, part_error}
 
 pub returns-in_err-rest-clause-reads : goal.returns-in_err-rest-clause-reads
 returns-in_err-rest-clause-reads c =

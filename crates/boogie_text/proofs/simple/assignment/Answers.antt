@@ -1,10 +1,10 @@
 use Rattle.boogie_tree.specs.Whole.{stmt_of}
 use Rattle.boogie_grammar.specs.Grammar as g
-use Rattle.boogie_grammar.proofs.Reading.{start, by_need, by_token, by_other, by_part, whole}
-use Rattle.boogie_grammar.proofs.Steps.{token_error, part_error, whole_as}
+use Rattle.boogie_grammar.proofs.Reading.{boogie_steps}
 use Rattle.boogie_text.proofs.StmtLaws.{stmt_of-Put}
 use Rattle.grammar.proofs.LessLaws.{less}
 use Rattle.boogie_text.proofs.simple.assignment.Goals as goal
+open boogie_steps use {start, by_need, by_token, by_other, by_part, whole, token_error, part_error, whole_as}
 
 pub returns-in_err-indices-clause-reads : goal.returns-in_err-indices-clause-reads
 returns-in_err-indices-clause-reads c =

@@ -1,9 +1,10 @@
 use Rattle.std.proofs.Common.{ap}
 use Rattle.boogie_tree.specs.Whole.{expr_of}
 use Rattle.boogie_grammar.specs.Grammar as g
-use Rattle.boogie_grammar.proofs.Steps.{error_as, symbol_at, symbol_refuses_at}
+use Rattle.boogie_grammar.proofs.Reading.{boogie_steps}
 use Rattle.boogie_text.proofs.StmtLaws.{read_as, outside_is}
 use Rattle.boogie_text.proofs.simple.whole_expr.Goals as goal
+open boogie_steps use {error_as, symbol_at, symbol_refuses_at}
 
 pub returns-in_err-inner-clause-reads : goal.returns-in_err-inner-clause-reads
 returns-in_err-inner-clause-reads c =

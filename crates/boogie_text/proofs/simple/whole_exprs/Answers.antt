@@ -1,8 +1,9 @@
 use Rattle.boogie_grammar.specs.Grammar as g
 use Rattle.boogie_grammar.specs.ReadView.{all_exprs_of}
-use Rattle.boogie_grammar.proofs.Steps.{parses_at}
+use Rattle.boogie_grammar.proofs.Reading.{boogie_steps}
 use Rattle.boogie_text.proofs.StmtLaws.{outside_is}
 use Rattle.boogie_text.proofs.simple.whole_exprs.Goals as goal
+open boogie_steps use {parses_at}
 
 pub returns-clause-reads : goal.returns-clause-reads
 returns-clause-reads c =

@@ -3,12 +3,14 @@ use Rattle.boogie_tree.specs.Whole.{stmt_of, stmts_of}
 use Rattle.boogie_tree.proofs.WholeLaws.{stmt_of-If, stmt_of-Either, stmts_of-map}
 use Rattle.boogie_grammar.specs.Tests as v
 use Rattle.boogie_grammar.specs.Grammar as g
-use Rattle.boogie_grammar.proofs.Reading.{start, by_need, by_token, by_other, by_part, whole}
-use Rattle.boogie_grammar.proofs.Steps.{error_as, token_error, part_error, tail, pass_on, whole_as, goes_at, goes_then, pushed_more}
+use Rattle.boogie_grammar.proofs.Reading.{boogie_steps}
+use Rattle.grammar.proofs.Pushed.{pushed_more}
 use Rattle.boogie_grammar.proofs.EatLaws.{by_variable, by_no_variable}
+use Rattle.boogie_text.proofs.StmtLaws.{no_havoc, havoc_next, havoc_refuses}
 use Rattle.boogie_text.specs.StmtView.{all_stmts_of, block_of, unpicked, picked}
 use Rattle.grammar.proofs.LessLaws.{less, less_end, end_less, less_on, no_more_on}
 use Rattle.boogie_text.proofs.stmts.+blocks.Goals as goal
+open boogie_steps use {start, by_need, by_token, by_other, by_part, whole, error_as, token_error, part_error, tail, pass_on, whole_as, goes_at, goes_then}
 
 pub statements-loop-after-init : goal.statements-loop-after-init
 statements-loop-after-init t c =
@@ -36,23 +38,23 @@ statement-returns-in-Some-eat_word-clause-reads t c =
 
 pub statement-returns-in_err-i-clause-reads : goal.statement-returns-in_err-i-clause-reads
 statement-returns-in_err-i-clause-reads t c =
-    error_as stmt_of _ _ c.from_residual.ensures.1 (λ z f. (by_other c.in_default-eat_word.ensures.eats (by_other c.in_default.ensures.eats (start (g.rule (g.Statement c.args.locals.now)) c.args.tokens.now))).fails z f) c.in_err-i.ensures.eats
+    error_as stmt_of _ _ c.from_residual.ensures.1 (λ z f. (by_other c.in_default-eat_word.ensures.eats (by_other c.in_default.ensures.eats (start (g.rule (g.Statement c.args.locals.now)) c.args.tokens.now))).fails z f) (havoc_refuses c.args.locals.now _ _ c.in_err-i.ensures.eats)
 
 pub statement-returns-in_err-after-clause-reads : goal.statement-returns-in_err-after-clause-reads
 statement-returns-in_err-after-clause-reads t c =
-    token_error stmt_of _ _ c.from_residual-in_err-after.ensures.1 (goes_then (by_other c.in_default-eat_word.ensures.eats (by_other c.in_default.ensures.eats (start (g.rule (g.Statement c.args.locals.now)) c.args.tokens.now))) (rw c.in-Some-2.is at c.in_ok-i.ensures.eats)) c.in_err-after.ensures.takes
+    token_error stmt_of _ _ c.from_residual-in_err-after.ensures.1 (goes_then (by_other c.in_default-eat_word.ensures.eats (by_other c.in_default.ensures.eats (start (g.rule (g.Statement c.args.locals.now)) c.args.tokens.now))) (havoc_next c.args.locals.now (rw c.in-Some-2.is at c.in_ok-i.ensures.eats))) c.in_err-after.ensures.takes
 
 pub statement-returns-in-Some-2-clause-reads : goal.statement-returns-in-Some-2-clause-reads
 statement-returns-in-Some-2-clause-reads t c =
-    whole (by_need c.in_ok-after.ensures.takes (goes_then (by_other c.in_default-eat_word.ensures.eats (by_other c.in_default.ensures.eats (start (g.rule (g.Statement c.args.locals.now)) c.args.tokens.now))) (rw c.in-Some-2.is at c.in_ok-i.ensures.eats)))
+    whole (by_need c.in_ok-after.ensures.takes (goes_then (by_other c.in_default-eat_word.ensures.eats (by_other c.in_default.ensures.eats (start (g.rule (g.Statement c.args.locals.now)) c.args.tokens.now))) (havoc_next c.args.locals.now (rw c.in-Some-2.is at c.in_ok-i.ensures.eats))))
 
 pub statement-returns-in-Some-eat_variable-clause-reads : goal.statement-returns-in-Some-eat_variable-clause-reads
 statement-returns-in-Some-eat_variable-clause-reads t c =
-    pass_on stmt_of _ (by_variable (λ i. g.assignment c.args.locals.now i) (g.conditional c.args.locals.now) {names = c.args.locals.now} c.in-Some-eat_variable.ensures.eats (goes_then (by_other c.in_default-eat_word.ensures.eats (by_other c.in_default.ensures.eats (start (g.rule (g.Statement c.args.locals.now)) c.args.tokens.now))) (rw c.in_default-2.is at c.in_ok-i.ensures.eats))) c.assignment.ensures.reads
+    pass_on stmt_of _ (by_variable (λ i. g.assignment c.args.locals.now i) (g.conditional c.args.locals.now) {names = c.args.locals.now} c.in-Some-eat_variable.ensures.eats (goes_then (by_other c.in_default-eat_word.ensures.eats (by_other c.in_default.ensures.eats (start (g.rule (g.Statement c.args.locals.now)) c.args.tokens.now))) (no_havoc c.args.locals.now (rw c.in_default-2.is at c.in_ok-i.ensures.eats)))) c.assignment.ensures.reads
 
 pub statement-returns-clause-reads : goal.statement-returns-clause-reads
 statement-returns-clause-reads t c =
-    pass_on stmt_of _ (by_no_variable (λ i. g.assignment c.args.locals.now i) (g.conditional c.args.locals.now) {names = c.args.locals.now} c.in_default-eat_variable.ensures.eats (goes_then (by_other c.in_default-eat_word.ensures.eats (by_other c.in_default.ensures.eats (start (g.rule (g.Statement c.args.locals.now)) c.args.tokens.now))) (rw c.in_default-2.is at c.in_ok-i.ensures.eats))) c.conditional.ensures.reads
+    pass_on stmt_of _ (by_no_variable (λ i. g.assignment c.args.locals.now i) (g.conditional c.args.locals.now) {names = c.args.locals.now} c.in_default-eat_variable.ensures.eats (goes_then (by_other c.in_default-eat_word.ensures.eats (by_other c.in_default.ensures.eats (start (g.rule (g.Statement c.args.locals.now)) c.args.tokens.now))) (no_havoc c.args.locals.now (rw c.in_default-2.is at c.in_ok-i.ensures.eats)))) c.conditional.ensures.reads
 
 pub conditional-returns-in_err-rest-clause-reads : goal.conditional-returns-in_err-rest-clause-reads
 conditional-returns-in_err-rest-clause-reads t c =

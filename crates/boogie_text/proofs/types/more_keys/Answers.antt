@@ -2,9 +2,9 @@ use Rattle.std.proofs.Common.{◌∙◌, ◌++◌, [], ◌∷◌, ap, arith}
 use Rattle.boogie_grammar.specs.Tests as v
 use Rattle.boogie_grammar.specs.Grammar as g
 use Rattle.boogie_grammar.specs.ReadView.{bases_of}
-use Rattle.boogie_grammar.proofs.Reading.{start, by_need, by_token, by_other, whole}
-use Rattle.boogie_grammar.proofs.Steps.{token_error, tail, goes_at}
+use Rattle.boogie_grammar.proofs.Reading.{boogie_steps}
 use Rattle.boogie_text.proofs.types.more_keys.Goals as goal
+open boogie_steps use {start, by_need, by_token, by_other, whole, token_error, tail, goes_at}
 
 pub loop-after-init : goal.loop-after-init
 loop-after-init c = record {

@@ -2,9 +2,9 @@ use Rattle.std.proofs.Common.{ap}
 use Rattle.boogie_tree.specs.Program as p
 use Rattle.boogie_tree.specs.Whole.{type_of}
 use Rattle.boogie_grammar.specs.Grammar as g
-use Rattle.boogie_grammar.proofs.Reading.{start, by_need, by_token, by_other, by_part, whole}
-use Rattle.boogie_grammar.proofs.Steps.{token_error, part_error, whole_as}
+use Rattle.boogie_grammar.proofs.Reading.{boogie_steps}
 use Rattle.boogie_text.proofs.types.type_of.Goals as goal
+open boogie_steps use {start, by_need, by_token, by_other, by_part, whole, token_error, part_error, whole_as}
 
 pub returns-in_err-base-clause-reads : goal.returns-in_err-base-clause-reads
 returns-in_err-base-clause-reads c = token_error type_of _ _ c.from_residual.ensures.1 (by_other c.in_default.ensures.eats (start (g.rule g.TypeOf) c.args.tokens.now)) c.in_err-base.ensures.takes

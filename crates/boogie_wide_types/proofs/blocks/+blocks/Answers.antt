@@ -1,8 +1,9 @@
 use Rattle.std.proofs.Common.{refl, sym, ap, ◌∙◌, map}
-use Rattle.boogie_run.specs.Typed.{types_in}
+use Rattle.lemmas.proofs.Tests.{last_of_two, first_of_two}
+use Rattle.boogie_types.specs.Typed.{types_in}
 use Rattle.boogie_wide.specs.View.{wproc_of}
 use Rattle.boogie_wide.specs.WideTypes.{is_wide_stmt}
-use Rattle.boogie_wide_types.proofs.NodeLaws.{last_of_two, first_of_two, if_is, either_is, while_is}
+use Rattle.boogie_wide_types.proofs.NodeLaws.{if_is, either_is, while_is}
 use Rattle.boogie_wide_types.proofs.blocks.+blocks.Goals as goal
 
 pub is_typed_stmt-returns-then-is_typed : goal.is_typed_stmt-returns-then-is_typed

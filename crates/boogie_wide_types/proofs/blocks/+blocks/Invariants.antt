@@ -1,6 +1,6 @@
 -- The statements that are left tell it.
 use Rattle.std.proofs.Common.{◌≡◌, drop, map}
-use Rattle.boogie_run.specs.Typed.{types_in}
+use Rattle.boogie_types.specs.Typed.{types_in}
 use Rattle.boogie_wide.specs.View.{wproc_of, wstmts_of}
 use Rattle.boogie_wide.specs.WideTypes.{is_wide}
 use Rattle.boogie_wide_types.proofs.blocks.+blocks.Given as goal

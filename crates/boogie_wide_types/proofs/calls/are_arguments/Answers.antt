@@ -1,6 +1,6 @@
 use Rattle.std.proofs.Common.{◌∙◌, sym, ap, drop, drop_of_length-le}
 use Rattle.boogie_tree.specs.Whole.{exprs_of}
-use Rattle.boogie_run.specs.Typed.{types_in}
+use Rattle.boogie_types.specs.Typed.{types_in}
 use Rattle.boogie_wide.specs.WideTypes.{are_arguments}
 use Rattle.boogie_wide_types.proofs.TargetLaws.{arguments_end}
 use Rattle.boogie_wide_types.proofs.calls.are_arguments.Goals as goal

@@ -1,7 +1,7 @@
 -- The arguments that are left have the types of the parameters that are left.
 use Rattle.std.proofs.Common.{◌≡◌, ◌≤◌, drop, length}
 use Rattle.boogie_tree.specs.Whole.{exprs_of}
-use Rattle.boogie_run.specs.Typed.{types_in}
+use Rattle.boogie_types.specs.Typed.{types_in}
 use Rattle.boogie_wide.specs.WideTypes.{are_arguments}
 use Rattle.boogie_wide_types.proofs.calls.are_arguments.Given as goal
 

@@ -1,5 +1,5 @@
 use Rattle.std.proofs.Common.{◌≤◌, length, rules, ◌∙◌, sym, ap, drop, drop_of_length-le}
-use Rattle.boogie_run.specs.Typed.{types_in}
+use Rattle.boogie_types.specs.Typed.{types_in}
 use Rattle.boogie_wide.specs.WideTypes.{are_targets}
 use Rattle.boogie_wide_types.proofs.TargetLaws.{targets_end, targets_past}
 use Rattle.boogie_wide_types.proofs.calls.are_targets.Goals as goal

@@ -1,6 +1,6 @@
 -- The targets that are left have the types of the returns that are left.
 use Rattle.std.proofs.Common.{◌≡◌, ◌≤◌, drop, length}
-use Rattle.boogie_run.specs.Typed.{types_in}
+use Rattle.boogie_types.specs.Typed.{types_in}
 use Rattle.boogie_wide.specs.WideTypes.{are_targets}
 use Rattle.boogie_wide_types.proofs.calls.are_targets.Given as goal
 

@@ -1,7 +1,7 @@
 use Rattle.std.proofs.Common.{◌∙◌, sym, ap}
 use Rattle.std.specs.Option.{option_map}
 use Rattle.boogie_tree.specs.Whole.{exprs_of}
-use Rattle.boogie_run.specs.Typed.{types_in}
+use Rattle.boogie_types.specs.Typed.{types_in}
 use Rattle.boogie_wide.specs.View.{wproc_of}
 use Rattle.boogie_wide.specs.WideTypes.{is_call_of}
 use Rattle.boogie_wide_types.proofs.calls.is_call.Goals as goal

@@ -1,6 +1,6 @@
 -- The conditions that are left tell it.
 use Rattle.std.proofs.Common.{◌≡◌, drop, map}
-use Rattle.boogie_run.specs.Typed.{types_in}
+use Rattle.boogie_types.specs.Typed.{types_in}
 use Rattle.boogie_wide.specs.View.{clause_of}
 use Rattle.boogie_wide.specs.WideTypes.{are_bools}
 use Rattle.boogie_wide_types.proofs.heads.are_bools.Given as goal

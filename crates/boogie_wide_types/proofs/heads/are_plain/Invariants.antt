@@ -1,7 +1,7 @@
 -- The variables that are left tell it.
 use Rattle.std.proofs.Common.{◌≡◌, drop}
 use Rattle.std.specs.List.{list_all}
-use Rattle.boogie_run.specs.Typed.{types_in}
+use Rattle.boogie_types.specs.Typed.{types_in}
 use Rattle.boogie_wide.specs.WideTypes.{is_plain}
 use Rattle.boogie_wide_types.proofs.heads.are_plain.Given as goal
 

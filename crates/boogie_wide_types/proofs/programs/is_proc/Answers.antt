@@ -1,7 +1,7 @@
 use Rattle.std.proofs.Common.{sym, ap, ◌∙◌}
+use Rattle.lemmas.proofs.Tests.{last_of_two, first_of_two}
 use Rattle.boogie_meaning.specs.Programs.{have_keys}
 use Rattle.boogie_wide_types.proofs.HeadLaws.{types_are_wide}
-use Rattle.boogie_wide_types.proofs.NodeLaws.{last_of_two, first_of_two}
 use Rattle.boogie_wide_types.proofs.programs.is_proc.Goals as goal
 
 pub returns-then-not-have_keys : goal.returns-then-not-have_keys

@@ -1,9 +1,10 @@
 use Rattle.std.proofs.Common.{◌∙◌, Err, ap, sym, subst}
 use Rattle.std.proofs.lemmas.Result.{err_from_is_err_and}
 use Rattle.vb_outer.specs.Shelf.{IsWhole}
-use Rattle.cond_tool.proofs.CallLaws.{error_is}
+use Rattle.tool_words.proofs.FileLaws.{error_is}
 use Rattle.cert_tool.specs.Call.{HasCertificate, IsOfCertificate, of_certificate}
-use Rattle.cert_tool.proofs.StageLaws.{boogie_refused, found_procedure, found_shown, is_unread}
+use Rattle.boogie_file.proofs.FileLaws.{found_procedure}
+use Rattle.cert_tool.proofs.StageLaws.{boogie_refused, found_shown, is_unread}
 use Rattle.cert_tool.proofs.stages.work.Goals as goal
 
 pub returns-in_err-program-clause-refused : goal.returns-in_err-program-clause-refused
@@ -19,9 +20,9 @@ returns-clause-shown g c ok =
 
 pub returns-clause-refused : goal.returns-clause-refused
 returns-clause-refused g c r is_r =
-    of_certificate (found_procedure (g.H.Shelf.files c.args.shelf.now) c.in_ok-program.ensures.found)
+    of_certificate (found_procedure c.in_ok-program.ensures.found)
     (subst (λ f. IsOfCertificate f c.args.asked.certificate.now r) c.found.ensures.files (c.certified.ensures.refused r is_r))
 
 pub returns-clause-read : goal.returns-clause-read
 returns-clause-read g c is =
-    is_unread c.found.ensures.files (found_procedure (g.H.Shelf.files c.args.shelf.now) c.in_ok-program.ensures.found) c.found.ensures.later (c.certified.ensures.read is)
+    is_unread c.found.ensures.files (found_procedure c.in_ok-program.ensures.found) c.found.ensures.later (c.certified.ensures.read is)

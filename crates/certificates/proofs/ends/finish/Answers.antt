@@ -1,7 +1,8 @@
 use Rattle.std.proofs.Common.{◌≤◌, length, refl, subst, arith}
+use Rattle.lemmas.proofs.Lists.{all_taken}
 use Rattle.cert_rules.proofs.RefuteLaws.{All-more}
 use Rattle.certificates.specs.Ends.{AreAlone, IsOpposed, IsDenied}
-use Rattle.certificates.proofs.EndLaws.{opposed_denied, All-whole}
+use Rattle.certificates.proofs.EndLaws.{opposed_denied}
 use Rattle.certificates.proofs.ends.finish.Goals as goal
 
 pub loop-assertion-preserved : goal.loop-assertion-preserved
@@ -18,4 +19,4 @@ loop-assertion-preserved c =
 pub returns : goal.returns
 returns c =
     let h : length c.args.fails.now ≤ c.loop-assertion.assertion-index = omega arith in
-    All-whole (IsDenied c.args.shown.now.clauses.items c.args.shown.now.aliases.items) c.args.fails.now c.loop-assertion.assertion-index h c.loop-assertion.invariant
+    all_taken (IsDenied c.args.shown.now.clauses.items c.args.shown.now.aliases.items) c.args.fails.now c.loop-assertion.assertion-index h c.loop-assertion.invariant

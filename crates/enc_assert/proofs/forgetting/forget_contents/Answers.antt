@@ -1,9 +1,10 @@
 use Rattle.std.proofs.Common.{◌∙◌, ◌+◌, length, map, drop, ap, sym, subst}
+use Rattle.lemmas.proofs.Lists.{next_item}
 use Rattle.enc_expr.specs.Emits.{Emit, emit_of, Emits}
 use Rattle.moves.specs.Maps.{content_type}
 use Rattle.enc_expr.specs.Place.{number, maps_of}
 use Rattle.enc_expr.proofs.EmitLaws.{gives_emits}
-use Rattle.enc_expr.proofs.EmittedParts.{next_item, dropped_all}
+use Rattle.enc_expr.proofs.EmittedParts.{dropped_all}
 use Rattle.enc_assert.specs.Encoding.{forget_contents}
 use Rattle.enc_assert.proofs.EmittedRows.{map_as, contents_step}
 use Rattle.enc_assert.proofs.forgetting.forget_contents.Goals as goal

@@ -1,6 +1,7 @@
 -- What is emitted for each form, by what is emitted for its parts.
 use Rattle.std.proofs.Common.{◌∙◌, ◌+◌, List, [], ◌++◌, length, drop, refl, ap, sym, subst, append-nil}
 use Rattle.std.proofs.lemmas.Result.{on_ok_weaker, IfOk-weaker}
+use Rattle.lemmas.proofs.Lists.{next_item}
 use Rattle.viper_core.specs.View.{expr_of as viper, exprs_of, amt_of, assertion_of, opened_of}
 use Rattle.viper_core.proofs.NodeLaws.{neg_is, not_is, bin_is, choose_is, field_is, unfolding_is, inst_is, and_is, implies_is, choice_is}
 use Rattle.boogie_tree.specs.Expr as t
@@ -17,7 +18,7 @@ use Rattle.enc_expr.specs.View.{seen, all_seen, atom_of, held_of, located_of, cl
 use Rattle.enc_expr.proofs.BlockLaws.{all_added}
 use Rattle.enc_expr.proofs.EmitLaws.{gives_emits}
 use Rattle.enc_expr.proofs.EmittedForms.{valued, binary_emits, put_as, coded_as, all_coded_as, filled_as, read_as, fill_as, guarded_as, neg_emits, not_emits, lazy_emits, divided_emits, plain_emits, lazily_emits, choice_emits, field_emits, fact_emits, access_emits, part_emits, both_emit, implied_emits, chosen_emits, unfolding_emits, unfolded_emits, inside_emits, scaled_as, put_under, inside_as, opening_is}
-use Rattle.enc_expr.proofs.EmittedParts.{next_item, dropped_all, check_step, all_seen-append}
+use Rattle.enc_expr.proofs.EmittedParts.{dropped_all, check_step, all_seen-append}
 use Rattle.enc_expr.proofs.codes.+codes.Goals as goal
 
 pub check-returns-in-Var : goal.check-returns-in-Var

@@ -1,11 +1,12 @@
 use Rattle.std.proofs.Common.{◌∙◌, List, ◌++◌, ap, sym, append-nil}
 use Rattle.std.proofs.lemmas.Result.{IfOk-weaker}
+use Rattle.lemmas.proofs.Lists.{next_item}
 use Rattle.boogie_tree.specs.Expr as t
 use Rattle.boogie_tree.specs.Whole.{expr_of, exprs_of}
 use Rattle.boogie_tree.specs.declared.exprs.BExpr.{BExpr}
 use Rattle.boogie_tree.proofs.WholeLaws.{expr_of-At}
 use Rattle.enc_expr.proofs.CopyingLaws.{one_more_copied}
-use Rattle.enc_expr.proofs.EmittedParts.{next_item, dropped_all}
+use Rattle.enc_expr.proofs.EmittedParts.{dropped_all}
 use Rattle.enc_expr.proofs.copying.+copying.Goals as goal
 
 pub copied-returns-in_ok-all_copied-in-At : goal.copied-returns-in_ok-all_copied-in-At

@@ -1,10 +1,11 @@
 use Rattle.std.proofs.Common.{◌∙◌, ◌+◌, drop, refl, ap, sym}
+use Rattle.lemmas.proofs.Lists.{next_number}
 use Rattle.boogie_tree.specs.Whole.{stmts_of}
 use Rattle.enc_expr.specs.Code.{join}
 use Rattle.enc_expr.specs.Encoding.{copies}
 use Rattle.enc_expr.proofs.RunLaws.{join_skip}
 use Rattle.enc_expr.proofs.BlockLaws.{added}
-use Rattle.enc_expr.proofs.EmittedParts.{copy_step, next_number, dropped_all}
+use Rattle.enc_expr.proofs.EmittedParts.{copy_step, dropped_all}
 use Rattle.enc_expr.proofs.openings.copies.Goals as goal
 
 pub loop-i-preserved : goal.loop-i-preserved

@@ -1,11 +1,12 @@
 use Rattle.std.proofs.Common.{◌∙◌, ℕ, ◌+◌, List, ◌++◌, map, drop, Vec, ap, subst}
 use Rattle.std.specs.declared.alloc.Global.{Global}
+use Rattle.lemmas.proofs.Lists.{next_item}
 use Rattle.vb_value.specs.declared.values.Ty.{Ty}
 use Rattle.boogie_tree.specs.Program.{BType}
 use Rattle.boogie_tree.specs.declared.exprs.BBase.{BBase}
 use Rattle.enc_expr.specs.Emits.{Emit, emit_of, Declares}
 use Rattle.moves.specs.Maps.{index_types, indexed_type}
-use Rattle.enc_expr.proofs.EmittedParts.{declare_step, declare_end, declared_as, next_item}
+use Rattle.enc_expr.proofs.EmittedParts.{declare_step, declare_end, declared_as}
 use Rattle.enc_expr.proofs.openings.fresh_indexed.Goals as goal
 
 abbrev map_type : BBase → Vec Ty Global → BType

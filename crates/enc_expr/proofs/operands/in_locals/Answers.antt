@@ -1,4 +1,5 @@
 use Rattle.std.proofs.Common.{◌≡◌, ◌∙◌, [], length, sym, subst, append-nil}
+use Rattle.lemmas.proofs.Lists.{no_items}
 use Rattle.boogie_tree.specs.Stmt as s
 use Rattle.boogie_tree.specs.Whole.{stmts_of}
 use Rattle.enc_expr.specs.Emits.{Emit, emit_of, Emits}
@@ -7,7 +8,7 @@ use Rattle.enc_expr.specs.View.{seen, all_seen, located_of}
 use Rattle.enc_expr.proofs.RunLaws.{join_skip}
 use Rattle.enc_expr.proofs.EmitLaws.{gives_emits}
 use Rattle.enc_expr.proofs.EmittedForms.{valued, behind}
-use Rattle.enc_expr.proofs.EmittedParts.{locate_step, no_items}
+use Rattle.enc_expr.proofs.EmittedParts.{locate_step}
 use Rattle.enc_expr.proofs.operands.in_locals.Goals as goal
 
 pub loop-x-preserved : goal.loop-x-preserved

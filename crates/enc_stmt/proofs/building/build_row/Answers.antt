@@ -1,10 +1,10 @@
 use Rattle.std.proofs.Common.{◌∙◌, ◌+◌, ◌++◌, ◌<◌, length, map, drop, ap, arith}
 use Rattle.enc_expr.specs.Emits.{emit_of, temporaries}
 use Rattle.enc_stmt.specs.Built.{around_of, built_of, with_pieces}
-use Rattle.enc_stmt.specs.Rows.{row_pieces, row_types}
-use Rattle.enc_stmt.specs.View.{bracket_of, coder_of, step_of}
+use Rattle.enc_units.specs.Rows.{row_pieces, row_types}
+use Rattle.enc_units.specs.View.{bracket_of, coder_of, step_of}
 use Rattle.enc_stmt.proofs.BuildLaws.{step_built}
-use Rattle.enc_stmt.proofs.PassLaws.{steps_left, step_is, row_step}
+use Rattle.enc_units.proofs.PassLaws.{steps_left, step_is, row_step}
 use Rattle.enc_stmt.proofs.building.build_row.Goals as goal
 
 pub code-requires : goal.code-requires

@@ -1,8 +1,8 @@
 use Rattle.std.proofs.Common.{◌≡◌, ◌++◌, [], length, map, drop}
 use Rattle.enc_expr.specs.Emits.{emit_of, temporaries}
 use Rattle.enc_stmt.specs.Built.{built_of, with_pieces}
-use Rattle.enc_stmt.specs.Rows.{row_pieces, row_types}
-use Rattle.enc_stmt.specs.View.{coder_of, step_of}
+use Rattle.enc_units.specs.Rows.{row_pieces, row_types}
+use Rattle.enc_units.specs.View.{coder_of, step_of}
 use Rattle.enc_stmt.proofs.building.build_row.Given as goal
 
 abbrev pub invariant-loop-step : goal.invariant-loop-step

@@ -1,7 +1,7 @@
 use Rattle.std.proofs.Common.{◌∙◌, map, ap}
 use Rattle.viper_core.specs.View.{program_of}
 use Rattle.boogie_tree.specs.Whole.{proc_of}
-use Rattle.enc_stmt.specs.Units.{unit_procedure}
+use Rattle.enc_units.specs.Units.{unit_procedure}
 use Rattle.enc_stmt.proofs.TreeLaws.{is_program, is_translation, is_printable}
 use Rattle.enc_stmt.proofs.trees.encode.Goals as goal
 

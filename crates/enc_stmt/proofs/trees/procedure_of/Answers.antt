@@ -2,9 +2,9 @@ use Rattle.std.proofs.Common.{◌≡◌, IfOk, ap, sym, subst}
 use Rattle.viper_core.specs.Formed.{IsFormed}
 use Rattle.viper_core.specs.View.{program_of}
 use Rattle.boogie_tree.specs.Whole.{proc_of}
-use Rattle.enc_stmt.specs.Units.{unit_procedure}
-use Rattle.enc_stmt.specs.View.{coder_of}
-use Rattle.enc_stmt.proofs.UnitRowLaws.{same_unit, unit_writes}
+use Rattle.enc_units.specs.Units.{unit_procedure}
+use Rattle.enc_units.specs.View.{coder_of}
+use Rattle.enc_units.proofs.UnitRowLaws.{same_unit, unit_writes}
 use Rattle.enc_stmt.proofs.trees.procedure_of.Goals as goal
 
 pub procedure_over-requires : goal.procedure_over-requires

@@ -1,8 +1,8 @@
 use Rattle.std.proofs.Common.{◌∙◌, map, ap}
 use Rattle.viper_core.specs.View.{program_of}
-use Rattle.enc_stmt.specs.View.{coder_of, step_of}
+use Rattle.enc_units.specs.View.{coder_of, step_of}
 use Rattle.enc_stmt.proofs.TreeLaws.{row_body}
-use Rattle.enc_stmt.proofs.UnitRowLaws.{row_steps, row_locals}
+use Rattle.enc_units.proofs.UnitRowLaws.{row_steps, row_locals}
 use Rattle.enc_stmt.proofs.trees.procedure_over.Goals as goal
 
 pub row_emit-requires : goal.row_emit-requires

@@ -9,7 +9,7 @@ use Rattle.boogie_grammar.specs.Printed as text
 use Rattle.boogie_grammar.specs.Printed.{name_at, operator_text}
 use Rattle.formula_text.specs.Printed.{fexpr_text, fexprs_text}
 use Rattle.formula_text.specs.View.{naming_of}
-use Rattle.boogie_text.proofs.PutLaws.{row_steps, two_steps, three_steps}
+use Rattle.boogie_print.proofs.PutLaws.{row_steps, two_steps, three_steps}
 use Rattle.formula_text.proofs.PutLaws.{update_steps, same_end, same_inside, forall_steps, one_more_put, all_put}
 use Rattle.formula_text.proofs.put_exprs.+expressions.Goals as goal
 

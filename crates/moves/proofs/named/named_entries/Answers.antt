@@ -1,7 +1,7 @@
 use Rattle.std.proofs.Common.{arith}
+use Rattle.lemmas.proofs.Lists.{named_more, all_named}
 use Rattle.boogie_tree.specs.Whole.{entry_of}
 use Rattle.moves.specs.Printable.{IsNamedEntry}
-use Rattle.moves.proofs.NamedLists.{named_more, all_named}
 use Rattle.moves.proofs.named.named_entries.Goals as goal
 
 pub loop-entry-preserved : goal.loop-entry-preserved

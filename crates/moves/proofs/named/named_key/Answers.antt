@@ -1,7 +1,7 @@
 use Rattle.std.proofs.Common.{All, arith, subst}
 use Rattle.std.proofs.lemmas.List.{map-id}
+use Rattle.lemmas.proofs.Lists.{all_named}
 use Rattle.moves.specs.Printable.{IsNamedPart}
-use Rattle.moves.proofs.NamedLists.{all_named}
 use Rattle.moves.proofs.named.named_key.Goals as goal
 
 pub returns : goal.returns

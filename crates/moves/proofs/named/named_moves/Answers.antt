@@ -1,7 +1,7 @@
 use Rattle.std.proofs.Common.{arith}
+use Rattle.lemmas.proofs.Lists.{named_more, all_named}
 use Rattle.boogie_tree.specs.Whole.{choice_of}
 use Rattle.moves.specs.Printable.{IsNamedMove}
-use Rattle.moves.proofs.NamedLists.{named_more, all_named}
 use Rattle.moves.proofs.named.named_moves.Goals as goal
 
 pub loop-choice-preserved : goal.loop-choice-preserved

@@ -1,7 +1,7 @@
 use Rattle.std.proofs.Common.{arith}
+use Rattle.lemmas.proofs.Lists.{named_more, all_named}
 use Rattle.viper_state.specs.View.{choice_of}
 use Rattle.run_file.specs.Printable.{NamesChoice}
-use Rattle.run_file.proofs.NamedLists.{named_more, all_named}
 use Rattle.run_file.proofs.named.named_choices.Goals as goal
 
 pub loop-choice-preserved : goal.loop-choice-preserved

@@ -2,7 +2,7 @@ use Rattle.std.proofs.Common.{◌∙◌, ap, sym, subst, map}
 use Rattle.vb_base.specs.Names.{NamesDiffer}
 use Rattle.viper_core.specs.Program as p
 use Rattle.viper_core.specs.View.{predicate_of, program_of}
-use Rattle.run_file.specs.Lines.{Known}
+use Rattle.run_words.specs.Known.{Known}
 use Rattle.run_file.proofs.ScopeLaws.{names_apart}
 use Rattle.run_file.proofs.FileLaws.{unit_answered}
 use Rattle.run_file.proofs.reader.read_viper_run.Goals as goal
@@ -13,8 +13,8 @@ of-requires c = subst NamesDiffer (sym (ap (λ (k : Known _). k.names) c.variabl
 pub of-requires-2 : goal.of-requires-2
 of-requires-2 c = subst NamesDiffer (sym c.deref.ensures.value) (names_apart (program_of c.args.program.now) c.args.unit c.requires.formed).fields
 
-pub of_predicates-requires : goal.of_predicates-requires
-of_predicates-requires c =
+pub predicate_names-requires : goal.predicate_names-requires
+predicate_names-requires c =
     subst (λ ds. NamesDiffer (map (λ (d : p.Predicate). d.name) (map predicate_of ds))) (sym c.deref-2.ensures.value) (names_apart (program_of c.args.program.now) c.args.unit c.requires.formed).predicates
 
 pub returns-clause-run : goal.returns-clause-run
@@ -23,9 +23,9 @@ returns-clause-run c =
     let variables = ap (λ ns. record { names = ns; types = c.variables_of.result.1.now }) c.in_ok-variables.ensures ∙ c.variables_of.ensures in
     let fields = c.in_ok-fields.ensures ∙ c.deref.ensures.value in
     let predicates = c.in_ok-predicates.ensures ∙ ap (λ ds. map (λ (d : p.Predicate). d.name) (map predicate_of ds)) c.deref-2.ensures.value in
-    (unit_answered c.args.bytes.now program c.args.unit _ c.read_lines.result (names_apart program c.args.unit c.requires.formed)
+    (unit_answered c.args.bytes.now program c.args.unit _ c.read_run.result (names_apart program c.args.unit c.requires.formed)
     (λ i. record { variables = variables i; fields = record { names = fields i; types = program.layout.fields }; predicates = record { names = predicates i; types = program.layout.keys } })
-    c.read_lines.ensures).run
+    c.read_run.ensures).run
 
 pub returns-clause-fault : goal.returns-clause-fault
 returns-clause-fault c =
@@ -33,9 +33,9 @@ returns-clause-fault c =
     let variables = ap (λ ns. record { names = ns; types = c.variables_of.result.1.now }) c.in_ok-variables.ensures ∙ c.variables_of.ensures in
     let fields = c.in_ok-fields.ensures ∙ c.deref.ensures.value in
     let predicates = c.in_ok-predicates.ensures ∙ ap (λ ds. map (λ (d : p.Predicate). d.name) (map predicate_of ds)) c.deref-2.ensures.value in
-    (unit_answered c.args.bytes.now program c.args.unit _ c.read_lines.result (names_apart program c.args.unit c.requires.formed)
+    (unit_answered c.args.bytes.now program c.args.unit _ c.read_run.result (names_apart program c.args.unit c.requires.formed)
     (λ i. record { variables = variables i; fields = record { names = fields i; types = program.layout.fields }; predicates = record { names = predicates i; types = program.layout.keys } })
-    c.read_lines.ensures).fault
+    c.read_run.ensures).fault
 
 pub returns-clause-only_run : goal.returns-clause-only_run
 returns-clause-only_run c =
@@ -43,9 +43,9 @@ returns-clause-only_run c =
     let variables = ap (λ ns. record { names = ns; types = c.variables_of.result.1.now }) c.in_ok-variables.ensures ∙ c.variables_of.ensures in
     let fields = c.in_ok-fields.ensures ∙ c.deref.ensures.value in
     let predicates = c.in_ok-predicates.ensures ∙ ap (λ ds. map (λ (d : p.Predicate). d.name) (map predicate_of ds)) c.deref-2.ensures.value in
-    (unit_answered c.args.bytes.now program c.args.unit _ c.read_lines.result (names_apart program c.args.unit c.requires.formed)
+    (unit_answered c.args.bytes.now program c.args.unit _ c.read_run.result (names_apart program c.args.unit c.requires.formed)
     (λ i. record { variables = variables i; fields = record { names = fields i; types = program.layout.fields }; predicates = record { names = predicates i; types = program.layout.keys } })
-    c.read_lines.ensures).only_run
+    c.read_run.ensures).only_run
 
 pub returns-clause-only_place : goal.returns-clause-only_place
 returns-clause-only_place c =
@@ -53,6 +53,6 @@ returns-clause-only_place c =
     let variables = ap (λ ns. record { names = ns; types = c.variables_of.result.1.now }) c.in_ok-variables.ensures ∙ c.variables_of.ensures in
     let fields = c.in_ok-fields.ensures ∙ c.deref.ensures.value in
     let predicates = c.in_ok-predicates.ensures ∙ ap (λ ds. map (λ (d : p.Predicate). d.name) (map predicate_of ds)) c.deref-2.ensures.value in
-    (unit_answered c.args.bytes.now program c.args.unit _ c.read_lines.result (names_apart program c.args.unit c.requires.formed)
+    (unit_answered c.args.bytes.now program c.args.unit _ c.read_run.result (names_apart program c.args.unit c.requires.formed)
     (λ i. record { variables = variables i; fields = record { names = fields i; types = program.layout.fields }; predicates = record { names = predicates i; types = program.layout.keys } })
-    c.read_lines.ensures).only_place
+    c.read_run.ensures).only_place

@@ -1,6 +1,6 @@
 use Rattle.std.proofs.Common.{◌≡◌, subst, slice_get}
 use Rattle.std.specs.Option.{option_copied}
-use Rattle.vb_tests.proofs.CodeLaws.{first_differs}
+use Rattle.vb_tests.proofs.RunLaws.{first_differs}
 use Rattle.vb_tests.proofs.runs.first_procedure.Goals as goal
 
 pub returns : goal.returns

@@ -1,7 +1,7 @@
 use Rattle.std.proofs.Common.{◌≡◌, ◌∙◌, ◌∷◌, ◌++◌, [], sym, ap, subst, true}
 use Rattle.boogie_tree.specs.Whole.{local_of, proc_of, stmts_of}
 use Rattle.boogie_meaning.specs.Programs.{have_keys}
-use Rattle.boogie_run.specs.Typed.{types_in}
+use Rattle.boogie_types.specs.Typed.{types_in}
 use Rattle.boogie_text.specs.Tail.{BeginsLocal}
 use Rattle.vb_tool.proofs.BegunLaws.{begun_one, begun_all, keys_typed, locals_with}
 use Rattle.vb_tool.proofs.begun.begun_of.Goals as goal

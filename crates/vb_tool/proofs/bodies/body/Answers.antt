@@ -2,7 +2,7 @@ use Rattle.std.proofs.Common.{◌≡◌, ◌∙◌, ◌∷◌, [], sym, ap, subs
 use Rattle.std.proofs.lemmas.List.{map-append}
 use Rattle.boogie_tree.specs.Whole.{locals_of, stmt_of}
 use Rattle.boogie_meaning.specs.Types.{is_typed_stmt}
-use Rattle.boogie_run.specs.Typed.{types_in}
+use Rattle.boogie_types.specs.Typed.{types_in}
 use Rattle.boogie_text.specs.Tail.{BeginsStatement}
 use Rattle.vb_tool.proofs.BegunLaws.{IsGone, gone_none, gone_one, stmt_typed}
 use Rattle.vb_tool.proofs.bodies.body.Goals as goal

@@ -1,7 +1,7 @@
 use Rattle.std.proofs.Common.{◌≡◌, ◌∙◌, ◌∷◌, ◌++◌, [], sym, subst, true}
 use Rattle.boogie_tree.specs.Whole.{stmt_of}
 use Rattle.boogie_meaning.specs.Types.{is_typed_stmt}
-use Rattle.boogie_run.specs.Typed.{types_in}
+use Rattle.boogie_types.specs.Typed.{types_in}
 use Rattle.boogie_text.specs.Tail.{BeginsStatement}
 use Rattle.vb_tool.proofs.BegunLaws.{gone_none, gone_one, stmt_typed}
 use Rattle.vb_tool.proofs.bodies.passed.Goals as goal

@@ -5,7 +5,7 @@ use Rattle.boogie_meaning.specs.Run.{Done, brun_stmt, then_run}
 use Rattle.boogie_meaning.specs.Types.{is_typed_stmt}
 use Rattle.boogie_run.specs.Start.{start_of}
 use Rattle.boogie_run.specs.Stepped.{run_in}
-use Rattle.boogie_run.specs.Typed.{types_in}
+use Rattle.boogie_types.specs.Typed.{types_in}
 use Rattle.boogie_text.specs.Tail.{BeginsStatement}
 use Rattle.vb_tool.proofs.BegunLaws.{stmt_typed}
 use Rattle.run_fits.proofs.LiteralLaws.{stmt_within}

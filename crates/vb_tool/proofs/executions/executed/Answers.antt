@@ -3,7 +3,7 @@ use Rattle.std.proofs.lemmas.Result.{err_from_is_err_and}
 use Rattle.viper_core.specs.View.{program_of}
 use Rattle.run_file.specs.View.{run_of}
 use Rattle.run_file.proofs.SpelledLaws.{spelled_good}
-use Rattle.vb_tool.proofs.CallLaws.{error_is}
+use Rattle.tool_words.proofs.FileLaws.{error_is}
 use Rattle.vb_tool.proofs.ExecutionStages.{text_refused, method_refused, run_refused, execution_is}
 use Rattle.vb_tool.proofs.ExecutionUnits.{unit_is, can_execute}
 use Rattle.vb_tool.proofs.executions.executed.Goals as goal

@@ -1,4 +1,5 @@
-use Rattle.vb_tool.proofs.BoogieVerdicts.{one_boogie, one_replay_answer}
+use Rattle.boogie_file.proofs.Verdicts.{one_boogie}
+use Rattle.vb_tool.proofs.BoogieVerdicts.{one_replay_answer}
 use Rattle.vb_tool.proofs.ConditionVerdicts.{one_condition_answer}
 use Rattle.vb_tool.proofs.CutVerdicts.{one_cut_answer}
 use Rattle.vb_tool.proofs.ExecutionVerdicts.{one_execution_answer}

@@ -4,17 +4,24 @@ use Rattle.boogie_tree.specs.Whole.{program_of, proc_of, run_of}
 use Rattle.boogie_run.specs.Start.{CanRun}
 use Rattle.boogie_run.proofs.StartLaws.{same_proc}
 use Rattle.run_fits.proofs.LiteralLaws.{program_within}
-use Rattle.vb_tool.specs.Procedures.{procedure_named}
 use Rattle.run_fits.proofs.BoogieRunLaws.{can_run}
-use Rattle.vb_tool.proofs.BoogieStages.{named_there, names_it, text_refused, header_refused, name_refused, run_refused, replay_is}
+use Rattle.boogie_file.specs.Accepted.{procedure_named}
+use Rattle.boogie_file.proofs.StageLaws.{named_there}
+use Rattle.vb_tool.proofs.BoogieStages.{file_refused, never_unread, names_it, text_refused, header_refused, name_refused, run_refused, replay_is}
 use Rattle.vb_tool.proofs.BoogieVerdicts.{names_differ}
-use Rattle.vb_tool.proofs.CallLaws.{error_is}
+use Rattle.tool_words.proofs.FileLaws.{error_is}
 use Rattle.vb_tool.proofs.procedures.replayed_in_whole.Goals as goal
 
 pub returns-in_err-program-clause-refused : goal.returns-in_err-program-clause-refused
 returns-in_err-program-clause-refused c r is_r =
     let p = err_from_is_err_and c.from_residual.result c.from_residual.ensures.1 in
-    text_refused c.requires.bytes_within c.requires.run_within (c.in_err-program.ensures.refused r (ap (λ t. Err t) (sym p.2 ∙ error_is p.1 is_r)))
+    text_refused c.requires.bytes_within c.requires.run_within
+    (file_refused c.args.bytes.now c.in_err-program.field-0.0 r (λ q is. c.in_err-program.ensures.refused q (ap (λ t. Err t) is)) (sym p.2 ∙ error_is p.1 is_r))
+
+pub returns-in_err-program-clause-read : goal.returns-in_err-program-clause-read
+returns-in_err-program-clause-read c is =
+    let p = err_from_is_err_and c.from_residual.result c.from_residual.ensures.1 in
+    never_unread c.in_err-program.field-0.0 (λ read. c.in_err-program.ensures.read (ap (λ t. Err t) read)) (sym p.2 ∙ error_is p.1 is)
 
 pub returns-in_err-name-clause-refused : goal.returns-in_err-name-clause-refused
 returns-in_err-name-clause-refused c r is_r =

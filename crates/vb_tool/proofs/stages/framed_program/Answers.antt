@@ -2,7 +2,7 @@ use Rattle.std.proofs.Common.{◌∙◌, refl, sym}
 use Rattle.std.proofs.lemmas.Result.{err_from_is_err_and}
 use Rattle.viper_core.specs.View.{program_of}
 use Rattle.viper_syntax.specs.View as tree
-use Rattle.vb_tool.proofs.CallLaws.{error_is}
+use Rattle.tool_words.proofs.FileLaws.{error_is}
 use Rattle.vb_tool.proofs.ExecutionStages.{framed_is, unframed_refused}
 use Rattle.vb_tool.proofs.Verdicts.{lex_refusal, parse_refusal, type_refusal}
 use Rattle.vb_tool.specs.AcceptedExecution as execution

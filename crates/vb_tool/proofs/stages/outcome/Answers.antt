@@ -1,10 +1,11 @@
 use Rattle.std.proofs.Common.{◌∙◌, Err, refl, sym, ap}
 use Rattle.std.proofs.lemmas.Result.{err_from_is_err_and}
+use Rattle.lemmas.proofs.Lists.{item_there}
 use Rattle.viper_core.specs.View.{program_of}
 use Rattle.run_file.specs.View.{run_of}
 use Rattle.run_file.proofs.SpelledLaws.{spelled_good}
-use Rattle.vb_tool.proofs.CallLaws.{error_is}
-use Rattle.vb_tool.proofs.RunOfUnits.{named_exists, opens, there_is}
+use Rattle.tool_words.proofs.FileLaws.{error_is}
+use Rattle.vb_tool.proofs.RunOfUnits.{named_exists, opens}
 use Rattle.vb_tool.proofs.RunStages.{text_refused, unit_refused, run_refused, told_is}
 use Rattle.vb_tool.proofs.stages.outcome.Goals as goal
 
@@ -54,7 +55,7 @@ told_of-requires-clause-opens c =
 pub returns-clause-told : goal.returns-clause-told
 returns-clause-told c =
     let q = program_of c.in_ok-program.program in
-    let (w, there) = there_is q.units c.in-Some.unit (named_exists q c.args.name.now c.in-Some.unit (sym c.unit_named.ensures ∙ c.in-Some.is)) in
+    let (w, there) = item_there q.units c.in-Some.unit (named_exists q c.args.name.now c.in-Some.unit (sym c.unit_named.ensures ∙ c.in-Some.is)) in
     told_is _ _ _ (record { program = q; unit = c.in-Some.unit; run = run_of c.in_ok-run.run' }) w _ _ c.in_ok-end.end
     (record {
       accepted = c.in_ok-program.ensures.accepted;

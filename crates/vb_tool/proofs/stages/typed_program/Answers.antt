@@ -1,7 +1,7 @@
 use Rattle.std.proofs.Common.{◌∙◌, sym}
 use Rattle.std.proofs.lemmas.Result.{err_from_is_err_and}
 use Rattle.viper_syntax.specs.View as tree
-use Rattle.vb_tool.proofs.CallLaws.{error_is}
+use Rattle.tool_words.proofs.FileLaws.{error_is}
 use Rattle.vb_tool.proofs.Verdicts.{lex_refusal, parse_refusal, type_refusal}
 use Rattle.vb_tool.proofs.stages.typed_program.Goals as goal
 

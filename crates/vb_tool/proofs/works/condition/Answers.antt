@@ -1,8 +1,10 @@
 use Rattle.std.proofs.Common.{◌∙◌, Err, ap, sym, subst}
 use Rattle.std.proofs.lemmas.Result.{err_from_is_err_and}
+use Rattle.boogie_file.specs.Accepted as file
 use Rattle.vb_tool.specs.AcceptedCondition as accepted
 use Rattle.vb_tool.specs.Call as call
-use Rattle.vb_tool.proofs.CallLaws.{error_is, file_refusal, file_unread, first_missing, too_long, condition_result_does, condition_result_promises}
+use Rattle.tool_words.proofs.FileLaws.{error_is}
+use Rattle.vb_tool.proofs.CallLaws.{file_refusal, file_unread, first_missing, too_long, condition_result_does, condition_result_promises}
 use Rattle.vb_tool.proofs.works.condition.Goals as goal
 
 pub returns-in_err-bytes-clause-refused : goal.returns-in_err-bytes-clause-refused
@@ -11,7 +13,7 @@ returns-in_err-bytes-clause-refused g c r is_r =
     let files = g.H.Shelf.files c.args.shelf.now in
     too_long files _ c.args.file.now 33554432 r
     (file_refusal files c.args.file.now 33554432 c.in_err-bytes.field-0.0 r (λ long. c.in_err-bytes.ensures.long (ap (λ fault. Err fault) long)) (sym p.2 ∙ error_is p.1 is_r))
-    (λ bytes is above. call.conditions bytes is (accepted.size above))
+    (λ bytes is above. call.conditions bytes is (accepted.of_file (file.size above)))
 
 pub returns-in_err-bytes-clause-read : goal.returns-in_err-bytes-clause-read
 returns-in_err-bytes-clause-read g c is_read =

@@ -1,5 +1,6 @@
 use Rattle.std.proofs.Common.{refl}
-use Rattle.vb_tool.proofs.CallLaws.{error_is, budget_refused}
+use Rattle.tool_words.proofs.FileLaws.{error_is}
+use Rattle.vb_tool.proofs.CallLaws.{budget_refused}
 use Rattle.vb_tool.proofs.works.execute.Goals as goal
 
 pub returns-then-budget-gt-MAX_EXECUTION_BUDGET-clause-refused : goal.returns-then-budget-gt-MAX_EXECUTION_BUDGET-clause-refused

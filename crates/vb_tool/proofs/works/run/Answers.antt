@@ -3,7 +3,8 @@ use Rattle.std.proofs.lemmas.Result.{err_from_is_err_and}
 use Rattle.vb_tool.specs.Accepted as accepted
 use Rattle.vb_outer.specs.Shelf.{IsLonger, IsWhole}
 use Rattle.vb_tool.specs.Call as call
-use Rattle.vb_tool.proofs.CallLaws.{error_is, file_refusal, file_unread, first_missing, second_missing, too_long, run_too_long, run_result_does, run_result_promises}
+use Rattle.tool_words.proofs.FileLaws.{error_is}
+use Rattle.vb_tool.proofs.CallLaws.{file_refusal, file_unread, first_missing, second_missing, too_long, run_too_long, run_result_does, run_result_promises}
 use Rattle.vb_tool.proofs.works.run.Goals as goal
 
 pub returns-in_err-bytes-clause-refused : goal.returns-in_err-bytes-clause-refused

@@ -2,7 +2,8 @@ use Rattle.std.proofs.Common.{◌∙◌, Err, ap, sym, subst}
 use Rattle.std.proofs.lemmas.Result.{err_from_is_err_and}
 use Rattle.vb_tool.specs.Accepted as accepted
 use Rattle.vb_tool.specs.Call as call
-use Rattle.vb_tool.proofs.CallLaws.{error_is, file_refusal, file_unread, first_missing, too_long, translation_result_does}
+use Rattle.tool_words.proofs.FileLaws.{error_is}
+use Rattle.vb_tool.proofs.CallLaws.{file_refusal, file_unread, first_missing, too_long, translation_result_does}
 use Rattle.vb_tool.proofs.works.translate.Goals as goal
 
 pub returns-in_err-source-clause-refused : goal.returns-in_err-source-clause-refused

@@ -1,6 +1,7 @@
 use Rattle.std.proofs.Common.{Err, [], ◌∷◌, refl, sym, ap, subst}
 use Rattle.vb_outer.specs.Shelf.{IsWhole}
-use Rattle.vb_tool.proofs.CallLaws.{error_is, names_first, made_does, summary_refused}
+use Rattle.tool_words.proofs.FileLaws.{error_is}
+use Rattle.vb_tool.proofs.CallLaws.{names_first, made_does, summary_refused}
 use Rattle.vb_tool.specs.Call.{Refuses, Does}
 use Rattle.vb_tool.specs.Command.{files_of}
 use Rattle.vb_tool.specs.Parts.{command_of}

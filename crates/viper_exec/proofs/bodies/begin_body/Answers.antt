@@ -26,7 +26,7 @@ returns-in_err-given c =
     let k = activation_in c.args.machine.now in
     let d = configuration_of c.args.machine.now.configuration in
     let fs = frames_over c.args.machine.now.frames.items [] in
-    step_ends _ _ c.from_residual.ensures.1 (call_stops k d fs c.args.at c.args.targets.now (method_of c.args.callee.now) c.args.args.items (body_of c.args.body.now) c.args.budget.now c.in_err-given.ensures)
+    step_ends _ _ c.from_residual.ensures.1 (call_stops k d fs c.args.called.at c.args.called.targets.now (method_of c.args.called.callee.now) c.args.args.items (body_of c.args.body.now) c.args.budget.now c.in_err-given.ensures)
 
 pub returns-in_err-begin : goal.returns-in_err-begin
 returns-in_err-begin c =
@@ -34,7 +34,7 @@ returns-in_err-begin c =
     let d = configuration_of c.args.machine.now.configuration in
     let fs = frames_over c.args.machine.now.frames.items [] in
     step_ends _ _ c.from_residual-in_err-begin.ensures.1 (spent_at c.in_err-begin.ensures.spent c.in_err-begin.ensures.none_left c.in_err-begin.ensures.still_none
-    (call_spent k d fs c.args.at c.args.targets.now (method_of c.args.callee.now) c.args.args.items (body_of c.args.body.now) c.args.budget.now c.in_ok-given.ensures c.in_err-begin.ensures.none_left))
+    (call_spent k d fs c.args.called.at c.args.called.targets.now (method_of c.args.called.callee.now) c.args.args.items (body_of c.args.body.now) c.args.budget.now c.in_ok-given.ensures c.in_err-begin.ensures.none_left))
 
 pub returns-in_err-store : goal.returns-in_err-store
 returns-in_err-store c = step_ends _ _ c.from_residual-in_err-store.ensures.1 no_memory
@@ -56,14 +56,14 @@ returns c =
     let k = activation_in c.args.machine.now in
     let d = configuration_of c.args.machine.now.configuration in
     let fs = frames_over c.args.machine.now.frames.items [] in
-    let callee = method_of c.args.callee.now in
+    let callee = method_of c.args.called.callee.now in
     let body = body_of c.args.body.now in
     let args = c.args.args.items in
     let r = c.requires.ready.ready in
-    let sc : IsWithinScene (with_variables args (m.scene k d c.args.at)) = record { store = c.requires.args_within; old = r.old } in
+    let sc : IsWithinScene (with_variables args (m.scene k d c.args.called.at)) = record { store = c.requires.args_within; old = r.old } in
     let within = given_within callee args c.requires.args_within c.requires.callee.method_within.preconditions r.state.within sc r.state.choices c.in_ok-given.ensures in
-    let below = c.in_ok-add_caller.ensures ∙ (λ i. Return (record { callee = callee; targets = c.args.targets.now; vars = k.vars; old = state_of (c.replace.ensures.value i); store = (c.replace-2.ensures.value i).values.items }) ∷ fs) in
-    body_begun k d fs c.args.at c.args.targets.now (method_of c.args.callee.now) c.args.args.items (body_of c.args.body.now) c.args.budget.now c.in_ok-given.ensures c.in_ok-begin.ensures.begins c.deref-machine.ensures.value (ap state_of c.replace.ensures.after ∙ c.in_ok-start.ensures)
+    let below = c.in_ok-add_caller.ensures ∙ (λ i. Return (record { callee = callee; targets = c.args.called.targets.now; vars = k.vars; old = state_of (c.replace.ensures.value i); store = (c.replace-2.ensures.value i).values.items }) ∷ fs) in
+    body_begun k d fs c.args.called.at c.args.called.targets.now (method_of c.args.called.callee.now) c.args.args.items (body_of c.args.body.now) c.args.budget.now c.in_ok-given.ensures c.in_ok-begin.ensures.begins c.deref-machine.ensures.value (ap state_of c.replace.ensures.after ∙ c.in_ok-start.ensures)
     (ap (λ s. s.values.items) c.replace-2.ensures.after ∙ c.in_ok-store.ensures ∙ ap (first_store callee) c.deref.ensures.value)
     (c.in_ok-add_frame-2.ensures ∙ ap (λ xs. Block (stmts_of xs) ∷ frames_over c.add_frame.new.frames.items []) c.deref-2.ensures.value
     ∙ ap (λ frames. Block body.stmts ∷ frames) (c.in_ok-add_frame.ensures ∙ ap (λ frames. End callee body.turn ∷ frames) below))

@@ -10,11 +10,11 @@ returns-in_err-call c n =
     let k = activation_in c.args.machine.now in
     let d = configuration_of c.args.machine.now.configuration in
     let fs = frames_over c.args.machine.now.frames.items [] in
-    step_ends _ _ c.from_residual.ensures.1 (bare_stops k d fs c.args.at c.args.targets.now (method_of c.args.callee.now) c.args.args.items n c.in_err-call.ensures)
+    step_ends _ _ c.from_residual.ensures.1 (bare_stops k d fs c.args.called.at c.args.called.targets.now (method_of c.args.called.callee.now) c.args.args.items n c.in_err-call.ensures)
 
 pub returns : goal.returns
 returns c n =
     let k = activation_in c.args.machine.now in
     let d = configuration_of c.args.machine.now.configuration in
     let fs = frames_over c.args.machine.now.frames.items [] in
-    bare_steps k d fs c.args.at c.args.targets.now (method_of c.args.callee.now) c.args.args.items n c.requires.callee_within c.requires.args_within c.requires.ready c.in_ok-call.ensures
+    bare_steps k d fs c.args.called.at c.args.called.targets.now (method_of c.args.called.callee.now) c.args.args.items n c.requires.callee_within c.requires.args_within c.requires.ready c.in_ok-call.ensures

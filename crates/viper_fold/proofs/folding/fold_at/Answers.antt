@@ -28,7 +28,7 @@ pub fold_by-requires-clause-body_within : goal.fold_by-requires-clause-body_with
 fold_by-requires-clause-body_within c = c.requires.body_within _ (found_is _ _ (found_as (λ b. assertion_of b.now) _ _ c.in_ok-body.ensures ∙ ap found c.body_of.ensures))
 
 pub fold_by-requires-clause-scene_within : goal.fold_by-requires-clause-scene_within
-fold_by-requires-clause-scene_within c = subst IsWithinScene (sym c.with_variables-inside.ensures) (scene_within c.args.args.now (lent c.args.scene) c.requires.args_within c.requires.scene_within)
+fold_by-requires-clause-scene_within c = subst IsWithinScene (sym c.with_variables-scene.ensures) (scene_within c.args.values.args.now (lent c.args.scene) c.requires.args_within c.requires.scene_within)
 
 pub fold_by-requires-clause-whole : goal.fold_by-requires-clause-whole
 fold_by-requires-clause-whole c = ap (λ s. s.scale) c.of-share.ensures ∙ c.write.ensures
@@ -37,4 +37,4 @@ pub returns : goal.returns
 returns c =
     part_goes _ refl (calmly _ c.in_ok-key.ensures) refl
     (calm_goes _ refl (found_as (λ b. assertion_of b.now) _ _ c.in_ok-body.ensures ∙ ap found c.body_of.ensures) (calm_goes _ refl c.in_ok-amount.ensures
-    (folded_as (assertion_of c.in_ok-body.body.now) (state_of c.args.state.now) c.with_variables-inside.ensures c.of-instance.ensures c.of-share.ensures c.fold_by.ensures)))
+    (folded_as (assertion_of c.in_ok-body.body.now) (state_of c.args.state.now) c.with_variables-scene.ensures c.of-instance.ensures c.of-share.ensures c.fold_by.ensures)))

@@ -29,13 +29,13 @@ pub returns-in_err-take-clause-answers : goal.returns-in_err-take-clause-answers
 returns-in_err-take-clause-answers c =
     passed _ _ c.from_residual-in_err-take.ensures.1 (goes_then _ (calmly _ c.in_ok-key.ensures)
     (calm_then _ (found_as (λ b. assertion_of b.now) _ _ c.in_ok-body.ensures ∙ ap found c.body_of.ensures)
-    (stops_then _ (calmly _ (taken_at (lent c.args.scene) c.args.amount c.args.s.now.place refl c.of-instance.ensures c.in_err-take.ensures)))))
+    (stops_then _ (calmly _ (taken_at (lent c.args.scene) c.args.values.amount c.args.s.now.place refl c.of-instance.ensures c.in_err-take.ensures)))))
 
 pub returns-in_err-content-2-clause-answers : goal.returns-in_err-content-2-clause-answers
 returns-in_err-content-2-clause-answers c =
     passed _ _ c.from_residual-in_err-content-2.ensures.1 (goes_then _ (calmly _ c.in_ok-key.ensures)
     (calm_then _ (found_as (λ b. assertion_of b.now) _ _ c.in_ok-body.ensures ∙ ap found c.body_of.ensures)
-    (goes_then _ (calmly _ (taken_at (lent c.args.scene) c.args.amount c.args.s.now.place refl c.of-instance.ensures c.in_ok-take.ensures))
+    (goes_then _ (calmly _ (taken_at (lent c.args.scene) c.args.values.amount c.args.s.now.place refl c.of-instance.ensures c.in_ok-take.ensures))
     (calm_stop _ _ (found_as_stops content_of _ _ c.in_err-content-2.ensures ∙ ap found c.in_ok-content.ensures)))))
 
 pub open_in-requires-clause-body_within : goal.open_in-requires-clause-body_within
@@ -48,17 +48,17 @@ open_in-requires-clause-content_within c =
 
 pub open_in-requires-clause-state_within : goal.open_in-requires-clause-state_within
 open_in-requires-clause-state_within c =
-    taken_within (λ _. state_of c.take.new.state) (lent c.args.scene) (state_of c.args.state.now) c.args.s.now.predicate c.in_ok-key.key c.args.amount c.args.s.now.place c.requires.state_within
-    (key_is_within c.args.args.now c.requires.args_within c.in_ok-key.ensures)
-    (taken_at (lent c.args.scene) c.args.amount c.args.s.now.place refl c.of-instance.ensures c.in_ok-take.ensures)
+    taken_within (λ _. state_of c.take.new.state) (lent c.args.scene) (state_of c.args.state.now) c.args.s.now.predicate c.in_ok-key.key c.args.values.amount c.args.s.now.place c.requires.state_within
+    (key_is_within c.args.values.args.now c.requires.args_within c.in_ok-key.ensures)
+    (taken_at (lent c.args.scene) c.args.values.amount c.args.s.now.place refl c.of-instance.ensures c.in_ok-take.ensures)
 
 pub open_in-requires-clause-scene_within : goal.open_in-requires-clause-scene_within
-open_in-requires-clause-scene_within c = subst IsWithinScene (sym c.with_variables-inside.ensures) (scene_within c.args.args.now (lent c.args.scene) c.requires.args_within c.requires.scene_within)
+open_in-requires-clause-scene_within c = subst IsWithinScene (sym c.with_variables-inside.ensures) (scene_within c.args.values.args.now (lent c.args.scene) c.requires.args_within c.requires.scene_within)
 
 pub returns-clause-answers : goal.returns-clause-answers
 returns-clause-answers c =
     goes_then _ (calmly _ c.in_ok-key.ensures) (calm_then _ (found_as (λ b. assertion_of b.now) _ _ c.in_ok-body.ensures ∙ ap found c.body_of.ensures)
-    (goes_then _ (calmly _ (taken_at (lent c.args.scene) c.args.amount c.args.s.now.place refl c.of-instance.ensures c.in_ok-take.ensures))
+    (goes_then _ (calmly _ (taken_at (lent c.args.scene) c.args.values.amount c.args.s.now.place refl c.of-instance.ensures c.in_ok-take.ensures))
     (calm_then _ (found_as content_of _ _ c.in_ok-content-2.ensures ∙ ap found c.in_ok-content.ensures)
-    (same_answers (ap (λ inside. opened Bounded (assertion_of c.in_ok-body.body.now) (content_of c.in_ok-content-2.content) (state_of c.take.new.state) inside c.args.amount)
+    (same_answers (ap (λ inside. opened Bounded (assertion_of c.in_ok-body.body.now) (content_of c.in_ok-content-2.content) (state_of c.take.new.state) inside c.args.values.amount)
     (sym c.with_variables-inside.ensures)) c.open_in.ensures.answers))))

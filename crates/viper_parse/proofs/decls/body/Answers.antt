@@ -1,10 +1,10 @@
 use Rattle.std.proofs.Common.{ap}
 use Rattle.viper_grammar.specs.Grammar as g
 use Rattle.viper_parse.specs.View.{body_of}
-use Rattle.viper_grammar.proofs.Reading.{start, by_token, by_other, by_part, whole}
-use Rattle.viper_grammar.proofs.Steps.{part_error, whole_as}
+use Rattle.viper_grammar.proofs.Reading.{viper_steps}
 use Rattle.viper_parse.proofs.decls.body.Goals as goal
 use Rattle.std.proofs.Common.{Some}
+open viper_steps use {start, by_token, by_other, by_part, whole, part_error, whole_as}
 
 pub returns-in_default-clause-reads : goal.returns-in_default-clause-reads
 returns-in_default-clause-reads c =

@@ -3,9 +3,10 @@ use Rattle.viper_syntax.specs.View.{term_of, clause_of}
 use Rattle.viper_grammar.specs.Tests as v
 use Rattle.viper_grammar.specs.Grammar as g
 use Rattle.viper_parse.specs.View.{clauses_of}
-use Rattle.viper_grammar.proofs.Reading.{start, by_token, by_other, by_part, whole}
-use Rattle.viper_grammar.proofs.Steps.{part_error, tail, goes_at, pushed_more}
+use Rattle.viper_grammar.proofs.Reading.{viper_steps}
+use Rattle.grammar.proofs.Pushed.{pushed_more}
 use Rattle.viper_parse.proofs.decls.clauses.Goals as goal
+open viper_steps use {start, by_token, by_other, by_part, whole, part_error, tail, goes_at}
 
 pub loop-word-init : goal.loop-word-init
 loop-word-init c =

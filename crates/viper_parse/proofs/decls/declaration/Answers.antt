@@ -1,9 +1,8 @@
 use Rattle.viper_grammar.specs.Grammar as g
-use Rattle.viper_grammar.proofs.Reading.{start, by_token, by_other, by_part, whole}
-use Rattle.viper_grammar.proofs.Steps.{tail}
+use Rattle.viper_grammar.proofs.Reading.{viper_steps}
 use Rattle.viper_parse.proofs.decls.declaration.Goals as goal
-use Rattle.viper_grammar.proofs.Reading.{wrong_part}
 use Rattle.viper_parse.proofs.Whole.{declares_error}
+open viper_steps use {start, by_token, by_other, by_part, whole, tail, wrong_part}
 
 pub returns-in_err-declared-clause-reads : goal.returns-in_err-declared-clause-reads
 returns-in_err-declared-clause-reads c =

@@ -2,12 +2,13 @@ use Rattle.std.proofs.Common.{refl, ap, map, [], arith}
 use Rattle.viper_syntax.specs.View.{decl_of}
 use Rattle.viper_grammar.specs.Tests as v
 use Rattle.viper_grammar.specs.Grammar as g
-use Rattle.viper_grammar.proofs.Reading.{start}
-use Rattle.viper_grammar.proofs.Steps.{goes_at, goes_then, pushed_more}
+use Rattle.viper_grammar.proofs.Reading.{viper_steps}
+use Rattle.grammar.proofs.Pushed.{pushed_more}
 use Rattle.viper_parse.proofs.decls.declarations.Goals as goal
 use Rattle.std.proofs.Common.{subst}
 use Rattle.viper_grammar.specs.Greedy.{Reads}
 use Rattle.viper_parse.proofs.Whole.{whole_error, left_over, some_token, no_token_left}
+open viper_steps use {start, goes_at, goes_then}
 
 pub loop-next-init : goal.loop-next-init
 loop-next-init c =

@@ -2,9 +2,9 @@ use Rattle.std.proofs.Common.{ap, ◌∙◌, [], ◌∷◌, ◌++◌, arith}
 use Rattle.viper_grammar.specs.Tests as v
 use Rattle.viper_grammar.specs.Grammar as g
 use Rattle.viper_parse.specs.View.{formals_of}
-use Rattle.viper_grammar.proofs.Reading.{start, by_need, by_token, by_other, by_part, whole}
-use Rattle.viper_grammar.proofs.Steps.{part_error, token_error, tail, whole_as, goes_at}
+use Rattle.viper_grammar.proofs.Reading.{viper_steps}
 use Rattle.viper_parse.proofs.decls.formals.Goals as goal
+open viper_steps use {start, by_need, by_token, by_other, by_part, whole, part_error, token_error, tail, whole_as, goes_at}
 
 pub returns-in-Some-clause-reads : goal.returns-in-Some-clause-reads
 returns-in-Some-clause-reads c =

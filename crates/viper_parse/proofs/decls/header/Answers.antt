@@ -1,9 +1,9 @@
 use Rattle.std.proofs.Common.{Err, refl}
-use Rattle.viper_grammar.proofs.Reading.{start, by_need, by_part}
-use Rattle.viper_grammar.proofs.Steps.{part_error, token_error}
+use Rattle.viper_grammar.proofs.Reading.{viper_steps}
 use Rattle.viper_parse.specs.Header.{header}
 use Rattle.viper_parse.proofs.HeaderLaws.{header_error}
 use Rattle.viper_parse.proofs.decls.header.Goals as goal
+open viper_steps use {start, by_need, by_part, part_error, token_error}
 
 pub returns-in_err-named-clause-reads : goal.returns-in_err-named-clause-reads
 returns-in_err-named-clause-reads c =

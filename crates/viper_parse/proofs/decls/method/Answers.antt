@@ -1,9 +1,9 @@
 use Rattle.viper_syntax.specs.View.{decl_of}
 use Rattle.viper_grammar.specs.Grammar as g
-use Rattle.viper_grammar.proofs.Reading.{start, by_part, whole}
-use Rattle.viper_grammar.proofs.Steps.{part_error}
+use Rattle.viper_grammar.proofs.Reading.{viper_steps}
 use Rattle.viper_parse.proofs.HeaderLaws.{head_error, by_header}
 use Rattle.viper_parse.proofs.decls.method.Goals as goal
+open viper_steps use {start, by_part, whole, part_error}
 
 pub returns-in_err-named-clause-reads : goal.returns-in_err-named-clause-reads
 returns-in_err-named-clause-reads c =

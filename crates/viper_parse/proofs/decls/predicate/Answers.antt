@@ -2,11 +2,11 @@ use Rattle.std.proofs.Common.{ap}
 use Rattle.viper_syntax.specs.Decl as d
 use Rattle.viper_syntax.specs.View.{term_of, decl_of}
 use Rattle.viper_grammar.specs.Grammar as g
-use Rattle.viper_grammar.proofs.Reading.{start, by_need, by_token, by_other, by_part, whole}
-use Rattle.viper_grammar.proofs.Steps.{part_error, token_error, whole_as}
+use Rattle.viper_grammar.proofs.Reading.{viper_steps}
 use Rattle.viper_parse.proofs.HeaderLaws.{head_error, by_header}
 use Rattle.viper_parse.proofs.decls.predicate.Goals as goal
 use Rattle.std.proofs.Common.{Some}
+open viper_steps use {start, by_need, by_token, by_other, by_part, whole, part_error, token_error, whole_as}
 
 pub returns-in_err-named-clause-reads : goal.returns-in_err-named-clause-reads
 returns-in_err-named-clause-reads c =

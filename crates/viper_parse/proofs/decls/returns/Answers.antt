@@ -1,8 +1,8 @@
 use Rattle.viper_grammar.specs.Grammar as g
 use Rattle.viper_parse.specs.View.{formals_of}
-use Rattle.viper_grammar.proofs.Reading.{start, by_need, by_token, by_other}
-use Rattle.viper_grammar.proofs.Steps.{token_error, tail, pass_on, whole_as}
+use Rattle.viper_grammar.proofs.Reading.{viper_steps}
 use Rattle.viper_parse.proofs.decls.returns.Goals as goal
+open viper_steps use {start, by_need, by_token, by_other, token_error, tail, pass_on, whole_as}
 
 pub returns-in_default-clause-reads : goal.returns-in_default-clause-reads
 returns-in_default-clause-reads c =

@@ -4,10 +4,11 @@ use Rattle.viper_syntax.specs.View.{term_of, stmt_of, arm_of, block_of}
 use Rattle.viper_grammar.specs.Tests as v
 use Rattle.viper_grammar.specs.Grammar as g
 use Rattle.viper_parse.specs.View.{stmts_in}
-use Rattle.viper_grammar.proofs.Reading.{start, by_need, by_token, by_other, by_part, whole}
-use Rattle.viper_grammar.proofs.Steps.{part_error, token_error, tail, pass_on, whole_as, goes_at, goes_by, pushed_first, pushed_more}
+use Rattle.viper_grammar.proofs.Reading.{viper_steps}
+use Rattle.grammar.proofs.Pushed.{pushed_first, pushed_more}
 use Rattle.grammar.proofs.LessLaws.{less, less_end, end_less, less_on}
 use Rattle.viper_parse.proofs.stmts.+stmts.Goals as goal
+open viper_steps use {start, by_need, by_token, by_other, by_part, whole, part_error, token_error, tail, pass_on, whole_as, goes_at, goes_by}
 
 pub statement-returns-in-Some-clause-reads : goal.statement-returns-in-Some-clause-reads
 statement-returns-in-Some-clause-reads t c =

@@ -1,8 +1,8 @@
 use Rattle.viper_syntax.specs.View.{stmt_of}
 use Rattle.viper_grammar.specs.Grammar as g
-use Rattle.viper_grammar.proofs.Reading.{start, by_need, by_token, by_other, by_part, whole}
-use Rattle.viper_grammar.proofs.Steps.{part_error, token_error, pass_on}
+use Rattle.viper_grammar.proofs.Reading.{viper_steps}
 use Rattle.viper_parse.proofs.stmts.after_name.Goals as goal
+open viper_steps use {start, by_need, by_token, by_other, by_part, whole, part_error, token_error, pass_on}
 
 pub returns-in_err-args-clause-reads : goal.returns-in_err-args-clause-reads
 returns-in_err-args-clause-reads c =

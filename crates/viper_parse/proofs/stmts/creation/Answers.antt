@@ -2,9 +2,9 @@ use Rattle.std.proofs.Common.{ap, ◌∙◌, false, true}
 use Rattle.viper_syntax.specs.Stmt as s
 use Rattle.viper_syntax.specs.View.{rhs_of}
 use Rattle.viper_grammar.specs.Grammar as g
-use Rattle.viper_grammar.proofs.Reading.{start, by_need, by_token, by_other}
-use Rattle.viper_grammar.proofs.Steps.{token_error, pass_on, whole_as}
+use Rattle.viper_grammar.proofs.Reading.{viper_steps}
 use Rattle.viper_parse.proofs.stmts.creation.Goals as goal
+open viper_steps use {start, by_need, by_token, by_other, token_error, pass_on, whole_as}
 
 pub returns-in_err-rest-clause-reads : goal.returns-in_err-rest-clause-reads
 returns-in_err-rest-clause-reads c =

@@ -1,7 +1,7 @@
 use Rattle.viper_grammar.specs.Grammar as g
-use Rattle.viper_grammar.proofs.Reading.{start, by_need, whole}
-use Rattle.viper_grammar.proofs.Steps.{token_error}
+use Rattle.viper_grammar.proofs.Reading.{viper_steps}
 use Rattle.viper_parse.proofs.stmts.formal.Goals as goal
+open viper_steps use {start, by_need, whole, token_error}
 
 pub returns-in_err-named-clause-reads : goal.returns-in_err-named-clause-reads
 returns-in_err-named-clause-reads c =

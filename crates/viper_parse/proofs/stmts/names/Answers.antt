@@ -1,8 +1,9 @@
 use Rattle.std.proofs.Common.{ap, ◌∙◌, [], ◌∷◌, ◌++◌}
 use Rattle.viper_grammar.specs.Grammar as g
 use Rattle.viper_parse.specs.View.{names_of}
-use Rattle.viper_grammar.proofs.Steps.{parses_at}
+use Rattle.viper_grammar.proofs.Reading.{viper_steps}
 use Rattle.viper_parse.proofs.stmts.names.Goals as goal
+open viper_steps use {parses_at}
 
 pub returns-clause-reads : goal.returns-clause-reads
 returns-clause-reads c =

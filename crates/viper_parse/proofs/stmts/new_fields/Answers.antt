@@ -1,8 +1,8 @@
 use Rattle.viper_syntax.specs.View.{rhs_of}
 use Rattle.viper_grammar.specs.Grammar as g
-use Rattle.viper_grammar.proofs.Reading.{start, by_need, by_part}
-use Rattle.viper_grammar.proofs.Steps.{part_error, token_error, whole_as}
+use Rattle.viper_grammar.proofs.Reading.{viper_steps}
 use Rattle.viper_parse.proofs.stmts.new_fields.Goals as goal
+open viper_steps use {start, by_need, by_part, part_error, token_error, whole_as}
 
 pub returns-in_err-named-clause-reads : goal.returns-in_err-named-clause-reads
 returns-in_err-named-clause-reads c =

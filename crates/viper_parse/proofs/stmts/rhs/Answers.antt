@@ -1,8 +1,8 @@
 use Rattle.viper_syntax.specs.View.{rhs_of}
 use Rattle.viper_grammar.specs.Grammar as g
-use Rattle.viper_grammar.proofs.Reading.{start, by_token, by_other, by_part}
-use Rattle.viper_grammar.proofs.Steps.{part_error, tail, pass_on, whole_as}
+use Rattle.viper_grammar.proofs.Reading.{viper_steps}
 use Rattle.viper_parse.proofs.stmts.rhs.Goals as goal
+open viper_steps use {start, by_token, by_other, by_part, part_error, tail, pass_on, whole_as}
 
 pub returns-in-Some-clause-reads : goal.returns-in-Some-clause-reads
 returns-in-Some-clause-reads c =

@@ -1,8 +1,8 @@
 use Rattle.std.proofs.Common.{arith}
 use Rattle.viper_grammar.specs.Grammar as g
-use Rattle.viper_grammar.proofs.Reading.{start, by_token, by_other, whole}
-use Rattle.viper_grammar.proofs.Steps.{tail}
+use Rattle.viper_grammar.proofs.Reading.{viper_steps}
 use Rattle.viper_parse.proofs.stmts.semicolons.Goals as goal
+open viper_steps use {start, by_token, by_other, whole, tail}
 
 pub loop-after-init : goal.loop-after-init
 loop-after-init c =

@@ -2,9 +2,9 @@ use Rattle.std.proofs.Common.{arith}
 use Rattle.viper_grammar.specs.Tests as v
 use Rattle.viper_grammar.specs.Grammar as g
 use Rattle.viper_parse.specs.View.{names_of}
-use Rattle.viper_grammar.proofs.Reading.{start, by_need, by_token, by_other, whole}
-use Rattle.viper_grammar.proofs.Steps.{token_error, tail, goes_at}
+use Rattle.viper_grammar.proofs.Reading.{viper_steps}
 use Rattle.viper_parse.proofs.stmts.separated.Goals as goal
+open viper_steps use {start, by_need, by_token, by_other, whole, token_error, tail, goes_at}
 
 pub loop-after-init : goal.loop-after-init
 loop-after-init c =

@@ -1,9 +1,9 @@
 use Rattle.viper_syntax.specs.View.{stmt_of}
 use Rattle.viper_syntax.specs.declared.tokens.Sign.TheVariants as sign
 use Rattle.viper_grammar.specs.Grammar as g
-use Rattle.viper_grammar.proofs.Reading.{start, by_need, by_part, whole}
-use Rattle.viper_grammar.proofs.Steps.{part_error, token_error, symbol_at, symbol_refuses_at}
+use Rattle.viper_grammar.proofs.Reading.{viper_steps}
 use Rattle.viper_parse.proofs.stmts.targets.Goals as goal
+open viper_steps use {start, by_need, by_part, whole, part_error, token_error, symbol_at, symbol_refuses_at}
 
 pub returns-in_err-second-clause-reads : goal.returns-in_err-second-clause-reads
 returns-in_err-second-clause-reads c =

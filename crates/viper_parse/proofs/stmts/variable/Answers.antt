@@ -1,8 +1,8 @@
 use Rattle.viper_syntax.specs.View.{stmt_of}
 use Rattle.viper_grammar.specs.Grammar as g
-use Rattle.viper_grammar.proofs.Reading.{start, by_token, by_other, by_part, whole}
-use Rattle.viper_grammar.proofs.Steps.{part_error}
+use Rattle.viper_grammar.proofs.Reading.{viper_steps}
 use Rattle.viper_parse.proofs.stmts.variable.Goals as goal
+open viper_steps use {start, by_token, by_other, by_part, whole, part_error}
 
 pub returns-in_err-declared-clause-reads : goal.returns-in_err-declared-clause-reads
 returns-in_err-declared-clause-reads c =

@@ -9,10 +9,13 @@ use Rattle.viper_grammar.specs.Grammar as g
 use Rattle.viper_grammar.specs.Greedy.{called, given}
 use Rattle.viper_grammar.specs.View.{part_of, instance_of}
 use Rattle.viper_parse.specs.View.{arguments_of}
-use Rattle.viper_grammar.proofs.Reading.{fails_in, start, by_need, by_token, by_other, by_part, whole}
-use Rattle.viper_grammar.proofs.Steps.{error_as, part_error, token_error, tail, pass_on, whole_as, goes_at, stays, goes_further, once, again, level_longer, level_fails, longer_fails, level_at, level_refuses_at, pushed_first, pushed_more}
+use Rattle.viper_grammar.proofs.Reading.{viper_failing, viper_steps}
+use Rattle.grammar.proofs.Pushed.{pushed_first, pushed_more}
+use Rattle.viper_grammar.proofs.Steps.{stays, goes_further, level_longer, level_fails, longer_fails, level_at, level_refuses_at}
 use Rattle.grammar.proofs.LessLaws.{less, less_on, at_most_on, no_more}
 use Rattle.viper_parse.proofs.terms.+terms.Goals as goal
+open viper_failing use {fails_in}
+open viper_steps use {start, by_need, by_token, by_other, by_part, whole, error_as, part_error, token_error, tail, pass_on, whole_as, goes_at, once, again}
 
 pub term-returns-in_err-part-clause-reads : goal.term-returns-in_err-part-clause-reads
 term-returns-in_err-part-clause-reads t c =

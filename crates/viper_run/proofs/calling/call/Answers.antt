@@ -22,14 +22,14 @@ pub returns-in_err-give_up : goal.returns-in_err-give_up
 returns-in_err-give_up c =
     let k = activation_of c.args.activation in
     let r = c.requires.ready in
-    passed _ _ c.from_residual-in_err-give_up.ensures.1 (call_stops k c.args.targets.now (method_of c.args.callee.now) c.args.args.items c.args.at (configuration_of c.args.configuration.now)
+    passed _ _ c.from_residual-in_err-give_up.ensures.1 (call_stops k c.args.called.targets.now (method_of c.args.called.callee.now) c.args.args.items c.args.called.at (configuration_of c.args.configuration.now)
     (c.with_variables-scene.ensures ∙ (λ i. with_variables (c.deref.ensures.value i) (c.scene.ensures i))) (ap assertions_of c.deref-2.ensures.value) (c.in_err-give_up.ensures k.program r.state.maps r.state.fit))
 
 pub returns-in_err-returns : goal.returns-in_err-returns
 returns-in_err-returns c =
     let k = activation_of c.args.activation in
     let r = c.requires.ready in
-    passed _ _ c.from_residual-in_err-returns.ensures.1 (values_stop k c.args.targets.now (method_of c.args.callee.now) c.args.args.items c.args.at (configuration_of c.args.configuration.now)
+    passed _ _ c.from_residual-in_err-returns.ensures.1 (values_stop k c.args.called.targets.now (method_of c.args.called.callee.now) c.args.args.items c.args.called.at (configuration_of c.args.configuration.now)
     (c.with_variables-scene.ensures ∙ (λ i. with_variables (c.deref.ensures.value i) (c.scene.ensures i))) (ap assertions_of c.deref-2.ensures.value) (c.in_ok-give_up.ensures k.program r.state.maps r.state.fit)
     c.in_err-returns.ensures)
 
@@ -37,7 +37,7 @@ pub end_call-requires-clause-returns_within : goal.end_call-requires-clause-retu
 end_call-requires-clause-returns_within c =
     let k = activation_of c.args.activation in
     let r = c.requires.ready in
-    (does_keep (taking_values_within k.vars c.args.targets.now) (left_kept IsWithinChoice r.state.choices (c.in_ok-give_up.ensures k.program r.state.maps r.state.fit)) c.in_ok-returns.ensures).0
+    (does_keep (taking_values_within k.vars c.args.called.targets.now) (left_kept IsWithinChoice r.state.choices (c.in_ok-give_up.ensures k.program r.state.maps r.state.fit)) c.in_ok-returns.ensures).0
 
 pub end_call-requires-clause-state_within : goal.end_call-requires-clause-state_within
 end_call-requires-clause-state_within c =
@@ -60,6 +60,6 @@ pub returns : goal.returns
 returns c =
     let k = activation_of c.args.activation in
     let r = c.requires.ready in
-    call_goes k c.args.targets.now (method_of c.args.callee.now) c.args.args.items c.args.at (configuration_of c.args.configuration.now)
+    call_goes k c.args.called.targets.now (method_of c.args.called.callee.now) c.args.args.items c.args.called.at (configuration_of c.args.configuration.now)
     (c.with_variables-scene.ensures ∙ (λ i. with_variables (c.deref.ensures.value i) (c.scene.ensures i))) (ap assertions_of c.deref-2.ensures.value) (c.in_ok-give_up.ensures k.program r.state.maps r.state.fit)
-    c.in_ok-before.ensures (ap assertions_of c.deref-3.ensures.value) c.in_ok-returns.ensures c.end_call.ensures
+    c.in_ok-before.ensures c.in_ok-returns.ensures c.end_call.ensures

@@ -18,10 +18,10 @@ produce_all-requires-clause-scene_within c =
 
 pub returns-in_err-produce_all : goal.returns-in_err-produce_all
 returns-in_err-produce_all c =
-    passed _ _ c.from_residual-in_err-produce_all.ensures.1 (end_stops c.args.at c.args.targets.now (assertions_of c.args.postconditions.now) c.args.args.items c.args.returns.items (state_of c.args.before.now) (configuration_of c.args.configuration.now)
-    (c.deref-2.ensures.value ∙ c.in_ok-extend_from_slice.ensures.items ∙ ap (λ vs. c.args.args.items ++ vs) c.deref.ensures.value) c.in_err-produce_all.ensures)
+    passed _ _ c.from_residual-in_err-produce_all.ensures.1 (end_stops c.args.called.at c.args.called.targets.now (assertions_of c.args.called.callee.now.postconditions.items) c.args.args.items c.args.returns.items (state_of c.args.before.now) (configuration_of c.args.configuration.now)
+    (c.deref-2.ensures.value ∙ c.in_ok-extend_from_slice.ensures.items ∙ ap (λ vs. c.args.args.items ++ vs) c.deref.ensures.value) (ap assertions_of c.deref-3.ensures.value) c.in_err-produce_all.ensures)
 
 pub returns : goal.returns
 returns c =
-    end_goes c.args.at c.args.targets.now (assertions_of c.args.postconditions.now) c.args.args.items c.args.returns.items (state_of c.args.before.now) (configuration_of c.args.configuration.now)
-    (c.deref-2.ensures.value ∙ c.in_ok-extend_from_slice.ensures.items ∙ ap (λ vs. c.args.args.items ++ vs) c.deref.ensures.value) c.set_all.new.self.values.items (state_of c.produce_all.new.state) (c.set_all.ensures ∙ ap (stored c.args.configuration.now.store.values.items c.args.targets.now) c.deref-3.ensures.value) c.in_ok-produce_all.ensures
+    end_goes c.args.called.at c.args.called.targets.now (assertions_of c.args.called.callee.now.postconditions.items) c.args.args.items c.args.returns.items (state_of c.args.before.now) (configuration_of c.args.configuration.now)
+    (c.deref-2.ensures.value ∙ c.in_ok-extend_from_slice.ensures.items ∙ ap (λ vs. c.args.args.items ++ vs) c.deref.ensures.value) (ap assertions_of c.deref-3.ensures.value) c.set_all.new.self.values.items (state_of c.produce_all.new.state) (c.set_all.ensures ∙ ap (stored c.args.configuration.now.store.values.items c.args.called.targets.now) c.deref-4.ensures.value) c.in_ok-produce_all.ensures

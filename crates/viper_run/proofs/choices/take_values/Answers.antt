@@ -1,4 +1,5 @@
 use Rattle.std.proofs.Common.{refl, sym, ap, ◌∙◌, ◌+◌, drop, get_or, List, [], ◌∷◌, ◌++◌}
+use Rattle.lemmas.proofs.Lists.{next_number}
 use Rattle.vb_value.specs.declared.values.Value.{Value}
 use Rattle.viper_state.specs.View.{feed_of}
 use Rattle.viper_meaning.specs.Statements as m
@@ -6,7 +7,7 @@ use Rattle.viper_meaning.proofs.ThenLaws.{then_is}
 use Rattle.viper_inhale.specs.Answers.{run_of, no_memory}
 use Rattle.viper_inhale.proofs.DoesLaws.{passed}
 use Rattle.viper_run.proofs.ChoiceLaws.{all_taken, one_taken, none_taken, more_taken}
-use Rattle.viper_run.proofs.EachLaws.{number_at, each_goes, each_stops, each_end}
+use Rattle.viper_run.proofs.EachLaws.{each_goes, each_stops, each_end}
 use Rattle.viper_run.proofs.StepLaws.{ended_as}
 use Rattle.viper_run.proofs.choices.take_values.Goals as goal
 
@@ -24,7 +25,7 @@ returns-in_err-take_value_of c =
     let us = c.args.types.now in
     let xs = c.args.variables.now in
     let i = c.loop-variable.variable-index in
-    passed _ _ c.from_residual-in_err-take_value_of.ensures.1 (each_stops (all_taken us) (one_taken us) (none_taken us) (more_taken us) xs i (get_or xs i 0) c.loop-variable.values.items (number_at xs i c.loop-variable-test.true)
+    passed _ _ c.from_residual-in_err-take_value_of.ensures.1 (each_stops (all_taken us) (one_taken us) (none_taken us) (more_taken us) xs i (get_or xs i 0) c.loop-variable.values.items (next_number xs i c.loop-variable-test.true)
     c.loop-variable.invariant (ended_as (λ v. c.loop-variable.values.items ++ v ∷ []) (λ v. refl) c.in_err-take_value_of.ensures))
 
 pub returns-in_err-push : goal.returns-in_err-push
@@ -36,7 +37,7 @@ loop-variable-preserved c =
     let xs = c.args.variables.now in
     let i = c.loop-variable.variable-index in
     let so_far = c.loop-variable.values.items in
-    each_goes (all_taken us) (one_taken us) (none_taken us) (more_taken us) xs i (m.taking_values us xs) (feed_of c.args.feed.now) (get_or xs i 0) so_far (number_at xs i c.loop-variable-test.true)
+    each_goes (all_taken us) (one_taken us) (none_taken us) (more_taken us) xs i (m.taking_values us xs) (feed_of c.args.feed.now) (get_or xs i 0) so_far (next_number xs i c.loop-variable-test.true)
     c.loop-variable.invariant (ended_as {u = λ v. so_far ++ v ∷ []} (λ v. so_far ++ v ∷ []) (λ v. refl) c.in_ok-take_value_of.ensures)
     ∙ ap (λ vs. run_of (all_taken us (drop (i + 1) xs) vs) (feed_of c.take_value_of.new.feed)) (sym {A = List Value} c.in_ok-push.ensures.items)
 

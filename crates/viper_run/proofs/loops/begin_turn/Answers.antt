@@ -1,3 +1,4 @@
+use Rattle.std.proofs.Common.{true}
 use Rattle.viper_core.specs.View.{assertions_of, expr_of}
 use Rattle.viper_inhale.proofs.DoesLaws.{passed}
 use Rattle.viper_inhale.proofs.FormLaws.{first_stops, both_go}
@@ -20,12 +21,12 @@ pub returns-in_err-configuration : goal.returns-in_err-configuration
 returns-in_err-configuration c =
     let k = activation_of c.args.activation in
     let d = configuration_of c.args.configuration.now in
-    passed _ _ c.from_residual.ensures.1 (first_stops (guarded k c.args.turns.now.at (expr_of c.args.turns.now.guard) (assertions_of c.args.turns.now.invariants.items) d)
-    (state_then k.program (guarded k c.args.turns.now.at (expr_of c.args.turns.now.guard) (assertions_of c.args.turns.now.invariants.items) d)) c.in_err-configuration.ensures)
+    passed _ _ c.from_residual.ensures.1 (first_stops (guarded true k c.args.turns.now.at (expr_of c.args.turns.now.guard) (assertions_of c.args.turns.now.invariants.items) d)
+    (state_then k.program (guarded true k c.args.turns.now.at (expr_of c.args.turns.now.guard) (assertions_of c.args.turns.now.invariants.items) d)) c.in_err-configuration.ensures)
 
 pub returns : goal.returns
 returns c =
     let k = activation_of c.args.activation in
     let d = configuration_of c.args.configuration.now in
-    both_go (guarded k c.args.turns.now.at (expr_of c.args.turns.now.guard) (assertions_of c.args.turns.now.invariants.items) d)
-    (state_then k.program (guarded k c.args.turns.now.at (expr_of c.args.turns.now.guard) (assertions_of c.args.turns.now.invariants.items) d)) c.in_ok-configuration.ensures c.assume_guard.ensures
+    both_go (guarded true k c.args.turns.now.at (expr_of c.args.turns.now.guard) (assertions_of c.args.turns.now.invariants.items) d)
+    (state_then k.program (guarded true k c.args.turns.now.at (expr_of c.args.turns.now.guard) (assertions_of c.args.turns.now.invariants.items) d)) c.in_ok-configuration.ensures c.assume_guard.ensures

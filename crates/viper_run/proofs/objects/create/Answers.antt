@@ -1,8 +1,9 @@
 use Rattle.std.proofs.Common.{refl, get_or, [], ◌∷◌}
+use Rattle.lemmas.proofs.Lists.{next_number}
 use Rattle.viper_state.specs.View.{feed_of, state_of}
 use Rattle.viper_meaning.specs.Statements as m
 use Rattle.viper_inhale.proofs.DoesLaws.{passed}
-use Rattle.viper_run.proofs.EachLaws.{number_at, each_goes, each_stops, each_end}
+use Rattle.viper_run.proofs.EachLaws.{each_goes, each_stops, each_end}
 use Rattle.viper_run.proofs.ObjectLaws.{created_more}
 use Rattle.viper_run.proofs.objects.create.Goals as goal
 
@@ -12,7 +13,7 @@ returns-in_err-create_field c =
     let r = c.args.reference in
     let xs = c.args.fields.now in
     let i = c.loop-field.field-index in
-    passed _ _ c.from_residual.ensures.1 (each_stops (m.created us r) (λ x. m.created us r (x ∷ [])) (λ s. refl) (created_more us r) xs i (get_or xs i 0) (state_of c.loop-field.state) (number_at xs i c.loop-field-test.true)
+    passed _ _ c.from_residual.ensures.1 (each_stops (m.created us r) (λ x. m.created us r (x ∷ [])) (λ s. refl) (created_more us r) xs i (get_or xs i 0) (state_of c.loop-field.state) (next_number xs i c.loop-field-test.true)
     c.loop-field.invariant c.in_err-create_field.ensures)
 
 pub loop-field-preserved : goal.loop-field-preserved
@@ -22,7 +23,7 @@ loop-field-preserved c =
     let xs = c.args.fields.now in
     let i = c.loop-field.field-index in
     each_goes (m.created us r) (λ x. m.created us r (x ∷ [])) (λ s. refl) (created_more us r) xs i (m.created us r xs (state_of c.args.state.now)) (feed_of c.args.feed.now) (get_or xs i 0) (state_of c.loop-field.state)
-    (number_at xs i c.loop-field-test.true) c.loop-field.invariant c.in_ok-create_field.ensures
+    (next_number xs i c.loop-field-test.true) c.loop-field.invariant c.in_ok-create_field.ensures
 
 pub returns : goal.returns
 returns c =

@@ -26,7 +26,7 @@ decreases-run_block l = 3 * goal.size-run_block l + 1
 
 -- a condition goes on to either block
 abbrev pub decreases-run_if : goal.decreases-run_if
-decreases-run_if l = 3 * max (most the_size l.first.now) (most the_size l.second.now) + 2
+decreases-run_if l = 3 * max (most the_size l.blocks.first.now) (most the_size l.blocks.second.now) + 2
 
 abbrev pub decreases-run_loop : goal.decreases-run_loop
 decreases-run_loop l = 3 * goal.size-run_loop l + 1

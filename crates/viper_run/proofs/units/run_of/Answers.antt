@@ -1,9 +1,9 @@
 use Rattle.std.proofs.Common.{ap, ◌∙◌, slice_get}
+use Rattle.lemmas.proofs.Options.{looked_at}
 use Rattle.viper_core.specs.View.{program_of}
 use Rattle.viper_state.specs.View.{opening_of}
 use Rattle.viper_meaning.specs.Ends.{found}
 use Rattle.viper_inhale.proofs.DoesLaws.{passed}
-use Rattle.viper_run.proofs.CallLaws.{looked_at}
 use Rattle.viper_run.proofs.UnitLaws.{no_unit, a_unit}
 use Rattle.viper_run.proofs.units.run_of.Goals as goal
 

@@ -1,5 +1,6 @@
 use Rattle.std.proofs.Common.{◌≡◌, refl, arith, take, ◌+◌}
-use Rattle.viper_syntax.proofs.LimitLaws.{item_at, unclosed_more, one_more_front}
+use Rattle.lemmas.proofs.Lists.{item_at}
+use Rattle.viper_syntax.proofs.LimitLaws.{unclosed_more, one_more_front}
 use Rattle.viper_syntax.specs.Limit.{unclosed}
 use Rattle.viper_syntax.proofs.limits.first_deep_brace.Goals as goal
 

@@ -1,5 +1,6 @@
 use Rattle.std.proofs.Common.{◌≡◌, ◌∙◌, sym, refl, arith, false}
-use Rattle.viper_syntax.proofs.LimitLaws.{item_at, in_group_more}
+use Rattle.lemmas.proofs.Lists.{item_at}
+use Rattle.viper_syntax.proofs.LimitLaws.{in_group_more}
 use Rattle.viper_syntax.specs.Limit.{is_divider}
 use Rattle.viper_syntax.proofs.limits.first_long_group.Goals as goal
 use Rattle.viper_syntax.proofs.limits.first_long_group.Goals.{then-is_divider, else-is_divider}

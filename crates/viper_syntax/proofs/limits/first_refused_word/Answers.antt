@@ -1,5 +1,6 @@
 use Rattle.std.proofs.Common.{ℕ, ap, refl, cond, arith}
-use Rattle.viper_syntax.proofs.LimitLaws.{item_at, refused_more}
+use Rattle.lemmas.proofs.Lists.{item_at}
+use Rattle.viper_syntax.proofs.LimitLaws.{refused_more}
 use Rattle.viper_syntax.proofs.limits.first_refused_word.Goals as goal
 
 pub returns-then-is_refused : goal.returns-then-is_refused

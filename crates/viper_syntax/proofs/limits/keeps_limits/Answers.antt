@@ -1,6 +1,7 @@
 use Rattle.std.proofs.Common.{◌≡◌, ◌∙◌, ◌+◌, ℕ, refl, ap, sym, arith, cond, true, false, take}
+use Rattle.lemmas.proofs.Lists.{item_at}
 use Rattle.viper_syntax.specs.Limit.{unclosed, in_group, refused, is_divider}
-use Rattle.viper_syntax.proofs.LimitLaws.{item_at, unclosed_more, in_group_more, refused_more, one_more_front}
+use Rattle.viper_syntax.proofs.LimitLaws.{unclosed_more, in_group_more, refused_more, one_more_front}
 use Rattle.viper_syntax.proofs.limits.keeps_limits.Goals as goal
 use Rattle.viper_syntax.proofs.limits.keeps_limits.Goals.{then-is_divider, else-is_divider}
 

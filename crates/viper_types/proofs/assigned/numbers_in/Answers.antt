@@ -1,16 +1,16 @@
 use Rattle.std.proofs.Common.{◌≡◌, ◌∙◌, ap, sym, ℕ, ◌+◌, ◌<◌, List, [], ◌∷◌, ◌++◌, append_assoc, length, get_or, drop, map}
 use Rattle.std.proofs.lemmas.List.{append-nil, at_drop_all}
+use Rattle.lemmas.proofs.Lists.{next_item}
 use Rattle.viper_types.specs.Answers.{target_of}
 use Rattle.viper_types.specs.Stepping.{numbers_in}
 use Rattle.viper_types.specs.declared.frames.Target.{Target}
-use Rattle.viper_types.proofs.Turns.{left_at}
 use Rattle.viper_types.proofs.assigned.numbers_in.Goals as goal
 
 next_number : (front more all : List ℕ) (items : List Target) (i : ℕ) (v : Target) → i < length items → v ≡ get_or items i v → more ≡ front ++ v.number ∷ [] →
     front ++ numbers_in (map target_of (drop i items)) ≡ all → more ++ numbers_in (map target_of (drop (i + 1) items)) ≡ all
 next_number front more all items i v within is pushed so_far =
     let rest = numbers_in (map target_of (drop (i + 1) items)) in
-    ap (λ ns. ns ++ rest) pushed ∙ append_assoc front (v.number ∷ []) rest ∙ ap (λ vs. front ++ numbers_in (map target_of vs)) (sym (left_at items i v within is)) ∙ so_far
+    ap (λ ns. ns ++ rest) pushed ∙ append_assoc front (v.number ∷ []) rest ∙ ap (λ vs. front ++ numbers_in (map target_of vs)) (sym (next_item items i v within is)) ∙ so_far
 
 pub loop-target-preserved : goal.loop-target-preserved
 loop-target-preserved c =

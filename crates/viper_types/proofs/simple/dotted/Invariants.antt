@@ -8,4 +8,4 @@ use Rattle.viper_types.proofs.simple.dotted.Given as goal
 
 abbrev pub invariant-loop-field : goal.invariant-loop-field
 invariant-loop-field l =
-    dotted_on (world_of l.world) (place_of l.place) l.at (drop l.field-index l.rest) ≡ dotted (world_of l.world) (typing_of l.fn.receiver) l.fields
+    dotted_on (world_of l.world) (place_of l.place) l.at (drop l.field-index l.rest) ≡ dotted (world_of l.world) (typing_of l.fn.receiver) l.first l.rest

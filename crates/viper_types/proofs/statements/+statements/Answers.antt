@@ -8,6 +8,7 @@ use Rattle.viper_core.proofs.ViewLaws.{stmts_of-map}
 use Rattle.viper_syntax.specs.Stmt as s
 use Rattle.viper_syntax.specs.View.{arm_of, arms_of, else_of, block_of, stmt_of, stmts_of, term_of}
 use Rattle.viper_syntax.proofs.ViewLaws.{stmt_of-If, stmt_of-While}
+use Rattle.viper_scope.specs.Rules.{wrong_type}
 use Rattle.viper_scope.specs.Answers.{context_of}
 use Rattle.viper_types.specs.Answers.{frame_of, branch_of, branches_of, loop_terms_of, stmt_list_of}
 use Rattle.viper_scope.specs.Context.{nowhere}
@@ -87,7 +88,7 @@ stepping-returns-in_ok-other-in-If-clause-answers t c =
     (ap (stepping c.args.context.now.lists k c.args.depth fr) is ∙
     if_arms c.args.context.now.lists k c.args.depth fr (arms_of c.deref-in-If.result.now) other (branches_of c.in_ok-branches-in-If.branches) c.len.result (frame_of c.branches.new.frame)
     c.in_ok-branches-in-If.ensures.answers many c.in_ok-branches-in-If.ensures.after ∙
-    ap (λ j. then_typed j (λ ss. known (nested (branches_of c.in_ok-branches-in-If.branches) ss) nowhere 3 Found)) c.in_ok-other-in-If.ensures.answers)
+    ap (λ j. then_typed j (λ ss. known (nested (branches_of c.in_ok-branches-in-If.branches) ss) nowhere wrong_type Found)) c.in_ok-other-in-If.ensures.answers)
     c.nested.ensures
 
 pub stepping-returns-in_ok-terms-in-While-clause-after : goal.stepping-returns-in_ok-terms-in-While-clause-after

@@ -1,6 +1,8 @@
 use Rattle.wide_grammar.specs.Grammar as g
-use Rattle.wide_text.proofs.Steps.{start, by_token, by_other}
+use Rattle.wide_grammar.proofs.Reading.{wide_steps}
+use Rattle.wide_text.proofs.Steps.{by_token, by_other}
 use Rattle.wide_text.proofs.bound.eat_kind.Goals as goal
+open wide_steps use {start}
 
 pub returns-in-Some-clause-eats : goal.returns-in-Some-clause-eats
 returns-in-Some-clause-eats c = λ ls k. by_token c.in-Some.ensures.eats (start (g.rule (g.Clauses ls k)) c.args.tokens.now)

@@ -8,7 +8,7 @@ use Rattle.wide_text.proofs.bound.read_clauses.Given as goal
 abbrev pub invariant-loop-kind : goal.invariant-loop-kind
 invariant-loop-kind l = record {
   shorter : length l.rest ≤ length l.tokens;
-  goes : Goes (g.rule (g.Clauses l.fn.locals no_clauses)) l.tokens (g.rule (g.Clauses l.fn.locals (contract_of l.bound.items l.all))) l.rest;
+  goes : Goes (g.rule (g.Clauses l.fn.within.locals.now no_clauses)) l.tokens (g.rule (g.Clauses l.fn.within.locals.now (contract_of l.bound.items l.all))) l.rest;
 }
 
 abbrev pub decreases-loop-kind : goal.decreases-loop-kind

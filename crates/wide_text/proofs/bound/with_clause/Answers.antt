@@ -1,6 +1,6 @@
 use Rattle.std.proofs.Common.{◌∙◌, refl, sym, ap}
 use Rattle.boogie_wide.specs.View.{clause_of}
-use Rattle.boogie_grammar.proofs.Steps.{pushed_more}
+use Rattle.grammar.proofs.Pushed.{pushed_more}
 use Rattle.wide_text.specs.ClauseView.{contract_of, adding}
 use Rattle.wide_text.proofs.ClauseLaws.{contract_is}
 use Rattle.wide_text.proofs.bound.with_clause.Goals as goal

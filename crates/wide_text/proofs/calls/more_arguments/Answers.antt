@@ -1,18 +1,20 @@
 use Rattle.std.proofs.Common.{[], refl, ap, arith, map}
 use Rattle.wide_grammar.specs.Grammar as g
-use Rattle.wide_text.proofs.Steps.{start, by_need, by_token, by_other, by_old, whole_as, old_error, token_error, tail, goes_at}
+use Rattle.wide_grammar.proofs.Reading.{wide_steps}
+use Rattle.wide_text.proofs.Steps.{by_need, by_token, by_other, by_old, old_error, token_error, tail}
 use Rattle.grammar.proofs.LessLaws.{less, end_less}
 use Rattle.boogie_tree.specs.Whole.{expr_of}
 use Rattle.boogie_grammar.specs.Tests as v
 use Rattle.grammar.specs.Wider.{old}
 use Rattle.boogie_grammar.specs.ReadView.{all_exprs_of}
-use Rattle.boogie_grammar.proofs.Steps.{pushed_more}
+use Rattle.grammar.proofs.Pushed.{pushed_more}
 use Rattle.wide_text.proofs.calls.more_arguments.Goals as goal
+open wide_steps use {start, whole_as, goes_at}
 
 pub loop-next-init : goal.loop-next-init
 loop-next-init c = record {
   shorter = omega arith;
-  goes = goes_at (old (old v.exprs)) (λ es. g.rule (g.MoreArguments c.args.locals.now es)) (ap (map expr_of) c.new-all.ensures.items) (start (g.rule (g.MoreArguments c.args.locals.now [])) c.args.tokens.now);
+  goes = goes_at (old (old v.exprs)) (λ es. g.rule (g.MoreArguments c.args.within.locals.now es)) (ap (map expr_of) c.new-all.ensures.items) (start (g.rule (g.MoreArguments c.args.within.locals.now [])) c.args.tokens.now);
 }
 
 pub returns-in_err-next-clause-reads : goal.returns-in_err-next-clause-reads
@@ -33,5 +35,5 @@ returns-in_default-clause-shorter c = less (end_less c.loop-next.invariant.short
 pub loop-next-preserved : goal.loop-next-preserved
 loop-next-preserved c = record {
   shorter = omega (arith, c.in-Some.ensures.shorter, c.in_ok-next.ensures.shorter, c.loop-next.invariant.shorter);
-  goes = goes_at (old (old v.exprs)) (λ es. g.rule (g.MoreArguments c.args.locals.now es)) (pushed_more expr_of _ c.in_ok-all.ensures refl) (tail (by_token c.in-Some.ensures.eats (by_old c.in_ok-next.ensures.reads c.loop-next.invariant.goes)));
+  goes = goes_at (old (old v.exprs)) (λ es. g.rule (g.MoreArguments c.args.within.locals.now es)) (pushed_more expr_of _ c.in_ok-all.ensures refl) (tail (by_token c.in-Some.ensures.eats (by_old c.in_ok-next.ensures.reads c.loop-next.invariant.goes)));
 }

@@ -7,7 +7,7 @@ use Rattle.wide_text.proofs.calls.more_arguments.Given as goal
 abbrev pub invariant-loop-next : goal.invariant-loop-next
 invariant-loop-next l = record {
   shorter : length l.rest ≤ length l.tokens;
-  goes : Goes (g.rule (g.MoreArguments l.fn.locals [])) l.tokens (g.rule (g.MoreArguments l.fn.locals (map expr_of l.all.items))) l.rest;
+  goes : Goes (g.rule (g.MoreArguments l.fn.within.locals.now [])) l.tokens (g.rule (g.MoreArguments l.fn.within.locals.now (map expr_of l.all.items))) l.rest;
 }
 
 abbrev pub decreases-loop-next : goal.decreases-loop-next

@@ -1,10 +1,12 @@
 use Rattle.std.proofs.Common.{◌∙◌, ◌++◌, [], ◌∷◌, ap, arith}
 use Rattle.wide_grammar.specs.Grammar as g
 use Rattle.wide_text.specs.View.{numbers_of}
-use Rattle.wide_text.proofs.Steps.{start, by_need, whole, token_error, tail, goes_at}
+use Rattle.wide_grammar.proofs.Reading.{wide_steps}
+use Rattle.wide_text.proofs.Steps.{by_need, token_error, tail}
 use Rattle.grammar.specs.Wider.{new}
 use Rattle.wide_text.proofs.WideStmts.{next_target, last_target}
 use Rattle.wide_text.proofs.calls.targets.Goals as goal
+open wide_steps use {start, whole, goes_at}
 
 pub loop-after-init : goal.loop-after-init
 loop-after-init c = record {

@@ -1,15 +1,17 @@
 use Rattle.std.proofs.Common.{◌≡◌, ◌∙◌, ◌++◌, [], ◌∷◌, sym, ap, subst, arith, false}
 use Rattle.wide_grammar.specs.Grammar as g
-use Rattle.wide_text.proofs.Steps.{start, by_need, by_token, by_other, whole_as, token_error, tail, goes_at}
+use Rattle.wide_grammar.proofs.Reading.{wide_steps}
+use Rattle.wide_text.proofs.Steps.{by_need, by_token, by_other, token_error, tail}
 use Rattle.boogie_tree.specs.Whole.{locals_of, local_of}
 use Rattle.boogie_grammar.specs.Tests as v
 use Rattle.grammar.specs.Wider.{old}
 use Rattle.boogie_grammar.specs.ReadView.{all_locals_of}
-use Rattle.boogie_grammar.proofs.Steps.{pushed_more}
+use Rattle.grammar.proofs.Pushed.{pushed_more}
 use Rattle.boogie_grammar.specs.Words.{is_among}
 use Rattle.wide_grammar.specs.Words.{wide_words}
 use Rattle.wide_text.proofs.NameSets.{of_neither, one_more, named_at, unnamed_at, plain_is, longer_more}
 use Rattle.wide_text.proofs.heads.more_params.Goals as goal
+open wide_steps use {start, whole_as, goes_at}
 
 pub loop-name-init : goal.loop-name-init
 loop-name-init c = record { shorter = omega arith; longer = omega arith; names = c.requires; goes = start (g.rule (g.Params (locals_of c.args.before.items))) c.args.tokens.now }

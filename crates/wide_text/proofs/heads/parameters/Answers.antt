@@ -1,9 +1,11 @@
 use Rattle.std.proofs.Common.{ap}
 use Rattle.wide_grammar.specs.Grammar as g
-use Rattle.wide_text.proofs.Steps.{start, by_token, by_other, whole_as, tail, pass_on, goes_by}
+use Rattle.wide_grammar.proofs.Reading.{wide_steps}
+use Rattle.wide_text.proofs.Steps.{by_token, by_other, tail}
 use Rattle.boogie_tree.specs.Whole.{locals_of}
 use Rattle.boogie_grammar.specs.ReadView.{all_locals_of}
 use Rattle.wide_text.proofs.heads.parameters.Goals as goal
+open wide_steps use {start, whole_as, pass_on, goes_by}
 
 pub returns-in-Some-clause-reads : goal.returns-in-Some-clause-reads
 returns-in-Some-clause-reads c =

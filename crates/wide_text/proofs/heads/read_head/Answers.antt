@@ -1,5 +1,6 @@
 use Rattle.std.proofs.Common.{◌∙◌, sym}
-use Rattle.wide_text.proofs.Steps.{start, by_need, by_token, by_other, by_part, at_error, token_refuses, part_refuses}
+use Rattle.wide_grammar.proofs.Reading.{wide_steps}
+use Rattle.wide_text.proofs.Steps.{by_need, by_token, by_other, by_part, at_error, token_refuses, part_refuses}
 use Rattle.grammar.proofs.LessLaws.{less}
 use Rattle.boogie_tree.specs.Whole.{local_of}
 use Rattle.boogie_grammar.specs.ReadView.{all_locals_of}
@@ -7,6 +8,7 @@ use Rattle.wide_text.specs.Heads.{ReadsHead, heading}
 use Rattle.std.proofs.lemmas.List.{length-map}
 use Rattle.wide_text.proofs.NameSets.{minus_self, minus_as}
 use Rattle.wide_text.proofs.heads.read_head.Goals as goal
+open wide_steps use {start}
 
 pub returns-in_err-rest-clause-reads : goal.returns-in_err-rest-clause-reads
 returns-in_err-rest-clause-reads c =

@@ -1,11 +1,12 @@
 use Rattle.std.proofs.Common.{◌≡◌, ◌∙◌, ◌++◌, [], ◌∷◌, refl, sym, ap, subst, arith, false}
 use Rattle.wide_grammar.specs.Grammar as g
-use Rattle.wide_text.proofs.Steps.{start, by_need, by_token, by_other, by_old, whole, old_error, token_error, tail, goes_at}
+use Rattle.wide_grammar.proofs.Reading.{wide_steps}
+use Rattle.wide_text.proofs.Steps.{by_need, by_token, by_other, by_old, old_error, token_error, tail}
 use Rattle.boogie_tree.specs.Whole.{locals_of, local_of}
 use Rattle.boogie_grammar.specs.Tests as v
 use Rattle.grammar.specs.Wider.{old}
 use Rattle.boogie_grammar.specs.ReadView.{all_locals_of}
-use Rattle.boogie_grammar.proofs.Steps.{pushed_more}
+use Rattle.grammar.proofs.Pushed.{pushed_more}
 use Rattle.boogie_grammar.specs.Words.{is_among}
 use Rattle.wide_grammar.specs.Words.{wide_words}
 use Rattle.wide_text.proofs.NameSets.{of_neither, one_more, named_at, unnamed_at, same_among}
@@ -13,6 +14,7 @@ use Rattle.boogie_grammar.specs.Grammar.{local_names}
 use Rattle.boogie_tree.specs.Whole.{type_of}
 use Rattle.wide_text.proofs.NameSets.{same_start, same_misses}
 use Rattle.wide_text.proofs.heads.vars.Goals as goal
+open wide_steps use {start, whole, goes_at}
 
 pub loop-after-init : goal.loop-after-init
 loop-after-init c = record { shorter = omega arith; names = c.requires; goes = start (g.rule (g.Vars c.args.bound.now (locals_of c.args.before.items))) c.args.tokens.now }

@@ -1,8 +1,10 @@
 use Rattle.wide_grammar.specs.Grammar as g
 use Rattle.wide_text.specs.View.{ReadsMark}
-use Rattle.wide_text.proofs.Steps.{start, by_need, at_error, token_refuses}
+use Rattle.wide_grammar.proofs.Reading.{wide_steps}
+use Rattle.wide_text.proofs.Steps.{by_need, at_error, token_refuses}
 use Rattle.grammar.proofs.LessLaws.{less}
 use Rattle.wide_text.proofs.parts.mark.Goals as goal
+open wide_steps use {start}
 
 pub returns-in_err-rest-clause-reads : goal.returns-in_err-rest-clause-reads
 returns-in_err-rest-clause-reads c =

@@ -2,7 +2,8 @@ use Rattle.std.proofs.Common.{[]}
 use Rattle.boogie_wide.specs.View.{wproc_of}
 use Rattle.wide_grammar.specs.Grammar as g
 use Rattle.wide_text.specs.View.{block_of}
-use Rattle.wide_text.proofs.Steps.{start, by_need, rest_error, token_error, goes_then}
+use Rattle.wide_grammar.proofs.Reading.{wide_steps}
+use Rattle.wide_text.proofs.Steps.{by_need, rest_error, token_error}
 use Rattle.grammar.proofs.LessLaws.{less, less_end}
 use Rattle.boogie_tree.specs.Whole.{locals_of}
 use Rattle.std.specs.Option.{option_map}
@@ -12,6 +13,7 @@ use Rattle.wide_text.proofs.NameSets.{of_neither}
 use Rattle.wide_text.proofs.ProcedureLaws.{procedure_is}
 use Rattle.wide_text.proofs.WideStmts.{read_as}
 use Rattle.wide_text.proofs.procs.procedure.Goals as goal
+open wide_steps use {start, goes_then}
 
 pub returns-in_err-name-clause-reads : goal.returns-in_err-name-clause-reads
 returns-in_err-name-clause-reads c =

@@ -2,12 +2,14 @@ use Rattle.std.proofs.Common.{◌≡◌, ◌∙◌, ◌++◌, [], ◌∷◌, ref
 use Rattle.boogie_wide.specs.View.{wproc_of}
 use Rattle.wide_grammar.specs.Grammar as g
 use Rattle.wide_text.specs.View.{all_wprocs_of}
-use Rattle.wide_text.proofs.Steps.{by_token, by_other, by_part, whole, part_error, tail, goes_at, symbol_at, symbol_refuses_at}
+use Rattle.wide_grammar.proofs.Reading.{wide_steps}
+use Rattle.wide_text.proofs.Steps.{by_token, by_other, by_part, part_error, tail, symbol_at, symbol_refuses_at}
 use Rattle.grammar.specs.Wider.{new}
-use Rattle.boogie_grammar.proofs.Steps.{pushed_more}
+use Rattle.grammar.proofs.Pushed.{pushed_more}
 use Rattle.boogie_grammar.specs.Words.{is_among}
 use Rattle.wide_text.proofs.ProcedureLaws.{one_more_procedure}
 use Rattle.wide_text.proofs.procs.procedures.Goals as goal
+open wide_steps use {whole, goes_at}
 
 pub returns-in_err-next : goal.returns-in_err-next
 returns-in_err-next c =

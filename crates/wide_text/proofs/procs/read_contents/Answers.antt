@@ -1,12 +1,14 @@
 use Rattle.std.proofs.Common.{[]}
 use Rattle.wide_grammar.specs.Grammar as g
-use Rattle.wide_text.proofs.Steps.{start, by_need, by_token, by_other, by_part, whole, whole_as, part_error, token_error, symbol_at, symbol_refuses_at}
+use Rattle.wide_grammar.proofs.Reading.{wide_steps}
+use Rattle.wide_text.proofs.Steps.{by_need, by_token, by_other, by_part, part_error, token_error, symbol_at, symbol_refuses_at}
 use Rattle.boogie_tree.specs.Whole.{locals_of}
 use Rattle.wide_grammar.specs.Trees.{no_clauses}
 use Rattle.wide_text.specs.ClauseView.{contract_of}
 use Rattle.wide_text.specs.Procedures.{contents_of}
 use Rattle.wide_text.proofs.ProcedureLaws.{with_body}
 use Rattle.wide_text.proofs.procs.read_contents.Goals as goal
+open wide_steps use {start, whole, whole_as}
 
 pub returns-in_err-contract-clause-reads : goal.returns-in_err-contract-clause-reads
 returns-in_err-contract-clause-reads c =

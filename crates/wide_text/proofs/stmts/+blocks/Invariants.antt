@@ -37,7 +37,7 @@ decreases-otherwise l = 16 * length l.tokens.now + 2
 abbrev pub invariant-statements-loop-after : goal.invariant-statements-loop-after
 invariant-statements-loop-after l = record {
   shorter : length l.rest ≤ length l.tokens;
-  goes : Goes (g.rule (g.Statements l.fn.locals [])) l.tokens (g.rule (g.Statements l.fn.locals (map wstmt_of l.all.items))) l.rest;
+  goes : Goes (g.rule (g.Statements l.fn.within.locals.now [])) l.tokens (g.rule (g.Statements l.fn.within.locals.now (map wstmt_of l.all.items))) l.rest;
 }
 
 abbrev pub decreases-statements-loop-after : goal.decreases-statements-loop-after

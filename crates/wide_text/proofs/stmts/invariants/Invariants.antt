@@ -7,7 +7,7 @@ use Rattle.wide_text.proofs.stmts.invariants.Given as goal
 abbrev pub invariant-loop-after : goal.invariant-loop-after
 invariant-loop-after l = record {
   shorter : length l.rest ≤ length l.tokens;
-  goes : Goes (g.rule (g.Invariants l.fn.locals [])) l.tokens (g.rule (g.Invariants l.fn.locals (map clause_of l.all.items))) l.rest;
+  goes : Goes (g.rule (g.Invariants l.fn.within.locals.now [])) l.tokens (g.rule (g.Invariants l.fn.within.locals.now (map clause_of l.all.items))) l.rest;
 }
 
 abbrev pub decreases-loop-after : goal.decreases-loop-after

@@ -1,9 +1,10 @@
 use Rattle.std.proofs.Common.{◌+◌, false, drop, sym, ap, ◌∙◌, drop_of_length-le, arith}
 use Rattle.boogie_formula.specs.Types.{fbases}
-use Rattle.cert_terms.specs.Kinds.{are_bases, is_index}
+use Rattle.boogie_types.specs.Typed.{are_bases, is_index}
 use Rattle.cert_terms.specs.Lawful.{types_of}
 use Rattle.cert_terms.specs.Terms.{operands}
-use Rattle.cert_terms.proofs.KindLaws.{ended, step_fits, step_differs, step_over}
+use Rattle.boogie_types.proofs.TypingLaws.{ended}
+use Rattle.cert_terms.proofs.KindLaws.{step_fits, step_differs, step_over}
 use Rattle.cert_terms.proofs.table.Table.are_of.Goals as goal
 
 pub returns : goal.returns

@@ -1,7 +1,7 @@
 -- What is left of the keys has what is left of the types.
 use Rattle.std.proofs.Common.{◌≡◌, ◌≤◌, drop, length}
 use Rattle.boogie_formula.specs.Types.{fbases}
-use Rattle.cert_terms.specs.Kinds.{are_bases}
+use Rattle.boogie_types.specs.Typed.{are_bases}
 use Rattle.cert_terms.specs.Lawful.{types_of}
 use Rattle.cert_terms.specs.Terms.{operands}
 use Rattle.cert_terms.proofs.table.Table.are_of.Given as goal

@@ -1,6 +1,6 @@
 use Rattle.std.proofs.Common.{arith, ◌<◌, ◌≤◌, min, length, sym, ap, ◌∙◌, ◌+◌, drop}
+use Rattle.lemmas.proofs.Lists.{next_item, next_number}
 use Rattle.viper_meaning.specs.Statements as m
-use Rattle.viper_run.proofs.EachLaws.{item_at, number_at}
 use Rattle.viper_run.proofs.StoreLaws.{stored_next, stored_end}
 use Rattle.viper_run.proofs.activations.Store.set_all.Goals as goal
 
@@ -12,7 +12,7 @@ loop-i-preserved c =
     let v = c.index-values-i.result in
     let of_variables : i < length xs = omega arith in
     let of_values : i < length vs = omega arith in
-    ap (λ st. m.stored st (drop (i + 1) xs) (drop (i + 1) vs)) c.set.ensures ∙ stored_next c.loop-i.self.values.items xs vs i _ v (number_at xs i of_variables) (item_at vs i v of_values c.index-values-i.is) ∙ c.loop-i.invariant
+    ap (λ st. m.stored st (drop (i + 1) xs) (drop (i + 1) vs)) c.set.ensures ∙ stored_next c.loop-i.self.values.items xs vs i _ v (next_number xs i of_variables) (next_item vs i v of_values c.index-values-i.is) ∙ c.loop-i.invariant
 
 pub returns : goal.returns
 returns c =

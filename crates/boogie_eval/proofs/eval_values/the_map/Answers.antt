@@ -1,0 +1,10 @@
+use Rattle.std.proofs.Common.{ap}
+use Rattle.boogie_tree.specs.Whole.{value_of}
+use Rattle.boogie_meaning.specs.Ends.{then_with, found}
+use Rattle.boogie_meaning.specs.Value.{map_in}
+use Rattle.boogie_eval.specs.Answers.{wrong}
+use Rattle.boogie_eval.proofs.LookupLaws.{past_end}
+use Rattle.boogie_eval.proofs.eval_values.the_map.Goals as goal
+
+pub returns-in-None : goal.returns-in-None
+returns-in-None c = wrong (ap (λ o. then_with (found o) map_in) (past_end value_of c.args.env.now c.args.number c.in-None.ensures.lookup.3))

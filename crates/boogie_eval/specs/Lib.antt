@@ -1,0 +1,8 @@
+pub mod Answers
+pub mod Columns
+pub mod Operands
+pub mod Searched
+pub mod Tests
+pub mod Unary
+pub mod View
+pub mod Within

@@ -1,0 +1,4 @@
+pub mod Refusals
+pub mod Accepted
+pub mod Files
+pub mod Parts

@@ -1,0 +1,17 @@
+pub mod CutLaws
+pub mod AlikeLaws
+pub mod PrintLaws
+pub mod PutLaws
+pub mod PieceLaws
+pub mod NumberedNames
+pub mod FreshLaws
+pub mod BinderLaws
+pub mod VarLaws
+pub mod ExprShown
+pub mod ProgramShown
+pub mod ShortLaws
+pub mod Codes
+pub mod Complete
+pub mod Parsed
+pub mod NestedLaws
+pub mod SpelledLaws

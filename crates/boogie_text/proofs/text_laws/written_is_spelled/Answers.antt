@@ -1,5 +1,0 @@
-use Rattle.boogie_text.proofs.ProgramShown.{program_spelled}
-use Rattle.boogie_text.proofs.text_laws.written_is_spelled.Goals as goal
-
-pub returns : goal.returns
-returns c = program_spelled

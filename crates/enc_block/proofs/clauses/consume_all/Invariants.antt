@@ -1,0 +1,13 @@
+-- What the clauses that are left emit, behind what was emitted so far.
+use Rattle.std.proofs.Common.{drop, length}
+use Rattle.viper_core.specs.View.{assertions_of}
+use Rattle.enc_expr.specs.Emits.{Emit, emit_of, Emits}
+use Rattle.enc_expr.specs.Place.{maps_of}
+use Rattle.enc_expr.specs.View.{kinds_of, place_in}
+use Rattle.enc_block.specs.Encoding.{consume_all_code}
+use Rattle.enc_block.proofs.clauses.consume_all.Given as goal
+
+abbrev pub invariant-loop-clause : goal.invariant-loop-clause
+invariant-loop-clause l =
+    (new : Emit) → Emits (consume_all_code (kinds_of l.reading.kinds) (place_in l.reading) (maps_of l.left) (assertions_of (drop l.clause-index l.clauses)) (length (emit_of l.out).locals)) (emit_of l.out) new tt →
+    Emits (consume_all_code (kinds_of l.fn.reading.kinds) (place_in l.fn.reading) (maps_of l.fn.left) (assertions_of l.fn.clauses) (length (emit_of l.fn.out).locals)) (emit_of l.fn.out) new tt

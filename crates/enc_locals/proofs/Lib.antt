@@ -1,0 +1,4 @@
+pub mod NumberLaws
+pub mod FilledLaws
+pub mod NamedMaps
+pub mod NamesLaws

@@ -1,0 +1,4 @@
+pub mod Filled
+pub mod Numbers
+pub mod Opened
+pub mod Procedure

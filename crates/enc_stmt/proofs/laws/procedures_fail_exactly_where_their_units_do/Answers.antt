@@ -1,8 +1,0 @@
-use Rattle.enc_stmt.proofs.ExactLaws.{unit_exact, unit_transfers}
-use Rattle.enc_stmt.proofs.laws.procedures_fail_exactly_where_their_units_do.Goals as goal
-
-pub returns-clause-exact : goal.returns-clause-exact
-returns-clause-exact call p n u formed there = unit_exact p formed u n there
-
-pub returns-clause-transfers : goal.returns-clause-transfers
-returns-clause-transfers call p n u formed there = unit_transfers p formed u n there

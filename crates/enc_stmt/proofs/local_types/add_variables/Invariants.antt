@@ -1,7 +1,0 @@
-use Rattle.std.proofs.Common.{◌≡◌, ◌++◌, drop, map}
-use Rattle.boogie_tree.specs.Whole.{type_of}
-use Rattle.moves.specs.Scalars.{variable_type}
-use Rattle.enc_stmt.proofs.local_types.add_variables.Given as goal
-
-abbrev pub invariant-loop-ty : goal.invariant-loop-ty
-invariant-loop-ty l = map type_of l.out.items ++ map variable_type (drop l.ty-index l.types) ≡ map type_of l.initial.out.items ++ map variable_type l.types

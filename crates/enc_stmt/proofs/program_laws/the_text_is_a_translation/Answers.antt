@@ -1,5 +1,0 @@
-use Rattle.enc_stmt.proofs.ProgramLaws.{translates}
-use Rattle.enc_stmt.proofs.program_laws.the_text_is_a_translation.Goals as goal
-
-pub returns : goal.returns
-returns call = translates

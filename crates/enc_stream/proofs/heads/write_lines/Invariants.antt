@@ -1,0 +1,14 @@
+use Rattle.std.proofs.Common.{◌≤◌, length, map, drop}
+use Rattle.enc_expr.specs.Emits.{emit_of}
+use Rattle.enc_units.specs.Rows.{row_lines}
+use Rattle.enc_units.specs.View.{coder_of, step_of}
+use Rattle.enc_stream.proofs.SentLaws.{Sent}
+use Rattle.enc_stream.proofs.heads.write_lines.Given as goal
+
+abbrev pub invariant-loop-step : goal.invariant-loop-step
+invariant-loop-step g l = record {
+  so_far : Sent (row_lines (coder_of l.writer) (map step_of l.row) (length (emit_of l.initial.out).locals)) 0
+      (row_lines (coder_of l.writer) (map step_of (drop l.step-index l.row)) (length (emit_of l.out).locals)) 0
+      (g.S.Sink.written l.initial.sink) (g.S.Sink.written l.sink) l.initial.written l.written;
+  later : g.S.Sink.faults l.initial.sink ≤ g.S.Sink.faults l.sink;
+}

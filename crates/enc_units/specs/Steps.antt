@@ -1,0 +1,127 @@
+-- The code of a unit, laid out as a row of steps. A statement without blocks is one step; one with blocks is a step for each part
+-- that stands around them, and for each bracket between. So all code can be written one step after the other.
+use Rattle.std.specs.Prelude.{⊤, List, [], ◌∷◌, ◌++◌, Option, Some, None, slice_get}
+use Rattle.vb_base.specs.declared.places.Pos.{Pos}
+use Rattle.viper_core.specs.Expr as e
+use Rattle.viper_core.specs.Program.{Program, Predicate, Method, Body}
+use Rattle.viper_core.specs.Stmt as v
+use Rattle.viper_core.specs.declared.programs.Unit.{Unit}
+use Rattle.viper_core.specs.declared.programs.Unit.TheVariants as unit
+use Rattle.boogie_tree.specs.Expr as t
+use Rattle.boogie_tree.specs.Program.{Local}
+use Rattle.enc_expr.specs.Code.{Emitting, gives, then_emit, puts}
+use Rattle.enc_expr.specs.Encoding.{code}
+use Rattle.enc_expr.specs.Kinds.{Kinds}
+use Rattle.enc_expr.specs.Locals.{fixed_names, fixed_types, named}
+use Rattle.enc_expr.specs.Pieces.{one_real}
+use Rattle.enc_assert.specs.Encoding.{produce_code}
+use Rattle.enc_locals.specs.Procedure.{unit_vars}
+use Rattle.enc_block.specs.Home.{Home, place}
+use Rattle.enc_block.specs.Encoding.{stmt_code, assert_code, after_code, check_code}
+use Rattle.enc_block.specs.Parts as part
+use Rattle.enc_units.specs.Units as u
+
+pub data Step : Type 0 where
+  -- how the code of a unit begins
+  Start : Step
+  -- a statement without blocks
+  Plain : v.Stmt → Step
+  -- an `if`, up to its first block
+  Begin : Pos → e.Expr → Step
+  -- a choice, up to its first block
+  Pick : Step
+  -- between two blocks, and behind the second
+  Otherwise : Step
+  End : Step
+  -- before a loop
+  Head : v.Loop → Step
+  -- an arbitrary turn: before the body, and behind it
+  Turn : v.Loop → Step
+  Finish : v.Loop → Step
+  -- what goes on behind a loop
+  After : v.Loop → Step
+  -- a method: before its body, behind it, and its postcondition by itself
+  Enter : Method → Step
+  Leave : Method → Pos → Step
+  Check : Method → Step
+  -- the body of a predicate
+  Produce : Pos → e.Assertion → Step
+
+-- ---- the row of a unit
+
+abbrev mutual
+  pub stmt_row : v.Stmt → List Step
+  stmt_row (v.If at c first second) = Begin at c ∷ (block_row first ++ (Otherwise ∷ (block_row second ++ (End ∷ []))))
+  stmt_row (v.While (v.loop at guard invariants body turn targets)) =
+      Head (v.loop at guard invariants body turn targets) ∷ Pick ∷ Turn (v.loop at guard invariants body turn targets) ∷
+      (block_row body ++ (Finish (v.loop at guard invariants body turn targets) ∷ Otherwise ∷ After (v.loop at guard invariants body turn targets) ∷ End ∷ []))
+  stmt_row x = Plain x ∷ []
+
+  -- of the statements of a block
+  pub block_row : v.Stmts → List Step
+  block_row v.skip = []
+  block_row (v.next a rest) = stmt_row a ++ block_row rest
+
+-- a choice decides between the body with what is behind it, and the postcondition by itself
+abbrev pub body_row : Method → Option Body → List Step
+body_row m None = Check m ∷ []
+body_row m (Some body) = Pick ∷ (block_row body.stmts ++ (Leave m body.turn ∷ Otherwise ∷ Check m ∷ End ∷ []))
+
+abbrev pub method_row : Option Method → List Step
+method_row None = []
+method_row (Some m) = Enter m ∷ body_row m m.body
+
+abbrev pub produced_row : Predicate → Option e.Assertion → List Step
+produced_row d None = []
+produced_row d (Some body) = Produce d.at body ∷ []
+
+abbrev pub predicate_row : Option Predicate → List Step
+predicate_row None = []
+predicate_row (Some d) = produced_row d d.body
+
+abbrev pub running_row : Program → Unit → List Step
+running_row p (unit.Method n) = method_row (slice_get p.methods n)
+running_row p (unit.Predicate n) = predicate_row (slice_get p.predicates n)
+
+abbrev pub unit_row : Program → Unit → List Step
+unit_row p x = Start ∷ running_row p x
+
+-- ---- the code of a step
+
+-- the bracket that stands behind the code of a step
+pub data Bracket : Type 0 where
+  Nothing : Bracket
+  -- an `if`, up to the first block
+  If : t.BExpr → Bracket
+  -- a choice, up to the first block
+  Either : Bracket
+  -- between two blocks, and behind the second
+  Else : Bracket
+  End : Bracket
+
+abbrev pub without_bracket : Emitting ⊤ → Emitting Bracket
+without_bracket m = then_emit m (λ u. gives Nothing)
+
+abbrev pub step_code : Program → Unit → Kinds → Home → Step → Emitting Bracket
+step_code p x k h Start = without_bracket (puts None (u.start_code p x))
+step_code p x k h (Plain a) = without_bracket (stmt_code p k h a)
+step_code p x k h (Begin at c) = then_emit (code k (place h at) None c) (λ y. gives (If y.expr))
+step_code p x k h Pick = gives Either
+step_code p x k h Otherwise = gives Else
+step_code p x k h End = gives End
+step_code p x k h (Head (v.loop at guard invariants body turn targets)) = without_bracket (part.head_code k h at invariants targets)
+step_code p x k h (Turn (v.loop at guard invariants body turn targets)) = without_bracket (part.turn_head k h at guard invariants)
+step_code p x k h (Finish (v.loop at guard invariants body turn targets)) = without_bracket (part.turn_end k h turn invariants)
+step_code p x k h (After (v.loop at guard invariants body turn targets)) = without_bracket (after_code k h at guard invariants)
+step_code p x k h (Enter m) = without_bracket (part.start_code k h m)
+step_code p x k h (Leave m turn) = without_bracket (assert_code k h turn m.postconditions)
+step_code p x k h (Check m) = without_bracket (check_code k h m)
+step_code p x k h (Produce at body) = without_bracket (produce_code k (place h at) None one_real body)
+
+-- in a unit: by the types of its variables and the locals that hold them
+abbrev pub unit_step : Program → Unit → Step → Emitting Bracket
+unit_step p x = step_code p x (u.kinds_with p (unit_vars p x)) (u.home_of p x)
+
+-- the locals before those of the first step
+abbrev pub fixed_locals : Program → Unit → List Local
+fixed_locals p x = named (fixed_names p x) (fixed_types p x)

@@ -1,0 +1,14 @@
+pub mod BoogieValueLaws
+pub mod BoogieLookups
+pub mod BoogieMapLaws
+pub mod BoogieLineLaws
+pub mod BoogieRunLaws
+pub mod BoogieFileLaws
+pub mod BoogieNameLaws
+pub mod BoogiePrintLaws
+pub mod HeaderLaws
+pub mod BoogiePrintedLines
+pub mod BoogiePrintedMaps
+pub mod BoogiePrintedRuns
+pub mod MovedPrintLaws
+pub mod BoogieNamedLaws

@@ -1,0 +1,9 @@
+pub mod Text
+pub mod Values
+pub mod Reading
+pub mod Found
+pub mod Printed
+pub mod Machine
+pub mod Answers
+pub mod Known
+pub mod Named

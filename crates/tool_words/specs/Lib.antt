@@ -1,0 +1,4 @@
+pub mod Kind
+pub mod Status
+pub mod Ends
+pub mod Written
