@@ -1,7 +1,7 @@
 #!/usr/bin/env bash
-# What chosen names cost. Names are looked up by a hash that has no secret, so a file can have names that all stand in one row. This
-# finds such names of seven bytes, and translates files of fields and of variables with them and with other names, and replays texts
-# of Boogie with variables of these names.
+# What chosen names cost. The kit's hash has no secret, so a file can have names that all stand in one row of a table that goes by it.
+# This finds such names of seven bytes, and translates files of fields and of variables with them and with other names, and replays
+# texts of Boogie with variables of these names.
 # Each line has the kind of names, the bytes, and the processor seconds of one call with other names and with chosen ones. To find
 # the names takes some five minutes on four cores, and needs `cc`.
 #

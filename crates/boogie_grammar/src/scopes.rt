@@ -6,7 +6,7 @@ ghost use Rattle.std.specs.Str.{bytes_eq};
 ghost use Rattle.boogie_grammar.specs.Tests.{number_of, some_free};
 ghost use Rattle.boogie_grammar.specs.Words.{is_among, is_reserved};
 
-use indexmap::IndexSet;
+use name_table::NameTable;
 use std::alloc::Global;
 use std::marker::Model;
 use vb_base::{Ident, Memory, same_bytes};
@@ -63,7 +63,7 @@ fn is_some_free(names: &[Ident]) -> bool
 /// Names that differ, each with its number. Contracts see the list of them.
 #[derive(Drop)]
 pub struct Names {
-    names: IndexSet<Ident>,
+    names: NameTable,
 }
 
 impl Model for Names {
@@ -71,7 +71,7 @@ impl Model for Names {
 
     ghost Value = { List (List ℕ) };
 
-    ghost view = { λ x. x.names.keys };
+    ghost view = { λ x. x.names };
 }
 
 impl Names {
@@ -80,7 +80,7 @@ impl Names {
         ensures { result ≡ [] }
     {
         Names {
-            names: IndexSet::new(alloc),
+            names: NameTable::new(alloc),
         }
     }
 
@@ -88,7 +88,7 @@ impl Names {
     pub fn number_of(&self, name: &Ident) -> Option<usize>
         ensures { result ≡ number_of name.now self.now }
     {
-        self.names.get_index_of(name)
+        self.names.number_of(name.bytes())
     }
 
     /// Whether a name is one of these.
@@ -102,14 +102,14 @@ impl Names {
     pub fn all(&self) -> &[Ident]
         ensures { result.now ≡ self.now }
     {
-        self.names.as_slice()
+        self.names.all()
     }
 
     /// Whether one of them is not reserved.
     pub fn some_free(&self) -> bool
         ensures { result ≡ some_free self.now }
     {
-        is_some_free(self.names.as_slice())
+        is_some_free(self.names.all())
     }
 
     /// One name more, which is none of these.
@@ -117,8 +117,7 @@ impl Names {
         requires { is_among name self.now ≡ false }
         ensures { OnOk result (self.new ≡ self.old ++ (name ∷ [])) }
     {
-        self.names.insert(name)?;
-        Ok(())
+        self.names.add(name)
     }
 }
 

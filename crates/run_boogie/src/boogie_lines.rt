@@ -13,7 +13,7 @@ ghost use Rattle.run_words.specs.Text.{words_of};
 
 use crate::boogie_values::{entry, has_base, scalar};
 use boogie_tree::{BChoice, BScalar, Entry, Local};
-use indexmap::IndexSet;
+use name_table::NameTable;
 use run_words::{FirstWord, Names, first_word, next_word, numbered, single, truth};
 use std::alloc::Global;
 use vb_base::Memory;
@@ -30,9 +30,9 @@ pub(crate) fn local_names(alloc: Global, locals: &[Local]) -> Result<Names, Memo
     requires { NamesDiffer (known (locals_of locals.now)).names }
     ensures { IfOk result (λ x. x ≡ (known (locals_of locals.now)).names) }
 {
-    let mut known = IndexSet::new(alloc);
+    let mut known = NameTable::new(alloc);
     for local in locals {
-        known.insert(local.name.copy()?)?;
+        known.add(local.name.copy()?)?;
     }
     Ok(Names::of_table(known))
 }
@@ -105,7 +105,7 @@ fn keyed_line(
 {
     match keyword {
         Keyword::Var => var_line(alloc, scope, words),
-        Keyword::Entries => entries_line(alloc, scope, words),
+        Keyword::Entries => Ok(entries_line(scope, words)),
         Keyword::At => at_line(alloc, words),
         Keyword::Pick => Ok(chosen(pick_line(words))),
         Keyword::Value => value_line(alloc, words),
@@ -121,7 +121,7 @@ fn chosen(choice: Option<BChoice>) -> Option<Line>
 fn var_line(alloc: Global, scope: Scope, words: &[u8]) -> Result<Option<Line>, Memory>
     ensures { IfOk result (λ l. option_map line_view l ≡ named_line reading.variable_line (scope_view scope.entry) (words_of words.now)) }
 {
-    match numbered(alloc, scope.names, words)? {
+    match numbered(scope.names, words) {
         Some((number, rest)) => variable_line(alloc, number, scope.locals.get(number), rest),
         None => Ok(None),
     }
@@ -154,15 +154,15 @@ fn variable_given(number: usize, local: &Local, value: BScalar) -> Option<Line>
     }
 }
 
-fn entries_line(alloc: Global, scope: Scope, words: &[u8]) -> Result<Option<Line>, Memory>
-    ensures { IfOk result (λ l. option_map line_view l ≡ reading.entries_line (scope_view scope.entry) (words_of words.now)) }
+fn entries_line(scope: Scope, words: &[u8]) -> Option<Line>
+    ensures { option_map line_view result ≡ reading.entries_line (scope_view scope.entry) (words_of words.now) }
 {
     if next_word(words).is_none() {
-        return Ok(Some(Line::Opened));
+        return Some(Line::Opened);
     }
-    match numbered(alloc, scope.names, words)? {
-        Some((number, rest)) => Ok(map_line(number, scope.locals.get(number), rest)),
-        None => Ok(None),
+    match numbered(scope.names, words) {
+        Some((number, rest)) => map_line(number, scope.locals.get(number), rest),
+        None => None,
     }
 }
 

@@ -1,39 +1,34 @@
 -- The run that a file spells, and the place where it goes wrong, are what is read of its lines.
-use Rattle.std.proofs.Common.{◌≡◌, ◌∙◌, ℕ, Bool, true, false, cond, List, [], ◌∷◌, Option, Some, None, Result, MatchResult, refl, sym, subst}
+use Rattle.std.proofs.Common.{◌≡◌, ◌∙◌, ℕ, Bool, true, false, cond, List, [], ◌∷◌, Option, Some, None, refl, sym}
 use Rattle.std.specs.Prelude.{codes}
 use Rattle.std.specs.BTreeSet.{insert_key}
 use Rattle.std.specs.Str.{bytes_eq}
 use Rattle.std.proofs.lemmas.Bool.{and_parts}
 use Rattle.std.proofs.lemmas.Slice.Eq.{bytes_eq-Decides}
 use Rattle.viper_core.specs.Program.{Program}
-use Rattle.run_words.specs.Machine.{IsReadBy, StopsBy}
-use Rattle.run_words.specs.Text.{lines_of, is_skipped, words_of}
-use Rattle.run_file.specs.View.{run_of}
+use Rattle.run_words.specs.Text.{is_skipped, words_of}
 use Rattle.run_file.specs.Lines.{Scope, scope_of, Line, Var, Heap, Holds, Chosen, Opened, IsLine}
 use Rattle.run_file.specs.Run.{ViperRun, header, AreRun, SpellRun}
 use Rattle.run_words.specs.Reading.{◌>>=◌}
 use Rattle.run_file.specs.Reading.{line_of}
 use Rattle.run_file.specs.NamedOrder.{named_cmp}
-use Rattle.run_file.specs.Progress.{Progress, is_header, stepped, followed, has_named, once, may_set, may_place, run_set, run_with, read_line, is_headed, reader}
-use Rattle.run_words.specs.Answers.{UnlessMemory}
+use Rattle.run_file.specs.Progress.{Progress, is_header, whole, stepped, followed, has_named, once, may_set, may_place, run_set, run_with, read_line, is_headed, reader}
 use Rattle.run_file.specs.declared.lines.Named.{Named}
 use Rattle.run_file.specs.declared.lines.Named.TheVariants as named
-use Rattle.run_words.specs.declared.faults.RunFileFault.{RunFileFault}
-use Rattle.run_file.specs.declared.runs.ViperRun.{ViperRun as Code}
 use Rattle.run_file.specs.declared.reader.Stage.{Stage}
 use Rattle.run_file.specs.declared.reader.Stage.TheVariants as stage
-use Rattle.run_words.proofs.AnswerLaws.{IsReader, Answered, answered}
+use Rattle.run_words.proofs.AnswerLaws.{IsReader}
 use Rattle.run_words.proofs.HeadedLaws.{Reads, HeadedIn, file_read, read_file, goes_wrong, stops}
 use Rattle.run_file.proofs.LineLaws.{NamesApart, line_spelled, spelled_line}
 use Rattle.run_file.proofs.RunLaws.{opened, run_read, read_run}
 
 -- ---- how the lines are read
 
-read_step : (s : Scope) (st : Progress) (text : List ℕ) → read_line s st text ≡ cond (is_skipped text) (Some st) (stepped s st.stage st (words_of text))
+read_step : (s : Scope) (st : Progress ViperRun) (text : List ℕ) → read_line whole s st text ≡ cond (is_skipped text) (Some st) (stepped whole s st.stage st (words_of text))
 unfolding read_line
 read_step s st text = refl
 
-stepped_on : (s : Scope) (g : Stage) (st : Progress) (words : List (List ℕ)) → is_headed g ≡ true → stepped s g st words ≡ (line_of s words >>= followed s st)
+stepped_on : (s : Scope) (g : Stage) (st : Progress ViperRun) (words : List (List ℕ)) → is_headed g ≡ true → stepped whole s g st words ≡ (line_of s words >>= followed whole s st)
 stepped_on s stage.Header st words h = absurd cc
 stepped_on s stage.Opening st words h = refl
 stepped_on s stage.Filling st words h = refl
@@ -48,18 +43,18 @@ is_header_of (a ∷ b ∷ []) e =
     λ i. first i ∷ second i ∷ []
 is_header_of (a ∷ b ∷ c ∷ more) e = absurd cc
 
-headed_unless : (b : Bool) (o : Option Progress) → HeadedIn (λ (x : Progress). is_headed x.stage) o → HeadedIn (λ (x : Progress). is_headed x.stage) (cond b None o)
+headed_unless : (b : Bool) (o : Option (Progress ViperRun)) → HeadedIn (λ (x : Progress ViperRun). is_headed x.stage) o → HeadedIn (λ (x : Progress ViperRun). is_headed x.stage) (cond b None o)
 headed_unless true o h = tt
 headed_unless false o h = h
 
-headed_if : (b : Bool) (o : Option Progress) → HeadedIn (λ (x : Progress). is_headed x.stage) o → HeadedIn (λ (x : Progress). is_headed x.stage) (cond b o None)
+headed_if : (b : Bool) (o : Option (Progress ViperRun)) → HeadedIn (λ (x : Progress ViperRun). is_headed x.stage) o → HeadedIn (λ (x : Progress ViperRun). is_headed x.stage) (cond b o None)
 headed_if true o h = h
 headed_if false o h = tt
 
-once_headed : (st : Progress) (n : Named) (run : ViperRun) → is_headed st.stage ≡ true → HeadedIn (λ (x : Progress). is_headed x.stage) (once st n run)
+once_headed : (st : Progress ViperRun) (n : Named) (run : ViperRun) → is_headed st.stage ≡ true → HeadedIn (λ (x : Progress ViperRun). is_headed x.stage) (once st n run)
 once_headed st n run h = headed_unless (has_named st.named n) (Some (record { stage = st.stage; named = insert_key named_cmp st.named n; run = run })) h
 
-followed_headed : (s : Scope) (st : Progress) (l : Line) → is_headed st.stage ≡ true → HeadedIn (λ (x : Progress). is_headed x.stage) (followed s st l)
+followed_headed : (s : Scope) (st : Progress ViperRun) (l : Line) → is_headed st.stage ≡ true → HeadedIn (λ (x : Progress ViperRun). is_headed x.stage) (followed whole s st l)
 followed_headed s st (Var n v) h =
     headed_if (may_set st.stage) (once st (named.Variable n) (run_set n v st.run)) (once_headed st (named.Variable n) (run_set n v st.run) h)
 followed_headed s st (Heap f r v) h =
@@ -69,7 +64,7 @@ followed_headed s st (Holds q k c) h =
 followed_headed s st (Chosen c) h = refl
 followed_headed s st Opened h = refl
 
-reads : (s : Scope) → NamesApart s → Reads (reader s) (opened s) header is_header (λ (st : Progress) words. stepped s st.stage st words) (line_of s) (followed s) (IsLine s) (AreRun s)
+reads : (s : Scope) → NamesApart s → Reads (reader s) (opened s) header is_header (λ (st : Progress ViperRun) words. stepped whole s st.stage st words) (line_of s) (followed whole s) (IsLine s) (AreRun s)
 reads s apart = record {
   step = read_step s;
   first = λ words. refl;
@@ -96,10 +91,3 @@ is_reader p n apart =
       stops = stops r (SpellRun p n) (λ lines run h. (run, h)) (λ lines run h. h);
       joins = λ e a b first second. sym first ∙ second;
     }
-
--- what is answered of a file, read with the scope of the unit
-pub unit_answered : (bytes : List ℕ) (p : Program) (n : ℕ) (s : Scope) (r : Result Code RunFileFault) → NamesApart (scope_of p n) → s ≡ scope_of p n →
-    MatchResult r (λ x. IsReadBy (reader s) (lines_of bytes) (run_of x)) (UnlessMemory (StopsBy (reader s) (lines_of bytes))) → Answered (SpellRun p n) (λ a b. a ≡ b) run_of bytes r
-unit_answered bytes p n s r apart same h =
-    answered (is_reader p n apart) bytes run_of r
-    (subst (λ t. MatchResult r (λ x. IsReadBy (reader t) (lines_of bytes) (run_of x)) (UnlessMemory (StopsBy (reader t) (lines_of bytes)))) same h)

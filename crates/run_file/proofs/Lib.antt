@@ -4,6 +4,9 @@ pub mod NamedLaws
 pub mod NamedSetLaws
 pub mod RunLaws
 pub mod FileLaws
+pub mod SeenMachines
+pub mod SeenLaws
+pub mod FrontLaws
 pub mod ScopeLaws
 pub mod PrintLaws
 pub mod SpelledLaws

@@ -27,6 +27,13 @@ filled_with stage.Choosing l m run may = absurd (false_true may)
 filled_with stage.Opening l m run may = refl
 filled_with stage.Filling l m run may = ap (λ cs. record { opening = run.opening; choices = cs }) (sym (last_of l run.choices m))
 
+-- where none are filled, it changes nothing
+pub unfilled_with : (g : Stage) (l : Line) (m : Memo) (run : ViperRun) → may_place g ≡ false → with_filled g m run ≡ run_with g l (with_filled g m run)
+unfilled_with stage.Header l m run may = refl
+unfilled_with stage.Choosing l m run may = refl
+unfilled_with stage.Opening l m run may = absurd cc
+unfilled_with stage.Filling l m run may = absurd cc
+
 -- one and the same for each
 pub replicate_is : {X Y : Type 0} (x : X) (ys : List Y) (n : ℕ) → n ≡ length ys → replicate n x ≡ map (λ y. x) ys
 replicate_is x [] n is = rw is refl

@@ -2,6 +2,7 @@ pub mod Lines
 pub mod NamedOrder
 pub mod NamedView
 pub mod Run
+pub mod Front
 pub mod LineView
 pub mod FillingView
 pub mod Reading

@@ -1,5 +1,5 @@
 -- How a run file is read line by line. That this is the run that the lines spell is shown in `proofs/`.
-use Rattle.std.specs.Prelude.{ℕ, Bool, true, false, ◌&&◌, List, [], ◌∷◌, ◌++◌, Option, Some, None, codes, slice_set, if◌then◌else◌}
+use Rattle.std.specs.Prelude.{ℕ, zero, suc, ◌+◌, Bool, true, false, ◌&&◌, ◌==◌, nat_lt, List, [], ◌∷◌, ◌++◌, Option, Some, None, codes, length, slice_set, if◌then◌else◌}
 use Rattle.std.specs.BTreeSet.{insert_key}
 use Rattle.std.specs.Str.{bytes_eq}
 use Rattle.vb_value.specs.declared.values.Value.{Value}
@@ -9,6 +9,7 @@ use Rattle.run_words.specs.Text.{is_skipped, words_of}
 use Rattle.run_file.specs.Lines.{Scope, Line, Var, Heap, Holds, Chosen, Opened}
 use Rattle.run_words.specs.Reading.{◌>>=◌}
 use Rattle.run_file.specs.Reading.{line_of}
+use Rattle.run_file.specs.Front.{Front}
 use Rattle.run_file.specs.Run.{ViperRun, scope_memo, empty_opening, memo_with}
 use Rattle.run_words.specs.Machine.{Machine, among}
 use Rattle.run_file.specs.NamedOrder.{named_cmp}
@@ -19,15 +20,25 @@ use Rattle.run_file.specs.declared.reader.Stage.TheVariants as stage
 
 -- ---- the lines so far
 
--- how far a file is read: what stands open, the names that its lines have named, and the run so far. Where a heap and contents
--- are filled, they are the last of the choices.
-pub record Progress : Type 0 where
+-- how far a file is read: what stands open, the names that its lines have named, and the run so far, or the front of it. Where a
+-- heap and contents are filled, they are the last of the choices.
+pub record Progress (R : Type 0) : Type 0 where
   pub stage : Stage
   pub named : List Named
-  pub run : ViperRun
+  pub run : R
 
-abbrev pub begun : Scope → Progress
-begun s = record { stage = stage.Header; named = []; run = record { opening = empty_opening s; choices = [] } }
+-- what lines make of a run, or of a front of one
+pub record Changes (R : Type 0) : Type 0 where
+  -- nothing is read yet
+  pub begun : Scope → R
+  -- a variable has a value in the opening
+  pub set : ℕ → Value → R → R
+  -- a line of a heap and contents
+  pub place : Stage → Line → R → R
+  -- a choice more
+  pub choose : Choice → R → R
+
+-- ---- runs
 
 -- a choice of a heap and contents with what a line gives
 abbrev pub choice_with : Line → Choice → Choice
@@ -61,11 +72,54 @@ with_filled stage.Choosing m run = run
 abbrev pub run_set : ℕ → Value → ViperRun → ViperRun
 run_set n v run = record run { opening = record { store = slice_set run.opening.store n v; memo = run.opening.memo } }
 
+abbrev pub run_chosen : Choice → ViperRun → ViperRun
+run_chosen c run = record { opening = run.opening; choices = run.choices ++ c ∷ [] }
+
+abbrev pub begun_run : Scope → ViperRun
+begun_run s = record { opening = empty_opening s; choices = [] }
+
+-- the changes of whole runs
+abbrev pub whole : Changes ViperRun
+whole = record { begun = begun_run; set = run_set; place = run_with; choose = run_chosen }
+
+-- ---- fronts
+
+-- the stage as the front sees it: the heaps and contents behind it are not filled
+abbrev pub stage_within : ℕ → Stage → Stage
+stage_within more stage.Header = stage.Header
+stage_within more stage.Opening = stage.Opening
+stage_within zero stage.Filling = stage.Filling
+stage_within (suc more) stage.Filling = stage.Choosing
+stage_within more stage.Choosing = stage.Choosing
+
+abbrev pub front_with : Stage → Line → Front → Front
+front_with g l front = record { run = run_with (stage_within front.more g) l front.run; more = front.more }
+
+-- the next choice is within the front of so many
+abbrev pub has_room : ℕ → ℕ → ℕ → Bool
+has_room many more built = more == 0 && nat_lt built many
+
+abbrev pub front_chosen : ℕ → Choice → Front → Front
+front_chosen many c front = if has_room many front.more (length front.run.choices)
+    then record { run = run_chosen c front.run; more = front.more }
+    else record { run = front.run; more = front.more + 1 }
+
+-- the changes of the fronts with so many choices
+abbrev pub fronts : ℕ → Changes Front
+fronts many = record {
+  begun = λ s. record { run = begun_run s; more = 0 };
+  set = λ n v front. record { run = run_set n v front.run; more = front.more };
+  place = front_with;
+  choose = front_chosen many;
+}
+
+-- ---- lines
+
 abbrev pub has_named : List Named → Named → Bool
 has_named names n = among named_cmp names n
 
 -- the run changes so, where the name is new
-abbrev pub once : Progress → Named → ViperRun → Option Progress
+abbrev pub once : {R : Type 0} → Progress R → Named → R → Option (Progress R)
 once st n run = if has_named st.named n then None else Some (record { stage = st.stage; named = insert_key named_cmp st.named n; run = run })
 
 -- a variable's line may stand in the opening, and a line of a heap and contents where these are filled
@@ -78,44 +132,55 @@ may_place stage.Opening = true
 may_place stage.Filling = true
 may_place _ = false
 
-abbrev pub chosen : Stage → Progress → Choice → Progress
-chosen next st c = record { stage = next; named = []; run = record { opening = st.run.opening; choices = st.run.choices ++ c ∷ [] } }
+abbrev pub begun : {R : Type 0} → Changes R → Scope → Progress R
+begun k s = record { stage = stage.Header; named = []; run = k.begun s }
 
-abbrev pub variable_set : Progress → ℕ → Value → Option Progress
-variable_set st n v = if may_set st.stage then once st (named.Variable n) (run_set n v st.run) else None
+abbrev pub chosen : {R : Type 0} → Changes R → Stage → Progress R → Choice → Progress R
+chosen k next st c = record { stage = next; named = []; run = k.choose c st.run }
 
-abbrev pub place_set : Progress → Line → Named → Option Progress
-place_set st l n = if may_place st.stage then once st n (run_with st.stage l st.run) else None
+abbrev pub variable_set : {R : Type 0} → Changes R → Progress R → ℕ → Value → Option (Progress R)
+variable_set k st n v = if may_set st.stage then once st (named.Variable n) (k.set n v st.run) else None
 
-abbrev pub followed : Scope → Progress → Line → Option Progress
-followed s st (Var n v) = variable_set st n v
-followed s st (Heap f r v) = place_set st (Heap f r v) (named.Place f r)
-followed s st (Holds q k c) = place_set st (Holds q k c) (named.Instance q k)
-followed s st (Chosen c) = Some (chosen stage.Choosing st c)
-followed s st Opened = Some (chosen stage.Filling st (Filled (scope_memo s)))
+abbrev pub place_set : {R : Type 0} → Changes R → Progress R → Line → Named → Option (Progress R)
+place_set k st l n = if may_place st.stage then once st n (k.place st.stage l st.run) else None
+
+abbrev pub followed : {R : Type 0} → Changes R → Scope → Progress R → Line → Option (Progress R)
+followed k s st (Var n v) = variable_set k st n v
+followed k s st (Heap f r v) = place_set k st (Heap f r v) (named.Place f r)
+followed k s st (Holds q i c) = place_set k st (Holds q i c) (named.Instance q i)
+followed k s st (Chosen c) = Some (chosen k stage.Choosing st c)
+followed k s st Opened = Some (chosen k stage.Filling st (Filled (scope_memo s)))
 
 abbrev pub is_header : List (List ℕ) → Bool
 is_header (a ∷ b ∷ []) = bytes_eq a (codes "viper") && bytes_eq b (codes "run")
 is_header _ = false
 
-abbrev pub header_read : Progress → List (List ℕ) → Option Progress
-header_read st words = if is_header words then Some (record st { stage = stage.Opening }) else None
+abbrev pub header_read : {R : Type 0} → Progress R → List (List ℕ) → Option (Progress R)
+header_read st words = if is_header words then Some (record { stage = stage.Opening; named = st.named; run = st.run }) else None
 
 -- what the words of a line make of it
-abbrev pub stepped : Scope → Stage → Progress → List (List ℕ) → Option Progress
-stepped s stage.Header st words = header_read st words
-stepped s stage.Opening st words = line_of s words >>= followed s st
-stepped s stage.Filling st words = line_of s words >>= followed s st
-stepped s stage.Choosing st words = line_of s words >>= followed s st
+abbrev pub stepped : {R : Type 0} → Changes R → Scope → Stage → Progress R → List (List ℕ) → Option (Progress R)
+stepped k s stage.Header st words = header_read st words
+stepped k s stage.Opening st words = line_of s words >>= followed k s st
+stepped k s stage.Filling st words = line_of s words >>= followed k s st
+stepped k s stage.Choosing st words = line_of s words >>= followed k s st
 
 -- the same of a line as bytes
-unfoldable pub read_line : Scope → Progress → List ℕ → Option Progress
-read_line s st text = if is_skipped text then Some st else stepped s st.stage st (words_of text)
+unfoldable pub read_line : {R : Type 0} → Changes R → Scope → Progress R → List ℕ → Option (Progress R)
+read_line k s st text = if is_skipped text then Some st else stepped k s st.stage st (words_of text)
 
 abbrev pub is_headed : Stage → Bool
 is_headed stage.Header = false
 is_headed _ = true
 
--- the reader of the run files of a unit with this scope
-abbrev pub reader : Scope → Machine Progress ViperRun
-reader s = record { begun = begun s; step = read_line s; is_headed = λ st. is_headed st.stage; run = λ st. st.run }
+-- the reader of the run files of a unit with this scope, which makes this of them
+abbrev pub reader_of : {R : Type 0} → Changes R → Scope → Machine (Progress R) R
+reader_of k s = record { begun = begun k s; step = read_line k s; is_headed = λ st. is_headed st.stage; run = λ st. st.run }
+
+-- the reader of whole runs
+abbrev pub reader : Scope → Machine (Progress ViperRun) ViperRun
+reader = reader_of whole
+
+-- the reader of fronts with so many choices
+abbrev pub front_reader : ℕ → Scope → Machine (Progress Front) Front
+front_reader many = reader_of (fronts many)

@@ -102,8 +102,8 @@ fn keyed_line(
     ensures { IfOk result (λ l. option_map line_view l ≡ reading.keyed_line (scope_view scope.entry) keyword (words_of words.now)) }
 {
     match keyword {
-        Keyword::Var => var_line(alloc, scope, words),
-        Keyword::Heap => heap_line(alloc, scope, words),
+        Keyword::Var => Ok(var_line(scope, words)),
+        Keyword::Heap => Ok(heap_line(scope, words)),
         Keyword::Content => content_line(alloc, scope, words),
         Keyword::Pick => Ok(chosen(pick_line(words))),
         Keyword::Value => Ok(chosen(value_line(words))),
@@ -126,13 +126,11 @@ fn only_value(ty: Ty, words: &[u8]) -> Option<Value>
     value(ty, single(words)?)
 }
 
-fn var_line(alloc: Global, scope: Scope, words: &[u8]) -> Result<Option<Line>, Memory>
-    ensures { IfOk result (λ l. option_map line_view l ≡ named_line reading.variable_line (scope_view scope.entry).variables (words_of words.now)) }
+fn var_line(scope: Scope, words: &[u8]) -> Option<Line>
+    ensures { option_map line_view result ≡ named_line reading.variable_line (scope_view scope.entry).variables (words_of words.now) }
 {
-    match numbered(alloc, scope.variables, words)? {
-        Some((number, rest)) => Ok(variable_line(number, scope.types.get(number), rest)),
-        None => Ok(None),
-    }
+    let (number, rest) = numbered(scope.variables, words)?;
+    variable_line(number, scope.types.get(number), rest)
 }
 
 fn variable_line(number: usize, ty: Option<&Ty>, words: &[u8]) -> Option<Line>
@@ -141,16 +139,12 @@ fn variable_line(number: usize, ty: Option<&Ty>, words: &[u8]) -> Option<Line>
     Some(Line::Var(number, only_value(*ty?, words)?))
 }
 
-fn heap_line(alloc: Global, scope: Scope, words: &[u8]) -> Result<Option<Line>, Memory>
-    ensures { IfOk result (λ l. option_map line_view l ≡ named_line reading.place_line (scope_view scope.entry).fields (words_of words.now)) }
+fn heap_line(scope: Scope, words: &[u8]) -> Option<Line>
+    ensures { option_map line_view result ≡ named_line reading.place_line (scope_view scope.entry).fields (words_of words.now) }
 {
-    match numbered(alloc, scope.fields, words)? {
-        Some((number, rest)) => {
-            let layout = scope.layout;
-            Ok(place_line(number, layout.fields.get(number), rest))
-        }
-        None => Ok(None),
-    }
+    let (number, rest) = numbered(scope.fields, words)?;
+    let layout = scope.layout;
+    place_line(number, layout.fields.get(number), rest)
 }
 
 fn place_line(number: usize, ty: Option<&Ty>, words: &[u8]) -> Option<Line>
@@ -164,7 +158,7 @@ fn place_line(number: usize, ty: Option<&Ty>, words: &[u8]) -> Option<Line>
 fn content_line(alloc: Global, scope: Scope, words: &[u8]) -> Result<Option<Line>, Memory>
     ensures { IfOk result (λ l. option_map line_view l ≡ named_line reading.instance_line (scope_view scope.entry).predicates (words_of words.now)) }
 {
-    let Some((number, rest)) = numbered(alloc, scope.predicates, words)? else {
+    let Some((number, rest)) = numbered(scope.predicates, words) else {
         return Ok(None);
     };
     let layout = scope.layout;

@@ -7,7 +7,7 @@ ghost use Rattle.viper_core.specs.View.{method_of, predicate_of, program_of};
 ghost use Rattle.run_file.specs.Lines as l;
 ghost use Rattle.run_file.specs.LineView.{lent_names};
 
-use indexmap::IndexSet;
+use name_table::NameTable;
 use run_words::Names;
 use std::alloc::Global;
 use vb_base::{Ident, Memory};
@@ -31,9 +31,9 @@ pub(crate) fn predicate_names(alloc: Global, predicates: &[Predicate]) -> Result
     requires { NamesDiffer (map (λ (d : p.Predicate). d.name) (map predicate_of predicates.now)) }
     ensures { IfOk result (λ x. x ≡ map (λ (d : p.Predicate). d.name) (map predicate_of predicates.now)) }
 {
-    let mut known = IndexSet::new(alloc);
+    let mut known = NameTable::new(alloc);
     for predicate in predicates {
-        known.insert(predicate.name.copy()?)?;
+        known.add(predicate.name.copy()?)?;
     }
     Ok(Names::of_table(known))
 }

@@ -1,5 +1,5 @@
 // The reader of run files of Viper.
-ghost use Rattle.std.specs.Prelude.{◌≡◌, ◌≤◌, ◌<◌, ◌^◌, [], true, false, Some, IfOk, IfErr, OnOk, MatchResult, length};
+ghost use Rattle.std.specs.Prelude.{ℕ, ◌≡◌, ◌≤◌, ◌<◌, ◌^◌, [], true, false, Some, IfOk, IfErr, OnOk, MatchResult, length};
 ghost use Rattle.vb_base.specs.Limits.{max_boogie_bytes};
 ghost use Rattle.vb_base.specs.declared.places.Pos.{Pos};
 ghost use Rattle.viper_core.specs.Formed.{IsFormed};
@@ -14,15 +14,17 @@ ghost use Rattle.run_file.specs.Progress as progress;
 ghost use Rattle.run_words.specs.Answers.{UnlessMemory};
 ghost use Rattle.run_file.specs.NamedView.{named_of};
 ghost use Rattle.run_words.specs.Text.{lines_of, words_of};
-ghost use Rattle.run_file.specs.View.{progress_of, run_of};
+ghost use Rattle.run_file.specs.Front.{Front, SpellsFront, front_of};
+ghost use Rattle.run_file.specs.View.{front_view, progress_of, run_of};
 ghost use Rattle.run_words.specs.Answers.{Gives, GivesPlace};
 ghost use Rattle.run_file.specs.declared.reader.Stage.TheVariants as stage;
+ghost use Rattle.run_words.specs.declared.faults.RunFileFault.TheVariants as fault;
 
 use crate::lines::{Line, Named, line_of};
 use crate::memos::{Filling, defaults};
 use crate::named_sets::NamedSets;
 use crate::names::{Scope, predicate_names, variables_of};
-use crate::runs::ViperRun;
+use crate::runs::{ViperFront, ViperRun};
 use run_words::{LineReader, Names, RunFileFault, is_skipped, next_word, read_lines};
 use std::alloc::Global;
 use std::mem;
@@ -49,6 +51,44 @@ pub fn read_viper_run(
     ensures only_run { (run : Plain) → SpellsViperRun bytes.now (program_of program.now) unit run → Gives (λ x. run_of x ≡ run) result }
     ensures only_place { (at : Pos) → GoesWrongAt bytes.now (program_of program.now) unit at → GivesPlace at result }
 {
+    match read_viper_front(alloc, bytes, program, unit, usize::MAX) {
+        Ok(front) => whole_run(front),
+        Err(fault) => Err(fault),
+    }
+}
+
+/// The run whose front this is, if it has all choices. No memory has room for more of them than a front may have at most.
+fn whole_run(front: ViperFront) -> Result<ViperRun, RunFileFault>
+    ensures { MatchResult result (λ run. (front.more ≡ 0) × (run_of run ≡ run_of front.run)) (λ e. e ≡ fault.Memory) }
+{
+    let ViperFront { run, more } = front;
+    if more == 0 {
+        Ok(run)
+    } else {
+        Err(RunFileFault::Memory)
+    }
+}
+
+/// The front, with so many choices, of the run of a unit that the bytes of a run file spell. The choices behind it are checked
+/// and counted, and not built: each heap and contents has a map for each field and each predicate. Bytes that spell no run go
+/// wrong as for `read_viper_run`.
+pub fn read_viper_front(
+    alloc: Global,
+    bytes: &[u8],
+    program: &Program,
+    unit: u32,
+    many: usize,
+) -> Result<ViperFront, RunFileFault>
+    requires few { length bytes.now ≤ max_boogie_bytes }
+    requires formed { IsFormed (program_of program.now) }
+    requires unit { unit < length (program_of program.now).units }
+    ensures run { IfOk result (λ x. SpellsFront bytes.now (program_of program.now) unit many (front_view x)) }
+    ensures fault { IfErr result (UnlessMemory (GoesWrongAt bytes.now (program_of program.now) unit)) }
+
+    // and so no other front, and no other place
+    ensures only_run { (run : Plain) → SpellsViperRun bytes.now (program_of program.now) unit run → Gives (λ x. front_view x ≡ front_of many run) result }
+    ensures only_place { (at : Pos) → GoesWrongAt bytes.now (program_of program.now) unit at → GivesPlace at result }
+{
     let (names, types) = variables_of(program, unit);
     let variables = Names::of(alloc, names)?;
     let fields = Names::of(alloc, &program.fields)?;
@@ -60,7 +100,7 @@ pub fn read_viper_run(
         predicates: &predicates,
         layout: &program.layout,
     };
-    read_run(alloc, scope, bytes)
+    read_front(alloc, scope, many, bytes)
 }
 
 /// What may stand next in a file.
@@ -68,7 +108,7 @@ pub fn read_viper_run(
 enum Stage {
     Header,
     Opening,
-    /// A heap and contents are filled, which are the next choice.
+    /// A heap and contents are filled, which are the next choice. Behind the front their lines fill nothing.
     Filling,
     Choosing,
 }
@@ -81,14 +121,14 @@ struct Reader {
     named: NamedSets,
     /// The heap and contents that are filled.
     filling: Filling,
-    /// The run without those.
-    run: ViperRun,
+    /// The front of the run without those.
+    front: ViperFront,
 }
 
 impl Reader {
     /// Nothing is read yet.
     fn new(alloc: Global, scope: Scope) -> Result<Reader, Memory>
-        ensures { IfOk result (λ x. progress_of x ≡ progress.begun (scope_view scope.entry)) }
+        ensures { (many : ℕ) → IfOk result (λ x. progress_of x ≡ progress.begun (progress.fronts many) (scope_view scope.entry)) }
     {
         let filling = Filling::of(alloc, scope.layout)?;
         let store = defaults(alloc, scope.types)?;
@@ -100,16 +140,25 @@ impl Reader {
             stage: Stage::Header,
             named: NamedSets::nothing(alloc),
             filling,
-            run: ViperRun {
-                opening: Opening { store, memo },
-                choices: Vec::new(alloc),
+            front: ViperFront {
+                run: ViperRun {
+                    opening: Opening { store, memo },
+                    choices: Vec::new(alloc),
+                },
+                more: 0,
             },
         })
     }
 
     /// Reads a line. False where it may not stand.
-    fn read_line(&mut self, alloc: Global, scope: Scope, text: &[u8]) -> Result<bool, Memory>
-        ensures { IfOk result (λ ok. Steps ok (progress.read_line (scope_view scope.entry) (progress_of self.old) text.now) (progress_of self.new)) }
+    fn read_line(
+        &mut self,
+        alloc: Global,
+        scope: Scope,
+        many: usize,
+        text: &[u8],
+    ) -> Result<bool, Memory>
+        ensures { IfOk result (λ ok. Steps ok (progress.read_line (progress.fronts many) (scope_view scope.entry) (progress_of self.old) text.now) (progress_of self.new)) }
     {
         if is_skipped(text) {
             return Ok(true);
@@ -118,7 +167,7 @@ impl Reader {
             return Ok(self.read_header(text));
         }
         match line_of(alloc, scope, text)? {
-            Some(line) => self.follow(alloc, scope, line),
+            Some(line) => self.follow(alloc, scope, many, line),
             None => Ok(false),
         }
     }
@@ -135,8 +184,14 @@ impl Reader {
     }
 
     /// Takes in what a line says. False where the line may not stand.
-    fn follow(&mut self, alloc: Global, scope: Scope, line: Line) -> Result<bool, Memory>
-        ensures { IfOk result (λ ok. Steps ok (progress.followed (scope_view scope.entry) (progress_of self.old) (line_view line)) (progress_of self.new)) }
+    fn follow(
+        &mut self,
+        alloc: Global,
+        scope: Scope,
+        many: usize,
+        line: Line,
+    ) -> Result<bool, Memory>
+        ensures { IfOk result (λ ok. Steps ok (progress.followed (progress.fronts many) (scope_view scope.entry) (progress_of self.old) (line_view line)) (progress_of self.new)) }
     {
         match line {
             Line::Var(number, value) => self.set_variable(alloc, number, value),
@@ -148,19 +203,19 @@ impl Reader {
                 let named = Named::Instance(predicate, key.clone()?);
                 self.set_place(alloc, named, Line::Content(predicate, key, content))
             }
-            Line::Chosen(choice) => self.choose(alloc, choice),
-            Line::State => self.open_state(alloc, scope),
+            Line::Chosen(choice) => self.choose(alloc, many, choice),
+            Line::State => self.open_state(alloc, scope, many),
         }
     }
 
     /// Gives a variable a value, in the opening and once.
     fn set_variable(&mut self, alloc: Global, number: usize, value: Value) -> Result<bool, Memory>
-        ensures { IfOk result (λ ok. Steps ok (progress.variable_set (progress_of self.old) number value) (progress_of self.new)) }
+        ensures { (many : ℕ) → IfOk result (λ ok. Steps ok (progress.variable_set (progress.fronts many) (progress_of self.old) number value) (progress_of self.new)) }
     {
         if !may_set(self.stage) || !self.named.insert(alloc, Named::Variable(number))? {
             return Ok(false);
         }
-        if let Some(slot) = self.run.opening.store.get_mut(number) {
+        if let Some(slot) = self.front.run.opening.store.get_mut(number) {
             *slot = value;
         }
         Ok(true)
@@ -168,52 +223,68 @@ impl Reader {
 
     /// Puts a value or content where a heap and contents are filled, once for each place and instance.
     fn set_place(&mut self, alloc: Global, named: Named, line: Line) -> Result<bool, Memory>
-        ensures { IfOk result (λ ok. Steps ok (progress.place_set (progress_of self.old) (line_view line) named) (progress_of self.new)) }
+        ensures { (many : ℕ) → IfOk result (λ ok. Steps ok (progress.place_set (progress.fronts many) (progress_of self.old) (line_view line) named) (progress_of self.new)) }
     {
         if !may_place(self.stage) || !self.named.insert(alloc, named)? {
             return Ok(false);
         }
-        self.filling.fill(line)?;
+        self.fill(line)?;
         Ok(true)
     }
 
+    /// Puts a value or content into the heap and contents that are filled, where those are within the front.
+    fn fill(&mut self, line: Line) -> Result<(), Memory>
+        ensures { OnOk result (progress_of self.new ≡ record { stage = self.old.stage; named = named_of self.old.named; run = progress.front_with self.old.stage (line_view line) (progress_of self.old).run }) }
+    {
+        if !may_place(stage_within(self.front.more, self.stage)) {
+            return Ok(());
+        }
+        self.filling.fill(line)?;
+        Ok(())
+    }
+
     /// Takes in a choice.
-    fn choose(&mut self, alloc: Global, choice: Choice) -> Result<bool, Memory>
-        ensures { IfOk result (λ ok. Steps ok (Some (progress.chosen stage.Choosing (progress_of self.old) (choice_of choice))) (progress_of self.new)) }
+    fn choose(&mut self, alloc: Global, many: usize, choice: Choice) -> Result<bool, Memory>
+        ensures { IfOk result (λ ok. Steps ok (Some (progress.chosen (progress.fronts many) stage.Choosing (progress_of self.old) (choice_of choice))) (progress_of self.new)) }
     {
         self.close(alloc)?;
-        self.run.choices.push(choice)?;
         self.stage = Stage::Choosing;
+        add_choice(&mut self.front, many, choice)?;
         Ok(true)
     }
 
     /// Begins to fill a heap and contents, which are a choice.
-    fn open_state(&mut self, alloc: Global, scope: Scope) -> Result<bool, Memory>
-        ensures { IfOk result (λ ok. Steps ok (Some (progress.chosen stage.Filling (progress_of self.old) (Filled (scope_memo (scope_view scope.entry))))) (progress_of self.new)) }
+    fn open_state(&mut self, alloc: Global, scope: Scope, many: usize) -> Result<bool, Memory>
+        ensures { IfOk result (λ ok. Steps ok (Some (progress.chosen (progress.fronts many) stage.Filling (progress_of self.old) (Filled (scope_memo (scope_view scope.entry))))) (progress_of self.new)) }
     {
         self.close(alloc)?;
-        self.filling = Filling::of(alloc, scope.layout)?;
         self.stage = Stage::Filling;
+        if self.front.has_room(many) {
+            self.filling = Filling::of(alloc, scope.layout)?;
+            return Ok(true);
+        }
+        self.front.count()?;
         Ok(true)
     }
 
-    /// Puts the heap and contents that were filled into the run, and forgets what their lines have named.
+    /// Puts the heap and contents that were filled into the front, and forgets what their lines have named.
     fn close(&mut self, alloc: Global) -> Result<(), Memory>
-        ensures run { OnOk result (run_of self.new.run ≡ (progress_of self.old).run) }
+        ensures run { OnOk result (front_view self.new.front ≡ (progress_of self.old).run) }
         ensures named { OnOk result (named_of self.new.named ≡ []) }
     {
         self.named.clear();
-        if let Stage::Choosing = self.stage {
+        let stage = stage_within(self.front.more, self.stage);
+        if let Stage::Choosing = stage {
             return Ok(());
         }
         let filled = mem::replace(&mut self.filling, Filling::none(alloc));
-        put_filled(alloc, &mut self.run, self.stage, filled)
+        put_filled(alloc, &mut self.front.run, stage, filled)
     }
 
-    /// The run, after so many lines, where the header is among them.
-    fn finish(self, alloc: Global, lines: u32) -> Result<ViperRun, RunFileFault>
+    /// The front, after so many lines, where the header is among them.
+    fn finish(self, alloc: Global, lines: u32) -> Result<ViperFront, RunFileFault>
         requires { (1 ≤ lines) × (lines < 2 ^ 32) }
-        ensures { MatchResult result (λ run. (progress.is_headed self.stage ≡ true) × (run_of run ≡ (progress_of self).run))
+        ensures { MatchResult result (λ x. (progress.is_headed self.stage ≡ true) × (front_view x ≡ (progress_of self).run))
             (λ e. UnlessMemory (λ at. (progress.is_headed self.stage ≡ false) × (at.line ≡ lines) × (at.col ≡ 1)) e) }
     {
         if let Stage::Header = self.stage {
@@ -224,10 +295,22 @@ impl Reader {
         }
         // What was named gives back its memory before the heap and contents take their own.
         drop(self.named);
-        let mut run = self.run;
-        put_filled(alloc, &mut run, self.stage, self.filling)?;
-        Ok(run)
+        let mut front = self.front;
+        let stage = stage_within(front.more, self.stage);
+        put_filled(alloc, &mut front.run, stage, self.filling)?;
+        Ok(front)
     }
+}
+
+/// Takes in a choice, which is counted alone where it is behind the front of so many.
+fn add_choice(front: &mut ViperFront, many: usize, choice: Choice) -> Result<(), Memory>
+    ensures { OnOk result (front_view front.new ≡ progress.front_chosen many (choice_of choice) (front_view front.old)) }
+{
+    if front.has_room(many) {
+        front.run.choices.push(choice)?;
+        return Ok(());
+    }
+    front.count()
 }
 
 /// Puts a heap and contents that were filled into a run.
@@ -245,6 +328,18 @@ fn put_filled(
         Stage::Choosing => {}
     }
     Ok(())
+}
+
+/// The stage as the front sees it, behind which there are so many choices.
+fn stage_within(more: usize, stage: Stage) -> Stage
+    ensures { result ≡ progress.stage_within more stage }
+{
+    match stage {
+        Stage::Header => Stage::Header,
+        Stage::Opening => Stage::Opening,
+        Stage::Filling if more == 0 => Stage::Filling,
+        Stage::Filling | Stage::Choosing => Stage::Choosing,
+    }
 }
 
 /// Whether a variable's line may stand.
@@ -280,41 +375,52 @@ fn is_header(line: &[u8]) -> bool
     first == b"viper".as_slice() && second == b"run".as_slice() && next_word(rest).is_none()
 }
 
-/// A reader, and what the lines of its file may name.
+/// A reader, what the lines of its file may name, and how many choices it builds.
 #[derive(Drop)]
 struct Scoped<'a> {
     reader: Reader,
     scope: Scope<'a>,
+    many: usize,
 }
 
 impl LineReader for Scoped<'_> {
-    type Run = ViperRun;
+    type Run = ViperFront;
 
-    ghost State = { progress.Progress };
+    ghost State = { progress.Progress Front };
 
-    ghost Plain = { Plain };
+    ghost Plain = { Front };
 
-    ghost machine = { λ x. progress.reader (scope_view x.scope) };
+    ghost machine = { λ x. progress.front_reader x.many (scope_view x.scope) };
 
     ghost state = { λ x. progress_of x.reader };
 
-    ghost plain = { run_of };
+    ghost plain = { front_view };
 
     fn read_line(&mut self, alloc: Global, text: &[u8]) -> Result<bool, Memory> {
-        self.reader.read_line(alloc, self.scope, text)
+        self.reader.read_line(alloc, self.scope, self.many, text)
     }
 
-    fn finish(self, alloc: Global, lines: u32) -> Result<ViperRun, RunFileFault> {
+    fn finish(self, alloc: Global, lines: u32) -> Result<ViperFront, RunFileFault> {
         self.reader.finish(alloc, lines)
     }
 }
 
-/// The run that the lines of a text are, or where it goes wrong.
-fn read_run(alloc: Global, scope: Scope, bytes: &[u8]) -> Result<ViperRun, RunFileFault>
+/// The front, with so many choices, of the run that the lines of a text are, or where it goes wrong.
+fn read_front(
+    alloc: Global,
+    scope: Scope,
+    many: usize,
+    bytes: &[u8],
+) -> Result<ViperFront, RunFileFault>
     requires { length bytes.now ≤ max_boogie_bytes }
-    ensures { MatchResult result (λ run. IsReadBy (progress.reader (scope_view scope.entry)) (lines_of bytes.now) (run_of run))
-        (UnlessMemory (StopsBy (progress.reader (scope_view scope.entry)) (lines_of bytes.now))) }
+    ensures { MatchResult result (λ x. IsReadBy (progress.front_reader many (scope_view scope.entry)) (lines_of bytes.now) (front_view x))
+        (UnlessMemory (StopsBy (progress.front_reader many (scope_view scope.entry)) (lines_of bytes.now))) }
 {
     let reader = Reader::new(alloc, scope)?;
-    read_lines(alloc, Scoped { reader, scope }, bytes)
+    let scoped = Scoped {
+        reader,
+        scope,
+        many,
+    };
+    read_lines(alloc, scoped, bytes)
 }

@@ -6,7 +6,7 @@ ghost use Rattle.run_words.specs.Reading.{number_of, numbered_name};
 ghost use Rattle.run_words.specs.Text.{words_of};
 
 use crate::texts::next_word;
-use indexmap::IndexSet;
+use name_table::NameTable;
 use std::alloc::Global;
 use std::marker::Model;
 use vb_base::{Ident, Memory};
@@ -14,7 +14,7 @@ use vb_base::{Ident, Memory};
 /// Names that differ, each with its number. Contracts see the list of them.
 #[derive(Drop)]
 pub struct Names {
-    names: IndexSet<Ident>,
+    names: NameTable,
 }
 
 impl Model for Names {
@@ -22,7 +22,7 @@ impl Model for Names {
 
     ghost Value = { List (List ℕ) };
 
-    ghost view = { λ x. x.names.keys };
+    ghost view = { λ x. x.names };
 }
 
 impl Names {
@@ -31,42 +31,32 @@ impl Names {
         requires { NamesDiffer names.now }
         ensures { IfOk result (λ x. x ≡ names.now) }
     {
-        let mut known = IndexSet::new(alloc);
+        let mut known = NameTable::new(alloc);
         for name in names {
-            known.insert(name.copy()?)?;
+            known.add(name.copy()?)?;
         }
         Ok(Names { names: known })
     }
 
     /// The names of a table.
-    pub fn of_table(names: IndexSet<Ident>) -> Names
-        ensures { result ≡ names.keys }
+    pub fn of_table(names: NameTable) -> Names
+        ensures { result ≡ names }
     {
         Names { names }
     }
 
     /// The number of a name.
-    pub fn number_of(&self, alloc: Global, word: &[u8]) -> Result<Option<usize>, Memory>
-        ensures { IfOk result (λ n. n ≡ number_of self.now word.now) }
+    pub fn number_of(&self, word: &[u8]) -> Option<usize>
+        ensures { result ≡ number_of self.now word.now }
     {
-        let name = Ident::new(alloc, word)?;
-        Ok(self.names.get_index_of(&name))
+        self.names.number_of(word)
     }
 }
 
 /// The name with which the words of a line begin, as its number, and the rest of the line.
-pub fn numbered<'a>(
-    alloc: Global,
-    names: &Names,
-    words: &'a [u8],
-) -> Result<Option<(usize, &'a [u8])>, Memory>
-    ensures { IfOk result (λ r. option_map (λ x. (x.0, words_of x.1.now)) r ≡ numbered_name names.now (words_of words.now)) }
+pub fn numbered<'a>(names: &Names, words: &'a [u8]) -> Option<(usize, &'a [u8])>
+    ensures { option_map (λ x. (x.0, words_of x.1.now)) result ≡ numbered_name names.now (words_of words.now) }
 {
-    let Some((name, rest)) = next_word(words) else {
-        return Ok(None);
-    };
-    match names.number_of(alloc, name)? {
-        Some(number) => Ok(Some((number, rest))),
-        None => Ok(None),
-    }
+    let (name, rest) = next_word(words)?;
+    Some((names.number_of(name)?, rest))
 }

@@ -9,12 +9,13 @@ use Rattle.viper_core.specs.Program as p
 use Rattle.viper_core.specs.Weight.{weight}
 use Rattle.viper_types.specs.Program.{IsProgram}
 use Rattle.exec_words.specs.Unframed.{first_unframed}
-use Rattle.viper_exec.specs.Outcome.{end_of, EndsExecution}
-use Rattle.viper_exec.specs.declared.executions.Executed.{Executed}
+use Rattle.viper_exec.specs.Outcome.{end_of}
 use Rattle.run_words.specs.Answers.{UnlessMemory}
 use Rattle.run_file.specs.Run.{GoesWrongAt}
 use Rattle.run_words.specs.declared.faults.RunFileFault.{RunFileFault}
 use Rattle.run_words.specs.declared.faults.RunFileFault.TheVariants as fault
+use Rattle.run_fronts.specs.Ends.{EndsSo}
+use Rattle.run_fronts.specs.declared.executions.EndedExecution.{EndedExecution}
 use Rattle.vb_tool.specs.Accepted.{IsAccepted}
 use Rattle.vb_tool.specs.AcceptedExecution.{IsFramed, IsUnframedRefusal, unframed, AcceptsExecution, IsExecutionRefusal, unread, no_method, run_syntax}
 use Rattle.vb_tool.specs.Converted.{trouble_of_run}
@@ -41,8 +42,8 @@ run_refused bytes name run q n (fault.Syntax at) r is few named wrong is_r =
     let same : refusal.RunSyntax at ≡ r = cc in
     subst (IsExecutionRefusal bytes name run) same (run_syntax is few named wrong)
 
-pub execution_is : (bytes name run : List ℕ) (u : MethodRun) (n : ℕ) (s : Status) (text : List ℕ) (x : Executed) → AcceptsExecution bytes name run u →
-    EndsExecution (λ k. execution_end k u) n x → s ≡ status_of x.end → text ≡ ended_text x.end x.unused → ExecutionOf bytes name run n s text
+pub execution_is : (bytes name run : List ℕ) (u : MethodRun) (n : ℕ) (s : Status) (text : List ℕ) (x : EndedExecution) → AcceptsExecution bytes name run u →
+    EndsSo (execution_end n u) x → s ≡ status_of x.end → text ≡ ended_text x.end x.unused → ExecutionOf bytes name run n s text
 execution_is bytes name run u n s text x accepts ends is_s is_text = record {
   run = u;
   accepted = accepts;

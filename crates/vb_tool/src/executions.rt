@@ -11,12 +11,12 @@ use crate::stages::framed_program;
 use crate::status::{Refusal, Status};
 use crate::trouble::Trouble;
 use crate::units::body_named;
-use run_file::{ViperRun, read_viper_run};
+use run_fronts::{Task, exec_on_file};
 use std::alloc::{AllocError, Global};
 use std::fmt;
 use vb_base::Memory;
 use viper_core::Unit;
-use viper_exec::{ExecEnd, exec_method};
+use viper_exec::ExecEnd;
 
 /// The status of a call whose execution ended so.
 fn status_of(end: ExecEnd) -> Status
@@ -91,11 +91,14 @@ pub fn executed(
     let Some(unit) = body_named(&program, name) else {
         return Err(Trouble::Refused(Refusal::NoUnit));
     };
-    let run = read_viper_run(alloc, run_bytes, &program, unit)?;
-    let ViperRun { opening, choices } = run;
     let Unit::Method(method) = program.units[unit as usize] else {
         return Err(Trouble::Refused(Refusal::NoUnit));
     };
-    let end = exec_method(alloc, &program, method, &opening, choices, budget as u64)?;
+    let task = Task {
+        unit,
+        method,
+        budget,
+    };
+    let end = exec_on_file(alloc, &program, task, run_bytes)?;
     Ok(told(alloc, end.end, end.unused)?)
 }

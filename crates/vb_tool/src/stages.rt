@@ -22,12 +22,12 @@ use crate::status::Refusal;
 use crate::trouble::Trouble;
 use crate::units::unit_named;
 use exec_words::first_unframed;
-use run_file::{ViperRun, read_viper_run};
+use run_fronts::run_on_file;
 use std::alloc::Global;
 use vb_base::{Memory, place_after};
 use viper_core::Program;
 use viper_parse::parse;
-use viper_run::{Run, run_unit};
+use viper_run::Run;
 use viper_state::{Opening, Outcome};
 use viper_syntax::lex;
 use viper_types::check;
@@ -104,8 +104,6 @@ pub fn outcome(alloc: Global, bytes: &[u8], name: &str, run_bytes: &[u8]) -> Res
     let Some(unit) = unit_named(&program, name) else {
         return Err(Trouble::Refused(Refusal::NoUnit));
     };
-    let run = read_viper_run(alloc, run_bytes, &program, unit)?;
-    let ViperRun { opening, choices } = run;
-    let end = run_unit(alloc, &program, unit, &opening, choices)?;
-    Ok(told_of(alloc, &program, unit, &opening, &end)?)
+    let ended = run_on_file(alloc, &program, unit, run_bytes)?;
+    Ok(told_of(alloc, &program, unit, &ended.opening, &ended.end)?)
 }

@@ -13,6 +13,7 @@ use Rattle.std.specs.Map.{keys_of, values_of, lookup}
 use Rattle.std.specs.Ordering.{on}
 use Rattle.std.specs.declared.cmp.Ordering.{Ordering}
 use Rattle.std.proofs.lemmas.List.Elements.{All-head, All-tail}
+use Rattle.lemmas.proofs.Lists.{next_item}
 use Rattle.lemmas.proofs.Orders.{is_equal}
 use Rattle.sparse.specs.Map.{Map, borrowed, get, set, keys, IsReduced, IsSame}
 use Rattle.sparse.specs.Meaning.{IsExact}
@@ -28,14 +29,15 @@ use Rattle.sparse.proofs.MapLaws.{IsReduced-set, get-set_is, map_from_get, get-k
 use Rattle.vb_value.specs.Fraction.{Fraction}
 use Rattle.vb_value.specs.Value.{fraction_eq}
 use Rattle.viper_meaning.specs.Forgotten.{kept_at}
-use Rattle.viper_inhale.specs.Free.{is_free}
+use Rattle.viper_state.specs.Loose.{is_listed, IsLooseAmong}
+use Rattle.viper_inhale.specs.Free.{is_free, AreFree}
+use Rattle.std.proofs.lemmas.Bool.{true≢false}
 
 -- ---- what a map has at listed keys
 
 module _ {K : Type 0} (cmp : K → K → Ordering) where
   abbrev pub listed : List K → K → Bool
-  listed [] q = false
-  listed (k ∷ ks) q = is_at (cmp q) k || listed ks q
+  listed ks q = is_listed cmp ks q
 
 module _ {K V : Type 0} {cmp : K → K → Ordering} {eq : V → V → Bool} (x : IsExact cmp eq) where
   same_at : (q k : K) → is_at (cmp q) k ≡ true → q ≡ k
@@ -108,36 +110,66 @@ module _ {K : Type 0} {cmp : K → K → Ordering} (x : IsExact cmp fraction_eq)
 
 -- ---- the law
 
-places : {V : Type 0} (h o n : Bool) (own new z : V) → (o ≡ false → own ≡ z) → (n ≡ false → new ≡ z) → cond h own new ≡ cond (n && not h) new (cond (o && not h) new own)
-places true true true own new z f g = refl
-places true true false own new z f g = refl
-places true false true own new z f g = refl
-places true false false own new z f g = refl
-places false o true own new z f g = refl
-places false true false own new z f g = refl
-places false false false own new z f g = g refl ∙ sym (f refl)
+places : {V : Type 0} (h l o n : Bool) (own new z : V) → (o ≡ false → own ≡ z) → (n ≡ false → new ≡ z) → (l ≡ true → h ≡ false) → (o ≡ true → h ≡ false → l ≡ true) →
+    cond h own new ≡ cond (n && not h) new (cond l new own)
+places true true o n own new z f g free each = absurd (true≢false (free refl))
+places true false o true own new z f g free each = refl
+places true false o false own new z f g free each = refl
+places false true o true own new z f g free each = refl
+places false true o false own new z f g free each = refl
+places false false true n own new z f g free each = absurd (true≢false (sym (each refl refl)))
+places false false false true own new z f g free each = refl
+places false false false false own new z f g free each = g refl ∙ sym (f refl)
+
+not_true : (b : Bool) → not b ≡ true → b ≡ false
+not_true true h = cc
+not_true false h = refl
+
+both_true : (a b : Bool) → (a && b) ≡ true → b ≡ true
+both_true true b h = h
+both_true false b h = absurd (true≢false (sym h))
+
+true_both : (a b : Bool) → a ≡ true → b ≡ true → (a && b) ≡ true
+true_both true b h g = g
+true_both false b h g = h
 
 module _ {K V : Type 0} {cmp : K → K → Ordering} {eq : V → V → Bool} (x : IsExact cmp eq) (y : IsExact cmp fraction_eq) where
-  pub kept_by_change : (new own : Map K V) (held : Map K Fraction) → IsReduced cmp eq new → IsReduced cmp eq own → IsReduced cmp fraction_eq held → new.default ≡ own.default →
-      kept_at cmp eq (kept_at cmp eq own new (filter (is_free cmp held) (keys own))) new (filter (is_free cmp held) (keys new)) ≡ kept_at cmp eq new own (keys held)
-  kept_by_change new own held rn ro rh same =
+  pub kept_by_change : (new own : Map K V) (held : Map K Fraction) (ks : List K) → IsReduced cmp eq new → IsReduced cmp eq own → IsReduced cmp fraction_eq held → new.default ≡ own.default → AreFree cmp (keys own) held ks →
+      kept_at cmp eq (kept_at cmp eq own new ks) new (filter (is_free cmp held) (keys new)) ≡ kept_at cmp eq new own (keys held)
+  kept_by_change new own held ks rn ro rh same are =
       let free = is_free cmp held in
-      let half = kept_at cmp eq own new (filter free (keys own)) in
-      let half_reduced = kept_reduced x own new (filter free (keys own)) ro in
+      let half = kept_at cmp eq own new ks in
+      let half_reduced = kept_reduced x own new ks ro in
       sym (map_from_get x (kept_at cmp eq new own (keys held)) (kept_at cmp eq half new (filter free (keys new)))
       (kept_reduced x new own (keys held) rn) (kept_reduced x half new (filter free (keys new)) half_reduced)
-      (kept_default x new own (keys held) ∙ same ∙ sym (kept_default x half new (filter free (keys new)) ∙ kept_default x own new (filter free (keys own))))
+      (kept_default x new own (keys held) ∙ same ∙ sym (kept_default x half new (filter free (keys new)) ∙ kept_default x own new ks))
       (λ q.
       let h = listed cmp (keys held) q in
+      let l = listed cmp ks q in
       let o = listed cmp (keys own) q in
       let n = listed cmp (keys new) q in
-      let in_own : listed cmp (filter free (keys own)) q ≡ (o && not h) = listed_filter x free (keys own) q ∙ ap (λ b. o && b) (free_is y held q rh) in
-      let in_new : listed cmp (filter free (keys new)) q ≡ (n && not h) = listed_filter x free (keys new) q ∙ ap (λ b. n && b) (free_is y held q rh) in
+      let free_here : free q ≡ not h = free_is y held q rh in
+      let in_new : listed cmp (filter free (keys new)) q ≡ (n && not h) = listed_filter x free (keys new) q ∙ ap (λ b. n && b) free_here in
       kept_get x new own (keys held) q rn
-      ∙ places h o n (get cmp own q) (get cmp new q) own.default (absent x own.entries own.default q) (λ e. absent x new.entries new.default q e ∙ same)
+      ∙ places h l o n (get cmp own q) (get cmp new q) own.default (absent x own.entries own.default q) (λ e. absent x new.entries new.default q e ∙ same)
+      (λ e. not_true h (sym free_here ∙ are.free q e)) (λ e f. are.each q e (free_here ∙ ap not f))
       ∙ sym (kept_get x half new (filter free (keys new)) q half_reduced
-      ∙ (λ i. cond (in_new i) (get cmp new q) (kept_get x own new (filter free (keys own)) q ro i))
-      ∙ ap (λ b. cond (n && not h) (get cmp new q) (cond b (get cmp new q) (get cmp own q))) in_own)))
+      ∙ (λ i. cond (in_new i) (get cmp new q) (kept_get x own new ks q ro i)))))
+
+-- ---- the free keys of a list
+
+module _ {K : Type 0} {cmp : K → K → Ordering} (y : IsExact cmp fraction_eq) where
+  pub filter_free : (ks : List K) (held : Map K Fraction) → AreFree cmp ks held (filter (is_free cmp held) ks)
+  filter_free ks held = record {
+    free = λ k e. both_true (listed cmp ks k) (is_free cmp held k) (sym (listed_filter y (is_free cmp held) ks k) ∙ e);
+    each = λ k e f. listed_filter y (is_free cmp held) ks k ∙ true_both (listed cmp ks k) (is_free cmp held k) e f;
+  }
+
+  pub filter_loose : {V : Type 0} (own : Map K V) (held : Map K Fraction) (list : List K) → IsReduced cmp fraction_eq held → IsLooseAmong cmp own held list → AreFree cmp (keys own) held (filter (is_free cmp held) list)
+  filter_loose own held list r among = record {
+    free = λ k e. both_true (listed cmp list k) (is_free cmp held k) (sym (listed_filter y (is_free cmp held) list k) ∙ e);
+    each = λ k e f. listed_filter y (is_free cmp held) list k ∙ true_both (listed cmp list k) (is_free cmp held k) (among k e (not_true (listed cmp (keys held) k) (sym (free_is y held k r) ∙ f))) f;
+  }
 
 -- ---- what a hint tells
 
@@ -196,6 +228,22 @@ module _ {K V : Type 0} where
         borrowed list ++ F (keys_of (drop i (borrowed es))) ≡ all → borrowed list ++ F (keys_of (drop (i + 1) (borrowed es))) ≡ all
     key_skipped list step so_far =
         ap (λ ks. borrowed list ++ ks) (sym (step (keys_of (drop (i + 1) (borrowed es))))) ∙ ap (λ ds. borrowed list ++ F (keys_of ds)) (sym (next_borrowed es i e lt is)) ∙ so_far
+
+module _ {K : Type 0} (F : List K → List K) (ks : List K) (i : ℕ) (k : K) (all : List K) (lt : i < length ks) (is : k ≡ get_or ks i k) where
+  -- the same of a key of a list
+  pub item_pushed : (list more : List (Bor K)) (b : Bor K) → ((rest : List K) → F (k ∷ rest) ≡ k ∷ F rest) → more ≡ list ++ b ∷ [] → b.now ≡ k →
+      borrowed list ++ F (drop i ks) ≡ all → borrowed more ++ F (drop (i + 1) ks) ≡ all
+  item_pushed list more b step pushed same so_far =
+      let rest = drop (i + 1) ks in
+      ap (λ bs. borrowed bs ++ F rest) pushed ∙ ap (λ qs. qs ++ F rest) (map-append (λ (x : Bor K). x.now) list (b ∷ []))
+      ∙ append_assoc (borrowed list) (b.now ∷ []) (F rest)
+      ∙ ap (λ q. borrowed list ++ q ∷ F rest) same
+      ∙ ap (λ qs. borrowed list ++ qs) (sym (step rest))
+      ∙ ap (λ qs. borrowed list ++ F qs) (sym (next_item ks i k lt is)) ∙ so_far
+
+  pub item_skipped : (list : List (Bor K)) → ((rest : List K) → F (k ∷ rest) ≡ F rest) → borrowed list ++ F (drop i ks) ≡ all → borrowed list ++ F (drop (i + 1) ks) ≡ all
+  item_skipped list step so_far =
+      ap (λ qs. borrowed list ++ qs) (sym (step (drop (i + 1) ks))) ∙ ap (λ qs. borrowed list ++ F qs) (sym (next_item ks i k lt is)) ∙ so_far
 
 pub filter_takes : {K : Type 0} (test : K → Bool) (k : K) → test k ≡ true → (ks : List K) → filter test (k ∷ ks) ≡ k ∷ filter test ks
 filter_takes test k h ks = ap (λ b. cond b (k ∷ filter test ks) (filter test ks)) h

@@ -1,28 +1,42 @@
 // Forgetting: where nothing is held, the heap and contents of a choice take the place of the state's own.
-ghost use Rattle.std.specs.Prelude.{◌≡◌, All, IfErr, IfOk, OnOk, length, map};
+ghost use Rattle.std.specs.Prelude.{◌≡◌, All, IfErr, IfOk, IfSome, OnOk, map};
 ghost use Rattle.std.specs.Ordering.{nat_cmp};
 ghost use Rattle.std.specs.Option.{option_map};
 ghost use Rattle.sparse.specs.Map.{borrowed, keys};
 ghost use Rattle.vb_value.specs.Content.{same_content};
 ghost use Rattle.vb_value.specs.Key.{key_cmp};
 ghost use Rattle.vb_value.specs.Value.{value_eq};
+ghost use Rattle.viper_state.specs.Loose.{AreLooseAmong, IsLooseAmong, lists_of};
 ghost use Rattle.viper_state.specs.Fits.{FitsMemo, HasMaps, FitsChoice};
 ghost use Rattle.viper_state.specs.View.{contents_of, memo_of, choice_of, state_of, feed_of};
 ghost use Rattle.vb_value.specs.Layout.{Layout};
-ghost use Rattle.viper_meaning.specs.Forgotten.{kept_at, forgotten_maps, forgotten, with_memo};
+ghost use Rattle.viper_meaning.specs.Forgotten.{kept_at, forgotten, with_memo};
 ghost use Rattle.viper_meaning.specs.Forgotten as m;
 ghost use Rattle.viper_meaning.specs.Run as run;
 ghost use Rattle.viper_state.specs.Event as event;
 ghost use Rattle.viper_inhale.specs.Answers.{Does};
+ghost use Rattle.viper_inhale.specs.Kept.{kept_maps, kept_memo};
 ghost use Rattle.viper_inhale.specs.View.{filled_in};
 ghost use Rattle.viper_inhale.specs.declared.answers.Halt.TheVariants as halt;
 
 use crate::answers::{Halt, Stop};
-use crate::free_keys::{all_keys, free_keys};
+use crate::free_keys::{all_keys, free_keys, list_of, loose_keys};
 use sparse::Sparse;
 use std::alloc::Global;
 use vb_value::{Content, Frac, Key, Value};
-use viper_state::{Choice, Event, Feed, Memo, State, copy_memo};
+use viper_state::{Choice, Event, Feed, Memo, State, copy_memo, keys_known};
+
+/// About how many keys are gone through where a map is changed and not begun from the choice.
+fn most_free<K: Ord + Clone + Drop, V: Eq + Clone + Drop>(
+    new: &Sparse<K, V>,
+    own: &Sparse<K, V>,
+    loose: Option<&Vec<K>>,
+) -> usize {
+    match loose {
+        Some(list) => list.len().saturating_add(new.len()),
+        None => own.len() / 2,
+    }
+}
 
 /// A heap of a field after forgetting: the own values where something is held, and elsewhere those of the new heap. It begins
 /// as a copy of the own heap, which shares its entries, so it costs little more than what changes.
@@ -31,13 +45,15 @@ fn changed_values(
     new: &Sparse<u64, Value>,
     own: &Sparse<u64, Value>,
     held: &Sparse<u64, Frac>,
+    loose: Option<&Vec<u64>>,
 ) -> Result<Sparse<u64, Value>, Halt>
-    requires { new.now.default ≡ own.now.default }
+    requires same { new.now.default ≡ own.now.default }
+    requires known { IfSome loose (λ list. IsLooseAmong nat_cmp own.now held.now list.now.items) }
     ensures kept { IfOk result (λ m. m ≡ kept_at nat_cmp value_eq new.now own.now (keys held.now)) }
     ensures memory { IfErr result (λ h. h ≡ halt.Memory) }
 {
     let mut kept = own.copy()?;
-    take_values(&mut kept, new, &free_keys(alloc, own, held)?)?;
+    take_values(&mut kept, new, &loose_keys(alloc, own, held, loose)?)?;
     take_values(&mut kept, new, &free_keys(alloc, new, held)?)?;
     Ok(kept)
 }
@@ -63,14 +79,17 @@ fn keep_values(
     new: &mut Sparse<u64, Value>,
     own: &Sparse<u64, Value>,
     held: &Sparse<u64, Frac>,
+    loose: Option<&Vec<u64>>,
 ) -> Result<(), Halt>
+    requires { IfSome loose (λ list. IsLooseAmong nat_cmp own.now held.now list.now.items) }
     ensures kept { OnOk result (new.new ≡ kept_at nat_cmp value_eq new.old own.now (keys held.now)) }
     ensures memory { IfErr result (λ h. h ≡ halt.Memory) }
 {
-    if held.len() < own.len() / 2 || *new.default() != *own.default() {
+    let free = most_free(new, own, loose);
+    if held.len() < free || *new.default() != *own.default() {
         return take_values(new, own, &all_keys(alloc, held)?);
     }
-    *new = changed_values(alloc, new, own, held)?;
+    *new = changed_values(alloc, new, own, held, loose)?;
     Ok(())
 }
 
@@ -80,13 +99,16 @@ fn changed_contents(
     new: &Sparse<Key, Content>,
     own: &Sparse<Key, Content>,
     held: &Sparse<Key, Frac>,
+    loose: Option<&Vec<Key>>,
 ) -> Result<Sparse<Key, Content>, Halt>
-    requires { (contents_of new.now).default ≡ (contents_of own.now).default }
+    requires known { IfSome loose (λ list. IsLooseAmong key_cmp own.now held.now list.now.items) }
+    requires same { (contents_of new.now).default ≡ (contents_of own.now).default }
     ensures kept { IfOk result (λ m. contents_of m ≡ kept_at key_cmp same_content (contents_of new.now) (contents_of own.now) (keys held.now)) }
     ensures memory { IfErr result (λ h. h ≡ halt.Memory) }
 {
     let mut kept = own.copy()?;
-    take_contents(alloc, &mut kept, new, &free_keys(alloc, own, held)?)?;
+    let free = loose_keys(alloc, own, held, loose)?;
+    take_contents(alloc, &mut kept, new, &free)?;
     take_contents(alloc, &mut kept, new, &free_keys(alloc, new, held)?)?;
     Ok(kept)
 }
@@ -114,14 +136,17 @@ fn keep_contents(
     new: &mut Sparse<Key, Content>,
     own: &Sparse<Key, Content>,
     held: &Sparse<Key, Frac>,
+    loose: Option<&Vec<Key>>,
 ) -> Result<(), Halt>
+    requires { IfSome loose (λ list. IsLooseAmong key_cmp own.now held.now list.now.items) }
     ensures kept { OnOk result (contents_of new.new ≡ kept_at key_cmp same_content (contents_of new.old) (contents_of own.now) (keys held.now)) }
     ensures memory { IfErr result (λ h. h ≡ halt.Memory) }
 {
-    if held.len() < own.len() / 2 || *new.default() != *own.default() {
+    let free = most_free(new, own, loose);
+    if held.len() < free || *new.default() != *own.default() {
         return take_contents(alloc, new, own, &all_keys(alloc, held)?);
     }
-    *new = changed_contents(alloc, new, own, held)?;
+    *new = changed_contents(alloc, new, own, held, loose)?;
     Ok(())
 }
 
@@ -131,13 +156,15 @@ fn keep_heap(
     news: &mut Vec<Sparse<u64, Value>>,
     owns: &[Sparse<u64, Value>],
     helds: &[Sparse<u64, Frac>],
+    lists: &[Vec<u64>],
 ) -> Result<(), Halt>
-    ensures kept { length owns.now ≡ length news.old.items → length helds.now ≡ length news.old.items
-        → OnOk result (news.new.items ≡ forgotten_maps nat_cmp value_eq news.old.items owns.now helds.now) }
+    requires { AreLooseAmong nat_cmp owns.now helds.now (lists_of lists.now) }
+    ensures kept { OnOk result (news.new.items ≡ kept_maps nat_cmp value_eq news.old.items owns.now helds.now) }
     ensures memory { IfErr result (λ h. h ≡ halt.Memory) }
 {
     for field in 0..news.len().min(owns.len()).min(helds.len()) {
-        keep_values(alloc, &mut news[field], &owns[field], &helds[field])?;
+        let list = list_of(lists, field);
+        keep_values(alloc, &mut news[field], &owns[field], &helds[field], list)?;
     }
     Ok(())
 }
@@ -148,18 +175,21 @@ fn keep_all_contents(
     news: &mut Vec<Sparse<Key, Content>>,
     owns: &[Sparse<Key, Content>],
     helds: &[Sparse<Key, Frac>],
+    lists: &[Vec<Key>],
 ) -> Result<(), Halt>
-    ensures kept { length owns.now ≡ length news.old.items → length helds.now ≡ length news.old.items
-        → OnOk result (map contents_of news.new.items
-        ≡ forgotten_maps key_cmp same_content (map contents_of news.old.items) (map contents_of owns.now) helds.now) }
+    requires { AreLooseAmong key_cmp owns.now helds.now (lists_of lists.now) }
+    ensures kept { OnOk result (map contents_of news.new.items
+        ≡ kept_maps key_cmp same_content (map contents_of news.old.items) (map contents_of owns.now) helds.now) }
     ensures memory { IfErr result (λ h. h ≡ halt.Memory) }
 {
     for predicate in 0..news.len().min(owns.len()).min(helds.len()) {
+        let list = list_of(lists, predicate);
         keep_contents(
             alloc,
             &mut news[predicate],
             &owns[predicate],
             &helds[predicate],
+            list,
         )?;
     }
     Ok(())
@@ -175,6 +205,22 @@ fn memo_in(choice: Choice) -> Option<Memo>
     }
 }
 
+/// A heap and contents with what the state keeps of its own.
+fn kept_memo(alloc: Global, memo: Memo, state: &State) -> Result<Memo, Halt>
+    ensures kept { IfOk result (λ m. memo_of m ≡ kept_memo (state_of state.now) (memo_of memo)) }
+    ensures memory { IfErr result (λ h. h ≡ halt.Memory) }
+{
+    let Memo {
+        mut heap,
+        mut content,
+    } = memo;
+    let lists = state.loose_references();
+    keep_heap(alloc, &mut heap, &state.heap, &state.mask, lists)?;
+    let lists = state.loose_keys();
+    keep_all_contents(alloc, &mut content, &state.content, &state.amount, lists)?;
+    Ok(Memo { heap, content })
+}
+
 /// Forgets by a heap and contents, and records what stands from then on.
 fn forget_by(alloc: Global, memo: Memo, state: &mut State, feed: &mut Feed) -> Result<(), Halt>
     ensures { (l : Layout) → HasMaps l (state_of state.old) → FitsMemo l (memo_of memo)
@@ -182,16 +228,10 @@ fn forget_by(alloc: Global, memo: Memo, state: &mut State, feed: &mut Feed) -> R
         (run.noting (event.Whole (forgotten (state_of state.old) (memo_of memo))) (run.goes (with_memo (state_of state.old) (forgotten (state_of state.old) (memo_of memo)))))
         (feed_of feed.new) result }
 {
-    let Memo {
-        mut heap,
-        mut content,
-    } = memo;
-    keep_heap(alloc, &mut heap, &state.heap, &state.mask)?;
-    keep_all_contents(alloc, &mut content, &state.content, &state.amount)?;
-    let memo = Memo { heap, content };
+    let known = keys_known(alloc, &memo)?;
+    let memo = kept_memo(alloc, memo, state)?;
     feed.record(Event::Whole(copy_memo(alloc, &memo)?))?;
-    state.heap = memo.heap;
-    state.content = memo.content;
+    state.take_memo(memo, known);
     Ok(())
 }
 

@@ -1,10 +1,11 @@
 // The keys of a map at which nothing is held.
-ghost use Rattle.std.specs.Prelude.{◌≡◌, Contains, IfErr, IfOk, IsTrue, filter};
+ghost use Rattle.std.specs.Prelude.{◌≡◌, Contains, IfErr, IfOk, IfSome, IsTrue, Some, filter, slice_get};
 ghost use Rattle.std.specs.Map.{keys_of};
 ghost use Rattle.std.specs.declared.cmp.Ordering.TheVariants.{Equal};
 ghost use Rattle.sparse.specs.Map.{borrowed, keys, IsReduced};
 ghost use Rattle.vb_value.specs.Value.{fraction_eq};
-ghost use Rattle.viper_inhale.specs.Free.{is_free};
+ghost use Rattle.viper_state.specs.Loose.{IsLooseAmong, lists_of};
+ghost use Rattle.viper_inhale.specs.Free.{is_free, AreFree};
 ghost use Rattle.viper_inhale.specs.declared.answers.Halt.TheVariants as halt;
 
 use crate::answers::Halt;
@@ -102,4 +103,54 @@ pub(crate) fn free_keys<'a, K: Ord + Clone + Drop, V: Eq + Clone + Drop>(
         }
     }
     Ok(list)
+}
+
+/// Those of some keys at which nothing is held.
+fn free_among<'a, K: Ord + Clone + Drop>(
+    alloc: Global,
+    keys: &'a [K],
+    held: &Sparse<K, Frac>,
+) -> Result<Vec<&'a K>, Halt>
+    requires { (k q : K) → K.cmp k q ≡ Equal → k ≡ q }
+    ensures free { IfOk result (λ list. borrowed list.items ≡ filter (is_free K.cmp held.now) keys.now) }
+    ensures held_reduced { IsReduced K.cmp fraction_eq held.now }
+    ensures memory { IfErr result (λ h. h ≡ halt.Memory) }
+{
+    let _none = held.default();
+    let mut list = Vec::new(alloc);
+    for key in keys {
+        if is_free(held, false, key) {
+            list.push(key)?;
+        }
+    }
+    Ok(list)
+}
+
+/// The keys of a map at which nothing is held, and maybe others at which nothing is held: of a list in which they stand, where
+/// there is one.
+pub(crate) fn loose_keys<'a, K: Ord + Clone + Drop, V: Eq + Clone + Drop>(
+    alloc: Global,
+    map: &'a Sparse<K, V>,
+    held: &Sparse<K, Frac>,
+    loose: Option<&'a Vec<K>>,
+) -> Result<Vec<&'a K>, Halt>
+    requires exact { (k q : K) → K.cmp k q ≡ Equal → k ≡ q }
+    requires known { IfSome loose (λ list. IsLooseAmong K.cmp map.now held.now list.now.items) }
+    ensures free { IfOk result (λ list. AreFree K.cmp (keys map.now) held.now (borrowed list.items)) }
+    ensures memory { IfErr result (λ h. h ≡ halt.Memory) }
+{
+    match loose {
+        Some(list) => free_among(alloc, list, held),
+        None => free_keys(alloc, map, held),
+    }
+}
+
+/// The list of this number, if there is one.
+pub(crate) fn list_of<K: Drop>(lists: &[Vec<K>], number: usize) -> Option<&Vec<K>>
+    ensures { IfSome result (λ list. slice_get (lists_of lists.now) number ≡ Some list.now.items) }
+{
+    match lists.get(number) {
+        Some(list) => Some(list),
+        None => None,
+    }
 }

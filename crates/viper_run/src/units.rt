@@ -154,8 +154,8 @@ pub fn begin_method(
         (method_begun (program_of program.now) (method_of method.now) (opening_of opening.now)) (feed_of feed.new) result }
 {
     let store = first_store(alloc, method, &opening.store)?;
-    let old = empty_state(alloc, &program.layout, &opening.memo)?;
-    let mut state = copy_state(alloc, &old)?;
+    let mut state = empty_state(alloc, &program.layout, &opening.memo)?;
+    let old = copy_state(alloc, &state)?;
     let scene = SceneRef {
         store: &store.values,
         old: &old,
@@ -204,8 +204,8 @@ fn start_predicate(
     ensures { Does state_of (feed_of feed.old)
         (u.start_predicate Bounded (program_of program.now) (predicate_of predicate.now) (assertion_of body.now) (opening_of opening.now)) (feed_of feed.new) result }
 {
-    let old = empty_state(alloc, &program.layout, &opening.memo)?;
-    let mut state = copy_state(alloc, &old)?;
+    let mut state = empty_state(alloc, &program.layout, &opening.memo)?;
+    let old = copy_state(alloc, &state)?;
     let scene = SceneRef {
         store: &opening.store,
         old: &old,

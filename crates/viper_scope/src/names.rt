@@ -2,7 +2,7 @@
 ghost use Rattle.std.specs.Prelude.{◌≡◌, ◌++◌, ◌∷◌, [], ℕ, List, None, take, length, OnOk, OnErr};
 ghost use Rattle.viper_scope.specs.Context.{find};
 
-use indexmap::IndexMap;
+use name_table::NameTable;
 use std::alloc::Global;
 use std::marker::Model;
 use vb_base::{Ident, Memory};
@@ -10,15 +10,19 @@ use vb_base::{Ident, Memory};
 /// What names stand for, in the order in which they were declared. Contracts see the list of both.
 #[derive(Drop)]
 pub struct Names<V> {
-    entries: IndexMap<Ident, V>,
+    names: NameTable,
+    values: Vec<V>,
 }
 
 impl<V> Model for Names<V> {
-    ghost use Rattle.std.specs.Prelude.{ℕ, List};
+    ghost use Rattle.std.specs.Prelude.{◌≡◌, ℕ, List, length};
+    ghost use Rattle.std.specs.List.{zip};
 
     ghost Value = { List (List ℕ × V) };
 
-    ghost view = { λ names. names.entries.entries };
+    ghost view = { λ names. zip names.names names.values.items };
+
+    ghost invariant = { λ names. length names.names ≡ length names.values.items };
 }
 
 impl<V: Copy + Drop> Names<V> {
@@ -27,7 +31,8 @@ impl<V: Copy + Drop> Names<V> {
         ensures { result ≡ [] }
     {
         Names {
-            entries: IndexMap::new(alloc),
+            names: NameTable::new(alloc),
+            values: Vec::new(alloc),
         }
     }
 
@@ -35,14 +40,15 @@ impl<V: Copy + Drop> Names<V> {
     pub fn len(&self) -> usize
         ensures { result ≡ length self.now }
     {
-        self.entries.len()
+        self.names.len()
     }
 
     /// What the name stands for.
     pub fn find(&self, name: &Ident) -> Option<V>
         ensures { result ≡ find self.now name.now }
     {
-        self.entries.get(name).copied()
+        let number = self.names.number_of(name.bytes())?;
+        self.values.get(number).copied()
     }
 
     /// A name that stood for nothing stands for this value.
@@ -51,7 +57,10 @@ impl<V: Copy + Drop> Names<V> {
         ensures ok { OnOk result (self.new ≡ self.old ++ (name.now, value) ∷ []) }
         ensures err { OnErr result (self.new ≡ self.old) }
     {
-        self.entries.insert(name.copy()?, value)?;
+        let name = name.copy()?;
+        self.values.reserve(1)?;
+        self.names.add(name)?;
+        self.values.push_reserved(value);
         Ok(())
     }
 
@@ -59,6 +68,7 @@ impl<V: Copy + Drop> Names<V> {
     pub fn truncate(&mut self, len: usize)
         ensures { self.new ≡ take len self.old }
     {
-        self.entries.truncate(len);
+        self.names.truncate(len);
+        self.values.truncate(len);
     }
 }

@@ -6,3 +6,4 @@ pub mod FitsTestLaws
 pub mod ProperLaws
 pub mod Rows
 pub mod ShapeLaws
+pub mod LooseLaws

@@ -2,6 +2,7 @@ pub mod State
 pub mod Choice
 pub mod Event
 pub mod Run
+pub mod Loose
 pub mod View
 pub mod Fits
 pub mod Within

@@ -4,12 +4,14 @@
 #![tactic(auto)]
 
 mod copies;
+mod known;
 pub mod laws;
 pub mod layout_laws;
 mod places;
 mod runs;
 mod states;
 
-pub use copies::{copy_memo, copy_state, empty_state};
+pub use copies::{copy_memo, copy_state, empty_state, keys_known};
+pub use known::Known;
 pub use runs::{Choice, Event, Feed, Opening, Outcome, Scene};
 pub use states::{Memo, State};

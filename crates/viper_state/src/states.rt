@@ -1,4 +1,7 @@
 // Heaps, masks, amounts and contents.
+ghost use Rattle.viper_state.specs.Loose.{KnowsLoose};
+
+use crate::known::Known;
 use sparse::Sparse;
 use vb_value::{Content, Frac, Key, Value};
 
@@ -22,4 +25,7 @@ pub struct State {
     pub mask: Vec<Sparse<u64, Frac>>,
     /// For each predicate how much of each instance is held.
     pub amount: Vec<Sparse<Key, Frac>>,
+    /// Where values may stand although nothing is held.
+    pub(crate) known: Known,
+    ghost knows_loose: { KnowsLoose heap.items content.items mask.items amount.items known },
 }

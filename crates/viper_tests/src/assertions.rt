@@ -131,12 +131,7 @@ fn row_of(row: &str) -> Result<Row<'_>, Fail> {
 fn memo(alloc: Global, words: &str) -> Result<Choice, Fail>
     ensures { IfOk result (λ c. IsWithinChoice (choice_of c)) }
 {
-    let State {
-        heap,
-        content,
-        mask: _,
-        amount: _,
-    } = state_of(alloc, words)?;
+    let State { heap, content, .. } = state_of(alloc, words)?;
     Ok(Choice::Memo(Memo { heap, content }))
 }
 

@@ -4,4 +4,4 @@ use Rattle.run_boogie.specs.BoogieLines.{known}
 use Rattle.run_boogie.proofs.boogie_lines.local_names.Given as goal
 
 abbrev pub invariant-loop-local : goal.invariant-loop-local
-invariant-loop-local l = l.known.keys ≡ take l.local-index (known (locals_of l.locals)).names
+invariant-loop-local l = l.known ≡ take l.local-index (known (locals_of l.locals)).names

@@ -12,7 +12,8 @@ returns-clause-kept c =
     let own = c.args.own.now in
     let new = c.args.new.now in
     let held = c.args.held.now in
-    let first = c.in_ok-take_values.ensures.taken ∙ (λ i. kept_at nat_cmp value_eq (copies value_test exact_values own c.in_ok-kept.kept c.in_ok-kept.ensures.same i) new
-    ((ap borrowed c.deref.ensures.value ∙ c.in_ok-free_keys.ensures.free) i)) in
-    c.in_ok-take_values-2.ensures.taken ∙ (λ i. kept_at nat_cmp value_eq (first i) new ((ap borrowed c.deref-2.ensures.value ∙ c.in_ok-free_keys-2.ensures.free) i))
-    ∙ kept_by_change exact_values exact_masks new own held (values_reduced new c.in_ok-free_keys-2.ensures.map_reduced) (values_reduced own c.in_ok-free_keys.ensures.map_reduced) c.in_ok-free_keys.ensures.held_reduced c.requires
+    let ks = borrowed c.in_ok-loose_keys.field-0.items in
+    let first = c.in_ok-take_values.ensures.taken ∙ (λ i. kept_at nat_cmp value_eq (copies value_test exact_values own c.in_ok-kept.kept c.in_ok-kept.ensures.same i) new (ap borrowed c.deref.ensures.value i)) in
+    c.in_ok-take_values-2.ensures.taken ∙ (λ i. kept_at nat_cmp value_eq (first i) new ((ap borrowed c.deref-2.ensures.value ∙ c.in_ok-free_keys.ensures.free) i))
+    ∙ kept_by_change exact_values exact_masks new own held ks (values_reduced new c.in_ok-free_keys.ensures.map_reduced) (values_reduced own c.copy.ensures.reduced) c.in_ok-free_keys.ensures.held_reduced c.requires.same
+    c.in_ok-loose_keys.ensures.free

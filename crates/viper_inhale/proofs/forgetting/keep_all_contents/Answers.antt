@@ -1,11 +1,11 @@
-use Rattle.std.proofs.Common.{arith, refl, ap, ◌∙◌, ◌+◌, ◌<◌, map, length, slice_set}
-use Rattle.std.proofs.lemmas.List.{length-set, map-set}
+use Rattle.std.proofs.Common.{arith, refl, sym, ap, ◌∙◌, ◌+◌, ◌<◌, map, length, slice_set}
+use Rattle.std.proofs.lemmas.List.{length-map, length-set, map-set}
 use Rattle.std.proofs.lemmas.Option.{slice_get_read, slice_get-map}
 use Rattle.std.specs.Option.{option_map}
 use Rattle.vb_value.specs.Content.{same_content}
 use Rattle.vb_value.specs.Key.{key_cmp}
 use Rattle.viper_state.specs.View.{contents_of}
-use Rattle.viper_inhale.proofs.ForgettingLaws.{partly, partly_next}
+use Rattle.viper_inhale.proofs.ForgettingLaws.{partly, partly_next, partly_done, there_alike}
 use Rattle.viper_inhale.proofs.forgetting.keep_all_contents.Goals as goal
 
 pub loop-predicate-preserved : goal.loop-predicate-preserved
@@ -28,3 +28,18 @@ loop-predicate-preserved c =
           (slice_get_read helds _ i _ refl in_helds c.index-helds-predicate.is)
           ∙ c.loop-predicate.invariant.1,
     )
+
+pub keep_contents-requires : goal.keep_contents-requires
+keep_contents-requires c =
+    let i = c.loop-predicate.predicate in
+    let owns = c.args.owns.now in
+    let helds = c.args.helds.now in
+    let in_owns : i < length owns = omega (arith, c.loop-predicate-test.true, c.min-predicate-end.ensures, c.min.ensures) in
+    let in_helds : i < length helds = omega (arith, c.loop-predicate-test.true, c.min-predicate-end.ensures) in
+    there_alike c.list_of-list.result c.list_of-list.ensures
+    (λ list e. c.requires i _ _ list.now.items (slice_get_read owns _ i _ refl in_owns c.index-owns-predicate.is) (slice_get_read helds _ i _ refl in_helds c.index-helds-predicate.is) e)
+
+pub returns-clause-kept : goal.returns-clause-kept
+returns-clause-kept c =
+    sym (partly_done key_cmp same_content (map contents_of c.loop-predicate.news.items) (map contents_of c.args.owns.now) c.args.helds.now c.loop-predicate.predicate
+    (λ a b d. omega (arith, a, b, d, length-map (c.loop-predicate.news.items) contents_of, length-map c.args.owns.now contents_of, c.loop-predicate-test.false, c.min-predicate-end.ensures, c.min.ensures, c.len.ensures, c.loop-predicate.invariant.0))) ∙ c.loop-predicate.invariant.1

@@ -7,8 +7,8 @@ not_unlike : (s : Bool) → false ≡ not s → s ≡ true
 not_unlike true h = refl
 not_unlike false h = absurd (cc)
 
-pub changed_contents-requires : goal.changed_contents-requires
-changed_contents-requires c =
+pub changed_contents-requires-clause-same : goal.changed_contents-requires-clause-same
+changed_contents-requires-clause-same c =
     ap content_of (sym c.default.ensures.value)
-    ∙ (exact_contents.values (content_of c.default.result.now) (content_of c.default-else-len.result.now)).0 (not_unlike _ (sym c.if-ne.false ∙ c.ne.ensures))
-    ∙ ap content_of c.default-else-len.ensures.value
+    ∙ (exact_contents.values (content_of c.default.result.now) (content_of c.default-else-len-free.result.now)).0 (not_unlike _ (sym c.if-ne.false ∙ c.ne.ensures))
+    ∙ ap content_of c.default-else-len-free.ensures.value

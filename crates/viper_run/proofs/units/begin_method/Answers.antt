@@ -19,16 +19,16 @@ returns-in_err-state c = passed _ _ c.from_residual-in_err-state.ensures.1 no_me
 pub produce_all-requires-clause-scene_within : goal.produce_all-requires-clause-scene_within
 produce_all-requires-clause-scene_within c =
     begin_scene (program_of c.args.program.now) (method_of c.args.method.now) (opening_of c.args.opening.now)
-    (c.deref-2.ensures.value ∙ c.in_ok-store.ensures ∙ ap (u.first_store (method_of c.args.method.now)) c.deref.ensures.value) c.in_ok-old.ensures c.requires.begin.within
+    (c.deref-2.ensures.value ∙ c.in_ok-store.ensures ∙ ap (u.first_store (method_of c.args.method.now)) c.deref.ensures.value) (c.in_ok-old.ensures ∙ c.in_ok-state.ensures) c.requires.begin.within
 
 pub returns-in_err-produce_all : goal.returns-in_err-produce_all
 returns-in_err-produce_all c =
     passed _ _ c.from_residual-in_err-produce_all.ensures.1 (begin_stops (program_of c.args.program.now) (method_of c.args.method.now) (opening_of c.args.opening.now)
-    (c.deref-2.ensures.value ∙ c.in_ok-store.ensures ∙ ap (u.first_store (method_of c.args.method.now)) c.deref.ensures.value) c.in_ok-old.ensures c.in_ok-state.ensures (ap assertions_of c.deref-3.ensures.value)
+    (c.deref-2.ensures.value ∙ c.in_ok-store.ensures ∙ ap (u.first_store (method_of c.args.method.now)) c.deref.ensures.value) (c.in_ok-old.ensures ∙ c.in_ok-state.ensures) (sym c.in_ok-old.ensures) (ap assertions_of c.deref-3.ensures.value)
     c.in_err-produce_all.ensures)
 
 pub returns : goal.returns
 returns c =
     begin_goes (program_of c.args.program.now) (method_of c.args.method.now) (opening_of c.args.opening.now)
-    (c.deref-2.ensures.value ∙ c.in_ok-store.ensures ∙ ap (u.first_store (method_of c.args.method.now)) c.deref.ensures.value) c.in_ok-old.ensures c.in_ok-state.ensures (ap assertions_of c.deref-3.ensures.value)
+    (c.deref-2.ensures.value ∙ c.in_ok-store.ensures ∙ ap (u.first_store (method_of c.args.method.now)) c.deref.ensures.value) (c.in_ok-old.ensures ∙ c.in_ok-state.ensures) (sym c.in_ok-old.ensures) (ap assertions_of c.deref-3.ensures.value)
     _ (ap (λ vs. record { store = vs; state = state_of c.produce_all.new.state }) (sym c.deref-2.ensures.value)) c.in_ok-produce_all.ensures
