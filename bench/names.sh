@@ -1,7 +1,8 @@
 #!/usr/bin/env bash
 # What chosen names cost. The kit's hash has no secret, so a file can have names that all stand in one row of a table that goes by it.
-# This finds such names of seven bytes, and translates files of fields and of variables with them and with other names, and replays
-# texts of Boogie with variables of these names.
+# This finds such names of seven bytes, and translates files of fields and of variables with them and with other names, replays
+# texts of Boogie with variables of these names, and cuts texts with locals and with procedures of these names. Of locals only names
+# that begin with an `a` are in a table, as the other names here do, and the first quarter of the chosen ones.
 # Each line has the kind of names, the bytes, and the processor seconds of one call with other names and with chosen ones. To find
 # the names takes some five minutes on four cores, and needs `cc`.
 #
@@ -48,14 +49,20 @@ END
 for from in 0 13 26 39; do "$folder/find" 16500 "$from" "$((from + 13))" >"$folder/found$from" & done
 wait
 cat "$folder"/found* >"$folder/chosen"
-seq -f 'v%06.0f' 66000 >"$folder/other"
+seq -f 'a%06.0f' 66000 >"$folder/other"
 echo 'boogie run go' >"$folder/run"
+
+prelude() {
+    sed '/^procedure/,$d' "$top/examples/first.bpl"
+}
 
 write_text() { # KIND NAMES BYTES
     case $1 in
         fields) head -n "$(($3 / 18))" "$2" | sed 's/.*/field &:Int/' ;;
-        Boogie) sed '/^procedure/,$d' "$top/examples/first.bpl"; printf 'procedure go() {\n'
+        Boogie | locals) prelude; printf 'procedure go() {\n'
             head -n "$((($3 - 1000) / 17))" "$2" | sed 's/.*/var &:int;/'; printf '}' ;;
+        procedures) head -n "$((($3 - 1000) / 37))" "$2" >"$folder/called"; prelude; sed 's/.*/procedure &();/' "$folder/called"
+            printf 'procedure go() {\n'; sed 's/.*/call &();/' "$folder/called"; printf '}' ;;
         variables) printf 'method m() {\n'; head -n "$((($3 - 14) / 16))" "$2" | sed 's/.*/var &:Int/'; printf '}' ;;
     esac >"$folder/text"
 }
@@ -63,14 +70,17 @@ write_text() { # KIND NAMES BYTES
 seconds() { # NAMES
     local TIMEFORMAT='%U'
     local call=(translate "$folder/text")
-    [ "$kind" != Boogie ] || call=(replay "$folder/text" "$folder/run")
+    case $kind in
+        Boogie) call=(replay "$folder/text" "$folder/run") ;;
+        locals | procedures) call=(cut "$folder/text") ;;
+    esac
     write_text "$kind" "$1" "$bytes"
     { time "$program" "${call[@]}" >/dev/null; } 2>&1
 }
 
-printf '%-9s %9s %9s %9s\n' names bytes other chosen
-for kind in fields variables Boogie; do
+printf '%-10s %9s %9s %9s\n' names bytes other chosen
+for kind in fields variables Boogie locals procedures; do
     for bytes in 131072 262144 524288 1048576; do
-        printf '%-9s %9d %9s %9s\n' "$kind" "$bytes" "$(seconds "$folder/other")" "$(seconds "$folder/chosen")"
+        printf '%-10s %9d %9s %9s\n' "$kind" "$bytes" "$(seconds "$folder/other")" "$(seconds "$folder/chosen")"
     done
 done

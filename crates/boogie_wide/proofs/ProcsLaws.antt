@@ -1,86 +1,70 @@
--- The places of procedures by their names, and the first procedure of a name in two ways.
-use Rattle.std.proofs.Common.{◌≡◌, ◌∙◌, ◌≤◌, ◌<◌, ◌+◌, ◌-◌, ◌==◌, ℕ, suc, Bool as Truth, true, false, cond, Option, Some, None, List, [], ◌∷◌, map, drop, get_or, slice_get, length, nat_lt, Bor, refl, sym, ap, arith}
+-- The first procedure of a name in two ways more: by the number of the name, and as code searches for it.
+use Rattle.std.proofs.Common.{◌≡◌, ◌∙◌, ◌≤◌, ◌<◌, ◌+◌, ℕ, suc, Bool as Truth, true, false, not, cond, Option, Some, None, List, [], ◌∷◌, ◌++◌, map, take, get_or, slice_get, length, nat_lt, Bor, refl, sym, ap, arith}
 use Rattle.std.proofs.lemmas.Bool.Decides.{nat_tests}
-use Rattle.std.specs.Cmp.Lexicographic.{pointwise}
-use Rattle.std.specs.List.{find}
-use Rattle.std.specs.Map.{lookup}
+use Rattle.std.proofs.lemmas.Cmp.{nat_list_eq_equiv}
+use Rattle.std.proofs.lemmas.List.{length-map}
+use Rattle.std.proofs.lemmas.Option.{slice_get_past}
+use Rattle.std.specs.List.{find, position, position_or_len}
 use Rattle.std.specs.Option.{option_map, is_some, IfSome}
 use Rattle.std.specs.Str.{bytes_eq}
-use Rattle.std.proofs.lemmas.Option.{slice_get_past}
-use Rattle.lemmas.proofs.Lists.{next_item, item_at}
-use Rattle.boogie_wide.specs.Places.{place_from, AreAtPlaces}
+use Rattle.lemmas.proofs.Lists.{item_at, map_append, take_through}
 use Rattle.boogie_wide.specs.Procedures.{proc_named}
 use Rattle.boogie_wide.specs.View.{wproc_of}
+use Rattle.boogie_wide.specs.Wide as w
 use Rattle.boogie_wide.specs.declared.wide.WProc.{WProc}
 
--- ---- places
+-- ---- the names in order
 
--- the table has the places of the procedures from the number i on
-abbrev pub HasPlaces : List (List ℕ × ℕ) → ℕ → List WProc → Type 0
-HasPlaces places i ds = (name : List ℕ) → lookup (pointwise ◌==◌ name) places ≡ place_from i (drop i ds) name
+abbrev pub names_of : List WProc → List (List ℕ)
+names_of ds = map (λ (d : WProc). d.name) ds
 
-pub places_next : (ds : List WProc) (i place later : ℕ) (d : WProc) (old new : List (List ℕ × ℕ)) (key : List ℕ) → i ≡ length ds - later → later < length ds → place ≡ length ds - 1 - later →
-    d ≡ get_or ds place d → key ≡ d.name → HasPlaces old i ds →
-    ((name : List ℕ) → lookup (pointwise ◌==◌ name) new ≡ cond (pointwise ◌==◌ key name) (Some place) (lookup (pointwise ◌==◌ name) old)) → HasPlaces new (length ds - (later + 1)) ds
-places_next ds i place later d old new key e lt at is named so_far inserted = λ name.
-    let here : length ds - (later + 1) ≡ place = omega (arith, at, lt) in
-    let next : i ≡ place + 1 = omega (arith, e, at, lt) in
-    let within : place < length ds = omega (arith, at, lt) in
-    inserted name ∙ (λ j. cond (pointwise ◌==◌ (named j) name) (Some place) (so_far name j))
-    ∙ ap (λ k. cond (bytes_eq d.name name) (Some place) (place_from k (drop k ds) name)) next
-    ∙ sym (ap (λ xs. place_from place xs name) (next_item ds place d within is))
-    ∙ ap (λ k. place_from k (drop k ds) name) (sym here)
+pub one_more_name : (ds : List WProc) (i : ℕ) (d : WProc) (name : List ℕ) (old new : List (List ℕ)) → i < length ds → d ≡ get_or ds i d → name ≡ d.name → old ≡ names_of (take i ds) →
+    new ≡ old ++ name ∷ [] → new ≡ names_of (take (i + 1) ds)
+one_more_name ds i d name old new lt is copied so_far added =
+    added ∙ (λ j. so_far j ++ copied j ∷ [])
+    ∙ sym (ap names_of (take_through ds i d (item_at ds i d lt is)) ∙ map_append (λ (x : WProc). x.name) (take i ds) (d ∷ []))
 
-pub places_done : (ds : List WProc) (places : List (List ℕ × ℕ)) (later : ℕ) → length ds ≤ later → HasPlaces places (length ds - later) ds → AreAtPlaces places ds
-places_done ds places later end h = λ name.
-    let zero_left : length ds - later ≡ 0 = omega (arith, end) in
-    h name ∙ ap (λ k. place_from k (drop k ds) name) zero_left ∙ ap (λ xs. place_from 0 xs name) (drop_none ds)
-  where
-    drop_none : {X : Type 0} (xs : List X) → drop 0 xs ≡ xs
-    drop_none [] = refl
-    drop_none (x ∷ xs) = refl
+-- ---- the procedure of a number
 
--- the procedure at the place that a name has
-abbrev Found : ℕ → ℕ → List WProc → List ℕ → Type 0
-Found place i ds name = (j : ℕ) × (place ≡ i + j) × (proc_named (map wproc_of ds) name ≡ option_map wproc_of (slice_get ds j))
+at_first : (b : Truth) (d : WProc) (ds : List WProc) (k : ℕ) (o : Option w.WProc) → o ≡ option_map wproc_of (slice_get ds k) → cond b (Some (wproc_of d)) o ≡ option_map wproc_of (slice_get (d ∷ ds) (cond (not b) (1 + k) 0))
+at_first true d ds k o h = refl
+at_first false d ds k o h = let one : suc k ≡ 1 + k = omega arith in h ∙ ap (λ j. option_map wproc_of (slice_get (d ∷ ds) j)) one
 
-found_step : (ds : List WProc) (i place : ℕ) (d : WProc) (name : List ℕ) (b : Truth) → bytes_eq d.name name ≡ b → cond b (Some i) (place_from (i + 1) ds name) ≡ Some place →
-    (place_from (i + 1) ds name ≡ Some place → Found place (i + 1) ds name) → Found place i (d ∷ ds) name
-found_step ds i place d name true e there later =
-    let same : i ≡ place = cc in
-    (0, omega (arith, same), ap (λ b. cond b (Some (wproc_of d)) (proc_named (map wproc_of ds) name)) e)
-found_step ds i place d name false e there later =
-    let f = later there in
-    (suc f.0, omega (arith, f.1), ap (λ b. cond b (Some (wproc_of d)) (proc_named (map wproc_of ds) name)) e ∙ f.2)
+looked : (ds : List WProc) (name : List ℕ) → proc_named (map wproc_of ds) name ≡ option_map wproc_of (slice_get ds (position_or_len (bytes_eq name) (names_of ds)))
+looked [] name = refl
+looked (d ∷ ds) name =
+    ap (λ b. cond b (Some (wproc_of d)) (proc_named (map wproc_of ds) name)) (nat_list_eq_equiv.symm d.name name)
+    ∙ at_first (bytes_eq name d.name) d ds (position_or_len (bytes_eq name) (names_of ds)) (proc_named (map wproc_of ds) name) (looked ds name)
 
-found_at : (ds : List WProc) (i place : ℕ) (name : List ℕ) → place_from i ds name ≡ Some place → Found place i ds name
-found_at [] i place name h = absurd (cc)
-found_at (d ∷ ds) i place name h = found_step ds i place d name (bytes_eq d.name name) refl h (λ later. found_at ds (i + 1) place name later)
+past : (b : Truth) (k n : ℕ) → nat_lt k n ≡ b → None ≡ cond b (Some k) None → n ≤ k
+past true k n e h = absurd cc
+past false k n e h = grind (arith, nat_tests, e)
 
-pub found_there : (ds : List WProc) (place : ℕ) (name : List ℕ) → place_from 0 ds name ≡ Some place → proc_named (map wproc_of ds) name ≡ option_map wproc_of (slice_get ds place)
-found_there ds place name h =
-    let f = found_at ds 0 place name h in
-    let same : place ≡ f.0 = omega (arith, f.1) in
-    f.2 ∙ ap (λ j. option_map wproc_of (slice_get ds j)) (sym same)
+same_place : (b : Truth) (i k : ℕ) → Some i ≡ cond b (Some k) None → i ≡ k
+same_place true i k h = cc
+same_place false i k h = absurd cc
 
-none_step : (ds : List WProc) (i : ℕ) (d : WProc) (name : List ℕ) (b : Truth) → bytes_eq d.name name ≡ b → cond b (Some i) (place_from (i + 1) ds name) ≡ None →
-    (place_from (i + 1) ds name ≡ None → proc_named (map wproc_of ds) name ≡ None) → proc_named (map wproc_of (d ∷ ds)) name ≡ None
-none_step ds i d name true e there later = absurd (cc)
-none_step ds i d name false e there later = ap (λ b. cond b (Some (wproc_of d)) (proc_named (map wproc_of ds) name)) e ∙ later there
+-- a name that has no number is no procedure's
+pub none_named : (ds : List WProc) (name : List ℕ) → None ≡ position (bytes_eq name) (names_of ds) → proc_named (map wproc_of ds) name ≡ None
+none_named ds name h =
+    let k = position_or_len (bytes_eq name) (names_of ds) in
+    let over = past (nat_lt k (length (names_of ds))) k (length (names_of ds)) refl h in
+    let long : length (names_of ds) ≡ length ds = length-map ds (λ (d : WProc). d.name) in
+    looked ds name ∙ ap (option_map wproc_of) (slice_get_past ds k (omega (arith, over, long)))
 
-none_from : (ds : List WProc) (i : ℕ) (name : List ℕ) → place_from i ds name ≡ None → proc_named (map wproc_of ds) name ≡ None
-none_from [] i name h = refl
-none_from (d ∷ ds) i name h = none_step ds i d name (bytes_eq d.name name) refl h (λ later. none_from ds (i + 1) name later)
-
-pub none_there : (ds : List WProc) (name : List ℕ) → place_from 0 ds name ≡ None → proc_named (map wproc_of ds) name ≡ None
-none_there ds name h = none_from ds 0 name h
+-- one that has one is that of the procedure there
+pub number_named : (ds : List WProc) (name : List ℕ) (i : ℕ) → Some i ≡ position (bytes_eq name) (names_of ds) → proc_named (map wproc_of ds) name ≡ option_map wproc_of (slice_get ds i)
+number_named ds name i h =
+    let k = position_or_len (bytes_eq name) (names_of ds) in
+    looked ds name ∙ ap (λ j. option_map wproc_of (slice_get ds j)) (sym (same_place (nat_lt k (length (names_of ds))) i k h))
 
 pub got : (ds : List WProc) (i : ℕ) (o : Option (Bor WProc)) → is_some o ≡ nat_lt i (length ds) → IfSome o (λ x. x.now ≡ get_or ds i x.now) →
     option_map (λ (d : Bor WProc). wproc_of d.now) o ≡ option_map wproc_of (slice_get ds i)
 got ds i None h is = let past : length ds ≤ i = grind (arith, nat_tests, h) in ap (option_map wproc_of) (sym (slice_get_past ds i past))
 got ds i (Some d) h is = let within : i < length ds = grind (arith, nat_tests, h) in ap (option_map wproc_of) (sym (item_at ds i d.now within is))
 
--- the procedure of a name, in two ways
+-- ---- the procedure of a name, as it is searched for
+
 named_is : (ds : List WProc) (name : List ℕ) → proc_named (map wproc_of ds) name ≡ option_map wproc_of (find (λ d. bytes_eq (wproc_of d).name name) ds)
 named_is [] name = refl
 named_is (d ∷ ds) name = at (bytes_eq (wproc_of d).name name) (named_is ds name)

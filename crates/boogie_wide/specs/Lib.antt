@@ -6,4 +6,3 @@ pub mod Changed
 pub mod Modular
 pub mod Turning
 pub mod Conditions
-pub mod Places

@@ -2,12 +2,11 @@
 ghost use Rattle.std.specs.Prelude.{◌≡◌, map, find, IfOk};
 ghost use Rattle.std.specs.Option.{option_map, ForSome};
 ghost use Rattle.std.specs.Str.{bytes_eq};
-ghost use Rattle.boogie_wide.specs.Places.{AreAtPlaces};
 ghost use Rattle.boogie_wide.specs.Procedures.{proc_named};
 ghost use Rattle.boogie_wide.specs.View.{wproc_of};
 
 use crate::wide::WProc;
-use indexmap::IndexMap;
+use name_table::NameTable;
 use std::alloc::Global;
 use vb_base::{Ident, Memory};
 
@@ -15,9 +14,9 @@ use vb_base::{Ident, Memory};
 #[derive(Drop)]
 pub struct Procs<'a> {
     pub all: &'a [WProc],
-    /// The place of the first one of each name. Where there is no table, a name is searched for.
-    places: Option<IndexMap<Ident, usize>>,
-    ghost are_at_places: { ForSome places (λ table. AreAtPlaces table.entries all.now) },
+    /// Their names in order. Where there is no table, a name is searched for.
+    names: Option<NameTable>,
+    ghost are_names: { ForSome names (λ table. table ≡ map (λ d. d.name) all.now) },
 }
 
 impl<'a> Procs<'a> {
@@ -25,46 +24,45 @@ impl<'a> Procs<'a> {
     pub fn of(alloc: Global, all: &'a [WProc]) -> Result<Procs<'a>, Memory>
         ensures { IfOk result (λ procs. procs.all.now ≡ all.now) }
     {
-        let places = Some(places_of(alloc, all)?);
-        Ok(Procs { all, places })
+        let names = Some(names_of(alloc, all)?);
+        Ok(Procs { all, names })
     }
 
     /// These procedures, without a table, which takes no memory.
     pub fn without_table(all: &'a [WProc]) -> Procs<'a>
         ensures { result.all.now ≡ all.now }
     {
-        Procs { all, places: None }
+        Procs { all, names: None }
     }
 
     /// The first procedure of this name.
     pub fn named(&self, name: &Ident) -> Option<&WProc>
         ensures { option_map (λ d. wproc_of d.now) result ≡ proc_named (map wproc_of self.now.all.now) name.now }
     {
-        match &self.places {
-            Some(table) => at_place(table, self.all, name),
+        match &self.names {
+            Some(table) => numbered(table, self.all, name),
             None => searched(self.all, name),
         }
     }
 }
 
-/// The place of the first procedure of each name.
-fn places_of(alloc: Global, all: &[WProc]) -> Result<IndexMap<Ident, usize>, Memory>
-    ensures { IfOk result (λ table. AreAtPlaces table.entries all.now) }
+/// The names of the procedures in order.
+fn names_of(alloc: Global, all: &[WProc]) -> Result<NameTable, Memory>
+    ensures { IfOk result (λ table. table ≡ map (λ d. d.name) all.now) }
 {
-    let mut places = IndexMap::new(alloc);
-    for later in 0..all.len() {
-        let place = all.len() - 1 - later;
-        places.insert(all[place].name.copy()?, place)?;
+    let mut names = NameTable::new(alloc);
+    for proc in all {
+        names.add(proc.name.copy()?)?;
     }
-    Ok(places)
+    Ok(names)
 }
 
-fn at_place<'a>(table: &IndexMap<Ident, usize>, all: &'a [WProc], name: &Ident) -> Option<&'a WProc>
-    requires { AreAtPlaces table.now.entries all.now }
+fn numbered<'a>(table: &NameTable, all: &'a [WProc], name: &Ident) -> Option<&'a WProc>
+    requires { table.now ≡ map (λ d. d.name) all.now }
     ensures { option_map (λ d. wproc_of d.now) result ≡ proc_named (map wproc_of all.now) name.now }
 {
-    let place = table.get(name)?;
-    all.get(*place)
+    let number = table.number_of(name.bytes())?;
+    all.get(number)
 }
 
 fn is_named(proc: &WProc, name: &Ident) -> bool
