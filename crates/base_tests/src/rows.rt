@@ -27,6 +27,7 @@ pub(crate) enum Rows {
     Changed,
     Empty,
     Contents,
+    Greatest,
     Feed,
 }
 
@@ -54,6 +55,7 @@ fn is_right(alloc: Global, rows: Rows, row: &str) -> Option<bool> {
         Rows::Changed => states::changed_row(alloc, row),
         Rows::Empty => states::empty_row(alloc, row),
         Rows::Contents => states::contents_row(alloc, row),
+        Rows::Greatest => states::greatest_row(alloc, row),
         Rows::Feed => states::feed_row(alloc, row),
     }
 }

@@ -47,6 +47,12 @@ content 0 2 9";
 /// and `1&2` the pair of two numbers.
 const CONTENTS: &str = "2=1&2 1,9=3 1=4&5 2=_ -> 1=4&5 1,9=3";
 
+/// References that a place gets one after another, and the greatest that is known then.
+const GREATEST: &str = "\
+5 -> 5
+5 3 -> 5
+3 9 4 -> 9";
+
 /// The choices that are taken one after another.
 const TAKEN: &str = "true 5 none none";
 
@@ -293,6 +299,30 @@ pub(crate) fn contents_row(alloc: Global, row: &str) -> Option<bool> {
 #[test]
 fn contents_stand_in_the_order_of_their_keys(rt: HostRuntime) {
     check(&rt, rt.alloc(), Rows::Contents, CONTENTS);
+}
+
+/// Gives the place at 2 these references.
+fn refer(state: &mut State, references: &str) -> Option<()> {
+    for word in references.split(' ') {
+        let reference = word.parse::<u64>().ok()?;
+        state.set_value(0, 2, Value::Ref(reference)).ok()??;
+    }
+    Some(())
+}
+
+/// Whether the state and a copy of it know the greatest reference that a place was given.
+pub(crate) fn greatest_row(alloc: Global, row: &str) -> Option<bool> {
+    let (references, greatest) = halves(row, " -> ")?;
+    let greatest = greatest.parse::<u64>().ok()?;
+    let mut state = state(alloc)?;
+    refer(&mut state, references)?;
+    let copy = boxed(alloc, copy_state(alloc, &state).ok())?;
+    Some(state.greatest() == greatest && copy.greatest() == greatest)
+}
+
+#[test]
+fn a_copy_knows_the_greatest_reference(rt: HostRuntime) {
+    check(&rt, rt.alloc(), Rows::Greatest, GREATEST);
 }
 
 fn feed(alloc: Global) -> Option<Feed> {

@@ -3,3 +3,4 @@ pub mod FormLaws
 pub mod AssertionLaws
 pub mod ForgettingLaws
 pub mod FreeLaws
+pub mod GreatestLaws

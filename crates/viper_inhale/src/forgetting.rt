@@ -228,7 +228,7 @@ fn forget_by(alloc: Global, memo: Memo, state: &mut State, feed: &mut Feed) -> R
         (run.noting (event.Whole (forgotten (state_of state.old) (memo_of memo))) (run.goes (with_memo (state_of state.old) (forgotten (state_of state.old) (memo_of memo)))))
         (feed_of feed.new) result }
 {
-    let known = keys_known(alloc, &memo)?;
+    let known = keys_known(alloc, &memo, state.greatest())?;
     let memo = kept_memo(alloc, memo, state)?;
     feed.record(Event::Whole(copy_memo(alloc, &memo)?))?;
     state.take_memo(memo, known);

@@ -116,6 +116,7 @@ fn free_among<'a, K: Ord + Clone + Drop>(
     ensures held_reduced { IsReduced K.cmp fraction_eq held.now }
     ensures memory { IfErr result (λ h. h ≡ halt.Memory) }
 {
+    // `default` tells of the map that it is reduced, which `is_free` asks, also of no keys at all.
     let _none = held.default();
     let mut list = Vec::new(alloc);
     for key in keys {

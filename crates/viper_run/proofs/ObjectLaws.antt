@@ -1,14 +1,16 @@
 -- Fields that are written, and references that are looked for.
-use Rattle.std.proofs.Common.{arith, ap, ◌≡◌, ◌∙◌, sym, refl, ℕ, zero, suc, ◌+◌, ◌≤◌, min, length, drop, Bool, true, false, Option, Some, None, List, [], ◌∷◌, not, slice_get, cond, unwrap_or}
+use Rattle.std.proofs.Common.{arith, ap, ◌≡◌, ◌∙◌, sym, refl, ℕ, zero, suc, ◌+◌, ◌<◌, ◌≤◌, min, length, drop, Bool, true, false, Option, Some, None, List, [], ◌∷◌, not, slice_get, cond, unwrap_or}
 use Rattle.std.specs.Prelude.{⊤, ◌==◌, ◌||◌, if◌then◌else◌}
 use Rattle.std.specs.List.{list_any}
 use Rattle.std.proofs.Math.Seq.{drop-nil}
+use Rattle.std.proofs.lemmas.Bool.{ne_eqb}
+use Rattle.std.proofs.lemmas.List.Elements.{All-head, All-tail}
 use Rattle.std.proofs.lemmas.Option.{slice_get_within, get_or_from_slice_get}
 use Rattle.std.specs.BTreeMap.{is_at}
 use Rattle.std.specs.Map.{values_of, lookup}
 use Rattle.std.specs.Ordering.{nat_cmp}
 use Rattle.lemmas.proofs.Lists.{next_item}
-use Rattle.sparse.specs.Map.{Map, get, values}
+use Rattle.sparse.specs.Map.{Map, get, keys, values}
 use Rattle.vb_base.specs.declared.labels.Label.{Label}
 use Rattle.vb_base.specs.declared.labels.Kind.TheVariants as kind
 use Rattle.vb_base.specs.declared.places.Pos.{Pos}
@@ -17,8 +19,11 @@ use Rattle.vb_value.specs.Value.{fraction_eq, value_eq}
 use Rattle.vb_value.specs.declared.values.Ty.{Ty}
 use Rattle.vb_value.specs.declared.values.Value.{Value}
 use Rattle.vb_value.specs.declared.values.Value.TheVariants as v
+use Rattle.viper_state.specs.Greatest.{IsAtMost, AreWithin}
 use Rattle.viper_state.specs.Run.{Scene}
 use Rattle.viper_state.specs.State.{State, mask_at, with_value, with_mask}
+use Rattle.viper_state.specs.Within.{HasValues}
+use Rattle.viper_state.proofs.EachLaws.{get_has}
 use Rattle.viper_meaning.specs.Ends.{ends, Fails, is, blocks, then_with, found, unless}
 use Rattle.viper_meaning.specs.Run as run
 use Rattle.viper_meaning.specs.Run.{Run, ended, evaluating, then_do}
@@ -126,3 +131,22 @@ module _ (w : Value) where
   pub nowhere : (m : Map ℕ Value) → value_eq m.default w ≡ false → list_any (λ u. value_eq u w) (values m) ≡ false → (ks : List ℕ) → list_any (λ k. value_eq (get nat_cmp m k) w) ks ≡ false
   nowhere m h none [] = refl
   nowhere m h none (k ∷ ks) = ap (λ b. b || list_any (λ q. value_eq (get nat_cmp m q) w) ks) (not_looked_up (is_at (nat_cmp k)) m.entries m.default h none) ∙ nowhere m h none ks
+
+-- ---- a reference above all that stand in the heaps
+
+module _ (r g : ℕ) (above : g < r) where
+  apart : (w : Value) → IsAtMost g w → value_eq w (v.Ref r) ≡ false
+  apart (v.Int a) h = refl
+  apart (v.Bool a) h = refl
+  apart (v.Ref a) h = ne_eqb a r (λ e. omega (arith, above, h, e))
+  apart (v.Perm a) h = refl
+
+  nowhere_above : (m : Map ℕ Value) → HasValues (IsAtMost g) m → (ks : List ℕ) → list_any (λ k. value_eq (get nat_cmp m k) (v.Ref r)) ks ≡ false
+  nowhere_above m h [] = refl
+  nowhere_above m h (k ∷ ks) = ap (λ b. b || list_any (λ q. value_eq (get nat_cmp m q) (v.Ref r)) ks) (apart (get nat_cmp m k) (get_has nat_cmp m k h)) ∙ nowhere_above m h ks
+
+  pub stored_above : (hs : List (Map ℕ Value)) (ms : List (Map ℕ Fraction)) → AreWithin g hs → is_stored r hs ms ≡ false
+  stored_above [] ms h = no_heaps r ms
+  stored_above (x ∷ hs) [] h = refl
+  stored_above (x ∷ hs) (y ∷ ms) h =
+      ap (λ b. b || is_stored r hs ms) (nowhere_above x (All-head (HasValues (IsAtMost g)) x hs h) (keys y)) ∙ stored_above hs ms (All-tail (HasValues (IsAtMost g)) x hs h)

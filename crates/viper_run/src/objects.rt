@@ -1,5 +1,6 @@
 // Writing a field, and new objects.
 ghost use Rattle.std.specs.Prelude.{◌≡◌, [], ◌∷◌};
+ghost use Rattle.viper_state.specs.Greatest.{AreWithin};
 ghost use Rattle.viper_state.specs.View.{feed_of, state_of};
 ghost use Rattle.viper_meaning.specs.Statements as m;
 ghost use Rattle.viper_eval.specs.Answers.{Answers, ended};
@@ -111,10 +112,19 @@ fn is_in(reference: u64, heap: &Sparse<u64, Value>, mask: &Sparse<u64, Frac>) ->
     false
 }
 
-/// The same of all fields.
-fn is_stored(reference: u64, heaps: &[Sparse<u64, Value>], masks: &[Sparse<u64, Frac>]) -> bool
+/// The same of all fields. A reference that is greater than all that stand in the heaps is not looked for.
+fn is_stored(
+    reference: u64,
+    greatest: u64,
+    heaps: &[Sparse<u64, Value>],
+    masks: &[Sparse<u64, Frac>],
+) -> bool
+    requires { AreWithin greatest heaps.now }
     ensures { result ≡ m.is_stored reference heaps.now masks.now }
 {
+    if reference > greatest {
+        return false;
+    }
     for field in 0..heaps.len().min(masks.len()) {
         if is_in(reference, &heaps[field], &masks[field]) {
             return true;
@@ -131,7 +141,7 @@ pub(crate) fn is_fresh(reference: u64, variables: &[u32], configuration: &Config
     reference != 0
         && !is_named(reference, store, variables)
         && !is_held(reference, &state.mask)
-        && !is_stored(reference, &state.heap, &state.mask)
+        && !is_stored(reference, state.greatest(), &state.heap, &state.mask)
 }
 
 /// A field of a new object takes a value, and is held whole.

@@ -7,3 +7,4 @@ pub mod ProperLaws
 pub mod Rows
 pub mod ShapeLaws
 pub mod LooseLaws
+pub mod GreatestLaws

@@ -1,7 +1,7 @@
 -- What came loose stays among the keys that are noted.
-use Rattle.std.proofs.Common.{◌≡◌, ◌⊎◌, inl, inr, ℕ, zero, suc, ◌+◌, ◌<◌, ◌≤◌, arith, Bool, true, false, not, ◌||◌, cond, Bor, length, take, get_or, List, [], ◌∷◌, ◌++◌, Option, Some, None, Result, Ok, Err, IfOk, OnOk, OnErr, IsErrAnd, map, slice_get, slice_set, unwrap_or, refl, sym, ap, ◌∙◌, subst}
+use Rattle.std.proofs.Common.{◌≡◌, ◌⊎◌, inl, inr, ℕ, zero, suc, ◌+◌, ◌<◌, ◌≤◌, arith, Bool, true, false, not, ◌||◌, cond, Bor, length, take, get_or, List, [], ◌∷◌, ◌++◌, Option, Some, None, Result, Ok, Err, IfOk, OnOk, OnErr, IsErrAnd, slice_get, slice_set, unwrap_or, refl, sym, ap, ◌∙◌, subst}
 use Rattle.std.specs.Prelude.{⊤}
-use Rattle.std.specs.List.{AllZip, list_any}
+use Rattle.std.specs.List.{AllZip}
 use Rattle.std.specs.BTreeMap.{insert_entry, is_at}
 use Rattle.std.specs.Map.{keys_of, lookup, remove_entry}
 use Rattle.std.specs.Ordering.{is_eq, match_ordering}
@@ -15,11 +15,11 @@ use Rattle.std.proofs.lemmas.List.{map-append, map-set, take_more}
 use Rattle.std.proofs.lemmas.List.Folds.{list_any-append}
 use Rattle.std.proofs.lemmas.Option.{slice_get-map}
 use Rattle.std.specs.Option.{option_map}
-use Rattle.lemmas.proofs.Orders.{at_itself, is_equal}
+use Rattle.lemmas.proofs.Orders.{is_equal}
 use Rattle.sparse.specs.Map.{Map, borrowed, get, set, keys, IsSame}
 use Rattle.vb_value.specs.Fraction.{Fraction}
 use Rattle.vb_value.specs.Value.{fraction_eq}
-use Rattle.viper_state.specs.Loose.{is_listed, lists_of, AreListed, IsLooseAmong, AreLooseAmong, AreKept, IsNoted}
+use Rattle.viper_state.specs.Loose.{is_listed, lists_of, AreListed, AreLooseAmong, AreKept, IsNoted}
 use Rattle.viper_state.specs.State.{changed, changed_at}
 use Rattle.viper_state.proofs.Paired.{paired, paired_back}
 

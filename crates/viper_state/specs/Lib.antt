@@ -6,4 +6,5 @@ pub mod Loose
 pub mod View
 pub mod Fits
 pub mod Within
+pub mod Greatest
 pub mod FitsTest

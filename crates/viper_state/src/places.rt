@@ -10,9 +10,11 @@ ghost use Rattle.vb_value.specs.Key.{key_cmp};
 ghost use Rattle.vb_value.specs.Value.{fraction_eq};
 ghost use Rattle.vb_value.specs.View.{content_of};
 ghost use Rattle.viper_state.specs.State as s;
+ghost use Rattle.viper_state.specs.Greatest.{AreWithin};
 ghost use Rattle.viper_state.specs.Loose.{AreKept, AreLooseAmong, IsNoted, KnowsLoose, is_listed, lists_of};
 ghost use Rattle.viper_state.specs.View.{memo_of, state_of};
 
+use crate::known::raise;
 use crate::{Known, Memo, State};
 use sparse::Sparse;
 use vb_base::Memory;
@@ -59,6 +61,7 @@ impl State {
         ensures changed { OnOk result (state_of self.new ≡ s.with_value (state_of self.old) field reference value) }
     {
         note_value(&mut self.known.references, &self.mask, field, &reference)?;
+        raise(&mut self.known.greatest, &value);
         set_in(&mut self.heap, field, reference, value)
     }
 
@@ -122,9 +125,18 @@ impl State {
         &self.known.keys
     }
 
-    /// Gives the state another heap and other contents. What is held stays, and what is loose is among these keys.
+    /// A number that no value of the heap is a greater reference than.
+    pub fn greatest(&self) -> u64
+        ensures { AreWithin result self.now.heap.items }
+    {
+        self.known.greatest
+    }
+
+    /// Gives the state another heap and other contents. What is held stays, what is loose is among these keys, and no value of
+    /// the heap is a greater reference than this knows.
     pub fn take_memo(&mut self, memo: Memo, known: Known)
-        requires { KnowsLoose memo.heap.items memo.content.items self.old.mask.items self.old.amount.items known }
+        requires loose { KnowsLoose memo.heap.items memo.content.items self.old.mask.items self.old.amount.items known }
+        requires greatest { AreWithin known.greatest memo.heap.items }
         ensures { state_of self.new ≡ record (state_of self.old) { heap = (memo_of memo).heap; content = (memo_of memo).content } }
     {
         let Memo { heap, content } = memo;

@@ -1,4 +1,5 @@
 // Heaps, masks, amounts and contents.
+ghost use Rattle.viper_state.specs.Greatest.{AreWithin};
 ghost use Rattle.viper_state.specs.Loose.{KnowsLoose};
 
 use crate::known::Known;
@@ -25,7 +26,8 @@ pub struct State {
     pub mask: Vec<Sparse<u64, Frac>>,
     /// For each predicate how much of each instance is held.
     pub amount: Vec<Sparse<Key, Frac>>,
-    /// Where values may stand although nothing is held.
+    /// Where values may stand although nothing is held, and how great references are.
     pub(crate) known: Known,
     ghost knows_loose: { KnowsLoose heap.items content.items mask.items amount.items known },
+    ghost knows_greatest: { AreWithin known.greatest heap.items },
 }

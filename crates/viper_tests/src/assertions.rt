@@ -16,7 +16,7 @@ use test_rows::{first_other, four, other_than, two};
 use test_viper::files::{first_stmt, program};
 use test_viper::scenes::{is_changed, scene, state_of};
 use test_viper::words::fraction;
-use vb_value::Frac;
+use vb_value::{Frac, Value};
 use viper_core::{Assertion, Program, Stmt};
 use viper_inhale::{Step, consume, forget, produce};
 use viper_state::{Choice, Event, Feed, Memo, Scene, State};
@@ -229,6 +229,19 @@ fn ending_in(
     ending(alloc, assertion, row, state, &scene, scale, feed)
 }
 
+/// Whether no value of a heap is a greater reference than the state knows.
+fn knows_greatest(state: &State) -> bool {
+    for heap in &state.heap {
+        for i in 0..heap.len() {
+            match *heap.get(heap.key_at(i)) {
+                Value::Ref(reference) if reference > state.greatest() => return false,
+                _ => {}
+            }
+        }
+    }
+    true
+}
+
 /// How the call of a row ends, what is left and what is recorded. Where the run goes on, the state is as it should be.
 fn told_in(
     alloc: Global,
@@ -244,6 +257,9 @@ fn told_in(
     let end = ending_in(alloc, assertion, row, state, feed)?;
     if end == Step::Goes && !is_changed(alloc, state, row.before, row.other)? {
         return Ok("another state".to_string(alloc)?);
+    }
+    if !knows_greatest(state) {
+        return Ok("a greater reference".to_string(alloc)?);
     }
     with_choices(alloc, stepped(alloc, end)?, feed)
 }

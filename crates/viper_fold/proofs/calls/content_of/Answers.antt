@@ -17,6 +17,15 @@ returns-in-Ok c = record {
       sym told ∙ ap if_small (value_is d here has c.in-Ok.ensures.answers);
 }
 
+pub returns-in-Ok-2 : goal.returns-in-Ok-2
+returns-in-Ok-2 c = record {
+  content = λ d has.
+      let x = content_of c.in-Ok.content in
+      let here = ap (content_in Bounded (assertion_of c.args.a.now) (state_of c.args.state.now)) c.of.ensures in
+      let told : if_small x ≡ None = ap (λ b. if b then Some x else None) (sym c.is_small.ensures ∙ c.if-is_small.false) in
+      sym told ∙ ap if_small (value_is d here has c.in-Ok.ensures.answers);
+}
+
 pub unreachable-requires : goal.unreachable-requires
 unreachable-requires c =
     let here = ap (content_in Bounded (assertion_of c.args.a.now) (state_of c.args.state.now)) c.of.ensures in

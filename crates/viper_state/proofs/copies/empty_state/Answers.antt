@@ -12,4 +12,5 @@ invariant_of-result c =
         loose_from_keys exact_masks.total exact_masks.keys copy.heap.items c.in_ok-mask.mask.items (lists_of known.references.items) c.in_ok-known.ensures.references,
         loose_from_keys exact_amounts.total exact_amounts.keys copy.content.items c.in_ok-amount.amount.items (lists_of known.keys.items) c.in_ok-known.ensures.keys,
       );
+      knows_greatest = c.in_ok-known.ensures.within;
     }

@@ -6,4 +6,4 @@ use Rattle.viper_state.specs.Loose.{is_listed}
 use Rattle.viper_state.proofs.copies.listed.Given as goal
 
 abbrev pub invariant-loop-entry : goal.invariant-loop-entry
-invariant-loop-entry g l = (k : _) → is_listed g.K.Ord.cmp (keys_of (borrowed (take l.entry-index l.entry-items))) k ≡ true → is_listed g.K.Ord.cmp l.list.items k ≡ true
+invariant-loop-entry g l = (k : _) → is_listed g.K.Ord.cmp (keys_of (borrowed (take l.entry-index l.entries))) k ≡ true → is_listed g.K.Ord.cmp l.list.items k ≡ true

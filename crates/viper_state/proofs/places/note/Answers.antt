@@ -1,4 +1,4 @@
-use Rattle.std.proofs.Common.{refl, sym, subst, ◌∙◌, ◌≡◌, true}
+use Rattle.std.proofs.Common.{refl, sym, subst, ◌≡◌, true}
 use Rattle.std.proofs.lemmas.Option.{slice_get_read, slice_get_past}
 use Rattle.viper_state.specs.Loose.{is_listed, lists_of}
 use Rattle.viper_state.proofs.LooseLaws.{kept_same, kept_by, noted_by, none_noted, listed_more, listed_last}

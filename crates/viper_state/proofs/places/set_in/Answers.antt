@@ -1,4 +1,4 @@
-use Rattle.std.proofs.Common.{refl, sym, ap, ◌∙◌, slice_set}
+use Rattle.std.proofs.Common.{refl, ap, ◌∙◌, slice_set}
 use Rattle.lemmas.proofs.Lists.{set_there}
 use Rattle.viper_state.proofs.LooseLaws.{refused_by, on_err}
 use Rattle.std.proofs.lemmas.Option.{slice_get_read, slice_get_past}

@@ -24,7 +24,7 @@ invariant_of-self c =
     let self = c.args.self.now in
     let exact = exact_amounts in
     let known = self.knows_loose in
-    record { knows_loose = (known.0, loose_kept exact.total exact.keys self.content.items self.amount.items (lists_of self.known.keys.items) (lists_of c.note_value.new.lists.items) known.1 c.note_value.ensures.kept) }
+    record { knows_loose = (known.0, loose_kept exact.total exact.keys self.content.items self.amount.items (lists_of self.known.keys.items) (lists_of c.note_value.new.lists.items) known.1 c.note_value.ensures.kept); knows_greatest = self.knows_greatest }
 
 pub invariant_of-self-2 : goal.invariant_of-self-2
 invariant_of-self-2 c =
@@ -33,7 +33,7 @@ invariant_of-self-2 c =
     let known = self.knows_loose in
     let kept = c.note_value.ensures.kept in
     let changed = keys_changed exact.total exact.keys (on content_of same_content) c.set_in.result self.content.items c.set_in.new.maps.items c.args.predicate c.args.key c.args.content c.set_in.ensures.changed c.set_in.ensures.refused in
-    record { knows_loose = (known.0, loose_by_value exact.total exact.keys (on content_of same_content) self.content.items c.set_in.new.maps.items self.amount.items (lists_of self.known.keys.items) (lists_of c.note_value.new.lists.items) c.args.predicate c.args.key c.args.content known.1 kept (λ held at free. c.in_ok-note_value.ensures.noted held (ap (λ ms. slice_get ms c.args.predicate) c.deref.ensures.value ∙ at) free) changed) }
+    record { knows_loose = (known.0, loose_by_value exact.total exact.keys (on content_of same_content) self.content.items c.set_in.new.maps.items self.amount.items (lists_of self.known.keys.items) (lists_of c.note_value.new.lists.items) c.args.predicate c.args.key c.args.content known.1 kept (λ held at free. c.in_ok-note_value.ensures.noted held (ap (λ ms. slice_get ms c.args.predicate) c.deref.ensures.value ∙ at) free) changed); knows_greatest = self.knows_greatest }
 
 pub note_value-requires : goal.note_value-requires
 note_value-requires c = λ k q e. ap (key_cmp k) e ∙ tied_itself exact_amounts.total k

@@ -15,7 +15,7 @@ invariant_of-self c =
     let self = c.args.self.now in
     let exact = exact_masks in
     let known = self.knows_loose in
-    record { knows_loose = (loose_kept exact.total exact.keys self.heap.items self.mask.items (lists_of self.known.references.items) (lists_of c.note_permission.new.lists.items) known.0 c.note_permission.ensures.kept, known.1) }
+    record { knows_loose = (loose_kept exact.total exact.keys self.heap.items self.mask.items (lists_of self.known.references.items) (lists_of c.note_permission.new.lists.items) known.0 c.note_permission.ensures.kept, known.1); knows_greatest = self.knows_greatest }
 
 pub invariant_of-self-2 : goal.invariant_of-self-2
 invariant_of-self-2 c =
@@ -24,4 +24,4 @@ invariant_of-self-2 c =
     let known = self.knows_loose in
     let kept = c.note_permission.ensures.kept in
     let changed = keys_changed exact.total exact.keys fraction_eq c.set_in.result self.mask.items c.set_in.new.maps.items c.args.field c.args.reference c.args.permission c.set_in.ensures.changed c.set_in.ensures.refused in
-    record { knows_loose = (loose_by_permission exact.total exact.keys self.heap.items self.mask.items c.set_in.new.maps.items (lists_of self.known.references.items) (lists_of c.note_permission.new.lists.items) c.args.field c.args.reference c.args.permission known.0 kept (λ held at free. c.in_ok-note_permission.ensures.noted held (ap (λ ms. slice_get ms c.args.field) c.deref.ensures.value ∙ at) free) changed, known.1) }
+    record { knows_loose = (loose_by_permission exact.total exact.keys self.heap.items self.mask.items c.set_in.new.maps.items (lists_of self.known.references.items) (lists_of c.note_permission.new.lists.items) c.args.field c.args.reference c.args.permission known.0 kept (λ held at free. c.in_ok-note_permission.ensures.noted held (ap (λ ms. slice_get ms c.args.field) c.deref.ensures.value ∙ at) free) changed, known.1); knows_greatest = self.knows_greatest }
