@@ -20,6 +20,13 @@ use std::alloc::Global;
 use vb_base::{Memory, Pos};
 use viper_core::{Expr, Method};
 
+/// The method that is called, and the variables that get what it returns.
+#[derive(Clone, Copy)]
+pub struct Calling<'a> {
+    pub targets: &'a [u32],
+    pub callee: &'a Method,
+}
+
 // ---- arguments
 
 /// A value gets a new local.
@@ -124,21 +131,21 @@ fn give_postcondition(
 fn called(
     alloc: Global,
     step: Pos,
-    targets: &[u32],
-    callee: &Method,
+    calling: Calling,
     mut locals: Vec<usize>,
     before: &Maps,
     setting: Setting,
     out: &mut Emit,
 ) -> Result<(), Memory>
-    ensures { OnOk result (Emits (code.called_code (kinds_of setting.entry.kinds).layout (home_of setting.entry.home.now) step targets.now
-        (method_of callee.now) locals.items (maps_of before.entry.now) (length (emit_of out.old).locals)) (emit_of out.old) (emit_of out.new) tt) }
+    ensures { OnOk result (Emits (code.called_code (kinds_of setting.entry.kinds).layout (home_of setting.entry.home.now) step calling.entry.targets.now
+        (method_of calling.entry.callee.now) locals.items (maps_of before.entry.now) (length (emit_of out.old).locals)) (emit_of out.old) (emit_of out.new) tt) }
 {
     let home = setting.home;
+    let callee = calling.callee;
     take_precondition(alloc, step, callee, &locals, before, setting, out)?;
     forget(alloc, setting.kinds.layout, &home.now, out)?;
-    havoc(alloc, home, targets, out)?;
-    add_targets(home, targets, &mut locals)?;
+    havoc(alloc, home, calling.targets, out)?;
+    add_targets(home, calling.targets, &mut locals)?;
     give_postcondition(alloc, step, callee, &locals, before, setting, out)
 }
 
@@ -146,18 +153,17 @@ fn called(
 pub fn call(
     alloc: Global,
     step: Pos,
-    targets: &[u32],
-    callee: &Method,
+    calling: Calling,
     args: &[Expr],
     setting: Setting,
     out: &mut Emit,
 ) -> Result<(), Memory>
-    ensures { OnOk result (Emits (code.call_code (kinds_of setting.entry.kinds) (home_of setting.entry.home.now) step targets.now
-        (method_of callee.now) (exprs_of args.now) (length (emit_of out.old).locals)) (emit_of out.old) (emit_of out.new) tt) }
+    ensures { OnOk result (Emits (code.call_code (kinds_of setting.entry.kinds) (home_of setting.entry.home.now) step calling.entry.targets.now
+        (method_of calling.entry.callee.now) (exprs_of args.now) (length (emit_of out.old).locals)) (emit_of out.old) (emit_of out.new) tt) }
 {
     let home = setting.home;
     let values = check_all(alloc, args, setting.reading(step), out)?;
     let given = fix(alloc, values, out)?;
     let before = copy(alloc, setting.kinds.layout, &home.now, out)?;
-    called(alloc, step, targets, callee, given, &before, setting, out)
+    called(alloc, step, calling, given, &before, setting, out)
 }

@@ -12,7 +12,7 @@ mod methods;
 mod states;
 mod writes;
 
-pub use calls::call;
+pub use calls::{Calling, call};
 pub use clauses::{assert, assert_all, consume_all, exhale, exhale_all, produce_all};
 pub use creations::create;
 pub use homes::{Home, Setting};
@@ -20,4 +20,4 @@ pub use instances::{fold_instance, unfold_instance};
 pub use loops::{after_loop, loop_head, turn_end, turn_head};
 pub use methods::{method_check, method_end, method_start};
 pub use states::{any_state, havoc, keep_old, stop};
-pub use writes::{assign, write};
+pub use writes::{FieldPlace, assign, write};

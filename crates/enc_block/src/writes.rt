@@ -98,23 +98,30 @@ fn write_at(
     out.put(alloc, None, block)
 }
 
-/// Writes the code by which a field gets a value. The part is the field's name.
+/// A field of what an expression is, `e.f`, and where its name stands.
+#[derive(Clone, Copy)]
+pub struct FieldPlace<'a> {
+    pub receiver: &'a Expr,
+    pub field: u32,
+    pub at: Pos,
+}
+
+/// Writes the code by which a field gets a value.
 pub fn write(
     alloc: Global,
     step: Pos,
-    receiver: &Expr,
-    field: u32,
-    part: Pos,
+    target: FieldPlace,
     value: &Expr,
     setting: Setting,
     out: &mut Emit,
 ) -> Result<(), Memory>
-    ensures { OnOk result (Emits (code.write_code (kinds_of setting.entry.kinds) (place (home_of setting.entry.home.now) step) (viper receiver.now) field
-        part (viper value.now) (length (emit_of out.old).locals)) (emit_of out.old) (emit_of out.new) tt) }
+    ensures { OnOk result (Emits (code.write_code (kinds_of setting.entry.kinds) (place (home_of setting.entry.home.now) step) (viper target.entry.receiver.now)
+        target.entry.field target.entry.at (viper value.now) (length (emit_of out.old).locals)) (emit_of out.old) (emit_of out.new) tt) }
 {
     let reading = setting.reading(step);
-    let receiver = check(alloc, receiver, reading, out)?;
+    let receiver = check(alloc, target.receiver, reading, out)?;
     let value = check(alloc, value, reading, out)?;
     let receiver = atomic(alloc, receiver, out)?;
-    write_at(alloc, field, part, receiver, value, reading, out)
+    let field = target.field;
+    write_at(alloc, field, target.at, receiver, value, reading, out)
 }

@@ -11,7 +11,7 @@ ghost use Rattle.enc_expr.specs.View.{seen, all_seen, atom_of, held_of, located_
 
 use crate::blocks::{add, add_all};
 use crate::emits::Emit;
-use crate::fillings::{Source, fill_access, fill_fact, fill_nothing, fill_part, split};
+use crate::fillings::{Named, Source, fill_access, fill_fact, fill_nothing, fill_part, split};
 use crate::openings::{Part, fresh_state, take_copy};
 use crate::operands::{Atom, Held, Located, Operand, atomic, in_locals, int_operand, part_operand};
 use crate::operators::{
@@ -222,15 +222,16 @@ fn unfold_at(
 {
     let own = fresh_state(alloc, reading.kinds.layout, out)?;
     let content = out.fresh_scalar(alloc, BBase::Snap)?;
+    let locals = args.locals;
     let part = Part {
         predicate: opened.predicate,
+        args: &locals,
         amount: amount.atom,
         at: opened.place,
     };
-    let locals = args.locals;
     let mut block = args.sets;
     add_all(&mut block, amount.sets)?;
-    take_copy(alloc, part, &locals, &own, content, reading, block, out)?;
+    take_copy(alloc, part, &own, content, reading, block, out)?;
     let source = Source {
         content,
         scale: part.amount,
@@ -279,12 +280,14 @@ pub fn fill(
         Assertion::Acc(e, field, amount, at) => {
             let receiver = check(alloc, e, reading, out)?;
             let amount = check_amount(alloc, amount, reading, out)?;
-            fill_access(alloc, *field, *at, receiver, amount, source, reading, out)
+            let field = Named::of(*field, *at);
+            fill_access(alloc, field, receiver, amount, source, reading, out)
         }
         Assertion::Inst(predicate, args, amount, at) => {
             let args = check_all(alloc, args, reading, out)?;
             let amount = check_amount(alloc, amount, reading, out)?;
-            fill_part(alloc, *predicate, *at, args, amount, source, reading, out)
+            let predicate = Named::of(*predicate, *at);
+            fill_part(alloc, predicate, args, amount, source, reading, out)
         }
         Assertion::And(a, b) => {
             let (left, right) = split(alloc, source, reading, out)?;

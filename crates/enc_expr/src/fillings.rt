@@ -30,6 +30,22 @@ pub struct Source {
     pub scale: Atom,
 }
 
+/// A field or a predicate, and the place of its name.
+#[derive(Clone, Copy)]
+pub(crate) struct Named {
+    number: u32,
+    at: Pos,
+}
+
+impl Named {
+    pub(crate) fn of(number: u32, at: Pos) -> Named
+        ensures number { result.number ≡ number }
+        ensures at { result.at ≡ at }
+    {
+        Named { number, at }
+    }
+}
+
 // ---- statements
 
 /// The content is this expression.
@@ -266,8 +282,7 @@ fn fill_by(
 /// An accessibility predicate of a place.
 pub(crate) fn fill_access(
     alloc: Global,
-    field: u32,
-    at: Pos,
+    field: Named,
     receiver: Operand,
     amount: Operand,
     source: Source,
@@ -275,14 +290,14 @@ pub(crate) fn fill_access(
     out: &mut Emit,
 ) -> Result<(), Memory>
     ensures { OnOk result (Emits (code.acc_code (kinds_of reading.entry.kinds) (place_in reading.entry) reading.entry.guard
-        (atom_of source.scale) field at source.content (seen receiver) (seen amount) (length (emit_of out.old).locals))
+        (atom_of source.scale) field.number field.at source.content (seen receiver) (seen amount) (length (emit_of out.old).locals))
         (emit_of out.old) (emit_of out.new) tt) }
 {
     let receiver = atomic(alloc, receiver, out)?;
     let amount = atomic(alloc, amount, out)?;
-    let value = out.fresh_scalar(alloc, base_for(reading.kinds.field(field)))?;
+    let value = out.fresh_scalar(alloc, base_for(reading.kinds.field(field.number)))?;
     let filled = Filled {
-        field,
+        field: field.number,
         receiver: receiver.atom,
         amount: amount.atom,
         value,
@@ -290,7 +305,7 @@ pub(crate) fn fill_access(
     let mut block = receiver.sets;
     add_all(&mut block, amount.sets)?;
     let fill = fill_place(alloc, filled, source, reading)?;
-    let label = reading.label(at, Kind::Negative);
+    let label = reading.label(field.at, Kind::Negative);
     fill_by(
         alloc,
         label,
@@ -305,8 +320,7 @@ pub(crate) fn fill_access(
 /// An instance of a predicate.
 pub(crate) fn fill_part(
     alloc: Global,
-    predicate: u32,
-    at: Pos,
+    predicate: Named,
     args: Vec<Operand>,
     amount: Operand,
     source: Source,
@@ -314,7 +328,7 @@ pub(crate) fn fill_part(
     out: &mut Emit,
 ) -> Result<(), Memory>
     ensures { OnOk result (Emits (code.instance_code (place_in reading.entry) reading.entry.guard (atom_of source.scale)
-        predicate at source.content (all_seen args.items) (seen amount) (length (emit_of out.old).locals))
+        predicate.number predicate.at source.content (all_seen args.items) (seen amount) (length (emit_of out.old).locals))
         (emit_of out.old) (emit_of out.new) tt) }
 {
     let args = in_locals(alloc, args, out)?;
@@ -323,8 +337,8 @@ pub(crate) fn fill_part(
     let mut block = args.sets;
     add_all(&mut block, amount.sets)?;
     let index = Index::Instance(&args.locals);
-    let fill = fill_instance(alloc, predicate, index, atom, source, reading)?;
-    let label = reading.label(at, Kind::Negative);
+    let fill = fill_instance(alloc, predicate.number, index, atom, source, reading)?;
+    let label = reading.label(predicate.at, Kind::Negative);
     fill_by(alloc, label, atom, source.content, fill, &mut block)?;
     out.put(alloc, reading.guard, block)
 }

@@ -138,8 +138,10 @@ pub fn copy_state(alloc: Global, own: &Maps, from: &Maps) -> Result<Vec<BStmt>, 
 
 /// An amount of some instance of a predicate.
 #[derive(Clone, Copy)]
-pub struct Part {
+pub struct Part<'a> {
     pub predicate: u32,
+    /// The locals of its arguments.
+    pub args: &'a [usize],
     pub amount: Atom,
     /// The place of the predicate's name.
     pub at: Pos,
@@ -195,12 +197,11 @@ fn take_amount(
     add(block, BStmt::Put(amounts, index.exprs(alloc)?, left))
 }
 
-/// So much of an instance, whose arguments stand in locals, is taken from maps that hold the present state, which the
-/// statements `sets` see to, and its content gets into a local. It is taken out at once, since the body may write the same map.
+/// So much of an instance is taken from maps that hold the present state, which the statements `sets` see to, and its
+/// content gets into a local. It is taken out at once, since the body may write the same map.
 pub fn taking(
     alloc: Global,
     part: Part,
-    args: &[usize],
     maps: &Maps,
     sets: Vec<BStmt>,
     content: usize,
@@ -208,10 +209,10 @@ pub fn taking(
     block: &mut Vec<BStmt>,
 ) -> Result<(), Memory>
     ensures { OnOk result (stmts_of block.new.items ≡ join (stmts_of block.old.items)
-        (code.taking (place_in reading.entry) (maps_of maps.now) (stmts_of sets.items) part.predicate
-        (piece.index args.now) (atom_of part.amount) content part.at)) }
+        (code.taking (place_in reading.entry) (maps_of maps.now) (stmts_of sets.items) part.entry.predicate
+        (piece.index part.entry.args.now) (atom_of part.entry.amount) content part.entry.at)) }
 {
-    let index = Index::Instance(args);
+    let index = Index::Instance(part.args);
     let label = reading.label(part.at, Kind::Amount);
     check_positive(alloc, label, part.amount, block)?;
     let held = number(&reading.now.amount, part.predicate);
@@ -228,7 +229,6 @@ pub fn taking(
 pub(crate) fn take_copy(
     alloc: Global,
     part: Part,
-    args: &[usize],
     own: &Maps,
     content: usize,
     reading: Reading,
@@ -237,10 +237,10 @@ pub(crate) fn take_copy(
 ) -> Result<(), Memory>
     ensures { OnOk result (Emits (puts reading.entry.guard (join (stmts_of block.items)
         (code.taking (place_in reading.entry) (maps_of own.now) (code.copy_state (maps_of own.now) (place_in reading.entry).now)
-        part.predicate (piece.index args.now) (atom_of part.amount) content part.at)) (length (emit_of out.old).locals))
+        part.entry.predicate (piece.index part.entry.args.now) (atom_of part.entry.amount) content part.entry.at)) (length (emit_of out.old).locals))
         (emit_of out.old) (emit_of out.new) tt) }
 {
     let copied = copy_state(alloc, own, reading.now)?;
-    taking(alloc, part, args, own, copied, content, reading, &mut block)?;
+    taking(alloc, part, own, copied, content, reading, &mut block)?;
     out.put(alloc, reading.guard, block)
 }

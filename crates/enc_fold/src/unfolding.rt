@@ -31,19 +31,19 @@ pub fn unfold(
     let args = in_locals(alloc, given, out)?;
     let amount = atomic(alloc, asked, out)?;
     let content = out.fresh_scalar(alloc, BBase::Snap)?;
+    let locals = args.locals;
     let part = Part {
         predicate: f.predicate,
+        args: &locals,
         amount: amount.atom,
         at: f.place,
     };
-    let locals = args.locals;
     let mut block = args.sets;
     add_all(&mut block, amount.sets)?;
     let nothing = Vec::new(alloc);
     taking(
         alloc,
         part,
-        &locals,
         reading.now,
         nothing,
         content,

@@ -8,10 +8,10 @@ ghost use Rattle.enc_units.specs.Written.{IsStep};
 
 use crate::counts::Written;
 use crate::light::{light_locals, lighten};
-use crate::writing::put_bracket;
-use boogie_print::{Names, put_code, put_locals};
+use crate::writing::{Printer, put_bracket};
+use boogie_print::{put_code, put_locals};
 use enc_expr::Emit;
-use enc_units::{Step, Writer};
+use enc_units::Step;
 use std::alloc::Global;
 use vb_base::Memory;
 
@@ -40,8 +40,7 @@ pub fn plenty() -> usize
 /// locals no more than how many they are.
 fn hold_step(
     alloc: Global,
-    writer: Writer,
-    names: &Names<'_>,
+    printer: Printer,
     step: &Step<'_>,
     out: &mut Emit,
     written: &mut Written,
@@ -49,16 +48,16 @@ fn hold_step(
     text: &mut Vec<u8>,
 ) -> Result<(), Memory>
     requires { IsStep (step_of step.now) }
-    ensures { OnOk result (Adds (coder_of writer.entry) (names_of names.now) (step_of step.now)
+    ensures { OnOk result (Adds (coder_of printer.entry.writer) (names_of printer.entry.names.now) (step_of step.now)
         (length (emit_of out.old).locals) (length (emit_of out.new).locals) lines.old.items lines.new.items text.old.items text.new.items written.old written.new) }
 {
     out.code.clear();
     let before = out.locals.as_slice().len();
-    let bracket = writer.code(alloc, step, out)?;
+    let bracket = printer.writer.code(alloc, step, out)?;
     put_locals(lines, &out.locals[before..])?;
     lighten(alloc, before, &mut out.locals);
-    put_code(alloc, names, &out.code, text)?;
-    put_bracket(alloc, names, &bracket, text)?;
+    put_code(alloc, printer.names, &out.code, text)?;
+    put_bracket(alloc, printer.names, &bracket, text)?;
     *written = written.with_code(b"", &out.code);
     Ok(())
 }
@@ -66,8 +65,7 @@ fn hold_step(
 /// Appends what the first steps of a row write, and tells how many these are.
 fn hold_row(
     alloc: Global,
-    writer: Writer,
-    names: &Names<'_>,
+    printer: Printer,
     row: &[Step<'_>],
     out: &mut Emit,
     written: &mut Written,
@@ -76,7 +74,7 @@ fn hold_row(
 ) -> Result<usize, Memory>
     requires { All IsStep (map step_of row.now) }
     ensures within { IfOk result (λ steps. steps ≤ length row.now) }
-    ensures holds { IfOk result (λ steps. Holds (coder_of writer.entry) (names_of names.now) (map step_of row.now) (length (emit_of out.old).locals)
+    ensures holds { IfOk result (λ steps. Holds (coder_of printer.entry.writer) (names_of printer.entry.names.now) (map step_of row.now) (length (emit_of out.old).locals)
         (map step_of (drop steps row.now)) (length (emit_of out.new).locals) lines.old.items lines.new.items text.old.items text.new.items written.old written.new) }
 {
     let _start = *written;
@@ -84,16 +82,7 @@ fn hold_row(
         if lines.len() + text.len() >= MOST_HELD {
             return Ok(number);
         }
-        hold_step(
-            alloc,
-            writer,
-            names,
-            &row[number],
-            out,
-            written,
-            lines,
-            text,
-        )?;
+        hold_step(alloc, printer, &row[number], out, written, lines, text)?;
     }
     Ok(row.len())
 }
@@ -110,8 +99,7 @@ pub fn emit_behind(alloc: Global, locals: usize) -> Result<Emit, Memory>
 /// Appends the lines of the locals that the first steps of a row declare behind so many others, and makes the text of these steps.
 pub fn hold(
     alloc: Global,
-    writer: Writer,
-    names: &Names<'_>,
+    printer: Printer,
     fixed: usize,
     row: &[Step<'_>],
     written: &mut Written,
@@ -119,14 +107,12 @@ pub fn hold(
 ) -> Result<Held, Memory>
     requires { All IsStep (map step_of row.now) }
     ensures within { IfOk result (λ held. held.steps ≤ length row.now) }
-    ensures holds { IfOk result (λ held. Holds (coder_of writer.entry) (names_of names.now) (map step_of row.now) fixed
+    ensures holds { IfOk result (λ held. Holds (coder_of printer.entry.writer) (names_of printer.entry.names.now) (map step_of row.now) fixed
         (map step_of (drop held.steps row.now)) held.locals lines.old.items lines.new.items [] held.text.items written.old written.new) }
 {
     let mut out = emit_behind(alloc, fixed)?;
     let mut text = Vec::with_capacity(alloc, FIRST_ROOM)?;
-    let steps = hold_row(
-        alloc, writer, names, row, &mut out, written, lines, &mut text,
-    )?;
+    let steps = hold_row(alloc, printer, row, &mut out, written, lines, &mut text)?;
     Ok(Held {
         text,
         steps,

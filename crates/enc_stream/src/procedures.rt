@@ -22,7 +22,7 @@ use crate::counts::Written;
 use crate::heads::write_lines;
 use crate::holding::{FIRST_ROOM, Held, emit_behind, hold, plenty};
 use crate::passes::row_locals;
-use crate::writing::write_row;
+use crate::writing::{Printer, write_row};
 use boogie_print::{EmitFault, Names, put_end, put_head};
 use boogie_tree::Local;
 use enc_expr::Emit;
@@ -106,8 +106,7 @@ fn text_of_end(alloc: Global) -> Result<Vec<u8>, Memory>
 /// Writes a procedure of this name up to its last local, and holds the text of its first steps.
 fn write_head<S: Sink>(
     alloc: Global,
-    writer: Writer,
-    names: &Names<'_>,
+    printer: Printer,
     name: &Ident,
     fixed: &[Local],
     row: &[Step<'_>],
@@ -116,26 +115,32 @@ fn write_head<S: Sink>(
 ) -> Result<Held, EmitFault>
     requires { All IsStep (map step_of row.now) }
     ensures within { IfOk result (λ held. held.steps ≤ length row.now) }
-    ensures held { IfOk result (λ held. Leaves (coder_of writer.entry) (names_of names.now) (map step_of row.now) (length (locals_of fixed.now)) (map step_of (drop held.steps row.now)) held.locals
-        (length (head_text name.now (laid_locals (coder_of writer.entry) (locals_of fixed.now) (map step_of row.now)))) held.text.items written.old written.new) }
-    ensures ok { OnOk result (Appends (S.written sink.old) (S.written sink.new) (head_text name.now (laid_locals (coder_of writer.entry) (locals_of fixed.now) (map step_of row.now)))) }
-    ensures front { OnErr result (AppendsPrefix (S.written sink.old) (S.written sink.new) (head_text name.now (laid_locals (coder_of writer.entry) (locals_of fixed.now) (map step_of row.now)))) }
+    ensures held { IfOk result (λ held. Leaves (coder_of printer.entry.writer) (names_of printer.entry.names.now) (map step_of row.now) (length (locals_of fixed.now)) (map step_of (drop held.steps row.now)) held.locals
+        (length (head_text name.now (laid_locals (coder_of printer.entry.writer) (locals_of fixed.now) (map step_of row.now)))) held.text.items written.old written.new) }
+    ensures ok { OnOk result (Appends (S.written sink.old) (S.written sink.new) (head_text name.now (laid_locals (coder_of printer.entry.writer) (locals_of fixed.now) (map step_of row.now)))) }
+    ensures front { OnErr result (AppendsPrefix (S.written sink.old) (S.written sink.new) (head_text name.now (laid_locals (coder_of printer.entry.writer) (locals_of fixed.now) (map step_of row.now)))) }
     ensures failed { IsErrOf result fault.Failed → Rose (S.faults sink.old) (S.faults sink.new) }
     ensures later { S.faults sink.old ≤ S.faults sink.new }
 {
     let mut lines = text_of_head(alloc, name, fixed)?;
-    let held = hold(alloc, writer, names, fixed.len(), row, written, &mut lines)?;
+    let held = hold(alloc, printer, fixed.len(), row, written, &mut lines)?;
     write_text(&lines, written, sink)?;
     let mut out = emit_behind(alloc, held.locals)?;
-    write_lines(alloc, writer, &row[held.steps..], &mut out, written, sink)?;
+    write_lines(
+        alloc,
+        printer.writer,
+        &row[held.steps..],
+        &mut out,
+        written,
+        sink,
+    )?;
     Ok(held)
 }
 
 /// Writes the text that is held, and the steps behind it.
 fn write_steps<S: Sink>(
     alloc: Global,
-    writer: Writer,
-    names: &Names<'_>,
+    printer: Printer,
     held: &Held,
     row: &[Step<'_>],
     written: &mut Written,
@@ -144,33 +149,24 @@ fn write_steps<S: Sink>(
     requires steps { All IsStep (map step_of row.now) }
     requires within { held.now.steps ≤ length row.now }
     ensures ok { OnOk result (Appends (S.written sink.old) (S.written sink.new)
-        (held.now.text.items ++ row_text (coder_of writer.entry) (names_of names.now) (map step_of (drop held.now.steps row.now)) held.now.locals)) }
+        (held.now.text.items ++ row_text (coder_of printer.entry.writer) (names_of printer.entry.names.now) (map step_of (drop held.now.steps row.now)) held.now.locals)) }
     ensures counts { OnOk result (written.new ≡ counts written.old
-        (length (held.now.text.items ++ row_text (coder_of writer.entry) (names_of names.now) (map step_of (drop held.now.steps row.now)) held.now.locals))
-        (row_asserts (coder_of writer.entry) (map step_of (drop held.now.steps row.now)) held.now.locals)) }
+        (length (held.now.text.items ++ row_text (coder_of printer.entry.writer) (names_of printer.entry.names.now) (map step_of (drop held.now.steps row.now)) held.now.locals))
+        (row_asserts (coder_of printer.entry.writer) (map step_of (drop held.now.steps row.now)) held.now.locals)) }
     ensures front { OnErr result (AppendsPrefix (S.written sink.old) (S.written sink.new)
-        (held.now.text.items ++ row_text (coder_of writer.entry) (names_of names.now) (map step_of (drop held.now.steps row.now)) held.now.locals)) }
+        (held.now.text.items ++ row_text (coder_of printer.entry.writer) (names_of printer.entry.names.now) (map step_of (drop held.now.steps row.now)) held.now.locals)) }
     ensures failed { IsErrOf result fault.Failed → Rose (S.faults sink.old) (S.faults sink.new) }
     ensures later { S.faults sink.old ≤ S.faults sink.new }
 {
     write_text(&held.text, written, sink)?;
     let mut out = emit_behind(alloc, held.locals)?;
-    write_row(
-        alloc,
-        writer,
-        names,
-        &row[held.steps..],
-        &mut out,
-        written,
-        sink,
-    )
+    write_row(alloc, printer, &row[held.steps..], &mut out, written, sink)
 }
 
 /// Writes a procedure of this name, with these names of locals.
 fn write_named<S: Sink>(
     alloc: Global,
-    writer: Writer,
-    names: &Names<'_>,
+    printer: Printer,
     name: &Ident,
     fixed: &[Local],
     row: &[Step<'_>],
@@ -179,17 +175,17 @@ fn write_named<S: Sink>(
 ) -> Result<(), EmitFault>
     requires { All IsStep (map step_of row.now) }
     ensures ok { OnOk result (Appends (S.written sink.old) (S.written sink.new)
-        (named_text (coder_of writer.entry) (names_of names.now) name.now (locals_of fixed.now) (map step_of row.now))) }
+        (named_text (coder_of printer.entry.writer) (names_of printer.entry.names.now) name.now (locals_of fixed.now) (map step_of row.now))) }
     ensures counts { OnOk result (written.new ≡ counts written.old
-        (length (named_text (coder_of writer.entry) (names_of names.now) name.now (locals_of fixed.now) (map step_of row.now)))
-        (row_asserts (coder_of writer.entry) (map step_of row.now) (length (locals_of fixed.now)))) }
+        (length (named_text (coder_of printer.entry.writer) (names_of printer.entry.names.now) name.now (locals_of fixed.now) (map step_of row.now)))
+        (row_asserts (coder_of printer.entry.writer) (map step_of row.now) (length (locals_of fixed.now)))) }
     ensures front { OnErr result (AppendsPrefix (S.written sink.old) (S.written sink.new)
-        (named_text (coder_of writer.entry) (names_of names.now) name.now (locals_of fixed.now) (map step_of row.now))) }
+        (named_text (coder_of printer.entry.writer) (names_of printer.entry.names.now) name.now (locals_of fixed.now) (map step_of row.now))) }
     ensures failed { IsErrOf result fault.Failed → Rose (S.faults sink.old) (S.faults sink.new) }
     ensures later { S.faults sink.old ≤ S.faults sink.new }
 {
-    let held = write_head(alloc, writer, names, name, fixed, row, written, sink)?;
-    write_steps(alloc, writer, names, &held, row, written, sink)?;
+    let held = write_head(alloc, printer, name, fixed, row, written, sink)?;
+    write_steps(alloc, printer, &held, row, written, sink)?;
     let end = text_of_end(alloc)?;
     write_text(&end, written, sink)?;
     Ok(())
@@ -220,7 +216,11 @@ fn write_laid<S: Sink>(
 {
     let fixed = fixed_locals(alloc, writer.program, writer.unit)?;
     let names = Names::with_temporaries(alloc, &fixed, plenty())?;
-    write_named(alloc, writer, &names, name, &fixed, row, written, sink)
+    let printer = Printer {
+        writer,
+        names: &names,
+    };
+    write_named(alloc, printer, name, &fixed, row, written, sink)
 }
 
 /// Writes the procedure of a unit, by what its steps are written by.

@@ -21,6 +21,13 @@ use std::alloc::Global;
 use vb_base::Memory;
 use vb_outer::{Sink, write_all};
 
+/// What the steps of a unit are printed by: what writes their code, and the names of its locals.
+#[derive(Clone, Copy)]
+pub struct Printer<'a> {
+    pub writer: Writer<'a>,
+    pub names: &'a Names<'a>,
+}
+
 /// Appends a bracket, if there is one.
 pub(crate) fn put_bracket(
     alloc: Global,
@@ -46,24 +53,23 @@ pub(crate) fn put_bracket(
 /// locals no more than how many they are.
 fn step_text(
     alloc: Global,
-    writer: Writer,
-    names: &Names<'_>,
+    printer: Printer,
     step: &Step<'_>,
     out: &mut Emit,
     written: &mut Written,
     text: &mut Vec<u8>,
 ) -> Result<(), Memory>
     requires { IsStep (step_of step.now) }
-    ensures { OnOk result (Puts (coder_of writer.entry) (names_of names.now) (step_of step.now)
+    ensures { OnOk result (Puts (coder_of printer.entry.writer) (names_of printer.entry.names.now) (step_of step.now)
         (length (emit_of out.old).locals) (length (emit_of out.new).locals) written.old written.new text.new.items) }
 {
     out.code.clear();
     text.clear();
     let before = out.locals.len();
-    let bracket = writer.code(alloc, step, out)?;
+    let bracket = printer.writer.code(alloc, step, out)?;
     lighten(alloc, before, &mut out.locals);
-    put_code(alloc, names, &out.code, text)?;
-    put_bracket(alloc, names, &bracket, text)?;
+    put_code(alloc, printer.names, &out.code, text)?;
+    put_bracket(alloc, printer.names, &bracket, text)?;
     *written = written.with_code(text, &out.code);
     Ok(())
 }
@@ -71,8 +77,7 @@ fn step_text(
 /// Writes the steps of a row.
 pub fn write_row<S: Sink>(
     alloc: Global,
-    writer: Writer,
-    names: &Names<'_>,
+    printer: Printer,
     row: &[Step<'_>],
     out: &mut Emit,
     written: &mut Written,
@@ -80,19 +85,19 @@ pub fn write_row<S: Sink>(
 ) -> Result<(), EmitFault>
     requires { All IsStep (map step_of row.now) }
     ensures ok { OnOk result (Appends (S.written sink.old) (S.written sink.new)
-        (row_text (coder_of writer.entry) (names_of names.now) (map step_of row.now) (length (emit_of out.old).locals))) }
+        (row_text (coder_of printer.entry.writer) (names_of printer.entry.names.now) (map step_of row.now) (length (emit_of out.old).locals))) }
     ensures counts { OnOk result (written.new ≡ counts written.old
-        (length (row_text (coder_of writer.entry) (names_of names.now) (map step_of row.now) (length (emit_of out.old).locals)))
-        (row_asserts (coder_of writer.entry) (map step_of row.now) (length (emit_of out.old).locals))) }
+        (length (row_text (coder_of printer.entry.writer) (names_of printer.entry.names.now) (map step_of row.now) (length (emit_of out.old).locals)))
+        (row_asserts (coder_of printer.entry.writer) (map step_of row.now) (length (emit_of out.old).locals))) }
     ensures front { OnErr result (AppendsPrefix (S.written sink.old) (S.written sink.new)
-        (row_text (coder_of writer.entry) (names_of names.now) (map step_of row.now) (length (emit_of out.old).locals))) }
+        (row_text (coder_of printer.entry.writer) (names_of printer.entry.names.now) (map step_of row.now) (length (emit_of out.old).locals))) }
     ensures failed { IsErrOf result fault.Failed → Rose (S.faults sink.old) (S.faults sink.new) }
     ensures later { S.faults sink.old ≤ S.faults sink.new }
 {
     let _start = *written;
     let mut text = Vec::new(alloc);
     for step in row {
-        step_text(alloc, writer, names, step, out, written, &mut text)?;
+        step_text(alloc, printer, step, out, written, &mut text)?;
         write_all(sink, &text)?;
     }
     Ok(())

@@ -13,7 +13,7 @@ use Rattle.boogie_tree.specs.Expr as t
 use Rattle.boogie_tree.specs.Program.{BType}
 use Rattle.boogie_tree.specs.Stmt as s
 use Rattle.boogie_tree.specs.Stmt.{BStmts}
-use Rattle.enc_expr.specs.Code.{Code, Emitting, join, gives, then_emit, puts}
+use Rattle.enc_expr.specs.Code.{Code as Written, Emitting, join, gives, then_emit, puts}
 use Rattle.enc_expr.specs.Encoding.{code}
 use Rattle.enc_expr.specs.Kinds.{Kinds}
 use Rattle.enc_expr.specs.Pieces.{Operand, one, one_real}
@@ -24,8 +24,8 @@ use Rattle.enc_units.specs.Forms as f
 use Rattle.enc_units.specs.Forms.{Forms}
 use Rattle.enc_block.specs.Home.{Home, place}
 use Rattle.enc_block.specs.Parts.{head_code, turn_head, turn_end, start_code}
-use Rattle.enc_units.specs.Rows.{code_pieces, row_next, row_types, row_pieces}
-use Rattle.enc_units.specs.Steps.{Step, Start, Plain, Begin, Pick, Otherwise, End, Head, Turn, Finish, After, Enter, Leave, Check, Produce, stmt_row, block_row, body_row, method_row, produced_row, predicate_row, running_row, unit_row, Bracket, without_bracket, step_code, unit_step}
+use Rattle.enc_units.specs.Rows.{row_next, row_types, row_pieces}
+use Rattle.enc_units.specs.Steps.{Step, Code, CodeStep, Start, Plain, Head, Turn, Finish, After, Enter, Leave, Check, Produce, Branch, Begin, Pick, Otherwise, End, stmt_row, block_row, body_row, method_row, produced_row, predicate_row, running_row, unit_row, Bracket, part_code, step_code, unit_step}
 use Rattle.enc_locals.specs.Procedure.{vars_of_method, vars_of_predicate, unit_vars}
 use Rattle.enc_units.specs.Units as u
 use Rattle.enc_units.specs.Units.{with_predicate, running_code, unit_code, kinds_with, home_of}
@@ -70,13 +70,15 @@ module _ (p : Program) (x : Unit) (k : Kinds) (h : Home) where
   lays_nothing : Lays (step_code p x k h) [] (gives tt)
   lays_nothing = record { next = λ n. refl; types = λ n. refl; form = λ n. f.nothing }
 
-  -- a step without a bracket
-  lays_step : (y : Step) (m : Emitting ⊤) → step_code p x k h y ≡ without_bracket m → Lays (step_code p x k h) (y ∷ []) m
-  lays_step y m is = record {
-    next = λ n. ap (λ (go : Emitting Bracket). (go n).next) is;
-    types = λ n. ap (λ (go : Emitting Bracket). (go n).locals ++ []) is ∙ append-nil ((m n).locals ++ []) ∙ append-nil (m n).locals;
-    form = λ n. as_formed (ap (λ (go : Emitting Bracket). code_pieces (go n) ++ []) is) (join_skip (m n).stmts) (f.code (join (m n).stmts s.skip));
-  }
+  -- whole statements
+  lays_code : (y : CodeStep) → Lays (step_code p x k h) (Code y ∷ []) (part_code p x k h y)
+  lays_code y =
+      let m : Emitting ⊤ = part_code p x k h y in
+      record {
+        next = λ n. refl;
+        types = λ n. append-nil ((m n).locals ++ []) ∙ append-nil (m n).locals;
+        form = λ n. as_formed refl (join_skip (m n).stmts) (f.code (join (m n).stmts s.skip));
+      }
 
   lays_both : {xs ys : List Step} (a b : Emitting ⊤) → Lays (step_code p x k h) xs a → Lays (step_code p x k h) ys b → Lays (step_code p x k h) (xs ++ ys) (then_emit a (λ u. b))
   lays_both {xs = xs} {ys = ys} a b l r =
@@ -98,25 +100,25 @@ module _ (p : Program) (x : Unit) (k : Kinds) (h : Home) where
     pub first : (n : ℕ) → Forms (one n) (a n).stmts
     pub second : (n : ℕ) → Forms (two n) (b (a n).next).stmts
 
-  lays_blocks : {xs ys : List Step} (a b : Emitting ⊤) → Lays (step_code p x k h) xs a → Lays (step_code p x k h) ys b → LaysBlocks (xs ++ (Otherwise ∷ (ys ++ (End ∷ [])))) a b
+  lays_blocks : {xs ys : List Step} (a b : Emitting ⊤) → Lays (step_code p x k h) xs a → Lays (step_code p x k h) ys b → LaysBlocks (xs ++ (Branch Otherwise ∷ (ys ++ (Branch End ∷ [])))) a b
   lays_blocks {xs = xs} {ys = ys} a b l r =
       let c : Step → Emitting Bracket = step_code p x k h in
       record {
-        next = λ n. next-append c xs (Otherwise ∷ (ys ++ (End ∷ []))) n ∙ ap (λ (i : ℕ). row_next c (ys ++ (End ∷ [])) i) (l.next n) ∙ next-append c ys (End ∷ []) (a n).next ∙ r.next (a n).next;
-        types = λ n. types-append c xs (Otherwise ∷ (ys ++ (End ∷ []))) n
-            ∙ ap (λ (front : List BType). front ++ row_types c (ys ++ (End ∷ [])) (row_next c xs n)) (l.types n)
-            ∙ ap (λ (i : ℕ). (a n).locals ++ row_types c (ys ++ (End ∷ [])) i) (l.next n)
-            ∙ ap (λ (back : List BType). (a n).locals ++ back) (types-append c ys (End ∷ []) (a n).next ∙ append-nil (row_types c ys (a n).next) ∙ r.types (a n).next);
+        next = λ n. next-append c xs (Branch Otherwise ∷ (ys ++ (Branch End ∷ []))) n ∙ ap (λ (i : ℕ). row_next c (ys ++ (Branch End ∷ [])) i) (l.next n) ∙ next-append c ys (Branch End ∷ []) (a n).next ∙ r.next (a n).next;
+        types = λ n. types-append c xs (Branch Otherwise ∷ (ys ++ (Branch End ∷ []))) n
+            ∙ ap (λ (front : List BType). front ++ row_types c (ys ++ (Branch End ∷ [])) (row_next c xs n)) (l.types n)
+            ∙ ap (λ (i : ℕ). (a n).locals ++ row_types c (ys ++ (Branch End ∷ [])) i) (l.next n)
+            ∙ ap (λ (back : List BType). (a n).locals ++ back) (types-append c ys (Branch End ∷ []) (a n).next ∙ append-nil (row_types c ys (a n).next) ∙ r.types (a n).next);
         one = λ n. row_pieces c xs n;
         two = λ n. row_pieces c ys (a n).next;
-        pieces = λ n. pieces-append c xs (Otherwise ∷ (ys ++ (End ∷ []))) n
-            ∙ ap (λ (i : ℕ). row_pieces c xs n ++ (piece.Code s.skip ∷ piece.Else ∷ row_pieces c (ys ++ (End ∷ [])) i)) (l.next n)
-            ∙ ap (λ (back : List Piece). row_pieces c xs n ++ (piece.Code s.skip ∷ piece.Else ∷ back)) (pieces-append c ys (End ∷ []) (a n).next);
+        pieces = λ n. pieces-append c xs (Branch Otherwise ∷ (ys ++ (Branch End ∷ []))) n
+            ∙ ap (λ (i : ℕ). row_pieces c xs n ++ (piece.Code s.skip ∷ piece.Else ∷ row_pieces c (ys ++ (Branch End ∷ [])) i)) (l.next n)
+            ∙ ap (λ (back : List Piece). row_pieces c xs n ++ (piece.Code s.skip ∷ piece.Else ∷ back)) (pieces-append c ys (Branch End ∷ []) (a n).next);
         first = λ n. l.form n;
         second = λ n. r.form (a n).next;
       }
 
-  lays_choice : {row : List Step} (a b : Emitting ⊤) → LaysBlocks row a b → Lays (step_code p x k h) (Pick ∷ row) (branching s.Either a b)
+  lays_choice : {row : List Step} (a b : Emitting ⊤) → LaysBlocks row a b → Lays (step_code p x k h) (Branch Pick ∷ row) (branching s.Either a b)
   lays_choice a b blocks = record {
     next = λ n. blocks.next n;
     types = λ n. blocks.types n;
@@ -124,42 +126,42 @@ module _ (p : Program) (x : Unit) (k : Kinds) (h : Home) where
   }
 
   lays_if : {row : List Step} (at : Pos) (c : e.Expr) (a b : Emitting ⊤) → LaysBlocks row a b →
-      Lays (step_code p x k h) (Begin at c ∷ row) (then_emit (code k (place h at) None c) (λ y. branching (s.If y.expr) a b))
+      Lays (step_code p x k h) (Branch (Begin at c) ∷ row) (then_emit (code k (place h at) None c) (λ y. branching (s.If y.expr) a b))
   lays_if {row = row} at c a b blocks = record {
     next = λ n. blocks.next (code k (place h at) None c n).next;
     types = λ n. ap (λ (front : List BType). front ++ row_types (step_code p x k h) row (code k (place h at) None c n).next) (append-nil (code k (place h at) None c n).locals)
         ∙ ap (λ (back : List BType). (code k (place h at) None c n).locals ++ back) (blocks.types (code k (place h at) None c n).next);
     form = λ n.
-        let read : Code Operand = code k (place h at) None c n in
+        let read : Written Operand = code k (place h at) None c n in
         as_formed (ap (λ (ys : BStmts). piece.Code ys ∷ piece.If read.value.expr ∷ row_pieces (step_code p x k h) row read.next) (join_skip read.stmts)
         ∙ ap (λ (back : List Piece). piece.Code read.stmts ∷ piece.If read.value.expr ∷ back) (blocks.pieces read.next)) refl
         (f.both (f.code read.stmts) (form_branch read.value.expr (blocks.first read.next) (blocks.second read.next)));
   }
 
   lays_loop : {row : List Step} (at : Pos) (guard : e.Expr) (invariants : List e.Assertion) (block : v.Stmts) (body : Emitting ⊤) (turn : Pos) (targets : List ℕ) → Lays (step_code p x k h) row body →
-      Lays (step_code p x k h) (Head (v.loop at guard invariants block turn targets) ∷ Pick ∷ Turn (v.loop at guard invariants block turn targets) ∷
-      (row ++ (Finish (v.loop at guard invariants block turn targets) ∷ Otherwise ∷ After (v.loop at guard invariants block turn targets) ∷ End ∷ [])))
+      Lays (step_code p x k h) (Code (Head (v.loop at guard invariants block turn targets)) ∷ Branch Pick ∷ Code (Turn (v.loop at guard invariants block turn targets)) ∷
+      (row ++ (Code (Finish (v.loop at guard invariants block turn targets)) ∷ Branch Otherwise ∷ Code (After (v.loop at guard invariants block turn targets)) ∷ Branch End ∷ [])))
       (loop_code k h at guard invariants body turn targets)
   lays_loop {row = row} at guard invariants block body turn targets l =
       let w : v.Loop = v.loop at guard invariants block turn targets in
       let around : Emitting ⊤ = then_emit body (λ u. turn_end k h turn invariants) in
       let one_turn : Emitting ⊤ = then_emit (turn_head k h at guard invariants) (λ u. around) in
       let behind : Emitting ⊤ = after_code k h at guard invariants in
-      let whole_turn : Lays (step_code p x k h) (Turn w ∷ (row ++ (Finish w ∷ []))) one_turn =
-      lays_both (turn_head k h at guard invariants) around (lays_step (Turn w) (turn_head k h at guard invariants) refl) (lays_both body (turn_end k h turn invariants) l (lays_step (Finish w) (turn_end k h turn invariants) refl)) in
-      let all : Lays (step_code p x k h) (Head w ∷ Pick ∷ Turn w ∷ ((row ++ (Finish w ∷ [])) ++ (Otherwise ∷ After w ∷ End ∷ []))) (then_emit (head_code k h at invariants targets) (λ u. branching s.Either one_turn behind)) =
-      lays_both (head_code k h at invariants targets) (branching s.Either one_turn behind) (lays_step (Head w) (head_code k h at invariants targets) refl)
-      (lays_choice one_turn behind (lays_blocks one_turn behind whole_turn (lays_step (After w) behind refl))) in
-      subst (λ (m : Emitting ⊤). Lays (step_code p x k h) (Head w ∷ Pick ∷ Turn w ∷ (row ++ (Finish w ∷ Otherwise ∷ After w ∷ End ∷ []))) m) (sym (loop_is k h at guard invariants body turn targets))
-      (subst (λ (rest : List Step). Lays (step_code p x k h) (Head w ∷ Pick ∷ Turn w ∷ rest) (then_emit (head_code k h at invariants targets) (λ u. branching s.Either one_turn behind)))
-      (append_assoc row (Finish w ∷ []) (Otherwise ∷ After w ∷ End ∷ [])) all)
+      let whole_turn : Lays (step_code p x k h) (Code (Turn w) ∷ (row ++ (Code (Finish w) ∷ []))) one_turn =
+      lays_both (turn_head k h at guard invariants) around (lays_code (Turn w)) (lays_both body (turn_end k h turn invariants) l (lays_code (Finish w))) in
+      let all : Lays (step_code p x k h) (Code (Head w) ∷ Branch Pick ∷ Code (Turn w) ∷ ((row ++ (Code (Finish w) ∷ [])) ++ (Branch Otherwise ∷ Code (After w) ∷ Branch End ∷ []))) (then_emit (head_code k h at invariants targets) (λ u. branching s.Either one_turn behind)) =
+      lays_both (head_code k h at invariants targets) (branching s.Either one_turn behind) (lays_code (Head w))
+      (lays_choice one_turn behind (lays_blocks one_turn behind whole_turn (lays_code (After w)))) in
+      subst (λ (m : Emitting ⊤). Lays (step_code p x k h) (Code (Head w) ∷ Branch Pick ∷ Code (Turn w) ∷ (row ++ (Code (Finish w) ∷ Branch Otherwise ∷ Code (After w) ∷ Branch End ∷ []))) m) (sym (loop_is k h at guard invariants body turn targets))
+      (subst (λ (rest : List Step). Lays (step_code p x k h) (Code (Head w) ∷ Branch Pick ∷ Code (Turn w) ∷ rest) (then_emit (head_code k h at invariants targets) (λ u. branching s.Either one_turn behind)))
+      (append_assoc row (Code (Finish w) ∷ []) (Branch Otherwise ∷ Code (After w) ∷ Branch End ∷ [])) all)
 
   mutual
     pub stmt_lays : (y : v.Stmt) → Lays (step_code p x k h) (stmt_row y) (stmt_code p k h y)
     stmt_lays (v.If at c first second) =
         lays_if at c (block_code p k h first) (block_code p k h second) (lays_blocks (block_code p k h first) (block_code p k h second) (block_lays first) (block_lays second))
     stmt_lays (v.While (v.loop at guard invariants body turn targets)) = lays_loop at guard invariants body (block_code p k h body) turn targets (block_lays body)
-    stmt_lays y = lays_step (Plain y) (stmt_code p k h y) refl
+    stmt_lays y = lays_code (Plain y)
 
     pub block_lays : (ys : v.Stmts) → Lays (step_code p x k h) (block_row ys) (block_code p k h ys)
     block_lays v.skip = lays_nothing
@@ -167,18 +169,18 @@ module _ (p : Program) (x : Unit) (k : Kinds) (h : Home) where
 
   -- a method from behind its start
   body_lays : (m : Method) (o : Option Body) → Lays (step_code p x k h) (body_row m o) (either_code p k h m o)
-  body_lays m None = lays_step (Check m) (check_code k h m) refl
+  body_lays m None = lays_code (Check m)
   body_lays m (Some body) =
       let ending : Emitting ⊤ = ending_code p k h m body in
-      let whole : Lays (step_code p x k h) (block_row body.stmts ++ (Leave m body.turn ∷ [])) ending =
-      lays_both (block_code p k h body.stmts) (assert_code k h body.turn m.postconditions) (block_lays body.stmts) (lays_step (Leave m body.turn) (assert_code k h body.turn m.postconditions) refl) in
-      subst (λ (rest : List Step). Lays (step_code p x k h) (Pick ∷ rest) (branching s.Either ending (check_code k h m)))
-      (append_assoc (block_row body.stmts) (Leave m body.turn ∷ []) (Otherwise ∷ Check m ∷ End ∷ []))
-      (lays_choice ending (check_code k h m) (lays_blocks ending (check_code k h m) whole (lays_step (Check m) (check_code k h m) refl)))
+      let whole : Lays (step_code p x k h) (block_row body.stmts ++ (Code (Leave m body.turn) ∷ [])) ending =
+      lays_both (block_code p k h body.stmts) (assert_code k h body.turn m.postconditions) (block_lays body.stmts) (lays_code (Leave m body.turn)) in
+      subst (λ (rest : List Step). Lays (step_code p x k h) (Branch Pick ∷ rest) (branching s.Either ending (check_code k h m)))
+      (append_assoc (block_row body.stmts) (Code (Leave m body.turn) ∷ []) (Branch Otherwise ∷ Code (Check m) ∷ Branch End ∷ []))
+      (lays_choice ending (check_code k h m) (lays_blocks ending (check_code k h m) whole (lays_code (Check m))))
 
-  given_lays : (m : Method) → Lays (step_code p x k h) (Enter m ∷ body_row m m.body) (method_code p k h m)
-  given_lays m = subst (λ (z : Emitting ⊤). Lays (step_code p x k h) (Enter m ∷ body_row m m.body) z) (sym (method_is p k h m))
-      (lays_both (start_code k h m) (either_code p k h m m.body) (lays_step (Enter m) (start_code k h m) refl) (body_lays m m.body))
+  given_lays : (m : Method) → Lays (step_code p x k h) (Code (Enter m) ∷ body_row m m.body) (method_code p k h m)
+  given_lays m = subst (λ (z : Emitting ⊤). Lays (step_code p x k h) (Code (Enter m) ∷ body_row m m.body) z) (sym (method_is p k h m))
+      (lays_both (start_code k h m) (either_code p k h m m.body) (lays_code (Enter m)) (body_lays m m.body))
 
 -- ---- units
 
@@ -190,7 +192,7 @@ module _ (p : Program) (x : Unit) (h : Home) where
   produced_lays : (d : Predicate) (o : Option e.Assertion) →
       Lays (step_code p x (kinds_with p d.params) h) (produced_row d o) (with_body o (λ body. produce_code (kinds_with p d.params) (place h d.at) None one_real body))
   produced_lays d None = lays_nothing p x (kinds_with p d.params) h
-  produced_lays d (Some body) = lays_step p x (kinds_with p d.params) h (Produce d.at body) (produce_code (kinds_with p d.params) (place h d.at) None one_real body) refl
+  produced_lays d (Some body) = lays_code p x (kinds_with p d.params) h (Produce d.at body)
 
   predicate_lays : (o : Option Predicate) → Lays (step_code p x (kinds_with p (vars_of_predicate o)) h) (predicate_row o)
       (with_predicate o (λ d. with_body d.body (λ body. produce_code (kinds_with p d.params) (place h d.at) None one_real body)))
@@ -204,4 +206,4 @@ running_lays p (unit.Predicate n) = predicate_lays p (unit.Predicate n) (home_of
 pub unit_lays : (p : Program) (x : Unit) → Lays (unit_step p x) (unit_row p x) (unit_code p x)
 unit_lays p x =
     let k : Kinds = kinds_with p (unit_vars p x) in
-    lays_both p x k (home_of p x) (puts None (u.start_code p x)) (running_code p x) (lays_step p x k (home_of p x) Start (puts None (u.start_code p x)) refl) (running_lays p x)
+    lays_both p x k (home_of p x) (puts None (u.start_code p x)) (running_code p x) (lays_code p x k (home_of p x) Start) (running_lays p x)

@@ -1,12 +1,9 @@
 -- What the row of a unit writes is its procedure: its locals, its text and its asserts. Each of its steps is one that can be written.
-use Rattle.std.proofs.Common.{◌≡◌, ◌∙◌, ◌++◌, ℕ, List, [], ◌∷◌, All, length, ap, sym, subst, append_assoc}
-use Rattle.std.proofs.lemmas.List.Elements.{All-nil, All-cons, All-append}
-use Rattle.enc_units.proofs.StepLaws.{one as steps_end, unit_steps}
+use Rattle.std.proofs.Common.{◌≡◌, ◌∙◌, ◌++◌, ℕ, List, All, length, ap, sym, subst, append_assoc}
+use Rattle.enc_units.proofs.StepLaws.{unit_steps}
 use Rattle.viper_core.specs.Formed.{IsFormed}
 use Rattle.viper_core.specs.Program.{Program}
-use Rattle.viper_core.specs.Stmt as v
 use Rattle.viper_core.specs.declared.programs.Unit.{Unit}
-use Rattle.viper_core.specs.declared.programs.Unit.TheVariants as unit
 use Rattle.boogie_grammar.specs.Grammar.{local_names}
 use Rattle.boogie_grammar.specs.Printed.{Naming, naming, stmts_text, proc_text}
 use Rattle.boogie_print.specs.Asserts.{asserts_in}
@@ -17,36 +14,12 @@ use Rattle.enc_expr.specs.Emits.{temporaries}
 use Rattle.enc_expr.specs.Locals.{fixed_names, fixed_types}
 use Rattle.enc_text.proofs.NameLaws.{length_named, fixed_good}
 use Rattle.enc_units.specs.Rows.{row_types, row_text, row_asserts, laid_text}
-use Rattle.enc_units.specs.Steps.{Step, Plain, Begin, Pick, Otherwise, End, Head, Turn, Finish, After, stmt_row, block_row, unit_row, Bracket, unit_step, fixed_locals}
+use Rattle.enc_units.specs.Steps.{Step, unit_row, Bracket, unit_step, fixed_locals}
 use Rattle.enc_locals.specs.Procedure.{unit_name}
 use Rattle.enc_units.specs.Units.{unit_procedure}
 use Rattle.enc_units.specs.Written.{IsStep}
 use Rattle.enc_units.proofs.FormLaws.{text_is, asserts_are}
 use Rattle.enc_units.proofs.LayLaws.{unit_lays}
-
--- ---- steps that can be written
-
-steps_then : (x : Step) (xs : List Step) → IsStep x → All IsStep xs → All IsStep (x ∷ xs)
-steps_then x xs h k = All-cons IsStep x xs h k
-
-mutual
-  stmt_steps : (a : v.Stmt) → All IsStep (stmt_row a)
-  stmt_steps (v.If at c first second) =
-      steps_then (Begin at c) (block_row first ++ (Otherwise ∷ (block_row second ++ (End ∷ [])))) tt (All-append IsStep (block_row first) (Otherwise ∷ (block_row second ++ (End ∷ []))) (block_steps first)
-      (steps_then Otherwise (block_row second ++ (End ∷ [])) tt (All-append IsStep (block_row second) (End ∷ []) (block_steps second) (steps_end End tt))))
-  stmt_steps (v.While (v.loop at guard invariants body turn targets)) =
-      let w : v.Loop = v.loop at guard invariants body turn targets in
-      let behind : All IsStep (Finish w ∷ Otherwise ∷ After w ∷ End ∷ []) = steps_then (Finish w) (Otherwise ∷ After w ∷ End ∷ []) tt (steps_then Otherwise (After w ∷ End ∷ []) tt (steps_then (After w) (End ∷ []) tt (steps_end End tt))) in
-      let whole : All IsStep (block_row body ++ (Finish w ∷ Otherwise ∷ After w ∷ End ∷ [])) = All-append IsStep (block_row body) (Finish w ∷ Otherwise ∷ After w ∷ End ∷ []) (block_steps body) behind in
-      steps_then (Head w) (Pick ∷ Turn w ∷ (block_row body ++ (Finish w ∷ Otherwise ∷ After w ∷ End ∷ []))) tt
-      (steps_then Pick (Turn w ∷ (block_row body ++ (Finish w ∷ Otherwise ∷ After w ∷ End ∷ []))) tt (steps_then (Turn w) (block_row body ++ (Finish w ∷ Otherwise ∷ After w ∷ End ∷ [])) tt whole))
-  stmt_steps a = steps_end (Plain a) tt
-
-  block_steps : (xs : v.Stmts) → All IsStep (block_row xs)
-  block_steps v.skip = All-nil IsStep
-  block_steps (v.next a rest) = All-append IsStep (stmt_row a) (block_row rest) (stmt_steps a) (block_steps rest)
-
--- ---- the procedure
 
 pub fixed_length : (p : Program) (x : Unit) → IsFormed p → length (fixed_locals p x) ≡ length (fixed_types p x)
 fixed_length p x formed = length_named (fixed_names p x) (fixed_types p x) (fixed_good p x formed).as_many

@@ -21,41 +21,49 @@ use Rattle.enc_block.specs.Encoding.{stmt_code, assert_code, after_code, check_c
 use Rattle.enc_block.specs.Parts as part
 use Rattle.enc_units.specs.Units as u
 
-pub data Step : Type 0 where
+-- what is written as whole statements
+pub data CodeStep : Type 0 where
   -- how the code of a unit begins
-  Start : Step
+  Start : CodeStep
   -- a statement without blocks
-  Plain : v.Stmt → Step
-  -- an `if`, up to its first block
-  Begin : Pos → e.Expr → Step
-  -- a choice, up to its first block
-  Pick : Step
-  -- between two blocks, and behind the second
-  Otherwise : Step
-  End : Step
+  Plain : v.Stmt → CodeStep
   -- before a loop
-  Head : v.Loop → Step
+  Head : v.Loop → CodeStep
   -- an arbitrary turn: before the body, and behind it
-  Turn : v.Loop → Step
-  Finish : v.Loop → Step
+  Turn : v.Loop → CodeStep
+  Finish : v.Loop → CodeStep
   -- what goes on behind a loop
-  After : v.Loop → Step
+  After : v.Loop → CodeStep
   -- a method: before its body, behind it, and its postcondition by itself
-  Enter : Method → Step
-  Leave : Method → Pos → Step
-  Check : Method → Step
+  Enter : Method → CodeStep
+  Leave : Method → Pos → CodeStep
+  Check : Method → CodeStep
   -- the body of a predicate
-  Produce : Pos → e.Assertion → Step
+  Produce : Pos → e.Assertion → CodeStep
+
+-- where the blocks of an `if` begin and end
+pub data BranchStep : Type 0 where
+  -- an `if`, up to its first block
+  Begin : Pos → e.Expr → BranchStep
+  -- a choice, up to its first block
+  Pick : BranchStep
+  -- between two blocks, and behind the second
+  Otherwise : BranchStep
+  End : BranchStep
+
+pub data Step : Type 0 where
+  Code : CodeStep → Step
+  Branch : BranchStep → Step
 
 -- ---- the row of a unit
 
 abbrev mutual
   pub stmt_row : v.Stmt → List Step
-  stmt_row (v.If at c first second) = Begin at c ∷ (block_row first ++ (Otherwise ∷ (block_row second ++ (End ∷ []))))
+  stmt_row (v.If at c first second) = Branch (Begin at c) ∷ (block_row first ++ (Branch Otherwise ∷ (block_row second ++ (Branch End ∷ []))))
   stmt_row (v.While (v.loop at guard invariants body turn targets)) =
-      Head (v.loop at guard invariants body turn targets) ∷ Pick ∷ Turn (v.loop at guard invariants body turn targets) ∷
-      (block_row body ++ (Finish (v.loop at guard invariants body turn targets) ∷ Otherwise ∷ After (v.loop at guard invariants body turn targets) ∷ End ∷ []))
-  stmt_row x = Plain x ∷ []
+      Code (Head (v.loop at guard invariants body turn targets)) ∷ Branch Pick ∷ Code (Turn (v.loop at guard invariants body turn targets)) ∷
+      (block_row body ++ (Code (Finish (v.loop at guard invariants body turn targets)) ∷ Branch Otherwise ∷ Code (After (v.loop at guard invariants body turn targets)) ∷ Branch End ∷ []))
+  stmt_row x = Code (Plain x) ∷ []
 
   -- of the statements of a block
   pub block_row : v.Stmts → List Step
@@ -64,16 +72,16 @@ abbrev mutual
 
 -- a choice decides between the body with what is behind it, and the postcondition by itself
 abbrev pub body_row : Method → Option Body → List Step
-body_row m None = Check m ∷ []
-body_row m (Some body) = Pick ∷ (block_row body.stmts ++ (Leave m body.turn ∷ Otherwise ∷ Check m ∷ End ∷ []))
+body_row m None = Code (Check m) ∷ []
+body_row m (Some body) = Branch Pick ∷ (block_row body.stmts ++ (Code (Leave m body.turn) ∷ Branch Otherwise ∷ Code (Check m) ∷ Branch End ∷ []))
 
 abbrev pub method_row : Option Method → List Step
 method_row None = []
-method_row (Some m) = Enter m ∷ body_row m m.body
+method_row (Some m) = Code (Enter m) ∷ body_row m m.body
 
 abbrev pub produced_row : Predicate → Option e.Assertion → List Step
 produced_row d None = []
-produced_row d (Some body) = Produce d.at body ∷ []
+produced_row d (Some body) = Code (Produce d.at body) ∷ []
 
 abbrev pub predicate_row : Option Predicate → List Step
 predicate_row None = []
@@ -84,7 +92,7 @@ running_row p (unit.Method n) = method_row (slice_get p.methods n)
 running_row p (unit.Predicate n) = predicate_row (slice_get p.predicates n)
 
 abbrev pub unit_row : Program → Unit → List Step
-unit_row p x = Start ∷ running_row p x
+unit_row p x = Code Start ∷ running_row p x
 
 -- ---- the code of a step
 
@@ -102,21 +110,28 @@ pub data Bracket : Type 0 where
 abbrev pub without_bracket : Emitting ⊤ → Emitting Bracket
 without_bracket m = then_emit m (λ u. gives Nothing)
 
+abbrev pub part_code : Program → Unit → Kinds → Home → CodeStep → Emitting ⊤
+part_code p x k h Start = puts None (u.start_code p x)
+part_code p x k h (Plain a) = stmt_code p k h a
+part_code p x k h (Head (v.loop at guard invariants body turn targets)) = part.head_code k h at invariants targets
+part_code p x k h (Turn (v.loop at guard invariants body turn targets)) = part.turn_head k h at guard invariants
+part_code p x k h (Finish (v.loop at guard invariants body turn targets)) = part.turn_end k h turn invariants
+part_code p x k h (After (v.loop at guard invariants body turn targets)) = after_code k h at guard invariants
+part_code p x k h (Enter m) = part.start_code k h m
+part_code p x k h (Leave m turn) = assert_code k h turn m.postconditions
+part_code p x k h (Check m) = check_code k h m
+part_code p x k h (Produce at body) = produce_code k (place h at) None one_real body
+
+-- the condition of an `if` is computed before
+abbrev pub branch_code : Kinds → Home → BranchStep → Emitting Bracket
+branch_code k h (Begin at c) = then_emit (code k (place h at) None c) (λ y. gives (If y.expr))
+branch_code k h Pick = gives Either
+branch_code k h Otherwise = gives Else
+branch_code k h End = gives End
+
 abbrev pub step_code : Program → Unit → Kinds → Home → Step → Emitting Bracket
-step_code p x k h Start = without_bracket (puts None (u.start_code p x))
-step_code p x k h (Plain a) = without_bracket (stmt_code p k h a)
-step_code p x k h (Begin at c) = then_emit (code k (place h at) None c) (λ y. gives (If y.expr))
-step_code p x k h Pick = gives Either
-step_code p x k h Otherwise = gives Else
-step_code p x k h End = gives End
-step_code p x k h (Head (v.loop at guard invariants body turn targets)) = without_bracket (part.head_code k h at invariants targets)
-step_code p x k h (Turn (v.loop at guard invariants body turn targets)) = without_bracket (part.turn_head k h at guard invariants)
-step_code p x k h (Finish (v.loop at guard invariants body turn targets)) = without_bracket (part.turn_end k h turn invariants)
-step_code p x k h (After (v.loop at guard invariants body turn targets)) = without_bracket (after_code k h at guard invariants)
-step_code p x k h (Enter m) = without_bracket (part.start_code k h m)
-step_code p x k h (Leave m turn) = without_bracket (assert_code k h turn m.postconditions)
-step_code p x k h (Check m) = without_bracket (check_code k h m)
-step_code p x k h (Produce at body) = without_bracket (produce_code k (place h at) None one_real body)
+step_code p x k h (Code a) = without_bracket (part_code p x k h a)
+step_code p x k h (Branch a) = branch_code k h a
 
 -- in a unit: by the types of its variables and the locals that hold them
 abbrev pub unit_step : Program → Unit → Step → Emitting Bracket

@@ -7,25 +7,35 @@ use Rattle.enc_block.specs.View.{home_of}
 use Rattle.enc_units.specs.Steps as s
 use Rattle.enc_units.specs.declared.steps.Bracket.{Bracket}
 use Rattle.enc_units.specs.declared.steps.Bracket.TheVariants as bracket
+use Rattle.enc_units.specs.declared.steps.BranchStep.{BranchStep}
+use Rattle.enc_units.specs.declared.steps.BranchStep.TheVariants as branch
+use Rattle.enc_units.specs.declared.steps.CodeStep.{CodeStep}
+use Rattle.enc_units.specs.declared.steps.CodeStep.TheVariants as code
 use Rattle.enc_units.specs.declared.steps.Step.{Step}
 use Rattle.enc_units.specs.declared.steps.Step.TheVariants as step
 use Rattle.enc_units.specs.declared.writers.Writer.{Writer}
 
+abbrev pub code_step_of : CodeStep → s.CodeStep
+code_step_of code.Start = s.Start
+code_step_of (code.Plain x) = s.Plain (stmt_of x.now)
+code_step_of (code.Head w) = s.Head (loop_of w.now)
+code_step_of (code.Turn w) = s.Turn (loop_of w.now)
+code_step_of (code.Finish w) = s.Finish (loop_of w.now)
+code_step_of (code.After w) = s.After (loop_of w.now)
+code_step_of (code.Enter m) = s.Enter (method_of m.now)
+code_step_of (code.Leave m turn) = s.Leave (method_of m.now) turn
+code_step_of (code.Check m) = s.Check (method_of m.now)
+code_step_of (code.Produce at body) = s.Produce at (assertion_of body.now)
+
+abbrev pub branch_step_of : BranchStep → s.BranchStep
+branch_step_of (branch.Begin at c) = s.Begin at (expr_of c.now)
+branch_step_of branch.Pick = s.Pick
+branch_step_of branch.Otherwise = s.Otherwise
+branch_step_of branch.End = s.End
+
 abbrev pub step_of : Step → s.Step
-step_of step.Start = s.Start
-step_of (step.Plain x) = s.Plain (stmt_of x.now)
-step_of (step.Begin at c) = s.Begin at (expr_of c.now)
-step_of step.Pick = s.Pick
-step_of step.Otherwise = s.Otherwise
-step_of step.End = s.End
-step_of (step.Head w) = s.Head (loop_of w.now)
-step_of (step.Turn w) = s.Turn (loop_of w.now)
-step_of (step.Finish w) = s.Finish (loop_of w.now)
-step_of (step.After w) = s.After (loop_of w.now)
-step_of (step.Enter m) = s.Enter (method_of m.now)
-step_of (step.Leave m turn) = s.Leave (method_of m.now) turn
-step_of (step.Check m) = s.Check (method_of m.now)
-step_of (step.Produce at body) = s.Produce at (assertion_of body.now)
+step_of (step.Code a) = s.Code (code_step_of a)
+step_of (step.Branch a) = s.Branch (branch_step_of a)
 
 abbrev pub bracket_of : Bracket → s.Bracket
 bracket_of bracket.Nothing = s.Nothing

@@ -1,20 +1,26 @@
 // The row of steps of a unit, over the parts of the program.
 ghost use Rattle.std.specs.Prelude.{◌≡◌, ◌++◌, [], ◌∷◌, map, Some, IfOk, OnOk};
 ghost use Rattle.viper_core.specs.View.{stmt_of, stmts_of, method_of, predicate_of, program_of};
-ghost use Rattle.enc_units.specs.Steps.{stmt_row, block_row, method_row, predicate_row, running_row, unit_row};
-ghost use Rattle.enc_units.specs.View.{step_of};
+ghost use Rattle.enc_units.specs.Steps.{Code, Branch, stmt_row, block_row, method_row, predicate_row, running_row, unit_row};
+ghost use Rattle.enc_units.specs.View.{branch_step_of, code_step_of, step_of};
 
-use crate::steps::Step;
+use crate::steps::{BranchStep, CodeStep, Step};
 use enc_expr::add;
 use enc_locals::{method_at, predicate_at};
 use std::alloc::Global;
 use vb_base::Memory;
 use viper_core::{Method, Predicate, Program, Stmt, Unit};
 
-fn add_step<'a>(step: Step<'a>, row: &mut Vec<Step<'a>>) -> Result<(), Memory>
-    ensures { OnOk result (map step_of row.new.items ≡ map step_of row.old.items ++ step_of step.entry ∷ []) }
+fn add_code<'a>(part: CodeStep<'a>, row: &mut Vec<Step<'a>>) -> Result<(), Memory>
+    ensures { OnOk result (map step_of row.new.items ≡ map step_of row.old.items ++ Code (code_step_of part.entry) ∷ []) }
 {
-    add(row, step)
+    add(row, Step::Code(part))
+}
+
+fn add_branch<'a>(part: BranchStep<'a>, row: &mut Vec<Step<'a>>) -> Result<(), Memory>
+    ensures { OnOk result (map step_of row.new.items ≡ map step_of row.old.items ++ Branch (branch_step_of part.entry) ∷ []) }
+{
+    add(row, Step::Branch(part))
 }
 
 #[cycle(rows)]
@@ -33,39 +39,39 @@ fn add_stmt<'a>(stmt: &'a Stmt, row: &mut Vec<Step<'a>>) -> Result<(), Memory>
 {
     match stmt {
         Stmt::If(at, condition, first, second) => {
-            add_step(Step::Begin(*at, condition), row)?;
+            add_branch(BranchStep::Begin(*at, condition), row)?;
             add_block(first, row)?;
-            add_step(Step::Otherwise, row)?;
+            add_branch(BranchStep::Otherwise, row)?;
             add_block(second, row)?;
-            add_step(Step::End, row)
+            add_branch(BranchStep::End, row)
         }
         Stmt::While(w) => {
-            add_step(Step::Head(w), row)?;
-            add_step(Step::Pick, row)?;
-            add_step(Step::Turn(w), row)?;
+            add_code(CodeStep::Head(w), row)?;
+            add_branch(BranchStep::Pick, row)?;
+            add_code(CodeStep::Turn(w), row)?;
             add_block(&w.body, row)?;
-            add_step(Step::Finish(w), row)?;
-            add_step(Step::Otherwise, row)?;
-            add_step(Step::After(w), row)?;
-            add_step(Step::End, row)
+            add_code(CodeStep::Finish(w), row)?;
+            add_branch(BranchStep::Otherwise, row)?;
+            add_code(CodeStep::After(w), row)?;
+            add_branch(BranchStep::End, row)
         }
-        _ => add_step(Step::Plain(stmt), row),
+        _ => add_code(CodeStep::Plain(stmt), row),
     }
 }
 
 fn add_method<'a>(method: &'a Method, row: &mut Vec<Step<'a>>) -> Result<(), Memory>
     ensures { OnOk result (map step_of row.new.items ≡ map step_of row.old.items ++ method_row (Some (method_of method.now))) }
 {
-    add_step(Step::Enter(method), row)?;
+    add_code(CodeStep::Enter(method), row)?;
     match &method.body {
-        None => add_step(Step::Check(method), row),
+        None => add_code(CodeStep::Check(method), row),
         Some(body) => {
-            add_step(Step::Pick, row)?;
+            add_branch(BranchStep::Pick, row)?;
             add_block(&body.stmts, row)?;
-            add_step(Step::Leave(method, body.turn), row)?;
-            add_step(Step::Otherwise, row)?;
-            add_step(Step::Check(method), row)?;
-            add_step(Step::End, row)
+            add_code(CodeStep::Leave(method, body.turn), row)?;
+            add_branch(BranchStep::Otherwise, row)?;
+            add_code(CodeStep::Check(method), row)?;
+            add_branch(BranchStep::End, row)
         }
     }
 }
@@ -75,7 +81,7 @@ fn add_predicate<'a>(predicate: &'a Predicate, row: &mut Vec<Step<'a>>) -> Resul
 {
     match &predicate.body {
         None => Ok(()),
-        Some(body) => add_step(Step::Produce(predicate.at, body), row),
+        Some(body) => add_code(CodeStep::Produce(predicate.at, body), row),
     }
 }
 
@@ -103,7 +109,7 @@ pub fn unit_steps<'a>(
     ensures { IfOk result (λ row. map step_of row.items ≡ unit_row (program_of program.now) unit) }
 {
     let mut row = Vec::new(alloc);
-    add_step(Step::Start, &mut row)?;
+    add_code(CodeStep::Start, &mut row)?;
     add_unit(program, unit, &mut row)?;
     Ok(row)
 }

@@ -7,16 +7,18 @@ ghost use Rattle.enc_expr.specs.Emits.{emit_of, Emits};
 ghost use Rattle.enc_expr.specs.View.{kinds_of};
 ghost use Rattle.enc_block.specs.Encoding as code;
 ghost use Rattle.enc_units.specs.Steps as steps;
-ghost use Rattle.enc_units.specs.View.{bracket_of, step_of};
+ghost use Rattle.enc_units.specs.View.{bracket_of, branch_step_of, code_step_of, step_of};
 ghost use Rattle.enc_block.specs.View.{home_of};
-ghost use Rattle.enc_units.specs.Written.{HasNoBlocks, IsStep, written_code};
+ghost use Rattle.enc_units.specs.Written.{HasNoBlocks, IsStep};
 
-use crate::steps::{Bracket, Step};
+use crate::steps::{Bracket, BranchStep, CodeStep, Step};
 use crate::units::start;
+use crate::writers::Writer;
 use enc_assert::produce;
 use enc_block::{
-    Setting, after_loop, assert, assign, call, create, exhale, fold_instance, havoc, loop_head,
-    method_check, method_end, method_start, turn_end, turn_head, unfold_instance, write,
+    Calling, FieldPlace, Setting, after_loop, assert, assign, call, create, exhale, fold_instance,
+    havoc, loop_head, method_check, method_end, method_start, turn_end, turn_head, unfold_instance,
+    write,
 };
 use enc_expr::{Atom, Emit, check};
 use std::alloc::Global;
@@ -29,16 +31,15 @@ fn declare(
     step: Pos,
     variable: u32,
     value: &Option<Expr>,
-    program: &Program,
-    setting: Setting,
+    writer: Writer,
     out: &mut Emit,
 ) -> Result<(), Memory>
-    ensures { OnOk result (Emits (code.stmt_code (program_of program.now) (kinds_of setting.entry.kinds) (home_of setting.entry.home.now)
+    ensures { OnOk result (Emits (code.stmt_code (program_of writer.entry.program.now) (kinds_of writer.entry.setting.kinds) (home_of writer.entry.setting.home.now)
         (v.Var step variable (option_map expr_of value.now)) (length (emit_of out.old).locals)) (emit_of out.old) (emit_of out.new) tt) }
 {
     match value {
-        Some(value) => assign(alloc, step, variable, value, setting, out),
-        None => havoc(alloc, setting.home, &[variable], out),
+        Some(value) => assign(alloc, step, variable, value, writer.setting, out),
+        None => havoc(alloc, writer.setting.home, &[variable], out),
     }
 }
 
@@ -49,40 +50,42 @@ fn call_method(
     targets: &[u32],
     method: u32,
     args: &[Expr],
-    program: &Program,
-    setting: Setting,
+    writer: Writer,
     out: &mut Emit,
 ) -> Result<(), Memory>
-    ensures { OnOk result (Emits (code.stmt_code (program_of program.now) (kinds_of setting.entry.kinds) (home_of setting.entry.home.now)
+    ensures { OnOk result (Emits (code.stmt_code (program_of writer.entry.program.now) (kinds_of writer.entry.setting.kinds) (home_of writer.entry.setting.home.now)
         (v.Call step targets.now method (exprs_of args.now)) (length (emit_of out.old).locals)) (emit_of out.old) (emit_of out.new) tt) }
 {
-    match program.methods.get(method as usize) {
-        Some(callee) => call(alloc, step, targets, callee, args, setting, out),
+    match writer.program.methods.get(method as usize) {
+        Some(callee) => {
+            let calling = Calling { targets, callee };
+            call(alloc, step, calling, args, writer.setting, out)
+        }
         None => Ok(()),
     }
 }
 
 /// Writes the code of a statement without blocks.
-fn plain(
-    alloc: Global,
-    program: &Program,
-    statement: &Stmt,
-    setting: Setting,
-    out: &mut Emit,
-) -> Result<(), Memory>
+fn plain(alloc: Global, writer: Writer, statement: &Stmt, out: &mut Emit) -> Result<(), Memory>
     requires { HasNoBlocks (stmt_of statement.now) }
-    ensures { OnOk result (Emits (code.stmt_code (program_of program.now) (kinds_of setting.entry.kinds) (home_of setting.entry.home.now)
+    ensures { OnOk result (Emits (code.stmt_code (program_of writer.entry.program.now) (kinds_of writer.entry.setting.kinds) (home_of writer.entry.setting.home.now)
         (stmt_of statement.now) (length (emit_of out.old).locals)) (emit_of out.old) (emit_of out.new) tt) }
 {
+    let setting = writer.setting;
     match statement {
-        Stmt::Var(at, x, value) => declare(alloc, *at, *x, value, program, setting, out),
+        Stmt::Var(at, x, value) => declare(alloc, *at, *x, value, writer, out),
         Stmt::Assign(at, x, value) => assign(alloc, *at, *x, value, setting, out),
         Stmt::Write(at, receiver, field, part, value) => {
-            write(alloc, *at, receiver, *field, *part, value, setting, out)
+            let target = FieldPlace {
+                receiver,
+                field: *field,
+                at: *part,
+            };
+            write(alloc, *at, target, value, setting, out)
         }
         Stmt::New(_, x, fields, refs) => create(alloc, *x, fields, refs, setting, out),
         Stmt::Call(at, targets, method, args) => {
-            call_method(alloc, *at, targets, *method, args, program, setting, out)
+            call_method(alloc, *at, targets, *method, args, writer, out)
         }
         Stmt::Inhale(at, a) => {
             let reading = setting.reading(*at);
@@ -90,41 +93,55 @@ fn plain(
         }
         Stmt::Exhale(at, a) => exhale(alloc, a, *at, setting, out),
         Stmt::Assert(at, a) => assert(alloc, a, *at, setting, out),
-        Stmt::Fold(f) => fold_instance(alloc, program, f, setting, out),
-        Stmt::Unfold(f) => unfold_instance(alloc, program, f, setting, out),
+        Stmt::Fold(f) => fold_instance(alloc, writer.program, f, setting, out),
+        Stmt::Unfold(f) => unfold_instance(alloc, writer.program, f, setting, out),
         Stmt::If(..) => unreachable!(),
         Stmt::While(_) => unreachable!(),
     }
 }
 
-/// Writes the code of a step that has no bracket behind it.
-fn write_step(
-    alloc: Global,
-    program: &Program,
-    unit: Unit,
-    setting: Setting,
-    step: &Step<'_>,
-    out: &mut Emit,
-) -> Result<(), Memory>
-    requires { IsStep (step_of step.now) }
-    ensures { OnOk result (Emits (written_code (program_of program.now) unit (kinds_of setting.entry.kinds) (home_of setting.entry.home.now)
-        (step_of step.now) (length (emit_of out.old).locals)) (emit_of out.old) (emit_of out.new) tt) }
+/// Writes whole statements.
+fn write_code(alloc: Global, writer: Writer, part: CodeStep, out: &mut Emit) -> Result<(), Memory>
+    requires { IsStep (steps.Code (code_step_of part)) }
+    ensures { OnOk result (Emits (steps.part_code (program_of writer.entry.program.now) writer.entry.unit (kinds_of writer.entry.setting.kinds) (home_of writer.entry.setting.home.now)
+        (code_step_of part.entry) (length (emit_of out.old).locals)) (emit_of out.old) (emit_of out.new) tt) }
 {
-    match *step {
-        Step::Start => start(alloc, program, unit, out),
-        Step::Plain(statement) => plain(alloc, program, statement, setting, out),
-        Step::Head(w) => loop_head(alloc, w, setting, out),
-        Step::Turn(w) => turn_head(alloc, w, setting, out),
-        Step::Finish(w) => turn_end(alloc, w, setting, out),
-        Step::After(w) => after_loop(alloc, w, setting, out),
-        Step::Enter(method) => method_start(alloc, method, setting, out),
-        Step::Leave(method, turn) => method_end(alloc, method, turn, setting, out),
-        Step::Check(method) => method_check(alloc, method, setting, out),
-        Step::Produce(at, body) => {
+    let setting = writer.setting;
+    match part {
+        CodeStep::Start => start(alloc, writer.program, writer.unit, out),
+        CodeStep::Plain(statement) => plain(alloc, writer, statement, out),
+        CodeStep::Head(w) => loop_head(alloc, w, setting, out),
+        CodeStep::Turn(w) => turn_head(alloc, w, setting, out),
+        CodeStep::Finish(w) => turn_end(alloc, w, setting, out),
+        CodeStep::After(w) => after_loop(alloc, w, setting, out),
+        CodeStep::Enter(method) => method_start(alloc, method, setting, out),
+        CodeStep::Leave(method, turn) => method_end(alloc, method, turn, setting, out),
+        CodeStep::Check(method) => method_check(alloc, method, setting, out),
+        CodeStep::Produce(at, body) => {
             let reading = setting.reading(at);
             produce(alloc, body, Atom::Real(1), reading, out)
         }
-        Step::Begin(..) | Step::Pick | Step::Otherwise | Step::End => Ok(()),
+    }
+}
+
+/// Tells where a block begins or ends. The condition of an `if` is written before.
+fn write_branch(
+    alloc: Global,
+    setting: Setting,
+    part: BranchStep,
+    out: &mut Emit,
+) -> Result<Bracket, Memory>
+    ensures { IfOk result (λ b. Emits (steps.branch_code (kinds_of setting.entry.kinds) (home_of setting.entry.home.now)
+        (branch_step_of part.entry) (length (emit_of out.old).locals)) (emit_of out.old) (emit_of out.new) (bracket_of b)) }
+{
+    match part {
+        BranchStep::Begin(at, condition) => {
+            let condition = check(alloc, condition, setting.reading(at), out)?;
+            Ok(Bracket::If(condition.expr))
+        }
+        BranchStep::Pick => Ok(Bracket::Either),
+        BranchStep::Otherwise => Ok(Bracket::Else),
+        BranchStep::End => Ok(Bracket::End),
     }
 }
 
@@ -142,16 +159,15 @@ pub fn step_code(
         (step_of step.now) (length (emit_of out.old).locals)) (emit_of out.old) (emit_of out.new) (bracket_of b)) }
 {
     match *step {
-        Step::Begin(at, condition) => {
-            let condition = check(alloc, condition, setting.reading(at), out)?;
-            Ok(Bracket::If(condition.expr))
-        }
-        Step::Pick => Ok(Bracket::Either),
-        Step::Otherwise => Ok(Bracket::Else),
-        Step::End => Ok(Bracket::End),
-        _ => {
-            write_step(alloc, program, unit, setting, step, out)?;
+        Step::Code(part) => {
+            let writer = Writer {
+                program,
+                unit,
+                setting,
+            };
+            write_code(alloc, writer, part, out)?;
             Ok(Bracket::Nothing)
         }
+        Step::Branch(part) => write_branch(alloc, setting, part, out),
     }
 }

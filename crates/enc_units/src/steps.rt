@@ -6,18 +6,19 @@ use viper_core::{Assertion, Expr, Loop, Method, Stmt};
 /// A step of the row in which the code of a unit is written.
 #[derive(Clone, Copy)]
 pub enum Step<'a> {
+    /// Whole statements.
+    Code(CodeStep<'a>),
+    /// Where a block of an `if` begins or ends.
+    Branch(BranchStep<'a>),
+}
+
+/// A part of a unit whose code is whole statements.
+#[derive(Clone, Copy)]
+pub enum CodeStep<'a> {
     /// How the code of a unit begins.
     Start,
     /// A statement without blocks.
     Plain(&'a Stmt),
-    /// An `if`, up to its first block.
-    Begin(Pos, &'a Expr),
-    /// A choice, up to its first block.
-    Pick,
-    /// Between two blocks.
-    Otherwise,
-    /// Behind the second block.
-    End,
     /// Before a loop.
     Head(&'a Loop),
     /// An arbitrary turn, before the body.
@@ -34,6 +35,19 @@ pub enum Step<'a> {
     Check(&'a Method),
     /// The body of a predicate.
     Produce(Pos, &'a Assertion),
+}
+
+/// Where a block of an `if` begins or ends.
+#[derive(Clone, Copy)]
+pub enum BranchStep<'a> {
+    /// An `if`, up to its first block.
+    Begin(Pos, &'a Expr),
+    /// A choice, up to its first block.
+    Pick,
+    /// Between two blocks.
+    Otherwise,
+    /// Behind the second block.
+    End,
 }
 
 /// The bracket that stands behind the code of a step.

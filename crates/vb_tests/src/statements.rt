@@ -9,7 +9,7 @@ ghost use Rattle.enc_units.specs.Written.{IsStep};
 use crate::emitted::{if_wrong, nothing, told};
 use crate::rows::none_other;
 use enc_expr::{Emit, Kinds};
-use enc_stmt::{Setting, Step, step_code, unit_home};
+use enc_stmt::{CodeStep, Setting, Step, step_code, unit_home};
 use std::alloc::Global;
 use std::test::Fail;
 use test_rows::{first_other, other_than, two};
@@ -74,7 +74,7 @@ fn step_of(stmt: &Stmt) -> Result<Step<'_>, Fail>
 {
     match stmt {
         Stmt::If(..) | Stmt::While(_) => Err("a statement with blocks")?,
-        _ => Ok(Step::Plain(stmt)),
+        _ => Ok(Step::Code(CodeStep::Plain(stmt))),
     }
 }
 

@@ -10,7 +10,7 @@ use Rattle.boogie_tree.specs.Whole.{expr_of, stmts_of}
 use Rattle.enc_expr.specs.Code.{gives}
 use Rattle.enc_expr.specs.Operators.{right_counts}
 use Rattle.enc_expr.specs.Emits.{Emit, emit_of, Emits}
-use Rattle.enc_expr.specs.Encoding.{is_unit, code, codes, amount_code}
+use Rattle.enc_expr.specs.Encoding.{is_unit, code, codes, amount_code, acc_code, instance_code}
 use Rattle.enc_expr.specs.Kinds.{body_kinds}
 use Rattle.enc_expr.specs.Pieces.{Operand, one}
 use Rattle.enc_expr.specs.Place.{maps_of, with_now, with_vars}
@@ -108,13 +108,15 @@ pub fill-returns-in_ok-amount-in-Acc : goal.fill-returns-in_ok-amount-in-Acc
 fill-returns-in_ok-amount-in-Acc _ c =
     on_ok_weaker c.fill_access.result (λ h. filled_as (kinds_of c.args.reading.kinds) (place_in c.args.reading) c.args.reading.guard _ _ _ (ap assertion_of c.in-Acc.is) (access_emits (kinds_of c.args.reading.kinds) (place_in c.args.reading) c.args.reading.guard (atom_of c.args.source.scale) c.args.source.content (viper c.in-Acc.e) c.in-Acc.field (amt_of c.in-Acc.amount) c.in-Acc.at
     (emit_of c.args.out.now) (emit_of c.check-in-Acc.new.out) (emit_of c.check_amount.new.out) (emit_of c.fill_access.new.out) (seen c.in_ok-receiver-in-Acc.receiver) (seen c.in_ok-amount-in-Acc.amount)
-    c.in_ok-receiver-in-Acc.ensures c.in_ok-amount-in-Acc.ensures h)) c.fill_access.ensures
+    c.in_ok-receiver-in-Acc.ensures c.in_ok-amount-in-Acc.ensures (subst (λ m. Emits m (emit_of c.check_amount.new.out) (emit_of c.fill_access.new.out) tt)
+    (λ i. acc_code (kinds_of c.args.reading.kinds) (place_in c.args.reading) c.args.reading.guard (atom_of c.args.source.scale) (c.of-field.ensures.number i) (c.of-field.ensures.at i) c.args.source.content (seen c.in_ok-receiver-in-Acc.receiver) (seen c.in_ok-amount-in-Acc.amount) (length (emit_of c.check_amount.new.out).locals)) h))) c.fill_access.ensures
 
 pub fill-returns-in_ok-amount-in-Inst : goal.fill-returns-in_ok-amount-in-Inst
 fill-returns-in_ok-amount-in-Inst _ c =
     on_ok_weaker c.fill_part.result (λ h. filled_as (kinds_of c.args.reading.kinds) (place_in c.args.reading) c.args.reading.guard _ _ _ (inst_is c.in-Inst.args c.in-Inst.is c.deref.ensures.value) (part_emits (kinds_of c.args.reading.kinds) (place_in c.args.reading) c.args.reading.guard (atom_of c.args.source.scale) c.args.source.content c.in-Inst.predicate (exprs_of c.deref.result.now) (amt_of c.in-Inst.amount) c.in-Inst.at
     (emit_of c.args.out.now) (emit_of c.check_all.new.out) (emit_of c.check_amount-in-Inst.new.out) (emit_of c.fill_part.new.out) (all_seen c.in_ok-args-in-Inst.args.items) (seen c.in_ok-amount-in-Inst.amount)
-    c.in_ok-args-in-Inst.ensures c.in_ok-amount-in-Inst.ensures h)) c.fill_part.ensures
+    c.in_ok-args-in-Inst.ensures c.in_ok-amount-in-Inst.ensures (subst (λ m. Emits m (emit_of c.check_amount-in-Inst.new.out) (emit_of c.fill_part.new.out) tt)
+    (λ i. instance_code (place_in c.args.reading) c.args.reading.guard (atom_of c.args.source.scale) (c.of-predicate.ensures.number i) (c.of-predicate.ensures.at i) c.args.source.content (all_seen c.in_ok-args-in-Inst.args.items) (seen c.in_ok-amount-in-Inst.amount) (length (emit_of c.check_amount-in-Inst.new.out).locals)) h))) c.fill_part.ensures
 
 pub fill-returns-in_ok-fill-in-And : goal.fill-returns-in_ok-fill-in-And
 fill-returns-in_ok-fill-in-And _ c =

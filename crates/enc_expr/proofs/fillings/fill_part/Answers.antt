@@ -13,8 +13,8 @@ use Rattle.enc_expr.proofs.fillings.fill_part.Goals as goal
 
 pub returns : goal.returns
 returns c =
-    let fill = c.in_ok-fill.ensures ∙ ap (λ ls. fill_instance_code (place_in c.args.reading) (atom_of c.args.source.scale) c.args.predicate (index ls) (atom_of c.in_ok-amount.amount.atom) c.args.source.content) c.deref.ensures.value in
-    on_ok_weaker c.put.result (λ h. instance_emits (place_in c.args.reading) c.args.reading.guard (atom_of c.args.source.scale) c.args.predicate c.args.at c.args.source.content (all_seen c.args.args.items) (seen c.args.amount)
+    let fill = c.in_ok-fill.ensures ∙ ap (λ ls. fill_instance_code (place_in c.args.reading) (atom_of c.args.source.scale) c.args.predicate.number (index ls) (atom_of c.in_ok-amount.amount.atom) c.args.source.content) c.deref.ensures.value in
+    on_ok_weaker c.put.result (λ h. instance_emits (place_in c.args.reading) c.args.reading.guard (atom_of c.args.source.scale) c.args.predicate.number c.args.predicate.at c.args.source.content (all_seen c.args.args.items) (seen c.args.amount)
     (emit_of c.args.out.now) (emit_of c.in_locals.new.out) (emit_of c.atomic.new.out) (emit_of c.put.new.self) (located_of c.in_ok-args.args) (held_of c.in_ok-amount.amount) c.in_ok-args.ensures c.in_ok-amount.ensures
     (put_as c.args.reading.guard (then_added (stmts_of c.in_ok-args.args.sets.items) (stmts_of c.in_ok-amount.amount.sets.items) _ (all_added c.in_ok-args.args.sets.items c.in_ok-amount.amount.sets.items c.in_ok-add_all.ensures refl)
     (c.in_ok-fill_by.ensures ∙ (λ i. join (stmts_of c.add_all.new.items.items) (filled_by (c.label-label.ensures i) (atom_of c.in_ok-amount.amount.atom) c.args.source.content (fill i))))) h)) c.put.ensures

@@ -14,7 +14,7 @@ use Rattle.enc_expr.proofs.openings.taking.Goals as goal
 
 pub returns : goal.returns
 returns c =
-    let key = index c.args.args.now in
+    let key = index c.args.part.args.now in
     let at_amount = atom_of c.args.part.amount in
     let held = c.number-held.ensures ∙ ap (λ xs. number xs c.args.part.predicate) c.deref.ensures.value in
     let amounts = c.number-amounts.ensures ∙ ap (λ xs. number xs c.args.part.predicate) c.deref-2.ensures.value in

@@ -12,7 +12,7 @@ hold_step-requires c =
 
 pub loop-number-preserved : goal.loop-number-preserved
 loop-number-preserved c = record {
-  holds = holds_more (coder_of c.args.writer) (names_of c.args.names.now) (map step_of c.args.row.now) (length (emit_of c.args.out.now).locals) c.args.row.now c.loop-number.number c.index-row-number.result
+  holds = holds_more (coder_of c.args.printer.writer) (names_of c.args.printer.names.now) (map step_of c.args.row.now) (length (emit_of c.args.out.now).locals) c.args.row.now c.loop-number.number c.index-row-number.result
       (length (emit_of c.loop-number.out).locals) (length (emit_of c.hold_step.new.out).locals) c.args.lines.now.items c.loop-number.lines.items c.hold_step.new.lines.items c.args.text.now.items c.loop-number.text.items c.hold_step.new.text.items
       c.args.written.now c.loop-number.written c.hold_step.new.written (omega (arith, c.loop-number-test.true, c.loop-number.auto.number-end)) c.index-row-number.is c.in_ok-hold_step.ensures c.loop-number.invariant.holds;
 }

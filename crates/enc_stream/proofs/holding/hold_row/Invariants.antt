@@ -7,6 +7,6 @@ use Rattle.enc_stream.proofs.holding.hold_row.Given as goal
 
 abbrev pub invariant-loop-number : goal.invariant-loop-number
 invariant-loop-number l = record {
-  holds : Holds (coder_of l.writer) (names_of l.names) (map step_of l.row) (length (emit_of l.initial.out).locals) (map step_of (drop l.number l.row)) (length (emit_of l.out).locals)
+  holds : Holds (coder_of l.printer.writer) (names_of l.printer.names.now) (map step_of l.row) (length (emit_of l.initial.out).locals) (map step_of (drop l.number l.row)) (length (emit_of l.out).locals)
       l.initial.lines.items l.lines.items l.initial.text.items l.text.items l.initial.written l.written;
 }

@@ -14,8 +14,8 @@ use Rattle.enc_stream.proofs.holding.hold_step.Goals as goal
 
 pub returns : goal.returns
 returns c =
-    let old = c.args.out.now.locals.items in let new = c.code.new.out.locals.items in let names = names_of c.args.names.now in let bracket = bracket_of c.in_ok-bracket.bracket in
-    step_added (coder_of c.args.writer) names (step_of c.args.step.now) (record { locals = locals_of old; stmts = stmts_of c.clear.new.self.items }) (emit_of c.code.new.out) bracket (length (locals_of c.lighten.new.locals.items))
+    let old = c.args.out.now.locals.items in let new = c.code.new.out.locals.items in let names = names_of c.args.printer.names.now in let bracket = bracket_of c.in_ok-bracket.bracket in
+    step_added (coder_of c.args.printer.writer) names (step_of c.args.step.now) (record { locals = locals_of old; stmts = stmts_of c.clear.new.self.items }) (emit_of c.code.new.out) bracket (length (locals_of c.lighten.new.locals.items))
     c.args.lines.now.items c.put_locals.new.out.items c.args.text.now.items c.put_bracket.new.out.items c.args.written.now c.with_code.result
     c.in_ok-bracket.ensures (ap stmts_of c.clear.ensures.items) (same_many c.lighten.new.locals.items new c.lighten.ensures)
     (lines_behind old new (length c.as_slice-before.result.now) c.deref.result.now c.args.lines.now.items c.put_locals.new.out.items (ap length c.as_slice-before.ensures.value) c.deref.ensures.value c.in_ok-put_locals.ensures)

@@ -23,7 +23,7 @@ returns-in_err-held-clause-front g c = nothing_sent c.from_residual-in_err-held.
 
 pub returns-in_err-write_text-clause-front : goal.returns-in_err-write_text-clause-front
 returns-in_err-write_text-clause-front g c =
-    let code = coder_of c.args.writer in let steps = map step_of c.args.row.now in let name = c.args.name.now in let fixed = c.args.fixed.now in
+    let code = coder_of c.args.printer.writer in let steps = map step_of c.args.row.now in let name = c.args.name.now in let fixed = c.args.fixed.now in
     let held = c.in_ok-held.held in let rest = map step_of (drop held.steps c.args.row.now) in let head = head_text name (laid_locals code (locals_of fixed) steps) in
     let lines = c.hold.new.lines.items in let more = row_lines code rest held.locals in
     let whole : lines ++ more ≡ head = head_held code steps rest held.locals name fixed c.in_ok-lines.lines.items lines c.in_ok-lines.ensures c.in_ok-held.ensures.holds.lines_are in
@@ -33,7 +33,7 @@ returns-in_err-write_text-clause-front g c =
 
 pub returns-in_err-out-clause-front : goal.returns-in_err-out-clause-front
 returns-in_err-out-clause-front g c =
-    let code = coder_of c.args.writer in let steps = map step_of c.args.row.now in let name = c.args.name.now in let fixed = c.args.fixed.now in
+    let code = coder_of c.args.printer.writer in let steps = map step_of c.args.row.now in let name = c.args.name.now in let fixed = c.args.fixed.now in
     let held = c.in_ok-held.held in let rest = map step_of (drop held.steps c.args.row.now) in let head = head_text name (laid_locals code (locals_of fixed) steps) in
     let lines = c.hold.new.lines.items in let more = row_lines code rest held.locals in
     let whole : lines ++ more ≡ head = head_held code steps rest held.locals name fixed c.in_ok-lines.lines.items lines c.in_ok-lines.ensures c.in_ok-held.ensures.holds.lines_are in
@@ -43,7 +43,7 @@ returns-in_err-out-clause-front g c =
 
 pub returns-in_err-write_lines-clause-front : goal.returns-in_err-write_lines-clause-front
 returns-in_err-write_lines-clause-front g c =
-    let code = coder_of c.args.writer in let steps = map step_of c.args.row.now in let name = c.args.name.now in let fixed = c.args.fixed.now in
+    let code = coder_of c.args.printer.writer in let steps = map step_of c.args.row.now in let name = c.args.name.now in let fixed = c.args.fixed.now in
     let held = c.in_ok-held.held in let rest = map step_of (drop held.steps c.args.row.now) in let head = head_text name (laid_locals code (locals_of fixed) steps) in
     let lines = c.hold.new.lines.items in let more = row_lines code rest held.locals in
     let whole : lines ++ more ≡ head = head_held code steps rest held.locals name fixed c.in_ok-lines.lines.items lines c.in_ok-lines.ensures c.in_ok-held.ensures.holds.lines_are in
@@ -55,7 +55,7 @@ returns-in_err-write_lines-clause-front g c =
 
 pub returns-clause-ok : goal.returns-clause-ok
 returns-clause-ok g c =
-    let code = coder_of c.args.writer in let steps = map step_of c.args.row.now in let name = c.args.name.now in let fixed = c.args.fixed.now in
+    let code = coder_of c.args.printer.writer in let steps = map step_of c.args.row.now in let name = c.args.name.now in let fixed = c.args.fixed.now in
     let held = c.in_ok-held.held in let rest = map step_of (drop held.steps c.args.row.now) in let head = head_text name (laid_locals code (locals_of fixed) steps) in
     let lines = c.hold.new.lines.items in let more = row_lines code rest held.locals in
     let whole : lines ++ more ≡ head = head_held code steps rest held.locals name fixed c.in_ok-lines.lines.items lines c.in_ok-lines.ensures c.in_ok-held.ensures.holds.lines_are in
@@ -67,11 +67,11 @@ returns-clause-ok g c =
 
 pub returns-clause-held : goal.returns-clause-held
 returns-clause-held g c =
-    let code = coder_of c.args.writer in let steps = map step_of c.args.row.now in let name = c.args.name.now in let fixed = c.args.fixed.now in
+    let code = coder_of c.args.printer.writer in let steps = map step_of c.args.row.now in let name = c.args.name.now in let fixed = c.args.fixed.now in
     let held = c.in_ok-held.held in let rest = map step_of (drop held.steps c.args.row.now) in let head = head_text name (laid_locals code (locals_of fixed) steps) in
     let lines = c.hold.new.lines.items in let more = row_lines code rest held.locals in
     let whole : lines ++ more ≡ head = head_held code steps rest held.locals name fixed c.in_ok-lines.lines.items lines c.in_ok-lines.ensures c.in_ok-held.ensures.holds.lines_are in
-    let names = names_of c.args.names.now in let holds = c.in_ok-held.ensures.holds in let first = sym (length-map fixed local_of) in
+    let names = names_of c.args.printer.names.now in let holds = c.in_ok-held.ensures.holds in let first = sym (length-map fixed local_of) in
     let same = rest_same (row_lines code) c.args.row.now held.steps (length (locals_of c.in_ok-out.out.locals.items)) held.locals c.in_ok-out.ensures in
     record {
       asserts = holds.asserts;

@@ -13,14 +13,14 @@ use Rattle.enc_stream.proofs.procedures.write_named.Goals as goal
 
 pub returns-in_err-held-clause-front : goal.returns-in_err-held-clause-front
 returns-in_err-held-clause-front g c =
-    let code = coder_of c.args.writer in let names = names_of c.args.names.now in let fixed = locals_of c.args.fixed.now in let steps = map step_of c.args.row.now in
+    let code = coder_of c.args.printer.writer in let names = names_of c.args.printer.names.now in let fixed = locals_of c.args.fixed.now in let steps = map step_of c.args.row.now in
     let head = head_text c.args.name.now (laid_locals code fixed steps) in let row = row_text code names steps (length fixed) in
     let before = g.S.Sink.written c.args.sink.now in let one = g.S.Sink.written c.write_head.new.sink in
     any_err c.from_residual.result (head_front before one one one head row end_text c.in_err-held.ensures.front)
 
 pub returns-in_err-write_steps-clause-front : goal.returns-in_err-write_steps-clause-front
 returns-in_err-write_steps-clause-front g c =
-    let code = coder_of c.args.writer in let names = names_of c.args.names.now in let fixed = locals_of c.args.fixed.now in let steps = map step_of c.args.row.now in
+    let code = coder_of c.args.printer.writer in let names = names_of c.args.printer.names.now in let fixed = locals_of c.args.fixed.now in let steps = map step_of c.args.row.now in
     let head = head_text c.args.name.now (laid_locals code fixed steps) in let row = row_text code names steps (length fixed) in
     let before = g.S.Sink.written c.args.sink.now in let one = g.S.Sink.written c.write_head.new.sink in
     let two = g.S.Sink.written c.write_steps.new.sink in
@@ -28,7 +28,7 @@ returns-in_err-write_steps-clause-front g c =
 
 pub returns-in_err-end-clause-front : goal.returns-in_err-end-clause-front
 returns-in_err-end-clause-front g c =
-    let code = coder_of c.args.writer in let names = names_of c.args.names.now in let fixed = locals_of c.args.fixed.now in let steps = map step_of c.args.row.now in
+    let code = coder_of c.args.printer.writer in let names = names_of c.args.printer.names.now in let fixed = locals_of c.args.fixed.now in let steps = map step_of c.args.row.now in
     let head = head_text c.args.name.now (laid_locals code fixed steps) in let row = row_text code names steps (length fixed) in
     let before = g.S.Sink.written c.args.sink.now in let one = g.S.Sink.written c.write_head.new.sink in
     let two = g.S.Sink.written c.write_steps.new.sink in
@@ -36,7 +36,7 @@ returns-in_err-end-clause-front g c =
 
 pub returns-in_err-write_text-clause-front : goal.returns-in_err-write_text-clause-front
 returns-in_err-write_text-clause-front g c =
-    let code = coder_of c.args.writer in let names = names_of c.args.names.now in let fixed = locals_of c.args.fixed.now in let steps = map step_of c.args.row.now in
+    let code = coder_of c.args.printer.writer in let names = names_of c.args.printer.names.now in let fixed = locals_of c.args.fixed.now in let steps = map step_of c.args.row.now in
     let head = head_text c.args.name.now (laid_locals code fixed steps) in let row = row_text code names steps (length fixed) in
     let before = g.S.Sink.written c.args.sink.now in let one = g.S.Sink.written c.write_head.new.sink in
     let two = g.S.Sink.written c.write_steps.new.sink in
@@ -46,7 +46,7 @@ returns-in_err-write_text-clause-front g c =
 
 pub returns-clause-ok : goal.returns-clause-ok
 returns-clause-ok g c =
-    let code = coder_of c.args.writer in let names = names_of c.args.names.now in let fixed = locals_of c.args.fixed.now in let steps = map step_of c.args.row.now in
+    let code = coder_of c.args.printer.writer in let names = names_of c.args.printer.names.now in let fixed = locals_of c.args.fixed.now in let steps = map step_of c.args.row.now in
     let head = head_text c.args.name.now (laid_locals code fixed steps) in let row = row_text code names steps (length fixed) in
     let before = g.S.Sink.written c.args.sink.now in let one = g.S.Sink.written c.write_head.new.sink in
     let two = g.S.Sink.written c.write_steps.new.sink in
@@ -56,7 +56,7 @@ returns-clause-ok g c =
 
 pub returns-clause-counts : goal.returns-clause-counts
 returns-clause-counts g c =
-    let code = coder_of c.args.writer in let names = names_of c.args.names.now in let fixed = locals_of c.args.fixed.now in let steps = map step_of c.args.row.now in
+    let code = coder_of c.args.printer.writer in let names = names_of c.args.printer.names.now in let fixed = locals_of c.args.fixed.now in let steps = map step_of c.args.row.now in
     let head = head_text c.args.name.now (laid_locals code fixed steps) in let row = row_text code names steps (length fixed) in
     let held = c.in_ok-held.ensures.held in let left = row_asserts code (map step_of (drop c.in_ok-held.held.steps c.args.row.now)) c.in_ok-held.held.locals in
     three_counted head row end_text held.asserts left (row_asserts code steps (length fixed)) c.args.written.now c.write_head.new.written c.write_steps.new.written c.write_text.new.written

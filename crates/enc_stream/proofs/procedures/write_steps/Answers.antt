@@ -25,27 +25,27 @@ returns-in_err-out-clause-front g c =
 
 pub returns-clause-ok : goal.returns-clause-ok
 returns-clause-ok g c =
-    let code = coder_of c.args.writer in let held = c.args.held.now in let text = held.text.items in let rest = map step_of (drop held.steps c.args.row.now) in
-    let many = length (locals_of c.in_ok-out.out.locals.items) in let more = row_text code (names_of c.args.names.now) rest held.locals in
-    let same = rest_same (row_text code (names_of c.args.names.now)) c.args.row.now held.steps many held.locals c.in_ok-out.ensures in
+    let code = coder_of c.args.printer.writer in let held = c.args.held.now in let text = held.text.items in let rest = map step_of (drop held.steps c.args.row.now) in
+    let many = length (locals_of c.in_ok-out.out.locals.items) in let more = row_text code (names_of c.args.printer.names.now) rest held.locals in
+    let same = rest_same (row_text code (names_of c.args.printer.names.now)) c.args.row.now held.steps many held.locals c.in_ok-out.ensures in
     let before = g.S.Sink.written c.args.sink.now in let one = g.S.Sink.written c.write_text.new.sink in let two = g.S.Sink.written c.write_row.new.sink in
     let sent = subst (λ (x : List ℕ). Appends before one x) c.deref.ensures.value c.in_ok-write_text.ensures.ok in
     more_sent before one two text more sent c.write_row.result (subst (λ (x : List ℕ). OnOk c.write_row.result (Appends one two x)) same c.write_row.ensures.ok)
 
 pub returns-clause-front : goal.returns-clause-front
 returns-clause-front g c =
-    let code = coder_of c.args.writer in let held = c.args.held.now in let text = held.text.items in let rest = map step_of (drop held.steps c.args.row.now) in
-    let many = length (locals_of c.in_ok-out.out.locals.items) in let more = row_text code (names_of c.args.names.now) rest held.locals in
-    let same = rest_same (row_text code (names_of c.args.names.now)) c.args.row.now held.steps many held.locals c.in_ok-out.ensures in
+    let code = coder_of c.args.printer.writer in let held = c.args.held.now in let text = held.text.items in let rest = map step_of (drop held.steps c.args.row.now) in
+    let many = length (locals_of c.in_ok-out.out.locals.items) in let more = row_text code (names_of c.args.printer.names.now) rest held.locals in
+    let same = rest_same (row_text code (names_of c.args.printer.names.now)) c.args.row.now held.steps many held.locals c.in_ok-out.ensures in
     let before = g.S.Sink.written c.args.sink.now in let one = g.S.Sink.written c.write_text.new.sink in let two = g.S.Sink.written c.write_row.new.sink in
     let sent = subst (λ (x : List ℕ). Appends before one x) c.deref.ensures.value c.in_ok-write_text.ensures.ok in
     more_front before one two text more sent c.write_row.result (subst (λ (x : List ℕ). OnErr c.write_row.result (AppendsPrefix one two x)) same c.write_row.ensures.front)
 
 pub returns-clause-counts : goal.returns-clause-counts
 returns-clause-counts g c =
-    let code = coder_of c.args.writer in let held = c.args.held.now in let text = held.text.items in let rest = map step_of (drop held.steps c.args.row.now) in
-    let many = length (locals_of c.in_ok-out.out.locals.items) in let more = row_text code (names_of c.args.names.now) rest held.locals in
-    let same = rest_same (row_text code (names_of c.args.names.now)) c.args.row.now held.steps many held.locals c.in_ok-out.ensures in
+    let code = coder_of c.args.printer.writer in let held = c.args.held.now in let text = held.text.items in let rest = map step_of (drop held.steps c.args.row.now) in
+    let many = length (locals_of c.in_ok-out.out.locals.items) in let more = row_text code (names_of c.args.printer.names.now) rest held.locals in
+    let same = rest_same (row_text code (names_of c.args.printer.names.now)) c.args.row.now held.steps many held.locals c.in_ok-out.ensures in
     let now = c.write_text.new.written in let later = c.write_row.new.written in let asserts = rest_same (row_asserts code) c.args.row.now held.steps many held.locals c.in_ok-out.ensures in
     more_counted c.write_row.result text more (row_asserts code rest held.locals) c.args.written.now now later
     (c.in_ok-write_text.ensures.counts ∙ ap (λ (x : List ℕ). counts c.args.written.now (length x) 0) c.deref.ensures.value)

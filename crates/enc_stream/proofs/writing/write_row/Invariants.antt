@@ -8,8 +8,8 @@ use Rattle.enc_stream.proofs.writing.write_row.Given as goal
 
 abbrev pub invariant-loop-step : goal.invariant-loop-step
 invariant-loop-step g l = record {
-  so_far : Sent (row_text (coder_of l.writer) (names_of l.names) (map step_of l.row) (length (emit_of l.initial.out).locals)) (row_asserts (coder_of l.writer) (map step_of l.row) (length (emit_of l.initial.out).locals))
-      (row_text (coder_of l.writer) (names_of l.names) (map step_of (drop l.step-index l.row)) (length (emit_of l.out).locals)) (row_asserts (coder_of l.writer) (map step_of (drop l.step-index l.row)) (length (emit_of l.out).locals))
+  so_far : Sent (row_text (coder_of l.printer.writer) (names_of l.printer.names.now) (map step_of l.row) (length (emit_of l.initial.out).locals)) (row_asserts (coder_of l.printer.writer) (map step_of l.row) (length (emit_of l.initial.out).locals))
+      (row_text (coder_of l.printer.writer) (names_of l.printer.names.now) (map step_of (drop l.step-index l.row)) (length (emit_of l.out).locals)) (row_asserts (coder_of l.printer.writer) (map step_of (drop l.step-index l.row)) (length (emit_of l.out).locals))
       (g.S.Sink.written l.initial.sink) (g.S.Sink.written l.sink) l.initial.written l.written;
   later : g.S.Sink.faults l.initial.sink ≤ g.S.Sink.faults l.sink;
 }

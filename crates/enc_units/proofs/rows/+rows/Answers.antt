@@ -9,10 +9,10 @@ use Rattle.enc_units.proofs.rows.+rows.Goals as goal
 
 pub add_stmt-returns-in_ok-add_block-in-If-2 : goal.add_stmt-returns-in_ok-add_block-in-If-2
 add_stmt-returns-in_ok-add_block-in-If-2 t c =
-    subst (λ y. OnOk c.add_step-in-If-2.result (map step_of c.add_step-in-If-2.new.row.items ≡ map step_of c.args.row.now.items ++ y))
+    subst (λ y. OnOk c.add_branch-in-If-2.result (map step_of c.add_branch-in-If-2.new.row.items ≡ map step_of c.args.row.now.items ++ y))
     (sym (ap (λ y. stmt_row (stmt_of y)) c.in-If.is ∙ ap stmt_row (stmt_of-If c.in-If.at c.in-If.condition c.in-If.first c.in-If.second))) (grind (arith, common_steps))
 
-pub add_stmt-returns-in_ok-add_step-in-While-6 : goal.add_stmt-returns-in_ok-add_step-in-While-6
-add_stmt-returns-in_ok-add_step-in-While-6 t c =
-    subst (λ y. OnOk c.add_step-in-While-7.result (map step_of c.add_step-in-While-7.new.row.items ≡ map step_of c.args.row.now.items ++ y))
+pub add_stmt-returns-in_ok-add_code-in-While-4 : goal.add_stmt-returns-in_ok-add_code-in-While-4
+add_stmt-returns-in_ok-add_code-in-While-4 t c =
+    subst (λ y. OnOk c.add_branch-in-While-3.result (map step_of c.add_branch-in-While-3.new.row.items ≡ map step_of c.args.row.now.items ++ y))
     (sym (ap (λ y. stmt_row (stmt_of y)) c.in-While.is ∙ ap stmt_row (stmt_of-While c.in-While.w))) (grind (arith, common_steps))

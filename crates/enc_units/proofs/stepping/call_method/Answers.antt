@@ -11,5 +11,5 @@ use Rattle.enc_units.proofs.stepping.call_method.Goals as goal
 
 pub returns-in-None : goal.returns-in-None
 returns-in-None c =
-    no_method_emits (λ callee. call_code (kinds_of c.args.setting.kinds) (home_of c.args.setting.home.now) c.args.step c.args.targets.now callee (exprs_of c.args.args.now)) (emit_of c.args.out.now)
+    no_method_emits (λ callee. call_code (kinds_of c.args.writer.setting.kinds) (home_of c.args.writer.setting.home.now) c.args.step c.args.targets.now callee (exprs_of c.args.args.now)) (emit_of c.args.out.now)
     (none_there method_of c.deref.result.now c.args.method c.in-None.ensures.lookup.3 ∙ ap (λ ms. slice_get (map method_of ms) c.args.method) c.deref.ensures.value)
