@@ -1,22 +1,11 @@
 -- Operators in steps.
 use Rattle.std.proofs.Common.{◌≡◌, refl, ap, ◌∙◌, Bool as Truth, true, false, if◌then◌else◌}
-use Rattle.std.specs.declared.cmp.Ordering.{Ordering}
 use Rattle.vb_value.specs.Bound.{Bounded}
-use Rattle.boogie_tree.specs.Value.{BScalar, Int, Bool, Real}
+use Rattle.boogie_tree.specs.Value.{BScalar}
 use Rattle.boogie_tree.specs.declared.exprs.BOp.{BOp}
-use Rattle.boogie_meaning.specs.Ends.{End, Is, Over, Wrong, then_with, fitting}
-use Rattle.boogie_meaning.specs.Operators.{truth_of, as_truth, as_bool, is_lazy, settled, settled_or, plain, compared, binary}
-use Rattle.boogie_eval.specs.Operands.{operands, order_in}
+use Rattle.boogie_meaning.specs.Ends.{End, Is, Over, Wrong, then_with}
+use Rattle.boogie_meaning.specs.Operators.{truth_of, as_truth, as_bool, is_lazy, settled, settled_or, plain, binary}
 use Rattle.boogie_eval.proofs.AnswerLaws.{then_then}
-
-tested-fitting : {X Y : Type 0} (fits : Truth) (x : X) (f : X → Y) → fitting Bounded fits (f x) ≡ then_with (fitting Bounded fits x) (λ y. Is (f y))
-tested-fitting true x f = refl
-tested-fitting false x f = refl
-
-pub compared_is : (test : Ordering → Truth) (v w : BScalar) → compared Bounded test v w ≡ then_with (order_in (operands v w)) (λ n. Is (Bool (test n)))
-compared_is test (Int x) (Int y) = refl
-compared_is test (Real p) (Real q) = tested-fitting _ _ (λ n. Bool (test n))
-compared_is test _ _ = refl
 
 -- ---- where a truth is asked for
 

@@ -1,6 +1,5 @@
 pub mod Answers
 pub mod Columns
-pub mod Operands
 pub mod Searched
 pub mod Tests
 pub mod Unary

@@ -1,17 +1,16 @@
 // The values of operators.
 #![tactic(auto, using(crate::specs::Answers::is, crate::specs::Answers::over, crate::specs::Answers::wrong, crate::specs::Answers::no_memory))]
 
-ghost use Rattle.std.specs.Prelude.{◌≡◌, ℤ, Bool, pos, neg_ℤ, not, IfOk, if◌then◌else◌};
+ghost use Rattle.std.specs.Prelude.{◌≡◌, ℤ, Bool, pos, not, IfOk, if◌then◌else◌};
 ghost use Rattle.std.specs.Ordering.{int_eq};
 ghost use Rattle.std.specs.Int.{int_div_euclid, int_rem_euclid};
 ghost use Rattle.vb_value.specs.Bound.{Bounded, IsWithin, value_if};
-ghost use Rattle.vb_value.specs.Fraction.{Fraction, whole};
+ghost use Rattle.vb_value.specs.Fraction.{Fraction};
 ghost use Rattle.boogie_tree.specs.Value as v;
 ghost use Rattle.boogie_tree.specs.Whole.{scalar_of};
 ghost use Rattle.boogie_meaning.specs.Ends.{End, Is, then_with, fitting};
 ghost use Rattle.boogie_meaning.specs.Operators as o;
 ghost use Rattle.boogie_eval.specs.Answers.{Answers};
-ghost use Rattle.boogie_eval.specs.Operands.{operands, AreWithin, sum_in, difference_in, product_in, quotient_in, euclidean_in, order_in, same_in};
 ghost use Rattle.boogie_eval.specs.Tests as test;
 ghost use Rattle.boogie_eval.specs.Within.{IsWithinScalar};
 
@@ -19,34 +18,6 @@ use crate::eval_ends::{Answer, Miss};
 use boogie_tree::{BOp, BScalar, base_of_scalar, same_base};
 use std::cmp::Ordering;
 use vb_value::{Frac, Over, int_add, int_div, int_mod, int_mul, int_sub};
-
-/// Two numbers of one type.
-#[derive(Clone, Copy)]
-enum Operands {
-    Ints(i128, i128),
-    Reals(Frac, Frac),
-    /// Operands that are not two numbers of one type.
-    Mixed,
-}
-
-/// The numbers on the two sides of an operator.
-fn numbers(left: &BScalar, right: &BScalar) -> Operands
-    requires left_within { IsWithinScalar (scalar_of left.now) }
-    requires right_within { IsWithinScalar (scalar_of right.now) }
-    ensures { result ≡ operands (scalar_of left.now) (scalar_of right.now) }
-{
-    match left {
-        BScalar::Int(x) => match right {
-            BScalar::Int(y) => Operands::Ints(*x, *y),
-            _ => Operands::Mixed,
-        },
-        BScalar::Real(p) => match right {
-            BScalar::Real(q) => Operands::Reals(*p, *q),
-            _ => Operands::Mixed,
-        },
-        _ => Operands::Mixed,
-    }
-}
 
 /// An Int, where its computation fits.
 fn whole(number: Result<i128, Over>) -> Answer
@@ -69,39 +40,42 @@ fn real(number: Result<Frac, Over>) -> Answer
     }
 }
 
-fn sum(operands: Operands) -> Answer
-    ensures { Answers scalar_of (sum_in operands) result }
+/// `+`
+fn sum(left: &BScalar, right: &BScalar) -> Answer
+    ensures { Answers scalar_of (o.sum_of Bounded (scalar_of left.now) (scalar_of right.now)) result }
 {
-    match operands {
-        Operands::Ints(x, y) => whole(int_add(x, y)),
-        Operands::Reals(p, q) => real(Frac::add(p, q)),
-        Operands::Mixed => Err(Miss::Wrong),
+    match (left, right) {
+        (BScalar::Int(x), BScalar::Int(y)) => whole(int_add(*x, *y)),
+        (BScalar::Real(p), BScalar::Real(q)) => real(Frac::add(*p, *q)),
+        _ => Err(Miss::Wrong),
     }
 }
 
-fn difference(operands: Operands) -> Answer
-    ensures { Answers scalar_of (difference_in operands) result }
+/// `-`
+fn difference(left: &BScalar, right: &BScalar) -> Answer
+    ensures { Answers scalar_of (o.difference_of Bounded (scalar_of left.now) (scalar_of right.now)) result }
 {
-    match operands {
-        Operands::Ints(x, y) => whole(int_sub(x, y)),
-        Operands::Reals(p, q) => real(Frac::sub(p, q)),
-        Operands::Mixed => Err(Miss::Wrong),
+    match (left, right) {
+        (BScalar::Int(x), BScalar::Int(y)) => whole(int_sub(*x, *y)),
+        (BScalar::Real(p), BScalar::Real(q)) => real(Frac::sub(*p, *q)),
+        _ => Err(Miss::Wrong),
     }
 }
 
-fn product(operands: Operands) -> Answer
-    ensures { Answers scalar_of (product_in operands) result }
+/// `*`
+fn product(left: &BScalar, right: &BScalar) -> Answer
+    ensures { Answers scalar_of (o.product_of Bounded (scalar_of left.now) (scalar_of right.now)) result }
 {
-    match operands {
-        Operands::Ints(x, y) => whole(int_mul(x, y)),
-        Operands::Reals(p, q) => real(Frac::mul(p, q)),
-        Operands::Mixed => Err(Miss::Wrong),
+    match (left, right) {
+        (BScalar::Int(x), BScalar::Int(y)) => whole(int_mul(*x, *y)),
+        (BScalar::Real(p), BScalar::Real(q)) => real(Frac::mul(*p, *q)),
+        _ => Err(Miss::Wrong),
     }
 }
 
 /// A quotient by 0 is 0.
 fn real_quotient(p: Frac, q: Frac) -> Answer
-    ensures { Answers scalar_of (quotient_in (Operands.Reals p q)) result }
+    ensures { Answers scalar_of (o.quotient_of Bounded (v.Real p) (v.Real q)) result }
 {
     if Frac::is_none(q) {
         return Ok(BScalar::Real(Frac::none()));
@@ -109,13 +83,13 @@ fn real_quotient(p: Frac, q: Frac) -> Answer
     real(Frac::div(p, q))
 }
 
-fn quotient(operands: Operands) -> Answer
-    ensures { Answers scalar_of (quotient_in operands) result }
+/// `/`
+fn quotient(left: &BScalar, right: &BScalar) -> Answer
+    ensures { Answers scalar_of (o.quotient_of Bounded (scalar_of left.now) (scalar_of right.now)) result }
 {
-    match operands {
-        Operands::Ints(_, _) => Err(Miss::Wrong),
-        Operands::Reals(p, q) => real_quotient(p, q),
-        Operands::Mixed => Err(Miss::Wrong),
+    match (left, right) {
+        (BScalar::Real(p), BScalar::Real(q)) => real_quotient(*p, *q),
+        _ => Err(Miss::Wrong),
     }
 }
 
@@ -139,49 +113,66 @@ fn whole_remainder(x: i128, d: i128) -> i128
     if d == 0 { 0 } else { int_mod(x, d) }
 }
 
-fn euclidean_quotient(operands: Operands) -> Answer
-    requires { AreWithin operands }
-    ensures { Answers scalar_of (euclidean_in int_div_euclid operands) result }
+/// `div`
+fn euclidean_quotient(left: &BScalar, right: &BScalar) -> Answer
+    requires left_within { IsWithinScalar (scalar_of left.now) }
+    requires right_within { IsWithinScalar (scalar_of right.now) }
+    ensures { Answers scalar_of (o.euclidean int_div_euclid (scalar_of left.now) (scalar_of right.now)) result }
 {
-    match operands {
-        Operands::Ints(x, d) => Ok(BScalar::Int(whole_quotient(x, d))),
+    match (left, right) {
+        (BScalar::Int(x), BScalar::Int(d)) => Ok(BScalar::Int(whole_quotient(*x, *d))),
         _ => Err(Miss::Wrong),
     }
 }
 
-fn euclidean_remainder(operands: Operands) -> Answer
-    requires { AreWithin operands }
-    ensures { Answers scalar_of (euclidean_in int_rem_euclid operands) result }
+/// `mod`
+fn euclidean_remainder(left: &BScalar, right: &BScalar) -> Answer
+    requires left_within { IsWithinScalar (scalar_of left.now) }
+    requires right_within { IsWithinScalar (scalar_of right.now) }
+    ensures { Answers scalar_of (o.euclidean int_rem_euclid (scalar_of left.now) (scalar_of right.now)) result }
 {
-    match operands {
-        Operands::Ints(x, d) => Ok(BScalar::Int(whole_remainder(x, d))),
+    match (left, right) {
+        (BScalar::Int(x), BScalar::Int(d)) => Ok(BScalar::Int(whole_remainder(*x, *d))),
         _ => Err(Miss::Wrong),
     }
 }
 
-/// How two numbers compare, where the computation fits.
-fn compared(order: Result<Ordering, Over>) -> Result<Ordering, Miss>
-    ensures { (fits : Bool) (n : Ordering) → order ≡ value_if fits n → Answers (λ n. n) (fitting Bounded fits n) result }
+/// Whether the order is the one that a comparison looks for.
+fn tests(op: BOp, order: Ordering) -> bool
+    ensures { result ≡ test.tests op order }
+{
+    match op {
+        BOp::Lt => order.is_lt(),
+        BOp::Le => order.is_le(),
+        BOp::Gt => order.is_gt(),
+        _ => order.is_ge(),
+    }
+}
+
+/// Whether two numbers compare so, where the computation fits.
+fn tested(op: BOp, order: Result<Ordering, Over>) -> Answer
+    ensures { (fits : Bool) (n : Ordering) → order ≡ value_if fits n → Answers scalar_of (fitting Bounded fits (v.Bool (test.tests op n))) result }
 {
     match order {
-        Ok(order) => Ok(order),
+        Ok(order) => Ok(BScalar::Bool(tests(op, order))),
         Err(_) => Err(Miss::Over),
     }
 }
 
-fn order(operands: Operands) -> Result<Ordering, Miss>
-    ensures { Answers (λ n. n) (order_in operands) result }
+/// `<`, `<=`, `>`, `>=`
+fn comparison(op: BOp, left: &BScalar, right: &BScalar) -> Answer
+    ensures { Answers scalar_of (o.compared Bounded (test.tests op) (scalar_of left.now) (scalar_of right.now)) result }
 {
-    match operands {
-        Operands::Ints(x, y) => Ok(x.cmp(&y)),
-        Operands::Reals(p, q) => compared(Frac::cmp(p, q)),
-        Operands::Mixed => Err(Miss::Wrong),
+    match (left, right) {
+        (BScalar::Int(x), BScalar::Int(y)) => Ok(BScalar::Bool(tests(op, x.cmp(y)))),
+        (BScalar::Real(p), BScalar::Real(q)) => tested(op, Frac::cmp(*p, *q)),
+        _ => Err(Miss::Wrong),
     }
 }
 
 /// `==` of two values of one type.
 fn same(left: &BScalar, right: &BScalar) -> Result<bool, Miss>
-    ensures { Answers (λ p. p) (same_in (scalar_of left.now) (scalar_of right.now)) result }
+    ensures { Answers (λ p. p) (o.as_truth (o.equal (λ p. p) (scalar_of left.now) (scalar_of right.now))) result }
 {
     if same_base(base_of_scalar(left), base_of_scalar(right)) {
         Ok(left.same(right))
@@ -230,24 +221,6 @@ pub(crate) fn opposite(flag: Result<bool, Miss>) -> Result<bool, Miss>
     Ok(!flag?)
 }
 
-/// Whether the order is the one that a comparison looks for.
-fn tests(op: BOp, order: Ordering) -> bool
-    ensures { result ≡ test.tests op order }
-{
-    match op {
-        BOp::Lt => order.is_lt(),
-        BOp::Le => order.is_le(),
-        BOp::Gt => order.is_gt(),
-        _ => order.is_ge(),
-    }
-}
-
-fn tested(op: BOp, order: Result<Ordering, Miss>) -> Answer
-    ensures { (e : End Ordering) → Answers (λ n. n) e order → Answers scalar_of (test.tested op e) result }
-{
-    Ok(BScalar::Bool(tests(op, order?)))
-}
-
 /// The value of an operator that looks at both sides.
 fn plain(op: BOp, left: &BScalar, right: &BScalar) -> Answer
     requires left_within { IsWithinScalar (scalar_of left.now) }
@@ -258,16 +231,16 @@ fn plain(op: BOp, left: &BScalar, right: &BScalar) -> Answer
         BOp::Iff => same_truth(left, right),
         BOp::Eq => truth(same(left, right)),
         BOp::Ne => truth(opposite(same(left, right))),
-        BOp::Lt => tested(op, order(numbers(left, right))),
-        BOp::Le => tested(op, order(numbers(left, right))),
-        BOp::Gt => tested(op, order(numbers(left, right))),
-        BOp::Ge => tested(op, order(numbers(left, right))),
-        BOp::Add => sum(numbers(left, right)),
-        BOp::Sub => difference(numbers(left, right)),
-        BOp::Mul => product(numbers(left, right)),
-        BOp::Divide => quotient(numbers(left, right)),
-        BOp::IntDiv => euclidean_quotient(numbers(left, right)),
-        BOp::IntMod => euclidean_remainder(numbers(left, right)),
+        BOp::Lt => comparison(op, left, right),
+        BOp::Le => comparison(op, left, right),
+        BOp::Gt => comparison(op, left, right),
+        BOp::Ge => comparison(op, left, right),
+        BOp::Add => sum(left, right),
+        BOp::Sub => difference(left, right),
+        BOp::Mul => product(left, right),
+        BOp::Divide => quotient(left, right),
+        BOp::IntDiv => euclidean_quotient(left, right),
+        BOp::IntMod => euclidean_remainder(left, right),
         BOp::Implies | BOp::Or | BOp::And => Err(Miss::Wrong),
     }
 }

@@ -1,9 +1,0 @@
-use Rattle.std.proofs.Common.{refl, sym, ◌∙◌}
-use Rattle.boogie_eval.proofs.AnswerLaws.{fitted_is, fitted_over}
-use Rattle.boogie_eval.proofs.eval_operators.compared.Goals as goal
-
-pub returns-in-Ok : goal.returns-in-Ok
-returns-in-Ok c fits n h = fitted_is (λ o. o) (λ o. o) fits n _ _ (sym c.in-Ok.is ∙ h) refl
-
-pub returns-in-Err : goal.returns-in-Err
-returns-in-Err c fits n h = fitted_over (λ o. o) (λ o. o) fits n _ (sym c.in-Err.is ∙ h)
