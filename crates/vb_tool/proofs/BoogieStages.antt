@@ -10,6 +10,7 @@ use Rattle.boogie_meaning.specs.Programs.{types_of}
 use Rattle.boogie_run.specs.Start.{start_of, outcome_of}
 use Rattle.boogie_run.specs.declared.replaying.BOutcome.{BOutcome}
 use Rattle.run_boogie.specs.BoogieRun.{NamesNothingAt, SpellsName, SpellsBoogieRun, GoesWrongAt}
+use Rattle.run_parts.specs.Alone.{Replays}
 use Rattle.run_words.specs.Answers as run_words
 use Rattle.run_words.specs.declared.faults.RunFileFault.{RunFileFault}
 use Rattle.run_words.specs.declared.faults.RunFileFault.TheVariants as run
@@ -78,3 +79,10 @@ module _ (bytes run_bytes : List ℕ) (q : BProgram) (is : IsBoogie bytes q) (fe
     status_is = is_status;
     text_is = is_text;
   }
+
+-- the same where the text is read part by part
+pub replayed_is : {bytes run_bytes : List ℕ} {o : BOutcome} (status : Status) (text : List ℕ) → length run_bytes ≤ 33554432 → Replays bytes run_bytes o → status ≡ replay_status o → text ≡ replay_text o →
+    ReplayOf bytes run_bytes status text
+replayed_is {bytes} {run_bytes} {o} status text few h is_status is_text =
+    replay_is bytes run_bytes h.accepted.program h.accepted.accepted few h.procedure h.ends.run o status text
+    (record { name = h.name; header = h.header; number = h.accepted.number; named = h.accepted.named; is_there = h.accepted.is_there }) h.ends.spelled h.ends.ends is_status is_text

@@ -1,7 +1,10 @@
 -- What the stages of a verification condition refuse, and what they tell.
-use Rattle.std.proofs.Common.{◌≡◌, ◌∙◌, ℕ, List, slice_get, Some, refl, ap, subst}
+use Rattle.std.proofs.Common.{◌≡◌, ◌∙◌, ℕ, List, get_or, slice_get, Some, refl, sym, ap, subst}
 use Rattle.vb_base.specs.declared.labels.Label.{Label}
 use Rattle.boogie_tree.specs.Program.{Proc, BProgram}
+use Rattle.boogie_tree.specs.Whole.{proc_of, program_of}
+use Rattle.boogie_tree.specs.declared.programs.BProgram.{BProgram as Program}
+use Rattle.boogie_tree.specs.declared.programs.Proc as declared
 use Rattle.boogie_formula.specs.Follows.{Follows, IsExact}
 use Rattle.boogie_formula.specs.Formula.{Formula}
 use Rattle.boogie_formula.specs.Types.{IsTypedFormula}
@@ -12,6 +15,8 @@ use Rattle.boogie_file.specs.Accepted.{IsBoogie, procedure_named, IsRefusal}
 use Rattle.boogie_file.specs.declared.refusal.Refusal as why
 use Rattle.boogie_file.specs.declared.trouble.Trouble.{Trouble}
 use Rattle.boogie_file.specs.declared.trouble.Trouble.TheVariants as boogie
+use Rattle.run_parts.specs.Alone.{IsAlone}
+use Rattle.run_parts.proofs.KeptLaws.{alone_at}
 use Rattle.vb_tool.specs.BoogieRefusals.{refusal_of_boogie}
 use Rattle.vb_tool.specs.Converted.{trouble_of_boogie_file}
 use Rattle.vb_tool.specs.AcceptedCondition.{IsConditionRefusal, of_file}
@@ -40,3 +45,12 @@ condition_is bytes name label q n d f s text is named there built typed follows 
   text_is = is_text ∙ ap (formula_text d.name label) built;
   condition = record { formula = f; typed = typed; spelled = spelled; only = only; follows = follows; exact = exact };
 }
+
+-- the same where the text is read part by part
+pub alone_states : {bytes name : List ℕ} (b : Program) (a : IsAlone bytes name (program_of b)) (label : Label) (d : declared.Proc) (f : Formula) (s : Status) (text : List ℕ) →
+    d ≡ get_or b.procs.items 0 d → f ≡ formula_for (proc_of d) label → IsTypedFormula f → Follows (proc_of d) label f → IsExact (proc_of d) label f →
+    text ≡ formula_text (proc_of d).name label f → SpellsFormula text (proc_of d).name label f →
+    ((m : List ℕ) (l : Label) (g : Formula) → SpellsFormula text m l g → (m ≡ (proc_of d).name) × (l ≡ label) × (g ≡ f)) → s ≡ status.Done → ConditionOf bytes name label s text
+alone_states {bytes} {name} b a label d f s text at built typed follows exact is_text spelled only is_s =
+    condition_is bytes name label a.accepted.program a.accepted.number (proc_of d) f s text a.accepted.accepted a.accepted.named
+    (a.accepted.is_there ∙ ap (λ (e : Proc). Some e) (sym (alone_at b a d at))) built typed follows exact is_text spelled only is_s

@@ -9,12 +9,10 @@ pub mod TransferLaws
 pub mod RunStages
 pub mod BoogieVerdicts
 pub mod BoogieStages
-pub mod AloneLaws
-pub mod BegunLaws
-pub mod RunBodyLaws
 pub mod MakingLaws
 pub mod WordLaws
 pub mod CallLaws
+pub mod WorkLaws
 pub mod Answered
 pub mod ExecutionUnits
 pub mod FramedLaws

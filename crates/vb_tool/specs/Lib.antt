@@ -14,7 +14,7 @@ pub mod Transfer
 pub mod Verified
 pub mod Call
 pub mod Parts
-pub mod Alone
+pub mod Works
 pub mod Budget
 pub mod Executions
 pub mod AcceptedExecution

@@ -38,12 +38,13 @@ use viper_core::Program;
 ///
 /// `translate FILE` reads the file from the shelf and writes its Boogie program to `out`. `run FILE UNIT RUNFILE` runs a
 /// method or a predicate of the file, from the state and on the choices of the run file, and writes the outcome to `out`: how
-/// the run ended, and how many choices it left over; and of a run that failed the run of Boogie that it turns into. `replay BPL BRUN` runs a procedure of a program of Boogie, as the run file
-/// says, and writes how that ended. `make N` generates a program of N methods, translates it, and writes how much that comes to.
-/// `exec FILE METHOD RUNFILE N` executes a method of the file, with the bodies that it calls and the turns of its loops, of which
-/// at most N may begin, and writes how that ended, and how many choices it left over. `cut BPL` writes a program of Boogie without
-/// loops and calls for one with them, which fails wherever a run of the loops does. `vc BPL PROC AT PART KIND` writes a formula
-/// that is valid exactly where no run of that procedure fails at the label that the last three words are.
+/// the run ended, and how many choices it left over; and of a run that failed the run of Boogie that it turns into.
+/// `replay BPL BRUN` runs a procedure of a program of Boogie, as the run file says, and writes how that ended. `make N` generates
+/// a program of N methods, translates it, and writes how much that comes to. `exec FILE METHOD RUNFILE N` executes a method of
+/// the file, with the bodies that it calls and the turns of its loops, of which at most N may begin, and writes how that ended,
+/// and how many choices it left over. `cut BPL` writes a program of Boogie without loops and calls for one with them, which
+/// fails wherever a run of the loops does. `vc BPL PROC AT PART KIND` writes a formula that is valid exactly where no run of
+/// that procedure fails at the label that the last three words are.
 /// Where the words are no command, or a file is refused or cannot be read, or N is out of range, one line goes to `err`, and
 /// nothing to `out`.
 pub fn tool<H: Shelf, O: Sink, E: Sink>(

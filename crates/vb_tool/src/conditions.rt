@@ -1,18 +1,16 @@
 // Verification conditions of procedures, and what is told of them.
 ghost use Rattle.std.specs.Prelude.{◌≡◌, ◌≤◌, length, IfOk, IfSome, IsErrOf};
 ghost use Rattle.vb_base.specs.Limits.{max_boogie_bytes};
-ghost use Rattle.boogie_tree.specs.Whole.{program_of};
 ghost use Rattle.vb_tool.specs.AcceptedCondition.{IsConditionRefusal};
 ghost use Rattle.vb_tool.specs.Parts.{ConditionOf};
 
-use crate::alone::alone;
 use crate::outcome::Ending;
 use crate::status::{Refusal, Status};
 use crate::trouble::Trouble;
 use boogie_file::accepted;
-use boogie_grammar::after_prelude;
 use boogie_wp::formula;
 use formula_text::print_formula;
+use run_parts::procedure_alone;
 use std::alloc::Global;
 use vb_base::{Label, Memory};
 
@@ -41,10 +39,7 @@ fn stated_alone(
     requires { length bytes.now ≤ max_boogie_bytes }
     ensures { IfOk result (λ o. IfSome o (λ t. ConditionOf bytes.now name.now label t.status t.text.items)) }
 {
-    let Ok(rest) = after_prelude(bytes) else {
-        return Ok(None);
-    };
-    let Some(program) = alone(alloc, rest, name.as_bytes())? else {
+    let Some(program) = procedure_alone(alloc, bytes, name.as_bytes())? else {
         return Ok(None);
     };
     let condition = formula(alloc, &program, 0, &label)?;

@@ -3,9 +3,6 @@
 //! What a call does is the contract of `tool`. A program connects it to its files and streams.
 #![tactic(auto)]
 
-mod alone;
-mod begun;
-mod bodies;
 mod budget;
 mod command;
 mod conditions;

@@ -4,7 +4,6 @@ ghost use Rattle.vb_base.specs.Limits.{max_boogie_bytes};
 ghost use Rattle.vb_tool.specs.AcceptedReplay.{IsReplayRefusal};
 ghost use Rattle.vb_tool.specs.Parts.{ReplayOf};
 
-use crate::alone::replayed_alone;
 use crate::outcome::Ending;
 use crate::replay_outcome::told;
 use crate::status::Refusal;
@@ -12,6 +11,7 @@ use crate::trouble::Trouble;
 use boogie_file::{boogie_program, procedure_named};
 use boogie_run::replay;
 use run_file::{boogie_run_name, read_boogie_run};
+use run_parts::replayed_alone;
 use std::alloc::Global;
 
 /// The outcome of the procedure that a run file names, of the program of a file, on the run of the run file.
@@ -25,7 +25,7 @@ pub fn replayed(alloc: Global, bytes: &[u8], run_bytes: &[u8]) -> Result<Ending,
     ensures read { IsErrOf result Trouble.Read → ⊥ }
 {
     match replayed_alone(alloc, bytes, run_bytes)? {
-        Some(told) => Ok(told),
+        Some(outcome) => Ok(told(alloc, outcome)?),
         None => replayed_in_whole(alloc, bytes, run_bytes),
     }
 }

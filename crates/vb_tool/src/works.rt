@@ -2,13 +2,11 @@
 ghost use Rattle.std.specs.Prelude.{◌≡◌, ◌⊎◌, ◌≤◌, IfOk, IsErrOf, length};
 ghost use Rattle.vb_outer.specs.Faults.{Rose};
 ghost use Rattle.vb_outer.specs.Shelf.{IsMissing, IsWhole, IsLonger};
-ghost use Rattle.viper_core.specs.Formed.{IsFormed};
-ghost use Rattle.viper_core.specs.View.{program_of};
-ghost use Rattle.enc_units.specs.Translates.{text_of};
 ghost use Rattle.vb_tool.specs.Budget.{max_execution_budget};
 ghost use Rattle.vb_tool.specs.Call.{Misses, NamesFile, Refuses, Does, Promises};
 ghost use Rattle.vb_tool.specs.Command.{Translate, Run, Replay, Make, Execute, Cut, Condition};
 ghost use Rattle.vb_tool.specs.Parts.{command_of, work_status, work_text, CanBeWritten};
+ghost use Rattle.vb_tool.specs.Works.{Works, told_of};
 ghost use Rattle.vb_tool.specs.declared.status.Refusal.TheVariants as refusal;
 
 use crate::budget::MAX_EXECUTION_BUDGET;
@@ -19,14 +17,13 @@ use crate::making::summary;
 use crate::outcome::{Ending, Work};
 use crate::procedures::replayed;
 use crate::stages::{outcome, typed_program};
-use crate::status::{Refusal, Status};
+use crate::status::Refusal;
 use crate::trouble::Trouble;
 use crate::words::Command;
 use std::alloc::Global;
 use vb_base::Label;
 use vb_base::limits::{MAX_BOOGIE_BYTES, MAX_VIPER_BYTES};
 use vb_outer::{FileFault, Shelf, read_file};
-use viper_core::Program;
 
 /// Does what a command asks for, but for writing it.
 pub fn work<H: Shelf>(alloc: Global, shelf: &mut H, command: Command) -> Result<Work, Trouble>
@@ -39,51 +36,38 @@ pub fn work<H: Shelf>(alloc: Global, shelf: &mut H, command: Command) -> Result<
     ensures files { H.files shelf.new ≡ H.files shelf.old }
 {
     match command {
-        Command::Translate(file) => match translate(alloc, shelf, file) {
-            Ok(program) => Ok(Work::Translate(program)),
-            Err(trouble) => Err(trouble),
-        },
-        Command::Run(file, unit, run_file) => match run(alloc, shelf, file, unit, run_file) {
-            Ok(told) => Ok(Work::Tell(told)),
-            Err(trouble) => Err(trouble),
-        },
-        Command::Replay(file, run_file) => match replay(alloc, shelf, file, run_file) {
-            Ok(told) => Ok(Work::Tell(told)),
-            Err(trouble) => Err(trouble),
-        },
-        Command::Make(count) => match summary(alloc, count) {
-            Ok(told) => Ok(Work::Tell(told)),
-            Err(trouble) => Err(trouble),
-        },
+        Command::Translate(file) => translate(alloc, shelf, file),
+        Command::Run(file, unit, run_file) => run(alloc, shelf, file, unit, run_file),
+        Command::Replay(file, run_file) => replay(alloc, shelf, file, run_file),
+        Command::Make(count) => tell(summary(alloc, count)),
         Command::Execute(file, method, run_file, budget) => {
-            match execute(alloc, shelf, file, method, run_file, budget) {
-                Ok(told) => Ok(Work::Tell(told)),
-                Err(trouble) => Err(trouble),
-            }
+            execute(alloc, shelf, file, method, run_file, budget)
         }
-        Command::Cut(file) => match cut(alloc, shelf, file) {
-            Ok(told) => Ok(Work::Tell(told)),
-            Err(trouble) => Err(trouble),
-        },
+        Command::Cut(file) => cut(alloc, shelf, file),
         Command::Condition(file, procedure, label) => {
-            match condition(alloc, shelf, file, procedure, label) {
-                Ok(told) => Ok(Work::Tell(told)),
-                Err(trouble) => Err(trouble),
-            }
+            condition(alloc, shelf, file, procedure, label)
         }
     }
 }
 
+/// What is told, as a work.
+fn tell(told: Result<Ending, Trouble>) -> Result<Work, Trouble>
+    ensures { result ≡ told_of told }
+{
+    match told {
+        Ok(told) => Ok(Work::Tell(told)),
+        Err(trouble) => Err(trouble),
+    }
+}
+
 /// Reads a file, whose program is to be translated.
-fn translate<H: Shelf>(alloc: Global, shelf: &mut H, file: &str) -> Result<Program, Trouble>
-    ensures work { IfOk result (λ p. Does (IsWhole (H.files shelf.old)) (Translate file.now) Status.Done (text_of (program_of p))) }
-    ensures formed { IfOk result (λ p. IsFormed (program_of p)) }
-    ensures refused { (r : Refusal) → IsErrOf result (Trouble.Refused r) → Refuses (IsWhole (H.files shelf.old)) (Translate file.now) r }
-    ensures read { IsErrOf result Trouble.Read → Misses (H.files shelf.old) (Translate file.now) ⊎ Rose (H.faults shelf.old) (H.faults shelf.new) }
-    ensures files { H.files shelf.new ≡ H.files shelf.old }
+fn translate<H: Shelf>(alloc: Global, shelf: &mut H, file: &str) -> Result<Work, Trouble>
+    ensures { Works (H.files shelf.old) (H.files shelf.new) (H.faults shelf.old) (H.faults shelf.new)
+        (Translate file.now) result }
 {
     let source = read_file(alloc, shelf, file, MAX_VIPER_BYTES)?;
-    typed_program(alloc, &source)
+    let program = typed_program(alloc, &source)?;
+    Ok(Work::Translate(program))
 }
 
 /// Reads a file and then a run file, and runs a unit.
@@ -93,16 +77,13 @@ fn run<H: Shelf>(
     file: &str,
     unit: &str,
     run_file: &str,
-) -> Result<Ending, Trouble>
-    ensures work { IfOk result (λ t. Does (IsWhole (H.files shelf.old)) (Run file.now unit.now run_file.now) t.status t.text.items) }
-    ensures promises { IfOk result (λ t. Promises (IsWhole (H.files shelf.old)) (Run file.now unit.now run_file.now) t.status t.text.items) }
-    ensures refused { (r : Refusal) → IsErrOf result (Trouble.Refused r) → Refuses (IsWhole (H.files shelf.old)) (Run file.now unit.now run_file.now) r }
-    ensures read { IsErrOf result Trouble.Read → Misses (H.files shelf.old) (Run file.now unit.now run_file.now) ⊎ Rose (H.faults shelf.old) (H.faults shelf.new) }
-    ensures files { H.files shelf.new ≡ H.files shelf.old }
+) -> Result<Work, Trouble>
+    ensures { Works (H.files shelf.old) (H.files shelf.new) (H.faults shelf.old) (H.faults shelf.new)
+        (Run file.now unit.now run_file.now) result }
 {
     let bytes = read_file(alloc, shelf, file, MAX_VIPER_BYTES)?;
     let run_bytes = read_run_file(alloc, shelf, run_file, MAX_VIPER_BYTES)?;
-    outcome(alloc, &bytes, unit, &run_bytes)
+    tell(outcome(alloc, &bytes, unit, &run_bytes))
 }
 
 /// Reads a file of Boogie and then a run file, and runs a procedure.
@@ -111,15 +92,13 @@ fn replay<H: Shelf>(
     shelf: &mut H,
     file: &str,
     run_file: &str,
-) -> Result<Ending, Trouble>
-    ensures work { IfOk result (λ t. Does (IsWhole (H.files shelf.old)) (Replay file.now run_file.now) t.status t.text.items) }
-    ensures refused { (r : Refusal) → IsErrOf result (Trouble.Refused r) → Refuses (IsWhole (H.files shelf.old)) (Replay file.now run_file.now) r }
-    ensures read { IsErrOf result Trouble.Read → Misses (H.files shelf.old) (Replay file.now run_file.now) ⊎ Rose (H.faults shelf.old) (H.faults shelf.new) }
-    ensures files { H.files shelf.new ≡ H.files shelf.old }
+) -> Result<Work, Trouble>
+    ensures { Works (H.files shelf.old) (H.files shelf.new) (H.faults shelf.old) (H.faults shelf.new)
+        (Replay file.now run_file.now) result }
 {
     let bytes = read_file(alloc, shelf, file, MAX_BOOGIE_BYTES)?;
     let run_bytes = read_run_file(alloc, shelf, run_file, MAX_BOOGIE_BYTES)?;
-    replayed(alloc, &bytes, &run_bytes)
+    tell(replayed(alloc, &bytes, &run_bytes))
 }
 
 /// Reads a file and then a run file, and executes a method with a budget; where that is too great, nothing is read.
@@ -130,12 +109,9 @@ fn execute<H: Shelf>(
     method: &str,
     run_file: &str,
     budget: u32,
-) -> Result<Ending, Trouble>
-    ensures work { IfOk result (λ t. Does (IsWhole (H.files shelf.old)) (Execute file.now method.now run_file.now budget) t.status t.text.items) }
-    ensures promises { IfOk result (λ t. Promises (IsWhole (H.files shelf.old)) (Execute file.now method.now run_file.now budget) t.status t.text.items) }
-    ensures refused { (r : Refusal) → IsErrOf result (Trouble.Refused r) → Refuses (IsWhole (H.files shelf.old)) (Execute file.now method.now run_file.now budget) r }
-    ensures read { IsErrOf result Trouble.Read → Misses (H.files shelf.old) (Execute file.now method.now run_file.now budget) ⊎ Rose (H.faults shelf.old) (H.faults shelf.new) }
-    ensures files { H.files shelf.new ≡ H.files shelf.old }
+) -> Result<Work, Trouble>
+    ensures { Works (H.files shelf.old) (H.files shelf.new) (H.faults shelf.old) (H.faults shelf.new)
+        (Execute file.now method.now run_file.now budget) result }
 {
     if budget > MAX_EXECUTION_BUDGET {
         return Err(Trouble::Refused(Refusal::Range));
@@ -151,29 +127,23 @@ fn execute_within<H: Shelf>(
     method: &str,
     run_file: &str,
     budget: u32,
-) -> Result<Ending, Trouble>
+) -> Result<Work, Trouble>
     requires { budget ≤ max_execution_budget }
-    ensures work { IfOk result (λ t. Does (IsWhole (H.files shelf.old)) (Execute file.now method.now run_file.now budget) t.status t.text.items) }
-    ensures promises { IfOk result (λ t. Promises (IsWhole (H.files shelf.old)) (Execute file.now method.now run_file.now budget) t.status t.text.items) }
-    ensures refused { (r : Refusal) → IsErrOf result (Trouble.Refused r) → Refuses (IsWhole (H.files shelf.old)) (Execute file.now method.now run_file.now budget) r }
-    ensures read { IsErrOf result Trouble.Read → Misses (H.files shelf.old) (Execute file.now method.now run_file.now budget) ⊎ Rose (H.faults shelf.old) (H.faults shelf.new) }
-    ensures files { H.files shelf.new ≡ H.files shelf.old }
+    ensures { Works (H.files shelf.old) (H.files shelf.new) (H.faults shelf.old) (H.faults shelf.new)
+        (Execute file.now method.now run_file.now budget) result }
 {
     let text = read_file(alloc, shelf, file, MAX_VIPER_BYTES)?;
     let run_text = read_run_file(alloc, shelf, run_file, MAX_VIPER_BYTES)?;
-    executed(alloc, &text, method, &run_text, budget)
+    tell(executed(alloc, &text, method, &run_text, budget))
 }
 
 /// Reads a file of Boogie with loops and calls, and writes it without them.
-fn cut<H: Shelf>(alloc: Global, shelf: &mut H, file: &str) -> Result<Ending, Trouble>
-    ensures work { IfOk result (λ t. Does (IsWhole (H.files shelf.old)) (Cut file.now) t.status t.text.items) }
-    ensures promises { IfOk result (λ t. Promises (IsWhole (H.files shelf.old)) (Cut file.now) t.status t.text.items) }
-    ensures refused { (r : Refusal) → IsErrOf result (Trouble.Refused r) → Refuses (IsWhole (H.files shelf.old)) (Cut file.now) r }
-    ensures read { IsErrOf result Trouble.Read → Misses (H.files shelf.old) (Cut file.now) ⊎ Rose (H.faults shelf.old) (H.faults shelf.new) }
-    ensures files { H.files shelf.new ≡ H.files shelf.old }
+fn cut<H: Shelf>(alloc: Global, shelf: &mut H, file: &str) -> Result<Work, Trouble>
+    ensures { Works (H.files shelf.old) (H.files shelf.new) (H.faults shelf.old) (H.faults shelf.new)
+        (Cut file.now) result }
 {
     let bytes = read_file(alloc, shelf, file, MAX_BOOGIE_BYTES)?;
-    without_loops(alloc, &bytes)
+    tell(without_loops(alloc, &bytes))
 }
 
 /// Reads a file of Boogie, and states the formula of one of its procedures and a label.
@@ -183,15 +153,12 @@ fn condition<H: Shelf>(
     file: &str,
     procedure: &str,
     label: Label,
-) -> Result<Ending, Trouble>
-    ensures work { IfOk result (λ t. Does (IsWhole (H.files shelf.old)) (Condition file.now procedure.now label) t.status t.text.items) }
-    ensures promises { IfOk result (λ t. Promises (IsWhole (H.files shelf.old)) (Condition file.now procedure.now label) t.status t.text.items) }
-    ensures refused { (r : Refusal) → IsErrOf result (Trouble.Refused r) → Refuses (IsWhole (H.files shelf.old)) (Condition file.now procedure.now label) r }
-    ensures read { IsErrOf result Trouble.Read → Misses (H.files shelf.old) (Condition file.now procedure.now label) ⊎ Rose (H.faults shelf.old) (H.faults shelf.new) }
-    ensures files { H.files shelf.new ≡ H.files shelf.old }
+) -> Result<Work, Trouble>
+    ensures { Works (H.files shelf.old) (H.files shelf.new) (H.faults shelf.old) (H.faults shelf.new)
+        (Condition file.now procedure.now label) result }
 {
     let bytes = read_file(alloc, shelf, file, MAX_BOOGIE_BYTES)?;
-    stated(alloc, &bytes, procedure, label)
+    tell(stated(alloc, &bytes, procedure, label))
 }
 
 /// Reads a run file, which may have so many bytes.

@@ -1,8 +1,10 @@
 use Rattle.std.proofs.Common.{refl}
-use Rattle.tool_words.proofs.FileLaws.{error_is}
-use Rattle.vb_tool.proofs.CallLaws.{budget_refused}
+use Rattle.vb_tool.proofs.WorkLaws.{budget_works}
 use Rattle.vb_tool.proofs.works.execute.Goals as goal
 
-pub returns-then-budget-gt-MAX_EXECUTION_BUDGET-clause-refused : goal.returns-then-budget-gt-MAX_EXECUTION_BUDGET-clause-refused
-returns-then-budget-gt-MAX_EXECUTION_BUDGET-clause-refused g c r is_r =
-    budget_refused (g.H.Shelf.files c.args.shelf.now) c.args.file.now c.args.method.now c.args.run_file.now c.args.budget r c.if-budget-gt-MAX_EXECUTION_BUDGET.true (error_is refl is_r)
+pub returns-then-budget-gt-MAX_EXECUTION_BUDGET : goal.returns-then-budget-gt-MAX_EXECUTION_BUDGET
+returns-then-budget-gt-MAX_EXECUTION_BUDGET g c =
+    budget_works refl c.args.file.now c.args.method.now c.args.run_file.now c.args.budget c.if-budget-gt-MAX_EXECUTION_BUDGET.true
+
+pub returns : goal.returns
+returns g c = c.execute_within.ensures

@@ -1,54 +1,23 @@
-use Rattle.std.proofs.Common.{◌∙◌, Err, ap, sym, subst}
-use Rattle.std.proofs.lemmas.Result.{err_from_is_err_and}
+use Rattle.std.proofs.Common.{◌∙◌, [], ◌∷◌, refl}
 use Rattle.vb_tool.specs.Accepted as accepted
-use Rattle.vb_outer.specs.Shelf.{IsLonger, IsWhole}
 use Rattle.vb_tool.specs.Call as call
-use Rattle.tool_words.proofs.FileLaws.{error_is}
-use Rattle.vb_tool.proofs.CallLaws.{file_refusal, file_unread, first_missing, second_missing, too_long, run_too_long, run_result_does, run_result_promises}
+use Rattle.vb_tool.specs.Command.{Run}
+use Rattle.vb_tool.proofs.WorkLaws.{seen_whole, first_unread, second_unread, run_works}
 use Rattle.vb_tool.proofs.works.run.Goals as goal
 
-pub returns-in_err-bytes-clause-refused : goal.returns-in_err-bytes-clause-refused
-returns-in_err-bytes-clause-refused g c r is_r =
-    let p = err_from_is_err_and c.from_residual.result c.from_residual.ensures.1 in
-    let files = g.H.Shelf.files c.args.shelf.now in
-    too_long files _ c.args.file.now 1048576 r
-    (file_refusal files c.args.file.now 1048576 c.in_err-bytes.field-0.0 r (λ long. c.in_err-bytes.ensures.long (ap (λ fault. Err fault) long)) (sym p.2 ∙ error_is p.1 is_r))
-    (λ bytes is above. call.too_long bytes is above)
+pub returns-in_err-bytes : goal.returns-in_err-bytes
+returns-in_err-bytes g c =
+    first_unread (Run c.args.file.now c.args.unit.now c.args.run_file.now) c.in_err-bytes.ensures.same c.args.file.now (c.args.run_file.now ∷ []) c.in_err-bytes.field-0.0 refl tt c.from_residual.ensures.1
+    c.in_err-bytes.ensures.long c.in_err-bytes.ensures.failed (λ bytes is above. call.too_long bytes is above)
 
-pub returns-in_err-bytes-clause-read : goal.returns-in_err-bytes-clause-read
-returns-in_err-bytes-clause-read g c is_read =
-    let p = err_from_is_err_and c.from_residual.result c.from_residual.ensures.1 in
-    first_missing tt (file_unread _ c.in_err-bytes.field-0.0 (λ failed. c.in_err-bytes.ensures.failed (ap (λ fault. Err fault) failed)) (sym p.2 ∙ error_is p.1 is_read))
+pub returns-in_err-run_bytes : goal.returns-in_err-run_bytes
+returns-in_err-run_bytes g c =
+    second_unread (Run c.args.file.now c.args.unit.now c.args.run_file.now) (c.in_err-run_bytes.ensures.files ∙ c.in_ok-bytes.ensures.same) c.args.file.now c.args.run_file.now c.in_ok-bytes.bytes.items c.in_err-run_bytes.field-0.0 refl tt
+    c.in_ok-bytes.ensures.whole c.in_ok-bytes.ensures.within c.in_ok-bytes.ensures.same c.in_ok-bytes.ensures.later c.from_residual-in_err-run_bytes.ensures.1
+    c.in_err-run_bytes.ensures.refused c.in_err-run_bytes.ensures.read (λ run_bytes is above. call.runs c.in_ok-bytes.bytes.items run_bytes c.in_ok-bytes.ensures.whole is (accepted.run_size c.in_ok-bytes.ensures.within above))
 
-pub returns-in_err-run_bytes-clause-refused : goal.returns-in_err-run_bytes-clause-refused
-returns-in_err-run_bytes-clause-refused g c r is_r =
-    let p = err_from_is_err_and c.from_residual-in_err-run_bytes.result c.from_residual-in_err-run_bytes.ensures.1 in
-    let files = g.H.Shelf.files c.args.shelf.now in
-    let long = c.in_err-run_bytes.ensures.refused r (ap (λ t. Err t) (sym p.2 ∙ error_is p.1 is_r)) in
-    run_too_long files c.args.file.now c.args.unit.now c.args.run_file.now c.in_ok-bytes.bytes.items r c.in_ok-bytes.ensures.whole c.in_ok-bytes.ensures.within
-    long.0 (subst (λ f. IsLonger f c.args.run_file.now 1048576) c.in_ok-bytes.ensures.same long.1)
-
-pub returns-in_err-run_bytes-clause-read : goal.returns-in_err-run_bytes-clause-read
-returns-in_err-run_bytes-clause-read g c is_read =
-    let p = err_from_is_err_and c.from_residual-in_err-run_bytes.result c.from_residual-in_err-run_bytes.ensures.1 in
-    let files = g.H.Shelf.files c.args.shelf.now in
-    second_missing tt files c.args.file.now c.args.run_file.now c.in_ok-bytes.bytes.items 1048576 _ _ _ c.in_ok-bytes.ensures.whole c.in_ok-bytes.ensures.within c.in_ok-bytes.ensures.later
-    (rw (← c.in_ok-bytes.ensures.same) (c.in_err-run_bytes.ensures.read (ap (λ t. Err t) (sym p.2 ∙ error_is p.1 is_read))))
-
-pub returns-clause-refused : goal.returns-clause-refused
-returns-clause-refused g c r is_r =
-    let why = c.outcome.ensures.refused r is_r in
-    call.runs c.in_ok-bytes.bytes.items c.in_ok-run_bytes.run_bytes.items c.in_ok-bytes.ensures.whole
-    (subst (λ f. IsWhole f c.args.run_file.now c.in_ok-run_bytes.run_bytes.items) c.in_ok-bytes.ensures.same c.in_ok-run_bytes.ensures.whole)
-    (subst (λ b. accepted.IsRunRefusal b c.args.unit.now c.in_ok-run_bytes.run_bytes.items r) c.deref.ensures.value
-    (subst (λ b. accepted.IsRunRefusal c.deref.result.now c.args.unit.now b r) c.deref-2.ensures.value why))
-
-pub returns-clause-work : goal.returns-clause-work
-returns-clause-work g c = run_result_does _ _ _ _ _ _ _ c.in_ok-bytes.ensures.whole
-    (subst (λ f. IsWhole f c.args.run_file.now c.in_ok-run_bytes.run_bytes.items) c.in_ok-bytes.ensures.same c.in_ok-run_bytes.ensures.whole)
-    (rw (← c.deref.ensures.value, ← c.deref-2.ensures.value) c.outcome.ensures.told)
-
-pub returns-clause-promises : goal.returns-clause-promises
-returns-clause-promises g c = run_result_promises _ _ _ _ _ _ _ c.in_ok-bytes.ensures.whole
-    (subst (λ f. IsWhole f c.args.run_file.now c.in_ok-run_bytes.run_bytes.items) c.in_ok-bytes.ensures.same c.in_ok-run_bytes.ensures.whole)
-    (rw (← c.deref.ensures.value, ← c.deref-2.ensures.value) c.outcome.ensures.told)
+pub returns : goal.returns
+returns g c =
+    run_works (c.in_ok-run_bytes.ensures.files ∙ c.in_ok-bytes.ensures.same) c.args.file.now c.args.unit.now c.args.run_file.now c.deref.result.now c.deref-2.result.now c.outcome.result c.tell.ensures
+    (seen_whole c.args.file.now refl c.deref.ensures.value c.in_ok-bytes.ensures.whole) (seen_whole c.args.run_file.now c.in_ok-bytes.ensures.same c.deref-2.ensures.value c.in_ok-run_bytes.ensures.whole)
+    c.outcome.ensures.told c.outcome.ensures.refused c.outcome.ensures.read

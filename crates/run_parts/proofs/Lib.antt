@@ -1,0 +1,4 @@
+pub mod AloneLaws
+pub mod BegunLaws
+pub mod RunBodyLaws
+pub mod KeptLaws
