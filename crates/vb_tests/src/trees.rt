@@ -83,7 +83,7 @@ fn is_file_sent(alloc: Global, file: &str) -> Result<bool, Fail> {
 /// What is printed of the tree of each program is what is sent of it.
 #[test]
 fn trees_have_the_text_that_is_sent(rt: HostRuntime) -> Result<(), Fail> {
-    for file in PROGRAMS.lines() {
+    for file in PROGRAMS.split("\n\n") {
         assert!(rt; is_file_sent(rt.alloc(), file)?, "{file}");
     }
     assert!(rt; is_file_sent(rt.alloc(), LISTS)?, "lists");
