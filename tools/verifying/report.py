@@ -87,7 +87,7 @@ class Report:
 
     def smoke(self, at, unit, result):
         if result.smoke == "vain":
-            self.line(f"{at}: warning: `{unit.name}` is verified in vain: {VAIN}")
+            self.line(f"{at}: warning: `{unit.name}` is verified vacuously: {VAIN}")
         elif result.smoke == "done":
             if not self.options.runs:
                 self.line(f"{at}: note: a run of `{unit.name}` is done, as `run` says")

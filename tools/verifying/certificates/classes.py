@@ -5,14 +5,20 @@ APPLIED = ("at", "*", "/", "div", "mod", *LINEAR, *CONSTRUCTORS)
 FOLDED = ("+", "-", "neg", "toreal", "*", "/")
 
 
+def class_key(name):
+    """By what the agenda knows a class, apart from literals."""
+    return ("class", name)
+
+
 class Classes:
     """`names` has the class of each term by one of its terms; `members`, `uses`, `constants`, `made` and `differ` are by class: its terms,
-    what is applied to them, a constant, a content that is made by a constructor, and the equations about it that are false."""
+    what is applied to them, a constant, a content that is made by a constructor, and the equations about it that are false. `touched`
+    has what happened to classes since it was last cleared, in words of the agenda."""
 
     def __init__(self, terms, steps):
         self.terms, self.steps, self.search = terms, steps, None
         self.names, self.members, self.uses, self.constants, self.made, self.differ = {}, {}, {}, {}, {}, {}
-        self.proof, self.table, self.undo, self.marks, self.pending, self.conflict, self.news = {}, {}, [], [], [], None, []
+        self.proof, self.table, self.undo, self.marks, self.pending, self.conflict, self.news, self.touched = {}, {}, [], [], [], None, [], []
 
     # ---- what is assigned
 
@@ -99,6 +105,7 @@ class Classes:
         self.differ[a].append(equation)
         self.differ[b].append(equation)
         self.undo.append(("separate", a, b))
+        self.touched.append(("parted", class_key(a), class_key(b)))
         if a == b and not self.conflict:
             self.conflict = ("differ", equation)
 
@@ -142,7 +149,10 @@ class Classes:
             self.sign(it)
         if why[0] == "same" and self.terms.types[abs(a)] == "bool":
             self.news.append(("truths", a, b))
+        known = self.constants[new], self.made[new]
         self.join(old, new, moved, stayed)
+        differing = [class_key(self.names[it]) for equation in self.differ[old] for it in self.terms.nodes[equation][1:]]
+        self.touched.append(("joined", class_key(old), class_key(new), known != (self.constants[new], self.made[new]), differing))
 
     def join(self, old, new, moved, stayed):
         """The constant and the content of two classes that are one now."""

@@ -22,13 +22,14 @@ class Steps:
 
 class Search:
     """`value` has 1 for a literal that is true and -1 for its negation, `level`, `reason` and `place` are by variable. A theory is told
-    of each literal that is assigned, and answers with a step that it contradicts, or None."""
+    of each literal that is assigned, and answers with a step that it contradicts, or None. `goal` is the literal that is to be false:
+    nothing more follows from what is assigned once it is."""
 
     def __init__(self, steps):
         self.steps, self.value, self.level, self.reason, self.place = steps, {}, {}, {}, {}
         self.trail, self.limits, self.head, self.told = [], [], 0, 0
         self.watched, self.clauses, self.units, self.theory, self.unit_steps = {}, {}, [], None, {}
-        self.conflicts = 0
+        self.conflicts, self.goal = 0, None
 
     def assign(self, literal, reason, level=None):
         variable = abs(literal)
@@ -75,20 +76,24 @@ class Search:
 
     def propagate(self):
         """Assigns what follows, and gives back a step that is false, or None."""
-        while True:
-            while self.head < len(self.trail):
+        while not self.is_done():
+            while self.head < len(self.trail) and not self.is_done():
                 literal = -self.trail[self.head]
                 self.head += 1
                 if literal in self.watched:
                     conflict = self.follow(literal)
                     if conflict:
                         return conflict
-            if self.told == len(self.trail):
+            if self.told == len(self.trail) or self.is_done():
                 return None
             self.told += 1
             conflict = self.theory.assigned(self.trail[self.told - 1])
             if conflict:
                 return conflict
+        return None
+
+    def is_done(self):
+        return self.value.get(self.goal) == -1
 
     def follow(self, literal):
         watching, value, kept = self.watched[literal], self.value, []

@@ -2,6 +2,7 @@
 import math
 import time
 
+from .agenda import Agenda
 from .clauses import Search, Steps
 from .equality import Equality
 from .numbers import Numbers
@@ -17,7 +18,8 @@ class NoCertificate(Exception):
 
 
 class Prover(Truths):
-    """`found` of a round is a literal to decide; `seen` what was looked at in it."""
+    """Refutes one failing name after the other. `bases` are the places on the way to it that are decided, each in a level of its own: what
+    was looked at there is not looked at anew for the next name behind them."""
 
     def __init__(self, conditions, until=math.inf):
         self.until = until
@@ -30,7 +32,8 @@ class Prover(Truths):
         self.factors, self.extra = {}, []
         self.paths, self.bases = Paths(self.terms, self.steps), []
         self.gated, self.bodies, self.triggers, self.laws = set(), set(), {}, {}
-        self.seen, self.found, self.todo, self.branches = set(), None, [], 0
+        self.agenda, self.it, self.branches, self.looked_through = Agenda(), None, 0, None
+        self.by_side = True
         for number, (names, types, body) in conditions.foralls.items():
             self.watch(number, names, body)
 
@@ -38,11 +41,14 @@ class Prover(Truths):
 
     def mark(self):
         self.equality.mark()
+        self.agenda.mark()
 
     def back(self, level):
         self.equality.back(level)
+        self.agenda.back(level)
 
     def assigned(self, literal):
+        self.agenda.changed(abs(literal))
         conflict = self.equality.assigned(literal)
         while not conflict and self.equality.news:
             kind, one, two = self.equality.news.pop(0)
@@ -94,10 +100,18 @@ class Prover(Truths):
 
     # ---- a failing name
 
+    def refute_all(self, failing):
+        """The steps that say of each of these literals alone that it is false. At first a run behind a branch is looked at where it came
+        through the side that was looked at last, so that what is known there is not looked at anew; and then the other side."""
+        steps = {it: self.refute(it) for it in dict.fromkeys(failing)}
+        self.by_side = False
+        return [steps[it] or self.refute(it) for it in failing]
+
     def refute(self, failing):
-        """The step that says alone that a literal is false. Decided are first the places that its run comes through, and then it."""
-        search, self.bounded = self.search, set()
-        conflict = self.gate(abs(failing)) or search.propagate()
+        """The step that says alone that a literal is false; None where that hangs on the side of a branch. Decided are first the place
+        where it parts from the one before, then its own place, and then it."""
+        search, self.bounded, self.search.goal = self.search, set(), failing
+        conflict = self.gate(abs(failing)) or self.leave(failing) or search.propagate()
         while True:
             if time.monotonic() > self.until:
                 raise NoCertificate()
@@ -109,48 +123,65 @@ class Prover(Truths):
             elif search.value.get(failing) == -1:
                 return self.refuted(failing)
             elif search.value.get(failing) != 1:
-                self.come_to(failing)
-                conflict = search.propagate()
+                conflict = self.look()
+                if not conflict and failing not in search.value:
+                    self.come_to(failing)
+                    conflict = search.propagate()
             else:
-                conflict = self.look(failing) or self.equality.cycle() or self.numbers.check()
-                if not conflict and not self.changed:
-                    conflict = self.go_on()
-                conflict = conflict or search.propagate()
+                self.look_at(failing, *self.extra)
+                conflict = self.look() or self.equality.cycle() or self.numbers.check() or self.go_on() or search.propagate()
 
     def refuted(self, failing):
         """The step that says alone that a literal is false, where it is. What is decided is what it implies."""
         search = self.search
         if search.level[abs(failing)] == 0:
             return search.unit(abs(failing))
-        if all(self.paths.climb(failing, it) is not None for it in self.bases):
-            step = Explained(self.paths, search, failing).step()
-            self.attach(step)
+        explained = Explained(self.paths, search, failing)
+        step = explained.step()
+        self.attach(step)
+        if not explained.assumed:
             return step
+        if self.by_side:
+            return None
         search.back(0)
         self.bases = []
         return self.refute(failing)
 
+    def leave(self, failing):
+        """Goes back to what is on the way to a failing name, and decides where it parted from that."""
+        kept = len(self.bases)
+        while kept and not self.is_behind(failing, self.bases[kept - 1]):
+            kept -= 1
+        if kept < len(self.bases):
+            shared = self.paths.meet(self.bases[kept], failing)
+            del self.bases[kept:]
+            self.search.back(kept)
+            if shared is not None and shared not in self.search.value:
+                self.decide_base(shared)
+
     def come_to(self, failing):
         """Decides the place of a failing name, or the name."""
         search, node = self.search, self.terms.nodes[abs(failing)]
-        kept = 0
-        while kept < len(self.bases) and self.paths.climb(failing, self.bases[kept]) is not None:
-            kept += 1
         place = node[1] if failing > 0 and node[0] == "&&" and self.paths.climb(failing, node[1]) is not None else None
-        if kept < len(self.bases):
-            del self.bases[kept:]
-            search.back(kept)
-        elif place and place not in search.value:
-            self.bases.append(place)
-            search.decide(place)
+        if place and place not in search.value:
+            self.decide_base(place)
         elif len(search.limits) > len(self.bases):
             search.back(len(self.bases))
         else:
             search.decide(failing)
 
+    def is_behind(self, failing, place):
+        return self.paths.climb(failing, place) is not None or (self.by_side and self.paths.may_pass(failing, place))
+
+    def decide_base(self, place):
+        """Decides a place, and looks at what is known there."""
+        self.bases.append(place)
+        self.search.decide(place)
+        self.look_at(place)
+
     def go_on(self):
         """Decides what was found. Gives back a step that is false, or None."""
-        for n, *choice in self.choices:
+        for n, *choice in list(self.agenda.choices.values()):
             key = (n, *(self.equality.names.get(it) for it in choice[1]))
             if key not in self.bounded:
                 self.bounded.add(key)
@@ -160,17 +191,22 @@ class Prover(Truths):
                         return conflict
         if self.search.told < len(self.search.trail):
             return None
-        if self.found is None and self.extend():
+        found = self.agenda.wanted(self.search.value)
+        if found is None and self.looked_through != len(self.search.trail):
+            self.looked_through = len(self.search.trail)
+            self.agenda.wake_all()
             return None
-        if self.found is None:
-            step, self.found = self.numbers.branch(self.factors) or (None, None)
+        if found is None and self.extend():
+            return None
+        if found is None:
+            step, found = self.numbers.branch(self.factors) or (None, None)
             self.branches += 1
-            if self.found is None or self.branches > MOST_BRANCHES:
+            if found is None or self.branches > MOST_BRANCHES:
                 raise NoCertificate()
             conflict = self.attach(step) if step else None
-            if conflict or self.found in self.search.value:
+            if conflict or found in self.search.value:
                 return conflict
-        self.search.decide(self.found)
+        self.search.decide(found)
         return None
 
     def extend(self):

@@ -9,7 +9,7 @@ def certificate(text, until=math.inf):
     """A certificate's text; NoCertificate where none was found before that time."""
     conditions = Conditions(text)
     prover = Prover(conditions, until)
-    wanted = [prover.refute(conditions.lets[name]) for name in conditions.fails]
+    wanted = prover.refute_all([conditions.lets[name] for name in conditions.fails])
     return written(conditions, prover.steps, wanted)
 
 

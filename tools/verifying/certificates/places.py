@@ -18,16 +18,18 @@ class Places:
         if node[0] in CONSTRUCTORS and node[0] == "sBool":
             return self.known_truth(node[1])
         if node[0] in ("div", "mod", "/", "*"):
-            self.todo += node[1:]
+            self.look_at(*node[1:])
             return self.product(n, node)
         if node[0] not in ("var", "int", "real", "null", "unit"):
-            self.todo += node[1:]
+            self.look_at(*node[1:])
         return None
 
     def known_truth(self, literal):
         """A truth value that is a part of something equals true or false."""
-        self.todo.append(literal)
+        self.look_at(literal)
         value = self.search.value.get(literal)
+        if value is None:
+            self.wait_for(literal)
         if value is None or abs(literal) == self.terms.true:
             return None
         equation = self.terms.equal(literal, self.terms.true * value)
@@ -40,7 +42,7 @@ class Places:
             return self.open(n, condition, values)
         j = 0 if value == 1 else 1
         equation = self.side(n, values[j])
-        self.todo += [condition, equation]
+        self.look_at(condition, equation)
         return self.attach(self.case(equation, condition, j))
 
     def case(self, equation, condition, j):
@@ -48,6 +50,7 @@ class Places:
 
     def open(self, n, condition, values):
         """A choice whose condition is not known: its values are looked at first, and then the condition."""
+        self.wait_for(condition)
         if self.terms.types[n] != "bool":
             for it in values:
                 self.equality.register(it)
@@ -56,18 +59,17 @@ class Places:
                 return conflict
             if self.equality.names[values[0]] == self.equality.names[values[1]]:
                 equation = self.side(n, values[0])
-                self.todo.append(equation)
+                self.look_at(equation)
                 cases = [self.case(self.side(n, it), condition, j) for j, it in enumerate(values)]
                 return self.attach(self.equality.either(equation, n, values, cases))
-            if (n, "open") not in self.seen:
-                self.seen.add((n, "open"))
-                self.seen.discard(n)
-                self.todo += [n, *values]
+            if self.agenda.note((n, "open")):
+                self.look_again(n, *values)
                 return None
+            self.wait_for_classes(*values)
             if self.terms.types[n] in NUMBERS:
                 cases = [self.case(self.side(n, it), condition, j) for j, it in enumerate(values)]
-                self.choices.append((n, condition, values, cases))
-        self.todo.append(condition)
+                self.agenda.choices[self.it] = (n, condition, values, cases)
+        self.look_at(condition)
         return None
 
     def side(self, left, right):
@@ -76,7 +78,7 @@ class Places:
 
     def read(self, n, node):
         _, changed, *keys = node
-        self.todo += [it for it in keys if it > 0]
+        self.look_at(*(it for it in keys if it > 0))
         source = self.terms.nodes[changed]
         conflict = self.triggered(changed, keys)
         if conflict or source[0] == "var":
@@ -98,14 +100,16 @@ class Places:
                 equations.append(equation)
         if differ:
             result = self.side(n, self.terms.make("at", before, *keys))
-            self.todo.append(result)
+            self.look_at(result)
             return self.attach(self.steps.add([differ, result], "miss", result, differ))
         if unknown:
             self.gate(unknown)
+            self.wait_for(*equations)
+            self.wait_for_classes(*(it for it in (*keys, *put) if self.terms.types[abs(it)] != "bool"))
             self.want(-unknown)
             return None
         result = self.side(n, value)
-        self.todo.append(result)
+        self.look_at(result)
         return self.attach(self.steps.add([result, *(-it for it in equations)], "hit", result, *equations))
 
     def known(self, equation, left, right):
@@ -145,9 +149,11 @@ class Places:
 
     def triggered(self, changed, keys):
         for number in self.triggers.get(changed, ()):
-            if self.search.value.get(number) == 1:
+            if self.search.value.get(number) != 1:
+                self.wait_for(number)
+            else:
                 literal, step = self.instance(number, tuple(keys))
-                self.todo.append(literal)
+                self.look_at(literal)
                 conflict = self.attach(step)
                 if conflict:
                     return conflict
@@ -169,7 +175,8 @@ class Places:
         steps, look = self.products.about(n, node)
         if look and look[0] == n:
             self.factors[n] = self.factors.get(n)
-        self.todo += [it for it in look if it != n]
+        self.look_at(*(it for it in look if it != n))
+        self.wait_for_classes(*node[1:])
         for step in steps:
             conflict = self.attach(step)
             if conflict:

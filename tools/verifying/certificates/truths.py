@@ -1,91 +1,93 @@
 """What a literal needs to be so: its parts are looked at, and what is open is decided where no term decides it."""
+from .classes import class_key
 from .places import Places
 
 NAMES = {"&&": "and", "==": "equal", "<=": "less"}
 
 
 class Truths(Places):
-    """`todo` has what is still to be looked at, `seen` what was, `found` the literal to decide, `choices` the open choices of numbers."""
+    """`agenda` has what is to be looked at, and `it` is the item that is: a term, or `("look", n)`, a comparison that is not decided for
+    its own sake."""
 
-    def look(self, failing):
-        """Looks at what a literal needs. Gives back a step that is false, or None; `changed` says whether to look again."""
-        self.seen, self.found, self.todo, self.choices, self.first = set(), None, [*self.extra, failing], [], False
-        size = len(self.search.trail)
-        conflict = self.run()
-        self.changed = len(self.search.trail) != size
-        return conflict
-
-    def run(self):
-        while self.todo:
-            it = self.todo.pop()
-            if it not in self.seen:
-                self.seen.add(it)
-                conflict = self.step(it)
-                conflict = conflict or (self.search.propagate() if self.search.told < len(self.search.trail) else None)
-                if conflict:
-                    return conflict
+    def look(self):
+        """Looks at what is on the agenda. Gives back a step that is false, or None."""
+        while not self.search.is_done():
+            for kind, *classes in self.equality.touched:
+                getattr(self.agenda, kind)(*classes)
+            self.equality.touched.clear()
+            it = self.it = self.agenda.next()
+            if it is None:
+                return None
+            conflict = self.step(it)
+            conflict = conflict or (self.search.propagate() if self.search.told < len(self.search.trail) else None)
+            if conflict:
+                self.agenda.stopped(it)
+                return conflict
         return None
+
+    def look_at(self, *terms):
+        """Puts terms on the agenda: a truth value is one whether it is negated or not."""
+        self.agenda.add(map(abs, terms))
+
+    def look_again(self, n, *first):
+        """Looks at a term once more, behind others."""
+        self.agenda.again(n)
+        self.look_at(*first)
+
+    def wait_for(self, *literals):
+        """The item is looked at again where one of these gets a value."""
+        self.agenda.wait(self.it, *map(abs, literals))
+
+    def wait_for_classes(self, *terms):
+        """The item is looked at again where more is known of the classes of these terms, or of two of them together."""
+        self.agenda.wait(self.it, *(class_key(self.equality.names[it]) for it in terms if it in self.equality.names))
 
     def step(self, it):
         if isinstance(it, tuple):
             return self.ahead(it[1])
-        return self.truth(abs(it)) if self.terms.types[abs(it)] == "bool" else self.term(it)
+        return self.truth(it) if self.terms.types[it] == "bool" else self.term(it)
 
     def ahead(self, n):
         """Looks at a comparison, and decides it only where its parts do."""
         if n in self.search.value:
             return None
         node = self.terms.nodes[n]
-        if (n, "peek") not in self.seen:
-            self.seen.add((n, "peek"))
-            self.seen.discard(("look", n))
-            self.todo += [("look", n), *node[1:]]
-            return None
         step = self.settled(n, node)
-        return self.attach(step) if step else None
+        if step:
+            return self.attach(step)
+        self.wait_for_classes(*node[1:])
+        return None
 
-    def want(self, literal, first=False):
-        """A literal that has to be decided: the first one that was met is, before others one of a definition."""
-        if first and not self.first:
-            self.found, self.first = literal, True
-        elif self.found is None:
-            self.found = literal
+    def want(self, literal, rank=0):
+        """A literal that has to be decided: first one of a definition, and then which way a run came."""
+        self.wait_for(literal)
+        self.agenda.want(self.it, literal, rank)
 
     def truth(self, n):
         node, value = self.terms.nodes[n], self.search.value
-        if n in self.seen and -n in self.seen:
-            return None
-        self.seen.add(n)
-        self.seen.add(-n)
         if n not in value:
             conflict = self.gate(n)
             if conflict or self.search.told < len(self.search.trail):
-                self.todo.append(n)
-                self.seen.discard(n)
-                self.seen.discard(-n)
+                self.look_again(n)
                 return conflict
+            self.wait_for(n)
             conflict = self.peek(n, node)
-            if not conflict and n not in value and (n, "peek") in self.seen:
+            if not conflict and n not in value and (n, "peek") in self.agenda.noted and n in self.agenda.seen:
                 self.want(n)
             return conflict
         return getattr(self, "truth_" + NAMES.get(node[0], node[0]), self.nothing)(n, node, value[n] == 1)
 
     def peek(self, n, node):
         """Looks at the parts of a comparison that is not decided, and then whether they decide it."""
-        if (n, "peek") not in self.seen:
-            self.seen.add((n, "peek"))
+        if self.agenda.note((n, "peek")):
             if self.is_comparison(node):
-                self.seen.discard(n)
-                self.seen.discard(-n)
-                self.todo += [n, *node[1:]]
-                return None
+                self.look_again(n, *node[1:])
         elif self.is_comparison(node):
             step = self.settled(n, node)
             if step:
-                self.todo.append(n)
-                self.seen.discard(n)
-                self.seen.discard(-n)
+                self.look_again(n)
                 return self.attach(step)
+            self.wait_for_classes(*node[1:])
         return None
 
     def is_comparison(self, node):
@@ -112,37 +114,40 @@ class Truths(Places):
     def truth_and(self, n, node, holds):
         value, parts = self.search.value, node[1:]
         if holds:
-            self.todo += parts
+            self.look_at(*parts)
             return None
         false = [it for it in parts if value.get(it) == -1]
         if false:
-            self.todo.append(next((it for it in false if it in self.seen), false[-1]))
-        else:
-            open_ = [it for it in parts if it not in value]
-            ahead = [it for it in open_ if (abs(it), "peek") not in self.seen and self.is_comparison(self.terms.nodes[abs(it)])]
-            if ahead:
-                self.seen.discard(n)
-                self.seen.discard(-n)
-                self.todo += [n, *(("look", abs(it)) for it in ahead)]
-            else:
-                self.want(-open_[-1], n not in self.paths.joined and n not in self.bodies)
+            self.look_at(next((it for it in false if abs(it) in self.agenda.seen), false[-1]))
+            return None
+        open_ = [it for it in parts if it not in value]
+        self.wait_for(*open_)
+        for it in open_:
+            other = self.terms.nodes[abs(it)]
+            if self.is_comparison(other) and self.agenda.note((abs(it), "peek")):
+                self.agenda.add([("look", abs(it))])
+                self.look_at(*other[1:])
+        self.want(-open_[-1], 1 if n in self.paths.joined else 0 if n in self.bodies else 2)
         return None
 
     def truth_if(self, n, node, holds):
         _, c, a, b = node
-        self.todo.append(c)
+        self.look_at(c)
         if c in self.search.value:
-            self.todo.append(a if self.search.value[c] == 1 else b)
+            self.look_at(a if self.search.value[c] == 1 else b)
+        else:
+            self.wait_for(c)
         return None
 
     def truth_equal(self, n, node, holds):
-        self.todo += node[1:]
+        self.look_at(*node[1:])
         if holds or self.terms.types[abs(node[1])] == "bool":
             return None
         self.equality.register(node[1])
         self.equality.register(node[2])
         one, two = (self.equality.made[self.equality.names[it]] for it in node[1:])
         if one is None or two is None or self.terms.nodes[one][0] != self.terms.nodes[two][0] or one == two:
+            self.wait_for_classes(node[1], node[2])
             return self.equality.close()
         return self.some_part(n, node[1], node[2], one, two)
 
@@ -162,11 +167,11 @@ class Truths(Places):
             if self.terms.nodes[n][1] != a:
                 links = links[::-1]
             conflict = self.attach(self.steps.add([n, *(-it for it in links)], "path", n, *links))
-        self.todo += [*parts, whole]
+        self.look_at(*parts, whole)
         return conflict
 
     def truth_less(self, n, node, holds):
-        self.todo += node[1:]
+        self.look_at(*node[1:])
         return None
 
     def truth_at(self, n, node, holds):

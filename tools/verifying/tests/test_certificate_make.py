@@ -1,9 +1,11 @@
 """Makes certificates for conditions that are right by hand, and has them checked; for wrong ones none is made. No z3 is needed."""
 import unittest
+from unittest import mock
 
+from verifying.certificates.agenda import Agenda
 from verifying.certificates.check import check
 from verifying.certificates.check_text import Conditions
-from verifying.certificates.goals import NoCertificate
+from verifying.certificates.goals import NoCertificate, Prover
 from verifying.certificates.make import certificate
 
 VARIABLES = ("bool", "bool", "int", "int", "real", "real", "Ref", "Ref", "Snap", "Snap", "[Ref]int", "[Ref]int", "[Ref, int]real",
@@ -59,6 +61,86 @@ def conditions(lets):
     return "\n".join([*lines, f"fails 1:1 1:1 false d{len(lets)}"]) + "\n"
 
 
+def steps_of_a_map(count):
+    """The text of so many changes of a map behind an assumption each, and what each reads fails; every third is one of two branches."""
+    lines = ["conditions p", "var v1: [Ref]real", *(f"var v{n}: Ref" for n in range(2, count + 2)), "let d1 := true"]
+    path, changed, n, fails = "d1", "v1", 1, []
+    for k in range(2, count + 2):
+        lines += [f"let d{n + 1} := ({path} && (v{k} != null))", f"let d{n + 2} := {changed}[v{k} := 1.0]",
+            f"let d{n + 3} := (d{n + 2}[v{k}] >= 1.0)", f"let d{n + 4} := (d{n + 1} && (! d{n + 3}))",
+            f"let d{n + 5} := (d{n + 1} && d{n + 3})"]
+        fails.append(f"fails {k}:1 {k}:1 false d{n + 4}")
+        path, changed, before, n = f"d{n + 5}", f"d{n + 2}", path, n + 5
+        if k % 3 == 0:
+            lines += [f"let d{n + 1} := ({before} && (v{k} == null))", f"let d{n + 2} := ({path} || d{n + 1})"]
+            path, n = f"d{n + 2}", n + 2
+    return "\n".join([*lines, *fails]) + "\n"
+
+
+def looked_at(text):
+    """How many items are looked at for a certificate."""
+    with mock.patch.object(Prover, "step", autospec=True, side_effect=Prover.step) as step:
+        certificate(text)
+    return step.call_count
+
+
+class AgendaTest(unittest.TestCase):
+    def test_an_item_is_looked_at_once_and_again_when_it_is_woken(self):
+        agenda = Agenda()
+        agenda.add([1, 2, 1])
+        self.assertEqual([agenda.next(), agenda.next(), agenda.next()], [1, 2, None])
+        agenda.wait(2, "a", "b")
+        agenda.changed("c")
+        self.assertIsNone(agenda.next())
+        agenda.changed("b")
+        agenda.changed("b")
+        self.assertEqual([agenda.next(), agenda.next()], [2, None])
+
+    def test_two_classes_wake_what_waits_for_both(self):
+        agenda = Agenda()
+        agenda.add([1, 2, 3])
+        self.assertEqual([agenda.next(), agenda.next(), agenda.next()], [3, 2, 1])
+        for it, keys in ((1, "ab"), (2, "bc"), (3, "c")):
+            agenda.wait(it, *keys)
+        agenda.parted("a", "b")
+        self.assertEqual([agenda.next(), agenda.next()], [1, None])
+        agenda.joined("a", "c", False, ["b"])
+        self.assertEqual([agenda.next(), agenda.next(), agenda.next()], [2, 1, None])
+        agenda.joined("b", "c", True, [])
+        self.assertEqual({agenda.next(), agenda.next(), agenda.next()}, {1, 2, 3})
+
+    def test_it_goes_back(self):
+        """Above a level 2 is new, 1 is woken and 3 is noted; 4 was on the agenda before, and 5 came there later."""
+        agenda = Agenda()
+        agenda.add([1])
+        self.assertEqual(agenda.next(), 1)
+        agenda.wait(1, "a")
+        agenda.want(1, 10, 0)
+        agenda.add([4])
+        agenda.mark()
+        agenda.changed("a")
+        agenda.add([2])
+        self.assertEqual([agenda.next(), agenda.next()], [2, 1])
+        self.assertTrue(agenda.note(3))
+        agenda.want(2, 20, 1)
+        agenda.add([5])
+        agenda.back(0)
+        self.assertEqual((agenda.seen, agenda.noted, agenda.wants), ({1}, set(), {}))
+        self.assertEqual([agenda.next(), agenda.next(), agenda.next()], [1, 4, None])
+
+    def test_what_is_wanted(self):
+        agenda = Agenda()
+        agenda.want(1, 10, 0)
+        agenda.mark()
+        agenda.want(2, 20, 0)
+        agenda.want(3, 30, 0)
+        self.assertEqual(agenda.wanted({}), 20)
+        self.assertEqual(agenda.wanted({20: 1}), 30)
+        agenda.want(4, 40, 1)
+        self.assertEqual(agenda.wanted({}), 40)
+        self.assertIsNone(agenda.wanted({10: 1, 20: 1, 30: -1, 40: 1}))
+
+
 class MakeTest(unittest.TestCase):
     def test_right(self):
         for name, lets in RIGHT:
@@ -70,6 +152,27 @@ class MakeTest(unittest.TestCase):
         for name, lets in WRONG:
             with self.subTest(name):
                 self.assertRaises(NoCertificate, certificate, conditions(lets))
+
+    def test_what_was_looked_at_is_kept_for_the_next_assertion(self):
+        """For twice as many assertions twice as much is looked at, or little more."""
+        text = steps_of_a_map(20)
+        self.assertIsNone(check(Conditions(text), certificate(text)))
+        self.assertLess(looked_at(steps_of_a_map(40)), 2.5 * looked_at(text))
+
+    def test_behind_a_branch(self):
+        """What is asserted behind a branch hangs on both sides, on one side, on what was before it, or on none of these."""
+        lines = ["conditions p", "var v1: bool", "var v2: int", "var v3: int", "let d1 := true", "let d2 := (d1 && (v2 > 1))"]
+        lines += ["let d3 := (d2 && v1)", "let d4 := (d3 && (v3 > 0))", "let d5 := (d4 && (! (v3 >= 0)))", "let d6 := (d4 && (v3 >= 0))"]
+        lines += ["let d7 := (d2 && (! v1))", "let d8 := (d7 && (! (v2 >= 0)))", "let d9 := (d7 && (v2 >= 0))", "let d10 := (d6 || d9)"]
+        for asserted, holds in (("((if v1 then v3 else v2) > 0)", True), ("(v1 ==> (v3 > 0))", True), ("((! v1) ==> (v2 > 0))", True),
+                ("(v2 > 0)", True), ("(v3 > 0)", False), ("((if v1 then v2 else v3) > 0)", False)):
+            with self.subTest(asserted):
+                last = [f"let d11 := (d10 && (! {asserted}))", "fails a d5", "fails b d8", "fails c d11"]
+                text = "\n".join([*lines, *last]) + "\n"
+                if holds:
+                    self.assertIsNone(check(Conditions(text), certificate(text)))
+                else:
+                    self.assertRaises(NoCertificate, certificate, text)
 
     def test_where_no_run_comes(self):
         """Behind `assume v1`, the other side of a branch by v1 has an assertion that does not hold, and so has what comes behind that."""

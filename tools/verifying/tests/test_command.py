@@ -141,7 +141,7 @@ class Calls(unittest.TestCase):
     def test_what_is_assumed_in_vain_is_told(self):
         status, out, _ = self.verify("--smoke", "-", text="method m(x: Int) requires x > 0 && x < 0 { assert false }\n")
         self.assertEqual(status, 0)
-        self.assertIn("<stdin>:1:8: warning: `m` is verified in vain", out)
+        self.assertIn("<stdin>:1:8: warning: `m` is verified vacuously", out)
 
     def test_what_cannot_be_written_is_told_in_a_line(self):
         for words, out in ((("--keep", "/dev/null/there"), os.devnull), (("--no-runs",), "/dev/full"), (("--help",), "/dev/full")):
