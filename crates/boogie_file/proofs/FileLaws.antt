@@ -1,5 +1,6 @@
 -- What a file of Boogie that is read is refused for, or accepted as.
 use Rattle.std.proofs.Common.{◌≡◌, ◌<◌, ℕ, List, length, Option, Some, Result, Ok, Err, IfOk, slice_get, refl, subst}
+use Rattle.vb_base.specs.Limits.{max_boogie_bytes}
 use Rattle.lemmas.proofs.Lists.{item_there}
 use Rattle.vb_outer.specs.Shelf.{Files, IsWhole, IsLonger}
 use Rattle.vb_outer.specs.declared.fault.FileFault.{FileFault}
@@ -18,13 +19,13 @@ use Rattle.boogie_file.specs.declared.trouble.Trouble.TheVariants as trouble
 use Rattle.boogie_file.proofs.Verdicts.{named_within}
 
 -- a file that could not be read is refused for its length, or is missing, or the shelf failed
-pub file_refusal : (files : Option Files) (path name : List ℕ) (fault : FileFault) (r : Refusal) → (fault ≡ file.Long → IsLonger files path 33554432) →
+pub file_refusal : (files : Option Files) (path name : List ℕ) (fault : FileFault) (r : Refusal) → (fault ≡ file.Long → IsLonger files path max_boogie_bytes) →
     trouble_of_file fault ≡ trouble.Refused r → Refuses (IsWhole files) path name r
 file_refusal files path name file.Memory r long is_r = absurd (cc)
 file_refusal files path name file.Failed r long is_r = absurd (cc)
 file_refusal files path name file.Long r long is_r =
     let same : refusal.Size ≡ r = cc in
-    let (bytes, is, above) = long_bytes files path 33554432 (long refl) in
+    let (bytes, is, above) = long_bytes files path max_boogie_bytes (long refl) in
     subst (Refuses (IsWhole files) path name) same (record { bytes = bytes; is = is; refused = size above })
 
 pub file_unread : (Cause : Type 0) (fault : FileFault) → (fault ≡ file.Failed → Cause) → trouble_of_file fault ≡ trouble.Read → Cause

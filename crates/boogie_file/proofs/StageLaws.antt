@@ -3,6 +3,7 @@ use Rattle.std.proofs.Common.{◌≡◌, ◌+◌, ◌≤◌, ℕ, Bool as Truth,
 use Rattle.std.specs.List.{position, prefix_len}
 use Rattle.std.specs.Str.{bytes_eq}
 use Rattle.std.proofs.lemmas.List.{length-map}
+use Rattle.vb_base.specs.Limits.{max_boogie_bytes}
 use Rattle.lemmas.proofs.Lists.{all_at}
 use Rattle.boogie_tree.specs.Program as p
 use Rattle.boogie_tree.specs.Program.{BProgram}
@@ -57,7 +58,7 @@ fits_proc bytes q n d h there = all_at FitsProc q.procs n d (spelled_printable b
 
 -- ---- refusals
 
-pub text_refused : {bytes name : List ℕ} {r : Refusal} → length bytes ≤ 33554432 → IsTextRefusal bytes r → IsRefusal bytes name r
+pub text_refused : {bytes name : List ℕ} {r : Refusal} → length bytes ≤ max_boogie_bytes → IsTextRefusal bytes r → IsRefusal bytes name r
 text_refused small is = of_text small is
 
 pub name_refused : (bytes name : List ℕ) (q : BProgram) (r : Refusal) → IsBoogie bytes q → procedure_named q name ≡ None → trouble.Refused refusal.NoProcedure ≡ trouble.Refused r →

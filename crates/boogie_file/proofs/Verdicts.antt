@@ -3,6 +3,7 @@ use Rattle.std.proofs.Common.{◌≡◌, ◌∙◌, ◌⊎◌, inl, inr, ◌<◌
 use Rattle.std.proofs.lemmas.Bool.{cases_lt}
 use Rattle.std.proofs.lemmas.List.Quantifiers.{position-Some}
 use Rattle.std.specs.Str.{bytes_eq}
+use Rattle.vb_base.specs.Limits.{max_boogie_bytes}
 use Rattle.lemmas.proofs.Options.{some_same}
 use Rattle.lemmas.proofs.Lists.{item_there}
 use Rattle.boogie_tree.specs.Program.{Proc, BProgram}
@@ -76,7 +77,7 @@ pub named_within : (q : BProgram) (name : List ℕ) (n : ℕ) → procedure_name
 named_within q name n e = (position-Some (λ (d : Proc). bytes_eq d.name name) q.procs n nobody e).0
 
 -- a text is a well-typed program, or is refused
-pub boogie_answer : (bytes : List ℕ) → length bytes ≤ 33554432 → ((q : BProgram) × IsBoogie bytes q) ⊎ ((r : Refusal) × IsTextRefusal bytes r)
+pub boogie_answer : (bytes : List ℕ) → length bytes ≤ max_boogie_bytes → ((q : BProgram) × IsBoogie bytes q) ⊎ ((r : Refusal) × IsTextRefusal bytes r)
 boogie_answer bytes small = of_cut (some_text_answer bytes (omega (arith, small)))
   where
     of_types : (q : BProgram) → IsRead bytes q → (o : Option ℕ) → first_ill_typed q ≡ o → ((q : BProgram) × IsBoogie bytes q) ⊎ ((r : Refusal) × IsTextRefusal bytes r)
@@ -140,13 +141,13 @@ module _ (bytes name : List ℕ) where
       let accepts : Accepts bytes name d = record { program = q; accepted = a; number = n; named = named; is_there = there } in
       is_accepted accepts (λ other i. one_accepted i accepts) (λ r is. accepted_not_refused accepts is)
 
-  of_answer : length bytes ≤ 33554432 → ((q : BProgram) × IsBoogie bytes q) ⊎ ((r : Refusal) × IsTextRefusal bytes r) → HasOneAnswer bytes name
+  of_answer : length bytes ≤ max_boogie_bytes → ((q : BProgram) × IsBoogie bytes q) ⊎ ((r : Refusal) × IsTextRefusal bytes r) → HasOneAnswer bytes name
   of_answer small (inl (q, a)) = of_name q a (procedure_named q name) refl
   of_answer small (inr (r, is)) = refused_once (of_text small is)
 
-  of_size : (33554432 < length bytes) ⊎ (length bytes ≤ 33554432) → HasOneAnswer bytes name
+  of_size : (max_boogie_bytes < length bytes) ⊎ (length bytes ≤ max_boogie_bytes) → HasOneAnswer bytes name
   of_size (inl above) = refused_once (size above)
   of_size (inr small) = of_answer small (boogie_answer bytes small)
 
 pub has_one_answer : (bytes name : List ℕ) → HasOneAnswer bytes name
-has_one_answer bytes name = of_size bytes name (cases_lt 33554432 (length bytes))
+has_one_answer bytes name = of_size bytes name (cases_lt max_boogie_bytes (length bytes))

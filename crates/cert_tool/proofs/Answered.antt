@@ -1,5 +1,6 @@
 -- Where a cause stands its status comes, since files have one answer.
 use Rattle.std.proofs.Common.{◌≡◌, ◌∙◌, ◌<◌, ℕ, List, [], ◌∷◌, length, Option, sym, subst, refl, arith}
+use Rattle.vb_base.specs.Limits.{max_boogie_bytes}
 use Rattle.vb_outer.specs.Shelf.{Files, IsMissing, IsFile, IsWhole}
 use Rattle.boogie_file.specs.Files.{Refuses, HasProcedure}
 use Rattle.boogie_file.specs.declared.refusal.Refusal as b
@@ -45,7 +46,7 @@ module _ (files : Option Files) where
   large_not_small {certificate} h g =
       let same = same_file files certificate h.text g.text h.is g.is in
       let small = g.small in
-      let above = subst (λ t. 33554432 < length t) same h.large in
+      let above = subst (λ t. max_boogie_bytes < length t) same h.large in
       omega (arith, small, above)
 
   shown_procedure : {file name certificate : List ℕ} → IsShown files file name certificate → HasProcedure (IsWhole files) file name

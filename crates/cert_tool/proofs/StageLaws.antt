@@ -1,5 +1,6 @@
 -- What the steps from two files to what is shown come to.
 use Rattle.std.proofs.Common.{◌≡◌, ◌⊎◌, inl, inr, ◌<◌, ◌≤◌, ℕ, List, Option, Some, slice_get, refl, subst}
+use Rattle.vb_base.specs.Limits.{max_boogie_bytes}
 use Rattle.vb_outer.specs.Shelf.{Files, IsMissing, IsWhole, IsLonger}
 use Rattle.vb_outer.specs.Faults.{Rose}
 use Rattle.vb_outer.specs.declared.fault.FileFault.{FileFault}
@@ -32,13 +33,13 @@ line_unread unshown.Memory is = absurd (cc)
 line_unread (unshown.Refused n why) is = absurd (cc)
 
 -- a certificate that is refused unread is too large
-pub size_refused : (files : Option Files) (certificate : List ℕ) (fault : FileFault) (r : Refusal) → (fault ≡ file.Long → IsLonger files certificate 33554432) →
+pub size_refused : (files : Option Files) (certificate : List ℕ) (fault : FileFault) (r : Refusal) → (fault ≡ file.Long → IsLonger files certificate max_boogie_bytes) →
     trouble_of_file fault ≡ trouble.Refused r → IsOfCertificate files certificate r
 size_refused files certificate file.Memory r long is_r = absurd (cc)
 size_refused files certificate file.Failed r long is_r = absurd (cc)
 size_refused files certificate file.Long r long is_r =
     let same : refusal.CertificateSize ≡ r = cc in
-    let (text, is, above) = long_bytes files certificate 33554432 (long refl) in
+    let (text, is, above) = long_bytes files certificate max_boogie_bytes (long refl) in
     subst (IsOfCertificate files certificate) same (large (record { text = text; is = is; large = above }))
 
 -- the first file is refused as it is for its conditions

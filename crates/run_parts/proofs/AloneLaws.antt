@@ -3,6 +3,7 @@ use Rattle.std.proofs.Common.{◌≡◌, ◌∙◌, refl, sym, ap, subst, ℕ, �
 use Rattle.std.specs.Prelude.{IfSome}
 use Rattle.std.specs.Str.{bytes_eq}
 use Rattle.std.proofs.lemmas.List.Elements.{All-nil, All-cons, All-append}
+use Rattle.vb_base.specs.Limits.{max_boogie_bytes}
 use Rattle.lemmas.proofs.Lists.{there_left, get_middle, all_at}
 use Rattle.boogie_grammar.specs.Grammar.{proc_names}
 use Rattle.boogie_grammar.proofs.FirstPassing.{first_passing, position_is, still_found, now_found, not_found}
@@ -106,7 +107,7 @@ is_made_alone t (Some m) r ends = let h = read_all (IsMade t) r ends in record {
 is_made_alone t None r ends = tt
 
 -- a text behind the prelude is that of a file
-accepted_in : {bytes rest name : List ℕ} {d : Proc} → bytes ≡ prelude ++ rest → length bytes ≤ 33554432 → IsNamedIn rest name d → Accepts bytes name d
+accepted_in : {bytes rest name : List ℕ} {d : Proc} → bytes ≡ prelude ++ rest → length bytes ≤ max_boogie_bytes → IsNamedIn rest name d → Accepts bytes name d
 accepted_in {bytes} {rest} is small n = record {
   program = record { procs = n.procs };
   accepted = record { small = small; text = read_whole bytes rest n.procs is n.tail; is_typed = n.is_typed };
@@ -115,9 +116,9 @@ accepted_in {bytes} {rest} is small n = record {
   is_there = n.is_there;
 }
 
-pub kept_alone : {bytes rest name : List ℕ} {b : whole.BProgram} → bytes ≡ prelude ++ rest → length bytes ≤ 33554432 → IsMadeAlone rest name task.Keep (made.Program b) → IsAlone bytes name (program_of b)
+pub kept_alone : {bytes rest name : List ℕ} {b : whole.BProgram} → bytes ≡ prelude ++ rest → length bytes ≤ max_boogie_bytes → IsMadeAlone rest name task.Keep (made.Program b) → IsAlone bytes name (program_of b)
 kept_alone is small h = record { procedure = h.procedure; accepted = accepted_in is small h.is_named; is_alone = h.is_made }
 
-pub ended_is : {bytes rest name : List ℕ} {run_bytes : Bor (List ℕ)} {outcome : BOutcome} → bytes ≡ prelude ++ rest → length bytes ≤ 33554432 → SpellsName run_bytes.now name →
+pub ended_is : {bytes rest name : List ℕ} {run_bytes : Bor (List ℕ)} {outcome : BOutcome} → bytes ≡ prelude ++ rest → length bytes ≤ max_boogie_bytes → SpellsName run_bytes.now name →
     IsMadeAlone rest name (task.Run run_bytes) (made.Outcome outcome) → Replays bytes run_bytes.now outcome
 ended_is {name = name} is small said e = record { name = name; header = said; procedure = e.procedure; accepted = accepted_in is small e.is_named; ends = e.is_made }

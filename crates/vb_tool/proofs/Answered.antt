@@ -4,6 +4,7 @@ use Rattle.std.specs.Str.Parse.{digits_value}
 use Rattle.vb_base.proofs.Fronts.{one_label}
 use Rattle.vb_base.specs.Labels.{Spells}
 use Rattle.vb_base.specs.declared.labels.Label.{Label}
+use Rattle.vb_base.specs.Limits.{max_viper_bytes, max_boogie_bytes, max_made_methods}
 use Rattle.vb_gen.specs.Generated.{IsOutOfRange}
 use Rattle.vb_outer.specs.Shelf.{Files, IsFile, IsWhole}
 use Rattle.vb_outer.specs.Sink.{Appends}
@@ -124,13 +125,13 @@ one_file (Some files) name a b h i = let same : Some a ≡ Some b = sym h ∙ i 
 
 -- ---- a command does one thing
 
-long_refusal : {bytes name run : List ℕ} {r : Refusal} → 1048576 < length bytes → IsRunRefusal bytes name run r → refusal.Size ≡ r
+long_refusal : {bytes name run : List ℕ} {r : Refusal} → max_viper_bytes < length bytes → IsRunRefusal bytes name run r → refusal.Size ≡ r
 long_refusal above is = one_run_refusal (accepted.size above) is
 
-long_execution_refusal : {bytes name run : List ℕ} {r : Refusal} → 1048576 < length bytes → IsExecutionRefusal bytes name run r → refusal.Size ≡ r
+long_execution_refusal : {bytes name run : List ℕ} {r : Refusal} → max_viper_bytes < length bytes → IsExecutionRefusal bytes name run r → refusal.Size ≡ r
 long_execution_refusal above is = one_execution_refusal (execution.size above) is
 
-long_replay_refusal : {bytes run : List ℕ} {r : Refusal} → 33554432 < length bytes → IsReplayRefusal bytes run r → refusal.Size ≡ r
+long_replay_refusal : {bytes run : List ℕ} {r : Refusal} → max_boogie_bytes < length bytes → IsReplayRefusal bytes run r → refusal.Size ≡ r
 long_replay_refusal above is = one_replay_refusal (replay.size above) is
 
 same_run_refusal : {a b c d unit : List ℕ} {r : Refusal} → a ≡ b → c ≡ d → IsRunRefusal b unit d r → IsRunRefusal a unit c r
@@ -174,7 +175,7 @@ one_outcome : {v w : ProcedureRun} {o x : BOutcome} → v ≡ w → outcome_of (
 one_outcome {o = o} {x = x} same ends other =
     let e : Some o ≡ Some x = sym ends ∙ ap (λ y. outcome_of (procedure_end y)) same ∙ other in cc
 
-not_out_of_range : {n : ℕ} → 1 ≤ n → n ≤ 2000 → IsOutOfRange n → ⊥
+not_out_of_range : {n : ℕ} → 1 ≤ n → n ≤ max_made_methods → IsOutOfRange n → ⊥
 not_out_of_range some few (inl none) = omega (arith, some, none)
 not_out_of_range some few (inr above) = omega (arith, few, above)
 

@@ -1,5 +1,6 @@
 -- What the stages of a replay refuse, and what they tell.
 use Rattle.std.proofs.Common.{◌≡◌, ◌≤◌, ℕ, List, length, get_or, Some, None, refl, subst}
+use Rattle.vb_base.specs.Limits.{max_boogie_bytes}
 use Rattle.boogie_tree.specs.Program as p
 use Rattle.boogie_tree.specs.Program.{BProgram}
 use Rattle.boogie_tree.specs.Value.{BRun}
@@ -51,11 +52,11 @@ names_it run_bytes b name n d said named at = record { name = name; header = sai
 
 -- ---- the run
 
-module _ {bytes run_bytes : List ℕ} (small : length bytes ≤ 33554432) (few : length run_bytes ≤ 33554432) where
+module _ {bytes run_bytes : List ℕ} (small : length bytes ≤ max_boogie_bytes) (few : length run_bytes ≤ max_boogie_bytes) where
   pub text_refused : {r : Refusal} → IsBoogieRefusal bytes r → IsReplayRefusal bytes run_bytes r
   text_refused is = of_text small few is
 
-module _ (bytes run_bytes : List ℕ) (q : BProgram) (is : IsBoogie bytes q) (few : length run_bytes ≤ 33554432) where
+module _ (bytes run_bytes : List ℕ) (q : BProgram) (is : IsBoogie bytes q) (few : length run_bytes ≤ max_boogie_bytes) where
   pub header_refused : (f : RunFileFault) (r : Refusal) → run_words.UnlessMemory (NamesNothingAt run_bytes) f → trouble_of_run f ≡ trouble.Refused r → IsReplayRefusal bytes run_bytes r
   header_refused run.Memory r wrong is_r = absurd cc
   header_refused (run.Syntax at) r wrong is_r = let same : refusal.RunSyntax at ≡ r = cc in subst (IsReplayRefusal bytes run_bytes) same (of_run is few (header wrong))
@@ -81,7 +82,7 @@ module _ (bytes run_bytes : List ℕ) (q : BProgram) (is : IsBoogie bytes q) (fe
   }
 
 -- the same where the text is read part by part
-pub replayed_is : {bytes run_bytes : List ℕ} {o : BOutcome} (status : Status) (text : List ℕ) → length run_bytes ≤ 33554432 → Replays bytes run_bytes o → status ≡ replay_status o → text ≡ replay_text o →
+pub replayed_is : {bytes run_bytes : List ℕ} {o : BOutcome} (status : Status) (text : List ℕ) → length run_bytes ≤ max_boogie_bytes → Replays bytes run_bytes o → status ≡ replay_status o → text ≡ replay_text o →
     ReplayOf bytes run_bytes status text
 replayed_is {bytes} {run_bytes} {o} status text few h is_status is_text =
     replay_is bytes run_bytes h.accepted.program h.accepted.accepted few h.procedure h.ends.run o status text

@@ -5,6 +5,7 @@ use Rattle.lemmas.proofs.Lists.{all_at, item_there}
 use Rattle.lemmas.proofs.Options.{some_same, none_some}
 use Rattle.vb_base.specs.Names.{NamesDiffer}
 use Rattle.vb_base.specs.declared.places.Pos.{Pos}
+use Rattle.vb_base.specs.Limits.{max_boogie_bytes}
 use Rattle.vb_value.specs.Bound.{Bounded}
 use Rattle.boogie_tree.specs.Program.{Proc, BProgram}
 use Rattle.boogie_tree.specs.Value.{BChoice, BRun}
@@ -148,7 +149,7 @@ module _ (bytes run : List ℕ) where
   refused_once : {r : Refusal} → IsReplayRefusal bytes run r → Answer
   refused_once h = is_refused h (λ other is. one_replay_refusal is h) (λ u accepts. replay_not_refused accepts h)
 
-  module _ (q : BProgram) (a : IsBoogie bytes q) (few : length run ≤ 33554432) where
+  module _ (q : BProgram) (a : IsBoogie bytes q) (few : length run ≤ max_boogie_bytes) where
     of_lines : (d : Proc) → NamesProcedure run q d → ((x : BRun) × SpellsBoogieRun run d x) ⊎ ((at : Pos) × GoesWrongAt run d at) → Answer
     of_lines d k (inl (x, spelled)) =
         accepted_once {u = record { program = q; procedure = d; environment = start_of (types_of d) x.settings; choices = x.choices }}
@@ -166,20 +167,20 @@ module _ (bytes run : List ℕ) where
     of_header (inl (name, h)) = of_name name h (procedure_named q name) refl
     of_header (inr (at, wrong)) = refused_once (of_run a few (header wrong))
 
-  of_bytes : length bytes ≤ 33554432 → length run ≤ 33554432 → ((q : BProgram) × IsBoogie bytes q) ⊎ ((r : why.Refusal) × IsTextRefusal bytes r) → Answer
+  of_bytes : length bytes ≤ max_boogie_bytes → length run ≤ max_boogie_bytes → ((q : BProgram) × IsBoogie bytes q) ⊎ ((r : why.Refusal) × IsTextRefusal bytes r) → Answer
   of_bytes small few (inl (q, a)) = of_header q a few (header_or_place run few)
   of_bytes small few (inr (r, is)) = refused_once (of_text small few (of_boogie is))
 
-  of_run_size : length bytes ≤ 33554432 → (33554432 < length run) ⊎ (length run ≤ 33554432) → Answer
+  of_run_size : length bytes ≤ max_boogie_bytes → (max_boogie_bytes < length run) ⊎ (length run ≤ max_boogie_bytes) → Answer
   of_run_size small (inl above) = refused_once (run_size small above)
   of_run_size small (inr few) = of_bytes small few (boogie_answer bytes small)
 
-  of_size : (33554432 < length bytes) ⊎ (length bytes ≤ 33554432) → Answer
+  of_size : (max_boogie_bytes < length bytes) ⊎ (length bytes ≤ max_boogie_bytes) → Answer
   of_size (inl above) = refused_once (size above)
-  of_size (inr small) = of_run_size small (cases_lt 33554432 (length run))
+  of_size (inr small) = of_run_size small (cases_lt max_boogie_bytes (length run))
 
 pub one_replay_answer : (bytes run : List ℕ) → HasOneAnswer (AcceptsReplay bytes run) (IsReplayRefusal bytes run)
-one_replay_answer bytes run = of_size bytes run (cases_lt 33554432 (length bytes))
+one_replay_answer bytes run = of_size bytes run (cases_lt max_boogie_bytes (length bytes))
 
 -- ---- each run has an outcome
 

@@ -1,5 +1,6 @@
 -- What the stages of `cut` refuse, and what they write.
 use Rattle.std.proofs.Common.{◌≡◌, ◌∙◌, ◌≤◌, ℕ, List, length, ap, subst}
+use Rattle.vb_base.specs.Limits.{max_boogie_bytes}
 use Rattle.boogie_tree.specs.Whole.{program_of}
 use Rattle.boogie_tree.specs.declared.programs.BProgram.{BProgram as Program}
 use Rattle.boogie_grammar.specs.Printed.{program_text}
@@ -37,7 +38,7 @@ read_refusal bytes (fault.Deep at) r is is_r = let same : refusal.Deep at ≡ r 
 pub type_refusal : (bytes : List ℕ) (q : WProgram) (n : ℕ) (r : Refusal) → IsWideRead bytes q → IsFirstIllTypedWide q n → trouble.Refused (refusal.BoogieType n) ≡ trouble.Refused r → IsWideRefusal bytes r
 type_refusal bytes q n r is first is_r = let same : refusal.BoogieType n ≡ r = cc in subst (IsWideRefusal bytes) same (ill_typed is first)
 
-pub text_refused : {bytes : List ℕ} {r : Refusal} → length bytes ≤ 33554432 → IsWideRefusal bytes r → IsCutRefusal bytes r
+pub text_refused : {bytes : List ℕ} {r : Refusal} → length bytes ≤ max_boogie_bytes → IsWideRefusal bytes r → IsCutRefusal bytes r
 text_refused small is = of_text small is
 
 -- ---- what is written

@@ -1,6 +1,7 @@
 -- A file with loops and calls is one program, or is refused for one reason.
 use Rattle.std.proofs.Common.{◌≡◌, ◌∙◌, ◌⊎◌, inl, inr, ◌<◌, ◌≤◌, ℕ, suc, List, length, Option, Some, None, refl, sym, ap, subst, arith}
 use Rattle.std.proofs.lemmas.Bool.{cases_lt, cases_order}
+use Rattle.vb_base.specs.Limits.{max_boogie_bytes}
 use Rattle.boogie_grammar.specs.declared.faults.BoogieFault.{BoogieFault}
 use Rattle.boogie_grammar.specs.declared.faults.BoogieFault.TheVariants as fault
 use Rattle.boogie_text.specs.Texts.{no_tokens}
@@ -109,13 +110,13 @@ module _ (bytes : List ℕ) where
   refused_once : {r : Refusal} → IsCutRefusal bytes r → Answer
   refused_once h = is_refused h (λ other is. one_cut_refusal is h) (λ q accepts. cut_not_refused accepts h)
 
-  of_answer : length bytes ≤ 33554432 → Text → Answer
+  of_answer : length bytes ≤ max_boogie_bytes → Text → Answer
   of_answer small (inl (q, h, typed)) = accepted_once (record { small = small; text = h; is_typed = typed })
   of_answer small (inr (r, is)) = refused_once (of_text small is)
 
-  of_size : (33554432 < length bytes) ⊎ (length bytes ≤ 33554432) → Answer
+  of_size : (max_boogie_bytes < length bytes) ⊎ (length bytes ≤ max_boogie_bytes) → Answer
   of_size (inl above) = refused_once (size above)
   of_size (inr small) = of_answer small (of_read (some_text_answer bytes (omega (arith, small))))
 
 pub one_cut_answer : (bytes : List ℕ) → HasOneAnswer (AcceptsCut bytes) (IsCutRefusal bytes)
-one_cut_answer bytes = of_size bytes (cases_lt 33554432 (length bytes))
+one_cut_answer bytes = of_size bytes (cases_lt max_boogie_bytes (length bytes))

@@ -1,6 +1,7 @@
 -- What the stages of an execution refuse, and what they tell.
 use Rattle.std.proofs.Common.{◌≡◌, ◌∙◌, ◌≤◌, ℕ, List, length, Some, None, sym, ap, subst}
 use Rattle.vb_base.specs.declared.places.Pos.{Pos}
+use Rattle.vb_base.specs.Limits.{max_viper_bytes, max_weight}
 use Rattle.viper_syntax.specs.Decl as d
 use Rattle.viper_syntax.specs.Lexed.{IsLexed}
 use Rattle.viper_syntax.specs.declared.tokens.Token.{Token}
@@ -26,16 +27,16 @@ use Rattle.vb_tool.specs.declared.status.Refusal.TheVariants as refusal
 use Rattle.vb_tool.specs.declared.status.Status.{Status}
 use Rattle.vb_tool.specs.declared.trouble.Trouble.TheVariants as trouble
 
-pub text_refused : {bytes name run : List ℕ} {r : Refusal} → length bytes ≤ 1048576 → length run ≤ 1048576 → IsUnframedRefusal bytes r → IsExecutionRefusal bytes name run r
+pub text_refused : {bytes name run : List ℕ} {r : Refusal} → length bytes ≤ max_viper_bytes → length run ≤ max_viper_bytes → IsUnframedRefusal bytes r → IsExecutionRefusal bytes name run r
 text_refused small few is = unread small few is
 
-pub method_refused : (bytes name run : List ℕ) (q : p.Program) (r : Refusal) → IsFramed bytes q → length run ≤ 1048576 → body_named q name ≡ None →
+pub method_refused : (bytes name run : List ℕ) (q : p.Program) (r : Refusal) → IsFramed bytes q → length run ≤ max_viper_bytes → body_named q name ≡ None →
     trouble.Refused refusal.NoUnit ≡ trouble.Refused r → IsExecutionRefusal bytes name run r
 method_refused bytes name run q r is few none is_r =
     let same : refusal.NoUnit ≡ r = cc in
     subst (IsExecutionRefusal bytes name run) same (no_method is few none)
 
-pub run_refused : (bytes name run : List ℕ) (q : p.Program) (n : ℕ) (f : RunFileFault) (r : Refusal) → IsFramed bytes q → length run ≤ 1048576 → body_named q name ≡ Some n →
+pub run_refused : (bytes name run : List ℕ) (q : p.Program) (n : ℕ) (f : RunFileFault) (r : Refusal) → IsFramed bytes q → length run ≤ max_viper_bytes → body_named q name ≡ Some n →
     UnlessMemory (GoesWrongAt run q n) f → trouble_of_run f ≡ trouble.Refused r → IsExecutionRefusal bytes name run r
 run_refused bytes name run q n fault.Memory r is few named wrong is_r = absurd (cc)
 run_refused bytes name run q n (fault.Syntax at) r is few named wrong is_r =
@@ -53,17 +54,17 @@ execution_is bytes name run u n s text x accepts ends is_s is_text = record {
 
 -- ---- the text
 
-abbrev accepts : (bytes : List ℕ) (tokens : List Token) (source : d.SourceProgram) (q : p.Program) → length bytes ≤ 1048576 → IsLexed bytes tokens → Spells tokens source →
-    IsProgram source q × (weight q ≤ 100000) → IsAccepted bytes q
+abbrev accepts : (bytes : List ℕ) (tokens : List Token) (source : d.SourceProgram) (q : p.Program) → length bytes ≤ max_viper_bytes → IsLexed bytes tokens → Spells tokens source →
+    IsProgram source q × (weight q ≤ max_weight) → IsAccepted bytes q
 accepts bytes tokens source q small lexed spelled typed =
     record { small = small; tokens = tokens; lexed = lexed; source = source; spelled = spelled; is_typed = typed.0; light = typed.1 }
 
-pub framed_is : (bytes : List ℕ) (tokens : List Token) (source : d.SourceProgram) (q : p.Program) → length bytes ≤ 1048576 → IsLexed bytes tokens → Spells tokens source →
-    IsProgram source q × (weight q ≤ 100000) → first_unframed tokens ≡ None → IsFramed bytes q
+pub framed_is : (bytes : List ℕ) (tokens : List Token) (source : d.SourceProgram) (q : p.Program) → length bytes ≤ max_viper_bytes → IsLexed bytes tokens → Spells tokens source →
+    IsProgram source q × (weight q ≤ max_weight) → first_unframed tokens ≡ None → IsFramed bytes q
 framed_is bytes tokens source q small lexed spelled typed none = record { accepted = accepts bytes tokens source q small lexed spelled typed; framed = none }
 
-pub unframed_refused : (bytes : List ℕ) (tokens : List Token) (source : d.SourceProgram) (q : p.Program) (at : Pos) (r : Refusal) → length bytes ≤ 1048576 → IsLexed bytes tokens →
-    Spells tokens source → IsProgram source q × (weight q ≤ 100000) → first_unframed tokens ≡ Some at → trouble.Refused (refusal.Unframed at) ≡ trouble.Refused r → IsUnframedRefusal bytes r
+pub unframed_refused : (bytes : List ℕ) (tokens : List Token) (source : d.SourceProgram) (q : p.Program) (at : Pos) (r : Refusal) → length bytes ≤ max_viper_bytes → IsLexed bytes tokens →
+    Spells tokens source → IsProgram source q × (weight q ≤ max_weight) → first_unframed tokens ≡ Some at → trouble.Refused (refusal.Unframed at) ≡ trouble.Refused r → IsUnframedRefusal bytes r
 unframed_refused bytes tokens source q at r small lexed spelled typed there is_r =
     let same : refusal.Unframed at ≡ r = cc in
     subst (IsUnframedRefusal bytes) same (unframed (accepts bytes tokens source q small lexed spelled typed) there)

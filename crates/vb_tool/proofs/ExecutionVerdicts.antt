@@ -2,6 +2,7 @@
 use Rattle.std.proofs.Common.{◌≡◌, ◌∙◌, ◌⊎◌, inl, inr, ◌<◌, ◌≤◌, ℕ, List, length, Option, Some, None, slice_get, refl, sym, ap, subst, arith}
 use Rattle.std.proofs.lemmas.Bool.{cases_lt}
 use Rattle.vb_base.specs.declared.places.Pos.{Pos}
+use Rattle.vb_base.specs.Limits.{max_viper_bytes}
 use Rattle.viper_core.specs.Formed.{IsFormed}
 use Rattle.viper_core.specs.Program as p
 use Rattle.viper_core.specs.declared.programs.Unit.TheVariants as u
@@ -135,7 +136,7 @@ module _ (bytes name run : List ℕ) where
   refused_once : {r : Refusal} → IsExecutionRefusal bytes name run r → Answer
   refused_once h = is_refused h (λ other is. one_execution_refusal is h) (λ w accepts. execution_not_refused accepts h)
 
-  of_run : (q : p.Program) (n : ℕ) → IsFramed bytes q → length run ≤ 1048576 → body_named q name ≡ Some n →
+  of_run : (q : p.Program) (n : ℕ) → IsFramed bytes q → length run ≤ max_viper_bytes → body_named q name ≡ Some n →
       ((a : ViperRun) × SpellsViperRun run q n a) ⊎ ((b : Pos) × GoesWrongAt run q n b) → Answer
   of_run q n f few named (inl spelled) =
       let (k, is) = number_there q name n named in
@@ -143,21 +144,21 @@ module _ (bytes name run : List ℕ) where
       (record { framed = f; small = few; named = named; is_method = is; spelled = spelled.1 })
   of_run q n f few named (inr wrong) = refused_once (run_syntax f few named wrong.1)
 
-  of_unit : (q : p.Program) → IsFramed bytes q → length run ≤ 1048576 → (o : Option ℕ) → body_named q name ≡ o → Answer
+  of_unit : (q : p.Program) → IsFramed bytes q → length run ≤ max_viper_bytes → (o : Option ℕ) → body_named q name ≡ o → Answer
   of_unit q f few None none = refused_once (no_method f few none)
   of_unit q f few (Some n) named = of_run q n f few named (run_laws.run_or_place (is_reader q n (names_apart q n (accepted_formed f.accepted))) run (omega (arith, few)))
 
-  of_bytes : length bytes ≤ 1048576 → length run ≤ 1048576 → ((q : p.Program) × IsFramed bytes q) ⊎ ((r : Refusal) × IsUnframedRefusal bytes r) → Answer
+  of_bytes : length bytes ≤ max_viper_bytes → length run ≤ max_viper_bytes → ((q : p.Program) × IsFramed bytes q) ⊎ ((r : Refusal) × IsUnframedRefusal bytes r) → Answer
   of_bytes small few (inl framed) = of_unit framed.0 framed.1 few (body_named framed.0 name) refl
   of_bytes small few (inr refused) = refused_once (unread small few refused.1)
 
-  of_run_size : length bytes ≤ 1048576 → (1048576 < length run) ⊎ (length run ≤ 1048576) → Answer
+  of_run_size : length bytes ≤ max_viper_bytes → (max_viper_bytes < length run) ⊎ (length run ≤ max_viper_bytes) → Answer
   of_run_size small (inl above) = refused_once (run_size small above)
   of_run_size small (inr few) = of_bytes small few (unframed_answer bytes (text_answer bytes small))
 
-  of_size : (1048576 < length bytes) ⊎ (length bytes ≤ 1048576) → Answer
+  of_size : (max_viper_bytes < length bytes) ⊎ (length bytes ≤ max_viper_bytes) → Answer
   of_size (inl above) = refused_once (size above)
-  of_size (inr small) = of_run_size small (cases_lt 1048576 (length run))
+  of_size (inr small) = of_run_size small (cases_lt max_viper_bytes (length run))
 
 pub one_execution_answer : (bytes name run : List ℕ) → HasOneAnswer (AcceptsExecution bytes name run) (IsExecutionRefusal bytes name run)
-one_execution_answer bytes name run = of_size bytes name run (cases_lt 1048576 (length bytes))
+one_execution_answer bytes name run = of_size bytes name run (cases_lt max_viper_bytes (length bytes))

@@ -3,6 +3,7 @@ use Rattle.std.proofs.Common.{◌≡◌, ◌∙◌, ◌+◌, ◌<◌, ◌≤◌,
 use Rattle.std.proofs.lemmas.List.FromFn.{length-range_with_len, get_or-range_with_len}
 use Rattle.std.proofs.lemmas.List.Quantifiers.{position-Some}
 use Rattle.std.proofs.lemmas.Option.{slice_get_within, get_or_from_slice_get}
+use Rattle.vb_base.specs.Limits.{max_weight}
 use Rattle.lemmas.proofs.Lists.{item_there}
 use Rattle.viper_core.specs.Expr.{Assertion}
 use Rattle.viper_core.specs.Formed.{IsFormed, methods_among, predicates_among, with_body_from, below}
@@ -38,7 +39,7 @@ bodies_weigh : (q : p.Program) (n : ℕ) (ds : List p.Predicate) → length (wit
 bodies_weigh q n [] = omega arith
 bodies_weigh q n (d ∷ ds) = with_one q n d ds d.body (bodies_weigh q (n + 1) ds)
 
-pub few_units : (q : p.Program) → IsFormed q → length q.units ≤ 100000
+pub few_units : (q : p.Program) → IsFormed q → length q.units ≤ max_weight
 few_units q h =
     let units = h.typed.units in
     let methods : length (methods_among q.units) ≡ length q.methods = ap length units.methods ∙ length-range_with_len 0 (length q.methods) in

@@ -1,6 +1,7 @@
 -- What the stages of a run refuse, and what they tell.
 use Rattle.std.proofs.Common.{◌≡◌, ◌∙◌, ◌≤◌, ℕ, List, length, map, All, Some, None, slice_get, sym, ap, subst}
 use Rattle.vb_base.specs.declared.labels.Label.{Label}
+use Rattle.vb_base.specs.Limits.{max_viper_bytes}
 use Rattle.viper_core.specs.Program as p
 use Rattle.viper_core.specs.declared.programs.Unit.{Unit}
 use Rattle.viper_meaning.specs.Run.{Step, Goes, Fails, Blocked, Short, Over, ran}
@@ -29,16 +30,16 @@ use Rattle.vb_tool.specs.declared.status.Status.TheVariants as status
 use Rattle.vb_tool.proofs.TransferLaws.{run_fails_again}
 use Rattle.vb_tool.specs.declared.trouble.Trouble.TheVariants as trouble
 
-pub text_refused : {bytes name run : List ℕ} {r : Refusal} → length bytes ≤ 1048576 → length run ≤ 1048576 → IsTextRefusal bytes r → IsRunRefusal bytes name run r
+pub text_refused : {bytes name run : List ℕ} {r : Refusal} → length bytes ≤ max_viper_bytes → length run ≤ max_viper_bytes → IsTextRefusal bytes r → IsRunRefusal bytes name run r
 text_refused small few is = of_text small few is
 
-pub unit_refused : (bytes name run : List ℕ) (q : p.Program) (r : Refusal) → IsAccepted bytes q → length run ≤ 1048576 → unit_named q name ≡ None →
+pub unit_refused : (bytes name run : List ℕ) (q : p.Program) (r : Refusal) → IsAccepted bytes q → length run ≤ max_viper_bytes → unit_named q name ≡ None →
     trouble.Refused refusal.NoUnit ≡ trouble.Refused r → IsRunRefusal bytes name run r
 unit_refused bytes name run q r is few none is_r =
     let same : refusal.NoUnit ≡ r = cc in
     subst (IsRunRefusal bytes name run) same (no_unit is few none)
 
-pub run_refused : (bytes name run : List ℕ) (q : p.Program) (n : ℕ) (f : RunFileFault) (r : Refusal) → IsAccepted bytes q → length run ≤ 1048576 → unit_named q name ≡ Some n →
+pub run_refused : (bytes name run : List ℕ) (q : p.Program) (n : ℕ) (f : RunFileFault) (r : Refusal) → IsAccepted bytes q → length run ≤ max_viper_bytes → unit_named q name ≡ Some n →
     UnlessMemory (GoesWrongAt run q n) f → trouble_of_run f ≡ trouble.Refused r → IsRunRefusal bytes name run r
 run_refused bytes name run q n fault.Memory r is few named wrong is_r = absurd (cc)
 run_refused bytes name run q n (fault.Syntax at) r is few named wrong is_r =

@@ -2,6 +2,7 @@
 use Rattle.std.proofs.Common.{◌≡◌, ◌∙◌, ◌⊎◌, inl, inr, ◌<◌, ◌≤◌, ℕ, List, length, Option, Some, None, refl, sym, ap, subst, arith}
 use Rattle.std.proofs.lemmas.Bool.{cases_lt}
 use Rattle.vb_base.specs.declared.places.Pos.{Pos}
+use Rattle.vb_base.specs.Limits.{max_viper_bytes}
 use Rattle.viper_core.specs.Formed.{IsFormed}
 use Rattle.viper_core.specs.Program as p
 use Rattle.run_file.specs.Run.{ViperRun, SpellsViperRun, GoesWrongAt}
@@ -102,27 +103,27 @@ module _ (bytes name run : List ℕ) where
   refused_once : {r : Refusal} → IsRunRefusal bytes name run r → Answer
   refused_once h = is_refused h (λ other is. one_run_refusal is h) (λ w accepts. run_not_refused accepts h)
 
-  of_run : (q : p.Program) (n : ℕ) → IsAccepted bytes q → length run ≤ 1048576 → unit_named q name ≡ Some n →
+  of_run : (q : p.Program) (n : ℕ) → IsAccepted bytes q → length run ≤ max_viper_bytes → unit_named q name ≡ Some n →
       ((a : ViperRun) × SpellsViperRun run q n a) ⊎ ((b : Pos) × GoesWrongAt run q n b) → Answer
   of_run q n a few named (inl spelled) =
       accepted_once {w = record { program = q; unit = n; run = spelled.0 }} (record { accepted = a; small = few; named = named; spelled = spelled.1 })
   of_run q n a few named (inr wrong) = refused_once (run_syntax a few named wrong.1)
 
-  of_unit : (q : p.Program) → IsAccepted bytes q → length run ≤ 1048576 → (o : Option ℕ) → unit_named q name ≡ o → Answer
+  of_unit : (q : p.Program) → IsAccepted bytes q → length run ≤ max_viper_bytes → (o : Option ℕ) → unit_named q name ≡ o → Answer
   of_unit q a few None none = refused_once (no_unit a few none)
   of_unit q a few (Some n) named = of_run q n a few named (run_laws.run_or_place (is_reader q n (names_apart q n (accepted_formed a))) run (omega (arith, few)))
 
-  of_bytes : length bytes ≤ 1048576 → length run ≤ 1048576 → ((q : p.Program) × IsAccepted bytes q) ⊎ ((r : Refusal) × IsTextRefusal bytes r) → Answer
+  of_bytes : length bytes ≤ max_viper_bytes → length run ≤ max_viper_bytes → ((q : p.Program) × IsAccepted bytes q) ⊎ ((r : Refusal) × IsTextRefusal bytes r) → Answer
   of_bytes small few (inl typed) = of_unit typed.0 typed.1 few (unit_named typed.0 name) refl
   of_bytes small few (inr refused) = refused_once (of_text small few refused.1)
 
-  of_run_size : length bytes ≤ 1048576 → (1048576 < length run) ⊎ (length run ≤ 1048576) → Answer
+  of_run_size : length bytes ≤ max_viper_bytes → (max_viper_bytes < length run) ⊎ (length run ≤ max_viper_bytes) → Answer
   of_run_size small (inl above) = refused_once (run_size small above)
   of_run_size small (inr few) = of_bytes small few (text_answer bytes small)
 
-  of_size : (1048576 < length bytes) ⊎ (length bytes ≤ 1048576) → Answer
+  of_size : (max_viper_bytes < length bytes) ⊎ (length bytes ≤ max_viper_bytes) → Answer
   of_size (inl above) = refused_once (size above)
-  of_size (inr small) = of_run_size small (cases_lt 1048576 (length run))
+  of_size (inr small) = of_run_size small (cases_lt max_viper_bytes (length run))
 
 pub one_run_answer : (bytes name run : List ℕ) → HasOneAnswer (AcceptsRun bytes name run) (IsRunRefusal bytes name run)
-one_run_answer bytes name run = of_size bytes name run (cases_lt 1048576 (length bytes))
+one_run_answer bytes name run = of_size bytes name run (cases_lt max_viper_bytes (length bytes))

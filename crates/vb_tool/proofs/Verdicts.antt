@@ -5,6 +5,7 @@ use Rattle.vb_base.specs.declared.places.Pos.{Pos}
 use Rattle.vb_base.specs.Place.{IsPlaceAfter, IsPlace}
 use Rattle.vb_base.proofs.Place.{same_pos}
 use Rattle.vb_base.proofs.PlaceLaws.{one_place, some_place_after}
+use Rattle.vb_base.specs.Limits.{max_viper_bytes, max_weight, too_heavy}
 use Rattle.viper_syntax.specs.declared.tokens.LexFault.{LexFault}
 use Rattle.viper_syntax.specs.declared.tokens.LexFault.TheVariants as lex
 use Rattle.viper_syntax.specs.declared.tokens.Token.{Token}
@@ -47,7 +48,7 @@ abbrev for_rule : Judged p.Program → Refusal
 for_rule (Found q) = refusal.Size
 for_rule (Broken at n) = refusal.Rule at n
 
-not_both : {source : d.SourceProgram} {q r : p.Program} → IsProgram source q → IsProgram source r → 100000 < weight q → weight r ≤ 100000 → ⊥
+not_both : {source : d.SourceProgram} {q r : p.Program} → IsProgram source q → IsProgram source r → max_weight < weight q → weight r ≤ max_weight → ⊥
 not_both h i above below = omega (arith, above, below, ap weight (one_program_of h i))
 
 one_tree_refusal : {source : d.SourceProgram} {r q : Refusal} → IsTreeRefusal source r → IsTreeRefusal source q → r ≡ q
@@ -78,11 +79,11 @@ one_text_refusal {bytes} (of_tokens {tokens = ts} lexed is) (bad_lex {fault = e}
 one_text_refusal {bytes} {r} {q} (of_tokens {tokens = ts} lexed is) (of_tokens {tokens = us} cut other) =
     one_token_refusal is (subst (λ x. IsTokenRefusal bytes x q) (one_lexed bytes us ts cut lexed) other)
 
-accepted_tree : {source : d.SourceProgram} {q : p.Program} {r : Refusal} → IsProgram source q → weight q ≤ 100000 → IsTreeRefusal source r → ⊥
+accepted_tree : {source : d.SourceProgram} {q : p.Program} {r : Refusal} → IsProgram source q → weight q ≤ max_weight → IsTreeRefusal source r → ⊥
 accepted_tree h below (rule e) = broken_is_no_program e _ h
 accepted_tree h below (heavy i above) = not_both i h above below
 
-accepted_tokens : {bytes : List ℕ} {tokens : List Token} {source : d.SourceProgram} {q : p.Program} {r : Refusal} → Spells tokens source → IsProgram source q → weight q ≤ 100000 →
+accepted_tokens : {bytes : List ℕ} {tokens : List Token} {source : d.SourceProgram} {q : p.Program} {r : Refusal} → Spells tokens source → IsProgram source q → weight q ≤ max_weight →
     IsTokenRefusal bytes tokens r → ⊥
 accepted_tokens spelled h below (syntax none place after) = none (_, spelled)
 accepted_tokens {tokens = ts} {source = s} {r = r} spelled h below (of_tree {source = t} also other) =
@@ -145,26 +146,26 @@ type_refusal bytes tokens source (typed.Rule at n) r lexed spelled why is_r =
     let same : refusal.Rule at n ≡ r = cc in
     subst (IsTextRefusal bytes) same (of_tokens lexed (of_tree spelled (rule why)))
 type_refusal bytes tokens source (typed.Weight n) r lexed spelled why is_r =
-    let same : refusal.Weight 100001 ≡ r = ap (λ x. refusal.Weight x) (sym why.0) ∙ cc in
+    let same : refusal.Weight too_heavy ≡ r = ap (λ x. refusal.Weight x) (sym why.0) ∙ cc in
     let (program, is, above) = why.1 in
     subst (IsTextRefusal bytes) same (of_tokens lexed (of_tree spelled (heavy is above)))
 
 -- ---- each text has an answer
 
 -- Each stage goes on, or refuses.
-module _ (bytes : List ℕ) (small : length bytes ≤ 1048576) where
+module _ (bytes : List ℕ) (small : length bytes ≤ max_viper_bytes) where
   abbrev Answered : Type 0
   Answered = ((q : p.Program) × IsAccepted bytes q) ⊎ ((r : Refusal) × IsTextRefusal bytes r)
 
   of_weight : (tokens : List Token) (source : d.SourceProgram) (q : p.Program) → IsLexed bytes tokens → Spells tokens source → IsProgram source q →
-      (100000 < weight q) ⊎ (weight q ≤ 100000) → Answered
+      (max_weight < weight q) ⊎ (weight q ≤ max_weight) → Answered
   of_weight tokens source q lexed spelled is (inl above) = inr (_, of_tokens lexed (of_tree spelled (heavy is above)))
   of_weight tokens source q lexed spelled is (inr light) =
       inl (q, record { small = small; tokens = tokens; lexed = lexed; source = source; spelled = spelled; is_typed = is; light = light })
 
   of_types : (tokens : List Token) (source : d.SourceProgram) → IsLexed bytes tokens → Spells tokens source →
       ((q : p.Program) × IsProgram source q) ⊎ ((at : Pos) × (n : ℕ) × (program_typing source ≡ Broken at n)) → Answered
-  of_types tokens source lexed spelled (inl typed) = of_weight tokens source typed.0 lexed spelled typed.1 (cases_lt 100000 (weight typed.0))
+  of_types tokens source lexed spelled (inl typed) = of_weight tokens source typed.0 lexed spelled typed.1 (cases_lt max_weight (weight typed.0))
   of_types tokens source lexed spelled (inr broken) = inr (_, of_tokens lexed (of_tree spelled (rule broken.2)))
 
   of_spelling : (tokens : List Token) → IsLexed bytes tokens → Spelled tokens ⊎ GoesWrong tokens → Answered
@@ -177,7 +178,7 @@ module _ (bytes : List ℕ) (small : length bytes ≤ 1048576) where
   of_cut (inr fault) = inr (_, bad_lex fault.1)
 
 -- a text within the limit is a program, or is refused
-pub text_answer : (bytes : List ℕ) → length bytes ≤ 1048576 → ((q : p.Program) × IsAccepted bytes q) ⊎ ((r : Refusal) × IsTextRefusal bytes r)
+pub text_answer : (bytes : List ℕ) → length bytes ≤ max_viper_bytes → ((q : p.Program) × IsAccepted bytes q) ⊎ ((r : Refusal) × IsTextRefusal bytes r)
 text_answer bytes small = of_cut bytes small (some_cut bytes small)
 
 accepted_once : {bytes : List ℕ} {program : p.Program} → IsAccepted bytes program → HasOneAnswer (IsAccepted bytes) (IsRefusal bytes)
@@ -186,13 +187,13 @@ accepted_once h = is_accepted h (λ other i. one_accepted i h) (λ r is. accepte
 refused_once : {bytes : List ℕ} {r : Refusal} → IsRefusal bytes r → HasOneAnswer (IsAccepted bytes) (IsRefusal bytes)
 refused_once h = is_refused h (λ other is. one_refusal is h) (λ program accepts. accepted_not_refused accepts h)
 
-of_text : (bytes : List ℕ) → length bytes ≤ 1048576 → ((q : p.Program) × IsAccepted bytes q) ⊎ ((r : Refusal) × IsTextRefusal bytes r) → HasOneAnswer (IsAccepted bytes) (IsRefusal bytes)
+of_text : (bytes : List ℕ) → length bytes ≤ max_viper_bytes → ((q : p.Program) × IsAccepted bytes q) ⊎ ((r : Refusal) × IsTextRefusal bytes r) → HasOneAnswer (IsAccepted bytes) (IsRefusal bytes)
 of_text bytes small (inl typed) = accepted_once typed.1
 of_text bytes small (inr refused) = refused_once (accepted.of_text small refused.1)
 
-of_size : (bytes : List ℕ) → (1048576 < length bytes) ⊎ (length bytes ≤ 1048576) → HasOneAnswer (IsAccepted bytes) (IsRefusal bytes)
+of_size : (bytes : List ℕ) → (max_viper_bytes < length bytes) ⊎ (length bytes ≤ max_viper_bytes) → HasOneAnswer (IsAccepted bytes) (IsRefusal bytes)
 of_size bytes (inl above) = refused_once (accepted.size above)
 of_size bytes (inr small) = of_text bytes small (text_answer bytes small)
 
 pub one_answer : (bytes : List ℕ) → HasOneAnswer (IsAccepted bytes) (IsRefusal bytes)
-one_answer bytes = of_size bytes (cases_lt 1048576 (length bytes))
+one_answer bytes = of_size bytes (cases_lt max_viper_bytes (length bytes))

@@ -1,6 +1,7 @@
 -- What becomes of one command: its files are read, and then it is refused, or something is told.
 use Rattle.std.proofs.Common.{◌≡◌, ◌⊎◌, inl, inr, ◌∙◌, ◌<◌, ◌≤◌, ℕ, zero, suc, List, [], ◌∷◌, length, Contains, Option, Some, None, Result, Ok, Err, IfOk, IsErrAnd, refl, sym, ap, subst, arith}
 use Rattle.vb_base.specs.declared.labels.Label.{Label}
+use Rattle.vb_base.specs.Limits.{max_viper_bytes, max_made_methods}
 use Rattle.vb_outer.specs.Faults.{Rose}
 use Rattle.vb_outer.specs.Shelf.{Files, IsFile, IsMissing, IsWhole, IsLonger}
 use Rattle.vb_outer.proofs.FaultLaws.{rose_earlier}
@@ -38,6 +39,7 @@ use Rattle.vb_tool.specs.declared.outcome.Work.{Work}
 use Rattle.vb_tool.specs.declared.outcome.Work.TheVariants as a_work
 use Rattle.vb_tool.specs.declared.trouble.Trouble.{Trouble}
 use Rattle.vb_tool.specs.declared.trouble.Trouble.TheVariants as trouble
+use Rattle.vb_tool.specs.Budget.{max_execution_budget}
 
 -- ---- files that are read
 
@@ -140,7 +142,7 @@ replay_does files file run_file bytes run_bytes text s whole run_whole o =
     let Deed : Status → List ℕ → Type 0 = Does (IsWhole files) (Replay file run_file) in
     subst (λ x. Deed x text) (sym o.status_is) (subst (Deed (replay_status o.outcome)) (sym o.text_is) (call.replayed bytes run_bytes whole run_whole o.accepted o.ends))
 
-execution_does : (files : Option Files) (file method run_file bytes run_bytes text : List ℕ) (n : ℕ) (s : Status) → n ≤ 10000 → IsWhole files file bytes →
+execution_does : (files : Option Files) (file method run_file bytes run_bytes text : List ℕ) (n : ℕ) (s : Status) → n ≤ max_execution_budget → IsWhole files file bytes →
     IsWhole files run_file run_bytes → ExecutionOf bytes method run_bytes n s text → Does (IsWhole files) (Execute file method run_file n) s text
 execution_does files file method run_file bytes run_bytes text n s few whole run_whole o =
     let Deed : Status → List ℕ → Type 0 = Does (IsWhole files) (Execute file method run_file n) in
@@ -158,7 +160,7 @@ cut_does files file bytes text s whole o =
     subst (λ x. Deed x text) (sym o.status_is) (subst (Deed status.Done) (sym o.text_is) (call.was_cut bytes whole o.accepted))
 
 -- a number that is not out of range is one from 1 on, and not too great
-in_range : (n : ℕ) → (IsOutOfRange n → ⊥) → (1 ≤ n) × (n ≤ 2000)
+in_range : (n : ℕ) → (IsOutOfRange n → ⊥) → (1 ≤ n) × (n ≤ max_made_methods)
 in_range zero within = absurd (within (inl refl))
 in_range (suc n) within = (omega arith, few_in_range (suc n) within)
 
@@ -186,7 +188,7 @@ module _ {files now : Option Files} {first last : ℕ} (same : now ≡ files) wh
     files = same;
   }
 
-  pub translation_refused : (file bytes : List ℕ) (t : Trouble) {r : Result Work Trouble} → IsWhole files file bytes → length bytes ≤ 1048576 → IsErrAnd r (λ e. e ≡ t) →
+  pub translation_refused : (file bytes : List ℕ) (t : Trouble) {r : Result Work Trouble} → IsWhole files file bytes → length bytes ≤ max_viper_bytes → IsErrAnd r (λ e. e ≡ t) →
       ((q : Refusal) → troubled Program t ≡ Err (trouble.Refused q) → IsTextRefusal bytes q) → (troubled Program t ≡ Err trouble.Read → ⊥) → Works files now first last (Translate file) r
   translation_refused file bytes t whole small is refused read =
       stopped (Translate file) same t is (λ q e. call.translates bytes whole (of_text small (refused q (ap (λ u. Err u) e))))
@@ -212,7 +214,7 @@ module _ {files now : Option Files} {first last : ℕ} (same : now ≡ files) wh
       (λ q e. call.replays bytes run_bytes whole run_whole (refused q e)) read
 
   -- an execution is framed
-  pub execution_works : (file method run_file bytes run_bytes : List ℕ) (n : ℕ) (told : Result Ending Trouble) {r : Result Work Trouble} → n ≤ 10000 → r ≡ told_of told → IsWhole files file bytes → IsWhole files run_file run_bytes →
+  pub execution_works : (file method run_file bytes run_bytes : List ℕ) (n : ℕ) (told : Result Ending Trouble) {r : Result Work Trouble} → n ≤ max_execution_budget → r ≡ told_of told → IsWhole files file bytes → IsWhole files run_file run_bytes →
       IfOk told (λ t. ExecutionOf bytes method run_bytes n t.status t.text.items) → ((q : Refusal) → told ≡ Err (trouble.Refused q) → IsExecutionRefusal bytes method run_bytes q) → (told ≡ Err trouble.Read → ⊥) →
       Works files now first last (Execute file method run_file n) r
   execution_works file method run_file bytes run_bytes n told few is whole run_whole done refused read =
@@ -231,7 +233,7 @@ module _ {files now : Option Files} {first last : ℕ} (same : now ≡ files) wh
       ))
       (λ q e. call.executes bytes run_bytes few whole run_whole (refused q e)) read
 
-  pub budget_works : (file method run_file : List ℕ) (n : ℕ) → 10000 < n → Works files now first last (Execute file method run_file n) (Err (trouble.Refused refusal.Range))
+  pub budget_works : (file method run_file : List ℕ) (n : ℕ) → max_execution_budget < n → Works files now first last (Execute file method run_file n) (Err (trouble.Refused refusal.Range))
   budget_works file method run_file n above =
       stopped (Execute file method run_file n) same (trouble.Refused refusal.Range) refl
       (λ q e. let is : refusal.Range ≡ q = cc in subst (Refuses (IsWhole files) (Execute file method run_file n)) is (call.over_budget above)) (λ e. absurd cc) (λ e. absurd cc)

@@ -1,4 +1,5 @@
 use Rattle.std.proofs.Common.{◌≤◌, [], length, refl, sym, subst}
+use Rattle.vb_base.specs.Limits.{max_viper_bytes}
 use Rattle.vb_tool.specs.Accepted as accepted
 use Rattle.vb_tool.specs.Call as call
 use Rattle.vb_tool.specs.Command.{Translate}
@@ -12,7 +13,7 @@ returns-in_err-source g c =
 
 pub returns-in_err-program : goal.returns-in_err-program
 returns-in_err-program g c =
-    let small : length c.deref.result.now ≤ 1048576 = subst (λ b. length b ≤ 1048576) (sym c.deref.ensures.value) c.in_ok-source.ensures.within in
+    let small : length c.deref.result.now ≤ max_viper_bytes = subst (λ b. length b ≤ max_viper_bytes) (sym c.deref.ensures.value) c.in_ok-source.ensures.within in
     translation_refused c.in_ok-source.ensures.same c.args.file.now c.deref.result.now c.in_err-program.field-0.0 (seen_whole c.args.file.now refl c.deref.ensures.value c.in_ok-source.ensures.whole) small
     c.from_residual-in_err-program.ensures.1 c.in_err-program.ensures.refused c.in_err-program.ensures.read
 
