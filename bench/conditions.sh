@@ -16,6 +16,7 @@
 #
 # Give the program, if it is not the proved one: bench/conditions.sh PROGRAM
 set -eu
+case ${1:-} in -h | --help) exec sed -n '2,/^[^#]/s/^# \{0,1\}//p' "$0" ;; esac
 /usr/bin/env time -f '' true 2>/dev/null || { echo 'GNU time is needed' >&2 && exit 1; }
 top=$(dirname "$(readlink -f "$0")")/..
 program=${1:-$top/remduska}

@@ -4,6 +4,7 @@
 #
 # Give the program, if it is not the proved one: bench/copies.sh PROGRAM
 set -eu
+case ${1:-} in -h | --help) exec sed -n '2,/^[^#]/s/^# \{0,1\}//p' "$0" ;; esac
 top=$(dirname "$(readlink -f "$0")")/..
 program=${1:-$top/crates/vb_copies/out/vb_copies}
 [ $# -gt 0 ] || (cd "$top/crates/vb_copies" && rt run -- 0 0 >/dev/null)

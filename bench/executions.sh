@@ -6,6 +6,7 @@
 #
 # Give the program, if it is not the proved one: bench/executions.sh PROGRAM
 set -eu
+case ${1:-} in -h | --help) exec sed -n '2,/^[^#]/s/^# \{0,1\}//p' "$0" ;; esac
 top=$(dirname "$(readlink -f "$0")")/..
 program=${1:-$top/remduska}
 folder=$(mktemp -d)

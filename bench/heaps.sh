@@ -9,6 +9,7 @@
 # Give the program, if it is not the proved one: bench/heaps.sh PROGRAM. A run file of 1,048,576 bytes has room for some 65,000
 # places, and a file of weight 100,000 for some 16,000 instances beside the calls.
 set -eu
+case ${1:-} in -h | --help) exec sed -n '2,/^[^#]/s/^# \{0,1\}//p' "$0" ;; esac
 top=$(dirname "$(readlink -f "$0")")/..
 program=${1:-$top/remduska}
 folder=$(mktemp -d)

@@ -8,6 +8,7 @@
 #
 # Give the program, if it is not the proved one: bench/names.sh PROGRAM
 set -eu
+case ${1:-} in -h | --help) exec sed -n '2,/^[^#]/s/^# \{0,1\}//p' "$0" ;; esac
 top=$(dirname "$(readlink -f "$0")")/..
 program=${1:-$top/crates/remduska/out/remduska}
 [ $# -gt 0 ] || "$top/remduska" --build

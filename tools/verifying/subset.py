@@ -1,6 +1,7 @@
 """The constructs of Viper that are outside of the language, by the token at which a file is refused and what stands before it."""
 
 PAGE = "docs/language.md"
+LONGEST_ROW = 1024  # tokens without a divider
 REFUSED = {     # the refused words of docs/tokens.md
     "function": "functions are", "domain": "domains are", "axiom": "domains and their axioms are",
     "unique": "domains and their unique functions are", "import": "imports are", "define": "macros (define) are",
@@ -74,7 +75,7 @@ def ends_operand(source, n):
 def opens_unfolding(source, n):
     """Whether some `unfolding` waits for an `in` before a token of a term."""
     depth, k = 0, n - 1
-    while k >= 0 and source.said(k) not in ("{", "}", ";", ":=") and n - k < 1024:
+    while k >= 0 and source.said(k) not in ("{", "}", ";", ":=") and n - k < LONGEST_ROW:
         depth += (source.said(k) == ")") - (source.said(k) == "(")
         if source.said(k) == "unfolding" and depth == 0:
             return True
@@ -86,7 +87,7 @@ def called_before(source, n, name):
     """Whether `name ( .. )` stands right before a token."""
     if source.said(n - 1) != ")":
         return False
-    begin = next((k for k in range(n - 2, max(-1, n - 1024), -1) if source.closing.get(k) == n - 1), None)
+    begin = next((k for k in range(n - 2, max(-1, n - LONGEST_ROW), -1) if source.closing.get(k) == n - 1), None)
     return begin is not None and source.said(begin - 1) == name
 
 
