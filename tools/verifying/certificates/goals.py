@@ -192,22 +192,25 @@ class Prover(Truths):
         if self.search.told < len(self.search.trail):
             return None
         found = self.agenda.wanted(self.search.value)
-        if found is None and self.looked_through != len(self.search.trail):
-            self.looked_through = len(self.search.trail)
-            self.agenda.wake_all()
-            return None
         if found is None and self.extend():
             return None
         if found is None:
             step, found = self.numbers.branch(self.factors) or (None, None)
             self.branches += 1
             if found is None or self.branches > MOST_BRANCHES:
-                raise NoCertificate()
+                return self.look_through()
             conflict = self.attach(step) if step else None
             if conflict or found in self.search.value:
                 return conflict
         self.search.decide(found)
         return None
+
+    def look_through(self):
+        """Has everything looked at once more, unless that was done since the last literal got its value: then there is no more to find."""
+        if self.looked_through == len(self.search.trail):
+            raise NoCertificate()
+        self.looked_through = len(self.search.trail)
+        self.agenda.wake_all()
 
     def extend(self):
         """Whether there is more to say of a product."""
