@@ -113,8 +113,7 @@ class Prover(Truths):
         search, self.bounded, self.search.goal = self.search, set(), failing
         conflict = self.gate(abs(failing)) or self.leave(failing) or search.propagate()
         while True:
-            if time.monotonic() > self.until:
-                raise NoCertificate()
+            self.keep_time()
             if conflict:
                 if not search.resolve(conflict, len(self.bases)):
                     return search.empty
@@ -130,6 +129,10 @@ class Prover(Truths):
             else:
                 self.look_at(failing, *self.extra)
                 conflict = self.look() or self.equality.cycle() or self.numbers.check() or self.go_on() or search.propagate()
+
+    def keep_time(self):
+        if time.monotonic() > self.until:
+            raise NoCertificate()
 
     def refuted(self, failing):
         """The step that says alone that a literal is false, where it is. What is decided is what it implies."""

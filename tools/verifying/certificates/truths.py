@@ -15,6 +15,7 @@ class Truths(Places):
             for kind, *classes in self.equality.touched:
                 getattr(self.agenda, kind)(*classes)
             self.equality.touched.clear()
+            self.keep_time()
             it = self.it = self.agenda.next()
             if it is None:
                 return None
