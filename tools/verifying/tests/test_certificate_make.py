@@ -77,6 +77,23 @@ def steps_of_a_map(count):
     return "\n".join([*lines, *fails]) + "\n"
 
 
+def sides_that_follow(count):
+    """The text of so many changes of a map, each on a side of a branch that is taken only where the one before was, and with an assertion
+    there of what the change before has made."""
+    lines = ["conditions p", "var v1: [Ref]real", *(f"var v{k}: Ref" for k in range(2, count + 2))]
+    lines += [*(f"var v{k}: bool" for k in range(count + 2, 2 * count + 2)), "let d1 := true"]
+    path, changed, before, n, fails = "d1", "v1", "true", 1, []
+    for k in range(2, count + 2):
+        taken, asserted = f"v{count + k}", f"({changed}[v{k - 1}] >= 1.0)" if k > 2 else "true"
+        lines += [f"let d{n + 1} := ({path} && {taken})", f"let d{n + 2} := (d{n + 1} && ({taken} ==> {before}))"]
+        lines += [f"let d{n + 3} := {asserted}", f"let d{n + 4} := (d{n + 2} && (! d{n + 3}))", f"let d{n + 5} := (d{n + 2} && d{n + 3})"]
+        lines += [f"let d{n + 6} := {changed}[v{k} := 1.0]", f"let d{n + 7} := ({path} && (! {taken}))", f"let d{n + 8} := (d{n + 5} || d{n + 7})"]
+        lines += [f"let d{n + 9} := (if {taken} then d{n + 6} else {changed})"]
+        fails.append(f"fails {k}:1 {k}:1 false d{n + 4}")
+        path, changed, before, n = f"d{n + 8}", f"d{n + 9}", taken, n + 9
+    return "\n".join([*lines, *fails]) + "\n"
+
+
 def looked_at(text):
     """How many items are looked at for a certificate."""
     with mock.patch.object(Prover, "step", autospec=True, side_effect=Prover.step) as step:
@@ -154,10 +171,12 @@ class MakeTest(unittest.TestCase):
                 self.assertRaises(NoCertificate, certificate, conditions(lets))
 
     def test_what_was_looked_at_is_kept_for_the_next_assertion(self):
-        """For twice as many assertions twice as much is looked at, or little more."""
-        text = steps_of_a_map(20)
-        self.assertIsNone(check(Conditions(text), certificate(text)))
-        self.assertLess(looked_at(steps_of_a_map(40)), 2.5 * looked_at(text))
+        """For twice as many assertions twice as much is looked at, or little more, also behind branches."""
+        for made in (steps_of_a_map, sides_that_follow):
+            with self.subTest(made.__name__):
+                text = made(20)
+                self.assertIsNone(check(Conditions(text), certificate(text)))
+                self.assertLess(looked_at(made(40)), 2.5 * looked_at(text))
 
     def test_behind_a_branch(self):
         """What is asserted behind a branch hangs on both sides, on one side, on what was before it, or on none of these."""
