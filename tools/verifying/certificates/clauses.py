@@ -77,17 +77,15 @@ class Search:
     def propagate(self):
         """Assigns what follows, and gives back a step that is false, or None."""
         while not self.is_done():
-            while self.head < len(self.trail) and not self.is_done():
+            if self.head < len(self.trail):
                 literal = -self.trail[self.head]
                 self.head += 1
-                if literal in self.watched:
-                    conflict = self.follow(literal)
-                    if conflict:
-                        return conflict
-            if self.told == len(self.trail) or self.is_done():
+                conflict = self.follow(literal) if literal in self.watched else None
+            elif self.told < len(self.trail):
+                self.told += 1
+                conflict = self.theory.assigned(self.trail[self.told - 1])
+            else:
                 return None
-            self.told += 1
-            conflict = self.theory.assigned(self.trail[self.told - 1])
             if conflict:
                 return conflict
         return None

@@ -87,8 +87,8 @@ def sides_that_follow(count):
         taken, asserted = f"v{count + k}", f"({changed}[v{k - 1}] >= 1.0)" if k > 2 else "true"
         lines += [f"let d{n + 1} := ({path} && {taken})", f"let d{n + 2} := (d{n + 1} && ({taken} ==> {before}))"]
         lines += [f"let d{n + 3} := {asserted}", f"let d{n + 4} := (d{n + 2} && (! d{n + 3}))", f"let d{n + 5} := (d{n + 2} && d{n + 3})"]
-        lines += [f"let d{n + 6} := {changed}[v{k} := 1.0]", f"let d{n + 7} := ({path} && (! {taken}))", f"let d{n + 8} := (d{n + 5} || d{n + 7})"]
-        lines += [f"let d{n + 9} := (if {taken} then d{n + 6} else {changed})"]
+        lines += [f"let d{n + 6} := {changed}[v{k} := 1.0]", f"let d{n + 7} := ({path} && (! {taken}))"]
+        lines += [f"let d{n + 8} := (d{n + 5} || d{n + 7})", f"let d{n + 9} := (if {taken} then d{n + 6} else {changed})"]
         fails.append(f"fails {k}:1 {k}:1 false d{n + 4}")
         path, changed, before, n = f"d{n + 8}", f"d{n + 9}", taken, n + 9
     return "\n".join([*lines, *fails]) + "\n"
