@@ -66,21 +66,31 @@ method go(x: Ref, n: Int) returns (r: Int)
   }
 }
 
-field value: Int
+field val: Int
 field next: Ref
-predicate cell(x: Ref) { acc(x.value) && x.value >= 0 }
+predicate cell(x: Ref) { acc(x.val) && x.val >= 0 }
 predicate list(x: Ref) {
   acc(x.next) && cell(x) && (x.next != null ==> list(x.next))
 }
-method push(tail: Ref, v: Int) returns (x: Ref)
-  requires list(tail) && v >= 0
-  ensures list(x)
+method make(v: Int) returns (r: Ref)
+  requires v >= 0
+  ensures list(r)
 {
-  x := new(*)
-  x.value := v
-  x.next := tail
-  fold cell(x)
-  fold list(x)
+  r := new(val, next)
+  r.val := v
+  r.next := null
+  fold cell(r)
+  fold list(r)
+}
+method push(x: Ref, v: Int) returns (r: Ref)
+  requires list(x) && v >= 0
+  ensures list(r)
+{
+  r := new(*)
+  r.val := v
+  r.next := x
+  fold cell(r)
+  fold list(r)
 }
 method head(x: Ref) returns (v: Int)
   requires list(x)
@@ -88,20 +98,20 @@ method head(x: Ref) returns (v: Int)
 {
   unfold list(x)
   unfold cell(x)
-  v := x.value
+  v := x.val
   fold cell(x)
   fold list(x)
 }
-method fill(x: Ref, n: Int) returns (y: Ref)
-  requires list(x)
-  ensures list(y)
+method fill(n: Int) returns (r: Ref)
+  requires n >= 0
+  ensures list(r)
 {
   var i: Int := 0
-  y := x
+  r := make(0)
   while (i < n)
-    invariant list(y) && i >= 0
+    invariant list(r) && i >= 0
   {
-    y := push(y, i)
+    r := push(r, i)
     i := i + 1
   }
 }
