@@ -5,7 +5,6 @@ mod IndexLaws
 mod KeyLaws
 pub mod LookupLaws
 pub mod MapLaws
-mod NumberLaws
 mod OperatorLaws
 mod SearchLaws
 mod SetLaws

@@ -4,6 +4,7 @@ pub mod IntLaws
 pub mod EuclidLaws
 pub mod FractionCode
 pub mod FractionLaws
+pub mod NumberLaws
 pub mod ContentLaws
 pub mod OperationLaws
 pub mod OrderLaws

@@ -1,4 +1,3 @@
-pub mod NumberLaws
 pub mod AnswerLaws
 pub mod PlaceLaws
 pub mod OperatorLaws

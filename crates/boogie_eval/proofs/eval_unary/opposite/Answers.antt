@@ -2,7 +2,7 @@ use Rattle.std.proofs.Common.{◌∙◌, ap, pos, neg_ℤ, ◌-ℤ◌, to_z, of_
 use Rattle.std.specs.Int.{w128}
 use Rattle.vb_value.proofs.ProperLaws.{IsReduced-negative}
 use Rattle.vb_value.proofs.BoundLaws.{read_back}
-use Rattle.boogie_eval.proofs.NumberLaws.{made_is, negative_is}
+use Rattle.vb_value.proofs.NumberLaws.{made_is, negative_is}
 use Rattle.boogie_eval.proofs.eval_unary.opposite.Goals as goal
 
 pub returns : goal.returns

@@ -2,7 +2,7 @@ use Rattle.std.proofs.Common.{refl}
 use Rattle.vb_value.proofs.BoundLaws.{read_back}
 use Rattle.vb_value.proofs.FractionLaws.{IsReduced-whole}
 use Rattle.vb_value.specs.Fraction.{whole}
-use Rattle.viper_eval.proofs.NumberLaws.{made_is}
+use Rattle.vb_value.proofs.NumberLaws.{made_is}
 use Rattle.viper_eval.proofs.operators.fraction.Goals as goal
 
 pub returns : goal.returns
