@@ -5,10 +5,9 @@ use Rattle.vb_base.specs.Limits.{max_viper_bytes}
 use Rattle.vb_base.specs.declared.places.Pos.{Pos}
 use Rattle.viper_core.specs.Program as p
 use Rattle.viper_core.specs.declared.programs.Unit.TheVariants.{Method}
-use Rattle.viper_exec_subset.specs.Unframed.{first_unframed}
+use Rattle.exec_words.specs.Unframed.{first_unframed}
 use Rattle.run_file.specs.Run.{SpellsViperRun, GoesWrongAt}
-use Rattle.viper_file.specs.Accepted.{IsAccepted}
-use Rattle.vb_tool.specs.Accepted.{IsTextRefusal}
+use Rattle.vb_tool.specs.Accepted.{IsAccepted, IsTextRefusal}
 use Rattle.vb_tool.specs.Executions.{body_named, MethodRun}
 use Rattle.vb_tool.specs.declared.status.Refusal.{Refusal}
 use Rattle.vb_tool.specs.declared.status.Refusal.TheVariants.{Size, RunSize, Unframed, NoUnit, RunSyntax}
