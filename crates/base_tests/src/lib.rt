@@ -1,4 +1,4 @@
-//! Tests of public calls of the lowest crates, for what no clause and no row of `row_tests` says: each call once with values worked
+//! Tests of public calls of the lowest crates, for what no clause and no row of `vb_rows` says: each call once with values worked
 //! out by hand. A table is one string, a row a line.
 #![tactic(auto)]
 
@@ -7,8 +7,14 @@ mod devices;
 #[cfg(test)]
 mod generated;
 #[cfg(test)]
+mod labels;
+#[cfg(test)]
 mod maps;
+#[cfg(test)]
+mod numbers;
 #[cfg(test)]
 mod rows;
 #[cfg(test)]
 mod states;
+#[cfg(test)]
+mod values;

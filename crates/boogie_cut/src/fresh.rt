@@ -1,15 +1,15 @@
 // Names of further locals.
 ghost use Rattle.std.specs.Prelude.{◌≡◌, ◌+◌, ◌++◌, ◌∷◌, [], length, IfOk, OnOk};
+ghost use Rattle.std.specs.List.{filter};
 ghost use Rattle.boogie_tree.specs.Whole.{local_of, locals_of, type_of};
 ghost use Rattle.boogie_cut.specs.Fresh.{free_number, fresh_locals, is_a, is_among, numbered};
-ghost use Rattle.boogie_cut.specs.View.{AreNoted, IsNoted, a_names, types_of_all};
+ghost use Rattle.boogie_cut.specs.View.{a_names, types_of_all};
 
 use crate::copies::bases;
 use crate::pieces::behind;
 use boogie_tree::{BType, Local};
-use indexmap::IndexSet;
+use name_table::NameTable;
 use std::alloc::Global;
-use symbol_table::{Digest, NameKey};
 use vb_base::{Ident, Memory};
 
 /// Whether a name begins with an `a`, as numbered ones do.
@@ -22,34 +22,23 @@ fn is_a(name: &Ident) -> bool
     }
 }
 
-/// A key that comes of the names of all these.
-fn key_of(locals: &[Local]) -> NameKey {
-    let mut digest = Digest::new();
-    for local in locals {
-        digest.add(local.name.bytes());
-    }
-    digest.key()
-}
-
 /// Those of the locals' names that begin with an `a`.
 #[derive(Drop)]
 struct Taken<'a> {
     locals: &'a [Local],
-    names: IndexSet<Ident, NameKey>,
-    /// How many locals have them.
-    many: usize,
-    ghost are_noted: { AreNoted names.keys many (a_names locals.now) },
+    names: NameTable,
+    ghost are_names: { names ≡ a_names locals.now },
 }
 
-/// Notes the name where it begins with an `a`. What is given back is how many were noted.
-fn note(name: &Ident, names: &mut IndexSet<Ident, NameKey>) -> Result<usize, Memory>
-    ensures { IfOk result (λ n. IsNoted name.now names.old.keys names.new.keys n) }
+/// Adds the name where it begins with an `a`.
+fn note(name: &Ident, names: &mut NameTable) -> Result<(), Memory>
+    ensures { OnOk result (names.new ≡ names.old ++ filter is_a (name.now ∷ [])) }
 {
     if !is_a(name) {
-        return Ok(0);
+        return Ok(());
     }
-    names.insert(name.copy()?)?;
-    Ok(1)
+    names.add(name.copy()?)?;
+    Ok(())
 }
 
 impl<'a> Taken<'a> {
@@ -57,29 +46,23 @@ impl<'a> Taken<'a> {
     fn of(alloc: Global, locals: &'a [Local]) -> Result<Taken<'a>, Memory>
         ensures { IfOk result (λ taken. taken.locals.now ≡ locals.now) }
     {
-        let mut names = IndexSet::with_hasher(alloc, key_of(locals));
-        let mut many = 0;
+        let mut names = NameTable::new(alloc);
         for local in locals {
-            let new = note(&local.name, &mut names)?;
-            many = behind(many, new)?;
+            note(&local.name, &mut names)?;
         }
-        Ok(Taken {
-            locals,
-            names,
-            many,
-        })
+        Ok(Taken { locals, names })
     }
 
     fn len(&self) -> usize
         ensures { result ≡ length (a_names self.now.locals.now) }
     {
-        self.many
+        self.names.len()
     }
 
     fn has(&self, name: &Ident) -> bool
         ensures { result ≡ is_among name.now (a_names self.now.locals.now) }
     {
-        self.names.contains(name)
+        self.names.number_of(name.bytes()).is_some()
     }
 }
 

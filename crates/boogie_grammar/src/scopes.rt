@@ -6,9 +6,9 @@ ghost use Rattle.std.specs.Str.{bytes_eq};
 ghost use Rattle.boogie_grammar.specs.Tests.{number_of, some_free};
 ghost use Rattle.boogie_grammar.specs.Words.{is_among, is_reserved};
 
+use name_table::NameTable;
 use std::alloc::Global;
 use std::marker::Model;
-use symbol_table::{NameKey, SymbolTable};
 use vb_base::{Ident, Memory, same_bytes};
 
 /// Whether a name is reserved. Each that is has letters alone, which is tried first: most names of a translation have a `$`.
@@ -62,11 +62,11 @@ fn is_some_free(names: &[Ident]) -> bool
 
 /// Names that differ, each with its number. Contracts see the list of them.
 #[derive(Drop)]
-pub struct BoogieNames {
-    names: SymbolTable,
+pub struct Names {
+    names: NameTable,
 }
 
-impl Model for BoogieNames {
+impl Model for Names {
     ghost use Rattle.std.specs.Prelude.{ℕ, List};
 
     ghost Value = { List (List ℕ) };
@@ -74,26 +74,21 @@ impl Model for BoogieNames {
     ghost view = { λ x. x.names };
 }
 
-impl BoogieNames {
-    /// No names, which are hashed by this key.
-    pub fn new(alloc: Global, key: NameKey) -> BoogieNames
+impl Names {
+    /// No names.
+    pub fn new(alloc: Global) -> Names
         ensures { result ≡ [] }
     {
-        BoogieNames {
-            names: SymbolTable::new(alloc, key),
+        Names {
+            names: NameTable::new(alloc),
         }
-    }
-
-    /// The key by which names are hashed.
-    pub fn key(&self) -> NameKey {
-        self.names.key()
     }
 
     /// The number of a name.
     pub fn number_of(&self, name: &Ident) -> Option<usize>
         ensures { result ≡ number_of name.now self.now }
     {
-        self.names.number_of(name)
+        self.names.number_of(name.bytes())
     }
 
     /// Whether a name is one of these.
@@ -128,15 +123,15 @@ impl BoogieNames {
 
 /// What an expression may name: the locals, and what the `forall` around binds.
 #[derive(Clone, Copy)]
-pub struct ExprScope<'a> {
-    pub locals: &'a BoogieNames,
+pub struct Scope<'a> {
+    pub locals: &'a Names,
     /// Further names that a bound variable is not to have.
-    pub others: &'a BoogieNames,
+    pub others: &'a Names,
     pub bound: &'a [Ident],
 }
 
 /// The number of a name that is not reserved.
-pub fn variable(names: &BoogieNames, name: &Ident) -> Option<usize>
+pub fn variable(names: &Names, name: &Ident) -> Option<usize>
     ensures { MatchOption result ((i : ℕ) → is_reserved name.now ≡ false → number_of name.now names.now ≡ Some i → ⊥)
         (λ i. (is_reserved name.now ≡ false) × (number_of name.now names.now ≡ Some i)) }
 {

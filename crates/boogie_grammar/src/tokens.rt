@@ -44,7 +44,7 @@ pub enum BSign {
 
 /// A word of the grammar. As a token it is a name.
 #[derive(Clone, Copy)]
-pub enum BoogieWord {
+pub enum Word {
     Procedure,
     Var,
     Havoc,

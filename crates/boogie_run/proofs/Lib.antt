@@ -1,4 +1,5 @@
 mod BlockLaws
+mod CopyLaws
 mod RunStepLaws
 pub mod RunWithinLaws
 pub mod SettingLaws

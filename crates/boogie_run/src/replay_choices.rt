@@ -14,7 +14,7 @@ ghost use Rattle.boogie_run.specs.Runs.{Takes};
 ghost use Rattle.boogie_eval.specs.View.{map_of};
 ghost use Rattle.boogie_run.specs.View.{left_in};
 
-use crate::replay_ends::{ReplayHalt, ReplayStop};
+use crate::replay_ends::{Halt, Stop};
 use crate::replay_values::fill_at;
 use boogie_tree::{
     BBase, BChoice, BScalar, BType, BValue, Entry, base_of_scalar, default_of, fits_key, same_base,
@@ -26,13 +26,13 @@ use vb_value::Key;
 
 /// The choices of a run.
 #[derive(Clone, Copy)]
-pub(crate) struct BoogieFeed<'a> {
+pub(crate) struct Feed<'a> {
     pub(crate) choices: &'a [BChoice],
     /// How many of them were taken.
     pub(crate) next: usize,
 }
 
-impl<'a> BoogieFeed<'a> {
+impl<'a> Feed<'a> {
     /// Takes the next choice. None exactly where all were taken.
     fn take(&mut self) -> Option<&'a BChoice>
         ensures next { MatchOption result ((left_in self.old ≡ []) × (left_in self.new ≡ [])) (λ choice. left_in self.old ≡ choice_of choice.now ∷ left_in self.new) }
@@ -54,15 +54,15 @@ fn picked(choice: &BChoice) -> Option<bool>
 }
 
 /// Takes the next choice, which has to be a branch.
-pub(crate) fn take_branch(feed: &mut BoogieFeed) -> Result<bool, ReplayHalt>
+pub(crate) fn take_branch(feed: &mut Feed) -> Result<bool, Halt>
     ensures { Takes (λ p. p) (left_in feed.old) (left_in feed.new) (λ go. m.with_choice (left_in feed.old) m.picked go) result }
 {
     match feed.take() {
         Some(choice) => match picked(choice) {
             Some(branch) => Ok(branch),
-            None => Err(ReplayHalt::Stops(ReplayStop::Blocked)),
+            None => Err(Halt::Stops(Stop::Blocked)),
         },
-        None => Err(ReplayHalt::Stops(ReplayStop::Short)),
+        None => Err(Halt::Stops(Stop::Short)),
     }
 }
 
@@ -85,11 +85,20 @@ fn fits_entries(keys: &[BBase], base: BBase, entries: &[Entry]) -> bool
     true
 }
 
+fn copied_key(key: &Key) -> Result<Key, Memory>
+    ensures { IfOk result (λ k. k ≡ key.now) }
+{
+    match key.clone() {
+        Ok(copy) => Ok(copy),
+        Err(_) => Err(Memory),
+    }
+}
+
 /// Puts an entry into a map that is being filled.
 fn put_entry(map: &mut Builder<Key, BScalar>, entry: &Entry) -> Result<(), Memory>
     ensures { OnOk result (map_of map.new ≡ set key_cmp same_scalar (map_of map.old) (entry_of entry.now).key (entry_of entry.now).value) }
 {
-    let key = entry.key.clone()?;
+    let key = copied_key(&entry.key)?;
     let value = entry.value.clone()?;
     fill_at(map, key, value)
 }
@@ -102,14 +111,27 @@ fn filled(alloc: Global, base: BBase, entries: &[Entry]) -> Result<Sparse<Key, B
     for entry in entries {
         put_entry(&mut map, entry)?;
     }
-    map.finish()
+    finished(map)
+}
+
+/// A map that was filled.
+fn finished(map: Builder<Key, BScalar>) -> Result<Sparse<Key, BScalar>, Memory>
+    ensures { IfOk result (λ n. n ≡ map) }
+{
+    match map.finish() {
+        Ok(map) => Ok(map),
+        Err(_) => Err(Memory),
+    }
 }
 
 /// The map that has the default of this type at each key.
 pub(crate) fn empty_map(alloc: Global, base: BBase) -> Result<Sparse<Key, BScalar>, Memory>
     ensures { IfOk result (λ n. map_of n ≡ empty (default_of base)) }
 {
-    Sparse::make(alloc, default_of(base))
+    match Sparse::make(alloc, default_of(base)) {
+        Ok(map) => Ok(map),
+        Err(_) => Err(Memory),
+    }
 }
 
 /// The map that entries give, if they are of its type.
@@ -161,18 +183,14 @@ fn chosen(alloc: Global, ty: &BType, choice: &BChoice) -> Result<Option<BValue>,
 }
 
 /// Takes the next choice, which has to give a variable of this type a value.
-pub(crate) fn take_value(
-    alloc: Global,
-    ty: &BType,
-    feed: &mut BoogieFeed,
-) -> Result<BValue, ReplayHalt>
+pub(crate) fn take_value(alloc: Global, ty: &BType, feed: &mut Feed) -> Result<BValue, Halt>
     ensures { Takes value_of (left_in feed.old) (left_in feed.new) (λ go. m.with_choice (left_in feed.old) (m.chosen (type_of ty.now)) go) result }
 {
     match feed.take() {
         Some(choice) => match chosen(alloc, ty, choice)? {
             Some(value) => Ok(value),
-            None => Err(ReplayHalt::Stops(ReplayStop::Blocked)),
+            None => Err(Halt::Stops(Stop::Blocked)),
         },
-        None => Err(ReplayHalt::Stops(ReplayStop::Short)),
+        None => Err(Halt::Stops(Stop::Short)),
     }
 }

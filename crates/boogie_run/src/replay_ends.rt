@@ -1,5 +1,5 @@
 // How runs stop.
-ghost use Rattle.boogie_run.specs.declared.replay_ends.ReplayHalt.TheVariants as halt;
+ghost use Rattle.boogie_run.specs.declared.replay_ends.Halt.TheVariants as halt;
 ghost use Rattle.boogie_run.specs.Runs.{halted};
 ghost use Rattle.std.specs.Prelude.{◌≡◌, IfOk};
 
@@ -8,7 +8,7 @@ use vb_base::{Label, Memory};
 
 /// Why a run stops.
 #[derive(Clone, Copy, Debug, PartialEq, Eq)]
-pub(crate) enum ReplayStop {
+pub(crate) enum Stop {
     Failed(Label),
     /// An `assume` is false, or a choice is of another kind or type than the step takes.
     Blocked,
@@ -22,38 +22,38 @@ pub(crate) enum ReplayStop {
 
 /// Why a run does not go on.
 #[derive(Clone, Copy, Debug, PartialEq, Eq)]
-pub(crate) enum ReplayHalt {
+pub(crate) enum Halt {
     /// There was no memory.
     Memory,
-    Stops(ReplayStop),
+    Stops(Stop),
 }
 
 /// Why a run stops that does not go on, unless there was no memory.
-pub(crate) fn stop_of(halt: ReplayHalt) -> Result<ReplayStop, Memory>
-    ensures { IfOk result (λ stop. halt ≡ ReplayHalt.Stops stop) }
+pub(crate) fn stop_of(halt: Halt) -> Result<Stop, Memory>
+    ensures { IfOk result (λ stop. halt ≡ Halt.Stops stop) }
 {
     match halt {
-        ReplayHalt::Memory => Err(Memory),
-        ReplayHalt::Stops(stop) => Ok(stop),
+        Halt::Memory => Err(Memory),
+        Halt::Stops(stop) => Ok(stop),
     }
 }
 
-impl From<Memory> for ReplayHalt {
+impl From<Memory> for Halt {
     ghost from_gives = { λ _ e. e ≡ halt.Memory };
 
-    fn from(_: Memory) -> ReplayHalt {
-        ReplayHalt::Memory
+    fn from(_: Memory) -> Halt {
+        Halt::Memory
     }
 }
 
-impl From<Miss> for ReplayHalt {
+impl From<Miss> for Halt {
     ghost from_gives = { λ m e. e ≡ halted m };
 
-    fn from(miss: Miss) -> ReplayHalt {
+    fn from(miss: Miss) -> Halt {
         match miss {
-            Miss::Memory => ReplayHalt::Memory,
-            Miss::Over => ReplayHalt::Stops(ReplayStop::Over),
-            Miss::Wrong => ReplayHalt::Stops(ReplayStop::Wrong),
+            Miss::Memory => Halt::Memory,
+            Miss::Over => Halt::Stops(Stop::Over),
+            Miss::Wrong => Halt::Stops(Stop::Wrong),
         }
     }
 }

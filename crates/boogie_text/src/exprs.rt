@@ -6,21 +6,17 @@ ghost use Rattle.boogie_grammar.specs.ReadView.{scope_of, boxed_of, all_exprs_of
 
 use crate::bounds::{binders, bound_rest, eat_bound};
 use crate::builds::{at, wrap};
-use boogie_grammar::eating::{BoogieRead, eat_sign, eat_word, need_operator, need_sign, need_word};
+use boogie_grammar::eating::{Read, eat_sign, eat_word, need_operator, need_sign, need_word};
 use boogie_grammar::leaves::{Wrap, eat_forall, eat_leaf, eat_variable, eat_wrap};
-use boogie_grammar::scopes::{BoogieNames, ExprScope};
-use boogie_grammar::{BSign, BoogieWord, PlacedLexeme};
+use boogie_grammar::scopes::{Names, Scope};
+use boogie_grammar::{BSign, PlacedLexeme, Word};
 use boogie_tree::BExpr;
 use std::alloc::Global;
 use vb_base::{boxed, pushed};
 
 /// An expression.
 #[cycle(expressions)]
-pub fn expr<'a>(
-    alloc: Global,
-    scope: ExprScope<'_>,
-    tokens: &'a [PlacedLexeme],
-) -> BoogieRead<'a, Box<BExpr>>
+pub fn expr<'a>(alloc: Global, scope: Scope<'_>, tokens: &'a [PlacedLexeme]) -> Read<'a, Box<BExpr>>
     ensures shorter { IfOk result (λ r. length r.1.now < length tokens.now) }
     ensures reads { Parses boxed_of (g.rule (g.Expr (scope_of scope.entry))) tokens.now result }
 {
@@ -31,7 +27,7 @@ pub fn expr<'a>(
     if let Some((form, rest)) = eat_wrap(tokens) {
         return wrapped(alloc, scope, form, rest);
     }
-    if let Some(rest) = eat_word(BoogieWord::SPair, tokens) {
+    if let Some(rest) = eat_word(Word::SPair, tokens) {
         return paired(alloc, scope, rest);
     }
     if let Some((i, rest)) = eat_variable(scope.locals, tokens) {
@@ -44,10 +40,10 @@ pub fn expr<'a>(
 #[cycle(expressions)]
 fn wrapped<'a>(
     alloc: Global,
-    scope: ExprScope<'_>,
+    scope: Scope<'_>,
     form: Wrap,
     tokens: &'a [PlacedLexeme],
-) -> BoogieRead<'a, Box<BExpr>>
+) -> Read<'a, Box<BExpr>>
     ensures shorter { IfOk result (λ r. length r.1.now < length tokens.now) }
     ensures reads { Parses boxed_of (g.wrapped (scope_of scope.entry) (wrap_of form)) tokens.now result }
 {
@@ -59,10 +55,10 @@ fn wrapped<'a>(
 #[cycle(expressions)]
 fn closed<'a>(
     alloc: Global,
-    scope: ExprScope<'_>,
+    scope: Scope<'_>,
     form: Wrap,
     tokens: &'a [PlacedLexeme],
-) -> BoogieRead<'a, Box<BExpr>>
+) -> Read<'a, Box<BExpr>>
     ensures shorter { IfOk result (λ r. length r.1.now < length tokens.now) }
     ensures reads { Parses boxed_of (closing (scope_of scope.entry) (wrap_of form)) tokens.now result }
 {
@@ -74,11 +70,7 @@ fn closed<'a>(
 
 /// `"(" bexpr "," bexpr ")"` after `sPair`.
 #[cycle(expressions)]
-fn paired<'a>(
-    alloc: Global,
-    scope: ExprScope<'_>,
-    tokens: &'a [PlacedLexeme],
-) -> BoogieRead<'a, Box<BExpr>>
+fn paired<'a>(alloc: Global, scope: Scope<'_>, tokens: &'a [PlacedLexeme]) -> Read<'a, Box<BExpr>>
     ensures shorter { IfOk result (λ r. length r.1.now < length tokens.now) }
     ensures reads { Parses boxed_of (g.paired (scope_of scope.entry)) tokens.now result }
 {
@@ -95,10 +87,10 @@ fn paired<'a>(
 #[cycle(expressions)]
 fn named<'a>(
     alloc: Global,
-    scope: ExprScope<'_>,
+    scope: Scope<'_>,
     i: usize,
     tokens: &'a [PlacedLexeme],
-) -> BoogieRead<'a, Box<BExpr>>
+) -> Read<'a, Box<BExpr>>
     ensures shorter { IfOk result (λ r. length r.1.now ≤ length tokens.now) }
     ensures reads { Parses boxed_of (g.named (scope_of scope.entry) i) tokens.now result }
 {
@@ -113,10 +105,10 @@ fn named<'a>(
 #[cycle(expressions)]
 fn indices<'a>(
     alloc: Global,
-    scope: ExprScope<'_>,
+    scope: Scope<'_>,
     i: usize,
     tokens: &'a [PlacedLexeme],
-) -> BoogieRead<'a, Box<BExpr>>
+) -> Read<'a, Box<BExpr>>
     ensures shorter { IfOk result (λ r. length r.1.now < length tokens.now) }
     ensures reads { Parses boxed_of (g.rule (g.Indices (scope_of scope.entry) i)) tokens.now result }
 {
@@ -134,9 +126,9 @@ fn indices<'a>(
 #[cycle(expressions)]
 pub fn exprs<'a>(
     alloc: Global,
-    scope: ExprScope<'_>,
+    scope: Scope<'_>,
     tokens: &'a [PlacedLexeme],
-) -> BoogieRead<'a, Vec<BExpr>>
+) -> Read<'a, Vec<BExpr>>
     ensures shorter { IfOk result (λ r. length r.1.now < length tokens.now) }
     ensures reads { Parses all_exprs_of (g.rule (g.Exprs (scope_of scope.entry))) tokens.now result }
 {
@@ -155,9 +147,9 @@ pub fn exprs<'a>(
 #[cycle(expressions)]
 fn in_parens<'a>(
     alloc: Global,
-    scope: ExprScope<'_>,
+    scope: Scope<'_>,
     tokens: &'a [PlacedLexeme],
-) -> BoogieRead<'a, Box<BExpr>>
+) -> Read<'a, Box<BExpr>>
     ensures shorter { IfOk result (λ r. length r.1.now < length tokens.now) }
     ensures reads { Parses boxed_of (g.in_parens (scope_of scope.entry)) tokens.now result }
 {
@@ -167,11 +159,7 @@ fn in_parens<'a>(
 
 /// What follows a `(`, with its `)`.
 #[cycle(expressions)]
-fn inside<'a>(
-    alloc: Global,
-    scope: ExprScope<'_>,
-    tokens: &'a [PlacedLexeme],
-) -> BoogieRead<'a, Box<BExpr>>
+fn inside<'a>(alloc: Global, scope: Scope<'_>, tokens: &'a [PlacedLexeme]) -> Read<'a, Box<BExpr>>
     ensures shorter { IfOk result (λ r. length r.1.now < length tokens.now) }
     ensures reads { Parses boxed_of (g.rule (g.InParens (scope_of scope.entry))) tokens.now result }
 {
@@ -181,7 +169,7 @@ fn inside<'a>(
     if let Some(rest) = eat_sign(BSign::Not, tokens) {
         return closed(alloc, scope, Wrap::Not, rest);
     }
-    if let Some(rest) = eat_word(BoogieWord::If, tokens) {
+    if let Some(rest) = eat_word(Word::If, tokens) {
         return choice(alloc, scope, rest);
     }
     if let Some(rest) = eat_forall(scope, tokens) {
@@ -192,18 +180,14 @@ fn inside<'a>(
 
 /// `bexpr "then" bexpr "else" bexpr ")"` after `if`.
 #[cycle(expressions)]
-fn choice<'a>(
-    alloc: Global,
-    scope: ExprScope<'_>,
-    tokens: &'a [PlacedLexeme],
-) -> BoogieRead<'a, Box<BExpr>>
+fn choice<'a>(alloc: Global, scope: Scope<'_>, tokens: &'a [PlacedLexeme]) -> Read<'a, Box<BExpr>>
     ensures shorter { IfOk result (λ r. length r.1.now < length tokens.now) }
     ensures reads { Parses boxed_of (chosen (scope_of scope.entry)) tokens.now result }
 {
     let (condition, rest) = expr(alloc, scope, tokens)?;
-    let (_, after) = need_word(BoogieWord::Then, rest)?;
+    let (_, after) = need_word(Word::Then, rest)?;
     let (first, rest) = expr(alloc, scope, after)?;
-    let (_, after) = need_word(BoogieWord::Else, rest)?;
+    let (_, after) = need_word(Word::Else, rest)?;
     let (second, rest) = expr(alloc, scope, after)?;
     let (_, after) = need_sign(BSign::CloseParen, rest)?;
     let whole = boxed(alloc, BExpr::If(condition, first, second))?;
@@ -212,11 +196,7 @@ fn choice<'a>(
 
 /// `bexpr bop bexpr ")"`
 #[cycle(expressions)]
-fn binary<'a>(
-    alloc: Global,
-    scope: ExprScope<'_>,
-    tokens: &'a [PlacedLexeme],
-) -> BoogieRead<'a, Box<BExpr>>
+fn binary<'a>(alloc: Global, scope: Scope<'_>, tokens: &'a [PlacedLexeme]) -> Read<'a, Box<BExpr>>
     ensures shorter { IfOk result (λ r. length r.1.now < length tokens.now) }
     ensures reads { Parses boxed_of (g.binary (scope_of scope.entry)) tokens.now result }
 {
@@ -232,13 +212,13 @@ fn binary<'a>(
 #[cycle(expressions)]
 fn quantified<'a>(
     alloc: Global,
-    scope: ExprScope<'_>,
+    scope: Scope<'_>,
     tokens: &'a [PlacedLexeme],
-) -> BoogieRead<'a, Box<BExpr>>
+) -> Read<'a, Box<BExpr>>
     ensures shorter { IfOk result (λ r. length r.1.now < length tokens.now) }
     ensures reads { Parses boxed_of (quantifying (scope_of scope.entry)) tokens.now result }
 {
-    let mut bound = BoogieNames::new(alloc, scope.locals.key());
+    let mut bound = Names::new(alloc);
     binding(alloc, scope, &mut bound, tokens)
 }
 
@@ -246,17 +226,17 @@ fn quantified<'a>(
 #[cycle(expressions)]
 fn binding<'a>(
     alloc: Global,
-    scope: ExprScope<'_>,
-    bound: &mut BoogieNames,
+    scope: Scope<'_>,
+    bound: &mut Names,
     tokens: &'a [PlacedLexeme],
-) -> BoogieRead<'a, Box<BExpr>>
+) -> Read<'a, Box<BExpr>>
     requires { bound.now ≡ [] }
     ensures shorter { IfOk result (λ r. length r.1.now < length tokens.now) }
     ensures reads { Parses boxed_of (quantifying (scope_of scope.entry)) tokens.now result }
 {
     let (types, rest) = binders(alloc, scope, bound, tokens)?;
     let (_, after) = need_sign(BSign::Bounds, rest)?;
-    let under = ExprScope {
+    let under = Scope {
         locals: scope.locals,
         others: scope.others,
         bound: bound.all(),

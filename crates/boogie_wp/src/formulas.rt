@@ -12,9 +12,9 @@ ghost use Rattle.boogie_wp.specs.Build.{conditions_for, finished, formula_for, n
 ghost use Rattle.boogie_wp.specs.View.{builder_of, types_in, types_of_all};
 
 use crate::build::build;
-use crate::builder::ConditionsBuilder;
+use crate::builder::Builder;
 use crate::chain::ask;
-use crate::names::LocalVersions;
+use crate::names::Names;
 use crate::variables::variables;
 use boogie_formula::{Conditions, FExpr, Formula};
 use boogie_tree::{BProgram, BType, Local, Proc};
@@ -33,14 +33,14 @@ fn numbers_of(alloc: Global, locals: &[Local]) -> Result<Vec<usize>, Memory>
 }
 
 /// The run comes to the first statement. There are n variables.
-fn start(alloc: Global, n: usize, locals: &[Local]) -> Result<ConditionsBuilder, Memory>
+fn start(alloc: Global, n: usize, locals: &[Local]) -> Result<Builder, Memory>
     requires { n < 2 ^ 63 }
     ensures { (vars : List p.BType) → length vars ≡ n → IfOk result (λ x. builder_of x ≡ started vars (types_in locals.now)) }
 {
     let versions = numbers_of(alloc, locals)?;
-    let mut start = ConditionsBuilder {
+    let mut start = Builder {
         lets: Vec::new(alloc),
-        names: LocalVersions {
+        names: Names {
             versions,
             changes: Vec::new(alloc),
         },
@@ -52,7 +52,7 @@ fn start(alloc: Global, n: usize, locals: &[Local]) -> Result<ConditionsBuilder,
     Ok(start)
 }
 
-fn finish(vars: Vec<BType>, end: ConditionsBuilder) -> Conditions
+fn finish(vars: Vec<BType>, end: Builder) -> Conditions
     ensures { conditions_of result ≡ finished (types_of_all vars.items) (builder_of end) }
 {
     Conditions {
@@ -62,16 +62,9 @@ fn finish(vars: Vec<BType>, end: ConditionsBuilder) -> Conditions
     }
 }
 
-/// The conditions of a well-typed procedure. At values of the variables an assertion with a label fails exactly where the procedure
-/// fails there, from the values of its locals and on the choices that the run meets. Where the procedure can be printed, so can the
-/// conditions. `Memory` where there is no memory.
-pub fn conditions_of_procedure(alloc: Global, proc: &Proc) -> Result<Conditions, Memory>
+fn conditions_of_procedure(alloc: Global, proc: &Proc) -> Result<Conditions, Memory>
     requires { IsTypedProc (proc_of proc.now) }
-    ensures built { IfOk result (λ x. conditions_of x ≡ conditions_for (proc_of proc.now)) }
-    ensures follows { IfOk result (λ x. ConditionsFollow (proc_of proc.now) (conditions_of x)) }
-    ensures exact { IfOk result (λ x. AreExact (proc_of proc.now) (conditions_of x)) }
-    ensures typed { IfOk result (λ x. IsTypedConditions (conditions_of x)) }
-    ensures printable { FitStmts (length (proc_of proc.now).locals) (proc_of proc.now).body → IfOk result (λ x. IsPrintableConditions (conditions_of x)) }
+    ensures { IfOk result (λ x. conditions_of x ≡ conditions_for (proc_of proc.now)) }
 {
     let vars = variables(alloc, proc)?;
     let n = vars.len();
@@ -80,8 +73,9 @@ pub fn conditions_of_procedure(alloc: Global, proc: &Proc) -> Result<Conditions,
     Ok(finish(vars, builder))
 }
 
-/// The conditions of the procedure of this number, from 0 on, of a well-typed program, as `conditions_of_procedure`. `Memory` where
-/// there is no memory.
+/// The conditions of the procedure of this number, from 0 on, of a well-typed program. At values of the variables an assertion with
+/// a label fails exactly where the procedure fails there, from the values of its locals and on the choices that the run meets. Where
+/// the procedure can be printed, so can the conditions. `Memory` where there is no memory.
 pub fn conditions(alloc: Global, program: &BProgram, proc: usize) -> Result<Conditions, Memory>
     requires typed { IsTypedProgram (program_of program.now) }
     requires exists { proc < length (program_of program.now).procs }

@@ -1,22 +1,18 @@
 // Clauses of a few literals.
 ghost use Rattle.std.specs.Prelude.{◌≡◌, [], ◌∷◌, IfOk};
 
-use cert_terms::{ClauseLiteral, LineFault};
+use cert_terms::{Fault, Literal};
 use std::alloc::Global;
 
 /// The clause of this literal.
-pub(crate) fn one(alloc: Global, a: ClauseLiteral) -> Result<Vec<ClauseLiteral>, LineFault>
+pub(crate) fn one(alloc: Global, a: Literal) -> Result<Vec<Literal>, Fault>
     ensures { IfOk result (λ c. c.items ≡ a ∷ []) }
 {
     Ok(vec![in alloc; a]?)
 }
 
 /// The clause of these two.
-pub(crate) fn two(
-    alloc: Global,
-    a: ClauseLiteral,
-    b: ClauseLiteral,
-) -> Result<Vec<ClauseLiteral>, LineFault>
+pub(crate) fn two(alloc: Global, a: Literal, b: Literal) -> Result<Vec<Literal>, Fault>
     ensures { IfOk result (λ c. c.items ≡ a ∷ b ∷ []) }
 {
     Ok(vec![in alloc; a, b]?)
@@ -25,10 +21,10 @@ pub(crate) fn two(
 /// The clause of these three.
 pub(crate) fn three(
     alloc: Global,
-    a: ClauseLiteral,
-    b: ClauseLiteral,
-    c: ClauseLiteral,
-) -> Result<Vec<ClauseLiteral>, LineFault>
+    a: Literal,
+    b: Literal,
+    c: Literal,
+) -> Result<Vec<Literal>, Fault>
     ensures { IfOk result (λ r. r.items ≡ a ∷ b ∷ c ∷ []) }
 {
     Ok(vec![in alloc; a, b, c]?)

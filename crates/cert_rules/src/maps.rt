@@ -5,23 +5,23 @@ ghost use Rattle.std.specs.Prelude.{IfOk};
 use crate::clauses::two;
 use crate::equality::linked;
 use crate::reading::{change_of, closed, equation, is_among, place_of, same_literals};
-use cert_terms::{ClauseLiteral, LineFault, LineRefusal, TermTable};
+use cert_terms::{Fault, Literal, Refusal, Table};
 use std::alloc::Global;
 
 /// The clause of an equation between a changed map at keys and the new value, by equations of the keys that differ.
 pub fn hit(
     alloc: Global,
-    table: &TermTable,
+    table: &Table,
     name: usize,
     hints: &[usize],
-) -> Result<Vec<ClauseLiteral>, LineFault>
+) -> Result<Vec<Literal>, Fault>
     ensures { IfOk result (λ c. IsLawOf table.now c.items) }
 {
     let sides = equation(table, name)?;
     let place = place_of(table, sides.left)?;
     let change = change_of(table, place.map)?;
     if change.value != sides.right {
-        return Err(LineFault::Refused(LineRefusal::Shape));
+        return Err(Fault::Refused(Refusal::Shape));
     }
     let clause = linked(alloc, table, change.keys, place.keys, hints)?;
     closed(clause, name)
@@ -29,12 +29,7 @@ pub fn hit(
 
 /// The clause of an equation between a changed map and the map before, both at the same keys, and of one between a key and
 /// that of the change.
-pub fn miss(
-    alloc: Global,
-    table: &TermTable,
-    name: usize,
-    hint: usize,
-) -> Result<Vec<ClauseLiteral>, LineFault>
+pub fn miss(alloc: Global, table: &Table, name: usize, hint: usize) -> Result<Vec<Literal>, Fault>
     ensures { IfOk result (λ c. IsLawOf table.now c.items) }
 {
     let sides = equation(table, name)?;
@@ -43,13 +38,13 @@ pub fn miss(
     let change = change_of(table, place.map)?;
     let between = equation(table, hint)?;
     if change.map != before.map {
-        return Err(LineFault::Refused(LineRefusal::Shape));
+        return Err(Fault::Refused(Refusal::Shape));
     }
     if !same_literals(place.keys, before.keys) {
-        return Err(LineFault::Refused(LineRefusal::Shape));
+        return Err(Fault::Refused(Refusal::Shape));
     }
     if !is_among(between, change.keys, place.keys) {
-        return Err(LineFault::Refused(LineRefusal::Shape));
+        return Err(Fault::Refused(Refusal::Shape));
     }
-    two(alloc, ClauseLiteral::of(hint), ClauseLiteral::of(name))
+    two(alloc, Literal::of(hint), Literal::of(name))
 }

@@ -10,32 +10,27 @@ use crate::shapes::{
     Operands, check_bin, check_negation, check_zero, division_by, left_of, operands_of, right_of,
 };
 use boogie_tree::BOp;
-use cert_terms::{ClauseLiteral, LineFault, TermTable};
+use cert_terms::{Fault, Literal, Table};
 use std::alloc::Global;
 
 /// That two numbers are equal if neither is greater: `a == b`, or not `a <= b`, or not `b <= a`.
 pub fn split(
     alloc: Global,
-    table: &TermTable,
+    table: &Table,
     equation: usize,
     low: usize,
     high: usize,
-) -> Result<Vec<ClauseLiteral>, LineFault>
+) -> Result<Vec<Literal>, Fault>
     ensures { IfOk result (λ c. IsLawOf table.now c.items) }
 {
-    let equation = ClauseLiteral::of(equation);
-    let low = ClauseLiteral::of(low);
-    let high = ClauseLiteral::of(high);
+    let equation = Literal::of(equation);
+    let low = Literal::of(low);
+    let high = Literal::of(high);
     check_split(table, equation, low, high)?;
     three(alloc, equation, low.turned(), high.turned())
 }
 
-fn check_split(
-    table: &TermTable,
-    equation: ClauseLiteral,
-    low: ClauseLiteral,
-    high: ClauseLiteral,
-) -> Result<(), LineFault>
+fn check_split(table: &Table, equation: Literal, low: Literal, high: Literal) -> Result<(), Fault>
     ensures { OnOk result (IsLawOf table.now (equation ∷ turned low ∷ turned high ∷ [])) }
 {
     table.truth(equation)?;
@@ -52,7 +47,7 @@ fn check_split(
 }
 
 /// What is compared with 0 by the operator, where 0 stands on the right.
-fn tested(table: &TermTable, test: ClauseLiteral, operator: BOp) -> Result<ClauseLiteral, LineFault>
+fn tested(table: &Table, test: Literal, operator: BOp) -> Result<Literal, Fault>
     ensures { IfOk result (λ b. IsTested (terms_of table.now) (types_of table.now) test operator b) }
 {
     table.truth(test)?;
@@ -65,23 +60,19 @@ fn tested(table: &TermTable, test: ClauseLiteral, operator: BOp) -> Result<Claus
 /// `(a / b) * b == a`, or `(b * (a div b)) + (a mod b) == a`.
 pub fn over(
     alloc: Global,
-    table: &TermTable,
+    table: &Table,
     test: usize,
     equation: usize,
-) -> Result<Vec<ClauseLiteral>, LineFault>
+) -> Result<Vec<Literal>, Fault>
     ensures { IfOk result (λ c. IsLawOf table.now c.items) }
 {
-    let test = ClauseLiteral::of(test);
-    let equation = ClauseLiteral::of(equation);
+    let test = Literal::of(test);
+    let equation = Literal::of(equation);
     check_over(table, test, equation)?;
     two(alloc, test, equation)
 }
 
-fn check_over(
-    table: &TermTable,
-    test: ClauseLiteral,
-    equation: ClauseLiteral,
-) -> Result<(), LineFault>
+fn check_over(table: &Table, test: Literal, equation: Literal) -> Result<(), Fault>
     ensures { OnOk result (IsLawOf table.now (test ∷ equation ∷ [])) }
 {
     table.truth(equation)?;
@@ -98,11 +89,11 @@ fn check_over(
 
 /// Refuses what is not `(a / b) * b`.
 fn check_quotient(
-    table: &TermTable,
-    literal: ClauseLiteral,
-    dividend: ClauseLiteral,
-    divisor: ClauseLiteral,
-) -> Result<(), LineFault>
+    table: &Table,
+    literal: Literal,
+    dividend: Literal,
+    divisor: Literal,
+) -> Result<(), Fault>
     ensures { OnOk result (IsQuotient (terms_of table.now) literal dividend divisor) }
 {
     let of_both = Operands {
@@ -116,11 +107,11 @@ fn check_quotient(
 
 /// Refuses what is not `(b * (a div b)) + (a mod b)`.
 fn check_euclidean(
-    table: &TermTable,
-    literal: ClauseLiteral,
-    dividend: ClauseLiteral,
-    divisor: ClauseLiteral,
-) -> Result<(), LineFault>
+    table: &Table,
+    literal: Literal,
+    dividend: Literal,
+    divisor: Literal,
+) -> Result<(), Fault>
     ensures { OnOk result (IsEuclidean (terms_of table.now) literal dividend divisor) }
 {
     let of_both = Operands {
@@ -137,23 +128,19 @@ fn check_euclidean(
 /// That quotients and remainders by 0 are 0: not `b == 0`, or `a / b == 0`, or the same of `div` and `mod`.
 pub fn zero(
     alloc: Global,
-    table: &TermTable,
+    table: &Table,
     test: usize,
     equation: usize,
-) -> Result<Vec<ClauseLiteral>, LineFault>
+) -> Result<Vec<Literal>, Fault>
     ensures { IfOk result (λ c. IsLawOf table.now c.items) }
 {
-    let test = ClauseLiteral::of(test);
-    let equation = ClauseLiteral::of(equation);
+    let test = Literal::of(test);
+    let equation = Literal::of(equation);
     check_zero_law(table, test, equation)?;
     two(alloc, test.turned(), equation)
 }
 
-fn check_zero_law(
-    table: &TermTable,
-    test: ClauseLiteral,
-    equation: ClauseLiteral,
-) -> Result<(), LineFault>
+fn check_zero_law(table: &Table, test: Literal, equation: Literal) -> Result<(), Fault>
     ensures { OnOk result (IsLawOf table.now (turned test ∷ equation ∷ [])) }
 {
     let divisor = tested(table, test, BOp::Eq)?;
@@ -163,19 +150,15 @@ fn check_zero_law(
 }
 
 /// That a remainder is not negative: `0 <= a mod b`.
-pub fn rest(
-    alloc: Global,
-    table: &TermTable,
-    comparison: usize,
-) -> Result<Vec<ClauseLiteral>, LineFault>
+pub fn rest(alloc: Global, table: &Table, comparison: usize) -> Result<Vec<Literal>, Fault>
     ensures { IfOk result (λ c. IsLawOf table.now c.items) }
 {
-    let comparison = ClauseLiteral::of(comparison);
+    let comparison = Literal::of(comparison);
     check_rest(table, comparison)?;
     one(alloc, comparison)
 }
 
-fn check_rest(table: &TermTable, comparison: ClauseLiteral) -> Result<(), LineFault>
+fn check_rest(table: &Table, comparison: Literal) -> Result<(), Fault>
     ensures { OnOk result (IsLawOf table.now (comparison ∷ [])) }
 {
     table.truth(comparison)?;
@@ -188,23 +171,19 @@ fn check_rest(table: &TermTable, comparison: ClauseLiteral) -> Result<(), LineFa
 /// That a remainder is below the divisor's size: `b <= 0`, or not `b <= a mod b`; or `0 <= b`, or not `- b <= a mod b`.
 pub fn below(
     alloc: Global,
-    table: &TermTable,
+    table: &Table,
     test: usize,
     comparison: usize,
-) -> Result<Vec<ClauseLiteral>, LineFault>
+) -> Result<Vec<Literal>, Fault>
     ensures { IfOk result (λ c. IsLawOf table.now c.items) }
 {
-    let test = ClauseLiteral::of(test);
-    let comparison = ClauseLiteral::of(comparison);
+    let test = Literal::of(test);
+    let comparison = Literal::of(comparison);
     check_below(table, test, comparison)?;
     two(alloc, test, comparison.turned())
 }
 
-fn check_below(
-    table: &TermTable,
-    test: ClauseLiteral,
-    comparison: ClauseLiteral,
-) -> Result<(), LineFault>
+fn check_below(table: &Table, test: Literal, comparison: Literal) -> Result<(), Fault>
     ensures { OnOk result (IsLawOf table.now (test ∷ turned comparison ∷ [])) }
 {
     table.truth(test)?;

@@ -7,27 +7,27 @@ use boogie_tree::{BOp, BType};
 /// A name, or the negation of one that is a truth value. A name is a number in a single numbering: the variables of the
 /// conditions, their definitions, and then the terms of the certificate.
 #[derive(Clone, Copy, PartialEq, Eq)]
-pub struct ClauseLiteral {
+pub struct Literal {
     pub name: usize,
     pub negated: bool,
 }
 
-impl ClauseLiteral {
+impl Literal {
     /// The name itself.
-    pub fn of(name: usize) -> ClauseLiteral
+    pub fn of(name: usize) -> Literal
         ensures { result ≡ record { name = name; negated = false } }
     {
-        ClauseLiteral {
+        Literal {
             name,
             negated: false,
         }
     }
 
     /// The negation.
-    pub fn turned(self) -> ClauseLiteral
+    pub fn turned(self) -> Literal
         ensures { result ≡ turned self }
     {
-        ClauseLiteral {
+        Literal {
             name: self.name,
             negated: !self.negated,
         }
@@ -36,7 +36,7 @@ impl ClauseLiteral {
 
 /// What a name of the certificate is. Its parts are names that stand before it.
 #[derive(Drop)]
-pub enum CertificateTerm {
+pub enum Term {
     /// A variable or a definition of the conditions, of which nothing is said here.
     Given,
     /// The same as another name.
@@ -51,31 +51,31 @@ pub enum CertificateTerm {
     /// A real literal: the digits before its `.0`.
     Real(i128),
     /// `(- a)`
-    Neg(ClauseLiteral),
-    Bin(BOp, ClauseLiteral, ClauseLiteral),
+    Neg(Literal),
+    Bin(BOp, Literal, Literal),
     /// `(if a then b else c)`, where b and c may be maps.
-    If(ClauseLiteral, ClauseLiteral, ClauseLiteral),
+    If(Literal, Literal, Literal),
     /// `real(a)`
-    ToReal(ClauseLiteral),
+    ToReal(Literal),
     /// `sInt(a)`
-    SInt(ClauseLiteral),
+    SInt(Literal),
     /// `sBool(a)`
-    SBool(ClauseLiteral),
+    SBool(Literal),
     /// `sRef(a)`
-    SRef(ClauseLiteral),
+    SRef(Literal),
     /// `sPerm(a)`
-    SPerm(ClauseLiteral),
+    SPerm(Literal),
     /// `sPair(a, b)`
-    Pair(ClauseLiteral, ClauseLiteral),
+    Pair(Literal, Literal),
     /// The map of this name at these keys.
-    At(usize, Vec<ClauseLiteral>),
+    At(usize, Vec<Literal>),
     /// The map of this name but for the value at these keys.
-    Put(usize, Vec<ClauseLiteral>, ClauseLiteral),
+    Put(usize, Vec<Literal>, Literal),
 }
 
 /// What a name is, and its type.
 #[derive(Drop)]
-pub struct TypedTerm {
-    pub term: CertificateTerm,
+pub struct Named {
+    pub term: Term,
     pub ty: BType,
 }

@@ -3,15 +3,15 @@
 //! What a call promises is the contract of `cert_tool::tool`; this file only connects it to the process.
 #![tactic(auto)]
 
-use cert_tool::{ToolStatus, tool};
+use cert_tool::{Status, tool};
 use std::process::ExitCode;
-use tool_common::Process;
+use tool_words::Process;
 
 fn main(rt: HostRuntime) -> ExitCode {
     let alloc = rt.alloc();
     let status = match Process::of(rt) {
         Ok(mut it) => tool(alloc, &it.words, &mut it.disk, &mut it.out, &mut it.err),
-        Err(_) => ToolStatus::NoMemory,
+        Err(_) => Status::NoMemory,
     };
     ExitCode::from(status.number())
 }

@@ -15,9 +15,8 @@ ghost use Rattle.enc_assert.specs.Access.{puts_written, puts_chosen, target_of, 
 ghost use Rattle.enc_assert.specs.Encoding as code;
 
 use crate::amounts::some_amount;
-use crate::targets::{Access, AccessTarget, read_part, read_place};
+use crate::targets::{Access, Target, read_part, read_place};
 use boogie_tree::{BBase, BExpr, BOp, BStmt};
-use enc_asserts::add_assert;
 use enc_expr::{
     Atom, Emit, Index, Maps, Operand, Reading, add, add_all, at, atomic, binary, check,
     check_nonnegative, scaled, sides,
@@ -45,14 +44,11 @@ fn assert_amount(
     index: Index,
     op: BOp,
     amount: BExpr,
-    block: &mut Vec<BStmt>,
-) -> Result<(), Memory>
-    ensures { OnOk result (stmts_of block.new.items ≡ join (stmts_of block.old.items)
-        (piece.one (s.Assert label (t.Bin op (t.At held (index_in index.entry)) (expr_of amount))))) }
+) -> Result<BStmt, Memory>
+    ensures { IfOk result (λ x. stmt_of x ≡ s.Assert label (t.Bin op (t.At held (index_in index.entry)) (expr_of amount))) }
 {
     let held = at(alloc, held, index)?;
-    let holds = binary(alloc, op, held, amount)?;
-    add_assert(block, label, holds)
+    Ok(BStmt::Assert(label, binary(alloc, op, held, amount)?))
 }
 
 /// So much less is held.
@@ -90,7 +86,8 @@ fn take_held(
         (taken_amount held (index_in index.entry) (piece.scaled (atom_of scale) (atom_of amount))))) }
 {
     let needed = scaled(alloc, scale, amount)?;
-    assert_amount(alloc, label, held, index, BOp::Ge, needed, block)?;
+    let enough = assert_amount(alloc, label, held, index, BOp::Ge, needed)?;
+    add(block, enough)?;
     let taken = scaled(alloc, scale, amount)?;
     add(block, take(alloc, held, index, taken)?)
 }
@@ -100,7 +97,7 @@ fn take_written(
     alloc: Global,
     taking: Taking,
     place: Pos,
-    target: &AccessTarget,
+    target: &Target,
     amount: Atom,
     reading: Reading,
     block: &mut Vec<BStmt>,
@@ -122,7 +119,7 @@ fn take_chosen(
     alloc: Global,
     left: &Maps,
     place: Pos,
-    target: &AccessTarget,
+    target: &Target,
     amount: usize,
     reading: Reading,
     block: &mut Vec<BStmt>,
@@ -133,7 +130,8 @@ fn take_chosen(
     let label = reading.label(place, Kind::Perm);
     let held = target.held_in(left);
     let index = target.index();
-    assert_amount(alloc, label, held, index, BOp::Ne, BExpr::Real(0), block)?;
+    let some = assert_amount(alloc, label, held, index, BOp::Ne, BExpr::Real(0))?;
+    add(block, some)?;
     some_amount(alloc, amount, block)?;
     add(block, assume_less(alloc, amount, held, index)?)?;
     add(block, take(alloc, held, index, BExpr::Var(amount))?)
@@ -152,8 +150,7 @@ fn consume_fact(
     ensures { OnOk result (Emits (puts reading.entry.guard (piece.one (s.Assert label (expr_of fact.expr.value)))
         (length (emit_of out.old).locals)) (emit_of out.old) (emit_of out.new) tt) }
 {
-    let mut block = Vec::new(alloc);
-    add_assert(&mut block, label, Box::into_inner(fact.expr))?;
+    let block = vec![in alloc; BStmt::Assert(label, Box::into_inner(fact.expr))]?;
     out.put(alloc, reading.guard, block)
 }
 

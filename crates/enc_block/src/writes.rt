@@ -15,10 +15,7 @@ ghost use Rattle.enc_block.specs.View.{home_of};
 
 use crate::homes::Setting;
 use boogie_tree::{BExpr, BOp, BStmt};
-use enc_asserts::add_assert;
-use enc_expr::{
-    Atom, Emit, HeldAtom, Index, Operand, Reading, add, at, atomic, binary, check, number,
-};
+use enc_expr::{Atom, Emit, Held, Index, Operand, Reading, add, at, atomic, binary, check, number};
 use std::alloc::Global;
 use vb_base::{Kind, Memory, Pos};
 use viper_core::Expr;
@@ -55,11 +52,13 @@ fn write_checks(
         (code.write_checks (place_in reading.entry) field part (atom_of receiver))) }
 {
     let is_some = binary(alloc, BOp::Ne, receiver.expr(), BExpr::Null)?;
-    add_assert(block, reading.label(part, Kind::Null), is_some)?;
+    let not_null = BStmt::Assert(reading.label(part, Kind::Null), is_some);
+    add(block, not_null)?;
     let mask = number(&reading.now.mask, field);
     let held = at(alloc, mask, Index::Reference(receiver))?;
     let whole = binary(alloc, BOp::Eq, held, BExpr::Real(1))?;
-    add_assert(block, reading.label(part, Kind::Perm), whole)
+    let permitted = BStmt::Assert(reading.label(part, Kind::Perm), whole);
+    add(block, permitted)
 }
 
 /// The heap of a field gets a value.
@@ -82,7 +81,7 @@ fn write_at(
     alloc: Global,
     field: u32,
     part: Pos,
-    receiver: HeldAtom,
+    receiver: Held,
     value: Operand,
     reading: Reading,
     out: &mut Emit,
@@ -101,7 +100,7 @@ fn write_at(
 
 /// A field of what an expression is, `e.f`, and where its name stands.
 #[derive(Clone, Copy)]
-pub struct WrittenField<'a> {
+pub struct FieldPlace<'a> {
     pub receiver: &'a Expr,
     pub field: u32,
     pub at: Pos,
@@ -111,7 +110,7 @@ pub struct WrittenField<'a> {
 pub fn write(
     alloc: Global,
     step: Pos,
-    target: WrittenField,
+    target: FieldPlace,
     value: &Expr,
     setting: Setting,
     out: &mut Emit,

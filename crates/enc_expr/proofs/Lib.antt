@@ -12,10 +12,9 @@ pub mod TypedPieces
 pub mod TypedForms
 pub mod KeyedCode
 pub mod TypedCode
-pub mod Property
-pub mod PropertyPieces
-pub mod PropertyForms
+pub mod ShallowPieces
 pub mod ShallowCode
+pub mod LiteralPieces
 pub mod LiteralCode
 pub mod PrintedCode
 pub mod SmallPieces

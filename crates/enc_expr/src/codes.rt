@@ -11,13 +11,9 @@ ghost use Rattle.enc_expr.specs.View.{seen, all_seen, atom_of, held_of, located_
 
 use crate::blocks::{add, add_all};
 use crate::emits::Emit;
-use crate::fillings::{
-    PlacedNumber, Source, fill_access, fill_fact, fill_nothing, fill_part, split,
-};
-use crate::openings::{InstanceAmount, fresh_state, take_copy};
-use crate::operands::{
-    Atom, HeldAtom, Located, Operand, atomic, in_locals, int_operand, part_operand,
-};
+use crate::fillings::{Named, Source, fill_access, fill_fact, fill_nothing, fill_part, split};
+use crate::openings::{Part, fresh_state, take_copy};
+use crate::operands::{Atom, Held, Located, Operand, atomic, in_locals, int_operand, part_operand};
 use crate::operators::{
     Class, chosen, class_of, denied, division, lazy_value, negative, right_counts, sides, value_of,
 };
@@ -25,7 +21,6 @@ use crate::places::Maps;
 use crate::readings::{Reading, base_for, number};
 use crate::terms::{Index, at, binary};
 use boogie_tree::{BBase, BExpr, BOp, BStmt};
-use enc_asserts::add_assert;
 use std::alloc::Global;
 use vb_base::{Kind, Memory, Pos};
 use viper_core::{Amt, Assertion, Expr, Op, Opened};
@@ -128,11 +123,13 @@ fn read_checks(
         (code.read_checks (place_in reading.entry) field place (atom_of receiver))) }
 {
     let is_some = binary(alloc, BOp::Ne, receiver.expr(), BExpr::Null)?;
-    add_assert(block, reading.label(place, Kind::Null), is_some)?;
+    let not_null = BStmt::Assert(reading.label(place, Kind::Null), is_some);
+    add(block, not_null)?;
     let mask = number(&reading.now.mask, field);
     let held = at(alloc, mask, Index::Reference(receiver))?;
     let readable = binary(alloc, BOp::Ne, held, BExpr::Real(0))?;
-    add_assert(block, reading.label(place, Kind::Perm), readable)
+    let permitted = BStmt::Assert(reading.label(place, Kind::Perm), readable);
+    add(block, permitted)
 }
 
 /// The value of a field.
@@ -216,7 +213,7 @@ fn unfold_at(
     alloc: Global,
     opened: &Opened,
     args: Located,
-    amount: HeldAtom,
+    amount: Held,
     reading: Reading,
     out: &mut Emit,
 ) -> Result<Operand, Memory>
@@ -226,7 +223,7 @@ fn unfold_at(
     let own = fresh_state(alloc, reading.kinds.layout, out)?;
     let content = out.fresh_scalar(alloc, BBase::Snap)?;
     let locals = args.locals;
-    let part = InstanceAmount {
+    let part = Part {
         predicate: opened.predicate,
         args: &locals,
         amount: amount.atom,
@@ -283,13 +280,13 @@ pub fn fill(
         Assertion::Acc(e, field, amount, at) => {
             let receiver = check(alloc, e, reading, out)?;
             let amount = check_amount(alloc, amount, reading, out)?;
-            let field = PlacedNumber::of(*field, *at);
+            let field = Named::of(*field, *at);
             fill_access(alloc, field, receiver, amount, source, reading, out)
         }
         Assertion::Inst(predicate, args, amount, at) => {
             let args = check_all(alloc, args, reading, out)?;
             let amount = check_amount(alloc, amount, reading, out)?;
-            let predicate = PlacedNumber::of(*predicate, *at);
+            let predicate = Named::of(*predicate, *at);
             fill_part(alloc, predicate, args, amount, source, reading, out)
         }
         Assertion::And(a, b) => {

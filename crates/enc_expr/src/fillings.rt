@@ -17,7 +17,6 @@ use crate::operands::{Atom, Operand, atomic, in_locals};
 use crate::readings::{Reading, base_for, number};
 use crate::terms::{Index, at, binary, leaf, scaled};
 use boogie_tree::{BBase, BExpr, BOp, BStmt};
-use enc_asserts::add_assert;
 use std::alloc::Global;
 use vb_base::{Kind, Label, Memory, Pos, boxed_pair};
 use vb_value::Ty;
@@ -33,17 +32,17 @@ pub struct Source {
 
 /// A field or a predicate, and the place of its name.
 #[derive(Clone, Copy)]
-pub(crate) struct PlacedNumber {
+pub(crate) struct Named {
     number: u32,
     at: Pos,
 }
 
-impl PlacedNumber {
-    pub(crate) fn of(number: u32, at: Pos) -> PlacedNumber
+impl Named {
+    pub(crate) fn of(number: u32, at: Pos) -> Named
         ensures number { result.number ≡ number }
         ensures at { result.at ≡ at }
     {
-        PlacedNumber { number, at }
+        Named { number, at }
     }
 }
 
@@ -141,7 +140,7 @@ pub fn add_to(
 
 /// A place that is filled: its field, receiver and amount, and the new local that gets its value.
 #[derive(Clone, Copy)]
-struct FilledPlace {
+struct Filled {
     field: u32,
     receiver: Atom,
     amount: Atom,
@@ -152,7 +151,7 @@ struct FilledPlace {
 fn take_value(
     alloc: Global,
     ty: Ty,
-    filled: FilledPlace,
+    filled: Filled,
     content: usize,
     block: &mut Vec<BStmt>,
 ) -> Result<(), Memory>
@@ -185,7 +184,7 @@ pub fn set_value(
 /// A place by a positive amount.
 fn fill_place(
     alloc: Global,
-    filled: FilledPlace,
+    filled: Filled,
     source: Source,
     reading: Reading,
 ) -> Result<Vec<BStmt>, Memory>
@@ -242,7 +241,7 @@ pub fn check_nonnegative(
         return Ok(());
     }
     let nonnegative = binary(alloc, BOp::Ge, amount.expr(), BExpr::Real(0))?;
-    add_assert(block, label, nonnegative)
+    add(block, BStmt::Assert(label, nonnegative))
 }
 
 /// The one block where an amount is positive, and else the other.
@@ -283,7 +282,7 @@ fn fill_by(
 /// An accessibility predicate of a place.
 pub(crate) fn fill_access(
     alloc: Global,
-    field: PlacedNumber,
+    field: Named,
     receiver: Operand,
     amount: Operand,
     source: Source,
@@ -297,7 +296,7 @@ pub(crate) fn fill_access(
     let receiver = atomic(alloc, receiver, out)?;
     let amount = atomic(alloc, amount, out)?;
     let value = out.fresh_scalar(alloc, base_for(reading.kinds.field(field.number)))?;
-    let filled = FilledPlace {
+    let filled = Filled {
         field: field.number,
         receiver: receiver.atom,
         amount: amount.atom,
@@ -321,7 +320,7 @@ pub(crate) fn fill_access(
 /// An instance of a predicate.
 pub(crate) fn fill_part(
     alloc: Global,
-    predicate: PlacedNumber,
+    predicate: Named,
     args: Vec<Operand>,
     amount: Operand,
     source: Source,

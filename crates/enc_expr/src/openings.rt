@@ -17,7 +17,6 @@ use crate::places::Maps;
 use crate::readings::{Reading, base_for, local_at, number};
 use crate::terms::{Index, at, binary};
 use boogie_tree::{BBase, BExpr, BOp, BStmt, BType};
-use enc_asserts::add_assert;
 use std::alloc::Global;
 use vb_base::{Kind, Label, Memory, Pos};
 use vb_value::{Layout, Ty};
@@ -139,7 +138,7 @@ pub fn copy_state(alloc: Global, own: &Maps, from: &Maps) -> Result<Vec<BStmt>, 
 
 /// An amount of some instance of a predicate.
 #[derive(Clone, Copy)]
-pub struct InstanceAmount<'a> {
+pub struct Part<'a> {
     pub predicate: u32,
     /// The locals of its arguments.
     pub args: &'a [usize],
@@ -162,7 +161,7 @@ pub fn check_positive(
         return Ok(());
     }
     let positive = binary(alloc, BOp::Gt, amount.expr(), BExpr::Real(0))?;
-    add_assert(block, label, positive)
+    add(block, BStmt::Assert(label, positive))
 }
 
 /// So much is held.
@@ -179,7 +178,7 @@ fn check_held(
 {
     let held = at(alloc, amounts, index)?;
     let enough = binary(alloc, BOp::Ge, held, amount.expr())?;
-    add_assert(block, label, enough)
+    add(block, BStmt::Assert(label, enough))
 }
 
 /// So much less is held.
@@ -202,7 +201,7 @@ fn take_amount(
 /// content gets into a local. It is taken out at once, since the body may write the same map.
 pub fn taking(
     alloc: Global,
-    part: InstanceAmount,
+    part: Part,
     maps: &Maps,
     sets: Vec<BStmt>,
     content: usize,
@@ -229,7 +228,7 @@ pub fn taking(
 /// The same from a copy of the present state, behind other statements.
 pub(crate) fn take_copy(
     alloc: Global,
-    part: InstanceAmount,
+    part: Part,
     own: &Maps,
     content: usize,
     reading: Reading,

@@ -10,9 +10,10 @@ pub mod ExactLaws
 pub mod StepLaws
 pub mod SteppedLaws
 pub mod TextTrees
+pub mod TextStatements
 pub mod UnitCode
 pub mod TypedUnits
-pub mod PropertyUnits
+pub mod ShallowUnits
 pub mod SmallUnits
 pub mod TextUnits
 pub mod UnitNames

@@ -6,17 +6,17 @@ use Rattle.std.specs.Option.{option_map}
 use Rattle.std.proofs.lemmas.Option.{slice_get-get_or, slice_get-map, get_or_from_slice_get, same_Some}
 use Rattle.enc_expr.proofs.EmitLaws.{length-temporaries}
 use Rattle.lemmas.proofs.Lists.{item_there}
-use Rattle.vb_base.specs.Limits.{max_block_depth, max_unclosed_brackets}
 use Rattle.vb_base.specs.Names.{NamesDiffer}
 use Rattle.vb_base.specs.declared.labels.Label.{Label}
+use Rattle.vb_value.specs.Bound.{Unbounded}
 use Rattle.viper_core.specs.Formed.{IsFormed}
 use Rattle.viper_core.specs.Program.{Program}
 use Rattle.viper_core.specs.declared.programs.Unit.{Unit}
 use Rattle.viper_meaning.specs.Units.{ViperFails}
-use Rattle.boogie_tree.specs.Nested.{proc_depth, procs_depth, stmts_depth}
+use Rattle.boogie_tree.specs.Nested.{proc_depth, procs_depth}
 use Rattle.boogie_tree.specs.Program.{BType, Local, Proc}
 use Rattle.boogie_tree.specs.Fits.{FitStmts}
-use Rattle.boogie_tree.specs.Values.{AreKeys}
+use Rattle.boogie_tree.specs.Values.{IsEnvironment, AreKeys}
 use Rattle.boogie_grammar.specs.Grammar.{local_names, proc_names}
 use Rattle.boogie_grammar.specs.Spells.{BSpells}
 use Rattle.boogie_print.specs.Printable.{FitsProc, IsPrintable}
@@ -26,7 +26,7 @@ use Rattle.boogie_print.specs.Short.{ShortProc}
 use Rattle.boogie_print.proofs.FreshLaws.{fewer}
 use Rattle.boogie_print.proofs.ProgramShown.{program_spelled}
 use Rattle.boogie_meaning.specs.Programs as b
-use Rattle.boogie_meaning.specs.Programs.{HaveKeys, IsTypedProc, IsTypedProgram, BoogieFails, ProcFails, brun_proc}
+use Rattle.boogie_meaning.specs.Programs.{HaveKeys, IsTypedProc, IsTypedProgram, BoogieFails, brun_proc}
 use Rattle.boogie_meaning.specs.Run.{Stops, Failed}
 use Rattle.boogie_meaning.specs.Types.{IsTyped}
 use Rattle.boogie_meaning.proofs.RunTypedLaws.{never_wrong}
@@ -36,14 +36,12 @@ use Rattle.enc_expr.specs.Front.{front_names, front_types, front_values}
 use Rattle.enc_expr.specs.Locals.{types_of_others, first_other, names_from, state_names, old_names, zero_names, fixed_names, fixed_types, named, locals_of_unit}
 use Rattle.enc_expr.proofs.FrontLaws.{front}
 use Rattle.enc_expr.proofs.PrintedCode.{block_fits}
-use Rattle.enc_expr.proofs.ShallowCode.{brackets}
-use Rattle.enc_block.proofs.ShallowParts.{top, shallow_parts}
 use Rattle.enc_text.proofs.NameLaws.{length_named, fixed_good, locals_fit, locals_differ}
 use Rattle.enc_units.specs.Translates.{program_code, text_of, IsProcedureOf, Translates}
 use Rattle.enc_locals.specs.Procedure.{front_locals, unit_name}
-use Rattle.enc_units.specs.Units.{unit_code, unit_procedure, further_types, started}
+use Rattle.enc_units.specs.Units.{unit_code, unit_procedure, further_types, started, ProcedureFails}
 use Rattle.enc_units.proofs.ExactLaws.{procedure_types, unit_exact, unit_transfers}
-use Rattle.enc_units.proofs.PropertyUnits.{each_unit_has}
+use Rattle.enc_units.proofs.ShallowUnits.{unit_is_low}
 use Rattle.enc_units.proofs.SmallUnits.{few_locals}
 use Rattle.enc_units.proofs.TextTrees.{block_literals, short_block}
 use Rattle.enc_units.proofs.TextUnits.{unit_text_fits}
@@ -83,7 +81,7 @@ module _ (p : Program) (formed : IsFormed p) (n : ℕ) (u : Unit) (there : slice
   few : length (ts ++ us) < 2 ^ 60
   few = omega (arith, length-append ts us, few_locals p formed n u there)
 
-  pub procedure_typed : IsTypedProc (unit_procedure p u)
+  procedure_typed : IsTypedProc (unit_procedure p u)
   procedure_typed =
       let piece = unit_is_typed p formed n u there in
       record {
@@ -110,9 +108,8 @@ module _ (p : Program) (formed : IsFormed p) (n : ℕ) (u : Unit) (there : slice
     body = short_block (unit_code p u (length ts)).stmts (unit_text_fits p formed n u there (length ts));
   }
 
-  -- the code has at most 1,495 brackets open at once, and inside its braces 2,048 may be
-  procedure_low : proc_depth (unit_procedure p u) ≤ max_unclosed_brackets
-  procedure_low = let low : stmts_depth (unit_code p u (length ts)).stmts ≤ top + (1 + max_block_depth) = (each_unit_has brackets top (omega arith) shallow_parts p formed n u there).stmts (length ts) in omega (arith, low)
+  procedure_low : proc_depth (unit_procedure p u) ≤ 2048
+  procedure_low = let low = unit_is_low p formed n u there (length ts) in omega (arith, low)
 
 -- those behind the first ones
 abbrev other_names : Program → Unit → List (List ℕ)
@@ -172,7 +169,7 @@ module _ (p : Program) (formed : IsFormed p) where
   spelled : BSpells (text_of p) (program_code p)
   spelled = program_spelled (program_code p) printable (each ShortProc (procedure_short p formed))
 
-  all_low : (us : List Unit) → ((n : ℕ) (u : Unit) → slice_get us n ≡ Some u → proc_depth (unit_procedure p u) ≤ max_unclosed_brackets) → procs_depth (map (unit_procedure p) us) ≤ max_unclosed_brackets
+  all_low : (us : List Unit) → ((n : ℕ) (u : Unit) → slice_get us n ≡ Some u → proc_depth (unit_procedure p u) ≤ 2048) → procs_depth (map (unit_procedure p) us) ≤ 2048
   all_low [] low = omega arith
   all_low (u ∷ us) low = let first = low 0 u refl in let rest = all_low us (λ n w there. low (suc n) w there) in omega (arith, first, rest)
 
@@ -190,21 +187,34 @@ module _ (p : Program) (formed : IsFormed p) where
       let of = unit_of n d written in let exact = unit_exact p formed of.0 n of.1 label in
       (λ h. exact.0 (procedure_fails n of.0 d of.1 of.2 label h), λ h. boogie_fails n of.0 d written of.2 label (exact.1 h))
     where
-      procedure_fails : (n : ℕ) (u : Unit) (d : Proc) → slice_get p.units n ≡ Some u → d ≡ unit_procedure p u → (label : Label) → BoogieFails (program_code p) d.name label → ProcFails (unit_procedure p u) label
+      procedure_fails : (n : ℕ) (u : Unit) (d : Proc) → slice_get p.units n ≡ Some u → d ≡ unit_procedure p u → (label : Label) → BoogieFails (program_code p) d.name label → ProcedureFails (unit_procedure p u) label
       procedure_fails n u d there is label h =
           let of = unit_of h.number h.procedure h.is_there in
           let named : unit_name p of.0 ≡ unit_name p u = ap (λ (e : Proc). e.name) (sym of.2) ∙ (h.is_named ∙ ap (λ (e : Proc). e.name) is) in
           let number = one_unit p formed h.number n of.0 u of.1 there (unit_is p formed h.number of.0 of.1) (unit_is p formed n u there) named in
           let unit : of.0 ≡ u = same_Some _ _ (sym of.1 ∙ (ap (slice_get p.units) number ∙ there)) in
-          subst (λ (e : Proc). ProcFails e label) (of.2 ∙ ap (unit_procedure p) unit) h.fails
+          let same : h.procedure ≡ unit_procedure p u = of.2 ∙ ap (unit_procedure p) unit in
+          record {
+            environment = h.environment;
+            is_environment = subst (λ (e : Proc). IsEnvironment (b.types_of e) h.environment) same h.is_environment;
+            choices = h.choices;
+            are_reduced = h.are_reduced;
+            left = h.left;
+            fails = subst (λ (e : Proc). brun_proc Unbounded e h.environment h.choices ≡ Stops (Failed label) h.left) same h.fails;
+          }
 
-      boogie_fails : (n : ℕ) (u : Unit) (d : Proc) → slice_get (program_code p).procs n ≡ Some d → d ≡ unit_procedure p u → (label : Label) → ProcFails (unit_procedure p u) label → BoogieFails (program_code p) d.name label
+      boogie_fails : (n : ℕ) (u : Unit) (d : Proc) → slice_get (program_code p).procs n ≡ Some d → d ≡ unit_procedure p u → (label : Label) → ProcedureFails (unit_procedure p u) label → BoogieFails (program_code p) d.name label
       boogie_fails n u d written is label h = record {
         number = n;
         procedure = d;
         is_there = written;
         is_named = refl;
-        fails = subst (λ (e : Proc). ProcFails e label) (sym is) h;
+        environment = h.environment;
+        is_environment = subst (λ (e : Proc). IsEnvironment (b.types_of e) h.environment) (sym is) h.is_environment;
+        choices = h.choices;
+        are_reduced = h.are_reduced;
+        left = h.left;
+        fails = subst (λ (e : Proc). brun_proc Unbounded e h.environment h.choices ≡ Stops (Failed label) h.left) (sym is) h.fails;
       }
 
   -- ---- what is promised

@@ -53,7 +53,7 @@ fn named_part(part: KeyPart)
     ensures { IsNamedPart part }
 {
     if let KeyPart::Ref(reference) = part {
-        named_reference(reference);
+        named(reference);
     }
 }
 
@@ -62,14 +62,13 @@ pub fn named_scalar(value: &BScalar)
     ensures { IsNamedScalar (scalar_of value.now) }
 {
     match value {
-        BScalar::Ref(reference) => named_reference(*reference),
+        BScalar::Ref(reference) => named(*reference),
         BScalar::Snap(content) => named_content(content),
         _ => {}
     }
 }
 
-/// Each reference of a content can be named.
-pub fn named_content(content: &Content)
+fn named_content(content: &Content)
     ensures { IsNamedContent (content_of content.now) }
 {
     match content {
@@ -82,16 +81,14 @@ pub fn named_content(content: &Content)
     }
 }
 
-/// A value that is a reference can be named.
-pub fn named_value(value: Value)
+fn named_value(value: Value)
     ensures { IsNamedValue value }
 {
     if let Value::Ref(reference) = value {
-        named_reference(reference);
+        named(reference);
     }
 }
 
-/// A reference can be named.
-pub fn named_reference(_reference: u64)
+fn named(_reference: u64)
     ensures { IsNamed _reference }
 {}

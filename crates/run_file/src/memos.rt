@@ -10,7 +10,8 @@ ghost use Rattle.run_file.specs.FillingView.{filling_of};
 ghost use Rattle.run_file.specs.LineView.{line_view};
 ghost use Rattle.run_file.specs.Run as r;
 
-use crate::lines::ViperLine;
+use crate::lines::Line;
+use run_words::grown;
 use sparse::{Builder, Sparse};
 use std::alloc::Global;
 use vb_base::Memory;
@@ -54,14 +55,12 @@ impl Filling {
     }
 
     /// Puts what a line gives into the heap and contents.
-    pub(crate) fn fill(&mut self, line: ViperLine) -> Result<(), Memory>
+    pub(crate) fn fill(&mut self, line: Line) -> Result<(), Memory>
         ensures { OnOk result (filling_of self.new ≡ r.memo_with (filling_of self.old) (line_view line)) }
     {
         match line {
-            ViperLine::Heap(field, reference, value) => self.set_value(field, reference, value),
-            ViperLine::Content(predicate, key, content) => self.set_content(
-                predicate, key, content,
-            ),
+            Line::Heap(field, reference, value) => self.set_value(field, reference, value),
+            Line::Content(predicate, key, content) => self.set_content(predicate, key, content),
             _ => Ok(()),
         }
     }
@@ -70,7 +69,7 @@ impl Filling {
         ensures { OnOk result (filling_of self.new ≡ r.memo_with (filling_of self.old) (l.Heap field reference value)) }
     {
         match self.heap.get_mut(field) {
-            Some(values) => values.set(reference, value),
+            Some(values) => grown(values.set(reference, value)),
             None => Ok(()),
         }
     }
@@ -79,7 +78,7 @@ impl Filling {
         ensures { OnOk result (filling_of self.new ≡ r.memo_with (filling_of self.old) (l.Holds predicate key (content_of content))) }
     {
         match self.content.get_mut(predicate) {
-            Some(contents) => contents.set(key, content),
+            Some(contents) => grown(contents.set(key, content)),
             None => Ok(()),
         }
     }
@@ -103,7 +102,7 @@ fn finished<K: Ord + Clone, V: Eq + Clone>(
 {
     let mut maps = Vec::with_capacity(alloc, filled.len())?;
     for map in filled {
-        maps.push(map.finish()?)?;
+        maps.push(grown(map.finish())?)?;
     }
     Ok(maps)
 }

@@ -4,12 +4,12 @@ ghost use Rattle.sparse.specs.Map.{values};
 ghost use Rattle.vb_value.specs.View.{content_of};
 ghost use Rattle.viper_state.specs.View.{choice_of, contents_of, memo_of};
 ghost use Rattle.moves.specs.Printable.{IsNamed, IsNamedContent, IsNamedKey, IsNamedValue};
-ghost use Rattle.run_file_words.specs.Named.{AreNamed};
+ghost use Rattle.run_words.specs.Named.{AreNamed};
 ghost use Rattle.run_file.specs.Printable.{NamesChoice, NamesMemo};
 ghost use Rattle.run_file.specs.View.{run_of};
 
 use crate::runs::ViperRun;
-use moves::{named_content, named_key, named_reference, named_value};
+use moves::named_key;
 use sparse::Sparse;
 use vb_value::{Content, Key, Value};
 use viper_state::{Choice, Memo};
@@ -93,3 +93,28 @@ fn named_choice(choice: &Choice)
         _ => {}
     }
 }
+
+fn named_content(content: &Content)
+    ensures { IsNamedContent (content_of content.now) }
+{
+    match content {
+        Content::Unit => {}
+        Content::Leaf(value) => named_value(*value),
+        Content::Pair(left, right) => {
+            named_content(left);
+            named_content(right);
+        }
+    }
+}
+
+fn named_value(value: Value)
+    ensures { IsNamedValue value }
+{
+    if let Value::Ref(reference) = value {
+        named_reference(reference);
+    }
+}
+
+fn named_reference(_reference: u64)
+    ensures { IsNamed _reference }
+{}

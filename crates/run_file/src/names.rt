@@ -7,47 +7,35 @@ ghost use Rattle.viper_core.specs.View.{method_of, predicate_of, program_of};
 ghost use Rattle.run_file.specs.Lines as l;
 ghost use Rattle.run_file.specs.LineView.{lent_names};
 
-use run_file_words::RunFileNames;
+use name_table::NameTable;
+use run_words::Names;
 use std::alloc::Global;
-use symbol_table::{Digest, NameKey, SymbolTable};
 use vb_base::{Ident, Memory};
 use vb_value::{Layout, Ty};
 use viper_core::{Method, Predicate, Program, Unit};
 
 /// What the lines of a file for one unit may name: the variables that an opening sets, the fields and the predicates.
 #[derive(Clone, Copy)]
-pub(crate) struct UnitScope<'a> {
-    pub(crate) variables: &'a RunFileNames,
+pub(crate) struct Scope<'a> {
+    pub(crate) variables: &'a Names,
     /// The types of the variables.
     pub(crate) types: &'a [Ty],
-    pub(crate) fields: &'a RunFileNames,
-    pub(crate) predicates: &'a RunFileNames,
+    pub(crate) fields: &'a Names,
+    pub(crate) predicates: &'a Names,
     /// The types of the fields, and of the arguments of each predicate.
     pub(crate) layout: &'a Layout,
 }
 
 /// The names of the predicates in order.
-pub(crate) fn predicate_names(
-    alloc: Global,
-    predicates: &[Predicate],
-) -> Result<RunFileNames, Memory>
+pub(crate) fn predicate_names(alloc: Global, predicates: &[Predicate]) -> Result<Names, Memory>
     requires { NamesDiffer (map (λ (d : p.Predicate). d.name) (map predicate_of predicates.now)) }
     ensures { IfOk result (λ x. x ≡ map (λ (d : p.Predicate). d.name) (map predicate_of predicates.now)) }
 {
-    let mut known = SymbolTable::new(alloc, key_of(predicates));
+    let mut known = NameTable::new(alloc);
     for predicate in predicates {
         known.add(predicate.name.copy()?)?;
     }
-    Ok(RunFileNames::of_table(known))
-}
-
-/// A key that comes of the names of all these.
-fn key_of(predicates: &[Predicate]) -> NameKey {
-    let mut digest = Digest::new();
-    for predicate in predicates {
-        digest.add(predicate.name.bytes());
-    }
-    digest.key()
+    Ok(Names::of_table(known))
 }
 
 /// The names and types of the variables that an opening of a unit sets.

@@ -1,5 +1,5 @@
 // The reader of run files of Viper.
-ghost use Rattle.std.specs.Prelude.{ℕ, ◌≡◌, ◌≤◌, ◌<◌, [], false, Some, IfOk, IfErr, OnOk, MatchResult, length};
+ghost use Rattle.std.specs.Prelude.{ℕ, ◌≡◌, ◌≤◌, ◌<◌, ◌^◌, [], true, false, Some, IfOk, IfErr, OnOk, MatchResult, length};
 ghost use Rattle.vb_base.specs.Limits.{max_boogie_bytes};
 ghost use Rattle.vb_base.specs.declared.places.Pos.{Pos};
 ghost use Rattle.viper_core.specs.Formed.{IsFormed};
@@ -7,29 +7,28 @@ ghost use Rattle.viper_core.specs.View.{program_of};
 ghost use Rattle.viper_state.specs.Choice.{Filled};
 ghost use Rattle.viper_state.specs.View.{choice_of};
 ghost use Rattle.run_file.specs.FillingView.{filling_of};
-ghost use Rattle.run_file.specs.Lines as l;
 ghost use Rattle.run_file.specs.Run.{ViperRun as Plain, SpellsViperRun, GoesWrongAt, scope_memo};
 ghost use Rattle.run_file.specs.LineView.{line_view, scope_view};
-ghost use Rattle.run_file_words.specs.Machine.{IsReadBy, StopsBy, Steps};
+ghost use Rattle.run_words.specs.Machine.{IsReadBy, StopsBy, Steps};
 ghost use Rattle.run_file.specs.Progress as progress;
-ghost use Rattle.run_file_words.specs.Answers.{UnlessMemory};
+ghost use Rattle.run_words.specs.Answers.{UnlessMemory};
 ghost use Rattle.run_file.specs.NamedView.{named_of};
-ghost use Rattle.run_file_words.specs.Text.{lines_of, words_of};
+ghost use Rattle.run_words.specs.Text.{lines_of, words_of};
 ghost use Rattle.run_file.specs.Front.{Front, SpellsFront, front_of};
 ghost use Rattle.run_file.specs.View.{front_view, progress_of, run_of};
-ghost use Rattle.run_file_words.specs.Answers.{Gives, GivesPlace};
-ghost use Rattle.run_file.specs.declared.reader.ViperStage.TheVariants as stage;
-ghost use Rattle.run_file_words.specs.declared.faults.RunFileFault.TheVariants as fault;
+ghost use Rattle.run_words.specs.Answers.{Gives, GivesPlace};
+ghost use Rattle.run_file.specs.declared.reader.Stage.TheVariants as stage;
+ghost use Rattle.run_words.specs.declared.faults.RunFileFault.TheVariants as fault;
 
-use crate::lines::{KEYWORDS, LineTarget, ViperLine, keyed_line};
+use crate::lines::{Line, Named, line_of};
 use crate::memos::{Filling, defaults};
 use crate::named_sets::NamedSets;
-use crate::names::{UnitScope, predicate_names, variables_of};
+use crate::names::{Scope, predicate_names, variables_of};
 use crate::runs::{ViperFront, ViperRun};
-use run_file_words::{LineReader, RunFileFault, RunFileNames, first_word, next_word, read_lines};
+use run_words::{LineReader, Names, RunFileFault, is_skipped, next_word, read_lines};
 use std::alloc::Global;
 use std::mem;
-use vb_base::Memory;
+use vb_base::{Memory, Pos};
 use vb_value::Value;
 use viper_core::Program;
 use viper_state::{Choice, Memo, Opening};
@@ -72,7 +71,7 @@ fn whole_run(front: ViperFront) -> Result<ViperRun, RunFileFault>
 
 /// The front, with so many choices, of the run of a unit that the bytes of a run file spell. The choices behind it are checked
 /// and counted, and not built: each heap and contents has a map for each field and each predicate. Bytes that spell no run go
-/// wrong as for `read_viper_run`. `Memory` where there is no memory for the front or for the names of the program.
+/// wrong as for `read_viper_run`.
 pub fn read_viper_front(
     alloc: Global,
     bytes: &[u8],
@@ -91,10 +90,10 @@ pub fn read_viper_front(
     ensures only_place { (at : Pos) → GoesWrongAt bytes.now (program_of program.now) unit at → GivesPlace at result }
 {
     let (names, types) = variables_of(program, unit);
-    let variables = RunFileNames::of(alloc, names)?;
-    let fields = RunFileNames::of(alloc, &program.fields)?;
+    let variables = Names::of(alloc, names)?;
+    let fields = Names::of(alloc, &program.fields)?;
     let predicates = predicate_names(alloc, &program.predicates)?;
-    let scope = UnitScope {
+    let scope = Scope {
         variables: &variables,
         types,
         fields: &fields,
@@ -106,7 +105,7 @@ pub fn read_viper_front(
 
 /// What may stand next in a file.
 #[derive(Clone, Copy)]
-enum ViperStage {
+enum Stage {
     Header,
     Opening,
     /// A heap and contents are filled, which are the next choice. Behind the front their lines fill nothing.
@@ -116,8 +115,8 @@ enum ViperStage {
 
 /// How far a file is read.
 #[derive(Drop)]
-struct ViperReader {
-    stage: ViperStage,
+struct Reader {
+    stage: Stage,
     /// What the lines that fill the same heap and contents have named.
     named: NamedSets,
     /// The heap and contents that are filled.
@@ -126,9 +125,9 @@ struct ViperReader {
     front: ViperFront,
 }
 
-impl ViperReader {
+impl Reader {
     /// Nothing is read yet.
-    fn new(alloc: Global, scope: UnitScope) -> Result<ViperReader, Memory>
+    fn new(alloc: Global, scope: Scope) -> Result<Reader, Memory>
         ensures { (many : ℕ) → IfOk result (λ x. progress_of x ≡ progress.begun (progress.fronts many) (scope_view scope.entry)) }
     {
         let filling = Filling::of(alloc, scope.layout)?;
@@ -137,8 +136,8 @@ impl ViperReader {
             heap: Vec::new(alloc),
             content: Vec::new(alloc),
         };
-        Ok(ViperReader {
-            stage: ViperStage::Header,
+        Ok(Reader {
+            stage: Stage::Header,
             named: NamedSets::nothing(alloc),
             filling,
             front: ViperFront {
@@ -151,14 +150,35 @@ impl ViperReader {
         })
     }
 
-    /// Reads the header. False where the line is none.
+    /// Reads a line. False where it may not stand.
+    fn read_line(
+        &mut self,
+        alloc: Global,
+        scope: Scope,
+        many: usize,
+        text: &[u8],
+    ) -> Result<bool, Memory>
+        ensures { IfOk result (λ ok. Steps ok (progress.read_line (progress.fronts many) (scope_view scope.entry) (progress_of self.old) text.now) (progress_of self.new)) }
+    {
+        if is_skipped(text) {
+            return Ok(true);
+        }
+        if let Stage::Header = self.stage {
+            return Ok(self.read_header(text));
+        }
+        match line_of(alloc, scope, text)? {
+            Some(line) => self.follow(alloc, scope, many, line),
+            None => Ok(false),
+        }
+    }
+
     fn read_header(&mut self, text: &[u8]) -> bool
         requires { self.old.stage ≡ stage.Header }
         ensures { Steps result (progress.header_read (progress_of self.old) (words_of text.now)) (progress_of self.new) }
     {
         let header = is_header(text);
         if header {
-            self.stage = ViperStage::Opening;
+            self.stage = Stage::Opening;
         }
         header
     }
@@ -167,24 +187,24 @@ impl ViperReader {
     fn follow(
         &mut self,
         alloc: Global,
-        scope: UnitScope,
+        scope: Scope,
         many: usize,
-        line: ViperLine,
+        line: Line,
     ) -> Result<bool, Memory>
         ensures { IfOk result (λ ok. Steps ok (progress.followed (progress.fronts many) (scope_view scope.entry) (progress_of self.old) (line_view line)) (progress_of self.new)) }
     {
         match line {
-            ViperLine::Var(number, value) => self.set_variable(alloc, number, value),
-            ViperLine::Heap(field, reference, value) => {
-                let named = LineTarget::Place(field, reference);
-                self.set_place(alloc, named, ViperLine::Heap(field, reference, value))
+            Line::Var(number, value) => self.set_variable(alloc, number, value),
+            Line::Heap(field, reference, value) => {
+                let named = Named::Place(field, reference);
+                self.set_place(alloc, named, Line::Heap(field, reference, value))
             }
-            ViperLine::Content(predicate, key, content) => {
-                let named = LineTarget::Instance(predicate, key.clone()?);
-                self.set_place(alloc, named, ViperLine::Content(predicate, key, content))
+            Line::Content(predicate, key, content) => {
+                let named = Named::Instance(predicate, key.clone()?);
+                self.set_place(alloc, named, Line::Content(predicate, key, content))
             }
-            ViperLine::Chosen(choice) => self.choose(alloc, many, choice),
-            ViperLine::State => self.open_state(alloc, scope, many),
+            Line::Chosen(choice) => self.choose(alloc, many, choice),
+            Line::State => self.open_state(alloc, scope, many),
         }
     }
 
@@ -192,7 +212,7 @@ impl ViperReader {
     fn set_variable(&mut self, alloc: Global, number: usize, value: Value) -> Result<bool, Memory>
         ensures { (many : ℕ) → IfOk result (λ ok. Steps ok (progress.variable_set (progress.fronts many) (progress_of self.old) number value) (progress_of self.new)) }
     {
-        if !may_set(self.stage) || !self.named.insert(alloc, LineTarget::Variable(number))? {
+        if !may_set(self.stage) || !self.named.insert(alloc, Named::Variable(number))? {
             return Ok(false);
         }
         if let Some(slot) = self.front.run.opening.store.get_mut(number) {
@@ -202,12 +222,7 @@ impl ViperReader {
     }
 
     /// Puts a value or content where a heap and contents are filled, once for each place and instance.
-    fn set_place(
-        &mut self,
-        alloc: Global,
-        named: LineTarget,
-        line: ViperLine,
-    ) -> Result<bool, Memory>
+    fn set_place(&mut self, alloc: Global, named: Named, line: Line) -> Result<bool, Memory>
         ensures { (many : ℕ) → IfOk result (λ ok. Steps ok (progress.place_set (progress.fronts many) (progress_of self.old) (line_view line) named) (progress_of self.new)) }
     {
         if !may_place(self.stage) || !self.named.insert(alloc, named)? {
@@ -218,7 +233,7 @@ impl ViperReader {
     }
 
     /// Puts a value or content into the heap and contents that are filled, where those are within the front.
-    fn fill(&mut self, line: ViperLine) -> Result<(), Memory>
+    fn fill(&mut self, line: Line) -> Result<(), Memory>
         ensures { OnOk result (progress_of self.new ≡ record { stage = self.old.stage; named = named_of self.old.named; run = progress.front_with self.old.stage (line_view line) (progress_of self.old).run }) }
     {
         if !may_place(stage_within(self.front.more, self.stage)) {
@@ -233,17 +248,17 @@ impl ViperReader {
         ensures { IfOk result (λ ok. Steps ok (Some (progress.chosen (progress.fronts many) stage.Choosing (progress_of self.old) (choice_of choice))) (progress_of self.new)) }
     {
         self.close(alloc)?;
-        self.stage = ViperStage::Choosing;
+        self.stage = Stage::Choosing;
         add_choice(&mut self.front, many, choice)?;
         Ok(true)
     }
 
     /// Begins to fill a heap and contents, which are a choice.
-    fn open_state(&mut self, alloc: Global, scope: UnitScope, many: usize) -> Result<bool, Memory>
+    fn open_state(&mut self, alloc: Global, scope: Scope, many: usize) -> Result<bool, Memory>
         ensures { IfOk result (λ ok. Steps ok (Some (progress.chosen (progress.fronts many) stage.Filling (progress_of self.old) (Filled (scope_memo (scope_view scope.entry))))) (progress_of self.new)) }
     {
         self.close(alloc)?;
-        self.stage = ViperStage::Filling;
+        self.stage = Stage::Filling;
         if self.front.has_room(many) {
             self.filling = Filling::of(alloc, scope.layout)?;
             return Ok(true);
@@ -259,17 +274,25 @@ impl ViperReader {
     {
         self.named.clear();
         let stage = stage_within(self.front.more, self.stage);
-        if let ViperStage::Choosing = stage {
+        if let Stage::Choosing = stage {
             return Ok(());
         }
         let filled = mem::replace(&mut self.filling, Filling::none(alloc));
         put_filled(alloc, &mut self.front.run, stage, filled)
     }
 
-    /// The front.
-    fn finish(self, alloc: Global) -> Result<ViperFront, Memory>
-        ensures { IfOk result (λ x. front_view x ≡ (progress_of self).run) }
+    /// The front, after so many lines, where the header is among them.
+    fn finish(self, alloc: Global, lines: u32) -> Result<ViperFront, RunFileFault>
+        requires { (1 ≤ lines) × (lines < 2 ^ 32) }
+        ensures { MatchResult result (λ x. (progress.is_headed self.stage ≡ true) × (front_view x ≡ (progress_of self).run))
+            (λ e. UnlessMemory (λ at. (progress.is_headed self.stage ≡ false) × (at.line ≡ lines) × (at.col ≡ 1)) e) }
     {
+        if let Stage::Header = self.stage {
+            return Err(RunFileFault::Syntax(Pos {
+                line: lines,
+                col: 1,
+            }));
+        }
         // What was named gives back its memory before the heap and contents take their own.
         drop(self.named);
         let mut front = self.front;
@@ -294,47 +317,47 @@ fn add_choice(front: &mut ViperFront, many: usize, choice: Choice) -> Result<(),
 fn put_filled(
     alloc: Global,
     run: &mut ViperRun,
-    stage: ViperStage,
+    stage: Stage,
     filling: Filling,
 ) -> Result<(), Memory>
     ensures { OnOk result (run_of run.new ≡ progress.with_filled stage (filling_of filling) (run_of run.old)) }
 {
     match stage {
-        ViperStage::Header | ViperStage::Opening => run.opening.memo = filling.finish(alloc)?,
-        ViperStage::Filling => run.choices.push(Choice::Memo(filling.finish(alloc)?))?,
-        ViperStage::Choosing => {}
+        Stage::Header | Stage::Opening => run.opening.memo = filling.finish(alloc)?,
+        Stage::Filling => run.choices.push(Choice::Memo(filling.finish(alloc)?))?,
+        Stage::Choosing => {}
     }
     Ok(())
 }
 
 /// The stage as the front sees it, behind which there are so many choices.
-fn stage_within(more: usize, stage: ViperStage) -> ViperStage
+fn stage_within(more: usize, stage: Stage) -> Stage
     ensures { result ≡ progress.stage_within more stage }
 {
     match stage {
-        ViperStage::Header => ViperStage::Header,
-        ViperStage::Opening => ViperStage::Opening,
-        ViperStage::Filling if more == 0 => ViperStage::Filling,
-        ViperStage::Filling | ViperStage::Choosing => ViperStage::Choosing,
+        Stage::Header => Stage::Header,
+        Stage::Opening => Stage::Opening,
+        Stage::Filling if more == 0 => Stage::Filling,
+        Stage::Filling | Stage::Choosing => Stage::Choosing,
     }
 }
 
 /// Whether a variable's line may stand.
-fn may_set(stage: ViperStage) -> bool
+fn may_set(stage: Stage) -> bool
     ensures { result ≡ progress.may_set stage }
 {
     match stage {
-        ViperStage::Opening => true,
+        Stage::Opening => true,
         _ => false,
     }
 }
 
 /// Whether a line of a heap and contents may stand.
-fn may_place(stage: ViperStage) -> bool
+fn may_place(stage: Stage) -> bool
     ensures { result ≡ progress.may_place stage }
 {
     match stage {
-        ViperStage::Opening | ViperStage::Filling => true,
+        Stage::Opening | Stage::Filling => true,
         _ => false,
     }
 }
@@ -354,59 +377,38 @@ fn is_header(line: &[u8]) -> bool
 
 /// A reader, what the lines of its file may name, and how many choices it builds.
 #[derive(Drop)]
-struct ViperScoped<'a> {
-    reader: ViperReader,
-    scope: UnitScope<'a>,
+struct Scoped<'a> {
+    reader: Reader,
+    scope: Scope<'a>,
     many: usize,
 }
 
-impl LineReader for ViperScoped<'_> {
+impl LineReader for Scoped<'_> {
     type Run = ViperFront;
-
-    type ReadLine = ViperLine;
 
     ghost State = { progress.Progress Front };
 
-    ghost Said = { l.ViperLine };
-
     ghost Plain = { Front };
 
-    ghost kind = { λ x. progress.file_kind (progress.fronts x.many) (scope_view x.scope) };
+    ghost machine = { λ x. progress.front_reader x.many (scope_view x.scope) };
 
     ghost state = { λ x. progress_of x.reader };
 
-    ghost said = { line_view };
-
     ghost plain = { front_view };
 
-    fn is_headed(&self) -> bool {
-        !matches!(self.reader.stage, ViperStage::Header)
+    fn read_line(&mut self, alloc: Global, text: &[u8]) -> Result<bool, Memory> {
+        self.reader.read_line(alloc, self.scope, self.many, text)
     }
 
-    fn read_header(&mut self, words: &[u8]) -> bool {
-        self.reader.read_header(words)
-    }
-
-    fn line_of(&self, alloc: Global, words: &[u8]) -> Result<Option<ViperLine>, Memory> {
-        match first_word(&KEYWORDS, words) {
-            Some((keyword, rest)) => keyed_line(alloc, self.scope, keyword, rest),
-            None => Ok(None),
-        }
-    }
-
-    fn follow(&mut self, alloc: Global, line: ViperLine) -> Result<bool, Memory> {
-        self.reader.follow(alloc, self.scope, self.many, line)
-    }
-
-    fn finish(self, alloc: Global) -> Result<ViperFront, Memory> {
-        self.reader.finish(alloc)
+    fn finish(self, alloc: Global, lines: u32) -> Result<ViperFront, RunFileFault> {
+        self.reader.finish(alloc, lines)
     }
 }
 
 /// The front, with so many choices, of the run that the lines of a text are, or where it goes wrong.
 fn read_front(
     alloc: Global,
-    scope: UnitScope,
+    scope: Scope,
     many: usize,
     bytes: &[u8],
 ) -> Result<ViperFront, RunFileFault>
@@ -414,8 +416,8 @@ fn read_front(
     ensures { MatchResult result (λ x. IsReadBy (progress.front_reader many (scope_view scope.entry)) (lines_of bytes.now) (front_view x))
         (UnlessMemory (StopsBy (progress.front_reader many (scope_view scope.entry)) (lines_of bytes.now))) }
 {
-    let reader = ViperReader::new(alloc, scope)?;
-    let scoped = ViperScoped {
+    let reader = Reader::new(alloc, scope)?;
+    let scoped = Scoped {
         reader,
         scope,
         many,

@@ -9,6 +9,10 @@ use std::alloc::{AllocError, AllocFailed};
 #[derive(Clone, Copy, Debug, PartialEq, Eq)]
 pub struct Failed;
 
+/// There is no memory for the answer.
+#[derive(Clone, Copy, Debug, PartialEq, Eq)]
+pub struct Memory;
+
 /// Why a file was not read.
 #[derive(Clone, Copy, Debug, PartialEq, Eq)]
 pub enum FileFault {
@@ -18,6 +22,12 @@ pub enum FileFault {
     Failed,
     /// It is longer than the caller's limit.
     Long,
+}
+
+impl From<AllocError> for Memory {
+    fn from(_: AllocError) -> Self {
+        Memory
+    }
 }
 
 impl From<AllocError> for FileFault {

@@ -8,16 +8,15 @@ ghost use Rattle.boogie_tree.specs.Whole as boogie;
 ghost use Rattle.boogie_grammar.specs.Grammar.{local_names};
 ghost use Rattle.boogie_print.specs.Printable.{IsPrintable};
 
-use crate::programs::PROGRAMS;
 use crate::rows::none_other;
-use boogie_fixtures::procedures::boogie_program;
 use boogie_tree::{BProgram, Proc};
-use row_columns::{bytes_of, first_other, other_lines, small, three, two};
 use run_file::{print_boogie_run, print_viper_run, read_boogie_run, read_viper_run};
 use std::alloc::Global;
 use std::test::Fail;
+use test_boogie::procedures::boogie_program;
+use test_rows::{bytes_of, first_other, other_lines, small, three, two};
+use test_viper::files::checked;
 use viper_core::Program;
-use viper_fixtures::files::checked;
 
 /// A method over a number, and its runs.
 const NUMBER: (&str, &str) = (
@@ -41,11 +40,17 @@ const PLACE: (&str, &str) = (
 0 ; viper run | var x #1 | pick true | value null | fresh #2 | value 5 ; viper run | var x #1 | pick true | value null | fresh #2 | value 5",
 );
 
-/// Runs of the program of lists: of the method that reads the first number of one, and of the predicate of lists.
-const LIST_RUNS: &str = "\
-4 ; viper run | var x #1 | content list #1 pair leaf null pair pair leaf 4 unit unit | pick true ; viper run | var x #1 | content list #1 pair leaf null pair pair leaf 4 unit unit | pick true
-4 ; viper run | content list #1 unit | var v 3 ; viper run | var v 3
-1 ; viper run | content cell #2 leaf 4 | content list null leaf true | var x #2 ; viper run | var x #2 | content cell #2 leaf 4 | content list null leaf true";
+/// A list of cells, and a run of the method that reads its first number.
+const LIST: (&str, &str) = (
+    "field val: Int field next: Ref
+predicate cell(x: Ref) { acc(x.val) && x.val >= 0 }
+predicate list(x: Ref) { acc(x.next) && cell(x) && (x.next != null ==> list(x.next)) }
+method head(x: Ref) returns (v: Int) requires list(x)",
+    "\
+2 ; viper run | var x #1 | content list #1 pair leaf null pair pair leaf 4 unit unit | pick true ; viper run | var x #1 | content list #1 pair leaf null pair pair leaf 4 unit unit | pick true
+2 ; viper run | content list #1 unit | var v 3 ; viper run | var v 3
+1 ; viper run | content cell #2 leaf 4 | content list null leaf true | var x #2 ; viper run | var x #2 | content cell #2 leaf 4 | content list null leaf true",
+);
 
 /// All kinds of lines, out of order.
 const ALL: (&str, &str) = (
@@ -142,18 +147,11 @@ fn wrong_boogie_row(alloc: Global, file: &str, row: &str) -> Result<Option<Strin
     other_lines(alloc, want, &came)
 }
 
-/// The program of lists of cells.
-fn lists() -> Result<&'static str, Fail> {
-    let mut programs = PROGRAMS.split("\n\n");
-    let found = programs.find(|file| file.starts_with("field val: Int"));
-    Ok(found.ok_or("no lists")?)
-}
-
 /// Each run is printed as its row says, and read again.
 #[test]
 fn runs_are_printed_and_read_back(rt: HostRuntime) -> Result<(), Fail> {
     let alloc = rt.alloc();
-    for (file, table) in [NUMBER, PLACE, (lists()?, LIST_RUNS), ALL] {
+    for (file, table) in [NUMBER, PLACE, LIST, ALL] {
         let other = first_other(alloc, table, |row| wrong_viper_row(alloc, file, row))?;
         none_other(&rt, other);
     }

@@ -49,8 +49,8 @@ use Rattle.moves.specs.Moves.{heap_choice, moves}
 use Rattle.moves.specs.Printable.{IsNamedScalar, IsNamedEntry, IsNamedMove, IsWithinScalar, IsSpellable, IsSpellableKey, ArePrintableEntries, IsPrintableChoice}
 use Rattle.moves.specs.Scalars.{scalar}
 use Rattle.moves.proofs.MapLaws.{scalar_fits, heap_of_type}
-use Rattle.run_file_boogie.specs.BoogieLines.{known}
-use Rattle.run_file_boogie.specs.BoogiePrintable.{IsSpellableValue, IsPrintableSetting}
+use Rattle.run_boogie.specs.BoogieLines.{known}
+use Rattle.run_boogie.specs.BoogiePrintable.{IsSpellableValue, IsPrintableSetting}
 use Rattle.run_file.specs.Lines.{method_variables, predicate_variables, unit_variables}
 use Rattle.run_file.specs.Printable.{IsPrintable}
 use Rattle.run_file.proofs.SpelledLaws.{spelled_good}
@@ -61,7 +61,7 @@ use Rattle.enc_expr.proofs.FrontValues.{front_fits}
 use Rattle.enc_locals.specs.Procedure.{front_locals}
 use Rattle.enc_units.specs.Translates.{IsProcedureOf}
 use Rattle.vb_tool.proofs.RunOfUnits.{named_exists, opens}
-use Rattle.viper_file.proofs.Verdicts.{accepted_formed}
+use Rattle.vb_tool.proofs.Verdicts.{accepted_formed}
 use Rattle.vb_tool.specs.Accepted.{AcceptsRun}
 use Rattle.enc_locals.specs.Opened.{settings_from, start_settings, IsNamedBValue, IsNamedSetting}
 use Rattle.vb_tool.specs.Units.{UnitRun, end_of}

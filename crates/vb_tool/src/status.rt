@@ -5,9 +5,8 @@ ghost use Rattle.vb_tool.specs.Status.{line_of};
 
 use std::alloc::{AllocError, Global};
 use std::fmt;
-use tool_common::CallStatus;
+use tool_words::CallStatus;
 use vb_base::{Label, Pos};
-use viper_file::ViperRefusal;
 use viper_syntax::LexFault;
 
 /// Why a command is refused. The reasons of one command are tried in this order, with three exceptions: a budget that is out of
@@ -159,35 +158,19 @@ impl fmt::Display for Status {
     }
 }
 
-impl From<ViperRefusal> for Refusal {
-    ghost use Rattle.vb_tool.specs.ViperRefusals.{refusal_of_viper};
-
-    ghost from_gives = { λ refusal e. e ≡ refusal_of_viper refusal };
-
-    fn from(refusal: ViperRefusal) -> Refusal {
-        match refusal {
-            ViperRefusal::Size => Refusal::Size,
-            ViperRefusal::Lex(fault) => Refusal::Lex(fault),
-            ViperRefusal::Syntax(at) => Refusal::Syntax(at),
-            ViperRefusal::Rule(at, rule) => Refusal::Rule(at, rule),
-            ViperRefusal::Weight(weight) => Refusal::Weight(weight),
-        }
-    }
-}
-
-impl From<boogie_file::BoogieRefusal> for Refusal {
+impl From<boogie_file::Refusal> for Refusal {
     ghost use Rattle.vb_tool.specs.BoogieRefusals.{refusal_of_boogie};
 
     ghost from_gives = { λ refusal e. e ≡ refusal_of_boogie refusal };
 
-    fn from(refusal: boogie_file::BoogieRefusal) -> Refusal {
+    fn from(refusal: boogie_file::Refusal) -> Refusal {
         match refusal {
-            boogie_file::BoogieRefusal::Size => Refusal::Size,
-            boogie_file::BoogieRefusal::Prelude(at) => Refusal::Prelude(at),
-            boogie_file::BoogieRefusal::Deep(at) => Refusal::Deep(at),
-            boogie_file::BoogieRefusal::BoogieSyntax(at) => Refusal::BoogieSyntax(at),
-            boogie_file::BoogieRefusal::BoogieType(number) => Refusal::BoogieType(number),
-            boogie_file::BoogieRefusal::NoProcedure => Refusal::NoProcedure,
+            boogie_file::Refusal::Size => Refusal::Size,
+            boogie_file::Refusal::Prelude(at) => Refusal::Prelude(at),
+            boogie_file::Refusal::Deep(at) => Refusal::Deep(at),
+            boogie_file::Refusal::BoogieSyntax(at) => Refusal::BoogieSyntax(at),
+            boogie_file::Refusal::BoogieType(number) => Refusal::BoogieType(number),
+            boogie_file::Refusal::NoProcedure => Refusal::NoProcedure,
         }
     }
 }

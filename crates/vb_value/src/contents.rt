@@ -9,11 +9,14 @@ ghost use Rattle.vb_value.specs.Content as tree;
 ghost use Rattle.vb_value.specs.Content.{nodes, same_content};
 ghost use Rattle.vb_value.specs.View.{content_of};
 
-use crate::Memory;
 use crate::values::Value;
 use std::alloc::{AllocError, Global};
 use std::rc::Rc;
 use vb_base::limits::MAX_CONTENT_NODES;
+
+/// There was no memory.
+#[derive(Clone, Copy, Debug, PartialEq, Eq)]
+pub struct Memory;
 
 /// Why two contents were not made a pair.
 #[derive(Clone, Copy, Debug, PartialEq, Eq)]
@@ -80,16 +83,14 @@ impl Content {
         }
     }
 
-    /// An equal content, which shares its parts and so takes nothing from `alloc`. `Memory` where a part is shared so often that one
-    /// more cannot be counted.
+    /// An equal content, which shares its parts and so takes nothing from `alloc`.
     pub fn copy(&self, alloc: Global) -> Result<Content, Memory>
         ensures { IfOk result (λ c. content_of c ≡ content_of self.now) }
     {
-        Ok(self.clone()?)
+        self.clone().map_err(|_| Memory)
     }
 
-    /// The pair of two contents. `Over` exactly where it would have more than `MAX_CONTENT_NODES` nodes. `Memory` where there is no
-    /// memory to share its parts.
+    /// The pair of two contents. `Over` exactly where it would have more than `MAX_CONTENT_NODES` nodes.
     pub fn pair(alloc: Global, left: Content, right: Content) -> Result<Content, PairFault>
         ensures over { (result ≡ Err PairFault.Over) ↔ (max_content_nodes < nodes (tree.Pair (content_of left) (content_of right))) }
         ensures value { IfOk result (λ c. content_of c ≡ tree.Pair (content_of left) (content_of right)) }
@@ -138,5 +139,5 @@ impl Clone for Content {
 fn counted(alloc: Global, content: Content) -> Result<Rc<Content>, Memory>
     ensures { IfOk result (λ r. r.value ≡ content) }
 {
-    Ok(Rc::new(alloc, content)?)
+    Rc::new(alloc, content).map_err(|_| Memory)
 }

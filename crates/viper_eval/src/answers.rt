@@ -1,5 +1,5 @@
 // How evaluations end.
-ghost use Rattle.viper_eval.specs.declared.answers.EvalHalt.TheVariants as halt;
+ghost use Rattle.viper_eval.specs.declared.answers.Halt.TheVariants as halt;
 ghost use Rattle.std.specs.Prelude.{◌≡◌};
 
 use std::alloc::{AllocError, AllocFailed};
@@ -30,7 +30,7 @@ pub enum Opening1 {
 
 /// An end without a value.
 #[derive(Clone, Copy, Debug, PartialEq, Eq)]
-pub enum EvalStop {
+pub enum Stop {
     Fails(Label),
     /// An assumption does not hold.
     Blocked,
@@ -40,40 +40,48 @@ pub enum EvalStop {
 
 /// Why there is no value.
 #[derive(Clone, Copy, Debug, PartialEq, Eq)]
-pub enum EvalHalt {
+pub enum Halt {
     /// There was no memory.
     Memory,
-    Stops(EvalStop),
+    Stops(Stop),
 }
 
-impl From<EvalStop> for EvalHalt {
+impl From<Stop> for Halt {
     ghost from_gives = { λ stop e. e ≡ halt.Stops stop };
 
-    fn from(stop: EvalStop) -> EvalHalt {
-        EvalHalt::Stops(stop)
+    fn from(stop: Stop) -> Halt {
+        Halt::Stops(stop)
     }
 }
 
-impl From<Memory> for EvalHalt {
+impl From<Memory> for Halt {
     ghost from_gives = { λ _ e. e ≡ halt.Memory };
 
-    fn from(_: Memory) -> EvalHalt {
-        EvalHalt::Memory
+    fn from(_: Memory) -> Halt {
+        Halt::Memory
     }
 }
 
-impl From<AllocError> for EvalHalt {
+impl From<vb_value::Memory> for Halt {
     ghost from_gives = { λ _ e. e ≡ halt.Memory };
 
-    fn from(_: AllocError) -> EvalHalt {
-        EvalHalt::Memory
+    fn from(_: vb_value::Memory) -> Halt {
+        Halt::Memory
     }
 }
 
-impl<T: Drop> From<AllocFailed<T>> for EvalHalt {
+impl From<AllocError> for Halt {
     ghost from_gives = { λ _ e. e ≡ halt.Memory };
 
-    fn from(_: AllocFailed<T>) -> EvalHalt {
-        EvalHalt::Memory
+    fn from(_: AllocError) -> Halt {
+        Halt::Memory
+    }
+}
+
+impl<T: Drop> From<AllocFailed<T>> for Halt {
+    ghost from_gives = { λ _ e. e ≡ halt.Memory };
+
+    fn from(_: AllocFailed<T>) -> Halt {
+        Halt::Memory
     }
 }

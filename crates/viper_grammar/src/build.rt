@@ -5,7 +5,7 @@ ghost use Rattle.viper_syntax.specs.View.{term_of, amount_of, rhs_of};
 ghost use Rattle.viper_grammar.specs.Grammar as g;
 ghost use Rattle.viper_grammar.specs.View.{part_of, instance_of};
 
-use crate::parts::{Shape, WrittenInstance, WrittenTerm};
+use crate::parts::{Instance, Part, Shape};
 use std::alloc::{AllocError, Global};
 use vb_base::{Literal, Pos};
 use viper_syntax::{Named, SCall, SRhs, SUnfolding, Sign, Term, Word};
@@ -20,7 +20,7 @@ fn ending(shape: Shape) -> Shape
     }
 }
 
-impl WrittenTerm {
+impl Part {
     /// Whether it ends with an `unfolding`.
     pub fn is_open(&self) -> bool
         ensures { result ≡ g.is_open self.now.shape }
@@ -30,15 +30,15 @@ impl WrittenTerm {
 }
 
 /// A term of this shape.
-fn part(alloc: Global, shape: Shape, term: Term) -> Result<WrittenTerm, AllocError>
+fn part(alloc: Global, shape: Shape, term: Term) -> Result<Part, AllocError>
     ensures { IfOk result (λ p. part_of p ≡ record { shape = shape; tree = term_of term }) }
 {
     let term = Box::new(alloc, term)?;
-    Ok(WrittenTerm { shape, term })
+    Ok(Part { shape, term })
 }
 
 /// What is assigned: a right side that is wholly a call is a call of a method.
-pub fn assigned(part: WrittenTerm) -> SRhs
+pub fn assigned(part: Part) -> SRhs
     ensures { rhs_of result ≡ g.rhs_of (part_of part) }
 {
     let term = Box::into_inner(part.term);
@@ -67,28 +67,28 @@ fn instance_term(name: Named, args: Vec<Term>) -> Term
 }
 
 /// A call in a term: an instance of a predicate.
-pub fn called(alloc: Global, name: Named, args: Vec<Term>) -> Result<WrittenTerm, AllocError>
+pub fn called(alloc: Global, name: Named, args: Vec<Term>) -> Result<Part, AllocError>
     ensures { IfOk result (λ p. part_of p ≡ g.called name (map term_of args.items)) }
 {
     part(alloc, Shape::Call, instance_term(name, args))
 }
 
 /// `x`
-pub fn variable(alloc: Global, name: Named) -> Result<WrittenTerm, AllocError>
+pub fn variable(alloc: Global, name: Named) -> Result<Part, AllocError>
     ensures { IfOk result (λ p. part_of p ≡ g.plain (t.Name name.name name.pos)) }
 {
     part(alloc, Shape::Plain, Term::Name(name.name, name.pos))
 }
 
 /// `7`
-pub fn number(alloc: Global, value: i128, at: Pos) -> Result<WrittenTerm, AllocError>
+pub fn number(alloc: Global, value: i128, at: Pos) -> Result<Part, AllocError>
     ensures { IfOk result (λ p. part_of p ≡ g.plain (t.Number value at)) }
 {
     part(alloc, Shape::Plain, Term::Number(Literal::new(value), at))
 }
 
 /// `true` and so on
-pub fn constant(alloc: Global, constant: (Word, Pos)) -> Result<WrittenTerm, AllocError>
+pub fn constant(alloc: Global, constant: (Word, Pos)) -> Result<Part, AllocError>
     ensures { IfOk result (λ p. part_of p ≡ g.plain (t.Constant constant.0 constant.1)) }
 {
     part(alloc, Shape::Plain, Term::Constant(constant.0, constant.1))
@@ -98,9 +98,9 @@ pub fn constant(alloc: Global, constant: (Word, Pos)) -> Result<WrittenTerm, All
 pub fn binary(
     alloc: Global,
     operator: (Sign, Pos),
-    left: WrittenTerm,
-    right: WrittenTerm,
-) -> Result<WrittenTerm, AllocError>
+    left: Part,
+    right: Part,
+) -> Result<Part, AllocError>
     ensures { IfOk result (λ p. part_of p ≡ g.binary (part_of left) operator (part_of right)) }
 {
     part(
@@ -113,11 +113,11 @@ pub fn binary(
 /// `a ? b : c`
 pub fn chosen(
     alloc: Global,
-    condition: WrittenTerm,
-    first: WrittenTerm,
-    second: WrittenTerm,
+    condition: Part,
+    first: Part,
+    second: Part,
     at: Pos,
-) -> Result<WrittenTerm, AllocError>
+) -> Result<Part, AllocError>
     ensures { IfOk result (λ p. part_of p ≡ g.chosen (part_of condition) (part_of first) (part_of second) at) }
 {
     part(
@@ -128,11 +128,7 @@ pub fn chosen(
 }
 
 /// `!a` or `-a`
-pub fn applied(
-    alloc: Global,
-    operator: (Sign, Pos),
-    operand: WrittenTerm,
-) -> Result<WrittenTerm, AllocError>
+pub fn applied(alloc: Global, operator: (Sign, Pos), operand: Part) -> Result<Part, AllocError>
     ensures { IfOk result (λ p. part_of p ≡ g.applied operator (part_of operand)) }
 {
     part(
@@ -143,7 +139,7 @@ pub fn applied(
 }
 
 /// `a.f`
-pub fn field(alloc: Global, receiver: WrittenTerm, field: Named) -> Result<WrittenTerm, AllocError>
+pub fn field(alloc: Global, receiver: Part, field: Named) -> Result<Part, AllocError>
     ensures { IfOk result (λ p. part_of p ≡ g.plain (t.Field (term_of receiver.term.value) field.name field.pos)) }
 {
     part(
@@ -154,7 +150,7 @@ pub fn field(alloc: Global, receiver: WrittenTerm, field: Named) -> Result<Writt
 }
 
 /// `old(a)`
-pub fn old(alloc: Global, inner: WrittenTerm, at: Pos) -> Result<WrittenTerm, AllocError>
+pub fn old(alloc: Global, inner: Part, at: Pos) -> Result<Part, AllocError>
     ensures { IfOk result (λ p. part_of p ≡ g.plain (t.Old (term_of inner.term.value) at)) }
 {
     part(alloc, Shape::Plain, Term::Old(inner.term, at))
@@ -169,10 +165,10 @@ fn accessed_term(place: Box<Term>, amount: Option<Box<Term>>, at: Pos) -> Term
 /// `acc(a)` or `acc(a, amount)`
 pub fn accessed(
     alloc: Global,
-    place: WrittenTerm,
+    place: Part,
     amount: Option<Box<Term>>,
     at: Pos,
-) -> Result<WrittenTerm, AllocError>
+) -> Result<Part, AllocError>
     ensures { IfOk result (λ p. part_of p ≡ g.plain (t.Acc (term_of place.term.value) (amount_of amount) at)) }
 {
     part(alloc, Shape::Plain, accessed_term(place.term, amount, at))
@@ -200,15 +196,10 @@ fn unfolding_term(
 }
 
 /// `unfolding acc(P(a, b), amount) in c`
-pub fn unfolding(
-    alloc: Global,
-    opened: WrittenInstance,
-    inner: WrittenTerm,
-    at: Pos,
-) -> Result<WrittenTerm, AllocError>
+pub fn unfolding(alloc: Global, opened: Instance, inner: Part, at: Pos) -> Result<Part, AllocError>
     ensures { IfOk result (λ p. part_of p ≡ g.unfolded (instance_of opened) (part_of inner) at) }
 {
-    let WrittenInstance { call, amount } = opened;
+    let Instance { call, amount } = opened;
     let term = unfolding_term(alloc, call, amount, inner.term, at)?;
     part(alloc, Shape::Open, term)
 }

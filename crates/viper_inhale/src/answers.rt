@@ -1,7 +1,7 @@
 // How the steps of a run end.
 ghost use Rattle.std.specs.Prelude.{◌≡◌};
 ghost use Rattle.viper_inhale.specs.Answers.{run_stop, run_halt};
-ghost use Rattle.viper_inhale.specs.declared.answers.StepHalt.TheVariants as halt;
+ghost use Rattle.viper_inhale.specs.declared.answers.Halt.TheVariants as halt;
 
 use std::alloc::{AllocError, AllocFailed};
 use vb_base::{Label, Memory, Pos};
@@ -21,7 +21,7 @@ pub enum Step {
 
 /// An end of a step after which nothing goes on.
 #[derive(Clone, Copy, Debug, PartialEq, Eq)]
-pub enum StepStop {
+pub enum Stop {
     Fails(Label),
     /// An assumption does not hold, or a choice is not of the kind that the step needs.
     Blocked,
@@ -33,63 +33,79 @@ pub enum StepStop {
 
 /// Why a step does not go on.
 #[derive(Clone, Copy, Debug, PartialEq, Eq)]
-pub enum StepHalt {
+pub enum Halt {
     /// There was no memory.
     Memory,
-    Stops(StepStop),
+    Stops(Stop),
 }
 
-impl From<viper_eval::EvalStop> for StepStop {
+impl From<viper_eval::Stop> for Stop {
     ghost from_gives = { λ stop e. e ≡ run_stop stop };
 
-    fn from(stop: viper_eval::EvalStop) -> StepStop {
+    fn from(stop: viper_eval::Stop) -> Stop {
         match stop {
-            viper_eval::EvalStop::Fails(label) => StepStop::Fails(label),
-            viper_eval::EvalStop::Blocked => StepStop::Blocked,
-            viper_eval::EvalStop::Over(at) => StepStop::Over(at),
+            viper_eval::Stop::Fails(label) => Stop::Fails(label),
+            viper_eval::Stop::Blocked => Stop::Blocked,
+            viper_eval::Stop::Over(at) => Stop::Over(at),
         }
     }
 }
 
-impl From<viper_eval::EvalStop> for StepHalt {
+impl From<viper_eval::Stop> for Halt {
     ghost from_gives = { λ stop e. e ≡ halt.Stops (run_stop stop) };
 
-    fn from(stop: viper_eval::EvalStop) -> StepHalt {
-        StepHalt::Stops(stop.into())
+    fn from(stop: viper_eval::Stop) -> Halt {
+        Halt::Stops(stop.into())
     }
 }
 
-impl From<viper_eval::EvalHalt> for StepHalt {
+impl From<viper_eval::Halt> for Halt {
     ghost from_gives = { λ stop e. e ≡ run_halt stop };
 
-    fn from(halt: viper_eval::EvalHalt) -> StepHalt {
+    fn from(halt: viper_eval::Halt) -> Halt {
         match halt {
-            viper_eval::EvalHalt::Memory => StepHalt::Memory,
-            viper_eval::EvalHalt::Stops(stop) => StepHalt::Stops(stop.into()),
+            viper_eval::Halt::Memory => Halt::Memory,
+            viper_eval::Halt::Stops(stop) => Halt::Stops(stop.into()),
         }
     }
 }
 
-impl From<Memory> for StepHalt {
+impl From<Memory> for Halt {
     ghost from_gives = { λ _ e. e ≡ halt.Memory };
 
-    fn from(_: Memory) -> StepHalt {
-        StepHalt::Memory
+    fn from(_: Memory) -> Halt {
+        Halt::Memory
     }
 }
 
-impl From<AllocError> for StepHalt {
+impl From<sparse::Memory> for Halt {
     ghost from_gives = { λ _ e. e ≡ halt.Memory };
 
-    fn from(_: AllocError) -> StepHalt {
-        StepHalt::Memory
+    fn from(_: sparse::Memory) -> Halt {
+        Halt::Memory
     }
 }
 
-impl<T: Drop> From<AllocFailed<T>> for StepHalt {
+impl From<vb_value::Memory> for Halt {
     ghost from_gives = { λ _ e. e ≡ halt.Memory };
 
-    fn from(_: AllocFailed<T>) -> StepHalt {
-        StepHalt::Memory
+    fn from(_: vb_value::Memory) -> Halt {
+        Halt::Memory
+    }
+}
+
+impl From<AllocError> for Halt {
+    ghost from_gives = { λ _ e. e ≡ halt.Memory };
+
+    fn from(_: AllocError) -> Halt {
+        Halt::Memory
+    }
+}
+
+impl<T: Drop> From<AllocFailed<T>> for Halt {
+    ghost from_gives = { λ _ e. e ≡ halt.Memory };
+
+    fn from(_: AllocFailed<T>) -> Halt {
+        Halt::Memory
     }
 }

@@ -14,15 +14,15 @@ use viper_grammar::build::{
     accessed, applied, binary, called, chosen, constant, field, number, old, unfolding, variable,
 };
 use viper_grammar::tokens::{
-    ViperRead, eat_name, eat_negation, eat_number, eat_one_of, eat_operator, eat_sign, eat_word,
-    name, sign, word,
+    Read, eat_name, eat_negation, eat_number, eat_one_of, eat_operator, eat_sign, eat_word, name,
+    sign, word,
 };
-use viper_grammar::{Shape, WordClass, WrittenInstance, WrittenTerm, repeats, right_level};
+use viper_grammar::{Instance, Part, Shape, WordClass, repeats, right_level};
 use viper_syntax::{Named, SCall, Sign, Term, Token, Word};
 
 /// A term.
 #[cycle(terms)]
-pub fn term<'a>(alloc: Global, tokens: &'a [Token]) -> ViperRead<'a, WrittenTerm>
+pub fn term<'a>(alloc: Global, tokens: &'a [Token]) -> Read<'a, Part>
     ensures shorter { IfOk result (λ r. length r.1.now < length tokens.now) }
     ensures reads { Parses part_of (g.rule g.Term) tokens.now result }
 {
@@ -32,11 +32,7 @@ pub fn term<'a>(alloc: Global, tokens: &'a [Token]) -> ViperRead<'a, WrittenTerm
 
 /// `[ "?" term ":" term ]` after a term of the loosest level.
 #[cycle(terms)]
-fn choice<'a>(
-    alloc: Global,
-    condition: WrittenTerm,
-    tokens: &'a [Token],
-) -> ViperRead<'a, WrittenTerm>
+fn choice<'a>(alloc: Global, condition: Part, tokens: &'a [Token]) -> Read<'a, Part>
     ensures shorter { IfOk result (λ r. length r.1.now ≤ length tokens.now) }
     ensures reads { Parses part_of (g.choice (part_of condition)) tokens.now result }
 {
@@ -55,7 +51,7 @@ fn choice<'a>(
 
 /// A term of the levels up to n.
 #[cycle(terms)]
-fn level<'a>(alloc: Global, n: u32, tokens: &'a [Token]) -> ViperRead<'a, WrittenTerm>
+fn level<'a>(alloc: Global, n: u32, tokens: &'a [Token]) -> Read<'a, Part>
     ensures shorter { IfOk result (λ r. length r.1.now < length tokens.now) }
     ensures reads { Parses part_of (g.rule (g.Level n)) tokens.now result }
 {
@@ -70,12 +66,7 @@ fn level<'a>(alloc: Global, n: u32, tokens: &'a [Token]) -> ViperRead<'a, Writte
 
 /// What goes on with a term by operators of level n.
 #[cycle(terms)]
-fn chain<'a>(
-    alloc: Global,
-    n: u32,
-    first: WrittenTerm,
-    tokens: &'a [Token],
-) -> ViperRead<'a, WrittenTerm>
+fn chain<'a>(alloc: Global, n: u32, first: Part, tokens: &'a [Token]) -> Read<'a, Part>
     ensures shorter { IfOk result (λ r. length r.1.now ≤ length tokens.now) }
     ensures reads { Parses part_of (g.rule (g.Chain n (part_of first))) tokens.now result }
 {
@@ -93,11 +84,7 @@ fn chain<'a>(
 }
 
 /// The next operator, if it is of level n and may go on with this term.
-fn operator<'a>(
-    n: u32,
-    part: &WrittenTerm,
-    tokens: &'a [Token],
-) -> Option<((Sign, Pos), &'a [Token])>
+fn operator<'a>(n: u32, part: &Part, tokens: &'a [Token]) -> Option<((Sign, Pos), &'a [Token])>
     ensures shorter { IfSome result (λ p. length p.1.now < length tokens.now) }
     ensures goes_on { MatchOption result
         (Reads _ (g.rule (g.Chain n (part_of part.now))) tokens.now (part_of part.now) tokens.now)
@@ -111,7 +98,7 @@ fn operator<'a>(
 
 /// `!a`, `-a`, an `unfolding`, or a first with its fields.
 #[cycle(terms)]
-fn unary<'a>(alloc: Global, tokens: &'a [Token]) -> ViperRead<'a, WrittenTerm>
+fn unary<'a>(alloc: Global, tokens: &'a [Token]) -> Read<'a, Part>
     ensures shorter { IfOk result (λ r. length r.1.now < length tokens.now) }
     ensures reads { Parses part_of (g.rule g.Unary) tokens.now result }
 {
@@ -129,7 +116,7 @@ fn unary<'a>(alloc: Global, tokens: &'a [Token]) -> ViperRead<'a, WrittenTerm>
 
 /// What follows an `unfolding`.
 #[cycle(terms)]
-fn opening<'a>(alloc: Global, at: Pos, tokens: &'a [Token]) -> ViperRead<'a, WrittenTerm>
+fn opening<'a>(alloc: Global, at: Pos, tokens: &'a [Token]) -> Read<'a, Part>
     ensures shorter { IfOk result (λ r. length r.1.now < length tokens.now) }
     ensures reads { Parses part_of (g.opening at) tokens.now result }
 {
@@ -141,7 +128,7 @@ fn opening<'a>(alloc: Global, at: Pos, tokens: &'a [Token]) -> ViperRead<'a, Wri
 }
 
 /// `{ "." name }` after a term.
-fn fields<'a>(alloc: Global, first: WrittenTerm, tokens: &'a [Token]) -> ViperRead<'a, WrittenTerm>
+fn fields<'a>(alloc: Global, first: Part, tokens: &'a [Token]) -> Read<'a, Part>
     ensures shorter { IfOk result (λ r. length r.1.now ≤ length tokens.now) }
     ensures reads { Parses part_of (g.rule (g.Fields (part_of first))) tokens.now result }
 {
@@ -157,7 +144,7 @@ fn fields<'a>(alloc: Global, first: WrittenTerm, tokens: &'a [Token]) -> ViperRe
 
 /// A name, a call, a number, a constant, `old`, `acc`, or a term in parentheses.
 #[cycle(terms)]
-fn first<'a>(alloc: Global, tokens: &'a [Token]) -> ViperRead<'a, WrittenTerm>
+fn first<'a>(alloc: Global, tokens: &'a [Token]) -> Read<'a, Part>
     ensures shorter { IfOk result (λ r. length r.1.now < length tokens.now) }
     ensures reads { Parses part_of (g.rule g.First) tokens.now result }
 {
@@ -181,7 +168,7 @@ fn first<'a>(alloc: Global, tokens: &'a [Token]) -> ViperRead<'a, WrittenTerm>
         return access(alloc, at, rest);
     }
     let (inner, rest) = group(alloc, tokens)?;
-    let part = WrittenTerm {
+    let part = Part {
         shape: Shape::Plain,
         term: inner.term,
     };
@@ -190,7 +177,7 @@ fn first<'a>(alloc: Global, tokens: &'a [Token]) -> ViperRead<'a, WrittenTerm>
 
 /// `[ "(" [ term { "," term } ] ")" ]` after a name.
 #[cycle(terms)]
-fn name_or_call<'a>(alloc: Global, named: Named, tokens: &'a [Token]) -> ViperRead<'a, WrittenTerm>
+fn name_or_call<'a>(alloc: Global, named: Named, tokens: &'a [Token]) -> Read<'a, Part>
     ensures shorter { IfOk result (λ r. length r.1.now ≤ length tokens.now) }
     ensures reads { Parses part_of (g.name_or_call named) tokens.now result }
 {
@@ -205,7 +192,7 @@ fn name_or_call<'a>(alloc: Global, named: Named, tokens: &'a [Token]) -> ViperRe
 
 /// `"(" term [ "," term ] ")"` after `acc`.
 #[cycle(terms)]
-fn access<'a>(alloc: Global, at: Pos, tokens: &'a [Token]) -> ViperRead<'a, WrittenTerm>
+fn access<'a>(alloc: Global, at: Pos, tokens: &'a [Token]) -> Read<'a, Part>
     ensures shorter { IfOk result (λ r. length r.1.now < length tokens.now) }
     ensures reads { Parses part_of (g.access at) tokens.now result }
 {
@@ -218,7 +205,7 @@ fn access<'a>(alloc: Global, at: Pos, tokens: &'a [Token]) -> ViperRead<'a, Writ
 
 /// `"(" term ")"`
 #[cycle(terms)]
-pub fn group<'a>(alloc: Global, tokens: &'a [Token]) -> ViperRead<'a, WrittenTerm>
+pub fn group<'a>(alloc: Global, tokens: &'a [Token]) -> Read<'a, Part>
     ensures shorter { IfOk result (λ r. length r.1.now < length tokens.now) }
     ensures reads { Parses part_of (g.rule g.Group) tokens.now result }
 {
@@ -230,7 +217,7 @@ pub fn group<'a>(alloc: Global, tokens: &'a [Token]) -> ViperRead<'a, WrittenTer
 
 /// `[ "," term ] ")"`
 #[cycle(terms)]
-fn amount<'a>(alloc: Global, tokens: &'a [Token]) -> ViperRead<'a, Option<Box<Term>>>
+fn amount<'a>(alloc: Global, tokens: &'a [Token]) -> Read<'a, Option<Box<Term>>>
     ensures shorter { IfOk result (λ r. length r.1.now < length tokens.now) }
     ensures reads { Parses amount_of (g.rule g.Amount) tokens.now result }
 {
@@ -245,7 +232,7 @@ fn amount<'a>(alloc: Global, tokens: &'a [Token]) -> ViperRead<'a, Option<Box<Te
 
 /// `call | "acc" "(" call [ "," term ] ")"`
 #[cycle(terms)]
-pub fn instance<'a>(alloc: Global, tokens: &'a [Token]) -> ViperRead<'a, WrittenInstance>
+pub fn instance<'a>(alloc: Global, tokens: &'a [Token]) -> Read<'a, Instance>
     ensures shorter { IfOk result (λ r. length r.1.now < length tokens.now) }
     ensures reads { Parses instance_of (g.rule g.InstanceOf) tokens.now result }
 {
@@ -254,7 +241,7 @@ pub fn instance<'a>(alloc: Global, tokens: &'a [Token]) -> ViperRead<'a, Written
         let (named, rest) = call(alloc, rest)?;
         let (held, rest) = amount(alloc, rest)?;
         return Ok((
-            WrittenInstance {
+            Instance {
                 call: named,
                 amount: held,
             },
@@ -263,7 +250,7 @@ pub fn instance<'a>(alloc: Global, tokens: &'a [Token]) -> ViperRead<'a, Written
     }
     let (named, rest) = call(alloc, tokens)?;
     Ok((
-        WrittenInstance {
+        Instance {
             call: named,
             amount: None,
         },
@@ -273,7 +260,7 @@ pub fn instance<'a>(alloc: Global, tokens: &'a [Token]) -> ViperRead<'a, Written
 
 /// `name "(" [ term { "," term } ] ")"`
 #[cycle(terms)]
-pub fn call<'a>(alloc: Global, tokens: &'a [Token]) -> ViperRead<'a, SCall>
+pub fn call<'a>(alloc: Global, tokens: &'a [Token]) -> Read<'a, SCall>
     ensures shorter { IfOk result (λ r. length r.1.now < length tokens.now) }
     ensures reads { Parses call_of (g.rule g.CallOf) tokens.now result }
 {
@@ -285,7 +272,7 @@ pub fn call<'a>(alloc: Global, tokens: &'a [Token]) -> ViperRead<'a, SCall>
 
 /// `[ term { "," term } ] ")"`
 #[cycle(terms)]
-pub fn arguments<'a>(alloc: Global, tokens: &'a [Token]) -> ViperRead<'a, Vec<Term>>
+pub fn arguments<'a>(alloc: Global, tokens: &'a [Token]) -> Read<'a, Vec<Term>>
     ensures shorter { IfOk result (λ r. length r.1.now < length tokens.now) }
     ensures reads { Parses arguments_of (g.rule g.Arguments) tokens.now result }
 {

@@ -3,3 +3,4 @@ pub mod ArgumentLaws
 pub mod ScopeLaws
 pub mod NamingLaws
 pub mod ListedLaws
+pub mod PairLaws

@@ -12,20 +12,21 @@ use Rattle.viper_scope.specs.declared.context.PredicateSignature.{PredicateSigna
 use Rattle.viper_scope.specs.declared.context.MethodTypes.{MethodTypes}
 use Rattle.viper_scope.specs.declared.context.World as world
 use Rattle.viper_scope.specs.declared.context.Context as context
-use Rattle.viper_scope.specs.declared.context.UnitPart.{UnitPart}
-use Rattle.viper_scope.specs.declared.rules.RuleFault.{RuleFault}
-use Rattle.viper_scope.specs.declared.rules.RuleFault.TheVariants as fault
+use Rattle.viper_scope.specs.declared.context.Part.{Part}
+use Rattle.viper_scope.specs.declared.faults.TypeFault.{TypeFault}
+use Rattle.viper_scope.specs.declared.faults.TypeFault.TheVariants.{Memory, Rule, Weight}
 use Rattle.viper_scope.specs.Arguments.{Typing}
 use Rattle.viper_scope.specs.Outcome.{Judged, Found, Broken}
 use Rattle.viper_scope.specs.Context.{Signature, MethodSignature, World, Context}
-use Rattle.viper_scope.specs.Scope.{VariableScope}
+use Rattle.viper_scope.specs.Scope.{Scope}
 
-abbrev pub Refuses : {X : Type 0} → Judged X → RuleFault → Type 0
-Refuses j fault.Memory = Unit {0}
-Refuses j (fault.Broken p r) = j ≡ Broken p r
+abbrev pub Refuses : {X : Type 0} → Judged X → TypeFault → Type 0
+Refuses j Memory = Unit {0}
+Refuses j (Rule p n) = j ≡ Broken p n
+Refuses j (Weight w) = ⊥
 
 -- `seen` is what a contract sees of the value
-abbrev pub Answers : {X Y : Type 0} → (Y → X) → Judged X → Result Y RuleFault → Type 0
+abbrev pub Answers : {X Y : Type 0} → (Y → X) → Judged X → Result Y TypeFault → Type 0
 Answers seen j (Ok y) = j ≡ Found (seen y)
 Answers seen j (Err f) = Refuses j f
 
@@ -68,5 +69,5 @@ context_of c = record {
 }
 
 -- a part of a unit, with a scope behind a reference
-abbrev pub seen_of : UnitPart × Bor VariableScope → UnitPart × VariableScope
+abbrev pub seen_of : Part × Bor Scope → Part × Scope
 seen_of s = (s.0, s.1.now)

@@ -5,7 +5,8 @@ ghost use Rattle.viper_scope.specs.Answers.{Answers, typing_of, typings_of, argu
 ghost use Rattle.viper_scope.specs.Arguments as a;
 ghost use Rattle.viper_scope.specs.Outcome.{Found};
 
-use crate::rules::{Rule, RuleFault};
+use crate::faults::TypeFault;
+use crate::rules::{ARGUMENT_COUNT, WRONG_TYPE};
 use std::alloc::Global;
 use vb_base::Pos;
 use vb_value::Ty;
@@ -49,7 +50,7 @@ pub fn misfit(args: &[Term], typed: &[(Expr, Ty)], params: &[Ty]) -> Option<Pos>
 }
 
 /// The expressions of typed arguments.
-pub fn exprs_in(alloc: Global, typed: Vec<(Expr, Ty)>) -> Result<Vec<Expr>, RuleFault>
+pub fn exprs_in(alloc: Global, typed: Vec<(Expr, Ty)>) -> Result<Vec<Expr>, TypeFault>
     ensures { Answers argument_exprs_of (Found (a.exprs_in (typings_of typed))) result }
 {
     Ok(typed.into_iter().map(|(e, _)| e).collect(alloc)?)
@@ -62,14 +63,14 @@ pub fn fitted(
     typed: Vec<(Expr, Ty)>,
     params: &[Ty],
     at: Pos,
-) -> Result<Vec<Expr>, RuleFault>
+) -> Result<Vec<Expr>, TypeFault>
     ensures { Answers argument_exprs_of (a.fitted (terms_of args.now) params.now at (typings_of typed)) result }
 {
     if !as_many(&typed, params) {
-        return Err(RuleFault::Broken(at, Rule::ArgumentCount));
+        return Err(TypeFault::Rule(at, ARGUMENT_COUNT));
     }
     if let Some(place) = misfit(args, &typed, params) {
-        return Err(RuleFault::Broken(place, Rule::WrongType));
+        return Err(TypeFault::Rule(place, WRONG_TYPE));
     }
     exprs_in(alloc, typed)
 }

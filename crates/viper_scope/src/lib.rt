@@ -5,20 +5,20 @@
 mod arguments;
 mod clauses;
 mod context;
-mod keys;
+mod faults;
 mod loops;
 mod names;
-mod rules;
+pub mod rules;
 mod scope;
 mod types;
 mod world;
 
 pub use arguments::{as_many, exprs_in, fitted, misfit, start};
 pub use clauses::seen;
-pub use context::{Context, MethodTypes, PredicateSignature, Role, UnitPart, Variable, World};
+pub use context::{Context, MethodTypes, Part, PredicateSignature, Role, Variable, World};
+pub use faults::TypeFault;
 pub use loops::targets;
-pub use names::DeclaredNames;
-pub use rules::{Rule, RuleFault};
-pub use scope::{Extent, VariableScope};
+pub use names::Names;
+pub use scope::{Extent, Scope};
 pub use types::{declared_type, type_of};
 pub use world::{naming, next_number, types_in};

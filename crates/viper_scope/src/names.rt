@@ -2,53 +2,53 @@
 ghost use Rattle.std.specs.Prelude.{◌≡◌, ◌++◌, ◌∷◌, [], ℕ, List, None, take, length, OnOk, OnErr};
 ghost use Rattle.viper_scope.specs.Context.{find};
 
-use indexmap::IndexMap;
+use name_table::NameTable;
 use std::alloc::Global;
 use std::marker::Model;
-use symbol_table::NameKey;
 use vb_base::{Ident, Memory};
 
 /// What names stand for, in the order in which they were declared. Contracts see the list of both.
 #[derive(Drop)]
-pub struct DeclaredNames<V> {
-    entries: IndexMap<Ident, V, NameKey>,
+pub struct Names<V> {
+    names: NameTable,
+    values: Vec<V>,
 }
 
-impl<V> Model for DeclaredNames<V> {
-    ghost use Rattle.std.specs.Prelude.{ℕ, List};
+impl<V> Model for Names<V> {
+    ghost use Rattle.std.specs.Prelude.{◌≡◌, ℕ, List, length};
+    ghost use Rattle.std.specs.List.{zip};
 
     ghost Value = { List (List ℕ × V) };
 
-    ghost view = { λ names. names.entries.entries };
+    ghost view = { λ names. zip names.names names.values.items };
+
+    ghost invariant = { λ names. length names.names ≡ length names.values.items };
 }
 
-impl<V: Copy + Drop> DeclaredNames<V> {
-    /// No names, which are hashed by this key.
-    pub fn new(alloc: Global, key: NameKey) -> DeclaredNames<V>
+impl<V: Copy + Drop> Names<V> {
+    /// No names.
+    pub fn new(alloc: Global) -> Names<V>
         ensures { result ≡ [] }
     {
-        DeclaredNames {
-            entries: IndexMap::with_hasher(alloc, key),
+        Names {
+            names: NameTable::new(alloc),
+            values: Vec::new(alloc),
         }
-    }
-
-    /// The key by which names are hashed.
-    pub fn key(&self) -> NameKey {
-        *self.entries.hasher()
     }
 
     /// How many names there are.
     pub fn len(&self) -> usize
         ensures { result ≡ length self.now }
     {
-        self.entries.len()
+        self.names.len()
     }
 
     /// What the name stands for.
     pub fn find(&self, name: &Ident) -> Option<V>
         ensures { result ≡ find self.now name.now }
     {
-        self.entries.get(name).copied()
+        let number = self.names.number_of(name.bytes())?;
+        self.values.get(number).copied()
     }
 
     /// A name that stood for nothing stands for this value.
@@ -57,7 +57,10 @@ impl<V: Copy + Drop> DeclaredNames<V> {
         ensures ok { OnOk result (self.new ≡ self.old ++ (name.now, value) ∷ []) }
         ensures err { OnErr result (self.new ≡ self.old) }
     {
-        self.entries.insert(name.copy()?, value)?;
+        let name = name.copy()?;
+        self.values.reserve(1)?;
+        self.names.add(name)?;
+        self.values.push_reserved(value);
         Ok(())
     }
 
@@ -65,6 +68,7 @@ impl<V: Copy + Drop> DeclaredNames<V> {
     pub fn truncate(&mut self, len: usize)
         ensures { self.new ≡ take len self.old }
     {
-        self.entries.truncate(len);
+        self.names.truncate(len);
+        self.values.truncate(len);
     }
 }

@@ -4,17 +4,16 @@ ghost use Rattle.viper_scope.specs.Context.{find};
 ghost use Rattle.viper_scope.specs.Scope.{ref_variables};
 
 use crate::context::Variable;
-use crate::names::DeclaredNames;
+use crate::names::Names;
 use std::alloc::Global;
 use std::marker::Model;
-use symbol_table::NameKey;
 use vb_base::{Ident, Memory};
 use vb_value::Ty;
 
 /// The variables that a term sees, with their names, in the order in which they were declared. Contracts see the list of both.
 #[derive(Drop)]
-pub struct VariableScope {
-    names: DeclaredNames<Variable>,
+pub struct Scope {
+    names: Names<Variable>,
     /// The numbers of the Ref variables, so that a `new` need not look for them.
     refs: Vec<u32>,
 }
@@ -26,7 +25,7 @@ pub struct Extent {
     pub refs: usize,
 }
 
-impl Model for VariableScope {
+impl Model for Scope {
     ghost use Rattle.std.specs.Prelude.{◌≡◌, ℕ, List};
     ghost use Rattle.viper_scope.specs.declared.context.Variable.{Variable};
 
@@ -39,13 +38,13 @@ impl Model for VariableScope {
     ghost invariant = { λ s. s.refs.items ≡ ref_variables s.names };
 }
 
-impl VariableScope {
-    /// No variables. Their names are hashed by this key.
-    pub fn new(alloc: Global, key: NameKey) -> VariableScope
+impl Scope {
+    /// No variables.
+    pub fn new(alloc: Global) -> Scope
         ensures { result ≡ [] }
     {
-        VariableScope {
-            names: DeclaredNames::new(alloc, key),
+        Scope {
+            names: Names::new(alloc),
             refs: Vec::new(alloc),
         }
     }

@@ -10,12 +10,11 @@ ghost use Rattle.viper_scope.specs.Naming as j;
 ghost use Rattle.viper_scope.specs.Types as f;
 
 use crate::context::{MethodTypes, PredicateSignature, Role, World};
-use crate::keys::key_of;
-use crate::names::DeclaredNames;
-use crate::rules::{Rule, RuleFault};
+use crate::faults::TypeFault;
+use crate::names::Names;
+use crate::rules::DECLARED_TWICE;
 use crate::types::declared_type;
 use std::alloc::Global;
-use symbol_table::NameKey;
 use vb_base::Memory;
 use vb_value::Ty;
 use viper_syntax::{Decl, Formal, Named, SMethod, Term};
@@ -50,12 +49,12 @@ fn decl_name(decl: &Decl) -> &Named
 }
 
 impl World {
-    /// No declarations. Their names are hashed by this key.
-    pub fn new(alloc: Global, key: NameKey) -> World
+    /// No declarations.
+    pub fn new(alloc: Global) -> World
         ensures { world_of result ≡ j.no_world }
     {
         World {
-            roles: DeclaredNames::new(alloc, key),
+            roles: Names::new(alloc),
             fields: Vec::new(alloc),
             predicates: Vec::new(alloc),
             methods: Vec::new(alloc),
@@ -115,13 +114,13 @@ impl World {
 }
 
 /// Adds declarations, whose names must be new.
-fn declare_all(world: &mut World, alloc: Global, decls: &[Decl]) -> Result<(), RuleFault>
+fn declare_all(world: &mut World, alloc: Global, decls: &[Decl]) -> Result<(), TypeFault>
     ensures { Answers (λ _. world_of world.new) (j.naming (world_of world.old) (map decl_of decls.now)) result }
 {
     for decl in decls {
         let name = decl_name(decl);
         if world.roles.find(&name.name).is_some() {
-            return Err(RuleFault::Broken(name.pos, Rule::DeclaredTwice));
+            return Err(TypeFault::Rule(name.pos, DECLARED_TWICE));
         }
         world.declare(alloc, decl)?;
     }
@@ -129,10 +128,10 @@ fn declare_all(world: &mut World, alloc: Global, decls: &[Decl]) -> Result<(), R
 }
 
 /// The declarations of a file, whose names are all different.
-pub fn naming(alloc: Global, decls: &[Decl]) -> Result<World, RuleFault>
+pub fn naming(alloc: Global, decls: &[Decl]) -> Result<World, TypeFault>
     ensures { Answers world_of (j.naming j.no_world (map decl_of decls.now)) result }
 {
-    let mut world = World::new(alloc, key_of(decls));
+    let mut world = World::new(alloc);
     declare_all(&mut world, alloc, decls)?;
     Ok(world)
 }

@@ -9,12 +9,11 @@ use Rattle.viper_syntax.specs.Decl as d
 use Rattle.viper_syntax.specs.View.{decl_of, clause_of}
 use Rattle.viper_syntax.specs.declared.decls.Decl.{Decl}
 use Rattle.viper_syntax.specs.declared.decls.SClause.{SClause}
-use Rattle.viper_scope.specs.declared.rules.Rule.{Rule}
 use Rattle.viper_scope.specs.Answers.{Refuses}
-use Rattle.viper_scope.specs.declared.rules.RuleFault.{RuleFault}
+use Rattle.viper_scope.specs.declared.faults.TypeFault.{TypeFault}
 use Rattle.viper_scope.specs.Context.{World}
 use Rattle.viper_scope.specs.Outcome.{Judged, Found, Broken, then_typed, then_more}
-use Rattle.viper_scope.specs.Scope.{VariableScope}
+use Rattle.viper_scope.specs.Scope.{Scope}
 use Rattle.viper_scope.proofs.Judged.{failed, refuses_along}
 use Rattle.viper_types.specs.Declaring as j
 
@@ -35,7 +34,7 @@ onto_more lists w bodies g a rest x h =
     assembled_more g x (j.decls_typing lists w bodies rest)
 
 -- the next declaration breaks a rule
-pub onto_broken : (lists : Bool) (w : World) (bodies : List (Option e.Assertion)) (g : p.Program) (a : d.Decl) (rest : List d.Decl) (at : Pos) (r : Rule) →
+pub onto_broken : (lists : Bool) (w : World) (bodies : List (Option e.Assertion)) (g : p.Program) (a : d.Decl) (rest : List d.Decl) (at : Pos) (r : ℕ) →
     j.decl_typing lists w bodies a ≡ Broken at r → onto lists w bodies g (a ∷ rest) ≡ Broken at r
 onto_broken lists w bodies g a rest at r h =
     ap (λ k. then_typed (then_more k (j.decls_typing lists w bodies rest)) (λ xs. Found (j.assembled g xs))) h
@@ -47,7 +46,7 @@ onto_next lists w bodies g after decls i a x within is found with_it =
     ap (λ q. onto lists w bodies q (map decl_of (drop (i + 1) decls))) with_it ∙
     sym (ap (λ ds. onto lists w bodies g (map decl_of ds)) (next_item decls i a within is) ∙ onto_more lists w bodies g (decl_of a) (map decl_of (drop (i + 1) decls)) x found)
 
-pub onto_refused : (lists : Bool) (w : World) (bodies : List (Option e.Assertion)) (g : p.Program) (decls : List Decl) (i : ℕ) (a : Decl) (f : RuleFault) → i < length decls → a ≡ get_or decls i a →
+pub onto_refused : (lists : Bool) (w : World) (bodies : List (Option e.Assertion)) (g : p.Program) (decls : List Decl) (i : ℕ) (a : Decl) (f : TypeFault) → i < length decls → a ≡ get_or decls i a →
     Refuses (j.decl_typing lists w bodies (decl_of a)) f → Refuses (onto lists w bodies g (map decl_of (drop i decls))) f
 onto_refused lists w bodies g decls i a f within is h =
     refuses_along f (ap (λ ds. onto lists w bodies g (map decl_of ds)) (next_item decls i a within is))
@@ -57,10 +56,10 @@ pub onto_end : (lists : Bool) (w : World) (bodies : List (Option e.Assertion)) (
 onto_end lists w bodies g decls i over = at_drop_all (λ ds. onto lists w bodies g (map decl_of ds)) decls i over
 
 -- the next clause, and those after it
-pub next_clause : (w : World) (bodies : List (Option e.Assertion)) (params all : VariableScope) (items : List SClause) (i : ℕ) (a : SClause) → i < length items → a ≡ get_or items i a →
+pub next_clause : (w : World) (bodies : List (Option e.Assertion)) (params all : Scope) (items : List SClause) (i : ℕ) (a : SClause) → i < length items → a ≡ get_or items i a →
     j.clauses w bodies params all (map clause_of (drop i items)) ≡
     then_more (j.clause_of w bodies params all (clause_of a).word (clause_of a).term) (j.clauses w bodies params all (map clause_of (drop (i + 1) items)))
 next_clause w bodies params all items i a within is = ap (λ cs. j.clauses w bodies params all (map clause_of cs)) (next_item items i a within is)
 
-pub no_clause : (w : World) (bodies : List (Option e.Assertion)) (params all : VariableScope) (items : List SClause) (i : ℕ) → length items ≤ i → j.clauses w bodies params all (map clause_of (drop i items)) ≡ Found []
+pub no_clause : (w : World) (bodies : List (Option e.Assertion)) (params all : Scope) (items : List SClause) (i : ℕ) → length items ≤ i → j.clauses w bodies params all (map clause_of (drop i items)) ≡ Found []
 no_clause w bodies params all items i over = at_drop_all (λ cs. j.clauses w bodies params all (map clause_of cs)) items i over

@@ -3,7 +3,6 @@ use Rattle.std.proofs.Common.{◌≡◌, ◌⊎◌, inl, inr, ℕ, ◌+◌, ◌�
 use Rattle.std.proofs.lemmas.Bool.{leb-true}
 use Rattle.std.proofs.lemmas.List.Elements.{All-head, All-tail}
 use Rattle.lemmas.proofs.Lists.{all_left, all_right}
-use Rattle.vb_base.specs.Limits.{max_block_depth, max_term_depth}
 use Rattle.vb_base.specs.declared.places.Pos.{Pos}
 use Rattle.viper_core.specs.Expr as e
 use Rattle.viper_core.specs.Stmt as c
@@ -15,10 +14,10 @@ use Rattle.viper_syntax.specs.declared.stmts.Named.{Named}
 use Rattle.viper_syntax.specs.declared.tokens.Word.{Word}
 use Rattle.viper_scope.specs.Context.{World, Context}
 use Rattle.viper_syntax.specs.Good.{depth, with_fields, target_terms, rhs_terms, option_terms, amount_terms, stmt_terms, block_terms, stmts_terms, arms_terms, else_terms}
-use Rattle.viper_scope.specs.Scope.{VariableScope}
+use Rattle.viper_scope.specs.Scope.{Scope}
 use Rattle.viper_types.specs.Typing.{Located}
-use Rattle.viper_types.specs.Frame.{MethodVariables}
-use Rattle.viper_types.specs.Stepping.{AssignedVariable, Branch, nested, alone, arm_count}
+use Rattle.viper_types.specs.Frame.{Frame}
+use Rattle.viper_types.specs.Stepping.{Target, Branch, nested, alone, arm_count}
 use Rattle.viper_types.specs.Stepped as r
 use Rattle.viper_types.specs.Stepped.{Stepped, Blocked, SteppedAll, Branches, Otherwise}
 use Rattle.viper_types.proofs.TermDepth.{expr_depth, exprs_depth, permission_amount_depth, assertion_depth}
@@ -28,17 +27,17 @@ use Rattle.viper_types.proofs.GoodLists.{IsShallow, terms_are_shallow, amount_is
 
 -- a statement that holds no block
 pub record IsFlat (x : c.Stmt) : Type 0 where
-  pub shallow : stmt_depth x ≤ max_term_depth
+  pub shallow : stmt_depth x ≤ 1024
   pub flat : blocks_of x ≡ 0
 
-call_is_flat : {k : Context} {sc : VariableScope} {at : Pos} {vs : List AssignedVariable} {call : s.SCall} {x : c.Stmt} → r.IsCall k sc at vs call x → All IsShallow call.args →
+call_is_flat : {k : Context} {sc : Scope} {at : Pos} {vs : List Target} {call : s.SCall} {x : c.Stmt} → r.IsCall k sc at vs call x → All IsShallow call.args →
     IsFlat x
 call_is_flat {call = call} (r.call_of i args into) l = record { shallow = omega (arith, exprs_depth args, terms_are_shallow call.args l); flat = refl }
 
-new_is_flat : {w : World} {sc : VariableScope} {at : Pos} {n : ℕ} {new : s.SNew} {x : c.Stmt} → r.IsNew w sc at n new x → IsFlat x
+new_is_flat : {w : World} {sc : Scope} {at : Pos} {n : ℕ} {new : s.SNew} {x : c.Stmt} → r.IsNew w sc at n new x → IsFlat x
 new_is_flat (r.new_of h) = record { shallow = omega arith; flat = refl }
 
-declaration_is_flat : {k : Context} {sc : VariableScope} {at : Pos} {v : AssignedVariable} {rhs : Option s.SRhs} {x : c.Stmt} → r.Declares k sc at v rhs x →
+declaration_is_flat : {k : Context} {sc : Scope} {at : Pos} {v : Target} {rhs : Option s.SRhs} {x : c.Stmt} → r.Declares k sc at v rhs x →
     All IsShallow (option_terms rhs_terms rhs) →
     IsFlat x
 declaration_is_flat r.any_value l = record { shallow = omega arith; flat = refl }
@@ -46,11 +45,11 @@ declaration_is_flat (r.value {a = a} h) l = record { shallow = omega (arith, exp
 declaration_is_flat (r.Declares.returned h) l = call_is_flat h l
 declaration_is_flat (r.Declares.created is h) l = new_is_flat h
 
-place_depth : {k : Context} {sc : VariableScope} {a : t.Term} {f : Named} {fs : List Named} {l : Located} → r.IsPlace k sc a f fs l → g.depth l.receiver ≤ depth (with_fields a (f ∷ fs))
+place_depth : {k : Context} {sc : Scope} {a : t.Term} {f : Named} {fs : List Named} {l : Located} → r.IsPlace k sc a f fs l → g.depth l.receiver ≤ depth (with_fields a (f ∷ fs))
 place_depth (r.of_field h i) = omega (arith, expr_depth h)
 place_depth (r.of_further h) = place_depth h
 
-assignment_is_flat : {k : Context} {sc : VariableScope} {xs : List Named} {rhs : s.SRhs} {x : c.Stmt} → r.Sets k sc xs rhs x →
+assignment_is_flat : {k : Context} {sc : Scope} {xs : List Named} {rhs : s.SRhs} {x : c.Stmt} → r.Sets k sc xs rhs x →
     All IsShallow (target_terms xs ++ rhs_terms rhs) →
     IsFlat x
 assignment_is_flat (r.variable {x = x} {a = a} i h) l =
@@ -65,14 +64,14 @@ assignment_is_flat (r.Sets.field {x = x} {f = f} {fs = fs} {a = a} h h') l =
       flat = refl;
     }
 
-check_is_flat : {k : Context} {sc : VariableScope} {at : Pos} {a : t.Term} {w : Word} {x : c.Stmt} → r.Checks k sc at a w x → depth a ≤ max_term_depth → IsFlat x
+check_is_flat : {k : Context} {sc : Scope} {at : Pos} {a : t.Term} {w : Word} {x : c.Stmt} → r.Checks k sc at a w x → depth a ≤ 1024 → IsFlat x
 check_is_flat (r.inhale h) l = record { shallow = omega (arith, assertion_depth h, l); flat = refl }
 check_is_flat (r.exhale h) l = record { shallow = omega (arith, assertion_depth h, l); flat = refl }
 check_is_flat (r.asserted h) l = record { shallow = omega (arith, assertion_depth h, l); flat = refl }
 check_is_flat (r.assume h) l = record { shallow = omega (arith, expr_depth h, l); flat = refl }
 
-fold_is_shallow : {k : Context} {sc : VariableScope} {f : s.SFold} {x : c.FoldStmt} → r.IsFold k sc f x → All IsShallow (f.call.args ++ amount_terms f.amount) →
-    g.fold_depth x ≤ max_term_depth
+fold_is_shallow : {k : Context} {sc : Scope} {f : s.SFold} {x : c.FoldStmt} → r.IsFold k sc f x → All IsShallow (f.call.args ++ amount_terms f.amount) →
+    g.fold_depth x ≤ 1024
 fold_is_shallow {f = f} (r.fold_of i has_body args m) l =
     omega (
       arith,
@@ -82,8 +81,8 @@ fold_is_shallow {f = f} (r.fold_of i has_body args m) l =
       amount_is_shallow f.amount (all_right IsShallow f.call.args (amount_terms f.amount) l),
     )
 
-pub assertions_depth : {k : Context} {sc : VariableScope} {is : List t.Term} {xs : List e.Assertion} → r.AssertsAll k sc is xs → All IsShallow is →
-    g.assertion_depths xs ≤ max_term_depth
+pub assertions_depth : {k : Context} {sc : Scope} {is : List t.Term} {xs : List e.Assertion} → r.AssertsAll k sc is xs → All IsShallow is →
+    g.assertion_depths xs ≤ 1024
 assertions_depth r.no_assertions l = omega arith
 assertions_depth (r.one_assertion {a = a} {rest = rest} h hs) l =
     omega (arith, assertion_depth h, All-head IsShallow a rest l, assertions_depth hs (All-tail IsShallow a rest l))
@@ -92,19 +91,19 @@ assertions_depth (r.one_assertion {a = a} {rest = rest} h hs) l =
 
 -- a statement in a block of this depth, and those of such a block
 pub record Nests (d : ℕ) (x : c.Stmt) : Type 0 where
-  pub shallow : stmt_depth x ≤ max_term_depth
-  pub nested : d + blocks_of x ≤ max_block_depth
+  pub shallow : stmt_depth x ≤ 1024
+  pub nested : d + blocks_of x ≤ 128
 
 pub record NestAll (d : ℕ) (ss : c.Stmts) : Type 0 where
-  pub shallow : stmts_depth ss ≤ max_term_depth
-  pub nested : d + blocks_in ss ≤ max_block_depth
+  pub shallow : stmts_depth ss ≤ 1024
+  pub nested : d + blocks_in ss ≤ 128
 
 -- the statements of an `else`, or none
 record NestElse (d : ℕ) (ss : c.Stmts) : Type 0 where
-  pub shallow : stmts_depth ss ≤ max_term_depth
-  pub nested : (blocks_in ss ≡ 0) ⊎ (d + blocks_in ss ≤ max_block_depth)
+  pub shallow : stmts_depth ss ≤ 1024
+  pub nested : (blocks_in ss ≡ 0) ⊎ (d + blocks_in ss ≤ 128)
 
-in_block : (d : ℕ) {x : c.Stmt} → d ≤ max_block_depth → IsFlat x → Nests d x
+in_block : (d : ℕ) {x : c.Stmt} → d ≤ 128 → IsFlat x → Nests d x
 in_block d le h = record { shallow = h.shallow; nested = omega (arith, h.flat, le) }
 
 -- a statement alone in a block
@@ -113,14 +112,14 @@ alone_nests d o x other is h =
     let one : NestAll d (c.next x c.skip) = subst (λ p. NestAll d (alone p other)) is h in
     record { shallow = omega (arith, one.shallow); nested = omega (arith, one.nested) }
 
-last_block : (d : ℕ) (ss : c.Stmts) → d ≤ max_block_depth → NestElse d ss → NestAll d ss
+last_block : (d : ℕ) (ss : c.Stmts) → d ≤ 128 → NestElse d ss → NestAll d ss
 last_block d ss le h = record { shallow = h.shallow; nested = elim h.nested [ inl none ↦ omega (arith, none, le) | inr nested ↦ nested ] }
 
 same_depth : (d e : ℕ) (ss : c.Stmts) → d ≡ e → NestElse d ss → NestElse e ss
 same_depth d e ss is h = subst (λ n. NestElse n ss) is h
 
 mutual
-  pub step_nests : {k : Context} {d : ℕ} {fr : MethodVariables} {a : s.SStmt} {x : c.Stmt} → Stepped k d fr a x → d ≤ max_block_depth → All IsShallow (stmt_terms a) → Nests d x
+  pub step_nests : {k : Context} {d : ℕ} {fr : Frame} {a : s.SStmt} {x : c.Stmt} → Stepped k d fr a x → d ≤ 128 → All IsShallow (stmt_terms a) → Nests d x
   step_nests {d = d} (r.var new h) le l = in_block d le (declaration_is_flat h l)
   step_nests {d = d} (r.assign h) le l = in_block d le (assignment_is_flat h l)
   step_nests {d = d} (r.call_to into differ h) le l = in_block d le (call_is_flat h l)
@@ -139,10 +138,10 @@ mutual
         nested = omega (arith, inside.nested);
       }
 
-  pub block_nests : {k : Context} {d : ℕ} {fr : MethodVariables} {b : s.SBlock} {ss : c.Stmts} → Blocked k d fr b ss → All IsShallow (block_terms b) → NestAll d ss
-  block_nests {d = d} (r.block i h) l = steps_nest h (leb-true d max_block_depth i) l
+  pub block_nests : {k : Context} {d : ℕ} {fr : Frame} {b : s.SBlock} {ss : c.Stmts} → Blocked k d fr b ss → All IsShallow (block_terms b) → NestAll d ss
+  block_nests {d = d} (r.block i h) l = steps_nest h (leb-true d 128 i) l
 
-  steps_nest : {k : Context} {d : ℕ} {fr : MethodVariables} {ss : s.SStmts} {xs : List c.Stmt} → SteppedAll k d fr ss xs → d ≤ max_block_depth → All IsShallow (stmts_terms ss) →
+  steps_nest : {k : Context} {d : ℕ} {fr : Frame} {ss : s.SStmts} {xs : List c.Stmt} → SteppedAll k d fr ss xs → d ≤ 128 → All IsShallow (stmts_terms ss) →
       NestAll d (c.stmts xs)
   steps_nest r.no_steps le l = record { shallow = omega arith; nested = omega (arith, le) }
   steps_nest (r.one_step {a = a} {rest = rest} h hs) le l =
@@ -151,7 +150,7 @@ mutual
       record { shallow = omega (arith, first.shallow, others.shallow); nested = omega (arith, first.nested, others.nested) }
 
   -- arms whose blocks are deeper than this
-  arms_nest : {k : Context} {b : ℕ} {fr : MethodVariables} {arms : s.SArms} {bs : List Branch} → Branches k b fr arms bs → (d : ℕ) → b ≡ d + 1 → d ≤ max_block_depth →
+  arms_nest : {k : Context} {b : ℕ} {fr : Frame} {arms : s.SArms} {bs : List Branch} → Branches k b fr arms bs → (d : ℕ) → b ≡ d + 1 → d ≤ 128 →
       (other : c.Stmts) → All IsShallow (arms_terms arms) → NestElse (d + arm_count arms) other →
       NestAll d (alone (nested bs other) other)
   arms_nest r.no_branches d is le other l o = last_block d other le (same_depth (d + 0) d other (omega arith) o)
@@ -165,6 +164,6 @@ mutual
         nested = omega (arith, is, first.nested, others.nested);
       }
 
-  else_nests : {k : Context} {d : ℕ} {fr : MethodVariables} {o : s.SElse} {ss : c.Stmts} → Otherwise k d fr o ss → All IsShallow (else_terms o) → NestElse d ss
+  else_nests : {k : Context} {d : ℕ} {fr : Frame} {o : s.SElse} {ss : c.Stmts} → Otherwise k d fr o ss → All IsShallow (else_terms o) → NestElse d ss
   else_nests r.no_block l = record { shallow = omega arith; nested = inl refl }
   else_nests (r.else_of h) l = let inside = block_nests h l in record { shallow = inside.shallow; nested = inr inside.nested }

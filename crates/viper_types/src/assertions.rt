@@ -12,23 +12,24 @@ use std::alloc::Global;
 use vb_base::{Ident, Pos, boxed, kept};
 use vb_value::Ty;
 use viper_core::{Amt, Assertion};
-use viper_scope::{Context, Rule, RuleFault, VariableScope, start};
+use viper_scope::rules::{MISPLACED_WILDCARD, NO_RESOURCE, UNKNOWN_NAME};
+use viper_scope::{Context, Scope, TypeFault, start};
 use viper_syntax::{Sign, Term, Word};
 
 /// The amount of an accessibility predicate.
 fn amount(
     alloc: Global,
     context: &Context,
-    scope: &VariableScope,
+    scope: &Scope,
     amount: Option<&Term>,
-) -> Result<Amt, RuleFault>
+) -> Result<Amt, TypeFault>
     ensures { Answers amt_of (j.amount (context_of context.now) scope.now (lent_amount_of amount.entry)) result }
 {
     match amount {
         None => Ok(Amt::Is(write())),
         Some(Term::Constant(Word::Wildcard, at)) => {
             if !allows_permission_forms(context.part) {
-                return Err(RuleFault::Broken(*at, Rule::MisplacedWildcard));
+                return Err(TypeFault::Rule(*at, MISPLACED_WILDCARD));
             }
             Ok(Amt::Wildcard)
         }
@@ -40,16 +41,16 @@ fn amount(
 fn instance(
     alloc: Global,
     context: &Context,
-    scope: &VariableScope,
+    scope: &Scope,
     name: &Ident,
     args: &[Term],
     share: Option<&Term>,
     at: Pos,
-) -> Result<Assertion, RuleFault>
+) -> Result<Assertion, TypeFault>
     ensures { Answers assertion_of (j.instance (context_of context.now) scope.now name.now (terms_of args.now) (lent_amount_of share.entry) at) result }
 {
     let Some((predicate, signature)) = context.world.predicate(name) else {
-        return Err(RuleFault::Broken(at, Rule::UnknownName));
+        return Err(TypeFault::Rule(at, UNKNOWN_NAME));
     };
     let args = arguments(alloc, context, scope, args, &signature.params, at)?;
     let share = amount(alloc, context, scope, share)?;
@@ -60,24 +61,23 @@ fn instance(
 fn access(
     alloc: Global,
     context: &Context,
-    scope: &VariableScope,
+    scope: &Scope,
     term: &Term,
     share: Option<&Term>,
     at: Pos,
-) -> Result<Assertion, RuleFault>
+) -> Result<Assertion, TypeFault>
     ensures { Answers assertion_of (j.access (context_of context.now) scope.now (term_of term.now) (lent_amount_of share.entry) at) result }
 {
     match term {
         Term::Field(a, name, name_at) => {
             let found = place(alloc, context, scope, a, name, *name_at)?;
-            let share = amount(alloc, context, scope, share);
-            let (share, found) = kept(share, found)?;
+            let share = amount(alloc, context, scope, share)?;
             Ok(Assertion::Acc(found.receiver, found.field, share, *name_at))
         }
         Term::Inst(name, args, name_at) => {
             instance(alloc, context, scope, name, args, share, *name_at)
         }
-        _ => Err(RuleFault::Broken(at, Rule::NoResource)),
+        _ => Err(TypeFault::Rule(at, NO_RESOURCE)),
     }
 }
 
@@ -85,9 +85,9 @@ fn access(
 fn fact(
     alloc: Global,
     context: &Context,
-    scope: &VariableScope,
+    scope: &Scope,
     term: &Term,
-) -> Result<Assertion, RuleFault>
+) -> Result<Assertion, TypeFault>
     ensures { Answers assertion_of (j.fact (context_of context.now) scope.now (term_of term.now)) result }
 {
     let e = expected(alloc, context, scope, Ty::Bool, term)?;
@@ -99,9 +99,9 @@ fn fact(
 fn boxed_assertion(
     alloc: Global,
     context: &Context,
-    scope: &VariableScope,
+    scope: &Scope,
     term: &Term,
-) -> Result<Box<Assertion>, RuleFault>
+) -> Result<Box<Assertion>, TypeFault>
     ensures { Answers (λ a. assertion_of a.value) (j.asserting (context_of context.now) scope.now (term_of term.now)) result }
 {
     Ok(boxed(alloc, assertion(alloc, context, scope, term)?)?)
@@ -112,9 +112,9 @@ fn boxed_assertion(
 pub(crate) fn assertion(
     alloc: Global,
     context: &Context,
-    scope: &VariableScope,
+    scope: &Scope,
     term: &Term,
-) -> Result<Assertion, RuleFault>
+) -> Result<Assertion, TypeFault>
     ensures { Answers assertion_of (j.asserting (context_of context.now) scope.now (term_of term.now)) result }
 {
     match term {
@@ -147,9 +147,9 @@ pub(crate) fn assertion(
 pub(crate) fn assertions(
     alloc: Global,
     context: &Context,
-    scope: &VariableScope,
+    scope: &Scope,
     terms: &[Term],
-) -> Result<Vec<Assertion>, RuleFault>
+) -> Result<Vec<Assertion>, TypeFault>
     ensures { Answers (λ v. assertions_of v.items) (asserting_all (context_of context.now) scope.now (map term_of terms.now)) result }
 {
     let mut typed = Vec::with_capacity(alloc, terms.len())?;

@@ -1,59 +1,55 @@
 // The variables that take values.
 ghost use Rattle.std.specs.Prelude.{◌≡◌, [], IfOk, map, not};
 ghost use Rattle.viper_scope.specs.Answers.{Answers};
-ghost use Rattle.viper_scope.specs.declared.rules.Rule.TheVariants as rule;
 ghost use Rattle.viper_types.specs.Answers.{target_of, targets_of};
 ghost use Rattle.viper_scope.specs.Outcome.{Found, obeys};
 ghost use Rattle.viper_types.specs.Stepping as s;
 
-use crate::frames::AssignedVariable;
+use crate::frames::Target;
 use crate::listed::list_new;
 use indexmap::IndexSet;
 use std::alloc::Global;
 use vb_base::{Memory, Pos};
 use vb_value::Ty;
-use viper_scope::{Rule, RuleFault, Variable, VariableScope};
+use viper_scope::rules::{PARAMETER_AS_TARGET, TARGET_TWICE, UNKNOWN_NAME, WRONG_TYPE};
+use viper_scope::{Scope, TypeFault, Variable};
 use viper_syntax::Named;
 
 /// A visible variable that is no parameter.
-pub fn target(scope: &VariableScope, x: &Named) -> Result<AssignedVariable, RuleFault>
+pub fn target(scope: &Scope, x: &Named) -> Result<Target, TypeFault>
     ensures { Answers target_of (s.target scope.now x.now) result }
 {
     let Some(variable) = scope.find(&x.name) else {
-        return Err(RuleFault::Broken(x.pos, Rule::UnknownName));
+        return Err(TypeFault::Rule(x.pos, UNKNOWN_NAME));
     };
     assigned(variable, x.pos)
 }
 
 /// The same, of type Ref.
-pub fn ref_target(scope: &VariableScope, x: &Named) -> Result<AssignedVariable, RuleFault>
+pub fn ref_target(scope: &Scope, x: &Named) -> Result<Target, TypeFault>
     ensures { Answers target_of (s.ref_target scope.now x.now) result }
 {
     let Some(variable) = scope.find(&x.name) else {
-        return Err(RuleFault::Broken(x.pos, Rule::UnknownName));
+        return Err(TypeFault::Rule(x.pos, UNKNOWN_NAME));
     };
     if variable.ty != Ty::Ref {
-        return Err(RuleFault::Broken(x.pos, Rule::WrongType));
+        return Err(TypeFault::Rule(x.pos, WRONG_TYPE));
     }
     assigned(variable, x.pos)
 }
 
-fn assigned(variable: Variable, at: Pos) -> Result<AssignedVariable, RuleFault>
-    ensures { Answers target_of (obeys (not variable.is_parameter) at rule.ParameterAsTarget (Found (record { number = variable.number; ty = variable.ty; at = at }))) result }
+fn assigned(variable: Variable, at: Pos) -> Result<Target, TypeFault>
+    ensures { Answers target_of (obeys (not variable.is_parameter) at 8 (Found (record { number = variable.number; ty = variable.ty; at = at }))) result }
 {
     if variable.is_parameter {
-        return Err(RuleFault::Broken(at, Rule::ParameterAsTarget));
+        return Err(TypeFault::Rule(at, PARAMETER_AS_TARGET));
     }
     let Variable { number, ty, .. } = variable;
-    Ok(AssignedVariable { number, ty, at })
+    Ok(Target { number, ty, at })
 }
 
 /// The targets of a call, none of them twice.
-pub fn call_targets(
-    alloc: Global,
-    scope: &VariableScope,
-    names: &[Named],
-) -> Result<Vec<AssignedVariable>, RuleFault>
+pub fn call_targets(alloc: Global, scope: &Scope, names: &[Named]) -> Result<Vec<Target>, TypeFault>
     ensures { Answers targets_of (s.call_targets scope.now [] names.now) result }
 {
     let mut seen = IndexSet::new(alloc);
@@ -61,7 +57,7 @@ pub fn call_targets(
     for x in names {
         let target = target(scope, x)?;
         if !list_new(&mut seen, target.number)? {
-            return Err(RuleFault::Broken(x.pos, Rule::TargetTwice));
+            return Err(TypeFault::Rule(x.pos, TARGET_TWICE));
         }
         targets.push(target)?;
     }
@@ -69,7 +65,7 @@ pub fn call_targets(
 }
 
 /// The name of the first target that is not of its return's type.
-pub fn mistarget(targets: &[AssignedVariable], returns: &[Ty]) -> Option<Pos>
+pub fn mistarget(targets: &[Target], returns: &[Ty]) -> Option<Pos>
     ensures { result ≡ s.mistarget (map target_of targets.now) returns.now }
 {
     for (i, target) in targets.iter().enumerate() {
@@ -81,7 +77,7 @@ pub fn mistarget(targets: &[AssignedVariable], returns: &[Ty]) -> Option<Pos>
 }
 
 /// The numbers of some targets.
-pub fn numbers_in(alloc: Global, targets: &[AssignedVariable]) -> Result<Vec<u32>, Memory>
+pub fn numbers_in(alloc: Global, targets: &[Target]) -> Result<Vec<u32>, Memory>
     ensures { IfOk result (λ v. v.items ≡ s.numbers_in (map target_of targets.now)) }
 {
     let mut numbers = Vec::with_capacity(alloc, targets.len())?;

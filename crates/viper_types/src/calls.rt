@@ -11,23 +11,22 @@ ghost use Rattle.viper_types.specs.Typing as j;
 
 use crate::assigned::{mistarget, numbers_in};
 use crate::expressions::{arguments, typings};
-use crate::frames::AssignedVariable;
+use crate::frames::Target;
 use std::alloc::Global;
 use vb_base::Pos;
 use vb_value::Ty;
 use viper_core::{Expr, Stmt};
-use viper_scope::{
-    Context, MethodTypes, Rule, RuleFault, VariableScope, as_many, exprs_in, misfit,
-};
+use viper_scope::rules::{ARGUMENT_COUNT, TARGET_COUNT, UNKNOWN_NAME, WRONG_TYPE};
+use viper_scope::{Context, MethodTypes, Scope, TypeFault, as_many, exprs_in, misfit};
 use viper_syntax::SCall;
 
 /// The arguments of a call, with their types.
 fn typed_arguments(
     alloc: Global,
     context: &Context,
-    scope: &VariableScope,
+    scope: &Scope,
     call: &SCall,
-) -> Result<Vec<(Expr, Ty)>, RuleFault>
+) -> Result<Vec<(Expr, Ty)>, TypeFault>
     ensures { Answers typings_of (j.typing_all (context_of context.now) scope.now (t.terms (call_of call.now).args)) result }
 {
     typings(alloc, context, scope, &call.args)
@@ -45,26 +44,26 @@ fn first_misfit(call: &SCall, typed: &[(Expr, Ty)], params: &[Ty]) -> Option<Pos
 fn called(
     alloc: Global,
     at: Pos,
-    targets: &[AssignedVariable],
+    targets: &[Target],
     call: &SCall,
     number: u32,
     method: &MethodTypes,
     typed: Vec<(Expr, Ty)>,
-) -> Result<Stmt, RuleFault>
+) -> Result<Stmt, TypeFault>
     ensures { Answers stmt_of (s.called at (map target_of targets.now) (call_of call.now) number method.now.params.items method.now.returns.items (typings_of typed)) result }
 {
     let name_at = call.name.pos;
     if !as_many(&typed, &method.params) {
-        return Err(RuleFault::Broken(name_at, Rule::ArgumentCount));
+        return Err(TypeFault::Rule(name_at, ARGUMENT_COUNT));
     }
     if !as_many(targets, &method.returns) {
-        return Err(RuleFault::Broken(name_at, Rule::TargetCount));
+        return Err(TypeFault::Rule(name_at, TARGET_COUNT));
     }
     if let Some(place) = mistarget(targets, &method.returns) {
-        return Err(RuleFault::Broken(place, Rule::WrongType));
+        return Err(TypeFault::Rule(place, WRONG_TYPE));
     }
     if let Some(place) = first_misfit(call, &typed, &method.params) {
-        return Err(RuleFault::Broken(place, Rule::WrongType));
+        return Err(TypeFault::Rule(place, WRONG_TYPE));
     }
     let numbers = numbers_in(alloc, targets)?;
     Ok(Stmt::Call(at, numbers, number, exprs_in(alloc, typed)?))
@@ -74,15 +73,15 @@ fn called(
 pub fn calling(
     alloc: Global,
     context: &Context,
-    scope: &VariableScope,
+    scope: &Scope,
     at: Pos,
-    targets: &[AssignedVariable],
+    targets: &[Target],
     call: &SCall,
-) -> Result<Stmt, RuleFault>
+) -> Result<Stmt, TypeFault>
     ensures { Answers stmt_of (s.calling (context_of context.now) scope.now at (map target_of targets.now) (call_of call.now)) result }
 {
     let Some((number, method)) = context.world.method(&call.name.name) else {
-        return Err(RuleFault::Broken(call.name.pos, Rule::UnknownName));
+        return Err(TypeFault::Rule(call.name.pos, UNKNOWN_NAME));
     };
     let typed = typed_arguments(alloc, context, scope, call)?;
     called(alloc, at, targets, call, number, method, typed)
@@ -92,10 +91,10 @@ pub fn calling(
 pub fn call_arguments(
     alloc: Global,
     context: &Context,
-    scope: &VariableScope,
+    scope: &Scope,
     call: &SCall,
     params: &[Ty],
-) -> Result<Vec<Expr>, RuleFault>
+) -> Result<Vec<Expr>, TypeFault>
     ensures { Answers argument_exprs_of (j.arguments (context_of context.now) scope.now (t.terms (call_of call.now).args) params.now call.now.name.pos) result }
 {
     arguments(alloc, context, scope, &call.args, params, call.name.pos)
@@ -106,18 +105,18 @@ pub fn call_arguments(
 pub fn calling_into_field(
     alloc: Global,
     context: &Context,
-    scope: &VariableScope,
+    scope: &Scope,
     call: &SCall,
-) -> Result<Stmt, RuleFault>
+) -> Result<Stmt, TypeFault>
     ensures { Answers stmt_of (s.calling_into_field (context_of context.now) scope.now (call_of call.now)) result }
 {
     let name_at = call.name.pos;
     let Some((_, method)) = context.world.method(&call.name.name) else {
-        return Err(RuleFault::Broken(name_at, Rule::UnknownName));
+        return Err(TypeFault::Rule(name_at, UNKNOWN_NAME));
     };
     let typed = typed_arguments(alloc, context, scope, call)?;
     if !as_many(&typed, &method.params) {
-        return Err(RuleFault::Broken(name_at, Rule::ArgumentCount));
+        return Err(TypeFault::Rule(name_at, ARGUMENT_COUNT));
     }
-    Err(RuleFault::Broken(name_at, Rule::TargetCount))
+    Err(TypeFault::Rule(name_at, TARGET_COUNT))
 }

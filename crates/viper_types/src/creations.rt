@@ -14,20 +14,21 @@ use indexmap::IndexSet;
 use std::alloc::Global;
 use vb_base::{Memory, Pos};
 use viper_core::Stmt;
-use viper_scope::{Context, Rule, RuleFault, VariableScope, World};
+use viper_scope::rules::{FIELD_TWICE, UNKNOWN_NAME};
+use viper_scope::{Context, Scope, TypeFault, World};
 use viper_syntax::{Named, SNew};
 
 /// The fields that a `new` names, none of them twice.
-fn new_fields(alloc: Global, world: &World, names: &[Named]) -> Result<Vec<u32>, RuleFault>
+fn new_fields(alloc: Global, world: &World, names: &[Named]) -> Result<Vec<u32>, TypeFault>
     ensures { Answers numbers_of (s.new_fields (world_of world.now) [] names.now) result }
 {
     let mut fields = IndexSet::new(alloc);
     for name in names {
         let Some((field, _)) = world.field(&name.name) else {
-            return Err(RuleFault::Broken(name.pos, Rule::UnknownName));
+            return Err(TypeFault::Rule(name.pos, UNKNOWN_NAME));
         };
         if !list_new(&mut fields, field)? {
-            return Err(RuleFault::Broken(name.pos, Rule::FieldTwice));
+            return Err(TypeFault::Rule(name.pos, FIELD_TWICE));
         }
     }
     Ok(fields.into_iter().collect(alloc)?)
@@ -49,7 +50,7 @@ fn chosen_fields(
     lists: bool,
     world: &World,
     new: &SNew,
-) -> Result<Vec<u32>, RuleFault>
+) -> Result<Vec<u32>, TypeFault>
     ensures { Answers numbers_of (s.chosen_fields lists (world_of world.now) (new_of new.now)) result }
 {
     if !new.every {
@@ -62,7 +63,7 @@ fn chosen_fields(
 }
 
 /// The Ref variables in scope.
-fn ref_variables(alloc: Global, lists: bool, scope: &VariableScope) -> Result<Vec<u32>, Memory>
+fn ref_variables(alloc: Global, lists: bool, scope: &Scope) -> Result<Vec<u32>, Memory>
     ensures { IfOk result (λ v. v.items ≡ listed lists (ref_variables scope.now)) }
 {
     if !lists {
@@ -75,11 +76,11 @@ fn ref_variables(alloc: Global, lists: bool, scope: &VariableScope) -> Result<Ve
 pub fn creating(
     alloc: Global,
     context: &Context,
-    scope: &VariableScope,
+    scope: &Scope,
     at: Pos,
     target: u32,
     new: &SNew,
-) -> Result<Stmt, RuleFault>
+) -> Result<Stmt, TypeFault>
     ensures { Answers stmt_of (s.creating context.now.lists (world_of context.now.world.now) scope.now at target (new_of new.now)) result }
 {
     let fields = chosen_fields(alloc, context.lists, context.world, new)?;

@@ -13,7 +13,8 @@ use std::alloc::Global;
 use vb_base::{Ident, Memory, kept};
 use vb_value::{Layout, Ty};
 use viper_core::{Assertion, Method, Predicate, Program, Unit};
-use viper_scope::{Rule, RuleFault, World, next_number, type_of};
+use viper_scope::rules::WRONG_TYPE;
+use viper_scope::{TypeFault, World, next_number, type_of};
 use viper_syntax::{Decl, Formal};
 
 /// A typed declaration.
@@ -26,7 +27,7 @@ pub enum Declared {
 
 /// What the declarations so far are.
 #[derive(Drop)]
-pub struct DeclaredParts {
+pub struct Parts {
     fields: Vec<Ident>,
     types: Vec<Ty>,
     keys: Vec<Vec<Ty>>,
@@ -36,11 +37,11 @@ pub struct DeclaredParts {
 }
 
 /// A field.
-fn field(formal: &Formal) -> Result<Declared, RuleFault>
+fn field(formal: &Formal) -> Result<Declared, TypeFault>
     ensures { Answers declared_of (j.field_typing formal.now) result }
 {
     let Some(ty) = type_of(formal.ty) else {
-        return Err(RuleFault::Broken(formal.name.pos, Rule::WrongType));
+        return Err(TypeFault::Rule(formal.name.pos, WRONG_TYPE));
     };
     Ok(Declared::Field(formal.name.name.copy()?, ty))
 }
@@ -52,7 +53,7 @@ fn declaration(
     bodies: &[Option<Assertion>],
     lists: bool,
     decl: &Decl,
-) -> Result<Declared, RuleFault>
+) -> Result<Declared, TypeFault>
     ensures { Answers declared_of (j.decl_typing lists (world_of world.now) (optional_bodies_of bodies.now) (decl_of decl.now)) result }
 {
     match decl {
@@ -68,12 +69,12 @@ fn declaration(
     }
 }
 
-impl DeclaredParts {
+impl Parts {
     /// No declarations.
-    fn new(alloc: Global) -> DeclaredParts
+    fn new(alloc: Global) -> Parts
         ensures { parts_of result ≡ j.no_program }
     {
-        DeclaredParts {
+        Parts {
             fields: Vec::new(alloc),
             types: Vec::new(alloc),
             keys: Vec::new(alloc),
@@ -150,10 +151,10 @@ pub fn declarations(
     bodies: &[Option<Assertion>],
     lists: bool,
     decls: &[Decl],
-) -> Result<DeclaredParts, RuleFault>
+) -> Result<Parts, TypeFault>
     ensures { Answers parts_of (then_typed (j.decls_typing lists (world_of world.now) (optional_bodies_of bodies.now) (map decl_of decls.now)) (λ xs. Found (j.assembled j.no_program xs))) result }
 {
-    let mut parts = DeclaredParts::new(alloc);
+    let mut parts = Parts::new(alloc);
     for decl in decls {
         let declared = declaration(alloc, world, bodies, lists, decl)?;
         parts.add(alloc, declared)?;

@@ -5,11 +5,10 @@ ghost use Rattle.viper_core.specs.Expr as e;
 ghost use Rattle.viper_core.specs.View.{expr_of, exprs_of, assertion_of};
 ghost use Rattle.viper_syntax.specs.View.{term_of, terms_of, amount_of};
 ghost use Rattle.viper_scope.specs.Answers.{Answers, typing_of, typings_of, argument_exprs_of, numbered_signature_of, world_of, context_of};
-ghost use Rattle.viper_types.specs.Answers.{place_of, lent_amount_of, unfolding_term};
+ghost use Rattle.viper_types.specs.Answers.{place_of, lent_amount_of};
 ghost use Rattle.viper_scope.specs.Context as c;
 ghost use Rattle.viper_types.specs.Operators as o;
 ghost use Rattle.viper_scope.specs.Outcome.{known, Found};
-ghost use Rattle.viper_scope.specs.declared.rules.Rule.TheVariants as rule;
 ghost use Rattle.viper_types.specs.Typing as j;
 ghost use Rattle.vb_value.specs.Fraction.{whole};
 ghost use Rattle.viper_syntax.specs.Term as t;
@@ -18,14 +17,16 @@ use std::alloc::Global;
 use vb_base::{Ident, Pos, boxed, boxed_pair, kept};
 use vb_value::{Frac, Ty};
 use viper_core::{Assertion, Expr, Op, Opened};
-use viper_scope::{
-    Context, PredicateSignature, Rule, RuleFault, UnitPart, VariableScope, World, fitted, start,
+use viper_scope::rules::{
+    MISPLACED_OLD, MISPLACED_UNFOLDING, MISPLACED_WILDCARD, MISSING_BODY, PERMISSION_IN_EXPRESSION,
+    UNKNOWN_NAME, WRONG_TYPE,
 };
+use viper_scope::{Context, Part, PredicateSignature, Scope, TypeFault, World, fitted, start};
 use viper_syntax::{SUnfolding, Sign, Term, Word};
 
 /// A field of a receiver, with its type.
 #[derive(Drop)]
-pub struct TypedField {
+pub struct FieldPlace {
     pub receiver: Expr,
     pub field: u32,
     pub ty: Ty,
@@ -97,36 +98,37 @@ fn literal(word: Word) -> Option<(Expr, Ty)>
     }
 }
 
-fn constant(word: Word, at: Pos) -> Result<(Expr, Ty), RuleFault>
+fn constant(word: Word, at: Pos) -> Result<(Expr, Ty), TypeFault>
     ensures { Answers typing_of (j.constant word at) result }
 {
     if matches!(word, Word::Wildcard) {
-        return Err(RuleFault::Broken(at, Rule::MisplacedWildcard));
+        return Err(TypeFault::Rule(at, MISPLACED_WILDCARD));
     }
     match literal(word) {
         Some(typed) => Ok(typed),
-        None => Err(RuleFault::Broken(at, Rule::WrongType)),
+        None => Err(TypeFault::Rule(at, WRONG_TYPE)),
     }
 }
 
-fn variable(scope: &VariableScope, name: &Ident, at: Pos) -> Result<(Expr, Ty), RuleFault>
-    ensures { Answers typing_of (known (c.find scope.now name.now) at rule.UnknownName (λ v. Found (e.Var v.number, v.ty))) result }
+fn variable(scope: &Scope, name: &Ident, at: Pos) -> Result<(Expr, Ty), TypeFault>
+    ensures { Answers typing_of (known (c.find scope.now name.now) at 1 (λ v. Found (e.Var v.number, v.ty))) result }
 {
     match scope.find(name) {
         Some(variable) => Ok((Expr::Var(variable.number), variable.ty)),
-        None => Err(RuleFault::Broken(at, Rule::UnknownName)),
+        None => Err(TypeFault::Rule(at, UNKNOWN_NAME)),
     }
 }
 
-fn unary(alloc: Global, sign: Sign, operand: (Expr, Ty), at: Pos) -> Result<(Expr, Ty), RuleFault>
+fn unary(alloc: Global, sign: Sign, operand: (Expr, Ty), at: Pos) -> Result<(Expr, Ty), TypeFault>
     ensures { Answers typing_of (j.unary sign (typing_of operand) at) result }
 {
     let (operand, ty) = operand;
-    let operand = boxed(alloc, operand)?;
     match sign {
-        Sign::Minus if matches!(ty, Ty::Int | Ty::Perm) => Ok((Expr::Neg(operand), ty)),
-        Sign::Not if matches!(ty, Ty::Bool) => Ok((Expr::Not(operand), Ty::Bool)),
-        _ => Err(RuleFault::Broken(at, Rule::WrongType)),
+        Sign::Minus if matches!(ty, Ty::Int | Ty::Perm) => {
+            Ok((Expr::Neg(Box::new(alloc, operand)?), ty))
+        }
+        Sign::Not if matches!(ty, Ty::Bool) => Ok((Expr::Not(Box::new(alloc, operand)?), Ty::Bool)),
+        _ => Err(TypeFault::Rule(at, WRONG_TYPE)),
     }
 }
 
@@ -136,18 +138,18 @@ fn applied(
     left: (Expr, Ty),
     right: (Expr, Ty),
     at: Pos,
-) -> Result<(Expr, Ty), RuleFault>
+) -> Result<(Expr, Ty), TypeFault>
     ensures { Answers typing_of (j.applied sign (typing_of left) (typing_of right) at) result }
 {
     let (left, left_ty) = left;
     let (right, right_ty) = right;
-    let (left, right) = boxed_pair(alloc, left, right)?;
     let Some(op) = operator(sign) else {
-        return Err(RuleFault::Broken(at, Rule::WrongType));
+        return Err(TypeFault::Rule(at, WRONG_TYPE));
     };
     let Some(ty) = op.value_type(left_ty, right_ty) else {
-        return Err(RuleFault::Broken(at, Rule::WrongType));
+        return Err(TypeFault::Rule(at, WRONG_TYPE));
     };
+    let (left, right) = boxed_pair(alloc, left, right)?;
     Ok((Expr::Bin(op, left, right, at), ty))
 }
 
@@ -157,18 +159,18 @@ fn chosen(
     first: (Expr, Ty),
     second: (Expr, Ty),
     at: Pos,
-) -> Result<(Expr, Ty), RuleFault>
+) -> Result<(Expr, Ty), TypeFault>
     ensures { Answers typing_of (j.chosen (typing_of condition) (typing_of first) (typing_of second) at) result }
 {
     let (condition, condition_ty) = condition;
     let (first, ty) = first;
     let (second, second_ty) = second;
+    if condition_ty != Ty::Bool || ty != second_ty {
+        return Err(TypeFault::Rule(at, WRONG_TYPE));
+    }
     let condition = boxed(alloc, condition);
     let (condition, (first, second)) = kept(condition, (first, second))?;
     let (first, second) = boxed_pair(alloc, first, second)?;
-    if condition_ty != Ty::Bool || ty != second_ty {
-        return Err(RuleFault::Broken(at, Rule::WrongType));
-    }
     Ok((Expr::Choose(condition, first, second), ty))
 }
 
@@ -178,17 +180,17 @@ pub(crate) fn located(
     name: &Ident,
     at: Pos,
     receiver: (Expr, Ty),
-) -> Result<TypedField, RuleFault>
+) -> Result<FieldPlace, TypeFault>
     ensures { Answers place_of (j.located (world_of world.now) name.now at (typing_of receiver)) result }
 {
     let (receiver, receiver_ty) = receiver;
     let Some((field, ty)) = world.field(name) else {
-        return Err(RuleFault::Broken(at, Rule::UnknownName));
+        return Err(TypeFault::Rule(at, UNKNOWN_NAME));
     };
     if receiver_ty != Ty::Ref {
-        return Err(RuleFault::Broken(at, Rule::WrongType));
+        return Err(TypeFault::Rule(at, WRONG_TYPE));
     }
-    Ok(TypedField {
+    Ok(FieldPlace {
         receiver,
         field,
         ty,
@@ -196,7 +198,7 @@ pub(crate) fn located(
 }
 
 /// A field, read at the place of its name.
-pub(crate) fn field(alloc: Global, place: TypedField, at: Pos) -> Result<(Expr, Ty), RuleFault>
+pub(crate) fn field(alloc: Global, place: FieldPlace, at: Pos) -> Result<(Expr, Ty), TypeFault>
     ensures { Answers typing_of (Found (e.Field (expr_of place.receiver) place.field at, place.ty)) result }
 {
     let receiver = Box::new(alloc, place.receiver)?;
@@ -204,12 +206,12 @@ pub(crate) fn field(alloc: Global, place: TypedField, at: Pos) -> Result<(Expr, 
 }
 
 /// A typed term that must have this type.
-fn of_type(ty: Ty, term: &Term, typed: (Expr, Ty)) -> Result<Expr, RuleFault>
+fn of_type(ty: Ty, term: &Term, typed: (Expr, Ty)) -> Result<Expr, TypeFault>
     ensures { Answers expr_of (j.of_type ty (term_of term.now) (typing_of typed)) result }
 {
     let (e, found) = typed;
     if found != ty {
-        return Err(RuleFault::Broken(start(term), Rule::WrongType));
+        return Err(TypeFault::Rule(start(term), WRONG_TYPE));
     }
     Ok(e)
 }
@@ -219,23 +221,23 @@ pub(crate) fn with_body<'a>(
     world: &'a World,
     name: &Ident,
     at: Pos,
-) -> Result<(u32, &'a PredicateSignature), RuleFault>
+) -> Result<(u32, &'a PredicateSignature), TypeFault>
     ensures { Answers numbered_signature_of (j.with_body (world_of world.now) name.now at) result }
 {
     let Some((predicate, signature)) = world.predicate(name) else {
-        return Err(RuleFault::Broken(at, Rule::UnknownName));
+        return Err(TypeFault::Rule(at, UNKNOWN_NAME));
     };
     if !signature.has_body {
-        return Err(RuleFault::Broken(at, Rule::MissingBody));
+        return Err(TypeFault::Rule(at, MISSING_BODY));
     }
     Ok((predicate, signature))
 }
 
 /// Whether `wildcard` and `unfolding` may stand here.
-pub(crate) fn allows_permission_forms(part: UnitPart) -> bool
+pub(crate) fn allows_permission_forms(part: Part) -> bool
     ensures { result ≡ c.allows_permission_forms part }
 {
-    !matches!(part, UnitPart::Body)
+    !matches!(part, Part::Body)
 }
 
 /// The predicate of an `unfolding`, tried on arrival.
@@ -244,11 +246,11 @@ fn opening<'a>(
     name: &Ident,
     at: Pos,
     name_at: Pos,
-) -> Result<(u32, &'a PredicateSignature), RuleFault>
+) -> Result<(u32, &'a PredicateSignature), TypeFault>
     ensures { Answers numbered_signature_of (j.opening (context_of context.now) name.now at name_at) result }
 {
     if !allows_permission_forms(context.part) {
-        return Err(RuleFault::Broken(at, Rule::MisplacedUnfolding));
+        return Err(TypeFault::Rule(at, MISPLACED_UNFOLDING));
     }
     with_body(context.world, name, name_at)
 }
@@ -258,7 +260,7 @@ fn body_at(
     alloc: Global,
     bodies: &[Option<Assertion>],
     predicate: u32,
-) -> Result<Assertion, RuleFault>
+) -> Result<Assertion, TypeFault>
     ensures { Answers assertion_of (Found (c.body_at (map (option_map assertion_of) bodies.now) predicate)) result }
 {
     match bodies.get(predicate as usize) {
@@ -276,7 +278,7 @@ fn opened(
     amount: Expr,
     inner: (Expr, Ty),
     place: Pos,
-) -> Result<(Expr, Ty), RuleFault>
+) -> Result<(Expr, Ty), TypeFault>
     ensures { Answers typing_of (Found (j.opened_typing (context_of context.now) predicate (exprs_of args.items) (expr_of amount) (typing_of inner) place)) result }
 {
     let (inner, ty) = inner;
@@ -297,9 +299,9 @@ fn opened(
 pub(crate) fn typing(
     alloc: Global,
     context: &Context,
-    scope: &VariableScope,
+    scope: &Scope,
     term: &Term,
-) -> Result<(Expr, Ty), RuleFault>
+) -> Result<(Expr, Ty), TypeFault>
     ensures { Answers typing_of (j.typing (context_of context.now) scope.now (term_of term.now)) result }
 {
     match term {
@@ -323,50 +325,39 @@ pub(crate) fn typing(
         }
         Term::Field(a, name, at) => field(alloc, place(alloc, context, scope, a, name, *at)?, *at),
         Term::Old(a, at) => old(alloc, context, scope, a, *at),
-        Term::Acc(_, _, at) | Term::Inst(_, _, at) => Err(RuleFault::Broken(
+        Term::Acc(_, _, at) | Term::Inst(_, _, at) => Err(TypeFault::Rule(
             *at,
-            Rule::PermissionInExpression,
+            PERMISSION_IN_EXPRESSION,
         )),
-        Term::Unfolding(unfolding) => unfolded(alloc, context, scope, unfolding),
+        Term::Unfolding(unfolding) => {
+            let SUnfolding {
+                at,
+                name,
+                args,
+                amount,
+                inner,
+            } = &**unfolding;
+            let (predicate, signature) = opening(context, &name.name, *at, name.pos)?;
+            let args = arguments(alloc, context, scope, args, &signature.params, name.pos)?;
+            let amount = held_permission(alloc, context, scope, amount)?;
+            let inner = typing(alloc, context, scope, inner)?;
+            opened(alloc, context, predicate, args, amount, inner, name.pos)
+        }
     }
-}
-
-/// An `unfolding` as an expression, with its type.
-#[cycle(expressions)]
-fn unfolded(
-    alloc: Global,
-    context: &Context,
-    scope: &VariableScope,
-    term: &SUnfolding,
-) -> Result<(Expr, Ty), RuleFault>
-    ensures { Answers typing_of (j.typing (context_of context.now) scope.now (unfolding_term term.now)) result }
-{
-    let SUnfolding {
-        at,
-        name,
-        args,
-        amount,
-        inner,
-    } = term;
-    let (predicate, signature) = opening(context, &name.name, *at, name.pos)?;
-    let args = arguments(alloc, context, scope, args, &signature.params, name.pos)?;
-    let amount = held_permission(alloc, context, scope, amount)?;
-    let inner = typing(alloc, context, scope, inner)?;
-    opened(alloc, context, predicate, args, amount, inner, name.pos)
 }
 
 #[cycle(expressions)]
 fn old(
     alloc: Global,
     context: &Context,
-    scope: &VariableScope,
+    scope: &Scope,
     term: &Term,
     at: Pos,
-) -> Result<(Expr, Ty), RuleFault>
+) -> Result<(Expr, Ty), TypeFault>
     ensures { Answers typing_of (j.typing (context_of context.now) scope.now (t.Old (term_of term.now) at)) result }
 {
-    if !matches!(context.part, UnitPart::Elsewhere) {
-        return Err(RuleFault::Broken(at, Rule::MisplacedOld));
+    if !matches!(context.part, Part::Elsewhere) {
+        return Err(TypeFault::Rule(at, MISPLACED_OLD));
     }
     let (e, ty) = typing(alloc, context, scope, term)?;
     Ok((Expr::Old(Box::new(alloc, e)?), ty))
@@ -377,9 +368,9 @@ fn old(
 pub(crate) fn typings(
     alloc: Global,
     context: &Context,
-    scope: &VariableScope,
+    scope: &Scope,
     terms: &[Term],
-) -> Result<Vec<(Expr, Ty)>, RuleFault>
+) -> Result<Vec<(Expr, Ty)>, TypeFault>
     ensures { Answers typings_of (j.typing_all (context_of context.now) scope.now (terms_of terms.now)) result }
 {
     let mut typed = Vec::with_capacity(alloc, terms.len())?;
@@ -395,11 +386,11 @@ pub(crate) fn typings(
 pub(crate) fn arguments(
     alloc: Global,
     context: &Context,
-    scope: &VariableScope,
+    scope: &Scope,
     args: &[Term],
     params: &[Ty],
     at: Pos,
-) -> Result<Vec<Expr>, RuleFault>
+) -> Result<Vec<Expr>, TypeFault>
     ensures { Answers argument_exprs_of (j.arguments (context_of context.now) scope.now (terms_of args.now) params.now at) result }
 {
     let typed = typings(alloc, context, scope, args)?;
@@ -411,10 +402,10 @@ pub(crate) fn arguments(
 pub(crate) fn expected(
     alloc: Global,
     context: &Context,
-    scope: &VariableScope,
+    scope: &Scope,
     ty: Ty,
     term: &Term,
-) -> Result<Expr, RuleFault>
+) -> Result<Expr, TypeFault>
     ensures { Answers expr_of (j.expected (context_of context.now) scope.now ty (term_of term.now)) result }
 {
     let typed = typing(alloc, context, scope, term)?;
@@ -426,9 +417,9 @@ pub(crate) fn expected(
 fn held_permission(
     alloc: Global,
     context: &Context,
-    scope: &VariableScope,
+    scope: &Scope,
     amount: &Option<Box<Term>>,
-) -> Result<Expr, RuleFault>
+) -> Result<Expr, TypeFault>
     ensures { Answers expr_of (j.permission (context_of context.now) scope.now (amount_of amount.now)) result }
 {
     match amount {
@@ -442,11 +433,11 @@ fn held_permission(
 pub(crate) fn place(
     alloc: Global,
     context: &Context,
-    scope: &VariableScope,
+    scope: &Scope,
     term: &Term,
     name: &Ident,
     at: Pos,
-) -> Result<TypedField, RuleFault>
+) -> Result<FieldPlace, TypeFault>
     ensures { Answers place_of (j.place (context_of context.now) scope.now (term_of term.now) name.now at) result }
 {
     let receiver = typing(alloc, context, scope, term)?;
@@ -457,9 +448,9 @@ pub(crate) fn place(
 pub(crate) fn permission(
     alloc: Global,
     context: &Context,
-    scope: &VariableScope,
+    scope: &Scope,
     amount: Option<&Term>,
-) -> Result<Expr, RuleFault>
+) -> Result<Expr, TypeFault>
     ensures { Answers expr_of (j.permission (context_of context.now) scope.now (lent_amount_of amount.entry)) result }
 {
     match amount {

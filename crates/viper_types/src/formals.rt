@@ -7,30 +7,31 @@ ghost use Rattle.viper_types.specs.Frame as f;
 ghost use Rattle.viper_scope.specs.Types as types;
 ghost use Rattle.viper_scope.specs.Outcome.{Found};
 
-use crate::frames::MethodVariables;
+use crate::frames::Frame;
 use vb_base::{Ident, Memory};
 use vb_value::Ty;
-use viper_scope::{Rule, RuleFault, type_of};
+use viper_scope::rules::{DECLARED_TWICE, PERM_PARAMETER, WRONG_TYPE};
+use viper_scope::{TypeFault, type_of};
 use viper_syntax::Formal;
 
 /// Adds a formal, which is a Perm only where that is allowed.
 fn formal(
-    frame: &mut MethodVariables,
+    frame: &mut Frame,
     allows_perm: bool,
     is_parameter: bool,
     formal: &Formal,
-) -> Result<(), RuleFault>
+) -> Result<(), TypeFault>
     ensures { Answers (λ _. frame_of frame.new) (j.formal allows_perm (frame_of frame.old) formal.now (Found (f.with_variable (frame_of frame.old) formal.now.name.name (types.declared_type formal.now) is_parameter))) result }
 {
     let at = formal.name.pos;
     if frame.scope.find(&formal.name.name).is_some() {
-        return Err(RuleFault::Broken(at, Rule::DeclaredTwice));
+        return Err(TypeFault::Rule(at, DECLARED_TWICE));
     }
     let Some(ty) = type_of(formal.ty) else {
-        return Err(RuleFault::Broken(at, Rule::WrongType));
+        return Err(TypeFault::Rule(at, WRONG_TYPE));
     };
     if !allows_perm && ty == Ty::Perm {
-        return Err(RuleFault::Broken(at, Rule::PermParameter));
+        return Err(TypeFault::Rule(at, PERM_PARAMETER));
     }
     frame.declare(&formal.name.name, ty, is_parameter)?;
     Ok(())
@@ -38,11 +39,11 @@ fn formal(
 
 /// Adds formals in order, as parameters or as returns. They are Perms only where that is allowed.
 pub fn formals(
-    frame: &mut MethodVariables,
+    frame: &mut Frame,
     allows_perm: bool,
     is_parameter: bool,
     formals: &[Formal],
-) -> Result<(), RuleFault>
+) -> Result<(), TypeFault>
     ensures { Answers (λ _. frame_of frame.new) (j.formals allows_perm is_parameter (frame_of frame.old) formals.now) result }
 {
     for next in formals {

@@ -11,34 +11,35 @@ ghost use Rattle.viper_types.specs.Stepping as s;
 use std::alloc::Global;
 use vb_base::{Ident, Memory, Pos};
 use vb_value::Ty;
-use viper_scope::{Rule, RuleFault, Variable, VariableScope, World, next_number, type_of};
+use viper_scope::rules::{DECLARED_TWICE, WRONG_TYPE};
+use viper_scope::{Scope, TypeFault, Variable, next_number, type_of};
 use viper_syntax::Formal;
 
 /// The variables of a method so far.
 #[derive(Drop)]
-pub struct MethodVariables {
+pub struct Frame {
     /// The types of all variables, by their numbers.
     pub vars: Vec<Ty>,
     /// Those that are visible.
-    pub scope: VariableScope,
+    pub scope: Scope,
 }
 
 /// A variable that takes a value, and the place of its name.
 #[derive(Clone, Copy)]
-pub struct AssignedVariable {
+pub struct Target {
     pub number: u32,
     pub ty: Ty,
     pub at: Pos,
 }
 
-impl MethodVariables {
-    /// No variables. Their names are hashed as those of the declarations.
-    pub fn new(alloc: Global, world: &World) -> MethodVariables
+impl Frame {
+    /// No variables.
+    pub fn new(alloc: Global) -> Frame
         ensures { frame_of result ≡ no_frame }
     {
-        MethodVariables {
+        Frame {
             vars: Vec::new(alloc),
-            scope: VariableScope::new(alloc, world.roles.key()),
+            scope: Scope::new(alloc),
         }
     }
 
@@ -65,19 +66,19 @@ impl MethodVariables {
     }
 
     /// The variable that a declaration makes.
-    pub fn fresh(&self, formal: &Formal) -> Result<AssignedVariable, RuleFault>
+    pub fn fresh(&self, formal: &Formal) -> Result<Target, TypeFault>
         ensures answers { Answers target_of (s.fresh (frame_of self.now) formal.now) result }
         ensures typed { IfOk result (λ v. v.ty ≡ types.declared_type formal.now) }
         ensures is_new { OnOk result (find self.now.scope formal.now.name.name ≡ None) }
     {
         let at = formal.name.pos;
         if self.scope.find(&formal.name.name).is_some() {
-            return Err(RuleFault::Broken(at, Rule::DeclaredTwice));
+            return Err(TypeFault::Rule(at, DECLARED_TWICE));
         }
         let Some(ty) = type_of(formal.ty) else {
-            return Err(RuleFault::Broken(at, Rule::WrongType));
+            return Err(TypeFault::Rule(at, WRONG_TYPE));
         };
         let number = self.next_number()?;
-        Ok(AssignedVariable { number, ty, at })
+        Ok(Target { number, ty, at })
     }
 }

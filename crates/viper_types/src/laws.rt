@@ -10,28 +10,27 @@ ghost use Rattle.viper_core.specs.Stmt as c;
 ghost use Rattle.viper_syntax.specs.Decl as d;
 ghost use Rattle.viper_syntax.specs.Stmt as s;
 ghost use Rattle.viper_syntax.specs.Term as t;
-ghost use Rattle.viper_scope.specs.declared.rules.Rule.{Rule};
 ghost use Rattle.viper_scope.specs.Context.{Context};
-ghost use Rattle.viper_types.specs.Frame.{MethodVariables};
+ghost use Rattle.viper_types.specs.Frame.{Frame};
 ghost use Rattle.viper_syntax.specs.Good.{IsGoodSource};
 ghost use Rattle.viper_types.specs.Declaring.{program_typing};
 ghost use Rattle.viper_scope.specs.Outcome.{Broken};
 ghost use Rattle.viper_types.specs.Program.{IsProgram};
 ghost use Rattle.viper_types.specs.Stepped.{Stepped};
 ghost use Rattle.viper_types.specs.Typed.{Typed, Asserts};
-ghost use Rattle.viper_scope.specs.Scope.{VariableScope};
+ghost use Rattle.viper_scope.specs.Scope.{Scope};
 
 /// A term is at most one expression, of at most one type, and at most one assertion.
 pub fn one_expression()
-    ensures expression { (k : Context) (sc : VariableScope) (a : t.Term) (x : e.Expr) (y : e.Expr) (u : Ty) (v : Ty) → Typed k sc a x u
+    ensures expression { (k : Context) (sc : Scope) (a : t.Term) (x : e.Expr) (y : e.Expr) (u : Ty) (v : Ty) → Typed k sc a x u
         → Typed k sc a y v → (x ≡ y) × (u ≡ v) }
-    ensures assertion { (k : Context) (sc : VariableScope) (a : t.Term) (x : e.Assertion) (y : e.Assertion) → Asserts k sc a x
+    ensures assertion { (k : Context) (sc : Scope) (a : t.Term) (x : e.Assertion) (y : e.Assertion) → Asserts k sc a x
         → Asserts k sc a y → x ≡ y }
 {}
 
 /// A statement is at most one statement of the core.
 pub fn one_statement()
-    ensures { (k : Context) (d : ℕ) (fr : MethodVariables) (a : s.SStmt) (x : c.Stmt) (y : c.Stmt) → Stepped k d fr a x → Stepped k d fr a y
+    ensures { (k : Context) (d : ℕ) (fr : Frame) (a : s.SStmt) (x : c.Stmt) (y : c.Stmt) → Stepped k d fr a x → Stepped k d fr a y
         → x ≡ y }
 {}
 
@@ -42,8 +41,8 @@ pub fn one_program()
 
 /// A file is a program, or its walk tells a broken rule, and never both.
 pub fn typed_or_broken()
-    ensures either { (source : d.SourceProgram) → ((q : p.Program) × IsProgram source q) ⊎ ((at : Pos) × (r : Rule) × (program_typing source ≡ Broken at r)) }
-    ensures not_both { (source : d.SourceProgram) (q : p.Program) (at : Pos) (r : Rule) → IsProgram source q → program_typing source ≡ Broken at r → ⊥ }
+    ensures either { (source : d.SourceProgram) → ((q : p.Program) × IsProgram source q) ⊎ ((at : Pos) × (n : ℕ) × (program_typing source ≡ Broken at n)) }
+    ensures not_both { (source : d.SourceProgram) (q : p.Program) (at : Pos) (n : ℕ) → IsProgram source q → program_typing source ≡ Broken at n → ⊥ }
 {}
 
 /// The program that a file is, is formed, but for its weight.

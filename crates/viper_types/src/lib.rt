@@ -10,7 +10,6 @@ mod copied;
 mod creations;
 mod declarations;
 mod expressions;
-mod faults;
 mod formals;
 mod frames;
 pub mod laws;
@@ -21,5 +20,5 @@ mod program;
 mod simple;
 mod statements;
 
-pub use faults::TypeFault;
 pub use program::check;
+pub use viper_scope::TypeFault;

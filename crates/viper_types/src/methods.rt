@@ -5,22 +5,21 @@ ghost use Rattle.viper_core.specs.View as core;
 ghost use Rattle.viper_syntax.specs.View.{block_of, clause_of, method_of, term_of};
 ghost use Rattle.viper_scope.specs.Answers.{Answers, context_of, world_of};
 ghost use Rattle.viper_scope.specs.Outcome.{Found, then_typed};
-ghost use Rattle.viper_scope.specs.declared.context.UnitPart.TheVariants as part;
+ghost use Rattle.viper_scope.specs.declared.context.Part.TheVariants as part;
 ghost use Rattle.viper_types.specs.Answers.{clause_typing_of, clause_typings_of, frame_of, optional_bodies_of};
 ghost use Rattle.viper_types.specs.Declaring as j;
 ghost use Rattle.viper_types.specs.Frame as f;
 
 use crate::assertions::assertion;
 use crate::formals::{add_names, formals};
-use crate::frames::MethodVariables;
+use crate::frames::Frame;
 use crate::statements::blocking;
 use std::alloc::Global;
 use std::mem;
 use vb_base::{Ident, Memory};
 use viper_core::{Assertion, Body, Method};
-use viper_scope::{
-    Context, Rule, RuleFault, UnitPart, VariableScope, World, next_number, seen, start,
-};
+use viper_scope::rules::WRONG_TYPE;
+use viper_scope::{Context, Part, Scope, TypeFault, World, next_number, seen, start};
 use viper_syntax::{SBlock, SClause, SMethod};
 
 /// A clause, with whether it is a precondition, which sees the parameters alone.
@@ -28,15 +27,15 @@ fn clause(
     alloc: Global,
     world: &World,
     bodies: &[Option<Assertion>],
-    params: &VariableScope,
-    all: &VariableScope,
+    params: &Scope,
+    all: &Scope,
     clause: &SClause,
-) -> Result<(bool, Assertion), RuleFault>
+) -> Result<(bool, Assertion), TypeFault>
     ensures { Answers clause_typing_of (j.clause_of (world_of world.now) (optional_bodies_of bodies.now) params.now all.now clause.now.word (term_of clause.now.term)) result }
 {
     let term = &clause.term;
     let Some((part, scope)) = seen(clause.word, params, all) else {
-        return Err(RuleFault::Broken(start(term), Rule::WrongType));
+        return Err(TypeFault::Rule(start(term), WRONG_TYPE));
     };
     let context = Context {
         world,
@@ -53,10 +52,10 @@ fn clauses(
     alloc: Global,
     world: &World,
     bodies: &[Option<Assertion>],
-    params: &VariableScope,
-    all: &VariableScope,
+    params: &Scope,
+    all: &Scope,
     clauses: &[SClause],
-) -> Result<Vec<(bool, Assertion)>, RuleFault>
+) -> Result<Vec<(bool, Assertion)>, TypeFault>
     ensures { Answers clause_typings_of (j.clauses (world_of world.now) (optional_bodies_of bodies.now) params.now all.now (map clause_of clauses.now)) result }
 {
     let mut typed = Vec::with_capacity(alloc, clauses.len())?;
@@ -69,13 +68,13 @@ fn clauses(
 
 /// The preconditions and the postconditions.
 #[derive(Drop)]
-struct MethodConditions {
+struct Conditions {
     before: Vec<Assertion>,
     after: Vec<Assertion>,
 }
 
 /// The preconditions and the postconditions among clauses, each in order.
-fn split_clauses(alloc: Global, clauses: Vec<(bool, Assertion)>) -> Result<MethodConditions, Memory>
+fn split_clauses(alloc: Global, clauses: Vec<(bool, Assertion)>) -> Result<Conditions, Memory>
     ensures before { IfOk result (λ v. core.assertions_of v.before.items ≡ j.conditions true (clause_typings_of clauses)) }
     ensures after { IfOk result (λ v. core.assertions_of v.after.items ≡ j.conditions false (clause_typings_of clauses)) }
 {
@@ -88,16 +87,16 @@ fn split_clauses(alloc: Global, clauses: Vec<(bool, Assertion)>) -> Result<Metho
             after.push(condition)?;
         }
     }
-    Ok(MethodConditions { before, after })
+    Ok(Conditions { before, after })
 }
 
 /// The body of a method, if it has one.
 fn method_body(
     alloc: Global,
     context: &Context,
-    frame: &mut MethodVariables,
+    frame: &mut Frame,
     block: &Option<SBlock>,
-) -> Result<Option<Body>, RuleFault>
+) -> Result<Option<Body>, TypeFault>
     ensures after { OnOk result (frame.new.vars.items ≡ frame.old.vars.items ++ j.locals (option_map block_of block.now)) }
     ensures answers { Answers (option_map core.body_of) (j.method_body context.now.lists (context_of context.now) (frame_of frame.old) (option_map block_of block.now)) result }
 {
@@ -113,7 +112,7 @@ fn method_body(
 
 /// What a method is called, and the names and numbers of its formals.
 #[derive(Drop)]
-struct MethodHeading {
+struct Heading {
     name: Ident,
     names: Vec<Ident>,
     params: u32,
@@ -121,7 +120,7 @@ struct MethodHeading {
 }
 
 /// The heading of a method, copied.
-fn heading_of(alloc: Global, method: &SMethod) -> Result<MethodHeading, Memory>
+fn heading_of(alloc: Global, method: &SMethod) -> Result<Heading, Memory>
     ensures name { IfOk result (λ h. h.name ≡ method.now.name.name) }
     ensures names { IfOk result (λ h. h.names.items ≡ map j.name_of method.now.params.items ++ map j.name_of method.now.returns.items) }
     ensures params { IfOk result (λ h. h.params ≡ length method.now.params.items) }
@@ -133,7 +132,7 @@ fn heading_of(alloc: Global, method: &SMethod) -> Result<MethodHeading, Memory>
     add_names(&mut names, &method.params)?;
     add_names(&mut names, &method.returns)?;
     let name = method.name.name.copy()?;
-    Ok(MethodHeading {
+    Ok(Heading {
         name,
         names,
         params,
@@ -142,14 +141,10 @@ fn heading_of(alloc: Global, method: &SMethod) -> Result<MethodHeading, Memory>
 }
 
 /// Declares the formals of a method. The parameters stand also in a frame of their own.
-fn declare_formals(
-    params: &mut MethodVariables,
-    frame: &mut MethodVariables,
-    method: &SMethod,
-) -> Result<(), RuleFault>
+fn declare_formals(params: &mut Frame, frame: &mut Frame, method: &SMethod) -> Result<(), TypeFault>
     requires params { frame_of params.old ≡ j.no_frame }
     requires frame { frame_of frame.old ≡ j.no_frame }
-    ensures { Answers {X = f.MethodVariables × f.MethodVariables} (λ _. (frame_of params.new, frame_of frame.new)) (then_typed (j.formals true true j.no_frame method.now.params.items) (λ ps.
+    ensures { Answers {X = f.Frame × f.Frame} (λ _. (frame_of params.new, frame_of frame.new)) (then_typed (j.formals true true j.no_frame method.now.params.items) (λ ps.
         then_typed (j.formals true false ps method.now.returns.items) (λ fr. Found (ps, fr)))) result }
 {
     formals(params, true, true, &method.params)?;
@@ -161,10 +156,10 @@ fn declare_formals(
 fn method_in(
     alloc: Global,
     context: &Context,
-    params: &mut MethodVariables,
-    frame: &mut MethodVariables,
+    params: &mut Frame,
+    frame: &mut Frame,
     method: &SMethod,
-) -> Result<Method, RuleFault>
+) -> Result<Method, TypeFault>
     requires part { context.now.part ≡ part.Elsewhere }
     requires params { frame_of params.old ≡ j.no_frame }
     requires frame { frame_of frame.old ≡ j.no_frame }
@@ -203,17 +198,17 @@ pub fn method(
     bodies: &[Option<Assertion>],
     lists: bool,
     method: &SMethod,
-) -> Result<Method, RuleFault>
+) -> Result<Method, TypeFault>
     ensures { Answers core.method_of (j.method_typing lists (world_of world.now) (optional_bodies_of bodies.now) (method_of method.now)) result }
 {
-    let part = UnitPart::Elsewhere;
+    let part = Part::Elsewhere;
     let context = Context {
         world,
         bodies,
         part,
         lists,
     };
-    let mut params = MethodVariables::new(alloc, world);
-    let mut frame = MethodVariables::new(alloc, world);
+    let mut params = Frame::new(alloc);
+    let mut frame = Frame::new(alloc);
     method_in(alloc, &context, &mut params, &mut frame, method)
 }

@@ -12,27 +12,27 @@ ghost use Rattle.viper_scope.specs.Outcome.{Judged};
 
 use crate::assertions::assertion;
 use crate::formals::{add_names, formals};
-use crate::frames::MethodVariables;
+use crate::frames::Frame;
 use std::alloc::Global;
 use vb_base::{Ident, Memory, Pos};
 use vb_value::Ty;
 use viper_core::{Assertion, Predicate};
-use viper_scope::{Context, RuleFault, UnitPart, VariableScope, World, types_in};
+use viper_scope::{Context, Part, Scope, TypeFault, World, types_in};
 use viper_syntax::{Decl, Formal, Named, Term};
 
 /// The body of a predicate. It sees no bodies, since it holds no `unfolding`.
 fn predicate_body(
     alloc: Global,
     world: &World,
-    scope: &VariableScope,
+    scope: &Scope,
     body: &Option<Term>,
-) -> Result<Option<Assertion>, RuleFault>
+) -> Result<Option<Assertion>, TypeFault>
     ensures { Answers (option_map core.assertion_of) (j.predicate_body (world_of world.now) scope.now (option_map term_of body.now)) result }
 {
     let context = Context {
         world,
         bodies: &[],
-        part: UnitPart::Body,
+        part: Part::Body,
         lists: false,
     };
     match body {
@@ -43,14 +43,14 @@ fn predicate_body(
 
 /// What a predicate is called, and the names and types of its parameters.
 #[derive(Drop)]
-struct PredicateHeading {
+struct Heading {
     name: Ident,
     names: Vec<Ident>,
     params: Vec<Ty>,
 }
 
 /// The heading of a predicate, copied.
-fn heading_of(alloc: Global, name: &Ident, params: &[Formal]) -> Result<PredicateHeading, Memory>
+fn heading_of(alloc: Global, name: &Ident, params: &[Formal]) -> Result<Heading, Memory>
     ensures name { IfOk result (λ h. h.name ≡ name.now) }
     ensures names { IfOk result (λ h. h.names.items ≡ map j.name_of params.now) }
     ensures params { IfOk result (λ h. h.params.items ≡ map types.declared_type params.now) }
@@ -59,7 +59,7 @@ fn heading_of(alloc: Global, name: &Ident, params: &[Formal]) -> Result<Predicat
     add_names(&mut names, params)?;
     let name = name.copy()?;
     let params = types_in(alloc, params)?;
-    Ok(PredicateHeading {
+    Ok(Heading {
         name,
         names,
         params,
@@ -70,12 +70,12 @@ fn heading_of(alloc: Global, name: &Ident, params: &[Formal]) -> Result<Predicat
 fn predicate_in(
     alloc: Global,
     world: &World,
-    frame: &mut MethodVariables,
+    frame: &mut Frame,
     at: Pos,
     name: &Named,
     params: &[Formal],
     body: &Option<Term>,
-) -> Result<Predicate, RuleFault>
+) -> Result<Predicate, TypeFault>
     requires { frame_of frame.old ≡ j.no_frame }
     ensures { Answers core.predicate_of (j.predicate_typing (world_of world.now) at name.now params.now (option_map term_of body.now)) result }
 {
@@ -99,21 +99,21 @@ pub fn predicate(
     name: &Named,
     params: &[Formal],
     body: &Option<Term>,
-) -> Result<Predicate, RuleFault>
+) -> Result<Predicate, TypeFault>
     ensures { Answers core.predicate_of (j.predicate_typing (world_of world.now) at name.now params.now (option_map term_of body.now)) result }
 {
-    let mut frame = MethodVariables::new(alloc, world);
+    let mut frame = Frame::new(alloc);
     predicate_in(alloc, world, &mut frame, at, name, params, body)
 }
 
 /// The body of a typed predicate, and none where it breaks a rule.
-fn found_body(typed: Result<Predicate, RuleFault>) -> Result<Option<Assertion>, Memory>
+fn found_body(typed: Result<Predicate, TypeFault>) -> Result<Option<Assertion>, Memory>
     ensures { (judged : Judged p.Predicate) → Answers core.predicate_of judged typed → IfOk result (λ body. option_map core.assertion_of body ≡ j.found_body judged) }
 {
     match typed {
         Ok(predicate) => Ok(predicate.body),
-        Err(RuleFault::Broken(_, _)) => Ok(None),
-        Err(RuleFault::Memory) => Err(Memory),
+        Err(TypeFault::Rule(_, _)) => Ok(None),
+        Err(_) => Err(Memory),
     }
 }
 

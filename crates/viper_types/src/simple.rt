@@ -15,24 +15,25 @@ use crate::assertions::assertion;
 use crate::assigned::{ref_target, target};
 use crate::calls::{call_arguments, calling, calling_into_field};
 use crate::creations::creating;
-use crate::expressions::{TypedField, expected, located, nowhere, permission, with_body};
-use crate::frames::{AssignedVariable, MethodVariables};
+use crate::expressions::{FieldPlace, expected, located, nowhere, permission, with_body};
+use crate::frames::{Frame, Target};
 use std::alloc::Global;
 use std::slice;
 use vb_base::{Pos, kept};
 use vb_value::Ty;
 use viper_core::{Assertion, Expr, FoldStmt, Stmt};
-use viper_scope::{Context, Rule, RuleFault, VariableScope, World, start};
+use viper_scope::rules::{TARGET_COUNT, UNKNOWN_NAME, WRONG_TYPE};
+use viper_scope::{Context, Scope, TypeFault, World, start};
 use viper_syntax::{Formal, Named, SFold, SRhs, Term, Word};
 
 /// A field of what stands at a place.
 fn further(
     alloc: Global,
     world: &World,
-    place: TypedField,
+    place: FieldPlace,
     at: Pos,
     field: &Named,
-) -> Result<TypedField, RuleFault>
+) -> Result<FieldPlace, TypeFault>
     ensures { Answers place_of (j.located (world_of world.now) field.now.name field.now.pos (e.Field (expr_of place.receiver) place.field at, place.ty)) result }
 {
     let receiver = Box::new(alloc, place.receiver)?;
@@ -47,7 +48,7 @@ fn dotted(
     receiver: (Expr, Ty),
     first: &Named,
     rest: &[Named],
-) -> Result<TypedField, RuleFault>
+) -> Result<FieldPlace, TypeFault>
     ensures { Answers place_of (s.dotted (world_of world.now) (typing_of receiver) first.now rest.now) result }
 {
     let mut place = located(world, &first.name, first.pos, receiver)?;
@@ -63,15 +64,15 @@ fn dotted(
 fn target_place(
     alloc: Global,
     context: &Context,
-    scope: &VariableScope,
+    scope: &Scope,
     x: &Named,
     first: &Named,
     rest: &[Named],
-) -> Result<TypedField, RuleFault>
+) -> Result<FieldPlace, TypeFault>
     ensures { Answers place_of (s.target_place (context_of context.now) scope.now x.now first.now rest.now) result }
 {
     let Some(variable) = scope.find(&x.name) else {
-        return Err(RuleFault::Broken(x.pos, Rule::UnknownName));
+        return Err(TypeFault::Rule(x.pos, UNKNOWN_NAME));
     };
     let receiver = (Expr::Var(variable.number), variable.ty);
     dotted(alloc, context.world, receiver, first, rest)
@@ -91,11 +92,11 @@ fn last_place(x: &Named, fields: &[Named]) -> Pos
 pub fn declaring(
     alloc: Global,
     context: &Context,
-    frame: &MethodVariables,
+    frame: &Frame,
     at: Pos,
-    target: AssignedVariable,
+    target: Target,
     rhs: Option<&SRhs>,
-) -> Result<Stmt, RuleFault>
+) -> Result<Stmt, TypeFault>
     ensures { Answers stmt_of (s.declaring context.now.lists (context_of context.now) (frame_of frame.now) at (target_of target) (lent_rhs_of rhs.entry)) result }
 {
     let scope = &frame.scope;
@@ -110,7 +111,7 @@ pub fn declaring(
         }
         Some(SRhs::New(new)) => {
             if target.ty != Ty::Ref {
-                return Err(RuleFault::Broken(target.at, Rule::WrongType));
+                return Err(TypeFault::Rule(target.at, WRONG_TYPE));
             }
             creating(alloc, context, scope, at, target.number, new)
         }
@@ -121,11 +122,11 @@ pub fn declaring(
 pub fn variable(
     alloc: Global,
     context: &Context,
-    frame: &mut MethodVariables,
+    frame: &mut Frame,
     at: Pos,
     formal: &Formal,
     rhs: Option<&SRhs>,
-) -> Result<Stmt, RuleFault>
+) -> Result<Stmt, TypeFault>
     ensures after { OnOk result (frame_of frame.new ≡ f.with_variable (frame_of frame.old) formal.now.name.name (types.declared_type formal.now) false) }
     ensures answers { Answers stmt_of (then_typed (s.fresh (frame_of frame.old) formal.now) (λ v. s.declaring context.now.lists (context_of context.now) (frame_of frame.old) at v (lent_rhs_of rhs.entry))) result }
 {
@@ -140,10 +141,10 @@ pub fn variable(
 fn assigning(
     alloc: Global,
     context: &Context,
-    scope: &VariableScope,
+    scope: &Scope,
     x: &Named,
     rhs: &SRhs,
-) -> Result<Stmt, RuleFault>
+) -> Result<Stmt, TypeFault>
     ensures { Answers stmt_of (s.assigning context.now.lists (context_of context.now) scope.now x.now (rhs_of rhs.now)) result }
 {
     match rhs {
@@ -167,12 +168,12 @@ fn assigning(
 fn writing(
     alloc: Global,
     context: &Context,
-    scope: &VariableScope,
+    scope: &Scope,
     x: &Named,
     first: &Named,
     rest: &[Named],
     rhs: &SRhs,
-) -> Result<Stmt, RuleFault>
+) -> Result<Stmt, TypeFault>
     ensures { Answers stmt_of (s.writing (context_of context.now) scope.now x.now first.now rest.now (rhs_of rhs.now)) result }
 {
     let place = target_place(alloc, context, scope, x, first, rest)?;
@@ -183,7 +184,7 @@ fn writing(
             Ok(Stmt::Write(x.pos, place.receiver, place.field, at, value))
         }
         SRhs::Call(call) => calling_into_field(alloc, context, scope, call),
-        SRhs::New(new) => Err(RuleFault::Broken(new.at, Rule::TargetCount)),
+        SRhs::New(new) => Err(TypeFault::Rule(new.at, TARGET_COUNT)),
     }
 }
 
@@ -191,14 +192,14 @@ fn writing(
 pub fn setting(
     alloc: Global,
     context: &Context,
-    scope: &VariableScope,
+    scope: &Scope,
     names: &[Named],
     rhs: &SRhs,
-) -> Result<Stmt, RuleFault>
+) -> Result<Stmt, TypeFault>
     ensures { Answers stmt_of (s.setting context.now.lists (context_of context.now) scope.now names.now (rhs_of rhs.now)) result }
 {
     match names {
-        [] => Err(RuleFault::Broken(nowhere(), Rule::WrongType)),
+        [] => Err(TypeFault::Rule(nowhere(), WRONG_TYPE)),
         [x] => assigning(alloc, context, scope, x, rhs),
         [x, first, rest @ ..] => writing(alloc, context, scope, x, first, rest, rhs),
     }
@@ -208,11 +209,11 @@ pub fn setting(
 pub fn checking(
     alloc: Global,
     context: &Context,
-    scope: &VariableScope,
+    scope: &Scope,
     word: Word,
     at: Pos,
     term: &Term,
-) -> Result<Stmt, RuleFault>
+) -> Result<Stmt, TypeFault>
     ensures { Answers stmt_of (s.checking (context_of context.now) scope.now word at (term_of term.now)) result }
 {
     match word {
@@ -223,7 +224,7 @@ pub fn checking(
             let condition = expected(alloc, context, scope, Ty::Bool, term)?;
             Ok(Stmt::Inhale(at, Assertion::Fact(condition, start(term))))
         }
-        _ => Err(RuleFault::Broken(at, Rule::WrongType)),
+        _ => Err(TypeFault::Rule(at, WRONG_TYPE)),
     }
 }
 
@@ -231,9 +232,9 @@ pub fn checking(
 pub fn folding(
     alloc: Global,
     context: &Context,
-    scope: &VariableScope,
+    scope: &Scope,
     fold: &SFold,
-) -> Result<FoldStmt, RuleFault>
+) -> Result<FoldStmt, TypeFault>
     ensures { Answers core_fold_of (s.folding (context_of context.now) scope.now (fold_of fold.now)) result }
 {
     let name = &fold.call.name;

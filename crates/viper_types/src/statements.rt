@@ -9,7 +9,7 @@ ghost use Rattle.viper_types.specs.Answers.{block_stmts_of, branch_of, branches_
 ghost use Rattle.viper_scope.specs.Context.{nowhere};
 ghost use Rattle.viper_types.specs.Frame as f;
 ghost use Rattle.viper_scope.specs.Outcome.{Found, known, then_typed};
-ghost use Rattle.viper_scope.specs.declared.rules.Rule.TheVariants as rule;
+ghost use Rattle.viper_scope.specs.Rules.{wrong_type};
 ghost use Rattle.viper_types.specs.Stepping as s;
 ghost use Rattle.viper_scope.specs.Target as v;
 ghost use Rattle.viper_types.specs.Typing as j;
@@ -19,14 +19,15 @@ use crate::assertions::assertions;
 use crate::assigned::call_targets;
 use crate::calls::calling;
 use crate::expressions::{expected, nowhere};
-use crate::frames::MethodVariables;
+use crate::frames::Frame;
 use crate::simple::{checking, folding, setting, variable};
 use std::alloc::Global;
 use vb_base::Pos;
 use vb_base::limits::MAX_BLOCK_DEPTH;
 use vb_value::Ty;
 use viper_core::{Assertion, Expr, Loop, Stmt};
-use viper_scope::{Context, Rule, RuleFault, VariableScope, targets};
+use viper_scope::rules::{TOO_DEEP, WRONG_TYPE};
+use viper_scope::{Context, Scope, TypeFault, targets};
 use viper_syntax::{Named, SArm, SBlock, SStmt, Term};
 
 /// An arm of an `if`, typed.
@@ -61,12 +62,12 @@ fn loop_statement(turns: Loop) -> Stmt
 }
 
 /// An `if` for all arms, each further one alone in the second block of the one before.
-fn nested(alloc: Global, branches: Vec<TypedArm>, other: Vec<Stmt>) -> Result<Stmt, RuleFault>
-    ensures { Answers core.stmt_of (known (s.nested (branches_of branches) (block_stmts_of other)) nowhere rule.WrongType Found) result }
+fn nested(alloc: Global, branches: Vec<TypedArm>, other: Vec<Stmt>) -> Result<Stmt, TypeFault>
+    ensures { Answers core.stmt_of (known (s.nested (branches_of branches) (block_stmts_of other)) nowhere wrong_type Found) result }
 {
     let mut branches = branches;
     let Some(last) = branches.pop() else {
-        return Err(RuleFault::Broken(nowhere(), Rule::WrongType));
+        return Err(TypeFault::Rule(nowhere(), WRONG_TYPE));
     };
     let mut stmt = if_statement(last, other);
     while let Some(branch) = branches.pop() {
@@ -81,9 +82,9 @@ fn stepping(
     alloc: Global,
     context: &Context,
     depth: usize,
-    frame: &mut MethodVariables,
+    frame: &mut Frame,
     stmt: &SStmt,
-) -> Result<Stmt, RuleFault>
+) -> Result<Stmt, TypeFault>
     requires { depth ≤ max_block_depth }
     ensures after { OnOk result (frame_of frame.new ≡ f.frame_after (frame_of frame.old) (stmt_of stmt.now)) }
     ensures answers { Answers core.stmt_of (s.stepping context.now.lists (context_of context.now) depth (frame_of frame.old) (stmt_of stmt.now)) result }
@@ -118,10 +119,10 @@ fn stepping(
 fn loop_terms(
     alloc: Global,
     context: &Context,
-    scope: &VariableScope,
+    scope: &Scope,
     guard: &Term,
     invariants: &[Term],
-) -> Result<(Expr, Vec<Assertion>), RuleFault>
+) -> Result<(Expr, Vec<Assertion>), TypeFault>
     ensures { Answers loop_terms_of (then_typed (j.expected (context_of context.now) scope.now ty.Bool (term_of guard.now)) (λ x.
         then_typed (s.asserting_all (context_of context.now) scope.now (map term_of invariants.now)) (λ xs. Found (x, xs)))) result }
 {
@@ -136,11 +137,11 @@ fn iteration(
     alloc: Global,
     context: &Context,
     depth: usize,
-    frame: &mut MethodVariables,
+    frame: &mut Frame,
     body: &SBlock,
     at: Pos,
     terms: (Expr, Vec<Assertion>),
-) -> Result<Stmt, RuleFault>
+) -> Result<Stmt, TypeFault>
     requires { depth ≤ max_block_depth }
     ensures after { OnOk result (frame_of frame.new ≡ f.with_hidden (frame_of frame.old) (f.declared_in_block (block_of body.now))) }
     ensures answers { Answers core.stmt_of (then_typed (s.blocking context.now.lists (context_of context.now) (depth + 1) (frame_of frame.old) (block_of body.now)) (λ ss.
@@ -166,15 +167,15 @@ pub fn blocking(
     alloc: Global,
     context: &Context,
     depth: usize,
-    frame: &mut MethodVariables,
+    frame: &mut Frame,
     block: &SBlock,
-) -> Result<Vec<Stmt>, RuleFault>
+) -> Result<Vec<Stmt>, TypeFault>
     ensures shallow { OnOk result (depth ≤ max_block_depth) }
     ensures after { OnOk result (frame_of frame.new ≡ f.with_hidden (frame_of frame.old) (f.declared_in_block (block_of block.now))) }
     ensures answers { Answers block_stmts_of (s.blocking context.now.lists (context_of context.now) depth (frame_of frame.old) (block_of block.now)) result }
 {
     if depth > MAX_BLOCK_DEPTH {
-        return Err(RuleFault::Broken(block.at, Rule::TooDeep));
+        return Err(TypeFault::Rule(block.at, TOO_DEEP));
     }
     let visible = frame.scope.extent();
     let stmts = stepping_all(alloc, context, depth, frame, &block.stmts)?;
@@ -188,9 +189,9 @@ fn stepping_all(
     alloc: Global,
     context: &Context,
     depth: usize,
-    frame: &mut MethodVariables,
+    frame: &mut Frame,
     stmts: &[SStmt],
-) -> Result<Vec<Stmt>, RuleFault>
+) -> Result<Vec<Stmt>, TypeFault>
     requires { depth ≤ max_block_depth }
     ensures vars { OnOk result (frame.new.vars.items ≡ frame.old.vars.items ++ f.declared_in (stmts_of stmts.now)) }
     ensures visible { OnOk result (take (length frame.old.scope) frame.new.scope ≡ frame.old.scope) }
@@ -210,9 +211,9 @@ fn branches(
     alloc: Global,
     context: &Context,
     depth: usize,
-    frame: &mut MethodVariables,
+    frame: &mut Frame,
     arms: &[SArm],
-) -> Result<Vec<TypedArm>, RuleFault>
+) -> Result<Vec<TypedArm>, TypeFault>
     requires { depth ≤ max_block_depth + 1 }
     ensures shallow { OnOk result (depth + length arms.now ≤ max_block_depth + 1) }
     ensures after { OnOk result (frame_of frame.new ≡ f.with_hidden (frame_of frame.old) (f.declared_in_arms (arms_of arms.now))) }
@@ -231,9 +232,9 @@ fn branch(
     alloc: Global,
     context: &Context,
     depth: usize,
-    frame: &mut MethodVariables,
+    frame: &mut Frame,
     arm: &SArm,
-) -> Result<TypedArm, RuleFault>
+) -> Result<TypedArm, TypeFault>
     ensures shallow { OnOk result (depth ≤ max_block_depth) }
     ensures after { OnOk result (frame_of frame.new ≡ f.with_hidden (frame_of frame.old) (f.declared_in_arm (arm_of arm.now))) }
     ensures answers { Answers branch_of (s.branch context.now.lists (context_of context.now) depth (frame_of frame.old) (arm_of arm.now)) result }
@@ -253,9 +254,9 @@ fn otherwise(
     alloc: Global,
     context: &Context,
     depth: usize,
-    frame: &mut MethodVariables,
+    frame: &mut Frame,
     other: &Option<SBlock>,
-) -> Result<Vec<Stmt>, RuleFault>
+) -> Result<Vec<Stmt>, TypeFault>
     ensures after { OnOk result (frame_of frame.new ≡ f.with_hidden (frame_of frame.old) (f.declared_in_else (else_of other.now))) }
     ensures answers { Answers block_stmts_of (s.otherwise context.now.lists (context_of context.now) depth (frame_of frame.old) (else_of other.now)) result }
 {

@@ -1,9 +1,0 @@
-pub mod Wide
-pub mod View
-pub mod Numbers
-pub mod Procedures
-pub mod WideTypes
-pub mod Changed
-pub mod Modular
-pub mod Turning
-pub mod Conditions

@@ -1,0 +1,102 @@
+// What is known of a few numbers, as a sum that stands to 0.
+ghost use Rattle.std.specs.Prelude.{◌≡◌, pos, negsuc};
+ghost use Rattle.cert_sums.specs.declared.rows.Sign.TheVariants as sign;
+ghost use Rattle.cert_sums.specs.Rows.{times, two, three, equation_row, order_row};
+
+/// The number of a name, so many times.
+#[derive(Clone, Copy)]
+pub(crate) struct Product {
+    pub(crate) name: usize,
+    pub(crate) factor: i128,
+}
+
+/// How a sum stands to 0.
+#[derive(Clone, Copy)]
+pub(crate) enum Sign {
+    /// `= 0`
+    Equal,
+    /// `<= 0`
+    AtMost,
+    /// `< 0`
+    Below,
+    /// `!= 0`
+    Other,
+}
+
+/// How three products and a number together stand to 0.
+#[derive(Clone, Copy)]
+pub(crate) struct Row {
+    pub(crate) first: Product,
+    pub(crate) second: Product,
+    pub(crate) third: Product,
+    pub(crate) number: i128,
+    pub(crate) sign: Sign,
+}
+
+/// So many times a name.
+fn times(factor: i128, name: usize) -> Product
+    ensures { result ≡ times factor name }
+{
+    Product { name, factor }
+}
+
+/// A row of two names.
+fn two(first: Product, second: Product, number: i128, sign: Sign) -> Row
+    ensures { result ≡ two first second number sign }
+{
+    Row {
+        first,
+        second,
+        third: times(0, 0),
+        number,
+        sign,
+    }
+}
+
+/// Two names, so many times each, whose sum is 0.
+pub(crate) fn pair(first: i128, name: usize, second: i128, other: usize) -> Row
+    ensures { result ≡ two (times first name) (times second other) (pos 0) sign.Equal }
+{
+    two(times(first, name), times(second, other), 0, Sign::Equal)
+}
+
+/// A name and a number, whose sum is 0.
+pub(crate) fn value(name: usize, number: i128) -> Row
+    ensures { result ≡ two (times (pos 1) name) (times (pos 0) 0) number sign.Equal }
+{
+    two(times(1, name), times(0, 0), number, Sign::Equal)
+}
+
+/// A name less another, and a third one so many times, whose sum is 0.
+pub(crate) fn three(name: usize, a: usize, second: i128, b: usize) -> Row
+    ensures { result ≡ three (times (pos 1) name) (times (negsuc 0) a) (times second b) }
+{
+    Row {
+        first: times(1, name),
+        second: times(-1, a),
+        third: times(second, b),
+        number: 0,
+        sign: Sign::Equal,
+    }
+}
+
+/// How two names stand that are equal, or else that are not.
+pub(crate) fn equation(a: usize, b: usize, equal: bool) -> Row
+    ensures { result ≡ equation_row a b equal }
+{
+    let sign = if equal { Sign::Equal } else { Sign::Other };
+    two(times(1, a), times(-1, b), 0, sign)
+}
+
+/// How two names stand of which the first is at most the second, or else is above it.
+pub(crate) fn order(a: usize, b: usize, is_int: bool, at_most: bool) -> Row
+    ensures { result ≡ order_row a b is_int at_most }
+{
+    if at_most {
+        return two(times(1, a), times(-1, b), 0, Sign::AtMost);
+    }
+    if is_int {
+        return two(times(1, b), times(-1, a), 1, Sign::AtMost);
+    }
+    two(times(1, b), times(-1, a), 0, Sign::Below)
+}

@@ -1,0 +1,62 @@
+// Names that the lines of a run file may name.
+ghost use Rattle.std.specs.Prelude.{◌≡◌, List, IfOk};
+ghost use Rattle.std.specs.Option.{option_map};
+ghost use Rattle.vb_base.specs.Names.{NamesDiffer};
+ghost use Rattle.run_words.specs.Reading.{number_of, numbered_name};
+ghost use Rattle.run_words.specs.Text.{words_of};
+
+use crate::texts::next_word;
+use name_table::NameTable;
+use std::alloc::Global;
+use std::marker::Model;
+use vb_base::{Ident, Memory};
+
+/// Names that differ, each with its number. Contracts see the list of them.
+#[derive(Drop)]
+pub struct Names {
+    names: NameTable,
+}
+
+impl Model for Names {
+    ghost use Rattle.std.specs.Prelude.{ℕ, List};
+
+    ghost Value = { List (List ℕ) };
+
+    ghost view = { λ x. x.names };
+}
+
+impl Names {
+    /// The names in order.
+    pub fn of(alloc: Global, names: &[Ident]) -> Result<Names, Memory>
+        requires { NamesDiffer names.now }
+        ensures { IfOk result (λ x. x ≡ names.now) }
+    {
+        let mut known = NameTable::new(alloc);
+        for name in names {
+            known.add(name.copy()?)?;
+        }
+        Ok(Names { names: known })
+    }
+
+    /// The names of a table.
+    pub fn of_table(names: NameTable) -> Names
+        ensures { result ≡ names }
+    {
+        Names { names }
+    }
+
+    /// The number of a name.
+    pub fn number_of(&self, word: &[u8]) -> Option<usize>
+        ensures { result ≡ number_of self.now word.now }
+    {
+        self.names.number_of(word)
+    }
+}
+
+/// The name with which the words of a line begin, as its number, and the rest of the line.
+pub fn numbered<'a>(names: &Names, words: &'a [u8]) -> Option<(usize, &'a [u8])>
+    ensures { option_map (λ x. (x.0, words_of x.1.now)) result ≡ numbered_name names.now (words_of words.now) }
+{
+    let (name, rest) = next_word(words)?;
+    Some((names.number_of(name)?, rest))
+}

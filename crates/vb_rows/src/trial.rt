@@ -1,0 +1,181 @@
+// Runs a row, and tells where it ends otherwise than it says.
+ghost use Rattle.std.specs.Prelude.{◌≡◌, map, IsTrue, is_some};
+ghost use Rattle.vb_outer.specs.MemShelf.{file_named, names_differ};
+ghost use Rattle.vb_outer.specs.Place.{held};
+
+use crate::again::{FAILED, ends_otherwise, file_of_run};
+use crate::fault::Fault;
+use crate::row::{Call, End, Row, words_of};
+use crate::turns::all_turns_fail;
+use std::alloc::Global;
+use std::io;
+use vb_outer::{MemFile, MemShelf, MemSink};
+use vb_tool::tool;
+
+/// How a call ended: its status, and what stands in the sinks.
+#[derive(Drop)]
+pub struct Ended {
+    pub status: u8,
+    pub out: MemSink,
+    pub err: MemSink,
+}
+
+/// How a row ended, and how its run ended as one of Boogie, where that is otherwise.
+#[derive(Drop)]
+struct Tried {
+    ended: Ended,
+    again: Option<Ended>,
+}
+
+/// Runs a row, and prints what came where it ends otherwise than it says. A run that failed is translated and replayed as well,
+/// and where each call of a device is to fail in turn, so it does.
+pub fn ends_as_said(rt: &impl Print, alloc: Global, row: Row) -> io::Result<bool> {
+    let file = file_of_run(alloc, &row);
+    let Row { name, call, end } = row;
+    match attempted(alloc, &call, file) {
+        Ok(Tried { ended, again }) => {
+            let as_said = told(rt, name.as_str(), &end, &ended)?;
+            let fails_again = told_again(rt, name.as_str(), again)?;
+            Ok(all_turns_fail(rt, alloc, name.as_str(), &call, &ended)? && fails_again && as_said)
+        }
+        Err(fault) => {
+            println!(rt; "{name}: {fault}")?;
+            Ok(false)
+        }
+    }
+}
+
+fn attempted(
+    alloc: Global,
+    call: &Call,
+    file: Result<Option<MemFile>, Fault>,
+) -> Result<Tried, Fault> {
+    let ended = end_of(alloc, call.copy(alloc)?)?;
+    let again = match file? {
+        Some(file) if ended.status == FAILED => ends_otherwise(alloc, file, ended.out.written())?,
+        _ => None,
+    };
+    Ok(Tried { ended, again })
+}
+
+/// Runs a call.
+pub fn end_of(alloc: Global, call: Call) -> Result<Ended, Fault> {
+    let Call {
+        words,
+        files,
+        shelf,
+        out,
+        err,
+    } = call;
+    if !are_named_apart(&files) {
+        return Err(Fault::Files);
+    }
+    let mut shelf = MemShelf::make(files, shelf.failing, shelf.most.max(1));
+    let mut out = MemSink::make(alloc, out.failing, out.most.max(1))?;
+    let mut err = MemSink::make(alloc, err.failing, err.most.max(1))?;
+    let status = tool(alloc, &words, &mut shelf, &mut out, &mut err).number();
+    Ok(Ended { status, out, err })
+}
+
+/// A file with what a command writes over the files of a call: the file's name, and then the words of the command.
+pub fn written(alloc: Global, call: &Call, text: &str) -> Result<MemFile, Fault> {
+    let Some((name, words)) = text.split_once(' ') else {
+        return Err(Fault::Line);
+    };
+    let mut over = call.copy(alloc)?;
+    over.words = words_of(alloc, words)?;
+    let ended = end_of(alloc, over)?;
+    Ok(MemFile {
+        name: name.as_bytes().to_vec(alloc)?,
+        bytes: ended.out.written().to_vec(alloc)?,
+    })
+}
+
+/// Whether no two files have one name.
+fn are_named_apart(files: &[MemFile]) -> bool
+    ensures { result ≡ names_differ (map held files.now) }
+{
+    match files {
+        [] => true,
+        [first, rest @ ..] => !has_name(rest, &first.name) && are_named_apart(rest),
+    }
+}
+
+/// Whether a file has this name.
+fn has_name(files: &[MemFile], name: &[u8]) -> bool
+    ensures { result ≡ is_some (file_named (map held files.now) name.now) }
+{
+    match files {
+        [] => false,
+        [first, rest @ ..] => first.name.as_slice() == name || has_name(rest, name),
+    }
+}
+
+/// Prints each part that differs, and what came.
+fn told(rt: &impl Print, name: &str, end: &End, ended: &Ended) -> io::Result<bool> {
+    let mut as_said = true;
+    if end.status != Some(ended.status) {
+        println!(rt; "{name}: the status is {}", ended.status)?;
+        as_said = false;
+    }
+    if end.err.as_slice() != ended.err.written() {
+        println!(rt; "{name}: on err stands {}", shown(ended.err.written()))?;
+        as_said = false;
+    }
+    if !is_out_as_said(end, ended.out.written()) {
+        println!(rt; "{name}: on out stands {}", shown(ended.out.written()))?;
+        as_said = false;
+    }
+    Ok(as_said)
+}
+
+/// Prints what came where a run that failed does not fail again.
+fn told_again(rt: &impl Print, name: &str, again: Option<Ended>) -> io::Result<bool> {
+    let Some(replayed) = again else {
+        return Ok(true);
+    };
+    println!(rt; "{name}: replayed, the status is {}", replayed.status)?;
+    println!(rt;
+        "{name}: replayed, on out stands {}",
+        shown(replayed.out.written())
+    )?;
+    println!(rt;
+        "{name}: replayed, on err stands {}",
+        shown(replayed.err.written())
+    )?;
+    Ok(false)
+}
+
+fn is_out_as_said(end: &End, out: &[u8]) -> bool {
+    let is_begun = if end.is_whole {
+        out == end.out.as_slice()
+    } else {
+        out.starts_with(&end.out)
+    };
+    is_begun
+        && has_lines(out, &end.has)
+        && !end.lacks.iter().any(|line| has_line(out, line.as_bytes()))
+}
+
+/// Whether the lines stand in the text, in this order.
+fn has_lines(text: &[u8], lines: &[String]) -> bool {
+    let mut left = lines;
+    for each in text.split(|byte| *byte == b'\n') {
+        if let [first, rest @ ..] = left {
+            if first.as_bytes() == each {
+                left = rest;
+            }
+        }
+    }
+    left.is_empty()
+}
+
+fn has_line(text: &[u8], line: &[u8]) -> bool {
+    text.split(|byte| *byte == b'\n').any(|each| each == line)
+}
+
+/// The first lines of a text.
+pub fn shown(text: &[u8]) -> &str {
+    let most = text.len().min(4_000);
+    str::from_utf8(&text[..most]).unwrap_or("bytes that are no text")
+}

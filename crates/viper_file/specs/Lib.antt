@@ -1,4 +1,0 @@
-pub mod Accepted
-pub mod Framed
-pub mod Parts
-pub mod Verified
