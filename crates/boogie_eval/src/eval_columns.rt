@@ -44,10 +44,10 @@ fn column_of<'a>(number: usize, map: &'a Sparse<Key, BScalar>) -> Result<Column<
     ensures keys { IfOk result (λ c. keys_of (entries_in c) ≡ keys (map_of map.now)) }
     ensures values { IfOk result (λ c. (i : ℕ) (e : v.Key × BScalar) → slice_get (entries_in c) i ≡ Some e → get key_cmp (map_of map.now) e.0 ≡ scalar_of e.1) }
 {
-    match map.entries() {
-        Ok(entries) => Ok(Column { number, entries }),
-        Err(_) => Err(Memory),
-    }
+    Ok(Column {
+        number,
+        entries: map.entries()?,
+    })
 }
 
 /// Adds the column of the map of a number, if there is one and it is not the last column's.

@@ -27,10 +27,7 @@ fn add(set: &mut KeySet, key: &Key) -> Result<(), Memory>
     ensures stays { OnOk result (IsSet set.new) }
     ensures added { OnOk result ((k : v.Key) → d.is_listed (keys set.new) k ≡ d.is_listed (key.now ∷ keys set.old) k) }
 {
-    match set.set(key.clone()?, true) {
-        Ok(()) => Ok(()),
-        Err(_) => Err(Memory),
-    }
+    set.set(key.clone()?, true)
 }
 
 /// The set of these keys.
@@ -38,9 +35,7 @@ pub(crate) fn set_of(alloc: Global, list: &[&Key]) -> Result<KeySet, Memory>
     ensures is_set { IfOk result IsSet }
     ensures same { IfOk result (λ set. (k : v.Key) → d.is_listed (keys set) k ≡ d.is_listed (borrowed list.now) k) }
 {
-    let Ok(mut set) = Sparse::make(alloc, false) else {
-        return Err(Memory);
-    };
+    let mut set = Sparse::make(alloc, false)?;
     for key in list {
         add(&mut set, key)?;
     }

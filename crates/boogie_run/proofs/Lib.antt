@@ -1,5 +1,4 @@
 mod BlockLaws
-mod CopyLaws
 mod RunStepLaws
 pub mod RunWithinLaws
 pub mod SettingLaws

@@ -85,20 +85,11 @@ fn fits_entries(keys: &[BBase], base: BBase, entries: &[Entry]) -> bool
     true
 }
 
-fn copied_key(key: &Key) -> Result<Key, Memory>
-    ensures { IfOk result (λ k. k ≡ key.now) }
-{
-    match key.clone() {
-        Ok(copy) => Ok(copy),
-        Err(_) => Err(Memory),
-    }
-}
-
 /// Puts an entry into a map that is being filled.
 fn put_entry(map: &mut Builder<Key, BScalar>, entry: &Entry) -> Result<(), Memory>
     ensures { OnOk result (map_of map.new ≡ set key_cmp same_scalar (map_of map.old) (entry_of entry.now).key (entry_of entry.now).value) }
 {
-    let key = copied_key(&entry.key)?;
+    let key = entry.key.clone()?;
     let value = entry.value.clone()?;
     fill_at(map, key, value)
 }
@@ -111,27 +102,14 @@ fn filled(alloc: Global, base: BBase, entries: &[Entry]) -> Result<Sparse<Key, B
     for entry in entries {
         put_entry(&mut map, entry)?;
     }
-    finished(map)
-}
-
-/// A map that was filled.
-fn finished(map: Builder<Key, BScalar>) -> Result<Sparse<Key, BScalar>, Memory>
-    ensures { IfOk result (λ n. n ≡ map) }
-{
-    match map.finish() {
-        Ok(map) => Ok(map),
-        Err(_) => Err(Memory),
-    }
+    map.finish()
 }
 
 /// The map that has the default of this type at each key.
 pub(crate) fn empty_map(alloc: Global, base: BBase) -> Result<Sparse<Key, BScalar>, Memory>
     ensures { IfOk result (λ n. map_of n ≡ empty (default_of base)) }
 {
-    match Sparse::make(alloc, default_of(base)) {
-        Ok(map) => Ok(map),
-        Err(_) => Err(Memory),
-    }
+    Sparse::make(alloc, default_of(base))
 }
 
 /// The map that entries give, if they are of its type.

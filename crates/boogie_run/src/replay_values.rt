@@ -38,7 +38,7 @@ impl Environment {
 pub(crate) fn copied_map(map: &Sparse<Key, BScalar>) -> Result<Sparse<Key, BScalar>, Memory>
     ensures { IfOk result (λ n. map_of n ≡ map_of map.now) }
 {
-    map.copy().map_err(|_| Memory)
+    map.copy()
 }
 
 /// An equal value of its own, which may be a map.
@@ -71,7 +71,7 @@ pub(crate) fn whole(env: &[BValue], number: usize) -> Result<BValue, Miss>
 pub(crate) fn set_at(map: &mut Sparse<Key, BScalar>, key: Key, value: BScalar) -> Result<(), Memory>
     ensures { OnOk result (map_of map.new ≡ set key_cmp same_scalar (map_of map.old) key (scalar_of value)) }
 {
-    map.set(key, value).map_err(|_| Memory)
+    map.set(key, value)
 }
 
 /// The same of a map that is being filled.
@@ -82,5 +82,5 @@ pub(crate) fn fill_at(
 ) -> Result<(), Memory>
     ensures { OnOk result (map_of map.new ≡ set key_cmp same_scalar (map_of map.old) key (scalar_of value)) }
 {
-    map.set(key, value).map_err(|_| Memory)
+    map.set(key, value)
 }

@@ -1,6 +1,6 @@
 // Where a run of a unit's procedure begins: the variables that an opening sets.
 ghost use Rattle.std.specs.Prelude.{◌≡◌, ◌<◌, ◌+◌, ◌++◌, [], ◌∷◌, All, length, map, IfOk, OnOk};
-ghost use Rattle.sparse.specs.Map.{empty, keys, set};
+ghost use Rattle.sparse.specs.Map.{keys, set};
 ghost use Rattle.vb_value.specs.Key.{key_cmp};
 ghost use Rattle.viper_core.specs.View.{program_of};
 ghost use Rattle.viper_state.specs.View.{contents_of, opening_of};
@@ -136,24 +136,11 @@ fn add_contents(
 
 // ---- maps
 
-/// The map in which each key has the default.
-fn unfilled(alloc: Global, zero: BScalar) -> Result<Sparse<Key, BScalar>, Memory>
-    ensures { IfOk result (λ map. map_of map ≡ empty (scalar_of zero)) }
-{
-    match Sparse::make(alloc, zero) {
-        Ok(map) => Ok(map),
-        Err(_) => Err(Memory),
-    }
-}
-
 /// Gives a map a value at a key.
 fn put(map: &mut Sparse<Key, BScalar>, key: Key, value: BScalar) -> Result<(), Memory>
     ensures { OnOk result (map_of map.new ≡ set key_cmp b.same_scalar (map_of map.old) key (scalar_of value)) }
 {
-    match map.set(key, value) {
-        Ok(()) => Ok(()),
-        Err(_) => Err(Memory),
-    }
+    map.set(key, value)
 }
 
 /// Puts the entry of this index of a heap into a map.
@@ -175,7 +162,7 @@ fn heap_map(alloc: Global, heap: &Sparse<u64, Value>) -> Result<Sparse<Key, BSca
     requires { IsTidy (heap_image heap.now) }
     ensures { IfOk result (λ map. map_of map ≡ heap_image heap.now) }
 {
-    let mut map = unfilled(alloc, scalar(*heap.default()))?;
+    let mut map = Sparse::make(alloc, scalar(*heap.default()))?;
     for i in 0..heap.len() {
         put_place(heap, i, &mut map)?;
     }
@@ -207,7 +194,7 @@ fn content_map(
     ensures { IfOk result (λ map. map_of map ≡ content_image (contents_of contents.now)) }
 {
     let zero = BScalar::Snap(contents.default().clone()?);
-    let mut map = unfilled(alloc, zero)?;
+    let mut map = Sparse::make(alloc, zero)?;
     for i in 0..contents.len() {
         put_instance(contents, i, &mut map)?;
     }

@@ -22,7 +22,7 @@ use crate::boogie_names::header_name;
 use crate::boogie_values::{fits_entry, is_default};
 use boogie_tree::{BChoice, BRun, BScalar, BSetting, BValue, Entry, Local, Proc, default_of};
 use rising::Rising;
-use run_words::{LineReader, RunFileFault, grown, is_skipped, read_lines};
+use run_words::{LineReader, RunFileFault, is_skipped, read_lines};
 use sparse::Builder;
 use std::alloc::Global;
 use std::collections::BTreeSet;
@@ -254,7 +254,7 @@ fn fill(map: &mut Builder<Key, BScalar>, entry: Entry) -> Result<(), Memory>
     if is_default(&entry.value) {
         return Ok(());
     }
-    grown(map.set(entry.key, entry.value))
+    map.set(entry.key, entry.value)
 }
 
 /// Puts a map that was filled into a run.
@@ -276,7 +276,7 @@ fn put_filled(
 fn put_map(run: &mut BRun, var: usize, map: Builder<Key, BScalar>) -> Result<(), Memory>
     ensures { OnOk result (run_of run.new ≡ progress.run_set var (v.Many (filling_of map)) (run_of run.old)) }
 {
-    let map = grown(map.finish())?;
+    let map = map.finish()?;
     run.settings.push(BSetting {
         var,
         value: BValue::Map(map),
@@ -296,7 +296,7 @@ fn put_entries(alloc: Global, run: &mut BRun, map: Builder<Key, BScalar>) -> Res
 fn entries_of(alloc: Global, filled: Builder<Key, BScalar>) -> Result<Vec<Entry>, Memory>
     ensures { IfOk result (λ list. map entry_of list.items ≡ r.entries_of (filling_of filled)) }
 {
-    let pairs = grown(filled.into_entries())?;
+    let pairs = filled.into_entries()?;
     let mut entries = Vec::with_capacity(alloc, pairs.len())?;
     for (key, value) in pairs {
         entries.push(Entry { key, value })?;

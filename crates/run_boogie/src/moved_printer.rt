@@ -17,7 +17,7 @@ ghost use Rattle.run_words.specs.Printed.{key_text};
 use crate::boogie_printer::{put_beginning, put_chosen, put_pick, put_place};
 use boogie_tree::{BScalar, BSetting, Proc};
 use moves::scalar;
-use run_words::{grown, put_content, put_key};
+use run_words::{put_content, put_key};
 use sparse::Sparse;
 use std::alloc::Global;
 use vb_base::{Memory, put};
@@ -104,7 +104,7 @@ fn put_heap(out: &mut Vec<u8>, heap: &Sparse<u64, Value>) -> Result<(), Memory>
     ensures named { OnOk result (IsNamedMove (m.heap_choice heap.now)) }
 {
     put(out, b"entries\n")?;
-    let entries = grown(heap.entries())?;
+    let entries = heap.entries()?;
     put_places(out, &entries)
 }
 
@@ -134,7 +134,7 @@ fn put_predicate(out: &mut Vec<u8>, contents: &Sparse<Key, Content>) -> Result<(
     ensures named { OnOk result (IsNamedMove (m.content_choice (contents_of contents.now))) }
 {
     put(out, b"entries\n")?;
-    let entries = grown(contents.entries())?;
+    let entries = contents.entries()?;
     put_instances(out, &entries)
 }
 

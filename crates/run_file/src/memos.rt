@@ -11,7 +11,6 @@ ghost use Rattle.run_file.specs.LineView.{line_view};
 ghost use Rattle.run_file.specs.Run as r;
 
 use crate::lines::Line;
-use run_words::grown;
 use sparse::{Builder, Sparse};
 use std::alloc::Global;
 use vb_base::Memory;
@@ -69,7 +68,7 @@ impl Filling {
         ensures { OnOk result (filling_of self.new ≡ r.memo_with (filling_of self.old) (l.Heap field reference value)) }
     {
         match self.heap.get_mut(field) {
-            Some(values) => grown(values.set(reference, value)),
+            Some(values) => values.set(reference, value),
             None => Ok(()),
         }
     }
@@ -78,7 +77,7 @@ impl Filling {
         ensures { OnOk result (filling_of self.new ≡ r.memo_with (filling_of self.old) (l.Holds predicate key (content_of content))) }
     {
         match self.content.get_mut(predicate) {
-            Some(contents) => grown(contents.set(key, content)),
+            Some(contents) => contents.set(key, content),
             None => Ok(()),
         }
     }
@@ -102,7 +101,7 @@ fn finished<K: Ord + Clone, V: Eq + Clone>(
 {
     let mut maps = Vec::with_capacity(alloc, filled.len())?;
     for map in filled {
-        maps.push(grown(map.finish())?)?;
+        maps.push(map.finish()?)?;
     }
     Ok(maps)
 }

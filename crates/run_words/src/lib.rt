@@ -8,7 +8,6 @@ mod contents;
 mod faults;
 mod first_words;
 mod line_reader;
-mod memory;
 mod names;
 mod printer;
 mod texts;
@@ -18,7 +17,6 @@ pub use contents::{key, whole_content};
 pub use faults::RunFileFault;
 pub use first_words::{FirstWord, first_word};
 pub use line_reader::{LineReader, read_lines};
-pub use memory::grown;
 pub use names::{Names, numbered};
 pub use printer::{
     put_content, put_fraction, put_key, put_number, put_reference, put_value, truth_text,

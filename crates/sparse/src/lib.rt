@@ -8,25 +8,10 @@ pub mod laws;
 mod tree;
 
 pub use builder::Builder;
-use std::alloc::{AllocError, AllocFailed, Global};
+pub use memory::Memory;
+use std::alloc::Global;
 use std::marker::Model;
 use tree::Tree;
-
-/// There was no memory.
-#[derive(Clone, Copy, Debug, PartialEq, Eq)]
-pub struct Memory;
-
-impl From<AllocError> for Memory {
-    fn from(_refused: AllocError) -> Memory {
-        Memory
-    }
-}
-
-impl<T: Drop> From<AllocFailed<T>> for Memory {
-    fn from(_refused: AllocFailed<T>) -> Memory {
-        Memory
-    }
-}
 
 /// A map with a default. Contracts see it as a `Map` of `specs/Map.antt`: the default, and the keys that
 /// have another value in ascending order, each with its value.

@@ -1,4 +1,4 @@
-// Names, and the want of memory.
+// Names.
 ghost use Rattle.std.specs.Prelude.{◌≡◌, ◌==◌, ◌++◌, ◌≤◌, [], IfOk, length};
 ghost use Rattle.std.specs.Cmp.{partial_equiv_from_equiv};
 ghost use Rattle.std.specs.Cmp.Lexicographic.{pointwise, nat_list_eq_equiv};
@@ -7,8 +7,8 @@ ghost use Rattle.std.specs.Cmp.Rules.{hashing};
 ghost use Rattle.std.proofs.Common.{rules};
 ghost use Rattle.vb_base.specs.ShortName.{max_short_name};
 
-use crate::same_bytes;
-use std::alloc::{AllocError, AllocFailed, Global};
+use crate::{Memory, same_bytes};
+use std::alloc::Global;
 use std::hash::{Hash, Hasher};
 use std::marker::Model;
 use std::rc::Rc;
@@ -136,21 +136,5 @@ impl Hash for Ident {
 
     fn hash<H: Hasher>(&self, state: &mut H) {
         self.bytes().hash(state);
-    }
-}
-
-/// Memory was refused.
-#[derive(Clone, Copy, Debug, PartialEq, Eq)]
-pub struct Memory;
-
-impl From<AllocError> for Memory {
-    fn from(_: AllocError) -> Memory {
-        Memory
-    }
-}
-
-impl<T: Drop> From<AllocFailed<T>> for Memory {
-    fn from(_: AllocFailed<T>) -> Memory {
-        Memory
     }
 }

@@ -51,9 +51,9 @@ fn copied(alloc: Global, entries: u64, copies: u64) -> Result<(), Memory> {
 
 /// A state of one field, which is 1 at so many references.
 fn state(alloc: Global, entries: u64) -> Result<State, Memory> {
-    let mut values = Sparse::make(alloc, Value::Int(0)).map_err(|_| Memory)?;
+    let mut values = Sparse::make(alloc, Value::Int(0))?;
     for reference in 0..entries {
-        values.set(reference, Value::Int(1)).map_err(|_| Memory)?;
+        values.set(reference, Value::Int(1))?;
     }
     let layout = Layout {
         fields: vec![in alloc; Ty::Int]?,

@@ -9,10 +9,6 @@ use std::alloc::{AllocError, AllocFailed};
 #[derive(Clone, Copy, Debug, PartialEq, Eq)]
 pub struct Failed;
 
-/// There is no memory for the answer.
-#[derive(Clone, Copy, Debug, PartialEq, Eq)]
-pub struct Memory;
-
 /// Why a file was not read.
 #[derive(Clone, Copy, Debug, PartialEq, Eq)]
 pub enum FileFault {
@@ -22,12 +18,6 @@ pub enum FileFault {
     Failed,
     /// It is longer than the caller's limit.
     Long,
-}
-
-impl From<AllocError> for Memory {
-    fn from(_: AllocError) -> Self {
-        Memory
-    }
 }
 
 impl From<AllocError> for FileFault {

@@ -13,9 +13,10 @@ mod standard;
 
 pub use disk::DiskShelf;
 use fault::count_fault;
-pub use fault::{Failed, FileFault, Memory};
+pub use fault::{Failed, FileFault};
 pub use mem_shelf::{MemFile, MemShelf};
 pub use mem_sink::MemSink;
+pub use memory::Memory;
 pub use shelf::{Shelf, closed_gives_nothing, read_file};
 pub use sink::{Sink, write_all, written_in_turn};
 pub use standard::StdSink;

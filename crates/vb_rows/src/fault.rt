@@ -3,6 +3,7 @@
 use std::alloc::{AllocError, AllocFailed};
 use std::fmt;
 use std::num::ParseIntError;
+use vb_base::Memory;
 
 /// Why a line of a table cannot be taken, or a row cannot be run.
 #[derive(Clone, Copy, Debug, PartialEq, Eq)]
@@ -37,8 +38,8 @@ impl<T: Drop> From<AllocFailed<T>> for Fault {
     }
 }
 
-impl From<vb_outer::Memory> for Fault {
-    fn from(_: vb_outer::Memory) -> Fault {
+impl From<Memory> for Fault {
+    fn from(_: Memory) -> Fault {
         Fault::Memory
     }
 }

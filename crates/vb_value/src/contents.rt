@@ -9,14 +9,11 @@ ghost use Rattle.vb_value.specs.Content as tree;
 ghost use Rattle.vb_value.specs.Content.{nodes, same_content};
 ghost use Rattle.vb_value.specs.View.{content_of};
 
+use crate::Memory;
 use crate::values::Value;
 use std::alloc::{AllocError, Global};
 use std::rc::Rc;
 use vb_base::limits::MAX_CONTENT_NODES;
-
-/// There was no memory.
-#[derive(Clone, Copy, Debug, PartialEq, Eq)]
-pub struct Memory;
 
 /// Why two contents were not made a pair.
 #[derive(Clone, Copy, Debug, PartialEq, Eq)]
@@ -87,7 +84,7 @@ impl Content {
     pub fn copy(&self, alloc: Global) -> Result<Content, Memory>
         ensures { IfOk result (λ c. content_of c ≡ content_of self.now) }
     {
-        self.clone().map_err(|_| Memory)
+        Ok(self.clone()?)
     }
 
     /// The pair of two contents. `Over` exactly where it would have more than `MAX_CONTENT_NODES` nodes.
@@ -139,5 +136,5 @@ impl Clone for Content {
 fn counted(alloc: Global, content: Content) -> Result<Rc<Content>, Memory>
     ensures { IfOk result (λ r. r.value ≡ content) }
 {
-    Rc::new(alloc, content).map_err(|_| Memory)
+    Ok(Rc::new(alloc, content)?)
 }

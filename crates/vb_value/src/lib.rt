@@ -11,8 +11,9 @@ pub mod laws;
 mod numbers;
 mod values;
 
-pub use contents::{Content, Memory, PairFault};
+pub use contents::{Content, PairFault};
 pub use fractions::Frac;
 pub use keys::{Key, KeyPart};
 pub use numbers::{MAX, Over, int_add, int_div, int_mod, int_mul, int_sub};
 pub use values::{Layout, Ty, Value};
+pub use vb_base::Memory;

@@ -62,14 +62,6 @@ impl From<Memory> for Halt {
     }
 }
 
-impl From<vb_value::Memory> for Halt {
-    ghost from_gives = { λ _ e. e ≡ halt.Memory };
-
-    fn from(_: vb_value::Memory) -> Halt {
-        Halt::Memory
-    }
-}
-
 impl From<AllocError> for Halt {
     ghost from_gives = { λ _ e. e ≡ halt.Memory };
 

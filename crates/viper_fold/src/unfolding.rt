@@ -20,7 +20,8 @@ ghost use Rattle.viper_fold.specs.Steps.{unfolded_at};
 
 use crate::folding::{FoldValues, body_of};
 use std::alloc::Global;
-use vb_value::{Content, Key, Memory};
+use vb_base::Memory;
+use vb_value::{Content, Key};
 use viper_core::{FoldStmt, Program};
 use viper_eval::{Instance, SceneRef, eval_all, found, key_of, open_in, permission_of, take};
 use viper_inhale::Halt;

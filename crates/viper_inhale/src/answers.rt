@@ -78,22 +78,6 @@ impl From<Memory> for Halt {
     }
 }
 
-impl From<sparse::Memory> for Halt {
-    ghost from_gives = { λ _ e. e ≡ halt.Memory };
-
-    fn from(_: sparse::Memory) -> Halt {
-        Halt::Memory
-    }
-}
-
-impl From<vb_value::Memory> for Halt {
-    ghost from_gives = { λ _ e. e ≡ halt.Memory };
-
-    fn from(_: vb_value::Memory) -> Halt {
-        Halt::Memory
-    }
-}
-
 impl From<AllocError> for Halt {
     ghost from_gives = { λ _ e. e ≡ halt.Memory };
 

@@ -1,6 +1,5 @@
 -- What came loose stays among the keys that are noted.
-use Rattle.std.proofs.Common.{◌≡◌, ◌⊎◌, inl, inr, ℕ, zero, suc, ◌+◌, ◌<◌, ◌≤◌, arith, Bool, true, false, not, ◌||◌, cond, Bor, length, take, get_or, List, [], ◌∷◌, ◌++◌, Option, Some, None, Result, Ok, Err, IfOk, OnOk, OnErr, IsErrAnd, slice_get, slice_set, unwrap_or, refl, sym, ap, ◌∙◌, subst}
-use Rattle.std.specs.Prelude.{⊤}
+use Rattle.std.proofs.Common.{◌≡◌, ◌⊎◌, inl, inr, ℕ, zero, suc, ◌+◌, ◌<◌, ◌≤◌, arith, Bool, true, false, not, ◌||◌, cond, Bor, length, take, get_or, List, [], ◌∷◌, ◌++◌, Option, Some, None, Result, Ok, Err, IfOk, OnOk, OnErr, slice_get, slice_set, unwrap_or, refl, sym, ap, ◌∙◌, subst}
 use Rattle.std.specs.List.{AllZip}
 use Rattle.std.specs.BTreeMap.{insert_entry, is_at}
 use Rattle.std.specs.Map.{keys_of, lookup, remove_entry}
@@ -164,10 +163,6 @@ found_as (Err f) h e = tt
 pub found_alike : {A B : Type 0} (f : A → B) (p : Option A) → option_map (λ _. tt {0}) p ≡ option_map (λ _. tt {0}) (option_map f p)
 found_alike f None = refl
 found_alike f (Some x) = refl
-
-pub refused_by : {X E : Type 0} {P : Type 0} (r : Result X E) → IsErrAnd r (λ _. ⊤) → OnErr r P → P
-refused_by (Ok x) h f = absurd h
-refused_by (Err e) h f = f
 
 pub on_err : {X E : Type 0} {P : Type 0} (r : Result X E) → P → OnErr r P
 on_err (Ok x) h = tt

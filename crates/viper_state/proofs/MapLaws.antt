@@ -1,5 +1,5 @@
 -- The maps of a state are kept exactly: to change one, or to copy it, is to do so with its plain data.
-use Rattle.std.proofs.Common.{◌≡◌, ℕ, zero, suc, Bool, List, [], ◌∷◌, Option, Some, None, Result, Ok, Err, IfOk, OnOk, slice_get, slice_set, map, refl, sym, ap, ◌∙◌, subst}
+use Rattle.std.proofs.Common.{◌≡◌, ℕ, zero, suc, Bool, List, [], ◌∷◌, Option, Some, None, Result, Ok, Err, OnOk, slice_get, slice_set, map, refl, sym, ap, ◌∙◌, subst}
 use Rattle.std.specs.List.{AllZip}
 use Rattle.std.specs.Option.{option_map}
 use Rattle.std.proofs.lemmas.List.{map-set}
@@ -166,11 +166,6 @@ amounts_cloned keys values = ClonesAreEqual-from_meaning (IsMeaning-itself key_c
 pub made : {E X : Type 0} {P Q : Type 0} (a : Result X E) → OnOk a P → (P → Q) → OnOk a Q
 made (Ok x) h go = go h
 made (Err e) h go = tt
-
--- an answer that was handed on
-pub handed : {E F X : Type 0} {P Q : Type 0} (a : Result (Unit {0}) E) (b : Result X F) → IfOk b (λ x. a ≡ Ok tt) → OnOk a P → (P → Q) → OnOk b Q
-handed {P = P} a (Ok x) is h go = go (subst (λ r. OnOk r P) is h)
-handed a (Err e) is h go = tt
 
 -- ---- a map of the program that is reduced is so as plain data
 

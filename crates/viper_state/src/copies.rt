@@ -14,7 +14,6 @@ ghost use Rattle.viper_state.specs.State as s;
 ghost use Rattle.viper_state.specs.View.{memo_of, state_of};
 
 use crate::known::raise;
-use crate::places::grown;
 use crate::{Known, Memo, State};
 use sparse::Sparse;
 use std::alloc::Global;
@@ -126,7 +125,7 @@ fn field_known(
     ensures within { IfOk result (λ known. HasValues (IsAtMost known.1) heap.now) }
     ensures least { IfOk result (λ known. least ≤ known.1) }
 {
-    let entries = grown(heap.entries())?;
+    let entries = heap.entries()?;
     let list = listed(alloc, &entries)?;
     let mut greatest = greatest_among(&entries, least);
     raise(&mut greatest, heap.default());
@@ -163,7 +162,7 @@ fn all_listed<K: Ord + Clone + Drop, V: Eq + Clone + Drop>(
 {
     let mut lists = Vec::with_capacity(alloc, maps.len())?;
     for map in maps {
-        let entries = grown(map.entries())?;
+        let entries = map.entries()?;
         lists.push(listed(alloc, &entries)?)?;
     }
     Ok(lists)
@@ -178,7 +177,7 @@ fn copied<K: Ord + Clone + Drop, V: Eq + Clone + Drop>(
 {
     let mut copies = Vec::with_capacity(alloc, maps.len())?;
     for map in maps {
-        copies.push(grown(map.copy())?)?;
+        copies.push(map.copy()?)?;
     }
     Ok(copies)
 }
@@ -192,7 +191,7 @@ fn empty_maps<K: Ord + Clone + Drop>(
 {
     let mut maps = Vec::with_capacity(alloc, count)?;
     for _ in 0..count {
-        maps.push(grown(Sparse::make(alloc, Frac::none()))?)?;
+        maps.push(Sparse::make(alloc, Frac::none())?)?;
     }
     Ok(maps)
 }

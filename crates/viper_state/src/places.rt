@@ -1,5 +1,5 @@
 // Reading and changing one place or instance of a state.
-ghost use Rattle.std.specs.Prelude.{◌≡◌, ⊤, false, true, Ok, Some, IfOk, IsErrAnd, IsTrue, MatchResult, OnOk, OnErr, slice_get};
+ghost use Rattle.std.specs.Prelude.{◌≡◌, false, true, Some, IfOk, IsTrue, OnOk, OnErr, slice_get};
 ghost use Rattle.std.specs.List.{AllZip};
 ghost use Rattle.std.specs.Option.{option_map};
 ghost use Rattle.std.specs.Ordering.{nat_cmp};
@@ -240,17 +240,7 @@ fn set_in<K: Ord + Clone + Drop, V: Eq + Clone + Drop>(
     ensures refused { OnErr result (maps.new.items ≡ maps.old.items) }
 {
     match maps.get_mut(number as usize) {
-        Some(map) => Ok(Some(grown(map.set(key, value))?)),
+        Some(map) => Ok(Some(map.set(key, value)?)),
         None => Ok(None),
-    }
-}
-
-/// The same answer, where memory was refused by the name that it has here.
-pub(crate) fn grown<T>(answer: Result<T, sparse::Memory>) -> Result<T, Memory>
-    ensures { MatchResult result (λ x. answer ≡ Ok x) (λ _. IsErrAnd answer (λ _. ⊤)) }
-{
-    match answer {
-        Ok(value) => Ok(value),
-        Err(_) => Err(Memory),
     }
 }

@@ -7,5 +7,4 @@ one_more (suc n) x = ap (λ xs. x ∷ xs) (one_more n x)
 
 pub loop-preserved : goal.loop-preserved
 loop-preserved g c =
-    let made = rw c.in_ok-grown.ensures at c.make.ensures.empty in
-    rw (c.in_ok-push.ensures.items, c.loop.invariant, made, c.none.ensures, add-one) (one_more c.loop.counter _)
+    rw (c.in_ok-push.ensures.items, c.loop.invariant, c.in_ok-make.ensures.empty, c.none.ensures, add-one) (one_more c.loop.counter _)
