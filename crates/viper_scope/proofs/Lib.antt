@@ -3,4 +3,3 @@ pub mod ArgumentLaws
 pub mod ScopeLaws
 pub mod NamingLaws
 pub mod ListedLaws
-pub mod PairLaws

@@ -6,6 +6,7 @@ mod arguments;
 mod clauses;
 mod context;
 mod faults;
+mod keys;
 mod loops;
 mod names;
 pub mod rules;

@@ -2,53 +2,53 @@
 ghost use Rattle.std.specs.Prelude.{◌≡◌, ◌++◌, ◌∷◌, [], ℕ, List, None, take, length, OnOk, OnErr};
 ghost use Rattle.viper_scope.specs.Context.{find};
 
-use name_table::NameTable;
+use indexmap::IndexMap;
 use std::alloc::Global;
 use std::marker::Model;
+use symbol_table::NameKey;
 use vb_base::{Ident, Memory};
 
 /// What names stand for, in the order in which they were declared. Contracts see the list of both.
 #[derive(Drop)]
 pub struct Names<V> {
-    names: NameTable,
-    values: Vec<V>,
+    entries: IndexMap<Ident, V, NameKey>,
 }
 
 impl<V> Model for Names<V> {
-    ghost use Rattle.std.specs.Prelude.{◌≡◌, ℕ, List, length};
-    ghost use Rattle.std.specs.List.{zip};
+    ghost use Rattle.std.specs.Prelude.{ℕ, List};
 
     ghost Value = { List (List ℕ × V) };
 
-    ghost view = { λ names. zip names.names names.values.items };
-
-    ghost invariant = { λ names. length names.names ≡ length names.values.items };
+    ghost view = { λ names. names.entries.entries };
 }
 
 impl<V: Copy + Drop> Names<V> {
-    /// No names.
-    pub fn new(alloc: Global) -> Names<V>
+    /// No names, which are hashed by this key.
+    pub fn new(alloc: Global, key: NameKey) -> Names<V>
         ensures { result ≡ [] }
     {
         Names {
-            names: NameTable::new(alloc),
-            values: Vec::new(alloc),
+            entries: IndexMap::with_hasher(alloc, key),
         }
+    }
+
+    /// The key by which names are hashed.
+    pub fn key(&self) -> NameKey {
+        *self.entries.hasher()
     }
 
     /// How many names there are.
     pub fn len(&self) -> usize
         ensures { result ≡ length self.now }
     {
-        self.names.len()
+        self.entries.len()
     }
 
     /// What the name stands for.
     pub fn find(&self, name: &Ident) -> Option<V>
         ensures { result ≡ find self.now name.now }
     {
-        let number = self.names.number_of(name.bytes())?;
-        self.values.get(number).copied()
+        self.entries.get(name).copied()
     }
 
     /// A name that stood for nothing stands for this value.
@@ -57,10 +57,7 @@ impl<V: Copy + Drop> Names<V> {
         ensures ok { OnOk result (self.new ≡ self.old ++ (name.now, value) ∷ []) }
         ensures err { OnErr result (self.new ≡ self.old) }
     {
-        let name = name.copy()?;
-        self.values.reserve(1)?;
-        self.names.add(name)?;
-        self.values.push_reserved(value);
+        self.entries.insert(name.copy()?, value)?;
         Ok(())
     }
 
@@ -68,7 +65,6 @@ impl<V: Copy + Drop> Names<V> {
     pub fn truncate(&mut self, len: usize)
         ensures { self.new ≡ take len self.old }
     {
-        self.names.truncate(len);
-        self.values.truncate(len);
+        self.entries.truncate(len);
     }
 }

@@ -7,6 +7,7 @@ use crate::context::Variable;
 use crate::names::Names;
 use std::alloc::Global;
 use std::marker::Model;
+use symbol_table::NameKey;
 use vb_base::{Ident, Memory};
 use vb_value::Ty;
 
@@ -39,12 +40,12 @@ impl Model for Scope {
 }
 
 impl Scope {
-    /// No variables.
-    pub fn new(alloc: Global) -> Scope
+    /// No variables. Their names are hashed by this key.
+    pub fn new(alloc: Global, key: NameKey) -> Scope
         ensures { result ≡ [] }
     {
         Scope {
-            names: Names::new(alloc),
+            names: Names::new(alloc, key),
             refs: Vec::new(alloc),
         }
     }

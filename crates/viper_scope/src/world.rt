@@ -11,10 +11,12 @@ ghost use Rattle.viper_scope.specs.Types as f;
 
 use crate::context::{MethodTypes, PredicateSignature, Role, World};
 use crate::faults::TypeFault;
+use crate::keys::key_of;
 use crate::names::Names;
 use crate::rules::DECLARED_TWICE;
 use crate::types::declared_type;
 use std::alloc::Global;
+use symbol_table::NameKey;
 use vb_base::Memory;
 use vb_value::Ty;
 use viper_syntax::{Decl, Formal, Named, SMethod, Term};
@@ -49,12 +51,12 @@ fn decl_name(decl: &Decl) -> &Named
 }
 
 impl World {
-    /// No declarations.
-    pub fn new(alloc: Global) -> World
+    /// No declarations. Their names are hashed by this key.
+    pub fn new(alloc: Global, key: NameKey) -> World
         ensures { world_of result ≡ j.no_world }
     {
         World {
-            roles: Names::new(alloc),
+            roles: Names::new(alloc, key),
             fields: Vec::new(alloc),
             predicates: Vec::new(alloc),
             methods: Vec::new(alloc),
@@ -131,7 +133,7 @@ fn declare_all(world: &mut World, alloc: Global, decls: &[Decl]) -> Result<(), T
 pub fn naming(alloc: Global, decls: &[Decl]) -> Result<World, TypeFault>
     ensures { Answers world_of (j.naming j.no_world (map decl_of decls.now)) result }
 {
-    let mut world = World::new(alloc);
+    let mut world = World::new(alloc, key_of(decls));
     declare_all(&mut world, alloc, decls)?;
     Ok(world)
 }

@@ -1,14 +1,18 @@
-use Rattle.std.proofs.Common.{◌≡◌, ◌∙◌, sym, ap, List, [], ◌∷◌, ◌++◌, ℕ, length}
-use Rattle.std.specs.List.{zip}
-use Rattle.viper_scope.proofs.PairLaws.{zip_more}
+use Rattle.std.proofs.Common.{◌≡◌, ◌∙◌, ap, List, [], ◌∷◌, ◌++◌, ℕ, ◌==◌, None}
+use Rattle.std.specs.Cmp.Lexicographic.{pointwise}
+use Rattle.indexmap.specs.IndexMap.{IndexMap, insert_entry}
+use Rattle.indexmap.proofs.CallerLemmas.{insert_entry-new}
+use Rattle.viper_scope.specs.Context.{find}
 use Rattle.viper_scope.proofs.names.Names.declare.Goals as goal
 
-more : {X : Type 0} (ks ns : List (List ℕ)) (vs ws after : List X) (name copy : List ℕ) (value : X) → length ks ≡ length vs → copy ≡ name → ns ≡ ks ++ copy ∷ [] → ws ≡ vs → after ≡ ws ++ value ∷ [] → zip ns after ≡ zip ks vs ++ (name, value) ∷ []
-more ks ns vs ws after name copy value same copied added kept pushed =
-    (λ i. zip (added i) (pushed i)) ∙ (λ i. zip (ks ++ copied i ∷ []) (kept i ++ value ∷ [])) ∙ zip_more ks vs name value same
+entered : {X S : Type 0} (m : IndexMap (List ℕ) X S) (now after : List (List ℕ × X)) (name copy : List ℕ) (value : X) → m.entries ≡ now → find now name ≡ None → copy ≡ name → after ≡ insert_entry (pointwise ◌==◌) m.entries copy value → after ≡ now ++ (name, value) ∷ []
+entered m now after name copy value view absent copied inserted =
+    inserted ∙ ap (λ k. insert_entry (pointwise ◌==◌) m.entries k value) copied ∙
+    insert_entry-new (pointwise ◌==◌) m name value (ap (λ es. find es name) view ∙ absent) ∙
+    ap (λ es. es ++ (name, value) ∷ []) view
 
-pub returns-clause-ok : goal.returns-clause-ok
-returns-clause-ok g c =
-    more c.self.inside.names c.add.new.self c.self.inside.values.items c.reserve.new.self.items c.push_reserved.new.self.items c.args.name.now c.in_ok-name.name c.args.value
-    c.self.invariant c.in_ok-name.ensures c.in_ok-add.ensures.ok c.in_ok-reserve.ensures.items c.push_reserved.ensures.items
-    ∙ ap (λ es. es ++ (c.args.name.now, c.args.value) ∷ []) c.self.view_is
+pub returns : goal.returns
+returns g c = record {
+  ok = entered c.self.inside.entries c.args.self.now c.insert.new.self.entries c.args.name.now c.in_ok-copy.field-0 c.args.value c.self.view_is c.requires c.in_ok-copy.ensures c.in_ok-insert.ensures.entries;
+  err = tt;
+}
