@@ -142,7 +142,7 @@ pub fn write_prelude<S: Sink>(sink: &mut S) -> Result<(), Failed>
     write_all(sink, PRELUDE)
 }
 
-/// Sends a procedure's text up to its last local.
+/// Sends a procedure's text up to its last local. `Memory` where there is no memory for that text: then nothing was sent.
 pub fn write_head<S: Sink>(
     alloc: Global,
     name: &Ident,
@@ -158,7 +158,8 @@ pub fn write_head<S: Sink>(
     Ok(write_all(sink, &text)?)
 }
 
-/// Sends whole statements. Where several are sent of one procedure, `put_code` looks through its locals but once.
+/// Sends whole statements. Where several are sent of one procedure, `put_code` looks through its locals but once. `Memory` where
+/// there is no memory for their text: then nothing was sent.
 pub fn write_code<S: Sink>(
     alloc: Global,
     locals: &Vec<Local>,
@@ -176,7 +177,8 @@ pub fn write_code<S: Sink>(
     Ok(write_all(sink, &text)?)
 }
 
-/// Sends an `if` up to the `{` of its first block. Where there is no condition, `*` stands for it.
+/// Sends an `if` up to the `{` of its first block. Where there is no condition, `*` stands for it. `Memory` where there is no memory
+/// for that text: then nothing was sent.
 pub fn write_if<S: Sink>(
     alloc: Global,
     locals: &Vec<Local>,

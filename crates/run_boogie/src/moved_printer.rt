@@ -24,7 +24,8 @@ use vb_base::{Memory, put};
 use vb_value::{Content, Key, KeyPart, Value};
 use viper_state::{Event, Memo};
 
-/// The text of the run of a procedure that begins with these settings, and takes the choices that the events turn into.
+/// The text of the run of a procedure that begins with these settings, and takes the choices that the events turn into. `Memory`
+/// where there is no memory for it.
 pub fn print_moved_run(
     alloc: Global,
     proc: &Proc,

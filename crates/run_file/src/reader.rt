@@ -71,7 +71,7 @@ fn whole_run(front: ViperFront) -> Result<ViperRun, RunFileFault>
 
 /// The front, with so many choices, of the run of a unit that the bytes of a run file spell. The choices behind it are checked
 /// and counted, and not built: each heap and contents has a map for each field and each predicate. Bytes that spell no run go
-/// wrong as for `read_viper_run`.
+/// wrong as for `read_viper_run`. `Memory` where there is no memory for the front or for the names of the program.
 pub fn read_viper_front(
     alloc: Global,
     bytes: &[u8],

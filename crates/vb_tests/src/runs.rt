@@ -40,15 +40,61 @@ const PLACE: (&str, &str) = (
 0 ; viper run | var x #1 | pick true | value null | fresh #2 | value 5 ; viper run | var x #1 | pick true | value null | fresh #2 | value 5",
 );
 
-/// A list of cells, and a run of the method that reads its first number.
+/// Lists of cells, and runs of the method that reads the first number of one, and of the predicate of lists.
 const LIST: (&str, &str) = (
-    "field val: Int field next: Ref
-predicate cell(x: Ref) { acc(x.val) && x.val >= 0 }
-predicate list(x: Ref) { acc(x.next) && cell(x) && (x.next != null ==> list(x.next)) }
-method head(x: Ref) returns (v: Int) requires list(x)",
     "\
-2 ; viper run | var x #1 | content list #1 pair leaf null pair pair leaf 4 unit unit | pick true ; viper run | var x #1 | content list #1 pair leaf null pair pair leaf 4 unit unit | pick true
-2 ; viper run | content list #1 unit | var v 3 ; viper run | var v 3
+field val: Int
+field next: Ref
+predicate cell(x: Ref) { acc(x.val) && x.val >= 0 }
+predicate list(x: Ref) {
+  acc(x.next) && cell(x) && (x.next != null ==> list(x.next))
+}
+method make(v: Int) returns (r: Ref)
+  requires v >= 0
+  ensures list(r)
+{
+  r := new(val, next)
+  r.val := v
+  r.next := null
+  fold cell(r)
+  fold list(r)
+}
+method push(x: Ref, v: Int) returns (r: Ref)
+  requires list(x) && v >= 0
+  ensures list(r)
+{
+  r := new(*)
+  r.val := v
+  r.next := x
+  fold cell(r)
+  fold list(r)
+}
+method head(x: Ref) returns (v: Int)
+  requires list(x)
+  ensures list(x) && v >= 0
+{
+  unfold list(x)
+  unfold cell(x)
+  v := x.val
+  fold cell(x)
+  fold list(x)
+}
+method fill(n: Int) returns (r: Ref)
+  requires n >= 0
+  ensures list(r)
+{
+  var i: Int := 0
+  r := make(0)
+  while (i < n)
+    invariant list(r) && i >= 0
+  {
+    r := push(r, i)
+    i := i + 1
+  }
+}",
+    "\
+4 ; viper run | var x #1 | content list #1 pair leaf null pair pair leaf 4 unit unit | pick true ; viper run | var x #1 | content list #1 pair leaf null pair pair leaf 4 unit unit | pick true
+4 ; viper run | content list #1 unit | var v 3 ; viper run | var v 3
 1 ; viper run | content cell #2 leaf 4 | content list null leaf true | var x #2 ; viper run | var x #2 | content cell #2 leaf 4 | content list null leaf true",
 );
 

@@ -80,14 +80,16 @@ impl Content {
         }
     }
 
-    /// An equal content, which shares its parts and so takes nothing from `alloc`.
+    /// An equal content, which shares its parts and so takes nothing from `alloc`. `Memory` where a part is shared so often that one
+    /// more cannot be counted.
     pub fn copy(&self, alloc: Global) -> Result<Content, Memory>
         ensures { IfOk result (λ c. content_of c ≡ content_of self.now) }
     {
         Ok(self.clone()?)
     }
 
-    /// The pair of two contents. `Over` exactly where it would have more than `MAX_CONTENT_NODES` nodes.
+    /// The pair of two contents. `Over` exactly where it would have more than `MAX_CONTENT_NODES` nodes. `Memory` where there is no
+    /// memory to share its parts.
     pub fn pair(alloc: Global, left: Content, right: Content) -> Result<Content, PairFault>
         ensures over { (result ≡ Err PairFault.Over) ↔ (max_content_nodes < nodes (tree.Pair (content_of left) (content_of right))) }
         ensures value { IfOk result (λ c. content_of c ≡ tree.Pair (content_of left) (content_of right)) }
