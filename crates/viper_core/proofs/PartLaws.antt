@@ -1,6 +1,7 @@
 -- From a formed program to its parts, and from a part to those in it.
 use Rattle.std.proofs.Common.{◌≡◌, ◌∙◌, ◌≤◌, ◌+◌, ℕ, zero, suc, max, List, [], ◌∷◌, Option, Some, None, All, slice_get, get_or, length, ap, arith}
 use Rattle.std.proofs.lemmas.Option.{slice_get-get_or}
+use Rattle.vb_base.specs.Limits.{max_term_depth}
 use Rattle.vb_base.specs.declared.places.Pos.{Pos}
 use Rattle.vb_value.specs.declared.values.Ty.{Ty}
 use Rattle.vb_value.specs.declared.values.Ty.TheVariants as ty
@@ -64,7 +65,7 @@ pub body_part : (p : Program) → IsFormed p → (k : ℕ) (d : Predicate) (a : 
 body_part p h k d a exists has_body = record {
   context = predicate_has_context p h k d exists;
   typed = predicate_body_of_typed p h.typed k d a exists has_body;
-  nested = at_some (λ b. assertion_depth b ≤ 1024) d.body (predicate_of_typed p h.typed k d exists).nested a has_body;
+  nested = at_some (λ b. assertion_depth b ≤ max_term_depth) d.body (predicate_of_typed p h.typed k d exists).nested a has_body;
 }
 
 depth_among : (clauses : List t.Assertion) (i : ℕ) (a : t.Assertion) → slice_get clauses i ≡ Some a → assertion_depth a ≤ assertion_depths clauses
@@ -72,7 +73,7 @@ depth_among [] i a is = absurd (cc)
 depth_among (b ∷ rest) zero a is = let same : b ≡ a = cc in omega (arith, ap assertion_depth same)
 depth_among (b ∷ rest) (suc i) a is = omega (arith, depth_among rest i a is)
 
-pub clauses_parts : (c : Context) → IsContext c → (clauses : List t.Assertion) → All (IsAssertion c) clauses → assertion_depths clauses ≤ 1024 → All (IsPartAssertion c) clauses
+pub clauses_parts : (c : Context) → IsContext c → (clauses : List t.Assertion) → All (IsAssertion c) clauses → assertion_depths clauses ≤ max_term_depth → All (IsPartAssertion c) clauses
 clauses_parts c h clauses typed nested i d within = record {
   context = h;
   typed = typed i d within;
@@ -173,7 +174,7 @@ more_parts {c} {a} {rest} {u} {us} h =
 -- what is opened is the body of its predicate
 
 opens_parts : {c : Context} {k : ℕ} {es : t.Exprs} {m : t.Expr} {a : t.Assertion} {e : t.Expr} {at : Pos} {u : Ty} → IsContext c → Opens c (t.opened k es m a e at) u →
-    1 + max (depths es) (max (depth m) (depth e)) ≤ 1024 → OpensParts c k es m a e u
+    1 + max (depths es) (max (depth m) (depth e)) ≤ max_term_depth → OpensParts c k es m a e u
 opens_parts {c} {k} {es} {m} {a} {e} {at} {u} z (opens d exists has_body args m_typed inner) nested = record {
   predicate = d;
   exists = exists;

@@ -1,5 +1,6 @@
 -- From the statements of a formed program to their parts.
 use Rattle.std.proofs.Common.{◌≡◌, ◌≤◌, ◌⊎◌, inl, inr, ℕ, List, [], ◌∷◌, None, Some, All, slice_get, length, arith}
+use Rattle.vb_base.specs.Limits.{max_term_depth}
 use Rattle.vb_base.specs.declared.places.Pos.{Pos}
 use Rattle.vb_value.specs.declared.values.Ty.{Ty}
 use Rattle.vb_value.specs.declared.values.Ty.TheVariants as ty
@@ -214,7 +215,7 @@ asserted_part h = record { context = stmt_context h; typed = asserted_typed h.ty
 
 -- the instance of a `fold` or `unfold`, whose body stands in the context of its predicate
 
-fold_parts : {c : Context} {f : s.FoldStmt} → IsContext c → IsFold c f → fold_depth f ≤ 1024 → FoldParts c f
+fold_parts : {c : Context} {f : s.FoldStmt} → IsContext c → IsFold c f → fold_depth f ≤ max_term_depth → FoldParts c f
 fold_parts {c} {f} h typed nested = record {
   predicate = typed.predicate;
   body = typed.body;

@@ -1,17 +1,18 @@
 -- Laws of weights.
 use Rattle.std.proofs.Common.{◌≡◌, ◌+◌, ◌<◌, ◌≤◌, ℕ, zero, suc, List, [], ◌∷◌, Some, slice_get, refl, subst, arith}
 use Rattle.lemmas.proofs.Options.{one_item}
+use Rattle.vb_base.specs.Limits.{max_weight, too_heavy}
 use Rattle.viper_core.specs.Program.{Program, Predicate, Method}
 use Rattle.viper_core.specs.Weight.{predicate_weight, method_weight, predicates_weight, methods_weight, weight, told_weight}
 
 -- the told weight is within the limit exactly where the weight is, and is then the weight
-pub light_told : (p : Program) → told_weight p ≤ 100000 → weight p ≤ 100000
+pub light_told : (p : Program) → told_weight p ≤ max_weight → weight p ≤ max_weight
 light_told p h = omega (arith, h)
 
-pub told_light : (p : Program) → weight p ≤ 100000 → told_weight p ≡ weight p
+pub told_light : (p : Program) → weight p ≤ max_weight → told_weight p ≡ weight p
 told_light p h = omega (arith, h)
 
-pub heavy_told : (p : Program) → 100000 < weight p → told_weight p ≡ 100001
+pub heavy_told : (p : Program) → max_weight < weight p → told_weight p ≡ too_heavy
 heavy_told p h = omega (arith, h)
 
 -- a part weighs no more than the whole

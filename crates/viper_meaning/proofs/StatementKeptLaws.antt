@@ -6,6 +6,7 @@ use Rattle.std.proofs.lemmas.Bool.{ltb-true}
 use Rattle.std.proofs.lemmas.List.Elements.{All-nil, All-cons, All-append, All-head, All-tail}
 use Rattle.viper_state.proofs.ProperLaws.{none_proper}
 use Rattle.viper_core.proofs.LiteralLaws.{if_bounded as in_bound}
+use Rattle.vb_base.specs.Limits.{max_content_nodes}
 use Rattle.vb_base.specs.declared.labels.Kind.TheVariants as kind
 use Rattle.vb_base.specs.declared.places.Pos.{Pos}
 use Rattle.vb_value.specs.Bound.{Bound, Bounded, IfBounded}
@@ -343,8 +344,8 @@ module _ (b : Bound) (F S : Fraction → Type 0) (V : Value → Type 0) (K : Key
 
 -- ---- the two properties of numbers
 
-small_nodes : (c : Content) → is_small c ≡ true → nodes c ≤ 4096
-small_nodes c h = let few : nodes c < 4097 = ltb-true (nodes c) 4097 h in omega (arith, few)
+small_nodes : (c : Content) → is_small c ≡ true → nodes c ≤ max_content_nodes
+small_nodes c h = let few : nodes c < max_content_nodes + 1 = ltb-true (nodes c) (max_content_nodes + 1) h in omega (arith, few)
 
 within_contents : IsClosedContent Bounded IsWithinValue IsWithinContent (AllValues IsWithinValue)
 within_contents = record {

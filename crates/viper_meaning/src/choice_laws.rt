@@ -1,5 +1,4 @@
-//! Laws of the choices that a run takes, each as the contract of a function that does nothing; the last one reads a number,
-//! whose type tells what it keeps.
+//! Laws of the choices that a run takes, each as the contract of a function that does nothing.
 
 ghost use Rattle.std.specs.Prelude.{◌≡◌, ◌⊎◌, ℕ, ◌++◌, List, ◌∷◌, All, false};
 ghost use Rattle.vb_base.specs.declared.labels.Label.{Label};
@@ -14,7 +13,6 @@ ghost use Rattle.viper_state.specs.Event.{Event};
 ghost use Rattle.viper_state.specs.Fits.{FitsChoice};
 ghost use Rattle.viper_state.specs.Run.{Opening, Scene};
 ghost use Rattle.viper_state.specs.State.{State};
-ghost use Rattle.viper_state.specs.View.{choice_of};
 ghost use Rattle.viper_meaning.specs.Asked.{Splits, Passes, Asked, IsAsked, Asks, IsReducedChoice};
 ghost use Rattle.viper_meaning.specs.Assertions.{produce, consume};
 ghost use Rattle.viper_meaning.specs.Contents.{fold_instance};
@@ -22,8 +20,6 @@ ghost use Rattle.viper_meaning.specs.Forgotten.{forget};
 ghost use Rattle.viper_meaning.specs.Run.{Run, Step, Fails, Blocked, Short, ran, on, is_short};
 ghost use Rattle.viper_meaning.specs.Statements.{Activation, Configuration, run_stmt, run_block};
 ghost use Rattle.viper_meaning.specs.Units.{unit_run, Opens, ViperFails};
-
-use vb_value::{Frac, Value};
 
 /// A run that is not short took the first of its choices, and left the others. On those that it took, whatever stands behind
 /// them, it ends alike, with the same events, and leaves just that; on fewer of them it is short. So it is with each run:
@@ -76,8 +72,8 @@ pub fn what_was_not_asked_for_blocks()
 {}
 
 /// Choices that a run did not take need not fit. All that it took fit the program, unless it is blocked or short, where those
-/// that are given are in lowest terms, as the next law says of every choice. On just those it ends alike, with the same
-/// events. So a unit that fails on some choices fails on choices that fit, at the same label.
+/// that are given are in lowest terms, as each fraction of the program is by its type. On just those it ends alike, with the
+/// same events. So a unit that fails on some choices fails on choices that fit, at the same label.
 pub fn what_was_taken_fits()
     ensures stmt { (b : Bound) (a : Activation) (x : Stmt) (c : Configuration) (choices : List Choice) (events : List Event)
         (step : Step Configuration) (left : List Choice) → on (run_stmt b a x c) choices ≡ ran events step left → Passes step
@@ -95,15 +91,3 @@ pub fn what_was_taken_fits()
         (left : List Choice) → Opens program n o → All IsReducedChoice choices
         → on (unit_run Unbounded program n o) choices ≡ ran events (Fails label) left → ViperFails program n label }
 {}
-
-/// Each value and each amount that is a choice is in lowest terms.
-pub fn a_choice_is_in_lowest_terms(choice: &viper_state::Choice)
-    ensures { IsReducedChoice (choice_of choice.now) }
-{
-    match choice {
-        viper_state::Choice::Took(Value::Perm(q)) | viper_state::Choice::Amount(q) => {
-            let _num = Frac::num(*q);
-        }
-        _ => {}
-    }
-}

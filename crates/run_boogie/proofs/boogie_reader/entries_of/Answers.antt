@@ -3,5 +3,4 @@ use Rattle.run_boogie.proofs.boogie_reader.entries_of.Goals as goal
 
 pub loop-key-init : goal.loop-key-init
 loop-key-init c =
-    let pairs = rw c.in_ok-pairs.ensures at c.into_entries.ensures.entries in
-    rw c.in_ok-entries.ensures.items (all_left c.args.filled _ _ pairs c.into_iter-key-iterator.ensures.into_iter_gives.0)
+    rw c.in_ok-entries.ensures.items (all_left c.args.filled _ _ c.in_ok-pairs.ensures.entries c.into_iter-key-iterator.ensures.into_iter_gives.0)

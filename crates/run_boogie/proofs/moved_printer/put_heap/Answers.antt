@@ -7,5 +7,5 @@ use Rattle.run_boogie.proofs.moved_printer.put_heap.Goals as goal
 
 pub returns-clause-named : goal.returns-clause-named
 returns-clause-named c =
-    let all = ap borrowed c.deref.ensures.value ∙ (rw c.in_ok-entries.ensures at c.entries.ensures.entries) in
+    let all = ap borrowed c.deref.ensures.value ∙ c.in_ok-entries.ensures.entries in
     on_ok_weaker c.put_places.result (λ named. subst (λ es. All IsNamedEntry (map place_entry es)) all named) c.put_places.ensures.named

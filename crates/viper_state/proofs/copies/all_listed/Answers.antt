@@ -1,4 +1,4 @@
-use Rattle.std.proofs.Common.{◌≡◌, ◌∙◌, ap, subst, sym, take, true, IfOk, ◌+◌}
+use Rattle.std.proofs.Common.{◌≡◌, ◌∙◌, ap, subst, sym, take, true, ◌+◌}
 use Rattle.std.specs.List.{AllZip}
 use Rattle.std.specs.Map.{keys_of}
 use Rattle.sparse.specs.Map.{borrowed}
@@ -11,8 +11,7 @@ listed-requires g c = c.requires.keys
 
 pub loop-map-preserved : goal.loop-map-preserved
 loop-map-preserved g c =
-    let listing = subst (λ r. IfOk r (λ list. borrowed list.items ≡ c.map-item.result.entries)) c.in_ok-entries.ensures c.entries.ensures.entries in
-    let all = ap borrowed c.deref.ensures.value ∙ listing in
+    let all = ap borrowed c.deref.ensures.value ∙ c.in_ok-entries.ensures.entries in
     subst (λ vs. AllZip (HasKeys g.K.Ord.cmp) (take (c.loop-map.map-index + 1) c.args.maps.now) vs) (sym c.in_ok-push.ensures.items)
     (one_more_list g.K.Ord.cmp c.args.maps.now c.loop-map.map-index c.map-item.result c.loop-map.lists.items c.in_ok-listed.field-0 c.loop-map-test.true c.map-item.is c.loop-map.invariant
     (λ k h. c.in_ok-listed.ensures k (subst (λ es. is_listed g.K.Ord.cmp (keys_of es) k ≡ true) (sym all) h)))
