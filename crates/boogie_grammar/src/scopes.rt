@@ -6,9 +6,9 @@ ghost use Rattle.std.specs.Str.{bytes_eq};
 ghost use Rattle.boogie_grammar.specs.Tests.{number_of, some_free};
 ghost use Rattle.boogie_grammar.specs.Words.{is_among, is_reserved};
 
-use name_table::NameTable;
 use std::alloc::Global;
 use std::marker::Model;
+use symbol_table::{NameKey, SymbolTable};
 use vb_base::{Ident, Memory, same_bytes};
 
 /// Whether a name is reserved. Each that is has letters alone, which is tried first: most names of a translation have a `$`.
@@ -63,7 +63,7 @@ fn is_some_free(names: &[Ident]) -> bool
 /// Names that differ, each with its number. Contracts see the list of them.
 #[derive(Drop)]
 pub struct Names {
-    names: NameTable,
+    names: SymbolTable,
 }
 
 impl Model for Names {
@@ -75,20 +75,25 @@ impl Model for Names {
 }
 
 impl Names {
-    /// No names.
-    pub fn new(alloc: Global) -> Names
+    /// No names, which are hashed by this key.
+    pub fn new(alloc: Global, key: NameKey) -> Names
         ensures { result ≡ [] }
     {
         Names {
-            names: NameTable::new(alloc),
+            names: SymbolTable::new(alloc, key),
         }
+    }
+
+    /// The key by which names are hashed.
+    pub fn key(&self) -> NameKey {
+        self.names.key()
     }
 
     /// The number of a name.
     pub fn number_of(&self, name: &Ident) -> Option<usize>
         ensures { result ≡ number_of name.now self.now }
     {
-        self.names.number_of(name.bytes())
+        self.names.number_of(name)
     }
 
     /// Whether a name is one of these.

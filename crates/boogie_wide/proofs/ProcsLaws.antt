@@ -1,84 +1,70 @@
--- The first procedure of a name in two ways more: by the number of the name, and as code searches for it.
-use Rattle.std.proofs.Common.{◌≡◌, ◌∙◌, ◌≤◌, ◌<◌, ◌+◌, ℕ, suc, Bool as Truth, true, false, not, cond, Option, Some, None, List, [], ◌∷◌, ◌++◌, map, take, get_or, slice_get, length, nat_lt, Bor, refl, sym, ap, arith}
+-- The first procedure of a name in two ways more: by its number in a table, and as code searches for it.
+use Rattle.std.proofs.Common.{◌≡◌, ◌∙◌, ◌≤◌, ◌<◌, ◌+◌, ◌-◌, ◌==◌, ℕ, Bool as Truth, true, false, cond, Option, Some, None, List, [], ◌∷◌, map, drop, get_or, slice_get, length, nat_lt, Bor, refl, sym, ap, arith}
 use Rattle.std.proofs.lemmas.Bool.Decides.{nat_tests}
-use Rattle.std.proofs.lemmas.Cmp.{nat_list_eq_equiv}
-use Rattle.std.proofs.lemmas.List.{length-map}
 use Rattle.std.proofs.lemmas.Option.{slice_get_past}
-use Rattle.std.specs.List.{find, position, position_or_len}
+use Rattle.std.specs.Cmp.Lexicographic.{pointwise}
+use Rattle.std.specs.Map.{lookup}
 use Rattle.std.specs.Option.{option_map, is_some, IfSome}
 use Rattle.std.specs.Str.{bytes_eq}
-use Rattle.lemmas.proofs.Lists.{item_at, map_append, take_through}
+use Rattle.lemmas.proofs.Lists.{next_item, item_at}
+use Rattle.boogie_wide.specs.Numbers.{HaveNumbers, at_number, first_named}
 use Rattle.boogie_wide.specs.Procedures.{proc_named}
 use Rattle.boogie_wide.specs.View.{wproc_of}
-use Rattle.boogie_wide.specs.Wide as w
 use Rattle.boogie_wide.specs.declared.wide.WProc.{WProc}
 
--- ---- the names in order
+-- ---- numbers
 
-abbrev pub names_of : List WProc → List (List ℕ)
-names_of ds = map (λ (d : WProc). d.name) ds
+-- the table has the numbers of the procedures from the number i on
+abbrev pub HaveNumbersFrom : List (List ℕ × ℕ) → ℕ → List WProc → Type 0
+HaveNumbersFrom numbers i ds = (name : List ℕ) → at_number ds (lookup (pointwise ◌==◌ name) numbers) ≡ first_named (drop i ds) name
 
-pub one_more_name : (ds : List WProc) (i : ℕ) (d : WProc) (name : List ℕ) (old new : List (List ℕ)) → i < length ds → d ≡ get_or ds i d → name ≡ d.name → old ≡ names_of (take i ds) →
-    new ≡ old ++ name ∷ [] → new ≡ names_of (take (i + 1) ds)
-one_more_name ds i d name old new lt is copied so_far added =
-    added ∙ (λ j. so_far j ++ copied j ∷ [])
-    ∙ sym (ap names_of (take_through ds i d (item_at ds i d lt is)) ∙ map_append (λ (x : WProc). x.name) (take i ds) (d ∷ []))
+one_more : (ds : List WProc) (number : ℕ) (d : WProc) (b : Truth) (o : Option ℕ) (p : Option WProc) → slice_get ds number ≡ Some d → at_number ds o ≡ p →
+    at_number ds (cond b (Some number) o) ≡ cond b (Some d) p
+one_more ds number d true o p there h = there
+one_more ds number d false o p there h = h
 
--- ---- the procedure of a number
+pub numbers_next : (ds : List WProc) (number later : ℕ) (d : WProc) (old new : List (List ℕ × ℕ)) (key : List ℕ) → later < length ds → number ≡ length ds - 1 - later → d ≡ get_or ds number d → key ≡ d.name →
+    HaveNumbersFrom old (length ds - later) ds →
+    ((name : List ℕ) → lookup (pointwise ◌==◌ name) new ≡ cond (pointwise ◌==◌ key name) (Some number) (lookup (pointwise ◌==◌ name) old)) → HaveNumbersFrom new (length ds - (later + 1)) ds
+numbers_next ds number later d old new key lt at is named so_far inserted = λ name.
+    let here : number ≡ length ds - (later + 1) = omega (arith, at, lt) in
+    let next : length ds - later ≡ number + 1 = omega (arith, at, lt) in
+    let within : number < length ds = omega (arith, at, lt) in
+    ap (at_number ds) (inserted name ∙ ap (λ k. cond (bytes_eq k name) (Some number) (lookup (pointwise ◌==◌ name) old)) named)
+    ∙ one_more ds number d (bytes_eq d.name name) (lookup (pointwise ◌==◌ name) old) (first_named (drop (number + 1) ds) name) (item_at ds number d within is)
+    (so_far name ∙ ap (λ k. first_named (drop k ds) name) next)
+    ∙ sym (ap (λ xs. first_named xs name) (next_item ds number d within is))
+    ∙ ap (λ k. first_named (drop k ds) name) here
 
-at_first : (b : Truth) (d : WProc) (ds : List WProc) (k : ℕ) (o : Option w.WProc) → o ≡ option_map wproc_of (slice_get ds k) → cond b (Some (wproc_of d)) o ≡ option_map wproc_of (slice_get (d ∷ ds) (cond (not b) (1 + k) 0))
-at_first true d ds k o h = refl
-at_first false d ds k o h = let one : suc k ≡ 1 + k = omega arith in h ∙ ap (λ j. option_map wproc_of (slice_get (d ∷ ds) j)) one
+pub numbers_done : (ds : List WProc) (numbers : List (List ℕ × ℕ)) (later : ℕ) → length ds ≤ later → HaveNumbersFrom numbers (length ds - later) ds → HaveNumbers numbers ds
+numbers_done ds numbers later end h = λ name.
+    let zero_left : length ds - later ≡ 0 = omega (arith, end) in
+    h name ∙ ap (λ k. first_named (drop k ds) name) zero_left ∙ ap (λ xs. first_named xs name) (drop_none ds)
+  where
+    drop_none : (xs : List WProc) → drop 0 xs ≡ xs
+    drop_none [] = refl
+    drop_none (x ∷ xs) = refl
 
-looked : (ds : List WProc) (name : List ℕ) → proc_named (map wproc_of ds) name ≡ option_map wproc_of (slice_get ds (position_or_len (bytes_eq name) (names_of ds)))
-looked [] name = refl
-looked (d ∷ ds) name =
-    ap (λ b. cond b (Some (wproc_of d)) (proc_named (map wproc_of ds) name)) (nat_list_eq_equiv.symm d.name name)
-    ∙ at_first (bytes_eq name d.name) d ds (position_or_len (bytes_eq name) (names_of ds)) (proc_named (map wproc_of ds) name) (looked ds name)
+pub got : (ds : List WProc) (i : ℕ) (o : Option (Bor WProc)) → is_some o ≡ nat_lt i (length ds) → IfSome o (λ x. x.now ≡ get_or ds i x.now) → option_map (λ (d : Bor WProc). d.now) o ≡ slice_get ds i
+got ds i None h is = let past : length ds ≤ i = grind (arith, nat_tests, h) in sym (slice_get_past ds i past)
+got ds i (Some d) h is = let within : i < length ds = grind (arith, nat_tests, h) in sym (item_at ds i d.now within is)
 
-past : (b : Truth) (k n : ℕ) → nat_lt k n ≡ b → None ≡ cond b (Some k) None → n ≤ k
-past true k n e h = absurd cc
-past false k n e h = grind (arith, nat_tests, e)
+-- ---- the procedure of a name
 
-same_place : (b : Truth) (i k : ℕ) → Some i ≡ cond b (Some k) None → i ≡ k
-same_place true i k h = cc
-same_place false i k h = absurd cc
-
--- a name that has no number is no procedure's
-pub none_named : (ds : List WProc) (name : List ℕ) → None ≡ position (bytes_eq name) (names_of ds) → proc_named (map wproc_of ds) name ≡ None
-none_named ds name h =
-    let k = position_or_len (bytes_eq name) (names_of ds) in
-    let over = past (nat_lt k (length (names_of ds))) k (length (names_of ds)) refl h in
-    let long : length (names_of ds) ≡ length ds = length-map ds (λ (d : WProc). d.name) in
-    looked ds name ∙ ap (option_map wproc_of) (slice_get_past ds k (omega (arith, over, long)))
-
--- one that has one is that of the procedure there
-pub number_named : (ds : List WProc) (name : List ℕ) (i : ℕ) → Some i ≡ position (bytes_eq name) (names_of ds) → proc_named (map wproc_of ds) name ≡ option_map wproc_of (slice_get ds i)
-number_named ds name i h =
-    let k = position_or_len (bytes_eq name) (names_of ds) in
-    looked ds name ∙ ap (λ j. option_map wproc_of (slice_get ds j)) (sym (same_place (nat_lt k (length (names_of ds))) i k h))
-
-pub got : (ds : List WProc) (i : ℕ) (o : Option (Bor WProc)) → is_some o ≡ nat_lt i (length ds) → IfSome o (λ x. x.now ≡ get_or ds i x.now) →
-    option_map (λ (d : Bor WProc). wproc_of d.now) o ≡ option_map wproc_of (slice_get ds i)
-got ds i None h is = let past : length ds ≤ i = grind (arith, nat_tests, h) in ap (option_map wproc_of) (sym (slice_get_past ds i past))
-got ds i (Some d) h is = let within : i < length ds = grind (arith, nat_tests, h) in ap (option_map wproc_of) (sym (item_at ds i d.now within is))
-
--- ---- the procedure of a name, as it is searched for
-
-named_is : (ds : List WProc) (name : List ℕ) → proc_named (map wproc_of ds) name ≡ option_map wproc_of (find (λ d. bytes_eq (wproc_of d).name name) ds)
+named_is : (ds : List WProc) (name : List ℕ) → proc_named (map wproc_of ds) name ≡ option_map wproc_of (first_named ds name)
 named_is [] name = refl
 named_is (d ∷ ds) name = at (bytes_eq (wproc_of d).name name) (named_is ds name)
   where
-    at : (p : Truth) → proc_named (map wproc_of ds) name ≡ option_map wproc_of (find (λ d. bytes_eq (wproc_of d).name name) ds) →
-        cond p (Some (wproc_of d)) (proc_named (map wproc_of ds) name) ≡ option_map wproc_of (cond p (Some d) (find (λ d. bytes_eq (wproc_of d).name name) ds))
+    at : (p : Truth) → proc_named (map wproc_of ds) name ≡ option_map wproc_of (first_named ds name) →
+        cond p (Some (wproc_of d)) (proc_named (map wproc_of ds) name) ≡ option_map wproc_of (cond p (Some d) (first_named ds name))
     at true h = refl
     at false h = h
 
-pub searched_is : (ds : List WProc) (name : List ℕ) (o : Option (Bor WProc)) → option_map (λ (d : Bor WProc). d.now) o ≡ find (λ d. bytes_eq (wproc_of d).name name) ds →
+pub first_is : (ds : List WProc) (name : List ℕ) (o : Option (Bor WProc)) → option_map (λ (d : Bor WProc). d.now) o ≡ first_named ds name →
     option_map (λ (d : Bor WProc). wproc_of d.now) o ≡ proc_named (map wproc_of ds) name
-searched_is ds name o h = at o h ∙ sym (named_is ds name)
+first_is ds name o h = at o h ∙ sym (named_is ds name)
   where
-    at : (o : Option (Bor WProc)) → option_map (λ (d : Bor WProc). d.now) o ≡ find (λ d. bytes_eq (wproc_of d).name name) ds →
-        option_map (λ (d : Bor WProc). wproc_of d.now) o ≡ option_map wproc_of (find (λ d. bytes_eq (wproc_of d).name name) ds)
+    at : (o : Option (Bor WProc)) → option_map (λ (d : Bor WProc). d.now) o ≡ first_named ds name →
+        option_map (λ (d : Bor WProc). wproc_of d.now) o ≡ option_map wproc_of (first_named ds name)
     at None h = ap (option_map wproc_of) h
     at (Some d) h = ap (option_map wproc_of) h

@@ -1,5 +1,6 @@
 pub mod Wide
 pub mod View
+pub mod Numbers
 pub mod Procedures
 pub mod WideTypes
 pub mod Changed

@@ -1,22 +1,24 @@
 // Procedures by their names.
-ghost use Rattle.std.specs.Prelude.{◌≡◌, map, find, IfOk};
+ghost use Rattle.std.specs.Prelude.{◌≡◌, map, IfOk};
 ghost use Rattle.std.specs.Option.{option_map, ForSome};
 ghost use Rattle.std.specs.Str.{bytes_eq};
+ghost use Rattle.boogie_wide.specs.Numbers.{HaveNumbers, first_named};
 ghost use Rattle.boogie_wide.specs.Procedures.{proc_named};
 ghost use Rattle.boogie_wide.specs.View.{wproc_of};
 
 use crate::wide::WProc;
-use name_table::NameTable;
+use indexmap::IndexMap;
 use std::alloc::Global;
+use symbol_table::{Digest, NameKey};
 use vb_base::{Ident, Memory};
 
 /// The procedures of a program, each found by its name.
 #[derive(Drop)]
 pub struct Procs<'a> {
     pub all: &'a [WProc],
-    /// Their names in order. Where there is no table, a name is searched for.
-    names: Option<NameTable>,
-    ghost are_names: { ForSome names (λ table. table ≡ map (λ d. d.name) all.now) },
+    /// The number of the first one of each name. Where there is no table, a name is searched for.
+    numbers: Option<IndexMap<Ident, usize, NameKey>>,
+    ghost have_numbers: { ForSome numbers (λ table. HaveNumbers table.entries all.now) },
 }
 
 impl<'a> Procs<'a> {
@@ -24,45 +26,60 @@ impl<'a> Procs<'a> {
     pub fn of(alloc: Global, all: &'a [WProc]) -> Result<Procs<'a>, Memory>
         ensures { IfOk result (λ procs. procs.all.now ≡ all.now) }
     {
-        let names = Some(names_of(alloc, all)?);
-        Ok(Procs { all, names })
+        let numbers = Some(numbers_of(alloc, all)?);
+        Ok(Procs { all, numbers })
     }
 
     /// These procedures, without a table, which takes no memory.
     pub fn without_table(all: &'a [WProc]) -> Procs<'a>
         ensures { result.all.now ≡ all.now }
     {
-        Procs { all, names: None }
+        Procs { all, numbers: None }
     }
 
     /// The first procedure of this name.
     pub fn named(&self, name: &Ident) -> Option<&WProc>
         ensures { option_map (λ d. wproc_of d.now) result ≡ proc_named (map wproc_of self.now.all.now) name.now }
     {
-        match &self.names {
+        match &self.numbers {
             Some(table) => numbered(table, self.all, name),
             None => searched(self.all, name),
         }
     }
 }
 
-/// The names of the procedures in order.
-fn names_of(alloc: Global, all: &[WProc]) -> Result<NameTable, Memory>
-    ensures { IfOk result (λ table. table ≡ map (λ d. d.name) all.now) }
-{
-    let mut names = NameTable::new(alloc);
+/// A key that comes of the names of all these.
+fn key_of(all: &[WProc]) -> NameKey {
+    let mut digest = Digest::new();
     for proc in all {
-        names.add(proc.name.copy()?)?;
+        digest.add(proc.name.bytes());
     }
-    Ok(names)
+    digest.key()
 }
 
-fn numbered<'a>(table: &NameTable, all: &'a [WProc], name: &Ident) -> Option<&'a WProc>
-    requires { table.now ≡ map (λ d. d.name) all.now }
-    ensures { option_map (λ d. wproc_of d.now) result ≡ proc_named (map wproc_of all.now) name.now }
+/// The number of the first procedure of each name.
+fn numbers_of(alloc: Global, all: &[WProc]) -> Result<IndexMap<Ident, usize, NameKey>, Memory>
+    ensures { IfOk result (λ table. HaveNumbers table.entries all.now) }
 {
-    let number = table.number_of(name.bytes())?;
-    all.get(number)
+    let mut numbers = IndexMap::with_hasher(alloc, key_of(all));
+    // The last one first, so that the first one of a name stays.
+    for later in 0..all.len() {
+        let number = all.len() - 1 - later;
+        numbers.insert(all[number].name.copy()?, number)?;
+    }
+    Ok(numbers)
+}
+
+fn numbered<'a>(
+    table: &IndexMap<Ident, usize, NameKey>,
+    all: &'a [WProc],
+    name: &Ident,
+) -> Option<&'a WProc>
+    requires { HaveNumbers table.now.entries all.now }
+    ensures { option_map (λ d. d.now) result ≡ first_named all.now name.now }
+{
+    let number = table.get(name)?;
+    all.get(*number)
 }
 
 fn is_named(proc: &WProc, name: &Ident) -> bool
@@ -72,7 +89,7 @@ fn is_named(proc: &WProc, name: &Ident) -> bool
 }
 
 fn searched<'a>(all: &'a [WProc], name: &Ident) -> Option<&'a WProc>
-    ensures { option_map (λ d. d.now) result ≡ find (λ d. bytes_eq (wproc_of d).name name.now) all.now }
+    ensures { option_map (λ d. d.now) result ≡ first_named all.now name.now }
 {
     all.iter().find(|proc| is_named(proc, name))
 }

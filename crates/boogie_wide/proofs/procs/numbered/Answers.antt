@@ -1,20 +1,13 @@
-use Rattle.std.proofs.Common.{◌≡◌, ◌∙◌, None, Some, sym, ap}
-use Rattle.std.specs.List.{position}
+use Rattle.std.proofs.Common.{◌∙◌, ap}
 use Rattle.std.specs.Option.{option_map}
-use Rattle.std.specs.Str.{bytes_eq}
-use Rattle.boogie_wide.specs.View.{wproc_of}
-use Rattle.boogie_wide.proofs.ProcsLaws.{names_of, none_named, number_named, got}
+use Rattle.boogie_wide.specs.Numbers.{at_number}
+use Rattle.boogie_wide.proofs.ProcsLaws.{got}
 use Rattle.boogie_wide.proofs.procs.numbered.Goals as goal
 
 pub returns-in_err-number : goal.returns-in_err-number
-returns-in_err-number c =
-    let ds = c.args.all.now in
-    let none : None ≡ position (bytes_eq c.args.name.now) (names_of ds) = c.in_err-number.ensures ∙ (λ i. position (bytes_eq (c.bytes.ensures i)) (c.requires i)) in
-    ap (option_map (λ d. wproc_of d.now)) c.from_residual.ensures ∙ sym (none_named ds c.args.name.now none)
+returns-in_err-number c = ap (option_map (λ d. d.now)) c.from_residual.ensures ∙ ap (at_number c.args.all.now) c.in_err-number.ensures.value ∙ c.requires c.args.name.now
 
 pub returns : goal.returns
 returns c =
-    let ds = c.args.all.now in
-    let number = c.in_ok-number.number in
-    let there : Some number ≡ position (bytes_eq c.args.name.now) (names_of ds) = c.in_ok-number.ensures ∙ (λ i. position (bytes_eq (c.bytes.ensures i)) (c.requires i)) in
-    got ds number c.get.result c.get.ensures.lookup.0 c.get.ensures.lookup.1 ∙ sym (number_named ds c.args.name.now number there)
+    got c.args.all.now c.in_ok-number.number.now c.get-2.result c.get-2.ensures.lookup.0 c.get-2.ensures.lookup.1
+    ∙ ap (at_number c.args.all.now) c.in_ok-number.ensures.value ∙ c.requires c.args.name.now

@@ -5,5 +5,4 @@ use Rattle.boogie_grammar.proofs.ScopeLaws.{position_is}
 use Rattle.boogie_grammar.proofs.scopes.Names.number_of.Goals as goal
 
 pub returns : goal.returns
-returns c =
-    c.number_of.ensures ∙ (ap (λ x. position (bytes_eq x) c.self.inside.names) c.bytes.ensures ∙ (ap (position (bytes_eq c.args.name.now)) c.self.view_is ∙ position_is c.args.name.now c.args.self.now))
+returns c = c.number_of.ensures ∙ ap (position (bytes_eq c.args.name.now)) c.self.view_is ∙ position_is c.args.name.now c.args.self.now
