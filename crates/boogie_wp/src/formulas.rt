@@ -62,9 +62,16 @@ fn finish(vars: Vec<BType>, end: Builder) -> Conditions
     }
 }
 
-fn conditions_of_procedure(alloc: Global, proc: &Proc) -> Result<Conditions, Memory>
+/// The conditions of a well-typed procedure. At values of the variables an assertion with a label fails exactly where the procedure
+/// fails there, from the values of its locals and on the choices that the run meets. Where the procedure can be printed, so can the
+/// conditions. `Memory` where there is no memory.
+pub fn conditions_of_procedure(alloc: Global, proc: &Proc) -> Result<Conditions, Memory>
     requires { IsTypedProc (proc_of proc.now) }
-    ensures { IfOk result (λ x. conditions_of x ≡ conditions_for (proc_of proc.now)) }
+    ensures built { IfOk result (λ x. conditions_of x ≡ conditions_for (proc_of proc.now)) }
+    ensures follows { IfOk result (λ x. ConditionsFollow (proc_of proc.now) (conditions_of x)) }
+    ensures exact { IfOk result (λ x. AreExact (proc_of proc.now) (conditions_of x)) }
+    ensures typed { IfOk result (λ x. IsTypedConditions (conditions_of x)) }
+    ensures printable { FitStmts (length (proc_of proc.now).locals) (proc_of proc.now).body → IfOk result (λ x. IsPrintableConditions (conditions_of x)) }
 {
     let vars = variables(alloc, proc)?;
     let n = vars.len();
@@ -73,9 +80,8 @@ fn conditions_of_procedure(alloc: Global, proc: &Proc) -> Result<Conditions, Mem
     Ok(finish(vars, builder))
 }
 
-/// The conditions of the procedure of this number, from 0 on, of a well-typed program. At values of the variables an assertion with
-/// a label fails exactly where the procedure fails there, from the values of its locals and on the choices that the run meets. Where
-/// the procedure can be printed, so can the conditions. `Memory` where there is no memory.
+/// The conditions of the procedure of this number, from 0 on, of a well-typed program, as `conditions_of_procedure`. `Memory` where
+/// there is no memory.
 pub fn conditions(alloc: Global, program: &BProgram, proc: usize) -> Result<Conditions, Memory>
     requires typed { IsTypedProgram (program_of program.now) }
     requires exists { proc < length (program_of program.now).procs }

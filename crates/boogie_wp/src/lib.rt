@@ -13,4 +13,4 @@ pub mod worked;
 
 pub use boogie_formula::{Conditions, FExpr, Fail, Formula};
 pub use formula_text::{print_conditions, print_formula};
-pub use formulas::{conditions, formula};
+pub use formulas::{conditions, conditions_of_procedure, formula};

@@ -15,9 +15,9 @@ returns c =
     let there = proc_there ds c.args.proc d c.requires.exists c.index.ensures in
     let typed = c.requires.typed c.args.proc (proc_of d) there in
     record {
-      built = λ e h. IfOk-weaker c.conditions_of_procedure.result _ _ (λ x is. they_are_built ds c.args.proc d there typed (conditions_of x) is e h) c.conditions_of_procedure.ensures;
-      follows = λ e h. IfOk-weaker c.conditions_of_procedure.result _ _ (λ x is. they_follow ds c.args.proc d there typed (conditions_of x) is e h) c.conditions_of_procedure.ensures;
-      exact = λ e h. IfOk-weaker c.conditions_of_procedure.result _ _ (λ x is. they_are_exact ds c.args.proc d there typed (conditions_of x) is e h) c.conditions_of_procedure.ensures;
-      typed = IfOk-weaker c.conditions_of_procedure.result _ _ (λ x is. they_are_typed ds c.args.proc d there typed (conditions_of x) is) c.conditions_of_procedure.ensures;
-      printable = λ e h fits. IfOk-weaker c.conditions_of_procedure.result _ _ (λ x is. they_are_printable ds c.args.proc d there typed (conditions_of x) is e h fits) c.conditions_of_procedure.ensures;
+      built = λ e h. IfOk-weaker c.conditions_of_procedure.result _ _ (λ x is. they_are_built ds c.args.proc d there typed (conditions_of x) is e h) c.conditions_of_procedure.ensures.built;
+      follows = λ e h. IfOk-weaker c.conditions_of_procedure.result _ _ (λ x is. they_follow ds c.args.proc d there typed (conditions_of x) is e h) c.conditions_of_procedure.ensures.built;
+      exact = λ e h. IfOk-weaker c.conditions_of_procedure.result _ _ (λ x is. they_are_exact ds c.args.proc d there typed (conditions_of x) is e h) c.conditions_of_procedure.ensures.built;
+      typed = IfOk-weaker c.conditions_of_procedure.result _ _ (λ x is. they_are_typed ds c.args.proc d there typed (conditions_of x) is) c.conditions_of_procedure.ensures.built;
+      printable = λ e h fits. IfOk-weaker c.conditions_of_procedure.result _ _ (λ x is. they_are_printable ds c.args.proc d there typed (conditions_of x) is e h fits) c.conditions_of_procedure.ensures.built;
     }
