@@ -1,49 +1,10 @@
 // Files and streams: whole files and texts over devices that give and take little, and that fail.
-use crate::rows::{Rows, check, four};
 use std::alloc::Global;
 use std::fs;
 use std::rt::Files;
 use vb_outer::{
     DiskShelf, Failed, FileFault, MemFile, MemShelf, MemSink, Shelf, StdSink, read_file, write_all,
 };
-
-/// How many bytes a read gives at most, the calls that fail, the limit, and what comes of a file that says `hello`. The
-/// first call begins the file, and a read of nothing ends it.
-const READS: &str = "\
-2 none 5 hello
-2 6,0 5 hello
-2 1 5 Failed
-2 7,5 5 Failed
-2 none 4 Long
-2 5 4 Long
-2 4 4 Failed
-9 4 9 hello
-9 3 5 Failed
-9 3 4 Long
-1 3 0 Long
-1 7 5 Failed";
-
-/// How many bytes a write takes at most, the calls that fail, and what is written of `0123456789`. A sink that takes all of
-/// a text is called once.
-const WRITES: &str = "\
-4 none 0123456789 Ok
-4 1 - Failed
-4 2 0123 Failed
-4 9,3 01234567 Failed
-4 4,0 0123456789 Ok
-1 10 012345678 Failed
-99 2 0123456789 Ok";
-
-/// The numbers of the calls that fail.
-fn failing(alloc: Global, text: &str) -> Option<Vec<u64>> {
-    let mut calls = Vec::new(alloc);
-    if text != "none" {
-        for each in text.split(',') {
-            calls.push(each.parse::<u64>().ok()?).ok()?;
-        }
-    }
-    Some(calls)
-}
 
 /// A file, `note`, that says `hello`.
 fn note(alloc: Global) -> Option<MemFile> {
@@ -52,57 +13,18 @@ fn note(alloc: Global) -> Option<MemFile> {
     Some(MemFile { name, bytes })
 }
 
-/// A shelf with the file `note` alone.
-fn note_shelf(alloc: Global, calls: &str, most: usize) -> Option<MemShelf> {
-    if most == 0 {
-        return None;
-    }
-    let failing = failing(alloc, calls)?;
+/// A shelf with the file `note` alone, which gives three bytes a call.
+fn note_shelf(alloc: Global) -> Option<MemShelf> {
     let files = vec![in alloc; note(alloc)?].ok()?;
-    Some(MemShelf::make(files, failing, most))
+    Some(MemShelf::make(files, Vec::new(alloc), 3))
 }
 
-/// Whether the file `note` is read as it should be: wholly, or with the fault of that name.
-fn is_read<H: Shelf>(alloc: Global, shelf: &mut H, limit: usize, want: &str) -> bool {
-    match read_file(alloc, shelf, "note", limit) {
-        Ok(bytes) => bytes.as_slice() == want.as_bytes(),
-        Err(FileFault::Memory) => false,
-        Err(FileFault::Failed) => want == "Failed",
-        Err(FileFault::Long) => want == "Long",
+/// Whether the file `note` is read as it should be.
+fn is_note<H: Shelf>(alloc: Global, shelf: &mut H) -> bool {
+    match read_file(alloc, shelf, "note", 5) {
+        Ok(bytes) => bytes.as_slice() == b"hello".as_slice(),
+        Err(_) => false,
     }
-}
-
-pub(crate) fn read_row(alloc: Global, row: &str) -> Option<bool> {
-    let (most, calls, limit, want) = four(row, " ")?;
-    let limit = limit.parse::<usize>().ok()?;
-    let mut shelf = note_shelf(alloc, calls, most.parse::<usize>().ok()?)?;
-    Some(is_read(alloc, &mut shelf, limit, want))
-}
-
-/// A sink that takes so much.
-fn sink(alloc: Global, calls: &str, most: usize) -> Option<MemSink> {
-    if most == 0 {
-        return None;
-    }
-    MemSink::make(alloc, failing(alloc, calls)?, most).ok()
-}
-
-/// Whether a text is written wholly, or up to its front.
-fn is_written(sink: &mut MemSink, front: &str, end: &str) -> bool {
-    let is_whole = write_all(sink, b"0123456789").is_ok();
-    let front = if front == "-" { "" } else { front };
-    is_whole == (end == "Ok") && sink.written() == front.as_bytes()
-}
-
-pub(crate) fn write_row(alloc: Global, row: &str) -> Option<bool> {
-    let (most, calls, front, end) = four(row, " ")?;
-    let mut sink = sink(alloc, calls, most.parse::<usize>().ok()?)?;
-    Some(is_written(&mut sink, front, end))
-}
-
-#[test]
-fn a_file_is_read_whole_or_not_at_all(rt: HostRuntime) {
-    check(&rt, rt.alloc(), Rows::Read, READS);
 }
 
 /// Whether `note` is read in two pieces.
@@ -114,7 +36,7 @@ fn reads_in_pieces(shelf: &mut MemShelf) -> bool {
 
 /// Whether a missing file fails, and what is read behind it.
 fn reads_behind_a_fault(alloc: Global) -> Option<bool> {
-    let mut shelf = note_shelf(alloc, "none", 3)?;
+    let mut shelf = note_shelf(alloc)?;
     let missing = read_file(alloc, &mut shelf, "nota", 5).err();
     let after = shelf.read(&mut [0; 4]);
     let is_begun = shelf.begin("note").is_ok();
@@ -127,14 +49,10 @@ fn a_missing_file_fails_and_the_next_is_read(rt: HostRuntime) {
     assert!(rt; reads_behind_a_fault(rt.alloc()) == Some(true));
 }
 
-#[test]
-fn a_text_is_written_up_to_the_failing_call(rt: HostRuntime) {
-    check(&rt, rt.alloc(), Rows::Write, WRITES);
-}
-
 /// Whether texts stand one behind another, but for one whose write failed.
 fn writes_in_turn(alloc: Global) -> Option<bool> {
-    let mut sink = sink(alloc, "4", 2)?;
+    let failing = vec![in alloc; 4].ok()?;
+    let mut sink = MemSink::make(alloc, failing, 2).ok()?;
     let ends = [
         write_all(&mut sink, b"one"),
         write_all(&mut sink, b""),
@@ -169,7 +87,7 @@ fn reads_within_limits<H: Shelf>(alloc: Global, disk: &mut H) -> bool {
     ];
     let after = disk.read(&mut [0; 4]);
     let wanted = [Ok(70_001), Err(FileFault::Long), Err(FileFault::Failed)];
-    let is_note = is_read(alloc, disk, 5, "hello");
+    let is_note = is_note(alloc, disk);
     counts == wanted && [before, after] == [Ok(0), Ok(0)] && is_note
 }
 

@@ -7,14 +7,8 @@ mod devices;
 #[cfg(test)]
 mod generated;
 #[cfg(test)]
-mod labels;
-#[cfg(test)]
 mod maps;
-#[cfg(test)]
-mod numbers;
 #[cfg(test)]
 mod rows;
 #[cfg(test)]
 mod states;
-#[cfg(test)]
-mod values;

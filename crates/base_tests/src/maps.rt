@@ -3,21 +3,6 @@ use crate::rows::{Rows, boxed, check, halves};
 use sparse::{Builder, Sparse};
 use std::alloc::Global;
 
-/// Changes of keys in turn, and the entries that are there then.
-const CHANGES: &str = "\
-100=7 100=7 100=7 100=7 -> nothing
-4=40 -> 4=40
-4=40 6=60 2=20 -> 2=20 4=40 6=60
-5=50 -> 5=50
-5=50 9=90 3=30 -> 3=30 5=50 9=90
-5=50 9=90 5=51 -> 5=51 9=90
-5=50 9=90 5=7 -> 9=90
-5=50 5=7 5=50 -> 5=50
-0=0 18446744073709551615=1 -> 0=0 18446744073709551615=1";
-
-/// Entries of a map, changes of a copy, and the entries of the copy then. The map keeps its own.
-const COPIES: &str = "1=10 2=20 -> 2=7 0=1 -> 0=1 1=10";
-
 /// Changes of keys in turn while a map is filled, and the entries that are there then.
 const FILLED: &str = "\
 nothing -> nothing
@@ -36,14 +21,6 @@ nothing -> nothing
 fn entry(text: &str) -> Option<(u64, u64)> {
     let (key, value) = halves(text, "=")?;
     Some((key.parse::<u64>().ok()?, value.parse::<u64>().ok()?))
-}
-
-fn change(map: &mut Sparse<u64, u64>, changes: &str) -> Option<()> {
-    for text in changes.split(' ') {
-        let (key, value) = entry(text)?;
-        map.set(key, value).ok()?;
-    }
-    Some(())
 }
 
 /// Whether the entry stands there.
@@ -79,47 +56,6 @@ fn empty(alloc: Global) -> Option<Box<Sparse<u64, u64>>> {
     boxed(alloc, Sparse::make(alloc, 7).ok())
 }
 
-/// Whether a copy of the map has the entries, and changes by itself.
-fn is_copied(alloc: Global, map: &Sparse<u64, u64>, entries: &str) -> Option<bool> {
-    let mut copy = boxed(alloc, map.copy().ok())?;
-    let is_copied = has(&copy, entries)?;
-    copy.set(100, 1).ok()?;
-    Some(is_copied && *copy.get(&100) == 1)
-}
-
-/// Whether the changes give the entries, to a map and to a copy of it.
-pub(crate) fn changes_row(alloc: Global, row: &str) -> Option<bool> {
-    let (changes, entries) = halves(row, " -> ")?;
-    let mut map = empty(alloc)?;
-    change(&mut map, changes)?;
-    let is_copied = is_copied(alloc, &map, entries)?;
-    let is_kept = has(&map, entries)?;
-    Some(is_copied && is_kept)
-}
-
-/// Whether the changes give the entries to a copy of the map.
-fn is_changed_copy(
-    alloc: Global,
-    map: &Sparse<u64, u64>,
-    changes: &str,
-    entries: &str,
-) -> Option<bool> {
-    let mut copy = boxed(alloc, map.copy().ok())?;
-    change(&mut copy, changes)?;
-    has(&copy, entries)
-}
-
-/// Whether the changes give the last entries to a copy, and the map keeps the first.
-pub(crate) fn copies_row(alloc: Global, row: &str) -> Option<bool> {
-    let (kept, rest) = halves(row, " -> ")?;
-    let (changes, entries) = halves(rest, " -> ")?;
-    let mut map = empty(alloc)?;
-    change(&mut map, kept)?;
-    let is_changed = is_changed_copy(alloc, &map, changes, entries)?;
-    let is_kept = has(&map, kept)?;
-    Some(is_changed && is_kept)
-}
-
 /// What is filled by the changes.
 fn filled(alloc: Global, changes: &str) -> Option<Box<Builder<u64, u64>>> {
     let mut builder = boxed(alloc, Some(Builder::make(alloc, 7)))?;
@@ -143,12 +79,6 @@ pub(crate) fn filled_row(alloc: Global, row: &str) -> Option<bool> {
 #[test]
 fn maps_are_filled(rt: HostRuntime) {
     check(&rt, rt.alloc(), Rows::Filled, FILLED);
-}
-
-#[test]
-fn maps_keep_what_differs_from_their_default(rt: HostRuntime) {
-    check(&rt, rt.alloc(), Rows::Map, CHANGES);
-    check(&rt, rt.alloc(), Rows::MapCopy, COPIES);
 }
 
 /// A map with the keys from 1 to `most`, each with ten times itself.

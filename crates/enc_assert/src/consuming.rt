@@ -17,6 +17,7 @@ ghost use Rattle.enc_assert.specs.Encoding as code;
 use crate::amounts::some_amount;
 use crate::targets::{Access, Target, read_part, read_place};
 use boogie_tree::{BBase, BExpr, BOp, BStmt};
+use enc_asserts::add_assert;
 use enc_expr::{
     Atom, Emit, Index, Maps, Operand, Reading, add, add_all, at, atomic, binary, check,
     check_nonnegative, scaled, sides,
@@ -44,11 +45,14 @@ fn assert_amount(
     index: Index,
     op: BOp,
     amount: BExpr,
-) -> Result<BStmt, Memory>
-    ensures { IfOk result (λ x. stmt_of x ≡ s.Assert label (t.Bin op (t.At held (index_in index.entry)) (expr_of amount))) }
+    block: &mut Vec<BStmt>,
+) -> Result<(), Memory>
+    ensures { OnOk result (stmts_of block.new.items ≡ join (stmts_of block.old.items)
+        (piece.one (s.Assert label (t.Bin op (t.At held (index_in index.entry)) (expr_of amount))))) }
 {
     let held = at(alloc, held, index)?;
-    Ok(BStmt::Assert(label, binary(alloc, op, held, amount)?))
+    let holds = binary(alloc, op, held, amount)?;
+    add_assert(block, label, holds)
 }
 
 /// So much less is held.
@@ -86,8 +90,7 @@ fn take_held(
         (taken_amount held (index_in index.entry) (piece.scaled (atom_of scale) (atom_of amount))))) }
 {
     let needed = scaled(alloc, scale, amount)?;
-    let enough = assert_amount(alloc, label, held, index, BOp::Ge, needed)?;
-    add(block, enough)?;
+    assert_amount(alloc, label, held, index, BOp::Ge, needed, block)?;
     let taken = scaled(alloc, scale, amount)?;
     add(block, take(alloc, held, index, taken)?)
 }
@@ -130,8 +133,7 @@ fn take_chosen(
     let label = reading.label(place, Kind::Perm);
     let held = target.held_in(left);
     let index = target.index();
-    let some = assert_amount(alloc, label, held, index, BOp::Ne, BExpr::Real(0))?;
-    add(block, some)?;
+    assert_amount(alloc, label, held, index, BOp::Ne, BExpr::Real(0), block)?;
     some_amount(alloc, amount, block)?;
     add(block, assume_less(alloc, amount, held, index)?)?;
     add(block, take(alloc, held, index, BExpr::Var(amount))?)
@@ -150,7 +152,8 @@ fn consume_fact(
     ensures { OnOk result (Emits (puts reading.entry.guard (piece.one (s.Assert label (expr_of fact.expr.value)))
         (length (emit_of out.old).locals)) (emit_of out.old) (emit_of out.new) tt) }
 {
-    let block = vec![in alloc; BStmt::Assert(label, Box::into_inner(fact.expr))]?;
+    let mut block = Vec::new(alloc);
+    add_assert(&mut block, label, Box::into_inner(fact.expr))?;
     out.put(alloc, reading.guard, block)
 }
 

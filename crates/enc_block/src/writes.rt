@@ -15,6 +15,7 @@ ghost use Rattle.enc_block.specs.View.{home_of};
 
 use crate::homes::Setting;
 use boogie_tree::{BExpr, BOp, BStmt};
+use enc_asserts::add_assert;
 use enc_expr::{Atom, Emit, Held, Index, Operand, Reading, add, at, atomic, binary, check, number};
 use std::alloc::Global;
 use vb_base::{Kind, Memory, Pos};
@@ -52,13 +53,11 @@ fn write_checks(
         (code.write_checks (place_in reading.entry) field part (atom_of receiver))) }
 {
     let is_some = binary(alloc, BOp::Ne, receiver.expr(), BExpr::Null)?;
-    let not_null = BStmt::Assert(reading.label(part, Kind::Null), is_some);
-    add(block, not_null)?;
+    add_assert(block, reading.label(part, Kind::Null), is_some)?;
     let mask = number(&reading.now.mask, field);
     let held = at(alloc, mask, Index::Reference(receiver))?;
     let whole = binary(alloc, BOp::Eq, held, BExpr::Real(1))?;
-    let permitted = BStmt::Assert(reading.label(part, Kind::Perm), whole);
-    add(block, permitted)
+    add_assert(block, reading.label(part, Kind::Perm), whole)
 }
 
 /// The heap of a field gets a value.

@@ -21,6 +21,7 @@ use crate::places::Maps;
 use crate::readings::{Reading, base_for, number};
 use crate::terms::{Index, at, binary};
 use boogie_tree::{BBase, BExpr, BOp, BStmt};
+use enc_asserts::add_assert;
 use std::alloc::Global;
 use vb_base::{Kind, Memory, Pos};
 use viper_core::{Amt, Assertion, Expr, Op, Opened};
@@ -123,13 +124,11 @@ fn read_checks(
         (code.read_checks (place_in reading.entry) field place (atom_of receiver))) }
 {
     let is_some = binary(alloc, BOp::Ne, receiver.expr(), BExpr::Null)?;
-    let not_null = BStmt::Assert(reading.label(place, Kind::Null), is_some);
-    add(block, not_null)?;
+    add_assert(block, reading.label(place, Kind::Null), is_some)?;
     let mask = number(&reading.now.mask, field);
     let held = at(alloc, mask, Index::Reference(receiver))?;
     let readable = binary(alloc, BOp::Ne, held, BExpr::Real(0))?;
-    let permitted = BStmt::Assert(reading.label(place, Kind::Perm), readable);
-    add(block, permitted)
+    add_assert(block, reading.label(place, Kind::Perm), readable)
 }
 
 /// The value of a field.

@@ -17,6 +17,7 @@ use crate::operands::{Atom, Operand, atomic, in_locals};
 use crate::readings::{Reading, base_for, number};
 use crate::terms::{Index, at, binary, leaf, scaled};
 use boogie_tree::{BBase, BExpr, BOp, BStmt};
+use enc_asserts::add_assert;
 use std::alloc::Global;
 use vb_base::{Kind, Label, Memory, Pos, boxed_pair};
 use vb_value::Ty;
@@ -241,7 +242,7 @@ pub fn check_nonnegative(
         return Ok(());
     }
     let nonnegative = binary(alloc, BOp::Ge, amount.expr(), BExpr::Real(0))?;
-    add(block, BStmt::Assert(label, nonnegative))
+    add_assert(block, label, nonnegative)
 }
 
 /// The one block where an amount is positive, and else the other.

@@ -17,6 +17,7 @@ use crate::places::Maps;
 use crate::readings::{Reading, base_for, local_at, number};
 use crate::terms::{Index, at, binary};
 use boogie_tree::{BBase, BExpr, BOp, BStmt, BType};
+use enc_asserts::add_assert;
 use std::alloc::Global;
 use vb_base::{Kind, Label, Memory, Pos};
 use vb_value::{Layout, Ty};
@@ -161,7 +162,7 @@ pub fn check_positive(
         return Ok(());
     }
     let positive = binary(alloc, BOp::Gt, amount.expr(), BExpr::Real(0))?;
-    add(block, BStmt::Assert(label, positive))
+    add_assert(block, label, positive)
 }
 
 /// So much is held.
@@ -178,7 +179,7 @@ fn check_held(
 {
     let held = at(alloc, amounts, index)?;
     let enough = binary(alloc, BOp::Ge, held, amount.expr())?;
-    add(block, BStmt::Assert(label, enough))
+    add_assert(block, label, enough)
 }
 
 /// So much less is held.

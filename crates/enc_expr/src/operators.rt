@@ -10,12 +10,12 @@ ghost use Rattle.enc_expr.specs.Operators as code;
 ghost use Rattle.enc_expr.specs.Pieces as piece;
 ghost use Rattle.enc_expr.specs.View.{class_in, seen, atom_of, place_in};
 
-use crate::blocks::add;
 use crate::emits::Emit;
 use crate::operands::{Atom, Operand, atomic};
 use crate::readings::Reading;
 use crate::terms::{binary, negation, real};
 use boogie_tree::{BBase, BExpr, BOp, BStmt};
+use enc_asserts::add_assert;
 use std::alloc::Global;
 use vb_base::{Kind, Label, Memory, Pos, boxed};
 use viper_core::Op;
@@ -165,7 +165,7 @@ fn check_divisor(
         return Ok(());
     }
     let divides = binary(alloc, BOp::Ne, divisor.expr(), BExpr::Int(0))?;
-    add(block, BStmt::Assert(label, divides))
+    add_assert(block, label, divides)
 }
 
 /// The divisor as one that may be written twice, once it is known not to be 0.

@@ -1,4 +1,4 @@
-// A row of a table: a call of the tool, and how it has to end.
+// A row of a table: a call of a program, and how it has to end.
 
 use crate::fault::Fault;
 use std::alloc::{AllocError, Global};
@@ -20,7 +20,7 @@ pub enum Place {
     Err,
 }
 
-/// A call of the tool, with a name in plain words, and how it has to end.
+/// A call of a program, with a name in plain words, and how it has to end.
 #[derive(Drop)]
 pub struct Row {
     pub name: String,
@@ -28,7 +28,7 @@ pub struct Row {
     pub end: End,
 }
 
-/// A call: the command's words, the files, and the devices.
+/// A call: its words, the files, and the devices.
 #[derive(Drop)]
 pub struct Call {
     pub words: Vec<String>,
@@ -100,10 +100,7 @@ impl Call {
 
     /// The same call.
     pub fn copy(&self, alloc: Global) -> Result<Call, AllocError> {
-        let mut words = Vec::new(alloc);
-        for word in &self.words {
-            words.push(word.as_str().to_string(alloc)?)?;
-        }
+        let words = copies_of(alloc, &self.words)?;
         let mut files = Vec::new(alloc);
         for file in &self.files {
             files.push(MemFile {
@@ -203,6 +200,15 @@ impl End {
         }
         Ok(())
     }
+}
+
+/// The same words.
+pub fn copies_of(alloc: Global, words: &[String]) -> Result<Vec<String>, AllocError> {
+    let mut copies = Vec::new(alloc);
+    for word in words {
+        copies.push(word.as_str().to_string(alloc)?)?;
+    }
+    Ok(copies)
 }
 
 /// The words of a text, divided by blanks.

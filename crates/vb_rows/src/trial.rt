@@ -5,12 +5,11 @@ ghost use Rattle.vb_outer.specs.Place.{held};
 
 use crate::again::{FAILED, ends_otherwise, file_of_run};
 use crate::fault::Fault;
-use crate::row::{Call, End, Row, words_of};
+use crate::row::{Call, End, Row, copies_of, words_of};
 use crate::turns::all_turns_fail;
 use std::alloc::Global;
 use std::io;
 use vb_outer::{MemFile, MemShelf, MemSink};
-use vb_tool::tool;
 
 /// How a call ended: its status, and what stands in the sinks.
 #[derive(Drop)]
@@ -73,8 +72,29 @@ pub fn end_of(alloc: Global, call: Call) -> Result<Ended, Fault> {
     let mut shelf = MemShelf::make(files, shelf.failing, shelf.most.max(1));
     let mut out = MemSink::make(alloc, out.failing, out.most.max(1))?;
     let mut err = MemSink::make(alloc, err.failing, err.most.max(1))?;
-    let status = tool(alloc, &words, &mut shelf, &mut out, &mut err).number();
+    let status = status_of(alloc, &words, &mut shelf, &mut out, &mut err)?;
     Ok(Ended { status, out, err })
+}
+
+/// Makes the call of the program that the first word names, `certify` or `conditions`, and else of the tool. Answers its status.
+fn status_of(
+    alloc: Global,
+    words: &Vec<String>,
+    shelf: &mut MemShelf,
+    out: &mut MemSink,
+    err: &mut MemSink,
+) -> Result<u8, Fault> {
+    match words.as_slice() {
+        [program, rest @ ..] if program.as_str() == "certify" => {
+            let rest = copies_of(alloc, rest)?;
+            Ok(cert_tool::tool(alloc, &rest, shelf, out, err).number())
+        }
+        [program, rest @ ..] if program.as_str() == "conditions" => {
+            let rest = copies_of(alloc, rest)?;
+            Ok(cond_tool::tool(alloc, &rest, shelf, out, err).number())
+        }
+        _ => Ok(vb_tool::tool(alloc, words, shelf, out, err).number()),
+    }
 }
 
 /// A file with what a command writes over the files of a call: the file's name, and then the words of the command.

@@ -13,12 +13,8 @@ mod moved;
 #[cfg(test)]
 mod programs;
 #[cfg(test)]
-mod replays;
-#[cfg(test)]
 mod rows;
 #[cfg(test)]
 mod runs;
-#[cfg(test)]
-mod statements;
 #[cfg(test)]
 mod trees;

@@ -1,6 +1,8 @@
 use Rattle.std.proofs.Common.{◌∙◌, ap}
 use Rattle.std.proofs.lemmas.Result.{on_ok_weaker}
 use Rattle.boogie_tree.specs.Whole.{stmts_of}
+use Rattle.enc_expr.specs.Code.{join}
+use Rattle.enc_expr.specs.Pieces.{one}
 use Rattle.enc_expr.specs.View.{index_in}
 use Rattle.enc_expr.proofs.BlockLaws.{added, then_added}
 use Rattle.boogie_tree.specs.Expr as t
@@ -11,6 +13,6 @@ use Rattle.enc_assert.proofs.consuming.take_held.Goals as goal
 pub returns : goal.returns
 returns c =
     let key = index_in c.args.index in
-    on_ok_weaker c.add-2.result (λ h. then_added (stmts_of c.args.block.now.items) _ _
-    (added c.args.block.now.items _ c.in_ok-add.ensures (c.in_ok-enough.ensures ∙ ap (λ x. s.Assert c.args.label (t.Bin op.Ge (t.At c.args.held key) x)) c.in_ok-needed.ensures))
-    (added c.add.new.items.items _ h (c.in_ok-take.ensures ∙ ap (λ x. s.Put c.args.held key (t.Bin op.Sub (t.At c.args.held key) x)) c.in_ok-taken.ensures))) c.add-2.ensures
+    on_ok_weaker c.add.result (λ h. then_added (stmts_of c.args.block.now.items) _ _
+    (c.in_ok-assert_amount.ensures ∙ ap (λ x. join (stmts_of c.args.block.now.items) (one (s.Assert c.args.label (t.Bin op.Ge (t.At c.args.held key) x)))) c.in_ok-needed.ensures)
+    (added c.assert_amount.new.block.items _ h (c.in_ok-take.ensures ∙ ap (λ x. s.Put c.args.held key (t.Bin op.Sub (t.At c.args.held key) x)) c.in_ok-taken.ensures))) c.add.ensures

@@ -13,7 +13,7 @@ use Rattle.enc_block.proofs.writes.write_checks.Goals as goal
 
 pub returns : goal.returns
 returns c =
-    on_ok_weaker c.add-2.result (λ h. then_added (stmts_of c.args.block.now.items) _ _
-    (added c.args.block.now.items _ c.in_ok-add.ensures (λ i. s.Assert (c.label.ensures i) ((c.in_ok-is_some.ensures ∙ ap (λ x. t.Bin op.Ne x t.Null) c.expr.ensures) i)))
-    (added c.add.new.items.items _ h (λ i. s.Assert (c.label-2.ensures i) ((c.in_ok-whole.ensures ∙ ap (λ x. t.Bin op.Eq x one_real) (c.in_ok-held.ensures
-    ∙ ap (λ m. t.At m (t.more (atom_of c.args.receiver) t.none)) (c.number-mask.ensures ∙ ap (λ xs. number xs c.args.field) c.deref.ensures.value))) i)))) c.add-2.ensures
+    on_ok_weaker c.add_assert-2.result (λ h. then_added (stmts_of c.args.block.now.items) _ _
+    (added c.args.block.now.items _ c.in_ok-add_assert.ensures (λ i. s.Assert (c.label.ensures i) ((c.in_ok-is_some.ensures ∙ ap (λ x. t.Bin op.Ne x t.Null) c.expr.ensures) i)))
+    (added c.add_assert.new.block.items _ h (λ i. s.Assert (c.label-2.ensures i) ((c.in_ok-whole.ensures ∙ ap (λ x. t.Bin op.Eq x one_real) (c.in_ok-held.ensures
+    ∙ ap (λ m. t.At m (t.more (atom_of c.args.receiver) t.none)) (c.number-mask.ensures ∙ ap (λ xs. number xs c.args.field) c.deref.ensures.value))) i)))) c.add_assert-2.ensures

@@ -16,5 +16,5 @@ returns-then-is_amount c = known_added (stmts_of c.args.block.now.items) _ (is_a
 
 pub returns : goal.returns
 returns c =
-    unknown_added c.add.result (stmts_of c.args.block.now.items) _ (one (s.Assert c.args.label (t.Bin op.Ge (atom_of c.args.amount) zero_real))) (is_amount_literal (atom_of c.args.amount)) (sym c.is_amount.ensures ∙ c.if-is_amount.false)
-    (on_ok_weaker c.add.result (λ h. added c.args.block.now.items _ h (ap (s.Assert c.args.label) (c.in_ok-nonnegative.ensures ∙ ap (λ x. t.Bin op.Ge x zero_real) c.expr.ensures))) c.add.ensures)
+    unknown_added c.add_assert.result (stmts_of c.args.block.now.items) _ (one (s.Assert c.args.label (t.Bin op.Ge (atom_of c.args.amount) zero_real))) (is_amount_literal (atom_of c.args.amount)) (sym c.is_amount.ensures ∙ c.if-is_amount.false)
+    (on_ok_weaker c.add_assert.result (λ h. added c.args.block.now.items _ h (ap (s.Assert c.args.label) (c.in_ok-nonnegative.ensures ∙ ap (λ x. t.Bin op.Ge x zero_real) c.expr.ensures))) c.add_assert.ensures)

@@ -7,4 +7,4 @@ use Rattle.enc_expr.proofs.BlockLaws.{added}
 use Rattle.enc_expr.proofs.openings.check_held.Goals as goal
 
 pub returns : goal.returns
-returns c = on_ok_weaker c.add.result (λ h. added c.args.block.now.items _ h (ap (s.Assert c.args.label) (c.in_ok-enough.ensures ∙ (λ i. t.Bin op.Ge (c.in_ok-held.ensures i) (c.expr.ensures i))))) c.add.ensures
+returns c = on_ok_weaker c.add_assert.result (λ h. added c.args.block.now.items _ h (ap (s.Assert c.args.label) (c.in_ok-enough.ensures ∙ (λ i. t.Bin op.Ge (c.in_ok-held.ensures i) (c.expr.ensures i))))) c.add_assert.ensures

@@ -16,5 +16,5 @@ returns-then-is_divisor c = known_added (stmts_of c.args.block.now.items) _ (is_
 
 pub returns : goal.returns
 returns c =
-    unknown_added c.add.result (stmts_of c.args.block.now.items) _ (one (s.Assert c.args.label (t.Bin op.Ne (atom_of c.args.divisor) (t.Int (pos 0))))) (is_divisor_literal (atom_of c.args.divisor)) (sym c.is_divisor.ensures ∙ c.if-is_divisor.false)
-    (on_ok_weaker c.add.result (λ h. added c.args.block.now.items _ h (ap (s.Assert c.args.label) (c.in_ok-divides.ensures ∙ ap (λ x. t.Bin op.Ne x (t.Int (pos 0))) c.expr.ensures))) c.add.ensures)
+    unknown_added c.add_assert.result (stmts_of c.args.block.now.items) _ (one (s.Assert c.args.label (t.Bin op.Ne (atom_of c.args.divisor) (t.Int (pos 0))))) (is_divisor_literal (atom_of c.args.divisor)) (sym c.is_divisor.ensures ∙ c.if-is_divisor.false)
+    (on_ok_weaker c.add_assert.result (λ h. added c.args.block.now.items _ h (ap (s.Assert c.args.label) (c.in_ok-divides.ensures ∙ ap (λ x. t.Bin op.Ne x (t.Int (pos 0))) c.expr.ensures))) c.add_assert.ensures)
