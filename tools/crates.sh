@@ -1,10 +1,8 @@
-# Read by ./remduska, tools/program and tools/build: which programs there are, which crates each stands on, whether it was built from
-# their sources, and which file is started.
+# Read by ./remduska, tools/program and tools/build: which programs there are, whether each was built from the sources of the crates that
+# it stands on, and which file is started.
 top=$(dirname "$(readlink -f "${BASH_SOURCE[0]}")")/..
 top=$(readlink -f "$top")
 programs=(remduska conditions certify)
-declare -A below=()     # the crates that a crate stands on
-needed=()               # the crates that programs stand on, each behind those that it stands on itself
 
 say() { echo "remduska: $*" >&2; }
 
@@ -28,29 +26,17 @@ reason() { # FILE
     echo "${why:-it said nothing; is the disk full?}"
 }
 
-read_crates() {
-    local name rest
-    while IFS=: read -r name rest; do
-        name=${name%% *}
-        case $name in '' | \#*) continue ;; esac
-        below[$name]=$rest
-    done <"$top/crates.txt"
-}
-
-# A crate after those that it stands on. What crates.txt has no line for is the kit's.
-need() {
-    local crate
-    [ -n "${below[$1]+is_there}" ] || return 0
-    case " ${needed[*]-} " in *" $1 "*) return 0 ;; esac
-    for crate in ${below[$1]}; do need "$crate"; done
-    needed+=("$1")
+# The crates that a program stands on, and itself. Without Python it is all crates, so a program that was built starts there as well.
+crates_of() { # PROGRAM
+    "$top/tools/crates.py" needed "$1" 2>/dev/null || ls "$top/crates"
 }
 
 # A file of a program is there, and none of its sources is newer.
 is_current() { # PROGRAM FILE
-    local needed=()
-    need "$1"
-    [ -x "$2" ] && [ -z "$(cd "$top/crates" && find "${needed[@]}" "$top/crates.txt" -name out -prune -o \
+    local crates
+    [ -x "$2" ] || return
+    mapfile -t crates < <(crates_of "$1")
+    [ -z "$(cd "$top/crates" && find "${crates[@]}" "$top/crates.txt" -name out -prune -o \
         \( -name '*.rt' -o -name '*.antt' -o -name crates.txt \) -newer "$2" -print -quit)" ]
 }
 
@@ -74,5 +60,3 @@ choose_program() { # PROGRAM
     trap - INT TERM HUP
     return "$status"
 }
-
-read_crates
