@@ -1,6 +1,7 @@
 -- Tokens that differ in their places alone spell the same and have as many unclosed brackets.
 use Rattle.std.proofs.Common.{◌≡◌, ◌∙◌, ℕ, zero, suc, ◌≤◌, Bool, List, [], ◌∷◌, ◌++◌, Option, Some, None, take, drop, refl, sym, ap, subst}
 use Rattle.std.specs.Prelude.{fold}
+use Rattle.vb_base.specs.Limits.{max_unclosed_brackets}
 use Rattle.grammar.specs.Rules.{Starts}
 use Rattle.grammar.specs.Spells.{Derives, given, needed, taken, passed, called}
 use Rattle.vb_base.specs.declared.places.Pos.{Pos}
@@ -116,4 +117,4 @@ fold_alike m (cons {k = k} {j = j} {ts = ts} e a) =
     ap (λ t. fold (λ n (u : PlacedLexeme). unclosed_with n u.tok) (unclosed_with m t) ts) e ∙ fold_alike (unclosed_with m j.tok) a
 
 pub shallow_alike : {ts us : List PlacedLexeme} → Alike ts us → IsShallow ts → IsShallow us
-shallow_alike a h n = subst (λ m. m ≤ 2048) (fold_alike 0 (take_alike n a)) (h n)
+shallow_alike a h n = subst (λ m. m ≤ max_unclosed_brackets) (fold_alike 0 (take_alike n a)) (h n)

@@ -2,6 +2,7 @@
 -- what it opens, and what it gives is nested at least as deep as its parts.
 use Rattle.std.proofs.Common.{◌≡◌, refl, not, ◌&&◌, sym, subst, arith, ℕ, zero, suc, ◌+◌, ◌-◌, ◌≤◌, max, Bool as Truth, true, false, List, [], ◌∷◌, ◌++◌, take}
 use Rattle.std.specs.Prelude.{⊤, fold}
+use Rattle.vb_base.specs.Limits.{max_unclosed_brackets}
 use Rattle.grammar.specs.Rules.{Starts}
 use Rattle.grammar.specs.Spells.{Derives, given, needed, taken, passed, called}
 use Rattle.boogie_tree.specs.Expr as t
@@ -414,5 +415,5 @@ nested ts p h n =
     within (whole.runs 0 (program_depth p) (omega arith)) n
 
 -- so those of a program that is not nested too deep are not unclosed too deep
-pub shallow : (ts : List PlacedLexeme) (p : BProgram) → Spells ts p → program_depth p ≤ 2048 → IsShallow ts
+pub shallow : (ts : List PlacedLexeme) (p : BProgram) → Spells ts p → program_depth p ≤ max_unclosed_brackets → IsShallow ts
 shallow ts p h small n = let le = nested ts p h n in omega (arith, le, small)

@@ -1,6 +1,7 @@
 -- A text is read part by part.
 use Rattle.std.proofs.Common.{◌≡◌, ◌∙◌, refl, sym, ap, subst, arith, ◌≤◌, Bool, false, ℕ, List, [], ◌∷◌, ◌++◌, append-nil, append_assoc}
 use Rattle.std.proofs.lemmas.List.{take_all}
+use Rattle.vb_base.specs.Limits.{max_unclosed_brackets}
 use Rattle.grammar.specs.Spells.{Derives, given, needed, taken, passed, called}
 use Rattle.grammar.proofs.Whole as grammar
 use Rattle.boogie_tree.specs.Stmt as s
@@ -27,7 +28,7 @@ use Rattle.boogie_text.specs.Tail.{IsTail, IsLocalsTail, IsBodyTail, after_state
 -- a text with no token
 
 none_shallow : IsShallow []
-none_shallow n = subst (λ ts. unclosed ts ≤ 2048) (sym (take_all n [] (omega arith))) (omega arith)
+none_shallow n = subst (λ ts. unclosed ts ≤ max_unclosed_brackets) (sym (take_all n [] (omega arith))) (omega arith)
 
 pub ends : {text : List ℕ} → IsRow text [] → (so_far : List Proc) → IsTail so_far text so_far
 ends row so_far = record { tokens = []; cut = row; shallow = none_shallow; spells = passed given }

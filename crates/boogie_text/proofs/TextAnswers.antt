@@ -7,6 +7,7 @@ use Rattle.std.specs.Str.Parse.{digits_value}
 use Rattle.std.proofs.lemmas.Bool.{cases_lt, cases_order, eqb-true}
 use Rattle.std.proofs.lemmas.List.{take-append-drop}
 use Rattle.lemmas.proofs.Lists.{item_there as item}
+use Rattle.vb_base.specs.Limits.{max_unclosed_brackets, max_boogie_bytes}
 use Rattle.vb_base.specs.declared.places.Pos.{Pos}
 use Rattle.vb_base.specs.Labels.{Spells}
 use Rattle.vb_base.specs.declared.labels.Label.{Label}
@@ -158,21 +159,21 @@ front_or_not (a ∷ bytes) (b ∷ begin) = by_case (cases_order a b) (front_or_n
 abbrev Deep : List PlacedLexeme → Type 0
 Deep ts = (at : Pos) × IsTooDeep ts at
 
-deep_by : (ts : List PlacedLexeme) (i : ℕ) → i ≤ length ts → ((n : ℕ) → n ≤ i → unclosed (take n ts) ≤ 2048) ⊎ Deep ts
+deep_by : (ts : List PlacedLexeme) (i : ℕ) → i ≤ length ts → ((n : ℕ) → n ≤ i → unclosed (take n ts) ≤ max_unclosed_brackets) ⊎ Deep ts
 deep_by ts zero le = inl (λ n h. by_zero n h) where
-  by_zero : (n : ℕ) → n ≤ 0 → unclosed (take n ts) ≤ 2048
+  by_zero : (n : ℕ) → n ≤ 0 → unclosed (take n ts) ≤ max_unclosed_brackets
   by_zero zero h = omega arith
   by_zero (suc n) h = absurd (omega (arith, h))
-deep_by ts (suc i) le = by_case (deep_by ts i (omega (arith, le))) (cases_lt 2048 (unclosed (take (i + 1) ts))) (item ts i (omega (arith, le))) where
-  by_case : ((n : ℕ) → n ≤ i → unclosed (take n ts) ≤ 2048) ⊎ Deep ts → (2048 < unclosed (take (i + 1) ts)) ⊎ (unclosed (take (i + 1) ts) ≤ 2048) →
-      (t : PlacedLexeme) × (slice_get ts i ≡ Some t) → ((n : ℕ) → n ≤ suc i → unclosed (take n ts) ≤ 2048) ⊎ Deep ts
+deep_by ts (suc i) le = by_case (deep_by ts i (omega (arith, le))) (cases_lt max_unclosed_brackets (unclosed (take (i + 1) ts))) (item ts i (omega (arith, le))) where
+  by_case : ((n : ℕ) → n ≤ i → unclosed (take n ts) ≤ max_unclosed_brackets) ⊎ Deep ts → (max_unclosed_brackets < unclosed (take (i + 1) ts)) ⊎ (unclosed (take (i + 1) ts) ≤ max_unclosed_brackets) →
+      (t : PlacedLexeme) × (slice_get ts i ≡ Some t) → ((n : ℕ) → n ≤ suc i → unclosed (take n ts) ≤ max_unclosed_brackets) ⊎ Deep ts
   by_case (inr d) above t = inr d
   by_case (inl h) (inl above) (t, e) = inr (t.pos, record { index = i; token = t; here = e; place = refl; above = above; before = h })
   by_case (inl h) (inr within) t = inl (λ n le. one_more_front ts i h within n (omega (arith, le)))
 
 deep_or_not : (ts : List PlacedLexeme) → IsShallow ts ⊎ Deep ts
 deep_or_not ts = by_case (deep_by ts (length ts) (omega arith)) where
-  by_case : ((n : ℕ) → n ≤ length ts → unclosed (take n ts) ≤ 2048) ⊎ Deep ts → IsShallow ts ⊎ Deep ts
+  by_case : ((n : ℕ) → n ≤ length ts → unclosed (take n ts) ≤ max_unclosed_brackets) ⊎ Deep ts → IsShallow ts ⊎ Deep ts
   by_case (inl h) = inl (shallow_from_fronts ts h)
   by_case (inr d) = inr d
 
@@ -181,7 +182,7 @@ deep_or_not ts = by_case (deep_by ts (length ts) (omega arith)) where
 abbrev Tokens : List ℕ → Type 0
 Tokens bytes = ((ts : List PlacedLexeme) × HasTokens bytes ts) ⊎ ((f : BoogieFault) × IsTokenFault bytes f)
 
-prelude_short : length prelude ≤ 1048576
+prelude_short : length prelude ≤ max_boogie_bytes
 unfolding prelude
 prelude_short = omega arith
 

@@ -3,6 +3,7 @@ use Rattle.std.proofs.Common.{◌≡◌, ◌∙◌, ◌+◌, ◌≤◌, ◌⊎�
 use Rattle.std.specs.Prelude.{filter, map}
 use Rattle.std.proofs.lemmas.Bool.{cases_order}
 use Rattle.std.proofs.lemmas.List.Splits.{length-slice_split}
+use Rattle.vb_base.specs.Limits.{max_boogie_bytes}
 use Rattle.vb_base.specs.Place.{line_after}
 use Rattle.vb_base.specs.declared.places.Pos.{Pos}
 use Rattle.vb_base.proofs.Place.{same_pos}
@@ -60,7 +61,7 @@ module _ (bytes : List ℕ) where
   abbrev Answer : Type 0
   Answer = ((name : List ℕ) × SpellsName bytes name) ⊎ ((at : Pos) × NamesNothingAt bytes at)
 
-  module _ (few : length bytes ≤ 33554432) where
+  module _ (few : length bytes ≤ max_boogie_bytes) where
     at_line : (line : ℕ) → 1 ≤ line → line ≤ length (lines_of bytes) → Pos
     at_line line some within =
         let lines : length (lines_of bytes) ≡ line_after bytes = length-slice_split (λ b. b == 10) bytes in

@@ -6,6 +6,7 @@ use Rattle.std.specs.Ordering.{nat_cmp}
 use Rattle.std.proofs.lemmas.Int.{ints}
 use Rattle.std.proofs.lemmas.List.Elements.{All-nil, All-cons, All-set}
 use Rattle.lemmas.proofs.Options.{one_item}
+use Rattle.vb_base.specs.Limits.{max_content_nodes}
 use Rattle.sparse.specs.Map.{Map, empty}
 use Rattle.vb_value.specs.Bound.{IsWithin}
 use Rattle.vb_value.specs.Content as content
@@ -109,7 +110,7 @@ IsGoodChoice c = ((l : Layout) → FitsChoice l c) × IsWithinChoice c × IsName
 abbrev Gives : Scope → Line → Type 0
 Gives s (Var n w) = (u : Ty) × (slice_get s.variables.types n ≡ Some u) × Good u w
 Gives s (Heap f r w) = (u : Ty) × (slice_get s.fields.types f ≡ Some u) × IsNamed r × Good u w
-Gives s (Holds q k c) = (us : List Ty) × (slice_get s.predicates.types q ≡ Some us) × GoodKey us k × GoodContent c × (nodes c ≤ 4096)
+Gives s (Holds q k c) = (us : List Ty) × (slice_get s.predicates.types q ≡ Some us) × GoodKey us k × GoodContent c × (nodes c ≤ max_content_nodes)
 Gives s (Chosen c) = IsGoodChoice c
 Gives s Opened = ⊤
 

@@ -1,5 +1,6 @@
 -- A reader of a kind of run files: what it makes of a file, and that each file spells one thing or goes wrong at one place.
 use Rattle.std.proofs.Common.{◌≡◌, ◌≤◌, ◌⊎◌, inl, inr, ℕ, List, length, Result, Ok, Err, MatchResult, IfOk, IfErr, refl, ap, subst}
+use Rattle.vb_base.specs.Limits.{max_boogie_bytes}
 use Rattle.vb_base.specs.declared.places.Pos.{Pos}
 use Rattle.run_words.specs.Machine.{Machine, IsReadBy, StopsBy, WrongAt}
 use Rattle.run_words.specs.Answers.{UnlessMemory}
@@ -67,7 +68,7 @@ module _ {S R : Type 0} {m : Machine S R} {Spell : List (List ℕ) → R → Typ
       let second = k.read (lines_of bytes) b i in
       k.joins first.0 a b first.1.1 (subst (λ e. Same e b) (one_read m (lines_of bytes) second.1.0 first.1.0) second.1.1)
 
-  pub run_or_place : length bytes ≤ 33554432 → ((run : R) × Spell (lines_of bytes) run) ⊎ ((at : Pos) × WrongAt Spell bytes at)
+  pub run_or_place : length bytes ≤ max_boogie_bytes → ((run : R) × Spell (lines_of bytes) run) ⊎ ((at : Pos) × WrongAt Spell bytes at)
   run_or_place few = elim (ends m bytes few) [
     | inl h ↦ inl (h.0, k.spelled (lines_of bytes) h.0 h.1)
     | inr h ↦ inr (h.0, k.wrong bytes h.0 h.1)

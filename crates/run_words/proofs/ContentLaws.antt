@@ -7,6 +7,7 @@ use Rattle.std.proofs.lemmas.Option.{some_pair_parts, cond_some}
 use Rattle.std.proofs.lemmas.Bool.{le-leb, leb-true}
 use Rattle.std.proofs.lemmas.Slice.Eq.{bytes_eq-Decides}
 use Rattle.lemmas.proofs.Tests.{refuted}
+use Rattle.vb_base.specs.Limits.{max_content_nodes}
 use Rattle.vb_value.specs.Content as tree
 use Rattle.vb_value.specs.Content.{Content, nodes}
 use Rattle.vb_value.specs.declared.values.Value.{Value}
@@ -173,33 +174,33 @@ whole_by ws (Some r) is h = h r refl
 not_leb : (a b : ℕ) → (a ≤ b → ⊥) → nat_le a b ≡ false
 not_leb a b h = refuted (nat_le a b) (leb-true a b, le-leb a b) h
 
-small_none : (c : Content) (rest : List (List ℕ)) → (rest ≡ [] → nodes c ≤ 4096 → ⊥) → small_whole (c, rest) ≡ None
-small_none c [] h = rw (not_leb (nodes c) 4096 (λ small. h refl small)) refl
+small_none : (c : Content) (rest : List (List ℕ)) → (rest ≡ [] → nodes c ≤ max_content_nodes → ⊥) → small_whole (c, rest) ≡ None
+small_none c [] h = rw (not_leb (nodes c) max_content_nodes (λ small. h refl small)) refl
 small_none c (w ∷ ws) h = refl
 
 -- nothing that is small enough is the whole
-pub whole_none : (ws : List (List ℕ)) → ((c : Content) → BeginsWithContent ws c [] → nodes c ≤ 4096 → ⊥) → whole_content ws ≡ None
+pub whole_none : (ws : List (List ℕ)) → ((c : Content) → BeginsWithContent ws c [] → nodes c ≤ max_content_nodes → ⊥) → whole_content ws ≡ None
 unfolding whole_content
 whole_none ws none =
     whole_by ws (content_from (length ws) ws) refl (λ r is. small_none r.0 r.1 (λ empty small.
     none r.0 (subst (λ x. BeginsWithContent ws r.0 x) empty (read_content (length ws) ws r.0 r.1 is)) small))
 
-pub whole_some : (ws rest : List (List ℕ)) (c : Content) → BeginsWithContent ws c rest → rest ≡ [] → nodes c ≤ 4096 → whole_content ws ≡ Some c
+pub whole_some : (ws rest : List (List ℕ)) (c : Content) → BeginsWithContent ws c rest → rest ≡ [] → nodes c ≤ max_content_nodes → whole_content ws ≡ Some c
 unfolding whole_content
 whole_some ws rest c h empty small =
-    rw (content_read (length ws) (subst (λ x. BeginsWithContent ws c x) empty h) (omega arith)) (rw (le-leb (nodes c) 4096 small) refl)
+    rw (content_read (length ws) (subst (λ x. BeginsWithContent ws c x) empty h) (omega arith)) (rw (le-leb (nodes c) max_content_nodes small) refl)
 
 pub whole_more : (ws rest : List (List ℕ)) (w : List ℕ) (more : List (List ℕ)) (c : Content) → BeginsWithContent ws c rest → rest ≡ w ∷ more → whole_content ws ≡ None
 unfolding whole_content
 whole_more ws rest w more c h is = rw (content_read (length ws) (subst (λ x. BeginsWithContent ws c x) is h) (omega arith)) refl
 
-pub whole_spelled : (ws : List (List ℕ)) (c : Content) → whole_content ws ≡ Some c → BeginsWithContent ws c [] × (nodes c ≤ 4096)
+pub whole_spelled : (ws : List (List ℕ)) (c : Content) → whole_content ws ≡ Some c → BeginsWithContent ws c [] × (nodes c ≤ max_content_nodes)
 unfolding whole_content
 whole_spelled ws c e = spelled_by (content_from (length ws) ws) refl e where
-  small_spelled : (d : Content) (rest : List (List ℕ)) → small_whole (d, rest) ≡ Some c → BeginsWithContent ws d rest → BeginsWithContent ws c [] × (nodes c ≤ 4096)
-  small_spelled d [] e h = let parts = cond_some (nat_le (nodes d) 4096) d c e in subst (λ x. BeginsWithContent ws x [] × (nodes x ≤ 4096)) parts.1 (h, leb-true (nodes d) 4096 parts.0)
+  small_spelled : (d : Content) (rest : List (List ℕ)) → small_whole (d, rest) ≡ Some c → BeginsWithContent ws d rest → BeginsWithContent ws c [] × (nodes c ≤ max_content_nodes)
+  small_spelled d [] e h = let parts = cond_some (nat_le (nodes d) max_content_nodes) d c e in subst (λ x. BeginsWithContent ws x [] × (nodes x ≤ max_content_nodes)) parts.1 (h, leb-true (nodes d) max_content_nodes parts.0)
   small_spelled d (w ∷ more) e h = absurd cc
 
-  spelled_by : (o : Option (Content × List (List ℕ))) → content_from (length ws) ws ≡ o → (o >>= small_whole) ≡ Some c → BeginsWithContent ws c [] × (nodes c ≤ 4096)
+  spelled_by : (o : Option (Content × List (List ℕ))) → content_from (length ws) ws ≡ o → (o >>= small_whole) ≡ Some c → BeginsWithContent ws c [] × (nodes c ≤ max_content_nodes)
   spelled_by None is e = absurd cc
   spelled_by (Some r) is e = small_spelled r.0 r.1 e (read_content (length ws) ws r.0 r.1 is)

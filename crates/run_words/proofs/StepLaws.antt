@@ -4,6 +4,7 @@ use Rattle.std.proofs.lemmas.Bool.{cases_order}
 use Rattle.std.proofs.lemmas.List.{take_all, take-append-drop, take-take}
 use Rattle.lemmas.proofs.Tests.{not_both}
 use Rattle.lemmas.proofs.Options.{some_same, none_some}
+use Rattle.vb_base.specs.Limits.{max_boogie_bytes}
 use Rattle.vb_base.specs.declared.places.Pos.{Pos}
 use Rattle.vb_base.proofs.Place.{same_pos}
 use Rattle.run_words.specs.Text.{lines_of}
@@ -123,7 +124,7 @@ module _ {S : Type 0} (step : S → List ℕ → Option S) where
 place_of_line : (line : ℕ) → 1 ≤ line → line < 2 ^ 32 → Pos
 place_of_line line some few = record { line = line; col = 1; line_in_range = (some, few); col_in_range = (omega arith, omega arith) }
 
-module _ {S R : Type 0} (m : Machine S R) (bytes : List ℕ) (few : length bytes ≤ 33554432) where
+module _ {S R : Type 0} (m : Machine S R) (bytes : List ℕ) (few : length bytes ≤ max_boogie_bytes) where
   ends_by : (o : Option S) → all_steps m.step (Some m.begun) (lines_of bytes) ≡ o → ((run : R) × IsReadBy m (lines_of bytes) run) ⊎ ((at : Pos) × StopsBy m (lines_of bytes) at)
   unfolding place_of_line
   ends_by (Some st) is = by_head (m.is_headed st) refl where

@@ -10,6 +10,7 @@ use Rattle.vb_base.specs.Limits.{max_made_methods}
 use Rattle.vb_base.specs.declared.places.Pos.{Pos}
 use Rattle.vb_value.specs.declared.values.Ty.TheVariants as ty
 use Rattle.viper_syntax.specs.Decl as d
+use Rattle.viper_scope.specs.declared.rules.Rule.TheVariants as rule
 use Rattle.viper_scope.specs.declared.context.Role.{Role}
 use Rattle.viper_scope.specs.declared.context.Role.TheVariants as role
 use Rattle.viper_scope.specs.Outcome.{Found, then_typed, obeys}
@@ -119,7 +120,7 @@ naming_append : (w : World) (xs ys : List d.Decl) → naming w (xs ++ ys) ≡ th
 naming_append w [] ys = refl
 naming_append w (x ∷ xs) ys = by_case (is_new w x) (naming_append (with_decl w x) xs ys) where
   by_case : (b : Bool) → naming (with_decl w x) (xs ++ ys) ≡ then_typed (naming (with_decl w x) xs) (λ v. naming v ys) →
-      obeys b (decl_name x).pos 2 (naming (with_decl w x) (xs ++ ys)) ≡ then_typed (obeys b (decl_name x).pos 2 (naming (with_decl w x) xs)) (λ v. naming v ys)
+      obeys b (decl_name x).pos rule.DeclaredTwice (naming (with_decl w x) (xs ++ ys)) ≡ then_typed (obeys b (decl_name x).pos rule.DeclaredTwice (naming (with_decl w x) xs)) (λ v. naming v ys)
   by_case true h = h
   by_case false h = refl
 
@@ -128,7 +129,7 @@ with_method q i = ap (λ k. world (method_roles i ++ (m_name (suc i), role.Metho
 
 one_named : (q : ℕ → Pos) (i : ℕ) → suc i ≤ max_made_methods → naming (world_of i) (d.Method (method_tree q (suc i)) ∷ []) ≡ Found (world_of (suc i))
 one_named q i few =
-    ap (λ r. obeys (not (is_some r)) (q 1) 2 (Found (with_decl (world_of i) (d.Method (method_tree q (suc i)))))) (new_name i (suc i) (omega arith) few) ∙
+    ap (λ r. obeys (not (is_some r)) (q 1) rule.DeclaredTwice (Found (with_decl (world_of i) (d.Method (method_tree q (suc i)))))) (new_name i (suc i) (omega arith) few) ∙
     ap (λ w. Found w) (with_method q i)
 
 methods_named : (q : ℕ → Pos) (n : ℕ) → n ≤ max_made_methods → naming (world_of 0) (methods_trees q n) ≡ Found (world_of n)

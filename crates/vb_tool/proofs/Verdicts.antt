@@ -28,9 +28,11 @@ use Rattle.viper_core.specs.Weight.{weight}
 use Rattle.viper_types.specs.Checked.{IsRefused}
 use Rattle.viper_types.specs.Declaring.{program_typing}
 use Rattle.viper_scope.specs.Outcome.{Judged, Found, Broken}
+use Rattle.viper_scope.specs.Rules.{number}
+use Rattle.viper_scope.specs.declared.rules.Rule.{Rule}
 use Rattle.viper_types.specs.Program.{IsProgram}
-use Rattle.viper_scope.specs.declared.faults.TypeFault.{TypeFault}
-use Rattle.viper_scope.specs.declared.faults.TypeFault.TheVariants as typed
+use Rattle.viper_types.specs.declared.faults.TypeFault.{TypeFault}
+use Rattle.viper_types.specs.declared.faults.TypeFault.TheVariants as typed
 use Rattle.viper_types.proofs.FormedProgram.{typed_program_is_formed}
 use Rattle.viper_types.proofs.ProgramFinds.{one_program_of}
 use Rattle.viper_types.proofs.ProgramLaws.{broken_is_no_program, typed_or_broken}
@@ -46,7 +48,7 @@ use Rattle.vb_tool.specs.declared.trouble.Trouble.TheVariants as trouble
 -- the refusal for a broken rule
 abbrev for_rule : Judged p.Program → Refusal
 for_rule (Found q) = refusal.Size
-for_rule (Broken at n) = refusal.Rule at n
+for_rule (Broken at r) = refusal.Rule at (number r)
 
 not_both : {source : d.SourceProgram} {q r : p.Program} → IsProgram source q → IsProgram source r → max_weight < weight q → weight r ≤ max_weight → ⊥
 not_both h i above below = omega (arith, above, below, ap weight (one_program_of h i))
@@ -143,8 +145,8 @@ pub type_refusal : (bytes : List ℕ) (tokens : List Token) (source : d.SourcePr
     IsRefused source fault → trouble_of_types fault ≡ trouble.Refused r → IsTextRefusal bytes r
 type_refusal bytes tokens source typed.Memory r lexed spelled why is_r = absurd (cc)
 type_refusal bytes tokens source (typed.Rule at n) r lexed spelled why is_r =
-    let same : refusal.Rule at n ≡ r = cc in
-    subst (IsTextRefusal bytes) same (of_tokens lexed (of_tree spelled (rule why)))
+    let same : refusal.Rule at (number why.0) ≡ r = ap (λ m. refusal.Rule at m) (sym why.1) ∙ cc in
+    subst (IsTextRefusal bytes) same (of_tokens lexed (of_tree spelled (rule why.2)))
 type_refusal bytes tokens source (typed.Weight n) r lexed spelled why is_r =
     let same : refusal.Weight too_heavy ≡ r = ap (λ x. refusal.Weight x) (sym why.0) ∙ cc in
     let (program, is, above) = why.1 in
@@ -164,7 +166,7 @@ module _ (bytes : List ℕ) (small : length bytes ≤ max_viper_bytes) where
       inl (q, record { small = small; tokens = tokens; lexed = lexed; source = source; spelled = spelled; is_typed = is; light = light })
 
   of_types : (tokens : List Token) (source : d.SourceProgram) → IsLexed bytes tokens → Spells tokens source →
-      ((q : p.Program) × IsProgram source q) ⊎ ((at : Pos) × (n : ℕ) × (program_typing source ≡ Broken at n)) → Answered
+      ((q : p.Program) × IsProgram source q) ⊎ ((at : Pos) × (r : Rule) × (program_typing source ≡ Broken at r)) → Answered
   of_types tokens source lexed spelled (inl typed) = of_weight tokens source typed.0 lexed spelled typed.1 (cases_lt max_weight (weight typed.0))
   of_types tokens source lexed spelled (inr broken) = inr (_, of_tokens lexed (of_tree spelled (rule broken.2)))
 

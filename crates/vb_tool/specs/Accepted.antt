@@ -16,6 +16,8 @@ use Rattle.viper_core.specs.Program as p
 use Rattle.viper_core.specs.Weight.{weight}
 use Rattle.viper_types.specs.Declaring.{program_typing}
 use Rattle.viper_scope.specs.Outcome.{Broken}
+use Rattle.viper_scope.specs.Rules.{number}
+use Rattle.viper_scope.specs.declared.rules.Rule as types
 use Rattle.viper_types.specs.Program.{IsProgram}
 use Rattle.run_file.specs.Run.{SpellsViperRun, GoesWrongAt}
 use Rattle.vb_tool.specs.Units.{unit_named, UnitRun}
@@ -44,7 +46,7 @@ pub record AcceptsRun (bytes name run_bytes : List ℕ) (u : UnitRun) : Type 0 w
 
 -- a tree is refused for the first rule that it breaks, or for its weight
 pub data IsTreeRefusal (source : d.SourceProgram) : Refusal → Type 0 where
-  rule : {at : Pos} {n : ℕ} → program_typing source ≡ Broken at n → IsTreeRefusal source (Rule at n)
+  rule : {at : Pos} {r : types.Rule} → program_typing source ≡ Broken at r → IsTreeRefusal source (Rule at (number r))
   heavy : {typed : p.Program} → IsProgram source typed → max_weight < weight typed → IsTreeRefusal source (Weight too_heavy)
 
 -- tokens that spell no tree are refused at the first token with which they begin none, or at the end where all of them begin

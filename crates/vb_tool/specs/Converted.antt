@@ -9,8 +9,8 @@ use Rattle.boogie_grammar.specs.declared.faults.BoogieFault.{BoogieFault}
 use Rattle.boogie_grammar.specs.declared.faults.BoogieFault.TheVariants as boogie
 use Rattle.run_words.specs.declared.faults.RunFileFault.{RunFileFault}
 use Rattle.run_words.specs.declared.faults.RunFileFault.TheVariants as run
-use Rattle.viper_scope.specs.declared.faults.TypeFault.{TypeFault}
-use Rattle.viper_scope.specs.declared.faults.TypeFault.TheVariants as typed
+use Rattle.viper_types.specs.declared.faults.TypeFault.{TypeFault}
+use Rattle.viper_types.specs.declared.faults.TypeFault.TheVariants as typed
 use Rattle.vb_gen.specs.declared.GenFault.{GenFault}
 use Rattle.vb_gen.specs.declared.GenFault.TheVariants as made
 use Rattle.boogie_file.specs.declared.trouble.Trouble as b

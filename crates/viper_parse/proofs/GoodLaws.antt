@@ -3,6 +3,7 @@ use Rattle.std.proofs.Common.{◌≡◌, refl, sym, subst, ◌∙◌, ℕ, ℤ, 
 use Rattle.std.proofs.lemmas.Int.{ints}
 use Rattle.std.specs.List.{All}
 use Rattle.std.proofs.lemmas.List.Elements.{All-nil, All-cons}
+use Rattle.vb_base.specs.Limits.{max_group_tokens, max_term_depth}
 use Rattle.viper_syntax.specs.declared.tokens.Token.{Token}
 use Rattle.viper_syntax.specs.declared.tokens.Tok.{Tok}
 use Rattle.viper_syntax.specs.declared.tokens.Tok.TheVariants as k
@@ -36,7 +37,7 @@ all_right : (ts : List Token) → ((i : ℕ) (x : Token) → slice_get ts i ≡ 
 all_right [] h = tt
 all_right (x ∷ ts) h = (right x.tok (h 0 x refl), all_right ts (λ i y e. h (suc i) y e))
 
-short_rows : (ts : List Token) → KeepsLimits ts → HasShortRows 1024 ts
+short_rows : (ts : List Token) → KeepsLimits ts → HasShortRows max_group_tokens ts
 short_rows ts h = record { short = λ before row after e r. short_row before row after (subst KeepsLimits (e ∙ sym (append_assoc before row after)) h) r }
 
 -- a program of such tokens
@@ -44,7 +45,7 @@ pub good : {ts : List Token} {p : d.SourceProgram} → IsWellFormed ts → Spell
 good {ts} {p} w h =
     let leaves = all_hold h (all_right ts w.proper) in
     record {
-      shallow = all_each (λ a. depth a ≤ 1024) _ (all_shallow (omega (arith, w.few)) h (short_rows ts w.limits));
+      shallow = all_each (λ a. depth a ≤ max_term_depth) _ (all_shallow (omega (arith, w.few)) h (short_rows ts w.limits));
       literals = all_each HasLiterals _ leaves.literals;
       names = record {
         declared = all_each IsName _ leaves.declared;

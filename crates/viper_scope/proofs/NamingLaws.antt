@@ -14,7 +14,7 @@ use Rattle.viper_syntax.specs.declared.decls.Decl.TheVariants.{Predicate}
 use Rattle.viper_syntax.specs.declared.stmts.Formal.{Formal}
 use Rattle.viper_syntax.specs.declared.stmts.Named.{Named}
 use Rattle.viper_syntax.specs.declared.terms.Term.{Term}
-use Rattle.viper_scope.specs.Rules.{declared_twice}
+use Rattle.viper_scope.specs.declared.rules.Rule.TheVariants as rule
 use Rattle.viper_scope.specs.declared.context.Role.{Role}
 use Rattle.viper_scope.specs.Context.{World, find}
 use Rattle.viper_scope.specs.Naming.{decl_name, is_new, naming, with_decl}
@@ -34,10 +34,10 @@ unknown w decl name found known named looked is was =
     ap (λ n. find w.roles n.name) (sym named) ∙ sym looked ∙ nothing found (sym is ∙ was)
 
 next_decl : (w : World) (decls : List Decl) (i : ℕ) (decl : Decl) (new : Bool) → i < length decls → decl ≡ get_or decls i decl → is_new w (decl_of decl) ≡ new →
-    naming w (map decl_of (drop i decls)) ≡ obeys new (decl_name (decl_of decl)).pos declared_twice (naming (with_decl w (decl_of decl)) (map decl_of (drop (i + 1) decls)))
+    naming w (map decl_of (drop i decls)) ≡ obeys new (decl_name (decl_of decl)).pos rule.DeclaredTwice (naming (with_decl w (decl_of decl)) (map decl_of (drop (i + 1) decls)))
 next_decl w decls i decl new lt is told =
     let here : drop i decls ≡ decl ∷ drop (i + 1) decls = rw add-one (drop-cons decls i decl lt ∙ ap (λ d. d ∷ drop (suc i) decls) (sym is)) in
-    ap (λ ds. naming w (map decl_of ds)) here ∙ ap (λ b. obeys b (decl_name (decl_of decl)).pos declared_twice (naming (with_decl w (decl_of decl)) (map decl_of (drop (i + 1) decls)))) told
+    ap (λ ds. naming w (map decl_of ds)) here ∙ ap (λ b. obeys b (decl_name (decl_of decl)).pos rule.DeclaredTwice (naming (with_decl w (decl_of decl)) (map decl_of (drop (i + 1) decls)))) told
 
 pub declared : (w after : World) (decls : List Decl) (i : ℕ) (decl : Decl) → i < length decls → decl ≡ get_or decls i decl → is_new w (decl_of decl) ≡ true → after ≡ with_decl w (decl_of decl) →
     naming after (map decl_of (drop (i + 1) decls)) ≡ naming w (map decl_of (drop i decls))
@@ -45,8 +45,8 @@ declared w after decls i decl lt is new with_it =
     ap (λ v. naming v (map decl_of (drop (i + 1) decls))) with_it ∙ sym (next_decl w decls i decl true lt is new)
 
 pub second_name : (w : World) (decls : List Decl) (i : ℕ) (decl : Decl) (name : Named) → i < length decls → decl ≡ get_or decls i decl → name ≡ decl_name (decl_of decl) → is_new w (decl_of decl) ≡ false →
-    naming w (map decl_of (drop i decls)) ≡ Broken name.pos declared_twice
-second_name w decls i decl name lt is named old = next_decl w decls i decl false lt is old ∙ ap (λ n. Broken n.pos declared_twice) (sym named)
+    naming w (map decl_of (drop i decls)) ≡ Broken name.pos rule.DeclaredTwice
+second_name w decls i decl name lt is named old = next_decl w decls i decl false lt is old ∙ ap (λ n. Broken n.pos rule.DeclaredTwice) (sym named)
 
 pub all_declared : (w : World) (decls : List Decl) (i : ℕ) → length decls ≤ i → i ≤ length decls → naming w (map decl_of (drop i decls)) ≡ Found w
 all_declared w decls i above below =

@@ -13,20 +13,19 @@ use Rattle.viper_scope.specs.declared.context.MethodTypes.{MethodTypes}
 use Rattle.viper_scope.specs.declared.context.World as world
 use Rattle.viper_scope.specs.declared.context.Context as context
 use Rattle.viper_scope.specs.declared.context.Part.{Part}
-use Rattle.viper_scope.specs.declared.faults.TypeFault.{TypeFault}
-use Rattle.viper_scope.specs.declared.faults.TypeFault.TheVariants.{Memory, Rule, Weight}
+use Rattle.viper_scope.specs.declared.rules.RuleFault.{RuleFault}
+use Rattle.viper_scope.specs.declared.rules.RuleFault.TheVariants as fault
 use Rattle.viper_scope.specs.Arguments.{Typing}
 use Rattle.viper_scope.specs.Outcome.{Judged, Found, Broken}
 use Rattle.viper_scope.specs.Context.{Signature, MethodSignature, World, Context}
 use Rattle.viper_scope.specs.Scope.{Scope}
 
-abbrev pub Refuses : {X : Type 0} → Judged X → TypeFault → Type 0
-Refuses j Memory = Unit {0}
-Refuses j (Rule p n) = j ≡ Broken p n
-Refuses j (Weight w) = ⊥
+abbrev pub Refuses : {X : Type 0} → Judged X → RuleFault → Type 0
+Refuses j fault.Memory = Unit {0}
+Refuses j (fault.Broken p r) = j ≡ Broken p r
 
 -- `seen` is what a contract sees of the value
-abbrev pub Answers : {X Y : Type 0} → (Y → X) → Judged X → Result Y TypeFault → Type 0
+abbrev pub Answers : {X Y : Type 0} → (Y → X) → Judged X → Result Y RuleFault → Type 0
 Answers seen j (Ok y) = j ≡ Found (seen y)
 Answers seen j (Err f) = Refuses j f
 

@@ -5,7 +5,7 @@ use Rattle.vb_value.specs.Value.{same_type}
 use Rattle.vb_value.specs.declared.values.Ty.{Ty}
 use Rattle.viper_core.specs.Expr as e
 use Rattle.viper_syntax.specs.Term as t
-use Rattle.viper_scope.specs.Rules.{wrong_type, argument_count}
+use Rattle.viper_scope.specs.declared.rules.Rule.TheVariants as rule
 use Rattle.viper_scope.specs.Outcome.{Judged, Found, obeys, clear_of}
 
 -- a typed expression
@@ -47,4 +47,4 @@ exprs_in (x ∷ xs) = e.more x.0 (exprs_in xs)
 
 -- typed arguments for these parameters
 abbrev pub fitted : t.Terms → List Ty → Pos → List Typing → Judged e.Exprs
-fitted args params at xs = obeys (as_many xs params) at argument_count (clear_of (misfit args xs params) wrong_type (Found (exprs_in xs)))
+fitted args params at xs = obeys (as_many xs params) at rule.ArgumentCount (clear_of (misfit args xs params) rule.WrongType (Found (exprs_in xs)))

@@ -2,7 +2,7 @@
 use Rattle.std.specs.Prelude.{Bool, not, List, [], ◌∷◌, ◌++◌, length, map, is_some}
 use Rattle.viper_syntax.specs.Decl as d
 use Rattle.viper_syntax.specs.declared.stmts.Named.{Named}
-use Rattle.viper_scope.specs.Rules.{declared_twice}
+use Rattle.viper_scope.specs.declared.rules.Rule.TheVariants as rule
 use Rattle.viper_scope.specs.declared.context.Role.TheVariants as role
 use Rattle.viper_scope.specs.Outcome.{Judged, Found, obeys}
 use Rattle.viper_scope.specs.Context.{World, find}
@@ -39,4 +39,4 @@ is_new w a = not (is_some (find w.roles (decl_name a).name))
 -- all names of the shared space are different (rule 2)
 abbrev pub naming : World → List d.Decl → Judged World
 naming w [] = Found w
-naming w (a ∷ rest) = obeys (is_new w a) (decl_name a).pos declared_twice (naming (with_decl w a) rest)
+naming w (a ∷ rest) = obeys (is_new w a) (decl_name a).pos rule.DeclaredTwice (naming (with_decl w a) rest)

@@ -5,8 +5,7 @@ ghost use Rattle.viper_scope.specs.Answers.{Answers, typing_of, typings_of, argu
 ghost use Rattle.viper_scope.specs.Arguments as a;
 ghost use Rattle.viper_scope.specs.Outcome.{Found};
 
-use crate::faults::TypeFault;
-use crate::rules::{ARGUMENT_COUNT, WRONG_TYPE};
+use crate::rules::{Rule, RuleFault};
 use std::alloc::Global;
 use vb_base::Pos;
 use vb_value::Ty;
@@ -50,7 +49,7 @@ pub fn misfit(args: &[Term], typed: &[(Expr, Ty)], params: &[Ty]) -> Option<Pos>
 }
 
 /// The expressions of typed arguments.
-pub fn exprs_in(alloc: Global, typed: Vec<(Expr, Ty)>) -> Result<Vec<Expr>, TypeFault>
+pub fn exprs_in(alloc: Global, typed: Vec<(Expr, Ty)>) -> Result<Vec<Expr>, RuleFault>
     ensures { Answers argument_exprs_of (Found (a.exprs_in (typings_of typed))) result }
 {
     Ok(typed.into_iter().map(|(e, _)| e).collect(alloc)?)
@@ -63,14 +62,14 @@ pub fn fitted(
     typed: Vec<(Expr, Ty)>,
     params: &[Ty],
     at: Pos,
-) -> Result<Vec<Expr>, TypeFault>
+) -> Result<Vec<Expr>, RuleFault>
     ensures { Answers argument_exprs_of (a.fitted (terms_of args.now) params.now at (typings_of typed)) result }
 {
     if !as_many(&typed, params) {
-        return Err(TypeFault::Rule(at, ARGUMENT_COUNT));
+        return Err(RuleFault::Broken(at, Rule::ArgumentCount));
     }
     if let Some(place) = misfit(args, &typed, params) {
-        return Err(TypeFault::Rule(place, WRONG_TYPE));
+        return Err(RuleFault::Broken(place, Rule::WrongType));
     }
     exprs_in(alloc, typed)
 }

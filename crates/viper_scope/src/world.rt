@@ -10,10 +10,9 @@ ghost use Rattle.viper_scope.specs.Naming as j;
 ghost use Rattle.viper_scope.specs.Types as f;
 
 use crate::context::{MethodTypes, PredicateSignature, Role, World};
-use crate::faults::TypeFault;
 use crate::keys::key_of;
 use crate::names::Names;
-use crate::rules::DECLARED_TWICE;
+use crate::rules::{Rule, RuleFault};
 use crate::types::declared_type;
 use std::alloc::Global;
 use symbol_table::NameKey;
@@ -116,13 +115,13 @@ impl World {
 }
 
 /// Adds declarations, whose names must be new.
-fn declare_all(world: &mut World, alloc: Global, decls: &[Decl]) -> Result<(), TypeFault>
+fn declare_all(world: &mut World, alloc: Global, decls: &[Decl]) -> Result<(), RuleFault>
     ensures { Answers (λ _. world_of world.new) (j.naming (world_of world.old) (map decl_of decls.now)) result }
 {
     for decl in decls {
         let name = decl_name(decl);
         if world.roles.find(&name.name).is_some() {
-            return Err(TypeFault::Rule(name.pos, DECLARED_TWICE));
+            return Err(RuleFault::Broken(name.pos, Rule::DeclaredTwice));
         }
         world.declare(alloc, decl)?;
     }
@@ -130,7 +129,7 @@ fn declare_all(world: &mut World, alloc: Global, decls: &[Decl]) -> Result<(), T
 }
 
 /// The declarations of a file, whose names are all different.
-pub fn naming(alloc: Global, decls: &[Decl]) -> Result<World, TypeFault>
+pub fn naming(alloc: Global, decls: &[Decl]) -> Result<World, RuleFault>
     ensures { Answers world_of (j.naming j.no_world (map decl_of decls.now)) result }
 {
     let mut world = World::new(alloc, key_of(decls));

@@ -8,7 +8,7 @@ use Rattle.viper_syntax.specs.Term as t
 use Rattle.viper_syntax.specs.declared.tokens.Sign.{Sign}
 use Rattle.viper_syntax.specs.declared.tokens.Sign.TheVariants as sign
 use Rattle.viper_syntax.specs.declared.tokens.Word.TheVariants as word
-use Rattle.viper_scope.specs.Rules.{unknown_name, misplaced_wildcard}
+use Rattle.viper_scope.specs.declared.rules.Rule.TheVariants as rule
 use Rattle.viper_scope.specs.Outcome.{Judged, Found}
 use Rattle.viper_scope.specs.Context.{Context, predicate_at, allows_permission_forms}
 use Rattle.viper_types.specs.Typing as j
@@ -37,7 +37,7 @@ pub amount_told : (c : Context) → HasBodies c → (sc : Scope) (m : t.Amount) 
 amount_told c b sc t.omitted = tells (fixed full)
 amount_told c b sc (t.given a) =
     tell_if (is_wildcard a)
-    (λ i. tell_obeys (allows_permission_forms c.part) (start a) misplaced_wildcard (λ h. tells (wildcard_term a i h)))
+    (λ i. tell_obeys (allows_permission_forms c.part) (start a) rule.MisplacedWildcard (λ h. tells (wildcard_term a i h)))
     (λ i. tell_then (expected_told c b sc ty.Perm a) (λ x h. tells (fixed (part h))))
 
 pub amount_finds : {c : Context} {sc : Scope} {m : t.Amount} {q : e.Amt} → IsAmount c sc m q → j.amount c sc m ≡ Found q
@@ -50,7 +50,7 @@ amount_finds (r.wildcard h) = rw h refl
 pub instance_told : (c : Context) → HasBodies c → (sc : Scope) (x : List ℕ) (args : t.Terms) (m : t.Amount) (at : Pos) →
     Tells (IsInstance c sc x args m at) (j.instance c sc x args m at)
 instance_told c b sc x args m at =
-    tell_known (predicate_at c.world x) at unknown_name (λ s i. tell_then (arguments_told c b sc args s.1.params at) (λ es h.
+    tell_known (predicate_at c.world x) at rule.UnknownName (λ s i. tell_then (arguments_told c b sc args s.1.params at) (λ es h.
     tell_then (amount_told c b sc m) (λ q g. tells (of_predicate {s = s.1} i h g))))
 
 pub instance_finds : {c : Context} {sc : Scope} {x : List ℕ} {args : t.Terms} {m : t.Amount} {at : Pos} {y : e.Assertion} →

@@ -13,7 +13,7 @@ use Rattle.viper_syntax.specs.Decl as d
 use Rattle.viper_syntax.specs.declared.stmts.Formal.{Formal}
 use Rattle.viper_syntax.specs.declared.tokens.Word.{Word}
 use Rattle.viper_syntax.specs.declared.tokens.Word.TheVariants as word
-use Rattle.viper_scope.specs.Rules.{declared_twice, wrong_type, perm_parameter}
+use Rattle.viper_scope.specs.declared.rules.Rule.TheVariants as rule
 use Rattle.viper_scope.specs.declared.context.Part.TheVariants as part
 use Rattle.viper_scope.specs.Outcome.{Found}
 use Rattle.viper_scope.specs.Context.{World, Context, find}
@@ -64,8 +64,8 @@ formals_refs : (allows_perm is_parameter : Bool) (fr : Frame) (refs : ℕ) (fs :
     Tells (λ gr. with_formals refs fs ≤ length (ref_variables gr.scope)) (formals allows_perm is_parameter fr fs)
 formals_refs allows_perm is_parameter fr refs [] r = tells r
 formals_refs allows_perm is_parameter fr refs (f ∷ fs) r =
-    tell_obeys (not (is_some (find fr.scope f.name.name))) f.name.pos declared_twice (λ i. tell_obeys (is_some (type_of f.ty)) f.name.pos wrong_type (λ l.
-    tell_obeys (allows_perm || not (same_type (declared_type f) ty.Perm)) f.name.pos perm_parameter (λ m.
+    tell_obeys (not (is_some (find fr.scope f.name.name))) f.name.pos rule.DeclaredTwice (λ i. tell_obeys (is_some (type_of f.ty)) f.name.pos rule.WrongType (λ l.
+    tell_obeys (allows_perm || not (same_type (declared_type f) ty.Perm)) f.name.pos rule.PermParameter (λ m.
     formals_refs allows_perm is_parameter (with_variable fr f.name.name (declared_type f) is_parameter) (k.with_formal refs f) fs (variable_refs fr f is_parameter refs r))))
 
 body_weighs : (q : p.Program) (c : Context) → CountsAs q c.world → (fr : Frame) (refs : ℕ) (body : Option s.SBlock) → refs ≤ length (ref_variables fr.scope) →

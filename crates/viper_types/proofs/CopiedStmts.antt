@@ -2,6 +2,7 @@
 use Rattle.std.proofs.Common.{◌≡◌, ap, subst, ℕ, ◌+◌, ◌≤◌, Bool, true, false, cond, Option, Some, None, List, [], ◌∷◌, length, if◌then◌else◌, nat_le, nat_lt, arith, length-append}
 use Rattle.std.specs.List.{range_with_len}
 use Rattle.std.proofs.lemmas.List.FromFn.{length-range_with_len}
+use Rattle.vb_base.specs.Limits.{max_block_depth, too_heavy}
 use Rattle.vb_base.specs.declared.places.Pos.{Pos}
 use Rattle.vb_value.specs.Value.{same_type}
 use Rattle.vb_value.specs.declared.values.Ty.{Ty}
@@ -16,7 +17,7 @@ use Rattle.viper_syntax.specs.declared.stmts.Named.{Named}
 use Rattle.viper_syntax.specs.declared.stmts.Formal.{Formal}
 use Rattle.viper_syntax.specs.declared.tokens.Word.{Word}
 use Rattle.viper_syntax.specs.declared.tokens.Word.TheVariants as word
-use Rattle.viper_scope.specs.Rules.{unknown_name, wrong_type, argument_count, target_count, too_deep}
+use Rattle.viper_scope.specs.declared.rules.Rule.TheVariants as rule
 use Rattle.viper_scope.specs.declared.context.Variable.{Variable}
 use Rattle.viper_scope.specs.Outcome.{Judged, Found, known}
 use Rattle.viper_scope.specs.Context.{World, Context, method_at, nowhere}
@@ -50,7 +51,7 @@ variable_refs fr f is_parameter refs h =
     let more = cond (same_type (declared_type f) ty.Ref) (length fr.vars ∷ []) [] in
     omega (
       arith,
-      one_ref (same_type (declared_type f) ty.Ref) (nat_lt refs 100001) (length fr.vars) refs (length (ref_variables fr.scope)) h,
+      one_ref (same_type (declared_type f) ty.Ref) (nat_lt refs too_heavy) (length fr.vars) refs (length (ref_variables fr.scope)) h,
       ap (λ ns. length ns) (refs_append fr.scope ((f.name.name, v) ∷ [])),
       length-append (ref_variables fr.scope) more,
     )
@@ -93,14 +94,14 @@ permission_weighs q c is sc m = subst (λ b. Tells (CoversExpr b (copied_amount 
 calling_weighs : (q : p.Program) (c : Context) → CountsAs q c.world → (sc : Scope) (at : Pos) (vs : List Target) (call : s.SCall) →
     Tells (λ x. copied_all c.world c.bodies (t.terms call.args) ≤ stmt_weight q x) (calling c sc at vs call)
 calling_weighs q c is sc at vs call =
-    tell_known (method_at c.world call.name.name) call.name.pos unknown_name (λ m i. tell_then (typing_all_weighs q c is sc (t.terms call.args)) (λ xs h.
-    tell_obeys (as_many xs m.1.params) call.name.pos argument_count (λ i1. tell_obeys (as_many vs m.1.returns) call.name.pos target_count (λ i2.
-    tell_clear (mistarget vs m.1.returns) wrong_type (λ i3. tell_clear (misfit (t.terms call.args) xs m.1.params) wrong_type (λ i4. tells (omega (arith, h, size_in (base_of q) xs))))))))
+    tell_known (method_at c.world call.name.name) call.name.pos rule.UnknownName (λ m i. tell_then (typing_all_weighs q c is sc (t.terms call.args)) (λ xs h.
+    tell_obeys (as_many xs m.1.params) call.name.pos rule.ArgumentCount (λ i1. tell_obeys (as_many vs m.1.returns) call.name.pos rule.TargetCount (λ i2.
+    tell_clear (mistarget vs m.1.returns) rule.WrongType (λ i3. tell_clear (misfit (t.terms call.args) xs m.1.params) rule.WrongType (λ i4. tells (omega (arith, h, size_in (base_of q) xs))))))))
 
 calling_into_field_told : (c : Context) (sc : Scope) (call : s.SCall) {P : core.Stmt → Type 0} → Tells P (calling_into_field c sc call)
 calling_into_field_told c sc call =
-    tell_known (method_at c.world call.name.name) call.name.pos unknown_name (λ m i. tell_then (any_told (typing_all c sc (t.terms call.args))) (λ xs h.
-    tell_obeys (as_many xs m.1.params) call.name.pos argument_count (λ i1. broken)))
+    tell_known (method_at c.world call.name.name) call.name.pos rule.UnknownName (λ m i. tell_then (any_told (typing_all c sc (t.terms call.args))) (λ xs h.
+    tell_obeys (as_many xs m.1.params) call.name.pos rule.ArgumentCount (λ i1. broken)))
 
 fields_listed : (b : Bool) (n : ℕ) (i : Judged (List ℕ)) → Tells (λ ns. (if b then n else 0) ≤ length ns) (if b then Found (range_with_len 0 n) else i)
 fields_listed true n i = tells (omega (arith, length-range_with_len 0 n))
@@ -117,7 +118,7 @@ declaring_weighs q c is fr at v refs None r = tells (omega arith)
 declaring_weighs q c is fr at v refs (Some (s.TermRhs a)) r = tell_then (expected_weighs q c is fr.scope v.ty a) (λ x h. tells (omega (arith, h)))
 declaring_weighs q c is fr at v refs (Some (s.CallRhs call)) r = calling_weighs q c is fr.scope at (v ∷ []) call
 declaring_weighs q c is fr at v refs (Some (s.NewRhs new)) r =
-    tell_obeys (same_type v.ty ty.Ref) v.at wrong_type (λ i. creating_weighs q c.world fr.scope at v.number refs new r)
+    tell_obeys (same_type v.ty ty.Ref) v.at rule.WrongType (λ i. creating_weighs q c.world fr.scope at v.number refs new r)
 
 setting_weighs : (q : p.Program) (c : Context) → CountsAs q c.world → (sc : Scope) (refs : ℕ) (xs : List Named) (rhs : s.SRhs) → refs ≤ length (ref_variables sc) →
     Tells (λ x. copied_by_rhs c.world c.bodies refs rhs ≤ stmt_weight q x) (setting true c sc xs rhs)
@@ -162,7 +163,7 @@ alone_weighs q [] ss = omega arith
 alone_weighs q (b ∷ bs) ss = omega (arith, alone_weighs q bs ss)
 
 nested_weighs : (q : p.Program) (n m : ℕ) (bs : List Branch) (ss : core.Stmts) → n ≤ branches_weight q bs → m ≤ stmts_weight q ss →
-    Tells (λ x. n + m ≤ stmt_weight q x) (known (nested bs ss) nowhere wrong_type Found)
+    Tells (λ x. n + m ≤ stmt_weight q x) (known (nested bs ss) nowhere rule.WrongType Found)
 nested_weighs q n m [] ss h g = broken
 nested_weighs q n m (b ∷ bs) ss h g = tells (omega (arith, h, g, alone_weighs q bs ss))
 
@@ -186,7 +187,7 @@ mutual
 
   pub blocking_weighs : (q : p.Program) (c : Context) → CountsAs q c.world → (d : ℕ) (fr : Frame) (refs : ℕ) (b : s.SBlock) → refs ≤ length (ref_variables fr.scope) →
       Tells (λ ss. copied_by_block c.world c.bodies refs b ≤ stmts_weight q ss) (blocking true c d fr b)
-  blocking_weighs q c is d fr refs (s.block at ss) r = tell_obeys (nat_le d 128) at too_deep (λ i. tell_then (stepping_all_weighs q c is d fr refs ss r) (λ xs h. tells h))
+  blocking_weighs q c is d fr refs (s.block at ss) r = tell_obeys (nat_le d max_block_depth) at rule.TooDeep (λ i. tell_then (stepping_all_weighs q c is d fr refs ss r) (λ xs h. tells h))
 
   stepping_all_weighs : (q : p.Program) (c : Context) → CountsAs q c.world → (d : ℕ) (fr : Frame) (refs : ℕ) (ss : s.SStmts) → refs ≤ length (ref_variables fr.scope) →
       Tells (λ xs. copied_by_stmts c.world c.bodies refs ss ≤ stmts_weight q (core.stmts xs)) (stepping_all true c d fr ss)

@@ -10,7 +10,7 @@ use Rattle.viper_core.specs.Typing.{value_type, is_number}
 use Rattle.viper_syntax.specs.Term as t
 use Rattle.viper_syntax.specs.declared.tokens.Sign.{Sign}
 use Rattle.viper_syntax.specs.declared.tokens.Sign.TheVariants as sign
-use Rattle.viper_scope.specs.Rules.{unknown_name, wrong_type, misplaced_old, misplaced_wildcard, missing_body, argument_count, misplaced_unfolding}
+use Rattle.viper_scope.specs.declared.rules.Rule.TheVariants as rule
 use Rattle.viper_scope.specs.Outcome.{Judged, Found, Broken}
 use Rattle.viper_scope.specs.Context.{World, Context, Signature, field_at, predicate_at, allows_old, allows_permission_forms, body_or_true, body_at}
 use Rattle.viper_types.specs.Copied.{base_of as world_base, body_size, opened_size, copied, copied_amount, copied_all}
@@ -43,20 +43,20 @@ any_told (Broken at r) = broken
 -- ---- the node of a term
 
 unary_covers : (base n : ℕ) (o : Sign) (at : Pos) (x : Typing) → n ≤ size base x.0 → Tells (Covers base n) (unary o x at)
-unary_covers base n sign.Minus at x h = tell_obeys (is_number x.1) at wrong_type (λ i. tells (omega (arith, h)))
-unary_covers base n sign.Not at x h = tell_obeys (same_type x.1 ty.Bool) at wrong_type (λ i. tells (omega (arith, h)))
+unary_covers base n sign.Minus at x h = tell_obeys (is_number x.1) at rule.WrongType (λ i. tells (omega (arith, h)))
+unary_covers base n sign.Not at x h = tell_obeys (same_type x.1 ty.Bool) at rule.WrongType (λ i. tells (omega (arith, h)))
 unary_covers base n _ at x h = broken
 
 located_covers : (base n : ℕ) (w : World) (f : List ℕ) (at : Pos) (x : Typing) → n ≤ size base x.0 → Tells (λ l. n ≤ size base l.receiver) (located w f at x)
-located_covers base n w f at x h = tell_known (field_at w f) at unknown_name (λ k i. tell_obeys (same_type x.1 ty.Ref) at wrong_type (λ l. tells h))
+located_covers base n w f at x h = tell_known (field_at w f) at rule.UnknownName (λ k i. tell_obeys (same_type x.1 ty.Ref) at rule.WrongType (λ l. tells h))
 
 of_type_covers : (base n : ℕ) (u : Ty) (a : t.Term) (x : Typing) → n ≤ size base x.0 → Tells (CoversExpr base n) (of_type u a x)
-of_type_covers base n u a x h = tell_obeys (same_type x.1 u) (start a) wrong_type (λ i. tells h)
+of_type_covers base n u a x h = tell_obeys (same_type x.1 u) (start a) rule.WrongType (λ i. tells h)
 
 fitted_covers : (base n : ℕ) (args : t.Terms) (us : List Ty) (at : Pos) (xs : List Typing) → n ≤ typings_size base xs →
     Tells (λ es. n ≤ sizes base es) (fitted args us at xs)
 fitted_covers base n args us at xs h =
-    tell_obeys (as_many xs us) at argument_count (λ i. tell_clear (misfit args xs us) wrong_type (λ k. tells (omega (arith, h, size_in base xs))))
+    tell_obeys (as_many xs us) at rule.ArgumentCount (λ i. tell_clear (misfit args xs us) rule.WrongType (λ k. tells (omega (arith, h, size_in base xs))))
 
 -- the body of an `unfolding`, which stands in its expression
 body_covers : (base : ℕ) (bodies : List (Option e.Assertion)) (n : ℕ) → body_size base (slice_get bodies n) ≤ assertion_size base (body_at bodies n)
@@ -72,7 +72,7 @@ record IsOpening (c : Context) (x : List ℕ) (s : ℕ × Signature) : Type 0 wh
 
 opening_told : (c : Context) (x : List ℕ) (at name_at : Pos) → Tells (IsOpening c x) (opening c x at name_at)
 opening_told c x at name_at =
-    tell_obeys (allows_permission_forms c.part) at misplaced_unfolding (λ i. tell_known (predicate_at c.world x) name_at unknown_name (λ s k. tell_obeys s.1.has_body name_at missing_body (λ l. tells (record { known = k }))))
+    tell_obeys (allows_permission_forms c.part) at rule.MisplacedUnfolding (λ i. tell_known (predicate_at c.world x) name_at rule.UnknownName (λ s k. tell_obeys s.1.has_body name_at rule.MissingBody (λ l. tells (record { known = k }))))
 
 opened_covers : (c : Context) (x : List ℕ) (s : ℕ × Signature) → IsOpening c x s →
     opened_size c.world c.bodies (predicate_at c.world x) ≤ assertion_size (world_base c.world) (body_at c.bodies s.0)
@@ -89,13 +89,13 @@ mutual
   typing_covers c sc (t.Unary o a at) = tell_then (typing_covers c sc a) (λ x h. unary_covers (world_base c.world) (copied c.world c.bodies a) o at x h)
   typing_covers c sc (t.Binary o a b at) =
       tell_then (typing_covers c sc a) (λ x h. tell_then (typing_covers c sc b) (λ y g.
-      tell_known (operator o) at wrong_type (λ op i. tell_known (value_type op x.1 y.1) at wrong_type (λ u k. tells (omega (arith, h, g))))))
+      tell_known (operator o) at rule.WrongType (λ op i. tell_known (value_type op x.1 y.1) at rule.WrongType (λ u k. tells (omega (arith, h, g))))))
   typing_covers c sc (t.Choose a b d at) =
       tell_then (typing_covers c sc a) (λ x h. tell_then (typing_covers c sc b) (λ y g. tell_then (typing_covers c sc d) (λ z k.
-      tell_obeys (same_type x.1 ty.Bool) at wrong_type (λ i. tell_obeys (same_type y.1 z.1) at wrong_type (λ l. tells (omega (arith, h, g, k)))))))
+      tell_obeys (same_type x.1 ty.Bool) at rule.WrongType (λ i. tell_obeys (same_type y.1 z.1) at rule.WrongType (λ l. tells (omega (arith, h, g, k)))))))
   typing_covers c sc (t.Field a f at) =
       tell_then (typing_covers c sc a) (λ x h. tell_then (located_covers (world_base c.world) (copied c.world c.bodies a) c.world f at x h) (λ l g. tells (omega (arith, g))))
-  typing_covers c sc (t.Old a at) = tell_obeys (allows_old c.part) at misplaced_old (λ i. tell_then (typing_covers c sc a) (λ x h. tells (omega (arith, h))))
+  typing_covers c sc (t.Old a at) = tell_obeys (allows_old c.part) at rule.MisplacedOld (λ i. tell_then (typing_covers c sc a) (λ x h. tells (omega (arith, h))))
   typing_covers c sc (t.Acc a m at) = broken
   typing_covers c sc (t.Inst x args at) = broken
   typing_covers c sc (t.Unfolding x args m a at name_at) =
@@ -134,13 +134,13 @@ amount_covers : (c : Context) (sc : Scope) (m : t.Amount) → Tells (λ q. copie
 amount_covers c sc t.omitted = tells (omega arith)
 amount_covers c sc (t.given a) =
     tell_if (is_wildcard a)
-    (λ i. tell_obeys (allows_permission_forms c.part) (start a) misplaced_wildcard (λ h. tells (wildcard_copies c.world c.bodies a i)))
+    (λ i. tell_obeys (allows_permission_forms c.part) (start a) rule.MisplacedWildcard (λ h. tells (wildcard_copies c.world c.bodies a i)))
     (λ i. tell_then (expected_covers c sc ty.Perm a) (λ x h. tells h))
 
 instance_covers : (c : Context) (sc : Scope) (x : List ℕ) (args : t.Terms) (m : t.Amount) (at : Pos) →
     Tells (CoversAssertion (world_base c.world) (copied_all c.world c.bodies args + copied_amount c.world c.bodies m)) (instance c sc x args m at)
 instance_covers c sc x args m at =
-    tell_known (predicate_at c.world x) at unknown_name (λ q i. tell_then (arguments_covers c sc args q.1.params at) (λ es h. tell_then (amount_covers c sc m) (λ v g. tells (omega (arith, h, g)))))
+    tell_known (predicate_at c.world x) at rule.UnknownName (λ q i. tell_then (arguments_covers c sc args q.1.params at) (λ es h. tell_then (amount_covers c sc m) (λ v g. tells (omega (arith, h, g)))))
 
 access_covers : (c : Context) (sc : Scope) (a : t.Term) (m : t.Amount) (at : Pos) →
     Tells (CoversAssertion (world_base c.world) (copied c.world c.bodies a + copied_amount c.world c.bodies m)) (access c sc a m at)

@@ -9,8 +9,9 @@ use Rattle.viper_syntax.specs.Decl as d
 use Rattle.viper_syntax.specs.View.{decl_of, clause_of}
 use Rattle.viper_syntax.specs.declared.decls.Decl.{Decl}
 use Rattle.viper_syntax.specs.declared.decls.SClause.{SClause}
+use Rattle.viper_scope.specs.declared.rules.Rule.{Rule}
 use Rattle.viper_scope.specs.Answers.{Refuses}
-use Rattle.viper_scope.specs.declared.faults.TypeFault.{TypeFault}
+use Rattle.viper_scope.specs.declared.rules.RuleFault.{RuleFault}
 use Rattle.viper_scope.specs.Context.{World}
 use Rattle.viper_scope.specs.Outcome.{Judged, Found, Broken, then_typed, then_more}
 use Rattle.viper_scope.specs.Scope.{Scope}
@@ -34,7 +35,7 @@ onto_more lists w bodies g a rest x h =
     assembled_more g x (j.decls_typing lists w bodies rest)
 
 -- the next declaration breaks a rule
-pub onto_broken : (lists : Bool) (w : World) (bodies : List (Option e.Assertion)) (g : p.Program) (a : d.Decl) (rest : List d.Decl) (at : Pos) (r : ℕ) →
+pub onto_broken : (lists : Bool) (w : World) (bodies : List (Option e.Assertion)) (g : p.Program) (a : d.Decl) (rest : List d.Decl) (at : Pos) (r : Rule) →
     j.decl_typing lists w bodies a ≡ Broken at r → onto lists w bodies g (a ∷ rest) ≡ Broken at r
 onto_broken lists w bodies g a rest at r h =
     ap (λ k. then_typed (then_more k (j.decls_typing lists w bodies rest)) (λ xs. Found (j.assembled g xs))) h
@@ -46,7 +47,7 @@ onto_next lists w bodies g after decls i a x within is found with_it =
     ap (λ q. onto lists w bodies q (map decl_of (drop (i + 1) decls))) with_it ∙
     sym (ap (λ ds. onto lists w bodies g (map decl_of ds)) (next_item decls i a within is) ∙ onto_more lists w bodies g (decl_of a) (map decl_of (drop (i + 1) decls)) x found)
 
-pub onto_refused : (lists : Bool) (w : World) (bodies : List (Option e.Assertion)) (g : p.Program) (decls : List Decl) (i : ℕ) (a : Decl) (f : TypeFault) → i < length decls → a ≡ get_or decls i a →
+pub onto_refused : (lists : Bool) (w : World) (bodies : List (Option e.Assertion)) (g : p.Program) (decls : List Decl) (i : ℕ) (a : Decl) (f : RuleFault) → i < length decls → a ≡ get_or decls i a →
     Refuses (j.decl_typing lists w bodies (decl_of a)) f → Refuses (onto lists w bodies g (map decl_of (drop i decls))) f
 onto_refused lists w bodies g decls i a f within is h =
     refuses_along f (ap (λ ds. onto lists w bodies g (map decl_of ds)) (next_item decls i a within is))

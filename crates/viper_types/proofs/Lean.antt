@@ -1,6 +1,7 @@
 -- A lean walk ends as the full one does. It copies no bodies and makes no lists; no test looks at them, so it finds something
 -- where the full walk does, and else tells the same broken rule.
 use Rattle.std.proofs.Common.{◌≡◌, refl, ap, subst, ℕ, ◌+◌, Bool, true, false, Option, Some, None, List, [], ◌∷◌, if◌then◌else◌, nat_le}
+use Rattle.vb_base.specs.Limits.{max_block_depth}
 use Rattle.vb_base.specs.declared.places.Pos.{Pos}
 use Rattle.vb_value.specs.Value.{same_type}
 use Rattle.vb_value.specs.declared.values.Ty.{Ty}
@@ -17,7 +18,8 @@ use Rattle.viper_syntax.specs.declared.tokens.Sign.{Sign}
 use Rattle.viper_syntax.specs.declared.tokens.Sign.TheVariants as sign
 use Rattle.viper_syntax.specs.declared.tokens.Word.{Word}
 use Rattle.viper_syntax.specs.declared.tokens.Word.TheVariants as word
-use Rattle.viper_scope.specs.Rules.{unknown_name, wrong_type, misplaced_old, argument_count, target_count, too_deep}
+use Rattle.viper_scope.specs.declared.rules.Rule.{Rule}
+use Rattle.viper_scope.specs.declared.rules.Rule.TheVariants as rule
 use Rattle.viper_scope.specs.declared.context.Part.TheVariants as part
 use Rattle.viper_scope.specs.Outcome.{Judged, Found, Broken, then_typed, known, obeys, clear_of}
 use Rattle.viper_scope.specs.Context.{World, Context, find, field_at, predicate_at, method_at, allows_old, nowhere}
@@ -35,7 +37,7 @@ use Rattle.viper_types.specs.Declaring.{Declared, formals, no_frame, context_in,
 -- two walks that both find something, or tell the same broken rule
 pub data Ends {X Y : Type 0} (R : X → Y → Type 0) : Judged X → Judged Y → Type 0 where
   both : {x : X} {y : Y} → R x y → Ends R (Found x) (Found y)
-  same : {p : Pos} {r : ℕ} → Ends R (Broken p r) (Broken p r)
+  same : {p : Pos} {r : Rule} → Ends R (Broken p r) (Broken p r)
 
 -- whatever both find
 pub data Any {X Y : Type 0} (x : X) (y : Y) : Type 0 where
@@ -71,16 +73,16 @@ end_after : {X V W : Type 0} {S : V → W → Type 0} (i : Judged X) {go : X →
 end_after (Found x) f = f x
 end_after (Broken p r) f = same
 
-end_known : {X V W : Type 0} {S : V → W → Type 0} (o : Option X) (p : Pos) (r : ℕ) {go : X → Judged V} {on : X → Judged W} → ((x : X) → Ends S (go x) (on x)) →
+end_known : {X V W : Type 0} {S : V → W → Type 0} (o : Option X) (p : Pos) (r : Rule) {go : X → Judged V} {on : X → Judged W} → ((x : X) → Ends S (go x) (on x)) →
     Ends S (known o p r go) (known o p r on)
 end_known (Some x) p r f = f x
 end_known None p r f = same
 
-end_obeys : {V W : Type 0} {S : V → W → Type 0} (b : Bool) (p : Pos) (r : ℕ) {i : Judged V} {j : Judged W} → Ends S i j → Ends S (obeys b p r i) (obeys b p r j)
+end_obeys : {V W : Type 0} {S : V → W → Type 0} (b : Bool) (p : Pos) (r : Rule) {i : Judged V} {j : Judged W} → Ends S i j → Ends S (obeys b p r i) (obeys b p r j)
 end_obeys true p r h = h
 end_obeys false p r h = same
 
-end_clear : {V W : Type 0} {S : V → W → Type 0} (o : Option Pos) (r : ℕ) {i : Judged V} {j : Judged W} → Ends S i j → Ends S (clear_of o r i) (clear_of o r j)
+end_clear : {V W : Type 0} {S : V → W → Type 0} (o : Option Pos) (r : Rule) {i : Judged V} {j : Judged W} → Ends S i j → Ends S (clear_of o r i) (clear_of o r j)
 end_clear None r h = h
 end_clear (Some p) r h = same
 
@@ -99,18 +101,18 @@ typing_itself (Broken p r) = same
 -- ---- the node of a term
 
 unary_ends : (o : Sign) (at : Pos) (x y : Typing) → SameType x y → Ends SameType (unary o x at) (unary o y at)
-unary_ends sign.Minus at _ _ (typed {u = u}) = end_obeys (is_number u) at wrong_type (both typed)
-unary_ends sign.Not at _ _ (typed {u = u}) = end_obeys (same_type u ty.Bool) at wrong_type (both typed)
+unary_ends sign.Minus at _ _ (typed {u = u}) = end_obeys (is_number u) at rule.WrongType (both typed)
+unary_ends sign.Not at _ _ (typed {u = u}) = end_obeys (same_type u ty.Bool) at rule.WrongType (both typed)
 unary_ends _ at x y h = same
 
 applied_ends : (o : Sign) (at : Pos) (x y v w : Typing) → SameType x y → SameType v w → Ends SameType (applied o x v at) (applied o y w at)
-applied_ends o at _ _ _ _ (typed {u = u}) (typed {u = v}) = end_known (operator o) at wrong_type (λ op. end_known (value_type op u v) at wrong_type (λ w. both typed))
+applied_ends o at _ _ _ _ (typed {u = u}) (typed {u = v}) = end_known (operator o) at rule.WrongType (λ op. end_known (value_type op u v) at rule.WrongType (λ w. both typed))
 
 chosen_ends : (at : Pos) (x y v w a b : Typing) → SameType x y → SameType v w → SameType a b → Ends SameType (chosen x v a at) (chosen y w b at)
-chosen_ends at _ _ _ _ _ _ (typed {u = u}) (typed {u = v}) (typed {u = z}) = end_obeys (same_type u ty.Bool) at wrong_type (end_obeys (same_type v z) at wrong_type (both typed))
+chosen_ends at _ _ _ _ _ _ (typed {u = u}) (typed {u = v}) (typed {u = z}) = end_obeys (same_type u ty.Bool) at rule.WrongType (end_obeys (same_type v z) at rule.WrongType (both typed))
 
 located_ends : (q : World) (f : List ℕ) (at : Pos) (x y : Typing) → SameType x y → Ends SameField (located q f at x) (located q f at y)
-located_ends q f at _ _ (typed {u = u}) = end_known (field_at q f) at unknown_name (λ n. end_obeys (same_type u ty.Ref) at wrong_type (both field))
+located_ends q f at _ _ (typed {u = u}) = end_known (field_at q f) at rule.UnknownName (λ n. end_obeys (same_type u ty.Ref) at rule.WrongType (both field))
 
 read_ends : (at : Pos) (l m : Located) → SameField l m → SameType (e.Field l.receiver l.field at, l.ty) (e.Field m.receiver m.field at, m.ty)
 read_ends at _ _ field = typed
@@ -119,7 +121,7 @@ old_ends : (x y : Typing) → SameType x y → SameType (e.Old x.0, x.1) (e.Old 
 old_ends _ _ typed = typed
 
 of_type_ends : (u : Ty) (a : t.Term) (x y : Typing) → SameType x y → Ends (λ (v w : e.Expr). Any v w) (of_type u a x) (of_type u a y)
-of_type_ends u a _ _ (typed {u = v}) = end_obeys (same_type v u) (start a) wrong_type (both any)
+of_type_ends u a _ _ (typed {u = v}) = end_obeys (same_type v u) (start a) rule.WrongType (both any)
 
 -- ---- arguments
 
@@ -135,18 +137,18 @@ misfit_same no_types (t.more a rest) (v ∷ us) = refl
 misfit_same (more_types h) (t.more a rest) [] = refl
 misfit_same (more_types {u = u} h) (t.more a rest) (v ∷ us) = ap (λ o. if same_type u v then o else Some (start a)) (misfit_same h rest us)
 
-tested_ends : {V W : Type 0} {S : V → W → Type 0} (b d : Bool) (p : Pos) (r : ℕ) {i : Judged V} {j : Judged W} → b ≡ d → Ends S i j → Ends S (obeys b p r i) (obeys d p r j)
+tested_ends : {V W : Type 0} {S : V → W → Type 0} (b d : Bool) (p : Pos) (r : Rule) {i : Judged V} {j : Judged W} → b ≡ d → Ends S i j → Ends S (obeys b p r i) (obeys d p r j)
 tested_ends true true p r is h = h
 tested_ends true false p r is h = absurd (cc)
 tested_ends false true p r is h = absurd (cc)
 tested_ends false false p r is h = same
 
-cleared_ends : {V W : Type 0} {S : V → W → Type 0} (o q : Option Pos) (r : ℕ) {i : Judged V} {j : Judged W} → o ≡ q → Ends S i j → Ends S (clear_of o r i) (clear_of q r j)
+cleared_ends : {V W : Type 0} {S : V → W → Type 0} (o q : Option Pos) (r : Rule) {i : Judged V} {j : Judged W} → o ≡ q → Ends S i j → Ends S (clear_of o r i) (clear_of q r j)
 cleared_ends {S = S} o q r {i} {j} is h = subst (λ z. Ends S (clear_of o r i) (clear_of z r j)) is (end_clear o r h)
 
 fitted_ends : (args : t.Terms) (us : List Ty) (at : Pos) (xs ys : List Typing) → SameTypes xs ys → Ends (λ (v w : e.Exprs). Any v w) (fitted args us at xs) (fitted args us at ys)
 fitted_ends args us at xs ys h =
-    tested_ends (as_many xs us) (as_many ys us) at argument_count (many_same h us) (cleared_ends (misfit args xs us) (misfit args ys us) wrong_type (misfit_same h args us) (both any))
+    tested_ends (as_many xs us) (as_many ys us) at rule.ArgumentCount (many_same h us) (cleared_ends (misfit args xs us) (misfit args ys us) rule.WrongType (misfit_same h args us) (both any))
 
 listed_more : (x y : Typing) (xs ys : List Typing) → SameType x y → SameTypes xs ys → SameTypes (x ∷ xs) (y ∷ ys)
 listed_more _ _ xs ys typed h = more_types h
@@ -163,7 +165,7 @@ opened_ends k n es fs v w at _ _ typed = typed
 
 mutual
   typing_ends : (k : Context) (sc : Scope) (a : t.Term) → Ends SameType (typing k sc a) (typing (lean k) sc a)
-  typing_ends k sc (t.Name x at) = end_known (find sc x) at unknown_name (λ v. both typed)
+  typing_ends k sc (t.Name x at) = end_known (find sc x) at rule.UnknownName (λ v. both typed)
   typing_ends k sc (t.Number n at) = both typed
   typing_ends k sc (t.Constant x at) = typing_itself (j.constant x at)
   typing_ends k sc (t.Unary o a at) = end_then (typing_ends k sc a) (λ x y h. unary_ends o at x y h)
@@ -172,7 +174,7 @@ mutual
       end_then (typing_ends k sc a) (λ x y h. end_then (typing_ends k sc b) (λ v z i. end_then (typing_ends k sc d) (λ m n f. chosen_ends at x y v z m n h i f)))
   typing_ends k sc (t.Field a f at) =
       end_then (typing_ends k sc a) (λ x y h. end_then (located_ends k.world f at x y h) (λ l m i. both (read_ends at l m i)))
-  typing_ends k sc (t.Old a at) = end_obeys (allows_old k.part) at misplaced_old (end_then (typing_ends k sc a) (λ x y h. both (old_ends x y h)))
+  typing_ends k sc (t.Old a at) = end_obeys (allows_old k.part) at rule.MisplacedOld (end_then (typing_ends k sc a) (λ x y h. both (old_ends x y h)))
   typing_ends k sc (t.Acc a m at) = same
   typing_ends k sc (t.Inst x args at) = same
   typing_ends k sc (t.Unfolding x args m a at name_at) =
@@ -205,7 +207,7 @@ amount_ends k sc (t.given a) = end_if (is_wildcard a) (itself (wildcard k (start
 instance_ends : (k : Context) (sc : Scope) (x : List ℕ) (args : t.Terms) (m : t.Amount) (at : Pos) →
     Ends (λ (v w : e.Assertion). Any v w) (instance k sc x args m at) (instance (lean k) sc x args m at)
 instance_ends k sc x args m at =
-    end_known (predicate_at k.world x) at unknown_name (λ q. end_then (arguments_ends k sc args q.1.params at) (λ es fs h. end_then (amount_ends k sc m) (λ v z i. both any)))
+    end_known (predicate_at k.world x) at rule.UnknownName (λ q. end_then (arguments_ends k sc args q.1.params at) (λ es fs h. end_then (amount_ends k sc m) (λ v z i. both any)))
 
 access_ends : (k : Context) (sc : Scope) (a : t.Term) (m : t.Amount) (at : Pos) →
     Ends (λ (v w : e.Assertion). Any v w) (access k sc a m at) (access (lean k) sc a m at)
@@ -253,15 +255,15 @@ AnyStmt x y = Any x y
 
 calling_ends : (k : Context) (sc : Scope) (at : Pos) (vs : List Target) (call : s.SCall) → Ends AnyStmt (calling k sc at vs call) (calling (lean k) sc at vs call)
 calling_ends k sc at vs call =
-    end_known (method_at k.world call.name.name) call.name.pos unknown_name (λ m. end_then (typing_all_ends k sc (t.terms call.args)) (λ xs ys h.
-    tested_ends (as_many xs m.1.params) (as_many ys m.1.params) call.name.pos argument_count (many_same h m.1.params) (
-    end_obeys (as_many vs m.1.returns) call.name.pos target_count (end_clear (mistarget vs m.1.returns) wrong_type (
-    cleared_ends (misfit (t.terms call.args) xs m.1.params) (misfit (t.terms call.args) ys m.1.params) wrong_type (misfit_same h (t.terms call.args) m.1.params) (both any))))))
+    end_known (method_at k.world call.name.name) call.name.pos rule.UnknownName (λ m. end_then (typing_all_ends k sc (t.terms call.args)) (λ xs ys h.
+    tested_ends (as_many xs m.1.params) (as_many ys m.1.params) call.name.pos rule.ArgumentCount (many_same h m.1.params) (
+    end_obeys (as_many vs m.1.returns) call.name.pos rule.TargetCount (end_clear (mistarget vs m.1.returns) rule.WrongType (
+    cleared_ends (misfit (t.terms call.args) xs m.1.params) (misfit (t.terms call.args) ys m.1.params) rule.WrongType (misfit_same h (t.terms call.args) m.1.params) (both any))))))
 
 calling_into_field_ends : (k : Context) (sc : Scope) (call : s.SCall) → Ends AnyStmt (calling_into_field k sc call) (calling_into_field (lean k) sc call)
 calling_into_field_ends k sc call =
-    end_known (method_at k.world call.name.name) call.name.pos unknown_name (λ m. end_then (typing_all_ends k sc (t.terms call.args)) (λ xs ys h.
-    tested_ends (as_many xs m.1.params) (as_many ys m.1.params) call.name.pos argument_count (many_same h m.1.params) same))
+    end_known (method_at k.world call.name.name) call.name.pos rule.UnknownName (λ m. end_then (typing_all_ends k sc (t.terms call.args)) (λ xs ys h.
+    tested_ends (as_many xs m.1.params) (as_many ys m.1.params) call.name.pos rule.ArgumentCount (many_same h m.1.params) same))
 
 creating_ends : (q : World) (sc : Scope) (at : Pos) (n : ℕ) (new : s.SNew) → Ends AnyStmt (creating true q sc at n new) (creating false q sc at n new)
 creating_ends q sc at n new =
@@ -278,7 +280,7 @@ declaring_ends : (k : Context) (fr : Frame) (at : Pos) (v : Target) (rhs : Optio
 declaring_ends k fr at v None = both any
 declaring_ends k fr at v (Some (s.TermRhs a)) = end_then (expected_ends k fr.scope v.ty a) (λ x y h. both any)
 declaring_ends k fr at v (Some (s.CallRhs call)) = calling_ends k fr.scope at (v ∷ []) call
-declaring_ends k fr at v (Some (s.NewRhs new)) = end_obeys (same_type v.ty ty.Ref) v.at wrong_type (creating_ends k.world fr.scope at v.number new)
+declaring_ends k fr at v (Some (s.NewRhs new)) = end_obeys (same_type v.ty ty.Ref) v.at rule.WrongType (creating_ends k.world fr.scope at v.number new)
 
 field_type_ends : (k : Context) (sc : Scope) (a : t.Term) (l m : Located) → SameField l m → Ends (λ (v w : e.Expr). Any v w) (expected k sc l.ty a) (expected (lean k) sc m.ty a)
 field_type_ends k sc a _ _ (field {u = u}) = expected_ends k sc u a
@@ -307,7 +309,7 @@ folding_ends k sc f =
 
 -- ---- statements
 
-nested_ends : {cs bs : List Branch} → SameCount cs bs → (ss ts : c.Stmts) → Ends AnyStmt (known (nested cs ss) nowhere wrong_type Found) (known (nested bs ts) nowhere wrong_type Found)
+nested_ends : {cs bs : List Branch} → SameCount cs bs → (ss ts : c.Stmts) → Ends AnyStmt (known (nested cs ss) nowhere rule.WrongType Found) (known (nested bs ts) nowhere rule.WrongType Found)
 nested_ends no_branch ss ts = same
 nested_ends (more_branches h) ss ts = both any
 
@@ -326,7 +328,7 @@ mutual
       end_then (expected_ends k fr.scope ty.Bool a) (λ x y h. end_then (asserting_all_ends k fr.scope is) (λ xs ys i. end_then (blocking_ends k (d + 1) fr b) (λ ss ts f. both any)))
 
   blocking_ends : (k : Context) (d : ℕ) (fr : Frame) (b : s.SBlock) → Ends (λ (v w : c.Stmts). Any v w) (blocking true k d fr b) (blocking false (lean k) d fr b)
-  blocking_ends k d fr (s.block at ss) = end_obeys (nat_le d 128) at too_deep (end_then (stepping_all_ends k d fr ss) (λ xs ys h. both any))
+  blocking_ends k d fr (s.block at ss) = end_obeys (nat_le d max_block_depth) at rule.TooDeep (end_then (stepping_all_ends k d fr ss) (λ xs ys h. both any))
 
   stepping_all_ends : (k : Context) (d : ℕ) (fr : Frame) (ss : s.SStmts) →
       Ends (λ (v w : List c.Stmt). Any v w) (stepping_all true k d fr ss) (stepping_all false (lean k) d fr ss)

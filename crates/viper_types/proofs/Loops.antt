@@ -1,6 +1,7 @@
 -- What the typing of statements finds has, in each loop, the targets of the loop.
 use Rattle.std.proofs.Common.{◌≡◌, ℕ, ◌+◌, ◌++◌, ◌≤◌, Bool, true, false, Option, Some, None, List, [], ◌∷◌, nat_le, length, refl, subst, arith, length-append}
 use Rattle.std.proofs.lemmas.Option.{same_Some}
+use Rattle.vb_base.specs.Limits.{max_block_depth}
 use Rattle.viper_types.proofs.CopiedTerms.{any_told as anything}
 use Rattle.vb_base.specs.declared.places.Pos.{Pos}
 use Rattle.vb_value.specs.Value.{same_type}
@@ -13,7 +14,7 @@ use Rattle.viper_syntax.specs.Stmt as s
 use Rattle.viper_syntax.specs.declared.stmts.Named.{Named}
 use Rattle.viper_syntax.specs.declared.tokens.Word.{Word}
 use Rattle.viper_syntax.specs.declared.tokens.Word.TheVariants as word
-use Rattle.viper_scope.specs.Rules.{unknown_name, wrong_type, argument_count, target_count, too_deep}
+use Rattle.viper_scope.specs.declared.rules.Rule.TheVariants as rule
 use Rattle.viper_scope.specs.Context.{World, Context, method_at, nowhere}
 use Rattle.viper_scope.specs.Scope.{Scope}
 use Rattle.viper_scope.specs.Arguments.{as_many, misfit}
@@ -57,9 +58,9 @@ mutual
 module _ (n : ℕ) where
   calls : (k : Context) (sc : Scope) (at : Pos) (vs : List Target) (call : s.SCall) → Tells (ListLoops n) (j.calling k sc at vs call)
   calls k sc at vs call =
-      tell_known (method_at k.world call.name.name) call.name.pos unknown_name (λ m i. tell_then (anything (typing_all k sc (t.terms call.args))) (λ xs h.
-      tell_obeys (as_many xs m.1.params) call.name.pos argument_count (λ i1. tell_obeys (as_many vs m.1.returns) call.name.pos target_count (λ i2.
-      tell_clear (mistarget vs m.1.returns) wrong_type (λ i3. tell_clear (misfit (t.terms call.args) xs m.1.params) wrong_type (λ i4. tells (plain refl)))))))
+      tell_known (method_at k.world call.name.name) call.name.pos rule.UnknownName (λ m i. tell_then (anything (typing_all k sc (t.terms call.args))) (λ xs h.
+      tell_obeys (as_many xs m.1.params) call.name.pos rule.ArgumentCount (λ i1. tell_obeys (as_many vs m.1.returns) call.name.pos rule.TargetCount (λ i2.
+      tell_clear (mistarget vs m.1.returns) rule.WrongType (λ i3. tell_clear (misfit (t.terms call.args) xs m.1.params) rule.WrongType (λ i4. tells (plain refl)))))))
 
   creates : (w : World) (sc : Scope) (at : Pos) (x : ℕ) (new : s.SNew) → Tells (ListLoops n) (j.creating true w sc at x new)
   creates w sc at x new = tell_then (anything (chosen_fields true w new)) (λ fs h. tells (plain refl))
@@ -68,12 +69,12 @@ module _ (n : ℕ) where
   declares k fr at v None = tells (plain refl)
   declares k fr at v (Some (s.TermRhs a)) = tell_then (anything (expected k fr.scope v.ty a)) (λ x h. tells (plain refl))
   declares k fr at v (Some (s.CallRhs call)) = calls k fr.scope at (v ∷ []) call
-  declares k fr at v (Some (s.NewRhs new)) = tell_obeys (same_type v.ty ty.Ref) v.at wrong_type (λ i. creates k.world fr.scope at v.number new)
+  declares k fr at v (Some (s.NewRhs new)) = tell_obeys (same_type v.ty ty.Ref) v.at rule.WrongType (λ i. creates k.world fr.scope at v.number new)
 
   into_field : (k : Context) (sc : Scope) (call : s.SCall) → Tells (ListLoops n) (j.calling_into_field k sc call)
   into_field k sc call =
-      tell_known (method_at k.world call.name.name) call.name.pos unknown_name (λ m i. tell_then (anything (typing_all k sc (t.terms call.args))) (λ xs h.
-      tell_obeys (as_many xs m.1.params) call.name.pos argument_count (λ i1. broken)))
+      tell_known (method_at k.world call.name.name) call.name.pos rule.UnknownName (λ m i. tell_then (anything (typing_all k sc (t.terms call.args))) (λ xs h.
+      tell_obeys (as_many xs m.1.params) call.name.pos rule.ArgumentCount (λ i1. broken)))
 
   sets : (k : Context) (sc : Scope) (xs : List Named) (rhs : s.SRhs) → Tells (ListLoops n) (j.setting true k sc xs rhs)
   sets k sc [] rhs = broken
@@ -137,13 +138,13 @@ mutual
   stmt_loops k d fr (s.Unfold f) = tell_then (anything (j.folding k fr.scope f)) (λ x h. tells (plain refl))
   stmt_loops k d fr (s.If arms other) =
       tell_then (branches_loops k (d + 1) fr arms) (λ bs h. tell_then (else_loops k (d + arm_count arms) (with_hidden fr (declared_in_arms arms)) other) (λ ss g.
-      tell_known (nested bs ss) nowhere wrong_type (λ x i. tells (nested_loops ss h (lower_all (more_vars fr (declared_in_arms arms)) g) x i))))
+      tell_known (nested bs ss) nowhere rule.WrongType (λ x i. tells (nested_loops ss h (lower_all (more_vars fr (declared_in_arms arms)) g) x i))))
   stmt_loops k d fr (s.While at a is body) =
       tell_then (anything (expected k fr.scope ty.Bool a)) (λ x h. tell_then (anything (asserting_all k fr.scope is)) (λ xs g.
       tell_then (anything (blocking true k (d + 1) fr body)) (λ ss i. tells (turns (length fr.vars) (omega arith) refl))))
 
   pub block_loops : (k : Context) (d : ℕ) (fr : Frame) (a : s.SBlock) → Tells (LoopsIn (length fr.vars)) (blocking true k d fr a)
-  block_loops k d fr (s.block at ss) = tell_obeys (nat_le d 128) at too_deep (λ i. tell_then (all_loops k d fr ss) (λ xs h. tells h))
+  block_loops k d fr (s.block at ss) = tell_obeys (nat_le d max_block_depth) at rule.TooDeep (λ i. tell_then (all_loops k d fr ss) (λ xs h. tells h))
 
   all_loops : (k : Context) (d : ℕ) (fr : Frame) (ss : s.SStmts) → Tells (λ xs. LoopsIn (length fr.vars) (c.stmts xs)) (stepping_all true k d fr ss)
   all_loops k d fr s.no_stmts = tells no_loops

@@ -5,6 +5,7 @@ use Rattle.std.specs.Option.{IfSome}
 use Rattle.std.proofs.lemmas.List.{length-map}
 use Rattle.std.proofs.lemmas.List.Elements.{All-nil, All-cons, All-head, All-tail, All-append}
 use Rattle.lemmas.proofs.Lists.{all_left, all_right}
+use Rattle.vb_base.specs.Limits.{max_term_depth}
 use Rattle.vb_base.specs.Names.{NamesDiffer}
 use Rattle.vb_value.specs.declared.values.Ty.{Ty}
 use Rattle.viper_core.specs.Depth.{assertion_depths}
@@ -98,7 +99,7 @@ postconditions_are z (one_clause {rest = rest} (requires_of {a = a} h) hs) l = p
 
 clauses_are_shallow : {w : World} {bodies : List (Option e.Assertion)} {params all : Scope} {ds : List d.SClause} {xs : List (Bool × e.Assertion)} →
     AreClauses w bodies params all ds xs → All IsShallow (clauses_terms ds) →
-    max (assertion_depths (conditions true xs)) (assertion_depths (conditions false xs)) ≤ 1024
+    max (assertion_depths (conditions true xs)) (assertion_depths (conditions false xs)) ≤ max_term_depth
 clauses_are_shallow no_clauses l = omega arith
 clauses_are_shallow (one_clause {rest = rest} (requires_of {a = a} h) hs) l =
     omega (arith, depths.assertion_depth h, All-head IsShallow a (clauses_terms rest) l, clauses_are_shallow hs (All-tail IsShallow a (clauses_terms rest) l))

@@ -3,8 +3,8 @@ use Rattle.std.proofs.Common.{◌≡◌, ◌∙◌, ap, sym, refl, ◌-◌, List
 use Rattle.vb_base.specs.declared.places.Pos.{Pos}
 use Rattle.viper_core.specs.Expr as e
 use Rattle.viper_syntax.specs.declared.stmts.Named.{Named}
-use Rattle.viper_scope.specs.declared.faults.TypeFault.{TypeFault}
-use Rattle.viper_scope.specs.declared.faults.TypeFault.TheVariants.{Memory, Rule, Weight}
+use Rattle.viper_scope.specs.declared.rules.RuleFault.{RuleFault}
+use Rattle.viper_scope.specs.declared.rules.RuleFault.TheVariants as fault
 use Rattle.viper_scope.specs.Answers.{Refuses}
 use Rattle.viper_scope.specs.Context.{World}
 use Rattle.viper_scope.specs.Outcome.{Judged, Found}
@@ -21,11 +21,10 @@ pub dotted_found : (w : World) (x : Typing) (f : Named) (gs : List Named) (l : L
 dotted_found w x f [] l h = h
 dotted_found w x f (g ∷ gs) l h = rw h refl
 
-pub dotted_refused : (w : World) (x : Typing) (f : Named) (gs : List Named) (t : TypeFault) → Refuses (located w f.name f.pos x) t → Refuses (dotted w x f gs) t
-dotted_refused w x f gs Memory h = tt
-dotted_refused w x f [] (Rule p n) h = h
-dotted_refused w x f (g ∷ gs) (Rule p n) h = rw h refl
-dotted_refused w x f gs (Weight k) h = absurd h
+pub dotted_refused : (w : World) (x : Typing) (f : Named) (gs : List Named) (t : RuleFault) → Refuses (located w f.name f.pos x) t → Refuses (dotted w x f gs) t
+dotted_refused w x f gs fault.Memory h = tt
+dotted_refused w x f [] (fault.Broken p r) h = h
+dotted_refused w x f (g ∷ gs) (fault.Broken p r) h = rw h refl
 
 -- the last name is that of the last place
 pub last_place_of : (x : Named) (fs : List Named) (f : Named) → slice_get fs (length fs - 1) ≡ Some f → last_place x fs ≡ f.pos

@@ -3,6 +3,7 @@ use Rattle.std.proofs.Common.{◌≡◌, ◌≢◌, ◌∙◌, ℕ, ◌<◌, ◌
 use Rattle.std.specs.Option.{IfSome}
 use Rattle.std.proofs.lemmas.List.{length-map}
 use Rattle.std.proofs.lemmas.List.Elements.{All-from_recursion, All-head, All-tail}
+use Rattle.vb_base.specs.Limits.{max_term_depth}
 use Rattle.vb_base.specs.Names.{is_viper_name, NamesDiffer}
 use Rattle.vb_base.specs.declared.places.Pos.{Pos}
 use Rattle.vb_value.specs.declared.values.Ty.TheVariants as ty
@@ -63,7 +64,7 @@ body_is_assertion z (body_of {a = a} h) l = is_assertion z h (All-head HasLitera
 
 body_is_shallow : {w : World} {sc : Scope} {body : Option t.Term} {b : Option e.Assertion} → IsPredicateBody w sc body b →
     All IsShallow (option_terms (λ a. a ∷ []) body) →
-    IfSome b (λ a. assertion_depth a ≤ 1024)
+    IfSome b (λ a. assertion_depth a ≤ max_term_depth)
 body_is_shallow no_body l = tt
 body_is_shallow (body_of {a = a} h) l = omega (arith, depths.assertion_depth h, All-head IsShallow a [] l)
 

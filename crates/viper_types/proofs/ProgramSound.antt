@@ -12,7 +12,7 @@ use Rattle.viper_syntax.specs.declared.stmts.Named.{Named}
 use Rattle.viper_syntax.specs.declared.stmts.Formal.{Formal}
 use Rattle.viper_syntax.specs.declared.tokens.Word.{Word}
 use Rattle.viper_syntax.specs.declared.tokens.Word.TheVariants as word
-use Rattle.viper_scope.specs.Rules.{declared_twice, wrong_type, perm_parameter}
+use Rattle.viper_scope.specs.declared.rules.Rule.TheVariants as rule
 use Rattle.viper_scope.specs.declared.context.Part.{Part}
 use Rattle.viper_scope.specs.declared.context.Part.TheVariants as part
 use Rattle.viper_scope.specs.Outcome.{Judged, Found, Broken, then_typed, then_more}
@@ -35,14 +35,14 @@ use Rattle.viper_types.proofs.BodyLaws.{signatures, Bodied, no_bodies, one_body,
 pub naming_told : (w : World) (ds : List d.Decl) → Tells (AreNamed w ds) (naming w ds)
 naming_told w [] = tells no_names
 naming_told w (a ∷ rest) =
-    tell_obeys (is_new w a) (decl_name a).pos declared_twice (λ i. tell_so (naming_told (with_decl w a) rest) (λ v h. one_name (none_is _ i) h))
+    tell_obeys (is_new w a) (decl_name a).pos rule.DeclaredTwice (λ i. tell_so (naming_told (with_decl w a) rest) (λ v h. one_name (none_is _ i) h))
 
 formals_told : (allows_perm is_parameter : Bool) (fr : Frame) (fs : List Formal) →
     Tells (AreFormals allows_perm is_parameter fr fs) (formals allows_perm is_parameter fr fs)
 formals_told allows_perm is_parameter fr [] = tells no_formals
 formals_told allows_perm is_parameter fr (f ∷ fs) =
-    tell_obeys (not (is_some (find fr.scope f.name.name))) f.name.pos declared_twice (λ i. tell_obeys (is_some (type_of f.ty)) f.name.pos wrong_type (λ k.
-    tell_obeys (allows_perm || not (same_type (declared_type f) ty.Perm)) f.name.pos perm_parameter (λ l.
+    tell_obeys (not (is_some (find fr.scope f.name.name))) f.name.pos rule.DeclaredTwice (λ i. tell_obeys (is_some (type_of f.ty)) f.name.pos rule.WrongType (λ k.
+    tell_obeys (allows_perm || not (same_type (declared_type f) ty.Perm)) f.name.pos rule.PermParameter (λ l.
     tell_so (formals_told allows_perm is_parameter (with_variable fr f.name.name (declared_type f) is_parameter) fs) (λ gr h.
     one_formal {u = declared_type f} (none_is _ i) (is_type _ k) l h))))
 
@@ -118,7 +118,7 @@ method_told w bodies b m =
 
 decl_told : (w : World) (bodies : List (Option e.Assertion)) → ((u : Part) → HasBodies (context_in w bodies u)) → (a : d.Decl) →
     Tells (IsDeclared w bodies a) (j.decl_typing true w bodies a)
-decl_told w bodies b (d.Field f) = tell_obeys (is_some (type_of f.ty)) f.name.pos wrong_type (λ i. tells (r.field (is_type _ i)))
+decl_told w bodies b (d.Field f) = tell_obeys (is_some (type_of f.ty)) f.name.pos rule.WrongType (λ i. tells (r.field (is_type _ i)))
 decl_told w bodies b (d.Predicate at x params body) = tell_then (predicate_told w at x params body) (λ q h. tells (r.predicate h))
 decl_told w bodies b (d.Method m) = tell_then (method_told w bodies b m) (λ q h. tells (r.method h))
 

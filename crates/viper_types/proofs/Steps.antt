@@ -3,8 +3,8 @@ use Rattle.std.proofs.Common.{◌≡◌, ◌∙◌, refl, sym, ap, ℕ, ◌+◌,
 use Rattle.std.proofs.lemmas.List.{append-nil, at_drop_more, at_drop_all}
 use Rattle.viper_syntax.specs.View.{term_of, terms_of}
 use Rattle.viper_syntax.specs.declared.terms.Term as term
-use Rattle.viper_scope.specs.declared.faults.TypeFault.{TypeFault}
-use Rattle.viper_scope.specs.declared.faults.TypeFault.TheVariants.{Memory, Rule, Weight}
+use Rattle.viper_scope.specs.declared.rules.RuleFault.{RuleFault}
+use Rattle.viper_scope.specs.declared.rules.RuleFault.TheVariants as fault
 use Rattle.viper_scope.specs.Answers.{Refuses}
 use Rattle.viper_scope.specs.Context.{Context}
 use Rattle.viper_scope.specs.Outcome.{Judged, Found, Broken, then_more, prefixed}
@@ -33,10 +33,9 @@ one_done done x j left rest all is found so_far =
     prefixed_more done x rest ∙ ap (λ k. prefixed done (then_more k rest)) (sym found) ∙ ap (prefixed done) (sym is) ∙ so_far
 
 -- a part in a loop that breaks a rule
-pub one_refused : {X : Type 0} (done : List X) (j : Judged X) (left rest all : Judged (List X)) (f : TypeFault) → left ≡ then_more j rest → Refuses j f → prefixed done left ≡ all → Refuses all f
-one_refused done j left rest all Memory is h so_far = tt
-one_refused done j left rest all (Rule p n) is h so_far = sym so_far ∙ ap (prefixed done) is ∙ ap (λ k. prefixed done (then_more k rest)) h
-one_refused done j left rest all (Weight w) is h so_far = h
+pub one_refused : {X : Type 0} (done : List X) (j : Judged X) (left rest all : Judged (List X)) (f : RuleFault) → left ≡ then_more j rest → Refuses j f → prefixed done left ≡ all → Refuses all f
+one_refused done j left rest all fault.Memory is h so_far = tt
+one_refused done j left rest all (fault.Broken p r) is h so_far = sym so_far ∙ ap (prefixed done) is ∙ ap (λ k. prefixed done (then_more k rest)) h
 
 -- the end of a loop over parts
 pub all_done : {X : Type 0} (done : List X) (left all : Judged (List X)) → left ≡ Found [] → prefixed done left ≡ all → all ≡ Found done
@@ -50,7 +49,7 @@ pub one_more : {A X : Type 0} (one : A → Judged X) (items : List A) (i : ℕ) 
 one_more one items i a done x all within is found so_far =
     one_done done x (one a) (each one (drop i items)) (each one (drop (i + 1) items)) all (next_left one items i a within is) found so_far
 
-pub one_broken : {A X : Type 0} (one : A → Judged X) (items : List A) (i : ℕ) (a : A) (done : List X) (all : Judged (List X)) (f : TypeFault) → i < length items → a ≡ get_or items i a → Refuses (one a) f → prefixed done (each one (drop i items)) ≡ all → Refuses all f
+pub one_broken : {A X : Type 0} (one : A → Judged X) (items : List A) (i : ℕ) (a : A) (done : List X) (all : Judged (List X)) (f : RuleFault) → i < length items → a ≡ get_or items i a → Refuses (one a) f → prefixed done (each one (drop i items)) ≡ all → Refuses all f
 one_broken one items i a done all f within is h so_far =
     one_refused done (one a) (each one (drop i items)) (each one (drop (i + 1) items)) all f (next_left one items i a within is) h so_far
 

@@ -3,6 +3,7 @@ use Rattle.std.proofs.Common.{◌≡◌, ◌⊎◌, inl, inr, ℕ, ◌+◌, ◌�
 use Rattle.std.proofs.lemmas.Bool.{leb-true}
 use Rattle.std.proofs.lemmas.List.Elements.{All-head, All-tail}
 use Rattle.lemmas.proofs.Lists.{all_left, all_right}
+use Rattle.vb_base.specs.Limits.{max_block_depth, max_term_depth}
 use Rattle.vb_base.specs.declared.places.Pos.{Pos}
 use Rattle.viper_core.specs.Expr as e
 use Rattle.viper_core.specs.Stmt as c
@@ -27,7 +28,7 @@ use Rattle.viper_types.proofs.GoodLists.{IsShallow, terms_are_shallow, amount_is
 
 -- a statement that holds no block
 pub record IsFlat (x : c.Stmt) : Type 0 where
-  pub shallow : stmt_depth x ≤ 1024
+  pub shallow : stmt_depth x ≤ max_term_depth
   pub flat : blocks_of x ≡ 0
 
 call_is_flat : {k : Context} {sc : Scope} {at : Pos} {vs : List Target} {call : s.SCall} {x : c.Stmt} → r.IsCall k sc at vs call x → All IsShallow call.args →
@@ -64,14 +65,14 @@ assignment_is_flat (r.Sets.field {x = x} {f = f} {fs = fs} {a = a} h h') l =
       flat = refl;
     }
 
-check_is_flat : {k : Context} {sc : Scope} {at : Pos} {a : t.Term} {w : Word} {x : c.Stmt} → r.Checks k sc at a w x → depth a ≤ 1024 → IsFlat x
+check_is_flat : {k : Context} {sc : Scope} {at : Pos} {a : t.Term} {w : Word} {x : c.Stmt} → r.Checks k sc at a w x → depth a ≤ max_term_depth → IsFlat x
 check_is_flat (r.inhale h) l = record { shallow = omega (arith, assertion_depth h, l); flat = refl }
 check_is_flat (r.exhale h) l = record { shallow = omega (arith, assertion_depth h, l); flat = refl }
 check_is_flat (r.asserted h) l = record { shallow = omega (arith, assertion_depth h, l); flat = refl }
 check_is_flat (r.assume h) l = record { shallow = omega (arith, expr_depth h, l); flat = refl }
 
 fold_is_shallow : {k : Context} {sc : Scope} {f : s.SFold} {x : c.FoldStmt} → r.IsFold k sc f x → All IsShallow (f.call.args ++ amount_terms f.amount) →
-    g.fold_depth x ≤ 1024
+    g.fold_depth x ≤ max_term_depth
 fold_is_shallow {f = f} (r.fold_of i has_body args m) l =
     omega (
       arith,
@@ -82,7 +83,7 @@ fold_is_shallow {f = f} (r.fold_of i has_body args m) l =
     )
 
 pub assertions_depth : {k : Context} {sc : Scope} {is : List t.Term} {xs : List e.Assertion} → r.AssertsAll k sc is xs → All IsShallow is →
-    g.assertion_depths xs ≤ 1024
+    g.assertion_depths xs ≤ max_term_depth
 assertions_depth r.no_assertions l = omega arith
 assertions_depth (r.one_assertion {a = a} {rest = rest} h hs) l =
     omega (arith, assertion_depth h, All-head IsShallow a rest l, assertions_depth hs (All-tail IsShallow a rest l))
@@ -91,19 +92,19 @@ assertions_depth (r.one_assertion {a = a} {rest = rest} h hs) l =
 
 -- a statement in a block of this depth, and those of such a block
 pub record Nests (d : ℕ) (x : c.Stmt) : Type 0 where
-  pub shallow : stmt_depth x ≤ 1024
-  pub nested : d + blocks_of x ≤ 128
+  pub shallow : stmt_depth x ≤ max_term_depth
+  pub nested : d + blocks_of x ≤ max_block_depth
 
 pub record NestAll (d : ℕ) (ss : c.Stmts) : Type 0 where
-  pub shallow : stmts_depth ss ≤ 1024
-  pub nested : d + blocks_in ss ≤ 128
+  pub shallow : stmts_depth ss ≤ max_term_depth
+  pub nested : d + blocks_in ss ≤ max_block_depth
 
 -- the statements of an `else`, or none
 record NestElse (d : ℕ) (ss : c.Stmts) : Type 0 where
-  pub shallow : stmts_depth ss ≤ 1024
-  pub nested : (blocks_in ss ≡ 0) ⊎ (d + blocks_in ss ≤ 128)
+  pub shallow : stmts_depth ss ≤ max_term_depth
+  pub nested : (blocks_in ss ≡ 0) ⊎ (d + blocks_in ss ≤ max_block_depth)
 
-in_block : (d : ℕ) {x : c.Stmt} → d ≤ 128 → IsFlat x → Nests d x
+in_block : (d : ℕ) {x : c.Stmt} → d ≤ max_block_depth → IsFlat x → Nests d x
 in_block d le h = record { shallow = h.shallow; nested = omega (arith, h.flat, le) }
 
 -- a statement alone in a block
@@ -112,14 +113,14 @@ alone_nests d o x other is h =
     let one : NestAll d (c.next x c.skip) = subst (λ p. NestAll d (alone p other)) is h in
     record { shallow = omega (arith, one.shallow); nested = omega (arith, one.nested) }
 
-last_block : (d : ℕ) (ss : c.Stmts) → d ≤ 128 → NestElse d ss → NestAll d ss
+last_block : (d : ℕ) (ss : c.Stmts) → d ≤ max_block_depth → NestElse d ss → NestAll d ss
 last_block d ss le h = record { shallow = h.shallow; nested = elim h.nested [ inl none ↦ omega (arith, none, le) | inr nested ↦ nested ] }
 
 same_depth : (d e : ℕ) (ss : c.Stmts) → d ≡ e → NestElse d ss → NestElse e ss
 same_depth d e ss is h = subst (λ n. NestElse n ss) is h
 
 mutual
-  pub step_nests : {k : Context} {d : ℕ} {fr : Frame} {a : s.SStmt} {x : c.Stmt} → Stepped k d fr a x → d ≤ 128 → All IsShallow (stmt_terms a) → Nests d x
+  pub step_nests : {k : Context} {d : ℕ} {fr : Frame} {a : s.SStmt} {x : c.Stmt} → Stepped k d fr a x → d ≤ max_block_depth → All IsShallow (stmt_terms a) → Nests d x
   step_nests {d = d} (r.var new h) le l = in_block d le (declaration_is_flat h l)
   step_nests {d = d} (r.assign h) le l = in_block d le (assignment_is_flat h l)
   step_nests {d = d} (r.call_to into differ h) le l = in_block d le (call_is_flat h l)
@@ -139,9 +140,9 @@ mutual
       }
 
   pub block_nests : {k : Context} {d : ℕ} {fr : Frame} {b : s.SBlock} {ss : c.Stmts} → Blocked k d fr b ss → All IsShallow (block_terms b) → NestAll d ss
-  block_nests {d = d} (r.block i h) l = steps_nest h (leb-true d 128 i) l
+  block_nests {d = d} (r.block i h) l = steps_nest h (leb-true d max_block_depth i) l
 
-  steps_nest : {k : Context} {d : ℕ} {fr : Frame} {ss : s.SStmts} {xs : List c.Stmt} → SteppedAll k d fr ss xs → d ≤ 128 → All IsShallow (stmts_terms ss) →
+  steps_nest : {k : Context} {d : ℕ} {fr : Frame} {ss : s.SStmts} {xs : List c.Stmt} → SteppedAll k d fr ss xs → d ≤ max_block_depth → All IsShallow (stmts_terms ss) →
       NestAll d (c.stmts xs)
   steps_nest r.no_steps le l = record { shallow = omega arith; nested = omega (arith, le) }
   steps_nest (r.one_step {a = a} {rest = rest} h hs) le l =
@@ -150,7 +151,7 @@ mutual
       record { shallow = omega (arith, first.shallow, others.shallow); nested = omega (arith, first.nested, others.nested) }
 
   -- arms whose blocks are deeper than this
-  arms_nest : {k : Context} {b : ℕ} {fr : Frame} {arms : s.SArms} {bs : List Branch} → Branches k b fr arms bs → (d : ℕ) → b ≡ d + 1 → d ≤ 128 →
+  arms_nest : {k : Context} {b : ℕ} {fr : Frame} {arms : s.SArms} {bs : List Branch} → Branches k b fr arms bs → (d : ℕ) → b ≡ d + 1 → d ≤ max_block_depth →
       (other : c.Stmts) → All IsShallow (arms_terms arms) → NestElse (d + arm_count arms) other →
       NestAll d (alone (nested bs other) other)
   arms_nest r.no_branches d is le other l o = last_block d other le (same_depth (d + 0) d other (omega arith) o)

@@ -1,6 +1,7 @@
 -- Statements with blocks, by what their parts are.
 use Rattle.std.proofs.Common.{◌≡◌, ◌∙◌, ap, sym, refl, ℕ, ◌+◌, ◌≤◌, ◌++◌, leb, Bool, true, List, [], ◌∷◌, Result, Ok, Err, OnOk, length, append_assoc, rules, arith}
 use Rattle.std.proofs.lemmas.Bool.Decides.{nat_tests}
+use Rattle.vb_base.specs.Limits.{max_block_depth}
 use Rattle.vb_base.specs.declared.places.Pos.{Pos}
 use Rattle.vb_value.specs.declared.values.Ty.{Ty}
 use Rattle.vb_value.specs.declared.values.Ty.TheVariants as ty
@@ -10,8 +11,8 @@ use Rattle.viper_syntax.specs.Term as t
 use Rattle.viper_syntax.specs.Stmt as s
 use Rattle.viper_syntax.specs.View.{arms_of}
 use Rattle.viper_syntax.specs.declared.stmts.SArm.{SArm}
-use Rattle.viper_scope.specs.Rules.{wrong_type, too_deep}
-use Rattle.viper_scope.specs.declared.faults.TypeFault.{TypeFault}
+use Rattle.viper_scope.specs.declared.rules.Rule.TheVariants as rule
+use Rattle.viper_scope.specs.declared.rules.RuleFault.{RuleFault}
 use Rattle.viper_scope.specs.Answers.{Refuses}
 use Rattle.viper_scope.specs.Context.{Context, nowhere}
 use Rattle.viper_types.specs.Frame.{Frame, declared_in_arms, with_hidden}
@@ -38,17 +39,17 @@ arm_count-length (a ∷ rest) = omega (arith, arm_count-length rest)
 pub hidden_twice : (fr : Frame) (us vs : List Ty) → with_hidden (with_hidden fr us) vs ≡ with_hidden fr (us ++ vs)
 hidden_twice fr us vs = ap (λ ws. record { vars = ws; scope = fr.scope }) (append_assoc fr.vars us vs)
 
-pub if_arms_refused : (lists : Bool) (k : Context) (d : ℕ) (fr : Frame) (arms : s.SArms) (other : s.SElse) (f : TypeFault) → Refuses (branches lists k (d + 1) fr arms) f → Refuses (stepping lists k d fr (s.If arms other)) f
+pub if_arms_refused : (lists : Bool) (k : Context) (d : ℕ) (fr : Frame) (arms : s.SArms) (other : s.SElse) (f : RuleFault) → Refuses (branches lists k (d + 1) fr arms) f → Refuses (stepping lists k d fr (s.If arms other)) f
 if_arms_refused lists k d fr arms other f h = failed f (branches lists k (d + 1) fr arms) _ h
 
 -- once the arms are typed
 pub if_arms : (lists : Bool) (k : Context) (d : ℕ) (fr : Frame) (arms : s.SArms) (other : s.SElse) (bs : List Branch) (n : ℕ) (gr : Frame) → branches lists k (d + 1) fr arms ≡ Found bs →
     n ≡ arm_count arms → gr ≡ with_hidden fr (declared_in_arms arms) →
-    stepping lists k d fr (s.If arms other) ≡ then_typed (otherwise lists k (d + n) gr other) (λ ss. known (nested bs ss) nowhere wrong_type Found)
+    stepping lists k d fr (s.If arms other) ≡ then_typed (otherwise lists k (d + n) gr other) (λ ss. known (nested bs ss) nowhere rule.WrongType Found)
 if_arms lists k d fr arms other bs n gr h is after =
-    ap (λ j. then_typed j (λ cs. then_typed (otherwise lists k (d + arm_count arms) (with_hidden fr (declared_in_arms arms)) other) (λ ss. known (nested cs ss) nowhere wrong_type Found))) h ∙
-    ap (λ m. then_typed (otherwise lists k (d + m) (with_hidden fr (declared_in_arms arms)) other) (λ ss. known (nested bs ss) nowhere wrong_type Found)) (sym is) ∙
-    ap (λ hr. then_typed (otherwise lists k (d + n) hr other) (λ ss. known (nested bs ss) nowhere wrong_type Found)) (sym after)
+    ap (λ j. then_typed j (λ cs. then_typed (otherwise lists k (d + arm_count arms) (with_hidden fr (declared_in_arms arms)) other) (λ ss. known (nested cs ss) nowhere rule.WrongType Found))) h ∙
+    ap (λ m. then_typed (otherwise lists k (d + m) (with_hidden fr (declared_in_arms arms)) other) (λ ss. known (nested bs ss) nowhere rule.WrongType Found)) (sym is) ∙
+    ap (λ hr. then_typed (otherwise lists k (d + n) hr other) (λ ss. known (nested bs ss) nowhere rule.WrongType Found)) (sym after)
 
 -- ---- a loop
 
@@ -68,7 +69,7 @@ loop_typed lists k d fr at a is b p h =
 
 -- ---- a block
 
-pub block_typed : (lists : Bool) (k : Context) (d : ℕ) (fr : Frame) (at : Pos) (ss : s.SStmts) (xs : List c.Stmt) → d ≤ 128 → stepping_all lists k d fr ss ≡ Found xs → blocking lists k d fr (s.block at ss) ≡ Found (c.stmts xs)
+pub block_typed : (lists : Bool) (k : Context) (d : ℕ) (fr : Frame) (at : Pos) (ss : s.SStmts) (xs : List c.Stmt) → d ≤ max_block_depth → stepping_all lists k d fr ss ≡ Found xs → blocking lists k d fr (s.block at ss) ≡ Found (c.stmts xs)
 block_typed lists k d fr at ss xs le h =
-    let shallow : leb d 128 ≡ true = search (rules, nat_tests) in
-    ap (λ b. obeys b at too_deep (then_typed (stepping_all lists k d fr ss) as_block)) shallow ∙ ap (λ j. then_typed j as_block) h
+    let shallow : leb d max_block_depth ≡ true = search (rules, nat_tests) in
+    ap (λ b. obeys b at rule.TooDeep (then_typed (stepping_all lists k d fr ss) as_block)) shallow ∙ ap (λ j. then_typed j as_block) h

@@ -2,6 +2,7 @@
 use Rattle.std.proofs.Common.{◌≡◌, ◌∙◌, ℕ, ◌+◌, ◌++◌, true, not, Option, Some, None, List, [], ◌∷◌, nat_le, is_some, refl, sym, subst, append_assoc}
 use Rattle.std.proofs.lemmas.List.{append-nil}
 use Rattle.std.proofs.lemmas.Bool.{not-true}
+use Rattle.vb_base.specs.Limits.{max_block_depth}
 use Rattle.vb_base.specs.declared.places.Pos.{Pos}
 use Rattle.vb_value.specs.Value.{same_type}
 use Rattle.vb_value.specs.declared.values.Ty.{Ty}
@@ -14,7 +15,7 @@ use Rattle.viper_syntax.specs.declared.stmts.Named.{Named}
 use Rattle.viper_syntax.specs.declared.stmts.Formal.{Formal}
 use Rattle.viper_syntax.specs.declared.tokens.Word.{Word}
 use Rattle.viper_syntax.specs.declared.tokens.Word.TheVariants as word
-use Rattle.viper_scope.specs.Rules.{unknown_name, declared_twice, wrong_type, parameter_as_target, argument_count, target_count, target_twice, field_twice, too_deep}
+use Rattle.viper_scope.specs.declared.rules.Rule.TheVariants as rule
 use Rattle.viper_scope.specs.Context.{World, Context, find, field_at, method_at, nowhere}
 use Rattle.viper_scope.specs.Scope.{Scope}
 use Rattle.viper_scope.specs.Arguments.{Typing, as_many, misfit}
@@ -39,11 +40,11 @@ is_type None h = absurd (cc)
 
 fresh_told : (fr : Frame) (f : Formal) → Tells (IsFresh fr f) (j.fresh fr f)
 fresh_told fr f =
-    tell_obeys (not (is_some (find fr.scope f.name.name))) f.name.pos declared_twice (λ i. tell_obeys (is_some (type_of f.ty)) f.name.pos wrong_type (λ k.
+    tell_obeys (not (is_some (find fr.scope f.name.name))) f.name.pos rule.DeclaredTwice (λ i. tell_obeys (is_some (type_of f.ty)) f.name.pos rule.WrongType (λ k.
     tells (Stepped.fresh (none_is _ i) (is_type _ k))))
 
 target_told : (sc : Scope) (x : Named) → Tells (IsTarget sc x) (j.target sc x)
-target_told sc x = tell_known (find sc x.name) x.pos unknown_name (λ v i. tell_obeys (not v.is_parameter) x.pos parameter_as_target (λ k. tells (Stepped.target i (not-true _ k))))
+target_told sc x = tell_known (find sc x.name) x.pos rule.UnknownName (λ v i. tell_obeys (not v.is_parameter) x.pos rule.ParameterAsTarget (λ k. tells (Stepped.target i (not-true _ k))))
 
 -- a target of type Ref
 record IsRefTarget (sc : Scope) (x : Named) (v : Target) : Type 0 where
@@ -52,7 +53,7 @@ record IsRefTarget (sc : Scope) (x : Named) (v : Target) : Type 0 where
 
 ref_target_told : (sc : Scope) (x : Named) → Tells (IsRefTarget sc x) (j.ref_target sc x)
 ref_target_told sc x =
-    tell_known (find sc x.name) x.pos unknown_name (λ v i. tell_obeys (same_type v.ty ty.Ref) x.pos wrong_type (λ l. tell_obeys (not v.is_parameter) x.pos parameter_as_target (λ k.
+    tell_known (find sc x.name) x.pos rule.UnknownName (λ v i. tell_obeys (same_type v.ty ty.Ref) x.pos rule.WrongType (λ l. tell_obeys (not v.is_parameter) x.pos rule.ParameterAsTarget (λ k.
     tells (record { target = Stepped.target i (not-true _ k); typed = same_types v.ty ty.Ref l }))))
 
 -- targets after those that stand before
@@ -65,7 +66,7 @@ record TargetsAfter (sc : Scope) (before : List Target) (xs : List Named) (all :
 call_targets_told : (sc : Scope) (before : List Target) (xs : List Named) → Differ (numbers_in before) → Tells (TargetsAfter sc before xs) (j.call_targets sc before xs)
 call_targets_told sc before [] d = tells (record { those = []; are = sym (append-nil before); targets = no_more; differ = d })
 call_targets_told sc before (x ∷ xs) d =
-    tell_then (target_told sc x) (λ v h. tell_obeys (not (is_target v.number before)) x.pos target_twice (λ i.
+    tell_then (target_told sc x) (λ v h. tell_obeys (not (is_target v.number before)) x.pos rule.TargetTwice (λ i.
     tell_so (call_targets_told sc (before ++ v ∷ []) xs (differ_target before v d (not-true _ i))) (λ all g. record {
       those = v ∷ g.those;
       are = g.are ∙ append_assoc before (v ∷ []) g.those;
@@ -91,15 +92,15 @@ take_returns (v ∷ vs) (u ∷ us) i k =
 calling_told : (k : Context) → HasBodies k → (sc : Scope) (at : Pos) (vs : List Target) (call : s.SCall) →
     Tells (IsCall k sc at vs call) (j.calling k sc at vs call)
 calling_told k b sc at vs call =
-    tell_known (method_at k.world call.name.name) call.name.pos unknown_name (λ m i. tell_then (typing_all_told k b sc (t.terms call.args)) (λ xs h.
-    tell_obeys (as_many xs m.1.params) call.name.pos argument_count (λ i1. tell_obeys (as_many vs m.1.returns) call.name.pos target_count (λ i2.
-    tell_clear (mistarget vs m.1.returns) wrong_type (λ i3. tell_clear (misfit (t.terms call.args) xs m.1.params) wrong_type (λ i4.
+    tell_known (method_at k.world call.name.name) call.name.pos rule.UnknownName (λ m i. tell_then (typing_all_told k b sc (t.terms call.args)) (λ xs h.
+    tell_obeys (as_many xs m.1.params) call.name.pos rule.ArgumentCount (λ i1. tell_obeys (as_many vs m.1.returns) call.name.pos rule.TargetCount (λ i2.
+    tell_clear (mistarget vs m.1.returns) rule.WrongType (λ i3. tell_clear (misfit (t.terms call.args) xs m.1.params) rule.WrongType (λ i4.
     tells (call_of {m = m.1} i (fits h m.1.params i1 i4) (take_returns vs m.1.returns i2 i3))))))))
 
 calling_into_field_told : (k : Context) → HasBodies k → (sc : Scope) (call : s.SCall) {P : c.Stmt → Type 0} → Tells P (j.calling_into_field k sc call)
 calling_into_field_told k b sc call =
-    tell_known (method_at k.world call.name.name) call.name.pos unknown_name (λ m i. tell_then (typing_all_told k b sc (t.terms call.args)) (λ xs h.
-    tell_obeys (as_many xs m.1.params) call.name.pos argument_count (λ i1. broken)))
+    tell_known (method_at k.world call.name.name) call.name.pos rule.UnknownName (λ m i. tell_then (typing_all_told k b sc (t.terms call.args)) (λ xs h.
+    tell_obeys (as_many xs m.1.params) call.name.pos rule.ArgumentCount (λ i1. broken)))
 
 -- creations
 
@@ -113,7 +114,7 @@ record FieldsAfter (w : World) (before : List ℕ) (fs : List Named) (all : List
 new_fields_told : (w : World) (before : List ℕ) (fs : List Named) → Differ before → Tells (FieldsAfter w before fs) (j.new_fields w before fs)
 new_fields_told w before [] d = tells (record { those = []; are = sym (append-nil before); fields = no_fields; differ = d })
 new_fields_told w before (f ∷ fs) d =
-    tell_known (field_at w f.name) f.pos unknown_name (λ n i. tell_obeys (not (is_listed n.0 before)) f.pos field_twice (λ k.
+    tell_known (field_at w f.name) f.pos rule.UnknownName (λ n i. tell_obeys (not (is_listed n.0 before)) f.pos rule.FieldTwice (λ k.
     tell_so (new_fields_told w (before ++ n.0 ∷ []) fs (differ_push n.0 before d (not-true _ k))) (λ all g. record {
       those = n.0 ∷ g.those;
       are = g.are ∙ append_assoc before (n.0 ∷ []) g.those;
@@ -150,7 +151,7 @@ declaring_told k b fr at v None = tells any_value
 declaring_told k b fr at v (Some (s.TermRhs a)) = tell_then (expected_told k b fr.scope v.ty a) (λ x h. tells (Stepped.Declares.value h))
 declaring_told k b fr at v (Some (s.CallRhs call)) = tell_so (calling_told k b fr.scope at (v ∷ []) call) (λ x h. Stepped.Declares.returned h)
 declaring_told k b fr at v (Some (s.NewRhs new)) =
-    tell_obeys (same_type v.ty ty.Ref) v.at wrong_type (λ i. tell_so (creating_told k.world fr.scope at v.number new) (λ x h. Stepped.Declares.created (same_types v.ty ty.Ref i) h))
+    tell_obeys (same_type v.ty ty.Ref) v.at rule.WrongType (λ i. tell_so (creating_told k.world fr.scope at v.number new) (λ x h. Stepped.Declares.created (same_types v.ty ty.Ref i) h))
 
 setting_told : (k : Context) → HasBodies k → (sc : Scope) (xs : List Named) (rhs : s.SRhs) → Tells (Sets k sc xs rhs) (j.setting true k sc xs rhs)
 setting_told k b sc [] rhs = broken
@@ -197,14 +198,14 @@ mutual
   stepping_told k b d fr (s.Unfold f) = tell_then (folding_told k b fr.scope f) (λ x h. tells (unfolded h))
   stepping_told k b d fr (s.If arms other) =
       tell_then (branches_told k b (d + 1) fr arms) (λ bs h. tell_then (otherwise_told k b (d + arm_count arms) (with_hidden fr (declared_in_arms arms)) other) (λ ss g.
-      tell_known (nested bs ss) nowhere wrong_type (λ x i. tells (if_arms h g i))))
+      tell_known (nested bs ss) nowhere rule.WrongType (λ x i. tells (if_arms h g i))))
   stepping_told k b d fr (s.While at a is body) =
       tell_then (expected_told k b fr.scope ty.Bool a) (λ x h. tell_then (asserting_all_told k b fr.scope is) (λ xs g. tell_then (blocking_told k b (d + 1) fr body) (λ ss i.
       tells (while h g i))))
 
   pub blocking_told : (k : Context) → HasBodies k → (d : ℕ) (fr : Frame) (a : s.SBlock) → Tells (Blocked k d fr a) (blocking true k d fr a)
   blocking_told k b d fr (s.block at ss) =
-      tell_obeys (nat_le d 128) at too_deep (λ i. tell_then (stepping_all_told k b d fr ss) (λ xs h. tells (block i h)))
+      tell_obeys (nat_le d max_block_depth) at rule.TooDeep (λ i. tell_then (stepping_all_told k b d fr ss) (λ xs h. tells (block i h)))
 
   pub stepping_all_told : (k : Context) → HasBodies k → (d : ℕ) (fr : Frame) (ss : s.SStmts) → Tells (SteppedAll k d fr ss) (stepping_all true k d fr ss)
   stepping_all_told k b d fr s.no_stmts = tells no_steps

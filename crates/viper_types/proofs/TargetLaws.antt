@@ -1,7 +1,7 @@
 -- The targets of a call, one after the other.
 use Rattle.std.proofs.Common.{◌≡◌, ◌∙◌, sym, ap, refl, ℕ, Bool, true, false, not, List, [], ◌∷◌, ◌++◌}
 use Rattle.viper_syntax.specs.declared.stmts.Named.{Named}
-use Rattle.viper_scope.specs.Rules.{target_twice}
+use Rattle.viper_scope.specs.declared.rules.Rule.TheVariants as rule
 use Rattle.viper_scope.specs.Outcome.{Found, Broken}
 use Rattle.viper_scope.specs.Scope.{Scope}
 use Rattle.viper_types.specs.Stepping.{Target, target, call_targets, is_target, is_listed, numbers_in}
@@ -13,7 +13,7 @@ new_target v before seen added b is h g =
     ap not (sym (is_listed-numbers v.number before)) ∙ ap (λ ns. not (is_listed v.number ns)) (sym is) ∙ sym h ∙ g
 
 pub same_target : (sc : Scope) (before : List Target) (x : Named) (xs : List Named) (v : Target) → target sc x ≡ Found v → not (is_target v.number before) ≡ false →
-    call_targets sc before (x ∷ xs) ≡ Broken x.pos target_twice
+    call_targets sc before (x ∷ xs) ≡ Broken x.pos rule.TargetTwice
 same_target sc before x xs v h g = rw (h, g) refl
 
 pub next_target : (sc : Scope) (before : List Target) (x : Named) (xs : List Named) (v : Target) → target sc x ≡ Found v → not (is_target v.number before) ≡ true →

@@ -1,15 +1,16 @@
 -- What a typing that finds something tells of it. Each way to go on keeps this.
-use Rattle.std.proofs.Common.{◌≡◌, ◌∙◌, ℕ, Bool, true, false, Option, Some, None, if◌then◌else◌, refl, sym, is_some, not, subst}
+use Rattle.std.proofs.Common.{◌≡◌, ◌∙◌, Bool, true, false, Option, Some, None, if◌then◌else◌, refl, sym, is_some, not, subst}
 use Rattle.viper_scope.proofs.Judged.{found_same}
 use Rattle.vb_base.specs.declared.places.Pos.{Pos}
 use Rattle.vb_value.specs.Value.{same_type}
 use Rattle.vb_value.specs.declared.values.Ty.{Ty}
 use Rattle.vb_value.specs.declared.values.Ty.TheVariants as ty
+use Rattle.viper_scope.specs.declared.rules.Rule.{Rule}
 use Rattle.viper_scope.specs.Outcome.{Judged, Found, Broken, then_typed, known, obeys, clear_of}
 
 pub data Tells {X : Type 0} (P : X → Type 0) : Judged X → Type 0 where
   tells : {x : X} → P x → Tells P (Found x)
-  broken : {p : Pos} {r : ℕ} → Tells P (Broken p r)
+  broken : {p : Pos} {r : Rule} → Tells P (Broken p r)
 
 pub tell_then : {X Y : Type 0} {P : X → Type 0} {Q : Y → Type 0} {j : Judged X} {k : X → Judged Y} →
     Tells P j → ((x : X) → P x → Tells Q (k x)) → Tells Q (then_typed j k)
@@ -20,16 +21,16 @@ pub tell_so : {X : Type 0} {P Q : X → Type 0} {j : Judged X} → Tells P j →
 tell_so (tells {x = x} h) g = tells (g x h)
 tell_so broken g = broken
 
-pub tell_known : {X Y : Type 0} {Q : Y → Type 0} (o : Option X) (p : Pos) (r : ℕ) {k : X → Judged Y} →
+pub tell_known : {X Y : Type 0} {Q : Y → Type 0} (o : Option X) (p : Pos) (r : Rule) {k : X → Judged Y} →
     ((x : X) → o ≡ Some x → Tells Q (k x)) → Tells Q (known o p r k)
 tell_known (Some x) p r h = h x refl
 tell_known None p r h = broken
 
-pub tell_obeys : {Y : Type 0} {Q : Y → Type 0} (b : Bool) (p : Pos) (r : ℕ) {j : Judged Y} → (b ≡ true → Tells Q j) → Tells Q (obeys b p r j)
+pub tell_obeys : {Y : Type 0} {Q : Y → Type 0} (b : Bool) (p : Pos) (r : Rule) {j : Judged Y} → (b ≡ true → Tells Q j) → Tells Q (obeys b p r j)
 tell_obeys true p r h = h refl
 tell_obeys false p r h = broken
 
-pub tell_clear : {Y : Type 0} {Q : Y → Type 0} (o : Option Pos) (r : ℕ) {j : Judged Y} → (o ≡ None → Tells Q j) → Tells Q (clear_of o r j)
+pub tell_clear : {Y : Type 0} {Q : Y → Type 0} (o : Option Pos) (r : Rule) {j : Judged Y} → (o ≡ None → Tells Q j) → Tells Q (clear_of o r j)
 tell_clear None r h = h refl
 tell_clear (Some p) r h = broken
 

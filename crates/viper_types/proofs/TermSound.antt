@@ -9,7 +9,7 @@ use Rattle.viper_core.specs.Typing.{value_type, is_number}
 use Rattle.viper_syntax.specs.Term as t
 use Rattle.viper_syntax.specs.declared.tokens.Sign.{Sign}
 use Rattle.viper_syntax.specs.declared.tokens.Sign.TheVariants as sign
-use Rattle.viper_scope.specs.Rules.{unknown_name, wrong_type, misplaced_old, missing_body, argument_count, misplaced_unfolding}
+use Rattle.viper_scope.specs.declared.rules.Rule.TheVariants as rule
 use Rattle.viper_scope.specs.Context.{World, Context, Signature, find, field_at, predicate_at, allows_old, allows_permission_forms}
 use Rattle.viper_types.specs.Operators.{operator, literal, is_wildcard_word}
 use Rattle.viper_scope.specs.Scope.{Scope}
@@ -54,25 +54,25 @@ typed_from {c} {sc} {a} {x} u v h i = subst (λ r. Typed c sc a x r) (sym (same_
 
 pub of_type_told : {c : Context} {sc : Scope} {a : t.Term} (u : Ty) (x : Typing) → Typed c sc a x.0 x.1 →
     Tells (λ y. Typed c sc a y u) (of_type u a x)
-of_type_told {a = a} u x h = tell_obeys (same_type x.1 u) (start a) wrong_type (λ i. tells (typed_as x.1 u h i))
+of_type_told {a = a} u x h = tell_obeys (same_type x.1 u) (start a) rule.WrongType (λ i. tells (typed_as x.1 u h i))
 
 unary_told : {c : Context} {sc : Scope} {a : t.Term} (o : Sign) (at : Pos) (x : Typing) → Typed c sc a x.0 x.1 →
     Tells (IsTyping c sc (t.Unary o a at)) (unary o x at)
-unary_told sign.Minus at x h = tell_obeys (is_number x.1) at wrong_type (λ i. tells (negative h i))
-unary_told sign.Not at x h = tell_obeys (same_type x.1 ty.Bool) at wrong_type (λ i. tells (negation (typed_as x.1 ty.Bool h i)))
+unary_told sign.Minus at x h = tell_obeys (is_number x.1) at rule.WrongType (λ i. tells (negative h i))
+unary_told sign.Not at x h = tell_obeys (same_type x.1 ty.Bool) at rule.WrongType (λ i. tells (negation (typed_as x.1 ty.Bool h i)))
 unary_told _ at x h = broken
 
 pub located_told : {c : Context} {sc : Scope} {a : t.Term} (f : List ℕ) (at : Pos) (x : Typing) → Typed c sc a x.0 x.1 →
     Tells (IsLocated c sc a f) (located c.world f at x)
 located_told {c} f at x h =
-    tell_known (field_at c.world f) at unknown_name (λ n i. tell_obeys (same_type x.1 ty.Ref) at wrong_type (λ k. tells (record { receiver = typed_as x.1 ty.Ref h k; known = i })))
+    tell_known (field_at c.world f) at rule.UnknownName (λ n i. tell_obeys (same_type x.1 ty.Ref) at rule.WrongType (λ k. tells (record { receiver = typed_as x.1 ty.Ref h k; known = i })))
 
 pub with_body_told : (w : World) (x : List ℕ) (at : Pos) → Tells (IsBodied w x) (with_body w x at)
-with_body_told w x at = tell_known (predicate_at w x) at unknown_name (λ s i. tell_obeys s.1.has_body at missing_body (λ k. tells (record { known = i; has_body = k })))
+with_body_told w x at = tell_known (predicate_at w x) at rule.UnknownName (λ s i. tell_obeys s.1.has_body at rule.MissingBody (λ k. tells (record { known = i; has_body = k })))
 
 opening_told : (c : Context) (x : List ℕ) (at name_at : Pos) → Tells (IsOpened c x) (opening c x at name_at)
 opening_told c x at name_at =
-    tell_obeys (allows_permission_forms c.part) at misplaced_unfolding (λ i. tell_so (with_body_told c.world x name_at) (λ s h. record { allowed = i; bodied = h }))
+    tell_obeys (allows_permission_forms c.part) at rule.MisplacedUnfolding (λ i. tell_so (with_body_told c.world x name_at) (λ s h. record { allowed = i; bodied = h }))
 
 pub fits : {c : Context} {sc : Scope} {args : t.Terms} {xs : List Typing} → AreTypings c sc args xs → (us : List Ty) → as_many xs us ≡ true →
     misfit args xs us ≡ None →
@@ -85,7 +85,7 @@ fits (more_typings {a = a} {rest = rest} {x = x} {xs = xs} h g) (u ∷ us) i k =
 
 pub fitted_told : {c : Context} {sc : Scope} {args : t.Terms} (us : List Ty) (at : Pos) (xs : List Typing) → AreTypings c sc args xs →
     Tells (λ es. TypedAll c sc args es us) (fitted args us at xs)
-fitted_told {args = args} us at xs h = tell_obeys (as_many xs us) at argument_count (λ i. tell_clear (misfit args xs us) wrong_type (λ k. tells (fits h us i k)))
+fitted_told {args = args} us at xs h = tell_obeys (as_many xs us) at rule.ArgumentCount (λ i. tell_clear (misfit args xs us) rule.WrongType (λ k. tells (fits h us i k)))
 
 opened : {c : Context} {sc : Scope} {x : List ℕ} {args : t.Terms} {m : t.Amount} {a : t.Term} {at name_at : Pos} {es : e.Exprs} {q : e.Expr} (s : ℕ × Signature) (y : Typing) →
     HasBodies c → IsOpened c x s → TypedAll c sc args es s.1.params → Permission c sc m q → Typed c sc a y.0 y.1 →
@@ -96,19 +96,19 @@ opened s y b o h g k =
 
 mutual
   pub typing_told : (c : Context) → HasBodies c → (sc : Scope) (a : t.Term) → Tells (IsTyping c sc a) (typing c sc a)
-  typing_told c b sc (t.Name x at) = tell_known (find sc x) at unknown_name (λ v i. tells (name i))
+  typing_told c b sc (t.Name x at) = tell_known (find sc x) at rule.UnknownName (λ v i. tells (name i))
   typing_told c b sc (t.Number n at) = tells number
-  typing_told c b sc (t.Constant w at) = tell_if (is_wildcard_word w) (λ i. broken) (λ i. tell_known (literal w) at wrong_type (λ x k. tells (constant k)))
+  typing_told c b sc (t.Constant w at) = tell_if (is_wildcard_word w) (λ i. broken) (λ i. tell_known (literal w) at rule.WrongType (λ x k. tells (constant k)))
   typing_told c b sc (t.Unary o a at) = tell_then (typing_told c b sc a) (λ x h. unary_told o at x h)
   typing_told c b sc (t.Binary o a a' at) =
       tell_then (typing_told c b sc a) (λ x h. tell_then (typing_told c b sc a') (λ y g.
-      tell_known (operator o) at wrong_type (λ p i. tell_known (value_type p x.1 y.1) at wrong_type (λ u k. tells (binary h g i k)))))
+      tell_known (operator o) at rule.WrongType (λ p i. tell_known (value_type p x.1 y.1) at rule.WrongType (λ u k. tells (binary h g i k)))))
   typing_told c b sc (t.Choose a a' d at) =
       tell_then (typing_told c b sc a) (λ x h. tell_then (typing_told c b sc a') (λ y g. tell_then (typing_told c b sc d) (λ z k.
-      tell_obeys (same_type x.1 ty.Bool) at wrong_type (λ i. tell_obeys (same_type y.1 z.1) at wrong_type (λ j. tells (choice (typed_as x.1 ty.Bool h i) g (typed_from y.1 z.1 k j)))))))
+      tell_obeys (same_type x.1 ty.Bool) at rule.WrongType (λ i. tell_obeys (same_type y.1 z.1) at rule.WrongType (λ j. tells (choice (typed_as x.1 ty.Bool h i) g (typed_from y.1 z.1 k j)))))))
   typing_told c b sc (t.Field a f at) =
       tell_then (typing_told c b sc a) (λ x h. tell_then (located_told f at x h) (λ l g. tells (field g.receiver g.known)))
-  typing_told c b sc (t.Old a at) = tell_obeys (allows_old c.part) at misplaced_old (λ i. tell_then (typing_told c b sc a) (λ x h. tells (old i h)))
+  typing_told c b sc (t.Old a at) = tell_obeys (allows_old c.part) at rule.MisplacedOld (λ i. tell_then (typing_told c b sc a) (λ x h. tells (old i h)))
   typing_told c b sc (t.Acc a m at) = broken
   typing_told c b sc (t.Inst x args at) = broken
   typing_told c b sc (t.Unfolding x args m a at name_at) =

@@ -14,8 +14,9 @@ use Rattle.viper_core.specs.declared.exprs.Assertion.{Assertion}
 use Rattle.viper_core.specs.declared.stmts.Stmt.{Stmt}
 use Rattle.viper_syntax.specs.Term as t
 use Rattle.viper_syntax.specs.Stmt as st
-use Rattle.viper_syntax.specs.View.{term_of, rhs_of}
+use Rattle.viper_syntax.specs.View.{amount_of, term_of, terms_of, rhs_of}
 use Rattle.viper_syntax.specs.declared.stmts.SRhs.{SRhs}
+use Rattle.viper_syntax.specs.declared.terms.SUnfolding.{SUnfolding}
 use Rattle.viper_syntax.specs.declared.terms.Term as term
 use Rattle.viper_types.specs.declared.expressions.FieldPlace.{FieldPlace}
 use Rattle.viper_types.specs.declared.declarations.Declared.{Declared}
@@ -35,6 +36,10 @@ use Rattle.viper_types.specs.Declaring as j
 abbrev pub lent_amount_of : Option (Bor term.Term) → t.Amount
 lent_amount_of None = t.omitted
 lent_amount_of (Some a) = t.given (term_of a.now)
+
+-- an `unfolding`, as a term
+abbrev pub unfolding_term : SUnfolding → t.Term
+unfolding_term u = t.Unfolding u.name.name (terms_of u.args.items) (amount_of u.amount) (term_of u.inner.value) u.at u.name.pos
 
 abbrev pub place_of : FieldPlace → Located
 place_of l = record { receiver = expr_of l.receiver; field = l.field; ty = l.ty }

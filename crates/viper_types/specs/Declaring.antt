@@ -1,7 +1,7 @@
 -- The walk through a file: what it is, or the first rule that it breaks. First the names of the shared space are gone through,
 -- and then the declarations from first to last, each from left to right. Which program a file is, without any order, is said by
 -- the judgement in `Program`.
-use Rattle.viper_scope.specs.Rules.{declared_twice, wrong_type, perm_parameter}
+use Rattle.viper_scope.specs.declared.rules.Rule.TheVariants as rule
 use Rattle.viper_scope.specs.Naming.{no_world, naming}
 use Rattle.std.specs.Prelude.{ℕ, Bool, true, false, not, ◌||◌, Option, Some, None, List, [], ◌∷◌, ◌++◌, length, map, is_some, if◌then◌else◌}
 use Rattle.vb_base.specs.declared.places.Pos.{Pos}
@@ -38,8 +38,8 @@ no_frame = record { vars = []; scope = [] }
 -- a formal: its name is new (2), its word is a type (3), and it is a Perm only where that is allowed (13)
 abbrev pub formal : Bool → Frame → Formal → Judged Frame → Judged Frame
 formal allows_perm fr f go =
-    obeys (not (is_some (find fr.scope f.name.name))) f.name.pos declared_twice (obeys (is_some (type_of f.ty)) f.name.pos wrong_type (
-    obeys (allows_perm || not (same_type (declared_type f) ty.Perm)) f.name.pos perm_parameter go))
+    obeys (not (is_some (find fr.scope f.name.name))) f.name.pos rule.DeclaredTwice (obeys (is_some (type_of f.ty)) f.name.pos rule.WrongType (
+    obeys (allows_perm || not (same_type (declared_type f) ty.Perm)) f.name.pos rule.PermParameter go))
 
 -- formals in order, as parameters or as returns
 abbrev pub formals : Bool → Bool → Frame → List Formal → Judged Frame
@@ -73,7 +73,7 @@ context_in w bodies u = record { world = w; bodies = bodies; part = u }
 abbrev pub clause_of : World → List (Option e.Assertion) → Scope → Scope → Word → t.Term → Judged (Bool × e.Assertion)
 clause_of w bodies params all word.Requires a = then_typed (asserting (context_in w bodies part.Precondition) params a) (λ x. Found (true, x))
 clause_of w bodies params all word.Ensures a = then_typed (asserting (context_in w bodies part.Elsewhere) all a) (λ x. Found (false, x))
-clause_of w bodies params all _ a = Broken (start a) wrong_type
+clause_of w bodies params all _ a = Broken (start a) rule.WrongType
 
 abbrev pub clauses : World → List (Option e.Assertion) → Scope → Scope → List d.SClause → Judged (List (Bool × e.Assertion))
 clauses w bodies params all [] = Found []
@@ -124,7 +124,7 @@ pub data Declared : Type 0 where
   MethodOf : p.Method → Declared
 
 abbrev pub field_typing : Formal → Judged Declared
-field_typing f = obeys (is_some (type_of f.ty)) f.name.pos wrong_type (Found (FieldOf f.name.name (declared_type f)))
+field_typing f = obeys (is_some (type_of f.ty)) f.name.pos rule.WrongType (Found (FieldOf f.name.name (declared_type f)))
 
 abbrev pub decl_typing : Bool → World → List (Option e.Assertion) → d.Decl → Judged Declared
 decl_typing lists w bodies (d.Field f) = field_typing f

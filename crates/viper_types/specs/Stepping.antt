@@ -4,7 +4,7 @@
 -- its name, before what it is given. Which statement it is, without any order, is said by the judgement in `Stepped`.
 -- `lists` says whether the lists of `new` and of loops are made. A lean walk makes none: it tells the same broken rule.
 use Rattle.vb_base.specs.Limits.{max_block_depth}
-use Rattle.viper_scope.specs.Rules.{unknown_name, declared_twice, wrong_type, parameter_as_target, argument_count, target_count, target_twice, field_twice, too_deep}
+use Rattle.viper_scope.specs.declared.rules.Rule.TheVariants as rule
 use Rattle.viper_scope.specs.Scope.{ref_variables, Scope}
 use Rattle.viper_scope.specs.Target.{listed, targets}
 use Rattle.std.specs.Prelude.{ℕ, ◌+◌, ◌==◌, Bool, true, false, not, nat_le, Option, Some, None, List, [], ◌∷◌, ◌++◌, length, is_some, if◌then◌else◌}
@@ -37,17 +37,17 @@ pub record Target : Type 0 where
 -- the variable that a declaration makes: a name that is visible breaks rule 2, a word that is no type rule 3
 abbrev pub fresh : Frame → Formal → Judged Target
 fresh fr f =
-    obeys (not (is_some (find fr.scope f.name.name))) f.name.pos declared_twice (obeys (is_some (type_of f.ty)) f.name.pos wrong_type
+    obeys (not (is_some (find fr.scope f.name.name))) f.name.pos rule.DeclaredTwice (obeys (is_some (type_of f.ty)) f.name.pos rule.WrongType
     (Found (record { number = length fr.vars; ty = declared_type f; at = f.name.pos })))
 
 -- a visible variable (rule 1) that is no parameter (8)
 abbrev pub target : Scope → Named → Judged Target
-target sc x = known (find sc x.name) x.pos unknown_name (λ v. obeys (not v.is_parameter) x.pos parameter_as_target (Found (record { number = v.number; ty = v.ty; at = x.pos })))
+target sc x = known (find sc x.name) x.pos rule.UnknownName (λ v. obeys (not v.is_parameter) x.pos rule.ParameterAsTarget (Found (record { number = v.number; ty = v.ty; at = x.pos })))
 
 -- the same, of type Ref (3)
 abbrev pub ref_target : Scope → Named → Judged Target
 ref_target sc x =
-    known (find sc x.name) x.pos unknown_name (λ v. obeys (same_type v.ty ty.Ref) x.pos wrong_type (obeys (not v.is_parameter) x.pos parameter_as_target (Found (record { number = v.number; ty = v.ty; at = x.pos }))))
+    known (find sc x.name) x.pos rule.UnknownName (λ v. obeys (same_type v.ty ty.Ref) x.pos rule.WrongType (obeys (not v.is_parameter) x.pos rule.ParameterAsTarget (Found (record { number = v.number; ty = v.ty; at = x.pos }))))
 
 abbrev pub is_target : ℕ → List Target → Bool
 is_target n [] = false
@@ -56,7 +56,7 @@ is_target n (v ∷ vs) = if n == v.number then true else is_target n vs
 -- the targets of a call, in order, none of them twice (11)
 abbrev pub call_targets : Scope → List Target → List Named → Judged (List Target)
 call_targets sc so_far [] = Found so_far
-call_targets sc so_far (x ∷ xs) = then_typed (target sc x) (λ v. obeys (not (is_target v.number so_far)) x.pos target_twice (call_targets sc (so_far ++ v ∷ []) xs))
+call_targets sc so_far (x ∷ xs) = then_typed (target sc x) (λ v. obeys (not (is_target v.number so_far)) x.pos rule.TargetTwice (call_targets sc (so_far ++ v ∷ []) xs))
 
 -- the name of the first target that is not of its return's type
 abbrev pub mistarget : List Target → List Ty → Option Pos
@@ -71,19 +71,19 @@ numbers_in (v ∷ vs) = v.number ∷ numbers_in vs
 -- a call of a method with typed arguments
 abbrev pub called : Pos → List Target → s.SCall → ℕ → List Ty → List Ty → List Typing → Judged c.Stmt
 called at vs call m params returns xs =
-    obeys (as_many xs params) call.name.pos argument_count (obeys (as_many vs returns) call.name.pos target_count (clear_of (mistarget vs returns) wrong_type (
-    clear_of (misfit (t.terms call.args) xs params) wrong_type (Found (c.Call at (numbers_in vs) m (exprs_in xs))))))
+    obeys (as_many xs params) call.name.pos rule.ArgumentCount (obeys (as_many vs returns) call.name.pos rule.TargetCount (clear_of (mistarget vs returns) rule.WrongType (
+    clear_of (misfit (t.terms call.args) xs params) rule.WrongType (Found (c.Call at (numbers_in vs) m (exprs_in xs))))))
 
 abbrev pub calling : Context → Scope → Pos → List Target → s.SCall → Judged c.Stmt
 calling k sc at vs call =
-    known (method_at k.world call.name.name) call.name.pos unknown_name (λ m. then_typed (typing_all k sc (t.terms call.args)) (λ xs.
+    known (method_at k.world call.name.name) call.name.pos rule.UnknownName (λ m. then_typed (typing_all k sc (t.terms call.args)) (λ xs.
     called at vs call m.0 m.1.params m.1.returns xs))
 
 -- a call whose target is a field, which no call may have (10)
 abbrev pub calling_into_field : Context → Scope → s.SCall → Judged c.Stmt
 calling_into_field k sc call =
-    known (method_at k.world call.name.name) call.name.pos unknown_name (λ m. then_typed (typing_all k sc (t.terms call.args)) (λ xs.
-    obeys (as_many xs m.1.params) call.name.pos argument_count (Broken call.name.pos target_count)))
+    known (method_at k.world call.name.name) call.name.pos rule.UnknownName (λ m. then_typed (typing_all k sc (t.terms call.args)) (λ xs.
+    obeys (as_many xs m.1.params) call.name.pos rule.ArgumentCount (Broken call.name.pos rule.TargetCount)))
 
 abbrev pub is_listed : ℕ → List ℕ → Bool
 is_listed n [] = false
@@ -92,7 +92,7 @@ is_listed n (m ∷ ms) = if n == m then true else is_listed n ms
 -- the fields of a `new`, in order, each known (1) and none of them twice (14)
 abbrev pub new_fields : World → List ℕ → List Named → Judged (List ℕ)
 new_fields w so_far [] = Found so_far
-new_fields w so_far (f ∷ fs) = known (field_at w f.name) f.pos unknown_name (λ n. obeys (not (is_listed n.0 so_far)) f.pos field_twice (new_fields w (so_far ++ n.0 ∷ []) fs))
+new_fields w so_far (f ∷ fs) = known (field_at w f.name) f.pos rule.UnknownName (λ n. obeys (not (is_listed n.0 so_far)) f.pos rule.FieldTwice (new_fields w (so_far ++ n.0 ∷ []) fs))
 
 -- the listed fields, or all of them
 abbrev pub chosen_fields : Bool → World → s.SNew → Judged (List ℕ)
@@ -119,7 +119,7 @@ abbrev pub declaring : Bool → Context → Frame → Pos → Target → Option 
 declaring lists k fr at v None = Found (c.Var at v.number None)
 declaring lists k fr at v (Some (s.TermRhs a)) = then_typed (expected k fr.scope v.ty a) (λ x. Found (c.Var at v.number (Some x)))
 declaring lists k fr at v (Some (s.CallRhs call)) = calling k fr.scope at (v ∷ []) call
-declaring lists k fr at v (Some (s.NewRhs new)) = obeys (same_type v.ty ty.Ref) v.at wrong_type (creating lists k.world fr.scope at v.number new)
+declaring lists k fr at v (Some (s.NewRhs new)) = obeys (same_type v.ty ty.Ref) v.at rule.WrongType (creating lists k.world fr.scope at v.number new)
 
 -- `x := ..`
 abbrev pub assigning : Bool → Context → Scope → Named → s.SRhs → Judged c.Stmt
@@ -131,10 +131,10 @@ assigning lists k sc x (s.NewRhs new) = then_typed (ref_target sc x) (λ v. crea
 abbrev pub writing : Context → Scope → Named → Named → List Named → s.SRhs → Judged c.Stmt
 writing k sc x f fs (s.TermRhs a) = then_typed (target_place k sc x f fs) (λ l. then_typed (expected k sc l.ty a) (λ y. Found (c.Write x.pos l.receiver l.field (last_place f fs) y)))
 writing k sc x f fs (s.CallRhs call) = then_typed (target_place k sc x f fs) (λ l. calling_into_field k sc call)
-writing k sc x f fs (s.NewRhs new) = then_typed (target_place k sc x f fs) (λ l. Broken new.at target_count)
+writing k sc x f fs (s.NewRhs new) = then_typed (target_place k sc x f fs) (λ l. Broken new.at rule.TargetCount)
 
 abbrev pub setting : Bool → Context → Scope → List Named → s.SRhs → Judged c.Stmt
-setting lists k sc [] rhs = Broken nowhere wrong_type
+setting lists k sc [] rhs = Broken nowhere rule.WrongType
 setting lists k sc (x ∷ []) rhs = assigning lists k sc x rhs
 setting lists k sc (x ∷ f ∷ fs) rhs = writing k sc x f fs rhs
 
@@ -149,7 +149,7 @@ checking k sc word.Inhale at a = then_typed (asserting k sc a) (λ x. Found (c.I
 checking k sc word.Exhale at a = then_typed (asserting k sc a) (λ x. Found (c.Exhale at x))
 checking k sc word.Assert at a = then_typed (asserting k sc a) (λ x. Found (c.Assert at x))
 checking k sc word.Assume at a = then_typed (expected k sc ty.Bool a) (λ x. Found (c.Inhale at (e.Fact x (start a))))
-checking k sc _ at a = Broken at wrong_type
+checking k sc _ at a = Broken at rule.WrongType
 
 -- the instance of a `fold` or `unfold`
 abbrev pub folding : Context → Scope → s.SFold → Judged c.FoldStmt
@@ -202,14 +202,14 @@ abbrev mutual
   stepping lists k d fr (s.Unfold f) = then_typed (folding k fr.scope f) (λ x. Found (c.Unfold x))
   stepping lists k d fr (s.If arms other) =
       then_typed (branches lists k (d + 1) fr arms) (λ bs. then_typed (otherwise lists k (d + arm_count arms) (with_hidden fr (declared_in_arms arms)) other) (λ ss.
-      known (nested bs ss) nowhere wrong_type Found))
+      known (nested bs ss) nowhere rule.WrongType Found))
   stepping lists k d fr (s.While at a is b) =
       then_typed (expected k fr.scope ty.Bool a) (λ x. then_typed (asserting_all k fr.scope is) (λ xs. then_typed (blocking lists k (d + 1) fr b) (λ ss.
       Found (c.While (c.loop at x xs ss (opening_of b) (listed lists (targets (length fr.vars) ss)))))))
 
   -- a block of this depth, which is not too deep (15)
   pub blocking : Bool → Context → ℕ → Frame → s.SBlock → Judged c.Stmts
-  blocking lists k d fr (s.block at ss) = obeys (nat_le d max_block_depth) at too_deep (then_typed (stepping_all lists k d fr ss) as_block)
+  blocking lists k d fr (s.block at ss) = obeys (nat_le d max_block_depth) at rule.TooDeep (then_typed (stepping_all lists k d fr ss) as_block)
 
   -- the statements of a block of this depth
   pub stepping_all : Bool → Context → ℕ → Frame → s.SStmts → Judged (List c.Stmt)

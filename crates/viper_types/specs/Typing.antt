@@ -1,7 +1,7 @@
 -- The walk through terms: what a term is, or the first rule that it breaks. The parts of a term come before the term itself,
 -- from left to right; only the rules 4, 5, 6, 12 and 16 are tried on arrival, before the parts. At one node the rules are tried
 -- by number. Which expression a term is, without any order, is said by the judgement in `Typed`.
-use Rattle.viper_scope.specs.Rules.{unknown_name, wrong_type, permission_in_expression, misplaced_old, misplaced_wildcard, missing_body, no_resource, misplaced_unfolding}
+use Rattle.viper_scope.specs.declared.rules.Rule.TheVariants as rule
 use Rattle.viper_scope.specs.Scope.{Scope}
 use Rattle.viper_scope.specs.Arguments.{Typing, start, fitted}
 use Rattle.std.specs.Prelude.{ℕ, Bool, false, if◌then◌else◌, pos, List, []}
@@ -23,24 +23,24 @@ use Rattle.viper_types.specs.Operators.{operator, literal, is_wildcard_word}
 -- the node itself, once its parts are typed
 
 abbrev pub constant : Word → Pos → Judged Typing
-constant w at = if is_wildcard_word w then Broken at misplaced_wildcard else known (literal w) at wrong_type Found
+constant w at = if is_wildcard_word w then Broken at rule.MisplacedWildcard else known (literal w) at rule.WrongType Found
 
 abbrev pub negative : Typing → Pos → Judged Typing
-negative x at = obeys (is_number x.1) at wrong_type (Found (e.Neg x.0, x.1))
+negative x at = obeys (is_number x.1) at rule.WrongType (Found (e.Neg x.0, x.1))
 
 abbrev pub negation : Typing → Pos → Judged Typing
-negation x at = obeys (same_type x.1 ty.Bool) at wrong_type (Found (e.Not x.0, ty.Bool))
+negation x at = obeys (same_type x.1 ty.Bool) at rule.WrongType (Found (e.Not x.0, ty.Bool))
 
 abbrev pub unary : Sign → Typing → Pos → Judged Typing
 unary sign.Minus = negative
 unary sign.Not = negation
-unary _ = λ x at. Broken at wrong_type
+unary _ = λ x at. Broken at rule.WrongType
 
 abbrev pub applied : Sign → Typing → Typing → Pos → Judged Typing
-applied o x y at = known (operator o) at wrong_type (λ op. known (value_type op x.1 y.1) at wrong_type (λ u. Found (e.Bin op x.0 y.0 at, u)))
+applied o x y at = known (operator o) at rule.WrongType (λ op. known (value_type op x.1 y.1) at rule.WrongType (λ u. Found (e.Bin op x.0 y.0 at, u)))
 
 abbrev pub chosen : Typing → Typing → Typing → Pos → Judged Typing
-chosen x y z at = obeys (same_type x.1 ty.Bool) at wrong_type (obeys (same_type y.1 z.1) at wrong_type (Found (e.Choose x.0 y.0 z.0, y.1)))
+chosen x y z at = obeys (same_type x.1 ty.Bool) at rule.WrongType (obeys (same_type y.1 z.1) at rule.WrongType (Found (e.Choose x.0 y.0 z.0, y.1)))
 
 -- a field of a receiver: the receiver, the field's number and its type
 pub record Located : Type 0 where
@@ -49,22 +49,22 @@ pub record Located : Type 0 where
   pub ty : Ty
 
 abbrev pub located : World → List ℕ → Pos → Typing → Judged Located
-located w f at x = known (field_at w f) at unknown_name (λ n. obeys (same_type x.1 ty.Ref) at wrong_type (Found (record { receiver = x.0; field = n.0; ty = n.1 })))
+located w f at x = known (field_at w f) at rule.UnknownName (λ n. obeys (same_type x.1 ty.Ref) at rule.WrongType (Found (record { receiver = x.0; field = n.0; ty = n.1 })))
 
 -- a part that must have a type
 abbrev pub of_type : Ty → t.Term → Typing → Judged e.Expr
-of_type u a x = obeys (same_type x.1 u) (start a) wrong_type (Found x.0)
+of_type u a x = obeys (same_type x.1 u) (start a) rule.WrongType (Found x.0)
 
 abbrev pub write : e.Expr
 write = e.Part (whole (pos 1))
 
 -- the predicate of a name, which must have a body
 abbrev pub with_body : World → List ℕ → Pos → Judged (ℕ × Signature)
-with_body w x at = known (predicate_at w x) at unknown_name (λ s. obeys s.1.has_body at missing_body (Found s))
+with_body w x at = known (predicate_at w x) at rule.UnknownName (λ s. obeys s.1.has_body at rule.MissingBody (Found s))
 
 -- the predicate of an `unfolding`, tried on arrival
 abbrev pub opening : Context → List ℕ → Pos → Pos → Judged (ℕ × Signature)
-opening c x at name_at = obeys (allows_permission_forms c.part) at misplaced_unfolding (with_body c.world x name_at)
+opening c x at name_at = obeys (allows_permission_forms c.part) at rule.MisplacedUnfolding (with_body c.world x name_at)
 
 -- an `unfolding`, once its parts are typed: it holds a copy of the predicate's body
 abbrev pub opened_typing : Context → ℕ → e.Exprs → e.Expr → Typing → Pos → Typing
@@ -74,7 +74,7 @@ opened_typing c n es p y at = (e.Unfolding (e.opened n es p (body_at c.bodies n)
 
 abbrev mutual
   pub typing : Context → Scope → t.Term → Judged Typing
-  typing c sc (t.Name x at) = known (find sc x) at unknown_name (λ v. Found (e.Var v.number, v.ty))
+  typing c sc (t.Name x at) = known (find sc x) at rule.UnknownName (λ v. Found (e.Var v.number, v.ty))
   typing c sc (t.Number n at) = Found (e.Int n, ty.Int)
   typing c sc (t.Constant w at) = constant w at
   typing c sc (t.Unary o a at) = then_typed (typing c sc a) (λ x. unary o x at)
@@ -83,9 +83,9 @@ abbrev mutual
       then_typed (typing c sc a) (λ x. then_typed (typing c sc b) (λ y. then_typed (typing c sc d) (λ z. chosen x y z at)))
   typing c sc (t.Field a f at) =
       then_typed (typing c sc a) (λ x. then_typed (located c.world f at x) (λ l. Found (e.Field l.receiver l.field at, l.ty)))
-  typing c sc (t.Old a at) = obeys (allows_old c.part) at misplaced_old (then_typed (typing c sc a) (λ x. Found (e.Old x.0, x.1)))
-  typing c sc (t.Acc a m at) = Broken at permission_in_expression
-  typing c sc (t.Inst x args at) = Broken at permission_in_expression
+  typing c sc (t.Old a at) = obeys (allows_old c.part) at rule.MisplacedOld (then_typed (typing c sc a) (λ x. Found (e.Old x.0, x.1)))
+  typing c sc (t.Acc a m at) = Broken at rule.PermissionInExpression
+  typing c sc (t.Inst x args at) = Broken at rule.PermissionInExpression
   typing c sc (t.Unfolding x args m a at name_at) =
       then_typed (opening c x at name_at) (λ s.
       then_typed (then_typed (typing_all c sc args) (λ xs. fitted args s.1.params name_at xs)) (λ es. then_typed (permission c sc m) (λ p. then_typed (typing c sc a) (λ y.
@@ -120,7 +120,7 @@ is_wildcard (t.Constant w at) = is_wildcard_word w
 is_wildcard _ = false
 
 abbrev pub wildcard : Context → Pos → Judged e.Amt
-wildcard c at = obeys (allows_permission_forms c.part) at misplaced_wildcard (Found e.Wildcard)
+wildcard c at = obeys (allows_permission_forms c.part) at rule.MisplacedWildcard (Found e.Wildcard)
 
 -- the amount of an accessibility predicate
 abbrev pub amount : Context → Scope → t.Amount → Judged e.Amt
@@ -133,14 +133,14 @@ amount c sc (t.given a) =
 -- an instance of a predicate, at its name
 abbrev pub instance : Context → Scope → List ℕ → t.Terms → t.Amount → Pos → Judged e.Assertion
 instance c sc x args m at =
-    known (predicate_at c.world x) at unknown_name (λ s. then_typed (arguments c sc args s.1.params at) (λ es.
+    known (predicate_at c.world x) at rule.UnknownName (λ s. then_typed (arguments c sc args s.1.params at) (λ es.
     then_typed (amount c sc m) (λ p. Found (e.Inst s.0 es p at))))
 
 -- an accessibility predicate of what stands in it
 abbrev pub access : Context → Scope → t.Term → t.Amount → Pos → Judged e.Assertion
 access c sc (t.Field a f f_at) m at = then_typed (place c sc a f f_at) (λ l. then_typed (amount c sc m) (λ p. Found (e.Acc l.receiver l.field p f_at)))
 access c sc (t.Inst x args x_at) m at = instance c sc x args m x_at
-access c sc _ m at = Broken at no_resource
+access c sc _ m at = Broken at rule.NoResource
 
 -- an expression as an assertion
 abbrev pub fact : Context → Scope → t.Term → Judged e.Assertion

@@ -12,8 +12,7 @@ use std::alloc::Global;
 use vb_base::{Ident, Pos, boxed, kept};
 use vb_value::Ty;
 use viper_core::{Amt, Assertion};
-use viper_scope::rules::{MISPLACED_WILDCARD, NO_RESOURCE, UNKNOWN_NAME};
-use viper_scope::{Context, Scope, TypeFault, start};
+use viper_scope::{Context, Rule, RuleFault, Scope, start};
 use viper_syntax::{Sign, Term, Word};
 
 /// The amount of an accessibility predicate.
@@ -22,14 +21,14 @@ fn amount(
     context: &Context,
     scope: &Scope,
     amount: Option<&Term>,
-) -> Result<Amt, TypeFault>
+) -> Result<Amt, RuleFault>
     ensures { Answers amt_of (j.amount (context_of context.now) scope.now (lent_amount_of amount.entry)) result }
 {
     match amount {
         None => Ok(Amt::Is(write())),
         Some(Term::Constant(Word::Wildcard, at)) => {
             if !allows_permission_forms(context.part) {
-                return Err(TypeFault::Rule(*at, MISPLACED_WILDCARD));
+                return Err(RuleFault::Broken(*at, Rule::MisplacedWildcard));
             }
             Ok(Amt::Wildcard)
         }
@@ -46,11 +45,11 @@ fn instance(
     args: &[Term],
     share: Option<&Term>,
     at: Pos,
-) -> Result<Assertion, TypeFault>
+) -> Result<Assertion, RuleFault>
     ensures { Answers assertion_of (j.instance (context_of context.now) scope.now name.now (terms_of args.now) (lent_amount_of share.entry) at) result }
 {
     let Some((predicate, signature)) = context.world.predicate(name) else {
-        return Err(TypeFault::Rule(at, UNKNOWN_NAME));
+        return Err(RuleFault::Broken(at, Rule::UnknownName));
     };
     let args = arguments(alloc, context, scope, args, &signature.params, at)?;
     let share = amount(alloc, context, scope, share)?;
@@ -65,19 +64,20 @@ fn access(
     term: &Term,
     share: Option<&Term>,
     at: Pos,
-) -> Result<Assertion, TypeFault>
+) -> Result<Assertion, RuleFault>
     ensures { Answers assertion_of (j.access (context_of context.now) scope.now (term_of term.now) (lent_amount_of share.entry) at) result }
 {
     match term {
         Term::Field(a, name, name_at) => {
             let found = place(alloc, context, scope, a, name, *name_at)?;
-            let share = amount(alloc, context, scope, share)?;
+            let share = amount(alloc, context, scope, share);
+            let (share, found) = kept(share, found)?;
             Ok(Assertion::Acc(found.receiver, found.field, share, *name_at))
         }
         Term::Inst(name, args, name_at) => {
             instance(alloc, context, scope, name, args, share, *name_at)
         }
-        _ => Err(TypeFault::Rule(at, NO_RESOURCE)),
+        _ => Err(RuleFault::Broken(at, Rule::NoResource)),
     }
 }
 
@@ -87,7 +87,7 @@ fn fact(
     context: &Context,
     scope: &Scope,
     term: &Term,
-) -> Result<Assertion, TypeFault>
+) -> Result<Assertion, RuleFault>
     ensures { Answers assertion_of (j.fact (context_of context.now) scope.now (term_of term.now)) result }
 {
     let e = expected(alloc, context, scope, Ty::Bool, term)?;
@@ -101,7 +101,7 @@ fn boxed_assertion(
     context: &Context,
     scope: &Scope,
     term: &Term,
-) -> Result<Box<Assertion>, TypeFault>
+) -> Result<Box<Assertion>, RuleFault>
     ensures { Answers (λ a. assertion_of a.value) (j.asserting (context_of context.now) scope.now (term_of term.now)) result }
 {
     Ok(boxed(alloc, assertion(alloc, context, scope, term)?)?)
@@ -114,7 +114,7 @@ pub(crate) fn assertion(
     context: &Context,
     scope: &Scope,
     term: &Term,
-) -> Result<Assertion, TypeFault>
+) -> Result<Assertion, RuleFault>
     ensures { Answers assertion_of (j.asserting (context_of context.now) scope.now (term_of term.now)) result }
 {
     match term {
@@ -149,7 +149,7 @@ pub(crate) fn assertions(
     context: &Context,
     scope: &Scope,
     terms: &[Term],
-) -> Result<Vec<Assertion>, TypeFault>
+) -> Result<Vec<Assertion>, RuleFault>
     ensures { Answers (λ v. assertions_of v.items) (asserting_all (context_of context.now) scope.now (map term_of terms.now)) result }
 {
     let mut typed = Vec::with_capacity(alloc, terms.len())?;

@@ -1,6 +1,7 @@
 // The variables that take values.
 ghost use Rattle.std.specs.Prelude.{◌≡◌, [], IfOk, map, not};
 ghost use Rattle.viper_scope.specs.Answers.{Answers};
+ghost use Rattle.viper_scope.specs.declared.rules.Rule.TheVariants as rule;
 ghost use Rattle.viper_types.specs.Answers.{target_of, targets_of};
 ghost use Rattle.viper_scope.specs.Outcome.{Found, obeys};
 ghost use Rattle.viper_types.specs.Stepping as s;
@@ -11,45 +12,44 @@ use indexmap::IndexSet;
 use std::alloc::Global;
 use vb_base::{Memory, Pos};
 use vb_value::Ty;
-use viper_scope::rules::{PARAMETER_AS_TARGET, TARGET_TWICE, UNKNOWN_NAME, WRONG_TYPE};
-use viper_scope::{Scope, TypeFault, Variable};
+use viper_scope::{Rule, RuleFault, Scope, Variable};
 use viper_syntax::Named;
 
 /// A visible variable that is no parameter.
-pub fn target(scope: &Scope, x: &Named) -> Result<Target, TypeFault>
+pub fn target(scope: &Scope, x: &Named) -> Result<Target, RuleFault>
     ensures { Answers target_of (s.target scope.now x.now) result }
 {
     let Some(variable) = scope.find(&x.name) else {
-        return Err(TypeFault::Rule(x.pos, UNKNOWN_NAME));
+        return Err(RuleFault::Broken(x.pos, Rule::UnknownName));
     };
     assigned(variable, x.pos)
 }
 
 /// The same, of type Ref.
-pub fn ref_target(scope: &Scope, x: &Named) -> Result<Target, TypeFault>
+pub fn ref_target(scope: &Scope, x: &Named) -> Result<Target, RuleFault>
     ensures { Answers target_of (s.ref_target scope.now x.now) result }
 {
     let Some(variable) = scope.find(&x.name) else {
-        return Err(TypeFault::Rule(x.pos, UNKNOWN_NAME));
+        return Err(RuleFault::Broken(x.pos, Rule::UnknownName));
     };
     if variable.ty != Ty::Ref {
-        return Err(TypeFault::Rule(x.pos, WRONG_TYPE));
+        return Err(RuleFault::Broken(x.pos, Rule::WrongType));
     }
     assigned(variable, x.pos)
 }
 
-fn assigned(variable: Variable, at: Pos) -> Result<Target, TypeFault>
-    ensures { Answers target_of (obeys (not variable.is_parameter) at 8 (Found (record { number = variable.number; ty = variable.ty; at = at }))) result }
+fn assigned(variable: Variable, at: Pos) -> Result<Target, RuleFault>
+    ensures { Answers target_of (obeys (not variable.is_parameter) at rule.ParameterAsTarget (Found (record { number = variable.number; ty = variable.ty; at = at }))) result }
 {
     if variable.is_parameter {
-        return Err(TypeFault::Rule(at, PARAMETER_AS_TARGET));
+        return Err(RuleFault::Broken(at, Rule::ParameterAsTarget));
     }
     let Variable { number, ty, .. } = variable;
     Ok(Target { number, ty, at })
 }
 
 /// The targets of a call, none of them twice.
-pub fn call_targets(alloc: Global, scope: &Scope, names: &[Named]) -> Result<Vec<Target>, TypeFault>
+pub fn call_targets(alloc: Global, scope: &Scope, names: &[Named]) -> Result<Vec<Target>, RuleFault>
     ensures { Answers targets_of (s.call_targets scope.now [] names.now) result }
 {
     let mut seen = IndexSet::new(alloc);
@@ -57,7 +57,7 @@ pub fn call_targets(alloc: Global, scope: &Scope, names: &[Named]) -> Result<Vec
     for x in names {
         let target = target(scope, x)?;
         if !list_new(&mut seen, target.number)? {
-            return Err(TypeFault::Rule(x.pos, TARGET_TWICE));
+            return Err(RuleFault::Broken(x.pos, Rule::TargetTwice));
         }
         targets.push(target)?;
     }

@@ -16,8 +16,7 @@ use std::alloc::Global;
 use vb_base::Pos;
 use vb_value::Ty;
 use viper_core::{Expr, Stmt};
-use viper_scope::rules::{ARGUMENT_COUNT, TARGET_COUNT, UNKNOWN_NAME, WRONG_TYPE};
-use viper_scope::{Context, MethodTypes, Scope, TypeFault, as_many, exprs_in, misfit};
+use viper_scope::{Context, MethodTypes, Rule, RuleFault, Scope, as_many, exprs_in, misfit};
 use viper_syntax::SCall;
 
 /// The arguments of a call, with their types.
@@ -26,7 +25,7 @@ fn typed_arguments(
     context: &Context,
     scope: &Scope,
     call: &SCall,
-) -> Result<Vec<(Expr, Ty)>, TypeFault>
+) -> Result<Vec<(Expr, Ty)>, RuleFault>
     ensures { Answers typings_of (j.typing_all (context_of context.now) scope.now (t.terms (call_of call.now).args)) result }
 {
     typings(alloc, context, scope, &call.args)
@@ -49,21 +48,21 @@ fn called(
     number: u32,
     method: &MethodTypes,
     typed: Vec<(Expr, Ty)>,
-) -> Result<Stmt, TypeFault>
+) -> Result<Stmt, RuleFault>
     ensures { Answers stmt_of (s.called at (map target_of targets.now) (call_of call.now) number method.now.params.items method.now.returns.items (typings_of typed)) result }
 {
     let name_at = call.name.pos;
     if !as_many(&typed, &method.params) {
-        return Err(TypeFault::Rule(name_at, ARGUMENT_COUNT));
+        return Err(RuleFault::Broken(name_at, Rule::ArgumentCount));
     }
     if !as_many(targets, &method.returns) {
-        return Err(TypeFault::Rule(name_at, TARGET_COUNT));
+        return Err(RuleFault::Broken(name_at, Rule::TargetCount));
     }
     if let Some(place) = mistarget(targets, &method.returns) {
-        return Err(TypeFault::Rule(place, WRONG_TYPE));
+        return Err(RuleFault::Broken(place, Rule::WrongType));
     }
     if let Some(place) = first_misfit(call, &typed, &method.params) {
-        return Err(TypeFault::Rule(place, WRONG_TYPE));
+        return Err(RuleFault::Broken(place, Rule::WrongType));
     }
     let numbers = numbers_in(alloc, targets)?;
     Ok(Stmt::Call(at, numbers, number, exprs_in(alloc, typed)?))
@@ -77,11 +76,11 @@ pub fn calling(
     at: Pos,
     targets: &[Target],
     call: &SCall,
-) -> Result<Stmt, TypeFault>
+) -> Result<Stmt, RuleFault>
     ensures { Answers stmt_of (s.calling (context_of context.now) scope.now at (map target_of targets.now) (call_of call.now)) result }
 {
     let Some((number, method)) = context.world.method(&call.name.name) else {
-        return Err(TypeFault::Rule(call.name.pos, UNKNOWN_NAME));
+        return Err(RuleFault::Broken(call.name.pos, Rule::UnknownName));
     };
     let typed = typed_arguments(alloc, context, scope, call)?;
     called(alloc, at, targets, call, number, method, typed)
@@ -94,7 +93,7 @@ pub fn call_arguments(
     scope: &Scope,
     call: &SCall,
     params: &[Ty],
-) -> Result<Vec<Expr>, TypeFault>
+) -> Result<Vec<Expr>, RuleFault>
     ensures { Answers argument_exprs_of (j.arguments (context_of context.now) scope.now (t.terms (call_of call.now).args) params.now call.now.name.pos) result }
 {
     arguments(alloc, context, scope, &call.args, params, call.name.pos)
@@ -107,16 +106,16 @@ pub fn calling_into_field(
     context: &Context,
     scope: &Scope,
     call: &SCall,
-) -> Result<Stmt, TypeFault>
+) -> Result<Stmt, RuleFault>
     ensures { Answers stmt_of (s.calling_into_field (context_of context.now) scope.now (call_of call.now)) result }
 {
     let name_at = call.name.pos;
     let Some((_, method)) = context.world.method(&call.name.name) else {
-        return Err(TypeFault::Rule(name_at, UNKNOWN_NAME));
+        return Err(RuleFault::Broken(name_at, Rule::UnknownName));
     };
     let typed = typed_arguments(alloc, context, scope, call)?;
     if !as_many(&typed, &method.params) {
-        return Err(TypeFault::Rule(name_at, ARGUMENT_COUNT));
+        return Err(RuleFault::Broken(name_at, Rule::ArgumentCount));
     }
-    Err(TypeFault::Rule(name_at, TARGET_COUNT))
+    Err(RuleFault::Broken(name_at, Rule::TargetCount))
 }

@@ -14,21 +14,20 @@ use indexmap::IndexSet;
 use std::alloc::Global;
 use vb_base::{Memory, Pos};
 use viper_core::Stmt;
-use viper_scope::rules::{FIELD_TWICE, UNKNOWN_NAME};
-use viper_scope::{Context, Scope, TypeFault, World};
+use viper_scope::{Context, Rule, RuleFault, Scope, World};
 use viper_syntax::{Named, SNew};
 
 /// The fields that a `new` names, none of them twice.
-fn new_fields(alloc: Global, world: &World, names: &[Named]) -> Result<Vec<u32>, TypeFault>
+fn new_fields(alloc: Global, world: &World, names: &[Named]) -> Result<Vec<u32>, RuleFault>
     ensures { Answers numbers_of (s.new_fields (world_of world.now) [] names.now) result }
 {
     let mut fields = IndexSet::new(alloc);
     for name in names {
         let Some((field, _)) = world.field(&name.name) else {
-            return Err(TypeFault::Rule(name.pos, UNKNOWN_NAME));
+            return Err(RuleFault::Broken(name.pos, Rule::UnknownName));
         };
         if !list_new(&mut fields, field)? {
-            return Err(TypeFault::Rule(name.pos, FIELD_TWICE));
+            return Err(RuleFault::Broken(name.pos, Rule::FieldTwice));
         }
     }
     Ok(fields.into_iter().collect(alloc)?)
@@ -50,7 +49,7 @@ fn chosen_fields(
     lists: bool,
     world: &World,
     new: &SNew,
-) -> Result<Vec<u32>, TypeFault>
+) -> Result<Vec<u32>, RuleFault>
     ensures { Answers numbers_of (s.chosen_fields lists (world_of world.now) (new_of new.now)) result }
 {
     if !new.every {
@@ -80,7 +79,7 @@ pub fn creating(
     at: Pos,
     target: u32,
     new: &SNew,
-) -> Result<Stmt, TypeFault>
+) -> Result<Stmt, RuleFault>
     ensures { Answers stmt_of (s.creating context.now.lists (world_of context.now.world.now) scope.now at target (new_of new.now)) result }
 {
     let fields = chosen_fields(alloc, context.lists, context.world, new)?;

@@ -13,8 +13,7 @@ use std::alloc::Global;
 use vb_base::{Ident, Memory, kept};
 use vb_value::{Layout, Ty};
 use viper_core::{Assertion, Method, Predicate, Program, Unit};
-use viper_scope::rules::WRONG_TYPE;
-use viper_scope::{TypeFault, World, next_number, type_of};
+use viper_scope::{Rule, RuleFault, World, next_number, type_of};
 use viper_syntax::{Decl, Formal};
 
 /// A typed declaration.
@@ -37,11 +36,11 @@ pub struct Parts {
 }
 
 /// A field.
-fn field(formal: &Formal) -> Result<Declared, TypeFault>
+fn field(formal: &Formal) -> Result<Declared, RuleFault>
     ensures { Answers declared_of (j.field_typing formal.now) result }
 {
     let Some(ty) = type_of(formal.ty) else {
-        return Err(TypeFault::Rule(formal.name.pos, WRONG_TYPE));
+        return Err(RuleFault::Broken(formal.name.pos, Rule::WrongType));
     };
     Ok(Declared::Field(formal.name.name.copy()?, ty))
 }
@@ -53,7 +52,7 @@ fn declaration(
     bodies: &[Option<Assertion>],
     lists: bool,
     decl: &Decl,
-) -> Result<Declared, TypeFault>
+) -> Result<Declared, RuleFault>
     ensures { Answers declared_of (j.decl_typing lists (world_of world.now) (optional_bodies_of bodies.now) (decl_of decl.now)) result }
 {
     match decl {
@@ -151,7 +150,7 @@ pub fn declarations(
     bodies: &[Option<Assertion>],
     lists: bool,
     decls: &[Decl],
-) -> Result<Parts, TypeFault>
+) -> Result<Parts, RuleFault>
     ensures { Answers parts_of (then_typed (j.decls_typing lists (world_of world.now) (optional_bodies_of bodies.now) (map decl_of decls.now)) (λ xs. Found (j.assembled j.no_program xs))) result }
 {
     let mut parts = Parts::new(alloc);

@@ -5,10 +5,11 @@ ghost use Rattle.viper_core.specs.Expr as e;
 ghost use Rattle.viper_core.specs.View.{expr_of, exprs_of, assertion_of};
 ghost use Rattle.viper_syntax.specs.View.{term_of, terms_of, amount_of};
 ghost use Rattle.viper_scope.specs.Answers.{Answers, typing_of, typings_of, argument_exprs_of, numbered_signature_of, world_of, context_of};
-ghost use Rattle.viper_types.specs.Answers.{place_of, lent_amount_of};
+ghost use Rattle.viper_types.specs.Answers.{place_of, lent_amount_of, unfolding_term};
 ghost use Rattle.viper_scope.specs.Context as c;
 ghost use Rattle.viper_types.specs.Operators as o;
 ghost use Rattle.viper_scope.specs.Outcome.{known, Found};
+ghost use Rattle.viper_scope.specs.declared.rules.Rule.TheVariants as rule;
 ghost use Rattle.viper_types.specs.Typing as j;
 ghost use Rattle.vb_value.specs.Fraction.{whole};
 ghost use Rattle.viper_syntax.specs.Term as t;
@@ -17,11 +18,9 @@ use std::alloc::Global;
 use vb_base::{Ident, Pos, boxed, boxed_pair, kept};
 use vb_value::{Frac, Ty};
 use viper_core::{Assertion, Expr, Op, Opened};
-use viper_scope::rules::{
-    MISPLACED_OLD, MISPLACED_UNFOLDING, MISPLACED_WILDCARD, MISSING_BODY, PERMISSION_IN_EXPRESSION,
-    UNKNOWN_NAME, WRONG_TYPE,
+use viper_scope::{
+    Context, Part, PredicateSignature, Rule, RuleFault, Scope, World, fitted, start,
 };
-use viper_scope::{Context, Part, PredicateSignature, Scope, TypeFault, World, fitted, start};
 use viper_syntax::{SUnfolding, Sign, Term, Word};
 
 /// A field of a receiver, with its type.
@@ -98,37 +97,36 @@ fn literal(word: Word) -> Option<(Expr, Ty)>
     }
 }
 
-fn constant(word: Word, at: Pos) -> Result<(Expr, Ty), TypeFault>
+fn constant(word: Word, at: Pos) -> Result<(Expr, Ty), RuleFault>
     ensures { Answers typing_of (j.constant word at) result }
 {
     if matches!(word, Word::Wildcard) {
-        return Err(TypeFault::Rule(at, MISPLACED_WILDCARD));
+        return Err(RuleFault::Broken(at, Rule::MisplacedWildcard));
     }
     match literal(word) {
         Some(typed) => Ok(typed),
-        None => Err(TypeFault::Rule(at, WRONG_TYPE)),
+        None => Err(RuleFault::Broken(at, Rule::WrongType)),
     }
 }
 
-fn variable(scope: &Scope, name: &Ident, at: Pos) -> Result<(Expr, Ty), TypeFault>
-    ensures { Answers typing_of (known (c.find scope.now name.now) at 1 (λ v. Found (e.Var v.number, v.ty))) result }
+fn variable(scope: &Scope, name: &Ident, at: Pos) -> Result<(Expr, Ty), RuleFault>
+    ensures { Answers typing_of (known (c.find scope.now name.now) at rule.UnknownName (λ v. Found (e.Var v.number, v.ty))) result }
 {
     match scope.find(name) {
         Some(variable) => Ok((Expr::Var(variable.number), variable.ty)),
-        None => Err(TypeFault::Rule(at, UNKNOWN_NAME)),
+        None => Err(RuleFault::Broken(at, Rule::UnknownName)),
     }
 }
 
-fn unary(alloc: Global, sign: Sign, operand: (Expr, Ty), at: Pos) -> Result<(Expr, Ty), TypeFault>
+fn unary(alloc: Global, sign: Sign, operand: (Expr, Ty), at: Pos) -> Result<(Expr, Ty), RuleFault>
     ensures { Answers typing_of (j.unary sign (typing_of operand) at) result }
 {
     let (operand, ty) = operand;
+    let operand = boxed(alloc, operand)?;
     match sign {
-        Sign::Minus if matches!(ty, Ty::Int | Ty::Perm) => {
-            Ok((Expr::Neg(Box::new(alloc, operand)?), ty))
-        }
-        Sign::Not if matches!(ty, Ty::Bool) => Ok((Expr::Not(Box::new(alloc, operand)?), Ty::Bool)),
-        _ => Err(TypeFault::Rule(at, WRONG_TYPE)),
+        Sign::Minus if matches!(ty, Ty::Int | Ty::Perm) => Ok((Expr::Neg(operand), ty)),
+        Sign::Not if matches!(ty, Ty::Bool) => Ok((Expr::Not(operand), Ty::Bool)),
+        _ => Err(RuleFault::Broken(at, Rule::WrongType)),
     }
 }
 
@@ -138,18 +136,18 @@ fn applied(
     left: (Expr, Ty),
     right: (Expr, Ty),
     at: Pos,
-) -> Result<(Expr, Ty), TypeFault>
+) -> Result<(Expr, Ty), RuleFault>
     ensures { Answers typing_of (j.applied sign (typing_of left) (typing_of right) at) result }
 {
     let (left, left_ty) = left;
     let (right, right_ty) = right;
+    let (left, right) = boxed_pair(alloc, left, right)?;
     let Some(op) = operator(sign) else {
-        return Err(TypeFault::Rule(at, WRONG_TYPE));
+        return Err(RuleFault::Broken(at, Rule::WrongType));
     };
     let Some(ty) = op.value_type(left_ty, right_ty) else {
-        return Err(TypeFault::Rule(at, WRONG_TYPE));
+        return Err(RuleFault::Broken(at, Rule::WrongType));
     };
-    let (left, right) = boxed_pair(alloc, left, right)?;
     Ok((Expr::Bin(op, left, right, at), ty))
 }
 
@@ -159,18 +157,18 @@ fn chosen(
     first: (Expr, Ty),
     second: (Expr, Ty),
     at: Pos,
-) -> Result<(Expr, Ty), TypeFault>
+) -> Result<(Expr, Ty), RuleFault>
     ensures { Answers typing_of (j.chosen (typing_of condition) (typing_of first) (typing_of second) at) result }
 {
     let (condition, condition_ty) = condition;
     let (first, ty) = first;
     let (second, second_ty) = second;
-    if condition_ty != Ty::Bool || ty != second_ty {
-        return Err(TypeFault::Rule(at, WRONG_TYPE));
-    }
     let condition = boxed(alloc, condition);
     let (condition, (first, second)) = kept(condition, (first, second))?;
     let (first, second) = boxed_pair(alloc, first, second)?;
+    if condition_ty != Ty::Bool || ty != second_ty {
+        return Err(RuleFault::Broken(at, Rule::WrongType));
+    }
     Ok((Expr::Choose(condition, first, second), ty))
 }
 
@@ -180,15 +178,15 @@ pub(crate) fn located(
     name: &Ident,
     at: Pos,
     receiver: (Expr, Ty),
-) -> Result<FieldPlace, TypeFault>
+) -> Result<FieldPlace, RuleFault>
     ensures { Answers place_of (j.located (world_of world.now) name.now at (typing_of receiver)) result }
 {
     let (receiver, receiver_ty) = receiver;
     let Some((field, ty)) = world.field(name) else {
-        return Err(TypeFault::Rule(at, UNKNOWN_NAME));
+        return Err(RuleFault::Broken(at, Rule::UnknownName));
     };
     if receiver_ty != Ty::Ref {
-        return Err(TypeFault::Rule(at, WRONG_TYPE));
+        return Err(RuleFault::Broken(at, Rule::WrongType));
     }
     Ok(FieldPlace {
         receiver,
@@ -198,7 +196,7 @@ pub(crate) fn located(
 }
 
 /// A field, read at the place of its name.
-pub(crate) fn field(alloc: Global, place: FieldPlace, at: Pos) -> Result<(Expr, Ty), TypeFault>
+pub(crate) fn field(alloc: Global, place: FieldPlace, at: Pos) -> Result<(Expr, Ty), RuleFault>
     ensures { Answers typing_of (Found (e.Field (expr_of place.receiver) place.field at, place.ty)) result }
 {
     let receiver = Box::new(alloc, place.receiver)?;
@@ -206,12 +204,12 @@ pub(crate) fn field(alloc: Global, place: FieldPlace, at: Pos) -> Result<(Expr, 
 }
 
 /// A typed term that must have this type.
-fn of_type(ty: Ty, term: &Term, typed: (Expr, Ty)) -> Result<Expr, TypeFault>
+fn of_type(ty: Ty, term: &Term, typed: (Expr, Ty)) -> Result<Expr, RuleFault>
     ensures { Answers expr_of (j.of_type ty (term_of term.now) (typing_of typed)) result }
 {
     let (e, found) = typed;
     if found != ty {
-        return Err(TypeFault::Rule(start(term), WRONG_TYPE));
+        return Err(RuleFault::Broken(start(term), Rule::WrongType));
     }
     Ok(e)
 }
@@ -221,14 +219,14 @@ pub(crate) fn with_body<'a>(
     world: &'a World,
     name: &Ident,
     at: Pos,
-) -> Result<(u32, &'a PredicateSignature), TypeFault>
+) -> Result<(u32, &'a PredicateSignature), RuleFault>
     ensures { Answers numbered_signature_of (j.with_body (world_of world.now) name.now at) result }
 {
     let Some((predicate, signature)) = world.predicate(name) else {
-        return Err(TypeFault::Rule(at, UNKNOWN_NAME));
+        return Err(RuleFault::Broken(at, Rule::UnknownName));
     };
     if !signature.has_body {
-        return Err(TypeFault::Rule(at, MISSING_BODY));
+        return Err(RuleFault::Broken(at, Rule::MissingBody));
     }
     Ok((predicate, signature))
 }
@@ -246,11 +244,11 @@ fn opening<'a>(
     name: &Ident,
     at: Pos,
     name_at: Pos,
-) -> Result<(u32, &'a PredicateSignature), TypeFault>
+) -> Result<(u32, &'a PredicateSignature), RuleFault>
     ensures { Answers numbered_signature_of (j.opening (context_of context.now) name.now at name_at) result }
 {
     if !allows_permission_forms(context.part) {
-        return Err(TypeFault::Rule(at, MISPLACED_UNFOLDING));
+        return Err(RuleFault::Broken(at, Rule::MisplacedUnfolding));
     }
     with_body(context.world, name, name_at)
 }
@@ -260,7 +258,7 @@ fn body_at(
     alloc: Global,
     bodies: &[Option<Assertion>],
     predicate: u32,
-) -> Result<Assertion, TypeFault>
+) -> Result<Assertion, RuleFault>
     ensures { Answers assertion_of (Found (c.body_at (map (option_map assertion_of) bodies.now) predicate)) result }
 {
     match bodies.get(predicate as usize) {
@@ -278,7 +276,7 @@ fn opened(
     amount: Expr,
     inner: (Expr, Ty),
     place: Pos,
-) -> Result<(Expr, Ty), TypeFault>
+) -> Result<(Expr, Ty), RuleFault>
     ensures { Answers typing_of (Found (j.opened_typing (context_of context.now) predicate (exprs_of args.items) (expr_of amount) (typing_of inner) place)) result }
 {
     let (inner, ty) = inner;
@@ -301,7 +299,7 @@ pub(crate) fn typing(
     context: &Context,
     scope: &Scope,
     term: &Term,
-) -> Result<(Expr, Ty), TypeFault>
+) -> Result<(Expr, Ty), RuleFault>
     ensures { Answers typing_of (j.typing (context_of context.now) scope.now (term_of term.now)) result }
 {
     match term {
@@ -325,25 +323,36 @@ pub(crate) fn typing(
         }
         Term::Field(a, name, at) => field(alloc, place(alloc, context, scope, a, name, *at)?, *at),
         Term::Old(a, at) => old(alloc, context, scope, a, *at),
-        Term::Acc(_, _, at) | Term::Inst(_, _, at) => Err(TypeFault::Rule(
+        Term::Acc(_, _, at) | Term::Inst(_, _, at) => Err(RuleFault::Broken(
             *at,
-            PERMISSION_IN_EXPRESSION,
+            Rule::PermissionInExpression,
         )),
-        Term::Unfolding(unfolding) => {
-            let SUnfolding {
-                at,
-                name,
-                args,
-                amount,
-                inner,
-            } = &**unfolding;
-            let (predicate, signature) = opening(context, &name.name, *at, name.pos)?;
-            let args = arguments(alloc, context, scope, args, &signature.params, name.pos)?;
-            let amount = held_permission(alloc, context, scope, amount)?;
-            let inner = typing(alloc, context, scope, inner)?;
-            opened(alloc, context, predicate, args, amount, inner, name.pos)
-        }
+        Term::Unfolding(unfolding) => unfolded(alloc, context, scope, unfolding),
     }
+}
+
+/// An `unfolding` as an expression, with its type.
+#[cycle(expressions)]
+fn unfolded(
+    alloc: Global,
+    context: &Context,
+    scope: &Scope,
+    term: &SUnfolding,
+) -> Result<(Expr, Ty), RuleFault>
+    ensures { Answers typing_of (j.typing (context_of context.now) scope.now (unfolding_term term.now)) result }
+{
+    let SUnfolding {
+        at,
+        name,
+        args,
+        amount,
+        inner,
+    } = term;
+    let (predicate, signature) = opening(context, &name.name, *at, name.pos)?;
+    let args = arguments(alloc, context, scope, args, &signature.params, name.pos)?;
+    let amount = held_permission(alloc, context, scope, amount)?;
+    let inner = typing(alloc, context, scope, inner)?;
+    opened(alloc, context, predicate, args, amount, inner, name.pos)
 }
 
 #[cycle(expressions)]
@@ -353,11 +362,11 @@ fn old(
     scope: &Scope,
     term: &Term,
     at: Pos,
-) -> Result<(Expr, Ty), TypeFault>
+) -> Result<(Expr, Ty), RuleFault>
     ensures { Answers typing_of (j.typing (context_of context.now) scope.now (t.Old (term_of term.now) at)) result }
 {
     if !matches!(context.part, Part::Elsewhere) {
-        return Err(TypeFault::Rule(at, MISPLACED_OLD));
+        return Err(RuleFault::Broken(at, Rule::MisplacedOld));
     }
     let (e, ty) = typing(alloc, context, scope, term)?;
     Ok((Expr::Old(Box::new(alloc, e)?), ty))
@@ -370,7 +379,7 @@ pub(crate) fn typings(
     context: &Context,
     scope: &Scope,
     terms: &[Term],
-) -> Result<Vec<(Expr, Ty)>, TypeFault>
+) -> Result<Vec<(Expr, Ty)>, RuleFault>
     ensures { Answers typings_of (j.typing_all (context_of context.now) scope.now (terms_of terms.now)) result }
 {
     let mut typed = Vec::with_capacity(alloc, terms.len())?;
@@ -390,7 +399,7 @@ pub(crate) fn arguments(
     args: &[Term],
     params: &[Ty],
     at: Pos,
-) -> Result<Vec<Expr>, TypeFault>
+) -> Result<Vec<Expr>, RuleFault>
     ensures { Answers argument_exprs_of (j.arguments (context_of context.now) scope.now (terms_of args.now) params.now at) result }
 {
     let typed = typings(alloc, context, scope, args)?;
@@ -405,7 +414,7 @@ pub(crate) fn expected(
     scope: &Scope,
     ty: Ty,
     term: &Term,
-) -> Result<Expr, TypeFault>
+) -> Result<Expr, RuleFault>
     ensures { Answers expr_of (j.expected (context_of context.now) scope.now ty (term_of term.now)) result }
 {
     let typed = typing(alloc, context, scope, term)?;
@@ -419,7 +428,7 @@ fn held_permission(
     context: &Context,
     scope: &Scope,
     amount: &Option<Box<Term>>,
-) -> Result<Expr, TypeFault>
+) -> Result<Expr, RuleFault>
     ensures { Answers expr_of (j.permission (context_of context.now) scope.now (amount_of amount.now)) result }
 {
     match amount {
@@ -437,7 +446,7 @@ pub(crate) fn place(
     term: &Term,
     name: &Ident,
     at: Pos,
-) -> Result<FieldPlace, TypeFault>
+) -> Result<FieldPlace, RuleFault>
     ensures { Answers place_of (j.place (context_of context.now) scope.now (term_of term.now) name.now at) result }
 {
     let receiver = typing(alloc, context, scope, term)?;
@@ -450,7 +459,7 @@ pub(crate) fn permission(
     context: &Context,
     scope: &Scope,
     amount: Option<&Term>,
-) -> Result<Expr, TypeFault>
+) -> Result<Expr, RuleFault>
     ensures { Answers expr_of (j.permission (context_of context.now) scope.now (lent_amount_of amount.entry)) result }
 {
     match amount {

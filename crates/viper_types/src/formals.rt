@@ -10,8 +10,7 @@ ghost use Rattle.viper_scope.specs.Outcome.{Found};
 use crate::frames::Frame;
 use vb_base::{Ident, Memory};
 use vb_value::Ty;
-use viper_scope::rules::{DECLARED_TWICE, PERM_PARAMETER, WRONG_TYPE};
-use viper_scope::{TypeFault, type_of};
+use viper_scope::{Rule, RuleFault, type_of};
 use viper_syntax::Formal;
 
 /// Adds a formal, which is a Perm only where that is allowed.
@@ -20,18 +19,18 @@ fn formal(
     allows_perm: bool,
     is_parameter: bool,
     formal: &Formal,
-) -> Result<(), TypeFault>
+) -> Result<(), RuleFault>
     ensures { Answers (λ _. frame_of frame.new) (j.formal allows_perm (frame_of frame.old) formal.now (Found (f.with_variable (frame_of frame.old) formal.now.name.name (types.declared_type formal.now) is_parameter))) result }
 {
     let at = formal.name.pos;
     if frame.scope.find(&formal.name.name).is_some() {
-        return Err(TypeFault::Rule(at, DECLARED_TWICE));
+        return Err(RuleFault::Broken(at, Rule::DeclaredTwice));
     }
     let Some(ty) = type_of(formal.ty) else {
-        return Err(TypeFault::Rule(at, WRONG_TYPE));
+        return Err(RuleFault::Broken(at, Rule::WrongType));
     };
     if !allows_perm && ty == Ty::Perm {
-        return Err(TypeFault::Rule(at, PERM_PARAMETER));
+        return Err(RuleFault::Broken(at, Rule::PermParameter));
     }
     frame.declare(&formal.name.name, ty, is_parameter)?;
     Ok(())
@@ -43,7 +42,7 @@ pub fn formals(
     allows_perm: bool,
     is_parameter: bool,
     formals: &[Formal],
-) -> Result<(), TypeFault>
+) -> Result<(), RuleFault>
     ensures { Answers (λ _. frame_of frame.new) (j.formals allows_perm is_parameter (frame_of frame.old) formals.now) result }
 {
     for next in formals {

@@ -11,8 +11,7 @@ ghost use Rattle.viper_types.specs.Stepping as s;
 use std::alloc::Global;
 use vb_base::{Ident, Memory, Pos};
 use vb_value::Ty;
-use viper_scope::rules::{DECLARED_TWICE, WRONG_TYPE};
-use viper_scope::{Scope, TypeFault, Variable, next_number, type_of};
+use viper_scope::{Rule, RuleFault, Scope, Variable, next_number, type_of};
 use viper_syntax::Formal;
 
 /// The variables of a method so far.
@@ -66,17 +65,17 @@ impl Frame {
     }
 
     /// The variable that a declaration makes.
-    pub fn fresh(&self, formal: &Formal) -> Result<Target, TypeFault>
+    pub fn fresh(&self, formal: &Formal) -> Result<Target, RuleFault>
         ensures answers { Answers target_of (s.fresh (frame_of self.now) formal.now) result }
         ensures typed { IfOk result (λ v. v.ty ≡ types.declared_type formal.now) }
         ensures is_new { OnOk result (find self.now.scope formal.now.name.name ≡ None) }
     {
         let at = formal.name.pos;
         if self.scope.find(&formal.name.name).is_some() {
-            return Err(TypeFault::Rule(at, DECLARED_TWICE));
+            return Err(RuleFault::Broken(at, Rule::DeclaredTwice));
         }
         let Some(ty) = type_of(formal.ty) else {
-            return Err(TypeFault::Rule(at, WRONG_TYPE));
+            return Err(RuleFault::Broken(at, Rule::WrongType));
         };
         let number = self.next_number()?;
         Ok(Target { number, ty, at })

@@ -10,6 +10,7 @@ ghost use Rattle.viper_core.specs.Stmt as c;
 ghost use Rattle.viper_syntax.specs.Decl as d;
 ghost use Rattle.viper_syntax.specs.Stmt as s;
 ghost use Rattle.viper_syntax.specs.Term as t;
+ghost use Rattle.viper_scope.specs.declared.rules.Rule.{Rule};
 ghost use Rattle.viper_scope.specs.Context.{Context};
 ghost use Rattle.viper_types.specs.Frame.{Frame};
 ghost use Rattle.viper_syntax.specs.Good.{IsGoodSource};
@@ -41,8 +42,8 @@ pub fn one_program()
 
 /// A file is a program, or its walk tells a broken rule, and never both.
 pub fn typed_or_broken()
-    ensures either { (source : d.SourceProgram) → ((q : p.Program) × IsProgram source q) ⊎ ((at : Pos) × (n : ℕ) × (program_typing source ≡ Broken at n)) }
-    ensures not_both { (source : d.SourceProgram) (q : p.Program) (at : Pos) (n : ℕ) → IsProgram source q → program_typing source ≡ Broken at n → ⊥ }
+    ensures either { (source : d.SourceProgram) → ((q : p.Program) × IsProgram source q) ⊎ ((at : Pos) × (r : Rule) × (program_typing source ≡ Broken at r)) }
+    ensures not_both { (source : d.SourceProgram) (q : p.Program) (at : Pos) (r : Rule) → IsProgram source q → program_typing source ≡ Broken at r → ⊥ }
 {}
 
 /// The program that a file is, is formed, but for its weight.

@@ -10,6 +10,7 @@ mod copied;
 mod creations;
 mod declarations;
 mod expressions;
+mod faults;
 mod formals;
 mod frames;
 pub mod laws;
@@ -20,5 +21,5 @@ mod program;
 mod simple;
 mod statements;
 
+pub use faults::TypeFault;
 pub use program::check;
-pub use viper_scope::TypeFault;

@@ -18,8 +18,7 @@ use std::alloc::Global;
 use std::mem;
 use vb_base::{Ident, Memory};
 use viper_core::{Assertion, Body, Method};
-use viper_scope::rules::WRONG_TYPE;
-use viper_scope::{Context, Part, Scope, TypeFault, World, next_number, seen, start};
+use viper_scope::{Context, Part, Rule, RuleFault, Scope, World, next_number, seen, start};
 use viper_syntax::{SBlock, SClause, SMethod};
 
 /// A clause, with whether it is a precondition, which sees the parameters alone.
@@ -30,12 +29,12 @@ fn clause(
     params: &Scope,
     all: &Scope,
     clause: &SClause,
-) -> Result<(bool, Assertion), TypeFault>
+) -> Result<(bool, Assertion), RuleFault>
     ensures { Answers clause_typing_of (j.clause_of (world_of world.now) (optional_bodies_of bodies.now) params.now all.now clause.now.word (term_of clause.now.term)) result }
 {
     let term = &clause.term;
     let Some((part, scope)) = seen(clause.word, params, all) else {
-        return Err(TypeFault::Rule(start(term), WRONG_TYPE));
+        return Err(RuleFault::Broken(start(term), Rule::WrongType));
     };
     let context = Context {
         world,
@@ -55,7 +54,7 @@ fn clauses(
     params: &Scope,
     all: &Scope,
     clauses: &[SClause],
-) -> Result<Vec<(bool, Assertion)>, TypeFault>
+) -> Result<Vec<(bool, Assertion)>, RuleFault>
     ensures { Answers clause_typings_of (j.clauses (world_of world.now) (optional_bodies_of bodies.now) params.now all.now (map clause_of clauses.now)) result }
 {
     let mut typed = Vec::with_capacity(alloc, clauses.len())?;
@@ -96,7 +95,7 @@ fn method_body(
     context: &Context,
     frame: &mut Frame,
     block: &Option<SBlock>,
-) -> Result<Option<Body>, TypeFault>
+) -> Result<Option<Body>, RuleFault>
     ensures after { OnOk result (frame.new.vars.items ≡ frame.old.vars.items ++ j.locals (option_map block_of block.now)) }
     ensures answers { Answers (option_map core.body_of) (j.method_body context.now.lists (context_of context.now) (frame_of frame.old) (option_map block_of block.now)) result }
 {
@@ -141,7 +140,7 @@ fn heading_of(alloc: Global, method: &SMethod) -> Result<Heading, Memory>
 }
 
 /// Declares the formals of a method. The parameters stand also in a frame of their own.
-fn declare_formals(params: &mut Frame, frame: &mut Frame, method: &SMethod) -> Result<(), TypeFault>
+fn declare_formals(params: &mut Frame, frame: &mut Frame, method: &SMethod) -> Result<(), RuleFault>
     requires params { frame_of params.old ≡ j.no_frame }
     requires frame { frame_of frame.old ≡ j.no_frame }
     ensures { Answers {X = f.Frame × f.Frame} (λ _. (frame_of params.new, frame_of frame.new)) (then_typed (j.formals true true j.no_frame method.now.params.items) (λ ps.
@@ -159,7 +158,7 @@ fn method_in(
     params: &mut Frame,
     frame: &mut Frame,
     method: &SMethod,
-) -> Result<Method, TypeFault>
+) -> Result<Method, RuleFault>
     requires part { context.now.part ≡ part.Elsewhere }
     requires params { frame_of params.old ≡ j.no_frame }
     requires frame { frame_of frame.old ≡ j.no_frame }
@@ -198,7 +197,7 @@ pub fn method(
     bodies: &[Option<Assertion>],
     lists: bool,
     method: &SMethod,
-) -> Result<Method, TypeFault>
+) -> Result<Method, RuleFault>
     ensures { Answers core.method_of (j.method_typing lists (world_of world.now) (optional_bodies_of bodies.now) (method_of method.now)) result }
 {
     let part = Part::Elsewhere;

@@ -17,7 +17,7 @@ use std::alloc::Global;
 use vb_base::{Ident, Memory, Pos};
 use vb_value::Ty;
 use viper_core::{Assertion, Predicate};
-use viper_scope::{Context, Part, Scope, TypeFault, World, types_in};
+use viper_scope::{Context, Part, RuleFault, Scope, World, types_in};
 use viper_syntax::{Decl, Formal, Named, Term};
 
 /// The body of a predicate. It sees no bodies, since it holds no `unfolding`.
@@ -26,7 +26,7 @@ fn predicate_body(
     world: &World,
     scope: &Scope,
     body: &Option<Term>,
-) -> Result<Option<Assertion>, TypeFault>
+) -> Result<Option<Assertion>, RuleFault>
     ensures { Answers (option_map core.assertion_of) (j.predicate_body (world_of world.now) scope.now (option_map term_of body.now)) result }
 {
     let context = Context {
@@ -75,7 +75,7 @@ fn predicate_in(
     name: &Named,
     params: &[Formal],
     body: &Option<Term>,
-) -> Result<Predicate, TypeFault>
+) -> Result<Predicate, RuleFault>
     requires { frame_of frame.old ≡ j.no_frame }
     ensures { Answers core.predicate_of (j.predicate_typing (world_of world.now) at name.now params.now (option_map term_of body.now)) result }
 {
@@ -99,7 +99,7 @@ pub fn predicate(
     name: &Named,
     params: &[Formal],
     body: &Option<Term>,
-) -> Result<Predicate, TypeFault>
+) -> Result<Predicate, RuleFault>
     ensures { Answers core.predicate_of (j.predicate_typing (world_of world.now) at name.now params.now (option_map term_of body.now)) result }
 {
     let mut frame = Frame::new(alloc);
@@ -107,13 +107,13 @@ pub fn predicate(
 }
 
 /// The body of a typed predicate, and none where it breaks a rule.
-fn found_body(typed: Result<Predicate, TypeFault>) -> Result<Option<Assertion>, Memory>
+fn found_body(typed: Result<Predicate, RuleFault>) -> Result<Option<Assertion>, Memory>
     ensures { (judged : Judged p.Predicate) → Answers core.predicate_of judged typed → IfOk result (λ body. option_map core.assertion_of body ≡ j.found_body judged) }
 {
     match typed {
         Ok(predicate) => Ok(predicate.body),
-        Err(TypeFault::Rule(_, _)) => Ok(None),
-        Err(_) => Err(Memory),
+        Err(RuleFault::Broken(_, _)) => Ok(None),
+        Err(RuleFault::Memory) => Err(Memory),
     }
 }
 

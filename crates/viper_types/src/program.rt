@@ -1,5 +1,5 @@
 // The typing of a file.
-ghost use Rattle.std.specs.Prelude.{◌≡◌, ◌≤◌, ℕ, IfErr, IfOk, [], false, map};
+ghost use Rattle.std.specs.Prelude.{◌≡◌, ◌≤◌, IfErr, IfOk, [], false, map};
 ghost use Rattle.vb_base.specs.Limits.{max_weight};
 ghost use Rattle.vb_base.specs.declared.places.Pos.{Pos};
 ghost use Rattle.viper_core.specs.Formed.{IsFormed};
@@ -7,6 +7,7 @@ ghost use Rattle.viper_core.specs.Program as p;
 ghost use Rattle.viper_core.specs.View as core;
 ghost use Rattle.viper_core.specs.Weight.{weight};
 ghost use Rattle.viper_syntax.specs.View.{decl_of, program_of as source_of};
+ghost use Rattle.viper_scope.specs.declared.rules.Rule.{Rule};
 ghost use Rattle.viper_scope.specs.Answers.{world_of};
 ghost use Rattle.viper_types.specs.Checked.{Gives, IsRefused, Overweighs, Tells};
 ghost use Rattle.viper_types.specs.Declaring as j;
@@ -17,11 +18,12 @@ ghost use Rattle.viper_types.specs.Program.{IsProgram};
 
 use crate::copied::spend_decls;
 use crate::declarations::declarations;
+use crate::faults::TypeFault;
 use crate::predicates::bodies_of;
 use std::alloc::Global;
 use vb_base::limits::{MAX_WEIGHT, TOO_HEAVY};
 use viper_core::{Program, weight};
-use viper_scope::{TypeFault, World, naming};
+use viper_scope::{World, naming};
 use viper_syntax::{Decl, SourceProgram};
 
 /// Why a file is refused that copies more than a program may weigh: for the first rule that it breaks, or else for its weight.
@@ -32,7 +34,7 @@ fn heavy_fault(alloc: Global, world: &World, decls: &[Decl]) -> TypeFault
 {
     match declarations(alloc, world, &[], false, decls) {
         Ok(_) => TypeFault::Weight(TOO_HEAVY),
-        Err(fault) => fault,
+        Err(fault) => TypeFault::from(fault),
     }
 }
 
@@ -65,7 +67,7 @@ pub fn check(alloc: Global, source: &SourceProgram) -> Result<Program, TypeFault
     ensures found { IfOk result (λ q. IsProgram (source_of source.now) (core.program_of q) × (weight (core.program_of q) ≤ max_weight)) }
     ensures only { (q : p.Program) → IsProgram (source_of source.now) q → Gives result q }
     ensures refused { IfErr result (λ f. IsRefused (source_of source.now) f) }
-    ensures first { (at : Pos) (n : ℕ) → j.program_typing (source_of source.now) ≡ Broken at n → Tells result at n }
+    ensures first { (at : Pos) (r : Rule) → j.program_typing (source_of source.now) ≡ Broken at r → Tells result at r }
     ensures formed { IsGoodSource (source_of source.now) → IfOk result (λ q. IsFormed (core.program_of q)) }
 {
     let program = typed(alloc, source)?;

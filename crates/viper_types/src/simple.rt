@@ -22,8 +22,7 @@ use std::slice;
 use vb_base::{Pos, kept};
 use vb_value::Ty;
 use viper_core::{Assertion, Expr, FoldStmt, Stmt};
-use viper_scope::rules::{TARGET_COUNT, UNKNOWN_NAME, WRONG_TYPE};
-use viper_scope::{Context, Scope, TypeFault, World, start};
+use viper_scope::{Context, Rule, RuleFault, Scope, World, start};
 use viper_syntax::{Formal, Named, SFold, SRhs, Term, Word};
 
 /// A field of what stands at a place.
@@ -33,7 +32,7 @@ fn further(
     place: FieldPlace,
     at: Pos,
     field: &Named,
-) -> Result<FieldPlace, TypeFault>
+) -> Result<FieldPlace, RuleFault>
     ensures { Answers place_of (j.located (world_of world.now) field.now.name field.now.pos (e.Field (expr_of place.receiver) place.field at, place.ty)) result }
 {
     let receiver = Box::new(alloc, place.receiver)?;
@@ -48,7 +47,7 @@ fn dotted(
     receiver: (Expr, Ty),
     first: &Named,
     rest: &[Named],
-) -> Result<FieldPlace, TypeFault>
+) -> Result<FieldPlace, RuleFault>
     ensures { Answers place_of (s.dotted (world_of world.now) (typing_of receiver) first.now rest.now) result }
 {
     let mut place = located(world, &first.name, first.pos, receiver)?;
@@ -68,11 +67,11 @@ fn target_place(
     x: &Named,
     first: &Named,
     rest: &[Named],
-) -> Result<FieldPlace, TypeFault>
+) -> Result<FieldPlace, RuleFault>
     ensures { Answers place_of (s.target_place (context_of context.now) scope.now x.now first.now rest.now) result }
 {
     let Some(variable) = scope.find(&x.name) else {
-        return Err(TypeFault::Rule(x.pos, UNKNOWN_NAME));
+        return Err(RuleFault::Broken(x.pos, Rule::UnknownName));
     };
     let receiver = (Expr::Var(variable.number), variable.ty);
     dotted(alloc, context.world, receiver, first, rest)
@@ -96,7 +95,7 @@ pub fn declaring(
     at: Pos,
     target: Target,
     rhs: Option<&SRhs>,
-) -> Result<Stmt, TypeFault>
+) -> Result<Stmt, RuleFault>
     ensures { Answers stmt_of (s.declaring context.now.lists (context_of context.now) (frame_of frame.now) at (target_of target) (lent_rhs_of rhs.entry)) result }
 {
     let scope = &frame.scope;
@@ -111,7 +110,7 @@ pub fn declaring(
         }
         Some(SRhs::New(new)) => {
             if target.ty != Ty::Ref {
-                return Err(TypeFault::Rule(target.at, WRONG_TYPE));
+                return Err(RuleFault::Broken(target.at, Rule::WrongType));
             }
             creating(alloc, context, scope, at, target.number, new)
         }
@@ -126,7 +125,7 @@ pub fn variable(
     at: Pos,
     formal: &Formal,
     rhs: Option<&SRhs>,
-) -> Result<Stmt, TypeFault>
+) -> Result<Stmt, RuleFault>
     ensures after { OnOk result (frame_of frame.new ≡ f.with_variable (frame_of frame.old) formal.now.name.name (types.declared_type formal.now) false) }
     ensures answers { Answers stmt_of (then_typed (s.fresh (frame_of frame.old) formal.now) (λ v. s.declaring context.now.lists (context_of context.now) (frame_of frame.old) at v (lent_rhs_of rhs.entry))) result }
 {
@@ -144,7 +143,7 @@ fn assigning(
     scope: &Scope,
     x: &Named,
     rhs: &SRhs,
-) -> Result<Stmt, TypeFault>
+) -> Result<Stmt, RuleFault>
     ensures { Answers stmt_of (s.assigning context.now.lists (context_of context.now) scope.now x.now (rhs_of rhs.now)) result }
 {
     match rhs {
@@ -173,7 +172,7 @@ fn writing(
     first: &Named,
     rest: &[Named],
     rhs: &SRhs,
-) -> Result<Stmt, TypeFault>
+) -> Result<Stmt, RuleFault>
     ensures { Answers stmt_of (s.writing (context_of context.now) scope.now x.now first.now rest.now (rhs_of rhs.now)) result }
 {
     let place = target_place(alloc, context, scope, x, first, rest)?;
@@ -184,7 +183,7 @@ fn writing(
             Ok(Stmt::Write(x.pos, place.receiver, place.field, at, value))
         }
         SRhs::Call(call) => calling_into_field(alloc, context, scope, call),
-        SRhs::New(new) => Err(TypeFault::Rule(new.at, TARGET_COUNT)),
+        SRhs::New(new) => Err(RuleFault::Broken(new.at, Rule::TargetCount)),
     }
 }
 
@@ -195,11 +194,11 @@ pub fn setting(
     scope: &Scope,
     names: &[Named],
     rhs: &SRhs,
-) -> Result<Stmt, TypeFault>
+) -> Result<Stmt, RuleFault>
     ensures { Answers stmt_of (s.setting context.now.lists (context_of context.now) scope.now names.now (rhs_of rhs.now)) result }
 {
     match names {
-        [] => Err(TypeFault::Rule(nowhere(), WRONG_TYPE)),
+        [] => Err(RuleFault::Broken(nowhere(), Rule::WrongType)),
         [x] => assigning(alloc, context, scope, x, rhs),
         [x, first, rest @ ..] => writing(alloc, context, scope, x, first, rest, rhs),
     }
@@ -213,7 +212,7 @@ pub fn checking(
     word: Word,
     at: Pos,
     term: &Term,
-) -> Result<Stmt, TypeFault>
+) -> Result<Stmt, RuleFault>
     ensures { Answers stmt_of (s.checking (context_of context.now) scope.now word at (term_of term.now)) result }
 {
     match word {
@@ -224,7 +223,7 @@ pub fn checking(
             let condition = expected(alloc, context, scope, Ty::Bool, term)?;
             Ok(Stmt::Inhale(at, Assertion::Fact(condition, start(term))))
         }
-        _ => Err(TypeFault::Rule(at, WRONG_TYPE)),
+        _ => Err(RuleFault::Broken(at, Rule::WrongType)),
     }
 }
 
@@ -234,7 +233,7 @@ pub fn folding(
     context: &Context,
     scope: &Scope,
     fold: &SFold,
-) -> Result<FoldStmt, TypeFault>
+) -> Result<FoldStmt, RuleFault>
     ensures { Answers core_fold_of (s.folding (context_of context.now) scope.now (fold_of fold.now)) result }
 {
     let name = &fold.call.name;

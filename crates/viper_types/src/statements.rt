@@ -9,7 +9,7 @@ ghost use Rattle.viper_types.specs.Answers.{block_stmts_of, branch_of, branches_
 ghost use Rattle.viper_scope.specs.Context.{nowhere};
 ghost use Rattle.viper_types.specs.Frame as f;
 ghost use Rattle.viper_scope.specs.Outcome.{Found, known, then_typed};
-ghost use Rattle.viper_scope.specs.Rules.{wrong_type};
+ghost use Rattle.viper_scope.specs.declared.rules.Rule.TheVariants as rule;
 ghost use Rattle.viper_types.specs.Stepping as s;
 ghost use Rattle.viper_scope.specs.Target as v;
 ghost use Rattle.viper_types.specs.Typing as j;
@@ -26,8 +26,7 @@ use vb_base::Pos;
 use vb_base::limits::MAX_BLOCK_DEPTH;
 use vb_value::Ty;
 use viper_core::{Assertion, Expr, Loop, Stmt};
-use viper_scope::rules::{TOO_DEEP, WRONG_TYPE};
-use viper_scope::{Context, Scope, TypeFault, targets};
+use viper_scope::{Context, Rule, RuleFault, Scope, targets};
 use viper_syntax::{Named, SArm, SBlock, SStmt, Term};
 
 /// An arm of an `if`, typed.
@@ -62,12 +61,12 @@ fn loop_statement(turns: Loop) -> Stmt
 }
 
 /// An `if` for all arms, each further one alone in the second block of the one before.
-fn nested(alloc: Global, branches: Vec<TypedArm>, other: Vec<Stmt>) -> Result<Stmt, TypeFault>
-    ensures { Answers core.stmt_of (known (s.nested (branches_of branches) (block_stmts_of other)) nowhere wrong_type Found) result }
+fn nested(alloc: Global, branches: Vec<TypedArm>, other: Vec<Stmt>) -> Result<Stmt, RuleFault>
+    ensures { Answers core.stmt_of (known (s.nested (branches_of branches) (block_stmts_of other)) nowhere rule.WrongType Found) result }
 {
     let mut branches = branches;
     let Some(last) = branches.pop() else {
-        return Err(TypeFault::Rule(nowhere(), WRONG_TYPE));
+        return Err(RuleFault::Broken(nowhere(), Rule::WrongType));
     };
     let mut stmt = if_statement(last, other);
     while let Some(branch) = branches.pop() {
@@ -84,7 +83,7 @@ fn stepping(
     depth: usize,
     frame: &mut Frame,
     stmt: &SStmt,
-) -> Result<Stmt, TypeFault>
+) -> Result<Stmt, RuleFault>
     requires { depth ≤ max_block_depth }
     ensures after { OnOk result (frame_of frame.new ≡ f.frame_after (frame_of frame.old) (stmt_of stmt.now)) }
     ensures answers { Answers core.stmt_of (s.stepping context.now.lists (context_of context.now) depth (frame_of frame.old) (stmt_of stmt.now)) result }
@@ -122,7 +121,7 @@ fn loop_terms(
     scope: &Scope,
     guard: &Term,
     invariants: &[Term],
-) -> Result<(Expr, Vec<Assertion>), TypeFault>
+) -> Result<(Expr, Vec<Assertion>), RuleFault>
     ensures { Answers loop_terms_of (then_typed (j.expected (context_of context.now) scope.now ty.Bool (term_of guard.now)) (λ x.
         then_typed (s.asserting_all (context_of context.now) scope.now (map term_of invariants.now)) (λ xs. Found (x, xs)))) result }
 {
@@ -141,7 +140,7 @@ fn iteration(
     body: &SBlock,
     at: Pos,
     terms: (Expr, Vec<Assertion>),
-) -> Result<Stmt, TypeFault>
+) -> Result<Stmt, RuleFault>
     requires { depth ≤ max_block_depth }
     ensures after { OnOk result (frame_of frame.new ≡ f.with_hidden (frame_of frame.old) (f.declared_in_block (block_of body.now))) }
     ensures answers { Answers core.stmt_of (then_typed (s.blocking context.now.lists (context_of context.now) (depth + 1) (frame_of frame.old) (block_of body.now)) (λ ss.
@@ -169,13 +168,13 @@ pub fn blocking(
     depth: usize,
     frame: &mut Frame,
     block: &SBlock,
-) -> Result<Vec<Stmt>, TypeFault>
+) -> Result<Vec<Stmt>, RuleFault>
     ensures shallow { OnOk result (depth ≤ max_block_depth) }
     ensures after { OnOk result (frame_of frame.new ≡ f.with_hidden (frame_of frame.old) (f.declared_in_block (block_of block.now))) }
     ensures answers { Answers block_stmts_of (s.blocking context.now.lists (context_of context.now) depth (frame_of frame.old) (block_of block.now)) result }
 {
     if depth > MAX_BLOCK_DEPTH {
-        return Err(TypeFault::Rule(block.at, TOO_DEEP));
+        return Err(RuleFault::Broken(block.at, Rule::TooDeep));
     }
     let visible = frame.scope.extent();
     let stmts = stepping_all(alloc, context, depth, frame, &block.stmts)?;
@@ -191,7 +190,7 @@ fn stepping_all(
     depth: usize,
     frame: &mut Frame,
     stmts: &[SStmt],
-) -> Result<Vec<Stmt>, TypeFault>
+) -> Result<Vec<Stmt>, RuleFault>
     requires { depth ≤ max_block_depth }
     ensures vars { OnOk result (frame.new.vars.items ≡ frame.old.vars.items ++ f.declared_in (stmts_of stmts.now)) }
     ensures visible { OnOk result (take (length frame.old.scope) frame.new.scope ≡ frame.old.scope) }
@@ -213,7 +212,7 @@ fn branches(
     depth: usize,
     frame: &mut Frame,
     arms: &[SArm],
-) -> Result<Vec<TypedArm>, TypeFault>
+) -> Result<Vec<TypedArm>, RuleFault>
     requires { depth ≤ max_block_depth + 1 }
     ensures shallow { OnOk result (depth + length arms.now ≤ max_block_depth + 1) }
     ensures after { OnOk result (frame_of frame.new ≡ f.with_hidden (frame_of frame.old) (f.declared_in_arms (arms_of arms.now))) }
@@ -234,7 +233,7 @@ fn branch(
     depth: usize,
     frame: &mut Frame,
     arm: &SArm,
-) -> Result<TypedArm, TypeFault>
+) -> Result<TypedArm, RuleFault>
     ensures shallow { OnOk result (depth ≤ max_block_depth) }
     ensures after { OnOk result (frame_of frame.new ≡ f.with_hidden (frame_of frame.old) (f.declared_in_arm (arm_of arm.now))) }
     ensures answers { Answers branch_of (s.branch context.now.lists (context_of context.now) depth (frame_of frame.old) (arm_of arm.now)) result }
@@ -256,7 +255,7 @@ fn otherwise(
     depth: usize,
     frame: &mut Frame,
     other: &Option<SBlock>,
-) -> Result<Vec<Stmt>, TypeFault>
+) -> Result<Vec<Stmt>, RuleFault>
     ensures after { OnOk result (frame_of frame.new ≡ f.with_hidden (frame_of frame.old) (f.declared_in_else (else_of other.now))) }
     ensures answers { Answers block_stmts_of (s.otherwise context.now.lists (context_of context.now) depth (frame_of frame.old) (else_of other.now)) result }
 {

@@ -1,5 +1,6 @@
 use Rattle.std.proofs.Common.{◌≡◌, ◌∙◌, ◌<◌, ◌≤◌, refl, sym, ap, subst, arith, ℕ, List, [], ◌∷◌, Some, None, length, ◌==◌, true, false, get_or}
 use Rattle.std.proofs.lemmas.Bool.Decides.{nat_tests}
+use Rattle.vb_base.specs.Limits.{max_unclosed_brackets}
 use Rattle.boogie_grammar.specs.Depth.{unclosed_with}
 use Rattle.boogie_grammar.specs.Step.{IsPiece}
 use Rattle.boogie_grammar.proofs.PartLaws.{IsBegun, begun_blank, begun_token, begun_start, few, part, blank, empty}
@@ -51,14 +52,14 @@ loop-rest-preserved c =
     let h : IsPiece c.loop-rest.rest.now (Some c.in-Some-found.tok) c.in-Some.len = rw (c.in-Some.is, c.in-Some-found.is) at c.in_ok-found.ensures in
     subst (λ n. IsBegun c.args.before c.args.text.now c.split_at-in-loop-rest.result.1.now n c.push_reserved.new.self.items) (sym c.unclosed_with-count.ensures)
     (begun_token _ c.in-Some.len c.loop-rest.invariant h c.split_at-in-loop-rest.ensures.back c.push_reserved.ensures.items c.in_ok-reserve.ensures.items
-    (subst (λ n. n ≤ 2048) c.unclosed_with-count.ensures c.if-count-gt-MAX_UNCLOSED_BRACKETS.false))
+    (subst (λ n. n ≤ max_unclosed_brackets) c.unclosed_with-count.ensures c.if-count-gt-MAX_UNCLOSED_BRACKETS.false))
 
 pub returns-then-ends : goal.returns-then-ends
 returns-then-ends c =
     let h : IsPiece c.loop-rest.rest.now (Some c.in-Some-found.tok) c.in-Some.len = rw (c.in-Some.is, c.in-Some-found.is) at c.in_ok-found.ensures in
     let begun : IsBegun c.args.before c.args.text.now c.split_at-in-loop-rest.result.1.now (unclosed_with c.loop-rest.count c.in-Some-found.tok) c.push_reserved.new.self.items =
     begun_token _ c.in-Some.len c.loop-rest.invariant h c.split_at-in-loop-rest.ensures.back c.push_reserved.ensures.items c.in_ok-reserve.ensures.items
-    (subst (λ n. n ≤ 2048) c.unclosed_with-count.ensures c.if-count-gt-MAX_UNCLOSED_BRACKETS.false) in
+    (subst (λ n. n ≤ max_unclosed_brackets) c.unclosed_with-count.ensures c.if-count-gt-MAX_UNCLOSED_BRACKETS.false) in
     let some = piece_some c.loop-rest.rest.now (Some c.in-Some-found.tok) c.in-Some.len h in
     part (subst (λ n. IsBegun c.args.before c.args.text.now c.split_at-in-loop-rest.result.1.now n c.push_reserved.new.self.items) (sym c.unclosed_with-count.ensures) begun) (omega (arith, c.split_at-in-loop-rest.ensures.back_len, some.0, some.1))
 

@@ -1,57 +1,55 @@
 -- The variants that hold a `Vec`, and the loop over terms.
-use Rattle.std.proofs.Common.{◌≡◌, ◌∙◌, ap, sym, map, rules, ◌∷◌, [], ◌+◌, drop}
-use Rattle.std.specs.declared.boxed.Box.{Box}
-use Rattle.std.specs.declared.alloc.Global.{Global}
+use Rattle.std.proofs.Common.{◌≡◌, ◌∙◌, ap, refl, sym, map, rules, ◌∷◌, [], ◌+◌, drop}
 use Rattle.std.proofs.lemmas.List.{map-append}
 use Rattle.viper_syntax.specs.Term as t
-use Rattle.viper_syntax.specs.View.{term_of, terms_of, amount_of}
-use Rattle.viper_syntax.specs.declared.terms.Term as term
+use Rattle.viper_syntax.specs.View.{amount_of, term_of, terms_of}
 use Rattle.viper_syntax.specs.declared.terms.SUnfolding.{SUnfolding}
 use Rattle.viper_syntax.proofs.ViewLaws.{term_of-Unfolding}
 use Rattle.viper_scope.specs.Answers.{context_of, typing_of, typings_of}
 use Rattle.viper_scope.specs.Outcome.{prefixed}
+use Rattle.viper_types.specs.Answers.{unfolding_term}
 use Rattle.viper_types.specs.Typing.{typing}
 use Rattle.viper_scope.proofs.Judged.{at_error, refuses_along, answers_along}
 use Rattle.viper_types.proofs.Steps.{each, prefixed_nothing, one_more, one_broken, none_left, typing_all-each}
 use Rattle.viper_types.proofs.Unfoldings.{args_break, amount_breaks, inner_breaks, unfolded}
 use Rattle.viper_types.proofs.expressions.+expressions.Goals as goal
 
--- the term of a box is what its parts spell, where they are seen behind a reference
-opened_term : (b : Box SUnfolding Global) (u : SUnfolding) → u ≡ b.value →
-    term_of (term.Unfolding b) ≡ t.Unfolding u.name.name (terms_of u.args.items) (amount_of u.amount) (term_of u.inner.value) u.at u.name.pos
-opened_term b u same =
-    term_of-Unfolding b ∙
-    sym (ap (λ (v : SUnfolding). t.Unfolding v.name.name (terms_of v.args.items) (amount_of v.amount) (term_of v.inner.value) v.at v.name.pos) same)
+pub typing-returns-in-Unfolding : goal.typing-returns-in-Unfolding
+typing-returns-in-Unfolding t c =
+    answers_along typing_of c.unfolded.result
+    (ap (typing (context_of c.args.context.now) c.args.scope.now)
+    (ap term_of c.in-Unfolding.is ∙ term_of-Unfolding c.in-Unfolding.«unfolding» ∙ sym (ap unfolding_term c.deref-in-Unfolding.ensures)))
+    c.unfolded.ensures
 
-pub typing-returns-in_err-args-in-Unfolding : goal.typing-returns-in_err-args-in-Unfolding
-typing-returns-in_err-args-in-Unfolding t c =
-    at_error typing_of _ _ _ c.from_residual-in_err-args-in-Unfolding.ensures.1
-    (args_break (context_of c.args.context.now) c.args.scope.now (terms_of c.deref-in-Unfolding-2.result.now) c.deref-in-Unfolding-3.result.now c.in_err-args-in-Unfolding.field-0.0
-    (ap term_of c.in-Unfolding.is ∙ opened_term c.in-Unfolding.«unfolding» c.deref-in-Unfolding.result.now c.deref-in-Unfolding.ensures) c.in_ok-predicate-in-Unfolding.ensures
-    (ap terms_of (sym c.deref-in-Unfolding-2.ensures.value)) (sym c.deref-in-Unfolding-3.ensures.value) c.in_err-args-in-Unfolding.ensures)
+-- the parts of an `unfolding`
+spelled : (u : SUnfolding) → unfolding_term u ≡ t.Unfolding u.name.name (terms_of u.args.items) (amount_of u.amount) (term_of u.inner.value) u.at u.name.pos
+spelled u = refl
 
-pub typing-returns-in_err-amount-in-Unfolding : goal.typing-returns-in_err-amount-in-Unfolding
-typing-returns-in_err-amount-in-Unfolding t c =
-    at_error typing_of _ _ _ c.from_residual-in_err-amount-in-Unfolding.ensures.1
-    (amount_breaks (context_of c.args.context.now) c.args.scope.now (terms_of c.deref-in-Unfolding-2.result.now) c.deref-in-Unfolding-3.result.now c.in_err-amount-in-Unfolding.field-0.0
-    (ap term_of c.in-Unfolding.is ∙ opened_term c.in-Unfolding.«unfolding» c.deref-in-Unfolding.result.now c.deref-in-Unfolding.ensures) c.in_ok-predicate-in-Unfolding.ensures
-    (ap terms_of (sym c.deref-in-Unfolding-2.ensures.value)) (sym c.deref-in-Unfolding-3.ensures.value) c.in_ok-args-in-Unfolding.ensures c.in_err-amount-in-Unfolding.ensures)
+pub unfolded-returns-in_err-args : goal.unfolded-returns-in_err-args
+unfolded-returns-in_err-args t c =
+    at_error typing_of _ _ _ c.from_residual-in_err-args.ensures.1
+    (args_break (context_of c.args.context.now) c.args.scope.now (terms_of c.deref.result.now) c.deref-2.result.now c.in_err-args.field-0.0 (spelled c.args.term.now) c.in_ok-predicate.ensures
+    (ap terms_of (sym c.deref.ensures.value)) (sym c.deref-2.ensures.value) c.in_err-args.ensures)
 
-pub typing-returns-in_err-inner-in-Unfolding : goal.typing-returns-in_err-inner-in-Unfolding
-typing-returns-in_err-inner-in-Unfolding t c =
-    at_error typing_of _ _ _ c.from_residual-in_err-inner-in-Unfolding.ensures.1
-    (inner_breaks (context_of c.args.context.now) c.args.scope.now (terms_of c.deref-in-Unfolding-2.result.now) c.deref-in-Unfolding-3.result.now c.in_err-inner-in-Unfolding.field-0.0
-    (ap term_of c.in-Unfolding.is ∙ opened_term c.in-Unfolding.«unfolding» c.deref-in-Unfolding.result.now c.deref-in-Unfolding.ensures) c.in_ok-predicate-in-Unfolding.ensures
-    (ap terms_of (sym c.deref-in-Unfolding-2.ensures.value)) (sym c.deref-in-Unfolding-3.ensures.value) c.in_ok-args-in-Unfolding.ensures c.in_ok-amount-in-Unfolding.ensures
-    (ap term_of (sym c.deref-in-Unfolding-4.ensures)) c.in_err-inner-in-Unfolding.ensures)
+pub unfolded-returns-in_err-amount : goal.unfolded-returns-in_err-amount
+unfolded-returns-in_err-amount t c =
+    at_error typing_of _ _ _ c.from_residual-in_err-amount.ensures.1
+    (amount_breaks (context_of c.args.context.now) c.args.scope.now (terms_of c.deref.result.now) c.deref-2.result.now c.in_err-amount.field-0.0 (spelled c.args.term.now) c.in_ok-predicate.ensures
+    (ap terms_of (sym c.deref.ensures.value)) (sym c.deref-2.ensures.value) c.in_ok-args.ensures c.in_err-amount.ensures)
 
-pub typing-returns-in_ok-inner-in-Unfolding : goal.typing-returns-in_ok-inner-in-Unfolding
-typing-returns-in_ok-inner-in-Unfolding t c =
+pub unfolded-returns-in_err-inner : goal.unfolded-returns-in_err-inner
+unfolded-returns-in_err-inner t c =
+    at_error typing_of _ _ _ c.from_residual-in_err-inner.ensures.1
+    (inner_breaks (context_of c.args.context.now) c.args.scope.now (terms_of c.deref.result.now) c.deref-2.result.now c.in_err-inner.field-0.0 (spelled c.args.term.now) c.in_ok-predicate.ensures
+    (ap terms_of (sym c.deref.ensures.value)) (sym c.deref-2.ensures.value) c.in_ok-args.ensures c.in_ok-amount.ensures
+    (ap term_of (sym c.deref-3.ensures)) c.in_err-inner.ensures)
+
+pub unfolded-returns : goal.unfolded-returns
+unfolded-returns t c =
     answers_along typing_of c.opened.result
-    (unfolded (context_of c.args.context.now) c.args.scope.now (terms_of c.deref-in-Unfolding-2.result.now) c.deref-in-Unfolding-3.result.now
-    (ap term_of c.in-Unfolding.is ∙ opened_term c.in-Unfolding.«unfolding» c.deref-in-Unfolding.result.now c.deref-in-Unfolding.ensures) c.in_ok-predicate-in-Unfolding.ensures
-    (ap terms_of (sym c.deref-in-Unfolding-2.ensures.value)) (sym c.deref-in-Unfolding-3.ensures.value) c.in_ok-args-in-Unfolding.ensures c.in_ok-amount-in-Unfolding.ensures
-    (ap term_of (sym c.deref-in-Unfolding-4.ensures)) c.in_ok-inner-in-Unfolding.ensures)
+    (unfolded (context_of c.args.context.now) c.args.scope.now (terms_of c.deref.result.now) c.deref-2.result.now (spelled c.args.term.now) c.in_ok-predicate.ensures
+    (ap terms_of (sym c.deref.ensures.value)) (sym c.deref-2.ensures.value) c.in_ok-args.ensures c.in_ok-amount.ensures
+    (ap term_of (sym c.deref-3.ensures)) c.in_ok-inner.ensures)
     c.opened.ensures
 
 pub typings-loop-term-init : goal.typings-loop-term-init

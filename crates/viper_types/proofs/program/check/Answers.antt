@@ -1,4 +1,5 @@
 use Rattle.std.proofs.Common.{◌<◌, ◌≤◌, IfErr, arith}
+use Rattle.vb_base.specs.Limits.{max_weight}
 use Rattle.viper_core.specs.View.{program_of}
 use Rattle.viper_syntax.specs.View.{program_of as source_of}
 use Rattle.viper_types.proofs.CheckLaws.{light, gives_found, gives_heavy, gives_refused, refused_heavy, tells_refused, tells_no_found, at_fault, formed_found}
@@ -8,12 +9,12 @@ use Rattle.viper_types.proofs.program.check.Goals as goal
 
 pub returns-then-weight-gt-MAX_WEIGHT-clause-only : goal.returns-then-weight-gt-MAX_WEIGHT-clause-only
 returns-then-weight-gt-MAX_WEIGHT-clause-only c =
-    let over : 100000 < c.weight-weight.result = omega (arith, c.if-weight-gt-MAX_WEIGHT.true) in
+    let over : max_weight < c.weight-weight.result = omega (arith, c.if-weight-gt-MAX_WEIGHT.true) in
     gives_heavy _ _ _ c.in_ok-program.ensures.found c.weight-weight.ensures over
 
 pub returns-then-weight-gt-MAX_WEIGHT-clause-refused : goal.returns-then-weight-gt-MAX_WEIGHT-clause-refused
 returns-then-weight-gt-MAX_WEIGHT-clause-refused c =
-    let over : 100000 < c.weight-weight.result = omega (arith, c.if-weight-gt-MAX_WEIGHT.true) in
+    let over : max_weight < c.weight-weight.result = omega (arith, c.if-weight-gt-MAX_WEIGHT.true) in
     refused_heavy _ _ _ c.in_ok-program.ensures.found c.weight-weight.ensures over
 
 pub returns-then-weight-gt-MAX_WEIGHT-clause-first : goal.returns-then-weight-gt-MAX_WEIGHT-clause-first
@@ -39,15 +40,15 @@ returns-in_err-program-clause-first c at n h =
 
 pub returns-clause-found : goal.returns-clause-found
 returns-clause-found c =
-    let within : c.weight-weight.result ≤ 100000 = omega (arith, c.if-weight-gt-MAX_WEIGHT.false) in
+    let within : c.weight-weight.result ≤ max_weight = omega (arith, c.if-weight-gt-MAX_WEIGHT.false) in
     (found_program (source_of c.args.source.now) c.in_ok-program.ensures.found, light (program_of c.in_ok-program.program) _ c.weight-weight.ensures within)
 
 pub returns-clause-only : goal.returns-clause-only
 returns-clause-only c =
-    let within : c.weight-weight.result ≤ 100000 = omega (arith, c.if-weight-gt-MAX_WEIGHT.false) in
+    let within : c.weight-weight.result ≤ max_weight = omega (arith, c.if-weight-gt-MAX_WEIGHT.false) in
     gives_found (source_of c.args.source.now) c.in_ok-program.program _ c.in_ok-program.ensures.found c.weight-weight.ensures within
 
 pub returns-clause-formed : goal.returns-clause-formed
 returns-clause-formed c =
-    let within : c.weight-weight.result ≤ 100000 = omega (arith, c.if-weight-gt-MAX_WEIGHT.false) in
+    let within : c.weight-weight.result ≤ max_weight = omega (arith, c.if-weight-gt-MAX_WEIGHT.false) in
     formed_found _ _ _ c.in_ok-program.ensures.found c.weight-weight.ensures within

@@ -1,27 +1,44 @@
 -- The variants that hold blocks, and the loops over statements and arms.
-use Rattle.std.proofs.Common.{◌≡◌, ◌∙◌, ap, refl, sym, arith, ℕ, ◌+◌, List, [], ◌∷◌, length, drop, map}
+use Rattle.std.proofs.Common.{◌≡◌, ◌∙◌, ap, refl, sym, arith, ℕ, ◌+◌, Bor, Option, Some, None, List, [], ◌∷◌, length, drop, map}
+use Rattle.std.specs.Option.{option_map, option_copied}
 use Rattle.std.proofs.Math.Seq.{take-length}
 use Rattle.std.proofs.lemmas.List.{map-append}
 use Rattle.viper_core.specs.Stmt as plain
 use Rattle.viper_core.specs.View as core
 use Rattle.viper_core.proofs.ViewLaws.{stmts_of-map}
 use Rattle.viper_syntax.specs.Stmt as s
-use Rattle.viper_syntax.specs.View.{arm_of, arms_of, else_of, block_of, stmt_of, stmts_of, term_of}
+use Rattle.viper_syntax.specs.View.{arm_of, arms_of, else_of, block_of, rhs_of, stmt_of, stmts_of, term_of}
+use Rattle.viper_syntax.specs.declared.stmts.SRhs.{SRhs}
 use Rattle.viper_syntax.proofs.ViewLaws.{stmt_of-If, stmt_of-While}
-use Rattle.viper_scope.specs.Rules.{wrong_type}
+use Rattle.viper_scope.specs.declared.rules.Rule.TheVariants as rule
 use Rattle.viper_scope.specs.Answers.{context_of}
-use Rattle.viper_types.specs.Answers.{frame_of, branch_of, branches_of, loop_terms_of, stmt_list_of}
+use Rattle.viper_types.specs.Answers.{frame_of, branch_of, branches_of, lent_rhs_of, loop_terms_of, stmt_list_of}
 use Rattle.viper_scope.specs.Context.{nowhere}
 use Rattle.viper_types.specs.Frame.{frame_after, declared_in_arms, declared_in_else, with_hidden}
 use Rattle.viper_scope.specs.Outcome.{Found, known, prefixed, then_typed}
 use Rattle.viper_scope.specs.Target.{listed, gathered, targets}
-use Rattle.viper_types.specs.Stepping.{branch, branches, nested, stepping, stepping_all}
+use Rattle.viper_types.specs.Stepping.{branch, branches, declaring, fresh, nested, stepping, stepping_all}
 use Rattle.viper_types.proofs.SameTargets.{listed_targets}
 use Rattle.viper_scope.proofs.Judged.{at_error, refuses_along, answers_along, failed}
 use Rattle.viper_types.proofs.StmtLaws.{on_ok, on_ok_too, arm_count-length, hidden_twice, if_arms_refused, if_arms, loop_typed, block_typed}
 use Rattle.viper_types.proofs.BlockLaws.{next_vars, next_visible, next_stmt, no_stmt, all_vars, next_arm_vars, next_arm, no_arm, all_hidden}
 use Rattle.viper_types.proofs.Steps.{prefixed_nothing, one_done, one_refused, all_done}
 use Rattle.viper_types.proofs.statements.+statements.Goals as goal
+
+-- the right side of a declaration, behind a reference
+lent_rhs : (o : Option (Bor SRhs)) (r : Option SRhs) → option_copied o ≡ r → lent_rhs_of o ≡ option_map rhs_of r
+lent_rhs None r is = ap (option_map rhs_of) is
+lent_rhs (Some a) r is = ap (option_map rhs_of) is
+
+pub stepping-returns-in-Var-clause-answers : goal.stepping-returns-in-Var-clause-answers
+stepping-returns-in-Var-clause-answers t c =
+    let lists = c.args.context.now.lists in
+    let k = context_of c.args.context.now in
+    let fr = frame_of c.args.frame.now in
+    answers_along core.stmt_of c.variable.result
+    (ap (λ a. stepping lists k c.args.depth fr (stmt_of a)) c.in-Var.is ∙
+    ap (λ r. then_typed (fresh fr c.in-Var.formal) (λ v. declaring lists k fr c.in-Var.at v r)) (sym (lent_rhs c.as_ref.result c.in-Var.rhs c.as_ref.ensures.value)))
+    c.variable.ensures.answers
 
 pub blocking-returns-clause-answers : goal.blocking-returns-clause-answers
 blocking-returns-clause-answers t c =
@@ -88,7 +105,7 @@ stepping-returns-in_ok-other-in-If-clause-answers t c =
     (ap (stepping c.args.context.now.lists k c.args.depth fr) is ∙
     if_arms c.args.context.now.lists k c.args.depth fr (arms_of c.deref-in-If.result.now) other (branches_of c.in_ok-branches-in-If.branches) c.len.result (frame_of c.branches.new.frame)
     c.in_ok-branches-in-If.ensures.answers many c.in_ok-branches-in-If.ensures.after ∙
-    ap (λ j. then_typed j (λ ss. known (nested (branches_of c.in_ok-branches-in-If.branches) ss) nowhere wrong_type Found)) c.in_ok-other-in-If.ensures.answers)
+    ap (λ j. then_typed j (λ ss. known (nested (branches_of c.in_ok-branches-in-If.branches) ss) nowhere rule.WrongType Found)) c.in_ok-other-in-If.ensures.answers)
     c.nested.ensures
 
 pub stepping-returns-in_ok-terms-in-While-clause-after : goal.stepping-returns-in_ok-terms-in-While-clause-after

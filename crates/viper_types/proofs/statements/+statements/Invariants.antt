@@ -1,5 +1,6 @@
 -- The statements or arms that are left follow those so far; what a block declares is hidden after it.
 use Rattle.std.proofs.Common.{◌≡◌, ◌+◌, ◌++◌, ◌≤◌, length, take, drop}
+use Rattle.vb_base.specs.Limits.{max_block_depth}
 use Rattle.viper_syntax.specs.View.{arms_of, stmts_of}
 use Rattle.viper_scope.specs.Answers.{context_of}
 use Rattle.viper_types.specs.Answers.{branches_of, frame_of, stmt_list_of}
@@ -10,7 +11,7 @@ use Rattle.viper_types.proofs.statements.+statements.Given as goal
 
 abbrev pub invariant-branches-loop-i : goal.invariant-branches-loop-i
 invariant-branches-loop-i l = record {
-  shallow : l.depth + l.i ≤ 129;
+  shallow : l.depth + l.i ≤ max_block_depth + 1;
   vars : l.frame.vars.items ++ declared_in_arms (arms_of (drop l.i l.arms)) ≡ l.initial.frame.vars.items ++ declared_in_arms (arms_of l.arms);
   scope : l.frame.scope ≡ l.initial.frame.scope;
   rest : prefixed (branches_of l.typed) (s.branches l.context.lists (context_of l.context) (l.depth + l.i) (frame_of l.frame) (arms_of (drop l.i l.arms))) ≡

@@ -1,9 +1,10 @@
 // Why a program is refused.
 ghost use Rattle.std.specs.Prelude.{◌≡◌};
-ghost use Rattle.viper_scope.specs.declared.faults.TypeFault.TheVariants as fault;
+ghost use Rattle.viper_types.specs.Checked.{told};
+ghost use Rattle.viper_types.specs.declared.faults.TypeFault.TheVariants as fault;
 
-use std::alloc::{AllocError, AllocFailed};
 use vb_base::{Memory, Pos};
+use viper_scope::RuleFault;
 
 /// Why a program is refused.
 #[derive(Clone, Copy, Debug, PartialEq, Eq)]
@@ -16,26 +17,21 @@ pub enum TypeFault {
     Weight(u64),
 }
 
-impl From<AllocError> for TypeFault {
-    ghost from_gives = { λ _ e. e ≡ fault.Memory };
-
-    fn from(_: AllocError) -> TypeFault {
-        TypeFault::Memory
-    }
-}
-
-impl<T: Drop> From<AllocFailed<T>> for TypeFault {
-    ghost from_gives = { λ _ e. e ≡ fault.Memory };
-
-    fn from(_: AllocFailed<T>) -> TypeFault {
-        TypeFault::Memory
-    }
-}
-
 impl From<Memory> for TypeFault {
     ghost from_gives = { λ _ e. e ≡ fault.Memory };
 
     fn from(_: Memory) -> TypeFault {
         TypeFault::Memory
+    }
+}
+
+impl From<RuleFault> for TypeFault {
+    ghost from_gives = { λ f e. e ≡ told f };
+
+    fn from(fault: RuleFault) -> TypeFault {
+        match fault {
+            RuleFault::Memory => TypeFault::Memory,
+            RuleFault::Broken(at, rule) => TypeFault::Rule(at, rule.number()),
+        }
     }
 }
