@@ -4,9 +4,9 @@ use Rattle.boogie_eval.proofs.MapLaws.{keys_mean}
 use Rattle.boogie_eval.proofs.ColumnLaws.{values_mean}
 use Rattle.boogie_eval.proofs.eval_columns.column_of.Goals as goal
 
-pub returns-in_ok-entries-clause-keys : goal.returns-in_ok-entries-clause-keys
-returns-in_ok-entries-clause-keys c = ap keys_of c.in_ok-entries.ensures.entries ∙ sym (keys_mean c.args.map.now)
+pub returns-clause-keys : goal.returns-clause-keys
+returns-clause-keys c = ap keys_of c.in_ok-entries.ensures.entries ∙ sym (keys_mean c.args.map.now)
 
-pub returns-in_ok-entries-clause-values : goal.returns-in_ok-entries-clause-values
-returns-in_ok-entries-clause-values c = λ i e h.
+pub returns-clause-values : goal.returns-clause-values
+returns-clause-values c = λ i e h.
     values_mean c.args.map.now c.in_ok-entries.ensures.reduced i e (subst (λ es. slice_get es i ≡ Some e) c.in_ok-entries.ensures.entries h)

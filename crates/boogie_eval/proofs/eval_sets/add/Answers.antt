@@ -8,8 +8,8 @@ use Rattle.boogie_eval.proofs.eval_sets.add.Goals as goal
 pub set-requires : goal.set-requires
 set-requires c = clones (λ k q h. h) (λ v w h. h)
 
-pub returns-in_ok-clone-clause-added : goal.returns-in_ok-clone-clause-added
-returns-in_ok-clone-clause-added c =
+pub returns-clause-added : goal.returns-clause-added
+returns-clause-added c =
     on_ok_weaker c.set.result
     (λ same k.
     added c.args.set.now c.set.new.self c.in_ok-clone.field-0 c.requires same c.set.ensures.reduced_before c.set.ensures.reduced k
