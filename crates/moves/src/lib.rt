@@ -8,4 +8,4 @@ mod named;
 
 pub use choices::moves;
 pub use entries::{instance_key, place_key, scalar};
-pub use named::{named_key, named_scalar};
+pub use named::{named_content, named_key, named_reference, named_scalar, named_value};

@@ -53,7 +53,7 @@ fn named_part(part: KeyPart)
     ensures { IsNamedPart part }
 {
     if let KeyPart::Ref(reference) = part {
-        named(reference);
+        named_reference(reference);
     }
 }
 
@@ -62,13 +62,14 @@ pub fn named_scalar(value: &BScalar)
     ensures { IsNamedScalar (scalar_of value.now) }
 {
     match value {
-        BScalar::Ref(reference) => named(*reference),
+        BScalar::Ref(reference) => named_reference(*reference),
         BScalar::Snap(content) => named_content(content),
         _ => {}
     }
 }
 
-fn named_content(content: &Content)
+/// Each reference of a content can be named.
+pub fn named_content(content: &Content)
     ensures { IsNamedContent (content_of content.now) }
 {
     match content {
@@ -81,14 +82,16 @@ fn named_content(content: &Content)
     }
 }
 
-fn named_value(value: Value)
+/// A value that is a reference can be named.
+pub fn named_value(value: Value)
     ensures { IsNamedValue value }
 {
     if let Value::Ref(reference) = value {
-        named(reference);
+        named_reference(reference);
     }
 }
 
-fn named(_reference: u64)
+/// A reference can be named.
+pub fn named_reference(_reference: u64)
     ensures { IsNamed _reference }
 {}

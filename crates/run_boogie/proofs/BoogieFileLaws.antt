@@ -12,16 +12,13 @@ use Rattle.boogie_tree.specs.Program.{BType, Proc}
 use Rattle.boogie_tree.specs.Value.{One, BRun}
 use Rattle.boogie_tree.specs.Whole.{run_of}
 use Rattle.boogie_tree.specs.declared.values.BRun.{BRun as Code}
-use Rattle.run_words.specs.Text.{lines_of, is_skipped, words_of}
+use Rattle.run_words.specs.Text.{lines_of}
 use Rattle.run_words.specs.Known.{Known}
 use Rattle.run_words.specs.Machine.{among, IsReadBy, StopsBy}
 use Rattle.run_words.specs.Answers.{UnlessMemory}
-use Rattle.run_words.specs.Reading.{◌>>=◌}
 use Rattle.run_boogie.specs.BoogieLines.{known, Line, Var, Map, At, Chosen, Opened, IsLine}
-use Rattle.run_boogie.specs.BoogieReading.{line_of}
 use Rattle.run_boogie.specs.BoogieRun.{entry_with, nothing, AreRun, SameRun, header, SpellExactly, SpellRun}
-use Rattle.run_boogie.specs.BoogieProgress.{Progress, run_set, closed, may_set, may_fill, opened, default_at, followed, header_name, is_named, stepped, read_line, is_headed, reader}
-use Rattle.run_boogie.specs.declared.boogie_reader.Stage.{Stage}
+use Rattle.run_boogie.specs.BoogieProgress.{Progress, run_set, closed, may_set, may_fill, opened, default_at, followed, header_name, is_named, file_kind, is_headed, reader}
 use Rattle.run_boogie.specs.declared.boogie_reader.Stage.TheVariants as stage
 use Rattle.run_words.specs.declared.faults.RunFileFault.{RunFileFault}
 use Rattle.run_words.proofs.AnswerLaws.{IsReader, Answered, answered}
@@ -33,17 +30,6 @@ use Rattle.run_words.proofs.HeadedLaws.{Reads, HeadedIn, file_read, read_file, g
 
 abbrev passes : List ℕ → List (List ℕ) → Bool
 passes name words = is_named name (header_name words)
-
-read_step : (name : List ℕ) (k : Known BType) (st : Progress) (text : List ℕ) → read_line name k st text ≡ cond (is_skipped text) (Some st) (stepped name k st.stage st (words_of text))
-unfolding read_line
-read_step name k st text = refl
-
-stepped_on : (name : List ℕ) (k : Known BType) (g : Stage) (st : Progress) (words : List (List ℕ)) → is_headed g ≡ true → stepped name k g st words ≡ (line_of k words >>= followed k st)
-stepped_on name k stage.Header st words h = absurd cc
-stepped_on name k stage.Settings st words h = refl
-stepped_on name k (stage.Map i) st words h = refl
-stepped_on name k stage.Choices st words h = refl
-stepped_on name k stage.Entries st words h = refl
 
 passes_by : (name a b w : List ℕ) (t : Bool) → (bytes_eq a (codes "boogie") && bytes_eq b (codes "run")) ≡ t → is_named name (cond t (Some w) None) ≡ true → a ∷ b ∷ w ∷ [] ≡ header name
 passes_by name a b w false is e = absurd cc
@@ -83,11 +69,9 @@ followed_headed k st (Chosen c) h = refl
 followed_headed k st Opened h = refl
 
 pub reads : (name : List ℕ) (k : Known BType) → NamesDiffer k.names →
-    Reads (reader name k) ready (header name) (passes name) (λ (st : Progress) words. stepped name k st.stage st words) (line_of k) (followed k) (IsLine k) (AreRun k)
+    Reads (file_kind name k) ready (header name) (passes name) (IsLine k) (AreRun k)
 reads name k differ = record {
-  step = read_step name k;
   first = λ words. refl;
-  next = λ st words h. stepped_on name k st.stage st words h;
   header_is = header_is name;
   passes = (bytes_eq-Decides name name).1 refl;
   unread = refl;

@@ -9,13 +9,12 @@ use Rattle.vb_value.specs.Key.{key_cmp}
 use Rattle.boogie_tree.specs.Values.{default_of}
 use Rattle.boogie_tree.specs.Program.{BType}
 use Rattle.boogie_tree.specs.Value.{Key, BScalar, BValue, One, Many, Entry, BChoice, Entries, BRun}
-use Rattle.run_words.specs.Text.{is_skipped, words_of}
+use Rattle.run_words.specs.Text.{words_of}
 use Rattle.run_words.specs.Known.{Known}
-use Rattle.run_words.specs.Reading.{◌>>=◌}
 use Rattle.run_boogie.specs.BoogieLines.{Line, Var, Map, At, Chosen, Opened}
 use Rattle.run_boogie.specs.BoogieReading.{line_of}
 use Rattle.run_boogie.specs.BoogieRun.{entry_with, entries_of, nothing, fits_entry}
-use Rattle.run_words.specs.Machine.{Machine, among}
+use Rattle.run_words.specs.Machine.{FileKind, Machine, among, machine_of}
 use Rattle.run_boogie.specs.declared.boogie_reader.Stage.{Stage}
 use Rattle.run_boogie.specs.declared.boogie_reader.Stage.TheVariants as stage
 
@@ -115,22 +114,21 @@ is_named name (Some word) = bytes_eq word name
 abbrev pub header_read : List ℕ → Progress → List (List ℕ) → Option Progress
 header_read name st words = if is_named name (header_name words) then Some (record st { stage = stage.Settings }) else None
 
--- what the words of a line make of it
-abbrev pub stepped : List ℕ → Known BType → Stage → Progress → List (List ℕ) → Option Progress
-stepped name k stage.Header st words = header_read name st words
-stepped name k stage.Settings st words = line_of k words >>= followed k st
-stepped name k (stage.Map i) st words = line_of k words >>= followed k st
-stepped name k stage.Choices st words = line_of k words >>= followed k st
-stepped name k stage.Entries st words = line_of k words >>= followed k st
-
--- the same of a line as bytes
-unfoldable pub read_line : List ℕ → Known BType → Progress → List ℕ → Option Progress
-read_line name k st text = if is_skipped text then Some st else stepped name k st.stage st (words_of text)
-
 abbrev pub is_headed : Stage → Bool
 is_headed stage.Header = false
 is_headed _ = true
 
--- the reader of the run files of a procedure of this name, with these variables
+-- how the run files of a procedure of this name are read, with these variables
+abbrev pub file_kind : List ℕ → Known BType → FileKind Progress Line BRun
+file_kind name k = record {
+  begun = begun;
+  is_headed = λ st. is_headed st.stage;
+  header_read = header_read name;
+  line_of = λ words. line_of k words;
+  followed = followed k;
+  run = closed;
+}
+
+-- the reader of such files
 abbrev pub reader : List ℕ → Known BType → Machine Progress BRun
-reader name k = record { begun = begun; step = read_line name k; is_headed = λ st. is_headed st.stage; run = closed }
+reader name k = machine_of (file_kind name k)

@@ -14,7 +14,7 @@ ghost use Rattle.run_words.specs.Text.{words_of};
 use crate::boogie_values::{entry, has_base, scalar};
 use boogie_tree::{BChoice, BScalar, Entry, Local};
 use name_table::NameTable;
-use run_words::{FirstWord, Names, first_word, next_word, numbered, single, truth};
+use run_words::{FirstWord, Names, next_word, numbered, single, truth};
 use std::alloc::Global;
 use vb_base::Memory;
 
@@ -39,7 +39,7 @@ pub(crate) fn local_names(alloc: Global, locals: &[Local]) -> Result<Names, Memo
 
 /// The first word of a line.
 #[derive(Clone, Copy)]
-enum Keyword {
+pub(crate) enum Keyword {
     Var,
     Entries,
     At,
@@ -61,7 +61,8 @@ impl FirstWord for Keyword {
     }
 }
 
-const KEYWORDS: [Keyword; 5] = [
+/// The first words of lines.
+pub(crate) const KEYWORDS: [Keyword; 5] = [
     Keyword::Var,
     Keyword::Entries,
     Keyword::At,
@@ -84,18 +85,8 @@ pub(crate) enum Line {
     Opened,
 }
 
-/// The line that these words are, if they are one.
-pub(crate) fn line_of(alloc: Global, scope: Scope, words: &[u8]) -> Result<Option<Line>, Memory>
-    ensures { IfOk result (λ l. option_map line_view l ≡ reading.line_of (scope_view scope.entry) (words_of words.now)) }
-{
-    match first_word(&KEYWORDS, words) {
-        Some((keyword, rest)) => keyed_line(alloc, scope, keyword, rest),
-        None => Ok(None),
-    }
-}
-
 /// The line behind its first word.
-fn keyed_line(
+pub(crate) fn keyed_line(
     alloc: Global,
     scope: Scope,
     keyword: Keyword,

@@ -7,6 +7,7 @@ ghost use Rattle.vb_base.specs.declared.places.Pos.{Pos};
 ghost use Rattle.boogie_tree.specs.Value as v;
 ghost use Rattle.boogie_tree.specs.Value.{BRun as Plain};
 ghost use Rattle.boogie_tree.specs.Whole.{choice_of, entry_of, proc_of, run_of, scalar_of, local_of};
+ghost use Rattle.run_boogie.specs.BoogieLines as l;
 ghost use Rattle.run_boogie.specs.BoogieLines.{known};
 ghost use Rattle.run_boogie.specs.BoogieProgress as progress;
 ghost use Rattle.run_boogie.specs.BoogieRun as r;
@@ -17,17 +18,17 @@ ghost use Rattle.run_words.specs.Answers.{UnlessMemory};
 ghost use Rattle.run_words.specs.Text.{words_of};
 ghost use Rattle.run_boogie.specs.declared.boogie_reader.Stage.TheVariants as stage;
 
-use crate::boogie_lines::{Line, Scope, line_of, local_names};
+use crate::boogie_lines::{KEYWORDS, Line, Scope, keyed_line, local_names};
 use crate::boogie_names::header_name;
 use crate::boogie_values::{fits_entry, is_default};
 use boogie_tree::{BChoice, BRun, BScalar, BSetting, BValue, Entry, Local, Proc, default_of};
 use rising::Rising;
-use run_words::{LineReader, RunFileFault, is_skipped, read_lines};
+use run_words::{LineReader, RunFileFault, first_word, read_lines};
 use sparse::Builder;
 use std::alloc::Global;
 use std::collections::BTreeSet;
 use std::mem;
-use vb_base::{Ident, Memory, Pos};
+use vb_base::{Ident, Memory};
 use vb_value::{Content, Key};
 
 /// The run of a procedure that the bytes of a run file spell, or else where they go wrong: at the first line that may not
@@ -99,28 +100,7 @@ impl Reader {
         })
     }
 
-    /// Reads a line. False where it may not stand.
-    fn read_line(
-        &mut self,
-        alloc: Global,
-        name: &Ident,
-        scope: Scope,
-        text: &[u8],
-    ) -> Result<bool, Memory>
-        ensures { IfOk result (λ ok. Steps ok (progress.read_line name.now (scope_view scope.entry) (progress_of self.old) text.now) (progress_of self.new)) }
-    {
-        if is_skipped(text) {
-            return Ok(true);
-        }
-        if let Stage::Header = self.stage {
-            return Ok(self.read_header(name, text));
-        }
-        match line_of(alloc, scope, text)? {
-            Some(line) => self.follow(alloc, scope, line),
-            None => Ok(false),
-        }
-    }
-
+    /// Reads the header. False where the line is none, or names another procedure.
     fn read_header(&mut self, name: &Ident, text: &[u8]) -> bool
         ensures { Steps result (progress.header_read name.now (progress_of self.old) (words_of text.now)) (progress_of self.new) }
     {
@@ -210,18 +190,10 @@ impl Reader {
         Ok(())
     }
 
-    /// The run, after so many lines, where the header is among them.
-    fn finish(self, alloc: Global, lines: u32) -> Result<BRun, RunFileFault>
-        requires { (1 ≤ lines) × (lines < 2 ^ 32) }
-        ensures { MatchResult result (λ run. (progress.is_headed self.stage ≡ true) × (run_of run ≡ progress.closed (progress_of self)))
-            (λ e. UnlessMemory (λ at. (progress.is_headed self.stage ≡ false) × (at.line ≡ lines) × (at.col ≡ 1)) e) }
+    /// The run.
+    fn finish(self, alloc: Global) -> Result<BRun, Memory>
+        ensures { IfOk result (λ run. run_of run ≡ progress.closed (progress_of self)) }
     {
-        if let Stage::Header = self.stage {
-            return Err(RunFileFault::Syntax(Pos {
-                line: lines,
-                col: 1,
-            }));
-        }
         // The keys give back their memory before the map takes its own.
         drop(self.keys);
         let mut run = self.run;
@@ -354,21 +326,42 @@ struct Scoped<'a> {
 impl LineReader for Scoped<'_> {
     type Run = BRun;
 
+    type Line = Line;
+
     ghost State = { progress.Progress };
+
+    ghost Said = { l.Line };
 
     ghost Plain = { Plain };
 
-    ghost machine = { λ x. progress.reader x.name.now (scope_view x.scope) };
+    ghost kind = { λ x. progress.file_kind x.name.now (scope_view x.scope) };
 
     ghost state = { λ x. progress_of x.reader };
 
+    ghost said = { line_view };
+
     ghost plain = { run_of };
 
-    fn read_line(&mut self, alloc: Global, text: &[u8]) -> Result<bool, Memory> {
-        self.reader.read_line(alloc, self.name, self.scope, text)
+    fn is_headed(&self) -> bool {
+        !matches!(self.reader.stage, Stage::Header)
     }
 
-    fn finish(self, alloc: Global, lines: u32) -> Result<BRun, RunFileFault> {
-        self.reader.finish(alloc, lines)
+    fn read_header(&mut self, words: &[u8]) -> bool {
+        self.reader.read_header(self.name, words)
+    }
+
+    fn line_of(&self, alloc: Global, words: &[u8]) -> Result<Option<Line>, Memory> {
+        match first_word(&KEYWORDS, words) {
+            Some((keyword, rest)) => keyed_line(alloc, self.scope, keyword, rest),
+            None => Ok(None),
+        }
+    }
+
+    fn follow(&mut self, alloc: Global, line: Line) -> Result<bool, Memory> {
+        self.reader.follow(alloc, self.scope, line)
+    }
+
+    fn finish(self, alloc: Global) -> Result<BRun, Memory> {
+        self.reader.finish(alloc)
     }
 }

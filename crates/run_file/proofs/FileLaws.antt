@@ -6,33 +6,18 @@ use Rattle.std.specs.Str.{bytes_eq}
 use Rattle.std.proofs.lemmas.Bool.{and_parts}
 use Rattle.std.proofs.lemmas.Slice.Eq.{bytes_eq-Decides}
 use Rattle.viper_core.specs.Program.{Program}
-use Rattle.run_words.specs.Text.{is_skipped, words_of}
 use Rattle.run_file.specs.Lines.{Scope, scope_of, Line, Var, Heap, Holds, Chosen, Opened, IsLine}
 use Rattle.run_file.specs.Run.{ViperRun, header, AreRun, SpellRun}
-use Rattle.run_words.specs.Reading.{◌>>=◌}
-use Rattle.run_file.specs.Reading.{line_of}
 use Rattle.run_file.specs.NamedOrder.{named_cmp}
-use Rattle.run_file.specs.Progress.{Progress, is_header, whole, stepped, followed, has_named, once, may_set, may_place, run_set, run_with, read_line, is_headed, reader}
+use Rattle.run_file.specs.Progress.{Progress, is_header, whole, file_kind, followed, has_named, once, may_set, may_place, run_set, run_with, is_headed, reader}
 use Rattle.run_file.specs.declared.lines.Named.{Named}
 use Rattle.run_file.specs.declared.lines.Named.TheVariants as named
-use Rattle.run_file.specs.declared.reader.Stage.{Stage}
-use Rattle.run_file.specs.declared.reader.Stage.TheVariants as stage
 use Rattle.run_words.proofs.AnswerLaws.{IsReader}
 use Rattle.run_words.proofs.HeadedLaws.{Reads, HeadedIn, file_read, read_file, goes_wrong, stops}
 use Rattle.run_file.proofs.LineLaws.{NamesApart, line_spelled, spelled_line}
 use Rattle.run_file.proofs.RunLaws.{opened, run_read, read_run}
 
 -- ---- how the lines are read
-
-read_step : (s : Scope) (st : Progress ViperRun) (text : List ℕ) → read_line whole s st text ≡ cond (is_skipped text) (Some st) (stepped whole s st.stage st (words_of text))
-unfolding read_line
-read_step s st text = refl
-
-stepped_on : (s : Scope) (g : Stage) (st : Progress ViperRun) (words : List (List ℕ)) → is_headed g ≡ true → stepped whole s g st words ≡ (line_of s words >>= followed whole s st)
-stepped_on s stage.Header st words h = absurd cc
-stepped_on s stage.Opening st words h = refl
-stepped_on s stage.Filling st words h = refl
-stepped_on s stage.Choosing st words h = refl
 
 is_header_of : (words : List (List ℕ)) → is_header words ≡ true → words ≡ header
 is_header_of [] e = absurd cc
@@ -64,11 +49,9 @@ followed_headed s st (Holds q k c) h =
 followed_headed s st (Chosen c) h = refl
 followed_headed s st Opened h = refl
 
-reads : (s : Scope) → NamesApart s → Reads (reader s) (opened s) header is_header (λ (st : Progress ViperRun) words. stepped whole s st.stage st words) (line_of s) (followed whole s) (IsLine s) (AreRun s)
+reads : (s : Scope) → NamesApart s → Reads (file_kind whole s) (opened s) header is_header (IsLine s) (AreRun s)
 reads s apart = record {
-  step = read_step s;
   first = λ words. refl;
-  next = λ st words h. stepped_on s st.stage st words h;
   header_is = is_header_of;
   passes = refl;
   unread = refl;

@@ -3,15 +3,15 @@ use Rattle.std.proofs.Common.{◌≡◌, ◌∙◌, ℕ, Bool, true, false, cond
 use Rattle.std.specs.Option.{option_map}
 use Rattle.vb_value.specs.declared.values.Value.{Value}
 use Rattle.viper_state.specs.Choice.{Choice, Filled}
+use Rattle.run_words.specs.Machine.{line_read}
 use Rattle.run_words.specs.Reading.{◌>>=◌}
 use Rattle.run_words.specs.Text.{is_skipped, words_of}
 use Rattle.run_file.specs.Lines.{Scope, Line, Var, Heap, Holds, Chosen, Opened}
 use Rattle.run_file.specs.Reading.{line_of}
 use Rattle.run_file.specs.Run.{scope_memo}
-use Rattle.run_file.specs.Progress.{Progress, Changes, has_named, once, may_set, may_place, followed, is_header, stepped, read_line, reader_of}
+use Rattle.run_file.specs.Progress.{Progress, Changes, has_named, once, may_set, may_place, followed, is_header, header_read, is_headed, file_kind, reader_of}
 use Rattle.run_file.specs.declared.lines.Named.{Named}
 use Rattle.run_file.specs.declared.lines.Named.TheVariants as named
-use Rattle.run_file.specs.declared.reader.Stage.{Stage}
 use Rattle.run_file.specs.declared.reader.Stage.TheVariants as stage
 use Rattle.run_file.proofs.SeenMachines.{Sees}
 
@@ -57,15 +57,14 @@ module _ {R Q : Type 0} {k : Changes R} {j : Changes Q} {part : R → Q} (a : Ag
   line_seen st None = refl
   line_seen st (Some l) = followed_seen st l
 
-  stepped_seen : (g : Stage) (st : Progress R) (words : List (List ℕ)) → stepped j s g (seen part st) words ≡ option_map (seen part) (stepped k s g st words)
-  stepped_seen stage.Header st words = mapped_if (seen part) (is_header words) _ _ refl
-  stepped_seen stage.Opening st words = line_seen st (line_of s words)
-  stepped_seen stage.Filling st words = line_seen st (line_of s words)
-  stepped_seen stage.Choosing st words = line_seen st (line_of s words)
+  words_seen : (headed : Bool) (st : Progress R) (words : List (List ℕ)) →
+      cond headed (line_of s words >>= followed j s (seen part st)) (header_read (seen part st) words) ≡ option_map (seen part) (cond headed (line_of s words >>= followed k s st) (header_read st words))
+  words_seen true st words = line_seen st (line_of s words)
+  words_seen false st words = mapped_if (seen part) (is_header words) _ _ refl
 
-  step_seen : (st : Progress R) (text : List ℕ) → read_line j s (seen part st) text ≡ option_map (seen part) (read_line k s st text)
-  unfolding read_line
-  step_seen st text = mapped_else (seen part) (is_skipped text) st _ _ (stepped_seen st.stage st (words_of text))
+  step_seen : (st : Progress R) (text : List ℕ) → line_read (file_kind j s) (seen part st) text ≡ option_map (seen part) (line_read (file_kind k s) st text)
+  unfolding line_read
+  step_seen st text = mapped_else (seen part) (is_skipped text) st _ _ (words_seen (is_headed st.stage) st (words_of text))
 
   pub sees : Sees (reader_of k s) (reader_of j s) (seen part) part
   sees = record {

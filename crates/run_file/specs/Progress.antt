@@ -5,13 +5,11 @@ use Rattle.std.specs.Str.{bytes_eq}
 use Rattle.vb_value.specs.declared.values.Value.{Value}
 use Rattle.viper_state.specs.State.{Memo}
 use Rattle.viper_state.specs.Choice.{Choice, Branch, Took, Amount, Fresh, Filled}
-use Rattle.run_words.specs.Text.{is_skipped, words_of}
 use Rattle.run_file.specs.Lines.{Scope, Line, Var, Heap, Holds, Chosen, Opened}
-use Rattle.run_words.specs.Reading.{◌>>=◌}
 use Rattle.run_file.specs.Reading.{line_of}
 use Rattle.run_file.specs.Front.{Front}
 use Rattle.run_file.specs.Run.{ViperRun, scope_memo, empty_opening, memo_with}
-use Rattle.run_words.specs.Machine.{Machine, among}
+use Rattle.run_words.specs.Machine.{FileKind, Machine, among, machine_of}
 use Rattle.run_file.specs.NamedOrder.{named_cmp}
 use Rattle.run_file.specs.declared.lines.Named.{Named}
 use Rattle.run_file.specs.declared.lines.Named.TheVariants as named
@@ -158,24 +156,24 @@ is_header _ = false
 abbrev pub header_read : {R : Type 0} → Progress R → List (List ℕ) → Option (Progress R)
 header_read st words = if is_header words then Some (record { stage = stage.Opening; named = st.named; run = st.run }) else None
 
--- what the words of a line make of it
-abbrev pub stepped : {R : Type 0} → Changes R → Scope → Stage → Progress R → List (List ℕ) → Option (Progress R)
-stepped k s stage.Header st words = header_read st words
-stepped k s stage.Opening st words = line_of s words >>= followed k s st
-stepped k s stage.Filling st words = line_of s words >>= followed k s st
-stepped k s stage.Choosing st words = line_of s words >>= followed k s st
-
--- the same of a line as bytes
-unfoldable pub read_line : {R : Type 0} → Changes R → Scope → Progress R → List ℕ → Option (Progress R)
-read_line k s st text = if is_skipped text then Some st else stepped k s st.stage st (words_of text)
-
 abbrev pub is_headed : Stage → Bool
 is_headed stage.Header = false
 is_headed _ = true
 
--- the reader of the run files of a unit with this scope, which makes this of them
+-- how the run files of a unit with this scope are read, where lines change this of a run
+abbrev pub file_kind : {R : Type 0} → Changes R → Scope → FileKind (Progress R) Line R
+file_kind k s = record {
+  begun = begun k s;
+  is_headed = λ st. is_headed st.stage;
+  header_read = λ st words. header_read st words;
+  line_of = λ words. line_of s words;
+  followed = followed k s;
+  run = λ st. st.run;
+}
+
+-- the reader of such files
 abbrev pub reader_of : {R : Type 0} → Changes R → Scope → Machine (Progress R) R
-reader_of k s = record { begun = begun k s; step = read_line k s; is_headed = λ st. is_headed st.stage; run = λ st. st.run }
+reader_of k s = machine_of (file_kind k s)
 
 -- the reader of whole runs
 abbrev pub reader : Scope → Machine (Progress ViperRun) ViperRun

@@ -10,8 +10,8 @@ ghost use Rattle.run_file.specs.LineView.{line_view, scope_view};
 
 use crate::names::Scope;
 use run_words::{
-    FirstWord, any_value, first_word, fraction, key, next_word, numbered, reference, single, truth,
-    value, whole_content,
+    FirstWord, any_value, fraction, key, next_word, numbered, reference, single, truth, value,
+    whole_content,
 };
 use std::alloc::Global;
 use vb_base::Memory;
@@ -28,7 +28,7 @@ pub enum Named {
 
 /// The first word of a line.
 #[derive(Clone, Copy)]
-enum Keyword {
+pub(crate) enum Keyword {
     Var,
     Heap,
     Content,
@@ -56,7 +56,8 @@ impl FirstWord for Keyword {
     }
 }
 
-const KEYWORDS: [Keyword; 8] = [
+/// The first words of lines.
+pub(crate) const KEYWORDS: [Keyword; 8] = [
     Keyword::Var,
     Keyword::Heap,
     Keyword::Content,
@@ -82,18 +83,8 @@ pub(crate) enum Line {
     State,
 }
 
-/// The line that these words are, if they are one.
-pub(crate) fn line_of(alloc: Global, scope: Scope, words: &[u8]) -> Result<Option<Line>, Memory>
-    ensures { IfOk result (λ l. option_map line_view l ≡ reading.line_of (scope_view scope.entry) (words_of words.now)) }
-{
-    match first_word(&KEYWORDS, words) {
-        Some((keyword, rest)) => keyed_line(alloc, scope, keyword, rest),
-        None => Ok(None),
-    }
-}
-
 /// The line behind its first word.
-fn keyed_line(
+pub(crate) fn keyed_line(
     alloc: Global,
     scope: Scope,
     keyword: Keyword,

@@ -9,7 +9,7 @@ ghost use Rattle.run_file.specs.Printable.{NamesChoice, NamesMemo};
 ghost use Rattle.run_file.specs.View.{run_of};
 
 use crate::runs::ViperRun;
-use moves::named_key;
+use moves::{named_content, named_key, named_reference, named_value};
 use sparse::Sparse;
 use vb_value::{Content, Key, Value};
 use viper_state::{Choice, Memo};
@@ -93,28 +93,3 @@ fn named_choice(choice: &Choice)
         _ => {}
     }
 }
-
-fn named_content(content: &Content)
-    ensures { IsNamedContent (content_of content.now) }
-{
-    match content {
-        Content::Unit => {}
-        Content::Leaf(value) => named_value(*value),
-        Content::Pair(left, right) => {
-            named_content(left);
-            named_content(right);
-        }
-    }
-}
-
-fn named_value(value: Value)
-    ensures { IsNamedValue value }
-{
-    if let Value::Ref(reference) = value {
-        named_reference(reference);
-    }
-}
-
-fn named_reference(_reference: u64)
-    ensures { IsNamed _reference }
-{}

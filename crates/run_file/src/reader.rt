@@ -1,5 +1,5 @@
 // The reader of run files of Viper.
-ghost use Rattle.std.specs.Prelude.{ℕ, ◌≡◌, ◌≤◌, ◌<◌, ◌^◌, [], true, false, Some, IfOk, IfErr, OnOk, MatchResult, length};
+ghost use Rattle.std.specs.Prelude.{ℕ, ◌≡◌, ◌≤◌, ◌<◌, [], false, Some, IfOk, IfErr, OnOk, MatchResult, length};
 ghost use Rattle.vb_base.specs.Limits.{max_boogie_bytes};
 ghost use Rattle.vb_base.specs.declared.places.Pos.{Pos};
 ghost use Rattle.viper_core.specs.Formed.{IsFormed};
@@ -7,6 +7,7 @@ ghost use Rattle.viper_core.specs.View.{program_of};
 ghost use Rattle.viper_state.specs.Choice.{Filled};
 ghost use Rattle.viper_state.specs.View.{choice_of};
 ghost use Rattle.run_file.specs.FillingView.{filling_of};
+ghost use Rattle.run_file.specs.Lines as l;
 ghost use Rattle.run_file.specs.Run.{ViperRun as Plain, SpellsViperRun, GoesWrongAt, scope_memo};
 ghost use Rattle.run_file.specs.LineView.{line_view, scope_view};
 ghost use Rattle.run_words.specs.Machine.{IsReadBy, StopsBy, Steps};
@@ -20,15 +21,15 @@ ghost use Rattle.run_words.specs.Answers.{Gives, GivesPlace};
 ghost use Rattle.run_file.specs.declared.reader.Stage.TheVariants as stage;
 ghost use Rattle.run_words.specs.declared.faults.RunFileFault.TheVariants as fault;
 
-use crate::lines::{Line, Named, line_of};
+use crate::lines::{KEYWORDS, Line, Named, keyed_line};
 use crate::memos::{Filling, defaults};
 use crate::named_sets::NamedSets;
 use crate::names::{Scope, predicate_names, variables_of};
 use crate::runs::{ViperFront, ViperRun};
-use run_words::{LineReader, Names, RunFileFault, is_skipped, next_word, read_lines};
+use run_words::{LineReader, Names, RunFileFault, first_word, next_word, read_lines};
 use std::alloc::Global;
 use std::mem;
-use vb_base::{Memory, Pos};
+use vb_base::Memory;
 use vb_value::Value;
 use viper_core::Program;
 use viper_state::{Choice, Memo, Opening};
@@ -150,28 +151,7 @@ impl Reader {
         })
     }
 
-    /// Reads a line. False where it may not stand.
-    fn read_line(
-        &mut self,
-        alloc: Global,
-        scope: Scope,
-        many: usize,
-        text: &[u8],
-    ) -> Result<bool, Memory>
-        ensures { IfOk result (λ ok. Steps ok (progress.read_line (progress.fronts many) (scope_view scope.entry) (progress_of self.old) text.now) (progress_of self.new)) }
-    {
-        if is_skipped(text) {
-            return Ok(true);
-        }
-        if let Stage::Header = self.stage {
-            return Ok(self.read_header(text));
-        }
-        match line_of(alloc, scope, text)? {
-            Some(line) => self.follow(alloc, scope, many, line),
-            None => Ok(false),
-        }
-    }
-
+    /// Reads the header. False where the line is none.
     fn read_header(&mut self, text: &[u8]) -> bool
         requires { self.old.stage ≡ stage.Header }
         ensures { Steps result (progress.header_read (progress_of self.old) (words_of text.now)) (progress_of self.new) }
@@ -281,18 +261,10 @@ impl Reader {
         put_filled(alloc, &mut self.front.run, stage, filled)
     }
 
-    /// The front, after so many lines, where the header is among them.
-    fn finish(self, alloc: Global, lines: u32) -> Result<ViperFront, RunFileFault>
-        requires { (1 ≤ lines) × (lines < 2 ^ 32) }
-        ensures { MatchResult result (λ x. (progress.is_headed self.stage ≡ true) × (front_view x ≡ (progress_of self).run))
-            (λ e. UnlessMemory (λ at. (progress.is_headed self.stage ≡ false) × (at.line ≡ lines) × (at.col ≡ 1)) e) }
+    /// The front.
+    fn finish(self, alloc: Global) -> Result<ViperFront, Memory>
+        ensures { IfOk result (λ x. front_view x ≡ (progress_of self).run) }
     {
-        if let Stage::Header = self.stage {
-            return Err(RunFileFault::Syntax(Pos {
-                line: lines,
-                col: 1,
-            }));
-        }
         // What was named gives back its memory before the heap and contents take their own.
         drop(self.named);
         let mut front = self.front;
@@ -386,22 +358,43 @@ struct Scoped<'a> {
 impl LineReader for Scoped<'_> {
     type Run = ViperFront;
 
+    type Line = Line;
+
     ghost State = { progress.Progress Front };
+
+    ghost Said = { l.Line };
 
     ghost Plain = { Front };
 
-    ghost machine = { λ x. progress.front_reader x.many (scope_view x.scope) };
+    ghost kind = { λ x. progress.file_kind (progress.fronts x.many) (scope_view x.scope) };
 
     ghost state = { λ x. progress_of x.reader };
 
+    ghost said = { line_view };
+
     ghost plain = { front_view };
 
-    fn read_line(&mut self, alloc: Global, text: &[u8]) -> Result<bool, Memory> {
-        self.reader.read_line(alloc, self.scope, self.many, text)
+    fn is_headed(&self) -> bool {
+        !matches!(self.reader.stage, Stage::Header)
     }
 
-    fn finish(self, alloc: Global, lines: u32) -> Result<ViperFront, RunFileFault> {
-        self.reader.finish(alloc, lines)
+    fn read_header(&mut self, words: &[u8]) -> bool {
+        self.reader.read_header(words)
+    }
+
+    fn line_of(&self, alloc: Global, words: &[u8]) -> Result<Option<Line>, Memory> {
+        match first_word(&KEYWORDS, words) {
+            Some((keyword, rest)) => keyed_line(alloc, self.scope, keyword, rest),
+            None => Ok(None),
+        }
+    }
+
+    fn follow(&mut self, alloc: Global, line: Line) -> Result<bool, Memory> {
+        self.reader.follow(alloc, self.scope, self.many, line)
+    }
+
+    fn finish(self, alloc: Global) -> Result<ViperFront, Memory> {
+        self.reader.finish(alloc)
     }
 }
 

@@ -8,7 +8,7 @@ use Rattle.lemmas.proofs.Options.{some_same, none_some}
 use Rattle.vb_base.specs.declared.places.Pos.{Pos}
 use Rattle.run_words.specs.Text.{lines_of, is_skipped, words_of, told}
 use Rattle.run_words.specs.Reading.{◌>>=◌}
-use Rattle.run_words.specs.Machine.{Machine, all_steps, Headed, IsReadBy, StopsBy, bad, headless, MayStand, WrongAt, bad_line, no_header}
+use Rattle.run_words.specs.Machine.{FileKind, Machine, all_steps, line_read, machine_of, words_read, Headed, IsReadBy, StopsBy, bad, headless, MayStand, WrongAt, bad_line, no_header}
 
 abbrev pub HeadedIn : {S : Type 0} → (S → Bool) → Option S → Type 0
 HeadedIn is_headed None = Unit {0}
@@ -29,26 +29,43 @@ record Stands {S R : Type 0} (m : Machine S R) (lines : List (List ℕ)) : Type 
 abbrev ends_at : {S R L : Type 0} → (S → L → Option S) → (S → R) → S → List L → R → Type 0
 ends_at {S} follow run st lines whole = (last : S) × ((all_steps follow (Some st) lines ≡ Some last) × (run last ≡ whole))
 
--- How a machine reads the lines of a file: the words of a line, the header, and then what each line says.
-pub record Reads {S L R : Type 0} (m : Machine S R) (opened : S) (header : List (List ℕ)) (is_header : List (List ℕ) → Bool)
-    (stepped : S → List (List ℕ) → Option S) (line : List (List ℕ) → Option L) (follow : S → L → Option S)
+-- what a line makes of it, by its words
+pub read_step : {S L R : Type 0} (k : FileKind S L R) (st : S) (text : List ℕ) → line_read k st text ≡ cond (is_skipped text) (Some st) (words_read k st (words_of text))
+unfolding line_read
+read_step k st text = refl
+
+-- behind the header
+pub read_next : {S L R : Type 0} (k : FileKind S L R) (st : S) (words : List (List ℕ)) → k.is_headed st ≡ true → words_read k st words ≡ (k.line_of words >>= k.followed st)
+read_next k st words h = ap (λ b. cond b (k.line_of words >>= k.followed st) (k.header_read st words)) h
+
+-- How the lines of a file are read: the words of a line, the header, and then what each line says.
+pub record Reads {S L R : Type 0} (k : FileKind S L R) (opened : S) (header : List (List ℕ)) (is_header : List (List ℕ) → Bool)
     (IsLine : List (List ℕ) → L → Type 0) (Are : List L → R → Type 0) : Type 0 where
-  pub step : (st : S) (text : List ℕ) → m.step st text ≡ cond (is_skipped text) (Some st) (stepped st (words_of text))
-  pub first : (words : List (List ℕ)) → stepped m.begun words ≡ cond (is_header words) (Some opened) None
-  pub next : (st : S) (words : List (List ℕ)) → m.is_headed st ≡ true → stepped st words ≡ (line words >>= follow st)
+  pub first : (words : List (List ℕ)) → words_read k k.begun words ≡ cond (is_header words) (Some opened) None
   pub header_is : (words : List (List ℕ)) → is_header words ≡ true → words ≡ header
   pub passes : is_header header ≡ true
-  pub unread : m.is_headed m.begun ≡ false
-  pub headed : m.is_headed opened ≡ true
-  pub stays : (st : S) (l : L) → m.is_headed st ≡ true → HeadedIn m.is_headed (follow st l)
-  pub read : (words : List (List ℕ)) (l : L) → IsLine words l → line words ≡ Some l
-  pub spelled : (words : List (List ℕ)) (l : L) → line words ≡ Some l → IsLine words l
-  pub run_read : (ls : List L) (run : R) → Are ls run → ends_at follow m.run opened ls run
-  pub read_run : (ws : List (List (List ℕ))) (ls : List L) (last : S) → AllZip IsLine ws ls → all_steps follow (Some opened) ls ≡ Some last → Are ls (m.run last)
+  pub unread : k.is_headed k.begun ≡ false
+  pub headed : k.is_headed opened ≡ true
+  pub stays : (st : S) (l : L) → k.is_headed st ≡ true → HeadedIn k.is_headed (k.followed st l)
+  pub read : (words : List (List ℕ)) (l : L) → IsLine words l → k.line_of words ≡ Some l
+  pub spelled : (words : List (List ℕ)) (l : L) → k.line_of words ≡ Some l → IsLine words l
+  pub run_read : (ls : List L) (run : R) → Are ls run → ends_at k.followed k.run opened ls run
+  pub read_run : (ws : List (List (List ℕ))) (ls : List L) (last : S) → AllZip IsLine ws ls → all_steps k.followed (Some opened) ls ≡ Some last → Are ls (k.run last)
 
-module _ {S L R : Type 0} {m : Machine S R} {opened : S} {header : List (List ℕ)} {is_header : List (List ℕ) → Bool}
-    {stepped : S → List (List ℕ) → Option S} {line : List (List ℕ) → Option L} {follow : S → L → Option S}
-    {IsLine : List (List ℕ) → L → Type 0} {Are : List L → R → Type 0} (r : Reads m opened header is_header stepped line follow IsLine Are) where
+module _ {S L R : Type 0} {k : FileKind S L R} {opened : S} {header : List (List ℕ)} {is_header : List (List ℕ) → Bool}
+    {IsLine : List (List ℕ) → L → Type 0} {Are : List L → R → Type 0} (r : Reads k opened header is_header IsLine Are) where
+  abbrev m : Machine S R
+  m = machine_of k
+
+  abbrev stepped : S → List (List ℕ) → Option S
+  stepped = words_read k
+
+  abbrev line : List (List ℕ) → Option L
+  line = k.line_of
+
+  abbrev follow : S → L → Option S
+  follow = k.followed
+
   -- ---- the lines that are not skipped
 
   told_by : (st : S) (text : List ℕ) (lines : List (List ℕ)) (t : Bool) → ((o : Option S) → all_steps m.step o lines ≡ all_steps stepped o (told lines)) →
@@ -61,7 +78,7 @@ module _ {S L R : Type 0} {m : Machine S R} {opened : S} {header : List (List �
   read_told [] None = refl
   read_told (l ∷ ls) None = refl
   read_told [] (Some st) = refl
-  read_told (l ∷ ls) (Some st) = ap (λ o. all_steps m.step o ls) (r.step st l) ∙ told_by st l ls (is_skipped l) (read_told ls)
+  read_told (l ∷ ls) (Some st) = ap (λ o. all_steps m.step o ls) (read_step k st l) ∙ told_by st l ls (is_skipped l) (read_told ls)
 
   -- ---- behind the header
 
@@ -71,7 +88,7 @@ module _ {S L R : Type 0} {m : Machine S R} {opened : S} {header : List (List �
   told_followed [] (l ∷ ls) h (Some st) headed = absurd h
   told_followed (w ∷ ws) [] h (Some st) headed = absurd h
   told_followed (w ∷ ws) (l ∷ ls) h (Some st) headed =
-      ap (λ o. all_steps stepped o ws) (r.next st w headed ∙ ap (λ o. o >>= follow st) (r.read w l h.0)) ∙ told_followed ws ls h.1 (follow st l) (r.stays st l headed)
+      ap (λ o. all_steps stepped o ws) (read_next k st w headed ∙ ap (λ o. o >>= follow st) (r.read w l h.0)) ∙ told_followed ws ls h.1 (follow st l) (r.stays st l headed)
 
   said_more : (st : S) (w : List (List ℕ)) (ws : List (List (List ℕ))) (last : S) (o : Option L) → line w ≡ o → m.is_headed st ≡ true →
       ((l : L) → all_steps stepped (follow st l) ws ≡ Some last → Said m.is_headed follow IsLine (follow st l) ws last) →
@@ -85,7 +102,7 @@ module _ {S L R : Type 0} {m : Machine S R} {opened : S} {header : List (List �
   said ws None last headed e = absurd cc
   said [] (Some st) last headed e = record { lines = []; are = tt; read = e; headed = subst (HeadedIn m.is_headed) e headed }
   said (w ∷ ws) (Some st) last headed e =
-      said_more st w ws last (line w) refl headed (λ l. said ws (follow st l) last (r.stays st l headed)) (ap (λ o. all_steps stepped o ws) (sym (r.next st w headed)) ∙ e)
+      said_more st w ws last (line w) refl headed (λ l. said ws (follow st l) last (r.stays st l headed)) (ap (λ o. all_steps stepped o ws) (sym (read_next k st w headed)) ∙ e)
 
   -- ---- files
 

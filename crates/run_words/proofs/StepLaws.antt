@@ -1,5 +1,5 @@
 -- How the lines of a file are read one after the other.
-use Rattle.std.proofs.Common.{◌≡◌, ◌∙◌, ◌+◌, ◌<◌, ◌≤◌, ◌^◌, ◌⊎◌, inl, inr, ℕ, suc, Bool, true, false, List, [], ◌∷◌, ◌++◌, length, take, drop, Option, Some, None, Result, Ok, Err, MatchResult, refl, sym, ap, arith}
+use Rattle.std.proofs.Common.{◌≡◌, ◌∙◌, ◌+◌, ◌<◌, ◌≤◌, ◌^◌, ◌⊎◌, inl, inr, ℕ, suc, Bool, true, false, List, [], ◌∷◌, ◌++◌, length, take, drop, Option, Some, None, refl, sym, ap, arith}
 use Rattle.std.proofs.lemmas.Bool.{cases_order}
 use Rattle.std.proofs.lemmas.List.{take_all, take-append-drop, take-take}
 use Rattle.lemmas.proofs.Tests.{not_both}
@@ -9,9 +9,6 @@ use Rattle.vb_base.specs.declared.places.Pos.{Pos}
 use Rattle.vb_base.proofs.Place.{same_pos}
 use Rattle.run_words.specs.Text.{lines_of}
 use Rattle.run_words.specs.Machine.{Machine, all_steps, IsReadBy, StopsBy, bad, headless}
-use Rattle.run_words.specs.Answers.{UnlessMemory}
-use Rattle.run_words.specs.declared.faults.RunFileFault.{RunFileFault}
-use Rattle.run_words.specs.declared.faults.RunFileFault.TheVariants as fault
 use Rattle.run_words.proofs.ReadLaws.{turn, lines_few, some_line}
 
 -- ---- reading on
@@ -43,17 +40,6 @@ module _ {S R : Type 0} (m : Machine S R) (lines : List (List ℕ)) where
 
   pub read_whole : (i : ℕ) (st : S) → i ≡ length lines → all_steps m.step (Some m.begun) (take i lines) ≡ Some st → all_steps m.step (Some m.begun) lines ≡ Some st
   read_whole i st e so_far = rw (take_all i lines (omega arith)) at so_far
-
-  stopped : (st : S) → all_steps m.step (Some m.begun) lines ≡ Some st →
-      (e : RunFileFault) → UnlessMemory (λ at. (m.is_headed st ≡ false) × (at.line ≡ length lines) × (at.col ≡ 1)) e → UnlessMemory (StopsBy m lines) e
-  stopped st read fault.Memory h = tt
-  stopped st read (fault.Syntax at) h = headless st read h.0 h.1 h.2
-
-  pub finished : {X : Type 0} (view : X → R) (st : S) (r : Result X RunFileFault) → all_steps m.step (Some m.begun) lines ≡ Some st →
-      MatchResult r (λ run. (m.is_headed st ≡ true) × (view run ≡ m.run st)) (UnlessMemory (λ at. (m.is_headed st ≡ false) × (at.line ≡ length lines) × (at.col ≡ 1))) →
-      MatchResult r (λ run. IsReadBy m lines (view run)) (UnlessMemory (StopsBy m lines))
-  finished view st (Ok run) read h = record { last = st; read = read; headed = h.0; run = sym h.1 }
-  finished view st (Err e) read h = stopped st read e h
 
   -- ---- one end
 

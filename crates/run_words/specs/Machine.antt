@@ -1,11 +1,12 @@
 -- How the lines of a file are read one after the other, whatever they say.
-use Rattle.std.specs.Prelude.{◌≡◌, ◌⊎◌, ◌<◌, ◌+◌, ℕ, Bool, true, false, List, [], ◌∷◌, Option, Some, None, length, take}
+use Rattle.std.specs.Prelude.{◌≡◌, ◌⊎◌, ◌<◌, ◌+◌, ℕ, Bool, true, false, List, [], ◌∷◌, Option, Some, None, length, take, if◌then◌else◌}
 use Rattle.std.specs.BTreeMap.{is_at}
 use Rattle.std.specs.List.{list_any, AllZip}
 use Rattle.std.specs.declared.cmp.Ordering.{Ordering}
 use Rattle.vb_base.specs.Place.{line_after}
 use Rattle.vb_base.specs.declared.places.Pos.{Pos}
-use Rattle.run_words.specs.Text.{lines_of, told}
+use Rattle.run_words.specs.Reading.{◌>>=◌}
+use Rattle.run_words.specs.Text.{lines_of, told, is_skipped, words_of}
 
 -- ---- what lines spell
 
@@ -36,6 +37,27 @@ pub record Machine (S R : Type 0) : Type 0 where
   pub step : S → List ℕ → Option S
   pub is_headed : S → Bool
   pub run : S → R
+
+-- How the lines of one kind of file are read: where reading begins, whether the header was read, what the words of a line make of it
+-- as a header, the line that words are behind the header, what such a line makes of it, and what is read so far.
+pub record FileKind (S L R : Type 0) : Type 0 where
+  pub begun : S
+  pub is_headed : S → Bool
+  pub header_read : S → List (List ℕ) → Option S
+  pub line_of : List (List ℕ) → Option L
+  pub followed : S → L → Option S
+  pub run : S → R
+
+-- what the words of a line make of it
+abbrev pub words_read : {S L R : Type 0} → FileKind S L R → S → List (List ℕ) → Option S
+words_read k st words = if k.is_headed st then (k.line_of words >>= k.followed st) else k.header_read st words
+
+-- the same of a line as bytes, which makes nothing of it where it is skipped
+unfoldable pub line_read : {S L R : Type 0} → FileKind S L R → S → List ℕ → Option S
+line_read k st text = if is_skipped text then Some st else words_read k st (words_of text)
+
+abbrev pub machine_of : {S L R : Type 0} → FileKind S L R → Machine S R
+machine_of k = record { begun = k.begun; step = line_read k; is_headed = k.is_headed; run = k.run }
 
 abbrev pub all_steps : {S L : Type 0} → (S → L → Option S) → Option S → List L → Option S
 all_steps step None ls = None

@@ -8,26 +8,12 @@ use Rattle.run_boogie.proofs.boogie_reader.read_boogie_run.Goals as goal
 pub local_names-requires : goal.local_names-requires
 local_names-requires c = subst (λ ls. NamesDiffer (known (locals_of ls)).names) (sym c.deref.ensures.value) c.requires.names
 
-pub returns-clause-run : goal.returns-clause-run
-returns-clause-run c =
+pub returns : goal.returns
+returns c =
     let names = c.in_ok-names.ensures ∙ ap (λ ls. (known (locals_of ls)).names) c.deref.ensures.value in
-    (proc_answered c.args.bytes.now (proc_of c.args.proc.now) _ c.read_lines.result c.requires.names
-    (λ i. record { names = names i; types = (known (locals_of (c.deref-2.ensures.value i))).types }) c.read_lines.ensures).run
-
-pub returns-clause-fault : goal.returns-clause-fault
-returns-clause-fault c =
-    let names = c.in_ok-names.ensures ∙ ap (λ ls. (known (locals_of ls)).names) c.deref.ensures.value in
-    (proc_answered c.args.bytes.now (proc_of c.args.proc.now) _ c.read_lines.result c.requires.names
-    (λ i. record { names = names i; types = (known (locals_of (c.deref-2.ensures.value i))).types }) c.read_lines.ensures).fault
-
-pub returns-clause-only_run : goal.returns-clause-only_run
-returns-clause-only_run c =
-    let names = c.in_ok-names.ensures ∙ ap (λ ls. (known (locals_of ls)).names) c.deref.ensures.value in
-    (proc_answered c.args.bytes.now (proc_of c.args.proc.now) _ c.read_lines.result c.requires.names
-    (λ i. record { names = names i; types = (known (locals_of (c.deref-2.ensures.value i))).types }) c.read_lines.ensures).only_run
-
-pub returns-clause-only_place : goal.returns-clause-only_place
-returns-clause-only_place c =
-    let names = c.in_ok-names.ensures ∙ ap (λ ls. (known (locals_of ls)).names) c.deref.ensures.value in
-    (proc_answered c.args.bytes.now (proc_of c.args.proc.now) _ c.read_lines.result c.requires.names
-    (λ i. record { names = names i; types = (known (locals_of (c.deref-2.ensures.value i))).types }) c.read_lines.ensures).only_place
+    let answered =
+    proc_answered c.args.bytes.now (proc_of c.args.proc.now) _ c.read_lines.result c.requires.names
+    (λ i. record { names = names i; types = (known (locals_of (c.deref-2.ensures.value i))).types })
+    c.read_lines.ensures
+    in
+    record { run = answered.run; fault = answered.fault; only_run = answered.only_run; only_place = answered.only_place }

@@ -17,42 +17,15 @@ pub predicate_names-requires : goal.predicate_names-requires
 predicate_names-requires c =
     subst (λ ds. NamesDiffer (map (λ (d : p.Predicate). d.name) (map predicate_of ds))) (sym c.deref-2.ensures.value) (names_apart (program_of c.args.program.now) c.args.unit c.requires.formed).predicates
 
-pub returns-clause-run : goal.returns-clause-run
-returns-clause-run c =
+pub returns : goal.returns
+returns c =
     let program = program_of c.args.program.now in
     let variables = ap (λ ns. record { names = ns; types = c.variables_of.result.1.now }) c.in_ok-variables.ensures ∙ c.variables_of.ensures in
     let fields = c.in_ok-fields.ensures ∙ c.deref.ensures.value in
     let predicates = c.in_ok-predicates.ensures ∙ ap (λ ds. map (λ (d : p.Predicate). d.name) (map predicate_of ds)) c.deref-2.ensures.value in
-    (front_answered c.args.bytes.now program c.args.unit c.args.many _ c.read_front.result (names_apart program c.args.unit c.requires.formed)
+    let answered =
+    front_answered c.args.bytes.now program c.args.unit c.args.many _ c.read_front.result (names_apart program c.args.unit c.requires.formed)
     (λ i. record { variables = variables i; fields = record { names = fields i; types = program.layout.fields }; predicates = record { names = predicates i; types = program.layout.keys } })
-    c.read_front.ensures).run
-
-pub returns-clause-fault : goal.returns-clause-fault
-returns-clause-fault c =
-    let program = program_of c.args.program.now in
-    let variables = ap (λ ns. record { names = ns; types = c.variables_of.result.1.now }) c.in_ok-variables.ensures ∙ c.variables_of.ensures in
-    let fields = c.in_ok-fields.ensures ∙ c.deref.ensures.value in
-    let predicates = c.in_ok-predicates.ensures ∙ ap (λ ds. map (λ (d : p.Predicate). d.name) (map predicate_of ds)) c.deref-2.ensures.value in
-    (front_answered c.args.bytes.now program c.args.unit c.args.many _ c.read_front.result (names_apart program c.args.unit c.requires.formed)
-    (λ i. record { variables = variables i; fields = record { names = fields i; types = program.layout.fields }; predicates = record { names = predicates i; types = program.layout.keys } })
-    c.read_front.ensures).fault
-
-pub returns-clause-only_run : goal.returns-clause-only_run
-returns-clause-only_run c =
-    let program = program_of c.args.program.now in
-    let variables = ap (λ ns. record { names = ns; types = c.variables_of.result.1.now }) c.in_ok-variables.ensures ∙ c.variables_of.ensures in
-    let fields = c.in_ok-fields.ensures ∙ c.deref.ensures.value in
-    let predicates = c.in_ok-predicates.ensures ∙ ap (λ ds. map (λ (d : p.Predicate). d.name) (map predicate_of ds)) c.deref-2.ensures.value in
-    (front_answered c.args.bytes.now program c.args.unit c.args.many _ c.read_front.result (names_apart program c.args.unit c.requires.formed)
-    (λ i. record { variables = variables i; fields = record { names = fields i; types = program.layout.fields }; predicates = record { names = predicates i; types = program.layout.keys } })
-    c.read_front.ensures).only_run
-
-pub returns-clause-only_place : goal.returns-clause-only_place
-returns-clause-only_place c =
-    let program = program_of c.args.program.now in
-    let variables = ap (λ ns. record { names = ns; types = c.variables_of.result.1.now }) c.in_ok-variables.ensures ∙ c.variables_of.ensures in
-    let fields = c.in_ok-fields.ensures ∙ c.deref.ensures.value in
-    let predicates = c.in_ok-predicates.ensures ∙ ap (λ ds. map (λ (d : p.Predicate). d.name) (map predicate_of ds)) c.deref-2.ensures.value in
-    (front_answered c.args.bytes.now program c.args.unit c.args.many _ c.read_front.result (names_apart program c.args.unit c.requires.formed)
-    (λ i. record { variables = variables i; fields = record { names = fields i; types = program.layout.fields }; predicates = record { names = predicates i; types = program.layout.keys } })
-    c.read_front.ensures).only_place
+    c.read_front.ensures
+    in
+    record { run = answered.run; fault = answered.fault; only_run = answered.only_run; only_place = answered.only_place }

@@ -1,8 +1,8 @@
 use Rattle.std.proofs.Common.{◌≡◌, ◌∙◌, length, sym, ap, arith, refl, subst, Some}
-use Rattle.run_words.specs.Machine.{Machine, Steps}
+use Rattle.run_words.specs.Machine.{FileKind, machine_of, headless}
 use Rattle.run_words.specs.Text.{lines_of, lines_left}
 use Rattle.run_words.proofs.ReadLaws.{turn, all_taken, lines_few, some_line}
-use Rattle.run_words.proofs.StepLaws.{step_more, stops_here, read_whole, finished}
+use Rattle.run_words.proofs.StepLaws.{step_more, stops_here, read_whole}
 use Rattle.run_words.proofs.line_reader.read_lines.Goals as goal
 
 pub overflow_add-line : goal.overflow_add-line
@@ -24,12 +24,12 @@ returns-then-not-branch g c =
     let lines = lines_of c.args.bytes.now in
     let here = sym c.loop-rest.invariant.left ∙ (ap lines_left c.in-Some.is ∙ c.next_line.ensures) in
     let none = rw (c.if-not-branch.true, c.loop-rest.invariant.same) at c.in_ok-read_line.ensures.steps in
-    stops_here (g.R.LineReader.machine c.args.reader) lines c.loop-rest.line _ _ (g.R.LineReader.state c.loop-rest.reader) _ here c.loop-rest.invariant.so_far none refl refl
+    stops_here (machine_of (g.R.LineReader.kind c.args.reader)) lines c.loop-rest.line _ _ (g.R.LineReader.state c.loop-rest.reader) _ here c.loop-rest.invariant.so_far none refl refl
 
 pub loop-rest-preserved : goal.loop-rest-preserved
 loop-rest-preserved g c =
     let lines = lines_of c.args.bytes.now in
-    let m = g.R.LineReader.machine c.args.reader in
+    let m = machine_of (g.R.LineReader.kind c.args.reader) in
     let here = sym c.loop-rest.invariant.left ∙ (ap lines_left c.in-Some.is ∙ c.next_line.ensures) in
     let t = turn lines c.loop-rest.line _ _ here in
     let some = rw (c.if-not-branch.false, c.loop-rest.invariant.same) at c.in_ok-read_line.ensures.steps in
@@ -40,16 +40,30 @@ loop-rest-preserved g c =
       so_far = step_more m.step m.begun lines c.loop-rest.line _ (g.R.LineReader.state c.loop-rest.reader) t.taken c.loop-rest.invariant.so_far ∙ some;
     }
 
-pub finish-requires : goal.finish-requires
-finish-requires g c =
+pub invariant_of-result-else-is_headed : goal.invariant_of-result-else-is_headed
+invariant_of-result-else-is_headed g c =
     let lines = lines_of c.args.bytes.now in
     let all : c.loop-rest.line ≡ length lines = all_taken lines c.loop-rest.line (sym (ap lines_left c.in_default.is) ∙ c.loop-rest.invariant.left) c.loop-rest.invariant.within in
-    (omega (arith, all, some_line c.args.bytes.now), omega (arith, all, lines_few c.args.bytes.now, c.requires.few))
+    record { line_in_range = (omega (arith, all, some_line c.args.bytes.now), omega (arith, all, lines_few c.args.bytes.now, c.requires.few)); col_in_range = (omega arith, omega arith) }
 
-pub returns : goal.returns
-returns g c =
+pub returns-else-is_headed : goal.returns-else-is_headed
+returns-else-is_headed g c =
     let lines = lines_of c.args.bytes.now in
     let all : c.loop-rest.line ≡ length lines = all_taken lines c.loop-rest.line (sym (ap lines_left c.in_default.is) ∙ c.loop-rest.invariant.left) c.loop-rest.invariant.within in
     let st = g.R.LineReader.state c.loop-rest.reader in
-    let m = g.R.LineReader.machine c.args.reader in
-    finished m lines g.R.LineReader.plain st c.finish.result (read_whole m lines c.loop-rest.line st all c.loop-rest.invariant.so_far) (rw (all, c.loop-rest.invariant.same) at c.finish.ensures)
+    let m = machine_of (g.R.LineReader.kind c.args.reader) in
+    let unread = ap (λ (k : FileKind _ _ _). k.is_headed st) (sym c.loop-rest.invariant.same) ∙ (sym c.is_headed.ensures ∙ c.if-is_headed.false) in
+    headless st (read_whole m lines c.loop-rest.line st all c.loop-rest.invariant.so_far) unread all refl
+
+pub returns-in_ok-finish : goal.returns-in_ok-finish
+returns-in_ok-finish g c =
+    let lines = lines_of c.args.bytes.now in
+    let all : c.loop-rest.line ≡ length lines = all_taken lines c.loop-rest.line (sym (ap lines_left c.in_default.is) ∙ c.loop-rest.invariant.left) c.loop-rest.invariant.within in
+    let st = g.R.LineReader.state c.loop-rest.reader in
+    let m = machine_of (g.R.LineReader.kind c.args.reader) in
+    record {
+      last = st;
+      read = read_whole m lines c.loop-rest.line st all c.loop-rest.invariant.so_far;
+      headed = ap (λ (k : FileKind _ _ _). k.is_headed st) (sym c.loop-rest.invariant.same) ∙ (sym c.is_headed.ensures ∙ c.if-is_headed.true);
+      run = ap (λ (k : FileKind _ _ _). k.run st) (sym c.loop-rest.invariant.same) ∙ sym c.in_ok-finish.ensures;
+    }
