@@ -1,14 +1,13 @@
 //! The typed program of a file, and the part of it that a row is about.
 ghost use Rattle.std.specs.Prelude.{IfOk, IfSome};
 ghost use Rattle.viper_core.specs.Formed.{IsFormed};
-ghost use Rattle.viper_core.specs.Literals.{IsWithinAssertion};
-ghost use Rattle.viper_core.specs.View.{assertion_of, program_of, stmt_of};
+ghost use Rattle.viper_core.specs.View.{program_of, stmt_of};
 ghost use Rattle.viper_meaning.specs.StatementLiterals.{IsWithinStmt};
 
 use std::alloc::Global;
 use std::test::Fail;
 use vb_base::place_after;
-use viper_core::{Assertion, Program, Stmt};
+use viper_core::{Program, Stmt};
 use viper_parse::parse;
 use viper_syntax::lex;
 use viper_types::check;
@@ -41,13 +40,4 @@ pub fn first_stmt(program: &Program) -> Option<&Stmt>
     let method = program.methods.first()?;
     let body = method.body.as_ref()?;
     body.stmts.first()
-}
-
-/// The body of the last predicate.
-pub fn last_body(program: &Program) -> Option<&Assertion>
-    requires { IsFormed (program_of program.now) }
-    ensures { IfSome result (λ a. IsWithinAssertion (assertion_of a.now)) }
-{
-    let last = program.predicates.len().checked_sub(1)?;
-    program.predicates.get(last)?.body.as_ref()
 }

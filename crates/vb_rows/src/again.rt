@@ -1,25 +1,23 @@
 // A run that failed, once more: as the run of Boogie that stands behind its two lines, on the translation of the same file.
 
-use crate::fault::Fault;
-use crate::row::{Call, Row};
 use crate::trial::{Ended, end_of};
+use row_tables::{Call, Fault};
 use std::alloc::Global;
 use vb_outer::MemFile;
 
 /// The status of a run that failed.
 pub const FAILED: u8 = 10;
 
-/// The file of a row that runs a unit.
-pub fn file_of_run(alloc: Global, row: &Row) -> Result<Option<MemFile>, Fault> {
-    match row.call.words.as_slice() {
-        [command, name, _, _] if command.as_str() == "run" => copied(alloc, row, name.as_bytes()),
+/// The file of a call that runs a unit.
+pub fn file_of_run(alloc: Global, call: &Call) -> Result<Option<MemFile>, Fault> {
+    match call.words.as_slice() {
+        [command, name, _, _] if command.as_str() == "run" => copied(alloc, call, name.as_bytes()),
         _ => Ok(None),
     }
 }
 
-fn copied(alloc: Global, row: &Row, name: &[u8]) -> Result<Option<MemFile>, Fault> {
-    let Some(file) = row
-        .call
+fn copied(alloc: Global, call: &Call, name: &[u8]) -> Result<Option<MemFile>, Fault> {
+    let Some(file) = call
         .files
         .iter()
         .find(|file| file.name.as_slice() == name)

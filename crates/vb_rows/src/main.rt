@@ -1,21 +1,17 @@
-//! `vb_rows TABLE..` runs the rows of tables through the tool, over files and sinks in memory.
+//! `vb_rows TABLE..` runs the rows of tables through the tool, over files and sinks in memory, and through `certify` and `conditions`.
 //!
 //! It prints each row that ends otherwise than it says, and the number of rows of each table. `docs/rows.md` says how a
 //! table is written.
 #![tactic(auto)]
 
 mod again;
-mod fault;
-mod row;
-mod table;
-mod text;
 mod trial;
 mod turns;
 
+use row_tables::Table;
 use std::alloc::Global;
 use std::process::ExitCode;
 use std::{env, fs, io};
-use table::Table;
 use trial::ends_as_said;
 
 /// The status where the tables cannot be read, or the lines not be written.

@@ -4,11 +4,10 @@ ghost use Rattle.vb_outer.specs.MemShelf.{file_named, names_differ};
 ghost use Rattle.vb_outer.specs.Place.{held};
 
 use crate::again::{FAILED, ends_otherwise, file_of_run};
-use crate::fault::Fault;
-use crate::row::{Call, End, Row, copies_of, words_of};
 use crate::turns::all_turns_fail;
+use row_tables::{Call, End, Fault, Row, copies_of, files_of};
 use std::alloc::Global;
-use std::io;
+use std::{io, mem};
 use vb_outer::{MemFile, MemShelf, MemSink};
 
 /// How a call ended: its status, and what stands in the sinks.
@@ -29,13 +28,28 @@ struct Tried {
 /// Runs a row, and prints what came where it ends otherwise than it says. A run that failed is translated and replayed as well,
 /// and where each call of a device is to fail in turn, so it does.
 pub fn ends_as_said(rt: &impl Print, alloc: Global, row: Row) -> io::Result<bool> {
-    let file = file_of_run(alloc, &row);
     let Row { name, call, end } = row;
-    match attempted(alloc, &call, file) {
+    match with_all_files(alloc, call) {
+        Ok(call) => call_ends_as_said(rt, alloc, name.as_str(), &call, &end),
+        Err(fault) => {
+            println!(rt; "{name}: {fault}")?;
+            Ok(false)
+        }
+    }
+}
+
+fn call_ends_as_said(
+    rt: &impl Print,
+    alloc: Global,
+    name: &str,
+    call: &Call,
+    end: &End,
+) -> io::Result<bool> {
+    match attempted(alloc, call) {
         Ok(Tried { ended, again }) => {
-            let as_said = told(rt, name.as_str(), &end, &ended)?;
-            let fails_again = told_again(rt, name.as_str(), again)?;
-            Ok(all_turns_fail(rt, alloc, name.as_str(), &call, &ended)? && fails_again && as_said)
+            let as_said = told(rt, name, end, &ended)?;
+            let fails_again = told_again(rt, name, again)?;
+            Ok(all_turns_fail(rt, alloc, name, call, &ended)? && fails_again && as_said)
         }
         Err(fault) => {
             println!(rt; "{name}: {fault}")?;
@@ -44,24 +58,21 @@ pub fn ends_as_said(rt: &impl Print, alloc: Global, row: Row) -> io::Result<bool
     }
 }
 
-fn attempted(
-    alloc: Global,
-    call: &Call,
-    file: Result<Option<MemFile>, Fault>,
-) -> Result<Tried, Fault> {
+fn attempted(alloc: Global, call: &Call) -> Result<Tried, Fault> {
     let ended = end_of(alloc, call.copy(alloc)?)?;
-    let again = match file? {
+    let again = match file_of_run(alloc, call)? {
         Some(file) if ended.status == FAILED => ends_otherwise(alloc, file, ended.out.written())?,
         _ => None,
     };
     Ok(Tried { ended, again })
 }
 
-/// Runs a call.
+/// Runs a call over its files, without those that are written.
 pub fn end_of(alloc: Global, call: Call) -> Result<Ended, Fault> {
     let Call {
         words,
         files,
+        written: _,
         shelf,
         out,
         err,
@@ -97,18 +108,23 @@ fn status_of(
     }
 }
 
-/// A file with what a command writes over the files of a call: the file's name, and then the words of the command.
-pub fn written(alloc: Global, call: &Call, text: &str) -> Result<MemFile, Fault> {
-    let Some((name, words)) = text.split_once(' ') else {
-        return Err(Fault::Line);
-    };
-    let mut over = call.copy(alloc)?;
-    over.words = words_of(alloc, words)?;
-    let ended = end_of(alloc, over)?;
-    Ok(MemFile {
-        name: name.as_bytes().to_vec(alloc)?,
-        bytes: ended.out.written().to_vec(alloc)?,
-    })
+/// The call over all its files, of which those that are written are written one after another.
+fn with_all_files(alloc: Global, mut call: Call) -> Result<Call, Fault> {
+    let written = mem::replace(&mut call.written, Vec::new(alloc));
+    for each in &written {
+        let bytes = bytes_written(alloc, &call.files, &each.words)?;
+        let name = each.name.to_vec(alloc)?;
+        call.files.push(MemFile { name, bytes })?;
+    }
+    Ok(call)
+}
+
+/// What a command writes over these files.
+fn bytes_written(alloc: Global, files: &[MemFile], words: &[String]) -> Result<Vec<u8>, Fault> {
+    let words = copies_of(alloc, words)?;
+    let files = files_of(alloc, files)?;
+    let ended = end_of(alloc, Call::of(alloc, words, files))?;
+    Ok(ended.out.written().to_vec(alloc)?)
 }
 
 /// Whether no two files have one name.

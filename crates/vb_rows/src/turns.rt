@@ -1,8 +1,7 @@
 // A row's call once more for each call of a device, which then fails.
 
-use crate::fault::Fault;
-use crate::row::{Call, Device};
 use crate::trial::{Ended, end_of, shown};
+use row_tables::{Call, Device, Fault};
 use std::alloc::Global;
 use std::io;
 

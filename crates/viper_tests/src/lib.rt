@@ -1,15 +1,9 @@
-//! Tests of public calls of Viper's side, for what no clause and no row of `vb_rows` says: tokens, values of expressions, and what
-//! bodies, assertions and instances do to a state, with the events of a run. A table is one string, a row a line.
+//! Tests of public calls of Viper's side, for what no clause and no row of `vb_rows` says: tokens, and what assertions do to a
+//! state, with the events of a run. A table is one string, a row a line.
 #![tactic(auto)]
 
 #[cfg(test)]
 mod assertions;
-#[cfg(test)]
-mod bodies;
-#[cfg(test)]
-mod expressions;
-#[cfg(test)]
-mod folds;
 #[cfg(test)]
 mod tokens;
 #[cfg(test)]

@@ -2,9 +2,8 @@
 use std::alloc::Global;
 use std::test::Fail;
 use vb_value::{Content, Frac, Value};
-use viper_eval::{Evaluated, Opening1};
 use viper_inhale::Step;
-use viper_state::{Choice, Event, Feed};
+use viper_state::{Event, Feed};
 
 /// `1/2`.
 fn fraction(alloc: Global, amount: Frac) -> Result<String, Fail> {
@@ -51,22 +50,6 @@ fn event(alloc: Global, event: &Event) -> Result<String, Fail> {
     })
 }
 
-/// A feed in which a choice is left, and an event is recorded.
-pub fn feed(alloc: Global) -> Result<Feed, Fail> {
-    Ok(Feed {
-        choices: vec![in alloc; Choice::Branch(true)]?,
-        next: 0,
-        events: vec![in alloc; Event::Branch(false)]?,
-    })
-}
-
-/// Whether a feed still has the choice and the event that it had at first.
-fn is_kept(feed: &Feed) -> bool {
-    feed.next == 0
-        && feed.choices.len() == 1
-        && matches!(feed.events.get(0), Some(Event::Branch(false)))
-}
-
 /// An end and what was recorded after the first event, with a `;` before it.
 fn recorded(alloc: Global, end: String, feed: &Feed) -> Result<String, Fail> {
     let mut text = end;
@@ -77,38 +60,10 @@ fn recorded(alloc: Global, end: String, feed: &Feed) -> Result<String, Fail> {
     Ok(text)
 }
 
-/// An end and what was recorded. No choice is taken.
-pub fn with_events(alloc: Global, end: String, feed: &Feed) -> Result<String, Fail> {
-    if !is_kept(feed) {
-        return Ok("another feed".to_string(alloc)?);
-    }
-    recorded(alloc, end, feed)
-}
-
 /// An end, how many choices are left, and what was recorded.
 pub fn with_choices(alloc: Global, end: String, feed: &Feed) -> Result<String, Fail> {
     let left = feed.choices.len().saturating_sub(feed.next);
     recorded(alloc, format!(in alloc; "{end}, {left} left")?, feed)
-}
-
-/// How an evaluation ended.
-pub fn evaluated(alloc: Global, end: Evaluated) -> Result<String, Fail> {
-    Ok(match end {
-        Evaluated::Is(is) => value(alloc, is)?,
-        Evaluated::Fails(label) => format!(in alloc; "{label}")?,
-        Evaluated::Blocked => "blocked".to_string(alloc)?,
-        Evaluated::Over(at) => format!(in alloc; "over {at}")?,
-    })
-}
-
-/// How an opening ended.
-pub fn opened(alloc: Global, end: Opening1) -> Result<String, Fail> {
-    Ok(match end {
-        Opening1::Goes => "goes".to_string(alloc)?,
-        Opening1::Fails(label) => format!(in alloc; "{label}")?,
-        Opening1::Blocked => "blocked".to_string(alloc)?,
-        Opening1::Over(at) => format!(in alloc; "over {at}")?,
-    })
 }
 
 /// How a step of a run ended.

@@ -9,7 +9,7 @@ const MOST: usize = 65_536;
 
 /// What a text of a table is.
 #[derive(Clone, Copy, Debug, PartialEq, Eq)]
-pub enum Place {
+pub(crate) enum Place {
     /// No text is expected.
     Nowhere,
     /// A text that later rows use by its name.
@@ -20,9 +20,10 @@ pub enum Place {
     Err,
 }
 
-/// A call of a program, with a name in plain words, and how it has to end.
+/// A call of a program, and how it has to end.
 #[derive(Drop)]
 pub struct Row {
+    /// In plain words.
     pub name: String,
     pub call: Call,
     pub end: End,
@@ -33,9 +34,20 @@ pub struct Row {
 pub struct Call {
     pub words: Vec<String>,
     pub files: Vec<MemFile>,
+    /// Further files, each with what a command writes over the files and over those that stand before it.
+    pub written: Vec<Written>,
     pub shelf: Device,
     pub out: Device,
     pub err: Device,
+}
+
+/// A file with what a command writes.
+#[derive(Drop)]
+pub struct Written {
+    /// The bytes of the file's name.
+    pub name: Vec<u8>,
+    /// The words of the command.
+    pub words: Vec<String>,
 }
 
 /// A device: the numbers of the calls that fail, from 1 on, and how many bytes a call moves at most.
@@ -72,7 +84,7 @@ impl Row {
     }
 
     /// Puts a text in its place.
-    pub fn put(&mut self, place: Place, text: Vec<u8>) {
+    pub(crate) fn put(&mut self, place: Place, text: Vec<u8>) {
         match place {
             Place::Nowhere | Place::Shared => {}
             Place::File => {
@@ -88,37 +100,49 @@ impl Row {
 
 impl Call {
     /// A call of these words over these files, whose devices do not fail.
-    pub fn new(alloc: Global, words: &str, files: Vec<MemFile>) -> Result<Call, AllocError> {
-        Ok(Call {
-            words: words_of(alloc, words)?,
+    pub fn of(alloc: Global, words: Vec<String>, files: Vec<MemFile>) -> Call {
+        Call {
+            words,
             files,
+            written: Vec::new(alloc),
             shelf: Device::new(alloc),
             out: Device::new(alloc),
             err: Device::new(alloc),
-        })
+        }
     }
 
-    /// The same call.
+    /// The same, of the words of a text.
+    pub fn new(alloc: Global, words: &str, files: Vec<MemFile>) -> Result<Call, AllocError> {
+        Ok(Call::of(alloc, words_of(alloc, words)?, files))
+    }
+
+    /// The same call over its files, without those that are written.
     pub fn copy(&self, alloc: Global) -> Result<Call, AllocError> {
         let words = copies_of(alloc, &self.words)?;
-        let mut files = Vec::new(alloc);
-        for file in &self.files {
-            files.push(MemFile {
-                name: file.name.to_vec(alloc)?,
-                bytes: file.bytes.to_vec(alloc)?,
-            })?;
-        }
+        let files = files_of(alloc, &self.files)?;
         Ok(Call {
             words,
             files,
+            written: Vec::new(alloc),
             shelf: self.shelf.copy(alloc)?,
             out: self.out.copy(alloc)?,
             err: self.err.copy(alloc)?,
         })
     }
 
+    /// Takes what a line says of a further file: its name, and then the words of the command that writes it.
+    pub(crate) fn take_written(&mut self, alloc: Global, text: &str) -> Result<(), Fault> {
+        let Some((name, words)) = text.split_once(' ') else {
+            return Err(Fault::Line);
+        };
+        let name = name.as_bytes().to_vec(alloc)?;
+        let words = words_of(alloc, words)?;
+        self.written.push(Written { name, words })?;
+        Ok(())
+    }
+
     /// Takes what a line says of a device: which calls fail, or how many bytes a call moves.
-    pub fn take(&mut self, device: &str, what: &str, rest: &str) -> Result<(), Fault> {
+    pub(crate) fn take(&mut self, device: &str, what: &str, rest: &str) -> Result<(), Fault> {
         match device {
             "shelf" => self.shelf.take(what, rest),
             "out" => self.out.take(what, rest),
@@ -179,7 +203,7 @@ impl End {
     }
 
     /// Takes what a line says of the end. A text may follow on `out`, `out-begins` and `err`.
-    pub fn take(&mut self, alloc: Global, word: &str, rest: &str) -> Result<(), Fault> {
+    pub(crate) fn take(&mut self, alloc: Global, word: &str, rest: &str) -> Result<(), Fault> {
         match word {
             "status" => self.status = Some(rest.parse()?),
             "err" | "out" => {}
@@ -200,6 +224,18 @@ impl End {
         }
         Ok(())
     }
+}
+
+/// The same files.
+pub fn files_of(alloc: Global, files: &[MemFile]) -> Result<Vec<MemFile>, AllocError> {
+    let mut copies = Vec::new(alloc);
+    for file in files {
+        copies.push(MemFile {
+            name: file.name.to_vec(alloc)?,
+            bytes: file.bytes.to_vec(alloc)?,
+        })?;
+    }
+    Ok(copies)
 }
 
 /// The same words.

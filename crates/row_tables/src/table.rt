@@ -3,7 +3,6 @@
 use crate::fault::Fault;
 use crate::row::{Place, Row, words_of};
 use crate::text::Text;
-use crate::trial::written;
 use boogie_tree::PRELUDE;
 use std::alloc::{AllocError, Global};
 use std::mem;
@@ -135,10 +134,7 @@ impl Table {
         match word {
             "words" => row.call.words = words_of(alloc, rest)?,
             "file" => row.call.files.push(file_of(alloc, rest)?)?,
-            "written" => {
-                let file = written(alloc, &row.call, rest)?;
-                row.call.files.push(file)?
-            }
+            "written" => row.call.take_written(alloc, rest)?,
             _ => match word.split_once('-') {
                 Some((device, what)) if is_of_device(what) => row.call.take(device, what, rest)?,
                 _ => row.end.take(alloc, word, rest)?,
