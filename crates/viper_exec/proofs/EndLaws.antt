@@ -3,7 +3,7 @@ use Rattle.std.proofs.Common.{◌≡◌, refl, sym, ap, ◌∙◌, subst, arith,
 use Rattle.std.specs.Prelude.{⊤}
 use Rattle.viper_run.proofs.UnitLaws.{all_left}
 use Rattle.viper_meaning.proofs.FoundLaws.{since_nothing}
-use Rattle.vb_base.specs.declared.names.Memory.{Memory}
+use Rattle.memory.specs.declared.Memory.{Memory}
 use Rattle.vb_value.specs.Bound.{Bounded}
 use Rattle.viper_core.specs.Program.{Program, Method, Body}
 use Rattle.viper_state.specs.Run.{Feed, Opening}

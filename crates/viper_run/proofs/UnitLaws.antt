@@ -4,7 +4,7 @@ use Rattle.std.specs.Prelude.{⊤}
 use Rattle.std.proofs.lemmas.List.{append-nil, drop_all, drop_more, length-drop, length-map}
 use Rattle.std.proofs.lemmas.List.Elements.{All-nil, All-cons, All-append}
 use Rattle.viper_meaning.proofs.FoundLaws.{since_nothing}
-use Rattle.vb_base.specs.declared.names.Memory.{Memory}
+use Rattle.memory.specs.declared.Memory.{Memory}
 use Rattle.vb_value.specs.Bound.{Bounded}
 use Rattle.vb_value.specs.Fraction.{Fraction, none, write, IsWithinFraction}
 use Rattle.vb_value.specs.Value.{default_of, IsWithinValue}
