@@ -1,10 +1,12 @@
 #!/usr/bin/env bash
-# What chosen names cost. The kit's hash has no secret, so a file can have names that all stand in one row of a table that goes by it.
-# This finds such names of seven bytes, and translates files of fields and of variables with them and with other names, replays
-# texts of Boogie with variables of these names, and cuts texts with locals and with procedures of these names. Of locals only names
-# that begin with an `a` are in a table, as the other names here do, and the first quarter of the chosen ones.
-# Each line has the kind of names, the bytes, and the processor seconds of one call with other names and with chosen ones. To find
-# the names takes some five minutes on four cores, and needs `cc`.
+# What chosen names cost. The kit's hash has no key, so a file can have names that all stand in one row of a table that goes by it,
+# and so could it be with SipHash, if its key were known. This finds such names of seven bytes, for the kit's hash and, fewer, for
+# SipHash with a key of zeros, and translates files of fields and of variables with them and with other names, replays texts of
+# Boogie with variables of these names, and cuts texts with locals and with procedures of these names. Of locals only names that
+# begin with an `a` are in a table, as the other names here do, and the first quarter of those for the kit's hash.
+# Each line has the kind of names, the bytes, and the processor seconds of one call with other names, with those for the kit's hash,
+# and with those for SipHash, of which there are enough for the shortest texts. To find the names takes some five minutes on four
+# cores, and needs `cc`.
 #
 # Give the program, if it is not the proved one: bench/names.sh PROGRAM
 set -eu
@@ -47,6 +49,44 @@ int main(int count, char **words) {
     find(fold(0x243f6a8885a308d3 ^ 7, factor ^ 16), 0, atoi(words[2]), atoi(words[3]));
 }
 END
+
+# The same for SipHash, which takes the length as eight bytes before those of the name, for a table of up to 2^11 groups.
+cc -O3 -x c - -o "$folder/find-sip" <<'END'
+#include <stdint.h>
+#include <stdio.h>
+#include <stdlib.h>
+static const char *letters = "abcdefghijklmnopqrstuvwxyzABCDEFGHIJKLMNOPQRSTUVWXYZ_$0123456789'";
+typedef struct { uint64_t a, b, c, d; } state;
+static uint64_t turn(uint64_t x, int n) { return x << n | x >> (64 - n); }
+static state mix(state s) {
+    s.a += s.b; s.c += s.d; s.b = turn(s.b, 13) ^ s.a; s.d = turn(s.d, 16) ^ s.c; s.a = turn(s.a, 32);
+    s.c += s.b; s.a += s.d; s.b = turn(s.b, 17) ^ s.c; s.d = turn(s.d, 21) ^ s.a; s.c = turn(s.c, 32);
+    return s;
+}
+static state with_word(state s, uint64_t word) { s.d ^= word; s = mix(s); s.a ^= word; return s; }
+int main(int count, char **words) {
+    long left = atol(words[1]);
+    state begin = {0x736f6d6570736575, 0x646f72616e646f6d, 0x6c7967656e657261, 0x7465646279746573};
+    begin = with_word(begin, 7);
+    for (uint64_t number = 0; left; number++) {
+        char name[8] = "a";
+        uint64_t rest = number, word = 15ull << 56 | 'a';
+        for (int i = 1; i < 7; i++, rest /= 65) {
+            name[i] = letters[rest % 65];
+            word |= (uint64_t)(unsigned char)name[i] << 8 * i;
+        }
+        state s = with_word(begin, word);
+        s.c ^= 0xff;
+        s = mix(mix(mix(s)));
+        uint64_t hash = s.a ^ s.b ^ s.c ^ s.d;
+        if (((uint32_t)(hash ^ hash >> 32) & 0xff0007ff) == 0x41000000) {
+            puts(name);
+            left--;
+        }
+    }
+}
+END
+"$folder/find-sip" 8200 >"$folder/sip" &
 for from in 0 13 26 39; do "$folder/find" 16500 "$from" "$((from + 13))" >"$folder/found$from" & done
 wait
 cat "$folder"/found* >"$folder/chosen"
@@ -79,9 +119,11 @@ seconds() { # NAMES
     { time "$program" "${call[@]}" >/dev/null; } 2>&1
 }
 
-printf '%-10s %9s %9s %9s\n' names bytes other chosen
+printf '%-10s %9s %9s %9s %9s\n' names bytes other chosen SipHash
 for kind in fields variables Boogie locals procedures; do
     for bytes in 131072 262144 524288 1048576; do
-        printf '%-10s %9d %9s %9s\n' "$kind" "$bytes" "$(seconds "$folder/other")" "$(seconds "$folder/chosen")"
+        sip=
+        [ "$bytes" -gt 131072 ] || sip=$(seconds "$folder/sip")
+        printf '%-10s %9d %9s %9s %9s\n' "$kind" "$bytes" "$(seconds "$folder/other")" "$(seconds "$folder/chosen")" "$sip"
     done
 done

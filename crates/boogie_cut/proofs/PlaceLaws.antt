@@ -1,53 +1,79 @@
 -- The names that are taken.
-use Rattle.std.proofs.Common.{◌≡◌, ◌∙◌, ◌≤◌, ◌<◌, ◌+◌, ◌-◌, ◌||◌, ℕ, zero, suc, Bool as Truth, true, false, not, cond, Some, None, List, [], ◌∷◌, ◌++◌, map, take, get_or, length, nat_lt, if◌then◌else◌, refl, sym, ap, arith, append_assoc, append-nil}
-use Rattle.std.proofs.lemmas.Bool.Decides.{nat_tests}
-use Rattle.std.proofs.lemmas.List.Elements.{filter-append}
-use Rattle.std.specs.List.{filter, position, position_or_len}
-use Rattle.std.specs.Option.{is_some}
+use Rattle.std.proofs.Common.{◌≡◌, ◌∙◌, ◌≤◌, ◌<◌, ◌+◌, ◌-◌, ◌||◌, ℕ, zero, suc, Bool as Truth, true, false, cond, List, [], ◌∷◌, ◌++◌, map, drop, get_or, length, if◌then◌else◌, refl, sym, ap, subst, arith, append_assoc, append-nil}
+use Rattle.std.proofs.lemmas.Slice.Eq.{bytes_eq-Decides}
+use Rattle.std.specs.List.{filter, list_any}
 use Rattle.std.specs.Str.{bytes_eq}
-use Rattle.lemmas.proofs.Lists.{item_at, map_append, take_through}
+use Rattle.lemmas.proofs.Lists.{next_item, none_left}
+use Rattle.lemmas.proofs.Tests.{or_false, cond_or}
 use Rattle.boogie_tree.specs.Program as p
 use Rattle.boogie_tree.specs.Whole.{locals_of, type_of}
 use Rattle.boogie_tree.specs.declared.programs.BType.{BType}
 use Rattle.boogie_tree.specs.declared.programs.Local.{Local}
 use Rattle.boogie_cut.specs.Fresh.{numbered, is_among, free_number, fresh_locals, is_a}
-use Rattle.boogie_cut.specs.View.{a_names}
+use Rattle.boogie_cut.specs.View.{AreNoted, IsNoted, a_names}
 
 -- ---- names that are taken
 
-pub noted : (name key : List ℕ) (old new : List (List ℕ)) → is_a name ≡ true → key ≡ name → new ≡ old ++ key ∷ [] → new ≡ old ++ filter is_a (name ∷ [])
-noted name key old new is same added = added ∙ ap (λ k. old ++ k ∷ []) same ∙ sym (ap (λ b. old ++ cond b (name ∷ []) []) is)
-
-pub none_noted : (name : List ℕ) (old : List (List ℕ)) → is_a name ≡ false → old ≡ old ++ filter is_a (name ∷ [])
-none_noted name old not = sym (append-nil old) ∙ sym (ap (λ b. old ++ cond b (name ∷ []) []) not)
-
-pub noted_next : (ls : List Local) (i : ℕ) (l : Local) (old new : List (List ℕ)) → i < length ls → l ≡ get_or ls i l → old ≡ a_names (take i ls) → new ≡ old ++ filter is_a (l.name ∷ []) → new ≡ a_names (take (i + 1) ls)
-noted_next ls i l old new lt is so_far added =
-    let names : List Local → List (List ℕ) = map (λ (x : Local). x.name) in
-    added ∙ ap (λ ns. ns ++ filter is_a (l.name ∷ [])) so_far
-    ∙ sym (filter-append is_a (names (take i ls)) (l.name ∷ []))
-    ∙ sym (ap (filter is_a) (ap names (take_through ls i l (item_at ls i l lt is)) ∙ map_append (λ (x : Local). x.name) (take i ls) (l ∷ [])))
-
--- a name is among others where it has a number there
-
-first_among : (b : Truth) (k n : ℕ) → (b || nat_lt k n) ≡ nat_lt (cond (not b) (1 + k) 0) (suc n)
-first_among true k n = grind (arith, nat_tests)
-first_among false k n = by (nat_lt k n) refl
+bytes_sym : (x y : List ℕ) → bytes_eq x y ≡ bytes_eq y x
+bytes_sym x y = by (bytes_eq x y) (bytes_eq y x) refl refl
   where
-    by : (c : Truth) → nat_lt k n ≡ c → nat_lt k n ≡ nat_lt (1 + k) (suc n)
-    by true h = grind (arith, nat_tests, h)
-    by false h = grind (arith, nat_tests, h)
+    by : (a b : Truth) → bytes_eq x y ≡ a → bytes_eq y x ≡ b → bytes_eq x y ≡ bytes_eq y x
+    by true b e f = e ∙ sym ((bytes_eq-Decides y x).1 (sym ((bytes_eq-Decides x y).0 e)))
+    by false true e f = (bytes_eq-Decides x y).1 (sym ((bytes_eq-Decides y x).0 f)) ∙ sym f
+    by false false e f = e ∙ sym f
 
-among_first : (name : List ℕ) (names : List (List ℕ)) → is_among name names ≡ nat_lt (position_or_len (bytes_eq name) names) (length names)
-among_first name [] = refl
-among_first name (x ∷ xs) = ap (λ c. bytes_eq name x || c) (among_first name xs) ∙ first_among (bytes_eq name x) (position_or_len (bytes_eq name) xs) (length xs)
+or_swap : (a b c : Truth) → ((a || b) || c) ≡ (b || (a || c))
+or_swap true true c = refl
+or_swap true false c = refl
+or_swap false b c = refl
 
-pub among_is : (name : List ℕ) (names : List (List ℕ)) → is_some (position (bytes_eq name) names) ≡ is_among name names
-among_is name names = there (nat_lt (position_or_len (bytes_eq name) names) (length names)) (position_or_len (bytes_eq name) names) ∙ sym (among_first name names)
-  where
-    there : (b : Truth) (k : ℕ) → is_some (cond b (Some k) None) ≡ b
-    there true k = refl
-    there false k = refl
+pub noted : (name key : List ℕ) (old new : List (List ℕ)) → is_a name ≡ true → key ≡ name → ((other : List ℕ) → list_any (bytes_eq other) new ≡ cond (bytes_eq key other) true (list_any (bytes_eq other) old)) → IsNoted name old new 1
+noted name key old new is same inserted = record {
+  are = λ other.
+      inserted other ∙ cond_or (bytes_eq key other) (list_any (bytes_eq other) old) ∙ ap (λ k. bytes_eq k other || list_any (bytes_eq other) old) same
+      ∙ ap (λ b. b || list_any (bytes_eq other) old) (bytes_sym name other)
+      ∙ sym (ap (λ b. if b then bytes_eq other name || list_any (bytes_eq other) old else list_any (bytes_eq other) old) is);
+  count = sym (ap (λ b. if b then 1 else 0) is);
+}
+
+-- the names so far are noted, and those that are left are not yet
+pub record NotedSoFar (keys : List (List ℕ)) (many : ℕ) (rest all : List (List ℕ)) : Type 0 where
+  pub are : (name : List ℕ) → (list_any (bytes_eq name) keys || is_among name rest) ≡ is_among name all
+  pub count : many + length rest ≡ length all
+
+-- the first of those that are left
+noted_first : (name : List ℕ) (rest all old new : List (List ℕ)) (many n : ℕ) (b : Truth) → is_a name ≡ b → NotedSoFar old many (cond b (name ∷ rest) rest) all → IsNoted name old new n → NotedSoFar new (many + n) rest all
+noted_first name rest all old new many n true is so_far h =
+    let one : n ≡ 1 = h.count ∙ ap (λ b. if b then 1 else 0) is in
+    let long = so_far.count in
+    record {
+      are = λ other.
+          ap (λ b. b || is_among other rest) (h.are other ∙ ap (λ b. if b then bytes_eq other name || list_any (bytes_eq other) old else list_any (bytes_eq other) old) is)
+          ∙ or_swap (bytes_eq other name) (list_any (bytes_eq other) old) (is_among other rest) ∙ so_far.are other;
+      count = omega (arith, one, long);
+    }
+noted_first name rest all old new many n false is so_far h =
+    let none : n ≡ 0 = h.count ∙ ap (λ b. if b then 1 else 0) is in
+    let long = so_far.count in
+    record {
+      are = λ other.
+          ap (λ b. b || is_among other rest) (h.are other ∙ ap (λ b. if b then bytes_eq other name || list_any (bytes_eq other) old else list_any (bytes_eq other) old) is)
+          ∙ so_far.are other;
+      count = omega (arith, none, long);
+    }
+
+pub noted_next : (ls : List Local) (i : ℕ) (l : Local) (all old new : List (List ℕ)) (many n next : ℕ) → i < length ls → l ≡ get_or ls i l → next ≡ many + n → NotedSoFar old many (a_names (drop i ls)) all →
+    IsNoted l.name old new n → NotedSoFar new next (a_names (drop (i + 1) ls)) all
+noted_next ls i l all old new many n next lt is sum so_far h =
+    subst (λ k. NotedSoFar new k (a_names (drop (i + 1) ls)) all) (sym sum)
+    (noted_first l.name (a_names (drop (i + 1) ls)) all old new many n (is_a l.name) refl (subst (λ xs. NotedSoFar old many (a_names xs) all) (next_item ls i l lt is) so_far) h)
+
+pub all_noted : (ls : List Local) (i many : ℕ) (keys all : List (List ℕ)) → length ls ≤ i → NotedSoFar keys many (a_names (drop i ls)) all → AreNoted keys many all
+all_noted ls i many keys all end h =
+    let none = none_left ls i end in
+    let g = subst (λ xs. NotedSoFar keys many (a_names xs) all) none h in
+    let long = g.count in
+    record { are = λ name. sym (or_false (list_any (bytes_eq name) keys)) ∙ g.are name; count = omega (arith, long) }
 
 -- ---- the first free number
 

@@ -1,6 +1,7 @@
 -- What contracts see while a program is written.
-use Rattle.std.specs.Prelude.{◌≡◌, ℕ, ◌++◌, List, [], ◌∷◌, map, length}
-use Rattle.std.specs.List.{filter}
+use Rattle.std.specs.Prelude.{◌≡◌, ℕ, ◌||◌, ◌+◌, ◌++◌, List, [], ◌∷◌, map, length, if◌then◌else◌}
+use Rattle.std.specs.List.{filter, list_any}
+use Rattle.std.specs.Str.{bytes_eq}
 use Rattle.boogie_tree.specs.Program as p
 use Rattle.boogie_tree.specs.Stmt.{BStmts}
 use Rattle.boogie_tree.specs.Whole.{type_of}
@@ -10,8 +11,9 @@ use Rattle.boogie_wide.specs.Procedures.{wide_types}
 use Rattle.boogie_wide.specs.Wide as w
 use Rattle.boogie_wide.specs.View.{clause_of}
 use Rattle.boogie_wide.specs.declared.wide.Clause.{Clause}
+use Rattle.boogie_wide.specs.declared.wide.WProc.{WProc}
 use Rattle.boogie_cut.specs.Cut.{Written, join, stands_for, cut, cut_body}
-use Rattle.boogie_cut.specs.Fresh.{is_a}
+use Rattle.boogie_cut.specs.Fresh.{is_a, is_among}
 use Rattle.boogie_cut.specs.declared.copies.Names.{Names}
 use Rattle.boogie_cut.specs.declared.copies.Names.TheVariants.{Own, Of}
 
@@ -55,6 +57,16 @@ abbrev mutual
 
 abbrev pub a_names : List Local → List (List ℕ)
 a_names locals = filter is_a (map (λ l. l.name) locals)
+
+-- these are all of the names, and there are so many of them
+pub record AreNoted (keys : List (List ℕ)) (many : ℕ) (names : List (List ℕ)) : Type 0 where
+  pub are : (name : List ℕ) → list_any (bytes_eq name) keys ≡ is_among name names
+  pub count : many ≡ length names
+
+-- the name is noted where it begins with an `a`
+pub record IsNoted (name : List ℕ) (old new : List (List ℕ)) (n : ℕ) : Type 0 where
+  pub are : (other : List ℕ) → list_any (bytes_eq other) new ≡ (if is_a name then bytes_eq other name || list_any (bytes_eq other) old else list_any (bytes_eq other) old)
+  pub count : n ≡ (if is_a name then 1 else 0)
 
 -- ---- procedures
 

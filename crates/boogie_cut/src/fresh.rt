@@ -1,15 +1,15 @@
 // Names of further locals.
 ghost use Rattle.std.specs.Prelude.{◌≡◌, ◌+◌, ◌++◌, ◌∷◌, [], length, IfOk, OnOk};
-ghost use Rattle.std.specs.List.{filter};
 ghost use Rattle.boogie_tree.specs.Whole.{local_of, locals_of, type_of};
 ghost use Rattle.boogie_cut.specs.Fresh.{free_number, fresh_locals, is_a, is_among, numbered};
-ghost use Rattle.boogie_cut.specs.View.{a_names, types_of_all};
+ghost use Rattle.boogie_cut.specs.View.{AreNoted, IsNoted, a_names, types_of_all};
 
 use crate::copies::bases;
 use crate::pieces::behind;
 use boogie_tree::{BType, Local};
-use name_table::NameTable;
+use indexmap::IndexSet;
 use std::alloc::Global;
+use symbol_table::{Digest, NameKey};
 use vb_base::{Ident, Memory};
 
 /// Whether a name begins with an `a`, as numbered ones do.
@@ -22,23 +22,34 @@ fn is_a(name: &Ident) -> bool
     }
 }
 
+/// A key that comes of the names of all these.
+fn key_of(locals: &[Local]) -> NameKey {
+    let mut digest = Digest::new();
+    for local in locals {
+        digest.add(local.name.bytes());
+    }
+    digest.key()
+}
+
 /// Those of the locals' names that begin with an `a`.
 #[derive(Drop)]
 struct Taken<'a> {
     locals: &'a [Local],
-    names: NameTable,
-    ghost are_names: { names ≡ a_names locals.now },
+    names: IndexSet<Ident, NameKey>,
+    /// How many locals have them.
+    many: usize,
+    ghost are_noted: { AreNoted names.keys many (a_names locals.now) },
 }
 
-/// Adds the name where it begins with an `a`.
-fn note(name: &Ident, names: &mut NameTable) -> Result<(), Memory>
-    ensures { OnOk result (names.new ≡ names.old ++ filter is_a (name.now ∷ [])) }
+/// Notes the name where it begins with an `a`. What is given back is how many were noted.
+fn note(name: &Ident, names: &mut IndexSet<Ident, NameKey>) -> Result<usize, Memory>
+    ensures { IfOk result (λ n. IsNoted name.now names.old.keys names.new.keys n) }
 {
     if !is_a(name) {
-        return Ok(());
+        return Ok(0);
     }
-    names.add(name.copy()?)?;
-    Ok(())
+    names.insert(name.copy()?)?;
+    Ok(1)
 }
 
 impl<'a> Taken<'a> {
@@ -46,23 +57,29 @@ impl<'a> Taken<'a> {
     fn of(alloc: Global, locals: &'a [Local]) -> Result<Taken<'a>, Memory>
         ensures { IfOk result (λ taken. taken.locals.now ≡ locals.now) }
     {
-        let mut names = NameTable::new(alloc);
+        let mut names = IndexSet::with_hasher(alloc, key_of(locals));
+        let mut many = 0;
         for local in locals {
-            note(&local.name, &mut names)?;
+            let new = note(&local.name, &mut names)?;
+            many = behind(many, new)?;
         }
-        Ok(Taken { locals, names })
+        Ok(Taken {
+            locals,
+            names,
+            many,
+        })
     }
 
     fn len(&self) -> usize
         ensures { result ≡ length (a_names self.now.locals.now) }
     {
-        self.names.len()
+        self.many
     }
 
     fn has(&self, name: &Ident) -> bool
         ensures { result ≡ is_among name.now (a_names self.now.locals.now) }
     {
-        self.names.number_of(name.bytes()).is_some()
+        self.names.contains(name)
     }
 }
 

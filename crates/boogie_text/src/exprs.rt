@@ -218,7 +218,7 @@ fn quantified<'a>(
     ensures shorter { IfOk result (λ r. length r.1.now < length tokens.now) }
     ensures reads { Parses boxed_of (quantifying (scope_of scope.entry)) tokens.now result }
 {
-    let mut bound = Names::new(alloc);
+    let mut bound = Names::new(alloc, scope.locals.key());
     binding(alloc, scope, &mut bound, tokens)
 }
 

@@ -11,7 +11,7 @@ use crate::stmts::statements;
 use boogie_grammar::eating::{Read, eat_word, need_sign};
 use boogie_grammar::new_names::new_name;
 use boogie_grammar::scopes::Names;
-use boogie_grammar::{BSign, PlacedLexeme, Word};
+use boogie_grammar::{BSign, PlacedLexeme, Word, key_of};
 use boogie_tree::Proc;
 use std::alloc::Global;
 use vb_base::pushed;
@@ -30,7 +30,7 @@ pub(crate) fn procedure<'a>(
     let (_, rest) = need_sign(BSign::OpenParen, rest)?;
     let (_, rest) = need_sign(BSign::CloseParen, rest)?;
     let (_, rest) = need_sign(BSign::OpenBrace, rest)?;
-    let mut names = Names::new(alloc);
+    let mut names = Names::new(alloc, taken.key());
     let (vars, rest) = locals(alloc, &mut names, rest)?;
     let (body, rest) = statements(alloc, &names, rest)?;
     Ok((
@@ -47,7 +47,7 @@ pub(crate) fn procedure<'a>(
 pub(crate) fn procedures<'a>(alloc: Global, tokens: &'a [PlacedLexeme]) -> Read<'a, Vec<Proc>>
     ensures reads { Parses all_procs_of (g.rule (g.Program [])) tokens.now result }
 {
-    let mut names = Names::new(alloc);
+    let mut names = Names::new(alloc, key_of(tokens));
     let mut all = Vec::new(alloc);
     let mut rest = tokens;
     while let Some(after) = eat_word(Word::Procedure, rest) {

@@ -30,7 +30,7 @@ pub(crate) fn whole_expr<'a>(
     ensures shorter { IfOk result (λ r. length r.1.now < length tokens.now) }
     ensures reads { Parses expr_of (g.rule (g.Expr (no_bound locals.now))) tokens.now result }
 {
-    let others = Names::new(alloc);
+    let others = Names::new(alloc, locals.key());
     let scope = Scope {
         locals,
         others: &others,
@@ -49,7 +49,7 @@ fn whole_exprs<'a>(
     ensures shorter { IfOk result (λ r. length r.1.now < length tokens.now) }
     ensures reads { Parses all_exprs_of (g.rule (g.Exprs (no_bound locals.now))) tokens.now result }
 {
-    let others = Names::new(alloc);
+    let others = Names::new(alloc, locals.key());
     let scope = Scope {
         locals,
         others: &others,

@@ -20,6 +20,7 @@ use boogie_grammar::{BSign, BoogieFault};
 use boogie_tree::{BExpr, Local};
 use grammar::Stop;
 use std::alloc::Global;
+use symbol_table::{Digest, NameKey};
 use vb_base::{Memory, Pos};
 
 /// An expression, and the number of the first token after it.
@@ -98,9 +99,10 @@ fn found_before(
     requires differ { NamesDiffer (local_names (locals_of locals.now)) }
     ensures { IfOk result (λ r. Finds (scope_before (local_names (locals_of locals.now)) known) (map token_of tokens.now) (found_of r.0) r.1) }
 {
-    let mut names = Names::new(alloc);
+    let key = key_of(locals, tokens);
+    let mut names = Names::new(alloc, key);
     add_names(&mut names, &locals[..known])?;
-    let mut others = Names::new(alloc);
+    let mut others = Names::new(alloc, key);
     add_names(&mut others, &locals[known..])?;
     let scope = Scope {
         locals: &names,
@@ -108,6 +110,20 @@ fn found_before(
         bound: &[],
     };
     found(alloc, scope, tokens)
+}
+
+/// A key that comes of the names of these locals, and of those in the expression with which the tokens begin.
+fn key_of(locals: &[Local], tokens: &[BToken]) -> NameKey {
+    let mut digest = Digest::new();
+    for local in locals {
+        digest.add(local.name.bytes());
+    }
+    for token in &tokens[..extent(tokens)] {
+        if let BTok::Name(name) = &token.tok {
+            digest.add(name.bytes());
+        }
+    }
+    digest.key()
 }
 
 /// The names of these locals, which differ.

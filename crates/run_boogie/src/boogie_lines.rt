@@ -13,9 +13,9 @@ ghost use Rattle.run_words.specs.Text.{words_of};
 
 use crate::boogie_values::{entry, has_base, scalar};
 use boogie_tree::{BChoice, BScalar, Entry, Local};
-use name_table::NameTable;
 use run_words::{FirstWord, Names, next_word, numbered, single, truth};
 use std::alloc::Global;
+use symbol_table::{Digest, NameKey, SymbolTable};
 use vb_base::Memory;
 
 /// What the lines of a file for one procedure may name: its variables.
@@ -30,11 +30,20 @@ pub(crate) fn local_names(alloc: Global, locals: &[Local]) -> Result<Names, Memo
     requires { NamesDiffer (known (locals_of locals.now)).names }
     ensures { IfOk result (λ x. x ≡ (known (locals_of locals.now)).names) }
 {
-    let mut known = NameTable::new(alloc);
+    let mut known = SymbolTable::new(alloc, key_of(locals));
     for local in locals {
         known.add(local.name.copy()?)?;
     }
     Ok(Names::of_table(known))
+}
+
+/// A key that comes of the names of all these.
+fn key_of(locals: &[Local]) -> NameKey {
+    let mut digest = Digest::new();
+    for local in locals {
+        digest.add(local.name.bytes());
+    }
+    digest.key()
 }
 
 /// The first word of a line.

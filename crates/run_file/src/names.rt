@@ -7,9 +7,9 @@ ghost use Rattle.viper_core.specs.View.{method_of, predicate_of, program_of};
 ghost use Rattle.run_file.specs.Lines as l;
 ghost use Rattle.run_file.specs.LineView.{lent_names};
 
-use name_table::NameTable;
 use run_words::Names;
 use std::alloc::Global;
+use symbol_table::{Digest, NameKey, SymbolTable};
 use vb_base::{Ident, Memory};
 use vb_value::{Layout, Ty};
 use viper_core::{Method, Predicate, Program, Unit};
@@ -31,11 +31,20 @@ pub(crate) fn predicate_names(alloc: Global, predicates: &[Predicate]) -> Result
     requires { NamesDiffer (map (λ (d : p.Predicate). d.name) (map predicate_of predicates.now)) }
     ensures { IfOk result (λ x. x ≡ map (λ (d : p.Predicate). d.name) (map predicate_of predicates.now)) }
 {
-    let mut known = NameTable::new(alloc);
+    let mut known = SymbolTable::new(alloc, key_of(predicates));
     for predicate in predicates {
         known.add(predicate.name.copy()?)?;
     }
     Ok(Names::of_table(known))
+}
+
+/// A key that comes of the names of all these.
+fn key_of(predicates: &[Predicate]) -> NameKey {
+    let mut digest = Digest::new();
+    for predicate in predicates {
+        digest.add(predicate.name.bytes());
+    }
+    digest.key()
 }
 
 /// The names and types of the variables that an opening of a unit sets.

@@ -18,6 +18,7 @@ use boogie_text::{Outside, next_outside};
 use boogie_tree::BProgram;
 use run_boogie::{boogie_run_name, read_boogie_run};
 use std::alloc::Global;
+use symbol_table::{Digest, NameKey};
 use vb_base::{Ident, Memory, pushed};
 
 /// The outcome of the procedure that a run file names, of the program of a file, on the run of the run file, where both
@@ -88,7 +89,8 @@ fn made_alone(
     requires { FitsTask task }
     ensures { IfOk result (λ o. IfSome o (IsMadeAlone text.now name.now task.entry)) }
 {
-    let mut names = Names::new(alloc);
+    let key = key_of(text);
+    let mut names = Names::new(alloc, key);
     let mut tokens = Vec::new(alloc);
     let mut kept = None;
     let mut rest = text;
@@ -99,7 +101,8 @@ fn made_alone(
             Outside::Procedure(found, inside) => {
                 names.add(found.copy()?)?;
                 let wanted = is_this(&found, name);
-                let Some((made, after)) = made_of(alloc, task, wanted, found, inside, &mut tokens)?
+                let Some((made, after)) =
+                    made_of(alloc, key, task, wanted, found, inside, &mut tokens)?
                 else {
                     return Ok(None);
                 };
@@ -108,6 +111,13 @@ fn made_alone(
             }
         }
     }
+}
+
+/// A key that comes of a text.
+fn key_of(text: &[u8]) -> NameKey {
+    let mut digest = Digest::new();
+    digest.add(text);
+    digest.key()
 }
 
 /// Whether a name is this one.
@@ -130,6 +140,7 @@ fn first_of(kept: Option<Made>, made: Option<Made>) -> Option<Made>
 /// What is made of a procedure whose head has this name, if it is wanted, and the text behind it, if it is one and well-typed.
 fn made_of<'a>(
     alloc: Global,
+    key: NameKey,
     task: Task<'_>,
     wanted: bool,
     name: Ident,
@@ -139,7 +150,7 @@ fn made_of<'a>(
     requires { FitsTask task }
     ensures { IfOk result (λ o. IfSome o (λ r. IsPassed (IsMade task.entry) wanted name text.now r.0 r.1.now)) }
 {
-    let Some(begun) = begun_of(alloc, name, text, tokens)? else {
+    let Some(begun) = begun_of(alloc, key, name, text, tokens)? else {
         return Ok(None);
     };
     if !wanted {

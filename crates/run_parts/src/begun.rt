@@ -9,6 +9,7 @@ use boogie_run::have_keys;
 use boogie_text::next_local;
 use boogie_tree::Proc;
 use std::alloc::Global;
+use symbol_table::NameKey;
 use vb_base::{Ident, Memory, pushed};
 
 /// A procedure of which no statement is read yet.
@@ -22,16 +23,18 @@ pub(crate) struct Begun<'a> {
     pub(crate) rest: &'a [u8],
 }
 
-/// The procedure whose head has this name, and behind whose head this text stands, if the types of its locals are types.
+/// The procedure whose head has this name, and behind whose head this text stands, if the types of its locals are types. Their
+/// names are hashed by this key.
 pub(crate) fn begun_of<'a>(
     alloc: Global,
+    key: NameKey,
     name: Ident,
     text: &'a [u8],
     tokens: &mut Vec<PlacedLexeme>,
 ) -> Result<Option<Begun<'a>>, Memory>
     ensures { IfOk result (λ o. IfSome o (λ f. Begins name text.now (proc_of f.proc) f.names f.rest.now)) }
 {
-    let mut names = Names::new(alloc);
+    let mut names = Names::new(alloc, key);
     let mut locals = Vec::new(alloc);
     let mut rest = text;
     while let Some((local, after)) = next_local(alloc, &names, rest, tokens)? {

@@ -6,15 +6,15 @@ ghost use Rattle.run_words.specs.Reading.{number_of, numbered_name};
 ghost use Rattle.run_words.specs.Text.{words_of};
 
 use crate::texts::next_word;
-use name_table::NameTable;
 use std::alloc::Global;
 use std::marker::Model;
+use symbol_table::{Digest, NameKey, SymbolTable};
 use vb_base::{Ident, Memory};
 
 /// Names that differ, each with its number. Contracts see the list of them.
 #[derive(Drop)]
 pub struct Names {
-    names: NameTable,
+    names: SymbolTable,
 }
 
 impl Model for Names {
@@ -31,7 +31,7 @@ impl Names {
         requires { NamesDiffer names.now }
         ensures { IfOk result (λ x. x ≡ names.now) }
     {
-        let mut known = NameTable::new(alloc);
+        let mut known = SymbolTable::new(alloc, key_of(names));
         for name in names {
             known.add(name.copy()?)?;
         }
@@ -39,7 +39,7 @@ impl Names {
     }
 
     /// The names of a table.
-    pub fn of_table(names: NameTable) -> Names
+    pub fn of_table(names: SymbolTable) -> Names
         ensures { result ≡ names }
     {
         Names { names }
@@ -49,8 +49,17 @@ impl Names {
     pub fn number_of(&self, word: &[u8]) -> Option<usize>
         ensures { result ≡ number_of self.now word.now }
     {
-        self.names.number_of(word)
+        self.names.number_of_bytes(word)
     }
+}
+
+/// A key that comes of all these names.
+fn key_of(names: &[Ident]) -> NameKey {
+    let mut digest = Digest::new();
+    for name in names {
+        digest.add(name.bytes());
+    }
+    digest.key()
 }
 
 /// The name with which the words of a line begin, as its number, and the rest of the line.

@@ -11,7 +11,7 @@ ghost use Rattle.viper_types.specs.Stepping as s;
 use std::alloc::Global;
 use vb_base::{Ident, Memory, Pos};
 use vb_value::Ty;
-use viper_scope::{Rule, RuleFault, Scope, Variable, next_number, type_of};
+use viper_scope::{Rule, RuleFault, Scope, Variable, World, next_number, type_of};
 use viper_syntax::Formal;
 
 /// The variables of a method so far.
@@ -32,13 +32,13 @@ pub struct Target {
 }
 
 impl Frame {
-    /// No variables.
-    pub fn new(alloc: Global) -> Frame
+    /// No variables. Their names are hashed as those of the declarations.
+    pub fn new(alloc: Global, world: &World) -> Frame
         ensures { frame_of result ≡ no_frame }
     {
         Frame {
             vars: Vec::new(alloc),
-            scope: Scope::new(alloc),
+            scope: Scope::new(alloc, world.roles.key()),
         }
     }
 

@@ -207,7 +207,7 @@ pub fn method(
         part,
         lists,
     };
-    let mut params = Frame::new(alloc);
-    let mut frame = Frame::new(alloc);
+    let mut params = Frame::new(alloc, world);
+    let mut frame = Frame::new(alloc, world);
     method_in(alloc, &context, &mut params, &mut frame, method)
 }

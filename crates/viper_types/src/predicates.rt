@@ -102,7 +102,7 @@ pub fn predicate(
 ) -> Result<Predicate, RuleFault>
     ensures { Answers core.predicate_of (j.predicate_typing (world_of world.now) at name.now params.now (option_map term_of body.now)) result }
 {
-    let mut frame = Frame::new(alloc);
+    let mut frame = Frame::new(alloc, world);
     predicate_in(alloc, world, &mut frame, at, name, params, body)
 }
 

@@ -95,7 +95,7 @@ fn targeted<'a>(within: Within<'_>, i: usize, tokens: &'a [PlacedLexeme]) -> Rea
         return Ok((WStmt::Call(none, name, arguments), rest));
     }
     let (all, rest) = targets(within.alloc, within.locals, i, tokens)?;
-    let none = Names::new(within.alloc);
+    let none = Names::new(within.alloc, within.locals.key());
     let (name, rest) = new_name(within.alloc, &none, within.words, rest)?;
     let (_, rest) = need_sign(BSign::OpenParen, rest)?;
     let (arguments, rest) = given(within, rest)?;

@@ -36,11 +36,11 @@ fn add_once(all: &mut Names, name: &Ident) -> Result<(), Memory>
     Ok(())
 }
 
-/// These names as a table. A name may stand twice among them.
-fn table(alloc: Global, names: &[Ident]) -> Result<Names, Memory>
+/// These names as a table, hashed as others. A name may stand twice among them.
+fn table(alloc: Global, names: &[Ident], others: &Names) -> Result<Names, Memory>
     ensures { IfOk result (λ all. (x : List ℕ) → is_among x all ≡ is_among x names.now) }
 {
-    let mut all = Names::new(alloc);
+    let mut all = Names::new(alloc, others.key());
     let mut left = names;
     while let Some((first, rest)) = left.split_first() {
         add_once(&mut all, first)?;
@@ -152,7 +152,7 @@ pub(crate) fn vars<'a>(
     ensures names { IfOk result (λ r. AreNames names.new (locals_of r.0.items)) }
     ensures reads { Parses all_locals_of (g.rule (g.Vars bound.now (locals_of before.items))) tokens.now result }
 {
-    let others = table(alloc, bound)?;
+    let others = table(alloc, bound, names)?;
     let mut all = before;
     let mut rest = tokens;
     while let Some(after) = eat_word(Word::Var, rest) {

@@ -16,7 +16,7 @@ use crate::reserved::{Reserved, Within, new_name};
 use crate::stmts::statements;
 use boogie_grammar::eating::{Read, eat_sign, eat_word, need_sign};
 use boogie_grammar::scopes::Names;
-use boogie_grammar::{BSign, PlacedLexeme, Word};
+use boogie_grammar::{BSign, PlacedLexeme, Word, key_of};
 use boogie_tree::Local;
 use boogie_wide::{WProc, WStmt};
 use std::alloc::Global;
@@ -96,7 +96,7 @@ fn procedure<'a>(
     ensures reads { Parses wproc_of (g.rule (g.Procedure taken.now)) tokens.now result }
 {
     let (name, rest) = new_name(alloc, taken, words, tokens)?;
-    let mut names = Names::new(alloc);
+    let mut names = Names::new(alloc, taken.key());
     let (front, rest) = read_head(alloc, &mut names, words, rest)?;
     let (whole, rest) = read_contents(alloc, &mut names, words, front.locals, rest)?;
     Ok((
@@ -117,8 +117,8 @@ fn procedure<'a>(
 pub(crate) fn procedures<'a>(alloc: Global, tokens: &'a [PlacedLexeme]) -> Read<'a, Vec<WProc>>
     ensures reads { Parses all_wprocs_of (g.rule (g.Programs [])) tokens.now result }
 {
-    let words = Reserved::new(alloc)?;
-    let mut names = Names::new(alloc);
+    let mut names = Names::new(alloc, key_of(tokens));
+    let words = Reserved::new(alloc, &names)?;
     let mut all = Vec::new(alloc);
     let mut rest = tokens;
     while let Some(after) = eat_word(Word::Procedure, rest) {

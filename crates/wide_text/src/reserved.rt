@@ -30,9 +30,9 @@ impl Model for Reserved {
 }
 
 impl Reserved {
-    /// All of them.
-    pub(crate) fn new(alloc: Global) -> Result<Reserved, Memory> {
-        let mut names = Names::new(alloc);
+    /// All of them, hashed as these names.
+    pub(crate) fn new(alloc: Global, others: &Names) -> Result<Reserved, Memory> {
+        let mut names = Names::new(alloc, others.key());
         add_word(alloc, &mut names, WideWord::While)?;
         add_word(alloc, &mut names, WideWord::Call)?;
         add_word(alloc, &mut names, WideWord::Invariant)?;
@@ -84,7 +84,7 @@ pub(crate) fn new_name<'a>(
     ensures shorter { IfOk result (λ r. length r.1.now < length tokens.now) }
     ensures takes { Takes (a_new_name (taken.now ++ wide_words)) tokens.now result }
 {
-    let none = Names::new(alloc);
+    let none = Names::new(alloc, taken.key());
     let scope = Scope {
         locals: taken,
         others: words.names(),

@@ -17,5 +17,5 @@ loop-local-preserved c =
     let names = (known (locals_of c.args.locals.now)).names in
     let is : c.local-item.result ≡ get_or c.args.locals.now c.loop-local.local-index c.local-item.result = c.local-item.is in
     let within : c.loop-local.local-index < length names = simp length-map c.loop-local-test.true in
-    c.in_ok-add.ensures.ok ∙ one_more_name names c.loop-local.known c.loop-local.local-index c.in_ok-copy.field-0 within c.loop-local.invariant
+    c.in_ok-add.ensures.ok ∙ one_more_name names c.loop-local.known c.loop-local.local-index c.in_ok-copy.field-0 c.requires within c.loop-local.invariant
     (c.in_ok-copy.ensures ∙ named_at c.args.locals.now c.loop-local.local-index c.local-item.result c.loop-local-test.true is)

@@ -17,5 +17,5 @@ loop-predicate-preserved c =
     let names = map (λ (d : p.Predicate). d.name) (map predicate_of c.args.predicates.now) in
     let is : c.predicate-item.result ≡ get_or c.args.predicates.now c.loop-predicate.predicate-index c.predicate-item.result = c.predicate-item.is in
     let within : c.loop-predicate.predicate-index < length names = simp length-map c.loop-predicate-test.true in
-    c.in_ok-add.ensures.ok ∙ one_more_name names c.loop-predicate.known c.loop-predicate.predicate-index c.in_ok-copy.field-0 within c.loop-predicate.invariant
+    c.in_ok-add.ensures.ok ∙ one_more_name names c.loop-predicate.known c.loop-predicate.predicate-index c.in_ok-copy.field-0 c.requires within c.loop-predicate.invariant
     (c.in_ok-copy.ensures ∙ named_at c.args.predicates.now c.loop-predicate.predicate-index c.predicate-item.result c.loop-predicate-test.true is)
