@@ -17,11 +17,7 @@ pub fn file_of_run(alloc: Global, call: &Call) -> Result<Option<MemFile>, Fault>
 }
 
 fn copied(alloc: Global, call: &Call, name: &[u8]) -> Result<Option<MemFile>, Fault> {
-    let Some(file) = call
-        .files
-        .iter()
-        .find(|file| file.name.as_slice() == name)
-    else {
+    let Some(file) = call.files.iter().find(|file| file.name.as_slice() == name) else {
         return Ok(None);
     };
     Ok(Some(MemFile {
