@@ -17,16 +17,16 @@ use Rattle.boogie_meaning.specs.Types.{IsTyped}
 use Rattle.enc_expr.specs.Place.{Maps, number}
 use Rattle.moves.specs.Scalars.{base_for}
 use Rattle.moves.specs.Maps.{index_types, heap_type, mask_type, amount_type, content_type, state_types}
-use Rattle.enc_expr.specs.Code.{Code, join, declares, puts}
+use Rattle.enc_expr.specs.Code.{Code, join, declares}
 use Rattle.enc_expr.specs.Nodes.{stmts_nodes, written}
 use Rattle.enc_expr.specs.Typed.{HasStateTypes, IsTypedPiece}
 use Rattle.enc_expr.proofs.KeyedCode.{IsKeyed, states_keyed, gives_keyed, then_keyed, puts_keyed}
 use Rattle.enc_expr.proofs.TypedPieces.{IsTypedCode, Any, one_typed, gives_typed, then_typed, declares_typed, puts_typed}
 use Rattle.enc_expr.proofs.TypedCode.{more_state_types}
-use Rattle.enc_expr.proofs.ShallowPieces as low
-use Rattle.enc_expr.proofs.ShallowPieces.{IsLowCode, gives_low, then_low, declares_low}
+use Rattle.enc_expr.proofs.ShallowCode.{brackets}
 use Rattle.enc_expr.proofs.SmallPieces.{join_nodes}
 use Rattle.enc_assert.specs.Encoding.{forget_map, forget_heaps, forget_contents, forget_code}
+use Rattle.enc_assert.proofs.PropertyAssertions.{forget_has}
 use Rattle.enc_assert.proofs.TypedAssertions.{piece_typed}
 
 -- ---- types
@@ -101,22 +101,6 @@ contents_all_keyed m (us ∷ kss) i h = then_keyed (map_keyed (content_type us) 
 pub forget_keyed : (layout : Layout) (m : Maps) → HaveKeys (state_types layout) → IsKeyed (forget_code layout m)
 forget_keyed layout m keys = then_keyed (heaps_keyed m layout.fields 0) (λ z. contents_all_keyed m layout.keys 0 (contents_keyed layout keys))
 
--- ---- brackets
-
-map_low : (u : BType) (held old : ℕ) → IsLowCode 4 low.Any (forget_map u held old)
-map_low u held old = then_low 4 (declares_low 4 u) (λ new any. put new)
-  where
-    put : (new : ℕ) → IsLowCode 4 low.Any (puts None (pattern.forget_code u.keys held old new))
-    put new = record { stmts = λ n. omega arith; value = λ n. tt }
-
-heaps_low : (m : Maps) (us : List Ty) (i : ℕ) → IsLowCode 4 low.Any (forget_heaps m us i)
-heaps_low m [] i = gives_low 4 tt
-heaps_low m (u ∷ us) i = then_low 4 (map_low (heap_type u) (number m.mask i) (number m.heap i)) (λ z any. heaps_low m us (i + 1))
-
-contents_low : (m : Maps) (kss : List (List Ty)) (i : ℕ) → IsLowCode 4 low.Any (forget_contents m kss i)
-contents_low m [] i = gives_low 4 tt
-contents_low m (us ∷ kss) i = then_low 4 (map_low (content_type us) (number m.amount i) (number m.content i)) (λ z any. contents_low m kss (i + 1))
-
 -- ---- nodes
 
 then_nodes : {X Y : Type 0} (a : Code X) (c : Code Y) → stmts_nodes (join a.stmts c.stmts) + length (a.locals ++ c.locals) ≡ written a + written c
@@ -139,7 +123,7 @@ forget_typed p m ts formed h = let keys = states_keyed p formed.typed in let us 
     piece_typed ts (forget_code p.layout m) (forget_keyed p.layout m keys) (forget_code_typed (ts ++ us) p.layout m keys (more_state_types ts us p.layout m h))
 
 pub forget_shallow : (layout : Layout) (m : Maps) (n : ℕ) → stmts_depth (forget_code layout m n).stmts ≤ 4
-forget_shallow layout m n = (then_low 4 (heaps_low m layout.fields 0) (λ z any. contents_low m layout.keys 0)).stmts n
+forget_shallow layout m n = (forget_has brackets layout m (record { heap = tt; contents = λ q us there. tt })).stmts n
 
 pub forget_linear : (layout : Layout) (m : Maps) (n : ℕ) → written (forget_code layout m n) ≡ 13 * (length layout.fields + length layout.keys)
 forget_linear layout m n = let first = forget_heaps m layout.fields 0 n in

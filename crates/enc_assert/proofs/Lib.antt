@@ -20,6 +20,7 @@ pub mod ForgetSimulation
 pub mod WalkLaws
 pub mod TypedTargets
 pub mod TypedAssertions
+pub mod PropertyAssertions
 pub mod ShallowAssertions
 pub mod SmallAssertions
 pub mod ForgetCode

@@ -1,5 +1,5 @@
 -- What the calls write can be spelled.
-use Rattle.std.proofs.Common.{List, None, length}
+use Rattle.std.proofs.Common.{List, None, length, arith}
 use Rattle.viper_core.specs.Expr as e
 use Rattle.viper_core.specs.Formed.{IsFormed}
 use Rattle.viper_core.specs.Typing.{Context, IsAssertion}
@@ -8,28 +8,30 @@ use Rattle.boogie_tree.specs.Literals.{AreBound, LiteralsFit}
 use Rattle.boogie_tree.specs.Program.{BType}
 use Rattle.boogie_tree.specs.declared.exprs.BBase.TheVariants as base
 use Rattle.boogie_meaning.specs.Types.{HasType}
-use Rattle.enc_expr.specs.Code.{gives}
 use Rattle.enc_expr.specs.Fits.{FitsPiece}
 use Rattle.enc_expr.specs.Literals.{AssertionLiteralsFit}
 use Rattle.enc_expr.specs.Place.{Maps, Place}
 use Rattle.enc_expr.specs.ReadOff.{kinds_at, HasNumbers}
 use Rattle.enc_expr.specs.Typed.{HasPlaceTypes}
-use Rattle.enc_expr.proofs.LiteralPieces.{Any, EmittingFits, gives_fits, then_fits, puts_fits, atomic_fits}
+use Rattle.enc_expr.proofs.Property.{Property}
+use Rattle.enc_expr.proofs.PropertyPieces.{Any, then_has}
+use Rattle.enc_expr.proofs.LiteralCode.{top, literals, EmittingFits}
 use Rattle.enc_expr.proofs.PrintedCode.{body_literals, block_fits}
-use Rattle.enc_assert.specs.Calls.{scale_code, produce_call, consume_call, forget_call}
+use Rattle.enc_assert.specs.Calls.{produce_call, consume_call, forget_call}
 use Rattle.enc_assert.specs.Encoding.{produce_code, consume_code}
 use Rattle.enc_assert.specs.Typed.{HasHeldTypes}
 use Rattle.enc_assert.proofs.LiteralAssertions.{produce_fits, consume_fits, forget_fits, keys_bound}
+use Rattle.enc_assert.proofs.PropertyAssertions.{scale_has}
 use Rattle.enc_assert.proofs.TypedCalls.{produce_call_typed, consume_call_typed, forget_call_typed}
 
-scale_fits : (x : t.BExpr) → LiteralsFit x → EmittingFits AreBound LiteralsFit (scale_code x)
-scale_fits x h = then_fits AreBound (atomic_fits AreBound (record { expr = x; base = base.Real }) h) (λ a k. then_fits AreBound {go = λ u. gives a.expr} (puts_fits AreBound None a.sets k.sets) (λ u any. gives_fits AreBound k.expr))
+abbrev K : Property
+K = literals AreBound
 
 produce_call_fits : (us : List BType) (p : Place) (x : t.BExpr) (a : e.Assertion) → AssertionLiteralsFit a → LiteralsFit x → EmittingFits AreBound Any (produce_call us p x a)
-produce_call_fits us p x a l h = then_fits AreBound {go = λ q. produce_code (kinds_at p us) p None q a} (scale_fits x h) (λ q k. produce_fits AreBound (kinds_at p us) p None q a l k)
+produce_call_fits us p x a l h = then_has K top {go = λ q. produce_code (kinds_at p us) p None q a} (scale_has K top 0 x (omega arith) h) (λ q k. produce_fits AreBound (kinds_at p us) p None q a l k)
 
 consume_call_fits : (us : List BType) (p : Place) (left : Maps) (x : t.BExpr) (a : e.Assertion) → AssertionLiteralsFit a → LiteralsFit x → EmittingFits AreBound Any (consume_call us p left x a)
-consume_call_fits us p left x a l h = then_fits AreBound {go = λ q. consume_code (kinds_at p us) p left None q a} (scale_fits x h) (λ q k. consume_fits AreBound (kinds_at p us) p left None q a l k)
+consume_call_fits us p left x a l h = then_has K top {go = λ q. consume_code (kinds_at p us) p left None q a} (scale_has K top 0 x (omega arith) h) (λ q k. consume_fits AreBound (kinds_at p us) p left None q a l k)
 
 module _ (c : Context) (p : Place) (us : List BType) (formed : IsFormed c.program) (x : t.BExpr) (a : e.Assertion) (typed : IsAssertion c a) (h : HasPlaceTypes c p us) (many : HasNumbers c p)
     (scales : HasType us None x base.Real) (literals : LiteralsFit x) where

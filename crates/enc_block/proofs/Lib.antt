@@ -21,8 +21,8 @@ pub mod BlockLaws
 pub mod TypedStatements
 pub mod EmittedCalls
 pub mod EmittedStatements
-pub mod ShallowStatements
+pub mod PropertyStatements
+pub mod ShallowParts
 pub mod PartLaws
 pub mod KeyedStatements
 pub mod SmallStatements
-pub mod ShallowFolds

@@ -12,9 +12,10 @@ pub mod TypedPieces
 pub mod TypedForms
 pub mod KeyedCode
 pub mod TypedCode
-pub mod ShallowPieces
+pub mod Property
+pub mod PropertyPieces
+pub mod PropertyForms
 pub mod ShallowCode
-pub mod LiteralPieces
 pub mod LiteralCode
 pub mod PrintedCode
 pub mod SmallPieces

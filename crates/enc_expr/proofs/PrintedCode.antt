@@ -26,8 +26,7 @@ use Rattle.enc_expr.proofs.TypedCode.{expression_typed, filling_typed}
 use Rattle.enc_expr.specs.Literals.{ViperLiteralsFit, AssertionLiteralsFit}
 use Rattle.enc_expr.specs.Fits.{FitsPiece, FitsCode}
 use Rattle.boogie_meaning.proofs.FitsLaws.{expression_fits, statements_fit}
-use Rattle.enc_expr.proofs.LiteralPieces.{zero_fits, one_fits}
-use Rattle.enc_expr.proofs.LiteralCode.{code_fits, body_fits}
+use Rattle.enc_expr.proofs.LiteralCode.{zero_fits, one_fits, code_fits, body_fits}
 
 -- ---- the literals of a formed program
 

@@ -4,6 +4,7 @@ pub mod CountedLaws
 pub mod FoldLaws
 pub mod UnfoldLaws
 pub mod TypedFold
+pub mod PropertyFold
 pub mod ShallowFold
 pub mod SmallFold
 pub mod CallLaws

@@ -1,7 +1,5 @@
 -- The code of folding and unfolding can be spelled.
-use Rattle.std.proofs.Common.{ℕ, Bool as Truth, true, false, List, None, length, if◌then◌else◌}
-use Rattle.vb_base.specs.declared.labels.Kind.TheVariants as kind
-use Rattle.vb_value.specs.declared.values.Ty.{Ty}
+use Rattle.std.proofs.Common.{Bool as Truth, true, false, List, None, length, if◌then◌else◌, arith}
 use Rattle.vb_value.specs.declared.values.Ty.TheVariants as ty
 use Rattle.viper_core.specs.declared.exprs.Op.{Op}
 use Rattle.viper_core.specs.Expr as e
@@ -12,31 +10,26 @@ use Rattle.viper_core.specs.Typing.{Context, IsFold}
 use Rattle.viper_core.proofs.FormedLaws.{predicate_body_of_typed}
 use Rattle.viper_meaning.specs.Operators.{Class, Lazy, Division, Plain, class_of}
 use Rattle.boogie_tree.specs.Expr as t
-use Rattle.boogie_tree.specs.Literals.{IsLiteral, AreBound}
+use Rattle.boogie_tree.specs.Literals.{IsLiteral, IndexHas, AreBound}
 use Rattle.boogie_tree.specs.Program.{BType}
-use Rattle.boogie_tree.specs.Stmt as s
-use Rattle.boogie_tree.specs.Values.{plain_type}
 use Rattle.boogie_tree.specs.declared.exprs.BBase.{BBase}
-use Rattle.boogie_tree.specs.declared.exprs.BBase.TheVariants as base
 use Rattle.boogie_tree.specs.declared.exprs.BOp.TheVariants as op
 use Rattle.enc_expr.specs.Fits.{FitsPiece}
 use Rattle.enc_expr.specs.Literals.{ViperLiteralsFit, AssertionLiteralsFit}
-use Rattle.enc_expr.specs.Place.{Maps, Place, number, with_now, with_vars}
+use Rattle.enc_expr.specs.Place.{Place, number, with_now, with_vars}
 use Rattle.enc_expr.specs.Kinds.{Kinds, kinds_in, type_at, body_kinds}
-use Rattle.enc_expr.specs.Code.{join, gives}
-use Rattle.enc_expr.specs.Pieces.{Operand, index, label, at_one, one, zero_real, one_real, is_one, check_positive}
-use Rattle.enc_expr.specs.Encoding.{copies, held_check, taken_amount, taking, leaf, fill_instance_code}
+use Rattle.enc_expr.specs.Pieces.{Operand, at_one, zero_real, is_one}
+use Rattle.enc_expr.specs.Encoding.{leaf}
 use Rattle.enc_expr.specs.Plain.{plain_by, plain, plain_more, plain_index, plain_amount, contained_by, content_expr}
 use Rattle.enc_expr.specs.Typed.{HasPlaceTypes}
-use Rattle.enc_expr.proofs.LiteralCode.{operand_fits, quotient_fits, code_fits, codes_fit, body_fits}
-use Rattle.enc_expr.proofs.LiteralPieces.{zero_fits, one_fits, join_fits, index_fits, check_positive_fits, copies_fit, fill_instance_fits, Any, OperandFits, EmittingFits, ExprFits, IndexFits, BlockFits, gives_fits, then_fits, declares_fits, declares_all_fits, puts_fits, atomic_fits, located_fits}
+use Rattle.enc_expr.proofs.PropertyPieces.{Any}
+use Rattle.enc_expr.proofs.LiteralCode.{top, literals, zero_fits, leaf_fits, ExprFits, OperandFits, EmittingFits, operand_fits, quotient_fits, code_fits, codes_fit, body_fits}
 use Rattle.enc_expr.proofs.PrintedCode.{literals_hold, body_literals, expression_literals, block_fits}
 use Rattle.viper_core.proofs.LiteralLaws.{exprs_literals}
-use Rattle.enc_assert.specs.Encoding.{consume_code}
 use Rattle.enc_assert.proofs.LiteralAssertions.{consume_fits}
-use Rattle.enc_fold.specs.Saved.{held_types, held_from, copy_held, saving}
-use Rattle.enc_fold.specs.Encoding.{closing_code, fold_code, unfold_code}
+use Rattle.enc_fold.specs.Encoding.{fold_code, unfold_code}
 use Rattle.enc_fold.specs.Spelled.{FoldLiteralsFit}
+use Rattle.enc_fold.proofs.PropertyFold.{fold_has, unfold_has}
 use Rattle.enc_fold.proofs.TypedFold.{fold_typed, unfold_typed}
 
 module _ (B : List BBase → Type 0) where
@@ -62,11 +55,11 @@ module _ (B : List BBase → Type 0) where
     plain_fits k p (e.Old a) h = plain_fits k (with_now p.old p) a h
     plain_fits k p (e.Unfolding (e.opened q args amount body inner at)) h = plain_fits k p inner h.3
 
-  more_fit : (k : Kinds) (p : Place) (xs : e.Exprs) → AllExprsLiterals IsLiteral (λ q. IsLiteral q.num) xs → IndexFits B (plain_more k p xs)
+  more_fit : (k : Kinds) (p : Place) (xs : e.Exprs) → AllExprsLiterals IsLiteral (λ q. IsLiteral q.num) xs → IndexHas IsLiteral B (plain_more k p xs)
   more_fit k p e.none h = tt
   more_fit k p (e.more a rest) h = (plain_fits k p a h.0, more_fit k p rest h.1)
 
-  index_of_fits : (k : Kinds) (p : Place) (xs : e.Exprs) → AllExprsLiterals IsLiteral (λ q. IsLiteral q.num) xs → IndexFits B (plain_index k p xs)
+  index_of_fits : (k : Kinds) (p : Place) (xs : e.Exprs) → AllExprsLiterals IsLiteral (λ q. IsLiteral q.num) xs → IndexHas IsLiteral B (plain_index k p xs)
   index_of_fits k p e.none h = (zero_fits, tt)
   index_of_fits k p (e.more a rest) h = more_fit k p (e.more a rest) h
 
@@ -81,17 +74,11 @@ module _ (B : List BBase → Type 0) where
       by_literal true = i
       by_literal false = ((h, zero_fits), i, tt)
 
-  leaf_fits : (u : Ty) (x : t.BExpr) → ExprFits B x → ExprFits B (leaf u x)
-  leaf_fits ty.Int x h = h
-  leaf_fits ty.Bool x h = h
-  leaf_fits ty.Ref x h = h
-  leaf_fits ty.Perm x h = h
-
   content_fits : (k : Kinds) (p : Place) (a : e.Assertion) → AssertionLiteralsFit a → ExprFits B (content_expr k p a)
   content_fits k p (e.Fact a at) h = tt
   content_fits k p (e.Acc a f m at) h =
       let x = at_one (number p.now.heap f) (plain k p a).expr in
-      contained_fits (plain_amount k p m) (leaf (type_at k.layout.fields f) x) (amount_of_fits k p m h.1) (leaf_fits (type_at k.layout.fields f) x (plain_fits k p a h.0, tt))
+      contained_fits (plain_amount k p m) (leaf (type_at k.layout.fields f) x) (amount_of_fits k p m h.1) (leaf_fits B (type_at k.layout.fields f) x (plain_fits k p a h.0, tt))
   content_fits k p (e.Inst q args m at) h = contained_fits (plain_amount k p m) (t.At (number p.now.content q) (plain_index k p args)) (amount_of_fits k p m h.1) (index_of_fits k p args h.0)
   content_fits k p (e.And a b) h = (content_fits k p a h.0, content_fits k p b h.1)
   content_fits k p (e.Implies a b) h = (plain_fits k p a h.0, content_fits k p b h.1, tt)
@@ -99,40 +86,14 @@ module _ (B : List BBase → Type 0) where
 
   -- ---- folding and unfolding
 
-  pub saving_fits : (k : Kinds) (m : Maps) → EmittingFits B Any (saving k.layout m)
-  saving_fits k m = then_fits B (declares_all_fits B (held_types k.layout)) (λ n any. then_fits B {go = λ u. gives (held_from k.layout m n)}
-      (puts_fits B None (copy_held (held_from k.layout m n) m) (join_fits B (copies (held_from k.layout m n).mask m.mask 0) (copies (held_from k.layout m n).amount m.amount 0)
-      (copies_fit B (held_from k.layout m n).mask m.mask 0) (copies_fit B (held_from k.layout m n).amount m.amount 0))) (λ u any. gives_fits B {x = held_from k.layout m n} tt))
+  module _ (k : Kinds) (p : Place) (f : FoldStmt) (body : e.Assertion) (h : FoldLiteralsFit f) (i : AssertionLiteralsFit body) where
+    pub fold_code_fits : EmittingFits B Any (fold_code k p f body)
+    fold_code_fits = fold_has (literals B) top k p f body 0 (omega arith) (omega arith) (codes_fit B k p None f.args h.args) (code_fits B k p None f.amount h.amount)
+        (λ start is q j. consume_fits B (body_kinds k f.predicate) (with_vars is (with_now start p)) p.now None q body i j) (λ start is. content_fits (body_kinds k f.predicate) (with_vars is (with_now start p)) body i)
 
-  module _ (k : Kinds) (p : Place) where
-    closing_fits : (q : ℕ) (body : e.Assertion) (is : List ℕ) (amount : t.BExpr) → AssertionLiteralsFit body → ExprFits B amount → EmittingFits B Any (closing_code k p q body is amount)
-    closing_fits q body is amount h i =
-        then_fits B (saving_fits k p.now) (λ start any.
-        let place = with_vars is (with_now start p) in
-        let consumed : EmittingFits B Any (consume_code (body_kinds k q) place p.now None amount body) = consume_fits B (body_kinds k q) place p.now None amount body h i in
-        then_fits B {P = Any} consumed (λ u any. then_fits B (declares_fits B (plain_type base.Snap)) (λ x any.
-        puts_fits B None (s.first (s.Assign x (content_expr (body_kinds k q) place body)) (fill_instance_code p one_real q (index is) amount x))
-        (content_fits (body_kinds k q) place body h, fill_instance_fits B p one_real q (index is) amount x one_fits (index_fits B is) i))))
-
-    pub fold_code_fits : (f : FoldStmt) (body : e.Assertion) → FoldLiteralsFit f → AssertionLiteralsFit body → EmittingFits B Any (fold_code k p f body)
-    fold_code_fits f body h i =
-        then_fits B (codes_fit B k p None f.args h.args) (λ xs j. then_fits B (code_fits B k p None f.amount h.amount) (λ m l. then_fits B (located_fits B xs j) (λ z q. then_fits B (atomic_fits B m l) (λ a r.
-        let check = check_positive (label p f.place kind.Amount) a.expr in
-        then_fits B (puts_fits B None (join z.sets (join a.sets check)) (join_fits B z.sets (join a.sets check) q (join_fits B a.sets check r.sets (check_positive_fits B (label p f.place kind.Amount) a.expr r.expr)))) (λ u any.
-        closing_fits f.predicate body z.locals a.expr i r.expr)))))
-
-    pub unfold_code_fits : (f : FoldStmt) (body : e.Assertion) → FoldLiteralsFit f → AssertionLiteralsFit body → EmittingFits B Any (unfold_code k p f body)
-    unfold_code_fits f body h i =
-        then_fits B (codes_fit B k p None f.args h.args) (λ xs j. then_fits B (code_fits B k p None f.amount h.amount) (λ m l. then_fits B (located_fits B xs j) (λ z q. then_fits B (atomic_fits B m l) (λ a r.
-        then_fits B (declares_fits B (plain_type base.Snap)) (λ from any.
-        let key = index z.locals in let fits = index_fits B z.locals in
-        let check = check_positive (label p f.place kind.Amount) a.expr in let held = held_check (label p f.place kind.Perm) (number p.now.amount f.predicate) key a.expr in
-        let taken = taken_amount (number p.now.amount f.predicate) key a.expr in let last = one (s.Assign from (t.At (number p.now.content f.predicate) key)) in
-        let take = taking p p.now s.skip f.predicate key a.expr from f.place in
-        let takes : BlockFits B take = join_fits B check (join held (join s.skip (join taken last))) (check_positive_fits B (label p f.place kind.Amount) a.expr r.expr)
-        (join_fits B held (join s.skip (join taken last)) ((fits, r.expr), tt) (join_fits B taken last ((fits, (fits, r.expr)), tt) (fits, tt))) in
-        then_fits B (puts_fits B None (join z.sets (join a.sets take)) (join_fits B z.sets (join a.sets take) q (join_fits B a.sets take r.sets takes))) (λ u any.
-        body_fits B (body_kinds k f.predicate) (with_vars z.locals p) None a.expr body from i r.expr))))))
+    pub unfold_code_fits : EmittingFits B Any (unfold_code k p f body)
+    unfold_code_fits = unfold_has (literals B) top k p f body 0 (omega arith) (omega arith) (codes_fit B k p None f.args h.args) (code_fits B k p None f.amount h.amount)
+        (λ is q from j. body_fits B (body_kinds k f.predicate) (with_vars is p) None q body from i j)
 
 -- ---- what is promised
 

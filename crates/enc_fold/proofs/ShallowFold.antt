@@ -3,8 +3,7 @@
 -- for three levels.
 use Rattle.std.proofs.Common.{◌≡◌, ◌+◌, ◌*◌, ◌≤◌, max, ℕ, Bool as Truth, true, false, List, Some, None, slice_get, if◌then◌else◌, ◌⊎◌, inl, inr, refl, ap, sym, subst, arith}
 use Rattle.std.proofs.lemmas.Option.{get_or_from_slice_get}
-use Rattle.vb_base.specs.declared.labels.Kind.TheVariants as kind
-use Rattle.vb_value.specs.Layout.{Layout}
+use Rattle.vb_base.specs.Limits.{max_term_depth}
 use Rattle.vb_value.specs.declared.values.Ty.{Ty}
 use Rattle.vb_value.specs.declared.values.Ty.TheVariants as ty
 use Rattle.viper_core.specs.Depth.{depth, depths, amount_depth, amt_depth, assertion_depth, fold_depth}
@@ -21,27 +20,24 @@ use Rattle.viper_meaning.specs.Operators.{Class, Lazy, Division, Plain, class_of
 use Rattle.viper_meaning.proofs.TypedLaws.{keys_at}
 use Rattle.boogie_tree.specs.Expr as t
 use Rattle.boogie_tree.specs.Nested.{expr_depth, exprs_depth, stmts_depth}
-use Rattle.boogie_tree.specs.Stmt as s
-use Rattle.boogie_tree.specs.Values.{plain_type}
 use Rattle.boogie_tree.specs.declared.exprs.BBase.TheVariants as base
 use Rattle.boogie_tree.specs.declared.exprs.BOp.{BOp}
 use Rattle.boogie_tree.specs.declared.exprs.BOp.TheVariants as op
 use Rattle.moves.specs.Scalars.{base_for}
 use Rattle.enc_expr.specs.Place.{Maps, Place, number, with_now, with_vars}
 use Rattle.enc_expr.specs.Kinds.{Kinds, kinds_in, type_at, body_kinds}
-use Rattle.enc_expr.specs.Code.{join, gives, puts}
-use Rattle.enc_expr.specs.Pieces.{Operand, index, label, at_one, one, zero_real, one_real, is_one, check_positive}
+use Rattle.enc_expr.specs.Pieces.{Operand, at_one, zero_real, is_one}
 use Rattle.enc_expr.specs.Operators.{operand_of, product_operand, quotient_operand}
-use Rattle.enc_expr.specs.Encoding.{body_code, copies, held_check, taken_amount, taking, leaf, fill_instance_code}
+use Rattle.enc_expr.specs.Encoding.{code, codes, body_code, leaf}
 use Rattle.enc_expr.specs.Plain.{plain_by, plain, plain_more, plain_index, plain_amount, contained_by, content_expr}
 use Rattle.enc_expr.proofs.BaseLaws.{lazy_types, divisor_type}
-use Rattle.enc_expr.proofs.ShallowCode.{code_low, codes_low, body_low}
-use Rattle.enc_expr.proofs.ShallowPieces.{join_low, index_low, real_low, fill_instance_low, Any, IsLowCode, gives_low, then_low, declares_low, declares_all_low, puts_low, atomic_low, located_low, check_positive_low, copies_low}
+use Rattle.enc_expr.proofs.PropertyPieces.{Any, AreAll, IsCode, map_has}
+use Rattle.enc_expr.proofs.ShallowCode.{brackets, real_low, amount_few, code_low, codes_low, body_low}
 use Rattle.enc_assert.specs.Encoding.{consume_code}
 use Rattle.enc_assert.proofs.ShallowAssertions.{consume_shallow}
-use Rattle.enc_fold.specs.Saved.{held_types, held_from, copy_held, saving}
-use Rattle.enc_fold.specs.Encoding.{closing_code, fold_code, unfold_code}
+use Rattle.enc_fold.specs.Encoding.{fold_code, unfold_code}
 use Rattle.enc_fold.proofs.ClosingLaws.{kinds_of_body}
+use Rattle.enc_fold.proofs.PropertyFold.{fold_has, unfold_has}
 
 -- ---- values without checks
 
@@ -200,20 +196,6 @@ module _ (c : Context) (p : Place) (inside : allows_old c.site ≡ false) (close
   content_flat (e.Implies a d) (y.implied i j) = let h = (plain_flat a ty.Bool i).low in let k = content_flat d j in omega (arith, h, k)
   content_flat (e.ChooseAssertion a d f) (y.chosen i j k) = let h = (plain_flat a ty.Bool i).low in let l = content_flat d j in let n = content_flat f k in omega (arith, h, l, n)
 
--- ---- pieces
-
-module _ (top : ℕ) (some : 5 ≤ top) where
-  saving_low : (layout : Layout) (m : Maps) → IsLowCode top Any (saving layout m)
-  saving_low layout m = then_low top (declares_all_low top (held_types layout)) (λ n any. then_low top {go = λ u. gives (held_from layout m n)}
-      (puts_low top 2 None (copy_held (held_from layout m n) m) (join_low 2 (copies (held_from layout m n).mask m.mask 0) (copies (held_from layout m n).amount m.amount 0)
-      (copies_low (held_from layout m n).mask m.mask 0) (copies_low (held_from layout m n).amount m.amount 0)) (omega (arith, some))) (λ u any. gives_low top {x = held_from layout m n} tt))
-
-taking_low : (p : Place) (q : ℕ) (key : t.BExprs) (amount : t.BExpr) (from : ℕ) (f : FoldStmt) → exprs_depth key ≤ 0 → expr_depth amount ≤ 0 → stmts_depth (taking p p.now s.skip q key amount from f.place) ≤ 2
-taking_low p q key amount from f h i =
-    let check = check_positive (label p f.place kind.Amount) amount in let held = held_check (label p f.place kind.Perm) (number p.now.amount q) key amount in
-    let taken = taken_amount (number p.now.amount q) key amount in let last = one (s.Assign from (t.At (number p.now.content q) key)) in
-    join_low 2 check (join held (join s.skip (join taken last))) (check_positive_low (label p f.place kind.Amount) amount i) (omega (arith, h, i))
-
 -- ---- folding and unfolding
 
 module _ (c : Context) (p : Place) (formed : IsFormed c.program) (f : FoldStmt) (typed : IsFold c f) where
@@ -229,60 +211,49 @@ module _ (c : Context) (p : Place) (formed : IsFormed c.program) (f : FoldStmt) 
   body_is : IsAssertion (predicate_context c.program d) typed.body
   body_is = predicate_body_of_typed c.program formed.typed f.predicate d typed.body typed.exists typed.has_body
 
-  nested : assertion_depth typed.body ≤ 1024
-  nested = at_some (λ (b : e.Assertion). assertion_depth b ≤ 1024) d.body (predicate_of_typed c.program formed.typed f.predicate d typed.exists).nested typed.body typed.has_body
+  nested : assertion_depth typed.body ≤ max_term_depth
+  nested = at_some (λ (b : e.Assertion). assertion_depth b ≤ max_term_depth) d.body (predicate_of_typed c.program formed.typed f.predicate d typed.exists).nested typed.body typed.has_body
 
   -- four brackets for three levels of a term that may be as deep as any
   abbrev top : ℕ
-  top = max 1024 (fold_depth f) + 342
+  top = max max_term_depth (fold_depth f) + 342
 
-  -- an amount that is a literal counts nothing
-  amount_few : (a : e.Expr) → depth a ≤ max 1 (amount_depth a)
-  amount_few (e.Part q) = omega arith
-  amount_few a = omega arith
+  abbrev most : ℕ
+  most = max (depths f.args) (depth f.amount)
 
-  closing_low : (is : List ℕ) (amount : t.BExpr) → expr_depth amount ≤ 0 → IsLowCode top Any (closing_code k p f.predicate typed.body is amount)
-  closing_low is amount low =
-      then_low top {P = Any} (saving_low top (omega arith) c.program.layout p.now) (λ start any.
-      let place = with_vars is (with_now start p) in
-      let consumed : IsLowCode top Any (consume_code (body_kinds k f.predicate) place p.now None amount typed.body) = subst (λ o. IsLowCode top Any (consume_code o place p.now None amount typed.body)) (kinds_of_body c f.predicate d keys) (record {
-        stmts = λ n. let h = (consume_shallow (predicate_context c.program d) place p.now None amount typed.body n formed body_is (omega (arith, low))).stmts in omega (arith, h, nested);
+  args_low : IsCode brackets top (AreAll brackets most) (codes k p None f.args)
+  args_low = let few = amount_few f.amount in codes_low top (omega arith) c p None f.args d.params most formed typed.args (omega arith) (omega arith)
+
+  amount_low : IsCode brackets top (λ (x : Operand). expr_depth x.expr ≤ most) (code k p None f.amount)
+  amount_low = let few = amount_few f.amount in map_has brackets top (code_low top (omega arith) c p None f.amount ty.Perm formed typed.amount (omega (arith, few))) (λ x i. let a = i.low in omega (arith, a))
+
+  few_levels : most ≤ top
+  few_levels = let few = amount_few f.amount in omega (arith, few)
+
+  consumed_low : (start : Maps) (is : List ℕ) (q : t.BExpr) → expr_depth q ≤ 0 → IsCode brackets top Any (consume_code (body_kinds k f.predicate) (with_vars is (with_now start p)) p.now None q typed.body)
+  consumed_low start is q low = let place = with_vars is (with_now start p) in
+      subst (λ o. IsCode brackets top Any (consume_code o place p.now None q typed.body)) (kinds_of_body c f.predicate d keys) (record {
+        stmts = λ n. let h = (consume_shallow (predicate_context c.program d) place p.now None q typed.body n formed body_is (omega (arith, low))).stmts in omega (arith, h, nested);
         value = λ n. tt;
-      }) in
-      then_low top {P = Any} consumed (λ u any. then_low top (declares_low top (plain_type base.Snap)) (λ x any.
-      let content = content_expr (body_kinds k f.predicate) place typed.body in
-      let flat : 3 * expr_depth content ≤ 4 * assertion_depth typed.body + 2 = subst (λ o. 3 * expr_depth (content_expr o place typed.body) ≤ 4 * assertion_depth typed.body + 2) (kinds_of_body c f.predicate d keys)
-      (content_flat (predicate_context c.program d) place refl refl typed.body body_is) in
-      let fill = fill_instance_low p one_real f.predicate (index is) amount x (omega arith) (index_low is) low in
-      bare top (s.first (s.Assign x content) (fill_instance_code p one_real f.predicate (index is) amount x)) (omega (arith, flat, fill, nested)))))
-    where
-      -- under no guard there is no bracket more
-      bare : (top : ℕ) (xs : s.BStmts) → stmts_depth xs ≤ top → IsLowCode top Any (puts None xs)
-      bare top xs h = record { stmts = λ n. h; value = λ n. tt }
+      })
 
-  fold_low : IsLowCode top Any (fold_code k p f typed.body)
-  fold_low =
-      let few = amount_few f.amount in
-      then_low top (codes_low top (omega arith) c p None f.args d.params (depths f.args) formed typed.args (omega arith) (omega arith)) (λ xs h. then_low top (code_low top (omega arith) c p None f.amount ty.Perm formed typed.amount (omega (arith, few))) (λ m i.
-      then_low top (located_low top (depths f.args) xs h) (λ l j. then_low top (atomic_low top (depth f.amount) m (let a = i.low in omega (arith, a))) (λ a q.
-      let check = check_positive (label p f.place kind.Amount) a.expr in let most = max 2 (max (depths f.args) (depth f.amount)) in
-      then_low top (puts_low top most None (join l.sets (join a.sets check)) (join_low most l.sets (join a.sets check) (omega (arith, j)) (join_low most a.sets check (let b = q.sets in omega (arith, b))
-      (let b = check_positive_low (label p f.place kind.Amount) a.expr q.atom in omega (arith, b)))) (omega (arith, few))) (λ u any. closing_low l.locals a.expr q.atom)))))
+  content_low : (start : Maps) (is : List ℕ) → expr_depth (content_expr (body_kinds k f.predicate) (with_vars is (with_now start p)) typed.body) ≤ top
+  content_low start is = let place = with_vars is (with_now start p) in
+      let flat : 3 * expr_depth (content_expr (body_kinds k f.predicate) place typed.body) ≤ 4 * assertion_depth typed.body + 2 = subst (λ o. 3 * expr_depth (content_expr o place typed.body) ≤ 4 * assertion_depth typed.body + 2) (kinds_of_body c f.predicate d keys)
+      (content_flat (predicate_context c.program d) place refl refl typed.body body_is) in omega (arith, flat, nested)
 
-  unfold_low : IsLowCode top Any (unfold_code k p f typed.body)
-  unfold_low =
-      let few = amount_few f.amount in
-      then_low top (codes_low top (omega arith) c p None f.args d.params (depths f.args) formed typed.args (omega arith) (omega arith)) (λ xs h. then_low top (code_low top (omega arith) c p None f.amount ty.Perm formed typed.amount (omega (arith, few))) (λ m i.
-      then_low top (located_low top (depths f.args) xs h) (λ l j. then_low top (atomic_low top (depth f.amount) m (let a = i.low in omega (arith, a))) (λ a q.
-      then_low top (declares_low top (plain_type base.Snap)) (λ from any.
-      let take = taking p p.now s.skip f.predicate (index l.locals) a.expr from f.place in let most = max 2 (max (depths f.args) (depth f.amount)) in
-      then_low top (puts_low top most None (join l.sets (join a.sets take)) (join_low most l.sets (join a.sets take) (omega (arith, j)) (join_low most a.sets take (let b = q.sets in omega (arith, b))
-      (let b = taking_low p f.predicate (index l.locals) a.expr from f (index_low l.locals) q.atom in omega (arith, b)))) (omega (arith, few))) (λ u any.
-      subst (λ o. IsLowCode top Any (body_code o (with_vars l.locals p) None a.expr typed.body from)) (kinds_of_body c f.predicate d keys)
-      (body_low top (omega arith) (predicate_context c.program d) (with_vars l.locals p) None a.expr typed.body from formed body_is q.atom (omega (arith, nested)))))))))
+  produced_low : (is : List ℕ) (q : t.BExpr) (from : ℕ) → expr_depth q ≤ 0 → IsCode brackets top Any (body_code (body_kinds k f.predicate) (with_vars is p) None q typed.body from)
+  produced_low is q from low = subst (λ o. IsCode brackets top Any (body_code o (with_vars is p) None q typed.body from)) (kinds_of_body c f.predicate d keys)
+      (body_low top (omega arith) (predicate_context c.program d) (with_vars is p) None q typed.body from formed body_is low (omega (arith, nested)))
 
-  pub fold_shallow : (n : ℕ) → 3 * stmts_depth (fold_code k p f typed.body n).stmts ≤ 4 * max 1024 (fold_depth f) + 2
+  fold_low : IsCode brackets top Any (fold_code k p f typed.body)
+  fold_low = fold_has brackets top k p f typed.body most (omega arith) few_levels args_low amount_low consumed_low content_low
+
+  unfold_low : IsCode brackets top Any (unfold_code k p f typed.body)
+  unfold_low = unfold_has brackets top k p f typed.body most (omega arith) few_levels args_low amount_low produced_low
+
+  pub fold_shallow : (n : ℕ) → 3 * stmts_depth (fold_code k p f typed.body n).stmts ≤ 4 * max max_term_depth (fold_depth f) + 2
   fold_shallow n = let h = fold_low.stmts n in omega (arith, h)
 
-  pub unfold_shallow : (n : ℕ) → 3 * stmts_depth (unfold_code k p f typed.body n).stmts ≤ 4 * max 1024 (fold_depth f) + 2
+  pub unfold_shallow : (n : ℕ) → 3 * stmts_depth (unfold_code k p f typed.body n).stmts ≤ 4 * max max_term_depth (fold_depth f) + 2
   unfold_shallow n = let h = unfold_low.stmts n in omega (arith, h)

@@ -10,10 +10,9 @@ pub mod ExactLaws
 pub mod StepLaws
 pub mod SteppedLaws
 pub mod TextTrees
-pub mod TextStatements
 pub mod UnitCode
 pub mod TypedUnits
-pub mod ShallowUnits
+pub mod PropertyUnits
 pub mod SmallUnits
 pub mod TextUnits
 pub mod UnitNames

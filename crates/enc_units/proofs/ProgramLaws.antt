@@ -6,6 +6,7 @@ use Rattle.std.specs.Option.{option_map}
 use Rattle.std.proofs.lemmas.Option.{slice_get-get_or, slice_get-map, get_or_from_slice_get, same_Some}
 use Rattle.enc_expr.proofs.EmitLaws.{length-temporaries}
 use Rattle.lemmas.proofs.Lists.{item_there}
+use Rattle.vb_base.specs.Limits.{max_block_depth, max_unclosed_brackets}
 use Rattle.vb_base.specs.Names.{NamesDiffer}
 use Rattle.vb_base.specs.declared.labels.Label.{Label}
 use Rattle.vb_value.specs.Bound.{Unbounded}
@@ -13,7 +14,7 @@ use Rattle.viper_core.specs.Formed.{IsFormed}
 use Rattle.viper_core.specs.Program.{Program}
 use Rattle.viper_core.specs.declared.programs.Unit.{Unit}
 use Rattle.viper_meaning.specs.Units.{ViperFails}
-use Rattle.boogie_tree.specs.Nested.{proc_depth, procs_depth}
+use Rattle.boogie_tree.specs.Nested.{proc_depth, procs_depth, stmts_depth}
 use Rattle.boogie_tree.specs.Program.{BType, Local, Proc}
 use Rattle.boogie_tree.specs.Fits.{FitStmts}
 use Rattle.boogie_tree.specs.Values.{IsEnvironment, AreKeys}
@@ -36,12 +37,14 @@ use Rattle.enc_expr.specs.Front.{front_names, front_types, front_values}
 use Rattle.enc_expr.specs.Locals.{types_of_others, first_other, names_from, state_names, old_names, zero_names, fixed_names, fixed_types, named, locals_of_unit}
 use Rattle.enc_expr.proofs.FrontLaws.{front}
 use Rattle.enc_expr.proofs.PrintedCode.{block_fits}
+use Rattle.enc_expr.proofs.ShallowCode.{brackets}
+use Rattle.enc_block.proofs.ShallowParts.{top, shallow_parts}
 use Rattle.enc_text.proofs.NameLaws.{length_named, fixed_good, locals_fit, locals_differ}
 use Rattle.enc_units.specs.Translates.{program_code, text_of, IsProcedureOf, Translates}
 use Rattle.enc_locals.specs.Procedure.{front_locals, unit_name}
 use Rattle.enc_units.specs.Units.{unit_code, unit_procedure, further_types, started, ProcedureFails}
 use Rattle.enc_units.proofs.ExactLaws.{procedure_types, unit_exact, unit_transfers}
-use Rattle.enc_units.proofs.ShallowUnits.{unit_is_low}
+use Rattle.enc_units.proofs.PropertyUnits.{each_unit_has}
 use Rattle.enc_units.proofs.SmallUnits.{few_locals}
 use Rattle.enc_units.proofs.TextTrees.{block_literals, short_block}
 use Rattle.enc_units.proofs.TextUnits.{unit_text_fits}
@@ -108,8 +111,9 @@ module _ (p : Program) (formed : IsFormed p) (n : ℕ) (u : Unit) (there : slice
     body = short_block (unit_code p u (length ts)).stmts (unit_text_fits p formed n u there (length ts));
   }
 
-  procedure_low : proc_depth (unit_procedure p u) ≤ 2048
-  procedure_low = let low = unit_is_low p formed n u there (length ts) in omega (arith, low)
+  -- the code has at most 1,495 brackets open at once, and inside its braces 2,048 may be
+  procedure_low : proc_depth (unit_procedure p u) ≤ max_unclosed_brackets
+  procedure_low = let low : stmts_depth (unit_code p u (length ts)).stmts ≤ top + (1 + max_block_depth) = (each_unit_has brackets top (omega arith) shallow_parts p formed n u there).stmts (length ts) in omega (arith, low)
 
 -- those behind the first ones
 abbrev other_names : Program → Unit → List (List ℕ)
@@ -169,7 +173,7 @@ module _ (p : Program) (formed : IsFormed p) where
   spelled : BSpells (text_of p) (program_code p)
   spelled = program_spelled (program_code p) printable (each ShortProc (procedure_short p formed))
 
-  all_low : (us : List Unit) → ((n : ℕ) (u : Unit) → slice_get us n ≡ Some u → proc_depth (unit_procedure p u) ≤ 2048) → procs_depth (map (unit_procedure p) us) ≤ 2048
+  all_low : (us : List Unit) → ((n : ℕ) (u : Unit) → slice_get us n ≡ Some u → proc_depth (unit_procedure p u) ≤ max_unclosed_brackets) → procs_depth (map (unit_procedure p) us) ≤ max_unclosed_brackets
   all_low [] low = omega arith
   all_low (u ∷ us) low = let first = low 0 u refl in let rest = all_low us (λ n w there. low (suc n) w there) in omega (arith, first, rest)
 

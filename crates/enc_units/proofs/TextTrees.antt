@@ -4,8 +4,7 @@ use Rattle.std.specs.Bool.{⊤}
 use Rattle.std.proofs.Common.{◌≡◌, ◌<◌, ◌^◌, List, [], ◌∷◌, length, slice_get, ℕ, Some, arith}
 use Rattle.std.proofs.lemmas.List.{length-map}
 use Rattle.vb_value.specs.declared.values.Ty.{Ty}
-use Rattle.boogie_tree.specs.Expr as t
-use Rattle.boogie_tree.specs.Literals.{IsLiteral, ExprHas, StmtHas, BlockHas, AreBound, BlockLiteralsFit}
+use Rattle.boogie_tree.specs.Literals.{IsLiteral, BlockHas, AreBound, BlockLiteralsFit}
 use Rattle.boogie_tree.specs.Stmt as s
 use Rattle.boogie_tree.specs.declared.exprs.BBase.{BBase}
 use Rattle.boogie_tree.specs.declared.exprs.BBase.TheVariants as base
@@ -13,16 +12,12 @@ use Rattle.boogie_tree.proofs.LiteralLaws.{block_has}
 use Rattle.boogie_print.specs.Short.{AreFewBound, ShortStmts}
 use Rattle.moves.specs.Maps.{index_types}
 use Rattle.moves.specs.Scalars.{base_for}
-use Rattle.enc_assert.proofs.LiteralAssertions.{KeysFit, some_type}
+use Rattle.enc_expr.proofs.LiteralCode.{literals}
+use Rattle.enc_assert.proofs.PropertyAssertions.{KeysHave}
+use Rattle.enc_assert.proofs.LiteralAssertions.{some_type}
 
 abbrev pub AreNumbered : List BBase → Type 0
 AreNumbered us = AreBound us × AreFewBound us
-
-abbrev pub TextFits : t.BExpr → Type 0
-TextFits = ExprHas IsLiteral AreNumbered
-
-abbrev pub StmtTextFits : s.BStmt → Type 0
-StmtTextFits = StmtHas IsLiteral AreNumbered
 
 abbrev pub BlockTextFits : s.BStmts → Type 0
 BlockTextFits = BlockHas IsLiteral AreNumbered
@@ -44,8 +39,8 @@ few_types : (us : List Ty) → length us < 2 ^ 32 → length (index_types us) < 
 few_types [] few = omega arith
 few_types (u ∷ us) few = omega (arith, few, length-map us base_for)
 
-pub one_key : AreNumbered (base.Ref ∷ [])
+one_key : AreNumbered (base.Ref ∷ [])
 one_key = ((λ same. absurd cc), omega arith)
 
-pub few_keys_fit : (keys : List (List Ty)) → AreFew keys → KeysFit AreNumbered keys
+pub few_keys_fit : (keys : List (List Ty)) → AreFew keys → KeysHave (literals AreNumbered) keys
 few_keys_fit keys few = record { heap = one_key; contents = λ q us there. (some_type us, few_types us (few q us there)) }
