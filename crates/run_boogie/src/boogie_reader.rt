@@ -326,7 +326,7 @@ struct Scoped<'a> {
 impl LineReader for Scoped<'_> {
     type Run = BRun;
 
-    type Line = Line;
+    type ReadLine = Line;
 
     ghost State = { progress.Progress };
 

@@ -358,7 +358,7 @@ struct Scoped<'a> {
 impl LineReader for Scoped<'_> {
     type Run = ViperFront;
 
-    type Line = Line;
+    type ReadLine = Line;
 
     ghost State = { progress.Progress Front };
 

@@ -17,7 +17,7 @@ pub trait LineReader: Drop {
     type Run;
 
     /// What a line behind the header says.
-    type Line: Drop;
+    type ReadLine: Drop;
 
     /// How far a file is read.
     ghost State: { Type 0 };
@@ -33,7 +33,7 @@ pub trait LineReader: Drop {
 
     ghost state: { Self → State };
 
-    ghost said: { Self.Line → Said };
+    ghost said: { Self.ReadLine → Said };
 
     ghost plain: { Self.Run → Plain };
 
@@ -48,11 +48,11 @@ pub trait LineReader: Drop {
         ensures steps { Steps result ((kind self.old).header_read (state self.old) (words_of words.now)) (state self.new) };
 
     /// The line that words are behind the header, if they are one.
-    fn line_of(&self, alloc: Global, words: &[u8]) -> Result<Option<Self::Line>, Memory>
+    fn line_of(&self, alloc: Global, words: &[u8]) -> Result<Option<Self::ReadLine>, Memory>
         ensures { IfOk result (λ l. option_map said l ≡ (kind self.now).line_of (words_of words.now)) };
 
     /// Takes in what a line says. False where the line may not stand.
-    fn follow(&mut self, alloc: Global, line: Self::Line) -> Result<bool, Memory>
+    fn follow(&mut self, alloc: Global, line: Self::ReadLine) -> Result<bool, Memory>
         ensures same { OnOk result (kind self.new ≡ kind self.old) }
         ensures steps { IfOk result (λ ok. Steps ok ((kind self.old).followed (state self.old) (said line)) (state self.new)) };
 
