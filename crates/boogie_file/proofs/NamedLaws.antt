@@ -27,8 +27,7 @@ one_of_name bytes q spelled i j d e there other same =
 -- so the procedure of a name fails exactly where this one does
 pub named_fails : (bytes : List ℕ) (q : BProgram) → BSpells bytes q → (n : ℕ) (d : Proc) (label : Label) → slice_get q.procs n ≡ Some d → BoogieFails q d.name label → ProcFails d label
 named_fails bytes q spelled n d label there f =
-    subst (λ x. ProcFails x label) (one_of_name bytes q spelled f.number n f.procedure d f.is_there there f.is_named)
-    (record { environment = f.environment; is_environment = f.is_environment; choices = f.choices; are_reduced = f.are_reduced; fails = record { left = f.left; is = f.fails } })
+    subst (λ x. ProcFails x label) (one_of_name bytes q spelled f.number n f.procedure d f.is_there there f.is_named) f.fails
 
 pub has_name : (q : BProgram) (name : List ℕ) (n : ℕ) (d : Proc) → procedure_named q name ≡ Some n → slice_get q.procs n ≡ Some d → d.name ≡ name
 has_name q name n d named there =

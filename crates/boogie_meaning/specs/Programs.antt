@@ -81,18 +81,13 @@ pub record ProcFails (d : Proc) (label : Label) : Type 0 where
   pub are_reduced : All IsReducedChoice choices
   pub fails : FailsAt label (brun_proc Unbounded d environment choices)
 
--- some run of a procedure of this name fails at the label. It starts from any values of the variables, and has no bound.
+-- a procedure of this name fails so
 pub record BoogieFails (program : BProgram) (name : List ℕ) (label : Label) : Type 0 where
   pub number : ℕ
   pub procedure : Proc
   pub is_there : slice_get program.procs number ≡ Some procedure
   pub is_named : procedure.name ≡ name
-  pub environment : List BValue
-  pub is_environment : IsEnvironment (types_of procedure) environment
-  pub choices : List BChoice
-  pub are_reduced : All IsReducedChoice choices
-  pub left : List BChoice
-  pub fails : brun_proc Unbounded procedure environment choices ≡ Stops (Failed label) left
+  pub fails : ProcFails procedure label
 
 -- no run of a procedure, from any values of its variables and by any choices, with the bound or without it, is Wrong
 abbrev pub NeverWrong : BProgram → Type 0

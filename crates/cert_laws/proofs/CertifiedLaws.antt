@@ -8,7 +8,8 @@ use Rattle.boogie_print.proofs.Parsed.{one_program}
 use Rattle.boogie_tree.specs.Program.{Proc, BProgram}
 use Rattle.boogie_file.specs.Accepted.{Accepts}
 use Rattle.boogie_file.proofs.NamedLaws.{one_of_name, named_fails, has_name}
-use Rattle.cert_laws.specs.Certified.{IsCertified, IsTextOf, whole, alone, EachIsCertified}
+use Rattle.cert_tool.specs.Shown.{IsCertified}
+use Rattle.cert_laws.specs.Certified.{IsTextOf, whole, alone, EachIsCertified}
 
 -- ---- the procedure of a name
 

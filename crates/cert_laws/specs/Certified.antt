@@ -2,15 +2,7 @@
 use Rattle.std.specs.Prelude.{◌≡◌, ℕ, List, [], ◌∷◌, Some, slice_get}
 use Rattle.boogie_tree.specs.Program.{Proc, BProgram}
 use Rattle.boogie_grammar.specs.Spells.{BSpells}
-use Rattle.boogie_file.specs.Accepted.{Accepts}
-use Rattle.cert_tool.specs.Shown.{NeverFails}
-
--- what `certify` shows where it accepts a certificate: the bytes are the text of a well-typed program, and no run of its procedure
--- of this name fails
-pub record IsCertified (bytes name : List ℕ) : Type 0 where
-  pub procedure : Proc
-  pub accepted : Accepts bytes name procedure
-  pub holds : NeverFails procedure
+use Rattle.cert_tool.specs.Shown.{IsCertified}
 
 -- the text of the whole program, or of this procedure alone
 pub data IsTextOf (bytes : List ℕ) (d : Proc) : List ℕ → Type 0 where

@@ -7,11 +7,12 @@ ghost use Rattle.boogie_tree.specs.Program.{BProgram};
 ghost use Rattle.boogie_grammar.specs.Spells.{BSpells};
 ghost use Rattle.exec_meaning.specs.Frame.{NoExecutionFails};
 ghost use Rattle.enc_units.specs.Translates.{Translates};
-ghost use Rattle.vb_tool.specs.Accepted.{IsAccepted};
-ghost use Rattle.vb_tool.specs.AcceptedExecution.{IsFramed};
-ghost use Rattle.vb_tool.specs.Verified.{NoProcedureFails, HasNoFailure};
-ghost use Rattle.cert_tool.specs.Shown.{IsVerified};
-ghost use Rattle.cert_laws.specs.Certified.{IsCertified, EachIsCertified};
+ghost use Rattle.viper_file.specs.Accepted.{IsAccepted};
+ghost use Rattle.viper_file.specs.Framed.{IsFramed};
+ghost use Rattle.viper_file.specs.Verified.{HasNoFailure};
+ghost use Rattle.vb_tool.specs.Verified.{NoProcedureFails};
+ghost use Rattle.cert_tool.specs.Shown.{IsCertified, IsCertifiedFile};
+ghost use Rattle.cert_laws.specs.Certified.{EachIsCertified};
 
 /// Where each procedure of a translation is certified, by the whole text or by the text of the procedure alone, no procedure has a
 /// failing run. So no method and no predicate of the file fails, nor any method from a state that satisfies its precondition; and no
@@ -23,6 +24,6 @@ pub fn where_each_procedure_is_certified_nothing_fails()
         → EachIsCertified bytes t.boogie → HasNoFailure program }
     ensures executions { (source : List ℕ) (program : p.Program) (bytes : List ℕ) (t : Translates program bytes) → IsFramed source program
         → EachIsCertified bytes t.boogie → (b : Bound) → NoExecutionFails b program }
-    ensures calls { (files : Option Files) (file name : List ℕ) → IsVerified (IsWhole files) file name
+    ensures calls { (files : Option Files) (file name : List ℕ) → IsCertifiedFile (IsWhole files) file name
         → (bytes : List ℕ) × IsWhole files file bytes × IsCertified bytes name }
 {}

@@ -11,7 +11,7 @@ use Rattle.tool_words.specs.declared.status.Status.TheVariants as status
 use Rattle.tool_words.proofs.EndLaws.{from_causes}
 use Rattle.tool_words.proofs.FileLaws.{same_file, not_missing}
 use Rattle.cert_tool.specs.Call.{Asks, AskNothing, HasCertificate, HasLarge, large, line, of_boogie, of_certificate, IsShown, HasShown, IsCause, usage, read, refused, done, Causes, EndsAs}
-use Rattle.cert_tool.specs.Shown.{IsVerified}
+use Rattle.cert_tool.specs.Shown.{IsCertifiedFile}
 use Rattle.cert_tool.specs.declared.refusal.Refusal.{Refusal}
 use Rattle.cert_tool.specs.declared.refusal.Refusal.TheVariants as refusal
 
@@ -50,7 +50,7 @@ module _ (files : Option Files) where
       omega (arith, small, above)
 
   shown_procedure : {file name certificate : List ℕ} → IsShown files file name certificate → HasProcedure (IsWhole files) file name
-  shown_procedure h = let v = h.verified in record { bytes = v.bytes; is = v.is; procedure = v.procedure; accepted = v.accepted }
+  shown_procedure h = let v = h.verified in record { bytes = v.bytes; is = v.is; procedure = v.certified.procedure; accepted = v.certified.accepted }
 
 -- ---- statuses
 
@@ -115,7 +115,7 @@ module _ (words : List (List ℕ)) (files : Option Files) (before now : ℕ) whe
   of_done s is (done h) = h
 
   module _ (SinkFailed : Type 0) (s : Status Refusal) (causes : Causes words files before now SinkFailed s) where
-    pub verified_comes : (file name certificate : List ℕ) → Asks words file name certificate → s ≡ status.Done → IsVerified (IsWhole files) file name
+    pub verified_comes : (file name certificate : List ℕ) → Asks words file name certificate → s ≡ status.Done → IsCertifiedFile (IsWhole files) file name
     verified_comes file name certificate asks is =
         let shown = shown_this asks (of_done status.Done refl (subst (Causes words files before now SinkFailed) is causes)) in
         shown.verified

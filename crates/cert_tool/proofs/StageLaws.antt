@@ -17,7 +17,7 @@ use Rattle.certificates.specs.declared.unshown.Unshown.{Unshown}
 use Rattle.certificates.specs.declared.unshown.Unshown.TheVariants as unshown
 use Rattle.cert_tool.specs.Call.{HasCertificate, IsOfLine, of_line, IsOfCertificate, large, IsRefused, of_boogie, IsUnread, no_certificate, failed, IsShown}
 use Rattle.cert_tool.specs.Parts.{trouble_of_file, trouble_of_boogie, trouble_of_certificate}
-use Rattle.cert_tool.specs.Shown.{NeverFails}
+use Rattle.cert_tool.specs.Shown.{ProcedureNeverFails}
 use Rattle.cert_tool.specs.declared.refusal.Refusal.{Refusal}
 use Rattle.cert_tool.specs.declared.refusal.Refusal.TheVariants as refusal
 use Rattle.cert_tool.specs.declared.trouble.Trouble.TheVariants as trouble
@@ -54,9 +54,17 @@ boogie_refused files path name certificate (boogie.Refused q) r refuses is_r =
 -- ---- what both files come to
 
 module _ (files : Option Files) {path name : List ℕ} {program : BProgram} {number : ℕ} (found : IsFound (IsWhole files) path name program number) where
-  pub found_shown : {certificate : List ℕ} → ((d : Proc) → slice_get program.procs number ≡ Some d → NeverFails d) → HasCertificate (IsWhole files) certificate → IsShown files path name certificate
+  pub found_shown : {certificate : List ℕ} → ((d : Proc) → slice_get program.procs number ≡ Some d → ProcedureNeverFails d) → HasCertificate (IsWhole files) certificate → IsShown files path name certificate
   found_shown never there = record {
-    verified = record { bytes = found.bytes; is = found.is; procedure = (found_there found).0; accepted = found_accepts found (found_there found).0 (found_there found).1; holds = never (found_there found).0 (found_there found).1 };
+    verified = record {
+      bytes = found.bytes;
+      is = found.is;
+      certified = record {
+        procedure = (found_there found).0;
+        accepted = found_accepts found (found_there found).0 (found_there found).1;
+        holds = never (found_there found).0 (found_there found).1;
+      };
+    };
     is_there = there;
   }
 

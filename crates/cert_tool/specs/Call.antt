@@ -12,7 +12,7 @@ use Rattle.tool_words.specs.Ends.{OutOf}
 use Rattle.tool_words.specs.Status.{kind_of}
 use Rattle.tool_words.specs.declared.status.Status.{Status}
 use Rattle.tool_words.specs.declared.status.Status.TheVariants.{Done, Refused, Usage, ReadFault}
-use Rattle.cert_tool.specs.Shown.{IsVerified}
+use Rattle.cert_tool.specs.Shown.{IsCertifiedFile}
 use Rattle.cert_tool.specs.Status.{line_of}
 use Rattle.cert_tool.specs.declared.refusal.Refusal.{Refusal}
 use Rattle.cert_tool.specs.declared.refusal.Refusal.TheVariants.{Boogie, CertificateSize, Certificate}
@@ -66,7 +66,7 @@ pub data IsUnread (files : Option Files) (file name certificate : List ℕ) (bef
 
 -- the certificate shows that no run of the procedure fails
 pub record IsShown (files : Option Files) (file name certificate : List ℕ) : Type 0 where
-  pub verified : IsVerified (IsWhole files) file name
+  pub verified : IsCertifiedFile (IsWhole files) file name
   pub is_there : HasCertificate (IsWhole files) certificate
 
 -- the same of the call that the words ask for. Where the shelf does not tell its files, their bytes are any bytes.

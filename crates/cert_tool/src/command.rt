@@ -9,7 +9,7 @@ ghost use Rattle.tool_words.specs.Ends.{Stops};
 ghost use Rattle.tool_words.specs.Status.{kind_of};
 ghost use Rattle.tool_words.specs.Written.{Delivers, Reports};
 ghost use Rattle.cert_tool.specs.Call.{Asks, AskNothing, HasLarge, HasShown, IsCause, Causes, EndsAs, accepted_text, OutAfter, ErrAfter};
-ghost use Rattle.cert_tool.specs.Shown.{IsVerified};
+ghost use Rattle.cert_tool.specs.Shown.{IsCertifiedFile};
 ghost use Rattle.cert_tool.specs.Status.{line_of};
 
 use crate::lines::line;
@@ -33,7 +33,7 @@ pub fn tool<H: Shelf, O: Sink, E: Sink>(
 ) -> Status<Refusal>
     // Where the call is done, no run of the procedure fails.
     ensures verified { (file name certificate : List ℕ) → Asks (map string_bytes words.now.items) file name certificate
-        → result ≡ Status.Done → IsVerified (IsWhole (H.files shelf.old)) file name }
+        → result ≡ Status.Done → IsCertifiedFile (IsWhole (H.files shelf.old)) file name }
 
     // Each status has its cause.
     ensures causes { Causes (map string_bytes words.now.items) (H.files shelf.old) (H.faults shelf.old) (H.faults shelf.new)

@@ -6,7 +6,7 @@ ghost use Rattle.boogie_tree.specs.Program as p;
 ghost use Rattle.boogie_tree.specs.Whole.{program_of};
 ghost use Rattle.boogie_meaning.specs.Programs.{IsTypedProgram};
 ghost use Rattle.cert_tool.specs.Call.{HasCertificate, IsOfLine, IsOfCertificate, IsRefused, IsUnread, IsShown};
-ghost use Rattle.cert_tool.specs.Shown.{NeverFails};
+ghost use Rattle.cert_tool.specs.Shown.{ProcedureNeverFails};
 
 use crate::refusal::Refusal;
 use crate::trouble::{Trouble, unread};
@@ -30,7 +30,7 @@ pub(crate) struct Asked<'a> {
 fn show(alloc: Global, program: &BProgram, number: usize, text: &[u8]) -> Result<(), Trouble>
     requires typed { IsTypedProgram (program_of program.now) }
     requires exists { number < length (program_of program.now).procs }
-    ensures shown { IsOk result → (d : p.Proc) → slice_get (program_of program.now).procs number ≡ Some d → NeverFails d }
+    ensures shown { IsOk result → (d : p.Proc) → slice_get (program_of program.now).procs number ≡ Some d → ProcedureNeverFails d }
     ensures refused { (r : Refusal) → IsErrOf result (Trouble.Refused r) → IsOfLine r }
     ensures read { IsErrOf result Trouble.Read → ⊥ }
 {
@@ -49,7 +49,7 @@ fn certified<H: Shelf>(
 ) -> Result<(), Trouble>
     requires typed { IsTypedProgram (program_of program.now) }
     requires exists { number < length (program_of program.now).procs }
-    ensures shown { IsOk result → (d : p.Proc) → slice_get (program_of program.now).procs number ≡ Some d → NeverFails d }
+    ensures shown { IsOk result → (d : p.Proc) → slice_get (program_of program.now).procs number ≡ Some d → ProcedureNeverFails d }
     ensures is_there { IsOk result → HasCertificate (IsWhole (H.files shelf.old)) certificate.now }
     ensures refused { (r : Refusal) → IsErrOf result (Trouble.Refused r) → IsOfCertificate (H.files shelf.old) certificate.now r }
     ensures read { IsErrOf result Trouble.Read → IsMissing (H.files shelf.old) certificate.now ⊎ Rose (H.faults shelf.old) (H.faults shelf.new) }

@@ -27,7 +27,7 @@ use Rattle.cert_rules.specs.Refutes.{FollowsFrom}
 use Rattle.cert_lets.specs.Told.{AreTold}
 use Rattle.cert_lets.proofs.GivenLaws.{defined_holds}
 use Rattle.certificates.specs.Ends.{IsAlone, IsDenied}
-use Rattle.certificates.specs.Shown.{IsShown, AreShown, IsTableOf, IsRefuted, IsRight, NeverFails}
+use Rattle.certificates.specs.Shown.{IsShown, AreShown, IsTableOf, IsRefuted, IsRight, NoneCanFail}
 use Rattle.certificates.specs.declared.progress.Progress.{Progress}
 use Rattle.certificates.proofs.KindLaws.{first_type}
 
@@ -126,7 +126,7 @@ from_defined (Is known) n h = (known, refl, value_name known n (Bool true) (trut
 from_defined Over n h = absurd (cc)
 from_defined Wrong n h = absurd (cc)
 
-pub never_fails : (x : Conditions) (terms : List Term) (types : List BType) → IsTypedConditions x → IsTableOf x terms types → IsTable terms types → All (IsRefuted x terms types) x.fails → NeverFails x
+pub never_fails : (x : Conditions) (terms : List Term) (types : List BType) → IsTypedConditions x → IsTableOf x terms types → IsTable terms types → All (IsRefuted x terms types) x.fails → NoneCanFail x
 never_fails x terms types typed table is refuted label can =
     let a = can.fails.assertion in
     let known = from_defined (defined x.lets can.values) a.name can.fails.fails in

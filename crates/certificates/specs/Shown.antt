@@ -40,5 +40,5 @@ pub record IsRight (x : Conditions) (terms : List Term) (types : List BType) (sh
   pub aliases : AreTold x terms types shown.aliases.items
 
 -- no assertion can fail, whatever its label
-abbrev pub NeverFails : Conditions → Type 0
-NeverFails x = (label : Label) → CanFail x label → ⊥
+abbrev pub NoneCanFail : Conditions → Type 0
+NoneCanFail x = (label : Label) → CanFail x label → ⊥

@@ -2,7 +2,7 @@
 ghost use Rattle.std.specs.Prelude.{IsOk};
 ghost use Rattle.boogie_formula.specs.Types.{IsTypedConditions};
 ghost use Rattle.boogie_formula.specs.View.{conditions_of};
-ghost use Rattle.certificates.specs.Shown.{NeverFails};
+ghost use Rattle.certificates.specs.Shown.{NoneCanFail};
 
 use crate::ends::finish;
 use crate::laws::Scope;
@@ -58,7 +58,7 @@ pub fn check(
     bytes: &[u8],
 ) -> Result<(), Unshown>
     requires { IsTypedConditions (conditions_of conditions.now) }
-    ensures shown { IsOk result → NeverFails (conditions_of conditions.now) }
+    ensures shown { IsOk result → NoneCanFail (conditions_of conditions.now) }
 {
     let lines = body(name, bytes)?;
     let table = read_table(alloc, conditions, lines)?;

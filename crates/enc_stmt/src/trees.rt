@@ -1,7 +1,11 @@
 // The translation of a program as a tree.
-ghost use Rattle.std.specs.Prelude.{◌≡◌, ◌++◌, [], length, map, All, IfOk};
+ghost use Rattle.std.specs.Prelude.{◌≡◌, ◌<◌, ◌++◌, ◌↔◌, [], length, map, slice_get, All, IfOk, Some};
+ghost use Rattle.vb_base.specs.declared.labels.Label.{Label};
 ghost use Rattle.viper_core.specs.Formed.{IsFormed};
 ghost use Rattle.viper_core.specs.View.{program_of};
+ghost use Rattle.viper_core.specs.declared.programs.Unit.{Unit as UnitOf};
+ghost use Rattle.viper_meaning.specs.Units.{ViperFails};
+ghost use Rattle.boogie_meaning.specs.Programs.{IsTypedProc, ProcFails};
 ghost use Rattle.boogie_grammar.specs.Printed.{program_text};
 ghost use Rattle.boogie_print.specs.Printable.{IsPrintable};
 ghost use Rattle.boogie_tree.specs.Whole as boogie;
@@ -17,7 +21,7 @@ ghost use Rattle.enc_units.specs.Written.{IsStep};
 use crate::building::build_row;
 use boogie_tree::{BProgram, Proc};
 use enc_expr::{Emit, add};
-use enc_locals::{fixed_locals, unit_name};
+use enc_locals::{fixed_locals, unit_at, unit_name};
 use enc_units::{Step, Writer, unit_home, unit_steps, unit_writer};
 use std::alloc::Global;
 use vb_base::Memory;
@@ -63,6 +67,20 @@ fn procedure_of(alloc: Global, program: &Program, unit: Unit) -> Result<Proc, Me
 {
     let home = unit_home(alloc, program, unit)?;
     procedure_over(alloc, unit_writer(program, unit, &home))
+}
+
+/// The procedure of the unit of this number, from 0 on: it is well-typed, and some run of it fails at a label exactly when some run of
+/// the unit does. `Memory` where there is no memory.
+pub fn procedure_at(alloc: Global, program: &Program, unit: u32) -> Result<Proc, Memory>
+    requires formed { IsFormed (program_of program.now) }
+    requires exists { unit < length (program_of program.now).units }
+    ensures procedure { (x : UnitOf) → slice_get (program_of program.now).units unit ≡ Some x
+        → IfOk result (λ proc. boogie.proc_of proc ≡ unit_procedure (program_of program.now) x) }
+    ensures typed { IfOk result (λ proc. IsTypedProc (boogie.proc_of proc)) }
+    ensures exact { IfOk result (λ proc. (label : Label) → ProcFails (boogie.proc_of proc) label ↔ ViperFails (program_of program.now) unit label) }
+{
+    let of = unit_at(&program.units, unit as usize);
+    procedure_of(alloc, program, of)
 }
 
 /// The procedures of units.

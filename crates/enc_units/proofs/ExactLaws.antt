@@ -42,7 +42,7 @@ use Rattle.boogie_tree.specs.Stmt as s
 use Rattle.boogie_tree.specs.Value.{BChoice}
 use Rattle.boogie_tree.specs.Values.{IsReducedChoice, IsEnvironment, IsOfType}
 use Rattle.boogie_meaning.specs.Programs as b
-use Rattle.boogie_meaning.specs.Programs.{brun_proc}
+use Rattle.boogie_meaning.specs.Programs.{brun_proc, ProcFails}
 use Rattle.boogie_meaning.specs.Run as r
 use Rattle.boogie_meaning.specs.Run.{Stops, brun, then_run}
 use Rattle.moves.specs.Moves.{moves}
@@ -59,7 +59,7 @@ use Rattle.enc_assert.specs.Encoding.{produce_code}
 use Rattle.enc_assert.proofs.AlongsideLaws.{same_alongside}
 use Rattle.enc_block.specs.Encoding.{with_body, with_method, method_code}
 use Rattle.enc_block.specs.Home.{place, IsHome, HasRoom}
-use Rattle.enc_units.specs.Units.{home_of, start_code, kinds_with, with_predicate, running_code, unit_code, further_types, unit_procedure, HoldsOpening, HasZeros, started, ProcedureFails, IsExact, Transfers}
+use Rattle.enc_units.specs.Units.{home_of, start_code, kinds_with, with_predicate, running_code, unit_code, further_types, unit_procedure, HoldsOpening, HasZeros, started, IsExact, Transfers}
 use Rattle.enc_block.proofs.BlockLaws.{block_runs}
 use Rattle.enc_block.proofs.CountedLaws.{block_counted}
 use Rattle.enc_units.proofs.FailLaws.{HasFailed, fails_so, failed_back}
@@ -309,7 +309,7 @@ module _ (p : Program) (formed : IsFormed p) (u : Unit) where
 
     -- ---- both ways
 
-    from_viper : (label : Label) → ViperFails p i label → ProcedureFails (unit_procedure p u) label
+    from_viper : (label : Label) → ViperFails p i label → ProcFails (unit_procedure p u) label
     from_viper label h =
         let fits = opened_fits p i h.opening u h.opens there in let E : Env = started all_types (front_values h.opening) in
         record {
@@ -318,20 +318,22 @@ module _ (p : Program) (formed : IsFormed p) (u : Unit) where
           choices = moves h.events;
           are_reduced = moves_reduced p.layout h.events
               (subst (All (FitsEvent p.layout)) (ap events_in h.fails) (events_kept (unit_run_fits Unbounded p formed i h.opening h.opens) h.choices h.fit));
-          left = [];
-          fails = runs_as Unbounded E (moves h.events)
-              ∙ fails_from Unbounded h.opening h.choices h.events h.left label fits tt
-              (All-weaker (FitsChoice p.layout) (IsGiven Unbounded p.layout) (λ c f. record { proper = choice_proper_by Unbounded p.layout c f tt; fits = f }) h.choices h.fit) h.fails;
+          fails = record {
+            left = [];
+            is = runs_as Unbounded E (moves h.events)
+                ∙ fails_from Unbounded h.opening h.choices h.events h.left label fits tt
+                (All-weaker (FitsChoice p.layout) (IsGiven Unbounded p.layout) (λ c f. record { proper = choice_proper_by Unbounded p.layout c f tt; fits = f }) h.choices h.fit) h.fails;
+          };
         }
 
-    from_boogie : (label : Label) → ProcedureFails (unit_procedure p u) label → ViperFails p i label
+    from_boogie : (label : Label) → ProcFails (unit_procedure p u) label → ViperFails p i label
     from_boogie label h = by_zeros (zeros_or_blocked Unbounded p u (further_types p u) h.environment typed h.choices)
       where
         typed : IsEnvironment all_types h.environment
         typed = subst (λ ws. IsEnvironment ws h.environment) procedure_types h.is_environment
 
-        fails : brun all_types Unbounded whole_code h.environment h.choices ≡ Stops (r.Failed label) h.left
-        fails = sym (runs_as Unbounded h.environment h.choices) ∙ h.fails
+        fails : brun all_types Unbounded whole_code h.environment h.choices ≡ Stops (r.Failed label) h.fails.left
+        fails = sym (runs_as Unbounded h.environment h.choices) ∙ h.fails.is
 
         of_failed : (o : Opening) → FitsOpening p.layout (types_of p u) o → HasFailed Unbounded p.layout (unit_run Unbounded p i o) label → ViperFails p i label
         of_failed o fits f = record {
@@ -355,12 +357,12 @@ module _ (p : Program) (formed : IsFormed p) (u : Unit) where
               fits = opened.fits;
               proper = opening_proper_by Unbounded p.layout (types_of p u) opened.opening opened.fits tt;
             }) has_room)
-            (λ bounded. absurd (cc)) h.choices h.left label (All-weaker IsReducedChoice (IsProperMove Unbounded) move_proper h.choices h.are_reduced) fails)
+            (λ bounded. absurd (cc)) h.choices h.fails.left label (All-weaker IsReducedChoice (IsProperMove Unbounded) move_proper h.choices h.are_reduced) fails)
         by_zeros (inr stops) =
             let blocks : brun all_types Unbounded whole_code h.environment h.choices ≡ Stops r.Blocked h.choices =
             join_run all_types Unbounded (start_code p u) (running_code p u (length (fixed_types p u))).stmts h.environment h.choices
             ∙ ap (λ (x : r.Run). then_run x (λ F rest. brun all_types Unbounded (running_code p u (length (fixed_types p u))).stmts F rest)) stops in
-            let clash : Stops (r.Failed label) h.left ≡ Stops r.Blocked h.choices = sym fails ∙ blocks in absurd (cc)
+            let clash : Stops (r.Failed label) h.fails.left ≡ Stops r.Blocked h.choices = sym fails ∙ blocks in absurd (cc)
 
     pub unit_exact : IsExact p i u
     unit_exact label = (from_boogie label, from_viper label)

@@ -9,7 +9,6 @@ use Rattle.lemmas.proofs.Lists.{item_there}
 use Rattle.vb_base.specs.Limits.{max_block_depth, max_unclosed_brackets}
 use Rattle.vb_base.specs.Names.{NamesDiffer}
 use Rattle.vb_base.specs.declared.labels.Label.{Label}
-use Rattle.vb_value.specs.Bound.{Unbounded}
 use Rattle.viper_core.specs.Formed.{IsFormed}
 use Rattle.viper_core.specs.Program.{Program}
 use Rattle.viper_core.specs.declared.programs.Unit.{Unit}
@@ -17,7 +16,7 @@ use Rattle.viper_meaning.specs.Units.{ViperFails}
 use Rattle.boogie_tree.specs.Nested.{proc_depth, procs_depth, stmts_depth}
 use Rattle.boogie_tree.specs.Program.{BType, Local, Proc}
 use Rattle.boogie_tree.specs.Fits.{FitStmts}
-use Rattle.boogie_tree.specs.Values.{IsEnvironment, AreKeys}
+use Rattle.boogie_tree.specs.Values.{AreKeys}
 use Rattle.boogie_grammar.specs.Grammar.{local_names, proc_names}
 use Rattle.boogie_grammar.specs.Spells.{BSpells}
 use Rattle.boogie_print.specs.Printable.{FitsProc, IsPrintable}
@@ -27,7 +26,7 @@ use Rattle.boogie_print.specs.Short.{ShortProc}
 use Rattle.boogie_print.proofs.FreshLaws.{fewer}
 use Rattle.boogie_print.proofs.ProgramShown.{program_spelled}
 use Rattle.boogie_meaning.specs.Programs as b
-use Rattle.boogie_meaning.specs.Programs.{HaveKeys, IsTypedProc, IsTypedProgram, BoogieFails, brun_proc}
+use Rattle.boogie_meaning.specs.Programs.{HaveKeys, IsTypedProc, IsTypedProgram, BoogieFails, ProcFails, brun_proc}
 use Rattle.boogie_meaning.specs.Run.{Stops, Failed}
 use Rattle.boogie_meaning.specs.Types.{IsTyped}
 use Rattle.boogie_meaning.proofs.RunTypedLaws.{never_wrong}
@@ -42,7 +41,7 @@ use Rattle.enc_block.proofs.ShallowParts.{top, shallow_parts}
 use Rattle.enc_text.proofs.NameLaws.{length_named, fixed_good, locals_fit, locals_differ}
 use Rattle.enc_units.specs.Translates.{program_code, text_of, IsProcedureOf, Translates}
 use Rattle.enc_locals.specs.Procedure.{front_locals, unit_name}
-use Rattle.enc_units.specs.Units.{unit_code, unit_procedure, further_types, started, ProcedureFails}
+use Rattle.enc_units.specs.Units.{unit_code, unit_procedure, further_types, started}
 use Rattle.enc_units.proofs.ExactLaws.{procedure_types, unit_exact, unit_transfers}
 use Rattle.enc_units.proofs.PropertyUnits.{each_unit_has}
 use Rattle.enc_units.proofs.SmallUnits.{few_locals}
@@ -84,7 +83,7 @@ module _ (p : Program) (formed : IsFormed p) (n : ℕ) (u : Unit) (there : slice
   few : length (ts ++ us) < 2 ^ 60
   few = omega (arith, length-append ts us, few_locals p formed n u there)
 
-  procedure_typed : IsTypedProc (unit_procedure p u)
+  pub procedure_typed : IsTypedProc (unit_procedure p u)
   procedure_typed =
       let piece = unit_is_typed p formed n u there in
       record {
@@ -191,34 +190,21 @@ module _ (p : Program) (formed : IsFormed p) where
       let of = unit_of n d written in let exact = unit_exact p formed of.0 n of.1 label in
       (λ h. exact.0 (procedure_fails n of.0 d of.1 of.2 label h), λ h. boogie_fails n of.0 d written of.2 label (exact.1 h))
     where
-      procedure_fails : (n : ℕ) (u : Unit) (d : Proc) → slice_get p.units n ≡ Some u → d ≡ unit_procedure p u → (label : Label) → BoogieFails (program_code p) d.name label → ProcedureFails (unit_procedure p u) label
+      procedure_fails : (n : ℕ) (u : Unit) (d : Proc) → slice_get p.units n ≡ Some u → d ≡ unit_procedure p u → (label : Label) → BoogieFails (program_code p) d.name label → ProcFails (unit_procedure p u) label
       procedure_fails n u d there is label h =
           let of = unit_of h.number h.procedure h.is_there in
           let named : unit_name p of.0 ≡ unit_name p u = ap (λ (e : Proc). e.name) (sym of.2) ∙ (h.is_named ∙ ap (λ (e : Proc). e.name) is) in
           let number = one_unit p formed h.number n of.0 u of.1 there (unit_is p formed h.number of.0 of.1) (unit_is p formed n u there) named in
           let unit : of.0 ≡ u = same_Some _ _ (sym of.1 ∙ (ap (slice_get p.units) number ∙ there)) in
-          let same : h.procedure ≡ unit_procedure p u = of.2 ∙ ap (unit_procedure p) unit in
-          record {
-            environment = h.environment;
-            is_environment = subst (λ (e : Proc). IsEnvironment (b.types_of e) h.environment) same h.is_environment;
-            choices = h.choices;
-            are_reduced = h.are_reduced;
-            left = h.left;
-            fails = subst (λ (e : Proc). brun_proc Unbounded e h.environment h.choices ≡ Stops (Failed label) h.left) same h.fails;
-          }
+          subst (λ (e : Proc). ProcFails e label) (of.2 ∙ ap (unit_procedure p) unit) h.fails
 
-      boogie_fails : (n : ℕ) (u : Unit) (d : Proc) → slice_get (program_code p).procs n ≡ Some d → d ≡ unit_procedure p u → (label : Label) → ProcedureFails (unit_procedure p u) label → BoogieFails (program_code p) d.name label
+      boogie_fails : (n : ℕ) (u : Unit) (d : Proc) → slice_get (program_code p).procs n ≡ Some d → d ≡ unit_procedure p u → (label : Label) → ProcFails (unit_procedure p u) label → BoogieFails (program_code p) d.name label
       boogie_fails n u d written is label h = record {
         number = n;
         procedure = d;
         is_there = written;
         is_named = refl;
-        environment = h.environment;
-        is_environment = subst (λ (e : Proc). IsEnvironment (b.types_of e) h.environment) (sym is) h.is_environment;
-        choices = h.choices;
-        are_reduced = h.are_reduced;
-        left = h.left;
-        fails = subst (λ (e : Proc). brun_proc Unbounded e h.environment h.choices ≡ Stops (Failed label) h.left) (sym is) h.fails;
+        fails = subst (λ (e : Proc). ProcFails e label) (sym is) h;
       }
 
   -- ---- what is promised

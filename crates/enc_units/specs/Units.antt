@@ -4,7 +4,7 @@ use Rattle.std.specs.Prelude.{⊤, ◌≡◌, ◌↔◌, ℕ, ◌+◌, pos, fals
 use Rattle.std.specs.List.{range_with_len}
 use Rattle.sparse.specs.Map.{empty}
 use Rattle.vb_base.specs.declared.labels.Label.{Label}
-use Rattle.vb_value.specs.Bound.{Bound, Bounded, Unbounded}
+use Rattle.vb_value.specs.Bound.{Bound, Bounded}
 use Rattle.vb_value.specs.Fraction.{none}
 use Rattle.vb_value.specs.declared.values.Ty.{Ty}
 use Rattle.vb_value.specs.declared.values.Ty.TheVariants as ty
@@ -21,12 +21,11 @@ use Rattle.viper_meaning.specs.Units.{unit_run, Opens, ViperFails}
 use Rattle.boogie_tree.specs.Expr as t
 use Rattle.boogie_tree.specs.Program.{BType, Proc}
 use Rattle.boogie_tree.specs.Stmt as s
-use Rattle.boogie_tree.specs.Value.{Real, BValue, Many, BChoice}
-use Rattle.boogie_tree.specs.Values.{IsEnvironment, IsReducedChoice}
+use Rattle.boogie_tree.specs.Value.{Real, BValue, Many}
 use Rattle.boogie_tree.specs.declared.exprs.BBase.TheVariants as base
 use Rattle.boogie_meaning.specs.Patterns.{zero_code}
 use Rattle.boogie_meaning.specs.Programs as b
-use Rattle.boogie_meaning.specs.Programs.{default_value, brun_proc}
+use Rattle.boogie_meaning.specs.Programs.{default_value, brun_proc, ProcFails}
 use Rattle.boogie_meaning.specs.Run.{Stops, Failed}
 use Rattle.moves.specs.Maps.{index_types}
 use Rattle.moves.specs.Moves.{moves}
@@ -150,18 +149,9 @@ started ts vs = vs ++ map default_value (drop (length vs) ts)
 
 -- ---- what is promised
 
--- some run of the procedure fails at the label. It starts from any values of the variables, and has no bound.
-pub record ProcedureFails (d : Proc) (label : Label) : Type 0 where
-  pub environment : Env
-  pub is_environment : IsEnvironment (b.types_of d) environment
-  pub choices : List BChoice
-  pub are_reduced : All IsReducedChoice choices
-  pub left : List BChoice
-  pub fails : brun_proc Unbounded d environment choices ≡ Stops (Failed label) left
-
 -- some run of the procedure fails at a label exactly when some run of the unit does
 abbrev pub IsExact : Program → ℕ → Unit → Type 0
-IsExact p n u = (label : Label) → ProcedureFails (unit_procedure p u) label ↔ ViperFails p n label
+IsExact p n u = (label : Label) → ProcFails (unit_procedure p u) label ↔ ViperFails p n label
 
 -- A run of the unit within the bound that fails is one of its procedure: from the values of the opening, with defaults elsewhere,
 -- and on the moves of what the run recorded, of which none is left. With the bound it fails so, and without it. Choices that the

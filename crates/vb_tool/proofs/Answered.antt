@@ -27,9 +27,11 @@ use Rattle.vb_tool.proofs.ConditionVerdicts.{one_condition_refusal, condition_no
 use Rattle.vb_tool.proofs.CutVerdicts.{one_cut_refusal, cut_not_refused, one_cut}
 use Rattle.vb_tool.proofs.ExecutionVerdicts.{one_execution_refusal, execution_not_refused, one_execution}
 use Rattle.vb_tool.proofs.RunVerdicts.{one_run_refusal, run_not_refused, one_unit_run}
-use Rattle.vb_tool.proofs.Verdicts.{one_refusal, accepted_not_refused, one_accepted}
+use Rattle.viper_file.proofs.Verdicts.{one_accepted}
+use Rattle.vb_tool.proofs.Verdicts.{one_refusal, accepted_not_refused}
 use Rattle.vb_tool.specs.Accepted as accepted
-use Rattle.vb_tool.specs.Accepted.{IsAccepted, AcceptsRun, IsRefusal, IsRunRefusal}
+use Rattle.viper_file.specs.Accepted.{IsAccepted}
+use Rattle.vb_tool.specs.Accepted.{AcceptsRun, IsRefusal, IsRunRefusal}
 use Rattle.vb_tool.specs.AcceptedCondition.{AcceptsCondition, IsConditionRefusal}
 use Rattle.vb_tool.specs.AcceptedCut.{AcceptsCut, IsCutRefusal}
 use Rattle.vb_tool.specs.AcceptedExecution as execution
@@ -48,6 +50,7 @@ use Rattle.vb_tool.specs.Procedures.{ProcedureRun, procedure_end}
 use Rattle.vb_tool.specs.ReplayOutcome.{replay_status, replay_text}
 use Rattle.vb_tool.specs.Summary.{made_text}
 use Rattle.vb_tool.specs.Transfer.{IsTransfer}
+use Rattle.vb_tool.specs.Translated.{IsTranslationOfFile, IsVerifiedByText}
 use Rattle.vb_tool.specs.Units.{UnitRun, end_of}
 use Rattle.vb_tool.specs.Verified.{NoProcedureFails}
 use Rattle.vb_tool.specs.declared.status.Refusal.{Refusal}
@@ -335,6 +338,20 @@ module _ (words : List (List ℕ)) (files : Option Files) where
   -- what is promised of what was written is promised of the command that the words ask for
   promised_this : {command : Command} {s : Status} {text : List ℕ} → Asks words command → HasDone words files s text → Promises (IsWhole files) command s text
   promised_this {s = s} {text = t} asks h = subst (λ x. Promises (IsWhole files) x s t) (asked_once h.asked asks) h.promises
+
+  -- what is written for a file is a translation of it
+  pub translation_comes : (before now : Option (List ℕ)) (s : Status) → OutAfter before now (HasDone words files) s → (file : List ℕ) → Asks words (Translate file) → s ≡ status.Done →
+      (text : List ℕ) × IsTranslationOfFile (IsWhole files) file text × Appends before now text
+  translation_comes before now s out file asks is =
+      let written = subst (OutAfter before now (HasDone words files)) is out in
+      (written.0, (promised_this asks written.1).0, written.2)
+
+  -- and by it the file is verified
+  pub translation_verified : (before now : Option (List ℕ)) (s : Status) → OutAfter before now (HasDone words files) s → (file : List ℕ) → Asks words (Translate file) → s ≡ status.Done →
+      (text : List ℕ) × IsVerifiedByText (IsWhole files) file text × Appends before now text
+  translation_verified before now s out file asks is =
+      let written = subst (OutAfter before now (HasDone words files)) is out in
+      (written.0, (promised_this asks written.1).1, written.2)
 
   -- what is written of a run that failed ends with a run of Boogie that fails again
   pub transfer_comes : (before now : Option (List ℕ)) (s : Status) → OutAfter before now (HasDone words files) s → (file unit run_file : List ℕ) (label : Label) →

@@ -1,14 +1,8 @@
 -- What the stages of an execution refuse, and what they tell.
 use Rattle.std.proofs.Common.{◌≡◌, ◌∙◌, ◌≤◌, ℕ, List, length, Some, None, sym, ap, subst}
 use Rattle.vb_base.specs.declared.places.Pos.{Pos}
-use Rattle.vb_base.specs.Limits.{max_viper_bytes, max_weight}
-use Rattle.viper_syntax.specs.Decl as d
-use Rattle.viper_syntax.specs.Lexed.{IsLexed}
-use Rattle.viper_syntax.specs.declared.tokens.Token.{Token}
-use Rattle.viper_grammar.specs.Spells.{Spells}
+use Rattle.vb_base.specs.Limits.{max_viper_bytes}
 use Rattle.viper_core.specs.Program as p
-use Rattle.viper_core.specs.Weight.{weight}
-use Rattle.viper_types.specs.Program.{IsProgram}
 use Rattle.exec_words.specs.Unframed.{first_unframed}
 use Rattle.viper_exec.specs.Outcome.{end_of}
 use Rattle.run_words.specs.Answers.{UnlessMemory}
@@ -17,8 +11,9 @@ use Rattle.run_words.specs.declared.faults.RunFileFault.{RunFileFault}
 use Rattle.run_words.specs.declared.faults.RunFileFault.TheVariants as fault
 use Rattle.run_fronts.specs.Ends.{EndsSo}
 use Rattle.run_fronts.specs.declared.executions.EndedExecution.{EndedExecution}
-use Rattle.vb_tool.specs.Accepted.{IsAccepted}
-use Rattle.vb_tool.specs.AcceptedExecution.{IsFramed, IsUnframedRefusal, unframed, AcceptsExecution, IsExecutionRefusal, unread, no_method, run_syntax}
+use Rattle.viper_file.specs.Accepted.{IsAccepted}
+use Rattle.viper_file.specs.Framed.{IsFramed}
+use Rattle.vb_tool.specs.AcceptedExecution.{IsUnframedRefusal, unframed, AcceptsExecution, IsExecutionRefusal, unread, no_method, run_syntax}
 use Rattle.vb_tool.specs.Converted.{trouble_of_run}
 use Rattle.vb_tool.specs.Executions.{body_named, MethodRun, execution_end, status_of, ended_text, execution_status, execution_text}
 use Rattle.vb_tool.specs.Parts.{ExecutionOf}
@@ -54,17 +49,7 @@ execution_is bytes name run u n s text x accepts ends is_s is_text = record {
 
 -- ---- the text
 
-abbrev accepts : (bytes : List ℕ) (tokens : List Token) (source : d.SourceProgram) (q : p.Program) → length bytes ≤ max_viper_bytes → IsLexed bytes tokens → Spells tokens source →
-    IsProgram source q × (weight q ≤ max_weight) → IsAccepted bytes q
-accepts bytes tokens source q small lexed spelled typed =
-    record { small = small; tokens = tokens; lexed = lexed; source = source; spelled = spelled; is_typed = typed.0; light = typed.1 }
-
-pub framed_is : (bytes : List ℕ) (tokens : List Token) (source : d.SourceProgram) (q : p.Program) → length bytes ≤ max_viper_bytes → IsLexed bytes tokens → Spells tokens source →
-    IsProgram source q × (weight q ≤ max_weight) → first_unframed tokens ≡ None → IsFramed bytes q
-framed_is bytes tokens source q small lexed spelled typed none = record { accepted = accepts bytes tokens source q small lexed spelled typed; framed = none }
-
-pub unframed_refused : (bytes : List ℕ) (tokens : List Token) (source : d.SourceProgram) (q : p.Program) (at : Pos) (r : Refusal) → length bytes ≤ max_viper_bytes → IsLexed bytes tokens →
-    Spells tokens source → IsProgram source q × (weight q ≤ max_weight) → first_unframed tokens ≡ Some at → trouble.Refused (refusal.Unframed at) ≡ trouble.Refused r → IsUnframedRefusal bytes r
-unframed_refused bytes tokens source q at r small lexed spelled typed there is_r =
+pub unframed_refused : (bytes : List ℕ) (q : p.Program) (at : Pos) (r : Refusal) (accepted : IsAccepted bytes q) → first_unframed accepted.tokens ≡ Some at → trouble.Refused (refusal.Unframed at) ≡ trouble.Refused r → IsUnframedRefusal bytes r
+unframed_refused bytes q at r accepted there is_r =
     let same : refusal.Unframed at ≡ r = cc in
-    subst (IsUnframedRefusal bytes) same (unframed (accepts bytes tokens source q small lexed spelled typed) there)
+    subst (IsUnframedRefusal bytes) same (unframed accepted there)

@@ -14,9 +14,12 @@ use Rattle.run_file.proofs.FileLaws.{is_reader}
 use Rattle.run_file.proofs.ScopeLaws.{names_apart}
 use Rattle.vb_tool.proofs.ExecutionUnits.{number_there}
 use Rattle.vb_tool.proofs.RunVerdicts.{one_run, one_wrong, never_both}
-use Rattle.vb_tool.proofs.Verdicts.{one_accepted, accepted_text, accepted_formed, one_text_refusal, text_answer}
-use Rattle.vb_tool.specs.Accepted.{IsAccepted, IsTextRefusal, HasOneAnswer, is_accepted, is_refused}
-use Rattle.vb_tool.specs.AcceptedExecution.{IsFramed, IsUnframedRefusal, of_text, unframed, AcceptsExecution, IsExecutionRefusal, size, run_size, unread, no_method, run_syntax}
+use Rattle.viper_file.proofs.Verdicts.{one_accepted, accepted_formed}
+use Rattle.vb_tool.proofs.Verdicts.{accepted_text, one_text_refusal, text_answer}
+use Rattle.viper_file.specs.Accepted.{IsAccepted}
+use Rattle.vb_tool.specs.Accepted.{IsTextRefusal, HasOneAnswer, is_accepted, is_refused}
+use Rattle.viper_file.specs.Framed.{IsFramed}
+use Rattle.vb_tool.specs.AcceptedExecution.{IsUnframedRefusal, of_text, unframed, AcceptsExecution, IsExecutionRefusal, size, run_size, unread, no_method, run_syntax}
 use Rattle.vb_tool.specs.Executions.{body_named, MethodRun}
 use Rattle.vb_tool.specs.declared.status.Refusal.{Refusal}
 use Rattle.vb_tool.specs.declared.status.Refusal.TheVariants as refusal

@@ -8,10 +8,8 @@ use Rattle.boogie_grammar.specs.Spells.{BSpells}
 use Rattle.boogie_tree.specs.Program.{BProgram}
 use Rattle.enc_units.specs.Translates.{Translates, text_of}
 use Rattle.enc_units.proofs.ProgramLaws.{translates}
-use Rattle.exec_meaning.proofs.TopLaws.{frames_hold}
 use Rattle.exec_meaning.specs.Execution.{Went, Still, Spent, CanExecute, exec}
 use Rattle.exec_meaning.specs.Frame.{NoExecutionFails}
-use Rattle.exec_words.proofs.Programs.{texts_are_framed}
 use Rattle.run_file.proofs.SpelledLaws.{spelled_good}
 use Rattle.viper_core.specs.Program as p
 use Rattle.viper_core.specs.declared.programs.Unit.TheVariants as u
@@ -27,8 +25,10 @@ use Rattle.viper_state.specs.State.{State}
 use Rattle.vb_tool.proofs.ExecutionUnits.{can_execute}
 use Rattle.vb_tool.proofs.MovedLaws.{choice_reduced}
 use Rattle.vb_tool.proofs.VerifiedLaws.{no_unit_fails}
-use Rattle.vb_tool.proofs.Verdicts.{accepted_formed}
-use Rattle.vb_tool.specs.AcceptedExecution.{IsFramed, AcceptsExecution}
+use Rattle.viper_file.proofs.UnitLaws.{no_execution_fails}
+use Rattle.viper_file.proofs.Verdicts.{accepted_formed}
+use Rattle.viper_file.specs.Framed.{IsFramed}
+use Rattle.vb_tool.specs.AcceptedExecution.{AcceptsExecution}
 use Rattle.vb_tool.specs.Executions.{MethodRun, execution_end, execution_status, status_of}
 use Rattle.vb_tool.specs.Verified.{NoProcedureFails}
 use Rattle.vb_tool.specs.declared.status.Status.TheVariants as status
@@ -51,10 +51,8 @@ run_failed (ran events step left) label is = (events, left, ap (λ x. ran events
 -- no execution of a framed file fails
 pub nothing_executed_fails : {bytes : List ℕ} (program : p.Program) (boogie : BProgram) → IsFramed bytes program → BSpells (text_of program) boogie → NoProcedureFails boogie → NoExecutionFails Bounded program
 nothing_executed_fails program boogie h spelled nothing =
-    let formed = accepted_formed h.accepted in
-    let t : Translates program (text_of program) = translates program formed in
-    let none = no_unit_fails program (text_of program) t (subst NoProcedureFails (t.only boogie spelled) nothing) in
-    frames_hold Bounded program formed (texts_are_framed h.accepted.tokens h.accepted.source program h.framed h.accepted.spelled h.accepted.is_typed) none
+    let t : Translates program (text_of program) = translates program (accepted_formed h.accepted) in
+    no_execution_fails program h (no_unit_fails program (text_of program) t (subst NoProcedureFails (t.only boogie spelled) nothing)) Bounded
 
 module _ {bytes name run_bytes : List ℕ} {r : MethodRun} (h : AcceptsExecution bytes name run_bytes r) where
   executes : CanExecute r.program r.number r.run.opening

@@ -9,7 +9,8 @@ use Rattle.vb_made.proofs.MadePrograms.{is_made}
 use Rattle.viper_core.specs.Program as p
 use Rattle.viper_core.specs.Weight.{weight}
 use Rattle.vb_tool.proofs.Verdicts.{accepted_text}
-use Rattle.vb_tool.specs.Accepted.{IsAccepted, IsTextRefusal}
+use Rattle.viper_file.specs.Accepted.{IsAccepted}
+use Rattle.vb_tool.specs.Accepted.{IsTextRefusal}
 use Rattle.vb_tool.specs.declared.status.Refusal.{Refusal}
 
 module _ (n : ℕ) (few : n ≤ max_made_methods) where

@@ -61,7 +61,7 @@ use Rattle.enc_expr.proofs.FrontValues.{front_fits}
 use Rattle.enc_locals.specs.Procedure.{front_locals}
 use Rattle.enc_units.specs.Translates.{IsProcedureOf}
 use Rattle.vb_tool.proofs.RunOfUnits.{named_exists, opens}
-use Rattle.vb_tool.proofs.Verdicts.{accepted_formed}
+use Rattle.viper_file.proofs.Verdicts.{accepted_formed}
 use Rattle.vb_tool.specs.Accepted.{AcceptsRun}
 use Rattle.enc_locals.specs.Opened.{settings_from, start_settings, IsNamedBValue, IsNamedSetting}
 use Rattle.vb_tool.specs.Units.{UnitRun, end_of}

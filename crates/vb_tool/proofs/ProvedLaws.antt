@@ -19,18 +19,7 @@ use Rattle.vb_tool.specs.Verified.{NoProcedureFails}
 -- ---- the procedure of a name
 
 fails_named : (q : BProgram) (n : ℕ) (d : Proc) (label : Label) → slice_get q.procs n ≡ Some d → ProcFails d label → BoogieFails q d.name label
-fails_named q n d label there f = record {
-  number = n;
-  procedure = d;
-  is_there = there;
-  is_named = refl;
-  environment = f.environment;
-  is_environment = f.is_environment;
-  choices = f.choices;
-  are_reduced = f.are_reduced;
-  left = f.fails.left;
-  fails = f.fails.is;
-}
+fails_named q n d label there f = record { number = n; procedure = d; is_there = there; is_named = refl; fails = f }
 
 pub decides_named : (bytes : List ℕ) (q : BProgram) → BSpells bytes q → (name : List ℕ) (n : ℕ) (d : Proc) (label : Label) (f : Formula) → procedure_named q name ≡ Some n →
     slice_get q.procs n ≡ Some d → IsExact d label f → Valid f ↔ (BoogieFails q name label → ⊥)

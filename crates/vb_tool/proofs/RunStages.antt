@@ -17,7 +17,8 @@ use Rattle.run_words.specs.declared.faults.RunFileFault.{RunFileFault}
 use Rattle.run_words.specs.declared.faults.RunFileFault.TheVariants as fault
 use Rattle.viper_run.specs.Outcome.{outcome_of, Ends}
 use Rattle.viper_run.specs.declared.units.Run.{Run}
-use Rattle.vb_tool.specs.Accepted.{IsAccepted, AcceptsRun, IsTextRefusal, IsRunRefusal, of_text, no_unit, run_syntax}
+use Rattle.viper_file.specs.Accepted.{IsAccepted}
+use Rattle.vb_tool.specs.Accepted.{AcceptsRun, IsTextRefusal, IsRunRefusal, of_text, no_unit, run_syntax}
 use Rattle.vb_tool.specs.Converted.{trouble_of_run}
 use Rattle.vb_tool.specs.Moved.{moved_text}
 use Rattle.vb_tool.specs.Outcome.{status_of, with_moved, run_status, run_text}

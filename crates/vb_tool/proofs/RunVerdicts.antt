@@ -9,8 +9,10 @@ use Rattle.run_file.specs.Run.{ViperRun, SpellsViperRun, GoesWrongAt}
 use Rattle.run_words.proofs.AnswerLaws as run_laws
 use Rattle.run_file.proofs.FileLaws.{is_reader}
 use Rattle.run_file.proofs.ScopeLaws.{names_apart}
-use Rattle.vb_tool.proofs.Verdicts.{one_accepted, accepted_text, accepted_formed, one_text_refusal, text_answer}
-use Rattle.vb_tool.specs.Accepted.{IsAccepted, AcceptsRun, IsTextRefusal, IsRunRefusal, size, run_size, of_text, no_unit, run_syntax, HasOneAnswer, is_accepted, is_refused}
+use Rattle.viper_file.proofs.Verdicts.{one_accepted, accepted_formed}
+use Rattle.vb_tool.proofs.Verdicts.{accepted_text, one_text_refusal, text_answer}
+use Rattle.viper_file.specs.Accepted.{IsAccepted}
+use Rattle.vb_tool.specs.Accepted.{AcceptsRun, IsTextRefusal, IsRunRefusal, size, run_size, of_text, no_unit, run_syntax, HasOneAnswer, is_accepted, is_refused}
 use Rattle.vb_tool.specs.Units.{unit_named, UnitRun}
 use Rattle.vb_tool.specs.declared.status.Refusal.{Refusal}
 use Rattle.vb_tool.specs.declared.status.Refusal.TheVariants as refusal

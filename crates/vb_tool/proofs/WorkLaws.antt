@@ -12,10 +12,13 @@ use Rattle.vb_gen.specs.Generated.{IsOutOfRange}
 use Rattle.viper_core.specs.Formed.{IsFormed}
 use Rattle.viper_core.specs.View.{program_of}
 use Rattle.viper_core.specs.declared.programs.Program.{Program}
+use Rattle.enc_units.proofs.ProgramLaws.{translates}
 use Rattle.vb_tool.proofs.FramedLaws.{framed_ends}
 use Rattle.vb_tool.proofs.MakingLaws.{few_in_range}
 use Rattle.vb_tool.proofs.ProvedLaws.{decides_named}
-use Rattle.vb_tool.specs.Accepted.{IsAccepted, IsTextRefusal, IsRunRefusal, of_text}
+use Rattle.vb_tool.proofs.VerifiedLaws.{text_verified}
+use Rattle.viper_file.specs.Accepted.{IsAccepted}
+use Rattle.vb_tool.specs.Accepted.{IsTextRefusal, IsRunRefusal, of_text}
 use Rattle.vb_tool.specs.AcceptedCondition.{IsConditionRefusal}
 use Rattle.vb_tool.specs.AcceptedCut.{IsCutRefusal}
 use Rattle.vb_tool.specs.AcceptedExecution.{IsExecutionRefusal}
@@ -180,7 +183,10 @@ module _ {files now : Option Files} {first last : ℕ} (same : now ≡ files) wh
       Works files now first last (Translate file) (Ok (a_work.Translate p))
   translation_works file bytes p whole accepted formed = record {
     work = call.translated bytes whole accepted;
-    promises = tt;
+    promises = (
+      record { bytes = bytes; is = whole; program = program_of p; accepted = accepted; translates = translates (program_of p) formed },
+      record { bytes = bytes; is = whole; program = program_of p; accepted = accepted; verified = text_verified (program_of p) formed },
+    );
     can_be_written = formed;
     refused = λ q e. absurd cc;
     read = λ e. absurd cc;

@@ -1,38 +1,17 @@
--- Which program the bytes of a file are, which run the bytes of two files are, and why they are refused. Each step goes on
--- from the one before: bytes are cut into tokens, tokens spell a tree, and a tree is a typed program. For `run` it has the
--- unit, and the other file spells a run of that.
+-- Which run the bytes of two files are, and why they are refused. The bytes of the first are a program or are refused as a file of Viper;
+-- for `run` it has the unit, and the other file spells a run of that.
 use Rattle.std.specs.Prelude.{◌≡◌, ◌<◌, ◌≤◌, ℕ, List, length, Some, None}
-use Rattle.vb_base.specs.Limits.{max_viper_bytes, max_weight, too_heavy}
+use Rattle.vb_base.specs.Limits.{max_viper_bytes}
 use Rattle.vb_base.specs.declared.places.Pos.{Pos}
-use Rattle.viper_syntax.specs.declared.tokens.LexFault.{LexFault}
-use Rattle.viper_syntax.specs.declared.tokens.Token.{Token}
-use Rattle.viper_syntax.specs.Decl as d
-use Rattle.viper_syntax.specs.Lexed.{IsLexed, HasFault}
-use Rattle.vb_base.specs.Place.{IsPlaceAfter, IsPlace}
-use Rattle.viper_parse.specs.Answers.{IsProgram as Spelled}
-use Rattle.viper_grammar.specs.Spells.{Spells}
-use Rattle.viper_grammar.specs.Stops.{place_at}
 use Rattle.viper_core.specs.Program as p
-use Rattle.viper_core.specs.Weight.{weight}
-use Rattle.viper_types.specs.Declaring.{program_typing}
-use Rattle.viper_scope.specs.Outcome.{Broken}
-use Rattle.viper_scope.specs.Rules.{number}
-use Rattle.viper_scope.specs.declared.rules.Rule as types
-use Rattle.viper_types.specs.Program.{IsProgram}
+use Rattle.viper_file.specs.Accepted as file
+use Rattle.viper_file.specs.Accepted.{IsAccepted}
+use Rattle.viper_file.specs.declared.fault.ViperRefusal.{ViperRefusal}
 use Rattle.run_file.specs.Run.{SpellsViperRun, GoesWrongAt}
 use Rattle.vb_tool.specs.Units.{unit_named, UnitRun}
+use Rattle.vb_tool.specs.ViperRefusals.{refusal_of_viper}
 use Rattle.vb_tool.specs.declared.status.Refusal.{Refusal}
-use Rattle.vb_tool.specs.declared.status.Refusal.TheVariants.{Size, RunSize, Lex, Syntax, Rule, Weight, NoUnit, RunSyntax}
-
--- the bytes are the text of this typed program, within the limits of a file and of weight
-pub record IsAccepted (bytes : List ℕ) (typed : p.Program) : Type 0 where
-  pub small : length bytes ≤ max_viper_bytes
-  pub tokens : List Token
-  pub lexed : IsLexed bytes tokens
-  pub source : d.SourceProgram
-  pub spelled : Spells tokens source
-  pub is_typed : IsProgram source typed
-  pub light : weight typed ≤ max_weight
+use Rattle.vb_tool.specs.declared.status.Refusal.TheVariants.{Size, RunSize, NoUnit, RunSyntax}
 
 -- the bytes and the name are this run: they are the text of its program, whose unit has this name, and the bytes of the run
 -- file spell the run
@@ -44,21 +23,9 @@ pub record AcceptsRun (bytes name run_bytes : List ℕ) (u : UnitRun) : Type 0 w
 
 -- ---- refusals
 
--- a tree is refused for the first rule that it breaks, or for its weight
-pub data IsTreeRefusal (source : d.SourceProgram) : Refusal → Type 0 where
-  rule : {at : Pos} {r : types.Rule} → program_typing source ≡ Broken at r → IsTreeRefusal source (Rule at (number r))
-  heavy : {typed : p.Program} → IsProgram source typed → max_weight < weight typed → IsTreeRefusal source (Weight too_heavy)
-
--- tokens that spell no tree are refused at the first token with which they begin none, or at the end where all of them begin
--- one
-pub data IsTokenRefusal (bytes : List ℕ) (tokens : List Token) : Refusal → Type 0 where
-  syntax : {i : ℕ} {end : Pos} → (Spelled tokens → ⊥) → IsPlace Spelled tokens i → IsPlaceAfter bytes end → IsTokenRefusal bytes tokens (Syntax (place_at tokens i end))
-  of_tree : {source : d.SourceProgram} {r : Refusal} → Spells tokens source → IsTreeRefusal source r → IsTokenRefusal bytes tokens r
-
--- a text is refused for a fault of its tokens, or for what they spell
+-- a text is refused as one of a file of Viper is
 pub data IsTextRefusal (bytes : List ℕ) : Refusal → Type 0 where
-  lex : {fault : LexFault} → HasFault bytes fault → IsTextRefusal bytes (Lex fault)
-  of_tokens : {tokens : List Token} {r : Refusal} → IsLexed bytes tokens → IsTokenRefusal bytes tokens r → IsTextRefusal bytes r
+  of_viper : {r : ViperRefusal} → file.IsTextRefusal bytes r → IsTextRefusal bytes (refusal_of_viper r)
 
 -- `translate` refuses the bytes, for the first of these reasons that stands
 pub data IsRefusal (bytes : List ℕ) : Refusal → Type 0 where

@@ -7,7 +7,8 @@ use Rattle.viper_core.specs.Program as p
 use Rattle.viper_core.specs.declared.programs.Unit.TheVariants.{Method}
 use Rattle.exec_words.specs.Unframed.{first_unframed}
 use Rattle.run_file.specs.Run.{SpellsViperRun, GoesWrongAt}
-use Rattle.vb_tool.specs.Accepted.{IsAccepted, IsTextRefusal}
+use Rattle.viper_file.specs.Accepted.{IsAccepted}
+use Rattle.vb_tool.specs.Accepted.{IsTextRefusal}
 use Rattle.vb_tool.specs.Executions.{body_named, MethodRun}
 use Rattle.vb_tool.specs.declared.status.Refusal.{Refusal}
 use Rattle.vb_tool.specs.declared.status.Refusal.TheVariants.{Size, RunSize, Unframed, NoUnit, RunSyntax}

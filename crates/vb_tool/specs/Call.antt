@@ -13,7 +13,8 @@ use Rattle.boogie_tree.specs.Program.{Proc}
 use Rattle.boogie_run.specs.declared.replaying.BOutcome.{BOutcome}
 use Rattle.boogie_wide.specs.Wide.{WProgram}
 use Rattle.enc_units.specs.Translates.{text_of}
-use Rattle.vb_tool.specs.Accepted.{IsAccepted, AcceptsRun, IsRefusal, IsRunRefusal}
+use Rattle.viper_file.specs.Accepted.{IsAccepted}
+use Rattle.vb_tool.specs.Accepted.{AcceptsRun, IsRefusal, IsRunRefusal}
 use Rattle.vb_tool.specs.AcceptedCondition.{AcceptsCondition, IsConditionRefusal}
 use Rattle.vb_tool.specs.AcceptedCut.{AcceptsCut, IsCutRefusal}
 use Rattle.vb_tool.specs.AcceptedExecution.{AcceptsExecution, IsExecutionRefusal}
@@ -32,6 +33,7 @@ use Rattle.tool_words.specs.Ends.{OutOf}
 use Rattle.vb_tool.specs.Status.{kind_of, line_of}
 use Rattle.vb_tool.specs.Summary.{made_text}
 use Rattle.vb_tool.specs.Transfer.{IsTransfer}
+use Rattle.vb_tool.specs.Translated.{IsTranslationOfFile, IsVerifiedByText}
 use Rattle.vb_tool.specs.Units.{UnitRun, end_of}
 use Rattle.vb_tool.specs.declared.status.Refusal.{Refusal}
 use Rattle.vb_tool.specs.declared.status.Refusal.TheVariants.{Size, Range}
@@ -89,11 +91,11 @@ pub data Does (Has : List ℕ → List ℕ → Type 0) : Command → Status → 
   stated : {file procedure : List ℕ} {label : Label} {d : Proc} (bytes : List ℕ) → Has file bytes → AcceptsCondition bytes procedure d →
       Does Has (Condition file procedure label) Done (condition_text d label)
 
--- What is promised besides of the text that is written: where a run of a unit failed, it ends with a run of Boogie that fails
--- again; an execution does not fail where no procedure of the translation does; what is written for loops and calls follows them; and
+-- What is promised besides of the text that is written: for a file it is a translation, by which the file is verified; where a run of a unit failed, it ends with
+-- a run of Boogie that fails again; an execution does not fail where no procedure of the translation does; what is written for loops and calls follows them; and
 -- what is written of a procedure and a label is a condition for them.
 abbrev pub Promises : (List ℕ → List ℕ → Type 0) → Command → Status → List ℕ → Type 0
-Promises Has (Translate file) status text = ⊤
+Promises Has (Translate file) status text = IsTranslationOfFile Has file text × IsVerifiedByText Has file text
 Promises Has (Run file unit run_file) status text = (label : Label) → status ≡ Failed label → IsTransfer Has file unit run_file label text
 Promises Has (Replay file run_file) status text = ⊤
 Promises Has (Make n) status text = ⊤

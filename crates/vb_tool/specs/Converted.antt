@@ -1,21 +1,18 @@
 -- The trouble that a fault of a part is, and the status of a call after it.
 use Rattle.vb_outer.specs.declared.fault.FileFault.{FileFault}
 use Rattle.vb_outer.specs.declared.fault.FileFault.TheVariants as file
-use Rattle.viper_syntax.specs.declared.tokens.LexFault.{LexFault}
-use Rattle.viper_syntax.specs.declared.tokens.LexFault.TheVariants as lex
-use Rattle.viper_syntax.specs.declared.faults.ParseFault.{ParseFault}
-use Rattle.viper_syntax.specs.declared.faults.ParseFault.TheVariants as parse
 use Rattle.boogie_grammar.specs.declared.faults.BoogieFault.{BoogieFault}
 use Rattle.boogie_grammar.specs.declared.faults.BoogieFault.TheVariants as boogie
 use Rattle.run_words.specs.declared.faults.RunFileFault.{RunFileFault}
 use Rattle.run_words.specs.declared.faults.RunFileFault.TheVariants as run
-use Rattle.viper_types.specs.declared.faults.TypeFault.{TypeFault}
-use Rattle.viper_types.specs.declared.faults.TypeFault.TheVariants as typed
 use Rattle.vb_gen.specs.declared.GenFault.{GenFault}
 use Rattle.vb_gen.specs.declared.GenFault.TheVariants as made
 use Rattle.boogie_file.specs.declared.trouble.Trouble as b
 use Rattle.boogie_file.specs.declared.trouble.Trouble.TheVariants as troubles
+use Rattle.viper_file.specs.declared.fault.ViperFault.{ViperFault}
+use Rattle.viper_file.specs.declared.fault.ViperFault.TheVariants as fault
 use Rattle.vb_tool.specs.BoogieRefusals.{refusal_of_boogie}
+use Rattle.vb_tool.specs.ViperRefusals.{refusal_of_viper}
 use Rattle.vb_tool.specs.declared.status.Refusal.TheVariants as refusal
 use Rattle.vb_tool.specs.declared.status.Status.{Status}
 use Rattle.vb_tool.specs.declared.status.Status.TheVariants as status
@@ -27,23 +24,9 @@ trouble_of_file file.Memory = Memory
 trouble_of_file file.Failed = Read
 trouble_of_file file.Long = Refused refusal.Size
 
-abbrev pub trouble_of_lex : LexFault → Trouble
-trouble_of_lex (lex.BadByte at) = Refused (refusal.Lex (lex.BadByte at))
-trouble_of_lex (lex.OpenComment at) = Refused (refusal.Lex (lex.OpenComment at))
-trouble_of_lex (lex.BigLiteral at) = Refused (refusal.Lex (lex.BigLiteral at))
-trouble_of_lex (lex.Braces at) = Refused (refusal.Lex (lex.Braces at))
-trouble_of_lex (lex.LongGroup at) = Refused (refusal.Lex (lex.LongGroup at))
-trouble_of_lex (lex.Unsupported at) = Refused (refusal.Lex (lex.Unsupported at))
-trouble_of_lex lex.Memory = Memory
-
-abbrev pub trouble_of_parse : ParseFault → Trouble
-trouble_of_parse parse.Memory = Memory
-trouble_of_parse (parse.Syntax at) = Refused (refusal.Syntax at)
-
-abbrev pub trouble_of_types : TypeFault → Trouble
-trouble_of_types typed.Memory = Memory
-trouble_of_types (typed.Rule at n) = Refused (refusal.Rule at n)
-trouble_of_types (typed.Weight n) = Refused (refusal.Weight n)
+abbrev pub trouble_of_viper_file : ViperFault → Trouble
+trouble_of_viper_file fault.Memory = Memory
+trouble_of_viper_file (fault.Refused r) = Refused (refusal_of_viper r)
 
 abbrev pub trouble_of_boogie : BoogieFault → Trouble
 trouble_of_boogie boogie.Memory = Memory

@@ -1,5 +1,6 @@
 pub mod Status
 pub mod BoogieRefusals
+pub mod ViperRefusals
 pub mod Converted
 pub mod Command
 pub mod Summary
@@ -12,6 +13,7 @@ pub mod Accepted
 pub mod AcceptedReplay
 pub mod Transfer
 pub mod Verified
+pub mod Translated
 pub mod Call
 pub mod Parts
 pub mod Works

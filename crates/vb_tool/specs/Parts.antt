@@ -12,7 +12,8 @@ use Rattle.boogie_tree.specs.Program.{Proc}
 use Rattle.boogie_run.specs.declared.replaying.BOutcome.{BOutcome}
 use Rattle.boogie_wide.specs.Wide.{WProgram}
 use Rattle.enc_units.specs.Translates.{text_of}
-use Rattle.vb_tool.specs.Accepted.{IsAccepted, AcceptsRun}
+use Rattle.viper_file.specs.Accepted.{IsAccepted}
+use Rattle.vb_tool.specs.Accepted.{AcceptsRun}
 use Rattle.vb_tool.specs.AcceptedCondition.{AcceptsCondition}
 use Rattle.vb_tool.specs.AcceptedCut.{AcceptsCut}
 use Rattle.vb_tool.specs.AcceptedExecution.{AcceptsExecution}

@@ -12,16 +12,17 @@ ghost use Rattle.boogie_grammar.specs.Spells.{BSpells};
 ghost use Rattle.boogie_tree.specs.Program.{BProgram};
 ghost use Rattle.tool_words.specs.Ends.{Stops};
 ghost use Rattle.tool_words.specs.Written.{Reports};
-ghost use Rattle.enc_units.specs.Translates.{Translates, text_of};
-ghost use Rattle.vb_tool.specs.Accepted.{IsAccepted};
-ghost use Rattle.vb_tool.specs.Command.{Command as CommandOf, Run, Execute, Cut, Condition, Asks, IsNoCommand};
+ghost use Rattle.enc_units.specs.Translates.{text_of};
+ghost use Rattle.viper_file.specs.Accepted.{IsAccepted};
+ghost use Rattle.vb_tool.specs.Command.{Command as CommandOf, Translate, Run, Execute, Cut, Condition, Asks, IsNoCommand};
 ghost use Rattle.vb_tool.specs.Conditions.{IsStatement};
 ghost use Rattle.vb_tool.specs.Cuts.{IsCutOfFile};
 ghost use Rattle.vb_tool.specs.Call.{Misses, Refuses, Does, HasDone, IsCause, Causes, EndsAs, EndsWith, OutAfter, ErrAfter};
 ghost use Rattle.vb_tool.specs.Parts.{CanBeWritten, Delivers, work_status, work_text};
 ghost use Rattle.vb_tool.specs.Status.{kind_of, line_of};
 ghost use Rattle.vb_tool.specs.Transfer.{IsTransfer};
-ghost use Rattle.vb_tool.specs.Verified.{NoProcedureFails, HasNoFailure};
+ghost use Rattle.vb_tool.specs.Translated.{IsTranslationOfFile, IsVerifiedByText};
+ghost use Rattle.vb_tool.specs.Verified.{NoProcedureFails};
 
 use crate::outcome::Work;
 use crate::status::{Refusal, Status, line};
@@ -69,13 +70,14 @@ pub fn tool<H: Shelf, O: Sink, E: Sink>(
     ensures does { (command : CommandOf) (status : Status) (text : List ℕ) → Asks (map string_bytes words.now.items) command
         → Does (IsFile (H.files shelf.old)) command status text → EndsWith (O.written out.old) (O.written out.new) status text result }
 
-    // What `translate` writes for a program translates it.
-    ensures translates { (bytes : List ℕ) (program : p.Program) → IsAccepted bytes program → Translates program (text_of program) }
+    // What `translate` writes is a translation of the program of the file.
+    ensures translates { (file : List ℕ) → Asks (map string_bytes words.now.items) (Translate file) → result ≡ Status.Done
+        → (text : List ℕ) × IsTranslationOfFile (IsWhole (H.files shelf.old)) file text × Appends (O.written out.old) (O.written out.new) text }
 
     // Where no procedure of it has a failing run, no run of a method or a predicate of the file fails, from any opening; and no method
     // fails from a state that satisfies its precondition.
-    ensures verified { (bytes : List ℕ) (program : p.Program) (boogie : BProgram) → IsAccepted bytes program → BSpells (text_of program) boogie
-        → NoProcedureFails boogie → HasNoFailure program }
+    ensures verified { (file : List ℕ) → Asks (map string_bytes words.now.items) (Translate file) → result ≡ Status.Done
+        → (text : List ℕ) × IsVerifiedByText (IsWhole (H.files shelf.old)) file text × Appends (O.written out.old) (O.written out.new) text }
 
     // And then `exec` does not fail either, whatever the method, the run file and the budget.
     ensures frames { (file method run_file bytes : List ℕ) (n : ℕ) (program : p.Program) (boogie : BProgram) (label : Label)

@@ -20,19 +20,23 @@ ghost use Rattle.viper_meaning.specs.Units.{ViperFails};
 ghost use Rattle.exec_meaning.specs.Frame.{NoExecutionFails};
 ghost use Rattle.exec_words.specs.Unframed.{first_unframed};
 ghost use Rattle.boogie_file.specs.Accepted.{IsBoogie};
-ghost use Rattle.enc_units.specs.Translates.{Translates};
+ghost use Rattle.boogie_grammar.specs.Spells.{BSpells};
+ghost use Rattle.enc_units.specs.Translates.{Translates, text_of};
 ghost use Rattle.vb_tool.specs.Units.{name_of};
-ghost use Rattle.vb_tool.specs.Accepted.{IsAccepted, AcceptsRun, IsRefusal, IsRunRefusal, HasOneAnswer};
+ghost use Rattle.viper_file.specs.Accepted.{IsAccepted};
+ghost use Rattle.vb_tool.specs.Accepted.{AcceptsRun, IsRefusal, IsRunRefusal, HasOneAnswer};
 ghost use Rattle.vb_tool.specs.AcceptedCondition.{AcceptsCondition, IsConditionRefusal};
 ghost use Rattle.vb_tool.specs.AcceptedCut.{AcceptsCut, IsCutRefusal};
-ghost use Rattle.vb_tool.specs.AcceptedExecution.{IsFramed, AcceptsExecution, IsExecutionRefusal};
+ghost use Rattle.viper_file.specs.Framed.{IsFramed};
+ghost use Rattle.vb_tool.specs.AcceptedExecution.{AcceptsExecution, IsExecutionRefusal};
 ghost use Rattle.vb_tool.specs.Conditions.{IsCondition};
 ghost use Rattle.vb_tool.specs.AcceptedReplay.{AcceptsReplay, IsReplayRefusal};
 ghost use Rattle.vb_tool.specs.Procedures.{ProcedureRun, procedure_end};
 ghost use Rattle.vb_tool.specs.Call.{Does};
 ghost use Rattle.vb_tool.specs.Command.{Command};
 ghost use Rattle.vb_tool.specs.Proved.{labels_of, ConditionsHold};
-ghost use Rattle.vb_tool.specs.Verified.{NothingFails, SatisfiesPrecondition, run_from, NeverFails, HasNoFailure};
+ghost use Rattle.viper_file.specs.Verified.{SatisfiesPrecondition, run_from, RunNeverFails, HasNoFailure};
+ghost use Rattle.vb_tool.specs.Verified.{NoProcedureFails, NothingFails};
 ghost use Rattle.vb_tool.specs.declared.status.Status.{Status};
 
 /// No two units of a program have one name.
@@ -71,6 +75,14 @@ pub fn each_made_program_is_accepted()
     ensures { (n : ℕ) → n ≤ max_made_methods → (program : p.Program) × IsAccepted (program_text n) program × (weight program ≡ generated_weight n) }
 {}
 
+/// The text that is defined for the program of an accepted file is a translation of it. And where no procedure fails of the program that
+/// this text spells, no run of a method or a predicate of the file fails, nor any method from a state that satisfies its precondition.
+pub fn each_accepted_file_has_a_translation()
+    ensures translates { (bytes : List ℕ) (program : p.Program) → IsAccepted bytes program → Translates program (text_of program) }
+    ensures verified { (bytes : List ℕ) (program : p.Program) (boogie : BProgram) → IsAccepted bytes program → BSpells (text_of program) boogie
+        → NoProcedureFails boogie → HasNoFailure program }
+{}
+
 /// Where no run of a translation's procedures fails, no run of a method or a predicate does, at any label. And no method of an accepted
 /// file fails,
 /// with the bound or without it, from a state that satisfies its precondition: one whose permissions are exactly those that the
@@ -80,7 +92,7 @@ pub fn where_no_procedure_fails_no_method_does()
         → (n : ℕ) (label : Label) → ViperFails program n label → ⊥ }
     ensures methods { (source : List ℕ) (program : p.Program) (bytes : List ℕ) (t : Translates program bytes) → IsAccepted source program
         → NothingFails t → (b : Bound) (k : ℕ) (m : p.Method) (store : List Value) (s : State) → slice_get program.methods k ≡ Some m
-        → SatisfiesPrecondition program m store s → NeverFails (run_from b program m store s) }
+        → SatisfiesPrecondition program m store s → RunNeverFails (run_from b program m store s) }
 {}
 
 /// Where no run of a translation's procedures fails, no whole execution of the file's methods does, with all that they call and

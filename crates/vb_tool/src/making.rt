@@ -5,7 +5,7 @@ ghost use Rattle.enc_units.specs.Translates.{program_code, text_of};
 ghost use Rattle.vb_gen.specs.Generated.{IsOutOfRange, program_text};
 ghost use Rattle.viper_core.specs.Formed.{IsFormed};
 ghost use Rattle.viper_core.specs.View.{program_of};
-ghost use Rattle.vb_tool.specs.Accepted.{IsAccepted};
+ghost use Rattle.viper_file.specs.Accepted.{IsAccepted};
 ghost use Rattle.vb_tool.specs.Parts.{SummaryOf};
 ghost use Rattle.vb_tool.specs.Summary.{count_line, counted, summary_text};
 ghost use Rattle.vb_tool.specs.declared.status.Refusal.TheVariants as refusal;

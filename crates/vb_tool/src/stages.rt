@@ -10,8 +10,10 @@ ghost use Rattle.viper_state.specs.View.{event_of, opening_of};
 ghost use Rattle.moves.specs.Moves.{moves};
 ghost use Rattle.moves.specs.Printable.{IsNamedMove};
 ghost use Rattle.enc_locals.specs.Opened.{start_settings, IsNamedSetting};
-ghost use Rattle.vb_tool.specs.Accepted.{IsAccepted, IsTextRefusal, IsRunRefusal};
-ghost use Rattle.vb_tool.specs.AcceptedExecution.{IsFramed, IsUnframedRefusal};
+ghost use Rattle.viper_file.specs.Accepted.{IsAccepted};
+ghost use Rattle.vb_tool.specs.Accepted.{IsTextRefusal, IsRunRefusal};
+ghost use Rattle.viper_file.specs.Framed.{IsFramed};
+ghost use Rattle.vb_tool.specs.AcceptedExecution.{IsUnframedRefusal};
 ghost use Rattle.vb_tool.specs.Moved.{moved_text};
 ghost use Rattle.vb_tool.specs.Outcome.{status_of, with_moved};
 ghost use Rattle.vb_tool.specs.Parts.{OutcomeOf};
@@ -21,18 +23,15 @@ use crate::outcome::{Ending, told};
 use crate::status::Refusal;
 use crate::trouble::Trouble;
 use crate::units::unit_named;
-use exec_words::first_unframed;
 use run_fronts::run_on_file;
 use std::alloc::Global;
-use vb_base::{Memory, place_after};
+use vb_base::Memory;
 use viper_core::Program;
-use viper_parse::parse;
+use viper_file::program_and_word;
 use viper_run::Run;
 use viper_state::{Opening, Outcome};
-use viper_syntax::lex;
-use viper_types::check;
 
-/// The typed program of a file. What a stage leaves over is given up before the next.
+/// The typed program of a file.
 pub fn typed_program(alloc: Global, bytes: &[u8]) -> Result<Program, Trouble>
     requires { length bytes.now ≤ max_viper_bytes }
     ensures accepted { IfOk result (λ p. IsAccepted bytes.now (program_of p)) }
@@ -40,10 +39,8 @@ pub fn typed_program(alloc: Global, bytes: &[u8]) -> Result<Program, Trouble>
     ensures refused { (r : Refusal) → IsErrOf result (Trouble.Refused r) → IsTextRefusal bytes.now r }
     ensures read { IsErrOf result Trouble.Read → ⊥ }
 {
-    let tokens = lex(alloc, bytes)?;
-    let source = parse(alloc, &tokens, place_after(bytes))?;
-    drop(tokens);
-    Ok(check(alloc, &source)?)
+    let program = viper_file::typed_program(alloc, bytes)?;
+    Ok(program)
 }
 
 /// The same of a file that has none of the words `wildcard`, `inhale` and `assume`.
@@ -54,12 +51,9 @@ pub fn framed_program(alloc: Global, bytes: &[u8]) -> Result<Program, Trouble>
     ensures refused { (r : Refusal) → IsErrOf result (Trouble.Refused r) → IsUnframedRefusal bytes.now r }
     ensures read { IsErrOf result Trouble.Read → ⊥ }
 {
-    let tokens = lex(alloc, bytes)?;
-    let unframed = first_unframed(&tokens);
-    let tree = parse(alloc, &tokens, place_after(bytes))?;
-    drop(tokens);
-    let program = check(alloc, &tree)?;
-    match unframed {
+    let found = program_and_word(alloc, bytes)?;
+    let (program, word) = found;
+    match word {
         Some(at) => Err(Trouble::Refused(Refusal::Unframed(at))),
         None => Ok(program),
     }

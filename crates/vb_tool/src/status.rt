@@ -7,6 +7,7 @@ use std::alloc::{AllocError, Global};
 use std::fmt;
 use tool_words::CallStatus;
 use vb_base::{Label, Pos};
+use viper_file::ViperRefusal;
 use viper_syntax::LexFault;
 
 /// Why a command is refused. The reasons of one command are tried in this order, with three exceptions: a budget that is out of
@@ -154,6 +155,22 @@ impl fmt::Display for Status {
             | Status::Short
             | Status::Over
             | Status::Spent => Ok(()),
+        }
+    }
+}
+
+impl From<ViperRefusal> for Refusal {
+    ghost use Rattle.vb_tool.specs.ViperRefusals.{refusal_of_viper};
+
+    ghost from_gives = { λ refusal e. e ≡ refusal_of_viper refusal };
+
+    fn from(refusal: ViperRefusal) -> Refusal {
+        match refusal {
+            ViperRefusal::Size => Refusal::Size,
+            ViperRefusal::Lex(fault) => Refusal::Lex(fault),
+            ViperRefusal::Syntax(at) => Refusal::Syntax(at),
+            ViperRefusal::Rule(at, rule) => Refusal::Rule(at, rule),
+            ViperRefusal::Weight(weight) => Refusal::Weight(weight),
         }
     }
 }

@@ -1,7 +1,7 @@
 // Why a command did not do its work.
 ghost use Rattle.std.specs.Prelude.{◌≡◌};
 ghost use Rattle.vb_tool.specs.declared.trouble.Trouble.TheVariants as trouble;
-ghost use Rattle.vb_tool.specs.Converted.{trouble_of_file, trouble_of_lex, trouble_of_parse, trouble_of_types, trouble_of_boogie, trouble_of_boogie_file, trouble_of_run, trouble_of_making, status_of_trouble};
+ghost use Rattle.vb_tool.specs.Converted.{trouble_of_file, trouble_of_viper_file, trouble_of_boogie, trouble_of_boogie_file, trouble_of_run, trouble_of_making, status_of_trouble};
 
 use crate::status::{Refusal, Status};
 use boogie_text::BoogieFault;
@@ -9,8 +9,7 @@ use run_file::RunFileFault;
 use vb_base::Memory;
 use vb_gen::GenFault;
 use vb_outer::FileFault;
-use viper_syntax::{LexFault, ParseFault};
-use viper_types::TypeFault;
+use viper_file::ViperFault;
 
 /// Why the files of a command gave no text.
 #[derive(Clone, Copy, Debug, PartialEq, Eq)]
@@ -21,36 +20,13 @@ pub enum Trouble {
     Refused(Refusal),
 }
 
-impl From<LexFault> for Trouble {
-    ghost from_gives = { λ fault e. e ≡ trouble_of_lex fault };
+impl From<ViperFault> for Trouble {
+    ghost from_gives = { λ fault e. e ≡ trouble_of_viper_file fault };
 
-    fn from(fault: LexFault) -> Trouble {
+    fn from(fault: ViperFault) -> Trouble {
         match fault {
-            LexFault::Memory => Trouble::Memory,
-            _ => Trouble::Refused(Refusal::Lex(fault)),
-        }
-    }
-}
-
-impl From<ParseFault> for Trouble {
-    ghost from_gives = { λ fault e. e ≡ trouble_of_parse fault };
-
-    fn from(fault: ParseFault) -> Trouble {
-        match fault {
-            ParseFault::Memory => Trouble::Memory,
-            ParseFault::Syntax(at) => Trouble::Refused(Refusal::Syntax(at)),
-        }
-    }
-}
-
-impl From<TypeFault> for Trouble {
-    ghost from_gives = { λ fault e. e ≡ trouble_of_types fault };
-
-    fn from(fault: TypeFault) -> Trouble {
-        match fault {
-            TypeFault::Memory => Trouble::Memory,
-            TypeFault::Rule(at, rule) => Trouble::Refused(Refusal::Rule(at, rule)),
-            TypeFault::Weight(weight) => Trouble::Refused(Refusal::Weight(weight)),
+            ViperFault::Memory => Trouble::Memory,
+            ViperFault::Refused(refusal) => Trouble::Refused(Refusal::from(refusal)),
         }
     }
 }

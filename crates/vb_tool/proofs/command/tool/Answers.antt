@@ -1,8 +1,5 @@
-use Rattle.enc_units.proofs.ProgramLaws.{translates}
-use Rattle.vb_tool.proofs.Answered.{usage_comes, missing_comes, refused_comes, does_comes, transfer_comes, frame_comes, cut_comes, statement_comes}
+use Rattle.vb_tool.proofs.Answered.{usage_comes, missing_comes, refused_comes, does_comes, translation_comes, translation_verified, transfer_comes, frame_comes, cut_comes, statement_comes}
 use Rattle.vb_tool.proofs.CallLaws.{done_cause, done_out, done_err}
-use Rattle.vb_tool.proofs.VerifiedLaws.{text_verified}
-use Rattle.vb_tool.proofs.Verdicts.{accepted_formed}
 use Rattle.vb_tool.proofs.command.tool.Goals as goal
 
 pub returns-clause-usage : goal.returns-clause-usage
@@ -18,10 +15,10 @@ pub returns-clause-does : goal.returns-clause-does
 returns-clause-does g c = rw (← c.deref.ensures.value) (does_comes _ _ _ _ _ _ (done_cause _ _ _ _ _ _ _ _ _ _ _ _ _ c.done-answer.result c.ended.ensures c.done-answer.ensures.done c.done-answer.ensures.stops) _ _ (done_out _ _ _ _ _ _ _ _ _ _ _ _ _ c.done-answer.result c.ended.ensures c.done-answer.ensures.done c.done-answer.ensures.stops))
 
 pub returns-clause-translates : goal.returns-clause-translates
-returns-clause-translates g c = λ bytes program accepted. translates program (accepted_formed accepted)
+returns-clause-translates g c = rw (← c.deref.ensures.value) (translation_comes _ _ _ _ _ (done_out _ _ _ _ _ _ _ _ _ _ _ _ _ c.done-answer.result c.ended.ensures c.done-answer.ensures.done c.done-answer.ensures.stops))
 
 pub returns-clause-verified : goal.returns-clause-verified
-returns-clause-verified g c = λ bytes program boogie accepted spelled nothing. text_verified program (accepted_formed accepted) boogie spelled nothing
+returns-clause-verified g c = rw (← c.deref.ensures.value) (translation_verified _ _ _ _ _ (done_out _ _ _ _ _ _ _ _ _ _ _ _ _ c.done-answer.result c.ended.ensures c.done-answer.ensures.done c.done-answer.ensures.stops))
 
 pub returns-clause-frames : goal.returns-clause-frames
 returns-clause-frames g c = rw (← c.deref.ensures.value) (frame_comes _ _ _ _ _ (done_out _ _ _ _ _ _ _ _ _ _ _ _ _ c.done-answer.result c.ended.ensures c.done-answer.ensures.done c.done-answer.ensures.stops))

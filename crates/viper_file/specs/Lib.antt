@@ -1,0 +1,4 @@
+pub mod Accepted
+pub mod Framed
+pub mod Parts
+pub mod Verified
