@@ -1,13 +1,13 @@
 #!/usr/bin/env bash
 # What a copy of a state costs that is then changed at one place, by the number of its entries: the least processor time of five
-# runs of `vb_copies`, with copies and without, in nanoseconds for one copy.
+# runs of `copies_bench`, with copies and without, in nanoseconds for one copy.
 #
 # Give the program, if it is not the proved one: bench/copies.sh PROGRAM
 set -eu
 case ${1:-} in -h | --help) exec sed -n '2,/^[^#]/s/^# \{0,1\}//p' "$0" ;; esac
 top=$(dirname "$(readlink -f "$0")")/..
-program=${1:-$top/crates/vb_copies/out/vb_copies}
-[ $# -gt 0 ] || (cd "$top/crates/vb_copies" && rt run -- 0 0 >/dev/null)
+program=${1:-$top/crates/copies_bench/out/copies_bench}
+[ $# -gt 0 ] || (cd "$top/crates/copies_bench" && rt run -- 0 0 >/dev/null)
 
 # The least processor time of five calls, in milliseconds.
 least_of_five() {

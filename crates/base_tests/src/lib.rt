@@ -1,4 +1,4 @@
-//! Tests of public calls of the lowest crates, for what no clause and no row of `vb_rows` says: each call once with values worked
+//! Tests of public calls of the lowest crates, for what no clause and no row of `row_tests` says: each call once with values worked
 //! out by hand. A table is one string, a row a line.
 #![tactic(auto)]
 

@@ -14,13 +14,13 @@ use Rattle.boogie_meaning.specs.Programs.{types_of, brun_proc}
 use Rattle.boogie_meaning.specs.Quantified.{bvalue}
 use Rattle.boogie_meaning.specs.Types.{havoc as havoc_typed}
 use Rattle.boogie_meaning.specs.Run.{Run, with_end, picked, brun}
-use Rattle.boogie_wide.specs.Wide as w
-use Rattle.boogie_wide.specs.Wide.{WProc}
-use Rattle.boogie_wide.specs.Conditions.{variable_names}
-use Rattle.boogie_wide.specs.Changed.{changes, targets}
-use Rattle.boogie_wide.specs.Procedures.{wide_types, param_types, head_types, proc_named}
-use Rattle.boogie_wide.specs.WideTypes.{IsWideStmt, assign, put, havoc, assume_ as assuming, assert_ as asserting, if_, either, while_, call_, IsWide, skip, first, IsCall, IsWideProc}
-use Rattle.boogie_wide.specs.Modular.{assert_all, assume_all, arguments, called, cutrun_stmt, cutrun, cutrun_proc}
+use Rattle.boogie_loops.specs.Wide as w
+use Rattle.boogie_loops.specs.Wide.{WProc}
+use Rattle.boogie_loops.specs.Conditions.{variable_names}
+use Rattle.boogie_loops.specs.Changed.{changes, targets}
+use Rattle.boogie_loops.specs.Procedures.{wide_types, param_types, head_types, proc_named}
+use Rattle.boogie_loops.specs.WideTypes.{IsWideStmt, assign, put, havoc, assume_ as assuming, assert_ as asserting, if_, either, while_, call_, IsWide, skip, first, IsCall, IsWideProc}
+use Rattle.boogie_loops.specs.Modular.{assert_all, assume_all, arguments, called, cutrun_stmt, cutrun, cutrun_proc}
 use Rattle.boogie_cut.specs.Alike.{EndAlike, done as both_done, stops as both_stop}
 use Rattle.boogie_cut.specs.Cut.{Written, join, asserts, assumes, cut_call, cut_stmt, cut, cut_body, cut_proc}
 use Rattle.boogie_cut.specs.Fresh.{fresh_locals, free_number, is_a}

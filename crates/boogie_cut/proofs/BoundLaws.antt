@@ -12,12 +12,12 @@ use Rattle.boogie_meaning.specs.Ends.{End, Is}
 use Rattle.boogie_meaning.specs.Run.{Run, Done, Stops, Failed, Blocked, Short, Over, Wrong, picked}
 use Rattle.boogie_meaning.proofs.BoundLaws.{then_bounded, found_bounded, as_truth_bounded, bvalue_bounded, side_bounded}
 use Rattle.boogie_meaning.proofs.RunBoundLaws.{end_bounded, choice_bounded, then_bounded as run_then, if_bounded, stmt_bounded}
-use Rattle.boogie_wide.specs.Wide as w
-use Rattle.boogie_wide.specs.Wide.{Clause, WProc}
-use Rattle.boogie_wide.specs.Procedures.{wide_types, proc_named}
-use Rattle.boogie_wide.specs.Changed.{targets}
-use Rattle.boogie_wide.specs.Modular.{assert_all, assume_all, havoc_all, arguments, values_at, called, with_guard, looped, cutrun_stmt, cutrun, cutrun_proc}
-use Rattle.boogie_wide.specs.Turning.{Turned, Goes, Halts, Spent, then_turned, plainly, turned_end, turned_unless, turned_choice, turned_guard, take_turn, turns, wrun_stmt, wrun, wrun_proc}
+use Rattle.boogie_loops.specs.Wide as w
+use Rattle.boogie_loops.specs.Wide.{Clause, WProc}
+use Rattle.boogie_loops.specs.Procedures.{wide_types, proc_named}
+use Rattle.boogie_loops.specs.Changed.{targets}
+use Rattle.boogie_loops.specs.Modular.{assert_all, assume_all, havoc_all, arguments, values_at, called, with_guard, looped, cutrun_stmt, cutrun, cutrun_proc}
+use Rattle.boogie_loops.specs.Turning.{Turned, Goes, Halts, Spent, then_turned, plainly, turned_end, turned_unless, turned_choice, turned_guard, take_turn, turns, wrun_stmt, wrun, wrun_proc}
 use Rattle.boogie_cut.specs.Bounded.{TurnsWithin, IsTurnedBoundedBy, same as turned_same, over as turned_over}
 
 -- ---- conditions and calls

@@ -9,10 +9,10 @@ use Rattle.std.specs.declared.alloc.Global.{Global}
 use Rattle.lemmas.proofs.Lists.{next_item, next_number, none_left}
 use Rattle.lemmas.proofs.Tests.{or_assoc, or_false}
 use Rattle.boogie_tree.specs.declared.exprs.BExpr.{BExpr}
-use Rattle.boogie_wide.specs.Changed.{changes, changes_stmt}
-use Rattle.boogie_wide.specs.View.{wstmt_of, wstmts_of}
-use Rattle.boogie_wide.specs.Wide as w
-use Rattle.boogie_wide.specs.declared.wide.WStmt as wstmt
+use Rattle.boogie_loops.specs.Changed.{changes, changes_stmt}
+use Rattle.boogie_loops.specs.View.{wstmt_of, wstmts_of}
+use Rattle.boogie_loops.specs.Wide as w
+use Rattle.boogie_loops.specs.declared.wide.WStmt as wstmt
 use Rattle.boogie_cut.specs.View.{changed_by, changed_by_stmt}
 use Rattle.boogie_cut.proofs.WriteLaws.{if_is, either_is}
 

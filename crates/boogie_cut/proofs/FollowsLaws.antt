@@ -11,11 +11,11 @@ use Rattle.boogie_tree.specs.Values.{IsEnvironment, IsReducedChoice}
 use Rattle.boogie_meaning.specs.Programs.{types_of, default_value, ProcFails}
 use Rattle.boogie_meaning.specs.Run.{Run, Stop, Stops, Failed}
 use Rattle.boogie_meaning.proofs.ValueLaws.{default_typed}
-use Rattle.boogie_wide.specs.Wide.{WStmts, WProc, WProgram}
-use Rattle.boogie_wide.specs.Modular.{cutrun_proc}
-use Rattle.boogie_wide.specs.Procedures.{wide_types}
-use Rattle.boogie_wide.specs.Turning.{Halts, wrun_proc}
-use Rattle.boogie_wide.specs.WideTypes.{IsWide, IsWideBody, IsWideProc, IsWideProgram}
+use Rattle.boogie_loops.specs.Wide.{WStmts, WProc, WProgram}
+use Rattle.boogie_loops.specs.Modular.{cutrun_proc}
+use Rattle.boogie_loops.specs.Procedures.{wide_types}
+use Rattle.boogie_loops.specs.Turning.{Halts, wrun_proc}
+use Rattle.boogie_loops.specs.WideTypes.{IsWide, IsWideBody, IsWideProc, IsWideProgram}
 use Rattle.boogie_cut.specs.Alike.{EndAlike, done, stops}
 use Rattle.boogie_cut.specs.Cut.{cut, cut_proc, cut_procs, cut_program}
 use Rattle.boogie_cut.specs.Follows.{IsCutOf, with_bodies, AreCutOf}

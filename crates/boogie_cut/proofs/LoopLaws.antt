@@ -14,13 +14,13 @@ use Rattle.boogie_meaning.specs.Operators.{as_truth}
 use Rattle.boogie_meaning.specs.Quantified.{bvalue}
 use Rattle.boogie_meaning.specs.Types.{havoc as havoc_typed}
 use Rattle.boogie_meaning.specs.Run.{Run, Done, Stops, Failed, Blocked, Over, Wrong, with_end, with_choice, unless_blocked, then_run, picked}
-use Rattle.boogie_wide.specs.Wide as w
-use Rattle.boogie_wide.specs.Wide.{Clause, WProc}
-use Rattle.boogie_wide.specs.Changed.{changes_stmt, changes, targets}
-use Rattle.boogie_wide.specs.Procedures.{wide_types}
-use Rattle.boogie_wide.specs.WideTypes.{IsWideStmt, assign, put, havoc, assume_, assert_, if_, either, while_, call_, IsWide, skip, first, IsCall}
-use Rattle.boogie_wide.specs.Modular.{assert_all, assume_all, havoc_all, arguments, called, with_guard, turned, looped, cutrun_stmt, cutrun, cutrun_proc}
-use Rattle.boogie_wide.specs.Turning.{Turned, Goes, Halts, Spent, then_turned, plainly, turned_end, turned_unless, turned_choice, turned_guard, take_turn, turns, wrun_stmt, wrun, wrun_proc}
+use Rattle.boogie_loops.specs.Wide as w
+use Rattle.boogie_loops.specs.Wide.{Clause, WProc}
+use Rattle.boogie_loops.specs.Changed.{changes_stmt, changes, targets}
+use Rattle.boogie_loops.specs.Procedures.{wide_types}
+use Rattle.boogie_loops.specs.WideTypes.{IsWideStmt, assign, put, havoc, assume_, assert_, if_, either, while_, call_, IsWide, skip, first, IsCall}
+use Rattle.boogie_loops.specs.Modular.{assert_all, assume_all, havoc_all, arguments, called, with_guard, turned, looped, cutrun_stmt, cutrun, cutrun_proc}
+use Rattle.boogie_loops.specs.Turning.{Turned, Goes, Halts, Spent, then_turned, plainly, turned_end, turned_unless, turned_choice, turned_guard, take_turn, turns, wrun_stmt, wrun, wrun_proc}
 use Rattle.boogie_cut.proofs.CallLaws.{passed}
 use Rattle.boogie_cut.proofs.TurnLaws.{Leads, at_once, leads_on, Failing, Frame, Tells, goes, fails, halts, spent, wider, led, halted, then_tells, Plain, then_plain, any_tells}
 use Rattle.boogie_cut.proofs.TurningLaws.{asserts_tell, assumes_tell, Clauses, hold, stop, clauses_at, assign_tells, put_tells, havoc_tells, truth_tells, called_tells, head_leads}

@@ -12,7 +12,7 @@ use Rattle.boogie_tree.specs.declared.exprs.BBase.{BBase}
 use Rattle.boogie_meaning.specs.Ends as ends
 use Rattle.boogie_meaning.specs.Ends.{End, Is, Keeps, value as has, over}
 use Rattle.boogie_meaning.specs.Run.{Run, Done, Stop, Stops, Failed, Blocked, Short, Over, Wrong, with_end, unless_blocked, with_choice, then_run, choice_for, entries_of}
-use Rattle.boogie_wide.specs.Turning.{Turned, Goes, Halts, Spent, then_turned, plainly}
+use Rattle.boogie_loops.specs.Turning.{Turned, Goes, Halts, Spent, then_turned, plainly}
 
 -- ---- look-ups
 

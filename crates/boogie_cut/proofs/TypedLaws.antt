@@ -16,13 +16,13 @@ use Rattle.boogie_meaning.specs.Programs.{types_of, HaveKeys, IsTypedProc, IsTyp
 use Rattle.boogie_meaning.specs.Renamed.{renamed, renamed_in}
 use Rattle.boogie_meaning.specs.Types as b
 use Rattle.boogie_meaning.specs.Types.{HasType, HaveTypes, SideHasType, IsTypedStmt, IsTyped}
-use Rattle.boogie_wide.specs.Wide as w
-use Rattle.boogie_wide.specs.Wide.{Clause, WProc, WProgram}
-use Rattle.boogie_wide.specs.Changed.{targets, changes}
-use Rattle.boogie_wide.specs.Conditions.{variable_names}
-use Rattle.boogie_wide.specs.Procedures.{wide_types, param_types, return_types, head_types, proc_named}
-use Rattle.boogie_wide.specs.WideTypes as ty
-use Rattle.boogie_wide.specs.WideTypes.{AreBools, IsGuard, HaveBases, IsCall, IsWideStmt, IsWide, IsWideBody, IsWideProc, IsWideProgram}
+use Rattle.boogie_loops.specs.Wide as w
+use Rattle.boogie_loops.specs.Wide.{Clause, WProc, WProgram}
+use Rattle.boogie_loops.specs.Changed.{targets, changes}
+use Rattle.boogie_loops.specs.Conditions.{variable_names}
+use Rattle.boogie_loops.specs.Procedures.{wide_types, param_types, return_types, head_types, proc_named}
+use Rattle.boogie_loops.specs.WideTypes as ty
+use Rattle.boogie_loops.specs.WideTypes.{AreBools, IsGuard, HaveBases, IsCall, IsWideStmt, IsWide, IsWideBody, IsWideProc, IsWideProgram}
 use Rattle.boogie_cut.specs.Cut.{join, alone, asserts, assumes, havocs, assigns, argument_numbers, stands_for, renamed_clauses, cut_call, cut_guard, cut_turn, cut_loop, cut_stmt, cut, cut_body, cut_proc, cut_procs, cut_program}
 use Rattle.boogie_cut.specs.Fresh.{fresh_locals, free_number, is_a}
 

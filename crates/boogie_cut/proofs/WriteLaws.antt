@@ -13,14 +13,14 @@ use Rattle.boogie_tree.specs.declared.programs.Local.{Local}
 use Rattle.boogie_tree.specs.declared.programs.Proc.{Proc}
 use Rattle.boogie_tree.specs.declared.stmts.BStmt as stmt
 use Rattle.boogie_meaning.specs.Renamed.{renamed}
-use Rattle.boogie_wide.specs.Changed.{changes, targets}
-use Rattle.boogie_wide.specs.Procedures.{param_types, proc_named, wide_types}
-use Rattle.boogie_wide.specs.View.{wproc_of, wstmt_of, wstmts_of}
-use Rattle.boogie_wide.specs.Wide as w
-use Rattle.boogie_wide.specs.declared.wide.Clause.{Clause}
-use Rattle.boogie_wide.specs.declared.wide.WProc.{WProc}
-use Rattle.boogie_wide.specs.declared.wide.WStmt as wstmt
-use Rattle.boogie_wide.proofs.ViewLaws.{wstmt_of-If, wstmt_of-Either, wstmt_of-While}
+use Rattle.boogie_loops.specs.Changed.{changes, targets}
+use Rattle.boogie_loops.specs.Procedures.{param_types, proc_named, wide_types}
+use Rattle.boogie_loops.specs.View.{wproc_of, wstmt_of, wstmts_of}
+use Rattle.boogie_loops.specs.Wide as w
+use Rattle.boogie_loops.specs.declared.wide.Clause.{Clause}
+use Rattle.boogie_loops.specs.declared.wide.WProc.{WProc}
+use Rattle.boogie_loops.specs.declared.wide.WStmt as wstmt
+use Rattle.boogie_loops.proofs.ViewLaws.{wstmt_of-If, wstmt_of-Either, wstmt_of-While}
 use Rattle.boogie_cut.specs.Cut.{Written, plainly, join, alone, asserts, assumes, havocs, assigns, argument_numbers, stands_for, renamed_clauses, cut_call, cut_guard, cut_turn, cut_loop, cut_stmt, cut, cut_proc, cut_procs}
 use Rattle.boogie_cut.specs.Fresh.{fresh_locals}
 use Rattle.boogie_cut.specs.View.{IsBody, IsWritten, a_names, clauses_of, types_in}

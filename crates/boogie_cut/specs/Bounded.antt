@@ -2,7 +2,7 @@
 use Rattle.std.specs.Prelude.{⊤, List}
 use Rattle.boogie_tree.specs.Value.{BChoice}
 use Rattle.boogie_meaning.specs.Run.{Failed, Blocked, Short, Over, Wrong}
-use Rattle.boogie_wide.specs.Turning.{Turned, Goes, Halts, Spent}
+use Rattle.boogie_loops.specs.Turning.{Turned, Goes, Halts, Spent}
 
 abbrev pub TurnsWithin : Turned → Type 0
 TurnsWithin (Goes env cs n) = ⊤

@@ -7,11 +7,11 @@ use Rattle.boogie_tree.specs.Expr as t
 use Rattle.boogie_tree.specs.Stmt as s
 use Rattle.boogie_tree.specs.Program.{BType, Proc, BProgram}
 use Rattle.boogie_meaning.specs.Renamed.{renamed}
-use Rattle.boogie_wide.specs.Wide as w
-use Rattle.boogie_wide.specs.Wide.{Clause, WProc, WProgram}
-use Rattle.boogie_wide.specs.Changed.{targets}
-use Rattle.boogie_wide.specs.Conditions.{variable_names}
-use Rattle.boogie_wide.specs.Procedures.{wide_types, param_types, proc_named}
+use Rattle.boogie_loops.specs.Wide as w
+use Rattle.boogie_loops.specs.Wide.{Clause, WProc, WProgram}
+use Rattle.boogie_loops.specs.Changed.{targets}
+use Rattle.boogie_loops.specs.Conditions.{variable_names}
+use Rattle.boogie_loops.specs.Procedures.{wide_types, param_types, proc_named}
 use Rattle.boogie_cut.specs.Fresh.{fresh_locals, is_a}
 
 -- ---- blocks

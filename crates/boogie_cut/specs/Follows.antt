@@ -9,10 +9,10 @@ use Rattle.boogie_tree.specs.Value.{BValue, BChoice}
 use Rattle.boogie_tree.specs.Values.{IsEnvironment, IsReducedChoice}
 use Rattle.boogie_meaning.specs.Programs.{types_of, brun_proc, ProcFails}
 use Rattle.boogie_meaning.specs.Run.{Failed}
-use Rattle.boogie_wide.specs.Wide.{WStmts, WProc, WProgram}
-use Rattle.boogie_wide.specs.Modular.{cutrun_proc}
-use Rattle.boogie_wide.specs.Procedures.{wide_types}
-use Rattle.boogie_wide.specs.Turning.{Halts, wrun_proc}
+use Rattle.boogie_loops.specs.Wide.{WStmts, WProc, WProgram}
+use Rattle.boogie_loops.specs.Modular.{cutrun_proc}
+use Rattle.boogie_loops.specs.Procedures.{wide_types}
+use Rattle.boogie_loops.specs.Turning.{Halts, wrun_proc}
 use Rattle.boogie_cut.specs.Alike.{EndAlike}
 
 -- The procedure p is written for d, a procedure with this body among the procedures ps.

@@ -7,8 +7,8 @@ use Rattle.boogie_tree.specs.Value.{BValue, One, Int, BChoice, Value}
 use Rattle.boogie_tree.specs.Values.{plain_type}
 use Rattle.boogie_tree.specs.declared.exprs.BBase.TheVariants as base
 use Rattle.boogie_tree.specs.declared.exprs.BOp.TheVariants as op
-use Rattle.boogie_wide.specs.Wide as w
-use Rattle.boogie_wide.specs.Wide.{WProc}
+use Rattle.boogie_loops.specs.Wide as w
+use Rattle.boogie_loops.specs.Wide.{WProc}
 use Rattle.boogie_cut.specs.Cut.{cut_proc}
 
 -- the labels of the precondition, the postcondition and the invariant

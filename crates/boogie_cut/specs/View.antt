@@ -7,18 +7,18 @@ use Rattle.boogie_tree.specs.Stmt.{BStmts}
 use Rattle.boogie_tree.specs.Whole.{type_of}
 use Rattle.boogie_tree.specs.declared.programs.BType.{BType}
 use Rattle.boogie_tree.specs.declared.programs.Local.{Local}
-use Rattle.boogie_wide.specs.Procedures.{wide_types}
-use Rattle.boogie_wide.specs.Wide as w
-use Rattle.boogie_wide.specs.View.{clause_of}
-use Rattle.boogie_wide.specs.declared.wide.Clause.{Clause}
-use Rattle.boogie_wide.specs.declared.wide.WProc.{WProc}
+use Rattle.boogie_loops.specs.Procedures.{wide_types}
+use Rattle.boogie_loops.specs.Wide as w
+use Rattle.boogie_loops.specs.View.{clause_of}
+use Rattle.boogie_loops.specs.declared.wide.Clause.{Clause}
+use Rattle.boogie_loops.specs.declared.wide.WProc.{WProc}
 use Rattle.boogie_cut.specs.Cut.{Written, join, stands_for, cut, cut_body}
 use Rattle.boogie_cut.specs.Fresh.{is_a, is_among}
-use Rattle.boogie_cut.specs.declared.copies.Names.{Names}
-use Rattle.boogie_cut.specs.declared.copies.Names.TheVariants.{Own, Of}
+use Rattle.boogie_cut.specs.declared.copies.Renumbering.{Renumbering}
+use Rattle.boogie_cut.specs.declared.copies.Renumbering.TheVariants.{Own, Of}
 
 -- the number that a variable gets
-abbrev pub number_by : Names → ℕ → ℕ
+abbrev pub number_by : Renumbering → ℕ → ℕ
 number_by Own i = i
 number_by (Of numbers) i = stands_for numbers.now i
 

@@ -2,15 +2,15 @@
 ghost use Rattle.std.specs.Prelude.{◌≡◌, ◌++◌, ◌∷◌, [], take, Some, IfOk, OnOk};
 ghost use Rattle.std.specs.List.{range_with_len};
 ghost use Rattle.boogie_tree.specs.Whole.{exprs_of, stmts_of, type_of};
-ghost use Rattle.boogie_wide.specs.Procedures.{param_types};
-ghost use Rattle.boogie_wide.specs.View.{wproc_of};
+ghost use Rattle.boogie_loops.specs.Procedures.{param_types};
+ghost use Rattle.boogie_loops.specs.View.{wproc_of};
 ghost use Rattle.boogie_cut.specs.Cut as c;
 ghost use Rattle.boogie_cut.specs.View.{types_in, types_of_all};
 
-use crate::copies::{Names, bases};
+use crate::copies::{Renumbering, bases};
 use crate::pieces::{behind, write_asserts, write_assigns, write_assumes, write_havocs};
+use boogie_loops::WProc;
 use boogie_tree::{BExpr, BStmt, BType, Local};
-use boogie_wide::WProc;
 use std::alloc::Global;
 use vb_base::Memory;
 
@@ -88,7 +88,7 @@ pub(crate) fn write_call(
         (c.cut_call targets.now (exprs_of arguments.now) n (Some (wproc_of callee.now))).stmts) }
 {
     let numbers = numbers(alloc, n, arguments.len(), targets)?;
-    let names = Names::Of(&numbers);
+    let names = Renumbering::Of(&numbers);
     write_assigns(alloc, n, arguments, out)?;
     write_asserts(alloc, names, &callee.preconditions, out)?;
     write_havocs(targets, out)?;

@@ -2,11 +2,11 @@
 ghost use Rattle.std.specs.Prelude.{◌≡◌, ◌++◌, ℕ, nat_lt, IfOk, OnOk, Contains};
 ghost use Rattle.std.specs.List.{filter, range_with_len};
 ghost use Rattle.std.specs.List.Sorted.{IsStrictlyIncreasing};
-ghost use Rattle.boogie_wide.specs.Changed.{changes};
-ghost use Rattle.boogie_wide.specs.View.{wstmt_of, wstmts_of};
+ghost use Rattle.boogie_loops.specs.Changed.{changes};
+ghost use Rattle.boogie_loops.specs.View.{wstmt_of, wstmts_of};
 ghost use Rattle.boogie_cut.specs.View.{changed_by, changed_by_stmt};
 
-use boogie_wide::WStmt;
+use boogie_loops::WStmt;
 use std::alloc::Global;
 use vb_base::Memory;
 

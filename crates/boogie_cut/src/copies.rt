@@ -10,7 +10,7 @@ use vb_base::{Memory, boxed};
 
 /// The numbers that variables get.
 #[derive(Clone, Copy)]
-pub(crate) enum Names<'a> {
+pub(crate) enum Renumbering<'a> {
     /// Their own.
     Own,
     /// Those at their places.
@@ -18,18 +18,18 @@ pub(crate) enum Names<'a> {
 }
 
 /// The number that a variable gets.
-fn number(names: Names<'_>, local: usize) -> usize
+fn number(names: Renumbering<'_>, local: usize) -> usize
     ensures { result ≡ number_by names.entry local }
 {
     match names {
-        Names::Own => local,
-        Names::Of(numbers) => numbers.get(local).copied().unwrap_or(0),
+        Renumbering::Own => local,
+        Renumbering::Of(numbers) => numbers.get(local).copied().unwrap_or(0),
     }
 }
 
 /// The expression with these numbers of its variables.
 #[cycle(copying)]
-fn renumbered(alloc: Global, names: Names<'_>, e: &BExpr) -> Result<Box<BExpr>, Memory>
+fn renumbered(alloc: Global, names: Renumbering<'_>, e: &BExpr) -> Result<Box<BExpr>, Memory>
     ensures { IfOk result (λ x. expr_of x.value ≡ renamed (number_by names.entry) (expr_of e.now)) }
 {
     match e {
@@ -76,7 +76,7 @@ fn renumbered(alloc: Global, names: Names<'_>, e: &BExpr) -> Result<Box<BExpr>, 
 
 /// The same of the indices of a map.
 #[cycle(copying)]
-fn renumbered_all(alloc: Global, names: Names<'_>, es: &[BExpr]) -> Result<Vec<BExpr>, Memory>
+fn renumbered_all(alloc: Global, names: Renumbering<'_>, es: &[BExpr]) -> Result<Vec<BExpr>, Memory>
     ensures { IfOk result (λ xs. exprs_of xs.items ≡ renamed_in (number_by names.entry) (exprs_of es.now)) }
 {
     let mut keys = Vec::with_capacity(alloc, es.len())?;
@@ -87,7 +87,7 @@ fn renumbered_all(alloc: Global, names: Names<'_>, es: &[BExpr]) -> Result<Vec<B
 }
 
 /// A copy of an expression with these numbers of its variables.
-pub(crate) fn copy_by(alloc: Global, names: Names<'_>, e: &BExpr) -> Result<BExpr, Memory>
+pub(crate) fn copy_by(alloc: Global, names: Renumbering<'_>, e: &BExpr) -> Result<BExpr, Memory>
     ensures { IfOk result (λ x. expr_of x ≡ renamed (number_by names.entry) (expr_of e.now)) }
 {
     Ok(Box::into_inner(renumbered(alloc, names, e)?))
@@ -97,14 +97,14 @@ pub(crate) fn copy_by(alloc: Global, names: Names<'_>, e: &BExpr) -> Result<BExp
 pub(crate) fn copy(alloc: Global, e: &BExpr) -> Result<BExpr, Memory>
     ensures { IfOk result (λ x. expr_of x ≡ expr_of e.now) }
 {
-    copy_by(alloc, Names::Own, e)
+    copy_by(alloc, Renumbering::Own, e)
 }
 
 /// A copy of indices.
 pub(crate) fn copy_all(alloc: Global, es: &[BExpr]) -> Result<Vec<BExpr>, Memory>
     ensures { IfOk result (λ xs. exprs_of xs.items ≡ exprs_of es.now) }
 {
-    renumbered_all(alloc, Names::Own, es)
+    renumbered_all(alloc, Renumbering::Own, es)
 }
 
 /// A copy of types.

@@ -13,7 +13,7 @@ mod programs;
 mod statements;
 pub mod worked;
 
-pub use boogie_wide::{Clause, WProc, WProgram, WStmt};
-pub use boogie_wide_types::check_wide;
+pub use boogie_loops::{Clause, WProc, WProgram, WStmt};
+pub use boogie_loops_text::read_wide;
+pub use boogie_loops_types::check_wide;
 pub use programs::cut;
-pub use wide_text::read_wide;

@@ -4,16 +4,16 @@ ghost use Rattle.std.specs.List.{filter, range_with_len};
 ghost use Rattle.std.specs.Option.{option_map};
 ghost use Rattle.boogie_tree.specs.Stmt as s;
 ghost use Rattle.boogie_tree.specs.Whole.{expr_of, stmts_of};
-ghost use Rattle.boogie_wide.specs.Changed.{changes, targets};
-ghost use Rattle.boogie_wide.specs.View.{wstmts_of};
+ghost use Rattle.boogie_loops.specs.Changed.{changes, targets};
+ghost use Rattle.boogie_loops.specs.View.{wstmts_of};
 ghost use Rattle.boogie_cut.specs.Cut as c;
 ghost use Rattle.boogie_cut.specs.View.{clauses_of, types_in};
 
 use crate::changed::targets;
-use crate::copies::{Names, copy};
+use crate::copies::{Renumbering, copy};
 use crate::pieces::{write_asserts, write_assumes, write_havocs};
+use boogie_loops::{Clause, WStmt};
 use boogie_tree::{BExpr, BStmt, Local};
-use boogie_wide::{Clause, WStmt};
 use std::alloc::Global;
 use vb_base::Memory;
 
@@ -54,16 +54,16 @@ fn write_head(
         (c.join (c.havocs (filter (changes (wstmts_of body.now)) (range_with_len 0 n))) (c.assumes (clauses_of invariants.now))))) }
 {
     let targets = targets(alloc, n, body)?;
-    write_asserts(alloc, Names::Own, invariants, out)?;
+    write_asserts(alloc, Renumbering::Own, invariants, out)?;
     write_havocs(&targets, out)?;
-    write_assumes(alloc, Names::Own, invariants, out)
+    write_assumes(alloc, Renumbering::Own, invariants, out)
 }
 
 /// After a turn the invariants hold, and nothing goes on.
 fn end_turn(alloc: Global, invariants: &[Clause], turn: &mut Vec<BStmt>) -> Result<(), Memory>
     ensures { OnOk result (stmts_of turn.new.items ≡ c.cut_turn (clauses_of invariants.now) (stmts_of turn.old.items)) }
 {
-    write_asserts(alloc, Names::Own, invariants, turn)?;
+    write_asserts(alloc, Renumbering::Own, invariants, turn)?;
     Ok(turn.push(BStmt::Assume(BExpr::Bool(false)))?)
 }
 

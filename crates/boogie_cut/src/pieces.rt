@@ -4,15 +4,15 @@ ghost use Rattle.boogie_tree.specs.Whole.{exprs_of, stmts_of};
 ghost use Rattle.boogie_cut.specs.Cut as c;
 ghost use Rattle.boogie_cut.specs.View.{clauses_of, number_by};
 
-use crate::copies::{Names, copy, copy_by};
+use crate::copies::{Renumbering, copy, copy_by};
+use boogie_loops::Clause;
 use boogie_tree::{BExpr, BStmt};
-use boogie_wide::Clause;
 use std::alloc::Global;
 use vb_base::Memory;
 
 pub(crate) fn write_asserts(
     alloc: Global,
-    names: Names<'_>,
+    names: Renumbering<'_>,
     clauses: &[Clause],
     out: &mut Vec<BStmt>,
 ) -> Result<(), Memory>
@@ -27,7 +27,7 @@ pub(crate) fn write_asserts(
 
 pub(crate) fn write_assumes(
     alloc: Global,
-    names: Names<'_>,
+    names: Renumbering<'_>,
     clauses: &[Clause],
     out: &mut Vec<BStmt>,
 ) -> Result<(), Memory>

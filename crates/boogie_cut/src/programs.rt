@@ -2,19 +2,19 @@
 ghost use Rattle.std.specs.Prelude.{◌≡◌, ◌++◌, ◌∷◌, [], IfOk, OnOk, map};
 ghost use Rattle.boogie_tree.specs.Whole.{proc_of, program_of, stmts_of};
 ghost use Rattle.boogie_meaning.specs.Programs.{IsTypedProgram};
-ghost use Rattle.boogie_wide.specs.View.{wproc_of, wprogram_of, wstmts_of};
-ghost use Rattle.boogie_wide.specs.WideTypes.{IsWideProgram};
+ghost use Rattle.boogie_loops.specs.View.{wproc_of, wprogram_of, wstmts_of};
+ghost use Rattle.boogie_loops.specs.WideTypes.{IsWideProgram};
 ghost use Rattle.boogie_cut.specs.Cut as c;
 ghost use Rattle.boogie_cut.specs.Cut.{cut_program};
 ghost use Rattle.boogie_cut.specs.Follows.{AreCutOf};
 ghost use Rattle.boogie_cut.specs.View.{IsBody, types_of_all};
 
-use crate::copies::Names;
+use crate::copies::Renumbering;
 use crate::fresh::with_fresh;
 use crate::pieces::{write_asserts, write_assumes};
-use crate::statements::{Frame, cut_block};
+use crate::statements::{StatementScope, cut_block};
+use boogie_loops::{Procs, WProc, WProgram, WStmt};
 use boogie_tree::{BProgram, BStmt, BType, Proc};
-use boogie_wide::{Procs, WProc, WProgram, WStmt};
 use std::alloc::Global;
 use vb_base::Memory;
 
@@ -30,13 +30,13 @@ fn cut_body(
     ensures { IfOk result (λ xs. IsBody (map wproc_of procs.now.all.now) (wproc_of proc.now) (wstmts_of body.now) (types_of_all types.new.items) (stmts_of xs.items)) }
 {
     let mut out = Vec::new(alloc);
-    write_assumes(alloc, Names::Own, &proc.preconditions, &mut out)?;
-    let frame = Frame {
+    write_assumes(alloc, Renumbering::Own, &proc.preconditions, &mut out)?;
+    let frame = StatementScope {
         procs,
         own: &proc.locals,
     };
     cut_block(alloc, &frame, body, types, &mut out)?;
-    write_asserts(alloc, Names::Own, &proc.postconditions, &mut out)?;
+    write_asserts(alloc, Renumbering::Own, &proc.postconditions, &mut out)?;
     Ok(out)
 }
 

@@ -2,7 +2,7 @@
 ghost use Rattle.std.specs.Prelude.{◌≡◌, ◌+◌, length, map, IfOk, OnOk, Some};
 ghost use Rattle.boogie_tree.specs.Stmt as s;
 ghost use Rattle.boogie_tree.specs.Whole.{expr_of, exprs_of, stmts_of};
-ghost use Rattle.boogie_wide.specs.View.{wproc_of, wstmt_of, wstmts_of};
+ghost use Rattle.boogie_loops.specs.View.{wproc_of, wstmt_of, wstmts_of};
 ghost use Rattle.boogie_cut.specs.Cut as c;
 ghost use Rattle.boogie_cut.specs.View.{IsWritten, types_in, types_of_all};
 
@@ -10,14 +10,14 @@ use crate::calls::{add_params, write_call};
 use crate::copies::{copy, copy_all};
 use crate::loops::{write_either, write_if, write_loop};
 use crate::pieces::behind;
+use boogie_loops::{Procs, WProc, WStmt};
 use boogie_tree::{BExpr, BStmt, BType, Local};
-use boogie_wide::{Procs, WProc, WStmt};
 use std::alloc::Global;
 use vb_base::{Label, Memory};
 
 /// What statements may name: the procedures of the program, and the variables of their own.
 #[derive(Clone, Copy)]
-pub(crate) struct Frame<'a> {
+pub(crate) struct StatementScope<'a> {
     pub(crate) procs: &'a Procs<'a>,
     pub(crate) own: &'a [Local],
 }
@@ -86,7 +86,7 @@ fn cut_call(
 #[cycle(cutting)]
 fn cut_stmt(
     alloc: Global,
-    frame: &Frame<'_>,
+    frame: &StatementScope<'_>,
     stmt: &WStmt,
     types: &mut Vec<BType>,
     out: &mut Vec<BStmt>,
@@ -126,7 +126,7 @@ fn cut_stmt(
 #[cycle(cutting)]
 fn block(
     alloc: Global,
-    frame: &Frame<'_>,
+    frame: &StatementScope<'_>,
     stmts: &[WStmt],
     types: &mut Vec<BType>,
 ) -> Result<Vec<BStmt>, Memory>
@@ -143,7 +143,7 @@ fn block(
 #[cycle(cutting)]
 pub(crate) fn cut_block(
     alloc: Global,
-    frame: &Frame<'_>,
+    frame: &StatementScope<'_>,
     stmts: &[WStmt],
     types: &mut Vec<BType>,
     out: &mut Vec<BStmt>,

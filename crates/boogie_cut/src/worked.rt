@@ -5,7 +5,7 @@ ghost use Rattle.std.specs.Prelude.{◌≡◌, [], ◌∷◌};
 ghost use Rattle.vb_value.specs.Bound.{Bounded};
 ghost use Rattle.boogie_meaning.specs.Programs.{brun_proc};
 ghost use Rattle.boogie_meaning.specs.Run.{Done, Stops, Failed, Blocked};
-ghost use Rattle.boogie_wide.specs.Turning.{Goes, Spent, wrun_proc};
+ghost use Rattle.boogie_loops.specs.Turning.{Goes, Spent, wrun_proc};
 ghost use Rattle.boogie_cut.specs.Sum.{Labels, sum, body, written, at_most_n, at_most_seven, values, choice};
 
 /// With five as the parameter, and as the value of the return at the last head of the loop, the procedure ends as it should.

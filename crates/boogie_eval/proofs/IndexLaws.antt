@@ -9,7 +9,7 @@ use Rattle.boogie_tree.specs.Whole.{expr_of, exprs_of}
 use Rattle.boogie_tree.specs.declared.exprs.BExpr as expr
 use Rattle.boogie_meaning.specs.Ends.{End, Is, Over, Wrong, then_with}
 use Rattle.boogie_meaning.specs.Operators.{part_of}
-use Rattle.boogie_meaning.specs.Value.{Scope, value, values}
+use Rattle.boogie_meaning.specs.Value.{QuantifierScope, value, values}
 use Rattle.boogie_eval.specs.Answers.{Answers}
 use Rattle.boogie_eval.specs.declared.eval_ends.Miss.{Miss}
 use Rattle.boogie_eval.proofs.AnswerLaws.{the_value, same_answers, then_then, stops_then}
@@ -19,7 +19,7 @@ then_is (Is x) = refl
 then_is Over = refl
 then_is Wrong = refl
 
-module _ (w : Scope) (env : List BValue) where
+module _ (w : QuantifierScope) (env : List BValue) where
   rest-of : List expr.BExpr → Key → KeyPart → End Key
   rest-of es front p = then_with (values Bounded w (exprs_of es) env) (λ k. Is (front ++ (p ∷ k)))
 

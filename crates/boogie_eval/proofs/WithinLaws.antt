@@ -20,14 +20,14 @@ use Rattle.boogie_tree.specs.declared.exprs.BOp.{BOp}
 use Rattle.boogie_tree.specs.declared.exprs.BOp.TheVariants as op
 use Rattle.boogie_meaning.specs.Ends.{End, Is, Over, Wrong, then_with, found, fitting}
 use Rattle.boogie_meaning.specs.Operators as o
-use Rattle.boogie_meaning.specs.Value.{Scope, scalar_in, map_in, the_map, value, values}
+use Rattle.boogie_meaning.specs.Value.{QuantifierScope, scalar_in, map_in, the_map, value, values}
 use Rattle.boogie_tree.specs.declared.values.BScalar as scalars
 use Rattle.boogie_eval.specs.Answers.{Answers, no_memory, is, over, wrong}
 use Rattle.boogie_eval.specs.declared.eval_ends.Miss.{Miss}
 use Rattle.boogie_eval.specs.View.{scope_of}
 use Rattle.boogie_eval.specs.Within.{IsWithinScalar, IsWithinValue, IsWithinExpr, AreWithinExprs, Gives, IsWithinScope}
-use Rattle.boogie_eval.specs.declared.eval_values.Scope.TheVariants as scope
-use Rattle.boogie_eval.specs.declared.eval_values.Scope as scopes
+use Rattle.boogie_eval.specs.declared.eval_values.ForallScope.TheVariants as scope
+use Rattle.boogie_eval.specs.declared.eval_values.ForallScope as scopes
 
 -- ---- ways to go on
 
@@ -176,7 +176,7 @@ get_within m k h = get-All key_cmp IsWithinScalar m k h.0 h.1
 
 -- ---- expressions
 
-module _ (w : Scope) (s : IsWithinScope w) (env : List BValue) (h : All IsWithinValue env) where
+module _ (w : QuantifierScope) (s : IsWithinScope w) (env : List BValue) (h : All IsWithinValue env) where
   pub value_gives : (e : t.BExpr) → IsWithinExpr e → Gives IsWithinScalar (value Bounded w e env)
   value_gives (t.Var i) g = then_gives IsWithinValue IsWithinScalar (found (slice_get env i)) scalar_in (found_gives env i h) scalar_gives
   value_gives (t.Int n) g = g
@@ -204,7 +204,7 @@ module _ (w : Scope) (s : IsWithinScope w) (env : List BValue) (h : All IsWithin
 
 -- ---- scopes
 
-pub scope_within : (env : List BValue) (x : scopes.Scope) → IsWithinScope (scope_of env x)
+pub scope_within : (env : List BValue) (x : scopes.ForallScope) → IsWithinScope (scope_of env x)
 scope_within env scope.Outside = record { bound = λ m h. tt; all = λ us a. truth_gives _ }
 scope_within env (scope.At row) = record { bound = λ m h. get_within m row.key.now h; all = λ us a. tt }
 scope_within env scope.Elsewhere = record { bound = λ m h. h.0; all = λ us a. tt }
@@ -219,7 +219,7 @@ argument_within [] i d lt h = absurd (omega arith)
 argument_within (e ∷ es) zero d lt h = h.0
 argument_within (e ∷ es) (suc i) d lt h = argument_within es i d (omega arith) h.1
 
-pub all_within : (env : List BValue) (x : scopes.Scope) (e : t.BExpr) {r : Result scalars.BScalar Miss} → All IsWithinValue env → IsWithinExpr e → Answers scalar_of (value Bounded (scope_of env x) e env) r → IfOk r (λ v. IsWithinScalar (scalar_of v))
+pub all_within : (env : List BValue) (x : scopes.ForallScope) (e : t.BExpr) {r : Result scalars.BScalar Miss} → All IsWithinValue env → IsWithinExpr e → Answers scalar_of (value Bounded (scope_of env x) e env) r → IfOk r (λ v. IsWithinScalar (scalar_of v))
 all_within env x e h g no_memory = tt
 all_within env x e h g (is p) = gives_value IsWithinScalar (value Bounded (scope_of env x) e env) _ (value_gives (scope_of env x) (scope_within env x) env h e g) p
 all_within env x e h g (over p) = tt

@@ -11,8 +11,8 @@ use Rattle.boogie_meaning.specs.Ends.{Is, then_with}
 use Rattle.boogie_meaning.specs.Marked.{keys_in}
 use Rattle.boogie_meaning.specs.Value.{the_map}
 use Rattle.boogie_eval.specs.declared.eval_columns.Column.{Column}
-use Rattle.boogie_eval.specs.declared.eval_values.Scope.{Scope}
-use Rattle.boogie_eval.specs.declared.eval_values.Scope.TheVariants.{Outside, At, Elsewhere}
+use Rattle.boogie_eval.specs.declared.eval_values.ForallScope.{ForallScope}
+use Rattle.boogie_eval.specs.declared.eval_values.ForallScope.TheVariants.{Outside, At, Elsewhere}
 
 abbrev mutual
   -- the numbers of the maps that an expression indexes by the bound names
@@ -71,7 +71,7 @@ abbrev pub StandsIn : List Column → ℕ → v.Key → BScalar → Type 0
 StandsIn cs n k x = (i : ℕ) × (j : ℕ) × (c : Column) × (slice_get cs i ≡ Some c) × (c.number ≡ n) × (slice_get (entries_in c) j ≡ Some (k, x))
 
 -- the columns that a scope has are those of the environment
-abbrev pub FitsScope : List v.BValue → Scope → Type 0
+abbrev pub FitsScope : List v.BValue → ForallScope → Type 0
 FitsScope env Outside = ⊤
 FitsScope env (At row) = AreColumns env row.columns.now
 FitsScope env Elsewhere = ⊤

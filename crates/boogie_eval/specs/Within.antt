@@ -8,7 +8,7 @@ use Rattle.boogie_tree.specs.Stmt as s
 use Rattle.boogie_tree.specs.Value.{Key, BScalar, Int, Bool, Ref, Real, Snap, BValue, One, Many, Entry, BChoice, Pick, Value, Entries}
 use Rattle.boogie_tree.specs.declared.exprs.BBase.{BBase}
 use Rattle.boogie_meaning.specs.Ends.{End, Is, Over, Wrong}
-use Rattle.boogie_meaning.specs.Value.{Scope}
+use Rattle.boogie_meaning.specs.Value.{QuantifierScope}
 
 -- ---- values
 
@@ -59,6 +59,6 @@ Gives P Over = ⊤
 Gives P Wrong = ⊤
 
 -- from maps with such values a scope gives such values
-pub record IsWithinScope (w : Scope) : Type 0 where
+pub record IsWithinScope (w : QuantifierScope) : Type 0 where
   pub bound : (m : Map Key BScalar) → IsWithinValue (Many m) → Gives IsWithinScalar (w.bound m)
   pub all : (us : List BBase) (a : t.BExpr) → Gives IsWithinScalar (w.all us a)

@@ -26,7 +26,9 @@ use crate::eval_keys::{has_other, worse};
 use crate::eval_marked::mark;
 use crate::eval_operators::{is_lazy, opposite, plain_truth, plain_with, settled, truth, truth_of};
 use crate::eval_unary::{Unary, applied, fraction, paired};
-use crate::eval_values::{Row, Scope, part_of, place, value_at, value_at_bound, variable};
+use crate::eval_values::{
+    ForallRow, ForallScope, part_of, place, value_at, value_at_bound, variable,
+};
 use boogie_tree::{BBase, BExpr, BOp, BScalar, BValue, fits_key};
 use std::alloc::Global;
 use vb_base::Memory;
@@ -45,7 +47,7 @@ fn columns_in<'a>(alloc: Global, e: &BExpr, env: &'a [BValue]) -> Result<Vec<Col
 
 /// The value of an expression.
 #[cycle(evaluation)]
-pub fn eval(alloc: Global, e: &BExpr, env: &[BValue], scope: Scope) -> Answer
+pub fn eval(alloc: Global, e: &BExpr, env: &[BValue], scope: ForallScope) -> Answer
     requires e_within { IsWithinExpr (expr_of e.now) }
     requires env_within { All IsWithinValue (values_of env.now) }
     requires scope_fits { FitsScope (values_of env.now) scope }
@@ -80,7 +82,7 @@ pub fn eval(alloc: Global, e: &BExpr, env: &[BValue], scope: Scope) -> Answer
 
 /// The value of an operator of one side.
 #[cycle(evaluation)]
-fn unary(alloc: Global, op: Unary, a: &BExpr, env: &[BValue], scope: Scope) -> Answer
+fn unary(alloc: Global, op: Unary, a: &BExpr, env: &[BValue], scope: ForallScope) -> Answer
     requires a_within { IsWithinExpr (expr_of a.now) }
     requires env_within { All IsWithinValue (values_of env.now) }
     requires scope_fits { FitsScope (values_of env.now) scope }
@@ -92,7 +94,7 @@ fn unary(alloc: Global, op: Unary, a: &BExpr, env: &[BValue], scope: Scope) -> A
 
 /// The value of a pair.
 #[cycle(evaluation)]
-fn pair(alloc: Global, x: &BExpr, y: &BExpr, env: &[BValue], scope: Scope) -> Answer
+fn pair(alloc: Global, x: &BExpr, y: &BExpr, env: &[BValue], scope: ForallScope) -> Answer
     requires x_within { IsWithinExpr (expr_of x.now) }
     requires y_within { IsWithinExpr (expr_of y.now) }
     requires env_within { All IsWithinValue (values_of env.now) }
@@ -110,7 +112,14 @@ fn pair(alloc: Global, x: &BExpr, y: &BExpr, env: &[BValue], scope: Scope) -> An
 
 /// The value of an operator of two sides.
 #[cycle(evaluation)]
-fn binary(alloc: Global, op: BOp, x: &BExpr, y: &BExpr, env: &[BValue], scope: Scope) -> Answer
+fn binary(
+    alloc: Global,
+    op: BOp,
+    x: &BExpr,
+    y: &BExpr,
+    env: &[BValue],
+    scope: ForallScope,
+) -> Answer
     requires x_within { IsWithinExpr (expr_of x.now) }
     requires y_within { IsWithinExpr (expr_of y.now) }
     requires env_within { All IsWithinValue (values_of env.now) }
@@ -130,7 +139,7 @@ fn binary(alloc: Global, op: BOp, x: &BExpr, y: &BExpr, env: &[BValue], scope: S
 
 /// The value of an expression that is to be a truth.
 #[cycle(evaluation)]
-pub fn holds(alloc: Global, e: &BExpr, env: &[BValue], scope: Scope) -> Result<bool, Miss>
+pub fn holds(alloc: Global, e: &BExpr, env: &[BValue], scope: ForallScope) -> Result<bool, Miss>
     requires e_within { IsWithinExpr (expr_of e.now) }
     requires env_within { All IsWithinValue (values_of env.now) }
     requires scope_fits { FitsScope (values_of env.now) scope }
@@ -152,7 +161,7 @@ fn relates(
     x: &BExpr,
     y: &BExpr,
     env: &[BValue],
-    scope: Scope,
+    scope: ForallScope,
 ) -> Result<bool, Miss>
     requires x_within { IsWithinExpr (expr_of x.now) }
     requires y_within { IsWithinExpr (expr_of y.now) }
@@ -185,7 +194,7 @@ fn relates_to(
     left: &BScalar,
     y: &BExpr,
     env: &[BValue],
-    scope: Scope,
+    scope: ForallScope,
 ) -> Result<bool, Miss>
     requires left_within { IsWithinScalar (scalar_of left.now) }
     requires y_within { IsWithinExpr (expr_of y.now) }
@@ -206,7 +215,7 @@ fn relates_to(
 
 /// The key that indices make, from left to right.
 #[cycle(evaluation)]
-pub fn key_of(alloc: Global, es: &[BExpr], env: &[BValue], scope: Scope) -> Result<Key, Miss>
+pub fn key_of(alloc: Global, es: &[BExpr], env: &[BValue], scope: ForallScope) -> Result<Key, Miss>
     requires es_within { AreWithinExprs (exprs_of es.now) }
     requires env_within { All IsWithinValue (values_of env.now) }
     requires scope_fits { FitsScope (values_of env.now) scope }
@@ -224,7 +233,7 @@ pub fn key_of(alloc: Global, es: &[BExpr], env: &[BValue], scope: Scope) -> Resu
 
 /// The key that one index makes.
 #[cycle(evaluation)]
-fn key_of_one(alloc: Global, index: &BExpr, env: &[BValue], scope: Scope) -> Result<Key, Miss>
+fn key_of_one(alloc: Global, index: &BExpr, env: &[BValue], scope: ForallScope) -> Result<Key, Miss>
     requires index_within { IsWithinExpr (expr_of index.now) }
     requires env_within { All IsWithinValue (values_of env.now) }
     requires scope_fits { FitsScope (values_of env.now) scope }
@@ -235,15 +244,21 @@ fn key_of_one(alloc: Global, index: &BExpr, env: &[BValue], scope: Scope) -> Res
 
 /// The value of a quantifier. None stands under another.
 #[cycle(evaluation)]
-fn forall_in(alloc: Global, bases: &[BBase], a: &BExpr, env: &[BValue], scope: Scope) -> Answer
+fn forall_in(
+    alloc: Global,
+    bases: &[BBase],
+    a: &BExpr,
+    env: &[BValue],
+    scope: ForallScope,
+) -> Answer
     requires a_within { IsWithinExpr (expr_of a.now) }
     requires env_within { All IsWithinValue (values_of env.now) }
     ensures { Answers scalar_of ((scope_of (values_of env.now) scope.entry).all bases.now (expr_of a.now)) result }
 {
     match scope {
-        Scope::Outside => truth(quantified(alloc, bases, a, env)),
-        Scope::At(_) => Err(Miss::Wrong),
-        Scope::Elsewhere => Err(Miss::Wrong),
+        ForallScope::Outside => truth(quantified(alloc, bases, a, env)),
+        ForallScope::At(_) => Err(Miss::Wrong),
+        ForallScope::Elsewhere => Err(Miss::Wrong),
     }
 }
 
@@ -274,7 +289,7 @@ fn elsewhere(
     ensures { Answers (λ p. p) (end_elsewhere bases.now (expr_of a.now) (values_of env.now) (borrowed list.now)) result }
 {
     if has_other(alloc, bases, list)? {
-        holds(alloc, a, env, Scope::Elsewhere)
+        holds(alloc, a, env, ForallScope::Elsewhere)
     } else {
         Ok(true)
     }
@@ -300,7 +315,7 @@ fn at_keys<'a>(
     let mut end = rest;
     let mut nexts = vec![in alloc; 0usize; columns.len()]?;
     for key in list {
-        let row = Row {
+        let row = ForallRow {
             key: *key,
             columns,
             nexts: &nexts,
@@ -318,7 +333,7 @@ fn at_key(
     bases: &[BBase],
     a: &BExpr,
     env: &[BValue],
-    row: Row,
+    row: ForallRow,
     end: Result<bool, Miss>,
 ) -> Result<bool, Miss>
     requires a_within { IsWithinExpr (expr_of a.now) }
@@ -331,5 +346,5 @@ fn at_key(
     if !fits_key(bases, key.parts()) {
         return end;
     }
-    worse(holds(alloc, a, env, Scope::At(row)), end)
+    worse(holds(alloc, a, env, ForallScope::At(row)), end)
 }

@@ -24,7 +24,7 @@ use vb_value::{Key, KeyPart};
 /// The values of the names of a `forall`, and the maps that its body indexes by them, each with the index in its column at which
 /// the entry of these values is looked for first.
 #[derive(Clone, Copy)]
-pub struct Row<'a, 'b, 'c> {
+pub struct ForallRow<'a, 'b, 'c> {
     pub(crate) key: &'a Key,
     pub(crate) columns: &'b [Column<'a>],
     pub(crate) nexts: &'c [usize],
@@ -32,11 +32,11 @@ pub struct Row<'a, 'b, 'c> {
 
 /// Where an expression stands.
 #[derive(Clone, Copy)]
-pub enum Scope<'a, 'b, 'c> {
+pub enum ForallScope<'a, 'b, 'c> {
     /// Under no `forall`.
     Outside,
     /// Under one whose names have these values.
-    At(Row<'a, 'b, 'c>),
+    At(ForallRow<'a, 'b, 'c>),
     /// Under one whose names have values that are not marked: each map has its default there.
     Elsewhere,
 }
@@ -133,7 +133,7 @@ fn value_here<'a>(column: &Column<'a>, at: usize, key: &Key) -> Option<&'a BScal
 }
 
 /// The value of the map of a number at the values of the bound names, where its column stands there.
-fn value_in_row<'a>(row: Row<'a, '_, '_>, number: usize) -> Option<&'a BScalar>
+fn value_in_row<'a>(row: ForallRow<'a, '_, '_>, number: usize) -> Option<&'a BScalar>
     ensures { IfSome result (λ x. StandsIn row.entry.columns.now number row.entry.key.now x.now) }
 {
     let at = row.columns.partition_point(|column| column.number < number);
@@ -146,7 +146,7 @@ fn value_in_row<'a>(row: Row<'a, '_, '_>, number: usize) -> Option<&'a BScalar>
     }
 }
 
-fn value_at_row(env: &[BValue], number: usize, row: Row) -> Answer
+fn value_at_row(env: &[BValue], number: usize, row: ForallRow) -> Answer
     requires { AreColumns (values_of env.now) row.columns.now }
     ensures { Answers scalar_of (then_with (m.the_map (values_of env.now) number) (λ n. Is (get key_cmp n row.entry.key.now))) result }
 {
@@ -165,14 +165,14 @@ pub(crate) fn value_at(env: &[BValue], number: usize, key: Result<Key, Miss>) ->
 }
 
 /// The value of a map at the bound names.
-pub(crate) fn value_at_bound(env: &[BValue], number: usize, scope: Scope) -> Answer
+pub(crate) fn value_at_bound(env: &[BValue], number: usize, scope: ForallScope) -> Answer
     requires { FitsScope (values_of env.now) scope }
     ensures { Answers scalar_of (then_with (m.the_map (values_of env.now) number) (scope_of (values_of env.now) scope.entry).bound) result }
 {
     match scope {
-        Scope::Outside => outside_at(env, number),
-        Scope::At(row) => value_at_row(env, number, row),
-        Scope::Elsewhere => default_at(env, number),
+        ForallScope::Outside => outside_at(env, number),
+        ForallScope::At(row) => value_at_row(env, number, row),
+        ForallScope::Elsewhere => default_at(env, number),
     }
 }
 
@@ -180,7 +180,7 @@ pub(crate) fn value_at_bound(env: &[BValue], number: usize, scope: Scope) -> Ans
 pub(crate) fn place<'a>(
     e: &BExpr,
     env: &'a [BValue],
-    scope: Scope<'a, '_, '_>,
+    scope: ForallScope<'a, '_, '_>,
 ) -> Option<&'a BScalar>
     requires { FitsScope (values_of env.now) scope }
     ensures { IfSome result (λ x. m.value Bounded (scope_of (values_of env.now) scope.entry) (expr_of e.now) (values_of env.now) ≡ Is (scalar_of x.now)) }
@@ -188,7 +188,7 @@ pub(crate) fn place<'a>(
     match e {
         BExpr::Var(number) => one_at(env, *number),
         BExpr::AtBound(number) => match scope {
-            Scope::At(row) => value_in_row(row, *number),
+            ForallScope::At(row) => value_in_row(row, *number),
             _ => None,
         },
         _ => None,

@@ -13,4 +13,4 @@ mod eval_values;
 
 pub use eval_ends::{Answer, Miss};
 pub use eval_expr::{eval, holds, key_of};
-pub use eval_values::{Row, Scope, the_map};
+pub use eval_values::{ForallRow, ForallScope, the_map};

@@ -8,18 +8,18 @@ use Rattle.vb_outer.specs.declared.fault.FileFault.TheVariants as file
 use Rattle.boogie_tree.specs.Program.{Proc, BProgram}
 use Rattle.boogie_tree.specs.Whole.{program_of}
 use Rattle.boogie_tree.specs.declared.programs.BProgram.{BProgram as Program}
-use Rattle.tool_words.proofs.FileLaws.{long_bytes}
+use Rattle.tool_common.proofs.FileLaws.{long_bytes}
 use Rattle.boogie_file.specs.Accepted.{IsBoogie, procedure_named, Accepts, size}
 use Rattle.boogie_file.specs.Files.{Refuses, HasProcedure, IsFound}
 use Rattle.boogie_file.specs.Parts.{trouble_of_file}
-use Rattle.boogie_file.specs.declared.refusal.Refusal.{Refusal}
-use Rattle.boogie_file.specs.declared.refusal.Refusal.TheVariants as refusal
-use Rattle.boogie_file.specs.declared.trouble.Trouble.{Trouble}
-use Rattle.boogie_file.specs.declared.trouble.Trouble.TheVariants as trouble
+use Rattle.boogie_file.specs.declared.refusal.BoogieRefusal.{BoogieRefusal}
+use Rattle.boogie_file.specs.declared.refusal.BoogieRefusal.TheVariants as refusal
+use Rattle.boogie_file.specs.declared.trouble.BoogieTrouble.{BoogieTrouble}
+use Rattle.boogie_file.specs.declared.trouble.BoogieTrouble.TheVariants as trouble
 use Rattle.boogie_file.proofs.Verdicts.{named_within}
 
 -- a file that could not be read is refused for its length, or is missing, or the shelf failed
-pub file_refusal : (files : Option Files) (path name : List ℕ) (fault : FileFault) (r : Refusal) → (fault ≡ file.Long → IsLonger files path max_boogie_bytes) →
+pub file_refusal : (files : Option Files) (path name : List ℕ) (fault : FileFault) (r : BoogieRefusal) → (fault ≡ file.Long → IsLonger files path max_boogie_bytes) →
     trouble_of_file fault ≡ trouble.Refused r → Refuses (IsWhole files) path name r
 file_refusal files path name file.Memory r long is_r = absurd (cc)
 file_refusal files path name file.Failed r long is_r = absurd (cc)
@@ -33,7 +33,7 @@ file_unread Cause file.Memory failed is = absurd (cc)
 file_unread Cause file.Failed failed is = failed refl
 file_unread Cause file.Long failed is = absurd (cc)
 
-pub are_found : (files : Option Files) (path name bytes : List ℕ) (result : Result (Program × ℕ) Trouble) → IsWhole files path bytes → IfOk result (λ r. IsBoogie bytes (program_of r.0)) →
+pub are_found : (files : Option Files) (path name bytes : List ℕ) (result : Result (Program × ℕ) BoogieTrouble) → IsWhole files path bytes → IfOk result (λ r. IsBoogie bytes (program_of r.0)) →
     IfOk result (λ r. procedure_named (program_of r.0) name ≡ Some r.1) → IfOk result (λ r. IsFound (IsWhole files) path name (program_of r.0) r.1)
 are_found files path name bytes (Ok r) is accepted named = record { bytes = bytes; is = is; accepted = accepted; named = named }
 are_found files path name bytes (Err e) is accepted named = tt

@@ -21,20 +21,20 @@ use Rattle.boogie_print.proofs.SpelledLaws.{spelled_printable}
 use Rattle.boogie_run.proofs.StartLaws.{is_there, proc_there}
 use Rattle.boogie_file.specs.Accepted.{IsBoogie, procedure_named, IsTextRefusal, prelude, deep, syntax, ill_typed, IsRefusal, of_text, no_procedure}
 use Rattle.boogie_file.specs.Parts.{trouble_of_boogie}
-use Rattle.boogie_file.specs.declared.refusal.Refusal.{Refusal}
-use Rattle.boogie_file.specs.declared.refusal.Refusal.TheVariants as refusal
-use Rattle.boogie_file.specs.declared.trouble.Trouble.TheVariants as trouble
+use Rattle.boogie_file.specs.declared.refusal.BoogieRefusal.{BoogieRefusal}
+use Rattle.boogie_file.specs.declared.refusal.BoogieRefusal.TheVariants as refusal
+use Rattle.boogie_file.specs.declared.trouble.BoogieTrouble.TheVariants as trouble
 use Rattle.boogie_file.proofs.Verdicts.{named_within}
 
 -- ---- the program
 
-pub read_refusal : (bytes : List ℕ) (f : BoogieFault) (r : Refusal) → UnlessMemory (IsFault bytes) f → trouble_of_boogie f ≡ trouble.Refused r → IsTextRefusal bytes r
+pub read_refusal : (bytes : List ℕ) (f : BoogieFault) (r : BoogieRefusal) → UnlessMemory (IsFault bytes) f → trouble_of_boogie f ≡ trouble.Refused r → IsTextRefusal bytes r
 read_refusal bytes fault.Memory r is is_r = absurd cc
 read_refusal bytes (fault.Prelude at) r is is_r = let same : refusal.Prelude at ≡ r = cc in subst (IsTextRefusal bytes) same (prelude is)
 read_refusal bytes (fault.Syntax at) r is is_r = let same : refusal.BoogieSyntax at ≡ r = cc in subst (IsTextRefusal bytes) same (syntax is)
 read_refusal bytes (fault.Deep at) r is is_r = let same : refusal.Deep at ≡ r = cc in subst (IsTextRefusal bytes) same (deep is)
 
-pub type_refusal : (bytes : List ℕ) (q : BProgram) (n : ℕ) (r : Refusal) → IsRead bytes q → IsFirstIllTyped q n → trouble.Refused (refusal.BoogieType n) ≡ trouble.Refused r → IsTextRefusal bytes r
+pub type_refusal : (bytes : List ℕ) (q : BProgram) (n : ℕ) (r : BoogieRefusal) → IsRead bytes q → IsFirstIllTyped q n → trouble.Refused (refusal.BoogieType n) ≡ trouble.Refused r → IsTextRefusal bytes r
 type_refusal bytes q n r is first is_r = let same : refusal.BoogieType n ≡ r = cc in subst (IsTextRefusal bytes) same (ill_typed is first)
 
 -- ---- the procedure of a name
@@ -58,9 +58,9 @@ fits_proc bytes q n d h there = all_at FitsProc q.procs n d (spelled_printable b
 
 -- ---- refusals
 
-pub text_refused : {bytes name : List ℕ} {r : Refusal} → length bytes ≤ max_boogie_bytes → IsTextRefusal bytes r → IsRefusal bytes name r
+pub text_refused : {bytes name : List ℕ} {r : BoogieRefusal} → length bytes ≤ max_boogie_bytes → IsTextRefusal bytes r → IsRefusal bytes name r
 text_refused small is = of_text small is
 
-pub name_refused : (bytes name : List ℕ) (q : BProgram) (r : Refusal) → IsBoogie bytes q → procedure_named q name ≡ None → trouble.Refused refusal.NoProcedure ≡ trouble.Refused r →
+pub name_refused : (bytes name : List ℕ) (q : BProgram) (r : BoogieRefusal) → IsBoogie bytes q → procedure_named q name ≡ None → trouble.Refused refusal.NoProcedure ≡ trouble.Refused r →
     IsRefusal bytes name r
 name_refused bytes name q r is none is_r = let same : refusal.NoProcedure ≡ r = cc in subst (IsRefusal bytes name) same (no_procedure is none)

@@ -18,13 +18,13 @@ use Rattle.boogie_text.proofs.FaultLaws.{one_fault, not_refused}
 use Rattle.boogie_print.proofs.Parsed.{one_program}
 use Rattle.boogie_text.proofs.TextAnswers.{some_text_answer}
 use Rattle.boogie_file.specs.Accepted.{IsBoogie, procedure_named, Accepts, IsTextRefusal, prelude, deep, syntax, ill_typed, IsRefusal, size, of_text, no_procedure, HasOneAnswer, is_accepted, is_refused}
-use Rattle.boogie_file.specs.declared.refusal.Refusal.{Refusal}
-use Rattle.boogie_file.specs.declared.refusal.Refusal.TheVariants as refusal
+use Rattle.boogie_file.specs.declared.refusal.BoogieRefusal.{BoogieRefusal}
+use Rattle.boogie_file.specs.declared.refusal.BoogieRefusal.TheVariants as refusal
 
 -- ---- the text of a program
 
 -- the refusal for a fault
-abbrev for_fault : BoogieFault → Refusal
+abbrev for_fault : BoogieFault → BoogieRefusal
 for_fault fault.Memory = refusal.Size
 for_fault (fault.Prelude at) = refusal.Prelude at
 for_fault (fault.Syntax at) = refusal.BoogieSyntax at
@@ -46,7 +46,7 @@ typed_and_not : {q r : BProgram} {n : ℕ} → q ≡ r → IsTypedProgram q → 
 typed_and_not same typed i = i.is_ill_typed (subst IsTypedProgram same typed i.place i.procedure i.is_there)
 
 module _ {bytes : List ℕ} where
-  pub one_text_refusal : {r q : Refusal} → IsTextRefusal bytes r → IsTextRefusal bytes q → r ≡ q
+  pub one_text_refusal : {r q : BoogieRefusal} → IsTextRefusal bytes r → IsTextRefusal bytes q → r ≡ q
   one_text_refusal (prelude f) (prelude g) = ap for_fault (one_fault bytes _ _ f g)
   one_text_refusal (prelude f) (deep g) = ap for_fault (one_fault bytes _ _ f g)
   one_text_refusal (prelude f) (syntax g) = ap for_fault (one_fault bytes _ _ f g)
@@ -64,7 +64,7 @@ module _ {bytes : List ℕ} where
   one_text_refusal (ill_typed h i) (syntax g) = absurd (read_refused _ h g)
   one_text_refusal (ill_typed h i) (ill_typed k j) = ap refusal.BoogieType (one_number (one_text h k) i j)
 
-  pub boogie_text : {q : BProgram} {r : Refusal} → IsBoogie bytes q → IsTextRefusal bytes r → ⊥
+  pub boogie_text : {q : BProgram} {r : BoogieRefusal} → IsBoogie bytes q → IsTextRefusal bytes r → ⊥
   boogie_text h (prelude f) = read_refused _ h.text f
   boogie_text h (deep f) = read_refused _ h.text f
   boogie_text h (syntax f) = read_refused _ h.text f
@@ -77,23 +77,23 @@ pub named_within : (q : BProgram) (name : List ℕ) (n : ℕ) → procedure_name
 named_within q name n e = (position-Some (λ (d : Proc). bytes_eq d.name name) q.procs n nobody e).0
 
 -- a text is a well-typed program, or is refused
-pub boogie_answer : (bytes : List ℕ) → length bytes ≤ max_boogie_bytes → ((q : BProgram) × IsBoogie bytes q) ⊎ ((r : Refusal) × IsTextRefusal bytes r)
+pub boogie_answer : (bytes : List ℕ) → length bytes ≤ max_boogie_bytes → ((q : BProgram) × IsBoogie bytes q) ⊎ ((r : BoogieRefusal) × IsTextRefusal bytes r)
 boogie_answer bytes small = of_cut (some_text_answer bytes (omega (arith, small)))
   where
-    of_types : (q : BProgram) → IsRead bytes q → (o : Option ℕ) → first_ill_typed q ≡ o → ((q : BProgram) × IsBoogie bytes q) ⊎ ((r : Refusal) × IsTextRefusal bytes r)
+    of_types : (q : BProgram) → IsRead bytes q → (o : Option ℕ) → first_ill_typed q ≡ o → ((q : BProgram) × IsBoogie bytes q) ⊎ ((r : BoogieRefusal) × IsTextRefusal bytes r)
     of_types q h None none = inl (q, record { small = small; text = h; is_typed = no_ill_typed q none })
     of_types q h (Some n) some = inr (_, ill_typed h (is_first q n some))
 
     no_memory : IsFault bytes fault.Memory → ⊥
     no_memory f = elim f [ ]
 
-    of_fault : (f : BoogieFault) → IsFault bytes f → ((q : BProgram) × IsBoogie bytes q) ⊎ ((r : Refusal) × IsTextRefusal bytes r)
+    of_fault : (f : BoogieFault) → IsFault bytes f → ((q : BProgram) × IsBoogie bytes q) ⊎ ((r : BoogieRefusal) × IsTextRefusal bytes r)
     of_fault fault.Memory f = absurd (no_memory f)
     of_fault (fault.Prelude at) f = inr (_, prelude f)
     of_fault (fault.Syntax at) f = inr (_, syntax f)
     of_fault (fault.Deep at) f = inr (_, deep f)
 
-    of_cut : ((q : BProgram) × IsRead bytes q) ⊎ ((f : BoogieFault) × IsFault bytes f) → ((q : BProgram) × IsBoogie bytes q) ⊎ ((r : Refusal) × IsTextRefusal bytes r)
+    of_cut : ((q : BProgram) × IsRead bytes q) ⊎ ((f : BoogieFault) × IsFault bytes f) → ((q : BProgram) × IsBoogie bytes q) ⊎ ((r : BoogieRefusal) × IsTextRefusal bytes r)
     of_cut (inl (q, h)) = of_types q h (first_ill_typed q) refl
     of_cut (inr (f, h)) = of_fault f h
 
@@ -109,7 +109,7 @@ is_no_procedure : {q r : BProgram} {n : ℕ} (name : List ℕ) → q ≡ r → p
 is_no_procedure {n = n} name same is other = let e : Some n ≡ None = sym is ∙ ap (λ x. procedure_named x name) same ∙ other in absurd (cc)
 
 module _ {bytes name : List ℕ} where
-  pub one_refusal : {r q : Refusal} → IsRefusal bytes name r → IsRefusal bytes name q → r ≡ q
+  pub one_refusal : {r q : BoogieRefusal} → IsRefusal bytes name r → IsRefusal bytes name q → r ≡ q
   one_refusal (size above) (size also) = refl
   one_refusal (size above) (of_text small is) = absurd (omega (arith, above, small))
   one_refusal (size above) (no_procedure a none) = absurd (omega (arith, above, a.small))
@@ -120,7 +120,7 @@ module _ {bytes name : List ℕ} where
   one_refusal (no_procedure a none) (of_text small is) = absurd (boogie_text a is)
   one_refusal (no_procedure a none) (no_procedure b also) = refl
 
-  pub accepted_not_refused : {d : Proc} {r : Refusal} → Accepts bytes name d → IsRefusal bytes name r → ⊥
+  pub accepted_not_refused : {d : Proc} {r : BoogieRefusal} → Accepts bytes name d → IsRefusal bytes name r → ⊥
   accepted_not_refused h (size above) = let small = h.accepted.small in omega (arith, above, small)
   accepted_not_refused h (of_text small is) = boogie_text h.accepted is
   accepted_not_refused h (no_procedure a none) = is_no_procedure name (one_boogie h.accepted a) h.named none
@@ -131,7 +131,7 @@ module _ {bytes name : List ℕ} where
       same_procedure program (same_number name program h.named i.named) h.is_there i.is_there
 
 module _ (bytes name : List ℕ) where
-  refused_once : {r : Refusal} → IsRefusal bytes name r → HasOneAnswer bytes name
+  refused_once : {r : BoogieRefusal} → IsRefusal bytes name r → HasOneAnswer bytes name
   refused_once h = is_refused h (λ other is. one_refusal is h) (λ d accepts. accepted_not_refused accepts h)
 
   of_name : (q : BProgram) → IsBoogie bytes q → (o : Option ℕ) → procedure_named q name ≡ o → HasOneAnswer bytes name
@@ -141,7 +141,7 @@ module _ (bytes name : List ℕ) where
       let accepts : Accepts bytes name d = record { program = q; accepted = a; number = n; named = named; is_there = there } in
       is_accepted accepts (λ other i. one_accepted i accepts) (λ r is. accepted_not_refused accepts is)
 
-  of_answer : length bytes ≤ max_boogie_bytes → ((q : BProgram) × IsBoogie bytes q) ⊎ ((r : Refusal) × IsTextRefusal bytes r) → HasOneAnswer bytes name
+  of_answer : length bytes ≤ max_boogie_bytes → ((q : BProgram) × IsBoogie bytes q) ⊎ ((r : BoogieRefusal) × IsTextRefusal bytes r) → HasOneAnswer bytes name
   of_answer small (inl (q, a)) = of_name q a (procedure_named q name) refl
   of_answer small (inr (r, is)) = refused_once (of_text small is)
 

@@ -8,8 +8,8 @@ use Rattle.boogie_meaning.specs.Programs.{IsTypedProgram, IsFirstIllTyped}
 use Rattle.boogie_grammar.specs.Faults.{IsFault}
 use Rattle.boogie_grammar.specs.declared.faults.BoogieFault.TheVariants as fault
 use Rattle.boogie_print.specs.Read.{IsRead}
-use Rattle.boogie_file.specs.declared.refusal.Refusal.{Refusal}
-use Rattle.boogie_file.specs.declared.refusal.Refusal.TheVariants.{Size, Prelude, Deep, BoogieSyntax, BoogieType, NoProcedure}
+use Rattle.boogie_file.specs.declared.refusal.BoogieRefusal.{BoogieRefusal}
+use Rattle.boogie_file.specs.declared.refusal.BoogieRefusal.TheVariants.{Size, Prelude, Deep, BoogieSyntax, BoogieType, NoProcedure}
 
 -- the bytes are the text of this well-typed program, within the limits of a file and of brackets
 pub record IsBoogie (bytes : List ℕ) (program : BProgram) : Type 0 where
@@ -30,20 +30,20 @@ pub record Accepts (bytes name : List ℕ) (procedure : Proc) : Type 0 where
   pub is_there : slice_get program.procs number ≡ Some procedure
 
 -- a text is refused for its prelude, its tokens or its brackets, or because it is ill-typed
-pub data IsTextRefusal (bytes : List ℕ) : Refusal → Type 0 where
+pub data IsTextRefusal (bytes : List ℕ) : BoogieRefusal → Type 0 where
   prelude : {at : Pos} → IsFault bytes (fault.Prelude at) → IsTextRefusal bytes (Prelude at)
   deep : {at : Pos} → IsFault bytes (fault.Deep at) → IsTextRefusal bytes (Deep at)
   syntax : {at : Pos} → IsFault bytes (fault.Syntax at) → IsTextRefusal bytes (BoogieSyntax at)
   ill_typed : {program : BProgram} {number : ℕ} → IsRead bytes program → IsFirstIllTyped program number → IsTextRefusal bytes (BoogieType number)
 
 -- the bytes of a file and the name of a procedure are refused, for the first of these reasons that stands
-pub data IsRefusal (bytes name : List ℕ) : Refusal → Type 0 where
+pub data IsRefusal (bytes name : List ℕ) : BoogieRefusal → Type 0 where
   size : max_boogie_bytes < length bytes → IsRefusal bytes name Size
-  of_text : {r : Refusal} → length bytes ≤ max_boogie_bytes → IsTextRefusal bytes r → IsRefusal bytes name r
+  of_text : {r : BoogieRefusal} → length bytes ≤ max_boogie_bytes → IsTextRefusal bytes r → IsRefusal bytes name r
   no_procedure : {program : BProgram} → IsBoogie bytes program → procedure_named program name ≡ None → IsRefusal bytes name NoProcedure
 
 -- exactly one procedure is accepted, or there is exactly one reason to refuse, and never both
 pub data HasOneAnswer (bytes name : List ℕ) : Type 0 where
-  is_accepted : {d : Proc} → Accepts bytes name d → ((other : Proc) → Accepts bytes name other → other ≡ d) → ((r : Refusal) → IsRefusal bytes name r → ⊥) → HasOneAnswer bytes name
-  is_refused : {r : Refusal} → IsRefusal bytes name r → ((other : Refusal) → IsRefusal bytes name other → other ≡ r) → ((d : Proc) → Accepts bytes name d → ⊥) →
+  is_accepted : {d : Proc} → Accepts bytes name d → ((other : Proc) → Accepts bytes name other → other ≡ d) → ((r : BoogieRefusal) → IsRefusal bytes name r → ⊥) → HasOneAnswer bytes name
+  is_refused : {r : BoogieRefusal} → IsRefusal bytes name r → ((other : BoogieRefusal) → IsRefusal bytes name other → other ≡ r) → ((d : Proc) → Accepts bytes name d → ⊥) →
       HasOneAnswer bytes name

@@ -2,10 +2,10 @@
 use Rattle.std.specs.Prelude.{◌≡◌, ℕ, List, Some}
 use Rattle.boogie_tree.specs.Program.{Proc, BProgram}
 use Rattle.boogie_file.specs.Accepted.{IsBoogie, procedure_named, Accepts, IsRefusal}
-use Rattle.boogie_file.specs.declared.refusal.Refusal.{Refusal}
+use Rattle.boogie_file.specs.declared.refusal.BoogieRefusal.{BoogieRefusal}
 
 -- it is refused for this reason
-pub record Refuses (Has : List ℕ → List ℕ → Type 0) (file name : List ℕ) (r : Refusal) : Type 0 where
+pub record Refuses (Has : List ℕ → List ℕ → Type 0) (file name : List ℕ) (r : BoogieRefusal) : Type 0 where
   pub bytes : List ℕ
   pub is : Has file bytes
   pub refused : IsRefusal bytes name r

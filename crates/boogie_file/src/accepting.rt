@@ -8,8 +8,8 @@ ghost use Rattle.boogie_tree.specs.Whole.{program_of, proc_of};
 ghost use Rattle.boogie_file.specs.Accepted.{IsBoogie, IsTextRefusal, IsRefusal, procedure_named};
 ghost use Rattle.boogie_file.specs.Files.{Refuses, IsFound};
 
-use crate::refusal::Refusal;
-use crate::trouble::Trouble;
+use crate::refusal::BoogieRefusal;
+use crate::trouble::BoogieTrouble;
 use boogie_text::read;
 use boogie_tree::{BProgram, Proc};
 use boogie_types::check_types;
@@ -20,16 +20,16 @@ use vb_outer::{Shelf, read_file};
 /// The well-typed program of a file.
 ///
 /// A text that is refused is `Refused`, for the reason that the contract tells. `Memory` where there is no memory.
-pub fn boogie_program(alloc: Global, bytes: &[u8]) -> Result<BProgram, Trouble>
+pub fn boogie_program(alloc: Global, bytes: &[u8]) -> Result<BProgram, BoogieTrouble>
     requires { length bytes.now ≤ max_boogie_bytes }
     ensures accepted { IfOk result (λ p. IsBoogie bytes.now (program_of p)) }
-    ensures refused { (r : Refusal) → IsErrOf result (Trouble.Refused r) → IsTextRefusal bytes.now r }
-    ensures read { IsErrOf result Trouble.Read → ⊥ }
+    ensures refused { (r : BoogieRefusal) → IsErrOf result (BoogieTrouble.Refused r) → IsTextRefusal bytes.now r }
+    ensures read { IsErrOf result BoogieTrouble.Read → ⊥ }
 {
     let program = read(alloc, bytes)?;
     match check_types(&program) {
         Ok(()) => Ok(program),
-        Err(number) => Err(Trouble::Refused(Refusal::BoogieType(number))),
+        Err(number) => Err(BoogieTrouble::Refused(BoogieRefusal::BoogieType(number))),
     }
 }
 
@@ -56,17 +56,17 @@ fn is_named(proc: &Proc, name: &[u8]) -> bool
 /// The well-typed program of a file, and the number of its procedure of this name.
 ///
 /// A file that is refused is `Refused`, for the reason that the contract tells. `Memory` where there is no memory.
-pub fn accepted(alloc: Global, bytes: &[u8], name: &str) -> Result<(BProgram, usize), Trouble>
+pub fn accepted(alloc: Global, bytes: &[u8], name: &str) -> Result<(BProgram, usize), BoogieTrouble>
     requires { length bytes.now ≤ max_boogie_bytes }
     ensures accepted { IfOk result (λ r. IsBoogie bytes.now (program_of r.0)) }
     ensures named { IfOk result (λ r. procedure_named (program_of r.0) name.now ≡ Some r.1) }
-    ensures refused { (r : Refusal) → IsErrOf result (Trouble.Refused r) → IsRefusal bytes.now name.now r }
-    ensures read { IsErrOf result Trouble.Read → ⊥ }
+    ensures refused { (r : BoogieRefusal) → IsErrOf result (BoogieTrouble.Refused r) → IsRefusal bytes.now name.now r }
+    ensures read { IsErrOf result BoogieTrouble.Read → ⊥ }
 {
     let program = boogie_program(alloc, bytes)?;
     match procedure_named(&program, name.as_bytes()) {
         Some(number) => Ok((program, number)),
-        None => Err(Trouble::Refused(Refusal::NoProcedure)),
+        None => Err(BoogieTrouble::Refused(BoogieRefusal::NoProcedure)),
     }
 }
 
@@ -78,10 +78,10 @@ pub fn found<H: Shelf>(
     shelf: &mut H,
     file: &str,
     name: &str,
-) -> Result<(BProgram, usize), Trouble>
+) -> Result<(BProgram, usize), BoogieTrouble>
     ensures found { IfOk result (λ r. IsFound (IsWhole (H.files shelf.old)) file.now name.now (program_of r.0) r.1) }
-    ensures refused { (r : Refusal) → IsErrOf result (Trouble.Refused r) → Refuses (IsWhole (H.files shelf.old)) file.now name.now r }
-    ensures read { IsErrOf result Trouble.Read → IsMissing (H.files shelf.old) file.now ⊎ Rose (H.faults shelf.old) (H.faults shelf.new) }
+    ensures refused { (r : BoogieRefusal) → IsErrOf result (BoogieTrouble.Refused r) → Refuses (IsWhole (H.files shelf.old)) file.now name.now r }
+    ensures read { IsErrOf result BoogieTrouble.Read → IsMissing (H.files shelf.old) file.now ⊎ Rose (H.faults shelf.old) (H.faults shelf.new) }
     ensures later { H.faults shelf.old ≤ H.faults shelf.new }
     ensures files { H.files shelf.new ≡ H.files shelf.old }
 {

@@ -7,5 +7,5 @@ mod refusal;
 mod trouble;
 
 pub use accepting::{accepted, boogie_program, found, procedure_named};
-pub use refusal::Refusal;
-pub use trouble::Trouble;
+pub use refusal::BoogieRefusal;
+pub use trouble::BoogieTrouble;

@@ -6,7 +6,7 @@ use vb_base::Pos;
 
 /// Why a file is refused. The reasons are tried in this order, but that a byte at which no token begins comes before the brackets.
 #[derive(Clone, Copy, Debug, PartialEq, Eq)]
-pub enum Refusal {
+pub enum BoogieRefusal {
     /// It has more than `MAX_BOOGIE_BYTES` bytes.
     Size,
     /// It does not begin with the prelude of Boogie. The place is that of the first byte that differs, or the end of the file.
@@ -22,19 +22,19 @@ pub enum Refusal {
     NoProcedure,
 }
 
-impl fmt::Display for Refusal {
+impl fmt::Display for BoogieRefusal {
     ghost use Rattle.boogie_file.specs.Refusals.{refusal_text};
 
     ghost output = { λ r. Some (refusal_text r) };
 
     fn fmt<W: fmt::Write>(&self, f: &mut fmt::Formatter<W>) -> fmt::Result {
         match self {
-            Refusal::Size => f.write_str("size"),
-            Refusal::Prelude(at) => write!(f, "prelude {at}"),
-            Refusal::Deep(at) => write!(f, "deep {at}"),
-            Refusal::BoogieSyntax(at) => write!(f, "syntax {at}"),
-            Refusal::BoogieType(number) => write!(f, "boogie-type {number}"),
-            Refusal::NoProcedure => f.write_str("no-procedure"),
+            BoogieRefusal::Size => f.write_str("size"),
+            BoogieRefusal::Prelude(at) => write!(f, "prelude {at}"),
+            BoogieRefusal::Deep(at) => write!(f, "deep {at}"),
+            BoogieRefusal::BoogieSyntax(at) => write!(f, "syntax {at}"),
+            BoogieRefusal::BoogieType(number) => write!(f, "boogie-type {number}"),
+            BoogieRefusal::NoProcedure => f.write_str("no-procedure"),
         }
     }
 }

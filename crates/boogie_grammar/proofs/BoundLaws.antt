@@ -5,7 +5,7 @@ use Rattle.std.proofs.lemmas.List.Folds.{list_any-append}
 use Rattle.boogie_tree.specs.Expr as t
 use Rattle.boogie_tree.specs.declared.exprs.BBase.{BBase}
 use Rattle.boogie_grammar.specs.declared.tokens.PlacedLexeme.{PlacedLexeme}
-use Rattle.boogie_grammar.specs.declared.tokens.Word.TheVariants as w
+use Rattle.boogie_grammar.specs.declared.tokens.BoogieWord.TheVariants as w
 use Rattle.boogie_grammar.specs.Words.{is_reserved, is_among}
 use Rattle.boogie_grammar.specs.Tests as v
 use Rattle.boogie_grammar.specs.Tests.{Kind, the_name, the_word}
@@ -49,12 +49,12 @@ pub bound_as : {more : List (List ℕ)} {wider : List BBase} (names : List (List
     (let b : v.Binding = record { names = more; types = wider } in b) ≡ g.bind (record { names = names; types = types }) n u
 bound_as names types n u e f = λ i. record { names = e i; types = f i }
 
-pub bound_more : (x : g.Scope) {a : Rule v.binding} {ts us : List PlacedLexeme} {more : List (List ℕ)} {wider : List BBase} (names : List (List ℕ)) (types : List BBase) (n : List ℕ) (u : BBase) →
+pub bound_more : (x : g.ExprScope) {a : Rule v.binding} {ts us : List PlacedLexeme} {more : List (List ℕ)} {wider : List BBase} (names : List (List ℕ)) (types : List BBase) (n : List ℕ) (u : BBase) →
     more ≡ names ++ (n ∷ []) → wider ≡ types ++ (u ∷ []) →
     Goes a ts (g.rule (g.Binders x (g.bind (record { names = names; types = types }) n u))) us → Goes a ts (g.rule (g.Binders x (record { names = more; types = wider }))) us
 bound_more x names types n u e f h = goes_by (λ b. g.rule (g.Binders x b)) (bound_as names types n u e f) h
 
-pub none_bound : (x : g.Scope) {names : List (List ℕ)} {types : List BBase} {ts : List PlacedLexeme} → names ≡ [] → types ≡ [] →
+pub none_bound : (x : g.ExprScope) {names : List (List ℕ)} {types : List BBase} {ts : List PlacedLexeme} → names ≡ [] → types ≡ [] →
     Goes (g.rule (g.Binders x g.no_binding)) ts (g.rule (g.Binders x (record { names = names; types = types }))) ts
 none_bound x {names = names} {types = types} {ts = ts} e f =
     let same : (let b : v.Binding = record { names = names; types = types } in b) ≡ g.no_binding = λ i. record { names = e i; types = f i } in
@@ -82,35 +82,35 @@ where_is r other true e h = h
 where_is r other false e h = absurd (cc)
 
 -- what is read where the first bound name may stand
-abbrev first_of : g.Scope → ℕ → List ℕ → List (List ℕ) → Rule v.expr
+abbrev first_of : g.ExprScope → ℕ → List ℕ → List (List ℕ) → Rule v.expr
 first_of x i q qs = when (the_name q) (λ _. read (g.BoundRest qs) (λ _. give (t.AtBound i))) (g.at_indices x i)
 
-abbrev Old : g.Scope → ℕ → List PlacedLexeme → List (List ℕ) → Type 0
+abbrev Old : g.ExprScope → ℕ → List PlacedLexeme → List (List ℕ) → Type 0
 Old x i ts bound = Goes (g.indices x i bound) ts (g.at_indices x i) ts
 
-abbrev New : g.Scope → ℕ → List PlacedLexeme → List (List ℕ) → List PlacedLexeme → List (List ℕ) → Type 0
+abbrev New : g.ExprScope → ℕ → List PlacedLexeme → List (List ℕ) → List PlacedLexeme → List (List ℕ) → Type 0
 New x i ts qs us bound = Goes (g.indices x i bound) ts (read (g.BoundRest qs) (λ _. give (t.AtBound i))) us
 
-pub no_bound : (x : g.Scope) (bound : List (List ℕ)) (ts : List PlacedLexeme) → length bound ≡ 0 → (i : ℕ) → Old x i ts bound
+pub no_bound : (x : g.ExprScope) (bound : List (List ℕ)) (ts : List PlacedLexeme) → length bound ≡ 0 → (i : ℕ) → Old x i ts bound
 no_bound x [] ts e i = start (g.at_indices x i) ts
 no_bound x (b ∷ bs) ts e i = absurd (omega (arith, e))
 
-may_stand : (x : g.Scope) (i : ℕ) (q : List ℕ) (qs : List (List ℕ)) (ts : List PlacedLexeme) → is_new_name x.locals q ≡ true → Goes (g.indices x i (q ∷ qs)) ts (first_of x i q qs) ts
+may_stand : (x : g.ExprScope) (i : ℕ) (q : List ℕ) (qs : List (List ℕ)) (ts : List PlacedLexeme) → is_new_name x.locals q ≡ true → Goes (g.indices x i (q ∷ qs)) ts (first_of x i q qs) ts
 may_stand x i q qs ts h =
     where_is (first_of x i q qs) (g.at_indices x i) (is_new_name x.locals q) h (start (g.indices x i (q ∷ qs)) ts)
 
-may_not_stand : (x : g.Scope) (i : ℕ) (q : List ℕ) (qs : List (List ℕ)) (ts : List PlacedLexeme) → is_new_name x.locals q ≡ false → Goes (g.indices x i (q ∷ qs)) ts (g.at_indices x i) ts
+may_not_stand : (x : g.ExprScope) (i : ℕ) (q : List ℕ) (qs : List (List ℕ)) (ts : List PlacedLexeme) → is_new_name x.locals q ≡ false → Goes (g.indices x i (q ∷ qs)) ts (g.at_indices x i) ts
 may_not_stand x i q qs ts h =
     where_not (first_of x i q qs) (g.at_indices x i) (is_new_name x.locals q) h (start (g.indices x i (q ∷ qs)) ts)
 
-pub bound_is_local : (x : g.Scope) (bound : List (List ℕ)) (q : List ℕ) (qs : List (List ℕ)) (ts : List PlacedLexeme) → bound ≡ q ∷ qs → is_new_name x.locals q ≡ false → (i : ℕ) → Old x i ts bound
+pub bound_is_local : (x : g.ExprScope) (bound : List (List ℕ)) (q : List ℕ) (qs : List (List ℕ)) (ts : List PlacedLexeme) → bound ≡ q ∷ qs → is_new_name x.locals q ≡ false → (i : ℕ) → Old x i ts bound
 bound_is_local x bound q qs ts e h i = subst (Old x i ts) (sym e) (may_not_stand x i q qs ts h)
 
-pub bound_is_not : (x : g.Scope) (bound : List (List ℕ)) (q : List ℕ) (qs : List (List ℕ)) (ts : List PlacedLexeme) → bound ≡ q ∷ qs → is_new_name x.locals q ≡ true →
+pub bound_is_not : (x : g.ExprScope) (bound : List (List ℕ)) (q : List ℕ) (qs : List (List ℕ)) (ts : List PlacedLexeme) → bound ≡ q ∷ qs → is_new_name x.locals q ≡ true →
     IsNot (the_name q) ts → (i : ℕ) → Old x i ts bound
 bound_is_not x bound q qs ts e h n i = subst (Old x i ts) (sym e) (by_other n (may_stand x i q qs ts h))
 
-pub bound_is : (x : g.Scope) (bound : List (List ℕ)) (q : List ℕ) (qs : List (List ℕ)) (ts us : List PlacedLexeme) → bound ≡ q ∷ qs → is_new_name x.locals q ≡ true →
+pub bound_is : (x : g.ExprScope) (bound : List (List ℕ)) (q : List ℕ) (qs : List (List ℕ)) (ts us : List PlacedLexeme) → bound ≡ q ∷ qs → is_new_name x.locals q ≡ true →
     Starts (the_name q) ts tt us → (i : ℕ) → New x i ts qs us bound
 bound_is x bound q qs ts us e h p i = subst (New x i ts qs us) (sym e) (by_token p (may_stand x i q qs ts h))
 

@@ -15,7 +15,7 @@ use Rattle.boogie_grammar.specs.declared.tokens.BSign.TheVariants as sign
 use Rattle.boogie_grammar.specs.declared.tokens.Lexeme.{Lexeme}
 use Rattle.boogie_grammar.specs.declared.tokens.Lexeme.TheVariants as tok
 use Rattle.boogie_grammar.specs.declared.tokens.PlacedLexeme.{PlacedLexeme}
-use Rattle.boogie_grammar.specs.declared.tokens.Word.TheVariants as w
+use Rattle.boogie_grammar.specs.declared.tokens.BoogieWord.TheVariants as w
 use Rattle.boogie_grammar.specs.Words.{word_tok, word_text, base_word, operator_tok, is_reserved, is_among}
 use Rattle.boogie_grammar.specs.Tests.{Kind, Value, Test, Passes, IsVariable, number_of, the_sign, the_word, the_name, a_new_name, a_variable, a_number, a_real, a_label, a_base, a_key, an_operator}
 use Rattle.boogie_grammar.specs.Grammar as g
@@ -60,7 +60,7 @@ el_need {c = c} f = grammar.el_need (example c) f
 el_taken : {r s : Kind} {c : Test true r} {go : Value r → Rule s} {other : Rule s} → ((v : Value r) → Element (go v)) → Element (when c go other)
 el_taken {c = c} f = let k = example c in grammar.el_taken k.token k.value k.passes (f k.value)
 
-el_expr : (x : g.Scope) → Element (rule (g.Expr x))
+el_expr : (x : g.ExprScope) → Element (rule (g.Expr x))
 el_expr x = el_taken (λ n. el_give)
 
 el_statements : (ls : List (List ℕ)) (ss : _) → Element (rule (g.Statements ls ss))
@@ -69,17 +69,17 @@ el_statements ls ss = el_taken (λ _. el_give)
 el_type : Element (rule g.TypeOf)
 el_type = el_other (el_need (λ u. el_give))
 
-el_more : (x : g.Scope) (es : _) → Element (rule (g.MoreExprs x es))
+el_more : (x : g.ExprScope) (es : _) → Element (rule (g.MoreExprs x es))
 el_more x es = el_other (el_need (λ _. el_give))
 
-el_exprs : (x : g.Scope) → Element (rule (g.Exprs x))
+el_exprs : (x : g.ExprScope) → Element (rule (g.Exprs x))
 el_exprs x = el_read (el_expr x) (λ a. el_read (el_more x (a ∷ [])) (λ es. el_give))
 
 el_where : {s : Kind} (b : Bool) {some : b ≡ true → Rule s} {other : Rule s} → ((h : b ≡ true) → Element (some h)) → Element other → Element (g.where_true b some other)
 el_where true f e = f refl
 el_where false f e = e
 
-el_indices : (x : g.Scope) (i : ℕ) (names : List (List ℕ)) → Element (g.indices x i names)
+el_indices : (x : g.ExprScope) (i : ℕ) (names : List (List ℕ)) → Element (g.indices x i names)
 el_indices x i [] = el_read (el_exprs x) (λ es. el_give)
 el_indices x i (q ∷ qs) = el_where (not (is_reserved q) && not (is_among q x.locals)) (λ h. el_other (el_read (el_exprs x) (λ es. el_give))) (el_read (el_exprs x) (λ es. el_give))
 

@@ -12,29 +12,29 @@ use Rattle.boogie_tree.specs.declared.exprs.BBase.{BBase}
 use Rattle.boogie_grammar.specs.declared.tokens.BSign.{BSign}
 use Rattle.boogie_grammar.specs.declared.tokens.BSign.TheVariants as sign
 use Rattle.boogie_grammar.specs.declared.tokens.PlacedLexeme.{PlacedLexeme}
-use Rattle.boogie_grammar.specs.declared.tokens.Word.{Word}
-use Rattle.boogie_grammar.specs.declared.tokens.Word.TheVariants as w
+use Rattle.boogie_grammar.specs.declared.tokens.BoogieWord.{BoogieWord}
+use Rattle.boogie_grammar.specs.declared.tokens.BoogieWord.TheVariants as w
 use Rattle.boogie_grammar.specs.Words.{is_among, is_reserved}
 use Rattle.boogie_grammar.specs.Tests as v
 use Rattle.boogie_grammar.specs.Tests.{Binding, Kind, Value, Test, Passes, the_sign, the_word, the_name, a_new_name, a_variable, a_number, a_real, a_label, a_base, a_key, an_operator, some_free}
 
 -- The names of the locals, further names that a bound variable is not to have, though no variable is called by them, and the
 -- names that the `forall` around binds, or none.
-pub record Scope : Type 0 where
+pub record ExprScope : Type 0 where
   pub locals : List (List ℕ)
   pub others : List (List ℕ)
   pub bound : List (List ℕ)
 
 -- the scope of what stands in no `forall`, where the names of the locals alone are taken
-abbrev pub outside : List (List ℕ) → Scope
+abbrev pub outside : List (List ℕ) → ExprScope
 outside ls = record { locals = ls; others = []; bound = [] }
 
 -- the names that a bound variable is not to have, where these are bound already
-abbrev pub taken_by : Scope → List (List ℕ) → List (List ℕ)
+abbrev pub taken_by : ExprScope → List (List ℕ) → List (List ℕ)
 taken_by x bound = (x.locals ++ x.others) ++ bound
 
 -- the same under a `forall` that binds these
-abbrev pub binding_in : Scope → List (List ℕ) → Scope
+abbrev pub binding_in : ExprScope → List (List ℕ) → ExprScope
 binding_in x bound = record { locals = x.locals; others = x.others; bound = bound }
 
 pub data Symbol : Kind → Type 0 where
@@ -47,13 +47,13 @@ pub data Symbol : Kind → Type 0 where
   Statement : List (List ℕ) → Symbol v.stmt
   Block : List (List ℕ) → Symbol v.block
   Else : List (List ℕ) → Symbol v.block
-  Expr : Scope → Symbol v.expr
-  InParens : Scope → Symbol v.expr
-  Binders : Scope → Binding → Symbol v.binding
-  Indices : Scope → ℕ → Symbol v.expr
+  Expr : ExprScope → Symbol v.expr
+  InParens : ExprScope → Symbol v.expr
+  Binders : ExprScope → Binding → Symbol v.binding
+  Indices : ExprScope → ℕ → Symbol v.expr
   BoundRest : List (List ℕ) → Symbol v.nothing
-  Exprs : Scope → Symbol v.exprs
-  MoreExprs : Scope → List t.BExpr → Symbol v.exprs
+  Exprs : ExprScope → Symbol v.exprs
+  MoreExprs : ExprScope → List t.BExpr → Symbol v.exprs
 
 -- what the grammar is made of
 abbrev pub boogie : Alphabet
@@ -73,7 +73,7 @@ Rule s = grammar.Rule boogie s
 abbrev pub after_sign : {s : Kind} → BSign → Rule s → Rule s
 after_sign o rest = need (the_sign o) (λ _. rest)
 
-abbrev pub after_word : {s : Kind} → Word → Rule s → Rule s
+abbrev pub after_word : {s : Kind} → BoogieWord → Rule s → Rule s
 after_word w rest = need (the_word w) (λ _. rest)
 
 -- where the test is true, the first rule, which may rest on that
@@ -119,11 +119,11 @@ changes ls some =
     (conditional ls))
 
 -- "(" bexpr ")", after a word
-abbrev pub wrapped : Scope → (t.BExpr → t.BExpr) → Rule v.expr
+abbrev pub wrapped : ExprScope → (t.BExpr → t.BExpr) → Rule v.expr
 wrapped x make = after_sign sign.OpenParen (read (Expr x) (λ a. after_sign sign.CloseParen (give (make a))))
 
 -- [ "[" .. "]" ], after a name
-abbrev pub named : Scope → ℕ → Rule v.expr
+abbrev pub named : ExprScope → ℕ → Rule v.expr
 named x i = when (the_sign sign.OpenBracket) (λ _. read (Indices x i) give) (give (t.Var i))
 
 -- number | real literal | "true" | "false" | "null" | "sUnit"
@@ -138,7 +138,7 @@ leaves others =
     others)))))
 
 -- "real" "(" bexpr ")" | "sInt" "(" bexpr ")" | ..
-abbrev pub wraps : Scope → Rule v.expr → Rule v.expr
+abbrev pub wraps : ExprScope → Rule v.expr → Rule v.expr
 wraps x others =
     when (the_word w.Real) (λ _. wrapped x t.ToReal)
     (when (the_word w.SInt) (λ _. wrapped x t.SInt)
@@ -148,18 +148,18 @@ wraps x others =
     others))))
 
 -- "(" bexpr "," bexpr ")", after "sPair"
-abbrev pub paired : Scope → Rule v.expr
+abbrev pub paired : ExprScope → Rule v.expr
 paired x = after_sign sign.OpenParen (read (Expr x) (λ a. after_sign sign.Comma (read (Expr x) (λ b. after_sign sign.CloseParen (give (t.Pair a b))))))
 
 -- these, and "sPair" "(" bexpr "," bexpr ")"
-abbrev pub simple : Scope → Rule v.expr → Rule v.expr
+abbrev pub simple : ExprScope → Rule v.expr → Rule v.expr
 simple x others = leaves (wraps x (when (the_word w.SPair) (λ _. paired x) others))
 
-abbrev pub in_parens : Scope → Rule v.expr
+abbrev pub in_parens : ExprScope → Rule v.expr
 in_parens x = after_sign sign.OpenParen (read (InParens x) give)
 
 -- "-" bexpr ")" | "!" bexpr ")" | "if" bexpr "then" bexpr "else" bexpr ")", after "("
-abbrev pub prefixed : Scope → Rule v.expr → Rule v.expr
+abbrev pub prefixed : ExprScope → Rule v.expr → Rule v.expr
 prefixed x others =
     when (the_sign sign.Minus) (λ _. read (Expr x) (λ a. after_sign sign.CloseParen (give (t.Neg a))))
     (when (the_sign sign.Not) (λ _. read (Expr x) (λ a. after_sign sign.CloseParen (give (t.Not a))))
@@ -167,14 +167,14 @@ prefixed x others =
     others))
 
 -- bexpr bop bexpr ")", after "("
-abbrev pub binary : Scope → Rule v.expr
+abbrev pub binary : ExprScope → Rule v.expr
 binary x = read (Expr x) (λ a. need an_operator (λ o. read (Expr x) (λ b. after_sign sign.CloseParen (give (t.Bin o a b)))))
 
 abbrev pub no_binding : Binding
 no_binding = record { names = []; types = [] }
 
 -- "::" bexpr ")", after what a `forall` binds
-abbrev pub quantified : Scope → Binding → Rule v.expr
+abbrev pub quantified : ExprScope → Binding → Rule v.expr
 quantified x b = after_sign sign.Bounds (read (Expr (binding_in x b.names)) (λ a. after_sign sign.CloseParen (give (t.Forall b.types a))))
 
 -- no `forall` stands in another
@@ -183,10 +183,10 @@ unless_bound [] first other = first
 unless_bound (x ∷ xs) first other = other
 
 -- the bound names as the index list of the map of this number, or other indices
-abbrev pub at_indices : Scope → ℕ → Rule v.expr
+abbrev pub at_indices : ExprScope → ℕ → Rule v.expr
 at_indices x i = read (Exprs x) (λ es. give (t.At i (t.exprs es)))
 
-abbrev pub indices : Scope → ℕ → List (List ℕ) → Rule v.expr
+abbrev pub indices : ExprScope → ℕ → List (List ℕ) → Rule v.expr
 indices x i [] = at_indices x i
 indices x i (q ∷ qs) =
     where_true (not (is_reserved q) && not (is_among q x.locals))

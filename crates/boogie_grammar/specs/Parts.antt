@@ -1,8 +1,8 @@
 -- The tokens of a text part by part.
 use Rattle.std.specs.Prelude.{◌++◌, ◌<◌, ◌≤◌, ℕ, List, [], All, Some, length, take, fold}
 use Rattle.vb_base.specs.Limits.{max_unclosed_brackets}
-use Rattle.boogie_grammar.specs.declared.parts.Part.{Part}
-use Rattle.boogie_grammar.specs.declared.parts.Part.TheVariants as part
+use Rattle.boogie_grammar.specs.declared.parts.NextPart.{NextPart}
+use Rattle.boogie_grammar.specs.declared.parts.NextPart.TheVariants as part
 use Rattle.boogie_grammar.specs.declared.tokens.PlacedLexeme.{PlacedLexeme}
 use Rattle.boogie_grammar.specs.Cut.{IsRow}
 use Rattle.boogie_grammar.specs.Depth.{unclosed_with}
@@ -31,7 +31,7 @@ pub record IsPart (before : ℕ) (text : List ℕ) (ts : List PlacedLexeme) (aft
   pub shorter : length rest < length text
 
 -- what is found of the next part of a text, and its tokens
-abbrev pub IsNextPart : ℕ → List ℕ → List PlacedLexeme → Part → Type 0
+abbrev pub IsNextPart : ℕ → List ℕ → List PlacedLexeme → NextPart → Type 0
 IsNextPart before text ts part.End = IsRow text []
 IsNextPart before text ts (part.Tokens rest after) = IsPart before text ts after rest.now
 IsNextPart before text ts part.Unread = Unit {0}

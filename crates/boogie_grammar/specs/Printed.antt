@@ -10,7 +10,7 @@ use Rattle.boogie_tree.specs.declared.exprs.BBase.{BBase}
 use Rattle.boogie_tree.specs.declared.exprs.BOp.{BOp}
 use Rattle.boogie_tree.specs.declared.exprs.BOp.TheVariants as op
 use Rattle.boogie_grammar.specs.declared.tokens.BSign.TheVariants as sign
-use Rattle.boogie_grammar.specs.declared.tokens.Word.TheVariants as w
+use Rattle.boogie_grammar.specs.declared.tokens.BoogieWord.TheVariants as w
 use Rattle.boogie_grammar.specs.Words.{word_text, sign_text, base_word, is_among}
 use Rattle.boogie_grammar.specs.Grammar.{local_names}
 

@@ -10,18 +10,18 @@ use Rattle.boogie_tree.specs.Program.{Local}
 use Rattle.boogie_tree.specs.Whole.{expr_of, locals_of}
 use Rattle.boogie_tree.specs.declared.programs.Local as declared
 use Rattle.boogie_grammar.specs.Words.{is_reserved, is_among}
-use Rattle.boogie_grammar.specs.declared.scopes.Scope.{Scope}
+use Rattle.boogie_grammar.specs.declared.scopes.ExprScope.{ExprScope}
 use Rattle.boogie_grammar.specs.declared.leaves.Wrap.{Wrap}
 use Rattle.boogie_grammar.specs.declared.leaves.Wrap.TheVariants as wrap
 use Rattle.boogie_grammar.specs.declared.tokens.BSign.TheVariants as sign
 use Rattle.boogie_grammar.specs.declared.tokens.PlacedLexeme.{PlacedLexeme}
-use Rattle.boogie_grammar.specs.declared.tokens.Word.TheVariants as w
+use Rattle.boogie_grammar.specs.declared.tokens.BoogieWord.TheVariants as w
 use Rattle.boogie_grammar.specs.Tests as v
 use Rattle.boogie_grammar.specs.Tests.{some_free, a_variable}
 use Rattle.boogie_grammar.specs.Greedy.{Reads, Goes, Starts, IsNot}
 use Rattle.boogie_grammar.specs.Grammar as g
 
-abbrev pub scope_of : Scope → g.Scope
+abbrev pub scope_of : ExprScope → g.ExprScope
 scope_of x = record { locals = x.locals.now; others = x.others.now; bound = x.bound.now }
 
 abbrev pub boxed_of : Box BExpr Global → t.BExpr
@@ -38,15 +38,15 @@ wrap_of wrap.Neg a = t.Neg a
 wrap_of wrap.Not a = t.Not a
 
 -- bexpr ")", of which this is made
-abbrev pub closing : g.Scope → (t.BExpr → t.BExpr) → g.Rule v.expr
+abbrev pub closing : g.ExprScope → (t.BExpr → t.BExpr) → g.Rule v.expr
 closing x make = g.read (g.Expr x) (λ a. g.after_sign sign.CloseParen (g.give (make a)))
 
 -- bexpr "then" bexpr "else" bexpr ")", after "if"
-abbrev pub chosen : g.Scope → g.Rule v.expr
+abbrev pub chosen : g.ExprScope → g.Rule v.expr
 chosen x = g.read (g.Expr x) (λ a. g.after_word w.Then (g.read (g.Expr x) (λ b. g.after_word w.Else (g.read (g.Expr x) (λ c. g.after_sign sign.CloseParen (g.give (t.If a b c)))))))
 
 -- what follows "forall", with its ")"
-abbrev pub quantifying : g.Scope → g.Rule v.expr
+abbrev pub quantifying : g.ExprScope → g.Rule v.expr
 quantifying x = g.read (g.Binders x g.no_binding) (λ b. g.quantified x b)
 
 -- a leaf was read
@@ -58,10 +58,10 @@ NoLeaf ts = (others : g.Rule v.expr) → Goes (g.leaves others) ts others ts
 
 -- the word of a form with parentheses was read
 abbrev pub ReadsWrap : List PlacedLexeme → Wrap → List PlacedLexeme → Type 0
-ReadsWrap ts k us = (x : g.Scope) (others : g.Rule v.expr) → Goes (g.wraps x others) ts (g.wrapped x (wrap_of k)) us
+ReadsWrap ts k us = (x : g.ExprScope) (others : g.Rule v.expr) → Goes (g.wraps x others) ts (g.wrapped x (wrap_of k)) us
 
 abbrev pub NoWrap : List PlacedLexeme → Type 0
-NoWrap ts = (x : g.Scope) (others : g.Rule v.expr) → Goes (g.wraps x others) ts others ts
+NoWrap ts = (x : g.ExprScope) (others : g.Rule v.expr) → Goes (g.wraps x others) ts others ts
 
 -- a variable was read
 abbrev pub ReadsVariable : List (List ℕ) → List PlacedLexeme → ℕ → List PlacedLexeme → Type 0
@@ -78,10 +78,10 @@ abbrev pub NoForall : List (List ℕ) → List PlacedLexeme → Type 0
 NoForall bound ts = (first other : g.Rule v.expr) → Goes (g.unless_bound bound (g.when (v.the_word w.Forall) (λ _. first) other) other) ts other ts
 
 -- the first of the bound names was read where indices stand, and these names are to follow
-abbrev pub ReadsBound : g.Scope → List PlacedLexeme → List (List ℕ) → List PlacedLexeme → Type 0
+abbrev pub ReadsBound : g.ExprScope → List PlacedLexeme → List (List ℕ) → List PlacedLexeme → Type 0
 ReadsBound x ts qs us = (i : ℕ) → Goes (g.indices x i x.bound) ts (g.read (g.BoundRest qs) (λ _. g.give (t.AtBound i))) us
 
-abbrev pub NoBound : g.Scope → List PlacedLexeme → Type 0
+abbrev pub NoBound : g.ExprScope → List PlacedLexeme → Type 0
 NoBound x ts = (i : ℕ) → Goes (g.indices x i x.bound) ts (g.at_indices x i) ts
 
 abbrev pub all_exprs_of : Vec BExpr Global → List t.BExpr

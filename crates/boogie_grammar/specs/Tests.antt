@@ -15,7 +15,7 @@ use Rattle.boogie_grammar.specs.declared.tokens.BSign.{BSign}
 use Rattle.boogie_grammar.specs.declared.tokens.Lexeme.{Lexeme}
 use Rattle.boogie_grammar.specs.declared.tokens.Lexeme.TheVariants as tok
 use Rattle.boogie_grammar.specs.declared.tokens.PlacedLexeme.{PlacedLexeme}
-use Rattle.boogie_grammar.specs.declared.tokens.Word.{Word}
+use Rattle.boogie_grammar.specs.declared.tokens.BoogieWord.{BoogieWord}
 use Rattle.boogie_grammar.specs.Words.{is_among, is_reserved, word_tok, base_word, operator_tok}
 
 -- what a `forall` binds: its names and their types
@@ -76,7 +76,7 @@ some_free names = list_any (λ x. not (is_reserved x)) names
 -- What may be asked of a token.
 pub data Test : Bool → Kind → Type 0 where
   the_sign : BSign → Test true nothing
-  the_word : Word → Test true nothing
+  the_word : BoogieWord → Test true nothing
   -- this name
   the_name : List ℕ → Test true nothing
   -- a name that is not reserved, and none of these

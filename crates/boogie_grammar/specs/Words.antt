@@ -10,10 +10,10 @@ use Rattle.boogie_grammar.specs.declared.tokens.BSign.{BSign}
 use Rattle.boogie_grammar.specs.declared.tokens.BSign.TheVariants as sign
 use Rattle.boogie_grammar.specs.declared.tokens.Lexeme.{Lexeme}
 use Rattle.boogie_grammar.specs.declared.tokens.Lexeme.TheVariants as tok
-use Rattle.boogie_grammar.specs.declared.tokens.Word.{Word}
-use Rattle.boogie_grammar.specs.declared.tokens.Word.TheVariants as w
+use Rattle.boogie_grammar.specs.declared.tokens.BoogieWord.{BoogieWord}
+use Rattle.boogie_grammar.specs.declared.tokens.BoogieWord.TheVariants as w
 
-abbrev pub word_text : Word → List ℕ
+abbrev pub word_text : BoogieWord → List ℕ
 word_text w.Procedure = codes "procedure"
 word_text w.Var = codes "var"
 word_text w.Havoc = codes "havoc"
@@ -85,11 +85,11 @@ sign_text sign.Slash = codes "/"
 sign_text sign.Not = codes "!"
 
 -- a word as a token
-abbrev pub word_tok : Word → Lexeme
+abbrev pub word_tok : BoogieWord → Lexeme
 word_tok w = tok.Name (word_text w)
 
 -- the word of a type
-abbrev pub base_word : BBase → Word
+abbrev pub base_word : BBase → BoogieWord
 base_word base.Int = w.Int
 base_word base.Bool = w.Bool
 base_word base.Ref = w.Ref

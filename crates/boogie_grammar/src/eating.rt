@@ -10,13 +10,13 @@ ghost use Rattle.boogie_grammar.specs.Step.{sign_operator};
 ghost use Rattle.boogie_grammar.specs.Tests.{the_sign, the_word, the_name, a_number, a_real, a_label, a_base, a_key, an_operator};
 ghost use Rattle.boogie_grammar.specs.Words.{word_text, operator_tok};
 
-use crate::{BSign, Lexeme, PlacedLexeme, Word};
+use crate::{BSign, BoogieWord, Lexeme, PlacedLexeme};
 use boogie_tree::{BBase, BOp, is_key};
 use grammar::Stop;
 use vb_base::{Ident, Label, same_bytes};
 
 /// What was read, and the tokens that are left.
-pub type Read<'a, T> = grammar::Read<'a, PlacedLexeme, T>;
+pub type BoogieRead<'a, T> = grammar::Read<'a, PlacedLexeme, T>;
 
 fn same_sign(a: BSign, b: BSign) -> bool
     ensures { IsTrue result ↔ (a ≡ b) }
@@ -37,7 +37,7 @@ pub fn eat_sign(wanted: BSign, tokens: &[PlacedLexeme]) -> Option<&[PlacedLexeme
 }
 
 /// The tokens after this sign, which must be next.
-pub fn need_sign<'a>(wanted: BSign, tokens: &'a [PlacedLexeme]) -> Read<'a, ()>
+pub fn need_sign<'a>(wanted: BSign, tokens: &'a [PlacedLexeme]) -> BoogieRead<'a, ()>
     ensures shorter { IfOk result (λ p. length p.1.now < length tokens.now) }
     ensures takes { Takes (the_sign wanted) tokens.now result }
 {
@@ -48,41 +48,41 @@ pub fn need_sign<'a>(wanted: BSign, tokens: &'a [PlacedLexeme]) -> Read<'a, ()>
 }
 
 /// How a word is spelled.
-pub(crate) fn word_text(word: Word) -> &'static [u8]
+pub(crate) fn word_text(word: BoogieWord) -> &'static [u8]
     ensures { result.now ≡ word_text word }
 {
     match word {
-        Word::Procedure => b"procedure",
-        Word::Var => b"var",
-        Word::Havoc => b"havoc",
-        Word::Assume => b"assume",
-        Word::Assert => b"assert",
-        Word::If => b"if",
-        Word::Then => b"then",
-        Word::Else => b"else",
-        Word::Forall => b"forall",
-        Word::True => b"true",
-        Word::False => b"false",
-        Word::Int => b"int",
-        Word::Bool => b"bool",
-        Word::Real => b"real",
-        Word::Div => b"div",
-        Word::Mod => b"mod",
-        Word::Ref => b"Ref",
-        Word::Null => b"null",
-        Word::Snap => b"Snap",
-        Word::SUnit => b"sUnit",
-        Word::SInt => b"sInt",
-        Word::SBool => b"sBool",
-        Word::SRef => b"sRef",
-        Word::SPerm => b"sPerm",
-        Word::SPair => b"sPair",
-        Word::Msg => b"msg",
+        BoogieWord::Procedure => b"procedure",
+        BoogieWord::Var => b"var",
+        BoogieWord::Havoc => b"havoc",
+        BoogieWord::Assume => b"assume",
+        BoogieWord::Assert => b"assert",
+        BoogieWord::If => b"if",
+        BoogieWord::Then => b"then",
+        BoogieWord::Else => b"else",
+        BoogieWord::Forall => b"forall",
+        BoogieWord::True => b"true",
+        BoogieWord::False => b"false",
+        BoogieWord::Int => b"int",
+        BoogieWord::Bool => b"bool",
+        BoogieWord::Real => b"real",
+        BoogieWord::Div => b"div",
+        BoogieWord::Mod => b"mod",
+        BoogieWord::Ref => b"Ref",
+        BoogieWord::Null => b"null",
+        BoogieWord::Snap => b"Snap",
+        BoogieWord::SUnit => b"sUnit",
+        BoogieWord::SInt => b"sInt",
+        BoogieWord::SBool => b"sBool",
+        BoogieWord::SRef => b"sRef",
+        BoogieWord::SPerm => b"sPerm",
+        BoogieWord::SPair => b"sPair",
+        BoogieWord::Msg => b"msg",
     }
 }
 
 /// The tokens after this word, if it is next.
-pub fn eat_word(wanted: Word, tokens: &[PlacedLexeme]) -> Option<&[PlacedLexeme]>
+pub fn eat_word(wanted: BoogieWord, tokens: &[PlacedLexeme]) -> Option<&[PlacedLexeme]>
     ensures shorter { IfSome result (λ r. length r.now < length tokens.now) }
     ensures eats { MatchOption result (IsNot (the_word wanted) tokens.now) (λ r. Starts (the_word wanted) tokens.now tt r.now) }
 {
@@ -94,7 +94,7 @@ pub fn eat_word(wanted: Word, tokens: &[PlacedLexeme]) -> Option<&[PlacedLexeme]
 }
 
 /// The tokens after this word, which must be next.
-pub fn need_word<'a>(wanted: Word, tokens: &'a [PlacedLexeme]) -> Read<'a, ()>
+pub fn need_word<'a>(wanted: BoogieWord, tokens: &'a [PlacedLexeme]) -> BoogieRead<'a, ()>
     ensures shorter { IfOk result (λ p. length p.1.now < length tokens.now) }
     ensures takes { Takes (the_word wanted) tokens.now result }
 {
@@ -129,7 +129,7 @@ pub fn eat_real(tokens: &[PlacedLexeme]) -> Option<(i128, &[PlacedLexeme])>
 }
 
 /// The label of the next text, which must be next, and the tokens after it.
-pub fn need_label(tokens: &[PlacedLexeme]) -> Read<'_, Label>
+pub fn need_label(tokens: &[PlacedLexeme]) -> BoogieRead<'_, Label>
     ensures shorter { IfOk result (λ p. length p.1.now < length tokens.now) }
     ensures takes { Takes a_label tokens.now result }
 {
@@ -181,7 +181,7 @@ fn base_among(bases: &[BBase], bytes: &[u8]) -> Option<BBase>
 }
 
 /// A type, which must be next, and the tokens after it.
-pub fn need_base(tokens: &[PlacedLexeme]) -> Read<'_, BBase>
+pub fn need_base(tokens: &[PlacedLexeme]) -> BoogieRead<'_, BBase>
     ensures shorter { IfOk result (λ p. length p.1.now < length tokens.now) }
     ensures takes { Takes a_base tokens.now result }
 {
@@ -242,7 +242,7 @@ fn word_operator(bytes: &[u8]) -> Option<BOp>
 }
 
 /// A type of keys, which must be next, and the tokens after it.
-pub fn need_key(tokens: &[PlacedLexeme]) -> Read<'_, BBase>
+pub fn need_key(tokens: &[PlacedLexeme]) -> BoogieRead<'_, BBase>
     ensures shorter { IfOk result (λ p. length p.1.now < length tokens.now) }
     ensures takes { Takes a_key tokens.now result }
 {
@@ -276,7 +276,7 @@ fn operator_of(tok: &Lexeme) -> Option<BOp>
 }
 
 /// An operator, which must be next, and the tokens after it.
-pub fn need_operator(tokens: &[PlacedLexeme]) -> Read<'_, BOp>
+pub fn need_operator(tokens: &[PlacedLexeme]) -> BoogieRead<'_, BOp>
     ensures shorter { IfOk result (λ p. length p.1.now < length tokens.now) }
     ensures takes { Takes an_operator tokens.now result }
 {
@@ -309,7 +309,7 @@ pub fn eat_given_name<'a>(name: &Ident, tokens: &'a [PlacedLexeme]) -> Option<&'
 }
 
 /// The tokens after this name, which must be next.
-pub fn need_given_name<'a>(name: &Ident, tokens: &'a [PlacedLexeme]) -> Read<'a, ()>
+pub fn need_given_name<'a>(name: &Ident, tokens: &'a [PlacedLexeme]) -> BoogieRead<'a, ()>
     ensures shorter { IfOk result (λ p. length p.1.now < length tokens.now) }
     ensures takes { Takes (the_name name.now) tokens.now result }
 {

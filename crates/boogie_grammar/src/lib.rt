@@ -23,6 +23,6 @@ pub use faults::BoogieFault;
 pub use front::after_prelude;
 pub use keys::key_of;
 pub use lexer::cut;
-pub use parts::{Part, next_part};
+pub use parts::{NextPart, next_part};
 pub use stops::fault;
-pub use tokens::{BSign, Lexeme, PlacedLexeme, Word};
+pub use tokens::{BSign, BoogieWord, Lexeme, PlacedLexeme};

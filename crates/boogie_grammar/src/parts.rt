@@ -6,14 +6,14 @@ ghost use Rattle.boogie_grammar.specs.Parts.{IsNextPart};
 use crate::depth::unclosed_with;
 use crate::eating::word_text;
 use crate::pieces::{is_blank, piece};
-use crate::{BSign, Lexeme, PlacedLexeme, Word};
+use crate::{BSign, BoogieWord, Lexeme, PlacedLexeme};
 use std::alloc::Global;
 use vb_base::limits::MAX_UNCLOSED_BRACKETS;
 use vb_base::{Memory, Pos, same_bytes};
 
 /// What a text goes on with.
 #[derive(Clone, Copy)]
-pub enum Part<'a> {
+pub enum NextPart<'a> {
     /// Blanks alone, up to its end.
     End,
     /// A part, with the text after it and how many brackets are unclosed there.
@@ -28,10 +28,10 @@ pub enum Part<'a> {
 pub fn next_part<'a>(
     alloc: Global,
     before: usize,
-    first: Option<Word>,
+    first: Option<BoogieWord>,
     text: &'a [u8],
     tokens: &mut Vec<PlacedLexeme>,
-) -> Result<Part<'a>, Memory>
+) -> Result<NextPart<'a>, Memory>
     requires { before ≤ max_unclosed_brackets }
     ensures { IfOk result (IsNextPart before text.now tokens.new.items) }
 {
@@ -47,7 +47,7 @@ pub fn next_part<'a>(
             continue;
         }
         let Some((found, len)) = piece(alloc, rest)? else {
-            return Ok(Part::Unread);
+            return Ok(NextPart::Unread);
         };
         let (_, after) = rest.split_at(len);
         rest = after;
@@ -56,26 +56,26 @@ pub fn next_part<'a>(
         };
         if tokens.is_empty() {
             if !may_begin(first, &tok) {
-                return Ok(Part::Unread);
+                return Ok(NextPart::Unread);
             }
             last = last_behind(&tok);
         }
         count = unclosed_with(count, &tok);
         if count > MAX_UNCLOSED_BRACKETS {
-            return Ok(Part::Unread);
+            return Ok(NextPart::Unread);
         }
         let ends = is_last(alloc, last, count <= before, &tok, rest)?;
         // With room for it, the token is made where it stays, and is not moved there.
         tokens.reserve(1)?;
         tokens.push_reserved(PlacedLexeme { tok, pos: START });
         if ends {
-            return Ok(Part::Tokens(rest, count));
+            return Ok(NextPart::Tokens(rest, count));
         }
     }
     if tokens.is_empty() {
-        Ok(Part::End)
+        Ok(NextPart::End)
     } else {
-        Ok(Part::Unread)
+        Ok(NextPart::Unread)
     }
 }
 
@@ -96,7 +96,7 @@ enum Last {
 }
 
 /// Whether a token is the word that is asked for, if one is.
-fn may_begin(first: Option<Word>, tok: &Lexeme) -> bool {
+fn may_begin(first: Option<BoogieWord>, tok: &Lexeme) -> bool {
     match (first, tok) {
         (None, _) => true,
         (Some(word), Lexeme::Name(name)) => same_bytes(name.bytes(), word_text(word)),

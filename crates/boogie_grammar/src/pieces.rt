@@ -15,11 +15,11 @@ use std::alloc::Global;
 use vb_base::{Ident, Literal, Memory, read_label};
 
 /// A token, or none for a blank or a comment, and how many bytes it has.
-pub type Found = (Option<Lexeme>, usize);
+pub type FoundLexeme = (Option<Lexeme>, usize);
 
 /// The longest piece with which a text begins.
 #[inline(always)]
-pub fn piece(alloc: Global, text: &[u8]) -> Result<Option<Found>, Memory>
+pub fn piece(alloc: Global, text: &[u8]) -> Result<Option<FoundLexeme>, Memory>
     ensures { IfOk result (λ r. MatchOption r (NoPiece text.now) (λ p. IsPiece text.now p.0 p.1)) }
 {
     let Some((first, rest)) = text.split_first() else {
@@ -40,7 +40,7 @@ pub fn piece(alloc: Global, text: &[u8]) -> Result<Option<Found>, Memory>
 }
 
 /// The row of bytes of names with which a text begins.
-fn name(alloc: Global, text: &[u8]) -> Result<Found, Memory>
+fn name(alloc: Global, text: &[u8]) -> Result<FoundLexeme, Memory>
     ensures { IfOk result (λ p. Piece Letter text.now p.0 p.1) }
 {
     let len = name_len(text);
@@ -49,7 +49,7 @@ fn name(alloc: Global, text: &[u8]) -> Result<Found, Memory>
 }
 
 /// The number or real literal with which a text begins.
-fn number(text: &[u8]) -> Option<Found>
+fn number(text: &[u8]) -> Option<FoundLexeme>
     ensures { MatchOption result ((o : Option Lexeme) (n : ℕ) → Piece Digit text.now o n → ⊥) (λ p. Piece Digit text.now p.0 p.1) }
 {
     let len = digits_len(text);
@@ -58,7 +58,7 @@ fn number(text: &[u8]) -> Option<Found>
 }
 
 /// The literal of this value, of so many digits, before these bytes.
-fn literal(value: i128, len: usize, rest: &[u8]) -> Found
+fn literal(value: i128, len: usize, rest: &[u8]) -> FoundLexeme
     requires { len ≤ 2 ^ 63 }
     ensures token { result.0 ≡ Some (literal_of (is_point_zero rest.now) value) }
     ensures len { result.1 ≡ literal_length (is_point_zero rest.now) len }
@@ -71,7 +71,7 @@ fn literal(value: i128, len: usize, rest: &[u8]) -> Found
 }
 
 /// The label between quotes of which the first stands before these bytes.
-fn quoted(rest: &[u8]) -> Option<Found>
+fn quoted(rest: &[u8]) -> Option<FoundLexeme>
     ensures { MatchOption result ((o : Option Lexeme) (n : ℕ) → Piece Quote (34 ∷ rest.now) o n → ⊥) (λ p. Piece Quote (34 ∷ rest.now) p.0 p.1) }
 {
     let len = unquoted_len(rest);
@@ -83,7 +83,7 @@ fn quoted(rest: &[u8]) -> Option<Found>
 }
 
 /// The comment or sign with which a text begins.
-fn other(text: &[u8]) -> Option<Found>
+fn other(text: &[u8]) -> Option<FoundLexeme>
     ensures { MatchOption result ((o : Option Lexeme) (n : ℕ) → Piece Other text.now o n → ⊥) (λ p. Piece Other text.now p.0 p.1) }
 {
     if text.starts_with(b"//") {

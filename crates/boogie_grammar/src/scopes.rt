@@ -62,11 +62,11 @@ fn is_some_free(names: &[Ident]) -> bool
 
 /// Names that differ, each with its number. Contracts see the list of them.
 #[derive(Drop)]
-pub struct Names {
+pub struct BoogieNames {
     names: SymbolTable,
 }
 
-impl Model for Names {
+impl Model for BoogieNames {
     ghost use Rattle.std.specs.Prelude.{ℕ, List};
 
     ghost Value = { List (List ℕ) };
@@ -74,12 +74,12 @@ impl Model for Names {
     ghost view = { λ x. x.names };
 }
 
-impl Names {
+impl BoogieNames {
     /// No names, which are hashed by this key.
-    pub fn new(alloc: Global, key: NameKey) -> Names
+    pub fn new(alloc: Global, key: NameKey) -> BoogieNames
         ensures { result ≡ [] }
     {
-        Names {
+        BoogieNames {
             names: SymbolTable::new(alloc, key),
         }
     }
@@ -128,15 +128,15 @@ impl Names {
 
 /// What an expression may name: the locals, and what the `forall` around binds.
 #[derive(Clone, Copy)]
-pub struct Scope<'a> {
-    pub locals: &'a Names,
+pub struct ExprScope<'a> {
+    pub locals: &'a BoogieNames,
     /// Further names that a bound variable is not to have.
-    pub others: &'a Names,
+    pub others: &'a BoogieNames,
     pub bound: &'a [Ident],
 }
 
 /// The number of a name that is not reserved.
-pub fn variable(names: &Names, name: &Ident) -> Option<usize>
+pub fn variable(names: &BoogieNames, name: &Ident) -> Option<usize>
     ensures { MatchOption result ((i : ℕ) → is_reserved name.now ≡ false → number_of name.now names.now ≡ Some i → ⊥)
         (λ i. (is_reserved name.now ≡ false) × (number_of name.now names.now ≡ Some i)) }
 {

@@ -44,7 +44,7 @@ pub enum BSign {
 
 /// A word of the grammar. As a token it is a name.
 #[derive(Clone, Copy)]
-pub enum Word {
+pub enum BoogieWord {
     Procedure,
     Var,
     Havoc,

@@ -14,7 +14,7 @@ use Rattle.boogie_tree.specs.declared.exprs.BOp.TheVariants as op
 use Rattle.boogie_meaning.specs.Ends.{End, Is, Over, Wrong, then_with, found, fitting, Keeps, value as has, over as none_kept}
 use Rattle.boogie_tree.specs.Values.{same_base, base_of_scalar}
 use Rattle.boogie_meaning.specs.Operators.{truth_of, int_of, ref_of, real_of, snap_of, part_of, as_truth, as_bool, negative, pair_of, sum_of, difference_of, product_of, quotient_of, euclidean, compared, equal, same_truth, plain, is_lazy, settled, settled_or, binary}
-use Rattle.boogie_meaning.specs.Value.{Scope, scalar_in, map_in, the_map, value, values, under, body_at}
+use Rattle.boogie_meaning.specs.Value.{QuantifierScope, scalar_in, map_in, the_map, value, values, under, body_at}
 use Rattle.boogie_meaning.specs.Forall.{IsForall, over as is_over, wrong, fails, holds}
 use Rattle.boogie_meaning.specs.Quantified.{quantified, outside, bvalue, bkey, one_of, side}
 use Rattle.boogie_meaning.specs.Compared.{IsNotOver, IsBoundedBy, same, over}
@@ -177,12 +177,12 @@ binary_bounded o h g =
 -- ---- expressions
 
 -- two scopes, with the bound and without it
-pub record ScopeIsBoundedBy (w u : Scope) : Type 0 where
+pub record ScopeIsBoundedBy (w u : QuantifierScope) : Type 0 where
   pub bound : (m : Map Key BScalar) → IsBoundedBy (w.bound m) (u.bound m)
   pub all : (us : List BBase) (a : t.BExpr) → IsBoundedBy (w.all us a) (u.all us a)
 
 mutual
-  pub value_bounded : {w u : Scope} → ScopeIsBoundedBy w u → (e : t.BExpr) (env : List BValue) → IsBoundedBy (value Bounded w e env) (value Unbounded u e env)
+  pub value_bounded : {w u : QuantifierScope} → ScopeIsBoundedBy w u → (e : t.BExpr) (env : List BValue) → IsBoundedBy (value Bounded w e env) (value Unbounded u e env)
   value_bounded s (t.Var i) env = then_bounded (found_bounded (slice_get env i)) scalar_bounded
   value_bounded s (t.Int n) env = same tt
   value_bounded s (t.Real n) env = same tt
@@ -203,7 +203,7 @@ mutual
   value_bounded s (t.At m es) env = then_bounded (values_bounded s es env) (λ k. then_bounded (the_map_bounded env m) (λ n. same tt))
   value_bounded s (t.AtBound m) env = then_bounded (the_map_bounded env m) s.bound
 
-  pub values_bounded : {w u : Scope} → ScopeIsBoundedBy w u → (es : t.BExprs) (env : List BValue) → IsBoundedBy (values Bounded w es env) (values Unbounded u es env)
+  pub values_bounded : {w u : QuantifierScope} → ScopeIsBoundedBy w u → (es : t.BExprs) (env : List BValue) → IsBoundedBy (values Bounded w es env) (values Unbounded u es env)
   values_bounded s t.none env = same tt
   values_bounded s (t.more a es) env =
       then_bounded (value_bounded s a env) (λ v. then_bounded (part_bounded v) (λ p. then_bounded (values_bounded s es env) (λ k. same tt)))

@@ -10,7 +10,7 @@ use Rattle.boogie_tree.specs.Values.{plain_type, map_type}
 use Rattle.boogie_tree.specs.declared.exprs.BBase.{BBase}
 use Rattle.boogie_meaning.specs.Ends.{Is, then_with, found}
 use Rattle.boogie_meaning.specs.Operators.{as_truth, as_bool, part_of, binary, negative, negation, real_from, leaf_int, leaf_bool, leaf_ref, leaf_perm, pair_of}
-use Rattle.boogie_meaning.specs.Value.{Scope, scalar_in, map_in, the_map, value, values, under, body_at}
+use Rattle.boogie_meaning.specs.Value.{QuantifierScope, scalar_in, map_in, the_map, value, values, under, body_at}
 use Rattle.boogie_meaning.specs.Quantified.{quantified, outside, bvalue, bkey}
 use Rattle.boogie_meaning.specs.Renamed.{renamed, renamed_in, AllVariables, AllVariablesIn}
 use Rattle.boogie_meaning.specs.Types.{HasType, var, int, real, bool, null, unit, neg, not_, binary as two_sides, choose, forall_, to_real, s_int, s_bool, s_ref, s_perm, pair, at, at_bound, HaveTypes, none, more}
@@ -24,7 +24,7 @@ module _ (b : Bound) (f : ℕ → ℕ) (env env' : List BValue) where
   the_map_same : (i : ℕ) → Same i → the_map env' (f i) ≡ the_map env i
   the_map_same i h = ap (λ o. then_with (found o) map_in) h
 
-  module _ (w w' : Scope) (bound : (m : Map Key BScalar) → w'.bound m ≡ w.bound m)
+  module _ (w w' : QuantifierScope) (bound : (m : Map Key BScalar) → w'.bound m ≡ w.bound m)
       (all : (us : List BBase) (a : t.BExpr) → AllVariables Same a → w'.all us (renamed f a) ≡ w.all us a) where
     mutual
       value_same : (e : t.BExpr) → AllVariables Same e → value b w' (renamed f e) env' ≡ value b w e env

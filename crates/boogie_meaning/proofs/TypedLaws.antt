@@ -21,7 +21,7 @@ use Rattle.boogie_meaning.specs.Ends.{End, Wrong, then_with, found, fitting, Kee
 use Rattle.boogie_tree.specs.Values.{same_base, is_key, FitsScalar, FitsPart, FitsKey, IsMapOf, IsOfType, one, many, IsEnvironment, plain_type, map_type}
 use Rattle.boogie_meaning.specs.Types.{answer_of, negated, HasType, var, int, real, bool, null, unit, neg, not_, binary as operator, choose, forall_, to_real, s_int, s_bool, s_ref, s_perm, pair, at, at_bound, HaveTypes, none, more, SideHasType, whole as whole_variable, value as expression}
 use Rattle.boogie_meaning.specs.Operators.{truth_of, part_of, as_truth, as_bool, negative, negation, real_from, leaf_int, leaf_bool, leaf_ref, leaf_perm, pair_of, sum_of, difference_of, product_of, quotient_of, euclidean, compared, equal, same_truth, settled, settled_or, binary}
-use Rattle.boogie_meaning.specs.Value.{Scope, scalar_in, map_in, the_map, value, values, under, body_at}
+use Rattle.boogie_meaning.specs.Value.{QuantifierScope, scalar_in, map_in, the_map, value, values, under, body_at}
 use Rattle.boogie_meaning.specs.Forall.{IsForall, over as is_over, wrong, fails, holds}
 use Rattle.boogie_meaning.specs.Quantified.{quantified, outside, bvalue, bkey, one_of, side}
 use Rattle.boogie_meaning.proofs.TypeLaws.{same_base_itself}
@@ -238,13 +238,13 @@ module _ (ls : List BType) (env : List BValue) (h : IsEnvironment ls env) where
 -- ---- expressions
 
 -- a scope for expressions of these variables and bound types
-record FitsScope (ls : List BType) (o : Option (List BBase)) (w : Scope) : Type 0 where
+record FitsScope (ls : List BType) (o : Option (List BBase)) (w : QuantifierScope) : Type 0 where
   bound : (us : List BBase) (u : BBase) (m : Map Key BScalar) → o ≡ Some us → IsMapOf us u m → Keeps (FitsScalar u) (w.bound m)
   all : (us : List BBase) (a : t.BExpr) → o ≡ None → HasType ls (Some us) a base.Bool → Keeps (FitsScalar base.Bool) (w.all us a)
 
 module _ (b : Bound) (ls : List BType) (env : List BValue) (h : IsEnvironment ls env) where
   mutual
-    value_keeps : (w : Scope) (o : Option (List BBase)) → FitsScope ls o w → {e : t.BExpr} {u : BBase} → HasType ls o e u → Keeps (FitsScalar u) (value b w e env)
+    value_keeps : (w : QuantifierScope) (o : Option (List BBase)) → FitsScope ls o w → {e : t.BExpr} {u : BBase} → HasType ls o e u → Keeps (FitsScalar u) (value b w e env)
     value_keeps w o s (var {i = i} {u = u} l) = variable_keeps ls env h i u l
     value_keeps w o s int = has (int_fits _)
     value_keeps w o s (real {n = n}) = has (real_fits _ (proper_whole Unbounded n tt).reduced)
@@ -266,7 +266,7 @@ module _ (b : Bound) (ls : List BType) (env : List BValue) (h : IsEnvironment ls
         keeps_then (values_keeps w o s es) (λ k f. keeps_then (the_map_keeps ls env h m u us x l) (λ n g. has (get_typed g k)))
     value_keeps w o s (at_bound {m = m} {u = u} {us = us} {w = x} l) = keeps_then (the_map_keeps ls env h m u us x l) (λ n g. s.bound (u ∷ us) x n refl g)
 
-    values_keeps : (w : Scope) (o : Option (List BBase)) → FitsScope ls o w → {es : t.BExprs} {us : List BBase} → HaveTypes ls o es us → Keeps (FitsKey us) (values b w es env)
+    values_keeps : (w : QuantifierScope) (o : Option (List BBase)) → FitsScope ls o w → {es : t.BExprs} {us : List BBase} → HaveTypes ls o es us → Keeps (FitsKey us) (values b w es env)
     values_keeps w o s none = has tt
     values_keeps w o s (more {u = u} i a es) =
         keeps_then (value_keeps w o s a) (λ v f. keeps_then (part_at u v i f) (λ p g. keeps_then (values_keeps w o s es) (λ k l. has (g, l))))

@@ -13,7 +13,7 @@ use Rattle.boogie_tree.specs.declared.exprs.BBase.{BBase}
 use Rattle.boogie_tree.specs.Values.{FitsKey}
 use Rattle.boogie_meaning.specs.Ends.{End, Is, Over, Wrong, then_with}
 use Rattle.boogie_meaning.specs.Operators.{as_truth, part_of, binary, negative, negation, real_from, leaf_int, leaf_bool, leaf_ref, leaf_perm, pair_of}
-use Rattle.boogie_meaning.specs.Value.{Scope, the_map, value, values, under}
+use Rattle.boogie_meaning.specs.Value.{QuantifierScope, the_map, value, values, under}
 use Rattle.boogie_meaning.specs.Decided.{is_listed, same_key}
 
 -- the keys of the entries of a map
@@ -50,7 +50,7 @@ abbrev mutual
   marked_in (t.more a es) env = marked a env ++ marked_in es env
 
 -- under a `forall` at a key that is not marked
-abbrev pub elsewhere : Scope
+abbrev pub elsewhere : QuantifierScope
 elsewhere = record { bound = λ m. Is m.default; all = λ us a. Wrong }
 
 -- the marked keys of these types

@@ -9,7 +9,7 @@ use Rattle.boogie_tree.specs.declared.exprs.BBase.{BBase}
 use Rattle.boogie_meaning.specs.Ends.{End, Is, Wrong, then_with, found}
 use Rattle.boogie_tree.specs.Values.{FitsKey}
 use Rattle.boogie_meaning.specs.Operators.{as_truth, as_bool}
-use Rattle.boogie_meaning.specs.Value.{Scope, value, values, body_at}
+use Rattle.boogie_meaning.specs.Value.{QuantifierScope, value, values, body_at}
 use Rattle.boogie_meaning.specs.Forall.{IsForall}
 use Rattle.boogie_meaning.specs.Decided.{searched, decided}
 use Rattle.boogie_meaning.specs.Marked.{marked, elsewhere, value_off}
@@ -21,7 +21,7 @@ quantified b us a env =
     (searched us (body_at b a env) (marked a env) rest, decided us (body_at b a env) (marked a env) rest (λ k f h. ap as_truth (value_off b a env k h)))
 
 -- under no `forall`
-abbrev pub outside : Bound → List BValue → Scope
+abbrev pub outside : Bound → List BValue → QuantifierScope
 outside b env = record { bound = λ m. Wrong; all = λ us a. as_bool (quantified b us a env).0 }
 
 -- the value of an expression in an environment, with the bound or without

@@ -24,14 +24,14 @@ map_in (Many m) = Is m
 abbrev pub the_map : List BValue → ℕ → End (Map Key BScalar)
 the_map env m = then_with (found (slice_get env m)) map_in
 
-pub record Scope : Type 0 where
+pub record QuantifierScope : Type 0 where
   -- a map at the bound names
   pub bound : Map Key BScalar → End BScalar
   -- `forall`, by the types of its names and its body
   pub all : List BBase → t.BExpr → End BScalar
 
 abbrev mutual
-  pub value : Bound → Scope → t.BExpr → List BValue → End BScalar
+  pub value : Bound → QuantifierScope → t.BExpr → List BValue → End BScalar
   value b w (t.Var i) env = then_with (found (slice_get env i)) scalar_in
   value b w (t.Int n) env = Is (Int n)
   value b w (t.Real n) env = Is (Real (whole n))
@@ -53,12 +53,12 @@ abbrev mutual
   value b w (t.AtBound m) env = then_with (the_map env m) w.bound
 
   -- the key that indices make, from left to right
-  pub values : Bound → Scope → t.BExprs → List BValue → End Key
+  pub values : Bound → QuantifierScope → t.BExprs → List BValue → End Key
   values b w t.none env = Is []
   values b w (t.more a es) env = then_with (value b w a env) (λ v. then_with (part_of v) (λ p. then_with (values b w es env) (λ k. Is (p ∷ k))))
 
 -- under a `forall`, where its names have the values k. No `forall` stands in another.
-abbrev pub under : Key → Scope
+abbrev pub under : Key → QuantifierScope
 under k = record { bound = λ m. Is (get key_cmp m k); all = λ us a. Wrong }
 
 abbrev pub body_at : Bound → t.BExpr → List BValue → Key → End Truth

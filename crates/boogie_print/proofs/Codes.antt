@@ -9,14 +9,14 @@ use Rattle.boogie_grammar.specs.declared.tokens.BSign.{BSign}
 use Rattle.boogie_grammar.specs.declared.tokens.BSign.TheVariants as sign
 use Rattle.boogie_grammar.specs.declared.tokens.Lexeme.{Lexeme}
 use Rattle.boogie_grammar.specs.declared.tokens.Lexeme.TheVariants as tok
-use Rattle.boogie_grammar.specs.declared.tokens.Word.{Word}
-use Rattle.boogie_grammar.specs.declared.tokens.Word.TheVariants as w
+use Rattle.boogie_grammar.specs.declared.tokens.BoogieWord.{BoogieWord}
+use Rattle.boogie_grammar.specs.declared.tokens.BoogieWord.TheVariants as w
 use Rattle.boogie_grammar.specs.Words.{word_text, is_reserved, is_among, reserved}
 use Rattle.boogie_grammar.specs.Tests.{Kind, Value, Test, the_sign, the_word, the_name, a_new_name, a_variable, a_number, a_real, a_label, a_base, a_key, an_operator}
 use Rattle.boogie_grammar.specs.Grammar as g
 use Rattle.boogie_grammar.specs.Grammar.{Symbol, boogie}
 
-abbrev pub word_code : Word → ℕ
+abbrev pub word_code : BoogieWord → ℕ
 word_code w.Procedure = 10
 word_code w.Var = 11
 word_code w.Havoc = 12
@@ -87,7 +87,7 @@ code (tok.Real n) = 3
 code (tok.Text l) = 4
 code (tok.Sign o) = sign_code o
 
-pub word_is : (x : Word) → name_code (word_text x) ≡ word_code x
+pub word_is : (x : BoogieWord) → name_code (word_text x) ≡ word_code x
 word_is w.Procedure = refl
 word_is w.Var = refl
 word_is w.Havoc = refl
@@ -128,7 +128,7 @@ free_code x h = free_in x reserved 10 h
 
 -- the codes of tokens
 
-abbrev pub words : List Word → List ℕ
+abbrev pub words : List BoogieWord → List ℕ
 words [] = []
 words (x ∷ xs) = word_code x ∷ words xs
 

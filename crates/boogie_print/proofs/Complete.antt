@@ -15,8 +15,8 @@ use Rattle.boogie_tree.specs.declared.exprs.BBase.TheVariants as base
 use Rattle.boogie_tree.specs.declared.exprs.BOp.{BOp}
 use Rattle.boogie_tree.specs.declared.exprs.BOp.TheVariants as op
 use Rattle.boogie_grammar.specs.declared.tokens.BSign.TheVariants as sign
-use Rattle.boogie_grammar.specs.declared.tokens.Word.{Word}
-use Rattle.boogie_grammar.specs.declared.tokens.Word.TheVariants as w
+use Rattle.boogie_grammar.specs.declared.tokens.BoogieWord.{BoogieWord}
+use Rattle.boogie_grammar.specs.declared.tokens.BoogieWord.TheVariants as w
 use Rattle.boogie_grammar.specs.declared.tokens.Lexeme.{Lexeme}
 use Rattle.boogie_grammar.specs.declared.tokens.Lexeme.TheVariants as tok
 use Rattle.boogie_grammar.specs.declared.tokens.PlacedLexeme.{PlacedLexeme}
@@ -105,11 +105,11 @@ begins a = grammar.begins table a
 abbrev ends : {s : Kind} → Rule s → Option (Value s)
 ends a = grammar.ends table a
 
-first_bound : (x : g.Scope) (i : ℕ) (q : List ℕ) (qs : List (List ℕ)) → is_reserved q ≡ false →
+first_bound : (x : g.ExprScope) (i : ℕ) (q : List ℕ) (qs : List (List ℕ)) → is_reserved q ≡ false →
     within (begins (when (the_name q) (λ _. read (g.BoundRest qs) (λ _. give (t.AtBound i))) (g.at_indices x i))) expr_starts ≡ true
 first_bound x i q qs free = subst (λ n. cond (among n expr_starts) (within (expr_starts ++ []) expr_starts) false ≡ true) (sym (free_code q free)) refl
 
-first_indices : (x : g.Scope) (i : ℕ) (qs : List (List ℕ)) → within (begins (g.indices x i qs)) expr_starts ≡ true
+first_indices : (x : g.ExprScope) (i : ℕ) (qs : List (List ℕ)) → within (begins (g.indices x i qs)) expr_starts ≡ true
 first_indices x i [] = refl
 first_indices x i (q ∷ qs) =
     by_where (λ r. within (begins r) expr_starts ≡ true) (not (is_reserved q) && not (is_among q x.locals))
@@ -141,7 +141,7 @@ first_ok (g.BoundRest qs) = first_rest qs
 first_ok (g.Exprs x) = refl
 first_ok (g.MoreExprs x es) = refl
 
-ends_indices : (x : g.Scope) (i : ℕ) (qs : List (List ℕ)) → ends (g.indices x i qs) ≡ None
+ends_indices : (x : g.ExprScope) (i : ℕ) (qs : List (List ℕ)) → ends (g.indices x i qs) ≡ None
 ends_indices x i [] = refl
 ends_indices x i (q ∷ qs) =
     by_where (λ r. ends r ≡ None) (not (is_reserved q) && not (is_among q x.locals))
@@ -198,7 +198,7 @@ read_first n (plain.called {a = a} {ts = []} {y = z} d d') e = let h : None ≡ 
 read_first {k = k} n (plain.called {r = r} {a = a} {ts = j ∷ ts} {y = z} d d') e =
     let same : j ≡ k = cc in (z, ts, subst (λ i. Derives rules r (rule a) (i ∷ ts) z) same d)
 
-pub not_word : {q : List ℕ} (k : PlacedLexeme) (x : Word) → is_reserved (word_text x) ≡ true → k.tok ≡ tok.Name q → is_reserved q ≡ false → k.tok ≡ word_tok x → ⊥
+pub not_word : {q : List ℕ} (k : PlacedLexeme) (x : BoogieWord) → is_reserved (word_text x) ≡ true → k.tok ≡ tok.Name q → is_reserved q ≡ false → k.tok ≡ word_tok x → ⊥
 not_word {q = q} k x yes_it_is e free f = let same : q ≡ word_text x = name_is (sym e ∙ f) in both_ways _ (subst (λ y. is_reserved y ≡ false) same free) yes_it_is
 
 pub not_variable : {q : List ℕ} (k : PlacedLexeme) (locals : List (List ℕ)) (i : ℕ) → k.tok ≡ tok.Name q → is_among q locals ≡ false → v.IsVariable locals k.tok i → ⊥
@@ -206,7 +206,7 @@ not_variable {q = q} k locals i e new p =
     let same : p.name ≡ q = name_is (sym p.is ∙ e) in
     both_ways _ new (there q locals i (subst (λ y. v.number_of y locals ≡ Some i) same p.there))
 
-not_first : (x : g.Scope) {q : List ℕ} {k : PlacedLexeme} {ts us : List PlacedLexeme} {e : t.BExpr} → Derives rules v.expr (rule (g.Expr x)) ts e → ts ≡ k ∷ us →
+not_first : (x : g.ExprScope) {q : List ℕ} {k : PlacedLexeme} {ts us : List PlacedLexeme} {e : t.BExpr} → Derives rules v.expr (rule (g.Expr x)) ts e → ts ≡ k ∷ us →
     k.tok ≡ tok.Name q → is_reserved q ≡ false → is_among q x.locals ≡ false → ⊥
 not_first x {q = q} {k = k} {ts = ts} {e = e} d is name free new =
     let d = pass_by d is (λ v p. let no_number : tok.Number v ≡ tok.Name q = sym p ∙ name in cc) in
@@ -225,7 +225,7 @@ not_first x {q = q} {k = k} {ts = ts} {e = e} d is name free new =
     (λ some. when (a_variable x.locals some) (λ i. g.named x i) (g.in_parens x)) (g.in_parens x)
     (λ some h. no_paren x (pass_by h is (λ i p. not_variable k x.locals i name new p)) is name)
     (λ h. no_paren x h is name) d where
-      no_paren : (x : g.Scope) {q : List ℕ} {k : PlacedLexeme} {ts us : List PlacedLexeme} {e : t.BExpr} → Derives rules v.expr (g.in_parens x) ts e → ts ≡ k ∷ us → k.tok ≡ tok.Name q → ⊥
+      no_paren : (x : g.ExprScope) {q : List ℕ} {k : PlacedLexeme} {ts us : List PlacedLexeme} {e : t.BExpr} → Derives rules v.expr (g.in_parens x) ts e → ts ≡ k ∷ us → k.tok ≡ tok.Name q → ⊥
       no_paren x {q = q} d is name = no_need d is (λ v p. let no_sign : tok.Sign sign.OpenParen ≡ tok.Name q = sym p ∙ name in cc)
 
 -- the next token tells how to read on
@@ -258,37 +258,37 @@ tells_Statement ls = by_where (λ r. After (ext_codes (g.Statement ls)) (g.check
     (λ some. tw refl (λ _. tr (λ z k h. h) (λ z. refl) (λ e. tn (λ _. te))) (tw refl (λ _. tn (λ _. tn (λ _. tn (λ _. tn (λ l. tn (λ _. tr (λ z k h. h) (λ z. refl) (λ e. tn (λ _. te)))))))) (tells_changes ls some)))
     (tw refl (λ _. tr (λ z k h. h) (λ z. refl) (λ e. tn (λ _. te))) (tw refl (λ _. tn (λ _. tn (λ _. tn (λ _. tn (λ l. tn (λ _. tr (λ z k h. h) (λ z. refl) (λ e. tn (λ _. te)))))))) (tells_conditional ls)))
 
-tells_wrapped : (x : g.Scope) (make : t.BExpr → t.BExpr) → After (ext_codes (g.Expr x)) (g.wrapped x make)
+tells_wrapped : (x : g.ExprScope) (make : t.BExpr → t.BExpr) → After (ext_codes (g.Expr x)) (g.wrapped x make)
 tells_wrapped x make = tn (λ _. tr (λ z k h. h) (λ z. refl) (λ a. tn (λ _. te)))
 
-tells_in_parens : (x : g.Scope) → After (ext_codes (g.Expr x)) (g.in_parens x)
+tells_in_parens : (x : g.ExprScope) → After (ext_codes (g.Expr x)) (g.in_parens x)
 tells_in_parens x = tn (λ _. tr (λ z k h. h) (λ z. refl) (λ z. te))
 
-tells_named : (x : g.Scope) (i : ℕ) → After (ext_codes (g.Expr x)) (g.named x i)
+tells_named : (x : g.ExprScope) (i : ℕ) → After (ext_codes (g.Expr x)) (g.named x i)
 tells_named x i = tw refl (λ _. tr (λ z k h. h) (λ z. refl) (λ z. te)) te
 
-tells_Expr : (x : g.Scope) → After (ext_codes (g.Expr x)) (rule (g.Expr x))
+tells_Expr : (x : g.ExprScope) → After (ext_codes (g.Expr x)) (rule (g.Expr x))
 tells_Expr x = by_where (λ r. After (ext_codes (g.Expr x)) (g.simple x r)) (v.some_free x.locals)
     (λ some. when (a_variable x.locals some) (λ i. g.named x i) (g.in_parens x)) (g.in_parens x)
     (λ some. tw refl (λ n. te) (tw refl (λ n. te) (tw refl (λ _. te) (tw refl (λ _. te) (tw refl (λ _. te) (tw refl (λ _. te) (tw refl (λ _. tells_wrapped x t.ToReal) (tw refl (λ _. tells_wrapped x t.SInt) (tw refl (λ _. tells_wrapped x t.SBool) (tw refl (λ _. tells_wrapped x t.SRef) (tw refl (λ _. tells_wrapped x t.SPerm) (tw refl (λ _. tn (λ _. tr (λ z k h. h) (λ z. refl) (λ a. tn (λ _. tr (λ z k h. h) (λ z. refl) (λ b. tn (λ _. te)))))) (tw refl (λ i. tells_named x i) (tells_in_parens x))))))))))))))
     (tw refl (λ n. te) (tw refl (λ n. te) (tw refl (λ _. te) (tw refl (λ _. te) (tw refl (λ _. te) (tw refl (λ _. te) (tw refl (λ _. tells_wrapped x t.ToReal) (tw refl (λ _. tells_wrapped x t.SInt) (tw refl (λ _. tells_wrapped x t.SBool) (tw refl (λ _. tells_wrapped x t.SRef) (tw refl (λ _. tells_wrapped x t.SPerm) (tw refl (λ _. tn (λ _. tr (λ z k h. h) (λ z. refl) (λ a. tn (λ _. tr (λ z k h. h) (λ z. refl) (λ b. tn (λ _. te)))))) (tells_in_parens x)))))))))))))
 
-tells_binary : (x : g.Scope) → After (ext_codes (g.InParens x)) (g.binary x)
+tells_binary : (x : g.ExprScope) → After (ext_codes (g.InParens x)) (g.binary x)
 tells_binary x = tr (λ z k h. h) (λ z. refl) (λ a. tn (λ o. tr (λ z k h. h) (λ z. refl) (λ b. tn (λ _. te))))
 
-tells_InParens : (x : g.Scope) → After (ext_codes (g.InParens x)) (rule (g.InParens x))
+tells_InParens : (x : g.ExprScope) → After (ext_codes (g.InParens x)) (rule (g.InParens x))
 tells_InParens x = by_bound (λ r. After (ext_codes (g.InParens x)) (g.prefixed x r)) x.bound _ _
     (tw refl (λ _. tr (λ z k h. h) (λ z. refl) (λ a. tn (λ _. te))) (tw refl (λ _. tr (λ z k h. h) (λ z. refl) (λ a. tn (λ _. te))) (tw refl (λ _. tr (λ z k h. h) (λ z. refl) (λ a. tn (λ _. tr (λ z k h. h) (λ z. refl) (λ b. tn (λ _. tr (λ z k h. h) (λ z. refl) (λ c. tn (λ _. te))))))) (tw refl (λ _. tr (λ z k h. h) (λ z. refl) (λ b. tn (λ _. tr (λ z k h. h) (λ z. refl) (λ a. tn (λ _. te))))) (tells_binary x)))))
     (tw refl (λ _. tr (λ z k h. h) (λ z. refl) (λ a. tn (λ _. te))) (tw refl (λ _. tr (λ z k h. h) (λ z. refl) (λ a. tn (λ _. te))) (tw refl (λ _. tr (λ z k h. h) (λ z. refl) (λ a. tn (λ _. tr (λ z k h. h) (λ z. refl) (λ b. tn (λ _. tr (λ z k h. h) (λ z. refl) (λ c. tn (λ _. te))))))) (tells_binary x))))
 
-tells_at : (x : g.Scope) (i : ℕ) → After (ext_codes (g.Indices x i)) (g.at_indices x i)
+tells_at : (x : g.ExprScope) (i : ℕ) → After (ext_codes (g.Indices x i)) (g.at_indices x i)
 tells_at x i = tr (λ z k h. h) (λ z. refl) (λ es. te)
 
 tells_rest : (qs : List (List ℕ)) → After (ext_codes (g.BoundRest qs)) (rule (g.BoundRest qs))
 tells_rest [] = tn (λ _. te)
 tells_rest (q ∷ qs) = tn (λ _. tn (λ _. tr (λ z k h. h) (λ z. refl) (λ z. te)))
 
-good_bound : (x : g.Scope) (i : ℕ) (q : List ℕ) (qs : List (List ℕ)) → is_reserved q ≡ false → is_among q x.locals ≡ false →
+good_bound : (x : g.ExprScope) (i : ℕ) (q : List ℕ) (qs : List (List ℕ)) → is_reserved q ≡ false → is_among q x.locals ≡ false →
     Good v.expr (λ y k. among (code k.tok) (ext_codes (g.Indices x i)) ≡ true) (when (the_name q) (λ _. read (g.BoundRest qs) (λ _. give (t.AtBound i))) (g.at_indices x i))
 good_bound x i q qs free new = good_when
     (record {
@@ -301,7 +301,7 @@ good_bound x i q qs free new = good_when
     (λ _. tells_good (ext_codes (g.Indices x i)) (tr (λ z k h. h) (λ z. refl) (λ z. te)))
     (tells_good (ext_codes (g.Indices x i)) (tells_at x i))
 
-good_indices : (x : g.Scope) (i : ℕ) (qs : List (List ℕ)) → Good v.expr (λ y k. among (code k.tok) (ext_codes (g.Indices x i)) ≡ true) (g.indices x i qs)
+good_indices : (x : g.ExprScope) (i : ℕ) (qs : List (List ℕ)) → Good v.expr (λ y k. among (code k.tok) (ext_codes (g.Indices x i)) ≡ true) (g.indices x i qs)
 good_indices x i [] = tells_good (ext_codes (g.Indices x i)) (tells_at x i)
 good_indices x i (q ∷ qs) = by_where (Good v.expr (λ y k. among (code k.tok) (ext_codes (g.Indices x i)) ≡ true)) (not (is_reserved q) && not (is_among q x.locals))
     (λ _. when (the_name q) (λ _. read (g.BoundRest qs) (λ _. give (t.AtBound i))) (g.at_indices x i)) (g.at_indices x i)

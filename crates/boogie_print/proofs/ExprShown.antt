@@ -15,15 +15,15 @@ use Rattle.boogie_grammar.specs.declared.tokens.BSign.{BSign}
 use Rattle.boogie_grammar.specs.declared.tokens.BSign.TheVariants as sign
 use Rattle.boogie_grammar.specs.declared.tokens.Lexeme.TheVariants as tok
 use Rattle.boogie_grammar.specs.declared.tokens.PlacedLexeme.{PlacedLexeme}
-use Rattle.boogie_grammar.specs.declared.tokens.Word.{Word}
-use Rattle.boogie_grammar.specs.declared.tokens.Word.TheVariants as w
+use Rattle.boogie_grammar.specs.declared.tokens.BoogieWord.{BoogieWord}
+use Rattle.boogie_grammar.specs.declared.tokens.BoogieWord.TheVariants as w
 use Rattle.boogie_grammar.specs.Words.{word_tok, base_word, operator_tok, is_among, is_reserved}
 use Rattle.boogie_tree.specs.Literals.{max_literal, IsLiteral}
 use Rattle.boogie_grammar.specs.Pieces.{is_point_zero}
 use Rattle.boogie_grammar.specs.Tests as v
 use Rattle.boogie_grammar.specs.Tests.{Kind, Value, Binding, the_sign, the_word, the_name, a_variable, a_key, an_operator}
 use Rattle.boogie_grammar.specs.Grammar as g
-use Rattle.boogie_grammar.specs.Grammar.{Symbol, Rule, Scope, give, need, when, read, rule, rules}
+use Rattle.boogie_grammar.specs.Grammar.{Symbol, Rule, ExprScope, give, need, when, read, rule, rules}
 use Rattle.boogie_grammar.specs.Cut.{IsRow}
 use Rattle.boogie_grammar.specs.Printed.{Naming, name_at, base_text, bound_name, free_number, free_name, bound_names, under, names_text, binders_text, expr_text, exprs_text}
 use Rattle.boogie_grammar.proofs.WrittenRows.{at_start, Ends, name_row, free_row, blank_row, open_row, close_row, bracket_row, end_row, comma_row, minus_row, not_row, colon_row, bounds_row, operator_row, number_row, real_row}
@@ -50,21 +50,21 @@ pub sign_taken : {s : Kind} {o : BSign} {go : Value v.nothing → Rule s} {other
     Derives rules s (when (the_sign o) go other) (at_start (tok.Sign o) ∷ us) x
 sign_taken {o = o} d = taken (record { token = at_start (tok.Sign o); is = refl; passes = refl }) d
 
-pub word_first : {s : Kind} {a : Word} {go : Value v.nothing → Rule s} {us : List PlacedLexeme} {x : Value s} → Derives rules s (go tt) us x →
+pub word_first : {s : Kind} {a : BoogieWord} {go : Value v.nothing → Rule s} {us : List PlacedLexeme} {x : Value s} → Derives rules s (go tt) us x →
     Derives rules s (need (the_word a) go) (at_start (word_tok a) ∷ us) x
 word_first {a = a} d = needed (record { token = at_start (word_tok a); is = refl; passes = refl }) d
 
-pub word_taken : {s : Kind} {a : Word} {go : Value v.nothing → Rule s} {other : Rule s} {us : List PlacedLexeme} {x : Value s} → Derives rules s (go tt) us x →
+pub word_taken : {s : Kind} {a : BoogieWord} {go : Value v.nothing → Rule s} {other : Rule s} {us : List PlacedLexeme} {x : Value s} → Derives rules s (go tt) us x →
     Derives rules s (when (the_word a) go other) (at_start (word_tok a) ∷ us) x
 word_taken {a = a} d = taken (record { token = at_start (word_tok a); is = refl; passes = refl }) d
 
 pub tail_derives : {s : Kind} {a : Symbol s} {ts : List PlacedLexeme} {x : Value s} → Derives rules s (rule a) ts x → Derives rules s (read a give) ts x
 tail_derives {s = s} {a = a} {ts = ts} {x = x} d = subst (λ l. Derives rules s (read a give) l x) (append-nil ts) (called {a = a} {go = give} d given)
 
-pub simple_passed : (y : Scope) {others : Rule v.expr} {ts : List PlacedLexeme} {e : t.BExpr} → Derives rules v.expr others ts e → Derives rules v.expr (g.simple y others) ts e
+pub simple_passed : (y : ExprScope) {others : Rule v.expr} {ts : List PlacedLexeme} {e : t.BExpr} → Derives rules v.expr others ts e → Derives rules v.expr (g.simple y others) ts e
 simple_passed y d = passed (passed (passed (passed (passed (passed (passed (passed (passed (passed (passed (passed d)))))))))))
 
-parens : (y : Scope) {ts : List PlacedLexeme} {e : t.BExpr} → Derives rules v.expr (rule (g.InParens y)) ts e → Derives rules v.expr (rule (g.Expr y)) (at_start (tok.Sign sign.OpenParen) ∷ ts) e
+parens : (y : ExprScope) {ts : List PlacedLexeme} {e : t.BExpr} → Derives rules v.expr (rule (g.InParens y)) ts e → Derives rules v.expr (rule (g.Expr y)) (at_start (tok.Sign sign.OpenParen) ∷ ts) e
 parens y {ts = ts} {e = e} d =
     let inner : Derives rules v.expr (g.in_parens y) (at_start (tok.Sign sign.OpenParen) ∷ ts) e = sign_first (tail_derives {a = g.InParens y} d) in
     simple_passed y (by_where (λ r. Derives rules v.expr r (at_start (tok.Sign sign.OpenParen) ∷ ts) e) (v.some_free y.locals)
@@ -75,7 +75,7 @@ pub where_yes : {s : Kind} (P : Rule s → Type 0) (b : Truth) (some : b ≡ tru
 where_yes P true some other e f = f refl
 where_yes P false some other e f = absurd (cc)
 
-variable : (y : Scope) (i : ℕ) {ts : List PlacedLexeme} {e : t.BExpr} → IsVar y.locals i → Derives rules v.expr (g.named y i) ts e →
+variable : (y : ExprScope) (i : ℕ) {ts : List PlacedLexeme} {e : t.BExpr} → IsVar y.locals i → Derives rules v.expr (g.named y i) ts e →
     Derives rules v.expr (rule (g.Expr y)) (at_start (tok.Name (name_at y.locals i)) ∷ ts) e
 variable y i {ts = ts} {e = e} h d =
     simple_passed y (where_yes (λ r. Derives rules v.expr r (at_start (tok.Name (name_at y.locals i)) ∷ ts) e) (v.some_free y.locals)
@@ -85,7 +85,7 @@ variable y i {ts = ts} {e = e} h d =
 pub ends : {b : ℕ} {rest : List ℕ} → prefix_len is_name_byte (b ∷ rest) ≡ 0 → prefix_len is_ascii_digit (b ∷ rest) ≡ 0 → is_point_zero (b ∷ rest) ≡ false → Ends (b ∷ rest)
 ends h k l = record { name_ends = h; number_ends = k; point_ends = l }
 
-binary_in : (y : Scope) {ts : List PlacedLexeme} {e : t.BExpr} → Derives rules v.expr (g.binary y) ts e → Derives rules v.expr (rule (g.InParens y)) ts e
+binary_in : (y : ExprScope) {ts : List PlacedLexeme} {e : t.BExpr} → Derives rules v.expr (g.binary y) ts e → Derives rules v.expr (rule (g.InParens y)) ts e
 binary_in y {ts = ts} {e = e} d =
     passed (passed (passed (by_bound (λ r. Derives rules v.expr r ts e) y.bound (when (the_word w.Forall) (λ _. read (g.Binders y g.no_binding) (λ b. g.quantified y b)) (g.binary y)) (g.binary y) (passed d) d)))
 
@@ -96,7 +96,7 @@ pub record IsNew (locals : List (List ℕ)) (q : List ℕ) : Type 0 where
   pub free : is_reserved q ≡ false
   pub new : is_among q locals ≡ false
 
-abbrev pub scope_of : Naming → Scope
+abbrev pub scope_of : Naming → ExprScope
 scope_of x = record { locals = x.locals; others = []; bound = x.bound }
 
 -- n locals that can be named, and what a bound variable is not to be named
@@ -286,7 +286,7 @@ first_shown x a es h i = record {
   row = λ rest ts k. simp append_assoc (h.row _ _ (more_ends x es rest) (i.row rest ts k));
 }
 
-at_derives : (y : Scope) (i : ℕ) (qs : List (List ℕ)) {ts : List PlacedLexeme} {e : t.BExpr} → Derives rules v.expr (g.at_indices y i) ts e → Derives rules v.expr (g.indices y i qs) ts e
+at_derives : (y : ExprScope) (i : ℕ) (qs : List (List ℕ)) {ts : List PlacedLexeme} {e : t.BExpr} → Derives rules v.expr (g.at_indices y i) ts e → Derives rules v.expr (g.indices y i qs) ts e
 at_derives y i [] d = d
 at_derives y i (q ∷ qs) {ts = ts} {e = e} d =
     by_where (λ r. Derives rules v.expr r ts e) (not (is_reserved q) && not (is_among q y.locals))
@@ -324,7 +324,7 @@ rest_shown locals (q ∷ qs) h =
       names_end [] rest = refl
       names_end (q ∷ qs) rest = refl
 
-bound_derives : (y : Scope) (i : ℕ) (q : List ℕ) (qs : List (List ℕ)) {ts : List PlacedLexeme} → IsNew y.locals q → Derives rules v.nothing (rule (g.BoundRest qs)) ts tt →
+bound_derives : (y : ExprScope) (i : ℕ) (q : List ℕ) (qs : List (List ℕ)) {ts : List PlacedLexeme} → IsNew y.locals q → Derives rules v.nothing (rule (g.BoundRest qs)) ts tt →
     Derives rules v.expr (g.indices y i (q ∷ qs)) (at_start (tok.Name q) ∷ (ts ++ [])) (t.AtBound i)
 bound_derives y i q qs {ts = ts} new d =
     where_yes (λ r. Derives rules v.expr r (at_start (tok.Name q) ∷ (ts ++ [])) (t.AtBound i)) (not (is_reserved q) && not (is_among q y.locals))
@@ -389,7 +389,7 @@ record Spaced (bytes : List ℕ) {s : Kind} (a : Rule s) (x : Value s) : Type 0 
   row : (rest : List ℕ) (ts : List PlacedLexeme) → IsRow (32 ∷ rest) ts → IsRow (bytes ++ (32 ∷ rest)) (tokens ++ ts)
 
 -- what follows a bound variable
-abbrev after_binder : Scope → Binding → Rule v.binding
+abbrev after_binder : ExprScope → Binding → Rule v.binding
 after_binder y b = when (the_sign sign.Comma) (λ _. read (g.Binders y b) give) (give b)
 
 abbrev with_more : Naming → List BBase → Binding → Binding

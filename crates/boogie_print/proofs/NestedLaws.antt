@@ -15,7 +15,7 @@ use Rattle.boogie_grammar.specs.declared.tokens.BSign.{BSign}
 use Rattle.boogie_grammar.specs.declared.tokens.BSign.TheVariants as sign
 use Rattle.boogie_grammar.specs.declared.tokens.Lexeme.TheVariants as tok
 use Rattle.boogie_grammar.specs.declared.tokens.PlacedLexeme.{PlacedLexeme}
-use Rattle.boogie_grammar.specs.declared.tokens.Word.TheVariants as w
+use Rattle.boogie_grammar.specs.declared.tokens.BoogieWord.TheVariants as w
 use Rattle.boogie_grammar.specs.Words.{operator_tok, is_reserved, is_among}
 use Rattle.boogie_grammar.specs.Tests as v
 use Rattle.boogie_grammar.specs.Tests.{Kind, Value, Test, Passes, some_free}
@@ -214,19 +214,19 @@ fits_unless : (names : List (List ℕ)) (first other : Rule v.expr) → Fits exp
 fits_unless [] first other f h = f
 fits_unless (x ∷ xs) first other f h = h
 
-fits_wrapped : (y : g.Scope) (make : t.BExpr → t.BExpr) → ((a : t.BExpr) → expr_depth (make a) ≡ 1 + expr_depth a) → Fits expr_depth any_expr 0 0 (g.wrapped y make)
+fits_wrapped : (y : g.ExprScope) (make : t.BExpr → t.BExpr) → ((a : t.BExpr) → expr_depth (make a) ≡ 1 + expr_depth a) → Fits expr_depth any_expr 0 0 (g.wrapped y make)
 fits_wrapped y make deeper = (tt, λ _. (omega arith, λ a _. (omega arith, λ _. (refl, let e = deeper a in omega (arith, e), tt))))
 
-fits_paired : (y : g.Scope) → Fits expr_depth any_expr 0 0 (g.paired y)
+fits_paired : (y : g.ExprScope) → Fits expr_depth any_expr 0 0 (g.paired y)
 fits_paired y = (tt, λ _. (omega arith, λ a _. (tt, λ _. (omega arith, λ b _. (omega arith, λ _. (refl, omega arith, tt))))))
 
-fits_in_parens : (y : g.Scope) → Fits expr_depth any_expr 0 0 (g.in_parens y)
+fits_in_parens : (y : g.ExprScope) → Fits expr_depth any_expr 0 0 (g.in_parens y)
 fits_in_parens y = (tt, λ _. (omega arith, λ a ends. (refl, omega (arith, ends), tt)))
 
-fits_named : (y : g.Scope) (i : ℕ) → Fits expr_depth any_expr 0 0 (g.named y i)
+fits_named : (y : g.ExprScope) (i : ℕ) → Fits expr_depth any_expr 0 0 (g.named y i)
 fits_named y i = ((tt, λ _. (omega arith, λ a ends. (refl, omega (arith, ends), tt))), (refl, omega arith, tt))
 
-fits_wraps : (y : g.Scope) (others : Rule v.expr) → Fits expr_depth any_expr 0 0 others → Fits expr_depth any_expr 0 0 (g.wraps y others)
+fits_wraps : (y : g.ExprScope) (others : Rule v.expr) → Fits expr_depth any_expr 0 0 others → Fits expr_depth any_expr 0 0 (g.wraps y others)
 fits_wraps y others h = (
   (tt, λ _. fits_wrapped y (λ a. t.ToReal a) (λ a. refl)),
   (
@@ -250,27 +250,27 @@ fits_leaves others h = (
   ),
 )
 
-fits_simple : (y : g.Scope) (others : Rule v.expr) → Fits expr_depth any_expr 0 0 others → Fits expr_depth any_expr 0 0 (g.simple y others)
+fits_simple : (y : g.ExprScope) (others : Rule v.expr) → Fits expr_depth any_expr 0 0 others → Fits expr_depth any_expr 0 0 (g.simple y others)
 fits_simple y others h =
     let rest : Rule v.expr = when (v.the_word w.SPair) (λ _. g.paired y) others in
     fits_leaves (g.wraps y rest) (fits_wraps y rest ((tt, λ _. fits_paired y), h))
 
-fits_variable : (y : g.Scope) (some : some_free y.locals ≡ true) → Fits expr_depth any_expr 0 0 (when (v.a_variable y.locals some) (λ i. g.named y i) (g.in_parens y))
+fits_variable : (y : g.ExprScope) (some : some_free y.locals ≡ true) → Fits expr_depth any_expr 0 0 (when (v.a_variable y.locals some) (λ i. g.named y i) (g.in_parens y))
 fits_variable y some = ((tt, λ i. fits_named y i), fits_in_parens y)
 
-fits_expr : (y : g.Scope) → Fits expr_depth any_expr 0 0 (rule (g.Expr y))
+fits_expr : (y : g.ExprScope) → Fits expr_depth any_expr 0 0 (rule (g.Expr y))
 fits_expr y =
     let variable : some_free y.locals ≡ true → Rule v.expr = λ some. when (v.a_variable y.locals some) (λ i. g.named y i) (g.in_parens y) in
     fits_simple y (where_true (some_free y.locals) variable (g.in_parens y))
     (fits_where expr_depth any_expr 0 0 (some_free y.locals) variable (g.in_parens y) (fits_variable y) (fits_in_parens y))
 
-fits_binary : (y : g.Scope) → Fits expr_depth ends_in_one 1 1 (g.binary y)
+fits_binary : (y : g.ExprScope) → Fits expr_depth ends_in_one 1 1 (g.binary y)
 fits_binary y = (omega arith, λ a _. (tt, λ o. (omega arith, λ b _. (omega arith, λ _. (refl, omega arith, omega arith)))))
 
-fits_forall : (y : g.Scope) → Fits expr_depth ends_in_one 1 1 (when (v.the_word w.Forall) (λ _. read (g.Binders y g.no_binding) (λ b. g.quantified y b)) (g.binary y))
+fits_forall : (y : g.ExprScope) → Fits expr_depth ends_in_one 1 1 (when (v.the_word w.Forall) (λ _. read (g.Binders y g.no_binding) (λ b. g.quantified y b)) (g.binary y))
 fits_forall y = ((tt, λ _. (omega arith, λ b _. (tt, λ _. (omega arith, λ a _. (omega arith, λ _. (refl, omega arith, omega arith)))))), fits_binary y)
 
-fits_prefixed : (y : g.Scope) (others : Rule v.expr) → Fits expr_depth ends_in_one 1 1 others → Fits expr_depth ends_in_one 1 1 (g.prefixed y others)
+fits_prefixed : (y : g.ExprScope) (others : Rule v.expr) → Fits expr_depth ends_in_one 1 1 others → Fits expr_depth ends_in_one 1 1 (g.prefixed y others)
 fits_prefixed y others h = (
   (tt, λ _. (omega arith, λ a _. (omega arith, λ _. (refl, omega arith, omega arith)))),
   (
@@ -279,19 +279,19 @@ fits_prefixed y others h = (
   ),
 )
 
-fits_inside : (y : g.Scope) → Fits expr_depth ends_in_one 1 1 (rule (g.InParens y))
+fits_inside : (y : g.ExprScope) → Fits expr_depth ends_in_one 1 1 (rule (g.InParens y))
 fits_inside y =
     let quantifier : Rule v.expr = when (v.the_word w.Forall) (λ _. read (g.Binders y g.no_binding) (λ b. g.quantified y b)) (g.binary y) in
     fits_prefixed y (unless_bound y.bound quantifier (g.binary y)) (fits_unless y.bound quantifier (g.binary y) (fits_forall y) (fits_binary y))
 
-fits_at : (y : g.Scope) (i : ℕ) → Fits expr_depth ends_in_one 1 1 (g.at_indices y i)
+fits_at : (y : g.ExprScope) (i : ℕ) → Fits expr_depth ends_in_one 1 1 (g.at_indices y i)
 fits_at y i = (omega arith, λ es _. (refl, omega arith, omega arith))
 
-fits_at_bound : (y : g.Scope) (i : ℕ) (q : List ℕ) (qs : List (List ℕ)) →
+fits_at_bound : (y : g.ExprScope) (i : ℕ) (q : List ℕ) (qs : List (List ℕ)) →
     Fits expr_depth ends_in_one 1 1 (when (v.the_name q) (λ _. read (g.BoundRest qs) (λ _. give (t.AtBound i))) (g.at_indices y i))
 fits_at_bound y i q qs = ((tt, λ _. (omega arith, λ _ _. (refl, omega arith, omega arith))), fits_at y i)
 
-fits_indices : (y : g.Scope) (i : ℕ) (names : List (List ℕ)) → Fits expr_depth ends_in_one 1 1 (g.indices y i names)
+fits_indices : (y : g.ExprScope) (i : ℕ) (names : List (List ℕ)) → Fits expr_depth ends_in_one 1 1 (g.indices y i names)
 fits_indices y i [] = fits_at y i
 fits_indices y i (q ∷ qs) =
     fits_where expr_depth ends_in_one 1 1 (not (is_reserved q) && not (is_among q y.locals))

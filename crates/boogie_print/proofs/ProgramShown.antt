@@ -15,7 +15,7 @@ use Rattle.boogie_tree.specs.declared.exprs.BBase.{BBase}
 use Rattle.boogie_grammar.specs.declared.tokens.BSign.TheVariants as sign
 use Rattle.boogie_grammar.specs.declared.tokens.Lexeme.TheVariants as tok
 use Rattle.boogie_grammar.specs.declared.tokens.PlacedLexeme.{PlacedLexeme}
-use Rattle.boogie_grammar.specs.declared.tokens.Word.TheVariants as w
+use Rattle.boogie_grammar.specs.declared.tokens.BoogieWord.TheVariants as w
 use Rattle.boogie_grammar.specs.Words.{word_tok, base_word, is_among}
 use Rattle.boogie_grammar.specs.Tests as v
 use Rattle.boogie_grammar.specs.Tests.{Kind, Value, a_new_name, a_base, a_key, some_free}
@@ -46,7 +46,7 @@ pub record Braced (bytes : List ℕ) {k : Kind} (a : Rule k) (x : Value k) : Typ
   pub row : (rest : List ℕ) (ts : List PlacedLexeme) → IsRow rest ts → IsRow (bytes ++ (125 ∷ rest)) (tokens ++ ts)
 
 -- the scope of a statement
-abbrev outside : List (List ℕ) → g.Scope
+abbrev outside : List (List ℕ) → g.ExprScope
 outside names = g.outside names
 
 abbrev ShownExpr : List (List ℕ) → t.BExpr → Type 0

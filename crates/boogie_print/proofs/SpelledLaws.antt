@@ -25,7 +25,7 @@ use Rattle.boogie_grammar.specs.Step.{IsPiece}
 use Rattle.boogie_grammar.specs.declared.tokens.Lexeme.{Lexeme}
 use Rattle.boogie_grammar.specs.declared.tokens.Lexeme.TheVariants as tok
 use Rattle.boogie_grammar.specs.declared.tokens.PlacedLexeme.{PlacedLexeme}
-use Rattle.boogie_grammar.specs.declared.tokens.Word.TheVariants as word
+use Rattle.boogie_grammar.specs.declared.tokens.BoogieWord.TheVariants as word
 use Rattle.boogie_grammar.specs.Words.{is_among, is_reserved}
 use Rattle.boogie_grammar.specs.Pieces as p
 use Rattle.boogie_tree.specs.Literals.{max_literal, IsLiteral}
@@ -166,10 +166,10 @@ some_bound (x ∷ qs) q = refl
 
 -- ---- symbols
 
-abbrev pub Fits : g.Scope → t.BExpr → Type 0
+abbrev pub Fits : g.ExprScope → t.BExpr → Type 0
 Fits x e = FitsExpr (length x.locals) (inside x.bound) e
 
-abbrev pub SomeFit : g.Scope → List t.BExpr → Type 0
+abbrev pub SomeFit : g.ExprScope → List t.BExpr → Type 0
 SomeFit x es = (t.exprs es ≢ t.none) × FitExprs (length x.locals) (inside x.bound) (t.exprs es)
 
 -- what a list has so far
@@ -297,10 +297,10 @@ statement_keeps ls =
     by_where (λ r. Keeps (FitsStmt (length ls)) (g.checks ls r)) (some_free ls) (λ some. g.changes ls some) (g.conditional ls)
     (λ some. checks_keep ls (g.changes ls some) (changes_keep ls some)) (checks_keep ls (g.conditional ls) (conditional_keeps ls))
 
-wrapped_keeps : (x : g.Scope) (make : t.BExpr → t.BExpr) → ((a : t.BExpr) → Fits x a → Fits x (make a)) → Keeps (Fits x) (g.wrapped x make)
+wrapped_keeps : (x : g.ExprScope) (make : t.BExpr → t.BExpr) → ((a : t.BExpr) → Fits x a → Fits x (make a)) → Keeps (Fits x) (g.wrapped x make)
 wrapped_keeps x make fits = λ _ _ _ _. (tt, λ a h. λ _ _ _ _. fits a h)
 
-simple_keeps : (x : g.Scope) (others : Rule v.expr) → Keeps (Fits x) others → Keeps (Fits x) (g.simple x others)
+simple_keeps : (x : g.ExprScope) (others : Rule v.expr) → Keeps (Fits x) others → Keeps (Fits x) (g.simple x others)
 simple_keeps x others h = (
   (λ j n proper passes. subst Proper passes proper),
   (
@@ -339,23 +339,23 @@ simple_keeps x others h = (
   ),
 )
 
-named_keeps : (x : g.Scope) (i : ℕ) → i < length x.locals → Keeps (Fits x) (g.named x i)
+named_keeps : (x : g.ExprScope) (i : ℕ) → i < length x.locals → Keeps (Fits x) (g.named x i)
 named_keeps x i lt = ((λ _ _ _ _. (lt, λ y k. k)), lt)
 
-in_parens_keeps : (x : g.Scope) → Keeps (Fits x) (g.in_parens x)
+in_parens_keeps : (x : g.ExprScope) → Keeps (Fits x) (g.in_parens x)
 in_parens_keeps x = λ _ _ _ _. (tt, λ y k. k)
 
-expr_keeps : (x : g.Scope) → Keeps (Fits x) (rule (g.Expr x))
+expr_keeps : (x : g.ExprScope) → Keeps (Fits x) (rule (g.Expr x))
 expr_keeps x =
     by_where (λ r. Keeps (Fits x) (g.simple x r)) (some_free x.locals)
     (λ some. when (v.a_variable x.locals some) (λ i. g.named x i) (g.in_parens x)) (g.in_parens x)
     (λ some. simple_keeps x (when (v.a_variable x.locals some) (λ i. g.named x i) (g.in_parens x)) ((λ j i proper passes. named_keeps x i (variable_within passes)), in_parens_keeps x))
     (simple_keeps x (g.in_parens x) (in_parens_keeps x))
 
-binary_keeps : (x : g.Scope) → Keeps (Fits x) (g.binary x)
+binary_keeps : (x : g.ExprScope) → Keeps (Fits x) (g.binary x)
 binary_keeps x = (tt, λ a h. λ _ _ _ _. (tt, λ b k. λ _ _ _ _. (h, k)))
 
-prefixed_keeps : (x : g.Scope) (others : Rule v.expr) → Keeps (Fits x) others → Keeps (Fits x) (g.prefixed x others)
+prefixed_keeps : (x : g.ExprScope) (others : Rule v.expr) → Keeps (Fits x) others → Keeps (Fits x) (g.prefixed x others)
 prefixed_keeps x others h = (
   (λ _ _ _ _. (tt, λ a f. λ _ _ _ _. f)),
   (
@@ -367,25 +367,25 @@ prefixed_keeps x others h = (
   ),
 )
 
-quantified_keeps : (x : g.Scope) (b : v.Binding) → inside x.bound ≡ false → Gives (g.Binders x g.no_binding) b → Keeps (Fits x) (g.quantified x b)
+quantified_keeps : (x : g.ExprScope) (b : v.Binding) → inside x.bound ≡ false → Gives (g.Binders x g.no_binding) b → Keeps (Fits x) (g.quantified x b)
 quantified_keeps x b outside h = λ _ _ _ _. (tt, λ a f. λ _ _ _ _. (outside, h.1, h.0, subst (λ z. FitsExpr (length x.locals) z a) h.2 f))
 
-parens_keep : (x : g.Scope) (qs : List (List ℕ)) → inside x.bound ≡ inside qs →
+parens_keep : (x : g.ExprScope) (qs : List (List ℕ)) → inside x.bound ≡ inside qs →
     Keeps (Fits x) (g.prefixed x (g.unless_bound qs (when (v.the_word word.Forall) (λ _. read (g.Binders x g.no_binding) (λ b. g.quantified x b)) (g.binary x)) (g.binary x)))
 parens_keep x [] e =
     prefixed_keeps x (when (v.the_word word.Forall) (λ _. read (g.Binders x g.no_binding) (λ b. g.quantified x b)) (g.binary x))
     ((λ _ _ _ _. (All-nil (λ u. is_key u ≡ true), λ b h. quantified_keeps x b e h)), binary_keeps x)
 parens_keep x (q ∷ qs) e = prefixed_keeps x (g.binary x) (binary_keeps x)
 
-binders_keep : (x : g.Scope) (b : v.Binding) → Held (g.Binders x b) → Keeps (Gives (g.Binders x b)) (rule (g.Binders x b))
+binders_keep : (x : g.ExprScope) (b : v.Binding) → Held (g.Binders x b) → Keeps (Gives (g.Binders x b)) (rule (g.Binders x b))
 binders_keep x b held = λ j q proper passes. λ _ _ _ _. λ i u _ key.
     let keys = keys_more b.types u held key.1 in
     ((λ _ _ _ _. (keys, λ y k. k)), (keys, some_bases b.types u, some_bound b.names q))
 
-at_keeps : (x : g.Scope) (i : ℕ) → i < length x.locals → Keeps (Fits x) (g.at_indices x i)
+at_keeps : (x : g.ExprScope) (i : ℕ) → i < length x.locals → Keeps (Fits x) (g.at_indices x i)
 at_keeps x i lt = (tt, λ es h. (lt, h.0, h.1))
 
-indices_keep : (x : g.Scope) (i : ℕ) (qs : List (List ℕ)) → i < length x.locals → inside x.bound ≡ inside qs → Keeps (Fits x) (g.indices x i qs)
+indices_keep : (x : g.ExprScope) (i : ℕ) (qs : List (List ℕ)) → i < length x.locals → inside x.bound ≡ inside qs → Keeps (Fits x) (g.indices x i qs)
 indices_keep x i [] lt e = at_keeps x i lt
 indices_keep x i (q ∷ qs) lt e =
     by_where (Keeps (Fits x)) (not (is_reserved q) && not (is_among q x.locals))
@@ -396,10 +396,10 @@ rest_keeps : (qs : List (List ℕ)) → Keeps (Gives (g.BoundRest qs)) (rule (g.
 rest_keeps [] = λ _ _ _ _. tt
 rest_keeps (q ∷ qs) = λ _ _ _ _. λ _ _ _ _. (tt, λ y k. k)
 
-exprs_keep : (x : g.Scope) → Keeps (SomeFit x) (rule (g.Exprs x))
+exprs_keep : (x : g.ExprScope) → Keeps (SomeFit x) (rule (g.Exprs x))
 exprs_keep x = (tt, λ a h. (((λ e. cc), (h, tt)), λ y k. k))
 
-more_exprs_keep : (x : g.Scope) (es : List t.BExpr) → SomeFit x es → Keeps (SomeFit x) (rule (g.MoreExprs x es))
+more_exprs_keep : (x : g.ExprScope) (es : List t.BExpr) → SomeFit x es → Keeps (SomeFit x) (rule (g.MoreExprs x es))
 more_exprs_keep x es held = (
   (λ _ _ _ _. (tt, λ a h. ((some_exprs es a, exprs_more (length x.locals) (inside x.bound) es a held.1 h), λ y k. k))),
   λ _ _ _ _. held,

@@ -12,8 +12,8 @@ mod text_laws;
 
 pub use asserts::count_asserts;
 pub use pieces::{
-    EmitFault, Names, put_code, put_head, put_if, write_code, write_else, write_end, write_head,
-    write_if, write_prelude,
+    EmitFault, PrintedNames, put_code, put_head, put_if, write_code, write_else, write_end,
+    write_head, write_if, write_prelude,
 };
 pub use printer::print;
 pub use put_heads::{put_locals, put_type};

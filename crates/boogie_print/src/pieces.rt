@@ -22,7 +22,7 @@ use vb_outer::{Failed, Sink, write_all};
 
 /// The locals of a procedure, and the names among them that a bound variable might have.
 #[derive(Drop)]
-pub struct Names<'a> {
+pub struct PrintedNames<'a> {
     /// The first ones.
     pub locals: &'a [Local],
     /// How many temporaries stand behind these. The name of each is `t$` and its number among all locals.
@@ -31,12 +31,12 @@ pub struct Names<'a> {
     pub taken: Vec<Ident>,
 }
 
-impl<'a> Names<'a> {
+impl<'a> PrintedNames<'a> {
     /// Looks through the locals once, for all that is written of the procedure.
-    pub fn of(alloc: Global, locals: &'a [Local]) -> Result<Names<'a>, Memory>
+    pub fn of(alloc: Global, locals: &'a [Local]) -> Result<PrintedNames<'a>, Memory>
         ensures { IfOk result (λ names. names_of names ≡ naming (local_names (locals_of locals.now))) }
     {
-        Names::with_temporaries(alloc, locals, 0)
+        PrintedNames::with_temporaries(alloc, locals, 0)
     }
 
     /// The same with so many temporaries behind these locals.
@@ -44,12 +44,12 @@ impl<'a> Names<'a> {
         alloc: Global,
         locals: &'a [Local],
         temporaries: usize,
-    ) -> Result<Names<'a>, Memory>
+    ) -> Result<PrintedNames<'a>, Memory>
         ensures { IfOk result (λ names. names_of names
             ≡ naming (local_names (locals_of locals.now) ++ temporary_names (length locals.now) temporaries)) }
     {
         let taken = taken_names(alloc, locals)?;
-        Ok(Names {
+        Ok(PrintedNames {
             locals,
             temporaries,
             taken,
@@ -80,7 +80,7 @@ pub fn put_head(out: &mut Vec<u8>, name: &Ident, locals: &[Local]) -> Result<(),
 /// Appends whole statements.
 pub fn put_code(
     alloc: Global,
-    names: &Names<'_>,
+    names: &PrintedNames<'_>,
     code: &[BStmt],
     out: &mut Vec<u8>,
 ) -> Result<(), Memory>
@@ -92,7 +92,7 @@ pub fn put_code(
 /// Appends an `if` up to the `{` of its first block. Where there is no condition, `*` stands for it.
 pub fn put_if(
     alloc: Global,
-    names: &Names<'_>,
+    names: &PrintedNames<'_>,
     condition: Option<&BExpr>,
     out: &mut Vec<u8>,
 ) -> Result<(), Memory>
@@ -225,7 +225,7 @@ fn text_of_head(alloc: Global, name: &Ident, locals: &[Local]) -> Result<Vec<u8>
 fn text_of_code(alloc: Global, locals: &[Local], code: &[BStmt]) -> Result<Vec<u8>, Memory>
     ensures { IfOk result (λ text. text.items ≡ stmts_text (naming (local_names (locals_of locals.now))) (stmts_of code.now)) }
 {
-    let names = Names::of(alloc, locals)?;
+    let names = PrintedNames::of(alloc, locals)?;
     let mut text = Vec::new(alloc);
     put_code(alloc, &names, code, &mut text)?;
     Ok(text)
@@ -234,7 +234,7 @@ fn text_of_code(alloc: Global, locals: &[Local], code: &[BStmt]) -> Result<Vec<u
 fn text_of_if(alloc: Global, locals: &[Local], condition: Option<&BExpr>) -> Result<Vec<u8>, Memory>
     ensures { IfOk result (λ text. text.items ≡ piece_text (naming (local_names (locals_of locals.now))) (if_piece (option_map (λ c. expr_of c.now) condition.entry))) }
 {
-    let names = Names::of(alloc, locals)?;
+    let names = PrintedNames::of(alloc, locals)?;
     let mut text = Vec::new(alloc);
     put_if(alloc, &names, condition, &mut text)?;
     Ok(text)

@@ -6,7 +6,7 @@ ghost use Rattle.boogie_grammar.specs.Printed as text;
 ghost use Rattle.boogie_grammar.specs.Spells.{BSpells};
 ghost use Rattle.boogie_print.specs.Printable.{IsPrintable};
 
-use crate::pieces::{Names, put_code, put_head};
+use crate::pieces::{PrintedNames, put_code, put_head};
 use crate::put_stmts::put_end;
 use boogie_tree::{BProgram, PRELUDE, Proc};
 use std::alloc::Global;
@@ -44,7 +44,7 @@ fn put_procedure(alloc: Global, out: &mut Vec<u8>, proc: &Proc) -> Result<(), Me
     ensures { OnOk result (out.new.items ≡ out.old.items ++ text.proc_text (b.proc_of proc.now)) }
 {
     put_head(out, &proc.name, &proc.locals)?;
-    let names = Names::of(alloc, &proc.locals)?;
+    let names = PrintedNames::of(alloc, &proc.locals)?;
     put_code(alloc, &names, &proc.body, out)?;
     put_end(out)
 }

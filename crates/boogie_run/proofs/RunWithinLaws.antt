@@ -22,7 +22,7 @@ use Rattle.boogie_tree.specs.Values.{default_of, same_base, base_of_scalar}
 use Rattle.boogie_run.specs.Ready.{IsReady, KeepsReady}
 use Rattle.boogie_run.specs.Runs.{Runs, done, Takes, goes}
 use Rattle.boogie_eval.specs.Within.{IsWithinScalar, IsWithinValue, IsWithinEntry, IsWithinChoice, IsWithinExpr, IsWithinStmt, AreWithinStmts, Gives}
-use Rattle.boogie_eval.specs.declared.eval_values.Scope.TheVariants as scope
+use Rattle.boogie_eval.specs.declared.eval_values.ForallScope.TheVariants as scope
 use Rattle.boogie_eval.proofs.WithinLaws.{then_gives, found_gives, the_map_gives, value_gives, scope_within}
 
 abbrev Any : {X : Type 0} → X → Type 0

@@ -21,8 +21,8 @@ use Rattle.boogie_types.proofs.TypingLaws.{types_are}
 use Rattle.boogie_run.specs.Runs as ends
 use Rattle.boogie_run.specs.Runs.{Runs}
 use Rattle.boogie_run.specs.Start.{start_of}
-use Rattle.boogie_run.specs.declared.replay_ends.Stop.TheVariants as stop
-use Rattle.boogie_run.specs.declared.replay_ends.Halt.TheVariants as halt
+use Rattle.boogie_run.specs.declared.replay_ends.ReplayStop.TheVariants as stop
+use Rattle.boogie_run.specs.declared.replay_ends.ReplayHalt.TheVariants as halt
 
 wrong_ended : {ls : List p.BType} {r : Run} (cs : List BChoice) → KeepsTypes ls r → r ≡ Stops m.Wrong cs → ⊥
 wrong_ended cs (done h q) e = absurd (cc)

@@ -7,7 +7,7 @@ use Rattle.boogie_tree.specs.Value.{BValue, BChoice}
 use Rattle.boogie_meaning.specs.Run.{Run, Done, Stops, brun, brun_stmt, then_run}
 use Rattle.boogie_run.specs.Runs.{why}
 use Rattle.boogie_run.specs.Stepped.{ended}
-use Rattle.boogie_run.specs.declared.replay_ends.Stop.{Stop}
+use Rattle.boogie_run.specs.declared.replay_ends.ReplayStop.{ReplayStop}
 
 goes_on : (r : Run) (f g : List BValue → List BChoice → Run) (h : List BValue → List BChoice → Run) → ((env : List BValue) (cs : List BChoice) → f env cs ≡ then_run (g env cs) h) →
     then_run r f ≡ then_run (then_run r g) h
@@ -25,5 +25,5 @@ module _ (ls : List BType) (b : Bound) where
       goes_on (brun_stmt ls b y env cs) (λ new rest. brun ls b (stmts (ys ++ x ∷ [])) new rest) (λ new rest. brun ls b (stmts ys) new rest) (brun_stmt ls b x) (λ new rest. one_more ys x new rest)
 
 -- why it was stopped
-pub was_stopped : (env : List BValue) (cs : List BChoice) {o : Option Stop} (w : Stop) → o ≡ Some w → ended env cs o ≡ Stops (why w) cs
+pub was_stopped : (env : List BValue) (cs : List BChoice) {o : Option ReplayStop} (w : ReplayStop) → o ≡ Some w → ended env cs o ≡ Stops (why w) cs
 was_stopped env cs w is = ap (ended env cs) is

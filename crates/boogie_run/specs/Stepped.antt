@@ -4,11 +4,11 @@ use Rattle.boogie_tree.specs.Value as v
 use Rattle.boogie_meaning.specs.Run.{Run, Done, Stops}
 use Rattle.boogie_run.specs.Runs.{why}
 use Rattle.boogie_run.specs.View.{environment_of, left_in}
-use Rattle.boogie_run.specs.declared.replay_ends.Stop.{Stop}
+use Rattle.boogie_run.specs.declared.replay_ends.ReplayStop.{ReplayStop}
 use Rattle.boogie_run.specs.declared.stepping.Running.{Running}
 
 -- how a run has ended, where it was stopped or was not
-abbrev pub ended : List v.BValue → List v.BChoice → Option Stop → Run
+abbrev pub ended : List v.BValue → List v.BChoice → Option ReplayStop → Run
 ended env left None = Done env left
 ended env left (Some w) = Stops (why w) left
 

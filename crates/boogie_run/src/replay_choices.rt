@@ -14,7 +14,7 @@ ghost use Rattle.boogie_run.specs.Runs.{Takes};
 ghost use Rattle.boogie_eval.specs.View.{map_of};
 ghost use Rattle.boogie_run.specs.View.{left_in};
 
-use crate::replay_ends::{Halt, Stop};
+use crate::replay_ends::{ReplayHalt, ReplayStop};
 use crate::replay_values::fill_at;
 use boogie_tree::{
     BBase, BChoice, BScalar, BType, BValue, Entry, base_of_scalar, default_of, fits_key, same_base,
@@ -26,13 +26,13 @@ use vb_value::Key;
 
 /// The choices of a run.
 #[derive(Clone, Copy)]
-pub(crate) struct Feed<'a> {
+pub(crate) struct BoogieFeed<'a> {
     pub(crate) choices: &'a [BChoice],
     /// How many of them were taken.
     pub(crate) next: usize,
 }
 
-impl<'a> Feed<'a> {
+impl<'a> BoogieFeed<'a> {
     /// Takes the next choice. None exactly where all were taken.
     fn take(&mut self) -> Option<&'a BChoice>
         ensures next { MatchOption result ((left_in self.old ≡ []) × (left_in self.new ≡ [])) (λ choice. left_in self.old ≡ choice_of choice.now ∷ left_in self.new) }
@@ -54,15 +54,15 @@ fn picked(choice: &BChoice) -> Option<bool>
 }
 
 /// Takes the next choice, which has to be a branch.
-pub(crate) fn take_branch(feed: &mut Feed) -> Result<bool, Halt>
+pub(crate) fn take_branch(feed: &mut BoogieFeed) -> Result<bool, ReplayHalt>
     ensures { Takes (λ p. p) (left_in feed.old) (left_in feed.new) (λ go. m.with_choice (left_in feed.old) m.picked go) result }
 {
     match feed.take() {
         Some(choice) => match picked(choice) {
             Some(branch) => Ok(branch),
-            None => Err(Halt::Stops(Stop::Blocked)),
+            None => Err(ReplayHalt::Stops(ReplayStop::Blocked)),
         },
-        None => Err(Halt::Stops(Stop::Short)),
+        None => Err(ReplayHalt::Stops(ReplayStop::Short)),
     }
 }
 
@@ -161,14 +161,18 @@ fn chosen(alloc: Global, ty: &BType, choice: &BChoice) -> Result<Option<BValue>,
 }
 
 /// Takes the next choice, which has to give a variable of this type a value.
-pub(crate) fn take_value(alloc: Global, ty: &BType, feed: &mut Feed) -> Result<BValue, Halt>
+pub(crate) fn take_value(
+    alloc: Global,
+    ty: &BType,
+    feed: &mut BoogieFeed,
+) -> Result<BValue, ReplayHalt>
     ensures { Takes value_of (left_in feed.old) (left_in feed.new) (λ go. m.with_choice (left_in feed.old) (m.chosen (type_of ty.now)) go) result }
 {
     match feed.take() {
         Some(choice) => match chosen(alloc, ty, choice)? {
             Some(value) => Ok(value),
-            None => Err(Halt::Stops(Stop::Blocked)),
+            None => Err(ReplayHalt::Stops(ReplayStop::Blocked)),
         },
-        None => Err(Halt::Stops(Stop::Short)),
+        None => Err(ReplayHalt::Stops(ReplayStop::Short)),
     }
 }

@@ -1,5 +1,5 @@
 // How runs stop.
-ghost use Rattle.boogie_run.specs.declared.replay_ends.Halt.TheVariants as halt;
+ghost use Rattle.boogie_run.specs.declared.replay_ends.ReplayHalt.TheVariants as halt;
 ghost use Rattle.boogie_run.specs.Runs.{halted};
 ghost use Rattle.std.specs.Prelude.{◌≡◌, IfOk};
 
@@ -8,7 +8,7 @@ use vb_base::{Label, Memory};
 
 /// Why a run stops.
 #[derive(Clone, Copy, Debug, PartialEq, Eq)]
-pub(crate) enum Stop {
+pub(crate) enum ReplayStop {
     Failed(Label),
     /// An `assume` is false, or a choice is of another kind or type than the step takes.
     Blocked,
@@ -22,38 +22,38 @@ pub(crate) enum Stop {
 
 /// Why a run does not go on.
 #[derive(Clone, Copy, Debug, PartialEq, Eq)]
-pub(crate) enum Halt {
+pub(crate) enum ReplayHalt {
     /// There was no memory.
     Memory,
-    Stops(Stop),
+    Stops(ReplayStop),
 }
 
 /// Why a run stops that does not go on, unless there was no memory.
-pub(crate) fn stop_of(halt: Halt) -> Result<Stop, Memory>
-    ensures { IfOk result (λ stop. halt ≡ Halt.Stops stop) }
+pub(crate) fn stop_of(halt: ReplayHalt) -> Result<ReplayStop, Memory>
+    ensures { IfOk result (λ stop. halt ≡ ReplayHalt.Stops stop) }
 {
     match halt {
-        Halt::Memory => Err(Memory),
-        Halt::Stops(stop) => Ok(stop),
+        ReplayHalt::Memory => Err(Memory),
+        ReplayHalt::Stops(stop) => Ok(stop),
     }
 }
 
-impl From<Memory> for Halt {
+impl From<Memory> for ReplayHalt {
     ghost from_gives = { λ _ e. e ≡ halt.Memory };
 
-    fn from(_: Memory) -> Halt {
-        Halt::Memory
+    fn from(_: Memory) -> ReplayHalt {
+        ReplayHalt::Memory
     }
 }
 
-impl From<Miss> for Halt {
+impl From<Miss> for ReplayHalt {
     ghost from_gives = { λ m e. e ≡ halted m };
 
-    fn from(miss: Miss) -> Halt {
+    fn from(miss: Miss) -> ReplayHalt {
         match miss {
-            Miss::Memory => Halt::Memory,
-            Miss::Over => Halt::Stops(Stop::Over),
-            Miss::Wrong => Halt::Stops(Stop::Wrong),
+            Miss::Memory => ReplayHalt::Memory,
+            Miss::Over => ReplayHalt::Stops(ReplayStop::Over),
+            Miss::Wrong => ReplayHalt::Stops(ReplayStop::Wrong),
         }
     }
 }

@@ -11,8 +11,8 @@ ghost use Rattle.boogie_types.specs.Typed.{types_in};
 ghost use Rattle.boogie_run.specs.View.{environment_of, left_in};
 ghost use Rattle.boogie_eval.specs.Within.{IsWithinStmt, AreWithinStmts};
 
-use crate::replay_choices::{Feed, take_branch};
-use crate::replay_ends::Halt;
+use crate::replay_choices::{BoogieFeed, take_branch};
+use crate::replay_ends::ReplayHalt;
 use crate::replay_steps::{assign, assume, check, condition, havoc, put};
 use crate::replay_values::Environment;
 use boogie_tree::{BStmt, Local};
@@ -25,8 +25,8 @@ pub(crate) fn run_stmt(
     locals: &[Local],
     stmt: &BStmt,
     env: &mut Environment,
-    feed: &mut Feed,
-) -> Result<(), Halt>
+    feed: &mut BoogieFeed,
+) -> Result<(), ReplayHalt>
     requires stmt_within { IsWithinStmt (stmt_of stmt.now) }
     requires ready { IsReady (environment_of env.old) (left_in feed.old) }
     ensures { Runs (brun_stmt (types_in locals.now) Bounded (stmt_of stmt.now) (environment_of env.old) (left_in feed.old))
@@ -62,8 +62,8 @@ pub(crate) fn run_block(
     locals: &[Local],
     stmts: &[BStmt],
     env: &mut Environment,
-    feed: &mut Feed,
-) -> Result<(), Halt>
+    feed: &mut BoogieFeed,
+) -> Result<(), ReplayHalt>
     requires stmts_within { AreWithinStmts (stmts_of stmts.now) }
     requires ready { IsReady (environment_of env.old) (left_in feed.old) }
     ensures { Runs (brun (types_in locals.now) Bounded (stmts_of stmts.now) (environment_of env.old) (left_in feed.old))

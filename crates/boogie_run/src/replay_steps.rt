@@ -19,10 +19,10 @@ ghost use Rattle.boogie_eval.specs.View.{map_of, values_of};
 ghost use Rattle.boogie_run.specs.View.{environment_of, left_in};
 ghost use Rattle.boogie_eval.specs.Within.{IsWithinValue, IsWithinExpr, AreWithinExprs};
 
-use crate::replay_choices::{Feed, take_value};
-use crate::replay_ends::{Halt, Stop};
+use crate::replay_choices::{BoogieFeed, take_value};
+use crate::replay_ends::{ReplayHalt, ReplayStop};
 use crate::replay_values::{Environment, copied_map, set_at, whole};
-use boogie_eval::{Answer, Miss, Scope, eval, holds, key_of, the_map};
+use boogie_eval::{Answer, ForallScope, Miss, eval, holds, key_of, the_map};
 use boogie_tree::{BExpr, BScalar, BType, BValue, Local};
 use sparse::Sparse;
 use std::alloc::Global;
@@ -45,7 +45,7 @@ fn side(alloc: Global, e: &BExpr, env: &[BValue]) -> Result<BValue, Miss>
 {
     match e {
         BExpr::Var(number) => whole(env, *number),
-        _ => one_of(eval(alloc, e, env, Scope::Outside)),
+        _ => one_of(eval(alloc, e, env, ForallScope::Outside)),
     }
 }
 
@@ -55,7 +55,7 @@ pub(crate) fn assign(
     number: usize,
     e: &BExpr,
     env: &mut Environment,
-) -> Result<(), Halt>
+) -> Result<(), ReplayHalt>
     requires e_within { IsWithinExpr (expr_of e.now) }
     requires env_within { All IsWithinValue (environment_of env.old) }
     ensures { (cs : List v.BChoice) → Runs (with_end (q.side Bounded (expr_of e.now) (environment_of env.old)) cs
@@ -82,7 +82,12 @@ fn copy_of(map: &Sparse<Key, BScalar>) -> Result<Sparse<Key, BScalar>, Miss>
 }
 
 /// Gives the map of this number a value at a key.
-fn put_value(number: usize, key: Key, value: BScalar, env: &mut Environment) -> Result<(), Halt>
+fn put_value(
+    number: usize,
+    key: Key,
+    value: BScalar,
+    env: &mut Environment,
+) -> Result<(), ReplayHalt>
     ensures { (cs : List v.BChoice) → Runs (with_end (w.the_map (environment_of env.old) number) cs
         (m.put_value number key (scalar_of value) (environment_of env.old) cs)) (environment_of env.new) cs result }
 {
@@ -99,16 +104,16 @@ fn put_at(
     key: Key,
     e: &BExpr,
     env: &mut Environment,
-) -> Result<(), Halt>
+) -> Result<(), ReplayHalt>
     requires e_within { IsWithinExpr (expr_of e.now) }
     requires env_within { All IsWithinValue (environment_of env.old) }
     ensures { (cs : List v.BChoice) → Runs (with_end (q.bvalue Bounded (expr_of e.now) (environment_of env.old)) cs
         (λ x. with_end (w.the_map (environment_of env.old) number) cs (m.put_value number key x (environment_of env.old) cs)))
         (environment_of env.new) cs result }
 {
-    match eval(alloc, e, &env.values, Scope::Outside) {
+    match eval(alloc, e, &env.values, ForallScope::Outside) {
         Ok(value) => put_value(number, key, value, env),
-        Err(miss) => Err(Halt::from(miss)),
+        Err(miss) => Err(ReplayHalt::from(miss)),
     }
 }
 
@@ -119,7 +124,7 @@ pub(crate) fn put(
     es: &[BExpr],
     e: &BExpr,
     env: &mut Environment,
-) -> Result<(), Halt>
+) -> Result<(), ReplayHalt>
     requires es_within { AreWithinExprs (exprs_of es.now) }
     requires e_within { IsWithinExpr (expr_of e.now) }
     requires env_within { All IsWithinValue (environment_of env.old) }
@@ -128,9 +133,9 @@ pub(crate) fn put(
         (λ x. with_end (w.the_map (environment_of env.old) number) cs (m.put_value number k x (environment_of env.old) cs))))
         (environment_of env.new) cs result }
 {
-    match key_of(alloc, es, &env.values, Scope::Outside) {
+    match key_of(alloc, es, &env.values, ForallScope::Outside) {
         Ok(key) => put_at(alloc, number, key, e, env),
-        Err(miss) => Err(Halt::from(miss)),
+        Err(miss) => Err(ReplayHalt::from(miss)),
     }
 }
 
@@ -140,8 +145,8 @@ fn havoc_as(
     ty: &BType,
     number: usize,
     env: &mut Environment,
-    feed: &mut Feed,
-) -> Result<(), Halt>
+    feed: &mut BoogieFeed,
+) -> Result<(), ReplayHalt>
     ensures { Runs (with_choice (left_in feed.old) (m.chosen (type_of ty.now)) (λ x rest. Done (slice_set (environment_of env.old) number x) rest))
         (environment_of env.new) (left_in feed.new) result }
 {
@@ -156,15 +161,15 @@ pub(crate) fn havoc(
     locals: &[Local],
     number: usize,
     env: &mut Environment,
-    feed: &mut Feed,
-) -> Result<(), Halt>
+    feed: &mut BoogieFeed,
+) -> Result<(), ReplayHalt>
     ensures { Runs (with_end (found (slice_get (types_in locals.now) number)) (left_in feed.old)
         (λ u. with_choice (left_in feed.old) (m.chosen u) (λ x rest. Done (slice_set (environment_of env.old) number x) rest)))
         (environment_of env.new) (left_in feed.new) result }
 {
     match locals.get(number) {
         Some(local) => havoc_as(alloc, &local.ty, number, env, feed),
-        None => Err(Halt::Stops(Stop::Wrong)),
+        None => Err(ReplayHalt::Stops(ReplayStop::Wrong)),
     }
 }
 
@@ -174,11 +179,11 @@ pub(crate) fn condition(alloc: Global, e: &BExpr, env: &[BValue]) -> Result<bool
     requires env_within { All IsWithinValue (values_of env.now) }
     ensures { Answers (λ p. p) (as_truth (q.bvalue Bounded (expr_of e.now) (values_of env.now))) result }
 {
-    holds(alloc, e, env, Scope::Outside)
+    holds(alloc, e, env, ForallScope::Outside)
 }
 
 /// Goes on where the expression is true, and is blocked where it is false.
-pub(crate) fn assume(alloc: Global, e: &BExpr, env: &[BValue]) -> Result<(), Halt>
+pub(crate) fn assume(alloc: Global, e: &BExpr, env: &[BValue]) -> Result<(), ReplayHalt>
     requires e_within { IsWithinExpr (expr_of e.now) }
     requires env_within { All IsWithinValue (values_of env.now) }
     ensures { (cs : List v.BChoice) → Runs (with_truth (q.bvalue Bounded (expr_of e.now) (values_of env.now)) cs (m.assumed (values_of env.now) cs))
@@ -186,13 +191,18 @@ pub(crate) fn assume(alloc: Global, e: &BExpr, env: &[BValue]) -> Result<(), Hal
 {
     match condition(alloc, e, env) {
         Ok(true) => Ok(()),
-        Ok(false) => Err(Halt::Stops(Stop::Blocked)),
-        Err(miss) => Err(Halt::from(miss)),
+        Ok(false) => Err(ReplayHalt::Stops(ReplayStop::Blocked)),
+        Err(miss) => Err(ReplayHalt::from(miss)),
     }
 }
 
 /// Goes on where the expression is true, and fails where it is false.
-pub(crate) fn check(alloc: Global, label: Label, e: &BExpr, env: &[BValue]) -> Result<(), Halt>
+pub(crate) fn check(
+    alloc: Global,
+    label: Label,
+    e: &BExpr,
+    env: &[BValue],
+) -> Result<(), ReplayHalt>
     requires e_within { IsWithinExpr (expr_of e.now) }
     requires env_within { All IsWithinValue (values_of env.now) }
     ensures { (cs : List v.BChoice) → Runs (with_truth (q.bvalue Bounded (expr_of e.now) (values_of env.now)) cs (m.asserted label (values_of env.now) cs))
@@ -200,7 +210,7 @@ pub(crate) fn check(alloc: Global, label: Label, e: &BExpr, env: &[BValue]) -> R
 {
     match condition(alloc, e, env) {
         Ok(true) => Ok(()),
-        Ok(false) => Err(Halt::Stops(Stop::Failed(label))),
-        Err(miss) => Err(Halt::from(miss)),
+        Ok(false) => Err(ReplayHalt::Stops(ReplayStop::Failed(label))),
+        Err(miss) => Err(ReplayHalt::from(miss)),
     }
 }

@@ -12,8 +12,8 @@ ghost use Rattle.boogie_types.specs.Typed.{types_in};
 ghost use Rattle.boogie_run.specs.View.{environment_of, left_in};
 ghost use Rattle.boogie_eval.specs.Within.{AreWithinStmts};
 
-use crate::replay_choices::{Feed, empty_map};
-use crate::replay_ends::{Halt, Stop, stop_of};
+use crate::replay_choices::{BoogieFeed, empty_map};
+use crate::replay_ends::{ReplayHalt, ReplayStop, stop_of};
 use crate::replay_runs::run_block;
 use crate::replay_values::{Environment, copied_value};
 use boogie_tree::{BChoice, BProgram, BRun, BSetting, BType, BValue, Local, Proc, default_of};
@@ -80,29 +80,29 @@ pub(crate) fn start(
 }
 
 /// The choices of a run from the first on.
-pub(crate) fn feed_of(choices: &[BChoice]) -> Feed<'_>
+pub(crate) fn feed_of(choices: &[BChoice]) -> BoogieFeed<'_>
     ensures { left_in result ≡ map choice_of choices.entry.now }
 {
-    Feed { choices, next: 0 }
+    BoogieFeed { choices, next: 0 }
 }
 
 /// How a run ended that was stopped, and is not Wrong.
-pub(crate) fn outcome_at(stop: Stop) -> BOutcome
-    requires { stop ≡ Stop.Wrong → ⊥ }
+pub(crate) fn outcome_at(stop: ReplayStop) -> BOutcome
+    requires { stop ≡ ReplayStop.Wrong → ⊥ }
     ensures { (left : List v.BChoice) → outcome_of (Stops (why stop) left) ≡ Some result }
 {
     match stop {
-        Stop::Failed(label) => BOutcome::Failed(label),
-        Stop::Blocked => BOutcome::Blocked,
-        Stop::Short => BOutcome::Short,
-        Stop::Over => BOutcome::Over,
-        Stop::Wrong => unreachable!(),
+        ReplayStop::Failed(label) => BOutcome::Failed(label),
+        ReplayStop::Blocked => BOutcome::Blocked,
+        ReplayStop::Short => BOutcome::Short,
+        ReplayStop::Over => BOutcome::Over,
+        ReplayStop::Wrong => unreachable!(),
     }
 }
 
 /// How a run ended that is not Wrong.
-fn outcome(ended: Result<(), Halt>) -> Result<BOutcome, Memory>
-    requires { ended ≡ Err (Halt.Stops Stop.Wrong) → ⊥ }
+fn outcome(ended: Result<(), ReplayHalt>) -> Result<BOutcome, Memory>
+    requires { ended ≡ Err (ReplayHalt.Stops ReplayStop.Wrong) → ⊥ }
     ensures { (r : Run) (env : List v.BValue) (left : List v.BChoice) → Runs r env left ended → IfOk result (λ o. outcome_of r ≡ Some o) }
 {
     match ended {

@@ -11,8 +11,8 @@ ghost use Rattle.boogie_run.specs.Stepped.{run_in};
 ghost use Rattle.boogie_types.specs.Typed.{types_in};
 ghost use Rattle.boogie_eval.specs.Within.{IsWithinStmt};
 
-use crate::replay_choices::Feed;
-use crate::replay_ends::{Stop, stop_of};
+use crate::replay_choices::BoogieFeed;
+use crate::replay_ends::{ReplayStop, stop_of};
 use crate::replay_runs::run_stmt;
 use crate::replay_values::Environment;
 use crate::replaying::{BOutcome, feed_of, outcome_at, start};
@@ -24,9 +24,9 @@ use vb_base::Memory;
 #[derive(Drop)]
 pub struct Running<'a> {
     env: Environment,
-    feed: Feed<'a>,
+    feed: BoogieFeed<'a>,
     /// Why it was stopped, if it was.
-    stop: Option<Stop>,
+    stop: Option<ReplayStop>,
 }
 
 impl<'a> Running<'a> {

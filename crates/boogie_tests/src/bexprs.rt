@@ -6,13 +6,13 @@ ghost use Rattle.std.specs.Prelude.{◌≤◌, length};
 ghost use Rattle.boogie_tree.specs.Whole as boogie;
 ghost use Rattle.boogie_print.specs.Printable.{FitsProc};
 
+use boogie_fixtures::procedures::{boogie_program, last_procedure, locals_of, told};
 use boogie_text::{BTok, BToken, BoogieFault, ReadExpr, end_after, read_bexpr, tokens_after};
 use boogie_tree::{BStmt, PRELUDE, Proc};
+use row_columns::{first_other, other_than, parts, small};
 use std::alloc::Global;
 use std::str;
 use std::test::Fail;
-use test_boogie::procedures::{boogie_program, last_procedure, locals_of, told};
-use test_rows::{first_other, other_than, parts, small};
 use vb_base::{Ident, Pos};
 
 const LOCALS: &str = "procedure t() { var x: int; var m: [int, int]bool; var z: bool; }";

@@ -3,12 +3,12 @@
 ghost use Rattle.boogie_print.specs.Printable.{IsPrintable};
 ghost use Rattle.boogie_tree.specs.Whole as boogie;
 
+use boogie_fixtures::procedures::boogie_program;
 use boogie_text::{print, write_code, write_else, write_end, write_head, write_if, write_prelude};
 use boogie_tree::{BExpr, BProgram, BStmt, Local, PRELUDE, Proc};
+use row_columns::{bytes_of, first_other, other_lines};
 use std::alloc::Global;
 use std::test::Fail;
-use test_boogie::procedures::boogie_program;
-use test_rows::{bytes_of, first_other, other_lines};
 use vb_outer::MemSink;
 
 /// Procedures whose body is one `if`, or has none.

@@ -1,11 +1,11 @@
 // Programs of Boogie with loops and calls: each row is the text behind the prelude, and the number of the first procedure that is
 // ill-typed, or that there is none. With tables and without, the answer is the same.
+use boogie_loops_text::read_wide;
+use boogie_loops_types::{check_wide, first_ill_typed_wide};
 use boogie_tree::PRELUDE;
-use boogie_wide_types::{check_wide, first_ill_typed_wide};
+use row_columns::{first_other, other_than, parts, small};
 use std::alloc::Global;
 use std::test::Fail;
-use test_rows::{first_other, other_than, parts, small};
-use wide_text::read_wide;
 
 /// Calls to procedures above and below, with their targets, and loops.
 const PROGRAMS: &str = "\

@@ -276,7 +276,7 @@ ranks = record { empty = λ s a. empty a; rank = λ s a. rank a }
 abbrev Falls : ℕ → (s : Kind) → Rule s → Type 0
 Falls n s a = grammar.Falls ranks n s a
 
-falls_indices : (x : g.Scope) (i : ℕ) (qs : List (List ℕ)) → Falls 2 v.expr (g.indices x i qs)
+falls_indices : (x : g.ExprScope) (i : ℕ) (qs : List (List ℕ)) → Falls 2 v.expr (g.indices x i qs)
 falls_indices x i [] = fr (omega arith) (λ es. fg)
 falls_indices x i (q ∷ qs) = by_where (Falls 2 v.expr) (not (is_reserved q) && not (is_among q x.locals))
     (λ _. when (the_name q) (λ _. read (g.BoundRest qs) (λ _. give (t.AtBound i))) (g.at_indices x i)) (g.at_indices x i)

@@ -86,25 +86,25 @@ bracket (tok.Sign sign.Not) h = cc
 abbrev pub Free : List PlacedLexeme → Type 0
 Free us = (k : PlacedLexeme) (vs : List PlacedLexeme) → us ≡ k ∷ vs → k.tok ≡ tok.Sign sign.OpenBracket → ⊥
 
-abbrev Derived : g.Scope → List PlacedLexeme → t.BExpr → Type 0
+abbrev Derived : g.ExprScope → List PlacedLexeme → t.BExpr → Type 0
 Derived x ts e = Derives rules v.expr (rule (g.Expr x)) ts e
 
-abbrev Inner : g.Scope → List PlacedLexeme → Type 0
+abbrev Inner : g.ExprScope → List PlacedLexeme → Type 0
 Inner x ts = (e : t.BExpr) × Derived x ts e
 
-reads_on : (x : g.Scope) {ts : List PlacedLexeme} {e : t.BExpr} → Derived x ts e → (us : List PlacedLexeme) → Free us → Reads v.expr (rule (g.Expr x)) (ts ++ us) e us
+reads_on : (x : g.ExprScope) {ts : List PlacedLexeme} {e : t.BExpr} → Derived x ts e → (us : List PlacedLexeme) → Free us → Reads v.expr (rule (g.Expr x)) (ts ++ us) e us
 reads_on x d us free =
     grammar.reads_all rules table (λ s a. good a) (λ y k. among (code k.tok) (ext_codes (g.Expr x)) ≡ true) (good (g.Expr x)) d us
     (record { none = λ k vs e h. free k vs e (bracket k.tok h) })
 
 -- an expression on which no `[` follows is not the front of another
-no_front : (x : g.Scope) {ts : List PlacedLexeme} {e f : t.BExpr} (k : PlacedLexeme) (us : List PlacedLexeme) → Derived x ts e → Derived x (ts ++ (k ∷ us)) f → (k.tok ≡ tok.Sign sign.OpenBracket → ⊥) → ⊥
+no_front : (x : g.ExprScope) {ts : List PlacedLexeme} {e f : t.BExpr} (k : PlacedLexeme) (us : List PlacedLexeme) → Derived x ts e → Derived x (ts ++ (k ∷ us)) f → (k.tok ≡ tok.Sign sign.OpenBracket → ⊥) → ⊥
 no_front x {ts = ts} k us d h n =
     let i = reads_on x d (k ∷ us) (λ j vs is b. n (let same : k ≡ j = cc in subst (λ z. z.tok ≡ tok.Sign sign.OpenBracket) (sym same) b)) in
     let same = (one_reading i (complete (g.Expr x) h)).1 in
     cc
 
-same_expr : (x : g.Scope) {ts us : List PlacedLexeme} {e f : t.BExpr} → ts ≡ us → Derived x ts e → Derived x us f → e ≡ f
+same_expr : (x : g.ExprScope) {ts us : List PlacedLexeme} {e f : t.BExpr} → ts ≡ us → Derived x ts e → Derived x us f → e ≡ f
 same_expr x {us = us} {e = e} is d h = (one_reading (complete (g.Expr x) (subst (λ l. Derived x l e) is d)) (complete (g.Expr x) h)).0
 
 -- lists of tokens
@@ -160,7 +160,7 @@ at_seam {T} P front rest b n = record {
   after (k ∷ vs) n lt b = n k vs refl (subst (λ l. Begins P l) (take-append-add front (k ∷ vs) 1) b)
 
 -- a front begins an expression, and with the next token none; and it is no expression on which no `[` follows
-record Wrong (x : g.Scope) (front left : List PlacedLexeme) : Type 0 where
+record Wrong (x : g.ExprScope) (front left : List PlacedLexeme) : Type 0 where
   more : List PlacedLexeme
   tree : t.BExpr
   derives : Derived x (front ++ more) tree
@@ -170,10 +170,10 @@ record Wrong (x : g.Scope) (front left : List PlacedLexeme) : Type 0 where
 whole_is : (f r : List PlacedLexeme) (os : List (Option PlacedLexeme)) → somes (f ++ r) ++ os ≡ somes f ++ (somes r ++ os)
 whole_is f r os = ap (λ l. l ++ os) (map-append Some f r) ∙ append_assoc (somes f) (somes r) os
 
-begins_front : (x : g.Scope) (f r : List PlacedLexeme) → Wrong x f r → Begins (IsExpr x) (somes f)
+begins_front : (x : g.ExprScope) (f r : List PlacedLexeme) → Wrong x f r → Begins (IsExpr x) (somes f)
 begins_front x f r w = (somes w.more, (w.tree, record { tokens = f ++ w.more; all = sym (map-append Some f w.more); spells = w.derives }))
 
-ends_there : (x : g.Scope) (f r : List PlacedLexeme) (os : List (Option PlacedLexeme)) → Wrong x f r → NoToken os →
+ends_there : (x : g.ExprScope) (f r : List PlacedLexeme) (os : List (Option PlacedLexeme)) → Wrong x f r → NoToken os →
     (k : Option PlacedLexeme) (vs : List (Option PlacedLexeme)) → somes r ++ os ≡ k ∷ vs → Begins (IsExpr x) (somes f ++ (k ∷ [])) → ⊥
 ends_there x f [] _ w ended k vs is b = cc
 ends_there x f [] _ w broken k vs is b =
@@ -187,7 +187,7 @@ ends_there x f (j ∷ r) os w last k vs is b =
     let h = more_than (f ++ (j ∷ [])) s.tokens b.0 (ap (λ l. l ++ b.0) (map-append Some f (j ∷ [])) ∙ all) in
     w.after j r refl h.0 b.1.0 (subst (λ l. Derived x l b.1.0) h.1 s.spells)
 
-no_begin : (x : g.Scope) (f r : List PlacedLexeme) (os : List (Option PlacedLexeme)) → Wrong x f r → NoToken os → (n : ℕ) (e : t.BExpr) → BeginsExpr x (somes (f ++ r) ++ os) n e → ⊥
+no_begin : (x : g.ExprScope) (f r : List PlacedLexeme) (os : List (Option PlacedLexeme)) → Wrong x f r → NoToken os → (n : ℕ) (e : t.BExpr) → BeginsExpr x (somes (f ++ r) ++ os) n e → ⊥
 no_begin x f r os w last n e b = by_case (fronts s.tokens f b.rest (somes r ++ os) all) where
   s : SpellsExpr x b.front e
   s = b.spells
@@ -211,7 +211,7 @@ no_begin x f r os w last n e b = by_case (fronts s.tokens f b.rest (somes r ++ o
   by_case (equal is rest) = w.seam e (subst (λ l. Derived x l e) is s.spells)
       (λ k vs left h. b.ends (record { token = k; rest = somes vs ++ os; is = rest ∙ ap (λ l. somes l ++ os) left; bracket = h }))
 
-begins_none : (x : g.Scope) (f r : List PlacedLexeme) (os : List (Option PlacedLexeme)) → Wrong x f r → NoToken os → BeginsNone x (somes (f ++ r) ++ os) (length f)
+begins_none : (x : g.ExprScope) (f r : List PlacedLexeme) (os : List (Option PlacedLexeme)) → Wrong x f r → NoToken os → BeginsNone x (somes (f ++ r) ++ os) (length f)
 begins_none x f r os w last = record {
   none = no_begin x f r os w last;
   place =
@@ -221,10 +221,10 @@ begins_none x f r os w last = record {
 
 -- where the tokens of the grammar go wrong
 
-whole_place : (x : g.Scope) (ts r : List PlacedLexeme) → text.FailsWhole rules (rule (g.Expr x)) ts r → IsPlace (Inner x) ts (length ts - length r)
+whole_place : (x : g.ExprScope) (ts r : List PlacedLexeme) → text.FailsWhole rules (rule (g.Expr x)) ts r → IsPlace (Inner x) ts (length ts - length r)
 whole_place x ts r h = whole.place_of rules (rule (g.Expr x)) (Inner x) (λ l p. (p.0, complete (g.Expr x) p.1)) (λ l e d. (e, d)) ts r h
 
-past : (x : g.Scope) (f : List PlacedLexeme) (k : PlacedLexeme) (r : List PlacedLexeme) → IsPlace (Inner x) (f ++ (k ∷ r)) (length (f ++ (k ∷ r)) - length (k ∷ r)) →
+past : (x : g.ExprScope) (f : List PlacedLexeme) (k : PlacedLexeme) (r : List PlacedLexeme) → IsPlace (Inner x) (f ++ (k ∷ r)) (length (f ++ (k ∷ r)) - length (k ∷ r)) →
     (us : List PlacedLexeme) (e : t.BExpr) → Derived x ((f ++ (k ∷ [])) ++ us) e → ⊥
 past x f k r p us e d =
     let n = count f (k ∷ r) in
@@ -232,10 +232,10 @@ past x f k r p us e d =
     let b : Begins (Inner x) (f ++ (k ∷ [])) = (us, (e, d)) in
     p.after (omega (arith, n, length-append f (k ∷ r))) (subst (λ l. Begins (Inner x) l) (sym taken) b)
 
-abbrev Seam : g.Scope → List PlacedLexeme → List PlacedLexeme → Type 0
+abbrev Seam : g.ExprScope → List PlacedLexeme → List PlacedLexeme → Type 0
 Seam x ts r = (f : List PlacedLexeme) → ts ≡ f ++ r → (e : t.BExpr) → Derived x f e → Free r → ⊥
 
-wrong : (x : g.Scope) (ts r : List PlacedLexeme) (h : text.FailsWhole rules (rule (g.Expr x)) ts r) → Seam x ts r → (f : List PlacedLexeme) × (ts ≡ f ++ r) × Wrong x f r
+wrong : (x : g.ExprScope) (ts r : List PlacedLexeme) (h : text.FailsWhole rules (rule (g.Expr x)) ts r) → Seam x ts r → (f : List PlacedLexeme) × (ts ≡ f ++ r) × Wrong x f r
 wrong x ts r h seam =
     let o = h.opens in
     let q = split o.front in (
@@ -253,7 +253,7 @@ wrong x ts r h seam =
       },
     )
 
-pub none_of : (x : g.Scope) (ts r : List PlacedLexeme) → text.FailsWhole rules (rule (g.Expr x)) ts r → Seam x ts r →
+pub none_of : (x : g.ExprScope) (ts r : List PlacedLexeme) → text.FailsWhole rules (rule (g.Expr x)) ts r → Seam x ts r →
     (length r ≤ length ts) × ((os : List (Option PlacedLexeme)) → NoToken os → BeginsNone x (somes ts ++ os) (length ts - length r))
 none_of x ts r h seam =
     let w = wrong x ts r h seam in
@@ -265,7 +265,7 @@ none_of x ts r h seam =
     )
 
 -- reading stops
-pub none_where_stopped : (x : g.Scope) (ts r : List PlacedLexeme) → Fails (rule (g.Expr x)) ts r →
+pub none_where_stopped : (x : g.ExprScope) (ts r : List PlacedLexeme) → Fails (rule (g.Expr x)) ts r →
     (length r ≤ length ts) × ((os : List (Option PlacedLexeme)) → NoToken os → BeginsNone x (somes ts ++ os) (length ts - length r))
 none_where_stopped x ts r h = none_of x ts r (whole.whole_fails (start (rule (g.Expr x)) ts) h) (λ f is e d free.
     let s = h.stuck r (same_self r) in
@@ -274,12 +274,12 @@ none_where_stopped x ts r h = none_of x ts r (whole.whole_fails (start (rule (g.
     s.none e r (subst (λ l. Reads v.expr (rule (g.Expr x)) l e r) same (reads_on x d r free)))
 
 -- an expression is read, and a `[` is next
-pub none_at_bracket : (x : g.Scope) (ts r : List PlacedLexeme) {e : t.BExpr} (k : PlacedLexeme) (vs : List PlacedLexeme) → Reads v.expr (rule (g.Expr x)) ts e r → r ≡ k ∷ vs → k.tok ≡ tok.Sign sign.OpenBracket →
+pub none_at_bracket : (x : g.ExprScope) (ts r : List PlacedLexeme) {e : t.BExpr} (k : PlacedLexeme) (vs : List PlacedLexeme) → Reads v.expr (rule (g.Expr x)) ts e r → r ≡ k ∷ vs → k.tok ≡ tok.Sign sign.OpenBracket →
     (length r ≤ length ts) × ((os : List (Option PlacedLexeme)) → NoToken os → BeginsNone x (somes ts ++ os) (length ts - length r))
 none_at_bracket x ts r k vs h is b = none_of x ts r (whole.left_over rules laws h k vs is) (λ f all e d free. free k vs is b)
 
 -- an expression is read, and no `[` is next
-pub some_of : (x : g.Scope) (ts r : List PlacedLexeme) {e : t.BExpr} → Reads v.expr (rule (g.Expr x)) ts e r → Free r →
+pub some_of : (x : g.ExprScope) (ts r : List PlacedLexeme) {e : t.BExpr} → Reads v.expr (rule (g.Expr x)) ts e r → Free r →
     (length r ≤ length ts) × ((os : List (Option PlacedLexeme)) → NoToken os → BeginsExpr x (somes ts ++ os) (length ts - length r) e)
 some_of x ts r {e = e} h free =
     let d = derivation h in
@@ -308,7 +308,7 @@ starts_less : (os ws : List (Option PlacedLexeme)) → 0 < length os → StartsI
 starts_less [] ws some s = absurd (omega arith)
 starts_less (o ∷ os) ws some s = let same : o ≡ Some s.token = cc (s.is) in record { token = s.token; rest = os; is = ap (λ z. z ∷ os) same; bracket = s.bracket }
 
-pub begins_more : {x : g.Scope} {os : List (Option PlacedLexeme)} {n : ℕ} {e : t.BExpr} → BeginsExpr x os n e → n < length os → (ws : List (Option PlacedLexeme)) → BeginsExpr x (os ++ ws) n e
+pub begins_more : {x : g.ExprScope} {os : List (Option PlacedLexeme)} {n : ℕ} {e : t.BExpr} → BeginsExpr x os n e → n < length os → (ws : List (Option PlacedLexeme)) → BeginsExpr x (os ++ ws) n e
 begins_more {os = os} {n = n} b lt ws = record {
   front = b.front;
   rest = b.rest ++ ws;
@@ -319,14 +319,14 @@ begins_more {os = os} {n = n} b lt ws = record {
 }
 
 -- an expression ends before the place from which on there is none
-ends_before : {x : g.Scope} {os : List (Option PlacedLexeme)} {n i : ℕ} {e : t.BExpr} → BeginsExpr x os n e → (i < length os → Begins (IsExpr x) (take (i + 1) os) → ⊥) → i < n → ⊥
+ends_before : {x : g.ExprScope} {os : List (Option PlacedLexeme)} {n i : ℕ} {e : t.BExpr} → BeginsExpr x os n e → (i < length os → Begins (IsExpr x) (take (i + 1) os) → ⊥) → i < n → ⊥
 ends_before {x} {os} {n} {i} {e} b after lt =
     let long : length os ≡ length b.front + length b.rest = ap length b.whole ∙ length-append b.front b.rest in
     let taken : take (i + 1) os ≡ take (i + 1) b.front = ap (take (i + 1)) b.whole ∙ take-append-le (i + 1) b.front b.rest (omega (arith, lt, b.size)) in
     let begins : Begins (IsExpr x) (take (i + 1) os) = (drop (i + 1) b.front, (e, subst (λ l. SpellsExpr x l e) (sym (ap (λ l. l ++ drop (i + 1) b.front) taken ∙ take-append-drop (i + 1) b.front)) b.spells)) in
     after (omega (arith, lt, b.size, long)) begins
 
-begins_less : {x : g.Scope} (os ws : List (Option PlacedLexeme)) {n : ℕ} {e : t.BExpr} → BeginsExpr x (os ++ ws) n e → n ≤ length os → BeginsExpr x os n e
+begins_less : {x : g.ExprScope} (os ws : List (Option PlacedLexeme)) {n : ℕ} {e : t.BExpr} → BeginsExpr x (os ++ ws) n e → n ≤ length os → BeginsExpr x os n e
 begins_less {x} os ws {n} {e} b le =
     let front : take n os ≡ b.front = sym (take-append-le n os ws le) ∙ ap (take n) b.whole ∙ ap (λ m. take m (b.front ++ b.rest)) b.size ∙ take-append_seam b.front b.rest in
     let both : b.front ++ (drop n os ++ ws) ≡ b.front ++ b.rest = ap (λ l. l ++ (drop n os ++ ws)) (sym front) ∙ sym (append_assoc (take n os) (drop n os) ws) ∙ ap (λ l. l ++ ws) (take-append-drop n os) ∙ b.whole in
@@ -342,7 +342,7 @@ begins_less {x} os ws {n} {e} b le =
       append_same [] h = h
       append_same (o ∷ f) h = append_same f (same_tail h)
 
-pub none_more : {x : g.Scope} {os : List (Option PlacedLexeme)} {i : ℕ} → BeginsNone x os i → i < length os → (ws : List (Option PlacedLexeme)) → BeginsNone x (os ++ ws) i
+pub none_more : {x : g.ExprScope} {os : List (Option PlacedLexeme)} {i : ℕ} → BeginsNone x os i → i < length os → (ws : List (Option PlacedLexeme)) → BeginsNone x (os ++ ws) i
 none_more {x} {os} {i} h lt ws =
     let after : i < length (os ++ ws) → Begins (IsExpr x) (take (i + 1) (os ++ ws)) → ⊥ = λ _ b. h.place.after lt (subst (λ l. Begins (IsExpr x) l) (take-append-le (i + 1) os ws (omega (arith, lt))) b) in
     record {
@@ -360,7 +360,7 @@ none_more {x} {os} {i} h lt ws =
 
 -- there is one expression at most, and one place
 
-pub one_begin : {x : g.Scope} {os : List (Option PlacedLexeme)} {n m : ℕ} {e f : t.BExpr} → BeginsExpr x os n e → BeginsExpr x os m f → (n ≡ m) × (e ≡ f)
+pub one_begin : {x : g.ExprScope} {os : List (Option PlacedLexeme)} {n m : ℕ} {e f : t.BExpr} → BeginsExpr x os n e → BeginsExpr x os m f → (n ≡ m) × (e ≡ f)
 one_begin {x} {os} {n} {m} {e} {f} a b = by_case (fronts a.spells.tokens b.spells.tokens a.rest b.rest both) where
   both : somes a.spells.tokens ++ a.rest ≡ somes b.spells.tokens ++ b.rest
   both = ap (λ l. l ++ a.rest) (sym a.spells.all) ∙ sym a.whole ∙ b.whole ∙ ap (λ l. l ++ b.rest) b.spells.all
@@ -373,21 +373,21 @@ one_begin {x} {os} {n} {m} {e} {f} a b = by_case (fronts a.spells.tokens b.spell
   by_case (shorter k more is rest) = absurd (no_front x k more a.spells.spells (subst (λ l. Derived x l f) is b.spells.spells) (λ h. a.ends (record { token = k; rest = somes more ++ b.rest; is = rest; bracket = h })))
   by_case (equal is rest) = (size_of a ∙ ap length is ∙ sym (size_of b), same_expr x is a.spells.spells b.spells.spells)
 
-pub one_end : {x : g.Scope} {os : List (Option PlacedLexeme)} {i j : ℕ} → BeginsNone x os i → BeginsNone x os j → i ≡ j
+pub one_end : {x : g.ExprScope} {os : List (Option PlacedLexeme)} {i j : ℕ} → BeginsNone x os i → BeginsNone x os j → i ≡ j
 one_end {x} {os} {i} {j} a b = one_place (IsExpr x) os i j a.place b.place
 
 -- what the reader of one expression answers
 
-pub stopped : (x : g.Scope) (ts : List PlacedLexeme) (w : Stop PlacedLexeme) → Refuses (rule (g.Expr x)) ts w → ReadsAlone x ts (Err w)
+pub stopped : (x : g.ExprScope) (ts : List PlacedLexeme) (w : Stop PlacedLexeme) → Refuses (rule (g.Expr x)) ts w → ReadsAlone x ts (Err w)
 stopped x ts stop.Memory h = tt
 stopped x ts (stop.Before r) h = none_where_stopped x ts r.now h
 
-pub indexed : (x : g.Scope) (ts r : List PlacedLexeme) {e : t.BExpr} → Reads v.expr (rule (g.Expr x)) ts e r → (o : Option (Bor (List PlacedLexeme))) → MatchOption o (IsNot (v.the_sign sign.OpenBracket) r) (λ us. Starts (v.the_sign sign.OpenBracket) r tt us.now) → is_some o ≡ true →
+pub indexed : (x : g.ExprScope) (ts r : List PlacedLexeme) {e : t.BExpr} → Reads v.expr (rule (g.Expr x)) ts e r → (o : Option (Bor (List PlacedLexeme))) → MatchOption o (IsNot (v.the_sign sign.OpenBracket) r) (λ us. Starts (v.the_sign sign.OpenBracket) r tt us.now) → is_some o ≡ true →
     (length r ≤ length ts) × ((os : List (Option PlacedLexeme)) → NoToken os → BeginsNone x (somes ts ++ os) (length ts - length r))
 indexed x ts r h None m is = cc
 indexed x ts r h (Some us) m is = none_at_bracket x ts r m.token us.now h m.is m.passes
 
-pub unindexed : (x : g.Scope) (ts r : List PlacedLexeme) {e : t.BExpr} → Reads v.expr (rule (g.Expr x)) ts e r → (o : Option (Bor (List PlacedLexeme))) → MatchOption o (IsNot (v.the_sign sign.OpenBracket) r) (λ us. Starts (v.the_sign sign.OpenBracket) r tt us.now) → is_some o ≡ false →
+pub unindexed : (x : g.ExprScope) (ts r : List PlacedLexeme) {e : t.BExpr} → Reads v.expr (rule (g.Expr x)) ts e r → (o : Option (Bor (List PlacedLexeme))) → MatchOption o (IsNot (v.the_sign sign.OpenBracket) r) (λ us. Starts (v.the_sign sign.OpenBracket) r tt us.now) → is_some o ≡ false →
     (length r ≤ length ts) × ((os : List (Option PlacedLexeme)) → NoToken os → BeginsExpr x (somes ts ++ os) (length ts - length r) e)
 unindexed x ts r h (Some us) m is = cc
 unindexed x ts r h None m is = some_of x ts r h (λ k vs left b. m.none tt vs (record { token = k; is = left; passes = b }))

@@ -12,7 +12,7 @@ use Rattle.boogie_grammar.specs.declared.faults.BoogieFault.{BoogieFault}
 use Rattle.boogie_grammar.specs.declared.faults.BoogieFault.TheVariants as fault
 use Rattle.boogie_grammar.specs.declared.tokens.Lexeme.{Lexeme}
 use Rattle.boogie_grammar.specs.declared.tokens.PlacedLexeme.{PlacedLexeme}
-use Rattle.boogie_grammar.specs.Grammar.{Scope}
+use Rattle.boogie_grammar.specs.Grammar.{ExprScope}
 use Rattle.boogie_text.specs.declared.public_tokens.BToken as handed
 use Rattle.boogie_text.specs.declared.single_expr.ReadExpr.{ReadExpr}
 use Rattle.boogie_text.specs.Answers.{UnlessMemory}
@@ -27,37 +27,37 @@ use Rattle.boogie_text.proofs.BeginLaws.{begins_more, none_more, one_begin, one_
 
 -- what the first tokens begin with, all of them begin with
 
-pub finds_more : (x : Scope) (os ws : List (Option PlacedLexeme)) (o : Option t.BExpr) (n : ℕ) → Finds x os o n → n < length os → Finds x (os ++ ws) o n
+pub finds_more : (x : ExprScope) (os ws : List (Option PlacedLexeme)) (o : Option t.BExpr) (n : ℕ) → Finds x os o n → n < length os → Finds x (os ++ ws) o n
 finds_more x os ws (Some e) n h lt = begins_more h lt ws
 finds_more x os ws None n h lt = none_more h lt ws
 
-pub finds_all : (x : Scope) (ts : List handed.BToken) (k : ℕ) (o : Option t.BExpr) (n : ℕ) → Finds x (map token_of (take k ts)) o n → n < length (take k ts) → Finds x (map token_of ts) o n
+pub finds_all : (x : ExprScope) (ts : List handed.BToken) (k : ℕ) (o : Option t.BExpr) (n : ℕ) → Finds x (map token_of (take k ts)) o n → n < length (take k ts) → Finds x (map token_of ts) o n
 finds_all x ts k o n h lt =
     let all : map token_of (take k ts) ++ map token_of (drop k ts) ≡ map token_of ts = sym (map-append token_of (take k ts) (drop k ts)) ∙ ap (map token_of) (take-append-drop k ts) in
     subst (λ os. Finds x os o n) all (finds_more x (map token_of (take k ts)) (map token_of (drop k ts)) o n h (omega (arith, lt, length-map (take k ts) token_of)))
 
 -- there is no other answer
 
-abbrev pub ReadsExpr : Scope → List handed.BToken → ℕ → Pos → Result ReadExpr BoogieFault → Type 0
+abbrev pub ReadsExpr : ExprScope → List handed.BToken → ℕ → Pos → Result ReadExpr BoogieFault → Type 0
 ReadsExpr x ts from end res = MatchResult res (λ r. IsReadExpr x ts from (expr_of r.e) r.next) (UnlessMemory (IsExprFault x ts from end))
 
-pub one_read : {x : Scope} {ts : List handed.BToken} {from : ℕ} {e f : t.BExpr} {n m : ℕ} → IsReadExpr x ts from e n → IsReadExpr x ts from f m → (e ≡ f) × (n ≡ m)
+pub one_read : {x : ExprScope} {ts : List handed.BToken} {from : ℕ} {e f : t.BExpr} {n m : ℕ} → IsReadExpr x ts from e n → IsReadExpr x ts from f m → (e ≡ f) × (n ≡ m)
 one_read {from = from} a b = let h = one_begin a.begins b.begins in (h.1, a.end ∙ ap (λ k. from + k) h.0 ∙ sym b.end)
 
-pub never_read : {x : Scope} {ts : List handed.BToken} {from : ℕ} {end : Pos} {e : t.BExpr} {n : ℕ} (f : BoogieFault) → IsExprFault x ts from end f → IsReadExpr x ts from e n → ⊥
+pub never_read : {x : ExprScope} {ts : List handed.BToken} {from : ℕ} {end : Pos} {e : t.BExpr} {n : ℕ} (f : BoogieFault) → IsExprFault x ts from end f → IsReadExpr x ts from e n → ⊥
 never_read _ (no_expr h) a = h.none _ _ a.begins
 
-pub one_expr_fault : {x : Scope} {ts : List handed.BToken} {from : ℕ} {end : Pos} (f h : BoogieFault) → IsExprFault x ts from end f → IsExprFault x ts from end h → f ≡ h
+pub one_expr_fault : {x : ExprScope} {ts : List handed.BToken} {from : ℕ} {end : Pos} (f h : BoogieFault) → IsExprFault x ts from end f → IsExprFault x ts from end h → f ≡ h
 one_expr_fault {ts = ts} {from = from} {end = end} _ _ (no_expr a) (no_expr b) = ap (λ i. fault.Syntax (place_in (drop from ts) i end)) (one_end a b)
 
-pub gives_expr : (x : Scope) (ts : List handed.BToken) (from : ℕ) (end : Pos) (e : t.BExpr) (next : ℕ) (res : Result ReadExpr BoogieFault) → ReadsExpr x ts from end res → IsReadExpr x ts from e next → GivesExpr e next res
+pub gives_expr : (x : ExprScope) (ts : List handed.BToken) (from : ℕ) (end : Pos) (e : t.BExpr) (next : ℕ) (res : Result ReadExpr BoogieFault) → ReadsExpr x ts from end res → IsReadExpr x ts from e next → GivesExpr e next res
 gives_expr x ts from end e next (Ok r) read h = one_read read h
 gives_expr x ts from end e next (Err fault.Memory) read h = tt
 gives_expr x ts from end e next (Err (fault.Prelude at)) fails h = never_read (fault.Prelude at) fails h
 gives_expr x ts from end e next (Err (fault.Syntax at)) fails h = never_read (fault.Syntax at) fails h
 gives_expr x ts from end e next (Err (fault.Deep at)) fails h = never_read (fault.Deep at) fails h
 
-pub gives_expr_fault : (x : Scope) (ts : List handed.BToken) (from : ℕ) (end : Pos) (f : BoogieFault) (res : Result ReadExpr BoogieFault) → ReadsExpr x ts from end res → IsExprFault x ts from end f → GivesExprFault f res
+pub gives_expr_fault : (x : ExprScope) (ts : List handed.BToken) (from : ℕ) (end : Pos) (f : BoogieFault) (res : Result ReadExpr BoogieFault) → ReadsExpr x ts from end res → IsExprFault x ts from end f → GivesExprFault f res
 gives_expr_fault x ts from end f (Ok r) read h = never_read f h read
 gives_expr_fault x ts from end f (Err fault.Memory) fails h = inr refl
 gives_expr_fault x ts from end f (Err (fault.Prelude at)) fails h = inl (one_expr_fault (fault.Prelude at) f fails h)
@@ -129,25 +129,25 @@ front_ends ts us i h past = record { rest = map token_of (drop i ts); whole = sy
 
 -- what is found of the tokens of the grammar is found of the tokens
 
-pub found_some : (x : Scope) (os : List (Option PlacedLexeme)) (us : List PlacedLexeme) (n : ℕ) {e : t.BExpr} → IsFront os us → ((rest : List (Option PlacedLexeme)) → NoToken rest → BeginsExpr x (map Some us ++ rest) n e) → BeginsExpr x os n e
+pub found_some : (x : ExprScope) (os : List (Option PlacedLexeme)) (us : List PlacedLexeme) (n : ℕ) {e : t.BExpr} → IsFront os us → ((rest : List (Option PlacedLexeme)) → NoToken rest → BeginsExpr x (map Some us ++ rest) n e) → BeginsExpr x os n e
 found_some x os us n {e = e} f h = subst (λ l. BeginsExpr x l n e) (sym f.whole) (h f.rest f.ends)
 
-pub found_none : (x : Scope) (os : List (Option PlacedLexeme)) (us : List PlacedLexeme) (n : ℕ) → IsFront os us → ((rest : List (Option PlacedLexeme)) → NoToken rest → BeginsNone x (map Some us ++ rest) n) → BeginsNone x os n
+pub found_none : (x : ExprScope) (os : List (Option PlacedLexeme)) (us : List PlacedLexeme) (n : ℕ) → IsFront os us → ((rest : List (Option PlacedLexeme)) → NoToken rest → BeginsNone x (map Some us ++ rest) n) → BeginsNone x os n
 found_none x os us n f h = subst (λ l. BeginsNone x l n) (sym f.whole) (h f.rest f.ends)
 
 -- what comes of the parts
 
-pub finds_first : (x : Scope) (ts : List handed.BToken) (k : ℕ) (o : Option t.BExpr) (n : ℕ) → Finds x (map token_of (take k ts)) o n → (n < k) ⊎ ((k ≤ n) × (k ≡ length ts)) → k ≤ length ts → Finds x (map token_of ts) o n
+pub finds_first : (x : ExprScope) (ts : List handed.BToken) (k : ℕ) (o : Option t.BExpr) (n : ℕ) → Finds x (map token_of (take k ts)) o n → (n < k) ⊎ ((k ≤ n) × (k ≡ length ts)) → k ≤ length ts → Finds x (map token_of ts) o n
 finds_first x ts k o n h (inl lt) le = finds_all x ts k o n h (omega (arith, lt, length-take-le k ts le))
 finds_first x ts k o n h (inr (_, same)) le = subst (λ us. Finds x (map token_of us) o n) (take_all k ts (omega (arith, same))) h
 
-pub at_scope : {R E : Type 0} (P : Scope → R → Type 0) (res : Result R E) (ls : List Local) (known : ℕ) (names others : List (List ℕ)) → names ≡ names_of (take known ls) → others ≡ names_of (take (length ls - known) (drop known ls)) →
+pub at_scope : {R E : Type 0} (P : ExprScope → R → Type 0) (res : Result R E) (ls : List Local) (known : ℕ) (names others : List (List ℕ)) → names ≡ names_of (take known ls) → others ≡ names_of (take (length ls - known) (drop known ls)) →
     IfOk res (P (record { locals = names; others = others; bound = [] })) → IfOk res (P (scope_before (names_of ls) known))
 at_scope P res ls known names others e f h =
     subst (λ ns. IfOk res (P (record { locals = ns; others = drop known (names_of ls); bound = [] }))) (e ∙ names_taken known ls)
     (subst (λ ns. IfOk res (P (record { locals = names; others = ns; bound = [] }))) (f ∙ ap (λ (l : List Local). names_of l) (all_behind known ls) ∙ names_dropped known ls) h)
 
-pub none_at : (x : Scope) (ts us : List handed.BToken) (from : ℕ) (end : Pos) (n : ℕ) (at : Pos) → us ≡ drop from ts → at ≡ place_in us n end → BeginsNone x (map token_of us) n → IsExprFault x ts from end (fault.Syntax at)
+pub none_at : (x : ExprScope) (ts us : List handed.BToken) (from : ℕ) (end : Pos) (n : ℕ) (at : Pos) → us ≡ drop from ts → at ≡ place_in us n end → BeginsNone x (map token_of us) n → IsExprFault x ts from end (fault.Syntax at)
 none_at x ts us from end n at is e h =
     subst (λ p. IsExprFault x ts from end (fault.Syntax p)) (sym (e ∙ ap (λ l. place_in l n end) is)) (no_expr (subst (λ (l : List handed.BToken). BeginsNone x (map token_of l) n) is h))
 

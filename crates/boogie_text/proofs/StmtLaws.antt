@@ -13,7 +13,7 @@ use Rattle.boogie_tree.proofs.WholeLaws.{exprs_of-map}
 use Rattle.boogie_grammar.specs.declared.tokens.Lexeme.{Lexeme}
 use Rattle.boogie_grammar.specs.declared.tokens.BSign.TheVariants as sign
 use Rattle.boogie_grammar.specs.declared.tokens.PlacedLexeme.{PlacedLexeme}
-use Rattle.boogie_grammar.specs.declared.tokens.Word.TheVariants as w
+use Rattle.boogie_grammar.specs.declared.tokens.BoogieWord.TheVariants as w
 use Rattle.boogie_grammar.specs.Words.{word_tok}
 use Rattle.boogie_grammar.specs.Tests as v
 use Rattle.boogie_grammar.specs.Tests.{Kind, Value, some_free, the_word, a_variable}
@@ -28,7 +28,7 @@ open boogie_steps use {start, by_need, by_token, by_other}
 
 -- the scope of what stands in no `forall`
 
-pub outside_is : (ls : List (List ℕ)) {others bound : List (List ℕ)} → others ≡ [] → bound ≡ [] → (let x : g.Scope = record { locals = ls; others = others; bound = bound } in x) ≡ g.outside ls
+pub outside_is : (ls : List (List ℕ)) {others bound : List (List ℕ)} → others ≡ [] → bound ≡ [] → (let x : g.ExprScope = record { locals = ls; others = others; bound = bound } in x) ≡ g.outside ls
 outside_is ls e f = λ i. record { locals = ls; others = e i; bound = f i }
 
 -- what was built

@@ -10,7 +10,7 @@ use Rattle.boogie_tree.specs.Program.{Proc}
 use Rattle.boogie_tree.specs.Text.{prelude}
 use Rattle.boogie_grammar.specs.declared.tokens.BSign.TheVariants as sign
 use Rattle.boogie_grammar.specs.declared.tokens.PlacedLexeme.{PlacedLexeme}
-use Rattle.boogie_grammar.specs.declared.tokens.Word.TheVariants as w
+use Rattle.boogie_grammar.specs.declared.tokens.BoogieWord.TheVariants as w
 use Rattle.boogie_grammar.specs.Cut.{IsRow}
 use Rattle.boogie_grammar.specs.Depth.{unclosed, IsShallow}
 use Rattle.boogie_grammar.specs.Grammar as g

@@ -10,23 +10,23 @@ use Rattle.boogie_grammar.specs.declared.faults.BoogieFault.TheVariants as fault
 use Rattle.boogie_grammar.specs.declared.tokens.BSign.TheVariants as sign
 use Rattle.boogie_grammar.specs.declared.tokens.Lexeme.TheVariants as tok
 use Rattle.boogie_grammar.specs.declared.tokens.PlacedLexeme.{PlacedLexeme}
-use Rattle.boogie_grammar.specs.Grammar.{Scope, Expr, rule, rules}
+use Rattle.boogie_grammar.specs.Grammar.{ExprScope, Expr, rule, rules}
 use Rattle.boogie_text.specs.declared.public_tokens.BToken as handed
 use Rattle.boogie_text.specs.declared.single_expr.ReadExpr.{ReadExpr}
 use Rattle.boogie_text.specs.PublicTokens.{token_of}
 
 -- the scope in which the first of these names are the variables, and a bound variable has none of all these names
-abbrev pub scope_before : List (List ℕ) → ℕ → Scope
+abbrev pub scope_before : List (List ℕ) → ℕ → ExprScope
 scope_before names known = record { locals = take known names; others = drop known names; bound = [] }
 
 -- each of these is a token, and they spell the expression
-pub record SpellsExpr (x : Scope) (os : List (Option PlacedLexeme)) (e : t.BExpr) : Type 0 where
+pub record SpellsExpr (x : ExprScope) (os : List (Option PlacedLexeme)) (e : t.BExpr) : Type 0 where
   pub tokens : List PlacedLexeme
   pub all : os ≡ map Some tokens
   pub spells : Derives rules _ (rule (Expr x)) tokens e
 
 -- they spell some expression
-abbrev pub IsExpr : Scope → List (Option PlacedLexeme) → Type 0
+abbrev pub IsExpr : ExprScope → List (Option PlacedLexeme) → Type 0
 IsExpr x os = (e : t.BExpr) × SpellsExpr x os e
 
 -- a `[` is next
@@ -37,7 +37,7 @@ pub record StartsIndex (os : List (Option PlacedLexeme)) : Type 0 where
   pub bracket : token.tok ≡ tok.Sign sign.OpenBracket
 
 -- so many of them spell the expression, from the first one on, and no `[` is next
-pub record BeginsExpr (x : Scope) (os : List (Option PlacedLexeme)) (n : ℕ) (e : t.BExpr) : Type 0 where
+pub record BeginsExpr (x : ExprScope) (os : List (Option PlacedLexeme)) (n : ℕ) (e : t.BExpr) : Type 0 where
   pub front : List (Option PlacedLexeme)
   pub rest : List (Option PlacedLexeme)
   pub whole : os ≡ front ++ rest
@@ -46,17 +46,17 @@ pub record BeginsExpr (x : Scope) (os : List (Option PlacedLexeme)) (n : ℕ) (e
   pub ends : StartsIndex rest → ⊥
 
 -- that is so of no expression; the number of the first one through which they begin none, or that of all of them
-pub record BeginsNone (x : Scope) (os : List (Option PlacedLexeme)) (i : ℕ) : Type 0 where
+pub record BeginsNone (x : ExprScope) (os : List (Option PlacedLexeme)) (i : ℕ) : Type 0 where
   pub none : (n : ℕ) (e : t.BExpr) → BeginsExpr x os n e → ⊥
   pub place : IsPlace (IsExpr x) os i
 
 -- what is found: an expression and how many tokens it has, or that there is none and where
-abbrev pub Finds : Scope → List (Option PlacedLexeme) → Option t.BExpr → ℕ → Type 0
+abbrev pub Finds : ExprScope → List (Option PlacedLexeme) → Option t.BExpr → ℕ → Type 0
 Finds x os (Some e) n = BeginsExpr x os n e
 Finds x os None n = BeginsNone x os n
 
 -- the expression begins at the token of this number, and what follows it at that of the other
-pub record IsReadExpr (x : Scope) (ts : List handed.BToken) (from : ℕ) (e : t.BExpr) (next : ℕ) : Type 0 where
+pub record IsReadExpr (x : ExprScope) (ts : List handed.BToken) (from : ℕ) (e : t.BExpr) (next : ℕ) : Type 0 where
   pub size : ℕ
   pub end : next ≡ from + size
   pub begins : BeginsExpr x (map token_of (drop from ts)) size e
@@ -68,7 +68,7 @@ place_in (k ∷ ts) zero end = k.pos
 place_in (k ∷ ts) (suc i) end = place_in ts i end
 
 -- no expression begins at the token of this number
-pub data IsExprFault (x : Scope) (ts : List handed.BToken) (from : ℕ) (end : Pos) : BoogieFault → Type 0 where
+pub data IsExprFault (x : ExprScope) (ts : List handed.BToken) (from : ℕ) (end : Pos) : BoogieFault → Type 0 where
   no_expr : {i : ℕ} → BeginsNone x (map token_of (drop from ts)) i → IsExprFault x ts from end (fault.Syntax (place_in (drop from ts) i end))
 
 -- the answer is this expression and this number, unless memory was refused

@@ -9,7 +9,7 @@ use Rattle.grammar.specs.declared.stop.Stop.TheVariants as stop
 use Rattle.boogie_tree.specs.Expr as t
 use Rattle.boogie_tree.specs.declared.exprs.BExpr.{BExpr}
 use Rattle.boogie_grammar.specs.declared.tokens.PlacedLexeme.{PlacedLexeme}
-use Rattle.boogie_grammar.specs.Grammar.{Scope}
+use Rattle.boogie_grammar.specs.Grammar.{ExprScope}
 use Rattle.boogie_grammar.specs.ReadView.{boxed_of}
 use Rattle.boogie_text.specs.ReadExpr.{BeginsExpr, BeginsNone}
 
@@ -25,7 +25,7 @@ pub record IsFront (os : List (Option PlacedLexeme)) (ts : List PlacedLexeme) : 
   pub ends : NoToken rest
 
 -- what these tokens begin with, where no token comes behind them, from what is read and what is left
-abbrev pub ReadsAlone : Scope → List PlacedLexeme → Result (Box BExpr Global × Bor (List PlacedLexeme)) (Stop PlacedLexeme) → Type 0
+abbrev pub ReadsAlone : ExprScope → List PlacedLexeme → Result (Box BExpr Global × Bor (List PlacedLexeme)) (Stop PlacedLexeme) → Type 0
 ReadsAlone x ts (Ok r) = (length r.1.now ≤ length ts) × ((os : List (Option PlacedLexeme)) → NoToken os → BeginsExpr x (map Some ts ++ os) (length ts - length r.1.now) (boxed_of r.0))
 ReadsAlone x ts (Err stop.Memory) = Unit {0}
 ReadsAlone x ts (Err (stop.Before r)) = (length r.now ≤ length ts) × ((os : List (Option PlacedLexeme)) → NoToken os → BeginsNone x (map Some ts ++ os) (length ts - length r.now))

@@ -12,7 +12,7 @@ use Rattle.boogie_tree.specs.declared.programs.Proc as declared
 use Rattle.boogie_tree.specs.declared.stmts.BStmt.{BStmt}
 use Rattle.boogie_grammar.specs.declared.tokens.BSign.TheVariants as sign
 use Rattle.boogie_grammar.specs.declared.tokens.PlacedLexeme.{PlacedLexeme}
-use Rattle.boogie_grammar.specs.declared.tokens.Word.TheVariants as w
+use Rattle.boogie_grammar.specs.declared.tokens.BoogieWord.TheVariants as w
 use Rattle.boogie_grammar.specs.Tests as v
 use Rattle.boogie_grammar.specs.Tests.{some_free, a_variable, a_label, the_word}
 use Rattle.boogie_grammar.specs.Greedy.{IsNot, Starts}
@@ -21,7 +21,7 @@ use Rattle.boogie_grammar.specs.Grammar as g
 use Rattle.boogie_grammar.specs.Grammar.{Rule, give, need, when, read, after_sign, after_word, where_true}
 
 -- the scope of what stands in no `forall`
-abbrev pub no_bound : List (List ℕ) → g.Scope
+abbrev pub no_bound : List (List ℕ) → g.ExprScope
 no_bound ls = g.outside ls
 
 -- bexpr ";", after "assume"

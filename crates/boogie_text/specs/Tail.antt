@@ -10,7 +10,7 @@ use Rattle.boogie_tree.specs.Whole.{local_of, stmt_of}
 use Rattle.boogie_tree.specs.declared.programs.Local.{Local}
 use Rattle.boogie_grammar.specs.declared.tokens.BSign.TheVariants as sign
 use Rattle.boogie_grammar.specs.declared.tokens.PlacedLexeme.{PlacedLexeme}
-use Rattle.boogie_grammar.specs.declared.tokens.Word.TheVariants as w
+use Rattle.boogie_grammar.specs.declared.tokens.BoogieWord.TheVariants as w
 use Rattle.boogie_grammar.specs.Cut.{IsRow}
 use Rattle.boogie_grammar.specs.Depth.{IsShallow}
 use Rattle.boogie_grammar.specs.Parts.{IsShallowFrom}
@@ -19,8 +19,8 @@ use Rattle.boogie_grammar.specs.Grammar.{Rule, boogie, need, read, give, after_s
 use Rattle.boogie_grammar.specs.Tests as v
 use Rattle.boogie_grammar.specs.Tests.{a_new_name, the_word}
 use Rattle.boogie_grammar.specs.Words.{is_among}
-use Rattle.boogie_text.specs.declared.inside.Inside.{Inside}
-use Rattle.boogie_text.specs.declared.inside.Inside.TheVariants as inside
+use Rattle.boogie_text.specs.declared.inside.NextInside.{NextInside}
+use Rattle.boogie_text.specs.declared.inside.NextInside.TheVariants as inside
 use Rattle.boogie_text.specs.declared.outside.Outside.{Outside}
 use Rattle.boogie_text.specs.declared.outside.Outside.TheVariants as outside
 
@@ -91,7 +91,7 @@ FindsOutside taken text (outside.Procedure name rest) = BeginsProcedure taken te
 FindsOutside taken text outside.Unread = Unit {0}
 
 -- what is found next in a text inside of a procedure with locals of these names
-abbrev pub FindsInside : List (List ℕ) → List ℕ → Inside → Type 0
+abbrev pub FindsInside : List (List ℕ) → List ℕ → NextInside → Type 0
 FindsInside names text (inside.Statement a rest) = BeginsStatement names text (stmt_of a) rest.now
 FindsInside names text (inside.End rest) = BeginsEnd text rest.now
 FindsInside names text inside.Unread = Unit {0}

@@ -5,10 +5,10 @@ ghost use Rattle.boogie_grammar.specs.Greedy.{Parses};
 ghost use Rattle.boogie_grammar.specs.ReadView.{scope_of, binding_of, ReadsBound, NoBound};
 
 use boogie_grammar::eating::{
-    Read, eat_given_name, eat_sign, need_given_name, need_key, need_sign,
+    BoogieRead, eat_given_name, eat_sign, need_given_name, need_key, need_sign,
 };
 use boogie_grammar::new_names::{bound_name, is_new};
-use boogie_grammar::scopes::{Names, Scope};
+use boogie_grammar::scopes::{BoogieNames, ExprScope};
 use boogie_grammar::{BSign, PlacedLexeme};
 use boogie_tree::BBase;
 use std::alloc::Global;
@@ -16,7 +16,7 @@ use vb_base::{Ident, pushed};
 
 /// Where the first bound name is next, as the first index: the other bound names, and the tokens after it.
 pub(crate) fn eat_bound<'a, 'b>(
-    scope: Scope<'b>,
+    scope: ExprScope<'b>,
     tokens: &'a [PlacedLexeme],
 ) -> Option<(&'b [Ident], &'a [PlacedLexeme])>
     ensures shorter { IfSome result (λ r. length r.1.now < length tokens.now) }
@@ -31,7 +31,7 @@ pub(crate) fn eat_bound<'a, 'b>(
 }
 
 /// The tokens after these names, each behind a `,`, and a `]`.
-pub(crate) fn bound_rest<'a>(names: &[Ident], tokens: &'a [PlacedLexeme]) -> Read<'a, ()>
+pub(crate) fn bound_rest<'a>(names: &[Ident], tokens: &'a [PlacedLexeme]) -> BoogieRead<'a, ()>
     ensures shorter { IfOk result (λ r. length r.1.now < length tokens.now) }
     ensures reads { Parses (λ u. u) (g.rule (g.BoundRest names.now)) tokens.now result }
 {
@@ -50,10 +50,10 @@ pub(crate) fn bound_rest<'a>(names: &[Ident], tokens: &'a [PlacedLexeme]) -> Rea
 /// The types of what a `forall` binds. The names come into the table.
 pub(crate) fn binders<'a>(
     alloc: Global,
-    scope: Scope<'_>,
-    bound: &mut Names,
+    scope: ExprScope<'_>,
+    bound: &mut BoogieNames,
     tokens: &'a [PlacedLexeme],
-) -> Read<'a, Vec<BBase>>
+) -> BoogieRead<'a, Vec<BBase>>
     requires { bound.now ≡ [] }
     ensures shorter { IfOk result (λ r. length r.1.now < length tokens.now) }
     ensures reads { Parses (binding_of bound.new) (g.rule (g.Binders (scope_of scope.entry) g.no_binding)) tokens.now result }

@@ -6,17 +6,21 @@ ghost use Rattle.boogie_grammar.specs.ReadView.{scope_of, boxed_of, all_exprs_of
 
 use crate::bounds::{binders, bound_rest, eat_bound};
 use crate::builds::{at, wrap};
-use boogie_grammar::eating::{Read, eat_sign, eat_word, need_operator, need_sign, need_word};
+use boogie_grammar::eating::{BoogieRead, eat_sign, eat_word, need_operator, need_sign, need_word};
 use boogie_grammar::leaves::{Wrap, eat_forall, eat_leaf, eat_variable, eat_wrap};
-use boogie_grammar::scopes::{Names, Scope};
-use boogie_grammar::{BSign, PlacedLexeme, Word};
+use boogie_grammar::scopes::{BoogieNames, ExprScope};
+use boogie_grammar::{BSign, BoogieWord, PlacedLexeme};
 use boogie_tree::BExpr;
 use std::alloc::Global;
 use vb_base::{boxed, pushed};
 
 /// An expression.
 #[cycle(expressions)]
-pub fn expr<'a>(alloc: Global, scope: Scope<'_>, tokens: &'a [PlacedLexeme]) -> Read<'a, Box<BExpr>>
+pub fn expr<'a>(
+    alloc: Global,
+    scope: ExprScope<'_>,
+    tokens: &'a [PlacedLexeme],
+) -> BoogieRead<'a, Box<BExpr>>
     ensures shorter { IfOk result (λ r. length r.1.now < length tokens.now) }
     ensures reads { Parses boxed_of (g.rule (g.Expr (scope_of scope.entry))) tokens.now result }
 {
@@ -27,7 +31,7 @@ pub fn expr<'a>(alloc: Global, scope: Scope<'_>, tokens: &'a [PlacedLexeme]) -> 
     if let Some((form, rest)) = eat_wrap(tokens) {
         return wrapped(alloc, scope, form, rest);
     }
-    if let Some(rest) = eat_word(Word::SPair, tokens) {
+    if let Some(rest) = eat_word(BoogieWord::SPair, tokens) {
         return paired(alloc, scope, rest);
     }
     if let Some((i, rest)) = eat_variable(scope.locals, tokens) {
@@ -40,10 +44,10 @@ pub fn expr<'a>(alloc: Global, scope: Scope<'_>, tokens: &'a [PlacedLexeme]) -> 
 #[cycle(expressions)]
 fn wrapped<'a>(
     alloc: Global,
-    scope: Scope<'_>,
+    scope: ExprScope<'_>,
     form: Wrap,
     tokens: &'a [PlacedLexeme],
-) -> Read<'a, Box<BExpr>>
+) -> BoogieRead<'a, Box<BExpr>>
     ensures shorter { IfOk result (λ r. length r.1.now < length tokens.now) }
     ensures reads { Parses boxed_of (g.wrapped (scope_of scope.entry) (wrap_of form)) tokens.now result }
 {
@@ -55,10 +59,10 @@ fn wrapped<'a>(
 #[cycle(expressions)]
 fn closed<'a>(
     alloc: Global,
-    scope: Scope<'_>,
+    scope: ExprScope<'_>,
     form: Wrap,
     tokens: &'a [PlacedLexeme],
-) -> Read<'a, Box<BExpr>>
+) -> BoogieRead<'a, Box<BExpr>>
     ensures shorter { IfOk result (λ r. length r.1.now < length tokens.now) }
     ensures reads { Parses boxed_of (closing (scope_of scope.entry) (wrap_of form)) tokens.now result }
 {
@@ -70,7 +74,11 @@ fn closed<'a>(
 
 /// `"(" bexpr "," bexpr ")"` after `sPair`.
 #[cycle(expressions)]
-fn paired<'a>(alloc: Global, scope: Scope<'_>, tokens: &'a [PlacedLexeme]) -> Read<'a, Box<BExpr>>
+fn paired<'a>(
+    alloc: Global,
+    scope: ExprScope<'_>,
+    tokens: &'a [PlacedLexeme],
+) -> BoogieRead<'a, Box<BExpr>>
     ensures shorter { IfOk result (λ r. length r.1.now < length tokens.now) }
     ensures reads { Parses boxed_of (g.paired (scope_of scope.entry)) tokens.now result }
 {
@@ -87,10 +95,10 @@ fn paired<'a>(alloc: Global, scope: Scope<'_>, tokens: &'a [PlacedLexeme]) -> Re
 #[cycle(expressions)]
 fn named<'a>(
     alloc: Global,
-    scope: Scope<'_>,
+    scope: ExprScope<'_>,
     i: usize,
     tokens: &'a [PlacedLexeme],
-) -> Read<'a, Box<BExpr>>
+) -> BoogieRead<'a, Box<BExpr>>
     ensures shorter { IfOk result (λ r. length r.1.now ≤ length tokens.now) }
     ensures reads { Parses boxed_of (g.named (scope_of scope.entry) i) tokens.now result }
 {
@@ -105,10 +113,10 @@ fn named<'a>(
 #[cycle(expressions)]
 fn indices<'a>(
     alloc: Global,
-    scope: Scope<'_>,
+    scope: ExprScope<'_>,
     i: usize,
     tokens: &'a [PlacedLexeme],
-) -> Read<'a, Box<BExpr>>
+) -> BoogieRead<'a, Box<BExpr>>
     ensures shorter { IfOk result (λ r. length r.1.now < length tokens.now) }
     ensures reads { Parses boxed_of (g.rule (g.Indices (scope_of scope.entry) i)) tokens.now result }
 {
@@ -126,9 +134,9 @@ fn indices<'a>(
 #[cycle(expressions)]
 pub fn exprs<'a>(
     alloc: Global,
-    scope: Scope<'_>,
+    scope: ExprScope<'_>,
     tokens: &'a [PlacedLexeme],
-) -> Read<'a, Vec<BExpr>>
+) -> BoogieRead<'a, Vec<BExpr>>
     ensures shorter { IfOk result (λ r. length r.1.now < length tokens.now) }
     ensures reads { Parses all_exprs_of (g.rule (g.Exprs (scope_of scope.entry))) tokens.now result }
 {
@@ -147,9 +155,9 @@ pub fn exprs<'a>(
 #[cycle(expressions)]
 fn in_parens<'a>(
     alloc: Global,
-    scope: Scope<'_>,
+    scope: ExprScope<'_>,
     tokens: &'a [PlacedLexeme],
-) -> Read<'a, Box<BExpr>>
+) -> BoogieRead<'a, Box<BExpr>>
     ensures shorter { IfOk result (λ r. length r.1.now < length tokens.now) }
     ensures reads { Parses boxed_of (g.in_parens (scope_of scope.entry)) tokens.now result }
 {
@@ -159,7 +167,11 @@ fn in_parens<'a>(
 
 /// What follows a `(`, with its `)`.
 #[cycle(expressions)]
-fn inside<'a>(alloc: Global, scope: Scope<'_>, tokens: &'a [PlacedLexeme]) -> Read<'a, Box<BExpr>>
+fn inside<'a>(
+    alloc: Global,
+    scope: ExprScope<'_>,
+    tokens: &'a [PlacedLexeme],
+) -> BoogieRead<'a, Box<BExpr>>
     ensures shorter { IfOk result (λ r. length r.1.now < length tokens.now) }
     ensures reads { Parses boxed_of (g.rule (g.InParens (scope_of scope.entry))) tokens.now result }
 {
@@ -169,7 +181,7 @@ fn inside<'a>(alloc: Global, scope: Scope<'_>, tokens: &'a [PlacedLexeme]) -> Re
     if let Some(rest) = eat_sign(BSign::Not, tokens) {
         return closed(alloc, scope, Wrap::Not, rest);
     }
-    if let Some(rest) = eat_word(Word::If, tokens) {
+    if let Some(rest) = eat_word(BoogieWord::If, tokens) {
         return choice(alloc, scope, rest);
     }
     if let Some(rest) = eat_forall(scope, tokens) {
@@ -180,14 +192,18 @@ fn inside<'a>(alloc: Global, scope: Scope<'_>, tokens: &'a [PlacedLexeme]) -> Re
 
 /// `bexpr "then" bexpr "else" bexpr ")"` after `if`.
 #[cycle(expressions)]
-fn choice<'a>(alloc: Global, scope: Scope<'_>, tokens: &'a [PlacedLexeme]) -> Read<'a, Box<BExpr>>
+fn choice<'a>(
+    alloc: Global,
+    scope: ExprScope<'_>,
+    tokens: &'a [PlacedLexeme],
+) -> BoogieRead<'a, Box<BExpr>>
     ensures shorter { IfOk result (λ r. length r.1.now < length tokens.now) }
     ensures reads { Parses boxed_of (chosen (scope_of scope.entry)) tokens.now result }
 {
     let (condition, rest) = expr(alloc, scope, tokens)?;
-    let (_, after) = need_word(Word::Then, rest)?;
+    let (_, after) = need_word(BoogieWord::Then, rest)?;
     let (first, rest) = expr(alloc, scope, after)?;
-    let (_, after) = need_word(Word::Else, rest)?;
+    let (_, after) = need_word(BoogieWord::Else, rest)?;
     let (second, rest) = expr(alloc, scope, after)?;
     let (_, after) = need_sign(BSign::CloseParen, rest)?;
     let whole = boxed(alloc, BExpr::If(condition, first, second))?;
@@ -196,7 +212,11 @@ fn choice<'a>(alloc: Global, scope: Scope<'_>, tokens: &'a [PlacedLexeme]) -> Re
 
 /// `bexpr bop bexpr ")"`
 #[cycle(expressions)]
-fn binary<'a>(alloc: Global, scope: Scope<'_>, tokens: &'a [PlacedLexeme]) -> Read<'a, Box<BExpr>>
+fn binary<'a>(
+    alloc: Global,
+    scope: ExprScope<'_>,
+    tokens: &'a [PlacedLexeme],
+) -> BoogieRead<'a, Box<BExpr>>
     ensures shorter { IfOk result (λ r. length r.1.now < length tokens.now) }
     ensures reads { Parses boxed_of (g.binary (scope_of scope.entry)) tokens.now result }
 {
@@ -212,13 +232,13 @@ fn binary<'a>(alloc: Global, scope: Scope<'_>, tokens: &'a [PlacedLexeme]) -> Re
 #[cycle(expressions)]
 fn quantified<'a>(
     alloc: Global,
-    scope: Scope<'_>,
+    scope: ExprScope<'_>,
     tokens: &'a [PlacedLexeme],
-) -> Read<'a, Box<BExpr>>
+) -> BoogieRead<'a, Box<BExpr>>
     ensures shorter { IfOk result (λ r. length r.1.now < length tokens.now) }
     ensures reads { Parses boxed_of (quantifying (scope_of scope.entry)) tokens.now result }
 {
-    let mut bound = Names::new(alloc, scope.locals.key());
+    let mut bound = BoogieNames::new(alloc, scope.locals.key());
     binding(alloc, scope, &mut bound, tokens)
 }
 
@@ -226,17 +246,17 @@ fn quantified<'a>(
 #[cycle(expressions)]
 fn binding<'a>(
     alloc: Global,
-    scope: Scope<'_>,
-    bound: &mut Names,
+    scope: ExprScope<'_>,
+    bound: &mut BoogieNames,
     tokens: &'a [PlacedLexeme],
-) -> Read<'a, Box<BExpr>>
+) -> BoogieRead<'a, Box<BExpr>>
     requires { bound.now ≡ [] }
     ensures shorter { IfOk result (λ r. length r.1.now < length tokens.now) }
     ensures reads { Parses boxed_of (quantifying (scope_of scope.entry)) tokens.now result }
 {
     let (types, rest) = binders(alloc, scope, bound, tokens)?;
     let (_, after) = need_sign(BSign::Bounds, rest)?;
-    let under = Scope {
+    let under = ExprScope {
         locals: scope.locals,
         others: scope.others,
         bound: bound.all(),

@@ -9,10 +9,10 @@ ghost use Rattle.boogie_text.specs.Tail.{FindsInside, BeginsLocal, SpellsLocal, 
 
 use crate::stmts::statement;
 use crate::types::type_of;
-use boogie_grammar::eating::{Read, eat_sign, eat_word, need_sign};
+use boogie_grammar::eating::{BoogieRead, eat_sign, eat_word, need_sign};
 use boogie_grammar::new_names::new_name;
-use boogie_grammar::scopes::Names;
-use boogie_grammar::{BSign, Part, PlacedLexeme, Word, next_part};
+use boogie_grammar::scopes::BoogieNames;
+use boogie_grammar::{BSign, BoogieWord, NextPart, PlacedLexeme, next_part};
 use boogie_tree::{BStmt, Local};
 use grammar::Stop;
 use std::alloc::Global;
@@ -22,13 +22,13 @@ use vb_base::Memory;
 /// tokens is there to be used again.
 pub fn next_local<'a>(
     alloc: Global,
-    names: &Names,
+    names: &BoogieNames,
     text: &'a [u8],
     tokens: &mut Vec<PlacedLexeme>,
 ) -> Result<Option<(Local, &'a [u8])>, Memory>
     ensures { IfOk result (λ o. IfSome o (λ r. BeginsLocal names.now text.now (local_of r.0) r.1.now)) }
 {
-    let Part::Tokens(rest, 1) = next_part(alloc, 1, Some(Word::Var), text, tokens)? else {
+    let NextPart::Tokens(rest, 1) = next_part(alloc, 1, Some(BoogieWord::Var), text, tokens)? else {
         return Ok(None);
     };
     match whole_local(alloc, names, tokens)? {
@@ -39,7 +39,7 @@ pub fn next_local<'a>(
 
 /// What stands next in a procedure, behind its locals.
 #[derive(Drop)]
-pub enum Inside<'a> {
+pub enum NextInside<'a> {
     /// A statement, and the text after it.
     Statement(BStmt, &'a [u8]),
     /// The `}` of the procedure, and the text after it.
@@ -51,31 +51,31 @@ pub enum Inside<'a> {
 /// What stands next in a procedure, behind locals of these names. The list of tokens is there to be used again.
 pub fn next_statement<'a>(
     alloc: Global,
-    locals: &Names,
+    locals: &BoogieNames,
     text: &'a [u8],
     tokens: &mut Vec<PlacedLexeme>,
-) -> Result<Inside<'a>, Memory>
+) -> Result<NextInside<'a>, Memory>
     ensures { IfOk result (FindsInside locals.now text.now) }
 {
     match next_part(alloc, 1, None, text, tokens)? {
-        Part::Tokens(rest, 1) => match whole_statement(alloc, locals, tokens)? {
-            Some(stmt) => Ok(Inside::Statement(stmt, rest)),
-            None => Ok(Inside::Unread),
+        NextPart::Tokens(rest, 1) => match whole_statement(alloc, locals, tokens)? {
+            Some(stmt) => Ok(NextInside::Statement(stmt, rest)),
+            None => Ok(NextInside::Unread),
         },
-        Part::Tokens(rest, 0) if is_end(tokens) => Ok(Inside::End(rest)),
-        _ => Ok(Inside::Unread),
+        NextPart::Tokens(rest, 0) if is_end(tokens) => Ok(NextInside::End(rest)),
+        _ => Ok(NextInside::Unread),
     }
 }
 
 /// The local that all of these tokens declare, if they declare one, whose name is none of these.
 fn whole_local(
     alloc: Global,
-    names: &Names,
+    names: &BoogieNames,
     tokens: &[PlacedLexeme],
 ) -> Result<Option<Local>, Memory>
     ensures { IfOk result (λ o. IfSome o (λ l. SpellsLocal names.now tokens.now (local_of l))) }
 {
-    let Some(after) = eat_word(Word::Var, tokens) else {
+    let Some(after) = eat_word(BoogieWord::Var, tokens) else {
         return Ok(None);
     };
     match declaration(alloc, names, after) {
@@ -86,7 +86,11 @@ fn whole_local(
 }
 
 /// `name ":" btype ";"` after `var`, where the name is none of these.
-fn declaration<'a>(alloc: Global, names: &Names, tokens: &'a [PlacedLexeme]) -> Read<'a, Local>
+fn declaration<'a>(
+    alloc: Global,
+    names: &BoogieNames,
+    tokens: &'a [PlacedLexeme],
+) -> BoogieRead<'a, Local>
     ensures new { IfOk result (λ r. is_among r.0.name names.now ≡ false) }
     ensures reads { Parses one_local (declaring names.now) tokens.now result }
 {
@@ -100,7 +104,7 @@ fn declaration<'a>(alloc: Global, names: &Names, tokens: &'a [PlacedLexeme]) -> 
 /// The statement that all of these tokens spell, if they spell one, where locals have these names.
 fn whole_statement(
     alloc: Global,
-    locals: &Names,
+    locals: &BoogieNames,
     tokens: &[PlacedLexeme],
 ) -> Result<Option<BStmt>, Memory>
     ensures { IfOk result (λ o. IfSome o (λ a. SpellsStatement locals.now tokens.now (stmt_of a))) }

@@ -22,13 +22,13 @@ mod types;
 
 pub use boogie_grammar::BoogieFault;
 pub use boogie_print::{
-    EmitFault, Names, bound_names_are_fresh, count_asserts, nested_is_shallow, print,
+    EmitFault, PrintedNames, bound_names_are_fresh, count_asserts, nested_is_shallow, print,
     programs_are_written_in_pieces, put_binders, put_code, put_else, put_end, put_head, put_if,
     put_locals, put_names, put_number, put_operator, put_real, put_type,
     statements_are_written_in_pieces, truth_text, write_code, write_else, write_end, write_head,
     write_if, write_prelude, written_is_spelled,
 };
-pub use inside::{Inside, next_local, next_statement};
+pub use inside::{NextInside, next_local, next_statement};
 pub use laws::{
     brackets_are_nested, not_refused, one_fault, one_place, one_program, one_tree,
     read_by_procedures, some_answer, some_text_answer, spelled_is_printable,

@@ -4,10 +4,10 @@ ghost use Rattle.boogie_grammar.specs.Greedy.{Parses};
 ghost use Rattle.boogie_grammar.specs.Words.{is_among};
 ghost use Rattle.boogie_text.specs.Tail.{FindsOutside, SpellsHead, heading};
 
-use boogie_grammar::eating::{Read, eat_word, need_sign};
+use boogie_grammar::eating::{BoogieRead, eat_word, need_sign};
 use boogie_grammar::new_names::new_name;
-use boogie_grammar::scopes::Names;
-use boogie_grammar::{BSign, Part, PlacedLexeme, Word, next_part};
+use boogie_grammar::scopes::BoogieNames;
+use boogie_grammar::{BSign, BoogieWord, NextPart, PlacedLexeme, next_part};
 use grammar::Stop;
 use std::alloc::Global;
 use vb_base::{Ident, Memory};
@@ -26,15 +26,15 @@ pub enum Outside<'a> {
 /// What stands next in a text, behind procedures of these names. The list of tokens is there to be used again.
 pub fn next_outside<'a>(
     alloc: Global,
-    taken: &Names,
+    taken: &BoogieNames,
     text: &'a [u8],
     tokens: &mut Vec<PlacedLexeme>,
 ) -> Result<Outside<'a>, Memory>
     ensures { IfOk result (FindsOutside taken.now text.now) }
 {
     match next_part(alloc, 0, None, text, tokens)? {
-        Part::End => Ok(Outside::End),
-        Part::Tokens(rest, 1) => match whole_head(taken, tokens)? {
+        NextPart::End => Ok(Outside::End),
+        NextPart::Tokens(rest, 1) => match whole_head(taken, tokens)? {
             Some(name) => Ok(Outside::Procedure(name, rest)),
             None => Ok(Outside::Unread),
         },
@@ -43,10 +43,10 @@ pub fn next_outside<'a>(
 }
 
 /// The name in the head of a procedure that all of these tokens spell, if they spell one.
-fn whole_head(taken: &Names, tokens: &[PlacedLexeme]) -> Result<Option<Ident>, Memory>
+fn whole_head(taken: &BoogieNames, tokens: &[PlacedLexeme]) -> Result<Option<Ident>, Memory>
     ensures { IfOk result (λ o. IfSome o (λ name. SpellsHead taken.now tokens.now name)) }
 {
-    let Some(after) = eat_word(Word::Procedure, tokens) else {
+    let Some(after) = eat_word(BoogieWord::Procedure, tokens) else {
         return Ok(None);
     };
     match head(taken, after) {
@@ -57,7 +57,7 @@ fn whole_head(taken: &Names, tokens: &[PlacedLexeme]) -> Result<Option<Ident>, M
 }
 
 /// `name "(" ")" "{"` after `procedure`, where the name is none of these.
-fn head<'a>(taken: &Names, tokens: &'a [PlacedLexeme]) -> Read<'a, Ident>
+fn head<'a>(taken: &BoogieNames, tokens: &'a [PlacedLexeme]) -> BoogieRead<'a, Ident>
     ensures new { IfOk result (λ r. is_among r.0 taken.now ≡ false) }
     ensures reads { Parses (λ x. x) (heading taken.now) tokens.now result }
 {

@@ -8,10 +8,10 @@ ghost use Rattle.boogie_text.specs.StmtView.{all_procs_of};
 
 use crate::locals::locals;
 use crate::stmts::statements;
-use boogie_grammar::eating::{Read, eat_word, need_sign};
+use boogie_grammar::eating::{BoogieRead, eat_word, need_sign};
 use boogie_grammar::new_names::new_name;
-use boogie_grammar::scopes::Names;
-use boogie_grammar::{BSign, PlacedLexeme, Word, key_of};
+use boogie_grammar::scopes::BoogieNames;
+use boogie_grammar::{BSign, BoogieWord, PlacedLexeme, key_of};
 use boogie_tree::Proc;
 use std::alloc::Global;
 use vb_base::pushed;
@@ -19,9 +19,9 @@ use vb_base::pushed;
 /// A procedure after its word, whose name is none of these.
 pub(crate) fn procedure<'a>(
     alloc: Global,
-    taken: &Names,
+    taken: &BoogieNames,
     tokens: &'a [PlacedLexeme],
-) -> Read<'a, Proc>
+) -> BoogieRead<'a, Proc>
     ensures shorter { IfOk result (λ r. length r.1.now < length tokens.now) }
     ensures new { IfOk result (λ r. is_among r.0.name taken.now ≡ false) }
     ensures reads { Parses proc_of (g.rule (g.Procedure taken.now)) tokens.now result }
@@ -30,7 +30,7 @@ pub(crate) fn procedure<'a>(
     let (_, rest) = need_sign(BSign::OpenParen, rest)?;
     let (_, rest) = need_sign(BSign::CloseParen, rest)?;
     let (_, rest) = need_sign(BSign::OpenBrace, rest)?;
-    let mut names = Names::new(alloc, taken.key());
+    let mut names = BoogieNames::new(alloc, taken.key());
     let (vars, rest) = locals(alloc, &mut names, rest)?;
     let (body, rest) = statements(alloc, &names, rest)?;
     Ok((
@@ -44,13 +44,13 @@ pub(crate) fn procedure<'a>(
 }
 
 /// The procedures of a program, whose names differ, and the tokens after them.
-pub(crate) fn procedures<'a>(alloc: Global, tokens: &'a [PlacedLexeme]) -> Read<'a, Vec<Proc>>
+pub(crate) fn procedures<'a>(alloc: Global, tokens: &'a [PlacedLexeme]) -> BoogieRead<'a, Vec<Proc>>
     ensures reads { Parses all_procs_of (g.rule (g.Program [])) tokens.now result }
 {
-    let mut names = Names::new(alloc, key_of(tokens));
+    let mut names = BoogieNames::new(alloc, key_of(tokens));
     let mut all = Vec::new(alloc);
     let mut rest = tokens;
-    while let Some(after) = eat_word(Word::Procedure, rest) {
+    while let Some(after) = eat_word(BoogieWord::Procedure, rest) {
         let (next, after) = procedure(alloc, &names, after)?;
         names.add(next.name.copy()?)?;
         all = pushed(all, next)?;

@@ -7,9 +7,9 @@ ghost use Rattle.boogie_grammar.specs.ReadView.{all_exprs_of};
 ghost use Rattle.boogie_text.specs.StmtView.{no_bound, assuming, asserting};
 
 use crate::exprs::{expr, exprs};
-use boogie_grammar::eating::{Read, eat_sign, need_label, need_sign, need_word};
-use boogie_grammar::scopes::{Names, Scope};
-use boogie_grammar::{BSign, PlacedLexeme, Word};
+use boogie_grammar::eating::{BoogieRead, eat_sign, need_label, need_sign, need_word};
+use boogie_grammar::scopes::{BoogieNames, ExprScope};
+use boogie_grammar::{BSign, BoogieWord, PlacedLexeme};
 use boogie_tree::{BExpr, BStmt};
 use std::alloc::Global;
 use vb_base::Ident;
@@ -24,14 +24,14 @@ fn none_bound<'a>() -> &'a [Ident]
 /// An expression that stands in no `forall`.
 pub(crate) fn whole_expr<'a>(
     alloc: Global,
-    locals: &Names,
+    locals: &BoogieNames,
     tokens: &'a [PlacedLexeme],
-) -> Read<'a, BExpr>
+) -> BoogieRead<'a, BExpr>
     ensures shorter { IfOk result (λ r. length r.1.now < length tokens.now) }
     ensures reads { Parses expr_of (g.rule (g.Expr (no_bound locals.now))) tokens.now result }
 {
-    let others = Names::new(alloc, locals.key());
-    let scope = Scope {
+    let others = BoogieNames::new(alloc, locals.key());
+    let scope = ExprScope {
         locals,
         others: &others,
         bound: none_bound(),
@@ -43,14 +43,14 @@ pub(crate) fn whole_expr<'a>(
 /// Indices that stand in no `forall`, with the `]`.
 fn whole_exprs<'a>(
     alloc: Global,
-    locals: &Names,
+    locals: &BoogieNames,
     tokens: &'a [PlacedLexeme],
-) -> Read<'a, Vec<BExpr>>
+) -> BoogieRead<'a, Vec<BExpr>>
     ensures shorter { IfOk result (λ r. length r.1.now < length tokens.now) }
     ensures reads { Parses all_exprs_of (g.rule (g.Exprs (no_bound locals.now))) tokens.now result }
 {
-    let others = Names::new(alloc, locals.key());
-    let scope = Scope {
+    let others = BoogieNames::new(alloc, locals.key());
+    let scope = ExprScope {
         locals,
         others: &others,
         bound: none_bound(),
@@ -61,9 +61,9 @@ fn whole_exprs<'a>(
 /// `bexpr ";"` after `assume`.
 pub(crate) fn assumption<'a>(
     alloc: Global,
-    locals: &Names,
+    locals: &BoogieNames,
     tokens: &'a [PlacedLexeme],
-) -> Read<'a, BStmt>
+) -> BoogieRead<'a, BStmt>
     ensures shorter { IfOk result (λ r. length r.1.now < length tokens.now) }
     ensures reads { Parses stmt_of (assuming locals.now) tokens.now result }
 {
@@ -75,15 +75,15 @@ pub(crate) fn assumption<'a>(
 /// `"{" ":" "msg" string "}" bexpr ";"` after `assert`.
 pub(crate) fn assertion<'a>(
     alloc: Global,
-    locals: &Names,
+    locals: &BoogieNames,
     tokens: &'a [PlacedLexeme],
-) -> Read<'a, BStmt>
+) -> BoogieRead<'a, BStmt>
     ensures shorter { IfOk result (λ r. length r.1.now < length tokens.now) }
     ensures reads { Parses stmt_of (asserting locals.now) tokens.now result }
 {
     let (_, rest) = need_sign(BSign::OpenBrace, tokens)?;
     let (_, rest) = need_sign(BSign::Colon, rest)?;
-    let (_, rest) = need_word(Word::Msg, rest)?;
+    let (_, rest) = need_word(BoogieWord::Msg, rest)?;
     let (text, rest) = need_label(rest)?;
     let (_, rest) = need_sign(BSign::CloseBrace, rest)?;
     let (claim, rest) = whole_expr(alloc, locals, rest)?;
@@ -94,10 +94,10 @@ pub(crate) fn assertion<'a>(
 /// `":=" bexpr ";"`, or this after indices, behind the name of a variable.
 pub(crate) fn assignment<'a>(
     alloc: Global,
-    locals: &Names,
+    locals: &BoogieNames,
     i: usize,
     tokens: &'a [PlacedLexeme],
-) -> Read<'a, BStmt>
+) -> BoogieRead<'a, BStmt>
     ensures shorter { IfOk result (λ r. length r.1.now < length tokens.now) }
     ensures reads { Parses stmt_of (g.assignment locals.now i) tokens.now result }
 {

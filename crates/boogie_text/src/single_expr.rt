@@ -14,8 +14,8 @@ ghost use Rattle.boogie_text.specs.ReadSteps.{ReadsAlone, found_of};
 
 use crate::exprs::expr;
 use crate::public_tokens::{BTok, BToken, front};
-use boogie_grammar::eating::{Read, eat_sign};
-use boogie_grammar::scopes::{Names, Scope};
+use boogie_grammar::eating::{BoogieRead, eat_sign};
+use boogie_grammar::scopes::{BoogieNames, ExprScope};
 use boogie_grammar::{BSign, BoogieFault};
 use boogie_tree::{BExpr, Local};
 use grammar::Stop;
@@ -32,7 +32,7 @@ pub struct ReadExpr {
 
 /// An expression, if there is one, and how many tokens it has; or the number of the first token through which the tokens
 /// begin none.
-type Found = (Option<Box<BExpr>>, usize);
+type FoundExpr = (Option<Box<BExpr>>, usize);
 
 /// The expression that begins at the token number `from`, where no `[` follows it directly. There is at most one.
 ///
@@ -94,17 +94,17 @@ fn found_before(
     tokens: &[BToken],
     locals: &[Local],
     known: usize,
-) -> Result<Found, Memory>
+) -> Result<FoundExpr, Memory>
     requires known { known ≤ length locals.now }
     requires differ { NamesDiffer (local_names (locals_of locals.now)) }
     ensures { IfOk result (λ r. Finds (scope_before (local_names (locals_of locals.now)) known) (map token_of tokens.now) (found_of r.0) r.1) }
 {
     let key = key_of(locals, tokens);
-    let mut names = Names::new(alloc, key);
+    let mut names = BoogieNames::new(alloc, key);
     add_names(&mut names, &locals[..known])?;
-    let mut others = Names::new(alloc, key);
+    let mut others = BoogieNames::new(alloc, key);
     add_names(&mut others, &locals[known..])?;
-    let scope = Scope {
+    let scope = ExprScope {
         locals: &names,
         others: &others,
         bound: &[],
@@ -127,7 +127,7 @@ fn key_of(locals: &[Local], tokens: &[BToken]) -> NameKey {
 }
 
 /// The names of these locals, which differ.
-fn add_names(names: &mut Names, locals: &[Local]) -> Result<(), Memory>
+fn add_names(names: &mut BoogieNames, locals: &[Local]) -> Result<(), Memory>
     requires none { names.now ≡ [] }
     requires differ { NamesDiffer (local_names (locals_of locals.now)) }
     ensures { OnOk result (names.new ≡ local_names (locals_of locals.now)) }
@@ -139,7 +139,7 @@ fn add_names(names: &mut Names, locals: &[Local]) -> Result<(), Memory>
 }
 
 /// What these tokens begin with. As a rule no token is looked at but those of the expression and the one behind it.
-fn found(alloc: Global, scope: Scope<'_>, tokens: &[BToken]) -> Result<Found, Memory>
+fn found(alloc: Global, scope: ExprScope<'_>, tokens: &[BToken]) -> Result<FoundExpr, Memory>
     ensures { IfOk result (λ r. Finds (scope_of scope.entry) (map token_of tokens.now) (found_of r.0) r.1) }
 {
     let extent = extent(tokens);
@@ -151,7 +151,7 @@ fn found(alloc: Global, scope: Scope<'_>, tokens: &[BToken]) -> Result<Found, Me
 }
 
 /// What these tokens begin with, each of which is looked at.
-fn found_in(alloc: Global, scope: Scope<'_>, tokens: &[BToken]) -> Result<Found, Memory>
+fn found_in(alloc: Global, scope: ExprScope<'_>, tokens: &[BToken]) -> Result<FoundExpr, Memory>
     ensures { IfOk result (λ r. Finds (scope_of scope.entry) (map token_of tokens.now) (found_of r.0) r.1) }
 {
     let inner = front(alloc, tokens)?;
@@ -165,9 +165,9 @@ fn found_in(alloc: Global, scope: Scope<'_>, tokens: &[BToken]) -> Result<Found,
 /// An expression that no `[` follows.
 fn alone<'a>(
     alloc: Global,
-    scope: Scope<'_>,
+    scope: ExprScope<'_>,
     tokens: &'a [boogie_grammar::PlacedLexeme],
-) -> Read<'a, Box<BExpr>>
+) -> BoogieRead<'a, Box<BExpr>>
     ensures { ReadsAlone (scope_of scope.entry) tokens.now result }
 {
     match expr(alloc, scope, tokens) {

@@ -7,10 +7,10 @@ ghost use Rattle.boogie_text.specs.StmtView.{all_stmts_of, block_of, unpicked, p
 
 use crate::havoc::eat_havoc;
 use crate::simple::{assertion, assignment, assumption, whole_expr};
-use boogie_grammar::eating::{Read, eat_sign, eat_word, need_sign, need_word};
+use boogie_grammar::eating::{BoogieRead, eat_sign, eat_word, need_sign, need_word};
 use boogie_grammar::leaves::eat_variable;
-use boogie_grammar::scopes::Names;
-use boogie_grammar::{BSign, PlacedLexeme, Word};
+use boogie_grammar::scopes::BoogieNames;
+use boogie_grammar::{BSign, BoogieWord, PlacedLexeme};
 use boogie_tree::BStmt;
 use std::alloc::Global;
 use vb_base::pushed;
@@ -19,9 +19,9 @@ use vb_base::pushed;
 #[cycle(blocks)]
 pub(crate) fn statements<'a>(
     alloc: Global,
-    locals: &Names,
+    locals: &BoogieNames,
     tokens: &'a [PlacedLexeme],
-) -> Read<'a, Vec<BStmt>>
+) -> BoogieRead<'a, Vec<BStmt>>
     ensures shorter { IfOk result (λ r. length r.1.now < length tokens.now) }
     ensures reads { Parses all_stmts_of (g.rule (g.Statements locals.now [])) tokens.now result }
 {
@@ -41,16 +41,16 @@ pub(crate) fn statements<'a>(
 #[cycle(blocks)]
 pub(crate) fn statement<'a>(
     alloc: Global,
-    locals: &Names,
+    locals: &BoogieNames,
     tokens: &'a [PlacedLexeme],
-) -> Read<'a, BStmt>
+) -> BoogieRead<'a, BStmt>
     ensures shorter { IfOk result (λ r. length r.1.now < length tokens.now) }
     ensures reads { Parses stmt_of (g.rule (g.Statement locals.now)) tokens.now result }
 {
-    if let Some(rest) = eat_word(Word::Assume, tokens) {
+    if let Some(rest) = eat_word(BoogieWord::Assume, tokens) {
         return assumption(alloc, locals, rest);
     }
-    if let Some(rest) = eat_word(Word::Assert, tokens) {
+    if let Some(rest) = eat_word(BoogieWord::Assert, tokens) {
         return assertion(alloc, locals, rest);
     }
     if let Some((i, rest)) = eat_havoc(locals, tokens)? {
@@ -65,11 +65,15 @@ pub(crate) fn statement<'a>(
 
 /// `"if" "(" ( bexpr | "*" ) ")" bblock [ "else" bblock ]`
 #[cycle(blocks)]
-fn conditional<'a>(alloc: Global, locals: &Names, tokens: &'a [PlacedLexeme]) -> Read<'a, BStmt>
+fn conditional<'a>(
+    alloc: Global,
+    locals: &BoogieNames,
+    tokens: &'a [PlacedLexeme],
+) -> BoogieRead<'a, BStmt>
     ensures shorter { IfOk result (λ r. length r.1.now < length tokens.now) }
     ensures reads { Parses stmt_of (g.conditional locals.now) tokens.now result }
 {
-    let (_, rest) = need_word(Word::If, tokens)?;
+    let (_, rest) = need_word(BoogieWord::If, tokens)?;
     let (_, rest) = need_sign(BSign::OpenParen, rest)?;
     if let Some(rest) = eat_sign(BSign::Star, rest) {
         return either(alloc, locals, rest);
@@ -79,7 +83,11 @@ fn conditional<'a>(alloc: Global, locals: &Names, tokens: &'a [PlacedLexeme]) ->
 
 /// What follows the `*` of an `if`.
 #[cycle(blocks)]
-fn either<'a>(alloc: Global, locals: &Names, tokens: &'a [PlacedLexeme]) -> Read<'a, BStmt>
+fn either<'a>(
+    alloc: Global,
+    locals: &BoogieNames,
+    tokens: &'a [PlacedLexeme],
+) -> BoogieRead<'a, BStmt>
     ensures shorter { IfOk result (λ r. length r.1.now < length tokens.now) }
     ensures reads { Parses stmt_of (unpicked locals.now) tokens.now result }
 {
@@ -91,7 +99,11 @@ fn either<'a>(alloc: Global, locals: &Names, tokens: &'a [PlacedLexeme]) -> Read
 
 /// What follows the `(` of an `if`, where it is no `*`.
 #[cycle(blocks)]
-fn choice<'a>(alloc: Global, locals: &Names, tokens: &'a [PlacedLexeme]) -> Read<'a, BStmt>
+fn choice<'a>(
+    alloc: Global,
+    locals: &BoogieNames,
+    tokens: &'a [PlacedLexeme],
+) -> BoogieRead<'a, BStmt>
     ensures shorter { IfOk result (λ r. length r.1.now < length tokens.now) }
     ensures reads { Parses stmt_of (picked locals.now) tokens.now result }
 {
@@ -104,7 +116,11 @@ fn choice<'a>(alloc: Global, locals: &Names, tokens: &'a [PlacedLexeme]) -> Read
 
 /// `"{" { bstmt } "}"`
 #[cycle(blocks)]
-fn block<'a>(alloc: Global, locals: &Names, tokens: &'a [PlacedLexeme]) -> Read<'a, Vec<BStmt>>
+fn block<'a>(
+    alloc: Global,
+    locals: &BoogieNames,
+    tokens: &'a [PlacedLexeme],
+) -> BoogieRead<'a, Vec<BStmt>>
     ensures shorter { IfOk result (λ r. length r.1.now < length tokens.now) }
     ensures reads { Parses block_of (g.rule (g.Block locals.now)) tokens.now result }
 {
@@ -115,11 +131,15 @@ fn block<'a>(alloc: Global, locals: &Names, tokens: &'a [PlacedLexeme]) -> Read<
 
 /// `[ "else" bblock ]`
 #[cycle(blocks)]
-fn otherwise<'a>(alloc: Global, locals: &Names, tokens: &'a [PlacedLexeme]) -> Read<'a, Vec<BStmt>>
+fn otherwise<'a>(
+    alloc: Global,
+    locals: &BoogieNames,
+    tokens: &'a [PlacedLexeme],
+) -> BoogieRead<'a, Vec<BStmt>>
     ensures shorter { IfOk result (λ r. length r.1.now ≤ length tokens.now) }
     ensures reads { Parses block_of (g.rule (g.Else locals.now)) tokens.now result }
 {
-    let Some(rest) = eat_word(Word::Else, tokens) else {
+    let Some(rest) = eat_word(BoogieWord::Else, tokens) else {
         let none = Vec::new(alloc);
         return Ok((none, tokens));
     };

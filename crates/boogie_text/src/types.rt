@@ -5,14 +5,14 @@ ghost use Rattle.boogie_grammar.specs.Grammar as g;
 ghost use Rattle.boogie_grammar.specs.Greedy.{Parses};
 ghost use Rattle.boogie_grammar.specs.ReadView.{bases_of};
 
-use boogie_grammar::eating::{Read, eat_sign, need_base, need_key, need_sign};
+use boogie_grammar::eating::{BoogieRead, eat_sign, need_base, need_key, need_sign};
 use boogie_grammar::{BSign, PlacedLexeme};
 use boogie_tree::{BBase, BType};
 use std::alloc::Global;
 use vb_base::pushed;
 
 /// The type of a variable.
-pub fn type_of(alloc: Global, tokens: &[PlacedLexeme]) -> Read<'_, BType>
+pub fn type_of(alloc: Global, tokens: &[PlacedLexeme]) -> BoogieRead<'_, BType>
     ensures shorter { IfOk result (λ r. length r.1.now < length tokens.now) }
     ensures reads { Parses type_of (g.rule g.TypeOf) tokens.now result }
 {
@@ -28,7 +28,7 @@ pub fn type_of(alloc: Global, tokens: &[PlacedLexeme]) -> Read<'_, BType>
 }
 
 /// What goes on with a list of one type of keys, and the `]` after them.
-fn more_keys(alloc: Global, first: BBase, tokens: &[PlacedLexeme]) -> Read<'_, Vec<BBase>>
+fn more_keys(alloc: Global, first: BBase, tokens: &[PlacedLexeme]) -> BoogieRead<'_, Vec<BBase>>
     ensures shorter { IfOk result (λ r. length r.1.now < length tokens.now) }
     ensures reads { Parses bases_of (g.rule (g.MoreKeys (first ∷ []))) tokens.now result }
 {

@@ -31,7 +31,7 @@ use Rattle.boogie_formula.specs.declared.formulas.Fail.{Fail}
 use Rattle.boogie_formula.specs.Choices.{own_types, own_types_stmt, slots, slots_stmt}
 use Rattle.boogie_wp.specs.Labels.{same_label}
 use Rattle.boogie_wp.specs.Lifted.{lifted, lifted_all}
-use Rattle.boogie_wp.specs.Build.{Builder, named, fresh, define, store, choose, go_where, failing, check, Merged, behind, merge, join, back, fork, built_stmt, built}
+use Rattle.boogie_wp.specs.Build.{ConditionsBuilder, named, fresh, define, store, choose, go_where, failing, check, Merged, behind, merge, join, back, fork, built_stmt, built}
 use Rattle.boogie_wp.proofs.LiftLaws.{truth_there, side_there, one_type_itself, lifted_value, lifted_key, lifted_type, lifted_types, lifted_whole, lifted_whole_type, key_there, value_there, map_there}
 use Rattle.boogie_wp.proofs.Total.{Point, stored, put, held, checked, joined, forked, total_stmt, total}
 use Rattle.boogie_wp.proofs.TotalLaws.{Owns, owns_left, owns_right, owns_first, owns_rest, owns_there, slots_own, slots_own_stmt, bool_there, map_put}
@@ -47,7 +47,7 @@ truly_fits p = one (record { typed = refl; reduced = tt })
 
 module _ (n : ℕ) where
   mutual
-    pub next_stmt : (x : s.BStmt) (b : Builder) (k : ℕ) → b.next ≡ k → (built_stmt n x b).next ≡ k + slots_stmt x
+    pub next_stmt : (x : s.BStmt) (b : ConditionsBuilder) (k : ℕ) → b.next ≡ k → (built_stmt n x b).next ≡ k + slots_stmt x
     next_stmt (s.Assign i e) b k h = omega (arith, h)
     next_stmt (s.Put i es e) b k h = omega (arith, h)
     next_stmt (s.Havoc i) b k h = omega (arith, h)
@@ -57,12 +57,12 @@ module _ (n : ℕ) where
         let x = next_block xs (go_where n (f.Var (fresh n b)) (define (lifted (named b) e) b)) k h in
         next_block ys (back n (fresh n b) (define (lifted (named b) e) b) (built n xs (go_where n (f.Var (fresh n b)) (define (lifted (named b) e) b)))) (k + slots xs) x ∙ (omega arith)
     next_stmt (s.Either xs ys) b k h =
-        let c : Builder = record b { next = b.next + 1 } in
+        let c : ConditionsBuilder = record b { next = b.next + 1 } in
         let next : b.next + 1 ≡ k + 1 = ap (λ z. z + 1) h in
         let x = next_block xs (go_where n (f.Var b.next) c) (k + 1) next in
         next_block ys (back n b.next c (built n xs (go_where n (f.Var b.next) c))) (k + 1 + slots xs) x ∙ (omega arith)
 
-    pub next_block : (xs : s.BStmts) (b : Builder) (k : ℕ) → b.next ≡ k → (built n xs b).next ≡ k + slots xs
+    pub next_block : (xs : s.BStmts) (b : ConditionsBuilder) (k : ℕ) → b.next ≡ k → (built n xs b).next ≡ k + slots xs
     next_block s.skip b k h = omega (arith, h)
     next_block (s.first x xs) b k h =
         let y = next_stmt x b k h in
@@ -75,7 +75,7 @@ checked_is false t p = ap (λ q. record { env = p.env; path = p.path && t; bad =
 
 module _ (n : ℕ) (ls vars : List BType) (values : List BValue) (label : Label) where
   -- where these have values and these types
-  pub record Stands (b : Builder) (p : Point) (all : List BValue) (kinds : List BType) : Type 0 where
+  pub record Stands (b : ConditionsBuilder) (p : Point) (all : List BValue) (kinds : List BType) : Type 0 where
     pub names : Names n vars values b.lets all kinds
     pub holds : Holds all kinds b.versions p.env ls
     pub path : Truly all kinds b.path p.path
@@ -86,17 +86,17 @@ module _ (n : ℕ) (ls vars : List BType) (values : List BValue) (label : Label)
     pub given_kinds : Kept vars kinds
 
   -- after definitions behind these
-  pub record Step (old : List BValue) (olds : List BType) (b : Builder) (p : Point) : Type 0 where
+  pub record Step (old : List BValue) (olds : List BType) (b : ConditionsBuilder) (p : Point) : Type 0 where
     pub all : List BValue
     pub kinds : List BType
     pub kept : Kept old all
     pub kept_kinds : Kept olds kinds
     pub stands : Stands b p all kinds
 
-  no_step : {b : Builder} {p : Point} {all : List BValue} {kinds : List BType} → Stands b p all kinds → Step all kinds b p
+  no_step : {b : ConditionsBuilder} {p : Point} {all : List BValue} {kinds : List BType} → Stands b p all kinds → Step all kinds b p
   no_step {all = all} {kinds = kinds} h = record { all = all; kinds = kinds; kept = λ j x g. g; kept_kinds = λ j x g. g; stands = h }
 
-  abbrev two_steps : {old : List BValue} {olds : List BType} {b c : Builder} {p q : Point} → (h : Step old olds b p) → Step h.all h.kinds c q → Step old olds c q
+  abbrev two_steps : {old : List BValue} {olds : List BType} {b c : ConditionsBuilder} {p q : Point} → (h : Step old olds b p) → Step h.all h.kinds c q → Step old olds c q
   two_steps h g = record {
     all = g.all;
     kinds = g.kinds;
@@ -107,7 +107,7 @@ module _ (n : ℕ) (ls vars : List BType) (values : List BValue) (label : Label)
 
   -- ---- one definition
 
-  module _ {b : Builder} {p : Point} {all : List BValue} {kinds : List BType} (h : Stands b p all kinds) where
+  module _ {b : ConditionsBuilder} {p : Point} {all : List BValue} {kinds : List BType} (h : Stands b p all kinds) where
     module _ (e : FExpr) (v : BValue) (u : BType) (is : whole e all ≡ Is v) (typed : whole_type kinds e ≡ Some u) (fits : IsOfType v u) where
       pub stands_define : Stands (define e b) p (all ++ v ∷ []) (kinds ++ u ∷ [])
       stands_define =
@@ -323,7 +323,7 @@ module _ (n : ℕ) (ls vars : List BType) (values : List BValue) (label : Label)
 
   -- ---- a fork
 
-  joins : (c : ℕ) (t : Truth) (y : Builder) (px py : Point) (versions : List ℕ) (path : ℕ) (all : List BValue) (kinds : List BType) → Truly all kinds c t →
+  joins : (c : ℕ) (t : Truth) (y : ConditionsBuilder) (px py : Point) (versions : List ℕ) (path : ℕ) (all : List BValue) (kinds : List BType) → Truly all kinds c t →
       Holds all kinds versions px.env ls → Truly all kinds path px.path → Stands y py all kinds → Step all kinds (join n c versions path y) (joined t px py)
   joins c t y px py versions path all kinds is_c holds is_path h =
       let e = f.Bin op.Or (f.Var path) (f.Var y.path) in
@@ -354,11 +354,11 @@ module _ (n : ℕ) (ls vars : List BType) (values : List BValue) (label : Label)
         };
       }
 
-  abbrev Builds : (Builder → Builder) → (Point → Point) → ℕ → Type 0
-  Builds build go k = (b : Builder) (p : Point) (all : List BValue) (kinds : List BType) → b.next ≡ k → Stands b p all kinds → Step all kinds (build b) (go p)
+  abbrev Builds : (ConditionsBuilder → ConditionsBuilder) → (Point → Point) → ℕ → Type 0
+  Builds build go k = (b : ConditionsBuilder) (p : Point) (all : List BValue) (kinds : List BType) → b.next ≡ k → Stands b p all kinds → Step all kinds (build b) (go p)
 
-  fork_step : (c : ℕ) (t : Truth) (left right : Builder → Builder) (go to : Point → Point) (k l : ℕ) → Builds left go k → ((b : Builder) → b.next ≡ k → (left b).next ≡ l) → Builds right to l →
-      (b : Builder) (p : Point) (all : List BValue) (kinds : List BType) → Truly all kinds c t → b.next ≡ k → Stands b p all kinds → Step all kinds (fork n c left right b) (forked t go to p)
+  fork_step : (c : ℕ) (t : Truth) (left right : ConditionsBuilder → ConditionsBuilder) (go to : Point → Point) (k l : ℕ) → Builds left go k → ((b : ConditionsBuilder) → b.next ≡ k → (left b).next ≡ l) → Builds right to l →
+      (b : ConditionsBuilder) (p : Point) (all : List BValue) (kinds : List BType) → Truly all kinds c t → b.next ≡ k → Stands b p all kinds → Step all kinds (fork n c left right b) (forked t go to p)
   fork_step c t left right go to k l grow moves more b p all kinds is_c next h =
       let w = where_step h (f.Var c) t (says_var is_c) in
       let x = grow (go_where n (f.Var c) b) (held t p) w.all w.kinds next w.stands in
@@ -388,7 +388,7 @@ module _ (n : ℕ) (ls vars : List BType) (values : List BValue) (label : Label)
   many_there (Some (One v)) m h = absurd (cc)
   many_there None m h = absurd (cc)
 
-  module _ {b : Builder} {p : Point} {all : List BValue} {kinds : List BType} (h : Stands b p all kinds) where
+  module _ {b : ConditionsBuilder} {p : Point} {all : List BValue} {kinds : List BType} (h : Stands b p all kinds) where
     is_env : IsEnvironment ls p.env
     is_env = holds_typed all kinds h.holds
 

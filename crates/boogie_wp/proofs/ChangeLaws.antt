@@ -11,10 +11,10 @@ use Rattle.lemmas.proofs.Lists.{set_length}
 use Rattle.boogie_tree.specs.declared.exprs.BOp.TheVariants as op
 use Rattle.boogie_formula.specs.Formula as f
 use Rattle.boogie_formula.specs.Formula.{FExpr}
-use Rattle.boogie_wp.specs.Build.{Builder, Merged, behind, merge, with_merged, define, store, fresh, join, number_at}
+use Rattle.boogie_wp.specs.Build.{ConditionsBuilder, Merged, behind, merge, with_merged, define, store, fresh, join, number_at}
 use Rattle.boogie_wp.specs.Changes.{local_of, changed, end_of, choice_of, IsKept, Chosen}
-use Rattle.boogie_wp.specs.declared.names.Change.{Change}
-use Rattle.boogie_wp.specs.declared.names.Choice.{Choice}
+use Rattle.boogie_wp.specs.declared.names.LocalChange.{LocalChange}
+use Rattle.boogie_wp.specs.declared.names.BranchedLocal.{BranchedLocal}
 use Rattle.boogie_wp.proofs.CodeLaws.{drop_at}
 
 -- ---- lists
@@ -67,19 +67,19 @@ take_set (z ∷ xs) (suc i) x y h = ap (λ w. z ∷ w) (take_set xs i x y h)
 -- ---- changes
 
 -- one more change, before all that come first in the list
-changed_more : (xs : List Change) (x : Change) (vs : List ℕ) → changed (xs ++ x ∷ []) vs ≡ changed xs (slice_set vs x.local x.name)
+changed_more : (xs : List LocalChange) (x : LocalChange) (vs : List ℕ) → changed (xs ++ x ∷ []) vs ≡ changed xs (slice_set vs x.local x.name)
 changed_more [] x vs = refl
 changed_more (y ∷ xs) x vs = ap (λ zs. slice_set zs y.local y.name) (changed_more xs x vs)
 
 -- a change whose name before is kept can be undone
-pub kept_before : (xs : List Change) (vs : List ℕ) (i name before : ℕ) → slice_get vs i ≡ Some before → changed (xs ++ record { local = i; name = before } ∷ []) (slice_set vs i name) ≡ changed xs vs
+pub kept_before : (xs : List LocalChange) (vs : List ℕ) (i name before : ℕ) → slice_get vs i ≡ Some before → changed (xs ++ record { local = i; name = before } ∷ []) (slice_set vs i name) ≡ changed xs vs
 kept_before xs vs i name before is = changed_more xs (record { local = i; name = before }) (slice_set vs i name) ∙ ap (changed xs) (set_back vs i name before is)
 
 -- the last change is undone
-pub last_undone : (xs : List Change) (x : Change) (vs : List ℕ) (all : List Change) → all ≡ xs ++ x ∷ [] → changed xs (slice_set vs x.local x.name) ≡ changed all vs
+pub last_undone : (xs : List LocalChange) (x : LocalChange) (vs : List ℕ) (all : List LocalChange) → all ≡ xs ++ x ∷ [] → changed xs (slice_set vs x.local x.name) ≡ changed all vs
 last_undone xs x vs all is = sym (ap (λ zs. changed zs vs) is ∙ changed_more xs x vs)
 
-pub changed_long : (xs : List Change) (vs : List ℕ) → length (changed xs vs) ≡ length vs
+pub changed_long : (xs : List LocalChange) (vs : List ℕ) → length (changed xs vs) ≡ length vs
 changed_long [] vs = refl
 changed_long (x ∷ xs) vs = set_length (changed xs vs) x.local x.name ∙ changed_long xs vs
 
@@ -90,7 +90,7 @@ there : (x : ℕ) (xs : List ℕ) (k : ℕ) → Contains xs k → Contains (x �
 there x xs k c = let lt = c.1 in (suc c.0, omega (arith, lt), c.2)
 
 -- the names of the other locals are the same
-changed_else : (xs : List Change) (vs : List ℕ) (k : ℕ) → (Contains (map local_of xs) k → ⊥) → slice_get (changed xs vs) k ≡ slice_get vs k
+changed_else : (xs : List LocalChange) (vs : List ℕ) (k : ℕ) → (Contains (map local_of xs) k → ⊥) → slice_get (changed xs vs) k ≡ slice_get vs k
 changed_else [] vs k h = refl
 changed_else (x ∷ xs) vs k h =
     get_other (changed xs vs) x.local k x.name (λ e. h (here x.local (map local_of xs) k e)) ∙ changed_else xs vs k (λ c. h (there x.local (map local_of xs) k c))
@@ -136,7 +136,7 @@ module _ (us vs ws : List ℕ) where
   )
 
 -- the choices of two branches: xs are what the first one changed, ys what the second one did
-pub chosen_are : (xs ys : List Change) (us ws locals : List ℕ) (first second : List Change) → first ≡ xs → second ≡ ys → us ≡ changed ys ws → IsStrictlyIncreasing locals →
+pub chosen_are : (xs ys : List LocalChange) (us ws locals : List ℕ) (first second : List LocalChange) → first ≡ xs → second ≡ ys → us ≡ changed ys ws → IsStrictlyIncreasing locals →
     ((k : ℕ) → Contains (map local_of first ++ map local_of second) k → Contains locals k) → Chosen us (changed xs us) ws 0 (map (choice_of (changed xs us)) (map (end_of ws) locals))
 chosen_are xs ys us ws locals first second is_first is_second began rises listed =
     let all : (k : ℕ) → Contains (map local_of xs ++ map local_of ys) k → Contains locals k = λ k c. listed k (subst (λ zs. Contains zs k) (λ i. map local_of (sym is_first i) ++ map local_of (sym is_second i)) c) in
@@ -151,20 +151,20 @@ chosen_are xs ys us ws locals first second is_first is_second began rises listed
 abbrev chosen_by : ℕ → ℕ → ℕ → FExpr
 chosen_by c v w = f.If (f.Var c) (f.Var v) (f.Var w)
 
-abbrev pub step_of : ℕ → ℕ → Choice → Builder → Builder
+abbrev pub step_of : ℕ → ℕ → BranchedLocal → ConditionsBuilder → ConditionsBuilder
 step_of n c x b = if nat_eq x.first x.second then record b { versions = slice_set b.versions x.local x.second } else store n x.local (f.If (f.Var c) (f.Var x.first) (f.Var x.second)) b
 
-abbrev pub steps_of : ℕ → ℕ → List Choice → Builder → Builder
+abbrev pub steps_of : ℕ → ℕ → List BranchedLocal → ConditionsBuilder → ConditionsBuilder
 steps_of n c [] b = b
 steps_of n c (x ∷ xs) b = steps_of n c xs (step_of n c x b)
 
-pub steps_end : (n c : ℕ) (xs : List Choice) (i : ℕ) (before b : Builder) → length xs ≤ i → steps_of n c (drop i xs) b ≡ steps_of n c xs before → b ≡ steps_of n c xs before
+pub steps_end : (n c : ℕ) (xs : List BranchedLocal) (i : ℕ) (before b : ConditionsBuilder) → length xs ≤ i → steps_of n c (drop i xs) b ≡ steps_of n c xs before → b ≡ steps_of n c xs before
 steps_end n c xs i before b end same = ap (λ zs. steps_of n c zs b) (sym (drop_of_length-le xs end)) ∙ same
 
-abbrev put_back : List ℕ → Builder → Merged → Builder
+abbrev put_back : List ℕ → ConditionsBuilder → Merged → ConditionsBuilder
 put_back front b m = record b { versions = front ++ m.versions; lets = m.lets }
 
-behind_front : (front : List ℕ) (w : ℕ) (b : Builder) (m : Merged) → put_back (front ++ w ∷ []) b m ≡ put_back front b (behind w m)
+behind_front : (front : List ℕ) (w : ℕ) (b : ConditionsBuilder) (m : Merged) → put_back (front ++ w ∷ []) b m ≡ put_back front b (behind w m)
 behind_front front w b m = ap (λ vs. record b { versions = vs; lets = m.lets }) (append_assoc front (w ∷ []) m.versions)
 
 if_behind : (p : Truth) (x y m : Merged) → p ≡ true → m ≡ x → m ≡ (if p then x else y)
@@ -193,19 +193,19 @@ both_there (x ∷ xs) (z ∷ ys) (suc i) y e h = both_there xs ys i y (omega (ar
 
 module _ (n c : ℕ) (vs ws : List ℕ) where
   -- what is left to bring together from the local i on
-  abbrev from : ℕ → Builder → Builder
+  abbrev from : ℕ → ConditionsBuilder → ConditionsBuilder
   from i b = put_back (take i b.versions) b (merge n c (drop i vs) (drop i ws) b.lets)
 
-  abbrev Same : ℕ → Builder → Type 0
+  abbrev Same : ℕ → ConditionsBuilder → Type 0
   Same i b = (slice_get vs i ≡ slice_get b.versions i) × (slice_get ws i ≡ slice_get b.versions i)
 
-  from_ended : (i : ℕ) (b : Builder) → length vs ≤ i → length ws ≤ i → length b.versions ≤ i → from i b ≡ b
+  from_ended : (i : ℕ) (b : ConditionsBuilder) → length vs ≤ i → length ws ≤ i → length b.versions ≤ i → from i b ≡ b
   from_ended i b first second end =
       (λ t. put_back (take_all i b.versions end t) b (merge n c (drop_of_length-le vs first t) (drop_of_length-le ws second t) b.lets))
       ∙ ap (λ zs. record b { versions = zs }) (append-nil b.versions)
 
   -- a local that neither branch changed is left out
-  from_passed : (i : ℕ) (b : Builder) → Same i b → (o : Option ℕ) → slice_get b.versions i ≡ o → from (suc i) b ≡ from i b
+  from_passed : (i : ℕ) (b : ConditionsBuilder) → Same i b → (o : Option ℕ) → slice_get b.versions i ≡ o → from (suc i) b ≡ from i b
   from_passed i b h None is =
       let v = h.0 ∙ is in
       let w = h.1 ∙ is in
@@ -220,13 +220,13 @@ module _ (n c : ℕ) (vs ws : List ℕ) where
       ∙ ap (put_back (take i b.versions) b) (if_behind (nat_eq u u) _ (behind (n + length b.lets) (merge n c xs ys (b.lets ++ chosen_by c u u ∷ []))) _ (same_itself u) refl)
       ∙ (λ t. put_back (take i b.versions) b (merge n c ((sym (drop_at vs i u v)) t) ((sym (drop_at ws i u w)) t) b.lets))
 
-  from_skipped : (d i j : ℕ) (b : Builder) → j ≡ i + d → ((k : ℕ) → i ≤ k → k < j → Same k b) → from j b ≡ from i b
+  from_skipped : (d i j : ℕ) (b : ConditionsBuilder) → j ≡ i + d → ((k : ℕ) → i ≤ k → k < j → Same k b) → from j b ≡ from i b
   from_skipped zero i j b e h = let same : j ≡ i = omega (arith, e) in ap (λ k. from k b) same
   from_skipped (suc d) i j b e h =
       from_skipped d (suc i) j b (omega (arith, e)) (λ k l g. h k (omega (arith, l)) g) ∙ from_passed i b (h i (omega arith) (omega (arith, e))) (slice_get b.versions i) refl
 
   -- both branches have the name of the local, or one definition chooses between their names
-  from_same : (i u v w : ℕ) (b : Builder) → slice_get b.versions i ≡ Some u → slice_get vs i ≡ Some v → slice_get ws i ≡ Some w → nat_eq v w ≡ true →
+  from_same : (i u v w : ℕ) (b : ConditionsBuilder) → slice_get b.versions i ≡ Some u → slice_get vs i ≡ Some v → slice_get ws i ≡ Some w → nat_eq v w ≡ true →
       from (suc i) (record b { versions = slice_set b.versions i w }) ≡ from i b
   from_same i u v w b is first second same =
       let xs = drop (suc i) vs in
@@ -236,7 +236,7 @@ module _ (n c : ℕ) (vs ws : List ℕ) where
       ∙ ap (put_back (take i b.versions) b) (if_behind (nat_eq v w) _ (behind (n + length b.lets) (merge n c xs ys (b.lets ++ chosen_by c v w ∷ []))) _ same refl)
       ∙ (λ t. put_back (take i b.versions) b (merge n c ((sym (drop_at vs i v first)) t) ((sym (drop_at ws i w second)) t) b.lets))
 
-  from_stored : (i u v w : ℕ) (b : Builder) → slice_get b.versions i ≡ Some u → slice_get vs i ≡ Some v → slice_get ws i ≡ Some w → nat_eq v w ≡ false →
+  from_stored : (i u v w : ℕ) (b : ConditionsBuilder) → slice_get b.versions i ≡ Some u → slice_get vs i ≡ Some v → slice_get ws i ≡ Some w → nat_eq v w ≡ false →
       from (suc i) (store n i (chosen_by c v w) b) ≡ from i b
   from_stored i u v w b is first second other =
       let xs = drop (suc i) vs in
@@ -247,24 +247,24 @@ module _ (n c : ℕ) (vs ws : List ℕ) where
       ∙ ap (put_back (take i b.versions) b) (if_other (nat_eq v w) (behind w (merge n c xs ys b.lets)) _ _ other refl)
       ∙ (λ t. put_back (take i b.versions) b (merge n c ((sym (drop_at vs i v first)) t) ((sym (drop_at ws i w second)) t) b.lets))
 
-  abbrev stepped : ℕ → ℕ → ℕ → Builder → Builder
+  abbrev stepped : ℕ → ℕ → ℕ → ConditionsBuilder → ConditionsBuilder
   stepped i v w b = if nat_eq v w then record b { versions = slice_set b.versions i w } else store n i (chosen_by c v w) b
 
-  stepped_long : (i v w : ℕ) (b : Builder) → length (stepped i v w b).versions ≡ length b.versions
+  stepped_long : (i v w : ℕ) (b : ConditionsBuilder) → length (stepped i v w b).versions ≡ length b.versions
   stepped_long i v w b = by (nat_eq v w)
     where
       by : (p : Truth) → length (if p then record b { versions = slice_set b.versions i w } else store n i (chosen_by c v w) b).versions ≡ length b.versions
       by true = set_length b.versions i w
       by false = set_length b.versions i (fresh n b)
 
-  stepped_else : (i v w : ℕ) (b : Builder) (k : ℕ) → (i ≡ k → ⊥) → slice_get (stepped i v w b).versions k ≡ slice_get b.versions k
+  stepped_else : (i v w : ℕ) (b : ConditionsBuilder) (k : ℕ) → (i ≡ k → ⊥) → slice_get (stepped i v w b).versions k ≡ slice_get b.versions k
   stepped_else i v w b k h = by (nat_eq v w)
     where
       by : (p : Truth) → slice_get (if p then record b { versions = slice_set b.versions i w } else store n i (chosen_by c v w) b).versions k ≡ slice_get b.versions k
       by true = get_other b.versions i k w h
       by false = get_other b.versions i k (fresh n b) h
 
-  from_stepped : (i : ℕ) (b : Builder) → length vs ≡ length b.versions → length ws ≡ length b.versions → from (suc i) (stepped i (number_at vs i) (number_at ws i) b) ≡ from i b
+  from_stepped : (i : ℕ) (b : ConditionsBuilder) → length vs ≡ length b.versions → length ws ≡ length b.versions → from (suc i) (stepped i (number_at vs i) (number_at ws i) b) ≡ from i b
   from_stepped i b first second = by (slice_get b.versions i) refl
     where
       on : (u v w : ℕ) → slice_get b.versions i ≡ Some u → slice_get vs i ≡ Some v → slice_get ws i ≡ Some w → (p : Truth) → nat_eq v w ≡ p →
@@ -287,7 +287,7 @@ module _ (n c : ℕ) (vs ws : List ℕ) where
           (λ t. from (suc i) (stepped i (unwrap_or (a t) 0) (unwrap_or (o t) 0) b)) ∙ on u v.0 w.0 is a o (nat_eq v.0 w.0) refl
 
   -- the choices of the locals from m on bring together what is left from there on
-  all_steps : (us : List ℕ) (xs : List Choice) (m : ℕ) (b : Builder) → Chosen us vs ws m xs → length vs ≡ length b.versions → length ws ≡ length b.versions →
+  all_steps : (us : List ℕ) (xs : List BranchedLocal) (m : ℕ) (b : ConditionsBuilder) → Chosen us vs ws m xs → length vs ≡ length b.versions → length ws ≡ length b.versions →
       ((k : ℕ) → m ≤ k → slice_get b.versions k ≡ slice_get us k) → steps_of n c xs b ≡ from m b
   all_steps us [] m b h first second same =
       let end = m + length b.versions in
@@ -307,13 +307,13 @@ module _ (n c : ℕ) (vs ws : List ℕ) where
       ∙ rw add-one (from_stepped i b first second)
       ∙ from_skipped (i - m) m i b (omega (arith, low)) (λ k l g. ((h.1 k l g).0 ∙ sym (same k l), (h.1 k l g).1 ∙ sym (same k l)))
 
-  pub merge_done : (b new : Builder) (xs : List Choice) → new ≡ steps_of n c xs b → Chosen b.versions vs ws 0 xs → length vs ≡ length b.versions → length ws ≡ length b.versions →
+  pub merge_done : (b new : ConditionsBuilder) (xs : List BranchedLocal) → new ≡ steps_of n c xs b → Chosen b.versions vs ws 0 xs → length vs ≡ length b.versions → length ws ≡ length b.versions →
       new ≡ with_merged b.path b (merge n c vs ws b.lets)
   merge_done b new xs made h first second = made ∙ all_steps b.versions xs 0 b h first second (λ k l. refl)
 
-pub join_made : (n c path : ℕ) (y b1 b3 : Builder) (name : ℕ) (us vs zs : List ℕ) → b1 ≡ define (f.Bin op.Or (f.Var path) (f.Var y.path)) y → name ≡ fresh n y →
+pub join_made : (n c path : ℕ) (y b1 b3 : ConditionsBuilder) (name : ℕ) (us vs zs : List ℕ) → b1 ≡ define (f.Bin op.Or (f.Var path) (f.Var y.path)) y → name ≡ fresh n y →
     b3 ≡ with_merged b1.path (record b1 { versions = us }) (merge n c vs b1.versions b1.lets) → vs ≡ zs → record b3 { path = name } ≡ join n c zs path y
 join_made n c path y b1 b3 name us vs zs met named made same =
     (λ i. record (made i) { path = named i })
-    ∙ ap (λ (z : Builder). with_merged (fresh n y) z (merge n c vs z.versions z.lets)) met
+    ∙ ap (λ (z : ConditionsBuilder). with_merged (fresh n y) z (merge n c vs z.versions z.lets)) met
     ∙ ap (λ xs. join n c xs path y) same

@@ -23,7 +23,7 @@ use Rattle.boogie_formula.proofs.ViewLaws.{fexpr_of-At, fexprs_of-map, fexpr_of-
 use Rattle.boogie_formula.specs.Choices.{slots, slots_stmt, own_types, own_types_stmt}
 use Rattle.boogie_wp.proofs.BuildLaws.{next_stmt, next_block}
 use Rattle.boogie_formula.specs.Formula.{FExpr}
-use Rattle.boogie_wp.specs.Build.{Builder, fresh, go_where, join, back, fork, built, built_stmt, define, named, numbers, started, Chain, linked, chained}
+use Rattle.boogie_wp.specs.Build.{ConditionsBuilder, fresh, go_where, join, back, fork, built, built_stmt, define, named, numbers, started, Chain, linked, chained}
 use Rattle.boogie_wp.specs.View.{types_in}
 use Rattle.boogie_wp.specs.Lifted.{lifted, lifted_all}
 
@@ -69,7 +69,7 @@ pub room_second : (n old mid new more : ℕ) (x : s.BStmt) (xs ys : s.BStmts) �
 room_second n old mid new more x xs ys is room same next = omega (arith, is, room, same, next)
 
 module _ (n : ℕ) where
-  pub fork_made : (c : ℕ) (xs ys : s.BStmts) (b1 b2 b3 b4 b5 b6 : Builder) (starts firsts : List ℕ) (start first : ℕ) → b2 ≡ go_where n (f.Var c) b1 → starts ≡ b1.versions → start ≡ b1.path →
+  pub fork_made : (c : ℕ) (xs ys : s.BStmts) (b1 b2 b3 b4 b5 b6 : ConditionsBuilder) (starts firsts : List ℕ) (start first : ℕ) → b2 ≡ go_where n (f.Var c) b1 → starts ≡ b1.versions → start ≡ b1.path →
       b3 ≡ built n xs b2 → firsts ≡ b3.versions → first ≡ b3.path → b4 ≡ go_where n (f.Not (f.Var c)) (record b3 { versions = starts; path = start }) → b5 ≡ built n ys b4 →
       b6 ≡ join n c firsts first b5 → b6 ≡ fork n c (λ z. built n xs z) (λ z. built n ys z) b1
   fork_made c xs ys b1 b2 b3 b4 b5 b6 starts firsts start first e2 v1 p1 e3 v3 p3 e4 e5 e6 =
@@ -81,24 +81,24 @@ module _ (n : ℕ) where
       ∙ ap (λ z. let x = built n xs z in join n c x.versions x.path (built n ys (back n c b1 x))) e2
 
   -- what is left of a block makes of the builder what all makes of the first one, and there is room for it
-  pub record Left (stmts : List stmt.BStmt) (i : ℕ) (before b : Builder) : Type 0 where
+  pub record Left (stmts : List stmt.BStmt) (i : ℕ) (before b : ConditionsBuilder) : Type 0 where
     pub same : built n (stmts_of (drop i stmts)) b ≡ built n (stmts_of stmts) before
     pub room : b.next + slots (stmts_of (drop i stmts)) ≤ n
 
-  pub left_first : (stmts : List stmt.BStmt) (b : Builder) → b.next + slots (stmts_of stmts) ≤ n → Left stmts 0 b b
+  pub left_first : (stmts : List stmt.BStmt) (b : ConditionsBuilder) → b.next + slots (stmts_of stmts) ≤ n → Left stmts 0 b b
   left_first stmts b room = record { same = refl; room = room }
 
-  module _ (stmts : List stmt.BStmt) (i : ℕ) (before b : Builder) (left : Left stmts i before b) where
+  module _ (stmts : List stmt.BStmt) (i : ℕ) (before b : ConditionsBuilder) (left : Left stmts i before b) where
     pub left_room : (x : stmt.BStmt) → i < length stmts → x ≡ get_or stmts i x → b.next + slots_stmt (stmt_of x) ≤ n
     left_room x lt is =
         let e : slots (stmts_of (drop i stmts)) ≡ slots_stmt (stmt_of x) + slots (stmts_of (drop (i + 1) stmts)) = ap (λ xs. slots (stmts_of xs)) (next_item stmts i x lt is) in
         omega (arith, e, left.room)
 
-    pub left_next : (x : stmt.BStmt) → i < length stmts → x ≡ get_or stmts i x → (new : Builder) → new ≡ built_stmt n (stmt_of x) b → Left stmts (i + 1) before new
+    pub left_next : (x : stmt.BStmt) → i < length stmts → x ≡ get_or stmts i x → (new : ConditionsBuilder) → new ≡ built_stmt n (stmt_of x) b → Left stmts (i + 1) before new
     left_next x lt is new made =
         let at = next_item stmts i x lt is in
         let e : slots (stmts_of (drop i stmts)) ≡ slots_stmt (stmt_of x) + slots (stmts_of (drop (i + 1) stmts)) = ap (λ xs. slots (stmts_of xs)) at in
-        let next : new.next ≡ b.next + slots_stmt (stmt_of x) = ap (λ (z : Builder). z.next) made ∙ next_stmt n (stmt_of x) b b.next refl in
+        let next : new.next ≡ b.next + slots_stmt (stmt_of x) = ap (λ (z : ConditionsBuilder). z.next) made ∙ next_stmt n (stmt_of x) b b.next refl in
         record {
           same = ap (λ z. built n (stmts_of (drop (i + 1) stmts)) z) made ∙ ap (λ xs. built n (stmts_of xs) b) (sym at) ∙ left.same;
           room = omega (arith, e, next, left.room);
@@ -115,16 +115,16 @@ module _ (n : ℕ) (e : expr.BExpr) (a o : Vec stmt.BStmt Global) (x : stmt.BStm
   if_slots : slots_stmt (stmt_of x) ≡ 0 + (slots (stmts_of xs) + slots (stmts_of ys))
   if_slots = let same = ap slots_stmt (if_is e a o x xs ys is first second) in omega (arith, same)
 
-  pub if_room_first : (old b1 b2 : Builder) → old.next + slots_stmt (stmt_of x) ≤ n → b1.next ≡ old.next → b2.next ≡ b1.next → b2.next + slots (stmts_of xs) ≤ n
+  pub if_room_first : (old b1 b2 : ConditionsBuilder) → old.next + slots_stmt (stmt_of x) ≤ n → b1.next ≡ old.next → b2.next ≡ b1.next → b2.next + slots (stmts_of xs) ≤ n
   if_room_first old b1 b2 room e1 e2 = room_first n old.next b2.next 0 (stmt_of x) (stmts_of xs) (stmts_of ys) if_slots room (omega (arith, e1, e2))
 
-  pub if_room_second : (old b1 b2 b3 b4 : Builder) → old.next + slots_stmt (stmt_of x) ≤ n → b1.next ≡ old.next → b2.next ≡ b1.next → b3 ≡ built n (stmts_of xs) b2 → b4.next ≡ b3.next →
+  pub if_room_second : (old b1 b2 b3 b4 : ConditionsBuilder) → old.next + slots_stmt (stmt_of x) ≤ n → b1.next ≡ old.next → b2.next ≡ b1.next → b3 ≡ built n (stmts_of xs) b2 → b4.next ≡ b3.next →
       b4.next + slots (stmts_of ys) ≤ n
   if_room_second old b1 b2 b3 b4 room e1 e2 e3 e4 =
-      let grown = ap (λ (z : Builder). z.next) e3 ∙ next_block n (stmts_of xs) b2 b2.next refl in
+      let grown = ap (λ (z : ConditionsBuilder). z.next) e3 ∙ next_block n (stmts_of xs) b2 b2.next refl in
       room_second n old.next b2.next b4.next 0 (stmt_of x) (stmts_of xs) (stmts_of ys) if_slots room (omega (arith, e1, e2)) (e4 ∙ grown)
 
-  pub if_made : (b0 b1 new : Builder) (c : ℕ) → c ≡ fresh n b0 → b1 ≡ define (lifted (named b0) (expr_of e)) b0 →
+  pub if_made : (b0 b1 new : ConditionsBuilder) (c : ℕ) → c ≡ fresh n b0 → b1 ≡ define (lifted (named b0) (expr_of e)) b0 →
       new ≡ fork n c (λ z. built n (stmts_of xs) z) (λ z. built n (stmts_of ys) z) b1 → new ≡ built_stmt n (stmt_of x) b0
   if_made b0 b1 new c name goes made =
       made ∙ (λ i. fork n (name i) (λ z. built n (stmts_of xs) z) (λ z. built n (stmts_of ys) z) (goes i))
@@ -135,19 +135,19 @@ module _ (n : ℕ) (a o : Vec stmt.BStmt Global) (x : stmt.BStmt) (xs ys : List 
   either_slots : slots_stmt (stmt_of x) ≡ 1 + (slots (stmts_of xs) + slots (stmts_of ys))
   either_slots = ap slots_stmt (either_is a o x xs ys is first second)
 
-  pub either_room : (old : Builder) → old.next + slots_stmt (stmt_of x) ≤ n → old.next < n
+  pub either_room : (old : ConditionsBuilder) → old.next + slots_stmt (stmt_of x) ≤ n → old.next < n
   either_room old room = let same = either_slots in omega (arith, same, room)
 
-  pub either_room_first : (old b1 b2 : Builder) → old.next + slots_stmt (stmt_of x) ≤ n → b1.next ≡ old.next + 1 → b2.next ≡ b1.next → b2.next + slots (stmts_of xs) ≤ n
+  pub either_room_first : (old b1 b2 : ConditionsBuilder) → old.next + slots_stmt (stmt_of x) ≤ n → b1.next ≡ old.next + 1 → b2.next ≡ b1.next → b2.next + slots (stmts_of xs) ≤ n
   either_room_first old b1 b2 room e1 e2 = room_first n old.next b2.next 1 (stmt_of x) (stmts_of xs) (stmts_of ys) either_slots room (e2 ∙ e1)
 
-  pub either_room_second : (old b1 b2 b3 b4 : Builder) → old.next + slots_stmt (stmt_of x) ≤ n → b1.next ≡ old.next + 1 → b2.next ≡ b1.next → b3 ≡ built n (stmts_of xs) b2 → b4.next ≡ b3.next →
+  pub either_room_second : (old b1 b2 b3 b4 : ConditionsBuilder) → old.next + slots_stmt (stmt_of x) ≤ n → b1.next ≡ old.next + 1 → b2.next ≡ b1.next → b3 ≡ built n (stmts_of xs) b2 → b4.next ≡ b3.next →
       b4.next + slots (stmts_of ys) ≤ n
   either_room_second old b1 b2 b3 b4 room e1 e2 e3 e4 =
-      let grown = ap (λ (z : Builder). z.next) e3 ∙ next_block n (stmts_of xs) b2 b2.next refl in
+      let grown = ap (λ (z : ConditionsBuilder). z.next) e3 ∙ next_block n (stmts_of xs) b2 b2.next refl in
       room_second n old.next b2.next b4.next 1 (stmt_of x) (stmts_of xs) (stmts_of ys) either_slots room (e2 ∙ e1) (e4 ∙ grown)
 
-  pub either_made : (b0 b1 new : Builder) (c : ℕ) → c ≡ b0.next → b1 ≡ record b0 { next = b0.next + 1 } →
+  pub either_made : (b0 b1 new : ConditionsBuilder) (c : ℕ) → c ≡ b0.next → b1 ≡ record b0 { next = b0.next + 1 } →
       new ≡ fork n c (λ z. built n (stmts_of xs) z) (λ z. built n (stmts_of ys) z) b1 → new ≡ built_stmt n (stmt_of x) b0
   either_made b0 b1 new c name goes made =
       made ∙ (λ i. fork n (name i) (λ z. built n (stmts_of xs) z) (λ z. built n (stmts_of ys) z) (goes i))

@@ -26,7 +26,7 @@ use Rattle.boogie_formula.specs.Follows.{ConditionsFollow, Follows}
 use Rattle.boogie_formula.specs.declared.formulas.Fail.{Fail}
 use Rattle.boogie_wp.specs.Labels.{same_label}
 use Rattle.boogie_wp.specs.Worked.{here}
-use Rattle.boogie_wp.specs.Build.{Builder, numbers, started, conditions_for, formula_for, built, Chain, one_more, chained, chain_from}
+use Rattle.boogie_wp.specs.Build.{ConditionsBuilder, numbers, started, conditions_for, formula_for, built, Chain, one_more, chained, chain_from}
 use Rattle.boogie_wp.proofs.Total.{Point, total}
 use Rattle.boogie_wp.proofs.TotalLaws.{Owns, from, Ends, Matches, done, failed, other, awake}
 use Rattle.boogie_wp.proofs.NameLaws.{Kept, kept_more, Holds, no_names, named_so, Names, names_more, at_new, Truly, Says, Truths, no_truths, truth_so, truths_kept, truth_at, fails_among, or_assoc, among_true, among_there, says_var, says_or, says_not, says_value, says_kind}
@@ -230,7 +230,7 @@ module _ (d : Proc) (label : Label) (typed : IsTypedProc d) where
   abbrev pub last : List BValue → Point
   last values = total label values d.body (length ls) (from (locals_in d values))
 
-  abbrev builder : Builder
+  abbrev builder : ConditionsBuilder
   builder = built (length (variables_of d)) d.body (started (variables_of d) ls)
 
   module _ (values : List BValue) (h : IsEnvironment (variables_of d) values) where

@@ -16,7 +16,7 @@ use Rattle.boogie_formula.specs.Choices.{own_types, slots, slots_stmt, variables
 use Rattle.boogie_formula.specs.Printable.{FitsScalar, FitKeys, FitsValue, scalar, update, FitLets, NamesDefinition, IsPrintableConditions, IsPrintableFormula}
 use Rattle.boogie_wp.specs.Labels.{same_label}
 use Rattle.boogie_wp.specs.Lifted.{lifted, lifted_all}
-use Rattle.boogie_wp.specs.Build.{Builder, number_at, named, fresh, define, store, choose, go_where, failing, assume, check, Merged, merge, join, back, fork, built_stmt, built, numbers, started, conditions_for, formula_for, Chain, one_more as next_link, linked, chained, chain_from}
+use Rattle.boogie_wp.specs.Build.{ConditionsBuilder, number_at, named, fresh, define, store, choose, go_where, failing, assume, check, Merged, merge, join, back, fork, built_stmt, built, numbers, started, conditions_for, formula_for, Chain, one_more as next_link, linked, chained, chain_from}
 use Rattle.boogie_wp.proofs.LiftLaws.{plain_lifted, plain_lifted_all}
 use Rattle.boogie_wp.proofs.TotalLaws.{slots_own}
 use Rattle.boogie_wp.proofs.BuildLaws.{next_stmt, next_block}
@@ -96,13 +96,13 @@ between_more : (n m k : ℕ) (fs : List Fail) → m ≤ k → All (Between n m) 
 between_more n m k fs le h = All-weaker (Between n m) (Between n k) (λ a g. let lt = g.there in record { behind = g.behind; there = omega (arith, le, lt) }) fs h
 
 module _ (n : ℕ) where
-  record Fits (b : Builder) : Type 0 where
+  record Fits (b : ConditionsBuilder) : Type 0 where
     lets : FitLets n b.lets
     versions : Below b.versions (n + length b.lets)
     path : b.path < n + length b.lets
     fails : All (Between n (n + length b.lets)) b.fails
 
-  fits_define : (e : FExpr) (b : Builder) → FitsValue (n + length b.lets) e → Fits b → Fits (define e b)
+  fits_define : (e : FExpr) (b : ConditionsBuilder) → FitsValue (n + length b.lets) e → Fits b → Fits (define e b)
   fits_define e b v h =
       let more = one_more n b.lets e in
       record {
@@ -112,15 +112,15 @@ module _ (n : ℕ) where
         fails = between_more n (n + length b.lets) (n + length (b.lets ++ e ∷ [])) b.fails (omega (arith, more)) h.fails;
       }
 
-  new_below : (e : FExpr) (b : Builder) → n + length b.lets < n + length (b.lets ++ e ∷ [])
+  new_below : (e : FExpr) (b : ConditionsBuilder) → n + length b.lets < n + length (b.lets ++ e ∷ [])
   new_below e b = let more = one_more n b.lets e in omega (arith, more)
 
-  fits_store : (i : ℕ) (e : FExpr) (b : Builder) → FitsValue (n + length b.lets) e → Fits b → Fits (store n i e b)
+  fits_store : (i : ℕ) (e : FExpr) (b : ConditionsBuilder) → FitsValue (n + length b.lets) e → Fits b → Fits (store n i e b)
   fits_store i e b v h =
       let d = fits_define e b v h in
       record { lets = d.lets; versions = below_set b.versions i (fresh n b) (n + length (b.lets ++ e ∷ [])) d.versions (new_below e b); path = d.path; fails = d.fails }
 
-  fits_choose : (i : ℕ) (b : Builder) → b.next < n → Fits b → Fits (choose i b)
+  fits_choose : (i : ℕ) (b : ConditionsBuilder) → b.next < n → Fits b → Fits (choose i b)
   fits_choose i b lt h =
       record { lets = h.lets; versions = below_set b.versions i b.next (n + length b.lets) h.versions (omega (arith, lt)); path = h.path; fails = h.fails }
 
@@ -133,22 +133,22 @@ module _ (n : ℕ) where
   bin_fits : {k : ℕ} {e g : FExpr} (o : _) → FitsScalar k e → FitsScalar k g → FitsScalar k (f.Bin o e g)
   bin_fits o a b = record { tree = t.Bin o a.tree b.tree; is = rw (a.is, b.is) refl; fits = (a.fits, b.fits) }
 
-  fits_where : (e : FExpr) (b : Builder) → FitsScalar (n + length b.lets) e → Fits b → Fits (go_where n e b)
+  fits_where : (e : FExpr) (b : ConditionsBuilder) → FitsScalar (n + length b.lets) e → Fits b → Fits (go_where n e b)
   fits_where e b v h =
       let d = fits_define (f.Bin op.And (f.Var b.path) e) b (scalar (bin_fits op.And (var_fits h.path) v)) h in
       record { lets = d.lets; versions = d.versions; path = new_below (f.Bin op.And (f.Var b.path) e) b; fails = d.fails }
 
-  fits_failing : (l : Label) (c : ℕ) (b : Builder) → c < n + length b.lets → Fits b → Fits (failing n l c b)
+  fits_failing : (l : Label) (c : ℕ) (b : ConditionsBuilder) → c < n + length b.lets → Fits b → Fits (failing n l c b)
   fits_failing l c b lt h =
       let e = f.Bin op.And (f.Var b.path) (f.Not (f.Var c)) in
       let d = fits_define e b (scalar (bin_fits op.And (var_fits h.path) (not_fits (var_fits lt)))) h in
       let m = n + length (b.lets ++ e ∷ []) in
       record { lets = d.lets; versions = d.versions; path = d.path; fails = All-push (Between n m) b.fails _ d.fails (record { behind = omega (arith); there = new_below e b }) }
 
-  fits_assume : (e : FExpr) (b : Builder) → FitsScalar (n + length b.lets) e → Fits b → Fits (assume n e b)
+  fits_assume : (e : FExpr) (b : ConditionsBuilder) → FitsScalar (n + length b.lets) e → Fits b → Fits (assume n e b)
   fits_assume e b v h = fits_where (f.Var (fresh n b)) (define e b) (var_fits (new_below e b)) (fits_define e b (scalar v) h)
 
-  fits_check : (l : Label) (e : FExpr) (b : Builder) → FitsScalar (n + length b.lets) e → Fits b → Fits (check n l e b)
+  fits_check : (l : Label) (e : FExpr) (b : ConditionsBuilder) → FitsScalar (n + length b.lets) e → Fits b → Fits (check n l e b)
   fits_check l e b v h =
       let c = fresh n b in
       let d = define e b in
@@ -187,7 +187,7 @@ module _ (n : ℕ) where
       (record { longer = x.longer; lets = x.lets; versions = below_cons w _ _ (omega (arith, second, x.longer)) x.versions })
       (record { longer = omega (arith, more, y.longer); lets = y.lets; versions = below_cons (n + length lets) _ _ (omega (arith, more, y.longer)) y.versions })
 
-  fits_join : (c : ℕ) (versions : List ℕ) (path : ℕ) (y : Builder) → c < n + length y.lets → Below versions (n + length y.lets) → path < n + length y.lets → Fits y → Fits (join n c versions path y)
+  fits_join : (c : ℕ) (versions : List ℕ) (path : ℕ) (y : ConditionsBuilder) → c < n + length y.lets → Below versions (n + length y.lets) → path < n + length y.lets → Fits y → Fits (join n c versions path y)
   fits_join c versions path y lt h p g =
       let e = f.Bin op.Or (f.Var path) (f.Var y.path) in
       let more = one_more n y.lets e in
@@ -203,15 +203,15 @@ module _ (n : ℕ) where
 
   -- ---- statements
 
-  record Grows (b c : Builder) : Type 0 where
+  record Grows (b c : ConditionsBuilder) : Type 0 where
     fits : Fits c
     longer : length b.lets ≤ length c.lets
 
   one_longer : (lets : List FExpr) (e : FExpr) → length (lets ++ e ∷ []) ≡ suc (length lets)
   one_longer lets e = let a = length-append lets (e ∷ []) in let b : length (e ∷ []) ≡ 1 = refl in omega (arith, a, b)
 
-  fork_grows : (c : ℕ) (left right : Builder → Builder) (b : Builder) → c < n + length b.lets → Fits b → ((z : Builder) → z.next ≡ b.next → Fits z → Grows z (left z)) →
-      ((z : Builder) → z.next ≡ (left (go_where n (f.Var c) b)).next → Fits z → Grows z (right z)) → Grows b (fork n c left right b)
+  fork_grows : (c : ℕ) (left right : ConditionsBuilder → ConditionsBuilder) (b : ConditionsBuilder) → c < n + length b.lets → Fits b → ((z : ConditionsBuilder) → z.next ≡ b.next → Fits z → Grows z (left z)) →
+      ((z : ConditionsBuilder) → z.next ≡ (left (go_where n (f.Var c) b)).next → Fits z → Grows z (right z)) → Grows b (fork n c left right b)
   fork_grows c left right b lt h grow more =
       let start = go_where n (f.Var c) b in
       let x = grow start refl (fits_where (f.Var c) b (var_fits lt) h) in
@@ -250,13 +250,13 @@ module _ (n : ℕ) where
           let y = merge_longer c vs ws (lets ++ e ∷ []) in
           if_long (nat_eq v w) (length lets) _ _ x (omega (arith, long, y))
 
-  where_grows : (e : FExpr) (b : Builder) → FitsScalar (n + length b.lets) e → Fits b → Grows b (assume n e b)
+  where_grows : (e : FExpr) (b : ConditionsBuilder) → FitsScalar (n + length b.lets) e → Fits b → Grows b (assume n e b)
   where_grows e b v h =
       let first = one_longer b.lets e in
       let second = one_longer (b.lets ++ e ∷ []) (f.Bin op.And (f.Var b.path) (f.Var (fresh n b))) in
       record { fits = fits_assume e b v h; longer = omega (arith, first, second) }
 
-  check_grows : (l : Label) (e : FExpr) (b : Builder) → FitsScalar (n + length b.lets) e → Fits b → Grows b (check n l e b)
+  check_grows : (l : Label) (e : FExpr) (b : ConditionsBuilder) → FitsScalar (n + length b.lets) e → Fits b → Grows b (check n l e b)
   check_grows l e b v h =
       let c = fresh n b in
       let first = one_longer b.lets e in
@@ -265,12 +265,12 @@ module _ (n : ℕ) where
       let third = one_longer (lets ++ f.Bin op.And (f.Var b.path) (f.Not (f.Var c)) ∷ []) (f.Bin op.And (f.Var b.path) (f.Var c)) in
       record { fits = fits_check l e b v h; longer = omega (arith, first, second, third) }
 
-  store_grows : (i : ℕ) (e : FExpr) (b : Builder) → FitsValue (n + length b.lets) e → Fits b → Grows b (store n i e b)
+  store_grows : (i : ℕ) (e : FExpr) (b : ConditionsBuilder) → FitsValue (n + length b.lets) e → Fits b → Grows b (store n i e b)
   store_grows i e b v h = let long = one_longer b.lets e in record { fits = fits_store i e b v h; longer = omega (arith, long) }
 
   module _ (m : ℕ) where
     mutual
-      stmt_fits : (x : s.BStmt) → FitsStmt m x → (b : Builder) (k : ℕ) → b.next ≡ k → k + slots_stmt x ≤ n → Fits b → Grows b (built_stmt n x b)
+      stmt_fits : (x : s.BStmt) → FitsStmt m x → (b : ConditionsBuilder) (k : ℕ) → b.next ≡ k → k + slots_stmt x ≤ n → Fits b → Grows b (built_stmt n x b)
       stmt_fits (s.Assign i e) w b k next room h = store_grows i (lifted (named b) e) b (scalar (lifted_fits m (n + length b.lets) (named b) h.versions e w.1)) h
       stmt_fits (s.Put i es e) w b k next room h =
           store_grows i (f.With (f.Var (named b i)) (lifted_all (named b) es) (lifted (named b) e)) b
@@ -287,7 +287,7 @@ module _ (n : ℕ) where
           (λ z same g. block_fits ys w.2 z (k + slots xs) (same ∙ next_block n xs (go_where n (f.Var (fresh n b)) c) k next) (omega (arith, room)) g) in
           record { fits = fork.fits; longer = omega (arith, long, fork.longer) }
       stmt_fits (s.Either xs ys) w b k next room h =
-          let c : Builder = record b { next = b.next + 1 } in
+          let c : ConditionsBuilder = record b { next = b.next + 1 } in
           let there : b.next < n + length b.lets = omega (arith, next, room) in
           let one : b.next + 1 ≡ k + 1 = ap (λ z. z + 1) next in
           let fork = fork_grows b.next (λ z. built n xs z) (λ z. built n ys z) c there (record { lets = h.lets; versions = h.versions; path = h.path; fails = h.fails })
@@ -295,7 +295,7 @@ module _ (n : ℕ) where
           (λ z same g. block_fits ys w.1 z (k + 1 + slots xs) (same ∙ next_block n xs (go_where n (f.Var b.next) c) (k + 1) one) (omega (arith, room)) g) in
           record { fits = fork.fits; longer = fork.longer }
 
-      block_fits : (xs : s.BStmts) → FitStmts m xs → (b : Builder) (k : ℕ) → b.next ≡ k → k + slots xs ≤ n → Fits b → Grows b (built n xs b)
+      block_fits : (xs : s.BStmts) → FitStmts m xs → (b : ConditionsBuilder) (k : ℕ) → b.next ≡ k → k + slots xs ≤ n → Fits b → Grows b (built n xs b)
       block_fits s.skip w b k next room h = record { fits = h; longer = omega (arith) }
       block_fits (s.first x xs) w b k next room h =
           let a = stmt_fits x w.0 b k next (omega (arith, room)) h in
@@ -316,7 +316,7 @@ starts_fit vars ls le =
     }
 
 module _ (d : Proc) (typed : IsTypedProc d) (fits : FitStmts (length d.locals) d.body) where
-  abbrev end : Builder
+  abbrev end : ConditionsBuilder
   end = built (length (variables_of d)) d.body (started (variables_of d) (types_of d))
 
   end_fits : Fits (length (variables_of d)) end

@@ -15,7 +15,7 @@ use Rattle.boogie_formula.specs.Follows.{AreExact, ConditionsFollow, Follows, Is
 use Rattle.boogie_formula.specs.Formula.{Conditions, Formula}
 use Rattle.boogie_formula.specs.Printable.{IsPrintableConditions, IsPrintableFormula}
 use Rattle.boogie_formula.specs.Types.{IsTypedConditions, IsTypedFormula}
-use Rattle.boogie_wp.specs.Build.{Builder, finished, conditions_for, formula_for, started, built}
+use Rattle.boogie_wp.specs.Build.{ConditionsBuilder, finished, conditions_for, formula_for, started, built}
 use Rattle.boogie_wp.specs.View.{types_in}
 use Rattle.boogie_wp.proofs.FormulaLaws.{conditions_follow, conditions_typed, follows, formula_typed}
 use Rattle.boogie_wp.proofs.PlacedLaws.{are_exact, exact}
@@ -35,7 +35,7 @@ room_there d typed vars is n next locals body long locals_is body_is next_is =
     let e = length-append ls (own_types ls xs) in
     omega (arith, a, b, c, e)
 
-pub conditions_are : (d : Proc) (vars : List p.BType) (n : ℕ) (locals : List Local) (body : List stmt.BStmt) (b0 b1 : Builder) → vars ≡ variables_of (proc_of d) → length vars ≡ n →
+pub conditions_are : (d : Proc) (vars : List p.BType) (n : ℕ) (locals : List Local) (body : List stmt.BStmt) (b0 b1 : ConditionsBuilder) → vars ≡ variables_of (proc_of d) → length vars ≡ n →
     locals ≡ d.locals.items → body ≡ d.body.items → b0 ≡ started vars (types_in locals) → b1 ≡ built n (stmts_of body) b0 → finished vars b1 ≡ conditions_for (proc_of d)
 conditions_are d vars n locals body b0 b1 is long locals_is body_is start made =
     ap (finished vars) (made ∙ ap (λ z. built n (stmts_of body) z) start)

@@ -13,7 +13,7 @@ use Rattle.boogie_formula.specs.declared.formulas.Fail.{Fail}
 use Rattle.boogie_wp.specs.Labels.{same_label}
 use Rattle.boogie_wp.specs.Lifted.{lifted, lifted_all}
 
-pub record Builder : Type 0 where
+pub record ConditionsBuilder : Type 0 where
   pub lets : List FExpr
   -- the name that holds each local's value
   pub versions : List ℕ
@@ -28,42 +28,42 @@ pub record Builder : Type 0 where
 abbrev pub number_at : List ℕ → ℕ → ℕ
 number_at js i = unwrap_or (slice_get js i) 0
 
-abbrev pub named : Builder → ℕ → ℕ
+abbrev pub named : ConditionsBuilder → ℕ → ℕ
 named b i = number_at b.versions i
 
 -- the name of the next definition, where there are n variables
-abbrev pub fresh : ℕ → Builder → ℕ
+abbrev pub fresh : ℕ → ConditionsBuilder → ℕ
 fresh n b = n + length b.lets
 
 -- ---- steps
 
-abbrev pub define : FExpr → Builder → Builder
+abbrev pub define : FExpr → ConditionsBuilder → ConditionsBuilder
 define e b = record b { lets = b.lets ++ e ∷ [] }
 
 -- a local gets the value
-abbrev pub store : ℕ → ℕ → FExpr → Builder → Builder
+abbrev pub store : ℕ → ℕ → FExpr → ConditionsBuilder → ConditionsBuilder
 store n i e b = record b { lets = b.lets ++ e ∷ []; versions = slice_set b.versions i (fresh n b) }
 
 -- a local gets the value of the next variable
-abbrev pub choose : ℕ → Builder → Builder
+abbrev pub choose : ℕ → ConditionsBuilder → ConditionsBuilder
 choose i b = record b { versions = slice_set b.versions i b.next; next = b.next + 1 }
 
 -- the run comes further only where this is true
-abbrev pub go_where : ℕ → FExpr → Builder → Builder
+abbrev pub go_where : ℕ → FExpr → ConditionsBuilder → ConditionsBuilder
 go_where n e b = record b { lets = b.lets ++ f.Bin op.And (f.Var b.path) e ∷ []; path = fresh n b }
 
 -- the assertion with this label fails where the run comes here and the condition is false
-abbrev pub failing : ℕ → Label → ℕ → Builder → Builder
+abbrev pub failing : ℕ → Label → ℕ → ConditionsBuilder → ConditionsBuilder
 failing n l c b = record b {
   lets = b.lets ++ f.Bin op.And (f.Var b.path) (f.Not (f.Var c)) ∷ [];
   fails = b.fails ++ record { label = l; name = fresh n b } ∷ [];
 }
 
 -- the condition is a definition of its own
-abbrev pub assume : ℕ → FExpr → Builder → Builder
+abbrev pub assume : ℕ → FExpr → ConditionsBuilder → ConditionsBuilder
 assume n e b = go_where n (f.Var (fresh n b)) (define e b)
 
-abbrev pub check : ℕ → Label → FExpr → Builder → Builder
+abbrev pub check : ℕ → Label → FExpr → ConditionsBuilder → ConditionsBuilder
 check n l e b = go_where n (f.Var (fresh n b)) (failing n l (fresh n b) (define e b))
 
 -- ---- branches
@@ -83,19 +83,19 @@ merge n c (v ∷ vs) (w ∷ ws) lets =
     if nat_eq v w then behind w (merge n c vs ws lets)
     else behind (n + length lets) (merge n c vs ws (lets ++ f.If (f.Var c) (f.Var v) (f.Var w) ∷ []))
 
-abbrev pub with_merged : ℕ → Builder → Merged → Builder
+abbrev pub with_merged : ℕ → ConditionsBuilder → Merged → ConditionsBuilder
 with_merged path y m = record y { versions = m.versions; lets = m.lets; path = path }
 
 -- after both branches, by the names and the path of the first
-abbrev pub join : ℕ → ℕ → List ℕ → ℕ → Builder → Builder
+abbrev pub join : ℕ → ℕ → List ℕ → ℕ → ConditionsBuilder → ConditionsBuilder
 join n c versions path y =
     with_merged (fresh n y) y (merge n c versions y.versions (y.lets ++ f.Bin op.Or (f.Var path) (f.Var y.path) ∷ []))
 
 -- the second branch begins with the names and the path with which the first one began
-abbrev pub back : ℕ → ℕ → Builder → Builder → Builder
+abbrev pub back : ℕ → ℕ → ConditionsBuilder → ConditionsBuilder → ConditionsBuilder
 back n c b x = go_where n (f.Not (f.Var c)) (record x { versions = b.versions; path = b.path })
 
-abbrev pub fork : ℕ → ℕ → (Builder → Builder) → (Builder → Builder) → Builder → Builder
+abbrev pub fork : ℕ → ℕ → (ConditionsBuilder → ConditionsBuilder) → (ConditionsBuilder → ConditionsBuilder) → ConditionsBuilder → ConditionsBuilder
 fork n c first second b =
     let x = first (go_where n (f.Var c) b) in
     join n c x.versions x.path (second (back n c b x))
@@ -103,7 +103,7 @@ fork n c first second b =
 -- ---- statements
 
 abbrev mutual
-  pub built_stmt : ℕ → s.BStmt → Builder → Builder
+  pub built_stmt : ℕ → s.BStmt → ConditionsBuilder → ConditionsBuilder
   built_stmt n (s.Assign i e) b = store n i (lifted (named b) e) b
   built_stmt n (s.Put i es e) b = store n i (f.With (f.Var (named b i)) (lifted_all (named b) es) (lifted (named b) e)) b
   built_stmt n (s.Havoc i) b = choose i b
@@ -112,7 +112,7 @@ abbrev mutual
   built_stmt n (s.If e xs ys) b = fork n (fresh n b) (λ c. built n xs c) (λ c. built n ys c) (define (lifted (named b) e) b)
   built_stmt n (s.Either xs ys) b = fork n b.next (λ c. built n xs c) (λ c. built n ys c) (record b { next = b.next + 1 })
 
-  pub built : ℕ → s.BStmts → Builder → Builder
+  pub built : ℕ → s.BStmts → ConditionsBuilder → ConditionsBuilder
   built n s.skip b = b
   built n (s.first x xs) b = built n xs (built_stmt n x b)
 
@@ -124,7 +124,7 @@ numbers m [] = []
 numbers m (x ∷ xs) = m ∷ numbers (m + 1) xs
 
 -- the run comes to the first statement
-abbrev pub started : List BType → List BType → Builder
+abbrev pub started : List BType → List BType → ConditionsBuilder
 started vars ls = record {
   lets = f.Bool true ∷ [];
   versions = numbers 0 ls;
@@ -133,7 +133,7 @@ started vars ls = record {
   next = length ls;
 }
 
-abbrev pub finished : List BType → Builder → Conditions
+abbrev pub finished : List BType → ConditionsBuilder → Conditions
 finished vars b = record { vars = vars; lets = b.lets; fails = b.fails }
 
 abbrev pub conditions_for : Proc → Conditions

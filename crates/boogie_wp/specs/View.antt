@@ -7,14 +7,14 @@ use Rattle.boogie_tree.specs.declared.programs.BType.{BType}
 use Rattle.boogie_tree.specs.declared.programs.Local.{Local}
 use Rattle.boogie_wp.specs.Build as b
 use Rattle.boogie_wp.specs.Changes.{begun}
-use Rattle.boogie_wp.specs.declared.builder.Builder.{Builder}
+use Rattle.boogie_wp.specs.declared.builder.ConditionsBuilder.{ConditionsBuilder}
 use Rattle.boogie_wp.specs.declared.chain.Chain.{Chain}
 
-abbrev pub builder_of : Builder → b.Builder
+abbrev pub builder_of : ConditionsBuilder → b.ConditionsBuilder
 builder_of x = record { lets = map fexpr_of x.lets.items; versions = x.names.versions.items; path = x.path; fails = x.fails.items; next = x.next }
 
 -- the names with which the branch began
-abbrev pub begun_of : Builder → List ℕ
+abbrev pub begun_of : ConditionsBuilder → List ℕ
 begun_of x = begun x.names
 
 -- the types of locals, and of variables

@@ -8,14 +8,20 @@ ghost use Rattle.boogie_wp.specs.Build as b;
 ghost use Rattle.boogie_wp.specs.Lifted.{lifted, lifted_all};
 ghost use Rattle.boogie_wp.specs.View.{begun_of, builder_of};
 
-use crate::builder::Builder;
+use crate::builder::ConditionsBuilder;
 use crate::lift::{lift, lift_all, name_of};
 use boogie_formula::FExpr;
 use boogie_tree::{BExpr, BStmt};
 use std::alloc::Global;
 use vb_base::{Label, Memory, boxed};
 
-fn assign(alloc: Global, n: usize, local: usize, e: &BExpr, to: &mut Builder) -> Result<(), Memory>
+fn assign(
+    alloc: Global,
+    n: usize,
+    local: usize,
+    e: &BExpr,
+    to: &mut ConditionsBuilder,
+) -> Result<(), Memory>
     requires { n < 2 ^ 63 }
     ensures goes { OnOk result (builder_of to.new ≡ b.store n local (lifted (b.named (builder_of to.old)) (expr_of e.now)) (builder_of to.old)) }
     ensures begun { OnOk result (begun_of to.new ≡ begun_of to.old) }
@@ -46,7 +52,7 @@ fn put(
     map: usize,
     index: &[BExpr],
     e: &BExpr,
-    to: &mut Builder,
+    to: &mut ConditionsBuilder,
 ) -> Result<(), Memory>
     requires { n < 2 ^ 63 }
     ensures goes { OnOk result (builder_of to.new ≡ b.store n map (f.With (f.Var (b.named (builder_of to.old) map))
@@ -58,7 +64,12 @@ fn put(
 }
 
 /// A definition of the condition. What is given back is its name.
-fn condition(alloc: Global, n: usize, e: &BExpr, to: &mut Builder) -> Result<usize, Memory>
+fn condition(
+    alloc: Global,
+    n: usize,
+    e: &BExpr,
+    to: &mut ConditionsBuilder,
+) -> Result<usize, Memory>
     requires { n < 2 ^ 63 }
     ensures name { IfOk result (λ c. c ≡ b.fresh n (builder_of to.old)) }
     ensures goes { OnOk result (builder_of to.new ≡ b.define (lifted (b.named (builder_of to.old)) (expr_of e.now)) (builder_of to.old)) }
@@ -70,7 +81,7 @@ fn condition(alloc: Global, n: usize, e: &BExpr, to: &mut Builder) -> Result<usi
     Ok(name)
 }
 
-fn assume(alloc: Global, n: usize, e: &BExpr, to: &mut Builder) -> Result<(), Memory>
+fn assume(alloc: Global, n: usize, e: &BExpr, to: &mut ConditionsBuilder) -> Result<(), Memory>
     requires { n < 2 ^ 63 }
     ensures goes { OnOk result (builder_of to.new ≡ b.assume n (lifted (b.named (builder_of to.old)) (expr_of e.now)) (builder_of to.old)) }
     ensures begun { OnOk result (begun_of to.new ≡ begun_of to.old) }
@@ -84,7 +95,7 @@ fn assertion(
     n: usize,
     label: &Label,
     e: &BExpr,
-    to: &mut Builder,
+    to: &mut ConditionsBuilder,
 ) -> Result<(), Memory>
     requires { n < 2 ^ 63 }
     ensures goes { OnOk result (builder_of to.new ≡ b.check n label.now (lifted (b.named (builder_of to.old)) (expr_of e.now)) (builder_of to.old)) }
@@ -97,7 +108,12 @@ fn assertion(
 
 /// The statement, where there are n variables.
 #[cycle(building)]
-fn build_stmt(alloc: Global, n: usize, stmt: &BStmt, to: &mut Builder) -> Result<(), Memory>
+fn build_stmt(
+    alloc: Global,
+    n: usize,
+    stmt: &BStmt,
+    to: &mut ConditionsBuilder,
+) -> Result<(), Memory>
     requires names { n < 2 ^ 63 }
     requires room { (builder_of to.old).next + slots_stmt (stmt_of stmt.now) ≤ n }
     ensures goes { OnOk result (builder_of to.new ≡ b.built_stmt n (stmt_of stmt.now) (builder_of to.old)) }
@@ -134,7 +150,7 @@ pub(crate) fn build(
     alloc: Global,
     n: usize,
     stmts: &[BStmt],
-    to: &mut Builder,
+    to: &mut ConditionsBuilder,
 ) -> Result<(), Memory>
     requires names { n < 2 ^ 63 }
     requires room { (builder_of to.old).next + slots (stmts_of stmts.now) ≤ n }

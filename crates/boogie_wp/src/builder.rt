@@ -7,7 +7,7 @@ ghost use Rattle.boogie_wp.specs.Build as b;
 ghost use Rattle.boogie_wp.specs.Changes.{changed, Chosen};
 ghost use Rattle.boogie_wp.specs.View.{begun_of, builder_of};
 
-use crate::names::{Change, Choice, Names};
+use crate::names::{BranchedLocal, LocalChange, LocalVersions};
 use boogie_formula::{FExpr, Fail};
 use boogie_tree::BOp;
 use std::alloc::Global;
@@ -16,9 +16,9 @@ use vb_base::{Label, Memory, boxed};
 
 /// The definitions so far, and the names that say how a run stands after the statements so far.
 #[derive(Drop)]
-pub(crate) struct Builder {
+pub(crate) struct ConditionsBuilder {
     pub(crate) lets: Vec<FExpr>,
-    pub(crate) names: Names,
+    pub(crate) names: LocalVersions,
     /// The name that says whether the run comes here.
     pub(crate) path: usize,
     /// The assertions so far, each with the name that says that it fails.
@@ -30,7 +30,7 @@ pub(crate) struct Builder {
 /// What a branch has changed so far, and the name of its path.
 #[derive(Drop)]
 pub(crate) struct Side {
-    pub(crate) changes: Vec<Change>,
+    pub(crate) changes: Vec<LocalChange>,
     pub(crate) path: usize,
 }
 
@@ -62,7 +62,7 @@ fn chosen(alloc: Global, condition: usize, first: usize, second: usize) -> Resul
     Ok(FExpr::If(condition, first, var(alloc, second)?))
 }
 
-impl Builder {
+impl ConditionsBuilder {
     /// The name of the next definition, where there are n variables.
     pub(crate) fn fresh(&self, n: usize) -> usize
         requires { n < 2 ^ 63 }
@@ -177,7 +177,7 @@ impl Builder {
         alloc: Global,
         n: usize,
         condition: usize,
-        choice: Choice,
+        choice: BranchedLocal,
     ) -> Result<(), Memory>
         requires { n < 2 ^ 63 }
         ensures goes { OnOk result (builder_of self.new ≡ (if nat_eq choice.first choice.second
@@ -198,7 +198,7 @@ impl Builder {
         alloc: Global,
         n: usize,
         condition: usize,
-        choices: &[Choice],
+        choices: &[BranchedLocal],
     ) -> Result<(), Memory>
         requires { n < 2 ^ 63 }
         ensures goes { (vs ws : List ℕ) → length vs ≡ length (builder_of self.old).versions → length ws ≡ length (builder_of self.old).versions
@@ -273,7 +273,7 @@ impl Builder {
         alloc: Global,
         n: usize,
         condition: usize,
-        before: Vec<Change>,
+        before: Vec<LocalChange>,
         first: Side,
     ) -> Result<(), Memory>
         requires { n < 2 ^ 63 }

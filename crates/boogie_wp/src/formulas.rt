@@ -12,9 +12,9 @@ ghost use Rattle.boogie_wp.specs.Build.{conditions_for, finished, formula_for, n
 ghost use Rattle.boogie_wp.specs.View.{builder_of, types_in, types_of_all};
 
 use crate::build::build;
-use crate::builder::Builder;
+use crate::builder::ConditionsBuilder;
 use crate::chain::ask;
-use crate::names::Names;
+use crate::names::LocalVersions;
 use crate::variables::variables;
 use boogie_formula::{Conditions, FExpr, Formula};
 use boogie_tree::{BProgram, BType, Local, Proc};
@@ -33,14 +33,14 @@ fn numbers_of(alloc: Global, locals: &[Local]) -> Result<Vec<usize>, Memory>
 }
 
 /// The run comes to the first statement. There are n variables.
-fn start(alloc: Global, n: usize, locals: &[Local]) -> Result<Builder, Memory>
+fn start(alloc: Global, n: usize, locals: &[Local]) -> Result<ConditionsBuilder, Memory>
     requires { n < 2 ^ 63 }
     ensures { (vars : List p.BType) → length vars ≡ n → IfOk result (λ x. builder_of x ≡ started vars (types_in locals.now)) }
 {
     let versions = numbers_of(alloc, locals)?;
-    let mut start = Builder {
+    let mut start = ConditionsBuilder {
         lets: Vec::new(alloc),
-        names: Names {
+        names: LocalVersions {
             versions,
             changes: Vec::new(alloc),
         },
@@ -52,7 +52,7 @@ fn start(alloc: Global, n: usize, locals: &[Local]) -> Result<Builder, Memory>
     Ok(start)
 }
 
-fn finish(vars: Vec<BType>, end: Builder) -> Conditions
+fn finish(vars: Vec<BType>, end: ConditionsBuilder) -> Conditions
     ensures { conditions_of result ≡ finished (types_of_all vars.items) (builder_of end) }
 {
     Conditions {

@@ -12,5 +12,5 @@ mod variables;
 pub mod worked;
 
 pub use boogie_formula::{Conditions, FExpr, Fail, Formula};
-pub use formula_text::{print_conditions, print_formula};
+pub use boogie_formula_text::{print_conditions, print_formula};
 pub use formulas::{conditions, conditions_of_procedure, formula};

@@ -10,14 +10,14 @@ use vb_base::Memory;
 
 /// A local, and the name that it had before a change, or that it has behind it.
 #[derive(Clone, Copy)]
-pub(crate) struct Change {
+pub(crate) struct LocalChange {
     pub(crate) local: usize,
     pub(crate) name: usize,
 }
 
 /// A local that a branch changes, and the names with which the two branches end.
 #[derive(Clone, Copy)]
-pub(crate) struct Choice {
+pub(crate) struct BranchedLocal {
     pub(crate) local: usize,
     pub(crate) first: usize,
     pub(crate) second: usize,
@@ -25,15 +25,15 @@ pub(crate) struct Choice {
 
 /// The names of the locals, and how they were when the branch began.
 #[derive(Drop)]
-pub(crate) struct Names {
+pub(crate) struct LocalVersions {
     /// The name that holds each local's value.
     pub(crate) versions: Vec<usize>,
     /// The changes since the branch began, each with the name before it.
-    pub(crate) changes: Vec<Change>,
+    pub(crate) changes: Vec<LocalChange>,
 }
 
 /// Adds the locals of the changes.
-fn add_locals(changes: &[Change], locals: &mut Vec<usize>) -> Result<(), Memory>
+fn add_locals(changes: &[LocalChange], locals: &mut Vec<usize>) -> Result<(), Memory>
     ensures { OnOk result (locals.new.items ≡ locals.old.items ++ map local_of changes.now) }
 {
     for change in changes {
@@ -52,7 +52,11 @@ fn sort_unique(numbers: &mut Vec<usize>)
 }
 
 /// The locals of both, in ascending order, each once.
-fn locals_of(alloc: Global, first: &[Change], second: &[Change]) -> Result<Vec<usize>, Memory>
+fn locals_of(
+    alloc: Global,
+    first: &[LocalChange],
+    second: &[LocalChange],
+) -> Result<Vec<usize>, Memory>
     ensures rises { IfOk result (λ locals. IsStrictlyIncreasing locals.items) }
     ensures keeps { (x : ℕ) → Contains (map local_of first.now ++ map local_of second.now) x → IfOk result (λ locals. Contains locals.items x) }
 {
@@ -64,13 +68,17 @@ fn locals_of(alloc: Global, first: &[Change], second: &[Change]) -> Result<Vec<u
 }
 
 /// Another name holds the value of the local. The one that did is added to `back`.
-fn exchange(versions: &mut Vec<usize>, change: Change, back: &mut Vec<Change>) -> Result<(), Memory>
+fn exchange(
+    versions: &mut Vec<usize>,
+    change: LocalChange,
+    back: &mut Vec<LocalChange>,
+) -> Result<(), Memory>
     ensures named { OnOk result (versions.new.items ≡ slice_set versions.old.items change.local change.name) }
     ensures back { OnOk result (changed back.new.items versions.new.items ≡ changed back.old.items versions.old.items) }
 {
     if let Some(version) = versions.get_mut(change.local) {
         let name = mem::replace(version, change.name);
-        back.push(Change {
+        back.push(LocalChange {
             local: change.local,
             name,
         })?;
@@ -78,7 +86,7 @@ fn exchange(versions: &mut Vec<usize>, change: Change, back: &mut Vec<Change>) -
     Ok(())
 }
 
-impl Names {
+impl LocalVersions {
     /// Another name holds the value of the local.
     pub(crate) fn rename(&mut self, local: usize, name: usize) -> Result<(), Memory>
         ensures named { OnOk result (self.new.versions.items ≡ slice_set self.old.versions.items local name) }
@@ -86,13 +94,13 @@ impl Names {
     {
         exchange(
             &mut self.versions,
-            Change { local, name },
+            LocalChange { local, name },
             &mut self.changes,
         )
     }
 
     /// The names with which the branch began are back. What is given back are the names with which it ended, the last change first.
-    pub(crate) fn undo(&mut self, alloc: Global) -> Result<Vec<Change>, Memory>
+    pub(crate) fn undo(&mut self, alloc: Global) -> Result<Vec<LocalChange>, Memory>
         ensures ends { IfOk result (λ ends. changed ends.items (begun self.old) ≡ self.old.versions.items) }
         ensures back { OnOk result (self.new.versions.items ≡ begun self.old) }
         ensures no_change { OnOk result (self.new.changes.items ≡ []) }
@@ -105,7 +113,7 @@ impl Names {
     }
 
     /// The names with which a branch ended are there again.
-    fn redo(&mut self, mut ends: Vec<Change>) -> Result<(), Memory>
+    fn redo(&mut self, mut ends: Vec<LocalChange>) -> Result<(), Memory>
         ensures named { OnOk result (self.new.versions.items ≡ changed ends.items self.old.versions.items) }
         ensures begun { OnOk result (begun self.new ≡ begun self.old) }
     {
@@ -116,13 +124,13 @@ impl Names {
     }
 
     /// The names of these locals.
-    fn ends(&self, alloc: Global, locals: &[usize]) -> Result<Vec<Change>, Memory>
+    fn ends(&self, alloc: Global, locals: &[usize]) -> Result<Vec<LocalChange>, Memory>
         ensures { IfOk result (λ ends. ends.items ≡ map (end_of self.now.versions.items) locals.now) }
     {
         let mut ends = Vec::with_capacity(alloc, locals.len())?;
         for local in locals {
             let name = name_of(&self.versions, *local);
-            ends.push(Change {
+            ends.push(LocalChange {
                 local: *local,
                 name,
             })?;
@@ -131,13 +139,13 @@ impl Names {
     }
 
     /// The names of the locals, each beside that with which the second branch ends.
-    fn beside(&self, alloc: Global, seconds: &[Change]) -> Result<Vec<Choice>, Memory>
+    fn beside(&self, alloc: Global, seconds: &[LocalChange]) -> Result<Vec<BranchedLocal>, Memory>
         ensures { IfOk result (λ choices. choices.items ≡ map (choice_of self.now.versions.items) seconds.now) }
     {
         let mut choices = Vec::with_capacity(alloc, seconds.len())?;
         for second in seconds {
             let first = name_of(&self.versions, second.local);
-            choices.push(Choice {
+            choices.push(BranchedLocal {
                 local: second.local,
                 first,
                 second: second.name,
@@ -151,8 +159,8 @@ impl Names {
     pub(crate) fn choices(
         &mut self,
         alloc: Global,
-        first: Vec<Change>,
-    ) -> Result<Vec<Choice>, Memory>
+        first: Vec<LocalChange>,
+    ) -> Result<Vec<BranchedLocal>, Memory>
         ensures chosen { IfOk result (λ choices. Chosen (begun self.old) (changed first.items (begun self.old)) self.old.versions.items 0 choices.items) }
         ensures back { OnOk result (self.new.versions.items ≡ begun self.old) }
     {

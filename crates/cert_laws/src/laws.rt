@@ -5,7 +5,7 @@ ghost use Rattle.vb_value.specs.Bound.{Bound};
 ghost use Rattle.viper_core.specs.Program as p;
 ghost use Rattle.boogie_tree.specs.Program.{BProgram};
 ghost use Rattle.boogie_grammar.specs.Spells.{BSpells};
-ghost use Rattle.exec_meaning.specs.Frame.{NoExecutionFails};
+ghost use Rattle.viper_exec_meaning.specs.Frame.{NoExecutionFails};
 ghost use Rattle.enc_units.specs.Translates.{Translates};
 ghost use Rattle.viper_file.specs.Accepted.{IsAccepted};
 ghost use Rattle.viper_file.specs.Framed.{IsFramed};

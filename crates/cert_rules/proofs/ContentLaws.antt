@@ -13,20 +13,20 @@ use Rattle.boogie_tree.specs.Values.{IsEnvironment}
 use Rattle.boogie_meaning.specs.Ends.{End, Is, Over, Wrong, then_with}
 use Rattle.boogie_meaning.specs.Operators.{leaf_int, leaf_bool, leaf_ref, leaf_perm}
 use Rattle.cert_terms.specs.Terms.{IsModel, HoldsIn, IsLaw}
-use Rattle.cert_terms.specs.declared.terms.Literal.{Literal}
-use Rattle.cert_terms.specs.declared.terms.Term.{Term}
+use Rattle.cert_terms.specs.declared.terms.ClauseLiteral.{ClauseLiteral}
+use Rattle.cert_terms.specs.declared.terms.CertificateTerm.{CertificateTerm}
 use Rattle.cert_terms.proofs.LiteralLaws.{holds_first}
 use Rattle.cert_rules.specs.Reasons.{yes, no, value_of, values_of, IsEquation, IsAmong, along, turned}
 use Rattle.cert_rules.specs.Heads.{applied, is_constructor, IsConstructed, IsPart}
-use Rattle.cert_rules.specs.declared.heads.Head.{Head}
-use Rattle.cert_rules.specs.declared.heads.Head.TheVariants as head
+use Rattle.cert_rules.specs.declared.heads.TermHead.{TermHead}
+use Rattle.cert_rules.specs.declared.heads.TermHead.TheVariants as head
 use Rattle.cert_rules.proofs.ClauseLaws.{holds_second}
 use Rattle.cert_rules.proofs.EquationLaws.{Compared, compared, same, other}
 use Rattle.cert_rules.proofs.EqualityLaws.{value_there}
 use Rattle.cert_rules.proofs.HeadLaws.{made_value}
 
 -- what a constructor makes of these values
-data Makes (values : List BValue) : Head → List (End BScalar) → BScalar → Type 0 where
+data Makes (values : List BValue) : TermHead → List (End BScalar) → BScalar → Type 0 where
   unit : Makes values head.Unit [] (Snap content.Unit)
   int : {n : _} → Makes values head.SInt (Is (Int n) ∷ []) (Snap (content.Leaf (leaf.Int n)))
   truth : {p : _} → Makes values head.SBool (Is (Bool p) ∷ []) (Snap (content.Leaf (leaf.Bool p)))
@@ -93,7 +93,7 @@ both_snaps values (Is (Real n)) Wrong v h = absurd (cc)
 both_snaps values Over f v h = absurd (cc)
 both_snaps values Wrong f v h = absurd (cc)
 
-makes : (values : List BValue) (h : Head) (es : List (End BScalar)) (v : BScalar) → is_constructor h ≡ true → applied values h es ≡ Is v → Makes values h es v
+makes : (values : List BValue) (h : TermHead) (es : List (End BScalar)) (v : BScalar) → is_constructor h ≡ true → applied values h es ≡ Is v → Makes values h es v
 makes values head.Unit [] v c e = subst (Makes values head.Unit []) (is_inj e) unit
 makes values head.Unit (x ∷ es) v c e = absurd (cc)
 makes values head.SInt [] v c e = absurd (cc)
@@ -128,7 +128,7 @@ part_in (Snap (content.Pair c d)) zero = Snap c
 part_in (Snap (content.Pair c d)) (suc i) = Snap d
 part_in v i = v
 
-abbrev head_in : BScalar → Head
+abbrev head_in : BScalar → TermHead
 head_in (Snap content.Unit) = head.Unit
 head_in (Snap (content.Leaf (leaf.Int n))) = head.SInt
 head_in (Snap (content.Leaf (leaf.Bool p))) = head.SBool
@@ -141,7 +141,7 @@ abbrev size : BScalar → ℕ
 size (Snap c) = nodes c
 size v = 0
 
-makes_head : {values : List BValue} {h : Head} {es : List (End BScalar)} {v : BScalar} → Makes values h es v → h ≡ head_in v
+makes_head : {values : List BValue} {h : TermHead} {es : List (End BScalar)} {v : BScalar} → Makes values h es v → h ≡ head_in v
 makes_head unit = refl
 makes_head int = refl
 makes_head truth = refl
@@ -149,7 +149,7 @@ makes_head ref = refl
 makes_head perm = refl
 makes_head pair = refl
 
-makes_part : {values : List BValue} {h : Head} {es : List (End BScalar)} {v : BScalar} → Makes values h es v → (i : ℕ) (e : End BScalar) → slice_get es i ≡ Some e → e ≡ Is (part_in v i)
+makes_part : {values : List BValue} {h : TermHead} {es : List (End BScalar)} {v : BScalar} → Makes values h es v → (i : ℕ) (e : End BScalar) → slice_get es i ≡ Some e → e ≡ Is (part_in v i)
 makes_part unit i e h = absurd (none_some h)
 makes_part int zero e h = some_turned h
 makes_part int (suc i) e h = absurd (none_some h)
@@ -168,7 +168,7 @@ positive content.Unit = omega arith
 positive (content.Leaf v) = omega arith
 positive (content.Pair c d) = omega arith
 
-makes_less : {values : List BValue} {h : Head} {es : List (End BScalar)} {v : BScalar} → Makes values h es v → (i : ℕ) (e : End BScalar) → slice_get es i ≡ Some e → size (part_in v i) < size v
+makes_less : {values : List BValue} {h : TermHead} {es : List (End BScalar)} {v : BScalar} → Makes values h es v → (i : ℕ) (e : End BScalar) → slice_get es i ≡ Some e → size (part_in v i) < size v
 makes_less unit i e h = absurd (none_some h)
 makes_less int i e h = omega arith
 makes_less truth i e h = omega arith
@@ -179,15 +179,15 @@ makes_less (pair {c = c} {d = d}) (suc i) e h = let a = positive c in omega arit
 
 -- ---- reasons
 
-module _ (terms : List Term) (types : List BType) (values : List BValue) (typed : IsEnvironment types values) (model : IsModel terms values) where
-  made_by : (l : Literal) (h : Head) (ps : List Literal) (v : BScalar) → IsConstructed terms l h ps → value_of values l ≡ Is v → Makes values h (values_of values ps) v
+module _ (terms : List CertificateTerm) (types : List BType) (values : List BValue) (typed : IsEnvironment types values) (model : IsModel terms values) where
+  made_by : (l : ClauseLiteral) (h : TermHead) (ps : List ClauseLiteral) (v : BScalar) → IsConstructed terms l h ps → value_of values l ≡ Is v → Makes values h (values_of values ps) v
   made_by l h ps v c e = makes values h (values_of values ps) v c.constructor (sym (made_value terms values model l h ps c.made) ∙ e)
 
-  part_value : (l : Literal) (h : Head) (ps : List Literal) (v : BScalar) → IsConstructed terms l h ps → value_of values l ≡ Is v → (i : ℕ) (a : Literal) (x : BScalar) → slice_get ps i ≡ Some a →
+  part_value : (l : ClauseLiteral) (h : TermHead) (ps : List ClauseLiteral) (v : BScalar) → IsConstructed terms l h ps → value_of values l ≡ Is v → (i : ℕ) (a : ClauseLiteral) (x : BScalar) → slice_get ps i ≡ Some a →
       value_of values a ≡ Is x → x ≡ part_in v i
   part_value l h ps v c e i a x there g = is_inj (makes_part (made_by l h ps v c e) i (Is x) (value_there terms types values ps i a x there g))
 
-  pub part_law : (e q : ℕ) (l r a b : Literal) (h g : Head) (ps qs : List Literal) → IsEquation terms types e l r → IsConstructed terms l h ps → IsConstructed terms r g qs →
+  pub part_law : (e q : ℕ) (l r a b : ClauseLiteral) (h g : TermHead) (ps qs : List ClauseLiteral) → IsEquation terms types e l r → IsConstructed terms l h ps → IsConstructed terms r g qs →
       IsEquation terms types q a b → IsAmong ps qs a b → HoldsIn values (no e ∷ yes q ∷ [])
   part_law e q l r a b h g ps qs o c d u s = by (compared terms types values typed model e l r o) (compared terms types values typed model q a b u) s
     where
@@ -199,7 +199,7 @@ module _ (terms : List Term) (types : List BType) (values : List BValue) (typed 
       by (same {v = v} y z t) (other {v = x} {w = w} p f n m k) (turned i there here) =
           absurd (n (part_value r g qs v d z i a x here p ∙ sym (part_value l h ps v c y i b w there f)))
 
-  pub apart_law : (e : ℕ) (l r : Literal) (h g : Head) (ps qs : List Literal) → IsEquation terms types e l r → IsConstructed terms l h ps → IsConstructed terms r g qs → (h ≡ g → ⊥) → HoldsIn values (no e ∷ [])
+  pub apart_law : (e : ℕ) (l r : ClauseLiteral) (h g : TermHead) (ps qs : List ClauseLiteral) → IsEquation terms types e l r → IsConstructed terms l h ps → IsConstructed terms r g qs → (h ≡ g → ⊥) → HoldsIn values (no e ∷ [])
   apart_law e l r h g ps qs o c d n = by (compared terms types values typed model e l r o)
     where
       by : Compared values e l r → HoldsIn values (no e ∷ [])
@@ -207,21 +207,21 @@ module _ (terms : List Term) (types : List BType) (values : List BValue) (typed 
       by (same {v = v} y z t) = absurd (n (makes_head (made_by l h ps v c y) ∙ sym (makes_head (made_by r g qs v d z))))
 
 -- the value of a part of a part, so many steps below a value
-pub record IsBelow (values : List BValue) (start at : Literal) (i : ℕ) (v : BScalar) : Type 0 where
+pub record IsBelow (values : List BValue) (start at : ClauseLiteral) (i : ℕ) (v : BScalar) : Type 0 where
   pub value : BScalar
   pub value_is : value_of values at ≡ Is value
   pub less : size value + i ≤ size v
 
 -- in every model it is
-abbrev pub AreBelow : List Term → List BType → Literal → Literal → ℕ → Type 0
+abbrev pub AreBelow : List CertificateTerm → List BType → ClauseLiteral → ClauseLiteral → ℕ → Type 0
 AreBelow terms types start at i =
     (values : List BValue) → IsEnvironment types values → IsModel terms values → (v : BScalar) → value_of values start ≡ Is v → IsBelow values start at i v
 
-module _ (terms : List Term) (types : List BType) where
-  pub below_none : (start : Literal) → AreBelow terms types start start 0
+module _ (terms : List CertificateTerm) (types : List BType) where
+  pub below_none : (start : ClauseLiteral) → AreBelow terms types start start 0
   below_none start values typed model v h = record { value = v; value_is = h; less = omega arith }
 
-  pub below_more : (start at next : Literal) (i place : ℕ) → AreBelow terms types start at i → IsPart terms at place next → AreBelow terms types start next (i + 1)
+  pub below_more : (start at next : ClauseLiteral) (i place : ℕ) → AreBelow terms types start at i → IsPart terms at place next → AreBelow terms types start next (i + 1)
   below_more start at next i place b p values typed model v h =
       let a = b values typed model v h in
       let m = made_by terms types values typed model at p.head p.parts a.value p.constructed a.value_is in
@@ -233,7 +233,7 @@ module _ (terms : List Term) (types : List BType) where
       sum_less : (x y i z : ℕ) → x < y → y + i ≤ z → x + (i + 1) ≤ z
       sum_less x y i z h g = omega arith
 
-  pub inside_law : (e : ℕ) (l r at : Literal) (i : ℕ) → IsEquation terms types e l r → AreBelow terms types r at i → 0 < i → at ≡ l → IsLaw terms types (no e ∷ [])
+  pub inside_law : (e : ℕ) (l r at : ClauseLiteral) (i : ℕ) → IsEquation terms types e l r → AreBelow terms types r at i → 0 < i → at ≡ l → IsLaw terms types (no e ∷ [])
   inside_law e l r at i o b lt s values typed model = by (compared terms types values typed model e l r o)
     where
       too_small : (x y : ℕ) → x ≡ y → x + i ≤ y → ⊥

@@ -11,11 +11,11 @@ use Rattle.boogie_tree.specs.Program.{BType}
 use Rattle.boogie_tree.specs.Value.{Key, BScalar, BValue}
 use Rattle.boogie_meaning.specs.Ends.{Is}
 use Rattle.cert_terms.specs.Terms.{IsTrueIn, HoldsIn, IsLaw}
-use Rattle.cert_terms.specs.declared.terms.Literal.{Literal}
-use Rattle.cert_terms.specs.declared.terms.Term.{Term}
+use Rattle.cert_terms.specs.declared.terms.ClauseLiteral.{ClauseLiteral}
+use Rattle.cert_terms.specs.declared.terms.CertificateTerm.{CertificateTerm}
 use Rattle.cert_rules.specs.Reasons.{yes, no, value_of, values_of, IsEquation, IsPlace, IsChange, IsLawUnless, IsAmong, along, turned}
 use Rattle.cert_rules.specs.Heads.{applied, key_of, IsMade}
-use Rattle.cert_rules.specs.declared.heads.Head.{Head}
+use Rattle.cert_rules.specs.declared.heads.TermHead.{TermHead}
 use Rattle.cert_rules.proofs.ClauseLaws.{holds_longer, holds_last, holds_second}
 use Rattle.cert_rules.proofs.EquationLaws.{Compared, compared, same, other}
 use Rattle.cert_rules.proofs.HeadLaws.{made_value}
@@ -23,16 +23,16 @@ use Rattle.cert_rules.proofs.PlaceLaws.{at_there, put_there, put_hit, put_miss, 
 use Rattle.cert_terms.proofs.LiteralLaws.{holds_first}
 
 -- an equation of these two, either way round
-abbrev pub IsBetween : Literal → Literal → Literal → Literal → Type 0
+abbrev pub IsBetween : ClauseLiteral → ClauseLiteral → ClauseLiteral → ClauseLiteral → Type 0
 IsBetween l r a b = ((l ≡ a) × (r ≡ b)) ⊎ ((l ≡ b) × (r ≡ a))
 
 module _ (values : List BValue) where
   -- an equation holds, or its sides have two values
-  pub one_value : (n : ℕ) (l r : Literal) → Compared values n l r → (value_of values l ≡ value_of values r) ⊎ IsTrueIn values (no n)
+  pub one_value : (n : ℕ) (l r : ClauseLiteral) → Compared values n l r → (value_of values l ≡ value_of values r) ⊎ IsTrueIn values (no n)
   one_value n l r (same p q y) = inl (p ∙ sym q)
   one_value n l r (other p q d y z) = inr z
 
-  pub between_value : (n : ℕ) (l r a b : Literal) → Compared values n l r → IsBetween l r a b → (value_of values a ≡ value_of values b) ⊎ IsTrueIn values (no n)
+  pub between_value : (n : ℕ) (l r a b : ClauseLiteral) → Compared values n l r → IsBetween l r a b → (value_of values a ≡ value_of values b) ⊎ IsTrueIn values (no n)
   between_value n l r a b c h = by (one_value n l r c) h
     where
       by : (value_of values l ≡ value_of values r) ⊎ IsTrueIn values (no n) → IsBetween l r a b → (value_of values a ≡ value_of values b) ⊎ IsTrueIn values (no n)
@@ -41,27 +41,27 @@ module _ (values : List BValue) where
       by (inl x) (inr k) = inl (ap (value_of values) (sym k.1) ∙ sym x ∙ ap (value_of values) k.0)
 
   -- where both sides have one value the equation holds
-  pub true_if_same : (n : ℕ) (l r : Literal) → Compared values n l r → ((v w : BScalar) → value_of values l ≡ Is v → value_of values r ≡ Is w → v ≡ w) → IsTrueIn values (yes n)
+  pub true_if_same : (n : ℕ) (l r : ClauseLiteral) → Compared values n l r → ((v w : BScalar) → value_of values l ≡ Is v → value_of values r ≡ Is w → v ≡ w) → IsTrueIn values (yes n)
   true_if_same n l r (same p q y) h = y
   true_if_same n l r (other {v = v} {w = w} p q d y z) h = absurd (d (h v w p q))
 
-module _ (terms : List Term) (types : List BType) where
-  abbrev Law : List Literal → (List BValue → Type 0) → Type 0
+module _ (terms : List CertificateTerm) (types : List BType) where
+  abbrev Law : List ClauseLiteral → (List BValue → Type 0) → Type 0
   Law clause P = IsLawUnless terms types clause P
 
   -- a clause with the negation of an equation
-  pub linked_by : (clause : List Literal) (q : ℕ) (l r a b : Literal) → IsEquation terms types q l r → IsBetween l r a b → Law (clause ++ no q ∷ []) (λ values. value_of values a ≡ value_of values b)
+  pub linked_by : (clause : List ClauseLiteral) (q : ℕ) (l r a b : ClauseLiteral) → IsEquation terms types q l r → IsBetween l r a b → Law (clause ++ no q ∷ []) (λ values. value_of values a ≡ value_of values b)
   linked_by clause q l r a b e k values typed model = by (between_value values q l r a b (compared terms types values typed model q l r e) k)
     where
       by : (value_of values a ≡ value_of values b) ⊎ IsTrueIn values (no q) → HoldsIn values (clause ++ no q ∷ []) ⊎ (value_of values a ≡ value_of values b)
       by (inl x) = inr x
       by (inr x) = inl (holds_last clause (no q) x)
 
-  map-last : (values : List BValue) (ls : List Literal) (l : Literal) → values_of values (ls ++ l ∷ []) ≡ values_of values ls ++ value_of values l ∷ []
+  map-last : (values : List BValue) (ls : List ClauseLiteral) (l : ClauseLiteral) → values_of values (ls ++ l ∷ []) ≡ values_of values ls ++ value_of values l ∷ []
   map-last values [] l = refl
   map-last values (k ∷ ls) l = ap (λ x. value_of values k ∷ x) (map-last values ls l)
 
-  pub linked_more : (left right old new : List Literal) (i : ℕ) → i < length left → length left ≡ length right → Law old (λ values. values_of values (take i left) ≡ values_of values (take i right)) →
+  pub linked_more : (left right old new : List ClauseLiteral) (i : ℕ) → i < length left → length left ≡ length right → Law old (λ values. values_of values (take i left) ≡ values_of values (take i right)) →
       ((values : List BValue) → HoldsIn values old → HoldsIn values new) → Law new (λ values. value_of values (get_or left i (yes 0)) ≡ value_of values (get_or right i (yes 0))) →
       Law new (λ values. values_of values (take (i + 1) left) ≡ values_of values (take (i + 1) right))
   linked_more left right old new i lt e h g k values typed model = by (h values typed model) (k values typed model)
@@ -76,14 +76,14 @@ module _ (terms : List Term) (types : List BType) where
           let q : take (i + 1) right ≡ take i right ++ (get_or right i (yes 0) ∷ []) = rw (add-one) (take-suc right i (yes 0) less) in
           inr (ap (values_of values) p ∙ map-last values (take i left) (get_or left i (yes 0)) ∙ (λ j. x j ++ y j ∷ []) ∙ sym (map-last values (take i right) (get_or right i (yes 0))) ∙ sym (ap (values_of values) q))
 
-  pub linked_all : (left right clause : List Literal) (i : ℕ) → length left ≤ i → length right ≤ i → Law clause (λ values. values_of values (take i left) ≡ values_of values (take i right)) →
+  pub linked_all : (left right clause : List ClauseLiteral) (i : ℕ) → length left ≤ i → length right ≤ i → Law clause (λ values. values_of values (take i left) ≡ values_of values (take i right)) →
       Law clause (λ values. values_of values left ≡ values_of values right)
   linked_all left right clause i h g k =
       subst (λ ls. Law clause (λ values. values_of values ls ≡ values_of values right)) (take_all i left h)
       (subst (λ ls. Law clause (λ values. values_of values (take i left) ≡ values_of values ls)) (take_all i right g) k)
 
   -- an equation of what one operator makes
-  pub same_law : (clause : List Literal) (e : ℕ) (l r : Literal) (h g : Head) (ps qs : List Literal) → IsEquation terms types e l r → IsMade terms l h ps → IsMade terms r g qs → h ≡ g →
+  pub same_law : (clause : List ClauseLiteral) (e : ℕ) (l r : ClauseLiteral) (h g : TermHead) (ps qs : List ClauseLiteral) → IsEquation terms types e l r → IsMade terms l h ps → IsMade terms r g qs → h ≡ g →
       Law clause (λ values. values_of values ps ≡ values_of values qs) → IsLaw terms types (clause ++ yes e ∷ [])
   same_law clause e l r h g ps qs q m n s k values typed model = by (k values typed model)
     where
@@ -96,7 +96,7 @@ module _ (terms : List Term) (types : List BType) where
           holds_last clause (yes e) (true_if_same values e l r (compared terms types values typed model e l r q) (λ v w y z. is_inj (sym y ∙ one x ∙ z)))
 
   -- an equation of what equations lead to
-  pub path_law : (clause : List Literal) (e : ℕ) (l r : Literal) → IsEquation terms types e l r → Law clause (λ values. value_of values l ≡ value_of values r) → IsLaw terms types (clause ++ yes e ∷ [])
+  pub path_law : (clause : List ClauseLiteral) (e : ℕ) (l r : ClauseLiteral) → IsEquation terms types e l r → Law clause (λ values. value_of values l ≡ value_of values r) → IsLaw terms types (clause ++ yes e ∷ [])
   path_law clause e l r q k values typed model = by (k values typed model)
     where
       by : HoldsIn values clause ⊎ (value_of values l ≡ value_of values r) → HoldsIn values (clause ++ yes e ∷ [])
@@ -104,7 +104,7 @@ module _ (terms : List Term) (types : List BType) where
       by (inr x) = holds_last clause (yes e) (true_if_same values e l r (compared terms types values typed model e l r q) (λ v w y z. is_inj (sym y ∙ x ∙ z)))
 
   -- one equation more of a path
-  pub path_more : (clause : List Literal) (start at next : Literal) (q : ℕ) (l r : Literal) → IsEquation terms types q l r → ((l ≡ at) × (r ≡ next)) ⊎ ((r ≡ at) × (l ≡ next)) →
+  pub path_more : (clause : List ClauseLiteral) (start at next : ClauseLiteral) (q : ℕ) (l r : ClauseLiteral) → IsEquation terms types q l r → ((l ≡ at) × (r ≡ next)) ⊎ ((r ≡ at) × (l ≡ next)) →
       Law clause (λ values. value_of values start ≡ value_of values at) → Law (clause ++ no q ∷ []) (λ values. value_of values start ≡ value_of values next)
   path_more clause start at next q l r e k h values typed model = by (h values typed model) (linked_by clause q l r at next e (turn k) values typed model)
     where
@@ -119,7 +119,7 @@ module _ (terms : List Term) (types : List BType) where
       by (inr x) (inr y) = inr (x ∙ y)
 
   -- a changed map at the keys of the change
-  pub hit_law : (clause : List Literal) (e : ℕ) (l r : Literal) (i m : ℕ) (ls ks : List Literal) → IsEquation terms types e l r → IsPlace terms l i ls → IsChange terms i m ks r →
+  pub hit_law : (clause : List ClauseLiteral) (e : ℕ) (l r : ClauseLiteral) (i m : ℕ) (ls ks : List ClauseLiteral) → IsEquation terms types e l r → IsPlace terms l i ls → IsChange terms i m ks r →
       Law clause (λ values. values_of values ks ≡ values_of values ls) → IsLaw terms types (clause ++ yes e ∷ [])
   hit_law clause e l r i m ls ks q p c k values typed model = by (k values typed model)
     where
@@ -134,17 +134,17 @@ module _ (terms : List Term) (types : List BType) where
       by (inl x) = holds_longer clause (yes e ∷ []) x
       by (inr x) = holds_last clause (yes e) (true_if_same values e l r (compared terms types values typed model e l r q) (one x))
 
-  pub value_there : (values : List BValue) (ls : List Literal) (i : ℕ) (a : Literal) (v : BScalar) → slice_get ls i ≡ Some a → value_of values a ≡ Is v → slice_get (values_of values ls) i ≡ Some (Is v)
+  pub value_there : (values : List BValue) (ls : List ClauseLiteral) (i : ℕ) (a : ClauseLiteral) (v : BScalar) → slice_get ls i ≡ Some a → value_of values a ≡ Is v → slice_get (values_of values ls) i ≡ Some (Is v)
   value_there values ls i a v h g = slice_get-map (value_of values) ls i ∙ ap (option_map (value_of values)) h ∙ ap Some g
 
   -- where two at one place differ, so do the keys
-  keys_apart : (values : List BValue) (ks ls : List Literal) (k : Key) (a b : Literal) (v w : BScalar) → IsAmong ks ls a b → value_of values a ≡ Is v → value_of values b ≡ Is w →
+  keys_apart : (values : List BValue) (ks ls : List ClauseLiteral) (k : Key) (a b : ClauseLiteral) (v w : BScalar) → IsAmong ks ls a b → value_of values a ≡ Is v → value_of values b ≡ Is w →
       key_of (values_of values ks) ≡ Is k → key_of (values_of values ls) ≡ Is k → v ≡ w
   keys_apart values ks ls k a b v w (along i x y) h g p q = keys_same (values_of values ks) (values_of values ls) k p q i v w (value_there values ks i a v x h) (value_there values ls i b w y g)
   keys_apart values ks ls k a b v w (turned i x y) h g p q = sym (keys_same (values_of values ks) (values_of values ls) k p q i w v (value_there values ks i b w x g) (value_there values ls i a v y h))
 
   -- a changed map at other keys
-  pub miss_law : (e q : ℕ) (l r a b x : Literal) (i m : ℕ) (ls ks : List Literal) → IsEquation terms types e l r → IsPlace terms l i ls → IsPlace terms r m ls → IsChange terms i m ks x →
+  pub miss_law : (e q : ℕ) (l r a b x : ClauseLiteral) (i m : ℕ) (ls ks : List ClauseLiteral) → IsEquation terms types e l r → IsPlace terms l i ls → IsPlace terms r m ls → IsChange terms i m ks x →
       IsEquation terms types q a b → IsAmong ks ls a b → IsLaw terms types (yes q ∷ yes e ∷ [])
   miss_law e q l r a b x i m ls ks o p n c u s values typed model = by (compared terms types values typed model q a b u)
     where

@@ -9,8 +9,8 @@ use Rattle.boogie_tree.specs.declared.exprs.BOp.TheVariants as op
 use Rattle.boogie_meaning.specs.Ends.{End, Is, Over, Wrong}
 use Rattle.boogie_meaning.specs.Operators.{binary, equal}
 use Rattle.cert_terms.specs.Terms.{IsModel, IsTrueIn}
-use Rattle.cert_terms.specs.declared.terms.Literal.{Literal}
-use Rattle.cert_terms.specs.declared.terms.Term.{Term}
+use Rattle.cert_terms.specs.declared.terms.ClauseLiteral.{ClauseLiteral}
+use Rattle.cert_terms.specs.declared.terms.CertificateTerm.{CertificateTerm}
 use Rattle.cert_terms.proofs.MeaningLaws.{bin_value}
 use Rattle.cert_terms.proofs.LiteralLaws.{truth_value, IsTruthValue}
 use Rattle.cert_rules.specs.Reasons.{yes, no, value_of, IsEquation}
@@ -30,12 +30,12 @@ sides Over r p h = absurd (cc)
 sides Wrong r p h = absurd (cc)
 
 -- both sides have one value, or two
-pub data Compared (values : List BValue) (n : ℕ) (a b : Literal) : Type 0 where
+pub data Compared (values : List BValue) (n : ℕ) (a b : ClauseLiteral) : Type 0 where
   same : {v : BScalar} → value_of values a ≡ Is v → value_of values b ≡ Is v → IsTrueIn values (yes n) → Compared values n a b
   other : {v w : BScalar} → value_of values a ≡ Is v → value_of values b ≡ Is w → (v ≡ w → ⊥) → value_of values (yes n) ≡ Is (Bool false) → IsTrueIn values (no n) → Compared values n a b
 
-module _ (terms : List Term) (types : List BType) (values : List BValue) (typed : IsEnvironment types values) (model : IsModel terms values) where
-  pub compared : (n : ℕ) (a b : Literal) → IsEquation terms types n a b → Compared values n a b
+module _ (terms : List CertificateTerm) (types : List BType) (values : List BValue) (typed : IsEnvironment types values) (model : IsModel terms values) where
+  pub compared : (n : ℕ) (a b : ClauseLiteral) → IsEquation terms types n a b → Compared values n a b
   compared n a b q =
       let t = truth_value values types typed (yes n) q.is_truth in
       let s = sides (value_of values a) (value_of values b) t.0 (sym (bin_value terms values model n op.Eq a b q.is_there) ∙ t.1.value) in

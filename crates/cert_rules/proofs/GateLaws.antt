@@ -17,9 +17,9 @@ use Rattle.boogie_formula.specs.Formula as f
 use Rattle.boogie_formula.specs.Value.{fvalue}
 use Rattle.cert_terms.specs.Terms.{IsModel, IsTruth, IsTrueIn, HoldsIn, IsLaw}
 use Rattle.cert_terms.specs.Literals.{turned}
-use Rattle.cert_terms.specs.declared.terms.Literal.{Literal}
-use Rattle.cert_terms.specs.declared.terms.Term.{Term}
-use Rattle.cert_terms.specs.declared.terms.Term.TheVariants as term
+use Rattle.cert_terms.specs.declared.terms.ClauseLiteral.{ClauseLiteral}
+use Rattle.cert_terms.specs.declared.terms.CertificateTerm.{CertificateTerm}
+use Rattle.cert_terms.specs.declared.terms.CertificateTerm.TheVariants as term
 use Rattle.cert_terms.proofs.LiteralLaws.{truth_value, holds_first}
 use Rattle.cert_terms.proofs.MeaningLaws.{chosen, map_at, bool_value, bin_value, if_value, if_map}
 use Rattle.cert_rules.specs.Reasons.{yes, value_of, IsEquation, IsNamed, IsPlace}
@@ -45,12 +45,12 @@ turned_by values n true h = unsigned (fvalue (f.Var n) values) h
 turned_by values n false h = let e : fvalue (f.Var n) values ≡ Is (Bool false) = h in ap (λ x. then_with x negation) e
 
 -- the negation of what is false is true
-pub turned_false : (values : List BValue) (l : Literal) → HasTruth values l false → IsTrueIn values (turned l)
+pub turned_false : (values : List BValue) (l : ClauseLiteral) → HasTruth values l false → IsTrueIn values (turned l)
 turned_false values l h = turned_by values l.name l.negated h
 
 -- ---- clauses
 
-module _ {values : List BValue} {n a b : Literal} where
+module _ {values : List BValue} {n a b : ClauseLiteral} where
   pub and0 : IsAnd values n a b → HoldsIn values (n ∷ turned a ∷ turned b ∷ [])
   and0 (both {p = true} h g k) = holds_first values n _ h
   and0 (both {p = false} h g k) = holds_third (turned_false values b k)
@@ -85,7 +85,7 @@ module _ {values : List BValue} {n a b : Literal} where
   equal3 (equal {p = false} {q = true} h g k) = holds_first values (turned n) _ (turned_false values n h)
   equal3 (equal {p = false} {q = false} h g k) = holds_third (turned_false values b k)
 
-  module _ {c : Literal} where
+  module _ {c : ClauseLiteral} where
     pub if0 : IsIf values n c a b → HoldsIn values (turned n ∷ turned c ∷ a ∷ [])
     if0 (if_yes {p = true} h g k) = holds_third k
     if0 (if_yes {p = false} h g k) = holds_first values (turned n) _ (turned_false values n h)
@@ -152,11 +152,11 @@ beq_apart false false n = absurd (n refl)
 truth_is : {p q : Truth} → Bool p ≡ Bool q → p ≡ q
 truth_is h = cc
 
-module _ (terms : List Term) (types : List BType) (values : List BValue) (typed : IsEnvironment types values) (model : IsModel terms values) (n : ℕ) where
+module _ (terms : List CertificateTerm) (types : List BType) (values : List BValue) (typed : IsEnvironment types values) (model : IsModel terms values) (n : ℕ) where
   pub true_holds : slice_get terms n ≡ Some (term.Bool true) → HoldsIn values (yes n ∷ [])
   true_holds h = holds_first values (yes n) [] (bool_value terms values model n true h)
 
-  pub and_holds : (a b : Literal) → slice_get terms n ≡ Some (term.Bin op.And a b) → IsTruth types (yes n) → IsAnd values (yes n) a b
+  pub and_holds : (a b : ClauseLiteral) → slice_get terms n ≡ Some (term.Bin op.And a b) → IsTruth types (yes n) → IsAnd values (yes n) a b
   and_holds a b h t =
       let p = truth_value values types typed (yes n) t in
       by p.0 p.1.value (and_parts (value_of values a) (value_of values b) p.0 (sym (bin_value terms values model n op.And a b h) ∙ p.1.value))
@@ -165,7 +165,7 @@ module _ (terms : List Term) (types : List BType) (values : List BValue) (typed 
       by p g (inl k) = both g k.0 k.1
       by p g (inr k) = neither (g ∙ ap (λ x. Is (Bool x)) k.1) k.0
 
-  pub if_holds : (c a b : Literal) → slice_get terms n ≡ Some (term.If c a b) → IsTruth types (yes n) → IsIf values (yes n) c a b
+  pub if_holds : (c a b : ClauseLiteral) → slice_get terms n ≡ Some (term.If c a b) → IsTruth types (yes n) → IsIf values (yes n) c a b
   if_holds c a b h t =
       let p = truth_value values types typed (yes n) t in
       by p.0 p.1.value (chosen_parts (value_of values c) (value_of values a) (value_of values b) (Bool p.0) (sym (if_value terms values model n c a b h) ∙ p.1.value))
@@ -174,7 +174,7 @@ module _ (terms : List Term) (types : List BType) (values : List BValue) (typed 
       by p g (inl k) = if_yes g k.0 k.1
       by p g (inr k) = if_no g k.0 k.1
 
-  pub equal_holds : (a b : Literal) → IsEquation terms types n a b → IsTruth types a → IsTruth types b → IsEqual values (yes n) a b
+  pub equal_holds : (a b : ClauseLiteral) → IsEquation terms types n a b → IsTruth types a → IsTruth types b → IsEqual values (yes n) a b
   equal_holds a b e t u =
       let p = truth_value values types typed a t in
       let q = truth_value values types typed b u in
@@ -189,7 +189,7 @@ module _ (terms : List Term) (types : List BType) (values : List BValue) (typed 
 
 -- ---- choices
 
-module _ (values : List BValue) (e : ℕ) (l x c : Literal) where
+module _ (values : List BValue) (e : ℕ) (l x c : ClauseLiteral) where
   -- a choice is one of its two values
   pub case_left : Compared values e l x → ((v : BScalar) → value_of values l ≡ Is v → (value_of values x ≡ Is v) ⊎ (value_of values c ≡ Is (Bool false))) → HoldsIn values (turned c ∷ yes e ∷ [])
   case_left (same p q y) h = holds_second y
@@ -207,14 +207,14 @@ module _ (values : List BValue) (e : ℕ) (l x c : Literal) where
       by (inl k) = absurd (d (is_inj (sym k ∙ q)))
       by (inr k) = holds_first values c _ k
 
-module _ (terms : List Term) (types : List BType) (values : List BValue) (typed : IsEnvironment types values) (model : IsModel terms values) where
-  choice : (l c a b : Literal) → IsNamed terms l (term.If c a b) → (v : BScalar) → value_of values l ≡ Is v →
+module _ (terms : List CertificateTerm) (types : List BType) (values : List BValue) (typed : IsEnvironment types values) (model : IsModel terms values) where
+  choice : (l c a b : ClauseLiteral) → IsNamed terms l (term.If c a b) → (v : BScalar) → value_of values l ≡ Is v →
       ((value_of values c ≡ Is (Bool true)) × (value_of values a ≡ Is v)) ⊎ ((value_of values c ≡ Is (Bool false)) × (value_of values b ≡ Is v))
   choice l c a b h v g =
       chosen_parts (value_of values c) (value_of values a) (value_of values b) v (sym (if_value terms values model l.name c a b h.is_there) ∙ sym (ap (value_of values) h.is_name) ∙ g)
 
   -- the case of a choice between values
-  pub value_case0 : (e : ℕ) (l c a b : Literal) → IsEquation terms types e l a → IsNamed terms l (term.If c a b) → HoldsIn values (turned c ∷ yes e ∷ [])
+  pub value_case0 : (e : ℕ) (l c a b : ClauseLiteral) → IsEquation terms types e l a → IsNamed terms l (term.If c a b) → HoldsIn values (turned c ∷ yes e ∷ [])
   value_case0 e l c a b q h = case_left values e l a c (compared terms types values typed model e l a q) (λ v g. by (choice l c a b h v g))
     where
       by : {v : BScalar} → ((value_of values c ≡ Is (Bool true)) × (value_of values a ≡ Is v)) ⊎ ((value_of values c ≡ Is (Bool false)) × (value_of values b ≡ Is v)) →
@@ -222,7 +222,7 @@ module _ (terms : List Term) (types : List BType) (values : List BValue) (typed 
       by (inl k) = inl k.1
       by (inr k) = inr k.0
 
-  pub value_case1 : (e : ℕ) (l c a b : Literal) → IsEquation terms types e l b → IsNamed terms l (term.If c a b) → HoldsIn values (c ∷ yes e ∷ [])
+  pub value_case1 : (e : ℕ) (l c a b : ClauseLiteral) → IsEquation terms types e l b → IsNamed terms l (term.If c a b) → HoldsIn values (c ∷ yes e ∷ [])
   value_case1 e l c a b q h = case_right values e l b c (compared terms types values typed model e l b q) (λ v g. by (choice l c a b h v g))
     where
       by : {v : BScalar} → ((value_of values c ≡ Is (Bool true)) × (value_of values a ≡ Is v)) ⊎ ((value_of values c ≡ Is (Bool false)) × (value_of values b ≡ Is v)) →
@@ -230,19 +230,19 @@ module _ (terms : List Term) (types : List BType) (values : List BValue) (typed 
       by (inl k) = inr k.0
       by (inr k) = inl k.1
 
-  map_choice : (i : ℕ) (c a b : Literal) → slice_get terms i ≡ Some (term.If c a b) → (x : Map Key BScalar) → the_map values i ≡ Is x →
+  map_choice : (i : ℕ) (c a b : ClauseLiteral) → slice_get terms i ≡ Some (term.If c a b) → (x : Map Key BScalar) → the_map values i ≡ Is x →
       ((value_of values c ≡ Is (Bool true)) × (map_at a values ≡ Is x)) ⊎ ((value_of values c ≡ Is (Bool false)) × (map_at b values ≡ Is x))
   map_choice i c a b h x g = chosen_parts (value_of values c) (map_at a values) (map_at b values) x (sym (if_map terms values model i c a b h) ∙ g)
 
   -- two places with one key of one map have one value
-  one_place : (m : ℕ) (ks : List Literal) (l r : Literal) (i : ℕ) (v : BScalar) (p : IsAt values i ks v) → IsPlace terms r m ks → the_map values m ≡ Is p.map → (w : BScalar) → value_of values r ≡ Is w → w ≡ v
+  one_place : (m : ℕ) (ks : List ClauseLiteral) (l r : ClauseLiteral) (i : ℕ) (v : BScalar) (p : IsAt values i ks v) → IsPlace terms r m ks → the_map values m ≡ Is p.map → (w : BScalar) → value_of values r ≡ Is w → w ≡ v
   one_place m ks l r i v p q h w g =
       let o = at_there terms values model r m ks w q g in
       let a : o.map ≡ p.map = is_inj (sym o.map_is ∙ h) in
       let b : o.key ≡ p.key = is_inj (sym o.key_is ∙ p.key_is) in
       sym o.value_is ∙ ap (λ x. get key_cmp x o.key) a ∙ ap (get key_cmp p.map) b ∙ p.value_is
 
-  there_or : (e : ℕ) (l r c : Literal) (m : ℕ) (ks : List Literal) (i : ℕ) (s : Truth) → IsEquation terms types e l r → IsPlace terms l i ks → IsPlace terms r m ks →
+  there_or : (e : ℕ) (l r c : ClauseLiteral) (m : ℕ) (ks : List ClauseLiteral) (i : ℕ) (s : Truth) → IsEquation terms types e l r → IsPlace terms l i ks → IsPlace terms r m ks →
       ((x : Map Key BScalar) → the_map values i ≡ Is x → (the_map values m ≡ Is x) ⊎ (value_of values c ≡ Is (Bool s))) →
       (v : BScalar) → value_of values l ≡ Is v → (value_of values r ≡ Is v) ⊎ (value_of values c ≡ Is (Bool s))
   there_or e l r c m ks i s q p o h v g =
@@ -258,7 +258,7 @@ module _ (terms : List Term) (types : List BType) (values : List BValue) (typed 
       by a (inr k) w = inr k
 
   -- the case of a place of a choice between maps
-  pub map_case0 : (e i m : ℕ) (l r c b : Literal) (ks : List Literal) → IsEquation terms types e l r → IsPlace terms l i ks → IsPlace terms r m ks → slice_get terms i ≡ Some (term.If c (yes m) b) →
+  pub map_case0 : (e i m : ℕ) (l r c b : ClauseLiteral) (ks : List ClauseLiteral) → IsEquation terms types e l r → IsPlace terms l i ks → IsPlace terms r m ks → slice_get terms i ≡ Some (term.If c (yes m) b) →
       HoldsIn values (turned c ∷ yes e ∷ [])
   map_case0 e i m l r c b ks q p o h =
       case_left values e l r c (compared terms types values typed model e l r q) (there_or e l r c m ks i false q p o (λ x g. by (map_choice i c (yes m) b h x g)))
@@ -268,7 +268,7 @@ module _ (terms : List Term) (types : List BType) (values : List BValue) (typed 
       by (inl k) = inl k.1
       by (inr k) = inr k.0
 
-  pub map_case1 : (e i m : ℕ) (l r c a : Literal) (ks : List Literal) → IsEquation terms types e l r → IsPlace terms l i ks → IsPlace terms r m ks → slice_get terms i ≡ Some (term.If c a (yes m)) →
+  pub map_case1 : (e i m : ℕ) (l r c a : ClauseLiteral) (ks : List ClauseLiteral) → IsEquation terms types e l r → IsPlace terms l i ks → IsPlace terms r m ks → slice_get terms i ≡ Some (term.If c a (yes m)) →
       HoldsIn values (c ∷ yes e ∷ [])
   map_case1 e i m l r c a ks q p o h =
       case_right values e l r c (compared terms types values typed model e l r q) (there_or e l r c m ks i true q p o (λ x g. by (map_choice i c a (yes m) h x g)))
@@ -280,35 +280,35 @@ module _ (terms : List Term) (types : List BType) (values : List BValue) (typed 
 
 -- ---- reasons
 
-module _ (terms : List Term) (types : List BType) where
+module _ (terms : List CertificateTerm) (types : List BType) where
   pub true_law : (n : ℕ) → slice_get terms n ≡ Some (term.Bool true) → IsLaw terms types (yes n ∷ [])
   true_law n h values typed model = true_holds terms types values typed model n h
 
-  pub and_law : (n : ℕ) (l a b : Literal) → l ≡ yes n → slice_get terms n ≡ Some (term.Bin op.And a b) → IsTruth types (yes n) → (v : Vec Literal Global) →
+  pub and_law : (n : ℕ) (l a b : ClauseLiteral) → l ≡ yes n → slice_get terms n ≡ Some (term.Bin op.And a b) → IsTruth types (yes n) → (v : Vec ClauseLiteral Global) →
       ((values : List BValue) → IsAnd values l a b → HoldsIn values v.items) → IsLaw terms types v.items
   and_law n l a b e h t v f values typed model = f values (subst (λ x. IsAnd values x a b) (sym e) (and_holds terms types values typed model n a b h t))
 
-  pub equal_law : (n : ℕ) (l a b : Literal) → l ≡ yes n → slice_get terms n ≡ Some (term.Bin op.Eq a b) → IsTruth types (yes n) → IsTruth types a → IsTruth types b → (v : Vec Literal Global) →
+  pub equal_law : (n : ℕ) (l a b : ClauseLiteral) → l ≡ yes n → slice_get terms n ≡ Some (term.Bin op.Eq a b) → IsTruth types (yes n) → IsTruth types a → IsTruth types b → (v : Vec ClauseLiteral Global) →
       ((values : List BValue) → IsEqual values l a b → HoldsIn values v.items) → IsLaw terms types v.items
   equal_law n l a b e h t u w v f values typed model =
       f values (subst (λ x. IsEqual values x a b) (sym e) (equal_holds terms types values typed model n a b (record { is_there = h; is_truth = t }) u w))
 
-  pub if_law : (n : ℕ) (l c a b : Literal) → l ≡ yes n → slice_get terms n ≡ Some (term.If c a b) → IsTruth types (yes n) → (v : Vec Literal Global) →
+  pub if_law : (n : ℕ) (l c a b : ClauseLiteral) → l ≡ yes n → slice_get terms n ≡ Some (term.If c a b) → IsTruth types (yes n) → (v : Vec ClauseLiteral Global) →
       ((values : List BValue) → IsIf values l c a b → HoldsIn values v.items) → IsLaw terms types v.items
   if_law n l c a b e h t v f values typed model = f values (subst (λ x. IsIf values x c a b) (sym e) (if_holds terms types values typed model n c a b h t))
 
   -- the clause of the side that the condition chooses
-  abbrev pub IsChosen : ℕ → Literal → Literal → Literal → Literal → List Literal → Type 0
+  abbrev pub IsChosen : ℕ → ClauseLiteral → ClauseLiteral → ClauseLiteral → ClauseLiteral → List ClauseLiteral → Type 0
   IsChosen e x c a b ls = ((x ≡ a) × (ls ≡ turned c ∷ yes e ∷ [])) ⊎ ((x ≡ b) × (ls ≡ c ∷ yes e ∷ []))
 
-  pub value_case_law : (e : ℕ) (l x c a b : Literal) → IsEquation terms types e l x → IsNamed terms l (term.If c a b) → (v : Vec Literal Global) → IsChosen e x c a b v.items → IsLaw terms types v.items
+  pub value_case_law : (e : ℕ) (l x c a b : ClauseLiteral) → IsEquation terms types e l x → IsNamed terms l (term.If c a b) → (v : Vec ClauseLiteral Global) → IsChosen e x c a b v.items → IsLaw terms types v.items
   value_case_law e l x c a b q h v (inl k) values typed model =
       subst (HoldsIn values) (sym k.1) (value_case0 terms types values typed model e l c a b (subst (IsEquation terms types e l) k.0 q) h)
   value_case_law e l x c a b q h v (inr k) values typed model =
       subst (HoldsIn values) (sym k.1) (value_case1 terms types values typed model e l c a b (subst (IsEquation terms types e l) k.0 q) h)
 
-  pub place_case_law : (e i m : ℕ) (l r x c a b : Literal) (ks ls : List Literal) → IsEquation terms types e l r → IsPlace terms l i ks → IsPlace terms r m ls → ks ≡ ls →
-      slice_get terms i ≡ Some (term.If c a b) → x ≡ yes m → (v : Vec Literal Global) → IsChosen e x c a b v.items → IsLaw terms types v.items
+  pub place_case_law : (e i m : ℕ) (l r x c a b : ClauseLiteral) (ks ls : List ClauseLiteral) → IsEquation terms types e l r → IsPlace terms l i ks → IsPlace terms r m ls → ks ≡ ls →
+      slice_get terms i ≡ Some (term.If c a b) → x ≡ yes m → (v : Vec ClauseLiteral Global) → IsChosen e x c a b v.items → IsLaw terms types v.items
   place_case_law e i m l r x c a b ks ls q p o s h y v (inl k) values typed model =
       subst (HoldsIn values) (sym k.1)
       (map_case0 terms types values typed model e i m l r c b ks q p (subst (IsPlace terms r m) (sym s) o) (h ∙ ap (λ z. Some (term.If c z b)) (sym k.0 ∙ y)))

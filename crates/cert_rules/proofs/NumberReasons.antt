@@ -8,18 +8,18 @@ use Rattle.boogie_meaning.specs.Ends.{Is, then_with}
 use Rattle.boogie_meaning.specs.Operators.{negative}
 use Rattle.cert_terms.specs.Terms.{IsTruth, IsLaw}
 use Rattle.cert_terms.specs.Literals.{turned}
-use Rattle.cert_terms.specs.declared.terms.Literal.{Literal}
-use Rattle.cert_terms.specs.declared.terms.Term.{Term}
-use Rattle.cert_terms.specs.declared.terms.Term.TheVariants as term
+use Rattle.cert_terms.specs.declared.terms.ClauseLiteral.{ClauseLiteral}
+use Rattle.cert_terms.specs.declared.terms.CertificateTerm.{CertificateTerm}
+use Rattle.cert_terms.specs.declared.terms.CertificateTerm.TheVariants as term
 use Rattle.cert_terms.proofs.MeaningLaws.{at}
 use Rattle.cert_terms.proofs.LiteralLaws.{truth_value}
 use Rattle.cert_rules.specs.Shapes.{IsTerm, IsBin, IsZero, IsDivision}
 use Rattle.cert_rules.proofs.ScalarLaws.{done, strict, numbers_le, split_law, over_int, over_real, zero_law, division_strict, rest_law, below_law, below_negative}
 use Rattle.cert_rules.proofs.NumberValues.{bin_at, neg_at, zero_at, reduced_at, holds_if, holds_not, holds_so, holds_not_so}
 
-module _ (terms : List Term) (types : List BType) where
+module _ (terms : List CertificateTerm) (types : List BType) where
   -- a == b, or not a <= b, or not b <= a
-  pub split_is_law : {e l m a b : Literal} → IsTruth types e → IsTruth types l → IsTruth types m → IsBin terms e op.Eq a b → IsBin terms l op.Le a b → IsBin terms m op.Le b a → IsLaw terms types (e ∷ turned l ∷ turned m ∷ [])
+  pub split_is_law : {e l m a b : ClauseLiteral} → IsTruth types e → IsTruth types l → IsTruth types m → IsBin terms e op.Eq a b → IsBin terms l op.Le a b → IsBin terms m op.Le b a → IsLaw terms types (e ∷ turned l ∷ turned m ∷ [])
   split_is_law {e} {l} {m} {a} {b} truth_e truth_l truth_m is_e is_l is_m values typed model =
       let r = truth_value values types typed e truth_e in
       let p = truth_value values types typed l truth_l in
@@ -31,7 +31,7 @@ module _ (terms : List Term) (types : List BType) where
       holds_if e _ r.0 r.1 (λ other. holds_not l _ p.0 p.1 (λ low. holds_not m _ q.0 q.1 (λ high. absurd (let f : false ≡ true = sym other ∙ law low high in cc))))
 
   -- b == 0, or (a / b) * b == a
-  pub over_real_is_law : {z e o m d a b : Literal} → IsTruth types z → IsTruth types e → IsBin terms z op.Eq b o → IsZero terms o → IsBin terms e op.Eq m a → IsBin terms m op.Mul d b → IsBin terms d op.Divide a b → IsLaw terms types (z ∷ e ∷ [])
+  pub over_real_is_law : {z e o m d a b : ClauseLiteral} → IsTruth types z → IsTruth types e → IsBin terms z op.Eq b o → IsZero terms o → IsBin terms e op.Eq m a → IsBin terms m op.Mul d b → IsBin terms d op.Divide a b → IsLaw terms types (z ∷ e ∷ [])
   over_real_is_law {z} {e} {o} {m} {d} {a} {b} truth_z truth_e is_z is_o is_e is_m is_d values typed model =
       let p = truth_value values types typed z truth_z in
       let r = truth_value values types typed e truth_e in
@@ -45,7 +45,7 @@ module _ (terms : List Term) (types : List BType) where
       holds_if z _ p.0 p.1 (λ other. holds_so e r.0 r.1 (law other))
 
   -- b == 0, or (b * (a div b)) + (a mod b) == a
-  pub over_int_is_law : {z e o s m q w a b : Literal} → IsTruth types z → IsTruth types e → IsBin terms z op.Eq b o → IsZero terms o → IsBin terms e op.Eq s a → IsBin terms s op.Add m w → IsBin terms m op.Mul b q → IsBin terms q op.IntDiv a b → IsBin terms w op.IntMod a b → IsLaw terms types (z ∷ e ∷ [])
+  pub over_int_is_law : {z e o s m q w a b : ClauseLiteral} → IsTruth types z → IsTruth types e → IsBin terms z op.Eq b o → IsZero terms o → IsBin terms e op.Eq s a → IsBin terms s op.Add m w → IsBin terms m op.Mul b q → IsBin terms q op.IntDiv a b → IsBin terms w op.IntMod a b → IsLaw terms types (z ∷ e ∷ [])
   over_int_is_law {z} {e} {o} {s} {m} {q} {w} {a} {b} truth_z truth_e is_z is_o is_e is_s is_m is_q is_w values typed model =
       let p = truth_value values types typed z truth_z in
       let r = truth_value values types typed e truth_e in
@@ -59,7 +59,7 @@ module _ (terms : List Term) (types : List BType) where
       holds_if z _ p.0 p.1 (λ other. holds_so e r.0 r.1 (law other))
 
   -- not b == 0, or a / b == 0, or the same of `div` and `mod`
-  pub zero_is_law : {z e o d w a b : Literal} (by : BOp) → IsDivision by → IsTruth types z → IsTruth types e → IsBin terms z op.Eq b o → IsZero terms o → IsBin terms e op.Eq d w → IsZero terms w → IsBin terms d by a b → IsLaw terms types (turned z ∷ e ∷ [])
+  pub zero_is_law : {z e o d w a b : ClauseLiteral} (by : BOp) → IsDivision by → IsTruth types z → IsTruth types e → IsBin terms z op.Eq b o → IsZero terms o → IsBin terms e op.Eq d w → IsZero terms w → IsBin terms d by a b → IsLaw terms types (turned z ∷ e ∷ [])
   zero_is_law {z} {e} {o} {d} {w} {a} {b} by is_by truth_z truth_e is_z is_o is_e is_w is_d values typed model =
       let p = truth_value values types typed z truth_z in
       let r = truth_value values types typed e truth_e in
@@ -75,7 +75,7 @@ module _ (terms : List Term) (types : List BType) where
       holds_not z _ p.0 p.1 (λ is. holds_so e r.0 r.1 (law is))
 
   -- 0 <= a mod b
-  pub rest_is_law : {l o w a b : Literal} → IsTruth types l → IsBin terms l op.Le o w → IsZero terms o → IsBin terms w op.IntMod a b → IsLaw terms types (l ∷ [])
+  pub rest_is_law : {l o w a b : ClauseLiteral} → IsTruth types l → IsBin terms l op.Le o w → IsZero terms o → IsBin terms w op.IntMod a b → IsLaw terms types (l ∷ [])
   rest_is_law {l} {o} {w} {a} {b} truth_l is_l is_o is_w values typed model =
       let r = truth_value values types typed l truth_l in
       let zero = zero_at model is_o in
@@ -87,7 +87,7 @@ module _ (terms : List Term) (types : List BType) where
       holds_so l r.0 r.1 (rest_law _ _ zero.1.1 (sym (λ i. done op.Le (zero.1.0 i) (done op.IntMod (x i) (y i))) ∙ told))
 
   -- b <= 0, or not b <= a mod b
-  pub below_is_law : {l m o w a b : Literal} → IsTruth types l → IsTruth types m → IsBin terms l op.Le b o → IsZero terms o → IsBin terms m op.Le b w → IsBin terms w op.IntMod a b → IsLaw terms types (l ∷ turned m ∷ [])
+  pub below_is_law : {l m o w a b : ClauseLiteral} → IsTruth types l → IsTruth types m → IsBin terms l op.Le b o → IsZero terms o → IsBin terms m op.Le b w → IsBin terms w op.IntMod a b → IsLaw terms types (l ∷ turned m ∷ [])
   below_is_law {l} {m} {o} {w} {a} {b} truth_l truth_m is_l is_o is_m is_w values typed model =
       let p = truth_value values types typed l truth_l in
       let r = truth_value values types typed m truth_m in
@@ -102,7 +102,7 @@ module _ (terms : List Term) (types : List BType) where
       holds_if l _ p.0 p.1 (λ other. holds_not_so m r.0 r.1 (law other))
 
   -- 0 <= b, or not - b <= a mod b
-  pub below_negative_is_law : {l m o n w a b : Literal} → IsTruth types l → IsTruth types m → IsBin terms l op.Le o b → IsZero terms o → IsBin terms m op.Le n w → IsTerm terms n (term.Neg b) → IsBin terms w op.IntMod a b → IsLaw terms types (l ∷ turned m ∷ [])
+  pub below_negative_is_law : {l m o n w a b : ClauseLiteral} → IsTruth types l → IsTruth types m → IsBin terms l op.Le o b → IsZero terms o → IsBin terms m op.Le n w → IsTerm terms n (term.Neg b) → IsBin terms w op.IntMod a b → IsLaw terms types (l ∷ turned m ∷ [])
   below_negative_is_law {l} {m} {o} {n} {w} {a} {b} truth_l truth_m is_l is_o is_m is_n is_w values typed model =
       let p = truth_value values types typed l truth_l in
       let r = truth_value values types typed m truth_m in

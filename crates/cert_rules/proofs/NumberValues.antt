@@ -12,9 +12,9 @@ use Rattle.boogie_formula.specs.Formula as f
 use Rattle.boogie_formula.specs.Value.{fvalue}
 use Rattle.cert_terms.specs.Terms.{operand, IsModel, HoldsIn}
 use Rattle.cert_terms.specs.Literals.{turned}
-use Rattle.cert_terms.specs.declared.terms.Literal.{Literal}
-use Rattle.cert_terms.specs.declared.terms.Term.{Term}
-use Rattle.cert_terms.specs.declared.terms.Term.TheVariants as term
+use Rattle.cert_terms.specs.declared.terms.ClauseLiteral.{ClauseLiteral}
+use Rattle.cert_terms.specs.declared.terms.CertificateTerm.{CertificateTerm}
+use Rattle.cert_terms.specs.declared.terms.CertificateTerm.TheVariants as term
 use Rattle.cert_terms.proofs.MeaningLaws.{at, bin_value, neg_value, to_real_value, int_value, real_value}
 use Rattle.cert_terms.proofs.LiteralLaws.{IsTruthValue, holds_first, holds_more}
 use Rattle.cert_rules.specs.Shapes.{IsTerm, IsBin, IsZero}
@@ -22,20 +22,20 @@ use Rattle.cert_rules.proofs.ScalarLaws.{IsZeroNumber, int_zero, real_zero}
 
 -- ---- terms
 
-module _ {terms : List Term} {values : List BValue} (model : IsModel terms values) where
-  by_name : {l : Literal} {t : Term} → IsTerm terms l t → at l values ≡ fvalue (f.Var l.name) values
+module _ {terms : List CertificateTerm} {values : List BValue} (model : IsModel terms values) where
+  by_name : {l : ClauseLiteral} {t : CertificateTerm} → IsTerm terms l t → at l values ≡ fvalue (f.Var l.name) values
   by_name {l} is = ap (λ s. fvalue (operand (record { name = l.name; negated = s })) values) is.plain
 
-  pub bin_at : {l : Literal} {o : BOp} {a b : Literal} → IsBin terms l o a b → at l values ≡ binary Unbounded o (at a values) (at b values)
+  pub bin_at : {l : ClauseLiteral} {o : BOp} {a b : ClauseLiteral} → IsBin terms l o a b → at l values ≡ binary Unbounded o (at a values) (at b values)
   bin_at {l} {o} {a} {b} is = by_name is ∙ bin_value terms values model l.name o a b is.is_there
 
-  pub neg_at : {l a : Literal} → IsTerm terms l (term.Neg a) → at l values ≡ then_with (at a values) negative
+  pub neg_at : {l a : ClauseLiteral} → IsTerm terms l (term.Neg a) → at l values ≡ then_with (at a values) negative
   neg_at {l} {a} is = by_name is ∙ neg_value terms values model l.name a is.is_there
 
-  pub to_real_at : {l a : Literal} → IsTerm terms l (term.ToReal a) → at l values ≡ then_with (at a values) real_from
+  pub to_real_at : {l a : ClauseLiteral} → IsTerm terms l (term.ToReal a) → at l values ≡ then_with (at a values) real_from
   to_real_at {l} {a} is = by_name is ∙ to_real_value terms values model l.name a is.is_there
 
-  pub zero_at : {l : Literal} → IsZero terms l → (z : BScalar) × ((at l values ≡ Is z) × IsZeroNumber z)
+  pub zero_at : {l : ClauseLiteral} → IsZero terms l → (z : BScalar) × ((at l values ≡ Is z) × IsZeroNumber z)
   zero_at {l} (inl is) = (Int (pos 0), (by_name is ∙ int_value terms values model l.name (pos 0) is.is_there, int_zero))
   zero_at {l} (inr is) = (_, (by_name is ∙ real_value terms values model l.name (pos 0) is.is_there, real_zero))
 
@@ -66,24 +66,24 @@ module _ (types : List BType) (values : List BValue) (typed : IsEnvironment type
   signed_reduced n true v h = negation_reduced (fvalue (f.Var n) values) v h
   signed_reduced n false v h = found_reduced types values n v typed h
 
-  pub reduced_at : (l : Literal) (v : BScalar) → at l values ≡ Is v → IsReducedScalar v
+  pub reduced_at : (l : ClauseLiteral) (v : BScalar) → at l values ≡ Is v → IsReducedScalar v
   reduced_at l v h = signed_reduced l.name l.negated v h
 
 -- ---- clauses
 
 module _ {values : List BValue} where
   -- a literal is true, or what is left of the clause holds
-  pub holds_if : (l : Literal) (ls : List Literal) (p : Truth) → IsTruthValue values l p → (p ≡ false → HoldsIn values ls) → HoldsIn values (l ∷ ls)
+  pub holds_if : (l : ClauseLiteral) (ls : List ClauseLiteral) (p : Truth) → IsTruthValue values l p → (p ≡ false → HoldsIn values ls) → HoldsIn values (l ∷ ls)
   holds_if l ls true is go = holds_first values l ls is.value
   holds_if l ls false is go = holds_more values l ls (go refl)
 
-  pub holds_not : (l : Literal) (ls : List Literal) (p : Truth) → IsTruthValue values l p → (p ≡ true → HoldsIn values ls) → HoldsIn values (turned l ∷ ls)
+  pub holds_not : (l : ClauseLiteral) (ls : List ClauseLiteral) (p : Truth) → IsTruthValue values l p → (p ≡ true → HoldsIn values ls) → HoldsIn values (turned l ∷ ls)
   holds_not l ls true is go = holds_more values (turned l) ls (go refl)
   holds_not l ls false is go = holds_first values (turned l) ls is.other
 
   -- the last literal is true
-  pub holds_so : (l : Literal) (p : Truth) → IsTruthValue values l p → p ≡ true → HoldsIn values (l ∷ [])
+  pub holds_so : (l : ClauseLiteral) (p : Truth) → IsTruthValue values l p → p ≡ true → HoldsIn values (l ∷ [])
   holds_so l p is e = holds_first values l [] (is.value ∙ ap (λ q. Is (Bool q)) e)
 
-  pub holds_not_so : (l : Literal) (p : Truth) → IsTruthValue values l p → p ≡ false → HoldsIn values (turned l ∷ [])
+  pub holds_not_so : (l : ClauseLiteral) (p : Truth) → IsTruthValue values l p → p ≡ false → HoldsIn values (turned l ∷ [])
   holds_not_so l p is e = holds_first values (turned l) [] (is.other ∙ ap (λ q. Is (Bool (not q))) e)

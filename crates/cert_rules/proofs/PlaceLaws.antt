@@ -17,12 +17,12 @@ use Rattle.boogie_formula.specs.Formula as f
 use Rattle.boogie_formula.specs.Formula.{FExpr}
 use Rattle.boogie_formula.specs.Value.{fvalue, fkey, whole}
 use Rattle.cert_terms.specs.Terms.{operand, operands, IsModel}
-use Rattle.cert_terms.specs.declared.terms.Literal.{Literal}
-use Rattle.cert_terms.specs.declared.terms.Term.{Term}
-use Rattle.cert_terms.specs.declared.terms.Term.TheVariants as term
+use Rattle.cert_terms.specs.declared.terms.ClauseLiteral.{ClauseLiteral}
+use Rattle.cert_terms.specs.declared.terms.CertificateTerm.{CertificateTerm}
+use Rattle.cert_terms.specs.declared.terms.CertificateTerm.TheVariants as term
 use Rattle.cert_rules.specs.Reasons.{value_of, values_of, IsPlace, IsChange}
 use Rattle.cert_rules.specs.Heads.{key_of, IsMade}
-use Rattle.cert_rules.specs.declared.heads.Head.TheVariants as head
+use Rattle.cert_rules.specs.declared.heads.TermHead.TheVariants as head
 use Rattle.cert_rules.proofs.HeadLaws.{then_is, is_same, key_value, made_value}
 
 -- ---- keys
@@ -105,7 +105,7 @@ pub there_map : (values : List BValue) (m : ℕ) (x : Map Key BScalar) → slice
 there_map values m x h = rw h refl
 
 -- the value of a place
-pub record IsAt (values : List BValue) (m : ℕ) (ks : List Literal) (v : BScalar) : Type 0 where
+pub record IsAt (values : List BValue) (m : ℕ) (ks : List ClauseLiteral) (v : BScalar) : Type 0 where
   pub map : Map Key BScalar
   pub key : Key
   pub map_is : the_map values m ≡ Is map
@@ -113,7 +113,7 @@ pub record IsAt (values : List BValue) (m : ℕ) (ks : List Literal) (v : BScala
   pub value_is : get key_cmp map key ≡ v
 
 -- a map but for one value
-pub record IsPut (values : List BValue) (m : ℕ) (ks : List Literal) (e : Literal) (x : Map Key BScalar) : Type 0 where
+pub record IsPut (values : List BValue) (m : ℕ) (ks : List ClauseLiteral) (e : ClauseLiteral) (x : Map Key BScalar) : Type 0 where
   pub map : Map Key BScalar
   pub key : Key
   pub value : BScalar
@@ -122,18 +122,18 @@ pub record IsPut (values : List BValue) (m : ℕ) (ks : List Literal) (e : Liter
   pub value_is : value_of values e ≡ Is value
   pub put_is : set key_cmp same_scalar map key value ≡ x
 
-module _ (terms : List Term) (values : List BValue) (model : IsModel terms values) where
-  place_made : (l : Literal) (m : ℕ) (ks : List Literal) → IsPlace terms l m ks → IsMade terms l (head.At m) ks
+module _ (terms : List CertificateTerm) (values : List BValue) (model : IsModel terms values) where
+  place_made : (l : ClauseLiteral) (m : ℕ) (ks : List ClauseLiteral) → IsPlace terms l m ks → IsMade terms l (head.At m) ks
   place_made l m ks p = record { term = term.At m p.keys; named = p.named; head = refl; parts = p.keys_are }
 
-  pub at_there : (l : Literal) (m : ℕ) (ks : List Literal) (v : BScalar) → IsPlace terms l m ks → value_of values l ≡ Is v → IsAt values m ks v
+  pub at_there : (l : ClauseLiteral) (m : ℕ) (ks : List ClauseLiteral) (v : BScalar) → IsPlace terms l m ks → value_of values l ≡ Is v → IsAt values m ks v
   at_there l m ks v p h =
       let e = sym (made_value terms values model l (head.At m) ks (place_made l m ks p)) ∙ h in
       let k = then_is (key_of (values_of values ks)) (λ k. then_with (the_map values m) (λ n. Is (get key_cmp n k))) v e in
       let n = then_is (the_map values m) (λ n. Is (get key_cmp n k.0)) v k.2 in
       record { map = n.0; key = k.0; map_is = n.1; key_is = k.1; value_is = is_inj n.2 }
 
-  pub put_there : (n m : ℕ) (ks : List Literal) (e : Literal) (x : Map Key BScalar) → IsChange terms n m ks e → the_map values n ≡ Is x → IsPut values m ks e x
+  pub put_there : (n m : ℕ) (ks : List ClauseLiteral) (e : ClauseLiteral) (x : Map Key BScalar) → IsChange terms n m ks e → the_map values n ≡ Is x → IsPut values m ks e x
   put_there n m ks e x c h =
       let w = f.With (f.Var m) (operands c.keys.items) (operand e) in
       let go = λ (z : Map Key BScalar). then_with (fkey (operands c.keys.items) values) (λ k. then_with (fvalue (operand e) values) (λ v. Is (Many (set key_cmp same_scalar z k v)))) in
@@ -160,11 +160,11 @@ module _ (types : List BType) (values : List BValue) (typed : IsEnvironment type
   put_reduced m x h = reduced_there types values typed m x (map_there values m x h)
 
   -- the changed place has the new value
-  pub put_hit : (m : ℕ) (ks : List Literal) (e : Literal) (x : Map Key BScalar) (p : IsPut values m ks e x) (k : Key) → p.key ≡ k → get key_cmp x k ≡ p.value
+  pub put_hit : (m : ℕ) (ks : List ClauseLiteral) (e : ClauseLiteral) (x : Map Key BScalar) (p : IsPut values m ks e x) (k : Key) → p.key ≡ k → get key_cmp x k ≡ p.value
   put_hit m ks e x p k h =
       ap (λ y. get key_cmp y k) (sym p.put_is) ∙ ap (get key_cmp (set key_cmp same_scalar p.map p.key p.value)) (sym h)
       ∙ get-set_same exact p.map (put_reduced m p.map p.map_is) p.key p.value
 
   -- another place keeps its value
-  pub put_miss : (m : ℕ) (ks : List Literal) (e : Literal) (x : Map Key BScalar) (p : IsPut values m ks e x) (k : Key) → p.key ≢ k → get key_cmp x k ≡ get key_cmp p.map k
+  pub put_miss : (m : ℕ) (ks : List ClauseLiteral) (e : ClauseLiteral) (x : Map Key BScalar) (p : IsPut values m ks e x) (k : Key) → p.key ≢ k → get key_cmp x k ≡ get key_cmp p.map k
   put_miss m ks e x p k n = ap (λ y. get key_cmp y k) (sym p.put_is) ∙ get-set_other exact p.map (put_reduced m p.map p.map_is) p.key k p.value n

@@ -8,15 +8,15 @@ use Rattle.boogie_tree.specs.Value.{Key, BScalar, Snap, BValue}
 use Rattle.boogie_meaning.specs.Ends.{End, Is, Wrong, then_with}
 use Rattle.boogie_meaning.specs.Operators.{part_of, binary, negative, real_from, leaf_int, leaf_bool, leaf_ref, leaf_perm, pair_of}
 use Rattle.boogie_meaning.specs.Value.{the_map}
-use Rattle.cert_terms.specs.declared.terms.Literal.{Literal}
-use Rattle.cert_terms.specs.declared.terms.Term.{Term}
-use Rattle.cert_terms.specs.declared.terms.Term.TheVariants as term
+use Rattle.cert_terms.specs.declared.terms.ClauseLiteral.{ClauseLiteral}
+use Rattle.cert_terms.specs.declared.terms.CertificateTerm.{CertificateTerm}
+use Rattle.cert_terms.specs.declared.terms.CertificateTerm.TheVariants as term
 use Rattle.cert_rules.specs.Reasons.{IsNamed}
-use Rattle.cert_rules.specs.declared.heads.Head.{Head}
-use Rattle.cert_rules.specs.declared.heads.Head.TheVariants as head
+use Rattle.cert_rules.specs.declared.heads.TermHead.{TermHead}
+use Rattle.cert_rules.specs.declared.heads.TermHead.TheVariants as head
 
 -- what a term is but for its parts
-abbrev pub head_of : Term → Option Head
+abbrev pub head_of : CertificateTerm → Option TermHead
 head_of (term.Neg a) = Some head.Neg
 head_of (term.ToReal a) = Some head.ToReal
 head_of (term.Bin o a b) = Some (head.Bin o)
@@ -30,7 +30,7 @@ head_of (term.Pair a b) = Some head.Pair
 head_of _ = None
 
 -- its parts, from left to right
-abbrev pub parts_of : Term → List Literal
+abbrev pub parts_of : CertificateTerm → List ClauseLiteral
 parts_of (term.Neg a) = a ∷ []
 parts_of (term.ToReal a) = a ∷ []
 parts_of (term.Bin o a b) = a ∷ b ∷ []
@@ -48,7 +48,7 @@ key_of [] = Is []
 key_of (e ∷ es) = then_with e (λ v. then_with (part_of v) (λ p. then_with (key_of es) (λ k. Is (p ∷ k))))
 
 -- the value that it makes of those of its parts
-abbrev pub applied : List BValue → Head → List (End BScalar) → End BScalar
+abbrev pub applied : List BValue → TermHead → List (End BScalar) → End BScalar
 applied values head.Neg (a ∷ []) = then_with a negative
 applied values head.ToReal (a ∷ []) = then_with a real_from
 applied values (head.Bin o) (a ∷ b ∷ []) = binary Unbounded o a b
@@ -62,7 +62,7 @@ applied values head.Pair (a ∷ b ∷ []) = then_with a (λ v. then_with b (λ w
 applied values _ _ = Wrong
 
 -- it makes a content
-abbrev pub is_constructor : Head → Truth
+abbrev pub is_constructor : TermHead → Truth
 is_constructor head.Unit = true
 is_constructor head.SInt = true
 is_constructor head.SBool = true
@@ -72,20 +72,20 @@ is_constructor head.Pair = true
 is_constructor _ = false
 
 -- the literal is a term with this head and these parts
-pub record IsMade (terms : List Term) (l : Literal) (h : Head) (ps : List Literal) : Type 0 where
-  pub term : Term
+pub record IsMade (terms : List CertificateTerm) (l : ClauseLiteral) (h : TermHead) (ps : List ClauseLiteral) : Type 0 where
+  pub term : CertificateTerm
   pub named : IsNamed terms l term
   pub head : head_of term ≡ Some h
   pub parts : parts_of term ≡ ps
 
 -- the literal is made by a constructor, of these parts
-pub record IsConstructed (terms : List Term) (l : Literal) (h : Head) (ps : List Literal) : Type 0 where
+pub record IsConstructed (terms : List CertificateTerm) (l : ClauseLiteral) (h : TermHead) (ps : List ClauseLiteral) : Type 0 where
   pub made : IsMade terms l h ps
   pub constructor : is_constructor h ≡ true
 
 -- the part of this number of what a constructor makes
-pub record IsPart (terms : List Term) (l : Literal) (i : ℕ) (p : Literal) : Type 0 where
-  pub head : Head
-  pub parts : List Literal
+pub record IsPart (terms : List CertificateTerm) (l : ClauseLiteral) (i : ℕ) (p : ClauseLiteral) : Type 0 where
+  pub head : TermHead
+  pub parts : List ClauseLiteral
   pub constructed : IsConstructed terms l head parts
   pub is_there : slice_get parts i ≡ Some p

@@ -4,34 +4,48 @@ ghost use Rattle.std.specs.Prelude.{◌≡◌, IfOk, IsTrue};
 ghost use Rattle.cert_rules.specs.Heads.{is_constructor, IsConstructed, IsPart};
 
 use crate::clauses::{one, two};
-use crate::heads::{Head, Made, is_same, made_of};
+use crate::heads::{MadeTerm, TermHead, is_same, made_of};
 use crate::reading::{equation, is_among, no};
-use cert_terms::{Fault, Literal, Refusal, Table};
+use cert_terms::{ClauseLiteral, LineFault, LineRefusal, TermTable};
 use std::alloc::Global;
 
 /// Whether it makes a content.
-fn is_constructor(head: Head) -> bool
+fn is_constructor(head: TermHead) -> bool
     ensures { result ≡ is_constructor head }
 {
     matches!(
         head,
-        Head::Unit | Head::SInt | Head::SBool | Head::SRef | Head::SPerm | Head::Pair
+        TermHead::Unit
+            | TermHead::SInt
+            | TermHead::SBool
+            | TermHead::SRef
+            | TermHead::SPerm
+            | TermHead::Pair
     )
 }
 
 /// What the literal is made of, which has to be a constructor.
-fn constructed(alloc: Global, table: &Table, literal: Literal) -> Result<Made, Fault>
+fn constructed(
+    alloc: Global,
+    table: &TermTable,
+    literal: ClauseLiteral,
+) -> Result<MadeTerm, LineFault>
     ensures { IfOk result (λ m. IsConstructed (terms_of table.now) literal m.head m.parts.items) }
 {
     let made = made_of(alloc, table, literal)?;
     if !is_constructor(made.head) {
-        return Err(Fault::Refused(Refusal::Shape));
+        return Err(LineFault::Refused(LineRefusal::Shape));
     }
     Ok(made)
 }
 
 /// The clause that what one constructor makes is equal only where this part is.
-pub fn part(alloc: Global, table: &Table, name: usize, hint: usize) -> Result<Vec<Literal>, Fault>
+pub fn part(
+    alloc: Global,
+    table: &TermTable,
+    name: usize,
+    hint: usize,
+) -> Result<Vec<ClauseLiteral>, LineFault>
     ensures { IfOk result (λ c. IsLawOf table.now c.items) }
 {
     let sides = equation(table, name)?;
@@ -39,50 +53,55 @@ pub fn part(alloc: Global, table: &Table, name: usize, hint: usize) -> Result<Ve
     let right = constructed(alloc, table, sides.right)?;
     let between = equation(table, hint)?;
     if !is_same(left.head, right.head) {
-        return Err(Fault::Refused(Refusal::Shape));
+        return Err(LineFault::Refused(LineRefusal::Shape));
     }
     if !is_among(between, &left.parts, &right.parts) {
-        return Err(Fault::Refused(Refusal::Shape));
+        return Err(LineFault::Refused(LineRefusal::Shape));
     }
-    two(alloc, no(name), Literal::of(hint))
+    two(alloc, no(name), ClauseLiteral::of(hint))
 }
 
 /// Whether these are two constructors.
-fn are_apart(a: Head, b: Head) -> bool
+fn are_apart(a: TermHead, b: TermHead) -> bool
     ensures { IsTrue result → a ≡ b → ⊥ }
 {
     match a {
-        Head::Unit => !matches!(b, Head::Unit),
-        Head::SInt => !matches!(b, Head::SInt),
-        Head::SBool => !matches!(b, Head::SBool),
-        Head::SRef => !matches!(b, Head::SRef),
-        Head::SPerm => !matches!(b, Head::SPerm),
-        Head::Pair => !matches!(b, Head::Pair),
+        TermHead::Unit => !matches!(b, TermHead::Unit),
+        TermHead::SInt => !matches!(b, TermHead::SInt),
+        TermHead::SBool => !matches!(b, TermHead::SBool),
+        TermHead::SRef => !matches!(b, TermHead::SRef),
+        TermHead::SPerm => !matches!(b, TermHead::SPerm),
+        TermHead::Pair => !matches!(b, TermHead::Pair),
         _ => false,
     }
 }
 
 /// The clause that what two constructors make differs.
-pub fn apart(alloc: Global, table: &Table, name: usize) -> Result<Vec<Literal>, Fault>
+pub fn apart(alloc: Global, table: &TermTable, name: usize) -> Result<Vec<ClauseLiteral>, LineFault>
     ensures { IfOk result (λ c. IsLawOf table.now c.items) }
 {
     let sides = equation(table, name)?;
     let left = constructed(alloc, table, sides.left)?;
     let right = constructed(alloc, table, sides.right)?;
     if !are_apart(left.head, right.head) {
-        return Err(Fault::Refused(Refusal::Shape));
+        return Err(LineFault::Refused(LineRefusal::Shape));
     }
     one(alloc, no(name))
 }
 
 /// The part of this number, from 0, of what a constructor makes.
-fn part_at(alloc: Global, table: &Table, literal: Literal, place: usize) -> Result<Literal, Fault>
+fn part_at(
+    alloc: Global,
+    table: &TermTable,
+    literal: ClauseLiteral,
+    place: usize,
+) -> Result<ClauseLiteral, LineFault>
     ensures { IfOk result (λ p. IsPart (terms_of table.now) literal place p) }
 {
     let made = constructed(alloc, table, literal)?;
     match made.parts.get(place) {
         Some(part) => Ok(*part),
-        None => Err(Fault::Refused(Refusal::Case)),
+        None => Err(LineFault::Refused(LineRefusal::Case)),
     }
 }
 
@@ -90,10 +109,10 @@ fn part_at(alloc: Global, table: &Table, literal: Literal, place: usize) -> Resu
 /// numbers.
 pub fn inside(
     alloc: Global,
-    table: &Table,
+    table: &TermTable,
     name: usize,
     places: &[usize],
-) -> Result<Vec<Literal>, Fault>
+) -> Result<Vec<ClauseLiteral>, LineFault>
     ensures { IfOk result (λ c. IsLawOf table.now c.items) }
 {
     let sides = equation(table, name)?;
@@ -103,10 +122,10 @@ pub fn inside(
         at = next;
     }
     if places.len() == 0 {
-        return Err(Fault::Refused(Refusal::Count));
+        return Err(LineFault::Refused(LineRefusal::Count));
     }
     if at != sides.left {
-        return Err(Fault::Refused(Refusal::Shape));
+        return Err(LineFault::Refused(LineRefusal::Shape));
     }
     one(alloc, no(name))
 }

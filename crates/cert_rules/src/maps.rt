@@ -5,23 +5,23 @@ ghost use Rattle.std.specs.Prelude.{IfOk};
 use crate::clauses::two;
 use crate::equality::linked;
 use crate::reading::{change_of, closed, equation, is_among, place_of, same_literals};
-use cert_terms::{Fault, Literal, Refusal, Table};
+use cert_terms::{ClauseLiteral, LineFault, LineRefusal, TermTable};
 use std::alloc::Global;
 
 /// The clause of an equation between a changed map at keys and the new value, by equations of the keys that differ.
 pub fn hit(
     alloc: Global,
-    table: &Table,
+    table: &TermTable,
     name: usize,
     hints: &[usize],
-) -> Result<Vec<Literal>, Fault>
+) -> Result<Vec<ClauseLiteral>, LineFault>
     ensures { IfOk result (λ c. IsLawOf table.now c.items) }
 {
     let sides = equation(table, name)?;
     let place = place_of(table, sides.left)?;
     let change = change_of(table, place.map)?;
     if change.value != sides.right {
-        return Err(Fault::Refused(Refusal::Shape));
+        return Err(LineFault::Refused(LineRefusal::Shape));
     }
     let clause = linked(alloc, table, change.keys, place.keys, hints)?;
     closed(clause, name)
@@ -29,7 +29,12 @@ pub fn hit(
 
 /// The clause of an equation between a changed map and the map before, both at the same keys, and of one between a key and
 /// that of the change.
-pub fn miss(alloc: Global, table: &Table, name: usize, hint: usize) -> Result<Vec<Literal>, Fault>
+pub fn miss(
+    alloc: Global,
+    table: &TermTable,
+    name: usize,
+    hint: usize,
+) -> Result<Vec<ClauseLiteral>, LineFault>
     ensures { IfOk result (λ c. IsLawOf table.now c.items) }
 {
     let sides = equation(table, name)?;
@@ -38,13 +43,13 @@ pub fn miss(alloc: Global, table: &Table, name: usize, hint: usize) -> Result<Ve
     let change = change_of(table, place.map)?;
     let between = equation(table, hint)?;
     if change.map != before.map {
-        return Err(Fault::Refused(Refusal::Shape));
+        return Err(LineFault::Refused(LineRefusal::Shape));
     }
     if !same_literals(place.keys, before.keys) {
-        return Err(Fault::Refused(Refusal::Shape));
+        return Err(LineFault::Refused(LineRefusal::Shape));
     }
     if !is_among(between, change.keys, place.keys) {
-        return Err(Fault::Refused(Refusal::Shape));
+        return Err(LineFault::Refused(LineRefusal::Shape));
     }
-    two(alloc, Literal::of(hint), Literal::of(name))
+    two(alloc, ClauseLiteral::of(hint), ClauseLiteral::of(name))
 }

@@ -10,27 +10,32 @@ use crate::shapes::{
     Operands, check_bin, check_negation, check_zero, division_by, left_of, operands_of, right_of,
 };
 use boogie_tree::BOp;
-use cert_terms::{Fault, Literal, Table};
+use cert_terms::{ClauseLiteral, LineFault, TermTable};
 use std::alloc::Global;
 
 /// That two numbers are equal if neither is greater: `a == b`, or not `a <= b`, or not `b <= a`.
 pub fn split(
     alloc: Global,
-    table: &Table,
+    table: &TermTable,
     equation: usize,
     low: usize,
     high: usize,
-) -> Result<Vec<Literal>, Fault>
+) -> Result<Vec<ClauseLiteral>, LineFault>
     ensures { IfOk result (λ c. IsLawOf table.now c.items) }
 {
-    let equation = Literal::of(equation);
-    let low = Literal::of(low);
-    let high = Literal::of(high);
+    let equation = ClauseLiteral::of(equation);
+    let low = ClauseLiteral::of(low);
+    let high = ClauseLiteral::of(high);
     check_split(table, equation, low, high)?;
     three(alloc, equation, low.turned(), high.turned())
 }
 
-fn check_split(table: &Table, equation: Literal, low: Literal, high: Literal) -> Result<(), Fault>
+fn check_split(
+    table: &TermTable,
+    equation: ClauseLiteral,
+    low: ClauseLiteral,
+    high: ClauseLiteral,
+) -> Result<(), LineFault>
     ensures { OnOk result (IsLawOf table.now (equation ∷ turned low ∷ turned high ∷ [])) }
 {
     table.truth(equation)?;
@@ -47,7 +52,7 @@ fn check_split(table: &Table, equation: Literal, low: Literal, high: Literal) ->
 }
 
 /// What is compared with 0 by the operator, where 0 stands on the right.
-fn tested(table: &Table, test: Literal, operator: BOp) -> Result<Literal, Fault>
+fn tested(table: &TermTable, test: ClauseLiteral, operator: BOp) -> Result<ClauseLiteral, LineFault>
     ensures { IfOk result (λ b. IsTested (terms_of table.now) (types_of table.now) test operator b) }
 {
     table.truth(test)?;
@@ -60,19 +65,23 @@ fn tested(table: &Table, test: Literal, operator: BOp) -> Result<Literal, Fault>
 /// `(a / b) * b == a`, or `(b * (a div b)) + (a mod b) == a`.
 pub fn over(
     alloc: Global,
-    table: &Table,
+    table: &TermTable,
     test: usize,
     equation: usize,
-) -> Result<Vec<Literal>, Fault>
+) -> Result<Vec<ClauseLiteral>, LineFault>
     ensures { IfOk result (λ c. IsLawOf table.now c.items) }
 {
-    let test = Literal::of(test);
-    let equation = Literal::of(equation);
+    let test = ClauseLiteral::of(test);
+    let equation = ClauseLiteral::of(equation);
     check_over(table, test, equation)?;
     two(alloc, test, equation)
 }
 
-fn check_over(table: &Table, test: Literal, equation: Literal) -> Result<(), Fault>
+fn check_over(
+    table: &TermTable,
+    test: ClauseLiteral,
+    equation: ClauseLiteral,
+) -> Result<(), LineFault>
     ensures { OnOk result (IsLawOf table.now (test ∷ equation ∷ [])) }
 {
     table.truth(equation)?;
@@ -89,11 +98,11 @@ fn check_over(table: &Table, test: Literal, equation: Literal) -> Result<(), Fau
 
 /// Refuses what is not `(a / b) * b`.
 fn check_quotient(
-    table: &Table,
-    literal: Literal,
-    dividend: Literal,
-    divisor: Literal,
-) -> Result<(), Fault>
+    table: &TermTable,
+    literal: ClauseLiteral,
+    dividend: ClauseLiteral,
+    divisor: ClauseLiteral,
+) -> Result<(), LineFault>
     ensures { OnOk result (IsQuotient (terms_of table.now) literal dividend divisor) }
 {
     let of_both = Operands {
@@ -107,11 +116,11 @@ fn check_quotient(
 
 /// Refuses what is not `(b * (a div b)) + (a mod b)`.
 fn check_euclidean(
-    table: &Table,
-    literal: Literal,
-    dividend: Literal,
-    divisor: Literal,
-) -> Result<(), Fault>
+    table: &TermTable,
+    literal: ClauseLiteral,
+    dividend: ClauseLiteral,
+    divisor: ClauseLiteral,
+) -> Result<(), LineFault>
     ensures { OnOk result (IsEuclidean (terms_of table.now) literal dividend divisor) }
 {
     let of_both = Operands {
@@ -128,19 +137,23 @@ fn check_euclidean(
 /// That quotients and remainders by 0 are 0: not `b == 0`, or `a / b == 0`, or the same of `div` and `mod`.
 pub fn zero(
     alloc: Global,
-    table: &Table,
+    table: &TermTable,
     test: usize,
     equation: usize,
-) -> Result<Vec<Literal>, Fault>
+) -> Result<Vec<ClauseLiteral>, LineFault>
     ensures { IfOk result (λ c. IsLawOf table.now c.items) }
 {
-    let test = Literal::of(test);
-    let equation = Literal::of(equation);
+    let test = ClauseLiteral::of(test);
+    let equation = ClauseLiteral::of(equation);
     check_zero_law(table, test, equation)?;
     two(alloc, test.turned(), equation)
 }
 
-fn check_zero_law(table: &Table, test: Literal, equation: Literal) -> Result<(), Fault>
+fn check_zero_law(
+    table: &TermTable,
+    test: ClauseLiteral,
+    equation: ClauseLiteral,
+) -> Result<(), LineFault>
     ensures { OnOk result (IsLawOf table.now (turned test ∷ equation ∷ [])) }
 {
     let divisor = tested(table, test, BOp::Eq)?;
@@ -150,15 +163,19 @@ fn check_zero_law(table: &Table, test: Literal, equation: Literal) -> Result<(),
 }
 
 /// That a remainder is not negative: `0 <= a mod b`.
-pub fn rest(alloc: Global, table: &Table, comparison: usize) -> Result<Vec<Literal>, Fault>
+pub fn rest(
+    alloc: Global,
+    table: &TermTable,
+    comparison: usize,
+) -> Result<Vec<ClauseLiteral>, LineFault>
     ensures { IfOk result (λ c. IsLawOf table.now c.items) }
 {
-    let comparison = Literal::of(comparison);
+    let comparison = ClauseLiteral::of(comparison);
     check_rest(table, comparison)?;
     one(alloc, comparison)
 }
 
-fn check_rest(table: &Table, comparison: Literal) -> Result<(), Fault>
+fn check_rest(table: &TermTable, comparison: ClauseLiteral) -> Result<(), LineFault>
     ensures { OnOk result (IsLawOf table.now (comparison ∷ [])) }
 {
     table.truth(comparison)?;
@@ -171,19 +188,23 @@ fn check_rest(table: &Table, comparison: Literal) -> Result<(), Fault>
 /// That a remainder is below the divisor's size: `b <= 0`, or not `b <= a mod b`; or `0 <= b`, or not `- b <= a mod b`.
 pub fn below(
     alloc: Global,
-    table: &Table,
+    table: &TermTable,
     test: usize,
     comparison: usize,
-) -> Result<Vec<Literal>, Fault>
+) -> Result<Vec<ClauseLiteral>, LineFault>
     ensures { IfOk result (λ c. IsLawOf table.now c.items) }
 {
-    let test = Literal::of(test);
-    let comparison = Literal::of(comparison);
+    let test = ClauseLiteral::of(test);
+    let comparison = ClauseLiteral::of(comparison);
     check_below(table, test, comparison)?;
     two(alloc, test, comparison.turned())
 }
 
-fn check_below(table: &Table, test: Literal, comparison: Literal) -> Result<(), Fault>
+fn check_below(
+    table: &TermTable,
+    test: ClauseLiteral,
+    comparison: ClauseLiteral,
+) -> Result<(), LineFault>
     ensures { OnOk result (IsLawOf table.now (test ∷ turned comparison ∷ [])) }
 {
     table.truth(test)?;

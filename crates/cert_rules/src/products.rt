@@ -2,7 +2,7 @@
 ghost use Rattle.std.specs.Prelude.{◌≡◌, [], ◌∷◌, IfOk, OnOk};
 ghost use Rattle.boogie_tree.specs.declared.exprs.BOp.TheVariants as op;
 ghost use Rattle.cert_terms.specs.Literals.{turned};
-ghost use Rattle.cert_terms.specs.declared.terms.Term.TheVariants as term;
+ghost use Rattle.cert_terms.specs.declared.terms.CertificateTerm.TheVariants as term;
 ghost use Rattle.cert_terms.specs.Lawful.{IsLawOf, terms_of};
 ghost use Rattle.cert_rules.specs.Shapes.{IsTerm, IsBin, IsNested, IsOfReals, IsRing, AreCrossed};
 
@@ -11,17 +11,17 @@ use crate::shapes::{
     Operands, additive_of, check_bin, check_products, operands_of, right_of, term_of,
 };
 use boogie_tree::BOp;
-use cert_terms::{Fault, Literal, Refusal, Table, Term};
+use cert_terms::{CertificateTerm, ClauseLiteral, LineFault, LineRefusal, TermTable};
 use std::alloc::Global;
 
 /// Refuses what are not `(a * d) + (b * c)` and `(a * c) + (b * d)`.
 fn check_crossed(
-    table: &Table,
-    less: Literal,
-    more: Literal,
+    table: &TermTable,
+    less: ClauseLiteral,
+    more: ClauseLiteral,
     first: Operands,
     second: Operands,
-) -> Result<(), Fault>
+) -> Result<(), LineFault>
     ensures { OnOk result (AreCrossed (terms_of table.now) less more first.left first.right second.left second.right) }
 {
     let outer = Operands {
@@ -49,26 +49,26 @@ fn check_crossed(
 /// `(a * d) + (b * c) <= (a * c) + (b * d)`.
 pub fn times(
     alloc: Global,
-    table: &Table,
+    table: &TermTable,
     first: usize,
     second: usize,
     comparison: usize,
-) -> Result<Vec<Literal>, Fault>
+) -> Result<Vec<ClauseLiteral>, LineFault>
     ensures { IfOk result (λ c. IsLawOf table.now c.items) }
 {
-    let first = Literal::of(first);
-    let second = Literal::of(second);
-    let comparison = Literal::of(comparison);
+    let first = ClauseLiteral::of(first);
+    let second = ClauseLiteral::of(second);
+    let comparison = ClauseLiteral::of(comparison);
     check_times(table, first, second, comparison)?;
     three(alloc, first.turned(), second.turned(), comparison)
 }
 
 fn check_times(
-    table: &Table,
-    first: Literal,
-    second: Literal,
-    comparison: Literal,
-) -> Result<(), Fault>
+    table: &TermTable,
+    first: ClauseLiteral,
+    second: ClauseLiteral,
+    comparison: ClauseLiteral,
+) -> Result<(), LineFault>
     ensures { OnOk result (IsLawOf table.now (turned first ∷ turned second ∷ comparison ∷ [])) }
 {
     table.truth(first)?;
@@ -85,26 +85,26 @@ fn check_times(
 /// `(a * c) + (b * d) <= (a * d) + (b * c)`.
 pub fn above(
     alloc: Global,
-    table: &Table,
+    table: &TermTable,
     first: usize,
     second: usize,
     comparison: usize,
-) -> Result<Vec<Literal>, Fault>
+) -> Result<Vec<ClauseLiteral>, LineFault>
     ensures { IfOk result (λ c. IsLawOf table.now c.items) }
 {
-    let first = Literal::of(first);
-    let second = Literal::of(second);
-    let comparison = Literal::of(comparison);
+    let first = ClauseLiteral::of(first);
+    let second = ClauseLiteral::of(second);
+    let comparison = ClauseLiteral::of(comparison);
     check_above(table, first, second, comparison)?;
     three(alloc, first, second, comparison.turned())
 }
 
 fn check_above(
-    table: &Table,
-    first: Literal,
-    second: Literal,
-    comparison: Literal,
-) -> Result<(), Fault>
+    table: &TermTable,
+    first: ClauseLiteral,
+    second: ClauseLiteral,
+    comparison: ClauseLiteral,
+) -> Result<(), LineFault>
     ensures { OnOk result (IsLawOf table.now (first ∷ second ∷ turned comparison ∷ [])) }
 {
     table.truth(first)?;
@@ -126,15 +126,19 @@ fn check_above(
 }
 
 /// That two sides are equal by a law of products.
-pub fn ring(alloc: Global, table: &Table, equation: usize) -> Result<Vec<Literal>, Fault>
+pub fn ring(
+    alloc: Global,
+    table: &TermTable,
+    equation: usize,
+) -> Result<Vec<ClauseLiteral>, LineFault>
     ensures { IfOk result (λ c. IsLawOf table.now c.items) }
 {
-    let equation = Literal::of(equation);
+    let equation = ClauseLiteral::of(equation);
     check_ring(table, equation)?;
     one(alloc, equation)
 }
 
-fn check_ring(table: &Table, equation: Literal) -> Result<(), Fault>
+fn check_ring(table: &TermTable, equation: ClauseLiteral) -> Result<(), LineFault>
     ensures { OnOk result (IsLawOf table.now (equation ∷ [])) }
 {
     table.truth(equation)?;
@@ -144,11 +148,15 @@ fn check_ring(table: &Table, equation: Literal) -> Result<(), Fault>
 }
 
 /// Refuses sides that are not equal by a law of products.
-fn check_sides(table: &Table, left: Literal, right: Literal) -> Result<(), Fault>
+fn check_sides(
+    table: &TermTable,
+    left: ClauseLiteral,
+    right: ClauseLiteral,
+) -> Result<(), LineFault>
     ensures { OnOk result (IsRing (terms_of table.now) left right) }
 {
     match term_of(table, left)? {
-        Term::ToReal(product) => check_whole(table, left, right, *product),
+        CertificateTerm::ToReal(product) => check_whole(table, left, right, *product),
         _ => {
             let factors = operands_of(table, left, BOp::Mul)?;
             check_product(table, left, right, factors)
@@ -157,7 +165,12 @@ fn check_sides(table: &Table, left: Literal, right: Literal) -> Result<(), Fault
 }
 
 /// The law of `real(a * b)`.
-fn check_whole(table: &Table, left: Literal, right: Literal, product: Literal) -> Result<(), Fault>
+fn check_whole(
+    table: &TermTable,
+    left: ClauseLiteral,
+    right: ClauseLiteral,
+    product: ClauseLiteral,
+) -> Result<(), LineFault>
     requires { IsTerm (terms_of table.now) left (term.ToReal product) }
     ensures { OnOk result (IsRing (terms_of table.now) left right) }
 {
@@ -169,22 +182,26 @@ fn check_whole(table: &Table, left: Literal, right: Literal, product: Literal) -
 }
 
 /// Refuses what is not `real(a)`.
-fn check_real(table: &Table, literal: Literal, part: Literal) -> Result<(), Fault>
+fn check_real(
+    table: &TermTable,
+    literal: ClauseLiteral,
+    part: ClauseLiteral,
+) -> Result<(), LineFault>
     ensures { OnOk result (IsTerm (terms_of table.now) literal (term.ToReal part)) }
 {
     match term_of(table, literal)? {
-        Term::ToReal(found) if *found == part => Ok(()),
-        _ => Err(Fault::Refused(Refusal::Shape)),
+        CertificateTerm::ToReal(found) if *found == part => Ok(()),
+        _ => Err(LineFault::Refused(LineRefusal::Shape)),
     }
 }
 
 /// The laws of a product.
 fn check_product(
-    table: &Table,
-    left: Literal,
-    right: Literal,
+    table: &TermTable,
+    left: ClauseLiteral,
+    right: ClauseLiteral,
     factors: Operands,
-) -> Result<(), Fault>
+) -> Result<(), LineFault>
     requires { IsBin (terms_of table.now) left op.Mul factors.left factors.right }
     ensures { OnOk result (IsRing (terms_of table.now) left right) }
 {
@@ -200,11 +217,11 @@ fn check_product(
 
 /// The laws of a product whose first factor is a product, a sum or a difference.
 fn check_nested(
-    table: &Table,
-    left: Literal,
-    right: Literal,
+    table: &TermTable,
+    left: ClauseLiteral,
+    right: ClauseLiteral,
     factors: Operands,
-) -> Result<(), Fault>
+) -> Result<(), LineFault>
     requires { IsBin (terms_of table.now) left op.Mul factors.left factors.right }
     ensures { OnOk result (IsRing (terms_of table.now) left right) }
 {
@@ -231,11 +248,11 @@ fn check_nested(
 
 /// Refuses what is not `a * (b * c)`.
 fn check_associates(
-    table: &Table,
-    literal: Literal,
+    table: &TermTable,
+    literal: ClauseLiteral,
     inner: Operands,
-    last: Literal,
-) -> Result<(), Fault>
+    last: ClauseLiteral,
+) -> Result<(), LineFault>
     ensures { OnOk result (IsNested (terms_of table.now) literal inner.left inner.right last) }
 {
     let second = right_of(table, literal, BOp::Mul, inner.left)?;

@@ -4,14 +4,14 @@ ghost use Rattle.std.specs.Prelude.{◌≡◌, ◌⊎◌, ◌∷◌, ◌++◌, [
 ghost use Rattle.cert_rules.specs.Reasons.{no, yes, IsAmong, IsChange, IsEquation, IsNamed, IsPlace};
 
 use boogie_tree::BOp;
-use cert_terms::{Fault, Literal, Refusal, Table, Term};
+use cert_terms::{CertificateTerm, ClauseLiteral, LineFault, LineRefusal, TermTable};
 use std::alloc::Global;
 
 /// The negation of the name.
-pub(crate) fn no(name: usize) -> Literal
+pub(crate) fn no(name: usize) -> ClauseLiteral
     ensures { result ≡ no name }
 {
-    Literal {
+    ClauseLiteral {
         name,
         negated: true,
     }
@@ -19,79 +19,82 @@ pub(crate) fn no(name: usize) -> Literal
 
 /// The two sides of an equation.
 #[derive(Clone, Copy)]
-pub(crate) struct Sides {
-    pub(crate) left: Literal,
-    pub(crate) right: Literal,
+pub(crate) struct EquationSides {
+    pub(crate) left: ClauseLiteral,
+    pub(crate) right: ClauseLiteral,
 }
 
 /// The sides of the name, which has to be an equation.
-pub(crate) fn equation(table: &Table, name: usize) -> Result<Sides, Fault>
+pub(crate) fn equation(table: &TermTable, name: usize) -> Result<EquationSides, LineFault>
     ensures { IfOk result (λ r. IsEquation (terms_of table.now) (types_of table.now) name r.left r.right) }
 {
-    table.truth(Literal::of(name))?;
+    table.truth(ClauseLiteral::of(name))?;
     match table.term(name)? {
-        Term::Bin(BOp::Eq, left, right) => Ok(Sides {
+        CertificateTerm::Bin(BOp::Eq, left, right) => Ok(EquationSides {
             left: *left,
             right: *right,
         }),
-        _ => Err(Fault::Refused(Refusal::Shape)),
+        _ => Err(LineFault::Refused(LineRefusal::Shape)),
     }
 }
 
 /// What the literal is, which has to be no negation.
-pub(crate) fn named(table: &Table, literal: Literal) -> Result<&Term, Fault>
+pub(crate) fn named(
+    table: &TermTable,
+    literal: ClauseLiteral,
+) -> Result<&CertificateTerm, LineFault>
     ensures { IfOk result (λ t. IsNamed (terms_of table.now) literal t.now) }
 {
     if literal.negated {
-        return Err(Fault::Refused(Refusal::Shape));
+        return Err(LineFault::Refused(LineRefusal::Shape));
     }
     table.term(literal.name)
 }
 
 /// A map at keys.
 #[derive(Clone, Copy)]
-pub(crate) struct Place<'a> {
+pub(crate) struct MapPlace<'a> {
     pub(crate) map: usize,
-    pub(crate) keys: &'a [Literal],
+    pub(crate) keys: &'a [ClauseLiteral],
 }
 
 /// The place that the literal is, which has to be one.
-pub(crate) fn place_of(table: &Table, literal: Literal) -> Result<Place<'_>, Fault>
+pub(crate) fn place_of(table: &TermTable, literal: ClauseLiteral) -> Result<MapPlace<'_>, LineFault>
     ensures { IfOk result (λ p. IsPlace (terms_of table.now) literal p.map p.keys.now) }
 {
     match named(table, literal)? {
-        Term::At(map, keys) => Ok(Place {
+        CertificateTerm::At(map, keys) => Ok(MapPlace {
             map: *map,
             keys: keys.as_slice(),
         }),
-        _ => Err(Fault::Refused(Refusal::Shape)),
+        _ => Err(LineFault::Refused(LineRefusal::Shape)),
     }
 }
 
 /// A map but for the value at keys.
 #[derive(Clone, Copy)]
-pub(crate) struct Change<'a> {
+pub(crate) struct MapChange<'a> {
     pub(crate) map: usize,
-    pub(crate) keys: &'a [Literal],
-    pub(crate) value: Literal,
+    pub(crate) keys: &'a [ClauseLiteral],
+    pub(crate) value: ClauseLiteral,
 }
 
 /// The change that the name is, which has to be one.
-pub(crate) fn change_of(table: &Table, name: usize) -> Result<Change<'_>, Fault>
+pub(crate) fn change_of(table: &TermTable, name: usize) -> Result<MapChange<'_>, LineFault>
     ensures { IfOk result (λ c. IsChange (terms_of table.now) name c.map c.keys.now c.value) }
 {
     match table.term(name)? {
-        Term::Put(map, keys, value) => Ok(Change {
+        CertificateTerm::Put(map, keys, value) => Ok(MapChange {
             map: *map,
             keys: keys.as_slice(),
             value: *value,
         }),
-        _ => Err(Fault::Refused(Refusal::Shape)),
+        _ => Err(LineFault::Refused(LineRefusal::Shape)),
     }
 }
 
 /// Whether these are the same literals.
-pub(crate) fn same_literals(left: &[Literal], right: &[Literal]) -> bool
+pub(crate) fn same_literals(left: &[ClauseLiteral], right: &[ClauseLiteral]) -> bool
     ensures { IsTrue result → left.now ≡ right.now }
 {
     if left.len() != right.len() {
@@ -106,14 +109,18 @@ pub(crate) fn same_literals(left: &[Literal], right: &[Literal]) -> bool
 }
 
 /// Whether the equation is one of these two, either way round.
-pub(crate) fn is_between(sides: Sides, a: Literal, b: Literal) -> bool
+pub(crate) fn is_between(sides: EquationSides, a: ClauseLiteral, b: ClauseLiteral) -> bool
     ensures { IsTrue result → ((sides.left ≡ a) × (sides.right ≡ b)) ⊎ ((sides.left ≡ b) × (sides.right ≡ a)) }
 {
     (sides.left == a && sides.right == b) || (sides.left == b && sides.right == a)
 }
 
 /// Whether the equation is one of two that stand at one place of these.
-pub(crate) fn is_among(sides: Sides, left: &[Literal], right: &[Literal]) -> bool
+pub(crate) fn is_among(
+    sides: EquationSides,
+    left: &[ClauseLiteral],
+    right: &[ClauseLiteral],
+) -> bool
     ensures { IsTrue result → IsAmong left.now right.now sides.left sides.right }
 {
     for place in 0..left.len() {
@@ -128,10 +135,13 @@ pub(crate) fn is_among(sides: Sides, left: &[Literal], right: &[Literal]) -> boo
 }
 
 /// The clause with the equation of this name.
-pub(crate) fn closed(clause: Vec<Literal>, name: usize) -> Result<Vec<Literal>, Fault>
+pub(crate) fn closed(
+    clause: Vec<ClauseLiteral>,
+    name: usize,
+) -> Result<Vec<ClauseLiteral>, LineFault>
     ensures { IfOk result (λ c. c.items ≡ clause.items ++ yes name ∷ []) }
 {
     let mut clause = clause;
-    clause.push(Literal::of(name))?;
+    clause.push(ClauseLiteral::of(name))?;
     Ok(clause)
 }

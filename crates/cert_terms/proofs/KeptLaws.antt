@@ -20,9 +20,9 @@ use Rattle.boogie_formula.specs.Formula as f
 use Rattle.boogie_formula.specs.Formula.{FExpr, FExprs}
 use Rattle.boogie_formula.specs.Value.{plain, plain_all, whole}
 use Rattle.boogie_formula.specs.Types.{fbase, fbases, one_type, whole_type}
-use Rattle.cert_terms.specs.declared.terms.Literal.{Literal}
-use Rattle.cert_terms.specs.declared.terms.Term.{Term}
-use Rattle.cert_terms.specs.declared.terms.Term.TheVariants as term
+use Rattle.cert_terms.specs.declared.terms.ClauseLiteral.{ClauseLiteral}
+use Rattle.cert_terms.specs.declared.terms.CertificateTerm.{CertificateTerm}
+use Rattle.cert_terms.specs.declared.terms.CertificateTerm.TheVariants as term
 use Rattle.cert_terms.specs.Terms.{operand, meaning}
 use Rattle.boogie_meaning.proofs.TypeLaws.{from_then}
 use Rattle.cert_terms.proofs.MeaningLaws.{at, of, key_at, key_more, told, whole_told}
@@ -173,10 +173,10 @@ module _ (old new : List BValue) (kept : Kept old new) where
   signed_kept n false = of_kept n
 
   -- an operand keeps its value
-  pub at_kept : (l : Literal) → Below (at l old) (at l new)
+  pub at_kept : (l : ClauseLiteral) → Below (at l old) (at l new)
   at_kept l = signed_kept l.name l.negated
 
-  pub key_kept : (ks : List Literal) → Below (key_at ks old) (key_at ks new)
+  pub key_kept : (ks : List ClauseLiteral) → Below (key_at ks old) (key_at ks new)
   key_kept [] = below_itself (Is [])
   key_kept (k ∷ ks) = λ x h. key_more k ks new ∙ first (key_kept ks) x (sym (key_more k ks old) ∙ h)
     where
@@ -189,7 +189,7 @@ module _ (old new : List BValue) (kept : Kept old new) where
   one_kept : (e g : End BScalar) → Below e g → Below (one_of e) (one_of g)
   one_kept e g h = then_below e g _ _ h (λ v. below_itself (one_of (Is v)))
 
-  side_kept : (a : Literal) (go : BScalar → End BScalar) → Below (one_of (then_with (at a old) go)) (one_of (then_with (at a new) go))
+  side_kept : (a : ClauseLiteral) (go : BScalar → End BScalar) → Below (one_of (then_with (at a old) go)) (one_of (then_with (at a new) go))
   side_kept a go = one_kept (then_with (at a old) go) (then_with (at a new) go) (then_below (at a old) (at a new) go go (at_kept a) (λ v. below_itself (go v)))
 
   whole_signed : (n : ℕ) (s : Truth) → Below (whole (operand (record { name = n; negated = s })) old) (whole (operand (record { name = n; negated = s })) new)
@@ -197,7 +197,7 @@ module _ (old new : List BValue) (kept : Kept old new) where
   whole_signed n false = found_kept n
 
   -- a term keeps the value that it says
-  pub told_kept : (x : Term) → Below (told x old) (told x new)
+  pub told_kept : (x : CertificateTerm) → Below (told x old) (told x new)
   told_kept term.Given = below_itself Wrong
   told_kept (term.Same n) = found_kept n
   told_kept (term.Bool p) = below_itself (told (term.Bool p) old)
@@ -224,5 +224,5 @@ module _ (old new : List BValue) (kept : Kept old new) where
       then_below (key_at ks.items old) (key_at ks.items new) _ _ (key_kept ks.items) (λ k. then_below (at a old) (at a new) _ _ (at_kept a) (λ v. below_itself (Is (Many (set key_cmp same_scalar n k v)))))))
 
   -- what a term means keeps its value
-  pub meaning_kept : (x : Term) (e : FExpr) → meaning x ≡ Some e → Below (whole e old) (whole e new)
+  pub meaning_kept : (x : CertificateTerm) (e : FExpr) → meaning x ≡ Some e → Below (whole e old) (whole e new)
   meaning_kept x e m = λ v h. whole_told x e new m ∙ told_kept x v (sym (whole_told x e old m) ∙ h)

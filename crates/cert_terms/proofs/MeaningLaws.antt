@@ -16,9 +16,9 @@ use Rattle.boogie_meaning.specs.Quantified.{one_of}
 use Rattle.boogie_formula.specs.Formula as f
 use Rattle.boogie_formula.specs.Formula.{FExpr}
 use Rattle.boogie_formula.specs.Value.{plain, plain_all, fvalue, fkey, whole}
-use Rattle.cert_terms.specs.declared.terms.Literal.{Literal}
-use Rattle.cert_terms.specs.declared.terms.Term.{Term}
-use Rattle.cert_terms.specs.declared.terms.Term.TheVariants as term
+use Rattle.cert_terms.specs.declared.terms.ClauseLiteral.{ClauseLiteral}
+use Rattle.cert_terms.specs.declared.terms.CertificateTerm.{CertificateTerm}
+use Rattle.cert_terms.specs.declared.terms.CertificateTerm.TheVariants as term
 use Rattle.cert_terms.specs.Terms.{operand, operands, meaning, IsModel}
 
 -- ---- the trees of operands
@@ -27,10 +27,10 @@ abbrev pub tree_at : ℕ → Truth → t.BExpr
 tree_at n true = t.Not (t.Var n)
 tree_at n false = t.Var n
 
-abbrev pub tree : Literal → t.BExpr
+abbrev pub tree : ClauseLiteral → t.BExpr
 tree l = tree_at l.name l.negated
 
-abbrev pub trees : List Literal → t.BExprs
+abbrev pub trees : List ClauseLiteral → t.BExprs
 trees [] = t.none
 trees (l ∷ ls) = t.more (tree l) (trees ls)
 
@@ -38,17 +38,17 @@ plain_at : (n : ℕ) (s : Truth) → plain (operand (record { name = n; negated 
 plain_at n true = refl
 plain_at n false = refl
 
-pub plain_operand : (l : Literal) → plain (operand l) ≡ Some (tree l)
+pub plain_operand : (l : ClauseLiteral) → plain (operand l) ≡ Some (tree l)
 plain_operand l = plain_at l.name l.negated
 
-pub plain_operands : (ls : List Literal) → plain_all (operands ls) ≡ Some (trees ls)
+pub plain_operands : (ls : List ClauseLiteral) → plain_all (operands ls) ≡ Some (trees ls)
 plain_operands [] = refl
 plain_operands (l ∷ ls) = rw (plain_operand l, plain_operands ls) refl
 
 -- ---- values of parts
 
 -- the value of an operand
-abbrev pub at : Literal → List BValue → End BScalar
+abbrev pub at : ClauseLiteral → List BValue → End BScalar
 at l values = fvalue (operand l) values
 
 -- the value of a name
@@ -56,14 +56,14 @@ abbrev pub of : ℕ → List BValue → End BScalar
 of n values = fvalue (f.Var n) values
 
 -- the key that operands are
-abbrev pub key_at : List Literal → List BValue → End Key
+abbrev pub key_at : List ClauseLiteral → List BValue → End Key
 key_at ks values = fkey (operands ks) values
 
 -- the map that an operand is
-abbrev pub map_at : Literal → List BValue → End (Map Key BScalar)
+abbrev pub map_at : ClauseLiteral → List BValue → End (Map Key BScalar)
 map_at l values = then_with (whole (operand l) values) map_in
 
-pub key_more : (k : Literal) (ks : List Literal) (values : List BValue) →
+pub key_more : (k : ClauseLiteral) (ks : List ClauseLiteral) (values : List BValue) →
     key_at (k ∷ ks) values ≡ then_with (at k values) (λ v. then_with (part_of v) (λ p. then_with (key_at ks values) (λ r. Is (p ∷ r))))
 key_more k ks values = rw (plain_operand k, plain_operands ks) refl
 
@@ -77,7 +77,7 @@ whole_scalar n true values = one_back (at (record { name = n; negated = true }) 
 whole_scalar n false values = refl
 
 -- a map has no negation
-pub map_at_name : (l : Literal) (values : List BValue) → l.negated ≡ false → map_at l values ≡ the_map values l.name
+pub map_at_name : (l : ClauseLiteral) (values : List BValue) → l.negated ≡ false → map_at l values ≡ the_map values l.name
 map_at_name l values h = rw h refl
 
 -- ---- the value that a term says
@@ -96,7 +96,7 @@ chosen c x y = then_with (as_truth c) (λ p. if p then x else y)
 abbrev pub paired : End BScalar → End BScalar → End BScalar
 paired x y = then_with x (λ v. then_with y (λ w. pair_of Unbounded v w))
 
-abbrev pub told : Term → List BValue → End BValue
+abbrev pub told : CertificateTerm → List BValue → End BValue
 told term.Given values = Wrong
 told (term.Same n) values = found (slice_get values n)
 told (term.Bool p) values = Is (One (Bool p))
@@ -118,7 +118,7 @@ told (term.Put m ks a) values = then_with (found (slice_get values m)) (λ w. th
     Is (Many (set key_cmp same_scalar n k v))))))
 
 -- the value of what a term means
-pub whole_told : (x : Term) (e : FExpr) (values : List BValue) → meaning x ≡ Some e → whole e values ≡ told x values
+pub whole_told : (x : CertificateTerm) (e : FExpr) (values : List BValue) → meaning x ≡ Some e → whole e values ≡ told x values
 whole_told term.Given e values h = absurd (cc)
 whole_told (term.Same n) e values h = rw (some_turned h) refl
 whole_told (term.Bool p) e values h = rw (some_turned h) refl
@@ -177,19 +177,19 @@ put_map (Some (Many n)) Over v = refl
 put_map (Some (Many n)) Wrong v = refl
 put_map None k v = refl
 
-module _ (terms : List Term) (values : List BValue) (model : IsModel terms values) (n : ℕ) where
+module _ (terms : List CertificateTerm) (values : List BValue) (model : IsModel terms values) (n : ℕ) where
   -- a term that has a meaning has the value of its name
-  pub told_there : (x : Term) (e : FExpr) → slice_get terms n ≡ Some x → meaning x ≡ Some e → found (slice_get values n) ≡ told x values
+  pub told_there : (x : CertificateTerm) (e : FExpr) → slice_get terms n ≡ Some x → meaning x ≡ Some e → found (slice_get values n) ≡ told x values
   told_there x e h m = sym (model.agrees n x e h m) ∙ whole_told x e values m
 
-  scalar_told : (x : Term) (e : FExpr) → slice_get terms n ≡ Some x → meaning x ≡ Some e → of n values ≡ then_with (told x values) scalar_in
+  scalar_told : (x : CertificateTerm) (e : FExpr) → slice_get terms n ≡ Some x → meaning x ≡ Some e → of n values ≡ then_with (told x values) scalar_in
   scalar_told x e h m = ap (λ o. then_with o scalar_in) (told_there x e h m)
 
-  map_told : (x : Term) (e : FExpr) → slice_get terms n ≡ Some x → meaning x ≡ Some e → the_map values n ≡ then_with (told x values) map_in
+  map_told : (x : CertificateTerm) (e : FExpr) → slice_get terms n ≡ Some x → meaning x ≡ Some e → the_map values n ≡ then_with (told x values) map_in
   map_told x e h m = ap (λ o. then_with o map_in) (told_there x e h m)
 
   -- a term with a scalar of its parts
-  by_parts : (x : Term) (e : FExpr) (v : End BScalar) → told x values ≡ one_of v → slice_get terms n ≡ Some x → meaning x ≡ Some e → of n values ≡ v
+  by_parts : (x : CertificateTerm) (e : FExpr) (v : End BScalar) → told x values ≡ one_of v → slice_get terms n ≡ Some x → meaning x ≡ Some e → of n values ≡ v
   by_parts x e v o h m = scalar_told x e h m ∙ ap (λ y. then_with y scalar_in) o ∙ one_scalar v
 
   pub same_value : (m : ℕ) → slice_get terms n ≡ Some (term.Same m) → slice_get values n ≡ slice_get values m
@@ -210,50 +210,50 @@ module _ (terms : List Term) (values : List BValue) (model : IsModel terms value
   pub real_value : (x : ℤ) → slice_get terms n ≡ Some (term.Real x) → of n values ≡ Is (Real (whole_number x))
   real_value x h = by_parts (term.Real x) (f.Real x) (Is (Real (whole_number x))) refl h refl
 
-  pub neg_value : (a : Literal) → slice_get terms n ≡ Some (term.Neg a) → of n values ≡ then_with (at a values) negative
+  pub neg_value : (a : ClauseLiteral) → slice_get terms n ≡ Some (term.Neg a) → of n values ≡ then_with (at a values) negative
   neg_value a h = by_parts (term.Neg a) (f.Neg (operand a)) (then_with (at a values) negative) refl h refl
 
-  pub bin_value : (o : BOp) (a b : Literal) → slice_get terms n ≡ Some (term.Bin o a b) → of n values ≡ binary Unbounded o (at a values) (at b values)
+  pub bin_value : (o : BOp) (a b : ClauseLiteral) → slice_get terms n ≡ Some (term.Bin o a b) → of n values ≡ binary Unbounded o (at a values) (at b values)
   bin_value o a b h = by_parts (term.Bin o a b) (f.Bin o (operand a) (operand b)) (binary Unbounded o (at a values) (at b values)) refl h refl
 
   -- an operator that is not lazy, at the values of its operands
-  pub bin_is : (o : BOp) (a b : Literal) (v w : BScalar) → is_lazy o ≡ false → slice_get terms n ≡ Some (term.Bin o a b) → at a values ≡ Is v → at b values ≡ Is w →
+  pub bin_is : (o : BOp) (a b : ClauseLiteral) (v w : BScalar) → is_lazy o ≡ false → slice_get terms n ≡ Some (term.Bin o a b) → at a values ≡ Is v → at b values ≡ Is w →
       of n values ≡ plain_of Unbounded o v w
   bin_is o a b v w l h p q = bin_value o a b h ∙ rw (p, q) (rw l refl)
 
-  pub if_value : (c a b : Literal) → slice_get terms n ≡ Some (term.If c a b) → of n values ≡ chosen (at c values) (at a values) (at b values)
+  pub if_value : (c a b : ClauseLiteral) → slice_get terms n ≡ Some (term.If c a b) → of n values ≡ chosen (at c values) (at a values) (at b values)
   if_value c a b h =
       scalar_told (term.If c a b) (f.If (operand c) (operand a) (operand b)) h refl
       ∙ then_chosen scalar_in (at c values) (whole (operand a) values) (whole (operand b) values)
       ∙ (let p = whole_scalar a.name a.negated values in let q = whole_scalar b.name b.negated values in λ i. chosen (at c values) (p i) (q i))
 
-  pub if_map : (c a b : Literal) → slice_get terms n ≡ Some (term.If c a b) → the_map values n ≡ chosen (at c values) (map_at a values) (map_at b values)
+  pub if_map : (c a b : ClauseLiteral) → slice_get terms n ≡ Some (term.If c a b) → the_map values n ≡ chosen (at c values) (map_at a values) (map_at b values)
   if_map c a b h =
       map_told (term.If c a b) (f.If (operand c) (operand a) (operand b)) h refl
       ∙ then_chosen map_in (at c values) (whole (operand a) values) (whole (operand b) values)
 
-  pub to_real_value : (a : Literal) → slice_get terms n ≡ Some (term.ToReal a) → of n values ≡ then_with (at a values) real_from
+  pub to_real_value : (a : ClauseLiteral) → slice_get terms n ≡ Some (term.ToReal a) → of n values ≡ then_with (at a values) real_from
   to_real_value a h = by_parts (term.ToReal a) (f.ToReal (operand a)) (then_with (at a values) real_from) refl h refl
 
-  pub s_int_value : (a : Literal) → slice_get terms n ≡ Some (term.SInt a) → of n values ≡ then_with (at a values) leaf_int
+  pub s_int_value : (a : ClauseLiteral) → slice_get terms n ≡ Some (term.SInt a) → of n values ≡ then_with (at a values) leaf_int
   s_int_value a h = by_parts (term.SInt a) (f.SInt (operand a)) (then_with (at a values) leaf_int) refl h refl
 
-  pub s_bool_value : (a : Literal) → slice_get terms n ≡ Some (term.SBool a) → of n values ≡ then_with (at a values) leaf_bool
+  pub s_bool_value : (a : ClauseLiteral) → slice_get terms n ≡ Some (term.SBool a) → of n values ≡ then_with (at a values) leaf_bool
   s_bool_value a h = by_parts (term.SBool a) (f.SBool (operand a)) (then_with (at a values) leaf_bool) refl h refl
 
-  pub s_ref_value : (a : Literal) → slice_get terms n ≡ Some (term.SRef a) → of n values ≡ then_with (at a values) leaf_ref
+  pub s_ref_value : (a : ClauseLiteral) → slice_get terms n ≡ Some (term.SRef a) → of n values ≡ then_with (at a values) leaf_ref
   s_ref_value a h = by_parts (term.SRef a) (f.SRef (operand a)) (then_with (at a values) leaf_ref) refl h refl
 
-  pub s_perm_value : (a : Literal) → slice_get terms n ≡ Some (term.SPerm a) → of n values ≡ then_with (at a values) leaf_perm
+  pub s_perm_value : (a : ClauseLiteral) → slice_get terms n ≡ Some (term.SPerm a) → of n values ≡ then_with (at a values) leaf_perm
   s_perm_value a h = by_parts (term.SPerm a) (f.SPerm (operand a)) (then_with (at a values) leaf_perm) refl h refl
 
-  pub pair_value : (a b : Literal) → slice_get terms n ≡ Some (term.Pair a b) → of n values ≡ paired (at a values) (at b values)
+  pub pair_value : (a b : ClauseLiteral) → slice_get terms n ≡ Some (term.Pair a b) → of n values ≡ paired (at a values) (at b values)
   pair_value a b h = by_parts (term.Pair a b) (f.Pair (operand a) (operand b)) (paired (at a values) (at b values)) refl h refl
 
   pub at_value : (m : ℕ) (ks : _) → slice_get terms n ≡ Some (term.At m ks) → of n values ≡ got_at (the_map values m) (key_at ks.items values)
   at_value m ks h = by_parts (term.At m ks) (f.At m (operands ks.items)) (got_at (the_map values m) (key_at ks.items values)) refl h refl
 
-  pub put_value : (m : ℕ) (ks : _) (a : Literal) → slice_get terms n ≡ Some (term.Put m ks a) → the_map values n ≡ put_at (the_map values m) (key_at ks.items values) (at a values)
+  pub put_value : (m : ℕ) (ks : _) (a : ClauseLiteral) → slice_get terms n ≡ Some (term.Put m ks a) → the_map values n ≡ put_at (the_map values m) (key_at ks.items values) (at a values)
   put_value m ks a h =
       map_told (term.Put m ks a) (f.With (f.Var m) (operands ks.items) (operand a)) h refl
       ∙ put_map (slice_get values m) (key_at ks.items values) (at a values)

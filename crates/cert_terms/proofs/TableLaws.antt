@@ -8,7 +8,7 @@ use Rattle.boogie_meaning.specs.Types.{is_type}
 use Rattle.boogie_meaning.proofs.TypeLaws.{and_true, type_same, same_base_itself, same_bases_itself}
 use Rattle.boogie_formula.specs.Formula.{FExpr}
 use Rattle.boogie_formula.specs.Types.{whole_type}
-use Rattle.cert_terms.specs.declared.terms.Term.{Term}
+use Rattle.cert_terms.specs.declared.terms.CertificateTerm.{CertificateTerm}
 use Rattle.cert_terms.specs.Terms.{meaning}
 use Rattle.cert_terms.specs.Tables.{is_of_type, are_of_types, IsTable}
 use Rattle.cert_terms.proofs.KeptLaws.{Kept, whole_type_kept}
@@ -63,7 +63,7 @@ pub is_type_itself : (o : Option BType) (u : BType) → o ≡ Some u → is_type
 is_type_itself o u h = rw h (and_true (same_bases_itself u.keys) (same_base_itself u.base))
 
 -- the term of this number and its type
-pub typed_at : (before : List BType) (ts : List Term) (us : List BType) → are_of_types before ts us ≡ true → (n : ℕ) (t : Term) (e : FExpr) →
+pub typed_at : (before : List BType) (ts : List CertificateTerm) (us : List BType) → are_of_types before ts us ≡ true → (n : ℕ) (t : CertificateTerm) (e : FExpr) →
     slice_get ts n ≡ Some t → meaning t ≡ Some e → (u : BType) × (slice_get us n ≡ Some u) × (whole_type (before ++ take n us) e ≡ Some u)
 typed_at before [] us h n t e l m = absurd (cc)
 typed_at before (x ∷ ts) [] h n t e l m = absurd (cc)
@@ -78,14 +78,14 @@ typed_at before (x ∷ ts) (u ∷ us) h (suc n) t e l m =
     (r.0, r.1, ap (λ b. whole_type b e) (sym (one_more before (take n us) u)) ∙ r.2)
 
 -- as many types as terms
-pub as_long : (before : List BType) (ts : List Term) (us : List BType) → are_of_types before ts us ≡ true → length ts ≡ length us
+pub as_long : (before : List BType) (ts : List CertificateTerm) (us : List BType) → are_of_types before ts us ≡ true → length ts ≡ length us
 as_long before [] [] h = refl
 as_long before [] (u ∷ us) h = absurd (cc)
 as_long before (t ∷ ts) [] h = absurd (cc)
 as_long before (t ∷ ts) (u ∷ us) h = ap suc (as_long (before ++ u ∷ []) ts us (and_parts (is_of_type (meaning t) before u) (are_of_types (before ++ u ∷ []) ts us) h).1)
 
 -- one more term
-pub typed_push : (before : List BType) (ts : List Term) (us : List BType) → are_of_types before ts us ≡ true → (t : Term) (u : BType) → is_of_type (meaning t) (before ++ us) u ≡ true →
+pub typed_push : (before : List BType) (ts : List CertificateTerm) (us : List BType) → are_of_types before ts us ≡ true → (t : CertificateTerm) (u : BType) → is_of_type (meaning t) (before ++ us) u ≡ true →
     are_of_types before (ts ++ t ∷ []) (us ++ u ∷ []) ≡ true
 typed_push before [] [] h t u g = and_true (subst (λ b. is_of_type (meaning t) b u ≡ true) (append-nil before) g) refl
 typed_push before [] (w ∷ us) h t u g = absurd (cc)
@@ -95,7 +95,7 @@ typed_push before (x ∷ ts) (w ∷ us) h t u g =
     and_true p.0 (typed_push (before ++ w ∷ []) ts us p.1 t u (subst (λ b. is_of_type (meaning t) b u ≡ true) (sym (one_more before us w)) g))
 
 -- the terms behind others
-pub typed_behind : (before : List BType) (ts more : List Term) (us mores : List BType) → length ts ≡ length us → are_of_types before (ts ++ more) (us ++ mores) ≡ true →
+pub typed_behind : (before : List BType) (ts more : List CertificateTerm) (us mores : List BType) → length ts ≡ length us → are_of_types before (ts ++ more) (us ++ mores) ≡ true →
     are_of_types (before ++ us) more mores ≡ true
 typed_behind before [] more [] mores l h = subst (λ b. are_of_types b more mores ≡ true) (sym (append-nil before)) h
 typed_behind before [] more (u ∷ us) mores l h = absurd (omega (arith, l))
@@ -106,7 +106,7 @@ typed_behind before (t ∷ ts) more (u ∷ us) mores l h =
     subst (λ b. are_of_types b more mores ≡ true) (one_more before us u) (typed_behind (before ++ u ∷ []) ts more us mores same p.1)
 
 -- a term of a table has its type over all of the table's names
-pub typed_there : (ts : List Term) (us : List BType) → IsTable ts us → (n : ℕ) (t : Term) (e : FExpr) → slice_get ts n ≡ Some t → meaning t ≡ Some e →
+pub typed_there : (ts : List CertificateTerm) (us : List BType) → IsTable ts us → (n : ℕ) (t : CertificateTerm) (e : FExpr) → slice_get ts n ≡ Some t → meaning t ≡ Some e →
     (u : BType) × (slice_get us n ≡ Some u) × (whole_type us e ≡ Some u)
 typed_there ts us h n t e l m =
     let r = typed_at [] ts us h n t e l m in

@@ -7,12 +7,12 @@ use Rattle.boogie_meaning.specs.Types.{then_some, given, negated}
 use Rattle.boogie_types.specs.Typed.{answer_at, pair_at, indexed_by}
 use Rattle.boogie_formula.specs.Formula.{FExpr}
 use Rattle.boogie_formula.specs.Types.{fbase, fbases, whole_type}
-use Rattle.cert_terms.specs.declared.terms.Term.{Term}
-use Rattle.cert_terms.specs.declared.terms.Term.TheVariants as term
+use Rattle.cert_terms.specs.declared.terms.CertificateTerm.{CertificateTerm}
+use Rattle.cert_terms.specs.declared.terms.CertificateTerm.TheVariants as term
 use Rattle.cert_terms.specs.Terms.{operand, operands, meaning}
 
 -- the type of a term that is never a map
-abbrev pub plain_kind : List BType → Term → Option BBase
+abbrev pub plain_kind : List BType → CertificateTerm → Option BBase
 plain_kind ls (term.Bool p) = Some base.Bool
 plain_kind ls term.Null = Some base.Ref
 plain_kind ls term.Unit = Some base.Snap
@@ -30,5 +30,5 @@ plain_kind ls (term.At m ks) = indexed_by (slice_get ls m) (fbases ls (operands 
 plain_kind ls _ = None
 
 -- what a term means, if anything is said of it, has this type
-abbrev pub HasKind : List BType → Term → BType → Type 0
+abbrev pub HasKind : List BType → CertificateTerm → BType → Type 0
 HasKind ls x u = (e : FExpr) → meaning x ≡ Some e → whole_type ls e ≡ Some u

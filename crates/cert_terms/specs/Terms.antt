@@ -10,23 +10,23 @@ use Rattle.boogie_formula.specs.Formula as f
 use Rattle.boogie_formula.specs.Formula.{FExpr, FExprs}
 use Rattle.boogie_formula.specs.Value.{fvalue, whole}
 use Rattle.boogie_formula.specs.Types.{fbase}
-use Rattle.cert_terms.specs.declared.terms.Literal.{Literal}
-use Rattle.cert_terms.specs.declared.terms.Term.{Term}
-use Rattle.cert_terms.specs.declared.terms.Term.TheVariants as term
+use Rattle.cert_terms.specs.declared.terms.ClauseLiteral.{ClauseLiteral}
+use Rattle.cert_terms.specs.declared.terms.CertificateTerm.{CertificateTerm}
+use Rattle.cert_terms.specs.declared.terms.CertificateTerm.TheVariants as term
 
 -- ---- terms
 
 -- a name, or its negation
-abbrev pub operand : Literal → FExpr
+abbrev pub operand : ClauseLiteral → FExpr
 operand l = if l.negated then f.Not (f.Var l.name) else f.Var l.name
 
 -- such keys of a map
-abbrev pub operands : List Literal → FExprs
+abbrev pub operands : List ClauseLiteral → FExprs
 operands [] = f.none
 operands (l ∷ ls) = f.more (operand l) (operands ls)
 
 -- what a term says that its name is, unless the name is given
-abbrev pub meaning : Term → Option FExpr
+abbrev pub meaning : CertificateTerm → Option FExpr
 meaning term.Given = None
 meaning (term.Same n) = Some (f.Var n)
 meaning (term.Bool p) = Some (f.Bool p)
@@ -47,26 +47,26 @@ meaning (term.At m ks) = Some (f.At m (operands ks.items))
 meaning (term.Put m ks a) = Some (f.With (f.Var m) (operands ks.items) (operand a))
 
 -- at these values of all names, each name has the value that its term says
-pub record IsModel (terms : List Term) (values : List BValue) : Type 0 where
-  pub agrees : (n : ℕ) (t : Term) (e : FExpr) → slice_get terms n ≡ Some t → meaning t ≡ Some e → whole e values ≡ found (slice_get values n)
+pub record IsModel (terms : List CertificateTerm) (values : List BValue) : Type 0 where
+  pub agrees : (n : ℕ) (t : CertificateTerm) (e : FExpr) → slice_get terms n ≡ Some t → meaning t ≡ Some e → whole e values ≡ found (slice_get values n)
 
 -- ---- clauses
 
 -- the literal is a truth value
-abbrev pub IsTruth : List BType → Literal → Type 0
+abbrev pub IsTruth : List BType → ClauseLiteral → Type 0
 IsTruth types l = fbase types (operand l) ≡ Some base.Bool
 
 -- the literal is true at these values of all names
-abbrev pub IsTrueIn : List BValue → Literal → Type 0
+abbrev pub IsTrueIn : List BValue → ClauseLiteral → Type 0
 IsTrueIn values l = fvalue (operand l) values ≡ Is (Bool true)
 
 -- one literal of the clause is true
-pub record HoldsIn (values : List BValue) (clause : List Literal) : Type 0 where
+pub record HoldsIn (values : List BValue) (clause : List ClauseLiteral) : Type 0 where
   pub place : ℕ
-  pub literal : Literal
+  pub literal : ClauseLiteral
   pub is_there : slice_get clause place ≡ Some literal
   pub is_true : IsTrueIn values literal
 
 -- the clause holds at all values of the names' types at which each name is what its term says
-abbrev pub IsLaw : List Term → List BType → List Literal → Type 0
+abbrev pub IsLaw : List CertificateTerm → List BType → List ClauseLiteral → Type 0
 IsLaw terms types clause = (values : List BValue) → IsEnvironment types values → IsModel terms values → HoldsIn values clause

@@ -4,7 +4,7 @@ use vb_base::Memory;
 
 /// Why a line of a certificate is refused.
 #[derive(Clone, Copy, Debug, PartialEq, Eq)]
-pub enum Refusal {
+pub enum LineRefusal {
     /// The first line names another procedure.
     Header,
     /// The last line has no end.
@@ -41,25 +41,25 @@ pub enum Refusal {
 
 /// Why a line is not taken: there is no memory, or it is refused.
 #[derive(Clone, Copy, Debug, PartialEq, Eq)]
-pub enum Fault {
+pub enum LineFault {
     Memory,
-    Refused(Refusal),
+    Refused(LineRefusal),
 }
 
-impl From<AllocError> for Fault {
-    fn from(_: AllocError) -> Fault {
-        Fault::Memory
+impl From<AllocError> for LineFault {
+    fn from(_: AllocError) -> LineFault {
+        LineFault::Memory
     }
 }
 
-impl<T: Drop> From<AllocFailed<T>> for Fault {
-    fn from(_: AllocFailed<T>) -> Fault {
-        Fault::Memory
+impl<T: Drop> From<AllocFailed<T>> for LineFault {
+    fn from(_: AllocFailed<T>) -> LineFault {
+        LineFault::Memory
     }
 }
 
-impl From<Memory> for Fault {
-    fn from(_: Memory) -> Fault {
-        Fault::Memory
+impl From<Memory> for LineFault {
+    fn from(_: Memory) -> LineFault {
+        LineFault::Memory
     }
 }

@@ -9,7 +9,7 @@ mod table;
 mod terms;
 mod types;
 
-pub use faults::{Fault, Refusal};
-pub use table::Table;
-pub use terms::{Literal, Named, Term};
+pub use faults::{LineFault, LineRefusal};
+pub use table::TermTable;
+pub use terms::{CertificateTerm, ClauseLiteral, TypedTerm};
 pub use types::copy_type;

@@ -7,12 +7,12 @@ ghost use Rattle.boogie_types.specs.Typed.{are_bases, indexed_by};
 ghost use Rattle.cert_terms.specs.Lawful.{types_of};
 ghost use Rattle.cert_terms.specs.Terms.{operand, operands};
 
-use crate::table::Table;
-use crate::terms::{Literal, Term};
+use crate::table::TermTable;
+use crate::terms::{CertificateTerm, ClauseLiteral};
 use boogie_tree::BBase;
 use boogie_types::{answer, given, is_index, negated, pair};
 
-impl Table {
+impl TermTable {
     /// The type of a name that is no map.
     fn plain(&self, name: usize) -> Option<BBase>
         ensures { result ≡ fbase (types_of self.now) (f.Var name) }
@@ -26,7 +26,7 @@ impl Table {
     }
 
     /// The type of an operand, if it has one and is no map.
-    pub fn base(&self, literal: Literal) -> Option<BBase>
+    pub fn base(&self, literal: ClauseLiteral) -> Option<BBase>
         ensures { result ≡ fbase (types_of self.now) (operand literal) }
     {
         let found = self.plain(literal.name);
@@ -38,7 +38,7 @@ impl Table {
     }
 
     /// Whether keys have these types.
-    pub fn are_of(&self, keys: &[Literal], wanted: &[BBase]) -> bool
+    pub fn are_of(&self, keys: &[ClauseLiteral], wanted: &[BBase]) -> bool
         ensures { result ≡ are_bases (fbases (types_of self.now) (operands keys.now)) wanted.now }
     {
         let mut count = 0;
@@ -55,7 +55,7 @@ impl Table {
     }
 
     /// The type of a map's values at keys.
-    pub(crate) fn at(&self, map: usize, keys: &[Literal]) -> Option<BBase>
+    pub(crate) fn at(&self, map: usize, keys: &[ClauseLiteral]) -> Option<BBase>
         ensures { result ≡ indexed_by (slice_get (types_of self.now) map) (fbases (types_of self.now) (operands keys.now)) }
     {
         let named = self.names.get(map)?;
@@ -67,25 +67,28 @@ impl Table {
     }
 
     /// The type of a term that is never a map, if its parts have the types that it needs.
-    pub(crate) fn plain_kind(&self, term: &Term) -> Option<BBase>
+    pub(crate) fn plain_kind(&self, term: &CertificateTerm) -> Option<BBase>
         ensures { result ≡ plain_kind (types_of self.now) term.now }
     {
         match term {
-            Term::Given | Term::Same(_) | Term::If(_, _, _) | Term::Put(_, _, _) => None,
-            Term::Bool(_) => Some(BBase::Bool),
-            Term::Null => Some(BBase::Ref),
-            Term::Unit => Some(BBase::Snap),
-            Term::Int(_) => Some(BBase::Int),
-            Term::Real(_) => Some(BBase::Real),
-            Term::Neg(a) => negated(self.base(*a)),
-            Term::Bin(op, a, b) => answer(*op, self.base(*a), self.base(*b)),
-            Term::ToReal(a) => given(BBase::Int, BBase::Real, self.base(*a)),
-            Term::SInt(a) => given(BBase::Int, BBase::Snap, self.base(*a)),
-            Term::SBool(a) => given(BBase::Bool, BBase::Snap, self.base(*a)),
-            Term::SRef(a) => given(BBase::Ref, BBase::Snap, self.base(*a)),
-            Term::SPerm(a) => given(BBase::Real, BBase::Snap, self.base(*a)),
-            Term::Pair(a, b) => pair(self.base(*a), self.base(*b)),
-            Term::At(map, keys) => self.at(*map, keys),
+            CertificateTerm::Given
+            | CertificateTerm::Same(_)
+            | CertificateTerm::If(_, _, _)
+            | CertificateTerm::Put(_, _, _) => None,
+            CertificateTerm::Bool(_) => Some(BBase::Bool),
+            CertificateTerm::Null => Some(BBase::Ref),
+            CertificateTerm::Unit => Some(BBase::Snap),
+            CertificateTerm::Int(_) => Some(BBase::Int),
+            CertificateTerm::Real(_) => Some(BBase::Real),
+            CertificateTerm::Neg(a) => negated(self.base(*a)),
+            CertificateTerm::Bin(op, a, b) => answer(*op, self.base(*a), self.base(*b)),
+            CertificateTerm::ToReal(a) => given(BBase::Int, BBase::Real, self.base(*a)),
+            CertificateTerm::SInt(a) => given(BBase::Int, BBase::Snap, self.base(*a)),
+            CertificateTerm::SBool(a) => given(BBase::Bool, BBase::Snap, self.base(*a)),
+            CertificateTerm::SRef(a) => given(BBase::Ref, BBase::Snap, self.base(*a)),
+            CertificateTerm::SPerm(a) => given(BBase::Real, BBase::Snap, self.base(*a)),
+            CertificateTerm::Pair(a, b) => pair(self.base(*a), self.base(*b)),
+            CertificateTerm::At(map, keys) => self.at(*map, keys),
         }
     }
 }

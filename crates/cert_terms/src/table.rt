@@ -2,12 +2,12 @@
 ghost use Rattle.cert_terms.specs.Tables.{IsTable};
 ghost use Rattle.cert_terms.specs.View.{terms_in, types_in};
 
-use crate::terms::Named;
+use crate::terms::TypedTerm;
 
 /// The names so far: the variables and definitions of the conditions, and then the terms of the certificate. Each term has the type of
 /// what it means over the names before it.
 #[derive(Drop)]
-pub struct Table {
-    pub names: Vec<Named>,
+pub struct TermTable {
+    pub names: Vec<TypedTerm>,
     pub ghost is_table: { IsTable (terms_in names.items) (types_in names.items) },
 }

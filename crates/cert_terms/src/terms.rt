@@ -7,27 +7,27 @@ use boogie_tree::{BOp, BType};
 /// A name, or the negation of one that is a truth value. A name is a number in a single numbering: the variables of the
 /// conditions, their definitions, and then the terms of the certificate.
 #[derive(Clone, Copy, PartialEq, Eq)]
-pub struct Literal {
+pub struct ClauseLiteral {
     pub name: usize,
     pub negated: bool,
 }
 
-impl Literal {
+impl ClauseLiteral {
     /// The name itself.
-    pub fn of(name: usize) -> Literal
+    pub fn of(name: usize) -> ClauseLiteral
         ensures { result ≡ record { name = name; negated = false } }
     {
-        Literal {
+        ClauseLiteral {
             name,
             negated: false,
         }
     }
 
     /// The negation.
-    pub fn turned(self) -> Literal
+    pub fn turned(self) -> ClauseLiteral
         ensures { result ≡ turned self }
     {
-        Literal {
+        ClauseLiteral {
             name: self.name,
             negated: !self.negated,
         }
@@ -36,7 +36,7 @@ impl Literal {
 
 /// What a name of the certificate is. Its parts are names that stand before it.
 #[derive(Drop)]
-pub enum Term {
+pub enum CertificateTerm {
     /// A variable or a definition of the conditions, of which nothing is said here.
     Given,
     /// The same as another name.
@@ -51,31 +51,31 @@ pub enum Term {
     /// A real literal: the digits before its `.0`.
     Real(i128),
     /// `(- a)`
-    Neg(Literal),
-    Bin(BOp, Literal, Literal),
+    Neg(ClauseLiteral),
+    Bin(BOp, ClauseLiteral, ClauseLiteral),
     /// `(if a then b else c)`, where b and c may be maps.
-    If(Literal, Literal, Literal),
+    If(ClauseLiteral, ClauseLiteral, ClauseLiteral),
     /// `real(a)`
-    ToReal(Literal),
+    ToReal(ClauseLiteral),
     /// `sInt(a)`
-    SInt(Literal),
+    SInt(ClauseLiteral),
     /// `sBool(a)`
-    SBool(Literal),
+    SBool(ClauseLiteral),
     /// `sRef(a)`
-    SRef(Literal),
+    SRef(ClauseLiteral),
     /// `sPerm(a)`
-    SPerm(Literal),
+    SPerm(ClauseLiteral),
     /// `sPair(a, b)`
-    Pair(Literal, Literal),
+    Pair(ClauseLiteral, ClauseLiteral),
     /// The map of this name at these keys.
-    At(usize, Vec<Literal>),
+    At(usize, Vec<ClauseLiteral>),
     /// The map of this name but for the value at these keys.
-    Put(usize, Vec<Literal>, Literal),
+    Put(usize, Vec<ClauseLiteral>, ClauseLiteral),
 }
 
 /// What a name is, and its type.
 #[derive(Drop)]
-pub struct Named {
-    pub term: Term,
+pub struct TypedTerm {
+    pub term: CertificateTerm,
     pub ty: BType,
 }

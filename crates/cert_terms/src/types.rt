@@ -8,9 +8,9 @@ ghost use Rattle.cert_terms.specs.Kinds.{HasKind};
 ghost use Rattle.cert_terms.specs.Lawful.{types_of};
 ghost use Rattle.cert_terms.specs.Terms.{operand, operands};
 
-use crate::faults::{Fault, Refusal};
-use crate::table::Table;
-use crate::terms::{Literal, Term};
+use crate::faults::{LineFault, LineRefusal};
+use crate::table::TermTable;
+use crate::terms::{CertificateTerm, ClauseLiteral};
 use boogie_tree::{BBase, BType, same_base};
 use boogie_types::same_type;
 use std::alloc::Global;
@@ -29,11 +29,11 @@ fn plain_type(alloc: Global, base: BBase) -> BType
 }
 
 /// The same type again. Refused (`Long`) where it has more than 1,000 keys; `Memory` where there is no memory.
-pub fn copy_type(alloc: Global, ty: &BType) -> Result<BType, Fault>
+pub fn copy_type(alloc: Global, ty: &BType) -> Result<BType, LineFault>
     ensures { IfOk result (λ x. type_of x ≡ type_of ty.now) }
 {
     if ty.keys.len() > MOST_KEYS {
-        return Err(Fault::Refused(Refusal::Long));
+        return Err(LineFault::Refused(LineRefusal::Long));
     }
     let mut keys = Vec::new(alloc);
     keys.extend_from_slice(&ty.keys)?;
@@ -43,9 +43,9 @@ pub fn copy_type(alloc: Global, ty: &BType) -> Result<BType, Fault>
     })
 }
 
-impl Table {
+impl TermTable {
     /// The type of an operand, which may be a map.
-    fn whole(&self, alloc: Global, literal: Literal) -> Result<BType, Fault>
+    fn whole(&self, alloc: Global, literal: ClauseLiteral) -> Result<BType, LineFault>
         ensures { IfOk result (λ ty. whole_type (types_of self.now) (operand literal) ≡ Some (type_of ty)) }
     {
         if literal.negated {
@@ -60,10 +60,10 @@ impl Table {
     fn choice(
         &self,
         alloc: Global,
-        condition: Literal,
-        then: Literal,
-        other: Literal,
-    ) -> Result<BType, Fault>
+        condition: ClauseLiteral,
+        then: ClauseLiteral,
+        other: ClauseLiteral,
+    ) -> Result<BType, LineFault>
         ensures { IfOk result (λ ty. whole_type (types_of self.now) (f.If (operand condition) (operand then) (operand other)) ≡ Some (type_of ty)) }
     {
         self.truth(condition)?;
@@ -72,7 +72,7 @@ impl Table {
         if same_type(&first, &second) {
             Ok(first)
         } else {
-            Err(Fault::Refused(Refusal::Type))
+            Err(LineFault::Refused(LineRefusal::Type))
         }
     }
 
@@ -81,9 +81,9 @@ impl Table {
         &self,
         alloc: Global,
         map: usize,
-        keys: &[Literal],
-        value: Literal,
-    ) -> Result<BType, Fault>
+        keys: &[ClauseLiteral],
+        value: ClauseLiteral,
+    ) -> Result<BType, LineFault>
         ensures { IfOk result (λ ty. whole_type (types_of self.now) (f.With (f.Var map) (operands keys.now) (operand value)) ≡ Some (type_of ty)) }
     {
         match (self.at(map, keys), self.base(value)) {
@@ -91,31 +91,33 @@ impl Table {
                 let ty = self.ty(map)?;
                 copy_type(alloc, ty)
             }
-            _ => Err(Fault::Refused(Refusal::Type)),
+            _ => Err(LineFault::Refused(LineRefusal::Type)),
         }
     }
 
     /// The type of a term that is never a map.
-    fn plain_type_of(&self, alloc: Global, term: &Term) -> Result<BType, Fault>
+    fn plain_type_of(&self, alloc: Global, term: &CertificateTerm) -> Result<BType, LineFault>
         ensures { IfOk result (λ ty. HasKind (types_of self.now) term.now (type_of ty)) }
     {
         match self.plain_kind(term) {
             Some(base) => Ok(plain_type(alloc, base)),
-            None => Err(Fault::Refused(Refusal::Type)),
+            None => Err(LineFault::Refused(LineRefusal::Type)),
         }
     }
 
     /// The type of a term, if its parts have the types that it needs.
-    pub(crate) fn type_of(&self, alloc: Global, term: &Term) -> Result<BType, Fault>
+    pub(crate) fn type_of(&self, alloc: Global, term: &CertificateTerm) -> Result<BType, LineFault>
         ensures { IfOk result (λ ty. HasKind (types_of self.now) term.now (type_of ty)) }
     {
         match term {
-            Term::Same(name) => {
+            CertificateTerm::Same(name) => {
                 let ty = self.ty(*name)?;
                 copy_type(alloc, ty)
             }
-            Term::If(condition, then, other) => self.choice(alloc, *condition, *then, *other),
-            Term::Put(map, keys, value) => self.put(alloc, *map, keys, *value),
+            CertificateTerm::If(condition, then, other) => self.choice(
+                alloc, *condition, *then, *other,
+            ),
+            CertificateTerm::Put(map, keys, value) => self.put(alloc, *map, keys, *value),
             _ => self.plain_type_of(alloc, term),
         }
     }

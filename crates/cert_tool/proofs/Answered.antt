@@ -3,17 +3,17 @@ use Rattle.std.proofs.Common.{◌≡◌, ◌∙◌, ◌<◌, ℕ, List, [], ◌�
 use Rattle.vb_base.specs.Limits.{max_boogie_bytes}
 use Rattle.vb_outer.specs.Shelf.{Files, IsMissing, IsFile, IsWhole}
 use Rattle.boogie_file.specs.Files.{Refuses, HasProcedure}
-use Rattle.boogie_file.specs.declared.refusal.Refusal as b
+use Rattle.boogie_file.specs.declared.refusal.BoogieRefusal as b
 use Rattle.boogie_file.proofs.FileAnswers.{refused_not_there, procedure_not_there, refusals_same, refused_not_accepted, accepted_not_refused_again}
-use Rattle.tool_words.specs.Ends.{as_expected, fault}
-use Rattle.tool_words.specs.declared.status.Status.{Status}
-use Rattle.tool_words.specs.declared.status.Status.TheVariants as status
-use Rattle.tool_words.proofs.EndLaws.{from_causes}
-use Rattle.tool_words.proofs.FileLaws.{same_file, not_missing}
+use Rattle.tool_common.specs.Ends.{as_expected, fault}
+use Rattle.tool_common.specs.declared.status.ToolStatus.{ToolStatus}
+use Rattle.tool_common.specs.declared.status.ToolStatus.TheVariants as status
+use Rattle.tool_common.proofs.EndLaws.{from_causes}
+use Rattle.tool_common.proofs.FileLaws.{same_file, not_missing}
 use Rattle.cert_tool.specs.Call.{Asks, AskNothing, HasCertificate, HasLarge, large, line, of_boogie, of_certificate, IsShown, HasShown, IsCause, usage, read, refused, done, Causes, EndsAs}
 use Rattle.cert_tool.specs.Shown.{IsCertifiedFile}
-use Rattle.cert_tool.specs.declared.refusal.Refusal.{Refusal}
-use Rattle.cert_tool.specs.declared.refusal.Refusal.TheVariants as refusal
+use Rattle.cert_tool.specs.declared.refusal.CertificateRefusal.{CertificateRefusal}
+use Rattle.cert_tool.specs.declared.refusal.CertificateRefusal.TheVariants as refusal
 
 -- ---- words have one reading
 
@@ -55,14 +55,14 @@ module _ (files : Option Files) where
 -- ---- statuses
 
 module _ (words : List (List ℕ)) (files : Option Files) (before now : ℕ) where
-  usage_each : AskNothing words → (s : Status Refusal) → IsCause words files before now s → EndsAs status.Usage s
+  usage_each : AskNothing words → (s : ToolStatus CertificateRefusal) → IsCause words files before now s → EndsAs status.Usage s
   usage_each none s (usage also) = as_expected
   usage_each none s (read asks why) = fault tt
   usage_each none s (refused asks why) = absurd (none _ _ _ asks)
   usage_each none s (done h) = absurd (none _ _ _ h.asked)
 
   module _ {file name certificate : List ℕ} (asks : Asks words file name certificate) where
-    boogie_this : {f n c : List ℕ} {r : b.Refusal} → Asks words f n c → Refuses (IsWhole files) f n r → Refuses (IsWhole files) file name r
+    boogie_this : {f n c : List ℕ} {r : b.BoogieRefusal} → Asks words f n c → Refuses (IsWhole files) f n r → Refuses (IsWhole files) file name r
     boogie_this {r = r} asked h = this_call words asks (λ f n c. Refuses (IsWhole files) f n r) asked h
 
     procedure_this : {f n c : List ℕ} → Asks words f n c → HasProcedure (IsWhole files) f n → HasProcedure (IsWhole files) file name
@@ -77,14 +77,14 @@ module _ (words : List (List ℕ)) (files : Option Files) (before now : ℕ) whe
     shown_this : HasShown words files → IsShown files file name certificate
     shown_this h = this_call words asks (λ f n c. IsShown files f n c) h.asked h.shown
 
-    missing_each : IsMissing files file → (s : Status Refusal) → IsCause words files before now s → EndsAs status.ReadFault s
+    missing_each : IsMissing files file → (s : ToolStatus CertificateRefusal) → IsCause words files before now s → EndsAs status.ReadFault s
     missing_each missing s (usage none) = absurd (none _ _ _ asks)
     missing_each missing s (read other why) = as_expected
     missing_each missing s (refused other (of_boogie g)) = absurd (refused_not_there files missing (boogie_this other g))
     missing_each missing s (refused other (of_certificate has why)) = absurd (procedure_not_there files missing (procedure_this other has))
     missing_each missing s (done h) = absurd (procedure_not_there files missing (shown_procedure files (shown_this h)))
 
-    refused_each : {r : b.Refusal} → Refuses (IsFile files) file name r → (s : Status Refusal) → IsCause words files before now s → EndsAs (status.Refused (refusal.Boogie r)) s
+    refused_each : {r : b.BoogieRefusal} → Refuses (IsFile files) file name r → (s : ToolStatus CertificateRefusal) → IsCause words files before now s → EndsAs (status.Refused (refusal.Boogie r)) s
     refused_each refuses s (usage none) = absurd (none _ _ _ asks)
     refused_each refuses s (read other why) = fault tt
     refused_each {r} refuses s (refused other (of_boogie g)) =
@@ -92,7 +92,7 @@ module _ (words : List (List ℕ)) (files : Option Files) (before now : ℕ) whe
     refused_each refuses s (refused other (of_certificate has why)) = absurd (refused_not_accepted files refuses (procedure_this other has))
     refused_each refuses s (done h) = absurd (refused_not_accepted files refuses (shown_procedure files (shown_this h)))
 
-    uncertified_each : HasProcedure (IsFile files) file name → IsMissing files certificate → (s : Status Refusal) → IsCause words files before now s → EndsAs status.ReadFault s
+    uncertified_each : HasProcedure (IsFile files) file name → IsMissing files certificate → (s : ToolStatus CertificateRefusal) → IsCause words files before now s → EndsAs status.ReadFault s
     uncertified_each accepts missing s (usage none) = absurd (none _ _ _ asks)
     uncertified_each accepts missing s (read other why) = as_expected
     uncertified_each accepts missing s (refused other (of_boogie g)) = absurd (accepted_not_refused_again files accepts (boogie_this other g))
@@ -100,7 +100,7 @@ module _ (words : List (List ℕ)) (files : Option Files) (before now : ℕ) whe
     uncertified_each accepts missing s (refused other (of_certificate has (line h at))) = absurd (certificate_not_there files missing (certificate_this other h))
     uncertified_each accepts missing s (done h) = let shown = shown_this h in absurd (certificate_not_there files missing shown.is_there)
 
-    large_each : HasProcedure (IsFile files) file name → HasLarge (IsFile files) certificate → (s : Status Refusal) → IsCause words files before now s → EndsAs (status.Refused refusal.CertificateSize) s
+    large_each : HasProcedure (IsFile files) file name → HasLarge (IsFile files) certificate → (s : ToolStatus CertificateRefusal) → IsCause words files before now s → EndsAs (status.Refused refusal.CertificateSize) s
     large_each accepts above s (usage none) = absurd (none _ _ _ asks)
     large_each accepts above s (read other why) = fault tt
     large_each accepts above s (refused other (of_boogie g)) = absurd (accepted_not_refused_again files accepts (boogie_this other g))
@@ -108,13 +108,13 @@ module _ (words : List (List ℕ)) (files : Option Files) (before now : ℕ) whe
     large_each accepts above s (refused other (of_certificate has (line h at))) = absurd (large_not_small files above (certificate_this other h))
     large_each accepts above s (done h) = let shown = shown_this h in absurd (large_not_small files above shown.is_there)
 
-  of_done : (s : Status Refusal) → s ≡ status.Done → IsCause words files before now s → HasShown words files
+  of_done : (s : ToolStatus CertificateRefusal) → s ≡ status.Done → IsCause words files before now s → HasShown words files
   of_done s is (usage none) = absurd (cc)
   of_done s is (read other why) = absurd (cc)
   of_done s is (refused other why) = absurd (cc)
   of_done s is (done h) = h
 
-  module _ (SinkFailed : Type 0) (s : Status Refusal) (causes : Causes words files before now SinkFailed s) where
+  module _ (SinkFailed : Type 0) (s : ToolStatus CertificateRefusal) (causes : Causes words files before now SinkFailed s) where
     pub verified_comes : (file name certificate : List ℕ) → Asks words file name certificate → s ≡ status.Done → IsCertifiedFile (IsWhole files) file name
     verified_comes file name certificate asks is =
         let shown = shown_this asks (of_done status.Done refl (subst (Causes words files before now SinkFailed) is causes)) in
@@ -126,7 +126,7 @@ module _ (words : List (List ℕ)) (files : Option Files) (before now : ℕ) whe
     pub missing_comes : (file name certificate : List ℕ) → Asks words file name certificate → IsMissing files file → EndsAs status.ReadFault s
     missing_comes file name certificate asks missing = from_causes (IsCause words files before now) _ (missing_each asks missing) SinkFailed s causes
 
-    pub refused_comes : (file name certificate : List ℕ) (r : b.Refusal) → Asks words file name certificate → Refuses (IsFile files) file name r → EndsAs (status.Refused (refusal.Boogie r)) s
+    pub refused_comes : (file name certificate : List ℕ) (r : b.BoogieRefusal) → Asks words file name certificate → Refuses (IsFile files) file name r → EndsAs (status.Refused (refusal.Boogie r)) s
     refused_comes file name certificate r asks refuses = from_causes (IsCause words files before now) _ (refused_each asks refuses) SinkFailed s causes
 
     pub uncertified_comes : (file name certificate : List ℕ) → Asks words file name certificate → HasProcedure (IsFile files) file name → IsMissing files certificate → EndsAs status.ReadFault s

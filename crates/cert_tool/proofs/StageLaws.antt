@@ -8,23 +8,23 @@ use Rattle.vb_outer.specs.declared.fault.FileFault.TheVariants as file
 use Rattle.vb_outer.proofs.FaultLaws.{rose_earlier}
 use Rattle.boogie_tree.specs.Program.{Proc, BProgram}
 use Rattle.boogie_file.specs.Files.{Refuses, HasProcedure, IsFound}
-use Rattle.boogie_file.specs.declared.refusal.Refusal as b
-use Rattle.boogie_file.specs.declared.trouble.Trouble as bt
-use Rattle.boogie_file.specs.declared.trouble.Trouble.TheVariants as boogie
+use Rattle.boogie_file.specs.declared.refusal.BoogieRefusal as b
+use Rattle.boogie_file.specs.declared.trouble.BoogieTrouble as bt
+use Rattle.boogie_file.specs.declared.trouble.BoogieTrouble.TheVariants as boogie
 use Rattle.boogie_file.proofs.FileLaws.{found_there, found_accepts}
-use Rattle.tool_words.proofs.FileLaws.{long_bytes}
-use Rattle.certificates.specs.declared.unshown.Unshown.{Unshown}
-use Rattle.certificates.specs.declared.unshown.Unshown.TheVariants as unshown
+use Rattle.tool_common.proofs.FileLaws.{long_bytes}
+use Rattle.cert_check.specs.declared.unshown.Unshown.{Unshown}
+use Rattle.cert_check.specs.declared.unshown.Unshown.TheVariants as unshown
 use Rattle.cert_tool.specs.Call.{HasCertificate, IsOfLine, of_line, IsOfCertificate, large, IsRefused, of_boogie, IsUnread, no_certificate, failed, IsShown}
 use Rattle.cert_tool.specs.Parts.{trouble_of_file, trouble_of_boogie, trouble_of_certificate}
 use Rattle.cert_tool.specs.Shown.{ProcedureNeverFails}
-use Rattle.cert_tool.specs.declared.refusal.Refusal.{Refusal}
-use Rattle.cert_tool.specs.declared.refusal.Refusal.TheVariants as refusal
-use Rattle.cert_tool.specs.declared.trouble.Trouble.TheVariants as trouble
+use Rattle.cert_tool.specs.declared.refusal.CertificateRefusal.{CertificateRefusal}
+use Rattle.cert_tool.specs.declared.refusal.CertificateRefusal.TheVariants as refusal
+use Rattle.cert_tool.specs.declared.trouble.CertificateTrouble.TheVariants as trouble
 
 -- ---- what a fault of a part comes to
 
-pub line_refused : (u : Unshown) (r : Refusal) → trouble_of_certificate u ≡ trouble.Refused r → IsOfLine r
+pub line_refused : (u : Unshown) (r : CertificateRefusal) → trouble_of_certificate u ≡ trouble.Refused r → IsOfLine r
 line_refused unshown.Memory r is_r = absurd (cc)
 line_refused (unshown.Refused n why) r is_r = let same : refusal.Certificate n why ≡ r = cc in subst IsOfLine same of_line
 
@@ -33,7 +33,7 @@ line_unread unshown.Memory is = absurd (cc)
 line_unread (unshown.Refused n why) is = absurd (cc)
 
 -- a certificate that is refused unread is too large
-pub size_refused : (files : Option Files) (certificate : List ℕ) (fault : FileFault) (r : Refusal) → (fault ≡ file.Long → IsLonger files certificate max_boogie_bytes) →
+pub size_refused : (files : Option Files) (certificate : List ℕ) (fault : FileFault) (r : CertificateRefusal) → (fault ≡ file.Long → IsLonger files certificate max_boogie_bytes) →
     trouble_of_file fault ≡ trouble.Refused r → IsOfCertificate files certificate r
 size_refused files certificate file.Memory r long is_r = absurd (cc)
 size_refused files certificate file.Failed r long is_r = absurd (cc)
@@ -43,7 +43,7 @@ size_refused files certificate file.Long r long is_r =
     subst (IsOfCertificate files certificate) same (large (record { text = text; is = is; large = above }))
 
 -- the first file is refused as it is for its conditions
-pub boogie_refused : (files : Option Files) (path name certificate : List ℕ) (t : bt.Trouble) (r : Refusal) → ((q : b.Refusal) → t ≡ boogie.Refused q → Refuses (IsWhole files) path name q) →
+pub boogie_refused : (files : Option Files) (path name certificate : List ℕ) (t : bt.BoogieTrouble) (r : CertificateRefusal) → ((q : b.BoogieRefusal) → t ≡ boogie.Refused q → Refuses (IsWhole files) path name q) →
     trouble_of_boogie t ≡ trouble.Refused r → IsRefused files path name certificate r
 boogie_refused files path name certificate boogie.Memory r refuses is_r = absurd (cc)
 boogie_refused files path name certificate boogie.Read r refuses is_r = absurd (cc)

@@ -5,17 +5,17 @@ use Rattle.vb_outer.specs.Faults.{Rose}
 use Rattle.vb_outer.specs.Shelf.{Files, IsMissing, IsWhole}
 use Rattle.vb_outer.specs.Sink.{Appends, AppendsPrefix}
 use Rattle.boogie_file.specs.Files.{Refuses, HasProcedure}
-use Rattle.boogie_file.specs.declared.refusal.Refusal as b
-use Rattle.cert_terms.specs.declared.faults.Refusal as t
-use Rattle.tool_words.specs.Ends as ends
-use Rattle.tool_words.specs.Ends.{OutOf}
-use Rattle.tool_words.specs.Status.{kind_of}
-use Rattle.tool_words.specs.declared.status.Status.{Status}
-use Rattle.tool_words.specs.declared.status.Status.TheVariants.{Done, Refused, Usage, ReadFault}
+use Rattle.boogie_file.specs.declared.refusal.BoogieRefusal as b
+use Rattle.cert_terms.specs.declared.faults.LineRefusal as t
+use Rattle.tool_common.specs.Ends as ends
+use Rattle.tool_common.specs.Ends.{OutOf}
+use Rattle.tool_common.specs.Status.{kind_of}
+use Rattle.tool_common.specs.declared.status.ToolStatus.{ToolStatus}
+use Rattle.tool_common.specs.declared.status.ToolStatus.TheVariants.{Done, Refused, Usage, ReadFault}
 use Rattle.cert_tool.specs.Shown.{IsCertifiedFile}
 use Rattle.cert_tool.specs.Status.{line_of}
-use Rattle.cert_tool.specs.declared.refusal.Refusal.{Refusal}
-use Rattle.cert_tool.specs.declared.refusal.Refusal.TheVariants.{Boogie, CertificateSize, Certificate}
+use Rattle.cert_tool.specs.declared.refusal.CertificateRefusal.{CertificateRefusal}
+use Rattle.cert_tool.specs.declared.refusal.CertificateRefusal.TheVariants.{Boogie, CertificateSize, Certificate}
 
 -- ---- the words
 
@@ -44,19 +44,19 @@ pub record HasLarge (Has : List ℕ → List ℕ → Type 0) (certificate : List
 -- ---- what is found
 
 -- a line of a certificate is refused
-pub data IsOfLine : Refusal → Type 0 where
-  of_line : {line : ℕ} {why : t.Refusal} → IsOfLine (Certificate line why)
+pub data IsOfLine : CertificateRefusal → Type 0 where
+  of_line : {line : ℕ} {why : t.LineRefusal} → IsOfLine (Certificate line why)
 
 -- A certificate is refused for its size, or at a line. Which certificates are accepted is left open: that one is says something of the
 -- procedure, and that one is refused at a line says nothing of it.
-pub data IsOfCertificate (files : Option Files) (certificate : List ℕ) : Refusal → Type 0 where
+pub data IsOfCertificate (files : Option Files) (certificate : List ℕ) : CertificateRefusal → Type 0 where
   large : HasLarge (IsWhole files) certificate → IsOfCertificate files certificate CertificateSize
-  line : {r : Refusal} → HasCertificate (IsWhole files) certificate → IsOfLine r → IsOfCertificate files certificate r
+  line : {r : CertificateRefusal} → HasCertificate (IsWhole files) certificate → IsOfLine r → IsOfCertificate files certificate r
 
 -- the first file is refused, or it is accepted and the certificate is refused
-pub data IsRefused (files : Option Files) (file name certificate : List ℕ) : Refusal → Type 0 where
-  of_boogie : {r : b.Refusal} → Refuses (IsWhole files) file name r → IsRefused files file name certificate (Boogie r)
-  of_certificate : {r : Refusal} → HasProcedure (IsWhole files) file name → IsOfCertificate files certificate r → IsRefused files file name certificate r
+pub data IsRefused (files : Option Files) (file name certificate : List ℕ) : CertificateRefusal → Type 0 where
+  of_boogie : {r : b.BoogieRefusal} → Refuses (IsWhole files) file name r → IsRefused files file name certificate (Boogie r)
+  of_certificate : {r : CertificateRefusal} → HasProcedure (IsWhole files) file name → IsOfCertificate files certificate r → IsRefused files file name certificate r
 
 -- the first file is missing, or it is accepted and the certificate is missing, or the shelf failed; the counts are those of its faults
 pub data IsUnread (files : Option Files) (file name certificate : List ℕ) (before now : ℕ) : Type 0 where
@@ -80,19 +80,19 @@ pub record HasShown (words : List (List ℕ)) (files : Option Files) : Type 0 wh
 -- ---- statuses
 
 -- when a status comes, where no sink failed and there was memory
-pub data IsCause (words : List (List ℕ)) (files : Option Files) (before now : ℕ) : Status Refusal → Type 0 where
+pub data IsCause (words : List (List ℕ)) (files : Option Files) (before now : ℕ) : ToolStatus CertificateRefusal → Type 0 where
   usage : AskNothing words → IsCause words files before now Usage
   read : {file name certificate : List ℕ} → Asks words file name certificate → IsUnread files file name certificate before now → IsCause words files before now ReadFault
-  refused : {file name certificate : List ℕ} {r : Refusal} → Asks words file name certificate → IsRefused files file name certificate r →
+  refused : {file name certificate : List ℕ} {r : CertificateRefusal} → Asks words file name certificate → IsRefused files file name certificate r →
       IsCause words files before now (Refused r)
   done : HasShown words files → IsCause words files before now Done
 
 -- the cause of each status
-abbrev pub Causes : List (List ℕ) → Option Files → ℕ → ℕ → Type 0 → Status Refusal → Type 0
+abbrev pub Causes : List (List ℕ) → Option Files → ℕ → ℕ → Type 0 → ToolStatus CertificateRefusal → Type 0
 Causes words files before now SinkFailed status = ends.Causes kind_of (IsCause words files before now) SinkFailed status
 
 -- the status, unless memory was refused or a device failed
-abbrev pub EndsAs : Status Refusal → Status Refusal → Type 0
+abbrev pub EndsAs : ToolStatus CertificateRefusal → ToolStatus CertificateRefusal → Type 0
 EndsAs expected status = ends.EndsAs kind_of expected status
 
 -- ---- sinks
@@ -103,10 +103,10 @@ accepted_text = codes "accepted\n"
 
 -- what stands in the sink of the output: one more line where the call is done, and else what stood there before; after a fault of a
 -- sink, a front of that line at most, and only where the certificate is accepted
-abbrev pub OutAfter : Option (List ℕ) → Option (List ℕ) → Type 0 → Status Refusal → Type 0
+abbrev pub OutAfter : Option (List ℕ) → Option (List ℕ) → Type 0 → ToolStatus CertificateRefusal → Type 0
 OutAfter before now Shown status =
     OutOf (kind_of status) (Appends before now accepted_text) (now ≡ before) ((now ≡ before) ⊎ (Shown × AppendsPrefix before now accepted_text)) (now ≡ before)
 
 -- what stands in the sink of errors: one more line, where the status has one; after a fault of a sink the front of such a line
-abbrev pub ErrAfter : Option (List ℕ) → Option (List ℕ) → (Status Refusal → Type 0) → Status Refusal → Type 0
+abbrev pub ErrAfter : Option (List ℕ) → Option (List ℕ) → (ToolStatus CertificateRefusal → Type 0) → ToolStatus CertificateRefusal → Type 0
 ErrAfter before now Cause status = ends.ErrAfter kind_of line_of before now Cause status

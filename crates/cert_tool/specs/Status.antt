@@ -2,15 +2,15 @@
 use Rattle.std.specs.Prelude.{◌++◌, ℕ, List, codes}
 use Rattle.std.specs.Fmt.{decimal}
 use Rattle.boogie_file.specs.Refusals as boogie
-use Rattle.cert_terms.specs.declared.faults.Refusal as r
-use Rattle.cert_terms.specs.declared.faults.Refusal.TheVariants as reason
-use Rattle.cert_tool.specs.declared.refusal.Refusal.{Refusal}
-use Rattle.cert_tool.specs.declared.refusal.Refusal.TheVariants.{Boogie, CertificateSize, Certificate}
-use Rattle.tool_words.specs.Status as tool
-use Rattle.tool_words.specs.declared.status.Status.{Status}
+use Rattle.cert_terms.specs.declared.faults.LineRefusal as r
+use Rattle.cert_terms.specs.declared.faults.LineRefusal.TheVariants as reason
+use Rattle.cert_tool.specs.declared.refusal.CertificateRefusal.{CertificateRefusal}
+use Rattle.cert_tool.specs.declared.refusal.CertificateRefusal.TheVariants.{Boogie, CertificateSize, Certificate}
+use Rattle.tool_common.specs.Status as tool
+use Rattle.tool_common.specs.declared.status.ToolStatus.{ToolStatus}
 
 -- the word of a reason for which a line of a certificate is refused
-abbrev pub word_of : r.Refusal → List ℕ
+abbrev pub word_of : r.LineRefusal → List ℕ
 word_of reason.Header = codes "header"
 word_of reason.Ending = codes "ending"
 word_of reason.Word = codes "word"
@@ -29,11 +29,11 @@ word_of reason.Long = codes "long"
 word_of reason.Missing = codes "missing"
 
 -- a refusal's word, and the place of what is refused
-abbrev pub refusal_text : Refusal → List ℕ
+abbrev pub refusal_text : CertificateRefusal → List ℕ
 refusal_text (Boogie r) = boogie.refusal_text r
 refusal_text CertificateSize = codes "certificate-size"
 refusal_text (Certificate n r) = codes "certificate " ++ decimal n ++ codes " " ++ word_of r
 
 -- one line, or nothing where the status writes none
-abbrev pub line_of : Status Refusal → List ℕ
+abbrev pub line_of : ToolStatus CertificateRefusal → List ℕ
 line_of status = tool.line_of refusal_text (codes "usage: certify BPL PROC CERTIFICATE\n") status

@@ -10,5 +10,5 @@ mod stages;
 mod trouble;
 
 pub use command::tool;
-pub use refusal::Refusal;
-pub use tool_words::Status;
+pub use refusal::CertificateRefusal;
+pub use tool_common::ToolStatus;

@@ -4,14 +4,14 @@ use Rattle.vb_outer.specs.Shelf.{Files, IsMissing, IsFile, IsWhole}
 use Rattle.vb_outer.specs.Sink.{Appends}
 use Rattle.boogie_file.specs.Accepted.{Accepts}
 use Rattle.boogie_file.specs.Files.{Refuses, HasProcedure}
-use Rattle.boogie_file.specs.declared.refusal.Refusal.{Refusal}
+use Rattle.boogie_file.specs.declared.refusal.BoogieRefusal.{BoogieRefusal}
 use Rattle.boogie_file.proofs.FileAnswers.{refusals_same, refused_not_accepted, accepted_not_refused_again, refused_not_there, procedure_not_there}
 use Rattle.boogie_file.proofs.Verdicts.{one_accepted}
-use Rattle.tool_words.specs.Ends.{as_expected, fault}
-use Rattle.tool_words.specs.declared.status.Status.{Status}
-use Rattle.tool_words.specs.declared.status.Status.TheVariants as status
-use Rattle.tool_words.proofs.EndLaws.{from_causes}
-use Rattle.tool_words.proofs.FileLaws.{same_file}
+use Rattle.tool_common.specs.Ends.{as_expected, fault}
+use Rattle.tool_common.specs.declared.status.ToolStatus.{ToolStatus}
+use Rattle.tool_common.specs.declared.status.ToolStatus.TheVariants as status
+use Rattle.tool_common.proofs.EndLaws.{from_causes}
+use Rattle.tool_common.proofs.FileLaws.{same_file}
 use Rattle.cond_tool.specs.Call.{Asks, AskNothing, Does, HasDone, IsCause, usage, read, refused, done, Causes, EndsAs, EndsWith, OutAfter}
 use Rattle.cond_tool.specs.Written.{written_of, AreOfFile}
 
@@ -34,7 +34,7 @@ module _ (words : List (List ℕ)) (files : Option Files) where
       let same = sym asked ∙ asks in
       subst (λ f. P f name) (first_same same) (subst (λ n. P other n) (second_same same) h)
 
-  refuses_this : {file name other also : List ℕ} {r : Refusal} → Asks words file name → Asks words other also → Refuses (IsWhole files) other also r → Refuses (IsWhole files) file name r
+  refuses_this : {file name other also : List ℕ} {r : BoogieRefusal} → Asks words file name → Asks words other also → Refuses (IsWhole files) other also r → Refuses (IsWhole files) file name r
   refuses_this {r = r} asks asked h = this_call (λ f n. Refuses (IsWhole files) f n r) asks asked h
 
   does_this : {file name text : List ℕ} → Asks words file name → HasDone words files text → Does (IsWhole files) file name text
@@ -50,45 +50,45 @@ module _ (words : List (List ℕ)) (files : Option Files) where
 
   -- ---- what is written
 
-  pub conditions_come : (before now : Option (List ℕ)) (s : Status Refusal) → OutAfter before now (HasDone words files) s → (file name : List ℕ) → Asks words file name → s ≡ status.Done →
+  pub conditions_come : (before now : Option (List ℕ)) (s : ToolStatus BoogieRefusal) → OutAfter before now (HasDone words files) s → (file name : List ℕ) → Asks words file name → s ≡ status.Done →
       (text : List ℕ) × AreOfFile (IsWhole files) file name text × Appends before now text
   conditions_come before now s out file name asks is =
       let written = subst (OutAfter before now (HasDone words files)) is out in
       (written.0, are_this asks written.1, written.2)
 
   module _ (before now : ℕ) where
-    usage_each : AskNothing words → (s : Status Refusal) → IsCause words files before now s → EndsAs status.Usage s
+    usage_each : AskNothing words → (s : ToolStatus BoogieRefusal) → IsCause words files before now s → EndsAs status.Usage s
     usage_each none s (usage also) = as_expected
     usage_each none s (read asks why) = fault tt
     usage_each none s (refused asks why) = absurd (none _ _ asks)
     usage_each none s (done h) = absurd (none _ _ h.asked)
 
-    missing_each : {file name : List ℕ} → Asks words file name → IsMissing files file → (s : Status Refusal) → IsCause words files before now s → EndsAs status.ReadFault s
+    missing_each : {file name : List ℕ} → Asks words file name → IsMissing files file → (s : ToolStatus BoogieRefusal) → IsCause words files before now s → EndsAs status.ReadFault s
     missing_each asks missing s (usage none) = absurd (none _ _ asks)
     missing_each asks missing s (read other why) = as_expected
     missing_each asks missing s (refused other why) = absurd (refused_not_there files missing (refuses_this asks other why))
     missing_each asks missing s (done h) = absurd (procedure_not_there files missing (does_procedure (does_this asks h)))
 
-    refused_each : {file name : List ℕ} {r : Refusal} → Asks words file name → Refuses (IsFile files) file name r → (s : Status Refusal) → IsCause words files before now s → EndsAs (status.Refused r) s
+    refused_each : {file name : List ℕ} {r : BoogieRefusal} → Asks words file name → Refuses (IsFile files) file name r → (s : ToolStatus BoogieRefusal) → IsCause words files before now s → EndsAs (status.Refused r) s
     refused_each asks refuses s (usage none) = absurd (none _ _ asks)
     refused_each asks refuses s (read other why) = fault tt
     refused_each {r = r} asks refuses s (refused other why) = subst (λ x. EndsAs (status.Refused r) (status.Refused x)) (refusals_same files refuses (refuses_this asks other why)) as_expected
     refused_each asks refuses s (done h) = absurd (refused_not_accepted files refuses (does_procedure (does_this asks h)))
 
-    done_each : {file name text : List ℕ} → Asks words file name → Does (IsFile files) file name text → (s : Status Refusal) → IsCause words files before now s → EndsAs status.Done s
+    done_each : {file name text : List ℕ} → Asks words file name → Does (IsFile files) file name text → (s : ToolStatus BoogieRefusal) → IsCause words files before now s → EndsAs status.Done s
     done_each asks does s (usage none) = absurd (none _ _ asks)
     done_each asks does s (read other why) = fault tt
     done_each asks does s (refused other why) = absurd (accepted_not_refused_again files (does_procedure does) (refuses_this asks other why))
     done_each asks does s (done h) = as_expected
 
-    module _ (SinkFailed : Type 0) (s : Status Refusal) (causes : Causes words files before now SinkFailed s) where
+    module _ (SinkFailed : Type 0) (s : ToolStatus BoogieRefusal) (causes : Causes words files before now SinkFailed s) where
       pub usage_comes : AskNothing words → EndsAs status.Usage s
       usage_comes none = from_causes (IsCause words files before now) _ (usage_each none) SinkFailed s causes
 
       pub missing_comes : (file name : List ℕ) → Asks words file name → IsMissing files file → EndsAs status.ReadFault s
       missing_comes file name asks missing = from_causes (IsCause words files before now) _ (missing_each asks missing) SinkFailed s causes
 
-      pub refused_comes : (file name : List ℕ) (r : Refusal) → Asks words file name → Refuses (IsFile files) file name r → EndsAs (status.Refused r) s
+      pub refused_comes : (file name : List ℕ) (r : BoogieRefusal) → Asks words file name → Refuses (IsFile files) file name r → EndsAs (status.Refused r) s
       refused_comes file name r asks refuses = from_causes (IsCause words files before now) _ (refused_each asks refuses) SinkFailed s causes
 
       pub does_comes : (out_before out_now : Option (List ℕ)) → OutAfter out_before out_now (HasDone words files) s → (file name text : List ℕ) → Asks words file name →

@@ -10,21 +10,21 @@ use Rattle.boogie_formula.specs.Follows.{AreExact, ConditionsFollow}
 use Rattle.boogie_formula.specs.Formula.{Conditions}
 use Rattle.boogie_formula.specs.Types.{IsTypedConditions}
 use Rattle.boogie_wp.specs.Build.{conditions_for}
-use Rattle.formula_text.specs.Printed.{conditions_text}
-use Rattle.formula_text.specs.Spells.{SpellsConditions}
+use Rattle.boogie_formula_text.specs.Printed.{conditions_text}
+use Rattle.boogie_formula_text.specs.Spells.{SpellsConditions}
 use Rattle.boogie_file.specs.Files.{IsFound, Refuses}
 use Rattle.boogie_file.specs.Parts.{status_of}
 use Rattle.boogie_file.specs.Refusals.{refusal_text}
-use Rattle.boogie_file.specs.declared.refusal.Refusal.{Refusal}
-use Rattle.boogie_file.specs.declared.trouble.Trouble.{Trouble}
-use Rattle.boogie_file.specs.declared.trouble.Trouble.TheVariants as trouble
+use Rattle.boogie_file.specs.declared.refusal.BoogieRefusal.{BoogieRefusal}
+use Rattle.boogie_file.specs.declared.trouble.BoogieTrouble.{BoogieTrouble}
+use Rattle.boogie_file.specs.declared.trouble.BoogieTrouble.TheVariants as trouble
 use Rattle.boogie_file.proofs.FileLaws.{found_there, found_accepts}
-use Rattle.tool_words.specs.Ends.{Stops, FrontWritten}
-use Rattle.tool_words.specs.Status.{kind_of}
-use Rattle.tool_words.specs.Written.{Delivers, Reports}
-use Rattle.tool_words.specs.declared.status.Status.{Status}
-use Rattle.tool_words.specs.declared.status.Status.TheVariants as status
-use Rattle.tool_words.proofs.EndLaws.{delivered_cause, delivered_out, delivered_err, reported_cause, reported_out, reported_err, quiet}
+use Rattle.tool_common.specs.Ends.{Stops, FrontWritten}
+use Rattle.tool_common.specs.Status.{kind_of}
+use Rattle.tool_common.specs.Written.{Delivers, Reports}
+use Rattle.tool_common.specs.declared.status.ToolStatus.{ToolStatus}
+use Rattle.tool_common.specs.declared.status.ToolStatus.TheVariants as status
+use Rattle.tool_common.proofs.EndLaws.{delivered_cause, delivered_out, delivered_err, reported_cause, reported_out, reported_err, quiet}
 use Rattle.cond_tool.specs.Call as call
 use Rattle.cond_tool.specs.Call.{Asks, Does, HasDone, IsCause, Causes, OutAfter, ErrAfter}
 use Rattle.cond_tool.specs.Status.{line_of}
@@ -60,27 +60,27 @@ has_done {file = f} {name = n} asks does are = record { file = f; name = n; aske
 -- ---- how the call ends
 
 -- a trouble is told by the status that has its cause
-pub trouble_stops : (words : List (List ℕ)) (files : Option Files) (first last : ℕ) {file name : List ℕ} → Asks words file name → (t : Trouble) (s : Status Refusal) → status_of t ≡ s →
-    (t ≡ trouble.Read → IsMissing files file ⊎ Rose first last) → ((r : Refusal) → t ≡ trouble.Refused r → Refuses (IsWhole files) file name r) →
+pub trouble_stops : (words : List (List ℕ)) (files : Option Files) (first last : ℕ) {file name : List ℕ} → Asks words file name → (t : BoogieTrouble) (s : ToolStatus BoogieRefusal) → status_of t ≡ s →
+    (t ≡ trouble.Read → IsMissing files file ⊎ Rose first last) → ((r : BoogieRefusal) → t ≡ trouble.Refused r → Refuses (IsWhole files) file name r) →
     Stops kind_of (IsCause words files first last) s
 trouble_stops words files first last asks trouble.Memory s is read refused = subst (Stops kind_of (IsCause words files first last)) is tt
 trouble_stops words files first last asks trouble.Read s is read refused = subst (Stops kind_of (IsCause words files first last)) is (call.read asks (read refl))
 trouble_stops words files first last asks (trouble.Refused r) s is read refused = subst (Stops kind_of (IsCause words files first last)) is (call.refused asks (refused r refl))
 
-module _ (words : List (List ℕ)) (files : Option Files) (first last : ℕ) (out_before out_now err_before err_now : Option (List ℕ)) (out_first out_last err_first err_last : ℕ) (ended : Status Refusal) where
+module _ (words : List (List ℕ)) (files : Option Files) (first last : ℕ) (out_before out_now err_before err_now : Option (List ℕ)) (out_first out_last err_first err_last : ℕ) (ended : ToolStatus BoogieRefusal) where
   -- what was made is written, or the line that says why nothing was
-  abbrev pub Ended : Result (Vec ℕ Global) (Status Refusal) → Type 0
+  abbrev pub Ended : Result (Vec ℕ Global) (ToolStatus BoogieRefusal) → Type 0
   Ended made = MatchResult made
       (λ t. Delivers kind_of out_before out_now out_first out_last t.items status.Done ended × (err_now ≡ err_before))
       (λ s. Reports kind_of err_before err_now err_first err_last (line_of s) s ended × (out_now ≡ out_before))
 
-  pub made_cause : (r : Result (Vec ℕ Global) (Status Refusal)) → Ended r → IfOk r (λ t. HasDone words files t.items) →
-      ((s : Status Refusal) → r ≡ Err s → Stops kind_of (IsCause words files first last) s) → Causes words files first last (Rose out_first out_last ⊎ Rose err_first err_last) ended
+  pub made_cause : (r : Result (Vec ℕ Global) (ToolStatus BoogieRefusal)) → Ended r → IfOk r (λ t. HasDone words files t.items) →
+      ((s : ToolStatus BoogieRefusal) → r ≡ Err s → Stops kind_of (IsCause words files first last) s) → Causes words files first last (Rose out_first out_last ⊎ Rose err_first err_last) ended
   made_cause (Ok t) e h stops = delivered_cause {kind = kind_of} {s = status.Done} refl (IsCause words files first last) (Rose err_first err_last) e.0 (call.done h)
   made_cause (Err s) e h stops = reported_cause (IsCause words files first last) (Rose out_first out_last) e.0 (stops s refl)
 
-  pub made_out : (r : Result (Vec ℕ Global) (Status Refusal)) → Ended r → IfOk r (λ t. HasDone words files t.items) →
-      ((s : Status Refusal) → r ≡ Err s → Stops kind_of (IsCause words files first last) s) → OutAfter out_before out_now (HasDone words files) ended
+  pub made_out : (r : Result (Vec ℕ Global) (ToolStatus BoogieRefusal)) → Ended r → IfOk r (λ t. HasDone words files t.items) →
+      ((s : ToolStatus BoogieRefusal) → r ≡ Err s → Stops kind_of (IsCause words files first last) s) → OutAfter out_before out_now (HasDone words files) ended
   made_out (Ok t) e h stops =
       delivered_out {kind = kind_of} {s = status.Done} refl (λ s. (text : List ℕ) × HasDone words files text × Appends out_before out_now text) (out_now ≡ out_before)
       (FrontWritten out_before out_now (HasDone words files)) (FrontWritten out_before out_now (HasDone words files)) e.0
@@ -90,7 +90,7 @@ module _ (words : List (List ℕ)) (files : Option Files) (first last : ℕ) (ou
       {Unfinished = FrontWritten out_before out_now (HasDone words files)} {Forgotten = FrontWritten out_before out_now (HasDone words files)}
       e.0 (stops s refl) e.1 (inl e.1) (inl e.1)
 
-  pub made_err : (r : Result (Vec ℕ Global) (Status Refusal)) → Ended r → IfOk r (λ t. HasDone words files t.items) →
-      ((s : Status Refusal) → r ≡ Err s → Stops kind_of (IsCause words files first last) s) → ErrAfter err_before err_now (IsCause words files first last) ended
+  pub made_err : (r : Result (Vec ℕ Global) (ToolStatus BoogieRefusal)) → Ended r → IfOk r (λ t. HasDone words files t.items) →
+      ((s : ToolStatus BoogieRefusal) → r ≡ Err s → Stops kind_of (IsCause words files first last) s) → ErrAfter err_before err_now (IsCause words files first last) ended
   made_err (Ok t) e h stops = subst (λ x. ErrAfter err_before x (IsCause words files first last) ended) (sym e.1) (delivered_err {kind = kind_of} {s = status.Done} refl line_of err_before (IsCause words files first last) e.0)
   made_err (Err s) e h stops = reported_err (IsCause words files first last) line_of (quiet refusal_text _) e.0 (stops s refl)

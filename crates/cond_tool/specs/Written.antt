@@ -5,8 +5,8 @@ use Rattle.boogie_formula.specs.Follows.{AreExact, ConditionsFollow}
 use Rattle.boogie_formula.specs.Formula.{Conditions}
 use Rattle.boogie_formula.specs.Types.{IsTypedConditions}
 use Rattle.boogie_wp.specs.Build.{conditions_for}
-use Rattle.formula_text.specs.Printed.{conditions_text}
-use Rattle.formula_text.specs.Spells.{SpellsConditions}
+use Rattle.boogie_formula_text.specs.Printed.{conditions_text}
+use Rattle.boogie_formula_text.specs.Spells.{SpellsConditions}
 use Rattle.boogie_file.specs.Accepted.{Accepts}
 
 -- the text that is written of it

@@ -8,6 +8,6 @@ mod command;
 mod lines;
 mod stages;
 
-pub use boogie_file::{Refusal, Trouble, accepted, laws};
+pub use boogie_file::{BoogieRefusal, BoogieTrouble, accepted, laws};
 pub use command::tool;
-pub use tool_words::Status;
+pub use tool_common::ToolStatus;

@@ -3,18 +3,18 @@ ghost use Rattle.std.specs.Prelude.{◌≡◌, IfOk};
 ghost use Rattle.std.specs.String.{string_bytes};
 ghost use Rattle.cond_tool.specs.Status.{line_of};
 
-use boogie_file::Refusal;
+use boogie_file::BoogieRefusal;
 use std::alloc::{AllocError, Global};
-use tool_words::Status;
+use tool_common::ToolStatus;
 
 /// The line that a call with this status writes to the error stream; nothing, where it writes none.
-pub fn line(alloc: Global, status: Status<Refusal>) -> Result<String, AllocError>
+pub fn line(alloc: Global, status: ToolStatus<BoogieRefusal>) -> Result<String, AllocError>
     ensures { IfOk result (λ text. string_bytes text ≡ line_of status) }
 {
     match status {
-        Status::Refused(refusal) => format!(in alloc; "error: {refusal}\n"),
-        Status::Usage => format!(in alloc; "usage: conditions BPL PROC\n"),
-        Status::ReadFault => format!(in alloc; "error: read\n"),
-        Status::Done | Status::WriteFault | Status::NoMemory => Ok(String::new(alloc)),
+        ToolStatus::Refused(refusal) => format!(in alloc; "error: {refusal}\n"),
+        ToolStatus::Usage => format!(in alloc; "usage: conditions BPL PROC\n"),
+        ToolStatus::ReadFault => format!(in alloc; "error: read\n"),
+        ToolStatus::Done | ToolStatus::WriteFault | ToolStatus::NoMemory => Ok(String::new(alloc)),
     }
 }

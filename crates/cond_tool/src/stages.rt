@@ -10,10 +10,10 @@ ghost use Rattle.boogie_file.specs.Files.{Refuses};
 ghost use Rattle.cond_tool.specs.Call.{Does};
 ghost use Rattle.cond_tool.specs.Written.{AreOfFile, IsWritten};
 
-use boogie_file::{Refusal, Trouble, found};
+use boogie_file::{BoogieRefusal, BoogieTrouble, found};
+use boogie_formula_text::print_conditions;
 use boogie_tree::BProgram;
 use boogie_wp::conditions;
-use formula_text::print_conditions;
 use std::alloc::Global;
 use vb_base::Memory;
 use vb_outer::Shelf;
@@ -36,11 +36,11 @@ pub fn work<H: Shelf>(
     shelf: &mut H,
     file: &str,
     name: &str,
-) -> Result<Vec<u8>, Trouble>
+) -> Result<Vec<u8>, BoogieTrouble>
     ensures does { IfOk result (λ text. Does (IsWhole (H.files shelf.old)) file.now name.now text.items) }
     ensures conditions { IfOk result (λ text. AreOfFile (IsWhole (H.files shelf.old)) file.now name.now text.items) }
-    ensures refused { (r : Refusal) → IsErrOf result (Trouble.Refused r) → Refuses (IsWhole (H.files shelf.old)) file.now name.now r }
-    ensures read { IsErrOf result Trouble.Read → IsMissing (H.files shelf.old) file.now ⊎ Rose (H.faults shelf.old) (H.faults shelf.new) }
+    ensures refused { (r : BoogieRefusal) → IsErrOf result (BoogieTrouble.Refused r) → Refuses (IsWhole (H.files shelf.old)) file.now name.now r }
+    ensures read { IsErrOf result BoogieTrouble.Read → IsMissing (H.files shelf.old) file.now ⊎ Rose (H.faults shelf.old) (H.faults shelf.new) }
     ensures files { H.files shelf.new ≡ H.files shelf.old }
 {
     let (program, number) = found(alloc, shelf, file, name)?;

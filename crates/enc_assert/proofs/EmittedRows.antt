@@ -25,7 +25,7 @@ use Rattle.enc_expr.proofs.RunLaws.{join_assoc}
 use Rattle.enc_expr.proofs.EmitLaws.{then_emits}
 use Rattle.enc_expr.proofs.EmittedForms.{ending, choose_emits}
 use Rattle.enc_expr.proofs.BlockLaws.{then_added}
-use Rattle.enc_assert.specs.Target.{Target, Field, Instance, Aimed, held_in}
+use Rattle.enc_assert.specs.Target.{AccessTarget, Field, Instance, Aimed, held_in}
 use Rattle.enc_assert.specs.Encoding.{field_target, instance_target, where_positive, more_held, produce_amount, produce_code, consume_amount, consume_code, forget_map, forget_heaps, forget_contents, forget_code}
 use Rattle.enc_assert.specs.Access.{Access, place_access, part_access, puts_written, puts_chosen}
 
@@ -151,17 +151,17 @@ module _ (p : Place) (g : Guard) (scale : t.BExpr) (at : Pos) (x : Access) (n : 
 -- ---- statements
 
 -- so much more of a place, and of an instance
-module _ (m : Maps) (scale q : t.BExpr) (target : Target) (held : ℕ) (at_held : held ≡ held_in m target) where
+module _ (m : Maps) (scale q : t.BExpr) (target : AccessTarget) (held : ℕ) (at_held : held ≡ held_in m target) where
   pub place_more : (f : ℕ) (x : t.BExpr) (old mid last new : s.BStmts) → target ≡ Field f x → mid ≡ join old (one (s.Assume (where_positive q (t.Bin op.Ne x t.Null)))) → last ≡ join mid (add_to held (t.more x t.none) (scaled scale q)) →
       new ≡ join last (one (s.Assume (where_positive q (t.Bin op.Le (at_one held x) one_real)))) → new ≡ join old (more_held m scale target q)
   place_more f x old mid last new same h i j =
       then_added old _ _ h (then_added mid _ _ i j)
       ∙ ap (λ (n : ℕ). join old (s.first (s.Assume (where_positive q (t.Bin op.Ne x t.Null))) (join (add_to n (t.more x t.none) (scaled scale q)) (one (s.Assume (where_positive q (t.Bin op.Le (at_one n x) one_real))))))) (at_held ∙ ap (held_in m) same)
-      ∙ ap (λ (y : Target). join old (more_held m scale y q)) (sym same)
+      ∙ ap (λ (y : AccessTarget). join old (more_held m scale y q)) (sym same)
 
   pub part_more : (p : ℕ) (is js : List ℕ) (old new : s.BStmts) → target ≡ Instance p is → js ≡ is → new ≡ join old (add_to held (index js) (scaled scale q)) → new ≡ join old (more_held m scale target q)
   part_more p is js old new same locals h =
-      h ∙ (λ i. join old (add_to ((at_held ∙ ap (held_in m) same) i) (index (locals i)) (scaled scale q))) ∙ ap (λ (y : Target). join old (more_held m scale y q)) (sym same)
+      h ∙ (λ i. join old (add_to ((at_held ∙ ap (held_in m) same) i) (index (locals i)) (scaled scale q))) ∙ ap (λ (y : AccessTarget). join old (more_held m scale y q)) (sym same)
 
 -- ---- forgetting
 

@@ -46,7 +46,7 @@ use Rattle.enc_expr.proofs.OperatorLaws.{plain_value}
 use Rattle.enc_expr.proofs.OpeningLaws.{alike_run, found_alike, unless_alike}
 use Rattle.enc_expr.proofs.FillLaws.{atom_put, stopped_first, positive_unless_none, implies_value, reference_key}
 use Rattle.enc_assert.specs.Target as target
-use Rattle.enc_assert.specs.Target.{Target, held_in, key_of}
+use Rattle.enc_assert.specs.Target.{AccessTarget, held_in, key_of}
 use Rattle.enc_assert.specs.Encoding.{where_positive, more_held}
 use Rattle.enc_assert.specs.Held.{IsHeldLocalOf}
 use Rattle.enc_assert.proofs.TargetLaws.{IsHere}
@@ -110,7 +110,7 @@ module _ (ts : List BType) (b : Bound) (c : Context) (l : Maps) (n m : ℕ) (s :
       by_literal false e =
           implies_value b (is_positive w) z (bvalue b (t.Bin op.Gt q zero_real) F) (bvalue b y F) (plain_value b op.Gt q zero_real _ _ F refl (atom_value b n F q (Real w) amount) refl ∙ positive_test b w proper) h
 
-  module _ {y : Target} {x : Resource} (h : IsHere b c.program.layout m l s E y x) where
+  module _ {y : AccessTarget} {x : Resource} (h : IsHere b c.program.layout m l s E y x) where
     abbrev all : Fraction
     all = sum h.held (product k w)
 

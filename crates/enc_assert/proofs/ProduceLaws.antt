@@ -48,7 +48,7 @@ use Rattle.enc_expr.proofs.OpeningLaws.{alike_run, alike_of, unless_alike, fails
 use Rattle.enc_expr.proofs.UnfoldingLaws.{emit_alike, quiet_alike, atomic_quiet, perm_alike}
 use Rattle.enc_expr.proofs.FillLaws.{positive_unless_none}
 use Rattle.enc_expr.proofs.ChoiceLaws.{scale_kept}
-use Rattle.enc_assert.specs.Target.{Target, Aimed}
+use Rattle.enc_assert.specs.Target.{AccessTarget, Aimed}
 use Rattle.enc_assert.specs.Encoding.{more_held, gives_code, gives_some, produce_amount}
 use Rattle.enc_assert.specs.Held.{IsHeldLocalOf, IsGrowing}
 use Rattle.enc_assert.specs.Alongside.{AreAlongside}
@@ -92,7 +92,7 @@ module _ (ts : List BType) (b : Bound) (c : Context) (p : Place) (g : Guard) (s 
 
   -- so much more of what is aimed at
   given_more : (own : IsGrowing c p) (n : ℕ) (E : Env) (coupled : IsCoupled b c n p s sc E) (scales : IsScale b n E scale k) (q : t.BExpr) (w : Fraction) (atom : HasAtom n E q (Real w)) (proper : IsProperFraction b w) (at : Pos)
-      (y : Target) (x : Resource) → Aims c.program.layout n E y x → is_negative w ≡ false → (cs : List BChoice) →
+      (y : AccessTarget) (x : Resource) → Aims c.program.layout n E y x → is_negative w ≡ false → (cs : List BChoice) →
       Alike (IsGrown c p.now n n E) b (if is_none w then is_end s else meaning.more_held b k x at s w) cs (brun ts b (more_held p.now scale y q) E cs)
   given_more own n E coupled scales q w atom proper at _ _ (field there ref) sign cs =
       place_given ts b c p.now n n s E coupled.now coupled.sound k scale scales q w atom proper at ref (aimed b c n n p.now s E own coupled.now coupled.sound (field there ref)) cs sign
@@ -102,7 +102,7 @@ module _ (ts : List BType) (b : Bound) (c : Context) (p : Place) (g : Guard) (s 
 
   -- an amount that is written: a negative one fails
   given_alike : (own : IsGrowing c p) (n : ℕ) (E : Env) (coupled : IsCoupled b c n p s sc E) (scales : IsScale b n E scale k) (q : t.BExpr) (w : Fraction) (atom : HasAtom n E q (Real w)) (proper : IsProperFraction b w) (at : Pos)
-      (y : Target) (x : Resource) → Aims c.program.layout n E y x → (cs : List BChoice) →
+      (y : AccessTarget) (x : Resource) → Aims c.program.layout n E y x → (cs : List BChoice) →
       Alike (IsGrown c p.now n n E) b (meaning.given_to b sc k x at s w) cs (brun ts b (gives_code p scale at y q) E cs)
   given_alike own n E coupled scales q w atom proper at y x aims cs =
       let l = label p at kind.Negative in

@@ -21,18 +21,18 @@ use Rattle.enc_expr.specs.Encoding.{held_check, taken_amount}
 use Rattle.enc_expr.proofs.Property.{Property}
 use Rattle.enc_expr.proofs.PropertyPieces.{one_has, index_has, check_nonnegative_has, scaled_has, add_to_has, Any, AreAll, IsCode, gives_has, then_has, declares_has, puts_has, bare_has, atomic_has, located_has}
 use Rattle.enc_assert.specs.Calls.{scale_code}
-use Rattle.enc_assert.specs.Target.{Target, Field, Instance, Aimed, held_in, key_of}
+use Rattle.enc_assert.specs.Target.{AccessTarget, Field, Instance, Aimed, held_in, key_of}
 use Rattle.enc_assert.specs.Encoding.{field_target, instance_target, where_positive, some_amount, more_held, gives_code, gives_some, takes_code, takes_some, forget_map, forget_heaps, forget_contents, forget_code}
 use Rattle.enc_assert.proofs.WalkLaws.{Blocks, amount_walk, produce_blocks, consume_blocks}
 
 module _ (K : Property) where
   -- ---- what an accessibility predicate speaks of
 
-  abbrev pub TargetHas : Target → Type 0
+  abbrev pub TargetHas : AccessTarget → Type 0
   TargetHas (Field f x) = K.expr 0 x
   TargetHas (Instance p is) = ⊤
 
-  key_has : (x : Target) → TargetHas x → K.exprs 0 (key_of x)
+  key_has : (x : AccessTarget) → TargetHas x → K.exprs 0 (key_of x)
   key_has (Field f x) h = K.more h K.none
   key_has (Instance p is) h = index_has K is
 
@@ -48,7 +48,7 @@ module _ (K : Property) where
   some_has : (w : ℕ) → K.block 1 (some_amount w)
   some_has w = K.more_in_block (K.first (K.havoc w) (one_has K (K.assume (K.binary (K.var w) K.zero_real)))) (omega arith)
 
-  more_held_has : (m : Maps) (scale : t.BExpr) (x : Target) (q : t.BExpr) → K.expr 0 scale → TargetHas x → K.expr 0 q → K.block 4 (more_held m scale x q)
+  more_held_has : (m : Maps) (scale : t.BExpr) (x : AccessTarget) (q : t.BExpr) → K.expr 0 scale → TargetHas x → K.expr 0 q → K.block 4 (more_held m scale x q)
   more_held_has m scale (Field f x) q h i j =
       let key : K.exprs 0 (t.more x t.none) = K.more i K.none in
       let add = add_to (number m.mask f) (t.more x t.none) (scaled scale q) in let limit = one (s.Assume (where_positive q (t.Bin op.Le (at_one (number m.mask f) x) one_real))) in
@@ -59,23 +59,23 @@ module _ (K : Property) where
 
   -- ---- produce
 
-  gives_code_has : (p : Place) (scale : t.BExpr) (part : Pos) (x : Target) (q : t.BExpr) → K.expr 0 scale → TargetHas x → K.expr 0 q → K.block 4 (gives_code p scale part x q)
+  gives_code_has : (p : Place) (scale : t.BExpr) (part : Pos) (x : AccessTarget) (q : t.BExpr) → K.expr 0 scale → TargetHas x → K.expr 0 q → K.block 4 (gives_code p scale part x q)
   gives_code_has p scale part x q h i j = K.joined (check_nonnegative (label p part kind.Negative) q) (more_held p.now scale x q) (K.more_in_block (check_nonnegative_has K (label p part kind.Negative) q j) (omega arith))
       (more_held_has p.now scale x q h i j)
 
-  gives_some_has : (p : Place) (scale : t.BExpr) (x : Target) (w : ℕ) → K.expr 0 scale → TargetHas x → K.block 4 (gives_some p scale x w)
+  gives_some_has : (p : Place) (scale : t.BExpr) (x : AccessTarget) (w : ℕ) → K.expr 0 scale → TargetHas x → K.block 4 (gives_some p scale x w)
   gives_some_has p scale x w h i = K.joined (some_amount w) (more_held p.now scale x (t.Var w)) (K.more_in_block (some_has w) (omega arith)) (more_held_has p.now scale x (t.Var w) h i (K.var w))
 
   -- ---- consume
 
-  takes_code_has : (p : Place) (left : Maps) (scale : t.BExpr) (part : Pos) (x : Target) (q : t.BExpr) → K.expr 0 scale → TargetHas x → K.expr 0 q → K.block 4 (takes_code p left scale part x q)
+  takes_code_has : (p : Place) (left : Maps) (scale : t.BExpr) (part : Pos) (x : AccessTarget) (q : t.BExpr) → K.expr 0 scale → TargetHas x → K.expr 0 q → K.block 4 (takes_code p left scale part x q)
   takes_code_has p left scale part x q h i j =
       let amount = scaled_has K scale q h j in let key = key_has x i in
       let check = held_check (label p part kind.Perm) (held_in left x) (key_of x) (scaled scale q) in let take = taken_amount (held_in left x) (key_of x) (scaled scale q) in
       K.joined (check_nonnegative (label p part kind.Negative) q) (join check take) (K.more_in_block (check_nonnegative_has K (label p part kind.Negative) q j) (omega arith))
       (K.more_in_block (K.first (K.assert (K.binary (K.at key) amount)) (one_has K (K.put key (K.binary (K.at key) amount)))) (omega arith))
 
-  takes_some_has : (p : Place) (left : Maps) (part : Pos) (x : Target) (w : ℕ) → TargetHas x → K.block 4 (takes_some p left part x w)
+  takes_some_has : (p : Place) (left : Maps) (part : Pos) (x : AccessTarget) (w : ℕ) → TargetHas x → K.block 4 (takes_some p left part x w)
   takes_some_has p left part x w i =
       let key = key_has x i in let take = taken_amount (held_in left x) (key_of x) (t.Var w) in let less = s.Assume (t.Bin op.Lt (t.Var w) (t.At (held_in left x) (key_of x))) in
       let rest : K.block 2 (join (some_amount w) (s.first less take)) = K.joined (some_amount w) (s.first less take) (K.more_in_block (some_has w) (omega arith))
@@ -86,8 +86,8 @@ module _ (K : Property) where
 
   pub record BlocksHave (w : Blocks) : Type 0 where
     pub fact : (d : ℕ) (part : Pos) (x : t.BExpr) → 1 ≤ d → K.expr d x → K.block d (w.fact part x)
-    pub written : (part : Pos) (x : Target) (q : t.BExpr) → TargetHas x → K.expr 0 q → K.block 4 (w.written part x q)
-    pub chosen : (part : Pos) (x : Target) (i : ℕ) → TargetHas x → K.block 4 (w.chosen part x i)
+    pub written : (part : Pos) (x : AccessTarget) (q : t.BExpr) → TargetHas x → K.expr 0 q → K.block 4 (w.written part x q)
+    pub chosen : (part : Pos) (x : AccessTarget) (i : ℕ) → TargetHas x → K.block 4 (w.chosen part x i)
 
   pub produce_blocks_have : (p : Place) (scale : t.BExpr) → K.expr 0 scale → BlocksHave (produce_blocks p scale)
   produce_blocks_have p scale h = record {

@@ -21,7 +21,7 @@ use Rattle.enc_expr.specs.Encoding.{held_check, taken_amount}
 use Rattle.enc_expr.specs.Nodes.{expr_nodes, exprs_nodes, stmts_nodes, written}
 use Rattle.enc_expr.proofs.SmallPieces.{join_nodes, index_nodes, parts_of, Any, nothing, weigh, weigh_all, weigh_atom, IsSmall, gives_small, then_small, more_small, declares_small, puts_small, guards_small, atomic_small, located_small, check_nonnegative_nodes, scaled_nodes, add_to_nodes}
 use Rattle.enc_expr.proofs.SmallCode.{code_small, codes_small, amount_small, choose_small, counted}
-use Rattle.enc_assert.specs.Target.{Target, Field, Instance, Aimed, held_in, key_of}
+use Rattle.enc_assert.specs.Target.{AccessTarget, Field, Instance, Aimed, held_in, key_of}
 use Rattle.enc_assert.specs.Encoding.{field_target, instance_target, where_positive, some_amount, more_held, gives_code, gives_some, produce_code, takes_code, takes_some, consume_code}
 use Rattle.enc_assert.proofs.WalkLaws.{Blocks, amount_walk, walk, produce_blocks, consume_blocks, produce_walks, consume_walks}
 
@@ -36,7 +36,7 @@ where_nodes q x h = by_literal (is_one q)
 
 -- ---- produce
 
-more_nodes : (m : Maps) (scale : t.BExpr) (x : Target) (q : t.BExpr) → expr_nodes scale ≤ 1 → expr_nodes q ≤ 1 → stmts_nodes (more_held m scale x q) ≤ 26 + 5 * exprs_nodes (key_of x)
+more_nodes : (m : Maps) (scale : t.BExpr) (x : AccessTarget) (q : t.BExpr) → expr_nodes scale ≤ 1 → expr_nodes q ≤ 1 → stmts_nodes (more_held m scale x q) ≤ 26 + 5 * exprs_nodes (key_of x)
 more_nodes m scale (Field f x) q h j =
     let held = at_one (number m.mask f) x in
     let first = where_nodes q (t.Bin op.Ne x t.Null) j in let last = where_nodes q (t.Bin op.Le held one_real) j in
@@ -46,30 +46,30 @@ more_nodes m scale (Field f x) q h j =
     omega (arith, first, last, added, whole)
 more_nodes m scale (Instance p is) q h j = let added = add_to_nodes (number m.amount p) (key_of (Instance p is)) (scaled scale q) (scaled_nodes scale q h j) in omega (arith, added)
 
-gives_code_nodes : (p : Place) (scale : t.BExpr) (at : Pos) (x : Target) (q : t.BExpr) → expr_nodes scale ≤ 1 → expr_nodes q ≤ 1 → stmts_nodes (gives_code p scale at x q) ≤ 30 + 5 * exprs_nodes (key_of x)
+gives_code_nodes : (p : Place) (scale : t.BExpr) (at : Pos) (x : AccessTarget) (q : t.BExpr) → expr_nodes scale ≤ 1 → expr_nodes q ≤ 1 → stmts_nodes (gives_code p scale at x q) ≤ 30 + 5 * exprs_nodes (key_of x)
 gives_code_nodes p scale at x q h j = let whole = join_nodes (check_nonnegative (label p at kind.Negative) q) (more_held p.now scale x q) in
     omega (arith, whole, check_nonnegative_nodes (label p at kind.Negative) q j, more_nodes p.now scale x q h j)
 
-gives_some_nodes : (p : Place) (scale : t.BExpr) (x : Target) (w : ℕ) → expr_nodes scale ≤ 1 → stmts_nodes (gives_some p scale x w) ≤ 31 + 5 * exprs_nodes (key_of x)
+gives_some_nodes : (p : Place) (scale : t.BExpr) (x : AccessTarget) (w : ℕ) → expr_nodes scale ≤ 1 → stmts_nodes (gives_some p scale x w) ≤ 31 + 5 * exprs_nodes (key_of x)
 gives_some_nodes p scale x w h = let whole = join_nodes (some_amount w) (more_held p.now scale x (t.Var w)) in omega (arith, whole, more_nodes p.now scale x (t.Var w) h (omega arith))
 
 -- ---- consume
 
-takes_code_nodes : (p : Place) (left : Maps) (scale : t.BExpr) (at : Pos) (x : Target) (q : t.BExpr) → expr_nodes scale ≤ 1 → expr_nodes q ≤ 1 → stmts_nodes (takes_code p left scale at x q) ≤ 30 + 5 * exprs_nodes (key_of x)
+takes_code_nodes : (p : Place) (left : Maps) (scale : t.BExpr) (at : Pos) (x : AccessTarget) (q : t.BExpr) → expr_nodes scale ≤ 1 → expr_nodes q ≤ 1 → stmts_nodes (takes_code p left scale at x q) ≤ 30 + 5 * exprs_nodes (key_of x)
 takes_code_nodes p left scale at x q h j =
     let check = held_check (label p at kind.Perm) (held_in left x) (key_of x) (scaled scale q) in let take = taken_amount (held_in left x) (key_of x) (scaled scale q) in
     let amount = scaled_nodes scale q h j in let whole = join_nodes (check_nonnegative (label p at kind.Negative) q) (join check take) in let rest = join_nodes check take in
     omega (arith, whole, rest, amount, check_nonnegative_nodes (label p at kind.Negative) q j)
 
-takes_some_nodes : (p : Place) (left : Maps) (at : Pos) (x : Target) (w : ℕ) → stmts_nodes (takes_some p left at x w) ≤ 31 + 5 * exprs_nodes (key_of x)
+takes_some_nodes : (p : Place) (left : Maps) (at : Pos) (x : AccessTarget) (w : ℕ) → stmts_nodes (takes_some p left at x w) ≤ 31 + 5 * exprs_nodes (key_of x)
 takes_some_nodes p left at x w = omega arith
 
 -- ---- the code
 
 pub record AreSmallBlocks (w : Blocks) : Type 0 where
   pub fact : (at : Pos) (x : t.BExpr) → stmts_nodes (w.fact at x) ≤ 1 + expr_nodes x
-  pub written : (at : Pos) (x : Target) (q : t.BExpr) → expr_nodes q ≤ 1 → stmts_nodes (w.written at x q) ≤ 31 + 5 * exprs_nodes (key_of x)
-  pub chosen : (at : Pos) (x : Target) (i : ℕ) → stmts_nodes (w.chosen at x i) ≤ 31 + 5 * exprs_nodes (key_of x)
+  pub written : (at : Pos) (x : AccessTarget) (q : t.BExpr) → expr_nodes q ≤ 1 → stmts_nodes (w.written at x q) ≤ 31 + 5 * exprs_nodes (key_of x)
+  pub chosen : (at : Pos) (x : AccessTarget) (i : ℕ) → stmts_nodes (w.chosen at x i) ≤ 31 + 5 * exprs_nodes (key_of x)
 
 pub produce_blocks_small : (p : Place) (scale : t.BExpr) → expr_nodes scale ≤ 1 → AreSmallBlocks (produce_blocks p scale)
 produce_blocks_small p scale few = record {

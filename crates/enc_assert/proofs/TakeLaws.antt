@@ -39,12 +39,12 @@ use Rattle.enc_expr.proofs.AmountLaws.{fits_is, some_test, enough_test, scaled_v
 use Rattle.enc_expr.proofs.OperatorLaws.{plain_value}
 use Rattle.enc_expr.proofs.OpeningLaws.{alike_run, alike_of, found_alike, fitting_alike, unless_alike, fails_alike, stops_first}
 use Rattle.enc_expr.proofs.FillLaws.{stopped_first, unless_then_alike}
-use Rattle.enc_assert.specs.Target.{Target, held_in, key_of}
+use Rattle.enc_assert.specs.Target.{AccessTarget, held_in, key_of}
 use Rattle.enc_assert.specs.Encoding.{takes_code}
 use Rattle.enc_assert.proofs.TargetLaws.{IsHere}
 use Rattle.enc_assert.proofs.GiveLaws.{IsGrown}
 
-module _ (ts : List BType) (b : Bound) (c : Context) (p : Place) (left : Maps) (n m : ℕ) (u : State) (sc : Scene) (E : Env) (same_at : p.at ≡ sc.at) (at : Pos) {y : Target} {x : Resource} (h : IsHere b c.program.layout m left u E y x) where
+module _ (ts : List BType) (b : Bound) (c : Context) (p : Place) (left : Maps) (n m : ℕ) (u : State) (sc : Scene) (E : Env) (same_at : p.at ≡ sc.at) (at : Pos) {y : AccessTarget} {x : Resource} (h : IsHere b c.program.layout m left u E y x) where
   abbrev held : t.BExpr
   held = t.At (held_in left y) (key_of y)
 
@@ -105,7 +105,7 @@ module _ (ts : List BType) (b : Bound) (c : Context) (p : Place) (left : Maps) (
       (λ yes. alike_run (run ∙ ap (λ (z : Truth). if not z then Done E cs else Stops (r.Failed (label p at kind.Perm)) cs) yes) (is_alike (refl, refl))))
 
 -- less than is held
-module _ (ts : List BType) (b : Bound) (c : Context) (left : Maps) (n m : ℕ) (u : State) (E : Env) (at : Pos) {y : Target} {x : Resource} (h : IsHere b c.program.layout m left u E y x) where
+module _ (ts : List BType) (b : Bound) (c : Context) (left : Maps) (n m : ℕ) (u : State) (E : Env) (at : Pos) {y : AccessTarget} {x : Resource} (h : IsHere b c.program.layout m left u E y x) where
   pub part_alike : (q : t.BExpr) (w : Fraction) → IsProperFraction b w → bvalue b q E ≡ end.Is (Real w) → (cs : List BChoice) →
       Alike (IsGrown c left n m E) b
       (then_with (fitting b (fits_order w h.held) at (is_lt (order w h.held))) (λ less. unless (not less) blocks (then_with (fitting b (fits_difference h.held w) at (difference h.held w)) (λ rest. is_end (with_held u x rest))))) cs

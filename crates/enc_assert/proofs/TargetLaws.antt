@@ -30,17 +30,17 @@ use Rattle.enc_expr.specs.Alike.{HasAtom, AreLocated}
 use Rattle.enc_expr.proofs.MapLaws.{found_in_map, mask_written, amount_written, index_key}
 use Rattle.enc_expr.proofs.FillLaws.{changed_same, reference_key}
 use Rattle.enc_assert.specs.Target as target
-use Rattle.enc_assert.specs.Target.{Target, held_in, key_of}
+use Rattle.enc_assert.specs.Target.{AccessTarget, held_in, key_of}
 use Rattle.enc_assert.specs.Held.{IsHeldLocalOf}
 
 -- the target names the resource
-pub data Aims (layout : Layout) (n : ℕ) (E : Env) : Target → Resource → Type 0 where
+pub data Aims (layout : Layout) (n : ℕ) (E : Env) : AccessTarget → Resource → Type 0 where
   field : {f r : ℕ} {u : Ty} {x : t.BExpr} → slice_get layout.fields f ≡ Some u → HasAtom n E x (bv.Ref r) → Aims layout n E (target.Field f x) (resource.Place f r)
   instance : {p : ℕ} {us : List Ty} {key : Key} {is : List ℕ} {vs : List Value} → slice_get layout.keys p ≡ Some us → FitsKey us key → AreLocated n E is vs → Some key ≡ places.key_of vs →
       Aims layout n E (target.Instance p is) (resource.Instance p key)
 
 -- its map holds what is held of the resource, which can be written there
-pub record IsHere (b : Bound) (layout : Layout) (m : ℕ) (l : Maps) (s : State) (E : Env) (y : Target) (x : Resource) : Type 0 where
+pub record IsHere (b : Bound) (layout : Layout) (m : ℕ) (l : Maps) (s : State) (E : Env) (y : AccessTarget) (x : Resource) : Type 0 where
   pub image : Map Key BScalar
   pub there : slice_get E (held_in l y) ≡ Some (Many image)
   pub tidy : IsTidy key_cmp same_scalar image
@@ -55,7 +55,7 @@ pub record IsHere (b : Bound) (layout : Layout) (m : ℕ) (l : Maps) (s : State)
   pub unchanged : with_held s x held ≡ s
   pub written : (q : Fraction) → IsReduced q → HasMaps layout m l (with_held s x q) (slice_set E (held_in l y) (Many (set key_cmp same_scalar image index (Real q))))
 
-pub aimed : (b : Bound) (c : Context) (n m : ℕ) (l : Maps) (s : State) (E : Env) {y : Target} {x : Resource} {O : ℕ → Type 0} → AreApart IsHeld O c.program.layout l → HasMaps c.program.layout m l s E → IsSound b c.program.layout s → Aims c.program.layout n E y x →
+pub aimed : (b : Bound) (c : Context) (n m : ℕ) (l : Maps) (s : State) (E : Env) {y : AccessTarget} {x : Resource} {O : ℕ → Type 0} → AreApart IsHeld O c.program.layout l → HasMaps c.program.layout m l s E → IsSound b c.program.layout s → Aims c.program.layout n E y x →
     IsHere b c.program.layout m l s E y x
 aimed b c n m l s E apart maps sound (field {f} {r} {u} {x} there ref) =
     let old = maps.mask f u there in

@@ -30,7 +30,7 @@ use Rattle.enc_expr.proofs.TypedPieces.{IsTypedCode, Any, join_typed, one_typed,
 use Rattle.enc_expr.proofs.TypedForms.{own_type, choose_typed}
 use Rattle.enc_expr.proofs.TypedCode.{code_typed, codes_typed, amount_typed, new_locals, more_place_types, more_guard_type}
 use Rattle.enc_expr.proofs.TypedMore.{type_with_more}
-use Rattle.enc_assert.specs.Target.{Target, Field, Instance, Aimed}
+use Rattle.enc_assert.specs.Target.{AccessTarget, Field, Instance, Aimed}
 use Rattle.enc_assert.specs.Encoding.{field_target, instance_target, produce_code, consume_code}
 use Rattle.enc_assert.specs.Typed.{HasHeldTypes}
 use Rattle.enc_assert.proofs.TypedTargets.{IsTypedTarget, IsTypedAim, field_typed, instance_typed, gives_code_typed, gives_some_typed, takes_code_typed, takes_some_typed}
@@ -41,8 +41,8 @@ use Rattle.enc_assert.proofs.WalkLaws.{Blocks, amount_walk, walk, produce_blocks
 module _ (ts : List BType) (layout : Layout) where
   pub record AreTypedBlocks (w : Blocks) : Type 0 where
     pub fact : (at : Pos) (x : t.BExpr) → HasType ts None x base.Bool → IsTyped ts (w.fact at x)
-    pub written : (at : Pos) (x : Target) (q : t.BExpr) → IsTypedTarget ts layout x → HasType ts None q base.Real → IsTyped ts (w.written at x q)
-    pub chosen : (at : Pos) (x : Target) (i : ℕ) → IsTypedTarget ts layout x → slice_get ts i ≡ Some (plain_type base.Real) → IsTyped ts (w.chosen at x i)
+    pub written : (at : Pos) (x : AccessTarget) (q : t.BExpr) → IsTypedTarget ts layout x → HasType ts None q base.Real → IsTyped ts (w.written at x q)
+    pub chosen : (at : Pos) (x : AccessTarget) (i : ℕ) → IsTypedTarget ts layout x → slice_get ts i ≡ Some (plain_type base.Real) → IsTyped ts (w.chosen at x i)
 
   pub produce_blocks_typed : (p : Place) (scale : t.BExpr) → HasHeldTypes layout p.now ts → HasType ts None scale base.Real → AreTypedBlocks (produce_blocks p scale)
   produce_blocks_typed p scale h k = record {

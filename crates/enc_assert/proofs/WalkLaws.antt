@@ -14,16 +14,16 @@ use Rattle.enc_expr.specs.Code.{Emitting, join, then_emit, declares, Guard, puts
 use Rattle.enc_expr.specs.Pieces.{Operand, atomic, one, label}
 use Rattle.enc_expr.specs.Operators.{choose_code}
 use Rattle.enc_expr.specs.Encoding.{code, codes, amount_code}
-use Rattle.enc_assert.specs.Target.{Target, Aimed}
+use Rattle.enc_assert.specs.Target.{AccessTarget, Aimed}
 use Rattle.enc_assert.specs.Encoding.{field_target, instance_target, gives_code, gives_some, produce_code, takes_code, takes_some, consume_code}
 
 pub record Blocks : Type 0 where
   -- for the value of a fact
   pub fact : Pos → t.BExpr → s.BStmts
   -- for an amount that is written
-  pub written : Pos → Target → t.BExpr → s.BStmts
+  pub written : Pos → AccessTarget → t.BExpr → s.BStmts
   -- for an amount that is chosen
-  pub chosen : Pos → Target → ℕ → s.BStmts
+  pub chosen : Pos → AccessTarget → ℕ → s.BStmts
 
 abbrev pub amount_walk : Blocks → Guard → Pos → e.Amt → Operand → Aimed → Emitting ⊤
 amount_walk w g at (e.Is a) y x = then_emit (atomic y) (λ q. puts g (join x.sets (join q.sets (w.written at x.target q.expr))))

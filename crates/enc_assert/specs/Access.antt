@@ -12,10 +12,10 @@ use Rattle.enc_expr.specs.Code.{Emitting, join, gives, then_emit, declares, Guar
 use Rattle.enc_expr.specs.Pieces.{Operand, atomic}
 use Rattle.enc_expr.specs.Encoding.{code, codes, amount_code}
 use Rattle.enc_expr.specs.View.{seen, atom_of}
-use Rattle.enc_assert.specs.Target.{Target, Field, Instance, Aimed}
+use Rattle.enc_assert.specs.Target.{AccessTarget, Field, Instance, Aimed}
 use Rattle.enc_assert.specs.Encoding.{field_target, instance_target}
-use Rattle.enc_assert.specs.declared.targets.Target as target
-use Rattle.enc_assert.specs.declared.targets.Target.TheVariants as variant
+use Rattle.enc_assert.specs.declared.targets.AccessTarget as target
+use Rattle.enc_assert.specs.declared.targets.AccessTarget.TheVariants as variant
 use Rattle.enc_assert.specs.declared.targets.Access as access
 
 pub record Access : Type 0 where
@@ -39,7 +39,7 @@ puts_chosen g x go = then_emit (declares (plain_type base.Real)) (λ w. puts g (
 
 -- ---- what contracts see of them
 
-abbrev pub target_of : target.Target → Target
+abbrev pub target_of : target.AccessTarget → AccessTarget
 target_of (variant.Field f a) = Field f (atom_of a)
 target_of (variant.Instance p locals) = Instance p locals.items
 

@@ -20,7 +20,7 @@ use Rattle.enc_expr.specs.Code.{Emitting, join, gives, then_emit, declares, Guar
 use Rattle.enc_expr.specs.Pieces.{Operand, atomic, located, index, at_one, one, label, zero_real, one_real, is_one, check_nonnegative, scaled, add_to}
 use Rattle.enc_expr.specs.Operators.{choose_code}
 use Rattle.enc_expr.specs.Encoding.{code, codes, amount_code, held_check, taken_amount}
-use Rattle.enc_assert.specs.Target.{Target, Field, Instance, Aimed, held_in, key_of}
+use Rattle.enc_assert.specs.Target.{AccessTarget, Field, Instance, Aimed, held_in, key_of}
 
 -- ---- what an accessibility predicate speaks of
 
@@ -43,7 +43,7 @@ some_amount w = s.first (s.Havoc w) (one (s.Assume (t.Bin op.Gt (t.Var w) zero_r
 -- ---- produce
 
 -- so much more is held. Nothing is held of null, and of a place at most 1.
-abbrev pub more_held : Maps → t.BExpr → Target → t.BExpr → s.BStmts
+abbrev pub more_held : Maps → t.BExpr → AccessTarget → t.BExpr → s.BStmts
 more_held m scale (Field f x) q =
     let held = number m.mask f in
     s.first (s.Assume (where_positive q (t.Bin op.Ne x t.Null))) (join (add_to held (t.more x t.none) (scaled scale q))
@@ -51,11 +51,11 @@ more_held m scale (Field f x) q =
 more_held m scale (Instance p is) q = add_to (number m.amount p) (index is) (scaled scale q)
 
 -- an amount that is written
-abbrev pub gives_code : Place → t.BExpr → Pos → Target → t.BExpr → s.BStmts
+abbrev pub gives_code : Place → t.BExpr → Pos → AccessTarget → t.BExpr → s.BStmts
 gives_code p scale at x q = join (check_nonnegative (label p at kind.Negative) q) (more_held p.now scale x q)
 
 -- an amount that is chosen
-abbrev pub gives_some : Place → t.BExpr → Target → ℕ → s.BStmts
+abbrev pub gives_some : Place → t.BExpr → AccessTarget → ℕ → s.BStmts
 gives_some p scale x w = join (some_amount w) (more_held p.now scale x (t.Var w))
 
 abbrev pub produce_amount : Place → Guard → t.BExpr → Pos → e.Amt → Operand → Aimed → Emitting ⊤
@@ -76,13 +76,13 @@ produce_code k p g scale (e.ChooseAssertion c a b) =
 -- ---- consume. Each expression is read in the present state, and permission is taken from the maps that are left.
 
 -- an amount that is written, times the scale
-abbrev pub takes_code : Place → Maps → t.BExpr → Pos → Target → t.BExpr → s.BStmts
+abbrev pub takes_code : Place → Maps → t.BExpr → Pos → AccessTarget → t.BExpr → s.BStmts
 takes_code p left scale at x q =
     join (check_nonnegative (label p at kind.Negative) q) (join (held_check (label p at kind.Perm) (held_in left x) (key_of x) (scaled scale q))
     (taken_amount (held_in left x) (key_of x) (scaled scale q)))
 
 -- an amount that is chosen: something of what is held, but not all
-abbrev pub takes_some : Place → Maps → Pos → Target → ℕ → s.BStmts
+abbrev pub takes_some : Place → Maps → Pos → AccessTarget → ℕ → s.BStmts
 takes_some p left at x w =
     let held = t.At (held_in left x) (key_of x) in
     s.first (s.Assert (label p at kind.Perm) (t.Bin op.Ne held zero_real)) (join (some_amount w) (s.first (s.Assume (t.Bin op.Lt (t.Var w) held))

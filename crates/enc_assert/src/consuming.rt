@@ -15,7 +15,7 @@ ghost use Rattle.enc_assert.specs.Access.{puts_written, puts_chosen, target_of, 
 ghost use Rattle.enc_assert.specs.Encoding as code;
 
 use crate::amounts::some_amount;
-use crate::targets::{Access, Target, read_part, read_place};
+use crate::targets::{Access, AccessTarget, read_part, read_place};
 use boogie_tree::{BBase, BExpr, BOp, BStmt};
 use enc_asserts::add_assert;
 use enc_expr::{
@@ -100,7 +100,7 @@ fn take_written(
     alloc: Global,
     taking: Taking,
     place: Pos,
-    target: &Target,
+    target: &AccessTarget,
     amount: Atom,
     reading: Reading,
     block: &mut Vec<BStmt>,
@@ -122,7 +122,7 @@ fn take_chosen(
     alloc: Global,
     left: &Maps,
     place: Pos,
-    target: &Target,
+    target: &AccessTarget,
     amount: usize,
     reading: Reading,
     block: &mut Vec<BStmt>,

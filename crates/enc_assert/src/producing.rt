@@ -14,7 +14,7 @@ ghost use Rattle.enc_assert.specs.Access.{puts_written, puts_chosen, target_of, 
 ghost use Rattle.enc_assert.specs.Encoding as code;
 
 use crate::amounts::{some_amount, where_positive};
-use crate::targets::{Access, Target, read_part, read_place};
+use crate::targets::{Access, AccessTarget, read_part, read_place};
 use boogie_tree::{BBase, BExpr, BOp, BStmt};
 use enc_expr::{
     Atom, Emit, Index, Maps, Operand, Reading, add, add_all, add_to, at, atomic, binary, check,
@@ -49,7 +49,7 @@ fn hold_more(
     alloc: Global,
     now: &Maps,
     scale: Atom,
-    target: &Target,
+    target: &AccessTarget,
     amount: Atom,
     block: &mut Vec<BStmt>,
 ) -> Result<(), Memory>
@@ -58,13 +58,13 @@ fn hold_more(
 {
     let held = target.held_in(now);
     match target {
-        Target::Field(_, receiver) => {
+        AccessTarget::Field(_, receiver) => {
             let index = Index::Reference(*receiver);
             add(block, assume_some(alloc, *receiver, amount)?)?;
             add_to(alloc, held, index, scale, amount, block)?;
             add(block, assume_limit(alloc, held, *receiver, amount)?)
         }
-        Target::Instance(_, locals) => {
+        AccessTarget::Instance(_, locals) => {
             let index = Index::Instance(locals);
             add_to(alloc, held, index, scale, amount, block)
         }
@@ -76,7 +76,7 @@ fn give_written(
     alloc: Global,
     scale: Atom,
     place: Pos,
-    target: &Target,
+    target: &AccessTarget,
     amount: Atom,
     reading: Reading,
     block: &mut Vec<BStmt>,
@@ -93,7 +93,7 @@ fn give_written(
 fn give_chosen(
     alloc: Global,
     scale: Atom,
-    target: &Target,
+    target: &AccessTarget,
     amount: usize,
     reading: Reading,
     block: &mut Vec<BStmt>,

@@ -18,21 +18,21 @@ use viper_core::{Amt, Expr};
 
 /// What an accessibility predicate speaks of.
 #[derive(Drop)]
-pub(crate) enum Target {
+pub(crate) enum AccessTarget {
     /// The field of a reference.
     Field(u32, Atom),
     /// The instance of a predicate whose arguments these locals hold.
     Instance(u32, Vec<usize>),
 }
 
-impl Target {
+impl AccessTarget {
     /// The local of its mask or amounts.
     pub(crate) fn held_in(&self, maps: &Maps) -> usize
         ensures { result ≡ t.held_in (maps_of maps.now) (target_of self.now) }
     {
         match self {
-            Target::Field(field, _) => number(&maps.mask, *field),
-            Target::Instance(predicate, _) => number(&maps.amount, *predicate),
+            AccessTarget::Field(field, _) => number(&maps.mask, *field),
+            AccessTarget::Instance(predicate, _) => number(&maps.amount, *predicate),
         }
     }
 
@@ -41,8 +41,8 @@ impl Target {
         ensures { index_in result ≡ t.key_of (target_of self.now) }
     {
         match self {
-            Target::Field(_, receiver) => Index::Reference(*receiver),
-            Target::Instance(_, locals) => Index::Instance(locals),
+            AccessTarget::Field(_, receiver) => Index::Reference(*receiver),
+            AccessTarget::Instance(_, locals) => Index::Instance(locals),
         }
     }
 }
@@ -51,7 +51,7 @@ impl Target {
 #[derive(Drop)]
 pub(crate) struct Access {
     pub amount: Operand,
-    pub target: Target,
+    pub target: AccessTarget,
     /// The statements that set what the target names.
     pub sets: Vec<BStmt>,
 }
@@ -73,7 +73,7 @@ pub(crate) fn read_place(
     let receiver = atomic(alloc, receiver, out)?;
     Ok(Access {
         amount,
-        target: Target::Field(field, receiver.atom),
+        target: AccessTarget::Field(field, receiver.atom),
         sets: receiver.sets,
     })
 }
@@ -95,7 +95,7 @@ pub(crate) fn read_part(
     let args = in_locals(alloc, args, out)?;
     Ok(Access {
         amount,
-        target: Target::Instance(predicate, args.locals),
+        target: AccessTarget::Instance(predicate, args.locals),
         sets: args.sets,
     })
 }

@@ -13,7 +13,7 @@ use Rattle.viper_core.specs.Formed.{IsFormed, precondition_context, postconditio
 use Rattle.viper_core.specs.Part.{cut}
 use Rattle.viper_core.specs.Program.{Method}
 use Rattle.viper_core.specs.Scope.{Scope}
-use Rattle.viper_core.specs.Typing.{Context, Frame, HaveTypes, IsAssertion, Receive, params_of, returns_of}
+use Rattle.viper_core.specs.Typing.{Context, MethodContext, HaveTypes, IsAssertion, Receive, params_of, returns_of}
 use Rattle.viper_core.proofs.CutLaws.{preconditions_cut, postconditions_cut}
 use Rattle.viper_state.specs.Fits.{FitsStore}
 use Rattle.viper_state.specs.State.{State}
@@ -62,7 +62,7 @@ use Rattle.enc_block.proofs.StateLaws.{home_forgetting, one_scale}
 use Rattle.enc_block.proofs.TargetLaws.{havoc_counted, then_goes, with_stored, taken_proper, taken_fit, received_there, received_differ, taken_located, IsVariableLocal, WereTaken, targets_along}
 
 -- what stays the same in the body of the method that runs
-abbrev pub frame_of : Activation → ℕ → Frame
+abbrev pub frame_of : Activation → ℕ → MethodContext
 frame_of k params = record { program = k.program; vars = k.vars; params = params }
 
 -- ---- the code of a call

@@ -10,7 +10,7 @@ use Rattle.viper_core.specs.Formed.{IsFormed}
 use Rattle.viper_core.specs.Program.{Method}
 use Rattle.viper_core.specs.Scope.{Scope}
 use Rattle.viper_core.specs.Stmt as v
-use Rattle.viper_core.specs.Typing.{Context, Elsewhere, Frame, AreStmts}
+use Rattle.viper_core.specs.Typing.{Context, Elsewhere, MethodContext, AreStmts}
 use Rattle.viper_meaning.specs.Contents.{body_of}
 use Rattle.boogie_tree.specs.Expr as t
 use Rattle.boogie_tree.specs.Program.{BType}
@@ -158,7 +158,7 @@ method_keyed (Some m) go each = each m
 
 -- ---- statements
 
-module _ (m : Frame) (h : Home) (formed : IsFormed m.program) where
+module _ (m : MethodContext) (h : Home) (formed : IsFormed m.program) where
   abbrev kinds : Kinds
   kinds = record { vars = m.vars; layout = m.program.layout }
 

@@ -16,7 +16,7 @@ use Rattle.viper_core.specs.Program.{Program, Method}
 use Rattle.viper_core.specs.Stmt as v
 use Rattle.viper_core.specs.Scope.{Scope}
 use Rattle.viper_core.specs.Typing as y
-use Rattle.viper_core.specs.Typing.{Context, Frame, inside, IsAssertion, IsFold, IsStmt, AreStmts, params_of}
+use Rattle.viper_core.specs.Typing.{Context, MethodContext, inside, IsAssertion, IsFold, IsStmt, AreStmts, params_of}
 use Rattle.viper_core.proofs.CutLaws.{preconditions_cut, postconditions_cut}
 use Rattle.viper_meaning.proofs.FoldLaws.{body_found}
 use Rattle.boogie_tree.specs.Expr as t
@@ -201,7 +201,7 @@ module _ (K : Property) (top : ℕ) (enough : 1 + max_term_depth ≤ top) (parts
 
   -- ---- statements
 
-  module _ (m : Frame) (h : Home) (formed : IsFormed m.program) where
+  module _ (m : MethodContext) (h : Home) (formed : IsFormed m.program) where
     abbrev kinds : Kinds
     kinds = record { vars = m.vars; layout = m.program.layout }
 

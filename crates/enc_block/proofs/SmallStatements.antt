@@ -14,7 +14,7 @@ use Rattle.viper_core.specs.Size.{size, sizes, assertion_size, assertion_sizes}
 use Rattle.viper_core.specs.Scope.{Scope}
 use Rattle.viper_core.specs.Stmt as v
 use Rattle.viper_core.specs.Typing as y
-use Rattle.viper_core.specs.Typing.{Context, Elsewhere, Frame, inside, IsStmt, AreStmts}
+use Rattle.viper_core.specs.Typing.{Context, Elsewhere, MethodContext, inside, IsStmt, AreStmts}
 use Rattle.viper_core.specs.Weight.{base_of, clauses_size, callee_size, fold_weight, stmt_weight, stmts_weight}
 use Rattle.boogie_tree.specs.Expr as t
 use Rattle.boogie_tree.specs.Stmt as s
@@ -245,7 +245,7 @@ module _ (p : Program) (formed : IsFormed p) where
     -- ---- statements
 
     module _ (params : ℕ) (fits : HasSizes layout h.now) where
-      abbrev frame : Frame
+      abbrev frame : MethodContext
       frame = record { program = p; vars = vars; params = params }
 
       mutual

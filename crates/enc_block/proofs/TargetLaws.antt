@@ -8,7 +8,7 @@ use Rattle.vb_value.specs.Value.{IsProperValue}
 use Rattle.vb_value.specs.declared.values.Ty.{Ty}
 use Rattle.vb_value.specs.declared.values.Value.{Value}
 use Rattle.viper_core.specs.Scope.{Scope}
-use Rattle.viper_core.specs.Typing.{Frame, AreTargets, nothing, also, Receive, assigned, declared}
+use Rattle.viper_core.specs.Typing.{MethodContext, AreTargets, nothing, also, Receive, assigned, declared}
 use Rattle.viper_state.specs.Fits.{FitsStore, FitsValue}
 use Rattle.viper_state.proofs.Paired.{get_set_same, get_set_other}
 use Rattle.viper_meaning.specs.Ends.{is}
@@ -67,30 +67,30 @@ pub taken_proper : {b : Bound} {us : List Ty} {xs : List ℕ} {vs : List Value} 
 taken_proper {b} none = All-nil (IsProperValue b)
 taken_proper {b} (more {v = v} {vs = vs} u there fine rest) = All-cons (IsProperValue b) v vs fine.proper (taken_proper rest)
 
-targets_fit : {b : Bound} {m : Frame} {sc : Scope} {xs : List ℕ} {ys : List Ty} {vs : List Value} → AreTargets m sc xs ys → AreTaken b m.vars xs vs → FitsStore ys vs
+targets_fit : {b : Bound} {m : MethodContext} {sc : Scope} {xs : List ℕ} {ys : List Ty} {vs : List Value} → AreTargets m sc xs ys → AreTaken b m.vars xs vs → FitsStore ys vs
 targets_fit nothing none = tt
 targets_fit (also {u = y} target targets) (more {v = v} u there fine rest) =
     let same : u ≡ y = same_Some u y (sym there ∙ target.typed) in
     (subst (λ z. FitsValue z v) same (fine_fits fine), targets_fit targets rest)
 
 -- the values are of the types of what is received
-pub taken_fit : {b : Bound} {m : Frame} {sc : Scope} {xs : List ℕ} {ys : List Ty} {vs : List Value} → Receive m sc xs ys → AreTaken b m.vars xs vs → FitsStore ys vs
+pub taken_fit : {b : Bound} {m : MethodContext} {sc : Scope} {xs : List ℕ} {ys : List Ty} {vs : List Value} → Receive m sc xs ys → AreTaken b m.vars xs vs → FitsStore ys vs
 taken_fit (assigned targets differ) taken = targets_fit targets taken
 taken_fit (declared {u = y} fresh typed) (more {v = v} u there fine none) =
     let same : u ≡ y = same_Some u y (sym there ∙ typed) in
     (subst (λ z. FitsValue z v) same (fine_fits fine), tt)
 
-targets_there : (k : Activation) {m : Frame} {sc : Scope} {xs : List ℕ} {ys : List Ty} → m.vars ≡ k.vars → AreTargets m sc xs ys → All (IsVariableOf k) xs
+targets_there : (k : Activation) {m : MethodContext} {sc : Scope} {xs : List ℕ} {ys : List Ty} → m.vars ≡ k.vars → AreTargets m sc xs ys → All (IsVariableOf k) xs
 targets_there k same nothing = All-nil (IsVariableOf k)
 targets_there k same (also {x = x} {xs = xs} {u = u} target targets) = All-cons (IsVariableOf k) x xs (u, ap (λ us. slice_get us x) (sym same) ∙ target.typed) (targets_there k same targets)
 
 -- what is received is variables of the method
-pub received_there : (k : Activation) {m : Frame} {sc : Scope} {xs : List ℕ} {ys : List Ty} → m.vars ≡ k.vars → Receive m sc xs ys → All (IsVariableOf k) xs
+pub received_there : (k : Activation) {m : MethodContext} {sc : Scope} {xs : List ℕ} {ys : List Ty} → m.vars ≡ k.vars → Receive m sc xs ys → All (IsVariableOf k) xs
 received_there k same (assigned targets differ) = targets_there k same targets
 received_there k same (declared {x = x} {u = u} fresh typed) = All-cons (IsVariableOf k) x [] (u, ap (λ us. slice_get us x) (sym same) ∙ typed) (All-nil (IsVariableOf k))
 
 -- and they differ
-pub received_differ : {m : Frame} {sc : Scope} {xs : List ℕ} {ys : List Ty} → Receive m sc xs ys → AllPairs (λ x y. x ≢ y) xs
+pub received_differ : {m : MethodContext} {sc : Scope} {xs : List ℕ} {ys : List Ty} → Receive m sc xs ys → AllPairs (λ x y. x ≢ y) xs
 received_differ (assigned targets differ) = differ
 received_differ (declared fresh typed) = λ i j d low within. absurd (omega (arith, low, within))
 

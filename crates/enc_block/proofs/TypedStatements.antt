@@ -16,7 +16,7 @@ use Rattle.viper_core.specs.Program.{Method}
 use Rattle.viper_core.specs.Scope.{Scope}
 use Rattle.viper_core.specs.Stmt as v
 use Rattle.viper_core.specs.Typing as y
-use Rattle.viper_core.specs.Typing.{Context, Frame, inside, IsVariable, IsAssertion, Receive, AreTargets, IsStmt, AreStmts, params_of, returns_of}
+use Rattle.viper_core.specs.Typing.{Context, MethodContext, inside, IsVariable, IsAssertion, Receive, AreTargets, IsStmt, AreStmts, params_of, returns_of}
 use Rattle.viper_core.proofs.CutLaws.{preconditions_cut, postconditions_cut}
 use Rattle.viper_core.proofs.TargetLaws.{targets_exist}
 use Rattle.viper_meaning.proofs.StatementFitsLaws.{take_both}
@@ -293,7 +293,7 @@ module _ (ts : List BType) (c : Context) (h : Home) (formed : IsFormed c.program
 
 -- ---- statements
 
-module _ (ts : List BType) (m : Frame) (h : Home) (formed : IsFormed m.program) (types : HasHomeTypes m.vars m.program.layout h ts) where
+module _ (ts : List BType) (m : MethodContext) (h : Home) (formed : IsFormed m.program) (types : HasHomeTypes m.vars m.program.layout h ts) where
   abbrev kinds : Kinds
   kinds = record { vars = m.vars; layout = m.program.layout }
 

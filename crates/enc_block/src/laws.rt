@@ -7,7 +7,7 @@ ghost use Rattle.viper_core.specs.Depth as depth;
 ghost use Rattle.viper_core.specs.Formed.{IsFormed};
 ghost use Rattle.viper_core.specs.Scope.{Scope};
 ghost use Rattle.viper_core.specs.Stmt.{Stmt, Stmts};
-ghost use Rattle.viper_core.specs.Typing.{Frame, IsStmt, AreStmts};
+ghost use Rattle.viper_core.specs.Typing.{MethodContext, IsStmt, AreStmts};
 ghost use Rattle.viper_core.specs.Weight.{stmt_weight, stmts_weight};
 ghost use Rattle.viper_meaning.specs.Statements.{Activation, run_stmt, run_block};
 ghost use Rattle.boogie_tree.specs.Nested.{stmts_depth};
@@ -40,7 +40,7 @@ pub fn statements_and_their_code_end_alike()
 /// Behind locals of the types that a home has, the code of a well-typed block of a formed program is well-typed, with its own locals
 /// behind those, whose maps have indices of key types.
 pub fn code_is_well_typed()
-    ensures { (m : Frame) (h : Home) (ts : List BType) (sc : Scope) (xs : Stmts) → IsFormed m.program → AreStmts m sc xs
+    ensures { (m : MethodContext) (h : Home) (ts : List BType) (sc : Scope) (xs : Stmts) → IsFormed m.program → AreStmts m sc xs
         → HasHomeTypes m.vars m.program.layout h ts
         → IsTypedPiece ts (block_code m.program (record { vars = m.vars; layout = m.program.layout }) h xs (length ts)) }
 {}
@@ -48,7 +48,7 @@ pub fn code_is_well_typed()
 /// The code of a well-typed block of a formed program, whose terms have at most 1,024 levels, has at most 1,366 brackets open at once
 /// and one more for itself and each block that stands in another.
 pub fn code_is_shallow()
-    ensures { (m : Frame) (h : Home) (n : ℕ) (sc : Scope) (xs : Stmts) → IsFormed m.program → AreStmts m sc xs
+    ensures { (m : MethodContext) (h : Home) (n : ℕ) (sc : Scope) (xs : Stmts) → IsFormed m.program → AreStmts m sc xs
         → depth.stmts_depth xs ≤ max_term_depth
         → stmts_depth (block_code m.program (record { vars = m.vars; layout = m.program.layout }) h xs n).stmts ≤ 1366 + (1 + depth.blocks_in xs) }
 {}
@@ -56,10 +56,10 @@ pub fn code_is_shallow()
 /// The code of a well-typed statement of a formed program is at most 256 times as large as what the statement weighs, with each target
 /// of its calls counted as one more, and so is that of a block. Of the code each node counts and each new local.
 pub fn code_is_linear()
-    ensures stmt { (m : Frame) (h : Home) (n : ℕ) (sc : Scope) (x : Stmt) → IsFormed m.program → HasSizes m.program.layout h.now
+    ensures stmt { (m : MethodContext) (h : Home) (n : ℕ) (sc : Scope) (x : Stmt) → IsFormed m.program → HasSizes m.program.layout h.now
         → IsStmt m sc x → written (stmt_code m.program (record { vars = m.vars; layout = m.program.layout }) h x n)
         ≤ 256 * (stmt_weight m.program x + results_of x) }
-    ensures block { (m : Frame) (h : Home) (n : ℕ) (sc : Scope) (xs : Stmts) → IsFormed m.program → HasSizes m.program.layout h.now
+    ensures block { (m : MethodContext) (h : Home) (n : ℕ) (sc : Scope) (xs : Stmts) → IsFormed m.program → HasSizes m.program.layout h.now
         → AreStmts m sc xs → written (block_code m.program (record { vars = m.vars; layout = m.program.layout }) h xs n)
         ≤ 256 * (stmts_weight m.program xs + results_in xs) }
 {}

@@ -20,4 +20,4 @@ pub use instances::{fold_instance, unfold_instance};
 pub use loops::{after_loop, loop_head, turn_end, turn_head};
 pub use methods::{method_check, method_end, method_start};
 pub use states::{any_state, havoc, keep_old, stop};
-pub use writes::{FieldPlace, assign, write};
+pub use writes::{WrittenField, assign, write};

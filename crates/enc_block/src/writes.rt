@@ -16,7 +16,9 @@ ghost use Rattle.enc_block.specs.View.{home_of};
 use crate::homes::Setting;
 use boogie_tree::{BExpr, BOp, BStmt};
 use enc_asserts::add_assert;
-use enc_expr::{Atom, Emit, Held, Index, Operand, Reading, add, at, atomic, binary, check, number};
+use enc_expr::{
+    Atom, Emit, HeldAtom, Index, Operand, Reading, add, at, atomic, binary, check, number,
+};
 use std::alloc::Global;
 use vb_base::{Kind, Memory, Pos};
 use viper_core::Expr;
@@ -80,7 +82,7 @@ fn write_at(
     alloc: Global,
     field: u32,
     part: Pos,
-    receiver: Held,
+    receiver: HeldAtom,
     value: Operand,
     reading: Reading,
     out: &mut Emit,
@@ -99,7 +101,7 @@ fn write_at(
 
 /// A field of what an expression is, `e.f`, and where its name stands.
 #[derive(Clone, Copy)]
-pub struct FieldPlace<'a> {
+pub struct WrittenField<'a> {
     pub receiver: &'a Expr,
     pub field: u32,
     pub at: Pos,
@@ -109,7 +111,7 @@ pub struct FieldPlace<'a> {
 pub fn write(
     alloc: Global,
     step: Pos,
-    target: FieldPlace,
+    target: WrittenField,
     value: &Expr,
     setting: Setting,
     out: &mut Emit,

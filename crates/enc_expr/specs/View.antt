@@ -8,7 +8,7 @@ use Rattle.enc_expr.specs.Place as p
 use Rattle.enc_expr.specs.Pieces as piece
 use Rattle.enc_expr.specs.declared.operands.Atom.{Atom}
 use Rattle.enc_expr.specs.declared.operands.Atom.TheVariants as atom
-use Rattle.enc_expr.specs.declared.operands.Held.{Held}
+use Rattle.enc_expr.specs.declared.operands.HeldAtom.{HeldAtom}
 use Rattle.enc_expr.specs.declared.operands.Located.{Located}
 use Rattle.enc_expr.specs.declared.operands.Operand.{Operand}
 use Rattle.enc_expr.specs.declared.terms.Index.{Index}
@@ -45,7 +45,7 @@ abbrev pub index_in : Index → t.BExprs
 index_in (at.Reference a) = t.more (atom_of a) t.none
 index_in (at.Instance locals) = piece.index locals.now
 
-abbrev pub held_of : Held → piece.Atom
+abbrev pub held_of : HeldAtom → piece.Atom
 held_of x = record { expr = atom_of x.atom; sets = stmts_of x.sets.items }
 
 abbrev pub located_of : Located → piece.Located

@@ -11,9 +11,13 @@ ghost use Rattle.enc_expr.specs.View.{seen, all_seen, atom_of, held_of, located_
 
 use crate::blocks::{add, add_all};
 use crate::emits::Emit;
-use crate::fillings::{Named, Source, fill_access, fill_fact, fill_nothing, fill_part, split};
-use crate::openings::{Part, fresh_state, take_copy};
-use crate::operands::{Atom, Held, Located, Operand, atomic, in_locals, int_operand, part_operand};
+use crate::fillings::{
+    PlacedNumber, Source, fill_access, fill_fact, fill_nothing, fill_part, split,
+};
+use crate::openings::{InstanceAmount, fresh_state, take_copy};
+use crate::operands::{
+    Atom, HeldAtom, Located, Operand, atomic, in_locals, int_operand, part_operand,
+};
 use crate::operators::{
     Class, chosen, class_of, denied, division, lazy_value, negative, right_counts, sides, value_of,
 };
@@ -212,7 +216,7 @@ fn unfold_at(
     alloc: Global,
     opened: &Opened,
     args: Located,
-    amount: Held,
+    amount: HeldAtom,
     reading: Reading,
     out: &mut Emit,
 ) -> Result<Operand, Memory>
@@ -222,7 +226,7 @@ fn unfold_at(
     let own = fresh_state(alloc, reading.kinds.layout, out)?;
     let content = out.fresh_scalar(alloc, BBase::Snap)?;
     let locals = args.locals;
-    let part = Part {
+    let part = InstanceAmount {
         predicate: opened.predicate,
         args: &locals,
         amount: amount.atom,
@@ -279,13 +283,13 @@ pub fn fill(
         Assertion::Acc(e, field, amount, at) => {
             let receiver = check(alloc, e, reading, out)?;
             let amount = check_amount(alloc, amount, reading, out)?;
-            let field = Named::of(*field, *at);
+            let field = PlacedNumber::of(*field, *at);
             fill_access(alloc, field, receiver, amount, source, reading, out)
         }
         Assertion::Inst(predicate, args, amount, at) => {
             let args = check_all(alloc, args, reading, out)?;
             let amount = check_amount(alloc, amount, reading, out)?;
-            let predicate = Named::of(*predicate, *at);
+            let predicate = PlacedNumber::of(*predicate, *at);
             fill_part(alloc, predicate, args, amount, source, reading, out)
         }
         Assertion::And(a, b) => {

@@ -33,17 +33,17 @@ pub struct Source {
 
 /// A field or a predicate, and the place of its name.
 #[derive(Clone, Copy)]
-pub(crate) struct Named {
+pub(crate) struct PlacedNumber {
     number: u32,
     at: Pos,
 }
 
-impl Named {
-    pub(crate) fn of(number: u32, at: Pos) -> Named
+impl PlacedNumber {
+    pub(crate) fn of(number: u32, at: Pos) -> PlacedNumber
         ensures number { result.number ≡ number }
         ensures at { result.at ≡ at }
     {
-        Named { number, at }
+        PlacedNumber { number, at }
     }
 }
 
@@ -141,7 +141,7 @@ pub fn add_to(
 
 /// A place that is filled: its field, receiver and amount, and the new local that gets its value.
 #[derive(Clone, Copy)]
-struct Filled {
+struct FilledPlace {
     field: u32,
     receiver: Atom,
     amount: Atom,
@@ -152,7 +152,7 @@ struct Filled {
 fn take_value(
     alloc: Global,
     ty: Ty,
-    filled: Filled,
+    filled: FilledPlace,
     content: usize,
     block: &mut Vec<BStmt>,
 ) -> Result<(), Memory>
@@ -185,7 +185,7 @@ pub fn set_value(
 /// A place by a positive amount.
 fn fill_place(
     alloc: Global,
-    filled: Filled,
+    filled: FilledPlace,
     source: Source,
     reading: Reading,
 ) -> Result<Vec<BStmt>, Memory>
@@ -283,7 +283,7 @@ fn fill_by(
 /// An accessibility predicate of a place.
 pub(crate) fn fill_access(
     alloc: Global,
-    field: Named,
+    field: PlacedNumber,
     receiver: Operand,
     amount: Operand,
     source: Source,
@@ -297,7 +297,7 @@ pub(crate) fn fill_access(
     let receiver = atomic(alloc, receiver, out)?;
     let amount = atomic(alloc, amount, out)?;
     let value = out.fresh_scalar(alloc, base_for(reading.kinds.field(field.number)))?;
-    let filled = Filled {
+    let filled = FilledPlace {
         field: field.number,
         receiver: receiver.atom,
         amount: amount.atom,
@@ -321,7 +321,7 @@ pub(crate) fn fill_access(
 /// An instance of a predicate.
 pub(crate) fn fill_part(
     alloc: Global,
-    predicate: Named,
+    predicate: PlacedNumber,
     args: Vec<Operand>,
     amount: Operand,
     source: Source,

@@ -29,10 +29,10 @@ pub use copying::copied;
 pub use emits::Emit;
 pub use fillings::{Source, add_to, check_nonnegative, if_positive, set_value};
 pub use openings::{
-    Part, check_positive, copies, copy_state, fresh_indexed, fresh_masks, fresh_state, heap_of,
-    indexed_map_of, taking,
+    InstanceAmount, check_positive, copies, copy_state, fresh_indexed, fresh_masks, fresh_state,
+    heap_of, indexed_map_of, taking,
 };
-pub use operands::{Atom, Held, Located, Operand, atomic, in_locals};
+pub use operands::{Atom, HeldAtom, Located, Operand, atomic, in_locals};
 pub use operators::sides;
 pub use own_kinds::OwnKinds;
 pub use places::{Maps, Place};

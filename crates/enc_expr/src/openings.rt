@@ -139,7 +139,7 @@ pub fn copy_state(alloc: Global, own: &Maps, from: &Maps) -> Result<Vec<BStmt>, 
 
 /// An amount of some instance of a predicate.
 #[derive(Clone, Copy)]
-pub struct Part<'a> {
+pub struct InstanceAmount<'a> {
     pub predicate: u32,
     /// The locals of its arguments.
     pub args: &'a [usize],
@@ -202,7 +202,7 @@ fn take_amount(
 /// content gets into a local. It is taken out at once, since the body may write the same map.
 pub fn taking(
     alloc: Global,
-    part: Part,
+    part: InstanceAmount,
     maps: &Maps,
     sets: Vec<BStmt>,
     content: usize,
@@ -229,7 +229,7 @@ pub fn taking(
 /// The same from a copy of the present state, behind other statements.
 pub(crate) fn take_copy(
     alloc: Global,
-    part: Part,
+    part: InstanceAmount,
     own: &Maps,
     content: usize,
     reading: Reading,

@@ -118,18 +118,18 @@ impl Atom {
 
 /// An atom, and the statement that sets it where it is a new local.
 #[derive(Drop)]
-pub struct Held {
+pub struct HeldAtom {
     pub atom: Atom,
     pub sets: Vec<BStmt>,
 }
 
 /// The operand itself where it is an atom, and else a new local, which the statement sets.
-pub fn atomic(alloc: Global, x: Operand, out: &mut Emit) -> Result<Held, Memory>
+pub fn atomic(alloc: Global, x: Operand, out: &mut Emit) -> Result<HeldAtom, Memory>
     ensures { IfOk result (λ a. Emits (piece.atomic (seen x) (length (emit_of out.old).locals))
         (emit_of out.old) (emit_of out.new) (held_of a)) }
 {
     if let Some(atom) = Atom::of(&x.expr) {
-        return Ok(Held {
+        return Ok(HeldAtom {
             atom,
             sets: Vec::new(alloc),
         });
@@ -137,13 +137,13 @@ pub fn atomic(alloc: Global, x: Operand, out: &mut Emit) -> Result<Held, Memory>
     in_local(alloc, x, out)
 }
 
-fn in_local(alloc: Global, x: Operand, out: &mut Emit) -> Result<Held, Memory>
+fn in_local(alloc: Global, x: Operand, out: &mut Emit) -> Result<HeldAtom, Memory>
     ensures { IfOk result (λ a. Emits (piece.in_local (seen x) (length (emit_of out.old).locals))
         (emit_of out.old) (emit_of out.new) (held_of a)) }
 {
     let local = out.fresh_scalar(alloc, x.base)?;
     let sets = vec![in alloc; BStmt::Assign(local, Box::into_inner(x.expr))]?;
-    Ok(Held {
+    Ok(HeldAtom {
         atom: Atom::Var(local),
         sets,
     })

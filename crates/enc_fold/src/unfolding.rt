@@ -8,7 +8,8 @@ ghost use Rattle.enc_fold.specs.Encoding as code;
 use crate::folding::always;
 use boogie_tree::BBase;
 use enc_expr::{
-    Emit, Part, Reading, Source, add_all, atomic, check, check_all, fill, in_locals, taking,
+    Emit, InstanceAmount, Reading, Source, add_all, atomic, check, check_all, fill, in_locals,
+    taking,
 };
 use std::alloc::Global;
 use vb_base::Memory;
@@ -32,7 +33,7 @@ pub fn unfold(
     let amount = atomic(alloc, asked, out)?;
     let content = out.fresh_scalar(alloc, BBase::Snap)?;
     let locals = args.locals;
-    let part = Part {
+    let part = InstanceAmount {
         predicate: f.predicate,
         args: &locals,
         amount: amount.atom,

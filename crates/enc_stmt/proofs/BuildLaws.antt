@@ -17,7 +17,7 @@ use Rattle.enc_stmt.specs.Built.{Around, Built, if_code, opened, turned, closed,
 use Rattle.enc_units.specs.Forms as f
 use Rattle.enc_units.specs.Forms.{Forms}
 use Rattle.enc_units.specs.Rows.{bracket_pieces, row_pieces}
-use Rattle.enc_units.specs.Steps.{Step, Bracket}
+use Rattle.enc_units.specs.Steps.{RowStep, Bracket}
 use Rattle.enc_stmt.specs.declared.building.Branch.{Branch}
 
 -- ---- pieces
@@ -80,9 +80,9 @@ is_closed branches rest branch block now x was is h =
 
 -- ---- steps
 
-module _ (code : Step → Emitting Bracket) where
+module _ (code : RowStep → Emitting Bracket) where
   -- one step, and then those behind it
-  pub step_built : (x : Step) (xs : List Step) (old mid : Emit) (b : Bracket) (around : List Around) (now : Built) → Emits (code x (length old.locals)) old mid b →
+  pub step_built : (x : RowStep) (xs : List RowStep) (old mid : Emit) (b : Bracket) (around : List Around) (now : Built) → Emits (code x (length old.locals)) old mid b →
       now ≡ with_pieces (bracket_pieces b) (record { block = mid.stmts; around = around }) →
       with_pieces (row_pieces code (x ∷ xs) (length old.locals)) (record { block = old.stmts; around = around }) ≡ with_pieces (row_pieces code xs (length mid.locals)) now
   step_built x xs old mid b around now h k =

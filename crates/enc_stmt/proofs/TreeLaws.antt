@@ -14,7 +14,7 @@ use Rattle.enc_expr.specs.Locals.{fixed_names, fixed_types}
 use Rattle.enc_text.proofs.NameLaws.{length_named, fixed_good}
 use Rattle.enc_stmt.specs.Built.{built_of, with_pieces}
 use Rattle.enc_units.specs.Rows.{row_pieces}
-use Rattle.enc_units.specs.Steps.{Step, Bracket, unit_row, unit_step, fixed_locals}
+use Rattle.enc_units.specs.Steps.{RowStep, Bracket, unit_row, unit_step, fixed_locals}
 use Rattle.enc_units.specs.Translates.{program_code, Translates}
 use Rattle.enc_units.specs.Units.{unit_procedure}
 use Rattle.enc_stmt.proofs.BuildLaws.{formed_block}
@@ -24,11 +24,11 @@ use Rattle.enc_units.proofs.ProgramLaws.{printable, translates}
 -- ---- the procedure of a unit
 
 -- where these are the code and the row
-module _ (p : Program) (x : Unit) (formed : IsFormed p) (code : Step → Emitting Bracket) (is_code : code ≡ unit_step p x) (row : List Step) (is_row : row ≡ unit_row p x) where
+module _ (p : Program) (x : Unit) (formed : IsFormed p) (code : RowStep → Emitting Bracket) (is_code : code ≡ unit_step p x) (row : List RowStep) (is_row : row ≡ unit_row p x) where
   pub row_body : (with_pieces (row_pieces code row (length (fixed_locals p x))) (built_of [] [])).block ≡ (unit_procedure p x).body
   row_body =
-      ap (λ (c : Step → Emitting Bracket). (with_pieces (row_pieces c row (length (fixed_locals p x))) (built_of [] [])).block) is_code
-      ∙ ap (λ (r : List Step). (with_pieces (row_pieces (unit_step p x) r (length (fixed_locals p x))) (built_of [] [])).block) is_row
+      ap (λ (c : RowStep → Emitting Bracket). (with_pieces (row_pieces c row (length (fixed_locals p x))) (built_of [] [])).block) is_code
+      ∙ ap (λ (r : List RowStep). (with_pieces (row_pieces (unit_step p x) r (length (fixed_locals p x))) (built_of [] [])).block) is_row
       ∙ ap (λ (n : ℕ). (with_pieces (row_pieces (unit_step p x) (unit_row p x) n) (built_of [] [])).block) (length_named (fixed_names p x) (fixed_types p x) (fixed_good p x formed).as_many)
       ∙ formed_block ((unit_lays p x).form (length (fixed_types p x)))
 

@@ -9,7 +9,7 @@ ghost use Rattle.enc_units.specs.Written.{IsStep};
 
 use boogie_tree::{BExpr, BStmt};
 use enc_expr::{Emit, add};
-use enc_units::{Bracket, Step, Writer};
+use enc_units::{Bracket, RowStep, Writer};
 use std::alloc::Global;
 use std::mem;
 use vb_base::Memory;
@@ -118,7 +118,7 @@ fn build_bracket(
 pub fn build_row(
     alloc: Global,
     writer: Writer,
-    row: &[Step<'_>],
+    row: &[RowStep<'_>],
     out: &mut Emit,
 ) -> Result<(), Memory>
     requires { All IsStep (map step_of row.now) }

@@ -11,5 +11,5 @@ pub use enc_block::{
 };
 pub use enc_locals::{front_procedure, front_types, other_types, start_env};
 pub use enc_stream::{Written, encode_to, unit_locals};
-pub use enc_units::{Bracket, BranchStep, CodeStep, Step, start, step_code, unit_home};
+pub use enc_units::{Bracket, BranchStep, CodeStep, RowStep, start, step_code, unit_home};
 pub use trees::{encode, procedure_at};

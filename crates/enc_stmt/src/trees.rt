@@ -22,13 +22,13 @@ use crate::building::build_row;
 use boogie_tree::{BProgram, Proc};
 use enc_expr::{Emit, add};
 use enc_locals::{fixed_locals, unit_at, unit_name};
-use enc_units::{Step, Writer, unit_home, unit_steps, unit_writer};
+use enc_units::{RowStep, Writer, unit_home, unit_steps, unit_writer};
 use std::alloc::Global;
 use vb_base::Memory;
 use viper_core::{Program, Unit};
 
 /// The fixed locals and those that the steps declare, and the statements of the steps.
-fn row_emit(alloc: Global, writer: Writer, row: &[Step<'_>]) -> Result<Emit, Memory>
+fn row_emit(alloc: Global, writer: Writer, row: &[RowStep<'_>]) -> Result<Emit, Memory>
     requires { All IsStep (map step_of row.now) }
     ensures locals { IfOk result (λ out. (emit_of out).locals
         ≡ steps.fixed_locals (program_of writer.entry.program.now) writer.entry.unit

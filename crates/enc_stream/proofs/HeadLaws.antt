@@ -14,9 +14,9 @@ use Rattle.enc_expr.specs.Emits.{Emit, Emits, temporaries}
 use Rattle.enc_expr.proofs.EmitLaws.{length-temporaries, temporaries-append}
 use Rattle.enc_stream.specs.Counts.{Lists}
 use Rattle.enc_units.specs.Rows.{row_lines, row_types, laid_locals}
-use Rattle.enc_units.specs.Steps.{Step, Bracket}
+use Rattle.enc_units.specs.Steps.{RowStep, Bracket}
 use Rattle.enc_units.specs.View.{step_of}
-use Rattle.enc_units.specs.declared.steps.Step as declared
+use Rattle.enc_units.specs.declared.steps.RowStep as declared
 use Rattle.enc_units.proofs.PassLaws.{steps_left}
 
 -- ---- lines
@@ -34,7 +34,7 @@ head_more name xs ys =
     ap (λ (bytes : List ℕ). front ++ bytes) (lines-append xs ys) ∙ sym (append_assoc front (locals_text xs) (locals_text ys))
 
 -- the head of a procedure is that of the fixed locals, and the lines of those behind them
-pub head_is : (code : Step → Emitting Bracket) (row : List Step) (name : List ℕ) (fixed : List Local) (ls : List declared_local.Local) → locals_of ls ≡ fixed →
+pub head_is : (code : RowStep → Emitting Bracket) (row : List RowStep) (name : List ℕ) (fixed : List Local) (ls : List declared_local.Local) → locals_of ls ≡ fixed →
     head_text name (locals_of ls) ++ row_lines code row (length (locals_of ls)) ≡ head_text name (laid_locals code fixed row)
 head_is code row name fixed ls are =
     ap (λ (fs : List Local). head_text name fs ++ row_lines code row (length fs)) are ∙ sym (head_more name fixed (temporaries (length fixed) (row_types code row (length fixed))))
@@ -51,9 +51,9 @@ lines_made old new n held front text many same none is =
 pub same_many : (xs ys : List declared_local.Local) → length xs ≡ length ys → length (locals_of xs) ≡ length (locals_of ys)
 same_many xs ys h = length-map xs local_of ∙ h ∙ sym (length-map ys local_of)
 
-module _ (code : Step → Emitting Bracket) where
+module _ (code : RowStep → Emitting Bracket) where
   -- the lines of what stands behind the locals before a step are those of its locals
-  pub step_listed : (x : Step) (old mid : Emit) (b : Bracket) (last : ℕ) (text : List ℕ) → Emits (code x (length old.locals)) old mid b → last ≡ length mid.locals →
+  pub step_listed : (x : RowStep) (old mid : Emit) (b : Bracket) (last : ℕ) (text : List ℕ) → Emits (code x (length old.locals)) old mid b → last ≡ length mid.locals →
       text ≡ locals_text (drop (length old.locals) mid.locals) → Lists code x (length old.locals) last text
   step_listed x old mid b last text h same is =
       let n = length old.locals in let new = temporaries (length old.locals) (code x (length old.locals)).locals in
@@ -63,12 +63,12 @@ module _ (code : Step → Emitting Bracket) where
         many = same ∙ ap (λ (ls : List Local). length ls) h.locals ∙ length-append old.locals new ∙ ap (λ (k : ℕ). n + k) (length-temporaries n (code x n).locals);
       }
 
-  module _ (xs : List declared.Step) (i : ℕ) (a : declared.Step) (m k : ℕ) (text : List ℕ) (within : i < length xs) (is : a ≡ get_or xs i a) (lists : Lists code (step_of a) m k text) where
+  module _ (xs : List declared.RowStep) (i : ℕ) (a : declared.RowStep) (m k : ℕ) (text : List ℕ) (within : i < length xs) (is : a ≡ get_or xs i a) (lists : Lists code (step_of a) m k text) where
     -- of the steps that are left, the lines of the first, and those of the steps behind it
     pub lines_first : row_lines code (map step_of (drop i xs)) m ≡ text ++ row_lines code (map step_of (drop (i + 1) xs)) k
     lines_first =
         let rest = map step_of (drop (i + 1) xs) in let here = code (step_of a) m in let more = row_types code rest here.next in
-        ap (λ (row : List Step). row_lines code row m) (steps_left xs i a within is)
+        ap (λ (row : List RowStep). row_lines code row m) (steps_left xs i a within is)
         ∙ ap locals_text (temporaries-append m here.locals more)
         ∙ lines-append (temporaries m here.locals) (temporaries (m + length here.locals) more)
         ∙ ap (λ (front : List ℕ). front ++ locals_text (temporaries (m + length here.locals) more)) (sym lists.text_is)

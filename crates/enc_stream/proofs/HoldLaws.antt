@@ -17,11 +17,11 @@ use Rattle.enc_expr.specs.Code.{Emitting, join}
 use Rattle.enc_expr.specs.Emits.{Emit, Emits, temporaries}
 use Rattle.enc_stream.specs.Counts.{Lists, Puts, Adds, Holds, counts}
 use Rattle.enc_units.specs.Rows.{bracket_pieces, code_pieces, row_lines, row_text, laid_locals, laid_names, names_with, named_text, laid_text}
-use Rattle.enc_units.specs.Steps.{Step, Bracket}
+use Rattle.enc_units.specs.Steps.{RowStep, Bracket}
 use Rattle.enc_units.specs.View.{step_of}
 use Rattle.enc_units.specs.Written.{IsStep}
 use Rattle.enc_stream.specs.declared.counts.Written.{Written}
-use Rattle.enc_units.specs.declared.steps.Step as declared
+use Rattle.enc_units.specs.declared.steps.RowStep as declared
 use Rattle.enc_stream.proofs.HeadLaws.{head_is, lines_first, lines_made, step_listed}
 use Rattle.enc_stream.proofs.SentLaws.{counted_on, nothing_counted, step_text_first, step_asserts_first}
 
@@ -31,9 +31,9 @@ pub lines_behind : (old new : List declared_local.Local) (n : ℕ) (all : List d
 lines_behind old new n all before lines many same is =
     is ∙ ap (λ (z : List ℕ). before ++ z) (lines_made old new n all [] (locals_text (locals_of (take (length all - n) (drop n all)))) many same refl refl)
 
-module _ (code : Step → Emitting Bracket) (names : Naming) where
+module _ (code : RowStep → Emitting Bracket) (names : Naming) where
   -- a step is added, where its locals, its statements and its bracket are
-  pub step_added : (x : Step) (old mid : Emit) (b : Bracket) (last : ℕ) (before lines front text : List ℕ) (new newer : Written) → Emits (code x (length old.locals)) old mid b → old.stmts ≡ s.skip →
+  pub step_added : (x : RowStep) (old mid : Emit) (b : Bracket) (last : ℕ) (before lines front text : List ℕ) (new newer : Written) → Emits (code x (length old.locals)) old mid b → old.stmts ≡ s.skip →
       last ≡ length mid.locals → lines ≡ before ++ locals_text (drop (length old.locals) mid.locals) →
       text ≡ (front ++ stmts_text names mid.stmts) ++ pieces_text names (bracket_pieces b) → newer ≡ counts new 0 (asserts_in mid.stmts) →
       Adds code names x (length old.locals) last before lines front text new newer
@@ -52,10 +52,10 @@ module _ (code : Step → Emitting Bracket) (names : Naming) where
       }
 
   -- nothing is held yet
-  pub holds_nothing : (row : List Step) (n : ℕ) (lines text : List ℕ) (old : Written) → old.bytes ≤ 2 ^ 64 - 1 → old.asserts ≤ 2 ^ 64 - 1 → Holds code names row n row n lines lines text text old old
+  pub holds_nothing : (row : List RowStep) (n : ℕ) (lines text : List ℕ) (old : Written) → old.bytes ≤ 2 ^ 64 - 1 → old.asserts ≤ 2 ^ 64 - 1 → Holds code names row n row n lines lines text text old old
   holds_nothing row n lines text old h k = record { asserts = 0; lines_are = refl; text_is = refl; asserts_are = omega arith; counted = nothing_counted old h k }
 
-  module _ (row : List Step) (n : ℕ) (xs : List declared.Step) (i : ℕ) (a : declared.Step) (m k : ℕ) (before lines more_lines front text more_text : List ℕ) (old new newer : Written) (within : i < length xs) (is : a ≡ get_or xs i a)
+  module _ (row : List RowStep) (n : ℕ) (xs : List declared.RowStep) (i : ℕ) (a : declared.RowStep) (m k : ℕ) (before lines more_lines front text more_text : List ℕ) (old new newer : Written) (within : i < length xs) (is : a ≡ get_or xs i a)
       (adds : Adds code names (step_of a) m k lines more_lines text more_text new newer) where
     lists : Lists code (step_of a) m k (locals_text (temporaries m (code (step_of a) m).locals))
     lists = record { text_is = refl; next = adds.next; many = adds.many }
@@ -94,18 +94,18 @@ three_counted head row end a b all one two three four h k l sum =
 -- ---- the steps behind those that are held
 
 -- these are steps of a row
-pub rest_steps : (xs : List declared.Step) (k : ℕ) → All IsStep (map step_of xs) → All IsStep (map step_of (take (length xs - k) (drop k xs)))
+pub rest_steps : (xs : List declared.RowStep) (k : ℕ) → All IsStep (map step_of xs) → All IsStep (map step_of (take (length xs - k) (drop k xs)))
 rest_steps xs k all =
-    subst (λ (ys : List Step). All IsStep ys) (drop-map step_of k xs ∙ ap (λ (ys : List declared.Step). map step_of ys) (sym (take_rest xs k))) (All-drop IsStep k (map step_of xs) all)
+    subst (λ (ys : List RowStep). All IsStep ys) (drop-map step_of k xs ∙ ap (λ (ys : List declared.RowStep). map step_of ys) (sym (take_rest xs k))) (All-drop IsStep k (map step_of xs) all)
 
 -- what is said of them and of how many locals stand before them
-pub rest_same : {X : Type 0} (of : List Step → ℕ → X) (xs : List declared.Step) (k j m : ℕ) → j ≡ m → of (map step_of (take (length xs - k) (drop k xs))) j ≡ of (map step_of (drop k xs)) m
-rest_same of xs k j m same = ap (λ (ys : List declared.Step). of (map step_of ys) j) (take_rest xs k) ∙ ap (λ (i : ℕ). of (map step_of (drop k xs)) i) same
+pub rest_same : {X : Type 0} (of : List RowStep → ℕ → X) (xs : List declared.RowStep) (k j m : ℕ) → j ≡ m → of (map step_of (take (length xs - k) (drop k xs))) j ≡ of (map step_of (drop k xs)) m
+rest_same of xs k j m same = ap (λ (ys : List declared.RowStep). of (map step_of ys) j) (take_rest xs k) ∙ ap (λ (i : ℕ). of (map step_of (drop k xs)) i) same
 
 -- ---- the head
 
 -- the lines that are held behind the head of the fixed locals, and those of the rest, are the head of the procedure
-pub head_held : (code : Step → Emitting Bracket) (row rest : List Step) (m : ℕ) (name : List ℕ) (fixed : List declared_local.Local) (before lines : List ℕ) → before ≡ head_text name (locals_of fixed) →
+pub head_held : (code : RowStep → Emitting Bracket) (row rest : List RowStep) (m : ℕ) (name : List ℕ) (fixed : List declared_local.Local) (before lines : List ℕ) → before ≡ head_text name (locals_of fixed) →
     lines ++ row_lines code rest m ≡ before ++ row_lines code row (length fixed) → lines ++ row_lines code rest m ≡ head_text name (laid_locals code (locals_of fixed) row)
 head_held code row rest m name fixed before lines made is =
     is ∙ ap (λ (z : List ℕ). z ++ row_lines code row (length fixed)) made
@@ -136,7 +136,7 @@ pub wide_named : (fixed : List Local) (ls : List declared_local.Local) (many : �
 wide_named fixed ls many are =
     ap (λ (k : ℕ). naming (local_names (locals_of ls) ++ temporary_names k many)) (sym (length-map ls local_of)) ∙ ap (λ (fs : List Local). names_with fs many) are
 
-pub wide_text : (code : Step → Emitting Bracket) (row : List Step) (name : List ℕ) (fixed ls : List Local) (names : Naming) (many : ℕ) → ls ≡ fixed → names ≡ names_with fixed many →
+pub wide_text : (code : RowStep → Emitting Bracket) (row : List RowStep) (name : List ℕ) (fixed ls : List Local) (names : Naming) (many : ℕ) → ls ≡ fixed → names ≡ names_with fixed many →
     row_text code (names_with fixed many) row (length fixed) ≡ row_text code (laid_names code fixed row) row (length fixed) → named_text code names name ls row ≡ laid_text code name fixed row
 wide_text code row name fixed ls names many are named same =
     ap (λ (x : Naming). named_text code x name ls row) named ∙ ap (λ (fs : List Local). named_text code (names_with fixed many) name fs row) are

@@ -9,10 +9,10 @@ use Rattle.enc_expr.specs.Code.{Code, Emitting}
 use Rattle.enc_stream.specs.Counts.{counts, Puts}
 use Rattle.enc_units.specs.Rows.{code_pieces, pieces_asserts, row_pieces, row_text, row_asserts}
 use Rattle.enc_units.specs.Steps as b
-use Rattle.enc_units.specs.Steps.{Step, Bracket}
+use Rattle.enc_units.specs.Steps.{RowStep, Bracket}
 use Rattle.enc_units.specs.View.{step_of}
 use Rattle.enc_stream.specs.declared.counts.Written.{Written}
-use Rattle.enc_units.specs.declared.steps.Step as declared
+use Rattle.enc_units.specs.declared.steps.RowStep as declared
 use Rattle.enc_units.proofs.FormLaws.{asserts-append}
 use Rattle.enc_units.proofs.PassLaws.{steps_left}
 
@@ -122,17 +122,17 @@ bracket_asserts b.Either s h = ap (λ (x : Bracket). pieces_asserts (code_pieces
 bracket_asserts b.Else s h = ap (λ (x : Bracket). pieces_asserts (code_pieces (record s { value = x }))) h ∙ omega arith
 bracket_asserts b.End s h = ap (λ (x : Bracket). pieces_asserts (code_pieces (record s { value = x }))) h ∙ omega arith
 
-module _ (code : Step → Emitting Bracket) (names : Naming) (xs : List declared.Step) (i : ℕ) (a : declared.Step) (m k : ℕ) (new newer : Written) (text : List ℕ)
+module _ (code : RowStep → Emitting Bracket) (names : Naming) (xs : List declared.RowStep) (i : ℕ) (a : declared.RowStep) (m k : ℕ) (new newer : Written) (text : List ℕ)
     (within : i < length xs) (is : a ≡ get_or xs i a) (puts : Puts code names (step_of a) m k new newer text) where
   -- of the steps that are left, the text of the first, and that of those behind it
   pub step_text_first : row_text code names (map step_of (drop i xs)) m ≡ text ++ row_text code names (map step_of (drop (i + 1) xs)) k
   step_text_first =
       let rest = map step_of (drop (i + 1) xs) in let here = code (step_of a) m in
-      ap (λ (row : List Step). row_text code names row m) (steps_left xs i a within is) ∙ pieces_text-append names (code_pieces here) (row_pieces code rest here.next)
+      ap (λ (row : List RowStep). row_text code names row m) (steps_left xs i a within is) ∙ pieces_text-append names (code_pieces here) (row_pieces code rest here.next)
       ∙ ap (λ (front : List ℕ). front ++ row_text code names rest here.next) (sym puts.text_is) ∙ ap (λ (j : ℕ). text ++ row_text code names rest j) (sym puts.next)
 
   pub step_asserts_first : row_asserts code (map step_of (drop i xs)) m ≡ asserts_in (code (step_of a) m).stmts + row_asserts code (map step_of (drop (i + 1) xs)) k
   step_asserts_first =
       let rest = map step_of (drop (i + 1) xs) in let here = code (step_of a) m in
-      ap (λ (row : List Step). row_asserts code row m) (steps_left xs i a within is) ∙ asserts-append (code_pieces here) (row_pieces code rest here.next)
+      ap (λ (row : List RowStep). row_asserts code row m) (steps_left xs i a within is) ∙ asserts-append (code_pieces here) (row_pieces code rest here.next)
       ∙ ap (λ (j : ℕ). j + row_asserts code rest here.next) (bracket_asserts here.value here refl) ∙ ap (λ (j : ℕ). asserts_in here.stmts + row_asserts code rest j) (sym puts.next)

@@ -13,7 +13,7 @@ use Rattle.enc_expr.specs.Code.{Emitting}
 use Rattle.enc_expr.specs.Emits.{temporaries}
 use Rattle.enc_expr.specs.Locals.{fixed_types}
 use Rattle.enc_units.specs.Rows.{row_text, laid_names, names_with}
-use Rattle.enc_units.specs.Steps.{Step, Bracket, unit_row, unit_step, fixed_locals}
+use Rattle.enc_units.specs.Steps.{RowStep, Bracket, unit_row, unit_step, fixed_locals}
 use Rattle.enc_units.specs.Units.{further_types, unit_procedure}
 use Rattle.enc_stream.proofs.HeadLaws.{temporaries_named}
 use Rattle.enc_stream.proofs.MoreNames.{text_more}
@@ -46,10 +46,10 @@ module _ (p : Program) (formed : IsFormed p) (n : ℕ) (u : Unit) (there : slice
       (subst (λ (m : ℕ). FitStmts m (unit_procedure p u).body) all_named (procedure_fits p formed n u there).body)
       ∙ ap (λ (xs : List (List ℕ)). stmts_text (naming xs) (unit_procedure p u).body) (sym names_are)
 
-  module _ (code : Step → Emitting Bracket) (is_code : code ≡ unit_step p u) (row : List Step) (is_row : row ≡ unit_row p u) where
+  module _ (code : RowStep → Emitting Bracket) (is_code : code ≡ unit_step p u) (row : List RowStep) (is_row : row ≡ unit_row p u) where
     text_is : (x : Naming) → row_text code x row fixed ≡ stmts_text x (unit_procedure p u).body
     text_is x =
-        ap (λ (c : Step → Emitting Bracket). row_text c x row fixed) is_code ∙ ap (λ (r : List Step). row_text (unit_step p u) x r fixed) is_row ∙ unit_text p u formed x
+        ap (λ (c : RowStep → Emitting Bracket). row_text c x row fixed) is_code ∙ ap (λ (r : List RowStep). row_text (unit_step p u) x r fixed) is_row ∙ unit_text p u formed x
 
     pub row_more : (k : ℕ) → 2 ^ 60 ≤ k → row_text code (names_with (fixed_locals p u) k) row fixed ≡ row_text code (laid_names code (fixed_locals p u) row) row fixed
     row_more k enough =

@@ -13,7 +13,7 @@ use crate::counts::Written;
 use crate::light::lighten;
 use boogie_print::{EmitFault, put_locals};
 use enc_expr::Emit;
-use enc_units::{Step, Writer};
+use enc_units::{RowStep, Writer};
 use std::alloc::Global;
 use vb_base::Memory;
 use vb_outer::{Sink, write_all};
@@ -23,7 +23,7 @@ use vb_outer::{Sink, write_all};
 fn step_lines(
     alloc: Global,
     writer: Writer,
-    step: &Step<'_>,
+    step: &RowStep<'_>,
     out: &mut Emit,
     text: &mut Vec<u8>,
 ) -> Result<(), Memory>
@@ -44,7 +44,7 @@ fn step_lines(
 pub fn write_lines<S: Sink>(
     alloc: Global,
     writer: Writer,
-    row: &[Step<'_>],
+    row: &[RowStep<'_>],
     out: &mut Emit,
     written: &mut Written,
     sink: &mut S,

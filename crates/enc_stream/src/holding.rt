@@ -11,7 +11,7 @@ use crate::light::{light_locals, lighten};
 use crate::writing::{Printer, put_bracket};
 use boogie_print::{put_code, put_locals};
 use enc_expr::Emit;
-use enc_units::Step;
+use enc_units::RowStep;
 use std::alloc::Global;
 use vb_base::Memory;
 
@@ -23,7 +23,7 @@ pub const FIRST_ROOM: usize = 4_096;
 
 /// The text of the first steps of a row, how many these are, and how many locals stand before the next.
 #[derive(Drop)]
-pub struct Held {
+pub struct HeldText {
     pub text: Vec<u8>,
     pub steps: usize,
     pub locals: usize,
@@ -41,7 +41,7 @@ pub fn plenty() -> usize
 fn hold_step(
     alloc: Global,
     printer: Printer,
-    step: &Step<'_>,
+    step: &RowStep<'_>,
     out: &mut Emit,
     written: &mut Written,
     lines: &mut Vec<u8>,
@@ -66,7 +66,7 @@ fn hold_step(
 fn hold_row(
     alloc: Global,
     printer: Printer,
-    row: &[Step<'_>],
+    row: &[RowStep<'_>],
     out: &mut Emit,
     written: &mut Written,
     lines: &mut Vec<u8>,
@@ -101,10 +101,10 @@ pub fn hold(
     alloc: Global,
     printer: Printer,
     fixed: usize,
-    row: &[Step<'_>],
+    row: &[RowStep<'_>],
     written: &mut Written,
     lines: &mut Vec<u8>,
-) -> Result<Held, Memory>
+) -> Result<HeldText, Memory>
     requires { All IsStep (map step_of row.now) }
     ensures within { IfOk result (λ held. held.steps ≤ length row.now) }
     ensures holds { IfOk result (λ held. Holds (coder_of printer.entry.writer) (names_of printer.entry.names.now) (map step_of row.now) fixed
@@ -113,7 +113,7 @@ pub fn hold(
     let mut out = emit_behind(alloc, fixed)?;
     let mut text = Vec::with_capacity(alloc, FIRST_ROOM)?;
     let steps = hold_row(alloc, printer, row, &mut out, written, lines, &mut text)?;
-    Ok(Held {
+    Ok(HeldText {
         text,
         steps,
         locals: out.locals.len(),

@@ -6,7 +6,7 @@ ghost use Rattle.enc_units.specs.View.{coder_of, step_of};
 ghost use Rattle.enc_units.specs.Written.{IsStep};
 
 use enc_expr::Emit;
-use enc_units::{Step, Writer};
+use enc_units::{RowStep, Writer};
 use std::alloc::Global;
 use vb_base::Memory;
 
@@ -14,7 +14,7 @@ use vb_base::Memory;
 pub fn row_locals(
     alloc: Global,
     writer: Writer,
-    row: &[Step<'_>],
+    row: &[RowStep<'_>],
     out: &mut Emit,
 ) -> Result<(), Memory>
     requires { All IsStep (map step_of row.now) }

@@ -20,14 +20,14 @@ ghost use Rattle.enc_units.specs.Written.{IsStep};
 
 use crate::counts::Written;
 use crate::heads::write_lines;
-use crate::holding::{FIRST_ROOM, Held, emit_behind, hold, plenty};
+use crate::holding::{FIRST_ROOM, HeldText, emit_behind, hold, plenty};
 use crate::passes::row_locals;
 use crate::writing::{Printer, write_row};
-use boogie_print::{EmitFault, Names, put_end, put_head};
+use boogie_print::{EmitFault, PrintedNames, put_end, put_head};
 use boogie_tree::Local;
 use enc_expr::Emit;
 use enc_locals::{fixed_locals, unit_name};
-use enc_units::{Step, Writer, unit_home, unit_steps, unit_writer};
+use enc_units::{RowStep, Writer, unit_home, unit_steps, unit_writer};
 use std::alloc::Global;
 use vb_base::{Ident, Memory};
 use vb_outer::{Failed, Sink, write_all};
@@ -36,7 +36,7 @@ use viper_core::{Program, Unit};
 // ---- its locals
 
 /// The fixed locals, and then those that the steps declare.
-fn locals_in(alloc: Global, writer: Writer, row: &[Step<'_>]) -> Result<Vec<Local>, Memory>
+fn locals_in(alloc: Global, writer: Writer, row: &[RowStep<'_>]) -> Result<Vec<Local>, Memory>
     requires { All IsStep (map step_of row.now) }
     ensures { IfOk result (λ locals. locals_of locals.items
         ≡ steps.fixed_locals (program_of writer.entry.program.now) writer.entry.unit
@@ -109,10 +109,10 @@ fn write_head<S: Sink>(
     printer: Printer,
     name: &Ident,
     fixed: &[Local],
-    row: &[Step<'_>],
+    row: &[RowStep<'_>],
     written: &mut Written,
     sink: &mut S,
-) -> Result<Held, EmitFault>
+) -> Result<HeldText, EmitFault>
     requires { All IsStep (map step_of row.now) }
     ensures within { IfOk result (λ held. held.steps ≤ length row.now) }
     ensures held { IfOk result (λ held. Leaves (coder_of printer.entry.writer) (names_of printer.entry.names.now) (map step_of row.now) (length (locals_of fixed.now)) (map step_of (drop held.steps row.now)) held.locals
@@ -141,8 +141,8 @@ fn write_head<S: Sink>(
 fn write_steps<S: Sink>(
     alloc: Global,
     printer: Printer,
-    held: &Held,
-    row: &[Step<'_>],
+    held: &HeldText,
+    row: &[RowStep<'_>],
     written: &mut Written,
     sink: &mut S,
 ) -> Result<(), EmitFault>
@@ -169,7 +169,7 @@ fn write_named<S: Sink>(
     printer: Printer,
     name: &Ident,
     fixed: &[Local],
-    row: &[Step<'_>],
+    row: &[RowStep<'_>],
     written: &mut Written,
     sink: &mut S,
 ) -> Result<(), EmitFault>
@@ -196,7 +196,7 @@ fn write_laid<S: Sink>(
     alloc: Global,
     writer: Writer,
     name: &Ident,
-    row: &[Step<'_>],
+    row: &[RowStep<'_>],
     written: &mut Written,
     sink: &mut S,
 ) -> Result<(), EmitFault>
@@ -215,7 +215,7 @@ fn write_laid<S: Sink>(
     ensures later { S.faults sink.old ≤ S.faults sink.new }
 {
     let fixed = fixed_locals(alloc, writer.program, writer.unit)?;
-    let names = Names::with_temporaries(alloc, &fixed, plenty())?;
+    let names = PrintedNames::with_temporaries(alloc, &fixed, plenty())?;
     let printer = Printer {
         writer,
         names: &names,

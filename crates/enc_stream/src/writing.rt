@@ -13,10 +13,10 @@ ghost use Rattle.enc_units.specs.Written.{IsStep};
 
 use crate::counts::Written;
 use crate::light::lighten;
-use boogie_print::{EmitFault, Names, put_code, put_else, put_end, put_if};
+use boogie_print::{EmitFault, PrintedNames, put_code, put_else, put_end, put_if};
 use boogie_tree::BExpr;
 use enc_expr::Emit;
-use enc_units::{Bracket, Step, Writer};
+use enc_units::{Bracket, RowStep, Writer};
 use std::alloc::Global;
 use vb_base::Memory;
 use vb_outer::{Sink, write_all};
@@ -25,13 +25,13 @@ use vb_outer::{Sink, write_all};
 #[derive(Clone, Copy)]
 pub struct Printer<'a> {
     pub writer: Writer<'a>,
-    pub names: &'a Names<'a>,
+    pub names: &'a PrintedNames<'a>,
 }
 
 /// Appends a bracket, if there is one.
 pub(crate) fn put_bracket(
     alloc: Global,
-    names: &Names<'_>,
+    names: &PrintedNames<'_>,
     bracket: &Bracket,
     out: &mut Vec<u8>,
 ) -> Result<(), Memory>
@@ -54,7 +54,7 @@ pub(crate) fn put_bracket(
 fn step_text(
     alloc: Global,
     printer: Printer,
-    step: &Step<'_>,
+    step: &RowStep<'_>,
     out: &mut Emit,
     written: &mut Written,
     text: &mut Vec<u8>,
@@ -78,7 +78,7 @@ fn step_text(
 pub fn write_row<S: Sink>(
     alloc: Global,
     printer: Printer,
-    row: &[Step<'_>],
+    row: &[RowStep<'_>],
     out: &mut Emit,
     written: &mut Written,
     sink: &mut S,

@@ -25,7 +25,7 @@ use Rattle.enc_units.specs.Forms.{Forms}
 use Rattle.enc_block.specs.Home.{Home, place}
 use Rattle.enc_block.specs.Parts.{head_code, turn_head, turn_end, start_code}
 use Rattle.enc_units.specs.Rows.{row_next, row_types, row_pieces}
-use Rattle.enc_units.specs.Steps.{Step, Code, CodeStep, Start, Plain, Head, Turn, Finish, After, Enter, Leave, Check, Produce, Branch, Begin, Pick, Otherwise, End, stmt_row, block_row, body_row, method_row, produced_row, predicate_row, running_row, unit_row, Bracket, part_code, step_code, unit_step}
+use Rattle.enc_units.specs.Steps.{RowStep, Code, CodeStep, Start, Plain, Head, Turn, Finish, After, Enter, Leave, Check, Produce, Branch, Begin, Pick, Otherwise, End, stmt_row, block_row, body_row, method_row, produced_row, predicate_row, running_row, unit_row, Bracket, part_code, step_code, unit_step}
 use Rattle.enc_locals.specs.Procedure.{vars_of_method, vars_of_predicate, unit_vars}
 use Rattle.enc_units.specs.Units as u
 use Rattle.enc_units.specs.Units.{with_predicate, running_code, unit_code, kinds_with, home_of}
@@ -61,7 +61,7 @@ form_choice : {ps qs : List Piece} {xs ys : BStmts} → Forms ps xs → Forms qs
 form_choice {ps = ps} {qs = qs} h k = as_formed (ap (λ (back : List Piece). piece.Either ∷ back) (blocks_laid ps qs)) refl (f.choice (form_behind h) (form_behind k))
 
 -- from each number of the first local
-pub record Lays (coder : Step → Emitting Bracket) (row : List Step) (m : Emitting ⊤) : Type 0 where
+pub record Lays (coder : RowStep → Emitting Bracket) (row : List RowStep) (m : Emitting ⊤) : Type 0 where
   pub next : (n : ℕ) → row_next coder row n ≡ (m n).next
   pub types : (n : ℕ) → row_types coder row n ≡ (m n).locals
   pub form : (n : ℕ) → Forms (row_pieces coder row n) (m n).stmts
@@ -80,9 +80,9 @@ module _ (p : Program) (x : Unit) (k : Kinds) (h : Home) where
         form = λ n. as_formed refl (join_skip (m n).stmts) (f.code (join (m n).stmts s.skip));
       }
 
-  lays_both : {xs ys : List Step} (a b : Emitting ⊤) → Lays (step_code p x k h) xs a → Lays (step_code p x k h) ys b → Lays (step_code p x k h) (xs ++ ys) (then_emit a (λ u. b))
+  lays_both : {xs ys : List RowStep} (a b : Emitting ⊤) → Lays (step_code p x k h) xs a → Lays (step_code p x k h) ys b → Lays (step_code p x k h) (xs ++ ys) (then_emit a (λ u. b))
   lays_both {xs = xs} {ys = ys} a b l r =
-      let c : Step → Emitting Bracket = step_code p x k h in
+      let c : RowStep → Emitting Bracket = step_code p x k h in
       record {
         next = λ n. next-append c xs ys n ∙ ap (λ (i : ℕ). row_next c ys i) (l.next n) ∙ r.next (a n).next;
         types = λ n. types-append c xs ys n ∙ ap (λ (front : List BType). front ++ row_types c ys (row_next c xs n)) (l.types n)
@@ -91,7 +91,7 @@ module _ (p : Program) (x : Unit) (k : Kinds) (h : Home) where
       }
 
   -- two blocks, from behind the bracket that opens the first
-  pub record LaysBlocks (row : List Step) (a b : Emitting ⊤) : Type 0 where
+  pub record LaysBlocks (row : List RowStep) (a b : Emitting ⊤) : Type 0 where
     pub next : (n : ℕ) → row_next (step_code p x k h) row n ≡ (b (a n).next).next
     pub types : (n : ℕ) → row_types (step_code p x k h) row n ≡ (a n).locals ++ (b (a n).next).locals
     pub one : ℕ → List Piece
@@ -100,9 +100,9 @@ module _ (p : Program) (x : Unit) (k : Kinds) (h : Home) where
     pub first : (n : ℕ) → Forms (one n) (a n).stmts
     pub second : (n : ℕ) → Forms (two n) (b (a n).next).stmts
 
-  lays_blocks : {xs ys : List Step} (a b : Emitting ⊤) → Lays (step_code p x k h) xs a → Lays (step_code p x k h) ys b → LaysBlocks (xs ++ (Branch Otherwise ∷ (ys ++ (Branch End ∷ [])))) a b
+  lays_blocks : {xs ys : List RowStep} (a b : Emitting ⊤) → Lays (step_code p x k h) xs a → Lays (step_code p x k h) ys b → LaysBlocks (xs ++ (Branch Otherwise ∷ (ys ++ (Branch End ∷ [])))) a b
   lays_blocks {xs = xs} {ys = ys} a b l r =
-      let c : Step → Emitting Bracket = step_code p x k h in
+      let c : RowStep → Emitting Bracket = step_code p x k h in
       record {
         next = λ n. next-append c xs (Branch Otherwise ∷ (ys ++ (Branch End ∷ []))) n ∙ ap (λ (i : ℕ). row_next c (ys ++ (Branch End ∷ [])) i) (l.next n) ∙ next-append c ys (Branch End ∷ []) (a n).next ∙ r.next (a n).next;
         types = λ n. types-append c xs (Branch Otherwise ∷ (ys ++ (Branch End ∷ []))) n
@@ -118,14 +118,14 @@ module _ (p : Program) (x : Unit) (k : Kinds) (h : Home) where
         second = λ n. r.form (a n).next;
       }
 
-  lays_choice : {row : List Step} (a b : Emitting ⊤) → LaysBlocks row a b → Lays (step_code p x k h) (Branch Pick ∷ row) (branching s.Either a b)
+  lays_choice : {row : List RowStep} (a b : Emitting ⊤) → LaysBlocks row a b → Lays (step_code p x k h) (Branch Pick ∷ row) (branching s.Either a b)
   lays_choice a b blocks = record {
     next = λ n. blocks.next n;
     types = λ n. blocks.types n;
     form = λ n. as_formed (ap (λ (back : List Piece). piece.Code s.skip ∷ piece.Either ∷ back) (blocks.pieces n)) refl (form_before (form_choice (blocks.first n) (blocks.second n)));
   }
 
-  lays_if : {row : List Step} (at : Pos) (c : e.Expr) (a b : Emitting ⊤) → LaysBlocks row a b →
+  lays_if : {row : List RowStep} (at : Pos) (c : e.Expr) (a b : Emitting ⊤) → LaysBlocks row a b →
       Lays (step_code p x k h) (Branch (Begin at c) ∷ row) (then_emit (code k (place h at) None c) (λ y. branching (s.If y.expr) a b))
   lays_if {row = row} at c a b blocks = record {
     next = λ n. blocks.next (code k (place h at) None c n).next;
@@ -138,7 +138,7 @@ module _ (p : Program) (x : Unit) (k : Kinds) (h : Home) where
         (f.both (f.code read.stmts) (form_branch read.value.expr (blocks.first read.next) (blocks.second read.next)));
   }
 
-  lays_loop : {row : List Step} (at : Pos) (guard : e.Expr) (invariants : List e.Assertion) (block : v.Stmts) (body : Emitting ⊤) (turn : Pos) (targets : List ℕ) → Lays (step_code p x k h) row body →
+  lays_loop : {row : List RowStep} (at : Pos) (guard : e.Expr) (invariants : List e.Assertion) (block : v.Stmts) (body : Emitting ⊤) (turn : Pos) (targets : List ℕ) → Lays (step_code p x k h) row body →
       Lays (step_code p x k h) (Code (Head (v.loop at guard invariants block turn targets)) ∷ Branch Pick ∷ Code (Turn (v.loop at guard invariants block turn targets)) ∷
       (row ++ (Code (Finish (v.loop at guard invariants block turn targets)) ∷ Branch Otherwise ∷ Code (After (v.loop at guard invariants block turn targets)) ∷ Branch End ∷ [])))
       (loop_code k h at guard invariants body turn targets)
@@ -153,7 +153,7 @@ module _ (p : Program) (x : Unit) (k : Kinds) (h : Home) where
       lays_both (head_code k h at invariants targets) (branching s.Either one_turn behind) (lays_code (Head w))
       (lays_choice one_turn behind (lays_blocks one_turn behind whole_turn (lays_code (After w)))) in
       subst (λ (m : Emitting ⊤). Lays (step_code p x k h) (Code (Head w) ∷ Branch Pick ∷ Code (Turn w) ∷ (row ++ (Code (Finish w) ∷ Branch Otherwise ∷ Code (After w) ∷ Branch End ∷ []))) m) (sym (loop_is k h at guard invariants body turn targets))
-      (subst (λ (rest : List Step). Lays (step_code p x k h) (Code (Head w) ∷ Branch Pick ∷ Code (Turn w) ∷ rest) (then_emit (head_code k h at invariants targets) (λ u. branching s.Either one_turn behind)))
+      (subst (λ (rest : List RowStep). Lays (step_code p x k h) (Code (Head w) ∷ Branch Pick ∷ Code (Turn w) ∷ rest) (then_emit (head_code k h at invariants targets) (λ u. branching s.Either one_turn behind)))
       (append_assoc row (Code (Finish w) ∷ []) (Branch Otherwise ∷ Code (After w) ∷ Branch End ∷ [])) all)
 
   mutual
@@ -174,7 +174,7 @@ module _ (p : Program) (x : Unit) (k : Kinds) (h : Home) where
       let ending : Emitting ⊤ = ending_code p k h m body in
       let whole : Lays (step_code p x k h) (block_row body.stmts ++ (Code (Leave m body.turn) ∷ [])) ending =
       lays_both (block_code p k h body.stmts) (assert_code k h body.turn m.postconditions) (block_lays body.stmts) (lays_code (Leave m body.turn)) in
-      subst (λ (rest : List Step). Lays (step_code p x k h) (Branch Pick ∷ rest) (branching s.Either ending (check_code k h m)))
+      subst (λ (rest : List RowStep). Lays (step_code p x k h) (Branch Pick ∷ rest) (branching s.Either ending (check_code k h m)))
       (append_assoc (block_row body.stmts) (Code (Leave m body.turn) ∷ []) (Branch Otherwise ∷ Code (Check m) ∷ Branch End ∷ []))
       (lays_choice ending (check_code k h m) (lays_blocks ending (check_code k h m) whole (lays_code (Check m))))
 

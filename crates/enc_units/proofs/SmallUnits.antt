@@ -10,7 +10,7 @@ use Rattle.viper_core.specs.Scope.{Scope}
 use Rattle.viper_core.specs.Size.{assertion_size, assertion_sizes}
 use Rattle.viper_core.specs.Stmt as v
 use Rattle.viper_core.specs.Typing as y
-use Rattle.viper_core.specs.Typing.{Frame, AreTargets, Receive, IsStmt, AreStmts, returns_of}
+use Rattle.viper_core.specs.Typing.{MethodContext, AreTargets, Receive, IsStmt, AreStmts, returns_of}
 use Rattle.viper_core.specs.Weight.{base_of, body_weight, predicate_weight, block_weight, stmt_weight, stmts_weight}
 use Rattle.viper_core.specs.declared.programs.Unit.{Unit}
 use Rattle.viper_core.specs.declared.programs.Unit.TheVariants as unit
@@ -32,7 +32,7 @@ use Rattle.enc_units.proofs.UnitHomeLaws.{fixed_length, now_sizes}
 
 -- ---- targets
 
-module _ (m : Frame) (formed : IsFormed m.program) where
+module _ (m : MethodContext) (formed : IsFormed m.program) where
   targets_many : {sc : Scope} {xs : List ℕ} {us : List Ty} → AreTargets m sc xs us → length xs ≡ length us
   targets_many y.nothing = refl
   targets_many (y.also target rest) = ap suc (targets_many rest)

@@ -6,19 +6,19 @@ use Rattle.viper_core.specs.Program.{Program, Predicate, Method, Body}
 use Rattle.viper_core.specs.Stmt as v
 use Rattle.viper_core.specs.declared.programs.Unit.{Unit}
 use Rattle.viper_core.specs.declared.programs.Unit.TheVariants as unit
-use Rattle.enc_units.specs.Steps.{Step, Code, Start, Plain, Head, Turn, Finish, After, Enter, Leave, Check, Produce, Branch, Begin, Pick, Otherwise, End, stmt_row, block_row, body_row, method_row, produced_row, predicate_row, running_row, unit_row}
+use Rattle.enc_units.specs.Steps.{RowStep, Code, Start, Plain, Head, Turn, Finish, After, Enter, Leave, Check, Produce, Branch, Begin, Pick, Otherwise, End, stmt_row, block_row, body_row, method_row, produced_row, predicate_row, running_row, unit_row}
 use Rattle.enc_units.specs.Written.{IsStep}
 
 abbrev none : All IsStep []
 none = λ i d lt. absurd (omega (arith, lt))
 
-abbrev more : (x : Step) (xs : List Step) → IsStep x → All IsStep xs → All IsStep (x ∷ xs)
+abbrev more : (x : RowStep) (xs : List RowStep) → IsStep x → All IsStep xs → All IsStep (x ∷ xs)
 more = All-cons IsStep
 
-one : (x : Step) → IsStep x → All IsStep (x ∷ [])
+one : (x : RowStep) → IsStep x → All IsStep (x ∷ [])
 one x is = more x [] is none
 
-loop_steps : (w : v.Loop) (xs : List Step) → All IsStep xs → All IsStep (Code (Head w) ∷ Branch Pick ∷ Code (Turn w) ∷ (xs ++ (Code (Finish w) ∷ Branch Otherwise ∷ Code (After w) ∷ Branch End ∷ [])))
+loop_steps : (w : v.Loop) (xs : List RowStep) → All IsStep xs → All IsStep (Code (Head w) ∷ Branch Pick ∷ Code (Turn w) ∷ (xs ++ (Code (Finish w) ∷ Branch Otherwise ∷ Code (After w) ∷ Branch End ∷ [])))
 loop_steps w xs body =
     let behind = Code (Finish w) ∷ Branch Otherwise ∷ Code (After w) ∷ Branch End ∷ [] in
     more (Code (Head w)) (Branch Pick ∷ Code (Turn w) ∷ (xs ++ behind)) tt (more (Branch Pick) (Code (Turn w) ∷ (xs ++ behind)) tt (more (Code (Turn w)) (xs ++ behind) tt (All-append IsStep xs behind body

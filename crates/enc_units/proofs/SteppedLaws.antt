@@ -12,7 +12,7 @@ use Rattle.enc_expr.specs.Pieces.{Operand}
 use Rattle.enc_expr.proofs.EmittedForms.{ending}
 use Rattle.enc_block.specs.Home.{Home, place}
 use Rattle.enc_units.specs.Steps as s
-use Rattle.enc_units.specs.Steps.{Step, CodeStep, BranchStep, Bracket, part_code, branch_code, step_code}
+use Rattle.enc_units.specs.Steps.{RowStep, CodeStep, BranchStep, Bracket, part_code, branch_code, step_code}
 
 abbrev from : Emit → ℕ
 from x = length x.locals
@@ -28,6 +28,6 @@ module _ (k : Kinds) (h : Home) where
 
 module _ (p : Program) (x : Unit) (k : Kinds) (h : Home) where
   -- whole statements have no bracket behind them
-  pub coded_emits : {a : Step} {b : CodeStep} {old new : Emit} → a ≡ s.Code b → Emits (part_code p x k h b (from old)) old new tt → Emits (step_code p x k h a (from old)) old new s.Nothing
+  pub coded_emits : {a : RowStep} {b : CodeStep} {old new : Emit} → a ≡ s.Code b → Emits (part_code p x k h b (from old)) old new tt → Emits (step_code p x k h a (from old)) old new s.Nothing
   coded_emits {b = b} {old = old} {new = new} same m =
-      subst (λ (z : Step). Emits (step_code p x k h z (from old)) old new s.Nothing) (sym same) (ending (part_code p x k h b) (λ (u : ⊤). s.Nothing) tt m)
+      subst (λ (z : RowStep). Emits (step_code p x k h z (from old)) old new s.Nothing) (sym same) (ending (part_code p x k h b) (λ (u : ⊤). s.Nothing) tt m)

@@ -14,7 +14,7 @@ use Rattle.enc_expr.specs.Emits.{temporaries}
 use Rattle.enc_expr.specs.Locals.{fixed_names, fixed_types}
 use Rattle.enc_text.proofs.NameLaws.{length_named, fixed_good}
 use Rattle.enc_units.specs.Rows.{row_types, row_text, row_asserts, laid_text}
-use Rattle.enc_units.specs.Steps.{Step, unit_row, Bracket, unit_step, fixed_locals}
+use Rattle.enc_units.specs.Steps.{RowStep, unit_row, Bracket, unit_step, fixed_locals}
 use Rattle.enc_locals.specs.Procedure.{unit_name}
 use Rattle.enc_units.specs.Units.{unit_procedure}
 use Rattle.enc_units.specs.Written.{IsStep}
@@ -38,25 +38,25 @@ module _ (p : Program) (x : Unit) (formed : IsFormed p) where
   unit_asserts = ap (λ (n : ℕ). row_asserts (unit_step p x) (unit_row p x) n) (fixed_length p x formed) ∙ asserts_are ((unit_lays p x).form (length (fixed_types p x)))
 
 -- what is laid out is the procedure, where these are the code, the row and the locals
-module _ (p : Program) (x : Unit) (formed : IsFormed p) (code : Step → Emitting Bracket) (is_code : code ≡ unit_step p x) (row : List Step) (is_row : row ≡ unit_row p x) where
+module _ (p : Program) (x : Unit) (formed : IsFormed p) (code : RowStep → Emitting Bracket) (is_code : code ≡ unit_step p x) (row : List RowStep) (is_row : row ≡ unit_row p x) where
   pub row_steps : All IsStep row
-  row_steps = subst (λ (r : List Step). All IsStep r) (sym is_row) (unit_steps p x)
+  row_steps = subst (λ (r : List RowStep). All IsStep r) (sym is_row) (unit_steps p x)
 
   pub row_locals : fixed_locals p x ++ temporaries (length (fixed_locals p x)) (row_types code row (length (fixed_locals p x))) ≡ (unit_procedure p x).locals
   row_locals =
-      ap (λ (c : Step → Emitting Bracket). fixed_locals p x ++ temporaries (length (fixed_locals p x)) (row_types c row (length (fixed_locals p x)))) is_code
-      ∙ ap (λ (r : List Step). fixed_locals p x ++ temporaries (length (fixed_locals p x)) (row_types (unit_step p x) r (length (fixed_locals p x)))) is_row ∙ unit_locals p x formed
+      ap (λ (c : RowStep → Emitting Bracket). fixed_locals p x ++ temporaries (length (fixed_locals p x)) (row_types c row (length (fixed_locals p x)))) is_code
+      ∙ ap (λ (r : List RowStep). fixed_locals p x ++ temporaries (length (fixed_locals p x)) (row_types (unit_step p x) r (length (fixed_locals p x)))) is_row ∙ unit_locals p x formed
 
   pub row_asserts_are : row_asserts code row (length (fixed_locals p x)) ≡ asserts_in (unit_procedure p x).body
   row_asserts_are =
-      ap (λ (c : Step → Emitting Bracket). row_asserts c row (length (fixed_locals p x))) is_code ∙ ap (λ (r : List Step). row_asserts (unit_step p x) r (length (fixed_locals p x))) is_row ∙ unit_asserts p x formed
+      ap (λ (c : RowStep → Emitting Bracket). row_asserts c row (length (fixed_locals p x))) is_code ∙ ap (λ (r : List RowStep). row_asserts (unit_step p x) r (length (fixed_locals p x))) is_row ∙ unit_asserts p x formed
 
   pub laid_is : (name : List ℕ) → name ≡ unit_name p x → laid_text code name (fixed_locals p x) row ≡ proc_text (unit_procedure p x)
   laid_is name is_name =
       let n = length (fixed_locals p x) in let names = naming (local_names (unit_procedure p x).locals) in let head = head_text (unit_name p x) (unit_procedure p x).locals in
       ap (λ (z : List ℕ). laid_text code z (fixed_locals p x) row) is_name
-      ∙ ap (λ (c : Step → Emitting Bracket). laid_text c (unit_name p x) (fixed_locals p x) row) is_code
-      ∙ ap (λ (r : List Step). laid_text (unit_step p x) (unit_name p x) (fixed_locals p x) r) is_row
+      ∙ ap (λ (c : RowStep → Emitting Bracket). laid_text c (unit_name p x) (fixed_locals p x) row) is_code
+      ∙ ap (λ (r : List RowStep). laid_text (unit_step p x) (unit_name p x) (fixed_locals p x) r) is_row
       ∙ ap (λ (ls : List Local). head_text (unit_name p x) ls ++ (row_text (unit_step p x) (naming (local_names ls)) (unit_row p x) n ++ end_text)) (unit_locals p x formed)
       ∙ ap (λ (z : List ℕ). head ++ (z ++ end_text)) (unit_text p x formed names)
       ∙ sym (append_assoc head (stmts_text names (unit_procedure p x).body) end_text)
@@ -66,5 +66,5 @@ module _ (p : Program) (x : Unit) (formed : IsFormed p) (code : Step → Emittin
 pub same_unit : (P : Program → Unit → Type 0) {q p : Program} {y x : Unit} → q ≡ p → y ≡ x → P q y → P p x
 same_unit P {q = q} {p = p} {y = y} {x = x} h k holds = subst (λ (z : Unit). P p z) k (subst (λ (r : Program). P r y) h holds)
 
-pub unit_writes : (code : Step → Emitting Bracket) {q p : Program} {y x : Unit} → q ≡ p → y ≡ x → code ≡ unit_step p x → code ≡ unit_step q y
+pub unit_writes : (code : RowStep → Emitting Bracket) {q p : Program} {y x : Unit} → q ≡ p → y ≡ x → code ≡ unit_step p x → code ≡ unit_step q y
 unit_writes code h k is = same_unit (λ p x. code ≡ unit_step p x) (sym h) (sym k) is

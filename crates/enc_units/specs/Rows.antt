@@ -10,7 +10,7 @@ use Rattle.boogie_print.specs.Pieces.{Piece, pieces_text, head_text, end_text}
 use Rattle.boogie_tree.specs.Program.{BType, Local}
 use Rattle.enc_expr.specs.Code.{Code, Emitting}
 use Rattle.enc_expr.specs.Emits.{temporaries}
-use Rattle.enc_units.specs.Steps.{Step, Bracket, Nothing, If, Either, Else, End}
+use Rattle.enc_units.specs.Steps.{RowStep, Bracket, Nothing, If, Either, Else, End}
 
 abbrev pub bracket_pieces : Bracket → List Piece
 bracket_pieces Nothing = []
@@ -36,35 +36,35 @@ pieces_asserts (p ∷ ps) = asserts_of p + pieces_asserts ps
 
 -- ---- a row, with this code of each step, whose first new local has this number
 
-abbrev pub row_next : (Step → Emitting Bracket) → List Step → ℕ → ℕ
+abbrev pub row_next : (RowStep → Emitting Bracket) → List RowStep → ℕ → ℕ
 row_next code [] n = n
 row_next code (x ∷ xs) n = row_next code xs (code x n).next
 
-abbrev pub row_types : (Step → Emitting Bracket) → List Step → ℕ → List BType
+abbrev pub row_types : (RowStep → Emitting Bracket) → List RowStep → ℕ → List BType
 row_types code [] n = []
 row_types code (x ∷ xs) n = (code x n).locals ++ row_types code xs (code x n).next
 
-abbrev pub row_pieces : (Step → Emitting Bracket) → List Step → ℕ → List Piece
+abbrev pub row_pieces : (RowStep → Emitting Bracket) → List RowStep → ℕ → List Piece
 row_pieces code [] n = []
 row_pieces code (x ∷ xs) n = code_pieces (code x n) ++ row_pieces code xs (code x n).next
 
 -- a line for each local that the row declares
-abbrev pub row_lines : (Step → Emitting Bracket) → List Step → ℕ → List ℕ
+abbrev pub row_lines : (RowStep → Emitting Bracket) → List RowStep → ℕ → List ℕ
 row_lines code row n = locals_text (temporaries n (row_types code row n))
 
 -- the text of a row, with these names of locals, and how many asserts it has
-abbrev pub row_text : (Step → Emitting Bracket) → Naming → List Step → ℕ → List ℕ
+abbrev pub row_text : (RowStep → Emitting Bracket) → Naming → List RowStep → ℕ → List ℕ
 row_text code names row n = pieces_text names (row_pieces code row n)
 
-abbrev pub row_asserts : (Step → Emitting Bracket) → List Step → ℕ → ℕ
+abbrev pub row_asserts : (RowStep → Emitting Bracket) → List RowStep → ℕ → ℕ
 row_asserts code row n = pieces_asserts (row_pieces code row n)
 
 -- all locals of a procedure: the fixed ones, and those that the row declares behind them
-abbrev pub laid_locals : (Step → Emitting Bracket) → List Local → List Step → List Local
+abbrev pub laid_locals : (RowStep → Emitting Bracket) → List Local → List RowStep → List Local
 laid_locals code fixed row = fixed ++ temporaries (length fixed) (row_types code row (length fixed))
 
 -- what names are written in it
-abbrev pub laid_names : (Step → Emitting Bracket) → List Local → List Step → Naming
+abbrev pub laid_names : (RowStep → Emitting Bracket) → List Local → List RowStep → Naming
 laid_names code fixed row = naming (local_names (laid_locals code fixed row))
 
 -- what names are written where so many temporaries may stand behind the fixed locals
@@ -72,9 +72,9 @@ abbrev pub names_with : List Local → ℕ → Naming
 names_with fixed many = naming (local_names fixed ++ temporary_names (length fixed) many)
 
 -- the text of a procedure, with these names of locals: its head, the row behind the fixed locals, and its end
-abbrev pub named_text : (Step → Emitting Bracket) → Naming → List ℕ → List Local → List Step → List ℕ
+abbrev pub named_text : (RowStep → Emitting Bracket) → Naming → List ℕ → List Local → List RowStep → List ℕ
 named_text code names name fixed row = head_text name (laid_locals code fixed row) ++ (row_text code names row (length fixed) ++ end_text)
 
 -- the same with the names of its locals
-abbrev pub laid_text : (Step → Emitting Bracket) → List ℕ → List Local → List Step → List ℕ
+abbrev pub laid_text : (RowStep → Emitting Bracket) → List ℕ → List Local → List RowStep → List ℕ
 laid_text code name fixed row = named_text code (laid_names code fixed row) name fixed row

@@ -51,14 +51,14 @@ pub data BranchStep : Type 0 where
   Otherwise : BranchStep
   End : BranchStep
 
-pub data Step : Type 0 where
-  Code : CodeStep → Step
-  Branch : BranchStep → Step
+pub data RowStep : Type 0 where
+  Code : CodeStep → RowStep
+  Branch : BranchStep → RowStep
 
 -- ---- the row of a unit
 
 abbrev mutual
-  pub stmt_row : v.Stmt → List Step
+  pub stmt_row : v.Stmt → List RowStep
   stmt_row (v.If at c first second) = Branch (Begin at c) ∷ (block_row first ++ (Branch Otherwise ∷ (block_row second ++ (Branch End ∷ []))))
   stmt_row (v.While (v.loop at guard invariants body turn targets)) =
       Code (Head (v.loop at guard invariants body turn targets)) ∷ Branch Pick ∷ Code (Turn (v.loop at guard invariants body turn targets)) ∷
@@ -66,32 +66,32 @@ abbrev mutual
   stmt_row x = Code (Plain x) ∷ []
 
   -- of the statements of a block
-  pub block_row : v.Stmts → List Step
+  pub block_row : v.Stmts → List RowStep
   block_row v.skip = []
   block_row (v.next a rest) = stmt_row a ++ block_row rest
 
 -- a choice decides between the body with what is behind it, and the postcondition by itself
-abbrev pub body_row : Method → Option Body → List Step
+abbrev pub body_row : Method → Option Body → List RowStep
 body_row m None = Code (Check m) ∷ []
 body_row m (Some body) = Branch Pick ∷ (block_row body.stmts ++ (Code (Leave m body.turn) ∷ Branch Otherwise ∷ Code (Check m) ∷ Branch End ∷ []))
 
-abbrev pub method_row : Option Method → List Step
+abbrev pub method_row : Option Method → List RowStep
 method_row None = []
 method_row (Some m) = Code (Enter m) ∷ body_row m m.body
 
-abbrev pub produced_row : Predicate → Option e.Assertion → List Step
+abbrev pub produced_row : Predicate → Option e.Assertion → List RowStep
 produced_row d None = []
 produced_row d (Some body) = Code (Produce d.at body) ∷ []
 
-abbrev pub predicate_row : Option Predicate → List Step
+abbrev pub predicate_row : Option Predicate → List RowStep
 predicate_row None = []
 predicate_row (Some d) = produced_row d d.body
 
-abbrev pub running_row : Program → Unit → List Step
+abbrev pub running_row : Program → Unit → List RowStep
 running_row p (unit.Method n) = method_row (slice_get p.methods n)
 running_row p (unit.Predicate n) = predicate_row (slice_get p.predicates n)
 
-abbrev pub unit_row : Program → Unit → List Step
+abbrev pub unit_row : Program → Unit → List RowStep
 unit_row p x = Code Start ∷ running_row p x
 
 -- ---- the code of a step
@@ -129,12 +129,12 @@ branch_code k h Pick = gives Either
 branch_code k h Otherwise = gives Else
 branch_code k h End = gives End
 
-abbrev pub step_code : Program → Unit → Kinds → Home → Step → Emitting Bracket
+abbrev pub step_code : Program → Unit → Kinds → Home → RowStep → Emitting Bracket
 step_code p x k h (Code a) = without_bracket (part_code p x k h a)
 step_code p x k h (Branch a) = branch_code k h a
 
 -- in a unit: by the types of its variables and the locals that hold them
-abbrev pub unit_step : Program → Unit → Step → Emitting Bracket
+abbrev pub unit_step : Program → Unit → RowStep → Emitting Bracket
 unit_step p x = step_code p x (u.kinds_with p (unit_vars p x)) (u.home_of p x)
 
 -- the locals before those of the first step

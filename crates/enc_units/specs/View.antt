@@ -11,8 +11,8 @@ use Rattle.enc_units.specs.declared.steps.BranchStep.{BranchStep}
 use Rattle.enc_units.specs.declared.steps.BranchStep.TheVariants as branch
 use Rattle.enc_units.specs.declared.steps.CodeStep.{CodeStep}
 use Rattle.enc_units.specs.declared.steps.CodeStep.TheVariants as code
-use Rattle.enc_units.specs.declared.steps.Step.{Step}
-use Rattle.enc_units.specs.declared.steps.Step.TheVariants as step
+use Rattle.enc_units.specs.declared.steps.RowStep.{RowStep}
+use Rattle.enc_units.specs.declared.steps.RowStep.TheVariants as step
 use Rattle.enc_units.specs.declared.writers.Writer.{Writer}
 
 abbrev pub code_step_of : CodeStep → s.CodeStep
@@ -33,7 +33,7 @@ branch_step_of branch.Pick = s.Pick
 branch_step_of branch.Otherwise = s.Otherwise
 branch_step_of branch.End = s.End
 
-abbrev pub step_of : Step → s.Step
+abbrev pub step_of : RowStep → s.RowStep
 step_of (step.Code a) = s.Code (code_step_of a)
 step_of (step.Branch a) = s.Branch (branch_step_of a)
 
@@ -45,5 +45,5 @@ bracket_of bracket.Else = s.Else
 bracket_of bracket.End = s.End
 
 -- the code of each step, as a writer writes it
-unfoldable pub coder_of : Writer → s.Step → Emitting s.Bracket
+unfoldable pub coder_of : Writer → s.RowStep → Emitting s.Bracket
 coder_of w = s.step_code (program_of w.program.now) w.unit (kinds_of w.setting.kinds) (home_of w.setting.home.now)

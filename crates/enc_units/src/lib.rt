@@ -13,6 +13,6 @@ mod writers;
 
 pub use rows::unit_steps;
 pub use stepping::step_code;
-pub use steps::{Bracket, BranchStep, CodeStep, Step};
+pub use steps::{Bracket, BranchStep, CodeStep, RowStep};
 pub use units::{start, unit_home};
 pub use writers::{Writer, unit_writer};

@@ -4,27 +4,27 @@ ghost use Rattle.viper_core.specs.View.{stmt_of, stmts_of, method_of, predicate_
 ghost use Rattle.enc_units.specs.Steps.{Code, Branch, stmt_row, block_row, method_row, predicate_row, running_row, unit_row};
 ghost use Rattle.enc_units.specs.View.{branch_step_of, code_step_of, step_of};
 
-use crate::steps::{BranchStep, CodeStep, Step};
+use crate::steps::{BranchStep, CodeStep, RowStep};
 use enc_expr::add;
 use enc_locals::{method_at, predicate_at};
 use std::alloc::Global;
 use vb_base::Memory;
 use viper_core::{Method, Predicate, Program, Stmt, Unit};
 
-fn add_code<'a>(part: CodeStep<'a>, row: &mut Vec<Step<'a>>) -> Result<(), Memory>
+fn add_code<'a>(part: CodeStep<'a>, row: &mut Vec<RowStep<'a>>) -> Result<(), Memory>
     ensures { OnOk result (map step_of row.new.items ≡ map step_of row.old.items ++ Code (code_step_of part.entry) ∷ []) }
 {
-    add(row, Step::Code(part))
+    add(row, RowStep::Code(part))
 }
 
-fn add_branch<'a>(part: BranchStep<'a>, row: &mut Vec<Step<'a>>) -> Result<(), Memory>
+fn add_branch<'a>(part: BranchStep<'a>, row: &mut Vec<RowStep<'a>>) -> Result<(), Memory>
     ensures { OnOk result (map step_of row.new.items ≡ map step_of row.old.items ++ Branch (branch_step_of part.entry) ∷ []) }
 {
-    add(row, Step::Branch(part))
+    add(row, RowStep::Branch(part))
 }
 
 #[cycle(rows)]
-fn add_block<'a>(block: &'a [Stmt], row: &mut Vec<Step<'a>>) -> Result<(), Memory>
+fn add_block<'a>(block: &'a [Stmt], row: &mut Vec<RowStep<'a>>) -> Result<(), Memory>
     ensures { OnOk result (map step_of row.new.items ≡ map step_of row.old.items ++ block_row (stmts_of block.now)) }
 {
     for stmt in block {
@@ -34,7 +34,7 @@ fn add_block<'a>(block: &'a [Stmt], row: &mut Vec<Step<'a>>) -> Result<(), Memor
 }
 
 #[cycle(rows)]
-fn add_stmt<'a>(stmt: &'a Stmt, row: &mut Vec<Step<'a>>) -> Result<(), Memory>
+fn add_stmt<'a>(stmt: &'a Stmt, row: &mut Vec<RowStep<'a>>) -> Result<(), Memory>
     ensures { OnOk result (map step_of row.new.items ≡ map step_of row.old.items ++ stmt_row (stmt_of stmt.now)) }
 {
     match stmt {
@@ -59,7 +59,7 @@ fn add_stmt<'a>(stmt: &'a Stmt, row: &mut Vec<Step<'a>>) -> Result<(), Memory>
     }
 }
 
-fn add_method<'a>(method: &'a Method, row: &mut Vec<Step<'a>>) -> Result<(), Memory>
+fn add_method<'a>(method: &'a Method, row: &mut Vec<RowStep<'a>>) -> Result<(), Memory>
     ensures { OnOk result (map step_of row.new.items ≡ map step_of row.old.items ++ method_row (Some (method_of method.now))) }
 {
     add_code(CodeStep::Enter(method), row)?;
@@ -76,7 +76,7 @@ fn add_method<'a>(method: &'a Method, row: &mut Vec<Step<'a>>) -> Result<(), Mem
     }
 }
 
-fn add_predicate<'a>(predicate: &'a Predicate, row: &mut Vec<Step<'a>>) -> Result<(), Memory>
+fn add_predicate<'a>(predicate: &'a Predicate, row: &mut Vec<RowStep<'a>>) -> Result<(), Memory>
     ensures { OnOk result (map step_of row.new.items ≡ map step_of row.old.items ++ predicate_row (Some (predicate_of predicate.now))) }
 {
     match &predicate.body {
@@ -85,7 +85,7 @@ fn add_predicate<'a>(predicate: &'a Predicate, row: &mut Vec<Step<'a>>) -> Resul
     }
 }
 
-fn add_unit<'a>(program: &'a Program, unit: Unit, row: &mut Vec<Step<'a>>) -> Result<(), Memory>
+fn add_unit<'a>(program: &'a Program, unit: Unit, row: &mut Vec<RowStep<'a>>) -> Result<(), Memory>
     ensures { OnOk result (map step_of row.new.items ≡ map step_of row.old.items ++ running_row (program_of program.now) unit) }
 {
     match unit {
@@ -105,7 +105,7 @@ pub fn unit_steps<'a>(
     alloc: Global,
     program: &'a Program,
     unit: Unit,
-) -> Result<Vec<Step<'a>>, Memory>
+) -> Result<Vec<RowStep<'a>>, Memory>
     ensures { IfOk result (λ row. map step_of row.items ≡ unit_row (program_of program.now) unit) }
 {
     let mut row = Vec::new(alloc);

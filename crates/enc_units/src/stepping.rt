@@ -11,14 +11,14 @@ ghost use Rattle.enc_units.specs.View.{bracket_of, branch_step_of, code_step_of,
 ghost use Rattle.enc_block.specs.View.{home_of};
 ghost use Rattle.enc_units.specs.Written.{HasNoBlocks, IsStep};
 
-use crate::steps::{Bracket, BranchStep, CodeStep, Step};
+use crate::steps::{Bracket, BranchStep, CodeStep, RowStep};
 use crate::units::start;
 use crate::writers::Writer;
 use enc_assert::produce;
 use enc_block::{
-    Calling, FieldPlace, Setting, after_loop, assert, assign, call, create, exhale, fold_instance,
-    havoc, loop_head, method_check, method_end, method_start, turn_end, turn_head, unfold_instance,
-    write,
+    Calling, Setting, WrittenField, after_loop, assert, assign, call, create, exhale,
+    fold_instance, havoc, loop_head, method_check, method_end, method_start, turn_end, turn_head,
+    unfold_instance, write,
 };
 use enc_expr::{Atom, Emit, check};
 use std::alloc::Global;
@@ -76,7 +76,7 @@ fn plain(alloc: Global, writer: Writer, statement: &Stmt, out: &mut Emit) -> Res
         Stmt::Var(at, x, value) => declare(alloc, *at, *x, value, writer, out),
         Stmt::Assign(at, x, value) => assign(alloc, *at, *x, value, setting, out),
         Stmt::Write(at, receiver, field, part, value) => {
-            let target = FieldPlace {
+            let target = WrittenField {
                 receiver,
                 field: *field,
                 at: *part,
@@ -151,7 +151,7 @@ pub fn step_code(
     program: &Program,
     unit: Unit,
     setting: Setting,
-    step: &Step<'_>,
+    step: &RowStep<'_>,
     out: &mut Emit,
 ) -> Result<Bracket, Memory>
     requires { IsStep (step_of step.now) }
@@ -159,7 +159,7 @@ pub fn step_code(
         (step_of step.now) (length (emit_of out.old).locals)) (emit_of out.old) (emit_of out.new) (bracket_of b)) }
 {
     match *step {
-        Step::Code(part) => {
+        RowStep::Code(part) => {
             let writer = Writer {
                 program,
                 unit,
@@ -168,6 +168,6 @@ pub fn step_code(
             write_code(alloc, writer, part, out)?;
             Ok(Bracket::Nothing)
         }
-        Step::Branch(part) => write_branch(alloc, setting, part, out),
+        RowStep::Branch(part) => write_branch(alloc, setting, part, out),
     }
 }

@@ -5,7 +5,7 @@ use viper_core::{Assertion, Expr, Loop, Method, Stmt};
 
 /// A step of the row in which the code of a unit is written.
 #[derive(Clone, Copy)]
-pub enum Step<'a> {
+pub enum RowStep<'a> {
     /// Whole statements.
     Code(CodeStep<'a>),
     /// Where a block of an `if` begins or ends.

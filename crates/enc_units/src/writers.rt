@@ -9,7 +9,7 @@ ghost use Rattle.enc_block.specs.View.{home_of};
 ghost use Rattle.enc_units.specs.Written.{IsStep};
 
 use crate::stepping::step_code;
-use crate::steps::{Bracket, Step};
+use crate::steps::{Bracket, RowStep};
 use enc_block::{Home, Setting};
 use enc_expr::{Emit, Kinds};
 use enc_locals::unit_vars;
@@ -28,7 +28,7 @@ pub struct Writer<'a> {
 impl<'a> Writer<'a> {
     /// Writes the code of a step, and tells what stands behind it.
     #[tactic(auto, unfolding(crate::specs::View::coder_of))]
-    pub fn code(self, alloc: Global, step: &Step<'_>, out: &mut Emit) -> Result<Bracket, Memory>
+    pub fn code(self, alloc: Global, step: &RowStep<'_>, out: &mut Emit) -> Result<Bracket, Memory>
         requires { IsStep (step_of step.now) }
         ensures { IfOk result (λ b. Emits (coder_of self.entry (step_of step.now) (length (emit_of out.old).locals))
             (emit_of out.old) (emit_of out.new) (bracket_of b)) }

@@ -6,7 +6,7 @@
 #![tactic(auto)]
 
 use std::process::ExitCode;
-use tool_words::Process;
+use tool_common::Process;
 use vb_tool::{Status, tool};
 
 fn main(rt: HostRuntime) -> ExitCode {

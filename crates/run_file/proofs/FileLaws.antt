@@ -6,14 +6,14 @@ use Rattle.std.specs.Str.{bytes_eq}
 use Rattle.std.proofs.lemmas.Bool.{and_parts}
 use Rattle.std.proofs.lemmas.Slice.Eq.{bytes_eq-Decides}
 use Rattle.viper_core.specs.Program.{Program}
-use Rattle.run_file.specs.Lines.{Scope, scope_of, Line, Var, Heap, Holds, Chosen, Opened, IsLine}
+use Rattle.run_file.specs.Lines.{UnitScope, scope_of, ViperLine, Var, Heap, Holds, Chosen, Opened, IsLine}
 use Rattle.run_file.specs.Run.{ViperRun, header, AreRun, SpellRun}
 use Rattle.run_file.specs.NamedOrder.{named_cmp}
 use Rattle.run_file.specs.Progress.{Progress, is_header, whole, file_kind, followed, has_named, once, may_set, may_place, run_set, run_with, is_headed, reader}
-use Rattle.run_file.specs.declared.lines.Named.{Named}
-use Rattle.run_file.specs.declared.lines.Named.TheVariants as named
-use Rattle.run_words.proofs.AnswerLaws.{IsReader}
-use Rattle.run_words.proofs.HeadedLaws.{Reads, HeadedIn, file_read, read_file, goes_wrong, stops}
+use Rattle.run_file.specs.declared.lines.LineTarget.{LineTarget}
+use Rattle.run_file.specs.declared.lines.LineTarget.TheVariants as named
+use Rattle.run_file_words.proofs.AnswerLaws.{IsReader}
+use Rattle.run_file_words.proofs.HeadedLaws.{Reads, HeadedIn, file_read, read_file, goes_wrong, stops}
 use Rattle.run_file.proofs.LineLaws.{NamesApart, line_spelled, spelled_line}
 use Rattle.run_file.proofs.RunLaws.{opened, run_read, read_run}
 
@@ -36,10 +36,10 @@ headed_if : (b : Bool) (o : Option (Progress ViperRun)) → HeadedIn (λ (x : Pr
 headed_if true o h = h
 headed_if false o h = tt
 
-once_headed : (st : Progress ViperRun) (n : Named) (run : ViperRun) → is_headed st.stage ≡ true → HeadedIn (λ (x : Progress ViperRun). is_headed x.stage) (once st n run)
+once_headed : (st : Progress ViperRun) (n : LineTarget) (run : ViperRun) → is_headed st.stage ≡ true → HeadedIn (λ (x : Progress ViperRun). is_headed x.stage) (once st n run)
 once_headed st n run h = headed_unless (has_named st.named n) (Some (record { stage = st.stage; named = insert_key named_cmp st.named n; run = run })) h
 
-followed_headed : (s : Scope) (st : Progress ViperRun) (l : Line) → is_headed st.stage ≡ true → HeadedIn (λ (x : Progress ViperRun). is_headed x.stage) (followed whole s st l)
+followed_headed : (s : UnitScope) (st : Progress ViperRun) (l : ViperLine) → is_headed st.stage ≡ true → HeadedIn (λ (x : Progress ViperRun). is_headed x.stage) (followed whole s st l)
 followed_headed s st (Var n v) h =
     headed_if (may_set st.stage) (once st (named.Variable n) (run_set n v st.run)) (once_headed st (named.Variable n) (run_set n v st.run) h)
 followed_headed s st (Heap f r v) h =
@@ -49,7 +49,7 @@ followed_headed s st (Holds q k c) h =
 followed_headed s st (Chosen c) h = refl
 followed_headed s st Opened h = refl
 
-reads : (s : Scope) → NamesApart s → Reads (file_kind whole s) (opened s) header is_header (IsLine s) (AreRun s)
+reads : (s : UnitScope) → NamesApart s → Reads (file_kind whole s) (opened s) header is_header (IsLine s) (AreRun s)
 reads s apart = record {
   first = λ words. refl;
   header_is = is_header_of;

@@ -8,19 +8,19 @@ use Rattle.vb_base.specs.declared.places.Pos.{Pos}
 use Rattle.viper_state.specs.Choice.{Choice}
 use Rattle.viper_state.specs.Run.{Opening}
 use Rattle.viper_core.specs.Program.{Program}
-use Rattle.run_words.specs.Answers.{UnlessMemory, Gives, GivesPlace}
-use Rattle.run_words.specs.Machine.{IsReadBy, StopsBy}
-use Rattle.run_words.specs.Text.{lines_of}
-use Rattle.run_words.specs.declared.faults.RunFileFault.{RunFileFault}
-use Rattle.run_words.specs.declared.faults.RunFileFault.TheVariants as fault
-use Rattle.run_words.proofs.AnswerLaws.{Answered, one_run, not_both, one_place}
+use Rattle.run_file_words.specs.Answers.{UnlessMemory, Gives, GivesPlace}
+use Rattle.run_file_words.specs.Machine.{IsReadBy, StopsBy}
+use Rattle.run_file_words.specs.Text.{lines_of}
+use Rattle.run_file_words.specs.declared.faults.RunFileFault.{RunFileFault}
+use Rattle.run_file_words.specs.declared.faults.RunFileFault.TheVariants as fault
+use Rattle.run_file_words.proofs.AnswerLaws.{Answered, one_run, not_both, one_place}
 use Rattle.run_file.specs.Front.{Front, front_of, SpellsFront}
-use Rattle.run_file.specs.Lines.{Scope, scope_of, Line}
+use Rattle.run_file.specs.Lines.{UnitScope, scope_of, ViperLine}
 use Rattle.run_file.specs.Progress.{last_with, run_with, run_chosen, whole, fronts, stage_within, has_room, front_chosen, reader, front_reader}
 use Rattle.run_file.specs.Run.{ViperRun, SpellRun, SpellsViperRun, GoesWrongAt}
 use Rattle.run_file.specs.View.{run_of, front_view}
-use Rattle.run_file.specs.declared.reader.Stage.{Stage}
-use Rattle.run_file.specs.declared.reader.Stage.TheVariants as stage
+use Rattle.run_file.specs.declared.reader.ViperStage.{ViperStage}
+use Rattle.run_file.specs.declared.reader.ViperStage.TheVariants as stage
 use Rattle.run_file.specs.declared.runs.ViperFront.{ViperFront}
 use Rattle.run_file.specs.declared.runs.ViperRun.{ViperRun as Code}
 use Rattle.run_file.proofs.FileLaws.{is_reader}
@@ -34,19 +34,19 @@ same_front : {o : Opening} {cs ds : List Choice} {m n : ℕ} → cs ≡ ds → m
     ◌≡◌ {A = Front} (record { run = record { opening = o; choices = cs }; more = m }) (record { run = record { opening = o; choices = ds }; more = n })
 same_front {o} cs more = λ i. record { run = record { opening = o; choices = cs i }; more = more i }
 
-last_length : (l : Line) (cs : List Choice) → length (last_with l cs) ≡ length cs
+last_length : (l : ViperLine) (cs : List Choice) → length (last_with l cs) ≡ length cs
 last_length l [] = refl
 last_length l (c ∷ []) = refl
 last_length l (c ∷ d ∷ cs) = ap suc (last_length l (d ∷ cs))
 
 -- the last choice is behind the front
-last_behind : (many : ℕ) (l : Line) (cs : List Choice) → many < length cs → take many (last_with l cs) ≡ take many cs
+last_behind : (many : ℕ) (l : ViperLine) (cs : List Choice) → many < length cs → take many (last_with l cs) ≡ take many cs
 last_behind zero l cs below = refl
 last_behind (suc many) l [] below = absurd (omega (arith, below))
 last_behind (suc many) l (c ∷ []) below = absurd (omega (arith, below))
 last_behind (suc many) l (c ∷ d ∷ cs) below = ap (λ xs. c ∷ xs) (last_behind many l (d ∷ cs) (omega (arith, below)))
 
-filled_by : (many : ℕ) (l : Line) (o : Opening) (cs : List Choice) (more : ℕ) → length cs - many ≡ more →
+filled_by : (many : ℕ) (l : ViperLine) (o : Opening) (cs : List Choice) (more : ℕ) → length cs - many ≡ more →
     ◌≡◌ {A = Front} (record { run = run_with (stage_within more stage.Filling) l (record { opening = o; choices = take many cs }); more = more }) (front_of many (record { opening = o; choices = last_with l cs }))
 filled_by many l o cs zero is =
     let few : length cs ≤ many = omega (arith, is) in
@@ -55,7 +55,7 @@ filled_by many l o cs zero is =
 filled_by many l o cs (suc more) is =
     same_front (sym (last_behind many l cs (omega (arith, is)))) (sym is ∙ ap (λ n. n - many) (sym (last_length l cs)))
 
-placed : (many : ℕ) (g : Stage) (l : Line) (run : ViperRun) → (fronts many).place g l (front_of many run) ≡ front_of many (run_with g l run)
+placed : (many : ℕ) (g : ViperStage) (l : ViperLine) (run : ViperRun) → (fronts many).place g l (front_of many run) ≡ front_of many (run_with g l run)
 placed many stage.Header l run = refl
 placed many stage.Opening l run = refl
 placed many stage.Filling l run = filled_by many l run.opening run.choices (length run.choices - many) refl
@@ -104,7 +104,7 @@ fronts_agree many = record {
   choose = chosen_more many;
 }
 
-fronts_seen : (many : ℕ) (s : Scope) → Sees (reader s) (front_reader many s) (seen (front_of many)) (front_of many)
+fronts_seen : (many : ℕ) (s : UnitScope) → Sees (reader s) (front_reader many s) (seen (front_of many)) (front_of many)
 fronts_seen many s = sees (fronts_agree many) s
 
 -- ---- what is answered of a file
@@ -148,7 +148,7 @@ module _ (bytes : List ℕ) (p : Program) (n many : ℕ) (apart : NamesApart (sc
       }
 
 -- what is answered of a file, read with the scope of the unit
-pub front_answered : (bytes : List ℕ) (p : Program) (n many : ℕ) (s : Scope) (r : Result ViperFront RunFileFault) → NamesApart (scope_of p n) → s ≡ scope_of p n →
+pub front_answered : (bytes : List ℕ) (p : Program) (n many : ℕ) (s : UnitScope) (r : Result ViperFront RunFileFault) → NamesApart (scope_of p n) → s ≡ scope_of p n →
     MatchResult r (λ x. IsReadBy (front_reader many s) (lines_of bytes) (front_view x)) (UnlessMemory (StopsBy (front_reader many s) (lines_of bytes))) → FrontAnswered bytes p n many r
 front_answered bytes p n many s r apart same h =
     front_told bytes p n many apart r

@@ -15,7 +15,7 @@ use Rattle.viper_state.specs.Fits.{FitsChoice, FitsContents, FitsHeap, FitsMemo}
 use Rattle.viper_state.specs.State.{Key, Memo}
 use Rattle.viper_state.specs.Within.{HasEntries}
 use Rattle.moves.specs.Printable.{IsNamed, IsNamedContent, IsNamedKey, IsNamedValue}
-use Rattle.run_words.specs.Named.{AreNamed}
+use Rattle.run_file_words.specs.Named.{AreNamed}
 use Rattle.run_file.specs.Printable.{FitsWithin, IsNamedChoice, IsNamedMemo, IsPrintable, NamesChoice, NamesMemo}
 use Rattle.run_file.specs.Run.{ViperRun}
 

@@ -11,12 +11,12 @@ use Rattle.std.specs.declared.cmp.Ordering.TheVariants.{Less, Equal, Greater}
 use Rattle.std.proofs.lemmas.List.{length-map, map-append, map-set, get_or-map}
 use Rattle.vb_value.specs.Key.{key_cmp}
 use Rattle.viper_state.specs.State.{Key}
-use Rattle.run_words.specs.Machine.{among}
+use Rattle.run_file_words.specs.Machine.{among}
 use Rattle.run_file.specs.NamedOrder.{named_cmp}
 use Rattle.run_file.specs.NamedView.{keys_of, with_key, names_from}
-use Rattle.run_file.specs.declared.lines.Named.{Named}
-use Rattle.run_file.specs.declared.lines.Named.TheVariants.{Variable, Place, Instance}
-use Rattle.run_words.proofs.OnceLaws.{nat_self}
+use Rattle.run_file.specs.declared.lines.LineTarget.{LineTarget}
+use Rattle.run_file.specs.declared.lines.LineTarget.TheVariants.{Variable, Place, Instance}
+use Rattle.run_file_words.proofs.OnceLaws.{nat_self}
 
 -- ---- a key above a list, and below one
 
@@ -86,14 +86,14 @@ module _ {K X : Type 0} (kcmp : K → K → Ordering) (cmp : X → X → Orderin
   among_mapped (x ∷ xs) = rw (alike k x) (ap (λ b. is_at (kcmp k) x || b) (among_mapped xs))
 
 -- names go by their numbers, and under one number by their keys
-record IsNumbered {K : Type 0} (cmp : K → K → Ordering) (name : ℕ → K → Named) : Type 0 where
+record IsNumbered {K : Type 0} (cmp : K → K → Ordering) (name : ℕ → K → LineTarget) : Type 0 where
   alike : (n : ℕ) (k x : K) → named_cmp (name n k) (name n x) ≡ cmp k x
   above : (n m : ℕ) (k x : K) → m < n → named_cmp (name n k) (name m x) ≡ Greater
   below : (n m : ℕ) (k x : K) → n < m → named_cmp (name n k) (name m x) ≡ Less
 
-module _ {K : Type 0} (cmp : K → K → Ordering) (name : ℕ → K → Named) where
+module _ {K : Type 0} (cmp : K → K → Ordering) (name : ℕ → K → LineTarget) where
   -- what holds of each name holds of those of all sets
-  of_all : (P : Named → Type 0) → ((n : ℕ) (k : K) → P (name n k)) → (sets : List (List K)) (m : ℕ) → AllByRecursion P (names_from name m sets)
+  of_all : (P : LineTarget → Type 0) → ((n : ℕ) (k : K) → P (name n k)) → (sets : List (List K)) (m : ℕ) → AllByRecursion P (names_from name m sets)
   of_all P h [] m = tt
   of_all P h (set ∷ sets) m = both_lists P (map (name m) set) (names_from name (m + 1) sets) (of_each P (name m) set (h m)) (of_all P h sets (m + 1))
 
@@ -156,7 +156,7 @@ numbered_instances = record {
 
 -- ---- all that was named
 
-abbrev pub all_named : List ℕ → List (List ℕ) → List (List Key) → List Named
+abbrev pub all_named : List ℕ → List (List ℕ) → List (List Key) → List LineTarget
 all_named vs ps qs = map Variable vs ++ (names_from Place 0 ps ++ names_from Instance 0 qs)
 
 module _ (vs : List ℕ) (ps : List (List ℕ)) (qs : List (List Key)) where

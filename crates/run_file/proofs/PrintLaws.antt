@@ -17,7 +17,7 @@ use Rattle.viper_core.specs.View.{predicate_of}
 use Rattle.viper_core.specs.declared.programs.Predicate.{Predicate}
 use Rattle.viper_state.specs.State.{Key}
 use Rattle.viper_state.specs.View.{contents_of}
-use Rattle.run_words.proofs.PrintLaws.{regrouped}
+use Rattle.run_file_words.proofs.PrintLaws.{regrouped}
 use Rattle.run_file.specs.Printed.{place_text, places_text, instance_text, instances_text, contents_text}
 
 pub places_more : (name : List ℕ) (m : Map ℕ Value) (n r : ℕ) (v : Value) (before now all : List ℕ) → before ++ places_text name m (drop n (keys m)) ≡ all →

@@ -20,15 +20,15 @@ use Rattle.viper_state.proofs.FitsLaws.{FitsMap-get, FitsValue-default}
 use Rattle.viper_state.proofs.MapLaws.{exact_values, exact_contents}
 use Rattle.viper_state.proofs.Paired.{paired_back}
 use Rattle.run_file.specs.Lines as l
-use Rattle.run_file.specs.Lines.{Scope, Var, Heap, Holds, IsLine}
+use Rattle.run_file.specs.Lines.{UnitScope, Var, Heap, Holds, IsLine}
 use Rattle.moves.specs.Printable.{IsNamed, IsNamedValue, IsNamedKey, IsNamedContent}
-use Rattle.run_words.specs.Printed.{numbered_text, reference_text, value_text, key_text, content_text}
+use Rattle.run_file_words.specs.Printed.{numbered_text, reference_text, value_text, key_text, content_text}
 use Rattle.run_file.specs.Printed.{var_text, place_text, places_text, heap_text, instance_text, instances_text, contents_text}
-use Rattle.run_words.specs.Values.{SpellsValue, BeginsWithContent}
-use Rattle.run_words.proofs.PrintedWords.{var_word, IsWord, word_text, text_then, front_then, blank_behind}
-use Rattle.run_words.proofs.PrintedValues.{value_is_spelled, value_word, reference_spelled, key_spelled, content_spelled, key_words, content_words}
+use Rattle.run_file_words.specs.Values.{SpellsValue, BeginsWithContent}
+use Rattle.run_file_words.proofs.PrintedWords.{var_word, IsWord, word_text, text_then, front_then, blank_behind}
+use Rattle.run_file_words.proofs.PrintedValues.{value_is_spelled, value_word, reference_spelled, key_spelled, content_spelled, key_words, content_words}
 use Rattle.run_file.proofs.PrintedMemos.{entry_lines, map_lines, var_lines}
-use Rattle.run_words.proofs.SaidLines.{Says, says_nothing, says_then, line_said, keyword, HasNames, NamedAt, named_at, numbered, numbered_said}
+use Rattle.run_file_words.proofs.SaidLines.{Says, says_nothing, says_then, line_said, keyword, HasNames, NamedAt, named_at, numbered, numbered_said}
 
 -- ---- values
 
@@ -48,7 +48,7 @@ content_word = record { some = omega arith; bytes = refl }
 
 -- ---- variables
 
-pub var_said : (s : Scope) (n : ℕ) (u : Ty) (w : Value) (a : NamedAt s.variables n u) → GoodValue u w → Says (IsLine s) (var_text a.name w) (var_lines n w)
+pub var_said : (s : UnitScope) (n : ℕ) (u : Ty) (w : Value) (a : NamedAt s.variables n u) → GoodValue u w → Says (IsLine s) (var_text a.name w) (var_lines n w)
 var_said s n u w a h = by_test (value_eq w (default_of (type_of w))) where
   by_test : (b : Bool) → Says (IsLine s) (cond b [] (codes "var " ++ a.name ++ codes " " ++ value_text w ++ codes "\n")) (cond b [] (Var n w ∷ []))
   by_test true = says_nothing (IsLine s)
@@ -59,13 +59,13 @@ var_said s n u w a h = by_test (value_eq w (default_of (type_of w))) where
 
 -- ---- places
 
-place_said : (s : Scope) (f r : ℕ) (u : Ty) (w : Value) (a : NamedAt s.fields f u) → IsNamed r → GoodValue u w → Says (IsLine s) (place_text a.name r w) (Heap f r w ∷ [])
+place_said : (s : UnitScope) (f r : ℕ) (u : Ty) (w : Value) (a : NamedAt s.fields f u) → IsNamed r → GoodValue u w → Says (IsLine s) (place_text a.name r w) (Heap f r w ∷ [])
 place_said s f r u w a small h =
     let at = reference_spelled r small in let spelled = good_spelled h in
     line_said (IsLine s) (codes "heap " ++ a.name ++ codes " " ++ reference_text r ++ codes " " ++ value_text w) (codes "heap") (a.name ∷ reference_text r ∷ value_text w ∷ []) (Heap f r w)
     (text_then (blank_behind (text_then (blank_behind (text_then (keyword heap_word) (word_text a.word))) (word_text (value_word at)))) (word_text (value_word spelled))) refl (l.heap a.has at spelled)
 
-places_said : (s : Scope) (f : ℕ) (u : Ty) (m : Map ℕ Value) (rs : List ℕ) (a : NamedAt s.fields f u) → All IsNamed rs → ((r : ℕ) → GoodValue u (get nat_cmp m r)) →
+places_said : (s : UnitScope) (f : ℕ) (u : Ty) (m : Map ℕ Value) (rs : List ℕ) (a : NamedAt s.fields f u) → All IsNamed rs → ((r : ℕ) → GoodValue u (get nat_cmp m r)) →
     Says (IsLine s) (places_text a.name m rs) (entry_lines nat_cmp Heap f m rs)
 places_said s f u m [] a named good = says_nothing (IsLine s)
 places_said s f u m (r ∷ rs) a named good =
@@ -83,7 +83,7 @@ record GoodKey (us : List Ty) (k : Key) : Type 0 where
   within : IsWithinKey k
   named : IsNamedKey k
 
-instance_said : (s : Scope) (q : ℕ) (us : List Ty) (k : Key) (c : Content) (a : NamedAt s.predicates q us) → GoodKey us k → GoodContent c → Says (IsLine s) (instance_text a.name k c) (Holds q k c ∷ [])
+instance_said : (s : UnitScope) (q : ℕ) (us : List Ty) (k : Key) (c : Content) (a : NamedAt s.predicates q us) → GoodKey us k → GoodContent c → Says (IsLine s) (instance_text a.name k c) (Holds q k c ∷ [])
 instance_said s q us k c a g h =
     let key = key_spelled us k g.fits g.within g.named in
     let tree = content_spelled c h.lowest h.within.values h.named in
@@ -91,7 +91,7 @@ instance_said s q us k c a g h =
     (text_then (front_then (blank_behind (text_then (keyword content_word) (word_text a.word))) key.text) tree.text) refl
     (l.content a.has (key.spelled (content_words c)) (subst (λ ws. BeginsWithContent ws c []) (append-nil (content_words c)) (tree.spelled [])) h.within.small)
 
-instances_said : (s : Scope) (q : ℕ) (us : List Ty) (m : Map Key Content) (ks : List Key) (a : NamedAt s.predicates q us) → All (FitsKey us) ks → All IsWithinKey ks → All IsNamedKey ks →
+instances_said : (s : UnitScope) (q : ℕ) (us : List Ty) (m : Map Key Content) (ks : List Key) (a : NamedAt s.predicates q us) → All (FitsKey us) ks → All IsWithinKey ks → All IsNamedKey ks →
     ((k : Key) → GoodContent (get key_cmp m k)) → Says (IsLine s) (instances_text a.name m ks) (entry_lines key_cmp Holds q m ks)
 instances_said s q us m [] a fits within named good = says_nothing (IsLine s)
 instances_said s q us m (k ∷ ks) a fits within named good =
@@ -101,7 +101,7 @@ instances_said s q us m (k ∷ ks) a fits within named good =
 
 -- ---- variables, heaps and contents
 
-pub variables_said : (s : Scope) (vs : List Value) → HasNames s.variables → FitsStore s.variables.types vs → All IsWithinValue vs → All IsNamedValue vs →
+pub variables_said : (s : UnitScope) (vs : List Value) → HasNames s.variables → FitsStore s.variables.types vs → All IsWithinValue vs → All IsNamedValue vs →
     Says (IsLine s) (numbered_text var_text s.variables.names 0 vs) (numbered var_lines 0 vs)
 variables_said s vs names fits within named =
     numbered_said (IsLine s) var_text var_lines s.variables.names vs (λ i w e.
@@ -109,7 +109,7 @@ variables_said s vs names fits within named =
     let a = named_at s.variables names i at.0 at.1.0 in
     record { name = a.name; named = a.has.named; said = var_said s i at.0 w a (record { fits = at.1.1; within = found IsWithinValue vs i w within e; named = found IsNamedValue vs i w named e }) })
 
-heap_said : (s : Scope) (f : ℕ) (u : Ty) (m : Map ℕ Value) (a : NamedAt s.fields f u) → FitsHeap u m → HasValues IsWithinValue m → HasEntries IsNamed IsNamedValue m →
+heap_said : (s : UnitScope) (f : ℕ) (u : Ty) (m : Map ℕ Value) (a : NamedAt s.fields f u) → FitsHeap u m → HasValues IsWithinValue m → HasEntries IsNamed IsNamedValue m →
     Says (IsLine s) (heap_text a.name m) (map_lines nat_cmp Heap f m)
 heap_said s f u m a fits within named =
     places_said s f u m (keys m) a named.keys (λ r. record {
@@ -118,7 +118,7 @@ heap_said s f u m a fits within named =
       named = get_has nat_cmp m r named.values;
     })
 
-pub heaps_said : (s : Scope) (ms : List (Map ℕ Value)) → HasNames s.fields → AllZip FitsHeap s.fields.types ms → All (HasValues IsWithinValue) ms → All (HasEntries IsNamed IsNamedValue) ms →
+pub heaps_said : (s : UnitScope) (ms : List (Map ℕ Value)) → HasNames s.fields → AllZip FitsHeap s.fields.types ms → All (HasValues IsWithinValue) ms → All (HasEntries IsNamed IsNamedValue) ms →
     Says (IsLine s) (numbered_text heap_text s.fields.names 0 ms) (numbered (map_lines nat_cmp Heap) 0 ms)
 heaps_said s ms names fits within named =
     numbered_said (IsLine s) heap_text (map_lines nat_cmp Heap) s.fields.names ms (λ i m e.
@@ -126,7 +126,7 @@ heaps_said s ms names fits within named =
     let a = named_at s.fields names i at.0 at.1.0 in
     record { name = a.name; named = a.has.named; said = heap_said s i at.0 m a at.1.1 (found (HasValues IsWithinValue) ms i m within e) (found (HasEntries IsNamed IsNamedValue) ms i m named e) })
 
-content_said : (s : Scope) (q : ℕ) (us : List Ty) (m : Map Key Content) (a : NamedAt s.predicates q us) → FitsContents us m → HasEntries IsWithinKey IsWithinContent m →
+content_said : (s : UnitScope) (q : ℕ) (us : List Ty) (m : Map Key Content) (a : NamedAt s.predicates q us) → FitsContents us m → HasEntries IsWithinKey IsWithinContent m →
     HasEntries IsNamedKey IsNamedContent m → Says (IsLine s) (contents_text a.name m) (map_lines key_cmp Holds q m)
 content_said s q us m a fits within named =
     instances_said s q us m (keys m) a fits.keys within.keys named.keys (λ k. record {
@@ -135,7 +135,7 @@ content_said s q us m a fits within named =
       named = get_has key_cmp m k named.values;
     })
 
-pub contents_said : (s : Scope) (ms : List (Map Key Content)) → HasNames s.predicates → AllZip FitsContents s.predicates.types ms → All (HasEntries IsWithinKey IsWithinContent) ms →
+pub contents_said : (s : UnitScope) (ms : List (Map Key Content)) → HasNames s.predicates → AllZip FitsContents s.predicates.types ms → All (HasEntries IsWithinKey IsWithinContent) ms →
     All (HasEntries IsNamedKey IsNamedContent) ms → Says (IsLine s) (numbered_text contents_text s.predicates.names 0 ms) (numbered (map_lines key_cmp Holds) 0 ms)
 contents_said s ms names fits within named =
     numbered_said (IsLine s) contents_text (map_lines key_cmp Holds) s.predicates.names ms (λ i m e.

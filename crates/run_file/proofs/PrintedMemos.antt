@@ -17,38 +17,38 @@ use Rattle.viper_state.specs.Fits.{FitsMemo, FitsHeap, FitsContents}
 use Rattle.viper_state.specs.Run.{Opening}
 use Rattle.viper_state.specs.State.{Key, Memo, changed_at}
 use Rattle.viper_state.proofs.MapLaws.{exact_values, exact_contents}
-use Rattle.run_file.specs.Lines.{Line, Var, Heap, Holds, Chosen, Opened}
+use Rattle.run_file.specs.Lines.{ViperLine, Var, Heap, Holds, Chosen, Opened}
 use Rattle.run_file.specs.Run.{memo_with, opening_with, empty_memo, IsPlaceLine, IsSetting}
-use Rattle.run_words.proofs.SaidLines.{numbered}
-use Rattle.run_words.proofs.PrintedMaps.{refilled, refilled_is, changed_middle}
+use Rattle.run_file_words.proofs.SaidLines.{numbered}
+use Rattle.run_file_words.proofs.PrintedMaps.{refilled, refilled_is, changed_middle}
 
 -- ---- lines
 
-abbrev pub entry_lines : {K V : Type 0} → (K → K → Ordering) → (ℕ → K → V → Line) → ℕ → Map K V → List K → List Line
+abbrev pub entry_lines : {K V : Type 0} → (K → K → Ordering) → (ℕ → K → V → ViperLine) → ℕ → Map K V → List K → List ViperLine
 entry_lines cmp line n m [] = []
 entry_lines cmp line n m (k ∷ ks) = line n k (get cmp m k) ∷ entry_lines cmp line n m ks
 
-abbrev pub map_lines : {K V : Type 0} → (K → K → Ordering) → (ℕ → K → V → Line) → ℕ → Map K V → List Line
+abbrev pub map_lines : {K V : Type 0} → (K → K → Ordering) → (ℕ → K → V → ViperLine) → ℕ → Map K V → List ViperLine
 map_lines cmp line n m = entry_lines cmp line n m (keys m)
 
-abbrev pub memo_lines : Memo → List Line
+abbrev pub memo_lines : Memo → List ViperLine
 memo_lines m = numbered (map_lines nat_cmp Heap) 0 m.heap ++ numbered (map_lines key_cmp Holds) 0 m.content
 
-abbrev pub var_lines : ℕ → Value → List Line
+abbrev pub var_lines : ℕ → Value → List ViperLine
 var_lines n v = if value_eq v (default_of (type_of v)) then [] else Var n v ∷ []
 
 -- ---- lists of lines
 
-pub each_append : (P : Line → Type 0) (ls ms : List Line) → AllByRecursion P ls → AllByRecursion P ms → AllByRecursion P (ls ++ ms)
+pub each_append : (P : ViperLine → Type 0) (ls ms : List ViperLine) → AllByRecursion P ls → AllByRecursion P ms → AllByRecursion P (ls ++ ms)
 each_append P [] ms h k = k
 each_append P (l ∷ ls) ms h k = (h.0, each_append P ls ms h.1 k)
 
-module _ {X : Type 0} (P : Line → Type 0) (lines : ℕ → X → List Line) (go : (n : ℕ) (x : X) → AllByRecursion P (lines n x)) where
+module _ {X : Type 0} (P : ViperLine → Type 0) (lines : ℕ → X → List ViperLine) (go : (n : ℕ) (x : X) → AllByRecursion P (lines n x)) where
   each_numbered : (n : ℕ) (xs : List X) → AllByRecursion P (numbered lines n xs)
   each_numbered n [] = tt
   each_numbered n (x ∷ xs) = each_append P (lines n x) (numbered lines (n + 1) xs) (go n x) (each_numbered (n + 1) xs)
 
-module _ {K V : Type 0} (cmp : K → K → Ordering) (P : Line → Type 0) (line : ℕ → K → V → Line) (go : (n : ℕ) (k : K) (v : V) → P (line n k v)) where
+module _ {K V : Type 0} (cmp : K → K → Ordering) (P : ViperLine → Type 0) (line : ℕ → K → V → ViperLine) (go : (n : ℕ) (k : K) (v : V) → P (line n k v)) where
   each_entry : (n : ℕ) (m : Map K V) (ks : List K) → AllByRecursion P (entry_lines cmp line n m ks)
   each_entry n m [] = tt
   each_entry n m (k ∷ ks) = (go n k (get cmp m k), each_entry n m ks)
@@ -61,14 +61,14 @@ places_alone m =
     each_append IsPlaceLine (numbered (map_lines nat_cmp Heap) 0 m.heap) (numbered (map_lines key_cmp Holds) 0 m.content)
     (each_map nat_cmp IsPlaceLine Heap (λ n k v. tt) 0 m.heap) (each_map key_cmp IsPlaceLine Holds (λ n k v. tt) 0 m.content)
 
-place_sets : (l : Line) → IsPlaceLine l → IsSetting l
+place_sets : (l : ViperLine) → IsPlaceLine l → IsSetting l
 place_sets (Heap f r v) h = tt
 place_sets (Holds q k c) h = tt
 place_sets (Var n v) h = absurd h
 place_sets (Chosen c) h = absurd h
 place_sets Opened h = absurd h
 
-places_set : (ls : List Line) → AllByRecursion IsPlaceLine ls → AllByRecursion IsSetting ls
+places_set : (ls : List ViperLine) → AllByRecursion IsPlaceLine ls → AllByRecursion IsSetting ls
 places_set [] h = tt
 places_set (l ∷ ls) h = (place_sets l h.0, places_set ls h.1)
 
@@ -77,7 +77,7 @@ var_sets n v true = tt
 var_sets n v false = (tt, tt)
 
 -- the lines of an opening
-abbrev pub opening_lines : Opening → List Line
+abbrev pub opening_lines : Opening → List ViperLine
 opening_lines o = numbered var_lines 0 o.store ++ memo_lines o.memo
 
 pub settings_alone : (o : Opening) → AllByRecursion IsSetting (opening_lines o)
@@ -87,7 +87,7 @@ settings_alone o =
 
 -- ---- the lines of maps give the maps back
 
-module _ {K V U : Type 0} {cmp : K → K → Ordering} {eq : V → V → Bool} (x : IsExact cmp eq) (line : ℕ → K → V → Line) (put : List (Map K V) → Memo)
+module _ {K V U : Type 0} {cmp : K → K → Ordering} {eq : V → V → Bool} (x : IsExact cmp eq) (line : ℕ → K → V → ViperLine) (put : List (Map K V) → Memo)
     (step : (maps : List (Map K V)) (n : ℕ) (k : K) (v : V) → memo_with (put maps) (line n k v) ≡ put (changed_at cmp eq maps n k v)) (d : U → V) where
   entries_folded : (m to : Map K V) (before after : List (Map K V)) (n : ℕ) (ks : List K) → n ≡ length before →
       fold memo_with (put (before ++ to ∷ after)) (entry_lines cmp line n m ks) ≡ put (before ++ refilled cmp eq m to ks ∷ after)
@@ -132,7 +132,7 @@ memo_filled l m h =
     (zip_of FitsContents (λ us n. (n.default ≡ content.Unit) × IsReduced key_cmp same_content n) (λ us n i. (i.default, i.reduced)) l.keys m.content h.content))
 
 -- lines of a heap and contents change nothing else of an opening
-pub places_open : (ls : List Line) (o : Opening) → AllByRecursion IsPlaceLine ls → fold opening_with o ls ≡ record { store = o.store; memo = fold memo_with o.memo ls }
+pub places_open : (ls : List ViperLine) (o : Opening) → AllByRecursion IsPlaceLine ls → fold opening_with o ls ≡ record { store = o.store; memo = fold memo_with o.memo ls }
 places_open [] o h = refl
 places_open (Heap f r v ∷ ls) o h = places_open ls (opening_with o (Heap f r v)) h.1
 places_open (Holds q k c ∷ ls) o h = places_open ls (opening_with o (Holds q k c)) h.1

@@ -22,18 +22,18 @@ use Rattle.viper_state.specs.State.{Memo}
 use Rattle.viper_state.specs.Within.{IsWithinMemo, IsWithinChoice}
 use Rattle.viper_state.proofs.Paired.{All-found}
 use Rattle.run_file.specs.Lines as l
-use Rattle.run_file.specs.Lines.{Scope, scope_of, method_variables, predicate_variables, unit_variables, Line, Var, Chosen, Opened, IsLine}
+use Rattle.run_file.specs.Lines.{UnitScope, scope_of, method_variables, predicate_variables, unit_variables, ViperLine, Var, Chosen, Opened, IsLine}
 use Rattle.run_file.specs.Printable.{IsNamedMemo, IsNamedChoice, IsPrintable}
 use Rattle.run_file.specs.Printed.{memo_text, choice_text, choices_text, run_text}
-use Rattle.run_words.specs.Printed.{truth_text, value_text, fraction_text, reference_text}
+use Rattle.run_file_words.specs.Printed.{truth_text, value_text, fraction_text, reference_text}
 use Rattle.run_file.specs.Run.{ViperRun, opening_with, empty_opening, scope_memo, AreChoices, none, one, filled, header, SpellsViperRun}
-use Rattle.run_words.proofs.PrintedWords.{pick_word, value_keyword, run_word, name_word, IsWord, word_text, text_then, blank_behind, Tells, tells_then, line_told}
-use Rattle.run_words.proofs.PrintedValues.{value_is_spelled, value_word, truth_spelled, reference_spelled, fraction_spelled}
-use Rattle.run_words.proofs.PrintedMaps.{set_middle}
+use Rattle.run_file_words.proofs.PrintedWords.{pick_word, value_keyword, run_word, name_word, IsWord, word_text, text_then, blank_behind, Tells, tells_then, line_told}
+use Rattle.run_file_words.proofs.PrintedValues.{value_is_spelled, value_word, truth_spelled, reference_spelled, fraction_spelled}
+use Rattle.run_file_words.proofs.PrintedMaps.{set_middle}
 use Rattle.run_file.proofs.PrintedMemos.{memo_lines, var_lines, opening_lines, places_alone, settings_alone, memo_filled, places_open}
 use Rattle.run_file.proofs.PrintedOnce.{memo_once, opening_once}
 use Rattle.run_file.proofs.PrintedLines.{variables_said, heaps_said, contents_said}
-use Rattle.run_words.proofs.SaidLines.{Says, says_nothing, says_then, line_said, all_told, HasNames, numbered}
+use Rattle.run_file_words.proofs.SaidLines.{Says, says_nothing, says_then, line_said, all_told, HasNames, numbered}
 
 -- ---- the names of a formed program are words
 
@@ -61,7 +61,7 @@ unit_names p None h = record { as_many = omega arith; words = All-nil IsWord }
 unit_names p (Some (unit.Method n)) h = method_names p (slice_get p.methods n) n refl h.typed.methods
 unit_names p (Some (unit.Predicate n)) h = predicate_names_are p (slice_get p.predicates n) n refl h.typed.predicates
 
-record ScopeNames (s : Scope) : Type 0 where
+record ScopeNames (s : UnitScope) : Type 0 where
   variables : HasNames s.variables
   fields : HasNames s.fields
   predicates : HasNames s.predicates
@@ -88,14 +88,14 @@ memo_said p n m names fits within named =
     says_then (heaps_said (scope_of p n) m.heap names.fields fits.heap within.heap named.heap)
     (contents_said (scope_of p n) m.content names.predicates fits.content within.content named.content)
 
-abbrev choice_lines : Choice → List Line
+abbrev choice_lines : Choice → List ViperLine
 choice_lines (Branch b) = Chosen (Branch b) ∷ []
 choice_lines (Took w) = Chosen (Took w) ∷ []
 choice_lines (Amount q) = Chosen (Amount q) ∷ []
 choice_lines (Fresh r) = Chosen (Fresh r) ∷ []
 choice_lines (Filled m) = Opened ∷ memo_lines m
 
-abbrev choices_lines : List Choice → List Line
+abbrev choices_lines : List Choice → List ViperLine
 choices_lines [] = []
 choices_lines (c ∷ cs) = choice_lines c ++ choices_lines cs
 

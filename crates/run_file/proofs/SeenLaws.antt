@@ -3,23 +3,23 @@ use Rattle.std.proofs.Common.{◌≡◌, ◌∙◌, ℕ, Bool, true, false, cond
 use Rattle.std.specs.Option.{option_map}
 use Rattle.vb_value.specs.declared.values.Value.{Value}
 use Rattle.viper_state.specs.Choice.{Choice, Filled}
-use Rattle.run_words.specs.Machine.{line_read}
-use Rattle.run_words.specs.Reading.{◌>>=◌}
-use Rattle.run_words.specs.Text.{is_skipped, words_of}
-use Rattle.run_file.specs.Lines.{Scope, Line, Var, Heap, Holds, Chosen, Opened}
+use Rattle.run_file_words.specs.Machine.{line_read}
+use Rattle.run_file_words.specs.Reading.{◌>>=◌}
+use Rattle.run_file_words.specs.Text.{is_skipped, words_of}
+use Rattle.run_file.specs.Lines.{UnitScope, ViperLine, Var, Heap, Holds, Chosen, Opened}
 use Rattle.run_file.specs.Reading.{line_of}
 use Rattle.run_file.specs.Run.{scope_memo}
 use Rattle.run_file.specs.Progress.{Progress, Changes, has_named, once, may_set, may_place, followed, is_header, header_read, is_headed, file_kind, reader_of}
-use Rattle.run_file.specs.declared.lines.Named.{Named}
-use Rattle.run_file.specs.declared.lines.Named.TheVariants as named
-use Rattle.run_file.specs.declared.reader.Stage.TheVariants as stage
+use Rattle.run_file.specs.declared.lines.LineTarget.{LineTarget}
+use Rattle.run_file.specs.declared.lines.LineTarget.TheVariants as named
+use Rattle.run_file.specs.declared.reader.ViperStage.TheVariants as stage
 use Rattle.run_file.proofs.SeenMachines.{Sees}
 
 -- each of the second changes makes of the part what the first makes of the whole
 pub record Agree {R Q : Type 0} (k : Changes R) (j : Changes Q) (part : R → Q) : Type 0 where
-  pub begun : (s : Scope) → j.begun s ≡ part (k.begun s)
+  pub begun : (s : UnitScope) → j.begun s ≡ part (k.begun s)
   pub set : (n : ℕ) (v : Value) (r : R) → j.set n v (part r) ≡ part (k.set n v r)
-  pub place : (g : Stage) (l : Line) (r : R) → j.place g l (part r) ≡ part (k.place g l r)
+  pub place : (g : Stage) (l : ViperLine) (r : R) → j.place g l (part r) ≡ part (k.place g l r)
   pub choose : (c : Choice) (r : R) → j.choose c (part r) ≡ part (k.choose c r)
 
 -- how far the part is read
@@ -38,22 +38,22 @@ mapped_else : {A B : Type 0} (f : A → B) (b : Bool) (a : A) (x : Option B) (y 
 mapped_else f true a x y e = refl
 mapped_else f false a x y e = e
 
-module _ {R Q : Type 0} {k : Changes R} {j : Changes Q} {part : R → Q} (a : Agree k j part) (s : Scope) where
-  once_seen : (st : Progress R) (n : Named) (q : Q) (r : R) → q ≡ part r → once (seen part st) n q ≡ option_map (seen part) (once st n r)
+module _ {R Q : Type 0} {k : Changes R} {j : Changes Q} {part : R → Q} (a : Agree k j part) (s : UnitScope) where
+  once_seen : (st : Progress R) (n : LineTarget) (q : Q) (r : R) → q ≡ part r → once (seen part st) n q ≡ option_map (seen part) (once st n r)
   once_seen st n q r e = ap (once (seen part st) n) e ∙ mapped_unless (seen part) (has_named st.named n) _
 
-  placed : (st : Progress R) (l : Line) (n : Named) →
+  placed : (st : Progress R) (l : ViperLine) (n : LineTarget) →
       cond (may_place st.stage) (once (seen part st) n (j.place st.stage l (part st.run))) None ≡ option_map (seen part) (cond (may_place st.stage) (once st n (k.place st.stage l st.run)) None)
   placed st l n = mapped_if (seen part) (may_place st.stage) _ _ (once_seen st n _ (k.place st.stage l st.run) (a.place st.stage l st.run))
 
-  followed_seen : (st : Progress R) (l : Line) → followed j s (seen part st) l ≡ option_map (seen part) (followed k s st l)
+  followed_seen : (st : Progress R) (l : ViperLine) → followed j s (seen part st) l ≡ option_map (seen part) (followed k s st l)
   followed_seen st (Var n v) = mapped_if (seen part) (may_set st.stage) _ _ (once_seen st (named.Variable n) _ (k.set n v st.run) (a.set n v st.run))
   followed_seen st (Heap f r v) = placed st (Heap f r v) (named.Place f r)
   followed_seen st (Holds q i c) = placed st (Holds q i c) (named.Instance q i)
   followed_seen st (Chosen c) = ap (λ r. Some (record { stage = stage.Choosing; named = []; run = r })) (a.choose c st.run)
   followed_seen st Opened = ap (λ r. Some (record { stage = stage.Filling; named = []; run = r })) (a.choose (Filled (scope_memo s)) st.run)
 
-  line_seen : (st : Progress R) (o : Option Line) → (o >>= followed j s (seen part st)) ≡ option_map (seen part) (o >>= followed k s st)
+  line_seen : (st : Progress R) (o : Option ViperLine) → (o >>= followed j s (seen part st)) ≡ option_map (seen part) (o >>= followed k s st)
   line_seen st None = refl
   line_seen st (Some l) = followed_seen st l
 

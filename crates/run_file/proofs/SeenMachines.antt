@@ -3,7 +3,7 @@ use Rattle.std.proofs.Common.{◌≡◌, ◌∙◌, ◌+◌, ℕ, List, [], ◌�
 use Rattle.std.specs.Option.{option_map}
 use Rattle.lemmas.proofs.Options.{some_same, none_some}
 use Rattle.vb_base.specs.declared.places.Pos.{Pos}
-use Rattle.run_words.specs.Machine.{Machine, all_steps, IsReadBy, StopsBy, bad, headless}
+use Rattle.run_file_words.specs.Machine.{Machine, all_steps, IsReadBy, StopsBy, bad, headless}
 
 -- the second machine sees this of a state and of a run of the first
 pub record Sees {S R T Q : Type 0} (m : Machine S R) (n : Machine T Q) (state : S → T) (run : R → Q) : Type 0 where

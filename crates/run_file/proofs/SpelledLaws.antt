@@ -30,11 +30,11 @@ use Rattle.viper_state.proofs.EachLaws.{set_has_values, set_has_entries, empty_h
 use Rattle.viper_state.proofs.FitsLaws.{FitsMap-set, FitsMap-empty, FitsValue-default}
 use Rattle.viper_state.proofs.MapLaws.{exact_values, exact_contents}
 use Rattle.viper_state.proofs.Paired.{paired_changed, All-changed}
-use Rattle.run_file.specs.Lines.{Scope, scope_of, Line, Var, Heap, Holds, Chosen, Opened, IsLine, var, heap, content as holds, pick, value, amount, fresh, state}
+use Rattle.run_file.specs.Lines.{UnitScope, scope_of, ViperLine, Var, Heap, Holds, Chosen, Opened, IsLine, var, heap, content as holds, pick, value, amount, fresh, state}
 use Rattle.moves.specs.Printable.{IsNamed, IsNamedValue, IsNamedPart, IsNamedKey, IsNamedContent}
 use Rattle.run_file.specs.Printable.{IsNamedMemo, IsNamedChoice, IsPrintable}
 use Rattle.run_file.specs.Run.{ViperRun, memo_with, opening_with, scope_memo, empty_opening, AreChoices, none as no_choice, one, filled, SpellsViperRun}
-use Rattle.run_words.specs.Values.{SpellsInt, plain, negative, SpellsValue, int, truth, falsehood, null, reference, perm, IsArgument, int as int_argument, truth as truth_argument, reference as reference_argument, BeginsWithKey, none as no_key, more, BeginsWithContent, unit, leaf, pair}
+use Rattle.run_file_words.specs.Values.{SpellsInt, plain, negative, SpellsValue, int, truth, falsehood, null, reference, perm, IsArgument, int as int_argument, truth as truth_argument, reference as reference_argument, BeginsWithKey, none as no_key, more, BeginsWithContent, unit, leaf, pair}
 
 -- ---- values
 
@@ -107,7 +107,7 @@ abbrev IsGoodChoice : Choice → Type 0
 IsGoodChoice c = ((l : Layout) → FitsChoice l c) × IsWithinChoice c × IsNamedChoice c
 
 -- what a line gives fits the scope
-abbrev Gives : Scope → Line → Type 0
+abbrev Gives : UnitScope → ViperLine → Type 0
 Gives s (Var n w) = (u : Ty) × (slice_get s.variables.types n ≡ Some u) × Good u w
 Gives s (Heap f r w) = (u : Ty) × (slice_get s.fields.types f ≡ Some u) × IsNamed r × Good u w
 Gives s (Holds q k c) = (us : List Ty) × (slice_get s.predicates.types q ≡ Some us) × GoodKey us k × GoodContent c × (nodes c ≤ max_content_nodes)
@@ -117,7 +117,7 @@ Gives s Opened = ⊤
 reference_named : {word : List ℕ} {r : ℕ} → SpellsValue ty.Ref word (Ref r) → IsNamed r
 reference_named h = (good_value h).named
 
-gives : {s : Scope} {words : List (List ℕ)} {l : Line} → IsLine s words l → Gives s l
+gives : {s : UnitScope} {words : List (List ℕ)} {l : ViperLine} → IsLine s words l → Gives s l
 gives (var {u = u} known h) = (u, known.typed, good_value h)
 gives (heap {u = u} known at h) = (u, known.typed, reference_named at, good_value h)
 gives (holds {us = us} known key h few) = (us, known.typed, good_key key, good_content h, few)
@@ -127,35 +127,35 @@ gives (amount h) = let g = good_value h in (λ l. g.fits.reduced, g.within, tt)
 gives (fresh h) = (λ l. tt, tt, reference_named h)
 gives state = tt
 
-abbrev AllGive : Scope → List Line → Type 0
+abbrev AllGive : UnitScope → List ViperLine → Type 0
 AllGive s [] = ⊤
 AllGive s (l ∷ ls) = Gives s l × AllGive s ls
 
-all_give : (s : Scope) (words : List (List (List ℕ))) (ls : List Line) → AllZip (IsLine s) words ls → AllGive s ls
+all_give : (s : UnitScope) (words : List (List (List ℕ))) (ls : List ViperLine) → AllZip (IsLine s) words ls → AllGive s ls
 all_give s [] [] h = tt
 all_give s [] (l ∷ ls) h = absurd h
 all_give s (w ∷ words) [] h = absurd h
 all_give s (w ∷ words) (l ∷ ls) h = (gives h.0, all_give s words ls h.1)
 
-give_front : (s : Scope) (ls ms : List Line) → AllGive s (ls ++ ms) → AllGive s ls
+give_front : (s : UnitScope) (ls ms : List ViperLine) → AllGive s (ls ++ ms) → AllGive s ls
 give_front s [] ms h = tt
 give_front s (l ∷ ls) ms h = (h.0, give_front s ls ms h.1)
 
-give_back : (s : Scope) (ls ms : List Line) → AllGive s (ls ++ ms) → AllGive s ms
+give_back : (s : UnitScope) (ls ms : List ViperLine) → AllGive s (ls ++ ms) → AllGive s ms
 give_back s [] ms h = h
 give_back s (l ∷ ls) ms h = give_back s ls ms h.1
 
 -- ---- heaps and contents
 
-abbrev layout_of : Scope → Layout
+abbrev layout_of : UnitScope → Layout
 layout_of s = record { fields = s.fields.types; keys = s.predicates.types }
 
-record GoodMemo (s : Scope) (m : Memo) : Type 0 where
+record GoodMemo (s : UnitScope) (m : Memo) : Type 0 where
   fits : FitsMemo (layout_of s) m
   within : IsWithinMemo m
   named : IsNamedMemo m
 
-heap_with : {s : Scope} {m : Memo} (f r : ℕ) (w : Value) → GoodMemo s m → Gives s (Heap f r w) → GoodMemo s (memo_with m (Heap f r w))
+heap_with : {s : UnitScope} {m : Memo} (f r : ℕ) (w : Value) → GoodMemo s m → Gives s (Heap f r w) → GoodMemo s (memo_with m (Heap f r w))
 heap_with {s} {m} f r w h (u, at, small, g) = record {
   fits = record {
     heap = paired_changed nat_cmp value_eq FitsHeap s.fields.types m.heap f r w h.fits.heap (λ t n e i. FitsMap-set exact_values.total n r w i tt (subst (λ x. FitsValue x w) (one_item at e) g.fits));
@@ -171,7 +171,7 @@ heap_with {s} {m} f r w h (u, at, small, g) = record {
   };
 }
 
-content_with : {s : Scope} {m : Memo} (q : ℕ) (k : Key) (c : Content) → GoodMemo s m → Gives s (Holds q k c) → GoodMemo s (memo_with m (Holds q k c))
+content_with : {s : UnitScope} {m : Memo} (q : ℕ) (k : Key) (c : Content) → GoodMemo s m → Gives s (Holds q k c) → GoodMemo s (memo_with m (Holds q k c))
 content_with {s} {m} q k c h (us, at, key, g, few) = record {
   fits = record {
     heap = h.fits.heap;
@@ -187,14 +187,14 @@ content_with {s} {m} q k c h (us, at, key, g, few) = record {
   };
 }
 
-memo_step : {s : Scope} {m : Memo} (l : Line) → GoodMemo s m → Gives s l → GoodMemo s (memo_with m l)
+memo_step : {s : UnitScope} {m : Memo} (l : ViperLine) → GoodMemo s m → Gives s l → GoodMemo s (memo_with m l)
 memo_step (Var n w) h g = h
 memo_step (Heap f r w) h g = heap_with f r w h g
 memo_step (Holds q k c) h g = content_with q k c h g
 memo_step (Chosen c) h g = h
 memo_step Opened h g = h
 
-memo_folded : {s : Scope} (ls : List Line) (m : Memo) → GoodMemo s m → AllGive s ls → GoodMemo s (fold memo_with m ls)
+memo_folded : {s : UnitScope} (ls : List ViperLine) (m : Memo) → GoodMemo s m → AllGive s ls → GoodMemo s (fold memo_with m ls)
 memo_folded [] m h g = h
 memo_folded (l ∷ ls) m h g = memo_folded ls (memo_with m l) (memo_step l h g.0) g.1
 
@@ -231,7 +231,7 @@ empty_contents (us ∷ keys) =
       named = All-cons (HasEntries IsNamedKey IsNamedContent) (empty {K = Key} content.Unit) others (empty_has_entries content.Unit tt) rest.named;
     }
 
-good_empty : (s : Scope) → GoodMemo s (scope_memo s)
+good_empty : (s : UnitScope) → GoodMemo s (scope_memo s)
 good_empty s =
     let heaps = empty_heaps s.fields.types in let contents = empty_contents s.predicates.types in
     record {
@@ -242,19 +242,19 @@ good_empty s =
 
 -- ---- choices
 
-record GoodChoices (s : Scope) (cs : List Choice) : Type 0 where
+record GoodChoices (s : UnitScope) (cs : List Choice) : Type 0 where
   fit : All (FitsChoice (layout_of s)) cs
   within : All IsWithinChoice cs
   named : All IsNamedChoice cs
 
-one_more : {s : Scope} {c : Choice} {cs : List Choice} → FitsChoice (layout_of s) c → IsWithinChoice c → IsNamedChoice c → GoodChoices s cs → GoodChoices s (c ∷ cs)
+one_more : {s : UnitScope} {c : Choice} {cs : List Choice} → FitsChoice (layout_of s) c → IsWithinChoice c → IsNamedChoice c → GoodChoices s cs → GoodChoices s (c ∷ cs)
 one_more {s} {c} {cs} fits within named rest = record {
   fit = All-cons (FitsChoice (layout_of s)) c cs fits rest.fit;
   within = All-cons IsWithinChoice c cs within rest.within;
   named = All-cons IsNamedChoice c cs named rest.named;
 }
 
-good_choices : {s : Scope} {ls : List Line} {cs : List Choice} → AreChoices s ls cs → AllGive s ls → GoodChoices s cs
+good_choices : {s : UnitScope} {ls : List ViperLine} {cs : List Choice} → AreChoices s ls cs → AllGive s ls → GoodChoices s cs
 good_choices {s} no_choice g = record { fit = All-nil (FitsChoice (layout_of s)); within = All-nil IsWithinChoice; named = All-nil IsNamedChoice }
 good_choices {s} (one {c = c} {cs = cs} h) g = one_more {c = c} (g.0.0 (layout_of s)) g.0.1 g.0.2 (good_choices h g.1)
 good_choices {s} (filled block {ls = ls} {cs = cs} only once h) g =
@@ -263,7 +263,7 @@ good_choices {s} (filled block {ls = ls} {cs = cs} only once h) g =
 
 -- ---- openings
 
-record GoodOpening (s : Scope) (o : Opening) : Type 0 where
+record GoodOpening (s : UnitScope) (o : Opening) : Type 0 where
   store : FitsStore s.variables.types o.store
   within : All IsWithinValue o.store
   named : All IsNamedValue o.store
@@ -276,7 +276,7 @@ store_set (t ∷ us) [] n u w h at fits = absurd h
 store_set (t ∷ us) (x ∷ ws) zero u w h at fits = let same : u ≡ t = cc in (subst (λ y. FitsValue y w) same fits, h.1)
 store_set (t ∷ us) (x ∷ ws) (suc n) u w h at fits = (h.0, store_set us ws n u w h.1 at fits)
 
-opening_step : {s : Scope} {o : Opening} (l : Line) → GoodOpening s o → Gives s l → GoodOpening s (opening_with o l)
+opening_step : {s : UnitScope} {o : Opening} (l : ViperLine) → GoodOpening s o → Gives s l → GoodOpening s (opening_with o l)
 opening_step {s} {o} (Var n w) h (u, at, g) = record {
   store = store_set s.variables.types o.store n u w h.store at g.fits;
   within = All-set IsWithinValue o.store n w g.within h.within;
@@ -288,7 +288,7 @@ opening_step (Holds q k c) h g = record { store = h.store; within = h.within; na
 opening_step (Chosen c) h g = h
 opening_step Opened h g = h
 
-opening_folded : {s : Scope} (ls : List Line) (o : Opening) → GoodOpening s o → AllGive s ls → GoodOpening s (fold opening_with o ls)
+opening_folded : {s : UnitScope} (ls : List ViperLine) (o : Opening) → GoodOpening s o → AllGive s ls → GoodOpening s (fold opening_with o ls)
 opening_folded [] o h g = h
 opening_folded (l ∷ ls) o h g = opening_folded ls (opening_with o l) (opening_step l h g.0) g.1
 
@@ -307,12 +307,12 @@ default_store (u ∷ us) =
       named = All-cons IsNamedValue (default_of u) (map default_of us) g.named rest.named;
     }
 
-empty_opens : (s : Scope) → GoodOpening s (empty_opening s)
+empty_opens : (s : UnitScope) → GoodOpening s (empty_opening s)
 empty_opens s = let store = default_store s.variables.types in record { store = store.fits; within = store.within; named = store.named; memo = good_empty s }
 
 -- ---- runs
 
-opened_good : (s : Scope) {o : Opening} (settings : List Line) → o ≡ fold opening_with (empty_opening s) settings → AllGive s settings → GoodOpening s o
+opened_good : (s : UnitScope) {o : Opening} (settings : List ViperLine) → o ≡ fold opening_with (empty_opening s) settings → AllGive s settings → GoodOpening s o
 opened_good s settings is g = subst (GoodOpening s) (sym is) (opening_folded settings (empty_opening s) (empty_opens s) g)
 
 -- each run that a file spells can be printed so that the text spells it

@@ -4,20 +4,20 @@ use Rattle.std.specs.Borrow.{Bor}
 use Rattle.vb_value.specs.declared.values.Ty.{Ty}
 use Rattle.vb_value.specs.View.{content_of}
 use Rattle.viper_state.specs.View.{choice_of}
-use Rattle.run_words.specs.Known.{Known}
+use Rattle.run_file_words.specs.Known.{Known}
 use Rattle.run_file.specs.Lines as l
-use Rattle.run_file.specs.declared.lines.Line.{Line}
-use Rattle.run_file.specs.declared.lines.Line.TheVariants as line
-use Rattle.run_file.specs.declared.names.Scope.{Scope}
+use Rattle.run_file.specs.declared.lines.ViperLine.{ViperLine}
+use Rattle.run_file.specs.declared.lines.ViperLine.TheVariants as line
+use Rattle.run_file.specs.declared.names.UnitScope.{UnitScope}
 
-abbrev pub line_view : Line → l.Line
+abbrev pub line_view : ViperLine → l.ViperLine
 line_view (line.Var n v) = l.Var n v
 line_view (line.Heap f r v) = l.Heap f r v
 line_view (line.Content q k c) = l.Holds q k (content_of c)
 line_view (line.Chosen c) = l.Chosen (choice_of c)
 line_view line.State = l.Opened
 
-abbrev pub scope_view : Scope → l.Scope
+abbrev pub scope_view : UnitScope → l.UnitScope
 scope_view s = record {
   variables = record { names = s.variables.now; types = s.types.now };
   fields = record { names = s.fields.now; types = s.layout.now.fields };

@@ -12,8 +12,8 @@ use Rattle.viper_core.specs.declared.programs.Unit.{Unit}
 use Rattle.viper_core.specs.declared.programs.Unit.TheVariants as unit
 use Rattle.viper_state.specs.State.{Key}
 use Rattle.viper_state.specs.Choice.{Choice, Branch, Took, Amount, Fresh}
-use Rattle.run_words.specs.Values.{SpellsValue, BeginsWithKey, BeginsWithContent}
-use Rattle.run_words.specs.Known.{Known, HasName, nothing_known}
+use Rattle.run_file_words.specs.Values.{SpellsValue, BeginsWithKey, BeginsWithContent}
+use Rattle.run_file_words.specs.Known.{Known, HasName, nothing_known}
 
 -- ---- what lines may name
 
@@ -33,13 +33,13 @@ unit_variables p (Some (unit.Method n)) = method_variables (slice_get p.methods 
 unit_variables p (Some (unit.Predicate n)) = predicate_variables (slice_get p.predicates n)
 
 -- the variables that an opening sets, the fields, and the predicates with the types of their arguments
-pub record Scope : Type 0 where
+pub record UnitScope : Type 0 where
   pub variables : Known Ty
   pub fields : Known Ty
   pub predicates : Known (List Ty)
 
 -- what the lines of a file for the unit of this number may name
-abbrev pub scope_of : Program → ℕ → Scope
+abbrev pub scope_of : Program → ℕ → UnitScope
 scope_of p n = record {
   variables = unit_variables p (slice_get p.units n);
   fields = record { names = p.fields; types = p.layout.fields };
@@ -48,20 +48,20 @@ scope_of p n = record {
 
 -- ---- lines
 
-pub data Line : Type 0 where
+pub data ViperLine : Type 0 where
   -- a variable has a value
-  Var : ℕ → Value → Line
+  Var : ℕ → Value → ViperLine
   -- a field has a value at a reference
-  Heap : ℕ → ℕ → Value → Line
+  Heap : ℕ → ℕ → Value → ViperLine
   -- an instance of a predicate has a content
-  Holds : ℕ → Key → Content → Line
+  Holds : ℕ → Key → Content → ViperLine
   -- a choice that is no heap and contents
-  Chosen : Choice → Line
+  Chosen : Choice → ViperLine
   -- a choice of a heap and contents, which the lines after it fill
-  Opened : Line
+  Opened : ViperLine
 
 -- these words are this line
-pub data IsLine (s : Scope) : List (List ℕ) → Line → Type 0 where
+pub data IsLine (s : UnitScope) : List (List ℕ) → ViperLine → Type 0 where
   var : {n : ℕ} {name word : List ℕ} {u : Ty} {v : Value} →
       HasName s.variables n name u → SpellsValue u word v → IsLine s (codes "var" ∷ name ∷ word ∷ []) (Var n v)
   heap : {f r : ℕ} {name place word : List ℕ} {u : Ty} {v : Value} →

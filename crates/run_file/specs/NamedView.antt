@@ -2,8 +2,8 @@
 use Rattle.std.specs.Prelude.{ℕ, zero, suc, ◌+◌, List, [], ◌∷◌, ◌++◌, map}
 use Rattle.std.specs.BTreeSet.{BTreeSet, insert_key}
 use Rattle.std.specs.declared.cmp.Ordering.{Ordering}
-use Rattle.run_file.specs.declared.lines.Named.{Named}
-use Rattle.run_file.specs.declared.lines.Named.TheVariants.{Variable, Place, Instance}
+use Rattle.run_file.specs.declared.lines.LineTarget.{LineTarget}
+use Rattle.run_file.specs.declared.lines.LineTarget.TheVariants.{Variable, Place, Instance}
 use Rattle.run_file.specs.declared.named_sets.NamedSets.{NamedSets}
 
 abbrev pub keys_of : {K : Type 0} → BTreeSet K → List K
@@ -17,9 +17,9 @@ with_key cmp (set ∷ sets) zero k = insert_key cmp set k ∷ sets
 with_key cmp (set ∷ sets) (suc n) k = set ∷ with_key cmp sets n k
 
 -- the names of the keys of sets that are numbered from here on
-abbrev pub names_from : {K : Type 0} → (ℕ → K → Named) → ℕ → List (List K) → List Named
+abbrev pub names_from : {K : Type 0} → (ℕ → K → LineTarget) → ℕ → List (List K) → List LineTarget
 names_from name n [] = []
 names_from name n (set ∷ sets) = map (name n) set ++ names_from name (n + 1) sets
 
-abbrev pub named_of : NamedSets → List Named
+abbrev pub named_of : NamedSets → List LineTarget
 named_of x = map Variable x.variables.keys ++ (names_from Place 0 (map keys_of x.places.items) ++ names_from Instance 0 (map keys_of x.instances.items))

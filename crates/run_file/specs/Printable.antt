@@ -8,7 +8,7 @@ use Rattle.viper_state.specs.Within.{HasEntries, IsWithinOpening, IsWithinChoice
 use Rattle.moves.specs.Printable.{IsNamed, IsNamedValue, IsNamedKey, IsNamedContent}
 use Rattle.run_file.specs.Lines.{scope_of}
 use Rattle.run_file.specs.Run.{ViperRun}
-use Rattle.run_words.specs.Named.{AreNamed}
+use Rattle.run_file_words.specs.Named.{AreNamed}
 
 -- ---- references below 2^64
 

@@ -13,7 +13,7 @@ use Rattle.viper_state.specs.State.{Key, Memo}
 use Rattle.viper_state.specs.Choice.{Choice, Branch, Took, Amount, Fresh, Filled}
 use Rattle.run_file.specs.Lines.{scope_of}
 use Rattle.run_file.specs.Run.{ViperRun}
-use Rattle.run_words.specs.Printed.{truth_text, reference_text, fraction_text, value_text, key_text, content_text, numbered_text}
+use Rattle.run_file_words.specs.Printed.{truth_text, reference_text, fraction_text, value_text, key_text, content_text, numbered_text}
 
 -- a variable other than its default
 abbrev pub var_text : List ℕ → Value → List ℕ

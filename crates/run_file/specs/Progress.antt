@@ -5,41 +5,41 @@ use Rattle.std.specs.Str.{bytes_eq}
 use Rattle.vb_value.specs.declared.values.Value.{Value}
 use Rattle.viper_state.specs.State.{Memo}
 use Rattle.viper_state.specs.Choice.{Choice, Branch, Took, Amount, Fresh, Filled}
-use Rattle.run_file.specs.Lines.{Scope, Line, Var, Heap, Holds, Chosen, Opened}
+use Rattle.run_file.specs.Lines.{UnitScope, ViperLine, Var, Heap, Holds, Chosen, Opened}
 use Rattle.run_file.specs.Reading.{line_of}
 use Rattle.run_file.specs.Front.{Front}
 use Rattle.run_file.specs.Run.{ViperRun, scope_memo, empty_opening, memo_with}
-use Rattle.run_words.specs.Machine.{FileKind, Machine, among, machine_of}
+use Rattle.run_file_words.specs.Machine.{FileKind, Machine, among, machine_of}
 use Rattle.run_file.specs.NamedOrder.{named_cmp}
-use Rattle.run_file.specs.declared.lines.Named.{Named}
-use Rattle.run_file.specs.declared.lines.Named.TheVariants as named
-use Rattle.run_file.specs.declared.reader.Stage.{Stage}
-use Rattle.run_file.specs.declared.reader.Stage.TheVariants as stage
+use Rattle.run_file.specs.declared.lines.LineTarget.{LineTarget}
+use Rattle.run_file.specs.declared.lines.LineTarget.TheVariants as named
+use Rattle.run_file.specs.declared.reader.ViperStage.{ViperStage}
+use Rattle.run_file.specs.declared.reader.ViperStage.TheVariants as stage
 
 -- ---- the lines so far
 
 -- how far a file is read: what stands open, the names that its lines have named, and the run so far, or the front of it. Where a
 -- heap and contents are filled, they are the last of the choices.
 pub record Progress (R : Type 0) : Type 0 where
-  pub stage : Stage
-  pub named : List Named
+  pub stage : ViperStage
+  pub named : List LineTarget
   pub run : R
 
 -- what lines make of a run, or of a front of one
 pub record Changes (R : Type 0) : Type 0 where
   -- nothing is read yet
-  pub begun : Scope → R
+  pub begun : UnitScope → R
   -- a variable has a value in the opening
   pub set : ℕ → Value → R → R
   -- a line of a heap and contents
-  pub place : Stage → Line → R → R
+  pub place : ViperStage → ViperLine → R → R
   -- a choice more
   pub choose : Choice → R → R
 
 -- ---- runs
 
 -- a choice of a heap and contents with what a line gives
-abbrev pub choice_with : Line → Choice → Choice
+abbrev pub choice_with : ViperLine → Choice → Choice
 choice_with l (Filled m) = Filled (memo_with m l)
 choice_with l (Branch b) = Branch b
 choice_with l (Took v) = Took v
@@ -47,20 +47,20 @@ choice_with l (Amount q) = Amount q
 choice_with l (Fresh r) = Fresh r
 
 -- the last choice with what a line gives
-abbrev pub last_with : Line → List Choice → List Choice
+abbrev pub last_with : ViperLine → List Choice → List Choice
 last_with l [] = []
 last_with l (c ∷ []) = choice_with l c ∷ []
 last_with l (c ∷ d ∷ cs) = c ∷ last_with l (d ∷ cs)
 
 -- what a line of a heap and contents gives, where these are filled
-abbrev pub run_with : Stage → Line → ViperRun → ViperRun
+abbrev pub run_with : ViperStage → ViperLine → ViperRun → ViperRun
 run_with stage.Header l run = run
 run_with stage.Opening l run = record run { opening = record { store = run.opening.store; memo = memo_with run.opening.memo l } }
 run_with stage.Filling l run = record run { choices = last_with l run.choices }
 run_with stage.Choosing l run = run
 
 -- the run with the heap and contents that are filled: the opening's, or those of the last choice
-abbrev pub with_filled : Stage → Memo → ViperRun → ViperRun
+abbrev pub with_filled : ViperStage → Memo → ViperRun → ViperRun
 with_filled stage.Header m run = record run { opening = record { store = run.opening.store; memo = m } }
 with_filled stage.Opening m run = record run { opening = record { store = run.opening.store; memo = m } }
 with_filled stage.Filling m run = record run { choices = run.choices ++ Filled m ∷ [] }
@@ -73,7 +73,7 @@ run_set n v run = record run { opening = record { store = slice_set run.opening.
 abbrev pub run_chosen : Choice → ViperRun → ViperRun
 run_chosen c run = record { opening = run.opening; choices = run.choices ++ c ∷ [] }
 
-abbrev pub begun_run : Scope → ViperRun
+abbrev pub begun_run : UnitScope → ViperRun
 begun_run s = record { opening = empty_opening s; choices = [] }
 
 -- the changes of whole runs
@@ -83,14 +83,14 @@ whole = record { begun = begun_run; set = run_set; place = run_with; choose = ru
 -- ---- fronts
 
 -- the stage as the front sees it: the heaps and contents behind it are not filled
-abbrev pub stage_within : ℕ → Stage → Stage
+abbrev pub stage_within : ℕ → ViperStage → ViperStage
 stage_within more stage.Header = stage.Header
 stage_within more stage.Opening = stage.Opening
 stage_within zero stage.Filling = stage.Filling
 stage_within (suc more) stage.Filling = stage.Choosing
 stage_within more stage.Choosing = stage.Choosing
 
-abbrev pub front_with : Stage → Line → Front → Front
+abbrev pub front_with : ViperStage → ViperLine → Front → Front
 front_with g l front = record { run = run_with (stage_within front.more g) l front.run; more = front.more }
 
 -- the next choice is within the front of so many
@@ -113,36 +113,36 @@ fronts many = record {
 
 -- ---- lines
 
-abbrev pub has_named : List Named → Named → Bool
+abbrev pub has_named : List LineTarget → LineTarget → Bool
 has_named names n = among named_cmp names n
 
 -- the run changes so, where the name is new
-abbrev pub once : {R : Type 0} → Progress R → Named → R → Option (Progress R)
+abbrev pub once : {R : Type 0} → Progress R → LineTarget → R → Option (Progress R)
 once st n run = if has_named st.named n then None else Some (record { stage = st.stage; named = insert_key named_cmp st.named n; run = run })
 
 -- a variable's line may stand in the opening, and a line of a heap and contents where these are filled
-abbrev pub may_set : Stage → Bool
+abbrev pub may_set : ViperStage → Bool
 may_set stage.Opening = true
 may_set _ = false
 
-abbrev pub may_place : Stage → Bool
+abbrev pub may_place : ViperStage → Bool
 may_place stage.Opening = true
 may_place stage.Filling = true
 may_place _ = false
 
-abbrev pub begun : {R : Type 0} → Changes R → Scope → Progress R
+abbrev pub begun : {R : Type 0} → Changes R → UnitScope → Progress R
 begun k s = record { stage = stage.Header; named = []; run = k.begun s }
 
-abbrev pub chosen : {R : Type 0} → Changes R → Stage → Progress R → Choice → Progress R
+abbrev pub chosen : {R : Type 0} → Changes R → ViperStage → Progress R → Choice → Progress R
 chosen k next st c = record { stage = next; named = []; run = k.choose c st.run }
 
 abbrev pub variable_set : {R : Type 0} → Changes R → Progress R → ℕ → Value → Option (Progress R)
 variable_set k st n v = if may_set st.stage then once st (named.Variable n) (k.set n v st.run) else None
 
-abbrev pub place_set : {R : Type 0} → Changes R → Progress R → Line → Named → Option (Progress R)
+abbrev pub place_set : {R : Type 0} → Changes R → Progress R → ViperLine → LineTarget → Option (Progress R)
 place_set k st l n = if may_place st.stage then once st n (k.place st.stage l st.run) else None
 
-abbrev pub followed : {R : Type 0} → Changes R → Scope → Progress R → Line → Option (Progress R)
+abbrev pub followed : {R : Type 0} → Changes R → UnitScope → Progress R → ViperLine → Option (Progress R)
 followed k s st (Var n v) = variable_set k st n v
 followed k s st (Heap f r v) = place_set k st (Heap f r v) (named.Place f r)
 followed k s st (Holds q i c) = place_set k st (Holds q i c) (named.Instance q i)
@@ -156,12 +156,12 @@ is_header _ = false
 abbrev pub header_read : {R : Type 0} → Progress R → List (List ℕ) → Option (Progress R)
 header_read st words = if is_header words then Some (record { stage = stage.Opening; named = st.named; run = st.run }) else None
 
-abbrev pub is_headed : Stage → Bool
+abbrev pub is_headed : ViperStage → Bool
 is_headed stage.Header = false
 is_headed _ = true
 
 -- how the run files of a unit with this scope are read, where lines change this of a run
-abbrev pub file_kind : {R : Type 0} → Changes R → Scope → FileKind (Progress R) Line R
+abbrev pub file_kind : {R : Type 0} → Changes R → UnitScope → FileKind (Progress R) ViperLine R
 file_kind k s = record {
   begun = begun k s;
   is_headed = λ st. is_headed st.stage;
@@ -172,13 +172,13 @@ file_kind k s = record {
 }
 
 -- the reader of such files
-abbrev pub reader_of : {R : Type 0} → Changes R → Scope → Machine (Progress R) R
+abbrev pub reader_of : {R : Type 0} → Changes R → UnitScope → Machine (Progress R) R
 reader_of k s = machine_of (file_kind k s)
 
 -- the reader of whole runs
-abbrev pub reader : Scope → Machine (Progress ViperRun) ViperRun
+abbrev pub reader : UnitScope → Machine (Progress ViperRun) ViperRun
 reader = reader_of whole
 
 -- the reader of fronts with so many choices
-abbrev pub front_reader : ℕ → Scope → Machine (Progress Front) Front
+abbrev pub front_reader : ℕ → UnitScope → Machine (Progress Front) Front
 front_reader many = reader_of (fronts many)

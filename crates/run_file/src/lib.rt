@@ -16,8 +16,8 @@ mod runs;
 pub use moves::moves;
 pub use printer::print_viper_run;
 pub use reader::{read_viper_front, read_viper_run};
-pub use run_boogie::{
+pub use run_file_boogie::{
     boogie_laws, boogie_run_name, print_boogie_run, print_moved_run, read_boogie_run,
 };
-pub use run_words::RunFileFault;
+pub use run_file_words::RunFileFault;
 pub use runs::{ViperFront, ViperRun};

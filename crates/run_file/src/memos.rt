@@ -10,7 +10,7 @@ ghost use Rattle.run_file.specs.FillingView.{filling_of};
 ghost use Rattle.run_file.specs.LineView.{line_view};
 ghost use Rattle.run_file.specs.Run as r;
 
-use crate::lines::Line;
+use crate::lines::ViperLine;
 use sparse::{Builder, Sparse};
 use std::alloc::Global;
 use vb_base::Memory;
@@ -54,12 +54,14 @@ impl Filling {
     }
 
     /// Puts what a line gives into the heap and contents.
-    pub(crate) fn fill(&mut self, line: Line) -> Result<(), Memory>
+    pub(crate) fn fill(&mut self, line: ViperLine) -> Result<(), Memory>
         ensures { OnOk result (filling_of self.new ≡ r.memo_with (filling_of self.old) (line_view line)) }
     {
         match line {
-            Line::Heap(field, reference, value) => self.set_value(field, reference, value),
-            Line::Content(predicate, key, content) => self.set_content(predicate, key, content),
+            ViperLine::Heap(field, reference, value) => self.set_value(field, reference, value),
+            ViperLine::Content(predicate, key, content) => self.set_content(
+                predicate, key, content,
+            ),
             _ => Ok(()),
         }
     }

@@ -4,7 +4,7 @@ ghost use Rattle.sparse.specs.Map.{values};
 ghost use Rattle.vb_value.specs.View.{content_of};
 ghost use Rattle.viper_state.specs.View.{choice_of, contents_of, memo_of};
 ghost use Rattle.moves.specs.Printable.{IsNamed, IsNamedContent, IsNamedKey, IsNamedValue};
-ghost use Rattle.run_words.specs.Named.{AreNamed};
+ghost use Rattle.run_file_words.specs.Named.{AreNamed};
 ghost use Rattle.run_file.specs.Printable.{NamesChoice, NamesMemo};
 ghost use Rattle.run_file.specs.View.{run_of};
 

@@ -1,12 +1,12 @@
 // What lines have named.
 ghost use Rattle.std.specs.Prelude.{◌≡◌, [], IfOk, OnOk, get_or, map, not};
 ghost use Rattle.std.specs.BTreeSet.{insert_key};
-ghost use Rattle.run_words.specs.Machine.{among};
+ghost use Rattle.run_file_words.specs.Machine.{among};
 ghost use Rattle.run_file.specs.NamedOrder.{named_cmp};
 ghost use Rattle.run_file.specs.NamedView.{named_of, keys_of, with_key};
 
-use crate::lines::Named;
-use rising::Rising;
+use crate::lines::LineTarget;
+use sorted_set::Rising;
 use std::alloc::Global;
 use vb_base::Memory;
 use vb_value::Key;
@@ -35,14 +35,19 @@ impl NamedSets {
     }
 
     /// Adds a name, and tells whether it is new.
-    pub(crate) fn insert(&mut self, alloc: Global, named: Named) -> Result<bool, Memory>
+    pub(crate) fn insert(&mut self, alloc: Global, named: LineTarget) -> Result<bool, Memory>
         ensures added { IfOk result (λ added. added ≡ not (among named_cmp (named_of self.old) named)) }
         ensures names { OnOk result (named_of self.new ≡ insert_key named_cmp (named_of self.old) named) }
     {
         match named {
-            Named::Variable(number) => Ok(self.variables.insert(number)?),
-            Named::Place(field, reference) => insert_at(alloc, &mut self.places, field, reference),
-            Named::Instance(predicate, key) => insert_at(
+            LineTarget::Variable(number) => Ok(self.variables.insert(number)?),
+            LineTarget::Place(field, reference) => insert_at(
+                alloc,
+                &mut self.places,
+                field,
+                reference,
+            ),
+            LineTarget::Instance(predicate, key) => insert_at(
                 alloc,
                 &mut self.instances,
                 predicate,

@@ -7,7 +7,7 @@ ghost use Rattle.viper_core.specs.View.{method_of, predicate_of, program_of};
 ghost use Rattle.run_file.specs.Lines as l;
 ghost use Rattle.run_file.specs.LineView.{lent_names};
 
-use run_words::Names;
+use run_file_words::RunFileNames;
 use std::alloc::Global;
 use symbol_table::{Digest, NameKey, SymbolTable};
 use vb_base::{Ident, Memory};
@@ -16,18 +16,21 @@ use viper_core::{Method, Predicate, Program, Unit};
 
 /// What the lines of a file for one unit may name: the variables that an opening sets, the fields and the predicates.
 #[derive(Clone, Copy)]
-pub(crate) struct Scope<'a> {
-    pub(crate) variables: &'a Names,
+pub(crate) struct UnitScope<'a> {
+    pub(crate) variables: &'a RunFileNames,
     /// The types of the variables.
     pub(crate) types: &'a [Ty],
-    pub(crate) fields: &'a Names,
-    pub(crate) predicates: &'a Names,
+    pub(crate) fields: &'a RunFileNames,
+    pub(crate) predicates: &'a RunFileNames,
     /// The types of the fields, and of the arguments of each predicate.
     pub(crate) layout: &'a Layout,
 }
 
 /// The names of the predicates in order.
-pub(crate) fn predicate_names(alloc: Global, predicates: &[Predicate]) -> Result<Names, Memory>
+pub(crate) fn predicate_names(
+    alloc: Global,
+    predicates: &[Predicate],
+) -> Result<RunFileNames, Memory>
     requires { NamesDiffer (map (λ (d : p.Predicate). d.name) (map predicate_of predicates.now)) }
     ensures { IfOk result (λ x. x ≡ map (λ (d : p.Predicate). d.name) (map predicate_of predicates.now)) }
 {
@@ -35,7 +38,7 @@ pub(crate) fn predicate_names(alloc: Global, predicates: &[Predicate]) -> Result
     for predicate in predicates {
         known.add(predicate.name.copy()?)?;
     }
-    Ok(Names::of_table(known))
+    Ok(RunFileNames::of_table(known))
 }
 
 /// A key that comes of the names of all these.

@@ -10,23 +10,23 @@ ghost use Rattle.run_file.specs.FillingView.{filling_of};
 ghost use Rattle.run_file.specs.Lines as l;
 ghost use Rattle.run_file.specs.Run.{ViperRun as Plain, SpellsViperRun, GoesWrongAt, scope_memo};
 ghost use Rattle.run_file.specs.LineView.{line_view, scope_view};
-ghost use Rattle.run_words.specs.Machine.{IsReadBy, StopsBy, Steps};
+ghost use Rattle.run_file_words.specs.Machine.{IsReadBy, StopsBy, Steps};
 ghost use Rattle.run_file.specs.Progress as progress;
-ghost use Rattle.run_words.specs.Answers.{UnlessMemory};
+ghost use Rattle.run_file_words.specs.Answers.{UnlessMemory};
 ghost use Rattle.run_file.specs.NamedView.{named_of};
-ghost use Rattle.run_words.specs.Text.{lines_of, words_of};
+ghost use Rattle.run_file_words.specs.Text.{lines_of, words_of};
 ghost use Rattle.run_file.specs.Front.{Front, SpellsFront, front_of};
 ghost use Rattle.run_file.specs.View.{front_view, progress_of, run_of};
-ghost use Rattle.run_words.specs.Answers.{Gives, GivesPlace};
-ghost use Rattle.run_file.specs.declared.reader.Stage.TheVariants as stage;
-ghost use Rattle.run_words.specs.declared.faults.RunFileFault.TheVariants as fault;
+ghost use Rattle.run_file_words.specs.Answers.{Gives, GivesPlace};
+ghost use Rattle.run_file.specs.declared.reader.ViperStage.TheVariants as stage;
+ghost use Rattle.run_file_words.specs.declared.faults.RunFileFault.TheVariants as fault;
 
-use crate::lines::{KEYWORDS, Line, Named, keyed_line};
+use crate::lines::{KEYWORDS, LineTarget, ViperLine, keyed_line};
 use crate::memos::{Filling, defaults};
 use crate::named_sets::NamedSets;
-use crate::names::{Scope, predicate_names, variables_of};
+use crate::names::{UnitScope, predicate_names, variables_of};
 use crate::runs::{ViperFront, ViperRun};
-use run_words::{LineReader, Names, RunFileFault, first_word, next_word, read_lines};
+use run_file_words::{LineReader, RunFileFault, RunFileNames, first_word, next_word, read_lines};
 use std::alloc::Global;
 use std::mem;
 use vb_base::Memory;
@@ -91,10 +91,10 @@ pub fn read_viper_front(
     ensures only_place { (at : Pos) → GoesWrongAt bytes.now (program_of program.now) unit at → GivesPlace at result }
 {
     let (names, types) = variables_of(program, unit);
-    let variables = Names::of(alloc, names)?;
-    let fields = Names::of(alloc, &program.fields)?;
+    let variables = RunFileNames::of(alloc, names)?;
+    let fields = RunFileNames::of(alloc, &program.fields)?;
     let predicates = predicate_names(alloc, &program.predicates)?;
-    let scope = Scope {
+    let scope = UnitScope {
         variables: &variables,
         types,
         fields: &fields,
@@ -106,7 +106,7 @@ pub fn read_viper_front(
 
 /// What may stand next in a file.
 #[derive(Clone, Copy)]
-enum Stage {
+enum ViperStage {
     Header,
     Opening,
     /// A heap and contents are filled, which are the next choice. Behind the front their lines fill nothing.
@@ -116,8 +116,8 @@ enum Stage {
 
 /// How far a file is read.
 #[derive(Drop)]
-struct Reader {
-    stage: Stage,
+struct ViperReader {
+    stage: ViperStage,
     /// What the lines that fill the same heap and contents have named.
     named: NamedSets,
     /// The heap and contents that are filled.
@@ -126,9 +126,9 @@ struct Reader {
     front: ViperFront,
 }
 
-impl Reader {
+impl ViperReader {
     /// Nothing is read yet.
-    fn new(alloc: Global, scope: Scope) -> Result<Reader, Memory>
+    fn new(alloc: Global, scope: UnitScope) -> Result<ViperReader, Memory>
         ensures { (many : ℕ) → IfOk result (λ x. progress_of x ≡ progress.begun (progress.fronts many) (scope_view scope.entry)) }
     {
         let filling = Filling::of(alloc, scope.layout)?;
@@ -137,8 +137,8 @@ impl Reader {
             heap: Vec::new(alloc),
             content: Vec::new(alloc),
         };
-        Ok(Reader {
-            stage: Stage::Header,
+        Ok(ViperReader {
+            stage: ViperStage::Header,
             named: NamedSets::nothing(alloc),
             filling,
             front: ViperFront {
@@ -158,7 +158,7 @@ impl Reader {
     {
         let header = is_header(text);
         if header {
-            self.stage = Stage::Opening;
+            self.stage = ViperStage::Opening;
         }
         header
     }
@@ -167,24 +167,24 @@ impl Reader {
     fn follow(
         &mut self,
         alloc: Global,
-        scope: Scope,
+        scope: UnitScope,
         many: usize,
-        line: Line,
+        line: ViperLine,
     ) -> Result<bool, Memory>
         ensures { IfOk result (λ ok. Steps ok (progress.followed (progress.fronts many) (scope_view scope.entry) (progress_of self.old) (line_view line)) (progress_of self.new)) }
     {
         match line {
-            Line::Var(number, value) => self.set_variable(alloc, number, value),
-            Line::Heap(field, reference, value) => {
-                let named = Named::Place(field, reference);
-                self.set_place(alloc, named, Line::Heap(field, reference, value))
+            ViperLine::Var(number, value) => self.set_variable(alloc, number, value),
+            ViperLine::Heap(field, reference, value) => {
+                let named = LineTarget::Place(field, reference);
+                self.set_place(alloc, named, ViperLine::Heap(field, reference, value))
             }
-            Line::Content(predicate, key, content) => {
-                let named = Named::Instance(predicate, key.clone()?);
-                self.set_place(alloc, named, Line::Content(predicate, key, content))
+            ViperLine::Content(predicate, key, content) => {
+                let named = LineTarget::Instance(predicate, key.clone()?);
+                self.set_place(alloc, named, ViperLine::Content(predicate, key, content))
             }
-            Line::Chosen(choice) => self.choose(alloc, many, choice),
-            Line::State => self.open_state(alloc, scope, many),
+            ViperLine::Chosen(choice) => self.choose(alloc, many, choice),
+            ViperLine::State => self.open_state(alloc, scope, many),
         }
     }
 
@@ -192,7 +192,7 @@ impl Reader {
     fn set_variable(&mut self, alloc: Global, number: usize, value: Value) -> Result<bool, Memory>
         ensures { (many : ℕ) → IfOk result (λ ok. Steps ok (progress.variable_set (progress.fronts many) (progress_of self.old) number value) (progress_of self.new)) }
     {
-        if !may_set(self.stage) || !self.named.insert(alloc, Named::Variable(number))? {
+        if !may_set(self.stage) || !self.named.insert(alloc, LineTarget::Variable(number))? {
             return Ok(false);
         }
         if let Some(slot) = self.front.run.opening.store.get_mut(number) {
@@ -202,7 +202,12 @@ impl Reader {
     }
 
     /// Puts a value or content where a heap and contents are filled, once for each place and instance.
-    fn set_place(&mut self, alloc: Global, named: Named, line: Line) -> Result<bool, Memory>
+    fn set_place(
+        &mut self,
+        alloc: Global,
+        named: LineTarget,
+        line: ViperLine,
+    ) -> Result<bool, Memory>
         ensures { (many : ℕ) → IfOk result (λ ok. Steps ok (progress.place_set (progress.fronts many) (progress_of self.old) (line_view line) named) (progress_of self.new)) }
     {
         if !may_place(self.stage) || !self.named.insert(alloc, named)? {
@@ -213,7 +218,7 @@ impl Reader {
     }
 
     /// Puts a value or content into the heap and contents that are filled, where those are within the front.
-    fn fill(&mut self, line: Line) -> Result<(), Memory>
+    fn fill(&mut self, line: ViperLine) -> Result<(), Memory>
         ensures { OnOk result (progress_of self.new ≡ record { stage = self.old.stage; named = named_of self.old.named; run = progress.front_with self.old.stage (line_view line) (progress_of self.old).run }) }
     {
         if !may_place(stage_within(self.front.more, self.stage)) {
@@ -228,17 +233,17 @@ impl Reader {
         ensures { IfOk result (λ ok. Steps ok (Some (progress.chosen (progress.fronts many) stage.Choosing (progress_of self.old) (choice_of choice))) (progress_of self.new)) }
     {
         self.close(alloc)?;
-        self.stage = Stage::Choosing;
+        self.stage = ViperStage::Choosing;
         add_choice(&mut self.front, many, choice)?;
         Ok(true)
     }
 
     /// Begins to fill a heap and contents, which are a choice.
-    fn open_state(&mut self, alloc: Global, scope: Scope, many: usize) -> Result<bool, Memory>
+    fn open_state(&mut self, alloc: Global, scope: UnitScope, many: usize) -> Result<bool, Memory>
         ensures { IfOk result (λ ok. Steps ok (Some (progress.chosen (progress.fronts many) stage.Filling (progress_of self.old) (Filled (scope_memo (scope_view scope.entry))))) (progress_of self.new)) }
     {
         self.close(alloc)?;
-        self.stage = Stage::Filling;
+        self.stage = ViperStage::Filling;
         if self.front.has_room(many) {
             self.filling = Filling::of(alloc, scope.layout)?;
             return Ok(true);
@@ -254,7 +259,7 @@ impl Reader {
     {
         self.named.clear();
         let stage = stage_within(self.front.more, self.stage);
-        if let Stage::Choosing = stage {
+        if let ViperStage::Choosing = stage {
             return Ok(());
         }
         let filled = mem::replace(&mut self.filling, Filling::none(alloc));
@@ -289,47 +294,47 @@ fn add_choice(front: &mut ViperFront, many: usize, choice: Choice) -> Result<(),
 fn put_filled(
     alloc: Global,
     run: &mut ViperRun,
-    stage: Stage,
+    stage: ViperStage,
     filling: Filling,
 ) -> Result<(), Memory>
     ensures { OnOk result (run_of run.new ≡ progress.with_filled stage (filling_of filling) (run_of run.old)) }
 {
     match stage {
-        Stage::Header | Stage::Opening => run.opening.memo = filling.finish(alloc)?,
-        Stage::Filling => run.choices.push(Choice::Memo(filling.finish(alloc)?))?,
-        Stage::Choosing => {}
+        ViperStage::Header | ViperStage::Opening => run.opening.memo = filling.finish(alloc)?,
+        ViperStage::Filling => run.choices.push(Choice::Memo(filling.finish(alloc)?))?,
+        ViperStage::Choosing => {}
     }
     Ok(())
 }
 
 /// The stage as the front sees it, behind which there are so many choices.
-fn stage_within(more: usize, stage: Stage) -> Stage
+fn stage_within(more: usize, stage: ViperStage) -> ViperStage
     ensures { result ≡ progress.stage_within more stage }
 {
     match stage {
-        Stage::Header => Stage::Header,
-        Stage::Opening => Stage::Opening,
-        Stage::Filling if more == 0 => Stage::Filling,
-        Stage::Filling | Stage::Choosing => Stage::Choosing,
+        ViperStage::Header => ViperStage::Header,
+        ViperStage::Opening => ViperStage::Opening,
+        ViperStage::Filling if more == 0 => ViperStage::Filling,
+        ViperStage::Filling | ViperStage::Choosing => ViperStage::Choosing,
     }
 }
 
 /// Whether a variable's line may stand.
-fn may_set(stage: Stage) -> bool
+fn may_set(stage: ViperStage) -> bool
     ensures { result ≡ progress.may_set stage }
 {
     match stage {
-        Stage::Opening => true,
+        ViperStage::Opening => true,
         _ => false,
     }
 }
 
 /// Whether a line of a heap and contents may stand.
-fn may_place(stage: Stage) -> bool
+fn may_place(stage: ViperStage) -> bool
     ensures { result ≡ progress.may_place stage }
 {
     match stage {
-        Stage::Opening | Stage::Filling => true,
+        ViperStage::Opening | ViperStage::Filling => true,
         _ => false,
     }
 }
@@ -349,20 +354,20 @@ fn is_header(line: &[u8]) -> bool
 
 /// A reader, what the lines of its file may name, and how many choices it builds.
 #[derive(Drop)]
-struct Scoped<'a> {
-    reader: Reader,
-    scope: Scope<'a>,
+struct ViperScoped<'a> {
+    reader: ViperReader,
+    scope: UnitScope<'a>,
     many: usize,
 }
 
-impl LineReader for Scoped<'_> {
+impl LineReader for ViperScoped<'_> {
     type Run = ViperFront;
 
-    type ReadLine = Line;
+    type ReadLine = ViperLine;
 
     ghost State = { progress.Progress Front };
 
-    ghost Said = { l.Line };
+    ghost Said = { l.ViperLine };
 
     ghost Plain = { Front };
 
@@ -375,21 +380,21 @@ impl LineReader for Scoped<'_> {
     ghost plain = { front_view };
 
     fn is_headed(&self) -> bool {
-        !matches!(self.reader.stage, Stage::Header)
+        !matches!(self.reader.stage, ViperStage::Header)
     }
 
     fn read_header(&mut self, words: &[u8]) -> bool {
         self.reader.read_header(words)
     }
 
-    fn line_of(&self, alloc: Global, words: &[u8]) -> Result<Option<Line>, Memory> {
+    fn line_of(&self, alloc: Global, words: &[u8]) -> Result<Option<ViperLine>, Memory> {
         match first_word(&KEYWORDS, words) {
             Some((keyword, rest)) => keyed_line(alloc, self.scope, keyword, rest),
             None => Ok(None),
         }
     }
 
-    fn follow(&mut self, alloc: Global, line: Line) -> Result<bool, Memory> {
+    fn follow(&mut self, alloc: Global, line: ViperLine) -> Result<bool, Memory> {
         self.reader.follow(alloc, self.scope, self.many, line)
     }
 
@@ -401,7 +406,7 @@ impl LineReader for Scoped<'_> {
 /// The front, with so many choices, of the run that the lines of a text are, or where it goes wrong.
 fn read_front(
     alloc: Global,
-    scope: Scope,
+    scope: UnitScope,
     many: usize,
     bytes: &[u8],
 ) -> Result<ViperFront, RunFileFault>
@@ -409,8 +414,8 @@ fn read_front(
     ensures { MatchResult result (λ x. IsReadBy (progress.front_reader many (scope_view scope.entry)) (lines_of bytes.now) (front_view x))
         (UnlessMemory (StopsBy (progress.front_reader many (scope_view scope.entry)) (lines_of bytes.now))) }
 {
-    let reader = Reader::new(alloc, scope)?;
-    let scoped = Scoped {
+    let reader = ViperReader::new(alloc, scope)?;
+    let scoped = ViperScoped {
         reader,
         scope,
         many,

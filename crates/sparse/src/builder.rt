@@ -22,7 +22,7 @@ use std::rc::Rc;
 pub struct Builder<K: Ord + Clone, V: Eq + Clone> {
     alloc: Global,
     zero: V,
-    filled: Filled<K, V>,
+    filled: FilledEntries<K, V>,
 }
 
 impl<K: Ord + Clone, V: Eq + Clone> Model for Builder<K, V> {
@@ -49,7 +49,7 @@ impl<K: Ord + Clone, V: Eq + Clone> Builder<K, V> {
         Builder {
             alloc,
             zero,
-            filled: Filled::Listed(Vec::new(alloc)),
+            filled: FilledEntries::Listed(Vec::new(alloc)),
         }
     }
 
@@ -94,7 +94,7 @@ impl<K: Ord + Clone, V: Eq + Clone> Builder<K, V> {
 
 /// The entries of a map that is being filled.
 #[derive(Debug, Drop)]
-enum Filled<K, V> {
+enum FilledEntries<K, V> {
     /// As they came, while their keys ascended.
     Listed(Vec<Rc<(K, V)>>),
     /// In a tree, since a key came that did not ascend.
@@ -112,7 +112,7 @@ fn is_above<K: Ord + Drop, V: Drop>(key: &K, list: &[Rc<(K, V)>]) -> bool
     }
 }
 
-impl<K: Ord + Drop, V: Eq + Drop> Filled<K, V> {
+impl<K: Ord + Drop, V: Eq + Drop> FilledEntries<K, V> {
     ghost use Rattle.sparse.specs.Filled.{entries_of, IsSound};
 
     /// The tree of the entries.
@@ -122,8 +122,8 @@ impl<K: Ord + Drop, V: Eq + Drop> Filled<K, V> {
         ensures balanced { IfOk result (λ t. IsBalanced (plain_of t)) }
     {
         match self {
-            Filled::Listed(list) => Tree::by_halves(alloc, list),
-            Filled::Settled(tree) => tree.share(),
+            FilledEntries::Listed(list) => Tree::by_halves(alloc, list),
+            FilledEntries::Settled(tree) => tree.share(),
         }
     }
 
@@ -132,8 +132,8 @@ impl<K: Ord + Drop, V: Eq + Drop> Filled<K, V> {
         ensures { IfOk result (λ list. shared list.items ≡ entries_of self) }
     {
         match self {
-            Filled::Listed(list) => Ok(list),
-            Filled::Settled(tree) => {
+            FilledEntries::Listed(list) => Ok(list),
+            FilledEntries::Settled(tree) => {
                 let mut list = Vec::new(alloc);
                 tree.list_shared(&mut list)?;
                 Ok(list)
@@ -151,13 +151,13 @@ impl<K: Ord + Drop, V: Eq + Drop> Filled<K, V> {
         ensures refused { OnErr result (entries_of self.new ≡ entries_of self.old) }
         ensures sound { IsSound self.new }
     {
-        if let Filled::Listed(list) = self {
+        if let FilledEntries::Listed(list) = self {
             if is_above(&key, list) {
                 return append(list, alloc, zero, key, value);
             }
         }
         let tree = self.tree(alloc)?;
-        *self = Filled::Settled(tree.changed(alloc, zero, key, value)?);
+        *self = FilledEntries::Settled(tree.changed(alloc, zero, key, value)?);
         Ok(())
     }
 }

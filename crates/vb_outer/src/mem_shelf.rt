@@ -20,7 +20,7 @@ pub struct MemFile {
 
 /// A place in a file: the file's index, and how many of its bytes lie before.
 #[derive(Clone, Copy)]
-struct Place {
+struct FilePlace {
     file: usize,
     at: usize,
 }
@@ -29,7 +29,7 @@ struct Place {
 #[derive(Drop)]
 pub struct MemShelf {
     files: Vec<MemFile>,
-    begun: Option<Place>,
+    begun: Option<FilePlace>,
     most: usize,
     schedule: Schedule,
 }
@@ -95,7 +95,7 @@ fn find_file(files: &[MemFile], name: &[u8]) -> Option<usize>
 }
 
 /// The bytes from a place on.
-fn rest(files: &[MemFile], place: Option<Place>) -> &[u8]
+fn rest(files: &[MemFile], place: Option<FilePlace>) -> &[u8]
     ensures { result.now ≡ rest_at files.now place }
 {
     let Some(place) = place else { return &[] };
@@ -139,7 +139,7 @@ impl Shelf for MemShelf {
         if fails {
             return Err(self.schedule.fault());
         }
-        self.begun = Some(Place { file, at: 0 });
+        self.begun = Some(FilePlace { file, at: 0 });
         Ok(())
     }
 

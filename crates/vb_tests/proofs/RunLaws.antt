@@ -10,14 +10,14 @@ use Rattle.viper_core.specs.declared.programs.Method.{Method}
 use Rattle.viper_core.specs.declared.programs.Program.{Program}
 use Rattle.viper_core.specs.declared.programs.Unit.{Unit as Part}
 use Rattle.viper_core.specs.declared.programs.Unit.TheVariants as part
-use Rattle.exec_meaning.specs.Execution.{CanExecute}
+use Rattle.viper_exec_meaning.specs.Execution.{CanExecute}
 use Rattle.boogie_tree.specs.Whole.{proc_of, program_of}
 use Rattle.boogie_tree.specs.declared.programs.BProgram.{BProgram}
 use Rattle.boogie_tree.specs.declared.programs.Proc.{Proc}
 use Rattle.boogie_grammar.specs.Grammar.{local_names}
 use Rattle.boogie_print.specs.Printable.{FitsProc, IsPrintable}
 use Rattle.run_file.specs.Run.{ViperRun, SpellsViperRun}
-use Rattle.run_fits.proofs.MethodLaws as methods
+use Rattle.run_file_laws.proofs.MethodLaws as methods
 
 pub first_differs : (b : BProgram) → IsPrintable (program_of b) → (r : Option (Bor Proc)) → option_copied r ≡ slice_get b.procs.items 0 → IfSome r (λ d. NamesDiffer (local_names (proc_of d.now).locals))
 first_differs b h None is = tt

@@ -11,12 +11,12 @@ use boogie_tree::{BBase, BExpr, BOp, BStmt};
 use enc_assert::{consume_code, forget_code, produce_code};
 use enc_expr::{Emit, Kinds, Maps, OwnKinds, Place, Reading, checked, content_of, plain};
 use enc_fold::{fold_code, unfold_code};
+use row_columns::{first_other, other_than, three};
 use std::alloc::Global;
 use std::test::Fail;
-use test_rows::{first_other, other_than, three};
-use test_viper::files::{first_stmt, program};
 use vb_base::Pos;
 use viper_core::{Assertion, Expr, Program, Stmt};
+use viper_fixtures::files::{first_stmt, program};
 
 /// What stands before the statement.
 const START: &str =

@@ -1,8 +1,8 @@
 // What is told of the code of a procedure, behind whose locals it was written.
+use boogie_fixtures::procedures;
 use enc_expr::Emit;
 use std::alloc::Global;
 use std::test::Fail;
-use test_boogie::procedures;
 
 /// Nothing is written yet behind the locals of this procedure.
 pub fn nothing(alloc: Global, text: &str) -> Result<Emit, Fail> {

@@ -4,14 +4,14 @@ ghost use Rattle.viper_core.specs.Formed.{IsFormed};
 ghost use Rattle.viper_core.specs.View.{program_of};
 
 use crate::rows::none_other;
+use row_columns::{bytes_of, first_other, four, other_than, small};
 use run_file::{ViperRun, read_viper_run};
 use std::alloc::Global;
 use std::test::Fail;
-use test_rows::{bytes_of, first_other, four, other_than, small};
-use test_viper::files::checked;
-use test_viper::scenes::is_changed;
 use viper_core::{Program, Unit};
 use viper_exec::{ExecEnd, Executed, exec_method};
+use viper_fixtures::files::checked;
+use viper_fixtures::scenes::is_changed;
 
 /// A loop whose turns each call a method that adds to a place, and to a return.
 const FILE: &str = "\

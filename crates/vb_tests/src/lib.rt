@@ -1,4 +1,4 @@
-//! Tests of public calls that join Viper and Boogie, for what no clause and no row of `vb_rows` says: the code that is written, typed,
+//! Tests of public calls that join Viper and Boogie, for what no clause and no row of `row_tests` says: the code that is written, typed,
 //! printed and read back, run files of both, and how runs and executions end. A table is one string, a row a line.
 #![tactic(auto)]
 

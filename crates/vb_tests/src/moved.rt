@@ -5,16 +5,16 @@ ghost use Rattle.viper_core.specs.Formed.{IsFormed};
 ghost use Rattle.viper_core.specs.View.{program_of};
 
 use crate::rows::none_other;
+use boogie_fixtures::procedures::boogie_program;
 use boogie_tree::BRun;
+use row_columns::{bytes_of, first_other, other_lines, two};
 use run_file::{ViperRun, moves, print_boogie_run, read_viper_run};
 use sparse::Sparse;
 use std::alloc::Global;
 use std::test::Fail;
-use test_boogie::procedures::boogie_program;
-use test_rows::{bytes_of, first_other, other_lines, two};
-use test_viper::files::checked;
 use vb_value::{Content, Key};
 use viper_core::Program;
+use viper_fixtures::files::checked;
 use viper_state::{Choice, Event, copy_memo};
 
 /// A predicate without parameters, and one with two.

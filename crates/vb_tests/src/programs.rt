@@ -2,17 +2,17 @@
 ghost use Rattle.viper_core.specs.Formed.{IsFormed};
 ghost use Rattle.viper_core.specs.View.{program_of};
 
+use boogie_fixtures::procedures::{boogie_program, head_text};
 use boogie_run::check_types;
 use boogie_text::print;
 use boogie_tree::{PRELUDE, Proc};
 use enc_stmt::{Written, encode_to, unit_locals};
+use row_columns::shown;
 use std::alloc::Global;
 use std::test::Fail;
-use test_boogie::procedures::{boogie_program, head_text};
-use test_rows::shown;
-use test_viper::files::checked;
 use vb_outer::MemSink;
 use viper_core::Program;
+use viper_fixtures::files::checked;
 
 /// Programs with statements of all forms, an empty line between each two.
 pub(crate) const PROGRAMS: &str = "\

@@ -9,14 +9,14 @@ ghost use Rattle.boogie_grammar.specs.Grammar.{local_names};
 ghost use Rattle.boogie_print.specs.Printable.{IsPrintable};
 
 use crate::rows::none_other;
+use boogie_fixtures::procedures::boogie_program;
 use boogie_tree::{BProgram, Proc};
+use row_columns::{bytes_of, first_other, other_lines, small, three, two};
 use run_file::{print_boogie_run, print_viper_run, read_boogie_run, read_viper_run};
 use std::alloc::Global;
 use std::test::Fail;
-use test_boogie::procedures::boogie_program;
-use test_rows::{bytes_of, first_other, other_lines, small, three, two};
-use test_viper::files::checked;
 use viper_core::Program;
+use viper_fixtures::files::checked;
 
 /// A method over a number, and its runs.
 const NUMBER: (&str, &str) = (

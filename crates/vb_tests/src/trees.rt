@@ -7,9 +7,9 @@ use boogie_text::print;
 use enc_stmt::{encode, encode_to};
 use std::alloc::Global;
 use std::test::Fail;
-use test_viper::files::checked;
 use vb_outer::MemSink;
 use viper_core::Program;
+use viper_fixtures::files::checked;
 
 /// Whether what is sent of a program is what is printed of its tree.
 fn is_sent(alloc: Global, program: &Program) -> Result<bool, Fail>

@@ -29,12 +29,12 @@ use Rattle.boogie_print.proofs.SpelledLaws.{spelled_printable}
 use Rattle.boogie_run.specs.Start.{start_of}
 use Rattle.moves.specs.Moves.{moves}
 use Rattle.moves.specs.Printable.{IsPrintableChoice}
-use Rattle.run_boogie.specs.BoogieLines.{known}
-use Rattle.run_boogie.specs.BoogiePrintable.{KeepsNames, IsPrintableSetting}
-use Rattle.run_boogie.specs.BoogiePrinted.{given_text, given, choices_text, run_text}
-use Rattle.run_boogie.specs.BoogieRun.{SpellsBoogieRun}
-use Rattle.run_words.specs.Printed.{named_text, numbered_text}
-use Rattle.run_boogie.proofs.BoogiePrintedRuns.{run_spelled}
+use Rattle.run_file_boogie.specs.BoogieLines.{known}
+use Rattle.run_file_boogie.specs.BoogiePrintable.{KeepsNames, IsPrintableSetting}
+use Rattle.run_file_boogie.specs.BoogiePrinted.{given_text, given, choices_text, run_text}
+use Rattle.run_file_boogie.specs.BoogieRun.{SpellsBoogieRun}
+use Rattle.run_file_words.specs.Printed.{named_text, numbered_text}
+use Rattle.run_file_boogie.proofs.BoogiePrintedRuns.{run_spelled}
 use Rattle.enc_expr.specs.Front.{front_values}
 use Rattle.enc_locals.specs.Procedure.{front_locals, front_procedure}
 use Rattle.enc_units.specs.Translates.{IsProcedureOf, Translates}
@@ -44,7 +44,7 @@ use Rattle.enc_locals.specs.Opened.{settings_from, start_settings}
 use Rattle.vb_tool.specs.Procedures.{ProcedureRun}
 use Rattle.vb_tool.specs.Transfer.{FailsAgain}
 use Rattle.vb_tool.specs.Moved.{moved_run, moved_text}
-use Rattle.run_fits.proofs.BoogieRunLaws.{settings_are}
+use Rattle.run_file_laws.proofs.BoogieRunLaws.{settings_are}
 
 -- ---- settings of the first variables
 

@@ -14,13 +14,13 @@ use Rattle.boogie_grammar.specs.Spells.{BSpells}
 use Rattle.boogie_tree.specs.Program.{Proc, BProgram}
 use Rattle.enc_units.specs.Translates.{text_of}
 use Rattle.viper_core.specs.Program as p
-use Rattle.boogie_wide.specs.Wide.{WProgram}
+use Rattle.boogie_loops.specs.Wide.{WProgram}
 use Rattle.viper_core.specs.declared.programs.Unit.{Unit}
 use Rattle.vb_tool.proofs.BoogieVerdicts.{one_replay_refusal, replay_not_refused, one_procedure_run}
-use Rattle.tool_words.specs.Ends.{as_expected, fault}
-use Rattle.tool_words.specs.Kind as kind
-use Rattle.tool_words.proofs.EndLaws.{from_causes}
-use Rattle.tool_words.proofs.FileLaws.{same_file, not_missing}
+use Rattle.tool_common.specs.Ends.{as_expected, fault}
+use Rattle.tool_common.specs.Kind as kind
+use Rattle.tool_common.proofs.EndLaws.{from_causes}
+use Rattle.tool_common.proofs.FileLaws.{same_file, not_missing}
 use Rattle.vb_tool.proofs.CallLaws.{does_end}
 use Rattle.vb_tool.specs.Status.{kind_of}
 use Rattle.vb_tool.proofs.ConditionVerdicts.{one_condition_refusal, condition_not_refused, one_condition}

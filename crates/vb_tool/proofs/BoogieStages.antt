@@ -10,17 +10,17 @@ use Rattle.boogie_tree.specs.declared.programs.Proc.{Proc}
 use Rattle.boogie_meaning.specs.Programs.{types_of}
 use Rattle.boogie_run.specs.Start.{start_of, outcome_of}
 use Rattle.boogie_run.specs.declared.replaying.BOutcome.{BOutcome}
-use Rattle.run_boogie.specs.BoogieRun.{NamesNothingAt, SpellsName, SpellsBoogieRun, GoesWrongAt}
-use Rattle.run_parts.specs.Alone.{Replays}
-use Rattle.run_words.specs.Answers as run_words
-use Rattle.run_words.specs.declared.faults.RunFileFault.{RunFileFault}
-use Rattle.run_words.specs.declared.faults.RunFileFault.TheVariants as run
+use Rattle.run_file_boogie.specs.BoogieRun.{NamesNothingAt, SpellsName, SpellsBoogieRun, GoesWrongAt}
+use Rattle.tool_procedure.specs.Alone.{Replays}
+use Rattle.run_file_words.specs.Answers as run_file_words
+use Rattle.run_file_words.specs.declared.faults.RunFileFault.{RunFileFault}
+use Rattle.run_file_words.specs.declared.faults.RunFileFault.TheVariants as run
 use Rattle.vb_tool.specs.AcceptedReplay.{NamesProcedure, IsBoogieRefusal, header, no_procedure, run_syntax, IsReplayRefusal, of_text, of_run, of_boogie}
 use Rattle.vb_tool.specs.Converted.{trouble_of_run, trouble_of_boogie_file}
 use Rattle.boogie_file.specs.Accepted.{IsBoogie, procedure_named, IsTextRefusal}
-use Rattle.boogie_file.specs.declared.refusal.Refusal as why
-use Rattle.boogie_file.specs.declared.trouble.Trouble.{Trouble}
-use Rattle.boogie_file.specs.declared.trouble.Trouble.TheVariants as boogie
+use Rattle.boogie_file.specs.declared.refusal.BoogieRefusal as why
+use Rattle.boogie_file.specs.declared.trouble.BoogieTrouble.{BoogieTrouble}
+use Rattle.boogie_file.specs.declared.trouble.BoogieTrouble.TheVariants as boogie
 use Rattle.boogie_file.proofs.StageLaws.{named_there}
 use Rattle.vb_tool.specs.BoogieRefusals.{refusal_of_boogie}
 use Rattle.vb_tool.specs.Parts.{ReplayOf}
@@ -33,13 +33,13 @@ use Rattle.vb_tool.specs.declared.trouble.Trouble.TheVariants as trouble
 
 -- ---- the program
 
-pub file_refused : (bytes : List ℕ) (t : Trouble) (r : Refusal) → ((q : why.Refusal) → t ≡ boogie.Refused q → IsTextRefusal bytes q) → trouble_of_boogie_file t ≡ trouble.Refused r →
+pub file_refused : (bytes : List ℕ) (t : BoogieTrouble) (r : Refusal) → ((q : why.BoogieRefusal) → t ≡ boogie.Refused q → IsTextRefusal bytes q) → trouble_of_boogie_file t ≡ trouble.Refused r →
     IsBoogieRefusal bytes r
 file_refused bytes boogie.Memory r refuses is_r = absurd cc
 file_refused bytes boogie.Read r refuses is_r = absurd cc
 file_refused bytes (boogie.Refused q) r refuses is_r = let same : refusal_of_boogie q ≡ r = cc in subst (IsBoogieRefusal bytes) same (of_boogie (refuses q refl))
 
-pub never_unread : (t : Trouble) → (t ≡ boogie.Read → ⊥) → trouble_of_boogie_file t ≡ trouble.Read → ⊥
+pub never_unread : (t : BoogieTrouble) → (t ≡ boogie.Read → ⊥) → trouble_of_boogie_file t ≡ trouble.Read → ⊥
 never_unread boogie.Memory never is = absurd cc
 never_unread boogie.Read never is = never refl
 never_unread (boogie.Refused q) never is = absurd cc
@@ -57,14 +57,14 @@ module _ {bytes run_bytes : List ℕ} (small : length bytes ≤ max_boogie_bytes
   text_refused is = of_text small few is
 
 module _ (bytes run_bytes : List ℕ) (q : BProgram) (is : IsBoogie bytes q) (few : length run_bytes ≤ max_boogie_bytes) where
-  pub header_refused : (f : RunFileFault) (r : Refusal) → run_words.UnlessMemory (NamesNothingAt run_bytes) f → trouble_of_run f ≡ trouble.Refused r → IsReplayRefusal bytes run_bytes r
+  pub header_refused : (f : RunFileFault) (r : Refusal) → run_file_words.UnlessMemory (NamesNothingAt run_bytes) f → trouble_of_run f ≡ trouble.Refused r → IsReplayRefusal bytes run_bytes r
   header_refused run.Memory r wrong is_r = absurd cc
   header_refused (run.Syntax at) r wrong is_r = let same : refusal.RunSyntax at ≡ r = cc in subst (IsReplayRefusal bytes run_bytes) same (of_run is few (header wrong))
 
   pub name_refused : (name : List ℕ) (r : Refusal) → SpellsName run_bytes name → procedure_named q name ≡ None → trouble.Refused refusal.NoProcedure ≡ trouble.Refused r → IsReplayRefusal bytes run_bytes r
   name_refused name r named none is_r = let same : refusal.NoProcedure ≡ r = cc in subst (IsReplayRefusal bytes run_bytes) same (of_run is few (no_procedure named none))
 
-  pub run_refused : (d : p.Proc) (f : RunFileFault) (r : Refusal) → NamesProcedure run_bytes q d → run_words.UnlessMemory (GoesWrongAt run_bytes d) f → trouble_of_run f ≡ trouble.Refused r →
+  pub run_refused : (d : p.Proc) (f : RunFileFault) (r : Refusal) → NamesProcedure run_bytes q d → run_file_words.UnlessMemory (GoesWrongAt run_bytes d) f → trouble_of_run f ≡ trouble.Refused r →
       IsReplayRefusal bytes run_bytes r
   run_refused d run.Memory r names wrong is_r = absurd cc
   run_refused d (run.Syntax at) r names wrong is_r = let same : refusal.RunSyntax at ≡ r = cc in subst (IsReplayRefusal bytes run_bytes) same (of_run is few (run_syntax names wrong))

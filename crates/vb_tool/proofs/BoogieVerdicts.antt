@@ -21,16 +21,16 @@ use Rattle.boogie_print.proofs.SpelledLaws.{spelled_printable}
 use Rattle.boogie_run.specs.Start.{start_of, outcome_of}
 use Rattle.boogie_run.specs.declared.replaying.BOutcome.{BOutcome}
 use Rattle.boogie_run.specs.declared.replaying.BOutcome.TheVariants as outcome
-use Rattle.run_boogie.specs.BoogieLines.{known}
-use Rattle.run_boogie.specs.BoogieRun.{SpellsName, NamesNothingAt, SpellsBoogieRun, GoesWrongAt}
-use Rattle.run_words.specs.Text.{lines_of}
-use Rattle.run_words.proofs.AnswerLaws as answers
-use Rattle.run_boogie.proofs.BoogieFileLaws.{is_reader}
-use Rattle.run_boogie.proofs.BoogieNameLaws.{one_name, never_wrong}
-use Rattle.run_boogie.proofs.HeaderLaws.{header_or_place, one_header_place}
-use Rattle.run_fits.proofs.BoogieRunLaws.{start_is, can_run}
+use Rattle.run_file_boogie.specs.BoogieLines.{known}
+use Rattle.run_file_boogie.specs.BoogieRun.{SpellsName, NamesNothingAt, SpellsBoogieRun, GoesWrongAt}
+use Rattle.run_file_words.specs.Text.{lines_of}
+use Rattle.run_file_words.proofs.AnswerLaws as answers
+use Rattle.run_file_boogie.proofs.BoogieFileLaws.{is_reader}
+use Rattle.run_file_boogie.proofs.BoogieNameLaws.{one_name, never_wrong}
+use Rattle.run_file_boogie.proofs.HeaderLaws.{header_or_place, one_header_place}
+use Rattle.run_file_laws.proofs.BoogieRunLaws.{start_is, can_run}
 use Rattle.boogie_file.specs.Accepted.{IsBoogie, procedure_named, IsTextRefusal}
-use Rattle.boogie_file.specs.declared.refusal.Refusal as why
+use Rattle.boogie_file.specs.declared.refusal.BoogieRefusal as why
 use Rattle.boogie_file.proofs.Verdicts.{one_boogie, one_text_refusal, boogie_text, boogie_answer, named_within}
 use Rattle.vb_tool.specs.BoogieRefusals.{refusal_of_boogie}
 use Rattle.vb_tool.specs.Accepted.{HasOneAnswer, is_accepted, is_refused}
@@ -167,7 +167,7 @@ module _ (bytes run : List ℕ) where
     of_header (inl (name, h)) = of_name name h (procedure_named q name) refl
     of_header (inr (at, wrong)) = refused_once (of_run a few (header wrong))
 
-  of_bytes : length bytes ≤ max_boogie_bytes → length run ≤ max_boogie_bytes → ((q : BProgram) × IsBoogie bytes q) ⊎ ((r : why.Refusal) × IsTextRefusal bytes r) → Answer
+  of_bytes : length bytes ≤ max_boogie_bytes → length run ≤ max_boogie_bytes → ((q : BProgram) × IsBoogie bytes q) ⊎ ((r : why.BoogieRefusal) × IsTextRefusal bytes r) → Answer
   of_bytes small few (inl (q, a)) = of_header q a few (header_or_place run few)
   of_bytes small few (inr (r, is)) = refused_once (of_text small few (of_boogie is))
 

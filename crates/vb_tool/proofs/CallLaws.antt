@@ -2,10 +2,10 @@
 use Rattle.std.proofs.Common.{◌≡◌, ◌⊎◌, inl, inr, ℕ, List, [], Option, Result, Ok, Err, IfOk, MatchResult, refl, sym, subst}
 use Rattle.vb_outer.specs.Faults.{Rose}
 use Rattle.vb_outer.specs.Shelf.{Files, IsWhole}
-use Rattle.tool_words.specs.Ends.{Stops}
-use Rattle.tool_words.specs.Kind as kind
-use Rattle.tool_words.specs.Written.{Reports}
-use Rattle.tool_words.proofs.EndLaws.{delivered_cause, delivered_out, delivered_err, reported_cause, reported_out, reported_err}
+use Rattle.tool_common.specs.Ends.{Stops}
+use Rattle.tool_common.specs.Kind as kind
+use Rattle.tool_common.specs.Written.{Reports}
+use Rattle.tool_common.proofs.EndLaws.{delivered_cause, delivered_out, delivered_err, reported_cause, reported_out, reported_err}
 use Rattle.boogie_run.specs.declared.replaying.BOutcome.{BOutcome}
 use Rattle.boogie_run.specs.declared.replaying.BOutcome.TheVariants as boogie
 use Rattle.vb_tool.specs.Call as call
@@ -30,7 +30,7 @@ use Rattle.viper_state.specs.State.{State}
 use Rattle.viper_state.specs.declared.runs.Outcome.{Outcome}
 use Rattle.viper_state.specs.declared.runs.Outcome.TheVariants as outcome
 use Rattle.viper_run.specs.Outcome.{outcome_of}
-use Rattle.exec_meaning.specs.Execution.{Went}
+use Rattle.viper_exec_meaning.specs.Execution.{Went}
 use Rattle.viper_exec.specs.Outcome.{end_of as end_of_step}
 use Rattle.viper_exec.specs.declared.executions.ExecEnd.{ExecEnd}
 use Rattle.viper_exec.specs.declared.executions.ExecEnd.TheVariants as ends

@@ -9,14 +9,14 @@ use Rattle.boogie_formula.specs.Follows.{Follows, IsExact}
 use Rattle.boogie_formula.specs.Formula.{Formula}
 use Rattle.boogie_formula.specs.Types.{IsTypedFormula}
 use Rattle.boogie_wp.specs.Build.{formula_for}
-use Rattle.formula_text.specs.Printed.{formula_text}
-use Rattle.formula_text.specs.Spells.{SpellsFormula}
+use Rattle.boogie_formula_text.specs.Printed.{formula_text}
+use Rattle.boogie_formula_text.specs.Spells.{SpellsFormula}
 use Rattle.boogie_file.specs.Accepted.{IsBoogie, procedure_named, IsRefusal}
-use Rattle.boogie_file.specs.declared.refusal.Refusal as why
-use Rattle.boogie_file.specs.declared.trouble.Trouble.{Trouble}
-use Rattle.boogie_file.specs.declared.trouble.Trouble.TheVariants as boogie
-use Rattle.run_parts.specs.Alone.{IsAlone}
-use Rattle.run_parts.proofs.KeptLaws.{alone_at}
+use Rattle.boogie_file.specs.declared.refusal.BoogieRefusal as why
+use Rattle.boogie_file.specs.declared.trouble.BoogieTrouble.{BoogieTrouble}
+use Rattle.boogie_file.specs.declared.trouble.BoogieTrouble.TheVariants as boogie
+use Rattle.tool_procedure.specs.Alone.{IsAlone}
+use Rattle.tool_procedure.proofs.KeptLaws.{alone_at}
 use Rattle.vb_tool.specs.BoogieRefusals.{refusal_of_boogie}
 use Rattle.vb_tool.specs.Converted.{trouble_of_boogie_file}
 use Rattle.vb_tool.specs.AcceptedCondition.{IsConditionRefusal, of_file}
@@ -26,7 +26,7 @@ use Rattle.vb_tool.specs.declared.status.Status.{Status}
 use Rattle.vb_tool.specs.declared.status.Status.TheVariants as status
 use Rattle.vb_tool.specs.declared.trouble.Trouble.TheVariants as trouble
 
-pub file_refused : (bytes name : List ℕ) (t : Trouble) (r : Refusal) → ((q : why.Refusal) → t ≡ boogie.Refused q → IsRefusal bytes name q) → trouble_of_boogie_file t ≡ trouble.Refused r →
+pub file_refused : (bytes name : List ℕ) (t : BoogieTrouble) (r : Refusal) → ((q : why.BoogieRefusal) → t ≡ boogie.Refused q → IsRefusal bytes name q) → trouble_of_boogie_file t ≡ trouble.Refused r →
     IsConditionRefusal bytes name r
 file_refused bytes name boogie.Memory r refuses is_r = absurd cc
 file_refused bytes name boogie.Read r refuses is_r = absurd cc

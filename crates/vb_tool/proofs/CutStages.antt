@@ -9,15 +9,15 @@ use Rattle.boogie_grammar.specs.declared.faults.BoogieFault.{BoogieFault}
 use Rattle.boogie_grammar.specs.declared.faults.BoogieFault.TheVariants as fault
 use Rattle.boogie_text.specs.Answers.{UnlessMemory}
 use Rattle.boogie_print.proofs.Parsed.{one_program}
-use Rattle.boogie_wide.specs.Wide.{WProgram}
-use Rattle.boogie_wide.specs.WideTypes.{IsFirstIllTypedWide}
+use Rattle.boogie_loops.specs.Wide.{WProgram}
+use Rattle.boogie_loops.specs.WideTypes.{IsFirstIllTypedWide}
 use Rattle.boogie_cut.specs.Cut.{cut_program}
 use Rattle.boogie_cut.proofs.FollowsLaws.{program_follows}
-use Rattle.cut_text.specs.Printable.{IsPrintableWide}
+use Rattle.boogie_cut_text.specs.Printable.{IsPrintableWide}
 use Rattle.boogie_cut.proofs.TypedLaws.{program_typed}
-use Rattle.wide_text.specs.Answers.{IsWideRead}
-use Rattle.wide_text.specs.Faults.{IsWideFault}
-use Rattle.wide_text.proofs.WideSpelledLaws.{wide_spelled}
+use Rattle.boogie_loops_text.specs.Answers.{IsWideRead}
+use Rattle.boogie_loops_text.specs.Faults.{IsWideFault}
+use Rattle.boogie_loops_text.proofs.WideSpelledLaws.{wide_spelled}
 use Rattle.vb_tool.specs.AcceptedCut.{AcceptsCut, IsWideRefusal, prelude, deep, syntax, ill_typed, IsCutRefusal, of_text}
 use Rattle.vb_tool.specs.Converted.{trouble_of_boogie}
 use Rattle.vb_tool.specs.Parts.{CutOf}

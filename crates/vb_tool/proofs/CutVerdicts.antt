@@ -5,14 +5,14 @@ use Rattle.vb_base.specs.Limits.{max_boogie_bytes}
 use Rattle.boogie_grammar.specs.declared.faults.BoogieFault.{BoogieFault}
 use Rattle.boogie_grammar.specs.declared.faults.BoogieFault.TheVariants as fault
 use Rattle.boogie_text.specs.Texts.{no_tokens}
-use Rattle.boogie_wide.specs.Wide.{WProgram}
-use Rattle.boogie_wide.specs.WideTypes.{IsWideProgram, IsFirstIllTypedWide, ill_typed_wide}
-use Rattle.boogie_wide.proofs.WideTypeLaws.{none_ill_typed, is_first_wide}
-use Rattle.wide_text.specs.Answers.{IsWideRead}
-use Rattle.wide_text.specs.Faults.{IsWideFault}
-use Rattle.wide_text.proofs.WideFaults.{one_fault, not_refused}
-use Rattle.wide_text.proofs.WideParsed.{one_program}
-use Rattle.wide_text.proofs.WideTextAnswers.{some_text_answer}
+use Rattle.boogie_loops.specs.Wide.{WProgram}
+use Rattle.boogie_loops.specs.WideTypes.{IsWideProgram, IsFirstIllTypedWide, ill_typed_wide}
+use Rattle.boogie_loops.proofs.WideTypeLaws.{none_ill_typed, is_first_wide}
+use Rattle.boogie_loops_text.specs.Answers.{IsWideRead}
+use Rattle.boogie_loops_text.specs.Faults.{IsWideFault}
+use Rattle.boogie_loops_text.proofs.WideFaults.{one_fault, not_refused}
+use Rattle.boogie_loops_text.proofs.WideParsed.{one_program}
+use Rattle.boogie_loops_text.proofs.WideTextAnswers.{some_text_answer}
 use Rattle.vb_tool.proofs.BoogieVerdicts.{for_fault}
 use Rattle.vb_tool.specs.Accepted.{HasOneAnswer, is_accepted, is_refused}
 use Rattle.vb_tool.specs.AcceptedCut.{AcceptsCut, IsWideRefusal, prelude, deep, syntax, ill_typed, IsCutRefusal, size, of_text}

@@ -3,14 +3,14 @@ use Rattle.std.proofs.Common.{◌≡◌, ◌∙◌, ◌≤◌, ℕ, List, length
 use Rattle.vb_base.specs.declared.places.Pos.{Pos}
 use Rattle.vb_base.specs.Limits.{max_viper_bytes}
 use Rattle.viper_core.specs.Program as p
-use Rattle.exec_words.specs.Unframed.{first_unframed}
+use Rattle.viper_exec_subset.specs.Unframed.{first_unframed}
 use Rattle.viper_exec.specs.Outcome.{end_of}
-use Rattle.run_words.specs.Answers.{UnlessMemory}
+use Rattle.run_file_words.specs.Answers.{UnlessMemory}
 use Rattle.run_file.specs.Run.{GoesWrongAt}
-use Rattle.run_words.specs.declared.faults.RunFileFault.{RunFileFault}
-use Rattle.run_words.specs.declared.faults.RunFileFault.TheVariants as fault
-use Rattle.run_fronts.specs.Ends.{EndsSo}
-use Rattle.run_fronts.specs.declared.executions.EndedExecution.{EndedExecution}
+use Rattle.run_file_words.specs.declared.faults.RunFileFault.{RunFileFault}
+use Rattle.run_file_words.specs.declared.faults.RunFileFault.TheVariants as fault
+use Rattle.run_from_file.specs.Ends.{EndsSo}
+use Rattle.run_from_file.specs.declared.executions.EndedExecution.{EndedExecution}
 use Rattle.viper_file.specs.Accepted.{IsAccepted}
 use Rattle.viper_file.specs.Framed.{IsFramed}
 use Rattle.vb_tool.specs.AcceptedExecution.{IsUnframedRefusal, unframed, AcceptsExecution, IsExecutionRefusal, unread, no_method, run_syntax}

@@ -7,9 +7,9 @@ use Rattle.lemmas.proofs.Lists.{item_there}
 use Rattle.viper_core.specs.Program as p
 use Rattle.viper_core.specs.declared.programs.Unit as unit
 use Rattle.viper_core.specs.declared.programs.Unit.TheVariants as u
-use Rattle.exec_meaning.specs.Execution.{CanExecute}
+use Rattle.viper_exec_meaning.specs.Execution.{CanExecute}
 use Rattle.run_file.specs.Run.{ViperRun, SpellsViperRun}
-use Rattle.run_fits.proofs.MethodLaws as methods
+use Rattle.run_file_laws.proofs.MethodLaws as methods
 use Rattle.vb_tool.specs.Executions.{body_named, has_body, is_with_body}
 use Rattle.vb_tool.specs.Units.{is_name, name_of}
 

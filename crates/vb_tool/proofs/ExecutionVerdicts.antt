@@ -7,9 +7,9 @@ use Rattle.viper_core.specs.Formed.{IsFormed}
 use Rattle.viper_core.specs.Program as p
 use Rattle.viper_core.specs.declared.programs.Unit.TheVariants as u
 use Rattle.viper_syntax.proofs.LexLaws.{one_lexed}
-use Rattle.exec_words.specs.Unframed.{first_unframed}
+use Rattle.viper_exec_subset.specs.Unframed.{first_unframed}
 use Rattle.run_file.specs.Run.{ViperRun, SpellsViperRun, GoesWrongAt}
-use Rattle.run_words.proofs.AnswerLaws as run_laws
+use Rattle.run_file_words.proofs.AnswerLaws as run_laws
 use Rattle.run_file.proofs.FileLaws.{is_reader}
 use Rattle.run_file.proofs.ScopeLaws.{names_apart}
 use Rattle.vb_tool.proofs.ExecutionUnits.{number_there}

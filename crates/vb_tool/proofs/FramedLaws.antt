@@ -8,8 +8,8 @@ use Rattle.boogie_grammar.specs.Spells.{BSpells}
 use Rattle.boogie_tree.specs.Program.{BProgram}
 use Rattle.enc_units.specs.Translates.{Translates, text_of}
 use Rattle.enc_units.proofs.ProgramLaws.{translates}
-use Rattle.exec_meaning.specs.Execution.{Went, Still, Spent, CanExecute, exec}
-use Rattle.exec_meaning.specs.Frame.{NoExecutionFails}
+use Rattle.viper_exec_meaning.specs.Execution.{Went, Still, Spent, CanExecute, exec}
+use Rattle.viper_exec_meaning.specs.Frame.{NoExecutionFails}
 use Rattle.run_file.proofs.SpelledLaws.{spelled_good}
 use Rattle.viper_core.specs.Program as p
 use Rattle.viper_core.specs.declared.programs.Unit.TheVariants as u

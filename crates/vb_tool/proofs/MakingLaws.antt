@@ -2,10 +2,10 @@
 use Rattle.std.proofs.Common.{◌≡◌, ◌≤◌, ◌<◌, ◌⊎◌, inl, inr, ℕ, List, length, sym, subst}
 use Rattle.std.proofs.lemmas.Bool.{cases_lt}
 use Rattle.vb_base.specs.Limits.{max_viper_bytes, max_weight, max_made_methods}
-use Rattle.vb_made.proofs.Weighed.{light as is_light}
+use Rattle.vb_gen_laws.proofs.Weighed.{light as is_light}
 use Rattle.vb_gen.specs.Generated.{program_text, IsOutOfRange}
-use Rattle.vb_made.specs.Made.{generated_weight, IsMade}
-use Rattle.vb_made.proofs.MadePrograms.{is_made}
+use Rattle.vb_gen_laws.specs.Made.{generated_weight, IsMade}
+use Rattle.vb_gen_laws.proofs.MadePrograms.{is_made}
 use Rattle.viper_core.specs.Program as p
 use Rattle.viper_core.specs.Weight.{weight}
 use Rattle.vb_tool.proofs.Verdicts.{accepted_text}

@@ -49,8 +49,8 @@ use Rattle.moves.specs.Moves.{heap_choice, moves}
 use Rattle.moves.specs.Printable.{IsNamedScalar, IsNamedEntry, IsNamedMove, IsWithinScalar, IsSpellable, IsSpellableKey, ArePrintableEntries, IsPrintableChoice}
 use Rattle.moves.specs.Scalars.{scalar}
 use Rattle.moves.proofs.MapLaws.{scalar_fits, heap_of_type}
-use Rattle.run_boogie.specs.BoogieLines.{known}
-use Rattle.run_boogie.specs.BoogiePrintable.{IsSpellableValue, IsPrintableSetting}
+use Rattle.run_file_boogie.specs.BoogieLines.{known}
+use Rattle.run_file_boogie.specs.BoogiePrintable.{IsSpellableValue, IsPrintableSetting}
 use Rattle.run_file.specs.Lines.{method_variables, predicate_variables, unit_variables}
 use Rattle.run_file.specs.Printable.{IsPrintable}
 use Rattle.run_file.proofs.SpelledLaws.{spelled_good}

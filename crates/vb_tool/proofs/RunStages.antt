@@ -10,11 +10,11 @@ use Rattle.viper_state.specs.View.{event_of}
 use Rattle.viper_state.specs.declared.runs.Outcome.TheVariants as outcome
 use Rattle.moves.specs.Moves.{moves}
 use Rattle.moves.specs.Printable.{IsNamedMove}
-use Rattle.run_words.specs.Answers.{UnlessMemory}
+use Rattle.run_file_words.specs.Answers.{UnlessMemory}
 use Rattle.enc_locals.specs.Opened.{start_settings, IsNamedSetting}
 use Rattle.run_file.specs.Run.{GoesWrongAt}
-use Rattle.run_words.specs.declared.faults.RunFileFault.{RunFileFault}
-use Rattle.run_words.specs.declared.faults.RunFileFault.TheVariants as fault
+use Rattle.run_file_words.specs.declared.faults.RunFileFault.{RunFileFault}
+use Rattle.run_file_words.specs.declared.faults.RunFileFault.TheVariants as fault
 use Rattle.viper_run.specs.Outcome.{outcome_of, Ends}
 use Rattle.viper_run.specs.declared.units.Run.{Run}
 use Rattle.viper_file.specs.Accepted.{IsAccepted}

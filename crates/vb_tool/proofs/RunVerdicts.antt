@@ -6,7 +6,7 @@ use Rattle.vb_base.specs.Limits.{max_viper_bytes}
 use Rattle.viper_core.specs.Formed.{IsFormed}
 use Rattle.viper_core.specs.Program as p
 use Rattle.run_file.specs.Run.{ViperRun, SpellsViperRun, GoesWrongAt}
-use Rattle.run_words.proofs.AnswerLaws as run_laws
+use Rattle.run_file_words.proofs.AnswerLaws as run_laws
 use Rattle.run_file.proofs.FileLaws.{is_reader}
 use Rattle.run_file.proofs.ScopeLaws.{names_apart}
 use Rattle.viper_file.proofs.Verdicts.{one_accepted, accepted_formed}

@@ -6,7 +6,7 @@ use Rattle.viper_core.specs.Formed.{IsFormed}
 use Rattle.viper_core.specs.Program.{Program}
 use Rattle.boogie_grammar.specs.Spells.{BSpells}
 use Rattle.boogie_tree.specs.Program.{BProgram}
-use Rattle.exec_meaning.specs.Frame.{NoUnitFails}
+use Rattle.viper_exec_meaning.specs.Frame.{NoUnitFails}
 use Rattle.enc_units.proofs.ProgramLaws.{translates}
 use Rattle.enc_units.specs.Translates.{Translates, text_of}
 use Rattle.viper_file.proofs.UnitLaws as units

@@ -7,7 +7,7 @@ use Rattle.vb_outer.specs.Shelf.{Files, IsFile, IsMissing, IsWhole, IsLonger}
 use Rattle.vb_outer.proofs.FaultLaws.{rose_earlier}
 use Rattle.vb_outer.specs.declared.fault.FileFault.{FileFault}
 use Rattle.vb_outer.specs.declared.fault.FileFault.TheVariants as unread
-use Rattle.tool_words.proofs.FileLaws.{error_is, long_bytes}
+use Rattle.tool_common.proofs.FileLaws.{error_is, long_bytes}
 use Rattle.vb_gen.specs.Generated.{IsOutOfRange}
 use Rattle.viper_core.specs.Formed.{IsFormed}
 use Rattle.viper_core.specs.View.{program_of}

@@ -2,7 +2,7 @@
 use Rattle.std.specs.Prelude.{ℕ, List}
 use Rattle.boogie_tree.specs.Program.{Proc}
 use Rattle.boogie_file.specs.Accepted.{Accepts, IsRefusal}
-use Rattle.boogie_file.specs.declared.refusal.Refusal as b
+use Rattle.boogie_file.specs.declared.refusal.BoogieRefusal as b
 use Rattle.vb_tool.specs.BoogieRefusals.{refusal_of_boogie}
 use Rattle.vb_tool.specs.declared.status.Refusal.{Refusal}
 
@@ -12,4 +12,4 @@ AcceptsCondition bytes name procedure = Accepts bytes name procedure
 
 -- `vc` refuses the bytes of its file and the name of its procedure as a file of Boogie is refused
 pub data IsConditionRefusal (bytes name : List ℕ) : Refusal → Type 0 where
-  of_file : {r : b.Refusal} → IsRefusal bytes name r → IsConditionRefusal bytes name (refusal_of_boogie r)
+  of_file : {r : b.BoogieRefusal} → IsRefusal bytes name r → IsConditionRefusal bytes name (refusal_of_boogie r)

@@ -3,10 +3,10 @@ use Rattle.std.specs.Prelude.{◌<◌, ◌≤◌, ℕ, List, length}
 use Rattle.vb_base.specs.Limits.{max_boogie_bytes}
 use Rattle.vb_base.specs.declared.places.Pos.{Pos}
 use Rattle.boogie_grammar.specs.declared.faults.BoogieFault.TheVariants as fault
-use Rattle.boogie_wide.specs.Wide.{WProgram}
-use Rattle.boogie_wide.specs.WideTypes.{IsWideProgram, IsFirstIllTypedWide}
-use Rattle.wide_text.specs.Answers.{IsWideRead}
-use Rattle.wide_text.specs.Faults.{IsWideFault}
+use Rattle.boogie_loops.specs.Wide.{WProgram}
+use Rattle.boogie_loops.specs.WideTypes.{IsWideProgram, IsFirstIllTypedWide}
+use Rattle.boogie_loops_text.specs.Answers.{IsWideRead}
+use Rattle.boogie_loops_text.specs.Faults.{IsWideFault}
 use Rattle.vb_tool.specs.declared.status.Refusal.{Refusal}
 use Rattle.vb_tool.specs.declared.status.Refusal.TheVariants.{Size, Prelude, Deep, BoogieSyntax, BoogieType}
 

@@ -5,7 +5,7 @@ use Rattle.vb_base.specs.Limits.{max_viper_bytes}
 use Rattle.vb_base.specs.declared.places.Pos.{Pos}
 use Rattle.viper_core.specs.Program as p
 use Rattle.viper_core.specs.declared.programs.Unit.TheVariants.{Method}
-use Rattle.exec_words.specs.Unframed.{first_unframed}
+use Rattle.viper_exec_subset.specs.Unframed.{first_unframed}
 use Rattle.run_file.specs.Run.{SpellsViperRun, GoesWrongAt}
 use Rattle.viper_file.specs.Accepted.{IsAccepted}
 use Rattle.vb_tool.specs.Accepted.{IsTextRefusal}

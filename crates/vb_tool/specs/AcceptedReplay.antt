@@ -8,9 +8,9 @@ use Rattle.boogie_tree.specs.Program.{Proc, BProgram}
 use Rattle.boogie_tree.specs.Value.{BRun}
 use Rattle.boogie_meaning.specs.Programs.{types_of}
 use Rattle.boogie_file.specs.Accepted.{IsBoogie, procedure_named, IsTextRefusal}
-use Rattle.boogie_file.specs.declared.refusal.Refusal as b
+use Rattle.boogie_file.specs.declared.refusal.BoogieRefusal as b
 use Rattle.boogie_run.specs.Start.{start_of}
-use Rattle.run_boogie.specs.BoogieRun.{SpellsName, NamesNothingAt, SpellsBoogieRun, GoesWrongAt}
+use Rattle.run_file_boogie.specs.BoogieRun.{SpellsName, NamesNothingAt, SpellsBoogieRun, GoesWrongAt}
 use Rattle.vb_tool.specs.Procedures.{ProcedureRun}
 use Rattle.vb_tool.specs.BoogieRefusals.{refusal_of_boogie}
 use Rattle.vb_tool.specs.declared.status.Refusal.{Refusal}
@@ -39,7 +39,7 @@ pub record AcceptsReplay (bytes run_bytes : List ℕ) (u : ProcedureRun) : Type 
 
 -- a text is refused as that of a file of Boogie is
 pub data IsBoogieRefusal (bytes : List ℕ) : Refusal → Type 0 where
-  of_boogie : {r : b.Refusal} → IsTextRefusal bytes r → IsBoogieRefusal bytes (refusal_of_boogie r)
+  of_boogie : {r : b.BoogieRefusal} → IsTextRefusal bytes r → IsBoogieRefusal bytes (refusal_of_boogie r)
 
 -- a run file is refused for its header, because the program has no procedure of that name, or for its other lines
 pub data IsBoogieRunRefusal (program : BProgram) (run_bytes : List ℕ) : Refusal → Type 0 where

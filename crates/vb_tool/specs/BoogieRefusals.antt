@@ -1,10 +1,10 @@
 -- The refusal of a file of Boogie, among those of a command.
-use Rattle.boogie_file.specs.declared.refusal.Refusal as b
-use Rattle.boogie_file.specs.declared.refusal.Refusal.TheVariants as boogie
+use Rattle.boogie_file.specs.declared.refusal.BoogieRefusal as b
+use Rattle.boogie_file.specs.declared.refusal.BoogieRefusal.TheVariants as boogie
 use Rattle.vb_tool.specs.declared.status.Refusal.{Refusal}
 use Rattle.vb_tool.specs.declared.status.Refusal.TheVariants.{Size, Prelude, Deep, BoogieSyntax, BoogieType, NoProcedure}
 
-abbrev pub refusal_of_boogie : b.Refusal → Refusal
+abbrev pub refusal_of_boogie : b.BoogieRefusal → Refusal
 refusal_of_boogie boogie.Size = Size
 refusal_of_boogie (boogie.Prelude at) = Prelude at
 refusal_of_boogie (boogie.Deep at) = Deep at

@@ -11,7 +11,7 @@ use Rattle.viper_core.specs.declared.programs.Unit.{Unit}
 use Rattle.boogie_run.specs.Start.{outcome_of}
 use Rattle.boogie_tree.specs.Program.{Proc}
 use Rattle.boogie_run.specs.declared.replaying.BOutcome.{BOutcome}
-use Rattle.boogie_wide.specs.Wide.{WProgram}
+use Rattle.boogie_loops.specs.Wide.{WProgram}
 use Rattle.enc_units.specs.Translates.{text_of}
 use Rattle.viper_file.specs.Accepted.{IsAccepted}
 use Rattle.vb_tool.specs.Accepted.{AcceptsRun, IsRefusal, IsRunRefusal}
@@ -28,8 +28,8 @@ use Rattle.vb_tool.specs.Framed.{IsFramedEnd}
 use Rattle.vb_tool.specs.Outcome.{run_status, run_text}
 use Rattle.vb_tool.specs.Procedures.{ProcedureRun, procedure_end}
 use Rattle.vb_tool.specs.ReplayOutcome.{replay_status, replay_text}
-use Rattle.tool_words.specs.Ends as ends
-use Rattle.tool_words.specs.Ends.{OutOf}
+use Rattle.tool_common.specs.Ends as ends
+use Rattle.tool_common.specs.Ends.{OutOf}
 use Rattle.vb_tool.specs.Status.{kind_of, line_of}
 use Rattle.vb_tool.specs.Summary.{made_text}
 use Rattle.vb_tool.specs.Transfer.{IsTransfer}

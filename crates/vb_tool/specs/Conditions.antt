@@ -8,8 +8,8 @@ use Rattle.boogie_formula.specs.Types.{IsTypedFormula}
 use Rattle.boogie_formula.specs.Value.{Valid}
 use Rattle.boogie_meaning.specs.Programs.{BoogieFails}
 use Rattle.boogie_wp.specs.Build.{formula_for}
-use Rattle.formula_text.specs.Printed.{formula_text}
-use Rattle.formula_text.specs.Spells.{SpellsFormula}
+use Rattle.boogie_formula_text.specs.Printed.{formula_text}
+use Rattle.boogie_formula_text.specs.Spells.{SpellsFormula}
 use Rattle.vb_tool.specs.AcceptedCondition.{AcceptsCondition}
 
 -- the text that is written of it

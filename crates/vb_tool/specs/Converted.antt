@@ -3,12 +3,12 @@ use Rattle.vb_outer.specs.declared.fault.FileFault.{FileFault}
 use Rattle.vb_outer.specs.declared.fault.FileFault.TheVariants as file
 use Rattle.boogie_grammar.specs.declared.faults.BoogieFault.{BoogieFault}
 use Rattle.boogie_grammar.specs.declared.faults.BoogieFault.TheVariants as boogie
-use Rattle.run_words.specs.declared.faults.RunFileFault.{RunFileFault}
-use Rattle.run_words.specs.declared.faults.RunFileFault.TheVariants as run
+use Rattle.run_file_words.specs.declared.faults.RunFileFault.{RunFileFault}
+use Rattle.run_file_words.specs.declared.faults.RunFileFault.TheVariants as run
 use Rattle.vb_gen.specs.declared.GenFault.{GenFault}
 use Rattle.vb_gen.specs.declared.GenFault.TheVariants as made
-use Rattle.boogie_file.specs.declared.trouble.Trouble as b
-use Rattle.boogie_file.specs.declared.trouble.Trouble.TheVariants as troubles
+use Rattle.boogie_file.specs.declared.trouble.BoogieTrouble as b
+use Rattle.boogie_file.specs.declared.trouble.BoogieTrouble.TheVariants as troubles
 use Rattle.viper_file.specs.declared.fault.ViperFault.{ViperFault}
 use Rattle.viper_file.specs.declared.fault.ViperFault.TheVariants as fault
 use Rattle.vb_tool.specs.BoogieRefusals.{refusal_of_boogie}
@@ -42,7 +42,7 @@ abbrev pub trouble_of_making : GenFault → Trouble
 trouble_of_making made.Memory = Memory
 trouble_of_making made.Range = Refused refusal.Range
 
-abbrev pub trouble_of_boogie_file : b.Trouble → Trouble
+abbrev pub trouble_of_boogie_file : b.BoogieTrouble → Trouble
 trouble_of_boogie_file troubles.Memory = Memory
 trouble_of_boogie_file troubles.Read = Read
 trouble_of_boogie_file (troubles.Refused r) = Refused (refusal_of_boogie r)

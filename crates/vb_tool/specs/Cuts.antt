@@ -4,7 +4,7 @@ use Rattle.boogie_tree.specs.Program.{BProgram}
 use Rattle.boogie_meaning.specs.Programs.{IsTypedProgram}
 use Rattle.boogie_grammar.specs.Printed.{program_text}
 use Rattle.boogie_grammar.specs.Spells.{BSpells}
-use Rattle.boogie_wide.specs.Wide.{WProgram}
+use Rattle.boogie_loops.specs.Wide.{WProgram}
 use Rattle.boogie_cut.specs.Cut.{cut_program}
 use Rattle.boogie_cut.specs.Follows.{AreCutOf}
 use Rattle.vb_tool.specs.AcceptedCut.{AcceptsCut}

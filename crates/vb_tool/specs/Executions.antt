@@ -7,7 +7,7 @@ use Rattle.viper_core.specs.declared.programs.Unit.{Unit}
 use Rattle.viper_core.specs.declared.programs.Unit.TheVariants.{Method, Predicate}
 use Rattle.viper_meaning.specs.Run.{Ran, ran, on}
 use Rattle.viper_state.specs.State.{State}
-use Rattle.exec_meaning.specs.Execution.{Went, execution}
+use Rattle.viper_exec_meaning.specs.Execution.{Went, execution}
 use Rattle.viper_exec.specs.Outcome.{end_of}
 use Rattle.viper_exec.specs.declared.executions.ExecEnd.{ExecEnd}
 use Rattle.viper_exec.specs.declared.executions.ExecEnd.TheVariants.{Done, Failed, Blocked, Short, Over, Spent}

@@ -6,7 +6,7 @@ use Rattle.viper_state.specs.Event.{Event}
 use Rattle.viper_state.specs.Run.{Opening}
 use Rattle.boogie_tree.specs.Value.{BRun}
 use Rattle.moves.specs.Moves.{moves}
-use Rattle.run_boogie.specs.BoogiePrinted.{run_text}
+use Rattle.run_file_boogie.specs.BoogiePrinted.{run_text}
 use Rattle.enc_locals.specs.Procedure.{front_procedure}
 use Rattle.enc_locals.specs.Opened.{start_settings}
 

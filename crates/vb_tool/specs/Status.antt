@@ -3,8 +3,8 @@ use Rattle.std.specs.Prelude.{◌++◌, ℕ, List, [], codes}
 use Rattle.std.specs.Fmt.{decimal}
 use Rattle.vb_base.specs.Labels.{place_text}
 use Rattle.viper_syntax.specs.declared.tokens.LexFault.TheVariants.{BadByte, OpenComment, BigLiteral, Braces, LongGroup, Unsupported, Memory}
-use Rattle.tool_words.specs.Kind as kind
-use Rattle.tool_words.specs.Kind.{Kind}
+use Rattle.tool_common.specs.Kind as kind
+use Rattle.tool_common.specs.Kind.{Kind}
 use Rattle.vb_tool.specs.declared.status.Refusal.{Refusal}
 use Rattle.vb_tool.specs.declared.status.Refusal.TheVariants.{Size, RunSize, Lex, Syntax, Rule, Weight, Unframed, NoUnit, Prelude, Deep, BoogieSyntax, BoogieType, NoProcedure, RunSyntax, Range}
 use Rattle.vb_tool.specs.declared.status.Status.{Status}

@@ -14,8 +14,8 @@ use Rattle.boogie_meaning.specs.Run.{Stops, Failed}
 use Rattle.boogie_run.specs.Start.{start_of}
 use Rattle.boogie_tree.specs.Program.{Proc}
 use Rattle.boogie_tree.specs.Value.{BRun}
-use Rattle.run_boogie.specs.BoogiePrinted.{run_text}
-use Rattle.run_boogie.specs.BoogieRun.{SpellsBoogieRun}
+use Rattle.run_file_boogie.specs.BoogiePrinted.{run_text}
+use Rattle.run_file_boogie.specs.BoogieRun.{SpellsBoogieRun}
 use Rattle.enc_units.specs.Translates.{Translates}
 use Rattle.vb_tool.specs.Accepted.{AcceptsRun}
 use Rattle.vb_tool.specs.AcceptedReplay.{AcceptsReplay}

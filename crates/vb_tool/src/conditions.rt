@@ -8,10 +8,10 @@ use crate::outcome::Ending;
 use crate::status::{Refusal, Status};
 use crate::trouble::Trouble;
 use boogie_file::accepted;
+use boogie_formula_text::print_formula;
 use boogie_wp::formula;
-use formula_text::print_formula;
-use run_parts::procedure_alone;
 use std::alloc::Global;
+use tool_procedure::procedure_alone;
 use vb_base::{Label, Memory};
 
 /// The formula of the procedure of this name, of the program of a file, and a label.

@@ -1,19 +1,19 @@
 // Programs of Boogie with loops and calls, and what is written for them.
 ghost use Rattle.std.specs.Prelude.{◌≡◌, ◌≤◌, length, IfOk, IsErrOf};
 ghost use Rattle.vb_base.specs.Limits.{max_boogie_bytes};
-ghost use Rattle.boogie_wide.specs.View.{wprogram_of};
+ghost use Rattle.boogie_loops.specs.View.{wprogram_of};
 ghost use Rattle.vb_tool.specs.AcceptedCut.{AcceptsCut, IsWideRefusal, IsCutRefusal};
 ghost use Rattle.vb_tool.specs.Parts.{CutOf};
 
 use crate::outcome::Ending;
 use crate::status::{Refusal, Status};
 use crate::trouble::Trouble;
+use boogie_cut_text::cut_with_text;
+use boogie_loops::WProgram;
+use boogie_loops_text::read_wide;
+use boogie_loops_types::first_ill_typed_wide;
 use boogie_text::print;
-use boogie_wide::WProgram;
-use boogie_wide_types::first_ill_typed_wide;
-use cut_text::cut_with_text;
 use std::alloc::Global;
-use wide_text::read_wide;
 
 /// The well-typed program of a file.
 fn wide_program(alloc: Global, bytes: &[u8]) -> Result<WProgram, Trouble>

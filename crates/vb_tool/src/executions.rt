@@ -11,7 +11,7 @@ use crate::stages::framed_program;
 use crate::status::{Refusal, Status};
 use crate::trouble::Trouble;
 use crate::units::body_named;
-use run_fronts::{Task, exec_on_file};
+use run_from_file::{ExecutionTask, exec_on_file};
 use std::alloc::{AllocError, Global};
 use std::fmt;
 use vb_base::Memory;
@@ -34,9 +34,9 @@ fn status_of(end: ExecEnd) -> Status
 
 /// The line of an end.
 #[derive(Clone, Copy)]
-struct EndLine(ExecEnd);
+struct ExecutionLine(ExecEnd);
 
-impl fmt::Display for EndLine {
+impl fmt::Display for ExecutionLine {
     ghost use Rattle.vb_tool.specs.Executions.{end_line};
 
     ghost output = { λ l. Some (end_line l.0) };
@@ -57,7 +57,7 @@ impl fmt::Display for EndLine {
 fn ended_text(alloc: Global, end: ExecEnd, unused: usize) -> Result<String, AllocError>
     ensures { IfOk result (λ text. string_bytes text ≡ ended_text end unused) }
 {
-    let line = EndLine(end);
+    let line = ExecutionLine(end);
     format!(in alloc; "{line}// unused {unused}\n")
 }
 
@@ -94,7 +94,7 @@ pub fn executed(
     let Unit::Method(method) = program.units[unit as usize] else {
         return Err(Trouble::Refused(Refusal::NoUnit));
     };
-    let task = Task {
+    let task = ExecutionTask {
         unit,
         method,
         budget,

@@ -41,9 +41,9 @@ fn status_of(outcome: Outcome) -> Status
 
 /// The line of an outcome.
 #[derive(Clone, Copy)]
-struct EndLine(Outcome);
+struct OutcomeLine(Outcome);
 
-impl fmt::Display for EndLine {
+impl fmt::Display for OutcomeLine {
     ghost use Rattle.vb_tool.specs.Outcome.{end_line};
 
     ghost output = { λ l. Some (end_line l.0) };
@@ -63,7 +63,7 @@ impl fmt::Display for EndLine {
 fn outcome_text(alloc: Global, outcome: Outcome, unused: usize) -> Result<String, AllocError>
     ensures { IfOk result (λ text. string_bytes text ≡ outcome_text outcome unused) }
 {
-    let line = EndLine(outcome);
+    let line = OutcomeLine(outcome);
     format!(in alloc; "{line}// unused {unused}\n")
 }
 

@@ -11,8 +11,8 @@ use crate::trouble::Trouble;
 use boogie_file::{boogie_program, procedure_named};
 use boogie_run::replay;
 use run_file::{boogie_run_name, read_boogie_run};
-use run_parts::replayed_alone;
 use std::alloc::Global;
+use tool_procedure::replayed_alone;
 
 /// The outcome of the procedure that a run file names, of the program of a file, on the run of the run file.
 ///

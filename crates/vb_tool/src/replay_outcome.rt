@@ -25,9 +25,9 @@ fn status_of(outcome: BOutcome) -> Status
 
 /// The line that tells how a run of a procedure ended.
 #[derive(Clone, Copy)]
-struct EndLine(BOutcome);
+struct ReplayLine(BOutcome);
 
-impl fmt::Display for EndLine {
+impl fmt::Display for ReplayLine {
     ghost use Rattle.vb_tool.specs.ReplayOutcome.{replay_text};
 
     ghost output = { λ l. Some (replay_text l.0) };
@@ -46,7 +46,7 @@ impl fmt::Display for EndLine {
 fn line_of(alloc: Global, outcome: BOutcome) -> Result<String, AllocError>
     ensures { IfOk result (λ text. string_bytes text ≡ replay_text outcome) }
 {
-    let line = EndLine(outcome);
+    let line = ReplayLine(outcome);
     format!(in alloc; "{line}")
 }
 

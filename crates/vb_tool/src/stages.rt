@@ -23,7 +23,7 @@ use crate::outcome::{Ending, told};
 use crate::status::Refusal;
 use crate::trouble::Trouble;
 use crate::units::unit_named;
-use run_fronts::run_on_file;
+use run_from_file::run_on_file;
 use std::alloc::Global;
 use vb_base::Memory;
 use viper_core::Program;

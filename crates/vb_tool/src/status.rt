@@ -5,7 +5,7 @@ ghost use Rattle.vb_tool.specs.Status.{line_of};
 
 use std::alloc::{AllocError, Global};
 use std::fmt;
-use tool_words::CallStatus;
+use tool_common::CallStatus;
 use vb_base::{Label, Pos};
 use viper_file::ViperRefusal;
 use viper_syntax::LexFault;
@@ -175,19 +175,19 @@ impl From<ViperRefusal> for Refusal {
     }
 }
 
-impl From<boogie_file::Refusal> for Refusal {
+impl From<boogie_file::BoogieRefusal> for Refusal {
     ghost use Rattle.vb_tool.specs.BoogieRefusals.{refusal_of_boogie};
 
     ghost from_gives = { λ refusal e. e ≡ refusal_of_boogie refusal };
 
-    fn from(refusal: boogie_file::Refusal) -> Refusal {
+    fn from(refusal: boogie_file::BoogieRefusal) -> Refusal {
         match refusal {
-            boogie_file::Refusal::Size => Refusal::Size,
-            boogie_file::Refusal::Prelude(at) => Refusal::Prelude(at),
-            boogie_file::Refusal::Deep(at) => Refusal::Deep(at),
-            boogie_file::Refusal::BoogieSyntax(at) => Refusal::BoogieSyntax(at),
-            boogie_file::Refusal::BoogieType(number) => Refusal::BoogieType(number),
-            boogie_file::Refusal::NoProcedure => Refusal::NoProcedure,
+            boogie_file::BoogieRefusal::Size => Refusal::Size,
+            boogie_file::BoogieRefusal::Prelude(at) => Refusal::Prelude(at),
+            boogie_file::BoogieRefusal::Deep(at) => Refusal::Deep(at),
+            boogie_file::BoogieRefusal::BoogieSyntax(at) => Refusal::BoogieSyntax(at),
+            boogie_file::BoogieRefusal::BoogieType(number) => Refusal::BoogieType(number),
+            boogie_file::BoogieRefusal::NoProcedure => Refusal::NoProcedure,
         }
     }
 }

@@ -66,14 +66,16 @@ impl From<GenFault> for Trouble {
     }
 }
 
-impl From<boogie_file::Trouble> for Trouble {
+impl From<boogie_file::BoogieTrouble> for Trouble {
     ghost from_gives = { λ trouble e. e ≡ trouble_of_boogie_file trouble };
 
-    fn from(trouble: boogie_file::Trouble) -> Trouble {
+    fn from(trouble: boogie_file::BoogieTrouble) -> Trouble {
         match trouble {
-            boogie_file::Trouble::Memory => Trouble::Memory,
-            boogie_file::Trouble::Read => Trouble::Read,
-            boogie_file::Trouble::Refused(refusal) => Trouble::Refused(Refusal::from(refusal)),
+            boogie_file::BoogieTrouble::Memory => Trouble::Memory,
+            boogie_file::BoogieTrouble::Read => Trouble::Read,
+            boogie_file::BoogieTrouble::Refused(refusal) => Trouble::Refused(Refusal::from(
+                refusal,
+            )),
         }
     }
 }

@@ -25,12 +25,12 @@ pub enum KeyPart {
 /// on, and a list is before its extensions.
 #[derive(Debug, Drop)]
 pub struct Key {
-    parts: Parts,
+    parts: KeyPartList,
 }
 
 /// Nearly all keys have one part, which stands in the key itself and takes no memory of its own.
 #[derive(Debug, Drop)]
-enum Parts {
+enum KeyPartList {
     One(KeyPart),
     Listed(Vec<KeyPart>),
 }
@@ -55,7 +55,7 @@ impl Key {
             return Key::of_one(parts[0]);
         }
         Key {
-            parts: Parts::Listed(parts),
+            parts: KeyPartList::Listed(parts),
         }
     }
 
@@ -64,7 +64,7 @@ impl Key {
         ensures { result ≡ part ∷ [] }
     {
         Key {
-            parts: Parts::One(part),
+            parts: KeyPartList::One(part),
         }
     }
 
@@ -73,8 +73,8 @@ impl Key {
         ensures { result.now ≡ self.now }
     {
         match &self.parts {
-            Parts::One(part) => slice::from_ref(part),
-            Parts::Listed(parts) => parts,
+            KeyPartList::One(part) => slice::from_ref(part),
+            KeyPartList::Listed(parts) => parts,
         }
     }
 }
@@ -84,9 +84,9 @@ impl Clone for Key {
 
     fn clone(&self) -> Result<Key, AllocError> {
         match &self.parts {
-            Parts::One(part) => Ok(Key::of_one(*part)),
-            Parts::Listed(parts) => Ok(Key {
-                parts: Parts::Listed(parts.clone()?),
+            KeyPartList::One(part) => Ok(Key::of_one(*part)),
+            KeyPartList::Listed(parts) => Ok(Key {
+                parts: KeyPartList::Listed(parts.clone()?),
             }),
         }
     }
@@ -127,7 +127,7 @@ impl Ord for Key {
 
     fn cmp(&self, other: &Key) -> Ordering {
         match (&self.parts, &other.parts) {
-            (Parts::One(part), Parts::One(other_part)) => part.cmp(other_part),
+            (KeyPartList::One(part), KeyPartList::One(other_part)) => part.cmp(other_part),
             _ => self.parts().cmp(other.parts()),
         }
     }

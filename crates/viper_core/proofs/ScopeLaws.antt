@@ -6,7 +6,7 @@ use Rattle.std.specs.List.{list_any}
 use Rattle.vb_value.specs.declared.values.Ty.{Ty}
 use Rattle.viper_core.specs.Stmt.{Stmt, Var, Assign, Write, New, Call, Inhale, Exhale, Assert, Fold, Unfold, If, While, loop, Stmts, skip, next}
 use Rattle.viper_core.specs.Scope.{Scope, declared, after_target, after_targets, after_block, scope_after, stmts_scope, assigns, some_assigns}
-use Rattle.viper_core.specs.Typing.{Frame, AreTargets, Receive, nothing, also, assigned, IsStmt, AreStmts}
+use Rattle.viper_core.specs.Typing.{MethodContext, AreTargets, Receive, nothing, also, assigned, IsStmt, AreStmts}
 use Rattle.viper_core.specs.Typing as s
 
 -- ---- numbers of variables are given once, in ascending order
@@ -88,13 +88,13 @@ pub either : {X : Type 0} (a b : Bool) → (IsTrue a → X) → (IsTrue b → X)
 either true b f g h = f refl
 either false b f g h = g h
 
-assigned_of : (m : Frame) (sc : Scope) (x : ℕ) {xs : List ℕ} {us : List Ty} → AreTargets m sc xs us → IsTrue (list_any (λ y. y == x) xs) → IsOldOrNew sc x
+assigned_of : (m : MethodContext) (sc : Scope) (x : ℕ) {xs : List ℕ} {us : List Ty} → AreTargets m sc xs us → IsTrue (list_any (λ y. y == x) xs) → IsOldOrNew sc x
 assigned_of m sc x nothing h = absurd (cc)
 assigned_of m sc x (also {x = y} {xs = ys} target rest) h =
     either (y == x) (list_any (λ z. z == x) ys)
     (λ is. inl (subst (Contains sc.visible) (eqb-true y x is) target.visible)) (assigned_of m sc x rest) h
 
-received : (m : Frame) (sc : Scope) (x : ℕ) {xs : List ℕ} {us : List Ty} → Receive m sc xs us → IsTrue (list_any (λ y. y == x) xs) → IsOldOrNew sc x
+received : (m : MethodContext) (sc : Scope) (x : ℕ) {xs : List ℕ} {us : List Ty} → Receive m sc xs us → IsTrue (list_any (λ y. y == x) xs) → IsOldOrNew sc x
 received m sc x (assigned targets differ) h = assigned_of m sc x targets h
 received m sc x (s.declared {x = y} is typed) h =
     either (y == x) false (λ same. inr (omega (arith, eqb-true y x same, is))) (λ wrong. absurd (cc)) h
@@ -108,7 +108,7 @@ outer sc inner le (inl seen) = inl seen
 outer sc inner le (inr new) = inr (omega (arith, le, new))
 
 mutual
-  pub assigned_old_or_new : {m : Frame} {sc : Scope} {s : Stmt} (x : ℕ) → IsStmt m sc s → IsTrue (assigns x s) → IsOldOrNew sc x
+  pub assigned_old_or_new : {m : MethodContext} {sc : Scope} {s : Stmt} (x : ℕ) → IsStmt m sc s → IsTrue (assigns x s) → IsOldOrNew sc x
   assigned_old_or_new x (s.assigns {x = y} target h) is = inl (subst (Contains _) (eqb-true y x is) target.visible)
   assigned_old_or_new {m} {sc} x (s.creates {x = y} into fields refs) is = received m sc x into (either_left (y == x) is)
   assigned_old_or_new {m} {sc} x (s.calls callee exists args into) is = received m sc x into is
@@ -125,7 +125,7 @@ mutual
   assigned_old_or_new x (s.folds h) wrong = absurd (cc)
   assigned_old_or_new x (s.unfolds h) wrong = absurd (cc)
 
-  pub some_old_or_new : {m : Frame} {sc : Scope} {ss : Stmts} (x : ℕ) → AreStmts m sc ss → IsTrue (some_assigns x ss) → IsOldOrNew sc x
+  pub some_old_or_new : {m : MethodContext} {sc : Scope} {ss : Stmts} (x : ℕ) → AreStmts m sc ss → IsTrue (some_assigns x ss) → IsOldOrNew sc x
   some_old_or_new x s.ends wrong = absurd (cc)
   some_old_or_new {m} {sc} x (s.goes_on {a = a} {rest = rest} first more) is =
       either (assigns x a) (some_assigns x rest) (assigned_old_or_new x first)

@@ -10,7 +10,7 @@ use Rattle.viper_core.specs.Expr.{Assertion}
 use Rattle.viper_core.specs.Program.{Program, Predicate, Method, Body}
 use Rattle.viper_core.specs.Scope.{Scope, stmts_scope}
 use Rattle.viper_core.specs.Depth.{assertion_depth, assertion_depths, stmts_depth, block_depth}
-use Rattle.viper_core.specs.Typing.{Context, InPredicate, InPrecondition, Elsewhere, Frame, IsAssertion, AreStmts}
+use Rattle.viper_core.specs.Typing.{Context, InPredicate, InPrecondition, Elsewhere, MethodContext, IsAssertion, AreStmts}
 use Rattle.viper_core.specs.Weight.{weight}
 
 -- the variables below a number
@@ -48,7 +48,7 @@ abbrev pub postcondition_context : Program → Method → Context
 postcondition_context p m = record { program = p; vars = m.vars; visible = below (m.params + m.returns); site = Elsewhere }
 
 -- so does the body, which declares the other variables
-abbrev pub method_frame : Program → Method → Frame
+abbrev pub method_frame : Program → Method → MethodContext
 method_frame p m = record { program = p; vars = m.vars; params = m.params }
 
 abbrev pub method_scope : Method → Scope

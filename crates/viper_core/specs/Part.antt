@@ -10,7 +10,7 @@ use Rattle.viper_core.specs.Formed.{predicate_context, IsFormed}
 use Rattle.viper_core.specs.Program.{Predicate}
 use Rattle.viper_core.specs.Scope.{Scope, scope_after, stmts_scope}
 use Rattle.viper_core.specs.Stmt as s
-use Rattle.viper_core.specs.Typing.{Site, allows_old, is_outside_predicates, Context, HasType, HaveTypes, Opens, IsAmount, IsAssertion, Frame, IsStmt, AreStmts}
+use Rattle.viper_core.specs.Typing.{Site, allows_old, is_outside_predicates, Context, HasType, HaveTypes, Opens, IsAmount, IsAssertion, MethodContext, IsStmt, AreStmts}
 
 -- ---- expressions and assertions
 
@@ -70,14 +70,14 @@ pub record FoldParts (c : Context) (f : s.FoldStmt) : Type 0 where
 -- ---- statements
 
 -- a scope in the body of a method of a formed program: what is visible was numbered, the parameters first
-pub record IsFrame (m : Frame) (sc : Scope) : Type 0 where
+pub record IsFrame (m : MethodContext) (sc : Scope) : Type 0 where
   pub program : IsFormed m.program
   pub params : m.params ≤ sc.fresh
   pub visible : (x : ℕ) → Contains sc.visible x → x < sc.fresh
   pub few : length m.vars < 2 ^ 32
 
 -- a statement that begins in this scope, and numbers no more variables than there are
-pub record IsPartStmt (m : Frame) (sc : Scope) (a : s.Stmt) : Type 0 where
+pub record IsPartStmt (m : MethodContext) (sc : Scope) (a : s.Stmt) : Type 0 where
   pub frame : IsFrame m sc
   pub typed : IsStmt m sc a
   pub numbered : (scope_after sc a).fresh ≤ length m.vars
@@ -85,7 +85,7 @@ pub record IsPartStmt (m : Frame) (sc : Scope) (a : s.Stmt) : Type 0 where
   pub blocks : blocks_of a < max_block_depth
 
 -- the statements of a block
-pub record ArePartStmts (m : Frame) (sc : Scope) (block : s.Stmts) : Type 0 where
+pub record ArePartStmts (m : MethodContext) (sc : Scope) (block : s.Stmts) : Type 0 where
   pub frame : IsFrame m sc
   pub typed : AreStmts m sc block
   pub numbered : (stmts_scope sc block).fresh ≤ length m.vars

@@ -135,34 +135,34 @@ pub data IsAssertion (c : Context) : t.Assertion → Type 0 where
 -- ---- statements
 
 -- what stays the same in the body of a method
-pub record Frame : Type 0 where
+pub record MethodContext : Type 0 where
   pub program : Program
   -- the types of the variables of the method
   pub vars : List Ty
   -- how many of them are parameters, which are never assigned
   pub params : ℕ
 
-abbrev pub inside : Frame → Scope → Context
+abbrev pub inside : MethodContext → Scope → Context
 inside m sc = record { program = m.program; vars = m.vars; visible = sc.visible; site = Elsewhere }
 
 -- a variable of the method, of some type
-abbrev pub IsVariable : Frame → ℕ → Type 0
+abbrev pub IsVariable : MethodContext → ℕ → Type 0
 IsVariable m x = (u : Ty) × (slice_get m.vars x ≡ Some u)
 
 -- a variable of this type that may be assigned
-pub record IsTarget (m : Frame) (sc : Scope) (x : ℕ) (u : Ty) : Type 0 where
+pub record IsTarget (m : MethodContext) (sc : Scope) (x : ℕ) (u : Ty) : Type 0 where
   pub visible : Contains sc.visible x
   pub no_parameter : m.params ≤ x
   pub typed : slice_get m.vars x ≡ Some u
 
 -- as many targets, each of its type
-pub data AreTargets (m : Frame) (sc : Scope) : List ℕ → List Ty → Type 0 where
+pub data AreTargets (m : MethodContext) (sc : Scope) : List ℕ → List Ty → Type 0 where
   nothing : AreTargets m sc [] []
   also : {x : ℕ} {xs : List ℕ} {u : Ty} {us : List Ty} →
       IsTarget m sc x u → AreTargets m sc xs us → AreTargets m sc (x ∷ xs) (u ∷ us)
 
 -- What a call or a `new` assigns: variables that differ, or the one that its `var` declares.
-pub data Receive (m : Frame) (sc : Scope) : List ℕ → List Ty → Type 0 where
+pub data Receive (m : MethodContext) (sc : Scope) : List ℕ → List Ty → Type 0 where
   assigned : {xs : List ℕ} {us : List Ty} → AreTargets m sc xs us → AllPairs (λ x y. x ≢ y) xs → Receive m sc xs us
   declared : {x : ℕ} {u : Ty} → x ≡ sc.fresh → slice_get m.vars x ≡ Some u → Receive m sc (x ∷ []) (u ∷ [])
 
@@ -189,7 +189,7 @@ returns_of m = take m.returns (drop m.params m.vars)
 
 mutual
   -- a statement that begins in this scope
-  pub data IsStmt (m : Frame) : Scope → s.Stmt → Type 0 where
+  pub data IsStmt (m : MethodContext) : Scope → s.Stmt → Type 0 where
     declares : {sc : Scope} {at : Pos} {x : ℕ} {u : Ty} →
         x ≡ sc.fresh → slice_get m.vars x ≡ Some u → IsStmt m sc (s.Var at x None)
     initial : {sc : Scope} {at : Pos} {x : ℕ} {a : t.Expr} {u : Ty} →
@@ -217,7 +217,7 @@ mutual
         HasType (inside m sc) guard ty.Bool → All (IsAssertion (inside m sc)) invariants → AreStmts m sc body →
         targets ≡ loop_targets sc body → IsStmt m sc (s.While (s.loop at guard invariants body turn targets))
 
-  pub data AreStmts (m : Frame) : Scope → s.Stmts → Type 0 where
+  pub data AreStmts (m : MethodContext) : Scope → s.Stmts → Type 0 where
     ends : {sc : Scope} → AreStmts m sc s.skip
     goes_on : {sc : Scope} {a : s.Stmt} {rest : s.Stmts} →
         IsStmt m sc a → AreStmts m (scope_after sc a) rest → AreStmts m sc (s.next a rest)

@@ -6,7 +6,7 @@ ghost use Rattle.viper_core.specs.Expr as t;
 ghost use Rattle.viper_core.specs.Part.{Allows, among};
 ghost use Rattle.viper_core.specs.Scope.{Scope, loop_targets};
 ghost use Rattle.viper_core.specs.Stmt.{Stmts, FoldStmt};
-ghost use Rattle.viper_core.specs.Typing.{Site, Context, Frame, HasType, HaveTypes, IsAmount, IsAssertion, IsFold, IsVariable, AreStmts};
+ghost use Rattle.viper_core.specs.Typing.{Site, Context, MethodContext, HasType, HaveTypes, IsAmount, IsAssertion, IsFold, IsVariable, AreStmts};
 
 /// What is typed is typed with other variables too, where each visible variable is visible among them and has its type, and
 /// where as much may be said.
@@ -25,5 +25,5 @@ pub fn the_types_of_visible_variables_suffice()
 
 /// The targets of a loop are variables of its method.
 pub fn loop_targets_are_variables()
-    ensures { (m : Frame) (sc : Scope) (body : Stmts) → AreStmts m sc body → All (IsVariable m) (loop_targets sc body) }
+    ensures { (m : MethodContext) (sc : Scope) (body : Stmts) → AreStmts m sc body → All (IsVariable m) (loop_targets sc body) }
 {}

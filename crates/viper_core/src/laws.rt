@@ -16,7 +16,7 @@ ghost use Rattle.viper_core.specs.Plain.{AssertionOpensNothing, AssertionHasNoOl
 ghost use Rattle.viper_core.specs.Program as p;
 ghost use Rattle.viper_core.specs.Scope.{Scope, after_block, scope_after, some_assigns, stmts_scope, refs_in, loop_targets};
 ghost use Rattle.viper_core.specs.Stmt as s;
-ghost use Rattle.viper_core.specs.Typing.{Site, Context, Frame, inside, value_type, HasType, HaveTypes, Opens, IsAmount, IsAssertion, IsTarget, Receive, AreFields, params_of, returns_of, AreStmts};
+ghost use Rattle.viper_core.specs.Typing.{Site, Context, MethodContext, inside, value_type, HasType, HaveTypes, Opens, IsAmount, IsAssertion, IsTarget, Receive, AreFields, params_of, returns_of, AreStmts};
 ghost use Rattle.viper_core.specs.Weight.{weight, told_weight, predicate_weight, method_weight};
 ghost use Rattle.viper_core.specs.Written.{HasNoWildcard};
 
@@ -42,7 +42,7 @@ pub fn a_part_weighs_no_more()
 /// Variables are numbered upward, and what statements assign was visible before them or is declared by them.
 pub fn assigned_variables_are_visible_or_new()
     ensures upward { (sc : Scope) (ss : s.Stmts) → sc.fresh ≤ (stmts_scope sc ss).fresh }
-    ensures assigned { (m : Frame) (sc : Scope) (ss : s.Stmts) (x : ℕ) → AreStmts m sc ss → IsTrue (some_assigns x ss)
+    ensures assigned { (m : MethodContext) (sc : Scope) (ss : s.Stmts) (x : ℕ) → AreStmts m sc ss → IsTrue (some_assigns x ss)
         → Contains sc.visible x ⊎ (sc.fresh ≤ x) }
 {}
 
@@ -124,48 +124,48 @@ pub fn the_first_variables_suffice()
 pub fn an_opened_body_is_a_part()
     ensures unfolding { (c : Context) (k : ℕ) (es : t.Exprs) (m : t.Expr) (a : t.Assertion) (e : t.Expr) (at : Pos)
         (u : Ty) → IsPartExpr c (t.Unfolding (t.opened k es m a e at)) u → OpensParts c k es m a e u }
-    ensures fold { (m : Frame) (sc : Scope) (f : s.FoldStmt) → IsPartStmt m sc (s.Fold f) → FoldParts (inside m sc) f }
-    ensures unfold { (m : Frame) (sc : Scope) (f : s.FoldStmt) → IsPartStmt m sc (s.Unfold f)
+    ensures fold { (m : MethodContext) (sc : Scope) (f : s.FoldStmt) → IsPartStmt m sc (s.Fold f) → FoldParts (inside m sc) f }
+    ensures unfold { (m : MethodContext) (sc : Scope) (f : s.FoldStmt) → IsPartStmt m sc (s.Unfold f)
         → FoldParts (inside m sc) f }
 {}
 
 /// The statements in a part are parts, each in the scope in which it begins, and so is what a statement says. Its targets
 /// are variables of the method, of the types of their values. `an_opened_body_is_a_part` speaks of `fold` and `unfold`.
 pub fn statements_have_parts()
-    ensures first { (m : Frame) (sc : Scope) (a : s.Stmt) (rest : s.Stmts) → ArePartStmts m sc (s.next a rest)
+    ensures first { (m : MethodContext) (sc : Scope) (a : s.Stmt) (rest : s.Stmts) → ArePartStmts m sc (s.next a rest)
         → IsPartStmt m sc a }
-    ensures rest { (m : Frame) (sc : Scope) (a : s.Stmt) (rest : s.Stmts) → ArePartStmts m sc (s.next a rest)
+    ensures rest { (m : MethodContext) (sc : Scope) (a : s.Stmt) (rest : s.Stmts) → ArePartStmts m sc (s.next a rest)
         → ArePartStmts m (scope_after sc a) rest }
-    ensures branches { (m : Frame) (sc : Scope) (at : Pos) (e : t.Expr) (a : s.Stmts) (b : s.Stmts)
+    ensures branches { (m : MethodContext) (sc : Scope) (at : Pos) (e : t.Expr) (a : s.Stmts) (b : s.Stmts)
         → IsPartStmt m sc (s.If at e a b) → IsPartExpr (inside m sc) e ty.Bool × ArePartStmts m sc a
         × ArePartStmts m (after_block sc (stmts_scope sc a)) b }
-    ensures turns { (m : Frame) (sc : Scope) (at : Pos) (e : t.Expr) (is : List t.Assertion) (body : s.Stmts)
+    ensures turns { (m : MethodContext) (sc : Scope) (at : Pos) (e : t.Expr) (is : List t.Assertion) (body : s.Stmts)
         (turn : Pos) (targets : List ℕ) → IsPartStmt m sc (s.While (s.loop at e is body turn targets))
         → IsPartExpr (inside m sc) e ty.Bool × All (IsPartAssertion (inside m sc)) is × ArePartStmts m sc body
         × (targets ≡ loop_targets sc body) }
-    ensures declared { (m : Frame) (sc : Scope) (at : Pos) (x : ℕ) → IsPartStmt m sc (s.Var at x None)
+    ensures declared { (m : MethodContext) (sc : Scope) (at : Pos) (x : ℕ) → IsPartStmt m sc (s.Var at x None)
         → (u : Ty) × (x ≡ sc.fresh) × (slice_get m.vars x ≡ Some u) }
-    ensures initial { (m : Frame) (sc : Scope) (at : Pos) (x : ℕ) (e : t.Expr) → IsPartStmt m sc (s.Var at x (Some e))
+    ensures initial { (m : MethodContext) (sc : Scope) (at : Pos) (x : ℕ) (e : t.Expr) → IsPartStmt m sc (s.Var at x (Some e))
         → (u : Ty) × (x ≡ sc.fresh) × (slice_get m.vars x ≡ Some u) × IsPartExpr (inside m sc) e u }
-    ensures assigned { (m : Frame) (sc : Scope) (at : Pos) (x : ℕ) (e : t.Expr) → IsPartStmt m sc (s.Assign at x e)
+    ensures assigned { (m : MethodContext) (sc : Scope) (at : Pos) (x : ℕ) (e : t.Expr) → IsPartStmt m sc (s.Assign at x e)
         → (u : Ty) × IsTarget m sc x u × IsPartExpr (inside m sc) e u }
-    ensures written { (m : Frame) (sc : Scope) (at : Pos) (e : t.Expr) (f : ℕ) (place : Pos) (d : t.Expr)
+    ensures written { (m : MethodContext) (sc : Scope) (at : Pos) (e : t.Expr) (f : ℕ) (place : Pos) (d : t.Expr)
         → IsPartStmt m sc (s.Write at e f place d)
         → (u : Ty) × (slice_get m.program.layout.fields f ≡ Some u) × IsPartExpr (inside m sc) e ty.Ref
         × IsPartExpr (inside m sc) d u }
-    ensures created { (m : Frame) (sc : Scope) (at : Pos) (x : ℕ) (fields : List ℕ) (refs : List ℕ)
+    ensures created { (m : MethodContext) (sc : Scope) (at : Pos) (x : ℕ) (fields : List ℕ) (refs : List ℕ)
         → IsPartStmt m sc (s.New at x fields refs)
         → (slice_get m.vars x ≡ Some ty.Ref) × (IsTarget m sc x ty.Ref ⊎ (x ≡ sc.fresh)) × AreFields m.program fields
         × (refs ≡ refs_in m.vars sc) }
-    ensures called { (m : Frame) (sc : Scope) (at : Pos) (xs : List ℕ) (k : ℕ) (es : t.Exprs)
+    ensures called { (m : MethodContext) (sc : Scope) (at : Pos) (xs : List ℕ) (k : ℕ) (es : t.Exprs)
         → IsPartStmt m sc (s.Call at xs k es)
         → (callee : p.Method) × (slice_get m.program.methods k ≡ Some callee)
         × ArePartExprs (inside m sc) es (params_of callee) × Receive m sc xs (returns_of callee) }
-    ensures inhaled { (m : Frame) (sc : Scope) (at : Pos) (a : t.Assertion) → IsPartStmt m sc (s.Inhale at a)
+    ensures inhaled { (m : MethodContext) (sc : Scope) (at : Pos) (a : t.Assertion) → IsPartStmt m sc (s.Inhale at a)
         → IsPartAssertion (inside m sc) a }
-    ensures exhaled { (m : Frame) (sc : Scope) (at : Pos) (a : t.Assertion) → IsPartStmt m sc (s.Exhale at a)
+    ensures exhaled { (m : MethodContext) (sc : Scope) (at : Pos) (a : t.Assertion) → IsPartStmt m sc (s.Exhale at a)
         → IsPartAssertion (inside m sc) a }
-    ensures asserted { (m : Frame) (sc : Scope) (at : Pos) (a : t.Assertion) → IsPartStmt m sc (s.Assert at a)
+    ensures asserted { (m : MethodContext) (sc : Scope) (at : Pos) (a : t.Assertion) → IsPartStmt m sc (s.Assert at a)
         → IsPartAssertion (inside m sc) a }
 {}
 

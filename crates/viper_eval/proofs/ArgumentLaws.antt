@@ -12,7 +12,7 @@ use Rattle.vb_value.specs.Bound.{Bounded}
 use Rattle.viper_meaning.specs.Ends.{Evaluated, ends, Is, is, after, then_with}
 use Rattle.viper_meaning.specs.Value.{value, values}
 use Rattle.viper_eval.specs.Answers.{Answers, goes}
-use Rattle.viper_eval.specs.declared.answers.Halt.{Halt}
+use Rattle.viper_eval.specs.declared.answers.EvalHalt.{EvalHalt}
 use Rattle.viper_eval.proofs.AnswerLaws.{the_value, answers_at, stops_then, then_after, then_same, then_then}
 
 -- the values of the arguments that are left, behind those so far
@@ -48,7 +48,7 @@ module _ (es : List expr.Expr) (i : ℕ) (st : State) (sc : Scene) where
   argument_goes e items more all b m n v lt is pushed so_far here =
       so_far ∙ ap (after m) (split_off e items lt is) ∙ step m n (value Bounded (expr_of e) st sc) v rest items (the_value here) ∙ ap (λ xs. after n (behind xs rest)) (sym pushed)
 
-  pub argument_stops : {X : Type 0} (view : X → List Value) (e : expr.Expr) (items : List Value) (all : Evaluated (List Value)) (b m s : List Event) (w : Halt) → i < length es → e ≡ get_or es i e →
+  pub argument_stops : {X : Type 0} (view : X → List Value) (e : expr.Expr) (items : List Value) (all : Evaluated (List Value)) (b m s : List Event) (w : EvalHalt) → i < length es → e ≡ get_or es i e →
       after b all ≡ after m (from_here items) → Answers {X = Value} (λ v. v) m (value Bounded (expr_of e) st sc) s (Err w) → Answers view b all s (Err w)
   argument_stops view e items all b m s w lt same so_far here =
       answers_at (so_far ∙ ap (after m) (split_off e items lt same)) (stops_then {v = λ (vs : List Value). vs} (λ vs. is (items ++ vs)) (stops_then {v = λ (v : Value). v} (λ v. then_with rest (λ vs. is (v ∷ vs))) here))

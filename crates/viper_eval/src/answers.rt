@@ -1,5 +1,5 @@
 // How evaluations end.
-ghost use Rattle.viper_eval.specs.declared.answers.Halt.TheVariants as halt;
+ghost use Rattle.viper_eval.specs.declared.answers.EvalHalt.TheVariants as halt;
 ghost use Rattle.std.specs.Prelude.{◌≡◌};
 
 use std::alloc::{AllocError, AllocFailed};
@@ -30,7 +30,7 @@ pub enum Opening1 {
 
 /// An end without a value.
 #[derive(Clone, Copy, Debug, PartialEq, Eq)]
-pub enum Stop {
+pub enum EvalStop {
     Fails(Label),
     /// An assumption does not hold.
     Blocked,
@@ -40,40 +40,40 @@ pub enum Stop {
 
 /// Why there is no value.
 #[derive(Clone, Copy, Debug, PartialEq, Eq)]
-pub enum Halt {
+pub enum EvalHalt {
     /// There was no memory.
     Memory,
-    Stops(Stop),
+    Stops(EvalStop),
 }
 
-impl From<Stop> for Halt {
+impl From<EvalStop> for EvalHalt {
     ghost from_gives = { λ stop e. e ≡ halt.Stops stop };
 
-    fn from(stop: Stop) -> Halt {
-        Halt::Stops(stop)
+    fn from(stop: EvalStop) -> EvalHalt {
+        EvalHalt::Stops(stop)
     }
 }
 
-impl From<Memory> for Halt {
+impl From<Memory> for EvalHalt {
     ghost from_gives = { λ _ e. e ≡ halt.Memory };
 
-    fn from(_: Memory) -> Halt {
-        Halt::Memory
+    fn from(_: Memory) -> EvalHalt {
+        EvalHalt::Memory
     }
 }
 
-impl From<AllocError> for Halt {
+impl From<AllocError> for EvalHalt {
     ghost from_gives = { λ _ e. e ≡ halt.Memory };
 
-    fn from(_: AllocError) -> Halt {
-        Halt::Memory
+    fn from(_: AllocError) -> EvalHalt {
+        EvalHalt::Memory
     }
 }
 
-impl<T: Drop> From<AllocFailed<T>> for Halt {
+impl<T: Drop> From<AllocFailed<T>> for EvalHalt {
     ghost from_gives = { λ _ e. e ≡ halt.Memory };
 
-    fn from(_: AllocFailed<T>) -> Halt {
-        Halt::Memory
+    fn from(_: AllocFailed<T>) -> EvalHalt {
+        EvalHalt::Memory
     }
 }

@@ -15,7 +15,7 @@ ghost use Rattle.viper_core.specs.Plain.{OpensNothing};
 ghost use Rattle.viper_meaning.specs.Value.{value, opened};
 ghost use Rattle.viper_eval.specs.Answers.{Answers, end_of, goes_with};
 
-use crate::answers::{Evaluated, Halt, Opening1, Stop};
+use crate::answers::{EvalHalt, EvalStop, Evaluated, Opening1};
 use crate::readings::{eval_in, open_in};
 use crate::scenes::SceneRef;
 use std::alloc::Global;
@@ -25,31 +25,31 @@ use viper_core::{Assertion, Expr};
 use viper_state::{Feed, Scene, State};
 
 /// How an evaluation ended, if not for want of memory.
-fn evaluated(answer: Result<Value, Halt>) -> Result<Evaluated, Memory>
+fn evaluated(answer: Result<Value, EvalHalt>) -> Result<Evaluated, Memory>
     ensures { (before since : List event.Event) (e : m.Evaluated Value) → Answers (λ v. v) before e since answer
         → IfOk result (λ v. m.after before e ≡ m.ends since (end_of v)) }
 {
     match answer {
         Ok(value) => Ok(Evaluated::Is(value)),
-        Err(Halt::Stops(Stop::Fails(label))) => Ok(Evaluated::Fails(label)),
-        Err(Halt::Stops(Stop::Blocked)) => Ok(Evaluated::Blocked),
-        Err(Halt::Stops(Stop::Over(at))) => Ok(Evaluated::Over(at)),
-        Err(Halt::Memory) => Err(Memory),
+        Err(EvalHalt::Stops(EvalStop::Fails(label))) => Ok(Evaluated::Fails(label)),
+        Err(EvalHalt::Stops(EvalStop::Blocked)) => Ok(Evaluated::Blocked),
+        Err(EvalHalt::Stops(EvalStop::Over(at))) => Ok(Evaluated::Over(at)),
+        Err(EvalHalt::Memory) => Err(Memory),
     }
 }
 
 /// How an opening ended, if not for want of memory.
-fn opening(answer: Result<(), Halt>) -> Result<Opening1, Memory>
+fn opening(answer: Result<(), EvalHalt>) -> Result<Opening1, Memory>
     ensures { (before since : List event.Event) (e : m.Evaluated tree.State) (s : tree.State)
         → Answers (λ _. s) before e since answer
         → IfOk result (λ o. m.after before e ≡ m.ends since (goes_with s o)) }
 {
     match answer {
         Ok(()) => Ok(Opening1::Goes),
-        Err(Halt::Stops(Stop::Fails(label))) => Ok(Opening1::Fails(label)),
-        Err(Halt::Stops(Stop::Blocked)) => Ok(Opening1::Blocked),
-        Err(Halt::Stops(Stop::Over(at))) => Ok(Opening1::Over(at)),
-        Err(Halt::Memory) => Err(Memory),
+        Err(EvalHalt::Stops(EvalStop::Fails(label))) => Ok(Opening1::Fails(label)),
+        Err(EvalHalt::Stops(EvalStop::Blocked)) => Ok(Opening1::Blocked),
+        Err(EvalHalt::Stops(EvalStop::Over(at))) => Ok(Opening1::Over(at)),
+        Err(EvalHalt::Memory) => Err(Memory),
     }
 }
 

@@ -15,7 +15,7 @@ ghost use Rattle.viper_eval.specs.Lazy.{settled_by, combined};
 ghost use Rattle.viper_eval.specs.Steps.{assumed};
 ghost use Rattle.viper_eval.specs.View.{lent};
 
-use crate::answers::Stop;
+use crate::answers::EvalStop;
 use crate::scenes::SceneRef;
 use std::cmp::Ordering;
 use vb_base::{Kind, Label, Pos};
@@ -23,10 +23,10 @@ use vb_value::{Frac, Over, Value, int_add, int_div, int_mod, int_mul, int_sub};
 use viper_core::Op;
 
 /// A failure of this kind in the step that is running, for the part at this place.
-pub fn failure(scene: SceneRef, part: Pos, kind: Kind) -> Stop
-    ensures { result ≡ Stop.Fails (record { at = scene.entry.at; part = part; kind = kind }) }
+pub fn failure(scene: SceneRef, part: Pos, kind: Kind) -> EvalStop
+    ensures { result ≡ EvalStop.Fails (record { at = scene.entry.at; part = part; kind = kind }) }
 {
-    Stop::Fails(Label {
+    EvalStop::Fails(Label {
         at: scene.at,
         part,
         kind,
@@ -34,59 +34,63 @@ pub fn failure(scene: SceneRef, part: Pos, kind: Kind) -> Stop
 }
 
 /// The number, where its computation fits, or an end at this place.
-pub fn fitted<T>(answer: Result<T, Over>, at: Pos) -> Result<T, Stop>
+pub fn fitted<T>(answer: Result<T, Over>, at: Pos) -> Result<T, EvalStop>
     ensures { (fits : Bool) (x : T) → answer ≡ value_if fits x → ended result ≡ fitting Bounded fits at x }
 {
     match answer {
         Ok(number) => Ok(number),
-        Err(_) => Err(Stop::Over(at)),
+        Err(_) => Err(EvalStop::Over(at)),
     }
 }
 
 /// What there is, which in a typed program is never nothing.
-pub fn found<T>(there: Option<T>) -> Result<T, Stop>
+pub fn found<T>(there: Option<T>) -> Result<T, EvalStop>
     ensures { ended result ≡ found there }
 {
     match there {
         Some(found) => Ok(found),
-        None => Err(Stop::Blocked),
+        None => Err(EvalStop::Blocked),
     }
 }
 
 /// The value of a Bool.
-pub(crate) fn truth(value: Value) -> Result<bool, Stop>
+pub(crate) fn truth(value: Value) -> Result<bool, EvalStop>
     ensures { ended result ≡ o.truth_of value }
 {
     match value {
         Value::Bool(truth) => Ok(truth),
-        _ => Err(Stop::Blocked),
+        _ => Err(EvalStop::Blocked),
     }
 }
 
 /// Goes on where an assumption holds, and else is blocked.
-pub fn assumed(holds: bool) -> Result<(), Stop>
+pub fn assumed(holds: bool) -> Result<(), EvalStop>
     ensures { ended result ≡ assumed holds }
 {
-    if holds { Ok(()) } else { Err(Stop::Blocked) }
+    if holds {
+        Ok(())
+    } else {
+        Err(EvalStop::Blocked)
+    }
 }
 
 /// The value of a Perm.
-pub(crate) fn permission(value: Value) -> Result<Frac, Stop>
+pub(crate) fn permission(value: Value) -> Result<Frac, EvalStop>
     ensures { ended result ≡ o.perm_of value }
 {
     match value {
         Value::Perm(amount) => Ok(amount),
-        _ => Err(Stop::Blocked),
+        _ => Err(EvalStop::Blocked),
     }
 }
 
 /// The value of a Ref.
-pub(crate) fn reference(value: Value) -> Result<u64, Stop>
+pub(crate) fn reference(value: Value) -> Result<u64, EvalStop>
     ensures { ended result ≡ o.ref_of value }
 {
     match value {
         Value::Ref(reference) => Ok(reference),
-        _ => Err(Stop::Blocked),
+        _ => Err(EvalStop::Blocked),
     }
 }
 
@@ -110,77 +114,77 @@ fn opposite(amount: Frac) -> Frac
     Frac::make(-Frac::num(amount), Frac::den(amount)).unwrap()
 }
 
-pub(crate) fn negative(value: Value) -> Result<Value, Stop>
+pub(crate) fn negative(value: Value) -> Result<Value, EvalStop>
     requires { IsWithinValue value }
     ensures { ended result ≡ o.negative value }
 {
     match value {
         Value::Int(number) => Ok(Value::Int(-number)),
         Value::Perm(amount) => Ok(Value::Perm(opposite(amount))),
-        _ => Err(Stop::Blocked),
+        _ => Err(EvalStop::Blocked),
     }
 }
 
-pub(crate) fn negation(value: Value) -> Result<Value, Stop>
+pub(crate) fn negation(value: Value) -> Result<Value, EvalStop>
     ensures { ended result ≡ o.negation value }
 {
     Ok(Value::Bool(!truth(value)?))
 }
 
 /// An Int, where its computation fits.
-fn int_value(answer: Result<i128, Over>, at: Pos) -> Result<Value, Stop>
+fn int_value(answer: Result<i128, Over>, at: Pos) -> Result<Value, EvalStop>
     ensures { (n : ℤ) → answer ≡ value_if (is_within n) n → ended result ≡ fitting Bounded (is_within n) at (value.Int n) }
 {
     Ok(Value::Int(fitted(answer, at)?))
 }
 
 /// A Perm, where its computation fits.
-fn perm_value(answer: Result<Frac, Over>, at: Pos) -> Result<Value, Stop>
+fn perm_value(answer: Result<Frac, Over>, at: Pos) -> Result<Value, EvalStop>
     ensures { (fits : Bool) (q : Fraction) → answer ≡ value_if fits q → ended result ≡ fitting Bounded fits at (value.Perm q) }
 {
     Ok(Value::Perm(fitted(answer, at)?))
 }
 
-fn sum(left: Value, right: Value, at: Pos) -> Result<Value, Stop>
+fn sum(left: Value, right: Value, at: Pos) -> Result<Value, EvalStop>
     ensures { ended result ≡ o.sum_of Bounded left right at }
 {
     match left {
         Value::Int(x) => match right {
             Value::Int(y) => int_value(int_add(x, y), at),
-            _ => Err(Stop::Blocked),
+            _ => Err(EvalStop::Blocked),
         },
         Value::Perm(p) => match right {
             Value::Perm(q) => perm_value(Frac::add(p, q), at),
-            _ => Err(Stop::Blocked),
+            _ => Err(EvalStop::Blocked),
         },
-        _ => Err(Stop::Blocked),
+        _ => Err(EvalStop::Blocked),
     }
 }
 
-fn difference(left: Value, right: Value, at: Pos) -> Result<Value, Stop>
+fn difference(left: Value, right: Value, at: Pos) -> Result<Value, EvalStop>
     ensures { ended result ≡ o.difference_of Bounded left right at }
 {
     match left {
         Value::Int(x) => match right {
             Value::Int(y) => int_value(int_sub(x, y), at),
-            _ => Err(Stop::Blocked),
+            _ => Err(EvalStop::Blocked),
         },
         Value::Perm(p) => match right {
             Value::Perm(q) => perm_value(Frac::sub(p, q), at),
-            _ => Err(Stop::Blocked),
+            _ => Err(EvalStop::Blocked),
         },
-        _ => Err(Stop::Blocked),
+        _ => Err(EvalStop::Blocked),
     }
 }
 
-fn fraction_product(p: Frac, q: Frac, at: Pos) -> Result<Value, Stop>
+fn fraction_product(p: Frac, q: Frac, at: Pos) -> Result<Value, EvalStop>
     ensures { ended result ≡ o.fraction_product Bounded p q at }
 {
     perm_value(Frac::mul(p, q), at)
 }
 
 /// A product. An Int `n` counts as `n/1` beside a Perm.
-fn product(left: Value, right: Value, at: Pos) -> Result<Value, Stop>
+fn product(left: Value, right: Value, at: Pos) -> Result<Value, EvalStop>
     requires left_within { IsWithinValue left }
     requires right_within { IsWithinValue right }
     ensures { ended result ≡ o.product_of Bounded left right at }
@@ -189,45 +193,45 @@ fn product(left: Value, right: Value, at: Pos) -> Result<Value, Stop>
         Value::Int(x) => match right {
             Value::Int(y) => int_value(int_mul(x, y), at),
             Value::Perm(q) => fraction_product(fraction(x), q, at),
-            _ => Err(Stop::Blocked),
+            _ => Err(EvalStop::Blocked),
         },
         Value::Perm(p) => match right {
             Value::Int(y) => fraction_product(p, fraction(y), at),
             Value::Perm(q) => fraction_product(p, q, at),
-            _ => Err(Stop::Blocked),
+            _ => Err(EvalStop::Blocked),
         },
-        _ => Err(Stop::Blocked),
+        _ => Err(EvalStop::Blocked),
     }
 }
 
-fn same_truth(left: Value, right: Value) -> Result<Value, Stop>
+fn same_truth(left: Value, right: Value) -> Result<Value, EvalStop>
     ensures { ended result ≡ o.same_truth left right }
 {
     match (left, right) {
         (Value::Bool(a), Value::Bool(b)) => Ok(Value::Bool(a == b)),
-        _ => Err(Stop::Blocked),
+        _ => Err(EvalStop::Blocked),
     }
 }
 
 /// The order of two Ints or two Perms.
-fn ordered(left: Value, right: Value, at: Pos) -> Result<Ordering, Stop>
+fn ordered(left: Value, right: Value, at: Pos) -> Result<Ordering, EvalStop>
     ensures { (test : Ordering → Bool) → compares test result ≡ o.compared Bounded test left right at }
 {
     match left {
         Value::Int(x) => match right {
             Value::Int(y) => Ok(x.cmp(&y)),
-            _ => Err(Stop::Blocked),
+            _ => Err(EvalStop::Blocked),
         },
         Value::Perm(p) => match right {
             Value::Perm(q) => fitted(Frac::cmp(p, q), at),
-            _ => Err(Stop::Blocked),
+            _ => Err(EvalStop::Blocked),
         },
-        _ => Err(Stop::Blocked),
+        _ => Err(EvalStop::Blocked),
     }
 }
 
 /// `/` by a whole number.
-fn divided_by(scene: SceneRef, amount: Frac, number: i128, at: Pos) -> Result<Value, Stop>
+fn divided_by(scene: SceneRef, amount: Frac, number: i128, at: Pos) -> Result<Value, EvalStop>
     requires { IsWithin number }
     ensures { ended result ≡ o.fraction_by Bounded (lent scene.entry) amount number at }
 {
@@ -237,23 +241,23 @@ fn divided_by(scene: SceneRef, amount: Frac, number: i128, at: Pos) -> Result<Va
     perm_value(Frac::div_int(amount, number), at)
 }
 
-fn quotient(scene: SceneRef, left: Value, right: Value, at: Pos) -> Result<Value, Stop>
+fn quotient(scene: SceneRef, left: Value, right: Value, at: Pos) -> Result<Value, EvalStop>
     requires left_within { IsWithinValue left }
     requires right_within { IsWithinValue right }
     ensures { ended result ≡ o.quotient_of Bounded (lent scene.entry) left right at }
 {
     let Value::Int(number) = right else {
-        return Err(Stop::Blocked);
+        return Err(EvalStop::Blocked);
     };
     match left {
         Value::Int(x) => divided_by(scene, fraction(x), number, at),
         Value::Perm(p) => divided_by(scene, p, number, at),
-        _ => Err(Stop::Blocked),
+        _ => Err(EvalStop::Blocked),
     }
 }
 
 /// `\`
-fn int_quotient(scene: SceneRef, left: Value, right: Value, at: Pos) -> Result<Value, Stop>
+fn int_quotient(scene: SceneRef, left: Value, right: Value, at: Pos) -> Result<Value, EvalStop>
     requires left_within { IsWithinValue left }
     requires right_within { IsWithinValue right }
     ensures { ended result ≡ o.euclidean (lent scene.entry) int_div_euclid left right at }
@@ -266,14 +270,14 @@ fn int_quotient(scene: SceneRef, left: Value, right: Value, at: Pos) -> Result<V
                 }
                 Ok(Value::Int(int_div(x, d)))
             }
-            _ => Err(Stop::Blocked),
+            _ => Err(EvalStop::Blocked),
         },
-        _ => Err(Stop::Blocked),
+        _ => Err(EvalStop::Blocked),
     }
 }
 
 /// `%`
-fn int_remainder(scene: SceneRef, left: Value, right: Value, at: Pos) -> Result<Value, Stop>
+fn int_remainder(scene: SceneRef, left: Value, right: Value, at: Pos) -> Result<Value, EvalStop>
     requires left_within { IsWithinValue left }
     requires right_within { IsWithinValue right }
     ensures { ended result ≡ o.euclidean (lent scene.entry) int_rem_euclid left right at }
@@ -286,14 +290,14 @@ fn int_remainder(scene: SceneRef, left: Value, right: Value, at: Pos) -> Result<
                 }
                 Ok(Value::Int(int_mod(x, d)))
             }
-            _ => Err(Stop::Blocked),
+            _ => Err(EvalStop::Blocked),
         },
-        _ => Err(Stop::Blocked),
+        _ => Err(EvalStop::Blocked),
     }
 }
 
 /// The value of an operator that looks at both sides and never fails.
-fn plain(op: Op, left: Value, right: Value, at: Pos) -> Result<Value, Stop>
+fn plain(op: Op, left: Value, right: Value, at: Pos) -> Result<Value, EvalStop>
     requires left_within { IsWithinValue left }
     requires right_within { IsWithinValue right }
     ensures { ended result ≡ o.plain Bounded op left right at }
@@ -309,13 +313,13 @@ fn plain(op: Op, left: Value, right: Value, at: Pos) -> Result<Value, Stop>
         Op::Add => sum(left, right, at),
         Op::Sub => difference(left, right, at),
         Op::Mul => product(left, right, at),
-        Op::Implies | Op::Or | Op::And => Err(Stop::Blocked),
-        Op::Divide | Op::IntDiv | Op::IntMod => Err(Stop::Blocked),
+        Op::Implies | Op::Or | Op::And => Err(EvalStop::Blocked),
+        Op::Divide | Op::IntDiv | Op::IntMod => Err(EvalStop::Blocked),
     }
 }
 
 /// The value of a division.
-fn divided(scene: SceneRef, op: Op, left: Value, right: Value, at: Pos) -> Result<Value, Stop>
+fn divided(scene: SceneRef, op: Op, left: Value, right: Value, at: Pos) -> Result<Value, EvalStop>
     requires left_within { IsWithinValue left }
     requires right_within { IsWithinValue right }
     ensures { ended result ≡ o.divided Bounded (lent scene.entry) op left right at }
@@ -324,12 +328,12 @@ fn divided(scene: SceneRef, op: Op, left: Value, right: Value, at: Pos) -> Resul
         Op::Divide => quotient(scene, left, right, at),
         Op::IntDiv => int_quotient(scene, left, right, at),
         Op::IntMod => int_remainder(scene, left, right, at),
-        _ => Err(Stop::Blocked),
+        _ => Err(EvalStop::Blocked),
     }
 }
 
 /// What the left side alone tells of the value.
-pub(crate) fn settled(op: Op, left: Value) -> Result<Option<bool>, Stop>
+pub(crate) fn settled(op: Op, left: Value) -> Result<Option<bool>, EvalStop>
     ensures { ended result ≡ settled_by (class_of op) op left }
 {
     match op {
@@ -347,7 +351,7 @@ pub(crate) fn combined(
     left: Value,
     right: Value,
     at: Pos,
-) -> Result<Value, Stop>
+) -> Result<Value, EvalStop>
     requires left_within { IsWithinValue left }
     requires right_within { IsWithinValue right }
     ensures { ended result ≡ combined (class_of op) (lent scene.entry) op left right at }

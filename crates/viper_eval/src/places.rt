@@ -11,7 +11,7 @@ ghost use Rattle.viper_meaning.specs.Places as p;
 ghost use Rattle.viper_eval.specs.Answers.{ended, Answers};
 ghost use Rattle.viper_eval.specs.View.{lent};
 
-use crate::answers::{Halt, Stop};
+use crate::answers::{EvalHalt, EvalStop};
 use crate::operators::{assumed, failure, fitted, found};
 use crate::scenes::SceneRef;
 use std::alloc::Global;
@@ -26,7 +26,7 @@ pub(crate) fn read_field(
     field: u32,
     at: Pos,
     reference: u64,
-) -> Result<Value, Stop>
+) -> Result<Value, EvalStop>
     ensures { ended result ≡ p.read_field (lent scene.entry) (state_of now.now) field at reference }
 {
     if reference == 0 {
@@ -39,101 +39,101 @@ pub(crate) fn read_field(
     found(now.value_at(field, reference))
 }
 
-fn key_part(value: Value) -> Result<KeyPart, Stop>
+fn key_part(value: Value) -> Result<KeyPart, EvalStop>
     ensures { ended result ≡ found (p.key_part value) }
 {
     match value {
         Value::Int(number) => Ok(KeyPart::Int(number)),
         Value::Bool(truth) => Ok(KeyPart::Bool(truth)),
         Value::Ref(reference) => Ok(KeyPart::Ref(reference)),
-        Value::Perm(_) => Err(Stop::Blocked),
+        Value::Perm(_) => Err(EvalStop::Blocked),
     }
 }
 
 /// What is held after so much was added.
-pub fn added(held: Frac, scale: Frac, amount: Frac, at: Pos) -> Result<Frac, Stop>
+pub fn added(held: Frac, scale: Frac, amount: Frac, at: Pos) -> Result<Frac, EvalStop>
     ensures { ended result ≡ p.added Bounded held scale amount at }
 {
     let more = fitted(Frac::mul(scale, amount), at)?;
     fitted(Frac::add(held, more), at)
 }
 
-fn leaf(content: &Content) -> Result<Value, Stop>
+fn leaf(content: &Content) -> Result<Value, EvalStop>
     ensures { ended result ≡ p.leaf_of (content_of content.now) }
 {
     match content {
         Content::Leaf(value) => Ok(*value),
-        _ => Err(Stop::Blocked),
+        _ => Err(EvalStop::Blocked),
     }
 }
 
 /// Nothing is filled from the content of nothing.
-pub(crate) fn unit(content: &Content) -> Result<(), Stop>
+pub(crate) fn unit(content: &Content) -> Result<(), EvalStop>
     ensures { ended result ≡ p.unit_of (content_of content.now) }
 {
     match content {
         Content::Unit => Ok(()),
-        _ => Err(Stop::Blocked),
+        _ => Err(EvalStop::Blocked),
     }
 }
 
 /// A field of a reference.
 #[derive(Clone, Copy)]
-pub(crate) struct Place {
+pub(crate) struct HeapPlace {
     pub(crate) field: u32,
     pub(crate) reference: u64,
 }
 
-impl Place {
-    pub(crate) fn of(field: u32, reference: u64) -> Place
+impl HeapPlace {
+    pub(crate) fn of(field: u32, reference: u64) -> HeapPlace
         ensures { result ≡ record { field = field; reference = reference } }
     {
-        Place { field, reference }
+        HeapPlace { field, reference }
     }
 }
 
 /// A predicate with its arguments.
 #[derive(Drop)]
-pub struct Instance {
+pub struct InstanceKey {
     pub predicate: u32,
     pub key: Key,
 }
 
-impl Instance {
+impl InstanceKey {
     /// The instance of these two.
-    pub fn of(predicate: u32, key: Key) -> Instance
+    pub fn of(predicate: u32, key: Key) -> InstanceKey
         ensures { result ≡ record { predicate = predicate; key = key } }
     {
-        Instance { predicate, key }
+        InstanceKey { predicate, key }
     }
 }
 
 /// An amount of an assertion, the scale that multiplies it, and the place of what it is an amount of.
 #[derive(Clone, Copy)]
-pub struct Share {
+pub struct ScaledAmount {
     pub amount: Frac,
     pub scale: Frac,
     pub at: Pos,
 }
 
-impl Share {
+impl ScaledAmount {
     /// The share of these three.
-    pub fn of(amount: Frac, scale: Frac, at: Pos) -> Share
+    pub fn of(amount: Frac, scale: Frac, at: Pos) -> ScaledAmount
         ensures { result ≡ record { amount = amount; scale = scale; at = at } }
     {
-        Share { amount, scale, at }
+        ScaledAmount { amount, scale, at }
     }
 }
 
 /// The argument of an instance that has one.
-fn key_of_one(value: Value) -> Result<Key, Stop>
+fn key_of_one(value: Value) -> Result<Key, EvalStop>
     ensures { ended result ≡ found (p.key_of (value ∷ [])) }
 {
     Ok(Key::of_one(key_part(value)?))
 }
 
 /// The arguments of an instance.
-pub fn key_of(alloc: Global, values: &[Value]) -> Result<Key, Halt>
+pub fn key_of(alloc: Global, values: &[Value]) -> Result<Key, EvalHalt>
     ensures { Answers (λ key. key) [] (found (p.key_of values.now)) [] result }
 {
     if let [argument] = values {
@@ -150,19 +150,19 @@ pub fn key_of(alloc: Global, values: &[Value]) -> Result<Key, Halt>
 pub fn take(
     scene: SceneRef,
     state: &mut State,
-    instance: Instance,
+    instance: InstanceKey,
     amount: Frac,
     at: Pos,
-) -> Result<(), Halt>
+) -> Result<(), EvalHalt>
     ensures { Answers (λ _. state_of state.new) []
         (p.taken Bounded (lent scene.entry) (state_of state.old) instance.predicate instance.key amount at) [] result }
 {
     if !Frac::is_positive(amount) {
-        return Err(Halt::Stops(failure(scene, at, Kind::Amount)));
+        return Err(EvalHalt::Stops(failure(scene, at, Kind::Amount)));
     }
     let held = found(state.amount_at(instance.predicate, &instance.key))?;
     if fitted(Frac::cmp(held, amount), at)?.is_lt() {
-        return Err(Halt::Stops(failure(scene, at, Kind::Perm)));
+        return Err(EvalHalt::Stops(failure(scene, at, Kind::Perm)));
     }
     let left = fitted(Frac::sub(held, amount), at)?;
     state.set_amount(instance.predicate, instance.key, left)?;
@@ -176,7 +176,7 @@ fn is_same(value: &Value, other: &Value) -> bool
 }
 
 /// A place takes the value where there was no permission. Else it must have it.
-fn write(state: &mut State, place: Place, value: Value, held: Frac) -> Result<(), Halt>
+fn write(state: &mut State, place: HeapPlace, value: Value, held: Frac) -> Result<(), EvalHalt>
     ensures { Answers (λ _. state_of state.new) []
         (p.written (state_of state.old) place.field place.reference value held) [] result }
 {
@@ -189,7 +189,12 @@ fn write(state: &mut State, place: Place, value: Value, held: Frac) -> Result<()
 }
 
 /// A place takes the value, and so much more of it is held.
-fn fill_leaf(state: &mut State, place: Place, share: Share, value: Value) -> Result<(), Halt>
+fn fill_leaf(
+    state: &mut State,
+    place: HeapPlace,
+    share: ScaledAmount,
+    value: Value,
+) -> Result<(), EvalHalt>
     ensures { Answers (λ _. state_of state.new) []
         (p.fill_leaf Bounded share.scale place.field place.reference share.amount value share.at (state_of state.old)) [] result }
 {
@@ -197,7 +202,7 @@ fn fill_leaf(state: &mut State, place: Place, share: Share, value: Value) -> Res
     write(state, place, value, held)?;
     let all = added(held, share.scale, share.amount, share.at)?;
     if Frac::is_above_one(all) {
-        return Err(Halt::Stops(Stop::Blocked));
+        return Err(EvalHalt::Stops(EvalStop::Blocked));
     }
     state.set_mask(place.field, place.reference, all)?;
     Ok(())
@@ -210,18 +215,23 @@ fn has_type_of(value: &Value, other: &Value) -> bool
 }
 
 /// The value that a place takes from a content, which is recorded.
-fn leaf_for(state: &State, place: Place, content: &Content, feed: &mut Feed) -> Result<Value, Halt>
+fn leaf_for(
+    state: &State,
+    place: HeapPlace,
+    content: &Content,
+    feed: &mut Feed,
+) -> Result<Value, EvalHalt>
     ensures answers { Answers (λ v. v) (feed_of feed.old).events
         (p.leaf_for (state_of state.now) place.field place.reference (content_of content.now)) (feed_of feed.new).events result }
     ensures left { (feed_of feed.new).left ≡ (feed_of feed.old).left }
 {
     if place.reference == 0 {
-        return Err(Halt::Stops(Stop::Blocked));
+        return Err(EvalHalt::Stops(EvalStop::Blocked));
     }
     let value = leaf(content)?;
     let old = found(state.value_at(place.field, place.reference))?;
     if !has_type_of(&value, &old) {
-        return Err(Halt::Stops(Stop::Blocked));
+        return Err(EvalHalt::Stops(EvalStop::Blocked));
     }
     feed.record(leaf_event(&value))?;
     Ok(value)
@@ -237,18 +247,18 @@ fn leaf_event(value: &Value) -> Event
 pub(crate) fn fill_place(
     scene: SceneRef,
     state: &mut State,
-    place: Place,
-    share: Share,
+    place: HeapPlace,
+    share: ScaledAmount,
     content: &Content,
     feed: &mut Feed,
-) -> Result<(), Halt>
+) -> Result<(), EvalHalt>
     ensures answers { Answers (λ _. state_of state.new) (feed_of feed.old).events
         (p.fill_place Bounded (lent scene.entry) share.scale place.field place.reference share.amount (content_of content.now) share.at (state_of state.old))
         (feed_of feed.new).events result }
     ensures left { (feed_of feed.new).left ≡ (feed_of feed.old).left }
 {
     if Frac::is_negative(share.amount) {
-        return Err(Halt::Stops(failure(scene, share.at, Kind::Negative)));
+        return Err(EvalHalt::Stops(failure(scene, share.at, Kind::Negative)));
     }
     if Frac::is_none(share.amount) {
         return Ok(unit(content)?);
@@ -261,10 +271,10 @@ pub(crate) fn fill_place(
 fn contain(
     alloc: Global,
     state: &mut State,
-    instance: &Instance,
+    instance: &InstanceKey,
     content: &Content,
     held: Frac,
-) -> Result<(), Halt>
+) -> Result<(), EvalHalt>
     ensures { Answers (λ _. state_of state.new) []
         (p.contained (state_of state.old) instance.now.predicate instance.now.key (content_of content.now) held) [] result }
 {
@@ -281,10 +291,10 @@ fn contain(
 pub fn fill_held(
     alloc: Global,
     state: &mut State,
-    instance: Instance,
-    share: Share,
+    instance: InstanceKey,
+    share: ScaledAmount,
     content: &Content,
-) -> Result<(), Halt>
+) -> Result<(), EvalHalt>
     ensures { Answers (λ _. state_of state.new) []
         (p.fill_held Bounded share.scale instance.predicate instance.key share.amount (content_of content.now) share.at (state_of state.old)) [] result }
 {
@@ -300,15 +310,15 @@ pub(crate) fn fill_instance(
     alloc: Global,
     scene: SceneRef,
     state: &mut State,
-    instance: Instance,
-    share: Share,
+    instance: InstanceKey,
+    share: ScaledAmount,
     content: &Content,
-) -> Result<(), Halt>
+) -> Result<(), EvalHalt>
     ensures { Answers (λ _. state_of state.new) []
         (p.fill_instance Bounded (lent scene.entry) share.scale instance.predicate instance.key share.amount (content_of content.now) share.at (state_of state.old)) [] result }
 {
     if Frac::is_negative(share.amount) {
-        return Err(Halt::Stops(failure(scene, share.at, Kind::Negative)));
+        return Err(EvalHalt::Stops(failure(scene, share.at, Kind::Negative)));
     }
     if Frac::is_none(share.amount) {
         return Ok(unit(content)?);
@@ -321,7 +331,7 @@ pub(crate) fn split<'a>(
     alloc: Global,
     content: &'a Content,
     feed: &mut Feed,
-) -> Result<(&'a Content, &'a Content), Halt>
+) -> Result<(&'a Content, &'a Content), EvalHalt>
     ensures answers { Answers {Y = tree.Content × tree.Content} (λ parts. (content_of parts.0.now, content_of parts.1.now))
         (feed_of feed.old).events (p.pair_of (content_of content.now)) (feed_of feed.new).events result }
     ensures left { (feed_of feed.new).left ≡ (feed_of feed.old).left }
@@ -331,6 +341,6 @@ pub(crate) fn split<'a>(
             feed.record(Event::Split(left.copy(alloc)?, right.copy(alloc)?))?;
             Ok((left, right))
         }
-        Content::Unit | Content::Leaf(_) => Err(Halt::Stops(Stop::Blocked)),
+        Content::Unit | Content::Leaf(_) => Err(EvalHalt::Stops(EvalStop::Blocked)),
     }
 }

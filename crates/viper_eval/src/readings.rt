@@ -14,12 +14,13 @@ ghost use Rattle.viper_eval.specs.Answers.{Answers, ended};
 ghost use Rattle.viper_eval.specs.Steps.{unfolded_at};
 ghost use Rattle.viper_eval.specs.View.{lent};
 
-use crate::answers::{Halt, Stop};
+use crate::answers::{EvalHalt, EvalStop};
 use crate::operators::{
     assumed, combined, found, negation, negative, permission, reference, settled, truth,
 };
 use crate::places::{
-    Instance, Place, Share, fill_instance, fill_place, key_of, read_field, split, take, unit,
+    HeapPlace, InstanceKey, ScaledAmount, fill_instance, fill_place, key_of, read_field, split,
+    take, unit,
 };
 use crate::scenes::SceneRef;
 use std::alloc::Global;
@@ -28,7 +29,7 @@ use viper_core::{Amt, Assertion, Expr, Opened};
 use viper_state::{Feed, State, copy_state};
 
 /// The value of a variable.
-fn variable(scene: SceneRef, number: u32) -> Result<Value, Stop>
+fn variable(scene: SceneRef, number: u32) -> Result<Value, EvalStop>
     ensures { ended result ≡ found (slice_get (lent scene.entry).store number) }
 {
     found(scene.store.get(number as usize).copied())
@@ -42,7 +43,7 @@ pub fn eval_in(
     now: &State,
     scene: SceneRef,
     feed: &mut Feed,
-) -> Result<Value, Halt>
+) -> Result<Value, EvalHalt>
     requires e_within { IsWithinExpr (expr_of e.now) }
     requires now_within { IsWithinState (state_of now.now) }
     requires scene_within { IsWithinScene (lent scene) }
@@ -90,7 +91,7 @@ pub fn truth_of(
     now: &State,
     scene: SceneRef,
     feed: &mut Feed,
-) -> Result<bool, Halt>
+) -> Result<bool, EvalHalt>
     requires e_within { IsWithinExpr (expr_of e.now) }
     requires now_within { IsWithinState (state_of now.now) }
     requires scene_within { IsWithinScene (lent scene) }
@@ -110,7 +111,7 @@ pub fn reference_of(
     now: &State,
     scene: SceneRef,
     feed: &mut Feed,
-) -> Result<u64, Halt>
+) -> Result<u64, EvalHalt>
     requires e_within { IsWithinExpr (expr_of e.now) }
     requires now_within { IsWithinState (state_of now.now) }
     requires scene_within { IsWithinScene (lent scene) }
@@ -130,7 +131,7 @@ pub fn permission_of(
     now: &State,
     scene: SceneRef,
     feed: &mut Feed,
-) -> Result<Frac, Halt>
+) -> Result<Frac, EvalHalt>
     requires e_within { IsWithinExpr (expr_of e.now) }
     requires now_within { IsWithinState (state_of now.now) }
     requires scene_within { IsWithinScene (lent scene) }
@@ -150,7 +151,7 @@ pub fn amount_of(
     now: &State,
     scene: SceneRef,
     feed: &mut Feed,
-) -> Result<Frac, Halt>
+) -> Result<Frac, EvalHalt>
     requires amount_within { IsWithinAmount (amt_of amount.now) }
     requires now_within { IsWithinState (state_of now.now) }
     requires scene_within { IsWithinScene (lent scene) }
@@ -161,7 +162,7 @@ pub fn amount_of(
 {
     match amount {
         Amt::Is(e) => permission_of(alloc, e, now, scene, feed),
-        Amt::Wildcard => Err(Halt::Stops(Stop::Blocked)),
+        Amt::Wildcard => Err(EvalHalt::Stops(EvalStop::Blocked)),
     }
 }
 
@@ -173,7 +174,7 @@ pub fn eval_all(
     now: &State,
     scene: SceneRef,
     feed: &mut Feed,
-) -> Result<Vec<Value>, Halt>
+) -> Result<Vec<Value>, EvalHalt>
     requires es_within { AreWithinExprs (exprs_of es.now) }
     requires now_within { IsWithinState (state_of now.now) }
     requires scene_within { IsWithinScene (lent scene) }
@@ -196,7 +197,7 @@ pub fn key_in(
     now: &State,
     scene: SceneRef,
     feed: &mut Feed,
-) -> Result<Key, Halt>
+) -> Result<Key, EvalHalt>
     requires args_within { AreWithinExprs (exprs_of args.now) }
     requires now_within { IsWithinState (state_of now.now) }
     requires scene_within { IsWithinScene (lent scene) }
@@ -216,7 +217,7 @@ fn unfold(
     now: &State,
     scene: SceneRef,
     feed: &mut Feed,
-) -> Result<Value, Halt>
+) -> Result<Value, EvalHalt>
     requires opened_within { IsWithinOpened (opened_of opened.now) }
     requires now_within { IsWithinState (state_of now.now) }
     requires scene_within { IsWithinScene (lent scene) }
@@ -239,7 +240,7 @@ fn unfold_at(
     now: &State,
     scene: SceneRef,
     feed: &mut Feed,
-) -> Result<Value, Halt>
+) -> Result<Value, EvalHalt>
     requires opened_within { IsWithinOpened (opened_of opened.now) }
     requires args_within { All IsWithinValue args.now }
     requires now_within { IsWithinState (state_of now.now) }
@@ -252,7 +253,7 @@ fn unfold_at(
     let key = key_of(alloc, args)?;
     let content = now.content_at(opened.predicate, &key);
     let mut copy = copy_state(alloc, now)?;
-    let instance = Instance::of(opened.predicate, key);
+    let instance = InstanceKey::of(opened.predicate, key);
     take(scene, &mut copy, instance, amount, opened.place)?;
     let content = found(content)?;
     let inside = scene.with_variables(args);
@@ -278,7 +279,7 @@ pub fn open_in(
     scene: SceneRef,
     scale: Frac,
     feed: &mut Feed,
-) -> Result<(), Halt>
+) -> Result<(), EvalHalt>
     requires body_within { IsWithinAssertion (assertion_of body.now) }
     requires content_within { IsWithinContent (content_of content.now) }
     requires state_within { IsWithinState (state_of state.old) }
@@ -296,15 +297,15 @@ pub fn open_in(
         Assertion::Acc(e, field, amount, at) => {
             let receiver = reference_of(alloc, e, state, scene, feed)?;
             let amount = amount_of(alloc, amount, state, scene, feed)?;
-            let place = Place::of(*field, receiver);
-            let share = Share::of(amount, scale, *at);
+            let place = HeapPlace::of(*field, receiver);
+            let share = ScaledAmount::of(amount, scale, *at);
             fill_place(scene, state, place, share, content, feed)
         }
         Assertion::Inst(predicate, args, amount, at) => {
             let key = key_in(alloc, args, state, scene, feed)?;
             let amount = amount_of(alloc, amount, state, scene, feed)?;
-            let instance = Instance::of(*predicate, key);
-            let share = Share::of(amount, scale, *at);
+            let instance = InstanceKey::of(*predicate, key);
+            let share = ScaledAmount::of(amount, scale, *at);
             fill_instance(alloc, scene, state, instance, share, content)
         }
         Assertion::And(a, b) => {

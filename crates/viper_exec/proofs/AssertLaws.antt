@@ -10,8 +10,8 @@ use Rattle.viper_meaning.specs.Run.{Run, then_do}
 use Rattle.viper_meaning.specs.Statements.{consume_all}
 use Rattle.viper_meaning.proofs.ThenLaws.{then_then, then_same, goes_then}
 use Rattle.viper_inhale.specs.Answers.{Does}
-use Rattle.viper_inhale.specs.declared.answers.Halt.{Halt}
-use Rattle.exec_meaning.specs.Execution.{Went, asserting}
+use Rattle.viper_inhale.specs.declared.answers.StepHalt.{StepHalt}
+use Rattle.viper_exec_meaning.specs.Execution.{Went, asserting}
 use Rattle.viper_exec.specs.declared.answers.Quit.TheVariants as quit
 use Rattle.viper_exec.specs.Answers.{Executes}
 use Rattle.viper_exec.specs.Steps.{asserted}
@@ -30,5 +30,5 @@ module _ (clauses : List t.Assertion) (st : State) (sc : Scene) {X : Type 0} {r 
   pub asserts : {f g : Feed} (n : ℕ) {x : ⊤} → Does (λ x. x) f (asserted clauses st sc) g (Ok x) → Reaches f n r g n go
   asserts n h = first_goes n (λ k u. go k) to_go h
 
-  pub assert_stops : {f g : Feed} (n : ℕ) {Z : Type 0} {u : Z → X} {w : Halt} → Does {X = ⊤} (λ x. x) f (asserted clauses st sc) g (Err w) → Executes u f n r g n (Err (quit.Halts w))
+  pub assert_stops : {f g : Feed} (n : ℕ) {Z : Type 0} {u : Z → X} {w : StepHalt} → Does {X = ⊤} (λ x. x) f (asserted clauses st sc) g (Err w) → Executes u f n r g n (Err (quit.Halts w))
   assert_stops n h = first_stops n (λ k u. go k) to_go h

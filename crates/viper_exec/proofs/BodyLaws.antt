@@ -22,7 +22,7 @@ use Rattle.viper_meaning.proofs.StatementKeptLaws.{consume_all_within, taking_va
 use Rattle.viper_inhale.specs.Answers.{Does}
 use Rattle.viper_inhale.proofs.DoesLaws.{does_keep}
 use Rattle.viper_run.specs.Ready.{IsReady}
-use Rattle.exec_meaning.specs.Execution.{Went, Still, returns_in, bodies_within}
+use Rattle.viper_exec_meaning.specs.Execution.{Went, Still, returns_in, bodies_within}
 use Rattle.viper_exec.specs.declared.answers.Quit.{Quit}
 use Rattle.viper_exec.specs.Answers.{Takes, Executes, no_memory, goes, stops, spent}
 use Rattle.viper_exec.specs.Steps.{IsReadyBody, call_begun, entry_of, body_from}

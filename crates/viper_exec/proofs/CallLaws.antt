@@ -14,10 +14,10 @@ use Rattle.viper_meaning.specs.Run.{then_do}
 use Rattle.viper_meaning.specs.Statements.{consume_all, taking_values}
 use Rattle.viper_meaning.proofs.ThenLaws.{then_then, then_same, goes_then}
 use Rattle.viper_inhale.specs.Answers.{Does}
-use Rattle.viper_inhale.specs.declared.answers.Halt.{Halt}
+use Rattle.viper_inhale.specs.declared.answers.StepHalt.{StepHalt}
 use Rattle.viper_inhale.proofs.DoesLaws.{goes_at_once}
 use Rattle.viper_inhale.proofs.FormLaws.{first_stops, both_go}
-use Rattle.exec_meaning.specs.Execution.{returns_in}
+use Rattle.viper_exec_meaning.specs.Execution.{returns_in}
 use Rattle.viper_exec.specs.Steps.{asserted, returns_taken, call_begun}
 
 -- ---- the numbers of the returns
@@ -36,7 +36,7 @@ module _ (m : Method) (args : List Value) {us : List Ty} {xs : List ℕ} (typed 
   taken_is : returns_taken m args ≡ then_do (taking_values us xs) (λ vs. run.goes (args ++ vs))
   taken_is i = then_do (taking_values (sym typed i) (sym numbers i)) (λ vs. run.goes (args ++ vs))
 
-  pub values_stop : {X Z : Type 0} {v : X → List Value} {u : Z → List Value} {f g : Feed} {w : Halt} → Does v f (taking_values us xs) g (Err w) → Does u f (returns_taken m args) g (Err w)
+  pub values_stop : {X Z : Type 0} {v : X → List Value} {u : Z → List Value} {f g : Feed} {w : StepHalt} → Does v f (taking_values us xs) g (Err w) → Does u f (returns_taken m args) g (Err w)
   values_stop {v = v} h = first_stops {v = v} (λ vs. run.goes (args ++ vs)) taken_is h
 
   pub values_taken : {X Z : Type 0} {v : X → List Value} {u : Z → List Value} {f g : Feed} {x : X} (z : Z) → u z ≡ args ++ v x → Does v f (taking_values us xs) g (Ok x) → Does u f (returns_taken m args) g (Ok z)
@@ -53,8 +53,8 @@ module _ (m : Method) (args : List Value) (s : State) {sc sd : Scene} {asked : L
       sym (then_then (consume_all Bounded m.preconditions s sd s) (λ left. run.goes done) (λ u. returns_taken m args) ∙ then_same (consume_all Bounded m.preconditions s sd s) (λ left. goes_then done (λ u. returns_taken m args)))
       ∙ (λ i. then_do (asserted (sym all_asked i) s (sym here i)) (λ u. returns_taken m args))
 
-  pub begin_stops : {Z : Type 0} {u : Z → List Value} {f g : Feed} {w : Halt} → Does {X = ⊤} (λ x. x) f (asserted asked s sc) g (Err w) → Does u f (call_begun m args sd s) g (Err w)
+  pub begin_stops : {Z : Type 0} {u : Z → List Value} {f g : Feed} {w : StepHalt} → Does {X = ⊤} (λ x. x) f (asserted asked s sc) g (Err w) → Does u f (call_begun m args sd s) g (Err w)
   begin_stops h = first_stops {X = ⊤} {v = λ x. x} (λ u. returns_taken m args) begun_is h
 
-  pub begin_goes : {Z : Type 0} {u : Z → List Value} {f n g : Feed} {x : ⊤} {q : Result Z Halt} → Does (λ x. x) f (asserted asked s sc) n (Ok x) → Does u n (returns_taken m args) g q → Does u f (call_begun m args sd s) g q
+  pub begin_goes : {Z : Type 0} {u : Z → List Value} {f n g : Feed} {x : ⊤} {q : Result Z StepHalt} → Does (λ x. x) f (asserted asked s sc) n (Ok x) → Does u n (returns_taken m args) g q → Does u f (call_begun m args sd s) g q
   begin_goes h i = both_go {v = λ x. x} (λ u. returns_taken m args) begun_is h i

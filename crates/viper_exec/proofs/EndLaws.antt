@@ -16,15 +16,15 @@ use Rattle.viper_meaning.specs.Run.{Run, ended, then_do, Ran, ran, since, on}
 use Rattle.viper_meaning.specs.Statements.{Configuration}
 use Rattle.viper_meaning.specs.Units.{first_store, begin_method}
 use Rattle.viper_meaning.proofs.ThenLaws.{then_then, then_same, goes_then}
-use Rattle.exec_meaning.specs.Execution as e
-use Rattle.exec_meaning.specs.Execution.{Went, Still, going_on, bodies_within, exec, execution}
-use Rattle.exec_meaning.specs.Budget.{is_spent, begun}
-use Rattle.exec_meaning.proofs.BudgetCutLaws.{spent_since}
+use Rattle.viper_exec_meaning.specs.Execution as e
+use Rattle.viper_exec_meaning.specs.Execution.{Went, Still, going_on, bodies_within, exec, execution}
+use Rattle.viper_exec_meaning.specs.Budget.{is_spent, begun}
+use Rattle.viper_exec_meaning.proofs.BudgetCutLaws.{spent_since}
 use Rattle.viper_inhale.specs.Answers.{run_of, stopped, Does}
-use Rattle.viper_inhale.specs.declared.answers.Halt.{Halt}
-use Rattle.viper_inhale.specs.declared.answers.Halt.TheVariants as halt
-use Rattle.viper_inhale.specs.declared.answers.Stop.{Stop as End}
-use Rattle.viper_inhale.specs.declared.answers.Stop.TheVariants as stop
+use Rattle.viper_inhale.specs.declared.answers.StepHalt.{StepHalt}
+use Rattle.viper_inhale.specs.declared.answers.StepHalt.TheVariants as halt
+use Rattle.viper_inhale.specs.declared.answers.StepStop.{StepStop}
+use Rattle.viper_inhale.specs.declared.answers.StepStop.TheVariants as stop
 use Rattle.viper_run.specs.Steps.{method_begun}
 use Rattle.viper_exec.specs.declared.answers.Quit.{Quit}
 use Rattle.viper_exec.specs.declared.answers.Quit.TheVariants as quit
@@ -50,7 +50,7 @@ module _ (program : Program) (meth : Method) (body : Body) (o : Opening) where
       ∙ then_same (begin_method Bounded program meth o) (λ s. goes_then (record { store = first_store meth o.store; state = s }) (to_body n)))
 
   module _ {X : Type 0} {v : X → Configuration} {f g : Feed} (n : ℕ) where
-    pub start_stops : {Z : Type 0} {u : Z → State} {w : Halt} → Does v f (method_begun program meth o) g (Err w) → Executes u f n (exec Bounded program meth body o) g n (Err (quit.Halts w))
+    pub start_stops : {Z : Type 0} {u : Z → State} {w : StepHalt} → Does v f (method_begun program meth o) g (Err w) → Executes u f n (exec Bounded program meth body o) g n (Err (quit.Halts w))
     start_stops h = first_stops n to_body begun_is h
 
     module _ {x : X} (begins : Does v f (method_begun program meth o) g (Ok x)) {Y : Type 0} {t : Y → Configuration} {h : Feed} {left : ℕ} where
@@ -75,11 +75,11 @@ module _ (program : Program) (number : ℕ) (o : Opening) where
   method_is meth there k = ap (λ e. then_do (ended e) (to_method k)) (sym there) ∙ goes_then meth (to_method k)
 
   module _ {f : Feed} (n : ℕ) {Z : Type 0} {u : Z → State} where
-    pub no_method : {Y : Type 0} {w : Y → Method} {q : Halt} → Does w f (ended (found (slice_get program.methods number))) f (Err q) → Executes u f n (execution Bounded program number o) f n (Err (quit.Halts q))
+    pub no_method : {Y : Type 0} {w : Y → Method} {q : StepHalt} → Does w f (ended (found (slice_get program.methods number))) f (Err q) → Executes u f n (execution Bounded program number o) f n (Err (quit.Halts q))
     no_method h = first_stops n to_method (λ k. refl) h
 
     module _ (meth : Method) (there : is meth ≡ found (slice_get program.methods number)) where
-      pub no_body : {Y : Type 0} {w : Y → Body} {q : Halt} → Does w f (ended (found meth.body)) f (Err q) → Executes u f n (execution Bounded program number o) f n (Err (quit.Halts q))
+      pub no_body : {Y : Type 0} {w : Y → Body} {q : StepHalt} → Does w f (ended (found meth.body)) f (Err q) → Executes u f n (execution Bounded program number o) f n (Err (quit.Halts q))
       no_body h = same_executions (method_is meth there) (first_stops n (to_exec meth) (λ k. refl) h)
 
       pub a_body : {g : Feed} {left : ℕ} {q : Result Z Quit} (body : Body) → is body ≡ found meth.body → Executes u f n (exec Bounded program meth body o) g left q → Executes u f n (execution Bounded program number o) g left q
@@ -121,19 +121,19 @@ module _ {X : Type 0} {f : Feed} {r : ℕ → Run (Went X)} {n left : ℕ} {last
 
 -- ---- how it ended
 
-stopped_alike : (X Y : Type 0) (w : End) → end_of (stopped {X = Went X} w) ≡ end_of (stopped {X = Went Y} w)
+stopped_alike : (X Y : Type 0) (w : StepStop) → end_of (stopped {X = Went X} w) ≡ end_of (stopped {X = Went Y} w)
 stopped_alike X Y (stop.Fails l) = refl
 stopped_alike X Y stop.Blocked = refl
 stopped_alike X Y stop.Short = refl
 stopped_alike X Y (stop.Over at) = refl
 
-not_done : {X : Type 0} (w : End) (x : X) → stopped w ≡ m.Goes x → ⊥
+not_done : {X : Type 0} (w : StepStop) (x : X) → stopped w ≡ m.Goes x → ⊥
 not_done (stop.Fails l) x h = cc
 not_done stop.Blocked x h = cc
 not_done stop.Short x h = cc
 not_done (stop.Over at) x h = cc
 
-never_spent : (X : Type 0) (es : List _) (w : End) (left : List _) → is_spent {X = X} (ran es (stopped w) left) ≡ false
+never_spent : (X : Type 0) (es : List _) (w : StepStop) (left : List _) → is_spent {X = X} (ran es (stopped w) left) ≡ false
 never_spent X es (stop.Fails l) left = refl
 never_spent X es stop.Blocked left = refl
 never_spent X es stop.Short left = refl
@@ -167,7 +167,7 @@ module _ (f : Feed) (r : ℕ → Run (Went State)) (n : ℕ) (g : FeedOf) (left 
     unused = unused ∙ all_left g.choices.items g.next;
   }
 
-  ends_stopped : {X : Type 0} {v : X → State} {w : End} → Executes v f n r (feed_of g) left (Err (quit.Halts (halt.Stops w))) → x.end ≡ end_of (stopped {X = Went ⊤} w) → EndsExecution (λ k. on (r k) f.left) n x
+  ends_stopped : {X : Type 0} {v : X → State} {w : StepStop} → Executes v f n r (feed_of g) left (Err (quit.Halts (halt.Stops w))) → x.end ≡ end_of (stopped {X = Went ⊤} w) → EndsExecution (λ k. on (r k) f.left) n x
   ends_stopped {w = w} (stops h) is = record {
     events = (feed_of g).events;
     step = stopped w;
@@ -192,7 +192,7 @@ module _ (f : Feed) (r : ℕ → Run (Went State)) (n : ℕ) (g : FeedOf) (left 
   }
 
   -- what the answer told, where there was memory
-  pub ends_told : {X : Type 0} {v : X → State} {told : Result ExecEnd Memory} {o : ExecEnd} (q : Quit) → Executes v f n r (feed_of g) left (Err q) → ((w : End) → q ≡ quit.Halts (halt.Stops w) → told ≡ Ok (end_of (stopped {X = Went ⊤} w))) →
+  pub ends_told : {X : Type 0} {v : X → State} {told : Result ExecEnd Memory} {o : ExecEnd} (q : Quit) → Executes v f n r (feed_of g) left (Err q) → ((w : StepStop) → q ≡ quit.Halts (halt.Stops w) → told ≡ Ok (end_of (stopped {X = Went ⊤} w))) →
       (q ≡ quit.Spent → told ≡ Ok end.Spent) → (q ≡ quit.Halts halt.Memory → IsErr told) → told ≡ Ok o → x.end ≡ o → EndsExecution (λ k. on (r k) f.left) n x
   ends_told {o = o} (quit.Halts halt.Memory) d by_stop by_budget by_memory was same = absurd (no_error o (subst IsErr was (by_memory refl)))
   ends_told {o = o} (quit.Halts (halt.Stops w)) d by_stop by_budget by_memory was same = ends_stopped d (same ∙ same_told o (end_of (stopped {X = Went ⊤} w)) (sym was ∙ by_stop w refl))

@@ -14,8 +14,8 @@ use Rattle.viper_meaning.specs.Statements.{Activation, Configuration, scene, con
 use Rattle.viper_meaning.specs.Units.{first_store}
 use Rattle.viper_meaning.specs.Value.{values, truth_in}
 use Rattle.viper_meaning.proofs.ThenLaws.{then_then, then_same, goes_then}
-use Rattle.exec_meaning.specs.Execution.{Went, Still, Spent, with_went, going_on, keeping, beginning, asserting, Bodies, returns_in, exec_call, exec_called, exec_turns, exec_stmt, exec_block, bodies_within}
-use Rattle.exec_meaning.proofs.BudgetDepthLaws.{IsLeft, LeavesAtMost, stmt_left, block_left, within_left, deeper_block, same_after}
+use Rattle.viper_exec_meaning.specs.Execution.{Went, Still, Spent, with_went, going_on, keeping, beginning, asserting, Bodies, returns_in, exec_call, exec_called, exec_turns, exec_stmt, exec_block, bodies_within}
+use Rattle.viper_exec_meaning.proofs.BudgetDepthLaws.{IsLeft, LeavesAtMost, stmt_left, block_left, within_left, deeper_block, same_after}
 use Rattle.viper_exec.specs.Frames.{Caller, Frame, Block, Turn, End, Return, Machine, bodies, block, turns, turned, configuration_at, resume, doing, doing_plain, turning, calling, calling_bare}
 use Rattle.viper_exec.specs.Steps.{call_begun, returns_taken, entry_of}
 

@@ -25,9 +25,9 @@ use Rattle.viper_meaning.proofs.ShapeLaws.{called_shape, run_stmt_shape}
 use Rattle.viper_meaning.proofs.StatementKeptLaws.{called_within, run_stmt_within}
 use Rattle.viper_meaning.proofs.ThenLaws.{goes_then}
 use Rattle.viper_inhale.specs.Answers.{Does}
-use Rattle.viper_inhale.specs.declared.answers.Halt.{Halt}
+use Rattle.viper_inhale.specs.declared.answers.StepHalt.{StepHalt}
 use Rattle.viper_run.proofs.ReadyLaws.{ready_at, stays_ready, still_ready, within_of}
-use Rattle.exec_meaning.specs.Execution.{Went, going_on, beginning, exec_called, returned}
+use Rattle.viper_exec_meaning.specs.Execution.{Went, going_on, beginning, exec_called, returned}
 use Rattle.viper_exec.specs.declared.answers.Quit.{Quit}
 use Rattle.viper_exec.specs.declared.answers.Quit.TheVariants as quit
 use Rattle.viper_exec.specs.declared.frames.Frame as frame
@@ -146,7 +146,7 @@ module _ (k : Activation) (c : Configuration) (frames : List Frame) where
         then_steps (same_runs n (λ j. ap (λ r. going_on r (resume frames k)) (others (bodies k j) k c j a call branch turn))) (omega (arith, low)) h
 
   module _ {f g : Feed} (n : ℕ) (a : s.Stmt) {X : Type 0} {v : X → Configuration} where
-    pub plain_stops : {w : Halt} → Does v f (run_stmt Bounded k a c) g (Err w) → Executes {X = Configuration} (λ c. c) f n (doing_plain here a) g n (Err (quit.Halts w))
+    pub plain_stops : {w : StepHalt} → Does v f (run_stmt Bounded k a c) g (Err w) → Executes {X = Configuration} (λ c. c) f n (doing_plain here a) g n (Err (quit.Halts w))
     plain_stops h = first_stops n (λ j d. resume frames k j d) (λ j. plain k frames c a j) h
 
     pub plain_steps : {x : X} {y : ⊤} → IsWithinStmt a → IsReadyMachine here f → Does v f (run_stmt Bounded k a c) g (Ok x) → Steps f n (doing_plain here a) (1 + steps_left frames) g n (record { activation = k; configuration = v x; frames = frames }) (Ok y)
@@ -159,7 +159,7 @@ module _ (k : Activation) (c : Configuration) (frames : List Frame) where
   -- ---- a condition
 
   module _ {f g : Feed} (n : ℕ) (at : Pos) (e : t.Expr) (first second : s.Stmts) where
-    pub condition_stops : {w : Halt} → Does {X = Bool} (λ b. b) f (ended (truth_in Bounded e c.state (scene k c at))) g (Err w) → Executes {X = Configuration} (λ c. c) f n (doing here (s.If at e first second)) g n (Err (quit.Halts w))
+    pub condition_stops : {w : StepHalt} → Does {X = Bool} (λ b. b) f (ended (truth_in Bounded e c.state (scene k c at))) g (Err w) → Executes {X = Configuration} (λ c. c) f n (doing here (s.If at e first second)) g n (Err (quit.Halts w))
     condition_stops h = first_stops n (λ j holds. resume (Block (if holds then first else second) ∷ frames) k j c) (λ j. either k frames c at e first second j) h
 
     pub block_chosen : {holds : Bool} {block : s.Stmts} {above : List Frame} {y : ⊤} → Does (λ b. b) f (ended (truth_in Bounded e c.state (scene k c at))) g (Ok holds) → block ≡ (if holds then first else second) → above ≡ Block block ∷ frames →
@@ -187,7 +187,7 @@ module _ (k : Activation) (c : Configuration) (frames : List Frame) where
 
     -- the invariants are asserted, before the loop and at the end of a turn
     module _ {f g : Feed} (n : ℕ) (from : Pos) where
-      pub invariants_stop : {q : Halt} → Does {X = ⊤} (λ x. x) f (asserted invariants c.state (scene k c from)) g (Err q) → Executes {X = Configuration} (λ c. c) f n (turning_from here from w) g n (Err (quit.Halts q))
+      pub invariants_stop : {q : StepHalt} → Does {X = ⊤} (λ x. x) f (asserted invariants c.state (scene k c from)) g (Err q) → Executes {X = Configuration} (λ c. c) f n (turning_from here from w) g n (Err (quit.Halts q))
       invariants_stop h = assert_stops invariants c.state (scene k c from) (turning here w) (λ j. refl) n h
 
       pub invariants_hold : {X : Type 0} {h : Feed} {left most : ℕ} {there : Machine} {q : Result X Quit} {x : ⊤} → Does (λ x. x) f (asserted invariants c.state (scene k c from)) g (Ok x) →
@@ -202,7 +202,7 @@ module _ (k : Activation) (c : Configuration) (frames : List Frame) where
       turned_on i = then_steps (same_runs n (turn_ended k frames c at guard invariants body turn targets)) (omega arith) i
 
     module _ {f g : Feed} (n : ℕ) where
-      pub guard_stops : {q : Halt} → Does {X = Bool} (λ b. b) f (ended (truth_in Bounded guard c.state (scene k c at))) g (Err q) → Executes {X = Configuration} (λ c. c) f n (turning here w) g n (Err (quit.Halts q))
+      pub guard_stops : {q : StepHalt} → Does {X = Bool} (λ b. b) f (ended (truth_in Bounded guard c.state (scene k c at))) g (Err q) → Executes {X = Configuration} (λ c. c) f n (turning here w) g n (Err (quit.Halts q))
       guard_stops h = first_stops n (turn_or_end k frames c at guard invariants body turn targets) (turn_next k frames c at guard invariants body turn targets) h
 
       module _ {holds : Bool} (guarded : Does (λ b. b) f (ended (truth_in Bounded guard c.state (scene k c at))) g (Ok holds)) where
@@ -231,7 +231,7 @@ module _ (k : Activation) (c : Configuration) (frames : List Frame) where
   -- ---- a call
 
   module _ (at : Pos) (targets : List ℕ) (number : ℕ) (es : t.Exprs) where
-    pub args_stop : {f g : Feed} (n : ℕ) {w : Halt} → Does {X = List Value} (λ vs. vs) f (ended (values Bounded es c.state (scene k c at))) g (Err w) → Executes {X = Configuration} (λ c. c) f n (doing here (s.Call at targets number es)) g n (Err (quit.Halts w))
+    pub args_stop : {f g : Feed} (n : ℕ) {w : StepHalt} → Does {X = List Value} (λ vs. vs) f (ended (values Bounded es c.state (scene k c at))) g (Err w) → Executes {X = Configuration} (λ c. c) f n (doing here (s.Call at targets number es)) g n (Err (quit.Halts w))
     args_stop n h = first_stops n (to_callee k frames c at targets number es) (call_next k frames c at targets number es) h
 
     module _ {f g : Feed} (n : ℕ) {X : Type 0} {v : X → List Value} where
@@ -239,7 +239,7 @@ module _ (k : Activation) (c : Configuration) (frames : List Frame) where
         asks : Reaches f n (doing here (s.Call at targets number es)) g n (λ j. to_callee k frames c at targets number es j (v x))
         asks = first_goes n (to_callee k frames c at targets number es) (call_next k frames c at targets number es) args
 
-        pub callee_stops : {Y : Type 0} {u : Y → Method} {q : Halt} → Does u g (ended (found (slice_get k.program.methods number))) g (Err q) → Executes {X = Configuration} (λ c. c) f n (doing here (s.Call at targets number es)) g n (Err (quit.Halts q))
+        pub callee_stops : {Y : Type 0} {u : Y → Method} {q : StepHalt} → Does u g (ended (found (slice_get k.program.methods number))) g (Err q) → Executes {X = Configuration} (λ c. c) f n (doing here (s.Call at targets number es)) g n (Err (quit.Halts q))
         callee_stops h = then_executes asks (first_stops n (λ j callee. to_called k frames c at targets number es j (v x) callee) (λ j. refl) h)
 
         module _ (callee : Method) (found_there : is callee ≡ found (slice_get k.program.methods number)) where
@@ -253,7 +253,7 @@ module _ (k : Activation) (c : Configuration) (frames : List Frame) where
           callee_bare none i = then_steps (after asks (same_runs n (λ j. callee_is j ∙ ap (λ o. going_on (exec_called Bounded (bodies k j) k targets callee o (v x) at j c) (resume frames k)) none))) (omega arith) i
 
   module _ (at : Pos) (targets : List ℕ) (callee : Method) (args : List Value) {f g : Feed} (n : ℕ) {X : Type 0} {v : X → Configuration} where
-    pub bare_stops : {w : Halt} → Does v f (called Bounded k targets callee args at c) g (Err w) → Executes {X = Configuration} (λ c. c) f n (calling_bare here at targets callee args) g n (Err (quit.Halts w))
+    pub bare_stops : {w : StepHalt} → Does v f (called Bounded k targets callee args at c) g (Err w) → Executes {X = Configuration} (λ c. c) f n (calling_bare here at targets callee args) g n (Err (quit.Halts w))
     bare_stops h = first_stops n (λ j d. resume frames k j d) (bare_next k frames c at targets callee args) h
 
     pub bare_steps : {x : X} {y : ⊤} → IsWithinMethod callee → All IsWithinValue args → IsReadyMachine here f → Does v f (called Bounded k targets callee args at c) g (Ok x) →
@@ -271,7 +271,7 @@ module _ (k : Activation) (c : Configuration) (frames : List Frame) where
     begin_with j given = beginning j (a_body k frames c at targets callee args body given)
 
     module _ {f g : Feed} (n : ℕ) {X : Type 0} {v : X → List Value} where
-      pub call_stops : {w : Halt} → Does v f (call_begun callee args (with_variables args (scene k c at)) c.state) g (Err w) → Executes {X = Configuration} (λ c. c) f n (calling here at targets callee body args) g n (Err (quit.Halts w))
+      pub call_stops : {w : StepHalt} → Does v f (call_begun callee args (with_variables args (scene k c at)) c.state) g (Err w) → Executes {X = Configuration} (λ c. c) f n (calling here at targets callee body args) g n (Err (quit.Halts w))
       call_stops h = first_stops n begin_with (body_next k frames c at targets callee args body) h
 
       module _ {x : X} (begun : Does v f (call_begun callee args (with_variables args (scene k c at)) c.state) g (Ok x)) where
@@ -303,7 +303,7 @@ module _ (k : Activation) (c : Configuration) (frames : List Frame) where
   -- ---- the end of a body, and its caller
 
   module _ (meth : Method) (turn : Pos) {f g : Feed} (n : ℕ) where
-    pub post_stops : {w : Halt} → Does {X = ⊤} (λ x. x) f (asserted meth.postconditions c.state (scene k c turn)) g (Err w) → Executes {X = Configuration} (λ c. c) f n (λ n. resume (End meth turn ∷ frames) k n c) g n (Err (quit.Halts w))
+    pub post_stops : {w : StepHalt} → Does {X = ⊤} (λ x. x) f (asserted meth.postconditions c.state (scene k c turn)) g (Err w) → Executes {X = Configuration} (λ c. c) f n (λ n. resume (End meth turn ∷ frames) k n c) g n (Err (quit.Halts w))
     post_stops h = assert_stops meth.postconditions c.state (scene k c turn) (λ n. resume frames k n c) (λ n. refl) n h
 
     pub post_steps : {x y : ⊤} → IsReadyMachine here f → Does (λ x. x) f (asserted meth.postconditions c.state (scene k c turn)) g (Ok x) → Steps f n (λ n. resume (End meth turn ∷ frames) k n c) (1 + steps_left frames) g n here (Ok y)

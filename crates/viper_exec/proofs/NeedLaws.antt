@@ -19,16 +19,16 @@ use Rattle.viper_meaning.specs.Statements.{Activation, Configuration, stored}
 use Rattle.viper_meaning.specs.Units.{first_store}
 use Rattle.viper_meaning.specs.Value.{values, truth_in}
 use Rattle.viper_eval.specs.Answers as reading
-use Rattle.viper_eval.specs.declared.answers.Stop.{Stop as EndOfReading}
+use Rattle.viper_eval.specs.declared.answers.EvalStop.{EvalStop}
 use Rattle.viper_eval.proofs.AnswerLaws.{stops_with}
 use Rattle.viper_inhale.specs.Answers.{Does, run_stop}
-use Rattle.viper_inhale.specs.declared.answers.Halt.{Halt}
-use Rattle.viper_inhale.specs.declared.answers.Halt.TheVariants as halt
+use Rattle.viper_inhale.specs.declared.answers.StepHalt.{StepHalt}
+use Rattle.viper_inhale.specs.declared.answers.StepHalt.TheVariants as halt
 use Rattle.viper_inhale.proofs.DoesLaws.{ended_stops}
 use Rattle.viper_run.specs.Ready.{CanGoOn, IsReady}
 use Rattle.viper_run.proofs.LoopReadyLaws.{stored_within}
 use Rattle.viper_run.proofs.UnitLaws.{first_store_within}
-use Rattle.exec_meaning.specs.Execution.{returned}
+use Rattle.viper_exec_meaning.specs.Execution.{returned}
 use Rattle.viper_exec.specs.Steps.{IsReadyBody, entry_of, asserted}
 
 -- ---- a method and its body
@@ -69,16 +69,16 @@ returned_ready {k = k} {e = e} {c = c} {d = d} {g = g} targets callee same h i =
 
 -- ---- the scene of a step
 
-pub guarded_in : {X : Type 0} {v : X → Bool} {f g : Feed} {q : Result X Halt} {sc sd : Scene} (e : t.Expr) (st : State) → sc ≡ sd → Does v f (ended (truth_in Bounded e st sc)) g q → Does v f (ended (truth_in Bounded e st sd)) g q
+pub guarded_in : {X : Type 0} {v : X → Bool} {f g : Feed} {q : Result X StepHalt} {sc sd : Scene} (e : t.Expr) (st : State) → sc ≡ sd → Does v f (ended (truth_in Bounded e st sc)) g q → Does v f (ended (truth_in Bounded e st sd)) g q
 guarded_in {v = v} {f = f} {g = g} {q = q} e st same h = subst (λ sc. Does v f (ended (truth_in Bounded e st sc)) g q) same h
 
-pub valued_in : {X : Type 0} {v : X → List Value} {f g : Feed} {q : Result X Halt} {sc sd : Scene} (es : t.Exprs) (st : State) → sc ≡ sd → Does v f (ended (values Bounded es st sc)) g q → Does v f (ended (values Bounded es st sd)) g q
+pub valued_in : {X : Type 0} {v : X → List Value} {f g : Feed} {q : Result X StepHalt} {sc sd : Scene} (es : t.Exprs) (st : State) → sc ≡ sd → Does v f (ended (values Bounded es st sc)) g q → Does v f (ended (values Bounded es st sd)) g q
 valued_in {v = v} {f = f} {g = g} {q = q} es st same h = subst (λ sc. Does v f (ended (values Bounded es st sc)) g q) same h
 
-pub asserted_in : {f g : Feed} {q : Result ⊤ Halt} {sc sd : Scene} {asked all : List t.Assertion} (st : State) → asked ≡ all → sc ≡ sd → Does (λ x. x) f (asserted asked st sc) g q → Does (λ x. x) f (asserted all st sd) g q
+pub asserted_in : {f g : Feed} {q : Result ⊤ StepHalt} {sc sd : Scene} {asked all : List t.Assertion} (st : State) → asked ≡ all → sc ≡ sd → Does (λ x. x) f (asserted asked st sc) g q → Does (λ x. x) f (asserted all st sd) g q
 asserted_in {f = f} {g = g} {q = q} {sc = sc} {all = all} st asks same h = subst (λ sc. Does (λ x. x) f (asserted all st sc) g q) same (subst (λ asked. Does (λ x. x) f (asserted asked st sc) g q) asks h)
 
 -- ---- what is not found
 
-pub not_found : {X Y : Type 0} {u : X → Y} {f : Feed} {e : Evaluated Y} (w : EndOfReading) → ends [] (reading.stopped w) ≡ e → Does u f (ended e) f (Err (halt.Stops (run_stop w)))
+pub not_found : {X Y : Type 0} {u : X → Y} {f : Feed} {e : Evaluated Y} (w : EvalStop) → ends [] (reading.stopped w) ≡ e → Does u f (ended e) f (Err (halt.Stops (run_stop w)))
 not_found {u = u} {f = f} w h = ended_stops {v = u} {u = u} {f = f} {g = f} (stops_with w h) refl

@@ -8,7 +8,7 @@ use Rattle.viper_core.specs.declared.stmts.Stmt.{out-Stmt, roll-Stmt, roll-out-S
 use Rattle.viper_core.specs.declared.stmts.Stmt.TheOpen.{Stmt-F}
 use Rattle.viper_core.specs.declared.stmts.Stmt.TheVariants.{rolls-Var, rolls-Assign, rolls-Write, rolls-New, rolls-Call, rolls-Inhale, rolls-Exhale, rolls-Assert, rolls-Fold, rolls-Unfold, rolls-If, rolls-While}
 use Rattle.viper_meaning.specs.Statements.{Activation, Configuration, run_stmt}
-use Rattle.exec_meaning.specs.Execution.{Bodies, keeping, exec_stmt}
+use Rattle.viper_exec_meaning.specs.Execution.{Bodies, keeping, exec_stmt}
 
 module _ (bodies : Bodies) (k : Activation) (c : Configuration) (n : ℕ) where
   abbrev IsKept : stmt.Stmt → Type 0

@@ -8,12 +8,12 @@ use Rattle.viper_state.specs.Run.{Feed}
 use Rattle.viper_meaning.specs.Run as m
 use Rattle.viper_meaning.specs.Run.{Run, then_do, Ran, ran, on, then_ran}
 use Rattle.viper_meaning.proofs.RunLaws.{on-then}
-use Rattle.exec_meaning.specs.Execution.{Went, Still, Spent, with_went, going_on, beginning}
-use Rattle.exec_meaning.specs.Budget.{is_spent}
-use Rattle.exec_meaning.proofs.BudgetCutLaws.{spent_since}
+use Rattle.viper_exec_meaning.specs.Execution.{Went, Still, Spent, with_went, going_on, beginning}
+use Rattle.viper_exec_meaning.specs.Budget.{is_spent}
+use Rattle.viper_exec_meaning.proofs.BudgetCutLaws.{spent_since}
 use Rattle.viper_inhale.specs.Answers as run_answers
 use Rattle.viper_inhale.specs.Answers.{run_of, Does}
-use Rattle.viper_inhale.specs.declared.answers.Halt.{Halt}
+use Rattle.viper_inhale.specs.declared.answers.StepHalt.{StepHalt}
 use Rattle.viper_exec.specs.declared.answers.Quit.{Quit}
 use Rattle.viper_exec.specs.declared.answers.Quit.TheVariants as quit
 use Rattle.viper_exec.specs.Answers.{Takes, Executes, no_memory, goes, stops, spent}
@@ -94,7 +94,7 @@ same_then first f go same k = ap (λ u. run_of u f) (same k) ∙ run_then first 
 pub first_goes : {X Y W : Type 0} {v : X → Y} {f g : Feed} {first : Run Y} {r : ℕ → Run (Went W)} (n : ℕ) (go : ℕ → Y → Run (Went W)) → ((k : ℕ) → r k ≡ then_do first (go k)) → {x : X} → Does v f first g (Ok x) → Reaches f n r g n (λ k. go k (v x))
 first_goes {f = f} n go same (run_answers.goes h) = record { takes = takes_nothing n (λ k. same_then _ f go same k ∙ ap (λ q. then_ran q (λ y. on (go k y))) h) }
 
-pub first_stops : {X Y Z W : Type 0} {v : X → Y} {u : Z → W} {f g : Feed} {first : Run Y} {r : ℕ → Run (Went W)} (n : ℕ) (go : ℕ → Y → Run (Went W)) → ((k : ℕ) → r k ≡ then_do first (go k)) → {w : Halt} → Does v f first g (Err w) →
+pub first_stops : {X Y Z W : Type 0} {v : X → Y} {u : Z → W} {f g : Feed} {first : Run Y} {r : ℕ → Run (Went W)} (n : ℕ) (go : ℕ → Y → Run (Went W)) → ((k : ℕ) → r k ≡ then_do first (go k)) → {w : StepHalt} → Does v f first g (Err w) →
     Executes u f n r g n (Err (quit.Halts w))
 first_stops n go same run_answers.no_memory = no_memory
 first_stops {f = f} {g = g} n go same (run_answers.stops {w = w} h) =

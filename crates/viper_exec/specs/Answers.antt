@@ -6,10 +6,10 @@ use Rattle.viper_meaning.specs.Run as m
 use Rattle.viper_meaning.specs.Run.{Run, Ran, ran, on}
 use Rattle.viper_meaning.specs.Statements.{Configuration}
 use Rattle.viper_inhale.specs.Answers.{run_of, stopped}
-use Rattle.viper_inhale.specs.declared.answers.Halt.TheVariants as halt
-use Rattle.viper_inhale.specs.declared.answers.Stop.{Stop}
-use Rattle.exec_meaning.specs.Execution.{Went, Still, Spent}
-use Rattle.exec_meaning.specs.Budget.{is_spent}
+use Rattle.viper_inhale.specs.declared.answers.StepHalt.TheVariants as halt
+use Rattle.viper_inhale.specs.declared.answers.StepStop.{StepStop}
+use Rattle.viper_exec_meaning.specs.Execution.{Went, Still, Spent}
+use Rattle.viper_exec_meaning.specs.Budget.{is_spent}
 use Rattle.viper_exec.specs.declared.answers.Quit.{Quit}
 use Rattle.viper_exec.specs.declared.answers.Quit.TheVariants as quit
 use Rattle.viper_exec.specs.Frames.{Machine, IsReadyMachine, going, steps_left}
@@ -27,7 +27,7 @@ pub record Takes {X : Type 0} (f : Feed) (r : ℕ → Run (Went X)) (budget left
 pub data Executes {X Y : Type 0} (view : X → Y) (f : Feed) (budget : ℕ) (r : ℕ → Run (Went Y)) (g : Feed) (left : ℕ) : Result X Quit → Type 0 where
   no_memory : Executes view f budget r g left (Err (quit.Halts halt.Memory))
   goes : {x : X} → Takes f r budget left (λ more. ran g.events (m.Goes (Still more (view x))) g.left) → Executes view f budget r g left (Ok x)
-  stops : {w : Stop} → Takes f r budget left (λ more. ran g.events (stopped w) g.left) → Executes view f budget r g left (Err (quit.Halts (halt.Stops w)))
+  stops : {w : StepStop} → Takes f r budget left (λ more. ran g.events (stopped w) g.left) → Executes view f budget r g left (Err (quit.Halts (halt.Stops w)))
   spent : left ≡ 0 → Takes f r budget left (λ more. ran g.events (m.Goes Spent) g.left) → Executes view f budget r g left (Err quit.Spent)
 
 -- The execution goes on as this machine does, from the second feed and budget, where more holds of the value; or it ends.

@@ -16,7 +16,7 @@ use Rattle.viper_meaning.specs.Run.{Run, goes}
 use Rattle.viper_meaning.specs.StatementLiterals.{AreWithinStmts, IsWithinMethod, IsWithinStmt}
 use Rattle.viper_meaning.specs.Statements.{Activation, Configuration, called, run_stmt, scene, stored}
 use Rattle.viper_run.specs.Ready.{IsReady}
-use Rattle.exec_meaning.specs.Execution.{Went, Still, Bodies, going_on, asserting, returned, keeping, exec_stmt, exec_block, exec_call, exec_turns, bodies_within}
+use Rattle.viper_exec_meaning.specs.Execution.{Went, Still, Bodies, going_on, asserting, returned, keeping, exec_stmt, exec_block, exec_call, exec_turns, bodies_within}
 
 -- what a caller had, and where the returns of the method that it called go
 pub record Caller : Type 0 where

@@ -6,9 +6,9 @@ use Rattle.viper_state.specs.State as s
 use Rattle.viper_state.specs.View.{state_of}
 use Rattle.viper_meaning.specs.Run as m
 use Rattle.viper_meaning.specs.Run.{Ran, ran}
-use Rattle.exec_meaning.specs.Execution as e
-use Rattle.exec_meaning.specs.Execution.{Went, Still}
-use Rattle.exec_meaning.specs.Budget.{begun}
+use Rattle.viper_exec_meaning.specs.Execution as e
+use Rattle.viper_exec_meaning.specs.Execution.{Went, Still}
+use Rattle.viper_exec_meaning.specs.Budget.{begun}
 use Rattle.viper_exec.specs.declared.executions.ExecEnd.{ExecEnd}
 use Rattle.viper_exec.specs.declared.executions.ExecEnd.TheVariants.{Done, Failed, Blocked, Short, Over, Spent}
 use Rattle.viper_exec.specs.declared.executions.Executed.{Executed}

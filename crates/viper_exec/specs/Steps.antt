@@ -10,7 +10,7 @@ use Rattle.viper_state.specs.State.{State}
 use Rattle.viper_meaning.specs.Run.{Run, goes, then_do}
 use Rattle.viper_meaning.specs.StatementLiterals.{IsWithinMethod}
 use Rattle.viper_meaning.specs.Statements.{Activation, Configuration, scene, taking_values}
-use Rattle.exec_meaning.specs.Execution.{Went, Still, Bodies, going_on, asserting, exec_block, returns_in}
+use Rattle.viper_exec_meaning.specs.Execution.{Went, Still, Bodies, going_on, asserting, exec_block, returns_in}
 
 -- clauses are asserted, and nothing more is done
 abbrev pub asserted : List t.Assertion → State → Scene → Run ⊤

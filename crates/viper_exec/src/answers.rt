@@ -1,40 +1,40 @@
 // Why an execution does not go on.
 ghost use Rattle.std.specs.Prelude.{◌≡◌, suc, IfErr, IfOk};
 ghost use Rattle.viper_inhale.specs.Answers.{run_halt, run_stop};
-ghost use Rattle.viper_inhale.specs.declared.answers.Halt.TheVariants as halt;
+ghost use Rattle.viper_inhale.specs.declared.answers.StepHalt.TheVariants as halt;
 ghost use Rattle.viper_exec.specs.declared.answers.Quit.TheVariants as quit;
 
 use vb_base::Memory;
-use viper_inhale::Halt;
+use viper_inhale::StepHalt;
 
 /// Why an execution does not go on.
 #[derive(Clone, Copy, Debug, PartialEq, Eq)]
 pub(crate) enum Quit {
-    Halts(Halt),
+    Halts(StepHalt),
     /// A turn or a body was to begin, and nothing was left of the budget.
     Spent,
 }
 
-impl From<Halt> for Quit {
+impl From<StepHalt> for Quit {
     ghost from_gives = { λ stop e. e ≡ quit.Halts stop };
 
-    fn from(halt: Halt) -> Quit {
+    fn from(halt: StepHalt) -> Quit {
         Quit::Halts(halt)
     }
 }
 
-impl From<viper_eval::Halt> for Quit {
+impl From<viper_eval::EvalHalt> for Quit {
     ghost from_gives = { λ stop e. e ≡ quit.Halts (run_halt stop) };
 
-    fn from(halt: viper_eval::Halt) -> Quit {
+    fn from(halt: viper_eval::EvalHalt) -> Quit {
         Quit::Halts(halt.into())
     }
 }
 
-impl From<viper_eval::Stop> for Quit {
+impl From<viper_eval::EvalStop> for Quit {
     ghost from_gives = { λ stop e. e ≡ quit.Halts (halt.Stops (run_stop stop)) };
 
-    fn from(stop: viper_eval::Stop) -> Quit {
+    fn from(stop: viper_eval::EvalStop) -> Quit {
         Quit::Halts(stop.into())
     }
 }
@@ -43,7 +43,7 @@ impl From<Memory> for Quit {
     ghost from_gives = { λ _ e. e ≡ quit.Halts halt.Memory };
 
     fn from(_: Memory) -> Quit {
-        Quit::Halts(Halt::Memory)
+        Quit::Halts(StepHalt::Memory)
     }
 }
 

@@ -13,7 +13,7 @@ ghost use Rattle.viper_eval.specs.View.{lent};
 ghost use Rattle.viper_inhale.specs.Answers.{Does};
 ghost use Rattle.viper_run.specs.Ready.{IsReady};
 ghost use Rattle.viper_run.specs.View.{activation_of, configuration_of};
-ghost use Rattle.exec_meaning.specs.Execution as meaning;
+ghost use Rattle.viper_exec_meaning.specs.Execution as meaning;
 ghost use Rattle.viper_exec.specs.Steps.{asserted, call_begun, returns_taken};
 
 use std::alloc::Global;
@@ -21,7 +21,7 @@ use vb_base::{Memory, Pos};
 use vb_value::Value;
 use viper_core::{Assertion, Method};
 use viper_eval::SceneRef;
-use viper_inhale::Halt;
+use viper_inhale::StepHalt;
 use viper_run::{Activation, Configuration, Store, consume_all, take_values};
 use viper_state::{Feed, State, copy_state};
 
@@ -32,7 +32,7 @@ pub(crate) fn assert_all(
     state: &State,
     scene: SceneRef,
     feed: &mut Feed,
-) -> Result<(), Halt>
+) -> Result<(), StepHalt>
     requires clauses_within { All IsWithinAssertion (assertions_of clauses.now) }
     requires state_within { IsWithinState (state_of state.now) }
     requires scene_within { IsWithinScene (lent scene) }
@@ -61,7 +61,7 @@ fn take_returns(
     method: &Method,
     mut given: Vec<Value>,
     feed: &mut Feed,
-) -> Result<Vec<Value>, Halt>
+) -> Result<Vec<Value>, StepHalt>
     requires few { method.now.params + method.now.returns < 2 ^ 32 }
     ensures { Does (λ vs. vs.items) (feed_of feed.old) (returns_taken (method_of method.now) given.items) (feed_of feed.new) result }
 {
@@ -81,7 +81,7 @@ pub(crate) fn begin_call(
     args: Vec<Value>,
     configuration: &Configuration,
     feed: &mut Feed,
-) -> Result<Vec<Value>, Halt>
+) -> Result<Vec<Value>, StepHalt>
     requires preconditions_within { All IsWithinAssertion (method_of method.now).preconditions }
     requires few { method.now.params + method.now.returns < 2 ^ 32 }
     requires args_within { All IsWithinValue args.items }

@@ -8,11 +8,11 @@ ghost use Rattle.viper_state.specs.View.{choice_of, feed_of, opening_of, state_o
 ghost use Rattle.viper_state.specs.Within.{IsWithinChoice, IsWithinOpening};
 ghost use Rattle.viper_meaning.specs.Run.{on};
 ghost use Rattle.viper_inhale.specs.Answers.{stopped};
-ghost use Rattle.viper_inhale.specs.declared.answers.Halt.TheVariants as halt;
-ghost use Rattle.viper_inhale.specs.declared.answers.Stop.{Stop as End};
+ghost use Rattle.viper_inhale.specs.declared.answers.StepHalt.TheVariants as halt;
+ghost use Rattle.viper_inhale.specs.declared.answers.StepStop.{StepStop};
 ghost use Rattle.viper_run.specs.Ready.{CanBegin};
-ghost use Rattle.exec_meaning.specs.Execution as meaning;
-ghost use Rattle.exec_meaning.specs.Execution.{CanExecute, execution};
+ghost use Rattle.viper_exec_meaning.specs.Execution as meaning;
+ghost use Rattle.viper_exec_meaning.specs.Execution.{CanExecute, execution};
 ghost use Rattle.viper_exec.specs.Answers.{Executes};
 ghost use Rattle.viper_exec.specs.Outcome.{EndsExecution, end_of};
 ghost use Rattle.viper_exec.specs.Steps.{IsReadyBody};
@@ -25,7 +25,7 @@ use std::alloc::Global;
 use vb_base::{Label, Memory, Pos};
 use viper_core::{Body, Method, Program};
 use viper_eval::found;
-use viper_inhale::{Halt, Stop};
+use viper_inhale::{StepHalt, StepStop};
 use viper_run::begin_method;
 use viper_state::{Choice, Feed, Opening, State, empty_state};
 
@@ -99,17 +99,17 @@ fn exec_numbered(
 
 /// The end of an execution that did not go on, if not for want of memory.
 fn end_of(why: Quit) -> Result<ExecEnd, Memory>
-    ensures stops { (w : End) → why ≡ quit.Halts (halt.Stops w) → result ≡ Ok (end_of (stopped {X = meaning.Went ⊤} w)) }
+    ensures stops { (w : StepStop) → why ≡ quit.Halts (halt.Stops w) → result ≡ Ok (end_of (stopped {X = meaning.Went ⊤} w)) }
     ensures spent { why ≡ quit.Spent → result ≡ Ok end.Spent }
     ensures memory { why ≡ quit.Halts halt.Memory → IsErr result }
 {
     match why {
-        Quit::Halts(Halt::Stops(Stop::Fails(label))) => Ok(ExecEnd::Failed(label)),
-        Quit::Halts(Halt::Stops(Stop::Blocked)) => Ok(ExecEnd::Blocked),
-        Quit::Halts(Halt::Stops(Stop::Short)) => Ok(ExecEnd::Short),
-        Quit::Halts(Halt::Stops(Stop::Over(at))) => Ok(ExecEnd::Over(at)),
+        Quit::Halts(StepHalt::Stops(StepStop::Fails(label))) => Ok(ExecEnd::Failed(label)),
+        Quit::Halts(StepHalt::Stops(StepStop::Blocked)) => Ok(ExecEnd::Blocked),
+        Quit::Halts(StepHalt::Stops(StepStop::Short)) => Ok(ExecEnd::Short),
+        Quit::Halts(StepHalt::Stops(StepStop::Over(at))) => Ok(ExecEnd::Over(at)),
         Quit::Spent => Ok(ExecEnd::Spent),
-        Quit::Halts(Halt::Memory) => Err(Memory),
+        Quit::Halts(StepHalt::Memory) => Err(Memory),
     }
 }
 

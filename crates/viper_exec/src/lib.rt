@@ -1,5 +1,5 @@
-//! Whole executions of methods: called bodies and the turns of loops run on one state, as `exec_meaning` defines them; and by
-//! `exec_words` the first word of a text for which one may fail where no unit does.
+//! Whole executions of methods: called bodies and the turns of loops run on one state, as `viper_exec_meaning` defines them; and by
+//! `viper_exec_subset` the first word of a text for which one may fail where no unit does.
 #![tactic(auto)]
 
 mod answers;
@@ -10,5 +10,5 @@ mod executions;
 mod frames;
 mod machine;
 
-pub use exec_words::first_unframed;
 pub use executions::{ExecEnd, Executed, exec_method};
+pub use viper_exec_subset::first_unframed;

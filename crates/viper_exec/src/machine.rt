@@ -6,7 +6,7 @@ ghost use Rattle.viper_core.specs.View.{body_of, method_of, program_of};
 ghost use Rattle.viper_state.specs.View.{feed_of};
 ghost use Rattle.viper_run.specs.Ready.{IsReady};
 ghost use Rattle.viper_run.specs.View.{configuration_of};
-ghost use Rattle.exec_meaning.specs.Execution.{bodies_within};
+ghost use Rattle.viper_exec_meaning.specs.Execution.{bodies_within};
 ghost use Rattle.viper_exec.specs.Answers.{Advances, Executes, HasBegun, Steps};
 ghost use Rattle.viper_exec.specs.Frames.{IsReadyFrame, IsReadyMachine, frame_steps, going, resume, steps_left};
 ghost use Rattle.viper_exec.specs.Steps.{IsReadyBody, body_from, entry_of};

@@ -31,9 +31,9 @@ use Rattle.viper_meaning.proofs.BoundLaws.{blocks_bounded}
 use Rattle.viper_meaning.proofs.RunBoundLaws.{IsBoundedRun, at_end, goes_never_over, before_bounded, then_do_bounded, taking_bounded, if_run_bounded, small_run, never_over}
 use Rattle.viper_meaning.proofs.StatementBoundLaws.{produce_all_bounded, consume_all_bounded, run_block_bounded, unit_run_bounded}
 use Rattle.viper_meaning.proofs.TakenLaws.{fails_on_fitting}
-use Rattle.exec_meaning.proofs.TopLaws.{frames_hold}
-use Rattle.exec_meaning.specs.Frame.{NoExecutionFails, NoUnitFails}
-use Rattle.exec_words.proofs.Programs.{texts_are_framed}
+use Rattle.viper_exec_meaning.proofs.TopLaws.{frames_hold}
+use Rattle.viper_exec_meaning.specs.Frame.{NoExecutionFails, NoUnitFails}
+use Rattle.viper_exec_subset.proofs.Programs.{texts_are_framed}
 use Rattle.viper_file.specs.Framed.{IsFramed}
 use Rattle.viper_file.specs.Verified.{SatisfiesPrecondition, run_from, RunNeverFails, HasNoFailure}
 use Rattle.viper_file.proofs.Verdicts.{accepted_formed}

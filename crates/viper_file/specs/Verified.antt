@@ -13,7 +13,7 @@ use Rattle.viper_meaning.specs.Asked.{IsReducedChoice}
 use Rattle.viper_meaning.specs.Run.{Run, Fails, ran, on}
 use Rattle.viper_meaning.specs.Sat.{SatAll, memo_of_state}
 use Rattle.viper_meaning.specs.Units.{first_store, first_scene, run_method}
-use Rattle.exec_meaning.specs.Frame.{NoUnitFails}
+use Rattle.viper_exec_meaning.specs.Frame.{NoUnitFails}
 
 -- With these values of its parameters and returns the state satisfies the precondition of the method: its permissions are
 -- exactly those that the precondition denotes, for some amounts of its wildcards. Where it has no clause, nothing is held.

@@ -3,14 +3,14 @@ ghost use Rattle.std.specs.Prelude.{◌≡◌, ◌≤◌, length, IfOk, IsErrOf}
 ghost use Rattle.vb_base.specs.Limits.{max_viper_bytes};
 ghost use Rattle.viper_core.specs.Formed.{IsFormed};
 ghost use Rattle.viper_core.specs.View.{program_of};
-ghost use Rattle.exec_words.specs.Unframed as unframed;
+ghost use Rattle.viper_exec_subset.specs.Unframed as unframed;
 ghost use Rattle.viper_file.specs.Accepted.{IsAccepted, IsTextRefusal};
 
 use crate::fault::{ViperFault, ViperRefusal};
-use exec_words::first_unframed;
 use std::alloc::Global;
 use vb_base::{Pos, place_after};
 use viper_core::Program;
+use viper_exec_subset::first_unframed;
 use viper_parse::parse;
 use viper_syntax::lex;
 use viper_types::check;

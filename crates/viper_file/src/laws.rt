@@ -2,7 +2,7 @@
 ghost use Rattle.std.specs.Prelude.{◌≡◌, ℕ, List, None};
 ghost use Rattle.vb_value.specs.Bound.{Bound};
 ghost use Rattle.viper_core.specs.Program.{Program};
-ghost use Rattle.exec_meaning.specs.Frame.{NoExecutionFails, NoUnitFails};
+ghost use Rattle.viper_exec_meaning.specs.Frame.{NoExecutionFails, NoUnitFails};
 ghost use Rattle.viper_file.specs.Accepted.{HasOneAnswer, IsAccepted};
 ghost use Rattle.viper_file.specs.Framed.{IsFramed};
 ghost use Rattle.viper_file.specs.Verified.{HasNoFailure};

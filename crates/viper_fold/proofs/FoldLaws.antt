@@ -16,11 +16,11 @@ use Rattle.viper_meaning.specs.Ends.{is, then_with, found, fitting}
 use Rattle.viper_meaning.specs.Places.{fill_held}
 use Rattle.viper_meaning.specs.Run.{ended, evaluating, then_do}
 use Rattle.viper_meaning.specs.Value.{values, perm_in}
-use Rattle.viper_eval.specs.declared.places.Instance.{Instance}
-use Rattle.viper_eval.specs.declared.places.Share.{Share}
+use Rattle.viper_eval.specs.declared.places.InstanceKey.{InstanceKey}
+use Rattle.viper_eval.specs.declared.places.ScaledAmount.{ScaledAmount}
 use Rattle.viper_eval.proofs.AnswerLaws.{then_then}
 use Rattle.viper_inhale.specs.Answers.{Does}
-use Rattle.viper_inhale.specs.declared.answers.Halt.{Halt}
+use Rattle.viper_inhale.specs.declared.answers.StepHalt.{StepHalt}
 use Rattle.viper_inhale.proofs.DoesLaws.{same_run}
 use Rattle.viper_fold.specs.Steps.{small_content_in, folded_by, folded_at, unfolded_at}
 
@@ -41,7 +41,7 @@ found_is None x h = cc
 
 -- ---- with what was put together for the call
 
-pub folded_as : {Z : Type 0} {u : Z → State} {f g : Feed} {r : Result Z Halt} {inside other : Scene} {p : ℕ} {key : Key} {q k : Fraction} {at : Pos} {i : Instance} {share : Share} (body : t.Assertion) (s : State) →
+pub folded_as : {Z : Type 0} {u : Z → State} {f g : Feed} {r : Result Z StepHalt} {inside other : Scene} {p : ℕ} {key : Key} {q k : Fraction} {at : Pos} {i : InstanceKey} {share : ScaledAmount} (body : t.Assertion) (s : State) →
     inside ≡ other → i ≡ record { predicate = p; key = key } → share ≡ record { amount = q; scale = k; at = at } →
     Does u f (folded_by body inside i.predicate i.key share.amount share.at s) g r → Does u f (folded_by body other p key q at s) g r
 folded_as body s same is so = same_run (λ j. folded_by body (sym same j) (sym is j).predicate (sym is j).key (sym so j).amount (sym so j).at s)

@@ -21,7 +21,7 @@ use std::alloc::Global;
 use vb_base::Memory;
 use vb_value::Content;
 use viper_core::{Assertion, FoldStmt, Program};
-use viper_eval::{Halt, SceneRef};
+use viper_eval::{EvalHalt, SceneRef};
 use viper_inhale::{Step, step};
 use viper_state::{Feed, Scene, State};
 
@@ -59,8 +59,8 @@ pub fn content_of(
     match content_in(alloc, a, state, SceneRef::of(scene), &mut feed) {
         Ok(content) if is_small(&content) => Ok(Contained::Is(content)),
         Ok(_) => Ok(Contained::Over),
-        Err(Halt::Memory) => Err(Memory),
-        Err(Halt::Stops(_)) => unreachable!(),
+        Err(EvalHalt::Memory) => Err(Memory),
+        Err(EvalHalt::Stops(_)) => unreachable!(),
     }
 }
 

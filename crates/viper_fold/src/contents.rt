@@ -21,11 +21,11 @@ use vb_base::Pos;
 use vb_base::limits::MAX_CONTENT_NODES;
 use vb_value::{Content, Frac, Key};
 use viper_core::{Amt, Assertion, Expr};
-use viper_eval::{Halt, SceneRef, Stop, amount_of, found, key_in, reference_of, truth_of};
+use viper_eval::{EvalHalt, EvalStop, SceneRef, amount_of, found, key_in, reference_of, truth_of};
 use viper_state::{Feed, State};
 
 /// What a place contains where so much of it is held.
-fn part_of_place(now: &State, field: u32, reference: u64, amount: Frac) -> Result<Content, Halt>
+fn part_of_place(now: &State, field: u32, reference: u64, amount: Frac) -> Result<Content, EvalHalt>
     ensures { Answers content_of [] (part_of (state_of now.now) (resource.Place field reference) amount) [] result }
 {
     if Frac::is_positive(amount) {
@@ -42,7 +42,7 @@ fn part_of_instance(
     predicate: u32,
     key: &Key,
     amount: Frac,
-) -> Result<Content, Halt>
+) -> Result<Content, EvalHalt>
     ensures { Answers content_of [] (part_of (state_of now.now) (resource.Instance predicate key.now) amount) [] result }
 {
     if Frac::is_positive(amount) {
@@ -61,7 +61,7 @@ fn content_of_place(
     now: &State,
     scene: SceneRef,
     feed: &mut Feed,
-) -> Result<Content, Halt>
+) -> Result<Content, EvalHalt>
     requires receiver_within { IsWithinExpr (expr_of receiver.now) }
     requires amount_within { IsWithinAmount (amt_of amount.now) }
     requires now_within { IsWithinState (state_of now.now) }
@@ -85,7 +85,7 @@ fn content_of_instance(
     now: &State,
     scene: SceneRef,
     feed: &mut Feed,
-) -> Result<Content, Halt>
+) -> Result<Content, EvalHalt>
     requires args_within { AreWithinExprs (exprs_of args.now) }
     requires amount_within { IsWithinAmount (amt_of amount.now) }
     requires now_within { IsWithinState (state_of now.now) }
@@ -101,7 +101,7 @@ fn content_of_instance(
 }
 
 /// The pair of two contents, however large.
-fn pair_of(alloc: Global, left: Content, right: Content) -> Result<Content, Halt>
+fn pair_of(alloc: Global, left: Content, right: Content) -> Result<Content, EvalHalt>
     ensures { Answers content_of [] (is (tree.Pair (content_of left) (content_of right))) [] result }
 {
     let left = Rc::new(alloc, left)?;
@@ -116,7 +116,7 @@ pub(crate) fn content_in(
     now: &State,
     scene: SceneRef,
     feed: &mut Feed,
-) -> Result<Content, Halt>
+) -> Result<Content, EvalHalt>
     requires assertion_within { IsWithinAssertion (assertion_of assertion.now) }
     requires now_within { IsWithinState (state_of now.now) }
     requires scene_within { IsWithinScene (lent scene) }
@@ -162,13 +162,13 @@ pub(crate) fn is_small(content: &Content) -> bool
 }
 
 /// A content that is small, or an end at this place.
-fn small(content: Content, at: Pos) -> Result<Content, Halt>
+fn small(content: Content, at: Pos) -> Result<Content, EvalHalt>
     ensures { Answers content_of [] (fitting Bounded (m.is_small (content_of content)) at (content_of content)) [] result }
 {
     if is_small(&content) {
         Ok(content)
     } else {
-        Err(Halt::Stops(Stop::Over(at)))
+        Err(EvalHalt::Stops(EvalStop::Over(at)))
     }
 }
 
@@ -180,7 +180,7 @@ pub(crate) fn small_content(
     scene: SceneRef,
     at: Pos,
     feed: &mut Feed,
-) -> Result<Content, Halt>
+) -> Result<Content, EvalHalt>
     requires assertion_within { IsWithinAssertion (assertion_of assertion.now) }
     requires now_within { IsWithinState (state_of now.now) }
     requires scene_within { IsWithinScene (lent scene) }

@@ -21,9 +21,10 @@ use vb_base::{Kind, Pos};
 use vb_value::{Frac, Value};
 use viper_core::{Assertion, FoldStmt, Program};
 use viper_eval::{
-    Instance, SceneRef, Share, Stop, eval_all, failure, fill_held, found, key_of, permission_of,
+    EvalStop, InstanceKey, ScaledAmount, SceneRef, eval_all, failure, fill_held, found, key_of,
+    permission_of,
 };
-use viper_inhale::{Halt, consume_in};
+use viper_inhale::{StepHalt, consume_in};
 use viper_state::{Feed, State, copy_state};
 
 /// The body of a predicate that has one.
@@ -37,7 +38,7 @@ pub(crate) fn body_of(program: &Program, predicate: u32) -> Option<&Assertion>
 }
 
 /// The amount of a `fold`, which has to be positive.
-fn positive_amount(scene: SceneRef, at: Pos, amount: Frac) -> Result<Frac, Stop>
+fn positive_amount(scene: SceneRef, at: Pos, amount: Frac) -> Result<Frac, EvalStop>
     ensures { reading.ended result ≡ m.positive_amount (lent scene.entry) at amount }
 {
     if Frac::is_positive(amount) {
@@ -49,7 +50,7 @@ fn positive_amount(scene: SceneRef, at: Pos, amount: Frac) -> Result<Frac, Stop>
 
 /// The body of a predicate, and what is seen in it: the variables are its arguments.
 #[derive(Clone, Copy)]
-struct Inside<'a> {
+struct OpenedBody<'a> {
     body: &'a Assertion,
     scene: SceneRef<'a>,
 }
@@ -64,13 +65,13 @@ pub(crate) struct FoldValues<'a> {
 /// Holds so much more of an instance, which takes what its body contained at the start.
 fn close(
     alloc: Global,
-    inside: Inside,
+    inside: OpenedBody,
     start: &State,
-    instance: Instance,
-    share: Share,
+    instance: InstanceKey,
+    share: ScaledAmount,
     left: &mut State,
     feed: &mut Feed,
-) -> Result<(), viper_eval::Halt>
+) -> Result<(), viper_eval::EvalHalt>
     requires body_within { IsWithinAssertion (assertion_of inside.body.now) }
     requires start_within { IsWithinState (state_of start.now) }
     requires scene_within { IsWithinScene (lent inside.scene) }
@@ -80,7 +81,7 @@ fn close(
         (feed_of feed.new).events result }
     ensures left { (feed_of feed.new).left ≡ (feed_of feed.old).left }
 {
-    let Inside { body, scene } = inside;
+    let OpenedBody { body, scene } = inside;
     let content = small_content(alloc, body, start, scene, share.at, feed)?;
     fill_held(alloc, left, instance, share, &content)
 }
@@ -88,12 +89,12 @@ fn close(
 /// Folds an instance whose body is known.
 fn fold_by(
     alloc: Global,
-    inside: Inside,
-    instance: Instance,
-    share: Share,
+    inside: OpenedBody,
+    instance: InstanceKey,
+    share: ScaledAmount,
     state: &mut State,
     feed: &mut Feed,
-) -> Result<(), Halt>
+) -> Result<(), StepHalt>
     requires body_within { IsWithinAssertion (assertion_of inside.body.now) }
     requires state_within { IsWithinState (state_of state.old) }
     requires scene_within { IsWithinScene (lent inside.scene) }
@@ -103,7 +104,7 @@ fn fold_by(
         (feed_of feed.new) result }
 {
     let start = copy_state(alloc, state)?;
-    let Inside { body, scene } = inside;
+    let OpenedBody { body, scene } = inside;
     consume_in(alloc, body, &start, state, scene, share.amount, feed)?;
     Ok(close(alloc, inside, &start, instance, share, state, feed)?)
 }
@@ -117,7 +118,7 @@ fn fold_at(
     state: &mut State,
     scene: SceneRef,
     feed: &mut Feed,
-) -> Result<(), Halt>
+) -> Result<(), StepHalt>
     requires body_within { (body : t.Assertion) → m.body_of (program_of program.now) s.now.predicate ≡ Some body → IsWithinAssertion body }
     requires args_within { All IsWithinValue values.args.now }
     requires state_within { IsWithinState (state_of state.old) }
@@ -128,10 +129,17 @@ fn fold_at(
     let key = key_of(alloc, values.args)?;
     let body = found(body_of(program, s.predicate))?;
     let amount = positive_amount(scene, s.place, values.amount)?;
-    let instance = Instance::of(s.predicate, key);
-    let share = Share::of(amount, Frac::write(), s.place);
+    let instance = InstanceKey::of(s.predicate, key);
+    let share = ScaledAmount::of(amount, Frac::write(), s.place);
     let scene = scene.with_variables(values.args);
-    fold_by(alloc, Inside { body, scene }, instance, share, state, feed)
+    fold_by(
+        alloc,
+        OpenedBody { body, scene },
+        instance,
+        share,
+        state,
+        feed,
+    )
 }
 
 /// Folds an instance: consumes the body of the predicate, each amount in it times that of the `fold`, and holds the instance
@@ -148,7 +156,7 @@ pub fn fold_in(
     state: &mut State,
     scene: SceneRef,
     feed: &mut Feed,
-) -> Result<(), Halt>
+) -> Result<(), StepHalt>
     requires args_within { AreWithinExprs (fold_of s.now).args }
     requires amount_within { IsWithinExpr (fold_of s.now).amount }
     requires body_within { (body : t.Assertion) → m.body_of (program_of program.now) s.now.predicate ≡ Some body → IsWithinAssertion body }

@@ -23,8 +23,8 @@ use std::alloc::Global;
 use vb_base::Memory;
 use vb_value::{Content, Key};
 use viper_core::{FoldStmt, Program};
-use viper_eval::{Instance, SceneRef, eval_all, found, key_of, open_in, permission_of, take};
-use viper_inhale::Halt;
+use viper_eval::{InstanceKey, SceneRef, eval_all, found, key_of, open_in, permission_of, take};
+use viper_inhale::StepHalt;
 use viper_state::{Feed, State};
 
 /// What an instance contains, shared with the state.
@@ -51,7 +51,7 @@ fn unfold_at(
     state: &mut State,
     scene: SceneRef,
     feed: &mut Feed,
-) -> Result<(), viper_eval::Halt>
+) -> Result<(), viper_eval::EvalHalt>
     requires body_within { (body : t.Assertion) → m.body_of (program_of program.now) s.now.predicate ≡ Some body → IsWithinAssertion body }
     requires args_within { All IsWithinValue values.args.now }
     requires state_within { IsWithinState (state_of state.old) }
@@ -64,7 +64,7 @@ fn unfold_at(
     let key = key_of(alloc, args)?;
     let body = found(body_of(program, s.predicate))?;
     let content = content_at(alloc, state, s.predicate, &key)?;
-    let instance = Instance::of(s.predicate, key);
+    let instance = InstanceKey::of(s.predicate, key);
     take(scene, state, instance, amount, s.place)?;
     let content = found(content)?;
     let inside = scene.with_variables(args);
@@ -85,7 +85,7 @@ pub fn unfold_in(
     state: &mut State,
     scene: SceneRef,
     feed: &mut Feed,
-) -> Result<(), Halt>
+) -> Result<(), StepHalt>
     requires args_within { AreWithinExprs (fold_of s.now).args }
     requires amount_within { IsWithinExpr (fold_of s.now).amount }
     requires body_within { (body : t.Assertion) → m.body_of (program_of program.now) s.now.predicate ≡ Some body → IsWithinAssertion body }

@@ -11,7 +11,7 @@ use Rattle.viper_syntax.specs.declared.tokens.Sign.TheVariants as sign
 use Rattle.viper_syntax.specs.declared.stmts.Named.{Named}
 use Rattle.viper_syntax.specs.Decl as d
 use Rattle.viper_grammar.specs.Tests as v
-use Rattle.viper_grammar.specs.Tests.{Kind, Value, Part, Test, this, a_name, a_number, one_of, a_negation, an_operator, belongs, Passes}
+use Rattle.viper_grammar.specs.Tests.{Kind, Value, WrittenTerm, Test, this, a_name, a_number, one_of, a_negation, an_operator, belongs, Passes}
 use Rattle.viper_grammar.specs.Grammar as g
 use Rattle.viper_grammar.specs.Grammar.{Symbol, Rule, give, need, when, read, rule, viper, rules}
 use Rattle.grammar.proofs.Laws as grammar
@@ -46,27 +46,27 @@ el_need {c = c} f = grammar.el_need (example c) f
 el_taken : {r s : Kind} {c : Test true r} {go : Value r → Rule s} {other : Rule s} → ((v : Value r) → Element (go v)) → Element (when c go other)
 el_taken {c = c} f = let k = example c in grammar.el_taken k.token k.value k.passes (f k.value)
 
-el_unless : (p : Part) {further : Rule v.part} → Element further → Element (g.unless_open p further)
+el_unless : (p : WrittenTerm) {further : Rule v.part} → Element further → Element (g.unless_open p further)
 el_unless p e = grammar.el_cond (g.is_open p.shape) el_give e
 
 -- terms: a name is one
 el_first : Element (rule g.First)
 el_first = el_taken (λ x. el_other el_give)
 
-el_fields : (p : Part) → Element (rule (g.Fields p))
+el_fields : (p : WrittenTerm) → Element (rule (g.Fields p))
 el_fields p = el_other el_give
 
 el_unary : Element (rule g.Unary)
 el_unary = el_other (el_other (el_read el_first (λ p. el_read (el_fields p) (λ q. el_give))))
 
-el_chain : (n : ℕ) (p : Part) → Element (rule (g.Chain n p))
+el_chain : (n : ℕ) (p : WrittenTerm) → Element (rule (g.Chain n p))
 el_chain n p = el_unless p (el_other el_give)
 
 el_level : (n : ℕ) → Element (rule (g.Level n))
 el_level zero = el_read el_unary (λ p. el_give)
 el_level (suc n) = el_read (el_level n) (λ p. el_read (el_chain (suc n) p) (λ q. el_give))
 
-el_choice : (p : Part) → Element (g.choice p)
+el_choice : (p : WrittenTerm) → Element (g.choice p)
 el_choice p = el_unless p (el_other el_give)
 
 el_term : Element (rule g.Term)

@@ -21,7 +21,7 @@ use Rattle.viper_grammar.specs.declared.parts.Shape.{Shape}
 use Rattle.viper_grammar.specs.declared.parts.Shape.TheVariants as shape
 use Rattle.viper_grammar.specs.declared.parts.WordClass.TheVariants as class
 use Rattle.viper_grammar.specs.Tests as v
-use Rattle.viper_grammar.specs.Tests.{Part, Instance, Kind, Value, Test, Passes, this, a_name, a_number, one_of, a_negation, an_operator}
+use Rattle.viper_grammar.specs.Tests.{WrittenTerm, WrittenInstance, Kind, Value, Test, Passes, this, a_name, a_number, one_of, a_negation, an_operator}
 
 pub data Symbol : Kind → Type 0 where
   Program : List d.Decl → Symbol v.decls
@@ -54,9 +54,9 @@ pub data Symbol : Kind → Type 0 where
   Group : Symbol v.part
   Term : Symbol v.part
   Level : ℕ → Symbol v.part
-  Chain : ℕ → Part → Symbol v.part
+  Chain : ℕ → WrittenTerm → Symbol v.part
   Unary : Symbol v.part
-  Fields : Part → Symbol v.part
+  Fields : WrittenTerm → Symbol v.part
   First : Symbol v.part
 
 -- what the grammar is made of
@@ -93,11 +93,11 @@ abbrev pub repeats : ℕ → Bool
 repeats n = nat_lt n 3
 
 -- a term that is no call
-abbrev pub plain : t.Term → Part
+abbrev pub plain : t.Term → WrittenTerm
 plain a = record { shape = shape.Plain; tree = a }
 
 -- what is wholly a call is, as a term, an instance of a predicate
-abbrev pub called : Named → List t.Term → Part
+abbrev pub called : Named → List t.Term → WrittenTerm
 called x es = record { shape = shape.Call; tree = t.Inst x.name (t.terms es) x.pos }
 
 -- the shape of a term that ends with a part of this shape
@@ -112,16 +112,16 @@ is_open shape.Call = false
 is_open shape.Open = true
 is_open shape.Plain = false
 
-abbrev pub unless_open : Part → Rule v.part → Rule v.part
+abbrev pub unless_open : WrittenTerm → Rule v.part → Rule v.part
 unless_open p further = cond (is_open p.shape) (give p) further
 
-abbrev pub chosen : Part → Part → Part → Pos → Part
+abbrev pub chosen : WrittenTerm → WrittenTerm → WrittenTerm → Pos → WrittenTerm
 chosen p q r at = record { shape = ending r.shape; tree = t.Choose p.tree q.tree r.tree at }
 
-abbrev pub applied : v.Value v.a_sign → Part → Part
+abbrev pub applied : v.Value v.a_sign → WrittenTerm → WrittenTerm
 applied o p = record { shape = ending p.shape; tree = t.Unary o.0 p.tree o.1 }
 
-abbrev pub unfolded : Instance → Part → Pos → Part
+abbrev pub unfolded : WrittenInstance → WrittenTerm → Pos → WrittenTerm
 unfolded i p at = record { shape = shape.Open; tree = t.Unfolding i.call.name.name (t.terms i.call.args) i.amount p.tree at i.call.name.pos }
 
 -- a right side that is wholly a call is a call of a method
@@ -133,14 +133,14 @@ abbrev pub rhs_from : Shape → t.Term → s.SRhs
 rhs_from shape.Call (t.Inst x es at) = s.CallRhs (record { name = record { name = x; pos = at }; args = listed es })
 rhs_from _ a = s.TermRhs a
 
-abbrev pub rhs_of : Part → s.SRhs
+abbrev pub rhs_of : WrittenTerm → s.SRhs
 rhs_of p = rhs_from p.shape p.tree
 
-abbrev pub binary : Part → v.Value v.a_sign → Part → Part
+abbrev pub binary : WrittenTerm → v.Value v.a_sign → WrittenTerm → WrittenTerm
 binary p o q = record { shape = ending q.shape; tree = t.Binary o.0 p.tree q.tree o.1 }
 
 -- [ "?" term ":" term ], after a term
-abbrev pub choice : Part → Rule v.part
+abbrev pub choice : WrittenTerm → Rule v.part
 choice p =
     unless_open p
     (when (the_sign sign.Question) (λ at. read Term (λ q. need (the_sign sign.Colon) (λ _. read Term (λ r.

@@ -18,12 +18,12 @@ use Rattle.viper_grammar.specs.declared.parts.WordClass.{WordClass}
 use Rattle.viper_grammar.specs.declared.parts.WordClass.TheVariants as class
 
 -- a term as it is written
-pub record Part : Type 0 where
+pub record WrittenTerm : Type 0 where
   pub shape : Shape
   pub tree : Term
 
 -- a call with its amount, as `fold`, `unfold` and `unfolding` take it
-pub record Instance : Type 0 where
+pub record WrittenInstance : Type 0 where
   pub call : SCall
   pub amount : Amount
 
@@ -60,11 +60,11 @@ Value name = Named
 Value number = ℤ × Pos
 Value a_word = Word × Pos
 Value a_sign = Sign × Pos
-Value part = Part
+Value part = WrittenTerm
 Value arguments = List Term
 Value amount = Amount
 Value call = SCall
-Value instance = Instance
+Value instance = WrittenInstance
 Value names = List Named
 Value formal = Formal
 Value formals = List Formal

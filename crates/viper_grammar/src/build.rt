@@ -5,7 +5,7 @@ ghost use Rattle.viper_syntax.specs.View.{term_of, amount_of, rhs_of};
 ghost use Rattle.viper_grammar.specs.Grammar as g;
 ghost use Rattle.viper_grammar.specs.View.{part_of, instance_of};
 
-use crate::parts::{Instance, Part, Shape};
+use crate::parts::{Shape, WrittenInstance, WrittenTerm};
 use std::alloc::{AllocError, Global};
 use vb_base::{Literal, Pos};
 use viper_syntax::{Named, SCall, SRhs, SUnfolding, Sign, Term, Word};
@@ -20,7 +20,7 @@ fn ending(shape: Shape) -> Shape
     }
 }
 
-impl Part {
+impl WrittenTerm {
     /// Whether it ends with an `unfolding`.
     pub fn is_open(&self) -> bool
         ensures { result ≡ g.is_open self.now.shape }
@@ -30,15 +30,15 @@ impl Part {
 }
 
 /// A term of this shape.
-fn part(alloc: Global, shape: Shape, term: Term) -> Result<Part, AllocError>
+fn part(alloc: Global, shape: Shape, term: Term) -> Result<WrittenTerm, AllocError>
     ensures { IfOk result (λ p. part_of p ≡ record { shape = shape; tree = term_of term }) }
 {
     let term = Box::new(alloc, term)?;
-    Ok(Part { shape, term })
+    Ok(WrittenTerm { shape, term })
 }
 
 /// What is assigned: a right side that is wholly a call is a call of a method.
-pub fn assigned(part: Part) -> SRhs
+pub fn assigned(part: WrittenTerm) -> SRhs
     ensures { rhs_of result ≡ g.rhs_of (part_of part) }
 {
     let term = Box::into_inner(part.term);
@@ -67,28 +67,28 @@ fn instance_term(name: Named, args: Vec<Term>) -> Term
 }
 
 /// A call in a term: an instance of a predicate.
-pub fn called(alloc: Global, name: Named, args: Vec<Term>) -> Result<Part, AllocError>
+pub fn called(alloc: Global, name: Named, args: Vec<Term>) -> Result<WrittenTerm, AllocError>
     ensures { IfOk result (λ p. part_of p ≡ g.called name (map term_of args.items)) }
 {
     part(alloc, Shape::Call, instance_term(name, args))
 }
 
 /// `x`
-pub fn variable(alloc: Global, name: Named) -> Result<Part, AllocError>
+pub fn variable(alloc: Global, name: Named) -> Result<WrittenTerm, AllocError>
     ensures { IfOk result (λ p. part_of p ≡ g.plain (t.Name name.name name.pos)) }
 {
     part(alloc, Shape::Plain, Term::Name(name.name, name.pos))
 }
 
 /// `7`
-pub fn number(alloc: Global, value: i128, at: Pos) -> Result<Part, AllocError>
+pub fn number(alloc: Global, value: i128, at: Pos) -> Result<WrittenTerm, AllocError>
     ensures { IfOk result (λ p. part_of p ≡ g.plain (t.Number value at)) }
 {
     part(alloc, Shape::Plain, Term::Number(Literal::new(value), at))
 }
 
 /// `true` and so on
-pub fn constant(alloc: Global, constant: (Word, Pos)) -> Result<Part, AllocError>
+pub fn constant(alloc: Global, constant: (Word, Pos)) -> Result<WrittenTerm, AllocError>
     ensures { IfOk result (λ p. part_of p ≡ g.plain (t.Constant constant.0 constant.1)) }
 {
     part(alloc, Shape::Plain, Term::Constant(constant.0, constant.1))
@@ -98,9 +98,9 @@ pub fn constant(alloc: Global, constant: (Word, Pos)) -> Result<Part, AllocError
 pub fn binary(
     alloc: Global,
     operator: (Sign, Pos),
-    left: Part,
-    right: Part,
-) -> Result<Part, AllocError>
+    left: WrittenTerm,
+    right: WrittenTerm,
+) -> Result<WrittenTerm, AllocError>
     ensures { IfOk result (λ p. part_of p ≡ g.binary (part_of left) operator (part_of right)) }
 {
     part(
@@ -113,11 +113,11 @@ pub fn binary(
 /// `a ? b : c`
 pub fn chosen(
     alloc: Global,
-    condition: Part,
-    first: Part,
-    second: Part,
+    condition: WrittenTerm,
+    first: WrittenTerm,
+    second: WrittenTerm,
     at: Pos,
-) -> Result<Part, AllocError>
+) -> Result<WrittenTerm, AllocError>
     ensures { IfOk result (λ p. part_of p ≡ g.chosen (part_of condition) (part_of first) (part_of second) at) }
 {
     part(
@@ -128,7 +128,11 @@ pub fn chosen(
 }
 
 /// `!a` or `-a`
-pub fn applied(alloc: Global, operator: (Sign, Pos), operand: Part) -> Result<Part, AllocError>
+pub fn applied(
+    alloc: Global,
+    operator: (Sign, Pos),
+    operand: WrittenTerm,
+) -> Result<WrittenTerm, AllocError>
     ensures { IfOk result (λ p. part_of p ≡ g.applied operator (part_of operand)) }
 {
     part(
@@ -139,7 +143,7 @@ pub fn applied(alloc: Global, operator: (Sign, Pos), operand: Part) -> Result<Pa
 }
 
 /// `a.f`
-pub fn field(alloc: Global, receiver: Part, field: Named) -> Result<Part, AllocError>
+pub fn field(alloc: Global, receiver: WrittenTerm, field: Named) -> Result<WrittenTerm, AllocError>
     ensures { IfOk result (λ p. part_of p ≡ g.plain (t.Field (term_of receiver.term.value) field.name field.pos)) }
 {
     part(
@@ -150,7 +154,7 @@ pub fn field(alloc: Global, receiver: Part, field: Named) -> Result<Part, AllocE
 }
 
 /// `old(a)`
-pub fn old(alloc: Global, inner: Part, at: Pos) -> Result<Part, AllocError>
+pub fn old(alloc: Global, inner: WrittenTerm, at: Pos) -> Result<WrittenTerm, AllocError>
     ensures { IfOk result (λ p. part_of p ≡ g.plain (t.Old (term_of inner.term.value) at)) }
 {
     part(alloc, Shape::Plain, Term::Old(inner.term, at))
@@ -165,10 +169,10 @@ fn accessed_term(place: Box<Term>, amount: Option<Box<Term>>, at: Pos) -> Term
 /// `acc(a)` or `acc(a, amount)`
 pub fn accessed(
     alloc: Global,
-    place: Part,
+    place: WrittenTerm,
     amount: Option<Box<Term>>,
     at: Pos,
-) -> Result<Part, AllocError>
+) -> Result<WrittenTerm, AllocError>
     ensures { IfOk result (λ p. part_of p ≡ g.plain (t.Acc (term_of place.term.value) (amount_of amount) at)) }
 {
     part(alloc, Shape::Plain, accessed_term(place.term, amount, at))
@@ -196,10 +200,15 @@ fn unfolding_term(
 }
 
 /// `unfolding acc(P(a, b), amount) in c`
-pub fn unfolding(alloc: Global, opened: Instance, inner: Part, at: Pos) -> Result<Part, AllocError>
+pub fn unfolding(
+    alloc: Global,
+    opened: WrittenInstance,
+    inner: WrittenTerm,
+    at: Pos,
+) -> Result<WrittenTerm, AllocError>
     ensures { IfOk result (λ p. part_of p ≡ g.unfolded (instance_of opened) (part_of inner) at) }
 {
-    let Instance { call, amount } = opened;
+    let WrittenInstance { call, amount } = opened;
     let term = unfolding_term(alloc, call, amount, inner.term, at)?;
     part(alloc, Shape::Open, term)
 }

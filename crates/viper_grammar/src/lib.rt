@@ -8,5 +8,5 @@ mod stops;
 pub mod tokens;
 
 pub use levels::{repeats, right_level};
-pub use parts::{Instance, Part, Shape, WordClass};
+pub use parts::{Shape, WordClass, WrittenInstance, WrittenTerm};
 pub use stops::fault;

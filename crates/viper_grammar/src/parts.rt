@@ -14,14 +14,14 @@ pub enum Shape {
 
 /// A term as it is written.
 #[derive(Drop)]
-pub struct Part {
+pub struct WrittenTerm {
     pub shape: Shape,
     pub term: Box<Term>,
 }
 
 /// A call with its amount, if any, as `fold`, `unfold` and `unfolding` take it.
 #[derive(Drop)]
-pub struct Instance {
+pub struct WrittenInstance {
     pub call: SCall,
     pub amount: Option<Box<Term>>,
 }

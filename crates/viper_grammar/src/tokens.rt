@@ -10,7 +10,7 @@ use vb_base::{Memory, Pos};
 use viper_syntax::{Named, Sign, Tok, Token, Word};
 
 /// What was read, and the tokens that are left.
-pub type Read<'a, T> = grammar::Read<'a, Token, T>;
+pub type ViperRead<'a, T> = grammar::Read<'a, Token, T>;
 
 fn same_sign(a: Sign, b: Sign) -> bool
     ensures { IsTrue result ↔ (a ≡ b) }
@@ -169,7 +169,7 @@ fn level_of(sign: Sign) -> u32
 }
 
 /// The place of this sign, which must be next.
-pub fn sign<'a>(wanted: Sign, tokens: &'a [Token]) -> Read<'a, Pos>
+pub fn sign<'a>(wanted: Sign, tokens: &'a [Token]) -> ViperRead<'a, Pos>
     ensures shorter { IfOk result (λ p. length p.1.now < length tokens.now) }
     ensures takes { Takes (the_sign wanted) tokens.now result }
 {
@@ -180,7 +180,7 @@ pub fn sign<'a>(wanted: Sign, tokens: &'a [Token]) -> Read<'a, Pos>
 }
 
 /// The place of this word, which must be next.
-pub fn word<'a>(wanted: Word, tokens: &'a [Token]) -> Read<'a, Pos>
+pub fn word<'a>(wanted: Word, tokens: &'a [Token]) -> ViperRead<'a, Pos>
     ensures shorter { IfOk result (λ p. length p.1.now < length tokens.now) }
     ensures takes { Takes (the_word wanted) tokens.now result }
 {
@@ -191,7 +191,7 @@ pub fn word<'a>(wanted: Word, tokens: &'a [Token]) -> Read<'a, Pos>
 }
 
 /// A word of this class, which must be next.
-pub fn one_of<'a>(class: WordClass, tokens: &'a [Token]) -> Read<'a, (Word, Pos)>
+pub fn one_of<'a>(class: WordClass, tokens: &'a [Token]) -> ViperRead<'a, (Word, Pos)>
     ensures shorter { IfOk result (λ p. length p.1.now < length tokens.now) }
     ensures takes { Takes (one_of class) tokens.now result }
 {
@@ -202,7 +202,7 @@ pub fn one_of<'a>(class: WordClass, tokens: &'a [Token]) -> Read<'a, (Word, Pos)
 }
 
 /// A name, which must be next.
-pub fn name(tokens: &[Token]) -> Read<'_, Named>
+pub fn name(tokens: &[Token]) -> ViperRead<'_, Named>
     ensures shorter { IfOk result (λ p. length p.1.now < length tokens.now) }
     ensures takes { Takes a_name tokens.now result }
 {

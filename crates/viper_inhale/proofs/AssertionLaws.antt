@@ -15,12 +15,12 @@ use Rattle.viper_meaning.specs.Resource.{Resource}
 use Rattle.viper_meaning.proofs.RunWithinLaws.{produce_within}
 use Rattle.viper_eval.specs.Answers.{Answers, stopped}
 use Rattle.viper_eval.specs.Steps.{assumed}
-use Rattle.viper_eval.specs.declared.answers.Stop.{Stop}
-use Rattle.viper_eval.specs.declared.answers.Halt.TheVariants as halt
+use Rattle.viper_eval.specs.declared.answers.EvalStop.{EvalStop}
+use Rattle.viper_eval.specs.declared.answers.EvalHalt.TheVariants as halt
 use Rattle.viper_eval.proofs.AnswerLaws.{if_so, if_not, ends_is, stops_with, assumed_holds, assumed_fails}
 use Rattle.viper_inhale.specs.Answers.{Does}
-use Rattle.viper_inhale.specs.declared.answers.Halt.{Halt}
-use Rattle.viper_inhale.specs.declared.resources.Share.{Share}
+use Rattle.viper_inhale.specs.declared.answers.StepHalt.{StepHalt}
+use Rattle.viper_inhale.specs.declared.resources.PlacedScale.{PlacedScale}
 use Rattle.viper_inhale.proofs.DoesLaws.{same_run, does_keep}
 
 -- ---- what is assumed
@@ -29,12 +29,12 @@ module _ {Z : Type 0} {u : Z → State} (s : State) (holds : Bool) where
   pub fact_goes : (x : ⊤) (z : Z) → is x ≡ assumed holds → u z ≡ s → Answers u [] (if holds then is s else blocks) [] (Ok z)
   fact_goes x z h same = if_so holds _ _ (assumed_holds holds x h) (ends_is s z same)
 
-  pub fact_fails : (w : Stop) → ends [] (stopped w) ≡ assumed holds → Answers u [] (if holds then is s else blocks) [] (Err (halt.Stops w))
+  pub fact_fails : (w : EvalStop) → ends [] (stopped w) ≡ assumed holds → Answers u [] (if holds then is s else blocks) [] (Err (halt.Stops w))
   fact_fails w h = let no = assumed_fails holds w h in if_not holds _ _ no.0 (stops_with w (ap (λ w. ends [] (stopped w)) no.1))
 
 -- ---- an amount, with what was put together for the call
 
-module _ {Z : Type 0} {u : Z → State} {f g : Feed} {q : Result Z Halt} {k : Fraction} {at : Pos} {share : Share} (same : share ≡ record { scale = k; at = at }) where
+module _ {Z : Type 0} {u : Z → State} {f g : Feed} {q : Result Z StepHalt} {k : Fraction} {at : Pos} {share : PlacedScale} (same : share ≡ record { scale = k; at = at }) where
   pub produced_share : (m : t.Amt) (sc : Scene) (s : State) (x : Resource) → Does u f (produce_amount Bounded m sc share.scale share.at s x) g q → Does u f (produce_amount Bounded m sc k at s x) g q
   produced_share m sc s x = same_run (λ i. produce_amount Bounded m sc (sym same i).scale (sym same i).at s x)
 

@@ -20,13 +20,13 @@ use Rattle.viper_meaning.proofs.RunLaws.{on-then, then-since}
 use Rattle.viper_eval.specs.Answers.{Answers}
 use Rattle.viper_eval.specs.Answers as reading
 use Rattle.viper_eval.proofs.AnswerLaws.{ends_is}
-use Rattle.viper_eval.specs.declared.answers.Stop.{Stop as EndOfReading}
-use Rattle.viper_eval.specs.declared.answers.Stop.TheVariants as end
-use Rattle.viper_eval.specs.declared.answers.Halt.{Halt as HaltOfReading}
+use Rattle.viper_eval.specs.declared.answers.EvalStop.{EvalStop}
+use Rattle.viper_eval.specs.declared.answers.EvalStop.TheVariants as end
+use Rattle.viper_eval.specs.declared.answers.EvalHalt.{EvalHalt}
 use Rattle.viper_inhale.specs.Answers.{run_stop, run_halt, stopped, run_of, Does, no_memory, goes, stops}
-use Rattle.viper_inhale.specs.declared.answers.Stop.{Stop}
-use Rattle.viper_inhale.specs.declared.answers.Stop.TheVariants as stop
-use Rattle.viper_inhale.specs.declared.answers.Halt.{Halt}
+use Rattle.viper_inhale.specs.declared.answers.StepStop.{StepStop}
+use Rattle.viper_inhale.specs.declared.answers.StepStop.TheVariants as stop
+use Rattle.viper_inhale.specs.declared.answers.StepHalt.{StepHalt}
 
 -- ---- where a run stands
 
@@ -36,7 +36,7 @@ run_ended (ends events (m.Fails l)) f = refl
 run_ended (ends events m.Blocked) f = refl
 run_ended (ends events (m.Over at)) f = refl
 
-leaving_stopped : {X : Type 0} (events : List Event) (w : EndOfReading) (left : List Choice) → leaving {X = X} (ends events (reading.stopped w)) left ≡ ran events (stopped (run_stop w)) left
+leaving_stopped : {X : Type 0} (events : List Event) (w : EvalStop) (left : List Choice) → leaving {X = X} (ends events (reading.stopped w)) left ≡ ran events (stopped (run_stop w)) left
 leaving_stopped events (end.Fails l) left = refl
 leaving_stopped events end.Blocked left = refl
 leaving_stopped events (end.Over at) left = refl
@@ -44,7 +44,7 @@ leaving_stopped events (end.Over at) left = refl
 pub run_then : {X Y : Type 0} (r : Run X) (go : X → Run Y) (f : Feed) → run_of (then_do r go) f ≡ then_ran (run_of r f) (λ x. on (go x))
 run_then r go f = ap (since f.events) (on-then r go f.left) ∙ sym (then-since f.events (on r f.left) (λ x. on (go x)))
 
-pub stopped_then : {X Y : Type 0} (events : List Event) (w : Stop) (left : List Choice) (go : X → List Choice → Ran Y) → then_ran (ran events (stopped w) left) go ≡ ran events (stopped w) left
+pub stopped_then : {X Y : Type 0} (events : List Event) (w : StepStop) (left : List Choice) (go : X → List Choice → Ran Y) → then_ran (ran events (stopped w) left) go ≡ ran events (stopped w) left
 stopped_then events (stop.Fails l) left go = refl
 stopped_then events stop.Blocked left go = refl
 stopped_then events stop.Short left go = refl
@@ -52,21 +52,21 @@ stopped_then events (stop.Over at) left go = refl
 
 -- ---- what an answer says
 
-pub does_at : {X Y : Type 0} {v : X → Y} {f m g : Feed} {r u : Run Y} {q : Result X Halt} → run_of r f ≡ run_of u m → Does v m u g q → Does v f r g q
+pub does_at : {X Y : Type 0} {v : X → Y} {f m g : Feed} {r u : Run Y} {q : Result X StepHalt} → run_of r f ≡ run_of u m → Does v m u g q → Does v f r g q
 does_at same no_memory = no_memory
 does_at same (goes h) = goes (same ∙ h)
 does_at same (stops h) = stops (same ∙ h)
 
-pub same_run : {X Y : Type 0} {v : X → Y} {f g : Feed} {r u : Run Y} {q : Result X Halt} → r ≡ u → Does v f u g q → Does v f r g q
+pub same_run : {X Y : Type 0} {v : X → Y} {f g : Feed} {r u : Run Y} {q : Result X StepHalt} → r ≡ u → Does v f u g q → Does v f r g q
 same_run {f = f} same = does_at (ap (λ r. run_of r f) same)
 
 -- an answer that a `?` hands on
-pub passed : {X Y : Type 0} {v : X → Y} {f g : Feed} {r : Run Y} (q : Result X Halt) (w : Halt) → IsErrAnd q (λ h. h ≡ w) → Does v f r g (Err w) → Does v f r g q
+pub passed : {X Y : Type 0} {v : X → Y} {f g : Feed} {r : Run Y} (q : Result X StepHalt) (w : StepHalt) → IsErrAnd q (λ h. h ≡ w) → Does v f r g (Err w) → Does v f r g q
 passed {v = v} {f = f} {g = g} {r = r} q w given h =
     let p = err_from_is_err_and q given in
     subst (λ q. Does v f r g q) (sym (p.1 ∙ ap Err p.2)) h
 
-pub stopped_as : {X Y : Type 0} {v : X → Y} {f g : Feed} {r : Run Y} {q w : Halt} → q ≡ w → Does v f r g (Err w) → Does v f r g (Err q)
+pub stopped_as : {X Y : Type 0} {v : X → Y} {f g : Feed} {r : Run Y} {q w : StepHalt} → q ≡ w → Does v f r g (Err w) → Does v f r g (Err q)
 stopped_as {v = v} {f = f} {g = g} {r = r} same h = subst (λ q. Does v f r g (Err q)) (sym same) h
 
 -- ---- going on
@@ -75,7 +75,7 @@ pub ended_goes : {X Y : Type 0} {v : X → Y} {f g : Feed} {e : Evaluated Y} {x 
 ended_goes {v = v} {f = f} {g = g} {e = e} {x = x} (reading.goes h) left =
     goes (run_ended e f ∙ ap (λ d. leaving d f.left) h ∙ ap (ran g.events (Goes (v x))) (sym left))
 
-pub ended_stops : {X Y Z : Type 0} {v : X → Y} {u : Z → Y} {f g : Feed} {e : Evaluated Y} {w : HaltOfReading} → Answers v f.events e g.events (Err w) → g.left ≡ f.left → Does u f (ended e) g (Err (run_halt w))
+pub ended_stops : {X Y Z : Type 0} {v : X → Y} {u : Z → Y} {f g : Feed} {e : Evaluated Y} {w : EvalHalt} → Answers v f.events e g.events (Err w) → g.left ≡ f.left → Does u f (ended e) g (Err (run_halt w))
 ended_stops reading.no_memory left = no_memory
 ended_stops {f = f} {g = g} {e = e} (reading.stops {w = w} h) left =
     stops (run_ended e f ∙ ap (λ d. leaving d f.left) h ∙ leaving_stopped g.events w f.left ∙ ap (ran g.events (stopped (run_stop w))) (sym left))
@@ -83,19 +83,19 @@ ended_stops {f = f} {g = g} {e = e} (reading.stops {w = w} h) left =
 pub goes_at_once : {Y Z : Type 0} {u : Z → Y} {f : Feed} (y : Y) (z : Z) → u z ≡ y → Does u f (run.goes y) f (Ok z)
 goes_at_once {u = u} {f = f} y z h = ended_goes {v = u} {f = f} {g = f} (ends_is y z h) refl
 
-pub then_goes : {X Y Z W : Type 0} {v : X → Y} {u : Z → W} {f m g : Feed} {r : Run Y} (go : Y → Run W) {x : X} {q : Result Z Halt} → Does v f r m (Ok x) → Does u m (go (v x)) g q → Does u f (then_do r go) g q
+pub then_goes : {X Y Z W : Type 0} {v : X → Y} {u : Z → W} {f m g : Feed} {r : Run Y} (go : Y → Run W) {x : X} {q : Result Z StepHalt} → Does v f r m (Ok x) → Does u m (go (v x)) g q → Does u f (then_do r go) g q
 then_goes {f = f} {r = r} go (goes h) = does_at (run_then r go f ∙ ap (λ n. then_ran n (λ x. on (go x))) h)
 
-pub then_stops : {X Y Z W : Type 0} {v : X → Y} {u : Z → W} {f g : Feed} {r : Run Y} (go : Y → Run W) {w : Halt} → Does v f r g (Err w) → Does u f (then_do r go) g (Err w)
+pub then_stops : {X Y Z W : Type 0} {v : X → Y} {u : Z → W} {f g : Feed} {r : Run Y} (go : Y → Run W) {w : StepHalt} → Does v f r g (Err w) → Does u f (then_do r go) g (Err w)
 then_stops go no_memory = no_memory
 then_stops {f = f} {g = g} {r = r} go (stops {w = w} h) =
     stops (run_then r go f ∙ ap (λ n. then_ran n (λ x. on (go x))) h ∙ stopped_then g.events w g.left (λ x. on (go x)))
 
-pub evaluated_goes : {X Y Z W : Type 0} {v : X → Y} {u : Z → W} {f m g : Feed} {e : Evaluated Y} (go : Y → Run W) {x : X} {q : Result Z Halt} → Answers v f.events e m.events (Ok x) → m.left ≡ f.left →
+pub evaluated_goes : {X Y Z W : Type 0} {v : X → Y} {u : Z → W} {f m g : Feed} {e : Evaluated Y} (go : Y → Run W) {x : X} {q : Result Z StepHalt} → Answers v f.events e m.events (Ok x) → m.left ≡ f.left →
     Does u m (go (v x)) g q → Does u f (evaluating e go) g q
 evaluated_goes {v = v} {f = f} {m = m} {e = e} go h left = then_goes {v = v} {f = f} {m = m} {r = ended e} go (ended_goes {v = v} {f = f} {g = m} h left)
 
-pub evaluated_stops : {X Y Z W : Type 0} {v : X → Y} {u : Z → W} {f g : Feed} {e : Evaluated Y} (go : Y → Run W) {w : HaltOfReading} → Answers v f.events e g.events (Err w) → g.left ≡ f.left →
+pub evaluated_stops : {X Y Z W : Type 0} {v : X → Y} {u : Z → W} {f g : Feed} {e : Evaluated Y} (go : Y → Run W) {w : EvalHalt} → Answers v f.events e g.events (Err w) → g.left ≡ f.left →
     Does u f (evaluating e go) g (Err (run_halt w))
 evaluated_stops {v = v} {f = f} {g = g} {e = e} go h left = then_stops {v = v} {f = f} {g = g} {r = ended e} go (ended_stops {v = v} {f = f} {g = g} h left)
 
@@ -133,10 +133,10 @@ no_choice f m none same =
 
 -- and what goes on with it
 
-pub amount_goes : {Z W : Type 0} {u : Z → W} {f m g : Feed} (go : Fraction → Run W) {x : Fraction} {q : Result Z Halt} → Does (λ q. q) f (taking_amount run.goes) m (Ok x) → Does u m (go x) g q → Does u f (taking_amount go) g q
+pub amount_goes : {Z W : Type 0} {u : Z → W} {f m g : Feed} (go : Fraction → Run W) {x : Fraction} {q : Result Z StepHalt} → Does (λ q. q) f (taking_amount run.goes) m (Ok x) → Does u m (go x) g q → Does u f (taking_amount go) g q
 amount_goes go h i = same_run (amount_then go) (then_goes go h i)
 
-pub amount_stops : {Z W : Type 0} {u : Z → W} {f g : Feed} (go : Fraction → Run W) {w : Halt} → Does {X = Fraction} (λ q. q) f (taking_amount run.goes) g (Err w) → Does u f (taking_amount go) g (Err w)
+pub amount_stops : {Z W : Type 0} {u : Z → W} {f g : Feed} (go : Fraction → Run W) {w : StepHalt} → Does {X = Fraction} (λ q. q) f (taking_amount run.goes) g (Err w) → Does u f (taking_amount go) g (Err w)
 amount_stops go h = same_run (amount_then go) (then_stops go h)
 
 -- ---- what a run keeps

@@ -36,7 +36,7 @@ use Rattle.viper_meaning.specs.Run.{Run, given, noting, goes, on, since, ran, Go
 use Rattle.viper_inhale.specs.Answers.{run_of, Does}
 use Rattle.viper_inhale.specs.Kept.{kept_maps, kept_memo}
 use Rattle.viper_inhale.specs.View.{filled_in}
-use Rattle.viper_inhale.specs.declared.answers.Halt.{Halt}
+use Rattle.viper_inhale.specs.declared.answers.StepHalt.{StepHalt}
 use Rattle.viper_inhale.proofs.DoesLaws.{does_at}
 use Rattle.viper_inhale.proofs.FreeLaws.{contents_keys}
 
@@ -217,7 +217,7 @@ module _ (l : Layout) where
   none_chosen (choice.Filled m) h = cc
 
   module _ (s : State) where
-    pub memo_taken : {Z : Type 0} {u : Z → State} {q : Result Z Halt} (f m g : Feed) (c : Choice) (n : Memo) → FitsMemo l n → f.left ≡ c ∷ m.left → m.events ≡ f.events → Some n ≡ filled_in c →
+    pub memo_taken : {Z : Type 0} {u : Z → State} {q : Result Z StepHalt} (f m g : Feed) (c : Choice) (n : Memo) → FitsMemo l n → f.left ≡ c ∷ m.left → m.events ≡ f.events → Some n ≡ filled_in c →
         Does u m (forgotten_run s n) g q → Does u f (forget l s) g q
     memo_taken f m g c n fit first events filled =
         does_at (ap (λ cs. since f.events (on (forget l s) cs)) first ∙ ap (λ o. since f.events (since [] (on (given o (forgotten_run s)) m.left))) (memo_chosen c n fit filled)

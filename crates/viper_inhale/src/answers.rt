@@ -1,7 +1,7 @@
 // How the steps of a run end.
 ghost use Rattle.std.specs.Prelude.{◌≡◌};
 ghost use Rattle.viper_inhale.specs.Answers.{run_stop, run_halt};
-ghost use Rattle.viper_inhale.specs.declared.answers.Halt.TheVariants as halt;
+ghost use Rattle.viper_inhale.specs.declared.answers.StepHalt.TheVariants as halt;
 
 use std::alloc::{AllocError, AllocFailed};
 use vb_base::{Label, Memory, Pos};
@@ -21,7 +21,7 @@ pub enum Step {
 
 /// An end of a step after which nothing goes on.
 #[derive(Clone, Copy, Debug, PartialEq, Eq)]
-pub enum Stop {
+pub enum StepStop {
     Fails(Label),
     /// An assumption does not hold, or a choice is not of the kind that the step needs.
     Blocked,
@@ -33,63 +33,63 @@ pub enum Stop {
 
 /// Why a step does not go on.
 #[derive(Clone, Copy, Debug, PartialEq, Eq)]
-pub enum Halt {
+pub enum StepHalt {
     /// There was no memory.
     Memory,
-    Stops(Stop),
+    Stops(StepStop),
 }
 
-impl From<viper_eval::Stop> for Stop {
+impl From<viper_eval::EvalStop> for StepStop {
     ghost from_gives = { λ stop e. e ≡ run_stop stop };
 
-    fn from(stop: viper_eval::Stop) -> Stop {
+    fn from(stop: viper_eval::EvalStop) -> StepStop {
         match stop {
-            viper_eval::Stop::Fails(label) => Stop::Fails(label),
-            viper_eval::Stop::Blocked => Stop::Blocked,
-            viper_eval::Stop::Over(at) => Stop::Over(at),
+            viper_eval::EvalStop::Fails(label) => StepStop::Fails(label),
+            viper_eval::EvalStop::Blocked => StepStop::Blocked,
+            viper_eval::EvalStop::Over(at) => StepStop::Over(at),
         }
     }
 }
 
-impl From<viper_eval::Stop> for Halt {
+impl From<viper_eval::EvalStop> for StepHalt {
     ghost from_gives = { λ stop e. e ≡ halt.Stops (run_stop stop) };
 
-    fn from(stop: viper_eval::Stop) -> Halt {
-        Halt::Stops(stop.into())
+    fn from(stop: viper_eval::EvalStop) -> StepHalt {
+        StepHalt::Stops(stop.into())
     }
 }
 
-impl From<viper_eval::Halt> for Halt {
+impl From<viper_eval::EvalHalt> for StepHalt {
     ghost from_gives = { λ stop e. e ≡ run_halt stop };
 
-    fn from(halt: viper_eval::Halt) -> Halt {
+    fn from(halt: viper_eval::EvalHalt) -> StepHalt {
         match halt {
-            viper_eval::Halt::Memory => Halt::Memory,
-            viper_eval::Halt::Stops(stop) => Halt::Stops(stop.into()),
+            viper_eval::EvalHalt::Memory => StepHalt::Memory,
+            viper_eval::EvalHalt::Stops(stop) => StepHalt::Stops(stop.into()),
         }
     }
 }
 
-impl From<Memory> for Halt {
+impl From<Memory> for StepHalt {
     ghost from_gives = { λ _ e. e ≡ halt.Memory };
 
-    fn from(_: Memory) -> Halt {
-        Halt::Memory
+    fn from(_: Memory) -> StepHalt {
+        StepHalt::Memory
     }
 }
 
-impl From<AllocError> for Halt {
+impl From<AllocError> for StepHalt {
     ghost from_gives = { λ _ e. e ≡ halt.Memory };
 
-    fn from(_: AllocError) -> Halt {
-        Halt::Memory
+    fn from(_: AllocError) -> StepHalt {
+        StepHalt::Memory
     }
 }
 
-impl<T: Drop> From<AllocFailed<T>> for Halt {
+impl<T: Drop> From<AllocFailed<T>> for StepHalt {
     ghost from_gives = { λ _ e. e ≡ halt.Memory };
 
-    fn from(_: AllocFailed<T>) -> Halt {
-        Halt::Memory
+    fn from(_: AllocFailed<T>) -> StepHalt {
+        StepHalt::Memory
     }
 }

@@ -15,7 +15,7 @@ ghost use Rattle.viper_meaning.specs.Assertions as m;
 ghost use Rattle.viper_meaning.specs.Forgotten as forgotten;
 ghost use Rattle.viper_inhale.specs.Answers.{Does, run_of, step_of};
 
-use crate::answers::{Halt, Step, Stop};
+use crate::answers::{Step, StepHalt, StepStop};
 use crate::consuming::consume_in;
 use crate::forgetting::forget_in;
 use crate::producing::produce_in;
@@ -27,17 +27,17 @@ use viper_eval::SceneRef;
 use viper_state::{Feed, Scene, State};
 
 /// How a step ended, if not for want of memory.
-pub fn step(answer: Result<(), Halt>) -> Result<Step, Memory>
+pub fn step(answer: Result<(), StepHalt>) -> Result<Step, Memory>
     ensures { (f g : Fed) (r : run.Run tree.State) (s : tree.State) → Does (λ _. s) f r g answer
         → IfOk result (λ step. run_of r f ≡ run.ran g.events (step_of s step) g.left) }
 {
     match answer {
         Ok(()) => Ok(Step::Goes),
-        Err(Halt::Stops(Stop::Fails(label))) => Ok(Step::Fails(label)),
-        Err(Halt::Stops(Stop::Blocked)) => Ok(Step::Blocked),
-        Err(Halt::Stops(Stop::Short)) => Ok(Step::Short),
-        Err(Halt::Stops(Stop::Over(at))) => Ok(Step::Over(at)),
-        Err(Halt::Memory) => Err(Memory),
+        Err(StepHalt::Stops(StepStop::Fails(label))) => Ok(Step::Fails(label)),
+        Err(StepHalt::Stops(StepStop::Blocked)) => Ok(Step::Blocked),
+        Err(StepHalt::Stops(StepStop::Short)) => Ok(Step::Short),
+        Err(StepHalt::Stops(StepStop::Over(at))) => Ok(Step::Over(at)),
+        Err(StepHalt::Memory) => Err(Memory),
     }
 }
 

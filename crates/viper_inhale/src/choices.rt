@@ -4,7 +4,7 @@ ghost use Rattle.viper_state.specs.View.{choice_of, feed_of};
 ghost use Rattle.viper_meaning.specs.Run as m;
 ghost use Rattle.viper_inhale.specs.Answers.{Does};
 
-use crate::answers::{Halt, Stop};
+use crate::answers::{StepHalt, StepStop};
 use vb_value::Frac;
 use viper_state::{Choice, Event, Feed};
 
@@ -19,7 +19,7 @@ fn amount_in(choice: &Choice) -> Option<Frac>
 }
 
 /// Takes the next choice, which has to be an amount, and records it.
-pub(crate) fn take_amount(feed: &mut Feed) -> Result<Frac, Halt>
+pub(crate) fn take_amount(feed: &mut Feed) -> Result<Frac, StepHalt>
     ensures { Does (λ q. q) (feed_of feed.old) (m.taking_amount m.goes) (feed_of feed.new) result }
 {
     match feed.take() {
@@ -28,8 +28,8 @@ pub(crate) fn take_amount(feed: &mut Feed) -> Result<Frac, Halt>
                 feed.record(Event::Wild(amount))?;
                 Ok(amount)
             }
-            None => Err(Halt::Stops(Stop::Blocked)),
+            None => Err(StepHalt::Stops(StepStop::Blocked)),
         },
-        None => Err(Halt::Stops(Stop::Short)),
+        None => Err(StepHalt::Stops(StepStop::Short)),
     }
 }

@@ -9,9 +9,9 @@ ghost use Rattle.viper_eval.specs.View.{lent};
 ghost use Rattle.viper_inhale.specs.Answers.{Does};
 ghost use Rattle.viper_inhale.specs.View.{resource_of};
 
-use crate::answers::Halt;
+use crate::answers::StepHalt;
 use crate::choices::take_amount;
-use crate::resources::{Resource, Share, instance, place, something_held, take, take_some};
+use crate::resources::{PlacedScale, Resource, instance, place, something_held, take, take_some};
 use std::alloc::Global;
 use vb_base::Kind;
 use vb_value::Frac;
@@ -21,7 +21,7 @@ use viper_state::{Feed, State};
 
 /// What expressions are read in: the state at the start, and what they see besides it.
 #[derive(Clone, Copy)]
-struct Reading<'a> {
+struct StartReading<'a> {
     start: &'a State,
     scene: SceneRef<'a>,
 }
@@ -30,12 +30,12 @@ struct Reading<'a> {
 fn consume_amount(
     alloc: Global,
     amount: &Amt,
-    reading: Reading,
-    share: Share,
+    reading: StartReading,
+    share: PlacedScale,
     left: &mut State,
     resource: Resource,
     feed: &mut Feed,
-) -> Result<(), Halt>
+) -> Result<(), StepHalt>
     requires amount_within { IsWithinAmount (amt_of amount.now) }
     requires start_within { IsWithinState (state_of reading.start.now) }
     requires scene_within { IsWithinScene (lent reading.scene) }
@@ -43,7 +43,7 @@ fn consume_amount(
         (m.consume_amount Bounded (amt_of amount.now) (state_of reading.entry.start.now) (lent reading.entry.scene) share.scale share.at (state_of left.old) (resource_of resource))
         (feed_of feed.new) result }
 {
-    let Reading { start, scene } = reading;
+    let StartReading { start, scene } = reading;
     match amount {
         Amt::Is(e) => {
             let amount = permission_of(alloc, e, start, scene, feed)?;
@@ -66,30 +66,30 @@ pub fn consume_in(
     scene: SceneRef,
     scale: Frac,
     feed: &mut Feed,
-) -> Result<(), Halt>
+) -> Result<(), StepHalt>
     requires assertion_within { IsWithinAssertion (assertion_of assertion.now) }
     requires start_within { IsWithinState (state_of start.now) }
     requires scene_within { IsWithinScene (lent scene) }
     ensures { Does (λ _. state_of left.new) (feed_of feed.old)
         (m.consume Bounded (assertion_of assertion.now) (state_of start.now) (lent scene.entry) scale (state_of left.old)) (feed_of feed.new) result }
 {
-    let reading = Reading { start, scene };
+    let reading = StartReading { start, scene };
     match assertion {
         Assertion::Fact(e, at) => {
             if truth_of(alloc, e, start, scene, feed)? {
                 Ok(())
             } else {
-                Err(Halt::from(failure(scene, *at, Kind::Fact)))
+                Err(StepHalt::from(failure(scene, *at, Kind::Fact)))
             }
         }
         Assertion::Acc(e, field, amount, at) => {
             let resource = place(alloc, e, *field, start, scene, feed)?;
-            let share = Share::of(scale, *at);
+            let share = PlacedScale::of(scale, *at);
             consume_amount(alloc, amount, reading, share, left, resource, feed)
         }
         Assertion::Inst(predicate, args, amount, at) => {
             let resource = instance(alloc, *predicate, args, start, scene, feed)?;
-            let share = Share::of(scale, *at);
+            let share = PlacedScale::of(scale, *at);
             consume_amount(alloc, amount, reading, share, left, resource, feed)
         }
         Assertion::And(a, b) => {

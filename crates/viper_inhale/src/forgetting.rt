@@ -17,9 +17,9 @@ ghost use Rattle.viper_state.specs.Event as event;
 ghost use Rattle.viper_inhale.specs.Answers.{Does};
 ghost use Rattle.viper_inhale.specs.Kept.{kept_maps, kept_memo};
 ghost use Rattle.viper_inhale.specs.View.{filled_in};
-ghost use Rattle.viper_inhale.specs.declared.answers.Halt.TheVariants as halt;
+ghost use Rattle.viper_inhale.specs.declared.answers.StepHalt.TheVariants as halt;
 
-use crate::answers::{Halt, Stop};
+use crate::answers::{StepHalt, StepStop};
 use crate::free_keys::{all_keys, free_keys, list_of, loose_keys};
 use sparse::Sparse;
 use std::alloc::Global;
@@ -46,7 +46,7 @@ fn changed_values(
     own: &Sparse<u64, Value>,
     held: &Sparse<u64, Frac>,
     loose: Option<&Vec<u64>>,
-) -> Result<Sparse<u64, Value>, Halt>
+) -> Result<Sparse<u64, Value>, StepHalt>
     requires same { new.now.default ≡ own.now.default }
     requires known { IfSome loose (λ list. IsLooseAmong nat_cmp own.now held.now list.now.items) }
     ensures kept { IfOk result (λ m. m ≡ kept_at nat_cmp value_eq new.now own.now (keys held.now)) }
@@ -63,7 +63,7 @@ fn take_values(
     heap: &mut Sparse<u64, Value>,
     other: &Sparse<u64, Value>,
     references: &[&u64],
-) -> Result<(), Halt>
+) -> Result<(), StepHalt>
     ensures taken { OnOk result (heap.new ≡ kept_at nat_cmp value_eq heap.old other.now (borrowed references.now)) }
     ensures memory { IfErr result (λ h. h ≡ halt.Memory) }
 {
@@ -80,7 +80,7 @@ fn keep_values(
     own: &Sparse<u64, Value>,
     held: &Sparse<u64, Frac>,
     loose: Option<&Vec<u64>>,
-) -> Result<(), Halt>
+) -> Result<(), StepHalt>
     requires { IfSome loose (λ list. IsLooseAmong nat_cmp own.now held.now list.now.items) }
     ensures kept { OnOk result (new.new ≡ kept_at nat_cmp value_eq new.old own.now (keys held.now)) }
     ensures memory { IfErr result (λ h. h ≡ halt.Memory) }
@@ -100,7 +100,7 @@ fn changed_contents(
     own: &Sparse<Key, Content>,
     held: &Sparse<Key, Frac>,
     loose: Option<&Vec<Key>>,
-) -> Result<Sparse<Key, Content>, Halt>
+) -> Result<Sparse<Key, Content>, StepHalt>
     requires known { IfSome loose (λ list. IsLooseAmong key_cmp own.now held.now list.now.items) }
     requires same { (contents_of new.now).default ≡ (contents_of own.now).default }
     ensures kept { IfOk result (λ m. contents_of m ≡ kept_at key_cmp same_content (contents_of new.now) (contents_of own.now) (keys held.now)) }
@@ -119,7 +119,7 @@ fn take_contents(
     contents: &mut Sparse<Key, Content>,
     other: &Sparse<Key, Content>,
     instances: &[&Key],
-) -> Result<(), Halt>
+) -> Result<(), StepHalt>
     ensures taken { OnOk result (contents_of contents.new ≡ kept_at key_cmp same_content (contents_of contents.old) (contents_of other.now) (borrowed instances.now)) }
     ensures memory { IfErr result (λ h. h ≡ halt.Memory) }
 {
@@ -137,7 +137,7 @@ fn keep_contents(
     own: &Sparse<Key, Content>,
     held: &Sparse<Key, Frac>,
     loose: Option<&Vec<Key>>,
-) -> Result<(), Halt>
+) -> Result<(), StepHalt>
     requires { IfSome loose (λ list. IsLooseAmong key_cmp own.now held.now list.now.items) }
     ensures kept { OnOk result (contents_of new.new ≡ kept_at key_cmp same_content (contents_of new.old) (contents_of own.now) (keys held.now)) }
     ensures memory { IfErr result (λ h. h ≡ halt.Memory) }
@@ -157,7 +157,7 @@ fn keep_heap(
     owns: &[Sparse<u64, Value>],
     helds: &[Sparse<u64, Frac>],
     lists: &[Vec<u64>],
-) -> Result<(), Halt>
+) -> Result<(), StepHalt>
     requires { AreLooseAmong nat_cmp owns.now helds.now (lists_of lists.now) }
     ensures kept { OnOk result (news.new.items ≡ kept_maps nat_cmp value_eq news.old.items owns.now helds.now) }
     ensures memory { IfErr result (λ h. h ≡ halt.Memory) }
@@ -176,7 +176,7 @@ fn keep_all_contents(
     owns: &[Sparse<Key, Content>],
     helds: &[Sparse<Key, Frac>],
     lists: &[Vec<Key>],
-) -> Result<(), Halt>
+) -> Result<(), StepHalt>
     requires { AreLooseAmong key_cmp owns.now helds.now (lists_of lists.now) }
     ensures kept { OnOk result (map contents_of news.new.items
         ≡ kept_maps key_cmp same_content (map contents_of news.old.items) (map contents_of owns.now) helds.now) }
@@ -206,7 +206,7 @@ fn memo_in(choice: Choice) -> Option<Memo>
 }
 
 /// A heap and contents with what the state keeps of its own.
-fn kept_memo(alloc: Global, memo: Memo, state: &State) -> Result<Memo, Halt>
+fn kept_memo(alloc: Global, memo: Memo, state: &State) -> Result<Memo, StepHalt>
     ensures kept { IfOk result (λ m. memo_of m ≡ kept_memo (state_of state.now) (memo_of memo)) }
     ensures memory { IfErr result (λ h. h ≡ halt.Memory) }
 {
@@ -222,7 +222,7 @@ fn kept_memo(alloc: Global, memo: Memo, state: &State) -> Result<Memo, Halt>
 }
 
 /// Forgets by a heap and contents, and records what stands from then on.
-fn forget_by(alloc: Global, memo: Memo, state: &mut State, feed: &mut Feed) -> Result<(), Halt>
+fn forget_by(alloc: Global, memo: Memo, state: &mut State, feed: &mut Feed) -> Result<(), StepHalt>
     ensures { (l : Layout) → HasMaps l (state_of state.old) → FitsMemo l (memo_of memo)
         → Does (λ _. state_of state.new) (feed_of feed.old)
         (run.noting (event.Whole (forgotten (state_of state.old) (memo_of memo))) (run.goes (with_memo (state_of state.old) (forgotten (state_of state.old) (memo_of memo)))))
@@ -236,15 +236,15 @@ fn forget_by(alloc: Global, memo: Memo, state: &mut State, feed: &mut Feed) -> R
 }
 
 /// Forgets what is not held, by the next choice, which has to be a heap and contents.
-pub fn forget_in(alloc: Global, state: &mut State, feed: &mut Feed) -> Result<(), Halt>
+pub fn forget_in(alloc: Global, state: &mut State, feed: &mut Feed) -> Result<(), StepHalt>
     ensures { (l : Layout) → HasMaps l (state_of state.old) → All (FitsChoice l) (feed_of feed.old).left
         → Does (λ _. state_of state.new) (feed_of feed.old) (m.forget l (state_of state.old)) (feed_of feed.new) result }
 {
     match feed.take() {
         Some(choice) => match memo_in(choice) {
             Some(memo) => forget_by(alloc, memo, state, feed),
-            None => Err(Halt::Stops(Stop::Blocked)),
+            None => Err(StepHalt::Stops(StepStop::Blocked)),
         },
-        None => Err(Halt::Stops(Stop::Short)),
+        None => Err(StepHalt::Stops(StepStop::Short)),
     }
 }

@@ -6,9 +6,9 @@ ghost use Rattle.sparse.specs.Map.{borrowed, keys, IsReduced};
 ghost use Rattle.vb_value.specs.Value.{fraction_eq};
 ghost use Rattle.viper_state.specs.Loose.{IsLooseAmong, lists_of};
 ghost use Rattle.viper_inhale.specs.Free.{is_free, AreFree};
-ghost use Rattle.viper_inhale.specs.declared.answers.Halt.TheVariants as halt;
+ghost use Rattle.viper_inhale.specs.declared.answers.StepHalt.TheVariants as halt;
 
-use crate::answers::Halt;
+use crate::answers::StepHalt;
 use sparse::Sparse;
 use std::alloc::Global;
 use std::cmp::Ordering;
@@ -21,7 +21,7 @@ const ENTRIES_A_LOOK: usize = 16;
 pub(crate) fn all_keys<K: Ord + Clone + Drop, V: Eq + Clone + Drop>(
     alloc: Global,
     map: &Sparse<K, V>,
-) -> Result<Vec<&K>, Halt>
+) -> Result<Vec<&K>, StepHalt>
     ensures keys { IfOk result (λ list. borrowed list.items ≡ keys map.now) }
     ensures memory { IfErr result (λ h. h ≡ halt.Memory) }
 {
@@ -54,7 +54,7 @@ fn entries_beside<K: Ord + Clone + Drop>(
     alloc: Global,
     map: &Sparse<K, Frac>,
     sought: usize,
-) -> Result<Vec<&(K, Frac)>, Halt>
+) -> Result<Vec<&(K, Frac)>, StepHalt>
     ensures within { IfOk result (λ list. (k : K) → Contains (keys_of (borrowed list.items)) k → Contains (keys map.now) k) }
     ensures reduced { IfOk result (λ _. IsReduced K.cmp fraction_eq map.now) }
     ensures memory { IfErr result (λ h. h ≡ halt.Memory) }
@@ -84,7 +84,7 @@ pub(crate) fn free_keys<'a, K: Ord + Clone + Drop, V: Eq + Clone + Drop>(
     alloc: Global,
     map: &'a Sparse<K, V>,
     held: &Sparse<K, Frac>,
-) -> Result<Vec<&'a K>, Halt>
+) -> Result<Vec<&'a K>, StepHalt>
     requires { (k q : K) → K.cmp k q ≡ Equal → k ≡ q }
     ensures free { IfOk result (λ list. borrowed list.items ≡ filter (is_free K.cmp held.now) (keys map.now)) }
     ensures map_reduced { IfOk result (λ _. IsReduced K.cmp V.eq map.now) }
@@ -110,7 +110,7 @@ fn free_among<'a, K: Ord + Clone + Drop>(
     alloc: Global,
     keys: &'a [K],
     held: &Sparse<K, Frac>,
-) -> Result<Vec<&'a K>, Halt>
+) -> Result<Vec<&'a K>, StepHalt>
     requires { (k q : K) → K.cmp k q ≡ Equal → k ≡ q }
     ensures free { IfOk result (λ list. borrowed list.items ≡ filter (is_free K.cmp held.now) keys.now) }
     ensures held_reduced { IsReduced K.cmp fraction_eq held.now }
@@ -134,7 +134,7 @@ pub(crate) fn loose_keys<'a, K: Ord + Clone + Drop, V: Eq + Clone + Drop>(
     map: &'a Sparse<K, V>,
     held: &Sparse<K, Frac>,
     loose: Option<&'a Vec<K>>,
-) -> Result<Vec<&'a K>, Halt>
+) -> Result<Vec<&'a K>, StepHalt>
     requires exact { (k q : K) → K.cmp k q ≡ Equal → k ≡ q }
     requires known { IfSome loose (λ list. IsLooseAmong K.cmp map.now held.now list.now.items) }
     ensures free { IfOk result (λ list. AreFree K.cmp (keys map.now) held.now (borrowed list.items)) }

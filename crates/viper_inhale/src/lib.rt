@@ -10,7 +10,7 @@ mod free_keys;
 mod producing;
 mod resources;
 
-pub use answers::{Halt, Step, Stop};
+pub use answers::{Step, StepHalt, StepStop};
 pub use calls::{consume, forget, produce, step};
 pub use consuming::consume_in;
 pub use forgetting::forget_in;

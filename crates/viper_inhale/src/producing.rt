@@ -10,9 +10,9 @@ ghost use Rattle.viper_eval.specs.View.{lent};
 ghost use Rattle.viper_inhale.specs.Answers.{Does};
 ghost use Rattle.viper_inhale.specs.View.{resource_of};
 
-use crate::answers::Halt;
+use crate::answers::StepHalt;
 use crate::choices::take_amount;
-use crate::resources::{Resource, Share, give, give_some, instance, place};
+use crate::resources::{PlacedScale, Resource, give, give_some, instance, place};
 use std::alloc::Global;
 use vb_value::Frac;
 use viper_core::{Amt, Assertion};
@@ -24,11 +24,11 @@ fn produce_amount(
     alloc: Global,
     amount: &Amt,
     scene: SceneRef,
-    share: Share,
+    share: PlacedScale,
     state: &mut State,
     resource: Resource,
     feed: &mut Feed,
-) -> Result<(), Halt>
+) -> Result<(), StepHalt>
     requires amount_within { IsWithinAmount (amt_of amount.now) }
     requires state_within { IsWithinState (state_of state.old) }
     requires scene_within { IsWithinScene (lent scene) }
@@ -56,7 +56,7 @@ pub fn produce_in(
     scene: SceneRef,
     scale: Frac,
     feed: &mut Feed,
-) -> Result<(), Halt>
+) -> Result<(), StepHalt>
     requires assertion_within { IsWithinAssertion (assertion_of assertion.now) }
     requires state_within { IsWithinState (state_of state.old) }
     requires scene_within { IsWithinScene (lent scene) }
@@ -71,12 +71,12 @@ pub fn produce_in(
         }
         Assertion::Acc(e, field, amount, at) => {
             let resource = place(alloc, e, *field, state, scene, feed)?;
-            let share = Share::of(scale, *at);
+            let share = PlacedScale::of(scale, *at);
             produce_amount(alloc, amount, scene, share, state, resource, feed)
         }
         Assertion::Inst(predicate, args, amount, at) => {
             let resource = instance(alloc, *predicate, args, state, scene, feed)?;
-            let share = Share::of(scale, *at);
+            let share = PlacedScale::of(scale, *at);
             produce_amount(alloc, amount, scene, share, state, resource, feed)
         }
         Assertion::And(a, b) => {

@@ -17,7 +17,7 @@ use vb_base::{Kind, Pos};
 use vb_value::{Frac, Key};
 use viper_core::Expr;
 use viper_eval::{
-    Halt, SceneRef, Stop, added, assumed, failure, fitted, found, key_in, reference_of,
+    EvalHalt, EvalStop, SceneRef, added, assumed, failure, fitted, found, key_in, reference_of,
 };
 use viper_state::{Feed, State};
 
@@ -60,7 +60,7 @@ impl Resource {
 }
 
 /// Sets how much of a resource is held.
-pub(crate) fn hold(state: &mut State, resource: Resource, amount: Frac) -> Result<(), Halt>
+pub(crate) fn hold(state: &mut State, resource: Resource, amount: Frac) -> Result<(), EvalHalt>
     ensures { Answers (λ _. state_of state.new) [] (is (r.with_held (state_of state.old) (resource_of resource) amount)) [] result }
 {
     match resource {
@@ -78,7 +78,7 @@ pub(crate) fn place(
     now: &State,
     scene: SceneRef,
     feed: &mut Feed,
-) -> Result<Resource, Halt>
+) -> Result<Resource, EvalHalt>
     requires receiver_within { IsWithinExpr (expr_of receiver.now) }
     requires now_within { IsWithinState (state_of now.now) }
     requires scene_within { IsWithinScene (lent scene) }
@@ -98,7 +98,7 @@ pub(crate) fn instance(
     now: &State,
     scene: SceneRef,
     feed: &mut Feed,
-) -> Result<Resource, Halt>
+) -> Result<Resource, EvalHalt>
     requires args_within { AreWithinExprs (exprs_of args.now) }
     requires now_within { IsWithinState (state_of now.now) }
     requires scene_within { IsWithinScene (lent scene) }
@@ -112,31 +112,36 @@ pub(crate) fn instance(
 
 /// What an amount is of: its scale, and the place of the name of the field or predicate.
 #[derive(Clone, Copy)]
-pub(crate) struct Share {
+pub(crate) struct PlacedScale {
     pub(crate) scale: Frac,
     pub(crate) at: Pos,
 }
 
-impl Share {
-    pub(crate) fn of(scale: Frac, at: Pos) -> Share
+impl PlacedScale {
+    pub(crate) fn of(scale: Frac, at: Pos) -> PlacedScale
         ensures { result ≡ record { scale = scale; at = at } }
     {
-        Share { scale, at }
+        PlacedScale { scale, at }
     }
 }
 
 /// Holds so much more of a resource, times the scale.
-fn hold_more(state: &mut State, resource: Resource, share: Share, amount: Frac) -> Result<(), Halt>
+fn hold_more(
+    state: &mut State,
+    resource: Resource,
+    share: PlacedScale,
+    amount: Frac,
+) -> Result<(), EvalHalt>
     ensures { Answers (λ _. state_of state.new) []
         (m.more_held Bounded share.scale (resource_of resource) share.at (state_of state.old) amount) [] result }
 {
     if resource.is_null() {
-        return Err(Halt::Stops(Stop::Blocked));
+        return Err(EvalHalt::Stops(EvalStop::Blocked));
     }
     let held = found(resource.held(state))?;
     let all = added(held, share.scale, amount, share.at)?;
     if resource.is_too_much(all) {
-        return Err(Halt::Stops(Stop::Blocked));
+        return Err(EvalHalt::Stops(EvalStop::Blocked));
     }
     hold(state, resource, all)
 }
@@ -146,14 +151,14 @@ pub(crate) fn give(
     scene: SceneRef,
     state: &mut State,
     resource: Resource,
-    share: Share,
+    share: PlacedScale,
     amount: Frac,
-) -> Result<(), Halt>
+) -> Result<(), EvalHalt>
     ensures { Answers (λ _. state_of state.new) []
         (m.given_to Bounded (lent scene.entry) share.scale (resource_of resource) share.at (state_of state.old) amount) [] result }
 {
     if Frac::is_negative(amount) {
-        return Err(Halt::Stops(failure(scene, share.at, Kind::Negative)));
+        return Err(EvalHalt::Stops(failure(scene, share.at, Kind::Negative)));
     }
     if Frac::is_none(amount) {
         return Ok(());
@@ -165,9 +170,9 @@ pub(crate) fn give(
 pub(crate) fn give_some(
     state: &mut State,
     resource: Resource,
-    share: Share,
+    share: PlacedScale,
     amount: Frac,
-) -> Result<(), Halt>
+) -> Result<(), EvalHalt>
     ensures { Answers (λ _. state_of state.new) []
         (m.some_given_to Bounded share.scale (resource_of resource) share.at (state_of state.old) amount) [] result }
 {
@@ -176,7 +181,7 @@ pub(crate) fn give_some(
 }
 
 /// What is left when so much is taken of what is held. More than that fails.
-fn rest_of(scene: SceneRef, at: Pos, held: Frac, amount: Frac) -> Result<Frac, Stop>
+fn rest_of(scene: SceneRef, at: Pos, held: Frac, amount: Frac) -> Result<Frac, EvalStop>
     ensures { ended result ≡ m.rest_of Bounded (lent scene.entry) at held amount }
 {
     if fitted(Frac::cmp(held, amount), at)?.is_lt() {
@@ -190,14 +195,14 @@ pub(crate) fn take(
     scene: SceneRef,
     left: &mut State,
     resource: Resource,
-    share: Share,
+    share: PlacedScale,
     amount: Frac,
-) -> Result<(), Halt>
+) -> Result<(), EvalHalt>
     ensures { Answers (λ _. state_of left.new) []
         (m.taken_from Bounded (lent scene.entry) share.scale (resource_of resource) share.at (state_of left.old) amount) [] result }
 {
     if Frac::is_negative(amount) {
-        return Err(Halt::Stops(failure(scene, share.at, Kind::Negative)));
+        return Err(EvalHalt::Stops(failure(scene, share.at, Kind::Negative)));
     }
     let held = found(resource.held(left))?;
     let some = fitted(Frac::mul(share.scale, amount), share.at)?;
@@ -211,7 +216,7 @@ pub(crate) fn something_held(
     left: &State,
     resource: &Resource,
     at: Pos,
-) -> Result<Frac, Stop>
+) -> Result<Frac, EvalStop>
     ensures { ended result ≡ m.something_held (lent scene.entry) (resource_of resource.now) at (state_of left.now) }
 {
     let held = found(resource.held(left))?;
@@ -228,7 +233,7 @@ pub(crate) fn take_some(
     at: Pos,
     held: Frac,
     amount: Frac,
-) -> Result<(), Halt>
+) -> Result<(), EvalHalt>
     ensures { Answers (λ _. state_of left.new) []
         (m.some_taken_from Bounded (resource_of resource) at (state_of left.old) held amount) [] result }
 {

@@ -14,7 +14,7 @@ use Rattle.viper_core.specs.Part.{IsFrame}
 use Rattle.viper_core.specs.Program.{Method}
 use Rattle.viper_core.specs.Scope.{Scope, assigns, some_assigns, loop_targets}
 use Rattle.viper_core.specs.Stmt as s
-use Rattle.viper_core.specs.Typing.{Frame, IsStmt, declares, initial, branches, loops, AreStmts, goes_on}
+use Rattle.viper_core.specs.Typing.{MethodContext, IsStmt, declares, initial, branches, loops, AreStmts, goes_on}
 use Rattle.viper_core.proofs.ScopeLaws.{fresh-scope_after, fresh-stmts_scope}
 use Rattle.viper_state.specs.Run.{with_variables}
 use Rattle.viper_state.specs.State.{State}
@@ -122,7 +122,7 @@ module _ (b : Bound) (a : Activation) where
       at_end (is_kept {x = record { store = stored c.store targets vs; state = u }} (stored_elsewhere x c.store targets vs h)))))
 
   mutual
-    pub stmt_changes : {m : Frame} {sc : Scope} (x : ℕ) (y : s.Stmt) (c : Configuration) → IsStmt m sc y → x < sc.fresh → assigns x y ≡ false → KeepsRun IsAny IsAny (λ d. slice_get d.store x ≡ slice_get c.store x) (run_stmt b a y c)
+    pub stmt_changes : {m : MethodContext} {sc : Scope} (x : ℕ) (y : s.Stmt) (c : Configuration) → IsStmt m sc y → x < sc.fresh → assigns x y ≡ false → KeepsRun IsAny IsAny (λ d. slice_get d.store x ≡ slice_get c.store x) (run_stmt b a y c)
     stmt_changes x (s.Var at y None) c (declares is typed) low e =
         then_any (found (slice_get a.vars y)) (λ u. took_any u (λ w. at_end (is_kept {x = with_variable c y w} (get_set_other c.store y x w (λ same. absurd (omega (arith, low, is, same)))))))
     stmt_changes x (s.Var at y (Some i)) c (initial is typed h) low e =
@@ -145,14 +145,14 @@ module _ (b : Bound) (a : Activation) where
         loop_changes x at guard invariants (λ d. run_block b a body d) turn targets c
         (subst (All (λ y. y ≢ x)) (sym same) (All-weaker (λ y. some_assigns y body ≡ true) (λ y. y ≢ x) (λ y f equal. true≢false (sym f ∙ ap (λ z. some_assigns z body) equal ∙ e)) (loop_targets sc body) (filter_passes (λ y. some_assigns y body) sc.visible)))
 
-    pub block_changes : {m : Frame} {sc : Scope} (x : ℕ) (ys : s.Stmts) (c : Configuration) → AreStmts m sc ys → x < sc.fresh → some_assigns x ys ≡ false → KeepsRun IsAny IsAny (λ d. slice_get d.store x ≡ slice_get c.store x) (run_block b a ys c)
+    pub block_changes : {m : MethodContext} {sc : Scope} (x : ℕ) (ys : s.Stmts) (c : Configuration) → AreStmts m sc ys → x < sc.fresh → some_assigns x ys ≡ false → KeepsRun IsAny IsAny (λ d. slice_get d.store x ≡ slice_get c.store x) (run_block b a ys c)
     block_changes x s.skip c h low e = at_end (is_kept refl)
     block_changes {m} {sc} x (s.next y rest) c (goes_on i j) low e =
         let parts = or_parts (assigns x y) (some_assigns x rest) e in
         then_do_kept (stmt_changes x y c i low parts.0) (λ d f. weaker_run (λ o g. g ∙ f) (block_changes x rest d j (omega (arith, low, fresh-scope_after sc y)) parts.1))
 
 -- of what is visible, the statements of a loop change nothing but the targets
-pub turn_changes : (b : Bound) (a : Activation) {m : Frame} {sc : Scope} (x : ℕ) (body : s.Stmts) (c : Configuration) → IsFrame m sc → AreStmts m sc body → Contains sc.visible x → (Contains (loop_targets sc body) x → ⊥) →
+pub turn_changes : (b : Bound) (a : Activation) {m : MethodContext} {sc : Scope} (x : ℕ) (body : s.Stmts) (c : Configuration) → IsFrame m sc → AreStmts m sc body → Contains sc.visible x → (Contains (loop_targets sc body) x → ⊥) →
     KeepsRun IsAny IsAny (λ d. slice_get d.store x ≡ slice_get c.store x) (run_block b a body c)
 turn_changes b a {m} {sc} x body c frame h seen no_target = block_changes b a x body c h (frame.visible x seen) (by (some_assigns x body) refl)
   where

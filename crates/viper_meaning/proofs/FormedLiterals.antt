@@ -8,7 +8,7 @@ use Rattle.viper_core.specs.Literals.{AllAssertionLiterals}
 use Rattle.viper_core.specs.Program.{Program, Predicate, Method, Body}
 use Rattle.viper_core.specs.Scope.{Scope}
 use Rattle.viper_core.specs.Stmt as s
-use Rattle.viper_core.specs.Typing.{Context, IsAssertion, Frame, inside, IsStmt, declares, initial, assigns, writes, creates, calls, inhales, exhales, asserts, folds, unfolds, branches, loops, AreStmts, ends, goes_on}
+use Rattle.viper_core.specs.Typing.{Context, IsAssertion, MethodContext, inside, IsStmt, declares, initial, assigns, writes, creates, calls, inhales, exhales, asserts, folds, unfolds, branches, loops, AreStmts, ends, goes_on}
 use Rattle.viper_core.proofs.LiteralLaws.{HoldsOfLiterals, typed_literals, exprs_literals, assertion_literals, literals_proper, literals_within}
 use Rattle.viper_meaning.specs.StatementLiterals.{AllStmtLiterals, AllStmtsLiterals, AllBodyLiterals, AllMethodLiterals, AllProgramLiterals, IsProperProgram, IsWithinProgram}
 
@@ -17,7 +17,7 @@ module _ (I : ℤ → Type 0) (F : Fraction → Type 0) (z : HoldsOfLiterals I F
   clauses_have c h clauses all k x within = assertion_literals I F z c h (all k x within)
 
   mutual
-    stmt_has : {m : Frame} {sc : Scope} {a : s.Stmt} → IsTypedProgram m.program → IsStmt m sc a → AllStmtLiterals I F a
+    stmt_has : {m : MethodContext} {sc : Scope} {a : s.Stmt} → IsTypedProgram m.program → IsStmt m sc a → AllStmtLiterals I F a
     stmt_has h (declares x u) = tt
     stmt_has {m} {sc} h (initial x u e) = typed_literals I F z (inside m sc) h e
     stmt_has {m} {sc} h (assigns x e) = typed_literals I F z (inside m sc) h e
@@ -32,7 +32,7 @@ module _ (I : ℤ → Type 0) (F : Fraction → Type 0) (z : HoldsOfLiterals I F
     stmt_has {m} {sc} h (branches e a b) = (typed_literals I F z (inside m sc) h e, stmts_have h a, stmts_have h b)
     stmt_has {m} {sc} h (loops {invariants = invariants} e all body targets) = (typed_literals I F z (inside m sc) h e, clauses_have (inside m sc) h invariants all, stmts_have h body)
 
-    stmts_have : {m : Frame} {sc : Scope} {xs : s.Stmts} → IsTypedProgram m.program → AreStmts m sc xs → AllStmtsLiterals I F xs
+    stmts_have : {m : MethodContext} {sc : Scope} {xs : s.Stmts} → IsTypedProgram m.program → AreStmts m sc xs → AllStmtsLiterals I F xs
     stmts_have h ends = tt
     stmts_have h (goes_on a rest) = (stmt_has h a, stmts_have h rest)
 

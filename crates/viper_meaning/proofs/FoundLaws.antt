@@ -17,7 +17,7 @@ use Rattle.viper_core.specs.Plain.{OpensNothing}
 use Rattle.viper_core.specs.Program.{Program, Predicate, Method}
 use Rattle.viper_core.specs.Stmt as s
 use Rattle.viper_core.specs.Scope.{Scope}
-use Rattle.viper_core.specs.Typing.{HasType, Frame, inside, IsStmt, assigns, initial, writes}
+use Rattle.viper_core.specs.Typing.{HasType, MethodContext, inside, IsStmt, assigns, initial, writes}
 use Rattle.viper_core.specs.declared.programs.Unit.TheVariants as unit
 use Rattle.viper_state.specs.Choice as choice
 use Rattle.viper_state.specs.Choice.{Choice}
@@ -91,10 +91,10 @@ memo_taken l x m more h =
 abbrev pub IsNeverBlocked : Run Configuration → Type 0
 IsNeverBlocked r = (e : Evaluated Configuration) × ((r ≡ ended e) × IsNotBlocked e)
 
-abbrev activation : Frame → State → Activation
+abbrev activation : MethodContext → State → Activation
 activation m old = record { program = m.program; vars = m.vars; old = old }
 
-module _ (b : Bound) (m : Frame) (sc : Scope) (old : State) (formed : IsFormed m.program) (c : Configuration) (kept : FitsState m.program.layout old) (fits : FitsConfiguration m.program.layout m.vars c) where
+module _ (b : Bound) (m : MethodContext) (sc : Scope) (old : State) (formed : IsFormed m.program) (c : Configuration) (kept : FitsState m.program.layout old) (fits : FitsConfiguration m.program.layout m.vars c) where
   seen : (at : Pos) → FitsScene m.program.layout m.vars (scene (activation m old) c at)
   seen at = record { store = fits.store; old = kept }
 

@@ -16,7 +16,7 @@ use Rattle.viper_core.specs.Program.{Method}
 use Rattle.viper_core.specs.Scope.{Scope, declared, after_target, after_targets, after_block, scope_after, stmts_scope, is_ref, refs_in}
 use Rattle.viper_core.specs.Stmt as stmt
 use Rattle.viper_core.specs.Typing as typing
-use Rattle.viper_core.specs.Typing.{Context, Frame, inside, HasType, HaveTypes, IsAmount, IsAssertion, IsFold, IsStmt, AreStmts}
+use Rattle.viper_core.specs.Typing.{Context, MethodContext, inside, HasType, HaveTypes, IsAmount, IsAssertion, IsFold, IsStmt, AreStmts}
 use Rattle.viper_core.proofs.ScopeLaws.{later-stmts_scope}
 use Rattle.viper_state.specs.Event as event
 use Rattle.viper_state.specs.Run.{Scene}
@@ -196,7 +196,7 @@ agrees h = record { as_many = h.as_many; seen = h.seen }
 
 -- ---- what is read
 
-module _ (b : Bound) (k : Activation) (m : Frame) where
+module _ (b : Bound) (k : Activation) (m : MethodContext) where
   abbrev reads : List Value → Pos → Scene
   reads vs at = record { store = vs; old = k.old; at = at }
 

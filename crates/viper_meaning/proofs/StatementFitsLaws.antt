@@ -24,7 +24,7 @@ use Rattle.viper_core.specs.Part.{cut}
 use Rattle.viper_core.specs.Program.{Program, Predicate, Method, Body}
 use Rattle.viper_core.specs.Scope.{Scope}
 use Rattle.viper_core.specs.Stmt as s
-use Rattle.viper_core.specs.Typing.{Context, HasType, IsAmount, IsAssertion, access, instance, both, implied, chosen, Frame, inside, AreTargets, nothing, also, Receive, assigned, declared, IsFold, params_of, returns_of, IsStmt, declares, initial, assigns, writes, creates, calls, inhales, exhales, asserts, folds, unfolds, branches, loops, AreStmts, ends, goes_on}
+use Rattle.viper_core.specs.Typing.{Context, HasType, IsAmount, IsAssertion, access, instance, both, implied, chosen, MethodContext, inside, AreTargets, nothing, also, Receive, assigned, declared, IsFold, params_of, returns_of, IsStmt, declares, initial, assigns, writes, creates, calls, inhales, exhales, asserts, folds, unfolds, branches, loops, AreStmts, ends, goes_on}
 use Rattle.viper_core.specs.declared.programs.Unit as unit
 use Rattle.viper_core.specs.declared.programs.Unit.TheVariants as u
 use Rattle.viper_core.proofs.CutLaws.{preconditions_cut, postconditions_cut}
@@ -100,7 +100,7 @@ take_both (suc n) m (x ∷ us) = let same : suc (n + m) ≡ suc n + m = omega ar
 
 -- the values of targets are of their types
 
-targets_fit : {m : Frame} {sc : Scope} (xs : List ℕ) (ys : List Ty) (ws : List Value) → AreTargets m sc xs ys → ValuesOf m.vars xs ws → FitsStore ys ws
+targets_fit : {m : MethodContext} {sc : Scope} (xs : List ℕ) (ys : List Ty) (ws : List Value) → AreTargets m sc xs ys → ValuesOf m.vars xs ws → FitsStore ys ws
 targets_fit [] [] [] nothing g = tt
 targets_fit [] [] (w ∷ ws) nothing g = absurd g
 targets_fit [] (y ∷ ys) ws i g = elim i [ ]
@@ -119,11 +119,11 @@ declared_fits us x y (w ∷ []) e g =
     (subst (λ z. FitsValue z w) equal g.0.1.1, tt)
 declared_fits us x y (w ∷ z ∷ ws) e g = absurd g.1
 
-pub received_fit : {m : Frame} {sc : Scope} (xs : List ℕ) (ys : List Ty) (ws : List Value) → Receive m sc xs ys → ValuesOf m.vars xs ws → FitsStore ys ws
+pub received_fit : {m : MethodContext} {sc : Scope} (xs : List ℕ) (ys : List Ty) (ws : List Value) → Receive m sc xs ys → ValuesOf m.vars xs ws → FitsStore ys ws
 received_fit xs ys ws (assigned i differ) g = targets_fit xs ys ws i g
 received_fit {m} xs ys ws (declared {x = x} {u = y} i e) g = declared_fits m.vars x y ws e g
 
-received_type : {m : Frame} {sc : Scope} (x : ℕ) (y : Ty) → Receive m sc (x ∷ []) (y ∷ []) → slice_get m.vars x ≡ Some y
+received_type : {m : MethodContext} {sc : Scope} (x : ℕ) (y : Ty) → Receive m sc (x ∷ []) (y ∷ []) → slice_get m.vars x ≡ Some y
 received_type x y (assigned (also i j) differ) = i.typed
 received_type x y (declared i e) = e
 
@@ -274,7 +274,7 @@ module _ (b : Bound) (c : Context) (formed : IsFormed c.program) where
 
 -- ---- statements
 
-module _ (b : Bound) (m : Frame) (formed : IsFormed m.program) (old : State) (old_fits : FitsState m.program.layout old) where
+module _ (b : Bound) (m : MethodContext) (formed : IsFormed m.program) (old : State) (old_fits : FitsState m.program.layout old) where
   abbrev running : Activation
   running = record { program = m.program; vars = m.vars; old = old }
 

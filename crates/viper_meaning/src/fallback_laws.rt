@@ -16,7 +16,7 @@ ghost use Rattle.viper_core.specs.Plain.{OpensNothing, OpenNothing, AssertionOpe
 ghost use Rattle.viper_core.specs.Program.{Program, Predicate, Method};
 ghost use Rattle.viper_core.specs.Scope.{Scope};
 ghost use Rattle.viper_core.specs.Stmt.{FoldStmt, Var, Assign, Write, Call};
-ghost use Rattle.viper_core.specs.Typing.{Context, Frame, HasType, HaveTypes, IsAssertion, IsFold, IsStmt};
+ghost use Rattle.viper_core.specs.Typing.{Context, MethodContext, HasType, HaveTypes, IsAssertion, IsFold, IsStmt};
 ghost use Rattle.viper_core.specs.Written.{HasNoWildcard};
 ghost use Rattle.viper_core.specs.declared.programs.Unit.TheVariants as unit;
 ghost use Rattle.viper_state.specs.Choice as choice;
@@ -111,17 +111,17 @@ pub fn what_a_statement_names_is_found()
     ensures forgotten { (l : Layout) (s : State) (m : Memo) (more : List Choice) → FitsMemo l m
         → on (forget l s) (choice.Filled m ∷ more)
         ≡ ran (event.Whole (forgotten s m) ∷ []) (Goes (with_memo s (forgotten s m))) more }
-    ensures assigned { (b : Bound) (m : Frame) (sc : Scope) (old : State) → IsFormed m.program → (c : Configuration)
+    ensures assigned { (b : Bound) (m : MethodContext) (sc : Scope) (old : State) → IsFormed m.program → (c : Configuration)
         → FitsState m.program.layout old → FitsConfiguration m.program.layout m.vars c → (at : Pos) (x : ℕ) (e : t.Expr)
         → IsStmt m sc (Assign at x e) → OpensNothing e → (end : Evaluated Configuration)
         × ((run_stmt b (record { program = m.program; vars = m.vars; old = old }) (Assign at x e) c ≡ ended end)
         × IsNotBlocked end) }
-    ensures initial { (b : Bound) (m : Frame) (sc : Scope) (old : State) → IsFormed m.program → (c : Configuration)
+    ensures initial { (b : Bound) (m : MethodContext) (sc : Scope) (old : State) → IsFormed m.program → (c : Configuration)
         → FitsState m.program.layout old → FitsConfiguration m.program.layout m.vars c → (at : Pos) (x : ℕ) (e : t.Expr)
         → IsStmt m sc (Var at x (Some e)) → OpensNothing e → (end : Evaluated Configuration)
         × ((run_stmt b (record { program = m.program; vars = m.vars; old = old }) (Var at x (Some e)) c ≡ ended end)
         × IsNotBlocked end) }
-    ensures written { (b : Bound) (m : Frame) (sc : Scope) (old : State) → IsFormed m.program → (c : Configuration)
+    ensures written { (b : Bound) (m : MethodContext) (sc : Scope) (old : State) → IsFormed m.program → (c : Configuration)
         → FitsState m.program.layout old → FitsConfiguration m.program.layout m.vars c → (at : Pos) (e : t.Expr) (f : ℕ)
         (place : Pos) (d : t.Expr) → IsStmt m sc (Write at e f place d) → OpensNothing e → OpensNothing d
         → (end : Evaluated Configuration)

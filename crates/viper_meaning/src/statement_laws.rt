@@ -14,7 +14,7 @@ ghost use Rattle.viper_core.specs.Plain.{AssertionOpensNothing};
 ghost use Rattle.viper_core.specs.Program.{Program};
 ghost use Rattle.viper_core.specs.Scope.{Scope};
 ghost use Rattle.viper_core.specs.Stmt.{Stmt, Stmts, FoldStmt, Fold, Unfold, next};
-ghost use Rattle.viper_core.specs.Typing.{Context, Frame, IsFold, IsStmt, AreStmts};
+ghost use Rattle.viper_core.specs.Typing.{Context, MethodContext, IsFold, IsStmt, AreStmts};
 ghost use Rattle.viper_core.specs.Written.{HasNoWildcard};
 ghost use Rattle.viper_state.specs.Choice.{Choice};
 ghost use Rattle.viper_state.specs.Event.{Event, Split, Leaf};
@@ -226,11 +226,11 @@ pub fn what_was_consumed_has_a_content()
 /// A typed statement of a formed program takes what fits the program to what fits it, where it is given only choices that fit.
 /// So does an instance that is folded or unfolded, and a unit from its opening.
 pub fn a_statement_goes_to_what_fits()
-    ensures stmt { (b : Bound) (m : Frame) (sc : Scope) (old : State) (x : Stmt) (c : Configuration) → IsFormed m.program
+    ensures stmt { (b : Bound) (m : MethodContext) (sc : Scope) (old : State) (x : Stmt) (c : Configuration) → IsFormed m.program
         → IsStmt m sc x → FitsState m.program.layout old → FitsConfiguration m.program.layout m.vars c
         → KeepsRun (FitsEvent m.program.layout) (FitsChoice m.program.layout) (FitsConfiguration m.program.layout m.vars)
         (run_stmt b (record { program = m.program; vars = m.vars; old = old }) x c) }
-    ensures block { (b : Bound) (m : Frame) (sc : Scope) (old : State) (xs : Stmts) (c : Configuration) → IsFormed m.program
+    ensures block { (b : Bound) (m : MethodContext) (sc : Scope) (old : State) (xs : Stmts) (c : Configuration) → IsFormed m.program
         → AreStmts m sc xs → FitsState m.program.layout old → FitsConfiguration m.program.layout m.vars c
         → KeepsRun (FitsEvent m.program.layout) (FitsChoice m.program.layout) (FitsConfiguration m.program.layout m.vars)
         (run_block b (record { program = m.program; vars = m.vars; old = old }) xs c) }

@@ -17,7 +17,7 @@ ghost use Rattle.viper_core.specs.Part.{IsFrame};
 ghost use Rattle.viper_core.specs.Program.{Program, Method};
 ghost use Rattle.viper_core.specs.Scope.{Scope, scope_after, stmts_scope, some_assigns, loop_targets};
 ghost use Rattle.viper_core.specs.Stmt.{Stmt, Stmts, While, loop};
-ghost use Rattle.viper_core.specs.Typing.{Context, Frame, HasType, IsAssertion, IsStmt, AreStmts};
+ghost use Rattle.viper_core.specs.Typing.{Context, MethodContext, HasType, IsAssertion, IsStmt, AreStmts};
 ghost use Rattle.viper_core.specs.declared.programs.Unit.TheVariants as unit;
 ghost use Rattle.viper_state.specs.Choice as choice;
 ghost use Rattle.viper_state.specs.Choice.{Choice};
@@ -119,10 +119,10 @@ pub fn a_loop_changes_only_its_targets()
         (body : Stmts) (turn : Pos) (targets : List ℕ) (c : Configuration) (x : ℕ) → (Contains targets x → ⊥)
         → KeepsRun IsAny IsAny (λ d. slice_get d.store x ≡ slice_get c.store x)
         (run_stmt b a (While (loop at guard invariants body turn targets)) c) }
-    ensures block { (b : Bound) (m : Frame) (sc : Scope) (a : Activation) (xs : Stmts) (c : Configuration) (x : ℕ)
+    ensures block { (b : Bound) (m : MethodContext) (sc : Scope) (a : Activation) (xs : Stmts) (c : Configuration) (x : ℕ)
         → AreStmts m sc xs → x < sc.fresh → some_assigns x xs ≡ false
         → KeepsRun IsAny IsAny (λ d. slice_get d.store x ≡ slice_get c.store x) (run_block b a xs c) }
-    ensures turn { (b : Bound) (m : Frame) (sc : Scope) (a : Activation) (body : Stmts) (c : Configuration) (x : ℕ)
+    ensures turn { (b : Bound) (m : MethodContext) (sc : Scope) (a : Activation) (body : Stmts) (c : Configuration) (x : ℕ)
         → IsFrame m sc → AreStmts m sc body → Contains sc.visible x → (Contains (loop_targets sc body) x → ⊥)
         → KeepsRun IsAny IsAny (λ d. slice_get d.store x ≡ slice_get c.store x) (run_block b a body c) }
 {}
@@ -131,10 +131,10 @@ pub fn a_loop_changes_only_its_targets()
 /// same values it runs alike on any choices: with the same events, the same end and the same choices left, and where it goes
 /// on, to the same state and the same values of the variables that are then visible.
 pub fn a_statement_looks_at_visible_variables_alone()
-    ensures stmt { (b : Bound) (m : Frame) (sc : Scope) (a : Activation) (x : Stmt) (c d : Configuration)
+    ensures stmt { (b : Bound) (m : MethodContext) (sc : Scope) (a : Activation) (x : Stmt) (c d : Configuration)
         (choices : List Choice) → IsStmt m sc x → LooksAlike sc.visible c d
         → RanAlike (LooksAlike (scope_after sc x).visible) (on (run_stmt b a x c) choices) (on (run_stmt b a x d) choices) }
-    ensures block { (b : Bound) (m : Frame) (sc : Scope) (a : Activation) (xs : Stmts) (c d : Configuration)
+    ensures block { (b : Bound) (m : MethodContext) (sc : Scope) (a : Activation) (xs : Stmts) (c d : Configuration)
         (choices : List Choice) → AreStmts m sc xs → LooksAlike sc.visible c d
         → RanAlike (LooksAlike (stmts_scope sc xs).visible) (on (run_block b a xs c) choices)
         (on (run_block b a xs d) choices) }

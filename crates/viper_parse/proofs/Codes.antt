@@ -274,7 +274,7 @@ abbrev pub reach : Tok → ℕ
 reach (tok.Sign o) = sign_reach o
 reach _ = 10
 
-abbrev pub bound : ℕ → v.Part → ℕ
+abbrev pub bound : ℕ → v.WrittenTerm → ℕ
 bound n p = cond (g.is_open p.shape) 9 n
 
 -- what goes on with what a symbol spelled: of terms by level, what is no looser

@@ -21,7 +21,7 @@ use Rattle.viper_grammar.specs.declared.parts.Shape.TheVariants as shape
 use Rattle.viper_grammar.specs.declared.parts.WordClass.{WordClass}
 use Rattle.viper_grammar.specs.declared.parts.WordClass.TheVariants as class
 use Rattle.viper_grammar.specs.Tests as v
-use Rattle.viper_grammar.specs.Tests.{Kind, Value, Part, Test, this, a_name, a_number, one_of, a_negation, an_operator, Passes, is_type, is_constant, is_check, is_clause, is_negation, belongs, level_of}
+use Rattle.viper_grammar.specs.Tests.{Kind, Value, WrittenTerm, Test, this, a_name, a_number, one_of, a_negation, an_operator, Passes, is_type, is_constant, is_check, is_clause, is_negation, belongs, level_of}
 use Rattle.viper_grammar.specs.Grammar as g
 use Rattle.viper_grammar.specs.Grammar.{Symbol, Rule, give, when, read, rule, rules}
 use Rattle.viper_grammar.specs.Spells as plain
@@ -114,7 +114,7 @@ begins a = grammar.begins table a
 abbrev ends : {s : Kind} → Rule s → Option (Value s)
 ends a = grammar.ends table a
 
-ends_unless : (b : Bool) (p : Part) (y : Rule v.part) → ends y ≡ Some p → ends (cond b (give p) y) ≡ Some p
+ends_unless : (b : Bool) (p : WrittenTerm) (y : Rule v.part) → ends y ≡ Some p → ends (cond b (give p) y) ≡ Some p
 ends_unless true p y h = refl
 ends_unless false p y h = h
 
@@ -280,7 +280,7 @@ op_reach _ n e h = absurd (omega arith)
 pass_reach : (n : ℕ) (k : Token) (o : Value v.a_sign) → Passes (an_operator n) k o → reach k.tok ≡ n
 pass_reach n k o q = ap reach q.0 ∙ op_reach o.0 n q.2 q.3
 
-chain_begins_at : (n : ℕ) (p : Part) (b : Bool) (further : Value v.a_sign → Rule v.part) {ts : List Token} {x : Part} →
+chain_begins_at : (n : ℕ) (p : WrittenTerm) (b : Bool) (further : Value v.a_sign → Rule v.part) {ts : List Token} {x : WrittenTerm} →
     Derives v.part (cond b (give p) (when (an_operator n) further (give p))) ts x → (k : Token) (us : List Token) → ts ≡ k ∷ us → (false ≡ b) × (reach k.tok ≡ n) × (1 ≤ n)
 chain_begins_at n p true _ d k us e = absurd (given_empty d e)
 chain_begins_at n p false _ (plain.taken {v = o} q d) k us e =
@@ -288,10 +288,10 @@ chain_begins_at n p false _ (plain.taken {v = o} q d) k us e =
     (refl, pass_reach n k o (subst (λ j. Passes (an_operator n) j o) same q.passes), q.passes.3)
 chain_begins_at n p false _ (plain.passed d) k us e = absurd (given_empty d e)
 
-chain_begins : (n : ℕ) (p : Part) {x : Part} (k : Token) (us : List Token) → Derives v.part (rule (g.Chain n p)) (k ∷ us) x → (false ≡ g.is_open p.shape) × (reach k.tok ≡ n) × (1 ≤ n)
+chain_begins : (n : ℕ) (p : WrittenTerm) {x : WrittenTerm} (k : Token) (us : List Token) → Derives v.part (rule (g.Chain n p)) (k ∷ us) x → (false ≡ g.is_open p.shape) × (reach k.tok ≡ n) × (1 ≤ n)
 chain_begins n p k us d = chain_begins_at n p (g.is_open p.shape) _ d k us refl
 
-chain_ends : (n : ℕ) (p : Part) (x : Part) → Derives v.part (rule (g.Chain n p)) [] x → x ≡ p
+chain_ends : (n : ℕ) (p : WrittenTerm) (x : WrittenTerm) → Derives v.part (rule (g.Chain n p)) [] x → x ≡ p
 chain_ends n p x d =
     let h : Some p ≡ Some x = sym (empty_ok (g.Chain n p)) ∙ ends_right d refl in
     cc
@@ -347,7 +347,7 @@ unary_reach_at : (b : Bool) (t : Tok) → among (code t) (name_tail ++ cond b te
 unary_reach_at true t h = reach_tail t h
 unary_reach_at false t h = reach_dot t h
 
-unary_reach : (p : Part) (t : Tok) → among (code t) (ext_codes g.Unary p) ≡ true → reach t ≤ bound 0 p
+unary_reach : (p : WrittenTerm) (t : Tok) → among (code t) (ext_codes g.Unary p) ≡ true → reach t ≤ bound 0 p
 unary_reach p t h = unary_reach_at (g.is_open p.shape) t h
 
 tail_sign : (o : Sign) → sign_reach o ≤ 9 → among (sign_code o) term_tail ≡ true
@@ -407,12 +407,12 @@ ending_open shape.Open = refl
 ending_open shape.Plain = refl
 
 -- the right side of an operator, and what may follow it
-next_begins : (n : ℕ) (q : Part) (b : Bool) → {x : Part} (k : Token) (us : List Token) →
+next_begins : (n : ℕ) (q : WrittenTerm) (b : Bool) → {x : WrittenTerm} (k : Token) (us : List Token) →
     Derives v.part (if b then read (g.Chain n q) give else give q) (k ∷ us) x → (true ≡ b) × (false ≡ g.is_open q.shape) × (reach k.tok ≡ n) × (1 ≤ n)
 next_begins n q true k us d = let c = chain_begins n q k us (read_give d) in (refl, c.0, c.1, c.2)
 next_begins n q false k us d = absurd (no_give d)
 
-next_ends : (n : ℕ) (q : Part) (b : Bool) (x : Part) → Derives v.part (if b then read (g.Chain n q) give else give q) [] x → x ≡ q
+next_ends : (n : ℕ) (q : WrittenTerm) (b : Bool) (x : WrittenTerm) → Derives v.part (if b then read (g.Chain n q) give else give q) [] x → x ≡ q
 next_ends n q true x d = chain_ends n q x (read_give d)
 next_ends n q false x d = give_is d
 
@@ -422,7 +422,7 @@ below_repeats n h e = grind (arith, nat_tests)
 at_most : (n : ℕ) → g.right_level n ≤ n
 at_most n = grind (arith, nat_tests)
 
-good_next : (n : ℕ) (b : Bool) (q : Part) (E : Part → Token → Type 0) → ((z : Part) (k : Token) → reach k.tok ≤ bound n z → E z k) →
+good_next : (n : ℕ) (b : Bool) (q : WrittenTerm) (E : WrittenTerm → Token → Type 0) → ((z : WrittenTerm) (k : Token) → reach k.tok ≤ bound n z → E z k) →
     Good v.part E (if b then read (g.Chain n q) give else give q)
 good_next n true q E h = good_read
     (record { none = λ z k us x d e. no_give d })
@@ -430,7 +430,7 @@ good_next n true q E h = good_read
     (λ z. good_give)
 good_next n false q E h = good_give
 
-right_follows : (n : ℕ) (p : Part) (o : Value v.a_sign) (q : Part) (k : Token) (us : List Token) (x : Part) →
+right_follows : (n : ℕ) (p : WrittenTerm) (o : Value v.a_sign) (q : WrittenTerm) (k : Token) (us : List Token) (x : WrittenTerm) →
     Derives v.part (if g.repeats n then read (g.Chain n (g.binary p o q)) give else give (g.binary p o q)) (k ∷ us) x → reach k.tok ≤ bound (g.right_level n) q → ⊥
 right_follows n p o q k us x d e =
     let c = next_begins n (g.binary p o q) (g.repeats n) k us d in
@@ -438,7 +438,7 @@ right_follows n p o q k us x d e =
     let low : g.right_level n < n = below_repeats n c.3 c.0 in
     not_below n (g.right_level n) (reach k.tok) (cond (g.is_open q.shape) 9 (g.right_level n)) c.2 b e low
 
-right_ends : (n : ℕ) (p : Part) (o : Value v.a_sign) (q : Part) (x : Part) (k : Token) →
+right_ends : (n : ℕ) (p : WrittenTerm) (o : Value v.a_sign) (q : WrittenTerm) (x : WrittenTerm) (k : Token) →
     Derives v.part (if g.repeats n then read (g.Chain n (g.binary p o q)) give else give (g.binary p o q)) [] x → reach k.tok ≤ bound (g.right_level n) q → reach k.tok ≤ bound n x
 right_ends n p o q x k d e =
     let is : x ≡ g.binary p o q = next_ends n (g.binary p o q) (g.repeats n) x d in
@@ -447,7 +447,7 @@ right_ends n p o q x k d e =
     let same : reach k.tok ≤ cond (g.is_open (g.ending q.shape)) 9 n = subst (λ b. reach k.tok ≤ cond b 9 n) (sym (ending_open q.shape)) low in
     subst (λ z. reach k.tok ≤ bound n z) (sym is) same
 
-good_chain_at : (n : ℕ) (p : Part) (b : Bool) → b ≡ g.is_open p.shape → Good v.part (Ext (g.Chain n p)) (cond b (give p) (when (an_operator n) (λ o. read (g.Level (g.right_level n)) (λ q.
+good_chain_at : (n : ℕ) (p : WrittenTerm) (b : Bool) → b ≡ g.is_open p.shape → Good v.part (Ext (g.Chain n p)) (cond b (give p) (when (an_operator n) (λ o. read (g.Level (g.right_level n)) (λ q.
     if g.repeats n then read (g.Chain n (g.binary p o q)) give else give (g.binary p o q))) (give p)))
 good_chain_at n p true eq = good_give
 good_chain_at n p false eq = good_when
@@ -464,11 +464,11 @@ good_chain_at n p false eq = good_when
     (λ q. good_next n (g.repeats n) (g.binary p o q) (Ext (g.Chain n p)) (λ z k e. e)))
     good_give
 
-good_chain : (n : ℕ) (p : Part) → Good v.part (Ext (g.Chain n p)) (rule (g.Chain n p))
+good_chain : (n : ℕ) (p : WrittenTerm) → Good v.part (Ext (g.Chain n p)) (rule (g.Chain n p))
 good_chain n p = good_chain_at n p (g.is_open p.shape) refl
 
 -- the term of a choice
-choice_begins : (p : Part) (b : Bool) (further : Pos → Rule v.part) {ts : List Token} {x : Part} →
+choice_begins : (p : WrittenTerm) (b : Bool) (further : Pos → Rule v.part) {ts : List Token} {x : WrittenTerm} →
     Derives v.part (cond b (give p) (when (g.the_sign sign.Question) further (give p))) ts x → (k : Token) (us : List Token) → ts ≡ k ∷ us → (false ≡ b) × (reach k.tok ≡ 9)
 choice_begins p true _ d k us e = absurd (given_empty d e)
 choice_begins p false _ (plain.taken q d) k us e = let same : q.token ≡ k = cc in (refl, subst (λ j. reach j.tok ≡ 9) same (ap reach q.passes.0))
@@ -586,7 +586,7 @@ tells_Amount = tw refl (λ _. tr (λ z k h. h) (λ z. refl) (λ u. tn (λ _. te)
 tells_Group : Tells _ (ext_codes g.Group) (rule g.Group)
 tells_Group = tn (λ _. tr (λ z k h. h) (λ z. refl) (λ u. tn (λ _. te)))
 
-tells_Fields : (p : Part) → Tells _ (ext_codes (g.Fields p)) (rule (g.Fields p))
+tells_Fields : (p : WrittenTerm) → Tells _ (ext_codes (g.Fields p)) (rule (g.Fields p))
 tells_Fields p = tw refl (λ _. tn (λ x. tr (λ z k h. h) (λ z. refl) (λ z. te))) te
 
 tells_First : Tells _ (ext_codes g.First) (rule g.First)

@@ -15,7 +15,7 @@ use Rattle.viper_syntax.specs.Decl as d
 use Rattle.viper_grammar.specs.declared.parts.Shape.{Shape}
 use Rattle.viper_grammar.specs.declared.parts.Shape.TheVariants as shape
 use Rattle.viper_grammar.specs.Tests as v
-use Rattle.viper_grammar.specs.Tests.{Kind, Value, Part, Test, Passes, is_constant, is_negation, level_of}
+use Rattle.viper_grammar.specs.Tests.{Kind, Value, WrittenTerm, Test, Passes, is_constant, is_negation, level_of}
 use Rattle.viper_grammar.specs.Grammar as g
 use Rattle.viper_grammar.specs.Grammar.{Symbol, Rule, give, need, when, read, rule}
 use Rattle.viper_grammar.specs.Spells.{Derives, given, needed, taken, passed, called}
@@ -136,7 +136,7 @@ operator_inside _ n e h = absurd (omega arith)
 called_depth : (es : List t.Term) (m : ℕ) → deepest es ≤ 0 + m → 1 + terms_depth (t.terms es) ≤ 0 + 1 + 1 + m
 called_depth es m h = let e : terms_depth (t.terms es) ≡ deepest es = terms_deepest es in omega arith
 
-opened_depth : (i : v.Instance) (p : Part) (m m' : ℕ) → deepest i.call.args + amount_depth i.amount ≤ 0 + m → depth p.tree ≤ 0 + m' →
+opened_depth : (i : v.WrittenInstance) (p : WrittenTerm) (m m' : ℕ) → deepest i.call.args + amount_depth i.amount ≤ 0 + m → depth p.tree ≤ 0 + m' →
     1 + max (terms_depth (t.terms i.call.args)) (max (amount_depth i.amount) (depth p.tree)) ≤ 0 + 1 + m + 1 + m'
 opened_depth i p m m' h h' = let e : terms_depth (t.terms i.call.args) ≡ deepest i.call.args = terms_deepest i.call.args in omega arith
 
@@ -312,7 +312,7 @@ target_all : (n : ℕ) (xs : List Named) → 1 ≤ n → length xs + length xs �
 target_all n [] p h = tt
 target_all n (x ∷ fs) p h = (let e = with_fields_depth (t.Name x.name x.pos) fs in omega arith, tt)
 
-rhs_all : (n : ℕ) (p : Part) → AllShallow n (p.tree ∷ []) → AllShallow n (rhs_terms (g.rhs_of p))
+rhs_all : (n : ℕ) (p : WrittenTerm) → AllShallow n (p.tree ∷ []) → AllShallow n (rhs_terms (g.rhs_of p))
 rhs_all n p h = rhs_from_all n p.shape p.tree h.0
 
 high_keeps : (n : ℕ) → 1 ≤ n → {s : Kind} (a : Symbol s) → High a → AllShallow n (held_terms a) → Keeps n s (rule a)

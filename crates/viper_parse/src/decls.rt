@@ -13,11 +13,11 @@ use grammar::Stop;
 use std::alloc::Global;
 use vb_base::{Pos, pushed};
 use viper_grammar::WordClass;
-use viper_grammar::tokens::{Read, eat_one_of, eat_sign, eat_word, name, sign};
+use viper_grammar::tokens::{ViperRead, eat_one_of, eat_sign, eat_word, name, sign};
 use viper_syntax::{Decl, Formal, Named, SBlock, SClause, SMethod, Sign, Token, Word};
 
 /// `[ formal { "," formal } ] ")"`
-fn formals<'a>(alloc: Global, tokens: &'a [Token]) -> Read<'a, Vec<Formal>>
+fn formals<'a>(alloc: Global, tokens: &'a [Token]) -> ViperRead<'a, Vec<Formal>>
     ensures shorter { IfOk result (λ r. length r.1.now < length tokens.now) }
     ensures reads { Parses formals_of (g.rule g.Formals) tokens.now result }
 {
@@ -37,7 +37,7 @@ fn formals<'a>(alloc: Global, tokens: &'a [Token]) -> Read<'a, Vec<Formal>>
 }
 
 /// `[ "returns" "(" [formals] ")" ]`
-fn returns<'a>(alloc: Global, tokens: &'a [Token]) -> Read<'a, Vec<Formal>>
+fn returns<'a>(alloc: Global, tokens: &'a [Token]) -> ViperRead<'a, Vec<Formal>>
     ensures shorter { IfOk result (λ r. length r.1.now ≤ length tokens.now) }
     ensures reads { Parses formals_of (g.rule g.Returns) tokens.now result }
 {
@@ -50,7 +50,7 @@ fn returns<'a>(alloc: Global, tokens: &'a [Token]) -> Read<'a, Vec<Formal>>
 }
 
 /// `{ ("requires" | "ensures") term {";"} }`
-fn clauses<'a>(alloc: Global, tokens: &'a [Token]) -> Read<'a, Vec<SClause>>
+fn clauses<'a>(alloc: Global, tokens: &'a [Token]) -> ViperRead<'a, Vec<SClause>>
     ensures shorter { IfOk result (λ r. length r.1.now ≤ length tokens.now) }
     ensures reads { Parses clauses_of (g.rule (g.Clauses [])) tokens.now result }
 {
@@ -72,7 +72,7 @@ fn clauses<'a>(alloc: Global, tokens: &'a [Token]) -> Read<'a, Vec<SClause>>
 }
 
 /// `[ block ]`
-fn body<'a>(alloc: Global, tokens: &'a [Token]) -> Read<'a, Option<SBlock>>
+fn body<'a>(alloc: Global, tokens: &'a [Token]) -> ViperRead<'a, Option<SBlock>>
     ensures shorter { IfOk result (λ r. length r.1.now ≤ length tokens.now) }
     ensures reads { Parses body_of (g.rule g.Body) tokens.now result }
 {
@@ -84,7 +84,7 @@ fn body<'a>(alloc: Global, tokens: &'a [Token]) -> Read<'a, Option<SBlock>>
 }
 
 /// `name "(" [ formal { "," formal } ] ")"`
-fn header<'a>(alloc: Global, tokens: &'a [Token]) -> Read<'a, (Named, Vec<Formal>)>
+fn header<'a>(alloc: Global, tokens: &'a [Token]) -> ViperRead<'a, (Named, Vec<Formal>)>
     ensures shorter { IfOk result (λ r. length r.1.now < length tokens.now) }
     ensures reads { Heads tokens.now result }
 {
@@ -95,7 +95,7 @@ fn header<'a>(alloc: Global, tokens: &'a [Token]) -> Read<'a, (Named, Vec<Formal
 }
 
 /// What follows `predicate`.
-fn predicate<'a>(alloc: Global, at: Pos, tokens: &'a [Token]) -> Read<'a, Decl>
+fn predicate<'a>(alloc: Global, at: Pos, tokens: &'a [Token]) -> ViperRead<'a, Decl>
     ensures shorter { IfOk result (λ r. length r.1.now < length tokens.now) }
     ensures reads { Parses decl_of (g.rule (g.Predicate at)) tokens.now result }
 {
@@ -112,7 +112,7 @@ fn predicate<'a>(alloc: Global, at: Pos, tokens: &'a [Token]) -> Read<'a, Decl>
 }
 
 /// What follows `method`.
-fn method<'a>(alloc: Global, at: Pos, tokens: &'a [Token]) -> Read<'a, Decl>
+fn method<'a>(alloc: Global, at: Pos, tokens: &'a [Token]) -> ViperRead<'a, Decl>
     ensures shorter { IfOk result (λ r. length r.1.now < length tokens.now) }
     ensures reads { Parses decl_of (g.rule (g.Method at)) tokens.now result }
 {

@@ -10,8 +10,8 @@ use crate::terms::{arguments, call, group, instance, term};
 use std::alloc::{AllocFailed, Global};
 use vb_base::{Pos, pushed};
 use viper_grammar::build::assigned;
-use viper_grammar::tokens::{Read, eat_one_of, eat_sign, eat_word, name, one_of, sign};
-use viper_grammar::{Instance, Part, WordClass};
+use viper_grammar::tokens::{ViperRead, eat_one_of, eat_sign, eat_word, name, one_of, sign};
+use viper_grammar::{WordClass, WrittenInstance, WrittenTerm};
 use viper_syntax::{
     Formal, Named, SArm, SBlock, SCall, SFold, SNew, SRhs, SStmt, Sign, Term, Token, Word,
 };
@@ -29,7 +29,11 @@ pub fn semicolons<'a>(tokens: &'a [Token]) -> &'a [Token]
 }
 
 /// `{ separator name }` after these names.
-fn separated<'a>(separator: Sign, first: Vec<Named>, tokens: &'a [Token]) -> Read<'a, Vec<Named>>
+fn separated<'a>(
+    separator: Sign,
+    first: Vec<Named>,
+    tokens: &'a [Token],
+) -> ViperRead<'a, Vec<Named>>
     ensures shorter { IfOk result (λ r. length r.1.now ≤ length tokens.now) }
     ensures reads { Parses names_of (g.rule (g.Separated separator first.items)) tokens.now result }
 {
@@ -49,7 +53,7 @@ fn names<'a>(
     separator: Sign,
     first: Named,
     tokens: &'a [Token],
-) -> Read<'a, Vec<Named>>
+) -> ViperRead<'a, Vec<Named>>
     ensures shorter { IfOk result (λ r. length r.1.now ≤ length tokens.now) }
     ensures reads { Parses names_of (g.rule (g.Separated separator (first ∷ []))) tokens.now result }
 {
@@ -58,7 +62,7 @@ fn names<'a>(
 }
 
 /// `name ":" type`
-pub fn formal<'a>(tokens: &'a [Token]) -> Read<'a, Formal>
+pub fn formal<'a>(tokens: &'a [Token]) -> ViperRead<'a, Formal>
     ensures shorter { IfOk result (λ r. length r.1.now < length tokens.now) }
     ensures reads { Parses (λ x. x) (g.rule g.FormalOf) tokens.now result }
 {
@@ -75,7 +79,7 @@ pub fn formal<'a>(tokens: &'a [Token]) -> Read<'a, Formal>
 }
 
 /// `call | "new" "(" [ "*" | name { "," name } ] ")" | term`
-fn rhs<'a>(alloc: Global, tokens: &'a [Token]) -> Read<'a, SRhs>
+fn rhs<'a>(alloc: Global, tokens: &'a [Token]) -> ViperRead<'a, SRhs>
     ensures shorter { IfOk result (λ r. length r.1.now < length tokens.now) }
     ensures reads { Parses rhs_of (g.rule g.Rhs) tokens.now result }
 {
@@ -87,7 +91,7 @@ fn rhs<'a>(alloc: Global, tokens: &'a [Token]) -> Read<'a, SRhs>
 }
 
 /// `"(" [ "*" | name { "," name } ] ")"` after `new`.
-fn creation<'a>(alloc: Global, at: Pos, tokens: &'a [Token]) -> Read<'a, SRhs>
+fn creation<'a>(alloc: Global, at: Pos, tokens: &'a [Token]) -> ViperRead<'a, SRhs>
     ensures shorter { IfOk result (λ r. length r.1.now < length tokens.now) }
     ensures reads { Parses rhs_of (g.rule (g.Creation at)) tokens.now result }
 {
@@ -103,7 +107,7 @@ fn creation<'a>(alloc: Global, at: Pos, tokens: &'a [Token]) -> Read<'a, SRhs>
 }
 
 /// `name { "," name } ")"`
-fn new_fields<'a>(alloc: Global, at: Pos, tokens: &'a [Token]) -> Read<'a, SRhs>
+fn new_fields<'a>(alloc: Global, at: Pos, tokens: &'a [Token]) -> ViperRead<'a, SRhs>
     ensures shorter { IfOk result (λ r. length r.1.now < length tokens.now) }
     ensures reads { Parses rhs_of (g.new_fields at) tokens.now result }
 {
@@ -120,7 +124,7 @@ fn created(at: Pos, every: bool, fields: Vec<Named>) -> SRhs
 }
 
 /// `name ":" type [ ":=" rhs ]` after `var`.
-fn variable<'a>(alloc: Global, at: Pos, tokens: &'a [Token]) -> Read<'a, SStmt>
+fn variable<'a>(alloc: Global, at: Pos, tokens: &'a [Token]) -> ViperRead<'a, SStmt>
     ensures shorter { IfOk result (λ r. length r.1.now < length tokens.now) }
     ensures reads { Parses stmt_of (g.rule (g.Variable at)) tokens.now result }
 {
@@ -133,7 +137,7 @@ fn variable<'a>(alloc: Global, at: Pos, tokens: &'a [Token]) -> Read<'a, SStmt>
 }
 
 /// A statement that begins with a name: a call, an assignment, or a call with several targets.
-fn after_name<'a>(alloc: Global, named: Named, tokens: &'a [Token]) -> Read<'a, SStmt>
+fn after_name<'a>(alloc: Global, named: Named, tokens: &'a [Token]) -> ViperRead<'a, SStmt>
     ensures shorter { IfOk result (λ r. length r.1.now < length tokens.now) }
     ensures reads { Parses stmt_of (g.rule (g.AfterName named)) tokens.now result }
 {
@@ -158,7 +162,7 @@ fn pair(alloc: Global, first: Named, second: Named) -> Result<Vec<Named>, AllocF
 }
 
 /// `name { "," name } ":=" call` after a first target and a comma.
-fn targets<'a>(alloc: Global, first: Named, tokens: &'a [Token]) -> Read<'a, SStmt>
+fn targets<'a>(alloc: Global, first: Named, tokens: &'a [Token]) -> ViperRead<'a, SStmt>
     ensures shorter { IfOk result (λ r. length r.1.now < length tokens.now) }
     ensures reads { Parses stmt_of (g.targets first) tokens.now result }
 {
@@ -172,7 +176,7 @@ fn targets<'a>(alloc: Global, first: Named, tokens: &'a [Token]) -> Read<'a, SSt
 
 /// A statement.
 #[cycle(stmts)]
-fn statement<'a>(alloc: Global, tokens: &'a [Token]) -> Read<'a, SStmt>
+fn statement<'a>(alloc: Global, tokens: &'a [Token]) -> ViperRead<'a, SStmt>
     ensures shorter { IfOk result (λ r. length r.1.now < length tokens.now) }
     ensures reads { Parses stmt_of (g.rule g.Statement) tokens.now result }
 {
@@ -205,7 +209,7 @@ fn statement<'a>(alloc: Global, tokens: &'a [Token]) -> Read<'a, SStmt>
 }
 
 /// What a `fold` or `unfold` holds.
-fn fold(at: Pos, held: Instance) -> SFold
+fn fold(at: Pos, held: WrittenInstance) -> SFold
     ensures { fold_of result ≡ record { at = at; call = call_of held.call; amount = amount_of held.amount } }
 {
     SFold {
@@ -226,7 +230,7 @@ fn unboxed(amount: Option<Box<Term>>) -> Option<Term>
 
 /// `"(" term ")" block` after `if` or `elseif`.
 #[cycle(stmts)]
-fn arm<'a>(alloc: Global, at: Pos, tokens: &'a [Token]) -> Read<'a, SArm>
+fn arm<'a>(alloc: Global, at: Pos, tokens: &'a [Token]) -> ViperRead<'a, SArm>
     ensures shorter { IfOk result (λ r. length r.1.now < length tokens.now) }
     ensures reads { Parses arm_of (g.rule (g.Arm at)) tokens.now result }
 {
@@ -244,7 +248,7 @@ fn arm<'a>(alloc: Global, at: Pos, tokens: &'a [Token]) -> Read<'a, SArm>
 
 /// What follows `if`.
 #[cycle(stmts)]
-fn branches<'a>(alloc: Global, at: Pos, tokens: &'a [Token]) -> Read<'a, SStmt>
+fn branches<'a>(alloc: Global, at: Pos, tokens: &'a [Token]) -> ViperRead<'a, SStmt>
     ensures shorter { IfOk result (λ r. length r.1.now < length tokens.now) }
     ensures reads { Parses stmt_of (g.branches at) tokens.now result }
 {
@@ -270,7 +274,7 @@ fn conditional(all: Vec<SArm>, last: Option<SBlock>) -> SStmt
 
 /// What follows `while`.
 #[cycle(stmts)]
-fn while_loop<'a>(alloc: Global, at: Pos, tokens: &'a [Token]) -> Read<'a, SStmt>
+fn while_loop<'a>(alloc: Global, at: Pos, tokens: &'a [Token]) -> ViperRead<'a, SStmt>
     ensures shorter { IfOk result (λ r. length r.1.now < length tokens.now) }
     ensures reads { Parses stmt_of (g.rule (g.WhileLoop at)) tokens.now result }
 {
@@ -280,14 +284,14 @@ fn while_loop<'a>(alloc: Global, at: Pos, tokens: &'a [Token]) -> Read<'a, SStmt
     Ok((iteration(at, condition, conditions, body), rest))
 }
 
-fn iteration(at: Pos, condition: Part, conditions: Vec<Term>, body: SBlock) -> SStmt
+fn iteration(at: Pos, condition: WrittenTerm, conditions: Vec<Term>, body: SBlock) -> SStmt
     ensures { stmt_of result ≡ s.While at (term_of condition.term.value) (map term_of conditions.items) (block_of body) }
 {
     SStmt::While(at, Box::into_inner(condition.term), conditions, body)
 }
 
 /// `{ "invariant" term {";"} }`
-fn invariants<'a>(alloc: Global, tokens: &'a [Token]) -> Read<'a, Vec<Term>>
+fn invariants<'a>(alloc: Global, tokens: &'a [Token]) -> ViperRead<'a, Vec<Term>>
     ensures shorter { IfOk result (λ r. length r.1.now ≤ length tokens.now) }
     ensures reads { Parses arguments_of (g.rule (g.Invariants [])) tokens.now result }
 {
@@ -304,7 +308,7 @@ fn invariants<'a>(alloc: Global, tokens: &'a [Token]) -> Read<'a, Vec<Term>>
 
 /// A block.
 #[cycle(stmts)]
-fn block<'a>(alloc: Global, tokens: &'a [Token]) -> Read<'a, SBlock>
+fn block<'a>(alloc: Global, tokens: &'a [Token]) -> ViperRead<'a, SBlock>
     ensures shorter { IfOk result (λ r. length r.1.now < length tokens.now) }
     ensures reads { Parses block_of (g.rule g.Block) tokens.now result }
 {
@@ -322,7 +326,7 @@ pub fn braced(at: Pos, stmts: Vec<SStmt>) -> SBlock
 
 /// `{ stmt {";"} } "}"`
 #[cycle(stmts)]
-pub fn statements<'a>(alloc: Global, tokens: &'a [Token]) -> Read<'a, Vec<SStmt>>
+pub fn statements<'a>(alloc: Global, tokens: &'a [Token]) -> ViperRead<'a, Vec<SStmt>>
     ensures shorter { IfOk result (λ r. length r.1.now < length tokens.now) }
     ensures reads { Parses stmts_in (g.rule (g.Statements [])) tokens.now result }
 {

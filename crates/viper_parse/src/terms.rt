@@ -14,15 +14,15 @@ use viper_grammar::build::{
     accessed, applied, binary, called, chosen, constant, field, number, old, unfolding, variable,
 };
 use viper_grammar::tokens::{
-    Read, eat_name, eat_negation, eat_number, eat_one_of, eat_operator, eat_sign, eat_word, name,
-    sign, word,
+    ViperRead, eat_name, eat_negation, eat_number, eat_one_of, eat_operator, eat_sign, eat_word,
+    name, sign, word,
 };
-use viper_grammar::{Instance, Part, Shape, WordClass, repeats, right_level};
+use viper_grammar::{Shape, WordClass, WrittenInstance, WrittenTerm, repeats, right_level};
 use viper_syntax::{Named, SCall, Sign, Term, Token, Word};
 
 /// A term.
 #[cycle(terms)]
-pub fn term<'a>(alloc: Global, tokens: &'a [Token]) -> Read<'a, Part>
+pub fn term<'a>(alloc: Global, tokens: &'a [Token]) -> ViperRead<'a, WrittenTerm>
     ensures shorter { IfOk result (λ r. length r.1.now < length tokens.now) }
     ensures reads { Parses part_of (g.rule g.Term) tokens.now result }
 {
@@ -32,7 +32,11 @@ pub fn term<'a>(alloc: Global, tokens: &'a [Token]) -> Read<'a, Part>
 
 /// `[ "?" term ":" term ]` after a term of the loosest level.
 #[cycle(terms)]
-fn choice<'a>(alloc: Global, condition: Part, tokens: &'a [Token]) -> Read<'a, Part>
+fn choice<'a>(
+    alloc: Global,
+    condition: WrittenTerm,
+    tokens: &'a [Token],
+) -> ViperRead<'a, WrittenTerm>
     ensures shorter { IfOk result (λ r. length r.1.now ≤ length tokens.now) }
     ensures reads { Parses part_of (g.choice (part_of condition)) tokens.now result }
 {
@@ -51,7 +55,7 @@ fn choice<'a>(alloc: Global, condition: Part, tokens: &'a [Token]) -> Read<'a, P
 
 /// A term of the levels up to n.
 #[cycle(terms)]
-fn level<'a>(alloc: Global, n: u32, tokens: &'a [Token]) -> Read<'a, Part>
+fn level<'a>(alloc: Global, n: u32, tokens: &'a [Token]) -> ViperRead<'a, WrittenTerm>
     ensures shorter { IfOk result (λ r. length r.1.now < length tokens.now) }
     ensures reads { Parses part_of (g.rule (g.Level n)) tokens.now result }
 {
@@ -66,7 +70,12 @@ fn level<'a>(alloc: Global, n: u32, tokens: &'a [Token]) -> Read<'a, Part>
 
 /// What goes on with a term by operators of level n.
 #[cycle(terms)]
-fn chain<'a>(alloc: Global, n: u32, first: Part, tokens: &'a [Token]) -> Read<'a, Part>
+fn chain<'a>(
+    alloc: Global,
+    n: u32,
+    first: WrittenTerm,
+    tokens: &'a [Token],
+) -> ViperRead<'a, WrittenTerm>
     ensures shorter { IfOk result (λ r. length r.1.now ≤ length tokens.now) }
     ensures reads { Parses part_of (g.rule (g.Chain n (part_of first))) tokens.now result }
 {
@@ -84,7 +93,11 @@ fn chain<'a>(alloc: Global, n: u32, first: Part, tokens: &'a [Token]) -> Read<'a
 }
 
 /// The next operator, if it is of level n and may go on with this term.
-fn operator<'a>(n: u32, part: &Part, tokens: &'a [Token]) -> Option<((Sign, Pos), &'a [Token])>
+fn operator<'a>(
+    n: u32,
+    part: &WrittenTerm,
+    tokens: &'a [Token],
+) -> Option<((Sign, Pos), &'a [Token])>
     ensures shorter { IfSome result (λ p. length p.1.now < length tokens.now) }
     ensures goes_on { MatchOption result
         (Reads _ (g.rule (g.Chain n (part_of part.now))) tokens.now (part_of part.now) tokens.now)
@@ -98,7 +111,7 @@ fn operator<'a>(n: u32, part: &Part, tokens: &'a [Token]) -> Option<((Sign, Pos)
 
 /// `!a`, `-a`, an `unfolding`, or a first with its fields.
 #[cycle(terms)]
-fn unary<'a>(alloc: Global, tokens: &'a [Token]) -> Read<'a, Part>
+fn unary<'a>(alloc: Global, tokens: &'a [Token]) -> ViperRead<'a, WrittenTerm>
     ensures shorter { IfOk result (λ r. length r.1.now < length tokens.now) }
     ensures reads { Parses part_of (g.rule g.Unary) tokens.now result }
 {
@@ -116,7 +129,7 @@ fn unary<'a>(alloc: Global, tokens: &'a [Token]) -> Read<'a, Part>
 
 /// What follows an `unfolding`.
 #[cycle(terms)]
-fn opening<'a>(alloc: Global, at: Pos, tokens: &'a [Token]) -> Read<'a, Part>
+fn opening<'a>(alloc: Global, at: Pos, tokens: &'a [Token]) -> ViperRead<'a, WrittenTerm>
     ensures shorter { IfOk result (λ r. length r.1.now < length tokens.now) }
     ensures reads { Parses part_of (g.opening at) tokens.now result }
 {
@@ -128,7 +141,7 @@ fn opening<'a>(alloc: Global, at: Pos, tokens: &'a [Token]) -> Read<'a, Part>
 }
 
 /// `{ "." name }` after a term.
-fn fields<'a>(alloc: Global, first: Part, tokens: &'a [Token]) -> Read<'a, Part>
+fn fields<'a>(alloc: Global, first: WrittenTerm, tokens: &'a [Token]) -> ViperRead<'a, WrittenTerm>
     ensures shorter { IfOk result (λ r. length r.1.now ≤ length tokens.now) }
     ensures reads { Parses part_of (g.rule (g.Fields (part_of first))) tokens.now result }
 {
@@ -144,7 +157,7 @@ fn fields<'a>(alloc: Global, first: Part, tokens: &'a [Token]) -> Read<'a, Part>
 
 /// A name, a call, a number, a constant, `old`, `acc`, or a term in parentheses.
 #[cycle(terms)]
-fn first<'a>(alloc: Global, tokens: &'a [Token]) -> Read<'a, Part>
+fn first<'a>(alloc: Global, tokens: &'a [Token]) -> ViperRead<'a, WrittenTerm>
     ensures shorter { IfOk result (λ r. length r.1.now < length tokens.now) }
     ensures reads { Parses part_of (g.rule g.First) tokens.now result }
 {
@@ -168,7 +181,7 @@ fn first<'a>(alloc: Global, tokens: &'a [Token]) -> Read<'a, Part>
         return access(alloc, at, rest);
     }
     let (inner, rest) = group(alloc, tokens)?;
-    let part = Part {
+    let part = WrittenTerm {
         shape: Shape::Plain,
         term: inner.term,
     };
@@ -177,7 +190,7 @@ fn first<'a>(alloc: Global, tokens: &'a [Token]) -> Read<'a, Part>
 
 /// `[ "(" [ term { "," term } ] ")" ]` after a name.
 #[cycle(terms)]
-fn name_or_call<'a>(alloc: Global, named: Named, tokens: &'a [Token]) -> Read<'a, Part>
+fn name_or_call<'a>(alloc: Global, named: Named, tokens: &'a [Token]) -> ViperRead<'a, WrittenTerm>
     ensures shorter { IfOk result (λ r. length r.1.now ≤ length tokens.now) }
     ensures reads { Parses part_of (g.name_or_call named) tokens.now result }
 {
@@ -192,7 +205,7 @@ fn name_or_call<'a>(alloc: Global, named: Named, tokens: &'a [Token]) -> Read<'a
 
 /// `"(" term [ "," term ] ")"` after `acc`.
 #[cycle(terms)]
-fn access<'a>(alloc: Global, at: Pos, tokens: &'a [Token]) -> Read<'a, Part>
+fn access<'a>(alloc: Global, at: Pos, tokens: &'a [Token]) -> ViperRead<'a, WrittenTerm>
     ensures shorter { IfOk result (λ r. length r.1.now < length tokens.now) }
     ensures reads { Parses part_of (g.access at) tokens.now result }
 {
@@ -205,7 +218,7 @@ fn access<'a>(alloc: Global, at: Pos, tokens: &'a [Token]) -> Read<'a, Part>
 
 /// `"(" term ")"`
 #[cycle(terms)]
-pub fn group<'a>(alloc: Global, tokens: &'a [Token]) -> Read<'a, Part>
+pub fn group<'a>(alloc: Global, tokens: &'a [Token]) -> ViperRead<'a, WrittenTerm>
     ensures shorter { IfOk result (λ r. length r.1.now < length tokens.now) }
     ensures reads { Parses part_of (g.rule g.Group) tokens.now result }
 {
@@ -217,7 +230,7 @@ pub fn group<'a>(alloc: Global, tokens: &'a [Token]) -> Read<'a, Part>
 
 /// `[ "," term ] ")"`
 #[cycle(terms)]
-fn amount<'a>(alloc: Global, tokens: &'a [Token]) -> Read<'a, Option<Box<Term>>>
+fn amount<'a>(alloc: Global, tokens: &'a [Token]) -> ViperRead<'a, Option<Box<Term>>>
     ensures shorter { IfOk result (λ r. length r.1.now < length tokens.now) }
     ensures reads { Parses amount_of (g.rule g.Amount) tokens.now result }
 {
@@ -232,7 +245,7 @@ fn amount<'a>(alloc: Global, tokens: &'a [Token]) -> Read<'a, Option<Box<Term>>>
 
 /// `call | "acc" "(" call [ "," term ] ")"`
 #[cycle(terms)]
-pub fn instance<'a>(alloc: Global, tokens: &'a [Token]) -> Read<'a, Instance>
+pub fn instance<'a>(alloc: Global, tokens: &'a [Token]) -> ViperRead<'a, WrittenInstance>
     ensures shorter { IfOk result (λ r. length r.1.now < length tokens.now) }
     ensures reads { Parses instance_of (g.rule g.InstanceOf) tokens.now result }
 {
@@ -241,7 +254,7 @@ pub fn instance<'a>(alloc: Global, tokens: &'a [Token]) -> Read<'a, Instance>
         let (named, rest) = call(alloc, rest)?;
         let (held, rest) = amount(alloc, rest)?;
         return Ok((
-            Instance {
+            WrittenInstance {
                 call: named,
                 amount: held,
             },
@@ -250,7 +263,7 @@ pub fn instance<'a>(alloc: Global, tokens: &'a [Token]) -> Read<'a, Instance>
     }
     let (named, rest) = call(alloc, tokens)?;
     Ok((
-        Instance {
+        WrittenInstance {
             call: named,
             amount: None,
         },
@@ -260,7 +273,7 @@ pub fn instance<'a>(alloc: Global, tokens: &'a [Token]) -> Read<'a, Instance>
 
 /// `name "(" [ term { "," term } ] ")"`
 #[cycle(terms)]
-pub fn call<'a>(alloc: Global, tokens: &'a [Token]) -> Read<'a, SCall>
+pub fn call<'a>(alloc: Global, tokens: &'a [Token]) -> ViperRead<'a, SCall>
     ensures shorter { IfOk result (λ r. length r.1.now < length tokens.now) }
     ensures reads { Parses call_of (g.rule g.CallOf) tokens.now result }
 {
@@ -272,7 +285,7 @@ pub fn call<'a>(alloc: Global, tokens: &'a [Token]) -> Read<'a, SCall>
 
 /// `[ term { "," term } ] ")"`
 #[cycle(terms)]
-pub fn arguments<'a>(alloc: Global, tokens: &'a [Token]) -> Read<'a, Vec<Term>>
+pub fn arguments<'a>(alloc: Global, tokens: &'a [Token]) -> ViperRead<'a, Vec<Term>>
     ensures shorter { IfOk result (λ r. length r.1.now < length tokens.now) }
     ensures reads { Parses arguments_of (g.rule g.Arguments) tokens.now result }
 {

@@ -23,11 +23,11 @@ use Rattle.viper_meaning.specs.Run.{Run, evaluating, then_do}
 use Rattle.viper_meaning.specs.Statements.{Activation, Configuration, scene, stored, taking_values, produce_all, exhale_all, called, run_stmt}
 use Rattle.viper_meaning.specs.Value.{values}
 use Rattle.viper_eval.specs.Answers.{Answers, stopped}
-use Rattle.viper_eval.specs.declared.answers.Stop.{Stop as EndOfReading}
-use Rattle.viper_eval.specs.declared.answers.Halt.{Halt as HaltOfReading}
+use Rattle.viper_eval.specs.declared.answers.EvalStop.{EvalStop}
+use Rattle.viper_eval.specs.declared.answers.EvalHalt.{EvalHalt}
 use Rattle.viper_inhale.specs.Answers.{Does, run_stop, run_halt}
-use Rattle.viper_inhale.specs.declared.answers.Halt.{Halt}
-use Rattle.viper_inhale.specs.declared.answers.Halt.TheVariants as halt
+use Rattle.viper_inhale.specs.declared.answers.StepHalt.{StepHalt}
+use Rattle.viper_inhale.specs.declared.answers.StepHalt.TheVariants as halt
 use Rattle.viper_inhale.proofs.DoesLaws.{same_run, goes_at_once}
 use Rattle.viper_inhale.proofs.FormLaws.{part_stops, part_goes, calm_stops, calm_goes, first_stops, both_go}
 use Rattle.viper_fold.proofs.FoldLaws.{found_is}
@@ -46,7 +46,7 @@ module _ (at : Pos) (targets : List ℕ) (posts : List t.Assertion) (args vs : L
   call_ends : call_ended at targets posts args vs before c ≡ then_do (produce_all Bounded promised (record { store = store; old = before; at = at }) c.state) with_targets
   call_ends i = then_do (produce_all Bounded (sym all_promised i) (record { store = sym joined i; old = before; at = at }) c.state) with_targets
 
-  pub end_stops : {X Z : Type 0} {v : X → State} {u : Z → Configuration} {f g : Feed} {w : Halt} → Does v f (produce_all Bounded promised (record { store = store; old = before; at = at }) c.state) g (Err w) →
+  pub end_stops : {X Z : Type 0} {v : X → State} {u : Z → Configuration} {f g : Feed} {w : StepHalt} → Does v f (produce_all Bounded promised (record { store = store; old = before; at = at }) c.state) g (Err w) →
       Does u f (call_ended at targets posts args vs before c) g (Err w)
   end_stops {v = v} h = first_stops {v = v} with_targets call_ends h
 
@@ -67,15 +67,15 @@ module _ (k : Activation) (targets : List ℕ) (callee : Method) (args : List Va
     called_is : called Bounded k targets callee args at c ≡ then_do (exhale_all Bounded k.program asked c.state sc) to_values
     called_is i = then_do (exhale_all Bounded k.program (sym all_asked i) c.state (sym here i)) to_values
 
-    pub call_stops : {X Z : Type 0} {v : X → State} {u : Z → Configuration} {f g : Feed} {w : Halt} → Does v f (exhale_all Bounded k.program asked c.state sc) g (Err w) →
+    pub call_stops : {X Z : Type 0} {v : X → State} {u : Z → Configuration} {f g : Feed} {w : StepHalt} → Does v f (exhale_all Bounded k.program asked c.state sc) g (Err w) →
         Does u f (called Bounded k targets callee args at c) g (Err w)
     call_stops {v = v} h = first_stops {v = v} to_values called_is h
 
     module _ {f m : Feed} {s : State} {x : ⊤} (given : Does (λ x. s) f (exhale_all Bounded k.program asked c.state sc) m (Ok x)) where
-      pub values_stop : {X Z : Type 0} {v : X → List Value} {u : Z → Configuration} {g : Feed} {w : Halt} → Does v m (taking_values k.vars targets) g (Err w) → Does u f (called Bounded k targets callee args at c) g (Err w)
+      pub values_stop : {X Z : Type 0} {v : X → List Value} {u : Z → Configuration} {g : Feed} {w : StepHalt} → Does v m (taking_values k.vars targets) g (Err w) → Does u f (called Bounded k targets callee args at c) g (Err w)
       values_stop {v = v} h = both_go to_values called_is given (first_stops {v = v} (to_end s) refl h)
 
-      pub call_goes : {X Z : Type 0} {v : X → List Value} {u : Z → Configuration} {n g : Feed} {y : X} {q : Result Z Halt} {before : State} → before ≡ c.state →
+      pub call_goes : {X Z : Type 0} {v : X → List Value} {u : Z → Configuration} {n g : Feed} {y : X} {q : Result Z StepHalt} {before : State} → before ≡ c.state →
           Does v m (taking_values k.vars targets) n (Ok y) → Does u n (call_ended at targets callee.postconditions args (v y) before (record { store = c.store; state = s })) g q → Does u f (called Bounded k targets callee args at c) g q
       call_goes {v = v} {y = y} copied h i =
           both_go to_values called_is given (both_go {v = v} (to_end s) refl h (same_run (λ j. call_ended at targets callee.postconditions args (v y) (sym copied j) (record { store = c.store; state = s })) i))
@@ -104,13 +104,13 @@ module _ (k : Activation) (c : Configuration) {at : Pos} {sc : Scene} (here : sc
   call_is : run_stmt Bounded k (s.Call at targets n es) c ≡ evaluating (values Bounded es c.state sc) to_callee
   call_is i = evaluating (values Bounded es c.state (sym here i)) to_callee
 
-  pub args_stop : {X Z : Type 0} {v : X → List Value} {u : Z → Configuration} {f g : Feed} {w : HaltOfReading} → Answers v f.events (values Bounded es c.state sc) g.events (Err w) → g.left ≡ f.left →
+  pub args_stop : {X Z : Type 0} {v : X → List Value} {u : Z → Configuration} {f g : Feed} {w : EvalHalt} → Answers v f.events (values Bounded es c.state sc) g.events (Err w) → g.left ≡ f.left →
       Does u f (run_stmt Bounded k (s.Call at targets n es) c) g (Err (run_halt w))
   args_stop {v = v} h left = part_stops {v = v} to_callee call_is h left
 
   module _ {X Z : Type 0} {v : X → List Value} {u : Z → Configuration} {f m : Feed} {x : X} (args : Answers v f.events (values Bounded es c.state sc) m.events (Ok x)) (left : m.left ≡ f.left) where
-    pub callee_stops : (w : EndOfReading) → ends [] (stopped w) ≡ found (slice_get k.program.methods n) → Does u f (run_stmt Bounded k (s.Call at targets n es) c) m (Err (halt.Stops (run_stop w)))
+    pub callee_stops : (w : EvalStop) → ends [] (stopped w) ≡ found (slice_get k.program.methods n) → Does u f (run_stmt Bounded k (s.Call at targets n es) c) m (Err (halt.Stops (run_stop w)))
     callee_stops w h = part_goes {v = v} to_callee call_is args left (calm_stops (to_call (v x)) refl w h)
 
-    pub callee_goes : {g : Feed} {q : Result Z Halt} (callee : Method) → is callee ≡ found (slice_get k.program.methods n) → Does u m (called Bounded k targets callee (v x) at c) g q → Does u f (run_stmt Bounded k (s.Call at targets n es) c) g q
+    pub callee_goes : {g : Feed} {q : Result Z StepHalt} (callee : Method) → is callee ≡ found (slice_get k.program.methods n) → Does u m (called Bounded k targets callee (v x) at c) g q → Does u f (run_stmt Bounded k (s.Call at targets n es) c) g q
     callee_goes callee h i = part_goes {v = v} to_callee call_is args left (calm_goes (to_call (v x)) refl h i)

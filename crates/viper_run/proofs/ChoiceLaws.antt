@@ -19,9 +19,9 @@ use Rattle.viper_meaning.specs.Run.{Run, takes, noting, evaluating, then_do, giv
 use Rattle.viper_meaning.specs.Statements.{branch_in, fresh_in, value_in, taking_branch, taking_fresh, taking_value, taking_values, taking_state}
 use Rattle.viper_meaning.proofs.ThenLaws.{then_then, then_same, goes_then}
 use Rattle.viper_inhale.specs.Answers.{run_of, Does, goes, stops}
-use Rattle.viper_inhale.specs.declared.answers.Halt.{Halt}
-use Rattle.viper_inhale.specs.declared.answers.Halt.TheVariants as halt
-use Rattle.viper_inhale.specs.declared.answers.Stop.TheVariants as stop
+use Rattle.viper_inhale.specs.declared.answers.StepHalt.{StepHalt}
+use Rattle.viper_inhale.specs.declared.answers.StepHalt.TheVariants as halt
+use Rattle.viper_inhale.specs.declared.answers.StepStop.TheVariants as stop
 use Rattle.viper_inhale.proofs.DoesLaws.{does_at}
 use Rattle.viper_run.specs.Steps.{taking_value_of}
 
@@ -35,7 +35,7 @@ noted f g e y recorded left is = goes (λ i. ran (sym recorded i) (Goes (sym is 
 module _ {K : Type 0} (kind : Choice → Option K) where
   module _ {X : Type 0} (go : K → Run X) (f m : Feed) where
     -- a choice of the kind
-    pub chosen : {Z : Type 0} {v : Z → X} {q : Result Z Halt} (g : Feed) (c : Choice) {k : K} → f.left ≡ c ∷ m.left → m.events ≡ f.events → kind c ≡ Some k → Does v m (go k) g q → Does v f (taking kind go) g q
+    pub chosen : {Z : Type 0} {v : Z → X} {q : Result Z StepHalt} (g : Feed) (c : Choice) {k : K} → f.left ≡ c ∷ m.left → m.events ≡ f.events → kind c ≡ Some k → Does v m (go k) g q → Does v f (taking kind go) g q
     chosen g c {k = k} first events is =
         does_at (ap (λ cs. since f.events (on (taking kind go) cs)) first ∙ ap (λ o. since f.events (since [] (on (given o go) m.left))) is
         ∙ ap (λ es. since es (since [] (on (go k) m.left))) (sym events) ∙ since_nothing m.events (on (go k) m.left))

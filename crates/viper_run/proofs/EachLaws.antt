@@ -5,7 +5,7 @@ use Rattle.viper_state.specs.Run.{Feed}
 use Rattle.viper_meaning.specs.Run as run
 use Rattle.viper_meaning.specs.Run.{Run, then_do, on, then_ran}
 use Rattle.viper_inhale.specs.Answers.{run_of, Does, goes}
-use Rattle.viper_inhale.specs.declared.answers.Halt.{Halt}
+use Rattle.viper_inhale.specs.declared.answers.StepHalt.{StepHalt}
 use Rattle.viper_inhale.proofs.DoesLaws.{run_then, does_at, then_stops, goes_at_once}
 
 module _ {A S : Type 0} (all : List A → S → Run S) (one : A → S → Run S) (none : (s : S) → all [] s ≡ run.goes s) (more : (a : A) (rest : List A) (s : S) → all (a ∷ rest) s ≡ then_do (one a s) (all rest)) (xs : List A) (i : ℕ) where
@@ -16,7 +16,7 @@ module _ {A S : Type 0} (all : List A → S → Run S) (one : A → S → Run S)
       run_of R f ≡ run_of (all (drop (i + 1) xs) (v x)) g
   each_goes {m = m} R f a s here so_far (goes h) = so_far ∙ split_off a s m here ∙ run_then (one a s) (all (drop (i + 1) xs)) m ∙ ap (λ n. then_ran n (λ x. on (all (drop (i + 1) xs) x))) h
 
-  pub each_stops : {X Z : Type 0} {v : X → S} {u : Z → S} {w : Halt} {R : Run S} {f m g : Feed} (a : A) (s : S) → drop i xs ≡ a ∷ drop (i + 1) xs → run_of R f ≡ run_of (all (drop i xs) s) m → Does v m (one a s) g (Err w) → Does u f R g (Err w)
+  pub each_stops : {X Z : Type 0} {v : X → S} {u : Z → S} {w : StepHalt} {R : Run S} {f m g : Feed} (a : A) (s : S) → drop i xs ≡ a ∷ drop (i + 1) xs → run_of R f ≡ run_of (all (drop i xs) s) m → Does v m (one a s) g (Err w) → Does u f R g (Err w)
   each_stops {v = v} {m = m} a s here so_far h = does_at (so_far ∙ split_off a s m here) (then_stops {v = v} (all (drop (i + 1) xs)) h)
 
   pub each_end : {Z : Type 0} {u : Z → S} {R : Run S} {f m : Feed} (s : S) (z : Z) → length xs ≤ i → i ≤ length xs → run_of R f ≡ run_of (all (drop i xs) s) m → u z ≡ s → Does u f R m (Ok z)

@@ -17,9 +17,9 @@ use Rattle.viper_meaning.specs.Statements.{Activation, Configuration, scene, sto
 use Rattle.viper_meaning.specs.Value.{truth_in}
 use Rattle.viper_meaning.proofs.ThenLaws.{then_then, then_same, before_then, goes_then}
 use Rattle.viper_inhale.specs.Answers.{Does}
-use Rattle.viper_inhale.specs.declared.answers.Halt.{Halt}
-use Rattle.viper_inhale.specs.declared.answers.Halt.TheVariants as stop_halt
-use Rattle.viper_inhale.specs.declared.answers.Stop.TheVariants as stop
+use Rattle.viper_inhale.specs.declared.answers.StepHalt.{StepHalt}
+use Rattle.viper_inhale.specs.declared.answers.StepHalt.TheVariants as stop_halt
+use Rattle.viper_inhale.specs.declared.answers.StepStop.TheVariants as stop
 use Rattle.viper_inhale.proofs.FormLaws.{first_stops, both_go}
 use Rattle.viper_run.specs.Steps.{loop_entered, guarded, turn_begun}
 use Rattle.viper_run.proofs.ChoiceLaws.{taking_then, blocks_at}
@@ -121,7 +121,7 @@ module _ (k : Activation) (d : Configuration) {turn : Pos} {sc : Scene} (here : 
   ending_is : in_vain {Y = Configuration} (consume_all Bounded invariants d.state (scene k d turn) d.state) ≡ then_do consumed (λ x. ended blocks)
   ending_is i = then_do (consume_all Bounded (sym same i) d.state (sym here i) (sym begin i)) (λ x. ended blocks)
 
-  pub ending_stops : {X Z : Type 0} {v : X → State} {u : Z → Configuration} {f g : Feed} {w : Halt} → Does v f consumed g (Err w) → Does u f (in_vain (consume_all Bounded invariants d.state (scene k d turn) d.state)) g (Err w)
+  pub ending_stops : {X Z : Type 0} {v : X → State} {u : Z → Configuration} {f g : Feed} {w : StepHalt} → Does v f consumed g (Err w) → Does u f (in_vain (consume_all Bounded invariants d.state (scene k d turn) d.state)) g (Err w)
   ending_stops {v = v} h = first_stops {v = v} (λ x. ended blocks) ending_is h
 
   pub ending_blocks : {X Z : Type 0} {v : X → State} {u : Z → Configuration} {f g : Feed} {x : X} → Does v f consumed g (Ok x) →

@@ -20,7 +20,7 @@ use Rattle.viper_state.specs.Run.{Feed, Opening, Scene}
 use Rattle.viper_state.specs.State.{State, empty_state}
 use Rattle.viper_state.specs.View.{choice_of, event_of, feed_of, state_of}
 use Rattle.viper_state.specs.Within.{IsWithinChoice, IsWithinEvent, IsWithinOpening, IsWithinScene, IsWithinState}
-use Rattle.viper_state.specs.declared.runs.Choice.{Choice as ChoiceOf}
+use Rattle.viper_state.specs.declared.runs.Choice.{Choice}
 use Rattle.viper_state.specs.declared.runs.Feed.{Feed as FeedOf}
 use Rattle.viper_state.specs.declared.runs.Outcome.{Outcome}
 use Rattle.viper_state.specs.declared.runs.Outcome.TheVariants as outcome
@@ -43,12 +43,12 @@ use Rattle.viper_meaning.proofs.StateKeptLaws.{OfState}
 use Rattle.viper_meaning.proofs.StatementKeptLaws.{produce_all_within, within_default}
 use Rattle.viper_meaning.proofs.ThenLaws.{then_then, then_same, goes_then}
 use Rattle.viper_eval.specs.Answers as reading
-use Rattle.viper_eval.specs.declared.answers.Stop.{Stop as EndOfReading}
+use Rattle.viper_eval.specs.declared.answers.EvalStop.{EvalStop}
 use Rattle.viper_inhale.specs.Answers.{Does, no_memory, goes, stops, stopped, run_of, run_stop}
-use Rattle.viper_inhale.specs.declared.answers.Stop.{Stop as End}
-use Rattle.viper_inhale.specs.declared.answers.Stop.TheVariants as stop
-use Rattle.viper_inhale.specs.declared.answers.Halt.{Halt}
-use Rattle.viper_inhale.specs.declared.answers.Halt.TheVariants as halt
+use Rattle.viper_inhale.specs.declared.answers.StepStop.{StepStop}
+use Rattle.viper_inhale.specs.declared.answers.StepStop.TheVariants as stop
+use Rattle.viper_inhale.specs.declared.answers.StepHalt.{StepHalt}
+use Rattle.viper_inhale.specs.declared.answers.StepHalt.TheVariants as halt
 use Rattle.viper_inhale.proofs.DoesLaws.{same_run, goes_at_once, does_keep}
 use Rattle.viper_inhale.proofs.FormLaws.{calm_stops, calm_goes, first_stops, both_go}
 use Rattle.viper_run.specs.Outcome.{Ends, outcome_of}
@@ -63,7 +63,7 @@ use Rattle.viper_run.proofs.ReadyLaws.{left_kept, any_choices}
 pub seen : {X Y Z : Type 0} {v : X → Y} {u : Z → Y} {f g : Feed} {r : Run Y} {x : X} (z : Z) → u z ≡ v x → Does v f r g (Ok x) → Does u f r g (Ok z)
 seen {g = g} z same (goes h) = goes (h ∙ ap (λ y. ran g.events (Goes y) g.left) (sym same))
 
-pub seen_stops : {X Y Z : Type 0} {v : X → Y} {u : Z → Y} {f g : Feed} {r : Run Y} {w : Halt} → Does v f r g (Err w) → Does u f r g (Err w)
+pub seen_stops : {X Y Z : Type 0} {v : X → Y} {u : Z → Y} {f g : Feed} {r : Run Y} {w : StepHalt} → Does v f r g (Err w) → Does u f r g (Err w)
 seen_stops no_memory = no_memory
 seen_stops (stops h) = stops h
 
@@ -96,12 +96,12 @@ check_in m sc any = in_vain (produce_all Bounded m.postconditions sc any)
 check_is : (k : Activation) (m : Method) (c : Configuration) {sc : Scene} → sc ≡ scene k c m.name_at → check_postcondition Bounded k m c.store ≡ then_do (taking_state k.program run.goes) (check_in m sc)
 check_is k m c here = state_then k.program (check_in m (scene k c m.name_at)) ∙ (λ i. then_do (taking_state k.program run.goes) (check_in m (sym here i)))
 
-pub any_stops : {X Z : Type 0} {v : X → State} {u : Z → State} {f g : Feed} {w : Halt} (k : Activation) (m : Method) (c : Configuration) → Does v f (taking_state k.program run.goes) g (Err w) →
+pub any_stops : {X Z : Type 0} {v : X → State} {u : Z → State} {f g : Feed} {w : StepHalt} (k : Activation) (m : Method) (c : Configuration) → Does v f (taking_state k.program run.goes) g (Err w) →
     Does u f (check_postcondition Bounded k m c.store) g (Err w)
 any_stops {v = v} k m c h = first_stops {v = v} (check_in m (scene k c m.name_at)) (check_is k m c refl) h
 
 module _ (k : Activation) (m : Method) (c : Configuration) {sc : Scene} (here : sc ≡ scene k c m.name_at) {X Y Z : Type 0} {v : X → State} {t : Y → State} {u : Z → State} {f n g : Feed} {x : X} (any : Does v f (taking_state k.program run.goes) n (Ok x)) where
-  pub check_stops : {w : Halt} → Does t n (produce_all Bounded m.postconditions sc (v x)) g (Err w) → Does u f (check_postcondition Bounded k m c.store) g (Err w)
+  pub check_stops : {w : StepHalt} → Does t n (produce_all Bounded m.postconditions sc (v x)) g (Err w) → Does u f (check_postcondition Bounded k m c.store) g (Err w)
   check_stops h = both_go (check_in m sc) (check_is k m c here) any (first_stops {v = t} (λ s. ended blocks) refl h)
 
   pub check_ends : {y : Y} → Does t n (produce_all Bounded m.postconditions sc (v x)) g (Ok y) → Does u f (check_postcondition Bounded k m c.store) g (Err (halt.Stops stop.Blocked))
@@ -116,10 +116,10 @@ module _ (k : Activation) (m : Method) (body : Body) (c : Configuration) {xs : S
   body_is : run_body Bounded k m body c ≡ then_do (run_block Bounded k xs c) to_consume
   body_is i = then_do (run_block Bounded k (sym all i) c) to_consume
 
-  pub block_stops : {X Z : Type 0} {v : X → Configuration} {u : Z → State} {f g : Feed} {w : Halt} → Does v f (run_block Bounded k xs c) g (Err w) → Does u f (run_body Bounded k m body c) g (Err w)
+  pub block_stops : {X Z : Type 0} {v : X → Configuration} {u : Z → State} {f g : Feed} {w : StepHalt} → Does v f (run_block Bounded k xs c) g (Err w) → Does u f (run_body Bounded k m body c) g (Err w)
   block_stops {v = v} h = first_stops {v = v} to_consume body_is h
 
-  pub block_goes : {X Z : Type 0} {v : X → Configuration} {u : Z → State} {f n g : Feed} {x : X} {q : Result Z Halt} → Does v f (run_block Bounded k xs c) n (Ok x) →
+  pub block_goes : {X Z : Type 0} {v : X → Configuration} {u : Z → State} {f n g : Feed} {x : X} {q : Result Z StepHalt} → Does v f (run_block Bounded k xs c) n (Ok x) →
       Does u n (consume_all Bounded m.postconditions (v x).state (scene k (v x) body.turn) (v x).state) g q → Does u f (run_body Bounded k m body c) g q
   block_goes {v = v} h i = both_go {v = v} to_consume body_is h i
 
@@ -133,17 +133,17 @@ module _ (k : Activation) (m : Method) (c : Configuration) where
   with_body body is = ap (λ o. run_method Bounded k m o c) is ∙ branch_then (chosen body)
 
   module _ {o : Option Body} (body : Body) (is : o ≡ Some body) {Z : Type 0} {u : Z → State} {f g : Feed} where
-    pub branch_stops : {X : Type 0} {v : X → Bool} {w : Halt} → Does v f (taking_branch run.goes) g (Err w) → Does u f (run_method Bounded k m o c) g (Err w)
+    pub branch_stops : {X : Type 0} {v : X → Bool} {w : StepHalt} → Does v f (taking_branch run.goes) g (Err w) → Does u f (run_method Bounded k m o c) g (Err w)
     branch_stops {v = v} h = first_stops {v = v} (chosen body) (with_body body is) h
 
-    module _ {n : Feed} {q : Result Z Halt} {runs : Bool} (taken : Does (λ b. b) f (taking_branch run.goes) n (Ok runs)) where
+    module _ {n : Feed} {q : Result Z StepHalt} {runs : Bool} (taken : Does (λ b. b) f (taking_branch run.goes) n (Ok runs)) where
       pub body_runs : runs ≡ true → Does u n (run_body Bounded k m body c) g q → Does u f (run_method Bounded k m o c) g q
       body_runs so h = both_go (chosen body) (with_body body is) taken (subst (λ b. Does u n (chosen body b) g q) (sym so) h)
 
       pub check_runs : runs ≡ false → Does u n (check_postcondition Bounded k m c.store) g q → Does u f (run_method Bounded k m o c) g q
       check_runs so h = both_go (chosen body) (with_body body is) taken (subst (λ b. Does u n (chosen body b) g q) (sym so) h)
 
-  pub without_body : {o : Option Body} {Z : Type 0} {u : Z → State} {f g : Feed} {q : Result Z Halt} → o ≡ None → Does u f (check_postcondition Bounded k m c.store) g q → Does u f (run_method Bounded k m o c) g q
+  pub without_body : {o : Option Body} {Z : Type 0} {u : Z → State} {f g : Feed} {q : Result Z StepHalt} → o ≡ None → Does u f (check_postcondition Bounded k m c.store) g q → Does u f (run_method Bounded k m o c) g q
   without_body is h = same_run (ap (λ o. run_method Bounded k m o c) is) h
 
 -- ---- where a method begins
@@ -162,7 +162,7 @@ module _ (p : Program) (m : Method) (o : Opening) where
     begun_is : method_begun p m o ≡ then_do (produce_all Bounded asked (record { store = store; old = old; at = m.at }) start) begun
     begun_is i = then_do (produce_all Bounded (sym all_asked i) (record { store = sym given i; old = sym empty i; at = m.at }) (sym (copied ∙ empty) i)) begun
 
-    pub begin_stops : {X Z : Type 0} {v : X → State} {u : Z → Configuration} {f g : Feed} {w : Halt} → Does v f (produce_all Bounded asked (record { store = store; old = old; at = m.at }) start) g (Err w) →
+    pub begin_stops : {X Z : Type 0} {v : X → State} {u : Z → Configuration} {f g : Feed} {w : StepHalt} → Does v f (produce_all Bounded asked (record { store = store; old = old; at = m.at }) start) g (Err w) →
         Does u f (method_begun p m o) g (Err w)
     begin_stops {v = v} h = first_stops {v = v} begun begun_is h
 
@@ -193,10 +193,10 @@ module _ (p : Program) (m : Method) (o : Opening) where
       let first = produce_all Bounded m.preconditions (record { store = first_store m o.store; old = empty_state p.layout o.memo; at = m.at }) (empty_state p.layout o.memo) in
       sym (then_then first begun started ∙ then_same first (λ s. goes_then (record { store = first_store m o.store; state = s }) started))
 
-  pub start_stops : {X Z : Type 0} {v : X → Configuration} {u : Z → State} {f g : Feed} {w : Halt} → Does v f (method_begun p m o) g (Err w) → Does u f (start_method Bounded p m o) g (Err w)
+  pub start_stops : {X Z : Type 0} {v : X → Configuration} {u : Z → State} {f g : Feed} {w : StepHalt} → Does v f (method_begun p m o) g (Err w) → Does u f (start_method Bounded p m o) g (Err w)
   start_stops {v = v} h = first_stops {v = v} started started_is h
 
-  pub start_goes : {X Z : Type 0} {v : X → Configuration} {u : Z → State} {f n g : Feed} {x : X} {q : Result Z Halt} {vars : List Ty} {old : State} → Does v f (method_begun p m o) n (Ok x) → vars ≡ m.vars → old ≡ (v x).state →
+  pub start_goes : {X Z : Type 0} {v : X → Configuration} {u : Z → State} {f n g : Feed} {x : X} {q : Result Z StepHalt} {vars : List Ty} {old : State} → Does v f (method_begun p m o) n (Ok x) → vars ≡ m.vars → old ≡ (v x).state →
       Does u n (run_method Bounded (record { program = p; vars = vars; old = old }) m m.body (v x)) g q → Does u f (start_method Bounded p m o) g q
   start_goes {v = v} {x = x} d typed copied h = both_go {v = v} started started_is d (same_run (λ i. run_method Bounded (record { program = p; vars = sym typed i; old = sym copied i }) m m.body (v x)) h)
 
@@ -222,7 +222,7 @@ module _ (p : Program) (d : Predicate) (o : Opening) {old start : State} (empty 
   pub predicate_state : IsWithinOpening o → IsWithinState start
   predicate_state h = subst IsWithinState (sym (copied ∙ empty)) (empty_state_has p.layout o.memo h.memo none_within)
 
-  pub predicate_starts : {store : List Value} {scale : Fraction} {Z : Type 0} {u : Z → State} {f g : Feed} {q : Result Z Halt} (body : t.Assertion) → store ≡ o.store → scale ≡ write →
+  pub predicate_starts : {store : List Value} {scale : Fraction} {Z : Type 0} {u : Z → State} {f g : Feed} {q : Result Z StepHalt} (body : t.Assertion) → store ≡ o.store → scale ≡ write →
       Does u f (produce Bounded body (record { store = store; old = old; at = d.at }) scale start) g q → Does u f (start_predicate Bounded p d body o) g q
   predicate_starts body given whole h = same_run (λ i. produce Bounded body (record { store = sym given i; old = sym empty i; at = d.at }) (sym whole i) (sym (copied ∙ empty) i)) h
 
@@ -237,37 +237,37 @@ module _ (p : Program) (n : ℕ) (o : Opening) where
   to_predicate d = evaluating (found d.body) (λ body. start_predicate Bounded p d body o)
 
   module _ {Z : Type 0} {u : Z → State} {f : Feed} where
-    pub no_method : (w : EndOfReading) → ends [] (reading.stopped w) ≡ found (slice_get p.methods n) → Does u f (run_of_unit Bounded p (unit.Method n) o) f (Err (halt.Stops (run_stop w)))
+    pub no_method : (w : EvalStop) → ends [] (reading.stopped w) ≡ found (slice_get p.methods n) → Does u f (run_of_unit Bounded p (unit.Method n) o) f (Err (halt.Stops (run_stop w)))
     no_method w h = calm_stops (λ m. start_method Bounded p m o) refl w h
 
-    pub a_method : {g : Feed} {q : Result Z Halt} (m : Method) → is m ≡ found (slice_get p.methods n) → Does u f (start_method Bounded p m o) g q → Does u f (run_of_unit Bounded p (unit.Method n) o) g q
+    pub a_method : {g : Feed} {q : Result Z StepHalt} (m : Method) → is m ≡ found (slice_get p.methods n) → Does u f (start_method Bounded p m o) g q → Does u f (run_of_unit Bounded p (unit.Method n) o) g q
     a_method m h i = calm_goes (λ m. start_method Bounded p m o) refl h i
 
-    pub no_predicate : (w : EndOfReading) → ends [] (reading.stopped w) ≡ found (slice_get p.predicates n) → Does u f (run_of_unit Bounded p (unit.Predicate n) o) f (Err (halt.Stops (run_stop w)))
+    pub no_predicate : (w : EvalStop) → ends [] (reading.stopped w) ≡ found (slice_get p.predicates n) → Does u f (run_of_unit Bounded p (unit.Predicate n) o) f (Err (halt.Stops (run_stop w)))
     no_predicate w h = calm_stops to_predicate refl w h
 
-    pub no_body : (d : Predicate) (w : EndOfReading) → is d ≡ found (slice_get p.predicates n) → ends [] (reading.stopped w) ≡ found d.body → Does u f (run_of_unit Bounded p (unit.Predicate n) o) f (Err (halt.Stops (run_stop w)))
+    pub no_body : (d : Predicate) (w : EvalStop) → is d ≡ found (slice_get p.predicates n) → ends [] (reading.stopped w) ≡ found d.body → Does u f (run_of_unit Bounded p (unit.Predicate n) o) f (Err (halt.Stops (run_stop w)))
     no_body d w h i = calm_goes to_predicate refl h (calm_stops (λ body. start_predicate Bounded p d body o) refl w i)
 
-    pub a_predicate : {g : Feed} {q : Result Z Halt} (d : Predicate) (body : t.Assertion) → is d ≡ found (slice_get p.predicates n) → is body ≡ found d.body → Does u f (start_predicate Bounded p d body o) g q →
+    pub a_predicate : {g : Feed} {q : Result Z StepHalt} (d : Predicate) (body : t.Assertion) → is d ≡ found (slice_get p.predicates n) → is body ≡ found d.body → Does u f (start_predicate Bounded p d body o) g q →
         Does u f (run_of_unit Bounded p (unit.Predicate n) o) g q
     a_predicate d body h i j = calm_goes to_predicate refl h (calm_goes (λ body. start_predicate Bounded p d body o) refl i j)
 
-    pub no_unit : (w : EndOfReading) → ends [] (reading.stopped w) ≡ found (slice_get p.units n) → Does u f (unit_run Bounded p n o) f (Err (halt.Stops (run_stop w)))
+    pub no_unit : (w : EvalStop) → ends [] (reading.stopped w) ≡ found (slice_get p.units n) → Does u f (unit_run Bounded p n o) f (Err (halt.Stops (run_stop w)))
     no_unit w h = calm_stops (λ x. run_of_unit Bounded p x o) refl w h
 
-    pub a_unit : {g : Feed} {q : Result Z Halt} (x y : Unit) → is x ≡ found (slice_get p.units n) → x ≡ y → Does u f (run_of_unit Bounded p y o) g q → Does u f (unit_run Bounded p n o) g q
+    pub a_unit : {g : Feed} {q : Result Z StepHalt} (x y : Unit) → is x ≡ found (slice_get p.units n) → x ≡ y → Does u f (run_of_unit Bounded p y o) g q → Does u f (unit_run Bounded p n o) g q
     a_unit x y h same i = calm_goes (λ x. run_of_unit Bounded p x o) refl h (same_run (ap (λ x. run_of_unit Bounded p x o) same) i)
 
 -- ---- how a run ended
 
-stopped_alike : (X Y : Type 0) (w : End) → outcome_of (stopped {X = X} w) ≡ outcome_of (stopped {X = Y} w)
+stopped_alike : (X Y : Type 0) (w : StepStop) → outcome_of (stopped {X = X} w) ≡ outcome_of (stopped {X = Y} w)
 stopped_alike X Y (stop.Fails l) = refl
 stopped_alike X Y stop.Blocked = refl
 stopped_alike X Y stop.Short = refl
 stopped_alike X Y (stop.Over at) = refl
 
-not_done : {X : Type 0} (w : End) (x : X) → stopped w ≡ Goes x → ⊥
+not_done : {X : Type 0} (w : StepStop) (x : X) → stopped w ≡ Goes x → ⊥
 not_done (stop.Fails l) x h = cc
 not_done stop.Blocked x h = cc
 not_done stop.Short x h = cc
@@ -282,7 +282,7 @@ same_told a b h = cc
 no_error : (o : Outcome) → IsErr {T = Outcome} {E = Memory} (Ok o) → ⊥
 no_error o h = cc
 
-pub all_left : (cs : List ChoiceOf) (n : ℕ) → length cs - n ≡ length (map choice_of (drop n cs))
+pub all_left : (cs : List Choice) (n : ℕ) → length cs - n ≡ length (map choice_of (drop n cs))
 all_left cs n = sym (length-map (drop n cs) choice_of ∙ length-drop n cs)
 
 module _ (f : Feed) (r : Run State) (g : FeedOf) (x : RunOf) (first : f.events ≡ []) (events : x.events ≡ g.events) (unused : x.unused ≡ length g.choices.items - g.next) where
@@ -300,7 +300,7 @@ module _ (f : Feed) (r : Run State) (g : FeedOf) (x : RunOf) (first : f.events �
     unused = unused ∙ all_left g.choices.items g.next;
   }
 
-  pub ends_stopped : {X : Type 0} {v : X → State} {w : End} → Does v f r (feed_of g) (Err (halt.Stops w)) → x.outcome ≡ outcome_of (stopped {X = ⊤} w) → Ends (on r f.left) x
+  pub ends_stopped : {X : Type 0} {v : X → State} {w : StepStop} → Does v f r (feed_of g) (Err (halt.Stops w)) → x.outcome ≡ outcome_of (stopped {X = ⊤} w) → Ends (on r f.left) x
   ends_stopped {w = w} (stops h) is = record {
     step = stopped w;
     left = (feed_of g).left;
@@ -311,7 +311,7 @@ module _ (f : Feed) (r : Run State) (g : FeedOf) (x : RunOf) (first : f.events �
   }
 
   -- what the answer told, where there was memory
-  pub ends_told : {X : Type 0} {v : X → State} {told : Result Outcome Memory} {o : Outcome} (q : Halt) → Does v f r (feed_of g) (Err q) → ((w : End) → q ≡ halt.Stops w → told ≡ Ok (outcome_of (stopped {X = ⊤} w))) → (q ≡ halt.Memory → IsErr told) →
+  pub ends_told : {X : Type 0} {v : X → State} {told : Result Outcome Memory} {o : Outcome} (q : StepHalt) → Does v f r (feed_of g) (Err q) → ((w : StepStop) → q ≡ halt.Stops w → told ≡ Ok (outcome_of (stopped {X = ⊤} w))) → (q ≡ halt.Memory → IsErr told) →
       told ≡ Ok o → x.outcome ≡ o → Ends (on r f.left) x
   ends_told {o = o} halt.Memory d by_stop by_memory was same = absurd (no_error o (subst IsErr was (by_memory refl)))
   ends_told {o = o} (halt.Stops w) d by_stop by_memory was same = ends_stopped d (same ∙ same_told o (outcome_of (stopped {X = ⊤} w)) (sym was ∙ by_stop w refl))

@@ -21,7 +21,7 @@ use vb_base::Pos;
 use vb_value::Value;
 use viper_core::{Expr, Method};
 use viper_eval::SceneRef;
-use viper_inhale::Halt;
+use viper_inhale::StepHalt;
 use viper_state::{Feed, State, copy_state};
 
 /// A method that is called by its number, with these arguments.
@@ -49,7 +49,7 @@ fn end_call(
     before: &State,
     configuration: &mut Configuration,
     feed: &mut Feed,
-) -> Result<(), Halt>
+) -> Result<(), StepHalt>
     requires clauses_within { All IsWithinAssertion (assertions_of called.callee.now.postconditions.items) }
     requires args_within { All IsWithinValue args.items }
     requires returns_within { All IsWithinValue returns.items }
@@ -80,7 +80,7 @@ pub fn call(
     args: Vec<Value>,
     configuration: &mut Configuration,
     feed: &mut Feed,
-) -> Result<(), Halt>
+) -> Result<(), StepHalt>
     requires callee_within { IsWithinMethod (method_of called.callee.now) }
     requires args_within { All IsWithinValue args.items }
     requires ready { IsReady (activation_of activation) (configuration_of configuration.old) (feed_of feed.old) }

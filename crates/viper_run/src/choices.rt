@@ -16,7 +16,7 @@ use std::alloc::Global;
 use vb_value::{Ty, Value};
 use viper_core::Program;
 use viper_eval::found;
-use viper_inhale::{Halt, Stop};
+use viper_inhale::{StepHalt, StepStop};
 use viper_state::{Choice, Event, Feed, Memo, State, empty_state};
 
 /// The way that a choice is, if it is one.
@@ -30,7 +30,7 @@ fn branch_in(choice: &Choice) -> Option<bool>
 }
 
 /// Takes the next choice, which has to be one of two ways, and records it.
-pub(crate) fn take_branch(feed: &mut Feed) -> Result<bool, Halt>
+pub(crate) fn take_branch(feed: &mut Feed) -> Result<bool, StepHalt>
     ensures { Does (λ b. b) (feed_of feed.old) (m.taking_branch run.goes) (feed_of feed.new) result }
 {
     match feed.take() {
@@ -39,9 +39,9 @@ pub(crate) fn take_branch(feed: &mut Feed) -> Result<bool, Halt>
                 feed.record(Event::Branch(way))?;
                 Ok(way)
             }
-            None => Err(Halt::Stops(Stop::Blocked)),
+            None => Err(StepHalt::Stops(StepStop::Blocked)),
         },
-        None => Err(Halt::Stops(Stop::Short)),
+        None => Err(StepHalt::Stops(StepStop::Short)),
     }
 }
 
@@ -56,7 +56,7 @@ fn fresh_in(choice: &Choice) -> Option<u64>
 }
 
 /// Takes the next choice, which has to be a new reference, and records it.
-pub(crate) fn take_fresh(feed: &mut Feed) -> Result<u64, Halt>
+pub(crate) fn take_fresh(feed: &mut Feed) -> Result<u64, StepHalt>
     ensures { Does (λ r. r) (feed_of feed.old) (m.taking_fresh run.goes) (feed_of feed.new) result }
 {
     match feed.take() {
@@ -65,9 +65,9 @@ pub(crate) fn take_fresh(feed: &mut Feed) -> Result<u64, Halt>
                 feed.record(Event::Fresh(reference))?;
                 Ok(reference)
             }
-            None => Err(Halt::Stops(Stop::Blocked)),
+            None => Err(StepHalt::Stops(StepStop::Blocked)),
         },
-        None => Err(Halt::Stops(Stop::Short)),
+        None => Err(StepHalt::Stops(StepStop::Short)),
     }
 }
 
@@ -82,15 +82,15 @@ fn value_in(ty: Ty, choice: &Choice) -> Option<Value>
 }
 
 /// Takes the next choice, which has to be a value of this type.
-fn next_value(ty: Ty, feed: &mut Feed) -> Result<Value, Halt>
+fn next_value(ty: Ty, feed: &mut Feed) -> Result<Value, StepHalt>
     ensures { Does (λ v. v) (feed_of feed.old) (run.taking (m.value_in ty) run.goes) (feed_of feed.new) result }
 {
     match feed.take() {
         Some(choice) => match value_in(ty, &choice) {
             Some(value) => Ok(value),
-            None => Err(Halt::Stops(Stop::Blocked)),
+            None => Err(StepHalt::Stops(StepStop::Blocked)),
         },
-        None => Err(Halt::Stops(Stop::Short)),
+        None => Err(StepHalt::Stops(StepStop::Short)),
     }
 }
 
@@ -102,7 +102,7 @@ fn took_event(value: &Value) -> Event
 }
 
 /// Takes the next choice, which has to be a value of this type, and records it.
-fn take_value(ty: Ty, feed: &mut Feed) -> Result<Value, Halt>
+fn take_value(ty: Ty, feed: &mut Feed) -> Result<Value, StepHalt>
     ensures { Does (λ v. v) (feed_of feed.old) (m.taking_value ty run.goes) (feed_of feed.new) result }
 {
     let value = next_value(ty, feed)?;
@@ -111,7 +111,7 @@ fn take_value(ty: Ty, feed: &mut Feed) -> Result<Value, Halt>
 }
 
 /// Takes a value of the type of this number.
-pub(crate) fn take_value_of(types: &[Ty], number: u32, feed: &mut Feed) -> Result<Value, Halt>
+pub(crate) fn take_value_of(types: &[Ty], number: u32, feed: &mut Feed) -> Result<Value, StepHalt>
     ensures { Does (λ v. v) (feed_of feed.old) (taking_value_of types.now number) (feed_of feed.new) result }
 {
     let ty = found(types.get(number as usize).copied())?;
@@ -124,7 +124,7 @@ pub fn take_values(
     types: &[Ty],
     variables: &[u32],
     feed: &mut Feed,
-) -> Result<Vec<Value>, Halt>
+) -> Result<Vec<Value>, StepHalt>
     ensures { Does (λ vs. vs.items) (feed_of feed.old) (m.taking_values types.now variables.now) (feed_of feed.new) result }
 {
     let mut values = Vec::with_capacity(alloc, variables.len())?;
@@ -145,7 +145,12 @@ fn memo_in(choice: Choice) -> Option<Memo>
 }
 
 /// The state with this heap and these contents, in which nothing is held. They are recorded.
-fn state_from(alloc: Global, program: &Program, memo: Memo, feed: &mut Feed) -> Result<State, Halt>
+fn state_from(
+    alloc: Global,
+    program: &Program,
+    memo: Memo,
+    feed: &mut Feed,
+) -> Result<State, StepHalt>
     ensures { Does state_of (feed_of feed.old)
         (run.noting (event.Whole (memo_of memo)) (run.goes (tree.empty_state (program_of program.now).layout (memo_of memo))))
         (feed_of feed.new) result }
@@ -156,15 +161,19 @@ fn state_from(alloc: Global, program: &Program, memo: Memo, feed: &mut Feed) -> 
 }
 
 /// Takes the next choice, which has to be a heap and contents, and begins with them a state in which nothing is held.
-pub(crate) fn take_state(alloc: Global, program: &Program, feed: &mut Feed) -> Result<State, Halt>
+pub(crate) fn take_state(
+    alloc: Global,
+    program: &Program,
+    feed: &mut Feed,
+) -> Result<State, StepHalt>
     requires choices_fit { All (FitsChoice (program_of program.now).layout) (feed_of feed.old).left }
     ensures { Does state_of (feed_of feed.old) (m.taking_state (program_of program.now) run.goes) (feed_of feed.new) result }
 {
     match feed.take() {
         Some(choice) => match memo_in(choice) {
             Some(memo) => state_from(alloc, program, memo, feed),
-            None => Err(Halt::Stops(Stop::Blocked)),
+            None => Err(StepHalt::Stops(StepStop::Blocked)),
         },
-        None => Err(Halt::Stops(Stop::Short)),
+        None => Err(StepHalt::Stops(StepStop::Short)),
     }
 }

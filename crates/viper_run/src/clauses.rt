@@ -15,7 +15,7 @@ use std::alloc::Global;
 use vb_value::Frac;
 use viper_core::Assertion;
 use viper_eval::SceneRef;
-use viper_inhale::{Halt, consume_in, forget_in, produce_in};
+use viper_inhale::{StepHalt, consume_in, forget_in, produce_in};
 use viper_state::{Feed, State, copy_state};
 
 /// Produces clauses, one after the other.
@@ -25,7 +25,7 @@ pub(crate) fn produce_all(
     scene: SceneRef,
     state: &mut State,
     feed: &mut Feed,
-) -> Result<(), Halt>
+) -> Result<(), StepHalt>
     requires clauses_within { All IsWithinAssertion (assertions_of clauses.now) }
     requires state_within { IsWithinState (state_of state.old) }
     requires scene_within { IsWithinScene (lent scene) }
@@ -47,7 +47,7 @@ pub fn consume_all(
     scene: SceneRef,
     left: &mut State,
     feed: &mut Feed,
-) -> Result<(), Halt>
+) -> Result<(), StepHalt>
     requires clauses_within { All IsWithinAssertion (assertions_of clauses.now) }
     requires start_within { IsWithinState (state_of start.now) }
     requires scene_within { IsWithinScene (lent scene) }
@@ -68,7 +68,7 @@ pub(crate) fn give_up(
     scene: SceneRef,
     left: &mut State,
     feed: &mut Feed,
-) -> Result<(), Halt>
+) -> Result<(), StepHalt>
     requires clauses_within { All IsWithinAssertion (assertions_of clauses.now) }
     requires start_within { IsWithinState (state_of start.now) }
     requires scene_within { IsWithinScene (lent scene) }
@@ -88,7 +88,7 @@ pub(crate) fn exhale_all(
     scene: SceneRef,
     state: &mut State,
     feed: &mut Feed,
-) -> Result<(), Halt>
+) -> Result<(), StepHalt>
     requires clauses_within { All IsWithinAssertion (assertions_of clauses.now) }
     requires state_within { IsWithinState (state_of state.old) }
     requires scene_within { IsWithinScene (lent scene) }

@@ -16,7 +16,7 @@ use crate::clauses::{consume_all, exhale_all, produce_all};
 use std::alloc::Global;
 use viper_core::Loop;
 use viper_eval::{assumed, truth_of};
-use viper_inhale::{Halt, Stop};
+use viper_inhale::{StepHalt, StepStop};
 use viper_state::{Feed, copy_state};
 
 /// The invariant is given up, and the loop targets take any values.
@@ -26,7 +26,7 @@ pub(crate) fn enter_loop(
     turns: &Loop,
     configuration: &mut Configuration,
     feed: &mut Feed,
-) -> Result<(), Halt>
+) -> Result<(), StepHalt>
     requires invariants_within { All IsWithinAssertion (assertions_of turns.now.invariants.items) }
     requires ready { IsReady (activation_of activation) (configuration_of configuration.old) (feed_of feed.old) }
     ensures { Does (λ _. configuration_of configuration.new) (feed_of feed.old)
@@ -54,7 +54,7 @@ pub(crate) fn assume_guard(
     wanted: bool,
     configuration: &mut Configuration,
     feed: &mut Feed,
-) -> Result<(), Halt>
+) -> Result<(), StepHalt>
     requires guard_within { IsWithinExpr (expr_of turns.now.guard) }
     requires invariants_within { All IsWithinAssertion (assertions_of turns.now.invariants.items) }
     requires ready { IsReady (activation_of activation) (configuration_of configuration.old) (feed_of feed.old) }
@@ -81,7 +81,7 @@ pub(crate) fn begin_turn(
     turns: &Loop,
     configuration: &mut Configuration,
     feed: &mut Feed,
-) -> Result<(), Halt>
+) -> Result<(), StepHalt>
     requires guard_within { IsWithinExpr (expr_of turns.now.guard) }
     requires invariants_within { All IsWithinAssertion (assertions_of turns.now.invariants.items) }
     requires ready { IsReady (activation_of activation) (configuration_of configuration.old) (feed_of feed.old) }
@@ -100,7 +100,7 @@ pub(crate) fn end_turn(
     turns: &Loop,
     configuration: &Configuration,
     feed: &mut Feed,
-) -> Result<(), Halt>
+) -> Result<(), StepHalt>
     requires invariants_within { All IsWithinAssertion (assertions_of turns.now.invariants.items) }
     requires ready { IsReady (activation_of activation) (configuration_of configuration.now) (feed_of feed.old) }
     ensures { Does (λ _. configuration_of configuration.now) (feed_of feed.old)
@@ -118,5 +118,5 @@ pub(crate) fn end_turn(
         &mut left,
         feed,
     )?;
-    Err(Halt::Stops(Stop::Blocked))
+    Err(StepHalt::Stops(StepStop::Blocked))
 }

@@ -15,12 +15,12 @@ use sparse::Sparse;
 use vb_base::{Kind, Pos};
 use vb_value::{Frac, Ty, Value};
 use viper_core::Expr;
-use viper_eval::{Halt, SceneRef, Stop, failure, found};
+use viper_eval::{EvalHalt, EvalStop, SceneRef, failure, found};
 use viper_state::{Feed, State};
 
 /// A field of what an expression is, `e.f`, and where its name stands.
 #[derive(Clone, Copy)]
-pub(crate) struct FieldPlace<'a> {
+pub(crate) struct AssignedField<'a> {
     pub receiver: &'a Expr,
     pub field: u32,
     pub at: Pos,
@@ -33,7 +33,7 @@ fn hold_whole(
     field: u32,
     at: Pos,
     reference: u64,
-) -> Result<(), Stop>
+) -> Result<(), EvalStop>
     ensures { ended result ≡ held_whole (lent scene.entry) (state_of state.now) field at reference }
 {
     if reference == 0 {
@@ -53,7 +53,7 @@ pub(crate) fn write_field(
     at: Pos,
     reference: u64,
     value: Value,
-) -> Result<(), Halt>
+) -> Result<(), EvalHalt>
     ensures { Answers (λ _. state_of state.new) []
         (m.field_written (lent scene.entry) (state_of state.old) field at reference value) [] result }
 {
@@ -151,7 +151,7 @@ fn create_field(
     field: u32,
     state: &mut State,
     feed: &mut Feed,
-) -> Result<(), viper_inhale::Halt>
+) -> Result<(), viper_inhale::StepHalt>
     ensures { Does (λ _. state_of state.new) (feed_of feed.old)
         (m.created types.now reference (field ∷ []) (state_of state.old)) (feed_of feed.new) result }
 {
@@ -168,7 +168,7 @@ pub(crate) fn create(
     fields: &[u32],
     state: &mut State,
     feed: &mut Feed,
-) -> Result<(), viper_inhale::Halt>
+) -> Result<(), viper_inhale::StepHalt>
     ensures { Does (λ _. state_of state.new) (feed_of feed.old)
         (m.created types.now reference fields.now (state_of state.old)) (feed_of feed.new) result }
 {

@@ -13,13 +13,13 @@ use crate::activations::{Activation, Configuration};
 use crate::calling::Invocation;
 use crate::choices::take_branch;
 use crate::loops::{assume_guard, begin_turn, end_turn, enter_loop};
-use crate::objects::FieldPlace;
+use crate::objects::AssignedField;
 use crate::steps;
 use std::alloc::Global;
 use vb_base::Pos;
 use viper_core::{Expr, Loop, Stmt};
 use viper_eval::truth_of;
-use viper_inhale::Halt;
+use viper_inhale::StepHalt;
 use viper_state::Feed;
 
 /// The two blocks of an `if`.
@@ -37,7 +37,7 @@ pub fn run_stmt(
     stmt: &Stmt,
     configuration: &mut Configuration,
     feed: &mut Feed,
-) -> Result<(), Halt>
+) -> Result<(), StepHalt>
     requires stmt_within { IsWithinStmt (stmt_of stmt.now) }
     requires ready { IsReady (activation_of activation) (configuration_of configuration.old) (feed_of feed.old) }
     ensures { Does (λ _. configuration_of configuration.new) (feed_of feed.old)
@@ -49,7 +49,7 @@ pub fn run_stmt(
         }
         Stmt::Assign(at, x, e) => steps::assign(alloc, activation, *at, *x, e, configuration, feed),
         Stmt::Write(at, receiver, field, name, d) => {
-            let place = FieldPlace {
+            let place = AssignedField {
                 receiver,
                 field: *field,
                 at: *name,
@@ -95,7 +95,7 @@ fn run_if(
     blocks: Blocks,
     configuration: &mut Configuration,
     feed: &mut Feed,
-) -> Result<(), Halt>
+) -> Result<(), StepHalt>
     requires if_within { IsWithinStmt (s.If at (expr_of e.now) (stmts_of blocks.first.now) (stmts_of blocks.second.now)) }
     requires ready { IsReady (activation_of activation) (configuration_of configuration.old) (feed_of feed.old) }
     ensures { Does (λ _. configuration_of configuration.new) (feed_of feed.old)
@@ -118,7 +118,7 @@ pub(crate) fn run_block(
     stmts: &[Stmt],
     configuration: &mut Configuration,
     feed: &mut Feed,
-) -> Result<(), Halt>
+) -> Result<(), StepHalt>
     requires stmts_within { AreWithinStmts (stmts_of stmts.now) }
     requires ready { IsReady (activation_of activation) (configuration_of configuration.old) (feed_of feed.old) }
     ensures { Does (λ _. configuration_of configuration.new) (feed_of feed.old)
@@ -138,7 +138,7 @@ fn run_loop(
     turns: &Loop,
     configuration: &mut Configuration,
     feed: &mut Feed,
-) -> Result<(), Halt>
+) -> Result<(), StepHalt>
     requires turns_within { IsWithinStmt (s.While (loop_of turns.now)) }
     requires ready { IsReady (activation_of activation) (configuration_of configuration.old) (feed_of feed.old) }
     ensures { Does (λ _. configuration_of configuration.new) (feed_of feed.old)
@@ -160,7 +160,7 @@ fn run_turn(
     turns: &Loop,
     configuration: &mut Configuration,
     feed: &mut Feed,
-) -> Result<(), Halt>
+) -> Result<(), StepHalt>
     requires turns_within { IsWithinStmt (s.While (loop_of turns.now)) }
     requires ready { IsReady (activation_of activation) (configuration_of configuration.old) (feed_of feed.old) }
     ensures { Does (λ _. configuration_of configuration.new) (feed_of feed.old)

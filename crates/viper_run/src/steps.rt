@@ -16,14 +16,14 @@ ghost use Rattle.viper_run.specs.View.{activation_of, configuration_of};
 use crate::activations::{Activation, Configuration};
 use crate::calling::{self, Called, Invocation};
 use crate::choices::{take_fresh, take_value_of};
-use crate::objects::{FieldPlace, create, is_fresh, write_field};
+use crate::objects::{AssignedField, create, is_fresh, write_field};
 use std::alloc::Global;
 use vb_base::Pos;
 use vb_value::{Frac, Value};
 use viper_core::{Assertion, Expr, FoldStmt};
 use viper_eval::{assumed, eval_all, eval_in, found, reference_of};
 use viper_fold::{fold_in, unfold_in};
-use viper_inhale::{Halt, consume_in, forget_in, produce_in};
+use viper_inhale::{StepHalt, consume_in, forget_in, produce_in};
 use viper_state::{Feed, copy_state};
 
 /// `var x: T`
@@ -32,7 +32,7 @@ pub(crate) fn declare(
     variable: u32,
     configuration: &mut Configuration,
     feed: &mut Feed,
-) -> Result<(), Halt>
+) -> Result<(), StepHalt>
     ensures { (at : Place) → Does (λ _. configuration_of configuration.new) (feed_of feed.old)
         (m.run_stmt Bounded (activation_of activation.entry) (s.Var at variable None) (configuration_of configuration.old))
         (feed_of feed.new) result }
@@ -51,7 +51,7 @@ pub(crate) fn assign(
     e: &Expr,
     configuration: &mut Configuration,
     feed: &mut Feed,
-) -> Result<(), Halt>
+) -> Result<(), StepHalt>
     requires e_within { IsWithinExpr (expr_of e.now) }
     requires ready { IsReady (activation_of activation) (configuration_of configuration.old) (feed_of feed.old) }
     ensures { Does (λ _. configuration_of configuration.new) (feed_of feed.old)
@@ -73,7 +73,7 @@ pub(crate) fn declare_variable(
     init: &Option<Expr>,
     configuration: &mut Configuration,
     feed: &mut Feed,
-) -> Result<(), Halt>
+) -> Result<(), StepHalt>
     requires init_within { IsWithinStmt (s.Var at variable (option_map expr_of init.now)) }
     requires ready { IsReady (activation_of activation) (configuration_of configuration.old) (feed_of feed.old) }
     ensures { Does (λ _. configuration_of configuration.new) (feed_of feed.old)
@@ -91,11 +91,11 @@ pub(crate) fn write(
     alloc: Global,
     activation: Activation,
     at: Pos,
-    place: FieldPlace,
+    place: AssignedField,
     d: &Expr,
     configuration: &mut Configuration,
     feed: &mut Feed,
-) -> Result<(), Halt>
+) -> Result<(), StepHalt>
     requires receiver_within { IsWithinExpr (expr_of place.receiver.now) }
     requires d_within { IsWithinExpr (expr_of d.now) }
     requires ready { IsReady (activation_of activation) (configuration_of configuration.old) (feed_of feed.old) }
@@ -124,7 +124,7 @@ pub(crate) fn make_new(
     refs: &[u32],
     configuration: &mut Configuration,
     feed: &mut Feed,
-) -> Result<(), Halt>
+) -> Result<(), StepHalt>
     ensures { (at : Place) → Does (λ _. configuration_of configuration.new) (feed_of feed.old)
         (m.run_stmt Bounded (activation_of activation.entry) (s.New at variable fields.now refs.now) (configuration_of configuration.old))
         (feed_of feed.new) result }
@@ -152,7 +152,7 @@ pub(crate) fn call(
     invocation: Invocation,
     configuration: &mut Configuration,
     feed: &mut Feed,
-) -> Result<(), Halt>
+) -> Result<(), StepHalt>
     requires args_within { AreWithinExprs (exprs_of invocation.args.now) }
     requires ready { IsReady (activation_of activation) (configuration_of configuration.old) (feed_of feed.old) }
     ensures { Does (λ _. configuration_of configuration.new) (feed_of feed.old)
@@ -179,7 +179,7 @@ pub(crate) fn inhale(
     a: &Assertion,
     configuration: &mut Configuration,
     feed: &mut Feed,
-) -> Result<(), Halt>
+) -> Result<(), StepHalt>
     requires a_within { IsWithinAssertion (assertion_of a.now) }
     requires ready { IsReady (activation_of activation) (configuration_of configuration.old) (feed_of feed.old) }
     ensures { Does (λ _. configuration_of configuration.new) (feed_of feed.old)
@@ -205,7 +205,7 @@ pub(crate) fn exhale(
     a: &Assertion,
     configuration: &mut Configuration,
     feed: &mut Feed,
-) -> Result<(), Halt>
+) -> Result<(), StepHalt>
     requires a_within { IsWithinAssertion (assertion_of a.now) }
     requires ready { IsReady (activation_of activation) (configuration_of configuration.old) (feed_of feed.old) }
     ensures { Does (λ _. configuration_of configuration.new) (feed_of feed.old)
@@ -234,7 +234,7 @@ pub(crate) fn check(
     a: &Assertion,
     configuration: &Configuration,
     feed: &mut Feed,
-) -> Result<(), Halt>
+) -> Result<(), StepHalt>
     requires a_within { IsWithinAssertion (assertion_of a.now) }
     requires ready { IsReady (activation_of activation) (configuration_of configuration.now) (feed_of feed.old) }
     ensures { Does (λ _. configuration_of configuration.now) (feed_of feed.old)
@@ -261,7 +261,7 @@ pub(crate) fn fold(
     instance: &FoldStmt,
     configuration: &mut Configuration,
     feed: &mut Feed,
-) -> Result<(), Halt>
+) -> Result<(), StepHalt>
     requires args_within { AreWithinExprs (fold_of instance.now).args }
     requires amount_within { IsWithinExpr (fold_of instance.now).amount }
     requires ready { IsReady (activation_of activation) (configuration_of configuration.old) (feed_of feed.old) }
@@ -287,7 +287,7 @@ pub(crate) fn unfold(
     instance: &FoldStmt,
     configuration: &mut Configuration,
     feed: &mut Feed,
-) -> Result<(), Halt>
+) -> Result<(), StepHalt>
     requires args_within { AreWithinExprs (fold_of instance.now).args }
     requires amount_within { IsWithinExpr (fold_of instance.now).amount }
     requires ready { IsReady (activation_of activation) (configuration_of configuration.old) (feed_of feed.old) }

@@ -15,8 +15,8 @@ ghost use Rattle.viper_meaning.specs.Statements as m;
 ghost use Rattle.viper_meaning.specs.Units as u;
 ghost use Rattle.viper_meaning.specs.Units.{Opens, unit_run};
 ghost use Rattle.viper_inhale.specs.Answers.{Does, stopped};
-ghost use Rattle.viper_inhale.specs.declared.answers.Stop.{Stop as End};
-ghost use Rattle.viper_inhale.specs.declared.answers.Halt.TheVariants as ended;
+ghost use Rattle.viper_inhale.specs.declared.answers.StepStop.{StepStop};
+ghost use Rattle.viper_inhale.specs.declared.answers.StepHalt.TheVariants as ended;
 ghost use Rattle.viper_run.specs.Outcome.{Ends, outcome_of};
 ghost use Rattle.viper_run.specs.Ready.{CanBegin, IsReady};
 ghost use Rattle.viper_run.specs.Steps.{method_begun};
@@ -31,7 +31,7 @@ use vb_base::Memory;
 use vb_value::{Frac, Value};
 use viper_core::{Assertion, Body, Method, Predicate, Program, Unit};
 use viper_eval::{SceneRef, found};
-use viper_inhale::{Halt, Stop, produce_in};
+use viper_inhale::{StepHalt, StepStop, produce_in};
 use viper_state::{Choice, Event, Feed, Opening, Outcome, State, copy_state, empty_state};
 
 /// The values of the variables at the start: those given, and defaults for the others.
@@ -53,7 +53,7 @@ fn check_postcondition(
     method: &Method,
     configuration: &Configuration,
     feed: &mut Feed,
-) -> Result<(), Halt>
+) -> Result<(), StepHalt>
     requires method_within { IsWithinMethod (method_of method.now) }
     requires ready { IsReady (activation_of activation) (configuration_of configuration.now) (feed_of feed.old) }
     ensures { Does (λ _. state_of configuration.now.state) (feed_of feed.old)
@@ -63,7 +63,7 @@ fn check_postcondition(
     let mut any = take_state(alloc, activation.program, feed)?;
     let scene = activation.scene(&configuration.store, method.name_at);
     produce_all(alloc, &method.postconditions, scene, &mut any, feed)?;
-    Err(Halt::Stops(Stop::Blocked))
+    Err(StepHalt::Stops(StepStop::Blocked))
 }
 
 /// The end of a method's body: the postcondition is consumed.
@@ -74,7 +74,7 @@ fn end_body(
     body: &Body,
     configuration: &mut Configuration,
     feed: &mut Feed,
-) -> Result<(), Halt>
+) -> Result<(), StepHalt>
     requires method_within { IsWithinMethod (method_of method.now) }
     requires ready { IsReady (activation_of activation) (configuration_of configuration.old) (feed_of feed.old) }
     ensures { Does (λ _. state_of configuration.new.state) (feed_of feed.old)
@@ -102,7 +102,7 @@ fn run_body(
     body: &Body,
     configuration: &mut Configuration,
     feed: &mut Feed,
-) -> Result<(), Halt>
+) -> Result<(), StepHalt>
     requires method_within { IsWithinMethod (method_of method.now) }
     requires body_within { AllBodyLiterals IsWithin IsWithinFraction (body_of body.now) }
     requires ready { IsReady (activation_of activation) (configuration_of configuration.old) (feed_of feed.old) }
@@ -121,7 +121,7 @@ fn run_method(
     method: &Method,
     configuration: &mut Configuration,
     feed: &mut Feed,
-) -> Result<(), Halt>
+) -> Result<(), StepHalt>
     requires method_within { IsWithinMethod (method_of method.now) }
     requires ready { IsReady (activation_of activation) (configuration_of configuration.old) (feed_of feed.old) }
     ensures { Does (λ _. state_of configuration.new.state) (feed_of feed.old)
@@ -147,7 +147,7 @@ pub fn begin_method(
     method: &Method,
     opening: &Opening,
     feed: &mut Feed,
-) -> Result<Configuration, Halt>
+) -> Result<Configuration, StepHalt>
     requires method_within { IsWithinMethod (method_of method.now) }
     requires begin { CanBegin (program_of program.now) (opening_of opening.now) (feed_of feed.old) }
     ensures { Does configuration_of (feed_of feed.old)
@@ -172,7 +172,7 @@ fn start_method(
     method: &Method,
     opening: &Opening,
     feed: &mut Feed,
-) -> Result<State, Halt>
+) -> Result<State, StepHalt>
     requires method_within { IsWithinMethod (method_of method.now) }
     requires program_within { IsWithinProgram (program_of program.now) }
     requires begin { CanBegin (program_of program.now) (opening_of opening.now) (feed_of feed.old) }
@@ -198,7 +198,7 @@ fn start_predicate(
     body: &Assertion,
     opening: &Opening,
     feed: &mut Feed,
-) -> Result<State, Halt>
+) -> Result<State, StepHalt>
     requires body_within { IsWithinAssertion (assertion_of body.now) }
     requires begin { CanBegin (program_of program.now) (opening_of opening.now) (feed_of feed.old) }
     ensures { Does state_of (feed_of feed.old)
@@ -222,7 +222,7 @@ fn run_predicate(
     number: u32,
     opening: &Opening,
     feed: &mut Feed,
-) -> Result<State, Halt>
+) -> Result<State, StepHalt>
     requires program_within { IsWithinProgram (program_of program.now) }
     requires begin { CanBegin (program_of program.now) (opening_of opening.now) (feed_of feed.old) }
     ensures { Does state_of (feed_of feed.old)
@@ -240,7 +240,7 @@ fn run_numbered(
     number: u32,
     opening: &Opening,
     feed: &mut Feed,
-) -> Result<State, Halt>
+) -> Result<State, StepHalt>
     requires program_within { IsWithinProgram (program_of program.now) }
     requires begin { CanBegin (program_of program.now) (opening_of opening.now) (feed_of feed.old) }
     ensures { Does state_of (feed_of feed.old)
@@ -257,7 +257,7 @@ fn run_of(
     number: u32,
     opening: &Opening,
     feed: &mut Feed,
-) -> Result<State, Halt>
+) -> Result<State, StepHalt>
     requires program_within { IsWithinProgram (program_of program.now) }
     requires begin { CanBegin (program_of program.now) (opening_of opening.now) (feed_of feed.old) }
     ensures { Does state_of (feed_of feed.old)
@@ -282,16 +282,16 @@ pub struct Run {
 }
 
 /// The outcome of an end after which nothing goes on, if not for want of memory.
-fn outcome(halt: Halt) -> Result<Outcome, Memory>
-    ensures stops { (w : End) → halt ≡ ended.Stops w → result ≡ Ok (outcome_of (stopped {X = ⊤} w)) }
+fn outcome(halt: StepHalt) -> Result<Outcome, Memory>
+    ensures stops { (w : StepStop) → halt ≡ ended.Stops w → result ≡ Ok (outcome_of (stopped {X = ⊤} w)) }
     ensures memory { halt ≡ ended.Memory → IsErr result }
 {
     match halt {
-        Halt::Stops(Stop::Fails(label)) => Ok(Outcome::Failed(label)),
-        Halt::Stops(Stop::Blocked) => Ok(Outcome::Blocked),
-        Halt::Stops(Stop::Short) => Ok(Outcome::Short),
-        Halt::Stops(Stop::Over(at)) => Ok(Outcome::Over(at)),
-        Halt::Memory => Err(Memory),
+        StepHalt::Stops(StepStop::Fails(label)) => Ok(Outcome::Failed(label)),
+        StepHalt::Stops(StepStop::Blocked) => Ok(Outcome::Blocked),
+        StepHalt::Stops(StepStop::Short) => Ok(Outcome::Short),
+        StepHalt::Stops(StepStop::Over(at)) => Ok(Outcome::Over(at)),
+        StepHalt::Memory => Err(Memory),
     }
 }
 

@@ -12,13 +12,13 @@ use Rattle.viper_scope.specs.declared.context.PredicateSignature.{PredicateSigna
 use Rattle.viper_scope.specs.declared.context.MethodTypes.{MethodTypes}
 use Rattle.viper_scope.specs.declared.context.World as world
 use Rattle.viper_scope.specs.declared.context.Context as context
-use Rattle.viper_scope.specs.declared.context.Part.{Part}
+use Rattle.viper_scope.specs.declared.context.UnitPart.{UnitPart}
 use Rattle.viper_scope.specs.declared.rules.RuleFault.{RuleFault}
 use Rattle.viper_scope.specs.declared.rules.RuleFault.TheVariants as fault
 use Rattle.viper_scope.specs.Arguments.{Typing}
 use Rattle.viper_scope.specs.Outcome.{Judged, Found, Broken}
 use Rattle.viper_scope.specs.Context.{Signature, MethodSignature, World, Context}
-use Rattle.viper_scope.specs.Scope.{Scope}
+use Rattle.viper_scope.specs.Scope.{VariableScope}
 
 abbrev pub Refuses : {X : Type 0} → Judged X → RuleFault → Type 0
 Refuses j fault.Memory = Unit {0}
@@ -68,5 +68,5 @@ context_of c = record {
 }
 
 -- a part of a unit, with a scope behind a reference
-abbrev pub seen_of : Part × Bor Scope → Part × Scope
+abbrev pub seen_of : UnitPart × Bor VariableScope → UnitPart × VariableScope
 seen_of s = (s.0, s.1.now)

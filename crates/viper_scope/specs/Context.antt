@@ -6,8 +6,8 @@ use Rattle.std.specs.Cmp.Lexicographic.{pointwise}
 use Rattle.vb_base.specs.declared.places.Pos.{Pos}
 use Rattle.vb_value.specs.declared.values.Ty.{Ty}
 use Rattle.viper_core.specs.Expr.{Assertion, Fact, Bool as Truth}
-use Rattle.viper_scope.specs.declared.context.Part.{Part}
-use Rattle.viper_scope.specs.declared.context.Part.TheVariants.{Body, Precondition, Elsewhere}
+use Rattle.viper_scope.specs.declared.context.UnitPart.{UnitPart}
+use Rattle.viper_scope.specs.declared.context.UnitPart.TheVariants.{Body, Precondition, Elsewhere}
 use Rattle.viper_scope.specs.declared.context.Role.{Role}
 use Rattle.viper_scope.specs.declared.context.Role.TheVariants as role
 
@@ -32,7 +32,7 @@ pub record World : Type 0 where
 pub record Context : Type 0 where
   pub world : World
   pub bodies : List (Option Assertion)
-  pub part : Part
+  pub part : UnitPart
 
 -- what a name stands for in a table: the first entry of the name
 abbrev pub find : {X : Type 0} → List (List ℕ × X) → List ℕ → Option X
@@ -71,18 +71,18 @@ abbrev pub method_at : World → List ℕ → Option (ℕ × MethodSignature)
 method_at w x = method_in w.methods (find w.roles x)
 
 -- `old` stands anywhere but in a predicate's body and a `requires` clause
-abbrev pub allows_old : Part → Bool
+abbrev pub allows_old : UnitPart → Bool
 allows_old Body = false
 allows_old Precondition = false
 allows_old Elsewhere = true
 
-abbrev pub is_precondition : Part → Bool
+abbrev pub is_precondition : UnitPart → Bool
 is_precondition Body = false
 is_precondition Precondition = true
 is_precondition Elsewhere = false
 
 -- `wildcard` and `unfolding` stand anywhere but in a predicate's body
-abbrev pub allows_permission_forms : Part → Bool
+abbrev pub allows_permission_forms : UnitPart → Bool
 allows_permission_forms Body = false
 allows_permission_forms Precondition = true
 allows_permission_forms Elsewhere = true

@@ -4,7 +4,7 @@ ghost use Rattle.std.specs.Option.{option_map};
 ghost use Rattle.viper_scope.specs.Answers.{world_of, numbered_signature_of, numbered_method_of};
 ghost use Rattle.viper_scope.specs.Context as c;
 
-use crate::names::Names;
+use crate::names::DeclaredNames;
 use vb_base::Ident;
 use vb_value::Ty;
 use viper_core::Assertion;
@@ -19,7 +19,7 @@ pub enum Role {
 
 /// The part of a unit that a term stands in.
 #[derive(Clone, Copy)]
-pub enum Part {
+pub enum UnitPart {
     /// The body of a predicate.
     Body,
     /// A `requires` clause.
@@ -53,7 +53,7 @@ pub struct MethodTypes {
 /// The declarations of a file.
 #[derive(Drop)]
 pub struct World {
-    pub roles: Names<Role>,
+    pub roles: DeclaredNames<Role>,
     pub fields: Vec<Ty>,
     pub predicates: Vec<PredicateSignature>,
     pub methods: Vec<MethodTypes>,
@@ -65,16 +65,16 @@ pub struct World {
 pub struct Context<'a> {
     pub world: &'a World,
     pub bodies: &'a [Option<Assertion>],
-    pub part: Part,
+    pub part: UnitPart,
     pub lists: bool,
 }
 
-impl Part {
+impl UnitPart {
     /// Whether this is a `requires` clause.
     pub fn is_precondition(self) -> bool
         ensures { result ≡ c.is_precondition self }
     {
-        matches!(self, Part::Precondition)
+        matches!(self, UnitPart::Precondition)
     }
 }
 

@@ -15,10 +15,10 @@ mod world;
 
 pub use arguments::{as_many, exprs_in, fitted, misfit, start};
 pub use clauses::seen;
-pub use context::{Context, MethodTypes, Part, PredicateSignature, Role, Variable, World};
+pub use context::{Context, MethodTypes, PredicateSignature, Role, UnitPart, Variable, World};
 pub use loops::targets;
-pub use names::Names;
+pub use names::DeclaredNames;
 pub use rules::{Rule, RuleFault};
-pub use scope::{Extent, Scope};
+pub use scope::{Extent, VariableScope};
 pub use types::{declared_type, type_of};
 pub use world::{naming, next_number, types_in};

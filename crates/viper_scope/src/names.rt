@@ -10,11 +10,11 @@ use vb_base::{Ident, Memory};
 
 /// What names stand for, in the order in which they were declared. Contracts see the list of both.
 #[derive(Drop)]
-pub struct Names<V> {
+pub struct DeclaredNames<V> {
     entries: IndexMap<Ident, V, NameKey>,
 }
 
-impl<V> Model for Names<V> {
+impl<V> Model for DeclaredNames<V> {
     ghost use Rattle.std.specs.Prelude.{ℕ, List};
 
     ghost Value = { List (List ℕ × V) };
@@ -22,12 +22,12 @@ impl<V> Model for Names<V> {
     ghost view = { λ names. names.entries.entries };
 }
 
-impl<V: Copy + Drop> Names<V> {
+impl<V: Copy + Drop> DeclaredNames<V> {
     /// No names, which are hashed by this key.
-    pub fn new(alloc: Global, key: NameKey) -> Names<V>
+    pub fn new(alloc: Global, key: NameKey) -> DeclaredNames<V>
         ensures { result ≡ [] }
     {
-        Names {
+        DeclaredNames {
             entries: IndexMap::with_hasher(alloc, key),
         }
     }

@@ -4,7 +4,7 @@ ghost use Rattle.viper_scope.specs.Context.{find};
 ghost use Rattle.viper_scope.specs.Scope.{ref_variables};
 
 use crate::context::Variable;
-use crate::names::Names;
+use crate::names::DeclaredNames;
 use std::alloc::Global;
 use std::marker::Model;
 use symbol_table::NameKey;
@@ -13,8 +13,8 @@ use vb_value::Ty;
 
 /// The variables that a term sees, with their names, in the order in which they were declared. Contracts see the list of both.
 #[derive(Drop)]
-pub struct Scope {
-    names: Names<Variable>,
+pub struct VariableScope {
+    names: DeclaredNames<Variable>,
     /// The numbers of the Ref variables, so that a `new` need not look for them.
     refs: Vec<u32>,
 }
@@ -26,7 +26,7 @@ pub struct Extent {
     pub refs: usize,
 }
 
-impl Model for Scope {
+impl Model for VariableScope {
     ghost use Rattle.std.specs.Prelude.{◌≡◌, ℕ, List};
     ghost use Rattle.viper_scope.specs.declared.context.Variable.{Variable};
 
@@ -39,13 +39,13 @@ impl Model for Scope {
     ghost invariant = { λ s. s.refs.items ≡ ref_variables s.names };
 }
 
-impl Scope {
+impl VariableScope {
     /// No variables. Their names are hashed by this key.
-    pub fn new(alloc: Global, key: NameKey) -> Scope
+    pub fn new(alloc: Global, key: NameKey) -> VariableScope
         ensures { result ≡ [] }
     {
-        Scope {
-            names: Names::new(alloc, key),
+        VariableScope {
+            names: DeclaredNames::new(alloc, key),
             refs: Vec::new(alloc),
         }
     }

@@ -11,7 +11,7 @@ ghost use Rattle.viper_scope.specs.Types as f;
 
 use crate::context::{MethodTypes, PredicateSignature, Role, World};
 use crate::keys::key_of;
-use crate::names::Names;
+use crate::names::DeclaredNames;
 use crate::rules::{Rule, RuleFault};
 use crate::types::declared_type;
 use std::alloc::Global;
@@ -55,7 +55,7 @@ impl World {
         ensures { world_of result ≡ j.no_world }
     {
         World {
-            roles: Names::new(alloc, key),
+            roles: DeclaredNames::new(alloc, key),
             fields: Vec::new(alloc),
             predicates: Vec::new(alloc),
             methods: Vec::new(alloc),

@@ -10,14 +10,14 @@ ghost use Rattle.viper_state.specs.View.{choice_of, feed_of, scene_of, state_of}
 ghost use Rattle.viper_state.specs.Within.{IsWithinChoice, IsWithinFeed, IsWithinScene, IsWithinState};
 
 use crate::told::{stepped, with_choices};
+use row_columns::{first_other, four, other_than, two};
 use std::alloc::Global;
 use std::test::Fail;
-use test_rows::{first_other, four, other_than, two};
-use test_viper::files::{first_stmt, program};
-use test_viper::scenes::{is_changed, scene, state_of};
-use test_viper::words::fraction;
 use vb_value::{Frac, Value};
 use viper_core::{Assertion, Program, Stmt};
+use viper_fixtures::files::{first_stmt, program};
+use viper_fixtures::scenes::{is_changed, scene, state_of};
+use viper_fixtures::words::fraction;
 use viper_inhale::{Step, consume, forget, produce};
 use viper_state::{Choice, Event, Feed, Memo, Scene, State};
 
@@ -100,7 +100,7 @@ forget ; true ; 1/1 ;  ; #1.f=5 ;  ;  ; short, 0 left";
 
 /// The columns of a row.
 #[derive(Clone, Copy)]
-struct Row<'a> {
+struct AssertionRow<'a> {
     call: &'a str,
     assertion: &'a str,
     scale: &'a str,
@@ -111,11 +111,11 @@ struct Row<'a> {
     want: &'a str,
 }
 
-fn row_of(row: &str) -> Result<Row<'_>, Fail> {
+fn row_of(row: &str) -> Result<AssertionRow<'_>, Fail> {
     let (call, assertion, scale, rest) = four(row)?;
     let (variables, before, choices, rest) = four(rest)?;
     let (other, want) = two(rest)?;
-    Ok(Row {
+    Ok(AssertionRow {
         call,
         assertion,
         scale,
@@ -189,7 +189,7 @@ fn scale(text: &str) -> Result<Frac, Fail>
 fn ending(
     alloc: Global,
     assertion: &Assertion,
-    row: &Row,
+    row: &AssertionRow,
     state: &mut State,
     scene: &Scene,
     scale: Frac,
@@ -216,7 +216,7 @@ fn ending(
 fn ending_in(
     alloc: Global,
     assertion: &Assertion,
-    row: &Row,
+    row: &AssertionRow,
     state: &mut State,
     feed: &mut Feed,
 ) -> Result<Step, Fail>
@@ -246,7 +246,7 @@ fn knows_greatest(state: &State) -> bool {
 fn told_in(
     alloc: Global,
     assertion: &Assertion,
-    row: &Row,
+    row: &AssertionRow,
     state: &mut State,
     feed: &mut Feed,
 ) -> Result<String, Fail>
@@ -265,7 +265,7 @@ fn told_in(
 }
 
 /// The same in the state of the row, with its choices.
-fn told(alloc: Global, assertion: &Assertion, row: &Row) -> Result<String, Fail>
+fn told(alloc: Global, assertion: &Assertion, row: &AssertionRow) -> Result<String, Fail>
     requires { IsWithinAssertion (assertion_of assertion.now) }
 {
     let mut feed = feed(alloc, row.choices)?;
@@ -274,7 +274,7 @@ fn told(alloc: Global, assertion: &Assertion, row: &Row) -> Result<String, Fail>
 }
 
 /// The same of the assertion of a program.
-fn told_of(alloc: Global, program: &Program, row: &Row) -> Result<String, Fail>
+fn told_of(alloc: Global, program: &Program, row: &AssertionRow) -> Result<String, Fail>
     requires { IsFormed (program_of program.now) }
 {
     match first_stmt(program) {

@@ -1,4 +1,4 @@
-//! Tests of public calls of Viper's side, for what no clause and no row of `vb_rows` says: tokens, and what assertions do to a
+//! Tests of public calls of Viper's side, for what no clause and no row of `row_tests` says: tokens, and what assertions do to a
 //! state, with the events of a run. A table is one string, a row a line.
 #![tactic(auto)]
 

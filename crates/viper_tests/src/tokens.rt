@@ -1,10 +1,10 @@
 // The tokens of texts: each row is a text and its tokens, each with its place. A name stands in `<` and `>`, and a number
 // behind `#`. In a text `~` ends a line, and `` ` ``, `^` and `@` are the bytes 9, 13 and 255.
+use row_columns::{first_other, other_than, parts};
 use std::alloc::Global;
 use std::mem::size_of;
 use std::str;
 use std::test::Fail;
-use test_rows::{first_other, other_than, parts};
 use vb_base::Ident;
 use viper_syntax::{SStmt, Term, Tok, Token, lex};
 

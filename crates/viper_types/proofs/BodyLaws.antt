@@ -3,7 +3,7 @@ use Rattle.std.proofs.Common.{◌≡◌, ◌∙◌, ℕ, zero, suc, true, Option
 use Rattle.std.proofs.lemmas.Option.{same_Some}
 use Rattle.viper_core.specs.Expr as e
 use Rattle.viper_syntax.specs.Decl as d
-use Rattle.viper_scope.specs.declared.context.Part.{Part}
+use Rattle.viper_scope.specs.declared.context.UnitPart.{UnitPart}
 use Rattle.viper_scope.specs.declared.context.Role.{Role}
 use Rattle.viper_scope.specs.declared.context.Role.TheVariants as role
 use Rattle.viper_scope.specs.Context.{World, Signature, find, numbered, predicate_in}
@@ -62,7 +62,7 @@ predicate_is ss (Some (role.Field m)) n s h = absurd (cc)
 predicate_is ss (Some (role.Predicate m)) n s h = let is = numbered_is m n s (slice_get ss m) h in subst (λ x. slice_get ss x ≡ Some s) is.0 is.1
 predicate_is ss (Some (role.Method m)) n s h = absurd (cc)
 
-pub has_bodies : (w : World) (ds : List d.Decl) (bodies : List (Option e.Assertion)) (u : Part) → AreNamed no_world ds w →
+pub has_bodies : (w : World) (ds : List d.Decl) (bodies : List (Option e.Assertion)) (u : UnitPart) → AreNamed no_world ds w →
     Bodied (signatures ds) bodies →
     HasBodies (context_in w bodies u)
 has_bodies w ds bodies u h g = record {

@@ -14,14 +14,14 @@ use Rattle.viper_syntax.specs.declared.stmts.Formal.{Formal}
 use Rattle.viper_syntax.specs.declared.tokens.Word.{Word}
 use Rattle.viper_syntax.specs.declared.tokens.Word.TheVariants as word
 use Rattle.viper_scope.specs.declared.rules.Rule.TheVariants as rule
-use Rattle.viper_scope.specs.declared.context.Part.TheVariants as part
+use Rattle.viper_scope.specs.declared.context.UnitPart.TheVariants as part
 use Rattle.viper_scope.specs.Outcome.{Found}
 use Rattle.viper_scope.specs.Context.{World, Context, find}
 use Rattle.viper_types.specs.Copied as k
 use Rattle.viper_types.specs.Copied.{copied, with_formals, copied_by_clauses, copied_by_body, copied_by_method, copied_by_decl, copied_by_decls}
-use Rattle.viper_scope.specs.Scope.{Scope, ref_variables}
+use Rattle.viper_scope.specs.Scope.{VariableScope, ref_variables}
 use Rattle.viper_scope.specs.Types.{type_of, declared_type}
-use Rattle.viper_types.specs.Frame.{Frame, with_variable}
+use Rattle.viper_types.specs.Frame.{MethodVariables, with_variable}
 use Rattle.viper_types.specs.Declaring as j
 use Rattle.viper_scope.specs.Naming.{no_world, naming}
 use Rattle.viper_types.specs.Declaring.{Declared, FieldOf, PredicateOf, MethodOf, no_frame, formals, context_in, clause_of, clauses, conditions, method_body, method_typing, decl_typing, decls_typing, bodies_of, no_program, assembled}
@@ -46,13 +46,13 @@ both_conditions base [] = refl
 both_conditions base ((true, a) ∷ rest) = omega (arith, both_conditions base rest)
 both_conditions base ((false, a) ∷ rest) = omega (arith, both_conditions base rest)
 
-clause_weighs : (q : p.Program) (w : World) → CountsAs q w → (bodies : List (Option e.Assertion)) (params all : Scope) (u : Word) (a : t.Term) →
+clause_weighs : (q : p.Program) (w : World) → CountsAs q w → (bodies : List (Option e.Assertion)) (params all : VariableScope) (u : Word) (a : t.Term) →
     Tells (λ x. copied w bodies a ≤ assertion_size (base_of q) x.1) (clause_of w bodies params all u a)
 clause_weighs q w is bodies params all word.Requires a = tell_then (asserting_weighs q (context_in w bodies part.Precondition) is params a) (λ x h. tells h)
 clause_weighs q w is bodies params all word.Ensures a = tell_then (asserting_weighs q (context_in w bodies part.Elsewhere) is all a) (λ x h. tells h)
 clause_weighs q w is bodies params all _ a = broken
 
-clauses_weigh : (q : p.Program) (w : World) → CountsAs q w → (bodies : List (Option e.Assertion)) (params all : Scope) (ds : List d.SClause) →
+clauses_weigh : (q : p.Program) (w : World) → CountsAs q w → (bodies : List (Option e.Assertion)) (params all : VariableScope) (ds : List d.SClause) →
     Tells (λ xs. copied_by_clauses w bodies ds ≤ clauses_weight (base_of q) xs) (clauses w bodies params all ds)
 clauses_weigh q w is bodies params all [] = tells (omega arith)
 clauses_weigh q w is bodies params all (a ∷ rest) =
@@ -60,7 +60,7 @@ clauses_weigh q w is bodies params all (a ∷ rest) =
 
 -- ---- methods
 
-formals_refs : (allows_perm is_parameter : Bool) (fr : Frame) (refs : ℕ) (fs : List Formal) → refs ≤ length (ref_variables fr.scope) →
+formals_refs : (allows_perm is_parameter : Bool) (fr : MethodVariables) (refs : ℕ) (fs : List Formal) → refs ≤ length (ref_variables fr.scope) →
     Tells (λ gr. with_formals refs fs ≤ length (ref_variables gr.scope)) (formals allows_perm is_parameter fr fs)
 formals_refs allows_perm is_parameter fr refs [] r = tells r
 formals_refs allows_perm is_parameter fr refs (f ∷ fs) r =
@@ -68,7 +68,7 @@ formals_refs allows_perm is_parameter fr refs (f ∷ fs) r =
     tell_obeys (allows_perm || not (same_type (declared_type f) ty.Perm)) f.name.pos rule.PermParameter (λ m.
     formals_refs allows_perm is_parameter (with_variable fr f.name.name (declared_type f) is_parameter) (k.with_formal refs f) fs (variable_refs fr f is_parameter refs r))))
 
-body_weighs : (q : p.Program) (c : Context) → CountsAs q c.world → (fr : Frame) (refs : ℕ) (body : Option s.SBlock) → refs ≤ length (ref_variables fr.scope) →
+body_weighs : (q : p.Program) (c : Context) → CountsAs q c.world → (fr : MethodVariables) (refs : ℕ) (body : Option s.SBlock) → refs ≤ length (ref_variables fr.scope) →
     Tells (λ b. copied_by_body c.world c.bodies refs body ≤ block_weight q b) (method_body true c fr body)
 body_weighs q c is fr refs None r = tells (omega arith)
 body_weighs q c is fr refs (Some b) r = tell_then (blocking_weighs q c is 1 fr refs b r) (λ ss h. tells h)

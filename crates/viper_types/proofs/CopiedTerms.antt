@@ -15,7 +15,7 @@ use Rattle.viper_scope.specs.Outcome.{Judged, Found, Broken}
 use Rattle.viper_scope.specs.Context.{World, Context, Signature, field_at, predicate_at, allows_old, allows_permission_forms, body_or_true, body_at}
 use Rattle.viper_types.specs.Copied.{base_of as world_base, body_size, opened_size, copied, copied_amount, copied_all}
 use Rattle.viper_types.specs.Operators.{operator}
-use Rattle.viper_scope.specs.Scope.{Scope}
+use Rattle.viper_scope.specs.Scope.{VariableScope}
 use Rattle.viper_scope.specs.Arguments.{Typing, start, as_many, misfit, exprs_in, fitted}
 use Rattle.viper_types.specs.Typing.{unary, located, of_type, opening, typing, typing_all, permission, expected, arguments, is_wildcard, amount, instance, access, fact, by_connective, asserting}
 use Rattle.viper_types.proofs.Tells.{Tells, tells, broken, tell_then, tell_so, tell_known, tell_obeys, tell_clear, tell_if}
@@ -82,7 +82,7 @@ opened_covers c x s h =
 -- ---- terms
 
 mutual
-  typing_covers : (c : Context) (sc : Scope) (a : t.Term) → Tells (Covers (world_base c.world) (copied c.world c.bodies a)) (typing c sc a)
+  typing_covers : (c : Context) (sc : VariableScope) (a : t.Term) → Tells (Covers (world_base c.world) (copied c.world c.bodies a)) (typing c sc a)
   typing_covers c sc (t.Name x at) = tell_so (any_told (typing c sc (t.Name x at))) (λ x h. omega arith)
   typing_covers c sc (t.Number n at) = tells (omega arith)
   typing_covers c sc (t.Constant w at) = tell_so (any_told (typing c sc (t.Constant w at))) (λ x h. omega arith)
@@ -103,20 +103,20 @@ mutual
       tell_then (tell_then (typing_all_covers c sc args) (λ xs h. fitted_covers (world_base c.world) (copied_all c.world c.bodies args) args q.1.params name_at xs h)) (λ es h.
       tell_then (permission_covers c sc m) (λ v g. tell_then (typing_covers c sc a) (λ y k. tells (omega (arith, opened_covers c x q o, h, g, k))))))
 
-  pub typing_all_covers : (c : Context) (sc : Scope) (args : t.Terms) →
+  pub typing_all_covers : (c : Context) (sc : VariableScope) (args : t.Terms) →
       Tells (λ xs. copied_all c.world c.bodies args ≤ typings_size (world_base c.world) xs) (typing_all c sc args)
   typing_all_covers c sc t.none = tells (omega arith)
   typing_all_covers c sc (t.more a rest) =
       tell_then (typing_covers c sc a) (λ x h. tell_then (typing_all_covers c sc rest) (λ xs g. tells (omega (arith, h, g))))
 
-  pub permission_covers : (c : Context) (sc : Scope) (m : t.Amount) → Tells (CoversExpr (world_base c.world) (copied_amount c.world c.bodies m)) (permission c sc m)
+  pub permission_covers : (c : Context) (sc : VariableScope) (m : t.Amount) → Tells (CoversExpr (world_base c.world) (copied_amount c.world c.bodies m)) (permission c sc m)
   permission_covers c sc t.omitted = tells (omega arith)
   permission_covers c sc (t.given a) = tell_then (typing_covers c sc a) (λ x h. of_type_covers (world_base c.world) (copied c.world c.bodies a) ty.Perm a x h)
 
-pub expected_covers : (c : Context) (sc : Scope) (u : Ty) (a : t.Term) → Tells (CoversExpr (world_base c.world) (copied c.world c.bodies a)) (expected c sc u a)
+pub expected_covers : (c : Context) (sc : VariableScope) (u : Ty) (a : t.Term) → Tells (CoversExpr (world_base c.world) (copied c.world c.bodies a)) (expected c sc u a)
 expected_covers c sc u a = tell_then (typing_covers c sc a) (λ x h. of_type_covers (world_base c.world) (copied c.world c.bodies a) u a x h)
 
-pub arguments_covers : (c : Context) (sc : Scope) (args : t.Terms) (us : List Ty) (at : Pos) →
+pub arguments_covers : (c : Context) (sc : VariableScope) (args : t.Terms) (us : List Ty) (at : Pos) →
     Tells (λ es. copied_all c.world c.bodies args ≤ sizes (world_base c.world) es) (arguments c sc args us at)
 arguments_covers c sc args us at =
     tell_then (typing_all_covers c sc args) (λ xs h. fitted_covers (world_base c.world) (copied_all c.world c.bodies args) args us at xs h)
@@ -130,19 +130,19 @@ wildcard_copies : (w : World) (bodies : List (Option e.Assertion)) (a : t.Term) 
 wildcard_copies w bodies (t.Constant x at) h = omega arith
 wildcard_copies w bodies _ h = absurd (cc)
 
-amount_covers : (c : Context) (sc : Scope) (m : t.Amount) → Tells (λ q. copied_amount c.world c.bodies m ≤ amount_size (world_base c.world) q) (amount c sc m)
+amount_covers : (c : Context) (sc : VariableScope) (m : t.Amount) → Tells (λ q. copied_amount c.world c.bodies m ≤ amount_size (world_base c.world) q) (amount c sc m)
 amount_covers c sc t.omitted = tells (omega arith)
 amount_covers c sc (t.given a) =
     tell_if (is_wildcard a)
     (λ i. tell_obeys (allows_permission_forms c.part) (start a) rule.MisplacedWildcard (λ h. tells (wildcard_copies c.world c.bodies a i)))
     (λ i. tell_then (expected_covers c sc ty.Perm a) (λ x h. tells h))
 
-instance_covers : (c : Context) (sc : Scope) (x : List ℕ) (args : t.Terms) (m : t.Amount) (at : Pos) →
+instance_covers : (c : Context) (sc : VariableScope) (x : List ℕ) (args : t.Terms) (m : t.Amount) (at : Pos) →
     Tells (CoversAssertion (world_base c.world) (copied_all c.world c.bodies args + copied_amount c.world c.bodies m)) (instance c sc x args m at)
 instance_covers c sc x args m at =
     tell_known (predicate_at c.world x) at rule.UnknownName (λ q i. tell_then (arguments_covers c sc args q.1.params at) (λ es h. tell_then (amount_covers c sc m) (λ v g. tells (omega (arith, h, g)))))
 
-access_covers : (c : Context) (sc : Scope) (a : t.Term) (m : t.Amount) (at : Pos) →
+access_covers : (c : Context) (sc : VariableScope) (a : t.Term) (m : t.Amount) (at : Pos) →
     Tells (CoversAssertion (world_base c.world) (copied c.world c.bodies a + copied_amount c.world c.bodies m)) (access c sc a m at)
 access_covers c sc (t.Field a f f_at) m at =
     tell_then (tell_then (typing_covers c sc a) (λ x h. located_covers (world_base c.world) (copied c.world c.bodies a) c.world f f_at x h)) (λ l h.
@@ -150,7 +150,7 @@ access_covers c sc (t.Field a f f_at) m at =
 access_covers c sc (t.Inst x args x_at) m at = instance_covers c sc x args m x_at
 access_covers c sc _ m at = broken
 
-fact_covers : (c : Context) (sc : Scope) (a : t.Term) → Tells (CoversAssertion (world_base c.world) (copied c.world c.bodies a)) (fact c sc a)
+fact_covers : (c : Context) (sc : VariableScope) (a : t.Term) → Tells (CoversAssertion (world_base c.world) (copied c.world c.bodies a)) (fact c sc a)
 fact_covers c sc a = tell_then (expected_covers c sc ty.Bool a) (λ x h. tells h)
 
 connective_told : {X : Type 0} {P : X → Type 0} (o : Sign) {i k l : Judged X} → Tells P i → Tells P k → Tells P l → Tells P (by_connective o i k l)
@@ -158,7 +158,7 @@ connective_told sign.And f g h = f
 connective_told sign.Implies f g h = g
 connective_told _ f g h = h
 
-pub asserting_covers : (c : Context) (sc : Scope) (a : t.Term) → Tells (CoversAssertion (world_base c.world) (copied c.world c.bodies a)) (asserting c sc a)
+pub asserting_covers : (c : Context) (sc : VariableScope) (a : t.Term) → Tells (CoversAssertion (world_base c.world) (copied c.world c.bodies a)) (asserting c sc a)
 asserting_covers c sc (t.Binary o a b at) =
     connective_told o
     (tell_then (asserting_covers c sc a) (λ x h. tell_then (asserting_covers c sc b) (λ y g. tells (omega (arith, h, g)))))

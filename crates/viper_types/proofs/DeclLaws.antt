@@ -14,7 +14,7 @@ use Rattle.viper_scope.specs.Answers.{Refuses}
 use Rattle.viper_scope.specs.declared.rules.RuleFault.{RuleFault}
 use Rattle.viper_scope.specs.Context.{World}
 use Rattle.viper_scope.specs.Outcome.{Judged, Found, Broken, then_typed, then_more}
-use Rattle.viper_scope.specs.Scope.{Scope}
+use Rattle.viper_scope.specs.Scope.{VariableScope}
 use Rattle.viper_scope.proofs.Judged.{failed, refuses_along}
 use Rattle.viper_types.specs.Declaring as j
 
@@ -57,10 +57,10 @@ pub onto_end : (lists : Bool) (w : World) (bodies : List (Option e.Assertion)) (
 onto_end lists w bodies g decls i over = at_drop_all (λ ds. onto lists w bodies g (map decl_of ds)) decls i over
 
 -- the next clause, and those after it
-pub next_clause : (w : World) (bodies : List (Option e.Assertion)) (params all : Scope) (items : List SClause) (i : ℕ) (a : SClause) → i < length items → a ≡ get_or items i a →
+pub next_clause : (w : World) (bodies : List (Option e.Assertion)) (params all : VariableScope) (items : List SClause) (i : ℕ) (a : SClause) → i < length items → a ≡ get_or items i a →
     j.clauses w bodies params all (map clause_of (drop i items)) ≡
     then_more (j.clause_of w bodies params all (clause_of a).word (clause_of a).term) (j.clauses w bodies params all (map clause_of (drop (i + 1) items)))
 next_clause w bodies params all items i a within is = ap (λ cs. j.clauses w bodies params all (map clause_of cs)) (next_item items i a within is)
 
-pub no_clause : (w : World) (bodies : List (Option e.Assertion)) (params all : Scope) (items : List SClause) (i : ℕ) → length items ≤ i → j.clauses w bodies params all (map clause_of (drop i items)) ≡ Found []
+pub no_clause : (w : World) (bodies : List (Option e.Assertion)) (params all : VariableScope) (items : List SClause) (i : ℕ) → length items ≤ i → j.clauses w bodies params all (map clause_of (drop i items)) ≡ Found []
 no_clause w bodies params all items i over = at_drop_all (λ cs. j.clauses w bodies params all (map clause_of cs)) items i over

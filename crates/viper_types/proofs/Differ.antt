@@ -2,7 +2,7 @@
 use Rattle.std.proofs.Common.{◌≡◌, ◌≢◌, ◌∙◌, ℕ, zero, suc, ◌<◌, ◌==◌, Bool, true, false, if◌then◌else◌, List, [], ◌∷◌, ◌++◌, AllPairs, length, length-append, get_or, refl, sym, ap, subst, arith}
 use Rattle.std.proofs.lemmas.Bool.{ne_eqb, eq-eqb}
 use Rattle.std.proofs.lemmas.List.Quantifiers.{all_pairs_push}
-use Rattle.viper_types.specs.Stepping.{Target, is_target, is_listed, numbers_in}
+use Rattle.viper_types.specs.Stepping.{AssignedVariable, is_target, is_listed, numbers_in}
 use Rattle.viper_types.proofs.Listing.{is_listed-numbers, numbers_in-push}
 
 abbrev pub Differ : List ℕ → Type 0
@@ -34,7 +34,7 @@ not_listed n (m ∷ ms) h (suc i) d lt = not_listed n ms (later_listed (n == m) 
 pub differ_push : (n : ℕ) (ns : List ℕ) → Differ ns → is_listed n ns ≡ false → Differ (ns ++ n ∷ [])
 differ_push n ns h new = all_pairs_push (λ x y. x ≢ y) ns n h (λ i d lt. not_listed n ns new i d lt)
 
-pub differ_target : (before : List Target) (v : Target) → Differ (numbers_in before) → is_target v.number before ≡ false → Differ (numbers_in (before ++ v ∷ []))
+pub differ_target : (before : List AssignedVariable) (v : AssignedVariable) → Differ (numbers_in before) → is_target v.number before ≡ false → Differ (numbers_in (before ++ v ∷ []))
 differ_target before v h new =
     subst (λ ns. Differ ns) (sym (numbers_in-push before v)) (differ_push v.number (numbers_in before) h (is_listed-numbers v.number before ∙ new))
 
@@ -57,10 +57,10 @@ new_among (m ∷ ms) n ns h =
     ne_eqb n m (λ is. h zero (suc (length ms)) 0 (omega arith) (omega (arith, within ms n ns)) (sym is ∙ sym (get_at ms n ns 0))) in
     rw apart (new_among ms n ns (differ_later m (ms ++ n ∷ ns) h))
 
-pub numbers_in_append : (vs ws : List Target) → numbers_in (vs ++ ws) ≡ numbers_in vs ++ numbers_in ws
+pub numbers_in_append : (vs ws : List AssignedVariable) → numbers_in (vs ++ ws) ≡ numbers_in vs ++ numbers_in ws
 numbers_in_append [] ws = refl
 numbers_in_append (v ∷ vs) ws = ap (λ ns. v.number ∷ ns) (numbers_in_append vs ws)
 
-pub new_target_among : (vs : List Target) (v : Target) (ws : List Target) → Differ (numbers_in (vs ++ v ∷ ws)) → is_target v.number vs ≡ false
+pub new_target_among : (vs : List AssignedVariable) (v : AssignedVariable) (ws : List AssignedVariable) → Differ (numbers_in (vs ++ v ∷ ws)) → is_target v.number vs ≡ false
 new_target_among vs v ws h =
     sym (is_listed-numbers v.number vs) ∙ new_among (numbers_in vs) v.number (numbers_in ws) (subst (λ ns. Differ ns) (numbers_in_append vs (v ∷ ws)) h)

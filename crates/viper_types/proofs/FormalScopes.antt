@@ -11,7 +11,7 @@ use Rattle.viper_core.specs.Typing as g
 use Rattle.viper_syntax.specs.declared.stmts.Formal.{Formal}
 use Rattle.viper_scope.specs.Context.{Context, allows_old, allows_permission_forms}
 use Rattle.viper_scope.specs.Types.{declared_type}
-use Rattle.viper_types.specs.Frame.{Frame}
+use Rattle.viper_types.specs.Frame.{MethodVariables}
 use Rattle.viper_types.specs.Program.{AreFormals, no_formals, one_formal}
 use Rattle.viper_types.proofs.TermTypes.{Describes, Resolves}
 use Rattle.viper_types.proofs.Rising.{Rising}
@@ -33,13 +33,13 @@ rising_below n = rising_range 0 n n (omega arith)
 
 -- ---- formals
 
-pub formals_vars : {allows_perm is_parameter : Bool} {fr gr : Frame} {fs : List Formal} → AreFormals allows_perm is_parameter fr fs gr →
+pub formals_vars : {allows_perm is_parameter : Bool} {fr gr : MethodVariables} {fs : List Formal} → AreFormals allows_perm is_parameter fr fs gr →
     gr.vars ≡ fr.vars ++ map declared_type fs
 formals_vars (no_formals {fr = fr}) = sym (append-nil fr.vars)
 formals_vars (one_formal {fr = fr} {f = f} {fs = fs} {u = u} new is allowed more) =
     formals_vars more ∙ append_assoc fr.vars (u ∷ []) (map declared_type fs) ∙ ap (λ w. fr.vars ++ w ∷ map declared_type fs) (sym (type_is f u is))
 
-pub formals_numbers : {allows_perm is_parameter : Bool} {fr gr : Frame} {fs : List Formal} → AreFormals allows_perm is_parameter fr fs gr →
+pub formals_numbers : {allows_perm is_parameter : Bool} {fr gr : MethodVariables} {fs : List Formal} → AreFormals allows_perm is_parameter fr fs gr →
     numbers fr.scope ≡ below (length fr.vars) →
     numbers gr.scope ≡ below (length gr.vars)
 formals_numbers no_formals h = h
@@ -50,7 +50,7 @@ formals_numbers {is_parameter = is_parameter} (one_formal {fr = fr} {f = f} {u =
     (numbers_push fr.scope (f.name.name, record { number = n; ty = u; is_parameter = is_parameter }) ∙ ap (λ ns. ns ++ n ∷ []) h ∙
     range_push 0 n n (omega arith) ∙ ap below count)
 
-pub formals_are_variables : {allows_perm is_parameter : Bool} {fr gr : Frame} {fs : List Formal} (params : ℕ) →
+pub formals_are_variables : {allows_perm is_parameter : Bool} {fr gr : MethodVariables} {fs : List Formal} (params : ℕ) →
     AreFormals allows_perm is_parameter fr fs gr → (is_parameter ≡ false → params ≤ length fr.vars) → AreVariables params fr.vars fr.scope →
     AreVariables params gr.vars gr.scope
 formals_are_variables params no_formals le h = h
@@ -65,7 +65,7 @@ not_perm ty.Bool h = λ is. absurd (cc)
 not_perm ty.Ref h = λ is. absurd (cc)
 not_perm ty.Perm h = absurd (cc)
 
-pub formals_no_perm : {is_parameter : Bool} {fr gr : Frame} {fs : List Formal} → AreFormals false is_parameter fr fs gr →
+pub formals_no_perm : {is_parameter : Bool} {fr gr : MethodVariables} {fs : List Formal} → AreFormals false is_parameter fr fs gr →
     AllByRecursion (λ u. u ≢ ty.Perm) (map declared_type fs)
 formals_no_perm no_formals = tt
 formals_no_perm (one_formal {f = f} {u = u} new is allowed more) =
@@ -73,7 +73,7 @@ formals_no_perm (one_formal {f = f} {u = u} new is allowed more) =
 
 -- ---- contexts
 
-pub names_resolve : (params : ℕ) (k : Context) (fr : Frame) (c : g.Context) → Describes k.world k.bodies c.program → AreVariables params fr.vars fr.scope →
+pub names_resolve : (params : ℕ) (k : Context) (fr : MethodVariables) (c : g.Context) → Describes k.world k.bodies c.program → AreVariables params fr.vars fr.scope →
     numbers fr.scope ≡ c.visible → Extends fr.vars c.vars → (allows_old k.part ≡ true → g.allows_old c.site ≡ true) →
     (allows_permission_forms k.part ≡ true → g.is_outside_predicates c.site ≡ true) →
     Resolves k fr.scope c

@@ -20,17 +20,17 @@ use Rattle.viper_syntax.specs.declared.tokens.Word.{Word}
 use Rattle.viper_syntax.specs.declared.tokens.Word.TheVariants as word
 use Rattle.viper_scope.specs.declared.rules.Rule.{Rule}
 use Rattle.viper_scope.specs.declared.rules.Rule.TheVariants as rule
-use Rattle.viper_scope.specs.declared.context.Part.TheVariants as part
+use Rattle.viper_scope.specs.declared.context.UnitPart.TheVariants as part
 use Rattle.viper_scope.specs.Outcome.{Judged, Found, Broken, then_typed, known, obeys, clear_of}
 use Rattle.viper_scope.specs.Context.{World, Context, find, field_at, predicate_at, method_at, allows_old, nowhere}
 use Rattle.viper_types.specs.Operators.{operator}
 use Rattle.viper_types.specs.Typing as j
-use Rattle.viper_scope.specs.Scope.{Scope}
+use Rattle.viper_scope.specs.Scope.{VariableScope}
 use Rattle.viper_scope.specs.Arguments.{Typing, start, as_many, misfit, fitted}
 use Rattle.viper_types.specs.Typing.{Located, unary, applied, chosen, located, of_type, with_body, opening, opened_typing, typing, typing_all, permission, expected, arguments, is_wildcard, wildcard, amount, instance, access, fact, by_connective, asserting}
-use Rattle.viper_types.specs.Frame.{Frame, declared_in_arms, declared_in_arm, frame_after, with_hidden}
+use Rattle.viper_types.specs.Frame.{MethodVariables, declared_in_arms, declared_in_arm, frame_after, with_hidden}
 use Rattle.viper_types.specs.Stepping as g
-use Rattle.viper_types.specs.Stepping.{Target, Branch, fresh, target, ref_target, call_targets, mistarget, calling, calling_into_field, creating, dotted, target_place, declaring, setting, first_place, checking, folding, asserting_all, nested, arm_count, stepping, blocking, stepping_all, branches, branch, otherwise}
+use Rattle.viper_types.specs.Stepping.{AssignedVariable, Branch, fresh, target, ref_target, call_targets, mistarget, calling, calling_into_field, creating, dotted, target_place, declaring, setting, first_place, checking, folding, asserting_all, nested, arm_count, stepping, blocking, stepping_all, branches, branch, otherwise}
 use Rattle.viper_types.specs.Declaring as w
 use Rattle.viper_types.specs.Declaring.{Declared, formals, no_frame, context_in, clause_of, clauses, method_body, method_typing, decl_typing, decls_typing}
 
@@ -164,7 +164,7 @@ opened_ends : (k : Context) (n : ℕ) (es fs : e.Exprs) (v w : e.Expr) (at : Pos
 opened_ends k n es fs v w at _ _ typed = typed
 
 mutual
-  typing_ends : (k : Context) (sc : Scope) (a : t.Term) → Ends SameType (typing k sc a) (typing (lean k) sc a)
+  typing_ends : (k : Context) (sc : VariableScope) (a : t.Term) → Ends SameType (typing k sc a) (typing (lean k) sc a)
   typing_ends k sc (t.Name x at) = end_known (find sc x) at rule.UnknownName (λ v. both typed)
   typing_ends k sc (t.Number n at) = both typed
   typing_ends k sc (t.Constant x at) = typing_itself (j.constant x at)
@@ -182,41 +182,41 @@ mutual
       end_then (end_then (typing_all_ends k sc args) (λ xs ys h. fitted_ends args q.1.params name_at xs ys h)) (λ es fs i.
       end_then (permission_ends k sc m) (λ v z l. end_then (typing_ends k sc a) (λ y n h. both (opened_ends k q.0 es fs v z name_at y n h)))))
 
-  typing_all_ends : (k : Context) (sc : Scope) (args : t.Terms) → Ends SameTypes (typing_all k sc args) (typing_all (lean k) sc args)
+  typing_all_ends : (k : Context) (sc : VariableScope) (args : t.Terms) → Ends SameTypes (typing_all k sc args) (typing_all (lean k) sc args)
   typing_all_ends k sc t.none = both no_types
   typing_all_ends k sc (t.more a rest) =
       end_then (typing_ends k sc a) (λ x y h. end_then (typing_all_ends k sc rest) (λ xs ys i. both (listed_more x y xs ys h i)))
 
-  permission_ends : (k : Context) (sc : Scope) (m : t.Amount) → Ends (λ (v w : e.Expr). Any v w) (permission k sc m) (permission (lean k) sc m)
+  permission_ends : (k : Context) (sc : VariableScope) (m : t.Amount) → Ends (λ (v w : e.Expr). Any v w) (permission k sc m) (permission (lean k) sc m)
   permission_ends k sc t.omitted = both any
   permission_ends k sc (t.given a) = end_then (typing_ends k sc a) (λ x y h. of_type_ends ty.Perm a x y h)
 
-expected_ends : (k : Context) (sc : Scope) (u : Ty) (a : t.Term) → Ends (λ (v w : e.Expr). Any v w) (expected k sc u a) (expected (lean k) sc u a)
+expected_ends : (k : Context) (sc : VariableScope) (u : Ty) (a : t.Term) → Ends (λ (v w : e.Expr). Any v w) (expected k sc u a) (expected (lean k) sc u a)
 expected_ends k sc u a = end_then (typing_ends k sc a) (λ x y h. of_type_ends u a x y h)
 
-arguments_ends : (k : Context) (sc : Scope) (args : t.Terms) (us : List Ty) (at : Pos) →
+arguments_ends : (k : Context) (sc : VariableScope) (args : t.Terms) (us : List Ty) (at : Pos) →
     Ends (λ (v w : e.Exprs). Any v w) (arguments k sc args us at) (arguments (lean k) sc args us at)
 arguments_ends k sc args us at = end_then (typing_all_ends k sc args) (λ xs ys h. fitted_ends args us at xs ys h)
 
 -- ---- assertions
 
-amount_ends : (k : Context) (sc : Scope) (m : t.Amount) → Ends (λ (v w : e.Amt). Any v w) (amount k sc m) (amount (lean k) sc m)
+amount_ends : (k : Context) (sc : VariableScope) (m : t.Amount) → Ends (λ (v w : e.Amt). Any v w) (amount k sc m) (amount (lean k) sc m)
 amount_ends k sc t.omitted = both any
 amount_ends k sc (t.given a) = end_if (is_wildcard a) (itself (wildcard k (start a))) (end_then (expected_ends k sc ty.Perm a) (λ x y h. both any))
 
-instance_ends : (k : Context) (sc : Scope) (x : List ℕ) (args : t.Terms) (m : t.Amount) (at : Pos) →
+instance_ends : (k : Context) (sc : VariableScope) (x : List ℕ) (args : t.Terms) (m : t.Amount) (at : Pos) →
     Ends (λ (v w : e.Assertion). Any v w) (instance k sc x args m at) (instance (lean k) sc x args m at)
 instance_ends k sc x args m at =
     end_known (predicate_at k.world x) at rule.UnknownName (λ q. end_then (arguments_ends k sc args q.1.params at) (λ es fs h. end_then (amount_ends k sc m) (λ v z i. both any)))
 
-access_ends : (k : Context) (sc : Scope) (a : t.Term) (m : t.Amount) (at : Pos) →
+access_ends : (k : Context) (sc : VariableScope) (a : t.Term) (m : t.Amount) (at : Pos) →
     Ends (λ (v w : e.Assertion). Any v w) (access k sc a m at) (access (lean k) sc a m at)
 access_ends k sc (t.Field a f f_at) m at =
     end_then (end_then (typing_ends k sc a) (λ x y h. located_ends k.world f f_at x y h)) (λ l n h. end_then (amount_ends k sc m) (λ v z i. both any))
 access_ends k sc (t.Inst x args x_at) m at = instance_ends k sc x args m x_at
 access_ends k sc _ m at = same
 
-fact_ends : (k : Context) (sc : Scope) (a : t.Term) → Ends (λ (v w : e.Assertion). Any v w) (fact k sc a) (fact (lean k) sc a)
+fact_ends : (k : Context) (sc : VariableScope) (a : t.Term) → Ends (λ (v w : e.Assertion). Any v w) (fact k sc a) (fact (lean k) sc a)
 fact_ends k sc a = end_then (expected_ends k sc ty.Bool a) (λ x y h. both any)
 
 connective_ends : {V W : Type 0} {S : V → W → Type 0} (o : Sign) {i k m : Judged V} {j l n : Judged W} → Ends S i j → Ends S k l → Ends S m n →
@@ -225,7 +225,7 @@ connective_ends sign.And f h q = f
 connective_ends sign.Implies f h q = h
 connective_ends _ f h q = q
 
-asserting_ends : (k : Context) (sc : Scope) (a : t.Term) → Ends (λ (v w : e.Assertion). Any v w) (asserting k sc a) (asserting (lean k) sc a)
+asserting_ends : (k : Context) (sc : VariableScope) (a : t.Term) → Ends (λ (v w : e.Assertion). Any v w) (asserting k sc a) (asserting (lean k) sc a)
 asserting_ends k sc (t.Binary o a b at) =
     connective_ends o
     (end_then (asserting_ends k sc a) (λ x y h. end_then (asserting_ends k sc b) (λ v z i. both any)))
@@ -243,7 +243,7 @@ asserting_ends k sc (t.Field a f at) = fact_ends k sc (t.Field a f at)
 asserting_ends k sc (t.Old a at) = fact_ends k sc (t.Old a at)
 asserting_ends k sc (t.Unfolding x args m a at name_at) = fact_ends k sc (t.Unfolding x args m a at name_at)
 
-asserting_all_ends : (k : Context) (sc : Scope) (is : List t.Term) →
+asserting_all_ends : (k : Context) (sc : VariableScope) (is : List t.Term) →
     Ends (λ (v w : List e.Assertion). Any v w) (asserting_all k sc is) (asserting_all (lean k) sc is)
 asserting_all_ends k sc [] = both any
 asserting_all_ends k sc (a ∷ rest) = end_then (asserting_ends k sc a) (λ x y h. end_then (asserting_all_ends k sc rest) (λ xs ys i. both any))
@@ -253,19 +253,19 @@ asserting_all_ends k sc (a ∷ rest) = end_then (asserting_ends k sc a) (λ x y 
 abbrev AnyStmt : c.Stmt → c.Stmt → Type 0
 AnyStmt x y = Any x y
 
-calling_ends : (k : Context) (sc : Scope) (at : Pos) (vs : List Target) (call : s.SCall) → Ends AnyStmt (calling k sc at vs call) (calling (lean k) sc at vs call)
+calling_ends : (k : Context) (sc : VariableScope) (at : Pos) (vs : List AssignedVariable) (call : s.SCall) → Ends AnyStmt (calling k sc at vs call) (calling (lean k) sc at vs call)
 calling_ends k sc at vs call =
     end_known (method_at k.world call.name.name) call.name.pos rule.UnknownName (λ m. end_then (typing_all_ends k sc (t.terms call.args)) (λ xs ys h.
     tested_ends (as_many xs m.1.params) (as_many ys m.1.params) call.name.pos rule.ArgumentCount (many_same h m.1.params) (
     end_obeys (as_many vs m.1.returns) call.name.pos rule.TargetCount (end_clear (mistarget vs m.1.returns) rule.WrongType (
     cleared_ends (misfit (t.terms call.args) xs m.1.params) (misfit (t.terms call.args) ys m.1.params) rule.WrongType (misfit_same h (t.terms call.args) m.1.params) (both any))))))
 
-calling_into_field_ends : (k : Context) (sc : Scope) (call : s.SCall) → Ends AnyStmt (calling_into_field k sc call) (calling_into_field (lean k) sc call)
+calling_into_field_ends : (k : Context) (sc : VariableScope) (call : s.SCall) → Ends AnyStmt (calling_into_field k sc call) (calling_into_field (lean k) sc call)
 calling_into_field_ends k sc call =
     end_known (method_at k.world call.name.name) call.name.pos rule.UnknownName (λ m. end_then (typing_all_ends k sc (t.terms call.args)) (λ xs ys h.
     tested_ends (as_many xs m.1.params) (as_many ys m.1.params) call.name.pos rule.ArgumentCount (many_same h m.1.params) same))
 
-creating_ends : (q : World) (sc : Scope) (at : Pos) (n : ℕ) (new : s.SNew) → Ends AnyStmt (creating true q sc at n new) (creating false q sc at n new)
+creating_ends : (q : World) (sc : VariableScope) (at : Pos) (n : ℕ) (new : s.SNew) → Ends AnyStmt (creating true q sc at n new) (creating false q sc at n new)
 creating_ends q sc at n new =
     end_then {R = λ (v w : List ℕ). Any v w} (end_if new.every (both any) (itself (g.new_fields q [] new.fields))) (λ fs gs h. both any)
 
@@ -273,19 +273,19 @@ dotted_ends : (q : World) (f : Named) (fs : List Named) (x y : Typing) → SameT
 dotted_ends q f [] x y h = located_ends q f.name f.pos x y h
 dotted_ends q f (k ∷ ks) x y h = end_then (located_ends q f.name f.pos x y h) (λ l m i. dotted_ends q k ks _ _ (read_ends f.pos l m i))
 
-target_place_ends : (k : Context) (sc : Scope) (x f : Named) (fs : List Named) → Ends SameField (target_place k sc x f fs) (target_place (lean k) sc x f fs)
+target_place_ends : (k : Context) (sc : VariableScope) (x f : Named) (fs : List Named) → Ends SameField (target_place k sc x f fs) (target_place (lean k) sc x f fs)
 target_place_ends k sc x f fs = end_then (typing_ends k sc (t.Name x.name x.pos)) (λ y z h. dotted_ends k.world f fs y z h)
 
-declaring_ends : (k : Context) (fr : Frame) (at : Pos) (v : Target) (rhs : Option s.SRhs) → Ends AnyStmt (declaring true k fr at v rhs) (declaring false (lean k) fr at v rhs)
+declaring_ends : (k : Context) (fr : MethodVariables) (at : Pos) (v : AssignedVariable) (rhs : Option s.SRhs) → Ends AnyStmt (declaring true k fr at v rhs) (declaring false (lean k) fr at v rhs)
 declaring_ends k fr at v None = both any
 declaring_ends k fr at v (Some (s.TermRhs a)) = end_then (expected_ends k fr.scope v.ty a) (λ x y h. both any)
 declaring_ends k fr at v (Some (s.CallRhs call)) = calling_ends k fr.scope at (v ∷ []) call
 declaring_ends k fr at v (Some (s.NewRhs new)) = end_obeys (same_type v.ty ty.Ref) v.at rule.WrongType (creating_ends k.world fr.scope at v.number new)
 
-field_type_ends : (k : Context) (sc : Scope) (a : t.Term) (l m : Located) → SameField l m → Ends (λ (v w : e.Expr). Any v w) (expected k sc l.ty a) (expected (lean k) sc m.ty a)
+field_type_ends : (k : Context) (sc : VariableScope) (a : t.Term) (l m : Located) → SameField l m → Ends (λ (v w : e.Expr). Any v w) (expected k sc l.ty a) (expected (lean k) sc m.ty a)
 field_type_ends k sc a _ _ (field {u = u}) = expected_ends k sc u a
 
-setting_ends : (k : Context) (sc : Scope) (xs : List Named) (rhs : s.SRhs) → Ends AnyStmt (setting true k sc xs rhs) (setting false (lean k) sc xs rhs)
+setting_ends : (k : Context) (sc : VariableScope) (xs : List Named) (rhs : s.SRhs) → Ends AnyStmt (setting true k sc xs rhs) (setting false (lean k) sc xs rhs)
 setting_ends k sc [] rhs = same
 setting_ends k sc (x ∷ []) (s.TermRhs a) = end_after (target sc x) (λ v. end_then (expected_ends k sc v.ty a) (λ y z h. both any))
 setting_ends k sc (x ∷ []) (s.CallRhs call) = end_after (target sc x) (λ v. calling_ends k sc x.pos (v ∷ []) call)
@@ -295,14 +295,14 @@ setting_ends k sc (x ∷ f ∷ fs) (s.TermRhs a) =
 setting_ends k sc (x ∷ f ∷ fs) (s.CallRhs call) = end_then (target_place_ends k sc x f fs) (λ l m h. calling_into_field_ends k sc call)
 setting_ends k sc (x ∷ f ∷ fs) (s.NewRhs new) = end_then (target_place_ends k sc x f fs) (λ l m h. same)
 
-checking_ends : (k : Context) (sc : Scope) (x : Word) (at : Pos) (a : t.Term) → Ends AnyStmt (checking k sc x at a) (checking (lean k) sc x at a)
+checking_ends : (k : Context) (sc : VariableScope) (x : Word) (at : Pos) (a : t.Term) → Ends AnyStmt (checking k sc x at a) (checking (lean k) sc x at a)
 checking_ends k sc word.Inhale at a = end_then (asserting_ends k sc a) (λ x y h. both any)
 checking_ends k sc word.Exhale at a = end_then (asserting_ends k sc a) (λ x y h. both any)
 checking_ends k sc word.Assert at a = end_then (asserting_ends k sc a) (λ x y h. both any)
 checking_ends k sc word.Assume at a = end_then (expected_ends k sc ty.Bool a) (λ x y h. both any)
 checking_ends k sc _ at a = same
 
-folding_ends : (k : Context) (sc : Scope) (f : s.SFold) → Ends (λ (v w : c.FoldStmt). Any v w) (folding k sc f) (folding (lean k) sc f)
+folding_ends : (k : Context) (sc : VariableScope) (f : s.SFold) → Ends (λ (v w : c.FoldStmt). Any v w) (folding k sc f) (folding (lean k) sc f)
 folding_ends k sc f =
     end_after (with_body k.world f.call.name.name f.call.name.pos) (λ q.
     end_then (arguments_ends k sc (t.terms f.call.args) q.1.params f.call.name.pos) (λ es fs h. end_then (permission_ends k sc f.amount) (λ m n i. both any)))
@@ -314,7 +314,7 @@ nested_ends no_branch ss ts = same
 nested_ends (more_branches h) ss ts = both any
 
 mutual
-  stepping_ends : (k : Context) (d : ℕ) (fr : Frame) (a : s.SStmt) → Ends AnyStmt (stepping true k d fr a) (stepping false (lean k) d fr a)
+  stepping_ends : (k : Context) (d : ℕ) (fr : MethodVariables) (a : s.SStmt) → Ends AnyStmt (stepping true k d fr a) (stepping false (lean k) d fr a)
   stepping_ends k d fr (s.Var at f rhs) = end_after (fresh fr f) (λ v. declaring_ends k fr at v rhs)
   stepping_ends k d fr (s.Assign xs rhs) = setting_ends k fr.scope xs rhs
   stepping_ends k d fr (s.CallTo xs call) = end_after (call_targets fr.scope [] xs) (λ vs. calling_ends k fr.scope (first_place xs) vs call)
@@ -327,42 +327,42 @@ mutual
   stepping_ends k d fr (s.While at a is b) =
       end_then (expected_ends k fr.scope ty.Bool a) (λ x y h. end_then (asserting_all_ends k fr.scope is) (λ xs ys i. end_then (blocking_ends k (d + 1) fr b) (λ ss ts f. both any)))
 
-  blocking_ends : (k : Context) (d : ℕ) (fr : Frame) (b : s.SBlock) → Ends (λ (v w : c.Stmts). Any v w) (blocking true k d fr b) (blocking false (lean k) d fr b)
+  blocking_ends : (k : Context) (d : ℕ) (fr : MethodVariables) (b : s.SBlock) → Ends (λ (v w : c.Stmts). Any v w) (blocking true k d fr b) (blocking false (lean k) d fr b)
   blocking_ends k d fr (s.block at ss) = end_obeys (nat_le d max_block_depth) at rule.TooDeep (end_then (stepping_all_ends k d fr ss) (λ xs ys h. both any))
 
-  stepping_all_ends : (k : Context) (d : ℕ) (fr : Frame) (ss : s.SStmts) →
+  stepping_all_ends : (k : Context) (d : ℕ) (fr : MethodVariables) (ss : s.SStmts) →
       Ends (λ (v w : List c.Stmt). Any v w) (stepping_all true k d fr ss) (stepping_all false (lean k) d fr ss)
   stepping_all_ends k d fr s.no_stmts = both any
   stepping_all_ends k d fr (s.more_stmts a rest) =
       end_then (stepping_ends k d fr a) (λ x y h. end_then (stepping_all_ends k d (frame_after fr a) rest) (λ xs ys i. both any))
 
-  branches_ends : (k : Context) (d : ℕ) (fr : Frame) (arms : s.SArms) → Ends SameCount (branches true k d fr arms) (branches false (lean k) d fr arms)
+  branches_ends : (k : Context) (d : ℕ) (fr : MethodVariables) (arms : s.SArms) → Ends SameCount (branches true k d fr arms) (branches false (lean k) d fr arms)
   branches_ends k d fr s.no_arms = both no_branch
   branches_ends k d fr (s.more_arms a rest) =
       end_then (branch_ends k d fr a) (λ x y h. end_then (branches_ends k (d + 1) (with_hidden fr (declared_in_arm a)) rest) (λ xs ys i. both (more_branches i)))
 
-  branch_ends : (k : Context) (d : ℕ) (fr : Frame) (a : s.SArm) → Ends (λ (v w : Branch). Any v w) (branch true k d fr a) (branch false (lean k) d fr a)
+  branch_ends : (k : Context) (d : ℕ) (fr : MethodVariables) (a : s.SArm) → Ends (λ (v w : Branch). Any v w) (branch true k d fr a) (branch false (lean k) d fr a)
   branch_ends k d fr (s.arm at a b) = end_then (expected_ends k fr.scope ty.Bool a) (λ x y h. end_then (blocking_ends k d fr b) (λ ss ts i. both any))
 
-  otherwise_ends : (k : Context) (d : ℕ) (fr : Frame) (o : s.SElse) → Ends (λ (v w : c.Stmts). Any v w) (otherwise true k d fr o) (otherwise false (lean k) d fr o)
+  otherwise_ends : (k : Context) (d : ℕ) (fr : MethodVariables) (o : s.SElse) → Ends (λ (v w : c.Stmts). Any v w) (otherwise true k d fr o) (otherwise false (lean k) d fr o)
   otherwise_ends k d fr s.no_else = both any
   otherwise_ends k d fr (s.else_block b) = blocking_ends k d fr b
 
 -- ---- declarations
 
-clause_ends : (q : World) (bodies : List (Option e.Assertion)) (params all : Scope) (x : Word) (a : t.Term) →
+clause_ends : (q : World) (bodies : List (Option e.Assertion)) (params all : VariableScope) (x : Word) (a : t.Term) →
     Ends (λ (v w : Bool × e.Assertion). Any v w) (clause_of q bodies params all x a) (clause_of q [] params all x a)
 clause_ends q bodies params all word.Requires a = end_then (asserting_ends (context_in q bodies part.Precondition) params a) (λ x y h. both any)
 clause_ends q bodies params all word.Ensures a = end_then (asserting_ends (context_in q bodies part.Elsewhere) all a) (λ x y h. both any)
 clause_ends q bodies params all _ a = same
 
-clauses_ends : (q : World) (bodies : List (Option e.Assertion)) (params all : Scope) (ds : List d.SClause) →
+clauses_ends : (q : World) (bodies : List (Option e.Assertion)) (params all : VariableScope) (ds : List d.SClause) →
     Ends (λ (v w : List (Bool × e.Assertion)). Any v w) (clauses q bodies params all ds) (clauses q [] params all ds)
 clauses_ends q bodies params all [] = both any
 clauses_ends q bodies params all (a ∷ rest) =
     end_then (clause_ends q bodies params all a.word a.term) (λ x y h. end_then (clauses_ends q bodies params all rest) (λ xs ys i. both any))
 
-method_body_ends : (k : Context) (fr : Frame) (body : Option s.SBlock) →
+method_body_ends : (k : Context) (fr : MethodVariables) (body : Option s.SBlock) →
     Ends (λ (v w : Option p.Body). Any v w) (method_body true k fr body) (method_body false (lean k) fr body)
 method_body_ends k fr None = both any
 method_body_ends k fr (Some b) = end_then (blocking_ends k 1 fr b) (λ ss ts h. both any)

@@ -3,7 +3,7 @@ use Rattle.std.proofs.Common.{◌≡◌, ◌∙◌, refl, ap, ℕ, ◌==◌, ◌
 use Rattle.std.specs.Bool.{OnTrue}
 use Rattle.std.specs.List.{list_any}
 use Rattle.indexmap.specs.IndexSet.{insert_key}
-use Rattle.viper_types.specs.Stepping.{Target, is_target, is_listed, numbers_in}
+use Rattle.viper_types.specs.Stepping.{AssignedVariable, is_target, is_listed, numbers_in}
 
 either : (b c : Bool) → (b || c) ≡ cond b true c
 either true c = refl
@@ -22,10 +22,10 @@ pushed n ms ks added is e = by (list_any (λ m. n == m) ms) is e
     by true h k = rw h tt
     by false h k = rw h k
 
-pub is_listed-numbers : (n : ℕ) (vs : List Target) → is_listed n (numbers_in vs) ≡ is_target n vs
+pub is_listed-numbers : (n : ℕ) (vs : List AssignedVariable) → is_listed n (numbers_in vs) ≡ is_target n vs
 is_listed-numbers n [] = refl
 is_listed-numbers n (v ∷ vs) = ap (cond (n == v.number) true) (is_listed-numbers n vs)
 
-pub numbers_in-push : (vs : List Target) (v : Target) → numbers_in (vs ++ v ∷ []) ≡ numbers_in vs ++ v.number ∷ []
+pub numbers_in-push : (vs : List AssignedVariable) (v : AssignedVariable) → numbers_in (vs ++ v ∷ []) ≡ numbers_in vs ++ v.number ∷ []
 numbers_in-push [] v = refl
 numbers_in-push (w ∷ ws) v = ap (λ ns. w.number ∷ ns) (numbers_in-push ws v)

@@ -16,14 +16,14 @@ use Rattle.viper_syntax.specs.declared.tokens.Word.{Word}
 use Rattle.viper_syntax.specs.declared.tokens.Word.TheVariants as word
 use Rattle.viper_scope.specs.declared.rules.Rule.TheVariants as rule
 use Rattle.viper_scope.specs.Context.{World, Context, method_at, nowhere}
-use Rattle.viper_scope.specs.Scope.{Scope}
+use Rattle.viper_scope.specs.Scope.{VariableScope}
 use Rattle.viper_scope.specs.Arguments.{as_many, misfit}
 use Rattle.viper_types.specs.Typing.{typing_all, expected, asserting}
 use Rattle.viper_scope.specs.Types.{declared_type}
-use Rattle.viper_types.specs.Frame.{Frame, declared_in_arms, declared_in_block, declared_in_else, declared_in_arm, frame_after, with_hidden}
+use Rattle.viper_types.specs.Frame.{MethodVariables, declared_in_arms, declared_in_block, declared_in_else, declared_in_arm, frame_after, with_hidden}
 use Rattle.viper_scope.specs.Target.{targets}
 use Rattle.viper_types.specs.Stepping as j
-use Rattle.viper_types.specs.Stepping.{Target, Branch, mistarget, alone, nested, arm_count, chosen_fields, target_place, asserting_all, stepping, blocking, stepping_all, otherwise}
+use Rattle.viper_types.specs.Stepping.{AssignedVariable, Branch, mistarget, alone, nested, arm_count, chosen_fields, target_place, asserting_all, stepping, blocking, stepping_all, otherwise}
 use Rattle.viper_types.proofs.Tells.{Tells, tells, broken, tell_then, tell_known, tell_obeys, tell_clear}
 
 abbrev pub is_plain : c.Stmt → Bool
@@ -56,27 +56,27 @@ mutual
 -- ---- statements without a block
 
 module _ (n : ℕ) where
-  calls : (k : Context) (sc : Scope) (at : Pos) (vs : List Target) (call : s.SCall) → Tells (ListLoops n) (j.calling k sc at vs call)
+  calls : (k : Context) (sc : VariableScope) (at : Pos) (vs : List AssignedVariable) (call : s.SCall) → Tells (ListLoops n) (j.calling k sc at vs call)
   calls k sc at vs call =
       tell_known (method_at k.world call.name.name) call.name.pos rule.UnknownName (λ m i. tell_then (anything (typing_all k sc (t.terms call.args))) (λ xs h.
       tell_obeys (as_many xs m.1.params) call.name.pos rule.ArgumentCount (λ i1. tell_obeys (as_many vs m.1.returns) call.name.pos rule.TargetCount (λ i2.
       tell_clear (mistarget vs m.1.returns) rule.WrongType (λ i3. tell_clear (misfit (t.terms call.args) xs m.1.params) rule.WrongType (λ i4. tells (plain refl)))))))
 
-  creates : (w : World) (sc : Scope) (at : Pos) (x : ℕ) (new : s.SNew) → Tells (ListLoops n) (j.creating true w sc at x new)
+  creates : (w : World) (sc : VariableScope) (at : Pos) (x : ℕ) (new : s.SNew) → Tells (ListLoops n) (j.creating true w sc at x new)
   creates w sc at x new = tell_then (anything (chosen_fields true w new)) (λ fs h. tells (plain refl))
 
-  declares : (k : Context) (fr : Frame) (at : Pos) (v : Target) (rhs : Option s.SRhs) → Tells (ListLoops n) (j.declaring true k fr at v rhs)
+  declares : (k : Context) (fr : MethodVariables) (at : Pos) (v : AssignedVariable) (rhs : Option s.SRhs) → Tells (ListLoops n) (j.declaring true k fr at v rhs)
   declares k fr at v None = tells (plain refl)
   declares k fr at v (Some (s.TermRhs a)) = tell_then (anything (expected k fr.scope v.ty a)) (λ x h. tells (plain refl))
   declares k fr at v (Some (s.CallRhs call)) = calls k fr.scope at (v ∷ []) call
   declares k fr at v (Some (s.NewRhs new)) = tell_obeys (same_type v.ty ty.Ref) v.at rule.WrongType (λ i. creates k.world fr.scope at v.number new)
 
-  into_field : (k : Context) (sc : Scope) (call : s.SCall) → Tells (ListLoops n) (j.calling_into_field k sc call)
+  into_field : (k : Context) (sc : VariableScope) (call : s.SCall) → Tells (ListLoops n) (j.calling_into_field k sc call)
   into_field k sc call =
       tell_known (method_at k.world call.name.name) call.name.pos rule.UnknownName (λ m i. tell_then (anything (typing_all k sc (t.terms call.args))) (λ xs h.
       tell_obeys (as_many xs m.1.params) call.name.pos rule.ArgumentCount (λ i1. broken)))
 
-  sets : (k : Context) (sc : Scope) (xs : List Named) (rhs : s.SRhs) → Tells (ListLoops n) (j.setting true k sc xs rhs)
+  sets : (k : Context) (sc : VariableScope) (xs : List Named) (rhs : s.SRhs) → Tells (ListLoops n) (j.setting true k sc xs rhs)
   sets k sc [] rhs = broken
   sets k sc (x ∷ []) (s.TermRhs a) = tell_then (anything (j.target sc x)) (λ v h. tell_then (anything (expected k sc v.ty a)) (λ y g. tells (plain refl)))
   sets k sc (x ∷ []) (s.CallRhs call) = tell_then (anything (j.target sc x)) (λ v h. calls k sc x.pos (v ∷ []) call)
@@ -86,7 +86,7 @@ module _ (n : ℕ) where
   sets k sc (x ∷ f ∷ fs) (s.CallRhs call) = tell_then (anything (target_place k sc x f fs)) (λ l h. into_field k sc call)
   sets k sc (x ∷ f ∷ fs) (s.NewRhs new) = tell_then (anything (target_place k sc x f fs)) (λ l h. broken)
 
-  checks : (k : Context) (sc : Scope) (w : Word) (at : Pos) (a : t.Term) → Tells (ListLoops n) (j.checking k sc w at a)
+  checks : (k : Context) (sc : VariableScope) (w : Word) (at : Pos) (a : t.Term) → Tells (ListLoops n) (j.checking k sc w at a)
   checks k sc word.Inhale at a = tell_then (anything (asserting k sc a)) (λ x h. tells (plain refl))
   checks k sc word.Exhale at a = tell_then (anything (asserting k sc a)) (λ x h. tells (plain refl))
   checks k sc word.Assert at a = tell_then (anything (asserting k sc a)) (λ x h. tells (plain refl))
@@ -113,10 +113,10 @@ nested_loops other no_arms g x is = absurd (cc)
 nested_loops {n} other (more_arms {b = b} {bs = bs} h more) g x is =
     subst (λ y. ListLoops n y) (same_Some _ _ is) (branches h (alone_loops (nested bs other) other (nested_loops other more g) g))
 
-more_vars : (fr : Frame) (us : List Ty) → length fr.vars ≤ length (with_hidden fr us).vars
+more_vars : (fr : MethodVariables) (us : List Ty) → length fr.vars ≤ length (with_hidden fr us).vars
 more_vars fr us = omega (arith, length-append fr.vars us)
 
-vars_stay : (fr : Frame) (a : s.SStmt) → length fr.vars ≤ length (frame_after fr a).vars
+vars_stay : (fr : MethodVariables) (a : s.SStmt) → length fr.vars ≤ length (frame_after fr a).vars
 vars_stay fr (s.Var at f rhs) = omega (arith, length-append fr.vars (declared_type f ∷ []))
 vars_stay fr (s.Assign xs rhs) = omega arith
 vars_stay fr (s.CallTo xs call) = omega arith
@@ -128,7 +128,7 @@ vars_stay fr (s.If arms other) = more_vars fr (declared_in_arms arms ++ declared
 vars_stay fr (s.While at a is b) = more_vars fr (declared_in_block b)
 
 mutual
-  stmt_loops : (k : Context) (d : ℕ) (fr : Frame) (a : s.SStmt) → Tells (ListLoops (length fr.vars)) (stepping true k d fr a)
+  stmt_loops : (k : Context) (d : ℕ) (fr : MethodVariables) (a : s.SStmt) → Tells (ListLoops (length fr.vars)) (stepping true k d fr a)
   stmt_loops k d fr (s.Var at f rhs) = tell_then (anything (j.fresh fr f)) (λ v h. declares (length fr.vars) k fr at v rhs)
   stmt_loops k d fr (s.Assign xs rhs) = sets (length fr.vars) k fr.scope xs rhs
   stmt_loops k d fr (s.CallTo xs a) = tell_then (anything (j.call_targets fr.scope [] xs)) (λ vs h. calls (length fr.vars) k fr.scope _ vs a)
@@ -143,23 +143,23 @@ mutual
       tell_then (anything (expected k fr.scope ty.Bool a)) (λ x h. tell_then (anything (asserting_all k fr.scope is)) (λ xs g.
       tell_then (anything (blocking true k (d + 1) fr body)) (λ ss i. tells (turns (length fr.vars) (omega arith) refl))))
 
-  pub block_loops : (k : Context) (d : ℕ) (fr : Frame) (a : s.SBlock) → Tells (LoopsIn (length fr.vars)) (blocking true k d fr a)
+  pub block_loops : (k : Context) (d : ℕ) (fr : MethodVariables) (a : s.SBlock) → Tells (LoopsIn (length fr.vars)) (blocking true k d fr a)
   block_loops k d fr (s.block at ss) = tell_obeys (nat_le d max_block_depth) at rule.TooDeep (λ i. tell_then (all_loops k d fr ss) (λ xs h. tells h))
 
-  all_loops : (k : Context) (d : ℕ) (fr : Frame) (ss : s.SStmts) → Tells (λ xs. LoopsIn (length fr.vars) (c.stmts xs)) (stepping_all true k d fr ss)
+  all_loops : (k : Context) (d : ℕ) (fr : MethodVariables) (ss : s.SStmts) → Tells (λ xs. LoopsIn (length fr.vars) (c.stmts xs)) (stepping_all true k d fr ss)
   all_loops k d fr s.no_stmts = tells no_loops
   all_loops k d fr (s.more_stmts a rest) =
       tell_then (stmt_loops k d fr a) (λ x h. tell_then (all_loops k d (frame_after fr a) rest) (λ xs g. tells (more_loops h (lower_all (vars_stay fr a) g))))
 
-  branches_loops : (k : Context) (d : ℕ) (fr : Frame) (arms : s.SArms) → Tells (BranchLoops (length fr.vars)) (j.branches true k d fr arms)
+  branches_loops : (k : Context) (d : ℕ) (fr : MethodVariables) (arms : s.SArms) → Tells (BranchLoops (length fr.vars)) (j.branches true k d fr arms)
   branches_loops k d fr s.no_arms = tells no_arms
   branches_loops k d fr (s.more_arms a rest) =
       tell_then (branch_loops k d fr a) (λ x h. tell_then (branches_loops k (d + 1) (with_hidden fr (declared_in_arm a)) rest) (λ xs g.
       tells (more_arms h (lower_arms (more_vars fr (declared_in_arm a)) g))))
 
-  branch_loops : (k : Context) (d : ℕ) (fr : Frame) (a : s.SArm) → Tells (λ b. LoopsIn (length fr.vars) b.body) (j.branch true k d fr a)
+  branch_loops : (k : Context) (d : ℕ) (fr : MethodVariables) (a : s.SArm) → Tells (λ b. LoopsIn (length fr.vars) b.body) (j.branch true k d fr a)
   branch_loops k d fr (s.arm at a body) = tell_then (anything (expected k fr.scope ty.Bool a)) (λ x h. tell_then (block_loops k d fr body) (λ ss g. tells g))
 
-  else_loops : (k : Context) (d : ℕ) (fr : Frame) (o : s.SElse) → Tells (LoopsIn (length fr.vars)) (otherwise true k d fr o)
+  else_loops : (k : Context) (d : ℕ) (fr : MethodVariables) (o : s.SElse) → Tells (LoopsIn (length fr.vars)) (otherwise true k d fr o)
   else_loops k d fr s.no_else = tells no_loops
   else_loops k d fr (s.else_block body) = block_loops k d fr body

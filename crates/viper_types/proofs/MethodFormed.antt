@@ -20,12 +20,12 @@ use Rattle.viper_core.specs.Typing.{IsAssertion, AreStmts}
 use Rattle.viper_syntax.specs.Decl as d
 use Rattle.viper_syntax.specs.Stmt as s
 use Rattle.viper_syntax.specs.declared.stmts.Formal.{Formal}
-use Rattle.viper_scope.specs.declared.context.Part.TheVariants as part
+use Rattle.viper_scope.specs.declared.context.UnitPart.TheVariants as part
 use Rattle.viper_scope.specs.Context.{World, Context}
 use Rattle.viper_scope.specs.Types.{declared_type}
-use Rattle.viper_types.specs.Frame.{Frame, declared, declared_in, declared_in_block, declared_in_arms, declared_in_arm, declared_in_else}
+use Rattle.viper_types.specs.Frame.{MethodVariables, declared, declared_in, declared_in_block, declared_in_arms, declared_in_arm, declared_in_else}
 use Rattle.viper_syntax.specs.Good.{HasLiterals, clauses_terms, option_terms, block_terms, stmt_names, stmts_names, block_names, arms_names, arm_names, else_names, body_names, decl_names}
-use Rattle.viper_scope.specs.Scope.{Scope}
+use Rattle.viper_scope.specs.Scope.{VariableScope}
 use Rattle.viper_types.specs.Declaring.{no_frame, name_of, context_in, conditions, locals}
 use Rattle.viper_types.specs.Program.{AreFormals, requires_of, ensures_of, AreClauses, no_clauses, one_clause, IsMethodBody, no_block, block_of, IsMethod, method_of}
 use Rattle.viper_types.proofs.TermTypes.{Describes, Resolves, is_assertion}
@@ -79,7 +79,7 @@ locals_count (Some b) = block_count b
 
 -- ---- clauses
 
-preconditions_are : {w : World} {bodies : List (Option e.Assertion)} {params all : Scope} {ctx : c.Context} {ds : List d.SClause} {xs : List (Bool × e.Assertion)} →
+preconditions_are : {w : World} {bodies : List (Option e.Assertion)} {params all : VariableScope} {ctx : c.Context} {ds : List d.SClause} {xs : List (Bool × e.Assertion)} →
     Resolves (context_in w bodies part.Precondition) params ctx → AreClauses w bodies params all ds xs → All HasLiterals (clauses_terms ds) →
     All (IsAssertion ctx) (conditions true xs)
 preconditions_are {ctx = ctx} z no_clauses l = All-nil (IsAssertion ctx)
@@ -88,7 +88,7 @@ preconditions_are {ctx = ctx} z (one_clause {rest = rest} {xs = xs} (requires_of
     (preconditions_are z hs (All-tail HasLiterals a (clauses_terms rest) l))
 preconditions_are z (one_clause {rest = rest} (ensures_of {a = a} h) hs) l = preconditions_are z hs (All-tail HasLiterals a (clauses_terms rest) l)
 
-postconditions_are : {w : World} {bodies : List (Option e.Assertion)} {params all : Scope} {ctx : c.Context} {ds : List d.SClause} {xs : List (Bool × e.Assertion)} →
+postconditions_are : {w : World} {bodies : List (Option e.Assertion)} {params all : VariableScope} {ctx : c.Context} {ds : List d.SClause} {xs : List (Bool × e.Assertion)} →
     Resolves (context_in w bodies part.Elsewhere) all ctx → AreClauses w bodies params all ds xs → All HasLiterals (clauses_terms ds) →
     All (IsAssertion ctx) (conditions false xs)
 postconditions_are {ctx = ctx} z no_clauses l = All-nil (IsAssertion ctx)
@@ -97,7 +97,7 @@ postconditions_are {ctx = ctx} z (one_clause {rest = rest} {xs = xs} (ensures_of
     (postconditions_are z hs (All-tail HasLiterals a (clauses_terms rest) l))
 postconditions_are z (one_clause {rest = rest} (requires_of {a = a} h) hs) l = postconditions_are z hs (All-tail HasLiterals a (clauses_terms rest) l)
 
-clauses_are_shallow : {w : World} {bodies : List (Option e.Assertion)} {params all : Scope} {ds : List d.SClause} {xs : List (Bool × e.Assertion)} →
+clauses_are_shallow : {w : World} {bodies : List (Option e.Assertion)} {params all : VariableScope} {ds : List d.SClause} {xs : List (Bool × e.Assertion)} →
     AreClauses w bodies params all ds xs → All IsShallow (clauses_terms ds) →
     max (assertion_depths (conditions true xs)) (assertion_depths (conditions false xs)) ≤ max_term_depth
 clauses_are_shallow no_clauses l = omega arith
@@ -109,12 +109,12 @@ clauses_are_shallow (one_clause {rest = rest} (ensures_of {a = a} h) hs) l =
 -- ---- bodies
 
 -- the frame in which the body of a method begins
-record Begins (q : p.Program) (m : p.Method) (fr : Frame) (us : List Ty) : Type 0 where
+record Begins (q : p.Program) (m : p.Method) (fr : MethodVariables) (us : List Ty) : Type 0 where
   sound : IsSound m.params fr
   extends : Extends (fr.vars ++ us) m.vars
   scope : core_scope fr ≡ method_scope m
 
-body_is_formed : {k : Context} {fr : Frame} {body : Option s.SBlock} {b : Option p.Body} (q : p.Program) (m : p.Method) → Describes k.world k.bodies q →
+body_is_formed : {k : Context} {fr : MethodVariables} {body : Option s.SBlock} {b : Option p.Body} (q : p.Program) (m : p.Method) → Describes k.world k.bodies q →
     Begins q m fr (locals body) → IsMethodBody k fr body b → All HasLiterals (option_terms block_terms body) → All IsShallow (option_terms block_terms body) →
     IfSome b (g.IsBody q m)
 body_is_formed q m z begins no_block l shallow = tt
@@ -128,7 +128,7 @@ body_is_formed {fr = fr} q m z begins (block_of {b = b} {ss = ss} h) l shallow =
       blocks = omega (arith, deep.nested);
     }
 
-body_variables : {k : Context} {fr : Frame} {body : Option s.SBlock} {b : Option p.Body} (q : p.Program) (m : p.Method) → Describes k.world k.bodies q →
+body_variables : {k : Context} {fr : MethodVariables} {body : Option s.SBlock} {b : Option p.Body} (q : p.Program) (m : p.Method) → Describes k.world k.bodies q →
     Begins q m fr (locals body) → IsMethodBody k fr body b → All HasLiterals (option_terms block_terms body) →
     length (fr.vars ++ locals body) ≡ variables_of (method_scope m) b
 body_variables {fr = fr} q m z begins no_block l = ap (λ us. length us) (append-nil fr.vars) ∙ ap (λ (sc : cs.Scope). sc.fresh) begins.scope
@@ -139,19 +139,19 @@ body_variables {fr = fr} q m z begins (block_of {b = b} {ss = ss} h) l =
 
 -- ---- methods
 
-returns_apart : {ps fr : Frame} (rs : List Formal) → AreFormals true false ps rs fr →
+returns_apart : {ps fr : MethodVariables} (rs : List Formal) → AreFormals true false ps rs fr →
     AllByRecursion (IsUnknown ps.scope) (map name_of rs) × Apart (map name_of rs)
 returns_apart {ps} rs h =
     subst (λ xs. AllByRecursion (IsUnknown ps.scope) xs × Apart xs) (append-nil (map name_of rs)) (formals_apart [] h tt tt)
 
-method_names : {ps fr : Frame} (xs rs : List Formal) → AreFormals true true no_frame xs ps → AreFormals true false ps rs fr →
+method_names : {ps fr : MethodVariables} (xs rs : List Formal) → AreFormals true true no_frame xs ps → AreFormals true false ps rs fr →
     NamesDiffer (map name_of xs ++ map name_of rs)
 method_names xs rs h g =
     let returns = returns_apart rs g in
     differ_from_apart (map name_of xs ++ map name_of rs) (formals_apart (map name_of rs) h returns.0 returns.1).1
 
 -- the variables of a method: its parameters, and then its returns
-record HasFormals (m : d.SMethod) (ps fr : Frame) : Type 0 where
+record HasFormals (m : d.SMethod) (ps fr : MethodVariables) : Type 0 where
   params : ps.vars ≡ map declared_type m.params
   returns : fr.vars ≡ ps.vars ++ map declared_type m.returns
   count_params : length ps.vars ≡ length m.params
@@ -161,7 +161,7 @@ record HasFormals (m : d.SMethod) (ps fr : Frame) : Type 0 where
   param_variables : AreVariables (length m.params) ps.vars ps.scope
   variables : AreVariables (length m.params) fr.vars fr.scope
 
-has_formals : (m : d.SMethod) (ps fr : Frame) → AreFormals true true no_frame m.params ps → AreFormals true false ps m.returns fr → HasFormals m ps fr
+has_formals : (m : d.SMethod) (ps fr : MethodVariables) → AreFormals true true no_frame m.params ps → AreFormals true false ps m.returns fr → HasFormals m ps fr
 has_formals m ps fr h g =
     let params : ps.vars ≡ map declared_type m.params = formals_vars h in
     let returns : fr.vars ≡ ps.vars ++ map declared_type m.returns = formals_vars g in
@@ -179,7 +179,7 @@ has_formals m ps fr h g =
       variables = formals_are_variables (length m.params) g (λ i. omega (arith, count_params)) param_variables;
     }
 
-few_variables : (m : d.SMethod) (ps fr : Frame) → HasFormals m ps fr → length (decl_names (d.Method m)) < 2 ^ 32 → length (fr.vars ++ locals m.body) < 2 ^ 32
+few_variables : (m : d.SMethod) (ps fr : MethodVariables) → HasFormals m ps fr → length (decl_names (d.Method m)) < 2 ^ 32 → length (fr.vars ++ locals m.body) < 2 ^ 32
 few_variables m ps fr f few =
     let params = map name_of m.params in
     let returns = map name_of m.returns in

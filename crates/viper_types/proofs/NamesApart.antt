@@ -9,7 +9,7 @@ use Rattle.viper_syntax.specs.Decl as d
 use Rattle.viper_syntax.specs.declared.stmts.Formal.{Formal}
 use Rattle.viper_scope.specs.declared.context.Role.{Role}
 use Rattle.viper_scope.specs.Context.{World, find}
-use Rattle.viper_types.specs.Frame.{Frame}
+use Rattle.viper_types.specs.Frame.{MethodVariables}
 use Rattle.viper_scope.specs.Naming.{decl_name, with_decl}
 use Rattle.viper_types.specs.Declaring.{name_of}
 use Rattle.viper_types.specs.Program.{AreNamed, no_names, one_name, AreFormals, no_formals, one_formal}
@@ -77,7 +77,7 @@ one_more entries x v xs i h apart =
 
 -- ---- formals
 
-pub formals_apart : {allows_perm is_parameter : Bool} {fr gr : Frame} {fs : List Formal} (rest : List (List ℕ)) →
+pub formals_apart : {allows_perm is_parameter : Bool} {fr gr : MethodVariables} {fs : List Formal} (rest : List (List ℕ)) →
     AreFormals allows_perm is_parameter fr fs gr → AllByRecursion (IsUnknown gr.scope) rest → Apart rest →
     AllByRecursion (IsUnknown fr.scope) (map name_of fs ++ rest) × Apart (map name_of fs ++ rest)
 formals_apart rest no_formals h apart = (h, apart)

@@ -20,9 +20,9 @@ use Rattle.viper_syntax.specs.declared.stmts.Named.{Named}
 use Rattle.viper_syntax.specs.declared.stmts.Formal.{Formal}
 use Rattle.viper_scope.specs.Context.{World}
 use Rattle.viper_scope.specs.Types.{declared_type}
-use Rattle.viper_types.specs.Frame.{Frame}
+use Rattle.viper_types.specs.Frame.{MethodVariables}
 use Rattle.viper_syntax.specs.Good.{HasLiterals, option_terms, decl_terms, decl_names}
-use Rattle.viper_scope.specs.Scope.{Scope}
+use Rattle.viper_scope.specs.Scope.{VariableScope}
 use Rattle.viper_types.specs.Declaring.{no_frame, name_of, body_context}
 use Rattle.viper_types.specs.Program.{AreFormals, IsPredicateBody, no_body, body_of, IsPredicate, predicate_of}
 use Rattle.viper_types.proofs.TermTypes.{Describes, Resolves, is_assertion}
@@ -52,17 +52,17 @@ without_bodies w bodies q z = record {
   layout_fields = z.layout_fields;
 }
 
-predicate_names : {fr : Frame} (params : List Formal) → AreFormals false true no_frame params fr → NamesDiffer (map name_of params)
+predicate_names : {fr : MethodVariables} (params : List Formal) → AreFormals false true no_frame params fr → NamesDiffer (map name_of params)
 predicate_names params h =
     differ_from_apart (map name_of params) (subst Apart (append-nil (map name_of params)) (formals_apart [] h tt tt).1)
 
-body_is_assertion : {w : World} {sc : Scope} {ctx : c.Context} {body : Option t.Term} {b : Option e.Assertion} → Resolves (body_context w) sc ctx →
+body_is_assertion : {w : World} {sc : VariableScope} {ctx : c.Context} {body : Option t.Term} {b : Option e.Assertion} → Resolves (body_context w) sc ctx →
     IsPredicateBody w sc body b → All HasLiterals (option_terms (λ a. a ∷ []) body) →
     IfSome b (IsAssertion ctx)
 body_is_assertion z no_body l = tt
 body_is_assertion z (body_of {a = a} h) l = is_assertion z h (All-head HasLiterals a [] l)
 
-body_is_shallow : {w : World} {sc : Scope} {body : Option t.Term} {b : Option e.Assertion} → IsPredicateBody w sc body b →
+body_is_shallow : {w : World} {sc : VariableScope} {body : Option t.Term} {b : Option e.Assertion} → IsPredicateBody w sc body b →
     All IsShallow (option_terms (λ a. a ∷ []) body) →
     IfSome b (λ a. assertion_depth a ≤ max_term_depth)
 body_is_shallow no_body l = tt

@@ -10,8 +10,8 @@ use Rattle.viper_syntax.specs.declared.stmts.Named.{Named}
 use Rattle.viper_syntax.specs.declared.stmts.Formal.{Formal}
 use Rattle.viper_scope.specs.Outcome.{Found}
 use Rattle.viper_scope.specs.Context.{World, Context}
-use Rattle.viper_scope.specs.Scope.{Scope}
-use Rattle.viper_types.specs.Frame.{Frame}
+use Rattle.viper_scope.specs.Scope.{VariableScope}
+use Rattle.viper_types.specs.Frame.{MethodVariables}
 use Rattle.viper_types.specs.Declaring as j
 use Rattle.viper_scope.specs.Naming.{naming}
 use Rattle.viper_types.specs.Declaring.{formals, Declared, bodies_of, decls_typing, predicate_typing, program_typing}
@@ -25,14 +25,14 @@ naming_finds : {w v : World} {ds : List d.Decl} → AreNamed w ds v → naming w
 naming_finds no_names = refl
 naming_finds (one_name i h) = rw i (naming_finds h)
 
-formals_find : {allows_perm is_parameter : Bool} {fr gr : Frame} {fs : List Formal} → AreFormals allows_perm is_parameter fr fs gr →
+formals_find : {allows_perm is_parameter : Bool} {fr gr : MethodVariables} {fs : List Formal} → AreFormals allows_perm is_parameter fr fs gr →
     formals allows_perm is_parameter fr fs ≡ Found gr
 formals_find no_formals = refl
 formals_find (one_formal i k l h) = rw (i, k, l) (formals_find h)
 
 -- predicates
 
-predicate_body_finds : {w : World} {sc : Scope} {a : Option t.Term} {b : Option e.Assertion} → IsPredicateBody w sc a b →
+predicate_body_finds : {w : World} {sc : VariableScope} {a : Option t.Term} {b : Option e.Assertion} → IsPredicateBody w sc a b →
     j.predicate_body w sc a ≡ Found b
 predicate_body_finds no_body = refl
 predicate_body_finds (body_of h) = rw (asserting_finds h) refl
@@ -44,19 +44,19 @@ predicate_finds (predicate_of h g) = rw (formals_find h, predicate_body_finds g)
 
 -- methods
 
-clause_finds : {w : World} {bodies : List (Option e.Assertion)} {params all : Scope} {a : d.SClause} {x : Bool × e.Assertion} →
+clause_finds : {w : World} {bodies : List (Option e.Assertion)} {params all : VariableScope} {a : d.SClause} {x : Bool × e.Assertion} →
     IsClause w bodies params all a x →
     j.clause_of w bodies params all a.word a.term ≡ Found x
 clause_finds (requires_of h) = rw (asserting_finds h) refl
 clause_finds (ensures_of h) = rw (asserting_finds h) refl
 
-clauses_find : {w : World} {bodies : List (Option e.Assertion)} {params all : Scope} {ds : List d.SClause} {xs : List (Bool × e.Assertion)} →
+clauses_find : {w : World} {bodies : List (Option e.Assertion)} {params all : VariableScope} {ds : List d.SClause} {xs : List (Bool × e.Assertion)} →
     AreClauses w bodies params all ds xs →
     j.clauses w bodies params all ds ≡ Found xs
 clauses_find no_clauses = refl
 clauses_find (one_clause h g) = rw (clause_finds h, clauses_find g) refl
 
-method_body_finds : {k : Context} {fr : Frame} {body : Option s.SBlock} {x : Option p.Body} → IsMethodBody k fr body x →
+method_body_finds : {k : Context} {fr : MethodVariables} {body : Option s.SBlock} {x : Option p.Body} → IsMethodBody k fr body x →
     j.method_body true k fr body ≡ Found x
 method_body_finds no_block = refl
 method_body_finds (block_of h) = rw (blocking_finds h) refl

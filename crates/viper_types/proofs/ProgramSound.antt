@@ -13,13 +13,13 @@ use Rattle.viper_syntax.specs.declared.stmts.Formal.{Formal}
 use Rattle.viper_syntax.specs.declared.tokens.Word.{Word}
 use Rattle.viper_syntax.specs.declared.tokens.Word.TheVariants as word
 use Rattle.viper_scope.specs.declared.rules.Rule.TheVariants as rule
-use Rattle.viper_scope.specs.declared.context.Part.{Part}
-use Rattle.viper_scope.specs.declared.context.Part.TheVariants as part
+use Rattle.viper_scope.specs.declared.context.UnitPart.{UnitPart}
+use Rattle.viper_scope.specs.declared.context.UnitPart.TheVariants as part
 use Rattle.viper_scope.specs.Outcome.{Judged, Found, Broken, then_typed, then_more}
 use Rattle.viper_scope.specs.Context.{World, Context, Signature, find}
-use Rattle.viper_scope.specs.Scope.{Scope}
+use Rattle.viper_scope.specs.Scope.{VariableScope}
 use Rattle.viper_scope.specs.Types.{type_of, declared_type}
-use Rattle.viper_types.specs.Frame.{Frame, with_variable}
+use Rattle.viper_types.specs.Frame.{MethodVariables, with_variable}
 use Rattle.viper_types.specs.Declaring as j
 use Rattle.viper_scope.specs.Naming.{decl_name, no_world, with_decl, is_new, naming}
 use Rattle.viper_types.specs.Declaring.{no_frame, formals, body_context, context_in, Declared, PredicateOf, found_body, bodies_of, decls_typing, predicate_typing, program_typing}
@@ -37,7 +37,7 @@ naming_told w [] = tells no_names
 naming_told w (a ∷ rest) =
     tell_obeys (is_new w a) (decl_name a).pos rule.DeclaredTwice (λ i. tell_so (naming_told (with_decl w a) rest) (λ v h. one_name (none_is _ i) h))
 
-formals_told : (allows_perm is_parameter : Bool) (fr : Frame) (fs : List Formal) →
+formals_told : (allows_perm is_parameter : Bool) (fr : MethodVariables) (fs : List Formal) →
     Tells (AreFormals allows_perm is_parameter fr fs) (formals allows_perm is_parameter fr fs)
 formals_told allows_perm is_parameter fr [] = tells no_formals
 formals_told allows_perm is_parameter fr (f ∷ fs) =
@@ -48,7 +48,7 @@ formals_told allows_perm is_parameter fr (f ∷ fs) =
 
 -- predicates
 
-predicate_body_told : (w : World) (sc : Scope) (body : Option t.Term) → Tells (IsPredicateBody w sc body) (j.predicate_body w sc body)
+predicate_body_told : (w : World) (sc : VariableScope) (body : Option t.Term) → Tells (IsPredicateBody w sc body) (j.predicate_body w sc body)
 predicate_body_told w sc None = tells no_body
 predicate_body_told w sc (Some a) = tell_then (asserting_told (body_context w) (body_has_none w) sc a) (λ x h. tells (body_of h))
 
@@ -57,7 +57,7 @@ predicate_told : (w : World) (at : Pos) (x : Named) (params : List Formal) (body
 predicate_told w at x params body =
     tell_then (formals_told false true no_frame params) (λ fr h. tell_then (predicate_body_told w fr.scope body) (λ b g. tells (predicate_of h g)))
 
-body_is_some : {w : World} {sc : Scope} {a : Option t.Term} {b : Option e.Assertion} → IsPredicateBody w sc a b → is_some a ≡ is_some b
+body_is_some : {w : World} {sc : VariableScope} {a : Option t.Term} {b : Option e.Assertion} → IsPredicateBody w sc a b → is_some a ≡ is_some b
 body_is_some no_body = refl
 body_is_some (body_of h) = refl
 
@@ -87,8 +87,8 @@ bodies_told w bodies (d.Method m ∷ rest) =
 
 -- methods
 
-clause_told : (w : World) (bodies : List (Option e.Assertion)) → ((u : Part) → HasBodies (context_in w bodies u)) →
-    (params all : Scope) (u : Word) (a : t.Term) →
+clause_told : (w : World) (bodies : List (Option e.Assertion)) → ((u : UnitPart) → HasBodies (context_in w bodies u)) →
+    (params all : VariableScope) (u : Word) (a : t.Term) →
     Tells (IsClause w bodies params all (record { word = u; term = a })) (j.clause_of w bodies params all u a)
 clause_told w bodies b params all word.Requires a =
     tell_then (asserting_told (context_in w bodies part.Precondition) (b part.Precondition) params a) (λ x h. tells (requires_of h))
@@ -96,18 +96,18 @@ clause_told w bodies b params all word.Ensures a =
     tell_then (asserting_told (context_in w bodies part.Elsewhere) (b part.Elsewhere) all a) (λ x h. tells (ensures_of h))
 clause_told w bodies b params all _ a = broken
 
-clauses_told : (w : World) (bodies : List (Option e.Assertion)) → ((u : Part) → HasBodies (context_in w bodies u)) →
-    (params all : Scope) (ds : List d.SClause) →
+clauses_told : (w : World) (bodies : List (Option e.Assertion)) → ((u : UnitPart) → HasBodies (context_in w bodies u)) →
+    (params all : VariableScope) (ds : List d.SClause) →
     Tells (AreClauses w bodies params all ds) (j.clauses w bodies params all ds)
 clauses_told w bodies b params all [] = tells no_clauses
 clauses_told w bodies b params all (a ∷ rest) =
     tell_then (clause_told w bodies b params all a.word a.term) (λ x h. tell_then (clauses_told w bodies b params all rest) (λ xs g. tells (one_clause h g)))
 
-method_body_told : (k : Context) → HasBodies k → (fr : Frame) (body : Option s.SBlock) → Tells (IsMethodBody k fr body) (j.method_body true k fr body)
+method_body_told : (k : Context) → HasBodies k → (fr : MethodVariables) (body : Option s.SBlock) → Tells (IsMethodBody k fr body) (j.method_body true k fr body)
 method_body_told k b fr None = tells no_block
 method_body_told k b fr (Some body) = tell_then (blocking_told k b 1 fr body) (λ ss h. tells (block_of h))
 
-method_told : (w : World) (bodies : List (Option e.Assertion)) → ((u : Part) → HasBodies (context_in w bodies u)) → (m : d.SMethod) →
+method_told : (w : World) (bodies : List (Option e.Assertion)) → ((u : UnitPart) → HasBodies (context_in w bodies u)) → (m : d.SMethod) →
     Tells (IsMethod w bodies m) (j.method_typing true w bodies m)
 method_told w bodies b m =
     tell_then (formals_told true true no_frame m.params) (λ ps h. tell_then (formals_told true false ps m.returns) (λ fr g.
@@ -116,13 +116,13 @@ method_told w bodies b m =
 
 -- programs
 
-decl_told : (w : World) (bodies : List (Option e.Assertion)) → ((u : Part) → HasBodies (context_in w bodies u)) → (a : d.Decl) →
+decl_told : (w : World) (bodies : List (Option e.Assertion)) → ((u : UnitPart) → HasBodies (context_in w bodies u)) → (a : d.Decl) →
     Tells (IsDeclared w bodies a) (j.decl_typing true w bodies a)
 decl_told w bodies b (d.Field f) = tell_obeys (is_some (type_of f.ty)) f.name.pos rule.WrongType (λ i. tells (r.field (is_type _ i)))
 decl_told w bodies b (d.Predicate at x params body) = tell_then (predicate_told w at x params body) (λ q h. tells (r.predicate h))
 decl_told w bodies b (d.Method m) = tell_then (method_told w bodies b m) (λ q h. tells (r.method h))
 
-decls_told : (w : World) (bodies : List (Option e.Assertion)) → ((u : Part) → HasBodies (context_in w bodies u)) → (ds : List d.Decl) →
+decls_told : (w : World) (bodies : List (Option e.Assertion)) → ((u : UnitPart) → HasBodies (context_in w bodies u)) → (ds : List d.Decl) →
     Tells (AreDeclared w bodies ds) (decls_typing true w bodies ds)
 decls_told w bodies b [] = tells no_decls
 decls_told w bodies b (a ∷ rest) = tell_then (decl_told w bodies b a) (λ x h. tell_then (decls_told w bodies b rest) (λ xs g. tells (one_decl h g)))

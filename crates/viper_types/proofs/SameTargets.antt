@@ -16,7 +16,7 @@ use Rattle.viper_core.specs.Typing as g
 use Rattle.viper_core.proofs.ScopeLaws.{some_old_or_new}
 use Rattle.viper_syntax.specs.Stmt as s
 use Rattle.viper_scope.specs.Context.{Context}
-use Rattle.viper_types.specs.Frame.{Frame}
+use Rattle.viper_types.specs.Frame.{MethodVariables}
 use Rattle.viper_scope.specs.Outcome.{Found}
 use Rattle.viper_scope.specs.Target.{listed as listed_only, with_target, with_targets, targets_of_stmt, targets_from, gathered, targets}
 use Rattle.viper_types.specs.Stepping.{blocking}
@@ -86,7 +86,7 @@ has_filter : (p : ℕ → Bool) (xs : List ℕ) (z : ℕ) → has (filter p xs) 
 has_filter p xs z = any-filter_same (λ y. y == z) p (p z) (λ k i. ap p (eqb-true k z i)) xs
 
 -- the listed targets of a typed loop are what it assigns of what was there before
-listed : {m : g.Frame} {sc : cs.Scope} {body : c.Stmts} (below z : ℕ) → g.AreStmts m sc body → below ≤ sc.fresh → z < below →
+listed : {m : g.MethodContext} {sc : cs.Scope} {body : c.Stmts} (below z : ℕ) → g.AreStmts m sc body → below ≤ sc.fresh → z < below →
     has (loop_targets sc body) z ≡ some_assigns z body
 listed {m} {sc} {body} below z h le lt =
     has_filter (λ x. some_assigns x body) sc.visible z ∙ first_decides (some_assigns z body) (has sc.visible z)
@@ -188,7 +188,7 @@ gathered_targets below body h =
     ])
 
 -- what a typed body assigns is visible where it was declared before
-pub same_targets : {m : g.Frame} (sc : cs.Scope) (body : c.Stmts) → g.AreStmts m sc body → Rising 0 sc.fresh sc.visible →
+pub same_targets : {m : g.MethodContext} (sc : cs.Scope) (body : c.Stmts) → g.AreStmts m sc body → Rising 0 sc.fresh sc.visible →
     targets sc.fresh body ≡ loop_targets sc body
 same_targets sc body h rising =
     let all : Rising 0 sc.fresh (targets sc.fresh body) = rising_targets_of sc.fresh body in
@@ -200,7 +200,7 @@ same_targets sc body h rising =
     ])
 
 -- the list of a loop, as it is gathered
-pub listed_targets : (lists : Bool) (k : Context) (d : ℕ) (fr : Frame) (b : s.SBlock) (ss : c.Stmts) → blocking lists k d fr b ≡ Found ss →
+pub listed_targets : (lists : Bool) (k : Context) (d : ℕ) (fr : MethodVariables) (b : s.SBlock) (ss : c.Stmts) → blocking lists k d fr b ≡ Found ss →
     listed_only lists (gathered (length fr.vars) ss) ≡ listed_only lists (targets (length fr.vars) ss)
 listed_targets true k d fr b ss h = gathered_targets (length fr.vars) ss (told (block_loops k d fr b) h)
 listed_targets false k d fr b ss h = refl

@@ -11,8 +11,8 @@ use Rattle.viper_core.specs.Typing as g
 use Rattle.viper_syntax.specs.Stmt as s
 use Rattle.viper_scope.specs.declared.context.Variable.{Variable}
 use Rattle.viper_scope.specs.Context.{Context, find}
-use Rattle.viper_scope.specs.Scope.{Scope}
-use Rattle.viper_types.specs.Frame.{Frame, declared, with_variable, with_hidden, frame_after}
+use Rattle.viper_scope.specs.Scope.{VariableScope}
+use Rattle.viper_types.specs.Frame.{MethodVariables, declared, with_variable, with_hidden, frame_after}
 use Rattle.viper_types.proofs.TermTypes.{Describes, Resolves}
 use Rattle.viper_types.proofs.Rising.{Rising, rising_push, rising_wider}
 
@@ -27,12 +27,12 @@ extends_less some more all h = record { at = λ n u i. h.at n u (there_left some
 
 -- ---- scopes
 
-abbrev pub numbers : Scope → List ℕ
+abbrev pub numbers : VariableScope → List ℕ
 numbers [] = []
 numbers (x ∷ xs) = x.1.number ∷ numbers xs
 
 -- the scope of the core
-abbrev pub core_scope : Frame → cs.Scope
+abbrev pub core_scope : MethodVariables → cs.Scope
 core_scope fr = record { visible = numbers fr.scope; fresh = length fr.vars }
 
 -- a variable has its type, and one that is no parameter may be assigned
@@ -40,26 +40,26 @@ pub record IsVariable (params : ℕ) (vars : List Ty) (v : Variable) : Type 0 wh
   pub typed : slice_get vars v.number ≡ Some v.ty
   pub no_parameter : v.is_parameter ≡ false → params ≤ v.number
 
-abbrev pub AreVariables : ℕ → List Ty → Scope → Type 0
+abbrev pub AreVariables : ℕ → List Ty → VariableScope → Type 0
 AreVariables params vars [] = Unit {0}
 AreVariables params vars (x ∷ xs) = IsVariable params vars x.1 × AreVariables params vars xs
 
-pub record IsSound (params : ℕ) (fr : Frame) : Type 0 where
+pub record IsSound (params : ℕ) (fr : MethodVariables) : Type 0 where
   pub variables : AreVariables params fr.vars fr.scope
   pub rising : Rising 0 (length fr.vars) (numbers fr.scope)
   pub params_first : params ≤ length fr.vars
 
-pub variables_stay : (params : ℕ) (vars more : List Ty) (sc : Scope) → AreVariables params vars sc → AreVariables params (vars ++ more) sc
+pub variables_stay : (params : ℕ) (vars more : List Ty) (sc : VariableScope) → AreVariables params vars sc → AreVariables params (vars ++ more) sc
 variables_stay params vars more [] h = tt
 variables_stay params vars more (x ∷ xs) h =
     (record { typed = there_left vars more x.1.number x.1.ty h.0.typed; no_parameter = h.0.no_parameter }, variables_stay params vars more xs h.1)
 
-pub variables_push : (params : ℕ) (vars : List Ty) (sc : Scope) (x : List ℕ × Variable) → AreVariables params vars sc → IsVariable params vars x.1 →
+pub variables_push : (params : ℕ) (vars : List Ty) (sc : VariableScope) (x : List ℕ × Variable) → AreVariables params vars sc → IsVariable params vars x.1 →
     AreVariables params vars (sc ++ x ∷ [])
 variables_push params vars [] x h i = (i, tt)
 variables_push params vars (y ∷ ys) x h i = (h.0, variables_push params vars ys x h.1 i)
 
-pub numbers_push : (sc : Scope) (x : List ℕ × Variable) → numbers (sc ++ x ∷ []) ≡ numbers sc ++ x.1.number ∷ []
+pub numbers_push : (sc : VariableScope) (x : List ℕ × Variable) → numbers (sc ++ x ∷ []) ≡ numbers sc ++ x.1.number ∷ []
 numbers_push [] x = refl
 numbers_push (y ∷ ys) x = ap (λ ns. y.1.number ∷ ns) (numbers_push ys x)
 
@@ -69,7 +69,7 @@ same_scope {ns} {ms} {n} {m} h i =
 
 -- ---- one more variable
 
-pub sound_variable : (params : ℕ) (fr : Frame) (x : List ℕ) (u : Ty) (is_parameter : Bool) → IsSound params fr →
+pub sound_variable : (params : ℕ) (fr : MethodVariables) (x : List ℕ) (u : Ty) (is_parameter : Bool) → IsSound params fr →
     IsSound params (with_variable fr x u is_parameter)
 sound_variable params fr x u is_parameter h = record {
   variables =
@@ -81,13 +81,13 @@ sound_variable params fr x u is_parameter h = record {
   params_first = omega (arith, length_push fr.vars u, h.params_first);
 }
 
-pub declared_scope : (fr : Frame) (x : List ℕ) (u : Ty) (is_parameter : Bool) →
+pub declared_scope : (fr : MethodVariables) (x : List ℕ) (u : Ty) (is_parameter : Bool) →
     core_scope (with_variable fr x u is_parameter) ≡ cs.declared (core_scope fr)
 declared_scope fr x u is_parameter = same_scope (numbers_push fr.scope (x, record { number = length fr.vars; ty = u; is_parameter = is_parameter })) (length_push fr.vars u)
 
 -- ---- hidden variables
 
-pub sound_hidden : (params : ℕ) (fr : Frame) (us : List Ty) → IsSound params fr → IsSound params (with_hidden fr us)
+pub sound_hidden : (params : ℕ) (fr : MethodVariables) (us : List Ty) → IsSound params fr → IsSound params (with_hidden fr us)
 sound_hidden params fr us h =
     let le : length fr.vars ≤ length (fr.vars ++ us) = omega (arith, length-append fr.vars us) in
     record {
@@ -96,7 +96,7 @@ sound_hidden params fr us h =
       params_first = omega (arith, le, h.params_first);
     }
 
-pub hidden_scope : (fr : Frame) (us : List Ty) (inner : cs.Scope) → inner.fresh ≡ length (fr.vars ++ us) →
+pub hidden_scope : (fr : MethodVariables) (us : List Ty) (inner : cs.Scope) → inner.fresh ≡ length (fr.vars ++ us) →
     cs.after_block (core_scope fr) inner ≡ core_scope (with_hidden fr us)
 hidden_scope fr us inner h = same_scope refl h
 
@@ -109,7 +109,7 @@ first_or_later false x z o h = inr h
 contains_first : (n : ℕ) (ns : List ℕ) → Contains (n ∷ ns) n
 contains_first n ns = (0, omega arith, refl)
 
-pub found : (params : ℕ) (vars : List Ty) (sc : Scope) (x : List ℕ) (v : Variable) → AreVariables params vars sc → find sc x ≡ Some v →
+pub found : (params : ℕ) (vars : List Ty) (sc : VariableScope) (x : List ℕ) (v : Variable) → AreVariables params vars sc → find sc x ≡ Some v →
     Contains (numbers sc) v.number × IsVariable params vars v
 found params vars [] x v h i = absurd (cc)
 found params vars (y ∷ ys) x v h i =
@@ -119,7 +119,7 @@ found params vars (y ∷ ys) x v h i =
     ]
 
 -- names in the body of a method
-pub resolves : (k : Context) (m : g.Frame) (fr : Frame) → Describes k.world k.bodies m.program → IsSound m.params fr → Extends fr.vars m.vars →
+pub resolves : (k : Context) (m : g.MethodContext) (fr : MethodVariables) → Describes k.world k.bodies m.program → IsSound m.params fr → Extends fr.vars m.vars →
     Resolves k fr.scope (g.inside m (core_scope fr))
 resolves k m fr z h more = record {
   declarations = z;
@@ -130,7 +130,7 @@ resolves k m fr z h more = record {
 
 -- ---- after a statement
 
-pub vars_after : (fr : Frame) (a : s.SStmt) → (frame_after fr a).vars ≡ fr.vars ++ declared a
+pub vars_after : (fr : MethodVariables) (a : s.SStmt) → (frame_after fr a).vars ≡ fr.vars ++ declared a
 vars_after fr (s.Var at f rhs) = refl
 vars_after fr (s.Assign xs rhs) = sym (append-nil fr.vars)
 vars_after fr (s.CallTo xs call) = sym (append-nil fr.vars)
@@ -141,7 +141,7 @@ vars_after fr (s.Unfold f) = sym (append-nil fr.vars)
 vars_after fr (s.If arms other) = refl
 vars_after fr (s.While at a is b) = refl
 
-pub sound_after : (params : ℕ) (fr : Frame) (a : s.SStmt) → IsSound params fr → IsSound params (frame_after fr a)
+pub sound_after : (params : ℕ) (fr : MethodVariables) (a : s.SStmt) → IsSound params fr → IsSound params (frame_after fr a)
 sound_after params fr (s.Var at f rhs) h = sound_variable params fr _ _ _ h
 sound_after params fr (s.Assign xs rhs) h = h
 sound_after params fr (s.CallTo xs call) h = h

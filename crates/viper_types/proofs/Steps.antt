@@ -8,7 +8,7 @@ use Rattle.viper_scope.specs.declared.rules.RuleFault.TheVariants as fault
 use Rattle.viper_scope.specs.Answers.{Refuses}
 use Rattle.viper_scope.specs.Context.{Context}
 use Rattle.viper_scope.specs.Outcome.{Judged, Found, Broken, then_more, prefixed}
-use Rattle.viper_scope.specs.Scope.{Scope}
+use Rattle.viper_scope.specs.Scope.{VariableScope}
 use Rattle.viper_types.specs.Typing.{typing, typing_all, asserting}
 use Rattle.viper_types.specs.Stepping.{asserting_all}
 
@@ -56,10 +56,10 @@ one_broken one items i a done all f within is h so_far =
 pub none_left : {A X : Type 0} (one : A → Judged X) (items : List A) (i : ℕ) (done : List X) (all : Judged (List X)) → length items ≤ i → prefixed done (each one (drop i items)) ≡ all → all ≡ Found done
 none_left one items i done all over so_far = all_done done (each one (drop i items)) all (at_drop_all (each one) items i over) so_far
 
-pub typing_all-each : (c : Context) (sc : Scope) (items : List term.Term) → typing_all c sc (terms_of items) ≡ each (λ a. typing c sc (term_of a)) items
+pub typing_all-each : (c : Context) (sc : VariableScope) (items : List term.Term) → typing_all c sc (terms_of items) ≡ each (λ a. typing c sc (term_of a)) items
 typing_all-each c sc [] = refl
 typing_all-each c sc (a ∷ rest) = ap (then_more (typing c sc (term_of a))) (typing_all-each c sc rest)
 
-pub asserting_all-each : (c : Context) (sc : Scope) (items : List term.Term) → asserting_all c sc (map term_of items) ≡ each (λ a. asserting c sc (term_of a)) items
+pub asserting_all-each : (c : Context) (sc : VariableScope) (items : List term.Term) → asserting_all c sc (map term_of items) ≡ each (λ a. asserting c sc (term_of a)) items
 asserting_all-each c sc [] = refl
 asserting_all-each c sc (a ∷ rest) = ap (then_more (asserting c sc (term_of a))) (asserting_all-each c sc rest)

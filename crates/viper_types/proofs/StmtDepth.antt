@@ -15,10 +15,10 @@ use Rattle.viper_syntax.specs.declared.stmts.Named.{Named}
 use Rattle.viper_syntax.specs.declared.tokens.Word.{Word}
 use Rattle.viper_scope.specs.Context.{World, Context}
 use Rattle.viper_syntax.specs.Good.{depth, with_fields, target_terms, rhs_terms, option_terms, amount_terms, stmt_terms, block_terms, stmts_terms, arms_terms, else_terms}
-use Rattle.viper_scope.specs.Scope.{Scope}
+use Rattle.viper_scope.specs.Scope.{VariableScope}
 use Rattle.viper_types.specs.Typing.{Located}
-use Rattle.viper_types.specs.Frame.{Frame}
-use Rattle.viper_types.specs.Stepping.{Target, Branch, nested, alone, arm_count}
+use Rattle.viper_types.specs.Frame.{MethodVariables}
+use Rattle.viper_types.specs.Stepping.{AssignedVariable, Branch, nested, alone, arm_count}
 use Rattle.viper_types.specs.Stepped as r
 use Rattle.viper_types.specs.Stepped.{Stepped, Blocked, SteppedAll, Branches, Otherwise}
 use Rattle.viper_types.proofs.TermDepth.{expr_depth, exprs_depth, permission_amount_depth, assertion_depth}
@@ -31,14 +31,14 @@ pub record IsFlat (x : c.Stmt) : Type 0 where
   pub shallow : stmt_depth x ≤ max_term_depth
   pub flat : blocks_of x ≡ 0
 
-call_is_flat : {k : Context} {sc : Scope} {at : Pos} {vs : List Target} {call : s.SCall} {x : c.Stmt} → r.IsCall k sc at vs call x → All IsShallow call.args →
+call_is_flat : {k : Context} {sc : VariableScope} {at : Pos} {vs : List AssignedVariable} {call : s.SCall} {x : c.Stmt} → r.IsCall k sc at vs call x → All IsShallow call.args →
     IsFlat x
 call_is_flat {call = call} (r.call_of i args into) l = record { shallow = omega (arith, exprs_depth args, terms_are_shallow call.args l); flat = refl }
 
-new_is_flat : {w : World} {sc : Scope} {at : Pos} {n : ℕ} {new : s.SNew} {x : c.Stmt} → r.IsNew w sc at n new x → IsFlat x
+new_is_flat : {w : World} {sc : VariableScope} {at : Pos} {n : ℕ} {new : s.SNew} {x : c.Stmt} → r.IsNew w sc at n new x → IsFlat x
 new_is_flat (r.new_of h) = record { shallow = omega arith; flat = refl }
 
-declaration_is_flat : {k : Context} {sc : Scope} {at : Pos} {v : Target} {rhs : Option s.SRhs} {x : c.Stmt} → r.Declares k sc at v rhs x →
+declaration_is_flat : {k : Context} {sc : VariableScope} {at : Pos} {v : AssignedVariable} {rhs : Option s.SRhs} {x : c.Stmt} → r.Declares k sc at v rhs x →
     All IsShallow (option_terms rhs_terms rhs) →
     IsFlat x
 declaration_is_flat r.any_value l = record { shallow = omega arith; flat = refl }
@@ -46,11 +46,11 @@ declaration_is_flat (r.value {a = a} h) l = record { shallow = omega (arith, exp
 declaration_is_flat (r.Declares.returned h) l = call_is_flat h l
 declaration_is_flat (r.Declares.created is h) l = new_is_flat h
 
-place_depth : {k : Context} {sc : Scope} {a : t.Term} {f : Named} {fs : List Named} {l : Located} → r.IsPlace k sc a f fs l → g.depth l.receiver ≤ depth (with_fields a (f ∷ fs))
+place_depth : {k : Context} {sc : VariableScope} {a : t.Term} {f : Named} {fs : List Named} {l : Located} → r.IsPlace k sc a f fs l → g.depth l.receiver ≤ depth (with_fields a (f ∷ fs))
 place_depth (r.of_field h i) = omega (arith, expr_depth h)
 place_depth (r.of_further h) = place_depth h
 
-assignment_is_flat : {k : Context} {sc : Scope} {xs : List Named} {rhs : s.SRhs} {x : c.Stmt} → r.Sets k sc xs rhs x →
+assignment_is_flat : {k : Context} {sc : VariableScope} {xs : List Named} {rhs : s.SRhs} {x : c.Stmt} → r.Sets k sc xs rhs x →
     All IsShallow (target_terms xs ++ rhs_terms rhs) →
     IsFlat x
 assignment_is_flat (r.variable {x = x} {a = a} i h) l =
@@ -65,13 +65,13 @@ assignment_is_flat (r.Sets.field {x = x} {f = f} {fs = fs} {a = a} h h') l =
       flat = refl;
     }
 
-check_is_flat : {k : Context} {sc : Scope} {at : Pos} {a : t.Term} {w : Word} {x : c.Stmt} → r.Checks k sc at a w x → depth a ≤ max_term_depth → IsFlat x
+check_is_flat : {k : Context} {sc : VariableScope} {at : Pos} {a : t.Term} {w : Word} {x : c.Stmt} → r.Checks k sc at a w x → depth a ≤ max_term_depth → IsFlat x
 check_is_flat (r.inhale h) l = record { shallow = omega (arith, assertion_depth h, l); flat = refl }
 check_is_flat (r.exhale h) l = record { shallow = omega (arith, assertion_depth h, l); flat = refl }
 check_is_flat (r.asserted h) l = record { shallow = omega (arith, assertion_depth h, l); flat = refl }
 check_is_flat (r.assume h) l = record { shallow = omega (arith, expr_depth h, l); flat = refl }
 
-fold_is_shallow : {k : Context} {sc : Scope} {f : s.SFold} {x : c.FoldStmt} → r.IsFold k sc f x → All IsShallow (f.call.args ++ amount_terms f.amount) →
+fold_is_shallow : {k : Context} {sc : VariableScope} {f : s.SFold} {x : c.FoldStmt} → r.IsFold k sc f x → All IsShallow (f.call.args ++ amount_terms f.amount) →
     g.fold_depth x ≤ max_term_depth
 fold_is_shallow {f = f} (r.fold_of i has_body args m) l =
     omega (
@@ -82,7 +82,7 @@ fold_is_shallow {f = f} (r.fold_of i has_body args m) l =
       amount_is_shallow f.amount (all_right IsShallow f.call.args (amount_terms f.amount) l),
     )
 
-pub assertions_depth : {k : Context} {sc : Scope} {is : List t.Term} {xs : List e.Assertion} → r.AssertsAll k sc is xs → All IsShallow is →
+pub assertions_depth : {k : Context} {sc : VariableScope} {is : List t.Term} {xs : List e.Assertion} → r.AssertsAll k sc is xs → All IsShallow is →
     g.assertion_depths xs ≤ max_term_depth
 assertions_depth r.no_assertions l = omega arith
 assertions_depth (r.one_assertion {a = a} {rest = rest} h hs) l =
@@ -120,7 +120,7 @@ same_depth : (d e : ℕ) (ss : c.Stmts) → d ≡ e → NestElse d ss → NestEl
 same_depth d e ss is h = subst (λ n. NestElse n ss) is h
 
 mutual
-  pub step_nests : {k : Context} {d : ℕ} {fr : Frame} {a : s.SStmt} {x : c.Stmt} → Stepped k d fr a x → d ≤ max_block_depth → All IsShallow (stmt_terms a) → Nests d x
+  pub step_nests : {k : Context} {d : ℕ} {fr : MethodVariables} {a : s.SStmt} {x : c.Stmt} → Stepped k d fr a x → d ≤ max_block_depth → All IsShallow (stmt_terms a) → Nests d x
   step_nests {d = d} (r.var new h) le l = in_block d le (declaration_is_flat h l)
   step_nests {d = d} (r.assign h) le l = in_block d le (assignment_is_flat h l)
   step_nests {d = d} (r.call_to into differ h) le l = in_block d le (call_is_flat h l)
@@ -139,10 +139,10 @@ mutual
         nested = omega (arith, inside.nested);
       }
 
-  pub block_nests : {k : Context} {d : ℕ} {fr : Frame} {b : s.SBlock} {ss : c.Stmts} → Blocked k d fr b ss → All IsShallow (block_terms b) → NestAll d ss
+  pub block_nests : {k : Context} {d : ℕ} {fr : MethodVariables} {b : s.SBlock} {ss : c.Stmts} → Blocked k d fr b ss → All IsShallow (block_terms b) → NestAll d ss
   block_nests {d = d} (r.block i h) l = steps_nest h (leb-true d max_block_depth i) l
 
-  steps_nest : {k : Context} {d : ℕ} {fr : Frame} {ss : s.SStmts} {xs : List c.Stmt} → SteppedAll k d fr ss xs → d ≤ max_block_depth → All IsShallow (stmts_terms ss) →
+  steps_nest : {k : Context} {d : ℕ} {fr : MethodVariables} {ss : s.SStmts} {xs : List c.Stmt} → SteppedAll k d fr ss xs → d ≤ max_block_depth → All IsShallow (stmts_terms ss) →
       NestAll d (c.stmts xs)
   steps_nest r.no_steps le l = record { shallow = omega arith; nested = omega (arith, le) }
   steps_nest (r.one_step {a = a} {rest = rest} h hs) le l =
@@ -151,7 +151,7 @@ mutual
       record { shallow = omega (arith, first.shallow, others.shallow); nested = omega (arith, first.nested, others.nested) }
 
   -- arms whose blocks are deeper than this
-  arms_nest : {k : Context} {b : ℕ} {fr : Frame} {arms : s.SArms} {bs : List Branch} → Branches k b fr arms bs → (d : ℕ) → b ≡ d + 1 → d ≤ max_block_depth →
+  arms_nest : {k : Context} {b : ℕ} {fr : MethodVariables} {arms : s.SArms} {bs : List Branch} → Branches k b fr arms bs → (d : ℕ) → b ≡ d + 1 → d ≤ max_block_depth →
       (other : c.Stmts) → All IsShallow (arms_terms arms) → NestElse (d + arm_count arms) other →
       NestAll d (alone (nested bs other) other)
   arms_nest r.no_branches d is le other l o = last_block d other le (same_depth (d + 0) d other (omega arith) o)
@@ -165,6 +165,6 @@ mutual
         nested = omega (arith, is, first.nested, others.nested);
       }
 
-  else_nests : {k : Context} {d : ℕ} {fr : Frame} {o : s.SElse} {ss : c.Stmts} → Otherwise k d fr o ss → All IsShallow (else_terms o) → NestElse d ss
+  else_nests : {k : Context} {d : ℕ} {fr : MethodVariables} {o : s.SElse} {ss : c.Stmts} → Otherwise k d fr o ss → All IsShallow (else_terms o) → NestElse d ss
   else_nests r.no_block l = record { shallow = omega arith; nested = inl refl }
   else_nests (r.else_of h) l = let inside = block_nests h l in record { shallow = inside.shallow; nested = inr inside.nested }

@@ -15,7 +15,7 @@ use Rattle.viper_scope.specs.declared.rules.Rule.TheVariants as rule
 use Rattle.viper_scope.specs.declared.rules.RuleFault.{RuleFault}
 use Rattle.viper_scope.specs.Answers.{Refuses}
 use Rattle.viper_scope.specs.Context.{Context, nowhere}
-use Rattle.viper_types.specs.Frame.{Frame, declared_in_arms, with_hidden}
+use Rattle.viper_types.specs.Frame.{MethodVariables, declared_in_arms, with_hidden}
 use Rattle.viper_scope.specs.Outcome.{Judged, Found, Broken, then_typed, known, obeys}
 use Rattle.viper_types.specs.Typing.{expected}
 use Rattle.viper_scope.specs.Target.{targets, listed}
@@ -36,14 +36,14 @@ pub arm_count-length : (arms : List SArm) → arm_count (arms_of arms) ≡ lengt
 arm_count-length [] = refl
 arm_count-length (a ∷ rest) = omega (arith, arm_count-length rest)
 
-pub hidden_twice : (fr : Frame) (us vs : List Ty) → with_hidden (with_hidden fr us) vs ≡ with_hidden fr (us ++ vs)
+pub hidden_twice : (fr : MethodVariables) (us vs : List Ty) → with_hidden (with_hidden fr us) vs ≡ with_hidden fr (us ++ vs)
 hidden_twice fr us vs = ap (λ ws. record { vars = ws; scope = fr.scope }) (append_assoc fr.vars us vs)
 
-pub if_arms_refused : (lists : Bool) (k : Context) (d : ℕ) (fr : Frame) (arms : s.SArms) (other : s.SElse) (f : RuleFault) → Refuses (branches lists k (d + 1) fr arms) f → Refuses (stepping lists k d fr (s.If arms other)) f
+pub if_arms_refused : (lists : Bool) (k : Context) (d : ℕ) (fr : MethodVariables) (arms : s.SArms) (other : s.SElse) (f : RuleFault) → Refuses (branches lists k (d + 1) fr arms) f → Refuses (stepping lists k d fr (s.If arms other)) f
 if_arms_refused lists k d fr arms other f h = failed f (branches lists k (d + 1) fr arms) _ h
 
 -- once the arms are typed
-pub if_arms : (lists : Bool) (k : Context) (d : ℕ) (fr : Frame) (arms : s.SArms) (other : s.SElse) (bs : List Branch) (n : ℕ) (gr : Frame) → branches lists k (d + 1) fr arms ≡ Found bs →
+pub if_arms : (lists : Bool) (k : Context) (d : ℕ) (fr : MethodVariables) (arms : s.SArms) (other : s.SElse) (bs : List Branch) (n : ℕ) (gr : MethodVariables) → branches lists k (d + 1) fr arms ≡ Found bs →
     n ≡ arm_count arms → gr ≡ with_hidden fr (declared_in_arms arms) →
     stepping lists k d fr (s.If arms other) ≡ then_typed (otherwise lists k (d + n) gr other) (λ ss. known (nested bs ss) nowhere rule.WrongType Found)
 if_arms lists k d fr arms other bs n gr h is after =
@@ -60,7 +60,7 @@ pair_found (Found x) (Found y) p go h = ap (λ q. go q.0 q.1) (found_same h)
 pair_found (Found x) (Broken at r) p go h = absurd (cc)
 pair_found (Broken at r) js p go h = absurd (cc)
 
-pub loop_typed : (lists : Bool) (k : Context) (d : ℕ) (fr : Frame) (at : Pos) (a : t.Term) (is : List t.Term) (b : s.SBlock) (p : e.Expr × List e.Assertion) →
+pub loop_typed : (lists : Bool) (k : Context) (d : ℕ) (fr : MethodVariables) (at : Pos) (a : t.Term) (is : List t.Term) (b : s.SBlock) (p : e.Expr × List e.Assertion) →
     then_typed (expected k fr.scope ty.Bool a) (λ x. then_typed (asserting_all k fr.scope is) (λ xs. Found (x, xs))) ≡ Found p →
     stepping lists k d fr (s.While at a is b) ≡ then_typed (blocking lists k (d + 1) fr b) (λ ss. Found (c.While (c.loop at p.0 p.1 ss (opening_of b) (listed lists (targets (length fr.vars) ss)))))
 loop_typed lists k d fr at a is b p h =
@@ -69,7 +69,7 @@ loop_typed lists k d fr at a is b p h =
 
 -- ---- a block
 
-pub block_typed : (lists : Bool) (k : Context) (d : ℕ) (fr : Frame) (at : Pos) (ss : s.SStmts) (xs : List c.Stmt) → d ≤ max_block_depth → stepping_all lists k d fr ss ≡ Found xs → blocking lists k d fr (s.block at ss) ≡ Found (c.stmts xs)
+pub block_typed : (lists : Bool) (k : Context) (d : ℕ) (fr : MethodVariables) (at : Pos) (ss : s.SStmts) (xs : List c.Stmt) → d ≤ max_block_depth → stepping_all lists k d fr ss ≡ Found xs → blocking lists k d fr (s.block at ss) ≡ Found (c.stmts xs)
 block_typed lists k d fr at ss xs le h =
     let shallow : leb d max_block_depth ≡ true = search (rules, nat_tests) in
     ap (λ b. obeys b at rule.TooDeep (then_typed (stepping_all lists k d fr ss) as_block)) shallow ∙ ap (λ j. then_typed j as_block) h

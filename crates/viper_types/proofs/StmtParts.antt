@@ -20,10 +20,10 @@ use Rattle.viper_syntax.specs.Stmt as s
 use Rattle.viper_syntax.specs.declared.stmts.Named.{Named}
 use Rattle.viper_scope.specs.Context.{World, Context, field_at}
 use Rattle.viper_syntax.specs.Good.{HasLiterals, amount_terms}
-use Rattle.viper_scope.specs.Scope.{Scope, ref_variables}
+use Rattle.viper_scope.specs.Scope.{VariableScope, ref_variables}
 use Rattle.viper_types.specs.Typing.{Located}
-use Rattle.viper_types.specs.Frame.{Frame}
-use Rattle.viper_types.specs.Stepping.{Target, numbers_in}
+use Rattle.viper_types.specs.Frame.{MethodVariables}
+use Rattle.viper_types.specs.Stepping.{AssignedVariable, numbers_in}
 use Rattle.viper_types.specs.Stepped as r
 use Rattle.viper_types.proofs.TermTypes.{Describes, Resolves, has_type, have_types, permission_has_type}
 use Rattle.viper_types.proofs.GoodLists.{have_literals, amount_has_literals}
@@ -32,51 +32,51 @@ use Rattle.viper_types.proofs.Rising.{Rising, rising_bounds}
 use Rattle.viper_types.proofs.Scopes.{Extends, numbers, core_scope, AreVariables, IsSound, found, resolves}
 
 -- a frame over names, within a method of the program
-pub record Stands (k : Context) (m : g.Frame) (fr : Frame) : Type 0 where
+pub record Stands (k : Context) (m : g.MethodContext) (fr : MethodVariables) : Type 0 where
   pub declarations : Describes k.world k.bodies m.program
   pub sound : IsSound m.params fr
   pub extends : Extends fr.vars m.vars
 
-pub names_in : {k : Context} {m : g.Frame} {fr : Frame} → Stands k m fr → Resolves k fr.scope (g.inside m (core_scope fr))
+pub names_in : {k : Context} {m : g.MethodContext} {fr : MethodVariables} → Stands k m fr → Resolves k fr.scope (g.inside m (core_scope fr))
 names_in {k} {m} {fr} z = resolves k m fr z.declarations z.sound z.extends
 
 -- ---- targets
 
-pub target_is : {k : Context} {m : g.Frame} {fr : Frame} {x : Named} {v : Target} → Stands k m fr → r.IsTarget fr.scope x v →
+pub target_is : {k : Context} {m : g.MethodContext} {fr : MethodVariables} {x : Named} {v : AssignedVariable} → Stands k m fr → r.IsTarget fr.scope x v →
     g.IsTarget m (core_scope fr) v.number v.ty
 target_is {m = m} {fr = fr} {x = x} z (r.target {v = v} i free) =
     let is = found m.params fr.vars fr.scope x.name v z.sound.variables i in
     record { visible = is.0; no_parameter = is.1.no_parameter free; typed = z.extends.at v.number v.ty is.1.typed }
 
-abbrev pub types_in : List Target → List Ty
+abbrev pub types_in : List AssignedVariable → List Ty
 types_in [] = []
 types_in (v ∷ vs) = v.ty ∷ types_in vs
 
-pub takes : {vs : List Target} {us : List Ty} → r.TakeReturns vs us → types_in vs ≡ us
+pub takes : {vs : List AssignedVariable} {us : List Ty} → r.TakeReturns vs us → types_in vs ≡ us
 takes r.no_returns = refl
 takes (r.one_return {v = v} h) = ap (λ us. v.ty ∷ us) (takes h)
 
-pub record Takes (m : g.Frame) (sc : cs.Scope) (vs : List Target) : Type 0 where
+pub record Takes (m : g.MethodContext) (sc : cs.Scope) (vs : List AssignedVariable) : Type 0 where
   pub targets : g.AreTargets m sc (numbers_in vs) (types_in vs)
   pub differ : AllPairs (λ x y. x ≢ y) (numbers_in vs)
 
-targets_are : {k : Context} {m : g.Frame} {fr : Frame} {xs : List Named} {vs : List Target} → Stands k m fr → r.AreTargets fr.scope xs vs →
+targets_are : {k : Context} {m : g.MethodContext} {fr : MethodVariables} {xs : List Named} {vs : List AssignedVariable} → Stands k m fr → r.AreTargets fr.scope xs vs →
     g.AreTargets m (core_scope fr) (numbers_in vs) (types_in vs)
 targets_are z r.no_more = g.nothing
 targets_are z (r.one_more h hs) = g.also (target_is z h) (targets_are z hs)
 
-pub take_targets : {k : Context} {m : g.Frame} {fr : Frame} {xs : List Named} {vs : List Target} → Stands k m fr → r.AreTargets fr.scope xs vs →
+pub take_targets : {k : Context} {m : g.MethodContext} {fr : MethodVariables} {xs : List Named} {vs : List AssignedVariable} → Stands k m fr → r.AreTargets fr.scope xs vs →
     AllPairs (λ x y. x ≢ y) (numbers_in vs) →
     Takes m (core_scope fr) vs
 take_targets z h d = record { targets = targets_are z h; differ = d }
 
-pub no_targets : {m : g.Frame} {sc : cs.Scope} → Takes m sc []
+pub no_targets : {m : g.MethodContext} {sc : cs.Scope} → Takes m sc []
 no_targets = record { targets = g.nothing; differ = differ_none }
 
-pub one_target : {m : g.Frame} {sc : cs.Scope} (v : Target) → g.IsTarget m sc v.number v.ty → Takes m sc (v ∷ [])
+pub one_target : {m : g.MethodContext} {sc : cs.Scope} (v : AssignedVariable) → g.IsTarget m sc v.number v.ty → Takes m sc (v ∷ [])
 one_target v i = record { targets = g.also i g.nothing; differ = one_differs v.number }
 
-pub received : {m : g.Frame} {sc : cs.Scope} {vs : List Target} → Takes m sc vs → g.Receive m sc (numbers_in vs) (types_in vs)
+pub received : {m : g.MethodContext} {sc : cs.Scope} {vs : List AssignedVariable} → Takes m sc vs → g.Receive m sc (numbers_in vs) (types_in vs)
 received h = g.assigned h.targets h.differ
 
 -- ---- the scope after targets
@@ -86,16 +86,16 @@ rising_all low high [] h = All-nil (λ x. x < high)
 rising_all low high (x ∷ xs) h =
     All-cons (λ y. y < high) x xs (omega (arith, rising_bounds (x + 1) high xs h.1)) (rising_all (x + 1) high xs h.1)
 
-pub visible_below : (params : ℕ) (fr : Frame) (x : ℕ) → IsSound params fr → Contains (numbers fr.scope) x → x < length fr.vars
+pub visible_below : (params : ℕ) (fr : MethodVariables) (x : ℕ) → IsSound params fr → Contains (numbers fr.scope) x → x < length fr.vars
 visible_below params fr x h seen =
     All-contains (λ y. y < length fr.vars) (numbers fr.scope) x (rising_all 0 (length fr.vars) (numbers fr.scope) h.rising) seen
 
-pub stays : (params : ℕ) (fr : Frame) (x : ℕ) → IsSound params fr → Contains (numbers fr.scope) x → cs.after_target (core_scope fr) x ≡ core_scope fr
+pub stays : (params : ℕ) (fr : MethodVariables) (x : ℕ) → IsSound params fr → Contains (numbers fr.scope) x → cs.after_target (core_scope fr) x ≡ core_scope fr
 stays params fr x h seen =
     let other : (x == length fr.vars) ≡ false = ne_eqb x (length fr.vars) (λ is. omega (arith, is, visible_below params fr x h seen)) in
     rw other refl
 
-pub all_stay : {m : g.Frame} (params : ℕ) (fr : Frame) {xs : List ℕ} {us : List Ty} → IsSound params fr → g.AreTargets m (core_scope fr) xs us →
+pub all_stay : {m : g.MethodContext} (params : ℕ) (fr : MethodVariables) {xs : List ℕ} {us : List Ty} → IsSound params fr → g.AreTargets m (core_scope fr) xs us →
     cs.after_targets (core_scope fr) xs ≡ core_scope fr
 all_stay params fr h g.nothing = refl
 all_stay params fr h (g.also {x = x} {xs = xs} i rest) =
@@ -106,7 +106,7 @@ declares sc x is = let same : (x == sc.fresh) ≡ true = eq-eqb x sc.fresh is in
 
 -- ---- calls
 
-pub call_is : {k : Context} {m : g.Frame} {fr : Frame} {at : _} {vs : List Target} {call : s.SCall} {x : c.Stmt} → Stands k m fr →
+pub call_is : {k : Context} {m : g.MethodContext} {fr : MethodVariables} {at : _} {vs : List AssignedVariable} {call : s.SCall} {x : c.Stmt} → Stands k m fr →
     r.IsCall k fr.scope at vs call x → All HasLiterals call.args → g.Receive m (core_scope fr) (numbers_in vs) (types_in vs) →
     g.IsStmt m (core_scope fr) x
 call_is {m = m} {fr = fr} {vs = vs} {call = call} z (r.call_of {n = n} {m = types} {es = es} i args into) l taken =
@@ -115,7 +115,7 @@ call_is {m = m} {fr = fr} {vs = vs} {call = call} z (r.call_of {n = n} {m = type
     (subst (λ us. HaveTypes (g.inside m (core_scope fr)) es us) (sym callee.params) (have_types (names_in z) args (have_literals call.args l)))
     (subst (λ us. g.Receive m (core_scope fr) (numbers_in vs) us) (takes into ∙ sym callee.returns) taken)
 
-pub call_scope : {k : Context} {sc : Scope} {at : _} {vs : List Target} {call : s.SCall} {x : c.Stmt} (outer : cs.Scope) → r.IsCall k sc at vs call x →
+pub call_scope : {k : Context} {sc : VariableScope} {at : _} {vs : List AssignedVariable} {call : s.SCall} {x : c.Stmt} (outer : cs.Scope) → r.IsCall k sc at vs call x →
     cs.scope_after outer x ≡ cs.after_targets outer (numbers_in vs)
 call_scope outer (r.call_of i args into) = refl
 
@@ -153,20 +153,20 @@ is_ref_type ty.Bool = refl
 is_ref_type ty.Ref = refl
 is_ref_type ty.Perm = refl
 
-same_refs : (params : ℕ) (vars all : List Ty) (sc : Scope) → AreVariables params vars sc → Extends vars all →
+same_refs : (params : ℕ) (vars all : List Ty) (sc : VariableScope) → AreVariables params vars sc → Extends vars all →
     ref_variables sc ≡ filter (λ x. cs.is_ref (slice_get all x)) (numbers sc)
 same_refs params vars all [] h more = refl
 same_refs params vars all (x ∷ xs) h more =
     let test : cs.is_ref (slice_get all x.1.number) ≡ same_type x.1.ty ty.Ref = ap cs.is_ref (more.at x.1.number x.1.ty h.0.typed) ∙ is_ref_type x.1.ty in
     rw (test, same_refs params vars all xs h.1 more) refl
 
-pub new_is : {k : Context} {m : g.Frame} {fr : Frame} {at : _} {n : ℕ} {new : s.SNew} {x : c.Stmt} → Stands k m fr →
+pub new_is : {k : Context} {m : g.MethodContext} {fr : MethodVariables} {at : _} {n : ℕ} {new : s.SNew} {x : c.Stmt} → Stands k m fr →
     r.IsNew k.world fr.scope at n new x → g.Receive m (core_scope fr) (n ∷ []) (ty.Ref ∷ []) →
     g.IsStmt m (core_scope fr) x
 new_is {k} {m} {fr} z (r.new_of h) taken =
     g.creates taken (chosen k z.declarations h) (same_refs m.params fr.vars m.vars fr.scope z.sound.variables z.extends)
 
-pub new_scope : {w : World} {sc : Scope} {at : _} {n : ℕ} {new : s.SNew} {x : c.Stmt} (outer : cs.Scope) → r.IsNew w sc at n new x →
+pub new_scope : {w : World} {sc : VariableScope} {at : _} {n : ℕ} {new : s.SNew} {x : c.Stmt} (outer : cs.Scope) → r.IsNew w sc at n new x →
     cs.scope_after outer x ≡ cs.after_target outer n
 new_scope outer (r.new_of h) = refl
 
@@ -176,7 +176,7 @@ pub record IsPlaceOf (c : g.Context) (l : Located) : Type 0 where
   pub receiver : HasType c l.receiver ty.Ref
   pub field : slice_get c.program.layout.fields l.field ≡ Some l.ty
 
-pub place_is : {k : Context} {sc : Scope} {c : g.Context} {a : t.Term} {f : Named} {fs : List Named} {l : Located} → Resolves k sc c → r.IsPlace k sc a f fs l →
+pub place_is : {k : Context} {sc : VariableScope} {c : g.Context} {a : t.Term} {f : Named} {fs : List Named} {l : Located} → Resolves k sc c → r.IsPlace k sc a f fs l →
     HasLiterals a →
     IsPlaceOf c l
 place_is z (r.of_field {f = f} {n = n} {u = u} h i) l = record { receiver = has_type z h l; field = z.declarations.field f.name n u i }
@@ -184,7 +184,7 @@ place_is z (r.of_further h) l = place_is z h l
 
 -- ---- instances
 
-pub fold_is : {k : Context} {sc : Scope} {ctx : g.Context} {f : s.SFold} {x : c.FoldStmt} → Resolves k sc ctx → r.IsFold k sc f x →
+pub fold_is : {k : Context} {sc : VariableScope} {ctx : g.Context} {f : s.SFold} {x : c.FoldStmt} → Resolves k sc ctx → r.IsFold k sc f x →
     All HasLiterals (f.call.args ++ amount_terms f.amount) →
     g.IsFold ctx x
 fold_is {ctx = ctx} {f = f} z (r.fold_of {n = n} {p = s} {es = es} i has_body args m) l =

@@ -17,14 +17,14 @@ use Rattle.viper_syntax.specs.declared.tokens.Word.{Word}
 use Rattle.viper_syntax.specs.declared.tokens.Word.TheVariants as word
 use Rattle.viper_scope.specs.declared.rules.Rule.TheVariants as rule
 use Rattle.viper_scope.specs.Context.{World, Context, find, field_at, method_at, nowhere}
-use Rattle.viper_scope.specs.Scope.{Scope}
+use Rattle.viper_scope.specs.Scope.{VariableScope}
 use Rattle.viper_scope.specs.Arguments.{Typing, as_many, misfit}
 use Rattle.viper_types.specs.Typed as r
 use Rattle.viper_types.specs.Typed.{Typed}
 use Rattle.viper_scope.specs.Types.{type_of, or_int}
-use Rattle.viper_types.specs.Frame.{Frame, declared_in_arms, declared_in_arm, frame_after, with_hidden}
+use Rattle.viper_types.specs.Frame.{MethodVariables, declared_in_arms, declared_in_arm, frame_after, with_hidden}
 use Rattle.viper_types.specs.Stepping as j
-use Rattle.viper_types.specs.Stepping.{Target, is_target, is_listed, numbers_in, mistarget, nested, arm_count, stepping, blocking, stepping_all, branches, branch, otherwise}
+use Rattle.viper_types.specs.Stepping.{AssignedVariable, is_target, is_listed, numbers_in, mistarget, nested, arm_count, stepping, blocking, stepping_all, branches, branch, otherwise}
 use Rattle.viper_types.specs.Stepped
 use Rattle.viper_types.specs.Stepped.{IsFresh, IsTarget, AreTargets, no_more, one_more, TakeReturns, no_returns, one_return, IsCall, call_of, AreFields, no_fields, one_field, ChoosesFields, every, named, IsNew, new_of, IsPlace, of_field, of_further, Declares, any_value, Sets, Checks, inhale, exhale, asserted, assume, IsFold, fold_of, AssertsAll, no_assertions, one_assertion, var, assign, call_to, check, folded, unfolded, if_arms, while, Blocked, block, SteppedAll, no_steps, one_step, Branches, no_branches, one_branch, IsBranch, branch_of, Otherwise, no_block, else_of}
 use Rattle.viper_types.proofs.Tells.{Tells, tells, broken, tell_then, tell_so, tell_known, tell_obeys, tell_clear, tell_if, same_types, none_is, if_none}
@@ -38,32 +38,32 @@ pub is_type : (o : Option Ty) → is_some o ≡ true → o ≡ Some (or_int o)
 is_type (Some u) h = refl
 is_type None h = absurd (cc)
 
-fresh_told : (fr : Frame) (f : Formal) → Tells (IsFresh fr f) (j.fresh fr f)
+fresh_told : (fr : MethodVariables) (f : Formal) → Tells (IsFresh fr f) (j.fresh fr f)
 fresh_told fr f =
     tell_obeys (not (is_some (find fr.scope f.name.name))) f.name.pos rule.DeclaredTwice (λ i. tell_obeys (is_some (type_of f.ty)) f.name.pos rule.WrongType (λ k.
     tells (Stepped.fresh (none_is _ i) (is_type _ k))))
 
-target_told : (sc : Scope) (x : Named) → Tells (IsTarget sc x) (j.target sc x)
+target_told : (sc : VariableScope) (x : Named) → Tells (IsTarget sc x) (j.target sc x)
 target_told sc x = tell_known (find sc x.name) x.pos rule.UnknownName (λ v i. tell_obeys (not v.is_parameter) x.pos rule.ParameterAsTarget (λ k. tells (Stepped.target i (not-true _ k))))
 
 -- a target of type Ref
-record IsRefTarget (sc : Scope) (x : Named) (v : Target) : Type 0 where
+record IsRefTarget (sc : VariableScope) (x : Named) (v : AssignedVariable) : Type 0 where
   pub target : IsTarget sc x v
   pub typed : v.ty ≡ ty.Ref
 
-ref_target_told : (sc : Scope) (x : Named) → Tells (IsRefTarget sc x) (j.ref_target sc x)
+ref_target_told : (sc : VariableScope) (x : Named) → Tells (IsRefTarget sc x) (j.ref_target sc x)
 ref_target_told sc x =
     tell_known (find sc x.name) x.pos rule.UnknownName (λ v i. tell_obeys (same_type v.ty ty.Ref) x.pos rule.WrongType (λ l. tell_obeys (not v.is_parameter) x.pos rule.ParameterAsTarget (λ k.
     tells (record { target = Stepped.target i (not-true _ k); typed = same_types v.ty ty.Ref l }))))
 
 -- targets after those that stand before
-record TargetsAfter (sc : Scope) (before : List Target) (xs : List Named) (all : List Target) : Type 0 where
-  pub those : List Target
+record TargetsAfter (sc : VariableScope) (before : List AssignedVariable) (xs : List Named) (all : List AssignedVariable) : Type 0 where
+  pub those : List AssignedVariable
   pub are : all ≡ before ++ those
   pub targets : AreTargets sc xs those
   pub differ : Differ (numbers_in all)
 
-call_targets_told : (sc : Scope) (before : List Target) (xs : List Named) → Differ (numbers_in before) → Tells (TargetsAfter sc before xs) (j.call_targets sc before xs)
+call_targets_told : (sc : VariableScope) (before : List AssignedVariable) (xs : List Named) → Differ (numbers_in before) → Tells (TargetsAfter sc before xs) (j.call_targets sc before xs)
 call_targets_told sc before [] d = tells (record { those = []; are = sym (append-nil before); targets = no_more; differ = d })
 call_targets_told sc before (x ∷ xs) d =
     tell_then (target_told sc x) (λ v h. tell_obeys (not (is_target v.number before)) x.pos rule.TargetTwice (λ i.
@@ -74,22 +74,22 @@ call_targets_told sc before (x ∷ xs) d =
       differ = g.differ;
     })))
 
-all_targets : {sc : Scope} {xs : List Named} {vs : List Target} → TargetsAfter sc [] xs vs → AreTargets sc xs vs
+all_targets : {sc : VariableScope} {xs : List Named} {vs : List AssignedVariable} → TargetsAfter sc [] xs vs → AreTargets sc xs vs
 all_targets {sc} {xs} h = subst (λ ws. AreTargets sc xs ws) (sym h.are) h.targets
 
 -- calls
 
-take_first : (v : Target) {vs : List Target} (u : Ty) {us : List Ty} → same_type v.ty u ≡ true → TakeReturns vs us → TakeReturns (v ∷ vs) (u ∷ us)
+take_first : (v : AssignedVariable) {vs : List AssignedVariable} (u : Ty) {us : List Ty} → same_type v.ty u ≡ true → TakeReturns vs us → TakeReturns (v ∷ vs) (u ∷ us)
 take_first v {vs} u {us} i h = subst (λ w. TakeReturns (v ∷ vs) (w ∷ us)) (same_types v.ty u i) (one_return h)
 
-take_returns : (vs : List Target) (us : List Ty) → as_many vs us ≡ true → mistarget vs us ≡ None → TakeReturns vs us
+take_returns : (vs : List AssignedVariable) (us : List Ty) → as_many vs us ≡ true → mistarget vs us ≡ None → TakeReturns vs us
 take_returns [] [] i k = no_returns
 take_returns [] (u ∷ us) i k = absurd (cc)
 take_returns (v ∷ vs) [] i k = absurd (cc)
 take_returns (v ∷ vs) (u ∷ us) i k =
     let both = if_none (same_type v.ty u) (mistarget vs us) v.at k in take_first v u both.0 (take_returns vs us i both.1)
 
-calling_told : (k : Context) → HasBodies k → (sc : Scope) (at : Pos) (vs : List Target) (call : s.SCall) →
+calling_told : (k : Context) → HasBodies k → (sc : VariableScope) (at : Pos) (vs : List AssignedVariable) (call : s.SCall) →
     Tells (IsCall k sc at vs call) (j.calling k sc at vs call)
 calling_told k b sc at vs call =
     tell_known (method_at k.world call.name.name) call.name.pos rule.UnknownName (λ m i. tell_then (typing_all_told k b sc (t.terms call.args)) (λ xs h.
@@ -97,7 +97,7 @@ calling_told k b sc at vs call =
     tell_clear (mistarget vs m.1.returns) rule.WrongType (λ i3. tell_clear (misfit (t.terms call.args) xs m.1.params) rule.WrongType (λ i4.
     tells (call_of {m = m.1} i (fits h m.1.params i1 i4) (take_returns vs m.1.returns i2 i3))))))))
 
-calling_into_field_told : (k : Context) → HasBodies k → (sc : Scope) (call : s.SCall) {P : c.Stmt → Type 0} → Tells P (j.calling_into_field k sc call)
+calling_into_field_told : (k : Context) → HasBodies k → (sc : VariableScope) (call : s.SCall) {P : c.Stmt → Type 0} → Tells P (j.calling_into_field k sc call)
 calling_into_field_told k b sc call =
     tell_known (method_at k.world call.name.name) call.name.pos rule.UnknownName (λ m i. tell_then (typing_all_told k b sc (t.terms call.args)) (λ xs h.
     tell_obeys (as_many xs m.1.params) call.name.pos rule.ArgumentCount (λ i1. broken)))
@@ -129,23 +129,23 @@ chosen_fields_told : (w : World) (new : s.SNew) → Tells (ChoosesFields w new) 
 chosen_fields_told w new =
     tell_if new.every (λ i. tells (every i)) (λ i. tell_so (new_fields_told w [] new.fields differ_none) (λ ns h. named i (all_fields h) h.differ))
 
-creating_told : (w : World) (sc : Scope) (at : Pos) (n : ℕ) (new : s.SNew) → Tells (IsNew w sc at n new) (j.creating true w sc at n new)
+creating_told : (w : World) (sc : VariableScope) (at : Pos) (n : ℕ) (new : s.SNew) → Tells (IsNew w sc at n new) (j.creating true w sc at n new)
 creating_told w sc at n new = tell_then (chosen_fields_told w new) (λ fs h. tells (new_of h))
 
 -- assignments
 
-dotted_told : (k : Context) (sc : Scope) (a : t.Term) (x : Typing) (f : Named) (fs : List Named) → Typed k sc a x.0 x.1 →
+dotted_told : (k : Context) (sc : VariableScope) (a : t.Term) (x : Typing) (f : Named) (fs : List Named) → Typed k sc a x.0 x.1 →
     Tells (IsPlace k sc a f fs) (j.dotted k.world x f fs)
 dotted_told k sc a x f [] h = tell_so (located_told f.name f.pos x h) (λ l g. of_field g.receiver g.known)
 dotted_told k sc a x f (g ∷ gs) h =
     tell_then (located_told f.name f.pos x h) (λ l i.
     tell_so (dotted_told k sc (t.Field a f.name f.pos) (e.Field l.receiver l.field f.pos, l.ty) g gs (r.field i.receiver i.known)) (λ m p. of_further p))
 
-target_place_told : (k : Context) → HasBodies k → (sc : Scope) (x f : Named) (fs : List Named) →
+target_place_told : (k : Context) → HasBodies k → (sc : VariableScope) (x f : Named) (fs : List Named) →
     Tells (IsPlace k sc (t.Name x.name x.pos) f fs) (j.target_place k sc x f fs)
 target_place_told k b sc x f fs = tell_then (typing_told k b sc (t.Name x.name x.pos)) (λ y h. dotted_told k sc (t.Name x.name x.pos) y f fs h)
 
-declaring_told : (k : Context) → HasBodies k → (fr : Frame) (at : Pos) (v : Target) (rhs : Option s.SRhs) →
+declaring_told : (k : Context) → HasBodies k → (fr : MethodVariables) (at : Pos) (v : AssignedVariable) (rhs : Option s.SRhs) →
     Tells (Declares k fr.scope at v rhs) (j.declaring true k fr at v rhs)
 declaring_told k b fr at v None = tells any_value
 declaring_told k b fr at v (Some (s.TermRhs a)) = tell_then (expected_told k b fr.scope v.ty a) (λ x h. tells (Stepped.Declares.value h))
@@ -153,7 +153,7 @@ declaring_told k b fr at v (Some (s.CallRhs call)) = tell_so (calling_told k b f
 declaring_told k b fr at v (Some (s.NewRhs new)) =
     tell_obeys (same_type v.ty ty.Ref) v.at rule.WrongType (λ i. tell_so (creating_told k.world fr.scope at v.number new) (λ x h. Stepped.Declares.created (same_types v.ty ty.Ref i) h))
 
-setting_told : (k : Context) → HasBodies k → (sc : Scope) (xs : List Named) (rhs : s.SRhs) → Tells (Sets k sc xs rhs) (j.setting true k sc xs rhs)
+setting_told : (k : Context) → HasBodies k → (sc : VariableScope) (xs : List Named) (rhs : s.SRhs) → Tells (Sets k sc xs rhs) (j.setting true k sc xs rhs)
 setting_told k b sc [] rhs = broken
 setting_told k b sc (x ∷ []) (s.TermRhs a) =
     tell_then (target_told sc x) (λ v h. tell_then (expected_told k b sc v.ty a) (λ y g. tells (Stepped.Sets.variable h g)))
@@ -168,26 +168,26 @@ setting_told k b sc (x ∷ f ∷ fs) (s.NewRhs new) = tell_then (target_place_to
 
 -- other statements without a block
 
-checking_told : (k : Context) → HasBodies k → (sc : Scope) (w : Word) (at : Pos) (a : t.Term) → Tells (Checks k sc at a w) (j.checking k sc w at a)
+checking_told : (k : Context) → HasBodies k → (sc : VariableScope) (w : Word) (at : Pos) (a : t.Term) → Tells (Checks k sc at a w) (j.checking k sc w at a)
 checking_told k b sc word.Inhale at a = tell_then (asserting_told k b sc a) (λ x h. tells (inhale h))
 checking_told k b sc word.Exhale at a = tell_then (asserting_told k b sc a) (λ x h. tells (exhale h))
 checking_told k b sc word.Assert at a = tell_then (asserting_told k b sc a) (λ x h. tells (asserted h))
 checking_told k b sc word.Assume at a = tell_then (expected_told k b sc ty.Bool a) (λ x h. tells (assume h))
 checking_told k b sc _ at a = broken
 
-folding_told : (k : Context) → HasBodies k → (sc : Scope) (f : s.SFold) → Tells (IsFold k sc f) (j.folding k sc f)
+folding_told : (k : Context) → HasBodies k → (sc : VariableScope) (f : s.SFold) → Tells (IsFold k sc f) (j.folding k sc f)
 folding_told k b sc f =
     tell_then (with_body_told k.world f.call.name.name f.call.name.pos) (λ p h.
     tell_then (arguments_told k b sc (t.terms f.call.args) p.1.params f.call.name.pos) (λ es g. tell_then (permission_told k b sc f.amount) (λ m i.
     tells (fold_of {p = p.1} h.known h.has_body g i))))
 
-asserting_all_told : (k : Context) → HasBodies k → (sc : Scope) (is : List t.Term) → Tells (AssertsAll k sc is) (j.asserting_all k sc is)
+asserting_all_told : (k : Context) → HasBodies k → (sc : VariableScope) (is : List t.Term) → Tells (AssertsAll k sc is) (j.asserting_all k sc is)
 asserting_all_told k b sc [] = tells no_assertions
 asserting_all_told k b sc (a ∷ rest) =
     tell_then (asserting_told k b sc a) (λ x h. tell_then (asserting_all_told k b sc rest) (λ xs g. tells (one_assertion h g)))
 
 mutual
-  pub stepping_told : (k : Context) → HasBodies k → (d : ℕ) (fr : Frame) (a : s.SStmt) → Tells (Stepped.Stepped k d fr a) (stepping true k d fr a)
+  pub stepping_told : (k : Context) → HasBodies k → (d : ℕ) (fr : MethodVariables) (a : s.SStmt) → Tells (Stepped.Stepped k d fr a) (stepping true k d fr a)
   stepping_told k b d fr (s.Var at f rhs) = tell_then (fresh_told fr f) (λ v h. tell_so (declaring_told k b fr at v rhs) (λ x g. var h g))
   stepping_told k b d fr (s.Assign xs rhs) = tell_so (setting_told k b fr.scope xs rhs) (λ x h. assign h)
   stepping_told k b d fr (s.CallTo xs a) =
@@ -203,24 +203,24 @@ mutual
       tell_then (expected_told k b fr.scope ty.Bool a) (λ x h. tell_then (asserting_all_told k b fr.scope is) (λ xs g. tell_then (blocking_told k b (d + 1) fr body) (λ ss i.
       tells (while h g i))))
 
-  pub blocking_told : (k : Context) → HasBodies k → (d : ℕ) (fr : Frame) (a : s.SBlock) → Tells (Blocked k d fr a) (blocking true k d fr a)
+  pub blocking_told : (k : Context) → HasBodies k → (d : ℕ) (fr : MethodVariables) (a : s.SBlock) → Tells (Blocked k d fr a) (blocking true k d fr a)
   blocking_told k b d fr (s.block at ss) =
       tell_obeys (nat_le d max_block_depth) at rule.TooDeep (λ i. tell_then (stepping_all_told k b d fr ss) (λ xs h. tells (block i h)))
 
-  pub stepping_all_told : (k : Context) → HasBodies k → (d : ℕ) (fr : Frame) (ss : s.SStmts) → Tells (SteppedAll k d fr ss) (stepping_all true k d fr ss)
+  pub stepping_all_told : (k : Context) → HasBodies k → (d : ℕ) (fr : MethodVariables) (ss : s.SStmts) → Tells (SteppedAll k d fr ss) (stepping_all true k d fr ss)
   stepping_all_told k b d fr s.no_stmts = tells no_steps
   stepping_all_told k b d fr (s.more_stmts a rest) =
       tell_then (stepping_told k b d fr a) (λ x h. tell_then (stepping_all_told k b d (frame_after fr a) rest) (λ xs g. tells (one_step h g)))
 
-  pub branches_told : (k : Context) → HasBodies k → (d : ℕ) (fr : Frame) (arms : s.SArms) → Tells (Branches k d fr arms) (branches true k d fr arms)
+  pub branches_told : (k : Context) → HasBodies k → (d : ℕ) (fr : MethodVariables) (arms : s.SArms) → Tells (Branches k d fr arms) (branches true k d fr arms)
   branches_told k b d fr s.no_arms = tells no_branches
   branches_told k b d fr (s.more_arms a rest) =
       tell_then (branch_told k b d fr a) (λ x h. tell_then (branches_told k b (d + 1) (with_hidden fr (declared_in_arm a)) rest) (λ xs g. tells (one_branch h g)))
 
-  pub branch_told : (k : Context) → HasBodies k → (d : ℕ) (fr : Frame) (a : s.SArm) → Tells (IsBranch k d fr a) (branch true k d fr a)
+  pub branch_told : (k : Context) → HasBodies k → (d : ℕ) (fr : MethodVariables) (a : s.SArm) → Tells (IsBranch k d fr a) (branch true k d fr a)
   branch_told k b d fr (s.arm at a body) =
       tell_then (expected_told k b fr.scope ty.Bool a) (λ x h. tell_then (blocking_told k b d fr body) (λ ss g. tells (branch_of h g)))
 
-  pub otherwise_told : (k : Context) → HasBodies k → (d : ℕ) (fr : Frame) (o : s.SElse) → Tells (Otherwise k d fr o) (otherwise true k d fr o)
+  pub otherwise_told : (k : Context) → HasBodies k → (d : ℕ) (fr : MethodVariables) (o : s.SElse) → Tells (Otherwise k d fr o) (otherwise true k d fr o)
   otherwise_told k b d fr s.no_else = tells no_block
   otherwise_told k b d fr (s.else_block body) = tell_so (blocking_told k b d fr body) (λ ss h. else_of h)

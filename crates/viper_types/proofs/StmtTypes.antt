@@ -19,10 +19,10 @@ use Rattle.viper_syntax.specs.declared.stmts.Formal.{Formal}
 use Rattle.viper_syntax.specs.declared.tokens.Word.{Word}
 use Rattle.viper_scope.specs.Context.{Context}
 use Rattle.viper_syntax.specs.Good.{HasLiterals, with_fields, target_terms, rhs_terms, option_terms, stmt_terms, block_terms, stmts_terms, arms_terms, else_terms}
-use Rattle.viper_scope.specs.Scope.{Scope}
+use Rattle.viper_scope.specs.Scope.{VariableScope}
 use Rattle.viper_scope.specs.Types.{type_of, or_int, declared_type}
-use Rattle.viper_types.specs.Frame.{Frame, declared, declared_in, declared_in_block, declared_in_arms, declared_in_else, with_hidden, frame_after}
-use Rattle.viper_types.specs.Stepping.{Target, Branch, nested, alone}
+use Rattle.viper_types.specs.Frame.{MethodVariables, declared, declared_in, declared_in_block, declared_in_arms, declared_in_else, with_hidden, frame_after}
+use Rattle.viper_types.specs.Stepping.{AssignedVariable, Branch, nested, alone}
 use Rattle.viper_types.specs.Stepped as r
 use Rattle.viper_types.specs.Stepped.{Stepped, Blocked, SteppedAll, Branches, Otherwise}
 use Rattle.viper_types.proofs.TermTypes.{Describes, Resolves, has_type, is_assertion}
@@ -31,18 +31,18 @@ use Rattle.viper_types.proofs.StmtParts.{Stands, Takes, names_in, target_is, tak
 use Rattle.viper_types.proofs.SameTargets.{same_targets}
 
 -- a statement between two scopes
-pub record Goes (m : g.Frame) (before after : cs.Scope) (x : c.Stmt) : Type 0 where
+pub record Goes (m : g.MethodContext) (before after : cs.Scope) (x : c.Stmt) : Type 0 where
   pub stmt : IsStmt m before x
   pub scope : scope_after before x ≡ after
 
 -- the statements of a block, and how many variables there are after it
-pub record GoAll (m : g.Frame) (before : cs.Scope) (count : ℕ) (ss : c.Stmts) : Type 0 where
+pub record GoAll (m : g.MethodContext) (before : cs.Scope) (count : ℕ) (ss : c.Stmts) : Type 0 where
   pub stmts : AreStmts m before ss
   pub fresh : (stmts_scope before ss).fresh ≡ count
 
 -- ---- declarations
 
-declaration_goes : {k : Context} {m : g.Frame} {fr : Frame} {at : Pos} {v : Target} {rhs : Option s.SRhs} {x : c.Stmt} → Stands k m fr →
+declaration_goes : {k : Context} {m : g.MethodContext} {fr : MethodVariables} {at : Pos} {v : AssignedVariable} {rhs : Option s.SRhs} {x : c.Stmt} → Stands k m fr →
     v.number ≡ length fr.vars → slice_get m.vars v.number ≡ Some v.ty → r.Declares k fr.scope at v rhs x →
     All HasLiterals (option_terms rhs_terms rhs) →
     Goes m (core_scope fr) (cs.declared (core_scope fr)) x
@@ -60,7 +60,7 @@ declaration_goes {m = m} {fr = fr} {v = v} z new typed (r.created is h) l = reco
 pub type_is : (f : Formal) (u : Ty) → type_of f.ty ≡ Some u → declared_type f ≡ u
 type_is f u i = ap or_int i
 
-var_goes : {k : Context} {m : g.Frame} {fr : Frame} {at : Pos} {f : Formal} {v : Target} {rhs : Option s.SRhs} {x : c.Stmt} → Stands k m fr →
+var_goes : {k : Context} {m : g.MethodContext} {fr : MethodVariables} {at : Pos} {f : Formal} {v : AssignedVariable} {rhs : Option s.SRhs} {x : c.Stmt} → Stands k m fr →
     Extends (fr.vars ++ declared_type f ∷ []) m.vars → r.IsFresh fr f v → r.Declares k fr.scope at v rhs x →
     All HasLiterals (option_terms rhs_terms rhs) →
     Goes m (core_scope fr) (cs.declared (core_scope fr)) x
@@ -69,7 +69,7 @@ var_goes {fr = fr} {f = f} z more (r.fresh {u = u} i is) h l =
 
 -- ---- assignments
 
-one_stays : {k : Context} {m : g.Frame} {fr : Frame} {x : Named} {v : Target} → Stands k m fr → r.IsTarget fr.scope x v →
+one_stays : {k : Context} {m : g.MethodContext} {fr : MethodVariables} {x : Named} {v : AssignedVariable} → Stands k m fr → r.IsTarget fr.scope x v →
     cs.after_target (core_scope fr) v.number ≡ core_scope fr
 one_stays {m = m} {fr = fr} {v = v} z i = stays m.params fr v.number z.sound (target_is z i).visible
 
@@ -77,7 +77,7 @@ no_fields_literals : (a : t.Term) (fs : List Named) → HasLiterals (with_fields
 no_fields_literals a [] l = l
 no_fields_literals a (f ∷ fs) l = no_fields_literals (t.Field a f.name f.pos) fs l
 
-assignment_goes : {k : Context} {m : g.Frame} {fr : Frame} {xs : List Named} {rhs : s.SRhs} {x : c.Stmt} → Stands k m fr →
+assignment_goes : {k : Context} {m : g.MethodContext} {fr : MethodVariables} {xs : List Named} {rhs : s.SRhs} {x : c.Stmt} → Stands k m fr →
     r.Sets k fr.scope xs rhs x → All HasLiterals (rhs_terms rhs) →
     Goes m (core_scope fr) (core_scope fr) x
 assignment_goes z (r.variable {a = a} i h) l = record { stmt = g.assigns (target_is z i) (has_type (names_in z) h (All-head HasLiterals a [] l)); scope = refl }
@@ -93,13 +93,13 @@ assignment_goes z (r.Sets.field {a = a} h h') l =
     let place = place_is (names_in z) h tt in
     record { stmt = g.writes place.receiver place.field (has_type (names_in z) h' (All-head HasLiterals a [] l)); scope = refl }
 
-targets_go : {k : Context} {m : g.Frame} {fr : Frame} {at : Pos} {vs : List Target} {call : s.SCall} {x : c.Stmt} → Stands k m fr →
+targets_go : {k : Context} {m : g.MethodContext} {fr : MethodVariables} {at : Pos} {vs : List AssignedVariable} {call : s.SCall} {x : c.Stmt} → Stands k m fr →
     Takes m (core_scope fr) vs → r.IsCall k fr.scope at vs call x → All HasLiterals call.args →
     Goes m (core_scope fr) (core_scope fr) x
 targets_go {m = m} {fr = fr} z taken h l =
     record { stmt = call_is z h l (received taken); scope = call_scope (core_scope fr) h ∙ all_stay m.params fr z.sound taken.targets }
 
-check_goes : {k : Context} {m : g.Frame} {fr : Frame} {at : Pos} {a : t.Term} {w : Word} {x : c.Stmt} → Stands k m fr → r.Checks k fr.scope at a w x →
+check_goes : {k : Context} {m : g.MethodContext} {fr : MethodVariables} {at : Pos} {a : t.Term} {w : Word} {x : c.Stmt} → Stands k m fr → r.Checks k fr.scope at a w x →
     HasLiterals a →
     Goes m (core_scope fr) (core_scope fr) x
 check_goes z (r.inhale h) l = record { stmt = g.inhales (is_assertion (names_in z) h l); scope = refl }
@@ -107,7 +107,7 @@ check_goes z (r.exhale h) l = record { stmt = g.exhales (is_assertion (names_in 
 check_goes z (r.asserted h) l = record { stmt = g.asserts (is_assertion (names_in z) h l); scope = refl }
 check_goes z (r.assume h) l = record { stmt = g.inhales (g.fact (has_type (names_in z) h l)); scope = refl }
 
-invariants_are : {k : Context} {sc : Scope} {ctx : g.Context} {is : List t.Term} {xs : List e.Assertion} → Resolves k sc ctx → r.AssertsAll k sc is xs →
+invariants_are : {k : Context} {sc : VariableScope} {ctx : g.Context} {is : List t.Term} {xs : List e.Assertion} → Resolves k sc ctx → r.AssertsAll k sc is xs →
     All HasLiterals is →
     All (IsAssertion ctx) xs
 invariants_are {ctx = ctx} z r.no_assertions l = All-nil (IsAssertion ctx)
@@ -116,7 +116,7 @@ invariants_are {ctx = ctx} z (r.one_assertion {a = a} {rest = rest} {x = x} {xs 
 
 -- ---- blocks
 
-standing : {k : Context} {m : g.Frame} {fr : Frame} (us : List Ty) → Describes k.world k.bodies m.program → IsSound m.params fr →
+standing : {k : Context} {m : g.MethodContext} {fr : MethodVariables} (us : List Ty) → Describes k.world k.bodies m.program → IsSound m.params fr →
     Extends (fr.vars ++ us) m.vars →
     Stands k m fr
 standing {m = m} {fr = fr} us z sound more = record { declarations = z; sound = sound; extends = extends_less fr.vars us m.vars more }
@@ -124,20 +124,20 @@ standing {m = m} {fr = fr} us z sound more = record { declarations = z; sound = 
 same_front : (xs ys zs all : List Ty) → Extends (xs ++ (ys ++ zs)) all → Extends ((xs ++ ys) ++ zs) all
 same_front xs ys zs all h = subst (λ us. Extends us all) (sym (append_assoc xs ys zs)) h
 
-next_front : (fr : Frame) (a : s.SStmt) (us all : List Ty) → Extends (fr.vars ++ (declared a ++ us)) all → Extends ((frame_after fr a).vars ++ us) all
+next_front : (fr : MethodVariables) (a : s.SStmt) (us all : List Ty) → Extends (fr.vars ++ (declared a ++ us)) all → Extends ((frame_after fr a).vars ++ us) all
 next_front fr a us all h = subst (λ vs. Extends (vs ++ us) all) (sym (vars_after fr a)) (same_front fr.vars (declared a) us all h)
 
-next_count : (fr : Frame) (a : s.SStmt) (us : List Ty) → length ((frame_after fr a).vars ++ us) ≡ length (fr.vars ++ (declared a ++ us))
+next_count : (fr : MethodVariables) (a : s.SStmt) (us : List Ty) → length ((frame_after fr a).vars ++ us) ≡ length (fr.vars ++ (declared a ++ us))
 next_count fr a us = ap (λ vs. length (vs ++ us)) (vars_after fr a) ∙ ap (λ vs. length vs) (append_assoc fr.vars (declared a) us)
 
 keeps_visible : (bs : List Branch) (other : c.Stmts) (x : c.Stmt) (sc : cs.Scope) → nested bs other ≡ Some x → (scope_after sc x).visible ≡ sc.visible
 keeps_visible [] other x sc h = absurd (cc)
 keeps_visible (b ∷ bs) other x sc h = subst (λ y. (scope_after sc y).visible ≡ sc.visible) (same_Some _ _ h) refl
 
-first_of : {m : g.Frame} {sc : cs.Scope} {x : c.Stmt} → AreStmts m sc (c.next x c.skip) → IsStmt m sc x
+first_of : {m : g.MethodContext} {sc : cs.Scope} {x : c.Stmt} → AreStmts m sc (c.next x c.skip) → IsStmt m sc x
 first_of (g.goes_on h rest) = h
 
-if_goes : {m : g.Frame} (fr : Frame) (us : List Ty) (bs : List Branch) (other : c.Stmts) (x : c.Stmt) → nested bs other ≡ Some x →
+if_goes : {m : g.MethodContext} (fr : MethodVariables) (us : List Ty) (bs : List Branch) (other : c.Stmts) (x : c.Stmt) → nested bs other ≡ Some x →
     GoAll m (core_scope fr) (length (fr.vars ++ us)) (alone (nested bs other) other) →
     Goes m (core_scope fr) (core_scope (with_hidden fr us)) x
 if_goes {m} fr us bs other x is h =
@@ -146,7 +146,7 @@ if_goes {m} fr us bs other x is h =
     record { stmt = first_of alone_goes.stmts; scope = same_scope (keeps_visible bs other x (core_scope fr) is) alone_goes.fresh }
 
 -- an `if` whose second block is this one
-branch_goes : {m : g.Frame} {at : Pos} {a : e.Expr} {ss other : c.Stmts} (fr : Frame) (us vs : List Ty) → g.HasType (g.inside m (core_scope fr)) a ty.Bool →
+branch_goes : {m : g.MethodContext} {at : Pos} {a : e.Expr} {ss other : c.Stmts} (fr : MethodVariables) (us vs : List Ty) → g.HasType (g.inside m (core_scope fr)) a ty.Bool →
     GoAll m (core_scope fr) (length (fr.vars ++ us)) ss → GoAll m (core_scope (with_hidden fr us)) (length ((fr.vars ++ us) ++ vs)) other →
     GoAll m (core_scope fr) (length (fr.vars ++ (us ++ vs))) (c.next (c.If at a ss other) c.skip)
 branch_goes {m} {ss = ss} {other = other} fr us vs guard first second =
@@ -157,7 +157,7 @@ branch_goes {m} {ss = ss} {other = other} fr us vs guard first second =
     }
 
 mutual
-  pub steps : {k : Context} {m : g.Frame} → Describes k.world k.bodies m.program → {d : ℕ} {fr : Frame} {a : s.SStmt} {x : c.Stmt} → Stepped k d fr a x →
+  pub steps : {k : Context} {m : g.MethodContext} → Describes k.world k.bodies m.program → {d : ℕ} {fr : MethodVariables} {a : s.SStmt} {x : c.Stmt} → Stepped k d fr a x →
       IsSound m.params fr → Extends (fr.vars ++ declared a) m.vars → All HasLiterals (stmt_terms a) →
       Goes m (core_scope fr) (core_scope (frame_after fr a)) x
   steps {m = m} z {fr = fr} (r.var {f = f} {x = x} new h) sound more l =
@@ -184,12 +184,12 @@ mutual
         scope = hidden_scope fr (declared_in_block b) (stmts_scope (core_scope fr) ss) inside.fresh;
       }
 
-  pub block_goes : {k : Context} {m : g.Frame} → Describes k.world k.bodies m.program → {d : ℕ} {fr : Frame} {b : s.SBlock} {ss : c.Stmts} →
+  pub block_goes : {k : Context} {m : g.MethodContext} → Describes k.world k.bodies m.program → {d : ℕ} {fr : MethodVariables} {b : s.SBlock} {ss : c.Stmts} →
       Blocked k d fr b ss → IsSound m.params fr → Extends (fr.vars ++ declared_in_block b) m.vars → All HasLiterals (block_terms b) →
       GoAll m (core_scope fr) (length (fr.vars ++ declared_in_block b)) ss
   block_goes z (r.block i h) sound more l = all_go z h sound more l
 
-  all_go : {k : Context} {m : g.Frame} → Describes k.world k.bodies m.program → {d : ℕ} {fr : Frame} {ss : s.SStmts} {xs : List c.Stmt} →
+  all_go : {k : Context} {m : g.MethodContext} → Describes k.world k.bodies m.program → {d : ℕ} {fr : MethodVariables} {ss : s.SStmts} {xs : List c.Stmt} →
       SteppedAll k d fr ss xs → IsSound m.params fr → Extends (fr.vars ++ declared_in ss) m.vars → All HasLiterals (stmts_terms ss) →
       GoAll m (core_scope fr) (length (fr.vars ++ declared_in ss)) (c.stmts xs)
   all_go z {fr = fr} r.no_steps sound more l = record { stmts = g.ends; fresh = ap (λ us. length us) (sym (append-nil fr.vars)) }
@@ -204,7 +204,7 @@ mutual
       }
 
   -- the arms of an `if`, and else these statements
-  arms_go : {k : Context} {m : g.Frame} → Describes k.world k.bodies m.program → {d : ℕ} {fr : Frame} {arms : s.SArms} {bs : List Branch} →
+  arms_go : {k : Context} {m : g.MethodContext} → Describes k.world k.bodies m.program → {d : ℕ} {fr : MethodVariables} {arms : s.SArms} {bs : List Branch} →
       Branches k d fr arms bs → IsSound m.params fr → (us : List Ty) (other : c.Stmts) → Extends (fr.vars ++ (declared_in_arms arms ++ us)) m.vars →
       All HasLiterals (arms_terms arms) → GoAll m (core_scope (with_hidden fr (declared_in_arms arms))) (length ((fr.vars ++ declared_in_arms arms) ++ us)) other →
       GoAll m (core_scope fr) (length (fr.vars ++ (declared_in_arms arms ++ us))) (alone (nested bs other) other)
@@ -223,7 +223,7 @@ mutual
       subst (λ vs. GoAll m (core_scope fr) (length (fr.vars ++ vs)) (c.next (c.If at x ss (alone (nested bs other) other)) c.skip)) (sym (append_assoc first others us))
       (branch_goes fr first (others ++ us) guarded body second)
 
-  else_goes : {k : Context} {m : g.Frame} → Describes k.world k.bodies m.program → {d : ℕ} {fr : Frame} {o : s.SElse} {ss : c.Stmts} →
+  else_goes : {k : Context} {m : g.MethodContext} → Describes k.world k.bodies m.program → {d : ℕ} {fr : MethodVariables} {o : s.SElse} {ss : c.Stmts} →
       Otherwise k d fr o ss → IsSound m.params fr → Extends (fr.vars ++ declared_in_else o) m.vars → All HasLiterals (else_terms o) →
       GoAll m (core_scope fr) (length (fr.vars ++ declared_in_else o)) ss
   else_goes z {fr = fr} r.no_block sound more l = record { stmts = g.ends; fresh = ap (λ us. length us) (sym (append-nil fr.vars)) }

@@ -14,7 +14,7 @@ use Rattle.viper_scope.specs.declared.context.Variable.{Variable}
 use Rattle.viper_scope.specs.Context.{World, Context, Signature, MethodSignature, find, field_at, predicate_at, method_at, allows_old, allows_permission_forms}
 use Rattle.viper_types.specs.Operators.{literal}
 use Rattle.viper_syntax.specs.Good.{HasLiterals, AmountHasLiterals, HaveLiterals}
-use Rattle.viper_scope.specs.Scope.{Scope}
+use Rattle.viper_scope.specs.Scope.{VariableScope}
 use Rattle.viper_types.specs.Typed as r
 use Rattle.viper_types.specs.Typed.{Typed, TypedAll, Permission, IsAmount, IsInstance, Asserts}
 
@@ -43,7 +43,7 @@ pub record Describes (w : World) (bodies : List (Option e.Assertion)) (q : p.Pro
   pub layout_fields : length q.layout.fields ≡ length q.fields
 
 -- a context over names, and the same over numbers
-pub record Resolves (k : Context) (sc : Scope) (c : g.Context) : Type 0 where
+pub record Resolves (k : Context) (sc : VariableScope) (c : g.Context) : Type 0 where
   pub declarations : Describes k.world k.bodies c.program
   pub variable : (x : List ℕ) (v : Variable) → find sc x ≡ Some v → Contains c.visible v.number × (slice_get c.vars v.number ≡ Some v.ty)
   pub old : allows_old k.part ≡ true → g.allows_old c.site ≡ true
@@ -58,7 +58,7 @@ literal_typed c word.None x h = subst (λ z. HasType c z.0 z.1) (same_Some _ _ h
 literal_typed c _ x h = absurd (cc)
 
 mutual
-  pub has_type : {k : Context} {sc : Scope} {c : g.Context} {a : t.Term} {x : e.Expr} {u : Ty} → Resolves k sc c → Typed k sc a x u →
+  pub has_type : {k : Context} {sc : VariableScope} {c : g.Context} {a : t.Term} {x : e.Expr} {u : Ty} → Resolves k sc c → Typed k sc a x u →
       HasLiterals a →
       HasType c x u
   has_type z (r.name {x = x} {v = v} i) l = let seen = z.variable x v i in g.variable seen.0 seen.1
@@ -75,32 +75,32 @@ mutual
       g.unfolded (z.forms allowed) (g.opens d.predicate d.there (z.declarations.body n body d.predicate there d.there)
       (subst (λ us. HaveTypes c es us) (sym d.params) (have_types z args l.0)) (permission_has_type z m l.1) (has_type z inner l.2))
 
-  pub have_types : {k : Context} {sc : Scope} {c : g.Context} {args : t.Terms} {es : e.Exprs} {us : List Ty} → Resolves k sc c →
+  pub have_types : {k : Context} {sc : VariableScope} {c : g.Context} {args : t.Terms} {es : e.Exprs} {us : List Ty} → Resolves k sc c →
       TypedAll k sc args es us → HaveLiterals args →
       HaveTypes c es us
   have_types z r.nothing l = g.nothing
   have_types z (r.also h hs) l = g.also (has_type z h l.0) (have_types z hs l.1)
 
-  pub permission_has_type : {k : Context} {sc : Scope} {c : g.Context} {m : t.Amount} {x : e.Expr} → Resolves k sc c → Permission k sc m x →
+  pub permission_has_type : {k : Context} {sc : VariableScope} {c : g.Context} {m : t.Amount} {x : e.Expr} → Resolves k sc c → Permission k sc m x →
       AmountHasLiterals m →
       HasType c x ty.Perm
   permission_has_type z r.full l = g.part (inr refl)
   permission_has_type z (r.part h) l = has_type z h l
 
-amount_typed : {k : Context} {sc : Scope} {c : g.Context} {m : t.Amount} {x : e.Amt} → Resolves k sc c → IsAmount k sc m x →
+amount_typed : {k : Context} {sc : VariableScope} {c : g.Context} {m : t.Amount} {x : e.Amt} → Resolves k sc c → IsAmount k sc m x →
     AmountHasLiterals m →
     g.IsAmount c x
 amount_typed z (r.fixed h) l = g.amount (permission_has_type z h l)
 amount_typed z (r.wildcard i) l = g.wildcard (z.forms i)
 
-instance_typed : {k : Context} {sc : Scope} {c : g.Context} {x : List ℕ} {args : t.Terms} {m : t.Amount} {at : _} {y : e.Assertion} →
+instance_typed : {k : Context} {sc : VariableScope} {c : g.Context} {x : List ℕ} {args : t.Terms} {m : t.Amount} {at : _} {y : e.Assertion} →
     Resolves k sc c → IsInstance k sc x args m at y → HaveLiterals args → AmountHasLiterals m →
     IsAssertion c y
 instance_typed {c = c} z (r.of_predicate {p = x} {n = n} {s = s} {es = es} i args m) l l' =
     let d = z.declarations.predicate x n s i in
     g.instance d.predicate d.there (subst (λ us. HaveTypes c es us) (sym d.params) (have_types z args l)) (amount_typed z m l')
 
-pub is_assertion : {k : Context} {sc : Scope} {c : g.Context} {a : t.Term} {x : e.Assertion} → Resolves k sc c → Asserts k sc a x →
+pub is_assertion : {k : Context} {sc : VariableScope} {c : g.Context} {a : t.Term} {x : e.Assertion} → Resolves k sc c → Asserts k sc a x →
     HasLiterals a →
     IsAssertion c x
 is_assertion z (r.fact i h) l = g.fact (has_type z h l)

@@ -9,32 +9,32 @@ use Rattle.viper_scope.specs.declared.rules.RuleFault.TheVariants as fault
 use Rattle.viper_scope.specs.Answers.{Refuses}
 use Rattle.viper_scope.specs.Context.{Context, Signature}
 use Rattle.viper_scope.specs.Outcome.{Found}
-use Rattle.viper_scope.specs.Scope.{Scope}
+use Rattle.viper_scope.specs.Scope.{VariableScope}
 use Rattle.viper_scope.specs.Arguments.{Typing}
 use Rattle.viper_types.specs.Typing.{typing, arguments, permission, opening, opened_typing}
 
-pub args_break : (c : Context) (sc : Scope) {u : t.Term} {x : List ℕ} {args : t.Terms} {m : t.Amount} {a : t.Term} {at name_at : Pos} {s : ℕ × Signature}
+pub args_break : (c : Context) (sc : VariableScope) {u : t.Term} {x : List ℕ} {args : t.Terms} {m : t.Amount} {a : t.Term} {at name_at : Pos} {s : ℕ × Signature}
     (seen : t.Terms) (params : List Ty) (f : RuleFault) →
     u ≡ t.Unfolding x args m a at name_at → opening c x at name_at ≡ Found s → args ≡ seen → s.1.params ≡ params →
     Refuses (arguments c sc seen params name_at) f → Refuses (typing c sc u) f
 args_break c sc seen params fault.Memory is opens same_args same_params h = tt
 args_break c sc seen params (fault.Broken p r) is opens same_args same_params h = rw (is, opens, same_args, same_params, h) refl
 
-pub amount_breaks : (c : Context) (sc : Scope) {u : t.Term} {x : List ℕ} {args : t.Terms} {m : t.Amount} {a : t.Term} {at name_at : Pos} {s : ℕ × Signature} {es : e.Exprs}
+pub amount_breaks : (c : Context) (sc : VariableScope) {u : t.Term} {x : List ℕ} {args : t.Terms} {m : t.Amount} {a : t.Term} {at name_at : Pos} {s : ℕ × Signature} {es : e.Exprs}
     (seen : t.Terms) (params : List Ty) (f : RuleFault) →
     u ≡ t.Unfolding x args m a at name_at → opening c x at name_at ≡ Found s → args ≡ seen → s.1.params ≡ params →
     arguments c sc seen params name_at ≡ Found es → Refuses (permission c sc m) f → Refuses (typing c sc u) f
 amount_breaks c sc seen params fault.Memory is opens same_args same_params typed h = tt
 amount_breaks c sc seen params (fault.Broken p r) is opens same_args same_params typed h = rw (is, opens, same_args, same_params, typed, h) refl
 
-pub inner_breaks : (c : Context) (sc : Scope) {u : t.Term} {x : List ℕ} {args : t.Terms} {m : t.Amount} {a b : t.Term} {at name_at : Pos} {s : ℕ × Signature} {es : e.Exprs} {p : e.Expr}
+pub inner_breaks : (c : Context) (sc : VariableScope) {u : t.Term} {x : List ℕ} {args : t.Terms} {m : t.Amount} {a b : t.Term} {at name_at : Pos} {s : ℕ × Signature} {es : e.Exprs} {p : e.Expr}
     (seen : t.Terms) (params : List Ty) (f : RuleFault) →
     u ≡ t.Unfolding x args m a at name_at → opening c x at name_at ≡ Found s → args ≡ seen → s.1.params ≡ params →
     arguments c sc seen params name_at ≡ Found es → permission c sc m ≡ Found p → a ≡ b → Refuses (typing c sc b) f → Refuses (typing c sc u) f
 inner_breaks c sc seen params fault.Memory is opens same_args same_params typed amount same h = tt
 inner_breaks c sc seen params (fault.Broken p r) is opens same_args same_params typed amount same h = rw (is, opens, same_args, same_params, typed, amount, same, h) refl
 
-pub unfolded : (c : Context) (sc : Scope) {u : t.Term} {x : List ℕ} {args : t.Terms} {m : t.Amount} {a b : t.Term} {at name_at : Pos} {s : ℕ × Signature} {es : e.Exprs} {p : e.Expr} {y : Typing}
+pub unfolded : (c : Context) (sc : VariableScope) {u : t.Term} {x : List ℕ} {args : t.Terms} {m : t.Amount} {a b : t.Term} {at name_at : Pos} {s : ℕ × Signature} {es : e.Exprs} {p : e.Expr} {y : Typing}
     (seen : t.Terms) (params : List Ty) →
     u ≡ t.Unfolding x args m a at name_at → opening c x at name_at ≡ Found s → args ≡ seen → s.1.params ≡ params →
     arguments c sc seen params name_at ≡ Found es → permission c sc m ≡ Found p → a ≡ b → typing c sc b ≡ Found y →

@@ -18,16 +18,16 @@ use Rattle.viper_syntax.specs.View.{amount_of, term_of, terms_of, rhs_of}
 use Rattle.viper_syntax.specs.declared.stmts.SRhs.{SRhs}
 use Rattle.viper_syntax.specs.declared.terms.SUnfolding.{SUnfolding}
 use Rattle.viper_syntax.specs.declared.terms.Term as term
-use Rattle.viper_types.specs.declared.expressions.FieldPlace.{FieldPlace}
+use Rattle.viper_types.specs.declared.expressions.TypedField.{TypedField}
 use Rattle.viper_types.specs.declared.declarations.Declared.{Declared}
 use Rattle.viper_types.specs.declared.declarations.Declared.TheVariants as declared
-use Rattle.viper_types.specs.declared.declarations.Parts.{Parts}
-use Rattle.viper_types.specs.declared.frames.Frame as frame
-use Rattle.viper_types.specs.declared.frames.Target as target
+use Rattle.viper_types.specs.declared.declarations.DeclaredParts.{DeclaredParts}
+use Rattle.viper_types.specs.declared.frames.MethodVariables as frame
+use Rattle.viper_types.specs.declared.frames.AssignedVariable as target
 use Rattle.viper_types.specs.declared.statements.TypedArm.{TypedArm}
 use Rattle.viper_types.specs.Typing.{Located}
-use Rattle.viper_types.specs.Frame.{Frame}
-use Rattle.viper_types.specs.Stepping.{Target, Branch}
+use Rattle.viper_types.specs.Frame.{MethodVariables}
+use Rattle.viper_types.specs.Stepping.{AssignedVariable, Branch}
 use Rattle.viper_types.specs.Declaring as j
 
 -- views
@@ -41,16 +41,16 @@ lent_amount_of (Some a) = t.given (term_of a.now)
 abbrev pub unfolding_term : SUnfolding → t.Term
 unfolding_term u = t.Unfolding u.name.name (terms_of u.args.items) (amount_of u.amount) (term_of u.inner.value) u.at u.name.pos
 
-abbrev pub place_of : FieldPlace → Located
+abbrev pub place_of : TypedField → Located
 place_of l = record { receiver = expr_of l.receiver; field = l.field; ty = l.ty }
 
-abbrev pub frame_of : frame.Frame → Frame
+abbrev pub frame_of : frame.MethodVariables → MethodVariables
 frame_of f = record { vars = f.vars.items; scope = f.scope }
 
-abbrev pub target_of : target.Target → Target
+abbrev pub target_of : target.AssignedVariable → AssignedVariable
 target_of v = record { number = v.number; ty = v.ty; at = v.at }
 
-abbrev pub targets_of : Vec target.Target Global → List Target
+abbrev pub targets_of : Vec target.AssignedVariable Global → List AssignedVariable
 targets_of v = map target_of v.items
 
 abbrev pub numbers_of : Vec ℕ Global → List ℕ
@@ -93,7 +93,7 @@ declared_of (declared.Predicate q) = j.PredicateOf (predicate_of q)
 declared_of (declared.Method m) = j.MethodOf (method_of m)
 
 -- the program of the declarations so far
-abbrev pub parts_of : Parts → p.Program
+abbrev pub parts_of : DeclaredParts → p.Program
 parts_of g = record {
   fields = g.fields.items;
   layout = record { fields = g.types.items; keys = map (λ v. v.items) g.keys.items };

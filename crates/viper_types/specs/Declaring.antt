@@ -19,30 +19,30 @@ use Rattle.viper_syntax.specs.declared.stmts.Named.{Named}
 use Rattle.viper_syntax.specs.declared.stmts.Formal.{Formal}
 use Rattle.viper_syntax.specs.declared.tokens.Word.{Word}
 use Rattle.viper_syntax.specs.declared.tokens.Word.TheVariants as word
-use Rattle.viper_scope.specs.declared.context.Part as part_type
-use Rattle.viper_scope.specs.declared.context.Part.TheVariants as part
+use Rattle.viper_scope.specs.declared.context.UnitPart as part_type
+use Rattle.viper_scope.specs.declared.context.UnitPart.TheVariants as part
 use Rattle.viper_scope.specs.Outcome.{Judged, Found, Broken, then_typed, obeys, then_more}
 use Rattle.viper_scope.specs.Context.{World, Context, find}
-use Rattle.viper_scope.specs.Scope.{Scope}
+use Rattle.viper_scope.specs.Scope.{VariableScope}
 use Rattle.viper_scope.specs.Arguments.{start}
 use Rattle.viper_types.specs.Typing.{asserting}
 use Rattle.viper_scope.specs.Types.{type_of, declared_type}
-use Rattle.viper_types.specs.Frame.{Frame, with_variable, declared_in_block}
+use Rattle.viper_types.specs.Frame.{MethodVariables, with_variable, declared_in_block}
 use Rattle.viper_types.specs.Stepping.{blocking, opening_of}
 
 -- formals
 
-abbrev pub no_frame : Frame
+abbrev pub no_frame : MethodVariables
 no_frame = record { vars = []; scope = [] }
 
 -- a formal: its name is new (2), its word is a type (3), and it is a Perm only where that is allowed (13)
-abbrev pub formal : Bool → Frame → Formal → Judged Frame → Judged Frame
+abbrev pub formal : Bool → MethodVariables → Formal → Judged MethodVariables → Judged MethodVariables
 formal allows_perm fr f go =
     obeys (not (is_some (find fr.scope f.name.name))) f.name.pos rule.DeclaredTwice (obeys (is_some (type_of f.ty)) f.name.pos rule.WrongType (
     obeys (allows_perm || not (same_type (declared_type f) ty.Perm)) f.name.pos rule.PermParameter go))
 
 -- formals in order, as parameters or as returns
-abbrev pub formals : Bool → Bool → Frame → List Formal → Judged Frame
+abbrev pub formals : Bool → Bool → MethodVariables → List Formal → Judged MethodVariables
 formals allows_perm is_parameter fr [] = Found fr
 formals allows_perm is_parameter fr (f ∷ fs) = formal allows_perm fr f (formals allows_perm is_parameter (with_variable fr f.name.name (declared_type f) is_parameter) fs)
 
@@ -55,7 +55,7 @@ name_of f = f.name.name
 abbrev pub body_context : World → Context
 body_context w = record { world = w; bodies = []; part = part.Body }
 
-abbrev pub predicate_body : World → Scope → Option t.Term → Judged (Option e.Assertion)
+abbrev pub predicate_body : World → VariableScope → Option t.Term → Judged (Option e.Assertion)
 predicate_body w sc None = Found None
 predicate_body w sc (Some a) = then_typed (asserting (body_context w) sc a) (λ x. Found (Some x))
 
@@ -66,16 +66,16 @@ predicate_typing w at x params body =
 
 -- methods
 
-abbrev pub context_in : World → List (Option e.Assertion) → part_type.Part → Context
+abbrev pub context_in : World → List (Option e.Assertion) → part_type.UnitPart → Context
 context_in w bodies u = record { world = w; bodies = bodies; part = u }
 
 -- a clause, with whether it is a precondition. The first scope has the parameters alone.
-abbrev pub clause_of : World → List (Option e.Assertion) → Scope → Scope → Word → t.Term → Judged (Bool × e.Assertion)
+abbrev pub clause_of : World → List (Option e.Assertion) → VariableScope → VariableScope → Word → t.Term → Judged (Bool × e.Assertion)
 clause_of w bodies params all word.Requires a = then_typed (asserting (context_in w bodies part.Precondition) params a) (λ x. Found (true, x))
 clause_of w bodies params all word.Ensures a = then_typed (asserting (context_in w bodies part.Elsewhere) all a) (λ x. Found (false, x))
 clause_of w bodies params all _ a = Broken (start a) rule.WrongType
 
-abbrev pub clauses : World → List (Option e.Assertion) → Scope → Scope → List d.SClause → Judged (List (Bool × e.Assertion))
+abbrev pub clauses : World → List (Option e.Assertion) → VariableScope → VariableScope → List d.SClause → Judged (List (Bool × e.Assertion))
 clauses w bodies params all [] = Found []
 clauses w bodies params all (a ∷ rest) = then_more (clause_of w bodies params all a.word a.term) (clauses w bodies params all rest)
 
@@ -85,7 +85,7 @@ conditions before [] = []
 conditions true (a ∷ rest) = if a.0 then a.1 ∷ conditions true rest else conditions true rest
 conditions false (a ∷ rest) = if a.0 then conditions false rest else a.1 ∷ conditions false rest
 
-abbrev pub method_body : Bool → Context → Frame → Option s.SBlock → Judged (Option p.Body)
+abbrev pub method_body : Bool → Context → MethodVariables → Option s.SBlock → Judged (Option p.Body)
 method_body lists k fr None = Found None
 method_body lists k fr (Some b) = then_typed (blocking lists k 1 fr b) (λ ss. Found (Some (record { turn = opening_of b; stmts = ss })))
 
@@ -94,7 +94,7 @@ locals None = []
 locals (Some b) = declared_in_block b
 
 -- a method with these variables of its heading, these clauses and this body. The variables of its body come last.
-abbrev pub method_from : d.SMethod → Frame → List (Bool × e.Assertion) → Option p.Body → p.Method
+abbrev pub method_from : d.SMethod → MethodVariables → List (Bool × e.Assertion) → Option p.Body → p.Method
 method_from m fr cs b =
     record {
       name = m.name.name;

@@ -3,12 +3,12 @@ use Rattle.viper_scope.specs.Types.{declared_type}
 use Rattle.std.specs.Prelude.{ℕ, Bool, false, List, [], ◌∷◌, ◌++◌, length}
 use Rattle.vb_value.specs.declared.values.Ty.{Ty}
 use Rattle.viper_syntax.specs.Stmt as s
-use Rattle.viper_scope.specs.Scope.{Scope}
+use Rattle.viper_scope.specs.Scope.{VariableScope}
 
 -- the types of all variables so far, by their numbers, and those that are visible
-pub record Frame : Type 0 where
+pub record MethodVariables : Type 0 where
   pub vars : List Ty
-  pub scope : Scope
+  pub scope : VariableScope
 
 -- the types of the variables that a statement declares, in order
 abbrev mutual
@@ -42,18 +42,18 @@ abbrev mutual
   declared_in_else (s.else_block b) = declared_in_block b
 
 -- a new variable
-abbrev pub with_variable : Frame → List ℕ → Ty → Bool → Frame
+abbrev pub with_variable : MethodVariables → List ℕ → Ty → Bool → MethodVariables
 with_variable fr x u is_parameter = record {
   vars = fr.vars ++ u ∷ [];
   scope = fr.scope ++ (x, record { number = length fr.vars; ty = u; is_parameter = is_parameter }) ∷ [];
 }
 
 -- the variables of a block are visible to its end, and keep their numbers
-abbrev pub with_hidden : Frame → List Ty → Frame
+abbrev pub with_hidden : MethodVariables → List Ty → MethodVariables
 with_hidden fr us = record { vars = fr.vars ++ us; scope = fr.scope }
 
 -- after a statement
-abbrev pub frame_after : Frame → s.SStmt → Frame
+abbrev pub frame_after : MethodVariables → s.SStmt → MethodVariables
 frame_after fr (s.Var at f rhs) = with_variable fr f.name.name (declared_type f) false
 frame_after fr (s.Assign xs rhs) = fr
 frame_after fr (s.CallTo xs call) = fr

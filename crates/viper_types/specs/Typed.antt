@@ -15,13 +15,13 @@ use Rattle.viper_scope.specs.declared.context.Variable.{Variable}
 use Rattle.viper_scope.specs.Context.{Context, Signature, find, field_at, predicate_at, allows_old, allows_permission_forms}
 use Rattle.viper_core.specs.Typing.{value_type, is_number}
 use Rattle.viper_types.specs.Operators.{operator, literal}
-use Rattle.viper_scope.specs.Scope.{Scope}
+use Rattle.viper_scope.specs.Scope.{VariableScope}
 use Rattle.viper_scope.specs.Arguments.{start}
 use Rattle.viper_types.specs.Typing.{write}
 
 mutual
   -- the term is this expression, of this type
-  pub data Typed (c : Context) (sc : Scope) : t.Term → e.Expr → Ty → Type 0 where
+  pub data Typed (c : Context) (sc : VariableScope) : t.Term → e.Expr → Ty → Type 0 where
     name : {x : List ℕ} {at : Pos} {v : Variable} → find sc x ≡ Some v → Typed c sc (t.Name x at) (e.Var v.number) v.ty
     number : {n : ℤ} {at : Pos} → Typed c sc (t.Number n at) (e.Int n) ty.Int
     constant : {w : Word} {at : Pos} {a : e.Expr} {u : Ty} → literal w ≡ Some (a, u) → Typed c sc (t.Constant w at) a u
@@ -42,23 +42,23 @@ mutual
         Typed c sc (t.Unfolding p args m a at name_at) (e.Unfolding (e.opened n es q body y name_at)) u
 
   -- arguments for parameters of these types
-  pub data TypedAll (c : Context) (sc : Scope) : t.Terms → e.Exprs → List Ty → Type 0 where
+  pub data TypedAll (c : Context) (sc : VariableScope) : t.Terms → e.Exprs → List Ty → Type 0 where
     nothing : TypedAll c sc t.none e.none []
     also : {a : t.Term} {rest : t.Terms} {x : e.Expr} {es : e.Exprs} {u : Ty} {us : List Ty} →
         Typed c sc a x u → TypedAll c sc rest es us → TypedAll c sc (t.more a rest) (e.more x es) (u ∷ us)
 
   -- an amount that is an expression. One that is left out is `write`.
-  pub data Permission (c : Context) (sc : Scope) : t.Amount → e.Expr → Type 0 where
+  pub data Permission (c : Context) (sc : VariableScope) : t.Amount → e.Expr → Type 0 where
     full : Permission c sc t.omitted write
     part : {a : t.Term} {x : e.Expr} → Typed c sc a x ty.Perm → Permission c sc (t.given a) x
 
 -- the amount of an accessibility predicate, which may be `wildcard`
-pub data IsAmount (c : Context) (sc : Scope) : t.Amount → e.Amt → Type 0 where
+pub data IsAmount (c : Context) (sc : VariableScope) : t.Amount → e.Amt → Type 0 where
   fixed : {m : t.Amount} {x : e.Expr} → Permission c sc m x → IsAmount c sc m (e.Is x)
   wildcard : {at : Pos} → allows_permission_forms c.part ≡ true → IsAmount c sc (t.given (t.Constant word.Wildcard at)) e.Wildcard
 
 -- an instance of a predicate, with its amount
-pub data IsInstance (c : Context) (sc : Scope) : List ℕ → t.Terms → t.Amount → Pos → e.Assertion → Type 0 where
+pub data IsInstance (c : Context) (sc : VariableScope) : List ℕ → t.Terms → t.Amount → Pos → e.Assertion → Type 0 where
   of_predicate : {p : List ℕ} {args : t.Terms} {m : t.Amount} {at : Pos} {n : ℕ} {s : Signature} {es : e.Exprs} {q : e.Amt} →
       predicate_at c.world p ≡ Some (n, s) → TypedAll c sc args es s.params → IsAmount c sc m q →
       IsInstance c sc p args m at (e.Inst n es q at)
@@ -73,7 +73,7 @@ is_assertion_form (t.Inst x args at) = true
 is_assertion_form _ = false
 
 -- the term is this assertion
-pub data Asserts (c : Context) (sc : Scope) : t.Term → e.Assertion → Type 0 where
+pub data Asserts (c : Context) (sc : VariableScope) : t.Term → e.Assertion → Type 0 where
   fact : {a : t.Term} {x : e.Expr} → is_assertion_form a ≡ false → Typed c sc a x ty.Bool → Asserts c sc a (e.Fact x (start a))
   and : {a b : t.Term} {at : Pos} {x y : e.Assertion} → Asserts c sc a x → Asserts c sc b y → Asserts c sc (t.Binary sign.And a b at) (e.And x y)
   implies : {a b : t.Term} {at : Pos} {x : e.Expr} {y : e.Assertion} → Typed c sc a x ty.Bool → Asserts c sc b y → Asserts c sc (t.Binary sign.Implies a b at) (e.Implies x y)

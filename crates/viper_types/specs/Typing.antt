@@ -2,7 +2,7 @@
 -- from left to right; only the rules 4, 5, 6, 12 and 16 are tried on arrival, before the parts. At one node the rules are tried
 -- by number. Which expression a term is, without any order, is said by the judgement in `Typed`.
 use Rattle.viper_scope.specs.declared.rules.Rule.TheVariants as rule
-use Rattle.viper_scope.specs.Scope.{Scope}
+use Rattle.viper_scope.specs.Scope.{VariableScope}
 use Rattle.viper_scope.specs.Arguments.{Typing, start, fitted}
 use Rattle.std.specs.Prelude.{ℕ, Bool, false, if◌then◌else◌, pos, List, []}
 use Rattle.vb_base.specs.declared.places.Pos.{Pos}
@@ -73,7 +73,7 @@ opened_typing c n es p y at = (e.Unfolding (e.opened n es p (body_at c.bodies n)
 -- expressions
 
 abbrev mutual
-  pub typing : Context → Scope → t.Term → Judged Typing
+  pub typing : Context → VariableScope → t.Term → Judged Typing
   typing c sc (t.Name x at) = known (find sc x) at rule.UnknownName (λ v. Found (e.Var v.number, v.ty))
   typing c sc (t.Number n at) = Found (e.Int n, ty.Int)
   typing c sc (t.Constant w at) = constant w at
@@ -92,25 +92,25 @@ abbrev mutual
       Found (opened_typing c s.0 es p y name_at)))))
 
   -- arguments, in order
-  pub typing_all : Context → Scope → t.Terms → Judged (List Typing)
+  pub typing_all : Context → VariableScope → t.Terms → Judged (List Typing)
   typing_all c sc t.none = Found []
   typing_all c sc (t.more a rest) = then_more (typing c sc a) (typing_all c sc rest)
 
   -- the amount of a `fold`, `unfold` or `unfolding`
-  pub permission : Context → Scope → t.Amount → Judged e.Expr
+  pub permission : Context → VariableScope → t.Amount → Judged e.Expr
   permission c sc t.omitted = Found write
   permission c sc (t.given a) = then_typed (typing c sc a) (λ x. of_type ty.Perm a x)
 
 -- an expression of this type
-abbrev pub expected : Context → Scope → Ty → t.Term → Judged e.Expr
+abbrev pub expected : Context → VariableScope → Ty → t.Term → Judged e.Expr
 expected c sc u a = then_typed (typing c sc a) (λ x. of_type u a x)
 
 -- a field of a term
-abbrev pub place : Context → Scope → t.Term → List ℕ → Pos → Judged Located
+abbrev pub place : Context → VariableScope → t.Term → List ℕ → Pos → Judged Located
 place c sc a f at = then_typed (typing c sc a) (λ x. located c.world f at x)
 
 -- arguments for these parameters
-abbrev pub arguments : Context → Scope → t.Terms → List Ty → Pos → Judged e.Exprs
+abbrev pub arguments : Context → VariableScope → t.Terms → List Ty → Pos → Judged e.Exprs
 arguments c sc args params at = then_typed (typing_all c sc args) (λ xs. fitted args params at xs)
 
 -- assertions
@@ -123,7 +123,7 @@ abbrev pub wildcard : Context → Pos → Judged e.Amt
 wildcard c at = obeys (allows_permission_forms c.part) at rule.MisplacedWildcard (Found e.Wildcard)
 
 -- the amount of an accessibility predicate
-abbrev pub amount : Context → Scope → t.Amount → Judged e.Amt
+abbrev pub amount : Context → VariableScope → t.Amount → Judged e.Amt
 amount c sc t.omitted = Found (e.Is write)
 amount c sc (t.given a) =
     if is_wildcard a
@@ -131,19 +131,19 @@ amount c sc (t.given a) =
     else then_typed (expected c sc ty.Perm a) (λ p. Found (e.Is p))
 
 -- an instance of a predicate, at its name
-abbrev pub instance : Context → Scope → List ℕ → t.Terms → t.Amount → Pos → Judged e.Assertion
+abbrev pub instance : Context → VariableScope → List ℕ → t.Terms → t.Amount → Pos → Judged e.Assertion
 instance c sc x args m at =
     known (predicate_at c.world x) at rule.UnknownName (λ s. then_typed (arguments c sc args s.1.params at) (λ es.
     then_typed (amount c sc m) (λ p. Found (e.Inst s.0 es p at))))
 
 -- an accessibility predicate of what stands in it
-abbrev pub access : Context → Scope → t.Term → t.Amount → Pos → Judged e.Assertion
+abbrev pub access : Context → VariableScope → t.Term → t.Amount → Pos → Judged e.Assertion
 access c sc (t.Field a f f_at) m at = then_typed (place c sc a f f_at) (λ l. then_typed (amount c sc m) (λ p. Found (e.Acc l.receiver l.field p f_at)))
 access c sc (t.Inst x args x_at) m at = instance c sc x args m x_at
 access c sc _ m at = Broken at rule.NoResource
 
 -- an expression as an assertion
-abbrev pub fact : Context → Scope → t.Term → Judged e.Assertion
+abbrev pub fact : Context → VariableScope → t.Term → Judged e.Assertion
 fact c sc a = then_typed (expected c sc ty.Bool a) (λ x. Found (e.Fact x (start a)))
 
 -- the connectives `&&` and `==>`, and any other sign
@@ -152,7 +152,7 @@ by_connective sign.And joined implied plain = joined
 by_connective sign.Implies joined implied plain = implied
 by_connective _ joined implied plain = plain
 
-abbrev pub asserting : Context → Scope → t.Term → Judged e.Assertion
+abbrev pub asserting : Context → VariableScope → t.Term → Judged e.Assertion
 asserting c sc (t.Binary o a b at) =
     by_connective o
     (then_typed (asserting c sc a) (λ x. then_typed (asserting c sc b) (λ y. Found (e.And x y))))

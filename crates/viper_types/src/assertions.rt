@@ -12,14 +12,14 @@ use std::alloc::Global;
 use vb_base::{Ident, Pos, boxed, kept};
 use vb_value::Ty;
 use viper_core::{Amt, Assertion};
-use viper_scope::{Context, Rule, RuleFault, Scope, start};
+use viper_scope::{Context, Rule, RuleFault, VariableScope, start};
 use viper_syntax::{Sign, Term, Word};
 
 /// The amount of an accessibility predicate.
 fn amount(
     alloc: Global,
     context: &Context,
-    scope: &Scope,
+    scope: &VariableScope,
     amount: Option<&Term>,
 ) -> Result<Amt, RuleFault>
     ensures { Answers amt_of (j.amount (context_of context.now) scope.now (lent_amount_of amount.entry)) result }
@@ -40,7 +40,7 @@ fn amount(
 fn instance(
     alloc: Global,
     context: &Context,
-    scope: &Scope,
+    scope: &VariableScope,
     name: &Ident,
     args: &[Term],
     share: Option<&Term>,
@@ -60,7 +60,7 @@ fn instance(
 fn access(
     alloc: Global,
     context: &Context,
-    scope: &Scope,
+    scope: &VariableScope,
     term: &Term,
     share: Option<&Term>,
     at: Pos,
@@ -85,7 +85,7 @@ fn access(
 fn fact(
     alloc: Global,
     context: &Context,
-    scope: &Scope,
+    scope: &VariableScope,
     term: &Term,
 ) -> Result<Assertion, RuleFault>
     ensures { Answers assertion_of (j.fact (context_of context.now) scope.now (term_of term.now)) result }
@@ -99,7 +99,7 @@ fn fact(
 fn boxed_assertion(
     alloc: Global,
     context: &Context,
-    scope: &Scope,
+    scope: &VariableScope,
     term: &Term,
 ) -> Result<Box<Assertion>, RuleFault>
     ensures { Answers (λ a. assertion_of a.value) (j.asserting (context_of context.now) scope.now (term_of term.now)) result }
@@ -112,7 +112,7 @@ fn boxed_assertion(
 pub(crate) fn assertion(
     alloc: Global,
     context: &Context,
-    scope: &Scope,
+    scope: &VariableScope,
     term: &Term,
 ) -> Result<Assertion, RuleFault>
     ensures { Answers assertion_of (j.asserting (context_of context.now) scope.now (term_of term.now)) result }
@@ -147,7 +147,7 @@ pub(crate) fn assertion(
 pub(crate) fn assertions(
     alloc: Global,
     context: &Context,
-    scope: &Scope,
+    scope: &VariableScope,
     terms: &[Term],
 ) -> Result<Vec<Assertion>, RuleFault>
     ensures { Answers (λ v. assertions_of v.items) (asserting_all (context_of context.now) scope.now (map term_of terms.now)) result }

@@ -6,17 +6,17 @@ ghost use Rattle.viper_types.specs.Answers.{target_of, targets_of};
 ghost use Rattle.viper_scope.specs.Outcome.{Found, obeys};
 ghost use Rattle.viper_types.specs.Stepping as s;
 
-use crate::frames::Target;
+use crate::frames::AssignedVariable;
 use crate::listed::list_new;
 use indexmap::IndexSet;
 use std::alloc::Global;
 use vb_base::{Memory, Pos};
 use vb_value::Ty;
-use viper_scope::{Rule, RuleFault, Scope, Variable};
+use viper_scope::{Rule, RuleFault, Variable, VariableScope};
 use viper_syntax::Named;
 
 /// A visible variable that is no parameter.
-pub fn target(scope: &Scope, x: &Named) -> Result<Target, RuleFault>
+pub fn target(scope: &VariableScope, x: &Named) -> Result<AssignedVariable, RuleFault>
     ensures { Answers target_of (s.target scope.now x.now) result }
 {
     let Some(variable) = scope.find(&x.name) else {
@@ -26,7 +26,7 @@ pub fn target(scope: &Scope, x: &Named) -> Result<Target, RuleFault>
 }
 
 /// The same, of type Ref.
-pub fn ref_target(scope: &Scope, x: &Named) -> Result<Target, RuleFault>
+pub fn ref_target(scope: &VariableScope, x: &Named) -> Result<AssignedVariable, RuleFault>
     ensures { Answers target_of (s.ref_target scope.now x.now) result }
 {
     let Some(variable) = scope.find(&x.name) else {
@@ -38,18 +38,22 @@ pub fn ref_target(scope: &Scope, x: &Named) -> Result<Target, RuleFault>
     assigned(variable, x.pos)
 }
 
-fn assigned(variable: Variable, at: Pos) -> Result<Target, RuleFault>
+fn assigned(variable: Variable, at: Pos) -> Result<AssignedVariable, RuleFault>
     ensures { Answers target_of (obeys (not variable.is_parameter) at rule.ParameterAsTarget (Found (record { number = variable.number; ty = variable.ty; at = at }))) result }
 {
     if variable.is_parameter {
         return Err(RuleFault::Broken(at, Rule::ParameterAsTarget));
     }
     let Variable { number, ty, .. } = variable;
-    Ok(Target { number, ty, at })
+    Ok(AssignedVariable { number, ty, at })
 }
 
 /// The targets of a call, none of them twice.
-pub fn call_targets(alloc: Global, scope: &Scope, names: &[Named]) -> Result<Vec<Target>, RuleFault>
+pub fn call_targets(
+    alloc: Global,
+    scope: &VariableScope,
+    names: &[Named],
+) -> Result<Vec<AssignedVariable>, RuleFault>
     ensures { Answers targets_of (s.call_targets scope.now [] names.now) result }
 {
     let mut seen = IndexSet::new(alloc);
@@ -65,7 +69,7 @@ pub fn call_targets(alloc: Global, scope: &Scope, names: &[Named]) -> Result<Vec
 }
 
 /// The name of the first target that is not of its return's type.
-pub fn mistarget(targets: &[Target], returns: &[Ty]) -> Option<Pos>
+pub fn mistarget(targets: &[AssignedVariable], returns: &[Ty]) -> Option<Pos>
     ensures { result ≡ s.mistarget (map target_of targets.now) returns.now }
 {
     for (i, target) in targets.iter().enumerate() {
@@ -77,7 +81,7 @@ pub fn mistarget(targets: &[Target], returns: &[Ty]) -> Option<Pos>
 }
 
 /// The numbers of some targets.
-pub fn numbers_in(alloc: Global, targets: &[Target]) -> Result<Vec<u32>, Memory>
+pub fn numbers_in(alloc: Global, targets: &[AssignedVariable]) -> Result<Vec<u32>, Memory>
     ensures { IfOk result (λ v. v.items ≡ s.numbers_in (map target_of targets.now)) }
 {
     let mut numbers = Vec::with_capacity(alloc, targets.len())?;

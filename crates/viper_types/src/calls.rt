@@ -11,19 +11,21 @@ ghost use Rattle.viper_types.specs.Typing as j;
 
 use crate::assigned::{mistarget, numbers_in};
 use crate::expressions::{arguments, typings};
-use crate::frames::Target;
+use crate::frames::AssignedVariable;
 use std::alloc::Global;
 use vb_base::Pos;
 use vb_value::Ty;
 use viper_core::{Expr, Stmt};
-use viper_scope::{Context, MethodTypes, Rule, RuleFault, Scope, as_many, exprs_in, misfit};
+use viper_scope::{
+    Context, MethodTypes, Rule, RuleFault, VariableScope, as_many, exprs_in, misfit,
+};
 use viper_syntax::SCall;
 
 /// The arguments of a call, with their types.
 fn typed_arguments(
     alloc: Global,
     context: &Context,
-    scope: &Scope,
+    scope: &VariableScope,
     call: &SCall,
 ) -> Result<Vec<(Expr, Ty)>, RuleFault>
     ensures { Answers typings_of (j.typing_all (context_of context.now) scope.now (t.terms (call_of call.now).args)) result }
@@ -43,7 +45,7 @@ fn first_misfit(call: &SCall, typed: &[(Expr, Ty)], params: &[Ty]) -> Option<Pos
 fn called(
     alloc: Global,
     at: Pos,
-    targets: &[Target],
+    targets: &[AssignedVariable],
     call: &SCall,
     number: u32,
     method: &MethodTypes,
@@ -72,9 +74,9 @@ fn called(
 pub fn calling(
     alloc: Global,
     context: &Context,
-    scope: &Scope,
+    scope: &VariableScope,
     at: Pos,
-    targets: &[Target],
+    targets: &[AssignedVariable],
     call: &SCall,
 ) -> Result<Stmt, RuleFault>
     ensures { Answers stmt_of (s.calling (context_of context.now) scope.now at (map target_of targets.now) (call_of call.now)) result }
@@ -90,7 +92,7 @@ pub fn calling(
 pub fn call_arguments(
     alloc: Global,
     context: &Context,
-    scope: &Scope,
+    scope: &VariableScope,
     call: &SCall,
     params: &[Ty],
 ) -> Result<Vec<Expr>, RuleFault>
@@ -104,7 +106,7 @@ pub fn call_arguments(
 pub fn calling_into_field(
     alloc: Global,
     context: &Context,
-    scope: &Scope,
+    scope: &VariableScope,
     call: &SCall,
 ) -> Result<Stmt, RuleFault>
     ensures { Answers stmt_of (s.calling_into_field (context_of context.now) scope.now (call_of call.now)) result }

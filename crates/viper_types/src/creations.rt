@@ -14,7 +14,7 @@ use indexmap::IndexSet;
 use std::alloc::Global;
 use vb_base::{Memory, Pos};
 use viper_core::Stmt;
-use viper_scope::{Context, Rule, RuleFault, Scope, World};
+use viper_scope::{Context, Rule, RuleFault, VariableScope, World};
 use viper_syntax::{Named, SNew};
 
 /// The fields that a `new` names, none of them twice.
@@ -62,7 +62,7 @@ fn chosen_fields(
 }
 
 /// The Ref variables in scope.
-fn ref_variables(alloc: Global, lists: bool, scope: &Scope) -> Result<Vec<u32>, Memory>
+fn ref_variables(alloc: Global, lists: bool, scope: &VariableScope) -> Result<Vec<u32>, Memory>
     ensures { IfOk result (λ v. v.items ≡ listed lists (ref_variables scope.now)) }
 {
     if !lists {
@@ -75,7 +75,7 @@ fn ref_variables(alloc: Global, lists: bool, scope: &Scope) -> Result<Vec<u32>, 
 pub fn creating(
     alloc: Global,
     context: &Context,
-    scope: &Scope,
+    scope: &VariableScope,
     at: Pos,
     target: u32,
     new: &SNew,

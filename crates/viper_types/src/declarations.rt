@@ -26,7 +26,7 @@ pub enum Declared {
 
 /// What the declarations so far are.
 #[derive(Drop)]
-pub struct Parts {
+pub struct DeclaredParts {
     fields: Vec<Ident>,
     types: Vec<Ty>,
     keys: Vec<Vec<Ty>>,
@@ -68,12 +68,12 @@ fn declaration(
     }
 }
 
-impl Parts {
+impl DeclaredParts {
     /// No declarations.
-    fn new(alloc: Global) -> Parts
+    fn new(alloc: Global) -> DeclaredParts
         ensures { parts_of result ≡ j.no_program }
     {
-        Parts {
+        DeclaredParts {
             fields: Vec::new(alloc),
             types: Vec::new(alloc),
             keys: Vec::new(alloc),
@@ -150,10 +150,10 @@ pub fn declarations(
     bodies: &[Option<Assertion>],
     lists: bool,
     decls: &[Decl],
-) -> Result<Parts, RuleFault>
+) -> Result<DeclaredParts, RuleFault>
     ensures { Answers parts_of (then_typed (j.decls_typing lists (world_of world.now) (optional_bodies_of bodies.now) (map decl_of decls.now)) (λ xs. Found (j.assembled j.no_program xs))) result }
 {
-    let mut parts = Parts::new(alloc);
+    let mut parts = DeclaredParts::new(alloc);
     for decl in decls {
         let declared = declaration(alloc, world, bodies, lists, decl)?;
         parts.add(alloc, declared)?;

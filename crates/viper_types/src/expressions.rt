@@ -19,13 +19,13 @@ use vb_base::{Ident, Pos, boxed, boxed_pair, kept};
 use vb_value::{Frac, Ty};
 use viper_core::{Assertion, Expr, Op, Opened};
 use viper_scope::{
-    Context, Part, PredicateSignature, Rule, RuleFault, Scope, World, fitted, start,
+    Context, PredicateSignature, Rule, RuleFault, UnitPart, VariableScope, World, fitted, start,
 };
 use viper_syntax::{SUnfolding, Sign, Term, Word};
 
 /// A field of a receiver, with its type.
 #[derive(Drop)]
-pub struct FieldPlace {
+pub struct TypedField {
     pub receiver: Expr,
     pub field: u32,
     pub ty: Ty,
@@ -109,7 +109,7 @@ fn constant(word: Word, at: Pos) -> Result<(Expr, Ty), RuleFault>
     }
 }
 
-fn variable(scope: &Scope, name: &Ident, at: Pos) -> Result<(Expr, Ty), RuleFault>
+fn variable(scope: &VariableScope, name: &Ident, at: Pos) -> Result<(Expr, Ty), RuleFault>
     ensures { Answers typing_of (known (c.find scope.now name.now) at rule.UnknownName (λ v. Found (e.Var v.number, v.ty))) result }
 {
     match scope.find(name) {
@@ -178,7 +178,7 @@ pub(crate) fn located(
     name: &Ident,
     at: Pos,
     receiver: (Expr, Ty),
-) -> Result<FieldPlace, RuleFault>
+) -> Result<TypedField, RuleFault>
     ensures { Answers place_of (j.located (world_of world.now) name.now at (typing_of receiver)) result }
 {
     let (receiver, receiver_ty) = receiver;
@@ -188,7 +188,7 @@ pub(crate) fn located(
     if receiver_ty != Ty::Ref {
         return Err(RuleFault::Broken(at, Rule::WrongType));
     }
-    Ok(FieldPlace {
+    Ok(TypedField {
         receiver,
         field,
         ty,
@@ -196,7 +196,7 @@ pub(crate) fn located(
 }
 
 /// A field, read at the place of its name.
-pub(crate) fn field(alloc: Global, place: FieldPlace, at: Pos) -> Result<(Expr, Ty), RuleFault>
+pub(crate) fn field(alloc: Global, place: TypedField, at: Pos) -> Result<(Expr, Ty), RuleFault>
     ensures { Answers typing_of (Found (e.Field (expr_of place.receiver) place.field at, place.ty)) result }
 {
     let receiver = Box::new(alloc, place.receiver)?;
@@ -232,10 +232,10 @@ pub(crate) fn with_body<'a>(
 }
 
 /// Whether `wildcard` and `unfolding` may stand here.
-pub(crate) fn allows_permission_forms(part: Part) -> bool
+pub(crate) fn allows_permission_forms(part: UnitPart) -> bool
     ensures { result ≡ c.allows_permission_forms part }
 {
-    !matches!(part, Part::Body)
+    !matches!(part, UnitPart::Body)
 }
 
 /// The predicate of an `unfolding`, tried on arrival.
@@ -297,7 +297,7 @@ fn opened(
 pub(crate) fn typing(
     alloc: Global,
     context: &Context,
-    scope: &Scope,
+    scope: &VariableScope,
     term: &Term,
 ) -> Result<(Expr, Ty), RuleFault>
     ensures { Answers typing_of (j.typing (context_of context.now) scope.now (term_of term.now)) result }
@@ -336,7 +336,7 @@ pub(crate) fn typing(
 fn unfolded(
     alloc: Global,
     context: &Context,
-    scope: &Scope,
+    scope: &VariableScope,
     term: &SUnfolding,
 ) -> Result<(Expr, Ty), RuleFault>
     ensures { Answers typing_of (j.typing (context_of context.now) scope.now (unfolding_term term.now)) result }
@@ -359,13 +359,13 @@ fn unfolded(
 fn old(
     alloc: Global,
     context: &Context,
-    scope: &Scope,
+    scope: &VariableScope,
     term: &Term,
     at: Pos,
 ) -> Result<(Expr, Ty), RuleFault>
     ensures { Answers typing_of (j.typing (context_of context.now) scope.now (t.Old (term_of term.now) at)) result }
 {
-    if !matches!(context.part, Part::Elsewhere) {
+    if !matches!(context.part, UnitPart::Elsewhere) {
         return Err(RuleFault::Broken(at, Rule::MisplacedOld));
     }
     let (e, ty) = typing(alloc, context, scope, term)?;
@@ -377,7 +377,7 @@ fn old(
 pub(crate) fn typings(
     alloc: Global,
     context: &Context,
-    scope: &Scope,
+    scope: &VariableScope,
     terms: &[Term],
 ) -> Result<Vec<(Expr, Ty)>, RuleFault>
     ensures { Answers typings_of (j.typing_all (context_of context.now) scope.now (terms_of terms.now)) result }
@@ -395,7 +395,7 @@ pub(crate) fn typings(
 pub(crate) fn arguments(
     alloc: Global,
     context: &Context,
-    scope: &Scope,
+    scope: &VariableScope,
     args: &[Term],
     params: &[Ty],
     at: Pos,
@@ -411,7 +411,7 @@ pub(crate) fn arguments(
 pub(crate) fn expected(
     alloc: Global,
     context: &Context,
-    scope: &Scope,
+    scope: &VariableScope,
     ty: Ty,
     term: &Term,
 ) -> Result<Expr, RuleFault>
@@ -426,7 +426,7 @@ pub(crate) fn expected(
 fn held_permission(
     alloc: Global,
     context: &Context,
-    scope: &Scope,
+    scope: &VariableScope,
     amount: &Option<Box<Term>>,
 ) -> Result<Expr, RuleFault>
     ensures { Answers expr_of (j.permission (context_of context.now) scope.now (amount_of amount.now)) result }
@@ -442,11 +442,11 @@ fn held_permission(
 pub(crate) fn place(
     alloc: Global,
     context: &Context,
-    scope: &Scope,
+    scope: &VariableScope,
     term: &Term,
     name: &Ident,
     at: Pos,
-) -> Result<FieldPlace, RuleFault>
+) -> Result<TypedField, RuleFault>
     ensures { Answers place_of (j.place (context_of context.now) scope.now (term_of term.now) name.now at) result }
 {
     let receiver = typing(alloc, context, scope, term)?;
@@ -457,7 +457,7 @@ pub(crate) fn place(
 pub(crate) fn permission(
     alloc: Global,
     context: &Context,
-    scope: &Scope,
+    scope: &VariableScope,
     amount: Option<&Term>,
 ) -> Result<Expr, RuleFault>
     ensures { Answers expr_of (j.permission (context_of context.now) scope.now (lent_amount_of amount.entry)) result }

@@ -7,7 +7,7 @@ ghost use Rattle.viper_types.specs.Frame as f;
 ghost use Rattle.viper_scope.specs.Types as types;
 ghost use Rattle.viper_scope.specs.Outcome.{Found};
 
-use crate::frames::Frame;
+use crate::frames::MethodVariables;
 use vb_base::{Ident, Memory};
 use vb_value::Ty;
 use viper_scope::{Rule, RuleFault, type_of};
@@ -15,7 +15,7 @@ use viper_syntax::Formal;
 
 /// Adds a formal, which is a Perm only where that is allowed.
 fn formal(
-    frame: &mut Frame,
+    frame: &mut MethodVariables,
     allows_perm: bool,
     is_parameter: bool,
     formal: &Formal,
@@ -38,7 +38,7 @@ fn formal(
 
 /// Adds formals in order, as parameters or as returns. They are Perms only where that is allowed.
 pub fn formals(
-    frame: &mut Frame,
+    frame: &mut MethodVariables,
     allows_perm: bool,
     is_parameter: bool,
     formals: &[Formal],

@@ -11,34 +11,34 @@ ghost use Rattle.viper_types.specs.Stepping as s;
 use std::alloc::Global;
 use vb_base::{Ident, Memory, Pos};
 use vb_value::Ty;
-use viper_scope::{Rule, RuleFault, Scope, Variable, World, next_number, type_of};
+use viper_scope::{Rule, RuleFault, Variable, VariableScope, World, next_number, type_of};
 use viper_syntax::Formal;
 
 /// The variables of a method so far.
 #[derive(Drop)]
-pub struct Frame {
+pub struct MethodVariables {
     /// The types of all variables, by their numbers.
     pub vars: Vec<Ty>,
     /// Those that are visible.
-    pub scope: Scope,
+    pub scope: VariableScope,
 }
 
 /// A variable that takes a value, and the place of its name.
 #[derive(Clone, Copy)]
-pub struct Target {
+pub struct AssignedVariable {
     pub number: u32,
     pub ty: Ty,
     pub at: Pos,
 }
 
-impl Frame {
+impl MethodVariables {
     /// No variables. Their names are hashed as those of the declarations.
-    pub fn new(alloc: Global, world: &World) -> Frame
+    pub fn new(alloc: Global, world: &World) -> MethodVariables
         ensures { frame_of result ≡ no_frame }
     {
-        Frame {
+        MethodVariables {
             vars: Vec::new(alloc),
-            scope: Scope::new(alloc, world.roles.key()),
+            scope: VariableScope::new(alloc, world.roles.key()),
         }
     }
 
@@ -65,7 +65,7 @@ impl Frame {
     }
 
     /// The variable that a declaration makes.
-    pub fn fresh(&self, formal: &Formal) -> Result<Target, RuleFault>
+    pub fn fresh(&self, formal: &Formal) -> Result<AssignedVariable, RuleFault>
         ensures answers { Answers target_of (s.fresh (frame_of self.now) formal.now) result }
         ensures typed { IfOk result (λ v. v.ty ≡ types.declared_type formal.now) }
         ensures is_new { OnOk result (find self.now.scope formal.now.name.name ≡ None) }
@@ -78,6 +78,6 @@ impl Frame {
             return Err(RuleFault::Broken(at, Rule::WrongType));
         };
         let number = self.next_number()?;
-        Ok(Target { number, ty, at })
+        Ok(AssignedVariable { number, ty, at })
     }
 }

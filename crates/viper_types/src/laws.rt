@@ -12,26 +12,26 @@ ghost use Rattle.viper_syntax.specs.Stmt as s;
 ghost use Rattle.viper_syntax.specs.Term as t;
 ghost use Rattle.viper_scope.specs.declared.rules.Rule.{Rule};
 ghost use Rattle.viper_scope.specs.Context.{Context};
-ghost use Rattle.viper_types.specs.Frame.{Frame};
+ghost use Rattle.viper_types.specs.Frame.{MethodVariables};
 ghost use Rattle.viper_syntax.specs.Good.{IsGoodSource};
 ghost use Rattle.viper_types.specs.Declaring.{program_typing};
 ghost use Rattle.viper_scope.specs.Outcome.{Broken};
 ghost use Rattle.viper_types.specs.Program.{IsProgram};
 ghost use Rattle.viper_types.specs.Stepped.{Stepped};
 ghost use Rattle.viper_types.specs.Typed.{Typed, Asserts};
-ghost use Rattle.viper_scope.specs.Scope.{Scope};
+ghost use Rattle.viper_scope.specs.Scope.{VariableScope};
 
 /// A term is at most one expression, of at most one type, and at most one assertion.
 pub fn one_expression()
-    ensures expression { (k : Context) (sc : Scope) (a : t.Term) (x : e.Expr) (y : e.Expr) (u : Ty) (v : Ty) → Typed k sc a x u
+    ensures expression { (k : Context) (sc : VariableScope) (a : t.Term) (x : e.Expr) (y : e.Expr) (u : Ty) (v : Ty) → Typed k sc a x u
         → Typed k sc a y v → (x ≡ y) × (u ≡ v) }
-    ensures assertion { (k : Context) (sc : Scope) (a : t.Term) (x : e.Assertion) (y : e.Assertion) → Asserts k sc a x
+    ensures assertion { (k : Context) (sc : VariableScope) (a : t.Term) (x : e.Assertion) (y : e.Assertion) → Asserts k sc a x
         → Asserts k sc a y → x ≡ y }
 {}
 
 /// A statement is at most one statement of the core.
 pub fn one_statement()
-    ensures { (k : Context) (d : ℕ) (fr : Frame) (a : s.SStmt) (x : c.Stmt) (y : c.Stmt) → Stepped k d fr a x → Stepped k d fr a y
+    ensures { (k : Context) (d : ℕ) (fr : MethodVariables) (a : s.SStmt) (x : c.Stmt) (y : c.Stmt) → Stepped k d fr a x → Stepped k d fr a y
         → x ≡ y }
 {}
 

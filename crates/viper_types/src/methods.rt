@@ -5,20 +5,22 @@ ghost use Rattle.viper_core.specs.View as core;
 ghost use Rattle.viper_syntax.specs.View.{block_of, clause_of, method_of, term_of};
 ghost use Rattle.viper_scope.specs.Answers.{Answers, context_of, world_of};
 ghost use Rattle.viper_scope.specs.Outcome.{Found, then_typed};
-ghost use Rattle.viper_scope.specs.declared.context.Part.TheVariants as part;
+ghost use Rattle.viper_scope.specs.declared.context.UnitPart.TheVariants as part;
 ghost use Rattle.viper_types.specs.Answers.{clause_typing_of, clause_typings_of, frame_of, optional_bodies_of};
 ghost use Rattle.viper_types.specs.Declaring as j;
 ghost use Rattle.viper_types.specs.Frame as f;
 
 use crate::assertions::assertion;
 use crate::formals::{add_names, formals};
-use crate::frames::Frame;
+use crate::frames::MethodVariables;
 use crate::statements::blocking;
 use std::alloc::Global;
 use std::mem;
 use vb_base::{Ident, Memory};
 use viper_core::{Assertion, Body, Method};
-use viper_scope::{Context, Part, Rule, RuleFault, Scope, World, next_number, seen, start};
+use viper_scope::{
+    Context, Rule, RuleFault, UnitPart, VariableScope, World, next_number, seen, start,
+};
 use viper_syntax::{SBlock, SClause, SMethod};
 
 /// A clause, with whether it is a precondition, which sees the parameters alone.
@@ -26,8 +28,8 @@ fn clause(
     alloc: Global,
     world: &World,
     bodies: &[Option<Assertion>],
-    params: &Scope,
-    all: &Scope,
+    params: &VariableScope,
+    all: &VariableScope,
     clause: &SClause,
 ) -> Result<(bool, Assertion), RuleFault>
     ensures { Answers clause_typing_of (j.clause_of (world_of world.now) (optional_bodies_of bodies.now) params.now all.now clause.now.word (term_of clause.now.term)) result }
@@ -51,8 +53,8 @@ fn clauses(
     alloc: Global,
     world: &World,
     bodies: &[Option<Assertion>],
-    params: &Scope,
-    all: &Scope,
+    params: &VariableScope,
+    all: &VariableScope,
     clauses: &[SClause],
 ) -> Result<Vec<(bool, Assertion)>, RuleFault>
     ensures { Answers clause_typings_of (j.clauses (world_of world.now) (optional_bodies_of bodies.now) params.now all.now (map clause_of clauses.now)) result }
@@ -67,13 +69,13 @@ fn clauses(
 
 /// The preconditions and the postconditions.
 #[derive(Drop)]
-struct Conditions {
+struct MethodConditions {
     before: Vec<Assertion>,
     after: Vec<Assertion>,
 }
 
 /// The preconditions and the postconditions among clauses, each in order.
-fn split_clauses(alloc: Global, clauses: Vec<(bool, Assertion)>) -> Result<Conditions, Memory>
+fn split_clauses(alloc: Global, clauses: Vec<(bool, Assertion)>) -> Result<MethodConditions, Memory>
     ensures before { IfOk result (λ v. core.assertions_of v.before.items ≡ j.conditions true (clause_typings_of clauses)) }
     ensures after { IfOk result (λ v. core.assertions_of v.after.items ≡ j.conditions false (clause_typings_of clauses)) }
 {
@@ -86,14 +88,14 @@ fn split_clauses(alloc: Global, clauses: Vec<(bool, Assertion)>) -> Result<Condi
             after.push(condition)?;
         }
     }
-    Ok(Conditions { before, after })
+    Ok(MethodConditions { before, after })
 }
 
 /// The body of a method, if it has one.
 fn method_body(
     alloc: Global,
     context: &Context,
-    frame: &mut Frame,
+    frame: &mut MethodVariables,
     block: &Option<SBlock>,
 ) -> Result<Option<Body>, RuleFault>
     ensures after { OnOk result (frame.new.vars.items ≡ frame.old.vars.items ++ j.locals (option_map block_of block.now)) }
@@ -111,7 +113,7 @@ fn method_body(
 
 /// What a method is called, and the names and numbers of its formals.
 #[derive(Drop)]
-struct Heading {
+struct MethodHeading {
     name: Ident,
     names: Vec<Ident>,
     params: u32,
@@ -119,7 +121,7 @@ struct Heading {
 }
 
 /// The heading of a method, copied.
-fn heading_of(alloc: Global, method: &SMethod) -> Result<Heading, Memory>
+fn heading_of(alloc: Global, method: &SMethod) -> Result<MethodHeading, Memory>
     ensures name { IfOk result (λ h. h.name ≡ method.now.name.name) }
     ensures names { IfOk result (λ h. h.names.items ≡ map j.name_of method.now.params.items ++ map j.name_of method.now.returns.items) }
     ensures params { IfOk result (λ h. h.params ≡ length method.now.params.items) }
@@ -131,7 +133,7 @@ fn heading_of(alloc: Global, method: &SMethod) -> Result<Heading, Memory>
     add_names(&mut names, &method.params)?;
     add_names(&mut names, &method.returns)?;
     let name = method.name.name.copy()?;
-    Ok(Heading {
+    Ok(MethodHeading {
         name,
         names,
         params,
@@ -140,10 +142,14 @@ fn heading_of(alloc: Global, method: &SMethod) -> Result<Heading, Memory>
 }
 
 /// Declares the formals of a method. The parameters stand also in a frame of their own.
-fn declare_formals(params: &mut Frame, frame: &mut Frame, method: &SMethod) -> Result<(), RuleFault>
+fn declare_formals(
+    params: &mut MethodVariables,
+    frame: &mut MethodVariables,
+    method: &SMethod,
+) -> Result<(), RuleFault>
     requires params { frame_of params.old ≡ j.no_frame }
     requires frame { frame_of frame.old ≡ j.no_frame }
-    ensures { Answers {X = f.Frame × f.Frame} (λ _. (frame_of params.new, frame_of frame.new)) (then_typed (j.formals true true j.no_frame method.now.params.items) (λ ps.
+    ensures { Answers {X = f.MethodVariables × f.MethodVariables} (λ _. (frame_of params.new, frame_of frame.new)) (then_typed (j.formals true true j.no_frame method.now.params.items) (λ ps.
         then_typed (j.formals true false ps method.now.returns.items) (λ fr. Found (ps, fr)))) result }
 {
     formals(params, true, true, &method.params)?;
@@ -155,8 +161,8 @@ fn declare_formals(params: &mut Frame, frame: &mut Frame, method: &SMethod) -> R
 fn method_in(
     alloc: Global,
     context: &Context,
-    params: &mut Frame,
-    frame: &mut Frame,
+    params: &mut MethodVariables,
+    frame: &mut MethodVariables,
     method: &SMethod,
 ) -> Result<Method, RuleFault>
     requires part { context.now.part ≡ part.Elsewhere }
@@ -200,14 +206,14 @@ pub fn method(
 ) -> Result<Method, RuleFault>
     ensures { Answers core.method_of (j.method_typing lists (world_of world.now) (optional_bodies_of bodies.now) (method_of method.now)) result }
 {
-    let part = Part::Elsewhere;
+    let part = UnitPart::Elsewhere;
     let context = Context {
         world,
         bodies,
         part,
         lists,
     };
-    let mut params = Frame::new(alloc, world);
-    let mut frame = Frame::new(alloc, world);
+    let mut params = MethodVariables::new(alloc, world);
+    let mut frame = MethodVariables::new(alloc, world);
     method_in(alloc, &context, &mut params, &mut frame, method)
 }

@@ -12,19 +12,19 @@ ghost use Rattle.viper_scope.specs.Outcome.{Judged};
 
 use crate::assertions::assertion;
 use crate::formals::{add_names, formals};
-use crate::frames::Frame;
+use crate::frames::MethodVariables;
 use std::alloc::Global;
 use vb_base::{Ident, Memory, Pos};
 use vb_value::Ty;
 use viper_core::{Assertion, Predicate};
-use viper_scope::{Context, Part, RuleFault, Scope, World, types_in};
+use viper_scope::{Context, RuleFault, UnitPart, VariableScope, World, types_in};
 use viper_syntax::{Decl, Formal, Named, Term};
 
 /// The body of a predicate. It sees no bodies, since it holds no `unfolding`.
 fn predicate_body(
     alloc: Global,
     world: &World,
-    scope: &Scope,
+    scope: &VariableScope,
     body: &Option<Term>,
 ) -> Result<Option<Assertion>, RuleFault>
     ensures { Answers (option_map core.assertion_of) (j.predicate_body (world_of world.now) scope.now (option_map term_of body.now)) result }
@@ -32,7 +32,7 @@ fn predicate_body(
     let context = Context {
         world,
         bodies: &[],
-        part: Part::Body,
+        part: UnitPart::Body,
         lists: false,
     };
     match body {
@@ -43,14 +43,14 @@ fn predicate_body(
 
 /// What a predicate is called, and the names and types of its parameters.
 #[derive(Drop)]
-struct Heading {
+struct PredicateHeading {
     name: Ident,
     names: Vec<Ident>,
     params: Vec<Ty>,
 }
 
 /// The heading of a predicate, copied.
-fn heading_of(alloc: Global, name: &Ident, params: &[Formal]) -> Result<Heading, Memory>
+fn heading_of(alloc: Global, name: &Ident, params: &[Formal]) -> Result<PredicateHeading, Memory>
     ensures name { IfOk result (λ h. h.name ≡ name.now) }
     ensures names { IfOk result (λ h. h.names.items ≡ map j.name_of params.now) }
     ensures params { IfOk result (λ h. h.params.items ≡ map types.declared_type params.now) }
@@ -59,7 +59,7 @@ fn heading_of(alloc: Global, name: &Ident, params: &[Formal]) -> Result<Heading,
     add_names(&mut names, params)?;
     let name = name.copy()?;
     let params = types_in(alloc, params)?;
-    Ok(Heading {
+    Ok(PredicateHeading {
         name,
         names,
         params,
@@ -70,7 +70,7 @@ fn heading_of(alloc: Global, name: &Ident, params: &[Formal]) -> Result<Heading,
 fn predicate_in(
     alloc: Global,
     world: &World,
-    frame: &mut Frame,
+    frame: &mut MethodVariables,
     at: Pos,
     name: &Named,
     params: &[Formal],
@@ -102,7 +102,7 @@ pub fn predicate(
 ) -> Result<Predicate, RuleFault>
     ensures { Answers core.predicate_of (j.predicate_typing (world_of world.now) at name.now params.now (option_map term_of body.now)) result }
 {
-    let mut frame = Frame::new(alloc, world);
+    let mut frame = MethodVariables::new(alloc, world);
     predicate_in(alloc, world, &mut frame, at, name, params, body)
 }
 

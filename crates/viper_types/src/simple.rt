@@ -15,24 +15,24 @@ use crate::assertions::assertion;
 use crate::assigned::{ref_target, target};
 use crate::calls::{call_arguments, calling, calling_into_field};
 use crate::creations::creating;
-use crate::expressions::{FieldPlace, expected, located, nowhere, permission, with_body};
-use crate::frames::{Frame, Target};
+use crate::expressions::{TypedField, expected, located, nowhere, permission, with_body};
+use crate::frames::{AssignedVariable, MethodVariables};
 use std::alloc::Global;
 use std::slice;
 use vb_base::{Pos, kept};
 use vb_value::Ty;
 use viper_core::{Assertion, Expr, FoldStmt, Stmt};
-use viper_scope::{Context, Rule, RuleFault, Scope, World, start};
+use viper_scope::{Context, Rule, RuleFault, VariableScope, World, start};
 use viper_syntax::{Formal, Named, SFold, SRhs, Term, Word};
 
 /// A field of what stands at a place.
 fn further(
     alloc: Global,
     world: &World,
-    place: FieldPlace,
+    place: TypedField,
     at: Pos,
     field: &Named,
-) -> Result<FieldPlace, RuleFault>
+) -> Result<TypedField, RuleFault>
     ensures { Answers place_of (j.located (world_of world.now) field.now.name field.now.pos (e.Field (expr_of place.receiver) place.field at, place.ty)) result }
 {
     let receiver = Box::new(alloc, place.receiver)?;
@@ -47,7 +47,7 @@ fn dotted(
     receiver: (Expr, Ty),
     first: &Named,
     rest: &[Named],
-) -> Result<FieldPlace, RuleFault>
+) -> Result<TypedField, RuleFault>
     ensures { Answers place_of (s.dotted (world_of world.now) (typing_of receiver) first.now rest.now) result }
 {
     let mut place = located(world, &first.name, first.pos, receiver)?;
@@ -63,11 +63,11 @@ fn dotted(
 fn target_place(
     alloc: Global,
     context: &Context,
-    scope: &Scope,
+    scope: &VariableScope,
     x: &Named,
     first: &Named,
     rest: &[Named],
-) -> Result<FieldPlace, RuleFault>
+) -> Result<TypedField, RuleFault>
     ensures { Answers place_of (s.target_place (context_of context.now) scope.now x.now first.now rest.now) result }
 {
     let Some(variable) = scope.find(&x.name) else {
@@ -91,9 +91,9 @@ fn last_place(x: &Named, fields: &[Named]) -> Pos
 pub fn declaring(
     alloc: Global,
     context: &Context,
-    frame: &Frame,
+    frame: &MethodVariables,
     at: Pos,
-    target: Target,
+    target: AssignedVariable,
     rhs: Option<&SRhs>,
 ) -> Result<Stmt, RuleFault>
     ensures { Answers stmt_of (s.declaring context.now.lists (context_of context.now) (frame_of frame.now) at (target_of target) (lent_rhs_of rhs.entry)) result }
@@ -121,7 +121,7 @@ pub fn declaring(
 pub fn variable(
     alloc: Global,
     context: &Context,
-    frame: &mut Frame,
+    frame: &mut MethodVariables,
     at: Pos,
     formal: &Formal,
     rhs: Option<&SRhs>,
@@ -140,7 +140,7 @@ pub fn variable(
 fn assigning(
     alloc: Global,
     context: &Context,
-    scope: &Scope,
+    scope: &VariableScope,
     x: &Named,
     rhs: &SRhs,
 ) -> Result<Stmt, RuleFault>
@@ -167,7 +167,7 @@ fn assigning(
 fn writing(
     alloc: Global,
     context: &Context,
-    scope: &Scope,
+    scope: &VariableScope,
     x: &Named,
     first: &Named,
     rest: &[Named],
@@ -191,7 +191,7 @@ fn writing(
 pub fn setting(
     alloc: Global,
     context: &Context,
-    scope: &Scope,
+    scope: &VariableScope,
     names: &[Named],
     rhs: &SRhs,
 ) -> Result<Stmt, RuleFault>
@@ -208,7 +208,7 @@ pub fn setting(
 pub fn checking(
     alloc: Global,
     context: &Context,
-    scope: &Scope,
+    scope: &VariableScope,
     word: Word,
     at: Pos,
     term: &Term,
@@ -231,7 +231,7 @@ pub fn checking(
 pub fn folding(
     alloc: Global,
     context: &Context,
-    scope: &Scope,
+    scope: &VariableScope,
     fold: &SFold,
 ) -> Result<FoldStmt, RuleFault>
     ensures { Answers core_fold_of (s.folding (context_of context.now) scope.now (fold_of fold.now)) result }

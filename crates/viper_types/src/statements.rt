@@ -19,14 +19,14 @@ use crate::assertions::assertions;
 use crate::assigned::call_targets;
 use crate::calls::calling;
 use crate::expressions::{expected, nowhere};
-use crate::frames::Frame;
+use crate::frames::MethodVariables;
 use crate::simple::{checking, folding, setting, variable};
 use std::alloc::Global;
 use vb_base::Pos;
 use vb_base::limits::MAX_BLOCK_DEPTH;
 use vb_value::Ty;
 use viper_core::{Assertion, Expr, Loop, Stmt};
-use viper_scope::{Context, Rule, RuleFault, Scope, targets};
+use viper_scope::{Context, Rule, RuleFault, VariableScope, targets};
 use viper_syntax::{Named, SArm, SBlock, SStmt, Term};
 
 /// An arm of an `if`, typed.
@@ -81,7 +81,7 @@ fn stepping(
     alloc: Global,
     context: &Context,
     depth: usize,
-    frame: &mut Frame,
+    frame: &mut MethodVariables,
     stmt: &SStmt,
 ) -> Result<Stmt, RuleFault>
     requires { depth ≤ max_block_depth }
@@ -118,7 +118,7 @@ fn stepping(
 fn loop_terms(
     alloc: Global,
     context: &Context,
-    scope: &Scope,
+    scope: &VariableScope,
     guard: &Term,
     invariants: &[Term],
 ) -> Result<(Expr, Vec<Assertion>), RuleFault>
@@ -136,7 +136,7 @@ fn iteration(
     alloc: Global,
     context: &Context,
     depth: usize,
-    frame: &mut Frame,
+    frame: &mut MethodVariables,
     body: &SBlock,
     at: Pos,
     terms: (Expr, Vec<Assertion>),
@@ -166,7 +166,7 @@ pub fn blocking(
     alloc: Global,
     context: &Context,
     depth: usize,
-    frame: &mut Frame,
+    frame: &mut MethodVariables,
     block: &SBlock,
 ) -> Result<Vec<Stmt>, RuleFault>
     ensures shallow { OnOk result (depth ≤ max_block_depth) }
@@ -188,7 +188,7 @@ fn stepping_all(
     alloc: Global,
     context: &Context,
     depth: usize,
-    frame: &mut Frame,
+    frame: &mut MethodVariables,
     stmts: &[SStmt],
 ) -> Result<Vec<Stmt>, RuleFault>
     requires { depth ≤ max_block_depth }
@@ -210,7 +210,7 @@ fn branches(
     alloc: Global,
     context: &Context,
     depth: usize,
-    frame: &mut Frame,
+    frame: &mut MethodVariables,
     arms: &[SArm],
 ) -> Result<Vec<TypedArm>, RuleFault>
     requires { depth ≤ max_block_depth + 1 }
@@ -231,7 +231,7 @@ fn branch(
     alloc: Global,
     context: &Context,
     depth: usize,
-    frame: &mut Frame,
+    frame: &mut MethodVariables,
     arm: &SArm,
 ) -> Result<TypedArm, RuleFault>
     ensures shallow { OnOk result (depth ≤ max_block_depth) }
@@ -253,7 +253,7 @@ fn otherwise(
     alloc: Global,
     context: &Context,
     depth: usize,
-    frame: &mut Frame,
+    frame: &mut MethodVariables,
     other: &Option<SBlock>,
 ) -> Result<Vec<Stmt>, RuleFault>
     ensures after { OnOk result (frame_of frame.new ≡ f.with_hidden (frame_of frame.old) (f.declared_in_else (else_of other.now))) }

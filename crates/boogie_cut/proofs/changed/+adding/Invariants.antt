@@ -1,6 +1,6 @@
 -- What the statements so far change, and then what those that are left do.
 use Rattle.std.proofs.Common.{◌≡◌, ◌++◌, drop}
-use Rattle.boogie_wide.specs.View.{wstmts_of}
+use Rattle.boogie_loops.specs.View.{wstmts_of}
 use Rattle.boogie_cut.specs.View.{changed_by}
 use Rattle.boogie_cut.proofs.changed.+adding.Given as goal
 

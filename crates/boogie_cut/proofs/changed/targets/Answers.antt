@@ -1,6 +1,6 @@
 use Rattle.std.proofs.Common.{◌∙◌, ◌++◌, ap, nat_lt}
 use Rattle.std.specs.List.{filter}
-use Rattle.boogie_wide.specs.View.{wstmts_of}
+use Rattle.boogie_loops.specs.View.{wstmts_of}
 use Rattle.boogie_cut.specs.View.{changed_by}
 use Rattle.boogie_cut.proofs.ChangedLaws.{targets_are}
 use Rattle.boogie_cut.proofs.changed.targets.Goals as goal

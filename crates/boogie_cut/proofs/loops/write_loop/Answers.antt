@@ -1,7 +1,7 @@
 use Rattle.std.specs.Option.{option_map}
 use Rattle.std.proofs.lemmas.Result.{on_ok_weaker}
 use Rattle.boogie_tree.specs.Whole.{expr_of, stmts_of}
-use Rattle.boogie_wide.specs.View.{wstmts_of}
+use Rattle.boogie_loops.specs.View.{wstmts_of}
 use Rattle.boogie_cut.specs.View.{clauses_of}
 use Rattle.boogie_cut.proofs.WriteLaws.{loop_joined}
 use Rattle.boogie_cut.proofs.loops.write_loop.Goals as goal

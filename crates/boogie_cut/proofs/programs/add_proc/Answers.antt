@@ -1,5 +1,5 @@
 use Rattle.std.proofs.Common.{map}
-use Rattle.boogie_wide.specs.View.{wproc_of}
+use Rattle.boogie_loops.specs.View.{wproc_of}
 use Rattle.boogie_cut.proofs.WriteLaws.{with_body}
 use Rattle.boogie_cut.proofs.programs.add_proc.Goals as goal
 

@@ -1,7 +1,7 @@
 use Rattle.std.proofs.Common.{◌∙◌, map, sym, subst}
 use Rattle.boogie_tree.specs.Whole.{proc_of}
 use Rattle.boogie_meaning.specs.Programs.{IsTypedProgram}
-use Rattle.boogie_wide.specs.View.{wproc_of, wprogram_of}
+use Rattle.boogie_loops.specs.View.{wproc_of, wprogram_of}
 use Rattle.boogie_cut.specs.Cut.{cut_procs}
 use Rattle.boogie_cut.specs.Follows.{AreCutOf}
 use Rattle.boogie_cut.proofs.FollowsLaws.{program_follows}

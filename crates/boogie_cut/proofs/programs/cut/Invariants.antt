@@ -1,7 +1,7 @@
 -- The procedures so far, and then those that are left.
 use Rattle.std.proofs.Common.{◌≡◌, ◌++◌, drop, map}
 use Rattle.boogie_tree.specs.Whole.{proc_of}
-use Rattle.boogie_wide.specs.View.{wproc_of}
+use Rattle.boogie_loops.specs.View.{wproc_of}
 use Rattle.boogie_cut.specs.Cut.{cut_procs}
 use Rattle.boogie_cut.proofs.programs.cut.Given as goal
 

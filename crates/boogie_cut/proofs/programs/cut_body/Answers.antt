@@ -1,6 +1,6 @@
 use Rattle.std.proofs.Common.{◌∙◌, ap, map}
 use Rattle.boogie_tree.specs.Whole.{stmts_of}
-use Rattle.boogie_wide.specs.View.{wproc_of, wstmts_of}
+use Rattle.boogie_loops.specs.View.{wproc_of, wstmts_of}
 use Rattle.boogie_cut.specs.Cut.{assumes, join, renamed_clauses}
 use Rattle.boogie_cut.specs.View.{clauses_of, types_of_all}
 use Rattle.boogie_cut.proofs.WriteLaws.{body_written}

@@ -1,6 +1,6 @@
 use Rattle.std.proofs.Common.{map}
 use Rattle.boogie_tree.specs.Whole.{locals_of, stmts_of}
-use Rattle.boogie_wide.specs.View.{wproc_of, wstmts_of}
+use Rattle.boogie_loops.specs.View.{wproc_of, wstmts_of}
 use Rattle.boogie_cut.specs.View.{types_of_all}
 use Rattle.boogie_cut.proofs.WriteLaws.{proc_written}
 use Rattle.boogie_cut.proofs.programs.cut_proc.Goals as goal

@@ -2,8 +2,8 @@ use Rattle.std.proofs.Common.{◌∙◌, ◌+◌, None, ap, length, map, sym, re
 use Rattle.std.proofs.lemmas.Result.{on_ok_weaker}
 use Rattle.std.specs.Option.{option_map}
 use Rattle.boogie_tree.specs.Whole.{expr_of, exprs_of, stmts_of}
-use Rattle.boogie_wide.specs.Changed.{targets}
-use Rattle.boogie_wide.specs.View.{wproc_of, wstmt_of, wstmts_of}
+use Rattle.boogie_loops.specs.Changed.{targets}
+use Rattle.boogie_loops.specs.View.{wproc_of, wstmt_of, wstmts_of}
 use Rattle.boogie_cut.specs.Cut.{cut_call, cut_loop, join}
 use Rattle.boogie_cut.specs.View.{clauses_of, types_in, types_of_all}
 use Rattle.boogie_cut.proofs.WriteLaws.{left_next, left_last, if_written, either_written, while_written, call_written, nothing_written, if_is, either_is, while_is, call_is}

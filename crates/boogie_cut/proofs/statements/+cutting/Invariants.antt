@@ -1,7 +1,7 @@
 -- What is left of the block comes to all.
 use Rattle.std.proofs.Common.{◌+◌, ◌++◌, drop, length, map}
 use Rattle.boogie_tree.specs.Whole.{stmts_of}
-use Rattle.boogie_wide.specs.View.{wproc_of, wstmts_of}
+use Rattle.boogie_loops.specs.View.{wproc_of, wstmts_of}
 use Rattle.boogie_cut.specs.Cut.{cut, join}
 use Rattle.boogie_cut.specs.View.{types_in, types_of_all}
 use Rattle.boogie_cut.proofs.WriteLaws.{Left}

@@ -2,7 +2,7 @@ use Rattle.std.proofs.Common.{◌∙◌, Err, refl, sym, ap}
 use Rattle.std.proofs.lemmas.Result.{err_from_is_err_and}
 use Rattle.boogie_tree.specs.Whole.{program_of}
 use Rattle.boogie_file.specs.Accepted.{procedure_named}
-use Rattle.tool_words.proofs.FileLaws.{error_is}
+use Rattle.tool_common.proofs.FileLaws.{error_is}
 use Rattle.boogie_file.proofs.StageLaws.{text_refused, name_refused}
 use Rattle.boogie_file.proofs.accepting.accepted.Goals as goal
 

@@ -2,7 +2,7 @@ use Rattle.std.proofs.Common.{◌∙◌, refl, sym}
 use Rattle.std.proofs.lemmas.Result.{err_from_is_err_and}
 use Rattle.boogie_tree.specs.Whole.{program_of}
 use Rattle.boogie_file.proofs.StageLaws.{read_refusal, type_refusal}
-use Rattle.tool_words.proofs.FileLaws.{error_is}
+use Rattle.tool_common.proofs.FileLaws.{error_is}
 use Rattle.boogie_file.proofs.accepting.boogie_program.Goals as goal
 
 pub returns-in_err-program-clause-refused : goal.returns-in_err-program-clause-refused

@@ -1,7 +1,7 @@
 use Rattle.std.proofs.Common.{◌∙◌, Err, ap, sym, subst}
 use Rattle.std.proofs.lemmas.Result.{err_from_is_err_and}
 use Rattle.boogie_file.specs.Accepted.{IsRefusal}
-use Rattle.tool_words.proofs.FileLaws.{error_is}
+use Rattle.tool_common.proofs.FileLaws.{error_is}
 use Rattle.boogie_file.proofs.FileLaws.{file_refusal, file_unread, are_found}
 use Rattle.boogie_file.proofs.accepting.found.Goals as goal
 

@@ -2,13 +2,13 @@ use Rattle.std.proofs.Common.{rules, ◌∙◌, ℕ, ap, refl, sym}
 use Rattle.std.proofs.lemmas.Result.{on_ok_weaker}
 use Rattle.boogie_tree.specs.Whole.{stmts_of}
 use Rattle.boogie_tree.specs.declared.stmts.BStmt.{the_lemmas}
-use Rattle.boogie_wp.specs.Build.{Builder}
+use Rattle.boogie_wp.specs.Build.{ConditionsBuilder}
 use Rattle.boogie_wp.specs.Changes.{changed}
 use Rattle.boogie_wp.specs.View.{begun_of, builder_of}
 use Rattle.boogie_wp.proofs.CodeLaws.{left_first, left_room, left_next, left_last, fork_made, if_room_first, if_room_second, if_made, either_room_first, either_room_second, either_made}
 use Rattle.boogie_wp.proofs.build.+building.Goals as goal
 
-abbrev next : Builder → ℕ
+abbrev next : ConditionsBuilder → ℕ
 next b = b.next
 
 -- ---- a block

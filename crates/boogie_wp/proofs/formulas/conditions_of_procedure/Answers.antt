@@ -4,7 +4,7 @@ use Rattle.boogie_tree.specs.declared.programs.BType.{BType}
 use Rattle.boogie_formula.specs.Follows.{AreExact, ConditionsFollow}
 use Rattle.boogie_formula.specs.Printable.{IsPrintableConditions}
 use Rattle.boogie_formula.specs.Types.{IsTypedConditions}
-use Rattle.boogie_wp.specs.Build.{Builder}
+use Rattle.boogie_wp.specs.Build.{ConditionsBuilder}
 use Rattle.boogie_wp.specs.View.{builder_of, types_of_all}
 use Rattle.boogie_wp.proofs.FormulaLaws.{conditions_follow, conditions_typed}
 use Rattle.boogie_wp.proofs.PlacedLaws.{are_exact}
@@ -12,7 +12,7 @@ use Rattle.boogie_wp.proofs.PrintLaws.{conditions_printable}
 use Rattle.boogie_wp.proofs.ProcedureLaws.{room_there, conditions_are}
 use Rattle.boogie_wp.proofs.formulas.conditions_of_procedure.Goals as goal
 
-abbrev next : Builder → ℕ
+abbrev next : ConditionsBuilder → ℕ
 next b = b.next
 
 length_types : (us : List BType) → length (types_of_all us) ≡ length us

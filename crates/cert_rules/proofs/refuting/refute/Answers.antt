@@ -2,7 +2,7 @@
 use Rattle.std.proofs.Common.{◌≡◌, ◌⊎◌, ◌∙◌, inl, inr, Some, All, subst}
 use Rattle.cert_terms.specs.Lawful.{types_of}
 use Rattle.cert_terms.specs.Literals.{turned}
-use Rattle.cert_terms.specs.declared.terms.Literal.{Literal}
+use Rattle.cert_terms.specs.declared.terms.ClauseLiteral.{ClauseLiteral}
 use Rattle.cert_rules.specs.Refutes.{IsNoted}
 use Rattle.cert_rules.proofs.RefuteLaws.{shown, narrowed}
 use Rattle.cert_rules.proofs.refuting.refute.Goals as goal
@@ -21,6 +21,6 @@ loop-hint-preserved c =
     c.in_ok-step_at.ensures (subst (λ o. All (λ l. IsNoted c.loop-hint.known l ⊎ (o ≡ Some l)) c.in_ok-step_at.field-0.now) c.in-Some.is c.in_ok-remaining.ensures)
     (λ m n. by c.in-Some.literal c.turned.ensures (c.in_ok-note_false-in-Some.ensures m n))
   where
-    by : {X : Type 0} {m r : Literal} (l : Literal) → r ≡ turned l → X ⊎ (m ≡ r) → X ⊎ (m ≡ turned l)
+    by : {X : Type 0} {m r : ClauseLiteral} (l : ClauseLiteral) → r ≡ turned l → X ⊎ (m ≡ r) → X ⊎ (m ≡ turned l)
     by l e (inl x) = inl x
     by l e (inr x) = inr (x ∙ e)

@@ -1,7 +1,7 @@
 use Rattle.cert_terms.specs.Lawful.{terms_of, types_of}
 use Rattle.std.proofs.Common.{Some, ap, ◌∙◌}
 use Rattle.std.proofs.lemmas.Result.{IfOk-weaker}
-use Rattle.cert_terms.specs.declared.terms.Term.TheVariants as term
+use Rattle.cert_terms.specs.declared.terms.CertificateTerm.TheVariants as term
 use Rattle.cert_rules.proofs.GateLaws.{and_law, equal_law}
 use Rattle.cert_rules.proofs.truths.binary_gate.Goals as goal
 

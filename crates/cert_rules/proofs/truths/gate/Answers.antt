@@ -2,7 +2,7 @@ use Rattle.cert_terms.specs.Lawful.{terms_of, types_of}
 use Rattle.std.proofs.Common.{◌≡◌, Some, true, slice_get, ap, subst, ◌∙◌}
 use Rattle.std.proofs.lemmas.Result.{IfOk-weaker}
 use Rattle.cert_terms.specs.Terms.{IsTruth}
-use Rattle.cert_terms.specs.declared.terms.Term.TheVariants as term
+use Rattle.cert_terms.specs.declared.terms.CertificateTerm.TheVariants as term
 use Rattle.cert_rules.specs.Reasons.{yes}
 use Rattle.cert_rules.proofs.ClauseLaws.{one_law}
 use Rattle.cert_rules.proofs.GateLaws.{true_law, if_law}

@@ -2,21 +2,21 @@ use Rattle.std.proofs.Common.{◌≡◌, ◌∙◌, List, ℕ, Option, Some, Non
 use Rattle.std.proofs.lemmas.Result.{err_from_is_err_and}
 use Rattle.std.specs.Option.{MatchOption}
 use Rattle.std.specs.String.{string_bytes}
-use Rattle.tool_words.specs.Ends.{Stops}
-use Rattle.tool_words.specs.Status.{kind_of}
-use Rattle.tool_words.proofs.FileLaws.{error_is}
-use Rattle.cert_tool.specs.declared.stages.Asked.{Asked}
+use Rattle.tool_common.specs.Ends.{Stops}
+use Rattle.tool_common.specs.Status.{kind_of}
+use Rattle.tool_common.proofs.FileLaws.{error_is}
+use Rattle.cert_tool.specs.declared.stages.CertifyCall.{CertifyCall}
 use Rattle.cert_tool.specs.Call.{Asks, AskNothing, IsCause, usage}
 use Rattle.cert_tool.proofs.CallLaws.{has_shown, trouble_stops}
 use Rattle.cert_tool.proofs.command.shown.Goals as goal
 
-abbrev Found : List (List ℕ) → Option Asked → Type 0
+abbrev Found : List (List ℕ) → Option CertifyCall → Type 0
 Found words found = MatchOption found (AskNothing words) (λ a. Asks words a.file.now a.procedure.now a.certificate.now)
 
-none_found : (words : List (List ℕ)) {found : Option Asked} → found ≡ None → Found words found → AskNothing words
+none_found : (words : List (List ℕ)) {found : Option CertifyCall} → found ≡ None → Found words found → AskNothing words
 none_found words is h = subst (Found words) is h
 
-one_found : (words : List (List ℕ)) {found : Option Asked} {a : Asked} → found ≡ Some a → Found words found → Asks words a.file.now a.procedure.now a.certificate.now
+one_found : (words : List (List ℕ)) {found : Option CertifyCall} {a : CertifyCall} → found ≡ Some a → Found words found → Asks words a.file.now a.procedure.now a.certificate.now
 one_found words is h = subst (Found words) is h
 
 pub returns-in_default-clause-stops : goal.returns-in_default-clause-stops

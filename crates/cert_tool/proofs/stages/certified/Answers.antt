@@ -1,5 +1,5 @@
 use Rattle.std.proofs.Common.{◌∙◌, Err, ap, refl, sym}
-use Rattle.tool_words.proofs.FileLaws.{error_is}
+use Rattle.tool_common.proofs.FileLaws.{error_is}
 use Rattle.cert_tool.specs.Call.{line}
 use Rattle.cert_tool.proofs.StageLaws.{size_refused}
 use Rattle.cert_tool.proofs.stages.certified.Goals as goal

@@ -1,7 +1,7 @@
 use Rattle.std.proofs.Common.{◌∙◌, Err, ap, sym, subst}
 use Rattle.std.proofs.lemmas.Result.{err_from_is_err_and}
 use Rattle.vb_outer.specs.Shelf.{IsWhole}
-use Rattle.tool_words.proofs.FileLaws.{error_is}
+use Rattle.tool_common.proofs.FileLaws.{error_is}
 use Rattle.cert_tool.specs.Call.{HasCertificate, IsOfCertificate, of_certificate}
 use Rattle.boogie_file.proofs.FileLaws.{found_procedure}
 use Rattle.cert_tool.proofs.StageLaws.{boogie_refused, found_shown, is_unread}

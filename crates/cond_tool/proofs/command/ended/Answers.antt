@@ -1,5 +1,5 @@
 use Rattle.std.proofs.Common.{refl}
-use Rattle.tool_words.proofs.EndLaws.{delivers_same}
+use Rattle.tool_common.proofs.EndLaws.{delivers_same}
 use Rattle.cond_tool.proofs.command.ended.Goals as goal
 
 pub returns-in-Ok : goal.returns-in-Ok

@@ -3,7 +3,7 @@ use Rattle.std.proofs.lemmas.Result.{err_from_is_err_and}
 use Rattle.boogie_tree.specs.Whole.{program_of}
 use Rattle.boogie_file.proofs.FileLaws.{found_within}
 use Rattle.boogie_file.proofs.StageLaws.{fits_proc}
-use Rattle.tool_words.proofs.FileLaws.{error_is}
+use Rattle.tool_common.proofs.FileLaws.{error_is}
 use Rattle.cond_tool.proofs.CallLaws.{written_does, written_are}
 use Rattle.cond_tool.proofs.stages.work.Goals as goal
 

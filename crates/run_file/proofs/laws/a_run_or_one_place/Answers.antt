@@ -1,5 +1,5 @@
 use Rattle.run_file.proofs.ScopeLaws.{names_apart}
-use Rattle.run_words.proofs.AnswerLaws.{run_or_place, not_both, one_place}
+use Rattle.run_file_words.proofs.AnswerLaws.{run_or_place, not_both, one_place}
 use Rattle.run_file.proofs.FileLaws.{is_reader}
 use Rattle.run_file.proofs.laws.a_run_or_one_place.Goals as goal
 

@@ -1,5 +1,5 @@
 use Rattle.run_file.proofs.ScopeLaws.{names_apart}
-use Rattle.run_words.proofs.AnswerLaws.{one_run}
+use Rattle.run_file_words.proofs.AnswerLaws.{one_run}
 use Rattle.run_file.proofs.FileLaws.{is_reader}
 use Rattle.run_file.proofs.laws.one_run.Goals as goal
 

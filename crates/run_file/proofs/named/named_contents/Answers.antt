@@ -2,7 +2,7 @@ use Rattle.std.proofs.Common.{arith}
 use Rattle.lemmas.proofs.Lists.{named_more, all_named}
 use Rattle.viper_state.specs.View.{contents_of}
 use Rattle.moves.specs.Printable.{IsNamedContent, IsNamedKey}
-use Rattle.run_words.specs.Named.{AreNamed}
+use Rattle.run_file_words.specs.Named.{AreNamed}
 use Rattle.run_file.proofs.named.named_contents.Goals as goal
 
 pub loop-map-preserved : goal.loop-map-preserved

@@ -1,7 +1,7 @@
 use Rattle.std.proofs.Common.{◌≤◌, subst}
 use Rattle.moves.specs.Printable.{IsNamed, IsNamedValue}
 use Rattle.std.proofs.lemmas.Cmp.{nat_cmp_total}
-use Rattle.run_words.proofs.NamedMaps.{are_named, pair_more}
+use Rattle.run_file_words.proofs.NamedMaps.{are_named, pair_more}
 use Rattle.run_file.proofs.named.named_heap.Goals as goal
 
 pub loop-i-preserved : goal.loop-i-preserved

@@ -1,8 +1,8 @@
 use Rattle.std.proofs.Common.{arith}
 use Rattle.lemmas.proofs.Lists.{all_taken}
 use Rattle.moves.specs.Printable.{IsNamed, IsNamedValue}
-use Rattle.run_words.specs.Named.{AreNamed}
-use Rattle.run_words.proofs.NamedMaps.{take_named}
+use Rattle.run_file_words.specs.Named.{AreNamed}
+use Rattle.run_file_words.proofs.NamedMaps.{take_named}
 use Rattle.run_file.proofs.named.named_heaps.Goals as goal
 
 pub loop-heap-preserved : goal.loop-heap-preserved

@@ -2,7 +2,7 @@ use Rattle.std.proofs.Common.{◌≤◌, subst}
 use Rattle.vb_value.specs.View.{content_of}
 use Rattle.moves.specs.Printable.{IsNamedContent, IsNamedKey}
 use Rattle.vb_value.specs.KeyOrder.{key_cmp_total}
-use Rattle.run_words.proofs.NamedMaps.{pair_more, seen_named}
+use Rattle.run_file_words.proofs.NamedMaps.{pair_more, seen_named}
 use Rattle.run_file.proofs.named.named_instances.Goals as goal
 
 pub loop-i-preserved : goal.loop-i-preserved

@@ -1,7 +1,7 @@
 use Rattle.std.proofs.Common.{All, take}
 use Rattle.vb_value.specs.View.{content_of}
 use Rattle.moves.specs.Printable.{IsNamedContent, IsNamedKey}
-use Rattle.run_words.proofs.NamedMaps.{IsNamedPair}
+use Rattle.run_file_words.proofs.NamedMaps.{IsNamedPair}
 use Rattle.run_file.proofs.named.named_instances.Given as goal
 
 abbrev pub invariant-loop-i : goal.invariant-loop-i

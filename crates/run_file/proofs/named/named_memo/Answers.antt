@@ -1,7 +1,7 @@
 use Rattle.std.proofs.Common.{All, map, subst}
 use Rattle.viper_state.specs.View.{contents_of}
 use Rattle.moves.specs.Printable.{IsNamed, IsNamedContent, IsNamedKey, IsNamedValue}
-use Rattle.run_words.specs.Named.{AreNamed}
+use Rattle.run_file_words.specs.Named.{AreNamed}
 use Rattle.run_file.proofs.named.named_memo.Goals as goal
 
 pub returns : goal.returns

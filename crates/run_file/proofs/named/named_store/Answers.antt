@@ -1,7 +1,7 @@
 use Rattle.std.proofs.Common.{arith}
 use Rattle.lemmas.proofs.Lists.{all_taken}
 use Rattle.moves.specs.Printable.{IsNamedValue}
-use Rattle.run_words.proofs.NamedMaps.{take_named}
+use Rattle.run_file_words.proofs.NamedMaps.{take_named}
 use Rattle.run_file.proofs.named.named_store.Goals as goal
 
 pub loop-value-preserved : goal.loop-value-preserved

@@ -3,7 +3,7 @@ use Rattle.std.proofs.lemmas.List.{get_or-map, length-map}
 use Rattle.viper_core.specs.declared.programs.Predicate.{Predicate}
 use Rattle.viper_core.specs.Program as p
 use Rattle.viper_core.specs.View.{predicate_of}
-use Rattle.run_words.proofs.NameTables.{one_more_name}
+use Rattle.run_file_words.proofs.NameTables.{one_more_name}
 use Rattle.run_file.proofs.names.predicate_names.Goals as goal
 
 named_at : (ds : List Predicate) (i : ℕ) (d : Predicate) → i < length ds → d ≡ get_or ds i d →

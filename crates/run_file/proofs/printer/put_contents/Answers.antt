@@ -5,8 +5,8 @@ use Rattle.viper_core.specs.Program as p
 use Rattle.viper_core.specs.View.{predicate_of}
 use Rattle.viper_state.specs.View.{contents_of}
 use Rattle.run_file.specs.Printed.{contents_text}
-use Rattle.run_words.specs.Printed.{numbered_text}
-use Rattle.run_words.proofs.PrintLaws.{numbered_more}
+use Rattle.run_file_words.specs.Printed.{numbered_text}
+use Rattle.run_file_words.proofs.PrintLaws.{numbered_more}
 use Rattle.run_file.proofs.PrintLaws.{predicate_name, one_map}
 use Rattle.run_file.proofs.printer.put_contents.Goals as goal
 

@@ -1,6 +1,6 @@
 use Rattle.lemmas.proofs.Options.{looked_at}
 use Rattle.run_file.specs.Printed.{heap_text}
-use Rattle.run_words.proofs.PrintLaws.{numbered_more}
+use Rattle.run_file_words.proofs.PrintLaws.{numbered_more}
 use Rattle.run_file.proofs.printer.put_heaps.Goals as goal
 
 pub loop-i-preserved : goal.loop-i-preserved

@@ -1,5 +1,5 @@
 use Rattle.std.proofs.Common.{◌≡◌, ◌++◌, drop}
-use Rattle.run_words.specs.Printed.{numbered_text}
+use Rattle.run_file_words.specs.Printed.{numbered_text}
 use Rattle.run_file.specs.Printed.{var_text}
 use Rattle.run_file.proofs.printer.put_variables.Given as goal
 

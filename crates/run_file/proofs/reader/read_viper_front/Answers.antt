@@ -2,7 +2,7 @@ use Rattle.std.proofs.Common.{◌∙◌, ap, sym, subst, map}
 use Rattle.vb_base.specs.Names.{NamesDiffer}
 use Rattle.viper_core.specs.Program as p
 use Rattle.viper_core.specs.View.{predicate_of, program_of}
-use Rattle.run_words.specs.Known.{Known}
+use Rattle.run_file_words.specs.Known.{Known}
 use Rattle.run_file.proofs.ScopeLaws.{names_apart}
 use Rattle.run_file.proofs.FrontLaws.{front_answered}
 use Rattle.run_file.proofs.reader.read_viper_front.Goals as goal

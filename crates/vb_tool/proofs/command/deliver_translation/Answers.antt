@@ -1,5 +1,5 @@
 use Rattle.std.proofs.Common.{refl, ap, Err}
-use Rattle.tool_words.specs.Written.{delivered, unwritten}
+use Rattle.tool_common.specs.Written.{delivered, unwritten}
 use Rattle.vb_tool.specs.Parts.{of_text, no_memory}
 use Rattle.vb_tool.proofs.command.deliver_translation.Goals as goal
 

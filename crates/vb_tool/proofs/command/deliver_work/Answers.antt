@@ -1,5 +1,5 @@
 use Rattle.std.proofs.Common.{sym, subst}
-use Rattle.tool_words.proofs.EndLaws.{delivers_same}
+use Rattle.tool_common.proofs.EndLaws.{delivers_same}
 use Rattle.vb_tool.specs.Parts.{Delivers, of_text, work_text, work_status}
 use Rattle.vb_tool.proofs.command.deliver_work.Goals as goal
 

@@ -2,8 +2,8 @@ use Rattle.std.proofs.Common.{◌≡◌, ◌∙◌, List, ℕ, Option, Some, Non
 use Rattle.std.proofs.lemmas.Result.{err_from_is_err_and}
 use Rattle.std.specs.Option.{MatchOption}
 use Rattle.std.specs.String.{string_bytes}
-use Rattle.tool_words.specs.Ends.{Stops}
-use Rattle.tool_words.proofs.FileLaws.{error_is}
+use Rattle.tool_common.specs.Ends.{Stops}
+use Rattle.tool_common.proofs.FileLaws.{error_is}
 use Rattle.vb_tool.specs.declared.words.Command.{Command}
 use Rattle.vb_tool.specs.Call.{IsCause, usage}
 use Rattle.vb_tool.specs.Command.{Asks, IsNoCommand}

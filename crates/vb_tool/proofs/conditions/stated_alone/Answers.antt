@@ -1,8 +1,8 @@
 use Rattle.std.proofs.Common.{refl, subst}
 use Rattle.boogie_tree.specs.Whole.{program_of, proc_of}
 use Rattle.boogie_formula.specs.View.{formula_of}
-use Rattle.run_parts.proofs.KeptLaws.{alone_fits, alone_here, alone_typed}
-use Rattle.run_parts.specs.Alone.{IsAlone}
+use Rattle.tool_procedure.proofs.KeptLaws.{alone_fits, alone_here, alone_typed}
+use Rattle.tool_procedure.specs.Alone.{IsAlone}
 use Rattle.vb_tool.proofs.ConditionStages.{alone_states}
 use Rattle.vb_tool.proofs.conditions.stated_alone.Goals as goal
 

@@ -4,7 +4,7 @@ use Rattle.boogie_tree.specs.Whole.{program_of, proc_of}
 use Rattle.boogie_formula.specs.View.{formula_of}
 use Rattle.boogie_file.proofs.StageLaws.{named_there, fits_proc}
 use Rattle.boogie_file.proofs.Verdicts.{named_within}
-use Rattle.tool_words.proofs.FileLaws.{error_is}
+use Rattle.tool_common.proofs.FileLaws.{error_is}
 use Rattle.vb_tool.proofs.BoogieStages.{never_unread}
 use Rattle.vb_tool.proofs.ConditionStages.{file_refused, condition_is}
 use Rattle.vb_tool.proofs.conditions.stated_in_whole.Goals as goal

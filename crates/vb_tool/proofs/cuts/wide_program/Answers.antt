@@ -1,9 +1,9 @@
 use Rattle.std.proofs.Common.{◌∙◌, IfSome, is_some, refl, sym, ap, subst}
 use Rattle.std.proofs.lemmas.Result.{err_from_is_err_and}
-use Rattle.boogie_wide.specs.View.{wprogram_of}
-use Rattle.boogie_wide.specs.WideTypes.{IsFirstIllTypedWide}
+use Rattle.boogie_loops.specs.View.{wprogram_of}
+use Rattle.boogie_loops.specs.WideTypes.{IsFirstIllTypedWide}
 use Rattle.vb_tool.proofs.CutStages.{read_refusal, type_refusal}
-use Rattle.tool_words.proofs.FileLaws.{error_is}
+use Rattle.tool_common.proofs.FileLaws.{error_is}
 use Rattle.vb_tool.proofs.cuts.wide_program.Goals as goal
 
 pub returns-in_err-program-clause-refused : goal.returns-in_err-program-clause-refused

@@ -1,8 +1,8 @@
 use Rattle.std.proofs.Common.{◌∙◌, Err, refl, sym, ap}
 use Rattle.std.proofs.lemmas.Result.{err_from_is_err_and}
-use Rattle.boogie_wide.specs.View.{wprogram_of}
+use Rattle.boogie_loops.specs.View.{wprogram_of}
 use Rattle.vb_tool.proofs.CutStages.{text_refused, printable_wide, cut_is}
-use Rattle.tool_words.proofs.FileLaws.{error_is}
+use Rattle.tool_common.proofs.FileLaws.{error_is}
 use Rattle.vb_tool.proofs.cuts.without_loops.Goals as goal
 
 pub returns-in_err-program-clause-refused : goal.returns-in_err-program-clause-refused

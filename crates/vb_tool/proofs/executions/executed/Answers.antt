@@ -1,7 +1,7 @@
 use Rattle.std.proofs.Common.{◌∙◌, Err, Some, refl, sym, ap}
 use Rattle.std.proofs.lemmas.Result.{err_from_is_err_and}
 use Rattle.viper_core.specs.View.{program_of}
-use Rattle.tool_words.proofs.FileLaws.{error_is}
+use Rattle.tool_common.proofs.FileLaws.{error_is}
 use Rattle.vb_tool.proofs.ExecutionStages.{text_refused, method_refused, run_refused, execution_is}
 use Rattle.vb_tool.proofs.ExecutionUnits.{body_named_exists, unit_is, can_execute}
 use Rattle.vb_tool.proofs.executions.executed.Goals as goal

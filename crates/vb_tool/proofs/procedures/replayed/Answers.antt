@@ -1,4 +1,4 @@
-use Rattle.run_parts.specs.Alone.{Replays}
+use Rattle.tool_procedure.specs.Alone.{Replays}
 use Rattle.vb_tool.proofs.BoogieStages.{replayed_is}
 use Rattle.vb_tool.proofs.procedures.replayed.Goals as goal
 

@@ -3,13 +3,13 @@ use Rattle.std.proofs.lemmas.Result.{err_from_is_err_and}
 use Rattle.boogie_tree.specs.Whole.{program_of, proc_of, run_of}
 use Rattle.boogie_run.specs.Start.{CanRun}
 use Rattle.boogie_run.proofs.StartLaws.{same_proc}
-use Rattle.run_fits.proofs.LiteralLaws.{program_within}
-use Rattle.run_fits.proofs.BoogieRunLaws.{can_run}
+use Rattle.run_file_laws.proofs.LiteralLaws.{program_within}
+use Rattle.run_file_laws.proofs.BoogieRunLaws.{can_run}
 use Rattle.boogie_file.specs.Accepted.{procedure_named}
 use Rattle.boogie_file.proofs.StageLaws.{named_there}
 use Rattle.vb_tool.proofs.BoogieStages.{file_refused, never_unread, names_it, text_refused, header_refused, name_refused, run_refused, replay_is}
 use Rattle.vb_tool.proofs.BoogieVerdicts.{names_differ}
-use Rattle.tool_words.proofs.FileLaws.{error_is}
+use Rattle.tool_common.proofs.FileLaws.{error_is}
 use Rattle.vb_tool.proofs.procedures.replayed_in_whole.Goals as goal
 
 pub returns-in_err-program-clause-refused : goal.returns-in_err-program-clause-refused

@@ -1,7 +1,7 @@
 use Rattle.std.proofs.Common.{◌∙◌, Err, ap, refl, sym}
 use Rattle.std.proofs.lemmas.Result.{err_from_is_err_and}
 use Rattle.viper_core.specs.View.{program_of}
-use Rattle.tool_words.proofs.FileLaws.{error_is}
+use Rattle.tool_common.proofs.FileLaws.{error_is}
 use Rattle.vb_tool.proofs.ExecutionStages.{unframed_refused}
 use Rattle.vb_tool.proofs.Verdicts.{viper_refused, never_unread}
 use Rattle.vb_tool.specs.AcceptedExecution as execution

@@ -6,7 +6,7 @@ use Rattle.viper_meaning.specs.Units.{Opens}
 use Rattle.viper_state.specs.View.{event_of}
 use Rattle.enc_locals.specs.Opened.{start_settings, IsNamedSetting}
 use Rattle.run_file.proofs.SpelledLaws.{spelled_good}
-use Rattle.tool_words.proofs.FileLaws.{error_is}
+use Rattle.tool_common.proofs.FileLaws.{error_is}
 use Rattle.vb_tool.specs.Moved.{moved_text}
 use Rattle.vb_tool.specs.Outcome.{with_moved}
 use Rattle.vb_tool.proofs.RunOfUnits.{named_exists, opens}

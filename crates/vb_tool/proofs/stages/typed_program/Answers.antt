@@ -1,6 +1,6 @@
 use Rattle.std.proofs.Common.{◌∙◌, Err, ap, sym}
 use Rattle.std.proofs.lemmas.Result.{err_from_is_err_and}
-use Rattle.tool_words.proofs.FileLaws.{error_is}
+use Rattle.tool_common.proofs.FileLaws.{error_is}
 use Rattle.vb_tool.proofs.Verdicts.{viper_refused, never_unread}
 use Rattle.vb_tool.proofs.stages.typed_program.Goals as goal
 

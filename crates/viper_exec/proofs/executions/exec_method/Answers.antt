@@ -2,7 +2,7 @@ use Rattle.std.proofs.Common.{ap, ◌∙◌, map, ◌-◌}
 use Rattle.vb_value.specs.Bound.{Bounded}
 use Rattle.viper_core.specs.View.{program_of}
 use Rattle.viper_state.specs.View.{event_of, opening_of, state_of}
-use Rattle.exec_meaning.specs.Execution.{execution}
+use Rattle.viper_exec_meaning.specs.Execution.{execution}
 use Rattle.viper_exec.proofs.EndLaws.{ends_done, ends_told}
 use Rattle.viper_exec.proofs.executions.exec_method.Goals as goal
 

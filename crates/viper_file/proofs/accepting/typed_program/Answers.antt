@@ -1,7 +1,7 @@
 use Rattle.std.proofs.Common.{◌∙◌, sym}
 use Rattle.std.proofs.lemmas.Result.{err_from_is_err_and}
 use Rattle.viper_syntax.specs.View as tree
-use Rattle.tool_words.proofs.FileLaws.{error_is}
+use Rattle.tool_common.proofs.FileLaws.{error_is}
 use Rattle.viper_file.proofs.Verdicts.{lex_refusal, parse_refusal, type_refusal}
 use Rattle.viper_file.proofs.accepting.typed_program.Goals as goal
 

@@ -9,11 +9,11 @@ use Rattle.viper_scope.specs.Answers.{context_of}
 use Rattle.viper_types.specs.Answers.{lent_amount_of}
 use Rattle.viper_scope.specs.Context.{Context, Signature, predicate_at}
 use Rattle.viper_scope.specs.Outcome.{Found}
-use Rattle.viper_scope.specs.Scope.{Scope}
+use Rattle.viper_scope.specs.Scope.{VariableScope}
 use Rattle.viper_types.specs.Typing.{arguments, amount, instance}
 use Rattle.viper_types.proofs.assertions.instance.Goals as goal
 
-instanced : (c : Context) (sc : Scope) (x : List ℕ) (args : t.Terms) (m : t.Amount) (at : Pos) (params : List Ty) {s : ℕ × Signature} {es : e.Exprs} {p : e.Amt} →
+instanced : (c : Context) (sc : VariableScope) (x : List ℕ) (args : t.Terms) (m : t.Amount) (at : Pos) (params : List Ty) {s : ℕ × Signature} {es : e.Exprs} {p : e.Amt} →
     Some s ≡ predicate_at c.world x → s.1.params ≡ params → arguments c sc args params at ≡ Found es → amount c sc m ≡ Found p →
     instance c sc x args m at ≡ Found (e.Inst s.0 es p at)
 instanced c sc x args m at params is same typed share = rw (← is, same, typed, share) refl

@@ -3,10 +3,10 @@ use Rattle.std.proofs.lemmas.List.{append-nil, at_drop_all}
 use Rattle.lemmas.proofs.Lists.{next_item}
 use Rattle.viper_types.specs.Answers.{target_of}
 use Rattle.viper_types.specs.Stepping.{numbers_in}
-use Rattle.viper_types.specs.declared.frames.Target.{Target}
+use Rattle.viper_types.specs.declared.frames.AssignedVariable.{AssignedVariable}
 use Rattle.viper_types.proofs.assigned.numbers_in.Goals as goal
 
-next_number : (front more all : List ℕ) (items : List Target) (i : ℕ) (v : Target) → i < length items → v ≡ get_or items i v → more ≡ front ++ v.number ∷ [] →
+next_number : (front more all : List ℕ) (items : List AssignedVariable) (i : ℕ) (v : AssignedVariable) → i < length items → v ≡ get_or items i v → more ≡ front ++ v.number ∷ [] →
     front ++ numbers_in (map target_of (drop i items)) ≡ all → more ++ numbers_in (map target_of (drop (i + 1) items)) ≡ all
 next_number front more all items i v within is pushed so_far =
     let rest = numbers_in (map target_of (drop (i + 1) items)) in

@@ -10,7 +10,7 @@ use Rattle.viper_scope.specs.Arguments.{Typing, as_many, exprs_in, misfit}
 use Rattle.viper_scope.specs.Outcome.{Found, then_typed}
 use Rattle.viper_scope.proofs.ArgumentLaws.{as_many-map}
 use Rattle.viper_types.specs.Answers.{target_of}
-use Rattle.viper_types.specs.Stepping.{Target, called, mistarget, numbers_in}
+use Rattle.viper_types.specs.Stepping.{AssignedVariable, called, mistarget, numbers_in}
 use Rattle.viper_types.proofs.calls.called.Goals as goal
 
 -- what was tried on slices, said of what they lend
@@ -18,7 +18,7 @@ tried_many : {X Y Z : Type 0} (f : X → Z) (xs ys : List X) (us vs : List Y) (b
 tried_many f xs ys us vs b r same lent tried is =
     as_many-map f ys vs ∙ ap (λ zs. as_many zs vs) (sym same) ∙ ap (as_many xs) (sym lent) ∙ sym tried ∙ is
 
-all_fit : (at : Pos) (vs : List Target) (call : source.SCall) (m : ℕ) (params returns : List Ty) (xs : List Typing) → as_many xs params ≡ true → as_many vs returns ≡ true →
+all_fit : (at : Pos) (vs : List AssignedVariable) (call : source.SCall) (m : ℕ) (params returns : List Ty) (xs : List Typing) → as_many xs params ≡ true → as_many vs returns ≡ true →
     mistarget vs returns ≡ None → misfit (terms call.args) xs params ≡ None → called at vs call m params returns xs ≡ Found (s.Call at (numbers_in vs) m (exprs_in xs))
 all_fit at vs call m params returns xs many answered targets fit = rw (many, answered, targets, fit) refl
 

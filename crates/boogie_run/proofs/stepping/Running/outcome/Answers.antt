@@ -1,6 +1,6 @@
 use Rattle.std.proofs.Common.{ap, ◌∙◌, Some}
 use Rattle.boogie_run.specs.View.{environment_of, left_in}
-use Rattle.boogie_run.specs.declared.replay_ends.Stop.TheVariants as stop
+use Rattle.boogie_run.specs.declared.replay_ends.ReplayStop.TheVariants as stop
 use Rattle.boogie_run.proofs.SteppedLaws.{was_stopped}
 use Rattle.boogie_run.proofs.stepping.Running.outcome.Goals as goal
 

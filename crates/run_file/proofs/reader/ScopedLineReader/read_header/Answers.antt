@@ -1,11 +1,11 @@
 use Rattle.std.proofs.Common.{◌≡◌, false, absurd, refl}
 use Rattle.run_file.specs.Progress.{is_headed}
-use Rattle.run_file.specs.declared.reader.Stage.{Stage}
-use Rattle.run_file.specs.declared.reader.Stage.TheVariants as stage
+use Rattle.run_file.specs.declared.reader.ViperStage.{ViperStage}
+use Rattle.run_file.specs.declared.reader.ViperStage.TheVariants as stage
 use Rattle.run_file.proofs.reader.ScopedLineReader.read_header.Goals as goal
 
 -- only the header is not read yet
-before_header : (g : Stage) → is_headed g ≡ false → g ≡ stage.Header
+before_header : (g : ViperStage) → is_headed g ≡ false → g ≡ stage.Header
 before_header stage.Header h = refl
 before_header stage.Opening h = absurd cc
 before_header stage.Filling h = absurd cc

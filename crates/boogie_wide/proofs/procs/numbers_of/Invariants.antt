@@ -1,7 +1,0 @@
--- The numbers from here on.
-use Rattle.std.proofs.Common.{◌-◌, length}
-use Rattle.boogie_wide.proofs.ProcsLaws.{HaveNumbersFrom}
-use Rattle.boogie_wide.proofs.procs.numbers_of.Given as goal
-
-abbrev pub invariant-loop-later : goal.invariant-loop-later
-invariant-loop-later l = HaveNumbersFrom l.numbers.entries (length l.all - l.later) l.all

@@ -1,4 +1,0 @@
-use Rattle.cert_sums.proofs.constants.+constant.Given as goal
-
-abbrev pub decreases-constant : goal.decreases-constant
-decreases-constant l = l.depth

@@ -1,6 +1,0 @@
-use Rattle.std.proofs.Common.{take}
-use Rattle.certificates.specs.Ends.{AreAlone}
-use Rattle.certificates.proofs.ends.units_of.Given as goal
-
-abbrev pub invariant-loop-clause : goal.invariant-loop-clause
-invariant-loop-clause l = AreAlone l.units (take l.clause-index l.clauses)

@@ -1,5 +1,0 @@
-use Rattle.certificates.proofs.ShownLaws.{grown_itself}
-use Rattle.certificates.proofs.tables.add_line.Goals as goal
-
-pub returns-in-Some : goal.returns-in-Some
-returns-in-Some c = grown_itself c.args.table.now

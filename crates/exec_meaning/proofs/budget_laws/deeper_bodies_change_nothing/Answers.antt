@@ -1,5 +1,0 @@
-use Rattle.exec_meaning.proofs.BudgetDepthLaws.{deeper}
-use Rattle.exec_meaning.proofs.budget_laws.deeper_bodies_change_nothing.Goals as goal
-
-pub returns : goal.returns
-returns c = deeper

@@ -1,5 +1,0 @@
-use Rattle.exec_meaning.proofs.TopLaws.{frames_hold}
-use Rattle.exec_meaning.proofs.frame_laws.where_no_unit_fails_no_execution_does.Goals as goal
-
-pub returns : goal.returns
-returns call = frames_hold

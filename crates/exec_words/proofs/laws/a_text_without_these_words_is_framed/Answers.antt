@@ -1,5 +1,0 @@
-use Rattle.exec_words.proofs.Programs.{texts_are_framed}
-use Rattle.exec_words.proofs.laws.a_text_without_these_words_is_framed.Goals as goal
-
-pub returns : goal.returns
-returns call = texts_are_framed

@@ -1,5 +1,0 @@
-use Rattle.formula_text.proofs.SpelledLaws.{spelled_printable}
-use Rattle.formula_text.proofs.laws.spelled_is_printable.Goals as goal
-
-pub returns : goal.returns
-returns c = spelled_printable

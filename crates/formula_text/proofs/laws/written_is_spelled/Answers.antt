@@ -1,5 +1,0 @@
-use Rattle.formula_text.proofs.FormulaShown.{formula_spelled}
-use Rattle.formula_text.proofs.laws.written_is_spelled.Goals as goal
-
-pub returns : goal.returns
-returns c = formula_spelled

@@ -1,5 +1,0 @@
-use Rattle.run_fits.proofs.LiteralLaws.{program_within}
-use Rattle.run_fits.proofs.laws.what_is_read_is_within.Goals as goal
-
-pub returns : goal.returns
-returns c = program_within

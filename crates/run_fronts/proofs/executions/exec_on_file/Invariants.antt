@@ -1,8 +1,0 @@
-use Rattle.std.proofs.Common.{◌≤◌, ◌-◌, ◌^◌}
-use Rattle.run_fronts.proofs.executions.exec_on_file.Given as goal
-
-abbrev pub invariant-growing : goal.invariant-growing
-invariant-growing l = 1 ≤ l.many
-
-abbrev pub decreases-growing : goal.decreases-growing
-decreases-growing l = 2 ^ 64 - l.many

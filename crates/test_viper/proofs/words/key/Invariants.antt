@@ -1,6 +1,0 @@
--- The arguments so far are within the bound.
-use Rattle.vb_value.specs.Key.{IsWithinKey}
-use Rattle.test_viper.proofs.words.key.Given as goal
-
-abbrev pub invariant-loop-part : goal.invariant-loop-part
-invariant-loop-part l = IsWithinKey l.parts.items

@@ -1,7 +1,0 @@
--- The values so far are within the bound.
-use Rattle.std.proofs.Common.{All}
-use Rattle.vb_value.specs.Value.{IsWithinValue}
-use Rattle.test_viper.proofs.words.values.Given as goal
-
-abbrev pub invariant-loop-word : goal.invariant-loop-word
-invariant-loop-word l = All IsWithinValue l.values.items

@@ -1,5 +1,0 @@
-use Rattle.wide_text.proofs.WideFaults.{not_refused}
-use Rattle.wide_text.proofs.laws.not_refused.Goals as goal
-
-pub returns : goal.returns
-returns c = not_refused

@@ -1,5 +1,0 @@
-use Rattle.wide_text.proofs.WideParsed.{one_program}
-use Rattle.wide_text.proofs.laws.one_program.Goals as goal
-
-pub returns : goal.returns
-returns c = one_program

@@ -1,5 +1,0 @@
-use Rattle.wide_text.proofs.WideAnswered.{some_answer}
-use Rattle.wide_text.proofs.laws.some_answer.Goals as goal
-
-pub returns : goal.returns
-returns c = some_answer

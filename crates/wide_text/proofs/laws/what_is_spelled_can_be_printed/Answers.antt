@@ -1,5 +1,0 @@
-use Rattle.wide_text.proofs.WideSpelledLaws.{wide_spelled}
-use Rattle.wide_text.proofs.laws.what_is_spelled_can_be_printed.Goals as goal
-
-pub returns : goal.returns
-returns c = wide_spelled

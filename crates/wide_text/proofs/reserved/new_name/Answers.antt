@@ -1,8 +1,0 @@
-use Rattle.std.proofs.Common.{◌++◌, ◌∙◌, ap}
-use Rattle.std.proofs.lemmas.List.{append-nil}
-use Rattle.wide_text.proofs.NameSets.{takes_at}
-use Rattle.wide_text.proofs.reserved.new_name.Goals as goal
-
-pub returns-clause-takes : goal.returns-clause-takes
-returns-clause-takes c =
-    takes_at _ _ _ _ (ap (λ l. (c.args.taken.now ++ c.names.result.now) ++ l) c.new-none.ensures ∙ append-nil _ ∙ ap (λ l. c.args.taken.now ++ l) c.names.ensures) c.bound_name.ensures.takes
