@@ -2,7 +2,7 @@ use Rattle.std.proofs.Common.{◌≡◌, false, absurd, refl}
 use Rattle.run_file.specs.Progress.{is_headed}
 use Rattle.run_file.specs.declared.reader.ViperStage.{ViperStage}
 use Rattle.run_file.specs.declared.reader.ViperStage.TheVariants as stage
-use Rattle.run_file.proofs.reader.ScopedLineReader.read_header.Goals as goal
+use Rattle.run_file.proofs.reader.ViperScopedLineReader.read_header.Goals as goal
 
 -- only the header is not read yet
 before_header : (g : ViperStage) → is_headed g ≡ false → g ≡ stage.Header

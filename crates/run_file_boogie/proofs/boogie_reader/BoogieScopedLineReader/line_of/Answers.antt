@@ -1,6 +1,6 @@
 use Rattle.std.proofs.Common.{rules}
-use Rattle.run_file.specs.Reading.{line_of}
-use Rattle.run_file.proofs.reader.ScopedLineReader.line_of.Goals as goal
+use Rattle.run_file_boogie.specs.BoogieReading.{line_of}
+use Rattle.run_file_boogie.proofs.boogie_reader.BoogieScopedLineReader.line_of.Goals as goal
 
 pub returns-in-Some : goal.returns-in-Some
 unfolding line_of
