@@ -1,5 +1,5 @@
 -- Where no procedure of a translation fails, no unit does, and so nothing of the program.
-use Rattle.std.proofs.Common.{◌≡◌, ℕ, List, slice_get, subst, arith}
+use Rattle.std.proofs.Common.{ℕ, List, subst, arith}
 use Rattle.std.proofs.lemmas.Option.{slice_get_within}
 use Rattle.lemmas.proofs.Lists.{item_there}
 use Rattle.viper_core.specs.Formed.{IsFormed}

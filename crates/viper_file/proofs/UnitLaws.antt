@@ -1,9 +1,8 @@
 -- Where no unit fails, no method does from a state that satisfies its precondition, and no execution.
-use Rattle.std.proofs.Common.{◌≡◌, ◌∙◌, ◌+◌, ◌<◌, ℕ, zero, suc, List, [], ◌∷◌, ◌++◌, map, take, All, Option, None, Some, slice_get, refl, sym, ap, subst, true≢false, arith}
+use Rattle.std.proofs.Common.{◌≡◌, ◌∙◌, ◌+◌, ◌<◌, ℕ, zero, suc, List, [], ◌∷◌, ◌++◌, map, take, All, Option, None, Some, slice_get, refl, sym, ap, true≢false, arith}
 use Rattle.std.proofs.lemmas.List.Elements.{All-append, All-map}
 use Rattle.std.proofs.lemmas.Option.{slice_get_within}
 use Rattle.std.specs.List.{range_with_len}
-use Rattle.lemmas.proofs.Lists.{item_there}
 use Rattle.vb_base.specs.declared.labels.Label.{Label}
 use Rattle.vb_base.specs.declared.places.Pos.{Pos}
 use Rattle.vb_value.specs.Bound.{Bound, Bounded, Unbounded}
@@ -25,7 +24,7 @@ use Rattle.viper_meaning.specs.Forgotten.{memo_in}
 use Rattle.viper_meaning.specs.Run.{Goes, Fails, Blocked, Short, Over, Ran, ran, since, on, then_ran}
 use Rattle.viper_meaning.specs.Sat.{Arrives, memo_of_state}
 use Rattle.viper_meaning.specs.Statements.{Activation, Configuration, scene, branch_in}
-use Rattle.viper_meaning.specs.Units.{first_store, begin_method, check_postcondition, run_body, run_method, unit_run, Opens, ViperFails}
+use Rattle.viper_meaning.specs.Units.{first_store, begin_method, check_postcondition, run_body, run_method, unit_run, Opens}
 use Rattle.viper_meaning.proofs.BeginLaws.{begins_where_satisfied, unit_begins}
 use Rattle.viper_meaning.proofs.BoundLaws.{blocks_bounded}
 use Rattle.viper_meaning.proofs.RunBoundLaws.{IsBoundedRun, at_end, goes_never_over, before_bounded, then_do_bounded, taking_bounded, if_run_bounded, small_run, never_over}

@@ -1,5 +1,5 @@
 //! Laws, each as the contract of a function that does nothing.
-ghost use Rattle.std.specs.Prelude.{◌≡◌, ℕ, List, None};
+ghost use Rattle.std.specs.Prelude.{ℕ, List};
 ghost use Rattle.vb_value.specs.Bound.{Bound};
 ghost use Rattle.viper_core.specs.Program.{Program};
 ghost use Rattle.viper_exec_meaning.specs.Frame.{NoExecutionFails, NoUnitFails};
