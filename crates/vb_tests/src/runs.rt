@@ -8,6 +8,7 @@ ghost use Rattle.boogie_tree.specs.Whole as boogie;
 ghost use Rattle.boogie_grammar.specs.Grammar.{local_names};
 ghost use Rattle.boogie_print.specs.Printable.{IsPrintable};
 
+use crate::programs::PROGRAMS;
 use crate::rows::none_other;
 use boogie_fixtures::procedures::boogie_program;
 use boogie_tree::{BProgram, Proc};
@@ -40,63 +41,11 @@ const PLACE: (&str, &str) = (
 0 ; viper run | var x #1 | pick true | value null | fresh #2 | value 5 ; viper run | var x #1 | pick true | value null | fresh #2 | value 5",
 );
 
-/// Lists of cells, and runs of the method that reads the first number of one, and of the predicate of lists.
-const LIST: (&str, &str) = (
-    "\
-field val: Int
-field next: Ref
-predicate cell(x: Ref) { acc(x.val) && x.val >= 0 }
-predicate list(x: Ref) {
-  acc(x.next) && cell(x) && (x.next != null ==> list(x.next))
-}
-method make(v: Int) returns (r: Ref)
-  requires v >= 0
-  ensures list(r)
-{
-  r := new(val, next)
-  r.val := v
-  r.next := null
-  fold cell(r)
-  fold list(r)
-}
-method push(x: Ref, v: Int) returns (r: Ref)
-  requires list(x) && v >= 0
-  ensures list(r)
-{
-  r := new(*)
-  r.val := v
-  r.next := x
-  fold cell(r)
-  fold list(r)
-}
-method head(x: Ref) returns (v: Int)
-  requires list(x)
-  ensures list(x) && v >= 0
-{
-  unfold list(x)
-  unfold cell(x)
-  v := x.val
-  fold cell(x)
-  fold list(x)
-}
-method fill(n: Int) returns (r: Ref)
-  requires n >= 0
-  ensures list(r)
-{
-  var i: Int := 0
-  r := make(0)
-  while (i < n)
-    invariant list(r) && i >= 0
-  {
-    r := push(r, i)
-    i := i + 1
-  }
-}",
-    "\
+/// Runs of the program of lists: of the method that reads the first number of one, and of the predicate of lists.
+const LIST_RUNS: &str = "\
 4 ; viper run | var x #1 | content list #1 pair leaf null pair pair leaf 4 unit unit | pick true ; viper run | var x #1 | content list #1 pair leaf null pair pair leaf 4 unit unit | pick true
 4 ; viper run | content list #1 unit | var v 3 ; viper run | var v 3
-1 ; viper run | content cell #2 leaf 4 | content list null leaf true | var x #2 ; viper run | var x #2 | content cell #2 leaf 4 | content list null leaf true",
-);
+1 ; viper run | content cell #2 leaf 4 | content list null leaf true | var x #2 ; viper run | var x #2 | content cell #2 leaf 4 | content list null leaf true";
 
 /// All kinds of lines, out of order.
 const ALL: (&str, &str) = (
@@ -193,11 +142,18 @@ fn wrong_boogie_row(alloc: Global, file: &str, row: &str) -> Result<Option<Strin
     other_lines(alloc, want, &came)
 }
 
+/// The program of lists of cells.
+fn lists() -> Result<&'static str, Fail> {
+    let mut programs = PROGRAMS.split("\n\n");
+    let found = programs.find(|file| file.starts_with("field val: Int"));
+    Ok(found.ok_or("no lists")?)
+}
+
 /// Each run is printed as its row says, and read again.
 #[test]
 fn runs_are_printed_and_read_back(rt: HostRuntime) -> Result<(), Fail> {
     let alloc = rt.alloc();
-    for (file, table) in [NUMBER, PLACE, LIST, ALL] {
+    for (file, table) in [NUMBER, PLACE, (lists()?, LIST_RUNS), ALL] {
         let other = first_other(alloc, table, |row| wrong_viper_row(alloc, file, row))?;
         none_other(&rt, other);
     }
