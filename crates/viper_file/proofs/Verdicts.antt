@@ -105,7 +105,7 @@ one_accepted {bytes} {r = r} h i =
     one_program_of h.is_typed (subst (λ s. IsProgram s r) source i.is_typed)
 
 -- which it accepts
-pub accepts : (bytes : List ℕ) (tokens : List Token) (source : d.SourceProgram) (q : p.Program) → length bytes ≤ max_viper_bytes → IsLexed bytes tokens → Spells tokens source →
+unfoldable pub accepts : (bytes : List ℕ) (tokens : List Token) (source : d.SourceProgram) (q : p.Program) → length bytes ≤ max_viper_bytes → IsLexed bytes tokens → Spells tokens source →
     IsProgram source q × (weight q ≤ max_weight) → IsAccepted bytes q
 accepts bytes tokens source q small lexed spelled typed =
     record { small = small; tokens = tokens; lexed = lexed; source = source; spelled = spelled; is_typed = typed.0; light = typed.1 }
