@@ -24,6 +24,7 @@ returns-in_err-program-clause-refused c r is_r =
     c.in_ok-tokens.ensures.tokens c.in_ok-tree.ensures.found c.in_err-program.ensures.refused (sym p.2 ∙ error_is p.1 is_r)
 
 pub returns-clause-accepted : goal.returns-clause-accepted
+unfolding accepts
 returns-clause-accepted c = (
   accepts c.args.bytes.now c.in_ok-tokens.tokens.items (view.program_of c.in_ok-tree.tree) (program_of c.in_ok-program.program) c.requires
       c.in_ok-tokens.ensures.tokens c.in_ok-tree.ensures.found c.in_ok-program.ensures.found,
