@@ -12,6 +12,7 @@ use Rattle.run_file.specs.Run.{scope_memo}
 use Rattle.run_file.specs.Progress.{Progress, Changes, has_named, once, may_set, may_place, followed, is_header, header_read, is_headed, file_kind, reader_of}
 use Rattle.run_file.specs.declared.lines.LineTarget.{LineTarget}
 use Rattle.run_file.specs.declared.lines.LineTarget.TheVariants as named
+use Rattle.run_file.specs.declared.reader.ViperStage.{ViperStage}
 use Rattle.run_file.specs.declared.reader.ViperStage.TheVariants as stage
 use Rattle.run_file.proofs.SeenMachines.{Sees}
 
@@ -19,7 +20,7 @@ use Rattle.run_file.proofs.SeenMachines.{Sees}
 pub record Agree {R Q : Type 0} (k : Changes R) (j : Changes Q) (part : R → Q) : Type 0 where
   pub begun : (s : UnitScope) → j.begun s ≡ part (k.begun s)
   pub set : (n : ℕ) (v : Value) (r : R) → j.set n v (part r) ≡ part (k.set n v r)
-  pub place : (g : Stage) (l : ViperLine) (r : R) → j.place g l (part r) ≡ part (k.place g l r)
+  pub place : (g : ViperStage) (l : ViperLine) (r : R) → j.place g l (part r) ≡ part (k.place g l r)
   pub choose : (c : Choice) (r : R) → j.choose c (part r) ≡ part (k.choose c r)
 
 -- how far the part is read

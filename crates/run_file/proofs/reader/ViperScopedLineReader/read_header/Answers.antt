@@ -1,4 +1,4 @@
-use Rattle.std.proofs.Common.{◌≡◌, false, absurd, refl}
+use Rattle.std.proofs.Common.{◌≡◌, false, refl}
 use Rattle.run_file.specs.Progress.{is_headed}
 use Rattle.run_file.specs.declared.reader.ViperStage.{ViperStage}
 use Rattle.run_file.specs.declared.reader.ViperStage.TheVariants as stage
