@@ -8,15 +8,11 @@ use Rattle.viper_core.specs.declared.programs.Unit.TheVariants.{Method}
 use Rattle.viper_exec_subset.specs.Unframed.{first_unframed}
 use Rattle.run_file.specs.Run.{SpellsViperRun, GoesWrongAt}
 use Rattle.viper_file.specs.Accepted.{IsAccepted}
+use Rattle.viper_file.specs.Framed.{IsFramed}
 use Rattle.vb_tool.specs.Accepted.{IsTextRefusal}
 use Rattle.vb_tool.specs.Executions.{body_named, MethodRun}
 use Rattle.vb_tool.specs.declared.status.Refusal.{Refusal}
 use Rattle.vb_tool.specs.declared.status.Refusal.TheVariants.{Size, RunSize, Unframed, NoUnit, RunSyntax}
-
--- the bytes are the text of this typed program, and none of the three words is among their tokens
-pub record IsFramed (bytes : List ℕ) (typed : p.Program) : Type 0 where
-  pub accepted : IsAccepted bytes typed
-  pub framed : first_unframed accepted.tokens ≡ None
 
 -- a text is refused as that of a run is, or for the first of the three words
 pub data IsUnframedRefusal (bytes : List ℕ) : Refusal → Type 0 where

@@ -21,6 +21,3 @@ pub returns-in-Some-clause-refused : goal.returns-in-Some-clause-refused
 returns-in-Some-clause-refused c r is_r =
     let a = c.in_ok-found.ensures.accepted in
     unframed_refused c.args.bytes.now (program_of c.in_ok-found.found.0) c.in-Some.at r a.0 (a.1 ∙ c.in-Some.is) (error_is refl is_r)
-
-pub returns-clause-framed : goal.returns-clause-framed
-returns-clause-framed c = let a = c.in_ok-found.ensures.accepted in record { accepted = a.0; framed = a.1 ∙ c.in-None.is }
