@@ -21,3 +21,6 @@ pub returns-in-Some-clause-refused : goal.returns-in-Some-clause-refused
 returns-in-Some-clause-refused c r is_r =
     let a = c.in_ok-found.ensures.accepted in
     unframed_refused c.args.bytes.now (program_of c.in_ok-found.found.0) c.in-Some.at r a.0 (a.1 ∙ c.in-Some.is) (error_is refl is_r)
+
+pub returns-in-None-clause-framed : goal.returns-in-None-clause-framed
+returns-in-None-clause-framed c = let a = c.in_ok-found.ensures.accepted in record { accepted = a.0; framed = a.1 ∙ c.in-None.is }
