@@ -35,10 +35,12 @@ impl Digest {
         }
     }
 
-    /// One part more: its length and its bytes.
+    /// One part more: its bytes, eight at a time, and with the last of them how many they are.
     pub fn add(&mut self, part: &[u8]) {
-        self.state.write_usize(part.len());
-        self.state.write(part);
+        let (front, back) = part.split_at(part.len() / 8 * 8);
+        self.state.write(front);
+        self.state
+            .write_u64(word(back) | (part.len() as u64 & 0xff) << 56);
     }
 
     /// The key that comes of all parts.
@@ -50,4 +52,13 @@ impl Digest {
             second: further.finish(),
         }
     }
+}
+
+/// Fewer than eight bytes as one number.
+fn word(bytes: &[u8]) -> u64 {
+    let mut word = 0;
+    for byte in bytes {
+        word = word << 8 | u64::from(*byte);
+    }
+    word
 }
