@@ -18,12 +18,13 @@ use Rattle.boogie_meaning.specs.Types.{HasType, IsTypedStmt, assign, put}
 use Rattle.boogie_meaning.specs.Run.{Run, Done, Stop, Stops, Failed, Blocked, with_end, unless_blocked, with_choice, then_run, picked, chosen, brun_stmt, brun}
 use Rattle.boogie_meaning.proofs.TypedLaws.{the_map_keeps, bvalue_keeps, bkey_keeps, side_keeps}
 use Rattle.boogie_meaning.proofs.ValueLaws.{set_typed, stored_typed, chosen_typed, found_typed}
+use Rattle.boogie_meaning.proofs.EnvironmentLaws.{length_env}
 use Rattle.boogie_loops.specs.Wide.{Clause}
 use Rattle.boogie_loops.specs.WideTypes.{AreBools, IsGuard}
 use Rattle.boogie_loops.specs.Modular.{assert_all, assume_all, havoc_all, with_guard, turned, looped}
 use Rattle.boogie_cut.specs.Cut.{join, alone, asserts, assumes, havocs, cut_guard, cut_turn, cut_loop}
 use Rattle.boogie_cut.proofs.TermLaws.{own_value, own_side, own_key}
-use Rattle.boogie_cut.proofs.EnvLaws.{there_left, there_within, set_left, length_env}
+use Rattle.boogie_cut.proofs.EnvLaws.{there_left, there_within, set_left}
 
 -- ---- blocks that follow one another
 

@@ -14,6 +14,7 @@ use Rattle.boogie_meaning.specs.Programs.{types_of, brun_proc}
 use Rattle.boogie_meaning.specs.Quantified.{bvalue}
 use Rattle.boogie_meaning.specs.Types.{havoc as havoc_typed}
 use Rattle.boogie_meaning.specs.Run.{Run, with_end, picked, brun}
+use Rattle.boogie_meaning.proofs.EnvironmentLaws.{length_env, env_front}
 use Rattle.boogie_loops.specs.Wide as w
 use Rattle.boogie_loops.specs.Wide.{WProc}
 use Rattle.boogie_loops.specs.Conditions.{variable_names}
@@ -25,7 +26,7 @@ use Rattle.boogie_cut.specs.Alike.{EndAlike, done as both_done, stops as both_st
 use Rattle.boogie_cut.specs.Cut.{Written, join, asserts, assumes, cut_call, cut_stmt, cut, cut_body, cut_proc}
 use Rattle.boogie_cut.specs.Fresh.{fresh_locals, free_number, is_a}
 use Rattle.boogie_cut.proofs.TermLaws.{own_value}
-use Rattle.boogie_cut.proofs.EnvLaws.{there_left, length_env, env_front, env_behind, env_split}
+use Rattle.boogie_cut.proofs.EnvLaws.{there_left, env_behind, env_split}
 use Rattle.boogie_cut.proofs.AlikeLaws.{Alike, done, stops, Runs, any_alike, choice_alike, if_alike, skip_runs, join_runs, alone_runs, same, assign_alike, put_alike, havoc_alike, asserts_runs, assumes_runs, loop_runs}
 use Rattle.boogie_cut.proofs.CallLaws.{call_runs, length_plain}
 

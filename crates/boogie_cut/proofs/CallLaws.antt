@@ -15,13 +15,14 @@ use Rattle.boogie_meaning.specs.Quantified.{side}
 use Rattle.boogie_meaning.specs.Types.{HasType, value as expression}
 use Rattle.boogie_meaning.specs.Run.{Run, Done, with_end, then_run, brun}
 use Rattle.boogie_meaning.proofs.ValueLaws.{found_typed}
+use Rattle.boogie_meaning.proofs.EnvironmentLaws.{length_env}
 use Rattle.boogie_loops.specs.Wide.{Clause, WProc}
 use Rattle.boogie_loops.specs.Procedures.{param_types, return_types, head_types}
 use Rattle.boogie_loops.specs.WideTypes.{AreBools, HaveBases, none, more}
 use Rattle.boogie_loops.specs.Modular.{assume_all, havoc_all, arguments, values_at, called}
 use Rattle.boogie_cut.specs.Cut.{join, asserts, assumes, havocs, assigns, argument_numbers, stands_for, renamed_clauses, cut_call}
 use Rattle.boogie_cut.proofs.TermLaws.{own_side, side_there, renamed_value}
-use Rattle.boogie_cut.proofs.EnvLaws.{there_left, there_right, there_within, within_there, set_right, length_env, stored, stored_nil, stored_cons, length_stored, stored_there}
+use Rattle.boogie_cut.proofs.EnvLaws.{there_left, there_right, there_within, within_there, set_right, stored, stored_nil, stored_cons, length_stored, stored_there}
 use Rattle.boogie_cut.proofs.AlikeLaws.{Alike, Runs, run_join, then_alike, join_runs, same, Same, asserts_alike, assumes_alike, havocs_runs}
 
 -- ---- look-ups

@@ -57,18 +57,7 @@ module _ {X : Type 0} where
 
 -- ---- environments
 
-pub length_env : (ls : List BType) (vs : List BValue) → IsEnvironment ls vs → length vs ≡ length ls
-length_env [] [] h = refl
-length_env [] (v ∷ vs) h = absurd h
-length_env (l ∷ ls) [] h = absurd h
-length_env (l ∷ ls) (v ∷ vs) h = ap suc (length_env ls vs h.1)
-
--- the first values of a longer environment, and the further ones
-pub env_front : (ls us : List BType) (vs : List BValue) → IsEnvironment (ls ++ us) vs → IsEnvironment ls (take (length ls) vs)
-env_front [] us vs h = tt
-env_front (l ∷ ls) us [] h = absurd h
-env_front (l ∷ ls) us (v ∷ vs) h = (h.0, env_front ls us vs h.1)
-
+-- the further values of a longer environment
 pub env_behind : (ls us : List BType) (vs : List BValue) → IsEnvironment (ls ++ us) vs → IsEnvironment us (drop (length ls) vs)
 env_behind [] us vs h = h
 env_behind (l ∷ ls) us [] h = absurd h

@@ -11,6 +11,7 @@ use Rattle.boogie_tree.specs.Values.{IsEnvironment, IsReducedChoice}
 use Rattle.boogie_meaning.specs.Programs.{types_of, default_value, ProcFails}
 use Rattle.boogie_meaning.specs.Run.{Run, Stop, Stops, Failed}
 use Rattle.boogie_meaning.proofs.ValueLaws.{default_typed}
+use Rattle.boogie_meaning.proofs.EnvironmentLaws.{length_env}
 use Rattle.boogie_loops.specs.Wide.{WStmts, WProc, WProgram}
 use Rattle.boogie_loops.specs.Modular.{cutrun_proc}
 use Rattle.boogie_loops.specs.Procedures.{wide_types}
@@ -19,7 +20,6 @@ use Rattle.boogie_loops.specs.WideTypes.{IsWide, IsWideBody, IsWideProc, IsWideP
 use Rattle.boogie_cut.specs.Alike.{EndAlike, done, stops}
 use Rattle.boogie_cut.specs.Cut.{cut, cut_proc, cut_procs, cut_program}
 use Rattle.boogie_cut.specs.Follows.{IsCutOf, with_bodies, AreCutOf}
-use Rattle.boogie_cut.proofs.EnvLaws.{length_env}
 use Rattle.boogie_cut.proofs.BlockLaws.{Callees, written_types, proc_alike, length_map}
 use Rattle.boogie_cut.proofs.BoundLaws.{fails_unbounded}
 use Rattle.boogie_cut.proofs.LoopLaws.{proc_tells, tells_failed}

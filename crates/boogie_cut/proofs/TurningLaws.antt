@@ -18,11 +18,11 @@ use Rattle.boogie_meaning.specs.Types.{IsTypedStmt, assign, put}
 use Rattle.boogie_meaning.specs.Run.{Run, Done, Stop, Stops, Failed, Blocked, Over, Wrong, with_end, with_choice, then_run, chosen, choice_for, assumed, asserted, brun_stmt}
 use Rattle.boogie_meaning.proofs.TypedLaws.{the_map_keeps, bvalue_keeps, bkey_keeps, side_keeps}
 use Rattle.boogie_meaning.proofs.ValueLaws.{set_typed, stored_typed, chosen_typed, found_typed, choice_gives}
+use Rattle.boogie_meaning.proofs.EnvironmentLaws.{length_env}
 use Rattle.boogie_loops.specs.Wide as w
 use Rattle.boogie_loops.specs.Wide.{Clause, WProc}
 use Rattle.boogie_loops.specs.Changed.{changes, targets}
 use Rattle.boogie_loops.specs.Modular.{assert_all, assume_all, havoc_all, values_at, called}
-use Rattle.boogie_cut.proofs.EnvLaws.{length_env}
 use Rattle.boogie_cut.proofs.BlockLaws.{targets_declared}
 use Rattle.boogie_cut.proofs.TurnLaws.{get_set_other, get_set_same, same_lists, apart, choice_reduced, Frame, Plain, done_tells, stop_tells, run_tells, end_tells, choice_tells}
 

@@ -6,6 +6,7 @@ mod TakenLaws
 pub mod RunBoundLaws
 pub mod TypeLaws
 pub mod ProgramLaws
+pub mod EnvironmentLaws
 pub mod ValueLaws
 pub mod TypedLaws
 pub mod RunTypedLaws

@@ -13,6 +13,7 @@ use Rattle.boogie_meaning.specs.Ends.{Is, then_with}
 use Rattle.boogie_meaning.specs.Operators.{as_truth}
 use Rattle.boogie_meaning.specs.Run.{Run, Stop, Stops, Failed}
 use Rattle.boogie_meaning.specs.Programs.{types_of, HaveKeys, IsTypedProc, brun_proc, default_value, FailsAt}
+use Rattle.boogie_meaning.proofs.EnvironmentLaws.{env_front, length_env}
 use Rattle.boogie_meaning.proofs.ValueLaws.{found_typed, default_typed}
 use Rattle.boogie_tree.specs.declared.exprs.BOp.TheVariants as op
 use Rattle.boogie_meaning.specs.Quantified.{one_of}
@@ -33,17 +34,6 @@ use Rattle.boogie_wp.proofs.NameLaws.{Kept, kept_more, Holds, no_names, named_so
 use Rattle.boogie_wp.proofs.BuildLaws.{Stands, Step, block_step, bool_type, truly_fits}
 
 -- ---- environments
-
-pub env_front : (ls us : List BType) (vs : List BValue) → IsEnvironment (ls ++ us) vs → IsEnvironment ls (take (length ls) vs)
-env_front [] us vs h = tt
-env_front (l ∷ ls) us [] h = absurd h
-env_front (l ∷ ls) us (v ∷ vs) h = (h.0, env_front ls us vs h.1)
-
-pub length_env : (ls : List BType) (vs : List BValue) → IsEnvironment ls vs → length vs ≡ length ls
-length_env [] [] h = refl
-length_env [] (v ∷ vs) h = absurd h
-length_env (l ∷ ls) [] h = absurd h
-length_env (l ∷ ls) (v ∷ vs) h = ap suc (length_env ls vs h.1)
 
 pub owns_behind : (ls us : List BType) (vs : List BValue) → IsEnvironment (ls ++ us) vs → Owns (ls ++ us) vs (length ls) us
 owns_behind ls us vs h = record {

@@ -24,6 +24,7 @@ use Rattle.boogie_meaning.specs.Types.{IsTyped, skip, first, IsTypedStmt, assign
 use Rattle.boogie_meaning.specs.Programs.{types_of, IsTypedProc, brun_proc, default_value, FailsAt, ProcFails}
 use Rattle.boogie_meaning.proofs.RunTypedLaws.{stmt_keeps}
 use Rattle.boogie_meaning.proofs.ValueLaws.{chosen_typed}
+use Rattle.boogie_meaning.proofs.EnvironmentLaws.{env_front, length_env}
 use Rattle.boogie_formula.specs.Value.{formula_value, Valid, CanFail}
 use Rattle.boogie_formula.specs.Choices.{own_types, own_types_stmt, slots, slots_stmt, variables_of, met, met_stmt, takes, where_truth, truth_at, where_done, locals_in, choices_in}
 use Rattle.boogie_formula.specs.Follows.{AreExact, IsExact}
@@ -34,7 +35,7 @@ use Rattle.boogie_wp.proofs.LiftLaws.{value_there, key_there, truth_there, side_
 use Rattle.boogie_wp.proofs.Total.{Point, or_else, stored, held, checked, joined, forked, total_stmt, total}
 use Rattle.boogie_wp.proofs.TotalLaws.{Asleep, asleep, slots_own, slots_own_stmt, from}
 use Rattle.boogie_wp.proofs.BuildLaws.{truly_fits}
-use Rattle.boogie_wp.proofs.FormulaLaws.{env_front, length_env, default_env, last, value_is, fails_in, fail_from, follows}
+use Rattle.boogie_wp.proofs.FormulaLaws.{default_env, last, value_is, fails_in, fail_from, follows}
 
 -- ---- values from the k-th on
 

@@ -53,8 +53,13 @@ length_procs : (ds : List Proc) → length (map proc_of ds) ≡ length ds
 length_procs [] = refl
 length_procs (d ∷ ds) = ap suc (length_procs ds)
 
-pub proc_there : (ds : List Proc) (i : ℕ) (d : Proc) → i < length (map proc_of ds) → d ≡ get_or ds i d → slice_get (map proc_of ds) i ≡ Some (proc_of d)
+proc_there : (ds : List Proc) (i : ℕ) (d : Proc) → i < length (map proc_of ds) → d ≡ get_or ds i d → slice_get (map proc_of ds) i ≡ Some (proc_of d)
 proc_there ds i d lt is = let long = length_procs ds in proc_found ds i d (item_at ds i d (omega (arith, lt, long)) is)
+
+-- it is well-typed where the program is
+pub typed_there : (ds : List Proc) (i : ℕ) (d : Proc) → ((j : ℕ) (e : p.Proc) → slice_get (map proc_of ds) j ≡ Some e → IsTypedProc e) → i < length (map proc_of ds) →
+    d ≡ get_or ds i d → (slice_get (map proc_of ds) i ≡ Some (proc_of d)) × IsTypedProc (proc_of d)
+typed_there ds i d typed within is = let there = proc_there ds i d within is in (there, typed i (proc_of d) there)
 
 -- ---- what its conditions say
 
