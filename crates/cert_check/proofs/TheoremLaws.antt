@@ -8,6 +8,7 @@ use Rattle.boogie_tree.specs.Value.{BScalar, BValue, One, Int, Bool, Ref, Real, 
 use Rattle.boogie_tree.specs.Values.{IsEnvironment}
 use Rattle.boogie_meaning.specs.Ends.{End, Is, Over, Wrong, then_with, found}
 use Rattle.boogie_meaning.specs.Operators.{as_truth, negation}
+use Rattle.boogie_meaning.proofs.EnvironmentLaws.{length_env}
 use Rattle.boogie_formula.specs.Formula as f
 use Rattle.boogie_formula.specs.Formula.{FExpr, Conditions}
 use Rattle.boogie_formula.specs.Value.{fvalue, whole, defined}
@@ -21,7 +22,7 @@ use Rattle.cert_terms.specs.declared.terms.ClauseLiteral.{ClauseLiteral}
 use Rattle.cert_terms.specs.declared.terms.CertificateTerm.{CertificateTerm}
 use Rattle.cert_terms.proofs.GrowthLaws.{completes_grown}
 use Rattle.cert_terms.proofs.LiteralLaws.{name_value, value_name}
-use Rattle.cert_terms.proofs.TableLaws.{env_more, length_env}
+use Rattle.cert_terms.proofs.TableLaws.{env_more}
 use Rattle.cert_terms.proofs.ValueLaws.{whole_there}
 use Rattle.cert_rules.specs.Refutes.{FollowsFrom}
 use Rattle.cert_definitions.specs.Told.{AreTold}

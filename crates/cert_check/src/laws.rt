@@ -6,8 +6,8 @@ use crate::names::{NameCounts, count, first, only, three, two};
 use crate::words::{Listed, Paired, Reason, Single, Triple};
 use cert_linear::sum;
 use cert_rules::{
-    above, apart, below, case, gate, hit, inside, miss, over, part, path, rest, ring, same, split,
-    times, zero,
+    FactorLaw, above, apart, below, case, gate, hit, inside, miss, over, part, path, rest, ring,
+    same, split, times, zero,
 };
 use cert_terms::{ClauseLiteral, LineFault, LineRefusal, TermTable};
 use std::alloc::Global;
@@ -87,8 +87,18 @@ fn of_pair(
     match paired {
         Paired::Miss => miss(scope.alloc, scope.table, one, other),
         Paired::Part => part(scope.alloc, scope.table, one, other),
-        Paired::Over => over(scope.alloc, scope.table, one, other),
-        Paired::Zero => zero(scope.alloc, scope.table, one, other),
+        Paired::Over => over(
+            scope.alloc,
+            scope.table,
+            ClauseLiteral::of(one),
+            ClauseLiteral::of(other),
+        ),
+        Paired::Zero => zero(
+            scope.alloc,
+            scope.table,
+            ClauseLiteral::of(one),
+            ClauseLiteral::of(other),
+        ),
         Paired::Below => below(scope.alloc, scope.table, one, other),
     }
 }
@@ -121,8 +131,16 @@ fn of_three(
     let last = scope.names.name(last)?;
     match triple {
         Triple::Split => split(scope.alloc, scope.table, one, other, last),
-        Triple::Times => times(scope.alloc, scope.table, one, other, last),
-        Triple::Above => above(scope.alloc, scope.table, one, other, last),
+        Triple::Times => times(scope.alloc, scope.table, factor_law(one, other, last)),
+        Triple::Above => above(scope.alloc, scope.table, factor_law(one, other, last)),
+    }
+}
+
+fn factor_law(first: usize, second: usize, comparison: usize) -> FactorLaw {
+    FactorLaw {
+        first: ClauseLiteral::of(first),
+        second: ClauseLiteral::of(second),
+        comparison: ClauseLiteral::of(comparison),
     }
 }
 

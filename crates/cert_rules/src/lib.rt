@@ -17,6 +17,6 @@ pub use contents::{apart, inside, part};
 pub use equality::{path, same};
 pub use maps::{hit, miss};
 pub use numbers::{below, over, rest, split, zero};
-pub use products::{above, ring, times};
+pub use products::{FactorLaw, above, ring, times};
 pub use refuting::rup;
 pub use truths::{case, gate};

@@ -66,13 +66,11 @@ fn tested(table: &TermTable, test: ClauseLiteral, operator: BOp) -> Result<Claus
 pub fn over(
     alloc: Global,
     table: &TermTable,
-    test: usize,
-    equation: usize,
+    test: ClauseLiteral,
+    equation: ClauseLiteral,
 ) -> Result<Vec<ClauseLiteral>, LineFault>
     ensures { IfOk result (λ c. IsLawOf table.now c.items) }
 {
-    let test = ClauseLiteral::of(test);
-    let equation = ClauseLiteral::of(equation);
     check_over(table, test, equation)?;
     two(alloc, test, equation)
 }
@@ -138,13 +136,11 @@ fn check_euclidean(
 pub fn zero(
     alloc: Global,
     table: &TermTable,
-    test: usize,
-    equation: usize,
+    test: ClauseLiteral,
+    equation: ClauseLiteral,
 ) -> Result<Vec<ClauseLiteral>, LineFault>
     ensures { IfOk result (λ c. IsLawOf table.now c.items) }
 {
-    let test = ClauseLiteral::of(test);
-    let equation = ClauseLiteral::of(equation);
     check_zero_law(table, test, equation)?;
     two(alloc, test.turned(), equation)
 }

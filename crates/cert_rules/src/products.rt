@@ -45,22 +45,30 @@ fn check_crossed(
     Ok(())
 }
 
+/// What a law of two factors speaks of: a comparison of each of them, and one of sums of their products.
+#[derive(Clone, Copy)]
+pub struct FactorLaw {
+    pub first: ClauseLiteral,
+    pub second: ClauseLiteral,
+    pub comparison: ClauseLiteral,
+}
+
 /// That products are not negative where both factors are not: not `a <= b`, or not `c <= d`, or
 /// `(a * d) + (b * c) <= (a * c) + (b * d)`.
 pub fn times(
     alloc: Global,
     table: &TermTable,
-    first: usize,
-    second: usize,
-    comparison: usize,
+    law: FactorLaw,
 ) -> Result<Vec<ClauseLiteral>, LineFault>
     ensures { IfOk result (λ c. IsLawOf table.now c.items) }
 {
-    let first = ClauseLiteral::of(first);
-    let second = ClauseLiteral::of(second);
-    let comparison = ClauseLiteral::of(comparison);
-    check_times(table, first, second, comparison)?;
-    three(alloc, first.turned(), second.turned(), comparison)
+    check_times(table, law.first, law.second, law.comparison)?;
+    three(
+        alloc,
+        law.first.turned(),
+        law.second.turned(),
+        law.comparison,
+    )
 }
 
 fn check_times(
@@ -86,17 +94,12 @@ fn check_times(
 pub fn above(
     alloc: Global,
     table: &TermTable,
-    first: usize,
-    second: usize,
-    comparison: usize,
+    law: FactorLaw,
 ) -> Result<Vec<ClauseLiteral>, LineFault>
     ensures { IfOk result (λ c. IsLawOf table.now c.items) }
 {
-    let first = ClauseLiteral::of(first);
-    let second = ClauseLiteral::of(second);
-    let comparison = ClauseLiteral::of(comparison);
-    check_above(table, first, second, comparison)?;
-    three(alloc, first, second, comparison.turned())
+    check_above(table, law.first, law.second, law.comparison)?;
+    three(alloc, law.first, law.second, law.comparison.turned())
 }
 
 fn check_above(

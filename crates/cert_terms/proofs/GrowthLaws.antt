@@ -9,6 +9,7 @@ use Rattle.boogie_tree.specs.Values.{IsEnvironment, IsOfType}
 use Rattle.boogie_meaning.specs.Ends.{Is, found}
 use Rattle.boogie_meaning.specs.Programs.{default_value}
 use Rattle.boogie_meaning.proofs.ValueLaws.{found_typed, default_typed}
+use Rattle.boogie_meaning.proofs.EnvironmentLaws.{env_front}
 use Rattle.boogie_formula.specs.Formula.{FExpr}
 use Rattle.boogie_formula.specs.Value.{whole}
 use Rattle.boogie_formula.specs.Types.{whole_type}
@@ -19,7 +20,7 @@ use Rattle.cert_terms.specs.Terms.{meaning, IsModel, HoldsIn, IsLaw}
 use Rattle.cert_terms.specs.Tables.{is_of_type, are_of_types, IsTable, givens, Grows}
 use Rattle.cert_terms.proofs.ValueLaws.{whole_there}
 use Rattle.cert_terms.proofs.KeptLaws.{kept_more, meaning_kept, at_kept}
-use Rattle.cert_terms.proofs.TableLaws.{one_more, take_kept, env_take, env_more, env_front, from_is_type, typed_at, typed_behind}
+use Rattle.cert_terms.proofs.TableLaws.{one_more, take_kept, env_take, env_more, from_is_type, typed_at, typed_behind}
 
 -- ---- a law stays a law
 

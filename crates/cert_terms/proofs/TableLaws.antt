@@ -42,17 +42,6 @@ env_more [] us (v ∷ vs) ws h g = absurd h
 env_more (l ∷ ls) us [] ws h g = absurd h
 env_more (l ∷ ls) us (v ∷ vs) ws h g = (h.0, env_more ls us vs ws h.1 g)
 
-pub env_front : (ls us : List BType) (vs : List BValue) → IsEnvironment (ls ++ us) vs → IsEnvironment ls (take (length ls) vs)
-env_front [] us vs h = tt
-env_front (l ∷ ls) us [] h = absurd h
-env_front (l ∷ ls) us (v ∷ vs) h = (h.0, env_front ls us vs h.1)
-
-pub length_env : (ls : List BType) (vs : List BValue) → IsEnvironment ls vs → length vs ≡ length ls
-length_env [] [] h = refl
-length_env [] (v ∷ vs) h = absurd h
-length_env (l ∷ ls) [] h = absurd h
-length_env (l ∷ ls) (v ∷ vs) h = ap suc (length_env ls vs h.1)
-
 -- ---- the types of a table
 
 pub from_is_type : (o : Option BType) (u : BType) → is_type o (Some u) ≡ true → o ≡ Some u
