@@ -1,0 +1,5 @@
+use Rattle.std.proofs.Common.{◌≤◌}
+use Rattle.search_bounds.proofs.tight.tighten.Given as goal
+
+abbrev pub invariant-loop-equation : goal.invariant-loop-equation
+invariant-loop-equation l = l.fuel.left ≤ l.fn.fuel.left

@@ -1,0 +1,5 @@
+use Rattle.std.proofs.Common.{◌≤◌}
+use Rattle.search_rows.proofs.pruning.needed.Given as goal
+
+abbrev pub invariant-loop : goal.invariant-loop
+invariant-loop l = l.fuel.left ≤ l.fn.fuel.left

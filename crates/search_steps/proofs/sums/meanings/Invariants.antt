@@ -1,0 +1,8 @@
+use Rattle.std.proofs.Common.{◌≤◌}
+use Rattle.search_steps.proofs.sums.meanings.Given as goal
+
+abbrev pub invariant-loop-n : goal.invariant-loop-n
+invariant-loop-n l = l.fuel.left ≤ l.fn.fuel.left
+
+abbrev pub decreases-loop-n : goal.decreases-loop-n
+decreases-loop-n l = l.fuel.left
