@@ -1,0 +1,61 @@
+-- What is shown of a file of Viper and of its units.
+use Rattle.std.specs.Prelude.{◌≡◌, ℕ, List, [], length, Option, None, Some, slice_get}
+use Rattle.vb_base.specs.declared.labels.Label.{Label}
+use Rattle.vb_value.specs.Bound.{Bound}
+use Rattle.viper_core.specs.Program.{Program, Method, Predicate}
+use Rattle.viper_core.specs.declared.programs.Unit.{Unit}
+use Rattle.viper_core.specs.declared.programs.Unit.TheVariants as unit
+use Rattle.viper_meaning.specs.Units.{ViperFails}
+use Rattle.viper_exec_meaning.specs.Frame.{NoExecutionFails}
+use Rattle.viper_exec_subset.specs.Unframed.{first_unframed}
+use Rattle.viper_file.specs.Accepted.{IsAccepted}
+use Rattle.viper_file.specs.Verified.{HasNoFailure}
+use Rattle.viper_proof.specs.declared.answers.UnitAnswer.{UnitAnswer}
+use Rattle.viper_proof.specs.declared.answers.UnitVerdict.TheVariants as verdict
+
+-- ---- a unit
+
+abbrev name_of_method : Option Method → List ℕ
+name_of_method (Some m) = m.name
+name_of_method None = []
+
+abbrev name_of_predicate : Option Predicate → List ℕ
+name_of_predicate (Some d) = d.name
+name_of_predicate None = []
+
+-- the name of a unit in the file
+abbrev pub name_of : Program → Unit → List ℕ
+name_of p (unit.Method n) = name_of_method (slice_get p.methods n)
+name_of p (unit.Predicate n) = name_of_predicate (slice_get p.predicates n)
+
+-- no run of the unit of this number fails, at any label
+abbrev pub UnitNeverFails : Program → ℕ → Type 0
+UnitNeverFails program n = (label : Label) → ViperFails program n label → ⊥
+
+-- the answer is that the unit is proved
+abbrev pub IsProved : UnitAnswer → Type 0
+IsProved a = a.verdict ≡ verdict.Proved
+
+-- ---- the units of a program
+
+-- these answers are those of the first units, in order: no run of one that is proved fails, and each has the name of its unit
+pub record AreShown (program : Program) (answers : List UnitAnswer) : Type 0 where
+  pub proved : (n : ℕ) (a : UnitAnswer) → slice_get answers n ≡ Some a → IsProved a → UnitNeverFails program n
+  pub named : (n : ℕ) (a : UnitAnswer) (u : Unit) → slice_get answers n ≡ Some a → slice_get program.units n ≡ Some u → a.name ≡ name_of program u
+
+-- ---- a file
+
+-- the bytes are accepted as a program, and these are the answers of all its units
+pub record IsAnswered (source : List ℕ) (answers : List UnitAnswer) : Type 0 where
+  pub program : Program
+  pub accepted : IsAccepted source program
+  pub as_many : length answers ≡ length program.units
+  pub shown : AreShown program answers
+
+-- The bytes are accepted as a program. No run of a unit of it fails, and no method does from a state that satisfies its precondition.
+-- And where none of the words `wildcard`, `inhale` and `assume` is among the tokens, no execution fails, with the bound or without it.
+pub record NothingFails (source : List ℕ) : Type 0 where
+  pub program : Program
+  pub accepted : IsAccepted source program
+  pub units : HasNoFailure program
+  pub executions : first_unframed accepted.tokens ≡ None → (b : Bound) → NoExecutionFails b program
