@@ -1,0 +1,5 @@
+pub mod CallLaws
+pub mod FileLaws
+pub mod StopLaws
+pub mod StreamLaws
+pub mod WordLaws

@@ -1,0 +1,94 @@
+-- When parts of a call stop, and when the call then does.
+use Rattle.std.proofs.Common.{◌≡◌, ◌⊎◌, inl, inr, ◌<◌, ◌≤◌, ℕ, List, [], Option, None, Some, length, refl}
+use Rattle.vb_base.specs.Limits.{max_viper_bytes}
+use Rattle.vb_outer.specs.Faults.{Rose}
+use Rattle.vb_outer.specs.Shelf.{Files, IsBegun, IsMissing, IsWhole, IsLonger}
+use Rattle.vb_outer.specs.declared.fault.FileFault.{FileFault}
+use Rattle.vb_outer.specs.declared.fault.FileFault.TheVariants as file
+use Rattle.vb_outer.proofs.FaultLaws.{rose_earlier}
+use Rattle.tool_common.proofs.FileLaws.{long_bytes}
+use Rattle.viper_core.specs.Program.{Program}
+use Rattle.viper_file.specs.Accepted.{IsTextRefusal, IsRefusal, size, of_text}
+use Rattle.viper_file.specs.declared.fault.ViperFault.{ViperFault}
+use Rattle.viper_file.specs.declared.fault.ViperFault.TheVariants as viper
+use Rattle.viper_file.specs.declared.fault.ViperRefusal.{ViperRefusal}
+use Rattle.viper_proof.specs.declared.answers.UnitAnswer.{UnitAnswer}
+use Rattle.viper_proof.specs.declared.faults.CertificateFault.{CertificateFault}
+use Rattle.viper_proof.specs.declared.faults.CertificateFault.TheVariants as certificate
+use Rattle.viper_proof.specs.declared.faults.Unproved.{Unproved}
+use Rattle.viper_proof.specs.declared.faults.Unproved.TheVariants as unproved
+use Rattle.prove_tool.specs.Call as call
+use Rattle.prove_tool.specs.Call.{StopsAtFile, StopsAtCheck}
+use Rattle.prove_tool.specs.Parts as part
+use Rattle.prove_tool.specs.Parts.{AreAnswers, StopsAtBytes, StopsAtSections, StopsAtCertificates, status_of_file, status_of_viper, status_of_proof, status_of_certificates}
+use Rattle.prove_tool.specs.Written.{IsThere, IsProgramOf, Accepts, AreAnswersOf}
+use Rattle.prove_tool.specs.declared.status.ProveStatus.{ProveStatus}
+
+pub file_stops : (files : Option Files) (name : List ℕ) (before now : ℕ) (fault : FileFault) → (fault ≡ file.Failed → IsMissing files name ⊎ Rose before now) →
+    (fault ≡ file.Long → IsLonger files name max_viper_bytes) → StopsAtFile files name before now (status_of_file fault)
+file_stops files name before now file.Memory failed long = call.memory
+file_stops files name before now file.Failed failed long = call.read (failed refl)
+file_stops files name before now file.Long failed long =
+    let whole = long_bytes files name max_viper_bytes (long refl) in
+    call.refused (record { bytes = whole.0; is = whole.1; refused = size whole.2 })
+
+pub viper_stops : (bytes : List ℕ) → length bytes ≤ max_viper_bytes → (before now : ℕ) (fault : ViperFault) → ((r : ViperRefusal) → fault ≡ viper.Refused r → IsTextRefusal bytes r) →
+    StopsAtBytes bytes before now (status_of_viper fault)
+viper_stops bytes small before now viper.Memory refuses = part.memory_of_bytes
+viper_stops bytes small before now (viper.Refused r) refuses = part.refused_of_bytes (of_text small (refuses r refl))
+
+pub proof_stops : (bytes : List ℕ) (before now : ℕ) (u : Unproved) → ((r : ViperRefusal) → u ≡ unproved.Refused r → IsRefusal bytes r) → (u ≡ unproved.Read → Rose before now) →
+    StopsAtBytes bytes before now (status_of_proof u)
+proof_stops bytes before now unproved.Memory refuses fails = part.memory_of_bytes
+proof_stops bytes before now unproved.Read refuses fails = part.read_of_bytes (fails refl)
+proof_stops bytes before now (unproved.Refused r) refuses fails = part.refused_of_bytes (refuses r refl)
+
+pub sections_stop : (before now : ℕ) (fault : CertificateFault) → (fault ≡ certificate.Read → Rose before now) → StopsAtSections before now (status_of_certificates fault)
+sections_stop before now certificate.Memory fails = part.memory_of_sections
+sections_stop before now certificate.Read fails = part.read_of_sections (fails refl)
+
+-- ---- from a part to the call
+
+module _ (files : Option Files) (name : List ℕ) (first before now : ℕ) (later : first ≤ before) where
+  -- the bytes are those of the file
+  pub bytes_of_file : (bytes : List ℕ) → IsWhole files name bytes → (s : ProveStatus) → StopsAtBytes bytes before now s → StopsAtFile files name first now s
+  bytes_of_file bytes is s part.memory_of_bytes = call.memory
+  bytes_of_file bytes is s (part.read_of_bytes rose) = call.read (inr (rose_earlier first before now later rose))
+  bytes_of_file bytes is s (part.refused_of_bytes r) = call.refused (record { bytes = bytes; is = is; refused = r })
+
+  -- the certificates are those of a file
+  pub sections_of_file : IsThere (IsWhole files) name → (s : ProveStatus) → StopsAtSections before now s → StopsAtCertificates files name first now s
+  sections_of_file there s part.memory_of_sections = part.memory_of_certificates
+  sections_of_file there s (part.read_of_sections rose) = part.read_of_certificates (inr (rose_earlier first before now later rose))
+  sections_of_file there s (part.refused_of_sections why) = part.refused_of_certificates there why
+
+  -- which belongs to a file of Viper
+  pub certificates_of_call : (file : List ℕ) → Accepts (IsWhole files) file → (s : ProveStatus) → StopsAtCertificates files name before now s → StopsAtCheck files file name first now s
+  certificates_of_call file accepts s part.memory_of_certificates = call.at_file call.memory
+  certificates_of_call file accepts s (part.read_of_certificates (inl missing)) = call.missing accepts missing
+  certificates_of_call file accepts s (part.read_of_certificates (inr rose)) = call.at_file (call.read (inr (rose_earlier first before now later rose)))
+  certificates_of_call file accepts s (part.refused_of_certificates there why) = call.sections accepts there why
+
+-- faults are counted from an earlier moment on
+pub sections_earlier : (first before now : ℕ) → first ≤ before → (s : ProveStatus) → StopsAtSections before now s → StopsAtSections first now s
+sections_earlier first before now later s part.memory_of_sections = part.memory_of_sections
+sections_earlier first before now later s (part.read_of_sections rose) = part.read_of_sections (rose_earlier first before now later rose)
+sections_earlier first before now later s (part.refused_of_sections why) = part.refused_of_sections why
+
+-- ---- files
+
+pub program_accepts : {Has : List ℕ → List ℕ → Type 0} {name : List ℕ} {program : Program} → IsProgramOf Has name program → Accepts Has name
+program_accepts {program = program} h = record { program = program; of = h }
+
+pub program_answers : {Has : List ℕ → List ℕ → Type 0} {name : List ℕ} {program : Program} {answers : List UnitAnswer} → IsProgramOf Has name program →
+    AreAnswers program answers → AreAnswersOf Has name answers
+program_answers {program = program} h all = record {
+  bytes = h.bytes;
+  is = h.is;
+  answered = record { program = program; accepted = h.accepted; as_many = all.0; shown = all.1 };
+}
+
+-- what is begun is there
+pub begun_there : (files : Option Files) (name : List ℕ) (left : Option (List ℕ)) → IsBegun files name left → IsThere (IsWhole files) name
+begun_there None name left begun = record { bytes = []; is = tt }
+begun_there (Some fs) name left begun = record { bytes = begun.0; is = begun.1 }
