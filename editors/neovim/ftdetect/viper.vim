@@ -1,0 +1,1 @@
+autocmd BufRead,BufNewFile *.vpr,*.sil setfiletype viper
