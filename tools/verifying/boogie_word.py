@@ -6,6 +6,8 @@ import re
 import subprocess
 from typing import List, NamedTuple
 
+from .boogie_text import procedure_texts
+
 SECONDS = 60        # for each procedure
 MOST_SECONDS = 900  # for a file
 LABEL = re.compile(r"\d+:\d+ \d+:\d+ (?:null|perm|false|div|negative|amount)")
@@ -17,10 +19,17 @@ axiom (forall a: Snap, b: Snap :: {sPair(a, b)} sRank(a) < sRank(sPair(a, b)) &&
 
 
 class Word(NamedTuple):
-    """The labels that Boogie tells of, the procedures for which its time did not suffice, and why there is no word, if there is none."""
+    """The labels that Boogie tells of, the procedures for which its time did not suffice, how many it tells nothing of, and why there is
+    no word, if there is none."""
     labels: List[str]
     slow: List[str]
+    lost: int
     fault: str
+
+
+def no_word(why) -> Word:
+    """That Boogie gives no word."""
+    return Word([], [], 0, why)
 
 
 def ranked(text):
@@ -29,7 +38,7 @@ def ranked(text):
     return text[:at] + RANK + text[at:] if "\nfunction sPair(" in text[:at] else text
 
 
-def word(text_file, room) -> Word:
+def word(_, text_file, room) -> Word:
     """What Boogie says of a text."""
     with open(text_file, encoding="utf-8") as it:
         text = ranked(it.read())
@@ -40,9 +49,9 @@ def word(text_file, room) -> Word:
         done = subprocess.run(["boogie", "-nologo", "-errorLimit:100000", f"-timeLimit:{SECONDS}", path], stdin=subprocess.DEVNULL,
                               stdout=subprocess.PIPE, stderr=subprocess.STDOUT, timeout=MOST_SECONDS)
     except OSError as fault:
-        return Word([], [], f"boogie cannot be run: {fault.strerror}")
+        return no_word(f"boogie cannot be run: {fault.strerror}")
     except subprocess.TimeoutExpired:
-        return Word([], [], f"Boogie did not end in {MOST_SECONDS} seconds")
+        return no_word(f"Boogie did not end in {MOST_SECONDS} seconds")
     return read(done.stdout.decode(errors="replace"), text)
 
 
@@ -51,10 +60,18 @@ def read(said, text):
     lines = said.splitlines()
     labels = list(dict.fromkeys([it for it in lines if LABEL.fullmatch(it)]))
     slow = [found[1] or procedure_at(it, text) for it, found in ((it, SLOW.fullmatch(it)) for it in lines) if found]
-    if not any([ENDED.fullmatch(it) for it in lines]):
+    ended = next((it for it in map(ENDED.fullmatch, lines) if it), None)
+    if ended is None:
         odd = [it for it in lines if "rror" in it or "Fatal" in it]
-        return Word(labels, slow, f"Boogie gives no verdict: {(odd or lines or ['it says nothing'])[-1]}")
-    return Word(labels, slow, "")
+        return Word(labels, slow, 0, f"Boogie gives no verdict: {(odd or lines or ['it says nothing'])[-1]}")
+    return Word(labels, slow, lost(text, int(ended[1]), labels, slow), "")
+
+
+def lost(text, verified, labels, slow):
+    """Of how many procedures Boogie tells neither that they are verified, nor an error, nor that its time did not suffice."""
+    parts = procedure_texts(text)
+    told = {name for name, part in parts if name in slow or any([f'"{it}"' in part for it in labels])}
+    return len(parts) - verified - len(told)
 
 
 def procedure_at(line, text):
@@ -68,8 +85,9 @@ def procedure_at(line, text):
 def differences(word_, results):
     """What Boogie says otherwise, in words: labels that only one of the two tells of."""
     told = {label.label for result in results for label in result.labels if label.confirmed}
-    undecided = any([it.verdict == "undecided" or it.why for it in results])
-    found = [f"Boogie tells of {it}, which is not told here" for it in word_.labels if it not in told]
-    if not word_.slow:
+    undecided = any([it.verdict == "undecided" or it.open for it in results])
+    found = [f"Boogie tells nothing of {word_.lost} of the procedures"] * (word_.lost > 0)
+    found += [f"Boogie tells of {it}, which is not told here" for it in word_.labels if it not in told]
+    if not word_.slow and not word_.lost:
         found += [f"Boogie does not tell of {it}, at which a run fails" for it in sorted(told - set(word_.labels))]
     return found + ["Boogie tells of no error where this finds no verdict"] * (undecided and not word_.labels and not word_.slow)

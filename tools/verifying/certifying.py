@@ -5,9 +5,6 @@ procedure, so that the units of a file do not take the square of its length."""
 import os
 from typing import NamedTuple, Optional
 
-from .certificates.goals import NoCertificate
-from .certificates.make import certificate
-
 NONE_MADE = "no certificate was found"
 LONG = 262_144  # bytes of a text that is not read once more for each of its units
 
@@ -18,15 +15,29 @@ class Certified(NamedTuple):
     why: str
 
 
-def certified(examiner, whole_text) -> Certified:
-    """Makes a certificate for the conditions of a unit, in the time that is left for it, and has the program check it against the
-    text of a file."""
+def certified(program, room, given, unit, conditions, end) -> Certified:
+    """Makes a certificate for the conditions of a unit, up to a time, and has the program check it."""
+    from .certificates.goals import NoCertificate       # what takes long to load, and is not needed where there is `prove`
+    from .certificates.make import certificate
     try:
-        made = certificate(examiner.text, examiner.search.end)
+        made = certificate(conditions, end)
     except NoCertificate:
         return Certified(None, NONE_MADE)
-    text = whole_text if os.path.getsize(whole_text) <= LONG else examiner.text_file
-    said = examiner.program.certify(text, examiner.procedure.name, examiner.file("unit.cert", made))
-    if said.status != 0:
-        return Certified(None, f"certify says {said.first()}")
-    return Certified(made, "")
+    return checked(program, room, given, unit, made)
+
+
+def checked(program, room, given, unit, certificate_text) -> Certified:
+    """A certificate, if the program accepts it for a unit of a file."""
+    text = given.text_file
+    if os.path.getsize(text) > LONG:
+        text = os.path.join(room, "unit.bpl")
+        write(text, given.prelude + unit.text)
+    file = os.path.join(room, "unit.cert")
+    write(file, certificate_text)
+    said = program.certify(text, unit.procedure, file)
+    return Certified(certificate_text, "") if said.status == 0 else Certified(None, f"certify says {said.first()}")
+
+
+def write(path, text):
+    with open(path, "w", encoding="utf-8") as it:
+        it.write(text)

@@ -2,18 +2,21 @@
 
 `examples/verdicts` has a line for each label of an example, `FILE LABEL`, or `FILE verified N`. What README.md and docs/verifying.md
 show behind a call is compared with what that call prints now, where z3 is the version that it was written with: runs are z3's."""
-import io
 import os
 import re
 import subprocess
 import tempfile
 
 from .command import Command
-from .program import TOP, Program, find
+from .program import TOP, Program
+from .report import Report
+from .units import VERIFIED
 
 SHOWN_BY = "4.8.12"
 SHOWN = re.compile(r"^```\n\$ (?:\./remduska verify|tools/verify) ([^\n]*)\n(.*?)^```", re.M | re.S)
 EXAMPLES = os.path.join(TOP, "examples")
+ERRORS = os.path.join(EXAMPLES, "errors")
+END = re.compile(r"examples/errors/(\S+\.vpr): .*\bunits?\b")      # the last line that is told of a file
 LABEL = re.compile(r"(\d+):(\d+) (\d+):(\d+) (\w+)")
 
 
@@ -44,8 +47,9 @@ def in_order(label):
 def verdict(results):
     """What is told of a file, in the words of examples/verdicts; a unit without a verdict is told as such."""
     odd = [f"undecided: {it.unit}: {it.why}" for it in results if it.why]
+    odd += [f"undecided: {label.label}: {label.why}" for it in results for label in it.open]
     odd += [f"not confirmed: {label.label}" for it in results for label in it.labels if not label.confirmed]
-    odd += [f"without a certificate: {it.unit}: {it.certified.why}" for it in results if it.certified and not it.is_checked()]
+    odd += [f"on z3's word: {it.unit}" for it in results if it.verdict == VERIFIED and not it.is_checked()]
     labels = {label.label for it in results for label in it.labels if label.confirmed}
     return odd + sorted(labels, key=in_order) or [f"verified {len(results)}"]
 
@@ -57,9 +61,8 @@ def not_confirmed(program, file, results, room):
         into.write(program.translate(file).out)
     for result in results:
         for label in result.labels:
-            shown = "".join([f"{line}\n" for line in label.shown])     # with its comments, as it is printed
-            calls = [(it, lambda: program.run(file, result.unit, run_file)) for it in (label.run, shown)]
-            for run, call in [*calls, (label.boogie_run, lambda: program.replay(text, run_file))]:
+            calls = ((label.run, lambda: program.run(file, result.unit, run_file)), (label.boogie_run, lambda: program.replay(text, run_file)))
+            for run, call in calls:
                 with open(run_file, "w", encoding="utf-8") as into:
                     into.write(run or "")
                 said = call()
@@ -77,18 +80,36 @@ def other_transcripts():
         with open(os.path.join(TOP, page), encoding="utf-8") as it:
             shown = SHOWN.findall(it.read())
         for words, text in shown:
-            done = subprocess.run(["tools/verify", *words.split()], cwd=TOP, stdin=subprocess.DEVNULL, stdout=subprocess.PIPE, stderr=subprocess.STDOUT)
+            done = subprocess.run(["tools/verify", *words.split()], cwd=TOP, stdin=subprocess.DEVNULL, stdout=subprocess.PIPE, stderr=subprocess.PIPE)
             if done.stdout.decode(errors="replace") != text:
                 yield f"{page}: tools/verify {words} prints something else than is shown"
+    yield from other_errors()
 
 
-def check(options):
+def other_errors():
+    """The files of examples/errors of which something else is told than the text beside each has. All are verified by one call."""
+    files = sorted([it for it in os.listdir(ERRORS) if it.endswith(".vpr")])
+    done = subprocess.run(["tools/verify", *[f"examples/errors/{it}" for it in files], "--jobs", "1"], cwd=TOP, stdin=subprocess.DEVNULL,
+                          stdout=subprocess.PIPE, stderr=subprocess.DEVNULL)
+    told, lines = {}, []
+    for line in done.stdout.decode(errors="replace").splitlines():
+        lines.append(line)
+        end = END.match(line)
+        if end:
+            told[end[1]], lines = "".join([f"{it}\n" for it in lines]), []
+    for file in files:
+        with open(os.path.join(ERRORS, f"{file[:-len('.vpr')]}.txt"), encoding="utf-8") as it:
+            if it.read() != told.get(file):
+                yield f"examples/errors/{file}: tools/verify prints something else than stands beside it"
+
+
+def check(options, programs):
     """Prints where the examples differ from what is expected, and returns the status."""
     wanted, files = expected(), examples()
-    command = Command([os.path.join(EXAMPLES, it) for it in files], options, io.StringIO())
+    command = Command([os.path.join(EXAMPLES, it) for it in files], options._replace(all=True, json=True), Report(options), programs)
     command.status()
     told = {os.path.relpath(path, EXAMPLES): results for path, results in command.results}
-    status, runs, program = 0, 0, Program(find())
+    status, runs, program = 0, 0, Program(programs)
     with tempfile.TemporaryDirectory(prefix="verify-") as room:
         for file in sorted({*files, *wanted}):
             results = told.get(file)

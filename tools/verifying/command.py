@@ -1,91 +1,60 @@
-"""The command: its words, the order of what is printed, and the status."""
-import argparse
+"""The command: what is done with its files, in which order, and the status."""
 import os
 import shutil
+import signal
 import sys
 import tempfile
-from typing import NamedTuple, Optional
+import time
 
-from . import boogie_word, work
-from .boogie_text import NotAsWritten
+from . import boogie_word, cache, work, words
+from .certifying import Certified
 from .files import bytes_of, shown_path, source_of
-from .program import NoProgram, find
-from .report import Report
-from .results import undecided
+from .gathered import beside
+from .processes import Job, Pool
+from .program import NoProgram, find, has_prove
+from .report import NO_CALL, Lines
+from .report_json import Json
+from .results import CERTIFY, unknown
+from .turns import Turns, UnitAtWork
+from .units import VERIFIED
 
 AHEAD = 4       # so many files for each process are translated before they are looked at
-MOST_SECONDS = 1_000_000
-MOST_JOBS = 512     # all processes are started at once
-SMALL = 120_000 # the units of a single file whose text has fewer characters are looked at one after the other
-
-
-class Options(NamedTuple):
-    """What the words of a call ask for."""
-    seconds: float
-    jobs: int
-    json: bool
-    keep: Optional[str]
-    runs: bool
-    certificates: bool
-    smoke: bool
-    boogie: bool
-    unit: Optional[str]
+SMOKE = 1.0     # seconds for spots that no run reaches, where nobody asked for them
+LONG = 1.0      # seconds for certificates, before what is known is told without them
+TICK = 0.25     # seconds after which it is looked what may be told
 
 
 class NoTool(Exception):
     """A tool that is needed is missing."""
 
 
-class Words(argparse.ArgumentParser):
-    """Words that are no call end with status 2 and one line."""
-
-    def error(self, message):
-        print(f"verify: {message}; tools/verify --help tells more", file=sys.stderr)
-        sys.exit(2)
-
-
-def positive(kind, most):
-    def read(word):
-        value = kind(word)
-        if not 0 < value <= most:
-            raise ValueError
-        return value
-    read.__name__ = "number"
-    return read
-
-
-def parser():
-    found = Words(add_help=False, allow_abbrev=False)
-    for name in ("help", "json", "no-runs", "no-certificates", "smoke", "boogie", "check", "formula", "print"):
-        found.add_argument(f"--{name}", action="store_true")
-    found.add_argument("--unit")
-    found.add_argument("--keep")
-    found.add_argument("--seconds", type=positive(float, MOST_SECONDS), default=20.0)
-    found.add_argument("--jobs", type=positive(int, MOST_JOBS), default=work.cores())
-    found.add_argument("files", nargs="*")
-    return found
-
-
-def main(words, page):
+def main(given_words, page):
     """Does what the words say, and returns the status."""
     if sys.stdout is None:
         print("verify: the standard output is closed", file=sys.stderr)
-        return 2
+        return NO_CALL
     for stream in (sys.stdout, sys.stderr):
         if hasattr(stream, "reconfigure"):      # what cannot be spelled in the reader's encoding is told all the same
             stream.reconfigure(errors="backslashreplace")
+    for it in (signal.SIGTERM, signal.SIGHUP):
+        signal.signal(it, stopped)
     try:
-        status = status_of(words, page)
+        status = status_of(given_words, page)
         sys.stdout.flush()
         return status
     except (NoTool, NoProgram) as why:
         print(f"verify: {why}", file=sys.stderr)
-        return 2
+        return NO_CALL
     except KeyboardInterrupt:
         print("verify: interrupted", file=sys.stderr, flush=True)
-        os._exit(130)   # no thread is waited for
+        os._exit(130)
     except OSError as fault:
         return no_output(fault)
+
+
+def stopped(number, _):
+    """Ends the call where somebody stops it, with all that it has begun."""
+    raise SystemExit(128 + number)
 
 
 def no_output(fault):
@@ -97,31 +66,52 @@ def no_output(fault):
     if not isinstance(fault, BrokenPipeError):
         place = f"{fault.filename}: " if fault.filename else ""
         print(f"verify: {place}{fault.strerror}", file=sys.stderr)
-    return 2
+    return NO_CALL
 
 
-def status_of(words, page):
+def status_of(given_words, page):
     """Does what the words say. What cannot be read or written, and a tool that is missing, is raised."""
-    args = parser().parse_args(words)
+    args = words.parser().parse_args(given_words)
     if args.help:
         print(page)
         return 0
     if not args.files and not args.check:
         print(f"verify: a file is missing; {page.splitlines()[0]}", file=sys.stderr)
-        return 2
-    options = Options(args.seconds, args.jobs, args.json, args.keep, not args.no_runs, not args.no_certificates, args.smoke, args.boogie, args.unit)
+        return NO_CALL
     if args.formula:
         from .formula import tell
         return tell(args.files, args.seconds, args.print)
-    need("z3")
+    options = with_tools(words.options_of(args))
     if args.check:
         from .checking import check
-        return check(options)
-    if args.boogie:
+        return check(options._replace(cache=False), programs_for([], options))
+    if options.ship is not None and (len(args.files) != 1 or not has_prove()):
+        raise NoTool("--certificates takes one file of Viper" if has_prove() else "there is no program `prove` to write certificates")
+    if options.watch:
+        from .language_server.watch import watch
+        return watch(args.files, options)
+    if options.keep:
+        os.makedirs(options.keep, exist_ok=True)
+    paths = programs_for(args.files, options)
+    report = Json(options, sys.stdout, paths) if options.json else Lines(options, sys.stdout)
+    return Command(args.files, options, beside(report, options), paths).status()
+
+
+def with_tools(options):
+    """Options that say whether z3 is asked: where it is wanted it has to be there, and where nothing else finds runs."""
+    if options.z3 or not (options.certificates and has_prove()):
+        need("z3")
+    if options.boogie:
         need("boogie")
-    if args.keep:
-        os.makedirs(args.keep, exist_ok=True)
-    return Command(args.files, options, sys.stdout).status()
+    return options._replace(z3=shutil.which("z3") is not None)
+
+
+def programs_for(paths, options):
+    """The files of the programs that are needed for some files."""
+    has_boogie = any([it.endswith(".bpl") for it in paths])
+    if options.certificates and has_prove():
+        return find("prove", *["conditions", "certify"] * has_boogie)
+    return find("conditions", *["certify"] * options.certificates)
 
 
 def need(tool):
@@ -146,112 +136,211 @@ class Progress:
 
 
 class File:
-    """A file at work: what is known of it, and what is still to come."""
+    """A file at work: what is known of it, and what is still to come. `tasks` counts the jobs of it that are not done."""
 
     def __init__(self, path, room):
         self.path, self.room, self.data, self.given, self.fault = path, room, None, None, None
-        self.prepared, self.units, self.results, self.word = None, [], [], None
+        self.units, self.turns, self.word, self.tasks, self.is_asked, self.is_begun, self.spots = [], None, None, 0, False, False, []
+
+    def results(self):
+        return [it.result for it in self.units]
 
 
 class Command:
-    """Goes through files: each is prepared ahead, its units are looked at side by side, and all is told in order."""
+    """Goes through files: each is prepared ahead, its units are looked at side by side, and all is told to a report in the order of the
+    files. `results` has what is told of each file."""
 
-    def __init__(self, paths, options, out):
-        self.options, self.report, self.progress = options, Report(options, out), Progress()
-        self.out = out
+    def __init__(self, paths, options, report, programs):
+        self.options, self.report, self.programs, self.progress = options, report, programs, Progress()
+        self.cache = cache.opened(programs) if options.cache else cache.Cache()
         self.files = [File(path, None) for path in paths]
-        self.results = []   # the results of each file, as `check` wants them
+        self.results = []
 
     def status(self):
         with tempfile.TemporaryDirectory(prefix="verify-") as room:
             for n, file in enumerate(self.files):
                 file.room = os.path.join(room, str(n))
-            self.program, self.pool = find("conditions", *["certify"] * self.options.certificates), None
-            self.room, alone = room, work.Alone(self.program, room)
-            jobs = self.options.jobs if len(self.files) > 1 else 1
+            self.pool = Pool(lambda: work.begin(self.programs, room, self.cache), self.options.jobs)
             try:
-                self.pool = work.SideBySide(self.program, room, jobs) if jobs > 1 else alone
-                self.go(jobs)
+                for n, file in enumerate(self.files):
+                    self.go(n, file)
+                self.report.end()
             finally:
                 self.progress.clear()
                 self.pool.end()
-                alone.end()
         return self.report.status
 
-    def go(self, jobs):
-        for n, file in enumerate(self.files):
-            self.start(n, jobs)
-            self.tell(file)
-            self.out.flush()
-            shutil.rmtree(file.room, ignore_errors=True)
-            file.data = None
+    def go(self, n, file):
+        """Tells all of a file, and has those behind it begun meanwhile."""
+        jobs = self.options.jobs
+        for it in self.files[n:n + 1 + AHEAD * jobs * (jobs > 1)]:
+            self.read(it)
+        if file.fault is None:
+            self.wait_for(file, lambda: file.given is not None or file.fault is not None, "translating")
+        if file.fault is not None:
+            self.report.missing(file.path, file.fault)
+        elif file.given.refused:
+            self.report.refused(file.given, source_of(file.path, file.data))
+        else:
+            self.look(n, file)
+        sys.stdout.flush()
+        shutil.rmtree(file.room, ignore_errors=True)
+        file.data = None
 
-    def start(self, n, jobs):
-        """Has the files ahead prepared, and the units of those that are looked at."""
-        for file in self.files[n:n + 1 + AHEAD * jobs * (jobs > 1)]:
-            if file.data is None and file.fault is None:
-                self.read(file)
-        for file in self.files[n:n + 1 + jobs * (jobs > 1)]:
-            if file.prepared and file.given is None and (file is self.files[n] or file.prepared.done()):
-                self.begin(file)
+    def wait_for(self, file, is_done, what, late=None):
+        """Works until something is done, and tells what is found of a file meanwhile. `late` is called once where it takes long."""
+        end = time.monotonic() + LONG
+        while not is_done():
+            if late is not None and time.monotonic() > end:
+                late()
+                late = None
+            self.progress.tell(f"{shown_path(file.path)}: {what}")
+            self.pool.step(TICK)
+            self.progress.clear()
+            if file.turns is not None:
+                file.turns.tell()
+                sys.stdout.flush()
 
     def read(self, file):
+        """Reads a file and has it prepared, once."""
+        if file.is_asked:
+            return
+        file.is_asked = True
         try:
             file.data = bytes_of(file.path)
         except OSError as fault:
             file.fault = f"the file cannot be read: {fault.strerror}"
             return
         os.mkdir(file.room)
-        file.prepared = self.pool.submit(work.prepared, file.path, file.data, file.room)
+
+        def done(given):
+            file.given = given
+
+        def failed(why):
+            file.fault = f"the file cannot be looked at: {why}"
+
+        wants_text = self.options.keep is not None or self.options.boogie
+        self.pool.submit(Job(work.prepared, (file.path, file.data, file.room, wants_text), done, failed))
+
+    def look(self, n, file):
+        """Has the units of a file looked at, and of those behind it, and tells of them."""
+        jobs = self.options.jobs
+        for it in self.files[n:n + 1 + jobs * (jobs > 1)]:
+            self.begin(it)
+        if file.fault is not None:
+            self.report.missing(file.path, file.fault)
+            return
+        self.wait_for(file, lambda: file.tasks == 0, "looking for runs that fail")
+        file.turns.tell()
+        self.ask_for_certificates(file)
+        self.ask_for_all_certificates(file)
+        self.ask_for_spots(file)
+        self.wait_for(file, lambda: file.tasks == 0, "looking for certificates", lambda: self.report.waits(file.given, file.results()))
+        for it in file.units:
+            if it.result.verdict == VERIFIED:
+                self.report.certified(file.given, it.unit, it.result)
+            spots = [spot for spot in file.spots if spot.unit == it.unit.name]
+            if spots:
+                self.report.unreached(file.given, it.unit, spots)
+        self.report.file(file.given, file.results())
+        self.results.append((file.path, file.results()))
+        if file.word is not None:
+            self.report.boogie(file.given, file.word, file.results())
 
     def begin(self, file):
         """Has the units of a file looked at, once it is prepared."""
-        self.progress.tell(f"{shown_path(file.path)}: translating")
-        try:
-            file.given = file.prepared.result()
-        except (work.Ended, NotAsWritten) as why:
-            file.fault = f"the file cannot be looked at: {why}"
+        if file.is_begun or file.given is None or file.given.refused:
             return
-        wanted = [it for it in file.given.units if self.options.unit in (None, it.name)]
-        if not file.given.refused and not wanted and self.options.unit is not None:
-            file.fault = f"there is no unit `{self.options.unit}` with a procedure of its own"
-        pool = self.pool_for(wanted)
-        file.units = [(it, pool.submit(work.examined, file.given, it, self.options)) for it in wanted]
-        if self.options.boogie and not file.given.refused:
-            file.word = pool.submit(boogie_word.word, file.given.text_file, file.room)
-
-    def pool_for(self, units):
-        """Where units are looked at: side by side, if there is much to do."""
-        if isinstance(self.pool, work.Alone) and min(self.options.jobs, len(units)) > 1 and sum([len(it.text) for it in units]) > SMALL:
-            self.pool = work.SideBySide(self.program, self.room, min(self.options.jobs, len(units)))
-        return self.pool
-
-    def tell(self, file):
-        """Tells of a file, each unit as soon as something is known of it."""
-        if file.fault or file.given is None:
-            self.progress.clear()
-            self.report.missing(file.path, file.fault)
+        file.is_begun = True
+        file.units = [UnitAtWork(it) for it in file.given.units if self.options.wants(it.name)]
+        if not file.units and self.options.units:
+            file.fault = f"there is no unit `{', '.join(self.options.units)}` with a procedure of its own"
             return
-        if file.given.refused:
-            self.progress.clear()
-            self.report.refused(file.given, source_of(file.path, file.data))
-            return
-        for n, (unit, future) in enumerate(file.units):
-            self.progress.tell(f"{shown_path(file.path)}: {unit.name} ({n + 1} of {len(file.units)})")
-            result = self.result(unit, future)
-            file.results.append(result)
-            self.progress.clear()
-            self.report.unit(file.given, unit, result)
-        self.report.file(file.given, file.results)
-        self.results.append((file.path, file.results))
-        if file.word:
-            self.progress.tell(f"{shown_path(file.path)}: Boogie")
-            word = file.word.result()
-            self.progress.clear()
-            self.report.boogie(file.given, word, file.results)
+        all_labels = self.options.all or self.options.json
+        file.turns = Turns(self.report, file.given, file.units, all_labels, 0 if self.options.json else self.options.errors)
+        for it in file.units:
+            if it.unit.is_proved:
+                it.result = work.proved(it.unit)
+            else:
+                self.examine(file, it)
+        if self.options.boogie:
+            self.ask_boogie(file)
 
-    def result(self, unit, future):
-        try:
-            return future.result()
-        except work.Ended as why:
-            return undecided(unit.name, str(why))
+    def submit(self, file, function, values, done, failed, tell=None):
+        """Has something done for a file."""
+        def ended(then):
+            def call(value):
+                file.tasks -= 1
+                then(value)
+            return call
+
+        file.tasks += 1
+        self.pool.submit(Job(function, values, ended(done), ended(failed), tell))
+
+    def examine(self, file, it):
+        def done(found):
+            it.result, it.conditions = found
+
+        def failed(why):
+            it.result = unknown(it.unit.name, why)
+
+        self.submit(file, work.examined, (file.given._replace(units=[]), it.unit, self.options), done, failed, it.add)
+
+    def ask_for_certificates(self, file):
+        """Has certificates searched for, in the time that is left of each unit's."""
+        if not self.options.certificates or file.given.is_searched:
+            return
+        for it in file.units:
+            if it.result.verdict == VERIFIED and it.result.certified is None:
+                self.certify(file, it)
+
+    def certify(self, file, it):
+        def done(found):
+            programs = [CERTIFY] if found.certificate is not None else it.result.told_by
+            it.result = it.result._replace(certified=found, told_by=programs)
+
+        def failed(why):
+            it.result = it.result._replace(certified=Certified(None, why))
+
+        left = max(0.0, self.options.seconds - it.result.seconds)
+        self.submit(file, work.with_certificate, (file.given._replace(units=[]), it.unit, it.conditions, left), done, failed)
+
+    def ask_for_all_certificates(self, file):
+        """Has the certificates of a file written that are to be shipped or kept with it."""
+        paths = [self.options.ship] * (self.options.ship is not None)
+        if self.report.keeper is not None:
+            paths.append(self.report.keeper.path_of_certificates(file.given))
+        if not paths or not file.given.is_searched:
+            return
+
+        def done(text):
+            for it in paths:
+                with open(it, "w", encoding="utf-8") as into:
+                    into.write(text)
+
+        def failed(why):
+            raise NoTool(why)
+
+        self.submit(file, work.all_certificates, (file.given.copy,), done, failed)
+
+    def ask_for_spots(self, file):
+        """Has spots of verified units looked for that no run reaches: where it is wanted, or where it is not said and takes little time."""
+        names = [it.unit.name for it in file.units if it.result.verdict == VERIFIED]
+        is_wanted = file.given.is_searched if self.options.smoke is None else self.options.smoke
+        if not names or file.given.is_boogie or not is_wanted:
+            return
+
+        def done(spots):
+            file.spots = spots
+
+        seconds = self.options.seconds if self.options.smoke else SMOKE
+        self.submit(file, work.smoke, (file.given._replace(units=[]), names, seconds), done, lambda why: None)
+
+    def ask_boogie(self, file):
+        def done(word):
+            file.word = word
+
+        def failed(why):
+            file.word = boogie_word.no_word(why)
+
+        self.submit(file, boogie_word.word, (file.given.text_file, file.room), done, failed)

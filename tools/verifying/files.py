@@ -1,9 +1,11 @@
 """A file as it was given: its bytes, what the program makes of it, and its units."""
 import errno
+import functools
 import os
 import re
 import stat
 import sys
+import time
 from typing import List, NamedTuple, Optional
 
 from . import refusals
@@ -16,26 +18,34 @@ LARGEST = 1_048_576     # the program refuses a Viper file with more bytes, of w
 
 
 class Unit(NamedTuple):
-    """A unit of a file: the name of its procedure, its own name, its place, and the text of the procedure."""
+    """A unit of a file: the name of its procedure, its own name, its place, and the text of the procedure. `conditions` is the text of
+    its conditions, where that is known by now; `is_proved` tells whether the program `prove` shows that no run of it fails, and
+    `first_open` is the first label that it does not show, or nothing."""
     procedure: str
     name: str
     line: int
     column: int
-    text: str
+    text: str = ""
+    conditions: Optional[str] = None
+    is_proved: bool = False
+    first_open: str = ""
 
 
 class Given(NamedTuple):
     """A file: `path` is what it was called, `copy` the file in `room` that has its bytes, `text_file` that of the Boogie program,
-    which begins with `prelude`."""
+    which begins with `prelude`; there is none where nothing of it is asked for. `is_searched` tells whether `prove` was asked, and
+    `seconds` how long it took."""
     path: str
     copy: str
-    text_file: str
+    text_file: Optional[str]
     prelude: str
     is_boogie: bool
+    is_searched: bool
     bare: frozenset
     units: List[Unit]
     refused: Optional[Told]
     reason: str
+    seconds: float = 0.0
 
 
 def bytes_of(path):
@@ -60,31 +70,55 @@ def shown_path(path):
     return re.sub(r"[\x00-\x1f\x7f-\x9f]", lambda it: f"\\x{ord(it[0]):02x}", name_of(path))
 
 
-def given(path, data, program, room) -> Given:
-    """Has the program translate a file, or cut it where its name says that it is one of Boogie."""
+def given(path, data, program, room, wants_text) -> Given:
+    """Has the program prove a file and, where something is left open or the text is wanted, translate it; or cut it, where its name
+    says that it is one of Boogie."""
     is_boogie = path.endswith(".bpl")
-    copy, text_file = os.path.join(room, "given.bpl" if is_boogie else "given.vpr"), os.path.join(room, "text.bpl")
+    copy, source = os.path.join(room, "given.bpl" if is_boogie else "given.vpr"), source_of(path, data)
     with open(copy, "wb") as it:
         it.write(data)
-    said = program.cut(copy) if is_boogie else program.translate(copy)
-    source = source_of(path, data)
+    is_searched = not is_boogie and program.can_prove()
+    if not is_searched:
+        return translated(Given(path, copy, None, "", is_boogie, False, frozenset(), [], None, ""), source, data, program, {})
+    start = time.monotonic()
+    answers = program.prove(copy)
+    found = Given(path, copy, None, "", False, True, frozenset(), [], None, "", time.monotonic() - start)
+    if answers.refusal:
+        return found._replace(refused=refusals.told(source, answers.refusal), reason=answers.refusal)
+    if wants_text or answers.open:
+        return translated(found, source, data, program, answers.open)
+    return found._replace(units=[proved_unit(source, it) for it in answers.proved])
+
+
+def translated(found, source, data, program, open_) -> Given:
+    """A file with what the program makes of it. `open_` has the first label of each unit that is not proved, where `prove` was asked."""
+    said = program.cut(found.copy) if found.is_boogie else program.translate(found.copy)
     if said.status != 0:
         lines = said.error.strip().splitlines()
         reason = lines[-1] if lines else f"the program ended with status {said.status}"
-        told = boogie_refusal(reason) if is_boogie else refusals.told(source, reason)
-        return Given(path, copy, text_file, "", is_boogie, frozenset(), [], told, reason)
+        return found._replace(refused=boogie_refusal(reason) if found.is_boogie else refusals.told(source, reason), reason=reason)
     if not said.out.startswith("type Ref;\n"):
         raise NotAsWritten("what the program writes is no program of Boogie")
+    text_file = os.path.join(os.path.dirname(found.copy), "text.bpl")
     with open(text_file, "w", encoding="utf-8") as it:
         it.write(said.out)
     bare = frozenset(it.name for it in source.units if it.kind == "predicate" and not it.parameters())
-    units = [unit(source, is_boogie, data, *it) for it in procedure_texts(said.out)]
+    units = [unit(source, found.is_boogie, data, *it) for it in procedure_texts(said.out)]
     prelude = said.out[:said.out.index("\nprocedure ") + 1] if units else said.out
-    return Given(path, copy, text_file, prelude, is_boogie, bare, units, None, "")
+    if found.is_searched:
+        units = with_answers(units, open_, program.all_conditions(found.copy) if open_ else {})
+    return found._replace(text_file=text_file, prelude=prelude, bare=bare, units=units)
 
 
+def with_answers(units, open_, conditions):
+    """Units with what `prove` says of each, and the conditions of those that are open."""
+    return [it._replace(conditions=conditions.get(it.procedure), first_open=open_[it.name]) if it.name in open_
+            else it._replace(is_proved=True, text="") for it in units]
+
+
+@functools.lru_cache(maxsize=2)
 def source_of(path, data):
-    """A file as its tokens. One that is refused for its size has none: nothing of it is told but that."""
+    """A file as its tokens, which a process makes once. One that is refused for its size has none: nothing of it is told but that."""
     return Source(shown_path(path), data if path.endswith(".bpl") or len(data) <= LARGEST else b"")
 
 
@@ -92,9 +126,20 @@ def unit(source, is_boogie, data, procedure, text):
     """A procedure as the unit that it is written for."""
     if is_boogie:
         return Unit(procedure, procedure, *place_of_procedure(data, procedure), text)
-    found = source.declared.get(procedure[2:])
-    line, column = source.place(found.name_at) if found else (1, 1)
-    return Unit(procedure, procedure[2:], line, column, text)
+    return Unit(procedure, procedure[2:], *place_of_unit(source, procedure[2:]), text)
+
+
+def proved_unit(source, name):
+    """A unit of which no more is asked than its place."""
+    found = source.declared.get(name)
+    letter = "P" if found is not None and found.kind == "predicate" else "M"
+    return Unit(f"{letter}${name}", name, *place_of_unit(source, name), is_proved=True)
+
+
+def place_of_unit(source, name):
+    """The line and the column of the name of a unit."""
+    found = source.declared.get(name)
+    return source.place(found.name_at) if found else (1, 1)
 
 
 def place_of_procedure(data, name):

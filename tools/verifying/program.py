@@ -1,53 +1,105 @@
 """Calls of the programs: which file is started, and what it says."""
 import os
 import subprocess
-from typing import NamedTuple, Optional
+import sys
+from typing import Dict, List, NamedTuple, Optional
+
+from .boogie_text import NotAsWritten
 
 TOP = os.path.dirname(os.path.dirname(os.path.dirname(os.path.realpath(__file__))))
+PART_OF = {"run": "remduska", "replay": "remduska"}
+UNPROVED = "-unproved"      # so end the names of programs that are compiled and not proved
+DONE, REFUSED, OPEN = 0, 1, 10
 
 
-VARIABLES = {"remduska": "REMDUSKA", "conditions": "REMDUSKA_CONDITIONS", "certify": "REMDUSKA_CERTIFY"}
+def variables():
+    """The variable of the environment that names another file for a program, by the name of the program."""
+    with open(f"{TOP}/tools/programs.txt", encoding="utf-8") as it:
+        return dict(line.split() for line in it if line.strip() and not line.startswith("#"))
+
+
+VARIABLES = variables()
 
 
 class NoProgram(Exception):
     """A program cannot be started."""
 
 
+class TooLate(Exception):
+    """A call did not end in the time that it had."""
+
+
 class Paths(NamedTuple):
-    """The files of the programs: those that are not asked are None."""
+    """The files of the programs: those that are not asked, or that this repository has not, are None."""
     remduska: str
     conditions: Optional[str] = None
     certify: Optional[str] = None
+    prove: Optional[str] = None
 
 
 def find(*programs) -> Paths:
-    """The files of remduska and of these programs. What has to be compiled is so side by side."""
-    names = ("remduska", *programs)
-    calls = [named_or_told(it) for it in names]
-    return Paths(**{name: path_of(it) for name, it in zip(names, calls)})
+    """The files of remduska and of these programs: those that variables of the environment name, those of an installed copy, or those
+    that `tools/program` tells. Which ones are not proved is told in one line."""
+    names = list(dict.fromkeys(("remduska", *programs)))
+    found = {name: named(name) or installed(name) for name in names}
+    asked = [name for name in names if not found[name]]
+    paths = Paths(**{**found, **dict(zip(asked, told(asked)))})
+    unproved = [it for it in names if is_proved(paths, it) is False]
+    if unproved:
+        which = " and ".join([", ".join(unproved[:-1]), unproved[-1]] if len(unproved) > 1 else unproved)
+        print(f"remduska: {which} {'are' if len(unproved) > 1 else 'is'} compiled and not proved", file=sys.stderr)
+    return paths
 
 
-def named_or_told(program):
-    """The file of a program that a variable of the environment names, or a call of `tools/program` that tells it."""
-    named = os.environ.get(VARIABLES[program])
-    if not named:
-        try:
-            return subprocess.Popen([f"{TOP}/tools/program", program], stdin=subprocess.DEVNULL, stdout=subprocess.PIPE, universal_newlines=True)
-        except OSError as fault:
-            raise NoProgram(f"tools/program cannot be run: {fault.strerror}") from None
-    if not os.access(named, os.X_OK) or os.path.isdir(named):
-        raise NoProgram(f"{VARIABLES[program]} names {named}, which is no program")
-    return os.path.abspath(named)
+def has_prove():
+    """Whether there is a program that proves files."""
+    return bool(named("prove") or installed("prove")) or os.path.exists(f"{TOP}/crates/prove/src/main.rt")
 
 
-def path_of(call):
-    """The file that is known, or that a call tells."""
-    if isinstance(call, str):
-        return call
-    path = call.communicate()[0].strip()
-    if call.returncode != 0 or not path:
+def named(program):
+    """The file of a program that a variable of the environment names, or nothing."""
+    file = os.environ.get(VARIABLES[program])
+    if file and (not os.access(file, os.X_OK) or os.path.isdir(file)):
+        raise NoProgram(f"{VARIABLES[program]} names {file}, which is no program")
+    return file and os.path.abspath(file)
+
+
+def installed(program):
+    """The file of a program in an installed copy, or nothing in a checkout."""
+    file = f"{TOP}/programs/{program}"
+    return file if os.path.exists(file) else None
+
+
+def told(programs):
+    """The files of these programs of a checkout. What has to be compiled is so side by side."""
+    if not programs:
+        return []
+    try:
+        done = subprocess.run([f"{TOP}/tools/program", *programs], stdin=subprocess.DEVNULL, stdout=subprocess.PIPE,
+                              universal_newlines=True, env={**os.environ, "REMDUSKA_QUIET": "1"})
+    except OSError as fault:
+        raise NoProgram(f"tools/program cannot be run: {fault.strerror}") from None
+    found = done.stdout.splitlines()
+    if done.returncode != 0 or len(found) != len(programs):
         raise NoProgram("there is no program to ask; ./remduska --build makes it")
-    return path
+    return found
+
+
+def is_proved(paths, name):
+    """Whether a program is one that was proved. None where nobody knows, as of a file that a variable of the environment names."""
+    program = PART_OF.get(name, name)
+    if program not in VARIABLES:
+        return False
+    path = getattr(paths, program)
+    if path is None or os.environ.get(VARIABLES[program]):
+        return None
+    return says_proved() if path == installed(program) else not path.endswith(UNPROVED)
+
+
+def says_proved():
+    """Whether the programs of an installed copy were proved, as its MANIFEST says."""
+    with open(f"{TOP}/MANIFEST", encoding="utf-8") as it:
+        return "# programs proved\n" in it
 
 
 class Said:
@@ -64,13 +116,23 @@ class Said:
         return lines[0] if lines else f"nothing, with status {self.status}"
 
 
-def says(path, *words) -> Said:
-    """What a call of the program at a path says."""
+def says(path, *words, seconds=None) -> Said:
+    """What a call of the program at a path says, or TooLate where it takes longer than it may."""
     try:
-        done = subprocess.run([path, *words], stdin=subprocess.DEVNULL, stdout=subprocess.PIPE, stderr=subprocess.PIPE)
+        done = subprocess.run([path, *words], stdin=subprocess.DEVNULL, stdout=subprocess.PIPE, stderr=subprocess.PIPE, timeout=seconds)
+    except subprocess.TimeoutExpired:
+        raise TooLate(f"{path} took longer than {seconds} s") from None
     except OSError as fault:
         raise NoProgram(f"{path} cannot be run: {fault.strerror}") from None
     return Said(done.returncode, done.stdout.decode(errors="replace"), done.stderr.decode(errors="replace"))
+
+
+class Answers(NamedTuple):
+    """What `prove` says of a file: the units that are proved, in order; of each other one the first label that is not shown, or nothing
+    where the budget was spent; or the line with which the file is refused."""
+    proved: List[str]
+    open: Dict[str, str]
+    refusal: str
 
 
 class Program:
@@ -78,6 +140,9 @@ class Program:
 
     def __init__(self, paths: Paths):
         self.paths = paths
+
+    def can_prove(self):
+        return self.paths.prove is not None
 
     def says(self, *words) -> Said:
         """What a call of remduska says."""
@@ -106,3 +171,41 @@ class Program:
     def certify(self, text, procedure, certificate) -> Said:
         """Whether a certificate shows that no run of a procedure of Boogie fails."""
         return says(self.paths.certify, text, procedure, certificate)
+
+    def prove(self, file, seconds=None) -> Answers:
+        """Of which units of a Viper file no run fails, or TooLate where the call takes longer than it may."""
+        return answers_of(says(self.paths.prove, "prove", file, seconds=seconds))
+
+    def certificates(self, file) -> str:
+        """The certificates of the units of a Viper file, one behind the other."""
+        said = says(self.paths.prove, "certificates", file)
+        if said.status not in (DONE, OPEN):
+            raise NotAsWritten(f"certificates says {said.first()}")
+        return said.out
+
+    def all_conditions(self, file) -> Dict[str, str]:
+        """The texts of the conditions of all units of a Viper file, by the names of their procedures."""
+        said = says(self.paths.prove, "conditions", file)
+        if said.status != DONE:
+            raise NotAsWritten(f"conditions says {said.first()}")
+        parts = said.out.split("\nconditions ") if said.out else []
+        texts = [parts[0], *[f"conditions {it}" for it in parts[1:]]] if parts else []
+        return {it.partition("\n")[0].split()[1]: it.rstrip("\n") + "\n" for it in texts}
+
+
+def answers_of(said) -> Answers:
+    """What lines of `prove` tell."""
+    if said.status == REFUSED:
+        return Answers([], {}, (said.error.strip().splitlines() or ["error: nothing is told"])[-1])
+    if said.status not in (DONE, OPEN):
+        raise NotAsWritten(f"prove ended with status {said.status}")
+    proved, open_ = [], {}
+    for line in said.out.splitlines():
+        word, name, *rest = line.split()
+        if word == "proved":
+            proved.append(name)
+        elif word == "open":
+            open_[name] = " ".join(rest) if len(rest) == 3 and rest[0] != "certificate" else ""
+        else:
+            raise NotAsWritten(f"prove says {line}")
+    return Answers(proved, open_, "")

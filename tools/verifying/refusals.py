@@ -3,6 +3,8 @@ import re
 
 from . import subset
 from .failures import Told
+from .source import WORDS
+from .spelling import did_you_mean, meant
 from .terms import statement_around
 from .types import type_words
 
@@ -42,6 +44,9 @@ RULES = {       # what docs/typing.md says that breaks each, and what is told of
     15: ("a block that is deeper than 128", "blocks are more than 128 deep here"),
     16: ("`unfolding` in the body of a predicate", "`unfolding` may not stand in the body of a predicate"),
 }
+FIRST = "this is the first error of types; what is wrong behind it is told once it is mended"
+TYPE_WORDS = ("Int", "Bool", "Ref", "Perm")
+LITERALS = ("true", "false", "null", "write", "none")
 LINE = re.compile(r"error: ([a-z-]+)(?: ([0-9]{1,18}):([0-9]{1,18}))?(?: rule ([0-9]{1,6}))?(?: [0-9]+)?")
 ROLES = {"field": "a field", "predicate": "a predicate", "method": "a method"}
 
@@ -70,6 +75,11 @@ def told(source, said):
     return Told(line, column, message, notes)
 
 
+def is_of_types(reason):
+    """Whether a line refuses a file for its types: of several such errors it tells the first."""
+    return reason.startswith("error: type ")
+
+
 def syntax_words(source, n):
     """Why a token cannot stand where it does, or what is open where the file ends."""
     if n is None:
@@ -81,7 +91,22 @@ def syntax_words(source, n):
     if found:
         return subset.outside(found), []
     more = subset.hint(source, n)
-    return f"`{source.said(n)}` cannot stand here" + (f"; {more}" if more else ""), []
+    return f"`{source.said(n)}` cannot stand here{misspelt_word(source, n) or (f'; {more}' if more else '')}", []
+
+
+def misspelt_word(source, n):
+    """Which word of the language was meant by a name that stands where a file is refused, or before that; or nothing."""
+    if source.tokens[n].kind == "name":
+        found = did_you_mean(source.said(n), TYPE_WORDS if source.said(n - 1) == ":" else WORDS)
+        if found:
+            return found
+    before = n - 1
+    if source.said(before) == ")":
+        before = next((k for k, closes in source.closing.items() if closes == before), 0) - 1
+    if before < 0 or source.tokens[before].kind != "name" or source.said(before - 1) in (".", ":", ",", "method", "predicate", "field", "var"):
+        return ""
+    found = meant(source.said(before), WORDS)
+    return f" behind `{source.said(before)}`; did you mean `{found}`?" if found else ""
 
 
 def rule_words(source, n, rule):
@@ -145,15 +170,23 @@ def unknown_words(source, n, name):
         unit = source.unit_at(n)
         if not kind and unit is not None and any(it.name == name for it in unit.variables):
             return f"variable {name} is not visible here", []
+        words += did_you_mean(name, [*variables_at(source, n), *LITERALS]) if not kind else ""
     else:
         words = f"no {role} {name} is declared"
+        words += did_you_mean(name, [it.name for it in source.units if it.kind == role]) if not kind else ""
     if kind:
         what = {"field": "a field is read of a Ref, as in x." + name, "method": "a call stands alone, or as a whole right side"}
         more = what.get(known.kind, "") if role != known.kind else ""
         return f"{words}; {name} is {kind}" + (f", and {more}" if more else ""), [(*source.place(known.name_at), "declared here")]
-    if role == "predicate":
+    if role == "predicate" and not words.endswith("?"):
         words += f"; functions are not in the language ({subset.PAGE})"
     return words, []
+
+
+def variables_at(source, n):
+    """The names of the variables that are visible at a token."""
+    unit = source.unit_at(n)
+    return [unit.variables[k].name for k in source.visible(unit, n)] if unit is not None else []
 
 
 def called_words(source, name):
@@ -161,6 +194,9 @@ def called_words(source, name):
     unit = source.declared.get(name)
     if unit is not None and unit.kind == "method":
         return f"{name} is a method; a call stands alone, or as a whole right side, and not inside an expression"
+    found = did_you_mean(name, [it.name for it in source.units if it.kind == "predicate"])
+    if found:
+        return f"no predicate {name} is declared{found}"
     return f"no predicate {name} is declared; functions are not in the language ({subset.PAGE})"
 
 

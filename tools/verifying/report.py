@@ -1,167 +1,212 @@
-"""Prints what is told of files and units: for people and editors, or for programs a line of JSON each."""
-import json
-import os
-import re
+"""Prints what is told of files and units, for people and editors. Each line that an editor has to see is `FILE:LINE:COL: KIND: TEXT`."""
+import sys
 
-from . import telling
+from . import colour, refusals, telling
 from .boogie_word import differences
-from .files import name_of, shown_path
+from .files import shown_path
+from .keeping import Keeper
 from .units import FAILS, UNDECIDED, VERIFIED
 
-VAIN = "no run comes to its end: what is required or assumed cannot hold"
+ALL_RIGHT, CAN_FAIL, NO_CALL, NOT_DECIDED, REFUSED = 0, 1, 2, 3, 4
+SEVERITY = (ALL_RIGHT, NOT_DECIDED, CAN_FAIL, REFUSED, NO_CALL)
+
+
+def counted(number, word):
+    """A number and what is counted."""
+    return f"{number} {word}{'s' * (number != 1)}"
 
 
 class Report:
-    """Prints what is told, to a stream, and keeps the worst status: 0 verified, 1 something may fail, 2 no verdict."""
+    """What is told of a call, in the order in which it is told; `status` is the worst that was met. What is told to whom is for those
+    who stand on it. An error comes as soon as it is found, and `unit` when all of a unit is known."""
 
-    def __init__(self, options, out):
-        self.options, self.out, self.status = options, out, 0
-        self.stems = {}     # the paths of the files that are kept, by what their names begin with
-
-    def line(self, text):
-        print(text, file=self.out)
-
-    def data(self, **values):
-        self.line(json.dumps(values, ensure_ascii=True))
+    def __init__(self, options):
+        self.options, self.status = options, ALL_RIGHT
+        self.keeper = Keeper(options.keep) if options.keep else None
+        self.files = self.refusals = self.units = self.verified = self.errors = self.open = 0
 
     def worse(self, status):
-        self.status = max(self.status, status)
+        self.status = max(self.status, status, key=SEVERITY.index)
 
     def missing(self, path, why):
         """A file that cannot be read, or has no unit of the name that is asked for."""
-        self.worse(2)
-        if self.options.json:
-            self.data(file=name_of(path), refused=why, line=1, column=1, message=why)
-        else:
-            self.line(f"{shown_path(path)}: error: {why}")
+        self.files, self.refusals = self.files + 1, self.refusals + 1
+        self.worse(REFUSED)
 
     def refused(self, given, source):
         """A file that the program refuses."""
-        self.worse(2)
-        told = given.refused
-        if self.options.json:
-            self.data(file=name_of(given.path), refused=given.reason, line=told.line, column=told.column, message=told.message)
-        else:
-            for it in telling.error_lines(source, told):
-                self.line(it)
+        self.files, self.refusals = self.files + 1, self.refusals + 1
+        self.worse(REFUSED)
+
+    def error(self, given, unit, error):
+        """A mistake that is found in a unit: that it can fail, or that z3 says so and no run confirms it."""
+        is_confirmed = error.labels[0].confirmed
+        self.worse(CAN_FAIL if is_confirmed else NOT_DECIDED)
+        self.errors += is_confirmed and not error.of
+        if self.keeper:
+            self.keeper.error(given, unit, error)
+
+    def more(self, given, unit, number):
+        """So many mistakes of a unit are not told."""
+        self.errors += number
 
     def unit(self, given, unit, result):
-        """A unit of which something is known, or is not."""
-        self.worse({VERIFIED: 0, FAILS: 1, UNDECIDED: 2}[result.verdict])
-        if result.why or any([it.why or not it.confirmed for it in result.labels]) or result.smoke not in ("", "done", "vain"):
-            self.worse(2)
-        if self.options.keep:
-            self.keep(given, result)
-        if self.options.json:
-            self.unit_as_data(given, result)
-        else:
-            self.unit_for_people(given, unit, result)
+        """A unit of which all is known but a certificate that is searched for."""
+        self.units, self.verified, self.open = self.units + 1, self.verified + (result.verdict == VERIFIED), self.open + len(result.open)
+        self.worse({VERIFIED: ALL_RIGHT, FAILS: CAN_FAIL, UNDECIDED: NOT_DECIDED}[result.verdict])
 
-    def unit_as_data(self, given, result):
-        file, more = name_of(given.path), {"smoke": result.smoke, "smoke_run": result.smoke_run} if self.options.smoke else {}
-        why = result.why or (result.certified.why if result.certified else "")
-        self.data(file=file, unit=result.unit, verdict=result.verdict, checked=result.is_checked(), why=why, **more)
-        for it in result.labels:
-            runs = {"run": it.run, "boogie_run": it.boogie_run} if self.options.runs else {"run": None, "boogie_run": None}
-            self.data(file=file, unit=result.unit, label=it.label, confirmed=it.confirmed, message=it.message, line=it.line,
-                      column=it.column, why=it.why, **runs, state=it.state)
+    def waits(self, given, results):
+        """All units of a file are decided, and certificates are still looked for."""
 
-    def unit_for_people(self, given, unit, result):
-        at = f"{shown_path(given.path)}:{unit.line}:{unit.column}"
-        for lines, numbers in result.errors:
-            for it in lines:
-                self.line(it)
-            if self.options.runs:
-                self.run(given, unit, result.labels[numbers[0]])
-        for it in result.labels:
-            place = f"{shown_path(given.path)}:{it.line}:{it.column}"
-            if not it.confirmed:
-                self.line(f"{place}: not confirmed: z3 says that this can fail: {it.message}; but {it.why}")
-            elif it.why:
-                self.line(f"{place}: not confirmed by replay, but by run: {it.why}")
-        if result.why:
-            self.line(f"{at}: undecided: `{unit.name}`: {result.why}")
-        if result.certified and not result.is_checked():
-            self.line(f"{at}: note: `{unit.name}` is verified on z3's word: {result.certified.why}")
-        self.smoke(at, unit, result)
+    def certified(self, given, unit, result):
+        """A verified unit of which it is known whether it has a certificate."""
+        if self.options.strict and not result.is_checked():
+            self.worse(NOT_DECIDED)
+        if self.keeper:
+            self.keeper.certified(given, unit, result)
 
-    def smoke(self, at, unit, result):
-        if result.smoke == "vain":
-            self.line(f"{at}: warning: `{unit.name}` is verified vacuously: {VAIN}")
-        elif result.smoke == "done":
-            if not self.options.runs:
-                self.line(f"{at}: note: a run of `{unit.name}` is done, as `run` says")
-                return
-            self.line(f"{at}: note: this run of `{unit.name}` is done, as `run` says:")
-            for it in result.smoke_run.splitlines():
-                self.line(it)
-        elif result.smoke:
-            self.line(f"{at}: warning: whether a run of `{unit.name}` comes to its end is not known: {result.smoke}")
-
-    def run(self, given, unit, label):
-        """The run that fails, as a run file has it, and where it does."""
-        word = "replay" if given.is_boogie else "run"
-        self.line(f"  This run of `{unit.name}` fails there, as `{word}` says:")
-        for it in label.shown:
-            self.line(it)
-        if label.state_lines:
-            self.line("  Where it fails:")
-            for it in label.state_lines:
-                self.line(f"    {it}")
+    def unreached(self, given, unit, spots):
+        """Spots of a verified unit that no run reaches."""
 
     def file(self, given, results):
-        """The end of a file of which all units were looked at."""
-        if self.options.json:
-            return
-        verified = sum([it.verdict == VERIFIED for it in results])
-        units = f"{len(results)} unit{'s' * (len(results) != 1)}"
-        word = "verified" if self.options.certificates or not verified else "verified on z3's word"
-        told = f"{word}, {units}" if verified == len(results) else f"{verified} of {units} {word}"
-        self.line(f"{shown_path(given.path)}: {told}{self.by_certificates(verified, results)}")
-
-    def by_certificates(self, verified, results):
-        """How many of the verified units are so by a certificate that the proved program accepted."""
-        checked = sum([it.is_checked() for it in results])
-        if not verified or not self.options.certificates:
-            return ""
-        many = "each " if checked == verified else f"{checked} " if checked else "none "
-        return f", {many if verified > 1 or not checked else ''}by a certificate"
+        """A file of which all units were told."""
+        self.files += 1
 
     def boogie(self, given, word, results):
-        """Boogie's word, and where it differs."""
+        """Boogie's word; returns where it differs."""
         odd = [word.fault] if word.fault else differences(word, results)
-        self.worse(2 if odd or word.slow else 0)
-        path = shown_path(given.path)
-        if self.options.json:
-            self.data(file=name_of(given.path), boogie=word.labels, slow=word.slow, differences=odd)
+        if odd or word.slow:
+            self.worse(NOT_DECIDED)
+        return odd
+
+    def end(self):
+        """All files were told."""
+
+
+class Lines(Report):
+    """Prints lines for people."""
+
+    def __init__(self, options, out):
+        super().__init__(options)
+        self.out = out
+        self.is_colored = colour.is_wanted(options.color, out)
+
+    def line(self, text):
+        print(colour.colored(text) if self.is_colored else text, file=self.out)
+
+    def lines(self, texts, before=""):
+        for it in texts:
+            self.line(before + it)
+
+    def told_at(self, given, line, column, kind, text):
+        self.line(f"{shown_path(given.path)}:{line}:{column}: {kind}: {text}")
+
+    def missing(self, path, why):
+        super().missing(path, why)
+        self.line(f"{shown_path(path)}:1:1: error: {why}")
+
+    def refused(self, given, source):
+        super().refused(given, source)
+        self.lines(telling.error_lines(source, given.refused))
+        if refusals.is_of_types(given.reason):
+            self.told_at(given, given.refused.line, given.refused.column, "note", refusals.FIRST)
+
+    def error(self, given, unit, error):
+        super().error(given, unit, error)
+        first = error.labels[0]
+        if not first.confirmed:
+            self.told_at(given, *error.place, "warning", f"not confirmed: z3 says that this can fail: {first.message}; but {first.why}")
             return
-        count = f"{len(word.labels)} label{'s' * (len(word.labels) != 1)}"
-        self.line(f"{path}: Boogie tells of {count}{''.join(f'; {it}' for it in word.labels)}")
-        for it in word.slow:
-            self.line(f"{path}: Boogie's time does not suffice for {it}")
-        for it in odd:
-            self.line(f"{path}: the two disagree: {it}")
+        self.lines(error.lines)
+        self.lines(error.needs, "  ")
+        if error.run:
+            self.run(given, unit, error)
+        self.lines(error.notes)
+        self.lines([f"help: {it.words}" for it in error.help], "  ")
+        for it in error.labels:
+            if it.why:
+                self.told_at(given, it.line, it.column, "note", f"not confirmed by replay, but by run: {it.why}")
 
-    def keep(self, given, result):
-        """Writes the run files of a unit, its certificate, and the text of Boogie that it and the runs of Boogie belong to."""
-        stem = os.path.join(self.options.keep, self.stem(name_of(given.path)))
-        with open(given.text_file, "rb") as text, open(f"{stem}.text.bpl", "wb") as into:
-            into.write(text.read())
-        if result.is_checked():
-            with open(f"{stem}.{result.unit}.cert", "w", encoding="utf-8") as into:
-                into.write(result.certified.certificate)
-        for it in result.labels:
-            name = f"{stem}.{re.sub(r'[: ]', '-', it.label)}"
-            for ending, text in ((".run", it.run), (".brun", it.boogie_run)):
-                if text:
-                    with open(name + ending, "w", encoding="utf-8") as into:
-                        into.write(text)
+    def run(self, given, unit, error):
+        """The run that fails, step by step or as a run file has it, and where it does."""
+        word = "replay" if given.is_boogie else "run"
+        self.line(f"  This run of `{unit.name}` fails there, as `{word}` says:")
+        self.lines(error.trace)
+        if self.options.run_file or not error.trace:
+            self.lines(error.run)
+        if error.state:
+            self.line("  Where it fails:")
+            self.lines(error.state, "    ")
 
-    def stem(self, path):
-        """What the names of the kept files of a file begin with. Where another file has the same, it gets a number."""
-        plain = re.sub(r"[^\w.-]", "_", shown_path(path))
-        found, number = plain, 1
-        while self.stems.setdefault(found, path) != path:
-            number += 1
-            found = f"{plain}-{number}"
-        return found
+    def more(self, given, unit, number):
+        super().more(given, unit, number)
+        self.told_at(given, unit.line, unit.column, "note", f"{counted(number, 'more error')} of `{unit.name}`; --errors 0 tells all")
+
+    def unit(self, given, unit, result):
+        super().unit(given, unit, result)
+        limit = self.options.errors or len(result.open)
+        for it in result.open[:limit]:
+            self.told_at(given, it.line, it.column, "warning", f"undecided: {it.words}")
+        if len(result.open) > limit:
+            more = f"{len(result.open) - limit} more of `{unit.name}` are undecided; --errors 0 tells all"
+            self.told_at(given, unit.line, unit.column, "note", more)
+        if result.why:
+            self.told_at(given, unit.line, unit.column, "warning", f"undecided: `{unit.name}`: {result.why}")
+        if self.options.times and not unit.is_proved:
+            self.told_at(given, unit.line, unit.column, "note", f"`{unit.name}` took {result.seconds:.2f} s")
+
+    def waits(self, given, results):
+        super().waits(given, results)
+        if self.options.certificates and not given.is_searched:
+            verified = f"{sum([it.verdict == VERIFIED for it in results])} of {counted(len(results), 'unit')} verified on z3's word"
+            print(f"{shown_path(given.path)}: {verified}; certificates are looked for", file=sys.stderr, flush=True)
+
+    def certified(self, given, unit, result):
+        super().certified(given, unit, result)
+        if not result.is_checked() and (self.options.certificates or self.options.strict):
+            why = f": {result.certified.why}" if result.certified else ""
+            kind = "warning" if self.options.strict else "note"
+            self.told_at(given, unit.line, unit.column, kind, f"`{unit.name}` is verified on z3's word{why}")
+
+    def unreached(self, given, unit, spots):
+        super().unreached(given, unit, spots)
+        for it in spots:
+            self.told_at(given, it.line, it.column, "warning", it.words)
+
+    def file(self, given, results):
+        super().file(given, results)
+        path, verified = shown_path(given.path), [it for it in results if it.verdict == VERIFIED]
+        if self.options.times and given.is_searched:
+            self.told_at(given, 1, 1, "note", f"the search for proofs took {given.seconds:.2f} s")
+        word, how = self.word_of(verified)
+        if len(verified) == len(results):
+            self.line(f"{path}: {word}, {counted(len(results), 'unit')}{how}")
+        else:
+            self.line(f"{path}: {len(verified)} of {counted(len(results), 'unit')} {word}{how}")
+
+    def word_of(self, verified):
+        """What verified units are, and how many of them are so by the word of a program that is proved to be right."""
+        proved = sum([it.is_checked() for it in verified])
+        rest = len(verified) - proved
+        if not rest:
+            return "proved", ""
+        return ("verified", f", {proved} proved and {rest} on z3's word") if proved else ("verified on z3's word", "")
+
+    def boogie(self, given, word, results):
+        odd, path = super().boogie(given, word, results), shown_path(given.path)
+        self.line(f"{path}: Boogie tells of {counted(len(word.labels), 'label')}{''.join(f'; {it}' for it in word.labels)}")
+        self.lines(word.slow, f"{path}: Boogie's time does not suffice for ")
+        self.lines(odd, f"{path}: the two disagree: ")
+        return odd
+
+    def end(self):
+        super().end()
+        if self.files < 2:
+            return
+        told = [f"{self.verified} of {counted(self.units, 'unit')} verified"]
+        told += [counted(self.errors, "error")] * bool(self.errors)
+        told += [f"{self.open} undecided"] * bool(self.open)
+        told += [f"{counted(self.refusals, 'file')} refused"] * bool(self.refusals)
+        self.line(f"{counted(self.files, 'file')}: {', '.join(told)}")
+
+

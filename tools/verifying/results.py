@@ -1,45 +1,155 @@
 """What is told of a unit, as plain data that goes from one process to another: lines for people, and values for `--json`."""
 import re
-from typing import List, NamedTuple, Optional
+from typing import List, NamedTuple, Optional, Sequence, Tuple
 
-from . import failures, telling
+from . import failures, following, identifiers, naming, telling
 from .certifying import Certified
+from .deciding import Mistake
 from .failures import Told
-from .run_files import scalar
-from .units import UNDECIDED
+from .helping import Help, help_of
+from .retelling import Retold
+from .run_files import scalar, spelled
+from .spans import span
+from .units import FAILS, UNDECIDED, VERIFIED, Failure
+
+PROVE, CERTIFY, Z3, RUN, REPLAY = "prove", "certify", "z3", "run", "replay"
 
 
 class Label(NamedTuple):
-    """What is told of a label that z3 says can fail. `shown` has the run for people, and `state` where it fails."""
+    """What is told of a label that can fail. `of` is the label that it follows from, or nothing; `identifier` is Viper's; `end_column`
+    is behind the last byte that is marked; `run` and `boogie_run` are the run files, `state` tells where they fail, `needs` what was
+    needed there, and `trace` has the steps of the run."""
     label: str
     confirmed: bool
     why: str
+    of: str
+    identifier: str
     message: str
     line: int
     column: int
+    end_column: int
     run: Optional[str]
     boogie_run: Optional[str]
-    shown: List[str]
-    state_lines: List[str]
     state: list
+    needs: List[str]
+    trace: List[dict]
+
+
+class Error(NamedTuple):
+    """What people are told of one mistake. `labels` are one, or the null and the perm of one access. `lines` has the message with its
+    line of the file. `own` is the label at which the same part is checked by itself, in the unit `home`, where that is another unit,
+    and `notes` are those at other places. `needs` tells what was needed and what was held, in one line where no run is shown. The other
+    fields are empty there: `trace` tells the run step by step, `run` is the run file with a comment for each choice, `state` tells
+    where it fails, and `help` how to mend it."""
+    labels: List[Label]
+    place: Tuple[int, int]
+    lines: List[str]
+    of: str = ""
+    own: str = ""
+    home: str = ""
+    notes: Sequence[str] = ()
+    needs: Sequence[str] = ()
+    trace: Sequence[str] = ()
+    run: Sequence[str] = ()
+    state: Sequence[str] = ()
+    help: Sequence[Help] = ()
+
+
+class Open(NamedTuple):
+    """A label of which nobody knows whether it can fail: its place, what is checked there in words, and why nobody knows."""
+    label: str
+    line: int
+    column: int
+    words: str
+    why: str
 
 
 class Result(NamedTuple):
-    """What is told of a unit. `errors` has the lines of each error and the numbers of the labels that it tells of; `smoke` is what
-    was found of its ends, and `smoke_run` a run that is done; `certified` is there of a verified unit whose certificate was asked for."""
+    """What is known of a unit once all is looked at. `labels` are all that can fail, `told_by` the programs whose word the verdict
+    is, and `certified` is there of a unit whose certificate was asked for."""
     unit: str
     verdict: str
     why: str
     labels: List[Label]
-    errors: list
-    smoke: str
-    smoke_run: Optional[str]
+    open: List[Open]
+    told_by: Sequence[str]
     certified: Optional[Certified]
     seconds: float
 
     def is_checked(self):
-        """Whether the proved program accepted a certificate of it."""
-        return self.certified is not None and self.certified.certificate is not None
+        """Whether a program that is proved to be right showed that no run of it fails."""
+        return self.verdict == VERIFIED and (PROVE in self.told_by or self.certified is not None and self.certified.certificate is not None)
+
+
+class Teller:
+    """Puts what is found of a unit into words. `wants_all` tells whether run and state are wanted of labels that are not shown."""
+
+    def __init__(self, source, unit, is_boogie, wants_all, whole_trace=False, tells_needs=True):
+        self.source, self.unit, self.is_boogie, self.wants_all = source, unit, is_boogie, wants_all
+        self.whole_trace, self.tells_needs = whole_trace, tells_needs
+
+    def told(self, label) -> Told:
+        """What is told of one label."""
+        return told_of_boogie(self.source, label, self.unit) if self.is_boogie else failures.told(self.source, label)
+
+    def label(self, failure: Failure, of, is_shown) -> Label:
+        """What is told of a failure, for programs."""
+        told, run, state, needs, rows = self.told(failure.label), None, [], [], []
+        if failure.confirmed and (is_shown or self.wants_all):
+            if self.is_boogie:
+                state = boogie_state(failure.end)[1]
+            else:
+                again = Retold(self.source, failure.run, failure.label)
+                run, state, needs, rows = again.run_file(), again.state_data(), again.needs(), [it.data() for it in again.rows()]
+        identifier = "" if self.is_boogie else identifiers.identifier(self.source, failure.label)
+        end_column = span(self.source, told.line, told.column)[1] + 1
+        return Label(failure.label, failure.confirmed, failure.why, of, identifier, told.message, told.line, told.column, end_column, run,
+                     failure.boogie_run, state, needs, rows)
+
+    def error(self, mistake: Mistake, examiner=None) -> Error:
+        """What is told of one mistake; with an examiner, how it may be mended too."""
+        names, first = [it.label for it in mistake.failures], shown_of(mistake)
+        told = self.told(names[0]) if self.is_boogie else failures.joined(self.source, names)[0][0]
+        labels = [self.label(it, mistake.of, mistake.is_shown) for it in mistake.failures]
+        error = Error(labels, (told.line, told.column), telling.head_lines(self.source, told), mistake.of)
+        error = error._replace(notes=telling.note_lines(self.source, told))
+        if not self.is_boogie:
+            error = error._replace(own=following.own_label(self.source, names[0]), home=following.home_of(self.source, names[0]))
+        if not mistake.is_shown:
+            return error._replace(needs=self.needs(first) if not mistake.of else [])
+        if self.is_boogie:
+            return error._replace(run=labels[0].boogie_run.splitlines(), state=boogie_state(first.end)[0])
+        again = Retold(self.source, first.run, first.label)
+        return error._replace(needs=again.needs(), trace=again.lines(self.whole_trace), run=again.run_file().splitlines(),
+                              state=again.state_lines(self.whole_trace), help=self.help(examiner, again, first.label))
+
+    def needs(self, failure):
+        """What was needed where the run of a failure is not shown, in one line."""
+        if self.is_boogie or not failure.confirmed or not self.tells_needs:
+            return []
+        return Retold(self.source, failure.run, failure.label).needs()[:1]
+
+    def help(self, examiner, again, label):
+        """How a mistake may be mended."""
+        found = help_of(examiner, self.source, again.again, label) if examiner is not None and again.again is not None else None
+        return [found] if found else []
+
+    def open(self, label, why) -> Open:
+        """What is told of a label that is not decided."""
+        told = self.told(label)
+        words = told.message if self.is_boogie else naming.named(self.source, label) or told.message
+        return Open(label, told.line, told.column, words, why)
+
+    def told_by(self, outcome) -> List[str]:
+        """The programs whose word the verdict on a unit is."""
+        if outcome.verdict != FAILS:
+            return [Z3]
+        return [REPLAY] if self.is_boogie else [RUN, REPLAY]
+
+
+def shown_of(mistake: Mistake) -> Failure:
+    """The failure whose run is shown: of null and permission to one access that for permission, in which the object is there."""
+    return next((it for it in mistake.failures if it.label.endswith(" perm")), mistake.failures[0])
 
 
 def told_of_boogie(source, label, procedure):
@@ -60,48 +170,20 @@ def place_in(data, at):
     return data.count(b"\n", 0, at) + 1, at - data.rfind(b"\n", 0, at)
 
 
-def label_of(failure, source, unit, is_boogie) -> Label:
-    """What is told of a failure of a unit."""
-    told = told_of_boogie(source, failure.label, unit) if is_boogie else failures.told(source, failure.label)
-    run = failure.run.text() if failure.run else None
-    shown, state_lines, state = [], [], []
-    if failure.confirmed:
-        shown = failure.boogie_run.splitlines() if is_boogie else telling.commented_run(failure.run, failure.end, source)
-        state_lines, state = boogie_state(failure.end) if is_boogie else telling.state(failure.end, source)
-    return Label(failure.label, failure.confirmed, failure.why, told.message, told.line, told.column, run, failure.boogie_run,
-                 shown, state_lines, state)
-
-
 def boogie_state(walk):
     """The values of the variables of a program of Boogie where a walk ended: of a map those that were looked at."""
     data = []
     for name, (keys, base) in walk.procedure.locals.items():
         it = walk.env[name]
         if not keys:
-            data.append({"variable": name, "value": telling.word_of(it, base)})
+            data.append({"variable": name, "value": spelled(it, base)})
             continue
         for key in sorted({**it.source.touched, **it.changed}):
             words = [scalar(part, its) for part, its in zip(key, keys)]
-            data.append({"variable": f"{name}[{', '.join(words)}]", "value": telling.word_of(it.get(key), base)})
+            data.append({"variable": f"{name}[{', '.join(words)}]", "value": spelled(it.get(key), base)})
     return ([", ".join(f"{it['variable']} = {it['value']}" for it in data)] if data else []), data
 
 
-def errors_of(labels, source, unit, is_boogie):
-    """The lines of each error, and the numbers of its labels: null and permission of one access are one error."""
-    confirmed = [it.label for it in labels if it.confirmed]
-    number = {it.label: n for n, it in enumerate(labels)}
-    groups = [(told_of_boogie(source, it, unit), [it]) for it in confirmed] if is_boogie else failures.joined(source, confirmed)
-    found = [(told, [number[it] for it in group]) for told, group in groups]
-    found.sort(key=lambda it: (it[0].line, it[0].column))
-    return [(telling.error_lines(source, told), group) for told, group in found]
-
-
-def result_of(unit, outcome, source, is_boogie, smoke, certified, seconds) -> Result:
-    """What is told of a unit of which something is known."""
-    labels = [label_of(it, source, unit, is_boogie) for it in outcome.failures]
-    return Result(unit, outcome.verdict, outcome.why, labels, errors_of(labels, source, unit, is_boogie), *smoke, certified, seconds)
-
-
-def undecided(unit, why) -> Result:
+def unknown(unit, why) -> Result:
     """What is told of a unit of which nothing is known."""
-    return Result(unit, UNDECIDED, why, [], [], "", None, None, 0.0)
+    return Result(unit, UNDECIDED, why, [], [], (), None, 0.0)

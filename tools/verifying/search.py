@@ -37,7 +37,11 @@ class Search:
         self.types, self.fresh, self.solver = types, fresh, solver
         self.names = list(types)
         self.end = time.monotonic() + seconds
-        self.open, self.asked = None, {}
+        self.open, self.asked, self.within = None, {}, frozenset()
+
+    def begin_anew(self):
+        """Has the next question begin anew."""
+        self.open = None
 
     def left(self):
         return self.end - time.monotonic()
@@ -61,8 +65,9 @@ class Search:
         """What z3 says in one way, and the values where it finds some."""
         if seconds < LEAST:
             return "unknown", None
-        if self.open != way.name or any([it not in self.asked for it in terms]):
+        if self.open != way.name or not self.within.issuperset(terms):
             self.begin(way, terms)
+        self.within = frozenset(terms)
         self.solver.more(f"(assert (or false {' '.join([self.asked[it] for it in terms])}))\n")
         said = self.solver.check(seconds)
         if said == "sat":

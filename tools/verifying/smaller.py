@@ -4,7 +4,7 @@ from fractions import Fraction
 
 from .walk import DEFAULTS, Walk
 
-SECONDS = 0.6       # for one run
+SECONDS = 0.6       # of the processor, for one run
 ROUNDS = 3
 INTS = (0, 1, -1, 2, 3, 5, 10)
 MOST_PARTS = 64     # so many parts of a content are looked at
@@ -47,14 +47,14 @@ class Smaller:
 
     def __init__(self, procedure, values, label):
         self.procedure, self.values, self.label = procedure, values, label
-        self.end = time.monotonic() + SECONDS
+        self.end = time.process_time() + SECONDS
 
     def fails(self):
         end = Walk(self.procedure, self.values.given).run()
         return end.how == "failed" and end.label == self.label
 
     def late(self):
-        return time.monotonic() > self.end
+        return time.process_time() > self.end
 
     def found(self):
         """The simplest values that were found."""

@@ -1,30 +1,38 @@
-"""Whether some run of a unit comes to its end. Where none does, that the unit is verified says nothing."""
-from .run_files import viper_run, with_states
-from .units import first_line
-from .walk import Walk
+"""Which spots of verified units no run reaches. Where the begin or the end is none, that the unit is verified says nothing."""
+import os
+from typing import List
 
-DONE, VAIN = "done", "vain"
-
-
-def has_end(procedure):
-    """Whether runs of a unit may come to an end: those of a method without a body never do."""
-    return procedure.name.startswith("P$") or any(it[0] == "if" and it[1] is None for it in procedure.body)
+from . import files, spots
+from .program import TooLate
+from .units import Examiner, Task
 
 
-def smoke(examiner):
-    """`done` and a run that is done, as the program says; `vain` where z3 says that there is none; or why nobody knows."""
-    if examiner.task.is_boogie or not has_end(examiner.procedure):
-        return "", None
-    if examiner.symbolic.end is examiner.symbolic.logic.false:
-        return VAIN, None
-    said, values = examiner.search.any_of([examiner.symbolic.end])
-    if values is None:
-        return (VAIN if said == "unsat" else said), None
-    walk = Walk(examiner.procedure, values.given)
-    end = walk.run()
-    if end.how != "done":
-        return f"the values that z3 finds lead to no end: {end.how}", None
-    run, said = with_states(viper_run(walk, examiner.task.bare), examiner.says, examiner.procedure)
-    if not said.startswith("// done\n"):
-        return f"run says {first_line(said)}", None
-    return DONE, run.text()
+def unreached(program, solver, room, source, names, seconds) -> List[spots.Spot]:
+    """The spots of some units that no run reaches, as `prove` shows, or where there is no such program, as z3 says."""
+    units = [it for it in source.units if it.name in names and (it.kind == "method" or it.kind == "predicate" and it.brace is not None)]
+    text, found = spots.with_copies(source, units)
+    path = os.path.join(room, "smoke.vpr")
+    with open(path, "w", encoding="latin-1") as it:
+        it.write(text)
+    if not found:
+        return []
+    try:
+        never = set(program.prove(path, seconds).proved) if program.can_prove() else refuted(program, solver, room, path, seconds)
+    except TooLate:
+        return []
+    return spots.told(found, never & set(found))
+
+
+def refuted(program, solver, room, path, seconds):
+    """The units of a file of which z3 says that no run fails."""
+    with open(path, "rb") as it:
+        data = it.read()
+    given = files.given(path, data, program, room, True)
+    found = set()
+    for unit in given.units:
+        task = Task(path, given.prelude, unit.text, given.bare, False, seconds)
+        examiner = Examiner(task, program, solver, room)
+        terms = [term for terms in examiner.possible().values() for term in terms]
+        if not terms or examiner.search.any_of(terms)[0] == "unsat":
+            found.add(unit.name)
+    return found

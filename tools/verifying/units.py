@@ -1,27 +1,27 @@
-"""One unit: what z3 says of it, and a confirmed run for each label that can fail.
+"""One unit: values at which it may fail, and what the program says of the run that they make.
 
 A label is confirmed where `run` failed at it on the very run file that is told (of a program of Boogie, `replay`). What z3 says
 can fail and no run confirms is told apart: that is a finding about these tools, unless the run needs what run files do not take."""
 import os
 import re
-from typing import List, NamedTuple, Optional
+import time
+from typing import NamedTuple, Optional
 
 from .boogie_text import NotAsWritten, read_procedure
 from .conditions import read_conditions
 from .run_files import ViperRun, boogie_run, read_back, viper_run, with_states
-from .search import PLAIN, WAYS, Search, new_objects
+from .search import Search, new_objects
 from .smaller import Smaller, Values
 from .symbolic import symbolic_of
 from .walk import Walk
 
 MOST, MOST_NODES = (1 << 127) - 1, 4096     # the limits of numbers and contents in docs/run-files.md
-AT_ONCE, ALONE = 0.3, 0.8  # parts of the time that is left, for all labels at once and for each alone
 VERIFIED, FAILS, UNDECIDED = "verified", "fails", "undecided"
 
 
 class Failure(NamedTuple):
-    """A label that z3 says can fail. `confirmed` tells whether the program failed there on `run` (of Boogie, on `boogie_run`),
-    `end` is the walk that ends there, and `why` what the program said instead."""
+    """A label that can fail. `confirmed` tells whether the program failed there on `run` (of Boogie, on `boogie_run`), `end` is the
+    walk that ends there, and `why` what the program said instead."""
     label: str
     confirmed: bool
     run: Optional[ViperRun]
@@ -30,36 +30,48 @@ class Failure(NamedTuple):
     why: str
 
 
-class Outcome(NamedTuple):
-    """What is known of a unit."""
-    verdict: str
-    why: str
-    failures: List[Failure]
-
-
 class Task(NamedTuple):
-    """A unit that is to be looked at: its file, and the text of its procedure, behind the prelude and alone."""
+    """A unit that is to be looked at: its file, and the text of its procedure, behind the prelude and alone. `conditions` is the text
+    of its conditions where that is known, and `first_open` the label before which all is proved, where there is one."""
     file: str
     prelude: str
     text: str
     bare: frozenset
     is_boogie: bool
     seconds: float
-    wants_runs: bool
+    conditions: Optional[str] = None
+    first_open: str = ""
+
+
+class Passing(Walk):
+    """A walk that notes the labels of the assertions that it comes to, in order."""
+
+    def __init__(self, procedure, given):
+        self.come_to = {}
+        super().__init__(procedure, given)
+
+    @property
+    def seen(self):
+        return next(reversed(self.come_to), None)
+
+    @seen.setter
+    def seen(self, label):
+        if label is not None:
+            self.come_to.pop(label, None)
+            self.come_to[label] = None
 
 
 class Examiner:
     """Looks at one unit. `room` is a folder for its run files."""
 
     def __init__(self, task, program, solver, room):
-        self.task, self.program, self.solver, self.room = task, program, solver, room
+        self.task, self.program, self.solver, self.room, self.begun = task, program, solver, room, time.monotonic()
         self.procedure = read_procedure(task.text)
         self.text_file = self.file("unit.bpl", task.prelude + task.text)
-        self.text = self.conditions_text()
+        self.text = task.conditions or self.conditions_text()
         self.conditions = read_conditions(self.text)
         self.search = Search(self.conditions.vars, new_objects(self.procedure), solver, task.seconds)
         self.symbolic = symbolic_of(self.conditions, self.search.end)
-        self.failures = []
 
     def conditions_text(self):
         """The text of the procedure's conditions, as the program writes it."""
@@ -68,77 +80,23 @@ class Examiner:
             raise NotAsWritten(f"conditions says {said.first()}")
         return said.out
 
-    def outcome(self) -> Outcome:
-        """Asks of all labels, tells those that fail, and asks again of the others."""
-        left = self.possible()
-        why = ""
-        while left:
-            said, values = self.search.any_of([it for terms in left.values() for it in terms], (PLAIN,), AT_ONCE)
-            label = self.told(values, left) if values is not None else None
-            if said == "unsat":
-                left = {}
-            elif label is None:
-                left, why = self.one_by_one(left)
-                break
-            else:
-                del left[label]
-        return self.verdict(left, why)
-
-    def verdict(self, left, why):
-        order = {label: n for n, (label, _) in reversed(list(enumerate(self.symbolic.fails)))}
-        self.failures.sort(key=lambda it: order[it.label])
-        odd = [it for it in self.failures if not it.confirmed]
-        if any([it.confirmed for it in self.failures]):
-            return Outcome(FAILS, self.undecided(left, why), self.failures)
-        if odd:
-            return Outcome(UNDECIDED, f"z3 says that {odd[0].label} can fail, and no run confirms it: {odd[0].why}", self.failures)
-        if left:
-            return Outcome(UNDECIDED, self.undecided(left, why), [])
-        return Outcome(VERIFIED, "", [])
-
-    def undecided(self, left, why):
-        if not left:
-            return ""
-        first = next(iter(left))
-        return f"{why}, of {first}" + (f" and {len(left) - 1} more" if len(left) > 1 else "")
-
     def possible(self):
-        """The terms of each label that are not false at once."""
+        """The terms of each label that are not false at once, in the order of the text, from the label on before which all is proved."""
+        labels = [label for label, _ in self.symbolic.fails]
+        begin = labels.index(self.task.first_open) if self.task.first_open in labels else 0
         found = {}
-        for label, term in self.symbolic.fails:
+        for label, term in self.symbolic.fails[begin:]:
             if term is not self.symbolic.logic.false:
                 found.setdefault(label, []).append(term)
         return found
 
-    def one_by_one(self, left):
-        """Asks of each label alone, first in the plain way, and then in all. Returns those that are left, and why."""
-        why = ""
-        for ways in ((PLAIN,), WAYS):
-            open_ = {}
-            for n, (label, terms) in enumerate(left.items()):
-                self.search.open = None
-                said, values = self.search.any_of(terms, ways, ALONE / (len(left) - n))
-                if values is not None and self.told(values, {label: terms}) is None:
-                    self.failures.append(Failure(label, False, None, None, None, "the values that z3 finds lead elsewhere"))
-                elif values is None and said != "unsat":
-                    open_[label], why = terms, said
-            left = open_
-        return left, why
-
-    def told(self, values: Values, left):
-        """Notes the label at which the run of some values fails, with its confirmation; None where it fails at none of these."""
-        end = Walk(self.procedure, values.given).run()
-        if end.how != "failed" or end.label not in left:
-            return None
-        if not self.task.wants_runs:
-            self.failures.append(self.confirmed(values, end.label))
-            return end.label
+    def confirmed_small(self, values: Values, label) -> Failure:
+        """Has the program confirm a run that is made small, or where it does not the run as it was."""
         first = Values(values.types, dict(values.scalars), {n: dict(table) for n, table in values.tables.items()})
-        found = self.confirmed(Smaller(self.procedure, values, end.label).found(), end.label)
-        self.failures.append(found if found.confirmed else self.confirmed(first, end.label))
-        return end.label
+        found = self.confirmed(Smaller(self.procedure, values, label).found(), label)
+        return found if found.confirmed else self.confirmed(first, label)
 
-    def confirmed(self, values, label):
+    def confirmed(self, values, label) -> Failure:
         """Has the program confirm a run, and returns what it says: of Boogie that of the walk, and of Viper that which it comes from,
         with the run of Boogie that `run` writes for it."""
         walk = Walk(self.procedure, values.given)
@@ -147,16 +105,47 @@ class Examiner:
         if self.task.is_boogie:
             why = self.replayed(text, label)
             return Failure(label, not why, None, text, walk, why and self.explained(text, why))
-        run, said = with_states(viper_run(walk, self.task.bare), self.says, self.procedure)
+        found = self.confirmed_run(viper_run(walk, self.task.bare), label)
+        if found.confirmed:
+            return found
+        why = self.replayed(text, label)
+        words = f"{found.why}; {why or 'replay fails there'}"
+        return found._replace(boogie_run=text, end=walk, why=self.explained(found.run.text(), words))
+
+    def confirmed_run(self, run, label) -> Failure:
+        """Has the program confirm a run of Viper."""
+        run, said = with_states(run, self.says, self.procedure)
         if not said.startswith(f"// failed {label}\n"):
-            why = self.replayed(text, label)
-            words = f"run says {first_line(said)}; {why or 'replay fails there'}"
-            return Failure(label, False, run, text, walk, self.explained(run.text(), words))
+            return Failure(label, False, run, None, None, f"run says {first_line(said)}")
         written = "".join(f"{line}\n" for line in said.splitlines()[2:])
         why = self.replayed(written, label)
         end = read_back(self.procedure, written)
         end.run()
         return Failure(label, True, run, written, end, why and f"of the run of Boogie that run writes, {why}")
+
+    def confirmed_anew(self, choices, label) -> Optional[Failure]:
+        """Has the program confirm a run that is known from before, all choices of which are taken; or None where it does not."""
+        run = ViperRun(self.procedure.name[2:], choices)
+        if self.task.is_boogie:
+            text = run.text()
+            if choices[0][0] != f"boogie run {self.procedure.name}" or self.replayed(text, label):
+                return None
+            end = read_back(self.procedure, text)
+            return Failure(label, True, None, text, end, "") if end.run().how == "failed" else None
+        if not self.says(run.text()).startswith(f"// failed {label}\n// unused 0\n"):
+            return None
+        return self.confirmed_run(run, label)
+
+    def small_run(self, values, label) -> ViperRun:
+        """A small run of Viper that fails at a label, as the walk goes."""
+        walk = Walk(self.procedure, Smaller(self.procedure, values, label).found().given)
+        walk.run()
+        return viper_run(walk, self.task.bare)
+
+    def fails_at(self, values):
+        """The label at which a run on some values fails, or None."""
+        end = Walk(self.procedure, values.given).run()
+        return end.label if end.how == "failed" else None
 
     def explained(self, text, words):
         """What the program says of a run, behind what the run needs that the program does not take."""

@@ -1,191 +1,126 @@
-"""The work on files and units, in processes side by side: each has a solver of its own that stays open, and a folder of its own."""
+"""The work on files and units, as it is done in processes: each has a solver of its own that stays open, and a folder of its own."""
 import os
-import signal
-import sys
 import tempfile
-import threading
 import time
+from typing import NamedTuple, Optional
 
 from . import files
 from .boogie_text import NotAsWritten
-from .certifying import certified
+from .cache import Cache, Known
+from .certifying import Certified, certified, checked
+from .deciding import Decider, Wants
 from .program import NoProgram, Program
-from .results import result_of, undecided
-from .smoke import smoke
+from .results import CERTIFY, PROVE, Result, Teller, unknown
+from .smoke import unreached
 from .solver import NoSolver, Solver
-from .source import Source
 from .symbolic import TooSlow
-from .units import VERIFIED, Examiner, Task
+from .units import UNDECIDED, VERIFIED, Examiner, Task
 
-STACK = 256 * 1024 * 1024
-DEPTH = 200_000
+NOT_PROVED, SPENT = "no proof was found", "no proof was found in the steps of its budget"
 MINE = None     # what this process keeps from one unit to the next
 
 
 class Mine:
-    """A solver, a folder, and the last file that was looked at."""
+    """A solver, a folder, what earlier calls found, and the last file that was looked at."""
 
-    def __init__(self, program, room):
-        self.program, self.solver = Program(program), Solver()
+    def __init__(self, program, room, cache):
+        self.program, self.solver, self.cache = Program(program), Solver(), cache
         self.room = tempfile.mkdtemp(dir=room)
         self.path, self.source = None, None
 
     def source_of(self, given):
         if self.path != given.copy:
             with open(given.copy, "rb") as it:
-                self.path, self.source = given.copy, Source(files.shown_path(given.path), it.read())
+                self.path, self.source = given.copy, files.source_of(given.path, it.read())
         return self.source
 
 
-def begin(program, room):
-    """Makes this process ready for units, with a folder of its own in a room."""
+def begin(program, room, cache=None):
+    """Makes this process ready for units, with a folder of its own in a room, and with a cache where one is given."""
     global MINE
-    MINE = Mine(program, room)
+    MINE = Mine(program, room, cache or Cache())
 
 
-def begin_in_pool(program, room):
-    """Makes a process of a pool ready. Where all is interrupted, the first process ends the others."""
-    from multiprocessing.util import Finalize
-    signal.signal(signal.SIGINT, signal.SIG_IGN)
-    begin(program, room)
-    Finalize(None, MINE.solver.stop, exitpriority=10)
-
-
-def deep(function, *values):
-    """Calls a function on a stack that is large enough for all that may be nested."""
-    found = []
-
-    def call():
-        try:
-            found.append((function(*values), None))
-        except BaseException as fault:
-            found.append((None, fault))
-
-    sys.setrecursionlimit(DEPTH)
-    threading.stack_size(STACK)
-    thread = threading.Thread(target=call)
-    thread.start()
-    thread.join()
-    threading.stack_size(0)
-    value, fault = found[0]
-    if fault:
-        raise fault
-    return value
-
-
-def prepared(path, data, room):
+def prepared(_, path, data, room, wants_text):
     """A file and its units."""
-    return deep(files.given, path, data, MINE.program, room)
+    return files.given(path, data, MINE.program, room, wants_text)
 
 
-def examined(given, unit, options):
-    """What is told of a unit."""
-    return deep(examined_deep, given, unit, options)
+class Examined(NamedTuple):
+    """What is told of a unit, and where it is verified on z3's word the text of its conditions."""
+    result: Result
+    conditions: Optional[str]
 
 
-def examined_deep(given, unit, options):
-    start = time.monotonic()
-    task = Task(given.copy, given.prelude, unit.text, given.bare, given.is_boogie, options.seconds, options.runs)
+def examined(tell, given, unit, options) -> Examined:
+    """Looks at a unit, and tells each error as soon as it is found."""
     try:
-        examiner = Examiner(task, MINE.program, MINE.solver, MINE.room)
-        outcome = examiner.outcome()
-        is_verified = outcome.verdict == VERIFIED
-        found = smoke(examiner) if options.smoke and is_verified else ("", None)
-        shown = certified(examiner, given.text_file) if options.certificates and is_verified else None
-        return result_of(unit.name, outcome, MINE.source_of(given), given.is_boogie, found, shown, time.monotonic() - start)
+        return looked_at(tell, given, unit, options)
     except (NoSolver, NotAsWritten, NoProgram, TooSlow, RecursionError, MemoryError, OSError) as why:
-        return undecided(unit.name, f"{why}" or type(why).__name__)
+        return Examined(unknown(unit.name, f"{why}" or type(why).__name__), None)
     except Exception as fault:      # what these scripts did wrong, so that nothing of the other units is hidden by it
-        return undecided(unit.name, f"tools/verify went wrong: {type(fault).__name__}: {fault}")
+        return Examined(unknown(unit.name, f"tools/verify went wrong: {type(fault).__name__}: {fault}"), None)
 
 
-class Later:
-    """What a call gives, once it is asked for."""
+def looked_at(tell, given, unit, options):
+    start, known = time.monotonic(), MINE.cache.known(unit.text)
+    if known.certificate is not None and options.certificates and not given.is_searched:
+        found = checked(MINE.program, MINE.room, given, unit, known.certificate)
+        if found.certificate is not None:
+            return Examined(Result(unit.name, VERIFIED, "", [], [], [CERTIFY], found, time.monotonic() - start), None)
+    task = Task(given.copy, given.prelude, unit.text, given.bare, given.is_boogie, options.seconds, unit.conditions, unit.first_open)
+    source = MINE.source_of(given)
+    teller = Teller(source, unit.name, given.is_boogie, options.wants_all_runs(), options.trace, options.runs)
+    if not options.z3:
+        return Examined(not_shown(teller, unit, time.monotonic() - start), None)
+    wants = Wants(options.all or options.json, options.runs, options.runs and options.all_runs, options.errors)
+    examiner = Examiner(task, MINE.program, MINE.solver, MINE.room)
+    labels = []
 
-    def __init__(self, function, values):
-        self.call, self.found = (function, values), None
+    def told(mistake):
+        error = teller.error(mistake, examiner)
+        labels.extend(error.labels)
+        tell(error)
 
-    def result(self):
-        if self.call:
-            (function, values), self.call = self.call, None
-            self.found = function(*values)
-        return self.found
-
-
-class Alone:
-    """Does all work in this process, when it is asked for."""
-
-    def __init__(self, program, room):
-        begin(program, room)
-
-    def submit(self, function, *values):
-        return Later(function, values)
-
-    def end(self):
-        MINE.solver.stop()
-
-
-class Ended(Exception):
-    """A process ended by itself while it did some work: it had too little memory, or somebody ended it."""
+    decider = Decider(examiner, source, wants, told, known.runs)
+    outcome = decider.outcome()
+    MINE.cache.keep(unit.text, Known(None, decider.runs))
+    open_ = [teller.open(label, why) for label, why in outcome.open.items()]
+    result = Result(unit.name, outcome.verdict, "", labels, open_, teller.told_by(outcome), None, time.monotonic() - start)
+    return Examined(result, examiner.text if outcome.verdict == VERIFIED else None)
 
 
-class SideBySide:
-    """Has work done in so many processes. The modules for it take long to load, and small files do without. Where one ends by itself
-    the others do too, and all are started anew."""
-
-    def __init__(self, program, room, jobs):
-        import multiprocessing
-        self.program, self.room, self.jobs = program, room, jobs
-        self.children = multiprocessing.active_children
-        self.before = set(self.children())
-        self.start()
-
-    def start(self):
-        import concurrent.futures
-        import multiprocessing
-        context = multiprocessing.get_context("fork")
-        self.pool = concurrent.futures.ProcessPoolExecutor(self.jobs, mp_context=context, initializer=begin_in_pool,
-                                                           initargs=(self.program, self.room))
-
-    def submit(self, function, *values):
-        return Started(self, (function, *values))
-
-    def started(self, call):
-        """Has a call done by the processes that there are, or by new ones."""
-        try:
-            return self.pool.submit(*call)
-        except RuntimeError:    # of which a broken pool is one
-            self.start()
-            return self.pool.submit(*call)
-
-    def end(self):
-        """Ends the processes, whatever they do."""
-        for it in set(self.children()) - self.before:
-            it.terminate()
-        self.pool.shutdown(wait=False)
+def not_shown(teller, unit, seconds) -> Result:
+    """What is told of a unit that is not proved, where no solver is asked."""
+    open_ = [teller.open(unit.first_open, NOT_PROVED)] if unit.first_open else []
+    return Result(unit.name, UNDECIDED, "" if open_ else SPENT, [], open_, [PROVE], None, seconds)
 
 
-class Started:
-    """What a call gives that is done side by side. Where a process ends it is done once more: it may have been another call's."""
+def proved(unit) -> Result:
+    """What is told of a unit that is proved."""
+    return Result(unit.name, VERIFIED, "", [], [], [PROVE], None, 0.0)
 
-    def __init__(self, pool, call):
-        self.pool, self.call = pool, call
-        self.future = pool.started(call)
 
-    def done(self):
-        return self.future.done()
+def with_certificate(_, given, unit, conditions, seconds) -> Certified:
+    """The certificate of a unit that is verified on z3's word, if one is found."""
+    try:
+        found = certified(MINE.program, MINE.room, given, unit, conditions, time.monotonic() + seconds)
+        MINE.cache.keep(unit.text, Known(found.certificate))
+        return found
+    except (NoProgram, RecursionError, MemoryError, OSError) as why:
+        return Certified(None, f"{why}" or type(why).__name__)
 
-    def result(self):
-        from concurrent.futures.process import BrokenProcessPool
-        try:
-            return self.future.result()
-        except BrokenProcessPool:
-            self.future = self.pool.started(self.call)
-        try:
-            return self.future.result()
-        except BrokenProcessPool:
-            raise Ended("the process that looked at it ended by itself, twice") from None
+
+def all_certificates(_, file):
+    """The certificates of the units of a file, one behind the other."""
+    return MINE.program.certificates(file)
+
+
+def smoke(_, given, names, seconds):
+    """The spots of some units that no run reaches."""
+    return unreached(MINE.program, MINE.solver, MINE.room, MINE.source_of(given), names, seconds)
 
 
 def cores():
+    """How many processes may run at the same time."""
     return len(os.sched_getaffinity(0))

@@ -6,10 +6,12 @@ import shutil
 import subprocess
 import sys
 import tempfile
+import time
 import unittest
 from contextlib import redirect_stderr, redirect_stdout
+from unittest import mock
 
-from verifying import boogie_word, checking, command, files, work
+from verifying import boogie_word, checking, command, files, processes
 from verifying.program import TOP, find
 
 READY = bool(os.environ.get("REMDUSKA")) and shutil.which("z3") is not None
@@ -35,12 +37,34 @@ class Words(unittest.TestCase):
             self.assertEqual((status, out, err.count("\n")), (2, "", 1), words)
 
 
-def ends_once(marker):
-    """Ends the process that it is called in, but for the second time."""
+def ends_once(tell, marker):
+    """Ends the process that it is called in behind the first thing that it tells, but for the second time."""
+    tell("one")
     if not os.path.exists(marker):
         open(marker, "w").close()
         os._exit(1)
+    tell("two")
     return "done"
+
+
+def begins(_, path):
+    """Starts a process that takes long, and waits for it."""
+    process = subprocess.Popen(["sleep", "60"])
+    with open(path, "w") as it:
+        it.write(str(process.pid))
+    process.wait()
+
+
+def ends(_, status):
+    os._exit(status)
+
+
+def size(_, value):
+    return abs(value)
+
+
+def wrong(_):
+    raise ValueError("this went wrong")
 
 
 class Interrupted(unittest.TestCase):
@@ -56,14 +80,61 @@ class Interrupted(unittest.TestCase):
 
 
 class Processes(unittest.TestCase):
-    def test_work_is_done_once_more_where_a_process_ends(self):
+    def setUp(self):
+        self.pool, self.told, self.said = processes.Pool(lambda: None, 2), [], []
+
+    def tearDown(self):
+        self.pool.end()
+
+    def ask(self, function, *values):
+        self.pool.submit(processes.Job(function, values, self.said.append, lambda why: self.said.append(f"failed: {why}"), self.told.append))
+
+    def wait(self):
+        while self.pool.is_busy():
+            self.pool.step(1)
+
+    def test_what_a_process_started_ends_with_it(self):
         with tempfile.TemporaryDirectory() as room:
-            pool = work.SideBySide("no program", room, 2)
-            calls = [pool.submit(ends_once, os.path.join(room, "marker")), pool.submit(abs, -3)]
-            self.assertEqual([it.result() for it in calls], ["done", 3])
-            self.assertRaises(work.Ended, pool.submit(os._exit, 3).result)
-            self.assertEqual(pool.submit(abs, -4).result(), 4)
-            pool.end()
+            path = os.path.join(room, "pid")
+            self.ask(begins, path)
+            while not os.path.exists(path) or not os.path.getsize(path):
+                self.pool.step(0.01)
+            self.pool.end()
+            with open(path) as it:
+                number = int(it.read())
+            for _ in range(200):
+                with open(f"/proc/{number}/stat") if os.path.exists(f"/proc/{number}/stat") else open(os.devnull) as it:
+                    if it.read().partition(") ")[2][:1] in ("", "Z"):
+                        break
+                time.sleep(0.05)
+            else:
+                self.fail(f"{number} goes on")
+
+    def test_work_is_done_once_more_where_a_process_ends_and_nothing_is_told_twice(self):
+        with tempfile.TemporaryDirectory() as room:
+            self.ask(ends_once, os.path.join(room, "marker"))
+            self.wait()
+        self.assertEqual((self.told, self.said), (["one", "two"], ["done"]))
+
+    def test_a_process_that_ends_twice_is_told_and_the_others_go_on(self):
+        self.ask(ends, 3)
+        self.ask(size, -4)
+        self.wait()
+        self.assertEqual(sorted(map(str, self.said)), ["4", "failed: the process that looked at it ended by itself, twice"])
+
+    def test_what_goes_wrong_is_told(self):
+        self.ask(wrong)
+        self.wait()
+        self.assertEqual(self.said, ["failed: this went wrong"])
+
+    def test_little_work_takes_one_process_and_work_that_waits_another(self):
+        for patience, begun in ((60, 1), (0, 2)):
+            with mock.patch.object(processes, "PATIENCE", patience):
+                for n in range(5):
+                    self.ask(size, -n)
+                self.wait()
+            self.assertEqual((sorted(self.said), len(self.pool.processes)), ([0, 1, 2, 3, 4], begun))
+            self.said.clear()
 
 
 class Boogie(unittest.TestCase):
@@ -73,6 +144,18 @@ class Boogie(unittest.TestCase):
                 "Boogie program verifier finished with 1 verified, 1 error, 1 time out\n")
         found = boogie_word.read(said, text)
         self.assertEqual((found.labels, found.slow, found.fault), (["1:2 3:4 perm"], ["M$b"], ""))
+
+    def test_a_procedure_that_boogie_does_not_tell_of_is_told_as_lost(self):
+        text = "".join([f'procedure M${it}() {{\nassert {{:msg "{n}:2 3:4 perm"}} false;\n}}\n' for n, it in enumerate("abcd")])
+        for said, lost in (("Boogie program verifier finished with 4 verified, 0 errors\n", 0),
+                           ("1:2 3:4 perm\nBoogie program verifier finished with 3 verified, 1 error\n", 0),
+                           ("1:2 3:4 perm\nBoogie program verifier finished with 2 verified, 1 error\n", 1),
+                           ("x.bpl(1,1): Verification of 'M$a' timed out after 60 seconds\n"
+                            "Boogie program verifier finished with 1 verified, 0 errors, 1 time out\n", 2)):
+            found = boogie_word.read(said, text)
+            self.assertEqual((found.lost, found.fault), (lost, ""), said)
+            self.assertEqual([it for it in boogie_word.differences(found, []) if "nothing" in it],
+                             [f"Boogie tells nothing of {lost} of the procedures"] * (lost > 0))
         self.assertIn("no verdict", boogie_word.read("Fatal Error: no prover\n", text).fault)
 
     def test_contents_have_ranks(self):
@@ -108,40 +191,48 @@ class Calls(unittest.TestCase):
             said = subprocess.run(words, stdout=subprocess.PIPE)
         self.assertTrue(said.stdout.startswith(b"// failed 53:5 24:26 false\n"))
 
+    def test_a_call_that_is_stopped_leaves_nothing_behind(self):
+        with tempfile.TemporaryDirectory() as room:
+            slow = "method m(a: Int, b: Int, c: Int) { assert a * a * a + b * b * b != c * c * c + 42 * a }\n"
+            call = subprocess.Popen([sys.executable, f"{TOP}/tools/verify", "--seconds", "600", "-"], cwd=TOP, stdin=subprocess.PIPE,
+                                    stdout=subprocess.PIPE, env={**os.environ, "TMPDIR": room})
+            call.stdin.write(slow.encode())
+            call.stdin.close()
+            while not any([os.listdir(os.path.join(room, it)) for it in os.listdir(room)]):
+                time.sleep(0.05)
+            call.terminate()
+            self.assertEqual((call.wait(60), os.listdir(room)), (143, []))
+            call.stdout.close()
+
     def test_several_files_go_on_and_the_worst_status_counts(self):
         status, out, _ = self.verify("--no-runs", "there is none.vpr", "-", "examples/list.vpr", text="method m() { var x: Seq }\n")
-        self.assertEqual(status, 2)
+        self.assertEqual(status, 4)
         lines = [it for it in out.splitlines() if not it.startswith(" ")]
-        self.assertTrue(lines[0].startswith("there is none.vpr: error: "), out)
+        self.assertTrue(lines[0].startswith("there is none.vpr:1:1: error: "), out)
         self.assertTrue(lines[1].startswith("<stdin>:1:21: error: "), out)
-        self.assertEqual(lines[2], "examples/list.vpr: verified, 6 units, each by a certificate")
+        self.assertEqual(lines[2], "examples/list.vpr: proved, 6 units")
 
-    def test_certificates_are_kept_and_accepted_for_the_whole_text(self):
+    def test_certificates_are_kept_and_accepted(self):
         with tempfile.TemporaryDirectory() as room:
             status, out, _ = self.verify("--json", "--keep", room, "examples/list.vpr")
             units = [json.loads(it) for it in out.splitlines()]
             self.assertEqual((status, [it["checked"] for it in units]), (0, [True] * 6))
-            stem, certify = os.path.join(room, "examples_list.vpr"), find("certify").certify
-            for unit, letter in ((it["unit"], "P" if it["unit"] in ("cell", "list") else "M") for it in units):
-                words = [certify, f"{stem}.text.bpl", f"{letter}${unit}", f"{stem}.{unit}.cert"]
-                self.assertEqual(subprocess.run(words, stdout=subprocess.PIPE).stdout, b"accepted\n", unit)
+            words = [find("prove").prove, "certify", f"{TOP}/examples/list.vpr", os.path.join(room, "examples_list.vpr.cert")]
+            said = subprocess.run(words, stdout=subprocess.PIPE, universal_newlines=True).stdout
+            self.assertEqual(said, "".join([f"proved {it['unit']}\n" for it in units]))
 
     def test_what_has_no_certificate_is_told_as_the_word_of_z3(self):
         status, out, _ = self.verify("--no-certificates", "examples/list.vpr")
         self.assertEqual((status, out), (0, "examples/list.vpr: verified on z3's word, 6 units\n"))
-        product = "method m(x: Int) requires x % 2 == 0 && x % 3 == 0 ensures x % 6 == 0 { }\n"
-        status, out, _ = self.verify("-", text=product)
-        self.assertEqual((status, out), (0, "<stdin>:1:8: note: `m` is verified on z3's word: no certificate was found\n"
-                                            "<stdin>: verified, 1 unit, none by a certificate\n"))
 
     def test_one_unit_alone_is_looked_at(self):
         status, out, _ = self.verify("--unit", "head", "examples/list_wrong.vpr")
-        self.assertEqual((status, out), (0, "examples/list_wrong.vpr: verified, 1 unit, by a certificate\n"))
+        self.assertEqual((status, out), (0, "examples/list_wrong.vpr: proved, 1 unit\n"))
 
     def test_what_is_assumed_in_vain_is_told(self):
         status, out, _ = self.verify("--smoke", "-", text="method m(x: Int) requires x > 0 && x < 0 { assert false }\n")
         self.assertEqual(status, 0)
-        self.assertIn("<stdin>:1:8: warning: `m` is verified vacuously", out)
+        self.assertIn("<stdin>:1:8: warning: no run of `m` begins: what it requires cannot hold\n", out)
 
     def test_what_cannot_be_written_is_told_in_a_line(self):
         for words, out in ((("--keep", "/dev/null/there"), os.devnull), (("--no-runs",), "/dev/full"), (("--help",), "/dev/full")):
@@ -163,16 +254,16 @@ class Calls(unittest.TestCase):
             with open(odd, "w") as into:
                 into.write("#!/bin/sh\necho hello\n")
             os.chmod(odd, 0o755)
-            done = subprocess.run([sys.executable, f"{TOP}/tools/verify", "examples/list.vpr"], cwd=TOP, stdout=subprocess.PIPE,
-                                  env={**os.environ, "REMDUSKA": odd}, universal_newlines=True)
-        self.assertEqual((done.returncode, "no program of Boogie" in done.stdout), (2, True))
+            done = subprocess.run([sys.executable, f"{TOP}/tools/verify", "--no-certificates", "examples/list.vpr"], cwd=TOP,
+                                  stdout=subprocess.PIPE, env={**os.environ, "REMDUSKA": odd}, universal_newlines=True)
+        self.assertEqual((done.returncode, "no program of Boogie" in done.stdout), (4, True))
 
     def test_the_name_of_a_file_is_one_line_and_in_json_as_it_is(self):
         with tempfile.TemporaryDirectory() as room:
             path = os.path.join(room, "a b\n\x1b'\".vpr")
             with open(path, "w") as it:
                 it.write("method m() { assert true }\n")
-            self.assertEqual(self.verify(path)[1], f"{room}/a b\\x0a\\x1b'\".vpr: verified, 1 unit, by a certificate\n")
+            self.assertEqual(self.verify(path)[1], f"{room}/a b\\x0a\\x1b'\".vpr: proved, 1 unit\n")
             self.assertEqual(json.loads(self.verify("--json", path)[1])["file"], path)
 
     def test_files_whose_kept_names_would_be_one_are_kept_apart(self):
@@ -188,20 +279,14 @@ class Calls(unittest.TestCase):
             for name in os.listdir(kept):
                 if name.endswith(".run"):
                     with open(os.path.join(kept, name)) as it:
-                        found[name[name.rindex("a_b.vpr"):].partition(".1-")[0]] = it.read().splitlines()[1]
+                        found[name[name.rindex("a_b.vpr"):].partition(".m.1-")[0]] = it.read().splitlines()[1]
         self.assertEqual(found, {"a_b.vpr": "var x 5", "a_b.vpr-2": "var x 6", "a_b.vpr-3": "var x 7"})
 
     def test_a_file_that_is_too_large_is_refused_without_reading_its_tokens(self):
         whole = "method m() {}\n//".ljust(files.LARGEST, "-")
-        self.assertEqual(self.verify("-", text=whole)[:2], (0, "<stdin>: verified, 1 unit, by a certificate\n"))
-        self.assertEqual(self.verify("-", text=f"{whole}-")[:2], (2, "<stdin>:1:1: error: the file has more than 1,048,576 bytes\n"))
+        self.assertEqual(self.verify("-", text=whole)[:2], (0, "<stdin>: proved, 1 unit\n"))
+        self.assertEqual(self.verify("-", text=f"{whole}-")[:2], (4, "<stdin>:1:1: error: the file has more than 1,048,576 bytes\n"))
         self.assertEqual(files.source_of("a.vpr", f"{whole}-".encode()).tokens, [])
-
-    def test_a_run_that_is_not_shown_is_not_announced(self):
-        text = "method m(x: Int) { assert x == x }\n"
-        self.assertEqual(self.verify("--smoke", "--no-runs", "-", text=text)[:2],
-                         (0, "<stdin>:1:8: note: a run of `m` is done, as `run` says\n<stdin>: verified, 1 unit, by a certificate\n"))
-        self.assertIn("this run of `m` is done, as `run` says:\nviper run\npick true\n", self.verify("--smoke", "-", text=text)[1])
 
     def test_a_run_that_needs_a_number_beyond_the_bound_is_told_in_words(self):
         top = (1 << 127) - 1
@@ -209,7 +294,7 @@ class Calls(unittest.TestCase):
                           (f"method b(n: Int) requires n <= {top} {{ assert n + {top} < {top} + 5 }}", "run says // over 1:")):
             status, out, _ = self.verify("-", text=text)
             words = "but the run needs a number beyond 2^127 - 1 in magnitude, which run files and `run` do not take, "
-            self.assertEqual(status, 2)
+            self.assertEqual(status, 3)
             self.assertIn(f"{words}so it cannot be confirmed: {own}", out)
 
     def test_a_program_of_boogie_fails_in_replay(self):

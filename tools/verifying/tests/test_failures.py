@@ -2,7 +2,7 @@
 import random
 import unittest
 
-from verifying import failures
+from verifying import failures, following, identifiers, naming
 from verifying.failures import Told
 from verifying.source import Source
 from verifying.telling import error_lines
@@ -149,7 +149,7 @@ class Failures(unittest.TestCase):
             "list.vpr:6:11: error: a postcondition of `m` may not hold at the end of the body: "
             "there may be too little permission to `list(x)`",
             "    6 |   ensures list(x) && (unfolding acc(list(x), 1/k) in x.val) > v",
-            "      |           ^",
+            "      |           ^^^^^^^",
             "list.vpr:7:1: note: at the end of this body",
             "    7 | {",
             "      | ^"])
@@ -177,6 +177,8 @@ class AnyLabel(unittest.TestCase):
                 at, part = (chance.choice(source.tokens) for _ in range(2))
                 label = f"{at.line}:{at.column} {part.line}:{part.column} {chance.choice(list(failures.PLAIN)[:6])}"
                 told = failures.told(source, label)
+                for it in (naming.named, identifiers.identifier, following.own_label, following.home_of):
+                    self.assertIsInstance(it(source, label), str)
                 self.assertTrue(error_lines(source, told)[0].startswith("any.vpr:"))
 
     def test_a_long_term_is_no_deep_one(self):

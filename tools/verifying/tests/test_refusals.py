@@ -14,6 +14,22 @@ def body(statements):
     return f"method m(x: Ref, n: Int, s: Ref) returns (r: Int) {{ {statements} }}"
 
 
+MEANT = (
+    ("methd m() {}", "syntax 1:1", "`methd` cannot stand here; did you mean `method`?"),
+    ("method m(x: Int) requiers x > 0 {}", "syntax 1:18", "`requiers` cannot stand here; did you mean `requires`?"),
+    ("method m(x: Int) { asert x > 0 }", "syntax 1:26", "`x` cannot stand here behind `asert`; did you mean `assert`?"),
+    ("method m(x: Int) { whlie (x > 0) { } }", "syntax 1:34", "`{` cannot stand here behind `whlie`; did you mean `while`?"),
+    ("method m(x: Bool) { if (x) { } esle { } }", "syntax 1:37", "`{` cannot stand here behind `esle`; did you mean `else`?"),
+    ("method m(x: Itn) { }", "syntax 1:13", "`Itn` cannot stand here; did you mean `Int`?"),
+    ("method m(count: Int) { assert coutn > 0 }", "type 1:31 rule 1", "no variable coutn is declared here; did you mean `count`?"),
+    ("method m(x: Ref) { assert x != nul }", "type 1:32 rule 1", "no variable nul is declared here; did you mean `null`?"),
+    ("method m(aa: Int, ab: Int) { assert ac > 0 }", "type 1:37 rule 1", "no variable ac is declared here"),
+    ("method m(a: Int) { assert b > 0 }", "type 1:27 rule 1", "no variable b is declared here"),
+    ("field value: Int method m(x: Ref) { assert x.vlaue > 0 }", "type 1:46 rule 1", "no field vlaue is declared; did you mean `value`?"),
+    ("predicate cell(x: Ref) method m(x: Ref) { fold cel(x) }", "type 1:48 rule 1",
+     "no predicate cel is declared; did you mean `cell`?"),
+    ("method foo() method m(x: Ref) { fooo() }", "type 1:33 rule 1", "no method fooo is declared; did you mean `foo`?"),
+)
 SYNTAX = (
     ("method m() { var a: Int, b: Int }", "syntax 1:24", "`,` cannot stand here; a var declares one name; write `var` for each"),
     ("field f: Int, g: Int", "syntax 1:13", "`,` cannot stand here; a field declares one name; write `field` for each"),
@@ -159,6 +175,9 @@ class Refusals(unittest.TestCase):
 
     def test_tokens_and_grammar(self):
         self.each(SYNTAX)
+
+    def test_what_was_meant(self):
+        self.each(MEANT)
 
     def test_types(self):
         self.each(RULES)

@@ -1,18 +1,22 @@
-"""What is shown of an error: lines with marks, a run with comments, and the state where it fails.
+"""What is shown of an error: lines with marks, the steps of a run, a run file with comments, and the state where it fails.
 
-data/told.bpl is the procedure that `translate` writes for `main` of data/told.vpr, and data/told.brun the run of Boogie that `run`
-writes for data/told.run."""
+data/told.run is a run of `main` of data/told.vpr."""
 import unittest
+from fractions import Fraction
 from pathlib import Path
 
 from verifying import telling
-from verifying.boogie_text import procedure_texts, read_procedure
 from verifying.contents import content_words
 from verifying.failures import Told
+from verifying.meaning import Meaning
 from verifying.results import told_of_boogie
-from verifying.run_files import ViperRun, read_back
+from verifying.retelling import Retold
+from verifying.run_files import ViperRun
 from verifying.source import Source
+from verifying.trace import lines
+from verifying.values import Ref, word
 
+LABEL = "22:3 22:10 false"
 DATA = Path(__file__).resolve().parent / "data"
 CHOICES = ("pick", "value", "amount", "fresh", "state")
 TITLES = """\
@@ -42,14 +46,11 @@ def choices_of(text):
 class Shown(unittest.TestCase):
     def setUp(self):
         self.source = Source("told.vpr", (DATA / "told.vpr").read_bytes())
-        (_, text), = procedure_texts((DATA / "told.bpl").read_text())
-        self.walk = read_back(read_procedure(text), (DATA / "told.brun").read_text())
-        end = self.walk.run()
-        self.assertEqual((end.how, end.label), ("failed", "22:3 22:10 false"))
         self.run_ = ViperRun("main", choices_of((DATA / "told.run").read_text()))
+        self.again = Retold(self.source, self.run_, LABEL)
 
     def test_each_choice_has_its_comment(self):
-        lines = telling.commented_run(self.run_, self.walk, self.source)
+        lines = self.again.run_file().splitlines()
         self.assertEqual([it[3:] for it in lines if it.startswith("// ")], TITLES)
         self.assertEqual("\n".join(it for it in lines if not it.startswith("//")) + "\n", self.run_.text())
         for n, line in enumerate(lines):
@@ -58,55 +59,57 @@ class Shown(unittest.TestCase):
 
     def test_choices_that_are_left_are_not_taken(self):
         self.run_.choices.append(["pick true"])
-        self.assertEqual(telling.commented_run(self.run_, self.walk, self.source)[-2:], ["// not taken", "pick true"])
+        self.assertEqual(Retold(self.source, self.run_, LABEL).run_file().splitlines()[-2:], ["// not taken", "pick true"])
 
-    def test_without_the_sites_the_comments_are_plain(self):
-        other = Source("told.vpr", self.source.data.replace(b"var a: Int\n", b"\n"))
-        found = [it[3:] for it in telling.commented_run(self.run_, self.walk, other) if it.startswith("//")]
-        self.assertEqual(found[0], "the body runs")
-        self.assertEqual(found[2], "a new object")
-        self.assertEqual(found[6], "what is not held gets any value")
-        self.assertEqual(len(found), len(TITLES))
+    def test_of_a_run_that_ends_otherwise_here_only_the_run_file_is_told(self):
+        again = Retold(self.source, self.run_, "22:3 22:10 perm")
+        self.assertEqual(again.run_file(), self.run_.text())
+        self.assertEqual((again.rows(), again.needs(), again.state_data(), again.lines(True)), ([], [], [], []))
 
-    def test_the_state_for_people(self):
-        self.assertEqual(telling.state(self.walk, self.source)[0], [
-            "first = #1, n = 2, k = 2, a = 5, made = #2, l = #3",
-            "#2.value = 6, held: write",
-            "#3.value = 3, held: 1/2",
-            "#3.next = #4, held: 1/2",
-            "list(#1) {value 4, next null}, held: 1/2",
-            "list(#3) {value 3, next #4, list(#4) {value -1, next null}}, held: 1/2",
-            "list(#4) {value -1, next null}, held: 1/2"])
+    def test_the_steps_for_people(self):
+        self.assertEqual([it.split(None, 1)[0] for it in self.again.lines(True)], "10 11 13 14 15 16 17 20 20 21 22".split())
+        self.assertEqual([it.text for it in self.again.rows()], [
+            "first = #1, n = 2",
+            "gives list(first) {value 4, next null}",
+            "a = 5",
+            "made = #2; made.value = 6, write",
+            "l = null",
+            "l = #3; takes 1/2 of list(first), 1/2 is left; gives list(l) {value 3, next #4, list(#4) {value -1, next null}}",
+            "behind the loop: k = 2",
+            "true",
+            "inner = 2",
+            "takes 1/2 of list(l), 1/2 is left; l.value = 3, 1/2; l.next = #4, 1/2; list(#4) {value -1, next null}, 1/2",
+            "fails: 3 == 7"])
+
+    def test_what_is_needed(self):
+        self.assertEqual(self.again.needs(), [
+            "`l.value == 7` is 3 == 7",
+            "push(first, a) at 16:3 gives l.value = 3: its contract says nothing of its value"])
+
+    def test_a_step_as_data(self):
+        row = self.again.rows()[3].data()
+        state = row.pop("state")
+        self.assertEqual(row, {
+            "line": 14, "column": 3, "end_line": 14, "end_column": 30, "source": "var made: Ref := new(value)",
+            "text": "made = #2; made.value = 6, write",
+            "changes": [{"variable": "made", "value": "#2"}, {"place": "#2.value", "held": "1", "held_before": "0", "value": "6"}]})
+        self.assertEqual(state, {
+            "variables": {"first": "#1", "n": "2", "k": "0", "a": "5", "made": "#2"},
+            "places": [{"place": "#2.value", "value": "6", "held": "1"}],
+            "instances": [{"predicate": "list", "arguments": ["#1"], "held": "1", "content": "{value 4, next null}"}]})
+
+    def test_a_long_run_is_cut_in_the_middle(self):
+        rows = self.again.rows() * 3
+        cut = lines(rows, False)
+        self.assertEqual((len(cut), len(lines(rows, True))), (15, 33))
+        self.assertEqual(cut[6].split(), "..  19 more steps, which --trace shows".split())
 
     def test_the_state_as_data(self):
-        data = telling.state(self.walk, self.source)[1]
+        data = self.again.state_data()
         self.assertEqual(data[0], {"variable": "first", "value": "#1"})
         self.assertEqual(data[6], {"place": "#2.value", "held": "1/1", "value": "6"})
         self.assertEqual(data[9], {"predicate": "list", "arguments": ["#1"], "held": "1/2", "content": "value 4, next null"})
         self.assertEqual(len(data), 12)
-
-
-class Held(unittest.TestCase):
-    """A step takes permission away part by part; what is told is what was there before."""
-
-    SOURCE = Source("file.vpr", b"field f: Int\nmethod m(x: Ref) { exhale acc(x.f) && false assert false }")
-    TEXT = """procedure M$m() {{
-var v$x: Ref; var h$f: [Ref]int; var m$f: [Ref]real; var z$: [Ref]real; var t$5: [Ref]int;
-m$f := z$; m$f[v$x] := (m$f[v$x] + 1.0);
-assert {{:msg "2:20 2:33 perm"}} (m$f[v$x] >= 1.0); m$f[v$x] := (m$f[v$x] - 1.0);
-m$f[v$x] := (m$f[v$x] - 0.0); {} assert {{:msg "{}"}} false; }}"""
-
-    def state(self, *parts):
-        walk = read_back(read_procedure(self.TEXT.format(*parts)), "boogie run M$m\nvar v$x #1\n")
-        self.assertEqual(walk.run().label, parts[1])
-        return telling.state(walk, self.SOURCE)[0]
-
-    def test_what_the_failing_step_took_is_told(self):
-        self.assertEqual(self.state("", "2:20 2:39 false"), ["x = #1", "#1.f = 0, held: write"])
-
-    def test_what_a_step_before_took_is_gone(self):
-        self.assertEqual(self.state("", "2:45 2:52 false"), ["x = #1"])
-        self.assertEqual(self.state("h$f := t$5;", "2:20 2:39 false"), ["x = #1"])
 
 
 class Contents(unittest.TestCase):
@@ -114,47 +117,49 @@ class Contents(unittest.TestCase):
 predicate sides(x: Ref, b: Bool) { b ? acc(x.f) && acc(x.g) : acc(x.h) }
 predicate maybe(x: Ref) { acc(x.g) && (x.g != null ==> acc(x.g.f, 1/2)) && x.g != x }
 predicate open(n: Int) predicate both() { open(1) && acc(open(1 + 1)) && true }
-predicate either(x: Ref, b: Bool) { b ? acc(x.f) : open(1) && x != null }
-predicate same(x: Ref, b: Bool) { b ? acc(x.f) : acc(x.h, none) && acc(x.g) }
 predicate twin(x: Ref, b: Bool) { (b) ? acc(x.f) : acc(x.k) } field k: Int field c: Bool
 predicate kept(x: Ref) { acc(x.c) && (x.c ? acc(x.f) : acc(x.k)) }
-predicate more(x: Ref, b: Bool) { !b ? acc(x.f) : acc(x.k) }""")
+predicate count(x: Ref, n: Int) { acc(x.g) && (n > 0 ==> count(x.g, n - 1)) }
+predicate part(x: Ref) { acc(x.f, none) && acc(x.k) }""")
+    X = Ref(1)
 
     def told(self, name, arguments, value):
-        return content_words(self.SOURCE, name, arguments, value)
+        meaning = Meaning(self.SOURCE, None)
+        return content_words(meaning, (name, tuple(arguments)), value)[1:-1]
 
     def test_forms_of_bodies(self):
-        int_, ref, perm, unit = ("leaf", "int", 3), ("leaf", "Ref", 2), ("leaf", "real", 1), ("unit",)
-        self.assertEqual(self.told("sides", ["#1", "true"], ("pair", int_, ref)), "f 3, g #2")
-        self.assertEqual(self.told("sides", ["#1", "false"], perm), "h 1/1")
-        self.assertEqual(self.told("maybe", ["#1"], ("pair", ref, ("pair", int_, unit))), "g #2, x.g.f 3")
-        self.assertEqual(self.told("maybe", ["#1"], ("pair", ("leaf", "Ref", 0), ("pair", unit, unit))), "g null")
-        self.assertEqual(self.told("both", [], ("pair", int_, ("pair", unit, unit))), "open(1) {leaf 3}, open(1 + 1)")
-        self.assertEqual(self.told("same", ["#1", "true"], int_), "f 3")
-        self.assertEqual(self.told("either", ["#1", "true"], int_), "f 3")
-        self.assertEqual(self.told("either", ["#1", "false"], ("pair", int_, unit)), "open(1) {leaf 3}")
+        int_, ref, perm, unit = ("leaf", "int", 3), ("leaf", "Ref", 2), ("leaf", "real", Fraction(1)), ("unit",)
+        self.assertEqual(self.told("sides", [self.X, True], ("pair", int_, ref)), "f 3, g #2")
+        self.assertEqual(self.told("sides", [self.X, False], perm), "h 1")
+        self.assertEqual(self.told("maybe", [self.X], ("pair", ref, ("pair", int_, unit))), "g #2, #2.f 3")
+        self.assertEqual(self.told("maybe", [self.X], ("pair", ("leaf", "Ref", 0), ("pair", unit, unit))), "g null")
+        self.assertEqual(self.told("both", [], ("pair", int_, ("pair", unit, unit))), "open(1), open(2)")
+        self.assertEqual(self.told("part", [self.X], ("pair", unit, int_)), "k 3")
 
-    def test_a_condition_that_is_known_says_which_side_is_meant(self):
+    def test_a_condition_says_which_side_is_meant(self):
         int_ = ("leaf", "int", 3)
-        for word, name in (("true", "f"), ("false", "k")):
-            self.assertEqual(self.told("twin", ["#1", word], int_), f"{name} 3")
-            self.assertEqual(self.told("kept", ["#1"], ("pair", ("leaf", "bool", word == "true"), int_)), f"c {word}, {name} 3")
-            self.assertEqual(self.told("more", ["#1", word], int_), "leaf 3")
-            self.assertEqual(self.told("twin", ["#1", word], ("pair", int_, int_)), "pair leaf 3 leaf 3")
+        for truth, name in ((True, "f"), (False, "k")):
+            self.assertEqual(self.told("twin", [self.X, truth], int_), f"{name} 3")
+            self.assertEqual(self.told("kept", [self.X], ("pair", ("leaf", "bool", truth), int_)), f"c {word(truth)}, {name} 3")
 
-    def test_what_does_not_fit_is_told_as_a_run_file_has_it(self):
-        self.assertEqual(self.told("maybe", ["#1"], ("leaf", "int", 3)), "leaf 3")
-        self.assertEqual(self.told("nobody", ["#1"], ("pair", ("unit",), ("unit",))), "pair unit unit")
-        self.assertEqual(self.told("maybe", ["#1"], ("unit",)), "")
+    def test_arguments_are_values(self):
+        ref, unit = ("leaf", "Ref", 2), ("unit",)
+        inner = ("pair", ("leaf", "Ref", 5), unit)
+        self.assertEqual(self.told("count", [self.X, 2], ("pair", ref, inner)), "g #2, count(#2, 1) {g #5, count(#5, 0)}")
+
+    def test_what_does_not_fit_is_left_out(self):
+        self.assertEqual(self.told("maybe", [self.X], ("leaf", "int", 3)), "")
+        self.assertEqual(self.told("maybe", [self.X], ("unit",)), "")
+        self.assertEqual(self.told("kept", [self.X], ("pair", ("unit",), ("leaf", "int", 3))), "")
 
     def test_a_long_list_is_cut(self):
         source = Source("list.vpr", b"field n: Ref predicate list(x: Ref) { acc(x.n) && (x.n != null ==> list(x.n)) }")
         value = ("pair", ("leaf", "Ref", 0), ("unit",))
         for n in range(2000):
             value = ("pair", ("leaf", "Ref", n + 1), value)
-        words = content_words(source, "list", ["#9"], value)
-        self.assertTrue(words.startswith("n #2000, list(#2000) {n #1999, list(#1999) {"))
-        self.assertTrue(len(words) < 600 and words.endswith(".."))
+        words = content_words(Meaning(source, None), ("list", (Ref(9),)), value)
+        self.assertTrue(words.startswith("{n #2000, list(#2000) {n #1999, list(#1999) {"))
+        self.assertTrue(len(words) < 600 and ".." in words)
 
 
 class OfBoogie(unittest.TestCase):

@@ -1,0 +1,232 @@
+"""Looks for a run that can be believed: each instance that is held can be opened, and what is named differently is different.
+
+Such runs are those of a changed file. Wherever a specification gives instances, an assumption stands behind it that opens each of them
+once, as `assume unfolding list(x) in true`. It takes no choice of a run, so a run of the changed file is one of the file itself."""
+from .contents import spelled
+from .meaning import Blocks, Fails, Scene
+from .references import Names
+from .running import rerun
+from .search import PLAIN
+from .terms import Statement, Term, nodes_of
+from .trying import Changed, Insertion, Trials
+from .units import Failure
+from .values import NONE, Ref
+from .wording import Spelling
+
+PART = 0.6          # of the time that is left, for one way to ask
+LONG = 2000         # the most characters of a term that is spelled
+GONE = "?"          # stands for a term that may have another value behind a call
+MOST_PAIRS = 10     # so many pairs of parameters are taken to be different
+
+
+class Doubts:
+    """What of a run cannot be believed: `of` names the first instance that its body rules out, or gives `` where there is none."""
+
+    def __init__(self, again):
+        self.again, self.meaning = again, again.meaning
+
+    def instance(self):
+        """The first instance that is held somewhere and that cannot be opened, and the step behind which that is."""
+        seen = set()
+        for step in self.again.steps:
+            state = (step.before if step.fault else step.after).state
+            for instance, _ in state.instances():
+                key = instance, state.inside(instance)
+                if key not in seen and not self.opens(instance, state):
+                    return instance, step
+                seen.add(key)
+        return None
+
+    def opens(self, instance, state):
+        """Whether an instance alone can be opened, so that no place of it leads to itself."""
+        unit = self.again.source.declared[instance[0]]
+        if unit.brace is None:
+            return True
+        body, names = self.meaning.body(instance[0])
+        opened = type(state)(state.types)
+        try:
+            self.meaning.fill(body, state.inside(instance), opened, Scene(dict(zip(names, instance[1])), None, unit.word), NONE + 1)
+        except (Fails, Blocks):
+            return False
+        return not any([isinstance(opened.value(it), Ref) and opened.value(it) == it[1] for it, _ in opened.places()])
+
+    def has_aliases(self):
+        """Whether two parameters are one object."""
+        values = [self.again.steps[0].after.vars[it.name] for it in self.again.unit.parameters() if it.type == "Ref"]
+        found = [it for it in values if it != 0]
+        return len(found) > len(set(found))
+
+
+class Assumptions:
+    """The assumptions of a unit, as insertions into its file."""
+
+    def __init__(self, again):
+        self.again, self.source, self.unit, self.meaning = again, again.source, again.unit, again.meaning
+        self.spelling, self.found = Spelling(again.source), []
+
+    def all(self):
+        """Those behind the precondition, calls, loops, `inhale`s, and at the begin of a turn."""
+        if self.unit.kind != "method" or self.unit.brace is None:
+            return []
+        self.behind(self.unit.brace, [term.node for _, term in self.again.contract(self.unit, "requires")], None)
+        n = self.unit.brace + 1
+        while n < self.source.closing[self.unit.brace]:
+            n = self.statement(n)
+        return self.found
+
+    def behind(self, token, terms, scene):
+        texts = [text for it in terms for text in self.opened(it, scene)]
+        if texts:
+            end = self.source.tokens[token].end
+            self.found.append(Insertion(end, end, "".join([f" assume {it}" for it in texts])))
+
+    def statement(self, n):
+        """Looks at what stands at a token. Returns the next one."""
+        if self.source.said(n) in ("{", "}", ";", "else"):
+            return n + 1
+        it = Statement(self.source, n)
+        if it.kind == "while":
+            return self.loop(it)
+        if it.kind == "inhale":
+            self.behind(it.end - 1, it.terms, None)
+        elif it.kind == "unfold" and it.terms and it.terms[0].kind == "call":
+            self.unfold(it, it.terms[0])
+        elif it.callee is not None:
+            self.call(it)
+        return max(n + 1, it.end)
+
+    def unfold(self, it, call):
+        unit = self.source.declared[self.source.said(call.at)]
+        given = dict(zip([v.name for v in unit.parameters()], call.parts))
+        self.behind(it.end - 1, [Term(self.source, unit.brace + 1).node], Scene({}, None, it.at, given, Scene({}, None, it.at)))
+
+    def loop(self, it):
+        brace, terms = it.end, []
+        while self.source.said(brace) != "{":
+            term = Term(self.source, brace + 1)
+            terms.append(term.node)
+            brace = term.end
+        self.behind(brace, terms, None)
+        self.behind(self.source.closing[brace], terms, None)
+        return brace + 1
+
+    def call(self, it):
+        unit = self.source.declared[self.source.said(it.callee)]
+        targets = [self.source.said(n) for n in it.targets]
+        given = {v.name: term if self.stays(term, targets) else GONE for v, term in zip(unit.parameters(), it.terms)}
+        given.update(zip([v.name for v in unit.variables if v.role == "return"], targets))
+        scene = Scene({}, None, it.at, given, Scene({}, None, it.at))
+        self.behind(it.end - 1, [term.node for _, term in self.again.contract(unit, "ensures")], scene)
+
+    def stays(self, term, targets):
+        """Whether a term has the same value behind a call: it reads no field, and none of the targets."""
+        return not any([node.kind == "field" or node.kind == "leaf" and self.source.said(node.at) in targets for node, _ in nodes_of(term)])
+
+    # ---- terms
+
+    def text(self, node, scene):
+        return self.spelling.of(node, scene, LONG)
+
+    def opened(self, term, scene):
+        """The terms that open the instances of an assertion, each under its conditions."""
+        found, todo = [], [(term, [])]
+        while todo:
+            node, under = todo.pop()
+            sign = self.meaning.sign(node)
+            if sign == "&&":
+                todo += [(it, under) for it in reversed(node.parts)]
+            elif sign == "==>":
+                todo.append((node.parts[1], [*under, f"({self.text(node.parts[0], scene)})"]))
+            elif sign == "?":
+                condition = self.text(node.parts[0], scene)
+                todo += [(node.parts[2], [*under, f"!({condition})"]), (node.parts[1], [*under, f"({condition})"])]
+            elif node.kind in ("acc", "call"):
+                text = self.instance(node, scene)
+                found += [" ==> ".join([*under, text])] if text and not self.reads_old(node) else []
+        return [it for it in found if "old(" not in it and GONE not in it]
+
+    def reads_old(self, node):
+        return any([it.kind == "old" for it, _ in nodes_of(node)])
+
+    def instance(self, node, scene):
+        """The term that opens an instance, or nothing."""
+        call = node.parts[0] if node.kind == "acc" else node
+        unit = self.source.declared.get(self.source.said(call.at)) if call.kind == "call" else None
+        if unit is None or unit.brace is None or self.meaning.is_wildcard(node):
+            return ""
+        amount = self.text(node.parts[1], scene) if node.kind == "acc" and len(node.parts) > 1 else "write"
+        inner = Scene({}, None, call.at, dict(zip([it.name for it in unit.parameters()], call.parts)), scene or Scene({}, None, call.at))
+        return f"(({amount}) > none ==> unfolding acc({self.text(call, scene)}, {amount}) in {self.apart(unit, inner)})"
+
+    def apart(self, unit, scene):
+        """That no place of a body leads to its own object."""
+        found, todo = [], [(Term(self.source, unit.brace + 1).node, [])]
+        while todo:
+            node, under = todo.pop()
+            sign = self.meaning.sign(node)
+            if sign == "&&":
+                todo += [(it, under) for it in reversed(node.parts)]
+            elif sign == "==>":
+                todo.append((node.parts[1], [*under, f"({self.text(node.parts[0], scene)})"]))
+            elif node.kind == "acc" and node.parts[0].kind == "field" and len(node.parts) == 1 and self.is_reference(node.parts[0]):
+                place, receiver = (self.text(it, scene) for it in (node.parts[0], node.parts[0].parts[0]))
+                found.append(f"({' ==> '.join([*under, f'{place} != {receiver}'])})")
+        return " && ".join(found) if found else "true"
+
+    def is_reference(self, node):
+        return self.meaning.types.get(self.source.said(node.at)) == "Ref"
+
+    def different(self):
+        """That the parameters that are references are different objects, behind the brace of the body."""
+        names = [it.name for it in self.unit.parameters() if it.type == "Ref"]
+        pairs = [(a, b) for n, a in enumerate(names) for b in names[:n]][:MOST_PAIRS]
+        end = self.source.tokens[self.unit.brace].end
+        return [Insertion(end, end, "".join([f" assume {a} == null || {a} != {b}" for a, b in pairs]))] if pairs else []
+
+
+def believable(examiner, source, failure: Failure) -> Failure:
+    """A failure at the same label with a run that can be believed, where there is one; or the failure as it is."""
+    if not failure.confirmed or examiner.task.is_boogie:
+        return failure
+    again = rerun(source, failure.run)
+    if again.how != "failed" or again.label() != failure.label or again.unit.kind != "method" or again.unit.brace is None:
+        return failure
+    doubts = Doubts(again)
+    cannot_open, aliases = doubts.instance() is not None, doubts.has_aliases()
+    if not cannot_open and not aliases:
+        return failure
+    assumptions = Assumptions(again)
+    opened = assumptions.all()
+    ways = [[*opened, *assumptions.different()]] + ([opened] if cannot_open and opened else [])
+    trials = Trials(examiner, source, again.unit.name)
+    try:
+        for it in ways if ways[0] else []:
+            found = other_run(trials, Changed(source.data, it), failure)
+            if found is not None:
+                return found
+    finally:
+        examiner.search.begin_anew()
+    return failure
+
+
+def other_run(trials, changed, failure):
+    """A failure at the same label with a run of a changed file, or None."""
+    examiner, label = trials.examined(changed), changed.label(trials.source, failure.label)
+    terms = examiner.possible().get(label) if examiner is not None else None
+    if not terms:
+        return None
+    _, values = examiner.search.any_of(terms, (PLAIN,), PART)
+    if values is None or examiner.fails_at(values) != label:
+        return None
+    run = examiner.small_run(values, label)
+    found = trials.examiner.confirmed_run(run, failure.label)
+    return found if found.confirmed else None
+
+
+def unopened(again):
+    """The line that tells that nothing opens an instance of a run, or nothing."""
+    found = Doubts(again).instance()
+    if found is None:
+        return ""
+    names = Names(again.visible(found[1]))
+    return f"{spelled(found[0], names)} is held in this run although its body rules it out: no step opens it"
