@@ -162,7 +162,7 @@ impl Classes {
         let op = terms.op(it.term());
         let own = terms.is_own(it.term());
         if own && (op == TermOp::Mul || op == TermOp::Div) {
-            self.fold_product(it, terms, fuel)?;
+            self.fold_product(it, op, terms, fuel)?;
         }
         if own || self.constant(it).is_some() {
             return Ok(());
@@ -239,13 +239,13 @@ impl Classes {
     fn fold_product(
         &mut self,
         it: SignedTerm,
+        op: TermOp,
         terms: &mut Terms,
         fuel: &mut Fuel,
     ) -> Result<(), SearchStop>
         ensures { fuel.new.left ≤ fuel.old.left }
     {
         fuel.take(1)?;
-        let op = terms.op(it.term());
         let (a, b) = (terms.part(it.term(), 0), terms.part(it.term(), 1));
         let Some(parts) = self.with_constant(op, a, b) else {
             return Ok(());

@@ -1,4 +1,4 @@
-//! What literals and terms that matter need: their parts, choices, reads of maps, and the instances of each `forall` at what is read.
+//! Inferences from literals and terms that matter: by their parts, choices, reads of maps, and instances of each `forall` at what is read.
 #![tactic(auto)]
 
 mod choices;
