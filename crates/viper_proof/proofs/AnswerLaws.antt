@@ -1,11 +1,8 @@
--- Answers one after the other, and what they come to where each unit is proved.
-use Rattle.std.proofs.Common.{◌≡◌, ◌⊎◌, inl, inr, ◌+◌, ◌++◌, ◌<◌, ◌≤◌, ℕ, zero, suc, List, [], ◌∷◌, All, Some, length, slice_get, refl, sym, subst, arith}
+-- What answers come to where each unit is proved, and why there are none.
+use Rattle.std.proofs.Common.{◌≡◌, ◌<◌, ◌≤◌, ℕ, List, All, length, refl, subst, arith}
 use Rattle.std.proofs.lemmas.Option.{slice_get_within}
-use Rattle.lemmas.proofs.Lists.{there_split, item_there, at_item}
-use Rattle.lemmas.proofs.Options.{some_same, none_some}
 use Rattle.vb_base.specs.Limits.{max_viper_bytes}
 use Rattle.viper_core.specs.Program.{Program}
-use Rattle.viper_core.specs.declared.programs.Unit.{Unit}
 use Rattle.viper_exec_meaning.specs.Frame.{NoUnitFails}
 use Rattle.viper_file.proofs.UnitLaws as whole
 use Rattle.viper_file.proofs.Verdicts.{accepted_formed}
@@ -15,42 +12,14 @@ use Rattle.viper_file.specs.declared.fault.ViperFault.TheVariants as file
 use Rattle.viper_file.specs.declared.fault.ViperRefusal.{ViperRefusal}
 use Rattle.viper_file.specs.declared.fault.ViperRefusal.TheVariants as refusal
 use Rattle.viper_proof.specs.Parts.{unproved_of_file, unproved_of_certificates}
-use Rattle.viper_proof.specs.Shown.{UnitNeverFails, IsProved, AreShown, IsAnswered, NothingFails, name_of}
-use Rattle.viper_proof.specs.declared.answers.UnitAnswer.{UnitAnswer}
-use Rattle.viper_proof.specs.declared.faults.CertificateFault.{CertificateFault}
-use Rattle.viper_proof.specs.declared.faults.CertificateFault.TheVariants as certificate
+use Rattle.unit_proof.specs.Shown.{IsProved}
+use Rattle.unit_proof.specs.declared.answers.UnitAnswer.{UnitAnswer}
+use Rattle.unit_proof.specs.declared.faults.CertificateFault.{CertificateFault}
+use Rattle.unit_proof.specs.declared.faults.CertificateFault.TheVariants as certificate
+use Rattle.unit_proof.proofs.AnswerLaws.{none_fails}
+use Rattle.viper_meaning.specs.Units.{ViperFails}
+use Rattle.viper_proof.specs.Shown.{AreShown, IsNameOf, IsAnswered, NothingFails}
 use Rattle.viper_proof.specs.declared.faults.Unproved.TheVariants as unproved
-
--- ---- one more answer
-
-pub none_shown : (p : Program) → AreShown p []
-none_shown p = record { proved = λ n a is. absurd (none_some is); named = λ n a u is. absurd (none_some is) }
-
-module _ (p : Program) (before : List UnitAnswer) (a : UnitAnswer) (k : ℕ) (as_many : length before ≡ k) (shown : AreShown p before)
-    (proved : IsProved a → UnitNeverFails p k) (named : (u : Unit) → slice_get p.units k ≡ Some u → a.name ≡ name_of p u) where
-  -- behind the earlier answers there is this one
-  is_last : (j n : ℕ) (b : UnitAnswer) → n ≡ length before + j → slice_get (a ∷ []) j ≡ Some b → (n ≡ k) × (a ≡ b)
-  is_last zero n b at is = (omega (arith, at, as_many), some_same is)
-  is_last (suc j) n b at is = absurd (cc)
-
-  proved_at : (n : ℕ) (b : UnitAnswer) → (slice_get before n ≡ Some b) ⊎ ((j : ℕ) × (n ≡ length before + j) × (slice_get (a ∷ []) j ≡ Some b)) → IsProved b → UnitNeverFails p n
-  proved_at n b (inl is) flag = shown.proved n b is flag
-  proved_at n b (inr (j, at, is)) flag =
-      let last = is_last j n b at is in
-      subst (UnitNeverFails p) (sym last.0) (proved (subst IsProved (sym last.1) flag))
-
-  named_at : (n : ℕ) (b : UnitAnswer) (u : Unit) → (slice_get before n ≡ Some b) ⊎ ((j : ℕ) × (n ≡ length before + j) × (slice_get (a ∷ []) j ≡ Some b)) →
-      slice_get p.units n ≡ Some u → b.name ≡ name_of p u
-  named_at n b u (inl is) there = shown.named n b u is there
-  named_at n b u (inr (j, at, is)) there =
-      let last = is_last j n b at is in
-      subst (λ (c : UnitAnswer). c.name ≡ name_of p u) last.1 (named u (subst (λ i. slice_get p.units i ≡ Some u) last.0 there))
-
-  pub shown_more : (now : List UnitAnswer) → now ≡ before ++ a ∷ [] → AreShown p now
-  shown_more now e = subst (AreShown p) (sym e) (record {
-    proved = λ n b is. proved_at n b (there_split before (a ∷ []) n b is);
-    named = λ n b u is. named_at n b u (there_split before (a ∷ []) n b is);
-  })
 
 -- ---- all units are proved
 
@@ -58,8 +27,7 @@ no_unit_fails : (p : Program) (answers : List UnitAnswer) → length answers ≡
 no_unit_fails p answers as_many shown all = λ n label fails.
     let opens = fails.opens in
     let within : n < length answers = omega (arith, as_many, slice_get_within p.units n opens.unit opens.exists) in
-    let (a, there) = item_there answers n within in
-    shown.proved n a there (at_item IsProved answers all n a there) label fails
+    none_fails (ViperFails p) (IsNameOf p) answers shown all n within label fails
 
 -- where no unit fails, nothing of the file does
 pub all_fine : {source : List ℕ} {p : Program} → IsAccepted source p → NoUnitFails p → NothingFails source

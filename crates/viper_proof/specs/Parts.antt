@@ -1,8 +1,8 @@
 -- Why nothing is told of a file, by the fault of a part.
 use Rattle.viper_file.specs.declared.fault.ViperFault.{ViperFault}
 use Rattle.viper_file.specs.declared.fault.ViperFault.TheVariants as file
-use Rattle.viper_proof.specs.declared.faults.CertificateFault.{CertificateFault}
-use Rattle.viper_proof.specs.declared.faults.CertificateFault.TheVariants as certificate
+use Rattle.unit_proof.specs.declared.faults.CertificateFault.{CertificateFault}
+use Rattle.unit_proof.specs.declared.faults.CertificateFault.TheVariants as certificate
 use Rattle.viper_proof.specs.declared.faults.Unproved.{Unproved}
 use Rattle.viper_proof.specs.declared.faults.Unproved.TheVariants.{Memory, Read, Refused}
 

@@ -1,6 +1,5 @@
 -- What is shown of a file of Viper and of its units.
 use Rattle.std.specs.Prelude.{◌≡◌, ℕ, List, [], length, Option, None, Some, slice_get}
-use Rattle.vb_base.specs.declared.labels.Label.{Label}
 use Rattle.vb_value.specs.Bound.{Bound}
 use Rattle.viper_core.specs.Program.{Program, Method, Predicate}
 use Rattle.viper_core.specs.declared.programs.Unit.{Unit}
@@ -10,8 +9,9 @@ use Rattle.viper_exec_meaning.specs.Frame.{NoExecutionFails}
 use Rattle.viper_exec_subset.specs.Unframed.{first_unframed}
 use Rattle.viper_file.specs.Accepted.{IsAccepted}
 use Rattle.viper_file.specs.Verified.{HasNoFailure}
-use Rattle.viper_proof.specs.declared.answers.UnitAnswer.{UnitAnswer}
-use Rattle.viper_proof.specs.declared.answers.UnitVerdict.TheVariants as verdict
+use Rattle.unit_proof.specs.Shown.{NeverFails}
+use Rattle.unit_proof.specs.Shown as any
+use Rattle.unit_proof.specs.declared.answers.UnitAnswer.{UnitAnswer}
 
 -- ---- a unit
 
@@ -30,18 +30,17 @@ name_of p (unit.Predicate n) = name_of_predicate (slice_get p.predicates n)
 
 -- no run of the unit of this number fails, at any label
 abbrev pub UnitNeverFails : Program → ℕ → Type 0
-UnitNeverFails program n = (label : Label) → ViperFails program n label → ⊥
+UnitNeverFails program n = NeverFails (ViperFails program) n
 
--- the answer is that the unit is proved
-abbrev pub IsProved : UnitAnswer → Type 0
-IsProved a = a.verdict ≡ verdict.Proved
+-- the unit of this number has this name
+abbrev pub IsNameOf : Program → ℕ → List ℕ → Type 0
+IsNameOf program n name = (u : Unit) → slice_get program.units n ≡ Some u → name ≡ name_of program u
 
 -- ---- the units of a program
 
 -- these answers are those of the first units, in order: no run of one that is proved fails, and each has the name of its unit
-pub record AreShown (program : Program) (answers : List UnitAnswer) : Type 0 where
-  pub proved : (n : ℕ) (a : UnitAnswer) → slice_get answers n ≡ Some a → IsProved a → UnitNeverFails program n
-  pub named : (n : ℕ) (a : UnitAnswer) (u : Unit) → slice_get answers n ≡ Some a → slice_get program.units n ≡ Some u → a.name ≡ name_of program u
+abbrev pub AreShown : Program → List UnitAnswer → Type 0
+AreShown program answers = any.AreShown (ViperFails program) (IsNameOf program) answers
 
 -- ---- a file
 

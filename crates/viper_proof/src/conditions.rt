@@ -12,26 +12,17 @@ ghost use Rattle.boogie_formula.specs.Value.{CanFail};
 ghost use Rattle.boogie_formula.specs.View.{conditions_of};
 ghost use Rattle.enc_locals.specs.Procedure.{unit_name};
 
-use boogie_formula::Conditions;
 use boogie_tree::Proc;
 use boogie_wp::conditions_of_procedure;
 use enc_stmt::procedure_at;
 use std::alloc::Global;
-use vb_base::{Ident, Memory};
+use unit_proof::UnitConditions;
+use vb_base::Memory;
 use viper_core::Program;
 
-/// What there is to show of a unit: that no assertion of these conditions can fail.
-#[derive(Drop)]
-pub struct UnitConditions {
-    /// The name of its procedure, with its kind in front.
-    pub name: Ident,
-    /// The conditions of its procedure.
-    pub conditions: Conditions,
-}
-
 /// The conditions of the unit of this number, from 0 on: an assertion of them with a label can fail exactly where some run of the unit
-/// fails at the label. They can be printed. They are made from the unit's procedure, which is given up behind. `Memory` where there is
-/// no memory.
+/// fails at the label. They can be printed. They are made from the unit's procedure, whose name has the unit's kind in front, and which
+/// is given up behind. `Memory` where there is no memory.
 pub fn unit_conditions(
     alloc: Global,
     program: &Program,

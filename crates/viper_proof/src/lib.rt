@@ -5,18 +5,12 @@
 //! out of a file, since each is checked against the conditions of its unit.
 #![tactic(auto)]
 
-mod answers;
-mod certificates;
 mod conditions;
 mod faults;
 mod proving;
-mod sections;
 mod units;
 
-pub use answers::{Unfound, UnitAnswer, UnitVerdict};
-pub use certificates::{Certificates, Offer};
-pub use conditions::{UnitConditions, unit_conditions};
-pub use faults::{CertificateFault, Unproved};
-pub use proving::{are_all_proved, proved};
-pub use sections::{Rest, Sections};
-pub use units::{unit_answers, verdict};
+pub use conditions::unit_conditions;
+pub use faults::Unproved;
+pub use proving::proved;
+pub use units::unit_answers;

@@ -1,16 +1,16 @@
 // From the bytes of a file to what is shown of its units.
-ghost use Rattle.std.specs.Prelude.{◌≡◌, ◌↔◌, ◌≤◌, All, IfOk, IsErrOf, IsTrue};
+ghost use Rattle.std.specs.Prelude.{◌≡◌, ◌≤◌, All, IfOk, IsErrOf};
 ghost use Rattle.vb_outer.specs.Faults.{Rose};
 ghost use Rattle.viper_core.specs.Formed.{IsFormed};
 ghost use Rattle.viper_core.specs.View.{program_of};
 ghost use Rattle.viper_file.specs.Accepted.{IsAccepted, IsRefusal};
-ghost use Rattle.viper_proof.specs.Shown.{IsAnswered, IsProved, NothingFails};
+ghost use Rattle.unit_proof.specs.Shown.{IsProved};
+ghost use Rattle.viper_proof.specs.Shown.{IsAnswered, NothingFails};
 
-use crate::answers::{UnitAnswer, UnitVerdict};
-use crate::certificates::Certificates;
 use crate::faults::Unproved;
 use crate::units::unit_answers;
 use std::alloc::Global;
+use unit_proof::{Certificates, UnitAnswer};
 use vb_base::limits::MAX_VIPER_BYTES;
 use vb_outer::Shelf;
 use viper_core::Program;
@@ -54,21 +54,4 @@ pub fn proved<H: Shelf, C: Certificates>(
     let program = accepted(alloc, source)?;
     let answers = unit_answers(alloc, &program, shelf, certificates)?;
     Ok(answers)
-}
-
-/// Whether a unit is proved.
-fn is_proved(answer: &UnitAnswer) -> bool
-    ensures { IsTrue result ↔ IsProved answer.now }
-{
-    match answer.verdict {
-        UnitVerdict::Proved => true,
-        UnitVerdict::Uncertified(_) | UnitVerdict::Refused(_, _) => false,
-    }
-}
-
-/// Whether each unit is proved.
-pub fn are_all_proved(answers: &[UnitAnswer]) -> bool
-    ensures { IsTrue result ↔ All IsProved answers.now }
-{
-    answers.iter().all(|answer| is_proved(answer))
 }

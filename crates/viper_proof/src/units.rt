@@ -7,53 +7,20 @@ ghost use Rattle.viper_core.specs.declared.programs.Unit.{Unit as UnitOf};
 ghost use Rattle.boogie_formula.specs.Types.{IsTypedConditions};
 ghost use Rattle.boogie_formula.specs.View.{conditions_of};
 ghost use Rattle.cert_check.specs.Shown.{NoneCanFail};
-ghost use Rattle.viper_proof.specs.Shown.{AreShown, IsProved, UnitNeverFails, name_of};
-ghost use Rattle.viper_proof.specs.declared.faults.CertificateFault.TheVariants as fault;
+ghost use Rattle.unit_proof.specs.Shown.{IsProved};
+ghost use Rattle.unit_proof.specs.declared.faults.CertificateFault.TheVariants as fault;
+ghost use Rattle.viper_proof.specs.Shown.{AreShown, UnitNeverFails, name_of};
 
-use crate::answers::{UnitAnswer, UnitVerdict};
-use crate::certificates::{Certificates, Offer};
-use crate::conditions::{UnitConditions, unit_conditions};
-use crate::faults::CertificateFault;
-use cert_check::{Unshown, check};
+use crate::conditions::unit_conditions;
 use enc_expr::add;
 use enc_locals::{method_at, predicate_at, unit_at};
 use std::alloc::Global;
+use unit_proof::{
+    CertificateFault, Certificates, Offer, UnitAnswer, UnitConditions, verdict_of_offer,
+};
 use vb_base::{Ident, Memory};
 use vb_outer::Shelf;
 use viper_core::{Program, Unit};
-
-/// What a certificate shows of the unit of these conditions.
-///
-/// `Memory` where there is no memory. A certificate that is refused shows nothing of the unit.
-pub fn verdict(
-    alloc: Global,
-    unit: &UnitConditions,
-    certificate: &[u8],
-) -> Result<UnitVerdict, Memory>
-    requires { IsTypedConditions (conditions_of unit.now.conditions) }
-    ensures { IfOk result (λ v. v ≡ UnitVerdict.Proved → NoneCanFail (conditions_of unit.now.conditions)) }
-{
-    match check(alloc, unit.name.bytes(), &unit.conditions, certificate) {
-        Ok(()) => Ok(UnitVerdict::Proved),
-        Err(Unshown::Refused(line, reason)) => Ok(UnitVerdict::Refused(line, reason)),
-        Err(Unshown::Memory) => Err(Memory),
-    }
-}
-
-/// What an offer shows of the unit of these conditions.
-fn verdict_of_offer(
-    alloc: Global,
-    unit: &UnitConditions,
-    offer: &Offer,
-) -> Result<UnitVerdict, Memory>
-    requires { IsTypedConditions (conditions_of unit.now.conditions) }
-    ensures { IfOk result (λ v. v ≡ UnitVerdict.Proved → NoneCanFail (conditions_of unit.now.conditions)) }
-{
-    match offer {
-        Offer::Certificate(certificate) => verdict(alloc, unit, certificate),
-        Offer::Nothing(why) => Ok(UnitVerdict::Uncertified(*why)),
-    }
-}
 
 /// The name of a unit in the file.
 fn name_of(program: &Program, of: Unit) -> Result<Ident, Memory>
