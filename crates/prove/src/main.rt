@@ -1,4 +1,4 @@
-//! `prove COMMAND ..` proves that nothing of a Viper file fails.
+//! `prove COMMAND ..` proves that nothing of a file of Viper or of Boogie fails.
 //!
 //! What a call does is the contract of `prove_tool::tool`; this file only connects it to the process.
 #![tactic(auto)]

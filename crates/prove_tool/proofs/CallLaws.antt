@@ -8,26 +8,25 @@ use Rattle.tool_common.specs.Ends.{CauseOf, EndsAs, as_expected, fault, Stops, O
 use Rattle.tool_common.specs.Kind as kind
 use Rattle.tool_common.specs.Written.{Reports}
 use Rattle.tool_common.proofs.EndLaws.{from_causes, reported_cause, reported_out, reported_err}
-use Rattle.viper_file.specs.declared.fault.ViperRefusal.{ViperRefusal}
 use Rattle.prove_tool.specs.Call.{Refuses, StopsAt, StopsAtFile, StopsAtCheck, memory, read, refused, at_file, missing, sections, IsCause, usage}
 use Rattle.prove_tool.specs.Call as call
-use Rattle.prove_tool.specs.Command.{Command, Prove, Certificates, Certify, Conditions, IsProof, command_for, file_of}
+use Rattle.prove_tool.specs.Command.{Command, Prove, Certificates, Certify, Conditions, Values, IsProof, command_for, file_of, language_of}
 use Rattle.prove_tool.specs.Command as command
 use Rattle.prove_tool.specs.Ends as ends
 use Rattle.prove_tool.specs.Ends.{Answers, Causes, Ends, written, unwritten, no_memory, OutAfter, ErrAfter}
 use Rattle.prove_tool.specs.Status.{kind_of, line_of}
 use Rattle.prove_tool.specs.Written.{Accepts, AreAnswersOf, IsTold, IsThere, NothingFailsIn, Tells, Writes, HasWritten, HasBegun}
 use Rattle.prove_tool.specs.Written as w
+use Rattle.prove_tool.specs.declared.language.Language.{Language}
 use Rattle.prove_tool.specs.declared.refusal.ProveRefusal.{ProveRefusal}
-use Rattle.prove_tool.specs.declared.refusal.ProveRefusal.TheVariants.{Viper}
 use Rattle.prove_tool.specs.declared.status.ProveStatus.{ProveStatus}
 use Rattle.prove_tool.specs.declared.status.ProveStatus.TheVariants as status
 use Rattle.prove_tool.proofs.FileLaws.{there_not_missing, accepted_not_missing, refused_not_missing, refusals_same, refused_not_accepted, accepted_not_refused_again}
-use Rattle.viper_proof.proofs.AnswerLaws.{nothing_fails}
+use Rattle.prove_tool.proofs.SubjectLaws.{answered_accepted, shown_accepted, nothing_fails}
 
 -- ---- what is written
 
-tells_kind : {Has : List ℕ → List ℕ → Type 0} {file text : List ℕ} (s : ProveStatus) → IsTold Has file s text → kind_of s ≡ kind.Answered
+tells_kind : {Has : List ℕ → List ℕ → Type 0} {l : Language} {file text : List ℕ} (s : ProveStatus) → IsTold Has l file s text → kind_of s ≡ kind.Answered
 tells_kind status.Done h = refl
 tells_kind status.Open h = refl
 tells_kind (status.Refused r) h = absurd h.tells
@@ -42,23 +41,30 @@ writes_kind {s = s} (w.checked h there) = tells_kind s h
 writes_kind (w.found h) = refl
 writes_kind (w.not_found h) = refl
 writes_kind (w.stated h) = refl
+writes_kind (w.valued h) = refl
 
 -- what is written is of a file that is accepted
-told_accepts : {Has : List ℕ → List ℕ → Type 0} {file text : List ℕ} {s : ProveStatus} → IsTold Has file s text → Accepts Has file
-told_accepts h = let a = h.of in record { program = a.answered.program; of = record { bytes = a.bytes; is = a.is; accepted = a.answered.accepted } }
+told_accepts : {Has : List ℕ → List ℕ → Type 0} {l : Language} {file text : List ℕ} {s : ProveStatus} → IsTold Has l file s text → Accepts Has l file
+told_accepts {l = l} h =
+    let a = h.of in
+    let accepted = answered_accepted a.bytes l h.answers a.answered in
+    record { program = accepted.0; of = record { bytes = a.bytes; is = a.is; accepted = accepted.1 } }
 
-writes_accepts : {files : Option Files} {c : Command} {s : ProveStatus} {text : List ℕ} → Writes files c s text → Accepts (IsWhole files) (file_of c)
+writes_accepts : {files : Option Files} {c : Command} {s : ProveStatus} {text : List ℕ} → Writes files c s text → Accepts (IsWhole files) (language_of c) (file_of c)
 writes_accepts (w.searched h) = told_accepts h
 writes_accepts (w.checked h there) = told_accepts h
-writes_accepts (w.found h) = record { program = h.shown.program; of = record { bytes = h.bytes; is = h.is; accepted = h.shown.accepted } }
+writes_accepts (w.found {l = l} h) =
+    let accepted = shown_accepted h.bytes l h.shown in
+    record { program = accepted.0; of = record { bytes = h.bytes; is = h.is; accepted = accepted.1 } }
 writes_accepts (w.not_found h) = h
 writes_accepts (w.stated h) = record { program = h.program; of = h.of }
+writes_accepts (w.valued h) = h
 
 -- and where a proof is done, nothing of it fails
-told_nothing_fails : {Has : List ℕ → List ℕ → Type 0} {file text : List ℕ} → IsTold Has file status.Done text → NothingFailsIn Has file
-told_nothing_fails h = let a = h.of in record { bytes = a.bytes; is = a.is; shown = nothing_fails a.bytes h.answers a.answered h.tells }
+told_nothing_fails : {Has : List ℕ → List ℕ → Type 0} {l : Language} {file text : List ℕ} → IsTold Has l file status.Done text → NothingFailsIn Has l file
+told_nothing_fails {l = l} h = let a = h.of in record { bytes = a.bytes; is = a.is; shown = nothing_fails a.bytes l h.answers a.answered h.tells }
 
-writes_nothing_fails : {files : Option Files} {c : Command} {text : List ℕ} → IsProof c → Writes files c status.Done text → NothingFailsIn (IsWhole files) (file_of c)
+writes_nothing_fails : {files : Option Files} {c : Command} {text : List ℕ} → IsProof c → Writes files c status.Done text → NothingFailsIn (IsWhole files) (language_of c) (file_of c)
 writes_nothing_fails command.prove (w.searched h) = told_nothing_fails h
 writes_nothing_fails command.certify (w.checked h there) = told_nothing_fails h
 writes_nothing_fails command.certificates (w.found h) = h
@@ -138,45 +144,44 @@ module _ (words : List (List ℕ)) (files : Option Files) (before now : ℕ) whe
     this_writes : {s : ProveStatus} {text : List ℕ} → HasWritten words files s text → Writes files c s text
     this_writes {s} {text} h = this (λ d. Writes files d s text) h.asked h.writes
 
-    not_written : (Accepts (IsWhole files) (file_of c) → ⊥) → {s : ProveStatus} {text : List ℕ} → HasWritten words files s text → ⊥
+    not_written : (Accepts (IsWhole files) (language_of c) (file_of c) → ⊥) → {s : ProveStatus} {text : List ℕ} → HasWritten words files s text → ⊥
     not_written none h = none (writes_accepts (this_writes h))
 
     -- a command that refuses does so for its file or its certificates
-    refused_parts : (d : Command) (r : ProveRefusal) → StopsAt files d before now (status.Refused r) → ((q : ViperRefusal) × (r ≡ Viper q) × Refuses (IsWhole files) (file_of d) q) ⊎ Accepts (IsWhole files) (file_of d)
-    refused_parts (Prove file steps) r (refused why) = inl (_, refl, why)
-    refused_parts (Certificates file steps) r (refused why) = inl (_, refl, why)
-    refused_parts (Conditions file) r (refused why) = inl (_, refl, why)
-    refused_parts (Certify file certificates) r (at_file (refused why)) = inl (_, refl, why)
-    refused_parts (Certify file certificates) r (sections accepts there why) = inr accepts
+    refused_parts : (d : Command) (r : ProveRefusal) → StopsAt files d before now (status.Refused r) → Refuses (IsWhole files) (language_of d) (file_of d) r ⊎ Accepts (IsWhole files) (language_of d) (file_of d)
+    refused_parts (Prove l file steps) r (refused why) = inl why
+    refused_parts (Certificates l file steps) r (refused why) = inl why
+    refused_parts (Conditions l file) r (refused why) = inl why
+    refused_parts (Values l file steps) r (refused why) = inl why
+    refused_parts (Certify l file certificates) r (at_file (refused why)) = inl why
+    refused_parts (Certify l file certificates) r (sections accepts there why) = inr accepts
 
     missing_each : IsMissing files (file_of c) → (s : ProveStatus) → IsCause words files before now s → EndsAs kind_of status.ReadFault s
     missing_each gone s (usage none) = absurd (none_some (sym none ∙ asks))
     missing_each gone s (call.unread asked why) = as_expected
     missing_each gone s (call.is_refused {r = r} asked why) = absurd (by_part (refused_parts c r (this (λ d. StopsAt files d before now (status.Refused r)) asked why)))
       where
-        by_part : ((q : ViperRefusal) × (r ≡ Viper q) × Refuses (IsWhole files) (file_of c) q) ⊎ Accepts (IsWhole files) (file_of c) → ⊥
-        by_part (inl (q, is, refuses)) = refused_not_missing files refuses gone
+        by_part : Refuses (IsWhole files) (language_of c) (file_of c) r ⊎ Accepts (IsWhole files) (language_of c) (file_of c) → ⊥
+        by_part (inl refuses) = refused_not_missing files refuses gone
         by_part (inr accepts) = accepted_not_missing files accepts gone
     missing_each gone s (call.written h) = absurd (not_written (λ accepts. accepted_not_missing files accepts gone) h)
 
-    refused_each : {r : ViperRefusal} → Refuses (IsFile files) (file_of c) r → (s : ProveStatus) → IsCause words files before now s → EndsAs kind_of (status.Refused (Viper r)) s
+    refused_each : {r : ProveRefusal} → Refuses (IsFile files) (language_of c) (file_of c) r → (s : ProveStatus) → IsCause words files before now s → EndsAs kind_of (status.Refused r) s
     refused_each refuses s (usage none) = absurd (none_some (sym none ∙ asks))
     refused_each refuses s (call.unread asked why) = fault tt
     refused_each {r} refuses s (call.is_refused {r = q} asked why) = by_part (refused_parts c q (this (λ d. StopsAt files d before now (status.Refused q)) asked why))
       where
-        by_part : ((p : ViperRefusal) × (q ≡ Viper p) × Refuses (IsWhole files) (file_of c) p) ⊎ Accepts (IsWhole files) (file_of c) → EndsAs kind_of (status.Refused (Viper r)) (status.Refused q)
-        by_part (inl (p, is, other)) =
-            subst (λ x. EndsAs kind_of (status.Refused (Viper r)) (status.Refused x)) (sym is)
-            (subst (λ x. EndsAs kind_of (status.Refused (Viper r)) (status.Refused (Viper x))) (refusals_same files refuses other) as_expected)
+        by_part : Refuses (IsWhole files) (language_of c) (file_of c) q ⊎ Accepts (IsWhole files) (language_of c) (file_of c) → EndsAs kind_of (status.Refused r) (status.Refused q)
+        by_part (inl other) = subst (λ x. EndsAs kind_of (status.Refused r) (status.Refused x)) (refusals_same files refuses other) as_expected
         by_part (inr accepts) = absurd (refused_not_accepted files refuses accepts)
     refused_each refuses s (call.written h) = absurd (not_written (refused_not_accepted files refuses) h)
 
-  module _ {file certificates : List ℕ} (asks : command_for words ≡ Some (Certify file certificates)) (accepts : Accepts (IsFile files) file) (gone : IsMissing files certificates) where
-    uncertified_refused : {r : ProveRefusal} → StopsAtCheck files file certificates before now (status.Refused r) → ⊥
+  module _ {l : Language} {file certificates : List ℕ} (asks : command_for words ≡ Some (Certify l file certificates)) (accepts : Accepts (IsFile files) l file) (gone : IsMissing files certificates) where
+    uncertified_refused : {r : ProveRefusal} → StopsAtCheck files l file certificates before now (status.Refused r) → ⊥
     uncertified_refused (at_file (refused why)) = accepted_not_refused_again files accepts why
     uncertified_refused (sections also there why) = there_not_missing files there gone
 
-    uncertified_written : {s : ProveStatus} {text : List ℕ} → Writes files (Certify file certificates) s text → ⊥
+    uncertified_written : {s : ProveStatus} {text : List ℕ} → Writes files (Certify l file certificates) s text → ⊥
     uncertified_written (w.checked h there) = there_not_missing files there gone
 
     uncertified_each : (s : ProveStatus) → IsCause words files before now s → EndsAs kind_of status.ReadFault s
@@ -192,7 +197,7 @@ module _ (words : List (List ℕ)) (files : Option Files) (before now : ℕ) whe
   done_written is (call.written {text = text} h) = (text, subst (λ s. HasWritten words files s text) is h)
 
   module _ (SinkFailed : Type 0) (s : ProveStatus) (causes : Causes words files before now SinkFailed s) where
-    pub nothing_fails_then : (c : Command) → command_for words ≡ Some c → IsProof c → s ≡ status.Done → NothingFailsIn (IsWhole files) (file_of c)
+    pub nothing_fails_then : (c : Command) → command_for words ≡ Some c → IsProof c → s ≡ status.Done → NothingFailsIn (IsWhole files) (language_of c) (file_of c)
     nothing_fails_then c asks proof is =
         let (text, h) = done_written refl (subst (Causes words files before now SinkFailed) is causes) in
         writes_nothing_fails proof (this_writes asks h)
@@ -203,9 +208,9 @@ module _ (words : List (List ℕ)) (files : Option Files) (before now : ℕ) whe
     pub missing_comes : (c : Command) → command_for words ≡ Some c → IsMissing files (file_of c) → EndsAs kind_of status.ReadFault s
     missing_comes c asks gone = from_causes (IsCause words files before now) _ (missing_each asks gone) SinkFailed s causes
 
-    pub refused_comes : (c : Command) (r : ViperRefusal) → command_for words ≡ Some c → Refuses (IsFile files) (file_of c) r → EndsAs kind_of (status.Refused (Viper r)) s
+    pub refused_comes : (c : Command) (r : ProveRefusal) → command_for words ≡ Some c → Refuses (IsFile files) (language_of c) (file_of c) r → EndsAs kind_of (status.Refused r) s
     refused_comes c r asks refuses = from_causes (IsCause words files before now) _ (refused_each asks refuses) SinkFailed s causes
 
-    pub uncertified_comes : (file certificates : List ℕ) → command_for words ≡ Some (Certify file certificates) → Accepts (IsFile files) file → IsMissing files certificates →
+    pub uncertified_comes : (l : Language) (file certificates : List ℕ) → command_for words ≡ Some (Certify l file certificates) → Accepts (IsFile files) l file → IsMissing files certificates →
         EndsAs kind_of status.ReadFault s
-    uncertified_comes file certificates asks accepts gone = from_causes (IsCause words files before now) _ (uncertified_each asks accepts gone) SinkFailed s causes
+    uncertified_comes l file certificates asks accepts gone = from_causes (IsCause words files before now) _ (uncertified_each asks accepts gone) SinkFailed s causes

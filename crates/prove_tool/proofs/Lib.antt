@@ -2,4 +2,5 @@ pub mod CallLaws
 pub mod FileLaws
 pub mod StopLaws
 pub mod StreamLaws
+pub mod SubjectLaws
 pub mod WordLaws

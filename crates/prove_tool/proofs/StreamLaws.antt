@@ -1,35 +1,41 @@
 -- What is written comes to, by what its parts write.
-use Rattle.std.proofs.Common.{◌≡◌, ◌∙◌, ◌⊎◌, inl, inr, ◌+◌, ◌<◌, ◌≤◌, ◌++◌, ◌&&◌, ℕ, zero, suc, Bool, List, Option, Some, Result, Ok, Err, IsTrue, length, refl, sym, ap, subst, arith}
+use Rattle.std.proofs.Common.{◌≡◌, ◌∙◌, ◌⊎◌, inl, inr, ◌+◌, ◌<◌, ◌≤◌, ◌++◌, ◌&&◌, ◌↔◌, ℕ, zero, suc, Bool, List, Option, Some, Result, Ok, Err, IfOk, IsTrue, refl, sym, ap, subst, arith}
 use Rattle.std.proofs.lemmas.Bool.{and_parts}
-use Rattle.std.proofs.lemmas.Option.{slice_get_within}
 use Rattle.std.specs.Prelude.{⊤, All}
 use Rattle.vb_outer.specs.Faults.{Rose}
 use Rattle.vb_outer.specs.Shelf.{Files, IsWhole}
 use Rattle.vb_outer.specs.Sink.{Appends, AppendsPrefix}
 use Rattle.vb_outer.proofs.FaultLaws.{rose_earlier}
 use Rattle.vb_outer.proofs.SinkLaws.{prefix_all, prefix_after}
-use Rattle.viper_core.specs.Program.{Program}
-use Rattle.viper_exec_meaning.specs.Frame.{NoUnitFails}
-use Rattle.viper_file.specs.Accepted.{IsAccepted}
-use Rattle.viper_proof.specs.Shown.{UnitNeverFails}
-use Rattle.viper_proof.specs.declared.answers.UnitAnswer.{UnitAnswer}
-use Rattle.viper_proof.proofs.AnswerLaws.{all_fine}
+use Rattle.std.specs.declared.alloc.Global.{Global}
+use Rattle.std.specs.declared.vec.Vec.{Vec}
+use Rattle.vb_base.specs.declared.labels.Label.{Label}
+use Rattle.boogie_formula.specs.Formula as f
+use Rattle.boogie_formula.specs.Types.{IsTypedConditions}
+use Rattle.boogie_formula.specs.Value.{CanFail}
+use Rattle.boogie_formula_text.specs.Printed.{conditions_text}
+use Rattle.boogie_formula_text.specs.Spells.{SpellsConditions}
+use Rattle.unit_proof.specs.Shown.{NeverFails}
+use Rattle.unit_proof.specs.declared.answers.UnitAnswer.{UnitAnswer}
 use Rattle.tool_common.specs.Ends.{FrontWritten, Stops}
 use Rattle.tool_common.specs.Kind as kind
 use Rattle.tool_common.specs.Written.{Delivers, delivered, unwritten}
 use Rattle.prove_tool.specs.Call as call
 use Rattle.prove_tool.specs.Call.{StopsAt, StopsAtFile, StopsAtCheck, IsCause}
-use Rattle.prove_tool.specs.Command.{Command, Prove, Certificates, Certify, Conditions, command_for}
+use Rattle.prove_tool.specs.Command.{Command, Prove, Certificates, Certify, Conditions, Values, command_for}
 use Rattle.prove_tool.specs.Ends as ends
-use Rattle.prove_tool.specs.Ends.{Ends, AreLines, AreFound, AreConditions, CarriesOut, Answers}
+use Rattle.prove_tool.specs.Ends.{Ends, AreLines, AreFound, AreConditions, AreValues, CarriesOut, Answers}
 use Rattle.prove_tool.specs.Lines.{lines_text}
 use Rattle.prove_tool.specs.Parts as part
 use Rattle.prove_tool.specs.Parts.{StopsAtSink}
 use Rattle.prove_tool.specs.Status.{kind_of}
+use Rattle.prove_tool.specs.Subject.{Subject, count_of, UnitFails, IsProcedureName, AreBuilt, NoUnitFails}
 use Rattle.prove_tool.specs.Written as w
 use Rattle.prove_tool.specs.Written.{AreAnswersOf, AreConditionsOf, AreFirst, IsProgramOf, IsThere, Tells, Writes, Begins, HasWritten, HasBegun}
+use Rattle.prove_tool.specs.declared.language.Language.{Language}
 use Rattle.prove_tool.specs.declared.status.ProveStatus.{ProveStatus}
 use Rattle.prove_tool.specs.declared.status.ProveStatus.TheVariants as status
+use Rattle.prove_tool.proofs.SubjectLaws.{all_fine}
 
 -- ---- the same under weaker names
 
@@ -72,18 +78,37 @@ lines_told answers tells is (delivered appends) = ends.written (tells, is) appen
 lines_told answers {before} {now} {first} {last} {text = text} {s = s} {ended = ended} tells is (unwritten kind_is front rose) =
     subst (Ends (AreLines answers) (λ t. (r : ProveStatus) × AreLines answers r t) before now first last) (sym (unwritten_is ended kind_is)) (ends.unwritten (inr (text, (s, (tells, is)), front)) rose)
 
-module _ {files : Option Files} {file : List ℕ} {answers : List UnitAnswer} (of : AreAnswersOf (IsWhole files) file answers) {before now : Option (List ℕ)} {first last : ℕ} where
+module _ {files : Option Files} {l : Language} {file : List ℕ} {answers : List UnitAnswer} (of : AreAnswersOf (IsWhole files) l file answers) {before now : Option (List ℕ)} {first last : ℕ} where
   pub lines_searched : (steps : Option ℕ) (s : ProveStatus) → Ends (AreLines answers) (λ t. (r : ProveStatus) × AreLines answers r t) before now first last s →
-      Ends (Writes files (Prove file steps)) (Begins files (Prove file steps)) before now first last s
+      Ends (Writes files (Prove l file steps)) (Begins files (Prove l file steps)) before now first last s
   lines_searched steps =
       ends_mapped (λ r t h. w.searched (record { answers = answers; of = of; tells = h.0; text_is = h.1 }))
       (λ t h. w.whole {s = h.0} (w.searched (record { answers = answers; of = of; tells = h.1.0; text_is = h.1.1 })))
 
   pub lines_checked : {certificates : List ℕ} → IsThere (IsWhole files) certificates → (s : ProveStatus) → Ends (AreLines answers) (λ t. (r : ProveStatus) × AreLines answers r t) before now first last s →
-      Ends (Writes files (Certify file certificates)) (Begins files (Certify file certificates)) before now first last s
+      Ends (Writes files (Certify l file certificates)) (Begins files (Certify l file certificates)) before now first last s
   lines_checked there =
       ends_mapped (λ r t h. w.checked (record { answers = answers; of = of; tells = h.0; text_is = h.1 }) there)
       (λ t h. w.whole {s = h.0} (w.checked (record { answers = answers; of = of; tells = h.1.0; text_is = h.1.1 }) there))
+
+-- ---- the conditions of a unit
+
+pub are_conditions : {E : Type 0} (program : Subject) (n : ℕ) (name : List ℕ) (x : f.Conditions) → IsTypedConditions x → IsProcedureName program n name → AreBuilt program n x →
+    ((label : Label) → UnitFails program n label ↔ CanFail x label) → (r : Result (Vec ℕ Global) E) → IfOk r (λ text. text.items ≡ conditions_text name x) →
+    IfOk r (λ text. SpellsConditions text.items name x) → IfOk r (λ text. (m : List ℕ) (y : f.Conditions) → SpellsConditions text.items m y → (m ≡ name) × (y ≡ x)) →
+    IfOk r (λ text. AreConditionsOf program n text.items)
+are_conditions program n name x typed is_name built exact (Ok text) is spelled only = record {
+  conditions = x;
+  typed = typed;
+  name = name;
+  is_name = is_name;
+  text_is = is;
+  spelled = spelled;
+  only = only;
+  built = built;
+  exact = exact;
+}
+are_conditions program n name x typed is_name built exact (Err e) is spelled only = tt
 
 -- ---- unit by unit
 
@@ -97,29 +122,26 @@ below_or_same (suc m) (suc j) h = next (below_or_same m j (omega (arith, h)))
     next (inl less) = inl (omega (arith, less))
     next (inr same) = inr (ap suc same)
 
-pub all_shown : (program : Program) (k : ℕ) (all found : Bool) → (IsTrue all → (n : ℕ) → n < k → UnitNeverFails program n) → (IsTrue found → UnitNeverFails program k) →
-    IsTrue (all && found) → (n : ℕ) → n < k + 1 → UnitNeverFails program n
+pub all_shown : (program : Subject) (k : ℕ) (all found : Bool) → (IsTrue all → (n : ℕ) → n < k → NeverFails (UnitFails program) n) → (IsTrue found → NeverFails (UnitFails program) k) →
+    IsTrue (all && found) → (n : ℕ) → n < k + 1 → NeverFails (UnitFails program) n
 all_shown program k all found before this both n within = by_case (below_or_same n k (omega (arith, within)))
   where
-    by_case : (n < k) ⊎ (n ≡ k) → UnitNeverFails program n
+    by_case : (n < k) ⊎ (n ≡ k) → NeverFails (UnitFails program) n
     by_case (inl less) = before (and_parts all found both).0 n less
-    by_case (inr same) = subst (UnitNeverFails program) (sym same) (this (and_parts all found both).1)
+    by_case (inr same) = subst (NeverFails (UnitFails program)) (sym same) (this (and_parts all found both).1)
 
-pub none_fails : (program : Program) (k : ℕ) → length program.units ≤ k → ((n : ℕ) → n < k → UnitNeverFails program n) → NoUnitFails program
-none_fails program k many shown = λ n label fails.
-    let opens = fails.opens in
-    let within = slice_get_within program.units n opens.unit opens.exists in
-    shown n (omega (arith, within, many)) label fails
+pub none_fails : (program : Subject) (k : ℕ) → count_of program ≤ k → ((n : ℕ) → n < k → NeverFails (UnitFails program) n) → NoUnitFails program
+none_fails program k many shown = λ n within. shown n (omega (arith, within, many))
 
-pub front_more : (program : Program) (n : ℕ) (before between now : Option (List ℕ)) (text : List ℕ) → AreFirst program n text → Appends before between text →
+pub front_more : (program : Subject) (n : ℕ) (before between now : Option (List ℕ)) (text : List ℕ) → AreFirst program n text → Appends before between text →
     FrontWritten between now (AreConditionsOf program n) → FrontWritten before now (λ t. (m : ℕ) × AreFirst program m t)
 front_more program n before between now text are appends (inl same) = inr (text, (n, are), prefix_all before now text (subst (λ x. Appends before x text) (sym same) appends))
 front_more program n before between now text are appends (inr (more, is, front)) =
     inr (text ++ more, (n + 1, w.one_more are is), prefix_after before between now text more appends front)
 
-module _ {files : Option Files} {file : List ℕ} {program : Program} (of : IsProgramOf (IsWhole files) file program) where
-  found_writes : (steps : Option ℕ) (s : ProveStatus) (text : List ℕ) → AreFound program s text → Writes files (Certificates file steps) s text
-  found_writes steps status.Done text none = w.found (record { bytes = of.bytes; is = of.is; shown = all_fine of.accepted none })
+module _ {files : Option Files} {l : Language} {file : List ℕ} {program : Subject} (of : IsProgramOf (IsWhole files) l file program) where
+  found_writes : (steps : Option ℕ) (s : ProveStatus) (text : List ℕ) → AreFound program s text → Writes files (Certificates l file steps) s text
+  found_writes steps status.Done text none = w.found (record { bytes = of.bytes; is = of.is; shown = all_fine of.bytes l program of.accepted none })
   found_writes steps status.Open text h = w.not_found (record { program = program; of = of })
   found_writes steps (status.Refused r) text h = absurd h
   found_writes steps status.Usage text h = absurd h
@@ -128,32 +150,40 @@ module _ {files : Option Files} {file : List ℕ} {program : Program} (of : IsPr
   found_writes steps status.NoMemory text h = absurd h
 
   pub certificates_found : {before now : Option (List ℕ)} {first last : ℕ} (steps : Option ℕ) (s : ProveStatus) → Ends (AreFound program) (λ _. ⊤) before now first last s →
-      Ends (Writes files (Certificates file steps)) (Begins files (Certificates file steps)) before now first last s
+      Ends (Writes files (Certificates l file steps)) (Begins files (Certificates l file steps)) before now first last s
   certificates_found steps = ends_mapped (found_writes steps) (λ t h. w.certificates (record { program = program; of = of }))
 
-  conditions_write : (s : ProveStatus) (text : List ℕ) → AreConditions program s text → Writes files (Conditions file) s text
-  conditions_write s text h = subst (λ r. Writes files (Conditions file) r text) (sym h.0) (w.stated (record { program = program; of = of; all = h.1 }))
+  conditions_write : (s : ProveStatus) (text : List ℕ) → AreConditions program s text → Writes files (Conditions l file) s text
+  conditions_write s text h = subst (λ r. Writes files (Conditions l file) r text) (sym h.0) (w.stated (record { program = program; of = of; all = h.1 }))
 
   pub conditions_stated : {before now : Option (List ℕ)} {first last : ℕ} (s : ProveStatus) → Ends (AreConditions program) (λ text. (n : ℕ) × AreFirst program n text) before now first last s →
-      Ends (Writes files (Conditions file)) (Begins files (Conditions file)) before now first last s
+      Ends (Writes files (Conditions l file)) (Begins files (Conditions l file)) before now first last s
   conditions_stated = ends_mapped conditions_write (λ t h. w.first_conditions (record { program = program; of = of; first = h.1 }))
+
+  values_write : (steps : Option ℕ) (s : ProveStatus) (text : List ℕ) → AreValues s text → Writes files (Values l file steps) s text
+  values_write steps s text done = subst (λ r. Writes files (Values l file steps) r text) (sym done) (w.valued (record { program = program; of = of }))
+
+  pub values_found : {before now : Option (List ℕ)} {first last : ℕ} (steps : Option ℕ) (s : ProveStatus) → Ends AreValues (λ _. ⊤) before now first last s →
+      Ends (Writes files (Values l file steps)) (Begins files (Values l file steps)) before now first last s
+  values_found steps = ends_mapped (values_write steps) (λ t h. w.values (record { program = program; of = of }))
 
 -- ---- the command that words ask for
 
 module _ (words : List (List ℕ)) (files : Option Files) (read_before read_now : ℕ) where
-  file_stops : {file : List ℕ} {c : Command} → command_for words ≡ Some c → ((s : ProveStatus) → StopsAtFile files file read_before read_now s → StopsAt files c read_before read_now s) → (s : ProveStatus) →
-      StopsAtFile files file read_before read_now s → Stops kind_of (IsCause words files read_before read_now) s
+  file_stops : {l : Language} {file : List ℕ} {c : Command} → command_for words ≡ Some c → ((s : ProveStatus) → StopsAtFile files l file read_before read_now s → StopsAt files c read_before read_now s) → (s : ProveStatus) →
+      StopsAtFile files l file read_before read_now s → Stops kind_of (IsCause words files read_before read_now) s
   file_stops asked into s call.memory = tt
   file_stops asked into s (call.read why) = call.unread asked (into status.ReadFault (call.read why))
   file_stops asked into s (call.refused why) = call.is_refused asked (into _ (call.refused why))
 
   pub command_stops : (c : Command) → command_for words ≡ Some c → (s : ProveStatus) → StopsAt files c read_before read_now s → Stops kind_of (IsCause words files read_before read_now) s
-  command_stops (Prove file steps) asked s why = file_stops asked (λ r h. h) s why
-  command_stops (Certificates file steps) asked s why = file_stops asked (λ r h. h) s why
-  command_stops (Conditions file) asked s why = file_stops asked (λ r h. h) s why
-  command_stops (Certify file certificates) asked s (call.at_file why) = file_stops asked (λ r h. call.at_file h) s why
-  command_stops (Certify file certificates) asked s (call.missing accepts gone) = call.unread asked (call.missing accepts gone)
-  command_stops (Certify file certificates) asked s (call.sections accepts there why) = call.is_refused asked (call.sections accepts there why)
+  command_stops (Prove l file steps) asked s why = file_stops asked (λ r h. h) s why
+  command_stops (Certificates l file steps) asked s why = file_stops asked (λ r h. h) s why
+  command_stops (Conditions l file) asked s why = file_stops asked (λ r h. h) s why
+  command_stops (Values l file steps) asked s why = file_stops asked (λ r h. h) s why
+  command_stops (Certify l file certificates) asked s (call.at_file why) = file_stops asked (λ r h. call.at_file h) s why
+  command_stops (Certify l file certificates) asked s (call.missing accepts gone) = call.unread asked (call.missing accepts gone)
+  command_stops (Certify l file certificates) asked s (call.sections accepts there why) = call.is_refused asked (call.sections accepts there why)
 
   pub carries_answers : (c : Command) → command_for words ≡ Some c → (before now : Option (List ℕ)) (first last : ℕ) (r : Result ProveStatus ProveStatus) →
       CarriesOut files c read_before read_now before now first last r → Answers words files read_before read_now before now first last r

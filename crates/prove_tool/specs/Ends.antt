@@ -1,17 +1,16 @@
 -- What stands in the sinks afterwards.
-use Rattle.std.specs.Prelude.{⊤, ◌≡◌, ℕ, List, length, Option, Result, MatchResult}
+use Rattle.std.specs.Prelude.{⊤, ◌≡◌, ℕ, List, Option, Result, MatchResult}
 use Rattle.vb_outer.specs.Faults.{Rose}
 use Rattle.vb_outer.specs.Shelf.{Files}
 use Rattle.vb_outer.specs.Sink.{Appends}
 use Rattle.tool_common.specs.Ends as ends
 use Rattle.tool_common.specs.Ends.{OutOf, FrontWritten}
-use Rattle.viper_core.specs.Program.{Program}
-use Rattle.viper_exec_meaning.specs.Frame.{NoUnitFails}
-use Rattle.viper_proof.specs.declared.answers.UnitAnswer.{UnitAnswer}
+use Rattle.unit_proof.specs.declared.answers.UnitAnswer.{UnitAnswer}
 use Rattle.prove_tool.specs.Call.{IsCause, StopsAt}
 use Rattle.prove_tool.specs.Command.{Command}
 use Rattle.prove_tool.specs.Lines.{lines_text}
 use Rattle.prove_tool.specs.Status.{kind_of, line_of}
+use Rattle.prove_tool.specs.Subject.{Subject, count_of, NoUnitFails}
 use Rattle.prove_tool.specs.Written.{AreFirst, Tells, Writes, Begins, HasWritten, HasBegun}
 use Rattle.prove_tool.specs.declared.status.ProveStatus.{ProveStatus}
 use Rattle.prove_tool.specs.declared.status.ProveStatus.TheVariants.{Done, Refused, Usage, ReadFault, WriteFault, NoMemory, Open}
@@ -48,7 +47,7 @@ abbrev pub AreLines : List UnitAnswer → ProveStatus → List ℕ → Type 0
 AreLines answers s text = Tells answers s × (text ≡ lines_text answers)
 
 -- each unit is proved where the call is done; the text is any
-abbrev pub AreFound : Program → ProveStatus → List ℕ → Type 0
+abbrev pub AreFound : Subject → ProveStatus → List ℕ → Type 0
 AreFound program Done text = NoUnitFails program
 AreFound program Open text = ⊤
 AreFound program (Refused r) text = ⊥
@@ -58,8 +57,12 @@ AreFound program WriteFault text = ⊥
 AreFound program NoMemory text = ⊥
 
 -- the conditions of all units
-abbrev pub AreConditions : Program → ProveStatus → List ℕ → Type 0
-AreConditions program s text = (s ≡ Done) × AreFirst program (length program.units) text
+abbrev pub AreConditions : Subject → ProveStatus → List ℕ → Type 0
+AreConditions program s text = (s ≡ Done) × AreFirst program (count_of program) text
+
+-- the text is any, and the call is done
+abbrev pub AreValues : ProveStatus → List ℕ → Type 0
+AreValues s text = s ≡ Done
 
 -- a command is carried out; or it stops before anything is written
 abbrev pub CarriesOut : Option Files → Command → ℕ → ℕ → Option (List ℕ) → Option (List ℕ) → ℕ → ℕ → Result ProveStatus ProveStatus → Type 0

@@ -4,4 +4,5 @@ pub mod Ends
 pub mod Lines
 pub mod Parts
 pub mod Status
+pub mod Subject
 pub mod Written

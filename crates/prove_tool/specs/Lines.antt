@@ -4,10 +4,10 @@ use Rattle.std.specs.Fmt.{decimal}
 use Rattle.vb_base.specs.Labels.{text_of}
 use Rattle.cert_terms.specs.declared.faults.LineRefusal.{LineRefusal}
 use Rattle.cert_terms.specs.declared.faults.LineRefusal.TheVariants as line
-use Rattle.viper_proof.specs.declared.answers.Unfound.TheVariants as unfound
-use Rattle.viper_proof.specs.declared.answers.UnitAnswer.{UnitAnswer}
-use Rattle.viper_proof.specs.declared.answers.UnitVerdict.{UnitVerdict}
-use Rattle.viper_proof.specs.declared.answers.UnitVerdict.TheVariants.{Proved, Uncertified, Refused}
+use Rattle.unit_proof.specs.declared.answers.Unfound.TheVariants as unfound
+use Rattle.unit_proof.specs.declared.answers.UnitAnswer.{UnitAnswer}
+use Rattle.unit_proof.specs.declared.answers.UnitVerdict.{UnitVerdict}
+use Rattle.unit_proof.specs.declared.answers.UnitVerdict.TheVariants.{Proved, Uncertified, Refused}
 
 -- the word of a reason for which a line of a certificate is refused
 abbrev pub word_of : LineRefusal → List ℕ

@@ -4,44 +4,78 @@ use Rattle.vb_outer.specs.Faults.{Rose}
 use Rattle.vb_outer.specs.Shelf.{Files, IsMissing, IsWhole}
 use Rattle.vb_outer.specs.declared.fault.FileFault.{FileFault}
 use Rattle.vb_outer.specs.declared.fault.FileFault.TheVariants as file
-use Rattle.viper_core.specs.Program.{Program}
-use Rattle.viper_file.specs.Accepted.{IsRefusal}
+use Rattle.viper_core.specs.Formed.{IsFormed}
+use Rattle.viper_core.specs.View as viper_view
 use Rattle.viper_file.specs.declared.fault.ViperFault.{ViperFault}
 use Rattle.viper_file.specs.declared.fault.ViperFault.TheVariants as viper
-use Rattle.viper_file.specs.declared.fault.ViperRefusal.{ViperRefusal}
-use Rattle.viper_file.specs.declared.fault.ViperRefusal.TheVariants.{Size}
-use Rattle.viper_proof.specs.Shown.{AreShown}
-use Rattle.viper_proof.specs.declared.answers.UnitAnswer.{UnitAnswer}
-use Rattle.viper_proof.specs.declared.faults.CertificateFault.{CertificateFault}
-use Rattle.viper_proof.specs.declared.faults.CertificateFault.TheVariants as certificate
+use Rattle.viper_file.specs.declared.fault.ViperRefusal.TheVariants as viper_refusal
+use Rattle.boogie_tree.specs.Whole as boogie_view
+use Rattle.boogie_meaning.specs.Programs.{IsTypedProgram}
+use Rattle.boogie_print.specs.Printable.{IsPrintable}
+use Rattle.boogie_file.specs.declared.refusal.BoogieRefusal.TheVariants as boogie_refusal
+use Rattle.boogie_file.specs.declared.trouble.BoogieTrouble.{BoogieTrouble}
+use Rattle.boogie_file.specs.declared.trouble.BoogieTrouble.TheVariants as trouble
+use Rattle.unit_proof.specs.declared.answers.UnitAnswer.{UnitAnswer}
+use Rattle.unit_proof.specs.declared.faults.CertificateFault.{CertificateFault}
+use Rattle.unit_proof.specs.declared.faults.CertificateFault.TheVariants as certificate
+use Rattle.viper_proof.specs.Shown as viper_shown
+use Rattle.boogie_proof.specs.Shown as boogie_shown
 use Rattle.viper_proof.specs.declared.faults.Unproved.{Unproved}
 use Rattle.viper_proof.specs.declared.faults.Unproved.TheVariants as unproved
 use Rattle.prove_tool.specs.Call.{IsOfSections}
 use Rattle.prove_tool.specs.Command as c
+use Rattle.prove_tool.specs.Subject as s
+use Rattle.prove_tool.specs.Subject.{OfViper, OfBoogie, IsRefusedAs}
 use Rattle.prove_tool.specs.Written.{IsThere}
+use Rattle.prove_tool.specs.declared.language.Language.{Language}
+use Rattle.prove_tool.specs.declared.language.Language.TheVariants as language
 use Rattle.prove_tool.specs.declared.refusal.ProveRefusal.{ProveRefusal}
-use Rattle.prove_tool.specs.declared.refusal.ProveRefusal.TheVariants.{Viper}
+use Rattle.prove_tool.specs.declared.refusal.ProveRefusal.TheVariants.{Viper, Boogie}
 use Rattle.prove_tool.specs.declared.status.ProveStatus.{ProveStatus}
 use Rattle.prove_tool.specs.declared.status.ProveStatus.TheVariants.{Refused, ReadFault, WriteFault, NoMemory}
+use Rattle.prove_tool.specs.declared.subject.Subject.{Subject}
+use Rattle.prove_tool.specs.declared.subject.Subject.TheVariants as subject
 use Rattle.prove_tool.specs.declared.words.ProveCommand.{ProveCommand}
-use Rattle.prove_tool.specs.declared.words.ProveCommand.TheVariants.{Prove, Certificates, Certify, Conditions}
+use Rattle.prove_tool.specs.declared.words.ProveCommand.TheVariants.{Prove, Certificates, Certify, Conditions, Values}
 
 abbrev pub command_of : ProveCommand → c.Command
-command_of (Prove file steps) = c.Prove file.now steps
-command_of (Certificates file steps) = c.Certificates file.now steps
-command_of (Certify file certificates) = c.Certify file.now certificates.now
-command_of (Conditions file) = c.Conditions file.now
+command_of (Prove l file steps) = c.Prove l file.now steps
+command_of (Certificates l file steps) = c.Certificates l file.now steps
+command_of (Certify l file certificates) = c.Certify l file.now certificates.now
+command_of (Conditions l file) = c.Conditions l file.now
+command_of (Values l file steps) = c.Values l file.now steps
+
+-- ---- programs
+
+abbrev pub subject_of : Subject → s.Subject
+subject_of (subject.Viper p) = OfViper (viper_view.program_of p)
+subject_of (subject.Boogie q) = OfBoogie (boogie_view.program_of q)
+
+-- what is known of a program that was accepted
+abbrev pub IsSound : s.Subject → Type 0
+IsSound (OfViper p) = IsFormed p
+IsSound (OfBoogie q) = IsTypedProgram q × IsPrintable q
 
 -- ---- statuses
 
-abbrev pub status_of_file : FileFault → ProveStatus
-status_of_file file.Memory = NoMemory
-status_of_file file.Failed = ReadFault
-status_of_file file.Long = Refused (Viper Size)
+-- the refusal of a text that is too long
+abbrev pub too_long : Language → ProveRefusal
+too_long language.Viper = Viper viper_refusal.Size
+too_long language.Boogie = Boogie boogie_refusal.Size
+
+abbrev pub status_of_file : Language → FileFault → ProveStatus
+status_of_file l file.Memory = NoMemory
+status_of_file l file.Failed = ReadFault
+status_of_file l file.Long = Refused (too_long l)
 
 abbrev pub status_of_viper : ViperFault → ProveStatus
 status_of_viper viper.Memory = NoMemory
 status_of_viper (viper.Refused r) = Refused (Viper r)
+
+abbrev pub status_of_boogie : BoogieTrouble → ProveStatus
+status_of_boogie trouble.Memory = NoMemory
+status_of_boogie trouble.Read = ReadFault
+status_of_boogie (trouble.Refused r) = Refused (Boogie r)
 
 abbrev pub status_of_proof : Unproved → ProveStatus
 status_of_proof unproved.Memory = NoMemory
@@ -54,11 +88,11 @@ status_of_certificates certificate.Read = ReadFault
 
 -- ---- when a part stops
 
--- the part that goes from the bytes of a file of Viper to its units
-pub data StopsAtBytes (bytes : List ℕ) (before now : ℕ) : ProveStatus → Type 0 where
-  memory_of_bytes : StopsAtBytes bytes before now NoMemory
-  read_of_bytes : Rose before now → StopsAtBytes bytes before now ReadFault
-  refused_of_bytes : {r : ViperRefusal} → IsRefusal bytes r → StopsAtBytes bytes before now (Refused (Viper r))
+-- the part that goes from the bytes of a text of the language to its units
+pub data StopsAtBytes (bytes : List ℕ) (l : Language) (before now : ℕ) : ProveStatus → Type 0 where
+  memory_of_bytes : StopsAtBytes bytes l before now NoMemory
+  read_of_bytes : Rose before now → StopsAtBytes bytes l before now ReadFault
+  refused_of_bytes : {r : ProveRefusal} → IsRefusedAs bytes l r → StopsAtBytes bytes l before now (Refused r)
 
 -- the part that reads certificates
 pub data StopsAtSections (before now : ℕ) : ProveStatus → Type 0 where
@@ -78,5 +112,6 @@ pub data StopsAtCertificates (files : Option Files) (certificates : List ℕ) (b
   refused_of_certificates : {r : ProveRefusal} → IsThere (IsWhole files) certificates → IsOfSections r → StopsAtCertificates files certificates before now (Refused r)
 
 -- these are answers of all units: no run of one that is proved fails
-abbrev pub AreAnswers : Program → List UnitAnswer → Type 0
-AreAnswers program answers = (length answers ≡ length program.units) × AreShown program answers
+abbrev pub AreAnswers : s.Subject → List UnitAnswer → Type 0
+AreAnswers (OfViper p) answers = (length answers ≡ length p.units) × viper_shown.AreShown p answers
+AreAnswers (OfBoogie q) answers = (length answers ≡ length q.procs) × boogie_shown.AreShown q answers

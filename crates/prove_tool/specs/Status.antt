@@ -5,10 +5,11 @@ use Rattle.vb_base.specs.Labels.{place_text}
 use Rattle.viper_syntax.specs.declared.tokens.LexFault.TheVariants.{BadByte, OpenComment, BigLiteral, Braces, LongGroup, Unsupported, Memory}
 use Rattle.viper_file.specs.declared.fault.ViperRefusal.{ViperRefusal}
 use Rattle.viper_file.specs.declared.fault.ViperRefusal.TheVariants.{Size, Lex, Syntax, Rule, Weight}
+use Rattle.boogie_file.specs.Refusals as boogie
 use Rattle.tool_common.specs.Kind.{Kind}
 use Rattle.tool_common.specs.Kind as kind
 use Rattle.prove_tool.specs.declared.refusal.ProveRefusal.{ProveRefusal}
-use Rattle.prove_tool.specs.declared.refusal.ProveRefusal.TheVariants.{Viper, CertificateSize, Certificate}
+use Rattle.prove_tool.specs.declared.refusal.ProveRefusal.TheVariants.{Viper, Boogie, CertificateSize, Certificate}
 use Rattle.prove_tool.specs.declared.status.ProveStatus.{ProveStatus}
 use Rattle.prove_tool.specs.declared.status.ProveStatus.TheVariants.{Done, Refused, Usage, ReadFault, WriteFault, NoMemory, Open}
 
@@ -46,6 +47,7 @@ viper_text (Weight n) = codes "weight " ++ decimal n
 
 abbrev pub refusal_text : ProveRefusal → List ℕ
 refusal_text (Viper r) = viper_text r
+refusal_text (Boogie r) = boogie.refusal_text r
 refusal_text CertificateSize = codes "certificate-size"
 refusal_text (Certificate line) = codes "certificate " ++ decimal line ++ codes " header"
 
@@ -53,7 +55,7 @@ refusal_text (Certificate line) = codes "certificate " ++ decimal line ++ codes 
 abbrev pub line_of : ProveStatus → List ℕ
 line_of Done = []
 line_of (Refused r) = codes "error: " ++ refusal_text r ++ codes "\n"
-line_of Usage = codes "usage: prove FILE [STEPS] | certificates FILE [STEPS] | certify FILE CERTIFICATES | conditions FILE\n"
+line_of Usage = codes "usage: prove[-boogie] FILE [STEPS] | certificates[-boogie] FILE [STEPS] | certify[-boogie] FILE CERTIFICATES | conditions[-boogie] FILE | values[-boogie] FILE [STEPS]\n"
 line_of ReadFault = codes "error: read\n"
 line_of WriteFault = []
 line_of NoMemory = []

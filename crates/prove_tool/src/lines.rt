@@ -6,8 +6,8 @@ ghost use Rattle.prove_tool.specs.Lines.{back_of, front_of, lines_text, unit_lin
 use cert_terms::LineRefusal;
 use std::alloc::{AllocError, Global};
 use std::fmt;
+use unit_proof::{Unfound, UnitAnswer, UnitVerdict};
 use vb_base::{Memory, put};
-use viper_proof::{Unfound, UnitAnswer, UnitVerdict};
 
 /// The word of a reason for which a line of a certificate is refused.
 fn word_of(reason: LineRefusal) -> &'static str

@@ -1,6 +1,7 @@
 // Why a file is refused.
 ghost use Rattle.std.specs.Prelude.{Some};
 
+use boogie_file::BoogieRefusal;
 use std::fmt;
 use viper_file::ViperRefusal;
 use viper_syntax::LexFault;
@@ -10,6 +11,8 @@ use viper_syntax::LexFault;
 pub enum ProveRefusal {
     /// The file of Viper is refused.
     Viper(ViperRefusal),
+    /// The text of Boogie is refused.
+    Boogie(BoogieRefusal),
     /// A section of the file of certificates has more than `MAX_BOOGIE_BYTES` bytes.
     CertificateSize,
     /// A section that no unit takes begins at this line of the file of certificates, from 1 on: there is one too many, or it is of
@@ -47,6 +50,7 @@ impl fmt::Display for ProveRefusal {
             ProveRefusal::Viper(ViperRefusal::Syntax(at)) => write!(f, "syntax {at}"),
             ProveRefusal::Viper(ViperRefusal::Rule(at, rule)) => write!(f, "type {at} rule {rule}"),
             ProveRefusal::Viper(ViperRefusal::Weight(weight)) => write!(f, "weight {weight}"),
+            ProveRefusal::Boogie(refusal) => write!(f, "{refusal}"),
             ProveRefusal::CertificateSize => f.write_str("certificate-size"),
             ProveRefusal::Certificate(line) => write!(f, "certificate {line} header"),
         }

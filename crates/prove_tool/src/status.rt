@@ -1,15 +1,18 @@
 // How a call ends, and the line that it then writes to the error stream.
 ghost use Rattle.std.specs.Prelude.{◌≡◌, IfOk};
 ghost use Rattle.std.specs.String.{string_bytes};
-ghost use Rattle.prove_tool.specs.Parts.{status_of_certificates, status_of_file, status_of_proof, status_of_viper};
+ghost use Rattle.prove_tool.specs.Parts.{status_of_boogie, status_of_certificates, status_of_file, status_of_proof, status_of_viper};
 ghost use Rattle.prove_tool.specs.Status.{kind_of, line_of, number_of};
 
+use crate::language::Language;
 use crate::refusal::ProveRefusal;
+use boogie_file::BoogieTrouble;
 use std::alloc::{AllocError, Global};
 use tool_common::CallStatus;
+use unit_proof::CertificateFault;
 use vb_outer::FileFault;
-use viper_file::{ViperFault, ViperRefusal};
-use viper_proof::{CertificateFault, Unproved};
+use viper_file::ViperFault;
+use viper_proof::Unproved;
 
 /// How a call ends. The status that the process ends with is its number.
 #[derive(Clone, Copy, Debug, PartialEq, Eq)]
@@ -66,7 +69,7 @@ pub fn line(alloc: Global, status: ProveStatus) -> Result<String, AllocError>
     match status {
         ProveStatus::Refused(refusal) => format!(in alloc; "error: {refusal}\n"),
         ProveStatus::Usage => format!(in alloc;
-            "usage: prove FILE [STEPS] | certificates FILE [STEPS] | certify FILE CERTIFICATES | conditions FILE\n"
+            "usage: prove[-boogie] FILE [STEPS] | certificates[-boogie] FILE [STEPS] | certify[-boogie] FILE CERTIFICATES | conditions[-boogie] FILE | values[-boogie] FILE [STEPS]\n"
         ),
         ProveStatus::ReadFault => format!(in alloc; "error: read\n"),
         ProveStatus::Done | ProveStatus::WriteFault | ProveStatus::NoMemory | ProveStatus::Open => {
@@ -75,18 +78,18 @@ pub fn line(alloc: Global, status: ProveStatus) -> Result<String, AllocError>
     }
 }
 
-/// The status where a file of Viper could not be read.
-pub fn of_file(fault: FileFault) -> ProveStatus
-    ensures { result ≡ status_of_file fault }
+/// The status where a file of the language could not be read.
+pub fn of_file(language: Language, fault: FileFault) -> ProveStatus
+    ensures { result ≡ status_of_file language fault }
 {
     match fault {
         FileFault::Memory => ProveStatus::NoMemory,
         FileFault::Failed => ProveStatus::ReadFault,
-        FileFault::Long => ProveStatus::Refused(ProveRefusal::Viper(ViperRefusal::Size)),
+        FileFault::Long => ProveStatus::Refused(language.too_long()),
     }
 }
 
-/// The status where it has no typed program.
+/// The status where a file of Viper has no typed program.
 pub fn of_viper(fault: ViperFault) -> ProveStatus
     ensures { result ≡ status_of_viper fault }
 {
@@ -96,7 +99,18 @@ pub fn of_viper(fault: ViperFault) -> ProveStatus
     }
 }
 
-/// The status where nothing is told of its units.
+/// The status where a text of Boogie has no typed program, or nothing is told of its procedures.
+pub fn of_boogie(trouble: BoogieTrouble) -> ProveStatus
+    ensures { result ≡ status_of_boogie trouble }
+{
+    match trouble {
+        BoogieTrouble::Memory => ProveStatus::NoMemory,
+        BoogieTrouble::Read => ProveStatus::ReadFault,
+        BoogieTrouble::Refused(refusal) => ProveStatus::Refused(ProveRefusal::Boogie(refusal)),
+    }
+}
+
+/// The status where nothing is told of the units of a file of Viper.
 pub fn of_proof(unproved: Unproved) -> ProveStatus
     ensures { result ≡ status_of_proof unproved }
 {

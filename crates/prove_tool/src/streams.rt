@@ -1,35 +1,33 @@
 // What is written unit by unit.
-ghost use Rattle.std.specs.Prelude.{◌≡◌, ◌<◌, ◌≤◌, ◌&&◌, ℕ, List, length, IfErr, IfOk, IsSome, IsTrue, OnErr, OnOk};
+ghost use Rattle.std.specs.Prelude.{◌≡◌, ◌<◌, ◌≤◌, ◌&&◌, ℕ, List, IfErr, IfOk, IsSome, IsTrue, OnErr, OnOk};
 ghost use Rattle.vb_outer.specs.Sink.{Appends};
-ghost use Rattle.viper_core.specs.Formed.{IsFormed};
-ghost use Rattle.viper_core.specs.View.{program_of};
-ghost use Rattle.viper_exec_meaning.specs.Frame.{NoUnitFails};
-ghost use Rattle.viper_proof.specs.Shown.{UnitNeverFails};
+ghost use Rattle.unit_proof.specs.Shown.{NeverFails};
 ghost use Rattle.tool_common.specs.Ends.{FrontWritten};
-ghost use Rattle.prove_tool.specs.Parts.{StopsAtSink};
+ghost use Rattle.prove_tool.specs.Parts.{IsSound, StopsAtSink, subject_of};
+ghost use Rattle.prove_tool.specs.Subject.{NoUnitFails, UnitFails, count_of};
 ghost use Rattle.prove_tool.specs.Written.{AreConditionsOf, AreFirst};
 
 use crate::searching::Search;
 use crate::status::ProveStatus;
+use crate::subject::Subject;
 use boogie_formula_text::print_conditions;
 use std::alloc::Global;
+use unit_proof::{Offer, UnitVerdict, verdict};
 use vb_base::Memory;
 use vb_outer::{Sink, write_all};
-use viper_core::Program;
-use viper_proof::{Offer, UnitVerdict, unit_conditions, verdict};
 
 /// The certificate that a search finds of the unit of this number, if it is accepted.
 fn certificate(
     alloc: Global,
-    program: &Program,
-    unit: u32,
+    program: &Subject,
+    unit: usize,
     search: Search,
 ) -> Result<Option<Vec<u8>>, Memory>
-    requires formed { IsFormed (program_of program.now) }
-    requires exists { unit < length (program_of program.now).units }
-    ensures { IfOk result (λ found. IsSome found → UnitNeverFails (program_of program.now) unit) }
+    requires sound { IsSound (subject_of program.now) }
+    requires exists { unit < count_of (subject_of program.now) }
+    ensures { IfOk result (λ found. IsSome found → NeverFails (UnitFails (subject_of program.now)) unit) }
 {
-    let of = unit_conditions(alloc, program, unit)?;
+    let of = program.conditions(alloc, unit)?;
     let Offer::Certificate(text) = search.offer(alloc, &of)? else {
         return Ok(None);
     };
@@ -42,14 +40,14 @@ fn certificate(
 /// Writes the certificate that a search finds of the unit of this number, and answers whether there is one.
 fn write_certificate<O: Sink>(
     alloc: Global,
-    program: &Program,
-    unit: u32,
+    program: &Subject,
+    unit: usize,
     search: Search,
     out: &mut O,
 ) -> Result<bool, ProveStatus>
-    requires formed { IsFormed (program_of program.now) }
-    requires exists { unit < length (program_of program.now).units }
-    ensures shown { IfOk result (λ found. IsTrue found → UnitNeverFails (program_of program.now) unit) }
+    requires sound { IsSound (subject_of program.now) }
+    requires exists { unit < count_of (subject_of program.now) }
+    ensures shown { IfOk result (λ found. IsTrue found → NeverFails (UnitFails (subject_of program.now)) unit) }
     ensures written { (text : List ℕ) × Appends (O.written out.old) (O.written out.new) text }
     ensures stops { IfErr result (StopsAtSink (O.faults out.old) (O.faults out.new)) }
     ensures later { O.faults out.old ≤ O.faults out.new }
@@ -73,19 +71,18 @@ fn both(first: bool, second: bool) -> bool
 /// Writes the certificates that a search finds, each once it is accepted, and answers whether there is one of each unit.
 pub fn write_certificates<O: Sink>(
     alloc: Global,
-    program: &Program,
+    program: &Subject,
     search: Search,
     out: &mut O,
 ) -> Result<bool, ProveStatus>
-    requires { IsFormed (program_of program.now) }
-    ensures shown { IfOk result (λ all. IsTrue all → NoUnitFails (program_of program.now)) }
+    requires { IsSound (subject_of program.now) }
+    ensures shown { IfOk result (λ all. IsTrue all → NoUnitFails (subject_of program.now)) }
     ensures written { (text : List ℕ) × Appends (O.written out.old) (O.written out.new) text }
     ensures stops { IfErr result (StopsAtSink (O.faults out.old) (O.faults out.new)) }
     ensures later { O.faults out.old ≤ O.faults out.new }
 {
     let mut all = true;
-    for number in 0..program.units.len() {
-        let unit = number as u32;
+    for unit in 0..program.count() {
         match write_certificate(alloc, program, unit, search, out) {
             Ok(found) => all = both(all, found),
             Err(status) => return Err(status),
@@ -95,26 +92,26 @@ pub fn write_certificates<O: Sink>(
 }
 
 /// The text of the conditions of the unit of this number.
-fn conditions_text(alloc: Global, program: &Program, unit: u32) -> Result<Vec<u8>, Memory>
-    requires formed { IsFormed (program_of program.now) }
-    requires exists { unit < length (program_of program.now).units }
-    ensures { IfOk result (λ text. AreConditionsOf (program_of program.now) unit text.items) }
+fn conditions_text(alloc: Global, program: &Subject, unit: usize) -> Result<Vec<u8>, Memory>
+    requires sound { IsSound (subject_of program.now) }
+    requires exists { unit < count_of (subject_of program.now) }
+    ensures { IfOk result (λ text. AreConditionsOf (subject_of program.now) unit text.items) }
 {
-    let of = unit_conditions(alloc, program, unit)?;
+    let of = program.conditions(alloc, unit)?;
     print_conditions(alloc, &of.name, &of.conditions)
 }
 
 /// Writes the conditions of the unit of this number.
 fn write_unit<O: Sink>(
     alloc: Global,
-    program: &Program,
-    unit: u32,
+    program: &Subject,
+    unit: usize,
     out: &mut O,
 ) -> Result<(), ProveStatus>
-    requires formed { IsFormed (program_of program.now) }
-    requires exists { unit < length (program_of program.now).units }
-    ensures whole { OnOk result ((text : List ℕ) × AreConditionsOf (program_of program.now) unit text × Appends (O.written out.old) (O.written out.new) text) }
-    ensures front { OnErr result (FrontWritten (O.written out.old) (O.written out.new) (AreConditionsOf (program_of program.now) unit)) }
+    requires sound { IsSound (subject_of program.now) }
+    requires exists { unit < count_of (subject_of program.now) }
+    ensures whole { OnOk result ((text : List ℕ) × AreConditionsOf (subject_of program.now) unit text × Appends (O.written out.old) (O.written out.new) text) }
+    ensures front { OnErr result (FrontWritten (O.written out.old) (O.written out.new) (AreConditionsOf (subject_of program.now) unit)) }
     ensures stops { IfErr result (StopsAtSink (O.faults out.old) (O.faults out.new)) }
     ensures later { O.faults out.old ≤ O.faults out.new }
 {
@@ -130,19 +127,76 @@ fn write_unit<O: Sink>(
 /// Writes the conditions of all units, one behind the other.
 pub fn write_conditions<O: Sink>(
     alloc: Global,
-    program: &Program,
+    program: &Subject,
     out: &mut O,
 ) -> Result<(), ProveStatus>
-    requires { IsFormed (program_of program.now) }
-    ensures whole { OnOk result ((text : List ℕ) × AreFirst (program_of program.now) (length (program_of program.now).units) text
+    requires { IsSound (subject_of program.now) }
+    ensures whole { OnOk result ((text : List ℕ) × AreFirst (subject_of program.now) (count_of (subject_of program.now)) text
         × Appends (O.written out.old) (O.written out.new) text) }
-    ensures front { OnErr result (FrontWritten (O.written out.old) (O.written out.new) (λ text. (n : ℕ) × AreFirst (program_of program.now) n text)) }
+    ensures front { OnErr result (FrontWritten (O.written out.old) (O.written out.new) (λ text. (n : ℕ) × AreFirst (subject_of program.now) n text)) }
     ensures stops { IfErr result (StopsAtSink (O.faults out.old) (O.faults out.new)) }
     ensures later { O.faults out.old ≤ O.faults out.new }
 {
-    for number in 0..program.units.len() {
-        let unit = number as u32;
+    for unit in 0..program.count() {
         match write_unit(alloc, program, unit, out) {
+            Ok(()) => {}
+            Err(status) => return Err(status),
+        }
+    }
+    Ok(())
+}
+
+/// The text of what a search finds of the labels of the unit of this number.
+fn values_text(
+    alloc: Global,
+    program: &Subject,
+    unit: usize,
+    search: Search,
+) -> Result<Vec<u8>, Memory>
+    requires sound { IsSound (subject_of program.now) }
+    requires exists { unit < count_of (subject_of program.now) }
+{
+    let of = program.conditions(alloc, unit)?;
+    search.values(alloc, &of)
+}
+
+/// Writes what a search finds of the labels of the unit of this number.
+fn write_labels<O: Sink>(
+    alloc: Global,
+    program: &Subject,
+    unit: usize,
+    search: Search,
+    out: &mut O,
+) -> Result<(), ProveStatus>
+    requires sound { IsSound (subject_of program.now) }
+    requires exists { unit < count_of (subject_of program.now) }
+    ensures written { (text : List ℕ) × Appends (O.written out.old) (O.written out.new) text }
+    ensures stops { IfErr result (StopsAtSink (O.faults out.old) (O.faults out.new)) }
+    ensures later { O.faults out.old ≤ O.faults out.new }
+{
+    match values_text(alloc, program, unit, search) {
+        Ok(text) => match write_all(out, &text) {
+            Ok(()) => Ok(()),
+            Err(_) => Err(ProveStatus::WriteFault),
+        },
+        Err(_) => Err(ProveStatus::NoMemory),
+    }
+}
+
+/// Writes what a search finds of the labels of all units, one unit behind the other.
+pub fn write_values<O: Sink>(
+    alloc: Global,
+    program: &Subject,
+    search: Search,
+    out: &mut O,
+) -> Result<(), ProveStatus>
+    requires { IsSound (subject_of program.now) }
+    ensures written { (text : List ℕ) × Appends (O.written out.old) (O.written out.new) text }
+    ensures stops { IfErr result (StopsAtSink (O.faults out.old) (O.faults out.new)) }
+    ensures later { O.faults out.old ≤ O.faults out.new }
+{
+    for unit in 0..program.count() {
+        match write_labels(alloc, program, unit, search, out) {
             Ok(()) => {}
             Err(status) => return Err(status),
         }

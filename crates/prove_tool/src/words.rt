@@ -7,17 +7,21 @@ ghost use Rattle.std.specs.String.{string_bytes};
 ghost use Rattle.prove_tool.specs.Command.{number_in, command_of_two, command_of_three, command_for};
 ghost use Rattle.prove_tool.specs.Parts.{command_of};
 
+use crate::language::Language;
+
 /// What the words of a call ask for. A budget that is not given is None.
 #[derive(Clone, Copy)]
 pub enum ProveCommand<'a> {
-    /// `prove FILE [STEPS]`: what a search shows of the units of a file.
-    Prove(&'a str, Option<u64>),
-    /// `certificates FILE [STEPS]`: the certificates that a search finds.
-    Certificates(&'a str, Option<u64>),
-    /// `certify FILE CERTIFICATES`: what the certificates of another file show.
-    Certify(&'a str, &'a str),
-    /// `conditions FILE`: the conditions of the units.
-    Conditions(&'a str),
+    /// `prove FILE [STEPS]`, `prove-boogie FILE [STEPS]`: what a search shows of the units of a file.
+    Prove(Language, &'a str, Option<u64>),
+    /// `certificates FILE [STEPS]`, `certificates-boogie FILE [STEPS]`: the certificates that a search finds.
+    Certificates(Language, &'a str, Option<u64>),
+    /// `certify FILE CERTIFICATES`, `certify-boogie FILE CERTIFICATES`: what the certificates of another file show.
+    Certify(Language, &'a str, &'a str),
+    /// `conditions FILE`, `conditions-boogie FILE`: the conditions of the units.
+    Conditions(Language, &'a str),
+    /// `values FILE [STEPS]`, `values-boogie FILE [STEPS]`: the values that a search finds, at which units fail.
+    Values(Language, &'a str, Option<u64>),
 }
 
 /// The command that the words ask for, if they are one.
@@ -36,11 +40,21 @@ fn command_of_two<'a>(word: &str, file: &'a str) -> Option<ProveCommand<'a>>
     ensures { option_map command_of result ≡ command_of_two word.now file.now }
 {
     if word == "prove" {
-        Some(ProveCommand::Prove(file, None))
+        Some(ProveCommand::Prove(Language::Viper, file, None))
     } else if word == "certificates" {
-        Some(ProveCommand::Certificates(file, None))
+        Some(ProveCommand::Certificates(Language::Viper, file, None))
     } else if word == "conditions" {
-        Some(ProveCommand::Conditions(file))
+        Some(ProveCommand::Conditions(Language::Viper, file))
+    } else if word == "values" {
+        Some(ProveCommand::Values(Language::Viper, file, None))
+    } else if word == "prove-boogie" {
+        Some(ProveCommand::Prove(Language::Boogie, file, None))
+    } else if word == "certificates-boogie" {
+        Some(ProveCommand::Certificates(Language::Boogie, file, None))
+    } else if word == "conditions-boogie" {
+        Some(ProveCommand::Conditions(Language::Boogie, file))
+    } else if word == "values-boogie" {
+        Some(ProveCommand::Values(Language::Boogie, file, None))
     } else {
         None
     }
@@ -51,15 +65,26 @@ fn command_of_three<'a>(word: &str, file: &'a str, third: &'a str) -> Option<Pro
     ensures { option_map command_of result ≡ command_of_three word.now file.now third.now }
 {
     if word == "certify" {
-        return Some(ProveCommand::Certify(file, third));
+        return Some(ProveCommand::Certify(Language::Viper, file, third));
+    }
+    if word == "certify-boogie" {
+        return Some(ProveCommand::Certify(Language::Boogie, file, third));
     }
     let Some(steps) = number_in(third) else {
         return None;
     };
     if word == "prove" {
-        Some(ProveCommand::Prove(file, Some(steps)))
+        Some(ProveCommand::Prove(Language::Viper, file, Some(steps)))
     } else if word == "certificates" {
-        Some(ProveCommand::Certificates(file, Some(steps)))
+        Some(ProveCommand::Certificates(Language::Viper, file, Some(steps)))
+    } else if word == "values" {
+        Some(ProveCommand::Values(Language::Viper, file, Some(steps)))
+    } else if word == "prove-boogie" {
+        Some(ProveCommand::Prove(Language::Boogie, file, Some(steps)))
+    } else if word == "certificates-boogie" {
+        Some(ProveCommand::Certificates(Language::Boogie, file, Some(steps)))
+    } else if word == "values-boogie" {
+        Some(ProveCommand::Values(Language::Boogie, file, Some(steps)))
     } else {
         None
     }

@@ -1,5 +1,4 @@
-//! `row_tests TABLE..` runs the rows of tables through the tool, over files and sinks in memory, and through
-//! `prove`, `certify` and `conditions`.
+//! `row_tests TABLE..` runs the rows of tables through the tool and through `prove`, over files and sinks in memory.
 //!
 //! It prints each row that ends otherwise than it says, and the number of rows of each table. `docs/rows.md` says how a
 //! table is written.

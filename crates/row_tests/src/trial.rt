@@ -87,8 +87,7 @@ pub fn end_of(alloc: Global, call: Call) -> Result<Ended, Fault> {
     Ok(Ended { status, out, err })
 }
 
-/// Makes the call of the program that the words are for, and answers its status: `certify` of three words more and `conditions` of two,
-/// the commands of `prove`, and else those of the tool.
+/// Makes the call of the program that the words are for, and answers its status: the commands of `prove`, and else those of the tool.
 fn status_of(
     alloc: Global,
     words: &Vec<String>,
@@ -97,14 +96,6 @@ fn status_of(
     err: &mut MemSink,
 ) -> Result<u8, Fault> {
     match words.as_slice() {
-        [program, rest @ ..] if program.as_str() == "certify" && rest.len() == 3 => {
-            let rest = copies_of(alloc, rest)?;
-            Ok(cert_tool::tool(alloc, &rest, shelf, out, err).number())
-        }
-        [program, rest @ ..] if program.as_str() == "conditions" && rest.len() == 2 => {
-            let rest = copies_of(alloc, rest)?;
-            Ok(cond_tool::tool(alloc, &rest, shelf, out, err).number())
-        }
         [command, ..] if is_of_prove(command.as_str()) => {
             Ok(prove_tool::tool(alloc, words, shelf, out, err).number())
         }
@@ -112,12 +103,14 @@ fn status_of(
     }
 }
 
-/// Whether a command is one of the program `prove`.
+/// Whether a command is one of the program `prove`, of a file of Viper or of a text of Boogie.
 fn is_of_prove(command: &str) -> bool {
-    command == "prove"
-        || command == "certificates"
-        || command == "certify"
-        || command == "conditions"
+    let of_viper = command.strip_suffix("-boogie").unwrap_or(command);
+    of_viper == "prove"
+        || of_viper == "certificates"
+        || of_viper == "certify"
+        || of_viper == "conditions"
+        || of_viper == "values"
 }
 
 /// The call over all its files, of which those that are written are written one after another.

@@ -1,3 +1,0 @@
-mod StageLaws
-mod CallLaws
-mod Answered

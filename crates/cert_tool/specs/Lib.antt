@@ -1,4 +1,0 @@
-pub mod Status
-pub mod Shown
-pub mod Call
-pub mod Parts

@@ -1,0 +1,9 @@
+use Rattle.std.proofs.Common.{◌≤◌, List, ℕ}
+use Rattle.vb_outer.specs.Sink.{Appends}
+use Rattle.prove_tool.proofs.streams.write_values.Given as goal
+
+abbrev pub invariant-loop-unit : goal.invariant-loop-unit
+invariant-loop-unit g l = record {
+  written : (text : List ℕ) × Appends (g.O.Sink.written l.initial.out) (g.O.Sink.written l.out) text;
+  later : g.O.Sink.faults l.initial.out ≤ g.O.Sink.faults l.out;
+}

@@ -1,8 +1,0 @@
-use Rattle.std.proofs.Common.{◌≡◌, ◌≤◌}
-use Rattle.viper_proof.proofs.sections.Sections.read_up_to.Given as goal
-
-abbrev pub invariant-loop-piece : goal.invariant-loop-piece
-invariant-loop-piece g l = record {
-  later : g.H.Shelf.faults l.initial.shelf ≤ g.H.Shelf.faults l.shelf;
-  files : g.H.Shelf.files l.shelf ≡ g.H.Shelf.files l.initial.shelf;
-}

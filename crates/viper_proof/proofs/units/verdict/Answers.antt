@@ -1,5 +1,0 @@
-use Rattle.std.proofs.Common.{refl}
-use Rattle.viper_proof.proofs.units.verdict.Goals as goal
-
-pub returns-in-Ok : goal.returns-in-Ok
-returns-in-Ok c flag = c.in-Ok.ensures.shown refl
