@@ -21,12 +21,12 @@ VIPER, SEARCH = "Viper", "The search for certificates"
 GROUPS = (    # by what a name is; a name that fits no other is of the first
     ("Common", ""),
     (VIPER, r"viper_(?!file$|proof$|.*fixtures$|.*tests$).*"),
-    ("Boogie", r"boogie_(?!file$|.*fixtures$|.*tests$).*"),
+    ("Boogie", r"boogie_(?!file$|proof$|.*fixtures$|.*tests$).*"),
     ("Run files of both", r"moves|run_.*"),
     ("The code of a translation", r"enc_(?!examples$).*"),
-    ("Certificates", r"cert_(?!tool$|laws$).*"),
+    ("Certificates", r"cert_.*"),
     (SEARCH, r"search_.*"),
-    ("Programs, and what they do", r".*tool.*|.*_(file|proof|laws)|remduska|conditions|certify|prove"),
+    ("Programs, and what they do", r".*tool.*|.*_(file|proof|laws)|remduska|prove"),
     ("Tests and measures", r".*_(tests|fixtures|examples|bench)|row_.*"),
 )
 

@@ -10,7 +10,7 @@ from releasing.tree import TOP
 
 from . import made
 
-CRATES = {"remduska": "low high", "conditions": "low", "certify": "low", "low": "", "high": "low"}
+CRATES = {"remduska": "low high", "prove": "low", "low": "", "high": "low"}
 COMPILER = '#!/usr/bin/env bash\nmkdir -p "${2%/*}"\nprintf "#!/bin/sh\\necho compiled\\n" >"$2"\nchmod +x "$2"\necho compiling >&2\n'
 PROVED, UNPROVED = "crates/remduska/out/remduska", "crates/remduska/out/unproved/remduska-unproved"
 SOURCE = "crates/low/src/lib.rt"
@@ -117,12 +117,11 @@ class Choosing(unittest.TestCase):
         self.assertEqual(self.chosen()[0], [PROVED])
 
     def test_sources_of_other_programs_do_not_count(self):
-        for it in ("conditions", "certify"):
-            self.program(f"crates/{it}/out/{it}")
+        self.program("crates/prove/out/prove")
         self.program()
         self.write("crates/high/src/lib.rt", "other\n")
-        found, said = self.chosen("conditions", "remduska", "certify")
-        self.assertEqual(found, ["crates/conditions/out/conditions", UNPROVED, "crates/certify/out/certify"])
+        found, said = self.chosen("prove", "remduska")
+        self.assertEqual(found, ["crates/prove/out/prove", UNPROVED])
         self.assertEqual(said.count("compiling"), 1)
 
     def test_a_proved_one_that_comes_later_is_started(self):
@@ -152,10 +151,10 @@ class Choosing(unittest.TestCase):
         self.assertEqual(self.chosen()[0], [UNPROVED])
 
     def test_a_crate_that_a_program_stands_on_by_now_counts(self):
-        self.program("crates/conditions/out/conditions")
-        self.assertEqual(self.chosen("conditions")[0], ["crates/conditions/out/conditions"])
-        self.write("crates.txt", "".join(f"{name}: {'high' if name == 'conditions' else below}\n" for name, below in CRATES.items()))
-        self.assertEqual(self.chosen("conditions")[0], ["crates/conditions/out/unproved/conditions-unproved"])
+        self.program("crates/prove/out/prove")
+        self.assertEqual(self.chosen("prove")[0], ["crates/prove/out/prove"])
+        self.write("crates.txt", "".join(f"{name}: {'high' if name == 'prove' else below}\n" for name, below in CRATES.items()))
+        self.assertEqual(self.chosen("prove")[0], ["crates/prove/out/unproved/prove-unproved"])
 
     def test_where_nothing_can_be_noted_all_is_looked_at(self):
         with open(self.path("tools/out"), "w", encoding="utf-8"):
@@ -168,6 +167,6 @@ class Choosing(unittest.TestCase):
     def test_a_variable_names_the_program(self):
         done = made.call([self.path("remduska"), "make", "3"], env={**made.without_variables(), "REMDUSKA": "/bin/echo"})
         self.assertEqual((done.returncode, done.stdout, done.stderr), (0, "make 3\n", ""))
-        done = made.call([self.path("remduska"), "--version"], env={**made.without_variables(), "REMDUSKA_CERTIFY": "/none"})
+        done = made.call([self.path("remduska"), "--version"], env={**made.without_variables(), "REMDUSKA_PROVE": "/none"})
         self.assertIn("\nremduska: not built from today's sources\n", done.stdout)
-        self.assertIn("\ncertify: /none, which REMDUSKA_CERTIFY names, and which is no program\n", done.stdout)
+        self.assertIn("\nprove: /none, which REMDUSKA_PROVE names, and which is no program\n", done.stdout)

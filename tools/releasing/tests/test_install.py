@@ -117,7 +117,7 @@ class Scripts(unittest.TestCase):
 
     def test_variables_name_programs(self):
         self.assertEqual(self.call("make", "3", REMDUSKA="/bin/echo").stdout, "make 3\n")
-        self.assertEqual(self.call("certify", "/dev/null", "p", "/dev/null", REMDUSKA_CERTIFY="/bin/echo").stdout, "/dev/null p /dev/null\n")
+        self.assertEqual(self.call("certify-boogie", "/dev/null", "/dev/null", REMDUSKA_PROVE="/bin/echo").stdout, "certify-boogie /dev/null /dev/null\n")
         done = self.call("make", "3", REMDUSKA="/none")
         self.assertEqual((done.returncode, done.stderr), (70, "remduska: REMDUSKA names /none, which is no program\n"))
         self.assertIn("remduska: /bin/echo, which REMDUSKA names\n", self.call("--version", REMDUSKA="/bin/echo").stdout)

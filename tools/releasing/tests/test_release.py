@@ -51,9 +51,9 @@ class Archives(unittest.TestCase):
 
     def test_a_file_that_was_changed_is_refused(self):
         copy = made.unpacked(self.room)
-        with open(os.path.join(copy, "lib/remduska/programs/certify"), "ab") as it:
+        with open(os.path.join(copy, "lib/remduska/programs/prove"), "ab") as it:
             it.write(b"\n")
-        self.assertRaisesRegex(Refused, "programs/certify is not the file", read_copy, copy)
+        self.assertRaisesRegex(Refused, "programs/prove is not the file", read_copy, copy)
 
     def test_links_of_its_pages_lead_to_what_is_there(self):
         share = os.path.join(made.unpacked(self.room), "share/remduska")

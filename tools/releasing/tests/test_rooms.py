@@ -10,7 +10,6 @@ from releasing.tree import TOP, built, read
 from . import debian_root, made
 
 WHY_NOT = debian_root.missing() or ("" if debian_root.is_installed("python3") else "the system has no Python of Debian")
-SHOWN_BY = "4.8.12"     # the version of z3 by which the documents show runs
 PLACE = "/opt/a place"
 
 
@@ -50,7 +49,7 @@ class Rooms(unittest.TestCase):
     def test_the_programs(self):
         for words, status, said in ((["translate", "examples/list.vpr"], 0, "type Ref;\n"), (["translate", "examples/a b.vpr"], 3, ""),
                                     (["run", "examples/list_wrong.vpr", "fill", "examples/list.run"], 10, "// failed 53:5 24:26 false\n"),
-                                    (["conditions", "examples/first.bpl", "M$m"], 0, ""), (["cut", "examples/dice.bpl"], 0, "")):
+                                    (["conditions-boogie", "examples/first.bpl"], 0, "conditions M$m\n"), (["cut", "examples/dice.bpl"], 0, "")):
             done = self.call(*words)
             self.assertEqual((done.returncode, done.stdout.startswith(said)), (status, True), (words, done.stderr))
 
@@ -86,28 +85,22 @@ class Rooms(unittest.TestCase):
             spent[it] = sum(60_000 * float(minutes) + 1000 * float(seconds) for minutes, seconds in re.findall(r"(\d+)m([\d.]+)s", done.stdout)) / 20
         self.assertLess(spent["remduska"] - spent[program], 40, "ms")
 
-    def test_without_z3_what_is_wrong_is_not_verified(self):
-        """The programs that prove do without z3; the runs of errors do not."""
-        if "z3" in self.packages:
+    def test_the_quick_start(self):
+        """With `prove` it needs no z3; without both nothing is looked at."""
+        words, text = shown()
+        done = self.call(*words.split())
+        if "prove" not in built():
+            self.assertEqual(done.returncode, 1 if "z3" in self.packages else 2, done.stderr)
             return
-        done = self.call(*shown()[0].split())
-        self.assertEqual((done.returncode, "error:" in done.stdout), (3 if "prove" in built() else 2, False), done.stderr)
-        if "prove" in built():
-            done = self.call("verify", "examples/list.vpr")
-            self.assertEqual((done.returncode, done.stdout), (0, "examples/list.vpr: proved, 6 units\n"), done.stderr)
+        self.assertEqual((done.returncode, done.stdout, done.stderr.endswith(self.mark)), (1, text, True), done.stderr)
+        done = self.call("verify", "examples/list.vpr")
+        self.assertEqual((done.returncode, done.stdout), (0, "examples/list.vpr: proved, 6 units\n"), done.stderr)
 
 
 @unittest.skipIf(WHY_NOT, WHY_NOT)
 @unittest.skipUnless(debian_root.is_installed("z3") if not WHY_NOT else False, "z3 is not installed")
 class RoomsWithZ3(Rooms):
     packages = ("python3", "z3")
-
-    def test_the_quick_start(self):
-        words, text = shown()
-        done = self.call(*words.split())
-        if SHOWN_BY in debian_root.call(self.root, "z3", "--version").stdout:
-            self.assertEqual(done.stdout, text)
-        self.assertEqual((done.returncode, done.stderr.endswith(self.mark)), (1, True), done.stderr)
 
     def test_the_quick_start_where_nothing_can_be_written(self):
         done = self.call("verify", "examples/list.vpr", before=debian_root.read_only(PLACE))
