@@ -1,17 +1,20 @@
-"""Looks for a run that can be believed: each instance that is held can be opened, and what is named differently is different.
+"""Looks for a run that can be believed: each instance that is held can be opened, what is named differently is different, a loop that
+changes something is not skipped, and any value is another one than before.
 
 Such runs are those of a changed file. Wherever a specification gives instances, an assumption stands behind it that opens each of them
 once, as `assume unfolding list(x) in true`. It takes no choice of a run, so a run of the changed file is one of the file itself."""
 from .contents import spelled
 from .meaning import Blocks, Fails, Scene
+from .origins import Origins
 from .references import Names
 from .running import rerun
 from .search import PLAIN
+from .stand_ins import Spelling
 from .terms import Statement, Term, nodes_of
 from .trying import Changed, Insertion, Trials
 from .units import Failure
 from .values import NONE, Ref
-from .wording import Spelling
+from .wording import Atoms
 
 PART = 0.6          # of the time that is left, for one way to ask
 LONG = 2000         # the most characters of a term that is spelled
@@ -56,6 +59,56 @@ class Doubts:
         found = [it for it in values if it != 0]
         return len(found) > len(set(found))
 
+    def loops(self):
+        """The loops of which the run makes an iteration, or comes behind."""
+        return [it for it in self.again.steps if it.kind == "while" and it.fault is None]
+
+    def skips(self):
+        """Whether a loop iterates, or something has changed behind it, although its condition was false at first."""
+        return any([self.guard(it) is False and (it.way == "turn" or self.changes(it)) for it in self.loops()])
+
+    def guard(self, step):
+        """The value of the condition of a loop where it is reached, or None."""
+        guard = Statement(self.again.source, step.first).terms[0]
+        try:
+            return self.meaning.value(guard, step.before.state, Scene(step.before.vars, self.again.old, step.first))
+        except (Fails, Blocks):
+            return None
+
+    def changes(self, step):
+        old, new = step.before, step.after
+        return any([old.vars[it] != new.vars[it] for it in step.targets]) or \
+            any([step.havocs(it) and old.state.value(it) != new.state.value(it) for it, _ in new.state.places()])
+
+    def open_values(self):
+        """What a failing condition reads and a call or a loop gave any value: of each the step, the term, its type, and whether the value is
+        the one before."""
+        fault, found = self.again.fault, []
+        if fault.kind != "false":
+            return found
+        for it in Atoms(self.meaning).of(fault.node, fault.state, fault.scene):
+            if it.node.kind == "field" and not it.is_old:
+                found += self.open_place(self.meaning.place(it.node, it.state, it.scene))
+            elif it.node.kind == "leaf" and it.scene.around is None:
+                found += self.open_variable(self.again.source.said(it.node.at))
+        return found
+
+    def open_place(self, place):
+        steps = [(it, it.before.state.value(place), it.after.state.value(place)) for it in reversed(self.again.steps[:-1])]
+        step, old, new = next(((it, old, new) for it, old, new in steps if old != new or it.havocs(place)), (None, None, None))
+        if step is None or not step.havocs(place) or Origins(self.again).says(step, "place", place):
+            return []
+        names = [name for name, value in self.again.visible_before(step).items() if isinstance(value, Ref) and value == place[1] and
+                 name not in step.targets]
+        return [(step, f"{names[0]}.{place[0]}", self.meaning.types[place[0]], old == new)] if names else []
+
+    def open_variable(self, name):
+        step = next((it for it in reversed(self.again.steps[:-1]) if name in it.targets), None)
+        if step is None or step.kind != "while" or not Origins(self.again).is_any(step, name):
+            return []
+        type_ = next(it.type for it in self.again.unit.variables if it.name == name)
+        return [(step, name, type_, step.before.vars[name] == step.after.vars[name])]
+
 
 class Assumptions:
     """The assumptions of a unit, as insertions into its file."""
@@ -73,6 +126,26 @@ class Assumptions:
         while n < self.source.closing[self.unit.brace]:
             n = self.statement(n)
         return self.found
+
+    def iterating(self, steps):
+        """That the conditions of loops hold where these are reached."""
+        return [self.in_front(it, f"assume {self.text(Statement(self.source, it.first).terms[0], None)}") for it in steps]
+
+    def changing(self, values):
+        """That terms have another value behind a step than before."""
+        found, name = [], "kept$"
+        while any([it.text.startswith(name) for it in self.source.tokens]):
+            name += "$"
+        for n, (step, text, type_, _) in enumerate(values):
+            braces = [it for it, word in self.source.owner.items() if word == step.first]
+            last = self.source.closing[braces[0]] if step.kind == "while" else step.last
+            end = self.source.tokens[last].end
+            found += [self.in_front(step, f"var {name}{n}: {type_} := {text}"), Insertion(end, end, f" assume {text} != {name}{n}")]
+        return found
+
+    def in_front(self, step, text):
+        start = self.source.tokens[step.first].start
+        return Insertion(start, start, f"{text} ")
 
     def behind(self, token, terms, scene):
         texts = [text for it in terms for text in self.opened(it, scene)]
@@ -191,31 +264,38 @@ def believable(examiner, source, failure: Failure) -> Failure:
     again = rerun(source, failure.run)
     if again.how != "failed" or again.label() != failure.label or again.unit.kind != "method" or again.unit.brace is None:
         return failure
-    doubts = Doubts(again)
-    cannot_open, aliases = doubts.instance() is not None, doubts.has_aliases()
-    if not cannot_open and not aliases:
+    ways = ways_of(Doubts(again), Assumptions(again))
+    if not ways:
         return failure
-    assumptions = Assumptions(again)
-    opened = assumptions.all()
-    ways = [[*opened, *assumptions.different()]] + ([opened] if cannot_open and opened else [])
     trials = Trials(examiner, source, again.unit.name)
     try:
-        for it in ways if ways[0] else []:
+        for it in ways:
             found = other_run(trials, Changed(source.data, it), failure)
             if found is not None:
                 return found
     finally:
-        examiner.search.begin_anew()
+        examiner.begin_anew()
     return failure
+
+
+def ways_of(doubts, assumptions):
+    """The insertions of the files of which a run is asked for, one after the other: with all that is doubted, and with less."""
+    cannot_open, has_aliases, values = doubts.instance() is not None, doubts.has_aliases(), doubts.open_values()
+    if not (cannot_open or has_aliases or doubts.skips() or any([is_same for *_, is_same in values])):
+        return []
+    opened = assumptions.all() if cannot_open or has_aliases else []
+    apart = assumptions.different() if opened or has_aliases else []
+    loops, changing = assumptions.iterating(doubts.loops()), assumptions.changing(values)
+    found = [[*opened, *apart, *loops, *changing], [*opened, *apart, *loops], [*opened, *apart], opened if cannot_open else [], loops]
+    return [it for n, it in enumerate(found) if it and it not in found[:n]]
 
 
 def other_run(trials, changed, failure):
     """A failure at the same label with a run of a changed file, or None."""
     examiner, label = trials.examined(changed), changed.label(trials.source, failure.label)
-    terms = examiner.possible().get(label) if examiner is not None else None
-    if not terms:
+    if examiner is None or label is None:
         return None
-    _, values = examiner.search.any_of(terms, (PLAIN,), PART)
+    _, values = examiner.any_of([label], (PLAIN,), PART)
     if values is None or examiner.fails_at(values) != label:
         return None
     run = examiner.small_run(values, label)

@@ -6,7 +6,7 @@ An expression is a tuple: ("name", n), ("int", k), ("real", k), ("bool", b), ("n
 A statement is ("assign", x, e), ("put", m, keys, e), ("havoc", x), ("assume", e), ("assert", label, e) or
 ("if", condition or None, then, else), whose blocks are lists. A type is its key types and its base type: (("Ref",), "int")."""
 import re
-from typing import Dict, List, NamedTuple, Tuple
+from typing import Dict, List, Tuple
 
 Type = Tuple[Tuple[str, ...], str]
 TOKEN = re.compile(r"""(?:\s|//[^\n]*)*("[^"]*"|<==>|==>|:=|::|\|\||&&|==|!=|<=|>=|[A-Za-z_$][\w$']*|\d+\.0|\d+|[-+*/<>!(){}\[\],:;])""")
@@ -17,11 +17,11 @@ class NotAsWritten(Exception):
     """A text is not as the program writes it."""
 
 
-class Procedure(NamedTuple):
-    """A procedure: `locals` has the type of each of its variables, in the order of the text."""
-    name: str
-    locals: Dict[str, Type]
-    body: list
+class Procedure:
+    """A procedure: `locals` has the type of each of its variables, in the order of the text. `code` is for those who run it."""
+
+    def __init__(self, name: str, locals_: Dict[str, Type], body: list):
+        self.name, self.locals, self.body, self.code = name, locals_, body, None
 
     def labels(self) -> List[str]:
         """The labels of its assertions, in the order of the text."""

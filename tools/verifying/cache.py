@@ -196,8 +196,7 @@ def place():
 def opened(paths) -> Cache:
     """The cache for the programs at these paths."""
     whole = hashlib.sha256()
-    for path in paths:
-        if path is not None:
-            with open(path, "rb") as it:
-                whole.update(it.read())
+    for path in (paths.remduska, paths.prove):
+        with open(path, "rb") as it:
+            whole.update(it.read())
     return Cache(place(), whole.hexdigest())

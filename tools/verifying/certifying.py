@@ -1,12 +1,12 @@
 """Whether a unit that z3 says is verified is so by a certificate as well, which the proved program accepts.
 
-It is checked against the whole text that the program wrote. Where that is long, it is checked against the prelude and the unit's own
-procedure, so that the units of a file do not take the square of its length."""
+It is checked against a text of the prelude and the unit's own procedure."""
 import os
 from typing import NamedTuple, Optional
 
+from .program import DONE
+
 NONE_MADE = "no certificate was found"
-LONG = 262_144  # bytes of a text that is not read once more for each of its units
 
 
 class Certified(NamedTuple):
@@ -28,14 +28,11 @@ def certified(program, room, given, unit, conditions, end) -> Certified:
 
 def checked(program, room, given, unit, certificate_text) -> Certified:
     """A certificate, if the program accepts it for a unit of a file."""
-    text = given.text_file
-    if os.path.getsize(text) > LONG:
-        text = os.path.join(room, "unit.bpl")
-        write(text, given.prelude + unit.text)
-    file = os.path.join(room, "unit.cert")
+    text, file = os.path.join(room, "unit.bpl"), os.path.join(room, "unit.cert")
+    write(text, given.prelude + unit.text)
     write(file, certificate_text)
-    said = program.certify(text, unit.procedure, file)
-    return Certified(certificate_text, "") if said.status == 0 else Certified(None, f"certify says {said.first()}")
+    said = program.certify(text, file)
+    return Certified(certificate_text, "") if said.status == DONE else Certified(None, f"certify says {said.first()}")
 
 
 def write(path, text):

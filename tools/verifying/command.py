@@ -11,7 +11,7 @@ from .certifying import Certified
 from .files import bytes_of, shown_path, source_of
 from .gathered import beside
 from .processes import Job, Pool
-from .program import NoProgram, find, has_prove
+from .program import NoProgram, find
 from .report import NO_CALL, Lines
 from .report_json import Json
 from .results import CERTIFY, unknown
@@ -81,37 +81,34 @@ def status_of(given_words, page):
     if args.formula:
         from .formula import tell
         return tell(args.files, args.seconds, args.print)
-    options = with_tools(words.options_of(args))
+    options = words.options_of(args)
+    need_tools(options)
     if args.check:
         from .checking import check
-        return check(options._replace(cache=False), programs_for([], options))
-    if options.ship is not None and (len(args.files) != 1 or not has_prove()):
-        raise NoTool("--certificates takes one file of Viper" if has_prove() else "there is no program `prove` to write certificates")
+        return check(options._replace(cache=False), programs_for(options))
+    if options.ship is not None and len(args.files) != 1:
+        raise NoTool("--certificates takes one file of Viper")
     if options.watch:
         from .language_server.watch import watch
         return watch(args.files, options)
     if options.keep:
         os.makedirs(options.keep, exist_ok=True)
-    paths = programs_for(args.files, options)
+    paths = programs_for(options)
     report = Json(options, sys.stdout, paths) if options.json else Lines(options, sys.stdout)
     return Command(args.files, options, beside(report, options), paths).status()
 
 
-def with_tools(options):
-    """Options that say whether z3 is asked: where it is wanted it has to be there, and where nothing else finds runs."""
-    if options.z3 or not (options.certificates and has_prove()):
+def need_tools(options):
+    """Has z3 be there where it is wanted, and where nothing else finds runs, and Boogie where it is."""
+    if options.z3 or not options.certificates:
         need("z3")
     if options.boogie:
         need("boogie")
-    return options._replace(z3=shutil.which("z3") is not None)
 
 
-def programs_for(paths, options):
-    """The files of the programs that are needed for some files."""
-    has_boogie = any([it.endswith(".bpl") for it in paths])
-    if options.certificates and has_prove():
-        return find("prove", *["conditions", "certify"] * has_boogie)
-    return find("conditions", *["certify"] * options.certificates)
+def programs_for(options):
+    """The files of the programs. Without certificates `prove` is asked for no proofs."""
+    return find()._replace(searches=options.certificates)
 
 
 def need(tool):
@@ -220,7 +217,7 @@ class Command:
             file.fault = f"the file cannot be looked at: {why}"
 
         wants_text = self.options.keep is not None or self.options.boogie
-        self.pool.submit(Job(work.prepared, (file.path, file.data, file.room, wants_text), done, failed))
+        self.pool.submit(Job(work.prepared, (file.path, file.data, file.room, wants_text, self.options.z3), done, failed))
 
     def look(self, n, file):
         """Has the units of a file looked at, and of those behind it, and tells of them."""

@@ -10,14 +10,13 @@ from .boogie_text import NotAsWritten, Reader, Type, tokens_of
 
 
 class Conditions:
-    """`vars` has the type of each variable, `lets` the name and the expression of each definition, `fails` the label of each
-    assertion and the name of the definition that says that it fails, and `ends` the name of the path at the end."""
+    """`vars` has the type of each variable, `lets` the name and the expression of each definition, and `fails` the label of each
+    assertion and the name of the definition that says that it fails."""
 
     def __init__(self):
         self.vars: Dict[str, Type] = {}
         self.lets: List[Tuple[str, tuple]] = []
         self.fails: List[Tuple[str, str]] = []
-        self.ends = ""
 
 
 def read_conditions(text: str) -> Conditions:
@@ -47,17 +46,4 @@ def read_conditions(text: str) -> Conditions:
             raise NotAsWritten(f"more than a line should have: {reader.tokens[reader.at]}")
     if not found.fails and not text.startswith("conditions "):
         raise NotAsWritten("a formula has a goal")
-    found.ends = last_path(found) if text.startswith("conditions ") else ""
     return found
-
-
-def last_path(found):
-    """The name of the path at the end. Paths are the first definition, which is `true`, and from there `(path && e)` and
-    `(path || path)`, but for those that say that an assertion fails."""
-    failing, paths, last = {name for _, name in found.fails}, set(), ""
-    for name, e in found.lets:
-        is_first = not paths and e == ("bool", True)
-        if is_first or (e[0] == "bin" and e[1] in ("&&", "||") and e[2][0] == "name" and e[2][1] in paths and name not in failing):
-            paths.add(name)
-            last = name
-    return last

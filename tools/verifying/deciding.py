@@ -40,14 +40,14 @@ class Outcome(NamedTuple):
 
 
 class Decider:
-    """Decides the labels of the unit of an examiner, and calls `tell` with each mistake. `left` has the terms of the labels that are
-    not decided, `open` those of them that were given up, and why, and `set_aside` those that follow from others. `known` has runs from
-    before, by the labels at which they failed, and `runs` those that fail now."""
+    """Decides the labels of the unit of an examiner, and calls `tell` with each mistake. `left` has the labels that are not decided, in
+    order, `open` those of them that were given up, and why, and `set_aside` those that follow from others. `known` has runs from before,
+    by the labels at which they failed, and `runs` those that fail now."""
 
     def __init__(self, examiner: Examiner, source, wants: Wants, tell: Callable[[Mistake], None], known: Dict[str, KnownRun]):
         self.known, self.runs = dict(known), {}
-        self.examiner, self.source, self.search, self.wants, self.tell = examiner, source, examiner.search, wants, tell
-        self.left, self.open, self.set_aside = examiner.possible(), {}, {}
+        self.examiner, self.source, self.wants, self.tell = examiner, source, wants, tell
+        self.left, self.open, self.set_aside = dict.fromkeys(examiner.possible()), {}, {}
         self.failures: Dict[str, Failure] = {}
         self.behind: List[Mistake] = []
         self.own = {} if examiner.task.is_boogie else {it: following.own_label(source, it) for it in self.left}
@@ -71,13 +71,13 @@ class Decider:
         return Outcome(FAILS if is_failing else UNDECIDED if found or self.open else VERIFIED, found, self.open)
 
     def decide(self, wanted):
-        """Decides labels: all at once as long as z3 finds values, and else each alone."""
+        """Decides labels: all at once as long as there are values for one of them, and else each alone."""
         wanted = self.undecided(wanted)
         while wanted:
             if self.take_known(wanted):
                 wanted = self.undecided(wanted)
                 continue
-            said, values = self.search.any_of([term for it in wanted for term in self.left[it]], (PLAIN,), AT_ONCE)
+            said, values = self.examiner.any_of(wanted, (PLAIN,), AT_ONCE)
             if said == "unsat":
                 self.cannot_fail(wanted)
             elif values is None or not self.take(values):
@@ -99,11 +99,11 @@ class Decider:
             asked = [it for it in wanted if it in self.left]
             for n, label in enumerate(asked):
                 if label in self.left:
-                    self.search.begin_anew()
-                    self.alone(label, *self.search.any_of(self.left[label], ways, ALONE / (len(asked) - n)))
+                    self.examiner.begin_anew()
+                    self.alone(label, *self.examiner.any_of([label], ways, ALONE / (len(asked) - n)))
 
     def alone(self, label, said, values):
-        """Takes what z3 says of one label."""
+        """Takes what is found of one label."""
         if said == "unsat":
             self.cannot_fail([label])
         elif values is None:
@@ -142,9 +142,9 @@ class Decider:
 
     def decide_before(self, label, passed):
         """Decides the labels that a run passes before the one at which it fails."""
-        terms = self.left.pop(label)
+        del self.left[label]
         self.decide(passed)
-        self.left[label] = terms
+        self.left[label] = None
         self.put_aside()
 
     def put_aside(self):
@@ -207,7 +207,7 @@ class Decider:
                 return []
             self.cannot_wait(found)
             return [found]
-        said, values = self.search.any_of(self.left[other], (PLAIN,), AT_ONCE)
+        said, values = self.examiner.any_of([other], (PLAIN,), AT_ONCE)
         if said == "unsat":
             self.cannot_fail([other])
         walk = Passing(self.examiner.procedure, values.given) if values is not None else None

@@ -4,13 +4,15 @@ A label has the place of the step that is running, the place of the part that fa
 part stands in is read off the tokens. Where they do not fit together, a plain message has both places."""
 import re
 
-from .terms import Statement, Term, nodes_of, parts_of, spelled
+from .stand_ins import Spelling, StandIns
+from .terms import Statement, Term, nodes_of, parts_of
 
 LABEL = re.compile(r"([0-9]{1,18}):([0-9]{1,18}) ([0-9]{1,18}):([0-9]{1,18}) ([a-z]+)")
+LONG = 400      # the most characters of a term that is told
 PLAIN = {
-    "null": "a reference may be null", "perm": "there may be too little permission", "false": "this may not hold",
-    "div": "a divisor may be 0", "negative": "an amount may be negative", "amount": "an amount may not be positive",
-    "null perm": "a reference may be null, or there may be too little permission",
+    "null": "a reference might be null", "perm": "there might be too little permission", "false": "this might not hold",
+    "div": "a divisor might be 0", "negative": "an amount might be negative", "amount": "an amount might not be positive",
+    "null perm": "a reference might be null, or there might be too little permission",
 }
 STEPS = ("assert", "exhale", "inhale", "assume", "fold", "unfold")
 
@@ -30,7 +32,7 @@ class Told:
 
 
 class Label:
-    """`at` and `part` are places, `kinds` what may fail: one kind, or `null perm` for the two of one access."""
+    """`at` and `part` are places, `kinds` what might fail: one kind, or `null perm` for the two of one access."""
 
     def __init__(self, at, part, kinds):
         self.at, self.part, self.kinds = at, part, kinds
@@ -80,12 +82,13 @@ def words_of(source, label):
 
 
 class Step:
-    """The step `at` and the part `part`, as numbers of tokens."""
+    """The step `at` and the part `part`, as numbers of tokens. `scene` has what stands at the step for the parameters of a contract or a
+    body in which the part is; `mark` is the token from which on what fails is marked."""
 
     def __init__(self, source, at, part, kinds):
         self.source, self.at, self.part, self.kinds = source, at, part, kinds
         self.unit, self.home = source.unit_at(at), source.unit_at(part)
-        self.clause, self.node = source.clause_at(part), None
+        self.clause, self.node, self.scene, self.mark = source.clause_at(part), None, None, part
         self.word = source.said(at) if source.tokens[at].kind != "name" else "name"
 
     def words(self):
@@ -119,28 +122,33 @@ class Step:
                 for node in parts_of(self.source, term):
                     if node.start == self.part:
                         self.node = node
-                        return f"{self.text(node)} may be false", True
+                        return f"{self.text(node)} might be false", True
             for node, around in nodes_of(term) if term and self.kinds != "false" else ():
                 if node.kind == "unfolding" and self.kinds == "perm" and instance_of(node.parts[0]).at == self.part:
-                    return f"{self.text(instance_of(node.parts[0]))} is unfolded, and too little of it may be held", False
+                    return f"{self.text(instance_of(node.parts[0]))} is unfolded, and too little of it might be held", False
                 if node.at == self.part and node.kind in ("field", "call", "binary"):
                     self.node = node
                     return self.what_of(node, around, target)
         return None
 
     def what_of(self, node, around, target):
-        amount = self.text(around.parts[1]) if around and around.kind == "acc" and len(around.parts) > 1 else ""
+        term = around.parts[1] if around and around.kind == "acc" and len(around.parts) > 1 else None
+        amount = self.text(term) if term is not None else ""
         whole = self.text(node)
         is_place = around is not None and around.kind == "acc" and around.parts[0] is node or node.kind == "call"
         found = None
         if self.kinds == "div" and node.kind == "binary":
-            found = f"the divisor {self.text(node.parts[1])} may be 0", False
+            self.mark = node.parts[1].start
+            divisor = self.text(node.parts[1])
+            found = f"the divisor {divisor} {'is' if divisor == '`0`' else 'might be'} 0", False
         elif self.kinds == "negative" and is_place:
-            found = f"the amount {amount} of {whole} may be negative".replace("  ", " "), False
+            self.mark = term.start if term is not None else node.at
+            found = f"the amount {amount} of {whole} might be negative".replace("  ", " "), False
         elif self.kinds == "amount" and is_place:
-            found = f"the amount {amount} of {whole} may not be positive".replace("  ", " "), False
+            self.mark = term.start if term is not None else node.at
+            found = f"the amount {amount} of {whole} might not be positive".replace("  ", " "), False
         elif self.kinds == "perm" and is_place:
-            found = f"there may be {'no' if amount == '`wildcard`' else 'too little'} permission to {whole}", True
+            found = f"there might be {'no' if amount == '`wildcard`' else 'too little'} permission to {whole}", True
         elif node.kind == "field" and not is_place:
             found = self.access(node, whole, target), False
         return found
@@ -148,23 +156,23 @@ class Step:
     def access(self, node, whole, target):
         """What may fail where a place is read or written."""
         receiver, written = self.text(node.parts[0]), node.at == target
-        is_null = f"{receiver} is null" if receiver == "`null`" else f"{receiver} may be null"
+        is_null = f"{receiver} is null" if receiver == "`null`" else f"{receiver} might be null"
         how = f"{whole} is {'written' if written else 'read'}"
-        held = "may not be held in full" if written else "may not be held"
+        held = "might not be held in full" if written else "might not be held"
         return {
             "null": f"{how}, and {is_null}",
             "perm": f"{how}, and {held}",
-            "null perm": f"{how}, and {is_null}, or {whole} {held}",
+            "null perm": f"{how}, and {held}",
         }.get(self.kinds)
 
     def text(self, node):
-        return f"`{spelled(self.source, node)}`"
+        return f"`{Spelling(self.source).of(node, self.scene, LONG)}`"
 
     def at_part(self, message, notes=()):
-        return Told(*self.source.place(self.part), message, notes)
+        return Told(*self.source.place(self.mark), message, notes)
 
     def at_step(self, message, note):
-        return Told(*self.source.place(self.at), message, [(*self.source.place(self.part), note)])
+        return Told(*self.source.place(self.at), message, [(*self.source.place(self.mark), note)])
 
     # ---- a specification
 
@@ -172,7 +180,7 @@ class Step:
         """The check of a specification by itself."""
         found = self.what([self.term()])
         if found and found[0] and fits:
-            return self.at_part(f"{whose} may not be well-defined by itself: {found[0]}")
+            return self.at_part(f"{whose} might not be well-defined by itself: {found[0]}")
         return self.opened(whose, self.clauses(self.unit.word, word))
 
     def clauses(self, first, word):
@@ -186,38 +194,38 @@ class Step:
         return found
 
     def at_brace(self, owner, own, clause):
-        """The end of a body: of a method or of a turn."""
+        """The end of a body: of a method or of an iteration."""
         if owner == "method":
             fits, whose, when = own and clause == "ensures", f"a postcondition of `{self.unit.name}`", "at the end of the body"
         elif owner == "while":
             fits = clause == "invariant" and self.source.loop_of(self.clause) == self.source.owner[self.at]
-            whose, when = "an invariant", "at the end of a turn"
+            whose, when = "an invariant", "at the end of an iteration"
         else:
             return None
-        return self.clause_words(fits, f"{whose} may not hold {when}", f"{whose} may not be well-defined {when}",
-                                 "at the end of this body") or self.opened(
+        return self.clause_words(fits, f"{whose} might not hold {when}", f"{whose} might not be well-defined {when}") or self.opened(
             f"{whose}, {when},", self.clauses(self.source.owner[self.at], "ensures" if owner == "method" else "invariant"))
 
-    def clause_words(self, fits, given_up, read_, note):
+    def clause_words(self, fits, given_up, read_, notes=()):
         found = self.what([self.term()]) if fits else None
         if not found or not found[0]:
             return None
-        return self.at_part(f"{given_up if found[1] else read_}: {found[0]}", [(*self.source.place(self.at), note)])
+        return self.at_part(f"{given_up if found[1] else read_}: {found[0]}", notes)
 
     def opened(self, whose, terms):
         """A part of a predicate's body that an `unfolding` of one of some terms opens: it is told there, if that is the only one."""
         name = self.home.name
         if self.home.kind != "predicate" or self.home is self.unit:
             return None
-        found = self.what([self.term()])
-        if not found or not found[0] or found[1]:
+        found = [node for term in terms if term for node, _ in nodes_of(term)
+                 if node.kind == "unfolding" and self.source.said(instance_of(node.parts[0]).at) == name]
+        self.scene = StandIns(dict(zip(self.formals(), instance_of(found[0].parts[0]).parts)) if len(found) == 1 else {})
+        what = self.what([self.term()])
+        if not what or not what[0] or what[1]:
             return None
-        places = [node.at for term in terms if term for node, _ in nodes_of(term)
-                  if node.kind == "unfolding" and self.source.said(instance_of(node.parts[0]).at) == name]
-        at = places[0] if len(places) == 1 else self.at
-        notes = [(*self.source.place(self.part), f"in the body of predicate `{name}`")]
-        notes += [(*self.source.place(self.at), "at the end of this body")] if self.word == "{" and at != self.at else []
-        return Told(*self.source.place(at), f"{whose} opens `{name}`, whose body may not be well-defined: {found[0]}", notes)
+        at = found[0].at if len(found) == 1 else self.at
+        note = f"in the body of predicate `{name}`{self.given('unfolding')}"
+        return Told(*self.source.place(at), f"{whose} opens `{name}`, whose body might not be well-defined: {what[0]}",
+                    [(*self.source.place(self.mark), note)])
 
     # ---- statements
 
@@ -226,8 +234,8 @@ class Step:
         if own and self.at < self.part < it.end:
             return self.of_own(it)
         if self.word == "while" and own and clause == "invariant" and self.source.loop_of(self.clause) == self.at:
-            return self.clause_words(True, "an invariant may not hold where the loop begins", "an invariant may not be well-defined",
-                                     "of this loop")
+            return self.clause_words(True, "an invariant might not hold where the loop begins", "an invariant might not be well-defined",
+                                     [(*self.source.place(self.at), "of this loop")])
         if it.callee is not None and self.home.kind == "method":
             return self.of_call(it, clause)
         if it.kind in ("fold", "unfold") and self.home.kind == "predicate" and self.is_opened_by(it):
@@ -246,39 +254,43 @@ class Step:
             return self.at_part(message)
         step, part = self.source.place(self.at), self.source.place(self.part)
         notes = [(*step, f"of this {it.kind}")] if step[0] != part[0] else []
-        return self.at_part(f"this {it.kind} may fail: {message}", notes)
+        return self.at_part(f"this {it.kind} might fail: {message}", notes)
 
     def of_call(self, it, clause):
         name = self.source.said(it.callee)
         if self.home.name != name or clause not in ("requires", "ensures"):
             return None
+        returns = [v.name for v in self.home.variables if v.role == "return"]
+        targets = [self.source.said(n) for n in it.targets]
+        self.scene = StandIns({**dict(zip(self.formals(), it.terms)), **dict(zip(returns, targets))})
         found = self.what([self.term()])
         if not found or not found[0]:
             return None
         whose = "precondition" if clause == "requires" else "postcondition"
         if found[1] and clause == "ensures":
             return None
-        how = "may not hold at this call" if found[1] else "may not be well-defined at this call"
-        variables = self.home.variables
-        given = [(formal.name, self.text(node)) for formal, node in zip(self.home.parameters(), it.terms)]
-        given += [(formal.name, f"`{self.source.said(n)}`") for formal, n in zip([v for v in variables if v.role == "return"], it.targets)]
-        return self.at_step(f"a {whose} of `{name}` {how}: {found[0]}", f"this part of the {whose}{self.given(given)}")
+        how = "might not hold at this call" if found[1] else "might not be well-defined at this call"
+        return self.at_step(f"a {whose} of `{name}` {how}: {found[0]}", f"this part of the {whose}{self.given('call')}")
 
     def is_opened_by(self, it):
         return bool(it.terms) and self.source.said(instance_of(it.terms[0]).at) == self.home.name
 
     def of_fold(self, it):
+        self.scene = StandIns(dict(zip(self.formals(), instance_of(it.terms[0]).parts)))
         found = self.what([self.term()])
         if not found or not found[0] or found[1] and it.kind == "unfold":
             return None
-        how = "this fold may fail" if found[1] else f"the body of `{self.home.name}` may not be well-defined in this {it.kind}"
-        given = [(formal.name, self.text(node)) for formal, node in zip(self.home.parameters(), instance_of(it.terms[0]).parts)]
-        return self.at_step(f"{how}: {found[0]}", f"this part of the body of predicate `{self.home.name}`{self.given(given)}")
+        how = "this fold might fail" if found[1] else f"the body of `{self.home.name}` might not be well-defined in this {it.kind}"
+        return self.at_step(f"{how}: {found[0]}", f"this part of the body of predicate `{self.home.name}`{self.given(it.kind)}")
 
-    def given(self, given):
-        """What stands for the parameters that the part names, where that is not the name itself."""
+    def formals(self):
+        return [it.name for it in self.home.parameters()]
+
+    def given(self, step):
+        """What stands at the step for the parameters that the part names, where that is not the name itself."""
         names = {self.source.said(it.at) for it, _ in nodes_of(self.node) if it.kind == "leaf"} if self.node else set()
-        said = [f"`{name}` is {text}" for name, text in given if name in names and text != f"`{name}`"]
+        given = {name: term if isinstance(term, str) else Spelling(self.source).of(term, None) for name, term in self.scene.given.items()}
+        said = [f"`{name}` of `{self.home.name}` is `{text}` in this {step}" for name, text in given.items() if name in names and text != name]
         return f", where {' and '.join(said)}" if said else ""
 
 

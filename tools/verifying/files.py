@@ -11,16 +11,16 @@ from typing import List, NamedTuple, Optional
 from . import refusals
 from .boogie_text import NotAsWritten, procedure_texts
 from .failures import Told
-from .source import Source
+from .source import Source, without_bodies
 
 MOST = 33_554_433   # the program looks at no more bytes of a file
 LARGEST = 1_048_576     # the program refuses a Viper file with more bytes, of which it tells no place
 
 
 class Unit(NamedTuple):
-    """A unit of a file: the name of its procedure, its own name, its place, and the text of the procedure. `conditions` is the text of
-    its conditions, where that is known by now; `is_proved` tells whether the program `prove` shows that no run of it fails, and
-    `first_open` is the first label that it does not show, or nothing."""
+    """A unit of a file: the name of its procedure, its own name, its place, and the text of the procedure. `values` is the text of what
+    the program finds of its labels, and `conditions` that of its conditions, where these are known by now; `is_proved` tells whether the
+    program `prove` shows that no run of it fails, and `first_open` is the first label that it does not show, or nothing."""
     procedure: str
     name: str
     line: int
@@ -29,6 +29,7 @@ class Unit(NamedTuple):
     conditions: Optional[str] = None
     is_proved: bool = False
     first_open: str = ""
+    values: Optional[str] = None
 
 
 class Given(NamedTuple):
@@ -70,28 +71,28 @@ def shown_path(path):
     return re.sub(r"[\x00-\x1f\x7f-\x9f]", lambda it: f"\\x{ord(it[0]):02x}", name_of(path))
 
 
-def given(path, data, program, room, wants_text) -> Given:
+def given(path, data, program, room, wants_text, is_for_z3=False) -> Given:
     """Has the program prove a file and, where something is left open or the text is wanted, translate it; or cut it, where its name
-    says that it is one of Boogie."""
+    says that it is one of Boogie. What is open and is for z3 gets its conditions, and else what the program finds of its labels."""
     is_boogie = path.endswith(".bpl")
     copy, source = os.path.join(room, "given.bpl" if is_boogie else "given.vpr"), source_of(path, data)
     with open(copy, "wb") as it:
         it.write(data)
-    is_searched = not is_boogie and program.can_prove()
+    is_searched = not is_boogie and program.searches()
     if not is_searched:
-        return translated(Given(path, copy, None, "", is_boogie, False, frozenset(), [], None, ""), source, data, program, {})
+        return translated(Given(path, copy, None, "", is_boogie, False, frozenset(), [], None, ""), source, data, program)
     start = time.monotonic()
     answers = program.prove(copy)
     found = Given(path, copy, None, "", False, True, frozenset(), [], None, "", time.monotonic() - start)
     if answers.refusal:
         return found._replace(refused=refusals.told(source, answers.refusal), reason=answers.refusal)
     if wants_text or answers.open:
-        return translated(found, source, data, program, answers.open)
+        return with_answers(translated(found, source, data, program), source, program, answers.open, is_for_z3)
     return found._replace(units=[proved_unit(source, it) for it in answers.proved])
 
 
-def translated(found, source, data, program, open_) -> Given:
-    """A file with what the program makes of it. `open_` has the first label of each unit that is not proved, where `prove` was asked."""
+def translated(found, source, data, program) -> Given:
+    """A file with what the program makes of it."""
     said = program.cut(found.copy) if found.is_boogie else program.translate(found.copy)
     if said.status != 0:
         lines = said.error.strip().splitlines()
@@ -105,15 +106,29 @@ def translated(found, source, data, program, open_) -> Given:
     bare = frozenset(it.name for it in source.units if it.kind == "predicate" and not it.parameters())
     units = [unit(source, found.is_boogie, data, *it) for it in procedure_texts(said.out)]
     prelude = said.out[:said.out.index("\nprocedure ") + 1] if units else said.out
-    if found.is_searched:
-        units = with_answers(units, open_, program.all_conditions(found.copy) if open_ else {})
     return found._replace(text_file=text_file, prelude=prelude, bare=bare, units=units)
 
 
-def with_answers(units, open_, conditions):
-    """Units with what `prove` says of each, and the conditions of those that are open."""
-    return [it._replace(conditions=conditions.get(it.procedure), first_open=open_[it.name]) if it.name in open_
-            else it._replace(is_proved=True, text="") for it in units]
+def with_answers(found, source, program, open_, is_for_z3) -> Given:
+    """A file with what `prove` says of each unit: `open_` has the first label of each one that is not proved."""
+    conditions = program.conditions(found.copy) if open_ and is_for_z3 else {}
+    values = values_of_open(found, source, program, open_) if open_ and not is_for_z3 else {}
+
+    def told(it):
+        if it.name not in open_:
+            return it._replace(is_proved=True, text="")
+        return it._replace(conditions=conditions.get(it.procedure), values=values.get(it.procedure), first_open=open_[it.name])
+
+    return found._replace(units=[told(it) for it in found.units])
+
+
+def values_of_open(found, source, program, open_):
+    """What the program finds of the labels of the units that are open, by the names of their procedures. Of the methods that are proved it
+    is given no bodies, so that nothing of these is looked for."""
+    path = os.path.join(os.path.dirname(found.copy), "open.vpr")
+    with open(path, "wb") as into:
+        into.write(without_bodies(source, {it.name for it in found.units if it.name not in open_}))
+    return program.values(path)
 
 
 @functools.lru_cache(maxsize=2)

@@ -2,8 +2,10 @@
 from typing import NamedTuple, Tuple
 
 from .meaning import Blocks, Fails, Scene
+from .moving import Lines, Moves
 from .needs import Needs
 from .running import Running
+from .stand_ins import StandIns
 from .terms import Statement, Term, nodes_of
 from .trying import Changed, Insertion, Trials
 from .values import Ref, amount, word
@@ -38,10 +40,12 @@ class Change(NamedTuple):
     others: Tuple[str, ...] = ()
 
 
-class Changes:
+class Changes(Lines):
     """Finds changes that may mend the error at which a run fails, those first that are most likely."""
 
     def __init__(self, again: Running):
+        super().__init__(again.source)
+        self.moves = Moves(again)
         self.again, self.source, self.unit, self.fault = again, again.source, again.unit, again.fault
         self.needs, self.step = Needs(again), again.steps[-1]
         self.spelling = self.needs.spelling
@@ -54,16 +58,6 @@ class Changes:
             yield from self.of_value(kind)
 
     # ---- places of changes
-
-    def before(self, token, text):
-        """A statement in front of another one."""
-        it = self.source.tokens[token]
-        return Insertion(it.start, it.start, f"{text}\n{' ' * (it.column - 1)}")
-
-    def behind(self, token, text, column):
-        """A statement, or a clause, in a line of its own behind a token."""
-        end = self.source.tokens[token].end
-        return Insertion(end, end, f"\n{' ' * (column - 1)}{text}")
 
     def clause(self, unit, word, text):
         """A clause of a contract, behind those that are there."""
@@ -85,13 +79,13 @@ class Changes:
         """Whether the failing step is a statement without blocks."""
         return self.step.kind not in ("begin", "requires", "ensures", "body", "end", "turn", "while", "if")
 
-    def text(self, node):
+    def spelled(self, node):
         return self.spelling.of(node, self.fault.scene, LONG)
 
-    def is_of_parameters(self, node):
+    def is_of_parameters(self, node, scene=None):
         """Whether a term names nothing but parameters of the unit."""
         names = {it.name for it in self.unit.parameters()}
-        found = self.leaves(node, self.fault.scene)
+        found = self.leaves(node, scene or self.fault.scene)
         return found is not None and found <= names
 
     def leaves(self, node, scene):
@@ -117,10 +111,19 @@ class Changes:
         if self.needs.taken(self.needs.held(self.fault.left, is_place), is_place):
             return
         yield from self.opened(is_place)
-        if not is_place:
+        if is_place:
+            yield from self.moved(self.moves.field_made())
+        else:
+            yield from self.moved(self.moves.unfold_left_out())
             yield from self.folded()
+        for it in self.needs.later()[:1]:
+            yield from self.moved(self.moves.part_to_front((it.first, it.last)))
         yield from self.kept_by_loop(is_place)
         yield from self.required(is_place)
+
+    def moved(self, moves):
+        """Moves as changes."""
+        return [Change(words, insertions) for words, insertions in moves]
 
     def opened(self, is_place):
         """To open an instance that has what is missing."""
@@ -167,63 +170,25 @@ class Changes:
 
     def folded(self):
         """To fold what is missing, where all that its body says is held; first to move a fold that comes too late."""
-        if self.step.kind in ("begin", "requires", "ensures", "body", "if") or not self.can_fold():
+        if self.step.kind in ("begin", "requires", "ensures", "body", "if") or not self.needs.can_fold():
             return
-        text = self.text(self.fault.node)
+        text = self.spelled(self.fault.node)
         if self.step.kind in ("end", "turn"):
             column = self.source.tokens[self.step.first].column + 2
             last = self.step.first - 1
             yield Change(f"`fold {text}` at the end of the body", (self.behind(last, f"fold {text}", column),))
             return
         line = self.source.tokens[self.step.first].line
-        later = self.later_fold()
-        if later is not None:
-            first, second = (self.source.tokens[it.at].start for it in (self.own(), later))
-            ends = [self.source.tokens[it.end - 1].end for it in (self.own(), later)]
-            texts = [self.source.data[start:end].decode(errors="replace") for start, end in ((first, ends[0]), (second, ends[1]))]
-            yield Change(f"`{texts[1]}` in front of `{texts[0]}`", (Insertion(first, ends[0], texts[1]), Insertion(second, ends[1], texts[0])))
+        yield from self.moved(self.moves.fold_before())
         yield Change(f"`fold {text}` in front of line {line}", (self.before(self.step.first, f"fold {text}"),))
-
-    def own(self):
-        return Statement(self.source, self.step.first)
-
-    def can_fold(self):
-        """Whether the body of the missing instance can be given up where the step begins."""
-        unit = self.source.declared[self.fault.thing[0]]
-        if unit.brace is None:
-            return False
-        state, meaning = self.step.before.state.copy(), self.again.meaning
-        body, names = meaning.body(self.fault.thing[0])
-        scene = Scene(dict(zip(names, self.fault.thing[1])), None, unit.word)
-        try:
-            meaning.consume(body, state.copy(), state, scene)
-        except (Fails, Blocks):
-            return False
-        return True
-
-    def later_fold(self):
-        """A fold of the missing instance that stands behind the failing step in the same block."""
-        block = self.source.block[self.step.first]
-        n, end = self.step.last + 1, self.source.closing.get(block, self.step.last)
-        while n < end:
-            it = Statement(self.source, n)
-            if it.kind == "fold" and it.terms:
-                scene = Scene(self.step.before.vars, self.again.old, n)
-                try:
-                    call = it.terms[0].parts[0] if it.terms[0].kind == "acc" else it.terms[0]
-                    if self.again.meaning.instance(call, self.step.before.state, scene) == self.fault.thing:
-                        return it
-                except (Fails, Blocks, KeyError):
-                    return None
-            n = max(n + 1, it.end)
-        return None
+        yield from self.moved(self.moves.fold_in_block(text))
 
     def kept_by_loop(self, is_place):
         """To keep in an invariant what the last loop took."""
         for step in reversed(self.again.steps):
             before, after = (self.needs.held(it.state, is_place) for it in (step.before, step.after))
             if step.kind == "while" and before > after:
-                text = self.text(self.fault.node)
+                text = self.spelled(self.fault.node)
                 said = text if not is_place and before == 1 else f"acc({text})" if before == 1 else f"acc({text}, {amount(before)})"
                 yield Change(f"`invariant {said}` of the loop in line {self.source.tokens[step.first].line}", (self.invariant(step, said),))
                 return
@@ -232,7 +197,7 @@ class Changes:
         """To ask the caller for what was never held."""
         if self.unit.kind != "method" or not self.is_of_parameters(self.fault.node) or self.needs.takers(is_place):
             return
-        text = self.text(self.fault.node)
+        text = self.spelled(self.fault.node)
         said = f"acc({text})" if is_place else text
         if self.step.kind in ("requires", "ensures"):
             start = self.source.tokens[self.step.first + 1].start
@@ -257,17 +222,38 @@ class Changes:
                 yield from self.told_by_loop(step, condition, kind)
                 return
         node = self.fault.node if kind == "false" else self.fault.node.parts[0 if kind == "null" else 1]
-        if condition and self.unit.kind == "method" and self.step.kind not in ("end", "turn") and self.is_of_parameters(node):
-            yield Change(f"`requires {condition}` of `{self.unit.name}`", (self.clause(self.unit, "requires", condition),))
+        if kind == "false" and self.step.kind == "assert":
+            return
+        if condition and self.unit.kind == "method" and self.step.kind not in ("end", "turn"):
+            locals_ = self.assigned(node)
+            said = self.condition(kind, locals_) if locals_ else condition
+            if locals_ is not None and (locals_ or self.is_of_parameters(node)):
+                yield Change(f"`requires {said}` of `{self.unit.name}`", (self.clause(self.unit, "requires", said),))
 
-    def condition(self, kind):
-        """What has to hold, as a term of the unit."""
-        node = self.fault.node
+    def assigned(self, node):
+        """For the locals that a term names the terms of parameters that were assigned to them, or None where one has no such term."""
+        found, names = {}, self.leaves(node, self.fault.scene)
+        parameters = {it.name for it in self.unit.parameters()}
+        for name in sorted((names or set()) - parameters):
+            step = next((it for it in reversed(self.again.steps[:-1]) if name in it.targets), None)
+            if step is None or step.kind not in ("var", "assign") or step.callee is not None or len(step.terms) != 1 or self.fault.scene.around:
+                return None
+            if not self.is_of_parameters(step.terms[0], Scene({}, None, step.first)):
+                return None
+            found[name] = step.terms[0]
+        return found if names is not None else None
+
+    def condition(self, kind, locals_=None):
+        """What has to hold, as a term of the unit; with terms that stand for its locals."""
+        node, scene = self.fault.node, StandIns(locals_) if locals_ else self.fault.scene
         if kind == "false":
-            return self.text(node)
+            return self.spelling.of(node, scene, LONG)
         if kind == "null":
-            return f"{self.text(node.parts[0])} != null"
-        return f"{self.text(node.parts[1])} {({'div': '!= 0', 'negative': '>= none', 'amount': '> none'})[kind]}"
+            return f"{self.spelling.of(node.parts[0], scene, LONG)} != null"
+        divisor = locals_.get(self.source.said(node.parts[1].at), node.parts[1]) if locals_ and node.parts[1].kind == "leaf" else node.parts[1]
+        if kind == "div" and divisor.kind == "binary" and self.source.said(divisor.at) == "-" and not divisor.parts[1].parts:
+            return f"{self.spelling.of(divisor.parts[0], scene, LONG)} != {self.spelling.of(divisor.parts[1], scene, LONG)}"
+        return f"{self.spelling.of(node.parts[1], scene, LONG)} {({'div': '!= 0', 'negative': '>= none', 'amount': '> none'})[kind]}"
 
     def told_by_callee(self):
         """To have the contract of a call say that a place keeps its value."""
@@ -276,6 +262,7 @@ class Changes:
             if step.callee is None or step.fault is not None:
                 continue
             unit = self.source.declared[step.callee]
+            yield from self.content_told(step, unit, atoms)
             for it in atoms:
                 try:
                     place = self.again.meaning.place(it.node, it.state, self.fault.scene)
@@ -288,6 +275,24 @@ class Changes:
                         said = f"{variable}.{place[0]} == old({variable}.{place[0]})"
                         yield Change(f"`ensures {said}` of `{unit.name}`", (self.clause(unit, "ensures", said),),
                                      (unit.name,) if unit.brace is not None else ())
+
+    def content_told(self, step, unit, atoms):
+        """The same of a place inside of an instance."""
+        given = self.arguments(step, unit)
+        for it in atoms:
+            try:
+                place = self.again.meaning.place(it.node, it.state, self.fault.scene)
+            except (Fails, Blocks):
+                continue
+            for instance, held in step.after.state.instances():
+                inside = [self.needs.origins.value_inside(instance, moment.state, place) for moment in (step.before, step.after)]
+                names = [next((name for name, its in given if its == value), None) for value in (*instance[1], place[1])]
+                if not step.havocs_content(instance) or None in inside or inside[0] == inside[1] or None in names:
+                    continue
+                text = f"{instance[0]}({', '.join(names[:-1])})" if held == 1 else f"acc({instance[0]}({', '.join(names[:-1])}), {amount(held)})"
+                read = f"unfolding {text} in {names[-1]}.{place[0]}"
+                said = f"({read}) == old({read})"
+                yield Change(f"`ensures {said}` of `{unit.name}`", (self.clause(unit, "ensures", said),), (unit.name,) if unit.brace is not None else ())
 
     def arguments(self, step, unit):
         """The parameters of a called method that are references, with their values."""
@@ -321,9 +326,10 @@ def help_of(examiner, source, again, label):
             found = trials.mends(changed, label, change.others)
             if found:
                 end = f"`{again.unit.name}` is verified" if found == "verified" else "this error is gone"
-                return Help(f"with {change.words}, {end}", tuple([edit_of(source.data, it) for it in change.insertions]))
+                words = change.words if change.words.startswith("without ") else f"with {change.words}"
+                return Help(f"{words}, {end}", tuple([edit_of(source.data, it) for it in change.insertions]))
     finally:
-        examiner.search.begin_anew()
+        examiner.begin_anew()
     return None
 
 

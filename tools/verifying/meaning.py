@@ -4,10 +4,10 @@ What ends a step is raised: `Fails` with the label and with what was asked, or `
 the proved interpreter runs the same run, and where it ends otherwise nothing of this is told."""
 from fractions import Fraction
 
+from .evaluation import OPERATORS
 from .failures import instance_of
 from .terms import LITERALS, Term
 from .values import LEAVES, NONE, UNIT, WRITE, Ref, type_of
-from .walk import OPERATORS
 
 CONSTANTS = {"true": True, "false": False, "null": Ref(0), "none": NONE, "write": WRITE}
 
@@ -48,7 +48,7 @@ class Meaning:
     def __init__(self, source, choices):
         self.source, self.choices, self.bodies = source, choices, {}
         self.types = {it.name: it.variables[0].type for it in source.units if it.kind == "field" and it.variables}
-        self.takes = []     # what the present step took away: of each thing how much, by which term in which scene
+        self.takes = []     # what the present step took away: of each thing how much, by which term in which scene, and in which `acc`
 
     def sign(self, node):
         return self.source.said(node.at) if node.kind in ("binary", "choice", "unary") else ""
@@ -224,7 +224,7 @@ class Meaning:
             if held < much:
                 raise Fails(scene, inner.at, "perm", inner, start, left, thing, much, self.term_of_amount(node))
         if much:
-            self.takes.append((thing, much, inner, scene))
+            self.takes.append((thing, much, inner, scene, node))
         (left.hold if is_place else left.hold_of)(thing, held - much)
 
     def term_of_amount(self, node):

@@ -63,5 +63,5 @@ def where(source, step):
     if step.home is not step.unit:
         return f" of {step.home.name}" if step.clause is not None else ""
     if step.word == "{" and source.brace_of(step.at) == "while":
-        return " at the end of a turn"
+        return " at the end of an iteration"
     return " where the loop begins" if step.word == "while" and step.clause is not None else ""

@@ -25,7 +25,7 @@ class Origins:
         for n, step in enumerate(self.steps):
             if step.kind == "if" and step.fault is None:
                 self.terms(step, step.terms, n, DEEP)
-        self.found[known:] = [it for it in self.found[known:] if " nothing of " in it]
+        self.found[known:] = [it for it in self.found[known:] if " nothing of " in it and " can change " not in it]
         return sorted(self.found, key=lambda it: " nothing of " not in it)[:MOST]
 
     def say(self, line):
@@ -70,7 +70,7 @@ class Origins:
         """That a call or a loop may change a value, and what is said of that."""
         nothing = f"say{'s' * (whose == 'contract')} nothing of its value"
         if old == new and not allows:
-            self.say(f"{who} may change {text}: its {whose} {nothing}")
+            self.say(f"{who} can change {text}: its {whose} {nothing}")
         elif old != new:
             self.say(f"{text} was {old} before {who}, whose {whose} {f'{allows} {new} behind it' if allows else nothing}")
 
@@ -196,11 +196,30 @@ class Origins:
 
     def says(self, step, kind, thing):
         """Whether the contract of a call, or the invariants of a loop, say something of the value of a place, or of a content."""
-        terms = self.ensures(self.source.declared[step.callee]) if step.callee is not None else self.invariants(step)
+        if step.callee is not None:
+            terms = self.ensures(self.source.declared[step.callee])
+        else:
+            terms = self.invariants(step) if step.kind == "while" else step.terms
         if kind == "place":
             return any([self.reads(it, thing[0]) for it in terms])
         opened = [node.parts[0] for it in terms for node, _ in nodes_of(it) if node.kind == "unfolding"]
         return any([self.source.said(instance_of(it).at) == thing[0] for it in opened])
+
+    def is_any(self, step, name):
+        """Whether a step gives a variable any value, of which a contract or the invariants say nothing."""
+        if step.fault is not None or name not in step.targets:
+            return False
+        if step.kind == "while":
+            return not any([self.names_variable(it, name) for it in self.invariants(step)])
+        if step.callee is None:
+            return step.kind == "var" and not step.terms
+        unit = self.source.declared[step.callee]
+        result = dict(zip(step.targets, [it.name for it in unit.variables if it.role == "return"])).get(name, name)
+        return not any([self.names_variable(it, result) for it in self.ensures(unit)])
+
+    def gives_any(self, step, kind, thing):
+        """Whether a step gives a place or an instance with any value or content."""
+        return step.kind == "new" or (step.kind in ("inhale", "while") or step.callee is not None) and not self.says(step, kind, thing)
 
     def invariants(self, step):
         brace = step.last + 1

@@ -31,7 +31,7 @@ def page_unit(source, name, verdict, is_checked, why, runs) -> PageUnit:
     """What a page tells of a unit: whether it is verified, and on whose word."""
     unit = source.declared.get(name)
     first, last = (source.tokens[unit.word].line, source.tokens[unit.end - 1].line) if unit is not None else (1, 1)
-    word = {"verified": "proved" if is_checked else "verified on z3's word", "fails": "fails"}.get(verdict, f"undecided: {why}")
+    word = {"verified": "proved" if is_checked else "verified, not proved", "fails": "fails"}.get(verdict, f"undecided: {why}")
     return PageUnit(name, first, last, verdict, word, list(runs))
 
 

@@ -7,7 +7,7 @@ from typing import Dict, List, NamedTuple, Optional
 from .boogie_text import NotAsWritten
 
 TOP = os.path.dirname(os.path.dirname(os.path.dirname(os.path.realpath(__file__))))
-PART_OF = {"run": "remduska", "replay": "remduska"}
+PART_OF = {"run": "remduska", "replay": "remduska", "certify": "prove"}
 UNPROVED = "-unproved"      # so end the names of programs that are compiled and not proved
 DONE, REFUSED, OPEN = 0, 1, 10
 
@@ -30,30 +30,24 @@ class TooLate(Exception):
 
 
 class Paths(NamedTuple):
-    """The files of the programs: those that are not asked, or that this repository has not, are None."""
+    """The files of the programs. `searches` tells whether `prove` is asked for proofs of Viper files: it writes conditions and checks
+    certificates in any case."""
     remduska: str
-    conditions: Optional[str] = None
-    certify: Optional[str] = None
-    prove: Optional[str] = None
+    prove: str
+    searches: bool = True
 
 
-def find(*programs) -> Paths:
-    """The files of remduska and of these programs: those that variables of the environment name, those of an installed copy, or those
-    that `tools/program` tells. Which ones are not proved is told in one line."""
-    names = list(dict.fromkeys(("remduska", *programs)))
+def find() -> Paths:
+    """The files of the programs: those that variables of the environment name, those of an installed copy, or those that `tools/program`
+    tells. Which ones are not proved is told in one line."""
+    names = list(VARIABLES)
     found = {name: named(name) or installed(name) for name in names}
     asked = [name for name in names if not found[name]]
     paths = Paths(**{**found, **dict(zip(asked, told(asked)))})
     unproved = [it for it in names if is_proved(paths, it) is False]
     if unproved:
-        which = " and ".join([", ".join(unproved[:-1]), unproved[-1]] if len(unproved) > 1 else unproved)
-        print(f"remduska: {which} {'are' if len(unproved) > 1 else 'is'} compiled and not proved", file=sys.stderr)
+        print(f"remduska: {' and '.join(unproved)} {'are' if len(unproved) > 1 else 'is'} compiled and not proved", file=sys.stderr)
     return paths
-
-
-def has_prove():
-    """Whether there is a program that proves files."""
-    return bool(named("prove") or installed("prove")) or os.path.exists(f"{TOP}/crates/prove/src/main.rt")
 
 
 def named(program):
@@ -141,8 +135,9 @@ class Program:
     def __init__(self, paths: Paths):
         self.paths = paths
 
-    def can_prove(self):
-        return self.paths.prove is not None
+    def searches(self):
+        """Whether `prove` is asked for proofs of Viper files."""
+        return self.paths.searches
 
     def says(self, *words) -> Said:
         """What a call of remduska says."""
@@ -164,13 +159,9 @@ class Program:
         """How a run of a procedure of Boogie ends."""
         return self.says("replay", text, run_file)
 
-    def conditions(self, text, procedure) -> Said:
-        """When the assertions of a procedure of Boogie fail."""
-        return says(self.paths.conditions, text, procedure)
-
-    def certify(self, text, procedure, certificate) -> Said:
-        """Whether a certificate shows that no run of a procedure of Boogie fails."""
-        return says(self.paths.certify, text, procedure, certificate)
+    def certify(self, text, certificates) -> Said:
+        """Of which procedures of a text of Boogie certificates show that no run fails."""
+        return says(self.paths.prove, "certify-boogie", text, certificates)
 
     def prove(self, file, seconds=None) -> Answers:
         """Of which units of a Viper file no run fails, or TooLate where the call takes longer than it may."""
@@ -183,14 +174,28 @@ class Program:
             raise NotAsWritten(f"certificates says {said.first()}")
         return said.out
 
-    def all_conditions(self, file) -> Dict[str, str]:
-        """The texts of the conditions of all units of a Viper file, by the names of their procedures."""
-        said = says(self.paths.prove, "conditions", file)
+    def conditions(self, file, is_boogie=False) -> Dict[str, str]:
+        """The texts of the conditions of all units of a Viper file, or of all procedures of a text of Boogie, by the names of their
+        procedures: when their assertions fail."""
+        said = says(self.paths.prove, "conditions-boogie" if is_boogie else "conditions", file)
         if said.status != DONE:
             raise NotAsWritten(f"conditions says {said.first()}")
-        parts = said.out.split("\nconditions ") if said.out else []
-        texts = [parts[0], *[f"conditions {it}" for it in parts[1:]]] if parts else []
-        return {it.partition("\n")[0].split()[1]: it.rstrip("\n") + "\n" for it in texts}
+        return parts_of(said.out, "conditions")
+
+    def values(self, file, seconds=None) -> Dict[str, str]:
+        """What is found of the labels of all units of a Viper file, by the names of their procedures: nothing where the call went wrong or
+        took longer than it may, since what is not found may be looked for elsewhere."""
+        try:
+            said = says(self.paths.prove, "values", file, seconds=seconds)
+        except TooLate:
+            return {}
+        return parts_of(said.out, "unit") if said.status in (DONE, OPEN) else {}
+
+
+def parts_of(text, word) -> Dict[str, str]:
+    """The parts of a text, each of which begins with a line of a word and a name, by the names."""
+    parts = f"\n{text}".split(f"\n{word} ")[1:]
+    return {it.split(None, 1)[0]: f"{word} {it}".rstrip("\n") + "\n" for it in parts}
 
 
 def answers_of(said) -> Answers:

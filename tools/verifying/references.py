@@ -26,9 +26,10 @@ class Names:
         return self(value) if isinstance(value, Ref) else word(value)
 
 
-def aliases(values):
-    """Variables with their values: those that are one object are told as such."""
-    groups = {}
+def aliases(values, more=None):
+    """Variables with their values: those that are one object are told as such. `more` has what is told of some behind the value."""
+    groups, more = {}, more or {}
     for name, value in values:
         groups.setdefault(value if isinstance(value, Ref) and value != 0 else name, []).append((name, value))
-    return [" = ".join([name for name, _ in group]) + f" = {word(group[0][1])}" for group in groups.values()]
+    return [" = ".join([name for name, _ in group]) + f" = {word(group[0][1])}" + "".join([f" ({more[name]})" for name, _ in group if name in more][:1])
+            for group in groups.values()]

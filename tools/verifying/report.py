@@ -5,6 +5,7 @@ from . import colour, refusals, telling
 from .boogie_word import differences
 from .files import shown_path
 from .keeping import Keeper
+from .results import not_confirmed, whose_word
 from .units import FAILS, UNDECIDED, VERIFIED
 
 ALL_RIGHT, CAN_FAIL, NO_CALL, NOT_DECIDED, REFUSED = 0, 1, 2, 3, 4
@@ -39,7 +40,7 @@ class Report:
         self.worse(REFUSED)
 
     def error(self, given, unit, error):
-        """A mistake that is found in a unit: that it can fail, or that z3 says so and no run confirms it."""
+        """A mistake that is found in a unit: that it can fail, or that it does at some values and no run confirms it."""
         is_confirmed = error.labels[0].confirmed
         self.worse(CAN_FAIL if is_confirmed else NOT_DECIDED)
         self.errors += is_confirmed and not error.of
@@ -115,7 +116,7 @@ class Lines(Report):
         super().error(given, unit, error)
         first = error.labels[0]
         if not first.confirmed:
-            self.told_at(given, *error.place, "warning", f"not confirmed: z3 says that this can fail: {first.message}; but {first.why}")
+            self.told_at(given, *error.place, "warning", not_confirmed(first))
             return
         self.lines(error.lines)
         self.lines(error.needs, "  ")
@@ -129,8 +130,7 @@ class Lines(Report):
 
     def run(self, given, unit, error):
         """The run that fails, step by step or as a run file has it, and where it does."""
-        word = "replay" if given.is_boogie else "run"
-        self.line(f"  This run of `{unit.name}` fails there, as `{word}` says:")
+        self.line(f"  {error.heading or f'This run of `{unit.name}` fails there:'}")
         self.lines(error.trace)
         if self.options.run_file or not error.trace:
             self.lines(error.run)
@@ -166,7 +166,7 @@ class Lines(Report):
         if not result.is_checked() and (self.options.certificates or self.options.strict):
             why = f": {result.certified.why}" if result.certified else ""
             kind = "warning" if self.options.strict else "note"
-            self.told_at(given, unit.line, unit.column, kind, f"`{unit.name}` is verified on z3's word{why}")
+            self.told_at(given, unit.line, unit.column, kind, f"`{unit.name}` is verified on {whose_word([result])}{why}")
 
     def unreached(self, given, unit, spots):
         super().unreached(given, unit, spots)
@@ -186,11 +186,11 @@ class Lines(Report):
 
     def word_of(self, verified):
         """What verified units are, and how many of them are so by the word of a program that is proved to be right."""
-        proved = sum([it.is_checked() for it in verified])
-        rest = len(verified) - proved
+        rest = [it for it in verified if not it.is_checked()]
+        proved = len(verified) - len(rest)
         if not rest:
             return "proved", ""
-        return ("verified", f", {proved} proved and {rest} on z3's word") if proved else ("verified on z3's word", "")
+        return ("verified", f", {proved} proved and {len(rest)} on {whose_word(rest)}") if proved else (f"verified on {whose_word(rest)}", "")
 
     def boogie(self, given, word, results):
         odd, path = super().boogie(given, word, results), shown_path(given.path)

@@ -12,7 +12,7 @@ from .run_files import scalar, spelled
 from .spans import span
 from .units import FAILS, UNDECIDED, VERIFIED, Failure
 
-PROVE, CERTIFY, Z3, RUN, REPLAY = "prove", "certify", "z3", "run", "replay"
+PROVE, VALUES, CERTIFY, Z3, RUN, REPLAY = "prove", "values", "certify", "z3", "run", "replay"
 
 
 class Label(NamedTuple):
@@ -39,7 +39,7 @@ class Error(NamedTuple):
     """What people are told of one mistake. `labels` are one, or the null and the perm of one access. `lines` has the message with its
     line of the file. `own` is the label at which the same part is checked by itself, in the unit `home`, where that is another unit,
     and `notes` are those at other places. `needs` tells what was needed and what was held, in one line where no run is shown. The other
-    fields are empty there: `trace` tells the run step by step, `run` is the run file with a comment for each choice, `state` tells
+    fields are empty there: `heading` and `trace` tell the run step by step, `run` is the run file with a comment for each choice, `state` tells
     where it fails, and `help` how to mend it."""
     labels: List[Label]
     place: Tuple[int, int]
@@ -53,6 +53,7 @@ class Error(NamedTuple):
     run: Sequence[str] = ()
     state: Sequence[str] = ()
     help: Sequence[Help] = ()
+    heading: str = ""
 
 
 class Open(NamedTuple):
@@ -101,6 +102,7 @@ class Teller:
             else:
                 again = Retold(self.source, failure.run, failure.label)
                 run, state, needs, rows = again.run_file(), again.state_data(), again.needs(), [it.data() for it in again.rows()]
+                told.message = again.message(told.message)
         identifier = "" if self.is_boogie else identifiers.identifier(self.source, failure.label)
         end_column = span(self.source, told.line, told.column)[1] + 1
         return Label(failure.label, failure.confirmed, failure.why, of, identifier, told.message, told.line, told.column, end_column, run,
@@ -110,24 +112,20 @@ class Teller:
         """What is told of one mistake; with an examiner, how it may be mended too."""
         names, first = [it.label for it in mistake.failures], shown_of(mistake)
         told = self.told(names[0]) if self.is_boogie else failures.joined(self.source, names)[0][0]
+        again = Retold(self.source, first.run, first.label) if not self.is_boogie and first.confirmed and self.tells_needs else None
+        told.message = again.message(told.message) if again else told.message
         labels = [self.label(it, mistake.of, mistake.is_shown) for it in mistake.failures]
         error = Error(labels, (told.line, told.column), telling.head_lines(self.source, told), mistake.of)
         error = error._replace(notes=telling.note_lines(self.source, told))
         if not self.is_boogie:
             error = error._replace(own=following.own_label(self.source, names[0]), home=following.home_of(self.source, names[0]))
         if not mistake.is_shown:
-            return error._replace(needs=self.needs(first) if not mistake.of else [])
+            return error._replace(needs=again.needs()[:1] if again and not mistake.of else [])
         if self.is_boogie:
             return error._replace(run=labels[0].boogie_run.splitlines(), state=boogie_state(first.end)[0])
-        again = Retold(self.source, first.run, first.label)
-        return error._replace(needs=again.needs(), trace=again.lines(self.whole_trace), run=again.run_file().splitlines(),
+        again = again or Retold(self.source, first.run, first.label)
+        return error._replace(needs=again.needs(), heading=again.heading(), trace=again.lines(self.whole_trace), run=again.run_file().splitlines(),
                               state=again.state_lines(self.whole_trace), help=self.help(examiner, again, first.label))
-
-    def needs(self, failure):
-        """What was needed where the run of a failure is not shown, in one line."""
-        if self.is_boogie or not failure.confirmed or not self.tells_needs:
-            return []
-        return Retold(self.source, failure.run, failure.label).needs()[:1]
 
     def help(self, examiner, again, label):
         """How a mistake may be mended."""
@@ -140,11 +138,22 @@ class Teller:
         words = told.message if self.is_boogie else naming.named(self.source, label) or told.message
         return Open(label, told.line, told.column, words, why)
 
-    def told_by(self, outcome) -> List[str]:
+    def told_by(self, outcome, asked_z3) -> List[str]:
         """The programs whose word the verdict on a unit is."""
         if outcome.verdict != FAILS:
-            return [Z3]
+            return [Z3 if asked_z3 else VALUES]
         return [REPLAY] if self.is_boogie else [RUN, REPLAY]
+
+
+def whose_word(results) -> str:
+    """On whose word some units are verified that nothing proves."""
+    by_z3 = [Z3 in it.told_by for it in results]
+    return " and ".join(["the word of `values`"] * (not all(by_z3)) + ["z3's word"] * any(by_z3))
+
+
+def not_confirmed(label: Label) -> str:
+    """What is told of a label that fails at some values, as no run confirms."""
+    return f"not confirmed: values were found at which this fails: {label.message}; but {label.why}"
 
 
 def shown_of(mistake: Mistake) -> Failure:
@@ -162,7 +171,7 @@ def told_of_boogie(source, label, procedure):
     (line, column), *others = [place_in(source.data, at) for at in found or [0]]
     kind = label.split()[-1]
     notes = [(*it, "an assertion with the same label, of which the same is told") for it in others]
-    return Told(line, column, f"the assertion `{label}` may fail: {failures.PLAIN.get(kind, kind)}", notes)
+    return Told(line, column, f"the assertion `{label}` might fail: {failures.PLAIN.get(kind, kind)}", notes)
 
 
 def place_in(data, at):

@@ -21,19 +21,27 @@ class Retold:
         self.source, self.run, again = source, run, rerun(source, run)
         self.titles = again.choices.titles
         self.again = again if again.how == "failed" and again.label() == label else None
-        self.short, self.lines_of_needs = Needs(again).told() if self.again else ("", [])
+        found = Needs(again) if self.again else None
+        self.lines_of_needs = found.told() if found else []
+        self.message = found.message if found else lambda said: said
 
     def needs(self):
         """What was needed and what was held, a line each."""
         return self.lines_of_needs + ([unopened(self.again)] if self.again and unopened(self.again) else [])
 
+    def heading(self):
+        """What stands above the steps."""
+        step = self.again.steps[-1] if self.again else None
+        checked = {"body": "the body", "ensures": "the postcondition"}.get(step.kind if step else "")
+        return f"Checking {checked} of `{self.run.unit}` fails there:" if checked else f"This run of `{self.run.unit}` fails there:"
+
     def rows(self):
         """The steps of the run."""
-        return Trace(self.again, self.short).rows(True) if self.again else []
+        return Trace(self.again).rows(True) if self.again else []
 
     def lines(self, whole):
         """The steps of the run for people."""
-        return lines(Trace(self.again, self.short).rows(False), whole) if self.again else []
+        return lines(Trace(self.again).rows(False), whole) if self.again else []
 
     def run_file(self):
         """The run file, with a comment in front of each choice."""

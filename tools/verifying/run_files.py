@@ -1,10 +1,12 @@
 """Run files: that of Boogie of a walk, that of Viper which it comes from, and a walk on what a run file of Boogie says."""
+import re
 from fractions import Fraction
 
 from .walk import DEFAULTS, Outside, Walk
 
 CONTENTS = ("pair", "leaf", "unit")
 FAR = 1 << 62   # references are below 2^64
+REFERENCE = re.compile(r"#[0-9]+")
 
 
 class ViperRun:
@@ -118,7 +120,13 @@ def viper_run(walk, bare, kept=False):
             choices.append([f"pick {scalar(it.value, 'bool')}"])
         elif it.kind not in ("split", "leaf"):
             choices.append([f"{it.kind} {scalar(it.value, it.base)}"])
-    return ViperRun(procedure.name[2:], choices)
+    return ViperRun(procedure.name[2:], numbered(choices))
+
+
+def numbered(choices):
+    """The lines of choices with the references numbered in the order in which they appear."""
+    new = {}
+    return [[REFERENCE.sub(lambda it: f"#{new.setdefault(it[0], len(new) + 1)}", line) for line in lines] for lines in choices]
 
 
 def with_states(run, says, procedure):
@@ -210,6 +218,6 @@ class Replay(Walk):
             raise Short("the run file has too few choices")
         return found
 
-    def chosen(self, name, keys, base, behind):
+    def chosen(self, name, keys, base, behind, frame):
         value = self.take()
         return Outside(lambda key: value.get(key, DEFAULTS[base])) if keys else value

@@ -20,15 +20,15 @@ class Moment:
 class Step:
     """A step that ran: `kind` is begin, requires, ensures, loop, end, or that of a statement; `first` and `last` are its tokens, `at` is the
     token at which a reader stands; `before` and `after` are moments, and `way` is what a branch or a loop did; `targets` are the variables that got a
-    value, even if it is the same, and `terms` what was computed for them; `between` is the state in which it forgot
-    what was not held, or None. `fault` is what failed."""
+    value, even if it is the same, and `terms` what was computed for them; `takes` is what it took away, and `between` the state in which
+    it forgot what was not held, or None. `fault` is what failed, and `reached` the moment at which it did."""
 
-    __slots__ = ("kind", "first", "last", "before", "after", "way", "fault", "callee", "targets", "terms", "between")
+    __slots__ = ("kind", "first", "last", "before", "after", "way", "fault", "callee", "targets", "terms", "takes", "between", "reached")
 
     def __init__(self, kind, first, last, before, way="", callee=None):
         self.kind, self.first, self.last, self.before, self.after = kind, first, last, before, before
         self.way, self.fault, self.callee = way, None, callee
-        self.targets, self.terms, self.between = [], [], None
+        self.targets, self.terms, self.takes, self.between, self.reached = [], [], [], None, before
 
     def havocs(self, place):
         """Whether it gave up all of a place, and has it again: then it may have any value."""
@@ -119,7 +119,7 @@ class Running:
         except Fails as fault:
             self.how, self.fault = "failed", fault
             if self.steps:
-                self.steps[-1].fault = fault
+                self.steps[-1].fault, self.steps[-1].reached = fault, self.moment()
         except Short:
             self.how = "short"
         except Blocks:
@@ -134,8 +134,8 @@ class Running:
     # ---- steps
 
     def step(self, kind, first, last, way="", callee=None):
-        self.meaning.takes = []
         self.steps.append(Step(kind, first, last, self.moment(), way, callee))
+        self.meaning.takes = self.steps[-1].takes
         return self.steps[-1]
 
     def visible(self, step):
@@ -386,7 +386,7 @@ class Running:
                 return n
 
     def loop(self, it):
-        """A loop: one turn, or what is behind it."""
+        """A loop: one iteration, or what is behind it."""
         brace = it.end
         while self.source.said(brace) != "{":
             brace = Term(self.source, brace + 1).end
@@ -397,10 +397,10 @@ class Running:
         step.targets = [v.name for v in self.assigned(it.at, brace)]
         for v in self.assigned(it.at, brace):
             self.set(v.name, self.choices.took(v.type, f"any value for {v.name}, which the loop at {line} assigns"))
-        turn = self.choices.pick(f"one turn of the loop at {line}", f"behind the loop at {line}")
+        turn = self.choices.pick(f"one iteration of the loop at {line}", f"behind the loop at {line}")
         step.way = "turn" if turn else "behind"
         if turn:
-            self.fresh_state(f"any state, in which a turn of the loop at {line} begins")
+            self.fresh_state(f"any state, in which an iteration of the loop at {line} begins")
         for term in invariants:
             self.meaning.produce(term, self.state, self.scene(it.at))
         if self.meaning.value(it.terms[0], self.state, self.scene(it.at)) != turn:

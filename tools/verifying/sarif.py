@@ -8,7 +8,9 @@ from urllib.parse import quote
 from . import failures
 from .files import name_of
 from .program import TOP
+from .results import not_confirmed
 from .shown_run import spoken
+from .spans import span
 
 SCHEMA = "https://docs.oasis-open.org/sarif/sarif/v2.1.0/errata01/os/schemas/sarif-schema-2.1.0.json"
 LEVELS = {"error": "error", "warning": "warning", "note": "note"}
@@ -16,7 +18,7 @@ RULES = {
     **{kind: (words, f"docs/failures.md tells of the kind of failure {kind}.") for kind, words in failures.PLAIN.items() if " " not in kind},
     "refused": ("the file is refused", "docs/language.md has the reasons for which a file is refused."),
     "undecided": ("nobody knows whether this can fail", "docs/verifying.md tells what to try."),
-    "not-confirmed": ("z3 says that this can fail, and no run confirms it", "docs/verifying.md tells what to try."),
+    "not-confirmed": ("values were found at which this fails, and no run confirms it", "docs/verifying.md tells what to try."),
     "unreached": ("no run comes here", "What is required or assumed cannot hold here."),
     "unreadable": ("the file cannot be read", "docs/verifying.md tells of statuses."),
 }
@@ -83,18 +85,19 @@ class Writer:
 
     def error(self, error):
         """The result of a mistake of a unit."""
-        first = error.labels[0]
+        number = next((n for n, it in enumerate(error.labels) if it.label.endswith(" perm")), 0)
+        first = error.labels[number]
         if not first.confirmed:
-            told = failures.Told(first.line, first.column, f"not confirmed: z3 says that this can fail: {first.message}; but {first.why}")
+            told = failures.Told(first.line, first.column, not_confirmed(first))
             return self.result("not-confirmed", "warning", told)
         told = failures.joined(self.source, [it.label for it in error.labels])[0][0]
         found = self.result(first.label.split()[-1], "error", told)
-        found["message"]["text"] += "".join([f"\n{it}" for it in first.needs])
+        found["message"]["text"] = (first.message or told.message) + "".join([f"\n{it}" for it in first.needs])
         found["partialFingerprints"] = {"mistake/v1": fingerprint(error.unit, found["ruleId"], told.message)}
         found["properties"] = {"unit": error.unit, "labels": [it.label for it in error.labels], "identifier": first.identifier, "runFile": first.run}
-        if error.runs and error.runs[0].steps:
-            found["codeFlows"] = [{"message": {"text": f"this run of `{error.unit}` fails there, as `run` says"},
-                                   "threadFlows": [{"locations": [self.step(it) for it in error.runs[0].steps]}]}]
+        if len(error.runs) > number and error.runs[number].steps:
+            found["codeFlows"] = [{"message": {"text": f"this run of `{error.unit}` fails there"},
+                                   "threadFlows": [{"locations": [self.step(it) for it in error.runs[number].steps]}]}]
         return found
 
     def result(self, rule, level, told):
@@ -109,11 +112,9 @@ class Writer:
         return {"physicalLocation": {"artifactLocation": {"uri": self.uri, "index": self.index}, "region": self.region(line, column)}}
 
     def region(self, line, column):
-        """A place with the token at it; columns count UTF-16 code units."""
-        n = self.source.at(line, column)
-        width = len(self.source.said(n)) if n is not None else 1
-        begin = self.units(line, column)
-        return {"startLine": line, "startColumn": begin, "endColumn": begin + width}
+        """What is marked for a place; columns count UTF-16 code units."""
+        first, behind = span(self.source, line, column) if line <= len(self.source.lines) else (column - 1, column)
+        return {"startLine": line, "startColumn": self.units(line, first + 1), "endColumn": self.units(line, behind + 1)}
 
     def units(self, line, column):
         before = self.source.line_text(line)[:column - 1].decode("utf-8", "replace")

@@ -31,12 +31,12 @@ WAYS = (PLAIN, NUMBERS, SMALL_INTS, GRID)
 
 
 class Search:
-    """Looks for values at which one of some terms is true. `types` are those of the variables of a procedure by name, in order."""
+    """Looks for values at which one of some terms is true, up to a time. `types` are those of the variables of a procedure by name, in
+    order."""
 
-    def __init__(self, types, fresh, solver, seconds):
-        self.types, self.fresh, self.solver = types, fresh, solver
+    def __init__(self, types, fresh, solver, end):
+        self.types, self.fresh, self.solver, self.end = types, fresh, solver, end
         self.names = list(types)
-        self.end = time.monotonic() + seconds
         self.open, self.asked, self.within = None, {}, frozenset()
 
     def begin_anew(self):

@@ -6,9 +6,10 @@ from .walk import DEFAULTS, Walk
 
 SECONDS = 0.6       # of the processor, for one run
 ROUNDS = 3
-INTS = (0, 1, -1, 2, 3, 5, 10)
+INTS = (0, 1, 2, -1, 3, -2, 5, 10)
 MOST_PARTS = 64     # so many parts of a content are looked at
 UNIT = ("unit",)
+FRESH = 1 << 40     # objects from here on are none of those that z3 names
 REALS = (Fraction(0), Fraction(1), Fraction(1, 2))
 
 
@@ -32,21 +33,43 @@ def simpler(value, base):
     """Simpler values, the simplest first."""
     if base == "int":
         found = [*INTS, value // 2, value - 1 if value > 0 else value + 1]
-        return [it for it in dict.fromkeys(found) if (abs(it), it < 0) < (abs(value), value < 0)]
+        return [it for it in dict.fromkeys(found) if size(it) < size(value)]
     if base == "real":
         return [it for it in REALS if rank(it) < rank(value)]
     return [False] if value is True else []
 
 
+def size(value):
+    """How large a number is: a negative one counts as a larger one."""
+    return abs(value) + 2 * (value < 0), value < 0
+
+
 def rank(value):
-    return abs(value.numerator) + value.denominator, value < 0
+    """Amounts between none and write come before all others."""
+    return not 0 <= value <= 1, abs(value.numerator) + value.denominator, value < 0
+
+
+def moved(values, by):
+    """Values with all integers greater by a number, also those in keys and contents."""
+    def one(value, base):
+        if base == "Snap":
+            return ("pair", one(value[1], base), one(value[2], base)) if value[0] == "pair" else \
+                ("leaf", value[1], one(value[2], value[1])) if value[0] == "leaf" else value
+        return value + by if base == "int" else value
+
+    types = values.types
+    ints = {n: by for n, (keys, base) in enumerate(types) if base == "int" and not keys}
+    scalars = {**ints, **{n: one(it, types[n][1]) for n, it in values.scalars.items()}}
+    tables = {n: {tuple([one(part, it) for part, it in zip(key, types[n][0])]): one(value, types[n][1]) for key, value in table.items()}
+              for n, table in values.tables.items()}
+    return Values(types, scalars, tables)
 
 
 class Smaller:
     """Tries simpler values. `fails` says whether a run still fails as before."""
 
     def __init__(self, procedure, values, label):
-        self.procedure, self.values, self.label = procedure, values, label
+        self.procedure, self.values, self.label, self.entered = procedure, values, label, set()
         self.end = time.process_time() + SECONDS
 
     def fails(self):
@@ -58,11 +81,89 @@ class Smaller:
 
     def found(self):
         """The simplest values that were found."""
+        self.iterations()
         for _ in range(ROUNDS):
+            self.leave_out()
             changed = any([self.smaller_tables(), self.simpler_scalars(), self.simpler_places()])
             if not changed or self.late():
                 break
+        self.objects()
+        self.from_none_on()
         return self.values
+
+    def from_none_on(self):
+        """Adds to all integers alike, where some are negative, so that none is."""
+        least = min([it for n, it in self.values.scalars.items() if self.values.types[n][1] == "int"], default=0)
+        if least < 0:
+            self.all_or_none(moved(self.values, -least))
+
+    def all_or_none(self, values):
+        """Takes other values if the run fails as before."""
+        old, self.values = self.values, values
+        if self.late() or not self.fails():
+            self.values = old
+
+    def iterations(self):
+        """Goes into a loop where the run fails in front of its body, and in what is behind it alike; and has amounts within write."""
+        for n in self.picks(self.procedure.body, len(self.procedure.locals))[1]:
+            if self.values.scalars.get(n, False) or self.attempt(self.values.scalars, n, True):
+                self.entered.add(n)
+        most = max([it for n, it in self.values.scalars.items() if self.values.types[n][1] == "real"], default=0)
+        if most > 1:
+            scalars = {n: it / most if self.values.types[n][1] == "real" else it for n, it in self.values.scalars.items()}
+            self.all_or_none(Values(self.values.types, scalars, self.values.tables))
+
+    def picks(self, block, number):
+        """The number behind those of a block that begins with a number, and those of its `if (*)`."""
+        found = []
+        for stmt in block:
+            if stmt[0] == "havoc":
+                number += 1
+            elif stmt[0] == "if":
+                found += [number] * (stmt[1] is None)
+                number += stmt[1] is None
+                for side in stmt[2:4]:
+                    number, more = self.picks(side, number)
+                    found += more
+        return number, found
+
+    def objects(self):
+        """Makes objects of what is null where the method begins, and has what a loop or a call gives be an object that is there."""
+        scalars, given = self.values.scalars, self.given()
+        for n in given:
+            if not scalars.get(n, 0):
+                self.attempt(scalars, n, FRESH + n)
+        known = sorted({scalars.get(n, 0) for n in given} - {0})
+        for n in [it for it in scalars if self.values.types[it] == ((), "Ref") and it not in given and scalars[it] not in known]:
+            any(self.attempt(scalars, n, it) for it in (known if n >= len(self.procedure.locals) else [0]))
+
+    def given(self):
+        """The numbers of the parameters that are references: no statement gives them a value."""
+        assigned, todo = set(), [self.procedure.body]
+        while todo:
+            for stmt in todo.pop():
+                if stmt[0] in ("assign", "havoc"):
+                    assigned.add(stmt[1])
+                elif stmt[0] == "if":
+                    todo += stmt[2:4]
+        return [n for n, (name, type_) in enumerate(self.procedure.locals.items()) if type_[1] == "Ref" and not type_[0] and
+                name.startswith("v$") and name not in assigned]
+
+    def leave_out(self):
+        """Leaves out what the walk does not look at, and what has the default anyway."""
+        seen, values = {}, self.values
+
+        def given(n):
+            keys = seen.setdefault(n, set())
+            value = values.given(n)
+            return (lambda key: keys.add(key) or value(key)) if callable(value) else value
+
+        Walk(self.procedure, given).run()
+        values.scalars = {n: it for n, it in values.scalars.items() if n in seen and it != DEFAULTS[values.types[n][1]]}
+        for n, table in values.tables.items():
+            default = DEFAULTS[values.types[n][1]]
+            values.tables[n] = {key: it for key, it in table.items() if key in seen.get(n, ()) and it != default}
+        values.tables = {n: table for n, table in values.tables.items() if table}
 
     def attempt(self, table, key, value):
         """Sets, or with None removes, an entry of a table. Keeps that if the run fails as before."""
@@ -73,7 +174,10 @@ class Smaller:
             table[key] = value
         if not self.late() and self.fails():
             return True
-        table[key] = old
+        if old is None:
+            del table[key]
+        else:
+            table[key] = old
         return False
 
     def smaller_tables(self):
@@ -90,7 +194,7 @@ class Smaller:
 
     def simpler_scalars(self):
         changed, scalars = False, self.values.scalars
-        for n in list(scalars):
+        for n in [it for it in scalars if it not in self.entered]:
             base = self.values.types[n][1]
             changed = base == "Snap" and self.attempt(scalars, n, None) or self.simplified(scalars, n, base) or changed
         return changed
@@ -120,6 +224,7 @@ class Smaller:
             if part == UNIT:
                 continue
             tried = [("leaf", part[1], it) for it in simpler(part[2], part[1])] if part[0] == "leaf" else []
+            tried += [("leaf", "Ref", 0)] if part[:2] == ("leaf", "Ref") and part[2] else []
             if any(self.attempt(table, key, with_part(table[key], path, it)) for it in [UNIT, *tried]):
                 changed = True
             elif part[0] == "pair":

@@ -8,7 +8,7 @@ from .units import Examiner, Task
 
 
 def unreached(program, solver, room, source, names, seconds) -> List[spots.Spot]:
-    """The spots of some units that no run reaches, as `prove` shows, or where there is no such program, as z3 says."""
+    """The spots of some units that no run reaches, as `prove` shows, or where it is not asked, as z3 says."""
     units = [it for it in source.units if it.name in names and (it.kind == "method" or it.kind == "predicate" and it.brace is not None)]
     text, found = spots.with_copies(source, units)
     path = os.path.join(room, "smoke.vpr")
@@ -17,7 +17,7 @@ def unreached(program, solver, room, source, names, seconds) -> List[spots.Spot]
     if not found:
         return []
     try:
-        never = set(program.prove(path, seconds).proved) if program.can_prove() else refuted(program, solver, room, path, seconds)
+        never = set(program.prove(path, seconds).proved) if program.searches() else refuted(program, solver, room, path, seconds)
     except TooLate:
         return []
     return spots.told(found, never & set(found))
@@ -32,7 +32,6 @@ def refuted(program, solver, room, path, seconds):
     for unit in given.units:
         task = Task(path, given.prelude, unit.text, given.bare, False, seconds)
         examiner = Examiner(task, program, solver, room)
-        terms = [term for terms in examiner.possible().values() for term in terms]
-        if not terms or examiner.search.any_of(terms)[0] == "unsat":
+        if examiner.any_of(examiner.possible())[0] == "unsat":
             found.add(unit.name)
     return found

@@ -2,6 +2,7 @@
 import os
 import re
 import select
+import shutil
 import subprocess
 import time
 from fractions import Fraction
@@ -11,6 +12,11 @@ from .boogie_text import LEAVES
 GRACE = 1.0     # seconds that z3 may need to stop by itself
 TOKEN = re.compile(r'[()]|\|[^|]*\||"[^"]*"|[^\s()|"]+')
 DONE = "(echo \"done\")\n"
+
+
+def is_there():
+    """Whether z3 is on the path."""
+    return shutil.which("z3") is not None
 
 
 class NoSolver(Exception):

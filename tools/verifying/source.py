@@ -211,3 +211,14 @@ class Source:
                 return "".join(words) + " .."
             words.append(gap + it.text)
         return "".join(words)
+
+
+def without_bodies(source, names):
+    """The bytes of a file with blanks for the bodies of some methods: all others are as they are, and stand where they stand."""
+    data = bytearray(source.data)
+    for unit in source.units:
+        closing = source.closing.get(unit.brace) if unit.kind == "method" and unit.name in names else None
+        if closing is not None:
+            begin, end = source.tokens[unit.brace].start, source.tokens[closing].end
+            data[begin:end] = bytes([it if it in b"\r\n" else 32 for it in data[begin:end]])
+    return bytes(data)

@@ -83,32 +83,64 @@ class Spots:
 def with_copies(source, units) -> Tuple[str, Dict[str, Spot]]:
     """The text of a file in which methods have no bodies, with a copy of its unit for each spot of some units, and the spot of each
     copy by its name."""
-    text, spots = "", {}
-    stem = "smoke$"
-    while any([it.text.startswith(stem) for it in source.tokens]):
-        stem += "$"
-    copies = []
+    stem, spots, copies = stem_of(source), {}, []
     for unit in units:
         for spot in Spots(source, unit).found:
             name = f"{stem}{len(spots)}"
             spots[name] = spot
             copies.append(copy(source, unit, spot, name))
-    at = 0
+    return without_methods(source) + "".join(copies), spots
+
+
+def with_end(source, unit) -> Tuple[str, str, str]:
+    """The text of a file in which methods have no bodies, with a copy of a unit that has `assert false` where its postconditions are given
+    up; the name of the copy, and the label at which a run fails that comes there."""
+    stem = stem_of(source)
+    found = Spots(source, unit).found
+    spot = found[-1] if found else Spot(unit.name, source.tokens[unit.end - 1].end, 0, 0, "", None)
+    text = without_methods(source) + copy(source, unit, spot, stem, after_contract(source, unit))
+    at = text.rindex(NEVER) + 1
+    line, column = text.count("\n", 0, at) + 1, at - text.rfind("\n", 0, at)
+    return text, stem, f"{line}:{column} {line}:{column + len('assert ')} false"
+
+
+def after_contract(source, unit):
+    """A statement that takes the postconditions of a method, or brings them where it has no body, and behind it `assert false`."""
+    end, word = (unit.end, "inhale") if unit.brace is None else (unit.brace, "exhale")
+    clauses = [(n + 1, Term(source, n + 1).end) for n in range(unit.word, end) if source.said(n) == "ensures"]
+    texts = [source.text[source.tokens[first].start:source.tokens[behind - 1].end] for first, behind in clauses]
+    return (f" {word} {' && '.join([f'({it})' for it in texts])}" if texts else "") + NEVER
+
+
+def stem_of(source):
+    """What no name of a file begins with."""
+    stem = "smoke$"
+    while any([it.text.startswith(stem) for it in source.tokens]):
+        stem += "$"
+    return stem
+
+
+def without_methods(source):
+    """The text of a file in which methods have no bodies."""
+    text, at = "", 0
     for unit in source.units:
         if unit.kind == "method" and unit.brace is not None:
             text += source.text[at:source.tokens[unit.brace].start]
             at = source.tokens[source.closing[unit.brace]].end
-    return text + source.text[at:] + "\n" + "".join(copies), spots
+    return text + source.text[at:] + "\n"
 
 
-def copy(source, unit, spot, name):
-    """A copy of a unit with `assert false` at a spot; of a predicate, a method that opens it."""
+def copy(source, unit, spot, name, statement=NEVER):
+    """A copy of a unit with `assert false` at a spot, or another statement; of a predicate, a method that opens it."""
     if unit.kind == "predicate":
         formals = ", ".join(f"{it.name}: {it.type}" for it in unit.parameters())
         instance = f"{unit.name}({', '.join(it.name for it in unit.parameters())})"
         return f"method {name}({formals}) requires {instance} {{ unfold {instance}{NEVER}}}\n"
-    begin, end = source.tokens[unit.name_at].end, source.tokens[source.closing[unit.brace]].end
-    return f"method {name}{source.text[begin:spot.at]}{NEVER}{source.text[spot.at:end]}\n"
+    begin = source.tokens[unit.name_at].end
+    if unit.brace is None:
+        return f"method {name}{source.text[begin:spot.at]} {{{statement}}}\n"
+    end = source.tokens[source.closing[unit.brace]].end
+    return f"method {name}{source.text[begin:spot.at]}{statement}{source.text[spot.at:end]}\n"
 
 
 def told(spots: Dict[str, Spot], unreached) -> List[Spot]:

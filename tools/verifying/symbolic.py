@@ -48,7 +48,6 @@ class Symbolic:
         self.paths.move(self.paths.first)
         self.logic.plainly = True
         self.fails = [(label, self.truth(name)) for label, name in conditions.fails]
-        self.end = self.truth(conditions.ends) if conditions.ends else self.logic.true
 
     def truth(self, name):
         """The term of a definition that may be a path."""

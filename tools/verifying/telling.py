@@ -13,7 +13,7 @@ def error_lines(source, told):
 
 def head_lines(source, told):
     """An error without its notes."""
-    lines = [f"{source.path}:{told.line}:{told.column}: error: {told.message}"]
+    lines = [f"{source.path}:{told.line}:{mark_of(source, told.line, told.column)}: error: {told.message}"]
     return lines + ([] if told.whole else marked(source, told.line, told.column))
 
 
@@ -21,8 +21,13 @@ def note_lines(source, told):
     """The notes of an error."""
     lines = []
     for line, column, text in told.notes:
-        lines += [f"{source.path}:{line}:{column}: note: {text}", *marked(source, line, column)]
+        lines += [f"{source.path}:{line}:{mark_of(source, line, column)}: note: {text}", *marked(source, line, column)]
     return lines
+
+
+def mark_of(source, line, column):
+    """The column in which the mark of a place begins."""
+    return span(source, line, column)[0] + 1 if 0 < line <= len(source.lines) else column
 
 
 def marked(source, line, column):

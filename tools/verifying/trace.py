@@ -1,24 +1,29 @@
 """A run as a trace: a row for each step that ran, with its source and with what it changed.
 
 The steps and their states are those of `running`. Where it ends otherwise than the proved interpreter says, there is no trace."""
+from copy import copy
 from typing import NamedTuple
 
 from .contents import content_words
 from .meaning import Scene
 from .origins import Origins
 from .references import Names, aliases
+from .stand_ins import Spelling
+from .terms import Term
 from .values import amount, word
+from .withheld import Withheld
 
-WIDTH = 52          # the most columns of a source in a trace for people
+WIDTH = 52          # the most columns of a source in a trace for people, beside which its text stands
 LONGEST = 16        # so many rows are shown, where not all are
 FIRST, LAST = 6, 8  # those at the begin and at the end that are shown then
 MOST_SOURCE = 200   # the most characters of a source as data
 GIVES = ("call", "requires", "ensures", "inhale", "while", "assign", "var", "body")    # steps that give what is held behind them
-WAYS = {"turn": "any turn", "behind": "behind the loop"}
+PARTLY = ("requires", "ensures", "body", "inhale", "while")     # and those of which it is told what they gave before they failed
+WAYS = {"turn": "any iteration", "behind": "behind the loop"}
 
 
 class Row(NamedTuple):
-    """A step: where it stands, its source, what it changed, in words and as data, and the state behind it; `fails` is set for the last."""
+    """A step: where it stands, its source, what it changed, in words and as data, and the state behind it."""
     line: int
     column: int
     end_line: int
@@ -27,11 +32,10 @@ class Row(NamedTuple):
     text: str
     changes: list
     state: dict
-    fails: bool
 
     def data(self):
         """The row for `--json`."""
-        return {name: value for name, value in self._asdict().items() if name != "fails"}
+        return dict(self._asdict())
 
 
 class Change(NamedTuple):
@@ -75,10 +79,10 @@ def keys_of(held, now, old, new):
 
 
 class Trace:
-    """Makes the rows of a run. `fails` gives the words of what fails at the last step."""
+    """Makes the rows of a run."""
 
-    def __init__(self, running, fails):
-        self.running, self.source, self.meaning, self.fails = running, running.source, running.meaning, fails
+    def __init__(self, running):
+        self.running, self.source, self.meaning = running, running.source, running.meaning
         self.order = {name: n for n, name in enumerate(self.meaning.types)}
 
     def rows(self, is_data):
@@ -86,16 +90,30 @@ class Trace:
         found = [self.row(it, is_data) for it in self.running.steps]
         return [row for row, it in zip(found, self.running.steps) if row.text or it.kind not in ("requires", "ensures")]
 
+    def partly(self, step, names):
+        """What a step that fails gave before."""
+        if not is_partly(step):
+            return ""
+        done = copy(step)
+        done.after, done.fault = step.reached, None
+        return Telling(self.running, names, done).text(changes_of(done, self.order))
+
     def row(self, step, is_data):
         """The row of a step."""
         source = self.source
         first, last = source.tokens[step.first], source.tokens[step.last]
         changes = changes_of(step, self.order)
         names = Names(self.running.visible(step), [source.said(n) for n in range(step.first, step.last + 1)])
-        text = f"fails: {self.fails}" if step.fault else Telling(self.running, names, step).text(changes)
+        text = self.failing(step, names) if step.fault else Telling(self.running, names, step).text(changes)
         data = ([self.change_data(it) for it in changes], self.state_data(step)) if is_data else ([], {})
         spelled = source.spelled(step.first, step.last, MOST_SOURCE)
-        return Row(first.line, first.column, last.line, last.column + len(last.text), spelled, text, *data, step.fault is not None)
+        return Row(first.line, first.column, last.line, last.column + len(last.text), spelled, text, *data)
+
+    def failing(self, step, names):
+        """The text of the step that fails; of a specification, whose parts give something before, at which of them."""
+        node, partly = step.fault.node, self.partly(step, names)
+        at = f" at {Spelling(self.source).of(node, None)}" if is_partly(step) else ""
+        return f"{partly}{'; ' if partly else ''}fails{at}"
 
     def change_data(self, it):
         """A change for `--json`."""
@@ -129,6 +147,11 @@ class Trace:
         }
 
 
+def is_partly(step):
+    """Whether a step that fails gave something before: a loop only where its iteration has begun."""
+    return step.kind in PARTLY and (step.kind != "while" or step.between is not None)
+
+
 def spelled_place(place):
     return f"{word(place[1])}.{place[0]}"
 
@@ -148,14 +171,37 @@ class Telling:
         """All that changed, or that nothing had to."""
         others = [it for it in changes if it.kind != "variable"]
         quiet = self.step.kind in ("fold", "unfold")
-        lost = [self.names.thing(it.kind, it.thing) for it in others if it.lost() and not quiet]
+        lost = [self.names.thing(it.kind, it.thing) for it in others if it.lost() and it.held == 1 and not quiet]
         gained = [self.gained(it) for it in others if it.gained()]
         parts = [self.variables(changes)]
         parts += [self.written()] if self.step.kind == "assign" and not self.step.targets else [self.any(it) for it in others if it.other()]
         parts += [f"takes {', '.join(lost)}" if lost else ""]
-        parts += [self.more(it) for it in others if it.held != it.now and not it.gained() and not it.lost()]
-        parts += [("gives " if self.step.kind in GIVES else "") + "; ".join(gained) if gained else ""]
-        return "; ".join([it for it in parts if it]) or ("holds" if self.step.kind in ("assert", "assume") else "")
+        parts += [self.more(it) for it in others if it.held != it.now and not it.gained() and not (it.lost() and (it.held == 1 or quiet))]
+        gives = self.step.kind in GIVES or any([it.startswith("takes ") for it in parts])
+        parts += [("gives " if gives else "") + "; ".join(gained) if gained else ""]
+        return "; ".join([it for it in parts if it]) or self.nothing()
+
+    def nothing(self):
+        """What is told where nothing changed: what was taken and given back, why nothing is given, or that it holds."""
+        step = self.step
+        if step.kind in ("assert", "assume", "exhale"):
+            return "holds"
+        if step.callee is not None:
+            back = [it for it in step.takes if self.held(step.before.state, it[0]) == self.held(step.after.state, it[0])]
+            words = [f"{'' if much == 1 else f'{amount(much)} of '}{self.thing(it)}" for it, much, *_ in back]
+            return f"takes {', '.join(words)} and gives {'it' if len(words) == 1 else 'them'} back" if words else "changes nothing"
+        if step.kind not in ("requires", "ensures", "inhale") or step.fault is not None:
+            return "gives nothing" if step.kind == "unfold" else ""
+        scene = Scene(step.after.vars, self.old, step.first)
+        found = Withheld(self.meaning, step.after.state, scene).of(Term(self.meaning.source, step.first + 1).node)
+        nothing = "holds" if step.kind == "inhale" else ""
+        return f"gives nothing: {' and '.join(dict.fromkeys([why for _, why in found]))}" if found else nothing
+
+    def held(self, state, thing):
+        return state.held(thing) if isinstance(thing[1], int) else state.held_of(thing)
+
+    def thing(self, thing):
+        return self.names.thing("place" if isinstance(thing[1], int) else "instance", thing)
 
     def variables(self, changes):
         """What a branch or a loop did, and the variables that got a value."""
@@ -163,9 +209,15 @@ class Telling:
         now = self.step.after.vars
         named = {it.thing: it.new for it in changes if it.kind == "variable" and it.thing not in hidden}
         named.update({name: now[name] for name in self.step.targets if name in now})
-        told = ", ".join(aliases(named.items()))
+        any_ = {name: self.any_value(name) for name in named if self.origins.is_any(self.step, name)}
+        told = ", ".join(aliases(named.items(), any_))
         way = WAYS.get(self.step.way, self.step.way)
         return f"{way}: {told}" if way and told else way or told
+
+    def any_value(self, name):
+        """That a variable has any value, and the one that it had before."""
+        old, new = (it.vars.get(name) for it in (self.step.before, self.step.after))
+        return f"any value, was {self.names.value(old)}" if self.step.kind == "while" and old != new else "any value"
 
     def written(self):
         """The place that an assignment wrote."""
@@ -181,22 +233,25 @@ class Telling:
 
     def gained(self, it):
         name = self.names.thing(it.kind, it.thing)
+        is_any = self.origins.gives_any(self.step, it.kind, it.thing)
         if it.kind == "place":
-            return f"{name} = {self.names.value(it.new)}, {amount(it.now)}"
+            return f"{name} = {self.names.value(it.new)}{' (any value)' if is_any else ''}, {amount(it.now)}"
         inside = content_words(self.meaning, it.thing, it.new, self.names)
         much = "" if it.now == 1 else f", {amount(it.now)}"
-        return f"{name}{' ' + inside if inside else ''}{much}"
+        return f"{name}{f' {inside}' if inside else ''}{' (any content)' if inside and is_any else ''}{much}"
 
     def any(self, it):
         """A place or an instance that has another value, or any that a contract or an invariant leaves open; or nothing."""
         name, is_open = self.names.thing(it.kind, it.thing), it.havoc and not self.origins.says(self.step, it.kind, it.thing)
         if it.old == it.new and not is_open:
             return ""
-        if it.kind == "place":
-            was = f" (was {self.names.value(it.old)})" if it.old != it.new and it.havoc else ""
-            return f"{name} = {self.names.value(it.new)}{', any value' if is_open else ''}{was}"
-        inside = content_words(self.meaning, it.thing, it.new, self.names)
-        return f"{name}{' ' + inside if inside else ''}{', any content' if is_open else ''}"
+        now, was = (self.inside(it, value) for value in (it.new, it.old))
+        said = [f"any {'value' if it.kind == 'place' else 'content'}"] * is_open + [f"was {was}"] * (it.old != it.new and it.havoc and bool(was))
+        return f"{name}{' = ' if it.kind == 'place' else ' ' * bool(now)}{now}" + (f" ({', '.join(said)})" if said else "")
+
+    def inside(self, it, value):
+        """A value of a place, or a content of an instance, in words."""
+        return self.names.value(value) if it.kind == "place" else content_words(self.meaning, it.thing, value, self.names)
 
     def more(self, it):
         """A place or an instance of which more is held, or less."""
@@ -207,15 +262,18 @@ class Telling:
 
 
 def lines(rows, whole):
-    """The rows for people: line number, source and text. Where not all are wanted, those in the middle are left out."""
+    """The rows for people: line number, source and text, which stands below a long source. Where not all are wanted, those in the middle
+    are left out."""
     is_cut = not whole and len(rows) > LONGEST
     shown = [*rows[:FIRST], *rows[-LAST:]] if is_cut else rows
-    width = max([len(cut(it.source)) for it in shown], default=0)
-    found = [f"{it.line:5}  {cut(it.source):{width}}  {it.text}".rstrip() for it in shown]
+    width = max([len(it.source) for it in shown if len(it.source) <= WIDTH], default=0)
+    found = [line_of(it, width) for it in shown]
     if is_cut:
         found.insert(FIRST, f"       ..  {len(rows) - len(shown)} more steps, which --trace shows")
-    return found
+    return [line for it in found for line in it.split("\n")]
 
 
-def cut(source):
-    return source if len(source) <= WIDTH else source[:WIDTH - 3] + " .."
+def line_of(row, width):
+    """A row for people."""
+    gap = f"\n{' ' * (7 + width)}" if len(row.source) > width and row.text else ""
+    return f"{row.line:5}  {row.source:{width}}{gap}  {row.text}".rstrip()

@@ -1,14 +1,16 @@
 """Tries changes of a file: what is verified of a unit with them, and which values make it fail."""
+import functools
 import os
 import tempfile
 import time
 from typing import List, NamedTuple, Optional
 
-from . import files
+from . import files, spots
 from .boogie_text import NotAsWritten
 from .failures import read
+from .found_values import REFUTED, VALUES, words_of
 from .search import PLAIN
-from .source import Source
+from .source import Source, without_bodies
 from .symbolic import TooSlow
 from .units import Examiner, Task
 
@@ -33,6 +35,11 @@ class Changed:
             parts += [data[at:it.start], it.text.encode()]
             at = it.end
         self.old, self.data = data, b"".join([*parts, data[at:]])
+
+    @functools.cached_property
+    def source(self):
+        """The changed file as its tokens."""
+        return Source("", self.data)
 
     def label(self, source, label) -> Optional[str]:
         """A label of the file as it was, with its places in the changed file; or None where one of them is gone."""
@@ -64,67 +71,94 @@ class Trials:
 
     def examined(self, changed, unit=None) -> Optional[Examiner]:
         """A unit of a changed file, ready to be asked; or None where it is none, or there is no time."""
-        if self.left() <= 0:
-            return None
-        room, unit = tempfile.mkdtemp(dir=self.examiner.room), unit or self.unit
-        copy = os.path.join(room, "given.vpr")
-        data = alone(changed.data, unit)
+        unit = unit or self.unit
+        return self.examiner_of(self.alone(changed, unit), unit) if self.left() > 0 else None
+
+    def alone(self, changed, unit):
+        """The bytes of a changed file in which no other method has a body."""
+        return Changed(without_bodies(self.source, {it.name for it in self.source.units if it.name != unit}), changed.changes).data
+
+    def written(self, data):
+        """The path of a file with these bytes."""
+        copy = os.path.join(tempfile.mkdtemp(dir=self.examiner.room), "given.vpr")
         with open(copy, "wb") as it:
             it.write(data)
-        program = self.examiner.program
+        return copy
+
+    def examiner_of(self, data, unit) -> Optional[Examiner]:
+        """A unit of a file with the predicates of this one, ready to be asked; or None where it is none."""
+        copy, program = self.written(data), self.examiner.program
         try:
-            given = files.translated(files.Given(copy, copy, None, "", False, False, frozenset(), [], None, ""),
-                                     files.source_of(copy, data), data, program, {})
+            given = files.translated(files.Given(copy, copy, None, "", False, False, frozenset(), [], None, ""), self.source, data, program)
             found = next((it for it in given.units if it.name == unit), None)
             if found is None:
                 return None
-            conditions = program.all_conditions(copy).get(found.procedure) if program.can_prove() else None
-            task = Task(copy, given.prelude, found.text, given.bare, False, max(self.left(), 0.01), conditions)
-            return Examiner(task, program, self.examiner.solver, room)
+            values = program.values(copy, max(self.left(), 0.01)).get(found.procedure) if self.examiner.found else None
+            task = Task(copy, given.prelude, found.text, given.bare, False, max(self.left(), 0.01), values=values)
+            examiner = Examiner(task, program, self.examiner.solver, os.path.dirname(copy))
+            examiner.possible()
+            return examiner
         except (NotAsWritten, TooSlow):
             return None
 
     def mends(self, changed, label, others=()):
         """Whether with the changes a unit is `verified`, or else no label of it fails but those that failed before, and the one to be
         mended not: then that one is `gone`. All units `others` have to be verified with them."""
+        if self.left() <= 0:
+            return ""
+        found = self.mends_by_values(changed, label, others) if self.examiner.found else None
+        return self.mends_by_z3(changed, label, others) if found is None and self.examiner.solver is not None else found or ""
+
+    def not_refuted(self, data, procedure):
+        """The labels of a unit of a file that are not refuted, with what is found of each; or None where nothing is known of it."""
+        text = self.examiner.program.values(self.written(data), max(self.left(), 0.01)).get(procedure)
+        return text and {it: word for it, word in words_of(text).items() if word != REFUTED}
+
+    def mends_by_values(self, changed, label, others):
+        """The same by what the program finds; or None where something is open."""
+        left = self.not_refuted(self.alone(changed, self.unit), self.examiner.procedure.name)
+        if left is None:
+            return ""
+        known = {changed.label(self.source, it): it for it in self.examiner.possible()}
+        failing = [it for it, word in left.items() if word == VALUES]
+        if len(failing) > MOST_OTHERS or not all([known.get(it, label) != label and self.failed_before(known[it]) for it in failing]):
+            return ""
+        if len(left) > len(failing):
+            return None
+        text, name, end = spots.with_end(changed.source, changed.source.declared[self.unit])
+        ends = (self.not_refuted(text.encode("latin-1"), f"M${name}") or {}).get(end) == VALUES
+        mends = ends and all([self.not_refuted(self.alone(changed, it), f"M${it}") == {} for it in others])
+        return "" if not mends else "gone" if left else "verified"
+
+    def mends_by_z3(self, changed, label, others):
+        """The same by z3."""
         examiner = self.examined(changed)
         if examiner is None:
             return ""
         left, known = examiner.possible(), {changed.label(self.source, it): it for it in self.examiner.possible()}
+        known.pop(None, None)
         for found in ["verified"] + ["gone"] * MOST_OTHERS:
-            said, values = examiner.search.any_of([it for terms in left.values() for it in terms], (PLAIN,)) if left else ("unsat", None)
+            said, values = examiner.any_of(left, (PLAIN,))
             if said == "unsat":
-                return found if self.has_end(examiner) and all([self.is_verified(changed, it) for it in others]) else ""
+                return found if self.has_end(changed) and all([self.is_verified(changed, it) for it in others]) else ""
             failing = examiner.fails_at(values) if values is not None else None
-            if failing not in known or known[failing] == label or not self.failed_before(known[failing]):
+            if failing not in left or failing not in known or known[failing] == label or not self.failed_before(known[failing]):
                 return ""
-            del left[failing]
-            examiner.search.begin_anew()
+            left.remove(failing)
+            examiner.begin_anew()
         return ""
 
-    def has_end(self, examiner):
-        """Whether some run comes to its end: where none does, a change has made the unit impossible."""
-        return examiner.search.any_of([examiner.symbolic.end], (PLAIN,))[1] is not None
+    def has_end(self, changed):
+        """Whether some run comes to the end of the unit: where none does, a change has made it impossible."""
+        text, name, label = spots.with_end(changed.source, changed.source.declared[self.unit])
+        examiner = self.examiner_of(text.encode("latin-1"), name)
+        return examiner is not None and examiner.any_of([label], (PLAIN,))[1] is not None
 
     def is_verified(self, changed, unit):
         examiner = self.examined(changed, unit)
-        if examiner is None:
-            return False
-        terms = [it for its in examiner.possible().values() for it in its]
-        return not terms or examiner.search.any_of(terms, (PLAIN,))[0] == "unsat"
+        return examiner is not None and examiner.any_of(examiner.possible(), (PLAIN,))[0] == "unsat"
 
     def failed_before(self, label):
         """Whether a label fails in the file as it is."""
-        self.examiner.search.begin_anew()
-        return self.examiner.search.any_of(self.examiner.possible()[label], (PLAIN,), 0.2)[1] is not None
-
-
-def alone(data, name):
-    """A file with the bodies of all methods but one left out: blanks stand for them, so that all other places stay."""
-    source, found = Source("", data), bytearray(data)
-    for unit in source.units:
-        end = source.closing.get(unit.brace)
-        if unit.kind == "method" and unit.name != name and end is not None:
-            start, end = source.tokens[unit.brace].start, source.tokens[end].end
-            found[start:end] = bytes([it if it == 10 else 32 for it in found[start:end]])
-    return bytes(found)
+        self.examiner.begin_anew()
+        return self.examiner.any_of([label], (PLAIN,), 0.2)[1] is not None

@@ -1,22 +1,27 @@
 """One unit: values at which it may fail, and what the program says of the run that they make.
 
-A label is confirmed where `run` failed at it on the very run file that is told (of a program of Boogie, `replay`). What z3 says
-can fail and no run confirms is told apart: that is a finding about these tools, unless the run needs what run files do not take."""
+Values are those that the program finds, and those of z3 where it is asked. A label is confirmed where `run` failed at it on the very run
+file that is told (of a program of Boogie, `replay`). What fails at some values and no run confirms is told apart: that is a finding about
+these tools, unless the run needs what run files do not take."""
+import functools
 import os
 import re
 import time
 from typing import NamedTuple, Optional
 
-from .boogie_text import NotAsWritten, read_procedure
+from .boogie_text import read_procedure
 from .conditions import read_conditions
+from .found_values import read_found, types_of
 from .run_files import ViperRun, boogie_run, read_back, viper_run, with_states
-from .search import Search, new_objects
+from .search import WAYS, Search, new_objects
 from .smaller import Smaller, Values
-from .symbolic import symbolic_of
+from .solver import NoSolver
+from .symbolic import TooSlow, symbolic_of
 from .walk import Walk
 
 MOST, MOST_NODES = (1 << 127) - 1, 4096     # the limits of numbers and contents in docs/run-files.md
 VERIFIED, FAILS, UNDECIDED = "verified", "fails", "undecided"
+NOT_PROVED = "no proof was found"
 
 
 class Failure(NamedTuple):
@@ -32,7 +37,8 @@ class Failure(NamedTuple):
 
 class Task(NamedTuple):
     """A unit that is to be looked at: its file, and the text of its procedure, behind the prelude and alone. `conditions` is the text
-    of its conditions where that is known, and `first_open` the label before which all is proved, where there is one."""
+    of its conditions where that is known, `first_open` the label before which all is proved, where there is one, and `values` the text
+    of what the program finds of its labels, where it is asked."""
     file: str
     prelude: str
     text: str
@@ -41,6 +47,7 @@ class Task(NamedTuple):
     seconds: float
     conditions: Optional[str] = None
     first_open: str = ""
+    values: Optional[str] = None
 
 
 class Passing(Walk):
@@ -62,33 +69,82 @@ class Passing(Walk):
 
 
 class Examiner:
-    """Looks at one unit. `room` is a folder for its run files."""
+    """Looks at one unit. `room` is a folder for its run files, and `solver` is None where no z3 is asked. `asked_z3` tells whether it was.
+    What z3 is asked with is made for its first question."""
 
     def __init__(self, task, program, solver, room):
         self.task, self.program, self.solver, self.room, self.begun = task, program, solver, room, time.monotonic()
+        self.end = self.begun + task.seconds
         self.procedure = read_procedure(task.text)
         self.text_file = self.file("unit.bpl", task.prelude + task.text)
-        self.text = task.conditions or self.conditions_text()
-        self.conditions = read_conditions(self.text)
-        self.search = Search(self.conditions.vars, new_objects(self.procedure), solver, task.seconds)
-        self.symbolic = symbolic_of(self.conditions, self.search.end)
+        self.found = read_found(task.values, types_of(self.procedure)) if task.values else None
+        self.ends, self.asked_z3 = {}, False
 
-    def conditions_text(self):
+    @functools.cached_property
+    def text(self):
         """The text of the procedure's conditions, as the program writes it."""
-        said = self.program.conditions(self.text_file, self.procedure.name)
-        if said.status != 0:
-            raise NotAsWritten(f"conditions says {said.first()}")
-        return said.out
+        return self.task.conditions or self.program.conditions(self.text_file, is_boogie=True)[self.procedure.name]
 
-    def possible(self):
-        """The terms of each label that are not false at once, in the order of the text, from the label on before which all is proved."""
-        labels = [label for label, _ in self.symbolic.fails]
-        begin = labels.index(self.task.first_open) if self.task.first_open in labels else 0
+    @functools.cached_property
+    def symbolic(self):
+        """The terms of the conditions, as z3 is asked of them."""
+        return symbolic_of(read_conditions(self.text), self.end)
+
+    @functools.cached_property
+    def search(self):
+        """What asks z3, up to the end of the unit's time."""
+        return Search(self.symbolic.vars, new_objects(self.procedure), self.solver, self.end)
+
+    @functools.cached_property
+    def terms(self):
+        """The terms of each label that are not false at once."""
         found = {}
-        for label, term in self.symbolic.fails[begin:]:
+        for label, term in self.symbolic.fails:
             if term is not self.symbolic.logic.false:
                 found.setdefault(label, []).append(term)
         return found
+
+    def possible(self):
+        """The labels that may fail, in the order of the text, from the one on before which all is proved."""
+        labels = self.found.labels if self.found else list(dict.fromkeys([label for label, _ in self.symbolic.fails]))
+        begin = labels.index(self.task.first_open) if self.task.first_open in labels else 0
+        return [it for it in labels[begin:] if self.may_fail(it)]
+
+    def may_fail(self, label):
+        """Whether nothing says at once that a label cannot fail."""
+        return label not in self.found.refuted if self.found else label in self.terms
+
+    def any_of(self, labels, ways=WAYS, part=1.0):
+        """Values at which one of some labels fails; or `unsat` where none can, or why nobody knows. The program's values come first, of
+        which a walk fails at one of these labels; z3 is asked in some ways and for so much of the time that is left."""
+        labels = dict.fromkeys([it for it in labels if self.may_fail(it)])
+        found = next((self.found.values[it] for it in labels if self.end_of(it) in labels), None) if self.found else None
+        if found is not None:
+            return "sat", found
+        if not labels:
+            return "unsat", None
+        if self.solver is None:
+            return NOT_PROVED, None
+        self.asked_z3 = True
+        try:
+            terms = [term for it in labels for term in self.terms.get(it, ())]
+            return self.search.any_of(terms, ways, part) if terms else ("unsat", None)
+        except (NoSolver, TooSlow) as why:
+            if not self.found:
+                raise
+            return f"{why}", None
+
+    def end_of(self, label):
+        """The label at which a run fails on the values that the program found for a label, or None."""
+        if label not in self.ends:
+            values = self.found.values.get(label)
+            self.ends[label] = self.fails_at(values) if values is not None else None
+        return self.ends[label]
+
+    def begin_anew(self):
+        """Has the next question to z3 begin anew."""
+        if "search" in self.__dict__:
+            self.search.begin_anew()
 
     def confirmed_small(self, values: Values, label) -> Failure:
         """Has the program confirm a run that is made small, or where it does not the run as it was."""

@@ -4,8 +4,8 @@ A value is an int (a reference too, where 0 is null), a bool, a Fraction, or a c
 ("pair", a, b). Nothing that a walk says is trusted: the program confirms it."""
 from fractions import Fraction
 
-from .boogie_text import LEAVES
 from .changes import Changes
+from .evaluation import evaluation
 
 DEFAULTS = {"int": 0, "bool": False, "Ref": 0, "real": Fraction(0), "Snap": ("unit",)}
 
@@ -82,19 +82,94 @@ def kind_of(it):
     return "value"
 
 
-def divided(a, by):
-    """The whole quotient whose remainder is not negative; of a division by 0 it is 0."""
-    return 0 if by == 0 else (a - a % abs(by)) // by
+class Code:
+    """The statements of a procedure as functions of a walk, made once. `numbers` has those of its locals, by name."""
+
+    def __init__(self, procedure):
+        self.procedure = procedure
+        self.numbers = {name: n for n, name in enumerate(procedure.locals)}
+        self.forms = {"assign": self.assign, "put": self.put, "havoc": self.havoc, "assume": self.assume, "assert": self.assertion}
+        self.steps, self.count = self.block(procedure.body)
+
+    def block(self, block):
+        """The steps of a block, and how many variables its `havoc`s and `if (*)`s have."""
+        steps, count = [], 0
+        for at, stmt in enumerate(block):
+            if stmt[0] == "if":
+                step, more = self.branch(stmt)
+                count += more
+            else:
+                step = self.forms[stmt[0]](stmt, block[at + 1:at + 3])
+                count += stmt[0] == "havoc"
+            steps.append(step)
+        return steps, count
+
+    def branch(self, stmt):
+        condition = None if stmt[1] is None else evaluation(stmt[1])
+        (yes, first), (no, second) = self.block(stmt[2]), self.block(stmt[3])
+        return lambda walk: walk.branch(condition, yes, first, no, second), (condition is None) + first + second
+
+    def assign(self, stmt, _):
+        name, value = stmt[1], evaluation(stmt[2])
+
+        def step(walk):
+            walk.env[name] = value(walk.env, None)
+        return step
+
+    def put(self, stmt, _):
+        name, keys, value = stmt[1], [evaluation(it) for it in stmt[2]], evaluation(stmt[3])
+
+        def step(walk):
+            env = walk.env
+            env[name] = env[name].put(tuple([it(env, None) for it in keys]), value(env, None))
+        return step
+
+    def havoc(self, stmt, behind):
+        name = stmt[1]
+        frame = framing(behind[0], name) if behind else None
+        return lambda walk: walk.havoc(name, behind, frame)
+
+    def assume(self, stmt, _):
+        holds = evaluation(stmt[1])
+
+        def step(walk):
+            if not holds(walk.env, None):
+                raise End("blocked")
+        return step
+
+    def assertion(self, stmt, _):
+        label, holds = stmt[1], evaluation(stmt[2])
+
+        def step(walk):
+            walk.seen = label
+            if not holds(walk.env, None):
+                raise End("failed", label)
+        return step
 
 
-OPERATORS = {
-    "==": lambda a, b: a == b, "!=": lambda a, b: a != b, "<==>": lambda a, b: a == b,
-    "<": lambda a, b: a < b, "<=": lambda a, b: a <= b, ">": lambda a, b: a > b, ">=": lambda a, b: a >= b,
-    "+": lambda a, b: a + b, "-": lambda a, b: a - b, "*": lambda a, b: a * b,
-    "/": lambda a, b: Fraction(0) if b == 0 else Fraction(a) / b,
-    "div": divided, "mod": lambda a, by: 0 if by == 0 else a % abs(by),
-}
-MOST_STEPS = 5_000_000
+class Opening(dict):
+    """The values that the locals of a procedure have at the begin, by name: each is made when it is first asked for."""
+
+    def __init__(self, code, given):
+        super().__init__()
+        self.code, self.given = code, given
+
+    def __missing__(self, name):
+        found = self.given(self.code.numbers[name])
+        found = self[name] = Map(Outside(found)) if self.code.procedure.locals[name][0] else found
+        return found
+
+
+class Now(dict):
+    """The values that locals have now: those at the begin, where nothing else was set."""
+
+    def __init__(self, opening):
+        super().__init__()
+        self.opening = opening
+
+    def __missing__(self, name):
+        found = self[name] = self.opening[name]
+        return found
 
 
 class Walk:
@@ -105,61 +180,32 @@ class Walk:
 
     def __init__(self, procedure, given):
         self.procedure, self.given, self.taken, self.seen = procedure, given, [], None
-        self.env = {}
-        for n, (name, (keys, _)) in enumerate(procedure.locals.items()):
-            self.env[name] = Map(Outside(given(n))) if keys else given(n)
-        self.opening = dict(self.env)
+        if procedure.code is None:
+            procedure.code = Code(procedure)
+        self.opening = Opening(procedure.code, given)
+        self.env = Now(self.opening)
         self.number = len(procedure.locals)
-        self.counts = {}
 
     def run(self):
         """Runs the procedure, and returns how that ends."""
         try:
-            self.block(self.procedure.body)
+            self.go(self.procedure.code.steps)
         except End as end:
             return end
         return End("done")
 
-    def count(self, block):
-        """How many variables the `havoc`s and `if (*)`s of a block have."""
-        if id(block) not in self.counts:
-            total = 0
-            for stmt in block:
-                if stmt[0] == "havoc":
-                    total += 1
-                elif stmt[0] == "if":
-                    total += (stmt[1] is None) + self.count(stmt[2]) + self.count(stmt[3])
-            self.counts[id(block)] = total
-        return self.counts[id(block)]
+    def go(self, steps):
+        for it in steps:
+            it(self)
 
     def take(self):
         """The next variable from outside."""
         self.number += 1
         return self.given(self.number - 1)
 
-    def block(self, block):
-        for at, stmt in enumerate(block):
-            kind = stmt[0]
-            if kind == "assign":
-                self.env[stmt[1]] = self.value(stmt[2])
-            elif kind == "put":
-                key = tuple(map(self.value, stmt[2]))
-                self.env[stmt[1]] = self.env[stmt[1]].put(key, self.value(stmt[3]))
-            elif kind == "havoc":
-                self.havoc(stmt[1], block[at + 1:at + 3])
-            elif kind == "assume":
-                if not self.value(stmt[1]):
-                    raise End("blocked")
-            elif kind == "assert":
-                self.seen = stmt[1]
-                if not self.value(stmt[2]):
-                    raise End("failed", stmt[1])
-            else:
-                self.branch(stmt)
-
-    def havoc(self, name, behind):
+    def havoc(self, name, behind, frame):
         keys, base = self.procedure.locals[name]
-        value = self.chosen(name, keys, base, behind)
+        value = self.chosen(name, keys, base, behind, frame)
         after = behind[0] if behind else None
         if keys:
             self.env[name] = Map(value)
@@ -168,18 +214,17 @@ class Walk:
             self.env[name] = value
             self.taken.append(Taken("value", value, name, base, after, self.seen))
 
-    def chosen(self, name, keys, base, behind):
+    def chosen(self, name, keys, base, behind, frame):
         """The value that a `havoc` gives: what is given from outside, but for what the assumptions behind it decide."""
         value = self.take()
-        return self.framed(name, value, behind) if keys else self.part(name, base, value, behind)
+        return self.framed(value, frame) if keys else self.part(name, base, value, behind)
 
-    def framed(self, name, value, behind):
+    def framed(self, value, frame):
         """A map that agrees with another one where a third is not zero, as
         `assume (forall q :: held[q] != 0.0 ==> old[q] == new[q])` says."""
-        found = framing(behind[0], name) if behind else None
-        if not found:
+        if frame is None:
             return Outside(value)
-        held, old = self.env[found[0]], self.env[found[1]]
+        held, old = self.env[frame[0]], self.env[frame[1]]
 
         def at(key):
             if held.get(key) != 0:
@@ -205,69 +250,20 @@ class Walk:
                 return value
         return value
 
-    def branch(self, stmt):
-        if stmt[1] is None:
+    def branch(self, condition, yes, first, no, second):
+        """Goes through one of two blocks, which have so many variables."""
+        if condition is None:
             goes = self.take()
             self.taken.append(Taken("pick", goes, None, "bool", None, self.seen))
         else:
-            goes = self.value(stmt[1])
-        start, first = self.number, self.count(stmt[2])
+            goes = condition(self.env, None)
+        start = self.number
         if goes:
-            self.block(stmt[2])
+            self.go(yes)
         else:
             self.number += first
-            self.block(stmt[3])
-        self.number = start + first + self.count(stmt[3])
-
-    def value(self, e, bound=None):
-        """The value of an expression; `bound` has those of the names that a `forall` binds."""
-        kind = e[0]
-        if kind == "name":
-            return bound[e[1]] if bound and e[1] in bound else self.env[e[1]]
-        if kind == "bin":
-            return self.binary(e[1], e[2], e[3], bound)
-        if kind == "at":
-            return self.env[e[1]].get(tuple([self.value(it, bound) for it in e[2]]))
-        if kind == "int" or kind == "bool":
-            return e[1]
-        if kind == "real":
-            return Fraction(e[1])
-        if kind == "null":
-            return 0
-        if kind == "unit":
-            return ("unit",)
-        if kind == "not":
-            return not self.value(e[1], bound)
-        if kind == "neg":
-            return -self.value(e[1], bound)
-        if kind == "if":
-            return self.value(e[2] if self.value(e[1], bound) else e[3], bound)
-        if kind == "toreal":
-            return Fraction(self.value(e[1], bound))
-        if kind == "con":
-            values = [self.value(it, bound) for it in e[2]]
-            return ("pair", *values) if e[1] == "sPair" else ("leaf", LEAVES[e[1]], values[0])
-        return self.everywhere(e)
-
-    def everywhere(self, e):
-        """Whether the body of a `forall` is true where one of its maps was changed or looked at, and where none was."""
-        names = [name for name, _ in e[1]]
-        keys = {tuple(-1 if base == "int" else 0 for _, base in e[1]): None}
-        for name in maps_of(e[2], names):
-            it = self.env[name]
-            keys.update(dict.fromkeys(it.changed))
-            keys.update(dict.fromkeys(it.source.touched))
-        return all([self.value(e[2], dict(zip(names, key))) for key in keys])
-
-    def binary(self, sign, left, right, bound):
-        a = self.value(left, bound)
-        if sign == "&&":
-            return a and self.value(right, bound)
-        if sign == "||":
-            return a or self.value(right, bound)
-        if sign == "==>":
-            return not a or self.value(right, bound)
-        return OPERATORS[sign](a, self.value(right, bound))
+            self.go(no)
+        self.number = start + first + second
 
 
 def framing(stmt, name):
@@ -281,14 +277,3 @@ def framing(stmt, name):
     held, zero, old, new = body[2][2], body[2][3], body[3][2], body[3][3]
     fits = held[0] == "at" and held[2] == keys and zero == ("real", 0) and old[0] == "at" and old[2] == keys and new == ("at", name, keys)
     return (held[1], old[1]) if fits and name not in (held[1], old[1]) else None
-
-
-def maps_of(e, names):
-    """The maps that the body of a `forall` indexes by the names that it binds."""
-    found, todo, keys = {}, [e], tuple(("name", it) for it in names)
-    while todo:
-        it = todo.pop()
-        if it[0] == "at" and it[2] == keys:
-            found[it[1]] = None
-        todo += [part for part in it[1:] if isinstance(part, tuple) and part and isinstance(part[0], str)]
-    return list(found)

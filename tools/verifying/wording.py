@@ -1,47 +1,10 @@
-"""Terms of a file in the words of a reader: spelled with what stands for the parameters of a contract, and with the values of their parts."""
+"""Terms of a file with the values of their parts."""
 from .meaning import Blocks, Fails
-from .terms import LITERALS, nodes_of
+from .stand_ins import Spelling
+from .terms import LITERALS
 from .values import word
 
 COMPARISONS = ("==", "!=", "<", "<=", ">", ">=")
-TIGHT = ("leaf", "field", "call", "old", "none")
-MOST = 80   # the most characters of a term that is spelled
-
-
-class Spelling:
-    """Spells terms as they are read in a scene: a parameter of a contract or of a body as the argument that stands for it."""
-
-    def __init__(self, source):
-        self.source = source
-
-    def of(self, node, scene, most=MOST):
-        """The text of a term, without the brackets around it."""
-        first, last = node.first, node.last
-        while first < last and self.source.said(first) == "(" and self.source.closing.get(first) == last:
-            first, last = first + 1, last - 1
-        others = self.replaced(node, scene)
-        text, before = "", None
-        for n in range(first, last + 1):
-            it = self.source.tokens[n]
-            gap = " " if before is not None and it.start > before else ""
-            text += gap + others.get(n, it.text)
-            before = it.end
-            if len(text) > most:
-                return text[:most].rstrip() + " .."
-        return text
-
-    def replaced(self, node, scene):
-        """What stands for the variables of a term, by their tokens."""
-        found = {}
-        for it, around in nodes_of(node) if scene is not None and scene.given else ():
-            stands = scene.given.get(self.source.said(it.at)) if it.kind == "leaf" else None
-            if isinstance(stands, str):
-                found[it.at] = stands
-            elif stands is not None:
-                text = self.of(stands, scene.around)
-                is_alone = stands.kind in TIGHT or around is None or around.kind == "call"
-                found[it.at] = text if is_alone else f"({text})"
-        return found
 
 
 class Atom:

@@ -12,19 +12,19 @@ from .deciding import Decider, Wants
 from .program import NoProgram, Program
 from .results import CERTIFY, PROVE, Result, Teller, unknown
 from .smoke import unreached
-from .solver import NoSolver, Solver
+from .solver import NoSolver, Solver, is_there
 from .symbolic import TooSlow
-from .units import UNDECIDED, VERIFIED, Examiner, Task
+from .units import NOT_PROVED, UNDECIDED, VERIFIED, Examiner, Task
 
-NOT_PROVED, SPENT = "no proof was found", "no proof was found in the steps of its budget"
+SPENT = "no proof was found in the steps of its budget"
 MINE = None     # what this process keeps from one unit to the next
 
 
 class Mine:
-    """A solver, a folder, what earlier calls found, and the last file that was looked at."""
+    """A solver where z3 is there, a folder, what earlier calls found, and the last file that was looked at."""
 
     def __init__(self, program, room, cache):
-        self.program, self.solver, self.cache = Program(program), Solver(), cache
+        self.program, self.solver, self.cache = Program(program), Solver() if is_there() else None, cache
         self.room = tempfile.mkdtemp(dir=room)
         self.path, self.source = None, None
 
@@ -41,13 +41,13 @@ def begin(program, room, cache=None):
     MINE = Mine(program, room, cache or Cache())
 
 
-def prepared(_, path, data, room, wants_text):
+def prepared(_, path, data, room, wants_text, is_for_z3):
     """A file and its units."""
-    return files.given(path, data, MINE.program, room, wants_text)
+    return files.given(path, data, MINE.program, room, wants_text, is_for_z3)
 
 
 class Examined(NamedTuple):
-    """What is told of a unit, and where it is verified on z3's word the text of its conditions."""
+    """What is told of a unit, and where a certificate of it may be looked for the text of its conditions."""
     result: Result
     conditions: Optional[str]
 
@@ -68,13 +68,12 @@ def looked_at(tell, given, unit, options):
         found = checked(MINE.program, MINE.room, given, unit, known.certificate)
         if found.certificate is not None:
             return Examined(Result(unit.name, VERIFIED, "", [], [], [CERTIFY], found, time.monotonic() - start), None)
-    task = Task(given.copy, given.prelude, unit.text, given.bare, given.is_boogie, options.seconds, unit.conditions, unit.first_open)
     source = MINE.source_of(given)
     teller = Teller(source, unit.name, given.is_boogie, options.wants_all_runs(), options.trace, options.runs)
-    if not options.z3:
+    if not unit.values and MINE.solver is None:
         return Examined(not_shown(teller, unit, time.monotonic() - start), None)
     wants = Wants(options.all or options.json, options.runs, options.runs and options.all_runs, options.errors)
-    examiner = Examiner(task, MINE.program, MINE.solver, MINE.room)
+    examiner = Examiner(task_of(given, unit, options.seconds), MINE.program, MINE.solver, MINE.room)
     labels = []
 
     def told(mistake):
@@ -86,8 +85,14 @@ def looked_at(tell, given, unit, options):
     outcome = decider.outcome()
     MINE.cache.keep(unit.text, Known(None, decider.runs))
     open_ = [teller.open(label, why) for label, why in outcome.open.items()]
-    result = Result(unit.name, outcome.verdict, "", labels, open_, teller.told_by(outcome), None, time.monotonic() - start)
-    return Examined(result, examiner.text if outcome.verdict == VERIFIED else None)
+    told_by = teller.told_by(outcome, examiner.asked_z3 or examiner.found is None)
+    result = Result(unit.name, outcome.verdict, "", labels, open_, told_by, None, time.monotonic() - start)
+    return Examined(result, examiner.text if outcome.verdict == VERIFIED and not given.is_searched else None)
+
+
+def task_of(given, unit, seconds) -> Task:
+    """A unit of a file, as it is looked at."""
+    return Task(given.copy, given.prelude, unit.text, given.bare, given.is_boogie, seconds, unit.conditions, unit.first_open, unit.values)
 
 
 def not_shown(teller, unit, seconds) -> Result:

@@ -1,4 +1,4 @@
-"""Checks a certificate as docs/certificates.md says, written apart from the proved program `certify`, to compare the two.
+"""Checks a certificate as docs/certificates.md says, written apart from the proved program `prove`, to compare the two.
 
 Numbers have 100 digits here, and a term or a step names only what stands above it."""
 from .check_steps import Checker

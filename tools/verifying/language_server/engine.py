@@ -11,16 +11,16 @@ from ..deciding import Decider, Wants
 from ..helping import help_of
 from ..processes import deep
 from ..program import NoProgram
-from ..results import Teller, shown_of
+from ..results import Teller, not_confirmed, shown_of
 from ..retelling import Retold
 from ..shown_run import run_of
 from ..smoke import unreached
 from ..solver import NoSolver
+from ..source import without_bodies
 from ..symbolic import TooSlow
-from ..units import FAILS, UNDECIDED, VERIFIED, Examiner, Task
+from ..units import FAILS, UNDECIDED, VERIFIED, Examiner
 from .findings import Finding, Verdict
 from .suggestions import suggestions
-from .units import without_bodies
 
 TROUBLE = (NoSolver, NotAsWritten, NoProgram, TooSlow, RecursionError, MemoryError, OSError)
 
@@ -61,7 +61,7 @@ def looked_through(path, data, room, known):
         lines = said.error.strip().splitlines()
         return refused(source, lines[-1] if lines else f"the program ended with status {said.status}")
     write(text, said.out.encode())
-    given = work.prepared(None, path, without_bodies(source, known), room, True)
+    given = work.prepared(None, path, without_bodies(source, known), room, True, False)
     if given.refused:
         return refused(source, given.reason)
     return Translated(given._replace(units=[]), (), tuple(given.units), known, whole, text)
@@ -92,8 +92,7 @@ class Unit:
     def look(self):
         """Looks at it, and tells what is known: each mistake when it is found, and then whether it is verified, with its certificate."""
         mine, settings, unit = work.MINE, self.settings, self.unit
-        task = Task(self.given.copy, self.given.prelude, unit.text, self.given.bare, False, settings.seconds, unit.conditions, unit.first_open)
-        examiner = Examiner(task, mine.program, mine.solver, mine.room)
+        examiner = Examiner(work.task_of(self.given, unit, settings.seconds), mine.program, mine.solver, mine.room)
         outcome = Decider(examiner, self.source, Wants(False, True, False, settings.errors), self.mistake, {}).outcome()
         if outcome.verdict != VERIFIED:
             self.help(examiner)
@@ -102,7 +101,7 @@ class Unit:
         self.say(VERIFIED, [], is_whole=False)
         found = unreached(mine.program, mine.solver, mine.room, self.source, [unit.name], settings.seconds) if settings.smoke else []
         spots = [Finding(it.line, it.column, "warning", "unreached", it.words) for it in found]
-        shown = certified(mine.program, mine.room, self.given, unit, examiner.text, examiner.search.end) if not self.given.is_searched else None
+        shown = certified(mine.program, mine.room, self.given, unit, examiner.text, examiner.end) if not self.given.is_searched else None
         self.say(VERIFIED, spots, True, shown)
 
     def help(self, examiner):
@@ -123,16 +122,18 @@ class Unit:
         names = [failure.label for failure in it.failures]
         told, labels = failures.joined(self.source, names)[0][0], [self.teller.label(failure, "", True) for failure in it.failures]
         if labels[0].confirmed:
+            shown = next(n for n, label in enumerate(labels) if label.label == shown_of(it).label)
+            told.message = labels[shown].message
             self.helped += [(len(self.findings), shown_of(it))] * it.is_shown
-            self.findings.append(self.finding(names[0], told))
+            self.findings.append(self.finding(names[0], told, shown))
             self.runs += [run_of(self.unit.name, label) for label in labels]
         else:
-            self.findings.append(not_confirmed(labels[0]))
+            self.findings.append(Finding(labels[0].line, labels[0].column, "warning", "not-confirmed", not_confirmed(labels[0])))
         self.say(FAILS, [], is_whole=False)
 
-    def finding(self, label, told):
-        """What is told of a label, whose run is the next one."""
-        found = Finding(told.line, told.column, "error", label.split()[-1], told.message, tuple(told.notes), (), len(self.runs))
+    def finding(self, label, told, shown):
+        """What is told of a label, of whose next runs the one with a number is shown."""
+        found = Finding(told.line, told.column, "error", label.split()[-1], told.message, tuple(told.notes), (), len(self.runs) + shown)
         if following.own_label(self.source, label):
             found = found._replace(part=failures.read(label).part, home=following.home_of(self.source, label))
         return found
@@ -159,11 +160,6 @@ def examined(given, unit, settings, tell):
         Unit(given, unit, settings, tell).look()
     except TROUBLE as why:
         tell(undecided(unit, f"{why}" or type(why).__name__))
-
-
-def not_confirmed(label):
-    return Finding(label.line, label.column, "warning", "not-confirmed",
-                   f"not confirmed: z3 says that this can fail: {label.message}; but {label.why}")
 
 
 def proved(unit) -> Verdict:

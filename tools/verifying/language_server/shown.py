@@ -24,7 +24,7 @@ def lens(document, live, unit):
     if verdict.is_proved:
         return "proved: keep certificate", "remduska.keepCertificate", arguments
     sought = ", certificate sought" if not verdict.is_whole and live.is_open(unit.name) else ""
-    return f"verified on z3's word{sought}", "", arguments
+    return f"verified, not proved{sought}", "", arguments
 
 
 def code_lenses(document, live):

@@ -49,17 +49,6 @@ def digests(source):
     return {it.name: parts.digest(it) for it in source.units if source.declared.get(it.name) is it and it.kind != "field"}
 
 
-def without_bodies(source, names):
-    """The bytes of a file with blanks for the bodies of some methods: all others are as they are, and stand where they stand."""
-    data = bytearray(source.data)
-    for unit in source.units:
-        closing = source.closing.get(unit.brace) if unit.kind == "method" and unit.name in names else None
-        if closing is not None:
-            begin, end = source.tokens[unit.brace].start, source.tokens[closing].end
-            data[begin:end] = bytes([it if it in b"\r\n" else 32 for it in data[begin:end]])
-    return bytes(data)
-
-
 class Moved:
     """Places of one version of a file in another one, in which the units that are asked of have the same tokens."""
 

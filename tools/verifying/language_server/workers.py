@@ -127,7 +127,7 @@ def done(kind, values, room, send):
     """Does a job, and sends what is told of it: whether it is the last, and the thing or what went wrong."""
     try:
         if kind == "find":
-            send((True, found_programs(), None))
+            send((True, program.find(), None))
         elif kind == "begin":
             work.begin(*values, room)
         elif kind == "translate":
@@ -138,11 +138,6 @@ def done(kind, values, room, send):
         raise
     except Exception as fault:      # what these scripts did wrong, so that the server goes on
         send((True, None, f"{type(fault).__name__}: {fault}" if not isinstance(fault, program.NoProgram) else str(fault)))
-
-
-def found_programs():
-    """The programs that are asked: the one that proves files where there is one."""
-    return program.find("prove") if program.has_prove() else program.find("conditions", "certify")
 
 
 class Workers:

@@ -1,4 +1,4 @@
-"""The conditions of a procedure, as the program `conditions` writes them: for tests, which need no program."""
+"""The conditions of a procedure, as the command `conditions` of `prove` writes them: for tests, which need no program."""
 from verifying.boogie_text import Procedure
 from verifying.conditions import Conditions
 
@@ -21,7 +21,6 @@ class Builder:
         self.before = {}
         self.path = self.let(TRUE)
         self.block(procedure.body)
-        self.found.ends = self.path
 
     def var(self, ty):
         name = f"v{len(self.found.vars) + 1}"

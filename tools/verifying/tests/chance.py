@@ -3,7 +3,8 @@ from fractions import Fraction
 
 from verifying.boogie_text import Procedure
 from verifying.question import reached
-from verifying.walk import DEFAULTS, OPERATORS
+from verifying.evaluation import OPERATORS
+from verifying.walk import DEFAULTS
 
 INT, REAL, REF, SNAP = ((), "int"), ((), "real"), ((), "Ref"), ((), "Snap")
 MAP, MASK = (("Ref",), "Ref"), (("Ref",), "real")

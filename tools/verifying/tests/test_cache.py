@@ -186,8 +186,7 @@ class Calls(Rooms):
     def setUp(self):
         super().setUp()
         self.kept = os.path.join(self.room, "remduska/units")
-        paths = find("conditions", "certify")
-        self.program = Program(paths)
+        self.program = Program(find())
 
     def verify(self, *words, path=None):
         variables = {**os.environ, "XDG_CACHE_HOME": self.room, "PATH": path or os.environ["PATH"]}

@@ -1,4 +1,4 @@
-"""What the program `certify` says of certificates that are changed by hand: one for each reason. Skipped where it was not built."""
+"""What `certify-boogie` says of certificates that are changed by hand: one for each reason. Skipped where `prove` was not built."""
 import os
 import subprocess
 import tempfile
@@ -6,13 +6,12 @@ import unittest
 
 from verifying.program import TOP
 
-CERTIFY = os.environ.get("REMDUSKA_CERTIFY") or os.path.join(TOP, "crates/certify/out/certify")
-DATA = os.path.join(TOP, "crates/certify/data")
+PROVE = os.environ.get("REMDUSKA_PROVE") or os.path.join(TOP, "crates/prove/out/prove")
+DATA = os.path.join(TOP, "crates/prove/data")
 GREATEST = (1 << 127) - 1
 
 # The number of the line of right.cert that another one takes the place of, that line, and what is told.
 REFUSED = (
-    (1, "certificate other", "1 header"),
     (17, "gates 8 1", "17 word"),
     (5, "int 02", "5 number"),
     (5, f"int {GREATEST + 1}", "5 number"),
@@ -32,14 +31,14 @@ REFUSED = (
 )
 
 
-@unittest.skipUnless(os.access(CERTIFY, os.X_OK), "certify was not built")
+@unittest.skipUnless(os.access(PROVE, os.X_OK), "prove was not built")
 class Certify(unittest.TestCase):
     def says(self, text):
         with tempfile.NamedTemporaryFile("w", suffix=".cert") as it:
             it.write(text)
             it.flush()
-            done = subprocess.run([CERTIFY, os.path.join(DATA, "right.bpl"), "go", it.name], stdout=subprocess.PIPE, stderr=subprocess.PIPE,
-                                  universal_newlines=True)
+            done = subprocess.run([PROVE, "certify-boogie", os.path.join(DATA, "right.bpl"), it.name], stdout=subprocess.PIPE,
+                                  stderr=subprocess.PIPE, universal_newlines=True)
         return done.returncode, done.stdout, done.stderr
 
     def setUp(self):
@@ -47,10 +46,13 @@ class Certify(unittest.TestCase):
             self.lines = it.read().split("\n")[:-1]
 
     def refused(self, text, told):
-        self.assertEqual(self.says(text), (1, "", f"error: certificate {told}\n"), told)
+        self.assertEqual(self.says(text), (10, f"open go certificate {told}\n", ""), told)
 
     def test_a_certificate_is_accepted(self):
-        self.assertEqual(self.says("\n".join(self.lines) + "\n"), (0, "accepted\n", ""))
+        self.assertEqual(self.says("\n".join(self.lines) + "\n"), (0, "proved go\n", ""))
+
+    def test_a_certificate_of_another_procedure_is_refused(self):
+        self.assertEqual(self.says("\n".join(["certificate other", *self.lines[1:]]) + "\n"), (1, "", "error: certificate 1 header\n"))
 
     def test_each_reason_is_told_at_its_line(self):
         for number, line, told in REFUSED:

@@ -198,7 +198,7 @@ class Calls(unittest.TestCase):
                                     stdout=subprocess.PIPE, env={**os.environ, "TMPDIR": room})
             call.stdin.write(slow.encode())
             call.stdin.close()
-            while not any([os.listdir(os.path.join(room, it)) for it in os.listdir(room)]):
+            while not any([os.listdir(it.path) for it in os.scandir(room) if it.is_dir()]):
                 time.sleep(0.05)
             call.terminate()
             self.assertEqual((call.wait(60), os.listdir(room)), (143, []))
@@ -217,7 +217,7 @@ class Calls(unittest.TestCase):
             status, out, _ = self.verify("--json", "--keep", room, "examples/list.vpr")
             units = [json.loads(it) for it in out.splitlines()]
             self.assertEqual((status, [it["checked"] for it in units]), (0, [True] * 6))
-            words = [find("prove").prove, "certify", f"{TOP}/examples/list.vpr", os.path.join(room, "examples_list.vpr.cert")]
+            words = [find().prove, "certify", f"{TOP}/examples/list.vpr", os.path.join(room, "examples_list.vpr.cert")]
             said = subprocess.run(words, stdout=subprocess.PIPE, universal_newlines=True).stdout
             self.assertEqual(said, "".join([f"proved {it['unit']}\n" for it in units]))
 
@@ -300,4 +300,4 @@ class Calls(unittest.TestCase):
     def test_a_program_of_boogie_fails_in_replay(self):
         status, out, _ = self.verify("examples/dice_wrong.bpl")
         self.assertEqual(status, 1)
-        self.assertIn("as `replay` says", out)
+        self.assertIn("  This run of `sixes` fails there:\n", out)

@@ -7,7 +7,7 @@ from verifying.boogie_text import NotAsWritten, procedure_texts, read_procedure
 from verifying.conditions import read_conditions
 from verifying.question import Question
 from verifying.search import new_objects
-from verifying.smaller import Smaller, Values
+from verifying.smaller import FRESH, Smaller, Values
 from verifying.symbolic import symbolic_of
 from verifying.walk import Walk
 
@@ -82,7 +82,7 @@ class ConditionsOfProcedures(unittest.TestCase):
         self.assertEqual(list(found.vars), ["v1", "v2"])
         self.assertEqual(found.lets, [("d1", ("bool", True)), ("d2", ("bin", "<", ("name", "v2"), ("int", 3))),
                                       ("d3", ("bin", "&&", path, ("not", condition))), ("d4", ("bin", "&&", path, condition))])
-        self.assertEqual((found.fails, found.ends), ([("1:2 1:3 false", "d3")], "d4"))
+        self.assertEqual(found.fails, [("1:2 1:3 false", "d3")])
 
     def test_behind_a_branch_what_either_side_changed_is_chosen(self):
         found = conditions_of(read_procedure("procedure p() { var x: int; var y: int; if (*) { x := 1; } else { y := x; } x := y; }"))
@@ -96,13 +96,6 @@ class ConditionsOfProcedures(unittest.TestCase):
         self.assertEqual((found.fails, found.vars), ([("1:2 1:3 false", "d3")], {"v1": ((), "int")}))
         symbolic = symbolic_of(found)
         self.assertEqual(Question([symbolic.fails[0][1]], found.vars).asked, ["(>= v1 3)"])
-
-    def test_the_path_at_the_end_of_a_text_is_known(self):
-        text = ("conditions p\nvar v1: bool\nvar v2: bool\nlet d1 := true\nlet d2 := (v1 && v2)\nlet d3 := (d1 && v2)\nlet d4 := (v1 || v2)\n"
-                "let d5 := (d1 && (! v2))\nlet d6 := (d3 || d5)\nlet d7 := (d6 && (! d4))\nfails 1:2 1:3 false d7\n")
-        self.assertEqual(read_conditions(text).ends, "d6")
-        self.assertEqual(read_conditions(text.replace("fails", "let d8 := (d6 && d4)\nfails")).ends, "d8")
-        self.assertEqual(read_conditions("conditions p\nlet d1 := true\n").ends, "d1")
 
     def test_a_formula_of_vc_is_read(self):
         text = ("vc go 1:20 1:27 false\nvar v1: int\nvar v2: int\nlet d1 := true\nlet d2 := false\nlet d3 := (d1 && (v2 < 3))\n"
@@ -125,7 +118,7 @@ class Runs(unittest.TestCase):
         self.assertEqual(run_files.boogie_run(walk, False),
                          "boogie run M$m\nvar v$x #1\nvar v$n 1\npick true\nvalue #4\nentries\nat #1 -1\n")
         self.assertEqual(run_files.viper_run(walk, frozenset()).text(),
-                         "viper run\nvar x #1\nvar n 1\npick true\nfresh #4\nstate\n")
+                         "viper run\nvar x #1\nvar n 1\npick true\nfresh #2\nstate\n")
 
     def test_a_run_file_is_read_back(self):
         walk = Walk(procedure(), self.values().given)
@@ -137,7 +130,7 @@ class Runs(unittest.TestCase):
 
     def test_values_are_made_simpler_as_long_as_the_walk_fails_alike(self):
         found = Smaller(procedure(), self.values(), "3:1 3:3 false").found()
-        self.assertEqual(found.scalars, {0: 1, 1: 1, 7: True, 8: 4})
+        self.assertEqual(found.scalars, {0: 1, 1: 1, 7: True, 8: 1})
         self.assertEqual(found.tables, {})
 
     def test_contents_are_made_simpler_where_the_run_does_not_open_them(self):
@@ -147,6 +140,32 @@ havoc s; havoc l; havoc r; assume (s == sPair(l, r)); havoc w; assume (l == sInt
         inner = ("pair", ("leaf", "int", 8), ("pair", ("leaf", "Ref", 4), ("unit",)))
         found = Smaller(opened, Values(types, {4: ("pair", ("leaf", "int", 50), inner)}, {}), "1:1 1:2 false").found()
         self.assertEqual(found.scalars, {4: ("pair", ("leaf", "int", 3), ("unit",))})
+
+    def test_a_loop_is_entered_and_what_is_given_are_objects(self):
+        text = """procedure p() { var v$x: Ref; var v$y: Ref; var v$p: real; var v$q: real; var v$i: Ref; var h: [Ref]Ref;
+assume (v$p > 0.0); assume (v$q > v$p); havoc v$i; if (*) { assert {:msg "1:1 1:2 false"} (h[v$x] == null); } else {
+assert {:msg "1:1 1:2 false"} (h[v$x] == null); } v$i := null; }"""
+        read = read_procedure(text)
+        values = Values(list(conditions_of(read).vars.values()), {0: 7, 2: Fraction(1), 3: Fraction(3), 6: 9, 7: False}, {5: {(7,): 12}})
+        found = Smaller(read, values, "1:1 1:2 false").found()
+        self.assertEqual(found.scalars, {0: 7, 1: FRESH + 1, 2: Fraction(1, 2), 3: Fraction(1), 6: 7, 7: True})
+        self.assertEqual(found.tables, {5: {(7,): 12}})
+
+    def test_integers_are_moved_until_none_is_negative(self):
+        text = """procedure p() { var v$a: int; var v$b: int; var c: [int]Snap; var s: Snap; var w: int;
+assume (v$a > v$b); s := c[v$b]; havoc w; assume (s == sInt(w)); assert {:msg "1:1 1:2 false"} (w >= v$a); }"""
+        read = read_procedure(text)
+        types = list(conditions_of(read).vars.values())
+        for a, moved in ((-1, {0: 2, 1: 0}), (5, {0: 5, 1: 3})):
+            values = Values(types, {0: a, 1: a - 2}, {2: {(a - 2,): ("leaf", "int", a - 1)}})
+            small = Smaller(read, values, "1:1 1:2 false")
+            small.from_none_on()
+            self.assertEqual({n: small.values.scalars[n] for n in (0, 1)}, moved)
+            self.assertEqual(small.values.tables, {2: {(moved[1],): ("leaf", "int", moved[1] + 1)}})
+
+    def test_references_are_numbered_as_they_appear(self):
+        self.assertEqual(run_files.numbered([["viper run", "var x #7", "heap g #7 #3"], ["fresh #12", "value #3"]]),
+                         [["viper run", "var x #1", "heap g #1 #2"], ["fresh #3", "value #2"]])
 
     def test_contents_are_spelled_and_read(self):
         value = ("pair", ("leaf", "real", Fraction(1, 2)), ("pair", ("unit",), ("leaf", "Ref", 0)))

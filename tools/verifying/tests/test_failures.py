@@ -34,84 +34,83 @@ method m(x: Ref, k: Int) returns (v: Int)\r
   assert v == w &&\r
     ((w > 0))\r
 }""")
-READ = "`x.f` is read, and `x` may be null, or `x.f` may not be held"
-OF_LOOP, OF_BODY = "of this loop", "at the end of this body"
+READ = "`x.f` is read, and might not be held"
+OF_LOOP = "of this loop"
 OF_LIST, IN_LIST = "this part of the body of predicate `list`", "in the body of predicate `list`"
 CROWDED_CASES = (
-    ("3:34 3:73 null", Told(3, 73, "the body of predicate `cell` may not be well-defined by itself: `x.f` is read, and `x` may be null")),
-    ("4:1 4:95 perm", Told(4, 95, "the precondition of `while$` may not be well-defined by itself: `x.f` is read, and may not be held")),
-    ("4:1 4:91 div", Told(4, 91, "the precondition of `while$` may not be well-defined by itself: the divisor `x.f` may be 0")),
-    ("5:10 5:34 false", Told(5, 34, "an invariant may not hold where the loop begins: `r >= 0` may be false", [(5, 10, OF_LOOP)])),
-    ("5:10 5:50 perm", Told(5, 50, "an invariant may not hold where the loop begins: there may be too little permission to `x.f`",
+    ("3:34 3:73 null", Told(3, 73, "the body of predicate `cell` might not be well-defined by itself: `x.f` is read, and `x` might be null")),
+    ("4:1 4:95 perm", Told(4, 95, "the precondition of `while$` might not be well-defined by itself: `x.f` is read, and might not be held")),
+    ("4:1 4:91 div", Told(4, 93, "the precondition of `while$` might not be well-defined by itself: the divisor `x.f` might be 0")),
+    ("5:10 5:34 false", Told(5, 34, "an invariant might not hold where the loop begins: `r >= 0` might be false", [(5, 10, OF_LOOP)])),
+    ("5:10 5:50 perm", Told(5, 50, "an invariant might not hold where the loop begins: there might be too little permission to `x.f`",
                             [(5, 10, OF_LOOP)])),
-    ("5:10 5:65 div", Told(5, 65, "an invariant may not be well-defined: the divisor `n` may be 0", [(5, 10, OF_LOOP)])),
-    ("5:87 5:111 false", Told(5, 111, "an invariant may not hold where the loop begins: `r != 7` may be false", [(5, 87, OF_LOOP)])),
-    ("5:118 5:111 false", Told(5, 111, "an invariant may not hold at the end of a turn: `r != 7` may be false", [(5, 118, OF_BODY)])),
-    ("5:74 5:65 div", Told(5, 65, "an invariant may not be well-defined at the end of a turn: the divisor `n` may be 0",
-                           [(5, 74, OF_BODY)])),
-    ("5:120 5:127 perm", Told(5, 127, "`x.f` is read, and may not be held")),
-    ("5:133 5:135 null", Told(5, 135, "`x.f` is written, and `x` may be null")),
-    ("5:133 5:135 perm", Told(5, 135, "`x.f` is written, and may not be held in full")),
-    ("6:13 6:20 null", Told(6, 20, "`x.method$` is read, and `x` may be null")),
-    ("6:28 3:111 perm", Told(6, 28, "a precondition of `cell'` may not hold at this call: there may be too little permission to `cell(x)`",
+    ("5:10 5:65 div", Told(5, 67, "an invariant might not be well-defined: the divisor `n` might be 0", [(5, 10, OF_LOOP)])),
+    ("5:87 5:111 false", Told(5, 111, "an invariant might not hold where the loop begins: `r != 7` might be false", [(5, 87, OF_LOOP)])),
+    ("5:118 5:111 false", Told(5, 111, "an invariant might not hold at the end of an iteration: `r != 7` might be false")),
+    ("5:74 5:65 div", Told(5, 67, "an invariant might not be well-defined at the end of an iteration: the divisor `n` might be 0")),
+    ("5:120 5:127 perm", Told(5, 127, "`x.f` is read, and might not be held")),
+    ("5:133 5:135 null", Told(5, 135, "`x.f` is written, and `x` might be null")),
+    ("5:133 5:135 perm", Told(5, 135, "`x.f` is written, and might not be held in full")),
+    ("6:13 6:20 null", Told(6, 20, "`x.method$` is read, and `x` might be null")),
+    ("6:28 3:111 perm", Told(6, 28, "a precondition of `cell'` might not hold at this call: there might be too little permission to `cell(x)`",
                              [(3, 111, "this part of the precondition")])),
-    ("8:18 8:25 false", Told(8, 25, "this assert may fail: `true` may be false")),
-    ("8:32 8:42 null", Told(8, 42, "`x.f` is read, and `x` may be null")),
-    ("5:1 4:128 false", Told(4, 128, "a postcondition of `while$` may not hold at the end of the body: `r > 0` may be false",
-                             [(5, 1, OF_BODY)])),
-    ("4:8 4:116 negative", Told(4, 116, "the postcondition of `while$` may not be well-defined by itself: "
-                                        "the amount `1/2` of `x.f` may be negative")),
+    ("8:18 8:25 false", Told(8, 25, "this assert might fail: `true` might be false")),
+    ("8:32 8:42 null", Told(8, 42, "`x.f` is read, and `x` might be null")),
+    ("5:1 4:128 false", Told(4, 128, "a postcondition of `while$` might not hold at the end of the body: `r > 0` might be false")),
+    ("4:8 4:116 negative", Told(4, 119, "the postcondition of `while$` might not be well-defined by itself: "
+                                        "the amount `1/2` of `x.f` might be negative")),
 )
 LIST_CASES = (
-    ("4:1 5:34 perm", Told(5, 34, "the precondition of `m` may not be well-defined by itself: "
-                                  "`list(x)` is unfolded, and too little of it may be held")),
-    ("4:1 3:82 null", Told(5, 24, "the precondition of `m` opens `list`, whose body may not be well-defined: "
-                                 "`x.next` is read, and `x` may be null", [(3, 82, IN_LIST)])),
-    ("8:3 8:14 amount", Told(8, 14, "the amount `1/k` of `list(x)` may not be positive")),
-    ("8:3 8:14 perm", Told(8, 14, "this unfold may fail: there may be too little permission to `list(x)`")),
-    ("8:3 3:58 perm", Told(8, 3, "the body of `list` may not be well-defined in this unfold: `x.next` is read, and may not be held",
+    ("4:1 5:34 perm", Told(5, 34, "the precondition of `m` might not be well-defined by itself: "
+                                  "`list(x)` is unfolded, and too little of it might be held")),
+    ("4:1 3:82 null", Told(5, 24, "the precondition of `m` opens `list`, whose body might not be well-defined: "
+                                 "`x.next` is read, and `x` might be null", [(3, 82, IN_LIST)])),
+    ("8:3 8:14 amount", Told(8, 23, "the amount `1/k` of `list(x)` might not be positive")),
+    ("8:3 8:14 perm", Told(8, 14, "this unfold might fail: there might be too little permission to `list(x)`")),
+    ("8:3 3:58 perm", Told(8, 3, "the body of `list` might not be well-defined in this unfold: `x.next` is read, and might not be held",
                            [(3, 58, OF_LIST)])),
-    ("9:3 9:18 perm", Told(9, 18, "`list(x.next)` is unfolded, and too little of it may be held")),
-    ("9:3 9:41 null", Told(9, 41, "`x.next.val` is read, and `x.next` may be null")),
-    ("9:3 3:58 perm", Told(9, 8, "an unfolding here opens `list`, whose body may not be well-defined: "
-                                 "`x.next` is read, and may not be held",
-                           [(3, 58, IN_LIST)])),
-    ("10:3 3:75 perm", Told(10, 3, "this fold may fail: there may be too little permission to `list(x.next)`", [(3, 75, OF_LIST)])),
-    ("11:3 11:42 perm", Told(11, 42, "this exhale may fail: there may be no permission to `x.val`")),
-    ("12:3 12:25 perm", Told(12, 25, "this assert may fail: there may be too little permission to `x.val`")),
-    ("12:3 12:44 false", Told(12, 44, "this assert may fail: `v > 3 || v < 0` may be false")),
-    ("13:3 5:12 perm", Told(13, 3, "a precondition of `m` may not hold at this call: there may be too little permission to `list(x)`",
+    ("9:3 9:18 perm", Told(9, 18, "`list(x.next)` is unfolded, and too little of it might be held")),
+    ("9:3 9:41 null", Told(9, 41, "`x.next.val` is read, and `x.next` might be null")),
+    ("9:3 3:58 perm", Told(9, 8, "an unfolding here opens `list`, whose body might not be well-defined: "
+                                 "`x.next.next` is read, and might not be held",
+                           [(3, 58, f"{IN_LIST}, where `x` of `list` is `x.next` in this unfolding")])),
+    ("10:3 3:75 perm", Told(10, 3, "this fold might fail: there might be too little permission to `list(x.next)`", [(3, 75, OF_LIST)])),
+    ("11:3 11:42 perm", Told(11, 42, "this exhale might fail: there might be no permission to `x.val`")),
+    ("12:3 12:25 perm", Told(12, 25, "this assert might fail: there might be too little permission to `x.val`")),
+    ("12:3 12:44 false", Told(12, 44, "this assert might fail: `v > 3 || v < 0` might be false")),
+    ("13:3 5:12 perm", Told(13, 3, "a precondition of `m` might not hold at this call: there might be too little permission to `list(x)`",
                             [(5, 12, "this part of the precondition")])),
-    ("13:3 6:47 div", Told(13, 3, "a postcondition of `m` may not be well-defined at this call: the divisor `k` may be 0",
-                           [(6, 47, "this part of the postcondition, where `k` is `0`")])),
-    ("13:3 3:58 null", Told(13, 3, "this call opens `list`, whose body may not be well-defined: `x.next` is read, and `x` may be null",
+    ("13:3 6:47 div", Told(13, 3, "a postcondition of `m` might not be well-defined at this call: the divisor `0` is 0",
+                           [(6, 48, "this part of the postcondition, where `k` of `m` is `0` in this call")])),
+    ("13:3 3:58 null", Told(13, 3, "this call opens `list`, whose body might not be well-defined: `x.next` is read, and `x` might be null",
                             [(3, 58, IN_LIST)])),
-    ("14:3 15:7 false", Told(15, 7, "this assert may fail: `w > 0` may be false", [(14, 3, "of this assert")])),
-    ("7:1 3:58 null", Told(6, 23, "a postcondition of `m`, at the end of the body, opens `list`, whose body may not be well-defined: "
-                                  "`x.next` is read, and `x` may be null", [(3, 58, IN_LIST), (7, 1, OF_BODY)])),
-    ("7:1 6:37 perm", Told(6, 37, "a postcondition of `m` may not be well-defined at the end of the body: "
-                                  "`list(x)` is unfolded, and too little of it may be held", [(7, 1, OF_BODY)])),
-    ("7:1 6:23 false", Told(6, 23, "a postcondition of `m` may not hold at the end of the body: "
-                                   "`(unfolding acc(list(x), 1/k) in x.val) > v` may be false", [(7, 1, OF_BODY)])),
+    ("14:3 15:7 false", Told(15, 7, "this assert might fail: `w > 0` might be false", [(14, 3, "of this assert")])),
+    ("7:1 3:58 null", Told(6, 23, "a postcondition of `m`, at the end of the body, opens `list`, whose body might not be well-defined: "
+                                  "`x.next` is read, and `x` might be null", [(3, 58, IN_LIST)])),
+    ("7:1 6:37 perm", Told(6, 37, "a postcondition of `m` might not be well-defined at the end of the body: "
+                                  "`list(x)` is unfolded, and too little of it might be held")),
+    ("7:1 6:23 false", Told(6, 23, "a postcondition of `m` might not hold at the end of the body: "
+                                   "`(unfolding acc(list(x), 1/k) in x.val) > v` might be false")),
 )
 SMALL_CASES = (
     ("method m() { inhale null == null fold P(1) }\npredicate P(n: Int) { n > 3 }", "1:34 2:23 false",
-     Told(1, 34, "this fold may fail: `n > 3` may be false", [(2, 23, "this part of the body of predicate `P`, where `n` is `1`")])),
+     Told(1, 34, "this fold might fail: `1 > 3` might be false",
+          [(2, 23, "this part of the body of predicate `P`, where `n` of `P` is `1` in this fold")])),
     ("method c(a: Int, b: Int) returns (r: Int) requires a > b ensures r \\ a > 0\nmethod m(a: Int) { var x: Int x := c(a, (a + 1)) }",
      "2:31 1:52 false",
-     Told(2, 31, "a precondition of `c` may not hold at this call: `a > b` may be false",
-          [(1, 52, "this part of the precondition, where `b` is `a + 1`")])),
+     Told(2, 31, "a precondition of `c` might not hold at this call: `a > (a + 1)` might be false",
+          [(1, 52, "this part of the precondition, where `b` of `c` is `a + 1` in this call")])),
     ("method c(a: Int, b: Int) returns (r: Int) requires a > b ensures 1 \\ r > 0\nmethod m(a: Int) { var x: Int x := c(a, (a + 1)) }",
      "2:31 1:68 div",
-     Told(2, 31, "a postcondition of `c` may not be well-defined at this call: the divisor `r` may be 0",
-          [(1, 68, "this part of the postcondition, where `r` is `x`")])),
+     Told(2, 31, "a postcondition of `c` might not be well-defined at this call: the divisor `x` might be 0",
+          [(1, 70, "this part of the postcondition, where `r` of `c` is `x` in this call")])),
     ("field f: Ref method m() { assert null.f == null }", "1:27 1:39 null", Told(1, 39, "`null.f` is read, and `null` is null")),
     ("field f: Int method m(x: Ref) { inhale x.f \\ 2 == 1 assume x.f == 2 }", "1:53 1:62 perm",
-     Told(1, 62, "`x.f` is read, and may not be held")),
-    ("field f: Int method m(x: Ref) { if (x.f > 0) { } }", "1:33 1:39 perm", Told(1, 39, "`x.f` is read, and may not be held")),
-    ("field f: Int method m(x: Ref) { while (x.f > 0) { } }", "1:33 1:42 perm", Told(1, 42, "`x.f` is read, and may not be held")),
+     Told(1, 62, "`x.f` is read, and might not be held")),
+    ("field f: Int method m(x: Ref) { if (x.f > 0) { } }", "1:33 1:39 perm", Told(1, 39, "`x.f` is read, and might not be held")),
+    ("field f: Int method m(x: Ref) { while (x.f > 0) { } }", "1:33 1:42 perm", Told(1, 42, "`x.f` is read, and might not be held")),
     ("method m() requires false { m() }", "1:29 1:21 false",
-     Told(1, 29, "a precondition of `m` may not hold at this call: `false` may be false", [(1, 21, "this part of the precondition")])),
+     Told(1, 29, "a precondition of `m` might not hold at this call: `false` might be false", [(1, 21, "this part of the precondition")])),
 )
 
 
@@ -139,20 +138,17 @@ class Failures(unittest.TestCase):
             (failures.told(CROWDED, "8:32 8:42 perm"), ["8:32 8:42 perm"])])
 
     def test_what_does_not_fit_is_told_plainly(self):
-        self.assertEqual(failures.told(LIST, "7:1 3:32 perm"), Told(7, 1, "there may be too little permission", [(3, 32, "this part")]))
-        self.assertEqual(failures.told(LIST, "12:3 12:25 false"), Told(12, 3, "this may not hold", [(12, 25, "this part")]))
-        self.assertEqual(failures.told(LIST, "99:1 99:1 div"), Told(99, 1, "a divisor may be 0"))
+        self.assertEqual(failures.told(LIST, "7:1 3:32 perm"), Told(7, 1, "there might be too little permission", [(3, 32, "this part")]))
+        self.assertEqual(failures.told(LIST, "12:3 12:25 false"), Told(12, 3, "this might not hold", [(12, 25, "this part")]))
+        self.assertEqual(failures.told(LIST, "99:1 99:1 div"), Told(99, 1, "a divisor might be 0"))
         self.assertEqual(failures.told(LIST, "no label"), Told(1, 1, "no label"))
 
     def test_the_lines(self):
         self.assertEqual(error_lines(LIST, failures.told(LIST, "7:1 6:11 perm")), [
-            "list.vpr:6:11: error: a postcondition of `m` may not hold at the end of the body: "
-            "there may be too little permission to `list(x)`",
+            "list.vpr:6:11: error: a postcondition of `m` might not hold at the end of the body: "
+            "there might be too little permission to `list(x)`",
             "    6 |   ensures list(x) && (unfolding acc(list(x), 1/k) in x.val) > v",
-            "      |           ^^^^^^^",
-            "list.vpr:7:1: note: at the end of this body",
-            "    7 | {",
-            "      | ^"])
+            "      |           ^^^^^^^"])
 
 
 class AnyLabel(unittest.TestCase):
@@ -184,7 +180,7 @@ class AnyLabel(unittest.TestCase):
     def test_a_long_term_is_no_deep_one(self):
         deep = "(" * 300 + "x" + ")" * 300 + " == " + "-" * 300 + "1" + " && true" * 200
         source = Source("deep.vpr", f"method m(x: Int) {{ assert {deep} }}".encode())
-        self.assertEqual(failures.told(source, "1:20 1:327 false").message.count("may be false"), 1)
+        self.assertEqual(failures.told(source, "1:20 1:327 false").message.count("might be false"), 1)
 
 
 if __name__ == "__main__":

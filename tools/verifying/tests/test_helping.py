@@ -7,13 +7,14 @@ import sys
 import tempfile
 import unittest
 
-from verifying.believing import Assumptions, Doubts
+from verifying.believing import Assumptions, Doubts, ways_of
 from verifying.helping import Changes, edit_of
 from verifying.program import TOP
 from verifying.run_files import ViperRun
 from verifying.running import rerun
-from verifying.source import Source
-from verifying.trying import Changed, Insertion, alone
+from verifying.source import Source, without_bodies
+from verifying.spots import with_end
+from verifying.trying import Changed, Insertion
 
 READY = bool(os.environ.get("REMDUSKA")) and shutil.which("z3") is not None
 HEAD = """field f: Int field g: Ref
@@ -45,7 +46,20 @@ class Files(unittest.TestCase):
 
     def test_other_bodies_are_left_out_and_all_places_stay(self):
         data = b"method a() {\n assert false }\nmethod b() { assert true }"
-        self.assertEqual(alone(data, "b"), b"method a()  \n               \nmethod b() { assert true }")
+        self.assertEqual(without_bodies(Source("", data), {"a"}), b"method a()  \n               \nmethod b() { assert true }")
+
+    def test_a_copy_has_an_assertion_at_its_end(self):
+        head = "predicate p(x: Ref) { true }\nmethod a() requires true ensures (1) == 1 && true ensures false "
+        for name, copy in (("a", "method smoke$() requires true ensures (1) == 1 && true ensures false {\n skip"
+                                 " exhale ((1) == 1 && true) && (false) assert false }"),
+                           ("b", "method smoke$(x: Ref) ensures p(x) { inhale (p(x)) assert false }"),
+                           ("p", "method smoke$(x: Ref) requires p(x) { unfold p(x) assert false }")):
+            source = Source("", f"{head}{{\n skip}}\nmethod b(x: Ref) ensures p(x)\n".encode())
+            text, stem, label = with_end(source, source.declared[name])
+            self.assertEqual((text, stem), (f"{head}\nmethod b(x: Ref) ensures p(x)\n\n{copy}\n", "smoke$"))
+            line, column = map(int, label.split()[0].split(":"))
+            self.assertTrue(text.split("\n")[line - 1][column - 1:].startswith("assert false"), label)
+            self.assertEqual(label, f"{line}:{column} {line}:{column + 7} false")
 
 
 class Offered(unittest.TestCase):
@@ -76,7 +90,33 @@ class Offered(unittest.TestCase):
  fold list(x)
  fold list(y)
 }"""
-        self.assertEqual(self.words(method, ["var x #1", "var y #2", "heap g #1 #2"], "pick true")[0], "`fold list(y)` in front of `fold list(x)`")
+        self.assertEqual(self.words(method, ["var x #1", "var y #2", "heap g #1 #2"], "pick true")[0], "line 9 moved before line 8")
+
+    def test_to_leave_an_unfold_out(self):
+        method = "method m(x: Ref) requires cell(x) {\n unfold cell(x)\n unfold cell(x)\n}"
+        content = "content cell #1 leaf 3"
+        self.assertEqual(self.words(method, ["var x #1", content], "pick true")[0], "without line 9")
+        self.assertEqual(self.texts(method, ["var x #1", content], "pick true")[0], "method m(x: Ref) requires cell(x) {\n unfold cell(x)\n}")
+        one = method.replace("\n", " ")
+        self.assertEqual(self.words(one, ["var x #1", content], "pick true")[0], "without `unfold cell(x)`")
+        self.assertEqual(self.texts(one, ["var x #1", content], "pick true")[0], "method m(x: Ref) requires cell(x) {  unfold cell(x)   }")
+
+    def test_to_fold_at_the_end_of_a_block(self):
+        method = "method m(x: Ref) requires cell(x) {\n if (true) {\n  unfold cell(x)\n  x.f := 1\n }\n take(x)\n}"
+        self.assertIn("`fold cell(x)` behind line 10", self.words(method, ["var x #1", "content cell #1 leaf 3"], "pick true"))
+        self.assertIn(method.replace("1\n }", "1\n  fold cell(x)\n }"), self.texts(method, ["var x #1", "content cell #1 leaf 3"], "pick true"))
+
+    def test_to_move_a_part_of_a_clause(self):
+        method = "method m(x: Ref)\n requires true && x.f > 0 && acc(x.f) && true\n{ }"
+        self.assertEqual(self.words(method, ["var x #1"])[0], "`acc(x.f)` moved to the front of this `requires`")
+        self.assertEqual(self.texts(method, ["var x #1"])[0], "method m(x: Ref)\n requires acc(x.f) && true && x.f > 0 && true\n{ }")
+        self.assertEqual(self.words("method m(x: Ref) requires x.f > 0 && (true ==> acc(x.f)) { }", ["var x #1"]), ["`acc(x.f) &&` behind this `requires`"])
+
+    def test_to_make_another_field(self):
+        for made, choices, new in (("f", ["value 0"], "new(f, g)"), ("", [], "new(g)")):
+            method = f"method m() {{\n var x: Ref\n x := new({made})\n x.g := null\n}}"
+            self.assertEqual(self.words(method, [], "pick true", "value null", "fresh #1", *choices)[0], f"`{new}` in line 9")
+            self.assertIn(f" x := {new}\n", self.texts(method, [], "pick true", "value null", "fresh #1", *choices)[0])
 
     def test_to_keep_it_in_an_invariant(self):
         method = "method m(x: Ref) requires acc(x.f) {\n while (true)\n  invariant true\n { x.f := 1 }\n}"
@@ -86,6 +126,12 @@ class Offered(unittest.TestCase):
     def test_to_ask_the_caller(self):
         self.assertEqual(self.words("method m(x: Ref) {\n x.f := 1\n}", ["var x #1"], "pick true"), ["`requires acc(x.f)` of `m`"])
         self.assertEqual(self.words("method m(n: Int) {\n var i: Int := 1 \\ n\n}", [], "pick true"), ["`requires n != 0` of `m`"])
+        self.assertEqual(self.words("method m(a: Int, b: Int) {\n var w: Int := b - a\n var i: Int := 1 \\ w\n}", [], "pick true"),
+                         ["`requires b != a` of `m`"])
+        self.assertEqual(self.words("method m(a: Int) {\n var w: Int\n w := a + 1\n w := 1 % (w * 2)\n}", ["var a -1"], "pick true", "value 0"),
+                         ["`requires (a + 1) * 2 != 0` of `m`"])
+        self.assertEqual(self.words("method m(a: Int) {\n var w: Int\n w := w + a\n w := 1 % w\n}", [], "pick true", "value 0"), [])
+        self.assertEqual(self.words("method m(a: Int) {\n assert a > 0\n}", [], "pick true"), [])
         self.assertEqual(self.words("method m(x: Ref, b: Bool) requires b ==> acc(x.f) {\n x.f := 1\n}", ["var x #1"], "pick true"), [])
 
     def test_what_the_guard_says_at_the_end(self):
@@ -95,7 +141,13 @@ class Offered(unittest.TestCase):
 
     def test_what_the_callee_should_say(self):
         method = "method id(x: Ref) requires acc(x.f) ensures acc(x.f)\nmethod m(y: Ref) requires acc(y.f) {\n y.f := 1\n id(y)\n assert y.f == 1\n}"
-        self.assertEqual(self.words(method, ["var y #1"], "pick true", "state"), ["`ensures x.f == old(x.f)` of `id`", "`requires y.f == 1` of `m`"])
+        self.assertEqual(self.words(method, ["var y #1"], "pick true", "state"), ["`ensures x.f == old(x.f)` of `id`"])
+
+
+    def test_what_the_callee_should_say_of_a_content(self):
+        method = "method id(x: Ref) requires cell(x) ensures cell(x)\nmethod m(y: Ref) requires cell(y) {\n id(y)\n unfold cell(y)\n assert y.f == 3\n}"
+        self.assertEqual(self.words(method, ["var y #1", "content cell #1 leaf 3"], "pick true", "state\ncontent cell #1 leaf 4"),
+                         ["`ensures (unfolding cell(x) in x.f) == old(unfolding cell(x) in x.f)` of `id`"])
 
 
 class Believable(unittest.TestCase):
@@ -125,16 +177,38 @@ class Believable(unittest.TestCase):
         _, again = run_of("method m(x: Ref, y: Ref) { assert false }", ["var x #1", "var y #1"], "pick true")
         self.assertTrue(Doubts(again).has_aliases())
 
+    def test_loops_and_values_that_are_doubted(self):
+        method = """method m(x: Ref, n: Int) requires acc(x.f) {
+ var i: Int := 0
+ while (i < n)
+  invariant acc(x.f)
+ { i := i + 1 }
+ assert x.f + i > 5
+}"""
+        for n, value, i, skips, same in ((0, 0, 0, False, [True, True]), (1, 0, 1, False, [True, False]), (0, 1, 1, True, [False, False])):
+            source, again = run_of(method, ["var x #1", f"var n {n}"], "pick true", f"state\nheap f #1 {value}", f"value {i}", "pick false")
+            doubts = Doubts(again)
+            self.assertEqual((doubts.skips(), [it[3] for it in doubts.open_values()]), (skips, same), (n, value, i))
+        assumptions = Assumptions(again)
+        changed = Changed(source.data, [*assumptions.iterating(doubts.loops()), *assumptions.changing(doubts.open_values())])
+        self.assertEqual(changed.data.decode()[len(HEAD):].splitlines()[2:5:2], [
+            " assume i < n var kept$0: Int := x.f var kept$1: Int := i while (i < n)",
+            " { i := i + 1 } assume i != kept$1 assume x.f != kept$0"])
+        self.assertEqual(ways_of(doubts, assumptions)[-1], assumptions.iterating(doubts.loops()))
+
 
 @unittest.skipUnless(READY, "REMDUSKA names no program, or z3 is not installed")
 class Tried(unittest.TestCase):
+    """What is tried by z3."""
+    options, environment = ("--no-certificates",), os.environ
+
     def told(self, text, *words):
         with tempfile.TemporaryDirectory() as room:
             path = os.path.join(room, "a.vpr")
             with open(path, "w", encoding="utf-8") as it:
                 it.write(text)
-            done = subprocess.run([sys.executable, f"{TOP}/tools/verify", path, "--json", "--no-certificates", "--no-smoke", *words],
-                                  stdout=subprocess.PIPE, stderr=subprocess.PIPE, universal_newlines=True)
+            done = subprocess.run([sys.executable, f"{TOP}/tools/verify", path, "--json", "--no-smoke", "--no-cache", *self.options, *words],
+                                  stdout=subprocess.PIPE, stderr=subprocess.PIPE, universal_newlines=True, env=self.environment)
         return [it for it in map(json.loads, done.stdout.splitlines()) if "label" in it]
 
     def test_the_change_that_is_told_verifies_the_unit(self):
@@ -160,6 +234,12 @@ class Tried(unittest.TestCase):
         self.assertEqual(len(set(values.values())), 2)
         contents = [it["content"] for it in state if it.get("arguments") in ([values["x"]], [values["y"]])]
         self.assertEqual(["f " in it and "g " in it for it in contents], [True, True])
+
+
+@unittest.skipUnless(os.environ.get("REMDUSKA") and os.environ.get("REMDUSKA_PROVE"), "REMDUSKA or REMDUSKA_PROVE names no program")
+class TriedByValues(Tried):
+    """What is tried by the values that the program finds: no z3 is on the path."""
+    options, environment = (), {**os.environ, "PATH": "/nonexistent"}
 
 
 if __name__ == "__main__":

@@ -21,39 +21,38 @@ CELL = "pair leaf {} unit"
 
 
 def needs(method, *choices):
-    """The lines that are told of a run of `m`, whose lines are given by choices, and the words at the end of its trace."""
+    """A run of `m`, whose lines are given by choices, and the lines that are told of it."""
     source = Source("a.vpr", (HEAD + method).encode())
     again = rerun(source, ViperRun("m", [["viper run", *choices[0]], *[it.split("\n") for it in choices[1:]]]))
     assert again.how == "failed", again.how
-    short, lines = Needs(again).told()
-    return again, short, lines
+    return again, Needs(again).told()
 
 
 class Permission(unittest.TestCase):
     def lines(self, method, *choices):
-        return needs(method, *choices)[2]
+        return needs(method, *choices)[1]
 
     def test_amounts(self):
         self.assertEqual(self.lines("method m(x: Ref, p: Perm) requires acc(x.f, 1/4) { exhale acc(x.f, p * 2) }",
                                     ["var x #1", "var p 1/4"], "pick true"),
-                         ["needs x.f, 1/2 (the amount p * 2, where p = 1/4); held: 1/4, so 1/4 is missing"])
+                         ["needs x.f, p * 2 (= 1/2, where p = 1/4); held: 1/4, so 1/4 is missing"])
         self.assertEqual(self.lines("method m(x: Ref) { assert x.f == 0 }", ["var x #1"], "pick true"),
                          ["needs some permission to x.f; held: none"])
 
     def test_who_took_it(self):
         method = "method m(x: Ref) requires acc(x.f) {{\n {} }}"
         self.assertEqual(self.lines(method.format("drop(x) drop(x) x.f := 1"), ["var x #1"], "pick true", "state", "state"),
-                         ["needs x.f, write; held: none", "x.f was held until 11:10, where drop(x) took it", "drop(x) at 11:2 took 1/2"])
+                         ["needs x.f, write; held: none", "drop(x) at 11:2 took 1/2, at 11:10 took 1/2"])
         self.assertEqual(self.lines(method.format("drop(x) x.f := 1"), ["var x #1"], "pick true", "state"),
                          ["needs x.f, write; held: 1/2, so 1/2 is missing", "drop(x) at 11:2 took 1/2"])
         loop = method.format("while (true) invariant true {{ x.f := 1 }}".replace("{{", "{").replace("}}", "}"))
         self.assertEqual(self.lines(loop, ["var x #1"], "pick true", "state", "pick true", "state"),
-                         ["needs x.f, write; held: none", "x.f was held until the loop at 11:2: a turn has only what the invariants say"])
+                         ["needs x.f, write; held: none", "x.f was held until the loop at 11:2: an iteration has only what the invariants say"])
 
     def test_an_earlier_part_of_the_same_step(self):
         self.assertEqual(self.lines("method m(x: Ref, y: Ref) requires acc(x.f) { pair(x, y) }", ["var x #1", "var y #1"], "pick true"),
                          ["needs y.f, write; held: none",
-                          "write was held when this step began: a.f at 8:42, which is x.f here, took write; it and y.f are one place"])
+                          "x.f and y.f are one place: acc(a.f) at 8:42 already took y.f"])
 
     def test_an_instance_that_has_it_inside(self):
         self.assertEqual(self.lines("method m(x: Ref) requires cell(x) { x.f := 1 }",
@@ -62,24 +61,77 @@ class Permission(unittest.TestCase):
 
     def test_instances_that_come_close_have_values_as_arguments(self):
         tree = "content tree #1 {} pair leaf 0 pair leaf null unit"
-        again, short, lines = needs("method m(x: Ref, n: Int) requires tree(x, n - 1) { unfold tree(x, n + 1) }",
+        again, lines = needs("method m(x: Ref, n: Int) requires tree(x, n - 1) { unfold tree(x, n + 1) }",
                                     ["var x #1", "var n 4", tree.format(3)], "pick true")
-        self.assertEqual(short, "needs tree(x, 5), write; held: none")
         self.assertEqual(lines, ["needs tree(x, n + 1), which is tree(x, 5), write; held: none", "held: tree(x, 3)"])
         self.assertEqual(unopened(again), "")
+
+    def test_what_is_named_twice_is_told_as_one(self):
+        self.assertEqual(self.lines("method m(x: Ref) requires acc(x.f) { pair(x, x) }", ["var x #1"], "pick true")[1:],
+                         ["`a` and `b` are both x: acc(a.f) at 8:42 already took x.f"])
+        self.assertEqual(self.lines("method m(x: Ref) requires acc(x.f, 1/2) { exhale acc(x.f, 1/4) && acc(x.f, 1/2) }", ["var x #1"], "pick true")[1:],
+                         ["acc(x.f, 1/4) at 10:54 already took 1/4 of the 1/2 of x.f that was held"])
+
+    def test_what_was_taken_and_given_back(self):
+        self.assertEqual(self.lines("method m(x: Ref) requires acc(x.f) {\n drop(x) drop(x) inhale acc(x.f, 1/4) x.f := 1 }",
+                                    ["var x #1"], "pick true", "state", "state")[1:],
+                         ["drop(x) at 11:2 took 1/2, at 11:10 took 1/2; inhale acc(x.f, 1/4) at 11:18 gave 1/4"])
+        self.assertEqual(self.lines("method some$(x: Ref) requires acc(x.f, wildcard)\nmethod m(x: Ref) requires acc(x.f) {\n some$(x) x.f := 1 }",
+                                    ["var x #1"], "pick true", "amount 1/3", "state")[1:],
+                         ["some$(x) at 12:2 took some of it (wildcard), here 1/3, and gives none back"])
+
+    def test_what_a_condition_withholds(self):
+        for requires, why in (("b ==> acc(x.f)", "b is false"), ("(b ? acc(x.f) : true)", "b is false"),
+                              ("x == null ==> acc(x.f)", "x is not null"), ("acc(x.f, p) && true", "p is 0")):
+            lines = self.lines(f"method m(x: Ref, b: Bool, p: Perm) requires {requires} {{ x.f := 1 }}", ["var x #1"], "pick true")
+            self.assertRegex(lines[1], rf"^acc\(x.f(, p)?\) at 10:[0-9]+ gives nothing: {why}$", requires)
+
+    def test_the_condition_of_a_loop(self):
+        method = "method m(x: Ref) requires acc(x.f{}) {{\n while (x.f > 0) {{ }} }}"
+        self.assertEqual(self.lines(method.format(""), ["var x #1"], "pick true", "state", "pick true", "state")[1:],
+                         ["x.f was held until the loop at 11:2: its condition, too, has only what the invariants say"])
+        self.assertEqual(self.lines(method.format(", none"), ["var x #1"], "pick true", "state", "pick true", "state")[1:],
+                         ["the condition of the loop at 11:2, too, has only what the invariants say"])
+
+    def test_a_specification_by_itself(self):
+        self.assertEqual(self.lines("method m(x: Ref) requires x.f > 0 { }", ["var x #1"])[1:], ["nothing in front of it gives acc(x.f)"])
+        self.assertEqual(self.lines("method m(x: Ref) requires acc(x.f) ensures x.f > 0 { }", ["var x #1"], "pick false", "state")[1:],
+                         ["a postcondition is checked by itself: what the precondition gives does not count"])
+
+    def test_a_field_that_was_not_made(self):
+        self.assertEqual(self.lines("method m() { var x: Ref\n x := new(f) x.g := null }", [], "pick true", "value null", "fresh #1", "value 0")[1:],
+                         ["x := new(f) at 11:2 gives no permission to x.g"])
+
+    def test_an_instance_that_is_not_folded(self):
+        self.assertEqual(self.lines("method m(x: Ref) requires acc(x.f) { exhale cell(x) }", ["var x #1"], "pick true")[1:],
+                         ["the body of cell(x) is held, and not folded"])
+        self.assertEqual(self.lines("method m(x: Ref) { exhale cell(x) }", ["var x null"], "pick true")[1:],
+                         ["no state holds cell(null): its body has acc(x.f), and x is null"])
+
+    def test_instances_that_come_close_have_the_terms_that_an_unfold_gave(self):
+        content = "content tree #1 4 pair leaf 0 pair leaf #2 pair leaf 0 pair leaf null unit"
+        self.assertEqual(self.lines("method m(x: Ref, n: Int) requires tree(x, n) { unfold tree(x, n) exhale tree(x.g, n) }",
+                                    ["var x #1", "var n 4", content], "pick true"),
+                         ["needs tree(x.g, n), which is tree(#2, 4), write; held: none", "held: tree(x.g, n - 1), which is tree(#2, 3)"])
+
+    def test_the_message_where_it_is_inside_of_an_instance(self):
+        again, _ = needs("method m(x: Ref) requires cell(x) { x.f := 1 }", ["var x #1", f"content cell #1 {CELL.format(3)}"], "pick true")
+        told = Needs(again).message
+        self.assertEqual(told("`x.f` is written, and might not be held in full"), "`x.f` is written while it is inside `cell(x)`")
+        self.assertEqual(told("this might not hold"), "this might not hold")
 
     def test_a_clause_that_gives_it_too_late(self):
         self.assertEqual(self.lines("method m(x: Ref) requires x.f > 0 && acc(x.f)", ["var x #1"])[1:],
                          ["acc(x.f) comes only behind it, at 10:42"])
 
     def test_an_instance_that_nothing_opens(self):
-        again, _, _ = needs("method m(x: Ref, n: Int) requires tree(x, n) { x.f := 1 }", ["var x null", "var n 1"], "pick true")
+        again, _ = needs("method m(x: Ref, n: Int) requires tree(x, n) { x.f := 1 }", ["var x null", "var n 1"], "pick true")
         self.assertEqual(unopened(again), "tree(null, 1) is held in this run although its body rules it out: no step opens it")
 
 
 class Values(unittest.TestCase):
     def lines(self, method, *choices):
-        return needs(method, *choices)[2]
+        return needs(method, *choices)[1]
 
     def test_the_sides_and_the_parts(self):
         self.assertEqual(self.lines("method m(a: Int, b: Int) { assert a + b <= 2 * a }", ["var a 1", "var b 2"], "pick true"),
@@ -87,9 +139,17 @@ class Values(unittest.TestCase):
         self.assertEqual(self.lines("method m(a: Bool) { assert a }", [], "pick true"), ["a is false"])
         self.assertEqual(self.lines("method m(a: Bool) { assert !a }", ["var a true"], "pick true"), ["a is true"])
 
+    def test_references_that_are_one(self):
+        method = "method m(x: Ref, y: Ref) {{ assert {} }}"
+        for condition, values, told in (("x != y", ["#1", "#1"], "`x != y` is #1 != #1: x and y are one object"),
+                                        ("x != null", ["null", "#1"], "`x != null` is null != null: x is null"),
+                                        ("x != y", ["null", "null"], "`x != y` is null != null: x and y are null")):
+            opening = [f"var {name} {value}" for name, value in zip("xy", values)]
+            self.assertEqual(self.lines(method.format(condition), opening, "pick true"), [told])
+
     def test_the_terms_of_the_caller(self):
-        again, short, lines = needs("method m(a: Int) { some(a - 1) }", ["var a 1"], "pick true")
-        self.assertEqual((short, lines), ("0 > 0 || 0 == -7", ["`(a - 1) > 0 || (a - 1) == -7` is 0 > 0 || 0 == -7: a = 1"]))
+        again, lines = needs("method m(a: Int) { some(a - 1) }", ["var a 1"], "pick true")
+        self.assertEqual(lines, ["`(a - 1) > 0 || (a - 1) == -7` is 0 > 0 || 0 == -7: a = 1"])
 
     def test_old_values(self):
         self.assertEqual(self.lines("method m(x: Ref) requires acc(x.f) ensures acc(x.f) && old(x.f) > 0 { x.f := 5 }",
@@ -107,7 +167,7 @@ class Values(unittest.TestCase):
 
 class Origins(unittest.TestCase):
     def lines(self, method, *choices):
-        return needs(method, *choices)[2][1:]
+        return needs(method, *choices)[1][1:]
 
     def test_a_call_that_says_nothing_of_a_place(self):
         method = "method m(x: Ref) requires acc(x.f) {{\n x.f := 3 {}(x) assert x.f == 3 }}"

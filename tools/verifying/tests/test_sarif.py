@@ -91,7 +91,7 @@ class Forms(unittest.TestCase):
         file.warnings.append(Warned(1, 27, "warning", "undecided", "why"))
         (found,) = logged(file)["runs"][0]["results"]
         place = found["locations"][0]["physicalLocation"]
-        self.assertEqual(place["region"], {"startLine": 1, "startColumn": 24, "endColumn": 30})
+        self.assertEqual(place["region"], {"startLine": 1, "startColumn": 24, "endColumn": 36})
         self.assertEqual(place["artifactLocation"]["uri"], "a%20b/%C3%9F.vpr")
 
     def test_a_file_that_is_refused(self):

@@ -63,7 +63,7 @@ class Processes(unittest.TestCase):
                                    'havoc i; assert {:msg "1:1 1:1 false"} ((m[i, r] != 1.0) || (i == 0)); }')
         conditions = conditions_of(procedure)
         terms = [term for _, term in symbolic_of(conditions).fails]
-        said, values = Search(conditions.vars, [], self.solver, 10).any_of(terms)
+        said, values = Search(conditions.vars, [], self.solver, time.monotonic() + 10).any_of(terms)
         self.assertEqual(said, "sat")
         end = Walk(procedure, values.given).run()
         self.assertEqual((end.how, end.label), ("failed", "1:1 1:1 false"))

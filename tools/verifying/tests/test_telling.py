@@ -12,8 +12,9 @@ from verifying.meaning import Meaning
 from verifying.results import told_of_boogie
 from verifying.retelling import Retold
 from verifying.run_files import ViperRun
+from verifying.running import rerun
 from verifying.source import Source
-from verifying.trace import lines
+from verifying.trace import Row, Trace, lines
 from verifying.values import Ref, word
 
 LABEL = "22:3 22:10 false"
@@ -71,15 +72,15 @@ class Shown(unittest.TestCase):
         self.assertEqual([it.text for it in self.again.rows()], [
             "first = #1, n = 2",
             "gives list(first) {value 4, next null}",
-            "a = 5",
-            "made = #2; made.value = 6, write",
-            "l = null",
-            "l = #3; takes 1/2 of list(first), 1/2 is left; gives list(l) {value 3, next #4, list(#4) {value -1, next null}}",
-            "behind the loop: k = 2",
+            "a = 5 (any value)",
+            "made = #2; made.value = 6 (any value), write",
+            "l = null (any value)",
+            "l = #3; takes 1/2 of list(first), 1/2 is left; gives list(l) {value 3, next #4, list(#4) {value -1, next null}} (any content)",
+            "behind the loop: k = 2 (any value, was 0)",
             "true",
             "inner = 2",
-            "takes 1/2 of list(l), 1/2 is left; l.value = 3, 1/2; l.next = #4, 1/2; list(#4) {value -1, next null}, 1/2",
-            "fails: 3 == 7"])
+            "takes 1/2 of list(l), 1/2 is left; gives l.value = 3, 1/2; l.next = #4, 1/2; list(#4) {value -1, next null}, 1/2",
+            "fails"])
 
     def test_what_is_needed(self):
         self.assertEqual(self.again.needs(), [
@@ -91,7 +92,7 @@ class Shown(unittest.TestCase):
         state = row.pop("state")
         self.assertEqual(row, {
             "line": 14, "column": 3, "end_line": 14, "end_column": 30, "source": "var made: Ref := new(value)",
-            "text": "made = #2; made.value = 6, write",
+            "text": "made = #2; made.value = 6 (any value), write",
             "changes": [{"variable": "made", "value": "#2"}, {"place": "#2.value", "held": "1", "held_before": "0", "value": "6"}]})
         self.assertEqual(state, {
             "variables": {"first": "#1", "n": "2", "k": "0", "a": "5", "made": "#2"},
@@ -110,6 +111,60 @@ class Shown(unittest.TestCase):
         self.assertEqual(data[6], {"place": "#2.value", "held": "1/1", "value": "6"})
         self.assertEqual(data[9], {"predicate": "list", "arguments": ["#1"], "held": "1/2", "content": "value 4, next null"})
         self.assertEqual(len(data), 12)
+
+
+class Rows(unittest.TestCase):
+    """The text of each step of small runs of a method `m`."""
+    HEAD = """field f: Int field g: Ref
+predicate cell(x: Ref) { acc(x.f) }
+method half(x: Ref) requires acc(x.f, 1/2) ensures acc(x.f, 1/2)
+method same(x: Ref) requires acc(x.f) ensures acc(x.f) && x.f == old(x.f)
+method get() returns (x: Ref, n: Int) ensures acc(x.f) && acc(cell(x), 1/2)
+"""
+
+    def rows(self, method, *choices):
+        source = Source("a.vpr", (self.HEAD + method).encode())
+        again = rerun(source, ViperRun("m", [["viper run", *choices[0]], *[it.split("\n") for it in choices[1:]]]))
+        return [it.text for it in Trace(again).rows(False)]
+
+    def test_what_gives_nothing(self):
+        self.assertEqual(self.rows("method m(x: Ref, b: Bool) requires true requires b ==> acc(x.f) { assert b }", [], "pick true")[1:],
+                         ["gives nothing: b is false", "fails"])
+
+    def test_what_is_given_back(self):
+        self.assertEqual(self.rows("method m(x: Ref) requires acc(x.f) { half(x) same(x) assert false }", ["var x #1"], "pick true", "state", "state")[2:],
+                         ["takes 1/2 of x.f and gives it back", "takes x.f and gives it back", "fails"])
+
+    def test_what_changes_nothing(self):
+        self.assertEqual(self.rows("method pure(n: Int) requires n >= 0\nmethod m(n: Int) { pure(n) inhale n == 0 exhale n < 1 assert false }", [],
+                                   "pick true", "state", "state"), ["n = 0", "changes nothing", "holds", "holds", "fails"])
+        self.assertEqual(self.rows("predicate any() { true }\nmethod m() requires any() { unfold any() assert false }", [], "pick true")[-2:],
+                         ["gives nothing", "fails"])
+
+    def test_what_is_left_of_an_amount(self):
+        self.assertEqual(self.rows("method m(x: Ref) requires acc(x.f, 1/2) { exhale acc(x.f, 1/2) assert false }", ["var x #1"], "pick true", "state")[1:],
+                         ["gives x.f = 0, 1/2", "takes 1/2 of x.f, none is left", "fails"])
+
+    def test_any_value(self):
+        method = "method m() {\n var x: Ref\n var n: Int\n x, n := get()\n exhale acc(x.f)\n inhale acc(x.f)\n x := new(g)\n assert false }"
+        self.assertEqual(self.rows(method, [], "pick true", "value null", "value 1", "state\ncontent cell #1 leaf 3", "value #1", "value 2",
+                                   "state\nheap f #1 5", "fresh #2", "value null")[1:],
+                         ["x = null (any value)", "n = 1 (any value)",
+                          "x = #1, n = 2 (any value); gives x.f = 0 (any value), write; cell(x) {f 3} (any content), 1/2",
+                          "takes x.f", "gives x.f = 5 (any value), write", "x = #2; x.g = null (any value), write", "fails"])
+
+    def test_a_specification_that_fails_tells_what_it_gave(self):
+        self.assertEqual(self.rows("method m(x: Ref) requires acc(x.g) && x.f > 0", ["var x #1"]), ["x = #1", "gives x.g = null, write; fails at x.f"])
+
+    def test_a_loop_whose_condition_fails(self):
+        self.assertEqual(self.rows("method m(x: Ref) requires acc(x.f) { while (x.f > 0) { } }", ["var x #1"], "pick true", "state", "pick true", "state")[2:],
+                         ["any iteration; takes x.f; fails at x.f"])
+        self.assertEqual(self.rows("method m(x: Ref) requires acc(x.f) { while (true) invariant acc(x.f) && x.f > 0 { } }", ["var x #1"], "pick true")[2:],
+                         ["fails"])
+
+    def test_a_long_source_stands_above_its_text(self):
+        row = Row(7, 1, 7, 2, "x" * 60, "a = 1", [], {})
+        self.assertEqual(lines([row, row._replace(source="short")], True), [f"    7  {'x' * 60}", "              a = 1", "    7  short  a = 1"])
 
 
 class Contents(unittest.TestCase):

@@ -42,7 +42,7 @@ CASES = (   # a label; what is checked; the identifier; the text that is marked 
     ("12:3 12:12 div", "r != 0", "inhale.failed:division.by.zero", "n \\ r", ""),
     ("13:3 13:35 perm", "the invariant permission to x.f where the loop begins", "invariant.not.established:insufficient.permission",
      "x.f", None),
-    ("13:47 13:35 perm", "the invariant permission to x.f at the end of a turn", "invariant.not.preserved:insufficient.permission", "x.f", ""),
+    ("13:47 13:35 perm", "the invariant permission to x.f at the end of an iteration", "invariant.not.preserved:insufficient.permission", "x.f", ""),
     ("14:5 4:14 perm", "the precondition permission to x.f", "call.precondition:insufficient.permission", "x.f", "3:1 4:14 perm"),
     ("16:3 16:9 null", "x != null", "if.failed:receiver.null", "x.f", ""),
     ("16:18 16:20 perm", "permission to x.f", "assignment.failed:insufficient.permission", "x.f", ""),

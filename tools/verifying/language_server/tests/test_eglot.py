@@ -100,7 +100,7 @@ class Eglot(unittest.TestCase):
     def check(self, out):
         self.assertEqual(out["mode"], "viper-language-mode")
         self.assertEqual(len(out["opened"]), 1)
-        self.assertIn("a postcondition of `get` may not hold at the end of the body", out["opened"][0])
+        self.assertIn("a postcondition of `get` might not hold at the end of the body", out["opened"][0])
         self.assertIn("field value: Int", out["hover"])
         self.assertEqual(out["definition"], 6)
         self.assertEqual((out["action"], out["mended"]), ("did you mean `value`?", "  v := x.value"))

@@ -6,9 +6,9 @@ from verifying.language_server import completion, outline
 from verifying.language_server.documents import Document
 from verifying.language_server.edits import rename
 from verifying.language_server.messages import Fault
-from verifying.language_server.units import Moved, digests, without_bodies
+from verifying.language_server.units import Moved, digests
 from verifying.program import TOP
-from verifying.source import Source
+from verifying.source import Source, without_bodies
 
 from .talking import place_of
 

@@ -97,7 +97,7 @@ class Neovim(unittest.TestCase):
 
     def check(self, out):
         self.assertEqual((len(out["opened"]), out["line"]), (1, 3))
-        self.assertIn("a postcondition of `get` may not hold at the end of the body: `v == 1` may be false", out["opened"][0])
+        self.assertIn("a postcondition of `get` might not hold at the end of the body: `v == 1` might be false", out["opened"][0])
         self.assertIn("v: Int  // return of get", out["hover"])
         self.assertIn("`v` =", out["hover"])
         self.assertEqual(out["definition"], {"line": 0, "character": 6})

@@ -89,9 +89,9 @@ class Answers(Served):
         self.editor.open(WRONG, text)
         (found,) = self.editor.settled(WRONG)
         self.assertEqual((found["range"]["start"], found["severity"], found["code"]), (at(52, 4), 1, "false"))
-        self.assertIn("a precondition of `push` may not hold at this call", found["message"])
+        self.assertIn("a precondition of `push` might not hold at this call", found["message"])
         (note,) = found["relatedInformation"]
-        self.assertEqual((note["location"]["range"]["start"], note["message"]), (at(23, 25), "this part of the precondition, where `v` is `i`"))
+        self.assertEqual((note["location"]["range"]["start"], note["message"]), (at(23, 25), "this part of the precondition, where `v` of `push` is `i` in this call"))
         self.assertEqual(self.editor.lenses(WRONG), ["proved: keep certificate"] * 5 + ["fails: show run"])
         value = self.ask("hover", WRONG, position=place_of(text, "i)\n    i := "))["contents"]["value"]
         self.assertIn("i: Int", value)

@@ -40,8 +40,9 @@ class Watched(unittest.TestCase):
             process = subprocess.Popen([sys.executable, "tools/verify", "--watch", path], cwd=TOP, stdout=subprocess.PIPE, stderr=subprocess.PIPE,
                                        env={**os.environ, "TMPDIR": room})
             told = self.until(process, "1 of 2 units verified")
-            self.assertIn(f"{path}:13:10: error: this assert may fail: `x.f > 1` may be false", told)
-            self.assertIn("fails: 1 > 1", told)
+            self.assertIn(f"{path}:13:10: error: this assert might fail: `x.f > 1` might be false", told)
+            self.assertIn("  `x.f > 1` is 1 > 1\n", told)
+            self.assertIn("   13  assert x.f > 1      fails\n", told)
             write(RIGHT)
             self.until(process, "2 of 2 units verified, 2 of them proved")
             write(RIGHT + "method")
